@@ -1,0 +1,5 @@
+pub mod Member
+pub mod Keep
+pub mod Find
+pub mod Count
+pub mod Table

@@ -1,0 +1,68 @@
+-- A table is an array of rows and a count: its rows are the first `count`, and a count above the capacity is the capacity.
+-- The laws of loops that walk, extend and close such a table, for any row type and capacity; `i + 1` as the code says it.
+-- What the toolchain has already (`take-suc-set`, `take-set-le`, `getD-take`, `drop-cons`, `set-at` of `lib.Seq`) is cited.
+-- Assumes nothing.
+use Prim.Native.Nat.{ℕ, zero, suc, _+_, _-_, _≤_, _<_, min}
+use native.Mathlib.Omega.{arith}
+use native.Mathlib.Numerals.{add-one}
+use mathlib.Core.Path.{_≡_, refl, sym, ap, _∙_}
+use mathlib.Core.List.{List, [], _∷_, _++_}
+use mathlib.Core.Bool.{Bool, true, false}
+use lib.ListN.{length, take, drop, getD, set, replicate, length-take, length-drop}
+use lib.Seq.{take-suc, drop-cons, getD-take, take-suc-set, length-take-le, set-at, append-snoc, take-set-le, drop-nil, drop-append-seam, take-append-seam, take-all}
+use Rattle.lists.specs.Keep.{keep, keep-snoc-on, keep-snoc-off}
+
+-- the rows of a table
+abbrev pub rowsOf : {A : Type 0} → ℕ → ℕ → List A → List A
+rowsOf capacity count rows = take (min count capacity) rows
+
+module _ {A : Type 0} (d : A) where
+  -- what is left, row by row
+  pub left-cons : (l : List A) (i : ℕ) → i < length l → drop i l ≡ getD l i d ∷ drop (i + 1) l
+  left-cons l i h = drop-cons l i d h ∙ ap (λ n. getD l i d ∷ drop n l) (sym (add-one i))
+
+  pub left-row : (rows : List A) (k i : ℕ) → i < k → k ≤ length rows → drop i (take k rows) ≡ getD rows i d ∷ drop (i + 1) (take k rows)
+  left-row rows k i h t =
+      let long : length (take k rows) ≡ k = length-take-le k rows t in
+      let below : i < length (take k rows) = omega arith in
+      left-cons (take k rows) i below ∙ ap (λ x. x ∷ drop (i + 1) (take k rows)) (getD-take k rows i d h)
+
+  -- nothing is left at the end
+  pub left-none : (l : List A) → drop (length l) l ≡ []
+  left-none [] = refl
+  left-none (x ∷ l) = left-none l
+
+  -- what was passed, row by row
+  pub passed-row : (rows : List A) (i : ℕ) → i < length rows → take (i + 1) rows ≡ take i rows ++ (getD rows i d ∷ [])
+  passed-row rows i h = ap (λ n. take n rows) (add-one i) ∙ take-suc rows i d h
+
+  -- an array that starts as one value, filled from the front: one row more
+  pub filled-more : (s : List A) (n i : ℕ) → i < length s → i < n → set (take i s ++ replicate (n - i) d) i (getD s i d) ≡ take (i + 1) s ++ replicate (n - (i + 1)) d
+  filled-more s n i h k =
+      let front : length (take i s) ≡ i = length-take-le i s (omega arith) in
+      let split : n - i ≡ suc (n - (i + 1)) = omega arith in
+      ap (λ m. set (take i s ++ replicate m d) i (getD s i d)) split
+      ∙ set-at (take i s) d (replicate (n - (i + 1)) d) (getD s i d) i front
+      ∙ sym (append-snoc (take i s) (getD s i d) (replicate (n - (i + 1)) d))
+      ∙ ap (λ z. z ++ replicate (n - (i + 1)) d) (sym (passed-row s i h))
+
+module _ {A : Type 0} where
+  -- a row stored at the count, and one more
+  pub append-row : (rows : List A) (k : ℕ) (x : A) → k < length rows → take (k + 1) (set rows k x) ≡ take k rows ++ (x ∷ [])
+  append-row rows k x h = ap (λ n. take n (set rows k x)) (add-one k) ∙ take-suc-set rows k x h
+
+-- Removal that closes the gap, in place: a loop reads row i of the old rows, and stores it at the next place w of the new
+-- ones if it passes. What the first w new rows hold is what passes of the first i old ones.
+module _ {A : Type 0} (d : A) (t : A → Bool) where
+  pub keep-row : (old new : List A) (i w : ℕ) → i < length old → w < length new → take w new ≡ keep t (take i old) → t (getD old i d) ≡ true
+      → take (w + 1) (set new w (getD old i d)) ≡ keep t (take (i + 1) old)
+  keep-row old new i w h k e p =
+      append-row new w (getD old i d) k
+      ∙ ap (λ z. z ++ (getD old i d ∷ [])) e
+      ∙ sym (keep-snoc-on t (take i old) (getD old i d) p)
+      ∙ ap (keep t) (sym (passed-row d old i h))
+
+  pub drop-row : (old new : List A) (i w : ℕ) → i < length old → take w new ≡ keep t (take i old) → t (getD old i d) ≡ false
+      → take w new ≡ keep t (take (i + 1) old)
+  drop-row old new i w h e p =
+      e ∙ sym (keep-snoc-off t (take i old) (getD old i d) p) ∙ ap (keep t) (sym (passed-row d old i h))

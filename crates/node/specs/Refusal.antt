@@ -1,0 +1,24 @@
+-- The refusals and their numbers: the table "Where each refusal is checked, top first".
+-- Assumes nothing.
+use Prim.Native.Nat.{ℕ}
+use Rattle.node.specs.declared.refusal.Refusal.{Refusal}
+use Rattle.node.specs.declared.refusal.Refusal.the-variants.{SampleRate, BlockSize, BudgetTooLarge, UnknownNode, VoiceNode, PortOrKind, TableFull, IdsUsedUp, DefinitionLimits, BusWithoutPorts, Rejected, NoPort, RequiredPort, Cycle, ClockEnd, LentBlock, ShortBuffer}
+
+abbrev pub numberOf : Refusal → ℕ
+numberOf SampleRate = 1
+numberOf BlockSize = 2
+numberOf BudgetTooLarge = 3
+numberOf UnknownNode = 4
+numberOf VoiceNode = 5
+numberOf PortOrKind = 6
+numberOf TableFull = 7
+numberOf IdsUsedUp = 8
+numberOf DefinitionLimits = 9
+numberOf BusWithoutPorts = 10
+numberOf Rejected = 11
+numberOf NoPort = 12
+numberOf RequiredPort = 13
+numberOf Cycle = 14
+numberOf ClockEnd = 15
+numberOf LentBlock = 16
+numberOf ShortBuffer = 17
