@@ -1,11 +1,11 @@
 -- What the bits of a binary64 value say of it: its value from the exponent's field and the digits, for either sign. Assumes nothing.
 use mathlib.Core.Path.{_≡_, refl, sym, ap, _∙_, subst}
-use Prim.Native.Nat.{ℕ, zero, suc, _+_, _-_, _*_, _/_, _%_, _^_, _≤_, _<_}
+use Prim.Native.Nat.{ℕ, suc, _+_, _-_, _*_, _/_, _%_, _^_, _<_}
 use native.Mathlib.Omega.{arith}
 use mathlib.Core.Bool.{Bool, true, false, cond}
 use borrow.Author.Tests.{le-leb, lt-leb, ne-eqb}
 use lib.Dec.{leb, eqb}
-use lib.Ieee.{Float, nan, inf, fin, binary64, odd, ofBits, ofFields}
+use lib.Ieee.{Float, nan, inf, binary64, odd, ofBits, ofFields}
 use lib.Ieee.Exact.{HasValue, odd-sign}
 
 -- the bits a with the sign s

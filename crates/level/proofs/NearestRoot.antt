@@ -2,7 +2,7 @@
 use mathlib.Core.Path.{_≡_, refl, sym, ap, _∙_, subst}
 use mathlib.Core.Logic.{_⊎_, inl, inr}
 use Prim.Native.Nat.{ℕ, zero, suc, _+_, _-_, _*_, _/_, _%_, _^_, _≤_, _<_}
-use native.Mathlib.Nat.{le-refl, le-trans, le-of-eq, le-of-lt, lt-of-lt-of-le, lt-of-le-of-lt, lt-of-not-le, not-le-of-lt, lt-of-mul-lt-mul-right, eq-of-mul-eq-mul-right, eq-or-lt-of-le, mul-assoc, mul-comm, mul-right-comm, mul-pos, mul-le-mul, mul-le-mul-left, mul-le-mul-right, mul-lt-mul-of-pos-right, zero-mul, one-mul, mul-one, add-mul, div-mul-le-self, div-add-mod', mod-lt, le-div-iff-mul-le}
+use native.Mathlib.Nat.{le-refl, le-trans, le-of-eq, le-of-lt, lt-of-lt-of-le, lt-of-le-of-lt, lt-of-not-le, not-le-of-lt, lt-of-mul-lt-mul-right, eq-of-mul-eq-mul-right, eq-or-lt-of-le, mul-assoc, mul-right-comm, mul-pos, mul-le-mul, mul-le-mul-left, mul-le-mul-right, mul-lt-mul-of-pos-right, zero-mul, one-mul, mul-one, add-mul, div-mul-le-self, div-add-mod', mod-lt, le-div-iff-mul-le}
 use native.Mathlib.Omega.{arith}
 use mathlib.Core.Bool.{Bool, true, false, cond, _&&_}
 use borrow.Author.Tests.{ltb-true, ltb-false}
@@ -13,10 +13,10 @@ use lib.Ieee.{Float, nan, inf, fin, binary64, up, down, size, units, fits}
 use lib.Ieee.Digits.{size-lt, size-reaches, back}
 use lib.Ieee.Fits.{and-l, and-r, down-pos, kept-lt}
 use lib.Ieee.Exact.{HasValue, units-val}
-use lib.Ieee.Positive.{positive, first-pos}
-use Rattle.level.specs.Root.{wholeRoot, nearer, rounded, rootOf, sqrt, NearestRoot}
+use lib.Ieee.Positive.{positive}
+use Rattle.level.specs.Root.{wholeRoot, nearer, rootOf, sqrt, NearestRoot}
 use Rattle.level.proofs.Pack.{or-less, pow-lt-back, units-fits}
-use Rattle.level.proofs.Squares.{even-square, odd-square, square-le, scaled-square, four-pow, whole-root, root-ge}
+use Rattle.level.proofs.Squares.{even-square, square-le, scaled-square, four-pow, four-pow-pos, whole-root, root-ge}
 use Rattle.level.proofs.Rooting.{At, rounded-at, halfway}
 use Rattle.level.proofs.Signs.{sqrt-of}
 
@@ -154,11 +154,8 @@ module _ (n r k : ℕ) (A : At n r k) where
 
 -- ---- no root lies halfway: n is a multiple of 4 ^ k, and the square of an odd number none of 4
 no-tie : (m r k : ℕ) → 4 * (m * 4 ^ k) ≡ (2 * r + 1) * 2 ^ k * ((2 * r + 1) * 2 ^ k) → ⊥
-no-tie m r k e = odd-even (r * r) (eq-of-mul-eq-mul-right (4 ^ k) pow4-pos (4 * m) (4 * (r * r) + 4 * r + 1) (mul-assoc 4 m (4 ^ k) ∙ e ∙ halfway r k))
+no-tie m r k e = odd-even (r * r) (eq-of-mul-eq-mul-right (4 ^ k) (four-pow-pos k) (4 * m) (4 * (r * r) + 4 * r + 1) (mul-assoc 4 m (4 ^ k) ∙ e ∙ halfway r k))
   where
-    pow4-pos : 0 < 4 ^ k
-    pow4-pos = subst (λ (x : ℕ). 0 < x) (sym (four-pow k)) (mul-pos (pow-pos k) (pow-pos k))
-
     odd-even : (s : ℕ) → 4 * m ≡ 4 * s + 4 * r + 1 → ⊥
     odd-even s e = omega arith
 

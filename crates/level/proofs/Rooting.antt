@@ -1,20 +1,18 @@
 -- The root's digits and its bits: `rounded` from any 53 digits that the root lies at, and the digits that `root_digits` finds. Assumes nothing.
-use mathlib.Core.Path.{_≡_, refl, sym, ap, _∙_, subst}
-use mathlib.Core.Logic.{_⊎_, inl, inr}
+use mathlib.Core.Path.{_≡_, refl, sym, ap, _∙_}
+use mathlib.Core.Logic.{inr}
 use Prim.Native.Nat.{ℕ, zero, suc, _+_, _-_, _*_, _/_, _%_, _^_, _≤_, _<_}
-use native.Mathlib.Nat.{le-trans, le-of-eq, le-of-lt, lt-of-lt-of-le, lt-of-le-of-lt, lt-of-mul-lt-mul-left, eq-of-mul-eq-mul-right, mul-assoc, mul-comm, mul-left-comm, mul-right-comm, mul-pos, mul-le-mul, mul-le-mul-left, mul-le-mul-right, mul-lt-mul-of-pos-right, zero-add, le-add-right, div-eq-of-lt-le, pow-suc}
-use native.Mathlib.Numerals.{add-one}
+use native.Mathlib.Nat.{le-trans, le-of-eq, lt-of-lt-of-le, lt-of-le-of-lt, lt-of-mul-lt-mul-left, eq-of-mul-eq-mul-right, mul-assoc, mul-left-comm, mul-right-comm, mul-le-mul, mul-le-mul-left, mul-le-mul-right, mul-lt-mul-of-pos-right, zero-add, le-add-right, div-eq-of-lt-le}
 use native.Mathlib.Omega.{arith}
-use mathlib.Core.Bool.{Bool, true, false, cond}
+use mathlib.Core.Bool.{Bool, false, cond}
 use borrow.Author.Tests.{lt-ltb, le-ltb}
-use lib.Dec.{T, ltb, lit<, lit≤}
+use lib.Dec.{lit<, lit≤}
 use lib.Pow.{pow-add, pow-pos, pow-mono}
-use lib.Ieee.{Float, binary64, size, units, ofBits}
-use lib.Ieee.Scale.{overflow}
+use lib.Ieee.{binary64, size, units, ofBits}
 use Rattle.level.specs.Digits.{Rooted}
 use Rattle.level.specs.Root.{wholeRoot, nearer, rounded, rootOf}
 use Rattle.level.proofs.Pack.{size-above, units-bits}
-use Rattle.level.proofs.Squares.{odd-square, next-square, scaled-square, four-pow, root-ge, root-lt}
+use Rattle.level.proofs.Squares.{odd-square, under-next, scaled-square, four-pow, four-pow-pos, root-ge, root-lt}
 use Rattle.level.proofs.Turns.{pow4-back}
 
 -- r has 53 digits, and the root of n lies from r * 2 ^ k up to (r + 1) * 2 ^ k
@@ -57,11 +55,8 @@ module _ (n r rest k : ℕ) (n-is : n ≡ (r * r + rest) * 4 ^ k) where
   four-n : 4 * n ≡ 4 * (r * r + rest) * 4 ^ k
   four-n = ap (λ (x : ℕ). 4 * x) n-is ∙ sym (mul-assoc 4 (r * r + rest) (4 ^ k))
 
-  pow4-pos : 0 < 4 ^ k
-  pow4-pos = subst (λ (x : ℕ). 0 < x) (sym (four-pow k)) (mul-pos (pow-pos k) (pow-pos k))
-
   pub nearer-up : r < rest → nearer n r k ≡ r + 1
-  nearer-up h = ap (λ (b : Bool). cond b (r + 1) r) (lt-ltb _ _ (lt-of-le-of-lt (le-of-eq (halfway r k)) (lt-of-lt-of-le (mul-lt-mul-of-pos-right (more (r * r)) pow4-pos) (le-of-eq (sym four-n)))))
+  nearer-up h = ap (λ (b : Bool). cond b (r + 1) r) (lt-ltb _ _ (lt-of-le-of-lt (le-of-eq (halfway r k)) (lt-of-lt-of-le (mul-lt-mul-of-pos-right (more (r * r)) (four-pow-pos k)) (le-of-eq (sym four-n)))))
     where
       more : (s : ℕ) → 4 * s + 4 * r + 1 < 4 * (s + rest)
       more s = omega arith
@@ -77,11 +72,8 @@ module _ (n r rest k : ℕ) (n-is : n ≡ (r * r + rest) * 4 ^ k) where
     big = big;
     small = small;
     lo = le-trans (le-of-eq (scaled-square r k)) (le-trans (mul-le-mul-right (4 ^ k) (le-add-right (r * r) rest)) (le-of-eq (sym n-is)));
-    hi = lt-of-le-of-lt (le-of-eq n-is) (lt-of-lt-of-le (mul-lt-mul-of-pos-right (under (r * r) ((r + 1) * (r + 1)) (next-square r)) pow4-pos) (le-of-eq (sym (scaled-square (r + 1) k))));
+    hi = lt-of-le-of-lt (le-of-eq n-is) (lt-of-lt-of-le (mul-lt-mul-of-pos-right (under-next r rest left) (four-pow-pos k)) (le-of-eq (sym (scaled-square (r + 1) k))));
   }
-    where
-      under : (s t : ℕ) → t ≡ s + 2 * r + 1 → s + rest < t
-      under s t e = omega arith
 
 -- ---- 2 ^ e in powers of four
 parity : (e : ℕ) → 2 ^ e ≡ (1 + e % 2) * 4 ^ (e / 2)
@@ -110,10 +102,7 @@ module _ (m e r rest n : ℕ) (M : 0 < m) (m-lt : m < 2 ^ 53) (e-lt : e < 2046) 
       pow4-back n 80 (lt-of-mul-lt-mul-left 1024
       (lt-of-le-of-lt (mul-le-mul-right (4 ^ n) a)
       (lt-of-le-of-lt (le-of-eq (sym (R .sum)))
-      (lt-of-lt-of-le (mul-lt-mul-of-pos-right (lt-of-lt-of-le (under (r * r) ((r + 1) * (r + 1)) (next-square r)) (mul-le-mul r-le r-le)) (pow-pos 64)) (lit≤ tt)))))
-    where
-      under : (s t : ℕ) → t ≡ s + 2 * r + 1 → s + rest < t
-      under s t e = let l = R .left in omega arith
+      (lt-of-lt-of-le (mul-lt-mul-of-pos-right (lt-of-lt-of-le (under-next r rest (R .left)) (mul-le-mul r-le r-le)) (pow-pos 64)) (lit≤ tt)))))
 
   abbrev k : ℕ
   k = e / 2 + 564 - n

@@ -4,7 +4,7 @@ use mathlib.Core.Logic.{_⊎_, inl, inr}
 use Prim.Native.Nat.{ℕ, zero, suc, _+_, _-_, _*_, _/_, _%_, _^_, _≤_, _<_}
 use native.Mathlib.Nat.{lt-irrefl, eq-zero-or-pos, eq-or-lt-of-le, zero-mul, mul-pos, mul-div-cancel}
 use native.Mathlib.Omega.{arith}
-use mathlib.Core.Bool.{Bool, true, false, cond}
+use mathlib.Core.Bool.{Bool, true, cond}
 use lib.Dec.{T}
 use lib.Pow.{pow-pos}
 use lib.Ieee.{Float, nan, inf, fin, binary64, up, down, fits, ofBits, toBits}

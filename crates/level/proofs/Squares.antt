@@ -1,7 +1,7 @@
 -- Squares, and the root cut to a whole number. Assumes nothing.
 use mathlib.Core.Path.{_≡_, refl, sym, ap, _∙_, subst}
-use Prim.Native.Nat.{ℕ, zero, suc, _+_, _-_, _*_, _/_, _^_, _≤_, _<_}
-use native.Mathlib.Nat.{le-trans, le-of-eq, lt-of-lt-of-le, lt-of-le-of-lt, lt-of-not-le, not-le-of-lt, mul-assoc, mul-comm, mul-left-comm, mul-le-mul, mul-le-mul-left, mul-one, add-mul, mul-add, pow-suc, pow-succ'}
+use Prim.Native.Nat.{ℕ, zero, suc, _+_, _*_, _/_, _^_, _≤_, _<_}
+use native.Mathlib.Nat.{le-trans, le-of-eq, lt-of-lt-of-le, lt-of-not-le, not-le-of-lt, mul-assoc, mul-comm, mul-left-comm, mul-pos, mul-le-mul, mul-le-mul-left, mul-one, add-mul, mul-add, pow-suc, pow-succ'}
 use native.Mathlib.Omega.{arith}
 use mathlib.Core.Bool.{Bool, true, false, cond}
 use borrow.Author.Tests.{leb-true, leb-false}
@@ -24,11 +24,17 @@ odd-square r = add-mul (2 * r) 1 (2 * r + 1) ∙ ap (λ (x : ℕ). x + 1 * (2 * 
     plain : (r s : ℕ) → 4 * s + 2 * r * 1 + 1 * (2 * r + 1) ≡ 4 * s + 4 * r + 1
     plain r s = omega arith
 
-pub next-square : (r : ℕ) → (r + 1) * (r + 1) ≡ r * r + 2 * r + 1
+next-square : (r : ℕ) → (r + 1) * (r + 1) ≡ r * r + 2 * r + 1
 next-square r = add-mul r 1 (r + 1) ∙ ap (λ (x : ℕ). x + 1 * (r + 1)) (mul-add r r 1) ∙ plain r (r * r)
   where
     plain : (r s : ℕ) → s + r * 1 + 1 * (r + 1) ≡ s + 2 * r + 1
     plain r s = omega arith
+
+pub under-next : (r rest : ℕ) → rest ≤ 2 * r → r * r + rest < (r + 1) * (r + 1)
+under-next r rest l = go (r * r) ((r + 1) * (r + 1)) (next-square r)
+  where
+    go : (s t : ℕ) → t ≡ s + 2 * r + 1 → s + rest < t
+    go s t e = omega arith
 
 pub square-le : (a b : ℕ) → a ≤ b → a * a ≤ b * b
 square-le a b h = mul-le-mul h h
@@ -40,6 +46,9 @@ four-pow (suc k) = pow-suc 4 k ∙ mul-comm (4 ^ k) 4 ∙ ap (λ (x : ℕ). 4 * 
 
 pub scaled-square : (a k : ℕ) → a * 2 ^ k * (a * 2 ^ k) ≡ a * a * 4 ^ k
 scaled-square a k = squared a (2 ^ k) ∙ ap (λ (x : ℕ). a * a * x) (sym (four-pow k))
+
+pub four-pow-pos : (k : ℕ) → 0 < 4 ^ k
+four-pow-pos k = subst (λ (x : ℕ). 0 < x) (sym (four-pow k)) (mul-pos (pow-pos k) (pow-pos k))
 
 -- ---- w is the root of n, cut to a whole number
 abbrev Cut : ℕ → ℕ → Type 0

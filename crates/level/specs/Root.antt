@@ -1,7 +1,7 @@
 -- The square root of a binary64 value, over `lib.Ieee` and natural numbers, and what it is to be the nearest one. Definitions only.
 -- 01, "engine.rs": "square root, .., each nearest-even".
 use Prim.Native.Nat.{ℕ, zero, suc, _+_, _-_, _*_, _/_, _^_, _<_}
-use mathlib.Core.Bool.{Bool, true, false, cond}
+use mathlib.Core.Bool.{false, cond}
 use lib.Dec.{T, leb, ltb}
 use lib.Ieee.{Float, nan, inf, fin, binary64, up, down, size, units, fits}
 use lib.Ieee.Exact.{HasValue}
@@ -25,8 +25,8 @@ wholeRoot n = cutRoot (size n) n
 abbrev pub nearer : ℕ → ℕ → ℕ → ℕ
 nearer n r k = cond (ltb ((2 * r + 1) * 2 ^ k * ((2 * r + 1) * 2 ^ k)) (4 * n)) (r + 1) r
 
--- The square root of n times the format's smallest value, for n from 4 ^ 52 up, rounded: of its whole part the format keeps the 53 leading digits and
--- drops k, as in `round`.
+-- The square root of n, as so many of the format's smallest values, rounded, for n from 4 ^ 52 up: of its whole part the format keeps the 53 leading
+-- digits and drops k, as in `round`.
 unfoldable pub rounded : ℕ → Float
 unfolding size units wholeRoot
 rounded n =
@@ -34,7 +34,7 @@ rounded n =
     let k = size w - 53 in
     units binary64 false (nearer n (w / 2 ^ k) k) k
 
--- The square root of n / 2 ^ 1074, for n above 0. It is that of n * 2 ^ 1074, divided by 2 ^ 1074.
+-- The square root of n of the format's smallest values, n / 2 ^ 1074, for n above 0: it is that of n * 2 ^ 1074, divided by 2 ^ 1074.
 unfoldable pub rootOf : ℕ → Float
 unfolding rounded
 rootOf n = rounded (n * 2 ^ 1074)

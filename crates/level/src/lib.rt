@@ -111,13 +111,15 @@ fn root_digits(a: u64) -> Digits
     Digits { root, rest, turns }
 }
 
-// The bits of the square root of m * 2 ^ e of the smallest f64. Its digits go up by one where their square leaves more than they are:
-// (root + 1/2) ^ 2 is root ^ 2 + root + 1/4.
+// The bits of the square root of m * 2 ^ e of the smallest f64, 2 ^ -1074. In these units it is the root of m * 2 ^ (e + 1074), which is a * 4 ^ (e / 2 + 532)
+// for the a below. After the 32 turns that use up a the digits weigh 2 ^ (e / 2 + 532), and each turn halves that. They go up by one where their square
+// leaves more than they are: (root + 1/2) ^ 2 is root ^ 2 + root + 1/4.
 fn root_bits(m: u64, e: u64) -> u64
     requires { ⌜ (0 < m) × (m < 2 ^ 53) × (e < 2046) ⌝ }
     ensures { λ r. ⌜ (r < 0x7ff0_0000_0000_0000) × (ofBits binary64 r ≡ spec.rootOf (m * 2 ^ e)) ⌝ }
 {
-    let d = root_digits(m * 1024 * (1 + e % 2));
+    let a = m * 1024 * (1 + e % 2);
+    let d = root_digits(a);
     let k = e / 2 + 564 - d.turns;
     if d.root < d.rest {
         return k * FIELD64 + (d.root + 1);

@@ -1,11 +1,11 @@
 -- `level::count` meets its contract, by `proofs/Counting.antt`. Assumes nothing.
-use mathlib.Core.Path.{_≡_, refl, ap, _∙_}
+use mathlib.Core.Path.{_≡_, refl, _∙_}
 use mathlib.Core.Bool.{false}
-use Prim.Native.Nat.{ℕ, _+_, _*_, _/_, _%_, _^_, _≤_, _<_}
+use Prim.Native.Nat.{ℕ, _/_, _%_, _^_, _<_}
 use native.Mathlib.Omega.{arith}
 use lib.Dec.{T, le→leb}
 use lib.IntN.{pos}
-use lib.Ieee.{Float, fin, binary64, add, mul, ofBits, ofInt, inFloat}
+use lib.Ieee.{fin, binary64, add, mul, ofBits, ofInt, inFloat}
 use Rattle.level.proofs.Counting.{halves}
 use Rattle.level.proofs.count.Statement.{statement}
 use Rattle.level.proofs.count.Tie as tie

@@ -1,8 +1,8 @@
 -- `level::narrow` meets its contract. Assumes nothing.
 use borrow.Author.Needs.{needs}
-use mathlib.Core.Path.{_≡_, sym, ap, _∙_, subst}
+use mathlib.Core.Path.{sym, ap, _∙_, subst}
 use mathlib.Core.Bool.{true, false}
-use Prim.Native.Nat.{ℕ, _+_, _-_, _*_, _/_, _%_, _^_, _≤_, _<_}
+use Prim.Native.Nat.{_+_, _%_, _^_, _≤_}
 use native.Mathlib.Nat.{zero-add, add-sub-of-le}
 use native.Mathlib.Omega.{arith}
 use lib.Dec.{T}

@@ -1,9 +1,9 @@
 -- `level::narrow_bits` meets its contract: each way is a law of `proofs.Narrowing.antt`. Assumes nothing.
 use borrow.Author.Needs.{needs}
-use mathlib.Core.Path.{_≡_, sym, subst}
-use Prim.Native.Nat.{ℕ, _+_, _-_, _*_, _/_, _%_, _^_, _≤_, _<_}
+use mathlib.Core.Path.{sym, subst}
+use Prim.Native.Nat.{ℕ, _-_, _/_, _^_, _<_}
 use native.Mathlib.Omega.{arith}
-use native.Mathlib.Nat.{le-refl, le-of-lt}
+use native.Mathlib.Nat.{le-of-lt}
 use lib.Dec.{lit≤}
 use lib.Pow.{pow-pos}
 use Rattle.level.proofs.Narrowing.{at-top, at-zero, at-low, at-mid, at-over, digits-le, shl-one}

@@ -1,7 +1,7 @@
 -- `level::nearest` meets its contract: the two tests are how twice the remainder compares with the divisor. Assumes nothing.
 use borrow.Author.Needs.{needs}
-use mathlib.Core.Path.{_≡_, sym, _∙_}
-use Prim.Native.Nat.{ℕ, suc, _+_, _-_, _*_, _/_, _%_, _^_, _≤_, _<_, Ordering·lt, Ordering·eq, Ordering·gt}
+use mathlib.Core.Path.{sym, _∙_}
+use Prim.Native.Nat.{Ordering·lt, Ordering·eq, Ordering·gt}
 use native.Mathlib.Nat.{mod-lt, div-le-self}
 use native.Mathlib.Numerals.{add-one}
 use native.Mathlib.Omega.{arith}

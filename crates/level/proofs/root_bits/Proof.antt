@@ -1,6 +1,6 @@
 -- `level::root_bits` meets its contract, by `proofs/Rooting.antt`. Assumes nothing.
 use borrow.Author.Needs.{needs}
-use Prim.Native.Nat.{ℕ, _+_, _-_, _*_, _/_, _%_, _^_, _≤_, _<_}
+use Prim.Native.Nat.{_%_, _<_}
 use native.Mathlib.Omega.{arith}
 use Rattle.level.proofs.Rooting.{product, turns, bits-up, bits-same}
 use Rattle.level.proofs.root_bits.Statement.{statement}
@@ -9,14 +9,14 @@ use Rattle.level.proofs.root_bits.Tie as tie
 few : (c : tie.After-root-digits) → c .root-digits .result .turns < 80
 few c = let o = c .root-digits .result in let a = c .before .args in let p = c .before .pre in turns (a .m) (a .e) (o .root) (o .rest) (o .turns) (p .0) (p .1) (p .2) (c .root-digits .ensures)
 
-mul-root-digits : tie.Need-mul-root-digits
-mul-root-digits c = search needs
+mul-a : tie.Need-mul-a
+mul-a c = search needs
 
-add-root-digits : tie.Need-add-root-digits
-add-root-digits c = search needs
+add-a : tie.Need-add-a
+add-a c = search needs
 
-mul-root-digits-2 : tie.Need-mul-root-digits-2
-mul-root-digits-2 c = record { fits = product (c .args .m) (c .args .e % 2) (c .pre .1) (omega arith) }
+mul-a-2 : tie.Need-mul-a-2
+mul-a-2 c = record { fits = product (c .args .m) (c .args .e % 2) (c .pre .1) (omega arith) }
 
 root-digits-requires : tie.Need-root-digits-requires
 root-digits-requires c κs = search needs
@@ -62,9 +62,9 @@ pub root-bits-spec : {M : Type 1} → statement M
 root-bits-spec =
     tie.close
     (tie.spec
-    mul-root-digits
-    add-root-digits
-    mul-root-digits-2
+    mul-a
+    add-a
+    mul-a-2
     root-digits-requires
     add-k
     sub-k

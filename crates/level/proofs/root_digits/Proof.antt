@@ -1,5 +1,5 @@
 -- `level::root_digits` meets its contract. The loop's invariant is `Found`, and a turn finds one more digit. Assumes nothing.
-use Prim.Native.Nat.{ℕ, _+_, _-_, _*_, _/_, _%_, _^_, _≤_, _<_}
+use Prim.Native.Nat.{_-_, _<_}
 use native.Mathlib.Omega.{arith}
 use Rattle.level.proofs.Turns.{Found, none, zero-digit, one-digit, few, done}
 use Rattle.level.proofs.root_digits.Statement.{statement}
