@@ -1,6 +1,7 @@
 mod Nan
 mod Quotient
 mod Pack
+mod Grid
 mod Fields
 mod Narrowing
 mod Squares
@@ -9,3 +10,4 @@ mod Rooting
 mod Signs
 mod Counting
 pub mod NearestRoot
+pub mod NearestEven

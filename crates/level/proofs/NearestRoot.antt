@@ -15,7 +15,8 @@ use lib.Ieee.Fits.{and-l, and-r, down-pos, kept-lt}
 use lib.Ieee.Exact.{HasValue, units-val}
 use lib.Ieee.Positive.{positive}
 use Rattle.level.specs.Root.{wholeRoot, nearer, rootOf, sqrt, NearestRoot}
-use Rattle.level.proofs.Pack.{or-less, pow-lt-back, units-fits}
+use Rattle.level.proofs.Pack.{or-less, pow-lt-back, units-held}
+use Rattle.level.proofs.Grid.{gap}
 use Rattle.level.proofs.Squares.{even-square, square-le, scaled-square, four-pow, four-pow-pos, whole-root, root-ge}
 use Rattle.level.proofs.Rooting.{At, rounded-at, halfway}
 use Rattle.level.proofs.Signs.{sqrt-of}
@@ -77,22 +78,6 @@ spread (fin s (suc m) e) b t h =
     let l = lifted e (f .not-low) in
     record { q = suc m; j = l .j; small = f .small; is = eq-of-mul-eq-mul-right (down e) (down-pos e) b (suc m * 2 ^ l .j) (sym (h .1) ∙ in-units (suc m) (l .j) e (l .is)) }
 
--- ---- between r * 2 ^ k and (r + 1) * 2 ^ k, for an r of 53 digits, there is none
-gap : (r k q j : ℕ) → 2 ^ 52 ≤ r → q < 2 ^ 53 → r * 2 ^ k < q * 2 ^ j → (r + 1) * 2 ^ k ≤ q * 2 ^ j
-gap r k q j big small h = go (or-less k j)
-  where
-    go : (k ≤ j) ⊎ (j < k) → (r + 1) * 2 ^ k ≤ q * 2 ^ j
-    go (inl l) =
-        let e : q * 2 ^ j ≡ q * 2 ^ (j - k) * 2 ^ k = ap (λ (x : ℕ). q * 2 ^ x) (sym (back j k l)) ∙ ap (λ (x : ℕ). q * x) (pow-add 2 (j - k) k) ∙ sym (mul-assoc q (2 ^ (j - k)) (2 ^ k)) in
-        let s : r < q * 2 ^ (j - k) = lt-of-mul-lt-mul-right (2 ^ k) (lt-of-lt-of-le h (le-of-eq e)) in
-        let s' : r + 1 ≤ q * 2 ^ (j - k) = omega arith in
-        le-trans (mul-le-mul-right (2 ^ k) s') (le-of-eq (sym e))
-    go (inr l) =
-        let u : 53 + j ≤ 52 + k = omega arith in
-        absurd (not-le-of-lt h
-        (le-trans (mul-le-mul-right (2 ^ j) (le-of-lt small))
-        (le-trans (le-of-eq (sym (pow-add 2 53 j))) (le-trans (pow-mono u) (le-trans (le-of-eq (pow-add 2 52 k)) (mul-le-mul-right (2 ^ k) big))))))
-
 -- ---- the number halfway, for a b of the format
 square-lt : (a b : ℕ) → a < b → a * a < b * b
 square-lt a b h = lt-of-le-of-lt (mul-le-mul-left a (le-of-lt h)) (mul-lt-mul-of-pos-right h (lt-of-le-of-lt (zero-le a) h))
@@ -118,7 +103,7 @@ module _ (n r k : ℕ) (A : At n r k) where
       twice r = omega arith
 
   next : (b : ℕ) → Spread b → lower < b → upper ≤ b
-  next b S h = subst (λ (x : ℕ). upper ≤ x) (sym (S .is)) (gap r k (S .q) (S .j) (A .big) (S .small) (subst (λ (x : ℕ). lower < x) (S .is) h))
+  next b S h = subst (λ (x : ℕ). upper ≤ x) (sym (S .is)) (gap 52 r k (S .q) (S .j) (inr (A .big)) (S .small) (subst (λ (x : ℕ). lower < x) (S .is) h))
 
   -- the result, as the test has it
   abbrev at : Bool → ℕ
@@ -250,7 +235,7 @@ module _ (q j : ℕ) (small : q < 2 ^ 53) (some : 0 < q * 2 ^ j) (finite : q * 2
     a = digits * 2 ^ k;
     x-is = h;
     y-is = units-val binary64 false digits k in-range;
-    held = units-fits binary64 false digits k digits-le in-range;
+    held = units-held binary64 false digits k digits-le;
     below = λ z b t v. below-at (n * 2 ^ 1074) r k A (ltb ((2 * r + 1) * 2 ^ k * ((2 * r + 1) * 2 ^ k)) (4 * (n * 2 ^ 1074))) refl b (spread z b t v);
     above = λ z b t v. above-at (n * 2 ^ 1074) r k A never (ltb ((2 * r + 1) * 2 ^ k * ((2 * r + 1) * 2 ^ k)) (4 * (n * 2 ^ 1074))) refl b (spread z b t v);
   }

@@ -5,12 +5,12 @@ use Prim.Native.Nat.{ℕ, suc, _+_, _-_, _*_, _/_, _%_, _^_, _≤_, _<_, compare
 use native.Mathlib.Nat.{le-trans, le-refl, le-of-eq, le-antisymm, lt-of-lt-of-le, lt-of-le-of-lt, lt-of-not-le, lt-irrefl, not-le-of-lt, mul-one, mul-comm, mul-assoc, mul-left-comm, mul-right-comm, mul-div-cancel, mul-pos, mul-le-mul-right, mul-lt-mul-of-pos-right, div-one, add-assoc, pow-succ', le-div-iff-mul-le, div-lt-iff-lt-mul, eq-or-lt-of-le, suc-mul, suc-add}
 use native.Mathlib.Omega.{arith}
 use mathlib.Core.Bool.{Bool, true, false, not, cond}
-use lib.Dec.{T, ltb, leb, leb→le, nleb→lt}
+use lib.Dec.{T, ltb, leb, leb→le, nleb→lt, ltb→lt}
 use lib.Arith.{le→nltb}
 use lib.Pow.{pow-add, pow-pos, pow-mono, pow-lt}
 use lib.Ieee.{Float, nan, inf, fin, Format, binary32, binary64, prec, low, down, size, odd, units, round, fits, hid, top, ofBits, toBits}
 use lib.Ieee.Digits.{size-lt, size-le}
-use lib.Ieee.Fits.{round-is, down-pos, nearest-le, odd-fits, cond-fits, inf-fits}
+use lib.Ieee.Fits.{round-is, down-pos, nearest-le, odd-fits, inf-fits}
 use lib.Ieee.Exact.{HasValue, units-val}
 use lib.Ieee.Bits.{ofBits-toBits, cond-no}
 use lib.Ieee.Nearest.{closest, closest-same, div-same, nearest-ge}
@@ -96,27 +96,31 @@ toBits-of f (fin t m e) s a h =
 abbrev pub stored : Format → ℕ
 stored f = prec f - 1
 
-prec-is : (f : Format) → prec f ≡ suc (stored f)
+pub prec-is : (f : Format) → prec f ≡ suc (stored f)
 prec-is binary32 = refl
 prec-is binary64 = refl
 
-pub units-fits : (f : Format) (s : Bool) (q k : ℕ) → q ≤ 2 ^ prec f → q * 2 ^ k < overflow f → T (fits f (units f s q k))
+pub units-held : (f : Format) (s : Bool) (q k : ℕ) → q ≤ 2 ^ prec f → T (fits f (units f s q k))
 unfolding units
-units-fits f s q k h o =
-    cond-fits f (ltb (q * 2 ^ k) (overflow f)) (odd (suc (prec f)) s q k (low f)) (inf s)
-    (odd-fits f (suc (prec f)) s q k (lt-of-le-of-lt h (pow-lt (le-refl (suc (prec f))))) h o) (inf-fits f s)
+units-held f s q k h = go (ltb (q * 2 ^ k) (overflow f)) (ltb→lt (q * 2 ^ k) (overflow f))
+  where
+    go : (b : Bool) → (T b → q * 2 ^ k < overflow f) → T (fits f (cond b (odd (suc (prec f)) s q k (low f)) (inf s)))
+    go true o = odd-fits f (suc (prec f)) s q k (lt-of-le-of-lt h (pow-lt (le-refl (suc (prec f))))) h (o tt)
+    go false o = inf-fits f s
+
+-- the bits of q * 2 ^ k of the smallest values, where q has all the digits or none was dropped; and the value that they stand for
+pub bits-of-units : (f : Format) (s : Bool) (q k : ℕ) → q ≤ 2 ^ prec f → (k ≡ 0) ⊎ (hid f ≤ q) → q * 2 ^ k < overflow f → toBits f (units f s q k) ≡ cond s (top f) 0 + (k * hid f + q)
+bits-of-units f s q k h n o =
+    let a = q * 2 ^ k in
+    toBits-of f (units f s q k) s a (units-val f s q k o)
+    ∙ ap (λ (x : ℕ). cond s (top f) 0 + (size a - x) * hid f + a / 2 ^ (size a - x)) (prec-is f)
+    ∙ add-assoc (cond s (top f) 0) ((size a - suc (stored f)) * hid f) (a / 2 ^ (size a - suc (stored f)))
+    ∙ ap (λ (x : ℕ). cond s (top f) 0 + x) (number (stored f) k q (subst (λ (x : ℕ). q ≤ 2 ^ x) (prec-is f) h) n)
 
 pub units-bits : (f : Format) (s : Bool) (q k : ℕ) → q ≤ 2 ^ prec f → (k ≡ 0) ⊎ (hid f ≤ q) → q * 2 ^ k < overflow f → ofBits f (cond s (top f) 0 + (k * hid f + q)) ≡ units f s q k
-units-bits f s q k h n o =
-    let a = q * 2 ^ k in
-    ap (λ (x : ℕ). ofBits f (cond s (top f) 0 + x)) (sym (number (stored f) k q (subst (λ (x : ℕ). q ≤ 2 ^ x) (prec-is f) h) n))
-    ∙ ap (ofBits f)
-    (sym (add-assoc (cond s (top f) 0) ((size a - suc (stored f)) * hid f) (a / 2 ^ (size a - suc (stored f))))
-    ∙ ap (λ (x : ℕ). cond s (top f) 0 + (size a - x) * hid f + a / 2 ^ (size a - x)) (sym (prec-is f))
-    ∙ sym (toBits-of f (units f s q k) s a (units-val f s q k o)))
-    ∙ ofBits-toBits f (units f s q k) (units-fits f s q k h o)
+units-bits f s q k h n o = ap (ofBits f) (sym (bits-of-units f s q k h n o)) ∙ ofBits-toBits f (units f s q k) (units-held f s q k h)
 
-units-inf : (f : Format) (s : Bool) (q k : ℕ) → overflow f ≤ q * 2 ^ k → units f s q k ≡ inf s
+pub units-inf : (f : Format) (s : Bool) (q k : ℕ) → overflow f ≤ q * 2 ^ k → units f s q k ≡ inf s
 unfolding units
 units-inf f s q k h = cond-no (ltb (q * 2 ^ k) (overflow f)) (odd (suc (prec f)) s q k (low f)) (inf s) (le→nltb (q * 2 ^ k) (overflow f) h)
 
