@@ -1,0 +1,7 @@
+pub mod Answer
+pub mod Rate
+pub mod Block
+pub mod Fade
+pub mod Sum
+pub mod Noise
+pub mod Examples
