@@ -1,2 +1,5 @@
 pub mod Rates
 pub mod Digits
+pub mod Sizes
+pub mod Blocks
+pub mod Fades

@@ -3,7 +3,7 @@ use Prim.Native.Nat.{ℕ, zero, suc, _+_, _*_}
 use mathlib.Core.Bool.{Bool, _&&_, _||_}
 use mathlib.Core.List.{List, [], _∷_, _++_}
 use lib.Dec.{eqb}
-use lib.ListN.{length, getD}
+use lib.ListN.{getD}
 
 -- f 0, f 1, .., f (n - 1)
 unfoldable pub each : {A : Type 0} → ℕ → (ℕ → A) → List A
@@ -24,6 +24,6 @@ sampleAt d size xs c i = getD xs (c * size + i) d
 abbrev pub isChannels : ℕ → Bool
 isChannels n = eqb n 1 || eqb n 2
 
--- 01: so is "a lent block not channels × block"
-abbrev pub holds : {A : Type 0} → List A → ℕ → ℕ → Bool
-holds xs n size = isChannels n && eqb (length xs) (n * size)
+-- 01: so is "a lent block not channels × block"; len is how many samples it has
+abbrev pub holds : ℕ → ℕ → ℕ → Bool
+holds len n size = isChannels n && eqb len (n * size)

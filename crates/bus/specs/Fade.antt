@@ -5,7 +5,7 @@ use mathlib.Core.List.{List}
 use lib.Dec.{leb, ltb}
 use lib.IntN.{pos}
 use lib.ListN.{length, getD}
-use lib.Ieee.{Float, fin, binary32, mul}
+use lib.Ieee.{Float, nan, fin, binary32, mul}
 use Rattle.bus.specs.Answer.{Answer, refused, gives}
 use Rattle.bus.specs.Block.{blockOf, sampleAt, holds}
 
@@ -26,19 +26,19 @@ silence = fin false 0 (pos 0)
 abbrev pub faded : List Float → ℕ → ℕ → ℕ → Float → Float
 faded gains len position i x = mul binary32 x (gainAt silence gains len position i)
 
--- 01's table: 16 unless both blocks are channels × block with 1 or 2 channels, and there are L gains
-abbrev pub fadeFits : List Float → ℕ → List Float → ℕ → ℕ → List Float → ℕ → Bool
-fadeFits input inputChannels gains len size out outChannels =
-    holds input inputChannels size && (holds out outChannels size && leb len (length gains))
+-- sample i of channel c of the output. 01: "sample i of its output is input sample i × the gain at i past the position"; "output channel c reads channel c
+-- modulo the input's count".
+abbrev pub fadedOf : List Float → ℕ → List Float → ℕ → ℕ → ℕ → ℕ → ℕ → Float
+fadedOf input ins gains len position size c i = faded gains len position i (sampleAt nan size input (c % ins) i)
+
+-- 01's table: 16 unless both blocks are channels × block with 1 or 2 channels, and there are L gains; input, gains and out are how many there are of each
+abbrev pub fadeFits : ℕ → ℕ → ℕ → ℕ → ℕ → ℕ → ℕ → Bool
+fadeFits input ins gains len size out outs = holds input ins size && (holds out outs size && leb len gains)
 
 abbrev pub fadeAnswer : List Float → ℕ → List Float → ℕ → ℕ → List Float → ℕ → Answer Unit
-fadeAnswer input inputChannels gains len size out outChannels =
-    cond (fadeFits input inputChannels gains len size out outChannels) (gives tt) (refused 16)
+fadeAnswer input ins gains len size out outs = cond (fadeFits (length input) ins (length gains) len size (length out) outs) (gives tt) (refused 16)
 
--- The output as it is left. 01: "sample i of its output is input sample i × the gain at i past the position", "output channel c reads channel c modulo the
--- input's count"; a refusal leaves "buffers unchanged".
+-- the output as it is left: whole, or where the call is refused, as it was
 abbrev pub fadeOutput : List Float → ℕ → List Float → ℕ → ℕ → ℕ → List Float → ℕ → List Float
-fadeOutput input inputChannels gains len position size out outChannels =
-    cond (fadeFits input inputChannels gains len size out outChannels)
-    (blockOf outChannels size (λ c i. faded gains len position i (sampleAt silence size input (c % inputChannels) i)))
-    out
+fadeOutput input ins gains len position size out outs =
+    cond (fadeFits (length input) ins (length gains) len size (length out) outs) (blockOf outs size (fadedOf input ins gains len position size)) out

@@ -4,7 +4,7 @@ use mathlib.Core.Bool.{Bool, true, _&&_, cond}
 use mathlib.Core.List.{List, [], _∷_}
 use lib.Dec.{leb, eqb}
 use lib.ListN.{length, drop}
-use lib.Ieee.{Float, binary32, add}
+use lib.Ieee.{Float, nan, binary32, add}
 use Rattle.bus.specs.Answer.{Answer, refused, gives}
 use Rattle.bus.specs.Block.{blockOf, sampleAt, isChannels, holds}
 use Rattle.bus.specs.Fade.{silence}
@@ -23,18 +23,18 @@ everyIsChannels (n ∷ ns) = isChannels n && everyIsChannels ns
 -- a plus sample i of channel c of each input, in order, each addition rounded; an input of n channels gives its channel c modulo n
 unfoldable pub summed : Float → ℕ → ℕ → ℕ → List Float → List ℕ → Float
 summed a size c i xs [] = a
-summed a size c i xs (n ∷ ns) = summed (add binary32 a (sampleAt silence size xs (c % n) i)) size c i (drop (n * size) xs) ns
+summed a size c i xs (n ∷ ns) = summed (add binary32 a (sampleAt nan size xs (c % n) i)) size c i (drop (n * size) xs) ns
 
--- 01's table: 16 unless there are at most 64 inputs of 1 or 2 channels each, and their blocks and the output are channels × block
-unfoldable pub sumFits : List Float → List ℕ → ℕ → List Float → ℕ → Bool
+-- 01's table: 16 unless there are at most 64 inputs of 1 or 2 channels each, and their blocks and the output are channels × block; inputs and out are how
+-- many samples there are of each
+unfoldable pub sumFits : ℕ → List ℕ → ℕ → ℕ → ℕ → Bool
 unfolding channels everyIsChannels
-sumFits inputs counts size out outChannels =
-    leb (length counts) 64 && (everyIsChannels counts && (eqb (length inputs) (channels counts * size) && holds out outChannels size))
+sumFits inputs counts size out outs = leb (length counts) 64 && (everyIsChannels counts && (eqb inputs (channels counts * size) && holds out outs size))
 
 abbrev pub sumAnswer : List Float → List ℕ → ℕ → List Float → ℕ → Answer Unit
-sumAnswer inputs counts size out outChannels = cond (sumFits inputs counts size out outChannels) (gives tt) (refused 16)
+sumAnswer inputs counts size out outs = cond (sumFits (length inputs) counts size (length out) outs) (gives tt) (refused 16)
 
--- The output as it is left. 01: "A bus sums from +0, port by port in rising order, one rounding per addition"; a refusal leaves "buffers unchanged".
+-- The output as it is left: whole, or where the call is refused, as it was. 01: "A bus sums from +0, port by port in rising order, one rounding per addition".
 abbrev pub sumOutput : List Float → List ℕ → ℕ → List Float → ℕ → List Float
-sumOutput inputs counts size out outChannels =
-    cond (sumFits inputs counts size out outChannels) (blockOf outChannels size (λ c i. summed silence size c i inputs counts)) out
+sumOutput inputs counts size out outs =
+    cond (sumFits (length inputs) counts size (length out) outs) (blockOf outs size (λ c i. summed silence size c i inputs counts)) out

@@ -1,14 +1,14 @@
 // The arithmetic of one voice's sound on its way to a bus: the sample rate that the store accepts, the length of a stolen
 // voice's fade, the fade's output, the sum of a bus, and the seed of a node's noise. Blocks are lent; nothing is kept.
 ghost use mathlib.Core.Path.{_≡_};
-ghost use Prim.Native.Nat.{ℕ, _+_, _*_, _≤_};
-ghost use lib.Dec.{T};
-ghost use lib.ListN.{length};
-ghost use lib.Ieee.{binary32, add};
+ghost use Prim.Native.Nat.{ℕ, _+_, _*_, _≤_, _<_};
+ghost use lib.Dec.{T, eqb};
+ghost use lib.ListN.{length, getD};
+ghost use lib.Ieee.{binary32, nan, add};
 ghost use Rattle.bus.specs.Answer.{rated, written};
 ghost use Rattle.bus.specs.Rate.{rateOf};
-ghost use Rattle.bus.specs.Block.{each, isChannels, holds};
-ghost use Rattle.bus.specs.Fade.{fadeLength, gainAt, silence, faded, fadeAnswer, fadeOutput};
+ghost use Rattle.bus.specs.Block.{each, blockOf, isChannels, holds};
+ghost use Rattle.bus.specs.Fade.{fadeLength, gainAt, silence, faded, fadedOf, fadeFits, fadeAnswer, fadeOutput};
 ghost use Rattle.bus.specs.Sum.{channels, everyIsChannels, summed, sumAnswer, sumOutput};
 ghost use Rattle.bus.specs.Noise.{wrap, seedOf};
 
@@ -63,4 +63,128 @@ pub fn derive_noise_seed(sequence: u32, node: usize) -> u32
 {
     let low = (node % 0x1_0000_0000) as u32;
     0xDEAD_BEEF ^ wrapping_mul(sequence, 0x9E37_79B9) ^ wrapping_mul(low, 0x85EB_CA77)
+}
+
+fn is_channels(n: usize) -> bool
+    ensures { λ r. ⌜ r ≡ isChannels n ⌝ }
+{
+    n == 1 || n == 2
+}
+
+// Whether len is n × size. The product, which may not fit, is not worked out.
+fn is_product(len: usize, n: usize, size: usize) -> bool
+    ensures { λ r. ⌜ r ≡ eqb len (n * size) ⌝ }
+{
+    if n == 0 {
+        return len == 0;
+    }
+    if len % n == 0 {
+        return len / n == size;
+    }
+    false
+}
+
+// Whether a lent block of len samples is channels × block.
+fn holds_block(len: usize, channels: usize, size: usize) -> bool
+    ensures { λ r. ⌜ r ≡ holds len channels size ⌝ }
+{
+    if is_channels(channels) {
+        return is_product(len, channels, size);
+    }
+    false
+}
+
+// The gain of sample i. The position may be any number: nothing past len is added up.
+fn gain_at(gains: &[f32], len: usize, position: usize, i: usize) -> f32
+    requires { ⌜ len ≤ length (now gains) ⌝ }
+    ensures { λ r. ⌜ r ≡ gainAt silence (now (gains .entry)) len position i ⌝ }
+{
+    if position < len {
+        if i < len - position {
+            return gains[position + i];
+        }
+    }
+    0.0
+}
+
+fn fade_channel(source: &[f32], gains: &[f32], len: usize, position: usize, out: &mut [f32])
+    requires { ⌜ (length (now source) ≡ length (now out)) × (len ≤ length (now gains)) ⌝ }
+    ensures { λ _. ⌜ now (out .exit) ≡ each (length (now (out .entry))) (λ i. faded (now (gains .entry)) len position i (getD (now (source .entry)) i nan)) ⌝ }
+{
+    let mut i: usize = 0;
+    while i < out.len() {
+        out[i] = source[i] * gain_at(gains, len, position, i);
+        i += 1;
+    }
+}
+
+// Channel c of the output is channel c modulo the input's count, faded.
+fn fade_block(
+    input: &[f32],
+    ins: usize,
+    gains: &[f32],
+    len: usize,
+    position: usize,
+    size: usize,
+    out: &mut [f32],
+    outs: usize,
+)
+    requires { ⌜ (0 < ins) × (length (now input) ≡ ins * size) × (length (now out) ≡ outs * size) × (len ≤ length (now gains)) ⌝ }
+    ensures { λ _. ⌜ now (out .exit) ≡ blockOf outs size (fadedOf (now (input .entry)) ins (now (gains .entry)) len position size) ⌝ }
+{
+    let mut c: usize = 0;
+    while c < outs {
+        let from = c % ins * size;
+        let to = c * size;
+        fade_channel(
+            &input[from..from + size],
+            gains,
+            len,
+            position,
+            &mut out[to..to + size],
+        );
+        c += 1;
+    }
+}
+
+fn fade_fits(
+    input: usize,
+    ins: usize,
+    gains: usize,
+    len: usize,
+    size: usize,
+    out: usize,
+    outs: usize,
+) -> bool
+    ensures { λ r. ⌜ r ≡ fadeFits input ins gains len size out outs ⌝ }
+{
+    if holds_block(input, ins, size) {
+        if holds_block(out, outs, size) {
+            return len <= gains;
+        }
+    }
+    false
+}
+
+// A fade's output for one block of size samples: ins and outs are the channel counts of input and output, len is the fade's length L, and position is what
+// its earlier blocks have passed. The gains are those of samples 0 to L - 1.
+pub fn fade_output(
+    input: &[f32],
+    ins: usize,
+    gains: &[f32],
+    len: u32,
+    position: u64,
+    size: usize,
+    out: &mut [f32],
+    outs: usize,
+) -> Written
+    ensures answers { λ r. ⌜ written r ≡ fadeAnswer (now (input .entry)) ins (now (gains .entry)) len size (now (out .entry)) outs ⌝ }
+    ensures leaves { λ _. ⌜ now (out .exit) ≡ fadeOutput (now (input .entry)) ins (now (gains .entry)) len position size (now (out .entry)) outs ⌝ }
+{
+    let len = len as usize;
+    if fade_fits(input.len(), ins, gains.len(), len, size, out.len(), outs) {
+        fade_block(input, ins, gains, len, position as usize, size, out, outs);
+        return Written::Done;
+    }
+    Written::Refused
 }
