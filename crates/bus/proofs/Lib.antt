@@ -3,3 +3,4 @@ pub mod Digits
 pub mod Sizes
 pub mod Blocks
 pub mod Fades
+pub mod Sums

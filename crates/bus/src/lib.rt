@@ -9,7 +9,7 @@ ghost use Rattle.bus.specs.Answer.{rated, written};
 ghost use Rattle.bus.specs.Rate.{rateOf};
 ghost use Rattle.bus.specs.Block.{each, blockOf, isChannels, holds};
 ghost use Rattle.bus.specs.Fade.{fadeLength, gainAt, silence, faded, fadedOf, fadeFits, fadeAnswer, fadeOutput};
-ghost use Rattle.bus.specs.Sum.{channels, everyIsChannels, summed, sumAnswer, sumOutput};
+ghost use Rattle.bus.specs.Sum.{channels, everyIsChannels, summed, sumFits, sumAnswer, sumOutput};
 ghost use Rattle.bus.specs.Noise.{wrap, seedOf};
 
 // The sample rate in whole hertz.
@@ -184,6 +184,115 @@ pub fn fade_output(
     let len = len as usize;
     if fade_fits(input.len(), ins, gains.len(), len, size, out.len(), outs) {
         fade_block(input, ins, gains, len, position as usize, size, out, outs);
+        return Written::Done;
+    }
+    Written::Refused
+}
+
+fn every_is_channels(counts: &[usize]) -> bool
+    ensures { λ r. ⌜ r ≡ everyIsChannels (now (counts .entry)) ⌝ }
+{
+    let mut k: usize = 0;
+    while k < counts.len() {
+        if !is_channels(counts[k]) {
+            return false;
+        }
+        k += 1;
+    }
+    true
+}
+
+// How many channels the inputs have together.
+fn total_channels(counts: &[usize]) -> usize
+    requires { ⌜ T (everyIsChannels (now counts)) ⌝ }
+    ensures { λ r. ⌜ r ≡ channels (now (counts .entry)) ⌝ }
+{
+    let mut n: usize = 0;
+    let mut k: usize = 0;
+    while k < counts.len() {
+        n += counts[k];
+        k += 1;
+    }
+    n
+}
+
+fn sum_fits(inputs: usize, counts: &[usize], size: usize, out: usize, outs: usize) -> bool
+    ensures { λ r. ⌜ r ≡ sumFits inputs (now (counts .entry)) size out outs ⌝ }
+{
+    if counts.len() <= 64 {
+        if every_is_channels(counts) {
+            if is_product(inputs, total_channels(counts), size) {
+                return holds_block(out, outs, size);
+            }
+        }
+    }
+    false
+}
+
+fn clear(out: &mut [f32])
+    ensures { λ _. ⌜ now (out .exit) ≡ each (length (now (out .entry))) (λ i. silence) ⌝ }
+{
+    let mut i: usize = 0;
+    while i < out.len() {
+        out[i] = 0.0;
+        i += 1;
+    }
+}
+
+fn add_channel(source: &[f32], out: &mut [f32])
+    requires { ⌜ length (now source) ≡ length (now out) ⌝ }
+    ensures { λ _. ⌜ now (out .exit) ≡ each (length (now (out .entry))) (λ i. add binary32 (getD (now (out .entry)) i nan) (getD (now (source .entry)) i nan)) ⌝ }
+{
+    let mut i: usize = 0;
+    while i < out.len() {
+        out[i] = out[i] + source[i];
+        i += 1;
+    }
+}
+
+// Channel c of the sum: +0, and then input by input its channel c modulo its count.
+fn sum_channel(inputs: &[f32], counts: &[usize], size: usize, c: usize, out: &mut [f32])
+    requires { ⌜ T (everyIsChannels (now counts)) × (length (now inputs) ≡ channels (now counts) * size) × (length (now out) ≡ size) ⌝ }
+    ensures { λ _. ⌜ now (out .exit) ≡ each size (λ i. summed silence size c i (now (inputs .entry)) (now (counts .entry))) ⌝ }
+{
+    clear(out);
+    let mut at: usize = 0;
+    let mut k: usize = 0;
+    while k < counts.len() {
+        let n = counts[k];
+        let from = at + c % n * size;
+        add_channel(&inputs[from..from + size], out);
+        at += n * size;
+        k += 1;
+    }
+}
+
+fn sum_block(inputs: &[f32], counts: &[usize], size: usize, out: &mut [f32], outs: usize)
+    requires { ⌜ T (everyIsChannels (now counts)) × (length (now inputs) ≡ channels (now counts) * size) × (length (now out) ≡ outs * size) ⌝ }
+    ensures { λ _. ⌜ now (out .exit) ≡ blockOf outs size (λ c i. summed silence size c i (now (inputs .entry)) (now (counts .entry))) ⌝ }
+{
+    let mut c: usize = 0;
+    while c < outs {
+        let to = c * size;
+        sum_channel(inputs, counts, size, c, &mut out[to..to + size]);
+        c += 1;
+    }
+}
+
+// The sum of a bus for one block of size samples. The inputs' blocks stand one after the other in inputs, and counts has the channel count of each; outs is
+// the output's.
+pub fn bus_sum(
+    inputs: &[f32],
+    counts: &[usize],
+    size: usize,
+    out: &mut [f32],
+    outs: usize,
+) -> Written
+    ensures answers { λ r. ⌜ written r ≡ sumAnswer (now (inputs .entry)) (now (counts .entry)) size (now (out .entry)) outs ⌝ }
+    ensures leaves { λ _. ⌜ now (out .exit) ≡ sumOutput (now (inputs .entry)) (now (counts .entry)) size (now (out .entry)) outs ⌝ }
+{
+    if sum_fits(inputs.len(), counts, size, out.len(), outs) {
+        sum_block(inputs, counts, size, out, outs);
         return Written::Done;
     }
     Written::Refused
