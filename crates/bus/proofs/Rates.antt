@@ -4,55 +4,58 @@
 --     refuses     an f32 that is that of no such n is refused
 -- The rest is what the tests of `sample_rate` say of the f32 of such an n. Assumes nothing.
 use mathlib.Core.Path.{_≡_, refl, sym, ap, _∙_, subst}
-use mathlib.Core.Bool.{Bool, true, false, not, _&&_, cond}
+use mathlib.Core.Bool.{Bool, true, false, not}
 use Prim.Native.Nat.{ℕ, _+_, _*_, _/_, _%_, _^_, _≤_, _<_}
 use native.Mathlib.Nat.{mul-one, one-mul, add-zero, mul-div-cancel, mul-mod-left, div-add-mod', mul-lt-mul-of-pos-right}
 use native.Mathlib.Omega.{arith}
-use lib.Dec.{T, leb, ltb, eqb, eqb→eq, leb→le, le→leb, lit≤, lit<}
+use lib.Dec.{T, leb, eqb, eqb→eq, le→leb}
 use lib.IntN.{ℤ, pos}
-use lib.Ieee.{Float, nan, inf, fin, binary32, up, down, round, ofInt, lt, fits, isNan, inFloat, toUnsigned, toBits, ofBits}
+use lib.Ieee.{Float, nan, inf, fin, binary32, up, down, ofInt, lt, fits, isNan, inFloat, toUnsigned, toBits, ofBits}
 use lib.Ieee.Back.{round-whole, whole-unique, unsigned-back}
 use lib.Ieee.Bits.{ofBits-toBits}
 use lib.Ieee.Exact.{HasValue}
-use lib.Ieee.Fits.{and-l, and-r, ofInt-fits, down-pos}
-use borrow.Author.Tests.{le-leb, lt-ltb, eq-eqb, leb-true}
-use Rattle.bus.specs.Answer.{Answer, refused, gives}
-use Rattle.bus.specs.Rate.{wholeRate, rateOf}
+use lib.Ieee.Fits.{ofInt-fits, down-pos}
+use borrow.Author.Tests.{le-leb, lt-ltb, leb-true}
+use Rattle.bus.specs.Answer.{refused, gives}
+use Rattle.bus.specs.Rate.{highestRate, wholeRate, rateOf}
 
 -- n is a rate, and x is its f32
 pub record IsRate (x : Float) (n : ℕ) : Type 0 where
   pub low : 1 ≤ n
-  pub high : n ≤ 384000
+  pub high : n ≤ highestRate
   pub same : x ≡ ofInt binary32 (pos n)
 
 -- the f32 of n has the value n
-value : (n : ℕ) → n ≤ 384000 → HasValue (ofInt binary32 (pos n)) false n 1
+value : (n : ℕ) → n ≤ 2 ^ 24 → HasValue (ofInt binary32 (pos n)) false n 1
 unfolding ofInt
-value n h = let l : n ≤ 2 ^ 24 = omega arith in round-whole binary32 false n l
+value n h = round-whole binary32 false n h
 
-taken : (a b n : ℕ) → 0 < b → 1 ≤ n → n ≤ 384000 → a ≡ n * b → wholeRate a b ≡ gives n
+small : (n : ℕ) → n ≤ highestRate → n ≤ 2 ^ 24
+small n h = omega arith
+
+taken : (a b n : ℕ) → 0 < b → 1 ≤ n → n ≤ highestRate → a ≡ n * b → wholeRate a b ≡ gives n
 taken a b n p l h e =
     let q : a / b ≡ n = ap (λ (x : ℕ). x / b) e ∙ mul-div-cancel n p in
     let r : a % b ≡ 0 = ap (λ (x : ℕ). x % b) e ∙ mul-mod-left n b in
-    simp (q, r, le-leb 1 n l, le-leb n 384000 h)
+    simp (q, r, le-leb 1 n l, le-leb n highestRate h)
 
-pub rate-taken : (n : ℕ) → 1 ≤ n → n ≤ 384000 → rateOf (ofInt binary32 (pos n)) ≡ gives n
+pub rate-taken : (n : ℕ) → 1 ≤ n → n ≤ highestRate → rateOf (ofInt binary32 (pos n)) ≡ gives n
 unfolding rateOf
-rate-taken n l h = go (ofInt binary32 (pos n)) (value n h)
+rate-taken n l h = go (ofInt binary32 (pos n)) (value n (small n h))
   where
     go : (x : Float) → HasValue x false n 1 → rateOf x ≡ gives n
     go (fin false m e) v = taken (m * up e) (down e) n (down-pos e) l h (sym (mul-one (m * up e)) ∙ v .1)
     go (fin true m e) v = let z : true ≡ false = v .0 in cc
 
 -- an accepted fraction is the whole number n
-whole : (m : ℕ) (e : ℤ) → T (fits binary32 (fin false m e)) → T (eqb (m * up e % down e) 0) → 1 ≤ m * up e / down e → m * up e / down e ≤ 384000
+whole : (m : ℕ) (e : ℤ) → T (fits binary32 (fin false m e)) → T (eqb (m * up e % down e) 0) → 1 ≤ m * up e / down e → m * up e / down e ≤ highestRate
     → IsRate (fin false m e) (m * up e / down e)
 unfolding ofInt
 whole m e f r l h =
     let n = m * up e / down e in
     let v : m * up e * 1 ≡ n * down e =
     mul-one (m * up e) ∙ sym (div-add-mod' (m * up e) (down e)) ∙ ap (λ (x : ℕ). n * down e + x) (eqb→eq _ _ r) ∙ add-zero (n * down e) in
-    record { low = l; high = h; same = whole-unique binary32 (fin false m e) (ofInt binary32 (pos n)) false n f (ofInt-fits binary32 (pos n)) (refl, v) (value n h) }
+    record { low = l; high = h; same = whole-unique binary32 (fin false m e) (ofInt binary32 (pos n)) false n f (ofInt-fits binary32 (pos n)) (refl, v) (value n (small n h)) }
 
 -- one or the other: x is refused, or accepted as the n whose f32 it is
 data Decided (x : Float) : Type 0 where
@@ -64,9 +67,9 @@ unfolding rateOf
 decided nan f = no refl
 decided (inf s) f = no refl
 decided (fin true m e) f = no refl
-decided (fin false m e) f = go (eqb (m * up e % down e) 0) refl (leb 1 (m * up e / down e)) refl (leb (m * up e / down e) 384000) refl
+decided (fin false m e) f = go (eqb (m * up e % down e) 0) refl (leb 1 (m * up e / down e)) refl (leb (m * up e / down e) highestRate) refl
   where
-    go : (r : Bool) → eqb (m * up e % down e) 0 ≡ r → (l : Bool) → leb 1 (m * up e / down e) ≡ l → (h : Bool) → leb (m * up e / down e) 384000 ≡ h → Decided (fin false m e)
+    go : (r : Bool) → eqb (m * up e % down e) 0 ≡ r → (l : Bool) → leb 1 (m * up e / down e) ≡ l → (h : Bool) → leb (m * up e / down e) highestRate ≡ h → Decided (fin false m e)
     go false er l el h eh = no (simp er)
     go true er false el h eh = no (simp (er, el))
     go true er true el false eh = no (simp (er, el, eh))
@@ -91,7 +94,7 @@ refuses x f none = go (decided x f)
 
 pub above : (x : Float) (n : ℕ) → IsRate x n → lt (fin true 1 (pos 0)) x ≡ true
 unfolding lt
-above x n s = subst (λ (y : Float). lt (fin true 1 (pos 0)) y ≡ true) (sym (s .same)) (go (ofInt binary32 (pos n)) (value n (s .high)))
+above x n s = subst (λ (y : Float). lt (fin true 1 (pos 0)) y ≡ true) (sym (s .same)) (go (ofInt binary32 (pos n)) (value n (small n (s .high))))
   where
     go : (y : Float) → HasValue y false n 1 → lt (fin true 1 (pos 0)) y ≡ true
     go (fin false m e) v =
@@ -101,7 +104,7 @@ above x n s = subst (λ (y : Float). lt (fin true 1 (pos 0)) y ≡ true) (sym (s
 
 pub under : (x : Float) (n : ℕ) → IsRate x n → lt x (fin false 1 (pos 64)) ≡ true
 unfolding lt
-under x n s = subst (λ (y : Float). lt y (fin false 1 (pos 64)) ≡ true) (sym (s .same)) (go (ofInt binary32 (pos n)) (value n (s .high)))
+under x n s = subst (λ (y : Float). lt y (fin false 1 (pos 64)) ≡ true) (sym (s .same)) (go (ofInt binary32 (pos n)) (value n (small n (s .high))))
   where
     go : (y : Float) → HasValue y false n 1 → lt y (fin false 1 (pos 64)) ≡ true
     go (fin false m e) v =
@@ -114,21 +117,21 @@ pub cut : (x : Float) (n : ℕ) → IsRate x n → toUnsigned 64 x ≡ n
 unfolding inFloat
 cut x n s =
     let h = s .high in
-    let l : n ≤ 2 ^ 24 = omega arith in
+    let l : n ≤ 2 ^ 24 = small n h in
     let b : n < 2 ^ 64 = omega arith in
     ap (toUnsigned 64) (s .same) ∙ unsigned-back binary32 64 n (le→leb n (2 ^ 24) l) b .1
 
--- the f32 of a rate is no NaN, and has no gap
-pub plain : (n : ℕ) → n ≤ 384000 → T (not (isNan (ofInt binary32 (pos n))))
+-- an f32 holds every whole number up to 2 ^ 24, and none of them is a NaN
+pub plain : (n : ℕ) → n ≤ 2 ^ 24 → T (not (isNan (ofInt binary32 (pos n))))
 unfolding isNan
 plain n h = go (ofInt binary32 (pos n)) (value n h)
   where
     go : (y : Float) → HasValue y false n 1 → T (not (isNan y))
     go (fin s m e) v = tt
 
-pub exact : (n : ℕ) → n ≤ 384000 → T (inFloat binary32 (pos n))
+pub exact : (n : ℕ) → n ≤ 2 ^ 24 → T (inFloat binary32 (pos n))
 unfolding inFloat
-exact n h = let l : n ≤ 2 ^ 24 = omega arith in le→leb n (2 ^ 24) l
+exact n h = le→leb n (2 ^ 24) h
 
 -- a value above another is no NaN
 pub ordered : (y x : Float) → lt y x ≡ true → T (not (isNan x))
@@ -151,15 +154,15 @@ pub not-under : (x : Float) → T (fits binary32 x) → lt x (fin false 1 (pos 6
 not-under x f q = refuses x f (λ n s. never (under x n s) q)
 
 -- k is what is left of x without its fraction
-pub out-of-range : (x : Float) (k : ℕ) → T (fits binary32 x) → k ≡ toUnsigned 64 x → (1 ≤ k → k ≤ 384000 → ⊥) → rateOf x ≡ refused 1
+pub out-of-range : (x : Float) (k : ℕ) → T (fits binary32 x) → k ≡ toUnsigned 64 x → (1 ≤ k → k ≤ highestRate → ⊥) → rateOf x ≡ refused 1
 out-of-range x k f e out =
-    refuses x f (λ n s. let q : k ≡ n = e ∙ cut x n s in subst (λ (j : ℕ). 1 ≤ j → j ≤ 384000 → ⊥) q out (s .low) (s .high))
+    refuses x f (λ n s. let q : k ≡ n = e ∙ cut x n s in subst (λ (j : ℕ). 1 ≤ j → j ≤ highestRate → ⊥) q out (s .low) (s .high))
 
 pub not-whole : (x : Float) (k : ℕ) → T (fits binary32 x) → k ≡ toUnsigned 64 x → (toBits binary32 (ofInt binary32 (pos k)) ≡ toBits binary32 x → ⊥) → rateOf x ≡ refused 1
 not-whole x k f e other =
     refuses x f (λ n s. let q : k ≡ n = e ∙ cut x n s in other (ap (λ (j : ℕ). toBits binary32 (ofInt binary32 (pos j))) q ∙ ap (toBits binary32) (sym (s .same))))
 
-pub is-whole : (x : Float) (k : ℕ) → T (fits binary32 x) → 1 ≤ k → k ≤ 384000 → toBits binary32 (ofInt binary32 (pos k)) ≡ toBits binary32 x → rateOf x ≡ gives k
+pub is-whole : (x : Float) (k : ℕ) → T (fits binary32 x) → 1 ≤ k → k ≤ highestRate → toBits binary32 (ofInt binary32 (pos k)) ≡ toBits binary32 x → rateOf x ≡ gives k
 is-whole x k f l h e =
     let q : ofInt binary32 (pos k) ≡ x =
     sym (ofBits-toBits binary32 (ofInt binary32 (pos k)) (ofInt-fits binary32 (pos k))) ∙ ap (ofBits binary32) e ∙ ofBits-toBits binary32 x f in

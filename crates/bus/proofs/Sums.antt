@@ -1,13 +1,13 @@
 -- The sum of a bus, input by input: what each turn of a loop over the channel counts does. Assumes nothing.
 --     Summing     the first k inputs, which end at `at`, are added, and what is left makes the sum whole
-use mathlib.Core.Path.{_≡_, refl, sym, ap, _∙_, subst}
-use mathlib.Core.Bool.{Bool, true, false, _&&_}
+use mathlib.Core.Path.{_≡_, sym, ap, _∙_, subst}
+use mathlib.Core.Bool.{true, _&&_}
 use mathlib.Core.List.{List, [], _∷_}
 use Prim.Native.Nat.{ℕ, zero, suc, _+_, _*_, _%_, _≤_, _<_}
 use native.Mathlib.Nat.{add-assoc, add-mul, mod-lt, suc-mul, mul-le-mul-right}
 use native.Mathlib.Numerals.{add-one}
 use native.Mathlib.Omega.{arith}
-use lib.Dec.{T, leb, leb→le, eqb, eqb→eq}
+use lib.Dec.{T, leb, eqb, eqb→eq}
 use lib.ListN.{length, getD, take, drop, drop-of-length-le}
 use lib.Seq.{drop-cons, drop-drop, getD-drop}
 use lib.Ieee.{Float, nan, binary32, add}
@@ -15,7 +15,7 @@ use lib.Ieee.Fits.{and-l, and-r}
 use borrow.Author.Needs.{zero≤}
 use Rattle.bus.specs.Block.{each, sampleAt, isChannels, holds}
 use Rattle.bus.specs.Fade.{silence}
-use Rattle.bus.specs.Sum.{channels, everyIsChannels, summed, sumFits}
+use Rattle.bus.specs.Sum.{mostInputs, channels, everyIsChannels, summed, sumFits}
 use Rattle.bus.proofs.Blocks.{length-each, each-at, each-is, part-at}
 use Rattle.bus.proofs.Sizes.{channels-are, held}
 
@@ -122,7 +122,7 @@ pub sum-fits-says : (inputs : ℕ) (counts : List ℕ) (size out outs : ℕ) →
 unfolding sumFits
 sum-fits-says inputs counts size out outs e =
     let t : T (sumFits inputs counts size out outs) = subst T (sym e) tt in
-    let u = and-r (leb (length counts) 64) (everyIsChannels counts && (eqb inputs (channels counts * size) && holds out outs size)) t in
+    let u = and-r (leb (length counts) mostInputs) (everyIsChannels counts && (eqb inputs (channels counts * size) && holds out outs size)) t in
     let v = and-r (everyIsChannels counts) (eqb inputs (channels counts * size) && holds out outs size) u in (
       and-l (everyIsChannels counts) (eqb inputs (channels counts * size) && holds out outs size) u,
       eqb→eq inputs (channels counts * size) (and-l (eqb inputs (channels counts * size)) (holds out outs size) v),

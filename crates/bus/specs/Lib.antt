@@ -5,3 +5,4 @@ pub mod Fade
 pub mod Sum
 pub mod Noise
 pub mod Examples
+pub mod Scenes

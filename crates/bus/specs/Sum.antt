@@ -11,6 +11,9 @@ use Rattle.bus.specs.Fade.{silence}
 
 -- The inputs' blocks stand one after the other in one run of samples, with a run of their channel counts.
 
+abbrev pub mostInputs : ℕ
+mostInputs = 64
+
 -- how many channels they have together
 unfoldable pub channels : List ℕ → ℕ
 channels [] = 0
@@ -29,7 +32,7 @@ summed a size c i xs (n ∷ ns) = summed (add binary32 a (sampleAt nan size xs (
 -- many samples there are of each
 unfoldable pub sumFits : ℕ → List ℕ → ℕ → ℕ → ℕ → Bool
 unfolding channels everyIsChannels
-sumFits inputs counts size out outs = leb (length counts) 64 && (everyIsChannels counts && (eqb inputs (channels counts * size) && holds out outs size))
+sumFits inputs counts size out outs = leb (length counts) mostInputs && (everyIsChannels counts && (eqb inputs (channels counts * size) && holds out outs size))
 
 abbrev pub sumAnswer : List Float → List ℕ → ℕ → List Float → ℕ → Answer Unit
 sumAnswer inputs counts size out outs = cond (sumFits (length inputs) counts size (length out) outs) (gives tt) (refused 16)

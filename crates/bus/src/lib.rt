@@ -13,8 +13,8 @@ ghost use Rattle.bus.specs.Sum.{channels, everyIsChannels, summed, sumFi
 ghost use Rattle.bus.specs.Noise.{wrap, seedOf};
 
 // The sample rate in whole hertz.
-pub enum Rate {
-    Whole(u32),
+pub enum SampleRate {
+    Hertz(u32),
     Refused,
 }
 
@@ -24,7 +24,7 @@ pub enum Written {
     Refused,
 }
 
-pub fn sample_rate(x: f32) -> Rate
+pub fn sample_rate(x: f32) -> SampleRate
     ensures { λ r. ⌜ rated r ≡ rateOf x ⌝ }
 {
     // The first two tests are what cutting off the fraction asks. A NaN passes neither.
@@ -35,13 +35,13 @@ pub fn sample_rate(x: f32) -> Rate
                 if n <= 384000 {
                     let rate = n as u32;
                     if f32::to_bits(rate as f32) == f32::to_bits(x) {
-                        return Rate::Whole(rate);
+                        return SampleRate::Hertz(rate);
                     }
                 }
             }
         }
     }
-    Rate::Refused
+    SampleRate::Refused
 }
 
 pub fn fade_length(rate: u32) -> u32

@@ -1,7 +1,6 @@
 -- `bus::add_channel` meets its contract: the samples up to i are added, and the rest is as it was. Assumes nothing.
 use Prim.Native.Nat.{ℕ, _-_}
-use native.Mathlib.Omega.{arith}
-use mathlib.Core.Path.{_≡_, refl, ap}
+use mathlib.Core.Path.{_≡_, ap}
 use mathlib.Core.List.{List}
 use lib.ListN.{length, getD}
 use lib.Ieee.{Float, nan, binary32, add}

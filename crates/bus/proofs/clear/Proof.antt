@@ -1,6 +1,5 @@
 -- `bus::clear` meets its contract. Assumes nothing.
 use Prim.Native.Nat.{_-_}
-use native.Mathlib.Omega.{arith}
 use mathlib.Core.Path.{refl}
 use lib.ListN.{length}
 use lib.Ieee.{ofBits}

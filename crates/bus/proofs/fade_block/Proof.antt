@@ -1,6 +1,6 @@
 -- `bus::fade_block` meets its contract: the channels before c are written, and the rest is as it was. Assumes nothing.
-use Prim.Native.Nat.{_+_, _*_, _-_, _%_, _≤_, _<_}
-use mathlib.Core.Path.{_≡_, refl, sym, ap, _∙_}
+use Prim.Native.Nat.{_+_, _*_, _-_, _%_, _≤_}
+use mathlib.Core.Path.{_≡_}
 use native.Mathlib.Nat.{mod-lt}
 use native.Mathlib.Omega.{arith}
 use lib.ListN.{length}

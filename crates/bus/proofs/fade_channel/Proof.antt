@@ -1,9 +1,8 @@
 -- `bus::fade_channel` meets its contract: the samples up to i are faded, and the rest is as it was. Assumes nothing.
-use Prim.Native.Nat.{ℕ, _+_, _-_, _≤_, _<_}
-use mathlib.Core.Path.{_≡_, refl, sym, ap, _∙_}
+use Prim.Native.Nat.{ℕ, _-_, _≤_}
+use mathlib.Core.Path.{_≡_, ap}
 use mathlib.Core.List.{List}
-use native.Mathlib.Omega.{arith}
-use lib.ListN.{length, getD, length-set}
+use lib.ListN.{length, getD}
 use lib.Ieee.{Float, nan, binary32, mul}
 use borrow.Author.Needs.{needs}
 use Rattle.bus.specs.Fade.{faded}

@@ -1,7 +1,6 @@
 -- `bus::sample_rate` meets its contract: what each test says of the f32 of a rate is in `Rates`. Assumes nothing.
-use Prim.Native.Nat.{_≤_, _<_}
+use Prim.Native.Nat.{_≤_, _^_}
 use mathlib.Core.Path.{sym, subst}
-use native.Mathlib.Nat.{lt-irrefl}
 use native.Mathlib.Omega.{arith}
 use lib.Dec.{T}
 use lib.Ieee.{binary32, fits, ofBits, neg}
@@ -14,6 +13,10 @@ use Rattle.bus.proofs.sample_rate.Tie as tie
 held : (c : tie.Start) → T (fits binary32 (c .args .x))
 held c = subst T (sym (c .good .0 .1)) tt
 
+-- the whole part is a number that an f32 counts
+small : (c : tie.After-row-known) → c .before .before .before .truncating-f32-to-u64 .result ≤ 2 ^ 24
+small c = omega arith
+
 truncating-f32-to-u64-requires : tie.Need-truncating-f32-to-u64-requires
 unfolding ofBits neg
 truncating-f32-to-u64-requires c κs = (subst T (sym (c .before .if1 .taken)) tt, subst T (sym (c .if2 .taken)) tt)
@@ -22,10 +25,10 @@ cast-rate : tie.Need-cast-rate
 cast-rate c = search needs
 
 int-to-float-if5 : tie.Need-int-to-float-if5
-int-to-float-if5 c = exact _ (c .before .if4 .taken)
+int-to-float-if5 c = exact _ (small c)
 
 float-to-bits-if5 : tie.Need-float-to-bits-if5
-float-to-bits-if5 c = plain _ (c .before .if4 .taken)
+float-to-bits-if5 c = plain _ (small c)
 
 float-to-bits-if5-2 : tie.Need-float-to-bits-if5-2
 float-to-bits-if5-2 c = ordered _ _ (c .before .before .before .before .before .if1 .taken)

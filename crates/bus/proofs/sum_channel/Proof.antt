@@ -1,10 +1,9 @@
 -- `bus::sum_channel` meets its contract: the inputs before k are added, and those after it make the sum whole. Assumes nothing.
 use Prim.Native.Nat.{_+_, _*_, _-_, _%_, _≤_, _<_}
-use mathlib.Core.Path.{_≡_, refl, sym, ap, _∙_}
+use mathlib.Core.Path.{_≡_}
 use native.Mathlib.Omega.{arith}
 use lib.ListN.{length, getD}
 use borrow.Author.Needs.{needs}
-use Rattle.bus.proofs.Blocks.{length-part}
 use Rattle.bus.proofs.Sums.{count-is, Summing, sum-none, next-within, source-within, sum-more, sum-all}
 use Rattle.bus.proofs.sum_channel.Statement.{statement}
 use Rattle.bus.proofs.sum_channel.Tie as tie

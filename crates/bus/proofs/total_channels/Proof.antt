@@ -1,8 +1,8 @@
 -- `bus::total_channels` meets its contract: with what is left of the counts, n makes the sum. Assumes nothing.
-use Prim.Native.Nat.{_+_, _*_, _-_, _≤_, _<_}
-use mathlib.Core.Path.{_≡_, refl, sym, ap, _∙_}
+use Prim.Native.Nat.{_+_, _*_, _-_, _≤_}
+use mathlib.Core.Path.{_≡_}
 use native.Mathlib.Omega.{arith}
-use lib.ListN.{length, getD, drop}
+use lib.ListN.{length, drop}
 use borrow.Author.Needs.{needs}
 use Rattle.bus.specs.Sum.{channels}
 use Rattle.bus.proofs.Sums.{channels-next, channels-none, count-is}
