@@ -10,9 +10,9 @@ use native.Mathlib.Nat.{zero-mul, suc-mul, eq-or-lt-of-le, le-of-suc-le-suc, add
 use native.Mathlib.Numerals.{add-one}
 use native.Mathlib.Omega.{arith}
 use lib.ListN.{length, getD, take, drop, set, length-append, length-take, length-drop, length-set, List·getD-append}
-use lib.Seq.{drop-cons, drop-length, set-at, getD-at, take-at, drop-at, drop-drop, getD-take, getD-drop, ext-getD}
+use lib.Seq.{drop-cons, drop-length, getD-append-add, set-at, getD-at, take-at, drop-at, drop-drop, getD-take, getD-drop, ext-getD}
 use borrow.Author.Needs.{zero≤}
-use Rattle.bus.specs.Block.{each, blockOf}
+use Rattle.bus.specs.Block.{each, blockOf, sampleAt}
 
 -- channel k of n lies within their samples
 pub room : (n size k len : ℕ) → len ≡ n * size → k < n → k * size + size ≤ len
@@ -95,6 +95,22 @@ module _ {A : Type 0} where
   length-block (suc c) size f =
       length-append (blockOf c size f) (each size (f c)) ∙ ap (λ (k : ℕ). k + length (each size (f c))) (length-block c size f)
       ∙ ap (λ (k : ℕ). c * size + k) (length-each size (f c)) ∙ sym (suc-mul c size)
+
+  -- what `blockOf` says: sample i of its channel c is f c i
+  pub block-at : (n size : ℕ) (f : ℕ → ℕ → A) (c i : ℕ) (d : A) → c < n → i < size → sampleAt d size (blockOf n size f) c i ≡ f c i
+  unfolding blockOf
+  block-at zero size f c i d h l = absurd (omega arith)
+  block-at (suc n) size f c i d h l =
+      ⊎-elim
+      (λ e.
+      ap (λ (k : ℕ). getD (blockOf n size f ++ each size (f n)) (k + i) d) (ap (λ (k : ℕ). k * size) e ∙ sym (length-block n size f))
+      ∙ getD-append-add (blockOf n size f) (each size (f n)) i d
+      ∙ each-at size i (f n) d l
+      ∙ ap (λ (k : ℕ). f k i) (sym e))
+      (λ p.
+      let q : c * size + i < length (blockOf n size f) = omega (arith, room n size c (length (blockOf n size f)) (length-block n size f) p) in
+      List·getD-append (blockOf n size f) (each size (f n)) d (c * size + i) q ∙ block-at n size f c i d p l)
+      (eq-or-lt-of-le (le-of-suc-le-suc h))
 
   pub record Laying (size : ℕ) (f : ℕ → ℕ → A) (before now : List A) (c : ℕ) : Type 0 where
     pub long : length now ≡ length before

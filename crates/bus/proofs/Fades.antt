@@ -11,9 +11,13 @@ use lib.Dec.{T, leb, leb→le}
 use lib.Ieee.Fits.{and-l, and-r}
 use borrow.Author.Tests.{lt-ltb, le-ltb}
 use Rattle.bus.specs.Block.{each, holds}
-use Rattle.bus.specs.Fade.{gainAt, faded, fadedOf, fadeFits}
+use Rattle.bus.specs.Fade.{fadeLength, gainAt, faded, fadedOf, fadeFits}
 use Rattle.bus.proofs.Sizes.{held}
 use Rattle.bus.proofs.Blocks.{each-same, length-part, part-at}
+
+-- from half a unit on, the length is the whole number nearest to rate / 200, halves up: it lies less than half a unit below, or at most half above
+pub length-nearest : (rate : ℕ) → 100 ≤ rate → (200 * fadeLength rate ≤ rate + 100) × (rate < 200 * fadeLength rate + 100)
+length-nearest rate h = omega arith
 
 module _ {A : Type 0} where
   -- within a list it does not matter what stands past its end
