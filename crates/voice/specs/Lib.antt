@@ -1,0 +1,3 @@
+pub mod Policy
+pub mod Steals
+pub mod Examples
