@@ -1,12 +1,12 @@
 -- The queue of pending events: "Events are ordered by time, equal times by insertion. `drain_before` takes times strictly
 -- below the deadline."
 -- Assumes nothing.
-use Prim.Native.Nat.{ℕ, _<_}
+use Prim.Native.Nat.{ℕ, _≤_}
 use mathlib.Core.Path.{_≡_}
-use mathlib.Core.List.{List, [], _∷_}
+use mathlib.Core.List.{List, [], _∷_, _++_}
 use mathlib.Core.Option.{Option, none, some}
 use mathlib.Core.Bool.{Bool, true, false, not, cond}
-use lib.ListN.{length}
+use lib.ListN.{length, take, drop}
 use lib.Dec.{leb, ltb}
 use Rattle.lists.specs.Table.{rowsOf}
 use Rattle.lists.specs.Keep.{keep}
@@ -39,6 +39,11 @@ before? false e f l rest = f ∷ rest
 abbrev pub inserted : Event → List Event → List Event
 inserted e [] = e ∷ []
 inserted e (f ∷ l) = before? (later e f) e f l (inserted e l)
+
+-- the place p of an event: what stands before it and what stands after it
+pub record Place (l : List Event) (e : Event) (p : ℕ) : Type 0 where
+  pub within : p ≤ length l
+  pub splits : inserted e l ≡ take p l ++ (e ∷ drop p l)
 
 abbrev pub full : List Event → Bool
 full l = leb 256 (length l)
