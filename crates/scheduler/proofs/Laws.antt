@@ -3,13 +3,13 @@ use Prim.Native.Nat.{ℕ, _+_, _≤_, _<_}
 use native.Mathlib.Omega.{arith}
 use mathlib.Core.Path.{_≡_, refl, sym, ap, _∙_}
 use mathlib.Core.List.{List, [], _∷_, _++_}
-use mathlib.Core.Bool.{Bool, true, false}
+use mathlib.Core.Bool.{Bool, true, false, not}
 use borrow.Author.Tests.{lt-ltb, le-ltb}
-use lib.ListN.{length, take, drop, getD, set, length-take, drop-of-length-le}
+use lib.ListN.{length, take, drop, getD, set, length-take, length-set, drop-of-length-le}
 use lib.Seq.{append-snoc, getD-take, length-take-le, take-set-lt, drop-set-lt}
-use Rattle.lists.specs.Table.{left-row, passed-row, append-row}
+use Rattle.lists.specs.Table.{left-row, passed-row, append-row, keep-row, drop-row}
 use Rattle.scheduler.specs.declared.event.Event.{Event}
-use Rattle.scheduler.specs.Queue.{later, before?, inserted}
+use Rattle.scheduler.specs.Queue.{later, before?, inserted, due, takenBefore, leftAfter}
 
 module _ {A : Type 0} (d : A) (rows : List A) (k i : ℕ) (h : i < k) (t : k ≤ length rows) where
   -- row i goes from what is left to what was passed
@@ -58,3 +58,36 @@ module _ (d : Event) (rows : List Event) (k i : ℕ) (h : i < k) (t : k ≤ leng
       ∙ ap (λ z. take i (take k rows) ++ inserted e z) (left-row d rows k i h t)
       ∙ ap (λ b. take i (take k rows) ++ before? b e (getD rows i d) (drop (i + 1) (take k rows)) (inserted e (drop (i + 1) (take k rows)))) p
       ∙ ap (λ z. take i (take k rows) ++ (e ∷ z)) (sym (left-row d rows k i h t))
+
+-- ---- the walk that takes what is due
+
+-- after i rows the first t of one table are those that are due, and the first k of the other one those that are not
+abbrev pub Parted : ℕ → List Event → ℕ → List Event → ℕ → List Event → ℕ → Type 0
+Parted deadline rows i taken t rest k =
+    (t ≤ i) × (k ≤ i) × (length taken ≡ length rows) × (length rest ≡ length rows)
+    × (take t taken ≡ takenBefore deadline (take i rows)) × (take k rest ≡ leftAfter deadline (take i rows))
+
+module _ (d : Event) (deadline : ℕ) (rows taken rest : List Event) (i t k : ℕ) (below : i < length rows) (inv : Parted deadline rows i taken t rest k) where
+  pub part-due : getD rows i d .time < deadline → Parted deadline rows (i + 1) (set taken t (getD rows i d)) (t + 1) rest k
+  part-due h =
+      let is : due deadline (getD rows i d) ≡ true = lt-ltb _ _ h in
+      let room : t < length taken = omega arith in (
+        omega arith,
+        omega arith,
+        simp length-set (inv .2),
+        inv .3,
+        keep-row d (due deadline) rows taken i t below room (inv .4) is,
+        drop-row d (λ e. not (due deadline e)) rows rest i k below (inv .5) (ap not is),
+      )
+
+  pub part-left : deadline ≤ getD rows i d .time → Parted deadline rows (i + 1) taken t (set rest k (getD rows i d)) (k + 1)
+  part-left h =
+      let is : due deadline (getD rows i d) ≡ false = le-ltb _ _ h in
+      let room : k < length rest = omega arith in (
+        omega arith,
+        omega arith,
+        inv .2,
+        simp length-set (inv .3),
+        drop-row d (due deadline) rows taken i t below (inv .4) is,
+        keep-row d (λ e. not (due deadline e)) rows rest i k below room (inv .5) (ap not is),
+      )

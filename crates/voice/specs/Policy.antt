@@ -5,9 +5,10 @@
 use Prim.Native.Nat.{ℕ, zero, suc}
 use mathlib.Core.List.{List, [], _∷_}
 use mathlib.Core.Option.{Option, none, some}
-use mathlib.Core.Bool.{Bool, true, false}
+use mathlib.Core.Path.{_≡_, refl, ap, _∙_}
+use mathlib.Core.Bool.{Bool, true, false, _&&_, cond}
 use lib.ListN.{length}
-use lib.Dec.{ltb, eqb}
+use lib.Dec.{leb, eqb}
 use lib.Ieee.{Float, lt}
 use Rattle.lists.specs.Table.{rowsOf}
 use Rattle.node.specs.Refusal.{numberOf}
@@ -91,19 +92,42 @@ abbrev pub counts : BudgetScope → NodeId → NodeId → Bool
 counts Global theirs bus = true
 counts PerGroup theirs bus = eqb (theirs .0) (bus .0)
 
-abbrev pub admitOr : Bool → Victim → Admission
-admitOr true v = admission.Admit
-admitOr false Nobody = admission.Reject
-admitOr false (Goes place voice) = admission.Steal place voice
+-- "At budget": there are as many as the budget allows, or more. Without a budget never; with a budget of 0 always.
+abbrev pub atBudget : Budget → ℕ → Bool
+atBudget Unlimited n = false
+atBudget (AtMost most) n = leb most n
 
--- What a newcomer meets; the candidates are the tracked voices that count for it. Without a budget it is admitted, and
--- since "without a budget nobody is tracked", the list is empty there. A budget of 0 admits nobody.
+-- "At budget `pick_victim` decides"
+abbrev pub decides : Bool → Victim → Admission
+decides false v = admission.Admit
+decides true Nobody = admission.Reject
+decides true (Goes place voice) = admission.Steal place voice
+
+-- What a newcomer meets; the candidates are the tracked voices that count for it. "Without a budget nobody is tracked": it
+-- is admitted, and the caller does not track it.
 abbrev pub admits : Budget → StealPolicy → List Candidate → Admission
-admits Unlimited p l = admission.Admit
-admits (AtMost n) p l = admitOr (ltb (length l) n) (victim p l)
+admits b p l = decides (atBudget b (length l)) (victim p l)
 
 -- the number that an admission stands for, or none: 11 "admission rejects"
 abbrev pub admissionNumber : Admission → Option ℕ
 admissionNumber admission.Admit = none
 admissionNumber admission.Reject = some (numberOf Rejected)
 admissionNumber (admission.Steal place voice) = none
+
+abbrev pub nobody : Victim → Bool
+nobody Nobody = true
+nobody (Goes place voice) = false
+
+-- what `request_in` answers: its case, with the values, and the number of it
+pub record Admitted (b : Budget) (p : StealPolicy) (l : List Candidate) (r : Admission) : Type 0 where
+  pub answer : r ≡ admits b p l
+  pub number : admissionNumber r ≡ cond (atBudget b (length l) && nobody (victim p l)) (some 11) none
+
+-- the answer has its number
+pub admitted : (b : Budget) (p : StealPolicy) (l : List Candidate) (r : Admission) → r ≡ admits b p l → Admitted b p l r
+admitted b p l r e = record { answer = e; number = ap admissionNumber e ∙ go (atBudget b (length l)) (victim p l) }
+  where
+    go : (at : Bool) (v : Victim) → admissionNumber (decides at v) ≡ cond (at && nobody v) (some 11) none
+    go false v = refl
+    go true Nobody = refl
+    go true (Goes place voice) = refl

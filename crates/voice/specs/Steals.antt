@@ -38,8 +38,11 @@ pub record Book : Type 0 where
   pub count : ℕ
   pub newest : List StealRecord
 
+abbrev pub noBook : Book
+noBook = record { count = 0; newest = [] }
+
 -- the last n of a list
-abbrev pub lastOf : ℕ → List StealRecord → List StealRecord
+abbrev pub lastOf : {A : Type 0} → ℕ → List A → List A
 lastOf n l = drop (length l - n) l
 
 -- One more. The count stays at 2^64 - 1, which no run reaches: each steal has a voice id of its own.
@@ -68,7 +71,7 @@ foundAt (suc i) (r ∷ l) = foundAt i l
 -- ---- the ring
 
 -- the ring from its oldest place on: the next place is the oldest
-abbrev pub turned : ℕ → List StealRecord → List StealRecord
+abbrev pub turned : {A : Type 0} → ℕ → List A → List A
 turned p rows = drop p rows ++ take p rows
 
 -- What a ring stands for: of its records, oldest first, the last `total`, of which at most 64. Every value of the struct

@@ -1,59 +1,39 @@
-use Prim.Native.Nat.{ℕ, zero, suc, _+_, _*_, _≤_, _<_, _-_, min}
-use mathlib.Core.Path.{_≡_, refl, sym, ap, _∙_}
-use mathlib.Core.List.{List, [], _∷_, _++_}
-use mathlib.Core.Bool.{Bool, true, false}
-use mathlib.Core.Logic.{⊎-elim}
-use native.Mathlib.Omega.{arith}
-use native.Mathlib.Numerals.{add-one}
-use lib.ListN.{length, take, drop, getD, set}
+use mathlib.Core.Path.{_≡_, sym, ap}
 use borrow.Author.Needs.{needs}
 use Rattle.scheduler.proofs.event.param_order.Statement.{statement}
 use Rattle.scheduler.proofs.event.param_order.Tie as tie
-use Rattle.scheduler.proofs.event.param_order.Reads as reads
-use Rattle.scheduler.proofs.event.param_order.Lts as lts
-use Rattle.scheduler.proofs.event.gate_name.Reads as gate-name-reads
 use Rattle.node.specs.declared.order.Action.{Action}
 use Rattle.scheduler.specs.declared.event.Event.{Event}
-use Rattle.scheduler.specs.declared.event.ParamOrder.{ParamOrder}
-use Rattle.scheduler.specs.Event.{gateName, paramOf, orderOf, paramOrder}
+use Rattle.scheduler.specs.Event.{paramOf, orderOf, paramOrder}
 
 -- what an event stands for, once its action is known
 stands : (e : Event) {a : Action} → e .action ≡ a → paramOrder e ≡ record { name = paramOf a (e .name); order = orderOf a }
 stands e p = ap (λ a. record { name = paramOf a (e .name); order = orderOf a }) p
 
--- src/event.rt:40:23
 enum-known-action : tie.Need-enum-known-action
 enum-known-action c = search needs
 
--- src/event.rt:45:13
 enum-known-action-2 : tie.Need-enum-known-action-2
 enum-known-action-2 c = search needs
 
--- src/event.rt:58:22
 enum-known-action-3 : tie.Need-enum-known-action-3
 enum-known-action-3 c = search needs
 
--- src/event.rt:59:19
 gate-name-requires : tie.Need-gate-name-requires
 gate-name-requires c κs = search needs
 
--- src/event.rt:64:20
 enum-told : tie.Need-enum-told
 enum-told c = search needs
 
--- src/event.rt:34:1
 returns : tie.Need-returns
 returns c = sym (stands (c .before .before .before .before .args .e) (c .before .action .given .1))
 
--- src/event.rt:34:1
 returns-2 : tie.Need-returns-2
 returns-2 c = sym (stands (c .before .before .before .before .args .e) (c .before .action2 .given .1))
 
--- src/event.rt:34:1
 returns-3 : tie.Need-returns-3
 returns-3 c = rw (c .gate-name .ensures) (sym (stands (c .before .before .before .before .before .args .e) (c .before .before .action3 .given .1)))
 
--- src/event.rt:34:1
 returns-4 : tie.Need-returns-4
 returns-4 c = sym (stands (c .before .before .before .args .e) (c .enum-told .given .1))
 

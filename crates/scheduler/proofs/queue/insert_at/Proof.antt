@@ -1,18 +1,13 @@
-use Prim.Native.Nat.{ℕ, zero, suc, _+_, _*_, _≤_, _<_, _-_, min}
-use mathlib.Core.Path.{_≡_, refl, sym, ap, _∙_}
-use mathlib.Core.List.{List, [], _∷_, _++_}
-use mathlib.Core.Bool.{Bool, true, false}
-use mathlib.Core.Logic.{⊎-elim}
+use Prim.Native.Nat.{_+_, _≤_, _<_, _-_, min}
+use mathlib.Core.Path.{_≡_, refl, _∙_}
+use mathlib.Core.List.{_∷_, _++_}
 use native.Mathlib.Omega.{arith}
-use native.Mathlib.Numerals.{add-one}
-use lib.ListN.{length, take, drop, getD, set, length-map, length-set}
+use lib.ListN.{length, take, drop, length-map, length-set}
 use lib.Seq.{take-take}
 use Rattle.scheduler.proofs.Laws.{carry-row, carry-end}
 use borrow.Author.Needs.{needs}
 use Rattle.scheduler.proofs.queue.insert_at.Statement.{statement}
 use Rattle.scheduler.proofs.queue.insert_at.Tie as tie
-use Rattle.scheduler.proofs.queue.insert_at.Reads as reads
-use Rattle.scheduler.proofs.queue.insert_at.Lts as lts
 
 abbrev Inv-loop : tie.InvT-loop
 Inv-loop p n rows₀ carried₀ i₀ rows carried i =
@@ -24,35 +19,27 @@ abbrev μ-loop : tie.MeasureT-loop
 rows-long : (c : tie.Start Inv-loop μ-loop) → length (c .args .q .rows) ≡ 256
 rows-long c = simp length-map at (c .good .0 .1 .1 .0 .1 .0 .1)
 
--- src/queue.rt:82:5
 loop-holds : tie.Need-loop-holds Inv-loop μ-loop
 loop-holds c = (c .before .pre .1, rows-long (c .before), refl)
 
--- src/queue.rt:83:20
 mul-next : tie.Need-mul-next Inv-loop μ-loop
 mul-next c = search needs
 
--- src/queue.rt:83:20
 array-copy-out-next : tie.Need-array-copy-out-next Inv-loop μ-loop
 array-copy-out-next c = search needs
 
--- src/queue.rt:84:9
 mul-rows : tie.Need-mul-rows Inv-loop μ-loop
 mul-rows c = search needs
 
--- src/queue.rt:84:9
 array-set-from-rows : tie.Need-array-set-from-rows Inv-loop μ-loop
 array-set-from-rows c = search needs
 
--- src/queue.rt:86:9
 add-i : tie.Need-add-i Inv-loop μ-loop
 add-i c = search needs
 
--- src/queue.rt:82:5
 loop-less : tie.Need-loop-less Inv-loop μ-loop
 loop-less c = search needs
 
--- src/queue.rt:82:5
 loop-again : tie.Need-loop-again Inv-loop μ-loop
 loop-again c =
     let s = c .before .before .before .before in
@@ -60,21 +47,17 @@ loop-again c =
     let n = s .args .q .count in
     let below : l .i < n = omega arith in
     let fit : n ≤ length (l .rows) = omega (arith, s .pre .0) in
-    (omega arith, length-set (l .rows) (l .i) (l .carried) ∙ l .inv .1, carry-row _ (l .rows) n (l .i) below fit (l .carried) ∙ l .inv .2)
+    (omega arith, simp length-set (l .inv .1), carry-row _ (l .rows) n (l .i) below fit (l .carried) ∙ l .inv .2)
 
--- src/queue.rt:88:5
 mul-rows-2 : tie.Need-mul-rows-2 Inv-loop μ-loop
 mul-rows-2 c = search needs
 
--- src/queue.rt:88:5
 array-set-from-rows-2 : tie.Need-array-set-from-rows-2 Inv-loop μ-loop
 array-set-from-rows-2 c = search needs
 
--- src/queue.rt:91:16
 add-t16 : tie.Need-add-t16 Inv-loop μ-loop
 add-t16 c = search needs
 
--- src/queue.rt:74:1
 returns : tie.Need-returns Inv-loop μ-loop
 returns c =
     let s = c .before .before .before in

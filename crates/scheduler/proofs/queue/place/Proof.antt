@@ -1,17 +1,12 @@
-use Prim.Native.Nat.{ℕ, zero, suc, _+_, _*_, _≤_, _<_, _-_, min}
-use mathlib.Core.Path.{_≡_, refl, sym, ap, _∙_}
-use mathlib.Core.List.{List, [], _∷_, _++_}
-use mathlib.Core.Bool.{Bool, true, false}
-use mathlib.Core.Logic.{⊎-elim}
+use Prim.Native.Nat.{_≤_, _<_, _-_, min}
+use mathlib.Core.Path.{_≡_, refl}
+use mathlib.Core.List.{[], _++_}
 use native.Mathlib.Omega.{arith}
-use native.Mathlib.Numerals.{add-one}
-use lib.ListN.{length, take, drop, getD, set, length-map, length-take, drop-of-length-le}
+use lib.ListN.{length, take, drop, length-map, drop-of-length-le}
 use lib.Seq.{length-take-le}
 use borrow.Author.Needs.{needs}
 use Rattle.scheduler.proofs.queue.place.Statement.{statement}
 use Rattle.scheduler.proofs.queue.place.Tie as tie
-use Rattle.scheduler.proofs.queue.place.Reads as reads
-use Rattle.scheduler.proofs.queue.place.Lts as lts
 use Rattle.scheduler.specs.declared.event.Event.{Event}
 use Rattle.scheduler.specs.Queue.{inserted}
 use Rattle.scheduler.proofs.Laws.{place-pass, place-found}
@@ -26,19 +21,15 @@ abbrev μ-loop : tie.MeasureT-loop
 rows-long : (c : tie.Start Inv-loop μ-loop) → length (c .args .t1 .rows) ≡ 256
 rows-long c = simp length-map at (c .good .0 .1 .1 .0 .1 .0 .1)
 
--- src/queue.rt:63:5
 loop-holds : tie.Need-loop-holds Inv-loop μ-loop
 loop-holds c = (omega arith, λ e p. refl)
 
--- src/queue.rt:64:17
 mul-f : tie.Need-mul-f Inv-loop μ-loop
 mul-f c = search needs
 
--- src/queue.rt:64:17
 element-copy-out-f : tie.Need-element-copy-out-f Inv-loop μ-loop
 element-copy-out-f c = search needs
 
--- src/queue.rt:66:13
 returns : tie.Need-returns Inv-loop μ-loop
 returns c =
     let s = c .before .before .before .before .before in
@@ -55,15 +46,12 @@ returns c =
       splits = place-found _ rows n (l .i) below fit (s .args .e) (l .inv .1 (s .args .e) refl) (c .if1 .taken);
     })
 
--- src/queue.rt:68:9
 add-i : tie.Need-add-i Inv-loop μ-loop
 add-i c = search needs
 
--- src/queue.rt:63:5
 loop-less : tie.Need-loop-less Inv-loop μ-loop
 loop-less c = search needs
 
--- src/queue.rt:63:5
 loop-again : tie.Need-loop-again Inv-loop μ-loop
 loop-again c =
     let s = c .before .before .before .before .before in
@@ -75,7 +63,6 @@ loop-again c =
     let below : l .i < n = omega arith in
     (omega arith, λ e p. place-pass _ rows n (l .i) below fit e (l .inv .1 e p) _ (c .if1 .left) p)
 
--- src/queue.rt:56:1
 returns-2 : tie.Need-returns-2 Inv-loop μ-loop
 returns-2 c =
     let s = c .before .before in

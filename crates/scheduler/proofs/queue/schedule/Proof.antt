@@ -1,20 +1,13 @@
-use Prim.Native.Nat.{ℕ, zero, suc, _+_, _*_, _≤_, _<_, _-_, min}
-use mathlib.Core.Path.{_≡_, refl, sym, ap, _∙_}
-use mathlib.Core.List.{List, [], _∷_, _++_}
-use mathlib.Core.Bool.{Bool, true, false, false≢true}
-use mathlib.Core.Logic.{⊎-elim}
+use Prim.Native.Nat.{_≤_, _<_, min}
+use mathlib.Core.Path.{_≡_, refl, sym, _∙_}
+use mathlib.Core.Bool.{true, false, false≢true}
 use native.Mathlib.Omega.{arith}
-use native.Mathlib.Numerals.{add-one}
 use lib.ListN.{length, length-map, length-take}
 use borrow.Author.Tests.{le-leb, lt-leb}
 use Rattle.scheduler.specs.Queue.{eventsOf, full}
 use borrow.Author.Needs.{needs}
 use Rattle.scheduler.proofs.queue.schedule.Statement.{statement}
 use Rattle.scheduler.proofs.queue.schedule.Tie as tie
-use Rattle.scheduler.proofs.queue.schedule.Reads as reads
-use Rattle.scheduler.proofs.queue.schedule.Lts as lts
-use Rattle.scheduler.proofs.queue.insert_at.Reads as insert-at-reads
-use Rattle.scheduler.proofs.queue.place.Reads as place-reads
 
 -- how many events there are
 held : (c : tie.Start) → length (eventsOf (c .args .q)) ≡ min (c .args .q .count) 256
@@ -22,7 +15,6 @@ held c =
     let long : length (c .args .q .rows) ≡ 256 = simp length-map at (c .good .0 .1 .1 .0 .1 .0 .1) in
     simp length-take (omega arith)
 
--- src/queue.rt:100:9
 returns : tie.Need-returns
 returns c =
     let s = c .before .before in
@@ -31,18 +23,15 @@ returns c =
     let is : full (eventsOf (s .args .q)) ≡ true = le-leb _ _ most in
     record { answer = rw is; number = rw is; events = rw is; same = λ t. refl }
 
--- src/queue.rt:105:9
 place-requires : tie.Need-place-requires
 place-requires c κs = search needs
 
--- src/queue.rt:107:16
 insert-at-requires : tie.Need-insert-at-requires
 insert-at-requires c κs =
     let h = held (c .before .before .before) in
     let w = c .place .ensures .within in
     (search needs, omega arith)
 
--- src/queue.rt:96:1
 returns-2 : tie.Need-returns-2
 returns-2 c =
     let s = c .before .before .before .before in
