@@ -1,9 +1,9 @@
 -- The laws by which the loops over the queue go: one for each way through a body. Assumes nothing.
 use Prim.Native.Nat.{ℕ, _+_, _≤_, _<_}
 use native.Mathlib.Omega.{arith}
-use mathlib.Core.Path.{_≡_, refl, sym, ap, _∙_}
-use mathlib.Core.List.{List, [], _∷_, _++_}
-use mathlib.Core.Bool.{Bool, true, false, not}
+use mathlib.Core.Path.{_≡_, sym, ap, _∙_}
+use mathlib.Core.List.{List, _∷_, _++_}
+use mathlib.Core.Bool.{true, false, not}
 use borrow.Author.Tests.{lt-ltb, le-ltb}
 use lib.ListN.{length, take, drop, getD, set, length-take, length-set, drop-of-length-le}
 use lib.Seq.{append-snoc, getD-take, length-take-le, take-set-lt, drop-set-lt}

@@ -1,8 +1,7 @@
 -- What an event stands for: "An action is a value, a glide (target, seconds, shape, space), a gate or a free, carrying its
 -- floats with it. A gate is a value for the parameter `gate`."
 -- Assumes nothing.
-use Prim.Native.Nat.{ℕ}
-use mathlib.Core.List.{List, [], _∷_}
+use mathlib.Core.List.{[], _∷_}
 use Rattle.node.specs.Name.{nameOf}
 use Rattle.node.specs.declared.name.Name.{Name}
 use Rattle.node.specs.declared.order.Action.{Action}

@@ -60,12 +60,8 @@ abbrev pub answerNumber : ScheduleAnswer → Option ℕ
 answerNumber Taken = none
 answerNumber (Refused r) = some (numberOf r)
 
--- what scheduling the event e in the queue q gives
-pub record Schedules (q : Events) (e : Event) (r : Scheduled) : Type 0 where
-  pub answer : r .answer ≡ answerTo (eventsOf q)
-  pub number : answerNumber (r .answer) ≡ cond (full (eventsOf q)) (some 7) none
-  pub events : eventsOf (r .queue) ≡ queueAfter e (eventsOf q)
-  pub same : full (eventsOf q) ≡ true → r .queue ≡ q
+abbrev pub scheduleNumber : List Event → Option ℕ
+scheduleNumber l = cond (full l) (some 7) none
 
 -- ---- taking what is due
 
@@ -80,8 +76,3 @@ takenBefore deadline l = keep (due deadline) l
 
 abbrev pub leftAfter : ℕ → List Event → List Event
 leftAfter deadline l = keep (λ e. not (due deadline e)) l
-
--- what the deadline takes out of the queue q
-pub record Drains (q : Events) (deadline : ℕ) (r : Drained) : Type 0 where
-  pub taken : eventsOf (r .taken) ≡ takenBefore deadline (eventsOf q)
-  pub rest : eventsOf (r .rest) ≡ leftAfter deadline (eventsOf q)

@@ -4,10 +4,11 @@ use node::order::Action;
 use node::record::VoiceId;
 use node::refusal::Refusal;
 ghost use mathlib.Core.Path.{_≡_};
+ghost use mathlib.Core.Bool.{true};
 ghost use mathlib.Core.List.{[], _∷_, _++_};
 ghost use Prim.Native.Nat.{_≤_, _<_, min};
-ghost use lib.ListN.{take, drop, length};
-ghost use Rattle.scheduler.specs.Queue.{eventsOf, Schedules, Drains, Place};
+ghost use lib.ListN.{take, drop};
+ghost use Rattle.scheduler.specs.Queue.{eventsOf, full, queueAfter, answerTo, answerNumber, scheduleNumber, takenBefore, leftAfter, Place};
 
 // The pending events: the first `count` rows; a count above the capacity is the capacity. Kept by time, equal times in the
 // order in which they came.
@@ -92,9 +93,14 @@ fn insert_at(q: Events, p: usize, e: Event) -> Events
     }
 }
 
-// Schedules an event: it is taken, or refused where the queue is full.
+// Schedules an event: it is taken, or refused where the queue is full, and then the queue is the very one.
 pub fn schedule(q: Events, e: Event) -> Scheduled
-    ensures { λ r. ⌜ Schedules q e r ⌝ }
+    ensures { λ r. ⌜
+        (r .answer ≡ answerTo (eventsOf q))
+        × (answerNumber (r .answer) ≡ scheduleNumber (eventsOf q))
+        × (eventsOf (r .queue) ≡ queueAfter e (eventsOf q))
+        × (full (eventsOf q) ≡ true → r .queue ≡ q)
+        ⌝ }
 {
     if 256 <= q.count {
         return Scheduled {
@@ -117,7 +123,10 @@ fn at_most_256(count: usize) -> usize
 
 // Takes the events with a time strictly below the deadline out of a queue.
 pub fn drain_before(q: Events, deadline: u64) -> Drained
-    ensures { λ r. ⌜ Drains q deadline r ⌝ }
+    ensures { λ r. ⌜
+        (eventsOf (r .taken) ≡ takenBefore deadline (eventsOf q))
+        × (eventsOf (r .rest) ≡ leftAfter deadline (eventsOf q))
+        ⌝ }
 {
     let n = at_most_256(q.count);
     let mut taken = q.rows;

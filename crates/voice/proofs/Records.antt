@@ -3,16 +3,13 @@ use Prim.Native.Nat.{ℕ, zero, suc, _+_, _-_, _%_, _≤_, _<_, min}
 use native.Mathlib.Omega.{arith}
 use mathlib.Core.Path.{_≡_, refl, sym, ap, _∙_}
 use mathlib.Core.List.{List, [], _∷_, _++_}
-use mathlib.Core.Bool.{Bool, true, false, cond}
+use mathlib.Core.Bool.{cond}
 use borrow.Author.Tests.{le-leb, lt-leb}
-use lib.Dec.{leb}
-use lib.ListN.{length, take, drop, getD, set}
-use lib.Seq.{set-out}
+use lib.ListN.{length, drop, getD, set}
 use Rattle.voice.specs.declared.steals.StealRecord.{StealRecord}
 use Rattle.voice.specs.declared.steals.Steals.{Steals}
-use Rattle.voice.specs.declared.steals.StealFound.{StealFound}
 use Rattle.voice.specs.declared.steals.StealFound.the-variants as found
-use Rattle.voice.specs.Steals.{Book, lastOf, turned, bookOf, pushed, marked, cutOf, cutAt, foundAt}
+use Rattle.voice.specs.Steals.{lastOf, turned, bookOf, pushed, marked, cutOf, cutAt, foundAt}
 use Rattle.voice.proofs.Ring.{turned-long, turned-push, turned-set, turned-get, last-long, last-push, last-set, last-get}
 
 -- ---- a list of records

@@ -1,10 +1,10 @@
 -- A ring of n places, read from its oldest place on: what a store at the next place and one at any place make of it, and
 -- what stands at a place. The laws hold for any n and any sort of row. Assumes nothing.
-use Prim.Native.Nat.{ℕ, zero, suc, _+_, _-_, _≤_, _<_, min}
+use Prim.Native.Nat.{ℕ, _+_, _-_, _≤_, _<_, min}
 use native.Mathlib.Omega.{arith}
 use native.Mathlib.Nat.{suc-add, zero-add}
 use native.Mathlib.Decide.{decLt}
-use mathlib.Core.Path.{_≡_, refl, sym, ap, _∙_}
+use mathlib.Core.Path.{_≡_, sym, ap, _∙_}
 use mathlib.Core.List.{List, [], _∷_, _++_, append-nil, append-assoc}
 use lib.ListN.{length, take, drop, getD, set, length-append, length-take, length-drop, length-set, drop-of-length-le, List·getD-append}
 use lib.Seq.{take-all, set-append-left, drop-set-lt, drop-set-add, take-set-le, take-set-lt, drop-append-le, drop-drop, getD-append-add, getD-drop, getD-take}

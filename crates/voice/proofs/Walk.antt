@@ -1,8 +1,8 @@
 -- The laws by which the walk over the candidates goes, and the last of a list by its place. Assumes nothing.
-use Prim.Native.Nat.{ℕ, zero, suc, _+_, _-_, _≤_, _<_}
+use Prim.Native.Nat.{ℕ, suc, _+_, _-_, _≤_, _<_}
 use native.Mathlib.Omega.{arith}
 use native.Mathlib.Numerals.{add-one}
-use mathlib.Core.Path.{_≡_, refl, sym, ap, _∙_}
+use mathlib.Core.Path.{_≡_, sym, ap, _∙_}
 use mathlib.Core.List.{List, [], _∷_}
 use mathlib.Core.Bool.{Bool}
 use lib.ListN.{length, take, drop, getD}
@@ -14,8 +14,7 @@ use Rattle.voice.specs.declared.policy.Held.{Held}
 use Rattle.voice.specs.declared.policy.Held.the-variants as held
 use Rattle.voice.specs.declared.policy.Level.{Level}
 use Rattle.voice.specs.declared.policy.Level.the-variants.{Known}
-use Rattle.voice.specs.declared.policy.Victim.{Victim}
-use Rattle.voice.specs.declared.policy.Victim.the-variants.{Nobody, Goes}
+use Rattle.voice.specs.declared.policy.Victim.the-variants.{Goes}
 use Rattle.voice.specs.Policy.{takes, take?, passed, walk, lastFrom, newest, oldest}
 
 -- a candidate whose level is known

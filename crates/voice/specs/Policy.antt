@@ -2,10 +2,9 @@
 -- `pick_victim` decides: `Reject` none; `Oldest` first; `Newest` last; `Quietest` walks in order, takes the first known
 -- level, then each strictly lower one. No level known: the oldest. A NaN met first is never displaced."
 -- Assumes nothing.
-use Prim.Native.Nat.{ℕ, zero, suc}
+use Prim.Native.Nat.{ℕ, suc}
 use mathlib.Core.List.{List, [], _∷_}
 use mathlib.Core.Option.{Option, none, some}
-use mathlib.Core.Path.{_≡_, refl, ap, _∙_}
 use mathlib.Core.Bool.{Bool, true, false, _&&_, cond}
 use lib.ListN.{length}
 use lib.Dec.{leb, eqb}
@@ -118,16 +117,6 @@ abbrev pub nobody : Victim → Bool
 nobody Nobody = true
 nobody (Goes place voice) = false
 
--- what `request_in` answers: its case, with the values, and the number of it
-pub record Admitted (b : Budget) (p : StealPolicy) (l : List Candidate) (r : Admission) : Type 0 where
-  pub answer : r ≡ admits b p l
-  pub number : admissionNumber r ≡ cond (atBudget b (length l) && nobody (victim p l)) (some 11) none
-
--- the answer has its number
-pub admitted : (b : Budget) (p : StealPolicy) (l : List Candidate) (r : Admission) → r ≡ admits b p l → Admitted b p l r
-admitted b p l r e = record { answer = e; number = ap admissionNumber e ∙ go (atBudget b (length l)) (victim p l) }
-  where
-    go : (at : Bool) (v : Victim) → admissionNumber (decides at v) ≡ cond (at && nobody v) (some 11) none
-    go false v = refl
-    go true Nobody = refl
-    go true (Goes place voice) = refl
+-- 11 where it is at budget and the policy gives nobody up
+abbrev pub rejectNumber : Budget → StealPolicy → List Candidate → Option ℕ
+rejectNumber b p l = cond (atBudget b (length l) && nobody (victim p l)) (some 11) none

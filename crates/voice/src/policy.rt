@@ -2,7 +2,7 @@ use node::record::NodeId;
 use node::record::VoiceId;
 ghost use mathlib.Core.Path.{_≡_};
 ghost use Prim.Native.Nat.{min};
-ghost use Rattle.voice.specs.Policy.{candidatesOf, oldest, newest, takes, passed, walk, quietest, victim, counts, Admitted};
+ghost use Rattle.voice.specs.Policy.{candidatesOf, oldest, newest, takes, passed, walk, quietest, victim, counts, admits, admissionNumber, rejectNumber};
 
 // What to do at budget.
 pub enum StealPolicy {
@@ -193,7 +193,10 @@ pub fn counts_for(scope: BudgetScope, theirs: NodeId, bus: NodeId) -> bool
 
 // What a newcomer meets. The candidates are the tracked voices that count for it.
 pub fn request_in(budget: Budget, policy: StealPolicy, t: Candidates) -> Admission
-    ensures { λ r. ⌜ Admitted budget policy (candidatesOf t) r ⌝ }
+    ensures { λ r. ⌜
+        (r ≡ admits budget policy (candidatesOf t))
+        × (admissionNumber r ≡ rejectNumber budget policy (candidatesOf t))
+        ⌝ }
 {
     let Budget::AtMost(most) = budget else {
         return Admission::Admit;

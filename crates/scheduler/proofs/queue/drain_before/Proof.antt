@@ -80,11 +80,10 @@ returns c =
     let end : l .i ≡ n = omega arith in
     let all = end ∙ c .before .before .before .before .at-most-256 .ensures in
     let few : min (l .t) 256 ≡ l .t = omega arith in
-    let fit : min (l .k) 256 ≡ l .k = omega arith in
-    record {
-      taken = rw few (l .inv .1 .4 ∙ ap (λ m. takenBefore (s .args .deadline) (take m (s .args .t1 .rows))) all);
-      rest = rw fit (l .inv .1 .5 ∙ ap (λ m. leftAfter (s .args .deadline) (take m (s .args .t1 .rows))) all);
-    }
+    let fit : min (l .k) 256 ≡ l .k = omega arith in (
+      rw few (l .inv .1 .4 ∙ ap (λ m. takenBefore (s .args .deadline) (take m (s .args .t1 .rows))) all),
+      rw fit (l .inv .1 .5 ∙ ap (λ m. leftAfter (s .args .deadline) (take m (s .args .t1 .rows))) all),
+    )
 
 pub drain-before-spec : {M : Type 1} → statement M
 drain-before-spec =

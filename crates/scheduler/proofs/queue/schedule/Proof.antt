@@ -21,7 +21,7 @@ returns c =
     let h = held s in
     let most : 256 ≤ length (eventsOf (s .args .q)) = omega arith in
     let is : full (eventsOf (s .args .q)) ≡ true = le-leb _ _ most in
-    record { answer = rw is; number = rw is; events = rw is; same = λ t. refl }
+    (rw is, rw is, rw is, λ t. refl)
 
 place-requires : tie.Need-place-requires
 place-requires c κs = search needs
@@ -38,12 +38,7 @@ returns-2 c =
     let h = held s in
     let less : length (eventsOf (s .args .q)) < 256 = omega arith in
     let not : full (eventsOf (s .args .q)) ≡ false = lt-leb _ _ less in
-    record {
-      answer = rw not;
-      number = rw not;
-      events = rw not (c .insert-at .ensures ∙ sym (c .before .place .ensures .splits));
-      same = λ t. absurd (false≢true (sym not ∙ t));
-    }
+    (rw not, rw not, rw not (c .insert-at .ensures ∙ sym (c .before .place .ensures .splits)), λ t. absurd (false≢true (sym not ∙ t)))
 
 pub schedule-spec : {M : Type 1} → statement M
 schedule-spec = tie.close (tie.spec returns place-requires insert-at-requires returns-2)
