@@ -14,8 +14,6 @@ use Rattle.node.specs.Refusal.{numberOf}
 use Rattle.node.specs.declared.refusal.Refusal.the-variants.{TableFull}
 use Rattle.scheduler.specs.declared.event.Event.{Event}
 use Rattle.scheduler.specs.declared.queue.Events.{Events}
-use Rattle.scheduler.specs.declared.queue.Scheduled.{Scheduled}
-use Rattle.scheduler.specs.declared.queue.Drained.{Drained}
 use Rattle.scheduler.specs.declared.queue.ScheduleAnswer.{ScheduleAnswer}
 use Rattle.scheduler.specs.declared.queue.ScheduleAnswer.the-variants.{Taken, Refused}
 

@@ -1,5 +1,5 @@
 -- The laws by which the walk over the candidates goes, and the last of a list by its place. Assumes nothing.
-use Prim.Native.Nat.{ℕ, suc, _+_, _-_, _≤_, _<_}
+use Prim.Native.Nat.{ℕ, _+_, _-_, _≤_, _<_}
 use native.Mathlib.Omega.{arith}
 use native.Mathlib.Numerals.{add-one}
 use mathlib.Core.Path.{_≡_, sym, ap, _∙_}
@@ -15,7 +15,8 @@ use Rattle.voice.specs.declared.policy.Held.the-variants as held
 use Rattle.voice.specs.declared.policy.Level.{Level}
 use Rattle.voice.specs.declared.policy.Level.the-variants.{Known}
 use Rattle.voice.specs.declared.policy.Victim.the-variants.{Goes}
-use Rattle.voice.specs.Policy.{takes, take?, passed, walk, lastFrom, newest, oldest}
+use Rattle.voice.specs.Victims.{last-from}
+use Rattle.voice.specs.Policy.{takes, take?, passed, walk, newest, oldest}
 
 -- a candidate whose level is known
 pub pass-known : (g : Held) (p : ℕ) (c : Candidate) (l : Level) (x : Float) (b : Bool) → l ≡ Known x → takes g x ≡ b → passed g p c l ≡ take? b (held.Taken p (c .voice) x) g
@@ -33,12 +34,6 @@ pub oldest-row : (d : Candidate) (rows : List Candidate) (k : ℕ) → 0 < k →
 oldest-row d rows k h t = ap oldest (left-row d rows k 0 h t)
 
 -- the last of a list that has one
-last-from : (d : Candidate) (p : ℕ) (c : Candidate) (l : List Candidate) → lastFrom p (c ∷ l) ≡ Goes (p + length l) (getD (c ∷ l) (length l) d .voice)
-last-from d p c [] = let z : p ≡ p + 0 = omega arith in ap (λ n. Goes n (c .voice)) z
-last-from d p c (x ∷ l) =
-    let z : suc p + length l ≡ p + suc (length l) = omega arith in
-    last-from d (suc p) x l ∙ ap (λ n. Goes n (getD (x ∷ l) (length l) d .voice)) z
-
 newest-at : (d : Candidate) (l : List Candidate) (n : ℕ) → length l ≡ n → 0 < n → newest l ≡ Goes (n - 1) (getD l (n - 1) d .voice)
 newest-at d [] n e h = absurd (omega arith)
 newest-at d (c ∷ l) n e h =

@@ -1,6 +1,7 @@
 use node::record::NodeId;
 use node::record::VoiceId;
 ghost use mathlib.Core.Path.{_≡_};
+ghost use mathlib.Core.List.{[]};
 ghost use Prim.Native.Nat.{min};
 ghost use Rattle.voice.specs.Policy.{candidatesOf, oldest, newest, takes, passed, walk, quietest, victim, counts, admits, admissionNumber, rejectNumber};
 
@@ -63,6 +64,20 @@ pub enum Admission {
     Admit,
     Reject,
     Steal { place: usize, voice: VoiceId },
+}
+
+// No candidates: the table that a caller fills from the front.
+pub fn no_candidates() -> Candidates
+    ensures { λ r. ⌜ candidatesOf r ≡ [] ⌝ }
+{
+    let c = Candidate {
+        voice: VoiceId(0),
+        level: Level::Unknown,
+    };
+    Candidates {
+        rows: [c; 64],
+        count: 0,
+    }
 }
 
 // A count above the capacity is the capacity.
