@@ -44,7 +44,7 @@ noBook = record { count = 0; newest = [] }
 abbrev pub lastOf : {A : Type 0} → ℕ → List A → List A
 lastOf n l = drop (length l - n) l
 
--- One more. The count stays at 2^64 - 1, which no run reaches: each steal has a voice id of its own.
+-- One more. The count stays at 2^64 - 1, which no run passes: no voice is stolen twice, and the voice ids end there.
 abbrev pub pushed : Book → StealRecord → Book
 pushed b r = record { count = min (b .count + 1) 18446744073709551615; newest = lastOf 64 (b .newest ++ (r ∷ [])) }
 

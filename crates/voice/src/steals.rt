@@ -1,8 +1,7 @@
 use crate::policy::Level;
 use crate::policy::at_most_64;
 ghost use mathlib.Core.Path.{_≡_};
-ghost use mathlib.Core.List.{[]};
-ghost use Prim.Native.Nat.{_+_, _-_, _%_, _≤_, _<_, min};
+ghost use Prim.Native.Nat.{_+_, _-_, _%_, _≤_, min};
 ghost use lib.ListN.{length};
 ghost use Rattle.voice.specs.Steals.{recordOf, recordLevel, noBook, bookOf, pushed, marked, foundAt};
 
@@ -95,7 +94,7 @@ fn place_back(next: usize, age: usize) -> usize
     (next % 64 + (64 - age)) % 64
 }
 
-// One more record.
+// One more record. It takes the place of the oldest once 64 are held.
 pub fn push_steal(s: Steals, r: StealRecord) -> Steals
     ensures { λ x. ⌜ bookOf x ≡ pushed (bookOf s) r ⌝ }
 {
@@ -130,13 +129,14 @@ pub fn mark_cut(s: Steals, number: u64) -> Steals
     }
 }
 
-// How many of the newest records are held, and the one at the place `i` of them, oldest first.
+// How many of the newest records are held.
 pub fn held_steals(s: Steals) -> usize
     ensures { λ r. ⌜ r ≡ length (bookOf s .newest) ⌝ }
 {
     at_most_64(s.total as usize)
 }
 
+// The record at the place `i` of those that are held, oldest first.
 pub fn steal_at(s: Steals, i: usize) -> StealFound
     ensures { λ r. ⌜ r ≡ foundAt i (bookOf s .newest) ⌝ }
 {
