@@ -1,3 +1,4 @@
 pub mod Order
 pub mod Cycle
 pub mod Examples
+pub mod Parts
