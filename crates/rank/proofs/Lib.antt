@@ -1,2 +1,5 @@
 pub mod Laws
 pub mod Serve
+pub mod Cycle
+pub mod Sound
+pub mod Counts
