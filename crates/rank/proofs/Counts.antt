@@ -1,6 +1,6 @@
 -- The counts of specs/Parts.antt give the order of specs/Order.antt: a count is how many arcs are left to the index.
 -- Assumes nothing.
-use Prim.Native.Nat.{ℕ, zero, suc, _+_, _-_, _≤_, _<_}
+use Prim.Native.Nat.{ℕ, zero, suc, _+_, _-_, _≤_, _<_, min}
 use native.Mathlib.Omega.{arith}
 use native.Mathlib.Nat.{zero-add}
 use native.Mathlib.Decide.{ℕ-discrete, decLt}
@@ -11,12 +11,13 @@ use mathlib.Core.Bool.{Bool, true, false, _&&_, _||_, not, and-true, false≢tru
 use borrow.Author.Tests.{eq-eqb, ne-eqb, lt-ltb, le-ltb}
 use lib.Dec.{eqb, ltb}
 use lib.ListN.{length, take, drop, getD, List·getD-eq-default, drop-of-length-le}
-use lib.Seq.{append-snoc, take-all, take-suc, drop-cons, take-append-le, drop-append-le}
+use lib.Seq.{length-take-le, append-snoc, take-all, take-suc, drop-cons, take-append-le, drop-append-le}
 use Rattle.lists.specs.Keep.{put?, keep, keep-keep, keep-same}
 use Rattle.lists.specs.Count.{more, count, count-append}
-use Rattle.rank.specs.Order.{Arc, among, fed, live, own, others, released, walk, order, count-up, upto}
-use Rattle.rank.specs.Parts.{indeg, degs, ready, St, app, fall, pickSt, serve, run, start, orderRows}
-use Rattle.rank.proofs.Laws.{length-degs}
+use Rattle.rank.specs.Order.{Arc, among, fed, live, own, others, released, walk, order, whole, count-up, upto, arcs}
+use Rattle.rank.specs.declared.Queue.{Queue}
+use Rattle.rank.specs.Parts.{indeg, degs, ready, St, app, fall, pickSt, serve, run, start, orderRows, Queued, Ranked}
+use Rattle.rank.proofs.Laws.{length-arcs}
 use Rattle.rank.proofs.Serve.{zeros-le, run-step, run-done, zero-run, fall-zero}
 use Rattle.rank.proofs.Cycle.{in-upto, upto-in, among-snoc, opens, opens-none, fall-count, fall-long, Good, good-next, good-start}
 use Rattle.rank.proofs.Sound.{bool-false, among-in, in-among, Ok, Sound, sound-next, sound-start}
@@ -65,6 +66,14 @@ among-upto n x = go (decLt x n)
     go : Dec (x < n) → among x (upto n) ≡ ltb x n
     go (yes h) = in-among x (upto n) (in-upto n x h) ∙ sym (lt-ltb _ _ h)
     go (no o) = let h : n ≤ x = omega arith in bool-false _ (λ t. o (upto-in n x (among-in x (upto n) t))) ∙ sym (le-ltb _ _ h)
+
+length-count : (k i : ℕ) → length (count-up k i) ≡ k
+unfolding count-up
+length-count zero i = refl
+length-count (suc k) i = ap suc (length-count k (suc i))
+
+pub length-upto : (n : ℕ) → length (upto n) ≡ n
+length-upto n = length-count n 0
 
 live-left : (n : ℕ) (es : List Arc) → live (upto n) es ≡ left n [] es
 unfolding among
@@ -240,17 +249,24 @@ module _ (n : ℕ) (es : List Arc) where
       let e : indeg n es i ≡ into i (left n [] es) = sym (opens-none n es i) ∙ opens-into n [] es i lt in
       rw (ready-first k (suc i) (omega arith), not-fed i (indeg n es i) (left n [] es) e)
 
-  length-count : (k i : ℕ) → length (count-up k i) ≡ k
-  unfolding count-up
-  length-count zero i = refl
-  length-count (suc k) i = ap suc (length-count k (suc i))
-
-  pub length-upto : length (upto n) ≡ n
-  length-upto = length-count n 0
-
   pub rows-order : orderRows n es ≡ order (upto n) es
   unfolding orderRows order start
   rows-order =
       walked n 0 (start n es) (zero-add n) (good-start n es) (sound-start n es)
       ∙ ap (λ (z : List ℕ). walk n z (left n [] es)) (ready-first n 0 (omega arith))
-      ∙ sym (rw (length-upto, live-left n es))
+      ∙ sym (rw (length-upto n, live-left n es))
+
+-- ---- what the code returns
+pub take-arcs : (fs ts : List ℕ) (m : ℕ) → m ≡ min (min (length fs) (length ts)) 1024 → take m (arcs fs ts) ≡ take 1024 (arcs fs ts)
+take-arcs fs ts m h = go (decLt (length (arcs fs ts)) 1024)
+  where
+    go : Dec (length (arcs fs ts) < 1024) → take m (arcs fs ts) ≡ take 1024 (arcs fs ts)
+    go (yes l) = take-all m (arcs fs ts) (omega (arith, length-arcs fs ts)) ∙ sym (take-all 1024 (arcs fs ts) (omega arith))
+    go (no o) = let e : m ≡ 1024 = omega (arith, length-arcs fs ts) in ap (λ (k : ℕ). take k (arcs fs ts)) e
+
+pub ranking : (r : Queue) (k : ℕ) (es : List Arc) → k ≤ 512 → Queued r k es → Ranked (record { rows = r .rows; count = r .count; whole = eqb (r .count) k }) (upto k) es
+unfolding whole
+ranking r k es h q =
+    let is : take (r .count) (r .rows) ≡ order (upto k) es = q .is ∙ rows-order k es in
+    let many : r .count ≡ length (order (upto k) es) = sym (length-take-le (r .count) (r .rows) (omega (arith, q .few, q .long))) ∙ ap length is in
+    record { long = q .long; is = is; many = many; all = rw (← many, length-upto k) }
