@@ -222,13 +222,13 @@ module _ (n : ℕ) (es : List Arc) where
         let a = d .ok h l in
         let r = released (mine n w es) (left n (q ++ (w ∷ [])) es) in
         let f : take (suc h) (serve w es s .queue) ≡ q ++ (w ∷ []) =
-            ap (take (suc h)) served ∙ take-append-le (suc h) (s .queue) r l ∙ take-suc (s .queue) h 0 l in
+        ap (take (suc h)) served ∙ take-append-le (suc h) (s .queue) r l ∙ take-suc (s .queue) h 0 l in
         let b : drop (suc h) (serve w es s .queue) ≡ drop (suc h) (s .queue) ++ r = ap (drop (suc h)) served ∙ drop-append-le (suc h) (s .queue) r l in
         let on = walk k (drop (suc h) (s .queue) ++ r) (left n (q ++ (w ∷ [])) es) in
         let after : take (suc h) (serve w es s .queue) ++ walk k (drop (suc h) (serve w es s .queue)) (left n (take (suc h) (serve w es s .queue)) es) ≡ q ++ w ∷ on =
-            rw (f, b) (append-snoc q w on) in
+        rw (f, b) (append-snoc q w on) in
         let now : q ++ walk (suc k) (drop h (s .queue)) (left n q es) ≡ q ++ w ∷ on =
-            rw (drop-cons (s .queue) h 0 l, own-left n w (a .0) q (a .1) es, others-left n w (a .0) q (a .1) es) in
+        rw (drop-cons (s .queue) h 0 l, own-left n w (a .0) q (a .1) es, others-left n w (a .0) q (a .1) es) in
         run-step k es h s l ∙ ih ∙ after ∙ sym now
 
   walked : (k h : ℕ) (s : St) → h + k ≡ n → Good n es h s → Sound n es h s → Walked k h s

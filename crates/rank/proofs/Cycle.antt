@@ -21,7 +21,7 @@ use Rattle.rank.proofs.Laws.{length-degs, getD-degs}
 use Rattle.rank.proofs.Serve.{zeros, zeros-le, zeros-lt, zeros-one, zeros-more, ready-length, run-step, run-done, fall-zero}
 
 -- ---- the indices below n
-in-count : (k i x : ℕ) → i ≤ x → x < i + k → In x (count-up k i)
+pub in-count : (k i x : ℕ) → i ≤ x → x < i + k → In x (count-up k i)
 unfolding count-up
 in-count zero i x h l = absurd (omega arith)
 in-count (suc k) i x h l = go (ℕ-discrete x i) (in-count k (suc i) x)
@@ -33,7 +33,7 @@ in-count (suc k) i x h l = go (ℕ-discrete x i) (in-count k (suc i) x)
 pub in-upto : (n x : ℕ) → x < n → In x (upto n)
 in-upto n x h = in-count n 0 x (omega arith) (omega arith)
 
-count-in : (k i x : ℕ) → In x (count-up k i) → (i ≤ x) × (x < i + k)
+pub count-in : (k i x : ℕ) → In x (count-up k i) → (i ≤ x) × (x < i + k)
 unfolding count-up
 count-in zero i x m = absurd m
 count-in (suc k) i x (inl p) = (omega arith, omega arith)
@@ -340,12 +340,13 @@ zeros-ones zero = refl
 zeros-ones (suc n) = zeros-ones n
 
 -- where the order is shorter than the rows, there is a cycle
-pub short-cyclic : (n : ℕ) (es : List Arc) → length (orderRows n es) < n → Cyclic (upto n) es
+pub short-rows : (n : ℕ) (es : List Arc) → length (orderRows n es) ≢ n → Cyclic (upto n) es
 unfolding orderRows
-short-cyclic n es h =
+short-rows n es h =
     let r = run-good n es n 0 (start n es) (zero-add n) (good-start n es) in
     let g = r .2 in
-    let l : length (r .0 .queue) < n = rw (r .1) at h in
+    let o : length (r .0 .queue) ≢ n = rw (r .1) at h in
+    let l : length (r .0 .queue) < n = omega (arith, zeros-le (r .0 .counts), g .empty, g .long, o) in
     let v = nonzero (r .0 .counts) (omega (arith, g .empty, g .long)) in
     let hv : v .0 < n = omega (arith, v .1, g .long) in
     let one : (x : ℕ) → x < n → getD {A = ℕ} (replicate n 1) x 0 ≢ 0 = λ x lx z. omega (arith, getD-replicate {A = ℕ} n x 1 0 lx, z) in

@@ -3,3 +3,5 @@ pub mod Serve
 pub mod Cycle
 pub mod Sound
 pub mod Counts
+pub mod Names
+pub mod Theorems

@@ -280,12 +280,12 @@ in-among x [] m = absurd m
 in-among x (y ∷ l) (inl p) = rw (eq-eqb x y p)
 in-among x (y ∷ l) (inr m) = rw (in-among x l m, or-true (eqb x y))
 
-in-at : (x : ℕ) (l : List ℕ) → In x l → (j : ℕ) × (j < length l) × (getD l j 0 ≡ x)
+pub in-at : (x : ℕ) (l : List ℕ) → In x l → (j : ℕ) × (j < length l) × (getD l j 0 ≡ x)
 in-at x [] m = absurd m
 in-at x (y ∷ l) (inl p) = (0, omega arith, sym p)
 in-at x (y ∷ l) (inr m) = let r = in-at x l m in (suc (r .0), omega (arith, r .1), r .2)
 
-at-in : (l : List ℕ) (j : ℕ) → j < length l → In (getD l j 0) l
+pub at-in : (l : List ℕ) (j : ℕ) → j < length l → In (getD l j 0) l
 at-in [] j h = absurd (not-suc-le-zero h)
 at-in (y ∷ l) zero h = inl refl
 at-in (y ∷ l) (suc j) h = inr (at-in l j (omega arith))
