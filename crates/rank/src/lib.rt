@@ -16,7 +16,8 @@ struct Queue {
     count: usize,
 }
 
-fn at_most(count: usize, most: usize) -> usize
+// A count that is clamped: above `most` it counts as `most`.
+pub fn at_most(count: usize, most: usize) -> usize
     ensures { λ r. ⌜ r ≡ min count most ⌝ }
 {
     if count < most { count } else { most }

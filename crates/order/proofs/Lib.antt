@@ -1,0 +1,4 @@
+pub mod Empty
+pub mod Find
+pub mod Rises
+pub mod Mapped
