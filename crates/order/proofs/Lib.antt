@@ -2,3 +2,4 @@ pub mod Empty
 pub mod Find
 pub mod Rises
 pub mod Mapped
+pub mod Ports
