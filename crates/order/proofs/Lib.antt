@@ -3,3 +3,4 @@ pub mod Find
 pub mod Rises
 pub mod Mapped
 pub mod Ports
+pub mod Graph

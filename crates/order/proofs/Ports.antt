@@ -94,3 +94,9 @@ lack-fed mask p flag f = rw f (and-false (bit mask p))
 
 pub lack-off : (mask left p : ℕ) (flag : Bool) → left ≡ mask / 2 ^ p → (left % 2 ≡ 1 → ⊥) → (bit mask p && not flag) ≡ false
 lack-off mask left p flag e o = rw (← e, ne-eqb (left % 2) 1 o)
+
+-- ---- row by row
+pub rows-next : (flags : List Bool) (xs : List Node) (i : ℕ) (x : Node) (b : Bool) → drop i xs ≡ x ∷ drop (i + 1) xs → b ≡ portsLack flags i (x .ports) (x .required)
+    → rowsLack flags (drop i xs) i ≡ (b || rowsLack flags (drop (i + 1) xs) (i + 1))
+unfolding rowsLack
+rows-next flags xs i x b dr h = rw (dr, h, add-one i)
