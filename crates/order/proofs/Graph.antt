@@ -8,7 +8,7 @@ use mathlib.Core.List.{List, [], _∷_, map}
 use mathlib.Core.Bool.{Bool, true, false, _&&_, _||_, not}
 use borrow.Author.Tests.{eq-eqb, ne-eqb}
 use lib.Dec.{eqb, ltb}
-use lib.ListN.{length, take, getD, length-map}
+use lib.ListN.{length, take, getD, length-map, length-take}
 use lib.Seq.{length-take-le, getD-take, take-take}
 use Rattle.lists.specs.Member.{In}
 use Rattle.node.specs.declared.record.Node.{Node}
@@ -29,9 +29,12 @@ use Rattle.order.specs.declared.Ended.{Ended}
 use Rattle.order.specs.declared.Order.{Order}
 use Rattle.order.specs.Live.{liveNodes, liveIds, idOf, arcOf, asId, processingOrder, orderOf}
 use Rattle.order.specs.Required.{any, feeds, connected, bit, lacks, lacking}
-use Rattle.order.specs.Prepare.{Ordered}
+use Rattle.order.specs.Prepare.{Outcome, prepare, Ordered, Prepares}
+use Rattle.order.specs.declared.Readiness.{Readiness}
+use Rattle.order.specs.declared.Readiness.the-variants.{Ready, Refused}
+use Rattle.node.specs.declared.refusal.Refusal.the-variants.{RequiredPort, Cycle}
 use Rattle.order.specs.Parts.{Lived, Rising, sourceRow, targetRow, Ends, plugs, Plugged, portsLack, rowsLack, RowsIn, Named}
-use Rattle.order.proofs.Rises.{live-first, live-rising, live-distinct}
+use Rattle.order.proofs.Rises.{live-first, live-few, live-rising, live-distinct}
 
 map-in : {A B : Type 0} (f g : A → B) (l : List A) → ((x : A) → In x l → f x ≡ g x) → map f l ≡ map g l
 map-in f g [] h = refl
@@ -185,8 +188,10 @@ module _ (nodes : List Node) (l : Live) (lv : Lived l nodes) where
       rows-lack (x ∷ xs) i h =
           let z : i + 0 ≡ i = omega arith in
           let a = h 0 (omega arith) in
-          rw (lacks-is x i (omega (arith, a .0)) (a .1 ∙ ap (λ (k : ℕ). getD ids k 0) z),
-          rows-lack xs (suc i) (λ j lt. let b = h (suc j) (omega arith) in let y : i + suc j ≡ suc i + j = omega arith in (omega (arith, b .0), b .1 ∙ ap (λ (k : ℕ). getD ids k 0) y)))
+          rw (
+            lacks-is x i (omega (arith, a .0)) (a .1 ∙ ap (λ (k : ℕ). getD ids k 0) z),
+            rows-lack xs (suc i) (λ j lt. let b = h (suc j) (omega arith) in let y : i + suc j ≡ suc i + j = omega arith in (omega (arith, b .0), b .1 ∙ ap (λ (k : ℕ). getD ids k 0) y)),
+          )
 
       pub lacking-is : rowsLack flags (take n nodes) 0 ≡ lacking nodes edges
       unfolding lacking
@@ -194,4 +199,39 @@ module _ (nodes : List Node) (l : Live) (lv : Lived l nodes) where
           let f : liveNodes nodes ≡ take n nodes = live-first nodes ∙ ap (λ (k : ℕ). take k nodes) many-live in
           ap (λ (xs : List Node). rowsLack flags xs 0) (sym f)
           ∙ rows-lack (liveNodes nodes) 0 (λ j lt. let z : 0 + j ≡ j = omega arith in
-              (omega (arith, many-live, live-long nodes), live-at nodes j ∙ ap (λ (k : ℕ). getD ids k 0) (sym z)))
+          (omega (arith, many-live, live-long nodes), live-at nodes j ∙ ap (λ (k : ℕ). getD ids k 0) (sym z)))
+
+-- ---- the three answers
+abbrev outcome : Readiness → List NodeId → Outcome
+outcome a l = record { answer = a; order = l }
+
+pub many-edges : (rows : List Edge) (count : ℕ) → length rows ≡ 1024 → length (take (min count 1024) rows) ≡ min count 1024
+many-edges rows count h = length-take-le (min count 1024) rows (omega arith)
+
+pub first-rows : (rows : List Node) (count n : ℕ) → n ≡ length (liveIds (take (min count 512) rows)) → take n (take (min count 512) rows) ≡ take n rows
+first-rows rows count n h =
+    take-take n (min count 512) rows (omega (arith, live-few (take (min count 512) rows), length-take (min count 512) rows))
+
+none-ordered : (o : Order) → o .count ≡ 0 → orderOf o ≡ []
+none-ordered o h = ap (λ (k : ℕ). take (min k 512) (o .ids)) h
+
+module _ (nodes : List Node) (edges : List Edge) (o : Order) (long : length (o .ids) ≡ 512) where
+  answered : (a : Readiness) (l : List NodeId) → orderOf o ≡ l → o .count ≡ length l → prepare nodes edges ≡ record { answer = a; order = l }
+      → Prepares (record { answer = a; order = o }) nodes edges
+  answered a l e m p = record {
+    long = long;
+    many = m ∙ ap (λ (x : Outcome). length (x .order)) (sym p);
+    is = ap (λ (z : List NodeId). outcome a z) e ∙ sym p;
+  }
+
+  pub prepared-13 : o .count ≡ 0 → lacking nodes edges ≡ true → Prepares (record { answer = Refused RequiredPort; order = o }) nodes edges
+  unfolding prepare
+  prepared-13 z h = answered (Refused RequiredPort) [] (none-ordered o z) z (rw h)
+
+  pub prepared-14 : o .count ≡ 0 → lacking nodes edges ≡ false → whole (liveIds nodes) (map arcOf edges) ≡ false → Prepares (record { answer = Refused Cycle; order = o }) nodes edges
+  unfolding prepare
+  prepared-14 z h w = answered (Refused Cycle) [] (none-ordered o z) z (rw (h, w))
+
+  pub prepared-ready : Ordered o nodes edges → lacking nodes edges ≡ false → whole (liveIds nodes) (map arcOf edges) ≡ true → Prepares (record { answer = Ready; order = o }) nodes edges
+  unfolding prepare
+  prepared-ready d h w = answered Ready (processingOrder nodes edges) (d .is) (d .many) (rw (h, w))

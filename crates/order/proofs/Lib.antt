@@ -4,3 +4,4 @@ pub mod Rises
 pub mod Mapped
 pub mod Ports
 pub mod Graph
+pub mod Theorems

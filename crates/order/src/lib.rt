@@ -8,8 +8,9 @@ ghost use Rattle.rank.specs.Parts.{Ranked};
 ghost use Rattle.node.specs.Rows.{nodesOf, edgesOf};
 ghost use Rattle.order.specs.Prepare.{Ordered, Prepares};
 ghost use Rattle.order.specs.Parts.{Lived, Rising, Ends, Blank, Plugged, portsLack, rowsLack, RowsIn, Named};
-
-use node::record::{NodeId, Nodes, Edges};
+use node::record::Edges;
+use node::record::NodeId;
+use node::record::Nodes;
 use node::refusal::Refusal;
 use rank::Ranking;
 

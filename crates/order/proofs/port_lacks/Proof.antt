@@ -88,7 +88,7 @@ loop-again c =
     let q = lackAt (a .flags .now) (a .row) (a .required) in
     let h : l .p < m .result = omega arith in
     let off : q (l .p) ≡ false =
-        ⊎-elim (λ v. lack-fed (a .required) (l .p) (getD (a .flags .now) (a .row * 64 + l .p) false) (v .2 .left)) (λ v. lack-off (a .required) (l .left) (l .p) (getD (a .flags .now) (a .row * 64 + l .p) false) (l .inv .1) (v .left)) (c .if1 .came) in (
+    ⊎-elim (λ v. lack-fed (a .required) (l .p) (getD (a .flags .now) (a .row * 64 + l .p) false) (v .2 .left)) (λ v. lack-off (a .required) (l .left) (l .p) (getD (a .flags .now) (a .row * 64 + l .p) false) (l .inv .1) (v .left)) (c .if1 .came) in (
       omega arith,
       ap (λ (x : ℕ). x / 2) (l .inv .1) ∙ half (a .required) (l .p),
       sym (any-next q (m .result) (l .p) h ∙ ap (λ (b : Bool). b || any q (count-up (m .result - (l .p + 1)) (l .p + 1))) off) ∙ l .inv .2,
