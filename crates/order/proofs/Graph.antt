@@ -29,11 +29,11 @@ use Rattle.order.specs.declared.Ended.{Ended}
 use Rattle.order.specs.declared.Order.{Order}
 use Rattle.order.specs.Live.{liveNodes, liveIds, idOf, arcOf, asId, processingOrder, orderOf}
 use Rattle.order.specs.Required.{any, feeds, connected, bit, lacks, lacking}
-use Rattle.order.specs.Prepare.{Outcome, prepare, Ordered, Prepares}
+use Rattle.order.specs.Prepare.{Outcome, prepare}
 use Rattle.order.specs.declared.Readiness.{Readiness}
 use Rattle.order.specs.declared.Readiness.the-variants.{Ready, Refused}
 use Rattle.node.specs.declared.refusal.Refusal.the-variants.{RequiredPort, Cycle}
-use Rattle.order.specs.Parts.{Lived, Rising, sourceRow, targetRow, Ends, plugs, Plugged, portsLack, rowsLack, RowsIn, Named}
+use Rattle.order.specs.Parts.{Lived, Rising, sourceRow, targetRow, Ends, plugs, Plugged, portsLack, rowsLack, RowsIn, Named, Ordered, Prepares}
 use Rattle.order.proofs.Rises.{live-first, live-few, live-rising, live-distinct}
 
 map-in : {A B : Type 0} (f g : A → B) (l : List A) → ((x : A) → In x l → f x ≡ g x) → map f l ≡ map g l
@@ -87,8 +87,14 @@ module _ (nodes : List Node) (l : Live) (lv : Lived l nodes) where
           let z : min n 512 ≡ n = omega (arith, lv .few) in
           subst (λ (k : ℕ). Ranked r (upto k) rs) z (subst (Ranked r (upto (min n 512))) arcs-are rk)
 
+      many : r .count ≡ length (order (upto n) rs)
+      many = ranked .many ∙ ap length (ranked .is)
+
       few : r .count ≤ n
-      few = omega (arith, ranked .many, order-few (upto n) (distinct-upto n) rs, length-upto n)
+      few = omega (arith, many, order-few (upto n) (distinct-upto n) rs, length-upto n)
+
+      rows-are : take (r .count) (r .rows) ≡ order (upto n) rs
+      rows-are = let z : r .count ≡ min (r .count) 512 = omega (arith, few, lv .few) in ap (λ (k : ℕ). take k (r .rows)) z ∙ ranked .is
 
       below : (x : ℕ) → In x (order (upto n) rs) → x < n
       below x m = upto-in n x (order-only (upto n) (distinct-upto n) rs x m)
@@ -98,8 +104,8 @@ module _ (nodes : List Node) (l : Live) (lv : Lived l nodes) where
         long = ranked .long;
         few = omega (arith, few, lv .few);
         below = λ j h.
-            let at : getD (r .rows) j 0 ≡ getD (order (upto n) rs) j 0 = sym (getD-take (r .count) (r .rows) j 0 h) ∙ ap (λ (q : List ℕ). getD q j 0) (ranked .is) in
-            let lt : j < length (order (upto n) rs) = omega (arith, ranked .many) in
+            let at : getD (r .rows) j 0 ≡ getD (order (upto n) rs) j 0 = sym (getD-take (r .count) (r .rows) j 0 h) ∙ ap (λ (q : List ℕ). getD q j 0) rows-are in
+            let lt : j < length (order (upto n) rs) = omega (arith, many) in
             omega (arith, below _ (at-in (order (upto n) rs) j lt), lv .few, at);
       }
 
@@ -112,26 +118,23 @@ module _ (nodes : List Node) (l : Live) (lv : Lived l nodes) where
       unfolding processingOrder
       ordered o nm = record {
         long = nm .long;
-        many = count-is ∙ ap length is;
+        many = count-is ∙ ap (λ (k : ℕ). length (take k (o .ids))) (sym clamp);
         is = ap (λ (k : ℕ). take k (o .ids)) clamp ∙ is;
       }
         where
-          name : ℕ → NodeId
-          name x = asId (getD (liveIds nodes) x 0)
-
           same : (x : ℕ) → In x (order (upto n) rs) → asId (getD (l .ids) x 0) ≡ asId (getD (liveIds nodes) x 0)
           same x m = ap asId (sym (getD-take n (l .ids) x 0 (below x m)) ∙ ap (λ (q : List ℕ). getD q x 0) (lv .is))
 
           is : take (o .count) (o .ids) ≡ map asId (order (liveIds nodes) (map arcOf edges))
           is =
-              nm .is ∙ ap (map (λ (x : ℕ). asId (getD (l .ids) x 0))) (ranked .is)
+              nm .is ∙ ap (map (λ (x : ℕ). asId (getD (l .ids) x 0))) rows-are
               ∙ map-in (λ (x : ℕ). asId (getD (l .ids) x 0)) (λ (x : ℕ). asId (getD (liveIds nodes) x 0)) (order (upto n) rs) same
               ∙ sym (map-map (λ (x : ℕ). getD (liveIds nodes) x 0) asId (order (upto n) rs))
               ∙ ap (map asId) (ap (λ (k : ℕ). map (λ (x : ℕ). getD (liveIds nodes) x 0) (order (upto k) rs)) (sym many-live)
               ∙ sym (order-named (liveIds nodes) (live-distinct nodes) (map arcOf edges)))
 
           o-few : o .count ≤ 512
-          o-few = omega (arith, nm .many, ap length (ranked .is), ranked .many, few, lv .few)
+          o-few = omega (arith, nm .many, ap length rows-are, many, few, lv .few)
 
           clamp : min (o .count) 512 ≡ o .count
           clamp = omega (arith, o-few)
@@ -216,21 +219,21 @@ none-ordered : (o : Order) → o .count ≡ 0 → orderOf o ≡ []
 none-ordered o h = ap (λ (k : ℕ). take (min k 512) (o .ids)) h
 
 module _ (nodes : List Node) (edges : List Edge) (o : Order) (long : length (o .ids) ≡ 512) where
-  answered : (a : Readiness) (l : List NodeId) → orderOf o ≡ l → o .count ≡ length l → prepare nodes edges ≡ record { answer = a; order = l }
+  answered : (a : Readiness) (l : List NodeId) → orderOf o ≡ l → o .count ≡ length (orderOf o) → prepare nodes edges ≡ record { answer = a; order = l }
       → Prepares (record { answer = a; order = o }) nodes edges
   answered a l e m p = record {
     long = long;
-    many = m ∙ ap (λ (x : Outcome). length (x .order)) (sym p);
+    many = m;
     is = ap (λ (z : List NodeId). outcome a z) e ∙ sym p;
   }
 
   pub prepared-13 : o .count ≡ 0 → lacking nodes edges ≡ true → Prepares (record { answer = Refused RequiredPort; order = o }) nodes edges
   unfolding prepare
-  prepared-13 z h = answered (Refused RequiredPort) [] (none-ordered o z) z (rw h)
+  prepared-13 z h = answered (Refused RequiredPort) [] (none-ordered o z) (z ∙ sym (ap length (none-ordered o z))) (rw h)
 
   pub prepared-14 : o .count ≡ 0 → lacking nodes edges ≡ false → whole (liveIds nodes) (map arcOf edges) ≡ false → Prepares (record { answer = Refused Cycle; order = o }) nodes edges
   unfolding prepare
-  prepared-14 z h w = answered (Refused Cycle) [] (none-ordered o z) z (rw (h, w))
+  prepared-14 z h w = answered (Refused Cycle) [] (none-ordered o z) (z ∙ sym (ap length (none-ordered o z))) (rw (h, w))
 
   pub prepared-ready : Ordered o nodes edges → lacking nodes edges ≡ false → whole (liveIds nodes) (map arcOf edges) ≡ true → Prepares (record { answer = Ready; order = o }) nodes edges
   unfolding prepare

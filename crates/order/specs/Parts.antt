@@ -16,7 +16,9 @@ use Rattle.rank.specs.declared.Ranking.{Ranking}
 use Rattle.order.specs.declared.Live.{Live}
 use Rattle.order.specs.declared.Ended.{Ended}
 use Rattle.order.specs.declared.Order.{Order}
-use Rattle.order.specs.Live.{liveIds, asId}
+use Rattle.order.specs.declared.Prepared.{Prepared}
+use Rattle.order.specs.Live.{liveIds, asId, processingOrder, orderOf}
+use Rattle.order.specs.Prepare.{prepare, outcomeOf}
 use Rattle.order.specs.Required.{any, bit}
 
 pub record Lived (r : Live) (nodes : List Node) : Type 0 where
@@ -73,3 +75,14 @@ pub record Named (o : Order) (ids : List ℕ) (rows : List ℕ) : Type 0 where
   pub long : length (o .ids) ≡ 512
   pub many : o .count ≡ length rows
   pub is : take (o .count) (o .ids) ≡ map (λ r. asId (getD ids r 0)) rows
+
+-- ---- what the two functions promise, as one record each
+pub record Ordered (r : Order) (nodes : List Node) (edges : List Edge) : Type 0 where
+  pub long : length (r .ids) ≡ 512
+  pub many : r .count ≡ length (orderOf r)
+  pub is : orderOf r ≡ processingOrder nodes edges
+
+pub record Prepares (r : Prepared) (nodes : List Node) (edges : List Edge) : Type 0 where
+  pub long : length (r .order .ids) ≡ 512
+  pub many : r .order .count ≡ length (orderOf (r .order))
+  pub is : outcomeOf r ≡ prepare nodes edges

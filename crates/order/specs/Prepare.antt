@@ -3,8 +3,6 @@
 -- Assumes nothing.
 use mathlib.Core.List.{List, [], map}
 use mathlib.Core.Bool.{Bool, true, false, cond, not}
-use mathlib.Core.Path.{_≡_}
-use lib.ListN.{length}
 use Rattle.node.specs.declared.record.Node.{Node}
 use Rattle.node.specs.declared.record.NodeId.{NodeId}
 use Rattle.node.specs.declared.record.Edge.{Edge}
@@ -14,7 +12,6 @@ use Rattle.rank.specs.Order.{whole}
 use Rattle.order.specs.declared.Readiness.{Readiness}
 use Rattle.order.specs.declared.Readiness.the-variants.{Ready, Refused}
 use Rattle.order.specs.declared.Prepared.{Prepared}
-use Rattle.order.specs.declared.Order.{Order}
 use Rattle.order.specs.Live.{liveIds, arcOf, processingOrder, orderOf}
 use Rattle.order.specs.Required.{lacking}
 
@@ -34,14 +31,3 @@ prepare nodes edges =
 -- what the struct holds
 abbrev pub outcomeOf : Prepared → Outcome
 outcomeOf r = record { answer = r .answer; order = orderOf (r .order) }
-
--- ---- what the two functions promise: the array's length besides, and that the count is the order's
-pub record Ordered (r : Order) (nodes : List Node) (edges : List Edge) : Type 0 where
-  pub long : length (r .ids) ≡ 512
-  pub many : r .count ≡ length (processingOrder nodes edges)
-  pub is : orderOf r ≡ processingOrder nodes edges
-
-pub record Prepares (r : Prepared) (nodes : List Node) (edges : List Edge) : Type 0 where
-  pub long : length (r .order .ids) ≡ 512
-  pub many : r .order .count ≡ length (prepare nodes edges .order)
-  pub is : outcomeOf r ≡ prepare nodes edges

@@ -6,7 +6,8 @@ ghost use Rattle.rank.specs.Names.{rowOf};
 ghost use Rattle.rank.specs.Order.{upto, arcs};
 ghost use Rattle.rank.specs.Parts.{Ranked};
 ghost use Rattle.node.specs.Rows.{nodesOf, edgesOf};
-ghost use Rattle.order.specs.Prepare.{Ordered, Prepares};
+ghost use Rattle.order.specs.Live.{processingOrder, orderOf};
+ghost use Rattle.order.specs.Prepare.{prepare, outcomeOf};
 ghost use Rattle.order.specs.Parts.{Lived, Rising, Ends, Blank, Plugged, portsLack, rowsLack, RowsIn, Named};
 use node::record::Edges;
 use node::record::NodeId;
@@ -212,7 +213,8 @@ fn named(ids: [u32; 512], r: Ranking) -> Order
 
 // The processing order of the live nodes.
 pub fn processing_order(nodes: Nodes, edges: Edges) -> Order
-    ensures { λ r. ⌜ Ordered r (nodesOf nodes) (edgesOf edges) ⌝ }
+    ensures is { λ r. ⌜ orderOf r ≡ processingOrder (nodesOf nodes) (edgesOf edges) ⌝ }
+    ensures sized { λ r. ⌜ (length (r .ids) ≡ 512) × (r .count ≡ length (orderOf r)) ⌝ }
 {
     let l = live_ids(nodes);
     let ids = l.ids;
@@ -233,7 +235,8 @@ fn no_order() -> Order
 // Prepare's two tests and the order: 13 where a required port of a live node is unconnected, else 14 where there is a cycle
 // among live nodes, else the processing order.
 pub fn prepare(nodes: Nodes, edges: Edges) -> Prepared
-    ensures { λ r. ⌜ Prepares r (nodesOf nodes) (edgesOf edges) ⌝ }
+    ensures is { λ r. ⌜ outcomeOf r ≡ prepare (nodesOf nodes) (edgesOf edges) ⌝ }
+    ensures sized { λ r. ⌜ (length (r .order .ids) ≡ 512) × (r .order .count ≡ length (orderOf (r .order))) ⌝ }
 {
     let l = live_ids(nodes);
     let ids = l.ids;

@@ -15,6 +15,11 @@ use Rattle.order.specs.Live.{liveIds, arcOf}
 use Rattle.order.specs.Required.{lacking}
 use Rattle.order.specs.Parts.{rowsLack}
 use Rattle.order.proofs.Graph.{many-live, ids-rise, rows-in, whole-is, ordered, lacking-is, many-edges, first-rows, prepared-13, prepared-14, prepared-ready}
+use Rattle.node.specs.declared.record.Edge.{Edge}
+use Rattle.order.specs.declared.Prepared.{Prepared}
+use Rattle.order.specs.Live.{orderOf}
+use Rattle.order.specs.Prepare.{prepare, outcomeOf}
+use Rattle.order.specs.Parts.{Prepares}
 use borrow.Author.Needs.{needs}
 use Rattle.order.proofs.prepare.Statement.{statement}
 use Rattle.order.proofs.prepare.Tie as tie
@@ -27,6 +32,10 @@ use Rattle.order.proofs.no_order.Reads as no-order-reads
 use Rattle.order.proofs.plugged.Reads as plugged-reads
 use Rattle.order.proofs.row_lacks.Reads as row-lacks-reads
 use Rattle.order.proofs.rows.Reads as rows-reads
+
+promised : {r : Prepared} {nodes : List Node} {edges : List Edge} → Prepares r nodes edges
+    → (outcomeOf r ≡ prepare nodes edges) × ((length (r .order .ids) ≡ 512) × (r .order .count ≡ length (orderOf (r .order))))
+promised p = (p .is, (p .long, p .many))
 
 edges-long : (c : tie.Start) → length (c .args .edges .rows) ≡ 1024
 edges-long c = simp length-map at (c .good .1 .0 .1 .1 .0 .1 .0 .1)
@@ -76,7 +85,7 @@ no-order-requires c κs = search needs
 
 -- src/lib.rt:242:9
 returns : tie.Need-returns
-returns c = prepared-13 _ _ (c .no-order .result) (c .no-order .ensures .1) (c .no-order .ensures .0) (sym (lacked (c .before .before)) ∙ c .before .if1 .taken)
+returns c = promised (prepared-13 _ _ (c .no-order .result) (c .no-order .ensures .1) (c .no-order .ensures .0) (sym (lacked (c .before .before)) ∙ c .before .if1 .taken))
 
 -- src/lib.rt:247:9
 rows-requires : tie.Need-rows-requires
@@ -94,12 +103,12 @@ no-order-requires-2 c κs = search needs
 returns-2 : tie.Need-returns-2
 returns-2 c =
     let o = ordered _ _ (c .before .before .before .before .before .before .before .before .live-ids .ensures) _ _ (c .before .before .before .before .before .before .ends .ensures) _ (ranked (c .before .before)) (c .named .result) (c .named .ensures) in
-    prepared-ready _ _ (c .named .result) (o .long) o (sym (lacked (c .before .before .before .before)) ∙ c .before .before .before .if1 .left) (sym (held (c .before .before)) ∙ c .before .if2 .taken)
+    promised (prepared-ready _ _ (c .named .result) (o .long) o (sym (lacked (c .before .before .before .before)) ∙ c .before .before .before .if1 .left) (sym (held (c .before .before)) ∙ c .before .if2 .taken))
 
 -- src/lib.rt:234:1
 returns-3 : tie.Need-returns-3
 returns-3 c =
-    prepared-14 _ _ (c .no-order2 .result) (c .no-order2 .ensures .1) (c .no-order2 .ensures .0) (sym (lacked (c .before .before .before .before)) ∙ c .before .before .before .if1 .left) (sym (held (c .before .before)) ∙ c .before .if2 .left)
+    promised (prepared-14 _ _ (c .no-order2 .result) (c .no-order2 .ensures .1) (c .no-order2 .ensures .0) (sym (lacked (c .before .before .before .before)) ∙ c .before .before .before .if1 .left) (sym (held (c .before .before)) ∙ c .before .if2 .left))
 
 pub prepare-spec : {M : Type 1} → statement M
 prepare-spec =

@@ -51,7 +51,9 @@ named-requires c κs = rows-in _ _ (c .before .before .before .live-ids .ensures
 
 -- src/lib.rt:213:1
 returns : tie.Need-returns
-returns c = ordered _ _ (c .before .before .before .before .live-ids .ensures) _ _ (c .before .before .ends .ensures) _ (ranked (c .before)) _ (c .named .ensures)
+returns c =
+    let o = ordered _ _ (c .before .before .before .before .live-ids .ensures) _ _ (c .before .before .ends .ensures) _ (ranked (c .before)) _ (c .named .ensures) in
+    (o .is, (o .long, o .many))
 
 pub processing-order-spec : {M : Type 1} → statement M
 processing-order-spec =

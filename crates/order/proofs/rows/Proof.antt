@@ -49,7 +49,8 @@ returns c =
     let m = c .before .before .before .before .before .at-most in
     let es = arcs (take (m .result) (a .e .from)) (take (m .result) (a .e .to)) in
     let few : length es ≤ 1024 = omega (arith, length-arcs (take (m .result) (a .e .from)) (take (m .result) (a .e .to)), length-take (m .result) (a .e .from)) in
-    rw (← (m .ensures)) (rw (take-all 1024 es few) at (c .ranked .ensures))
+    let r = rw (take-all 1024 es few) at (c .ranked .ensures) in
+    rw (← (m .ensures)) (record { long = r .1 .1 .0; is = r .0; many = r .1 .1 .1; all = r .1 .0 })
 
 pub rows-spec : {M : Type 1} → statement M
 rows-spec =
