@@ -1,11 +1,9 @@
-use Prim.Native.Nat.{ℕ, zero, suc, _+_, _*_, _≤_, _<_, _-_, min}
-use mathlib.Core.Path.{_≡_, refl, sym, ap, _∙_}
-use mathlib.Core.List.{List, [], _∷_, _++_}
-use mathlib.Core.Bool.{Bool, true, false}
-use mathlib.Core.Logic.{⊎-elim}
+-- `order::ends` meets its contract: both arrays, with the rows of the edges that are left, are the rows of all.
+-- Assumes nothing.
+use Prim.Native.Nat.{ℕ, _≤_, _<_, _-_}
+use mathlib.Core.Path.{_≡_, refl, ap, _∙_}
 use native.Mathlib.Omega.{arith}
-use native.Mathlib.Numerals.{add-one}
-use lib.ListN.{length, take, drop, getD, set}
+use lib.ListN.{length, take, getD}
 use lib.ListN.{length-map, length-set}
 use lib.Seq.{length-take-le}
 use Rattle.lists.specs.Table.{left-row}
@@ -15,12 +13,6 @@ use Rattle.order.proofs.Mapped.{Mapped, map-next, map-done, no-row}
 use borrow.Author.Needs.{needs}
 use Rattle.order.proofs.ends.Statement.{statement}
 use Rattle.order.proofs.ends.Tie as tie
-use Rattle.order.proofs.ends.Reads as reads
-use Rattle.order.proofs.ends.Lts as lts
-use Rattle.order.proofs.guesses.Reads as guesses-reads
-use Rattle.order.proofs.row_of.Reads as row-of-reads
-use Rattle.order.proofs.wide.Reads as wide-reads
-use Rattle.rank.proofs.at_most.Reads as at-most-reads
 
 abbrev Inv-loop : tie.InvT-loop
 Inv-loop n ids edges m rows from₀ to₀ i₀ from to i =
@@ -35,87 +27,67 @@ ids-long c = c .good .0 .1 .0 .1
 edges-long : (c : tie.Start Inv-loop μ-loop) → length (c .args .t3 .rows) ≡ 1024
 edges-long c = simp length-map at (c .good .1 .1 .0 .1 .1 .0 .1 .0 .1)
 
--- src/lib.rt:124:9
 at-most-requires : tie.Need-at-most-requires Inv-loop μ-loop
 at-most-requires c κs = search needs
 
--- src/lib.rt:125:16
 guesses-requires : tie.Need-guesses-requires Inv-loop μ-loop
 guesses-requires c κs = search needs
 
--- src/lib.rt:129:5
 loop-holds : tie.Need-loop-holds Inv-loop μ-loop
 loop-holds c = (omega arith, refl, refl, refl, refl)
 
--- src/lib.rt:130:17
 mul-e : tie.Need-mul-e Inv-loop μ-loop
 mul-e c = search needs
 
--- src/lib.rt:130:17
 element-copy-out-e : tie.Need-element-copy-out-e Inv-loop μ-loop
 element-copy-out-e c = search needs
 
--- src/lib.rt:131:50
 wide-requires : tie.Need-wide-requires Inv-loop μ-loop
 wide-requires c κs = search needs
 
--- src/lib.rt:131:45
 mul-row-of : tie.Need-mul-row-of Inv-loop μ-loop
 mul-row-of c = search needs
 
--- src/lib.rt:131:45
 array-read-row-of : tie.Need-array-read-row-of Inv-loop μ-loop
 array-read-row-of c = search needs
 
--- src/lib.rt:131:19
 row-of-requires : tie.Need-row-of-requires Inv-loop μ-loop
 row-of-requires c κs =
     let s = c .before .before .before .before .before .before .before in
     (s .pre .0, (omega (arith, s .pre .0, ids-long s), s .pre .1))
 
--- src/lib.rt:131:9
 mul-from : tie.Need-mul-from Inv-loop μ-loop
 mul-from c = search needs
 
--- src/lib.rt:131:9
 array-write-from : tie.Need-array-write-from Inv-loop μ-loop
 array-write-from c = search needs
 
--- src/lib.rt:132:46
 wide-requires-2 : tie.Need-wide-requires-2 Inv-loop μ-loop
 wide-requires-2 c κs = search needs
 
--- src/lib.rt:132:41
 mul-row-of-2 : tie.Need-mul-row-of-2 Inv-loop μ-loop
 mul-row-of-2 c = search needs
 
--- src/lib.rt:132:41
 array-read-row-of-2 : tie.Need-array-read-row-of-2 Inv-loop μ-loop
 array-read-row-of-2 c = search needs
 
--- src/lib.rt:132:17
 row-of-requires-2 : tie.Need-row-of-requires-2 Inv-loop μ-loop
 row-of-requires-2 c κs =
     let s = c .before .before .before .before .before .before .before .before .before .before in
     (s .pre .0, (omega (arith, s .pre .0, ids-long s), s .pre .1))
 
--- src/lib.rt:132:9
 mul-to : tie.Need-mul-to Inv-loop μ-loop
 mul-to c = search needs
 
--- src/lib.rt:132:9
 array-write-to : tie.Need-array-write-to Inv-loop μ-loop
 array-write-to c = search needs
 
--- src/lib.rt:133:9
 add-i : tie.Need-add-i Inv-loop μ-loop
 add-i c = search needs
 
--- src/lib.rt:129:5
 loop-less : tie.Need-loop-less Inv-loop μ-loop
 loop-less c = search needs
 
--- src/lib.rt:129:5
 loop-again : tie.Need-loop-again Inv-loop μ-loop
 loop-again c =
     let s = c .before .before .before .before .before .before .before .before .before .before .before in
@@ -134,7 +106,6 @@ loop-again c =
       map-next _ (l .to) (l .i) (take m es) (getD es (l .i) no-edge) _ ht dr (c .row-of2 .ensures) (l .inv .4),
     )
 
--- src/lib.rt:119:1
 returns : tie.Need-returns Inv-loop μ-loop
 returns c =
     let s = c .before .before .before .before in
