@@ -1,0 +1,6 @@
+pub mod View
+pub mod Node
+pub mod Change
+pub mod Refuse
+pub mod Tables
+pub mod Examples
