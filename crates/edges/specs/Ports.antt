@@ -45,7 +45,7 @@ sourceOf none = Source.Nothing
 sourceOf (some a) = Source.From a
 
 -- the sources of the k ports of the node n from p on
-abbrev pub sourcesFrom : ℕ → List Edge → NodeId → ℕ → List Source
+unfoldable pub sourcesFrom : ℕ → List Edge → NodeId → ℕ → List Source
 sourcesFrom zero es n p = []
 sourcesFrom (suc k) es n p = sourceOf (sourceAt es n p) ∷ sourcesFrom k es n (suc p)
 
