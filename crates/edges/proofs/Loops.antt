@@ -2,17 +2,17 @@
 -- Assumes nothing.
 use Prim.Native.Nat.{ℕ, _+_, _≤_, _<_, min}
 use native.Mathlib.Omega.{arith}
-use mathlib.Core.Path.{_≡_, refl, sym, ap, _∙_}
-use mathlib.Core.List.{List, [], _∷_, _++_}
+use mathlib.Core.Path.{_≡_, sym, ap, _∙_}
+use mathlib.Core.List.{List, [], _∷_, _++_, map}
 use mathlib.Core.Bool.{Bool, true, false, cond}
-use mathlib.Core.Option.{Option, none, some}
-use lib.Dec.{ltb}
+use mathlib.Core.Option.{none, some}
 use lib.ListN.{length, take, drop, getD, set, length-set, length-take, drop-of-length-le}
 use borrow.Author.Tests.{lt-ltb, le-ltb}
+use Rattle.lists.specs.Member.{map-append}
 use Rattle.lists.specs.Keep.{keep}
 use Rattle.lists.specs.Find.{find, or?}
 use Rattle.edges.specs.Wiring.{pushed}
-use Rattle.lists.specs.Table.{rowsOf, append-row, keep-row, drop-row}
+use Rattle.lists.specs.Table.{rowsOf, passed-row, append-row, keep-row, drop-row}
 
 module _ {A : Type 0} where
   -- how many rows a table has
@@ -26,6 +26,13 @@ module _ {A : Type 0} where
   pub rows-seen : (limit count n : ℕ) (rows : List A) → length rows ≡ limit → n ≡ length (rowsOf limit count rows) → take n rows ≡ rowsOf limit count rows
   rows-seen limit count n rows h e = ap (λ k. take k rows) (e ∙ rows-count limit count rows h)
 
+  -- one row more, if there is a place
+  pub pushed-on : (limit : ℕ) (l : List A) (x : A) → length l < limit → pushed limit l x ≡ l ++ (x ∷ [])
+  pushed-on limit l x h = ap (λ b. cond b (l ++ (x ∷ [])) l) (lt-ltb _ _ h)
+
+  pub pushed-off : (limit : ℕ) (l : List A) (x : A) → limit ≤ length l → pushed limit l x ≡ l
+  pushed-off limit l x h = ap (λ b. cond b (l ++ (x ∷ [])) l) (le-ltb _ _ h)
+
   -- one row more at the count, and none where there is no place
   module _ (limit count n : ℕ) (rows : List A) (x : A) (long : length rows ≡ limit) (e : n ≡ min count limit) where
     pub push-room : n < limit → rowsOf limit (n + 1) (set rows n x) ≡ pushed limit (rowsOf limit count rows) x
@@ -36,12 +43,12 @@ module _ {A : Type 0} where
         ap (λ k. take k (set rows n x)) clamp
         ∙ append-row rows n x inside
         ∙ ap (λ k. take k rows ++ (x ∷ [])) e
-        ∙ sym (ap (λ b. cond b (rowsOf limit count rows ++ (x ∷ [])) (rowsOf limit count rows)) (lt-ltb _ _ some-left))
+        ∙ sym (pushed-on limit (rowsOf limit count rows) x some-left)
 
     pub push-full : limit ≤ n → rowsOf limit count rows ≡ pushed limit (rowsOf limit count rows) x
     push-full h =
         let none-left : limit ≤ length (rowsOf limit count rows) = rw (rows-count limit count rows long, ← e) h in
-        sym (ap (λ b. cond b (rowsOf limit count rows ++ (x ∷ [])) (rowsOf limit count rows)) (le-ltb _ _ none-left))
+        sym (pushed-off limit (rowsOf limit count rows) x none-left)
 
 -- a loop that reads row i of the old rows and stores those that pass at the next place w of the new ones
 module _ {A : Type 0} (t : A → Bool) where
@@ -66,6 +73,15 @@ module _ {A : Type 0} (t : A → Bool) where
       let all : i ≡ min count limit = omega arith in
       let clamp : min w limit ≡ w = omega arith in
       ap (λ k. take k new) clamp ∙ inv .3 ∙ ap (λ k. keep t (take k old)) all
+
+-- a loop that stores what f makes of row i of the old rows at i of the new ones
+pub map-row : {A B : Type 0} (f : A → B) (old : List A) (new : List B) (i : ℕ) (d : A) → i < length old → i < length new → take i new ≡ map f (take i old)
+    → take (i + 1) (set new i (f (getD old i d))) ≡ map f (take (i + 1) old)
+map-row f old new i d h k e =
+    append-row new i (f (getD old i d)) k
+    ∙ ap (λ l. l ++ (f (getD old i d) ∷ [])) e
+    ∙ sym (map-append f (take i old) (getD old i d ∷ []))
+    ∙ ap (map f) (sym (passed-row d old i h))
 
 -- a loop that looks for the first row that passes: what is found among the rows that are left
 module _ {A : Type 0} (q : A → Bool) (l : List A) (i : ℕ) where

@@ -1,5 +1,5 @@
 -- Connecting: dropping the edge at a port makes a place if there was one. Assumes nothing.
-use Prim.Native.Nat.{ℕ, suc, _≤_, _<_}
+use Prim.Native.Nat.{ℕ, _≤_, _<_}
 use native.Mathlib.Omega.{arith}
 use mathlib.Core.Path.{_≡_, refl, sym, ap, _∙_}
 use mathlib.Core.List.{List, [], _∷_, _++_}
@@ -7,13 +7,13 @@ use mathlib.Core.Option.{Option, none, some}
 use mathlib.Core.Bool.{Bool, true, false, not, cond, _&&_, and-false}
 use lib.Dec.{leb}
 use lib.ListN.{length}
-use borrow.Author.Tests.{le-leb, lt-leb, lt-ltb}
-use Rattle.lists.specs.Member.{In}
-use Rattle.lists.specs.Keep.{keep, length-keep, keep-all}
+use borrow.Author.Tests.{le-leb, lt-leb, leb-false}
+use Rattle.lists.specs.Keep.{keep-all}
 use Rattle.lists.specs.Find.{find, isSome, find-in, find-none}
-use Rattle.lists.specs.Count.{count, count-keep-lt, count-is-length, count-all}
+use Rattle.lists.specs.Count.{count-keep-lt, count-all}
 use Rattle.node.specs.declared.record.NodeId.{NodeId}
 use Rattle.node.specs.declared.record.Edge.{Edge}
+use Rattle.edges.proofs.Loops.{pushed-on}
 use Rattle.edges.specs.Wiring.{endsAt, taken, dropAt, noPlace, put, wired, pushed}
 
 -- with an edge at the port, dropping it leaves fewer; without one, all
@@ -49,14 +49,17 @@ place-left es n p h = go (taken es n p) refl
         and-true' false = refl
 
 module _ (es d : List Edge) (e : Edge) (small : length es ≤ 1024) (dropped : d ≡ dropAt es (e .to) (e .port)) where
-  left : leb 1024 (length d) ≡ noPlace es (e .to) (e .port)
+  pub left : leb 1024 (length d) ≡ noPlace es (e .to) (e .port)
   left = ap (λ l. leb 1024 (length l)) dropped ∙ place-left es (e .to) (e .port) small
+
+  pub wired-room : leb 1024 (length d) ≡ false → pushed 1024 d e ≡ wired es e
+  wired-room h =
+      let room : length d < 1024 = leb-false _ _ h in
+      pushed-on 1024 d e room ∙ ap (λ l. l ++ (e ∷ [])) dropped
 
   pub put-room : length d < 1024 → pushed 1024 d e ≡ put es e
   put-room h =
-      ap (λ b. cond b (d ++ (e ∷ [])) d) (lt-ltb _ _ h)
-      ∙ ap (λ l. l ++ (e ∷ [])) dropped
-      ∙ ap (λ b. cond b es (wired es e)) (sym (lt-leb _ _ h) ∙ left)
+      wired-room (lt-leb _ _ h) ∙ ap (λ b. cond b es (wired es e)) (sym (lt-leb _ _ h) ∙ left)
 
   pub put-full : 1024 ≤ length d → es ≡ put es e
   put-full h = ap (λ b. cond b es (wired es e)) (sym (le-leb _ _ h) ∙ left)

@@ -1,8 +1,8 @@
 ghost use mathlib.Core.Path.{_≡_};
 ghost use Rattle.node.specs.Rows.{edgesOf};
 ghost use Rattle.edges.specs.Ports.{portOf, freePort, portFrom, sources, feeds};
+use crate::table::at_most;
 use crate::table::ends_at;
-use crate::table::held;
 use node::record::Edge;
 use node::record::Edges;
 use node::record::NodeId;
@@ -23,7 +23,7 @@ pub enum Source {
 pub fn free_port(edges: Edges, node: NodeId, ports: u32) -> Port
     ensures { λ r. ⌜ r ≡ portOf (freePort (edgesOf edges) node ports) ⌝ }
 {
-    let n = held(edges.count);
+    let n = at_most(edges.count, 1024);
     let mut p: u32 = 0;
     let found = 'outer: loop {
         if p >= ports {
@@ -54,7 +54,7 @@ fn leads(e: Edge, from: NodeId, to: NodeId) -> bool
 pub fn port_from(edges: Edges, from: NodeId, to: NodeId) -> Port
     ensures { λ r. ⌜ r ≡ portOf (portFrom (edgesOf edges) from to) ⌝ }
 {
-    let n = held(edges.count);
+    let n = at_most(edges.count, 1024);
     let mut i: usize = 0;
     while i < n {
         let e = edges.rows[i];
@@ -72,7 +72,7 @@ pub fn sources_of(edges: Edges, node: NodeId) -> [Source; 64]
     ensures { λ r. ⌜ r ≡ sources (edgesOf edges) node ⌝ }
 {
     let mut table = [Source::Nothing; 64];
-    let mut i = held(edges.count);
+    let mut i = at_most(edges.count, 1024);
     while i > 0 {
         i -= 1;
         let e = edges.rows[i];

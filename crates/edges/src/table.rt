@@ -7,18 +7,18 @@ use node::record::Edge;
 use node::record::Edges;
 use node::record::NodeId;
 
-// A count above the capacity is the capacity.
-pub fn held(count: usize) -> usize
-    ensures { λ r. ⌜ r ≡ min count edgeLimit ⌝ }
+// A count above the capacity of its table is the capacity.
+pub fn at_most(count: usize, limit: usize) -> usize
+    ensures { λ r. ⌜ r ≡ min count limit ⌝ }
 {
-    if count < 1024 { count } else { 1024 }
+    if count < limit { count } else { limit }
 }
 
 // How many edges the table holds.
 pub fn edge_count(t: Edges) -> usize
     ensures { λ r. ⌜ r ≡ length (edgesOf t) ⌝ }
 {
-    held(t.count)
+    at_most(t.count, 1024)
 }
 
 // Whether the edge ends at the port `port` of `node`.
@@ -32,7 +32,7 @@ pub fn ends_at(e: Edge, node: NodeId, port: u32) -> bool
 pub fn drop_port(t: Edges, node: NodeId, port: u32) -> Edges
     ensures { λ r. ⌜ edgesOf r ≡ dropAt (edgesOf t) node port ⌝ }
 {
-    let n = held(t.count);
+    let n = at_most(t.count, 1024);
     let mut out = t;
     let mut w: usize = 0;
     let mut i: usize = 0;
@@ -52,7 +52,7 @@ pub fn drop_port(t: Edges, node: NodeId, port: u32) -> Edges
 pub fn push_edge(t: Edges, e: Edge) -> Edges
     ensures { λ r. ⌜ edgesOf r ≡ pushed edgeLimit (edgesOf t) e ⌝ }
 {
-    let n = held(t.count);
+    let n = at_most(t.count, 1024);
     if n < 1024 {
         let mut out = t;
         out.rows[n] = e;
@@ -101,7 +101,7 @@ pub fn touches_any(ids: &[u32], e: Edge) -> bool
 pub fn drop_touching(t: Edges, ids: &[u32]) -> Edges
     ensures { λ r. ⌜ edgesOf r ≡ dropTouching (edgesOf t) (now (ids .entry)) ⌝ }
 {
-    let n = held(t.count);
+    let n = at_most(t.count, 1024);
     let mut out = t;
     let mut w: usize = 0;
     let mut i: usize = 0;

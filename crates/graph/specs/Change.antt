@@ -3,8 +3,8 @@
 -- Assumes nothing.
 use Prim.Native.Nat.{ℕ, _+_}
 use mathlib.Core.List.{List, [], _∷_, _++_, map}
-use mathlib.Core.Option.{Option, none, some}
-use mathlib.Core.Bool.{Bool, true, false, not}
+use mathlib.Core.Option.{some}
+use mathlib.Core.Bool.{Bool, false, not}
 use Rattle.lists.specs.Keep.{keep}
 use Rattle.lists.specs.Find.{keepO}
 use Rattle.node.specs.declared.record.NodeId.{NodeId}
@@ -29,6 +29,10 @@ append v n =
 
 abbrev pub withEdges : GraphView → List Edge → GraphView
 withEdges v es = record { nodes = v .nodes; edges = es; sink = v .sink; prepared = false; order = v .order; next = v .next }
+
+-- other records of the nodes, as after a report, a value or a glide: what is prepared stays so
+abbrev pub withNodes : GraphView → List Node → GraphView
+withNodes v ns = record { nodes = ns; edges = v .edges; sink = v .sink; prepared = v .prepared; order = v .order; next = v .next }
 
 abbrev pub edge : NodeId → NodeId → ℕ → Edge
 edge a b p = record { from = a; to = b; port = p }

@@ -4,7 +4,7 @@ use Prim.Native.Nat.{ℕ, _+_, _*_}
 use mathlib.Core.Path.{_≡_, refl}
 use mathlib.Core.List.{List, [], _∷_, map}
 use mathlib.Core.Option.{Option, none, some}
-use mathlib.Core.Bool.{Bool, true, false}
+use mathlib.Core.Bool.{false}
 use Rattle.lists.specs.Find.{mapO}
 use Rattle.node.specs.Refusal.{numberOf}
 use Rattle.node.specs.declared.record.NodeId.{NodeId}
@@ -13,7 +13,7 @@ use Rattle.node.specs.declared.record.Edge.{Edge}
 use Rattle.node.specs.declared.refusal.Refusal.{Refusal}
 use Rattle.edges.specs.Ports.{freePort, portFrom, sourceAt}
 use Rattle.graph.specs.View.{GraphView, newGraph}
-use Rattle.graph.specs.Node.{hostNode, replaced}
+use Rattle.graph.specs.Node.{hostNode}
 use Rattle.graph.specs.Change.{append, connect, disconnect, setSink, removeNode, removeVoice}
 use Rattle.graph.specs.Refuse.{addRefusal, hostRefusal, disconnectRefusal, connectRefusal}
 

@@ -40,19 +40,26 @@ abbrev pub addRefusal : GraphView → List ℕ → ℕ → ℕ → Option Refusa
 addRefusal v kind ports required = when (badKind kind ports required) PortOrKind (appendRefusal v)
 
 -- removing a host node, setting the sink: 4, 5
+abbrev pub hostTest : Option Node → Option Refusal
+hostTest n = when (dead n) UnknownNode (when (ofVoice n) VoiceNode none)
+
 abbrev pub hostRefusal : GraphView → NodeId → Option Refusal
-hostRefusal v k = when (dead (nodeAt (v .nodes) k)) UnknownNode (when (ofVoice (nodeAt (v .nodes) k)) VoiceNode none)
+hostRefusal v k = hostTest (nodeAt (v .nodes) k)
 
 -- disconnecting: 4, 5, and 6: "port outside the node's ports"
+abbrev pub portTest : Option Node → ℕ → Option Refusal
+portTest n p = when (dead n) UnknownNode (when (ofVoice n) VoiceNode (when (leb (portsOf n) p) PortOrKind none))
+
 abbrev pub disconnectRefusal : GraphView → NodeId → ℕ → Option Refusal
-disconnectRefusal v b p =
-    when (dead (nodeAt (v .nodes) b)) UnknownNode
-    (when (ofVoice (nodeAt (v .nodes) b)) VoiceNode
-    (when (leb (portsOf (nodeAt (v .nodes) b)) p) PortOrKind none))
+disconnectRefusal v b p = portTest (nodeAt (v .nodes) b) p
 
 -- connecting: 4 of either node, 5 of either node, 6, 7. "Host wiring joins host nodes only"
+abbrev pub wireTest : Option Node → Option Node → ℕ → Bool → Option Refusal
+wireTest a b p full =
+    when (dead a || dead b) UnknownNode
+    (when (ofVoice a || ofVoice b) VoiceNode
+    (when (leb (portsOf b) p) PortOrKind
+    (when full TableFull none)))
+
 abbrev pub connectRefusal : GraphView → NodeId → NodeId → ℕ → Option Refusal
-connectRefusal v a b p =
-    when (dead (nodeAt (v .nodes) a) || dead (nodeAt (v .nodes) b)) UnknownNode
-    (when (ofVoice (nodeAt (v .nodes) a) || ofVoice (nodeAt (v .nodes) b)) VoiceNode
-    (when (leb (portsOf (nodeAt (v .nodes) b)) p) PortOrKind (when (noPlace (v .edges) b p) TableFull none)))
+connectRefusal v a b p = wireTest (nodeAt (v .nodes) a) (nodeAt (v .nodes) b) p (noPlace (v .edges) b p)

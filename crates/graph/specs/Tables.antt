@@ -1,14 +1,17 @@
 -- What the tables of a graph stand for, and what its calls promise.
 -- Assumes nothing.
-use Prim.Native.Nat.{ℕ}
+use Prim.Native.Nat.{ℕ, _≤_}
 use mathlib.Core.Path.{_≡_}
 use mathlib.Core.List.{List}
 use mathlib.Core.Option.{Option, none, some}
-use mathlib.Core.Bool.{Bool, true}
-use Rattle.lists.specs.Find.{isSome}
+use mathlib.Core.Bool.{Bool, true, not}
+use lib.ListN.{length, take}
+use Rattle.lists.specs.Keep.{keep}
+use Rattle.lists.specs.Find.{isSome, or?}
 use Rattle.lists.specs.Table.{rowsOf}
 use Rattle.node.specs.Rows.{nodesOf, edgesOf}
 use Rattle.node.specs.declared.record.NodeId.{NodeId}
+use Rattle.node.specs.declared.record.Node.{Node}
 use Rattle.node.specs.declared.refusal.Refusal.{Refusal}
 use Rattle.graph.specs.declared.state.Sink.{Sink}
 use Rattle.graph.specs.declared.state.Sink.the-variants as Sink
@@ -20,7 +23,13 @@ use Rattle.graph.specs.declared.state.Given.{Given}
 use Rattle.graph.specs.declared.state.Given.the-variants as Given
 use Rattle.graph.specs.declared.state.Changed.{Changed}
 use Rattle.graph.specs.declared.state.Added.{Added}
+use Rattle.graph.specs.declared.nodes.Seen.{Seen}
+use Rattle.graph.specs.declared.removal.Which.{Which}
+use Rattle.graph.specs.declared.removal.Which.the-variants as Which
+use Rattle.graph.specs.declared.removal.Parted.{Parted}
 use Rattle.graph.specs.View.{GraphView}
+use Rattle.graph.specs.Node.{isNode, ownedBy}
+use Rattle.graph.specs.Change.{idsOf}
 
 abbrev pub sinkOf : Sink → Option NodeId
 sinkOf (Sink.Node k) = some k
@@ -39,6 +48,22 @@ viewOf g =
       order = orderOf (g .order);
       next = g .next;
     }
+
+-- a row that was looked for
+abbrev pub seenOf : Seen → Option Node
+seenOf s = or? (s .live) (s .node) none
+
+-- which nodes go
+abbrev pub goes : Which → Node → Bool
+goes (Which.One k) n = isNode k n
+goes (Which.Voice w) n = ownedBy w n
+
+-- the nodes that stay, and the ids of those that go
+pub record Parts (nodes : List Node) (which : Which) (r : Parted) : Type 0 where
+  pub stay : nodesOf (r .nodes) ≡ keep (λ n. not (goes which n)) nodes
+  pub leave : take (r .count) (r .ids) ≡ idsOf (λ n. goes which n) nodes
+  pub fits : r .count ≤ 512
+  pub long : length (r .ids) ≡ 512
 
 -- the answers: done, or the refusal
 abbrev pub answerOf : Option Refusal → Answer

@@ -1,3 +1,7 @@
+ghost use mathlib.Core.Path.{_≡_};
+ghost use Rattle.node.specs.Rows.{nodesOf, edgesOf};
+ghost use Rattle.graph.specs.Change.{withEdges, withNodes};
+ghost use Rattle.graph.specs.Tables.{viewOf};
 use node::record::Edges;
 use node::record::NodeId;
 use node::record::Nodes;
@@ -45,4 +49,38 @@ pub struct Changed {
 pub struct Added {
     pub graph: Graph,
     pub given: Given,
+}
+
+// The graph with other edges, unprepared.
+pub fn with_edges(g: Graph, edges: Edges) -> Graph
+    ensures { λ r. ⌜ viewOf r ≡ withEdges (viewOf g) (edgesOf edges) ⌝ }
+{
+    let nodes = g.nodes;
+    let sink = g.sink;
+    let order = g.order;
+    Graph {
+        nodes,
+        edges,
+        sink,
+        prepared: false,
+        order,
+        next: g.next,
+    }
+}
+
+// The graph with other records of its nodes, prepared if it was.
+pub fn with_nodes(g: Graph, nodes: Nodes) -> Graph
+    ensures { λ r. ⌜ viewOf r ≡ withNodes (viewOf g) (nodesOf nodes) ⌝ }
+{
+    let edges = g.edges;
+    let sink = g.sink;
+    let order = g.order;
+    Graph {
+        nodes,
+        edges,
+        sink,
+        prepared: g.prepared,
+        order,
+        next: g.next,
+    }
 }

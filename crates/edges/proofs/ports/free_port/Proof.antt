@@ -1,26 +1,17 @@
-use Prim.Native.Nat.{ℕ, zero, suc, _+_, _*_, _≤_, _<_, _-_, min}
+use Prim.Native.Nat.{_≤_, _<_, _-_}
 use mathlib.Core.Path.{_≡_, refl, sym, ap, _∙_}
-use mathlib.Core.List.{List, [], _∷_, _++_}
-use mathlib.Core.Bool.{Bool, true, false}
-use mathlib.Core.Logic.{⊎-elim}
 use native.Mathlib.Omega.{arith}
-use native.Mathlib.Numerals.{add-one}
-use lib.ListN.{length, take, drop, getD, set}
+use lib.ListN.{length, take, drop, length-map, length-take}
 use borrow.Author.Needs.{needs}
-use lib.ListN.{length-map, length-take}
-use Rattle.lists.specs.Find.{find, isSome, mapO}
+use Rattle.lists.specs.Find.{find, isSome}
 use Rattle.lists.specs.Table.{left-row}
 use Rattle.edges.specs.Wiring.{endsAt, taken}
-use Rattle.edges.specs.Ports.{portOf, feeds, lowest, sourceAt, sourceOf}
-use Rattle.edges.proofs.Loops.{rows-seen, find-hit, find-pass, find-over}
+use Rattle.edges.specs.Ports.{portOf, lowest}
+use Rattle.edges.proofs.Loops.{find-hit, find-pass, find-over}
 use native.Mathlib.Nat.{sub-zero}
 use Rattle.edges.proofs.Search.{lowest-pass, lowest-found, lowest-none}
 use Rattle.edges.proofs.ports.free_port.Statement.{statement}
 use Rattle.edges.proofs.ports.free_port.Tie as tie
-use Rattle.edges.proofs.ports.free_port.Reads as reads
-use Rattle.edges.proofs.ports.free_port.Lts as lts
-use Rattle.edges.proofs.table.ends_at.Reads as ends-at-reads
-use Rattle.edges.proofs.table.held.Reads as held-reads
 
 abbrev Inv-loop : tie.InvT-loop
 Inv-loop node ports edges n p₀ i₀ p i =
@@ -36,47 +27,38 @@ Inv-outer node ports edges n p₀ p = (p ≤ ports) × (lowest (ports - p) (take
 abbrev μ-outer : tie.MeasureT-outer
 μ-outer node ports edges n p₀ p = ports - p
 
--- src/ports.rt:23:9
 rows-long : (c : tie.Start Inv-loop μ-loop Inv-outer μ-outer) → length (c .args .t1 .rows) ≡ 1024
 rows-long c = simp length-map at (c .good .0 .1 .1 .0 .1 .0 .1)
 
-held-requires : tie.Need-held-requires Inv-loop μ-loop Inv-outer μ-outer
-held-requires c κs = search needs
+at-most-requires : tie.Need-at-most-requires Inv-loop μ-loop Inv-outer μ-outer
+at-most-requires c κs = search needs
 
--- src/ports.rt:25:9
 outer-holds : tie.Need-outer-holds Inv-loop μ-loop Inv-outer μ-outer
 outer-holds c = (search needs, rw sub-zero)
 
--- src/ports.rt:30:9
 loop-holds : tie.Need-loop-holds Inv-loop μ-loop Inv-outer μ-outer
 loop-holds c = (refl, omega arith, c .before .outer .inv .1, refl)
 
--- src/ports.rt:31:21
 mul-e : tie.Need-mul-e Inv-loop μ-loop Inv-outer μ-outer
 mul-e c = search needs
 
--- src/ports.rt:31:21
 element-copy-out-e : tie.Need-element-copy-out-e Inv-loop μ-loop Inv-outer μ-outer
 element-copy-out-e c = search needs
 
--- src/ports.rt:32:16
 ends-at-requires : tie.Need-ends-at-requires Inv-loop μ-loop Inv-outer μ-outer
 ends-at-requires c κs = search needs
 
--- src/ports.rt:33:17
 add-p : tie.Need-add-p Inv-loop μ-loop Inv-outer μ-outer
 add-p c = search needs
 
--- src/ports.rt:25:9
 outer-less : tie.Need-outer-less Inv-loop μ-loop Inv-outer μ-outer
 outer-less c = search needs
 
--- src/ports.rt:25:9
 outer-again : tie.Need-outer-again Inv-loop μ-loop Inv-outer μ-outer
 outer-again c =
     let s = c .before .before .before .before .before .before .before .before in
     let l = c .before .before .before .before .loop in
-    let n = c .before .before .before .before .before .before .before .held .result in
+    let n = c .before .before .before .before .before .before .before .at-most .result in
     let long = rows-long s in
     let h : l .p < s .args .ports = omega arith in
     let more : l .i < n = omega arith in
@@ -85,20 +67,17 @@ outer-again c =
     let hit = find-hit (endsAt (s .args .node) (l .p)) (take n (s .args .t1 .rows)) (l .i) _ row (sym (c .before .ends-at .ensures) ∙ c .if2 .taken) in
     (omega arith, sym (lowest-pass (take n (s .args .t1 .rows)) (s .args .node) (s .args .ports) (l .p) h (ap isSome (sym (l .inv .3) ∙ hit))) ∙ l .inv .2)
 
--- src/ports.rt:36:13
 add-i : tie.Need-add-i Inv-loop μ-loop Inv-outer μ-outer
 add-i c = search needs
 
--- src/ports.rt:30:9
 loop-less : tie.Need-loop-less Inv-loop μ-loop Inv-outer μ-outer
 loop-less c = search needs
 
--- src/ports.rt:30:9
 loop-again : tie.Need-loop-again Inv-loop μ-loop Inv-outer μ-outer
 loop-again c =
     let s = c .before .before .before .before .before .before .before .before in
     let l = c .before .before .before .before .loop in
-    let n = c .before .before .before .before .before .before .before .held .result in
+    let n = c .before .before .before .before .before .before .before .at-most .result in
     let long = rows-long s in
     let more : l .i < n = omega arith in
     let inside : n ≤ length (s .args .t1 .rows) = omega arith in
@@ -109,24 +88,22 @@ loop-again c =
       find-pass (endsAt (s .args .node) (l .p)) (take n (s .args .t1 .rows)) (l .i) _ row (sym (c .before .ends-at .ensures) ∙ c .if2 .left) ∙ l .inv .3,
     )
 
--- src/ports.rt:20:1
 returns : tie.Need-returns Inv-loop μ-loop Inv-outer μ-outer
 returns c =
     let s = c .before .before .before in
     let h : s .args .ports ≤ c .before .outer .p = omega arith in
-    rw (← (c .before .before .held .ensures)) (ap portOf (sym (lowest-none _ _ _ _ h) ∙ c .before .outer .inv .1))
+    rw (← (c .before .before .at-most .ensures)) (ap portOf (sym (lowest-none _ _ _ _ h) ∙ c .before .outer .inv .1))
 
--- src/ports.rt:20:1
 returns-2 : tie.Need-returns-2 Inv-loop μ-loop Inv-outer μ-outer
 returns-2 c =
     let s = c .before .before .before .before .before in
     let l = c .before .loop in
-    let n = c .before .before .before .before .held .result in
+    let n = c .before .before .before .before .at-most .result in
     let long = rows-long s in
     let h : l .p < s .args .ports = omega arith in
     let over : length (take n (s .args .t1 .rows)) ≤ l .i = rw length-take (omega arith) in
     let free = find-over (endsAt (s .args .node) (l .p)) (take n (s .args .t1 .rows)) (l .i) over in
-    rw (← (c .before .before .before .before .held .ensures)) (ap portOf (sym (lowest-found _ (s .args .node) _ (l .p) h (ap isSome (sym (l .inv .3) ∙ free))) ∙ l .inv .2))
+    rw (← (c .before .before .before .before .at-most .ensures)) (ap portOf (sym (lowest-found _ (s .args .node) _ (l .p) h (ap isSome (sym (l .inv .3) ∙ free))) ∙ l .inv .2))
 
 pub free-port-spec : {M : Type 1} → statement M
 free-port-spec =
@@ -136,7 +113,7 @@ free-port-spec =
     μ-loop
     Inv-outer
     μ-outer
-    held-requires
+    at-most-requires
     outer-holds
     loop-holds
     mul-e

@@ -1,11 +1,7 @@
-use Prim.Native.Nat.{ℕ, zero, suc, _+_, _*_, _≤_, _<_, _-_, min}
+use Prim.Native.Nat.{_≤_, _<_, _-_}
 use mathlib.Core.Path.{_≡_, refl, sym, ap, _∙_}
-use mathlib.Core.List.{List, [], _∷_, _++_}
-use mathlib.Core.Bool.{Bool, true, false}
-use mathlib.Core.Logic.{⊎-elim}
 use native.Mathlib.Omega.{arith}
-use native.Mathlib.Numerals.{add-one}
-use lib.ListN.{length, take, drop, getD, set}
+use lib.ListN.{length, drop}
 use borrow.Author.Needs.{needs}
 use lib.Dec.{eqb}
 use borrow.Author.Tests.{eq-eqb, ne-eqb}
@@ -14,8 +10,6 @@ use Rattle.lists.specs.Table.{left-cons}
 use Rattle.edges.proofs.Loops.{find-hit, find-pass, find-over}
 use Rattle.edges.proofs.table.is_among.Statement.{statement}
 use Rattle.edges.proofs.table.is_among.Tie as tie
-use Rattle.edges.proofs.table.is_among.Reads as reads
-use Rattle.edges.proofs.table.is_among.Lts as lts
 
 abbrev Inv-loop : tie.InvT-loop
 Inv-loop ids id i₀ i = (i ≤ length ids) × (find (λ k. eqb k (id .0)) (drop i ids) ≡ find (λ k. eqb k (id .0)) ids)
@@ -23,19 +17,15 @@ Inv-loop ids id i₀ i = (i ≤ length ids) × (find (λ k. eqb k (id .0)) (drop
 abbrev μ-loop : tie.MeasureT-loop
 μ-loop ids id i₀ i = length ids - i
 
--- src/table.rt:82:5
 loop-holds : tie.Need-loop-holds Inv-loop μ-loop
 loop-holds c = (omega arith, refl)
 
--- src/table.rt:83:12
 mul-if1 : tie.Need-mul-if1 Inv-loop μ-loop
 mul-if1 c = search needs
 
--- src/table.rt:83:12
 shared-slice-read-if1 : tie.Need-shared-slice-read-if1 Inv-loop μ-loop
 shared-slice-read-if1 c = search needs
 
--- src/table.rt:84:13
 returns : tie.Need-returns Inv-loop μ-loop
 returns c =
     let s = c .before .before .before .before .before in
@@ -44,15 +34,12 @@ returns c =
     let row = left-cons _ (s .args .ids .now) (l .i) more in
     ap isSome (sym (find-hit (λ k. eqb k (s .args .id .0)) (s .args .ids .now) (l .i) _ row (eq-eqb _ _ (c .if1 .taken))) ∙ l .inv .1)
 
--- src/table.rt:86:9
 add-i : tie.Need-add-i Inv-loop μ-loop
 add-i c = search needs
 
--- src/table.rt:82:5
 loop-less : tie.Need-loop-less Inv-loop μ-loop
 loop-less c = search needs
 
--- src/table.rt:82:5
 loop-again : tie.Need-loop-again Inv-loop μ-loop
 loop-again c =
     let s = c .before .before .before .before .before in
@@ -61,7 +48,6 @@ loop-again c =
     let row = left-cons _ (s .args .ids .now) (l .i) more in
     (omega arith, find-pass (λ k. eqb k (s .args .id .0)) (s .args .ids .now) (l .i) _ row (ne-eqb _ _ (c .if1 .left)) ∙ l .inv .1)
 
--- src/table.rt:78:1
 returns-2 : tie.Need-returns-2 Inv-loop μ-loop
 returns-2 c =
     let s = c .before .before in
