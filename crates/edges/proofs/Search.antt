@@ -26,11 +26,11 @@ module _ (es : List Edge) (n : NodeId) (top p : ℕ) where
   left-one : p < top → top - p ≡ suc (top - (p + 1))
   left-one h = omega arith
 
-  pub lowest-pass : p < top → taken es n p ≡ true → lowest (top - p) es n p ≡ lowest (top - (p + 1)) es n (p + 1)
-  lowest-pass h e = rw (left-one h, e, add-one)
-
   pub lowest-found : p < top → taken es n p ≡ false → lowest (top - p) es n p ≡ some p
   lowest-found h e = rw (left-one h, e)
+
+  pub lowest-pass : p < top → taken es n p ≡ true → lowest (top - p) es n p ≡ lowest (top - (p + 1)) es n (p + 1)
+  lowest-pass h e = rw (left-one h, e, add-one)
 
   pub lowest-none : top ≤ p → lowest (top - p) es n p ≡ none
   lowest-none h = let z : top - p ≡ 0 = omega arith in rw z
