@@ -22,10 +22,6 @@ module _ {A : Type 0} where
   pub rows-small : (limit count : ℕ) (rows : List A) → length (rowsOf limit count rows) ≤ limit
   rows-small limit count rows = rw length-take (omega arith)
 
-  -- the rows that a loop over n of them sees
-  pub rows-seen : (limit count n : ℕ) (rows : List A) → length rows ≡ limit → n ≡ length (rowsOf limit count rows) → take n rows ≡ rowsOf limit count rows
-  rows-seen limit count n rows h e = ap (λ k. take k rows) (e ∙ rows-count limit count rows h)
-
   -- one row more, if there is a place
   pub pushed-on : (limit : ℕ) (l : List A) (x : A) → length l < limit → pushed limit l x ≡ l ++ (x ∷ [])
   pushed-on limit l x h = ap (λ b. cond b (l ++ (x ∷ [])) l) (lt-ltb _ _ h)

@@ -19,26 +19,34 @@ use Rattle.graph.specs.declared.state.Answer.{Answer}
 use Rattle.graph.specs.declared.state.Answer.the-variants as Answer
 use Rattle.graph.specs.declared.nodes.Seen.{Seen}
 use Rattle.graph.specs.declared.state.Given.the-variants as Given
+use Rattle.graph.specs.declared.state.Changed.{Changed}
 use Rattle.graph.specs.declared.state.Added.{Added}
 use Rattle.graph.specs.View.{GraphView}
 use Rattle.graph.specs.Node.{ofVoice, portsOf}
 use Rattle.graph.specs.Refuse.{when, dead, wireTest, appendRefusal}
-use Rattle.graph.specs.Tables.{viewOf, seenOf, answerOf, Changes, Gives}
+use Rattle.graph.specs.Call.{attempt, grant}
+use Rattle.graph.specs.Tables.{viewOf, seenOf, answerOf, outcomeOf, grantOf, Kept, KeptToo}
+
+abbrev pub Changes : Graph → Option Refusal → GraphView → Changed → Type 0
+Changes g o new r = (outcomeOf r ≡ attempt o (viewOf g) new) × Kept g r
+
+abbrev pub Gives : Graph → Option Refusal → GraphView → Added → Type 0
+Gives g o new r = (grantOf r ≡ grant o (viewOf g) new) × KeptToo g r
 
 module _ (g : Graph) (o : Option Refusal) (new : GraphView) where
   -- refused: the very graph
   pub changes-refused : (x : Refusal) → o ≡ some x → Changes g o new (record { graph = g; answer = Answer.Refused x })
-  changes-refused x e = rw e (record { says = refl; leaves = refl; same = λ h. refl })
+  changes-refused x e = (ap (λ k. attempt k (viewOf g) new) (sym e), λ y h. refl)
 
   pub gives-refused : (x : Refusal) → o ≡ some x → Gives g o new (record { graph = g; given = Given.Refused x })
-  gives-refused x e = rw e (record { says = refl; leaves = refl; same = λ h. refl })
+  gives-refused x e = (ap (λ k. grant k (viewOf g) new) (sym e), λ y h. refl)
 
   -- done: the new graph
   pub changes-done : (h : Graph) → o ≡ none → viewOf h ≡ new → Changes g o new (record { graph = h; answer = Answer.Done })
-  changes-done h e v = rw e (record { says = refl; leaves = v; same = λ t. absurd (let z : _≡_ {A = ℕ} 0 1 = cc in omega arith) })
+  changes-done h e v = (ap (attempt none (viewOf g)) v ∙ ap (λ k. attempt k (viewOf g) new) (sym e), λ y t. absurd (let z : _≡_ {A = ℕ} 0 1 = cc in omega arith))
 
   pub gives-done : (h : Graph) → o ≡ none → viewOf h ≡ new → Gives g o new (record { graph = h; given = Given.Id (record { 0 = g .next }) })
-  gives-done h e v = rw e (record { says = refl; leaves = v; same = λ t. absurd (let z : _≡_ {A = ℕ} 0 1 = cc in omega arith) })
+  gives-done h e v = (ap (grant none (viewOf g)) v ∙ ap (λ k. grant k (viewOf g) new) (sym e), λ y t. absurd (let z : _≡_ {A = ℕ} 0 1 = cc in omega arith))
 
 pub gives-same : (g : Graph) (o o' : Option Refusal) (new new' : GraphView) (r : Added) → o ≡ o' → new ≡ new' → Gives g o new r → Gives g o' new' r
 gives-same g o o' new new' r e f h = subst (λ x. Gives g x new' r) e (subst (λ x. Gives g o x r) f h)

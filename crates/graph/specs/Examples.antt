@@ -54,8 +54,8 @@ ports-full = refl
 ports-lowest : freePort (disconnect (disconnect wires (node 0) 2) (node 0) 1 .edges) (node 0) 3 ≡ some 1
 ports-lowest = refl
 
-fed : portFrom (wires .edges) (node 3) (node 0) ≡ some 0
-fed = refl
+feeds-port : portFrom (wires .edges) (node 3) (node 0) ≡ some 0
+feeds-port = refl
 
 source : sourceAt (wires .edges) (node 0) 0 ≡ some (node 3)
 source = refl

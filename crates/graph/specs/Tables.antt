@@ -1,13 +1,13 @@
 -- What the tables of a graph stand for, and what its calls promise.
 -- Assumes nothing.
-use Prim.Native.Nat.{ℕ, _≤_}
+use Prim.Native.Nat.{_≤_}
 use mathlib.Core.Path.{_≡_}
 use mathlib.Core.List.{List}
 use mathlib.Core.Option.{Option, none, some}
-use mathlib.Core.Bool.{Bool, true, not}
+use mathlib.Core.Bool.{Bool, not}
 use lib.ListN.{length, take}
 use Rattle.lists.specs.Keep.{keep}
-use Rattle.lists.specs.Find.{isSome, or?}
+use Rattle.lists.specs.Find.{or?}
 use Rattle.lists.specs.Table.{rowsOf}
 use Rattle.node.specs.Rows.{nodesOf, edgesOf}
 use Rattle.node.specs.declared.record.NodeId.{NodeId}
@@ -30,6 +30,7 @@ use Rattle.graph.specs.declared.removal.Parted.{Parted}
 use Rattle.graph.specs.View.{GraphView}
 use Rattle.graph.specs.Node.{isNode, ownedBy}
 use Rattle.graph.specs.Change.{idsOf}
+use Rattle.graph.specs.Call.{Outcome, Grant}
 
 abbrev pub sinkOf : Sink → Option NodeId
 sinkOf (Sink.Node k) = some k
@@ -65,29 +66,21 @@ pub record Parts (nodes : List Node) (which : Which) (r : Parted) : Type 0 where
   pub fits : r .count ≤ 512
   pub long : length (r .ids) ≡ 512
 
--- the answers: done, or the refusal
+-- the answer of a test
 abbrev pub answerOf : Option Refusal → Answer
 answerOf none = Answer.Done
 answerOf (some r) = Answer.Refused r
 
--- the id, or the refusal
-abbrev pub givenOf : Option Refusal → ℕ → Given
-givenOf none k = Given.Id (record { 0 = k })
-givenOf (some r) k = Given.Refused r
+-- what a call left
+abbrev pub outcomeOf : Changed → Outcome
+outcomeOf r = record { answer = r .answer; graph = viewOf (r .graph) }
 
--- "Each refusal leaves the store unchanged"
-abbrev pub unless : Option Refusal → GraphView → GraphView → GraphView
-unless none old new = new
-unless (some r) old new = old
+abbrev pub grantOf : Added → Grant
+grantOf r = record { given = r .given; graph = viewOf (r .graph) }
 
--- a call on the graph g, refused or with the graph `new`; a refusal gives back the very graph
-pub record Changes (g : Graph) (refusal : Option Refusal) (new : GraphView) (r : Changed) : Type 0 where
-  pub says : r .answer ≡ answerOf refusal
-  pub leaves : viewOf (r .graph) ≡ unless refusal (viewOf g) new
-  pub same : isSome refusal ≡ true → r .graph ≡ g
+-- a refusal gives back the very graph
+abbrev pub Kept : Graph → Changed → Type 0
+Kept g r = (x : Refusal) → r .answer ≡ Answer.Refused x → r .graph ≡ g
 
--- the same of a call that gives the next id
-pub record Gives (g : Graph) (refusal : Option Refusal) (new : GraphView) (r : Added) : Type 0 where
-  pub says : r .given ≡ givenOf refusal (g .next)
-  pub leaves : viewOf (r .graph) ≡ unless refusal (viewOf g) new
-  pub same : isSome refusal ≡ true → r .graph ≡ g
+abbrev pub KeptToo : Graph → Added → Type 0
+KeptToo g r = (x : Refusal) → r .given ≡ Given.Refused x → r .graph ≡ g

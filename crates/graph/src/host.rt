@@ -1,9 +1,8 @@
 ghost use mathlib.Core.Path.{_≡_};
 ghost use Rattle.graph.specs.View.{newGraph};
 ghost use Rattle.graph.specs.Node.{hostNode};
-ghost use Rattle.graph.specs.Change.{append, connect, disconnect, setSink, removeNode};
-ghost use Rattle.graph.specs.Refuse.{addRefusal, appendRefusal, hostRefusal, disconnectRefusal, connectRefusal};
-ghost use Rattle.graph.specs.Tables.{viewOf, Changes, Gives};
+ghost use Rattle.graph.specs.Call.{appendCall, addCall, removeCall, connectCall, disconnectCall, sinkCall};
+ghost use Rattle.graph.specs.Tables.{viewOf, outcomeOf, grantOf, Kept, KeptToo};
 use crate::nodes::node_at;
 use crate::nodes::node_count;
 use crate::nodes::push_node;
@@ -87,7 +86,8 @@ pub fn new_graph() -> Graph
 
 // A node is appended under the next id.
 pub fn append_node(g: Graph, n: Node) -> Added
-    ensures { λ r. ⌜ Gives g (appendRefusal (viewOf g)) (append (viewOf g) n) r ⌝ }
+    ensures is { λ r. ⌜ grantOf r ≡ appendCall (viewOf g) n ⌝ }
+    ensures same { λ r. ⌜ KeptToo g r ⌝ }
 {
     let nodes = g.nodes;
     if node_count(nodes) >= 512 {
@@ -133,7 +133,8 @@ pub fn add_node(
     values: bool,
     glides: bool,
 ) -> Added
-    ensures { λ r. ⌜ Gives g (addRefusal (viewOf g) (now (kind .entry)) ports required) (append (viewOf g) (hostNode (now (kind .entry)) ports required values glides)) r ⌝ }
+    ensures is { λ r. ⌜ grantOf r ≡ addCall (viewOf g) (now (kind .entry)) ports required values glides ⌝ }
+    ensures same { λ r. ⌜ KeptToo g r ⌝ }
 {
     if is_bad_kind(kind, ports, required) {
         return Added {
@@ -146,7 +147,8 @@ pub fn add_node(
 
 // The host removes one of its nodes, with its edges.
 pub fn remove_node(g: Graph, node: NodeId) -> Changed
-    ensures { λ r. ⌜ Changes g (hostRefusal (viewOf g) node) (removeNode (viewOf g) node) r ⌝ }
+    ensures is { λ r. ⌜ outcomeOf r ≡ removeCall (viewOf g) node ⌝ }
+    ensures same { λ r. ⌜ Kept g r ⌝ }
 {
     let nodes = g.nodes;
     let test = host_test(node_at(nodes, node));
@@ -167,7 +169,8 @@ pub fn remove_node(g: Graph, node: NodeId) -> Changed
 
 // The output of `from` feeds the port `port` of `to`, in the place of what fed it.
 pub fn connect(g: Graph, from: NodeId, to: NodeId, port: u32) -> Changed
-    ensures { λ r. ⌜ Changes g (connectRefusal (viewOf g) from to port) (connect (viewOf g) from to port) r ⌝ }
+    ensures is { λ r. ⌜ outcomeOf r ≡ connectCall (viewOf g) from to port ⌝ }
+    ensures same { λ r. ⌜ Kept g r ⌝ }
 {
     let nodes = g.nodes;
     let edges = g.edges;
@@ -192,7 +195,8 @@ pub fn connect(g: Graph, from: NodeId, to: NodeId, port: u32) -> Changed
 
 // Nothing feeds the port `port` of `to` any more.
 pub fn disconnect(g: Graph, to: NodeId, port: u32) -> Changed
-    ensures { λ r. ⌜ Changes g (disconnectRefusal (viewOf g) to port) (disconnect (viewOf g) to port) r ⌝ }
+    ensures is { λ r. ⌜ outcomeOf r ≡ disconnectCall (viewOf g) to port ⌝ }
+    ensures same { λ r. ⌜ Kept g r ⌝ }
 {
     let nodes = g.nodes;
     let test = port_test(node_at(nodes, to), port);
@@ -215,7 +219,8 @@ pub fn disconnect(g: Graph, to: NodeId, port: u32) -> Changed
 
 // The host hears `node`.
 pub fn set_sink(g: Graph, node: NodeId) -> Changed
-    ensures { λ r. ⌜ Changes g (hostRefusal (viewOf g) node) (setSink (viewOf g) node) r ⌝ }
+    ensures is { λ r. ⌜ outcomeOf r ≡ sinkCall (viewOf g) node ⌝ }
+    ensures same { λ r. ⌜ Kept g r ⌝ }
 {
     let nodes = g.nodes;
     let test = host_test(node_at(nodes, node));

@@ -4,7 +4,7 @@ use Rattle.node.specs.Rows.{edgesOf}
 use Rattle.graph.specs.Tables.{viewOf, seenOf, answerOf}
 use lib.Dec.{leb}
 use Rattle.graph.specs.Refuse.{wireTest, connectRefusal}
-use Rattle.graph.specs.Change.{edge, withEdges}
+use Rattle.graph.specs.Change.{edge, connect, withEdges}
 use Rattle.edges.proofs.Loops.{rows-small}
 use Rattle.edges.proofs.Wiring.{left, wired-room}
 use Rattle.graph.proofs.Calls.{changes-refused, changes-done, answer-refused, answer-done, wire-same, wire-room}
@@ -46,7 +46,7 @@ returns c =
     let tests : wireTest (seenOf (c .before .before .before .before .before .node-at .result)) (seenOf (c .before .before .before .before .node-at2 .result)) (s .args .port) (leb 1024 (c .before .before .before .before .before .before .edge-count .result)) ≡ connectRefusal (viewOf (s .args .g)) (s .args .from) (s .args .to) (s .args .port)
     = wire-same _ _ _ _ (s .args .port) _ _ (c .before .before .before .before .before .node-at .ensures) (c .before .before .before .before .node-at2 .ensures) full in
     let told = ap answerOf (sym tests) ∙ sym (c .before .before .before .wire-test .ensures) in
-    changes-refused (s .args .g) _ _ _ (answer-refused _ _ (told ∙ c .before .test .given .1))
+    changes-refused (s .args .g) (connectRefusal (viewOf (s .args .g)) (s .args .from) (s .args .to) (s .args .port)) (connect (viewOf (s .args .g)) (s .args .from) (s .args .to) (s .args .port)) _ (answer-refused (connectRefusal (viewOf (s .args .g)) (s .args .from) (s .args .to) (s .args .port)) _ (told ∙ c .before .test .given .1))
 
 returns-2 : tie.Need-returns-2
 returns-2 c =
@@ -56,8 +56,8 @@ returns-2 c =
     let tests : wireTest (seenOf (c .before .before .before .before .before .before .node-at .result)) (seenOf (c .before .before .before .before .before .node-at2 .result)) (s .args .port) (leb 1024 (c .before .before .before .before .before .before .before .edge-count .result)) ≡ connectRefusal (viewOf (s .args .g)) (s .args .from) (s .args .to) (s .args .port)
     = wire-same _ _ _ _ (s .args .port) _ _ (c .before .before .before .before .before .before .node-at .ensures) (c .before .before .before .before .before .node-at2 .ensures) full in
     let told = ap answerOf (sym tests) ∙ sym (c .before .before .before .before .wire-test .ensures) in
-    let fine = answer-done _ (told ∙ c .before .before .enum-told .given .1) in
-    changes-done (s .args .g) _ _ (c .with-edges .result) fine
+    let fine = answer-done (connectRefusal (viewOf (s .args .g)) (s .args .from) (s .args .to) (s .args .port)) (told ∙ c .before .before .enum-told .given .1) in
+    changes-done (s .args .g) (connectRefusal (viewOf (s .args .g)) (s .args .from) (s .args .to) (s .args .port)) (connect (viewOf (s .args .g)) (s .args .from) (s .args .to) (s .args .port)) (c .with-edges .result) fine
     (c .with-edges .ensures ∙ ap (withEdges (viewOf (s .args .g))) (c .before .push-edge .ensures ∙ wired-room (edgesOf (s .args .g .edges)) (edgesOf (d .result)) (edge (s .args .from) (s .args .to) (s .args .port)) (rows-small 1024 (s .args .g .edges .count) (s .args .g .edges .rows)) (d .ensures) (ap (leb 1024) (sym (c .before .before .before .before .before .before .before .edge-count .ensures)) ∙ wire-room (seenOf (c .before .before .before .before .before .before .node-at .result)) (seenOf (c .before .before .before .before .before .node-at2 .result)) (s .args .port) _ (tests ∙ fine))))
 
 pub connect-spec : {M : Type 1} → statement M
