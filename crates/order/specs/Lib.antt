@@ -1,0 +1,5 @@
+pub mod Live
+pub mod Required
+pub mod Prepare
+pub mod Examples
+pub mod Parts
