@@ -1,0 +1,20 @@
+-- The tables of a definition: "1 to 24 nodes of 0 to 8 ports, up to 48 edges and 8 parameters". A count above the capacity is
+-- the capacity.
+-- Assumes nothing.
+use mathlib.Core.List.{List}
+use Rattle.lists.specs.Table.{rowsOf}
+use Rattle.synthdef.specs.declared.def.DefNode.{DefNode}
+use Rattle.synthdef.specs.declared.def.DefNodes.{DefNodes}
+use Rattle.synthdef.specs.declared.def.DefEdge.{DefEdge}
+use Rattle.synthdef.specs.declared.def.DefEdges.{DefEdges}
+use Rattle.synthdef.specs.declared.def.Param.{Param}
+use Rattle.synthdef.specs.declared.def.Params.{Params}
+
+abbrev pub nodeRows : DefNodes → List DefNode
+nodeRows t = rowsOf 24 (t .count) (t .rows)
+
+abbrev pub edgeRows : DefEdges → List DefEdge
+edgeRows t = rowsOf 48 (t .count) (t .rows)
+
+abbrev pub paramRows : Params → List Param
+paramRows t = rowsOf 8 (t .count) (t .rows)
