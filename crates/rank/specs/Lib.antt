@@ -1,0 +1,3 @@
+pub mod Order
+pub mod Cycle
+pub mod Examples
