@@ -2,3 +2,5 @@
 // that says when a voice built from it has fallen silent.
 pub mod def;
 pub mod edges;
+pub mod params;
+pub mod plan;
