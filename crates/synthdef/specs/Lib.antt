@@ -1,6 +1,7 @@
 pub mod Rows
 pub mod Tables
 pub mod Edges
+pub mod EdgeLaws
 pub mod Params
 pub mod Limits
 pub mod Silent
