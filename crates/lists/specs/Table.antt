@@ -2,14 +2,14 @@
 -- The laws of loops that walk, extend and close such a table, for any row type and capacity; `i + 1` as the code says it.
 -- What the toolchain has already (`take-suc-set`, `take-set-le`, `getD-take`, `drop-cons`, `set-at` of `lib.Seq`) is cited.
 -- Assumes nothing.
-use Prim.Native.Nat.{ℕ, zero, suc, _+_, _-_, _≤_, _<_, min}
+use Prim.Native.Nat.{ℕ, suc, _+_, _-_, _≤_, _<_, min}
 use native.Mathlib.Omega.{arith}
 use native.Mathlib.Numerals.{add-one}
 use mathlib.Core.Path.{_≡_, refl, sym, ap, _∙_}
 use mathlib.Core.List.{List, [], _∷_, _++_}
-use mathlib.Core.Bool.{Bool, true, false}
-use lib.ListN.{length, take, drop, getD, set, replicate, length-take, length-drop}
-use lib.Seq.{take-suc, drop-cons, getD-take, take-suc-set, length-take-le, set-at, append-snoc, take-set-le, drop-nil, drop-append-seam, take-append-seam, take-all}
+use mathlib.Core.Bool.{Bool, true, false, cond}
+use lib.ListN.{length, take, drop, getD, set, replicate}
+use lib.Seq.{take-suc, drop-cons, getD-take, take-suc-set, length-take-le, set-at, append-snoc}
 use Rattle.lists.specs.Keep.{keep, keep-snoc-on, keep-snoc-off}
 
 -- the rows of a table
@@ -66,3 +66,16 @@ module _ {A : Type 0} (d : A) (t : A → Bool) where
       → take w new ≡ keep t (take (i + 1) old)
   drop-row old new i w h e p =
       e ∙ sym (keep-snoc-off t (take i old) (getD old i d) p) ∙ ap (keep t) (sym (passed-row d old i h))
+
+-- A lookup: what the first row that passes says, or r where none does. Its two laws are those of a loop that walks the table,
+-- whatever its length.
+abbrev pub lookup : {A R : Type 0} → (A → Bool) → (A → R) → R → List A → R
+lookup t f r [] = r
+lookup t f r (x ∷ l) = cond (t x) (f x) (lookup t f r l)
+
+module _ {A R : Type 0} (d : A) (t : A → Bool) (f : A → R) (r : R) where
+  pub lookup-hit : (l : List A) (i : ℕ) → i < length l → t (getD l i d) ≡ true → lookup t f r (drop i l) ≡ f (getD l i d)
+  lookup-hit l i h p = ap (lookup t f r) (left-cons d l i h) ∙ rw p
+
+  pub lookup-next : (l : List A) (i : ℕ) → i < length l → t (getD l i d) ≡ false → lookup t f r (drop (i + 1) l) ≡ lookup t f r (drop i l)
+  lookup-next l i h p = sym (ap (lookup t f r) (left-cons d l i h) ∙ rw p)

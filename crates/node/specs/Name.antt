@@ -1,6 +1,6 @@
 -- Names: "Names (`String`) become byte strings of 1 to 16 bytes."
 -- Assumes nothing.
-use Prim.Native.Nat.{ℕ, _≤_, min}
+use Prim.Native.Nat.{ℕ, _-_}
 use mathlib.Core.List.{List, [], _∷_, _++_}
 use mathlib.Core.Bool.{Bool, true, false, _&&_, cond}
 use lib.ListN.{length, take, replicate}
@@ -32,5 +32,5 @@ sameName a b = named a && (named b && sameBytes (text a) (text b))
 -- the name that stands for a lent byte string. A string that is no name gives length 0, a name that equals none.
 abbrev pub nameOf : List ℕ → Name
 nameOf s = cond (nameLength (length s))
-    (record { bytes = take 16 (s ++ replicate 16 0); len = length s })
+    (record { bytes = s ++ replicate (16 - length s) 0; len = length s })
     (record { bytes = replicate 16 0; len = 0 })

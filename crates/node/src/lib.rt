@@ -4,3 +4,4 @@ pub mod name;
 pub mod order;
 pub mod record;
 pub mod refusal;
+pub mod silence;

@@ -1,151 +1,108 @@
-use Prim.Native.Nat.{ℕ, zero, suc, _+_, _*_, _≤_, _<_, _-_, min}
-use mathlib.Core.Path.{_≡_, refl, sym, ap, _∙_}
-use mathlib.Core.List.{List, [], _∷_, _++_}
-use mathlib.Core.Bool.{Bool, true, false}
-use mathlib.Core.Logic.{⊎-elim}
-use native.Mathlib.Omega.{arith}
-use native.Mathlib.Numerals.{add-one}
-use lib.ListN.{length, take, drop, getD, set}
+use mathlib.Core.Path.{sym, ap}
 use borrow.Author.Needs.{needs}
 use Rattle.node.specs.Refusal.{numberOf}
 use Rattle.node.proofs.refusal.refusal_number.Statement.{statement}
 use Rattle.node.proofs.refusal.refusal_number.Tie as tie
-use Rattle.node.proofs.refusal.refusal_number.Reads as reads
-use Rattle.node.proofs.refusal.refusal_number.Lts as lts
 
--- src/refusal.rt:30:32
 enum-told : tie.Need-enum-told
 enum-told c = search needs
 
--- src/refusal.rt:31:31
 enum-told-2 : tie.Need-enum-told-2
 enum-told-2 c = search needs
 
--- src/refusal.rt:32:36
 enum-told-3 : tie.Need-enum-told-3
 enum-told-3 c = search needs
 
--- src/refusal.rt:33:33
 enum-told-4 : tie.Need-enum-told-4
 enum-told-4 c = search needs
 
--- src/refusal.rt:34:31
 enum-told-5 : tie.Need-enum-told-5
 enum-told-5 c = search needs
 
--- src/refusal.rt:35:32
 enum-told-6 : tie.Need-enum-told-6
 enum-told-6 c = search needs
 
--- src/refusal.rt:36:31
 enum-told-7 : tie.Need-enum-told-7
 enum-told-7 c = search needs
 
--- src/refusal.rt:37:31
 enum-told-8 : tie.Need-enum-told-8
 enum-told-8 c = search needs
 
--- src/refusal.rt:38:38
 enum-told-9 : tie.Need-enum-told-9
 enum-told-9 c = search needs
 
--- src/refusal.rt:39:37
 enum-told-10 : tie.Need-enum-told-10
 enum-told-10 c = search needs
 
--- src/refusal.rt:40:30
 enum-told-11 : tie.Need-enum-told-11
 enum-told-11 c = search needs
 
--- src/refusal.rt:41:28
 enum-told-12 : tie.Need-enum-told-12
 enum-told-12 c = search needs
 
--- src/refusal.rt:42:34
 enum-told-13 : tie.Need-enum-told-13
 enum-told-13 c = search needs
 
--- src/refusal.rt:43:27
 enum-told-14 : tie.Need-enum-told-14
 enum-told-14 c = search needs
 
--- src/refusal.rt:44:30
 enum-told-15 : tie.Need-enum-told-15
 enum-told-15 c = search needs
 
--- src/refusal.rt:45:31
 enum-told-16 : tie.Need-enum-told-16
 enum-told-16 c = search needs
 
--- src/refusal.rt:46:33
 enum-told-17 : tie.Need-enum-told-17
 enum-told-17 c = search needs
 
--- src/refusal.rt:26:1
 returns : tie.Need-returns
 returns c = sym (ap numberOf (c .enum-told .given .1))
 
--- src/refusal.rt:26:1
 returns-2 : tie.Need-returns-2
 returns-2 c = sym (ap numberOf (c .enum-told2 .given .1))
 
--- src/refusal.rt:26:1
 returns-3 : tie.Need-returns-3
 returns-3 c = sym (ap numberOf (c .enum-told3 .given .1))
 
--- src/refusal.rt:26:1
 returns-4 : tie.Need-returns-4
 returns-4 c = sym (ap numberOf (c .enum-told4 .given .1))
 
--- src/refusal.rt:26:1
 returns-5 : tie.Need-returns-5
 returns-5 c = sym (ap numberOf (c .enum-told5 .given .1))
 
--- src/refusal.rt:26:1
 returns-6 : tie.Need-returns-6
 returns-6 c = sym (ap numberOf (c .enum-told6 .given .1))
 
--- src/refusal.rt:26:1
 returns-7 : tie.Need-returns-7
 returns-7 c = sym (ap numberOf (c .enum-told7 .given .1))
 
--- src/refusal.rt:26:1
 returns-8 : tie.Need-returns-8
 returns-8 c = sym (ap numberOf (c .enum-told8 .given .1))
 
--- src/refusal.rt:26:1
 returns-9 : tie.Need-returns-9
 returns-9 c = sym (ap numberOf (c .enum-told9 .given .1))
 
--- src/refusal.rt:26:1
 returns-10 : tie.Need-returns-10
 returns-10 c = sym (ap numberOf (c .enum-told10 .given .1))
 
--- src/refusal.rt:26:1
 returns-11 : tie.Need-returns-11
 returns-11 c = sym (ap numberOf (c .enum-told11 .given .1))
 
--- src/refusal.rt:26:1
 returns-12 : tie.Need-returns-12
 returns-12 c = sym (ap numberOf (c .enum-told12 .given .1))
 
--- src/refusal.rt:26:1
 returns-13 : tie.Need-returns-13
 returns-13 c = sym (ap numberOf (c .enum-told13 .given .1))
 
--- src/refusal.rt:26:1
 returns-14 : tie.Need-returns-14
 returns-14 c = sym (ap numberOf (c .enum-told14 .given .1))
 
--- src/refusal.rt:26:1
 returns-15 : tie.Need-returns-15
 returns-15 c = sym (ap numberOf (c .enum-told15 .given .1))
 
--- src/refusal.rt:26:1
 returns-16 : tie.Need-returns-16
 returns-16 c = sym (ap numberOf (c .enum-told16 .given .1))
 
--- src/refusal.rt:26:1
 returns-17 : tie.Need-returns-17
 returns-17 c = sym (ap numberOf (c .enum-told17 .given .1))
 
