@@ -6,3 +6,7 @@ pub mod Params
 pub mod Limits
 pub mod Silent
 pub mod Plan
+pub mod StepLaws
+pub mod PassLaws
+pub mod Ranked
+pub mod Answer
