@@ -41,8 +41,8 @@ edgeAllowed ns e = ltb (e .from) (length ns) && (ltb (e .to) (length ns) && ltb 
 abbrev pub paramAllowed : ℕ → Param → Bool
 paramAllowed n p = named (p .name) && ltb (p .node) n
 
-abbrev pub countsAllowed : SynthDef → Bool
-countsAllowed d = leb 1 (d .nodes .count) && (leb (d .nodes .count) 24 && (leb (d .edges .count) 48 && leb (d .params .count) 8))
+abbrev pub countsAllowed : ℕ → ℕ → ℕ → Bool
+countsAllowed nodes edges params = leb 1 nodes && (leb nodes 24 && (leb edges 48 && leb params 8))
 
 abbrev pub arcOf : DefEdge → Arc
 arcOf e = arc (e .from) (e .to)
@@ -53,7 +53,7 @@ ordered n es = whole (upto n) (map arcOf (counted es))
 
 abbrev pub allowed : SynthDef → Bool
 allowed d =
-    countsAllowed d && (every nodeAllowed (nodeRows (d .nodes)) && (every (edgeAllowed (nodeRows (d .nodes))) (edgeRows (d .edges))
+    countsAllowed (d .nodes .count) (d .edges .count) (d .params .count) && (every nodeAllowed (nodeRows (d .nodes)) && (every (edgeAllowed (nodeRows (d .nodes))) (edgeRows (d .edges))
     && (every (paramAllowed (length (nodeRows (d .nodes)))) (paramRows (d .params)) && (ltb (d .output) (length (nodeRows (d .nodes)))
     && ordered (length (nodeRows (d .nodes))) (edgeRows (d .edges))))))
 

@@ -1,7 +1,9 @@
 -- The tables of a definition: "1 to 24 nodes of 0 to 8 ports, up to 48 edges and 8 parameters". A count above the capacity is
 -- the capacity.
 -- Assumes nothing.
-use mathlib.Core.List.{List}
+use Prim.Native.Nat.{_-_}
+use mathlib.Core.List.{List, _++_}
+use lib.ListN.{length, replicate}
 use Rattle.lists.specs.Table.{rowsOf}
 use Rattle.synthdef.specs.declared.def.DefNode.{DefNode}
 use Rattle.synthdef.specs.declared.def.DefNodes.{DefNodes}
@@ -18,3 +20,10 @@ edgeRows t = rowsOf 48 (t .count) (t .rows)
 
 abbrev pub paramRows : Params → List Param
 paramRows t = rowsOf 8 (t .count) (t .rows)
+
+-- a table that holds these rows and nothing past them
+abbrev pub noEdge : DefEdge
+noEdge = record { from = 0; to = 0; port = 0 }
+
+abbrev pub edgeTable : List DefEdge → DefEdges
+edgeTable l = record { rows = l ++ replicate (48 - length l) noEdge; count = length l }

@@ -2,5 +2,6 @@
 // that says when a voice built from it has fallen silent.
 pub mod def;
 pub mod edges;
+pub mod limits;
 pub mod params;
 pub mod plan;

@@ -1,0 +1,138 @@
+use crate::def::DefEdge;
+use crate::def::DefEdges;
+use crate::def::DefNode;
+use crate::def::DefNodes;
+use crate::def::NO_PORT;
+use crate::def::Param;
+use crate::def::Params;
+use crate::def::SynthDef;
+use crate::edges::at_most;
+use crate::edges::wide;
+use node::name::is_named;
+ghost use mathlib.Core.Path.{_≡_};
+ghost use Prim.Native.Nat.{_^_, min, _≤_};
+ghost use lib.ListN.{length};
+ghost use Rattle.synthdef.specs.Rows.{every};
+ghost use Rattle.synthdef.specs.Tables.{nodeRows, edgeRows, paramRows};
+ghost use Rattle.synthdef.specs.Limits.{portGiven, nodeAllowed, edgeAllowed, paramAllowed, countsAllowed};
+
+// Whether `port`, given by name, is none or one of the node's ports.
+fn port_given(ports: u8, port: u8) -> bool
+    ensures { λ r. ⌜ r ≡ portGiven ports port ⌝ }
+{
+    if port == NO_PORT { true } else { port < ports }
+}
+
+// The value of bit `n`.
+fn bit_value(n: u8) -> usize
+    requires { ⌜ n ≤ 8 ⌝ }
+    ensures { λ r. ⌜ r ≡ 2 ^ n ⌝ }
+{
+    1 << n
+}
+
+fn node_allowed(n: DefNode) -> bool
+    ensures { λ r. ⌜ r ≡ nodeAllowed n ⌝ }
+{
+    let kind = n.kind;
+    if !is_named(kind) {
+        return false;
+    }
+    if 8 < n.ports {
+        return false;
+    }
+    if bit_value(n.ports) <= wide(n.required) {
+        return false;
+    }
+    if !port_given(n.ports, n.in_port) {
+        return false;
+    }
+    if !port_given(n.ports, n.level_port) {
+        return false;
+    }
+    port_given(n.ports, n.amp_port)
+}
+
+fn nodes_allowed(t: DefNodes) -> bool
+    ensures { λ r. ⌜ r ≡ every nodeAllowed (nodeRows t) ⌝ }
+{
+    let m = at_most(t.count, 24);
+    let mut i = 0;
+    while i < m {
+        let n = t.rows[i];
+        if !node_allowed(n) {
+            return false;
+        }
+        i += 1;
+    }
+    true
+}
+
+fn edge_allowed(t: DefNodes, e: DefEdge) -> bool
+    ensures { λ r. ⌜ r ≡ edgeAllowed (nodeRows t) e ⌝ }
+{
+    let m = at_most(t.count, 24);
+    let to = wide(e.to);
+    if m <= wide(e.from) {
+        return false;
+    }
+    if m <= to {
+        return false;
+    }
+    e.port < t.rows[to].ports
+}
+
+fn edges_allowed(t: DefNodes, es: DefEdges) -> bool
+    ensures { λ r. ⌜ r ≡ every (edgeAllowed (nodeRows t)) (edgeRows es) ⌝ }
+{
+    let m = at_most(es.count, 48);
+    let mut i = 0;
+    while i < m {
+        let e = es.rows[i];
+        if !edge_allowed(t, e) {
+            return false;
+        }
+        i += 1;
+    }
+    true
+}
+
+fn param_allowed(n: usize, p: Param) -> bool
+    ensures { λ r. ⌜ r ≡ paramAllowed n p ⌝ }
+{
+    let name = p.name;
+    if !is_named(name) {
+        return false;
+    }
+    wide(p.node) < n
+}
+
+fn params_allowed(n: usize, ps: Params) -> bool
+    ensures { λ r. ⌜ r ≡ every (paramAllowed n) (paramRows ps) ⌝ }
+{
+    let m = at_most(ps.count, 8);
+    let mut i = 0;
+    while i < m {
+        let p = ps.rows[i];
+        if !param_allowed(n, p) {
+            return false;
+        }
+        i += 1;
+    }
+    true
+}
+
+fn counts_allowed(nodes: usize, edges: usize, params: usize) -> bool
+    ensures { λ r. ⌜ r ≡ countsAllowed nodes edges params ⌝ }
+{
+    if nodes < 1 {
+        return false;
+    }
+    if 24 < nodes {
+        return false;
+    }
+    if 48 < edges {
+        return false;
+    }
+    params <= 8
+}
