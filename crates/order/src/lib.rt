@@ -1,4 +1,6 @@
-use node::record::{NodeId, Nodes, Edges};
+use node::record::Edges;
+use node::record::NodeId;
+use node::record::Nodes;
 use node::refusal::Refusal;
 
 // The ids of the live nodes in the order in which they are processed: the first `count`. A count above 512 is 512.

@@ -1,3 +1,5 @@
 pub mod Order
 pub mod Cycle
 pub mod Examples
+pub mod Names
+pub mod Parts

@@ -1,0 +1,7 @@
+pub mod Laws
+pub mod Serve
+pub mod Cycle
+pub mod Sound
+pub mod Counts
+pub mod Names
+pub mod Theorems

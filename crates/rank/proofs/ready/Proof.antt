@@ -1,0 +1,103 @@
+use Prim.Native.Nat.{ℕ, zero, suc, _+_, _*_, _≤_, _<_, _-_, min}
+use mathlib.Core.Path.{_≡_, refl, sym, ap, subst, _∙_}
+use mathlib.Core.List.{List, [], _∷_, _++_, append-nil}
+use mathlib.Core.Bool.{Bool, true, false}
+use mathlib.Core.Logic.{⊎-elim}
+use Rattle.rank.specs.Parts.{ready}
+use Rattle.lists.specs.Table.{left-row}
+use Rattle.rank.proofs.Laws.{no-row, Filled, fill-hit, fill-miss}
+use native.Mathlib.Omega.{arith}
+use native.Mathlib.Numerals.{add-one}
+use lib.ListN.{length, take, drop, getD, set, length-take}
+use borrow.Author.Needs.{needs}
+use Rattle.rank.proofs.ready.Statement.{statement}
+use Rattle.rank.proofs.ready.Tie as tie
+use Rattle.rank.proofs.ready.Reads as reads
+use Rattle.rank.proofs.ready.Lts as lts
+
+abbrev Inv-loop : tie.InvT-loop
+Inv-loop n counts queue₀ tail₀ v₀ queue tail v = (v ≤ n) × Filled queue tail v (take n counts)
+
+abbrev μ-loop : tie.MeasureT-loop
+μ-loop n counts queue₀ tail₀ v₀ queue tail v = n - v
+
+-- src/lib.rt:89:5
+counts-long : (c : tie.Start Inv-loop μ-loop) → length (c .args .t1) ≡ 512
+counts-long c = c .good .0 .1 .0 .1
+
+loop-holds : tie.Need-loop-holds Inv-loop μ-loop
+loop-holds c = (omega arith, (refl, omega arith, refl))
+
+-- src/lib.rt:90:12
+mul-if1 : tie.Need-mul-if1 Inv-loop μ-loop
+mul-if1 c = search needs
+
+-- src/lib.rt:90:12
+array-read-if1 : tie.Need-array-read-if1 Inv-loop μ-loop
+array-read-if1 c = search needs
+
+-- src/lib.rt:91:13
+mul-queue : tie.Need-mul-queue Inv-loop μ-loop
+mul-queue c = search needs
+
+-- src/lib.rt:91:13
+array-write-queue : tie.Need-array-write-queue Inv-loop μ-loop
+array-write-queue c = search needs
+
+-- src/lib.rt:92:13
+add-tail : tie.Need-add-tail Inv-loop μ-loop
+add-tail c = search needs
+
+-- src/lib.rt:94:9
+add-v : tie.Need-add-v Inv-loop μ-loop
+add-v c = search needs
+
+-- src/lib.rt:89:5
+loop-less : tie.Need-loop-less Inv-loop μ-loop
+loop-less c = search needs
+
+-- src/lib.rt:89:5
+loop-again : tie.Need-loop-again Inv-loop μ-loop
+loop-again c =
+    let s = c .before .before .before in
+    let l = c .before .before .loop in
+    let k = counts-long s in
+    let n = s .args .n in
+    let cs = s .args .t1 in
+    let hv : l .v < n = omega arith in
+    let hn : n ≤ length cs = omega arith in
+    let dr = left-row 0 cs n (l .v) hv hn in (
+      omega arith,
+      ⊎-elim (λ w. rw (w .1, w .2) (fill-hit (l .queue) (l .tail) (l .v) (take n cs) _ dr (l .inv .1) (w .0 .taken) (omega arith)))
+          (λ w. rw (w .1, w .2) (fill-miss (l .queue) (l .tail) (l .v) (take n cs) _ dr (l .inv .1) (w .0 .left)))
+          (c .if1 .came),
+    )
+
+-- src/lib.rt:82:1
+returns : tie.Need-returns Inv-loop μ-loop
+unfolding ready
+returns c =
+    let s = c .before .before in
+    let l = c .before .loop in
+    let k = counts-long s in
+    let n = s .args .n in
+    let h : n ≤ l .v = omega arith in
+    let e = rw (no-row (s .args .t1) n (l .v) h) at (l .inv .1 .2) in
+    record { long = l .inv .1 .0; few = simp length-take (omega arith); is = sym (append-nil _) ∙ e }
+
+pub ready-spec : {M : Type 1} → statement M
+ready-spec =
+    tie.close
+    (tie.spec
+    Inv-loop
+    μ-loop
+    loop-holds
+    mul-if1
+    array-read-if1
+    mul-queue
+    array-write-queue
+    add-tail
+    add-v
+    loop-less
+    loop-again
+    returns)
