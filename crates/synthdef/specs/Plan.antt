@@ -5,7 +5,7 @@
 use Prim.Native.Nat.{ℕ, zero, suc, _-_, min}
 use mathlib.Core.List.{List, [], _∷_, _++_}
 use mathlib.Core.Option.{Option, none, some}
-use mathlib.Core.Bool.{Bool, true, false, _&&_, _||_, cond}
+use mathlib.Core.Bool.{Bool, true, false, _&&_, _||_, cond, Bool·beq}
 use lib.ListN.{length, getD, replicate}
 use lib.Dec.{ltb, eqb}
 use Rattle.lists.specs.Table.{rowsOf}
@@ -19,6 +19,8 @@ use Rattle.synthdef.specs.declared.def.DefNode.{DefNode}
 use Rattle.synthdef.specs.declared.def.DefEdge.{DefEdge}
 use Rattle.synthdef.specs.declared.def.SynthDef.{SynthDef}
 use Rattle.synthdef.specs.declared.plan.Span.{Span}
+use Rattle.synthdef.specs.declared.plan.Source.{Source}
+use Rattle.synthdef.specs.declared.plan.Source.the-variants.{Node, Nothing}
 use Rattle.synthdef.specs.declared.plan.DoneStep.{DoneStep}
 use Rattle.synthdef.specs.declared.plan.DonePlan.{DonePlan}
 
@@ -51,6 +53,11 @@ isEvery LevelPort = false
 isEvery AmpPort = false
 isEvery InPort = false
 
+-- what is connected to a port, as the enum says it
+abbrev pub asSource : Option ℕ → Source
+asSource none = Nothing
+asSource (some j) = Node j
+
 -- the sources that are connected to the k ports from p on of node i
 abbrev pub more : Option ℕ → List ℕ → List ℕ
 more none l = l
@@ -64,11 +71,11 @@ abbrev pub step : Bool → List ℕ → DoneStep
 step all l = record { all = all; count = length l; sources = l ++ replicate (8 - length l) 0 }
 
 -- a sum with an unconnected port, or with no port, never falls silent through its sources
-abbrev pub sumStep : ℕ → List ℕ → DoneStep
-sumStep k l = cond (ltb 0 k && eqb (length l) k) (step true l) (step false [])
+abbrev pub summed : ℕ → DoneStep → DoneStep
+summed k st = cond (ltb 0 k && eqb (st .count) k) (record { all = true; count = st .count; sources = st .sources }) (step false [])
 
 abbrev pub stepIn : Bool → ℕ → List ℕ → DoneStep
-stepIn all k l = cond all (sumStep k l) (step false l)
+stepIn all k l = cond all (summed k (step false l)) (step false l)
 
 abbrev pub stepBy : List DefEdge → SilenceRule → Span → ℕ → DoneStep
 stepBy es r s i = stepIn (isEvery r) (s .count) (sourcesFrom es i (s .first) (s .count))
@@ -87,6 +94,10 @@ fullSteps l = l ++ replicate (24 - length l) (step false [])
 
 abbrev pub planOf : SynthDef → DonePlan
 planOf d = record { steps = fullSteps (stepsFrom (counted (edgeRows (d .edges))) (nodeRows (d .nodes)) 0); output = d .output }
+
+-- what is read past a plan's steps
+abbrev pub noStep : DoneStep
+noStep = record { all = false; count = 0; sources = [] }
 
 -- ---- evaluating
 abbrev pub stepSources : DoneStep → List ℕ
@@ -111,6 +122,11 @@ pass sts done s = passFrom sts done s 0
 abbrev pub passes : ℕ → List DoneStep → List Bool → List Bool → List Bool
 passes zero sts done s = s
 passes (suc k) sts done s = passes k sts done (pass sts done s)
+
+abbrev pub sameFlags : List Bool → List Bool → Bool
+sameFlags [] b = true
+sameFlags (x ∷ a) [] = false
+sameFlags (x ∷ a) (y ∷ b) = Bool·beq x y && sameFlags a b
 
 -- no node is silent to begin with; each pass that changes anything adds one of the 24 rows
 abbrev pub settled : List DoneStep → List Bool → List Bool

@@ -16,7 +16,7 @@ use Rattle.node.specs.declared.silence.SilenceRule.the-variants.{Own, AnyPort, 
 use Rattle.synthdef.specs.Rows.{every, any}
 use Rattle.synthdef.specs.Edges.{sourceAt}
 use Rattle.synthdef.specs.Silent.{anyFrom, everyFrom, ofPort, byRule, silentSource, byKind}
-use Rattle.synthdef.specs.Plan.{span, namedSpan, portsOf, spanOf, isEvery, more, sourcesFrom, step, sumStep, stepIn, stepBy, stepOf, stepSources, silentIn, says}
+use Rattle.synthdef.specs.Plan.{span, namedSpan, portsOf, spanOf, isEvery, more, sourcesFrom, step, summed, stepIn, stepBy, stepOf, stepSources, silentIn, says}
 use Rattle.synthdef.specs.declared.def.DefNode.{DefNode}
 use Rattle.synthdef.specs.declared.def.DefEdge.{DefEdge}
 use Rattle.synthdef.specs.declared.plan.DoneStep.{DoneStep}
@@ -72,7 +72,7 @@ step-sources a l h =
 says-any : (l : List ℕ) (s : List Bool) → length l ≤ 8 → says (step false l) s ≡ any (silentIn s) l
 says-any l s h = ap (any (silentIn s)) (step-sources false l h)
 
-says-sum : (k : ℕ) (l : List ℕ) (s : List Bool) → length l ≤ 8 → says (sumStep k l) s ≡ (ltb 0 k && (eqb (length l) k && every (silentIn s) l))
+says-sum : (k : ℕ) (l : List ℕ) (s : List Bool) → length l ≤ 8 → says (summed k (step false l)) s ≡ (ltb 0 k && (eqb (length l) k && every (silentIn s) l))
 says-sum k l s h = go (ltb 0 k) (eqb (length l) k)
   where
     go : (a b : Bool) → says (cond (a && b) (step true l) (step false [])) s ≡ (a && (b && every (silentIn s) l))
@@ -92,7 +92,7 @@ module _ (es : List DefEdge) (n : DefNode) (i : ℕ) (few : n .ports ≤ 8) (s :
       let l : length (sources p k) ≤ 8 = omega (arith, length-sources es i p k) in
       says-any (sources p k) s l ∙ any-sources es i (silentIn s) p k
 
-  sum-of : (k : ℕ) → k ≤ 8 → says (sumStep k (sources 0 k)) s ≡ (ltb 0 k && everyFrom 0 k q)
+  sum-of : (k : ℕ) → k ≤ 8 → says (summed k (step false (sources 0 k))) s ≡ (ltb 0 k && everyFrom 0 k q)
   sum-of k h =
       let l : length (sources 0 k) ≤ 8 = omega (arith, length-sources es i 0 k) in
       says-sum k (sources 0 k) s l ∙ ap (λ b. ltb 0 k && b) (every-sources es i (silentIn s) 0 k)

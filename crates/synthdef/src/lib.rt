@@ -5,3 +5,4 @@ pub mod edges;
 pub mod limits;
 pub mod params;
 pub mod plan;
+pub mod silent;
