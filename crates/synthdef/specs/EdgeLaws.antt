@@ -1,21 +1,23 @@
 -- Laws of counted edges.
 -- Assumes nothing.
-use Prim.Native.Nat.{ℕ, suc, _≤_}
+use Prim.Native.Nat.{ℕ, suc, _≤_, min}
 use native.Mathlib.Omega.{arith}
 use mathlib.Core.Path.{_≡_, refl, sym, ap, _∙_}
 use mathlib.Core.Logic.{inl, inr}
 use mathlib.Core.List.{List, [], _∷_, _++_, append-nil, append-assoc}
 use mathlib.Core.Option.{Option, none, some}
 use mathlib.Core.Bool.{Bool, true, false, not, _&&_, _||_, false≢true}
-use lib.ListN.{length}
+use lib.ListN.{length, length-take}
 use lib.Dec.{eqb}
 use borrow.Author.Tests.{eqb-true}
 use Rattle.lists.specs.Member.{In, and-left, and-right, some-inj, none-some}
 use Rattle.lists.specs.Keep.{put?, keep, keep-append, keep-all, keep-keep, keep-same}
 use Rattle.lists.specs.Find.{find, mapO, or?, Once, find-in, none-find}
-use Rattle.synthdef.specs.Rows.{any, none-any}
+use Rattle.synthdef.specs.Rows.{any, none-any, table-rows}
+use Rattle.synthdef.specs.Tables.{edgeRows, edgeTable}
 use Rattle.synthdef.specs.Edges.{endsAt, taken, counted, sourceAt, connect, connectAll}
 use Rattle.synthdef.specs.declared.def.DefEdge.{DefEdge}
+use Rattle.synthdef.specs.declared.def.DefEdges.{DefEdges}
 
 -- a counted edge is one of the edges
 pub counted-in : (es : List DefEdge) (x : DefEdge) → In x (counted es) → In x es
@@ -100,3 +102,9 @@ source-edge es i p j h = go (find (endsAt i p) es) refl h
     go (some x) e k =
         let f = find-in (endsAt i p) es x e in
         (x, f .0, some-inj k, eqb-true _ _ (and-left _ _ (f .1)))
+
+-- the table of the counted edges holds them
+pub counted-table : (t : DefEdges) → edgeRows (edgeTable (counted (edgeRows t))) ≡ counted (edgeRows t)
+counted-table t =
+    let few : length (counted (edgeRows t)) ≤ 48 = omega (arith, length-counted (edgeRows t), length-take (min (t .count) 48) (t .rows)) in
+    table-rows 48 (counted (edgeRows t)) _ few

@@ -6,12 +6,12 @@ use native.Mathlib.Numerals.{add-one}
 use mathlib.Core.Path.{_≡_, refl, sym, ap, _∙_}
 use mathlib.Core.Logic.{_⊎_, inl, inr, ⊎-elim}
 use mathlib.Core.List.{List, [], _∷_, _++_}
-use mathlib.Core.Bool.{Bool, true, false, _&&_, _||_, cond, false≢true}
+use mathlib.Core.Bool.{Bool, true, false, _&&_, _||_, cond, Bool·beq, false≢true}
 use lib.ListN.{length, getD, replicate, length-replicate}
 use Rattle.lists.specs.Member.{and-left, and-right, both}
 use Rattle.lists.specs.Count.{count, count-length}
 use Rattle.synthdef.specs.Rows.{every, any}
-use Rattle.synthdef.specs.Plan.{stepSources, silentIn, says, passFrom, pass, passes, settled}
+use Rattle.synthdef.specs.Plan.{stepSources, silentIn, says, passFrom, pass, passes, sameFlags, settled}
 use Rattle.synthdef.specs.declared.plan.DoneStep.{DoneStep}
 
 -- each node that is silent in s is silent in t
@@ -73,7 +73,7 @@ grown (x ∷ s) (y ∷ t) e g = go x y (g 0) (grown s t (omega arith) (λ j. g (
     go false false f (inl p) = inl (ap (λ l. false ∷ l) p)
     go false false f (inr h) = inr h
 
-length-pass : (sts : List DoneStep) (done s : List Bool) (i : ℕ) → length (passFrom sts done s i) ≡ length sts
+pub length-pass : (sts : List DoneStep) (done s : List Bool) (i : ℕ) → length (passFrom sts done s i) ≡ length sts
 length-pass [] done s i = refl
 length-pass (st ∷ sts) done s i = ap suc (length-pass sts done s (suc i))
 
@@ -81,6 +81,10 @@ module _ (sts : List DoneStep) (done : List Bool) where
   pub stays : (k : ℕ) (s : List Bool) → pass sts done s ≡ s → passes k sts done s ≡ s
   stays zero s e = refl
   stays (suc k) s e = ap (passes k sts done) e ∙ stays k s e
+
+  pub next-pass : (k : ℕ) (s : List Bool) → 0 < k → passes k sts done s ≡ passes (k - 1) sts done (pass sts done s)
+  next-pass zero s h = absurd (omega arith)
+  next-pass (suc k) s h = let e : suc k - 1 ≡ k = omega arith in ap (λ m. passes m sts done (pass sts done s)) (sym e)
 
   settles : (k : ℕ) (s : List Bool) → length s ≡ length sts → Grows s (pass sts done s) → length sts ≤ silents s + k
       → pass sts done (passes k sts done s) ≡ passes k sts done s
@@ -100,5 +104,19 @@ module _ (sts : List DoneStep) (done : List Bool) where
   silent-none (suc n) (suc j) = silent-none n j
 
   pub settled-stays : length sts ≡ 24 → pass sts done (settled sts done) ≡ settled sts done
+  unfolding settled
   settled-stays l =
       settles 24 (replicate 24 false) (sym l) (λ j h. absurd (false≢true (sym (silent-none 24 j) ∙ h))) (omega arith)
+
+-- flags that are told to be the same are
+pub same-same : (a b : List Bool) → length a ≡ length b → sameFlags a b ≡ true → a ≡ b
+same-same [] [] l h = refl
+same-same [] (y ∷ b) l h = absurd (omega arith)
+same-same (x ∷ a) [] l h = absurd (false≢true h)
+same-same (x ∷ a) (y ∷ b) l h = go x y (same-same a b (omega arith)) h
+  where
+    go : (x y : Bool) → (sameFlags a b ≡ true → a ≡ b) → (Bool·beq x y && sameFlags a b) ≡ true → x ∷ a ≡ y ∷ b
+    go true true ih k = ap (λ l. true ∷ l) (ih k)
+    go true false ih k = absurd (false≢true k)
+    go false true ih k = absurd (false≢true k)
+    go false false ih k = ap (λ l. false ∷ l) (ih k)

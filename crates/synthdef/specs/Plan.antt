@@ -129,7 +129,7 @@ sameFlags (x ∷ a) [] = false
 sameFlags (x ∷ a) (y ∷ b) = Bool·beq x y && sameFlags a b
 
 -- no node is silent to begin with; each pass that changes anything adds one of the 24 rows
-abbrev pub settled : List DoneStep → List Bool → List Bool
+unfoldable pub settled : List DoneStep → List Bool → List Bool
 settled sts done = passes 24 sts done (replicate 24 false)
 
 abbrev pub planSilent : DonePlan → List Bool → Bool

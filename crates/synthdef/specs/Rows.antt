@@ -1,9 +1,14 @@
--- Whether every row, or some row, passes a test.
+-- Whether every row, or some row, passes a test; and what a table holds that was filled from its front.
 -- Assumes nothing.
+use Prim.Native.Nat.{ℕ, _-_, _≤_, min}
+use native.Mathlib.Omega.{arith}
 use mathlib.Core.Path.{_≡_, refl, sym, ap, _∙_}
 use mathlib.Core.Logic.{inl, inr}
 use mathlib.Core.List.{List, [], _∷_, _++_, map}
 use mathlib.Core.Bool.{Bool, true, false, _&&_, _||_, true≢false}
+use lib.ListN.{length, take, replicate}
+use lib.Seq.{take-append-seam}
+use Rattle.lists.specs.Table.{rowsOf}
 use Rattle.lists.specs.Member.{In, and-left, and-right, both}
 
 abbrev pub every : {A : Type 0} → (A → Bool) → List A → Bool
@@ -40,3 +45,8 @@ module _ {A : Type 0} where
       right : (b : Bool) → (b || any q l) ≡ false → any q l ≡ false
       right true e = absurd (true≢false e)
       right false e = e
+
+pub table-rows : {A : Type 0} (room : ℕ) (l rest : List A) → length l ≤ room → rowsOf room (length l) (l ++ rest) ≡ l
+table-rows room l rest h =
+    let m : min (length l) room ≡ length l = omega arith in
+    ap (λ k. take k (l ++ rest)) m ∙ take-append-seam l rest

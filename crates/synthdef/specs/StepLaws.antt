@@ -6,14 +6,13 @@ use mathlib.Core.Path.{_≡_, refl, sym, ap, _∙_}
 use mathlib.Core.List.{List, [], _∷_, _++_}
 use mathlib.Core.Option.{Option, none, some}
 use mathlib.Core.Bool.{Bool, true, false, _&&_, _||_, cond, or-false, and-false}
-use lib.ListN.{length, take, replicate}
-use lib.Seq.{take-append-seam}
+use lib.ListN.{length, replicate}
 use lib.Dec.{ltb, eqb, eqb·suc-suc}
 use borrow.Author.Tests.{ne-eqb}
 use Rattle.node.specs.Silence.{silenceOf}
 use Rattle.node.specs.declared.silence.SilenceRule.{SilenceRule}
 use Rattle.node.specs.declared.silence.SilenceRule.the-variants.{Own, AnyPort, FirstPort, EveryPort, LevelPort, AmpPort, InPort}
-use Rattle.synthdef.specs.Rows.{every, any}
+use Rattle.synthdef.specs.Rows.{every, any, table-rows}
 use Rattle.synthdef.specs.Edges.{sourceAt}
 use Rattle.synthdef.specs.Silent.{anyFrom, everyFrom, ofPort, byRule, silentSource, byKind}
 use Rattle.synthdef.specs.Plan.{span, namedSpan, portsOf, spanOf, isEvery, more, sourcesFrom, step, summed, stepIn, stepBy, stepOf, stepSources, silentIn, says}
@@ -65,9 +64,7 @@ module _ (es : List DefEdge) (i : ℕ) where
 
 -- what a step holds
 pub step-sources : (a : Bool) (l : List ℕ) → length l ≤ 8 → stepSources (step a l) ≡ l
-step-sources a l h =
-    let m : min (length l) 8 ≡ length l = omega arith in
-    ap (λ k. take k (l ++ replicate (8 - length l) 0)) m ∙ take-append-seam l (replicate (8 - length l) 0)
+step-sources a l h = table-rows 8 l (replicate (8 - length l) 0) h
 
 says-any : (l : List ℕ) (s : List Bool) → length l ≤ 8 → says (step false l) s ≡ any (silentIn s) l
 says-any l s h = ap (any (silentIn s)) (step-sources false l h)

@@ -37,7 +37,14 @@ noName = record { bytes = []; len = 0 }
 abbrev pub noNode : DefNode
 noNode =
     record {
-      kind = noName; ports = 0; required = 0; «takes_values» = false; «takes_glides» = false; «in_port» = 0; «level_port» = 0; «amp_port» = 0;
+      kind = noName;
+      ports = 0;
+      required = 0;
+      «takes_values» = false;
+      «takes_glides» = false;
+      «in_port» = 0;
+      «level_port» = 0;
+      «amp_port» = 0;
     }
 
 abbrev pub noParam : Param

@@ -100,8 +100,8 @@ loop-again c =
       simp length-set (v .2),
       filled-one noEdge 48 (l .loop .rows) (l .loop .count) (v .3) e room below,
       one-more (l .loop .rows) (l .loop .count) e (counted rest) room
-      ∙ ap (λ z. take (l .loop .count) (l .loop .rows) ++ z) (sym (ap counted (next (c .before .before .before)) ∙ counts e rest free))
-      ∙ v .4,
+          ∙ ap (λ z. take (l .loop .count) (l .loop .rows) ++ z) (sym (ap counted (next (c .before .before .before)) ∙ counts e rest free))
+          ∙ v .4,
     )
 
 -- src/edges.rt:65:5

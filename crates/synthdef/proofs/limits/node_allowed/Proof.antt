@@ -69,9 +69,13 @@ port-given-requires-2 c κs = search needs
 returns-5 : tie.Need-returns-5
 returns-5 c =
     let d = c .before .before .before .before in
-    rw
-    (passed-1 (d .before .before .before .before .before), passed-2 (d .before .before .before), passed-3 d, passed-4 (c .before .before),
-    sym (c .before .port-given2 .ensures) ∙ not-true _ (c .if5 .taken))
+    rw (
+      passed-1 (d .before .before .before .before .before),
+      passed-2 (d .before .before .before),
+      passed-3 d,
+      passed-4 (c .before .before),
+      sym (c .before .port-given2 .ensures) ∙ not-true _ (c .if5 .taken),
+    )
 
 port-given-requires-3 : tie.Need-port-given-requires-3
 port-given-requires-3 c κs = search needs
@@ -79,9 +83,13 @@ port-given-requires-3 c κs = search needs
 returns-6 : tie.Need-returns-6
 returns-6 c =
     let d = c .before .before .before .before .before in
-    rw
-    (passed-1 (d .before .before .before .before .before), passed-2 (d .before .before .before), passed-3 d, passed-4 (c .before .before .before),
-    passed-5 (c .before))
+    rw (
+      passed-1 (d .before .before .before .before .before),
+      passed-2 (d .before .before .before),
+      passed-3 d,
+      passed-4 (c .before .before .before),
+      passed-5 (c .before),
+    )
     (c .port-given3 .ensures)
 
 pub node-allowed-spec : {M : Type 1} → statement M

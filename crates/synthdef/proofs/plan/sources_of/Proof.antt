@@ -83,8 +83,8 @@ loop-again c =
       simp length-set (v .2),
       filled-one 0 8 (l .loop .sources) (l .loop .found) (v .3) j room below,
       one-more (l .loop .sources) (l .loop .found) j rest room
-      ∙ ap (λ z. take (l .loop .found) (l .loop .sources) ++ z) (sym (next es (a .node) (l .loop .port) (l .loop .left) (search needs) ∙ ap (λ o. more o rest) is))
-      ∙ v .4,
+          ∙ ap (λ z. take (l .loop .found) (l .loop .sources) ++ z) (sym (next es (a .node) (l .loop .port) (l .loop .left) (search needs) ∙ ap (λ o. more o rest) is))
+          ∙ v .4,
     )
 
 enum-told : tie.Need-enum-told Inv-loop μ-loop

@@ -1,0 +1,24 @@
+use Prim.Native.Nat.{ℕ, zero, suc, _+_, _*_, _≤_, _<_, _-_, min}
+use mathlib.Core.Path.{_≡_, refl, sym, ap, _∙_}
+use mathlib.Core.List.{List, [], _∷_, _++_}
+use mathlib.Core.Bool.{Bool, true, false}
+use mathlib.Core.Logic.{⊎-elim}
+use native.Mathlib.Omega.{arith}
+use native.Mathlib.Numerals.{add-one}
+use lib.ListN.{length, take, drop, getD, set}
+use borrow.Author.Needs.{needs}
+use Rattle.synthdef.specs.Plan.{silentIn}
+use Rattle.synthdef.proofs.silent.plan_silent.Statement.{statement}
+use Rattle.synthdef.proofs.silent.plan_silent.Tie as tie
+
+settle-requires : tie.Need-settle-requires
+settle-requires c κs = search needs
+
+silent-in-requires : tie.Need-silent-in-requires
+silent-in-requires c κs = search needs
+
+returns : tie.Need-returns
+returns c = c .silent-in .ensures ∙ ap (λ s. silentIn s (c .before .before .args .p .output)) (c .before .settle .ensures)
+
+pub plan-silent-spec : {M : Type 1} → statement M
+plan-silent-spec = tie.close (tie.spec settle-requires silent-in-requires returns)
