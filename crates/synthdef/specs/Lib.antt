@@ -10,3 +10,4 @@ pub mod StepLaws
 pub mod PassLaws
 pub mod Ranked
 pub mod Answer
+pub mod Instance

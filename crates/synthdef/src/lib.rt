@@ -2,6 +2,7 @@
 // that says when a voice built from it has fallen silent.
 pub mod def;
 pub mod edges;
+pub mod instance;
 pub mod limits;
 pub mod params;
 pub mod plan;

@@ -7,14 +7,19 @@ use crate::def::Param;
 use crate::def::Params;
 use crate::def::SynthDef;
 use crate::edges::at_most;
+use crate::edges::counted_edges;
 use crate::edges::wide;
 use node::name::is_named;
+use rank::ranked;
 ghost use mathlib.Core.Path.{_≡_};
 ghost use Prim.Native.Nat.{_^_, min, _≤_};
 ghost use lib.ListN.{length};
 ghost use Rattle.synthdef.specs.Rows.{every};
 ghost use Rattle.synthdef.specs.Tables.{nodeRows, edgeRows, paramRows};
-ghost use Rattle.synthdef.specs.Limits.{portGiven, nodeAllowed, edgeAllowed, paramAllowed, countsAllowed};
+ghost use Rattle.synthdef.specs.Edges.{counted};
+ghost use Rattle.synthdef.specs.Limits.{portGiven, nodeAllowed, edgeAllowed, paramAllowed, countsAllowed, arcOf, allowed};
+ghost use Rattle.rank.specs.Order.{upto, whole};
+ghost use mathlib.Core.List.{map};
 
 // Whether `port`, given by name, is none or one of the node's ports.
 fn port_given(ports: u8, port: u8) -> bool
@@ -135,4 +140,49 @@ fn counts_allowed(nodes: usize, edges: usize, params: usize) -> bool
         return false;
     }
     params <= 8
+}
+
+// Whether the edges `es` among `n` nodes have no cycle: their processing order has all nodes.
+fn ordered(n: usize, es: DefEdges) -> bool
+    requires { ⌜ n ≤ 24 ⌝ }
+    ensures { λ r. ⌜ r ≡ whole (upto n) (map arcOf (edgeRows es)) ⌝ }
+{
+    let m = at_most(es.count, 48);
+    let mut from = [0usize; 48];
+    let mut to = [0usize; 48];
+    let mut i = 0;
+    while i < m {
+        let e = es.rows[i];
+        from[i] = wide(e.from);
+        to[i] = wide(e.to);
+        i += 1;
+    }
+    let r = ranked(n, &from[..m], &to[..m]);
+    r.whole
+}
+
+// Whether a definition is within the limits; refusal 9 where it is not.
+pub fn allowed(d: SynthDef) -> bool
+    ensures { λ r. ⌜ r ≡ allowed d ⌝ }
+{
+    let nodes = d.nodes;
+    let edges = d.edges;
+    let params = d.params;
+    let n = at_most(nodes.count, 24);
+    if !counts_allowed(nodes.count, edges.count, params.count) {
+        return false;
+    }
+    if !nodes_allowed(nodes) {
+        return false;
+    }
+    if !edges_allowed(nodes, edges) {
+        return false;
+    }
+    if !params_allowed(n, params) {
+        return false;
+    }
+    if n <= wide(d.output) {
+        return false;
+    }
+    ordered(n, counted_edges(edges))
 }
