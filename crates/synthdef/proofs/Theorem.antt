@@ -1,14 +1,14 @@
 -- For an allowed definition the done plan answers silent exactly by 01's rule: its answer meets the rule at every node, and every
 -- answer that does is the same at every node of the definition, the output among them.
 -- Assumes nothing.
-use Prim.Native.Nat.{ℕ, zero, suc, _≤_, _<_, min}
+use Prim.Native.Nat.{ℕ, zero, suc, _<_}
 use native.Mathlib.Omega.{arith}
-use mathlib.Core.Path.{_≡_, refl, sym, ap, _∙_}
+use mathlib.Core.Path.{_≡_, refl, sym}
 use mathlib.Core.Logic.{inl, inr}
 use mathlib.Core.List.{List, [], _∷_, map}
-use mathlib.Core.Option.{Option, none, some}
+use mathlib.Core.Option.{some}
 use mathlib.Core.Bool.{Bool, true}
-use lib.ListN.{length, take, getElem?, length-take}
+use lib.ListN.{length, getElem?, length-take}
 use Rattle.lists.specs.Member.{In, in-of-map, some-inj, none-some}
 use Rattle.rank.specs.Order.{upto, order}
 use Rattle.rank.proofs.Cycle.{in-upto}
@@ -16,7 +16,7 @@ use Rattle.rank.proofs.Theorems.{distinct-upto, whole-sorted}
 use Rattle.synthdef.specs.Tables.{nodeRows, edgeRows}
 use Rattle.synthdef.specs.Edges.{counted}
 use Rattle.synthdef.specs.EdgeLaws.{counted-in}
-use Rattle.synthdef.specs.Limits.{arcOf, allowed, ordered, Within}
+use Rattle.synthdef.specs.Limits.{arcOf, allowed, Within}
 use Rattle.synthdef.specs.Silent.{Silence}
 use Rattle.synthdef.specs.Plan.{planOf, planSilent}
 use Rattle.synthdef.specs.Ranked.{place, before-lower}

@@ -2,12 +2,12 @@
 -- Assumes nothing.
 use Prim.Native.Nat.{ℕ, suc, _+_, _-_, _≤_, _<_, min}
 use native.Mathlib.Omega.{arith}
-use mathlib.Core.Path.{_≡_, refl, sym, ap, _∙_}
+use mathlib.Core.Path.{_≡_, sym, ap, _∙_}
 use mathlib.Core.List.{List, [], _∷_, _++_}
-use mathlib.Core.Option.{Option, some}
+use mathlib.Core.Option.{some}
 use mathlib.Core.Bool.{Bool, true, false}
 use lib.ListN.{length, take, drop, getD, set, replicate, length-take, drop-of-length-le}
-use lib.Seq.{length-take-le, set-at, append-snoc, take-at}
+use lib.Seq.{length-take-le, set-at, append-snoc}
 use Rattle.lists.specs.Table.{rowsOf, left-row, append-row}
 use Rattle.lists.specs.Find.{find}
 use Rattle.synthdef.specs.Rows.{every, any}

@@ -1,23 +1,23 @@
 -- `allowed` answers yes exactly where a definition keeps the limits that `Within` states.
 -- Assumes nothing.
-use Prim.Native.Nat.{ℕ, _^_, _≤_, _<_}
-use mathlib.Core.Path.{_≡_, refl, sym, ap, _∙_}
-use mathlib.Core.Logic.{_⊎_, inl, inr, ⊎-elim}
+use Prim.Native.Nat.{ℕ, _≤_, _<_}
+use mathlib.Core.Path.{_≡_, refl}
+use mathlib.Core.Logic.{_⊎_, inl, inr}
 use mathlib.Core.List.{List, map}
 use mathlib.Core.Bool.{Bool, true, false, _&&_, _||_}
 use lib.ListN.{length}
 use lib.Dec.{leb, ltb, eqb}
 use borrow.Author.Tests.{le-leb, leb-true, lt-ltb, ltb-true, eq-eqb, eqb-true}
-use Rattle.lists.specs.Member.{In, and-left, and-right, both}
+use Rattle.lists.specs.Member.{and-left, and-right, both}
 use Rattle.node.specs.Name.{named}
 use Rattle.node.specs.declared.name.Name.{Name}
-use Rattle.rank.specs.Order.{upto, whole}
+use Rattle.rank.specs.Order.{upto}
 use Rattle.rank.specs.Cycle.{Acyclic}
 use Rattle.rank.proofs.Theorems.{distinct-upto, whole-acyclic, short-cyclic}
-use Rattle.synthdef.specs.Rows.{every, every-in, in-every}
+use Rattle.synthdef.specs.Rows.{every-in, in-every}
 use Rattle.synthdef.specs.Tables.{nodeRows, edgeRows, paramRows}
 use Rattle.synthdef.specs.Edges.{counted}
-use Rattle.synthdef.specs.Limits.{portGiven, nodeAllowed, portsAt, edgeAllowed, paramAllowed, countsAllowed, arcOf, ordered, allowed, NodeWithin, EdgeWithin, ParamWithin, Within}
+use Rattle.synthdef.specs.Limits.{portGiven, nodeAllowed, edgeAllowed, paramAllowed, arcOf, ordered, allowed, NodeWithin, EdgeWithin, ParamWithin, Within}
 use Rattle.synthdef.specs.declared.def.DefNode.{DefNode}
 use Rattle.synthdef.specs.declared.def.DefEdge.{DefEdge}
 use Rattle.synthdef.specs.declared.def.Param.{Param}

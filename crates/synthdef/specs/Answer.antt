@@ -1,22 +1,20 @@
 -- The silence of a definition: the plan's answer meets the rule at every node, and since counted edges have no cycle no other
 -- answer does.
 -- Assumes nothing.
-use Prim.Native.Nat.{ℕ, zero, suc, _+_, _-_, _≤_, _<_}
+use Prim.Native.Nat.{ℕ, zero, suc, _+_, _≤_, _<_}
 use native.Mathlib.Omega.{arith}
 use native.Mathlib.Nat.{add-zero, add-suc}
 use mathlib.Core.Path.{_≡_, refl, sym, ap, _∙_, fun-ext}
-use mathlib.Core.Logic.{_⊎_, inl, inr, ⊎-elim}
-use mathlib.Core.List.{List, [], _∷_, _++_, map}
+use mathlib.Core.List.{List, [], _∷_, _++_}
 use mathlib.Core.Option.{Option, none, some}
-use mathlib.Core.Bool.{Bool, true, false, _&&_, _||_}
-use lib.ListN.{length, getD, getElem?, replicate, length-append, length-replicate}
-use lib.Dec.{eqb}
+use mathlib.Core.Bool.{Bool, false, _||_}
+use lib.ListN.{length, getD, getElem?, length-append, length-replicate}
 use Rattle.lists.specs.Member.{In, some-inj, none-some}
 use Rattle.node.specs.Silence.{silenceOf}
 use Rattle.synthdef.specs.Edges.{sourceAt}
 use Rattle.synthdef.specs.EdgeLaws.{source-edge}
-use Rattle.synthdef.specs.Silent.{Silence, silentSource, byRule, byKind}
-use Rattle.synthdef.specs.Plan.{step, stepOf, stepsFrom, fullSteps, silentIn, says, passFrom, settled}
+use Rattle.synthdef.specs.Silent.{Silence, silentSource, byRule}
+use Rattle.synthdef.specs.Plan.{stepOf, stepsFrom, fullSteps, silentIn, says, passFrom, settled}
 use Rattle.synthdef.specs.StepLaws.{step-says}
 use Rattle.synthdef.specs.PassLaws.{settled-stays}
 use Rattle.synthdef.specs.declared.def.DefNode.{DefNode}

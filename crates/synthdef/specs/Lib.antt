@@ -11,3 +11,4 @@ pub mod PassLaws
 pub mod Ranked
 pub mod Answer
 pub mod Instance
+pub mod Examples

@@ -2,12 +2,11 @@
 -- Assumes nothing.
 use Prim.Native.Nat.{ℕ, zero, suc, _+_, _-_, _≤_, _<_}
 use native.Mathlib.Omega.{arith}
-use native.Mathlib.Numerals.{add-one}
 use mathlib.Core.Path.{_≡_, refl, sym, ap, _∙_}
 use mathlib.Core.Logic.{_⊎_, inl, inr, ⊎-elim}
-use mathlib.Core.List.{List, [], _∷_, _++_}
+use mathlib.Core.List.{List, [], _∷_}
 use mathlib.Core.Bool.{Bool, true, false, _&&_, _||_, cond, Bool·beq, false≢true}
-use lib.ListN.{length, getD, replicate, length-replicate}
+use lib.ListN.{length, getD, replicate}
 use Rattle.lists.specs.Member.{and-left, and-right, both}
 use Rattle.lists.specs.Count.{count, count-length}
 use Rattle.synthdef.specs.Rows.{every, any}

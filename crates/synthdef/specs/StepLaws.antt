@@ -1,11 +1,11 @@
 -- A step of the plan says what the rule says of its node.
 -- Assumes nothing.
-use Prim.Native.Nat.{ℕ, zero, suc, _+_, _-_, _≤_, _<_, min}
+use Prim.Native.Nat.{ℕ, zero, suc, _-_, _≤_, min}
 use native.Mathlib.Omega.{arith}
-use mathlib.Core.Path.{_≡_, refl, sym, ap, _∙_}
-use mathlib.Core.List.{List, [], _∷_, _++_}
+use mathlib.Core.Path.{_≡_, refl, ap, _∙_}
+use mathlib.Core.List.{List, []}
 use mathlib.Core.Option.{Option, none, some}
-use mathlib.Core.Bool.{Bool, true, false, _&&_, _||_, cond, or-false, and-false}
+use mathlib.Core.Bool.{Bool, true, false, _&&_, _||_, cond, or-false}
 use lib.ListN.{length, replicate}
 use lib.Dec.{ltb, eqb, eqb·suc-suc}
 use borrow.Author.Tests.{ne-eqb}
@@ -15,10 +15,9 @@ use Rattle.node.specs.declared.silence.SilenceRule.the-variants.{Own, AnyPort, 
 use Rattle.synthdef.specs.Rows.{every, any, table-rows}
 use Rattle.synthdef.specs.Edges.{sourceAt}
 use Rattle.synthdef.specs.Silent.{anyFrom, everyFrom, ofPort, byRule, silentSource, byKind}
-use Rattle.synthdef.specs.Plan.{span, namedSpan, portsOf, spanOf, isEvery, more, sourcesFrom, step, summed, stepIn, stepBy, stepOf, stepSources, silentIn, says}
+use Rattle.synthdef.specs.Plan.{span, namedSpan, spanOf, isEvery, more, sourcesFrom, step, summed, stepBy, stepOf, stepSources, silentIn, says}
 use Rattle.synthdef.specs.declared.def.DefNode.{DefNode}
 use Rattle.synthdef.specs.declared.def.DefEdge.{DefEdge}
-use Rattle.synthdef.specs.declared.plan.DoneStep.{DoneStep}
 
 module _ (es : List DefEdge) (i : ℕ) where
   pub length-sources : (p k : ℕ) → length (sourcesFrom es i p k) ≤ k

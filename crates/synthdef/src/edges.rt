@@ -1,9 +1,7 @@
 use crate::def::DefEdge;
 use crate::def::DefEdges;
 ghost use mathlib.Core.Path.{_≡_};
-ghost use mathlib.Core.Bool.{_&&_};
 ghost use lib.ListN.{drop};
-ghost use lib.Dec.{eqb};
 ghost use Prim.Native.Nat.{min};
 ghost use Rattle.synthdef.specs.Tables.{edgeRows, edgeTable};
 ghost use Rattle.synthdef.specs.Edges.{counted, taken, endsAt};

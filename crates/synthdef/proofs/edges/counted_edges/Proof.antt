@@ -1,17 +1,14 @@
-use Prim.Native.Nat.{ℕ, zero, suc, _+_, _*_, _≤_, _<_, _-_, min}
+use Prim.Native.Nat.{_+_, _≤_, _<_, _-_}
 use mathlib.Core.Path.{_≡_, refl, sym, ap, _∙_}
-use mathlib.Core.List.{List, [], _∷_, _++_, append-nil}
-use mathlib.Core.Bool.{Bool, true, false, not}
-use mathlib.Core.Logic.{⊎-elim}
+use mathlib.Core.List.{List, _∷_, _++_, append-nil}
+use mathlib.Core.Bool.{true, false}
 use native.Mathlib.Omega.{arith}
-use native.Mathlib.Numerals.{add-one}
-use lib.ListN.{length, take, drop, getD, set, length-set, length-map}
+use lib.ListN.{length, take, drop, getD, length-set, length-map}
 use borrow.Author.Needs.{needs}
 use borrow.Author.Tests.{not-true, not-false}
 use Rattle.synthdef.specs.Tables.{edgeRows, noEdge}
 use Rattle.synthdef.specs.Edges.{taken, counted}
 use Rattle.synthdef.specs.declared.def.DefEdge.{DefEdge}
-use Rattle.synthdef.specs.declared.def.DefEdges.{DefEdges}
 use Rattle.synthdef.proofs.Walk.{walked, next-row, Filled, filled-none, filled-one, filled-is, one-more}
 use Rattle.synthdef.proofs.edges.counted_edges.Statement.{statement}
 use Rattle.synthdef.proofs.edges.counted_edges.Tie as tie

@@ -1,11 +1,8 @@
-use Prim.Native.Nat.{ℕ, zero, suc, _+_, _*_, _≤_, _<_, _-_, min}
+use Prim.Native.Nat.{ℕ, _-_}
 use mathlib.Core.Path.{_≡_, refl, sym, ap, _∙_}
-use mathlib.Core.List.{List, [], _∷_, _++_}
-use mathlib.Core.Bool.{Bool, true, false}
-use mathlib.Core.Logic.{⊎-elim}
-use native.Mathlib.Omega.{arith}
-use native.Mathlib.Numerals.{add-one}
-use lib.ListN.{length, take, drop, getD, set, length-map}
+use mathlib.Core.List.{List}
+use mathlib.Core.Bool.{Bool}
+use lib.ListN.{length, drop, length-map}
 use borrow.Author.Needs.{needs}
 use Rattle.synthdef.specs.Rows.{any}
 use Rattle.synthdef.specs.Tables.{edgeRows, noEdge}

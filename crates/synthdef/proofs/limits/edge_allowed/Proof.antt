@@ -1,19 +1,13 @@
-use Prim.Native.Nat.{ℕ, zero, suc, _+_, _*_, _≤_, _<_, _-_, min}
-use mathlib.Core.Path.{_≡_, refl, sym, ap, _∙_}
-use mathlib.Core.List.{List, [], _∷_, _++_}
-use mathlib.Core.Bool.{Bool, true, false}
-use mathlib.Core.Logic.{⊎-elim}
+use Prim.Native.Nat.{ℕ, _≤_, _<_, min}
+use mathlib.Core.Path.{_≡_, ap, _∙_}
 use native.Mathlib.Omega.{arith}
-use native.Mathlib.Numerals.{add-one}
-use lib.ListN.{length, take, drop, getD, set}
+use lib.ListN.{length, getD}
 use borrow.Author.Needs.{needs}
 use lib.ListN.{length-take, length-map, List·getD-map}
 use lib.Seq.{getD-take}
 use borrow.Author.Tests.{le-ltb, lt-ltb}
 use Rattle.synthdef.specs.Tables.{nodeRows, noNode}
 use Rattle.synthdef.specs.Limits.{portsAt}
-use Rattle.synthdef.specs.declared.def.DefNode.{DefNode}
-use Rattle.synthdef.specs.declared.def.DefNodes.{DefNodes}
 use Rattle.synthdef.proofs.limits.edge_allowed.Statement.{statement}
 use Rattle.synthdef.proofs.limits.edge_allowed.Tie as tie
 

@@ -1,16 +1,13 @@
-use Prim.Native.Nat.{ℕ, zero, suc, _+_, _*_, _≤_, _<_, _-_, min}
+use Prim.Native.Nat.{ℕ, _+_, _≤_, _<_, _-_, min}
 use mathlib.Core.Path.{_≡_, refl, sym, ap, _∙_}
 use mathlib.Core.List.{List, [], _∷_, _++_}
-use mathlib.Core.Bool.{Bool, true, false}
-use mathlib.Core.Logic.{⊎-elim}
 use native.Mathlib.Omega.{arith}
-use native.Mathlib.Numerals.{add-one}
 use lib.ListN.{length, take, drop, getD, set}
 use borrow.Author.Needs.{needs}
 use mathlib.Core.List.{map, append-nil}
 use lib.ListN.{length-set, length-map, length-take}
 use lib.Seq.{take-all}
-use Rattle.rank.specs.Order.{Arc, arc, arcs, upto, whole}
+use Rattle.rank.specs.Order.{arc, arcs, upto, whole}
 use Rattle.synthdef.specs.Tables.{edgeRows, noEdge}
 use Rattle.synthdef.specs.Limits.{arcOf}
 use Rattle.synthdef.specs.declared.def.DefEdge.{DefEdge}

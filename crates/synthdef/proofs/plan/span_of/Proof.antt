@@ -1,13 +1,6 @@
-use Prim.Native.Nat.{ℕ, zero, suc, _+_, _*_, _≤_, _<_, _-_, min}
-use mathlib.Core.Path.{_≡_, refl, sym, ap, _∙_}
-use mathlib.Core.List.{List, [], _∷_, _++_}
-use mathlib.Core.Bool.{Bool, true, false}
-use mathlib.Core.Logic.{⊎-elim}
-use native.Mathlib.Omega.{arith}
-use native.Mathlib.Numerals.{add-one}
-use lib.ListN.{length, take, drop, getD, set}
+use Prim.Native.Nat.{min}
+use mathlib.Core.Path.{_≡_, sym, ap, _∙_}
 use borrow.Author.Needs.{needs}
-use Rattle.node.specs.declared.silence.SilenceRule.{SilenceRule}
 use Rattle.synthdef.specs.Plan.{portsOf, span, namedSpan, spanOf}
 use Rattle.synthdef.proofs.plan.span_of.Statement.{statement}
 use Rattle.synthdef.proofs.plan.span_of.Tie as tie

@@ -1,11 +1,7 @@
-use Prim.Native.Nat.{ℕ, zero, suc, _+_, _*_, _≤_, _<_, _-_, min}
+use Prim.Native.Nat.{ℕ, _≤_}
 use mathlib.Core.Path.{_≡_, refl, sym, ap, _∙_}
-use mathlib.Core.List.{List, [], _∷_, _++_}
 use mathlib.Core.Bool.{Bool, true, false}
-use mathlib.Core.Logic.{⊎-elim}
 use native.Mathlib.Omega.{arith}
-use native.Mathlib.Numerals.{add-one}
-use lib.ListN.{length, take, drop, getD, set}
 use borrow.Author.Needs.{needs}
 use mathlib.Core.Bool.{cond}
 use lib.Dec.{ltb}
@@ -13,7 +9,7 @@ use borrow.Author.Tests.{ltb-true}
 use Rattle.node.specs.declared.silence.SilenceRule.{SilenceRule}
 use Rattle.node.specs.declared.silence.SilenceRule.the-variants.{Own, AnyPort, FirstPort, EveryPort, LevelPort, AmpPort, InPort}
 use Rattle.synthdef.specs.Tables.{edgeRows}
-use Rattle.synthdef.specs.Plan.{span, namedSpan, portsOf, spanOf, isEvery, sourcesFrom, step, summed, stepBy, stepOf}
+use Rattle.synthdef.specs.Plan.{span, namedSpan, portsOf, spanOf, isEvery, summed, stepBy, stepOf}
 use Rattle.synthdef.specs.declared.def.DefNode.{DefNode}
 use Rattle.synthdef.specs.declared.plan.Span.{Span}
 use Rattle.synthdef.proofs.plan.step_of.Statement.{statement}

@@ -1,13 +1,11 @@
-use Prim.Native.Nat.{ℕ, zero, suc, _+_, _*_, _≤_, _<_, _-_, min}
+use Prim.Native.Nat.{_+_, _≤_, _-_}
 use mathlib.Core.Path.{_≡_, refl, sym, ap, _∙_}
-use mathlib.Core.List.{List, [], _∷_, _++_}
+use mathlib.Core.List.{_∷_}
 use mathlib.Core.Bool.{Bool, true, false}
-use mathlib.Core.Logic.{⊎-elim}
 use native.Mathlib.Omega.{arith}
-use native.Mathlib.Numerals.{add-one}
-use lib.ListN.{length, take, drop, getD, set}
+use lib.ListN.{length, drop, getD}
 use borrow.Author.Needs.{needs}
-use mathlib.Core.Bool.{not, _&&_, Bool·beq}
+use mathlib.Core.Bool.{_&&_, Bool·beq}
 use lib.ListN.{drop-of-length-le}
 use borrow.Author.Tests.{not-true, not-false}
 use Rattle.lists.specs.Table.{left-cons}

@@ -1,17 +1,14 @@
-use Prim.Native.Nat.{ℕ, zero, suc, _+_, _*_, _≤_, _<_, _-_, min}
+use Prim.Native.Nat.{ℕ, _+_, _-_, min}
 use mathlib.Core.Path.{_≡_, refl, sym, ap, _∙_}
-use mathlib.Core.List.{List, [], _∷_, _++_}
+use mathlib.Core.List.{List, [], _∷_}
 use mathlib.Core.Bool.{Bool, true, false}
-use mathlib.Core.Logic.{⊎-elim}
-use native.Mathlib.Omega.{arith}
-use native.Mathlib.Numerals.{add-one}
-use lib.ListN.{length, take, drop, getD, set}
+use lib.ListN.{length, drop, getD}
 use borrow.Author.Needs.{needs}
 use mathlib.Core.Bool.{not, cond}
 use borrow.Author.Needs.{length-unmapped}
-use borrow.Author.Tests.{not-true, not-false}
+use borrow.Author.Tests.{not-false}
 use Rattle.synthdef.specs.Rows.{every, any}
-use Rattle.synthdef.specs.Plan.{stepSources, silentIn, says}
+use Rattle.synthdef.specs.Plan.{stepSources, silentIn}
 use Rattle.synthdef.proofs.Walk.{walked, next-row}
 use Rattle.synthdef.proofs.silent.says.Statement.{statement}
 use Rattle.synthdef.proofs.silent.says.Tie as tie

@@ -1,11 +1,8 @@
-use Prim.Native.Nat.{ℕ, zero, suc, _+_, _*_, _≤_, _<_, _-_, min}
-use mathlib.Core.Path.{_≡_, refl, sym, ap, _∙_}
-use mathlib.Core.List.{List, [], _∷_, _++_}
-use mathlib.Core.Bool.{Bool, true, false}
-use mathlib.Core.Logic.{⊎-elim}
+use Prim.Native.Nat.{_≤_}
+use mathlib.Core.Path.{sym, ap}
+use mathlib.Core.Bool.{false}
 use native.Mathlib.Omega.{arith}
-use native.Mathlib.Numerals.{add-one}
-use lib.ListN.{length, take, drop, getD, set}
+use lib.ListN.{length, getD}
 use borrow.Author.Needs.{needs}
 use lib.ListN.{List·getD-eq-default}
 use Rattle.synthdef.proofs.silent.silent_in.Statement.{statement}
