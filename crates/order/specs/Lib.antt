@@ -2,3 +2,4 @@ pub mod Live
 pub mod Required
 pub mod Prepare
 pub mod Examples
+pub mod Parts

@@ -267,6 +267,8 @@ take-arcs fs ts m h = go (decLt (length (arcs fs ts)) 1024)
 pub ranking : (r : Queue) (k : ℕ) (es : List Arc) → k ≤ 512 → Queued r k es → Ranked (record { rows = r .rows; count = r .count; whole = eqb (r .count) k }) (upto k) es
 unfolding whole
 ranking r k es h q =
-    let is : take (r .count) (r .rows) ≡ order (upto k) es = q .is ∙ rows-order k es in
-    let many : r .count ≡ length (order (upto k) es) = sym (length-take-le (r .count) (r .rows) (omega (arith, q .few, q .long))) ∙ ap length is in
-    record { long = q .long; is = is; many = many; all = rw (← many, length-upto k) }
+    let clamp : min (r .count) 512 ≡ r .count = omega (arith, q .few) in
+    let is : take (min (r .count) 512) (r .rows) ≡ order (upto k) es = ap (λ (c : ℕ). take c (r .rows)) clamp ∙ q .is ∙ rows-order k es in
+    let many : r .count ≡ length (take (min (r .count) 512) (r .rows)) =
+    sym (length-take-le (r .count) (r .rows) (omega (arith, q .few, q .long))) ∙ ap (λ (c : ℕ). length (take c (r .rows))) (sym clamp) in
+    record { long = q .long; is = is; many = many; all = rw (← (many ∙ ap length is), length-upto k) }

@@ -289,6 +289,13 @@ run-good n es (suc k) h s q g = go (decLt h (length (s .queue))) (run-good n es 
     go (yes l) ih = let r = ih (good-next n es h s l g) in (r .0, run-step k es h s l ∙ r .1, r .2)
     go (no o) ih = let l : length (s .queue) ≤ h = omega arith in (s, run-done (suc k) es h s l, good-past n es h s l g)
 
+-- no more are queued than there are
+pub rows-few : (n : ℕ) (es : List Arc) → length (orderRows n es) ≤ n
+unfolding orderRows
+rows-few n es =
+    let r = run-good n es n 0 (start n es) (zero-add n) (good-start n es) in
+    rw (r .1) (omega (arith, zeros-le (r .0 .counts), r .2 .empty, r .2 .long))
+
 pub nonzero : (c : List ℕ) → zeros c < length c → (v : ℕ) × (v < length c) × (getD c v 0 ≢ 0)
 unfolding zeros
 nonzero [] h = absurd (not-suc-le-zero h)

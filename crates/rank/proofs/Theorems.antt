@@ -10,13 +10,13 @@ use mathlib.Core.List.{List, [], _∷_, map}
 use mathlib.Core.Bool.{Bool, true, false, _||_, cond, false≢true}
 use borrow.Author.Tests.{eq-eqb, ne-eqb, eqb-true, eqb-false}
 use lib.Dec.{eqb}
-use lib.ListN.{length, getD}
+use lib.ListN.{length, getD, length-map}
 use Rattle.lists.specs.Member.{In, in-of-map, in-map}
 use Rattle.rank.specs.Order.{Arc, arc, among, order, whole, count-up, upto}
 use Rattle.rank.specs.Cycle.{Walk, step, then, Cyclic, Acyclic, Distinct, Before, Sorted}
 use Rattle.rank.specs.Names.{rowOf, rowArc}
 use Rattle.rank.specs.Parts.{orderRows}
-use Rattle.rank.proofs.Cycle.{in-upto, upto-in, in-count, count-in, short-rows}
+use Rattle.rank.proofs.Cycle.{in-upto, upto-in, in-count, count-in, short-rows, rows-few}
 use Rattle.rank.proofs.Sound.{bool-false, among-in, in-among, at-in, rows-only, rows-every, rows-sorted}
 use Rattle.rank.proofs.Counts.{rows-order, length-upto}
 use Rattle.rank.proofs.Names.{row-live, row-in, row-back, rows-apart, order-named, whole-named}
@@ -84,6 +84,9 @@ module _ (nodes : List ℕ) (d : Distinct nodes) (es : List Arc) where
   order-only x m =
       let r = in-map name rows x (subst (In x) named m) in
       subst (λ (y : ℕ). In y nodes) (sym (r .2)) (at-in nodes (r .0) (upto-in n (r .0) (rows-only n rs (r .0) (r .1))))
+
+  pub order-few : length (order nodes es) ≤ n
+  order-few = rw (named, length-map rows name) (rows-few n rs)
 
   walk-back : {u v : ℕ} → Walk (upto n) rs u v → Walk nodes es (name u) (name v)
   unfolding rs rowArc

@@ -1,5 +1,5 @@
--- What the parts of `ranked` compute, with counts in place of the arcs that are left; and what `ranked` promises.
--- Nothing here has to be believed but `Ranked`: proofs/Counts.antt shows that the counts give the order of specs/Order.antt.
+-- What the parts of `ranked` compute, with counts in place of the arcs that are left. Nothing here has to be believed but
+-- `rankingOf`: proofs/Counts.antt shows that the counts give the order of specs/Order.antt.
 -- Assumes nothing.
 use Prim.Native.Nat.{ℕ, zero, suc, _+_, _-_, _<_, _≤_}
 use mathlib.Core.List.{List, [], _∷_, _++_}
@@ -14,11 +14,14 @@ use Rattle.rank.specs.Order.{Arc, arc, order, whole}
 use Rattle.rank.specs.declared.Queue.{Queue}
 use Rattle.rank.specs.declared.Ranking.{Ranking}
 
--- ---- what `ranked` promises: the order, how long it is, and whether it has all nodes
+-- what a ranking holds
+abbrev pub rankingOf : Ranking → List ℕ
+rankingOf r = rowsOf 512 (r .count) (r .rows)
+
 pub record Ranked (r : Ranking) (nodes : List ℕ) (es : List Arc) : Type 0 where
   pub long : length (r .rows) ≡ 512
-  pub is : take (r .count) (r .rows) ≡ order nodes es
-  pub many : r .count ≡ length (order nodes es)
+  pub is : rankingOf r ≡ order nodes es
+  pub many : r .count ≡ length (rankingOf r)
   pub all : r .whole ≡ whole nodes es
 
 -- ---- counts

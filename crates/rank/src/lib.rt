@@ -1,8 +1,8 @@
 ghost use mathlib.Core.Path.{_≡_};
 ghost use Prim.Native.Nat.{min, _≤_};
 ghost use lib.ListN.{length, take};
-ghost use Rattle.rank.specs.Order.{arcs, upto};
-ghost use Rattle.rank.specs.Parts.{Degrees, Linked, Ready, Queued, Ranked};
+ghost use Rattle.rank.specs.Order.{arcs, upto, order, whole};
+ghost use Rattle.rank.specs.Parts.{Degrees, Linked, Ready, Queued, rankingOf};
 
 // The order of nodes that are the indices 0 to n - 1: the first `count` of `rows`, and whether they are all.
 pub struct Ranking {
@@ -16,7 +16,8 @@ struct Queue {
     count: usize,
 }
 
-fn at_most(count: usize, most: usize) -> usize
+// A count that is clamped: above `most` it counts as `most`.
+pub fn at_most(count: usize, most: usize) -> usize
     ensures { λ r. ⌜ r ≡ min count most ⌝ }
 {
     if count < most { count } else { most }
@@ -132,7 +133,9 @@ fn queued(from: &[usize], to: &[usize], n: usize, m: usize) -> Queue
 // The order of the indices 0 to n - 1 under the arcs from from[i] to to[i], as far as both slices go; an arc with an end
 // at or past n does not count. At most 512 indices and 1,024 arcs are looked at.
 pub fn ranked(n: usize, from: &[usize], to: &[usize]) -> Ranking
-    ensures { λ r. ⌜ Ranked r (upto (min n 512)) (take 1024 (arcs (now (from .entry)) (now (to .entry)))) ⌝ }
+    ensures is { λ r. ⌜ rankingOf r ≡ order (upto (min n 512)) (take 1024 (arcs (now (from .entry)) (now (to .entry)))) ⌝ }
+    ensures all { λ r. ⌜ r .whole ≡ whole (upto (min n 512)) (take 1024 (arcs (now (from .entry)) (now (to .entry)))) ⌝ }
+    ensures sized { λ r. ⌜ (length (r .rows) ≡ 512) × (r .count ≡ length (rankingOf r)) ⌝ }
 {
     let k = at_most(n, 512);
     let m = at_most(at_most(from.len(), to.len()), 1024);

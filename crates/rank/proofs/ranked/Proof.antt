@@ -40,7 +40,8 @@ returns c =
     let m = c .before .before .at-most3 in
     let h : k .result ≤ 512 = omega arith in
     let e : m .result ≡ min (min (length (a .from .now)) (length (a .to .now))) 1024 = m .ensures ∙ ap (λ (x : ℕ). min x 1024) (n .ensures) in
-    rw (← (k .ensures), ← (take-arcs (a .from .now) (a .to .now) (m .result) e)) (ranking (c .before .queued .result) (k .result) _ h (c .before .queued .ensures))
+    let r = ranking (c .before .queued .result) (k .result) _ h (c .before .queued .ensures) in
+    rw (← (k .ensures), ← (take-arcs (a .from .now) (a .to .now) (m .result) e)) (r .is, (r .all, (r .long, r .many)))
 
 pub ranked-spec : {M : Type 1} → statement M
 ranked-spec =

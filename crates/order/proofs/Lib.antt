@@ -1,0 +1,7 @@
+pub mod Empty
+pub mod Find
+pub mod Rises
+pub mod Mapped
+pub mod Ports
+pub mod Graph
+pub mod Theorems

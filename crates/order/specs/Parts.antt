@@ -1,0 +1,88 @@
+-- What the parts of `processing_order` and `prepare` compute, by rows of the node table. Nothing here has to be believed.
+-- Assumes nothing.
+use Prim.Native.Nat.{ℕ, zero, suc, _+_, _*_, _<_, _≤_, min}
+use mathlib.Core.List.{List, [], _∷_, map}
+use mathlib.Core.Bool.{Bool, true, false, _&&_, _||_, not}
+use mathlib.Core.Path.{_≡_}
+use lib.ListN.{length, take, getD}
+use lib.Dec.{eqb, ltb}
+use Rattle.lists.specs.Table.{rowsOf}
+use Rattle.node.specs.declared.record.Node.{Node}
+use Rattle.node.specs.declared.record.NodeId.{NodeId}
+use Rattle.node.specs.declared.record.Edge.{Edge}
+use Rattle.rank.specs.Order.{upto}
+use Rattle.rank.specs.Names.{rowOf}
+use Rattle.rank.specs.declared.Ranking.{Ranking}
+use Rattle.order.specs.declared.Live.{Live}
+use Rattle.order.specs.declared.Ended.{Ended}
+use Rattle.order.specs.declared.Order.{Order}
+use Rattle.order.specs.declared.Prepared.{Prepared}
+use Rattle.order.specs.Live.{liveIds, asId, processingOrder, orderOf}
+use Rattle.order.specs.Prepare.{prepare, outcomeOf}
+use Rattle.order.specs.Required.{any, bit}
+
+pub record Lived (r : Live) (nodes : List Node) : Type 0 where
+  pub long : length (r .ids) ≡ 512
+  pub few : r .count ≤ 512
+  pub is : take (r .count) (r .ids) ≡ liveIds nodes
+
+-- the numbers rise
+pub record Rising (l : List ℕ) : Type 0 where
+  pub rises : (i j : ℕ) → i < j → j < length l → getD l i 0 < getD l j 0
+
+abbrev pub sourceRow : List ℕ → Edge → ℕ
+sourceRow ids e = rowOf ids (e .from .0)
+
+abbrev pub targetRow : List ℕ → Edge → ℕ
+targetRow ids e = rowOf ids (e .to .0)
+
+pub record Ends (r : Ended) (ids : List ℕ) (edges : List Edge) : Type 0 where
+  pub from-long : length (r .from) ≡ 1024
+  pub to-long : length (r .to) ≡ 1024
+  pub from-is : take (length edges) (r .from) ≡ map (sourceRow ids) edges
+  pub to-is : take (length edges) (r .to) ≡ map (targetRow ids) edges
+
+-- ---- required ports
+pub record Blank (l : List Bool) : Type 0 where
+  pub long : length l ≡ 32768
+  pub none : (j : ℕ) → getD l j false ≡ false
+
+-- one of the edges, whose ends are at the rows `from` and `to`, goes from a row below n to port p of row r
+unfoldable pub plugs : ℕ → List ℕ → List ℕ → List Edge → ℕ → ℕ → Bool
+plugs n [] ts es r p = false
+plugs n (f ∷ fs) [] es r p = false
+plugs n (f ∷ fs) (t ∷ ts) [] r p = false
+plugs n (f ∷ fs) (t ∷ ts) (e ∷ es) r p = (ltb f n && (eqb t r && eqb (e .port) p)) || plugs n fs ts es r p
+
+pub record Plugged (flags : List Bool) (n : ℕ) (from to : List ℕ) (edges : List Edge) : Type 0 where
+  pub long : length flags ≡ 32768
+  pub is : (r p : ℕ) → r < n → p < 64 → getD flags (r * 64 + p) false ≡ plugs n from to edges r p
+
+unfoldable pub portsLack : List Bool → ℕ → ℕ → ℕ → Bool
+portsLack flags row ports required = any (λ p. bit required p && not (getD flags (row * 64 + p) false)) (upto (min ports 64))
+
+unfoldable pub rowsLack : List Bool → List Node → ℕ → Bool
+rowsLack flags [] row = false
+rowsLack flags (x ∷ l) row = portsLack flags row (x .ports) (x .required) || rowsLack flags l (suc row)
+
+-- ---- ids
+pub record RowsIn (r : Ranking) : Type 0 where
+  pub long : length (r .rows) ≡ 512
+  pub few : r .count ≤ 512
+  pub below : (j : ℕ) → j < r .count → getD (r .rows) j 0 < 512
+
+pub record Named (o : Order) (ids : List ℕ) (rows : List ℕ) : Type 0 where
+  pub long : length (o .ids) ≡ 512
+  pub many : o .count ≡ length rows
+  pub is : take (o .count) (o .ids) ≡ map (λ r. asId (getD ids r 0)) rows
+
+-- ---- what the two functions promise, as one record each
+pub record Ordered (r : Order) (nodes : List Node) (edges : List Edge) : Type 0 where
+  pub long : length (r .ids) ≡ 512
+  pub many : r .count ≡ length (orderOf r)
+  pub is : orderOf r ≡ processingOrder nodes edges
+
+pub record Prepares (r : Prepared) (nodes : List Node) (edges : List Edge) : Type 0 where
+  pub long : length (r .order .ids) ≡ 512
+  pub many : r .order .count ≡ length (orderOf (r .order))
+  pub is : outcomeOf r ≡ prepare nodes edges
