@@ -1,0 +1,6 @@
+pub mod Rates
+pub mod Digits
+pub mod Sizes
+pub mod Blocks
+pub mod Fades
+pub mod Sums

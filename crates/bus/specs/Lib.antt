@@ -1,0 +1,8 @@
+pub mod Answer
+pub mod Rate
+pub mod Block
+pub mod Fade
+pub mod Sum
+pub mod Noise
+pub mod Examples
+pub mod Scenes

@@ -1,0 +1,5 @@
+pub mod Root
+pub mod Narrow
+pub mod Level
+pub mod Digits
+pub mod Examples

@@ -1,0 +1,4 @@
+pub mod Event
+pub mod Queue
+pub mod Sorted
+pub mod Examples

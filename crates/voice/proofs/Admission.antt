@@ -1,0 +1,39 @@
+-- The two ways through an admission under a budget: below it, and at it. Assumes nothing.
+use Prim.Native.Nat.{ℕ, _≤_, _<_}
+use mathlib.Core.Path.{_≡_, refl, sym, ap, _∙_}
+use mathlib.Core.List.{List}
+use mathlib.Core.Option.{none, some}
+use mathlib.Core.Bool.{Bool, true, false, _&&_, cond}
+use borrow.Author.Tests.{le-leb, lt-leb}
+use lib.ListN.{length}
+use Rattle.voice.specs.declared.policy.StealPolicy.{StealPolicy}
+use Rattle.voice.specs.declared.policy.Candidate.{Candidate}
+use Rattle.voice.specs.declared.policy.Victim.{Victim}
+use Rattle.voice.specs.declared.policy.Budget.{Budget}
+use Rattle.voice.specs.declared.policy.Budget.the-variants.{AtMost}
+use Rattle.voice.specs.declared.policy.Victim.the-variants.{Nobody, Goes}
+use Rattle.voice.specs.declared.policy.Admission.{Admission}
+use Rattle.voice.specs.declared.policy.Admission.the-variants as admission
+use Rattle.voice.specs.Policy.{victim, atBudget, decides, admits, nobody, admissionNumber, rejectNumber}
+
+-- the answer, and its number
+abbrev pub Admitted : Budget → StealPolicy → List Candidate → Admission → Type 0
+Admitted b p l r = (r ≡ admits b p l) × (admissionNumber r ≡ rejectNumber b p l)
+
+admitted : (b : Budget) (p : StealPolicy) (l : List Candidate) (r : Admission) → r ≡ admits b p l → Admitted b p l r
+admitted b p l r e = (e, ap admissionNumber e ∙ go (atBudget b (length l)) (victim p l))
+  where
+    go : (at : Bool) (v : Victim) → admissionNumber (decides at v) ≡ cond (at && nobody v) (some 11) none
+    go false v = refl
+    go true Nobody = refl
+    go true (Goes place voice) = refl
+
+module _ (b : Budget) (p : StealPolicy) (l : List Candidate) (most : ℕ) (is : b ≡ AtMost most) where
+  pub below-budget : length l < most → Admitted b p l admission.Admit
+  below-budget h =
+      admitted b p l admission.Admit (sym (ap (λ z. admits z p l) is ∙ ap (λ t. decides t (victim p l)) (lt-leb most (length l) h)))
+
+  pub at-budget : (v : Victim) → most ≤ length l → victim p l ≡ v → Admitted b p l (decides true v)
+  at-budget v h e =
+      admitted b p l (decides true v)
+      (sym (ap (λ z. admits z p l) is ∙ ap (λ t. decides t (victim p l)) (le-leb most (length l) h) ∙ ap (decides true) e))

@@ -1,0 +1,4 @@
+pub mod Walk
+pub mod Admission
+pub mod Ring
+pub mod Records

@@ -1,0 +1,48 @@
+-- The laws by which the walk over the candidates goes, and the last of a list by its place. Assumes nothing.
+use Prim.Native.Nat.{ℕ, _+_, _-_, _≤_, _<_}
+use native.Mathlib.Omega.{arith}
+use native.Mathlib.Numerals.{add-one}
+use mathlib.Core.Path.{_≡_, sym, ap, _∙_}
+use mathlib.Core.List.{List, [], _∷_}
+use mathlib.Core.Bool.{Bool}
+use lib.ListN.{length, take, drop, getD}
+use lib.Ieee.{Float}
+use lib.Seq.{length-take-le, getD-take}
+use Rattle.lists.specs.Table.{left-row}
+use Rattle.voice.specs.declared.policy.Candidate.{Candidate}
+use Rattle.voice.specs.declared.policy.Held.{Held}
+use Rattle.voice.specs.declared.policy.Held.the-variants as held
+use Rattle.voice.specs.declared.policy.Level.{Level}
+use Rattle.voice.specs.declared.policy.Level.the-variants.{Known}
+use Rattle.voice.specs.declared.policy.Victim.the-variants.{Goes}
+use Rattle.voice.specs.Victims.{last-from}
+use Rattle.voice.specs.Policy.{takes, take?, passed, walk, newest, oldest}
+
+-- a candidate whose level is known
+pub pass-known : (g : Held) (p : ℕ) (c : Candidate) (l : Level) (x : Float) (b : Bool) → l ≡ Known x → takes g x ≡ b → passed g p c l ≡ take? b (held.Taken p (c .voice) x) g
+pass-known g p c l x b e t = ap (passed g p c) e ∙ ap (λ z. take? z (held.Taken p (c .voice) x) g) t
+
+module _ (d : Candidate) (rows : List Candidate) (k i : ℕ) (h : i < k) (t : k ≤ length rows) where
+  -- one candidate of the walk
+  pub walk-row : (g : Held) → walk g i (drop i (take k rows)) ≡ walk (passed g i (getD rows i d) (getD rows i d .level)) (i + 1) (drop (i + 1) (take k rows))
+  walk-row g =
+      ap (walk g i) (left-row d rows k i h t)
+      ∙ ap (λ n. walk (passed g i (getD rows i d) (getD rows i d .level)) n (drop (i + 1) (take k rows))) (sym (add-one i))
+
+-- the first of the rows
+pub oldest-row : (d : Candidate) (rows : List Candidate) (k : ℕ) → 0 < k → k ≤ length rows → oldest (take k rows) ≡ Goes 0 (getD rows 0 d .voice)
+oldest-row d rows k h t = ap oldest (left-row d rows k 0 h t)
+
+-- the last of a list that has one
+newest-at : (d : Candidate) (l : List Candidate) (n : ℕ) → length l ≡ n → 0 < n → newest l ≡ Goes (n - 1) (getD l (n - 1) d .voice)
+newest-at d [] n e h = absurd (omega arith)
+newest-at d (c ∷ l) n e h =
+    let z : length l ≡ n - 1 = omega arith in
+    let w : 0 + length l ≡ n - 1 = omega arith in
+    last-from d 0 c l ∙ ap (λ m. Goes m (getD (c ∷ l) (length l) d .voice)) w ∙ ap (λ m. Goes (n - 1) (getD (c ∷ l) m d .voice)) z
+
+-- the last of the rows
+pub newest-row : (d : Candidate) (rows : List Candidate) (k : ℕ) → 0 < k → k ≤ length rows → newest (take k rows) ≡ Goes (k - 1) (getD rows (k - 1) d .voice)
+newest-row d rows k h t =
+    let last : k - 1 < k = omega arith in
+    newest-at d (take k rows) k (length-take-le k rows t) h ∙ ap (λ c. Goes (k - 1) (c .voice)) (getD-take k rows (k - 1) d last)

@@ -1,0 +1,230 @@
+use node::record::NodeId;
+use node::record::VoiceId;
+ghost use mathlib.Core.Path.{_≡_};
+ghost use mathlib.Core.List.{[]};
+ghost use Prim.Native.Nat.{min};
+ghost use Rattle.voice.specs.Policy.{candidatesOf, oldest, newest, takes, passed, walk, quietest, victim, counts, admits, admissionNumber, rejectNumber};
+
+// What to do at budget.
+pub enum StealPolicy {
+    Reject,
+    Oldest,
+    Newest,
+    Quietest,
+}
+
+// Which tracked voices a budget counts: all, or those of the newcomer's bus.
+pub enum BudgetScope {
+    Global,
+    PerGroup,
+}
+
+// A voice's level, or none.
+pub enum Level {
+    Unknown,
+    Known(f32),
+}
+
+// A voice that may have to go.
+pub struct Candidate {
+    pub voice: VoiceId,
+    pub level: Level,
+}
+
+// The candidates, in order of admission: the first `count` rows; a count above the capacity is the capacity.
+pub struct Candidates {
+    pub rows: [Candidate; 64],
+    pub count: usize,
+}
+
+// What the walk of `Quietest` holds: the candidate taken so far, with its place and its level.
+pub enum Held {
+    Nothing,
+    Taken {
+        place: usize,
+        voice: VoiceId,
+        level: f32,
+    },
+}
+
+// Who goes: its place among the candidates, and its id.
+pub enum Victim {
+    Nobody,
+    Goes { place: usize, voice: VoiceId },
+}
+
+// How many voices may be tracked at once.
+pub enum Budget {
+    Unlimited,
+    AtMost(usize),
+}
+
+// What a newcomer meets.
+pub enum Admission {
+    Admit,
+    Reject,
+    Steal { place: usize, voice: VoiceId },
+}
+
+// No candidates: the table that a caller fills from the front.
+pub fn no_candidates() -> Candidates
+    ensures { λ r. ⌜ candidatesOf r ≡ [] ⌝ }
+{
+    let c = Candidate {
+        voice: VoiceId(0),
+        level: Level::Unknown,
+    };
+    Candidates {
+        rows: [c; 64],
+        count: 0,
+    }
+}
+
+// A count above the capacity is the capacity.
+pub fn at_most_64(count: usize) -> usize
+    ensures { λ r. ⌜ r ≡ min count 64 ⌝ }
+{
+    if count < 64 { count } else { 64 }
+}
+
+// Whether the walk takes a level.
+fn takes_level(h: Held, x: f32) -> bool
+    ensures { λ r. ⌜ r ≡ takes h x ⌝ }
+{
+    match h {
+        Held::Nothing => true,
+        Held::Taken {
+            place: _,
+            voice: _,
+            level,
+        } => x < level,
+    }
+}
+
+// One candidate of the walk, at the place `p`.
+fn pass_candidate(h: Held, p: usize, c: Candidate) -> Held
+    ensures { λ r. ⌜ r ≡ passed h p c (c .level) ⌝ }
+{
+    let level = c.level;
+    match level {
+        Level::Unknown => h,
+        Level::Known(x) => {
+            if takes_level(h, x) {
+                let voice = c.voice;
+                Held::Taken {
+                    place: p,
+                    voice: voice,
+                    level: x,
+                }
+            } else {
+                h
+            }
+        }
+    }
+}
+
+// The walk of `Quietest`, in order of admission.
+fn walk_levels(t: Candidates) -> Held
+    ensures { λ r. ⌜ r ≡ walk Held.Nothing 0 (candidatesOf t) ⌝ }
+{
+    let n = at_most_64(t.count);
+    let mut h = Held::Nothing;
+    let mut i: usize = 0;
+    while i < n {
+        let c = t.rows[i];
+        h = pass_candidate(h, i, c);
+        i += 1;
+    }
+    h
+}
+
+fn pick_oldest(t: Candidates) -> Victim
+    ensures { λ r. ⌜ r ≡ oldest (candidatesOf t) ⌝ }
+{
+    if t.count == 0 {
+        return Victim::Nobody;
+    }
+    let c = t.rows[0];
+    let voice = c.voice;
+    Victim::Goes {
+        place: 0,
+        voice: voice,
+    }
+}
+
+fn pick_newest(t: Candidates) -> Victim
+    ensures { λ r. ⌜ r ≡ newest (candidatesOf t) ⌝ }
+{
+    let n = at_most_64(t.count);
+    if n == 0 {
+        return Victim::Nobody;
+    }
+    let c = t.rows[n - 1];
+    let voice = c.voice;
+    Victim::Goes {
+        place: n - 1,
+        voice: voice,
+    }
+}
+
+fn pick_quietest(t: Candidates) -> Victim
+    ensures { λ r. ⌜ r ≡ quietest (candidatesOf t) ⌝ }
+{
+    let h = walk_levels(t);
+    match h {
+        Held::Nothing => pick_oldest(t),
+        Held::Taken {
+            place,
+            voice,
+            level: _,
+        } => Victim::Goes {
+            place: place,
+            voice: voice,
+        },
+    }
+}
+
+// The candidate that the policy gives up, whatever the budget.
+pub fn pick_victim(t: Candidates, policy: StealPolicy) -> Victim
+    ensures { λ r. ⌜ r ≡ victim policy (candidatesOf t) ⌝ }
+{
+    match policy {
+        StealPolicy::Reject => Victim::Nobody,
+        StealPolicy::Oldest => pick_oldest(t),
+        StealPolicy::Newest => pick_newest(t),
+        StealPolicy::Quietest => pick_quietest(t),
+    }
+}
+
+// Whether a tracked voice of the bus `theirs` counts for a newcomer on `bus`.
+pub fn counts_for(scope: BudgetScope, theirs: NodeId, bus: NodeId) -> bool
+    ensures { λ r. ⌜ r ≡ counts scope theirs bus ⌝ }
+{
+    match scope {
+        BudgetScope::Global => true,
+        BudgetScope::PerGroup => theirs.0 == bus.0,
+    }
+}
+
+// What a newcomer meets. The candidates are the tracked voices that count for it.
+pub fn request_in(budget: Budget, policy: StealPolicy, t: Candidates) -> Admission
+    ensures { λ r. ⌜
+        (r ≡ admits budget policy (candidatesOf t))
+        × (admissionNumber r ≡ rejectNumber budget policy (candidatesOf t))
+        ⌝ }
+{
+    let Budget::AtMost(most) = budget else {
+        return Admission::Admit;
+    };
+    if at_most_64(t.count) < most {
+        return Admission::Admit;
+    }
+    let v = pick_victim(t, policy);
+    match v {
+        Victim::Nobody => Admission::Reject,
+        Victim::Goes { place, voice } => Admission::Steal {
+            place: place,
+            voice: voice,
+        },
+    }
+}
