@@ -19,7 +19,14 @@ use Rattle.synthdef.specs.declared.def.SynthDef.{SynthDef}
 unfoldable pub node : String → ℕ → ℕ → ℕ → ℕ → DefNode
 node kind ports i l a =
     record {
-      kind = name kind; ports = ports; required = 0; «takes_values» = true; «takes_glides» = true; «in_port» = i; «level_port» = l; «amp_port» = a;
+      kind = name kind;
+      ports = ports;
+      required = 0;
+      «takes_values» = true;
+      «takes_glides» = true;
+      «in_port» = i;
+      «level_port» = l;
+      «amp_port» = a;
     }
 
 unfoldable pub edge : ℕ → ℕ → ℕ → DefEdge

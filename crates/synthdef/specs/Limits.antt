@@ -57,7 +57,8 @@ allowed d =
     && (every (paramAllowed (length (nodeRows (d .nodes)))) (paramRows (d .params)) && (ltb (d .output) (length (nodeRows (d .nodes)))
     && ordered (length (nodeRows (d .nodes))) (edgeRows (d .edges))))))
 
--- ---- the same as statements: a definition is allowed exactly if it keeps them
+-- ---- the same as statements. A definition is allowed exactly if it keeps them: `allowed-within` and `within-allowed` of
+-- proofs/Within.antt.
 pub record NodeWithin (n : DefNode) : Type 0 where
   pub kind : (1 ≤ n .kind .len) × (n .kind .len ≤ 16)
   pub ports : n .ports ≤ 8

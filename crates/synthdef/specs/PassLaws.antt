@@ -10,8 +10,9 @@ use lib.ListN.{length, getD, replicate}
 use Rattle.lists.specs.Member.{and-left, and-right, both}
 use Rattle.lists.specs.Count.{count, count-length}
 use Rattle.synthdef.specs.Rows.{every, any}
-use Rattle.synthdef.specs.Plan.{stepSources, silentIn, says, passFrom, pass, passes, sameFlags, settled}
+use Rattle.synthdef.specs.Plan.{stepSources, silentIn, says, passFrom, pass, passes, sameFlags, settled, planSilent}
 use Rattle.synthdef.specs.declared.plan.DoneStep.{DoneStep}
+use Rattle.synthdef.specs.declared.plan.DonePlan.{DonePlan}
 
 -- each node that is silent in s is silent in t
 abbrev pub Grows : List Bool → List Bool → Type 0
@@ -119,3 +120,17 @@ same-same (x ∷ a) (y ∷ b) l h = go x y (same-same a b (omega arith)) h
     go true false ih k = absurd (false≢true k)
     go false true ih k = absurd (false≢true k)
     go false false ih k = ap (λ l. false ∷ l) (ih k)
+
+-- ---- only the flags of the nodes count: a list of them, and an array with clear flags past it, say the same
+module _ (a b : List Bool) (same : (i : ℕ) → getD a i false ≡ getD b i false) where
+  pass-flags : (sts : List DoneStep) (s : List Bool) (i : ℕ) → passFrom sts a s i ≡ passFrom sts b s i
+  pass-flags [] s i = refl
+  pass-flags (st ∷ sts) s i = rw (same i, pass-flags sts s (suc i))
+
+  passes-flags : (k : ℕ) (sts : List DoneStep) (s : List Bool) → passes k sts a s ≡ passes k sts b s
+  passes-flags zero sts s = refl
+  passes-flags (suc k) sts s = ap (passes k sts a) (pass-flags sts s 0) ∙ passes-flags k sts (pass sts b s)
+
+  pub silent-flags : (p : DonePlan) → planSilent p a ≡ planSilent p b
+  unfolding settled
+  silent-flags p = ap (λ s. silentIn s (p .output)) (passes-flags 24 (p .steps) (replicate 24 false))

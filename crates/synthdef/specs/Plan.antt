@@ -1,6 +1,6 @@
 -- The done plan: of each node the sources that its rule reads, and whether one or all of them have to be silent. A plan is evaluated
--- on the done flags by passes over the nodes until nothing changes. That its answer is the one that the rule of `Silent` gives, and
--- the only one, is the theorem of proofs/Answer.antt.
+-- on the done flags by passes over the nodes until nothing changes. That its answer meets the rule of `Silent` at every node, and that
+-- no other does, is the theorem `plan-answers` of proofs/Theorem.antt: nothing here has to be believed beside it.
 -- Assumes nothing.
 use Prim.Native.Nat.{ℕ, zero, suc, _-_, min}
 use mathlib.Core.List.{List, [], _∷_, _++_}

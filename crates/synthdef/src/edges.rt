@@ -1,17 +1,10 @@
 use crate::def::DefEdge;
 use crate::def::DefEdges;
+use rank::at_most;
 ghost use mathlib.Core.Path.{_≡_};
 ghost use lib.ListN.{drop};
-ghost use Prim.Native.Nat.{min};
 ghost use Rattle.synthdef.specs.Tables.{edgeRows, edgeTable};
 ghost use Rattle.synthdef.specs.Edges.{counted, taken, endsAt};
-
-// A count, or the capacity where it is above that.
-pub fn at_most(count: usize, most: usize) -> usize
-    ensures { λ r. ⌜ r ≡ min count most ⌝ }
-{
-    if count < most { count } else { most }
-}
 
 // A byte as a place in a table.
 pub fn wide(x: u8) -> usize

@@ -1,12 +1,12 @@
 use crate::def::DefEdges;
 use crate::def::DefNode;
 use crate::def::SynthDef;
-use crate::edges::at_most;
 use crate::edges::counted_edges;
 use crate::edges::ends_at;
 use crate::edges::wide;
 use node::silence::SilenceRule;
 use node::silence::silence_rule;
+use rank::at_most;
 ghost use mathlib.Core.Path.{_≡_};
 ghost use Prim.Native.Nat.{_≤_};
 ghost use mathlib.Core.Bool.{false};

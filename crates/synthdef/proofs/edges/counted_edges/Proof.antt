@@ -12,10 +12,6 @@ use Rattle.synthdef.specs.declared.def.DefEdge.{DefEdge}
 use Rattle.synthdef.proofs.Walk.{walked, next-row, Filled, filled-none, filled-one, filled-is, one-more}
 use Rattle.synthdef.proofs.edges.counted_edges.Statement.{statement}
 use Rattle.synthdef.proofs.edges.counted_edges.Tie as tie
-use Rattle.synthdef.proofs.edges.counted_edges.Reads as reads
-use Rattle.synthdef.proofs.edges.counted_edges.Lts as lts
-use Rattle.synthdef.proofs.edges.at_most.Reads as at-most-reads
-use Rattle.synthdef.proofs.edges.taken_after.Reads as taken-after-reads
 
 abbrev Inv-loop : tie.InvT-loop
 Inv-loop es m rows₀ count₀ i₀ rows count i =
@@ -45,43 +41,33 @@ counts-not e es h = rw h
 at-most-requires : tie.Need-at-most-requires Inv-loop μ-loop
 at-most-requires c κs = search needs
 
--- src/edges.rt:65:5
 loop-holds : tie.Need-loop-holds Inv-loop μ-loop
 loop-holds c = (search needs, search needs, search needs, filled-none noEdge 48, refl)
 
--- src/edges.rt:66:17
 mul-e : tie.Need-mul-e Inv-loop μ-loop
 mul-e c = search needs
 
--- src/edges.rt:66:17
 element-copy-out-e : tie.Need-element-copy-out-e Inv-loop μ-loop
 element-copy-out-e c = search needs
 
--- src/edges.rt:67:9
 add-i : tie.Need-add-i Inv-loop μ-loop
 add-i c = search needs
 
--- src/edges.rt:68:13
 taken-after-requires : tie.Need-taken-after-requires Inv-loop μ-loop
 taken-after-requires c κs = search needs
 
--- src/edges.rt:69:13
 mul-rows : tie.Need-mul-rows Inv-loop μ-loop
 mul-rows c = search needs
 
--- src/edges.rt:69:13
 array-set-from-rows : tie.Need-array-set-from-rows Inv-loop μ-loop
 array-set-from-rows c = search needs
 
--- src/edges.rt:70:13
 add-count : tie.Need-add-count Inv-loop μ-loop
 add-count c = search needs
 
--- src/edges.rt:65:5
 loop-less : tie.Need-loop-less Inv-loop μ-loop
 loop-less c = search needs
 
--- src/edges.rt:65:5
 loop-again : tie.Need-loop-again Inv-loop μ-loop
 loop-again c =
     let l = c .before .before .before .before in
@@ -101,11 +87,9 @@ loop-again c =
           ∙ v .4,
     )
 
--- src/edges.rt:65:5
 loop-less-2 : tie.Need-loop-less-2 Inv-loop μ-loop
 loop-less-2 c = search needs
 
--- src/edges.rt:65:5
 loop-again-2 : tie.Need-loop-again-2 Inv-loop μ-loop
 loop-again-2 c =
     let l = c .before .before .before .before in
@@ -121,7 +105,6 @@ loop-again-2 c =
       ap (λ z. take (l .loop .count) (l .loop .rows) ++ z) (sym (ap counted (next (c .before .before .before)) ∙ counts-not e rest later)) ∙ v .4,
     )
 
--- src/edges.rt:53:1
 returns : tie.Need-returns Inv-loop μ-loop
 returns c =
     let l = c .before in

@@ -3,25 +3,18 @@ use borrow.Author.Needs.{needs}
 use borrow.Author.Tests.{eq-eqb, ne-eqb}
 use Rattle.synthdef.proofs.edges.ends_at.Statement.{statement}
 use Rattle.synthdef.proofs.edges.ends_at.Tie as tie
-use Rattle.synthdef.proofs.edges.ends_at.Reads as reads
-use Rattle.synthdef.proofs.edges.ends_at.Lts as lts
-use Rattle.synthdef.proofs.edges.wide.Reads as wide-reads
 
--- src/edges.rt:29:9
 wide-requires : tie.Need-wide-requires
 wide-requires c κs = search needs
 
--- src/edges.rt:30:9
 wide-requires-2 : tie.Need-wide-requires-2
 wide-requires-2 c κs = search needs
 
--- src/edges.rt:26:1
 returns : tie.Need-returns
 returns c =
     let e : c .before .before .before .args .e .to ≡ c .before .before .before .args .node = sym (c .before .before .wide .ensures) ∙ c .if1 .taken in
     rw (eq-eqb _ _ e, c .before .wide2 .ensures)
 
--- src/edges.rt:26:1
 returns-2 : tie.Need-returns-2
 returns-2 c = rw (ne-eqb _ _ (λ e. c .if1 .left (c .before .before .wide .ensures ∙ e)))
 

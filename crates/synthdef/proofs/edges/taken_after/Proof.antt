@@ -12,11 +12,6 @@ use Rattle.synthdef.specs.declared.def.DefEdges.{DefEdges}
 use Rattle.synthdef.proofs.Walk.{walked, any-hit, any-miss}
 use Rattle.synthdef.proofs.edges.taken_after.Statement.{statement}
 use Rattle.synthdef.proofs.edges.taken_after.Tie as tie
-use Rattle.synthdef.proofs.edges.taken_after.Reads as reads
-use Rattle.synthdef.proofs.edges.taken_after.Lts as lts
-use Rattle.synthdef.proofs.edges.at_most.Reads as at-most-reads
-use Rattle.synthdef.proofs.edges.ends_at.Reads as ends-at-reads
-use Rattle.synthdef.proofs.edges.wide.Reads as wide-reads
 
 abbrev taken-from : DefEdges → ℕ → ℕ → ℕ → Bool
 taken-from es node port i = any (endsAt node port) (drop i (edgeRows es))
@@ -38,31 +33,24 @@ by-e c l =
 wide-requires : tie.Need-wide-requires Inv-loop μ-loop
 wide-requires c κs = search needs
 
--- src/edges.rt:39:9
 wide-requires-2 : tie.Need-wide-requires-2 Inv-loop μ-loop
 wide-requires-2 c κs = search needs
 
--- src/edges.rt:40:9
 at-most-requires : tie.Need-at-most-requires Inv-loop μ-loop
 at-most-requires c κs = search needs
 
--- src/edges.rt:42:5
 loop-holds : tie.Need-loop-holds Inv-loop μ-loop
 loop-holds c = refl
 
--- src/edges.rt:43:17
 mul-x : tie.Need-mul-x Inv-loop μ-loop
 mul-x c = search needs
 
--- src/edges.rt:43:17
 element-copy-out-x : tie.Need-element-copy-out-x Inv-loop μ-loop
 element-copy-out-x c = search needs
 
--- src/edges.rt:44:12
 ends-at-requires : tie.Need-ends-at-requires Inv-loop μ-loop
 ends-at-requires c κs = search needs
 
--- src/edges.rt:45:13
 returns : tie.Need-returns Inv-loop μ-loop
 returns c =
     let l = c .before .before .before .before in
@@ -73,15 +61,12 @@ returns c =
     ∙ any-hit 48 (s .args .t1 .count) (s .args .t1 .rows) (l .before .at-most .result) (l .before .at-most .ensures) (l .loop .i) (long s)
     (search needs) noEdge (endsAt _ _) (sym (c .before .ends-at .ensures) ∙ c .if1 .taken))
 
--- src/edges.rt:47:9
 add-i : tie.Need-add-i Inv-loop μ-loop
 add-i c = search needs
 
--- src/edges.rt:42:5
 loop-less : tie.Need-loop-less Inv-loop μ-loop
 loop-less c = search needs
 
--- src/edges.rt:42:5
 loop-again : tie.Need-loop-again Inv-loop μ-loop
 loop-again c =
     let l = c .before .before .before .before in
@@ -90,7 +75,6 @@ loop-again c =
     (search needs) noEdge (endsAt _ _) (sym (c .before .ends-at .ensures) ∙ c .if1 .left)
     ∙ l .loop .inv
 
--- src/edges.rt:35:1
 returns-2 : tie.Need-returns-2 Inv-loop μ-loop
 returns-2 c =
     let l = c .before in

@@ -131,7 +131,7 @@ returns c =
     let tos = all-ends target (l .loop .to) (l .loop .i) m es last end (v .4) in
     let small : min (s .args .n) 512 ≡ s .args .n = omega (arith, s .pre) in
     let few : length (map arcOf es) ≤ 1024 = simp (length-map, length-take) (omega arith) in
-    c .ranked .ensures .all
+    c .ranked .ensures .1 .0
     ∙ ap (λ k. whole (upto k) (take 1024 (arcs (take m (l .loop .from)) (take m (l .loop .to))))) small
     ∙ ap (λ z. whole (upto (s .args .n)) (take 1024 (arcs z (take m (l .loop .to))))) froms
     ∙ ap (λ z. whole (upto (s .args .n)) (take 1024 (arcs (map source es) z))) tos

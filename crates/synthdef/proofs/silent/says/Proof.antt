@@ -8,7 +8,7 @@ use mathlib.Core.Bool.{not, cond}
 use borrow.Author.Needs.{length-unmapped}
 use borrow.Author.Tests.{not-false}
 use Rattle.synthdef.specs.Rows.{every, any}
-use Rattle.synthdef.specs.Plan.{stepSources, silentIn}
+use Rattle.synthdef.specs.Plan.{stepSources, silentIn, says}
 use Rattle.synthdef.proofs.Walk.{walked, next-row}
 use Rattle.synthdef.proofs.silent.says.Statement.{statement}
 use Rattle.synthdef.proofs.silent.says.Tie as tie
@@ -48,6 +48,28 @@ next c =
     let st = l .before .before .before .args .t1 in
     next-row 8 (st .count) (st .sources) (l .before .at-most .result) (few (l .before)) (l .loop .i) (long (l .before .before .before)) (search needs) 0
 
+-- the next source ends the walk, or it goes on
+stops : (c : tie.After-silent-in Inv-loop μ-loop) → c .silent-in .result ≡ not (c .before .before .before .before .before .before .args .t1 .all)
+    → says (c .before .before .before .before .before .before .args .t1) (c .before .before .before .before .before .before .args .s) ≡ not (c .before .before .before .before .before .before .args .t1 .all)
+stops c e =
+    let l = c .before .before .before in
+    let s = l .before .before .before .args in
+    sym (l .loop .inv)
+    ∙ ap (by (s .t1 .all) (s .s)) (next (c .before .before))
+    ∙ by-stop (s .t1 .all) (s .s) (getD (s .t1 .sources) (l .loop .i) 0) (drop (l .loop .i + 1) (stepSources (s .t1))) (sym (c .silent-in .ensures) ∙ e)
+
+goes-on : (c : tie.After-silent-in Inv-loop μ-loop) → c .silent-in .result ≡ c .before .before .before .before .before .before .args .t1 .all
+    → by (c .before .before .before .before .before .before .args .t1 .all) (c .before .before .before .before .before .before .args .s)
+    (drop (c .before .before .before .loop .i + 1) (stepSources (c .before .before .before .before .before .before .args .t1)))
+    ≡ says (c .before .before .before .before .before .before .args .t1) (c .before .before .before .before .before .before .args .s)
+goes-on c e =
+    let l = c .before .before .before in
+    let s = l .before .before .before .args in
+    sym
+    (ap (by (s .t1 .all) (s .s)) (next (c .before .before))
+    ∙ by-next (s .t1 .all) (s .s) (getD (s .t1 .sources) (l .loop .i) 0) (drop (l .loop .i + 1) (stepSources (s .t1))) (sym (c .silent-in .ensures) ∙ e))
+    ∙ l .loop .inv
+
 wide-requires : tie.Need-wide-requires Inv-loop μ-loop
 wide-requires c κs = search needs
 
@@ -67,60 +89,22 @@ silent-in-requires : tie.Need-silent-in-requires Inv-loop μ-loop
 silent-in-requires c κs = search needs
 
 returns : tie.Need-returns Inv-loop μ-loop
-returns c =
-    let l = c .before .before .before .before .before in
-    let s = l .before .before .before in
-    let j = getD (s .args .t1 .sources) (l .loop .i) 0 in
-    let rest = drop (l .loop .i + 1) (stepSources (s .args .t1)) in
-    let heard : silentIn (s .args .s) j ≡ c .before .before .silent-in .result = sym (c .before .before .silent-in .ensures) in
-    sym
-    (sym (l .loop .inv)
-    ∙ ap (by (s .args .t1 .all) (s .args .s)) (next (c .before .before .before .before))
-    ∙ by-stop (s .args .t1 .all) (s .args .s) j rest (heard ∙ c .before .if1 .taken ∙ sym (c .if2 .taken))
-    ∙ c .if2 .taken)
+returns c = sym (stops (c .before .before) (c .before .if1 .taken ∙ sym (c .if2 .taken)) ∙ c .if2 .taken)
 
 loop-less : tie.Need-loop-less Inv-loop μ-loop
 loop-less c = search needs
 
 loop-again : tie.Need-loop-again Inv-loop μ-loop
-loop-again c =
-    let l = c .before .before .before .before .before in
-    let s = l .before .before .before in
-    let j = getD (s .args .t1 .sources) (l .loop .i) 0 in
-    let rest = drop (l .loop .i + 1) (stepSources (s .args .t1)) in
-    let heard : silentIn (s .args .s) j ≡ c .before .before .silent-in .result = sym (c .before .before .silent-in .ensures) in
-    sym
-    (ap (by (s .args .t1 .all) (s .args .s)) (next (c .before .before .before .before))
-    ∙ by-next (s .args .t1 .all) (s .args .s) j rest (heard ∙ c .before .if1 .taken ∙ sym (not-false (s .args .t1 .all) (c .if2 .left))))
-    ∙ l .loop .inv
+loop-again c = goes-on (c .before .before) (c .before .if1 .taken ∙ sym (not-false _ (c .if2 .left)))
 
 returns-2 : tie.Need-returns-2 Inv-loop μ-loop
-returns-2 c =
-    let l = c .before .before .before .before .before in
-    let s = l .before .before .before in
-    let j = getD (s .args .t1 .sources) (l .loop .i) 0 in
-    let rest = drop (l .loop .i + 1) (stepSources (s .args .t1)) in
-    let heard : silentIn (s .args .s) j ≡ c .before .before .silent-in .result = sym (c .before .before .silent-in .ensures) in
-    sym
-    (sym (l .loop .inv)
-    ∙ ap (by (s .args .t1 .all) (s .args .s)) (next (c .before .before .before .before))
-    ∙ by-stop (s .args .t1 .all) (s .args .s) j rest (heard ∙ c .before .if1 .left ∙ sym (ap not (c .if3 .taken)))
-    ∙ ap not (c .if3 .taken))
+returns-2 c = sym (stops (c .before .before) (c .before .if1 .left ∙ sym (ap not (c .if3 .taken))) ∙ ap not (c .if3 .taken))
 
 loop-less-2 : tie.Need-loop-less-2 Inv-loop μ-loop
 loop-less-2 c = search needs
 
 loop-again-2 : tie.Need-loop-again-2 Inv-loop μ-loop
-loop-again-2 c =
-    let l = c .before .before .before .before .before in
-    let s = l .before .before .before in
-    let j = getD (s .args .t1 .sources) (l .loop .i) 0 in
-    let rest = drop (l .loop .i + 1) (stepSources (s .args .t1)) in
-    let heard : silentIn (s .args .s) j ≡ c .before .before .silent-in .result = sym (c .before .before .silent-in .ensures) in
-    sym
-    (ap (by (s .args .t1 .all) (s .args .s)) (next (c .before .before .before .before))
-    ∙ by-next (s .args .t1 .all) (s .args .s) j rest (heard ∙ c .before .if1 .left ∙ sym (c .if3 .left)))
-    ∙ l .loop .inv
+loop-again-2 c = goes-on (c .before .before) (c .before .if1 .left ∙ sym (c .if3 .left))
 
 returns-3 : tie.Need-returns-3 Inv-loop μ-loop
 returns-3 c =
