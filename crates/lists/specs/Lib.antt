@@ -3,3 +3,4 @@ pub mod Keep
 pub mod Find
 pub mod Count
 pub mod Table
+pub mod Rising

@@ -68,3 +68,7 @@ map-append f (x ∷ l) m = ap (λ z. f x ∷ z) (map-append f l m)
 pub map-swap : {A B : Type 0} (f : A → B) (g : B → B) (h : A → A) → ((x : A) → g (f x) ≡ f (h x)) → (l : List A) → map g (map f l) ≡ map f (map h l)
 map-swap f g h e [] = refl
 map-swap f g h e (x ∷ l) = rw (e x, map-swap f g h e l)
+
+pub map-same : {A B : Type 0} (f g : A → B) (l : List A) → ((x : A) → In x l → f x ≡ g x) → map f l ≡ map g l
+map-same f g [] h = refl
+map-same f g (x ∷ l) h = rw (h x (inl refl), map-same f g l (λ y i. h y (inr i)))

@@ -1,0 +1,111 @@
+-- The ledger's answer to each call, and to a list of calls.
+-- Assumes nothing.
+use Prim.Native.Nat.{ℕ, _*_}
+use mathlib.Core.List.{List, [], _∷_, map}
+use mathlib.Core.Option.{Option, none, some}
+use mathlib.Core.Bool.{Bool, true, false}
+use lib.ListN.{length}
+use Rattle.lists.specs.Find.{find, mapO}
+use Rattle.node.specs.Name.{nameOf}
+use Rattle.node.specs.declared.record.NodeId.{NodeId}
+use Rattle.node.specs.declared.refusal.Refusal.{Refusal}
+use Rattle.edges.specs.Ports as ports
+use Rattle.graph.specs.View.{GraphView}
+use Rattle.graph.specs.Node.{nodeAt, hostNode}
+use Rattle.graph.specs.Change as change
+use Rattle.graph.specs.Refuse.{addRefusal, hostRefusal, disconnectRefusal, connectRefusal}
+use Rattle.scheduler.specs.Queue.{inserted}
+use Rattle.store.specs.declared.voices.Voice.{Voice}
+use Rattle.model.specs.Desk.{Desk, withGraph, withEvents}
+use Rattle.model.specs.Voice.{isVoice, levelOr, moved}
+use Rattle.model.specs.Refuse.{reportRefusal}
+use Rattle.model.specs.Spawn.{pans}
+use Rattle.model.specs.Order.{reportNode}
+use Rattle.model.specs.Order as param
+use Rattle.model.specs.Render.{prepareOutcome, prepareDesk}
+use Rattle.model.specs.Call.{Call, Answer, readyAnswer, positionIn, event, scheduleRefusal}
+use Rattle.model.specs.Call as call
+use Rattle.ledger.specs.Holder.{Holders, nobody, host, hold, dropNode}
+use Rattle.ledger.specs.Ledger.{Ledger}
+use Rattle.ledger.specs.Ledger as ledger
+use Rattle.ledger.specs.Clear as clearing
+use Rattle.ledger.specs.Render as rendering
+
+pub record Step : Type 0 where
+  pub answer : Answer
+  pub ledger : Ledger
+
+abbrev pub unless : Option Refusal → Ledger → Step → Step
+unless none l s = s
+unless (some r) l s = record { answer = call.refused r; ledger = l }
+
+-- the host's calls change the graph and the holders
+abbrev pub graphStep : Ledger → GraphView → Holders → Answer → Step
+graphStep l g h a = record { answer = a; ledger = record { desk = withGraph g (l .desk); holders = h; voices = l .voices } }
+
+abbrev pub deskStep : Ledger → Desk → Answer → Step
+deskStep l d a = record { answer = a; ledger = record { desk = d; holders = l .holders; voices = l .voices } }
+
+abbrev pub reads : Ledger → Answer → Step
+reads l a = record { answer = a; ledger = l }
+
+-- A voice as the store shows it: a fade that has sounded `count` renders stands at count × block samples.
+abbrev pub position : ℕ → ℕ → ℕ
+position block count = count * block
+
+abbrev pub shown : Ledger → Voice → Voice
+shown l v = moved (position (l .desk .config .block)) v
+
+abbrev pub step : Call → Ledger → Step
+step (call.addNode kind ports required values glides) l =
+    unless (addRefusal (l .desk .graph) kind ports required) l
+    (graphStep l (change.append (l .desk .graph) (hostNode kind ports required values glides)) (l .holders) (call.node (record { 0 = l .desk .graph .next })))
+step (call.removeNode k) l =
+    unless (hostRefusal (l .desk .graph) k) l (graphStep l (change.removeNode (l .desk .graph) k) (dropNode k (l .holders)) call.done)
+step (call.connect a b p) l =
+    unless (connectRefusal (l .desk .graph) a b p) l (graphStep l (change.connect (l .desk .graph) a b p) (hold b p (host a) (l .holders)) call.done)
+step (call.disconnect b p) l =
+    unless (disconnectRefusal (l .desk .graph) b p) l (graphStep l (change.disconnect (l .desk .graph) b p) (hold b p nobody (l .holders)) call.done)
+step (call.setSink k) l = unless (hostRefusal (l .desk .graph) k) l (graphStep l (change.setSink (l .desk .graph) k) (l .holders) call.done)
+step (call.spawnManaged def bus pan) l =
+    let r = ledger.spawnManaged def bus (pans pan) l in
+    record { answer = call.spawned (r .answer); ledger = r .ledger }
+step (call.spawnLoose def bus pan) l =
+    let r = ledger.spawnLoose def bus (pans pan) l in
+    record { answer = call.spawned (r .answer); ledger = r .ledger }
+step (call.free w) l = record { answer = call.done; ledger = ledger.free w l }
+step call.clear l =
+    let c = clearing.clear l in
+    record { answer = call.removed (c .removed); ledger = c .ledger }
+step (call.order w name o) l =
+    let r = param.order w (nameOf name) o (l .voices) (l .desk) in
+    deskStep l (r .desk) (call.ordered (r .outcome))
+step (call.schedule t w name a) l =
+    unless (scheduleRefusal (l .desk .events)) l (deskStep l (withEvents (inserted (event t w name a) (l .desk .events)) (l .desk)) call.done)
+step (call.report k channels samples flag) l =
+    unless (reportRefusal (l .desk) (l .voices) k channels (length samples)) l
+    (deskStep l (reportNode (nodeAt (l .desk .graph .nodes) k) samples flag (l .desk)) call.done)
+step call.prepare l = deskStep l (prepareDesk (l .desk)) (readyAnswer (prepareOutcome (l .desk) .answer))
+step call.render l =
+    let h = rendering.render l in
+    record { answer = call.rendered (h .answer); ledger = h .ledger }
+step (call.level w) l = reads l (call.known (levelOr (l .desk) (find (isVoice w) (l .voices))))
+step (call.position w) l = reads l (call.reached (positionIn (mapO (shown l) (find (isVoice w) (l .voices)))))
+step (call.voice w) l = reads l (call.found (mapO (shown l) (find (isVoice w) (l .voices))))
+step call.voices l = reads l (call.all (map (shown l) (l .voices)))
+step call.steals l = reads l (call.stolen (l .desk .steals))
+step call.edges l = reads l (call.wires (l .desk .graph .edges))
+step call.processing l = reads l (call.inOrder (l .desk .graph .order))
+step (call.sources k) l = reads l (call.fed (ports.sources (l .desk .graph .edges) k))
+step call.clock l = reads l (call.time (l .desk .clock))
+
+pub record Ran : Type 0 where
+  pub answers : List Answer
+  pub ledger : Ledger
+
+abbrev pub run : List Call → Ledger → Ran
+run [] l = record { answers = []; ledger = l }
+run (c ∷ cs) l =
+    let s = step c l in
+    let r = run cs (s .ledger) in
+    record { answers = s .answer ∷ r .answers; ledger = r .ledger }

@@ -1,0 +1,186 @@
+-- The store's calls as one datatype, each a function from a model to an answer and a model; and a list of calls, where "each
+-- call gets the store that the last left".
+-- Assumes nothing.
+use Prim.Native.Nat.{ℕ}
+use mathlib.Core.List.{List, [], _∷_}
+use mathlib.Core.Option.{Option, none, some}
+use mathlib.Core.Bool.{Bool, true, false}
+use lib.ListN.{length}
+use lib.Ieee.{Float}
+use Rattle.lists.specs.Find.{find}
+use Rattle.node.specs.Name.{nameOf}
+use Rattle.node.specs.declared.order.Action.{Action}
+use Rattle.node.specs.declared.order.LastOrder.{LastOrder}
+use Rattle.node.specs.declared.record.NodeId.{NodeId}
+use Rattle.node.specs.declared.record.VoiceId.{VoiceId}
+use Rattle.node.specs.declared.record.Edge.{Edge}
+use Rattle.node.specs.declared.refusal.Refusal.{Refusal}
+use Rattle.edges.specs.Ports as ports
+use Rattle.edges.specs.declared.ports.Source.{Source}
+use Rattle.graph.specs.View.{GraphView}
+use Rattle.graph.specs.Node.{nodeAt, hostNode}
+use Rattle.graph.specs.Change as change
+use Rattle.graph.specs.Refuse.{addRefusal, hostRefusal, disconnectRefusal, connectRefusal}
+use Rattle.order.specs.declared.Readiness.{Readiness}
+use Rattle.order.specs.declared.Readiness.the-variants as Readiness
+use Rattle.scheduler.specs.Queue.{full, inserted}
+use Rattle.scheduler.specs.declared.event.Event.{Event}
+use Rattle.voice.specs.Steals.{Book}
+use Rattle.voice.specs.declared.policy.Level.{Level}
+use Rattle.synthdef.specs.declared.def.SynthDef.{SynthDef}
+use Rattle.store.specs.declared.answer.Outcome.{Outcome}
+use Rattle.store.specs.declared.answer.Spawned.{Spawned}
+use Rattle.store.specs.declared.answer.Rendered.{Rendered}
+use Rattle.store.specs.declared.voices.Voice.{Voice}
+use Rattle.store.specs.declared.voices.VoiceState.{VoiceState}
+use Rattle.store.specs.declared.voices.VoiceState.the-variants.{Tracked, Fading, Loose}
+use Rattle.node.specs.declared.refusal.Refusal.the-variants.{TableFull}
+use Rattle.graph.specs.Refuse.{when}
+use Rattle.model.specs.Desk.{Desk, withGraph, withEvents}
+use Rattle.model.specs.Voice.{isVoice, levelOr}
+use Rattle.model.specs.Refuse.{reportRefusal}
+use Rattle.model.specs.Spawn.{pans}
+use Rattle.model.specs.Model.{Model}
+use Rattle.model.specs.Model as store
+use Rattle.model.specs.Order.{reportNode}
+use Rattle.model.specs.Order as param
+use Rattle.model.specs.Clear as clearing
+use Rattle.model.specs.Render.{prepareOutcome, prepareDesk}
+use Rattle.model.specs.Render as rendering
+
+-- names and kinds come as lent bytes of any length, samples as a lent block
+pub data Call : Type 0 where
+  addNode : List ℕ → ℕ → ℕ → Bool → Bool → Call
+  removeNode : NodeId → Call
+  connect : NodeId → NodeId → ℕ → Call
+  disconnect : NodeId → ℕ → Call
+  setSink : NodeId → Call
+  spawnManaged : SynthDef → NodeId → Float → Call
+  spawnLoose : SynthDef → NodeId → Float → Call
+  free : VoiceId → Call
+  clear : Call
+  -- a value or a glide
+  order : VoiceId → List ℕ → LastOrder → Call
+  schedule : ℕ → VoiceId → List ℕ → Action → Call
+  report : NodeId → ℕ → List Float → Bool → Call
+  prepare : Call
+  render : Call
+  -- reading calls
+  level : VoiceId → Call
+  position : VoiceId → Call
+  voice : VoiceId → Call
+  voices : Call
+  steals : Call
+  edges : Call
+  processing : Call
+  sources : NodeId → Call
+  clock : Call
+
+pub data Answer : Type 0 where
+  done : Answer
+  refused : Refusal → Answer
+  node : NodeId → Answer
+  spawned : Spawned → Answer
+  removed : ℕ → Answer
+  ordered : Outcome → Answer
+  rendered : Rendered → Answer
+  known : Level → Answer
+  reached : Option ℕ → Answer
+  found : Option Voice → Answer
+  all : List Voice → Answer
+  stolen : Book → Answer
+  wires : List Edge → Answer
+  inOrder : List NodeId → Answer
+  fed : List Source → Answer
+  time : ℕ → Answer
+
+pub record Step : Type 0 where
+  pub answer : Answer
+  pub model : Model
+
+-- a refusal, and "leaves store and buffers unchanged"; or the call's work
+abbrev pub unless : Option Refusal → Model → Step → Step
+unless none m s = s
+unless (some r) m s = record { answer = refused r; model = m }
+
+abbrev pub graphStep : Model → GraphView → Answer → Step
+graphStep m g a = record { answer = a; model = record { desk = withGraph g (m .desk); voices = m .voices } }
+
+abbrev pub deskStep : Model → Desk → Answer → Step
+deskStep m d a = record { answer = a; model = record { desk = d; voices = m .voices } }
+
+abbrev pub reads : Model → Answer → Step
+reads m a = record { answer = a; model = m }
+
+abbrev pub readyAnswer : Readiness → Answer
+readyAnswer Readiness.Ready = done
+readyAnswer (Readiness.Refused r) = refused r
+
+abbrev pub positionOf : VoiceState → Option ℕ
+positionOf Tracked = none
+positionOf (Fading f) = some (f .position)
+positionOf Loose = none
+
+-- "The position of a voice's fade can be read, none if it has no fade."
+abbrev pub positionIn : Option Voice → Option ℕ
+positionIn none = none
+positionIn (some v) = positionOf (v .state)
+
+abbrev pub event : ℕ → VoiceId → List ℕ → Action → Event
+event t w name a = record { time = t; voice = w; name = nameOf name; action = a }
+
+-- 7 "event table full"
+abbrev pub scheduleRefusal : List Event → Option Refusal
+scheduleRefusal q = when (full q) TableFull none
+
+abbrev pub step : Call → Model → Step
+step (addNode kind ports required values glides) m =
+    unless (addRefusal (m .desk .graph) kind ports required) m
+    (graphStep m (change.append (m .desk .graph) (hostNode kind ports required values glides)) (node (record { 0 = m .desk .graph .next })))
+step (removeNode k) m = unless (hostRefusal (m .desk .graph) k) m (graphStep m (change.removeNode (m .desk .graph) k) done)
+step (connect a b p) m = unless (connectRefusal (m .desk .graph) a b p) m (graphStep m (change.connect (m .desk .graph) a b p) done)
+step (disconnect b p) m = unless (disconnectRefusal (m .desk .graph) b p) m (graphStep m (change.disconnect (m .desk .graph) b p) done)
+step (setSink k) m = unless (hostRefusal (m .desk .graph) k) m (graphStep m (change.setSink (m .desk .graph) k) done)
+step (spawnManaged def bus pan) m =
+    let l = store.spawnManaged def bus (pans pan) m in
+    record { answer = spawned (l .answer); model = l .model }
+step (spawnLoose def bus pan) m =
+    let l = store.spawnLoose def bus (pans pan) m in
+    record { answer = spawned (l .answer); model = l .model }
+step (free w) m = record { answer = done; model = store.free w m }
+step clear m =
+    let c = clearing.clear m in
+    record { answer = removed (c .removed); model = c .model }
+step (order w name o) m =
+    let r = param.order w (nameOf name) o (m .voices) (m .desk) in
+    deskStep m (r .desk) (ordered (r .outcome))
+step (schedule t w name a) m =
+    unless (scheduleRefusal (m .desk .events)) m (deskStep m (withEvents (inserted (event t w name a) (m .desk .events)) (m .desk)) done)
+step (report k channels samples flag) m =
+    unless (reportRefusal (m .desk) (m .voices) k channels (length samples)) m
+    (deskStep m (reportNode (nodeAt (m .desk .graph .nodes) k) samples flag (m .desk)) done)
+step prepare m = deskStep m (prepareDesk (m .desk)) (readyAnswer (prepareOutcome (m .desk) .answer))
+step render m =
+    let h = rendering.render m in
+    record { answer = rendered (h .answer); model = h .model }
+step (level w) m = reads m (known (levelOr (m .desk) (find (isVoice w) (m .voices))))
+step (position w) m = reads m (reached (positionIn (find (isVoice w) (m .voices))))
+step (voice w) m = reads m (found (find (isVoice w) (m .voices)))
+step voices m = reads m (all (m .voices))
+step steals m = reads m (stolen (m .desk .steals))
+step edges m = reads m (wires (m .desk .graph .edges))
+step processing m = reads m (inOrder (m .desk .graph .order))
+step (sources k) m = reads m (fed (ports.sources (m .desk .graph .edges) k))
+step clock m = reads m (time (m .desk .clock))
+
+-- ---- a list of calls
+pub record Ran : Type 0 where
+  pub answers : List Answer
+  pub model : Model
+
+abbrev pub run : List Call → Model → Ran
+run [] m = record { answers = []; model = m }
+run (c ∷ cs) m =
+    let s = step c m in
+    let r = run cs (s .model) in
+    record { answers = s .answer ∷ r .answers; model = r .model }

@@ -1,0 +1,57 @@
+-- Clearing (`free_done_synths`): "first the voices whose fade has ended, in voice order, then those whose done plan is silent;
+-- it answers how many it removed."
+-- Assumes nothing.
+use Prim.Native.Nat.{ℕ, _+_, min}
+use mathlib.Core.List.{List, [], _∷_, map}
+use mathlib.Core.Option.{Option, none, some}
+use mathlib.Core.Bool.{Bool, true, false}
+use lib.Dec.{leb}
+use lib.ListN.{length}
+use Rattle.lists.specs.Keep.{keep}
+use Rattle.node.specs.declared.record.Node.{Node}
+use Rattle.rank.specs.Order.{upto}
+use Rattle.graph.specs.Node.{nodeAt}
+use Rattle.synthdef.specs.Plan.{planSilent}
+use Rattle.store.specs.declared.voices.Voice.{Voice}
+use Rattle.store.specs.declared.voices.VoiceState.{VoiceState}
+use Rattle.store.specs.declared.voices.VoiceState.the-variants.{Tracked, Fading, Loose}
+use Rattle.model.specs.Desk.{lengthL}
+use Rattle.model.specs.Voice.{id}
+use Rattle.model.specs.Model.{Model, gone}
+
+-- a fade "ends when position reaches L"
+abbrev pub ended : ℕ → VoiceState → Bool
+ended len Tracked = false
+ended len (Fading f) = leb len (f .position)
+ended len Loose = false
+
+-- the done flags of a voice's definition's nodes, by their places
+abbrev pub doneFlag : Option Node → Bool
+doneFlag none = false
+doneFlag (some n) = n .done
+
+abbrev pub doneFlags : List Node → Voice → List Bool
+doneFlags ns v = map (λ i. doneFlag (nodeAt ns (id (v .first .0 + i)))) (upto (min (v .count) 24))
+
+-- "A done plan (`DonePlan`) answers for the output node."
+abbrev pub isSilent : List Node → Voice → Bool
+isSilent ns v = planSilent (v .plan) (doneFlags ns v)
+
+abbrev pub goneAll : List Voice → Model → Model
+goneAll [] m = m
+goneAll (v ∷ vs) m = goneAll vs (gone (v .id) m)
+
+abbrev pub endedVoices : Model → List Voice
+endedVoices m = keep (λ v. ended (lengthL (m .desk)) (v .state)) (m .voices)
+
+abbrev pub silentVoices : Model → List Voice
+silentVoices m = keep (isSilent (m .desk .graph .nodes)) (m .voices)
+
+pub record Cleared : Type 0 where
+  pub removed : ℕ
+  pub model : Model
+
+abbrev pub clear : Model → Cleared
+clear m =
+    let faded = goneAll (endedVoices m) m in
+    record { removed = length (endedVoices m) + length (silentVoices faded); model = goneAll (silentVoices faded) faded }

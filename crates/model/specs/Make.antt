@@ -1,0 +1,46 @@
+-- Making a store: 1, 2, 3, or a new store.
+-- Assumes nothing.
+use Prim.Native.Nat.{ℕ}
+use mathlib.Core.List.{List, []}
+use mathlib.Core.Option.{Option, none, some}
+use lib.Ieee.{Float}
+use Rattle.node.specs.declared.refusal.Refusal.{Refusal}
+use Rattle.bus.specs.Answer.{Answer, refused, gives}
+use Rattle.bus.specs.Rate.{rateOf}
+use Rattle.voice.specs.declared.policy.Budget.{Budget}
+use Rattle.voice.specs.declared.policy.StealPolicy.{StealPolicy}
+use Rattle.voice.specs.declared.policy.BudgetScope.{BudgetScope}
+use Rattle.store.specs.declared.config.Config.{Config}
+use Rattle.model.specs.Desk.{newDesk}
+use Rattle.model.specs.Refuse.{makeRefusal}
+use Rattle.model.specs.Model.{Model}
+
+-- making's arguments
+pub record Making : Type 0 where
+  pub rate : Float
+  pub block : ℕ
+  pub budget : Budget
+  pub policy : StealPolicy
+  pub scope : BudgetScope
+
+-- the rate as a whole number; 0 where it is none, which is refused
+abbrev pub wholeOr0 : Answer ℕ → ℕ
+wholeOr0 (refused n) = 0
+wholeOr0 (gives n) = n
+
+abbrev pub configOf : Making → Config
+configOf k = record { rate = wholeOr0 (rateOf (k .rate)); block = k .block; budget = k .budget; policy = k .policy; scope = k .scope }
+
+abbrev pub refusalOf : Making → Option Refusal
+refusalOf k = makeRefusal (rateOf (k .rate)) (k .block) (k .budget)
+
+abbrev pub newModel : Config → Model
+newModel c = record { desk = newDesk c; voices = [] }
+
+abbrev pub madeUnless : Option Refusal → Model → Option Model
+madeUnless none m = some m
+madeUnless (some r) m = none
+
+-- the new store, or none where making is refused
+abbrev pub make : Making → Option Model
+make k = madeUnless (refusalOf k) (newModel (configOf k))

@@ -1,0 +1,128 @@
+-- The store as a value of plain lists. Here ports are decided by edges and fades by positions.
+-- Assumes nothing.
+use Prim.Native.Nat.{ℕ, zero, suc, _+_, min}
+use mathlib.Core.List.{List, [], _∷_, _++_, map}
+use mathlib.Core.Option.{Option, none, some}
+use mathlib.Core.Bool.{Bool, true, false, not}
+use lib.ListN.{length}
+use Rattle.lists.specs.Keep.{keep}
+use Rattle.lists.specs.Find.{find}
+use Rattle.node.specs.declared.record.NodeId.{NodeId}
+use Rattle.node.specs.declared.record.VoiceId.{VoiceId}
+use Rattle.node.specs.declared.refusal.Refusal.{Refusal}
+use Rattle.node.specs.declared.refusal.Refusal.the-variants.{Rejected, NoPort}
+use Rattle.edges.specs.Ports.{freePort, portFrom}
+use Rattle.graph.specs.Node.{nodeAt, portsOf}
+use Rattle.graph.specs.Change.{removeVoice}
+use Rattle.voice.specs.Policy.{admits}
+use Rattle.voice.specs.declared.policy.Admission.{Admission}
+use Rattle.voice.specs.declared.policy.Admission.the-variants as admission
+use Rattle.synthdef.specs.declared.def.SynthDef.{SynthDef}
+use Rattle.store.specs.declared.answer.Spawned.{Spawned}
+use Rattle.store.specs.declared.answer.Spawned.the-variants as Spawned
+use Rattle.store.specs.declared.voices.Voice.{Voice}
+use Rattle.store.specs.declared.voices.VoiceState.{VoiceState}
+use Rattle.store.specs.declared.voices.VoiceState.the-variants.{Tracked, Fading, Loose}
+use Rattle.model.specs.Desk.{Desk, withGraph, withSteals}
+use Rattle.model.specs.Voice.{isVoice, feeder, candidates, counted, beginFade}
+use Rattle.model.specs.Refuse.{spawnRefusal}
+use Rattle.model.specs.Spawn.{landDesk, newcomer, nextVoice, stateUnder, tries, fadeDesk, fadeOf, reclaimBook, recorded, nextOut}
+
+pub record Model : Type 0 where
+  pub desk : Desk
+  pub voices : List Voice
+
+-- ---- a voice goes, with its nodes and their edges
+abbrev pub gone : VoiceId → Model → Model
+gone w m =
+    record {
+      desk = withGraph (removeVoice (m .desk .graph) w) (m .desk);
+      voices = keep (λ v. not (isVoice w v)) (m .voices);
+    }
+
+-- ---- managed spawn
+-- the victim fades, behind the port p of its bus
+abbrev pub fade : Voice → ℕ → Model → Model
+fade v p m = record { desk = fadeDesk v p (m .desk); voices = map (beginFade (v .id) (fadeOf (m .desk))) (m .voices) }
+
+-- the voice goes at once, and the records say so
+abbrev pub cutOff : Voice → VoiceState → Model → Model
+cutOff v s m = gone (v .id) (record { desk = withSteals (reclaimBook v s (m .desk)) (m .desk); voices = m .voices })
+
+-- "a victim is untracked, faded, or freed if it cannot fade, and recorded": "a victim that feeds none there, and only such a
+-- one, cannot fade"
+abbrev pub stolen : Voice → Option ℕ → Model → Model
+stolen v (some p) m = fade v p m
+stolen v none m = cutOff v Tracked m
+
+abbrev pub stealVoice : Voice → Model → Model
+stealVoice v m = stolen v (portFrom (m .desk .graph .edges) (feeder v) (v .bus)) m
+
+-- ---- the port search
+pub record Landed : Type 0 where
+  pub answer : Spawned
+  pub model : Model
+
+abbrev pub refused : Refusal → Model → Landed
+refused r m = record { answer = Spawned.Refused r; model = m }
+
+-- "then the lowest port without an edge"
+abbrev pub portFree : NodeId → Model → Option ℕ
+portFree bus m = freePort (m .desk .graph .edges) bus (portsOf (nodeAt (m .desk .graph .nodes) bus))
+
+abbrev pub land : SynthDef → Bool → VoiceState → NodeId → ℕ → Model → Landed
+land def pan s bus p m =
+    record {
+      answer = Spawned.Voice (nextVoice (m .desk));
+      model = record { desk = landDesk def pan bus p (m .desk); voices = m .voices ++ (newcomer def pan s bus p (m .desk) ∷ []) };
+    }
+
+-- a port: land there; none, and nobody to reclaim: 12; else reclaim that voice and "try again"
+abbrev pub landOr : Option ℕ → Option Voice → SynthDef → Bool → VoiceState → NodeId → Model → (Model → Landed) → Landed
+landOr (some p) o def pan s bus m again = land def pan s bus p m
+landOr none none def pan s bus m again = refused NoPort m
+landOr none (some v) def pan s bus m again = again (cutOff v (v .state) m)
+
+-- at most `fuel` reclaims
+abbrev pub place : ℕ → SynthDef → Bool → VoiceState → NodeId → Model → Landed
+place zero def pan s bus m = landOr (portFree bus m) none def pan s bus m (refused NoPort)
+place (suc fuel) def pan s bus m =
+    landOr (portFree bus m) (nextOut (m .desk) bus (m .voices)) def pan s bus m (λ k. place fuel def pan s bus k)
+
+abbrev pub settle : SynthDef → Bool → NodeId → Model → Landed
+settle def pan bus m =
+    place (tries (m .desk .config .budget) (m .voices)) def pan (stateUnder (m .desk .config .budget)) bus m
+
+-- the victim of an admission is one of the voices
+abbrev pub stealThen : Option Voice → SynthDef → Bool → NodeId → Model → Landed
+stealThen none def pan bus m = settle def pan bus m
+stealThen (some v) def pan bus m = settle def pan bus (stealVoice v m)
+
+abbrev pub admitted : Admission → SynthDef → Bool → NodeId → Model → Landed
+admitted admission.Admit def pan bus m = settle def pan bus m
+admitted admission.Reject def pan bus m = refused Rejected m
+admitted (admission.Steal place w) def pan bus m = stealThen (find (isVoice w) (m .voices)) def pan bus m
+
+abbrev pub admissionOn : NodeId → Model → Admission
+admissionOn bus m =
+    admits (m .desk .config .budget) (m .desk .config .policy) (candidates (m .desk) (counted (m .desk .config .scope) bus) (m .voices))
+
+abbrev pub unless : Option Refusal → Model → Landed → Landed
+unless none m r = r
+unless (some n) m r = refused n m
+
+-- `spawn_voice_on_bus_panned_managed`: the refusals of the table, then "admission; a victim ...; then the lowest port ..."
+abbrev pub spawnManaged : SynthDef → NodeId → Bool → Model → Landed
+spawnManaged def bus pan m = unless (spawnRefusal (m .desk) (m .voices) def bus) m (admitted (admissionOn bus m) def pan bus m)
+
+-- `spawn_voice_on_bus_panned`: "the port search alone; the newcomer ... is loose. No port: 12."
+abbrev pub spawnLoose : SynthDef → NodeId → Bool → Model → Landed
+spawnLoose def bus pan m = unless (spawnRefusal (m .desk) (m .voices) def bus) m (place 0 def pan Loose bus m)
+
+-- ---- "A free of an unknown voice does nothing."
+abbrev pub freed : Option Voice → Model → Model
+freed none m = m
+freed (some v) m = gone (v .id) m
+
+abbrev pub free : VoiceId → Model → Model
+free w m = freed (find (isVoice w) (m .voices)) m

@@ -1,0 +1,102 @@
+-- Values, glides and reports: what changes the record of a node.
+-- Assumes nothing.
+use Prim.Native.Nat.{ℕ, _+_}
+use mathlib.Core.List.{List}
+use mathlib.Core.Option.{Option, none, some}
+use mathlib.Core.Bool.{Bool, true, false, cond}
+use lib.ListN.{length}
+use lib.Ieee.{Float}
+use Rattle.lists.specs.Find.{find}
+use Rattle.level.specs.Level.{levelOf}
+use Rattle.node.specs.declared.name.Name.{Name}
+use Rattle.node.specs.declared.order.LastOrder.{LastOrder}
+use Rattle.node.specs.declared.order.LastOrder.the-variants as LastOrder
+use Rattle.node.specs.declared.record.NodeId.{NodeId}
+use Rattle.node.specs.declared.record.VoiceId.{VoiceId}
+use Rattle.node.specs.declared.record.Node.{Node}
+use Rattle.graph.specs.View.{GraphView}
+use Rattle.graph.specs.Node.{nodeAt, replaced}
+use Rattle.synthdef.specs.Tables.{paramRows}
+use Rattle.synthdef.specs.Params.{paramNode}
+use Rattle.store.specs.declared.answer.Outcome.{Outcome}
+use Rattle.store.specs.declared.answer.Outcome.the-variants.{Applied, NoVoice, NoParameter, NotTaken}
+use Rattle.store.specs.declared.voices.Voice.{Voice}
+use Rattle.model.specs.Desk.{Desk, withGraph}
+use Rattle.model.specs.Voice.{isVoice, id}
+
+-- the node's record is replaced; the graph stays prepared
+abbrev pub withNode : Node → Desk → Desk
+withNode n d =
+    let g = d .graph in
+    withGraph (record { nodes = replaced (g .nodes) n; edges = g .edges; sink = g .sink; prepared = g .prepared; order = g .order; next = g .next }) d
+
+-- ---- "A value or glide, set directly or by an event, answers yes and becomes the node's last order if the voice is known, has
+-- the parameter, and its node takes that sort; else it answers no and changes nothing."
+abbrev pub takes : LastOrder → Node → Bool
+takes LastOrder.Nothing n = false
+takes (LastOrder.Value x) n = n .«takes_values»
+takes (LastOrder.Glide target seconds shape space) n = n .«takes_glides»
+
+abbrev pub withLast : LastOrder → Node → Node
+withLast o n =
+    record {
+      id = n .id;
+      owner = n .owner;
+      kind = n .kind;
+      ports = n .ports;
+      required = n .required;
+      «takes_values» = n .«takes_values»;
+      «takes_glides» = n .«takes_glides»;
+      done = n .done;
+      level = n .level;
+      last = o;
+    }
+
+pub record Ordered : Type 0 where
+  pub outcome : Outcome
+  pub desk : Desk
+
+abbrev pub stays : Outcome → Desk → Ordered
+stays o d = record { outcome = o; desk = d }
+
+abbrev pub orderNode : Option Node → LastOrder → Desk → Ordered
+orderNode none o d = stays NotTaken d
+orderNode (some n) o d = cond (takes o n) (record { outcome = Applied; desk = withNode (withLast o n) d }) (stays NotTaken d)
+
+abbrev pub orderParam : Option ℕ → Voice → LastOrder → Desk → Ordered
+orderParam none v o d = stays NoParameter d
+orderParam (some i) v o d = orderNode (nodeAt (d .graph .nodes) (id (v .first .0 + i))) o d
+
+abbrev pub orderVoice : Option Voice → Name → LastOrder → Desk → Ordered
+orderVoice none name o d = stays NoVoice d
+orderVoice (some v) name o d = orderParam (paramNode (paramRows (v .params)) name) v o d
+
+abbrev pub order : VoiceId → Name → LastOrder → List Voice → Desk → Ordered
+order w name o vs d = orderVoice (find (isVoice w) vs) name o d
+
+-- yes or no
+abbrev pub isYes : Outcome → Bool
+isYes Applied = true
+isYes NoVoice = false
+isYes NoParameter = false
+isYes NotTaken = false
+
+-- ---- "A report gives a node's block and its done flag". The level of the block is worked out when it is reported.
+abbrev pub withReport : List Float → Bool → Node → Node
+withReport samples done n =
+    record {
+      id = n .id;
+      owner = n .owner;
+      kind = n .kind;
+      ports = n .ports;
+      required = n .required;
+      «takes_values» = n .«takes_values»;
+      «takes_glides» = n .«takes_glides»;
+      done = done;
+      level = levelOf samples;
+      last = n .last;
+    }
+
+abbrev pub reportNode : Option Node → List Float → Bool → Desk → Desk
+reportNode none samples done d = d
+reportNode (some n) samples done d = withNode (withReport samples done n) d

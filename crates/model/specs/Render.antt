@@ -1,0 +1,122 @@
+-- Prepare and render.
+-- Assumes nothing.
+use Prim.Native.Nat.{ℕ, _+_, min}
+use mathlib.Core.List.{List, [], _∷_, map}
+use mathlib.Core.Option.{Option, none, some}
+use mathlib.Core.Bool.{Bool, true, false, _||_, cond}
+use lib.Dec.{ltb}
+use Rattle.node.specs.declared.order.Action.{Action}
+use Rattle.node.specs.declared.order.Action.the-variants as Action
+use Rattle.node.specs.declared.record.NodeId.{NodeId}
+use Rattle.node.specs.declared.refusal.Refusal.{Refusal}
+use Rattle.node.specs.declared.refusal.Refusal.the-variants.{ClockEnd}
+use Rattle.order.specs.Prepare as graph
+use Rattle.order.specs.declared.Readiness.{Readiness}
+use Rattle.order.specs.declared.Readiness.the-variants.{Ready, Refused}
+use Rattle.scheduler.specs.Event.{paramOrder}
+use Rattle.scheduler.specs.Queue.{takenBefore, leftAfter}
+use Rattle.scheduler.specs.declared.event.Event.{Event}
+use Rattle.store.specs.declared.answer.Rendered.{Rendered}
+use Rattle.store.specs.declared.answer.Rendered.the-variants as Rendered
+use Rattle.store.specs.declared.voices.Voice.{Voice}
+use Rattle.model.specs.Desk.{Desk, withGraph, withEvents, withClock, sounding}
+use Rattle.model.specs.Voice.{moved}
+use Rattle.model.specs.Model.{Model, free}
+use Rattle.model.specs.Order.{order}
+
+-- ---- prepare: 13, 14, or prepared with the processing order; a refusal changes nothing
+abbrev pub prepareOutcome : Desk → graph.Outcome
+prepareOutcome d = graph.prepare (d .graph .nodes) (d .graph .edges)
+
+abbrev pub readyDesk : Readiness → List NodeId → Desk → Desk
+readyDesk Ready l d =
+    let g = d .graph in
+    withGraph (record { nodes = g .nodes; edges = g .edges; sink = g .sink; prepared = true; order = l; next = g .next }) d
+readyDesk (Refused r) l d = d
+
+abbrev pub prepareDesk : Desk → Desk
+prepareDesk d = readyDesk (prepareOutcome d .answer) (prepareOutcome d .order) d
+
+-- ---- events: "a free, known or not, prepares inside the render"
+abbrev pub isFree : Action → Bool
+isFree (Action.Value x) = false
+isFree (Action.Glide target seconds shape space) = false
+isFree (Action.Gate x) = false
+isFree Action.Free = true
+
+abbrev pub anyFree : List Event → Bool
+anyFree [] = false
+anyFree (e ∷ l) = isFree (e .action) || anyFree l
+
+-- one event: a free lets the voice go, any other is a value or a glide
+abbrev pub happen : Event → Model → Model
+happen e m =
+    cond (isFree (e .action)) (free (e .voice) m)
+    (record { desk = order (e .voice) (paramOrder e .name) (paramOrder e .order) (m .voices) (m .desk) .desk; voices = m .voices })
+
+abbrev pub happenAll : List Event → Model → Model
+happenAll [] m = m
+happenAll (e ∷ l) m = happenAll l (happen e m)
+
+-- ---- a fade's position "gains the block size at each sounding render". No run reaches 2^64 - 1 samples.
+abbrev pub further : ℕ → ℕ → ℕ
+further block position = min (position + block) 18446744073709551615
+
+abbrev pub movedIf : Bool → ℕ → List Voice → List Voice
+movedIf true block vs = map (moved (further block)) vs
+movedIf false block vs = vs
+
+-- what the render answers, once its prepare, if there was one, has answered: "If the last such prepare fails, the render is
+-- not refused: it answers silent and 13 or 14"
+abbrev pub heard : Bool → Rendered
+heard true = Rendered.Sounding
+heard false = Rendered.Silent
+
+abbrev pub answerAfter : Readiness → Desk → Rendered
+answerAfter Ready d = heard (sounding d)
+answerAfter (Refused r) d = Rendered.Unprepared r
+
+abbrev pub isSounding : Rendered → Bool
+isSounding Rendered.Sounding = true
+isSounding Rendered.Silent = false
+isSounding (Rendered.Unprepared r) = false
+isSounding (Rendered.Refused r) = false
+
+pub record Heard : Type 0 where
+  pub answer : Rendered
+  pub model : Model
+
+-- the block itself: fades move if it sounds, and "the clock still advances"
+abbrev pub blockOf : Rendered → Model → Heard
+blockOf a m =
+    record {
+      answer = a;
+      model = record {
+        desk = withClock (m .desk .clock + m .desk .config .block) (m .desk);
+        voices = movedIf (isSounding a) (m .desk .config .block) (m .voices);
+      };
+    }
+
+-- prepared inside the render, or not
+abbrev pub preparedIf : Bool → Model → Heard
+preparedIf true m = blockOf (answerAfter (prepareOutcome (m .desk) .answer) (prepareDesk (m .desk))) (record { desk = prepareDesk (m .desk); voices = m .voices })
+preparedIf false m = blockOf (heard (sounding (m .desk))) m
+
+-- "Render: events before clock + block"
+abbrev pub deadline : Desk → ℕ
+deadline d = d .clock + d .config .block
+
+abbrev pub due : Desk → List Event
+due d = takenBefore (deadline d) (d .events)
+
+abbrev pub rested : Model → Model
+rested m = record { desk = withEvents (leftAfter (deadline (m .desk)) (m .desk .events)) (m .desk); voices = m .voices }
+
+-- 15 "clock + block above 2^64 - 1"
+abbrev pub clockEnds : Desk → Bool
+clockEnds d = ltb 18446744073709551615 (deadline d)
+
+abbrev pub render : Model → Heard
+render m =
+    cond (clockEnds (m .desk)) (record { answer = Rendered.Refused ClockEnd; model = m })
+    (preparedIf (anyFree (due (m .desk))) (happenAll (due (m .desk)) (rested m)))

@@ -1,0 +1,188 @@
+-- What a spawn puts into the graph, and who goes for it: the parts of 01's "Managed spawn" that do not ask who holds a port.
+-- Assumes nothing.
+use Prim.Native.Nat.{ℕ, zero, suc, _+_, _^_}
+use mathlib.Core.List.{List, [], _∷_, _++_, map}
+use mathlib.Core.Option.{Option, none, some}
+use mathlib.Core.Bool.{Bool, true, false, not, cond, _&&_}
+use lib.Dec.{leb}
+use lib.ListN.{length}
+use lib.IntN.{pos}
+use lib.Ieee.{Float, fin, eq, ofBits, binary32}
+use Rattle.lists.specs.Find.{find, or?}
+use Rattle.node.specs.Silence.{name}
+use Rattle.node.specs.declared.name.Name.{Name}
+use Rattle.node.specs.declared.record.NodeId.{NodeId}
+use Rattle.node.specs.declared.record.VoiceId.{VoiceId}
+use Rattle.node.specs.declared.record.Node.{Node}
+use Rattle.node.specs.declared.order.LastOrder.the-variants as LastOrder
+use Rattle.graph.specs.View.{GraphView}
+use Rattle.graph.specs.Change.{append, connect}
+use Rattle.voice.specs.Policy.{victim}
+use Rattle.voice.specs.declared.policy.StealPolicy.{StealPolicy}
+use Rattle.voice.specs.declared.policy.Victim.{Victim}
+use Rattle.voice.specs.declared.policy.Victim.the-variants.{Nobody, Goes}
+use Rattle.voice.specs.declared.policy.Budget.{Budget}
+use Rattle.voice.specs.declared.policy.Budget.the-variants.{Unlimited, AtMost}
+use Rattle.voice.specs.declared.policy.Level.{Level}
+use Rattle.voice.specs.Steals.{Book, pushed, marked, recordOf}
+use Rattle.synthdef.specs.Tables.{nodeRows, edgeRows}
+use Rattle.synthdef.specs.Edges.{counted}
+use Rattle.synthdef.specs.Plan.{planOf}
+use Rattle.synthdef.specs.declared.def.DefNode.{DefNode}
+use Rattle.synthdef.specs.declared.def.DefEdge.{DefEdge}
+use Rattle.synthdef.specs.declared.def.SynthDef.{SynthDef}
+use Rattle.store.specs.declared.voices.Voice.{Voice}
+use Rattle.store.specs.declared.voices.VoiceState.{VoiceState}
+use Rattle.store.specs.declared.voices.VoiceState.the-variants.{Tracked, Fading, Loose}
+use Rattle.store.specs.declared.voices.Fade.{Fade}
+use Rattle.model.specs.Desk.{Desk, withGraph, withSteals, oneMoreVoice}
+use Rattle.model.specs.Voice.{isVoice, startOf, id, feeder, voiceLevel, candidates, trackedOn, fadesOn, newFade}
+
+-- ---- the nodes of a voice. Its done flag "is clear in a new node", and "before any report" its level is 0
+abbrev pub voiceNode : VoiceId → Name → ℕ → ℕ → Bool → Bool → Node
+voiceNode w kind ports required values glides =
+    record {
+      id = id 0;
+      owner = w;
+      kind = kind;
+      ports = ports;
+      required = required;
+      «takes_values» = values;
+      «takes_glides» = glides;
+      done = false;
+      level = ofBits binary32 0;
+      last = LastOrder.Nothing;
+    }
+
+abbrev pub defNode : VoiceId → DefNode → Node
+defNode w n = voiceNode w (n .kind) (n .ports) (n .required) (n .«takes_values») (n .«takes_glides»)
+
+-- "ports and names of `Pan2` and `Const`": port 0 of `Pan2` is required, and so is that of a fade
+abbrev pub constNode : VoiceId → Node
+constNode w = voiceNode w (name "Const") 0 0 false false
+
+abbrev pub panNode : VoiceId → Node
+panNode w = voiceNode w (name "Pan2") 2 1 false false
+
+abbrev pub fadeNode : VoiceId → Node
+fadeNode w = voiceNode w (name "StealFade") 1 1 false false
+
+-- "Pan is left out for +0 and -0; NaN pans."
+abbrev pub pans : Float → Bool
+pans x = not (eq x (fin false 0 (pos 0)))
+
+-- the definition's nodes, then the constant, then the pan node
+abbrev pub voiceNodes : VoiceId → SynthDef → Bool → List Node
+voiceNodes w def pan = map (defNode w) (nodeRows (def .nodes)) ++ cond pan (constNode w ∷ panNode w ∷ []) []
+
+-- an edge between nodes of the voice, by their places
+pub record Wire : Type 0 where
+  pub from : ℕ
+  pub to : ℕ
+  pub port : ℕ
+
+abbrev pub wire : ℕ → ℕ → ℕ → Wire
+wire a b p = record { from = a; to = b; port = p }
+
+abbrev pub defWire : DefEdge → Wire
+defWire e = wire (e .from) (e .to) (e .port)
+
+-- "the last edge to a port counts"; then output to pan, and constant to pan
+abbrev pub voiceWires : SynthDef → Bool → List Wire
+voiceWires def pan =
+    let n = length (nodeRows (def .nodes)) in
+    map defWire (counted (edgeRows (def .edges))) ++ cond pan (wire (def .output) (n + 1) 0 ∷ wire n (n + 1) 1 ∷ []) []
+
+-- the place of the node that feeds the bus
+abbrev pub voiceOut : SynthDef → Bool → ℕ
+voiceOut def pan = cond pan (length (nodeRows (def .nodes)) + 1) (def .output)
+
+abbrev pub appendAll : GraphView → List Node → GraphView
+appendAll g [] = g
+appendAll g (n ∷ ns) = appendAll (append g n) ns
+
+abbrev pub wireAll : ℕ → GraphView → List Wire → GraphView
+wireAll base g [] = g
+wireAll base g (w ∷ ws) = wireAll base (connect g (id (base + w .from)) (id (base + w .to)) (w .port)) ws
+
+-- the voice's nodes and edges, with the edge to its port of the bus
+abbrev pub landGraph : VoiceId → SynthDef → Bool → NodeId → ℕ → GraphView → GraphView
+landGraph w def pan bus p g =
+    connect (wireAll (g .next) (appendAll g (voiceNodes w def pan)) (voiceWires def pan)) (id (g .next + voiceOut def pan)) bus p
+
+abbrev pub nextVoice : Desk → VoiceId
+nextVoice d = record { 0 = d .spawned + 1 }
+
+abbrev pub landDesk : SynthDef → Bool → NodeId → ℕ → Desk → Desk
+landDesk def pan bus p d = oneMoreVoice (withGraph (landGraph (nextVoice d) def pan bus p (d .graph)) d)
+
+abbrev pub newcomer : SynthDef → Bool → VoiceState → NodeId → ℕ → Desk → Voice
+newcomer def pan s bus p d =
+    record {
+      id = nextVoice d;
+      birth = d .clock;
+      bus = bus;
+      port = p;
+      first = id (d .graph .next);
+      count = length (nodeRows (def .nodes));
+      output = id (d .graph .next + def .output);
+      panned = pan;
+      sequence = d .sequence;
+      state = s;
+      params = def .params;
+      plan = planOf def;
+    }
+
+-- "tracked under a budget"; "without a budget nobody is tracked, stolen or reclaimed"
+abbrev pub stateUnder : Budget → VoiceState
+stateUnder Unlimited = Loose
+stateUnder (AtMost n) = Tracked
+
+-- how often a port may be made: never without a budget, else at most once for each voice
+abbrev pub tries : Budget → List Voice → ℕ
+tries Unlimited vs = 0
+tries (AtMost n) vs = length vs
+
+-- ---- a fade: "takes the port of the bus that the victim's output or pan node feeds at that moment". Its node takes its id
+-- first; the edge to the bus replaces the feeder's
+abbrev pub fadeGraph : Voice → ℕ → GraphView → GraphView
+fadeGraph v p g = connect (connect (append g (fadeNode (v .id))) (feeder v) (id (g .next)) 0) (id (g .next)) (v .bus) p
+
+-- the fade of a victim: it starts now, and its record is the next one
+abbrev pub fadeOf : Desk → Fade
+fadeOf d = newFade (d .graph .next) (d .clock) (d .steals .count)
+
+-- the record of a steal of the voice, now: sample, level at this moment, cut mark
+abbrev pub recorded : Voice → Bool → Desk → Book
+recorded v cut d = pushed (d .steals) (recordOf (d .clock) (voiceLevel d v) cut)
+
+abbrev pub fadeDesk : Voice → ℕ → Desk → Desk
+fadeDesk v p d = withSteals (recorded v false d) (withGraph (fadeGraph v p (d .graph)) d)
+
+-- what the going of a reclaimed voice writes: a fade's record is marked cut, if still held; a tracked voice gets a cut record
+abbrev pub reclaimBook : Voice → VoiceState → Desk → Book
+reclaimBook v Tracked d = recorded v true d
+reclaimBook v (Fading f) d = marked (d .steals) (f .number)
+reclaimBook v Loose d = d .steals
+
+-- ---- who goes
+abbrev pub voiceOf : Victim → List Voice → Option Voice
+voiceOf Nobody vs = none
+voiceOf (Goes place w) vs = find (isVoice w) vs
+
+-- "the earliest-started fade of that bus (ties by voice order)"
+abbrev pub earlier : Option Voice → Bool → Voice → Option Voice
+earlier none b v = or? b v none
+earlier (some u) b v = or? (b && leb (startOf (v .state)) (startOf (u .state))) v (some u)
+
+abbrev pub earliest : (Voice → Bool) → List Voice → Option Voice
+earliest q [] = none
+earliest q (v ∷ vs) = earlier (earliest q vs) (q v) v
+
+-- "else ... the policy's victim among tracked voices of that bus"
+abbrev pub elseVictim : Option Voice → Option Voice → Option Voice
+elseVictim none o = o
+elseVictim (some v) o = some v
+
+abbrev pub nextOut : Desk → NodeId → List Voice → Option Voice
+nextOut d bus vs = elseVictim (earliest (fadesOn bus) vs) (voiceOf (victim (d .config .policy) (candidates d (trackedOn bus) vs)) vs)

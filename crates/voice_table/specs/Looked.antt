@@ -1,0 +1,17 @@
+-- What the answers of the voice table stand for.
+-- Assumes nothing.
+use mathlib.Core.List.{List, [], _∷_, _++_}
+use mathlib.Core.Option.{Option, none, some}
+use mathlib.Core.Bool.{cond}
+use lib.ListN.{length}
+use lib.Dec.{ltb}
+use Rattle.store.specs.declared.voices.Voice.{Voice}
+use Rattle.voice_table.specs.declared.Looked.{Looked}
+
+-- the voice that was found, or none
+abbrev pub lookedOf : Looked → Option Voice
+lookedOf r = cond (r .found) (some (r .voice)) none
+
+-- one voice more, if there is room
+abbrev pub pushedVoice : List Voice → Voice → List Voice
+pushedVoice vs v = cond (ltb (length vs) 64) (vs ++ (v ∷ [])) vs

@@ -1,0 +1,273 @@
+// The table of live voices: the part of engine.rs that works on `voices` alone.
+use node::record::NodeId;
+use node::record::VoiceId;
+use store::voices::Fade;
+use store::voices::Voice;
+use store::voices::VoiceState;
+use store::voices::Voices;
+ghost use mathlib.Core.Path.{_≡_};
+ghost use mathlib.Core.Bool.{not};
+ghost use mathlib.Core.List.{map};
+ghost use Prim.Native.Nat.{min};
+ghost use lib.ListN.{length};
+ghost use Rattle.lists.specs.Keep.{keep};
+ghost use Rattle.lists.specs.Find.{find};
+ghost use Rattle.model.specs.View.{voicesOf};
+ghost use Rattle.model.specs.Voice.{isVoice, isOn, isTracked, isFading, startOf, fadesOn, beginFade, moved, movedFade, movedState, withState};
+ghost use Rattle.model.specs.Spawn.{earlier, earliest};
+ghost use Rattle.model.specs.Render.{further};
+ghost use Rattle.voice_table.specs.Looked.{lookedOf, pushedVoice};
+
+// A voice, or none: an enum holds no array.
+pub struct Looked {
+    pub found: bool,
+    pub voice: Voice,
+}
+
+// A count above the capacity is the capacity.
+fn held(count: usize) -> usize
+    ensures { λ r. ⌜ r ≡ min count 64 ⌝ }
+{
+    if count < 64 { count } else { 64 }
+}
+
+// How many voices there are.
+pub fn voice_count(t: Voices) -> usize
+    ensures { λ r. ⌜ r ≡ length (voicesOf t) ⌝ }
+{
+    held(t.count)
+}
+
+// Whether `v` is the voice `w`.
+pub fn is_voice(v: Voice, w: VoiceId) -> bool
+    ensures { λ r. ⌜ r ≡ isVoice w v ⌝ }
+{
+    v.id.0 == w.0
+}
+
+// The voice `w`, or none.
+pub fn find_voice(t: Voices, w: VoiceId) -> Looked
+    ensures { λ r. ⌜ lookedOf r ≡ find (isVoice w) (voicesOf t) ⌝ }
+{
+    let n = held(t.count);
+    let mut i = 0;
+    while i < n {
+        let v = t.rows[i];
+        if is_voice(v, w) {
+            return Looked {
+                found: true,
+                voice: v,
+            };
+        }
+        i += 1;
+    }
+    let v = t.rows[0];
+    Looked {
+        found: false,
+        voice: v,
+    }
+}
+
+// The voices without `w`; the gap is closed.
+pub fn remove_voice(t: Voices, w: VoiceId) -> Voices
+    ensures { λ r. ⌜ voicesOf r ≡ keep (λ v. not (isVoice w v)) (voicesOf t) ⌝ }
+{
+    let n = held(t.count);
+    let mut out = t;
+    let mut kept = 0;
+    let mut i = 0;
+    while i < n {
+        let v = t.rows[i];
+        i += 1;
+        if !is_voice(v, w) {
+            out.rows[kept] = v;
+            kept += 1;
+        }
+    }
+    out.count = kept;
+    out
+}
+
+// One voice more, at the end; a full table stays as it is.
+pub fn push_voice(t: Voices, v: Voice) -> Voices
+    ensures { λ r. ⌜ voicesOf r ≡ pushedVoice (voicesOf t) v ⌝ }
+{
+    let n = held(t.count);
+    let mut out = t;
+    if n < 64 {
+        out.rows[n] = v;
+        out.count = n + 1;
+        return out;
+    }
+    out
+}
+
+// A fade after a sounding block.
+fn moved_fade(f: Fade, block: u64) -> Fade
+    ensures { λ r. ⌜ r ≡ movedFade (further block) f ⌝ }
+{
+    let node = f.node;
+    Fade {
+        node,
+        start: f.start,
+        position: add_capped(f.position, block),
+        number: f.number,
+    }
+}
+
+// The state of a voice after a sounding block.
+fn moved_state(s: VoiceState, block: u64) -> VoiceState
+    ensures { λ r. ⌜ r ≡ movedState (further block) s ⌝ }
+{
+    match s {
+        VoiceState::Tracked => VoiceState::Tracked,
+        VoiceState::Fading(f) => VoiceState::Fading(moved_fade(f, block)),
+        VoiceState::Loose => VoiceState::Loose,
+    }
+}
+
+// The sum, or 2^64 - 1 where it is more.
+fn add_capped(a: u64, b: u64) -> u64
+    ensures { λ r. ⌜ r ≡ further b a ⌝ }
+{
+    if a <= 18446744073709551615 - b {
+        a + b
+    } else {
+        18446744073709551615
+    }
+}
+
+// `v` with another state.
+fn with_state(v: Voice, s: VoiceState) -> Voice
+    ensures { λ r. ⌜ r ≡ withState s v ⌝ }
+{
+    let params = v.params;
+    let plan = v.plan;
+    let bus = v.bus;
+    let first = v.first;
+    let output = v.output;
+    let id = v.id;
+    Voice {
+        id,
+        birth: v.birth,
+        bus,
+        port: v.port,
+        first,
+        count: v.count,
+        output,
+        panned: v.panned,
+        sequence: v.sequence,
+        state: s,
+        params,
+        plan,
+    }
+}
+
+// Every fade moves by a block.
+pub fn move_fades(t: Voices, block: u64) -> Voices
+    ensures { λ r. ⌜ voicesOf r ≡ map (moved (further block)) (voicesOf t) ⌝ }
+{
+    let n = held(t.count);
+    let mut out = t;
+    let mut i = 0;
+    while i < n {
+        let v = t.rows[i];
+        let state = v.state;
+        let s = moved_state(state, block);
+        out.rows[i] = with_state(v, s);
+        i += 1;
+    }
+    out
+}
+
+// The voice `w` fades from now on.
+pub fn start_fade(t: Voices, w: VoiceId, f: Fade) -> Voices
+    ensures { λ r. ⌜ voicesOf r ≡ map (beginFade w f) (voicesOf t) ⌝ }
+{
+    let n = held(t.count);
+    let mut out = t;
+    let mut i = 0;
+    while i < n {
+        let v = t.rows[i];
+        out.rows[i] = faded(v, w, f);
+        i += 1;
+    }
+    out
+}
+
+// `v`, fading if it is the voice `w`.
+fn faded(v: Voice, w: VoiceId, f: Fade) -> Voice
+    ensures { λ r. ⌜ r ≡ beginFade w f v ⌝ }
+{
+    if is_voice(v, w) {
+        return with_state(v, VoiceState::Fading(f));
+    }
+    v
+}
+
+// Whether `v` fades on `bus`.
+fn fades_on(v: Voice, bus: NodeId) -> bool
+    ensures { λ r. ⌜ r ≡ fadesOn bus v ⌝ }
+{
+    let s = v.state;
+    match s {
+        VoiceState::Tracked => false,
+        VoiceState::Fading(_) => v.bus.0 == bus.0,
+        VoiceState::Loose => false,
+    }
+}
+
+// The clock at the start of a fade; 0 if there is none.
+fn start_of(s: VoiceState) -> u64
+    ensures { λ r. ⌜ r ≡ startOf s ⌝ }
+{
+    match s {
+        VoiceState::Tracked => 0,
+        VoiceState::Fading(f) => f.start,
+        VoiceState::Loose => 0,
+    }
+}
+
+// Of two voices the one that goes first: `v`, if it fades on `bus` and started no later than `best`.
+fn earlier_fade(best: Looked, v: Voice, bus: NodeId) -> Looked
+    ensures { λ r. ⌜ lookedOf r ≡ earlier (lookedOf best) (fadesOn bus v) v ⌝ }
+{
+    if !fades_on(v, bus) {
+        return best;
+    }
+    if best.found {
+        let mine = v.state;
+        let old = best.voice;
+        let theirs = old.state;
+        let began = start_of(mine);
+        if start_of(theirs) < began {
+            return best;
+        }
+        return Looked {
+            found: true,
+            voice: v,
+        };
+    }
+    Looked {
+        found: true,
+        voice: v,
+    }
+}
+
+// The fade of `bus` that started earliest, of several the first in voice order; or none.
+pub fn earliest_fade(t: Voices, bus: NodeId) -> Looked
+    ensures { λ r. ⌜ lookedOf r ≡ earliest (fadesOn bus) (voicesOf t) ⌝ }
+{
+    let v = t.rows[0];
+    let mut best = Looked {
+        found: false,
+        voice: v,
+    };
+    let mut i = held(t.count);
+    while 0 < i {
+        i -= 1;
+        let v = t.rows[i];
+        best = earlier_fade(best, v, bus);
+    }
+    best
+}
