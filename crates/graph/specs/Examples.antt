@@ -15,6 +15,10 @@ use Rattle.edges.specs.Ports.{freePort, portFrom, sourceAt}
 use Rattle.graph.specs.View.{GraphView, newGraph}
 use Rattle.graph.specs.Node.{hostNode}
 use Rattle.graph.specs.Change.{append, connect, disconnect, setSink, removeNode, removeVoice}
+use Rattle.rank.specs.Order.{among, fed, released, walk, order, whole, count-up}
+use Rattle.order.specs.Live.{risingFrom, liveNodes, liveIds, processingOrder}
+use Rattle.order.specs.Required.{any, lacks, lacking}
+use Rattle.graph.specs.Prepare.{prepareRefusal, prepare}
 use Rattle.graph.specs.Refuse.{addRefusal, hostRefusal, disconnectRefusal, connectRefusal}
 
 -- ---- a bus of 3 ports, three nodes of one port, and a node of voice 5
@@ -113,3 +117,25 @@ no-name = refl
 
 required-2 : number (addRefusal wires bus 2 4) ≡ some 6
 required-2 = refl
+
+-- ---- "In the page's scene the order of the third prepare is 1, 2, 4, 3, 0", with the graph made call by call: the bus, the
+-- tones of two voices, the fade that takes the first one's port, the third voice's tone
+abbrev page : GraphView
+page =
+    let one = connect (append (append newGraph (plain 3)) (plain 0)) (node 1) (node 0) 0 in
+    let two = connect (append one (plain 0)) (node 2) (node 0) 1 in
+    let faded = connect (connect (append two (plain 1)) (node 1) (node 3) 0) (node 3) (node 0) 0 in
+    connect (append faded (plain 0)) (node 4) (node 0) 2
+
+page-fine : prepareRefusal page ≡ none
+unfolding among fed released walk order whole risingFrom liveNodes liveIds any lacks lacking count-up
+page-fine = refl
+
+page-order : map (λ k. k .0) (prepare page .order) ≡ 1 ∷ 2 ∷ 4 ∷ 3 ∷ 0 ∷ []
+unfolding among fed released walk order whole risingFrom liveNodes liveIds processingOrder
+page-order = refl
+
+-- a node that feeds itself is a cycle
+page-cycle : number (prepareRefusal (connect page (node 3) (node 3) 0)) ≡ some 14
+unfolding among fed released walk order whole risingFrom liveNodes liveIds any lacks lacking count-up
+page-cycle = refl

@@ -3,5 +3,6 @@ pub mod Node
 pub mod Change
 pub mod Refuse
 pub mod Call
+pub mod Prepare
 pub mod Tables
 pub mod Examples

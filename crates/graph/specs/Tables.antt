@@ -8,14 +8,13 @@ use mathlib.Core.Bool.{Bool, not}
 use lib.ListN.{length, take}
 use Rattle.lists.specs.Keep.{keep}
 use Rattle.lists.specs.Find.{or?}
-use Rattle.lists.specs.Table.{rowsOf}
 use Rattle.node.specs.Rows.{nodesOf, edgesOf}
 use Rattle.node.specs.declared.record.NodeId.{NodeId}
 use Rattle.node.specs.declared.record.Node.{Node}
 use Rattle.node.specs.declared.refusal.Refusal.{Refusal}
 use Rattle.graph.specs.declared.state.Sink.{Sink}
 use Rattle.graph.specs.declared.state.Sink.the-variants as Sink
-use Rattle.graph.specs.declared.state.Order.{Order}
+use Rattle.order.specs.Live.{orderOf}
 use Rattle.graph.specs.declared.state.Graph.{Graph}
 use Rattle.graph.specs.declared.state.Answer.{Answer}
 use Rattle.graph.specs.declared.state.Answer.the-variants as Answer
@@ -35,9 +34,6 @@ use Rattle.graph.specs.Call.{Outcome, Grant}
 abbrev pub sinkOf : Sink → Option NodeId
 sinkOf (Sink.Node k) = some k
 sinkOf Sink.Nothing = none
-
-abbrev pub orderOf : Order → List NodeId
-orderOf o = rowsOf 512 (o .count) (o .ids)
 
 abbrev pub viewOf : Graph → GraphView
 viewOf g =

@@ -13,7 +13,6 @@ use crate::state::Answer;
 use crate::state::Changed;
 use crate::state::Given;
 use crate::state::Graph;
-use crate::state::Order;
 use crate::state::Sink;
 use crate::state::with_edges;
 use crate::tests::host_test;
@@ -32,6 +31,7 @@ use node::record::NodeId;
 use node::record::Nodes;
 use node::record::VoiceId;
 use node::refusal::Refusal;
+use order::Order;
 
 // A new node of the host. Its id is given when it is appended.
 pub fn host_node(kind: &[u8], ports: u32, required: u64, values: bool, glides: bool) -> Node

@@ -2,6 +2,7 @@
 // refusals, and what the engine does with a voice's nodes.
 pub mod host;
 pub mod nodes;
+pub mod prepare;
 pub mod removal;
 pub mod state;
 pub mod tests;

@@ -6,6 +6,7 @@ use node::record::Edges;
 use node::record::NodeId;
 use node::record::Nodes;
 use node::refusal::Refusal;
+use order::Order;
 
 // The node that the host hears, or none.
 pub enum Sink {
@@ -13,13 +14,7 @@ pub enum Sink {
     Nothing,
 }
 
-// The processing order that the last good prepare gave: the first `count` of `ids`.
-pub struct Order {
-    pub ids: [NodeId; 512],
-    pub count: usize,
-}
-
-// The whole graph. `next` is the next node id; from 2^32 on there is none left.
+// The whole graph. `order` is the processing order that the last good prepare gave, `next` the next node id; from 2^32 on there is none left.
 pub struct Graph {
     pub nodes: Nodes,
     pub edges: Edges,
