@@ -39,6 +39,10 @@ module _ (ids : List ℕ) (n : ℕ) (hn : n ≤ length ids) where
   pub of-rising : Rising (take n ids) → (i j : ℕ) → i < j → j < n → getD ids i 0 < getD ids j 0
   of-rising r i j l h = rw (getD-take n ids i 0 (omega arith), getD-take n ids j 0 h) at (r .rises i j l (omega (arith, len)))
 
+-- a row that has x is the row of x
+pub guessed : (ids : List ℕ) (n x : ℕ) → n ≤ length ids → Rising (take n ids) → (g : ℕ) → g < n → getD ids g 0 ≡ x → g ≡ rowOf (take n ids) x
+guessed ids n x hn r g h e = row-is ids n hn x g h (λ j lt z. omega (arith, of-rising ids n hn r j g lt h)) e
+
 -- ---- halving
 abbrev pub Halved : List ℕ → ℕ → ℕ → ℕ → ℕ → Type 0
 Halved ids n x lo hi = (lo ≤ hi) × (hi ≤ n) × ((j : ℕ) → j < lo → getD ids j 0 < x) × ((j : ℕ) → hi ≤ j → j < n → x ≤ getD ids j 0)

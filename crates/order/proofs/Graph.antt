@@ -1,34 +1,33 @@
 -- From the rows of the parts to the ids of the definitions. Assumes nothing.
 use Prim.Native.Nat.{ℕ, zero, suc, _+_, _*_, _≤_, _<_, min}
 use native.Mathlib.Omega.{arith}
-use native.Mathlib.Decide.{ℕ-discrete, decLt}
+use native.Mathlib.Decide.{ℕ-discrete}
 use mathlib.Core.Path.{_≡_, refl, sym, ap, subst, _∙_}
-use mathlib.Core.Logic.{_≢_, inl, inr}
+use mathlib.Core.Logic.{inl, inr}
 use mathlib.Core.List.{List, [], _∷_, map}
-use mathlib.Core.Bool.{Bool, true, false, _&&_, _||_, not}
+use mathlib.Core.Bool.{Bool, true, false, _&&_, not}
 use borrow.Author.Tests.{eq-eqb, ne-eqb}
-use lib.Dec.{eqb, ltb}
+use lib.Dec.{eqb}
 use lib.ListN.{length, take, getD, length-map, length-take}
 use lib.Seq.{length-take-le, getD-take, take-take}
 use Rattle.lists.specs.Member.{In}
 use Rattle.node.specs.declared.record.Node.{Node}
 use Rattle.node.specs.declared.record.NodeId.{NodeId}
 use Rattle.node.specs.declared.record.Edge.{Edge}
-use Rattle.rank.specs.Order.{Arc, arc, among, order, whole, count-up, upto, arcs}
-use Rattle.rank.specs.Cycle.{Distinct}
+use Rattle.rank.specs.Order.{Arc, arc, order, whole, count-up, upto, arcs}
 use Rattle.rank.specs.Names.{rowOf, rowArc}
 use Rattle.rank.specs.Parts.{Ranked}
 use Rattle.rank.specs.declared.Ranking.{Ranking}
-use Rattle.rank.proofs.Cycle.{upto-in, in-upto}
+use Rattle.rank.proofs.Cycle.{upto-in}
 use Rattle.rank.proofs.Sound.{at-in}
 use Rattle.rank.proofs.Counts.{length-upto}
-use Rattle.rank.proofs.Names.{row-live, row-in, row-back, row-of-row, order-named, whole-named}
+use Rattle.rank.proofs.Names.{row-live, row-back, row-of-row, order-named, whole-named}
 use Rattle.rank.proofs.Theorems.{distinct-upto, order-only, order-few}
 use Rattle.order.specs.declared.Live.{Live}
 use Rattle.order.specs.declared.Ended.{Ended}
 use Rattle.order.specs.declared.Order.{Order}
 use Rattle.order.specs.Live.{liveNodes, liveIds, idOf, arcOf, asId, processingOrder, orderOf}
-use Rattle.order.specs.Required.{any, feeds, connected, bit, lacks, lacking}
+use Rattle.order.specs.Required.{any, connected, bit, lacks, lacking}
 use Rattle.order.specs.Prepare.{Outcome, prepare}
 use Rattle.order.specs.declared.Readiness.{Readiness}
 use Rattle.order.specs.declared.Readiness.the-variants.{Ready, Refused}

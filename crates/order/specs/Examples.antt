@@ -3,7 +3,7 @@
 use Prim.Native.Nat.{ℕ}
 use mathlib.Core.Path.{_≡_, refl}
 use mathlib.Core.List.{List, [], _∷_, map}
-use mathlib.Core.Bool.{Bool, true, false}
+use mathlib.Core.Bool.{false}
 use lib.IntN.{pos}
 use lib.Ieee.{fin}
 use Rattle.node.specs.declared.record.Node.{Node}
@@ -11,7 +11,7 @@ use Rattle.node.specs.declared.record.Edge.{Edge}
 use Rattle.node.specs.declared.order.LastOrder.the-variants.{Nothing}
 use Rattle.node.specs.declared.refusal.Refusal.the-variants.{RequiredPort, Cycle}
 use Rattle.rank.specs.Order.{among, fed, released, walk, order, whole, count-up}
-use Rattle.order.specs.declared.Readiness.the-variants.{Ready, Refused}
+use Rattle.order.specs.declared.Readiness.the-variants.{Ready}
 use Rattle.order.specs.Live.{risingFrom, liveNodes, liveIds, asId, processingOrder}
 use Rattle.order.specs.Required.{any, lacks, lacking}
 use Rattle.order.specs.Prepare.{Outcome, refused, prepare}

@@ -1,17 +1,16 @@
 -- What is live in the graph's two tables, and the processing order of graph.rs.
 -- Assumes nothing.
-use Prim.Native.Nat.{ℕ, zero, suc, _≤_}
+use Prim.Native.Nat.{ℕ, suc, _≤_}
 use mathlib.Core.List.{List, [], _∷_, map}
-use mathlib.Core.Bool.{Bool, true, false, _&&_, cond}
+use mathlib.Core.Bool.{cond}
 use mathlib.Core.Path.{_≡_, refl}
 use lib.Dec.{leb}
 use borrow.Author.Tests.{le-leb}
-use Rattle.lists.specs.Keep.{keep}
 use Rattle.lists.specs.Table.{rowsOf}
 use Rattle.node.specs.declared.record.Node.{Node}
 use Rattle.node.specs.declared.record.NodeId.{NodeId}
 use Rattle.node.specs.declared.record.Edge.{Edge}
-use Rattle.rank.specs.Order.{Arc, arc, among, order}
+use Rattle.rank.specs.Order.{Arc, arc, order}
 use Rattle.order.specs.declared.Order.{Order}
 
 -- The rows of the node table are the live nodes, by rising id. A table whose ids do not rise, which no call makes, is read

@@ -1,14 +1,12 @@
 -- What the parts of `processing_order` and `prepare` compute, by rows of the node table. Nothing here has to be believed.
 -- Assumes nothing.
-use Prim.Native.Nat.{ℕ, zero, suc, _+_, _*_, _<_, _≤_, min}
+use Prim.Native.Nat.{ℕ, suc, _+_, _*_, _<_, _≤_, min}
 use mathlib.Core.List.{List, [], _∷_, map}
-use mathlib.Core.Bool.{Bool, true, false, _&&_, _||_, not}
+use mathlib.Core.Bool.{Bool, false, _&&_, _||_, not}
 use mathlib.Core.Path.{_≡_}
 use lib.ListN.{length, take, getD}
 use lib.Dec.{eqb, ltb}
-use Rattle.lists.specs.Table.{rowsOf}
 use Rattle.node.specs.declared.record.Node.{Node}
-use Rattle.node.specs.declared.record.NodeId.{NodeId}
 use Rattle.node.specs.declared.record.Edge.{Edge}
 use Rattle.rank.specs.Order.{upto}
 use Rattle.rank.specs.Names.{rowOf}

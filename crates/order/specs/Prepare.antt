@@ -2,7 +2,7 @@
 -- That the order has not all live nodes is that there is a cycle among them: proofs/Theorems.antt, both ways.
 -- Assumes nothing.
 use mathlib.Core.List.{List, [], map}
-use mathlib.Core.Bool.{Bool, true, false, cond, not}
+use mathlib.Core.Bool.{cond, not}
 use Rattle.node.specs.declared.record.Node.{Node}
 use Rattle.node.specs.declared.record.NodeId.{NodeId}
 use Rattle.node.specs.declared.record.Edge.{Edge}

@@ -1,8 +1,8 @@
 -- Refusal 13, "required port unconnected".
 -- Assumes nothing.
-use Prim.Native.Nat.{ℕ, zero, suc, _^_, _/_, _%_, min}
+use Prim.Native.Nat.{ℕ, _^_, _/_, _%_, min}
 use mathlib.Core.List.{List, [], _∷_}
-use mathlib.Core.Bool.{Bool, true, false, _&&_, _||_, not}
+use mathlib.Core.Bool.{Bool, false, _&&_, _||_, not}
 use lib.Dec.{eqb}
 use Rattle.node.specs.declared.record.Node.{Node}
 use Rattle.node.specs.declared.record.Edge.{Edge}

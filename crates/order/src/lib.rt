@@ -66,13 +66,32 @@ fn live_ids(nodes: Nodes) -> Live
     Live { ids: ids, count: i }
 }
 
-// The row of the id `x` among the first `n`, which rise; `n` where it is none of them. By halving.
-fn row_of(ids: &[u32; 512], n: usize, x: u32) -> usize
+// A row for each remainder of an id: a guess that `row_of` tests before it halves. Ids are counted up, so it is mostly right.
+fn guesses(ids: [u32; 512], n: usize) -> [usize; 1024]
+    requires { ⌜ n ≤ 512 ⌝ }
+    ensures { λ r. ⌜ length r ≡ 1024 ⌝ }
+{
+    let mut rows = [0usize; 1024];
+    let mut i: usize = 0;
+    while i < n {
+        rows[wide(ids[i]) % 1024] = i;
+        i += 1;
+    }
+    rows
+}
+
+// The row of the id `x` among the first `n`, which rise; `n` where it is none of them. By the guess, or by halving.
+fn row_of(ids: &[u32; 512], n: usize, x: u32, guess: usize) -> usize
     requires { ⌜ n ≤ 512 ⌝ }
     requires { ⌜ n ≤ length (now ids) ⌝ }
     requires { ⌜ Rising (take n (now ids)) ⌝ }
     ensures { λ r. ⌜ r ≡ rowOf (take n (now (ids .entry))) x ⌝ }
 {
+    if guess < n {
+        if ids[guess] == x {
+            return guess;
+        }
+    }
     let mut lo: usize = 0;
     let mut hi = n;
     while lo < hi {
@@ -103,13 +122,14 @@ fn ends(ids: [u32; 512], n: usize, edges: Edges) -> Ended
     ensures { λ r. ⌜ Ends r (take n ids) (edgesOf edges) ⌝ }
 {
     let m = rank::at_most(edges.count, 1024);
+    let rows = guesses(ids, n);
     let mut from = [0usize; 1024];
     let mut to = [0usize; 1024];
     let mut i: usize = 0;
     while i < m {
         let e = edges.rows[i];
-        from[i] = row_of(&ids, n, e.from.0);
-        to[i] = row_of(&ids, n, e.to.0);
+        from[i] = row_of(&ids, n, e.from.0, rows[wide(e.from.0) % 1024]);
+        to[i] = row_of(&ids, n, e.to.0, rows[wide(e.to.0) % 1024]);
         i += 1;
     }
     Ended { from: from, to: to }

@@ -7,7 +7,7 @@ use native.Mathlib.Decide.{ℕ-discrete, decLt}
 use mathlib.Core.Path.{_≡_, refl, sym, ap, subst, _∙_}
 use mathlib.Core.Logic.{_≢_}
 use mathlib.Core.List.{List, [], _∷_, _++_, append-nil}
-use mathlib.Core.Bool.{Bool, true, false, _&&_, _||_, not, and-true, false≢true}
+use mathlib.Core.Bool.{Bool, true, false, _&&_, _||_, not, and-true}
 use borrow.Author.Tests.{eq-eqb, ne-eqb, lt-ltb, le-ltb}
 use lib.Dec.{eqb, ltb}
 use lib.ListN.{length, take, drop, getD, List·getD-eq-default, drop-of-length-le}
@@ -18,7 +18,7 @@ use Rattle.rank.specs.Order.{Arc, among, fed, live, own, others, release
 use Rattle.rank.specs.declared.Queue.{Queue}
 use Rattle.rank.specs.Parts.{indeg, degs, ready, St, app, fall, pickSt, serve, run, start, orderRows, Queued, Ranked}
 use Rattle.rank.proofs.Laws.{length-arcs}
-use Rattle.rank.proofs.Serve.{zeros-le, run-step, run-done, zero-run, fall-zero}
+use Rattle.rank.proofs.Serve.{zeros-le, run-step, run-done, fall-zero}
 use Rattle.rank.proofs.Cycle.{in-upto, upto-in, among-snoc, opens, opens-none, fall-count, fall-long, Good, good-next, good-start}
 use Rattle.rank.proofs.Sound.{bool-false, among-in, in-among, Ok, Sound, sound-next, sound-start}
 

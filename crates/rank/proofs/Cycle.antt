@@ -1,19 +1,19 @@
 -- Where the order is shorter than the rows, there is a cycle. Assumes nothing.
-use Prim.Native.Nat.{ℕ, zero, suc, _+_, _-_, _≤_, _<_, zero-le}
+use Prim.Native.Nat.{ℕ, zero, suc, _+_, _-_, _≤_, _<_}
 use native.Mathlib.Omega.{arith}
 use native.Mathlib.Nat.{le-refl, not-suc-le-zero, zero-add}
 use native.Mathlib.Decide.{ℕ-discrete, decLt}
 use mathlib.Core.Path.{_≡_, refl, sym, ap, subst, _∙_}
 use mathlib.Core.Logic.{_≢_, inl, inr}
 use mathlib.Core.List.{List, [], _∷_, _++_, append-nil}
-use mathlib.Core.Bool.{cond, Bool, true, false, _&&_, _||_, not, and-true, or-true, false≢true}
-use borrow.Author.Tests.{eq-eqb, ne-eqb, eqb-true, eqb-false, ltb-true, lt-ltb}
+use mathlib.Core.Bool.{Bool, true, false, _&&_, _||_, not, and-true, or-true, false≢true}
+use borrow.Author.Tests.{eq-eqb, ne-eqb, eqb-true, ltb-true}
 use lib.Dec.{eqb, ltb}
 use lib.ListN.{length, take, getD, set, length-append, length-set, List·getD-eq-default, replicate, length-replicate, getD-replicate}
-use lib.Seq.{getD-set-other, set-out, take-append-le, take-suc, take-all}
+use lib.Seq.{getD-set-other, take-append-le, take-suc, take-all}
 use Rattle.lists.specs.Count.{more}
 use Rattle.lists.specs.Keep.{put?}
-use Rattle.rank.specs.Order.{Arc, arc, among, count-up, upto}
+use Rattle.rank.specs.Order.{Arc, among, count-up, upto}
 use Rattle.lists.specs.Member.{In}
 use Rattle.rank.specs.Parts.{indeg, degs, ready, St, app, fall, pickSt, serve, run, start, orderRows}
 use Rattle.rank.specs.Cycle.{Walk, step, then, Cyclic}

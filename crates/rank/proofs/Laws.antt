@@ -1,22 +1,20 @@
 -- The laws by which the proofs of this crate go. Assumes nothing.
-use Prim.Native.Nat.{ℕ, zero, suc, _+_, _-_, _≤_, _<_, min, zero-le, suc-le-suc}
+use Prim.Native.Nat.{ℕ, zero, suc, _+_, _-_, _≤_, _<_, min}
 use native.Mathlib.Omega.{arith}
-use native.Mathlib.Nat.{le-of-suc-le-suc, not-suc-le-zero, add-zero, zero-add, le-refl}
+use native.Mathlib.Nat.{not-suc-le-zero, add-zero, zero-add, le-refl}
 use native.Mathlib.Numerals.{add-one}
 use native.Mathlib.Decide.{ℕ-discrete}
 use mathlib.Core.Path.{_≡_, refl, sym, ap, _∙_}
-use mathlib.Core.Logic.{_≢_}
-use mathlib.Core.List.{List, [], _∷_, _++_, map, append-nil}
-use mathlib.Core.Bool.{cond, Bool, true, false, _&&_, and-false}
-use borrow.Author.Tests.{eq-eqb, ne-eqb, eqb-true, eqb-false, lt-ltb, le-ltb}
+use mathlib.Core.List.{List, [], _∷_, _++_}
+use mathlib.Core.Bool.{Bool, true, false, _&&_, and-false}
+use borrow.Author.Tests.{eq-eqb, ne-eqb, lt-ltb, le-ltb}
 use lib.Dec.{eqb, ltb}
-use lib.ListN.{length, take, drop, getD, set, length-take, length-drop, length-set, drop-of-length-le, List·getD-eq-default, replicate, length-replicate, getD-replicate}
-use lib.Seq.{drop-cons, getD-take, length-take-le, getD-set-same, getD-set-other, ext-getD, drop-drop, drop-nil, take-suc-set, append-snoc, take-set-lt, set-getD, take-length, drop-length}
+use lib.ListN.{length, take, drop, getD, set, length-take, length-set, drop-of-length-le, replicate, length-replicate, getD-replicate}
+use lib.Seq.{getD-take, length-take-le, getD-set-same, getD-set-other, ext-getD, take-suc-set, append-snoc}
 use Rattle.lists.specs.Count.{more}
-use Rattle.lists.specs.Keep.{put?}
 use Rattle.lists.specs.Table.{left-row}
 use Rattle.rank.specs.Order.{Arc, arc, arcs}
-use Rattle.rank.specs.Parts.{indeg, degs, ready, St, app, fall, pickSt, serve, run, start}
+use Rattle.rank.specs.Parts.{indeg, degs, ready, start}
 use Rattle.rank.specs.Parts.{find, none, fromAt}
 
 -- ---- arcs given by their sources and their targets

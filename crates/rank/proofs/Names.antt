@@ -7,18 +7,18 @@ use native.Mathlib.Decide.{ℕ-discrete, decLt}
 use mathlib.Core.Path.{_≡_, refl, sym, ap, subst, _∙_}
 use mathlib.Core.Logic.{_≢_, inl, inr, ⊎-elim}
 use mathlib.Core.List.{List, [], _∷_, _++_, map}
-use mathlib.Core.Bool.{Bool, true, false, _&&_, _||_, not, cond, false≢true}
+use mathlib.Core.Bool.{Bool, true, false, _&&_, not, cond, false≢true}
 use borrow.Author.Tests.{eq-eqb, ne-eqb, lt-ltb, le-ltb}
 use lib.Dec.{eqb, ltb}
 use lib.ListN.{length, getD, length-map, length-append}
 use lib.Seq.{append-snoc, getD-append-seam}
-use Rattle.lists.specs.Member.{In, and-left, and-right, in-append, in-of-map, in-map, map-append}
+use Rattle.lists.specs.Member.{In, and-left, and-right, in-append, map-append}
 use Rattle.lists.specs.Keep.{put?, keep, in-keep}
 use Rattle.rank.specs.Order.{Arc, arc, among, fed, live, own, others, released, walk, order, whole, count-up, upto}
 use Rattle.rank.specs.Cycle.{Distinct}
 use Rattle.rank.specs.Names.{rowOf, rowArc}
-use Rattle.rank.proofs.Cycle.{in-upto, upto-in}
-use Rattle.rank.proofs.Sound.{bool-false, among-in, in-among, at-in}
+use Rattle.rank.proofs.Cycle.{upto-in}
+use Rattle.rank.proofs.Sound.{among-in, in-among, at-in}
 use Rattle.rank.proofs.Counts.{among-upto, length-upto}
 
 keep-map-in : {A B : Type 0} (f : A → B) (q : B → Bool) (r : A → Bool) (l : List A) → ((x : A) → In x l → q (f x) ≡ r x) → keep q (map f l) ≡ map f (keep r l)

@@ -1,23 +1,23 @@
 -- The laws of the walk over the queue. Assumes nothing.
-use Prim.Native.Nat.{ℕ, zero, suc, _+_, _-_, _≤_, _<_, min}
+use Prim.Native.Nat.{ℕ, zero, suc, _+_, _-_, _≤_, _<_}
 use native.Mathlib.Omega.{arith}
 use native.Mathlib.Nat.{le-refl, not-suc-le-zero, sub-zero}
 use native.Mathlib.Numerals.{add-one}
 use native.Mathlib.Decide.{ℕ-discrete}
-use mathlib.Core.Path.{_≡_, refl, sym, ap, subst, _∙_}
+use mathlib.Core.Path.{_≡_, refl, sym, ap, _∙_}
 use mathlib.Core.Logic.{_≢_}
-use mathlib.Core.List.{List, [], _∷_, _++_}
+use mathlib.Core.List.{List, [], _∷_}
 use mathlib.Core.Bool.{cond, Bool, true, false}
-use borrow.Author.Tests.{eq-eqb, ne-eqb, eqb-true, eqb-false, lt-ltb, le-ltb}
-use lib.Dec.{eqb, ltb}
-use lib.ListN.{length, take, drop, getD, set, length-take, length-set, List·getD-eq-default}
-use lib.Seq.{getD-take, length-take-le, getD-set-same, getD-set-other, drop-drop, drop-nil, take-suc-set, take-set-lt, set-getD, set-out}
+use borrow.Author.Tests.{eq-eqb, ne-eqb, lt-ltb, le-ltb}
+use lib.Dec.{eqb}
+use lib.ListN.{length, take, drop, getD, set, length-set, List·getD-eq-default}
+use lib.Seq.{getD-take, length-take-le, getD-set-same, getD-set-other, drop-drop, drop-nil, take-suc-set, take-set-lt, set-getD}
 use Rattle.lists.specs.Count.{more}
 use Rattle.lists.specs.Keep.{put?}
-use Rattle.rank.specs.Order.{Arc, arc, arcs}
-use Rattle.rank.specs.Parts.{ready, St, app, fall, pickSt, serve, run, orderRows, start}
+use Rattle.rank.specs.Order.{Arc}
+use Rattle.rank.specs.Parts.{ready, St, fall, pickSt, serve, run, orderRows, start}
 use Rattle.rank.specs.declared.Queue.{Queue}
-use Rattle.rank.specs.Parts.{find, none, fromAt, Degrees, Ready, Linked}
+use Rattle.rank.specs.Parts.{find, fromAt, Degrees, Ready, Linked}
 
 -- ---- how many counts are 0
 unfoldable pub zeros : List ℕ → ℕ

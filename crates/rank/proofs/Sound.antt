@@ -5,21 +5,21 @@ use native.Mathlib.Nat.{le-refl, not-suc-le-zero, zero-add}
 use native.Mathlib.Decide.{ℕ-discrete, decLt}
 use mathlib.Core.Path.{_≡_, refl, sym, ap, subst, _∙_}
 use mathlib.Core.Logic.{_≢_, _⊎_, inl, inr, ⊎-elim}
-use mathlib.Core.List.{List, [], _∷_, _++_, append-nil}
-use mathlib.Core.Bool.{cond, Bool, true, false, _&&_, _||_, not, or-true, or-false, false≢true}
-use borrow.Author.Tests.{eq-eqb, ne-eqb, eqb-true, eqb-false, lt-ltb}
+use mathlib.Core.List.{List, [], _∷_, _++_}
+use mathlib.Core.Bool.{Bool, true, false, _&&_, _||_, not, or-true, or-false, false≢true}
+use borrow.Author.Tests.{eq-eqb, ne-eqb, lt-ltb}
 use lib.Dec.{eqb, ltb}
-use lib.ListN.{length, take, getD, set, length-append, List·getD-append, length-map}
-use lib.Seq.{take-append-le, take-suc, take-all, getD-append-seam, take-append-seam, getD-take}
+use lib.ListN.{length, take, getD, length-append, List·getD-append}
+use lib.Seq.{take-append-le, take-suc, getD-append-seam, take-append-seam}
 use Rattle.lists.specs.Count.{more}
 use Rattle.lists.specs.Keep.{put?}
-use Rattle.rank.specs.Order.{Arc, arc, among, upto}
+use Rattle.rank.specs.Order.{Arc, among, upto}
 use Rattle.lists.specs.Member.{In}
 use Rattle.rank.specs.Parts.{indeg, degs, ready, St, app, fall, pickSt, serve, run, start, orderRows}
 use Rattle.rank.specs.Cycle.{Distinct, Before, Sorted}
 use Rattle.rank.proofs.Laws.{length-degs, getD-degs}
-use Rattle.rank.proofs.Serve.{zeros, zeros-lt, run-step, run-done, zero-run, ready-below}
-use Rattle.rank.proofs.Cycle.{in-upto, upto-in, opens, cnt, among-snoc, opens-none, fall-count, fall-long, among-append, in-range, Begins, begins-fall, Good, run-good, good-start}
+use Rattle.rank.proofs.Serve.{zeros-lt, run-step, run-done, zero-run, ready-below}
+use Rattle.rank.proofs.Cycle.{in-upto, upto-in, opens, cnt, among-snoc, opens-none, fall-count, fall-long, in-range, Begins, begins-fall, Good, run-good, good-start}
 
 -- no edge is open: each source is in q
 opens-zero : (n : ℕ) (q : List ℕ) (es : List Arc) (v : ℕ) → opens n q es v ≡ 0 → (e : Arc) → In e es → e .from < n → e .to ≡ v → among (e .from) q ≡ true

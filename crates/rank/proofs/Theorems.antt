@@ -1,25 +1,24 @@
 -- What the order is good for: it has all nodes exactly where there is no cycle among them, and then each once and every
 -- source before its target.
 -- Assumes nothing.
-use Prim.Native.Nat.{ℕ, zero, suc, _+_, _≤_, _<_}
+use Prim.Native.Nat.{ℕ, zero, suc, _≤_, _<_}
 use native.Mathlib.Omega.{arith}
-use native.Mathlib.Decide.{ℕ-discrete}
 use mathlib.Core.Path.{_≡_, refl, sym, ap, subst, _∙_}
 use mathlib.Core.Logic.{_≢_, inl, inr}
 use mathlib.Core.List.{List, [], _∷_, map}
-use mathlib.Core.Bool.{Bool, true, false, _||_, cond, false≢true}
+use mathlib.Core.Bool.{true, false, cond, false≢true}
 use borrow.Author.Tests.{eq-eqb, ne-eqb, eqb-true, eqb-false}
 use lib.Dec.{eqb}
 use lib.ListN.{length, getD, length-map}
 use Rattle.lists.specs.Member.{In, in-of-map, in-map}
-use Rattle.rank.specs.Order.{Arc, arc, among, order, whole, count-up, upto}
+use Rattle.rank.specs.Order.{Arc, among, order, whole, count-up, upto}
 use Rattle.rank.specs.Cycle.{Walk, step, then, Cyclic, Acyclic, Distinct, Before, Sorted}
 use Rattle.rank.specs.Names.{rowOf, rowArc}
 use Rattle.rank.specs.Parts.{orderRows}
-use Rattle.rank.proofs.Cycle.{in-upto, upto-in, in-count, count-in, short-rows, rows-few}
-use Rattle.rank.proofs.Sound.{bool-false, among-in, in-among, at-in, rows-only, rows-every, rows-sorted}
+use Rattle.rank.proofs.Cycle.{in-upto, upto-in, count-in, short-rows, rows-few}
+use Rattle.rank.proofs.Sound.{bool-false, among-in, in-among, at-in, rows-only, rows-sorted}
 use Rattle.rank.proofs.Counts.{rows-order, length-upto}
-use Rattle.rank.proofs.Names.{row-live, row-in, row-back, rows-apart, order-named, whole-named}
+use Rattle.rank.proofs.Names.{row-in, row-back, rows-apart, order-named, whole-named}
 
 -- ---- an order of all nodes leaves no cycle: along a walk the place in it rises
 before-in : (x y : ℕ) (l : List ℕ) → Before x y l → In x l × In y l

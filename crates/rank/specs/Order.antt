@@ -4,8 +4,8 @@
 -- Assumes nothing.
 use Prim.Native.Nat.{ℕ, zero, suc}
 use mathlib.Core.List.{List, [], _∷_, _++_}
-use mathlib.Core.Bool.{Bool, true, false, _&&_, _||_, not}
-use lib.ListN.{length, take}
+use mathlib.Core.Bool.{Bool, false, _&&_, _||_, not}
+use lib.ListN.{length}
 use lib.Dec.{eqb}
 use Rattle.lists.specs.Keep.{put?, keep}
 

@@ -1,25 +1,17 @@
-use Prim.Native.Nat.{ℕ, zero, suc, _+_, _*_, _≤_, _<_, _-_, min}
-use mathlib.Core.Path.{_≡_, refl, sym, ap, _∙_}
-use mathlib.Core.List.{List, [], _∷_, _++_}
-use mathlib.Core.Bool.{Bool, true, false}
-use mathlib.Core.Logic.{⊎-elim}
+-- `order::live_ids` meets its contract: the ids so far, with the live ones of what is left, are all live ids.
+-- Assumes nothing.
+use Prim.Native.Nat.{_≤_, _<_, _-_}
+use mathlib.Core.Path.{_≡_, refl, _∙_}
+use mathlib.Core.List.{[]}
 use native.Mathlib.Omega.{arith}
-use native.Mathlib.Numerals.{add-one}
-use lib.ListN.{length, take, drop, getD, set, length-map, length-set}
+use lib.ListN.{length, take, getD, length-map, length-set}
 use Rattle.lists.specs.Table.{left-row}
 use Rattle.order.proofs.Rises.{Passed, passed-start, passed-more, passed-stop, passed-end}
-use Rattle.node.specs.declared.record.Node.{Node}
-use Rattle.node.specs.Rows.{nodesOf}
-use Rattle.order.specs.Live.{liveIds}
 use Rattle.order.proofs.Empty.{no-node}
 use Rattle.order.proofs.Mapped.{no-row}
 use borrow.Author.Needs.{needs}
 use Rattle.order.proofs.live_ids.Statement.{statement}
 use Rattle.order.proofs.live_ids.Tie as tie
-use Rattle.order.proofs.live_ids.Reads as reads
-use Rattle.order.proofs.live_ids.Lts as lts
-use Rattle.order.proofs.wide.Reads as wide-reads
-use Rattle.rank.proofs.at_most.Reads as at-most-reads
 
 abbrev Inv-loop : tie.InvT-loop
 Inv-loop nodes n ids₀ least₀ i₀ ids least i = (i ≤ n) × (length ids ≡ 512) × (least ≤ 4294967296) × Passed (take n (nodes .rows)) ids least i
@@ -30,27 +22,21 @@ abbrev μ-loop : tie.MeasureT-loop
 rows-long : (c : tie.Start Inv-loop μ-loop) → length (c .args .t1 .rows) ≡ 512
 rows-long c = simp length-map at (c .good .0 .1 .1 .0 .1 .0 .1)
 
--- src/lib.rt:50:9
 at-most-requires : tie.Need-at-most-requires Inv-loop μ-loop
 at-most-requires c κs = search needs
 
--- src/lib.rt:54:5
 loop-holds : tie.Need-loop-holds Inv-loop μ-loop
 loop-holds c = (omega arith, refl, omega arith, passed-start _ [])
 
--- src/lib.rt:55:17
 mul-x : tie.Need-mul-x Inv-loop μ-loop
 mul-x c = search needs
 
--- src/lib.rt:55:13
 element-copy-out-x : tie.Need-element-copy-out-x Inv-loop μ-loop
 element-copy-out-x c = search needs
 
--- src/lib.rt:56:13
 wide-requires : tie.Need-wide-requires Inv-loop μ-loop
 wide-requires c κs = search needs
 
--- src/lib.rt:58:13
 returns : tie.Need-returns Inv-loop μ-loop
 returns c =
     let s = c .before .before .before .before .before in
@@ -67,27 +53,21 @@ returns c =
       is = rw (← (n .ensures)) (passed-stop (take (n .result) (s .args .t1 .rows)) (l .ids) (l .least) (l .i) (l .inv .3) x dr (omega (arith, c .if1 .taken, c .before .wide .ensures .0)));
     }
 
--- src/lib.rt:60:9
 mul-ids : tie.Need-mul-ids Inv-loop μ-loop
 mul-ids c = search needs
 
--- src/lib.rt:60:9
 array-write-ids : tie.Need-array-write-ids Inv-loop μ-loop
 array-write-ids c = search needs
 
--- src/lib.rt:61:17
 add-least : tie.Need-add-least Inv-loop μ-loop
 add-least c = search needs
 
--- src/lib.rt:62:9
 add-i : tie.Need-add-i Inv-loop μ-loop
 add-i c = search needs
 
--- src/lib.rt:54:5
 loop-less : tie.Need-loop-less Inv-loop μ-loop
 loop-less c = search needs
 
--- src/lib.rt:54:5
 loop-again : tie.Need-loop-again Inv-loop μ-loop
 loop-again c =
     let s = c .before .before .before .before .before in
@@ -106,7 +86,6 @@ loop-again c =
       rw (w .ensures .0) (passed-more (take (n .result) (s .args .t1 .rows)) (l .ids) (l .least) (l .i) (l .inv .3) x dr (omega (arith, c .if1 .left, w .ensures .0)) hk),
     )
 
--- src/lib.rt:47:1
 returns-2 : tie.Need-returns-2 Inv-loop μ-loop
 returns-2 c =
     let l = c .before .loop in

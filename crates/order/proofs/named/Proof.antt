@@ -1,11 +1,9 @@
-use Prim.Native.Nat.{ℕ, zero, suc, _+_, _*_, _≤_, _<_, _-_, min}
+-- `order::named` meets its contract: the ids so far, with those of the rows that are left, are those of all.
+-- Assumes nothing.
+use Prim.Native.Nat.{ℕ, _≤_, _<_, _-_}
 use mathlib.Core.Path.{_≡_, refl, sym, ap, _∙_}
-use mathlib.Core.List.{List, [], _∷_, _++_}
-use mathlib.Core.Bool.{Bool, true, false}
-use mathlib.Core.Logic.{⊎-elim}
 use native.Mathlib.Omega.{arith}
-use native.Mathlib.Numerals.{add-one}
-use lib.ListN.{length, take, drop, getD, set, length-set}
+use lib.ListN.{length, take, getD, length-set}
 use Rattle.order.specs.Live.{asId}
 use Rattle.lists.specs.Table.{left-row}
 use Rattle.order.proofs.Mapped.{Mapped, map-next, map-done, no-row}
@@ -13,8 +11,6 @@ use lib.Seq.{length-take-le}
 use borrow.Author.Needs.{needs}
 use Rattle.order.proofs.named.Statement.{statement}
 use Rattle.order.proofs.named.Tie as tie
-use Rattle.order.proofs.named.Reads as reads
-use Rattle.order.proofs.named.Lts as lts
 
 abbrev Inv-loop : tie.InvT-loop
 Inv-loop ids r k out₀ i₀ out i = (i ≤ k) × (length out ≡ 512) × Mapped (λ (x : ℕ). asId (getD ids x 0)) out i (take k (r .rows))
@@ -22,43 +18,33 @@ Inv-loop ids r k out₀ i₀ out i = (i ≤ k) × (length out ≡ 512) × Mapped
 abbrev μ-loop : tie.MeasureT-loop
 μ-loop ids r k out₀ i₀ out i = k - i
 
--- src/lib.rt:204:5
 loop-holds : tie.Need-loop-holds Inv-loop μ-loop
 loop-holds c = (omega arith, refl, refl)
 
--- src/lib.rt:205:19
 mul-row : tie.Need-mul-row Inv-loop μ-loop
 mul-row c = search needs
 
--- src/lib.rt:205:19
 element-copy-out-row : tie.Need-element-copy-out-row Inv-loop μ-loop
 element-copy-out-row c = search needs
 
--- src/lib.rt:206:25
 mul-t11 : tie.Need-mul-t11 Inv-loop μ-loop
 mul-t11 c = omega (arith, c .before .before .before .pre .below (c .before .before .loop .i) (c .before .loop-test .taken))
 
--- src/lib.rt:206:25
 array-read-t17 : tie.Need-array-read-t17 Inv-loop μ-loop
 array-read-t17 c = omega (arith, c .before .before .before .pre .below (c .before .before .loop .i) (c .before .loop-test .taken))
 
--- src/lib.rt:206:9
 mul-out : tie.Need-mul-out Inv-loop μ-loop
 mul-out c = search needs
 
--- src/lib.rt:206:9
 array-set-from-out : tie.Need-array-set-from-out Inv-loop μ-loop
 array-set-from-out c = search needs
 
--- src/lib.rt:207:9
 add-i : tie.Need-add-i Inv-loop μ-loop
 add-i c = search needs
 
--- src/lib.rt:204:5
 loop-less : tie.Need-loop-less Inv-loop μ-loop
 loop-less c = search needs
 
--- src/lib.rt:204:5
 loop-again : tie.Need-loop-again Inv-loop μ-loop
 loop-again c =
     let s = c .before .before .before in
@@ -72,7 +58,6 @@ loop-again c =
       map-next _ (l .out) (l .i) _ (getD (r .rows) (l .i) 0) _ ho (left-row 0 (r .rows) (r .count) (l .i) hi hk) refl (l .inv .2),
     )
 
--- src/lib.rt:197:1
 returns : tie.Need-returns Inv-loop μ-loop
 returns c =
     let s = c .before .before in

@@ -1,10 +1,10 @@
-use Prim.Native.Nat.{ℕ, zero, suc, _+_, _*_, _≤_, _<_, _-_, min}
-use mathlib.Core.Path.{_≡_, refl, sym, ap, _∙_}
-use mathlib.Core.List.{List, [], _∷_, _++_}
-use mathlib.Core.Bool.{Bool, true, false}
+-- `order::plugged` meets its contract: the flags, with what the edges that are left feed, are what all feed.
+-- Assumes nothing.
+use Prim.Native.Nat.{ℕ, _+_, _*_, _≤_, _<_, _-_}
+use mathlib.Core.Path.{_≡_, ap, _∙_}
+use mathlib.Core.Bool.{true}
 use mathlib.Core.Logic.{⊎-elim}
 use native.Mathlib.Omega.{arith}
-use native.Mathlib.Numerals.{add-one}
 use lib.ListN.{length, take, drop, getD, set}
 use lib.ListN.{length-map}
 use Rattle.lists.specs.Table.{left-row, left-cons}
@@ -15,11 +15,6 @@ use Rattle.order.proofs.Ports.{Flags, flags-start, flags-done, flag-fro
 use borrow.Author.Needs.{needs}
 use Rattle.order.proofs.plugged.Statement.{statement}
 use Rattle.order.proofs.plugged.Tie as tie
-use Rattle.order.proofs.plugged.Reads as reads
-use Rattle.order.proofs.plugged.Lts as lts
-use Rattle.order.proofs.blank.Reads as blank-reads
-use Rattle.order.proofs.wide.Reads as wide-reads
-use Rattle.rank.proofs.at_most.Reads as at-most-reads
 
 abbrev Inv-loop : tie.InvT-loop
 Inv-loop n e edges m flags₀ i₀ flags i = (i ≤ m) × Flags flags n (drop i (e .from)) (drop i (e .to)) (drop i (take m (edges .rows))) (plugs n (e .from) (e .to) (take m (edges .rows)))
@@ -30,67 +25,51 @@ abbrev μ-loop : tie.MeasureT-loop
 edges-long : (c : tie.Start Inv-loop μ-loop) → length (c .args .t3 .rows) ≡ 1024
 edges-long c = simp length-map at (c .good .1 .1 .0 .1 .1 .0 .1 .0 .1)
 
--- src/lib.rt:139:9
 at-most-requires : tie.Need-at-most-requires Inv-loop μ-loop
 at-most-requires c κs = search needs
 
--- src/lib.rt:140:21
 blank-requires : tie.Need-blank-requires Inv-loop μ-loop
 blank-requires c κs = search needs
 
--- src/lib.rt:142:5
 loop-holds : tie.Need-loop-holds Inv-loop μ-loop
 loop-holds c = (omega arith, flags-start (c .blank .result) (c .before .before .args .n) (c .before .before .args .t2 .from) (c .before .before .args .t2 .to) (take (c .before .at-most .result) (c .before .before .args .t3 .rows)) (c .blank .ensures .long) (c .blank .ensures .none))
 
--- src/lib.rt:143:17
 mul-f : tie.Need-mul-f Inv-loop μ-loop
 mul-f c = search needs
 
--- src/lib.rt:143:17
 element-copy-out-f : tie.Need-element-copy-out-f Inv-loop μ-loop
 element-copy-out-f c = search needs
 
--- src/lib.rt:144:17
 mul-t : tie.Need-mul-t Inv-loop μ-loop
 mul-t c = search needs
 
--- src/lib.rt:144:17
 element-copy-out-t : tie.Need-element-copy-out-t Inv-loop μ-loop
 element-copy-out-t c = search needs
 
--- src/lib.rt:145:22
 mul-wide : tie.Need-mul-wide Inv-loop μ-loop
 mul-wide c = search needs
 
--- src/lib.rt:145:22
 element-copy-out-wide : tie.Need-element-copy-out-wide Inv-loop μ-loop
 element-copy-out-wide c = search needs
 
--- src/lib.rt:145:13
 wide-requires : tie.Need-wide-requires Inv-loop μ-loop
 wide-requires c κs = search needs
 
--- src/lib.rt:149:27
 mul-flags : tie.Need-mul-flags Inv-loop μ-loop
 mul-flags c = search needs
 
--- src/lib.rt:149:27
 add-flags : tie.Need-add-flags Inv-loop μ-loop
 add-flags c = search needs
 
--- src/lib.rt:149:21
 array-write-flags : tie.Need-array-write-flags Inv-loop μ-loop
 array-write-flags c = search needs
 
--- src/lib.rt:153:9
 add-i : tie.Need-add-i Inv-loop μ-loop
 add-i c = search needs
 
--- src/lib.rt:142:5
 loop-less : tie.Need-loop-less Inv-loop μ-loop
 loop-less c = search needs
 
--- src/lib.rt:142:5
 loop-again : tie.Need-loop-again Inv-loop μ-loop
 loop-again c =
     let s = c .before .before .before .before .before .before .before .before in
@@ -118,7 +97,6 @@ loop-again c =
           (c .if1 .came),
     )
 
--- src/lib.rt:134:1
 returns : tie.Need-returns Inv-loop μ-loop
 returns c =
     let s = c .before .before .before .before in

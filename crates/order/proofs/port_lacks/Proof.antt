@@ -1,11 +1,12 @@
-use Prim.Native.Nat.{ℕ, zero, suc, _+_, _*_, _≤_, _<_, _-_, _/_, _%_, _^_, min}
-use mathlib.Core.Path.{_≡_, refl, sym, ap, _∙_}
-use mathlib.Core.List.{List, [], _∷_, _++_}
+-- `order::port_lacks` meets its contract: the mask that is left is the mask from the port on, and no port before it lacks.
+-- Assumes nothing.
+use Prim.Native.Nat.{ℕ, _+_, _*_, _≤_, _<_, _-_, _/_, _^_, min}
+use mathlib.Core.Path.{_≡_, sym, ap, _∙_}
+use mathlib.Core.List.{List}
 use mathlib.Core.Bool.{Bool, true, false}
 use mathlib.Core.Logic.{⊎-elim}
 use native.Mathlib.Omega.{arith}
-use native.Mathlib.Numerals.{add-one}
-use lib.ListN.{length, take, drop, getD, set}
+use lib.ListN.{getD}
 use mathlib.Core.Bool.{_&&_, not}
 use Rattle.rank.specs.Order.{count-up, upto}
 use Rattle.order.specs.Required.{any, bit}
@@ -13,15 +14,10 @@ use Rattle.order.specs.Parts.{portsLack}
 use Rattle.order.proofs.Ports.{any-next, any-end, half}
 use native.Mathlib.Nat.{div-one, sub-zero}
 use mathlib.Core.Bool.{_||_}
-use borrow.Author.Tests.{eq-eqb, ne-eqb}
 use Rattle.order.proofs.Ports.{lack-on, lack-fed, lack-off}
 use borrow.Author.Needs.{needs}
 use Rattle.order.proofs.port_lacks.Statement.{statement}
 use Rattle.order.proofs.port_lacks.Tie as tie
-use Rattle.order.proofs.port_lacks.Reads as reads
-use Rattle.order.proofs.port_lacks.Lts as lts
-use Rattle.order.proofs.wide.Reads as wide-reads
-use Rattle.rank.proofs.at_most.Reads as at-most-reads
 
 abbrev lackAt : List Bool → ℕ → ℕ → ℕ → Bool
 lackAt flags row required p = bit required p && not (getD flags (row * 64 + p) false)
@@ -33,31 +29,24 @@ Inv-loop flags row ports required most left₀ p₀ left p =
 abbrev μ-loop : tie.MeasureT-loop
 μ-loop flags row ports required most left₀ p₀ left p = most - p
 
--- src/lib.rt:164:30
 wide-requires : tie.Need-wide-requires Inv-loop μ-loop
 wide-requires c κs = search needs
 
--- src/lib.rt:164:9
 at-most-requires : tie.Need-at-most-requires Inv-loop μ-loop
 at-most-requires c κs = search needs
 
--- src/lib.rt:167:5
 loop-holds : tie.Need-loop-holds Inv-loop μ-loop
 loop-holds c = (omega arith, sym (div-one _), rw sub-zero)
 
--- src/lib.rt:169:23
 mul-if2 : tie.Need-mul-if2 Inv-loop μ-loop
 mul-if2 c = search needs
 
--- src/lib.rt:169:23
 add-if2 : tie.Need-add-if2 Inv-loop μ-loop
 add-if2 c = search needs
 
--- src/lib.rt:169:17
 element-copy-out-if2 : tie.Need-element-copy-out-if2 Inv-loop μ-loop
 element-copy-out-if2 c = search needs
 
--- src/lib.rt:170:17
 returns : tie.Need-returns Inv-loop μ-loop
 unfolding portsLack
 returns c =
@@ -71,15 +60,12 @@ returns c =
     let e : m .result ≡ min (a .ports) 64 = m .ensures ∙ ap (λ (k : ℕ). min k 64) (w .ensures .0) in
     rw (← e) (sym (sym (l .inv .2) ∙ any-next q (m .result) (l .p) h ∙ ap (λ (b : Bool). b || any q (count-up (m .result - (l .p + 1)) (l .p + 1))) on))
 
--- src/lib.rt:174:9
 add-p : tie.Need-add-p Inv-loop μ-loop
 add-p c = search needs
 
--- src/lib.rt:167:5
 loop-less : tie.Need-loop-less Inv-loop μ-loop
 loop-less c = search needs
 
--- src/lib.rt:167:5
 loop-again : tie.Need-loop-again Inv-loop μ-loop
 loop-again c =
     let a = c .before .before .before .before .before .args in
@@ -94,7 +80,6 @@ loop-again c =
       sym (any-next q (m .result) (l .p) h ∙ ap (λ (b : Bool). b || any q (count-up (m .result - (l .p + 1)) (l .p + 1))) off) ∙ l .inv .2,
     )
 
--- src/lib.rt:159:1
 returns-2 : tie.Need-returns-2 Inv-loop μ-loop
 unfolding portsLack
 returns-2 c =

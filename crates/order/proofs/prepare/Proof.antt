@@ -1,12 +1,10 @@
-use Prim.Native.Nat.{ℕ, zero, suc, _+_, _*_, _≤_, _<_, _-_, min}
-use mathlib.Core.Path.{_≡_, refl, sym, ap, _∙_}
-use mathlib.Core.List.{List, [], _∷_, _++_, map}
+-- `order::prepare` meets its contract: its two tests are those of the definition, and its three answers the definition's.
+-- Assumes nothing.
+use Prim.Native.Nat.{_-_, min}
+use mathlib.Core.Path.{_≡_, sym, ap, _∙_}
+use mathlib.Core.List.{List, map}
 use Rattle.node.specs.declared.record.Node.{Node}
-use mathlib.Core.Bool.{Bool, true, false}
-use mathlib.Core.Logic.{⊎-elim}
-use native.Mathlib.Omega.{arith}
-use native.Mathlib.Numerals.{add-one}
-use lib.ListN.{length, take, drop, getD, set}
+use lib.ListN.{length, take}
 use lib.ListN.{length-map}
 use Rattle.node.specs.Rows.{nodesOf, edgesOf}
 use Rattle.rank.specs.Order.{upto, arcs, whole}
@@ -23,15 +21,6 @@ use Rattle.order.specs.Parts.{Prepares}
 use borrow.Author.Needs.{needs}
 use Rattle.order.proofs.prepare.Statement.{statement}
 use Rattle.order.proofs.prepare.Tie as tie
-use Rattle.order.proofs.prepare.Reads as reads
-use Rattle.order.proofs.prepare.Lts as lts
-use Rattle.order.proofs.ends.Reads as ends-reads
-use Rattle.order.proofs.live_ids.Reads as live-ids-reads
-use Rattle.order.proofs.named.Reads as named-reads
-use Rattle.order.proofs.no_order.Reads as no-order-reads
-use Rattle.order.proofs.plugged.Reads as plugged-reads
-use Rattle.order.proofs.row_lacks.Reads as row-lacks-reads
-use Rattle.order.proofs.rows.Reads as rows-reads
 
 promised : {r : Prepared} {nodes : List Node} {edges : List Edge} → Prepares r nodes edges
     → (outcomeOf r ≡ prepare nodes edges) × ((length (r .order .ids) ≡ 512) × (r .order .count ≡ length (orderOf (r .order))))
@@ -63,49 +52,38 @@ held : (c : tie.After-rows)
     → c .rows .result .whole ≡ whole (liveIds (nodesOf (c .before .before .before .before .before .before .before .args .nodes))) (map arcOf (edgesOf (c .before .before .before .before .before .before .before .args .edges)))
 held c = whole-is _ _ (c .before .before .before .before .before .before .live-ids .ensures) _ _ (c .before .before .before .before .ends .ensures) _ (ranked c)
 
--- src/lib.rt:237:9
 live-ids-requires : tie.Need-live-ids-requires
 live-ids-requires c κs = search needs
 
--- src/lib.rt:240:9
 ends-requires : tie.Need-ends-requires
 ends-requires c κs = (c .before .live-ids .ensures .few, ids-rise _ _ (c .before .live-ids .ensures))
 
--- src/lib.rt:241:28
 plugged-requires : tie.Need-plugged-requires
 plugged-requires c κs = search needs
 
--- src/lib.rt:241:8
 row-lacks-requires : tie.Need-row-lacks-requires
 row-lacks-requires c κs = search needs
 
--- src/lib.rt:244:20
 no-order-requires : tie.Need-no-order-requires
 no-order-requires c κs = search needs
 
--- src/lib.rt:242:9
 returns : tie.Need-returns
 returns c = promised (prepared-13 _ _ (c .no-order .result) (c .no-order .ensures .1) (c .no-order .ensures .0) (sym (lacked (c .before .before)) ∙ c .before .if1 .taken))
 
--- src/lib.rt:247:9
 rows-requires : tie.Need-rows-requires
 rows-requires c κs = (c .before .before .before .ends .ensures .from-long, c .before .before .before .ends .ensures .to-long)
 
--- src/lib.rt:251:20
 named-requires : tie.Need-named-requires
 named-requires c κs = rows-in _ _ (c .before .before .before .before .before .before .before .live-ids .ensures) _ _ (c .before .before .before .before .before .ends .ensures) _ (ranked (c .before))
 
--- src/lib.rt:256:20
 no-order-requires-2 : tie.Need-no-order-requires-2
 no-order-requires-2 c κs = search needs
 
--- src/lib.rt:234:1
 returns-2 : tie.Need-returns-2
 returns-2 c =
     let o = ordered _ _ (c .before .before .before .before .before .before .before .before .live-ids .ensures) _ _ (c .before .before .before .before .before .before .ends .ensures) _ (ranked (c .before .before)) (c .named .result) (c .named .ensures) in
     promised (prepared-ready _ _ (c .named .result) (o .long) o (sym (lacked (c .before .before .before .before)) ∙ c .before .before .before .if1 .left) (sym (held (c .before .before)) ∙ c .before .if2 .taken))
 
--- src/lib.rt:234:1
 returns-3 : tie.Need-returns-3
 returns-3 c =
     promised (prepared-14 _ _ (c .no-order2 .result) (c .no-order2 .ensures .1) (c .no-order2 .ensures .0) (sym (lacked (c .before .before .before .before)) ∙ c .before .before .before .if1 .left) (sym (held (c .before .before)) ∙ c .before .if2 .left))

@@ -1,14 +1,14 @@
-use Prim.Native.Nat.{ℕ, zero, suc, _+_, _*_, _≤_, _<_, _-_, min}
+-- `order::row_lacks` meets its contract: no row before this one lacks a port.
+-- Assumes nothing.
+use Prim.Native.Nat.{_+_, _≤_, _<_, _-_}
 use mathlib.Core.Path.{_≡_, refl, sym, ap, _∙_}
-use mathlib.Core.List.{List, [], _∷_, _++_}
-use mathlib.Core.Bool.{Bool, true, false}
-use mathlib.Core.Logic.{⊎-elim}
+use mathlib.Core.List.{List}
+use mathlib.Core.Bool.{Bool}
 use native.Mathlib.Omega.{arith}
-use native.Mathlib.Numerals.{add-one}
-use lib.ListN.{length, take, drop, getD, set}
+use lib.ListN.{length, take, drop, getD}
 use lib.ListN.{length-map}
 use Rattle.lists.specs.Table.{left-row}
-use Rattle.order.specs.Parts.{rowsLack, portsLack}
+use Rattle.order.specs.Parts.{rowsLack}
 use Rattle.order.proofs.Empty.{no-node}
 use Rattle.order.proofs.Mapped.{no-row}
 use Rattle.order.proofs.Ports.{rows-next}
@@ -17,9 +17,6 @@ use Rattle.node.specs.declared.record.Node.{Node}
 use borrow.Author.Needs.{needs}
 use Rattle.order.proofs.row_lacks.Statement.{statement}
 use Rattle.order.proofs.row_lacks.Tie as tie
-use Rattle.order.proofs.row_lacks.Reads as reads
-use Rattle.order.proofs.row_lacks.Lts as lts
-use Rattle.order.proofs.port_lacks.Reads as port-lacks-reads
 
 abbrev Inv-loop : tie.InvT-loop
 Inv-loop n nodes flags i₀ i = (i ≤ n) × (rowsLack flags (drop i (take n (nodes .rows))) i ≡ rowsLack flags (take n (nodes .rows)) 0)
@@ -30,31 +27,24 @@ abbrev μ-loop : tie.MeasureT-loop
 rows-long : (c : tie.Start Inv-loop μ-loop) → length (c .args .t1 .rows) ≡ 512
 rows-long c = simp length-map at (c .good .0 .1 .1 .0 .1 .0 .1)
 
--- src/lib.rt:185:5
 loop-holds : tie.Need-loop-holds Inv-loop μ-loop
 loop-holds c = (omega arith, refl)
 
--- src/lib.rt:186:21
 mul-ports : tie.Need-mul-ports Inv-loop μ-loop
 mul-ports c = search needs
 
--- src/lib.rt:186:13
 element-copy-out-ports : tie.Need-element-copy-out-ports Inv-loop μ-loop
 element-copy-out-ports c = search needs
 
--- src/lib.rt:187:24
 mul-required : tie.Need-mul-required Inv-loop μ-loop
 mul-required c = search needs
 
--- src/lib.rt:187:13
 element-copy-out-required : tie.Need-element-copy-out-required Inv-loop μ-loop
 element-copy-out-required c = search needs
 
--- src/lib.rt:188:12
 port-lacks-requires : tie.Need-port-lacks-requires Inv-loop μ-loop
 port-lacks-requires c κs = search needs
 
--- src/lib.rt:189:13
 returns : tie.Need-returns Inv-loop μ-loop
 returns c =
     let s = c .before .before .before .before .before in
@@ -66,15 +56,12 @@ returns c =
     let e = rows-next (s .args .t3) xs (l .i) (getD (s .args .t1 .rows) (l .i) no-node) (c .before .port-lacks .result) dr (c .before .port-lacks .ensures) in
     sym (sym (l .inv .1) ∙ e ∙ ap (λ (b : Bool). b || rowsLack (s .args .t3) (drop (l .i + 1) xs) (l .i + 1)) (c .if1 .taken))
 
--- src/lib.rt:191:9
 add-i : tie.Need-add-i Inv-loop μ-loop
 add-i c = search needs
 
--- src/lib.rt:185:5
 loop-less : tie.Need-loop-less Inv-loop μ-loop
 loop-less c = search needs
 
--- src/lib.rt:185:5
 loop-again : tie.Need-loop-again Inv-loop μ-loop
 loop-again c =
     let s = c .before .before .before .before .before in
@@ -86,7 +73,6 @@ loop-again c =
     let e = rows-next (s .args .t3) xs (l .i) (getD (s .args .t1 .rows) (l .i) no-node) (c .before .port-lacks .result) dr (c .before .port-lacks .ensures) in
     (omega arith, sym (e ∙ ap (λ (b : Bool). b || rowsLack (s .args .t3) (drop (l .i + 1) xs) (l .i + 1)) (c .if1 .left)) ∙ l .inv .1)
 
--- src/lib.rt:180:1
 returns-2 : tie.Need-returns-2 Inv-loop μ-loop
 unfolding rowsLack
 returns-2 c =

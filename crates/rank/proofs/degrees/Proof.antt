@@ -1,18 +1,14 @@
-use Prim.Native.Nat.{ℕ, zero, suc, _+_, _*_, _≤_, _<_, _-_, min}
-use mathlib.Core.Path.{_≡_, refl, sym, ap, _∙_}
-use mathlib.Core.List.{List, [], _∷_, _++_}
-use mathlib.Core.Bool.{Bool, true, false}
+-- `rank::degrees` meets its contract: the counts, with the arcs that are left, are the in-degrees of all.
+-- Assumes nothing.
+use Prim.Native.Nat.{_≤_, _<_, _-_}
 use mathlib.Core.Logic.{⊎-elim}
 use native.Mathlib.Omega.{arith}
-use native.Mathlib.Numerals.{add-one}
-use lib.ListN.{length, take, drop, getD, set}
+use lib.ListN.{take, drop, getD}
 use Rattle.rank.specs.Order.{arcs}
 use Rattle.rank.proofs.Laws.{next-arc, many-arcs, no-row, Tally, tally-start, tally-room, tally-from, tally-to, tally-hit, tally-done}
 use borrow.Author.Needs.{needs}
 use Rattle.rank.proofs.degrees.Statement.{statement}
 use Rattle.rank.proofs.degrees.Tie as tie
-use Rattle.rank.proofs.degrees.Reads as reads
-use Rattle.rank.proofs.degrees.Lts as lts
 
 abbrev Inv-loop : tie.InvT-loop
 Inv-loop from to n m counts₀ i₀ counts i = (i ≤ m) × Tally counts n (drop i (take m (arcs from to))) (take m (arcs from to))
@@ -20,35 +16,27 @@ Inv-loop from to n m counts₀ i₀ counts i = (i ≤ m) × Tally counts n (drop
 abbrev μ-loop : tie.MeasureT-loop
 μ-loop from to n m counts₀ i₀ counts i = m - i
 
--- src/lib.rt:33:5
 loop-holds : tie.Need-loop-holds Inv-loop μ-loop
 loop-holds c = (omega arith, tally-start _ _ (c .pre .0 .0))
 
--- src/lib.rt:34:17
 mul-f : tie.Need-mul-f Inv-loop μ-loop
 mul-f c = search needs
 
--- src/lib.rt:34:17
 shared-slice-read-f : tie.Need-shared-slice-read-f Inv-loop μ-loop
 shared-slice-read-f c = search needs
 
--- src/lib.rt:35:17
 mul-t : tie.Need-mul-t Inv-loop μ-loop
 mul-t c = search needs
 
--- src/lib.rt:35:17
 shared-slice-read-t : tie.Need-shared-slice-read-t Inv-loop μ-loop
 shared-slice-read-t c = search needs
 
--- src/lib.rt:38:17
 mul-counts : tie.Need-mul-counts Inv-loop μ-loop
 mul-counts c = search needs
 
--- src/lib.rt:38:17
 array-read-counts : tie.Need-array-read-counts Inv-loop μ-loop
 array-read-counts c = search needs
 
--- src/lib.rt:38:17
 add-counts : tie.Need-add-counts Inv-loop μ-loop
 add-counts c =
     let a = c .before .before .before .before .before .before .args in
@@ -57,19 +45,15 @@ add-counts c =
     let r = tally-room (l .counts) (a .n) _ _ (l .inv .1) (getD (a .to .now) (l .i) 0) (c .if2 .taken) in
     omega (arith, r, many-arcs (a .from .now) (a .to .now) (a .m) (p .1 .0) (p .1 .1))
 
--- src/lib.rt:38:17
 array-write-counts : tie.Need-array-write-counts Inv-loop μ-loop
 array-write-counts c = search needs
 
--- src/lib.rt:41:9
 add-i : tie.Need-add-i Inv-loop μ-loop
 add-i c = search needs
 
--- src/lib.rt:33:5
 loop-less : tie.Need-loop-less Inv-loop μ-loop
 loop-less c = search needs
 
--- src/lib.rt:33:5
 loop-again : tie.Need-loop-again Inv-loop μ-loop
 loop-again c =
     let a = c .before .before .before .before .before .args in
@@ -84,7 +68,6 @@ loop-again c =
           (c .if1 .came),
     )
 
--- src/lib.rt:26:1
 returns : tie.Need-returns Inv-loop μ-loop
 returns c =
     let a = c .before .before .args in

@@ -1,21 +1,17 @@
-use Prim.Native.Nat.{ℕ, zero, suc, _+_, _*_, _≤_, _<_, _-_, min}
-use mathlib.Core.Path.{_≡_, refl, sym, ap, _∙_}
-use mathlib.Core.List.{List, [], _∷_, _++_}
-use mathlib.Core.Bool.{Bool, true, false}
-use mathlib.Core.Logic.{⊎-elim}
+-- `rank::linked` meets its contract: from arc i on, the chains lead from arc to arc of each source.
+-- Assumes nothing.
+use Prim.Native.Nat.{_+_, _≤_, _<_, _-_}
+use mathlib.Core.Path.{_≡_, ap}
 use native.Mathlib.Omega.{arith}
-use native.Mathlib.Numerals.{add-one}
-use lib.ListN.{length, take, drop, getD, set}
+use lib.ListN.{take, getD}
 use Rattle.rank.specs.Order.{arcs}
-use Rattle.rank.proofs.Laws.{enough, next-arc, arc-at, many-arcs, no-row, Chain, chain-start, chain-skip, chain-link}
+use Rattle.rank.proofs.Laws.{enough, next-arc, arc-at, Chain, chain-start, chain-skip, chain-link}
 use mathlib.Core.Path.{subst}
 use Rattle.rank.specs.Order.{Arc, arc}
 use Rattle.rank.specs.Parts.{fromAt}
 use borrow.Author.Needs.{needs}
 use Rattle.rank.proofs.linked.Statement.{statement}
 use Rattle.rank.proofs.linked.Tie as tie
-use Rattle.rank.proofs.linked.Reads as reads
-use Rattle.rank.proofs.linked.Lts as lts
 
 abbrev Inv-loop : tie.InvT-loop
 Inv-loop from to n m first₀ next₀ i₀ first next i = (i ≤ m) × Chain first next n (take m (arcs from to)) i
@@ -23,51 +19,39 @@ Inv-loop from to n m first₀ next₀ i₀ first next i = (i ≤ m) × Chain fir
 abbrev μ-loop : tie.MeasureT-loop
 μ-loop from to n m first₀ next₀ i₀ first next i = i
 
--- src/lib.rt:60:5
 loop-holds : tie.Need-loop-holds Inv-loop μ-loop
 loop-holds c = (omega arith, chain-start _ _ _ (c .pre .0 .0) (enough _ _ _ (c .pre .1 .0) (c .pre .1 .1)))
 
--- src/lib.rt:61:9
 sub-i : tie.Need-sub-i Inv-loop μ-loop
 sub-i c = search needs
 
--- src/lib.rt:62:17
 mul-v : tie.Need-mul-v Inv-loop μ-loop
 mul-v c = search needs
 
--- src/lib.rt:62:17
 shared-slice-read-v : tie.Need-shared-slice-read-v Inv-loop μ-loop
 shared-slice-read-v c = search needs
 
--- src/lib.rt:64:23
 mul-next : tie.Need-mul-next Inv-loop μ-loop
 mul-next c = search needs
 
--- src/lib.rt:64:23
 array-read-next : tie.Need-array-read-next Inv-loop μ-loop
 array-read-next c = search needs
 
--- src/lib.rt:64:13
 mul-next-2 : tie.Need-mul-next-2 Inv-loop μ-loop
 mul-next-2 c = search needs
 
--- src/lib.rt:64:13
 array-write-next : tie.Need-array-write-next Inv-loop μ-loop
 array-write-next c = search needs
 
--- src/lib.rt:65:13
 mul-first : tie.Need-mul-first Inv-loop μ-loop
 mul-first c = search needs
 
--- src/lib.rt:65:13
 array-write-first : tie.Need-array-write-first Inv-loop μ-loop
 array-write-first c = search needs
 
--- src/lib.rt:60:5
 loop-less : tie.Need-loop-less Inv-loop μ-loop
 loop-less c = search needs
 
--- src/lib.rt:60:5
 loop-again : tie.Need-loop-again Inv-loop μ-loop
 loop-again c =
     let a = c .before .before .before .before .args in
@@ -81,11 +65,9 @@ loop-again c =
     let fr : fromAt es i ≡ getD (a .from .now) i 0 = ap (λ (x : Arc). x .from) (arc-at (a .from .now) (a .to .now) (a .m) (p .1 .0) (p .1 .1) i hi) in
     (omega arith, chain-link es i (arc (getD (a .from .now) i 0) (getD (a .to .now) i 0)) (next-arc (a .from .now) (a .to .now) (a .m) (p .1 .0) (p .1 .1) i hi) (l .first) (l .next) (a .n) fr inv (c .if1 .taken) (p .0 .0) (omega arith))
 
--- src/lib.rt:60:5
 loop-less-2 : tie.Need-loop-less-2 Inv-loop μ-loop
 loop-less-2 c = search needs
 
--- src/lib.rt:60:5
 loop-again-2 : tie.Need-loop-again-2 Inv-loop μ-loop
 loop-again-2 c =
     let a = c .before .before .before .before .args in
@@ -99,7 +81,6 @@ loop-again-2 c =
     let fr : fromAt es i ≡ getD (a .from .now) i 0 = ap (λ (x : Arc). x .from) (arc-at (a .from .now) (a .to .now) (a .m) (p .1 .0) (p .1 .1) i hi) in
     (omega arith, chain-skip es i (arc (getD (a .from .now) i 0) (getD (a .to .now) i 0)) (next-arc (a .from .now) (a .to .now) (a .m) (p .1 .0) (p .1 .1) i hi) (l .first) (l .next) (a .n) fr inv (c .if1 .left))
 
--- src/lib.rt:52:1
 returns : tie.Need-returns Inv-loop μ-loop
 returns c =
     let a = c .before .before .args in

@@ -1,25 +1,20 @@
-use Prim.Native.Nat.{ℕ, zero, suc, _+_, _*_, _≤_, _<_, _-_, min}
-use mathlib.Core.Path.{_≡_, refl, sym, ap, _∙_}
-use mathlib.Core.List.{List, [], _∷_, _++_}
-use mathlib.Core.Bool.{Bool, true, false}
+-- `rank::queued` meets its contract: the walk from the state so far ends as the walk from the start, for the queue and, in it, for the arcs of one source.
+-- Assumes nothing.
+use Prim.Native.Nat.{ℕ, _≤_, _<_, _-_}
+use mathlib.Core.Path.{_≡_, sym, ap, _∙_}
+use mathlib.Core.List.{List}
 use mathlib.Core.Logic.{⊎-elim}
 use native.Mathlib.Omega.{arith}
-use native.Mathlib.Numerals.{add-one}
-use lib.ListN.{length, take, drop, getD, set}
+use lib.ListN.{length, take, drop, getD}
 use native.Mathlib.Nat.{le-refl}
 use lib.Seq.{getD-take, length-take-le}
 use Rattle.rank.specs.Order.{Arc, arc, arcs}
-use Rattle.rank.specs.Parts.{orderRows, run, serve, start, Linked, Degrees, fromAt, find}
+use Rattle.rank.specs.Parts.{orderRows, run, serve, Linked, fromAt, find}
 use Rattle.rank.proofs.Laws.{no-row, next-arc, arc-at, many-arcs}
 use Rattle.rank.proofs.Serve.{Held, Fell, st, held-start, run-start, next-more, next-found, next-serve, next-run, first-found, first-serve, serve-none, room, fell-past, fell-none, fell-more, fell-one, run-done}
 use borrow.Author.Needs.{needs}
 use Rattle.rank.proofs.queued.Statement.{statement}
 use Rattle.rank.proofs.queued.Tie as tie
-use Rattle.rank.proofs.queued.Reads as reads
-use Rattle.rank.proofs.queued.Lts as lts
-use Rattle.rank.proofs.degrees.Reads as degrees-reads
-use Rattle.rank.proofs.linked.Reads as linked-reads
-use Rattle.rank.proofs.ready.Reads as ready-reads
 
 abbrev Inv-loop2 : tie.InvT-loop2
 Inv-loop2 from to n m l counts₀ queue₀ tail₀ head v e₀ counts queue tail e =
@@ -50,19 +45,15 @@ links c = c .before .before .before .linked .ensures
 served : (c : tie.In-loop Inv-loop2 μ-loop2 Inv-loop μ-loop) → getD (c .before .loop .queue) (c .before .loop .head) 0 < begin (c .before .before) .args .n
 served c = c .before .loop .inv .1 .rows (c .before .loop .head) (c .loop-test .taken)
 
--- src/lib.rt:101:13
 linked-requires : tie.Need-linked-requires Inv-loop2 μ-loop2 Inv-loop μ-loop
 linked-requires c κs = search needs
 
--- src/lib.rt:102:22
 degrees-requires : tie.Need-degrees-requires Inv-loop2 μ-loop2 Inv-loop μ-loop
 degrees-requires c κs = search needs
 
--- src/lib.rt:103:9
 ready-requires : tie.Need-ready-requires Inv-loop2 μ-loop2 Inv-loop μ-loop
 ready-requires c κs = search needs
 
--- src/lib.rt:107:5
 loop-holds : tie.Need-loop-holds Inv-loop2 μ-loop2 Inv-loop μ-loop
 loop-holds c =
     let hn = begin c .pre .0 .0 in (
@@ -71,63 +62,49 @@ loop-holds c =
       run-start _ (c .before .before .degrees .result) (c .before .ready .result) (edges-of c) hn (c .before .before .degrees .ensures) (c .before .ready .ensures),
     )
 
--- src/lib.rt:108:17
 mul-v : tie.Need-mul-v Inv-loop2 μ-loop2 Inv-loop μ-loop
 mul-v c = search needs
 
--- src/lib.rt:108:17
 array-read-v : tie.Need-array-read-v Inv-loop2 μ-loop2 Inv-loop μ-loop
 array-read-v c = search needs
 
--- src/lib.rt:109:21
 mul-e : tie.Need-mul-e Inv-loop2 μ-loop2 Inv-loop μ-loop
 mul-e c =
     omega (arith, served c)
 
--- src/lib.rt:109:21
 element-copy-out-e : tie.Need-element-copy-out-e Inv-loop2 μ-loop2 Inv-loop μ-loop
 element-copy-out-e c =
     omega (arith, served c)
 
--- src/lib.rt:110:9
 loop2-holds : tie.Need-loop2-holds Inv-loop2 μ-loop2 Inv-loop μ-loop
 loop2-holds c =
     let q = c .before .before .before in
     (c .before .before .loop .inv .1, le-refl _, first-found _ _ _ _ _ (links q) (served (c .before)), first-serve _ _ _ _ _ (links q) (served (c .before)) _)
 
--- src/lib.rt:111:21
 mul-t : tie.Need-mul-t Inv-loop2 μ-loop2 Inv-loop μ-loop
 mul-t c = search needs
 
--- src/lib.rt:111:21
 shared-slice-read-t : tie.Need-shared-slice-read-t Inv-loop2 μ-loop2 Inv-loop μ-loop
 shared-slice-read-t c = search needs
 
--- src/lib.rt:113:25
 mul-k : tie.Need-mul-k Inv-loop2 μ-loop2 Inv-loop μ-loop
 mul-k c = search needs
 
--- src/lib.rt:113:25
 array-read-k : tie.Need-array-read-k Inv-loop2 μ-loop2 Inv-loop μ-loop
 array-read-k c = search needs
 
--- src/lib.rt:115:33
 sub-counts : tie.Need-sub-counts Inv-loop2 μ-loop2 Inv-loop μ-loop
 sub-counts c = search needs
 
--- src/lib.rt:115:21
 mul-counts : tie.Need-mul-counts Inv-loop2 μ-loop2 Inv-loop μ-loop
 mul-counts c = search needs
 
--- src/lib.rt:115:21
 array-write-counts : tie.Need-array-write-counts Inv-loop2 μ-loop2 Inv-loop μ-loop
 array-write-counts c = search needs
 
--- src/lib.rt:117:25
 mul-queue : tie.Need-mul-queue Inv-loop2 μ-loop2 Inv-loop μ-loop
 mul-queue c = search needs
 
--- src/lib.rt:117:25
 array-write-queue : tie.Need-array-write-queue Inv-loop2 μ-loop2 Inv-loop μ-loop
 array-write-queue c =
     let l = c .before .before .before .before .before .loop2 in
@@ -136,7 +113,6 @@ array-write-queue c =
     let k : getD (l .counts) t 0 ≡ 1 = c .if3 .taken in
     omega (arith, room t (a .n) (l .counts) (l .queue) (l .tail) (l .inv .0) (c .before .before .if1 .taken) (λ z. omega arith))
 
--- src/lib.rt:118:25
 add-tail : tie.Need-add-tail Inv-loop2 μ-loop2 Inv-loop μ-loop
 add-tail c = search needs
 
@@ -154,15 +130,12 @@ fell c =
     (λ w. rw (w .1, w .2, w .3) (fell-past t n (l .counts) (l .queue) (l .tail) (l .inv .0) (w .0 .left)))))
     (c .if1 .came)
 
--- src/lib.rt:122:17
 mul-e-2 : tie.Need-mul-e-2 Inv-loop2 μ-loop2 Inv-loop μ-loop
 mul-e-2 c = search needs
 
--- src/lib.rt:122:17
 element-copy-out-e-2 : tie.Need-element-copy-out-e-2 Inv-loop2 μ-loop2 Inv-loop μ-loop
 element-copy-out-e-2 c = search needs
 
--- src/lib.rt:110:9
 loop2-less : tie.Need-loop2-less Inv-loop2 μ-loop2 Inv-loop μ-loop
 loop2-less c =
     let q = c .before .before .before .before .before .before .before .before in
@@ -175,7 +148,6 @@ loop2-less c =
     let fr : fromAt (edges-of q) (l .e) ≡ getD (a .from .now) (l .e) 0 = ap (λ (x : Arc). x .from) (arc-at (a .from .now) (a .to .now) (a .m) (p .0) (p .1) (l .e) he) in
     omega (arith, next-more _ (l .e) (a .n) (edges-of q) _ _ (links q) (served (c .before .before .before .before .before .before)) le (arc (getD (a .from .now) (l .e) 0) (getD (a .to .now) (l .e) 0)) dr fr (l .inv .2))
 
--- src/lib.rt:110:9
 loop2-again : tie.Need-loop2-again Inv-loop2 μ-loop2 Inv-loop μ-loop
 loop2-again c =
     let q = c .before .before .before .before .before .before .before .before in
@@ -191,15 +163,12 @@ loop2-again c =
     let f = fell (c .before) in
     (f .held, omega (arith, f .more), next-found _ (l .e) (a .n) (edges-of q) _ _ (links q) v le r dr fr (l .inv .2), next-serve _ (l .e) (a .n) (edges-of q) _ _ (links q) v le r dr fr (l .inv .2) _ _ (f .is) ∙ l .inv .3)
 
--- src/lib.rt:124:9
 add-head : tie.Need-add-head Inv-loop2 μ-loop2 Inv-loop μ-loop
 add-head c = search needs
 
--- src/lib.rt:107:5
 loop-less : tie.Need-loop-less Inv-loop2 μ-loop2 Inv-loop μ-loop
 loop-less c = search needs
 
--- src/lib.rt:107:5
 loop-again : tie.Need-loop-again Inv-loop2 μ-loop2 Inv-loop μ-loop
 loop-again c =
     let o = c .before .before .before .before .loop in
@@ -219,7 +188,6 @@ loop-again c =
           ∙ o .inv .2,
     )
 
--- src/lib.rt:96:1
 returns : tie.Need-returns Inv-loop2 μ-loop2 Inv-loop μ-loop
 returns c =
     let l = c .before .loop in

@@ -1,37 +1,26 @@
-use Prim.Native.Nat.{ℕ, zero, suc, _+_, _*_, _≤_, _<_, _-_, min}
-use mathlib.Core.Path.{_≡_, refl, sym, ap, _∙_}
-use mathlib.Core.List.{List, [], _∷_, _++_}
-use mathlib.Core.Bool.{Bool, true, false}
-use mathlib.Core.Logic.{⊎-elim}
+-- `rank::ranked` meets its contract, by the laws of proofs/Counts.antt.
+-- Assumes nothing.
+use Prim.Native.Nat.{ℕ, _≤_, _-_, min}
+use mathlib.Core.Path.{_≡_, ap, _∙_}
 use native.Mathlib.Omega.{arith}
-use native.Mathlib.Numerals.{add-one}
-use lib.ListN.{length, take, drop, getD, set}
+use lib.ListN.{length}
 use Rattle.rank.proofs.Counts.{take-arcs, ranking}
 use borrow.Author.Needs.{needs}
 use Rattle.rank.proofs.ranked.Statement.{statement}
 use Rattle.rank.proofs.ranked.Tie as tie
-use Rattle.rank.proofs.ranked.Reads as reads
-use Rattle.rank.proofs.ranked.Lts as lts
-use Rattle.rank.proofs.at_most.Reads as at-most-reads
-use Rattle.rank.proofs.queued.Reads as queued-reads
 
--- src/lib.rt:137:9
 at-most-requires : tie.Need-at-most-requires
 at-most-requires c κs = search needs
 
--- src/lib.rt:138:21
 at-most-requires-2 : tie.Need-at-most-requires-2
 at-most-requires-2 c κs = search needs
 
--- src/lib.rt:138:9
 at-most-requires-3 : tie.Need-at-most-requires-3
 at-most-requires-3 c κs = search needs
 
--- src/lib.rt:139:9
 queued-requires : tie.Need-queued-requires
 queued-requires c κs = search needs
 
--- src/lib.rt:134:1
 returns : tie.Need-returns
 returns c =
     let a = c .before .before .before .before .before .before .before .args in

@@ -1,19 +1,17 @@
-use Prim.Native.Nat.{ℕ, zero, suc, _+_, _*_, _≤_, _<_, _-_, min}
-use mathlib.Core.Path.{_≡_, refl, sym, ap, subst, _∙_}
-use mathlib.Core.List.{List, [], _∷_, _++_, append-nil}
-use mathlib.Core.Bool.{Bool, true, false}
+-- `rank::ready` meets its contract: the queue, with what is ready among the counts that are left, is all that is ready.
+-- Assumes nothing.
+use Prim.Native.Nat.{_≤_, _<_, _-_}
+use mathlib.Core.Path.{_≡_, refl, sym, _∙_}
+use mathlib.Core.List.{append-nil}
 use mathlib.Core.Logic.{⊎-elim}
 use Rattle.rank.specs.Parts.{ready}
 use Rattle.lists.specs.Table.{left-row}
 use Rattle.rank.proofs.Laws.{no-row, Filled, fill-hit, fill-miss}
 use native.Mathlib.Omega.{arith}
-use native.Mathlib.Numerals.{add-one}
-use lib.ListN.{length, take, drop, getD, set, length-take}
+use lib.ListN.{length, take, length-take}
 use borrow.Author.Needs.{needs}
 use Rattle.rank.proofs.ready.Statement.{statement}
 use Rattle.rank.proofs.ready.Tie as tie
-use Rattle.rank.proofs.ready.Reads as reads
-use Rattle.rank.proofs.ready.Lts as lts
 
 abbrev Inv-loop : tie.InvT-loop
 Inv-loop n counts queue₀ tail₀ v₀ queue tail v = (v ≤ n) × Filled queue tail v (take n counts)
@@ -21,42 +19,33 @@ Inv-loop n counts queue₀ tail₀ v₀ queue tail v = (v ≤ n) × Filled queue
 abbrev μ-loop : tie.MeasureT-loop
 μ-loop n counts queue₀ tail₀ v₀ queue tail v = n - v
 
--- src/lib.rt:89:5
 counts-long : (c : tie.Start Inv-loop μ-loop) → length (c .args .t1) ≡ 512
 counts-long c = c .good .0 .1 .0 .1
 
 loop-holds : tie.Need-loop-holds Inv-loop μ-loop
 loop-holds c = (omega arith, (refl, omega arith, refl))
 
--- src/lib.rt:90:12
 mul-if1 : tie.Need-mul-if1 Inv-loop μ-loop
 mul-if1 c = search needs
 
--- src/lib.rt:90:12
 array-read-if1 : tie.Need-array-read-if1 Inv-loop μ-loop
 array-read-if1 c = search needs
 
--- src/lib.rt:91:13
 mul-queue : tie.Need-mul-queue Inv-loop μ-loop
 mul-queue c = search needs
 
--- src/lib.rt:91:13
 array-write-queue : tie.Need-array-write-queue Inv-loop μ-loop
 array-write-queue c = search needs
 
--- src/lib.rt:92:13
 add-tail : tie.Need-add-tail Inv-loop μ-loop
 add-tail c = search needs
 
--- src/lib.rt:94:9
 add-v : tie.Need-add-v Inv-loop μ-loop
 add-v c = search needs
 
--- src/lib.rt:89:5
 loop-less : tie.Need-loop-less Inv-loop μ-loop
 loop-less c = search needs
 
--- src/lib.rt:89:5
 loop-again : tie.Need-loop-again Inv-loop μ-loop
 loop-again c =
     let s = c .before .before .before in
@@ -73,7 +62,6 @@ loop-again c =
           (c .if1 .came),
     )
 
--- src/lib.rt:82:1
 returns : tie.Need-returns Inv-loop μ-loop
 unfolding ready
 returns c =

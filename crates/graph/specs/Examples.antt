@@ -1,0 +1,115 @@
+-- Closed scenes: the definitions compute, and each scene shuts out a wrong rule that it names.
+-- Assumes nothing.
+use Prim.Native.Nat.{ℕ, _+_, _*_}
+use mathlib.Core.Path.{_≡_, refl}
+use mathlib.Core.List.{List, [], _∷_, map}
+use mathlib.Core.Option.{Option, none, some}
+use mathlib.Core.Bool.{false}
+use Rattle.lists.specs.Find.{mapO}
+use Rattle.node.specs.Refusal.{numberOf}
+use Rattle.node.specs.declared.record.NodeId.{NodeId}
+use Rattle.node.specs.declared.record.Node.{Node}
+use Rattle.node.specs.declared.record.Edge.{Edge}
+use Rattle.node.specs.declared.refusal.Refusal.{Refusal}
+use Rattle.edges.specs.Ports.{freePort, portFrom, sourceAt}
+use Rattle.graph.specs.View.{GraphView, newGraph}
+use Rattle.graph.specs.Node.{hostNode}
+use Rattle.graph.specs.Change.{append, connect, disconnect, setSink, removeNode, removeVoice}
+use Rattle.graph.specs.Refuse.{addRefusal, hostRefusal, disconnectRefusal, connectRefusal}
+
+-- ---- a bus of 3 ports, three nodes of one port, and a node of voice 5
+abbrev node : ℕ → NodeId
+node k = record { 0 = k }
+
+abbrev bus : List ℕ
+bus = 66 ∷ 117 ∷ 115 ∷ []
+
+abbrev plain : ℕ → Node
+plain ports = hostNode bus ports 0 false false
+
+abbrev voiced : Node → Node
+voiced n = record { id = n .id; owner = record { 0 = 5 }; kind = n .kind; ports = n .ports; required = n .required; «takes_values» = n .«takes_values»; «takes_glides» = n .«takes_glides»; done = n .done; level = n .level; last = n .last }
+
+abbrev desk : GraphView
+desk = append (append (append (append (append newGraph (plain 3)) (plain 1)) (plain 1)) (plain 1)) (voiced (plain 1))
+
+-- 1 and 2 feed the bus at 0 and 1, then 3 takes port 0; the voice's node feeds port 2
+abbrev wires : GraphView
+wires = connect (connect (connect (connect (setSink desk (node 0)) (node 1) (node 0) 0) (node 2) (node 0) 1) (node 3) (node 0) 0) (node 4) (node 0) 2
+
+abbrev number : Option Refusal → Option ℕ
+number = mapO numberOf
+
+abbrev rows : List Edge → List ℕ
+rows = map (λ e. e .from .0 * 100 + e .port)
+
+-- an edge appended without dropping the old one would give four; one put in its place, another order
+connect-drops : rows (wires .edges) ≡ 201 ∷ 300 ∷ 402 ∷ []
+connect-drops = refl
+
+-- the lowest, not the highest; of the ports that the node has
+ports-full : freePort (wires .edges) (node 0) 3 ≡ none
+ports-full = refl
+
+ports-lowest : freePort (disconnect (disconnect wires (node 0) 2) (node 0) 1 .edges) (node 0) 3 ≡ some 1
+ports-lowest = refl
+
+feeds-port : portFrom (wires .edges) (node 3) (node 0) ≡ some 0
+feeds-port = refl
+
+source : sourceAt (wires .edges) (node 0) 0 ≡ some (node 3)
+source = refl
+
+-- a removal takes the edges from the node and those to it, and the sink if it is the sink
+removed-source : rows (removeNode wires (node 2) .edges) ≡ 300 ∷ 402 ∷ []
+removed-source = refl
+
+removed-sink : removeNode wires (node 0) .sink ≡ none
+removed-sink = refl
+
+removed-target : removeNode wires (node 0) .edges ≡ []
+removed-target = refl
+
+kept-sink : removeVoice wires (record { 0 = 5 }) .sink ≡ some (node 0)
+kept-sink = refl
+
+removed-voice : rows (removeVoice wires (record { 0 = 5 }) .edges) ≡ 201 ∷ 300 ∷ []
+removed-voice = refl
+
+-- an id never returns
+next-id : append (removeNode wires (node 2)) (plain 0) .next ≡ 6
+next-id = refl
+
+-- ---- refusals, each where a lower row of the table would hold too
+unknown-first : number (connectRefusal wires (node 4) (node 9) 7) ≡ some 4
+unknown-first = refl
+
+voice-next : number (connectRefusal wires (node 4) (node 0) 7) ≡ some 5
+voice-next = refl
+
+port-next : number (connectRefusal wires (node 1) (node 0) 3) ≡ some 6
+port-next = refl
+
+replacing : number (connectRefusal wires (node 1) (node 0) 2) ≡ none
+replacing = refl
+
+no-such-port : number (disconnectRefusal wires (node 1) 1) ≡ some 6
+no-such-port = refl
+
+empty-port : number (disconnectRefusal wires (node 1) 0) ≡ none
+empty-port = refl
+
+voice-sink : number (hostRefusal wires (node 4)) ≡ some 5
+voice-sink = refl
+
+ports-64 : number (addRefusal wires bus 64 18446744073709551615) ≡ none
+ports-64 = refl
+
+ports-65 : number (addRefusal wires bus 65 0) ≡ some 6
+ports-65 = refl
+
+no-name : number (addRefusal wires [] 1 0) ≡ some 6
+no-name = refl
+
+required-2 : number (addRefusal wires bus 2 4) ≡ some 6
+required-2 = refl

@@ -1,0 +1,7 @@
+pub mod View
+pub mod Node
+pub mod Change
+pub mod Refuse
+pub mod Call
+pub mod Tables
+pub mod Examples

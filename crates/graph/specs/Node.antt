@@ -1,0 +1,80 @@
+-- Live nodes: who they are, whose they are, and what a new one holds.
+-- Assumes nothing.
+use Prim.Native.Nat.{ℕ}
+use mathlib.Core.List.{List, map}
+use mathlib.Core.Option.{Option, none, some}
+use mathlib.Core.Bool.{Bool, false, not, cond}
+use lib.Dec.{eqb}
+use lib.Ieee.{ofBits, binary32}
+use Rattle.lists.specs.Find.{find}
+use Rattle.node.specs.Name.{nameOf}
+use Rattle.node.specs.declared.record.NodeId.{NodeId}
+use Rattle.node.specs.declared.record.VoiceId.{VoiceId}
+use Rattle.node.specs.declared.record.Node.{Node}
+use Rattle.node.specs.declared.order.LastOrder.the-variants as LastOrder
+
+-- "512 live nodes"
+abbrev pub nodeLimit : ℕ
+nodeLimit = 512
+
+-- node ids are "32 bits from 0", and all can be given out
+abbrev pub idLimit : ℕ
+idLimit = 4294967296
+
+abbrev pub isNode : NodeId → Node → Bool
+isNode k n = eqb (n .id .0) (k .0)
+
+abbrev pub ownedBy : VoiceId → Node → Bool
+ownedBy v n = eqb (n .owner .0) (v .0)
+
+-- the node of this id, if it lives
+abbrev pub nodeAt : List Node → NodeId → Option Node
+nodeAt ns k = find (isNode k) ns
+
+-- owner 0 is the host
+abbrev pub ofVoice : Option Node → Bool
+ofVoice none = false
+ofVoice (some n) = not (eqb (n .owner .0) 0)
+
+abbrev pub portsOf : Option Node → ℕ
+portsOf none = 0
+portsOf (some n) = n .ports
+
+abbrev pub hostId : VoiceId
+hostId = record { 0 = 0 }
+
+-- a node that the host adds: its done flag "is clear in a new node", and "before any report" its level is 0. Its id is
+-- given when it is appended
+abbrev pub hostNode : List ℕ → ℕ → ℕ → Bool → Bool → Node
+hostNode kind ports required values glides =
+    record {
+      id = record { 0 = 0 };
+      owner = hostId;
+      kind = nameOf kind;
+      ports = ports;
+      required = required;
+      «takes_values» = values;
+      «takes_glides» = glides;
+      done = false;
+      level = ofBits binary32 0;
+      last = LastOrder.Nothing;
+    }
+
+abbrev pub withId : ℕ → Node → Node
+withId k n =
+    record {
+      id = record { 0 = k };
+      owner = n .owner;
+      kind = n .kind;
+      ports = n .ports;
+      required = n .required;
+      «takes_values» = n .«takes_values»;
+      «takes_glides» = n .«takes_glides»;
+      done = n .done;
+      level = n .level;
+      last = n .last;
+    }
+
+-- a node's record is replaced, as a report, a value or a glide does
+abbrev pub replaced : List Node → Node → List Node
+replaced ns n = map (λ m. cond (isNode (n .id) m) n m) ns
