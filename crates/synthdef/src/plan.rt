@@ -29,13 +29,13 @@ pub struct DonePlan {
 }
 
 // The ports that a rule reads: `count` of them from `first` on.
-pub struct Span {
-    pub first: usize,
-    pub count: usize,
+struct Span {
+    first: usize,
+    count: usize,
 }
 
 // What is connected to a port.
-pub enum Source {
+enum Source {
     Node(u8),
     Nothing,
 }
