@@ -6,6 +6,7 @@ use mathlib.Core.List.{List, [], _∷_}
 use mathlib.Core.Option.{none, some}
 use mathlib.Core.Bool.{false}
 use lib.Ieee.{eq}
+use Rattle.synthdef.specs.Plan.{settled}
 use Rattle.node.specs.Silence.{silencePassThrough, rules}
 use Rattle.rank.specs.Order.{among, fed, released, walk, order, whole, count-up}
 use Rattle.order.specs.Live.{risingFrom, liveNodes, liveIds, processingOrder}
@@ -16,7 +17,6 @@ use Rattle.voice.specs.declared.policy.Budget.the-variants.{AtMost}
 use Rattle.voice.specs.declared.policy.BudgetScope.the-variants.{Global}
 use Rattle.voice.specs.declared.policy.Level.the-variants.{Unknown}
 use Rattle.voice.specs.declared.policy.StealPolicy.the-variants.{Oldest}
-use Rattle.synthdef.specs.Plan.{settled}
 use Rattle.store.specs.declared.voices.VoiceState.the-variants.{Tracked}
 use Rattle.model.specs.Model.{Model}
 use Rattle.model.specs.Call.{Call, Answer, removed, reached, wires}

@@ -7,6 +7,7 @@ use mathlib.Core.List.{List, [], _∷_, map}
 use mathlib.Core.Bool.{Bool, true, false}
 use lib.IntN.{pos}
 use lib.Ieee.{Float, fin, eq, lt, add, mul, div, ofInt, ofBits}
+use Rattle.synthdef.specs.Plan.{settled}
 use Rattle.level.specs.Root.{rootOf, sqrt}
 use Rattle.level.specs.Narrow.{narrow}
 use Rattle.level.specs.Level.{squares, levelOf}
@@ -20,7 +21,6 @@ use Rattle.voice.specs.declared.policy.Budget.the-variants.{AtMost}
 use Rattle.voice.specs.declared.policy.BudgetScope.the-variants.{Global}
 use Rattle.voice.specs.declared.policy.Level.the-variants.{Known}
 use Rattle.voice.specs.declared.policy.StealPolicy.the-variants.{Oldest, Quietest}
-use Rattle.synthdef.specs.Plan.{settled}
 use Rattle.store.specs.declared.voices.VoiceState.the-variants.{Tracked}
 use Rattle.model.specs.Voice.{id, isFading}
 use Rattle.model.specs.Model.{Model}

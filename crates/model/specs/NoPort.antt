@@ -4,11 +4,11 @@
 use Prim.Native.Nat.{ℕ, zero, suc, _≤_}
 use native.Mathlib.Omega.{arith}
 use mathlib.Core.Path.{_≡_, refl, subst, sym, ap, _∙_}
-use mathlib.Core.Logic.{inl, inr}
+use mathlib.Core.Logic.{_⊎_, inl, inr, ⊎-elim}
 use mathlib.Core.List.{List, [], _∷_}
 use mathlib.Core.Option.{Option, none, some}
 use mathlib.Core.Bool.{Bool, true, false, not, _&&_, true≢false}
-use lib.Dec.{eqb, leb}
+use lib.Dec.{eqb}
 use lib.ListN.{length}
 use lib.Ieee.{Float}
 use borrow.Author.Tests.{eq-eqb}
@@ -35,27 +35,27 @@ use Rattle.store.specs.declared.voices.Voice.{Voice}
 use Rattle.store.specs.declared.voices.VoiceState.{VoiceState}
 use Rattle.store.specs.declared.voices.VoiceState.the-variants.{Tracked, Loose}
 use Rattle.model.specs.Desk.{Desk}
-use Rattle.model.specs.Voice.{isVoice, startOf, feeder, candidates, trackedOn, fadesOn}
+use Rattle.model.specs.Voice.{isVoice, feeder, candidates, trackedOn, fadesOn}
 use Rattle.model.specs.Refuse.{spawnRefusal}
-use Rattle.model.specs.Spawn.{pans, tries, stateUnder, voiceOf, earlier, earliest, elseVictim, nextOut}
+use Rattle.model.specs.Spawn.{pans, tries, stateUnder, voiceOf, noLater, earlier, earliest, elseVictim, nextOut}
 use Rattle.model.specs.Model.{Model, cutOff, stealVoice, portFree, landOr, place, settle, stealThen, admitted, admissionOn}
 use Rattle.model.specs.Model as store
 use Rattle.model.specs.Call.{step}
 use Rattle.model.specs.Call as call
 use Rattle.model.specs.Refused.{notSpawned, refusalIn, is12, spawn-not}
 
+or-in : (b : Bool) (x u v : Voice) → or? b x (some u) ≡ some v → (v ≡ x) ⊎ (some u ≡ some v)
+or-in true x u v e = inl (sym (some-inj e))
+or-in false x u v e = inr e
+
+earlier-in : (o : Option Voice) (b : Bool) (x v : Voice) → earlier o b x ≡ some v → (v ≡ x) ⊎ (o ≡ some v)
+earlier-in none true x v e = inl (sym (some-inj e))
+earlier-in none false x v e = absurd (none-some e)
+earlier-in (some u) b x v e = or-in (b && noLater x u) x u v e
+
 earliest-in : (q : Voice → Bool) (vs : List Voice) (v : Voice) → earliest q vs ≡ some v → In v vs
 earliest-in q [] v h = absurd (none-some h)
-earliest-in q (x ∷ vs) v h = go (earliest q vs) (q x) h (earliest-in q vs v)
-  where
-    pick : (b : Bool) (u : Voice) → or? b x (some u) ≡ some v → (some u ≡ some v → In v vs) → In v (x ∷ vs)
-    pick true u e ih = inl (sym (some-inj e))
-    pick false u e ih = inr (ih e)
-
-    go : (o : Option Voice) (b : Bool) → earlier o b x ≡ some v → (o ≡ some v → In v vs) → In v (x ∷ vs)
-    go none true e ih = inl (sym (some-inj e))
-    go none false e ih = absurd (none-some e)
-    go (some u) b e ih = pick (b && leb (startOf (x .state)) (startOf (u .state))) u e ih
+earliest-in q (x ∷ vs) v h = ⊎-elim inl (λ p. inr (earliest-in q vs v p)) (earlier-in (earliest q vs) (q x) x v h)
 
 next-in : (d : Desk) (bus : NodeId) (vs : List Voice) (v : Voice) → nextOut d bus vs ≡ some v → In v vs
 next-in d bus vs v h = go (earliest (fadesOn bus) vs) refl h

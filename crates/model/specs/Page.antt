@@ -7,6 +7,7 @@ use mathlib.Core.List.{List, [], _∷_, _++_, map}
 use mathlib.Core.Option.{some}
 use mathlib.Core.Bool.{false}
 use lib.Ieee.{eq, ofBits, binary32}
+use Rattle.synthdef.specs.Plan.{settled}
 use Rattle.node.specs.Silence.{silencePassThrough, rules}
 use Rattle.node.specs.declared.record.NodeId.{NodeId}
 use Rattle.rank.specs.Order.{among, fed, released, walk, order, whole, count-up}
@@ -16,7 +17,6 @@ use Rattle.order.specs.Prepare.{prepare}
 use Rattle.voice.specs.Steals.{recordOf}
 use Rattle.voice.specs.declared.policy.Level.the-variants.{Known}
 use Rattle.voice.specs.declared.policy.StealPolicy.the-variants as StealPolicy
-use Rattle.synthdef.specs.Plan.{settled}
 use Rattle.store.specs.declared.config.Config.{Config}
 use Rattle.store.specs.declared.voices.VoiceState.{VoiceState}
 use Rattle.store.specs.declared.voices.VoiceState.the-variants.{Tracked}

@@ -171,9 +171,12 @@ voiceOf Nobody vs = none
 voiceOf (Goes place w) vs = find (isVoice w) vs
 
 -- "the earliest-started fade of that bus (ties by voice order)"
+abbrev pub noLater : Voice → Voice → Bool
+noLater v u = leb (startOf (v .state)) (startOf (u .state))
+
 abbrev pub earlier : Option Voice → Bool → Voice → Option Voice
 earlier none b v = or? b v none
-earlier (some u) b v = or? (b && leb (startOf (v .state)) (startOf (u .state))) v (some u)
+earlier (some u) b v = or? (b && noLater v u) v (some u)
 
 abbrev pub earliest : (Voice → Bool) → List Voice → Option Voice
 earliest q [] = none
