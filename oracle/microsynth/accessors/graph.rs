@@ -1,0 +1,52 @@
+
+// Accessors for the oracle, appended by its build.
+
+impl AudioGraph {
+    /// The edges in the order they were put.
+    pub fn all_edges(&self) -> &[Edge] {
+        &self.edges
+    }
+
+    /// The order of the last prepare.
+    pub fn processing_order(&self) -> &[NodeId] {
+        &self.topo_order
+    }
+
+    /// The node that each port of `id` read from at the last prepare.
+    pub fn resolved_sources(&self, id: NodeId) -> &[Option<NodeId>] {
+        self.input_sources.get(id.index()).map_or(&[], |ports| ports)
+    }
+
+    pub fn sink_node(&self) -> Option<NodeId> {
+        self.sink
+    }
+
+    /// The live nodes by rising id.
+    pub fn live_nodes(&self) -> Vec<NodeId> {
+        let given = self.nodes.iter().enumerate();
+        given.filter(|(_, slot)| slot.is_some()).map(|(id, _)| NodeId(id as u32)).collect()
+    }
+
+    /// The order that a prepare would leave. The one that stands is kept.
+    pub fn trial_order(&mut self) -> Vec<NodeId> {
+        let kept = self.topo_order.clone();
+        self.topological_sort();
+        core::mem::replace(&mut self.topo_order, kept)
+    }
+
+    /// Whether a prepare would get past the required ports. The table of sources that stands is kept.
+    pub fn trial_inputs(&mut self) -> bool {
+        let kept = self.input_sources.clone();
+        let resolved = std::panic::catch_unwind(std::panic::AssertUnwindSafe(|| self.resolve_inputs()));
+        self.input_sources = kept;
+        resolved.is_ok()
+    }
+
+    /// The position of the fade at `id`, which the caller knows to be a `StealFade`.
+    pub fn fade_position(&self, id: NodeId) -> u64 {
+        let slot = self.nodes[id.index()].as_ref().expect("the fade is live");
+        let fade = &*slot.ugen as *const dyn UGen as *const crate::ugens::StealFade;
+        // SAFETY: the engine puts a `StealFade` at the id that it keeps as a voice's fade, and no id returns.
+        unsafe { (*fade).position() }
+    }
+}

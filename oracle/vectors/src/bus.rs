@@ -1,0 +1,252 @@
+//! Vectors for the bus: sample rates, fade lengths, noise seeds, fade output and bus sums.
+
+use microsynth::buffer::AudioBuffer;
+use microsynth::context::ProcessContext;
+use microsynth::engine::{Engine, EngineConfig, noise_seed};
+use microsynth::node::UGen;
+use microsynth::ugens::{Bus, ChannelCount, StealFade, steal_fade_samples};
+use scripted::definition::{Definition, Made, Node};
+use scripted::generator::Log;
+use scripted::limits::{self, Refusal, check};
+
+use crate::book::{Book, Vector, hex32};
+use crate::floats::{self, Profile};
+use crate::rng::Rng;
+
+const RATE: u8 = 1;
+const FADE_LENGTHS: u8 = 2;
+const SEED: u8 = 3;
+const FADE: u8 = 4;
+const SUM: u8 = 5;
+
+const HIGHEST_RATE: usize = 384_000;
+
+pub fn book(rng: &mut Rng, amount: usize) -> Book {
+    let mut book = Book::default();
+    book.put("fade lengths", HIGHEST_RATE, fade_lengths());
+    for _ in 0..amount {
+        book.put("sample rates", 1, rate(rng));
+        book.put("seeds", 1, seed(rng));
+        book.put("fade blocks", 1, fade(rng));
+        book.put("bus sums", 1, sum(rng));
+    }
+    book
+}
+
+/// Every rate: a line for the first and for each at which the length is another than at the rate below.
+fn fade_lengths() -> Vector {
+    let mut vector = Vector::new(FADE_LENGTHS);
+    vector.u32(1);
+    vector.u32(HIGHEST_RATE);
+    let mut last = None;
+    for rate in 1..=HIGHEST_RATE {
+        let length = steal_fade_samples(rate as f32);
+        if last != Some(length) {
+            vector.line(format_args!("{rate} {length}"));
+        }
+        last = Some(length);
+    }
+    vector
+}
+
+fn rate(rng: &mut Rng) -> Vector {
+    let rate = match rng.below(6) {
+        0 => *rng.pick(&[0.5, 1.5, 44100.5, 383_999.97, 384_000.0, 384_000.03, 384_001.0, 16_777_216.0, 1e30]),
+        1 => rng.within(1, HIGHEST_RATE) as f32,
+        2 => -(rng.within(0, HIGHEST_RATE) as f32),
+        3 => rng.within(1, HIGHEST_RATE) as f32 + rng.below(16) as f32 / 16.0,
+        4 => f32::from_bits((rng.within(0, HIGHEST_RATE) as f32).to_bits().wrapping_add(rng.below(3) as u32).wrapping_sub(1)),
+        _ => floats::block(rng, 1)[0],
+    };
+    let mut vector = Vector::new(RATE);
+    vector.f32(rate);
+    match limits::whole_rate(rate) {
+        Ok(whole) => vector.line(format_args!("rate {whole}")),
+        Err(number) => vector.line(format_args!("refused {number}")),
+    }
+    vector
+}
+
+/// A number whose high bits matter as much as its low ones.
+fn counter(rng: &mut Rng) -> u32 {
+    match rng.below(3) {
+        0 => rng.below(64) as u32,
+        1 => u32::MAX - rng.below(64) as u32,
+        _ => rng.word(),
+    }
+}
+
+fn seed(rng: &mut Rng) -> Vector {
+    let sequence = counter(rng);
+    let node = if rng.flag() { counter(rng) } else { rng.below(limits::DEF_NODES) as u32 };
+    let given = noise_seed(sequence, node);
+    if (node as usize) < limits::DEF_NODES {
+        assert_eq!(given, seed_heard(sequence, node as usize));
+    }
+    let mut vector = Vector::new(SEED);
+    vector.u32(sequence as usize);
+    vector.u32(node as usize);
+    vector.line(format_args!("{given:08x}"));
+    vector
+}
+
+/// The seed that a generator hears which is the last node of a voice made at that sequence.
+fn seed_heard(sequence: u32, node: usize) -> u32 {
+    let (made, kind) = (Made::default(), Node::new(b"Noise", vec![]));
+    let def = Definition {
+        nodes: vec![kind; node + 1],
+        ..Definition::default()
+    };
+    let mut engine = Engine::new(EngineConfig::default());
+    engine.set_noise_sequence(sequence);
+    engine.spawn_voice(&def.build(&made, &Log::default()));
+    let handles = made.lock().expect("no holder of the list panics");
+    let seeds = &handles[node].state().seeds;
+    seeds[0]
+}
+
+/// The Rust's form of a lent block: channel 0 whole, then channel 1.
+fn buffer(channels: usize, block: usize, samples: &[f32]) -> AudioBuffer {
+    let mut buffer = AudioBuffer::new(channels, block);
+    let mut samples = samples.iter();
+    for channel in 0..channels {
+        for place in buffer.channel_mut(channel).samples_mut() {
+            *place = *samples.next().expect("the block is whole");
+        }
+    }
+    buffer
+}
+
+/// Has a unit of the Rust write a block over `before`, and gives the samples that it left.
+fn written(unit: &mut dyn UGen, inputs: &[Option<&AudioBuffer>], channels: usize, block: usize, before: &[f32]) -> Vec<f32> {
+    let mut output = buffer(channels, block, before);
+    unit.process(&ProcessContext::new(8000.0, block), inputs, &mut output);
+    (0..channels).flat_map(|c| output.channel(c).samples().to_vec()).collect()
+}
+
+/// The line for a block that was written, or that was refused and is as before.
+fn answer(vector: &mut Vector, result: Result<Vec<f32>, Refusal>, before: &[f32]) {
+    match result {
+        Ok(samples) => vector.row("block", samples.into_iter().map(hex32)),
+        Err(number) => vector.row(&format!("refused {number}"), before.iter().copied().map(hex32)),
+    }
+}
+
+/// A block size: mostly small, sometimes the store's largest, sometimes none.
+fn block_size(rng: &mut Rng) -> usize {
+    match rng.below(24) {
+        0 => 128,
+        1 => 0,
+        2 => rng.within(17, 127),
+        _ => rng.within(1, 16),
+    }
+}
+
+/// A channel count: 1 or 2, but for one in twenty.
+fn channels(rng: &mut Rng) -> usize {
+    if rng.once_in(20) { *rng.pick(&[0, 3, 4]) } else { rng.within(1, 2) }
+}
+
+/// As many samples as the block has, but for one in twenty.
+fn block_samples(rng: &mut Rng, profile: Profile, whole: usize) -> Vec<f32> {
+    let count = match rng.below(40) {
+        0 => whole + 1,
+        1 => whole.saturating_sub(1),
+        _ => whole,
+    };
+    profile.samples(rng, count)
+}
+
+fn fade(rng: &mut Rng) -> Vector {
+    let (from, to, block) = (channels(rng), channels(rng), block_size(rng));
+    let length = *rng.pick(&[1, 2, 5, 16, 16, 40, 80, 221, 240]);
+    let position = match rng.below(5) {
+        0 => rng.below(3 * length + 1) as u64,
+        1 => (length as u64 + 2).saturating_sub(rng.below(4) as u64),
+        2 => u64::MAX - rng.below(200) as u64,
+        _ => rng.below(length) as u64,
+    };
+    let lent = match rng.below(12) {
+        0 => length - 1,
+        1 => length + rng.within(1, 3),
+        _ => length,
+    };
+    let gains: Vec<f32> = (0..lent).map(|k| StealFade::new(length).gain(k)).collect();
+    let profile = *rng.pick(&floats::PROFILES);
+    let input = block_samples(rng, profile, from * block);
+    let before = block_samples(rng, Profile::Any, to * block);
+
+    let mut vector = Vector::new(FADE);
+    vector.u32(from);
+    vector.u32(to);
+    vector.u32(block);
+    vector.u64(position);
+    vector.u32(length);
+    vector.samples(&gains);
+    vector.samples(&input);
+    vector.samples(&before);
+
+    let result = limits::lent_block(from, block, input.len())
+        .and(limits::lent_block(to, block, before.len()))
+        .and(check(gains.len() >= length, 16))
+        .map(|()| {
+            // The Rust's position would pass its largest number; from the length on every gain is the same.
+            let reached = if position > u64::MAX - block as u64 { length as u64 } else { position };
+            let mut unit = StealFade::standing_at(length, reached);
+            written(&mut unit, &[Some(&buffer(from, block, &input))], to, block, &before)
+        });
+    answer(&mut vector, result, &before);
+    vector
+}
+
+fn sum(rng: &mut Rng) -> Vector {
+    let count = match rng.below(16) {
+        0 => 0,
+        1 => *rng.pick(&[63, 64, 65]),
+        _ => rng.within(1, 8),
+    };
+    let block = if count > 8 { rng.within(1, 3) } else { block_size(rng) };
+    let to = channels(rng);
+    let mut from: Vec<usize> = (0..count).map(|_| rng.within(1, 2)).collect();
+    if rng.once_in(20) && count > 0 {
+        let place = rng.below(count);
+        from[place] = *rng.pick(&[0, 3]);
+    }
+    let profile = *rng.pick(&floats::PROFILES);
+    let input = block_samples(rng, profile, from.iter().sum::<usize>() * block);
+    let before = block_samples(rng, Profile::Any, to * block);
+
+    let mut vector = Vector::new(SUM);
+    vector.u32(to);
+    vector.u32(block);
+    vector.u32(count);
+    for &channels in &from {
+        vector.u32(channels);
+    }
+    vector.samples(&input);
+    vector.samples(&before);
+
+    let result = check(count <= limits::BUS_INPUTS && from.iter().all(|c| (1..=2).contains(c)), 16)
+        .and(check(input.len() == from.iter().sum::<usize>() * block, 16))
+        .and(limits::lent_block(to, block, before.len()))
+        .map(|()| summed(rng, &from, &input, to, block, &before));
+    answer(&mut vector, result, &before);
+    vector
+}
+
+/// The Rust's sum. The inputs stand at ports of the bus in rising order, with unconnected ports between them.
+fn summed(rng: &mut Rng, from: &[usize], input: &[f32], to: usize, block: usize, before: &[f32]) -> Vec<f32> {
+    let mut rest = input;
+    let mut blocks = Vec::new();
+    for &channels in from {
+        let (first, later) = rest.split_at(channels * block);
+        blocks.push(buffer(channels, block, first));
+        rest = later;
+    }
+    let mut ports = Vec::new();
+    for block in &blocks {
+        ports.extend((0..rng.below(3)).map(|_| None));
+        ports.push(Some(block));
+    }
+    written(&mut Bus::new(ChannelCount::Custom(to)), &ports, to, block, before)
+}

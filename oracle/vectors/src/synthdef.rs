@@ -1,0 +1,204 @@
+//! Vectors for definitions: limits, counted edges, parameters, and the done plan.
+
+use microsynth::engine::{Engine, EngineConfig};
+use microsynth::synthdef::{Synth, silence_pass_through};
+use scripted::definition::{Definition, Edge, LOOKED_UP, Made, Node, Param};
+use scripted::generator::Log;
+use scripted::limits::{self, Refusal, check};
+
+use crate::book::{Book, Vector, or_dash};
+use crate::rng::Rng;
+
+const DEFINITION: u8 = 1;
+
+pub fn book(rng: &mut Rng, amount: usize) -> Book {
+    let mut book = Book::default();
+    for n in 0..amount {
+        let mut def = definition(rng, n);
+        if n % 5 == 0 {
+            spoil(rng, &mut def);
+        }
+        book.put("definitions", 1, asked(rng, &def));
+    }
+    book
+}
+
+/// Names with a rule of their own, twice as likely as the rest together.
+const RULED: [&str; 7] = ["Mul", "Div", "Add", "Sub", "FmOp", "Paf", "Neg"];
+
+/// A kind: one with a rule, one that passes silence through, one that is nearly one of these, or a plain one.
+fn kind(rng: &mut Rng) -> Vec<u8> {
+    let ruled = if rng.below(3) < 2 { *rng.pick(&RULED) } else { *rng.pick(silence_pass_through()) };
+    let mut name = ruled.as_bytes().to_vec();
+    match rng.below(12) {
+        0 => name.truncate(name.len() - 1),
+        1 => name.push(*rng.pick(b"2 \0n")),
+        2 => {
+            let place = rng.below(name.len());
+            name[place] ^= 0x20;
+        }
+        3 => name = rng.pick(&["Tone", "SinOsc", "Const", "StealFade", "CombFilter"]).as_bytes().to_vec(),
+        _ => {}
+    }
+    name
+}
+
+fn node(rng: &mut Rng) -> Node {
+    let names = ["in", "level", "amp", "freq", "In", "i", "inn", "a"];
+    let count = if rng.once_in(8) { rng.within(0, limits::DEF_PORTS) } else { rng.within(1, 3) };
+    let ports: Vec<String> = (0..count)
+        .map(|_| if rng.flag() { rng.pick(&LOOKED_UP) } else { rng.pick(&names) })
+        .map(|name| name.to_string())
+        .collect();
+    let mut node = Node::new(&kind(rng), ports);
+    node.required = rng.word() & rng.word() & ((1 << count) - 1);
+    node.takes_values = rng.flag();
+    node.takes_glides = rng.flag();
+    node
+}
+
+/// A definition, most often within the limits. The edges run along a random order of the nodes, so that few make a
+/// cycle; a port is often given twice.
+fn definition(rng: &mut Rng, n: usize) -> Definition {
+    let count = match n % 16 {
+        0 => limits::DEF_NODES,
+        1 => 1,
+        _ => rng.within(2, 10),
+    };
+    let nodes: Vec<Node> = (0..count).map(|_| node(rng)).collect();
+    let mut order: Vec<usize> = (0..count).collect();
+    rng.shuffle(&mut order);
+    let wanted = match n % 16 {
+        0 => limits::DEF_EDGES,
+        _ => rng.within(0, 2 * count),
+    };
+    let mut edges = Vec::new();
+    for _ in 0..4 * wanted {
+        let (mut early, mut late) = (rng.below(count), rng.below(count));
+        if early > late && !rng.once_in(60) {
+            std::mem::swap(&mut early, &mut late);
+        }
+        let (from, to) = (order[early], order[late]);
+        let ports = nodes[to].ports.len();
+        if edges.len() < wanted && ports > 0 && (early != late || rng.once_in(100)) {
+            let port = rng.below(ports);
+            edges.push(Edge { from, to, port });
+        }
+    }
+    let params = (0..rng.within(0, limits::DEF_PARAMS)).map(|_| Param {
+        name: rng.pick(&["gate", "freq", "freqs", "Freq", "amp", "a", "sixteen letters!"]).as_bytes().to_vec(),
+        node: rng.below(count),
+    });
+    Definition {
+        params: params.collect(),
+        // The last of the order has the most above it.
+        output: if rng.once_in(4) { rng.below(count) } else { order[count - 1] },
+        nodes,
+        edges,
+    }
+}
+
+/// Brings a definition to a limit or past it.
+fn spoil(rng: &mut Rng, def: &mut Definition) {
+    let count = def.nodes.len();
+    let place = rng.below(count);
+    let beyond = rng.pick(&[0, 1, 100]) + count;
+    let long = vec![b'N'; *rng.pick(&[0, 16, 17, 255])];
+    match rng.below(14) {
+        0 => def.nodes.clear(),
+        1 => def.nodes.resize(rng.within(24, 26), node(rng)),
+        2 => def.nodes[place].kind = long,
+        3 => def.nodes[place].ports.resize(rng.within(8, 9), "a".to_string()),
+        4 => def.nodes[place].required |= 1 << rng.below(10),
+        5 => def.nodes[place].named[rng.below(3)] = Some(def.nodes[place].ports.len() + rng.below(3)),
+        6 => {
+            let again = def.edges.first().copied().into_iter().cycle();
+            def.edges.extend(again.take(rng.within(47, 49).saturating_sub(def.edges.len())));
+        }
+        7 => def.edges.push(Edge { from: beyond, to: place, port: 0 }),
+        8 => def.edges.push(Edge { from: place, to: beyond, port: 0 }),
+        9 => def.edges.push(Edge { from: place, to: rng.below(count), port: rng.below(10) }),
+        10 => def.params.resize(rng.within(8, 9), Param { name: b"a".to_vec(), node: place }),
+        11 => def.params.push(Param { name: b"a".to_vec(), node: beyond }),
+        12 => def.params.push(Param { name: long, node: place }),
+        _ => def.output = beyond,
+    }
+}
+
+/// One byte for a number or none.
+fn byte(number: Option<usize>) -> u8 {
+    number.map_or(255, |n| n.try_into().expect("a number of one byte"))
+}
+
+fn put(vector: &mut Vector, def: &Definition) {
+    vector.u8(byte(Some(def.nodes.len())));
+    for node in &def.nodes {
+        vector.name(&node.kind);
+        vector.u8(byte(Some(node.ports.len())));
+        vector.u32(node.required as usize);
+        vector.u8(u8::from(node.takes_values) + 2 * u8::from(node.takes_glides));
+        for port in node.named {
+            vector.u8(byte(port));
+        }
+    }
+    vector.u8(byte(Some(def.edges.len())));
+    for edge in &def.edges {
+        for number in [edge.from, edge.to, edge.port] {
+            vector.u8(byte(Some(number)));
+        }
+    }
+    vector.u8(byte(Some(def.params.len())));
+    for param in &def.params {
+        vector.name(&param.name);
+        vector.u8(byte(Some(param.node)));
+    }
+    vector.u8(byte(Some(def.output)));
+}
+
+fn asked(rng: &mut Rng, def: &Definition) -> Vector {
+    let mut vector = Vector::new(DEFINITION);
+    put(&mut vector, def);
+    let flags: Vec<u32> = (0..rng.within(1, 4)).map(|_| rng.word() & rng.word() & 0xff_ffff).collect();
+    let names: Vec<&str> = (0..2).map(|_| *rng.pick(&["gate", "freq", "fre", "FREQ", "a", "", "sixteen letters!", "seventeen letters"])).collect();
+    vector.u8(byte(Some(flags.len())));
+    for &done in &flags {
+        vector.u32(done as usize);
+    }
+    vector.u8(byte(Some(names.len())));
+    for name in &names {
+        vector.name(name.as_bytes());
+    }
+    match instance(def) {
+        Err(number) => vector.line(format_args!("refused {number}")),
+        Ok((engine, synth)) => {
+            let edges = engine.graph().all_edges();
+            let counted = edges.iter().flat_map(|e| [e.from.index(), e.to.index(), e.to_input]);
+            vector.row("counted", counted);
+            vector.row("params", names.iter().map(|name| or_dash(synth.param_node(name).map(|id| id.index()))));
+            let silent = |done: &u32| if is_silent(def, *done) { "yes" } else { "no" };
+            vector.row("silent", flags.iter().map(silent));
+        }
+    }
+    vector
+}
+
+/// A new engine with one instance of the definition, whose nodes then have the ids from 0 on.
+fn instance(def: &Definition) -> Result<(Engine, Synth), Refusal> {
+    def.within_limits()?;
+    let mut engine = Engine::new(EngineConfig::default());
+    let synth = engine.instantiate_synthdef(&def.build(&Made::default(), &Log::default()));
+    let order = engine.graph_mut().trial_order();
+    check(order.len() == def.nodes.len(), 9)?;
+    Ok((engine, synth))
+}
+
+/// Whether clearing removes an instance whose generators have these done flags.
+fn is_silent(def: &Definition, done: u32) -> bool {
+    let made = Made::default();
+    let mut engine = Engine::new(EngineConfig::default());
+    engine.instantiate_synthdef(&def.build(&made, &Log::default()));
+    for (n, handle) in made.lock().expect("no holder of the list panics").iter().enumerate() {
+        handle.state().done = done >> n & 1 == 1;
+    }
+    engine.free_done_synths() == 1
+}

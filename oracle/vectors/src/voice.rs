@@ -1,0 +1,182 @@
+//! Vectors for the policy: victims, admissions, and the steal records.
+
+use microsynth::engine::StealRecord;
+use microsynth::scheduler::VoiceId;
+use microsynth::voice::{Admission, BudgetScope, StealPolicy, VoiceAllocator};
+use scripted::limits;
+
+use crate::book::{Book, Vector, hex32};
+use crate::floats::{self, Profile};
+use crate::rng::Rng;
+
+const VICTIM: u8 = 1;
+const ADMISSION: u8 = 2;
+const RECORDS: u8 = 3;
+
+const PUSH: u8 = 1;
+const MARK: u8 = 2;
+
+const POLICIES: [StealPolicy; 4] = [
+    StealPolicy::Reject,
+    StealPolicy::Oldest,
+    StealPolicy::Newest,
+    StealPolicy::Quietest,
+];
+
+const SCOPES: [BudgetScope; 2] = [BudgetScope::Global, BudgetScope::PerGroup];
+
+pub fn book(rng: &mut Rng, amount: usize) -> Book {
+    let mut book = Book::default();
+    for _ in 0..amount {
+        book.put("victims", 1, victim(rng));
+        book.put("admissions", 1, admission(rng));
+    }
+    for _ in 0..amount / 20 {
+        book.put("steal records", 1, records(rng));
+    }
+    book
+}
+
+/// A voice that may be stolen.
+struct Candidate {
+    voice: u64,
+    bus: u32,
+    level: Option<f32>,
+}
+
+/// Candidates with rising ids. Levels repeat often, and some are not known.
+fn candidates(rng: &mut Rng) -> Vec<Candidate> {
+    let count = match rng.below(12) {
+        0 => 0,
+        1 => 64,
+        _ => rng.within(1, 12),
+    };
+    let unknown = rng.within(1, 4);
+    let levels = match rng.below(4) {
+        0 => Profile::Edges.samples(rng, 4),
+        1 => vec![0.0, -0.0],
+        2 => vec![1.0, 2.0, f32::NAN],
+        _ => floats::block(rng, 6),
+    };
+    let mut voice = if rng.once_in(8) { u64::MAX - 2000 } else { 0 };
+    let mut candidate = || {
+        voice += rng.within(1, 30) as u64;
+        Candidate {
+            voice,
+            bus: rng.below(3) as u32,
+            level: (!rng.once_in(unknown + 1)).then(|| *rng.pick(&levels)),
+        }
+    };
+    (0..count).map(|_| candidate()).collect()
+}
+
+fn level_of(candidates: &[Candidate], voice: VoiceId) -> Option<f32> {
+    let found = candidates.iter().find(|c| c.voice == voice.0);
+    found.expect("the Rust asks about voices that it tracks").level
+}
+
+/// The Rust also tracks voices that may not be taken; the store's list has only those that may.
+fn victim(rng: &mut Rng) -> Vector {
+    let policy = rng.below(4);
+    let candidates = candidates(rng);
+    let mut vector = Vector::new(VICTIM);
+    vector.u8(policy as u8);
+    vector.u32(candidates.len());
+    let mut rust = VoiceAllocator::new(0, POLICIES[policy]);
+    let mut stranger = u64::MAX;
+    for c in &candidates {
+        vector.u64(c.voice);
+        vector.level(c.level);
+        if rng.once_in(4) {
+            rust.record_spawn(VoiceId(stranger));
+            stranger -= 1;
+        }
+        rust.record_spawn(VoiceId(c.voice));
+    }
+    let place = |voice: VoiceId| candidates.iter().position(|c| c.voice == voice.0);
+    let found = rust.pick_victim(|v| place(v).is_some(), |v| level_of(&candidates, v));
+    match found.and_then(place) {
+        Some(place) => vector.line(format_args!("{place} {}", candidates[place].voice)),
+        None => vector.line("-"),
+    }
+    vector
+}
+
+fn admission(rng: &mut Rng) -> Vector {
+    let policy = rng.below(4);
+    let scope = rng.below(2);
+    let bus = rng.below(3) as u32;
+    let candidates = candidates(rng);
+    let tracked = candidates.iter().filter(|c| scope == 0 || c.bus == bus).count();
+    let budget = match rng.below(6) {
+        0 => None,
+        1 => Some(rng.below(65)),
+        2 => Some((tracked + 1).min(64)),
+        3 => Some(tracked.saturating_sub(1)),
+        _ => Some(tracked.min(64)),
+    };
+    let mut vector = Vector::new(ADMISSION);
+    vector.u8(budget.is_some().into());
+    vector.u32(budget.unwrap_or(0));
+    vector.u8(policy as u8);
+    vector.u8(scope as u8);
+    vector.u32(bus as usize);
+    vector.u32(candidates.len());
+    for c in &candidates {
+        vector.u64(c.voice);
+        vector.u32(c.bus as usize);
+        vector.level(c.level);
+    }
+    let Some(budget) = budget else {
+        vector.line("admit");
+        return vector;
+    };
+    let mut rust = VoiceAllocator::new(budget, POLICIES[policy]).with_scope(SCOPES[scope]);
+    for c in &candidates {
+        rust.record_spawn_in(VoiceId(c.voice), c.bus.into());
+    }
+    match rust.request_in(bus.into(), |v| level_of(&candidates, v)) {
+        Admission::Admit => vector.line("admit"),
+        Admission::Reject => vector.line("reject"),
+        Admission::Steal(voice) => vector.line(format_args!("steal {}", voice.0)),
+    }
+    vector
+}
+
+/// A history of steals, and the newest records at its end. The Rust keeps all of them in a `Vec`.
+fn records(rng: &mut Rng) -> Vector {
+    let calls = *rng.pick(&[0, 1, 5, 63, 64, 65, 90, 200]);
+    let mut vector = Vector::new(RECORDS);
+    vector.u32(calls);
+    let mut steals: Vec<StealRecord> = Vec::new();
+    let mut sample = 0;
+    for _ in 0..calls {
+        if rng.once_in(4) {
+            let number = rng.below(steals.len() + 3);
+            vector.u8(MARK);
+            vector.u64(number as u64);
+            if let Some(record) = steals.get_mut(number) {
+                record.cut = true;
+            }
+        } else {
+            sample += rng.below(100) as u64;
+            let record = StealRecord {
+                sample,
+                level: rng.flag().then(|| floats::block(rng, 1)[0]),
+                cut: rng.once_in(3),
+            };
+            vector.u8(PUSH);
+            vector.u64(record.sample);
+            vector.level(record.level);
+            vector.u8(record.cut.into());
+            steals.push(record);
+        }
+    }
+    vector.line(format_args!("steals {}", steals.len()));
+    for record in &steals[steals.len().saturating_sub(limits::RECORDS)..] {
+        let level = record.level.map_or("-".to_string(), hex32);
+        let cut = if record.cut { "cut" } else { "faded" };
+        vector.line(format_args!("{} {level} {cut}", record.sample));
+    }
+    vector
+}
