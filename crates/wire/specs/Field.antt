@@ -1,0 +1,23 @@
+-- Fields of a binary input, little-endian. A byte past its end is 0.
+-- Assumes nothing.
+use Prim.Native.Nat.{ℕ, zero, suc, _+_, _*_, min}
+use mathlib.Core.List.{List, [], _∷_}
+use lib.ListN.{getD}
+use lib.Ieee.{Float, binary32, ofBits}
+
+-- the last position of all, which no input reaches
+abbrev pub last : ℕ
+last = 0xffff_ffff_ffff_ffff
+
+abbrev pub moved : ℕ → ℕ → ℕ
+moved at n = min (at + n) last
+
+-- the number that the n bytes from `at` on stand for, the lowest first
+unfoldable pub little : ℕ → List ℕ → ℕ → ℕ
+little zero s at = 0
+little (suc n) s at = getD s at 0 + 256 * little n s (at + 1)
+
+-- n floats by their patterns
+unfoldable pub floats : ℕ → List ℕ → ℕ → List Float
+floats zero s at = []
+floats (suc n) s at = ofBits binary32 (little 4 s at) ∷ floats n s (moved at 4)

@@ -1,0 +1,75 @@
+// Fields of a lent input, little-endian. A byte past the input's end is 0, so that every field can be asked for; whether the input
+// was long enough is seen by the position after its last field.
+ghost use mathlib.Core.Path.{_≡_};
+ghost use lib.ListN.{length};
+ghost use lib.Ieee.{binary32, binary64, ofBits};
+ghost use Rattle.wire.specs.Field.{moved, little, floats};
+
+// The position n bytes after `at`. It stops at the last position of all, which no input reaches.
+pub fn after(at: usize, n: usize) -> usize
+    ensures { λ r. ⌜ r ≡ moved at n ⌝ }
+{
+    if n <= usize::MAX - at {
+        return at + n;
+    }
+    usize::MAX
+}
+
+pub fn byte_at(s: &[u8], at: usize) -> u8
+    ensures { λ r. ⌜ r ≡ little 1 (now (s .entry)) at ⌝ }
+{
+    if at < s.len() {
+        return s[at];
+    }
+    0
+}
+
+pub fn pair_at(s: &[u8], at: usize) -> u16
+    ensures { λ r. ⌜ r ≡ little 2 (now (s .entry)) at ⌝ }
+{
+    byte_at(s, at) as u16 + byte_at(s, after(at, 1)) as u16 * 0x100
+}
+
+pub fn word_at(s: &[u8], at: usize) -> u32
+    ensures { λ r. ⌜ r ≡ little 4 (now (s .entry)) at ⌝ }
+{
+    pair_at(s, at) as u32 + pair_at(s, after(at, 2)) as u32 * 0x1_0000
+}
+
+pub fn long_at(s: &[u8], at: usize) -> u64
+    ensures { λ r. ⌜ r ≡ little 8 (now (s .entry)) at ⌝ }
+{
+    word_at(s, at) as u64 + word_at(s, after(at, 4)) as u64 * 0x1_0000_0000
+}
+
+// The float of a pattern. Every pattern of a NaN is the same one.
+pub fn float(bits: u32) -> f32
+    ensures { λ r. ⌜ r ≡ ofBits binary32 bits ⌝ }
+{
+    if bits % 0x8000_0000 > 0x7f80_0000 {
+        return 0.0 / 0.0;
+    }
+    f32::from_bits(bits)
+}
+
+pub fn double(bits: u64) -> f64
+    ensures { λ r. ⌜ r ≡ ofBits binary64 bits ⌝ }
+{
+    if bits % 0x8000_0000_0000_0000 > 0x7ff0_0000_0000_0000 {
+        return 0.0 / 0.0;
+    }
+    f64::from_bits(bits)
+}
+
+// Fills `out` with the floats whose patterns stand from `at` on.
+pub fn floats_at(s: &[u8], at: usize, out: &mut [f32])
+    ensures { λ _. ⌜ now (out .exit) ≡ floats (length (now (out .entry))) (now (s .entry)) at ⌝ }
+{
+    let mut from = at;
+    let mut i: usize = 0;
+    while i < out.len() {
+        out[i] = float(word_at(s, from));
+        from = after(from, 4);
+        i += 1;
+    }
+}
