@@ -3,7 +3,6 @@
 use Prim.Native.Nat.{ℕ, zero, suc, _+_, _*_, min}
 use mathlib.Core.List.{List, [], _∷_}
 use lib.ListN.{getD}
-use lib.Ieee.{Float, binary32, ofBits}
 
 -- the last position of all, which no input reaches
 abbrev pub last : ℕ
@@ -17,7 +16,7 @@ unfoldable pub little : ℕ → List ℕ → ℕ → ℕ
 little zero s at = 0
 little (suc n) s at = getD s at 0 + 256 * little n s (at + 1)
 
--- n floats by their patterns
-unfoldable pub floats : ℕ → List ℕ → ℕ → List Float
-floats zero s at = []
-floats (suc n) s at = ofBits binary32 (little 4 s at) ∷ floats n s (moved at 4)
+-- n fields of four bytes, each as what its number stands for
+unfoldable pub fields : {A : Type 0} → (ℕ → A) → ℕ → List ℕ → ℕ → List A
+fields f zero s at = []
+fields f (suc n) s at = f (little 4 s at) ∷ fields f n s (moved at 4)

@@ -3,7 +3,7 @@
 ghost use mathlib.Core.Path.{_≡_};
 ghost use lib.ListN.{length};
 ghost use lib.Ieee.{binary32, binary64, ofBits};
-ghost use Rattle.wire.specs.Field.{moved, little, floats};
+ghost use Rattle.wire.specs.Field.{moved, little, fields};
 
 // The position n bytes after `at`. It stops at the last position of all, which no input reaches.
 pub fn after(at: usize, n: usize) -> usize
@@ -63,7 +63,7 @@ pub fn double(bits: u64) -> f64
 
 // Fills `out` with the floats whose patterns stand from `at` on.
 pub fn floats_at(s: &[u8], at: usize, out: &mut [f32])
-    ensures { λ _. ⌜ now (out .exit) ≡ floats (length (now (out .entry))) (now (s .entry)) at ⌝ }
+    ensures { λ _. ⌜ now (out .exit) ≡ fields (ofBits binary32) (length (now (out .entry))) (now (s .entry)) at ⌝ }
 {
     let mut from = at;
     let mut i: usize = 0;
@@ -72,4 +72,36 @@ pub fn floats_at(s: &[u8], at: usize, out: &mut [f32])
         from = after(from, 4);
         i += 1;
     }
+}
+
+// Fills `out` with the numbers of four bytes that stand from `at` on.
+pub fn words_at(s: &[u8], at: usize, out: &mut [usize])
+    ensures { λ _. ⌜ now (out .exit) ≡ fields (λ n. n) (length (now (out .entry))) (now (s .entry)) at ⌝ }
+{
+    let mut from = at;
+    let mut i: usize = 0;
+    while i < out.len() {
+        out[i] = word_at(s, from) as usize;
+        from = after(from, 4);
+        i += 1;
+    }
+}
+
+// Room for a whole input, and for the fields that a program lends. Each `ensures` gives the length, which lending a part asks for.
+pub fn input_room() -> [u8; 393216]
+    ensures { λ r. ⌜ 393216 ≡ length r ⌝ }
+{
+    [0; 393216]
+}
+
+pub fn float_room() -> [f32; 2048]
+    ensures { λ r. ⌜ 2048 ≡ length r ⌝ }
+{
+    [0.0; 2048]
+}
+
+pub fn word_room() -> [usize; 2048]
+    ensures { λ r. ⌜ 2048 ≡ length r ⌝ }
+{
+    [0; 2048]
 }

@@ -37,3 +37,26 @@ pub fn sample(x: f32) {
 pub fn long_sample(x: f64) {
     io::print_hex(STDOUT_FILENO, long_pattern(x), 16);
 }
+
+pub fn end_line() {
+    text(b"\n");
+}
+
+// A space, and then the word.
+pub fn and_number(n: u64) {
+    text(b" ");
+    number(n);
+}
+
+pub fn and_sample(x: f32) {
+    text(b" ");
+    sample(x);
+}
+
+pub fn and_samples(xs: &[f32]) {
+    let mut i: usize = 0;
+    while i < xs.len() {
+        and_sample(xs[i]);
+        i += 1;
+    }
+}

@@ -43,6 +43,6 @@ impl Engine {
 }
 
 /// The seed of a node of the voice that was made at this sequence.
-pub fn noise_seed(sequence: u32, node: u32) -> u32 {
-    derive_noise_seed(sequence, node as usize)
+pub fn noise_seed(sequence: u32, node: usize) -> u32 {
+    derive_noise_seed(sequence, node)
 }

@@ -100,10 +100,11 @@ struct File {
     answer: String,
 }
 
-/// A file that holds this many bytes of input is not added to: a program reads 1 MiB at most.
-const FULL: usize = 512 * 1024;
+/// A file that holds this many bytes of input is not added to. The program reads 384 KiB at most, and no vector has more
+/// than 64 KiB.
+const FULL: usize = 320 * 1024;
 
-/// The vectors of one program.
+/// The vectors of one leaf, or of several.
 #[derive(Default)]
 pub struct Book {
     files: Vec<File>,
@@ -133,13 +134,21 @@ impl Book {
         Ok(())
     }
 
-    /// Writes the vectors, which are one file, as `FOLDER/stdin` and `FOLDER/stdout`.
-    pub fn write_sample(&self, folder: &Path) -> io::Result<()> {
-        let [file] = &self.files[..] else {
-            panic!("{}: the sample is more than one file", folder.display());
+    /// Adds the vectors of another book.
+    pub fn append(&mut self, other: Book) {
+        self.files.extend(other.files);
+        self.counts.extend(other.counts);
+    }
+
+    /// Writes all vectors into one file, as `FOLDER/stdin` and `FOLDER/stdout`.
+    pub fn write_as_one(&self, folder: &Path) -> io::Result<()> {
+        let one = File {
+            count: self.files.iter().map(|f| f.count).sum(),
+            input: self.files.iter().flat_map(|f| f.input.clone()).collect(),
+            answer: self.files.iter().map(|f| f.answer.as_str()).collect(),
         };
         fs::create_dir_all(folder)?;
-        file.write(&folder.join("").display().to_string())
+        one.write(&folder.join("").display().to_string())
     }
 }
 

@@ -13,11 +13,11 @@ use crate::book::{Book, Vector, hex32};
 use crate::floats::{self, Profile};
 use crate::rng::Rng;
 
-const RATE: u8 = 1;
-const FADE_LENGTHS: u8 = 2;
-const SEED: u8 = 3;
-const FADE: u8 = 4;
-const SUM: u8 = 5;
+const RATE: u8 = 11;
+const FADE_LENGTHS: u8 = 12;
+const SEED: u8 = 13;
+const FADE: u8 = 14;
+const SUM: u8 = 15;
 
 const HIGHEST_RATE: usize = 384_000;
 
@@ -37,7 +37,7 @@ pub fn book(rng: &mut Rng, amount: usize) -> Book {
 fn fade_lengths() -> Vector {
     let mut vector = Vector::new(FADE_LENGTHS);
     vector.u32(1);
-    vector.u32(HIGHEST_RATE);
+    vector.u32(HIGHEST_RATE + 1);
     let mut last = None;
     for rate in 1..=HIGHEST_RATE {
         let length = steal_fade_samples(rate as f32);
@@ -78,14 +78,18 @@ fn counter(rng: &mut Rng) -> u32 {
 
 fn seed(rng: &mut Rng) -> Vector {
     let sequence = counter(rng);
-    let node = if rng.flag() { counter(rng) } else { rng.below(limits::DEF_NODES) as u32 };
+    let node = match rng.below(4) {
+        0 => counter(rng) as usize,
+        1 => rng.bits() as usize,
+        _ => rng.below(limits::DEF_NODES),
+    };
     let given = noise_seed(sequence, node);
-    if (node as usize) < limits::DEF_NODES {
-        assert_eq!(given, seed_heard(sequence, node as usize));
+    if node < limits::DEF_NODES {
+        assert_eq!(given, seed_heard(sequence, node));
     }
     let mut vector = Vector::new(SEED);
     vector.u32(sequence as usize);
-    vector.u32(node as usize);
+    vector.u64(node as u64);
     vector.line(format_args!("{given:08x}"));
     vector
 }

@@ -12,7 +12,7 @@ use scripted::limits::{self, Refusal};
 use crate::book::{Book, Vector, or_dash};
 use crate::rng::Rng;
 
-const SCRIPT: u8 = 1;
+const SCRIPT: u8 = 21;
 
 const ADD: u8 = 1;
 const REMOVE: u8 = 2;

@@ -1,7 +1,7 @@
-//! Writes vectors for the leaves: what the programs read, and what the Rust answers.
+//! Writes vectors for the leaves: what the program `vectors` reads, and what the Rust answers.
 //!
-//! `vectors SEED FOLDER` writes all of them, in files of a size that a program reads at once; `vectors SEED FOLDER
-//! sample` writes a few of each, as the `stdin` and `stdout` of a program.
+//! `vectors all SEED FOLDER` writes very many, in files of a size that the program reads at once; `vectors sample SEED
+//! FOLDER` writes a few of each, as one file. Names of leaves may follow; without any it is all of them.
 
 mod book;
 mod bus;
@@ -18,7 +18,7 @@ use std::path::Path;
 use book::Book;
 use rng::Rng;
 
-/// The vectors of one program: how they are made, how many of them all in all, and how many in the sample.
+/// One leaf: how its vectors are made, and how many of them, all in all and in the sample.
 struct Leaf {
     name: &'static str,
     book: fn(&mut Rng, usize) -> Book,
@@ -36,31 +36,30 @@ const fn leaf(name: &'static str, book: fn(&mut Rng, usize) -> Book, all: usize,
 }
 
 const LEAVES: [Leaf; 6] = [
-    leaf("vec_level", level::book, 4000, 150),
-    leaf("vec_bus", bus::book, 4000, 150),
-    leaf("vec_graph", graph::book, 3000, 100),
-    leaf("vec_scheduler", scheduler::book, 3000, 100),
-    leaf("vec_voice", voice::book, 8000, 400),
-    leaf("vec_synthdef", synthdef::book, 8000, 300),
+    leaf("level", level::book, 4000, 100),
+    leaf("bus", bus::book, 4000, 60),
+    leaf("graph", graph::book, 3000, 60),
+    leaf("scheduler", scheduler::book, 3000, 50),
+    leaf("voice", voice::book, 8000, 100),
+    leaf("synthdef", synthdef::book, 8000, 200),
 ];
 
 fn main() {
     let words: Vec<String> = std::env::args().skip(1).collect();
-    let words: Vec<&str> = words.iter().map(String::as_str).collect();
-    let (seed, folder, sample) = match words[..] {
-        [seed, folder] => (seed, folder, false),
-        [seed, folder, "sample"] => (seed, folder, true),
-        _ => panic!("usage: vectors SEED FOLDER [sample]"),
+    let [how, seed, folder, names @ ..] = &words[..] else {
+        panic!("usage: vectors all|sample SEED FOLDER [LEAF..]");
     };
     let seed: u64 = seed.parse().expect("the seed is a number");
-    for leaf in LEAVES {
-        let folder = Path::new(folder).join(leaf.name);
+    let is_sample = how == "sample";
+    let mut book = Book::default();
+    for leaf in LEAVES.iter().filter(|leaf| names.is_empty() || names.iter().any(|n| n == leaf.name)) {
         let mut rng = Rng::new(seed, leaf.name);
-        let book = (leaf.book)(&mut rng, if sample { leaf.sample } else { leaf.all });
-        let written = if sample { book.write_sample(&folder) } else { book.write(&folder) };
-        written.unwrap_or_else(|e| panic!("{}: {e}", folder.display()));
-        for (sort, count) in &book.counts {
-            println!("{} {count} {sort}", leaf.name);
-        }
+        book.append((leaf.book)(&mut rng, if is_sample { leaf.sample } else { leaf.all }));
+    }
+    let folder = Path::new(folder);
+    let written = if is_sample { book.write_as_one(folder) } else { book.write(folder) };
+    written.unwrap_or_else(|e| panic!("{}: {e}", folder.display()));
+    for (sort, count) in &book.counts {
+        println!("{count} {sort}");
     }
 }

@@ -8,7 +8,7 @@ use crate::book::{Book, Vector, hex32};
 use crate::floats::Profile;
 use crate::rng::Rng;
 
-const HISTORY: u8 = 1;
+const HISTORY: u8 = 31;
 
 const SCHEDULE: u8 = 1;
 const TAKE: u8 = 2;

@@ -9,7 +9,7 @@ use scripted::limits::{self, Refusal, check};
 use crate::book::{Book, Vector, or_dash};
 use crate::rng::Rng;
 
-const DEFINITION: u8 = 1;
+const DEFINITION: u8 = 51;
 
 pub fn book(rng: &mut Rng, amount: usize) -> Book {
     let mut book = Book::default();

@@ -9,9 +9,9 @@ use crate::book::{Book, Vector, hex32};
 use crate::floats::{self, Profile};
 use crate::rng::Rng;
 
-const VICTIM: u8 = 1;
-const ADMISSION: u8 = 2;
-const RECORDS: u8 = 3;
+const VICTIM: u8 = 41;
+const ADMISSION: u8 = 42;
+const RECORDS: u8 = 43;
 
 const PUSH: u8 = 1;
 const MARK: u8 = 2;

@@ -1,0 +1,47 @@
+// Answers vectors: reads them from standard input, calls the proved functions, and writes what they answer, for comparison with
+// what the Rust answers. docs/VECTORS.md describes the input and the lines.
+mod levels;
+
+use libc::STDIN_FILENO;
+use wire::field::after;
+use wire::field::byte_at;
+use wire::field::input_room;
+use wire::field::word_at;
+use wire::word::end_line;
+use wire::word::number;
+use wire::word::text;
+
+// Answers the vector at `at` by its sort, and gives the position after it. A sort that there is not has its end past the input.
+fn answer(s: &[u8], at: usize) -> usize {
+    let from = after(at, 1);
+    match byte_at(s, at) {
+        1 => levels::root(s, from),
+        2 => levels::narrowing(s, from),
+        3 => levels::block(s, from),
+        _ => usize::MAX,
+    }
+}
+
+// Answers each vector of the input. One that runs past the input's end is the last.
+fn answer_all(s: &[u8]) {
+    let count = word_at(s, 0);
+    let mut at: usize = 4;
+    let mut done: u32 = 0;
+    while done < count {
+        at = answer(s, at);
+        if s.len() < at {
+            text(b"malformed\n");
+            return;
+        }
+        done += 1;
+    }
+    text(b"vectors ");
+    number(count as u64);
+    end_line();
+}
+
+fn main() {
+    let mut space = input_room();
+    let n = io::read_full(STDIN_FILENO, &mut space);
+    answer_all(&space[..n]);
+}
