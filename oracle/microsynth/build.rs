@@ -7,17 +7,7 @@ use std::fs;
 use std::path::{Path, PathBuf};
 
 /// The modules of the crate's root.
-const ROOT: [&str; 9] = [
-    "buffer",
-    "context",
-    "curve",
-    "engine",
-    "graph",
-    "node",
-    "scheduler",
-    "synthdef",
-    "voice",
-];
+const ROOT: [&str; 9] = ["buffer", "context", "curve", "engine", "graph", "node", "scheduler", "synthdef", "voice"];
 
 /// The modules of `ugens`, whose items its root exports by their bare names.
 const UGENS: [&str; 3] = ["bus", "math", "utility"];
@@ -33,12 +23,8 @@ fn sources() -> PathBuf {
 
 fn read(path: &Path) -> String {
     println!("cargo::rerun-if-changed={}", path.display());
-    fs::read_to_string(path).unwrap_or_else(|e| {
-        panic!(
-            "{}: {e} (MICROSYNTH_SOURCES names the folder that has src/)",
-            path.display()
-        )
-    })
+    fs::read_to_string(path)
+        .unwrap_or_else(|e| panic!("{}: {e} (MICROSYNTH_SOURCES names the folder that has src/)", path.display()))
 }
 
 /// Copies the module `file` of `src/` with its accessors, and answers the line that declares it.

@@ -1,6 +1,7 @@
 // Fields of a lent input, little-endian. A byte past the input's end is 0, so that every field can be asked for; whether the input
 // was long enough is seen by the position after its last field.
 ghost use mathlib.Core.Path.{_≡_};
+ghost use Prim.Native.Nat.{min};
 ghost use lib.ListN.{length};
 ghost use lib.Ieee.{binary32, binary64, ofBits};
 ghost use Rattle.wire.specs.Field.{moved, little, fields};
@@ -13,6 +14,13 @@ pub fn after(at: usize, n: usize) -> usize
         return at + n;
     }
     usize::MAX
+}
+
+// A count, or `most` where it is above that.
+pub fn at_most(count: usize, most: usize) -> usize
+    ensures { λ r. ⌜ r ≡ min count most ⌝ }
+{
+    if count < most { count } else { most }
 }
 
 pub fn byte_at(s: &[u8], at: usize) -> u8

@@ -39,10 +39,7 @@ impl Node {
     }
 
     fn generator(&self) -> Kind {
-        let port = |(p, name): (usize, &String)| Port {
-            name: name.clone(),
-            required: self.required >> p & 1 == 1,
-        };
+        let port = |(p, name): (usize, &String)| Port { name: name.clone(), required: self.required >> p & 1 == 1 };
         Kind {
             name: String::from_utf8_lossy(&self.kind).into_owned(),
             ports: self.ports.iter().enumerate().map(port).collect(),

@@ -29,17 +29,8 @@ pub struct Kind {
 impl Kind {
     /// A kind with this many ports, none of them required or named, one channel, and no orders taken.
     pub fn plain(name: &str, ports: usize) -> Kind {
-        let port = Port {
-            name: String::new(),
-            required: false,
-        };
-        Kind {
-            name: name.to_string(),
-            ports: vec![port; ports],
-            channels: 1,
-            takes_values: false,
-            takes_glides: false,
-        }
+        let port = Port { name: String::new(), required: false };
+        Kind { name: name.to_string(), ports: vec![port; ports], channels: 1, takes_values: false, takes_glides: false }
     }
 }
 
@@ -103,15 +94,8 @@ fn lasting(kind: &Kind) -> &'static Lasting {
         return found;
     }
     let named: &'static Kind = Box::leak(Box::new(kind.clone()));
-    let input = |port: &'static Port| InputSpec {
-        name: &port.name,
-        rate: Rate::Audio,
-        required: port.required,
-    };
-    let made = Box::leak(Box::new(Lasting {
-        kind: named,
-        inputs: named.ports.iter().map(input).collect(),
-    }));
+    let input = |port: &'static Port| InputSpec { name: &port.name, rate: Rate::Audio, required: port.required };
+    let made = Box::leak(Box::new(Lasting { kind: named, inputs: named.ports.iter().map(input).collect() }));
     kept.insert(kind.clone(), made);
     made
 }
@@ -126,28 +110,15 @@ pub struct Generator {
 impl Generator {
     pub fn new(kind: &Kind, handle: Handle, log: Log) -> Generator {
         let Lasting { kind, inputs } = lasting(kind);
-        Generator {
-            kind,
-            inputs,
-            handle,
-            log,
-        }
+        Generator { kind, inputs, handle, log }
     }
 }
 
-static OUTPUTS: [OutputSpec; 1] = [OutputSpec {
-    name: "out",
-    rate: Rate::Audio,
-}];
+static OUTPUTS: [OutputSpec; 1] = [OutputSpec { name: "out", rate: Rate::Audio }];
 
 impl UGen for Generator {
     fn spec(&self) -> UGenSpec {
-        UGenSpec {
-            name: &self.kind.name,
-            category: UGenCategory::Utility,
-            inputs: self.inputs,
-            outputs: &OUTPUTS,
-        }
+        UGenSpec { name: &self.kind.name, category: UGenCategory::Utility, inputs: self.inputs, outputs: &OUTPUTS }
     }
 
     fn init(&mut self, _context: &ProcessContext) {}

@@ -55,7 +55,9 @@ fn rate(rng: &mut Rng) -> Vector {
         1 => rng.within(1, HIGHEST_RATE) as f32,
         2 => -(rng.within(0, HIGHEST_RATE) as f32),
         3 => rng.within(1, HIGHEST_RATE) as f32 + rng.below(16) as f32 / 16.0,
-        4 => f32::from_bits((rng.within(0, HIGHEST_RATE) as f32).to_bits().wrapping_add(rng.below(3) as u32).wrapping_sub(1)),
+        4 => f32::from_bits(
+            (rng.within(0, HIGHEST_RATE) as f32).to_bits().wrapping_add(rng.below(3) as u32).wrapping_sub(1),
+        ),
         _ => floats::block(rng, 1)[0],
     };
     let mut vector = Vector::new(RATE);
@@ -97,10 +99,7 @@ fn seed(rng: &mut Rng) -> Vector {
 /// The seed that a generator hears which is the last node of a voice made at that sequence.
 fn seed_heard(sequence: u32, node: usize) -> u32 {
     let (made, kind) = (Made::default(), Node::new(b"Noise", vec![]));
-    let def = Definition {
-        nodes: vec![kind; node + 1],
-        ..Definition::default()
-    };
+    let def = Definition { nodes: vec![kind; node + 1], ..Definition::default() };
     let mut engine = Engine::new(EngineConfig::default());
     engine.set_noise_sequence(sequence);
     engine.spawn_voice(&def.build(&made, &Log::default()));
@@ -122,7 +121,13 @@ fn buffer(channels: usize, block: usize, samples: &[f32]) -> AudioBuffer {
 }
 
 /// Has a unit of the Rust write a block over `before`, and gives the samples that it left.
-fn written(unit: &mut dyn UGen, inputs: &[Option<&AudioBuffer>], channels: usize, block: usize, before: &[f32]) -> Vec<f32> {
+fn written(
+    unit: &mut dyn UGen,
+    inputs: &[Option<&AudioBuffer>],
+    channels: usize,
+    block: usize,
+    before: &[f32],
+) -> Vec<f32> {
     let mut output = buffer(channels, block, before);
     unit.process(&ProcessContext::new(8000.0, block), inputs, &mut output);
     (0..channels).flat_map(|c| output.channel(c).samples().to_vec()).collect()

@@ -42,14 +42,8 @@ pub enum Profile {
     Mixed,
 }
 
-pub const PROFILES: [Profile; 6] = [
-    Profile::Audio,
-    Profile::Any,
-    Profile::Edges,
-    Profile::Subnormal,
-    Profile::Whole,
-    Profile::Mixed,
-];
+pub const PROFILES: [Profile; 6] =
+    [Profile::Audio, Profile::Any, Profile::Edges, Profile::Subnormal, Profile::Whole, Profile::Mixed];
 
 impl Profile {
     pub fn sample(self, rng: &mut Rng) -> f32 {

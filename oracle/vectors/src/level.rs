@@ -50,24 +50,15 @@ fn level(rng: &mut Rng, n: usize) -> Vector {
 
 /// The level of a voice whose one node has just written these samples.
 fn voice_level(samples: Vec<f32>, channels: usize) -> f32 {
-    let mut engine = Engine::new(EngineConfig {
-        sample_rate: 8000.0,
-        block_size: samples.len() / channels,
-    });
+    let mut engine = Engine::new(EngineConfig { sample_rate: 8000.0, block_size: samples.len() / channels });
     let log = Log::default();
     let bus = Generator::new(&Kind::plain("Bus", 1), Handle::default(), log.clone());
     let bus = engine.graph_mut().add_node(Box::new(bus));
     engine.graph_mut().set_sink(bus);
 
     let made = Made::default();
-    let tone = Node {
-        channels,
-        ..Node::new(b"Tone", vec![])
-    };
-    let def = Definition {
-        nodes: vec![tone],
-        ..Definition::default()
-    };
+    let tone = Node { channels, ..Node::new(b"Tone", vec![]) };
+    let def = Definition { nodes: vec![tone], ..Definition::default() };
     let voice = engine.spawn_voice_on_bus(&def.build(&made, &log), bus).expect("the bus has a port");
     made.lock().expect("no holder of the list panics")[0].state().samples = samples;
     engine.prepare();

@@ -27,12 +27,7 @@ struct Leaf {
 }
 
 const fn leaf(name: &'static str, book: fn(&mut Rng, usize) -> Book, all: usize, sample: usize) -> Leaf {
-    Leaf {
-        name,
-        book,
-        all,
-        sample,
-    }
+    Leaf { name, book, all, sample }
 }
 
 const LEAVES: [Leaf; 6] = [

@@ -77,18 +77,9 @@ fn scheduled(rng: &mut Rng, vector: &mut Vector) -> Event {
     vector.u8(space as u8);
 
     let param = String::from_utf8(name).expect("names are of letters");
-    let shapes = [
-        GlideShape::Hold,
-        GlideShape::Linear,
-        GlideShape::Sine,
-        GlideShape::Exponential(tension),
-    ];
+    let shapes = [GlideShape::Hold, GlideShape::Linear, GlideShape::Sine, GlideShape::Exponential(tension)];
     let action = match sort {
-        0 => EventAction::SetParam {
-            voice,
-            param,
-            value: first,
-        },
+        0 => EventAction::SetParam { voice, param, value: first },
         1 => EventAction::SetParamGlide {
             voice,
             param,
@@ -117,14 +108,7 @@ fn described(action: &EventAction) -> (VoiceId, String) {
     let name = |param: &str| if limits::is_name(param.as_bytes()) { param.to_string() } else { "-".to_string() };
     match action {
         EventAction::SetParam { voice, param, value } => (*voice, format!("value {} {}", name(param), hex32(*value))),
-        EventAction::SetParamGlide {
-            voice,
-            param,
-            target,
-            glide_secs,
-            shape,
-            space,
-        } => {
+        EventAction::SetParamGlide { voice, param, target, glide_secs, shape, space } => {
             let shape = match shape {
                 GlideShape::Hold => "hold".to_string(),
                 GlideShape::Linear => "linear".to_string(),

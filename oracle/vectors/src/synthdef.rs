@@ -109,7 +109,7 @@ fn spoil(rng: &mut Rng, def: &mut Definition) {
         1 => def.nodes.resize(rng.within(24, 26), node(rng)),
         2 => def.nodes[place].kind = long,
         3 => def.nodes[place].ports.resize(rng.within(8, 9), "a".to_string()),
-        4 => def.nodes[place].required |= 1 << rng.below(10),
+        4 => def.nodes[place].required |= 1 << rng.below(8),
         5 => def.nodes[place].named[rng.below(3)] = Some(def.nodes[place].ports.len() + rng.below(3)),
         6 => {
             let again = def.edges.first().copied().into_iter().cycle();
@@ -135,7 +135,7 @@ fn put(vector: &mut Vector, def: &Definition) {
     for node in &def.nodes {
         vector.name(&node.kind);
         vector.u8(byte(Some(node.ports.len())));
-        vector.u32(node.required as usize);
+        vector.u8(node.required as u8);
         vector.u8(u8::from(node.takes_values) + 2 * u8::from(node.takes_glides));
         for port in node.named {
             vector.u8(byte(port));
@@ -159,7 +159,9 @@ fn asked(rng: &mut Rng, def: &Definition) -> Vector {
     let mut vector = Vector::new(DEFINITION);
     put(&mut vector, def);
     let flags: Vec<u32> = (0..rng.within(1, 4)).map(|_| rng.word() & rng.word() & 0xff_ffff).collect();
-    let names: Vec<&str> = (0..2).map(|_| *rng.pick(&["gate", "freq", "fre", "FREQ", "a", "", "sixteen letters!", "seventeen letters"])).collect();
+    let names: Vec<&str> = (0..2)
+        .map(|_| *rng.pick(&["gate", "freq", "fre", "FREQ", "a", "", "sixteen letters!", "seventeen letters"]))
+        .collect();
     vector.u8(byte(Some(flags.len())));
     for &done in &flags {
         vector.u32(done as usize);

@@ -16,12 +16,8 @@ const RECORDS: u8 = 43;
 const PUSH: u8 = 1;
 const MARK: u8 = 2;
 
-const POLICIES: [StealPolicy; 4] = [
-    StealPolicy::Reject,
-    StealPolicy::Oldest,
-    StealPolicy::Newest,
-    StealPolicy::Quietest,
-];
+const POLICIES: [StealPolicy; 4] =
+    [StealPolicy::Reject, StealPolicy::Oldest, StealPolicy::Newest, StealPolicy::Quietest];
 
 const SCOPES: [BudgetScope; 2] = [BudgetScope::Global, BudgetScope::PerGroup];
 
@@ -61,13 +57,19 @@ fn candidates(rng: &mut Rng) -> Vec<Candidate> {
     let mut voice = if rng.once_in(8) { u64::MAX - 2000 } else { 0 };
     let mut candidate = || {
         voice += rng.within(1, 30) as u64;
-        Candidate {
-            voice,
-            bus: rng.below(3) as u32,
-            level: (!rng.once_in(unknown + 1)).then(|| *rng.pick(&levels)),
-        }
+        Candidate { voice, bus: rng.below(3) as u32, level: (!rng.once_in(unknown + 1)).then(|| *rng.pick(&levels)) }
     };
     (0..count).map(|_| candidate()).collect()
+}
+
+/// How many candidates, and for each its id, its bus and its level.
+fn put(vector: &mut Vector, candidates: &[Candidate]) {
+    vector.u32(candidates.len());
+    for c in candidates {
+        vector.u64(c.voice);
+        vector.u32(c.bus as usize);
+        vector.level(c.level);
+    }
 }
 
 fn level_of(candidates: &[Candidate], voice: VoiceId) -> Option<f32> {
@@ -81,12 +83,10 @@ fn victim(rng: &mut Rng) -> Vector {
     let candidates = candidates(rng);
     let mut vector = Vector::new(VICTIM);
     vector.u8(policy as u8);
-    vector.u32(candidates.len());
+    put(&mut vector, &candidates);
     let mut rust = VoiceAllocator::new(0, POLICIES[policy]);
     let mut stranger = u64::MAX;
     for c in &candidates {
-        vector.u64(c.voice);
-        vector.level(c.level);
         if rng.once_in(4) {
             rust.record_spawn(VoiceId(stranger));
             stranger -= 1;
@@ -121,12 +121,7 @@ fn admission(rng: &mut Rng) -> Vector {
     vector.u8(policy as u8);
     vector.u8(scope as u8);
     vector.u32(bus as usize);
-    vector.u32(candidates.len());
-    for c in &candidates {
-        vector.u64(c.voice);
-        vector.u32(c.bus as usize);
-        vector.level(c.level);
-    }
+    put(&mut vector, &candidates);
     let Some(budget) = budget else {
         vector.line("admit");
         return vector;
@@ -143,6 +138,14 @@ fn admission(rng: &mut Rng) -> Vector {
     vector
 }
 
+/// A call on the steals: a number, and a record's level and cut mark, which a mark does not look at.
+fn call(vector: &mut Vector, sort: u8, number: u64, record: &StealRecord) {
+    vector.u8(sort);
+    vector.u64(number);
+    vector.level(record.level);
+    vector.u8(record.cut.into());
+}
+
 /// A history of steals, and the newest records at its end. The Rust keeps all of them in a `Vec`.
 fn records(rng: &mut Rng) -> Vector {
     let calls = *rng.pick(&[0, 1, 5, 63, 64, 65, 90, 200]);
@@ -151,24 +154,18 @@ fn records(rng: &mut Rng) -> Vector {
     let mut steals: Vec<StealRecord> = Vec::new();
     let mut sample = 0;
     for _ in 0..calls {
+        let mut record =
+            StealRecord { sample, level: rng.flag().then(|| floats::block(rng, 1)[0]), cut: rng.once_in(3) };
         if rng.once_in(4) {
             let number = rng.below(steals.len() + 3);
-            vector.u8(MARK);
-            vector.u64(number as u64);
-            if let Some(record) = steals.get_mut(number) {
-                record.cut = true;
+            call(&mut vector, MARK, number as u64, &record);
+            if let Some(marked) = steals.get_mut(number) {
+                marked.cut = true;
             }
         } else {
-            sample += rng.below(100) as u64;
-            let record = StealRecord {
-                sample,
-                level: rng.flag().then(|| floats::block(rng, 1)[0]),
-                cut: rng.once_in(3),
-            };
-            vector.u8(PUSH);
-            vector.u64(record.sample);
-            vector.level(record.level);
-            vector.u8(record.cut.into());
+            record.sample += rng.below(100) as u64;
+            sample = record.sample;
+            call(&mut vector, PUSH, sample, &record);
             steals.push(record);
         }
     }
