@@ -1,5 +1,6 @@
 // Answers vectors: reads them from standard input, calls the proved functions, and writes what they answer, for comparison with
 // what the Rust answers. docs/VECTORS.md describes the input and the lines.
+mod blocks;
 mod levels;
 
 use libc::STDIN_FILENO;
@@ -18,6 +19,11 @@ fn answer(s: &[u8], at: usize) -> usize {
         1 => levels::root(s, from),
         2 => levels::narrowing(s, from),
         3 => levels::block(s, from),
+        11 => blocks::rate(s, from),
+        12 => blocks::fade_lengths(s, from),
+        13 => blocks::seed(s, from),
+        14 => blocks::fade(s, from),
+        15 => blocks::sum(s, from),
         _ => usize::MAX,
     }
 }
