@@ -24,9 +24,16 @@ const HIGHEST_RATE: usize = 384_000;
 pub fn book(rng: &mut Rng, amount: usize) -> Book {
     let mut book = Book::default();
     book.put("fade lengths", HIGHEST_RATE, fade_lengths());
+    for edge in EDGE_RATES {
+        book.put("sample rates", 1, rate(edge));
+    }
+    for (sequence, node) in [(0, 0), (0, 1), (1, 0)] {
+        book.put("seeds", 1, seed(sequence, node));
+    }
     for _ in 0..amount {
-        book.put("sample rates", 1, rate(rng));
-        book.put("seeds", 1, seed(rng));
+        book.put("sample rates", 1, rate(any_rate(rng)));
+        let (sequence, node) = (counter(rng), any_node(rng));
+        book.put("seeds", 1, seed(sequence, node));
         book.put("fade blocks", 1, fade(rng));
         book.put("bus sums", 1, sum(rng));
     }
@@ -49,17 +56,39 @@ fn fade_lengths() -> Vector {
     vector
 }
 
-fn rate(rng: &mut Rng) -> Vector {
-    let rate = match rng.below(6) {
-        0 => *rng.pick(&[0.5, 1.5, 44100.5, 383_999.97, 384_000.0, 384_000.03, 384_001.0, 16_777_216.0, 1e30]),
-        1 => rng.within(1, HIGHEST_RATE) as f32,
-        2 => -(rng.within(0, HIGHEST_RATE) as f32),
-        3 => rng.within(1, HIGHEST_RATE) as f32 + rng.below(16) as f32 / 16.0,
-        4 => f32::from_bits(
-            (rng.within(0, HIGHEST_RATE) as f32).to_bits().wrapping_add(rng.below(3) as u32).wrapping_sub(1),
-        ),
+/// Rates at the edges of what is whole and within the limits.
+const EDGE_RATES: [f32; 17] = [
+    0.0,
+    -0.0,
+    -1.0,
+    f32::MIN_POSITIVE,
+    0.5,
+    1.0,
+    1.5,
+    2.0,
+    44100.5,
+    383_999.97,
+    384_000.0,
+    384_000.03,
+    384_001.0,
+    16_777_216.0,
+    f32::INFINITY,
+    f32::NEG_INFINITY,
+    f32::NAN,
+];
+
+fn any_rate(rng: &mut Rng) -> f32 {
+    let whole = rng.within(0, HIGHEST_RATE + 1) as f32;
+    match rng.below(5) {
+        0 => whole,
+        1 => -whole,
+        2 => whole + rng.below(16) as f32 / 16.0,
+        3 => f32::from_bits(whole.to_bits().wrapping_add(rng.below(3) as u32).wrapping_sub(1)),
         _ => floats::block(rng, 1)[0],
-    };
+    }
+}
+
+fn rate(rate: f32) -> Vector {
     let mut vector = Vector::new(RATE);
     vector.f32(rate);
     match limits::whole_rate(rate) {
@@ -78,13 +107,15 @@ fn counter(rng: &mut Rng) -> u32 {
     }
 }
 
-fn seed(rng: &mut Rng) -> Vector {
-    let sequence = counter(rng);
-    let node = match rng.below(4) {
+fn any_node(rng: &mut Rng) -> usize {
+    match rng.below(4) {
         0 => counter(rng) as usize,
         1 => rng.bits() as usize,
         _ => rng.below(limits::DEF_NODES),
-    };
+    }
+}
+
+fn seed(sequence: u32, node: usize) -> Vector {
     let given = noise_seed(sequence, node);
     if node < limits::DEF_NODES {
         assert_eq!(given, seed_heard(sequence, node));

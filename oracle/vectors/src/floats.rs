@@ -68,7 +68,7 @@ pub fn block(rng: &mut Rng, count: usize) -> Vec<f32> {
     rng.pick(&PROFILES).samples(rng, count)
 }
 
-const EDGES_64: [u64; 28] = [
+pub const EDGES_64: [u64; 28] = [
     0x0000_0000_0000_0000,
     0x8000_0000_0000_0000,
     0x0000_0000_0000_0001,

@@ -14,14 +14,22 @@ const LEVEL: u8 = 3;
 
 pub fn book(rng: &mut Rng, amount: usize) -> Book {
     let mut book = Book::default();
-    for _ in 0..10 * amount {
-        let x = floats::to_root(rng);
-        book.put("roots", 1, bits(ROOT, x, hex64(x.sqrt())));
-        let x = floats::to_narrow(rng);
-        book.put("narrowings", 1, bits(NARROW, x, hex32(x as f32)));
+    let mut put = |sort, x: f64| match sort {
+        ROOT => book.put("roots", 1, bits(ROOT, x, hex64(x.sqrt()))),
+        _ => book.put("narrowings", 1, bits(NARROW, x, hex32(x as f32))),
+    };
+    for x in floats::EDGES_64.map(f64::from_bits) {
+        put(ROOT, x);
+        put(NARROW, x);
     }
+    for _ in 0..10 * amount {
+        put(ROOT, floats::to_root(rng));
+        put(NARROW, floats::to_narrow(rng));
+    }
+    book.put("level blocks", 1, level(vec![1.0, 7.0], 1));
     for n in 0..amount {
-        book.put("level blocks", 1, level(rng, n));
+        let (samples, channels) = block(rng, n);
+        book.put("level blocks", 1, level(samples, channels));
     }
     book
 }
@@ -33,15 +41,18 @@ fn bits(sort: u8, x: f64, answer: String) -> Vector {
     vector
 }
 
-/// Blocks are short, as long as the store's, or, once in a while, of more channels than it has.
-fn level(rng: &mut Rng, n: usize) -> Vector {
-    let (channels, block) = match n % 40 {
+/// A block and its channels. Blocks are short, as long as the store's, or, once in a while, of more channels than it has.
+fn block(rng: &mut Rng, n: usize) -> (Vec<f32>, usize) {
+    let (channels, size) = match n % 40 {
         0 => (rng.within(3, 8), rng.within(1, 128)),
         1 => (2, 128),
         2..10 => (rng.within(1, 2), rng.within(1, 128)),
         _ => (rng.within(1, 2), rng.within(1, 12)),
     };
-    let samples = floats::block(rng, channels * block);
+    (floats::block(rng, channels * size), channels)
+}
+
+fn level(samples: Vec<f32>, channels: usize) -> Vector {
     let mut vector = Vector::new(LEVEL);
     vector.samples(&samples);
     vector.line(hex32(voice_level(samples, channels)));
