@@ -57,6 +57,12 @@ impl Vector {
         self.input.extend(name);
     }
 
+    /// Adds the input and the lines of what was made apart.
+    pub fn append(&mut self, part: Vector) {
+        self.input.extend(part.input);
+        self.answer += &part.answer;
+    }
+
     /// Ends the line with these words.
     pub fn line(&mut self, words: impl std::fmt::Display) {
         writeln!(self.answer, "{words}").expect("a string can be written");

@@ -68,8 +68,7 @@ impl Script {
         self.state();
         let mut vector = Vector::new(SCRIPT);
         vector.u32(self.calls);
-        vector.input.extend(self.vector.input);
-        vector.answer = self.vector.answer;
+        vector.append(self.vector);
         vector
     }
 

@@ -15,9 +15,10 @@ const TAKE: u8 = 2;
 
 pub fn book(rng: &mut Rng, amount: usize) -> Book {
     let mut book = Book::default();
+    book.put("queue histories", 1, at_the_deadline(rng));
     for n in 0..amount {
         let calls = if n % 50 == 49 { rng.within(257, 300) } else { rng.within(1, 30) };
-        book.put("queue histories", 1, history(rng, calls));
+        book.put("queue histories", 1, any_history(rng, calls));
     }
     book
 }
@@ -31,35 +32,76 @@ fn time(rng: &mut Rng) -> u64 {
     }
 }
 
-fn history(rng: &mut Rng, calls: usize) -> Vector {
-    let mut vector = Vector::new(HISTORY);
-    vector.u32(calls);
-    let mut queue = Scheduler::new();
-    // Long histories fill the queue.
-    let takes = if calls > limits::EVENTS { 400 } else { 6 };
-    for _ in 0..calls {
-        if rng.once_in(takes) {
-            let deadline = if rng.flag() { time(rng) } else { time(rng).wrapping_add(1) };
-            vector.u8(TAKE);
-            vector.u64(deadline);
-            let taken = queue.drain_before(deadline);
-            events(&mut vector, "taken", &taken);
-        } else {
-            let event = scheduled(rng, &mut vector);
-            if queue.len() < limits::EVENTS {
-                queue.schedule(event);
-                vector.line("done");
-            } else {
-                vector.line("refused 7");
-            }
-        }
-    }
-    events(&mut vector, "waiting", queue.pending());
-    vector
+/// A history in the making: each call is written, made on the Rust, and its answer written.
+struct History {
+    calls: usize,
+    vector: Vector,
+    queue: Scheduler,
 }
 
-fn scheduled(rng: &mut Rng, vector: &mut Vector) -> Event {
-    let (time, voice) = (time(rng), VoiceId(rng.below(5) as u64));
+impl History {
+    fn new() -> History {
+        History { calls: 0, vector: Vector::default(), queue: Scheduler::new() }
+    }
+
+    fn schedule(&mut self, rng: &mut Rng, time: u64) {
+        self.calls += 1;
+        let event = any_event(rng, time, &mut self.vector);
+        if self.queue.len() < limits::EVENTS {
+            self.queue.schedule(event);
+            self.vector.line("done");
+        } else {
+            self.vector.line("refused 7");
+        }
+    }
+
+    fn take(&mut self, deadline: u64) {
+        self.calls += 1;
+        self.vector.u8(TAKE);
+        self.vector.u64(deadline);
+        let taken = self.queue.drain_before(deadline);
+        events(&mut self.vector, "taken", &taken);
+    }
+
+    fn finish(mut self) -> Vector {
+        events(&mut self.vector, "waiting", self.queue.pending());
+        let mut vector = Vector::new(HISTORY);
+        vector.u32(self.calls);
+        vector.append(self.vector);
+        vector
+    }
+}
+
+/// Events at, below and above their deadline, and at the last sample of all.
+fn at_the_deadline(rng: &mut Rng) -> Vector {
+    let mut history = History::new();
+    for time in [64, 63, 65, 64, u64::MAX, 63, u64::MAX - 1] {
+        history.schedule(rng, time);
+    }
+    for deadline in [0, 64, 65, u64::MAX - 1, u64::MAX] {
+        history.take(deadline);
+    }
+    history.finish()
+}
+
+/// A history of random calls. A long one fills the queue.
+fn any_history(rng: &mut Rng, calls: usize) -> Vector {
+    let mut history = History::new();
+    let takes = if calls > limits::EVENTS { 400 } else { 6 };
+    for _ in 0..calls {
+        let time = time(rng);
+        if rng.once_in(takes) {
+            history.take(time.wrapping_add(rng.below(2) as u64));
+        } else {
+            history.schedule(rng, time);
+        }
+    }
+    history.finish()
+}
+
+/// An event at this time, which is written to the vector.
+fn any_event(rng: &mut Rng, time: u64, vector: &mut Vector) -> Event {
+    let voice = VoiceId(rng.below(5) as u64);
     let length = if rng.once_in(10) { *rng.pick(&[0, 16, 17, 40]) } else { rng.within(1, 5) };
     let name: Vec<u8> = (0..length).map(|_| *rng.pick(b"abgt")).collect();
     let (first, second) = (Profile::Mixed.sample(rng), Profile::Mixed.sample(rng));

@@ -23,8 +23,14 @@ const SCOPES: [BudgetScope; 2] = [BudgetScope::Global, BudgetScope::PerGroup];
 
 pub fn book(rng: &mut Rng, amount: usize) -> Book {
     let mut book = Book::default();
+    for levels in EDGE_LEVELS {
+        for policy in 0..POLICIES.len() {
+            book.put("victims", 1, victim(rng, policy, &edge_candidates(levels)));
+        }
+    }
     for _ in 0..amount {
-        book.put("victims", 1, victim(rng));
+        let (policy, candidates) = (rng.below(4), candidates(rng));
+        book.put("victims", 1, victim(rng, policy, &candidates));
         book.put("admissions", 1, admission(rng));
     }
     for _ in 0..amount / 20 {
@@ -38,6 +44,24 @@ struct Candidate {
     voice: u64,
     bus: u32,
     level: Option<f32>,
+}
+
+/// Levels in which the first, the second or none is the quietest, by one rule or another.
+const EDGE_LEVELS: [&[Option<f32>]; 9] = [
+    &[],
+    &[Some(2.0), Some(1.0), Some(1.0)],
+    &[Some(f32::NAN), Some(1.0), Some(0.0)],
+    &[Some(1.0), Some(f32::NAN), Some(1.0)],
+    &[None, Some(f32::NAN), Some(0.0)],
+    &[None, None],
+    &[None, Some(f32::INFINITY), Some(f32::NEG_INFINITY)],
+    &[Some(0.0), Some(-0.0)],
+    &[Some(-0.0), Some(0.0)],
+];
+
+fn edge_candidates(levels: &[Option<f32>]) -> Vec<Candidate> {
+    let candidate = |(n, &level): (usize, &Option<f32>)| Candidate { voice: n as u64 + 1, bus: 0, level };
+    levels.iter().enumerate().map(candidate).collect()
 }
 
 /// Candidates with rising ids. Levels repeat often, and some are not known.
@@ -78,15 +102,13 @@ fn level_of(candidates: &[Candidate], voice: VoiceId) -> Option<f32> {
 }
 
 /// The Rust also tracks voices that may not be taken; the store's list has only those that may.
-fn victim(rng: &mut Rng) -> Vector {
-    let policy = rng.below(4);
-    let candidates = candidates(rng);
+fn victim(rng: &mut Rng, policy: usize, candidates: &[Candidate]) -> Vector {
     let mut vector = Vector::new(VICTIM);
     vector.u8(policy as u8);
-    put(&mut vector, &candidates);
+    put(&mut vector, candidates);
     let mut rust = VoiceAllocator::new(0, POLICIES[policy]);
     let mut stranger = u64::MAX;
-    for c in &candidates {
+    for c in candidates {
         if rng.once_in(4) {
             rust.record_spawn(VoiceId(stranger));
             stranger -= 1;
@@ -94,7 +116,7 @@ fn victim(rng: &mut Rng) -> Vector {
         rust.record_spawn(VoiceId(c.voice));
     }
     let place = |voice: VoiceId| candidates.iter().position(|c| c.voice == voice.0);
-    let found = rust.pick_victim(|v| place(v).is_some(), |v| level_of(&candidates, v));
+    let found = rust.pick_victim(|v| place(v).is_some(), |v| level_of(candidates, v));
     match found.and_then(place) {
         Some(place) => vector.line(format_args!("{place} {}", candidates[place].voice)),
         None => vector.line("-"),
