@@ -2,15 +2,11 @@
 // what the Rust answers. docs/VECTORS.md describes the input and the lines.
 mod blocks;
 mod levels;
-
+mod queues;
+mod victims;
 use libc::STDIN_FILENO;
-use wire::field::after;
-use wire::field::byte_at;
-use wire::field::input_room;
-use wire::field::word_at;
-use wire::word::end_line;
-use wire::word::number;
-use wire::word::text;
+use wire::field::{after, byte_at, input_room, word_at};
+use wire::word::{end_line, number, text};
 
 // Answers the vector at `at` by its sort, and gives the position after it. A sort that there is not has its end past the input.
 fn answer(s: &[u8], at: usize) -> usize {
@@ -24,6 +20,10 @@ fn answer(s: &[u8], at: usize) -> usize {
         13 => blocks::seed(s, from),
         14 => blocks::fade(s, from),
         15 => blocks::sum(s, from),
+        31 => queues::history(s, from),
+        41 => victims::victim(s, from),
+        42 => victims::admission(s, from),
+        43 => victims::steals(s, from),
         _ => usize::MAX,
     }
 }

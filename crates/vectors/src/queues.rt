@@ -1,0 +1,199 @@
+// Histories of the event queue.
+use node::name::{Name, is_named, name_of};
+use node::order::{Action, GlideShape, GlideSpace};
+use node::record::VoiceId;
+use node::refusal::refusal_number;
+use scheduler::event::Event;
+use scheduler::queue::{Events, ScheduleAnswer, drain_before, no_events, schedule};
+use wire::field::{after, at_most, byte_at, float, long_at, word_at};
+use wire::word::{and_number, and_sample, end_line, number, text};
+
+// The queue after a call, and the position after the call.
+struct Played {
+    queue: Events,
+    end: usize,
+}
+
+// The name of `len` bytes at `at`.
+fn name_at(s: &[u8], at: usize, len: usize) -> Name {
+    let end = after(at, len);
+    if at <= end {
+        if end <= s.len() {
+            return name_of(&s[at..end]);
+        }
+    }
+    name_of(b"")
+}
+
+fn shape_at(s: &[u8], at: usize) -> GlideShape {
+    match byte_at(s, at) {
+        0 => GlideShape::Hold,
+        1 => GlideShape::Linear,
+        2 => GlideShape::Sine,
+        _ => GlideShape::Exponential(float(word_at(s, after(at, 1)))),
+    }
+}
+
+fn space_at(s: &[u8], at: usize) -> GlideSpace {
+    match byte_at(s, at) {
+        0 => GlideSpace::Raw,
+        _ => GlideSpace::Pitch,
+    }
+}
+
+// The sort of an action; then two floats, and the shape and space of a glide.
+fn action_at(s: &[u8], at: usize) -> Action {
+    let first = float(word_at(s, after(at, 1)));
+    match byte_at(s, at) {
+        0 => Action::Value(first),
+        1 => Action::Glide {
+            target: first,
+            seconds: float(word_at(s, after(at, 5))),
+            shape: shape_at(s, after(at, 9)),
+            space: space_at(s, after(at, 14)),
+        },
+        2 => Action::Gate(first),
+        _ => Action::Free,
+    }
+}
+
+// Schedules the event at `at`: time, voice, name and action.
+fn scheduled(s: &[u8], at: usize, queue: Events) -> Played {
+    let len = byte_at(s, after(at, 16)) as usize;
+    let from = after(at, 17);
+    let end = after(from, len);
+    let event = Event {
+        time: long_at(s, at),
+        voice: VoiceId(long_at(s, after(at, 8))),
+        name: name_at(s, from, len),
+        action: action_at(s, end),
+    };
+    let r = schedule(queue, event);
+    let answer = r.answer;
+    match answer {
+        ScheduleAnswer::Taken => text(b"done\n"),
+        ScheduleAnswer::Refused(refusal) => {
+            text(b"refused");
+            and_number(refusal_number(refusal) as u64);
+            end_line();
+        }
+    }
+    let queue = r.queue;
+    Played {
+        queue,
+        end: after(end, 15),
+    }
+}
+
+fn name_word(name: Name) {
+    if !is_named(name) {
+        text(b"-");
+        return;
+    }
+    let n = name.len as usize;
+    let bytes = name.bytes;
+    text(&bytes[..n]);
+}
+
+fn shape_words(shape: GlideShape) {
+    match shape {
+        GlideShape::Hold => text(b" hold"),
+        GlideShape::Linear => text(b" linear"),
+        GlideShape::Sine => text(b" sine"),
+        GlideShape::Exponential(x) => {
+            text(b" exponential");
+            and_sample(x);
+        }
+    }
+}
+
+fn space_word(space: GlideSpace) {
+    match space {
+        GlideSpace::Raw => text(b" raw"),
+        GlideSpace::Pitch => text(b" pitch"),
+    }
+}
+
+fn event_line(e: Event) {
+    number(e.time);
+    and_number(e.voice.0);
+    let name = e.name;
+    let action = e.action;
+    match action {
+        Action::Value(x) => {
+            text(b" value ");
+            name_word(name);
+            and_sample(x);
+        }
+        Action::Glide {
+            target,
+            seconds,
+            shape,
+            space,
+        } => {
+            text(b" glide ");
+            name_word(name);
+            and_sample(target);
+            and_sample(seconds);
+            shape_words(shape);
+            space_word(space);
+        }
+        Action::Gate(x) => {
+            text(b" gate");
+            and_sample(x);
+        }
+        Action::Free => text(b" free"),
+    }
+    end_line();
+}
+
+fn event_lines(queue: Events) {
+    let n = at_most(queue.count, 256);
+    and_number(n as u64);
+    end_line();
+    let mut i: usize = 0;
+    while i < n {
+        let e = queue.rows[i];
+        event_line(e);
+        i += 1;
+    }
+}
+
+fn taken(s: &[u8], at: usize, queue: Events) -> Played {
+    let d = drain_before(queue, long_at(s, at));
+    text(b"taken");
+    event_lines(d.taken);
+    let queue = d.rest;
+    Played {
+        queue,
+        end: after(at, 8),
+    }
+}
+
+// One call: 1 schedules an event, any other takes those before a deadline.
+fn play(s: &[u8], at: usize, queue: Events) -> Played {
+    match byte_at(s, at) {
+        1 => scheduled(s, after(at, 1), queue),
+        _ => taken(s, after(at, 1), queue),
+    }
+}
+
+// How many calls, and the calls; then the events that wait.
+pub fn history(s: &[u8], at: usize) -> usize {
+    let n = word_at(s, at) as usize;
+    let mut queue = no_events();
+    let mut from = after(at, 4);
+    let mut i: usize = 0;
+    while i < n {
+        let p = play(s, from, queue);
+        queue = p.queue;
+        from = p.end;
+        i += 1;
+        if s.len() < from {
+            return from;
+        }
+    }
+    text(b"waiting");
+    event_lines(queue);
+    from
+}

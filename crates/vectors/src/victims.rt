@@ -1,0 +1,169 @@
+// Victims, admissions and steal records.
+ghost use Prim.Native.Nat.{_≤_};
+use node::record::{NodeId, VoiceId};
+use voice::policy::{
+    Admission, Budget, BudgetScope, Candidate, Candidates, Level, StealPolicy, Victim, counts_for, pick_victim, request_in,
+};
+use voice::steals::{
+    StealFound, StealRecord, Steals, held_steals, mark_cut, no_steals, push_steal, record_level, steal_at, steal_record,
+};
+use wire::field::{after, byte_at, float, long_at, word_at};
+use wire::word::{and_number, and_sample, end_line, number, text};
+
+fn policy_at(s: &[u8], at: usize) -> StealPolicy {
+    match byte_at(s, at) {
+        0 => StealPolicy::Reject,
+        1 => StealPolicy::Oldest,
+        2 => StealPolicy::Newest,
+        _ => StealPolicy::Quietest,
+    }
+}
+
+fn scope_at(s: &[u8], at: usize) -> BudgetScope {
+    match byte_at(s, at) {
+        0 => BudgetScope::Global,
+        _ => BudgetScope::PerGroup,
+    }
+}
+
+fn budget_at(s: &[u8], at: usize) -> Budget {
+    match byte_at(s, at) {
+        0 => Budget::Unlimited,
+        _ => Budget::AtMost(word_at(s, after(at, 1)) as usize),
+    }
+}
+
+fn level_at(s: &[u8], at: usize) -> Level {
+    match byte_at(s, at) {
+        0 => Level::Unknown,
+        _ => Level::Known(float(word_at(s, after(at, 1)))),
+    }
+}
+
+// The tracked voices that count for a newcomer on `bus`: of n rows, each a voice id, its bus and its level.
+fn candidates_at(s: &[u8], at: usize, n: usize, scope: BudgetScope, bus: NodeId) -> Candidates
+    requires { ⌜ n ≤ 64 ⌝ }
+{
+    let nobody = Candidate {
+        voice: VoiceId(0),
+        level: Level::Unknown,
+    };
+    let mut rows = [nobody; 64];
+    let mut count: usize = 0;
+    let mut from = at;
+    let mut i: usize = 0;
+    while i < n {
+        let theirs = NodeId(word_at(s, after(from, 8)));
+        let level = level_at(s, after(from, 12));
+        let voice = VoiceId(long_at(s, from));
+        from = after(from, 17);
+        i += 1;
+        if counts_for(scope, theirs, bus) {
+            rows[count] = Candidate { voice, level };
+            count += 1;
+        }
+    }
+    Candidates { rows, count }
+}
+
+// The policy; then how many candidates, and the candidates.
+pub fn victim(s: &[u8], at: usize) -> usize {
+    let n = word_at(s, after(at, 1)) as usize;
+    if n > 64 {
+        return usize::MAX;
+    }
+    let t = candidates_at(s, after(at, 5), n, BudgetScope::Global, NodeId(0));
+    match pick_victim(t, policy_at(s, at)) {
+        Victim::Nobody => text(b"-"),
+        Victim::Goes { place, voice } => {
+            number(place as u64);
+            and_number(voice.0);
+        }
+    }
+    end_line();
+    after(at, 5 + 17 * n)
+}
+
+// The budget, the policy, the scope and the newcomer's bus; then how many voices are tracked, and the voices.
+pub fn admission(s: &[u8], at: usize) -> usize {
+    let n = word_at(s, after(at, 11)) as usize;
+    if n > 64 {
+        return usize::MAX;
+    }
+    let scope = scope_at(s, after(at, 6));
+    let bus = NodeId(word_at(s, after(at, 7)));
+    let t = candidates_at(s, after(at, 15), n, scope, bus);
+    match request_in(budget_at(s, at), policy_at(s, after(at, 5)), t) {
+        Admission::Admit => text(b"admit"),
+        Admission::Reject => text(b"reject"),
+        Admission::Steal { place: _, voice } => {
+            text(b"steal");
+            and_number(voice.0);
+        }
+    }
+    end_line();
+    after(at, 15 + 17 * n)
+}
+
+// One call: 1 pushes a record, its sample, level and cut mark; any other marks the record of a number.
+fn called(s: &[u8], at: usize, steals: Steals) -> Steals {
+    let n = long_at(s, after(at, 1));
+    match byte_at(s, at) {
+        1 => {
+            let level = level_at(s, after(at, 9));
+            let cut = byte_at(s, after(at, 14)) != 0;
+            push_steal(steals, steal_record(n, level, cut))
+        }
+        _ => mark_cut(steals, n),
+    }
+}
+
+fn record_line(r: StealRecord) {
+    number(r.sample);
+    let level = record_level(r);
+    match level {
+        Level::Unknown => text(b" -"),
+        Level::Known(x) => and_sample(x),
+    }
+    if r.cut {
+        text(b" cut");
+    } else {
+        text(b" faded");
+    }
+    end_line();
+}
+
+fn steal_line(found: StealFound) {
+    match found {
+        StealFound::Nothing => text(b"-\n"),
+        StealFound::Record(r) => record_line(r),
+    }
+}
+
+fn steal_lines(steals: Steals) {
+    text(b"steals");
+    and_number(steals.total);
+    end_line();
+    let n = held_steals(steals);
+    for i in 0..n {
+        steal_line(steal_at(steals, i));
+    }
+}
+
+// How many calls, and the calls; then the steals and the newest records.
+pub fn steals(s: &[u8], at: usize) -> usize {
+    let n = word_at(s, at) as usize;
+    let mut steals = no_steals();
+    let mut from = after(at, 4);
+    let mut i: usize = 0;
+    while i < n {
+        steals = called(s, from, steals);
+        from = after(from, 15);
+        i += 1;
+        if s.len() < from {
+            return from;
+        }
+    }
+    steal_lines(steals);
+    from
+}
