@@ -1,12 +1,17 @@
 // Answers vectors: reads them from standard input, calls the proved functions, and writes what they answer, for comparison with
 // what the Rust answers. docs/VECTORS.md describes the input and the lines.
-mod blocks;
-mod levels;
-mod queues;
-mod victims;
 use libc::STDIN_FILENO;
-use wire::field::{after, byte_at, input_room, word_at};
-use wire::word::{end_line, number, text};
+use vec_bus::blocks;
+use vec_bus::levels;
+use vec_voice::queues;
+use vec_voice::victims;
+use wire::field::after;
+use wire::field::byte_at;
+use wire::field::input_room;
+use wire::field::word_at;
+use wire::word::end_line;
+use wire::word::number;
+use wire::word::text;
 
 // Answers the vector at `at` by its sort, and gives the position after it. A sort that there is not has its end past the input.
 fn answer(s: &[u8], at: usize) -> usize {

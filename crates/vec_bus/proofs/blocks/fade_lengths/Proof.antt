@@ -1,8 +1,8 @@
--- `vectors::blocks::fade_lengths` is safe and ends. Assumes nothing.
+-- `vec_bus::blocks::fade_lengths` is safe and ends. Assumes nothing.
 use Prim.Native.Nat.{_-_}
 use borrow.Author.Needs.{needs}
-use Rattle.vectors.proofs.blocks.fade_lengths.Statement.{statement}
-use Rattle.vectors.proofs.blocks.fade_lengths.Tie as tie
+use Rattle.vec_bus.proofs.blocks.fade_lengths.Statement.{statement}
+use Rattle.vec_bus.proofs.blocks.fade_lengths.Tie as tie
 
 abbrev Inv-loop : tie.InvT-loop
 Inv-loop s at first end last₀ rate₀ last rate = Unit {0}

@@ -1,8 +1,8 @@
--- `vectors::queues::event_lines` is safe and ends. Assumes nothing.
+-- `vec_voice::queues::event_lines` is safe and ends. Assumes nothing.
 use Prim.Native.Nat.{_≤_, _-_}
 use borrow.Author.Needs.{needs}
-use Rattle.vectors.proofs.queues.event_lines.Statement.{statement}
-use Rattle.vectors.proofs.queues.event_lines.Tie as tie
+use Rattle.vec_voice.proofs.queues.event_lines.Statement.{statement}
+use Rattle.vec_voice.proofs.queues.event_lines.Tie as tie
 
 abbrev Inv-loop : tie.InvT-loop
 Inv-loop queue n i₀ i = i ≤ n

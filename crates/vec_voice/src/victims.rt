@@ -1,14 +1,38 @@
 // Victims, admissions and steal records.
 ghost use Prim.Native.Nat.{_≤_};
-use node::record::{NodeId, VoiceId};
-use voice::policy::{
-    Admission, Budget, BudgetScope, Candidate, Candidates, Level, StealPolicy, Victim, counts_for, pick_victim, request_in,
-};
-use voice::steals::{
-    StealFound, StealRecord, Steals, held_steals, mark_cut, no_steals, push_steal, record_level, steal_at, steal_record,
-};
-use wire::field::{after, byte_at, float, long_at, word_at};
-use wire::word::{and_number, and_sample, end_line, number, text};
+use node::record::NodeId;
+use node::record::VoiceId;
+use voice::policy::Admission;
+use voice::policy::Budget;
+use voice::policy::BudgetScope;
+use voice::policy::Candidate;
+use voice::policy::Candidates;
+use voice::policy::Level;
+use voice::policy::StealPolicy;
+use voice::policy::Victim;
+use voice::policy::counts_for;
+use voice::policy::pick_victim;
+use voice::policy::request_in;
+use voice::steals::StealFound;
+use voice::steals::StealRecord;
+use voice::steals::Steals;
+use voice::steals::held_steals;
+use voice::steals::mark_cut;
+use voice::steals::no_steals;
+use voice::steals::push_steal;
+use voice::steals::record_level;
+use voice::steals::steal_at;
+use voice::steals::steal_record;
+use wire::field::after;
+use wire::field::byte_at;
+use wire::field::float;
+use wire::field::long_at;
+use wire::field::word_at;
+use wire::word::and_number;
+use wire::word::and_sample;
+use wire::word::end_line;
+use wire::word::number;
+use wire::word::text;
 
 fn policy_at(s: &[u8], at: usize) -> StealPolicy {
     match byte_at(s, at) {

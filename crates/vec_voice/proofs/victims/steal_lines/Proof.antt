@@ -1,8 +1,8 @@
--- `vectors::victims::steal_lines` is safe and ends. Assumes nothing.
+-- `vec_voice::victims::steal_lines` is safe and ends. Assumes nothing.
 use Prim.Native.Nat.{_-_}
 use borrow.Author.Needs.{needs}
-use Rattle.vectors.proofs.victims.steal_lines.Statement.{statement}
-use Rattle.vectors.proofs.victims.steal_lines.Tie as tie
+use Rattle.vec_voice.proofs.victims.steal_lines.Statement.{statement}
+use Rattle.vec_voice.proofs.victims.steal_lines.Tie as tie
 
 abbrev Inv-loop : tie.InvT-loop
 Inv-loop steals n i₀ i = Unit {0}

@@ -1,8 +1,8 @@
--- `vectors::queues::history` is safe and ends. Assumes nothing.
+-- `vec_voice::queues::history` is safe and ends. Assumes nothing.
 use Prim.Native.Nat.{_-_}
 use borrow.Author.Needs.{needs}
-use Rattle.vectors.proofs.queues.history.Statement.{statement}
-use Rattle.vectors.proofs.queues.history.Tie as tie
+use Rattle.vec_voice.proofs.queues.history.Statement.{statement}
+use Rattle.vec_voice.proofs.queues.history.Tie as tie
 
 abbrev Inv-loop : tie.InvT-loop
 Inv-loop s at n queue₀ from₀ i₀ t8 queue from i = Unit {0}

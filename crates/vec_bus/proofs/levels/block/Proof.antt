@@ -1,8 +1,8 @@
--- `vectors::levels::block` is safe. Assumes nothing.
+-- `vec_bus::levels::block` is safe. Assumes nothing.
 use borrow.Author.Needs.{needs}
 use Rattle.wire.proofs.Part.{counted}
-use Rattle.vectors.proofs.levels.block.Statement.{statement}
-use Rattle.vectors.proofs.levels.block.Tie as tie
+use Rattle.vec_bus.proofs.levels.block.Statement.{statement}
+use Rattle.vec_bus.proofs.levels.block.Tie as tie
 
 word-at-requires : tie.Need-word-at-requires
 word-at-requires c κs = search needs

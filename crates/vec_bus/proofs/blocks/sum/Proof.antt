@@ -1,8 +1,8 @@
--- `vectors::blocks::sum` is safe. Assumes nothing.
+-- `vec_bus::blocks::sum` is safe. Assumes nothing.
 use borrow.Author.Needs.{needs}
 use Rattle.wire.proofs.Part.{counted}
-use Rattle.vectors.proofs.blocks.sum.Statement.{statement}
-use Rattle.vectors.proofs.blocks.sum.Tie as tie
+use Rattle.vec_bus.proofs.blocks.sum.Statement.{statement}
+use Rattle.vec_bus.proofs.blocks.sum.Tie as tie
 
 after-requires : tie.Need-after-requires
 after-requires c κs = search needs

@@ -1,4 +1,4 @@
--- `vectors::queues::name_word` is safe. Assumes nothing.
+-- `vec_voice::queues::name_word` is safe. Assumes nothing.
 use Prim.Native.Nat.{ℕ, _≤_}
 use mathlib.Core.Path.{_≡_, sym, _∙_}
 use native.Mathlib.Omega.{arith}
@@ -7,8 +7,8 @@ use borrow.Author.Needs.{needs, length-unmapped}
 use borrow.Author.Tests.{not-false}
 use lib.ListN.{length-take}
 use Rattle.node.specs.NameLaws.{name-long}
-use Rattle.vectors.proofs.queues.name_word.Statement.{statement}
-use Rattle.vectors.proofs.queues.name_word.Tie as tie
+use Rattle.vec_voice.proofs.queues.name_word.Statement.{statement}
+use Rattle.vec_voice.proofs.queues.name_word.Tie as tie
 
 -- the name's length is within its array
 within : (c : tie.Else1) → let name = c .before .before .args .name in (name .len ≤ 16) × (length (name .bytes) ≡ 16)

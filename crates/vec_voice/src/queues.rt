@@ -1,12 +1,29 @@
 // Histories of the event queue.
-use node::name::{Name, is_named, name_of};
-use node::order::{Action, GlideShape, GlideSpace};
+use node::name::Name;
+use node::name::is_named;
+use node::name::name_of;
+use node::order::Action;
+use node::order::GlideShape;
+use node::order::GlideSpace;
 use node::record::VoiceId;
 use node::refusal::refusal_number;
 use scheduler::event::Event;
-use scheduler::queue::{Events, ScheduleAnswer, drain_before, no_events, schedule};
-use wire::field::{after, at_most, byte_at, float, long_at, word_at};
-use wire::word::{and_number, and_sample, end_line, number, text};
+use scheduler::queue::Events;
+use scheduler::queue::ScheduleAnswer;
+use scheduler::queue::drain_before;
+use scheduler::queue::no_events;
+use scheduler::queue::schedule;
+use wire::field::after;
+use wire::field::at_most;
+use wire::field::byte_at;
+use wire::field::float;
+use wire::field::long_at;
+use wire::field::word_at;
+use wire::word::and_number;
+use wire::word::and_sample;
+use wire::word::end_line;
+use wire::word::number;
+use wire::word::text;
 
 // The queue after a call, and the position after the call.
 struct Played {

@@ -1,8 +1,8 @@
--- `vectors::victims::steals` is safe and ends. Assumes nothing.
+-- `vec_voice::victims::steals` is safe and ends. Assumes nothing.
 use Prim.Native.Nat.{_-_}
 use borrow.Author.Needs.{needs}
-use Rattle.vectors.proofs.victims.steals.Statement.{statement}
-use Rattle.vectors.proofs.victims.steals.Tie as tie
+use Rattle.vec_voice.proofs.victims.steals.Statement.{statement}
+use Rattle.vec_voice.proofs.victims.steals.Tie as tie
 
 abbrev Inv-loop : tie.InvT-loop
 Inv-loop s at n steals₀ from₀ i₀ steals from i = Unit {0}

@@ -1,10 +1,10 @@
--- `vectors::victims::candidates_at` is safe and ends: no more candidates are kept than rows were read. Assumes nothing.
+-- `vec_voice::victims::candidates_at` is safe and ends: no more candidates are kept than rows were read. Assumes nothing.
 use Prim.Native.Nat.{_≤_, _-_}
 use mathlib.Core.Path.{_≡_}
 use lib.ListN.{length}
 use borrow.Author.Needs.{needs}
-use Rattle.vectors.proofs.victims.candidates_at.Statement.{statement}
-use Rattle.vectors.proofs.victims.candidates_at.Tie as tie
+use Rattle.vec_voice.proofs.victims.candidates_at.Statement.{statement}
+use Rattle.vec_voice.proofs.victims.candidates_at.Tie as tie
 
 abbrev Inv-loop : tie.InvT-loop
 Inv-loop s at n scope bus rows₀ count₀ from₀ i₀ rows count from i = (i ≤ n) × (count ≤ i) × (length rows ≡ 64)

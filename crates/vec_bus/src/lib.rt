@@ -1,0 +1,3 @@
+// Answers the vectors of `level` and `bus`.
+pub mod blocks;
+pub mod levels;
