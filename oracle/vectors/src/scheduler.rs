@@ -16,6 +16,7 @@ const TAKE: u8 = 2;
 pub fn book(rng: &mut Rng, amount: usize) -> Book {
     let mut book = Book::default();
     book.put("queue histories", 1, at_the_deadline(rng));
+    book.put("queue histories", 1, filled(rng));
     for n in 0..amount {
         let calls = if n % 50 == 49 { rng.within(257, 300) } else { rng.within(1, 30) };
         book.put("queue histories", 1, any_history(rng, calls));
@@ -80,6 +81,19 @@ fn at_the_deadline(rng: &mut Rng) -> Vector {
     }
     for deadline in [0, 64, 65, u64::MAX - 1, u64::MAX] {
         history.take(deadline);
+    }
+    history.finish()
+}
+
+/// A queue that is filled, overfilled, and filled again.
+fn filled(rng: &mut Rng) -> Vector {
+    let mut history = History::new();
+    for n in 0..limits::EVENTS + 2 {
+        history.schedule(rng, n as u64 % 50);
+    }
+    history.take(1);
+    for _ in 0..8 {
+        history.schedule(rng, 20);
     }
     history.finish()
 }

@@ -33,8 +33,11 @@ pub fn book(rng: &mut Rng, amount: usize) -> Book {
         book.put("victims", 1, victim(rng, policy, &candidates));
         book.put("admissions", 1, admission(rng));
     }
+    for records in [1, 64, 65, 100] {
+        book.put("steal records", 1, marked(rng, records));
+    }
     for _ in 0..amount / 20 {
-        book.put("steal records", 1, records(rng));
+        book.put("steal records", 1, any_steals(rng));
     }
     book
 }
@@ -160,42 +163,76 @@ fn admission(rng: &mut Rng) -> Vector {
     vector
 }
 
-/// A call on the steals: a number, and a record's level and cut mark, which a mark does not look at.
-fn call(vector: &mut Vector, sort: u8, number: u64, record: &StealRecord) {
-    vector.u8(sort);
-    vector.u64(number);
-    vector.level(record.level);
-    vector.u8(record.cut.into());
+/// A history of steals in the making. The Rust keeps all of them in a `Vec`.
+struct Steals {
+    calls: usize,
+    vector: Vector,
+    made: Vec<StealRecord>,
 }
 
-/// A history of steals, and the newest records at its end. The Rust keeps all of them in a `Vec`.
-fn records(rng: &mut Rng) -> Vector {
-    let calls = *rng.pick(&[0, 1, 5, 63, 64, 65, 90, 200]);
-    let mut vector = Vector::new(RECORDS);
-    vector.u32(calls);
-    let mut steals: Vec<StealRecord> = Vec::new();
-    let mut sample = 0;
-    for _ in 0..calls {
-        let mut record =
-            StealRecord { sample, level: rng.flag().then(|| floats::block(rng, 1)[0]), cut: rng.once_in(3) };
-        if rng.once_in(4) {
-            let number = rng.below(steals.len() + 3);
-            call(&mut vector, MARK, number as u64, &record);
-            if let Some(marked) = steals.get_mut(number) {
-                marked.cut = true;
-            }
-        } else {
-            record.sample += rng.below(100) as u64;
-            sample = record.sample;
-            call(&mut vector, PUSH, sample, &record);
-            steals.push(record);
+impl Steals {
+    fn new() -> Steals {
+        Steals { calls: 0, vector: Vector::default(), made: Vec::new() }
+    }
+
+    /// A call: a number, and a record's level and cut mark, which a mark does not look at.
+    fn call(&mut self, sort: u8, number: u64, level: Option<f32>, cut: bool) {
+        self.calls += 1;
+        self.vector.u8(sort);
+        self.vector.u64(number);
+        self.vector.level(level);
+        self.vector.u8(cut.into());
+    }
+
+    fn push(&mut self, rng: &mut Rng) {
+        let sample = self.made.last().map_or(0, |r| r.sample) + rng.below(100) as u64;
+        let (level, cut) = (rng.flag().then(|| floats::block(rng, 1)[0]), rng.once_in(3));
+        self.call(PUSH, sample, level, cut);
+        self.made.push(StealRecord { sample, level, cut });
+    }
+
+    fn mark(&mut self, number: usize) {
+        self.call(MARK, number as u64, None, false);
+        if let Some(marked) = self.made.get_mut(number) {
+            marked.cut = true;
         }
     }
-    vector.line(format_args!("steals {}", steals.len()));
-    for record in &steals[steals.len().saturating_sub(limits::RECORDS)..] {
-        let level = record.level.map_or("-".to_string(), hex32);
-        let cut = if record.cut { "cut" } else { "faded" };
-        vector.line(format_args!("{} {level} {cut}", record.sample));
+
+    /// The history, and the newest records at its end.
+    fn finish(self) -> Vector {
+        let mut vector = Vector::new(RECORDS);
+        vector.u32(self.calls);
+        vector.append(self.vector);
+        vector.line(format_args!("steals {}", self.made.len()));
+        for record in &self.made[self.made.len().saturating_sub(limits::RECORDS)..] {
+            let level = record.level.map_or("-".to_string(), hex32);
+            let cut = if record.cut { "cut" } else { "faded" };
+            vector.line(format_args!("{} {level} {cut}", record.sample));
+        }
+        vector
     }
-    vector
+}
+
+/// So many records, and then marks of every number.
+fn marked(rng: &mut Rng, records: usize) -> Vector {
+    let mut steals = Steals::new();
+    for _ in 0..records {
+        steals.push(rng);
+    }
+    for number in 0..records + 2 {
+        steals.mark(number);
+    }
+    steals.finish()
+}
+
+fn any_steals(rng: &mut Rng) -> Vector {
+    let mut steals = Steals::new();
+    for _ in 0..*rng.pick(&[0, 1, 5, 63, 64, 65, 90, 200]) {
+        if rng.once_in(4) {
+            steals.mark(rng.below(steals.made.len() + 3));
+        } else {
+            steals.push(rng);
+        }
+    }
+    steals.finish()
 }
