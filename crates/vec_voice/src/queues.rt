@@ -16,6 +16,7 @@ use scheduler::queue::schedule;
 use wire::field::after;
 use wire::field::at_most;
 use wire::field::byte_at;
+use wire::field::bytes_at;
 use wire::field::float;
 use wire::field::long_at;
 use wire::field::word_at;
@@ -29,17 +30,6 @@ use wire::word::text;
 struct Played {
     queue: Events,
     end: usize,
-}
-
-// The name of `len` bytes at `at`.
-fn name_at(s: &[u8], at: usize, len: usize) -> Name {
-    let end = after(at, len);
-    if at <= end {
-        if end <= s.len() {
-            return name_of(&s[at..end]);
-        }
-    }
-    name_of(b"")
 }
 
 fn shape_at(s: &[u8], at: usize) -> GlideShape {
@@ -82,7 +72,7 @@ fn scheduled(s: &[u8], at: usize, queue: Events) -> Played {
     let event = Event {
         time: long_at(s, at),
         voice: VoiceId(long_at(s, after(at, 8))),
-        name: name_at(s, from, len),
+        name: name_of(bytes_at(s, from, len)),
         action: action_at(s, end),
     };
     let r = schedule(queue, event);

@@ -3,6 +3,7 @@
 use libc::STDIN_FILENO;
 use vec_bus::blocks;
 use vec_bus::levels;
+use vec_graph::script;
 use vec_voice::queues;
 use vec_voice::victims;
 use wire::field::after;
@@ -25,6 +26,7 @@ fn answer(s: &[u8], at: usize) -> usize {
         13 => blocks::seed(s, from),
         14 => blocks::fade(s, from),
         15 => blocks::sum(s, from),
+        21 => script(s, from),
         31 => queues::history(s, from),
         41 => victims::victim(s, from),
         42 => victims::admission(s, from),

@@ -4,7 +4,7 @@ ghost use mathlib.Core.Path.{_≡_};
 ghost use Prim.Native.Nat.{min};
 ghost use lib.ListN.{length};
 ghost use lib.Ieee.{binary32, binary64, ofBits};
-ghost use Rattle.wire.specs.Field.{moved, little, fields};
+ghost use Rattle.wire.specs.Field.{moved, little, run, fields};
 
 // The position n bytes after `at`. It stops at the last position of all, which no input reaches.
 pub fn after(at: usize, n: usize) -> usize
@@ -48,6 +48,17 @@ pub fn long_at(s: &[u8], at: usize) -> u64
     ensures { λ r. ⌜ r ≡ little 8 (now (s .entry)) at ⌝ }
 {
     word_at(s, at) as u64 + word_at(s, after(at, 4)) as u64 * 0x1_0000_0000
+}
+
+// The `len` bytes from `at` on, or none where the input ends before.
+pub fn bytes_at(s: &[u8], at: usize, len: usize) -> &[u8]
+    ensures { λ r. ⌜ now r ≡ run (now (s .entry)) at len ⌝ }
+{
+    let end = after(at, len);
+    if end <= s.len() {
+        return &s[at..end];
+    }
+    &s[0..0]
 }
 
 // The float of a pattern. Every pattern of a NaN is the same one.

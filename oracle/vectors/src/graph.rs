@@ -25,10 +25,12 @@ const FED_PORT: u8 = 8;
 const SOURCES: u8 = 9;
 const STATE: u8 = 10;
 const ADD_OWNED: u8 = 11;
-const REMOVE_OWNED: u8 = 12;
+const PUT: u8 = 12;
+const REMOVE_VOICE: u8 = 13;
 
 pub fn book(rng: &mut Rng, amount: usize) -> Book {
     let mut book = Book::default();
+    book.put("graph scripts", 1, of_the_dead());
     for n in 0..amount {
         let script = match n % 100 {
             0 => full(rng, n % 200 == 0),
@@ -50,6 +52,8 @@ struct Script {
     owners: HashMap<NodeId, u64>,
     log: Log,
     given: u32,
+    /// Whether an edge was put to or from a dead node.
+    dangling: bool,
 }
 
 impl Script {
@@ -61,6 +65,7 @@ impl Script {
             owners: HashMap::new(),
             log: Log::default(),
             given: 0,
+            dangling: false,
         }
     }
 
@@ -115,30 +120,53 @@ impl Script {
         self.answer(result);
     }
 
-    /// Adds a run of a voice's nodes and joins each to the one before it.
-    fn add_owned(&mut self, voice: u64, count: usize) {
+    /// Adds a node of a voice.
+    fn add_owned(&mut self, voice: u64, ports: usize) -> u32 {
         self.call(ADD_OWNED, &[]);
         self.vector.u64(voice);
-        self.vector.u32(count);
-        let first = self.given;
-        for n in 0..count as u32 {
-            self.node(b"Tone", 2, 0);
-            let id = self.place(b"Tone", 2, 0);
-            self.owners.insert(id, voice);
-            if n > 0 {
-                self.graph.connect(NodeId::numbered(first + n - 1), id, 1);
-            }
-        }
-        self.vector.line(format_args!("node {first}"));
+        self.vector.u32(ports);
+        let id = self.place(b"Tone", ports, 0);
+        self.owners.insert(id, voice);
+        self.vector.line(format_args!("node {}", id.index()));
+        id.index() as u32
     }
 
-    fn remove_owned(&mut self, voice: u64) {
-        self.call(REMOVE_OWNED, &[]);
-        self.vector.u64(voice);
-        for id in self.graph.live_nodes() {
-            if self.owners.get(&id) == Some(&voice) {
-                self.graph.remove_node(id);
+    /// Puts an edge between nodes that may be a voice's, or dead.
+    fn put(&mut self, from: u32, to: u32, port: u32) {
+        self.call(PUT, &[from, to, port]);
+        let (from, to) = (NodeId::numbered(from), NodeId::numbered(to));
+        self.dangling |= [from, to].iter().any(|&id| self.graph.node_spec(id).is_none());
+        self.graph.connect(from, to, port as usize);
+        self.vector.line("done");
+    }
+
+    /// Adds a run of a voice's nodes, each fed by the one before it; the last feeds a node of the host, if that lives.
+    fn add_voice(&mut self, voice: u64, count: usize, bus: u32) {
+        let mut last = None;
+        for _ in 0..count {
+            let id = self.add_owned(voice, 2);
+            if let Some(last) = last {
+                self.put(last, id, 1);
             }
+            last = Some(id);
+        }
+        let free = host::free_port(&self.graph, NodeId::numbered(bus));
+        if let (Some(last), Some(port)) = (last, free) {
+            self.put(last, bus, port as u32);
+        }
+    }
+
+    /// Removes the nodes of a voice that has some.
+    fn remove_voice(&mut self, voice: u64) {
+        let mut nodes = self.graph.live_nodes();
+        nodes.retain(|id| self.owners.get(id) == Some(&voice));
+        if nodes.is_empty() {
+            return;
+        }
+        self.call(REMOVE_VOICE, &[]);
+        self.vector.u64(voice);
+        for id in nodes {
+            self.graph.remove_node(id);
         }
         self.vector.line("done");
     }
@@ -211,9 +239,10 @@ impl Script {
         self.vector.line(format_args!("port {}", or_dash(port)));
     }
 
-    /// The sources of a node, which the Rust resolves at a prepare: asked only of a prepared graph.
+    /// The sources of a node, which the Rust resolves at a prepare and leaves out where they are dead: asked only of a
+    /// prepared graph in which no edge was put to or from a dead node.
     fn sources(&mut self, id: u32) {
-        if self.graph.is_dirty() {
+        if self.graph.is_dirty() || self.dangling {
             return;
         }
         self.call(SOURCES, &[id]);
@@ -244,6 +273,22 @@ impl Script {
     }
 }
 
+/// Edges to and from a dead node, which feed nothing and order nothing.
+fn of_the_dead() -> Vector {
+    let mut script = Script::new();
+    script.add(b"Tone", 1, 0);
+    script.add(b"Node", 2, 1);
+    script.add(b"Node", 2, 0);
+    script.remove(0);
+    script.put(0, 1, 0);
+    script.prepare();
+    script.put(2, 1, 0);
+    script.put(0, 2, 0);
+    script.put(1, 0, 0);
+    script.prepare();
+    script.finish()
+}
+
 /// A few nodes and many calls of every kind.
 fn mixed(rng: &mut Rng) -> Vector {
     let mut script = Script::new();
@@ -268,9 +313,10 @@ fn mixed(rng: &mut Rng) -> Vector {
             8 => script.free_port(a),
             9 => script.fed_port(from, to),
             10 => script.sources(a),
-            11 => script.add_owned(rng.within(1, 3) as u64, rng.within(1, 4)),
-            12 => script.remove_owned(rng.within(1, 3) as u64),
+            11 => script.add_voice(rng.within(1, 3) as u64, rng.within(1, 4), a),
+            12 => script.remove_voice(rng.within(1, 3) as u64),
             13 => script.state(),
+            14 if from < script.given && to < script.given => script.put(from, to, rng.below(4) as u32),
             _ => script.connect(from, to, rng.below(4) as u32),
         }
     }
