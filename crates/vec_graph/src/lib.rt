@@ -14,12 +14,12 @@ use graph::host::new_graph;
 use graph::host::remove_node;
 use graph::host::set_sink;
 use graph::nodes::node_at;
+use graph::prepare::prepare_graph;
 use graph::removal::remove_voice;
 use graph::state::Answer;
 use graph::state::Changed;
 use graph::state::Given;
 use graph::state::Graph;
-use graph::state::Order;
 use graph::state::Sink;
 use graph::state::with_edges;
 use node::record::Edge;
@@ -29,7 +29,7 @@ use node::record::Nodes;
 use node::record::VoiceId;
 use node::refusal::Refusal;
 use node::refusal::refusal_number;
-use order::Readiness;
+use order::Order;
 use wire::field::after;
 use wire::field::at_most;
 use wire::field::byte_at;
@@ -263,43 +263,15 @@ fn show(at: usize, g: Graph) -> Played {
     Played { graph: g, end: at }
 }
 
-// The graph, prepared with that order.
-fn with_order(g: Graph, order: Order) -> Graph {
-    let nodes = g.nodes;
-    let edges = g.edges;
-    let sink = g.sink;
-    Graph {
-        nodes,
-        edges,
-        sink,
-        prepared: true,
-        order,
-        next: g.next,
-    }
-}
-
 fn prepare(at: usize, g: Graph) -> Played {
-    let nodes = g.nodes;
-    let edges = g.edges;
-    let r = order::prepare(nodes, edges);
-    let answer = r.answer;
+    let c = prepare_graph(g);
+    let graph = c.graph;
+    let answer = c.answer;
     match answer {
-        Readiness::Refused(refusal) => {
-            refused_line(refusal);
-            Played { graph: g, end: at }
-        }
-        Readiness::Ready => {
-            let found = r.order;
-            let ids = found.ids;
-            let order = Order {
-                ids,
-                count: found.count,
-            };
-            order_line(order);
-            let graph = with_order(g, order);
-            Played { graph, end: at }
-        }
+        Answer::Done => order_line(graph.order),
+        Answer::Refused(refusal) => refused_line(refusal),
     }
+    Played { graph, end: at }
 }
 
 // A node of a voice, with so many ports.

@@ -4,6 +4,7 @@ use libc::STDIN_FILENO;
 use vec_bus::blocks;
 use vec_bus::levels;
 use vec_graph::script;
+use vec_synthdef::definition;
 use vec_voice::queues;
 use vec_voice::victims;
 use wire::field::after;
@@ -31,6 +32,7 @@ fn answer(s: &[u8], at: usize) -> usize {
         41 => victims::victim(s, from),
         42 => victims::admission(s, from),
         43 => victims::steals(s, from),
+        51 => definition(s, from),
         _ => usize::MAX,
     }
 }

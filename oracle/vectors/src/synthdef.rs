@@ -13,14 +13,95 @@ const DEFINITION: u8 = 51;
 
 pub fn book(rng: &mut Rng, amount: usize) -> Book {
     let mut book = Book::default();
+    for def in at_the_limits().iter().chain(&each_kind()) {
+        book.put("definitions", 1, asked(rng, def, &[0, 1]));
+    }
     for n in 0..amount {
         let mut def = definition(rng, n);
         if n % 5 == 0 {
             spoil(rng, &mut def);
         }
-        book.put("definitions", 1, asked(rng, &def));
+        let flags: Vec<u32> = (0..rng.within(1, 4)).map(|_| rng.word() & rng.word() & 0xff_ffff).collect();
+        book.put("definitions", 1, asked(rng, &def, &flags));
     }
     book
+}
+
+/// A chain of so many nodes of eight ports, each fed by the one before it at port 0; the last is the output.
+fn chain(count: usize) -> Definition {
+    let ports = vec!["in".to_string(); limits::DEF_PORTS];
+    let edge = |n: usize| Edge { from: n - 1, to: n, port: 0 };
+    Definition {
+        nodes: vec![Node::new(b"Neg", ports); count],
+        edges: (1..count).map(edge).collect(),
+        params: vec![],
+        output: count.saturating_sub(1),
+    }
+}
+
+/// Definitions at each limit and just past it.
+fn at_the_limits() -> Vec<Definition> {
+    let mut defs: Vec<Definition> = [0, 1, 24, 25].map(chain).into();
+    let mut put = |change: &dyn Fn(&mut Definition)| {
+        let mut def = chain(3);
+        change(&mut def);
+        defs.push(def);
+    };
+    for length in [0, 1, 16, 17] {
+        put(&|def| def.nodes[1].kind = vec![b'N'; length]);
+        put(&|def| def.params.push(Param { name: vec![b'N'; length], node: 0 }));
+    }
+    for count in [8, 9] {
+        put(&|def| def.params = vec![Param { name: b"a".to_vec(), node: 0 }; count]);
+        put(&|def| def.nodes[1].ports = vec!["in".to_string(); count]);
+    }
+    for count in [48, 49] {
+        put(&|def| def.edges = vec![Edge { from: 0, to: 1, port: 7 }; count]);
+    }
+    for node in [2, 3, 255] {
+        put(&|def| def.output = node);
+        put(&|def| def.params.push(Param { name: b"a".to_vec(), node }));
+        put(&|def| def.edges.push(Edge { from: 0, to: node, port: 1 }));
+        put(&|def| def.edges.push(Edge { from: node, to: 0, port: 1 }));
+    }
+    for port in [6, 7] {
+        put(&|def| def.edges.push(Edge { from: 0, to: 1, port: port + 1 }));
+        put(&|def| {
+            def.nodes[1].ports.truncate(7);
+            def.nodes[1].required = 1 << port;
+        });
+        for (which, name) in LOOKED_UP.iter().enumerate() {
+            put(&|def| {
+                let node = &mut def.nodes[1];
+                node.ports = vec!["a".to_string(); 7];
+                node.ports[6] = name.to_string();
+                node.named = [None; 3];
+                node.named[which] = Some(port);
+            });
+        }
+    }
+    // A cycle of one node, one of two, and one that a later edge undoes.
+    put(&|def| def.edges.push(Edge { from: 1, to: 1, port: 1 }));
+    put(&|def| def.edges.push(Edge { from: 1, to: 0, port: 1 }));
+    put(&|def| def.edges.insert(0, Edge { from: 2, to: 1, port: 0 }));
+    defs
+}
+
+/// A node of each kind that has a rule, fed at one of its ports, at all of them, or at none, by a node without one.
+fn each_kind() -> Vec<Definition> {
+    let ports = ["a", "in", "level", "amp", "in"].map(str::to_string);
+    let mut defs = Vec::new();
+    for kind in RULED.iter().chain(silence_pass_through()).chain(&["Tone"]) {
+        let def = |ports: &[String], fed: std::ops::Range<usize>| Definition {
+            nodes: vec![Node::new(b"Tone", vec![]), Node::new(kind.as_bytes(), ports.to_vec())],
+            edges: fed.map(|port| Edge { from: 0, to: 1, port }).collect(),
+            params: vec![],
+            output: 1,
+        };
+        defs.extend((0..ports.len()).map(|port| def(&ports, port..port + 1)));
+        defs.extend([def(&ports, 0..ports.len()), def(&ports, 0..0), def(&[], 0..0)]);
+    }
+    defs
 }
 
 /// Names with a rule of their own, twice as likely as the rest together.
@@ -155,19 +236,17 @@ fn put(vector: &mut Vector, def: &Definition) {
     vector.u8(byte(Some(def.output)));
 }
 
-fn asked(rng: &mut Rng, def: &Definition) -> Vector {
+/// A definition, the done flags that its nodes are given, and two names of parameters.
+fn asked(rng: &mut Rng, def: &Definition, flags: &[u32]) -> Vector {
     let mut vector = Vector::new(DEFINITION);
     put(&mut vector, def);
-    let flags: Vec<u32> = (0..rng.within(1, 4)).map(|_| rng.word() & rng.word() & 0xff_ffff).collect();
-    let names: Vec<&str> = (0..2)
-        .map(|_| *rng.pick(&["gate", "freq", "fre", "FREQ", "a", "", "sixteen letters!", "seventeen letters"]))
-        .collect();
+    let names = ["gate", "freq", "fre", "FREQ", "a", "", "sixteen letters!", "seventeen letters"];
+    let names = [*rng.pick(&names), *rng.pick(&names)];
     vector.u8(byte(Some(flags.len())));
-    for &done in &flags {
+    for &done in flags {
         vector.u32(done as usize);
     }
-    vector.u8(byte(Some(names.len())));
-    for name in &names {
+    for name in names {
         vector.name(name.as_bytes());
     }
     match instance(def) {
@@ -176,9 +255,9 @@ fn asked(rng: &mut Rng, def: &Definition) -> Vector {
             let edges = engine.graph().all_edges();
             let counted = edges.iter().flat_map(|e| [e.from.index(), e.to.index(), e.to_input]);
             vector.row("counted", counted);
-            vector.row("params", names.iter().map(|name| or_dash(synth.param_node(name).map(|id| id.index()))));
             let silent = |done: &u32| if is_silent(def, *done) { "yes" } else { "no" };
             vector.row("silent", flags.iter().map(silent));
+            vector.row("params", names.map(|name| or_dash(synth.param_node(name).map(|id| id.index()))));
         }
     }
     vector

@@ -1,0 +1,239 @@
+// Answers the vectors of `synthdef`: whether a definition is allowed, its counted edges, which done flags silence it, and the nodes
+// of its parameters.
+use node::name::Name;
+use node::name::name_of;
+use synthdef::def::DefEdge;
+use synthdef::def::DefEdges;
+use synthdef::def::DefNode;
+use synthdef::def::DefNodes;
+use synthdef::def::Param;
+use synthdef::def::Params;
+use synthdef::def::SynthDef;
+use synthdef::edges::counted_edges;
+use synthdef::limits::allowed;
+use synthdef::params::ParamNode;
+use synthdef::params::param_node;
+use synthdef::plan::DonePlan;
+use synthdef::plan::done_plan;
+use synthdef::silent::plan_silent;
+use wire::field::after;
+use wire::field::at_most;
+use wire::field::byte_at;
+use wire::field::bytes_at;
+use wire::field::word_at;
+use wire::word::and_number;
+use wire::word::end_line;
+use wire::word::text;
+
+// A table that was read, and the position after it. A count above the table's capacity is kept; its rows are read and left out.
+struct ReadNodes {
+    nodes: DefNodes,
+    end: usize,
+}
+
+struct ReadEdges {
+    edges: DefEdges,
+    end: usize,
+}
+
+struct ReadParams {
+    params: Params,
+    end: usize,
+}
+
+struct ReadDef {
+    def: SynthDef,
+    end: usize,
+}
+
+fn name_at(s: &[u8], at: usize) -> Name {
+    name_of(bytes_at(s, after(at, 1), byte_at(s, at) as usize))
+}
+
+fn name_end(s: &[u8], at: usize) -> usize {
+    after(after(at, 1), byte_at(s, at) as usize)
+}
+
+// A kind name, ports, required ports, what the node takes, and its ports by name.
+fn node_at(s: &[u8], at: usize) -> DefNode {
+    let rest = name_end(s, at);
+    let takes = byte_at(s, after(rest, 2));
+    DefNode {
+        kind: name_at(s, at),
+        ports: byte_at(s, rest),
+        required: byte_at(s, after(rest, 1)),
+        takes_values: takes % 2 == 1,
+        takes_glides: takes / 2 % 2 == 1,
+        in_port: byte_at(s, after(rest, 3)),
+        level_port: byte_at(s, after(rest, 4)),
+        amp_port: byte_at(s, after(rest, 5)),
+    }
+}
+
+fn edge_at(s: &[u8], at: usize) -> DefEdge {
+    DefEdge {
+        from: byte_at(s, at),
+        to: byte_at(s, after(at, 1)),
+        port: byte_at(s, after(at, 2)),
+    }
+}
+
+fn param_at(s: &[u8], at: usize) -> Param {
+    Param {
+        name: name_at(s, at),
+        node: byte_at(s, name_end(s, at)),
+    }
+}
+
+fn nodes_at(s: &[u8], at: usize) -> ReadNodes {
+    let count = byte_at(s, at) as usize;
+    let mut rows = [node_at(b"", 0); 24];
+    let mut end = after(at, 1);
+    let mut i: usize = 0;
+    while i < count {
+        let node = node_at(s, end);
+        end = after(name_end(s, end), 6);
+        let place = i;
+        i += 1;
+        if place < 24 {
+            rows[place] = node;
+        }
+    }
+    ReadNodes {
+        nodes: DefNodes { rows, count },
+        end,
+    }
+}
+
+fn edges_at(s: &[u8], at: usize) -> ReadEdges {
+    let count = byte_at(s, at) as usize;
+    let mut rows = [edge_at(b"", 0); 48];
+    let mut end = after(at, 1);
+    let mut i: usize = 0;
+    while i < count {
+        let edge = edge_at(s, end);
+        end = after(end, 3);
+        let place = i;
+        i += 1;
+        if place < 48 {
+            rows[place] = edge;
+        }
+    }
+    ReadEdges {
+        edges: DefEdges { rows, count },
+        end,
+    }
+}
+
+fn params_at(s: &[u8], at: usize) -> ReadParams {
+    let count = byte_at(s, at) as usize;
+    let mut rows = [param_at(b"", 0); 8];
+    let mut end = after(at, 1);
+    let mut i: usize = 0;
+    while i < count {
+        let param = param_at(s, end);
+        end = after(name_end(s, end), 1);
+        let place = i;
+        i += 1;
+        if place < 8 {
+            rows[place] = param;
+        }
+    }
+    ReadParams {
+        params: Params { rows, count },
+        end,
+    }
+}
+
+fn def_at(s: &[u8], at: usize) -> ReadDef {
+    let n = nodes_at(s, at);
+    let e = edges_at(s, n.end);
+    let p = params_at(s, e.end);
+    let nodes = n.nodes;
+    let edges = e.edges;
+    let params = p.params;
+    ReadDef {
+        def: SynthDef {
+            nodes,
+            edges,
+            params,
+            output: byte_at(s, p.end),
+        },
+        end: after(p.end, 1),
+    }
+}
+
+fn edge_words(es: DefEdges) {
+    let n = at_most(es.count, 48);
+    let mut i: usize = 0;
+    while i < n {
+        let e = es.rows[i];
+        and_number(e.from as u64);
+        and_number(e.to as u64);
+        and_number(e.port as u64);
+        i += 1;
+    }
+}
+
+// The done flag of each node: bit n is that of node n.
+fn flags_of(mask: u32) -> [bool; 24] {
+    let mut flags = [false; 24];
+    let mut left = mask;
+    let mut i: usize = 0;
+    while i < 24 {
+        flags[i] = left % 2 == 1;
+        left = left / 2;
+        i += 1;
+    }
+    flags
+}
+
+fn silent_word(silent: bool) {
+    if silent {
+        text(b" yes");
+    } else {
+        text(b" no");
+    }
+}
+
+fn silent_words(s: &[u8], at: usize, count: usize, plan: DonePlan) {
+    let mut from = at;
+    let mut i: usize = 0;
+    while i < count {
+        silent_word(plan_silent(plan, flags_of(word_at(s, from))));
+        from = after(from, 4);
+        i += 1;
+    }
+}
+
+fn param_word(found: ParamNode) {
+    match found {
+        ParamNode::At(node) => and_number(node as u64),
+        ParamNode::Nothing => text(b" -"),
+    }
+}
+
+// The definition; then how many sets of done flags, and the sets; then two names.
+pub fn definition(s: &[u8], at: usize) -> usize {
+    let r = def_at(s, at);
+    let def = r.def;
+    let count = byte_at(s, r.end) as usize;
+    let sets = after(r.end, 1);
+    let first = after(sets, 4 * count);
+    let second = name_end(s, first);
+    if !allowed(def) {
+        text(b"refused 9\n");
+        return name_end(s, second);
+    }
+    let edges = def.edges;
+    let params = def.params;
+    text(b"counted");
+    edge_words(counted_edges(edges));
+    text(b"\nsilent");
+    silent_words(s, sets, count, done_plan(def));
+    text(b"\nparams");
+    param_word(param_node(params, name_at(s, first)));
+    param_word(param_node(params, name_at(s, second)));
+    end_line();
+    name_end(s, second)
+}
