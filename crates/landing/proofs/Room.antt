@@ -188,8 +188,8 @@ module _ (d : SynthDef) (ok : allowed d ≡ true) (base : ℕ) (ids : base + d .
   own-wires =
       live-wires base (counted (edgeRows (d .edges)))
       (λ e i.
-        let t = allowed-within d ok .each-edge e (counted-in (edgeRows (d .edges)) e i) in
-        (in-reach (e .from) (omega (arith, t .source)), in-reach (e .to) (omega (arith, t .target))))
+      let t = allowed-within d ok .each-edge e (counted-in (edgeRows (d .edges)) e i) in
+      (in-reach (e .from) (omega (arith, t .source)), in-reach (e .to) (omega (arith, t .target))))
 
   -- the edges of the voice are the model's wires, and the edge to the bus
   all-wires : (pan : Bool) (bus : NodeId) (p : ℕ)
