@@ -7,7 +7,7 @@ use mathlib.Core.List.{List, [], _∷_, _++_, append-assoc, append-nil, map}
 use mathlib.Core.Option.{Option, none, some}
 use mathlib.Core.Bool.{Bool, true, false, not, cond}
 use lib.Dec.{eqb, leb}
-use lib.ListN.{length, take, getD, set, length-map, length-append, List·getD-append, List·getD-map, List·getD-eq-default}
+use lib.ListN.{length, take, getD, set, length-map, length-append, List·getD-append, List·getD-map}
 use lib.Seq.{length-take-le, take-at, take-all, getD-at}
 use borrow.Author.Tests.{leb-true, leb-false, le-leb, lt-leb, eqb-true, not-true, not-false}
 use Rattle.lists.specs.Member.{and-left, and-right, both}

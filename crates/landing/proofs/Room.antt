@@ -2,18 +2,18 @@
 -- e + 3 edges and n + 2 ids; a fade needs one node, two edges and one id, and leaves one node, one edge and one id fewer: its
 -- edge to the bus replaces the feeder's. Together these are the headroom of a spawn.
 -- Assumes nothing.
-use Prim.Native.Nat.{ℕ, suc, _+_, _≤_, _<_, min}
+use Prim.Native.Nat.{ℕ, _+_, _≤_, _<_, min}
 use native.Mathlib.Omega.{arith}
 use native.Mathlib.Nat.{min-le-left}
 use mathlib.Core.Path.{_≡_, refl, sym, ap, _∙_}
 use mathlib.Core.Logic.{inl, inr}
 use mathlib.Core.List.{List, [], _∷_, _++_, map, append-nil, append-assoc}
 use mathlib.Core.Option.{Option, none, some}
-use mathlib.Core.Bool.{Bool, true, false, not, cond, false≢true}
+use mathlib.Core.Bool.{Bool, true, false, not, false≢true}
 use lib.Dec.{eqb}
 use lib.ListN.{length, take, length-append, length-map, length-take}
-use borrow.Author.Tests.{lt-leb, eqb-true, eq-eqb}
-use Rattle.lists.specs.Member.{In, and-left, and-right, both, some-inj, none-some, map-append}
+use borrow.Author.Tests.{lt-leb, eq-eqb}
+use Rattle.lists.specs.Member.{In, and-right, both, some-inj, none-some, map-append}
 use Rattle.lists.specs.Keep.{keep, keep-append, length-keep}
 use Rattle.lists.specs.Find.{find, mapO, isSome, find-in, find-none}
 use Rattle.lists.specs.Count.{count-is-length, count-keep}
@@ -39,7 +39,7 @@ use Rattle.synthdef.proofs.Within.{allowed-within}
 use Rattle.store.specs.declared.voices.Voice.{Voice}
 use Rattle.model.specs.Voice.{id, feeder}
 use Rattle.model.specs.Spawn.{Wire, wire, defWire, fadeNode, voiceNodes, voiceWires, voiceOut, appendAll, wireAll, landGraph, fadeGraph}
-use Rattle.landing.specs.Landed.{numbered, putAll, fadeEdges, faded, panEdges, voiceEdges, landed}
+use Rattle.landing.specs.Landed.{numbered, putAll, fadeEdges, faded, voiceEdges, landed}
 use Rattle.landing.proofs.Laws.{has-room, faded-on, landed-on}
 
 -- ---- edges, where all have a place

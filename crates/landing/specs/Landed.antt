@@ -18,7 +18,6 @@ use Rattle.graph.specs.Change.{edge}
 use Rattle.synthdef.specs.Tables.{nodeRows, edgeRows}
 use Rattle.synthdef.specs.Edges.{counted}
 use Rattle.synthdef.specs.Instance.{idAfter, liveEdges}
-use Rattle.synthdef.specs.declared.def.DefNode.{DefNode}
 use Rattle.synthdef.specs.declared.def.DefNodes.{DefNodes}
 use Rattle.synthdef.specs.declared.def.SynthDef.{SynthDef}
 use Rattle.model.specs.Voice.{id}
