@@ -22,7 +22,7 @@ returns c =
     let w = c .before .before .before .before .before .before .args .w in
     let looked = c .before .before .before .before .find-voice .result in
     let e : some (looked .voice) ≡ find (isVoice w) (voicesOf (s .voices)) =
-            ap (λ b. cond b (some (looked .voice)) none) (sym (c .before .before .before .if1 .taken)) ∙ c .before .before .before .before .find-voice .ensures in
+    ap (λ b. cond b (some (looked .voice)) none) (sym (c .before .before .before .if1 .taken)) ∙ c .before .before .before .before .find-voice .ensures in
     (c .forget-voice .ensures ∙ ap (λ o. freed o (modelOf s)) e, λ h. absurd (none-some (sym (e ∙ h))))
 
 returns-2 : tie.Need-returns-2
