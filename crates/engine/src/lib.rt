@@ -1,0 +1,3 @@
+// The spawns of engine.rs: who may come in, who goes for it, and where it lands.
+pub mod going;
+pub mod refuse;
