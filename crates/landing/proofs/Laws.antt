@@ -4,12 +4,14 @@ use Prim.Native.Nat.{ℕ, zero, suc, _+_, _-_, _≤_, _<_}
 use native.Mathlib.Omega.{arith}
 use mathlib.Core.Path.{_≡_, refl, sym, ap, _∙_}
 use mathlib.Core.List.{List, [], _∷_, _++_, append-assoc, append-nil, map}
+use mathlib.Core.Option.{Option, none, some}
 use mathlib.Core.Bool.{Bool, true, false, not, cond}
-use lib.Dec.{leb}
+use lib.Dec.{eqb, leb}
 use lib.ListN.{length, take, getD, set, length-map, length-append, List·getD-append, List·getD-map, List·getD-eq-default}
 use lib.Seq.{length-take-le, take-at, take-all, getD-at}
-use borrow.Author.Tests.{leb-true, leb-false, le-leb, lt-leb, not-false}
+use borrow.Author.Tests.{leb-true, leb-false, le-leb, lt-leb, eqb-true, not-true, not-false}
 use Rattle.lists.specs.Member.{and-left, and-right, both}
+use Rattle.lists.specs.Find.{find, or?, mapO, find-in}
 use Rattle.lists.specs.Table.{passed-row, append-row}
 use Rattle.node.specs.declared.record.NodeId.{NodeId}
 use Rattle.node.specs.declared.record.VoiceId.{VoiceId}
@@ -18,12 +20,15 @@ use Rattle.node.specs.declared.record.Edge.{Edge}
 use Rattle.graph.specs.Node.{withId}
 use Rattle.graph.specs.Change.{edge}
 use Rattle.edges.specs.Wiring.{put}
+use Rattle.edges.specs.Ports.{feeds, portFrom}
 use Rattle.graph.specs.View.{GraphView}
 use Rattle.synthdef.specs.Tables.{nodeRows}
 use Rattle.synthdef.specs.declared.def.DefNodes.{DefNodes}
 use Rattle.synthdef.specs.declared.def.SynthDef.{SynthDef}
-use Rattle.model.specs.Voice.{id}
+use Rattle.store.specs.declared.voices.Voice.{Voice}
+use Rattle.model.specs.Voice.{id, feeder}
 use Rattle.model.specs.Spawn.{defNode, constNode, panNode, fadeNode, voiceNodes}
+use Rattle.landing.specs.Faded.{Outcome, fadedFrom}
 use Rattle.landing.specs.Landed.{hasRoom, numbered, putAll, grown, fadeEdges, faded, pannedNodes, voiceSize, voiceEdges, landed}
 
 -- a sum and a difference, compared
@@ -145,3 +150,21 @@ module _ (w : VoiceId) (d : SynthDef) (pan : Bool) (bus : NodeId) (p : ℕ) (g :
   pub landed-off : hasRoom (length (g .nodes)) (g .next) (length (nodeRows (d .nodes)) + 2) ≡ false → landed w d pan bus p g ≡ g
   unfolding landed
   landed-off h = rw h
+
+-- ---- a voice that is to fade, by the edge that was found
+module _ (es : List Edge) (v : Voice) (g : GraphView) (k : ℕ) (found : Bool) (x : Edge) (at : k ≡ feeder v .0) (seen : or? found x none ≡ find (feeds (id k) (v .bus)) es) where
+  looked : find (feeds (feeder v) (v .bus)) es ≡ or? found x none
+  looked = ap (λ j. find (feeds (id j) (v .bus)) es) (sym at) ∙ sym seen
+
+  pub fade-cannot : not found ≡ true → _≡_ {A = Outcome} (record { fades = false; graph = g }) (fadedFrom (portFrom es (feeder v) (v .bus)) v g)
+  fade-cannot h =
+      let is : find (feeds (feeder v) (v .bus)) es ≡ none = looked ∙ ap (λ b. or? b x none) (not-true found h) in
+      ap (λ (o : Option Edge). fadedFrom (mapO (λ (e : Edge). e .port) o) v g) (sym is)
+
+  pub fade-can : not found ≡ false → {h : GraphView} → h ≡ faded (v .id) (x .from) (v .bus) (x .port) g
+      → _≡_ {A = Outcome} (record { fades = true; graph = h }) (fadedFrom (portFrom es (feeder v) (v .bus)) v g)
+  fade-can t {h} e =
+      let is : find (feeds (feeder v) (v .bus)) es ≡ some x = looked ∙ ap (λ b. or? b x none) (not-false found t) in
+      let from : x .from .0 ≡ feeder v .0 = eqb-true (x .from .0) (feeder v .0) (and-left (eqb (x .from .0) (feeder v .0)) _ (find-in (feeds (feeder v) (v .bus)) es x is .1)) in
+      ap (λ z. record { fades = true; graph = z }) (e ∙ ap (λ j. faded (v .id) (id j) (v .bus) (x .port) g) from)
+      ∙ ap (λ (o : Option Edge). fadedFrom (mapO (λ (d : Edge). d .port) o) v g) (sym is)

@@ -12,6 +12,7 @@ use node::record::Node;
 use node::record::NodeId;
 use node::record::Nodes;
 use node::record::VoiceId;
+use store::voices::Voice;
 use synthdef::def::DefEdges;
 use synthdef::def::DefNodes;
 use synthdef::def::SynthDef;
@@ -25,18 +26,52 @@ ghost use mathlib.Core.List.{_++_};
 ghost use Prim.Native.Nat.{_+_, _≤_};
 ghost use lib.ListN.{length, take, getD};
 ghost use Rattle.node.specs.Rows.{nodesOf, edgesOf};
+ghost use Rattle.lists.specs.Find.{find};
+ghost use Rattle.edges.specs.Ports.{feeds, portFrom};
 ghost use Rattle.graph.specs.Node.{withId};
 ghost use Rattle.graph.specs.Tables.{viewOf};
 ghost use Rattle.synthdef.specs.Tables.{nodeRows, edgeRows};
 ghost use Rattle.synthdef.specs.Instance.{liveEdges};
+ghost use Rattle.model.specs.Voice.{id, feeder};
 ghost use Rattle.model.specs.Spawn.{voiceNode, constNode, panNode, fadeNode, pans};
+ghost use Rattle.landing.specs.Faded.{fedOf, outcomeOf, fadedFrom};
 ghost use Rattle.landing.specs.Landed.{hasRoom, numbered, putAll, pannedNodes, voiceSize, panEdges, voiceEdges, faded, landed, Fits};
+
+// An edge that was looked for: `edge` is it, if it is `found`.
+pub struct Fed {
+    pub found: bool,
+    pub edge: Edge,
+}
+
+// The graph after a voice was to fade, and whether it does.
+pub struct Faded {
+    pub fades: bool,
+    pub graph: Graph,
+}
+
+// A number of 32 bits as one of 64.
+fn wide(x: u32) -> u64
+    ensures { λ r. ⌜ r ≡ x ⌝ }
+{
+    x as u64
+}
 
 // Whether a pan position asks for a pan node.
 pub fn pans(pan: f32) -> bool
     ensures { λ r. ⌜ r ≡ pans pan ⌝ }
 {
     !(pan == 0.0)
+}
+
+// The id of the node of a voice that feeds its bus: its pan node, or its output.
+pub fn feeder(v: Voice) -> u64
+    ensures { λ r. ⌜ r ≡ feeder v .0 ⌝ }
+{
+    if v.panned {
+        wide(v.first.0) + wide(v.count) + 1
+    } else {
+        wide(v.output.0)
+    }
 }
 
 // Whether `n` nodes more find a place and an id each.
@@ -227,7 +262,7 @@ pub fn fade_graph(g: Graph, owner: VoiceId, from: NodeId, bus: NodeId, port: u32
             port: 0,
         },
     );
-    let wires = put_edge(
+    let both = put_edge(
         fed,
         Edge {
             from: fade,
@@ -239,12 +274,56 @@ pub fn fade_graph(g: Graph, owner: VoiceId, from: NodeId, bus: NodeId, port: u32
     let order = g.order;
     Graph {
         nodes: more,
-        edges: wires,
+        edges: both,
         sink,
         prepared: false,
         order,
         next: g.next + 1,
     }
+}
+
+// Whether the edge leads from the node of the id `from` to `to`.
+fn leads(e: Edge, from: u64, to: NodeId) -> bool
+    ensures { λ r. ⌜ r ≡ feeds (id from) to e ⌝ }
+{
+    wide(e.from.0) == from && e.to.0 == to.0
+}
+
+// The first edge from the node of the id `from`, which may be past the last, to `to`.
+fn feeding_edge(edges: Edges, from: u64, to: NodeId) -> Fed
+    ensures { λ r. ⌜ fedOf r ≡ find (feeds (id from) to) (edgesOf edges) ⌝ }
+{
+    let n = at_most(edges.count, 1024);
+    let mut i: usize = 0;
+    while i < n {
+        let edge = edges.rows[i];
+        if leads(edge, from, to) {
+            return Fed { found: true, edge };
+        }
+        i += 1;
+    }
+    let edge = edges.rows[0];
+    Fed { found: false, edge }
+}
+
+// The graph with a fade of the voice at the port of its bus that it feeds; one that feeds none cannot fade.
+pub fn fade_voice(g: Graph, v: Voice) -> Faded
+    ensures { λ r. ⌜ outcomeOf r ≡ fadedFrom (portFrom (viewOf g .edges) (feeder v) (v .bus)) v (viewOf g) ⌝ }
+{
+    let edges = g.edges;
+    let bus = v.bus;
+    let fed = feeding_edge(edges, feeder(v), bus);
+    if !fed.found {
+        return Faded {
+            fades: false,
+            graph: g,
+        };
+    }
+    let e = fed.edge;
+    let from = e.from;
+    let owner = v.id;
+    let graph = fade_graph(g, owner, from, bus, e.port);
+    Faded { fades: true, graph }
 }
 
 // How many nodes a voice has.

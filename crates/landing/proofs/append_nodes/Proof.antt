@@ -1,11 +1,8 @@
-use Prim.Native.Nat.{ℕ, zero, suc, _+_, _*_, _≤_, _<_, _-_, min}
-use mathlib.Core.Path.{_≡_, refl, sym, ap, _∙_}
-use mathlib.Core.List.{List, [], _∷_, _++_}
-use mathlib.Core.Bool.{Bool, true, false}
-use mathlib.Core.Logic.{⊎-elim}
+use Prim.Native.Nat.{_+_, _≤_, _<_, _-_, min}
+use mathlib.Core.Path.{_≡_, sym, ap, _∙_}
+use mathlib.Core.List.{_++_}
 use native.Mathlib.Omega.{arith}
-use native.Mathlib.Numerals.{add-one}
-use lib.ListN.{length, take, drop, getD, set}
+use lib.ListN.{length, take}
 use borrow.Author.Needs.{needs}
 use Rattle.node.specs.Rows.{nodesOf}
 use Rattle.landing.specs.Landed.{numbered, pannedNodes}
@@ -16,10 +13,6 @@ use Rattle.edges.proofs.Loops.{rows-count}
 use Rattle.model.specs.Spawn.{panNode}
 use Rattle.landing.proofs.append_nodes.Statement.{statement}
 use Rattle.landing.proofs.append_nodes.Tie as tie
-use Rattle.landing.proofs.append_nodes.Reads as reads
-use Rattle.landing.proofs.append_nodes.Lts as lts
-use Rattle.edges.proofs.table.at_most.Reads as at-most-reads
-use Rattle.landing.proofs.node_at_place.Reads as node-at-place-reads
 
 abbrev Inv-loop : tie.InvT-loop
 Inv-loop first owner ns n count out₀ i₀ out i =
@@ -28,7 +21,6 @@ Inv-loop first owner ns n count out₀ i₀ out i =
 abbrev μ-loop : tie.MeasureT-loop
 μ-loop first owner ns n count out₀ i₀ out i = n - i
 
--- src/lib.rt:123:9
 rows-long : (c : tie.Start Inv-loop μ-loop) → length (c .args .t .rows) ≡ 512
 rows-long c = simp length-map at (c .good .0 .1 .1 .0 .1 .0 .1)
 
@@ -38,48 +30,38 @@ count-is c = rows-count 512 (c .args .t .count) (c .args .t .rows) (rows-long c)
 at-most-requires : tie.Need-at-most-requires Inv-loop μ-loop
 at-most-requires c κs = search needs
 
--- src/lib.rt:126:5
 loop-holds : tie.Need-loop-holds Inv-loop μ-loop
 loop-holds c =
     let t = c .before .args .t in
     let none : c .at-most .result + 0 ≡ min (t .count) 512 = omega arith in
     (omega arith, rows-long (c .before), ap (λ k. take k (t .rows)) none ∙ sym (append-nil (nodesOf t)))
 
--- src/lib.rt:127:17
 add-k : tie.Need-add-k Inv-loop μ-loop
 add-k c = search needs
 
--- src/lib.rt:128:47
 cast-t14 : tie.Need-cast-t14 Inv-loop μ-loop
 cast-t14 c = search needs
 
--- src/lib.rt:128:13
 node-at-place-requires : tie.Need-node-at-place-requires Inv-loop μ-loop
 node-at-place-requires c κs = search needs
 
--- src/lib.rt:129:21
 add-place : tie.Need-add-place Inv-loop μ-loop
 add-place c = search needs
 
--- src/lib.rt:130:9
 mul-row : tie.Need-mul-row Inv-loop μ-loop
 mul-row c = search needs
 
--- src/lib.rt:130:9
 element-set-from-row : tie.Need-element-set-from-row Inv-loop μ-loop
 element-set-from-row c =
     let s = c .before .before .before .before in
     omega (arith, s .pre .places, count-is s)
 
--- src/lib.rt:131:9
 add-i : tie.Need-add-i Inv-loop μ-loop
 add-i c = search needs
 
--- src/lib.rt:126:5
 loop-less : tie.Need-loop-less Inv-loop μ-loop
 loop-less c = search needs
 
--- src/lib.rt:126:5
 loop-again : tie.Need-loop-again Inv-loop μ-loop
 loop-again c =
     let l = c .before .before .loop in
@@ -93,11 +75,9 @@ loop-again c =
       appended-next (nodesOf (s .args .t)) nodes (l .out .rows) (panNode (s .args .owner)) (c .node-at-place .result) (a .at-most .result) (s .args .first) (l .i) below place (l .inv .2) (c .node-at-place .ensures),
     )
 
--- src/lib.rt:133:17
 add-out : tie.Need-add-out Inv-loop μ-loop
 add-out c = search needs
 
--- src/lib.rt:119:1
 returns : tie.Need-returns Inv-loop μ-loop
 returns c =
     let l = c .before .loop in

@@ -1,11 +1,9 @@
-use Prim.Native.Nat.{ℕ, zero, suc, _+_, _*_, _≤_, _<_, _-_, min}
+use Prim.Native.Nat.{_<_}
 use mathlib.Core.Path.{_≡_, refl, sym, ap, _∙_}
-use mathlib.Core.List.{List, [], _∷_, _++_}
-use mathlib.Core.Bool.{Bool, true, false}
-use mathlib.Core.Logic.{⊎-elim}
+use mathlib.Core.List.{[], _∷_, _++_}
+use mathlib.Core.Bool.{true}
 use native.Mathlib.Omega.{arith}
-use native.Mathlib.Numerals.{add-one}
-use lib.ListN.{length, take, drop, getD, set}
+use lib.ListN.{length}
 use borrow.Author.Needs.{needs}
 use borrow.Author.Tests.{not-true, not-false}
 use Rattle.edges.specs.Wiring.{put}
@@ -18,23 +16,13 @@ use Rattle.landing.specs.Landed.{hasRoom}
 use Rattle.landing.proofs.Laws.{room-is, room-of, faded-off, faded-on}
 use Rattle.landing.proofs.fade_graph.Statement.{statement}
 use Rattle.landing.proofs.fade_graph.Tie as tie
-use Rattle.landing.proofs.fade_graph.Reads as reads
-use Rattle.landing.proofs.fade_graph.Lts as lts
-use Rattle.edges.proofs.table.put_edge.Reads as put-edge-reads
-use Rattle.graph.proofs.nodes.node_count.Reads as node-count-reads
-use Rattle.graph.proofs.nodes.push_node.Reads as push-node-reads
-use Rattle.landing.proofs.fade_node.Reads as fade-node-reads
-use Rattle.landing.proofs.has_room.Reads as has-room-reads
 
--- src/lib.rt:209:18
 node-count-requires : tie.Need-node-count-requires
 node-count-requires c κs = search needs
 
--- src/lib.rt:209:9
 has-room-requires : tie.Need-has-room-requires
 has-room-requires c κs = search needs
 
--- src/lib.rt:210:9
 returns : tie.Need-returns
 returns c =
     let s = c .before .before .before .before in
@@ -42,30 +30,24 @@ returns c =
     let no = sym (c .before .has-room .ensures) ∙ not-true _ (c .if1 .taken) in
     sym (faded-off (s .args .owner) (s .args .from) (s .args .bus) (s .args .port) g (ap (λ k. hasRoom k (g .next) 1) (sym (c .before .before .node-count .ensures)) ∙ no))
 
--- src/lib.rt:212:23
 cast-t17 : tie.Need-cast-t17
 cast-t17 c =
     let h = c .before .before in
     let room = room-of (h .has-room .result) (h .before .node-count .result) (h .before .before .before .args .g .next) 1 (h .has-room .ensures) (c .before .if1 .left) in
     omega (arith, room .1)
 
--- src/lib.rt:213:33
 fade-node-requires : tie.Need-fade-node-requires
 fade-node-requires c κs = search needs
 
--- src/lib.rt:213:9
 push-node-requires : tie.Need-push-node-requires
 push-node-requires c κs = search needs
 
--- src/lib.rt:215:9
 put-edge-requires : tie.Need-put-edge-requires
 put-edge-requires c κs = search needs
 
--- src/lib.rt:223:9
 put-edge-requires-2 : tie.Need-put-edge-requires-2
 put-edge-requires-2 c κs = search needs
 
--- src/lib.rt:239:15
 add-t20 : tie.Need-add-t20
 add-t20 c =
     let e = c .before .before .before .before .before .before .before .before in
@@ -73,7 +55,6 @@ add-t20 c =
     let room = room-of (h .has-room .result) (h .before .node-count .result) (h .before .before .before .args .g .next) 1 (h .has-room .ensures) (e .if1 .left) in
     omega (arith, room .1)
 
--- src/lib.rt:205:1
 returns-2 : tie.Need-returns-2
 returns-2 c =
     let q = c .before .before in

@@ -1,38 +1,26 @@
-use Prim.Native.Nat.{ℕ, zero, suc, _+_, _*_, _≤_, _<_, _-_, min}
-use mathlib.Core.Path.{_≡_, refl, sym, ap, _∙_}
-use mathlib.Core.List.{List, [], _∷_, _++_}
-use mathlib.Core.Bool.{Bool, true, false}
-use mathlib.Core.Logic.{⊎-elim}
+use Prim.Native.Nat.{_+_, _≤_, _<_}
 use native.Mathlib.Omega.{arith}
-use native.Mathlib.Numerals.{add-one}
-use lib.ListN.{length, take, drop, getD, set}
 use borrow.Author.Needs.{needs}
 use borrow.Author.Tests.{le-leb, lt-leb}
 use Rattle.landing.proofs.Laws.{leb-moved}
 use Rattle.landing.proofs.has_room.Statement.{statement}
 use Rattle.landing.proofs.has_room.Tie as tie
-use Rattle.landing.proofs.has_room.Reads as reads
-use Rattle.landing.proofs.has_room.Lts as lts
 
--- src/lib.rt:47:9
 returns : tie.Need-returns
 returns c =
     let n = c .before .args .n in
     let over : 512 < c .before .args .count + n = omega arith in
     rw (lt-leb (c .before .args .count + n) 512 over)
 
--- src/lib.rt:50:9
 returns-2 : tie.Need-returns-2
 returns-2 c =
     let s = c .before .before in
     let over : 512 < s .args .count + s .args .n = omega arith in
     rw (lt-leb (s .args .count + s .args .n) 512 over)
 
--- src/lib.rt:52:13
 sub-result : tie.Need-sub-result
 sub-result c = search needs
 
--- src/lib.rt:43:1
 returns-3 : tie.Need-returns-3
 returns-3 c =
     let s = c .before .before in

@@ -1,11 +1,9 @@
-use Prim.Native.Nat.{ℕ, zero, suc, _+_, _*_, _≤_, _<_, _-_, min}
+use Prim.Native.Nat.{_+_, min}
 use mathlib.Core.Path.{_≡_, refl, sym, ap, _∙_}
-use mathlib.Core.List.{List, [], _∷_, _++_}
-use mathlib.Core.Bool.{Bool, true, false}
-use mathlib.Core.Logic.{⊎-elim}
+use mathlib.Core.List.{[], _∷_, _++_}
+use mathlib.Core.Bool.{true, false}
 use native.Mathlib.Omega.{arith}
-use native.Mathlib.Numerals.{add-one}
-use lib.ListN.{length, take, drop, getD, set}
+use lib.ListN.{length, take}
 use borrow.Author.Needs.{needs}
 use mathlib.Core.List.{map}
 use lib.ListN.{length-map}
@@ -19,16 +17,7 @@ use Rattle.landing.specs.Landed.{hasRoom, numbered, pannedNodes, voiceSi
 use Rattle.landing.proofs.Laws.{room-of, size-le, length-panned, length-voice, first-nodes, landed-off, landed-on}
 use Rattle.landing.proofs.land_graph.Statement.{statement}
 use Rattle.landing.proofs.land_graph.Tie as tie
-use Rattle.landing.proofs.land_graph.Reads as reads
-use Rattle.landing.proofs.land_graph.Lts as lts
-use Rattle.edges.proofs.table.at_most.Reads as at-most-reads
-use Rattle.graph.proofs.nodes.node_count.Reads as node-count-reads
-use Rattle.landing.proofs.append_nodes.Reads as append-nodes-reads
-use Rattle.landing.proofs.has_room.Reads as has-room-reads
-use Rattle.landing.proofs.voice_size.Reads as voice-size-reads
-use Rattle.landing.proofs.wire_voice.Reads as wire-voice-reads
 
--- src/lib.rt:265:9
 rows-long : (c : tie.Start) → length (c .args .d .nodes .rows) ≡ 24
 rows-long c = simp length-map at (c .good .1 .1 .0 .1 .1 .0 .1 .1 .0 .1 .0 .1)
 
@@ -38,19 +27,15 @@ count-is c = rows-count 24 (c .args .d .nodes .count) (c .args .d .nodes .rows) 
 at-most-requires : tie.Need-at-most-requires
 at-most-requires c κs = search needs
 
--- src/lib.rt:266:18
 node-count-requires : tie.Need-node-count-requires
 node-count-requires c κs = search needs
 
--- src/lib.rt:266:45
 add-has-room : tie.Need-add-has-room
 add-has-room c = search needs
 
--- src/lib.rt:266:9
 has-room-requires : tie.Need-has-room-requires
 has-room-requires c κs = search needs
 
--- src/lib.rt:267:9
 returns : tie.Need-returns
 returns c =
     let h = c .before in
@@ -63,11 +48,9 @@ returns c =
     ap (λ k. hasRoom (length (g .nodes)) (g .next) (k + 2)) many ∙ ap (λ k. hasRoom k (g .next) (m .at-most .result + 2)) (sym (h .before .node-count .ensures)) ∙ sym (h .has-room .ensures) ∙ not-true _ (c .if1 .taken) in
     sym (landed-off (a .owner) (a .d) (a .pan) (a .bus) (a .port) g no)
 
--- src/lib.rt:269:9
 voice-size-requires : tie.Need-voice-size-requires
 voice-size-requires c κs = search needs
 
--- src/lib.rt:270:9
 append-nodes-requires : tie.Need-append-nodes-requires
 append-nodes-requires c κs =
     let e = c .before in
@@ -83,7 +66,6 @@ append-nodes-requires c κs =
       few = omega (arith, less, c .voice-size .ensures, length-panned (a .owner) (a .d .nodes), count-is s, m .at-most .ensures);
     }
 
--- src/lib.rt:272:42
 cast-t20 : tie.Need-cast-t20
 cast-t20 c =
     let e = c .before .before .before .before in
@@ -92,11 +74,9 @@ cast-t20 c =
     let room = room-of (h .has-room .result) (h .before .node-count .result) (m .before .before .before .args .g .next) (m .at-most .result + 2) (h .has-room .ensures) (e .if1 .left) in
     omega (arith, room .1)
 
--- src/lib.rt:272:9
 wire-voice-requires : tie.Need-wire-voice-requires
 wire-voice-requires c κs = search needs
 
--- src/lib.rt:281:15
 add-t23 : tie.Need-add-t23
 add-t23 c =
     let v = c .before .before .before .before .before .before in
@@ -106,7 +86,6 @@ add-t23 c =
     let room = room-of (h .has-room .result) (h .before .node-count .result) (m .before .before .before .args .g .next) (m .at-most .result + 2) (h .has-room .ensures) (e .if1 .left) in
     omega (arith, room .1, size-le (m .at-most .result) (m .before .before .before .args .pan), v .voice-size .ensures)
 
--- src/lib.rt:253:1
 returns-2 : tie.Need-returns-2
 returns-2 c =
     let w = c .before .before in

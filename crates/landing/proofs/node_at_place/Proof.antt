@@ -1,11 +1,7 @@
-use Prim.Native.Nat.{ℕ, zero, suc, _+_, _*_, _≤_, _<_, _-_, min}
-use mathlib.Core.Path.{_≡_, refl, sym, ap, _∙_}
-use mathlib.Core.List.{List, [], _∷_, _++_}
-use mathlib.Core.Bool.{Bool, true, false}
-use mathlib.Core.Logic.{⊎-elim}
+use Prim.Native.Nat.{_<_, min}
+use mathlib.Core.Path.{_≡_, sym, ap, _∙_}
 use native.Mathlib.Omega.{arith}
-use native.Mathlib.Numerals.{add-one}
-use lib.ListN.{length, take, drop, getD, set}
+use lib.ListN.{length, getD}
 use borrow.Author.Needs.{needs}
 use lib.ListN.{length-map}
 use lib.Seq.{getD-take}
@@ -17,41 +13,28 @@ use Rattle.landing.proofs.Laws.{place-below, place-first, place-second}
 use lib.Ieee.{ofBits}
 use Rattle.landing.proofs.node_at_place.Statement.{statement}
 use Rattle.landing.proofs.node_at_place.Tie as tie
-use Rattle.landing.proofs.node_at_place.Reads as reads
-use Rattle.landing.proofs.node_at_place.Lts as lts
-use Rattle.edges.proofs.table.at_most.Reads as at-most-reads
-use Rattle.landing.proofs.const_node.Reads as const-node-reads
-use Rattle.landing.proofs.pan_node.Reads as pan-node-reads
-use Rattle.synthdef.proofs.instance.live_node.Reads as live-node-reads
 
--- src/lib.rt:107:9
 rows-long : (c : tie.Start) → length (c .args .t1 .rows) ≡ 24
 rows-long c = simp length-map at (c .good .0 .1 .1 .0 .1 .0 .1)
 
 at-most-requires : tie.Need-at-most-requires
 at-most-requires c κs = search needs
 
--- src/lib.rt:109:17
 mul-n : tie.Need-mul-n
 mul-n c = search needs
 
--- src/lib.rt:109:17
 element-copy-out-n : tie.Need-element-copy-out-n
 element-copy-out-n c = search needs
 
--- src/lib.rt:110:9
 live-node-requires : tie.Need-live-node-requires
 live-node-requires c κs = search needs
 
--- src/lib.rt:112:9
 const-node-requires : tie.Need-const-node-requires
 const-node-requires c κs = search needs
 
--- src/lib.rt:114:9
 pan-node-requires : tie.Need-pan-node-requires
 pan-node-requires c κs = search needs
 
--- src/lib.rt:104:1
 returns : tie.Need-returns
 unfolding ofBits
 returns c =
@@ -66,7 +49,6 @@ returns c =
     c .live-node .ensures ∙ ap (λ n. withId (s .args .id .0) (defNode w n)) (sym row)
     ∙ sym (ap (withId (s .args .id .0)) (place-below (defNode w) (nodeRows ns) (constNode w) (panNode w) i noNode under))
 
--- src/lib.rt:104:1
 returns-2 : tie.Need-returns-2
 returns-2 c =
     let s = c .before .before .before .before in
@@ -76,7 +58,6 @@ returns-2 c =
     let here : s .args .i ≡ length (nodeRows ns) = omega (arith, m) in
     c .const-node .ensures ∙ sym (ap (withId (s .args .id .0)) (place-first (defNode w) (nodeRows ns) (constNode w) (panNode w) (s .args .i) here))
 
--- src/lib.rt:104:1
 returns-3 : tie.Need-returns-3
 returns-3 c =
     let s = c .before .before .before .before in

@@ -1,11 +1,7 @@
-use Prim.Native.Nat.{ℕ, zero, suc, _+_, _*_, _≤_, _<_, _-_, min}
+use Prim.Native.Nat.{_+_, _≤_, _<_, _-_}
 use mathlib.Core.Path.{_≡_, refl, sym, ap, _∙_}
-use mathlib.Core.List.{List, [], _∷_, _++_}
-use mathlib.Core.Bool.{Bool, true, false}
-use mathlib.Core.Logic.{⊎-elim}
 use native.Mathlib.Omega.{arith}
-use native.Mathlib.Numerals.{add-one}
-use lib.ListN.{length, take, drop, getD, set}
+use lib.ListN.{length, drop}
 use borrow.Author.Needs.{needs}
 use Rattle.node.specs.Rows.{edgesOf}
 use Rattle.synthdef.specs.Tables.{edgeRows, noEdge}
@@ -16,11 +12,6 @@ use lib.ListN.{length-map}
 use Rattle.edges.specs.Wiring.{put}
 use Rattle.landing.proofs.wire_nodes.Statement.{statement}
 use Rattle.landing.proofs.wire_nodes.Tie as tie
-use Rattle.landing.proofs.wire_nodes.Reads as reads
-use Rattle.landing.proofs.wire_nodes.Lts as lts
-use Rattle.edges.proofs.table.at_most.Reads as at-most-reads
-use Rattle.edges.proofs.table.put_edge.Reads as put-edge-reads
-use Rattle.synthdef.proofs.instance.live_edge.Reads as live-edge-reads
 
 abbrev Inv-loop : tie.InvT-loop
 Inv-loop first es m out₀ i₀ out i = (i ≤ m) × (putAll (edgesOf out) (liveEdges (drop i (edgeRows es)) first) ≡ putAll (edgesOf out₀) (liveEdges (edgeRows es) first))
@@ -28,42 +19,33 @@ Inv-loop first es m out₀ i₀ out i = (i ≤ m) × (putAll (edgesOf out) (live
 abbrev μ-loop : tie.MeasureT-loop
 μ-loop first es m out₀ i₀ out i = m - i
 
--- src/lib.rt:141:9
 rows-long : (c : tie.Start Inv-loop μ-loop) → length (c .args .t3 .rows) ≡ 48
 rows-long c = simp length-map at (c .good .1 .1 .0 .1 .1 .0 .1 .0 .1)
 
 at-most-requires : tie.Need-at-most-requires Inv-loop μ-loop
 at-most-requires c κs = search needs
 
--- src/lib.rt:144:5
 loop-holds : tie.Need-loop-holds Inv-loop μ-loop
 loop-holds c = (omega arith, refl)
 
--- src/lib.rt:145:17
 mul-e : tie.Need-mul-e Inv-loop μ-loop
 mul-e c = search needs
 
--- src/lib.rt:145:17
 element-copy-out-e : tie.Need-element-copy-out-e Inv-loop μ-loop
 element-copy-out-e c = search needs
 
--- src/lib.rt:146:13
 live-edge-requires : tie.Need-live-edge-requires Inv-loop μ-loop
 live-edge-requires c κs = search needs
 
--- src/lib.rt:147:9
 put-edge-requires : tie.Need-put-edge-requires Inv-loop μ-loop
 put-edge-requires c κs = search needs
 
--- src/lib.rt:148:9
 add-i : tie.Need-add-i Inv-loop μ-loop
 add-i c = search needs
 
--- src/lib.rt:144:5
 loop-less : tie.Need-loop-less Inv-loop μ-loop
 loop-less c = search needs
 
--- src/lib.rt:144:5
 loop-again : tie.Need-loop-again Inv-loop μ-loop
 loop-again c =
     let l = c .before .before .before .before .loop in
@@ -78,7 +60,6 @@ loop-again c =
           ∙ l .inv .1,
     )
 
--- src/lib.rt:138:1
 returns : tie.Need-returns Inv-loop μ-loop
 returns c =
     let l = c .before .loop in

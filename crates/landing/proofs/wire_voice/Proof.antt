@@ -1,11 +1,7 @@
-use Prim.Native.Nat.{ℕ, zero, suc, _+_, _*_, _≤_, _<_, _-_, min}
+use Prim.Native.Nat.{_+_}
 use mathlib.Core.Path.{_≡_, refl, sym, ap, _∙_}
-use mathlib.Core.List.{List, [], _∷_, _++_}
-use mathlib.Core.Bool.{Bool, true, false}
-use mathlib.Core.Logic.{⊎-elim}
-use native.Mathlib.Omega.{arith}
-use native.Mathlib.Numerals.{add-one}
-use lib.ListN.{length, take, drop, getD, set}
+use mathlib.Core.List.{[], _∷_, _++_}
+use lib.ListN.{length}
 use borrow.Author.Needs.{needs}
 use lib.ListN.{length-map}
 use Rattle.node.specs.Rows.{edgesOf}
@@ -20,59 +16,40 @@ use Rattle.landing.specs.Landed.{putAll, panEdges, voiceEdges}
 use Rattle.landing.proofs.Laws.{voice-put}
 use Rattle.landing.proofs.wire_voice.Statement.{statement}
 use Rattle.landing.proofs.wire_voice.Tie as tie
-use Rattle.landing.proofs.wire_voice.Reads as reads
-use Rattle.landing.proofs.wire_voice.Lts as lts
-use Rattle.edges.proofs.table.at_most.Reads as at-most-reads
-use Rattle.edges.proofs.table.put_edge.Reads as put-edge-reads
-use Rattle.landing.proofs.wire_nodes.Reads as wire-nodes-reads
-use Rattle.landing.proofs.wire_pan.Reads as wire-pan-reads
-use Rattle.synthdef.proofs.edges.counted_edges.Reads as counted-edges-reads
-use Rattle.synthdef.proofs.instance.id_after.Reads as id-after-reads
 
--- src/lib.rt:192:13
 rows-long : (c : tie.Start) → length (c .args .d .nodes .rows) ≡ 24
 rows-long c = simp length-map at (c .good .1 .1 .0 .1 .1 .0 .1 .1 .0 .1 .0 .1)
 
 at-most-requires : tie.Need-at-most-requires
 at-most-requires c κs = search needs
 
--- src/lib.rt:192:13
 cast-n : tie.Need-cast-n
 cast-n c = search needs
 
--- src/lib.rt:193:38
 counted-edges-requires : tie.Need-counted-edges-requires
 counted-edges-requires c κs = search needs
 
--- src/lib.rt:193:9
 wire-nodes-requires : tie.Need-wire-nodes-requires
 wire-nodes-requires c κs = search needs
 
--- src/lib.rt:195:13
 wire-pan-requires : tie.Need-wire-pan-requires
 wire-pan-requires c κs = search needs
 
--- src/lib.rt:196:36
 add-id-after : tie.Need-add-id-after
 add-id-after c = search needs
 
--- src/lib.rt:196:13
 id-after-requires : tie.Need-id-after-requires
 id-after-requires c κs = search needs
 
--- src/lib.rt:197:9
 put-edge-requires : tie.Need-put-edge-requires
 put-edge-requires c κs = search needs
 
--- src/lib.rt:199:13
 id-after-requires-2 : tie.Need-id-after-requires-2
 id-after-requires-2 c κs = search needs
 
--- src/lib.rt:200:9
 put-edge-requires-2 : tie.Need-put-edge-requires-2
 put-edge-requires-2 c κs = search needs
 
--- src/lib.rt:180:1
 returns : tie.Need-returns
 returns c =
     let w = c .before .before .before .before in
@@ -92,7 +69,6 @@ returns c =
     ∙ ap (λ k. putAll es (l ++ (panEdges first (d .output) k ++ (edge (idAfter first (k + 1)) (s .args .bus) (s .args .port) ∷ [])))) many
     ∙ ap (λ b. putAll es (voiceEdges first d b (s .args .bus) (s .args .port))) (sym (c .before .before .before .if1 .taken))
 
--- src/lib.rt:180:1
 returns-2 : tie.Need-returns-2
 returns-2 c =
     let w = c .before .before .before in
