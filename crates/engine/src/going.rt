@@ -70,7 +70,7 @@ pub fn next_out(s: Store, bus: NodeId) -> Looked
 }
 
 // The steal records with one more, of the voice `v` now.
-fn record_steal(s: Store, v: Voice, cut: bool) -> Steals
+pub(crate) fn record_steal(s: Store, v: Voice, cut: bool) -> Steals
     ensures { λ r. ⌜ bookOf r ≡ recorded v cut (deskOf s) ⌝ }
 {
     let g = s.graph;

@@ -3,3 +3,5 @@ pub mod going;
 pub mod land;
 pub mod place;
 pub mod refuse;
+pub mod spawn;
+pub mod steal;

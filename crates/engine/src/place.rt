@@ -44,7 +44,7 @@ fn port_free(s: Store, bus: NodeId) -> Port
 }
 
 // A spawn that is refused.
-fn refuse(s: Store, why: Refusal) -> Landed
+pub(crate) fn refuse(s: Store, why: Refusal) -> Landed
     ensures is { λ r. ⌜ landedOf r ≡ refused why (modelOf s) ⌝ }
     ensures same { λ r. ⌜ r .store ≡ s ⌝ }
 {
@@ -55,7 +55,7 @@ fn refuse(s: Store, why: Refusal) -> Landed
 }
 
 // The newcomer lands on the lowest free port. While there is none, who goes next is reclaimed, `fuel` times at most.
-fn place(s: Store, def: SynthDef, pan: bool, state: VoiceState, bus: NodeId, fuel: usize) -> Landed
+pub(crate) fn place(s: Store, def: SynthDef, pan: bool, state: VoiceState, bus: NodeId, fuel: usize) -> Landed
     requires { ⌜ Headroom def (modelOf s) ⌝ }
     ensures { λ r. ⌜ landedOf r ≡ place fuel def pan state bus (modelOf s) ⌝ }
 {
