@@ -97,13 +97,14 @@ fn reclaim_book(s: Store, v: Voice, state: VoiceState) -> Steals
     }
 }
 
-// The voice goes at once, and the records say so. They are written first: its level is read while its nodes live.
+// The voice goes at once, and the records say so: its level is that of the store in which it lives.
 pub fn cut_off(s: Store, v: Voice, state: VoiceState) -> Store
     ensures { λ r. ⌜ modelOf r ≡ cutOff v state (modelOf s) ⌝ }
 {
-    let steals = reclaim_book(s, v, state);
-    let mut out = s;
-    out.steals = steals;
     let id = v.id;
-    forget_voice(out, id)
+    let left = forget_voice(s, id);
+    let steals = reclaim_book(s, v, state);
+    let mut out = left;
+    out.steals = steals;
+    out
 }
