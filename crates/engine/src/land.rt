@@ -59,7 +59,14 @@ fn newcomer(s: Store, def: SynthDef, pan: bool, state: VoiceState, bus: NodeId, 
 }
 
 // The newcomer lands on the port `port` of the bus.
-pub(crate) fn land_voice(s: Store, def: SynthDef, pan: bool, state: VoiceState, bus: NodeId, port: u32) -> Landed
+pub(crate) fn land_voice(
+    s: Store,
+    def: SynthDef,
+    pan: bool,
+    state: VoiceState,
+    bus: NodeId,
+    port: u32,
+) -> Landed
     requires { ⌜ Headroom def (modelOf s) ⌝ }
     ensures { λ r. ⌜ landedOf r ≡ land def pan state bus port (modelOf s) ⌝ }
 {

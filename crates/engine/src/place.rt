@@ -55,7 +55,14 @@ pub(crate) fn refuse(s: Store, why: Refusal) -> Landed
 }
 
 // The newcomer lands on the lowest free port. While there is none, who goes next is reclaimed, `fuel` times at most.
-pub(crate) fn place(s: Store, def: SynthDef, pan: bool, state: VoiceState, bus: NodeId, fuel: usize) -> Landed
+pub(crate) fn place(
+    s: Store,
+    def: SynthDef,
+    pan: bool,
+    state: VoiceState,
+    bus: NodeId,
+    fuel: usize,
+) -> Landed
     requires { ⌜ Headroom def (modelOf s) ⌝ }
     ensures { λ r. ⌜ landedOf r ≡ place fuel def pan state bus (modelOf s) ⌝ }
 {

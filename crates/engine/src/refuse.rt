@@ -85,7 +85,13 @@ fn room_test(s: Store, def: SynthDef) -> Answer
     let voices = s.voices;
     let ns = def.nodes;
     let es = def.edges;
-    if no_headroom(node_count(nodes), edge_count(edges), voice_count(voices), ns.count, es.count) {
+    if no_headroom(
+        node_count(nodes),
+        edge_count(edges),
+        voice_count(voices),
+        ns.count,
+        es.count,
+    ) {
         return Answer::Refused(Refusal::TableFull);
     }
     if no_ids(g.next, ns.count, s.spawned) {

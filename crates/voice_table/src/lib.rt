@@ -321,14 +321,17 @@ fn candidate(nodes: Nodes, clock: u64, v: Voice) -> Candidate
 {
     let voice = v.id;
     let level = voice_level(nodes, clock, v);
-    Candidate {
-        voice,
-        level,
-    }
+    Candidate { voice, level }
 }
 
 // The tracked voices that count for a newcomer on `bus`, in order of admission, each with its level.
-pub fn candidates(t: Voices, nodes: Nodes, clock: u64, scope: BudgetScope, bus: NodeId) -> Candidates
+pub fn candidates(
+    t: Voices,
+    nodes: Nodes,
+    clock: u64,
+    scope: BudgetScope,
+    bus: NodeId,
+) -> Candidates
     ensures { λ r. ⌜ candidatesOf r ≡ candidatesAt (nodesOf nodes) clock (counted scope bus) (voicesOf t) ⌝ }
 {
     let n = held(t.count);

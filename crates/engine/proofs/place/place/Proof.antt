@@ -83,8 +83,8 @@ loop-again c =
     let some-left : 0 < at .left = omega arith in (
       rw (c .cut-off .ensures) (headroom-cut (a .def) v (v .state) m (at .inv .0)),
       ap (place (at .left - 1) (a .def) (a .pan) (a .state) (a .bus)) (c .cut-off .ensures)
-      ∙ sym (place-again (a .def) (a .pan) (a .state) (a .bus) m (at .left) v some-left none-free goes)
-      ∙ at .inv .1,
+          ∙ sym (place-again (a .def) (a .pan) (a .state) (a .bus) m (at .left) v some-left none-free goes)
+          ∙ at .inv .1,
     )
 
 port-free-requires-2 : tie.Need-port-free-requires-2 Inv-loop μ-loop
