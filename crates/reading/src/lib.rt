@@ -1,6 +1,7 @@
 // The reading calls: each answers what the model answers, and leaves the store as it is.
 use edges::ports::Source;
 use edges::ports::sources_of;
+use edges::table::at_most;
 use node::record::Edges;
 use node::record::NodeId;
 use node::record::VoiceId;
@@ -14,6 +15,7 @@ use voice::steals::Steals;
 use voice_table::Looked;
 use voice_table::find_voice;
 ghost use mathlib.Core.Path.{_≡_};
+ghost use lib.ListN.{getElem?};
 ghost use Rattle.node.specs.Rows.{edgesOf};
 ghost use Rattle.order.specs.Live.{orderOf};
 ghost use Rattle.voice.specs.Steals.{bookOf};
@@ -74,6 +76,33 @@ pub fn voices(s: Store) -> Voices
     ensures { λ r. ⌜ call.reads (modelOf s) (call.all (voicesOf r)) ≡ call.step call.voices (modelOf s) ⌝ }
 {
     s.voices
+}
+
+// The voice at a place of a table, or none.
+fn row_at(t: Voices, i: usize) -> Looked
+    ensures { λ r. ⌜ lookedOf r ≡ getElem? (voicesOf t) i ⌝ }
+{
+    let n = at_most(t.count, 64);
+    if i < n {
+        let v = t.rows[i];
+        return Looked {
+            found: true,
+            voice: v,
+        };
+    }
+    let v = t.rows[0];
+    Looked {
+        found: false,
+        voice: v,
+    }
+}
+
+// The voice at a place in the order of admission, or none.
+pub fn voice_at(s: Store, i: usize) -> Looked
+    ensures { λ r. ⌜ lookedOf r ≡ getElem? (modelOf s .voices) i ⌝ }
+{
+    let t = s.voices;
+    row_at(t, i)
 }
 
 // The steals: their count, and the newest 64 records.
