@@ -1,8 +1,8 @@
 -- From the refusals to the landing: the room that each step leaves, and which refusals are left.
 -- Assumes nothing.
-use Prim.Native.Nat.{ℕ, _+_, _≤_, _<_}
+use Prim.Native.Nat.{ℕ, _+_}
 use native.Mathlib.Omega.{arith}
-use mathlib.Core.Path.{_≡_, refl, sym, ap, _∙_}
+use mathlib.Core.Path.{_≡_, refl, ap, _∙_}
 use mathlib.Core.Bool.{Bool, true, false, not, _||_}
 use mathlib.Core.List.{List, map}
 use mathlib.Core.Option.{Option, none, some}
@@ -10,7 +10,6 @@ use lib.Dec.{ltb, leb, eqb}
 use lib.ListN.{length, length-map}
 use borrow.Author.Tests.{ltb-false, leb-false, not-false}
 use Rattle.node.specs.declared.record.NodeId.{NodeId}
-use Rattle.node.specs.declared.record.VoiceId.{VoiceId}
 use Rattle.node.specs.declared.refusal.Refusal.{Refusal}
 use Rattle.node.specs.declared.refusal.Refusal.the-variants.{NoPort, DefinitionLimits, BusWithoutPorts, TableFull, IdsUsedUp}
 use Rattle.edges.specs.Ports.{portFrom}

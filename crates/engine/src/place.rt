@@ -5,7 +5,6 @@ use crate::land::land_voice;
 use edges::ports::Port;
 use edges::ports::free_port;
 use graph::nodes::node_at;
-use graph::state::Answer;
 use node::record::NodeId;
 use node::record::Nodes;
 use node::refusal::Refusal;
