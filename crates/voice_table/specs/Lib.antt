@@ -1,1 +1,2 @@
 pub mod Looked
+pub mod Levels

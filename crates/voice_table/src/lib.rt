@@ -1,10 +1,18 @@
 // The table of live voices: the part of engine.rs that works on `voices` alone.
+use graph::nodes::node_at;
 use node::record::NodeId;
+use node::record::Nodes;
 use node::record::VoiceId;
 use store::voices::Fade;
 use store::voices::Voice;
 use store::voices::VoiceState;
 use store::voices::Voices;
+use voice::policy::BudgetScope;
+use voice::policy::Candidate;
+use voice::policy::Candidates;
+use voice::policy::Level;
+use voice::policy::counts_for;
+use voice::policy::no_candidates;
 ghost use mathlib.Core.Path.{_≡_};
 ghost use mathlib.Core.Bool.{not};
 ghost use mathlib.Core.List.{map};
@@ -16,7 +24,11 @@ ghost use Rattle.model.specs.View.{voicesOf};
 ghost use Rattle.model.specs.Voice.{isVoice, isOn, isTracked, isFading, startOf, fadesOn, beginFade, moved, movedFade, movedState, withState};
 ghost use Rattle.model.specs.Spawn.{earlier, earliest};
 ghost use Rattle.model.specs.Render.{further};
+ghost use Rattle.model.specs.Voice.{counted};
+ghost use Rattle.node.specs.Rows.{nodesOf};
+ghost use Rattle.voice.specs.Policy.{candidatesOf};
 ghost use Rattle.voice_table.specs.Looked.{lookedOf, pushedVoice};
+ghost use Rattle.voice_table.specs.Levels.{levelAt, candidateAt, candidatesAt};
 
 // A voice, or none: an enum holds no array.
 pub struct Looked {
@@ -270,4 +282,70 @@ pub fn earliest_fade(t: Voices, bus: NodeId) -> Looked
         best = earlier_fade(best, v, bus);
     }
     best
+}
+
+// The level of a voice: none until the clock passes its birth, and none where its output does not live.
+pub fn voice_level(nodes: Nodes, clock: u64, v: Voice) -> Level
+    ensures { λ r. ⌜ r ≡ levelAt (nodesOf nodes) clock v ⌝ }
+{
+    if clock <= v.birth {
+        return Level::Unknown;
+    }
+    let output = v.output;
+    let seen = node_at(nodes, output);
+    if seen.live {
+        let n = seen.node;
+        return Level::Known(n.level);
+    }
+    Level::Unknown
+}
+
+// Whether `v` is tracked and counts for a newcomer on `bus`.
+fn is_counted(v: Voice, scope: BudgetScope, bus: NodeId) -> bool
+    ensures { λ r. ⌜ r ≡ counted scope bus v ⌝ }
+{
+    let s = v.state;
+    match s {
+        VoiceState::Tracked => {
+            let theirs = v.bus;
+            counts_for(scope, theirs, bus)
+        }
+        VoiceState::Fading(_) => false,
+        VoiceState::Loose => false,
+    }
+}
+
+// A voice that may have to go, with its level.
+fn candidate(nodes: Nodes, clock: u64, v: Voice) -> Candidate
+    ensures { λ r. ⌜ r ≡ candidateAt (nodesOf nodes) clock v ⌝ }
+{
+    let voice = v.id;
+    let level = voice_level(nodes, clock, v);
+    Candidate { voice, level }
+}
+
+// The tracked voices that count for a newcomer on `bus`, in order of admission, each with its level.
+pub fn candidates(
+    t: Voices,
+    nodes: Nodes,
+    clock: u64,
+    scope: BudgetScope,
+    bus: NodeId,
+) -> Candidates
+    ensures { λ r. ⌜ candidatesOf r ≡ candidatesAt (nodesOf nodes) clock (counted scope bus) (voicesOf t) ⌝ }
+{
+    let n = held(t.count);
+    let mut out = no_candidates();
+    let mut kept = 0;
+    let mut i = 0;
+    while i < n {
+        let v = t.rows[i];
+        i += 1;
+        if is_counted(v, scope, bus) {
+            out.rows[kept] = candidate(nodes, clock, v);
+            kept += 1;
+        }
+    }
+    out.count = kept;
+    out
 }

@@ -1,9 +1,8 @@
 use Prim.Native.Nat.{_+_, _≤_, _<_, _-_, min}
 use mathlib.Core.Path.{_≡_, sym, ap, _∙_}
 use native.Mathlib.Omega.{arith}
-use lib.ListN.{length, take, drop, getD}
+use lib.ListN.{length, take, drop, getD, length-map, drop-of-length-le}
 use borrow.Author.Needs.{needs}
-use lib.ListN.{length-map, drop-of-length-le}
 use lib.Seq.{length-take-le}
 use Rattle.lists.specs.Table.{left-row}
 use Rattle.model.specs.Spawn.{earlier, earliest}

@@ -1,9 +1,8 @@
 use Prim.Native.Nat.{_≤_, _<_, _-_, min}
 use mathlib.Core.Path.{_≡_, refl, sym, _∙_}
 use native.Mathlib.Omega.{arith}
-use lib.ListN.{length, take, drop}
+use lib.ListN.{length, take, drop, length-map}
 use borrow.Author.Needs.{needs}
-use lib.ListN.{length-map}
 use Rattle.lists.specs.Find.{find}
 use Rattle.lists.specs.Table.{find-hit, find-next, find-over}
 use Rattle.model.specs.Voice.{isVoice}

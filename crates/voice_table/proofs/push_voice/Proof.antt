@@ -1,9 +1,8 @@
 use Prim.Native.Nat.{_+_, _≤_, _<_, min}
 use mathlib.Core.Path.{_≡_}
 use native.Mathlib.Omega.{arith}
-use lib.ListN.{length, take}
+use lib.ListN.{length, take, length-map}
 use borrow.Author.Needs.{needs}
-use lib.ListN.{length-map}
 use lib.Seq.{length-take-le}
 use borrow.Author.Tests.{lt-ltb, le-ltb}
 use Rattle.lists.specs.Table.{append-row}

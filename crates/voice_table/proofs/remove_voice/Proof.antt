@@ -1,11 +1,9 @@
 use Prim.Native.Nat.{_≤_, _<_, _-_, min}
 use mathlib.Core.Path.{_≡_, refl, sym, ap, _∙_}
-use mathlib.Core.Bool.{Bool, true, false}
+use mathlib.Core.Bool.{Bool, true, false, not}
 use native.Mathlib.Omega.{arith}
-use lib.ListN.{length, take, getD}
+use lib.ListN.{length, take, getD, length-map, length-set}
 use borrow.Author.Needs.{needs}
-use mathlib.Core.Bool.{not}
-use lib.ListN.{length-map, length-set}
 use Rattle.lists.specs.Keep.{keep}
 use Rattle.lists.specs.Table.{keep-row, drop-row}
 use Rattle.node.specs.declared.record.VoiceId.{VoiceId}

@@ -1,9 +1,8 @@
 use Prim.Native.Nat.{_≤_, min}
 use mathlib.Core.Path.{_≡_, sym, _∙_}
 use native.Mathlib.Omega.{arith}
-use lib.ListN.{length}
+use lib.ListN.{length, length-map}
 use borrow.Author.Needs.{needs}
-use lib.ListN.{length-map}
 use lib.Seq.{length-take-le}
 use Rattle.voice_table.proofs.voice_count.Statement.{statement}
 use Rattle.voice_table.proofs.voice_count.Tie as tie

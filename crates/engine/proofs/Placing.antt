@@ -1,0 +1,120 @@
+-- The port search, one step at a time, and the room that it leaves.
+-- Assumes nothing.
+use Prim.Native.Nat.{ℕ, zero, suc, _-_, _+_, _≤_, _<_}
+use native.Mathlib.Omega.{arith}
+use mathlib.Core.Path.{_≡_, refl, ap, _∙_}
+use mathlib.Core.Bool.{Bool}
+use mathlib.Core.List.{List, _∷_, [], _++_}
+use mathlib.Core.Option.{Option, none, some}
+use lib.ListN.{length}
+use borrow.Author.Tests.{lt-ltb}
+use Rattle.lists.specs.Keep.{length-keep}
+use Rattle.node.specs.declared.record.NodeId.{NodeId}
+use Rattle.node.specs.declared.refusal.Refusal.the-variants.{NoPort}
+use Rattle.edges.specs.Ports.{portOf}
+use Rattle.edges.specs.declared.ports.Port.the-variants as Port
+use Rattle.synthdef.specs.declared.def.SynthDef.{SynthDef}
+use Rattle.store.specs.declared.voices.Voice.{Voice}
+use Rattle.store.specs.declared.voices.VoiceState.{VoiceState}
+use Rattle.voice_table.specs.Looked.{pushedVoice}
+use Rattle.synthdef.specs.declared.plan.DonePlan.{DonePlan}
+use Rattle.store.specs.declared.answer.Spawned.the-variants as Spawned
+use Rattle.graph.specs.View.{GraphView}
+use Rattle.model.specs.Desk.{Desk}
+use Rattle.model.specs.Voice.{id}
+use Rattle.model.specs.Model.{Model, Landed, portFree, place, land, landOr, refused, cutOff}
+use Rattle.model.specs.Spawn.{nextOut, nextVoice}
+use Rattle.engine.specs.Room.{Headroom}
+
+pub port-some : (o : Option ℕ) (p : ℕ) → portOf o ≡ Port.At p → o ≡ some p
+port-some none p e = let z : _≡_ {A = ℕ} 0 1 = cc in absurd (omega arith)
+port-some (some q) p e = cc
+
+pub port-none : (o : Option ℕ) → portOf o ≡ Port.Nothing → o ≡ none
+port-none none e = refl
+port-none (some q) e = let z : _≡_ {A = ℕ} 0 1 = cc in absurd (omega arith)
+
+pub pushed-seat : (vs : List Voice) (v : Voice) → length vs < 64 → pushedVoice vs v ≡ vs ++ (v ∷ [])
+pushed-seat vs v h = rw (lt-ltb (length vs) 64 h)
+
+module _ (def : SynthDef) (pan : Bool) (s : VoiceState) (bus : NodeId) (m : Model) where
+  -- a port: the newcomer lands
+  pub place-port : (fuel p : ℕ) → portFree bus m ≡ some p → place fuel def pan s bus m ≡ land def pan s bus p m
+  place-port zero p e = ap (λ o. landOr o none def pan s bus m (refused NoPort)) e
+  place-port (suc k) p e = ap (λ o. landOr o (nextOut (m .desk) bus (m .voices)) def pan s bus m (λ j. place k def pan s bus j)) e
+
+  -- no port, and no try left
+  pub place-over : portFree bus m ≡ none → place 0 def pan s bus m ≡ refused NoPort m
+  place-over e = ap (λ o. landOr o none def pan s bus m (refused NoPort)) e
+
+  -- no port, and nobody to reclaim
+  pub place-nobody : (fuel : ℕ) → portFree bus m ≡ none → nextOut (m .desk) bus (m .voices) ≡ none → place fuel def pan s bus m ≡ refused NoPort m
+  place-nobody zero e f = place-over e
+  place-nobody (suc k) e f =
+      ap (λ o. landOr o (nextOut (m .desk) bus (m .voices)) def pan s bus m (λ j. place k def pan s bus j)) e
+      ∙ ap (λ o. landOr none o def pan s bus m (λ j. place k def pan s bus j)) f
+
+  -- no port: the next one out goes, and the search goes on
+  pub place-again : (fuel : ℕ) (v : Voice) → 0 < fuel → portFree bus m ≡ none → nextOut (m .desk) bus (m .voices) ≡ some v
+      → place fuel def pan s bus m ≡ place (fuel - 1) def pan s bus (cutOff v (v .state) m)
+  place-again zero v h e f = absurd (omega arith)
+  place-again (suc k) v h e f =
+      let z : k ≡ suc k - 1 = omega arith in
+      ap (λ o. landOr o (nextOut (m .desk) bus (m .voices)) def pan s bus m (λ j. place k def pan s bus j)) e
+      ∙ ap (λ o. landOr none o def pan s bus m (λ j. place k def pan s bus j)) f
+      ∙ ap (λ i. place i def pan s bus (cutOff v (v .state) m)) z
+
+-- what goes makes room
+pub headroom-cut : (def : SynthDef) (v : Voice) (s : VoiceState) (m : Model) → Headroom def m → Headroom def (cutOff v s m)
+headroom-cut def v s m h =
+    let ns : length (cutOff v s m .desk .graph .nodes) ≤ length (m .desk .graph .nodes) = length-keep _ (m .desk .graph .nodes) in
+    let es : length (cutOff v s m .desk .graph .edges) ≤ length (m .desk .graph .edges) = length-keep _ (m .desk .graph .edges) in
+    let vs : length (cutOff v s m .voices) ≤ length (m .voices) = length-keep _ (m .voices) in
+    let a = h .places in
+    let b = h .wires in
+    let c = h .seats in
+    record {
+      within = h .within;
+      places = omega arith;
+      wires = omega arith;
+      seats = omega arith;
+      ids = h .ids;
+      names = h .names;
+    }
+
+-- ---- the newcomer's record, and the store after it landed, by the parts that the code computes
+abbrev pub made : Desk → SynthDef → Bool → VoiceState → NodeId → ℕ → ℕ → NodeId → DonePlan → Voice
+made d def pan s bus p n out plan =
+    record {
+      id = nextVoice d;
+      birth = d .clock;
+      bus = bus;
+      port = p;
+      first = id (d .graph .next);
+      count = n;
+      output = out;
+      panned = pan;
+      sequence = d .sequence;
+      state = s;
+      params = def .params;
+      plan = plan;
+    }
+
+pub made-same : (d : Desk) (def : SynthDef) (pan : Bool) (s : VoiceState) (bus : NodeId) (p n m : ℕ) (a b : NodeId) (x y : DonePlan) → n ≡ m → a ≡ b → x ≡ y
+    → made d def pan s bus p n a x ≡ made d def pan s bus p m b y
+made-same d def pan s bus p n m a b x y e f g =
+    ap (λ k. made d def pan s bus p k a x) e ∙ ap (λ k. made d def pan s bus p m k x) f ∙ ap (λ k. made d def pan s bus p m b k) g
+
+abbrev pub landedAs : Desk → GraphView → List Voice → ℕ → Landed
+landedAs d g vs n =
+    record {
+      answer = Spawned.Voice (nextVoice d);
+      model =
+          record {
+            desk = record { config = d .config; graph = g; events = d .events; steals = d .steals; clock = d .clock; spawned = d .spawned + 1; sequence = n };
+            voices = vs;
+          };
+    }
+
+pub landed-same : (d : Desk) (g h : GraphView) (vs us : List Voice) (n m : ℕ) → g ≡ h → vs ≡ us → n ≡ m → landedAs d g vs n ≡ landedAs d h us m
+landed-same d g h vs us n m e f k = ap (λ x. landedAs d x vs n) e ∙ ap (λ x. landedAs d h x n) f ∙ ap (λ x. landedAs d h us x) k

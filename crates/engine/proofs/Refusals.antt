@@ -1,0 +1,47 @@
+-- The rows of the refusal table, one after the other.
+-- Assumes nothing.
+use mathlib.Core.Path.{_≡_, refl}
+use mathlib.Core.Bool.{Bool, true, false}
+use mathlib.Core.Option.{Option, none, some}
+use native.Mathlib.Omega.{arith}
+use Prim.Native.Nat.{ℕ}
+use Rattle.lists.specs.Find.{or?}
+use Rattle.node.specs.declared.record.Node.{Node}
+use Rattle.node.specs.declared.refusal.Refusal.{Refusal}
+use Rattle.graph.specs.Refuse.{when, hostTest}
+use Rattle.graph.specs.Tables.{answerOf}
+use Rattle.graph.specs.declared.state.Answer.{Answer}
+use Rattle.graph.specs.declared.state.Answer.the-variants as Answer
+use Rattle.model.specs.Refuse.{orElse}
+
+pub answer-done : (o : Option Refusal) → answerOf o ≡ Answer.Done → o ≡ none
+answer-done none e = refl
+answer-done (some r) e = let z : _≡_ {A = ℕ} 0 1 = cc in absurd (omega arith)
+
+pub refused-first : (o x : Option Refusal) (r : Refusal) → answerOf o ≡ Answer.Refused r → answerOf o ≡ answerOf (orElse o x)
+refused-first none x r e = let z : _≡_ {A = ℕ} 0 1 = cc in absurd (omega arith)
+refused-first (some r') x r e = refl
+
+-- a bus that passes lives
+pub host-lives : (live : Bool) (n : Node) → hostTest (or? live n none) ≡ none → live ≡ true
+host-lives true n e = refl
+host-lives false n e = let z : _≡_ {A = ℕ} 0 1 = cc in absurd (omega arith)
+
+-- the rows of the bus, and what stands below them
+module _ (b : Bool) (k : Refusal) (rest : Option Refusal) where
+  pub above-refused : (h : Option Refusal) (r : Refusal) → answerOf (orElse h (when b k none)) ≡ Answer.Refused r
+      → answerOf (orElse h (when b k none)) ≡ answerOf (orElse h (when b k rest))
+  above-refused (some x) r e = refl
+  above-refused none r e = go b e
+    where
+      go : (b : Bool) → answerOf (when b k none) ≡ Answer.Refused r → answerOf (when b k none) ≡ answerOf (when b k rest)
+      go true e = refl
+      go false e = let z : _≡_ {A = ℕ} 0 1 = cc in absurd (omega arith)
+
+  pub above-done : (h : Option Refusal) → answerOf (orElse h (when b k none)) ≡ Answer.Done → answerOf rest ≡ answerOf (orElse h (when b k rest))
+  above-done (some x) e = let z : _≡_ {A = ℕ} 0 1 = cc in absurd (omega arith)
+  above-done none e = go b e
+    where
+      go : (b : Bool) → answerOf (when b k none) ≡ Answer.Done → answerOf rest ≡ answerOf (when b k rest)
+      go true e = let z : _≡_ {A = ℕ} 0 1 = cc in absurd (omega arith)
+      go false e = refl

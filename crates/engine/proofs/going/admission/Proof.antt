@@ -1,0 +1,20 @@
+use Prim.Native.Nat.{_-_}
+use mathlib.Core.Path.{ap, _∙_}
+use borrow.Author.Needs.{needs}
+use Rattle.voice.specs.Policy.{admits}
+use Rattle.engine.proofs.going.admission.Statement.{statement}
+use Rattle.engine.proofs.going.admission.Tie as tie
+
+candidates-requires : tie.Need-candidates-requires
+candidates-requires c κs = search needs
+
+request-in-requires : tie.Need-request-in-requires
+request-in-requires c κs = search needs
+
+returns : tie.Need-returns
+returns c =
+    let a = c .before .before .before .before .before .before .args in
+    c .request-in .ensures .0 ∙ ap (admits (a .s .config .budget) (a .s .config .policy)) (c .before .candidates .ensures)
+
+pub admission-spec : {M : Type 1} → statement M
+admission-spec = tie.close (tie.spec candidates-requires request-in-requires returns)

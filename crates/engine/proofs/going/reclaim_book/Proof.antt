@@ -1,0 +1,42 @@
+use Prim.Native.Nat.{_-_}
+use mathlib.Core.Path.{_∙_}
+use borrow.Author.Needs.{needs}
+use Rattle.engine.proofs.going.reclaim_book.Statement.{statement}
+use Rattle.engine.proofs.going.reclaim_book.Tie as tie
+
+enum-told : tie.Need-enum-told
+enum-told c = search needs
+
+record-steal-requires : tie.Need-record-steal-requires
+record-steal-requires c κs = search needs
+
+enum-known-state : tie.Need-enum-known-state
+enum-known-state c = search needs
+
+mark-cut-requires : tie.Need-mark-cut-requires
+mark-cut-requires c κs = search needs
+
+enum-told-2 : tie.Need-enum-told-2
+enum-told-2 c = search needs
+
+returns : tie.Need-returns
+returns c = c .record-steal .ensures ∙ rw (c .before .enum-told .given .1)
+
+returns-2 : tie.Need-returns-2
+returns-2 c = c .mark-cut .ensures ∙ rw (c .before .before .before .state .given .1)
+
+returns-3 : tie.Need-returns-3
+returns-3 c = rw (c .before .enum-told2 .given .1)
+
+pub reclaim-book-spec : {M : Type 1} → statement M
+reclaim-book-spec =
+    tie.close
+    (tie.spec
+    enum-told
+    record-steal-requires
+    enum-known-state
+    mark-cut-requires
+    enum-told-2
+    returns
+    returns-2
+    returns-3)

@@ -1,0 +1,25 @@
+-- What making answers, as the model says it.
+-- Assumes nothing.
+use Prim.Native.Nat.{ℕ}
+use mathlib.Core.Option.{Option, none, some}
+use lib.Ieee.{Float}
+use Rattle.graph.specs.declared.state.Answer.{Answer}
+use Rattle.graph.specs.declared.state.Answer.the-variants as Answer
+use Rattle.voice.specs.declared.policy.Budget.{Budget}
+use Rattle.voice.specs.declared.policy.StealPolicy.{StealPolicy}
+use Rattle.voice.specs.declared.policy.BudgetScope.{BudgetScope}
+use Rattle.model.specs.Model.{Model}
+use Rattle.model.specs.Make.{Making}
+use Rattle.model.specs.View.{modelOf}
+use Rattle.making.specs.declared.Made.{Made}
+
+abbrev pub making : Float → ℕ → Budget → StealPolicy → BudgetScope → Making
+making rate block budget policy scope = record { rate = rate; block = block; budget = budget; policy = policy; scope = scope }
+
+-- the store, unless making was refused
+abbrev pub ifDone : Answer → Model → Option Model
+ifDone Answer.Done m = some m
+ifDone (Answer.Refused r) m = none
+
+abbrev pub madeOf : Made → Option Model
+madeOf r = ifDone (r .answer) (modelOf (r .store))

@@ -1,0 +1,15 @@
+-- A store's model, one part changed.
+-- Assumes nothing.
+use mathlib.Core.Path.{_≡_, ap, _∙_}
+use mathlib.Core.List.{List}
+use Rattle.graph.specs.View.{GraphView}
+use Rattle.store.specs.declared.voices.Voice.{Voice}
+use Rattle.model.specs.Desk.{Desk, withGraph}
+use Rattle.model.specs.Model.{Model}
+
+-- another graph and other voices
+abbrev pub remade : Desk → GraphView → List Voice → Model
+remade d g vs = record { desk = withGraph g d; voices = vs }
+
+pub remade-same : (d : Desk) (g h : GraphView) (vs ws : List Voice) → g ≡ h → vs ≡ ws → remade d g vs ≡ remade d h ws
+remade-same d g h vs ws e f = ap (λ x. remade d x vs) e ∙ ap (λ x. remade d h x) f

@@ -1,0 +1,2 @@
+mod Walks
+mod Whole

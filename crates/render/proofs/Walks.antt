@@ -1,0 +1,106 @@
+-- The walks over the due events, and what they leave alone. Assumes nothing.
+use Prim.Native.Nat.{ℕ, _+_, _≤_, _<_}
+use native.Mathlib.Omega.{arith}
+use mathlib.Core.Path.{_≡_, refl, sym, ap, _∙_}
+use mathlib.Core.List.{List, [], _∷_}
+use mathlib.Core.Option.{Option, none, some}
+use mathlib.Core.Bool.{Bool, true, false, cond, _||_}
+use lib.ListN.{length, take, drop, getD, drop-of-length-le}
+use lib.Seq.{length-take-le}
+use Rattle.lists.specs.Find.{find}
+use Rattle.lists.specs.Table.{left-row}
+use Rattle.node.specs.declared.name.Name.{Name}
+use Rattle.node.specs.declared.order.LastOrder.{LastOrder}
+use Rattle.node.specs.declared.record.Node.{Node}
+use Rattle.order.specs.declared.Readiness.{Readiness}
+use Rattle.order.specs.declared.Readiness.the-variants as Readiness
+use Rattle.node.specs.declared.record.NodeId.{NodeId}
+use Rattle.graph.specs.Node.{nodeAt}
+use Rattle.graph.specs.declared.state.Answer.{Answer}
+use Rattle.graph.specs.declared.state.Answer.the-variants as Answer
+use Rattle.scheduler.specs.Event.{paramOrder}
+use Rattle.scheduler.specs.declared.event.Event.{Event}
+use Rattle.synthdef.specs.Tables.{paramRows}
+use Rattle.synthdef.specs.Params.{paramNode}
+use Rattle.store.specs.declared.voices.Voice.{Voice}
+use Rattle.model.specs.Desk.{Desk, sounding}
+use Rattle.model.specs.Model.{Model, freed, free}
+use Rattle.model.specs.Order.{takes, orderNode, orderParam, orderVoice, order}
+use Rattle.model.specs.Render.{isFree, anyFree, happen, happenAll, deadline, readyDesk, prepareDesk, prepareOutcome, preparedIf, blockOf, heard, answerAfter}
+use Rattle.model.specs.Voice.{isVoice, id}
+use Rattle.model.specs.Call.{readyAnswer}
+use Rattle.service.specs.Steps.{answered}
+use Rattle.render.specs.Blocks.{readied, blockTo, afterAnswer}
+
+-- nothing is left at the end
+pub over : {A : Type 0} (rows : List A) (n i : ℕ) → i ≡ n → n ≤ length rows → drop i (take n rows) ≡ []
+over rows n i e t =
+    let long : length (take n rows) ≡ n = length-take-le n rows t in
+    let past : length (take n rows) ≤ i = omega arith in
+    drop-of-length-le (take n rows) past
+
+module _ (d : Event) (rows : List Event) (n i : ℕ) (below : i < n) (top : n ≤ length rows) where
+  pub happen-next : (m k : Model) → k ≡ happen (getD rows i d) m → happenAll (drop (i + 1) (take n rows)) k ≡ happenAll (drop i (take n rows)) m
+  happen-next m k e = ap (happenAll (drop (i + 1) (take n rows))) e ∙ sym (ap (λ l. happenAll l m) (left-row d rows n i below top))
+
+  pub free-hit : isFree (getD rows i d .action) ≡ true → anyFree (drop i (take n rows)) ≡ true
+  free-hit h = ap anyFree (left-row d rows n i below top) ∙ rw h
+
+  pub free-next : isFree (getD rows i d .action) ≡ false → anyFree (drop (i + 1) (take n rows)) ≡ anyFree (drop i (take n rows))
+  free-next h = sym (ap anyFree (left-row d rows n i below top) ∙ rw h)
+
+-- ---- one event
+pub happen-free : (e : Event) (m : Model) → isFree (e .action) ≡ true → free (e .voice) m ≡ happen e m
+happen-free e m h = rw h
+
+pub happen-order : (e : Event) (m : Model) → isFree (e .action) ≡ false → record { desk = order (e .voice) (paramOrder e .name) (paramOrder e .order) (m .voices) (m .desk) .desk; voices = m .voices } ≡ happen e m
+happen-order e m h = rw h
+
+-- ---- clock + block stays what it was
+freed-ends : (o : Option Voice) (m : Model) → deadline (freed o m .desk) ≡ deadline (m .desk)
+freed-ends none m = refl
+freed-ends (some v) m = refl
+
+taken-ends : (b : Bool) (n : Node) (o : LastOrder) (d : Desk) → takes o n ≡ b → deadline (orderNode (some n) o d .desk) ≡ deadline d
+taken-ends true n o d h = rw h
+taken-ends false n o d h = rw h
+
+node-ends : (x : Option Node) (o : LastOrder) (d : Desk) → deadline (orderNode x o d .desk) ≡ deadline d
+node-ends none o d = refl
+node-ends (some n) o d = taken-ends (takes o n) n o d refl
+
+param-ends : (p : Option ℕ) (v : Voice) (o : LastOrder) (d : Desk) → deadline (orderParam p v o d .desk) ≡ deadline d
+param-ends none v o d = refl
+param-ends (some i) v o d = node-ends (nodeAt (d .graph .nodes) (id (v .first .0 + i))) o d
+
+order-ends : (x : Option Voice) (name : Name) (o : LastOrder) (d : Desk) → deadline (orderVoice x name o d .desk) ≡ deadline d
+order-ends none name o d = refl
+order-ends (some v) name o d = param-ends (paramNode (paramRows (v .params)) name) v o d
+
+happen-ends : (e : Event) (m : Model) → deadline (happen e m .desk) ≡ deadline (m .desk)
+happen-ends e m = go (isFree (e .action)) refl
+  where
+    go : (b : Bool) → isFree (e .action) ≡ b → deadline (happen e m .desk) ≡ deadline (m .desk)
+    go true h = ap (λ (k : Model). deadline (k .desk)) (sym (happen-free e m h)) ∙ freed-ends (find (isVoice (e .voice)) (m .voices)) m
+    go false h = ap (λ (k : Model). deadline (k .desk)) (sym (happen-order e m h)) ∙ order-ends (find (isVoice (e .voice)) (m .voices)) (paramOrder e .name) (paramOrder e .order) (m .desk)
+
+pub all-ends : (l : List Event) (m : Model) → deadline (happenAll l m .desk) ≡ deadline (m .desk)
+all-ends [] m = refl
+all-ends (e ∷ l) m = all-ends l (happen e m) ∙ happen-ends e m
+
+ready-ends : (r : Readiness) (l : List NodeId) (d : Desk) → deadline (readyDesk r l d) ≡ deadline d
+ready-ends Readiness.Ready l d = refl
+ready-ends (Readiness.Refused x) l d = refl
+
+-- ---- the block, after what was made ready
+pub block-is : (b : Bool) (m : Model) (end : ℕ) → end ≡ deadline (m .desk) → blockTo end (readied b m .answer) (readied b m .model) ≡ preparedIf b m
+block-is true m end e =
+    ap (λ x. blockTo x (readied true m .answer) (readied true m .model)) (e ∙ sym (ready-ends (prepareOutcome (m .desk) .answer) (prepareOutcome (m .desk) .order) (m .desk)))
+block-is false m end e = ap (λ x. blockTo x (readied false m .answer) (readied false m .model)) e
+
+-- ---- what a prepare's answer says
+pub after-is : (a : Answer) (k : Readiness) (d : Desk) (b : Bool) → answered a ≡ readyAnswer k → b ≡ sounding d → afterAnswer a b ≡ answerAfter k d
+after-is Answer.Done Readiness.Ready d b e f = ap heard f
+after-is Answer.Done (Readiness.Refused y) d b e f = absurd (let z : _≡_ {A = ℕ} 0 1 = cc in omega arith)
+after-is (Answer.Refused x) Readiness.Ready d b e f = absurd (let z : _≡_ {A = ℕ} 0 1 = cc in omega arith)
+after-is (Answer.Refused x) (Readiness.Refused y) d b e f = let s : x ≡ y = cc in ap (λ r. afterAnswer (Answer.Refused r) b) s

@@ -1,0 +1,1 @@
+// Statements only: see specs/Tie.antt.
