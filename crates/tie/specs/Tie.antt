@@ -9,12 +9,27 @@ use Rattle.node.specs.declared.record.NodeId.{NodeId}
 use Rattle.synthdef.specs.declared.def.SynthDef.{SynthDef}
 use Rattle.store.specs.declared.state.Store.{Store}
 use Rattle.model.specs.Make.{Making, make, configOf}
-use Rattle.model.specs.Model.{Model, spawnManaged, spawnLoose}
+use Rattle.model.specs.Model.{Model, spawnManaged, spawnLoose, free}
 use Rattle.model.specs.Spawn.{pans}
 use Rattle.model.specs.View.{modelOf}
 use Rattle.model.specs.Call.{Call, Answer, Step, Ran, step, run}
 use Rattle.model.specs.Call as call
 use Rattle.ledger.specs.Claim.{Claim, claim}
+use Rattle.lists.specs.Member.{some-inj, none-some}
+use Rattle.node.specs.declared.record.VoiceId.{VoiceId}
+use Rattle.graph.specs.declared.state.Answer.the-variants as graph
+use Rattle.graph.specs.declared.state.Answer as answer
+use Rattle.making.specs.declared.Made.{Made}
+use Rattle.making.specs.Made.{ifDone, madeOf}
+use Rattle.service.specs.declared.host.Served.{Served}
+use Rattle.service.specs.declared.host.Granted.{Granted}
+use Rattle.service.specs.Steps.{answered, given, servedOf, grantedOf}
+use Rattle.orders.specs.declared.param.Ordered.{Ordered}
+use Rattle.orders.specs.Ordering as orders
+use Rattle.render.specs.declared.Rendering.{Rendering}
+use Rattle.render.specs.Blocks as render
+use Rattle.clearing.specs.declared.Cleared.{Cleared}
+use Rattle.clearing.specs.Cleared as clearing
 use Rattle.engine.specs.declared.land.Landed.{Landed}
 use Rattle.engine.specs.Room.{landedOf}
 
@@ -30,6 +45,31 @@ managed-called s def bus pan r e = ap (λ l. record { answer = call.spawned (l .
 pub loose-called : (s : Store) (def : SynthDef) (bus : NodeId) (pan : Float) (r : Landed) → landedOf r ≡ spawnLoose def bus (pans pan) (modelOf s)
     → Called (call.spawnLoose def bus pan) s (call.spawned (r .answer)) (r .store)
 loose-called s def bus pan r e = ap (λ l. record { answer = call.spawned (l .answer); model = l .model }) e
+
+-- the contracts of the other calls say it as they stand: those of the host's calls, of prepare, scheduling and a report
+pub granted-called : (c : Call) (s : Store) (r : Granted) → grantedOf r ≡ step c (modelOf s) → Called c s (given (r .given)) (r .store)
+granted-called c s r e = e
+
+pub served-called : (c : Call) (s : Store) (r : Served) → servedOf r ≡ step c (modelOf s) → Called c s (answered (r .answer)) (r .store)
+served-called c s r e = e
+
+-- of a value and a glide, of a render, of clearing
+pub ordered-called : (c : Call) (s : Store) (r : Ordered) → orders.stepOf r ≡ step c (modelOf s) → Called c s (call.ordered (r .outcome)) (r .store)
+ordered-called c s r e = e
+
+pub rendered-called : (c : Call) (s : Store) (r : Rendering) → render.stepOf r ≡ step c (modelOf s) → Called c s (call.rendered (r .answer)) (r .store)
+rendered-called c s r e = e
+
+pub cleared-called : (c : Call) (s : Store) (r : Cleared) → clearing.stepOf r ≡ step c (modelOf s) → Called c s (call.removed (r .removed)) (r .store)
+cleared-called c s r e = e
+
+-- of the reading calls, which leave the very store
+pub read-called : (c : Call) (s : Store) (a : Answer) → call.reads (modelOf s) a ≡ step c (modelOf s) → Called c s a s
+read-called c s a e = e
+
+-- and of a free
+pub freed-called : (s r : Store) (w : VoiceId) → modelOf r ≡ free w (modelOf s) → Called (call.free w) s call.done r
+freed-called s r w e = ap (λ m. record { answer = call.done; model = m }) e
 
 -- a run of calls on stores
 pub data Runs : Store → List Call → List Answer → Store → Type 0 where
@@ -49,5 +89,13 @@ pub record Tied (k : Making) (m : Model) (cs : List Call) (said : List Answer) (
   pub ran : _≡_ {A = Ran} (record { answers = said; model = modelOf t }) (run cs m)
   pub claimed : Claim (configOf k) m cs
 
-pub tie : (k : Making) (m : Model) → make k ≡ some m → (s t : Store) (cs : List Call) (said : List Answer) → modelOf s ≡ m → Runs s cs said t → Tied k m cs said t
-tie k m accepted s t cs said new r = record { ran = run-is r ∙ ap (run cs) new; claimed = claim k m accepted cs }
+-- the store of an accepted making is the model's new store
+pub made-new : (k : Making) (m : Model) (r : Made) → madeOf r ≡ make k → make k ≡ some m → modelOf (r .store) ≡ m
+made-new k m r e accepted = go (r .answer) (e ∙ accepted)
+  where
+    go : (a : answer.Answer) → ifDone a (modelOf (r .store)) ≡ some m → modelOf (r .store) ≡ m
+    go graph.Done h = some-inj h
+    go (graph.Refused x) h = absurd (none-some h)
+
+pub tie : (k : Making) (m : Model) → make k ≡ some m → (r : Made) → madeOf r ≡ make k → (t : Store) (cs : List Call) (said : List Answer) → Runs (r .store) cs said t → Tied k m cs said t
+tie k m accepted r e t cs said ran = record { ran = run-is ran ∙ ap (run cs) (made-new k m r e accepted); claimed = claim k m accepted cs }
