@@ -71,7 +71,7 @@ fn admit(s: Store, def: SynthDef, pan: bool, bus: NodeId) -> Landed
 }
 
 // A managed spawn: the refusals; admission, with a victim if it asks for one; then the lowest port without an edge.
-pub fn spawn_managed(s: Store, def: SynthDef, bus: NodeId, pan: f32) -> Landed
+pub fn spawn_voice_on_bus_panned_managed(s: Store, def: SynthDef, bus: NodeId, pan: f32) -> Landed
     ensures is { λ r. ⌜ landedOf r ≡ spawnManaged def bus (pans pan) (modelOf s) ⌝ }
     ensures same { λ r. ⌜ Kept s r ⌝ }
 {
@@ -83,7 +83,7 @@ pub fn spawn_managed(s: Store, def: SynthDef, bus: NodeId, pan: f32) -> Landed
 }
 
 // An unmanaged spawn: the refusals, and the port search alone; the newcomer is loose.
-pub fn spawn_loose(s: Store, def: SynthDef, bus: NodeId, pan: f32) -> Landed
+pub fn spawn_voice_on_bus_panned(s: Store, def: SynthDef, bus: NodeId, pan: f32) -> Landed
     ensures is { λ r. ⌜ landedOf r ≡ spawnLoose def bus (pans pan) (modelOf s) ⌝ }
     ensures same { λ r. ⌜ Kept s r ⌝ }
 {
@@ -95,17 +95,17 @@ pub fn spawn_loose(s: Store, def: SynthDef, bus: NodeId, pan: f32) -> Landed
 }
 
 // A managed spawn in the middle.
-pub fn spawn_managed_centred(s: Store, def: SynthDef, bus: NodeId) -> Landed
+pub fn spawn_voice_on_bus_managed(s: Store, def: SynthDef, bus: NodeId) -> Landed
     ensures is { λ r. ⌜ landedOf r ≡ spawnManaged def bus false (modelOf s) ⌝ }
     ensures same { λ r. ⌜ Kept s r ⌝ }
 {
-    spawn_managed(s, def, bus, 0.0)
+    spawn_voice_on_bus_panned_managed(s, def, bus, 0.0)
 }
 
 // An unmanaged spawn in the middle.
-pub fn spawn_loose_centred(s: Store, def: SynthDef, bus: NodeId) -> Landed
+pub fn spawn_voice_on_bus(s: Store, def: SynthDef, bus: NodeId) -> Landed
     ensures is { λ r. ⌜ landedOf r ≡ spawnLoose def bus false (modelOf s) ⌝ }
     ensures same { λ r. ⌜ Kept s r ⌝ }
 {
-    spawn_loose(s, def, bus, 0.0)
+    spawn_voice_on_bus_panned(s, def, bus, 0.0)
 }

@@ -28,7 +28,7 @@ use Rattle.model.specs.Refuse.{reportRefusal}
 use Rattle.model.specs.Spawn.{pans}
 use Rattle.model.specs.Order.{order, reportNode}
 use Rattle.model.specs.Render.{prepareOutcome}
-use Rattle.model.specs.Call.{Call, positionIn, scheduleRefusal}
+use Rattle.model.specs.Call.{Call, positionIn, scheduleRefusal, pageAnswer}
 use Rattle.model.specs.Call as call
 use Rattle.ledger.specs.Ledger.{Ledger, newLedger}
 use Rattle.ledger.specs.Call as ledger
@@ -36,7 +36,7 @@ use Rattle.ledger.specs.Allowed.{when-none, or-false, host-at}
 use Rattle.ledger.specs.Managed.{config-step}
 use Rattle.ledger.specs.Owner.{ownerOf, portsAt}
 use Rattle.ledger.specs.Sound.{HostAt, sound-append, sound-removed, sound-connect, sound-disconnect, sound-new}
-use Rattle.ledger.specs.Shown.{modelOf, reached, find-stored}
+use Rattle.ledger.specs.Shown.{modelOf, reached, find-stored, page-same}
 use Rattle.ledger.specs.Timely.{Timely, clock-step, timely-step, stored-shown, found-shown}
 use Rattle.ledger.specs.Spawns.{SoundL, host-owned, ids-of, managed-agrees, loose-agrees}
 use Rattle.ledger.specs.Moves.{free-agrees, clear-agrees, order-desk, report-desk, ready-desk, order-same, level-same, refusal-same, render-agrees}
@@ -142,6 +142,7 @@ step-agrees call.edges l h = reads-agrees l (h .sound) _ _ refl
 step-agrees call.processing l h = reads-agrees l (h .sound) _ _ refl
 step-agrees (call.sources k) l h = reads-agrees l (h .sound) _ _ refl
 step-agrees call.clock l h = reads-agrees l (h .sound) _ _ refl
+step-agrees (call.page out) l h = reads-agrees l (h .sound) _ _ (ap (λ t. pageAnswer t out) (page-same (reached (l .desk .config .block)) (l .desk .clock) (l .voices)))
 
 pub kept-step : (x : Call) (l : Ledger) → Kept l → Kept (ledger.step x l .ledger)
 kept-step x l h =

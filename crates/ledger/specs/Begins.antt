@@ -33,6 +33,7 @@ use Rattle.model.specs.Refuse.{spawnRefusal, reportRefusal}
 use Rattle.model.specs.Spawn.{pans, newcomer, stateUnder, tries, fadeOf}
 use Rattle.model.specs.Order.{order}
 use Rattle.model.specs.Render.{prepareOutcome, prepareDesk, isFree, anyFree, heard, answerAfter, isSounding, due, clockEnds}
+use Rattle.model.specs.Page.{page}
 use Rattle.model.specs.Call.{Call, Answer, scheduleRefusal, readyAnswer}
 use Rattle.model.specs.Call as call
 use Rattle.ledger.specs.Ledger.{Ledger, Landed, portFree, portHeld, gone, stolen, stealVoice, landOr, place, settle, admitted, admissionOn, freed, free}
@@ -44,7 +45,7 @@ use Rattle.ledger.specs.Call.{Step, unless, step}
 use Rattle.ledger.specs.Steps.{place-kept, atDesk}
 use Rattle.ledger.specs.Managed.{IdsOf, managed-kept}
 use Rattle.ledger.specs.Records.{tracks, tracked-state, was-moved, begun, fade-inj, under-fading, loose-fading}
-use Rattle.ledger.specs.Leaves.{isSounded, beat}
+use Rattle.ledger.specs.Leaves.{isSounded, page-silent, beat}
 
 -- the voice v of the ledger before the call x, which answered a
 pub data From (l : Ledger) (a : Answer) (v : Voice) (f : Fade) : Call → Type 0 where
@@ -186,3 +187,4 @@ module _ (v : Voice) (f : Fade) (ph : v .state ≡ Fading f) where
   comes call.processing l d i = old l _ _ refl i
   comes (call.sources k) l d i = old l _ _ refl i
   comes call.clock l d i = old l _ _ refl i
+  comes (call.page out) l d i = old l _ _ (page-silent (page (l .desk .clock) (l .voices)) out) i

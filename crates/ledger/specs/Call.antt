@@ -23,7 +23,8 @@ use Rattle.model.specs.Spawn.{pans}
 use Rattle.model.specs.Order.{reportNode}
 use Rattle.model.specs.Order as param
 use Rattle.model.specs.Render.{prepareOutcome, prepareDesk}
-use Rattle.model.specs.Call.{Call, Answer, readyAnswer, positionIn, event, scheduleRefusal}
+use Rattle.model.specs.Page.{page}
+use Rattle.model.specs.Call.{Call, Answer, readyAnswer, positionIn, event, scheduleRefusal, pageAnswer}
 use Rattle.model.specs.Call as call
 use Rattle.ledger.specs.Holder.{Holders, nobody, host, hold, dropNode}
 use Rattle.ledger.specs.Ledger.{Ledger}
@@ -98,6 +99,7 @@ step call.edges l = reads l (call.wires (l .desk .graph .edges))
 step call.processing l = reads l (call.inOrder (l .desk .graph .order))
 step (call.sources k) l = reads l (call.fed (ports.sources (l .desk .graph .edges) k))
 step call.clock l = reads l (call.time (l .desk .clock))
+step (call.page out) l = reads l (pageAnswer (page (l .desk .clock) (l .voices)) out)
 
 pub record Ran : Type 0 where
   pub answers : List Answer

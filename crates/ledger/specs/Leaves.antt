@@ -11,6 +11,7 @@ use mathlib.Core.Option.{Option, none, some}
 use mathlib.Core.Bool.{Bool, true, false, not, cond}
 use borrow.Author.Tests.{ne-eqb, eqb-true, not-true}
 use lib.ListN.{length}
+use lib.Dec.{leb}
 use lib.Ieee.{Float}
 use Rattle.lists.specs.Member.{In, in-left, in-of-map, and-left, and-right}
 use Rattle.lists.specs.Find.{find, find-in}
@@ -19,7 +20,7 @@ use Rattle.lists.specs.Count.{more}
 use Rattle.node.specs.declared.record.NodeId.{NodeId}
 use Rattle.node.specs.declared.record.VoiceId.{VoiceId}
 use Rattle.node.specs.declared.refusal.Refusal.{Refusal}
-use Rattle.node.specs.declared.refusal.Refusal.the-variants.{NoPort, ClockEnd}
+use Rattle.node.specs.declared.refusal.Refusal.the-variants.{NoPort, ClockEnd, ShortBuffer}
 use Rattle.graph.specs.Refuse.{addRefusal, hostRefusal, disconnectRefusal, connectRefusal}
 use Rattle.scheduler.specs.Event.{paramOrder}
 use Rattle.scheduler.specs.Queue as queue
@@ -40,7 +41,9 @@ use Rattle.model.specs.Spawn.{pans, newcomer, stateUnder, tries, fadeOf}
 use Rattle.model.specs.Order.{order}
 use Rattle.model.specs.Clear.{isSilent}
 use Rattle.model.specs.Render.{prepareOutcome, prepareDesk, isFree, anyFree, heard, answerAfter, isSounding, deadline, due, clockEnds}
-use Rattle.model.specs.Call.{Call, Answer, scheduleRefusal, readyAnswer}
+use Rattle.model.specs.Written.{written}
+use Rattle.model.specs.Page.{page}
+use Rattle.model.specs.Call.{Call, Answer, scheduleRefusal, readyAnswer, pageAnswer}
 use Rattle.model.specs.Call as call
 use Rattle.order.specs.declared.Readiness.{Readiness}
 use Rattle.order.specs.declared.Readiness.the-variants.{Ready, Refused}
@@ -78,6 +81,15 @@ isSounded (call.wires es) = false
 isSounded (call.inOrder ks) = false
 isSounded (call.fed ss) = false
 isSounded (call.time t) = false
+isSounded (call.printed n out) = false
+
+-- the page is no render
+pub page-silent : (text out : List ℕ) → isSounded (pageAnswer text out) ≡ false
+page-silent text out = go (leb (length text) (length out))
+  where
+    go : (b : Bool) → isSounded (cond b (call.printed (length text) (written text out)) (call.refused ShortBuffer)) ≡ false
+    go true = refl
+    go false = refl
 
 -- the fade after a call that answered so: its count, here `position`, is one more after a sounding render, and else the same
 abbrev pub beat : Answer → Fade → Fade
@@ -310,3 +322,4 @@ module _ (v : Voice) (f : Fade) (ph : v .state ≡ Fading f) where
   leaves call.processing l r q i = inl (still (l .voices) i)
   leaves (call.sources k) l r q i = inl (still (l .voices) i)
   leaves call.clock l r q i = inl (still (l .voices) i)
+  leaves (call.page out) l r q i = inl (rw (page-silent (page (l .desk .clock) (l .voices)) out) (still (l .voices) i))

@@ -144,6 +144,7 @@ isManaged call.edges = false
 isManaged call.processing = false
 isManaged (call.sources k) = false
 isManaged call.clock = false
+isManaged (call.page out) = false
 
 module _ (P : Ledger → Type 0) where
   unless-kept : (o : Option Refusal) (l : Ledger) (s : Step) → P l → (o ≡ none → P (s .ledger)) → P (unless o l s .ledger)
@@ -246,6 +247,7 @@ module _ (P : Ledger → Type 0) where
     step-kept call.processing l m p = p
     step-kept (call.sources j) l m p = p
     step-kept call.clock l m p = p
+    step-kept (call.page out) l m p = p
 
     pub steady-step : (x : Call) → isManaged x ≡ false → (l : Ledger) → P l → P (step x l .ledger)
     steady-step x h l p = step-kept x l (λ def bus pan e. absurd (true≢false (sym (ap isManaged e) ∙ h))) p

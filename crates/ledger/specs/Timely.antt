@@ -187,6 +187,7 @@ clock-step x l u h = go x
     go call.processing = h
     go (call.sources k) = h
     go call.clock = h
+    go (call.page out) = h
 
 -- ---- "Position = count × block ≤ clock - start"
 abbrev pub Within : ℕ → ℕ → VoiceState → Type 0

@@ -4,8 +4,9 @@
 use Prim.Native.Nat.{ℕ}
 use mathlib.Core.List.{List, [], _∷_}
 use mathlib.Core.Option.{Option, none, some}
-use mathlib.Core.Bool.{Bool, true, false}
+use mathlib.Core.Bool.{Bool, true, false, cond}
 use lib.ListN.{length}
+use lib.Dec.{leb}
 use lib.Ieee.{Float}
 use Rattle.lists.specs.Find.{find}
 use Rattle.node.specs.Name.{nameOf}
@@ -34,7 +35,7 @@ use Rattle.store.specs.declared.answer.Rendered.{Rendered}
 use Rattle.store.specs.declared.voices.Voice.{Voice}
 use Rattle.store.specs.declared.voices.VoiceState.{VoiceState}
 use Rattle.store.specs.declared.voices.VoiceState.the-variants.{Tracked, Fading, Loose}
-use Rattle.node.specs.declared.refusal.Refusal.the-variants.{TableFull}
+use Rattle.node.specs.declared.refusal.Refusal.the-variants.{TableFull, ShortBuffer}
 use Rattle.graph.specs.Refuse.{when}
 use Rattle.model.specs.Desk.{Desk, withGraph, withEvents}
 use Rattle.model.specs.Voice.{isVoice, levelOr}
@@ -45,6 +46,8 @@ use Rattle.model.specs.Model as store
 use Rattle.model.specs.Order.{reportNode}
 use Rattle.model.specs.Order as param
 use Rattle.model.specs.Clear as clearing
+use Rattle.model.specs.Page as paper
+use Rattle.model.specs.Written.{written}
 use Rattle.model.specs.Render.{prepareOutcome, prepareDesk}
 use Rattle.model.specs.Render as rendering
 
@@ -75,6 +78,8 @@ pub data Call : Type 0 where
   processing : Call
   sources : NodeId → Call
   clock : Call
+  -- into a lent buffer, which holds these bytes
+  page : List ℕ → Call
 
 pub data Answer : Type 0 where
   done : Answer
@@ -93,6 +98,8 @@ pub data Answer : Type 0 where
   inOrder : List NodeId → Answer
   fed : List Source → Answer
   time : ℕ → Answer
+  -- the length of the page, and the buffer with the page in it
+  printed : ℕ → List ℕ → Answer
 
 pub record Step : Type 0 where
   pub answer : Answer
@@ -133,6 +140,10 @@ event t w name a = record { time = t; voice = w; name = nameOf name; action = a 
 abbrev pub scheduleRefusal : List Event → Option Refusal
 scheduleRefusal q = when (full q) TableFull none
 
+-- 17 "lent buffer too short"; else the text stands in the buffer and "later bytes stay"
+abbrev pub pageAnswer : List ℕ → List ℕ → Answer
+pageAnswer text out = cond (leb (length text) (length out)) (printed (length text) (written text out)) (refused ShortBuffer)
+
 abbrev pub step : Call → Model → Step
 step (addNode kind ports required values glides) m =
     unless (addRefusal (m .desk .graph) kind ports required) m
@@ -172,6 +183,7 @@ step edges m = reads m (wires (m .desk .graph .edges))
 step processing m = reads m (inOrder (m .desk .graph .order))
 step (sources k) m = reads m (fed (ports.sources (m .desk .graph .edges) k))
 step clock m = reads m (time (m .desk .clock))
+step (page out) m = reads m (pageAnswer (paper.page (m .desk .clock) (m .voices)) out)
 
 -- ---- a list of calls
 pub record Ran : Type 0 where

@@ -1,5 +1,4 @@
--- The examples of the scope that speak of the store, as a table over the model, proved by one computed check; those of single
--- definitions (L, seeds, levels, victims, deadlines) stand in tables of the crates that define them, and are met again here in the store.
+-- The examples of the scope, as one table over the definitions, proved by one computed check: the marked ones first.
 -- Assumes nothing.
 use Prim.Native.Nat.{ℕ, suc}
 use mathlib.Core.Path.{_≡_, refl}
@@ -7,40 +6,59 @@ use mathlib.Core.List.{List, [], _∷_, map}
 use mathlib.Core.Bool.{Bool, true, false}
 use lib.IntN.{pos}
 use lib.Ieee.{Float, fin, eq, lt, add, mul, div, ofInt, ofBits}
+use lib.ListN.{length}
+use Rattle.bus.specs.Fade.{fadeLength}
+use Rattle.bus.specs.Noise.{exclusiveOr, seedOf}
 use Rattle.synthdef.specs.Plan.{settled}
 use Rattle.level.specs.Root.{rootOf, sqrt}
 use Rattle.level.specs.Narrow.{narrow}
 use Rattle.level.specs.Level.{squares, levelOf}
 use Rattle.node.specs.Silence.{silencePassThrough, rules}
+use Rattle.node.specs.declared.order.Action.the-variants as Action
 use Rattle.node.specs.declared.record.NodeId.{NodeId}
 use Rattle.rank.specs.Order.{among, fed, released, walk, order, whole, count-up}
 use Rattle.order.specs.Live.{risingFrom, liveNodes, liveIds, processingOrder}
 use Rattle.order.specs.Required.{any, lacks, lacking}
 use Rattle.order.specs.Prepare.{prepare}
+use Rattle.scheduler.specs.Queue.{takenBefore}
+use Rattle.voice.specs.Examples.{numbered}
+use Rattle.voice.specs.Policy.{victim}
 use Rattle.voice.specs.declared.policy.Budget.the-variants.{AtMost}
 use Rattle.voice.specs.declared.policy.BudgetScope.the-variants.{Global}
 use Rattle.voice.specs.declared.policy.Level.the-variants.{Known}
 use Rattle.voice.specs.declared.policy.StealPolicy.the-variants.{Oldest, Quietest}
-use Rattle.store.specs.declared.voices.VoiceState.the-variants.{Tracked}
+use Rattle.voice.specs.declared.policy.Victim.{Victim}
+use Rattle.voice.specs.declared.policy.Victim.the-variants.{Goes}
 use Rattle.model.specs.Voice.{id, isFading}
 use Rattle.model.specs.Model.{Model}
-use Rattle.model.specs.Call.{Call, Answer, removed, known}
+use Rattle.model.specs.Page as paper
+use Rattle.model.specs.Call.{Call, Answer, removed, known, event}
 use Rattle.model.specs.Call as call
-use Rattle.model.specs.Scene.{small, voice, float, host, spawn, timedFree, after, asked, further, fading}
-use Rattle.model.specs.Page.{Line, lines, line, page}
+use Rattle.model.specs.Scene.{small, voice, float, host, spawn, timedFree, after, asked, further}
+use Rattle.model.specs.PageScene.{page, printed}
 
 pub data Row : Type 0 where
+  -- ● "rate ..: L .."
+  rate : ℕ → ℕ → Row
+  -- ● "Level of .., ..: .."
+  level : List Float → Float → Row
+  -- ● "Seed, sequence .., node ..: .."
+  seed : ℕ → ℕ → ℕ → Row
+  -- ● "Levels .., .., ..: second voice goes"
+  quietest : List Float → Victim → Row
+  -- ● "Events at .. with deadline ..": how many of one are taken
+  taken : ℕ → ℕ → ℕ → Row
   -- ● "In the page's scene the order of the third prepare is .."
   third-prepare : List ℕ → Row
-  -- the lines of the page: id, clock less birth, port, state
-  printed : List Line → Row
+  -- the page's scene, and what it prints
+  prints : List ℕ → Row
   -- "Two more renders and a clearing call": what it answers, and which voices are left
   cleared : List Answer → List ℕ → Row
-  -- ● a block of two samples, and the level of the voice
+  -- the marked ones met again in the store: a block of two samples, and the level of the voice
   block : List Float → List Answer → Row
-  -- ● levels in voice order, at budget: the states of the voices, fading or not
+  -- levels in voice order, at budget: the states of the voices, fading or not
   stolen : List Float → List Bool → Row
-  -- ● a free at a time, with deadline 64: whether the voice is gone
+  -- a free at a time, with deadline 64: the voices that are left
   freed : ℕ → List ℕ → Row
 
 abbrev ids : Model → List ℕ
@@ -65,10 +83,16 @@ full xs = further (reported 1 xs) (after (small 3 Quietest) (host 4 ∷ spawn 0 
 abbrev timed : ℕ → Model
 timed t = after (record { rate = 8000; block = 64; budget = AtMost 1; policy = Oldest; scope = Global }) (host 1 ∷ spawn 0 ∷ timedFree t 1 ∷ call.render ∷ [])
 
--- the row as the model gives it
+-- the row as the definitions give it
 unfoldable pub given : Row → Row
+unfolding seedOf levelOf
+given (rate r l) = rate r (fadeLength r)
+given (level xs y) = level xs (levelOf xs)
+given (seed s n x) = seed s n (seedOf s n)
+given (quietest xs v) = quietest xs (victim Quietest (numbered 1 (map Known xs)))
+given (taken t deadline n) = taken t deadline (length (takenBefore deadline (event t (voice 1) [] Action.Free ∷ [])))
 given (third-prepare l) = third-prepare (map (λ (k : NodeId). k .0) (page .model .desk .graph .order))
-given (printed l) = printed (lines (page .model))
+given (prints t) = prints (paper.page (page .model .desk .clock) (page .model .voices))
 given (cleared a l) = cleared (asked (call.clear ∷ []) (further twoMore (page .model))) (ids (further (call.clear ∷ []) (further twoMore (page .model))))
 given (block xs a) = block xs (asked (call.level (voice 1) ∷ []) (heard xs))
 given (stolen xs l) = stolen xs (map (λ v. isFading (v .state)) (full xs .voices))
@@ -80,8 +104,20 @@ two = fin false 1 (pos 1)
 
 unfoldable pub table : List Row
 table =
-    third-prepare (1 ∷ 2 ∷ 4 ∷ 3 ∷ 0 ∷ [])
-    ∷ printed (line 1 48 0 (fading 3 32 16 0) ∷ line 2 32 1 Tracked ∷ line 3 16 2 Tracked ∷ [])
+    rate 44100 221
+    ∷ rate 48000 240
+    ∷ rate 22050 110
+    ∷ rate 1 1
+    ∷ rate 300 2
+    ∷ level (float 1 ∷ float 7 ∷ []) (float 5)
+    ∷ seed 0 0 0xDEADBEEF
+    ∷ seed 0 1 0x5B467498
+    ∷ seed 1 0 0x409AC756
+    ∷ quietest (two ∷ float 1 ∷ float 1 ∷ []) (Goes 1 (voice 2))
+    ∷ taken 64 64 0
+    ∷ taken 63 64 1
+    ∷ third-prepare (1 ∷ 2 ∷ 4 ∷ 3 ∷ 0 ∷ [])
+    ∷ prints printed
     ∷ cleared (removed 1 ∷ []) (2 ∷ 3 ∷ [])
     ∷ block (float 1 ∷ float 7 ∷ []) (known (Known (float 5)) ∷ [])
     ∷ stolen (two ∷ float 1 ∷ float 1 ∷ []) (false ∷ true ∷ false ∷ false ∷ [])
@@ -90,5 +126,5 @@ table =
     ∷ []
 
 pub right : map given table ≡ table
-unfolding given table page eq lt levelOf squares rootOf sqrt narrow add mul div ofInt ofBits silencePassThrough rules prepare processingOrder lacking lacks any liveIds liveNodes risingFrom whole order walk released fed among count-up settled
+unfolding given table page eq lt levelOf squares rootOf sqrt narrow add mul div ofInt ofBits seedOf exclusiveOr silencePassThrough rules prepare processingOrder lacking lacks any liveIds liveNodes risingFrom whole order walk released fed among count-up settled
 right = refl

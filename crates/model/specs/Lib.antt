@@ -6,11 +6,14 @@ pub mod Model
 pub mod Order
 pub mod Clear
 pub mod Render
+pub mod Decimal
+pub mod Written
+pub mod Page
 pub mod Call
 pub mod Make
 pub mod View
 pub mod Scene
-pub mod Page
+pub mod PageScene
 pub mod SoundingScenes
 pub mod SpawnScenes
 pub mod PolicyScenes

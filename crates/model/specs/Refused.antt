@@ -68,6 +68,7 @@ refusalIn (call.wires es) = none
 refusalIn (call.inOrder l) = none
 refusalIn (call.fed l) = none
 refusalIn (call.time t) = none
+refusalIn (call.printed n out) = none
 
 -- ---- what 12 leaves
 -- the admission's steal
@@ -118,6 +119,7 @@ leftByNoPort call.edges m = m
 leftByNoPort call.processing m = m
 leftByNoPort (call.sources k) m = m
 leftByNoPort call.clock m = m
+leftByNoPort (call.page out) m = m
 
 -- nothing changed, or with 12 that
 abbrev pub left : Refusal → Call → Model → Model
@@ -263,6 +265,7 @@ refused-leaves call.edges m r h = absurd (none-some h)
 refused-leaves call.processing m r h = absurd (none-some h)
 refused-leaves (call.sources k) m r h = absurd (none-some h)
 refused-leaves call.clock m r h = absurd (none-some h)
+refused-leaves (call.page out) m r h = same-left r m _ refl
 
 -- the two halves: any number but 12, and 12
 pub refused-same : (c : Call) (m : Model) (r : Refusal) → refusalIn (step c m .answer) ≡ some r → eqb (numberOf r) 12 ≡ false → step c m .model ≡ m

@@ -28,3 +28,9 @@ pub enum Position {
     At(u64),
     Nothing,
 }
+
+// What the page answers: its length in bytes, or a refusal.
+pub enum Paged {
+    Length(usize),
+    Refused(Refusal),
+}

@@ -1,8 +1,8 @@
 use Prim.Native.Nat.{_-_}
 use borrow.Author.Needs.{needs}
 use lib.Ieee.{eq, ofBits}
-use Rattle.engine.proofs.spawn.spawn_managed_centred.Statement.{statement}
-use Rattle.engine.proofs.spawn.spawn_managed_centred.Tie as tie
+use Rattle.engine.proofs.spawn.spawn_voice_on_bus_managed.Statement.{statement}
+use Rattle.engine.proofs.spawn.spawn_voice_on_bus_managed.Tie as tie
 
 spawn-managed-requires : tie.Need-spawn-managed-requires
 spawn-managed-requires c κs = search needs

@@ -9,8 +9,8 @@ use Rattle.store.specs.declared.voices.VoiceState.the-variants.{Loose}
 use Rattle.model.specs.Model.{unless, place}
 use Rattle.model.specs.Refused.{notSpawned, place-left}
 use Rattle.engine.proofs.Spawning.{roomy, roomy-head, answer-some}
-use Rattle.engine.proofs.spawn.spawn_loose.Statement.{statement}
-use Rattle.engine.proofs.spawn.spawn_loose.Tie as tie
+use Rattle.engine.proofs.spawn.spawn_voice_on_bus_panned.Statement.{statement}
+use Rattle.engine.proofs.spawn.spawn_voice_on_bus_panned.Tie as tie
 
 spawn-refusal-requires : tie.Need-spawn-refusal-requires
 spawn-refusal-requires c κs = search needs

@@ -7,8 +7,8 @@ use Rattle.model.specs.View.{deskOf, modelOf, voicesOf}
 use Rattle.engine.proofs.Refusals.{answer-done}
 use Rattle.model.specs.Model.{unless, admitted, admissionOn}
 use Rattle.engine.proofs.Spawning.{roomy, answer-some}
-use Rattle.engine.proofs.spawn.spawn_managed.Statement.{statement}
-use Rattle.engine.proofs.spawn.spawn_managed.Tie as tie
+use Rattle.engine.proofs.spawn.spawn_voice_on_bus_panned_managed.Statement.{statement}
+use Rattle.engine.proofs.spawn.spawn_voice_on_bus_panned_managed.Tie as tie
 
 spawn-refusal-requires : tie.Need-spawn-refusal-requires
 spawn-refusal-requires c κs = search needs

@@ -1,8 +1,8 @@
 use Prim.Native.Nat.{_-_}
 use borrow.Author.Needs.{needs}
 use lib.Ieee.{eq, ofBits}
-use Rattle.engine.proofs.spawn.spawn_loose_centred.Statement.{statement}
-use Rattle.engine.proofs.spawn.spawn_loose_centred.Tie as tie
+use Rattle.engine.proofs.spawn.spawn_voice_on_bus.Statement.{statement}
+use Rattle.engine.proofs.spawn.spawn_voice_on_bus.Tie as tie
 
 spawn-loose-requires : tie.Need-spawn-loose-requires
 spawn-loose-requires c κs = search needs
