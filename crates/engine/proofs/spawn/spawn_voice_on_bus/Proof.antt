@@ -4,12 +4,12 @@ use lib.Ieee.{eq, ofBits}
 use Rattle.engine.proofs.spawn.spawn_voice_on_bus.Statement.{statement}
 use Rattle.engine.proofs.spawn.spawn_voice_on_bus.Tie as tie
 
-spawn-loose-requires : tie.Need-spawn-loose-requires
-spawn-loose-requires c κs = search needs
+spawn-voice-on-bus-panned-requires : tie.Need-spawn-voice-on-bus-panned-requires
+spawn-voice-on-bus-panned-requires c κs = search needs
 
 returns : tie.Need-returns
 unfolding eq ofBits
-returns c = (c .spawn-loose .ensures .0, c .spawn-loose .ensures .1)
+returns c = (c .spawn-voice-on-bus-panned .ensures .0, c .spawn-voice-on-bus-panned .ensures .1)
 
-pub spawn-loose-centred-spec : {M : Type 1} → statement M
-spawn-loose-centred-spec = tie.close (tie.spec spawn-loose-requires returns)
+pub spawn-voice-on-bus-spec : {M : Type 1} → statement M
+spawn-voice-on-bus-spec = tie.close (tie.spec spawn-voice-on-bus-panned-requires returns)

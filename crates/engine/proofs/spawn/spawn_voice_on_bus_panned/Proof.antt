@@ -51,8 +51,8 @@ returns-2 c =
     let is = answer-done (spawnRefusal (m .desk) (m .voices) (a .def) (a .bus)) (sym (told .spawn-refusal .ensures) ∙ c .before .before .enum-told .given .1) in
     (c .place .ensures ∙ ap (λ b. place 0 (a .def) b Loose (a .bus) m) (c .before .pans .ensures) ∙ sym (ap (λ o. unless o m (place 0 (a .def) (pans (a .pan)) Loose (a .bus) m)) is), λ k e h. absurd (h (place-left (a .def) (c .before .pans .result) Loose (a .bus) 0 m k (ap notSpawned (ap (λ x. x .answer) (sym (c .place .ensures)) ∙ e)) .0)))
 
-pub spawn-loose-spec : {M : Type 1} → statement M
-spawn-loose-spec =
+pub spawn-voice-on-bus-panned-spec : {M : Type 1} → statement M
+spawn-voice-on-bus-panned-spec =
     tie.close
     (tie.spec
     spawn-refusal-requires

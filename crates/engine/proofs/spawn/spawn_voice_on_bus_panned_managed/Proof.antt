@@ -49,8 +49,8 @@ returns-2 c =
     let is = answer-done (spawnRefusal (m .desk) (m .voices) (a .def) (a .bus)) (sym (told .spawn-refusal .ensures) ∙ c .before .before .enum-told .given .1) in
     (c .admit .ensures .0 ∙ ap (λ b. admitted (admissionOn (a .bus) m) (a .def) b (a .bus) m) (c .before .pans .ensures) ∙ sym (ap (λ o. unless o m (admitted (admissionOn (a .bus) m) (a .def) (pans (a .pan)) (a .bus) m)) is), c .admit .ensures .1)
 
-pub spawn-managed-spec : {M : Type 1} → statement M
-spawn-managed-spec =
+pub spawn-voice-on-bus-panned-managed-spec : {M : Type 1} → statement M
+spawn-voice-on-bus-panned-managed-spec =
     tie.close
     (tie.spec
     spawn-refusal-requires
