@@ -3,16 +3,22 @@ use Prim.Native.Nat.{ℕ, zero, suc, _+_, _-_, _≤_, _<_, min}
 use native.Mathlib.Omega.{arith}
 use mathlib.Core.Path.{_≡_, refl, sym, ap, _∙_}
 use mathlib.Core.List.{List, [], _∷_, _++_, map}
+use mathlib.Core.Option.{Option, none, some}
 use mathlib.Core.Bool.{Bool, true, false, _||_}
 use lib.ListN.{length, take, getD, set, replicate}
 use lib.Seq.{take-all}
 use Rattle.lists.specs.Table.{filled-more}
 use Rattle.node.specs.declared.record.Node.{Node}
-use Rattle.rank.specs.Order.{count-up}
+use Rattle.rank.specs.Order.{count-up, upto}
+use Rattle.lists.specs.Find.{mapO}
+use Rattle.lists.specs.Keep.{keep, keep-same}
+use Rattle.ids.specs.Column.{idOf, doneOf}
+use Rattle.ids.specs.Rows.{held-is}
 use Rattle.graph.specs.Node.{nodeAt}
 use Rattle.store.specs.declared.voices.Voice.{Voice}
 use Rattle.model.specs.Voice.{id}
-use Rattle.model.specs.Clear.{doneFlag, doneFlags}
+use Rattle.model.specs.Clear.{doneFlag}
+use Rattle.clearing.specs.Cleared.{flagHeld, flagIn, leavesIn, leaves}
 use Rattle.synthdef.specs.Plan.{passFrom, pass, passes, settled, planSilent, silentIn, says}
 use Rattle.synthdef.specs.declared.plan.DonePlan.{DonePlan}
 use Rattle.synthdef.specs.declared.plan.DoneStep.{DoneStep}
@@ -58,24 +64,48 @@ unfolding count-up
 counted-long f zero k = refl
 counted-long f (suc n) k = ap suc (counted-long f n (suc k))
 
-module _ (ns : List Node) (v : Voice) where
-  pub flags-long : length (doneFlags ns v) ≡ min (v .count) 24
-  flags-long = counted-long (λ i. doneFlag (nodeAt ns (id (v .first .0 + i)))) (min (v .count) 24) 0
+-- the first n flags, flag i being f i
+module _ (f : ℕ → Bool) (n : ℕ) where
+  abbrev all : List Bool
+  all = map f (count-up n 0)
 
-  pub flags-next : (flags : List Bool) (x : Bool) (i : ℕ) → i < min (v .count) 24 → flags ≡ take i (doneFlags ns v) ++ replicate (24 - i) false
-      → x ≡ doneFlag (nodeAt ns (id (v .first .0 + i))) → set flags i x ≡ take (i + 1) (doneFlags ns v) ++ replicate (24 - (i + 1)) false
-  flags-next flags x i h e f =
-      let long = flags-long in
-      let below : i < length (doneFlags ns v) = omega arith in
+  all-long : length all ≡ n
+  all-long = counted-long f n 0
+
+  pub flags-next : (flags : List Bool) (x : Bool) (i : ℕ) → n ≤ 24 → i < n → flags ≡ take i (map f (count-up n 0)) ++ replicate (24 - i) false
+      → x ≡ f i → set flags i x ≡ take (i + 1) (map f (count-up n 0)) ++ replicate (24 - (i + 1)) false
+  flags-next flags x i fits h e is =
+      let long = all-long in
+      let below : i < length all = omega arith in
       let room : i < 24 = omega arith in
       let start : i ≡ 0 + i = omega arith in
       ap (λ l. set l i x) e
-      ∙ ap (set (take i (doneFlags ns v) ++ replicate (24 - i) false) i) (f ∙ ap (λ j. doneFlag (nodeAt ns (id (v .first .0 + j)))) start ∙ sym (counted-at (λ j. doneFlag (nodeAt ns (id (v .first .0 + j)))) false (min (v .count) 24) 0 i h))
-      ∙ filled-more false (doneFlags ns v) 24 i below room
+      ∙ ap (set (take i all ++ replicate (24 - i) false) i) (is ∙ ap f start ∙ sym (counted-at f false n 0 i h))
+      ∙ filled-more false all 24 i below room
 
-  pub flags-end : (flags : List Bool) (i : ℕ) → i ≡ min (v .count) 24 → flags ≡ take i (doneFlags ns v) ++ replicate (24 - i) false
-      → flags ≡ doneFlags ns v ++ replicate (24 - min (v .count) 24) false
+  pub flags-end : (flags : List Bool) (i : ℕ) → i ≡ n → flags ≡ take i (map f (count-up n 0)) ++ replicate (24 - i) false
+      → flags ≡ map f (count-up n 0) ++ replicate (24 - n) false
   flags-end flags i h e =
-      let long = flags-long in
-      let past : length (doneFlags ns v) ≤ i = omega arith in
-      e ∙ ap (λ l. l ++ replicate (24 - i) false) (take-all i (doneFlags ns v) past) ∙ ap (λ k. doneFlags ns v ++ replicate (24 - k) false) h
+      let long = all-long in
+      let past : length all ≤ i = omega arith in
+      e ∙ ap (λ l. l ++ replicate (24 - i) false) (take-all i all past) ∙ ap (λ k. all ++ replicate (24 - k) false) h
+
+-- ---- the flags by the columns are the flags by the nodes
+held-flag : (o : Option Node) → flagHeld (mapO doneOf o) ≡ doneFlag o
+held-flag none = refl
+held-flag (some n) = refl
+
+module _ (ns : List Node) where
+  flag-same : (k : ℕ) → flagIn (map idOf ns) (map doneOf ns) k ≡ doneFlag (nodeAt ns (id k))
+  flag-same k = ap flagHeld (held-is idOf doneOf false k ns) ∙ held-flag (nodeAt ns (id k))
+
+  flags-same : (v : Voice) (l : List ℕ) → map (λ i. flagIn (map idOf ns) (map doneOf ns) (v .first .0 + i)) l ≡ map (λ i. doneFlag (nodeAt ns (id (v .first .0 + i)))) l
+  flags-same v [] = refl
+  flags-same v (i ∷ l) = rw (flag-same (v .first .0 + i)) (ap (λ z. doneFlag (nodeAt ns (id (v .first .0 + i))) ∷ z) (flags-same v l))
+
+  leaves-same : (silent : Bool) (len : ℕ) (v : Voice) → leavesIn silent len (map idOf ns) (map doneOf ns) v ≡ leaves silent len ns v
+  leaves-same true len v = ap (planSilent (v .plan)) (flags-same v (upto (min (v .count) 24)))
+  leaves-same false len v = refl
+
+  pub kept-same : (silent : Bool) (len : ℕ) (vs : List Voice) → keep (λ v. leavesIn silent len (map idOf ns) (map doneOf ns) v) vs ≡ keep (λ v. leaves silent len ns v) vs
+  kept-same silent len vs = keep-same (λ v. leavesIn silent len (map idOf ns) (map doneOf ns) v) (λ v. leaves silent len ns v) vs (λ v i. leaves-same silent len v)

@@ -43,9 +43,13 @@ put es e = cond (noPlace es (e .to) (e .port)) es (wired es e)
 abbrev pub pushed : {A : Type 0} → ℕ → List A → A → List A
 pushed limit l x = cond (ltb (length l) limit) (l ++ (x ∷ [])) l
 
+-- the number is one of these
+abbrev pub listed : List ℕ → ℕ → Bool
+listed ids x = isSome (find (λ k. eqb k x) ids)
+
 -- the node is among these ids
 abbrev pub among : List ℕ → NodeId → Bool
-among ids n = isSome (find (λ k. eqb k (n .0)) ids)
+among ids n = listed ids (n .0)
 
 -- the edge starts or ends at one of these ids
 abbrev pub touches : List ℕ → Edge → Bool

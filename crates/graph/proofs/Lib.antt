@@ -2,3 +2,4 @@ pub mod Calls
 pub mod Going
 pub mod Bits
 pub mod Ready
+pub mod Together

@@ -8,6 +8,7 @@ use lib.Dec.{eqb}
 use lib.Ieee.{ofBits, binary32}
 use Rattle.lists.specs.Find.{find}
 use Rattle.node.specs.Name.{nameOf}
+use Rattle.edges.specs.Wiring.{listed}
 use Rattle.node.specs.declared.record.NodeId.{NodeId}
 use Rattle.node.specs.declared.record.VoiceId.{VoiceId}
 use Rattle.node.specs.declared.record.Node.{Node}
@@ -26,6 +27,10 @@ isNode k n = eqb (n .id .0) (k .0)
 
 abbrev pub ownedBy : VoiceId → Node → Bool
 ownedBy v n = eqb (n .owner .0) (v .0)
+
+-- it belongs to one of these voices
+abbrev pub ownedByAny : List ℕ → Node → Bool
+ownedByAny ids n = listed ids (n .owner .0)
 
 -- the node of this id, if it lives
 abbrev pub nodeAt : List Node → NodeId → Option Node

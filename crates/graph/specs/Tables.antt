@@ -1,6 +1,6 @@
 -- What the tables of a graph stand for, and what its calls promise.
 -- Assumes nothing.
-use Prim.Native.Nat.{_≤_}
+use Prim.Native.Nat.{ℕ, _≤_}
 use mathlib.Core.Path.{_≡_}
 use mathlib.Core.List.{List}
 use mathlib.Core.Option.{Option, none, some}
@@ -9,6 +9,7 @@ use lib.ListN.{length, take}
 use Rattle.lists.specs.Keep.{keep}
 use Rattle.lists.specs.Find.{or?}
 use Rattle.node.specs.Rows.{nodesOf, edgesOf}
+use Rattle.edges.specs.Wiring.{listed}
 use Rattle.node.specs.declared.record.NodeId.{NodeId}
 use Rattle.node.specs.declared.record.Node.{Node}
 use Rattle.node.specs.declared.refusal.Refusal.{Refusal}
@@ -23,11 +24,11 @@ use Rattle.graph.specs.declared.state.Given.the-variants as Given
 use Rattle.graph.specs.declared.state.Changed.{Changed}
 use Rattle.graph.specs.declared.state.Added.{Added}
 use Rattle.graph.specs.declared.nodes.Seen.{Seen}
-use Rattle.graph.specs.declared.removal.Which.{Which}
-use Rattle.graph.specs.declared.removal.Which.the-variants as Which
+use Rattle.graph.specs.declared.removal.By.{By}
+use Rattle.graph.specs.declared.removal.By.the-variants as By
 use Rattle.graph.specs.declared.removal.Parted.{Parted}
 use Rattle.graph.specs.View.{GraphView}
-use Rattle.graph.specs.Node.{isNode, ownedBy}
+use Rattle.graph.specs.Node.{ownedByAny}
 use Rattle.graph.specs.Change.{idsOf}
 use Rattle.graph.specs.Call.{Outcome, Grant}
 
@@ -50,15 +51,15 @@ viewOf g =
 abbrev pub seenOf : Seen → Option Node
 seenOf s = or? (s .live) (s .node) none
 
--- which nodes go
-abbrev pub goes : Which → Node → Bool
-goes (Which.One k) n = isNode k n
-goes (Which.Voice w) n = ownedBy w n
+-- which nodes go: those of these ids, or of these voices
+abbrev pub goes : By → List ℕ → Node → Bool
+goes By.Id keys n = listed keys (n .id .0)
+goes By.Owner keys n = ownedByAny keys n
 
 -- the nodes that stay, and the ids of those that go
-pub record Parts (nodes : List Node) (which : Which) (r : Parted) : Type 0 where
-  pub stay : nodesOf (r .nodes) ≡ keep (λ n. not (goes which n)) nodes
-  pub leave : take (r .count) (r .ids) ≡ idsOf (λ n. goes which n) nodes
+pub record Parts (nodes : List Node) (by : By) (keys : List ℕ) (r : Parted) : Type 0 where
+  pub stay : nodesOf (r .nodes) ≡ keep (λ n. not (goes by keys n)) nodes
+  pub leave : take (r .count) (r .ids) ≡ idsOf (λ n. goes by keys n) nodes
   pub fits : r .count ≤ 512
   pub long : length (r .ids) ≡ 512
 

@@ -6,7 +6,7 @@ ghost use Rattle.graph.specs.Tables.{viewOf, outcomeOf, grantOf, Kept, K
 use crate::nodes::node_at;
 use crate::nodes::node_count;
 use crate::nodes::push_node;
-use crate::removal::Which;
+use crate::removal::By;
 use crate::removal::remove;
 use crate::state::Added;
 use crate::state::Answer;
@@ -158,7 +158,8 @@ pub fn remove_node(g: Graph, node: NodeId) -> Changed
             answer: Answer::Refused(r),
         },
         Answer::Done => {
-            let graph = remove(g, Which::One(node));
+            let one = [node.0 as u64];
+            let graph = remove(g, By::Id, &one);
             Changed {
                 graph,
                 answer: Answer::Done,

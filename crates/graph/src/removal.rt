@@ -2,7 +2,8 @@ ghost use mathlib.Core.Path.{_≡_};
 ghost use mathlib.Core.Bool.{not};
 ghost use Rattle.lists.specs.Find.{keepO};
 ghost use Rattle.node.specs.Rows.{nodesOf};
-ghost use Rattle.edges.specs.Wiring.{among};
+ghost use Rattle.edges.specs.Wiring.{among, listed};
+ghost use Rattle.graph.specs.Node.{ownedByAny};
 ghost use Rattle.graph.specs.Change.{removeVoice, without};
 ghost use Rattle.graph.specs.Tables.{viewOf, sinkOf, goes, Parts};
 use crate::state::Graph;
@@ -11,14 +12,13 @@ use edges::table::at_most;
 use edges::table::drop_touching;
 use edges::table::is_among;
 use node::record::Node;
-use node::record::NodeId;
 use node::record::Nodes;
 use node::record::VoiceId;
 
-// Which nodes go: one, or all of a voice.
-pub enum Which {
-    One(NodeId),
-    Voice(VoiceId),
+// What a node is known by: its own id, or the voice that owns it.
+pub enum By {
+    Id,
+    Owner,
 }
 
 // The nodes that stay, and the ids of those that go: the first `count` of `ids`.
@@ -28,18 +28,32 @@ pub struct Parted {
     pub count: usize,
 }
 
-fn is_going(which: Which, n: Node) -> bool
-    ensures { λ r. ⌜ r ≡ goes which n ⌝ }
+// Whether `x` is one of `keys`.
+pub fn is_listed(keys: &[u64], x: u64) -> bool
+    ensures { λ r. ⌜ r ≡ listed (now (keys .entry)) x ⌝ }
 {
-    match which {
-        Which::One(k) => n.id.0 == k.0,
-        Which::Voice(v) => n.owner.0 == v.0,
+    let mut i: usize = 0;
+    while i < keys.len() {
+        if keys[i] == x {
+            return true;
+        }
+        i += 1;
+    }
+    false
+}
+
+fn is_going(by: By, keys: &[u64], n: Node) -> bool
+    ensures { λ r. ⌜ r ≡ goes by (now (keys .entry)) n ⌝ }
+{
+    match by {
+        By::Id => is_listed(keys, n.id.0 as u64),
+        By::Owner => is_listed(keys, n.owner.0),
     }
 }
 
 // One pass over the nodes, which closes the gaps.
-fn part(t: Nodes, which: Which) -> Parted
-    ensures { λ r. ⌜ Parts (nodesOf t) which r ⌝ }
+fn part(t: Nodes, by: By, keys: &[u64]) -> Parted
+    ensures { λ r. ⌜ Parts (nodesOf t) by (now (keys .entry)) r ⌝ }
 {
     let n = at_most(t.count, 512);
     let mut out = t;
@@ -50,7 +64,7 @@ fn part(t: Nodes, which: Which) -> Parted
     while i < n {
         let x = t.rows[i];
         i += 1;
-        if is_going(which, x) {
+        if is_going(by, keys, x) {
             ids[count] = x.id.0;
             count += 1;
         } else {
@@ -83,14 +97,14 @@ fn keep_sink(sink: Sink, ids: &[u32]) -> Sink
 }
 
 // The graph without some nodes, the edges that touch them, and the sink if it is one of them.
-pub fn remove(g: Graph, which: Which) -> Graph
-    ensures { λ r. ⌜ viewOf r ≡ without (λ n. goes which n) (viewOf g) ⌝ }
+pub fn remove(g: Graph, by: By, keys: &[u64]) -> Graph
+    ensures { λ r. ⌜ viewOf r ≡ without (λ n. goes by (now (keys .entry)) n) (viewOf g) ⌝ }
 {
     let nodes = g.nodes;
     let edges = g.edges;
     let order = g.order;
     let sink = g.sink;
-    let parted = part(nodes, which);
+    let parted = part(nodes, by, keys);
     let stay = parted.nodes;
     let ids = parted.ids;
     let count = parted.count;
@@ -110,5 +124,13 @@ pub fn remove(g: Graph, which: Which) -> Graph
 pub fn remove_voice(g: Graph, voice: VoiceId) -> Graph
     ensures { λ r. ⌜ viewOf r ≡ removeVoice (viewOf g) voice ⌝ }
 {
-    remove(g, Which::Voice(voice))
+    let one = [voice.0];
+    remove(g, By::Owner, &one)
+}
+
+// The graph without the nodes of these voices.
+pub fn remove_voices(g: Graph, ids: &[u64]) -> Graph
+    ensures { λ r. ⌜ viewOf r ≡ without (ownedByAny (now (ids .entry))) (viewOf g) ⌝ }
+{
+    remove(g, By::Owner, ids)
 }

@@ -31,7 +31,7 @@ pub struct Ordered {
 }
 
 // Whether a node takes orders of that sort.
-fn takes_order(n: Node, o: LastOrder) -> bool
+pub fn takes_order(n: Node, o: LastOrder) -> bool
     ensures { λ r. ⌜ r ≡ takes o n ⌝ }
 {
     match o {
@@ -46,7 +46,7 @@ fn takes_order(n: Node, o: LastOrder) -> bool
     }
 }
 
-fn with_last(n: Node, o: LastOrder) -> Node
+pub fn with_last(n: Node, o: LastOrder) -> Node
     ensures { λ r. ⌜ r ≡ withLast o n ⌝ }
 {
     let id = n.id;

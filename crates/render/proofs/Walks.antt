@@ -1,14 +1,11 @@
--- The walks over the due events, and what they leave alone. Assumes nothing.
-use Prim.Native.Nat.{ℕ, _+_, _≤_, _<_}
+-- What the due events leave alone, and the block after them. Assumes nothing.
+use Prim.Native.Nat.{ℕ, _+_}
 use native.Mathlib.Omega.{arith}
 use mathlib.Core.Path.{_≡_, refl, sym, ap, _∙_}
 use mathlib.Core.List.{List, [], _∷_}
 use mathlib.Core.Option.{Option, none, some}
-use mathlib.Core.Bool.{Bool, true, false, cond, _||_}
-use lib.ListN.{length, take, drop, getD, drop-of-length-le}
-use lib.Seq.{length-take-le}
+use mathlib.Core.Bool.{Bool, true, false}
 use Rattle.lists.specs.Find.{find}
-use Rattle.lists.specs.Table.{left-row}
 use Rattle.node.specs.declared.name.Name.{Name}
 use Rattle.node.specs.declared.order.LastOrder.{LastOrder}
 use Rattle.node.specs.declared.record.Node.{Node}
@@ -24,37 +21,14 @@ use Rattle.synthdef.specs.Tables.{paramRows}
 use Rattle.synthdef.specs.Params.{paramNode}
 use Rattle.store.specs.declared.voices.Voice.{Voice}
 use Rattle.model.specs.Desk.{Desk, sounding}
-use Rattle.model.specs.Model.{Model, freed, free}
-use Rattle.model.specs.Order.{takes, orderNode, orderParam, orderVoice, order}
-use Rattle.model.specs.Render.{isFree, anyFree, happen, happenAll, deadline, readyDesk, prepareDesk, prepareOutcome, preparedIf, blockOf, heard, answerAfter}
+use Rattle.model.specs.Model.{Model, freed}
+use Rattle.model.specs.Order.{takes, orderNode, orderParam, orderVoice}
+use Rattle.model.specs.Render.{isFree, happen, happenAll, deadline, readyDesk, prepareOutcome, preparedIf, heard, answerAfter}
 use Rattle.model.specs.Voice.{isVoice, id}
 use Rattle.model.specs.Call.{readyAnswer}
 use Rattle.service.specs.Steps.{answered}
+use Rattle.events.proofs.Walks.{happen-free, happen-order}
 use Rattle.render.specs.Blocks.{readied, blockTo, afterAnswer}
-
--- nothing is left at the end
-pub over : {A : Type 0} (rows : List A) (n i : ℕ) → i ≡ n → n ≤ length rows → drop i (take n rows) ≡ []
-over rows n i e t =
-    let long : length (take n rows) ≡ n = length-take-le n rows t in
-    let past : length (take n rows) ≤ i = omega arith in
-    drop-of-length-le (take n rows) past
-
-module _ (d : Event) (rows : List Event) (n i : ℕ) (below : i < n) (top : n ≤ length rows) where
-  pub happen-next : (m k : Model) → k ≡ happen (getD rows i d) m → happenAll (drop (i + 1) (take n rows)) k ≡ happenAll (drop i (take n rows)) m
-  happen-next m k e = ap (happenAll (drop (i + 1) (take n rows))) e ∙ sym (ap (λ l. happenAll l m) (left-row d rows n i below top))
-
-  pub free-hit : isFree (getD rows i d .action) ≡ true → anyFree (drop i (take n rows)) ≡ true
-  free-hit h = ap anyFree (left-row d rows n i below top) ∙ rw h
-
-  pub free-next : isFree (getD rows i d .action) ≡ false → anyFree (drop (i + 1) (take n rows)) ≡ anyFree (drop i (take n rows))
-  free-next h = sym (ap anyFree (left-row d rows n i below top) ∙ rw h)
-
--- ---- one event
-pub happen-free : (e : Event) (m : Model) → isFree (e .action) ≡ true → free (e .voice) m ≡ happen e m
-happen-free e m h = rw h
-
-pub happen-order : (e : Event) (m : Model) → isFree (e .action) ≡ false → record { desk = order (e .voice) (paramOrder e .name) (paramOrder e .order) (m .voices) (m .desk) .desk; voices = m .voices } ≡ happen e m
-happen-order e m h = rw h
 
 -- ---- clock + block stays what it was
 freed-ends : (o : Option Voice) (m : Model) → deadline (freed o m .desk) ≡ deadline (m .desk)

@@ -1,6 +1,7 @@
 -- The store that code makes is the model that the ledger's theorem speaks of: a run of calls on stores, each related to the
 -- next by the contract of its call, gives the answers of the model's run, and its last store stands for the model's last state.
 -- Assumes nothing.
+use Prim.Native.Nat.{ℕ}
 use mathlib.Core.Path.{_≡_, refl, ap, _∙_}
 use mathlib.Core.List.{List, [], _∷_}
 use mathlib.Core.Option.{some}
@@ -8,6 +9,7 @@ use lib.Ieee.{Float}
 use Rattle.node.specs.declared.record.NodeId.{NodeId}
 use Rattle.synthdef.specs.declared.def.SynthDef.{SynthDef}
 use Rattle.store.specs.declared.state.Store.{Store}
+use Rattle.store.specs.declared.answer.Paged.{Paged}
 use Rattle.model.specs.Make.{Making, make, configOf}
 use Rattle.model.specs.Model.{Model, spawnManaged, spawnLoose, free}
 use Rattle.model.specs.Spawn.{pans}
@@ -32,6 +34,7 @@ use Rattle.clearing.specs.declared.Cleared.{Cleared}
 use Rattle.clearing.specs.Cleared as clearing
 use Rattle.engine.specs.declared.land.Landed.{Landed}
 use Rattle.engine.specs.Room.{landedOf}
+use Rattle.page.specs.Paged.{pagedOf}
 
 -- what the contract of a call says: from the store s it answers a and leaves the store t
 abbrev pub Called : Call → Store → Answer → Store → Type 0
@@ -66,6 +69,10 @@ cleared-called c s r e = e
 -- of the reading calls, which leave the very store
 pub read-called : (c : Call) (s : Store) (a : Answer) → call.reads (modelOf s) a ≡ step c (modelOf s) → Called c s a s
 read-called c s a e = e
+
+-- of the page, which holds the buffer as the call found it and as the call left it
+pub page-called : (s : Store) (out after : List ℕ) (r : Paged) → call.reads (modelOf s) (pagedOf r after) ≡ step (call.page out) (modelOf s) → Called (call.page out) s (pagedOf r after) s
+page-called s out after r e = e
 
 -- and of a free
 pub freed-called : (s r : Store) (w : VoiceId) → modelOf r ≡ free w (modelOf s) → Called (call.free w) s call.done r

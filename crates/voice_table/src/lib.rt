@@ -1,5 +1,10 @@
 // The table of live voices: the part of engine.rs that works on `voices` alone.
+use edges::table::at_most;
 use graph::nodes::node_at;
+use graph::removal::is_listed;
+use ids::node_ids;
+use ids::node_levels;
+use ids::row_of;
 use node::record::NodeId;
 use node::record::Nodes;
 use node::record::VoiceId;
@@ -17,6 +22,7 @@ ghost use mathlib.Core.Path.{_≡_};
 ghost use mathlib.Core.Bool.{not};
 ghost use mathlib.Core.List.{map};
 ghost use Prim.Native.Nat.{min};
+ghost use lib.Dec.{ltb};
 ghost use lib.ListN.{length};
 ghost use Rattle.lists.specs.Keep.{keep};
 ghost use Rattle.lists.specs.Find.{find};
@@ -27,8 +33,8 @@ ghost use Rattle.model.specs.Render.{further};
 ghost use Rattle.model.specs.Voice.{counted};
 ghost use Rattle.node.specs.Rows.{nodesOf};
 ghost use Rattle.voice.specs.Policy.{candidatesOf};
-ghost use Rattle.voice_table.specs.Looked.{lookedOf, pushedVoice};
-ghost use Rattle.voice_table.specs.Levels.{levelAt, candidateAt, candidatesAt};
+ghost use Rattle.voice_table.specs.Looked.{lookedOf, isAnyOf, pushedVoice};
+ghost use Rattle.voice_table.specs.Levels.{levelAt, levelIn, candidateIn, candidatesIn, candidatesAt};
 
 // A voice, or none: an enum holds no array.
 pub struct Looked {
@@ -80,9 +86,9 @@ pub fn find_voice(t: Voices, w: VoiceId) -> Looked
     }
 }
 
-// The voices without `w`; the gap is closed.
-pub fn remove_voice(t: Voices, w: VoiceId) -> Voices
-    ensures { λ r. ⌜ voicesOf r ≡ keep (λ v. not (isVoice w v)) (voicesOf t) ⌝ }
+// The voices without those of `ids`; the gaps are closed.
+pub fn remove_voices(t: Voices, ids: &[u64]) -> Voices
+    ensures { λ r. ⌜ voicesOf r ≡ keep (λ v. not (isAnyOf (now (ids .entry)) v)) (voicesOf t) ⌝ }
 {
     let n = held(t.count);
     let mut out = t;
@@ -91,13 +97,21 @@ pub fn remove_voice(t: Voices, w: VoiceId) -> Voices
     while i < n {
         let v = t.rows[i];
         i += 1;
-        if !is_voice(v, w) {
+        if !is_listed(ids, v.id.0) {
             out.rows[kept] = v;
             kept += 1;
         }
     }
     out.count = kept;
     out
+}
+
+// The voices without `w`.
+pub fn remove_voice(t: Voices, w: VoiceId) -> Voices
+    ensures { λ r. ⌜ voicesOf r ≡ keep (λ v. not (isVoice w v)) (voicesOf t) ⌝ }
+{
+    let one = [w.0];
+    remove_voices(t, &one)
 }
 
 // One voice more, at the end; a full table stays as it is.
@@ -284,11 +298,18 @@ pub fn earliest_fade(t: Voices, bus: NodeId) -> Looked
     best
 }
 
+// Whether the clock has passed the birth of a voice.
+fn is_past_birth(v: Voice, clock: u64) -> bool
+    ensures { λ r. ⌜ r ≡ ltb (v .birth) clock ⌝ }
+{
+    v.birth < clock
+}
+
 // The level of a voice: none until the clock passes its birth, and none where its output does not live.
 pub fn voice_level(nodes: Nodes, clock: u64, v: Voice) -> Level
     ensures { λ r. ⌜ r ≡ levelAt (nodesOf nodes) clock v ⌝ }
 {
-    if clock <= v.birth {
+    if !is_past_birth(v, clock) {
         return Level::Unknown;
     }
     let output = v.output;
@@ -315,24 +336,39 @@ fn is_counted(v: Voice, scope: BudgetScope, bus: NodeId) -> bool
     }
 }
 
+// The level of a voice by the columns of the nodes' ids and levels.
+fn level_in(ids: &[u64], levels: &[f32], clock: u64, v: Voice) -> Level
+    ensures { λ r. ⌜ r ≡ levelIn (now (ids .entry)) (now (levels .entry)) clock v ⌝ }
+{
+    if !is_past_birth(v, clock) {
+        return Level::Unknown;
+    }
+    let row = row_of(ids, v.output.0 as u64);
+    if row < levels.len() {
+        return Level::Known(levels[row]);
+    }
+    Level::Unknown
+}
+
 // A voice that may have to go, with its level.
-fn candidate(nodes: Nodes, clock: u64, v: Voice) -> Candidate
-    ensures { λ r. ⌜ r ≡ candidateAt (nodesOf nodes) clock v ⌝ }
+fn candidate(ids: &[u64], levels: &[f32], clock: u64, v: Voice) -> Candidate
+    ensures { λ r. ⌜ r ≡ candidateIn (now (ids .entry)) (now (levels .entry)) clock v ⌝ }
 {
     let voice = v.id;
-    let level = voice_level(nodes, clock, v);
+    let level = level_in(ids, levels, clock, v);
     Candidate { voice, level }
 }
 
-// The tracked voices that count for a newcomer on `bus`, in order of admission, each with its level.
-pub fn candidates(
+// The voices that count for a newcomer on `bus`, by those columns.
+fn candidates_in(
     t: Voices,
-    nodes: Nodes,
+    ids: &[u64],
+    levels: &[f32],
     clock: u64,
     scope: BudgetScope,
     bus: NodeId,
 ) -> Candidates
-    ensures { λ r. ⌜ candidatesOf r ≡ candidatesAt (nodesOf nodes) clock (counted scope bus) (voicesOf t) ⌝ }
+    ensures { λ r. ⌜ candidatesOf r ≡ candidatesIn (now (ids .entry)) (now (levels .entry)) clock (counted scope bus) (voicesOf t) ⌝ }
 {
     let n = held(t.count);
     let mut out = no_candidates();
@@ -342,10 +378,27 @@ pub fn candidates(
         let v = t.rows[i];
         i += 1;
         if is_counted(v, scope, bus) {
-            out.rows[kept] = candidate(nodes, clock, v);
+            out.rows[kept] = candidate(ids, levels, clock, v);
             kept += 1;
         }
     }
     out.count = kept;
     out
+}
+
+// The tracked voices that count for a newcomer on `bus`, in order of admission, each with its level. The columns of the nodes are
+// lent to the loop, so that it does not move the table for each voice.
+pub fn candidates(
+    t: Voices,
+    nodes: Nodes,
+    clock: u64,
+    scope: BudgetScope,
+    bus: NodeId,
+) -> Candidates
+    ensures { λ r. ⌜ candidatesOf r ≡ candidatesAt (nodesOf nodes) clock (counted scope bus) (voicesOf t) ⌝ }
+{
+    let n = at_most(nodes.count, 512);
+    let ids = node_ids(nodes);
+    let levels = node_levels(nodes);
+    candidates_in(t, &ids[..n], &levels[..n], clock, scope, bus)
 }

@@ -1,123 +1,70 @@
-use Prim.Native.Nat.{_≤_, _<_, _-_, min}
-use mathlib.Core.Path.{_≡_, refl, sym, ap, _∙_}
-use mathlib.Core.Bool.{true, false}
+use Prim.Native.Nat.{_≤_, _-_}
+use mathlib.Core.Path.{sym, ap, ap₂, _∙_}
 use native.Mathlib.Omega.{arith}
-use lib.ListN.{length, take, getD, length-map, length-set}
+use lib.ListN.{length, take}
+use lib.Seq.{length-take-le}
 use borrow.Author.Needs.{needs}
 use Rattle.node.specs.Rows.{nodesOf}
 use Rattle.model.specs.Voice.{counted}
-use Rattle.voice_table.specs.Levels.{candidateAt, candidatesAt}
-use Rattle.voice_table.proofs.Picked.{picked-on, picked-off}
+use Rattle.model.specs.View.{voicesOf}
+use Rattle.voice_table.specs.Levels.{candidatesIn}
+use Rattle.voice_table.proofs.Columns.{candidates-same}
 use Rattle.voice_table.proofs.candidates.Statement.{statement}
 use Rattle.voice_table.proofs.candidates.Tie as tie
 
-abbrev Inv-loop : tie.InvT-loop
-Inv-loop nodes clock scope bus t n out₀ kept₀ i₀ out kept i =
-    (i ≤ n) × (kept ≤ i) × (length (out .rows) ≡ 64) × (take kept (out .rows) ≡ candidatesAt (nodesOf nodes) clock (counted scope bus) (take i (t .rows)))
+at-most-requires : tie.Need-at-most-requires
+at-most-requires c κs = search needs
 
-abbrev μ-loop : tie.MeasureT-loop
-μ-loop nodes clock scope bus t n out₀ kept₀ i₀ out kept i = n - i
+node-ids-requires : tie.Need-node-ids-requires
+node-ids-requires c κs = search needs
 
-rows-long : (c : tie.Start Inv-loop μ-loop) → length (c .args .t1 .rows) ≡ 64
-rows-long c = simp length-map at (c .good .0 .1 .1 .0 .1 .0 .1)
+node-levels-requires : tie.Need-node-levels-requires
+node-levels-requires c κs = search needs
 
-held-requires : tie.Need-held-requires Inv-loop μ-loop
-held-requires c κs = search needs
+array-share-prefix-ids : tie.Need-array-share-prefix-ids
+array-share-prefix-ids c = search needs
 
-no-candidates-requires : tie.Need-no-candidates-requires Inv-loop μ-loop
-no-candidates-requires c κs = search needs
+slice-aggregate-candidates-in : tie.Need-slice-aggregate-candidates-in
+slice-aggregate-candidates-in c =
+    let n = c .before .before .before .at-most in
+    let ids = c .before .before .node-ids in
+    let inside : n .result ≤ length (ids .result) = omega (arith, n .ensures, ids .ensures .long) in
+    sym (length-take-le (n .result) (ids .result) inside)
 
-loop-holds : tie.Need-loop-holds Inv-loop μ-loop
-loop-holds c = (search needs, search needs, simp length-map at (c .no-candidates .ok .1 .1 .0 .1 .0 .1), refl)
+array-share-prefix-levels : tie.Need-array-share-prefix-levels
+array-share-prefix-levels c = search needs
 
-mul-v : tie.Need-mul-v Inv-loop μ-loop
-mul-v c = search needs
+slice-aggregate-candidates-in-2 : tie.Need-slice-aggregate-candidates-in-2
+slice-aggregate-candidates-in-2 c =
+    let n = c .before .before .before .before .at-most in
+    let levels = c .before .before .node-levels in
+    let inside : n .result ≤ length (levels .result) = omega (arith, n .ensures, levels .ensures .long) in
+    sym (length-take-le (n .result) (levels .result) inside)
 
-element-copy-out-v : tie.Need-element-copy-out-v Inv-loop μ-loop
-element-copy-out-v c = search needs
+candidates-in-requires : tie.Need-candidates-in-requires
+candidates-in-requires c κs = search needs
 
-add-i : tie.Need-add-i Inv-loop μ-loop
-add-i c = search needs
-
-is-counted-requires : tie.Need-is-counted-requires Inv-loop μ-loop
-is-counted-requires c κs = search needs
-
-candidate-requires : tie.Need-candidate-requires Inv-loop μ-loop
-candidate-requires c κs = search needs
-
-mul-t21 : tie.Need-mul-t21 Inv-loop μ-loop
-mul-t21 c = search needs
-
-element-set-from-out : tie.Need-element-set-from-out Inv-loop μ-loop
-element-set-from-out c = search needs
-
-add-kept : tie.Need-add-kept Inv-loop μ-loop
-add-kept c = search needs
-
-loop-less : tie.Need-loop-less Inv-loop μ-loop
-loop-less c = search needs
-
-loop-again : tie.Need-loop-again Inv-loop μ-loop
-loop-again c =
-    let a = c .before .before .before .before .before .before .before .before .args in
-    let rows = a .t1 .rows in
-    let n = c .before .before .before .before .before .before .before .held .result in
-    let at = c .before .before .before .before .before .loop in
-    let long = rows-long (c .before .before .before .before .before .before .before .before) in
-    let e : n ≡ min (a .t1 .count) 64 = c .before .before .before .before .before .before .before .held .ensures in
-    let top : n ≤ length rows = omega arith in
-    let below : at .i < length rows = omega arith in
-    let room : at .kept < length (at .out .rows) = omega arith in
-    let on : counted (a .scope) (a .bus) (getD rows (at .i) _) ≡ true = sym (c .before .before .is-counted .ensures) ∙ c .before .if1 .taken in
-    (omega arith, omega arith, simp length-set (at .inv .2), picked-on _ (candidateAt (nodesOf (a .nodes)) (a .clock)) (counted (a .scope) (a .bus)) rows (at .out .rows) (c .candidate .result) (at .i) (at .kept) below room (at .inv .3) on (c .candidate .ensures))
-
-loop-less-2 : tie.Need-loop-less-2 Inv-loop μ-loop
-loop-less-2 c = search needs
-
-loop-again-2 : tie.Need-loop-again-2 Inv-loop μ-loop
-loop-again-2 c =
-    let a = c .before .before .before .before .before .before .before .args in
-    let rows = a .t1 .rows in
-    let n = c .before .before .before .before .before .before .held .result in
-    let at = c .before .before .before .before .loop in
-    let long = rows-long (c .before .before .before .before .before .before .before) in
-    let e : n ≡ min (a .t1 .count) 64 = c .before .before .before .before .before .before .held .ensures in
-    let top : n ≤ length rows = omega arith in
-    let below : at .i < length rows = omega arith in
-    let off : counted (a .scope) (a .bus) (getD rows (at .i) _) ≡ false = sym (c .before .is-counted .ensures) ∙ c .if1 .left in
-    (omega arith, omega arith, at .inv .2, picked-off _ (candidateAt (nodesOf (a .nodes)) (a .clock)) (counted (a .scope) (a .bus)) rows (at .out .rows) (at .i) (at .kept) below (at .inv .3) off)
-
-returns : tie.Need-returns Inv-loop μ-loop
+returns : tie.Need-returns
 returns c =
-    let a = c .before .before .before .before .args in
-    let rows = a .t1 .rows in
-    let n = c .before .before .before .held .result in
-    let at = c .before .loop in
-    let long = rows-long (c .before .before .before .before) in
-    let e : n ≡ min (a .t1 .count) 64 = c .before .before .before .held .ensures in
-    let over : at .i ≡ n = omega arith in
-    let small : min (at .kept) 64 ≡ at .kept = omega arith in
-    rw (small, ← e) (at .inv .3 ∙ ap (λ k. candidatesAt (nodesOf (a .nodes)) (a .clock) (counted (a .scope) (a .bus)) (take k rows)) over)
+    let a = c .before .before .before .before .before .before .args in
+    let n = c .before .before .before .before .before .at-most in
+    let ids = c .before .before .before .before .node-ids in
+    let levels = c .before .before .before .node-levels in
+    c .candidates-in .ensures
+    ∙ ap (λ k. candidatesIn (take k (ids .result)) (take k (levels .result)) (a .clock) (counted (a .scope) (a .bus)) (voicesOf (a .t))) (n .ensures)
+    ∙ ap₂ (λ x y. candidatesIn x y (a .clock) (counted (a .scope) (a .bus)) (voicesOf (a .t))) (ids .ensures .is) (levels .ensures .is)
+    ∙ candidates-same (nodesOf (a .nodes)) (a .clock) (counted (a .scope) (a .bus)) (voicesOf (a .t))
 
 pub candidates-spec : {M : Type 1} → statement M
 candidates-spec =
     tie.close
     (tie.spec
-    Inv-loop
-    μ-loop
-    held-requires
-    no-candidates-requires
-    loop-holds
-    mul-v
-    element-copy-out-v
-    add-i
-    is-counted-requires
-    candidate-requires
-    mul-t21
-    element-set-from-out
-    add-kept
-    loop-less
-    loop-again
-    loop-less-2
-    loop-again-2
+    at-most-requires
+    node-ids-requires
+    node-levels-requires
+    array-share-prefix-ids
+    slice-aggregate-candidates-in
+    array-share-prefix-levels
+    slice-aggregate-candidates-in-2
+    candidates-in-requires
     returns)

@@ -11,11 +11,11 @@ use Rattle.graph.proofs.removal.part.Statement.{statement}
 use Rattle.graph.proofs.removal.part.Tie as tie
 
 abbrev Inv-loop : tie.InvT-loop
-Inv-loop which t n out₀ ids₀ count₀ w₀ i₀ out ids count w i =
-    Closing (λ x. not (goes which x)) 512 (t .rows) (out .rows) n i w × Leaving (λ x. goes which x) (t .rows) ids i count
+Inv-loop by keys t n out₀ ids₀ count₀ w₀ i₀ out ids count w i =
+    Closing (λ x. not (goes by keys x)) 512 (t .rows) (out .rows) n i w × Leaving (λ x. goes by keys x) (t .rows) ids i count
 
 abbrev μ-loop : tie.MeasureT-loop
-μ-loop which t n out₀ ids₀ count₀ w₀ i₀ out ids count w i = n - i
+μ-loop by keys t n out₀ ids₀ count₀ w₀ i₀ out ids count w i = n - i
 
 rows-long : (c : tie.Start Inv-loop μ-loop) → length (c .args .t1 .rows) ≡ 512
 rows-long c = simp length-map at (c .good .0 .1 .1 .0 .1 .0 .1)
@@ -24,7 +24,7 @@ at-most-requires : tie.Need-at-most-requires Inv-loop μ-loop
 at-most-requires c κs = search needs
 
 loop-holds : tie.Need-loop-holds Inv-loop μ-loop
-loop-holds c = ((omega arith, omega arith, rows-long (c .before), refl), (omega arith, refl, refl))
+loop-holds c = ((omega arith, omega arith, rows-long (c .before .before), refl), (omega arith, refl, refl))
 
 mul-x : tie.Need-mul-x Inv-loop μ-loop
 mul-x c = search needs
@@ -52,7 +52,7 @@ loop-less c = search needs
 
 loop-again : tie.Need-loop-again Inv-loop μ-loop
 loop-again c =
-    let s = c .before .before .before .before .before .before in
+    let s = c .before .before .before .before .before .before .before in
     let l = c .before .before .before .before .loop in
     let n = c .before .before .before .before .before .at-most .result in
     let long = rows-long s in
@@ -61,8 +61,8 @@ loop-again c =
     let inside : l .i < length (s .args .t1 .rows) = omega arith in
     let small : l .i < 512 = omega arith in
     let test = sym (c .before .is-going .ensures) ∙ c .if1 .taken in (
-      closing-drop (λ x. not (goes (s .args .which) x)) 512 (s .args .t1 .rows) (l .out .rows) n (l .i) (l .w) _ fits long (l .inv .0) more (ap not test),
-      leaving-goes (λ x. goes (s .args .which) x) (s .args .t1 .rows) (l .ids) (l .i) (l .count) _ inside small (l .inv .1) test,
+      closing-drop (λ x. not (goes (s .args .by) (s .args .keys .now) x)) 512 (s .args .t1 .rows) (l .out .rows) n (l .i) (l .w) _ fits long (l .inv .0) more (ap not test),
+      leaving-goes (λ x. goes (s .args .by) (s .args .keys .now) x) (s .args .t1 .rows) (l .ids) (l .i) (l .count) _ inside small (l .inv .1) test,
     )
 
 mul-x-2 : tie.Need-mul-x-2 Inv-loop μ-loop
@@ -79,7 +79,7 @@ loop-less-2 c = search needs
 
 loop-again-2 : tie.Need-loop-again-2 Inv-loop μ-loop
 loop-again-2 c =
-    let s = c .before .before .before .before .before .before in
+    let s = c .before .before .before .before .before .before .before in
     let l = c .before .before .before .before .loop in
     let n = c .before .before .before .before .before .at-most .result in
     let long = rows-long s in
@@ -88,20 +88,20 @@ loop-again-2 c =
     let inside : l .i < length (s .args .t1 .rows) = omega arith in
     let small : l .i < 512 = omega arith in
     let test = sym (c .before .is-going .ensures) ∙ c .if1 .left in (
-      closing-keep (λ x. not (goes (s .args .which) x)) 512 (s .args .t1 .rows) (l .out .rows) n (l .i) (l .w) _ fits long (l .inv .0) more (ap not test),
-      leaving-stays (λ x. goes (s .args .which) x) (s .args .t1 .rows) (l .ids) (l .i) (l .count) _ inside small (l .inv .1) test,
+      closing-keep (λ x. not (goes (s .args .by) (s .args .keys .now) x)) 512 (s .args .t1 .rows) (l .out .rows) n (l .i) (l .w) _ fits long (l .inv .0) more (ap not test),
+      leaving-stays (λ x. goes (s .args .by) (s .args .keys .now) x) (s .args .t1 .rows) (l .ids) (l .i) (l .count) _ inside small (l .inv .1) test,
     )
 
 returns : tie.Need-returns Inv-loop μ-loop
 returns c =
-    let s = c .before .before .before in
+    let s = c .before .before .before .before in
     let l = c .before .loop in
     let n = c .before .before .at-most .result in
     let over : n ≤ l .i = omega arith in
     let all : l .i ≡ n = omega arith in
     record {
-      stay = closing-done (λ x. not (goes (s .args .which) x)) 512 (s .args .t1 .count) (s .args .t1 .rows) (l .out .rows) n (l .i) (l .w) (c .before .before .at-most .ensures) (l .inv .0) over;
-      leave = leaving-done (λ x. goes (s .args .which) x) (s .args .t1 .count) n (l .i) (l .count) (s .args .t1 .rows) (l .ids) (c .before .before .at-most .ensures) all (l .inv .1);
+      stay = closing-done (λ x. not (goes (s .args .by) (s .args .keys .now) x)) 512 (s .args .t1 .count) (s .args .t1 .rows) (l .out .rows) n (l .i) (l .w) (c .before .before .at-most .ensures) (l .inv .0) over;
+      leave = leaving-done (λ x. goes (s .args .by) (s .args .keys .now) x) (s .args .t1 .count) n (l .i) (l .count) (s .args .t1 .rows) (l .ids) (c .before .before .at-most .ensures) all (l .inv .1);
       fits = omega arith;
       long = l .inv .1 .1;
     }

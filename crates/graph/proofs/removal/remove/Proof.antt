@@ -42,7 +42,7 @@ keep-sink-requires c κs = search needs
 
 returns : tie.Need-returns
 returns c =
-    let s = c .before .before .before .before .before .before .before .before .before .before in
+    let s = c .before .before .before .before .before .before .before .before .before .before .before in
     let p = c .before .before .before .before .before .before .part in
     same-view _ _ (p .ensures .stay)
     (c .before .before .drop-touching .ensures ∙ ap (dropTouching (edgesOf (s .args .g .edges))) (p .ensures .leave))

@@ -4,9 +4,9 @@ use native.Mathlib.Omega.{arith}
 use lib.ListN.{length, take, drop, length-map}
 use borrow.Author.Needs.{needs}
 use Rattle.model.specs.Render.{anyFree}
-use Rattle.render.proofs.Walks.{over, free-hit, free-next}
-use Rattle.render.proofs.any_free.Statement.{statement}
-use Rattle.render.proofs.any_free.Tie as tie
+use Rattle.events.proofs.Walks.{over, free-hit, free-next}
+use Rattle.events.proofs.each.any_free.Statement.{statement}
+use Rattle.events.proofs.each.any_free.Tie as tie
 
 abbrev Inv-loop : tie.InvT-loop
 Inv-loop due n i₀ i = (i ≤ n) × (anyFree (drop i (take n (due .rows))) ≡ anyFree (take n (due .rows)))

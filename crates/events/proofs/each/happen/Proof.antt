@@ -1,12 +1,12 @@
-use mathlib.Core.Path.{_≡_, sym, ap, _∙_}
+use mathlib.Core.Path.{sym, ap, _∙_}
 use borrow.Author.Needs.{needs}
 use Rattle.scheduler.specs.declared.event.ParamOrder.{ParamOrder}
 use Rattle.model.specs.Order.{order}
 use Rattle.model.specs.View.{modelOf, deskOf, voicesOf}
 use Rattle.orders.specs.Ordering.{beside, ordered-model}
-use Rattle.render.proofs.Walks.{happen-free, happen-order}
-use Rattle.render.proofs.happen.Statement.{statement}
-use Rattle.render.proofs.happen.Tie as tie
+use Rattle.events.proofs.Walks.{happen-free, happen-order}
+use Rattle.events.proofs.each.happen.Statement.{statement}
+use Rattle.events.proofs.each.happen.Tie as tie
 
 is-free-requires : tie.Need-is-free-requires
 is-free-requires c κs = search needs

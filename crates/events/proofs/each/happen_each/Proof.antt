@@ -5,9 +5,9 @@ use lib.ListN.{length, take, drop, length-map}
 use borrow.Author.Needs.{needs}
 use Rattle.model.specs.Render.{happenAll}
 use Rattle.model.specs.View.{modelOf}
-use Rattle.render.proofs.Walks.{over, happen-next}
-use Rattle.render.proofs.happen_all.Statement.{statement}
-use Rattle.render.proofs.happen_all.Tie as tie
+use Rattle.events.proofs.Walks.{over, happen-next}
+use Rattle.events.proofs.each.happen_each.Statement.{statement}
+use Rattle.events.proofs.each.happen_each.Tie as tie
 
 abbrev Inv-loop : tie.InvT-loop
 Inv-loop due n out₀ i₀ out i = (i ≤ n) × (happenAll (drop i (take n (due .rows))) (modelOf out) ≡ happenAll (take n (due .rows)) (modelOf out₀))
@@ -63,8 +63,8 @@ returns c =
     let end : i ≡ n = omega arith in
     rw (← e) (sym (ap (λ l. happenAll l (modelOf out)) (over rows n i end top)) ∙ c .before .loop .inv .1)
 
-pub happen-all-spec : {M : Type 1} → statement M
-happen-all-spec =
+pub happen-each-spec : {M : Type 1} → statement M
+happen-each-spec =
     tie.close
     (tie.spec
     Inv-loop

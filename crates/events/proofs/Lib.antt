@@ -1,0 +1,5 @@
+pub mod Walks
+mod Rows
+mod Gone
+mod Loops
+mod Ways
