@@ -60,3 +60,16 @@ pub fn and_samples(xs: &[f32]) {
         i += 1;
     }
 }
+
+fn wide(b: u8) -> u64 {
+    b as u64
+}
+
+// Each byte in two hexadecimal digits.
+pub fn hex_bytes(s: &[u8]) {
+    let mut i: usize = 0;
+    while i < s.len() {
+        io::print_hex(STDOUT_FILENO, wide(s[i]), 2);
+        i += 1;
+    }
+}

@@ -1,0 +1,54 @@
+-- The other stores that the examples meet: by the calls that lead there, or a store with another clock or next node id.
+-- Assumes nothing.
+use Prim.Native.Nat.{ℕ}
+use mathlib.Core.List.{List, [], _∷_}
+use mathlib.Core.Bool.{false}
+use lib.ListN.{replicate}
+use Rattle.node.specs.Silence.{bytes}
+use Rattle.node.specs.declared.order.Action.the-variants as Action
+use Rattle.graph.specs.View.{GraphView}
+use Rattle.synthdef.specs.declared.def.SynthDef.{SynthDef}
+use Rattle.model.specs.Desk.{withGraph, withClock}
+use Rattle.model.specs.Model.{Model}
+use Rattle.model.specs.Call.{Call}
+use Rattle.model.specs.Call as call
+use Rattle.model.specs.Scene.{voice, wire}
+use Rattle.page_scene.specs.Played.{tone}
+
+-- a host node of no ports, which feeds a port of node 0
+abbrev pub feeder : ℕ → ℕ → List Call
+feeder node port = call.addNode (bytes "Oscillator") 0 0 false false ∷ wire node 0 port ∷ []
+
+-- a free of voice 1 at 1000, scheduled so many times
+abbrev pub timed : Call
+timed = call.schedule 1000 (voice 1) [] Action.Free
+
+unfoldable pub waiting : ℕ → List Call
+waiting n = replicate n timed
+
+abbrev pub atClock : ℕ → Model → Model
+atClock clock m = record { desk = withClock clock (m .desk); voices = m .voices }
+
+abbrev pub nextOf : ℕ → GraphView → GraphView
+nextOf next g =
+    record {
+      nodes = g .nodes;
+      edges = g .edges;
+      sink = g .sink;
+      prepared = g .prepared;
+      order = g .order;
+      next = next;
+    }
+
+abbrev pub atNext : ℕ → Model → Model
+atNext next m = record { desk = withGraph (nextOf next (m .desk .graph)) (m .desk); voices = m .voices }
+
+-- a definition of so many nodes, each as that of `tone`
+abbrev pub ofNodes : ℕ → ℕ → SynthDef
+ofNodes count output =
+    record {
+      nodes = record { rows = tone .nodes .rows; count = count };
+      edges = tone .edges;
+      params = tone .params;
+      output = output;
+    }

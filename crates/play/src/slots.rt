@@ -1,0 +1,34 @@
+// The definitions that a script keeps.
+use script::def::def_at;
+use synthdef::def::SynthDef;
+use wire::field::after;
+use wire::field::byte_at;
+use wire::word::text;
+
+pub struct Slots {
+    pub rows: [SynthDef; 16],
+}
+
+// A slot that was never kept holds a definition without nodes.
+pub(crate) fn no_slots() -> Slots {
+    let r = def_at(b"", 0);
+    let none = r.def;
+    Slots { rows: [none; 16] }
+}
+
+// The definition of the slot whose number stands at `at`.
+pub(crate) fn slot_at(s: &[u8], at: usize, slots: Slots) -> SynthDef {
+    let i = byte_at(s, at) as usize % 16;
+    slots.rows[i]
+}
+
+// A slot, and the definition for it.
+pub(crate) fn keep(s: &[u8], at: usize, slots: Slots) -> Slots {
+    let i = byte_at(s, at) as usize % 16;
+    let r = def_at(s, after(at, 1));
+    let def = r.def;
+    let mut out = slots;
+    out.rows[i] = def;
+    text(b"kept\n");
+    out
+}

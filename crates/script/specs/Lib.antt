@@ -1,0 +1,6 @@
+pub mod Config
+pub mod Def
+pub mod Entry
+pub mod Glide
+pub mod Name
+pub mod Rows

@@ -1,0 +1,6 @@
+// The fields of a script's entries, and where each entry ends. docs/REPLAY.md describes them.
+pub mod config;
+pub mod def;
+pub mod entry;
+pub mod glide;
+pub mod name;

@@ -1,0 +1,66 @@
+-- `transcript::graphs::edge_words` is safe and ends. Assumes nothing.
+use Prim.Native.Nat.{_≤_, _-_}
+use borrow.Author.Needs.{needs}
+use Rattle.transcript.proofs.graphs.edge_words.Statement.{statement}
+use Rattle.transcript.proofs.graphs.edge_words.Tie as tie
+
+abbrev Inv-loop : tie.InvT-loop
+Inv-loop edges n i₀ i = i ≤ n
+
+abbrev μ-loop : tie.MeasureT-loop
+μ-loop edges n i₀ i = n - i
+
+at-most-requires : tie.Need-at-most-requires Inv-loop μ-loop
+at-most-requires c κs = search needs
+
+loop-holds : tie.Need-loop-holds Inv-loop μ-loop
+loop-holds c = search needs
+
+mul-e : tie.Need-mul-e Inv-loop μ-loop
+mul-e c = search needs
+
+element-copy-out-e : tie.Need-element-copy-out-e Inv-loop μ-loop
+element-copy-out-e c = search needs
+
+id-word-requires : tie.Need-id-word-requires Inv-loop μ-loop
+id-word-requires c κs = search needs
+
+id-word-requires-2 : tie.Need-id-word-requires-2 Inv-loop μ-loop
+id-word-requires-2 c κs = search needs
+
+cast-and-number : tie.Need-cast-and-number Inv-loop μ-loop
+cast-and-number c = search needs
+
+and-number-requires : tie.Need-and-number-requires Inv-loop μ-loop
+and-number-requires c κs = search needs
+
+add-i : tie.Need-add-i Inv-loop μ-loop
+add-i c = search needs
+
+loop-less : tie.Need-loop-less Inv-loop μ-loop
+loop-less c = search needs
+
+loop-again : tie.Need-loop-again Inv-loop μ-loop
+loop-again c = search needs
+
+returns : tie.Need-returns Inv-loop μ-loop
+returns c = tt
+
+pub edge-words-spec : {M : Type 1} → statement M
+edge-words-spec =
+    tie.close
+    (tie.spec
+    Inv-loop
+    μ-loop
+    at-most-requires
+    loop-holds
+    mul-e
+    element-copy-out-e
+    id-word-requires
+    id-word-requires-2
+    cast-and-number
+    and-number-requires
+    add-i
+    loop-less
+    loop-again
+    returns)

@@ -1,0 +1,54 @@
+-- `transcript::graphs::node_lines` is safe and ends. Assumes nothing.
+use Prim.Native.Nat.{_≤_, _-_}
+use borrow.Author.Needs.{needs}
+use Rattle.transcript.proofs.graphs.node_lines.Statement.{statement}
+use Rattle.transcript.proofs.graphs.node_lines.Tie as tie
+
+abbrev Inv-loop : tie.InvT-loop
+Inv-loop nodes n i₀ i = i ≤ n
+
+abbrev μ-loop : tie.MeasureT-loop
+μ-loop nodes n i₀ i = n - i
+
+at-most-requires : tie.Need-at-most-requires Inv-loop μ-loop
+at-most-requires c κs = search needs
+
+loop-holds : tie.Need-loop-holds Inv-loop μ-loop
+loop-holds c = search needs
+
+mul-row : tie.Need-mul-row Inv-loop μ-loop
+mul-row c = search needs
+
+element-copy-out-row : tie.Need-element-copy-out-row Inv-loop μ-loop
+element-copy-out-row c = search needs
+
+node-line-requires : tie.Need-node-line-requires Inv-loop μ-loop
+node-line-requires c κs = search needs
+
+add-i : tie.Need-add-i Inv-loop μ-loop
+add-i c = search needs
+
+loop-less : tie.Need-loop-less Inv-loop μ-loop
+loop-less c = search needs
+
+loop-again : tie.Need-loop-again Inv-loop μ-loop
+loop-again c = search needs
+
+returns : tie.Need-returns Inv-loop μ-loop
+returns c = tt
+
+pub node-lines-spec : {M : Type 1} → statement M
+node-lines-spec =
+    tie.close
+    (tie.spec
+    Inv-loop
+    μ-loop
+    at-most-requires
+    loop-holds
+    mul-row
+    element-copy-out-row
+    node-line-requires
+    add-i
+    loop-less
+    loop-again
+    returns)

@@ -1,0 +1,54 @@
+-- `transcript::queue::event_lines` is safe and ends. Assumes nothing.
+use Prim.Native.Nat.{_≤_, _-_}
+use borrow.Author.Needs.{needs}
+use Rattle.transcript.proofs.queue.event_lines.Statement.{statement}
+use Rattle.transcript.proofs.queue.event_lines.Tie as tie
+
+abbrev Inv-loop : tie.InvT-loop
+Inv-loop queue n i₀ i = i ≤ n
+
+abbrev μ-loop : tie.MeasureT-loop
+μ-loop queue n i₀ i = n - i
+
+at-most-requires : tie.Need-at-most-requires Inv-loop μ-loop
+at-most-requires c κs = search needs
+
+loop-holds : tie.Need-loop-holds Inv-loop μ-loop
+loop-holds c = search needs
+
+mul-e : tie.Need-mul-e Inv-loop μ-loop
+mul-e c = search needs
+
+element-copy-out-e : tie.Need-element-copy-out-e Inv-loop μ-loop
+element-copy-out-e c = search needs
+
+event-line-requires : tie.Need-event-line-requires Inv-loop μ-loop
+event-line-requires c κs = search needs
+
+add-i : tie.Need-add-i Inv-loop μ-loop
+add-i c = search needs
+
+loop-less : tie.Need-loop-less Inv-loop μ-loop
+loop-less c = search needs
+
+loop-again : tie.Need-loop-again Inv-loop μ-loop
+loop-again c = search needs
+
+returns : tie.Need-returns Inv-loop μ-loop
+returns c = tt
+
+pub event-lines-spec : {M : Type 1} → statement M
+event-lines-spec =
+    tie.close
+    (tie.spec
+    Inv-loop
+    μ-loop
+    at-most-requires
+    loop-holds
+    mul-e
+    element-copy-out-e
+    event-line-requires
+    add-i
+    loop-less
+    loop-again
+    returns)

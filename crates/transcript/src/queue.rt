@@ -1,0 +1,52 @@
+// Pending events.
+use crate::words::glide_words;
+use crate::words::name_word;
+use node::order::Action;
+use scheduler::event::Event;
+use scheduler::queue::Events;
+use wire::field::at_most;
+use wire::word::and_number;
+use wire::word::and_sample;
+use wire::word::end_line;
+use wire::word::text;
+
+fn event_line(e: Event) {
+    text(b"event");
+    and_number(e.time);
+    and_number(e.voice.0);
+    let name = e.name;
+    let action = e.action;
+    match action {
+        Action::Value(x) => {
+            text(b" value");
+            name_word(name);
+            and_sample(x);
+        }
+        Action::Glide {
+            target,
+            seconds,
+            shape,
+            space,
+        } => {
+            text(b" glide");
+            name_word(name);
+            glide_words(target, seconds, shape, space);
+        }
+        Action::Gate(x) => {
+            text(b" gate");
+            and_sample(x);
+        }
+        Action::Free => text(b" free"),
+    }
+    end_line();
+}
+
+pub fn event_lines(queue: Events) {
+    let n = at_most(queue.count, 256);
+    let mut i: usize = 0;
+    while i < n {
+        let e = queue.rows[i];
+        event_line(e);
+        i += 1;
+    }
+}

@@ -1,0 +1,11 @@
+// Prints the page of 01's scene: a header, and a line for each voice.
+use libc::STDOUT_FILENO;
+use page::page_length;
+use page_scene::scene_page;
+
+fn main() {
+    let mut out = io::buffer();
+    let paged = scene_page(&mut out);
+    let n = page_length(paged, &out);
+    io::write_all(STDOUT_FILENO, &out[..n]);
+}
