@@ -40,6 +40,18 @@ impl Engine {
     pub fn set_sample_offset(&mut self, sample: u64) {
         self.context.sample_offset = sample;
     }
+
+    /// The level of a node's last block, by the engine's own sum: that of a voice whose output the node is. The voice is
+    /// there for this one question, is older than the clock, and has the id 0, which is never given out.
+    pub fn node_level(&mut self, node: NodeId) -> Option<f32> {
+        let synth = Synth::new(String::new(), Vec::new(), node, Vec::new(), Vec::new(), DonePlan::default());
+        self.voices.push(Voice { id: VoiceId(0), synth, pan_nodes: None, born: 0, bus: None, fade: None });
+        let clock = core::mem::replace(&mut self.context.sample_offset, 1);
+        let level = self.voice_level(VoiceId(0));
+        self.context.sample_offset = clock;
+        self.voices.pop();
+        level
+    }
 }
 
 /// The seed of a node of the voice that was made at this sequence.

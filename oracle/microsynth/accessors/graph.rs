@@ -1,6 +1,13 @@
 
 // Accessors for the oracle, appended by its build.
 
+/// What a graph had before `mute`.
+pub struct Muted {
+    order: Vec<NodeId>,
+    sources: Vec<Vec<Option<NodeId>>>,
+    sink: Option<NodeId>,
+}
+
 impl AudioGraph {
     /// The edges in the order they were put.
     pub fn all_edges(&self) -> &[Edge] {
@@ -25,6 +32,37 @@ impl AudioGraph {
     pub fn live_nodes(&self) -> Vec<NodeId> {
         let given = self.nodes.iter().enumerate();
         given.filter(|(_, slot)| slot.is_some()).map(|(id, _)| NodeId(id as u32)).collect()
+    }
+
+    /// The number of node ids given out.
+    pub fn nodes_given(&self) -> u64 {
+        self.nodes.len() as u64
+    }
+
+    /// What `act` answers while these nodes, each named once, and their edges are not there.
+    pub fn without<T>(&mut self, ids: &[NodeId], act: impl FnOnce(&mut AudioGraph) -> T) -> T {
+        let edges = self.edges.clone();
+        let slots: Vec<_> = ids.iter().map(|id| self.nodes[id.index()].take()).collect();
+        self.edges.retain(|e| !ids.contains(&e.from) && !ids.contains(&e.to));
+        let answer = act(self);
+        self.edges = edges;
+        for (id, slot) in ids.iter().zip(slots) {
+            self.nodes[id.index()] = slot;
+        }
+        answer
+    }
+
+    /// Takes the sink away, so that no render processes a node, prepared or not.
+    pub fn mute(&mut self) -> Muted {
+        Muted { order: self.topo_order.clone(), sources: self.input_sources.clone(), sink: self.sink.take() }
+    }
+
+    /// Puts back the sink, and the order and the sources of the last good prepare. The graph is unprepared.
+    pub fn unmute(&mut self, muted: Muted) {
+        self.topo_order = muted.order;
+        self.input_sources = muted.sources;
+        self.sink = muted.sink;
+        self.dirty = true;
     }
 
     /// The order that a prepare would leave. The one that stands is kept.

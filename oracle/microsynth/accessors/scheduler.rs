@@ -11,4 +11,9 @@ impl Scheduler {
     pub fn next_voice(&self) -> VoiceId {
         VoiceId(self.next_voice_id)
     }
+
+    /// Sets the id that the next voice gets.
+    pub fn set_next_voice(&mut self, id: VoiceId) {
+        self.next_voice_id = id.0;
+    }
 }

@@ -2,10 +2,12 @@
 
 use std::sync::{Arc, Mutex};
 
-use microsynth::synthdef::{SynthDef, SynthDefBuilder};
+use microsynth::engine::{Engine, EngineConfig};
+use microsynth::synthdef::{Synth, SynthDef, SynthDefBuilder};
 
 use crate::generator::{Generator, Handle, Kind, Log, Port};
 use crate::limits::{self, Refusal, check};
+use crate::name;
 
 /// The names of ports that the host looks up for the store.
 pub const LOOKED_UP: [&str; 3] = ["in", "level", "amp"];
@@ -41,7 +43,7 @@ impl Node {
     fn generator(&self) -> Kind {
         let port = |(p, name): (usize, &String)| Port { name: name.clone(), required: self.required >> p & 1 == 1 };
         Kind {
-            name: String::from_utf8_lossy(&self.kind).into_owned(),
+            name: name::text(&self.kind),
             ports: self.ports.iter().enumerate().map(port).collect(),
             channels: self.channels,
             takes_values: self.takes_values,
@@ -83,8 +85,19 @@ pub struct Definition {
 pub type Made = Arc<Mutex<Vec<Handle>>>;
 
 impl Definition {
+    /// A new engine with one instance of the definition, whose nodes then have the ids from 0 on; or 9 if the definition
+    /// is outside the limits. For a cycle of its counted edges, that the Rust's order leaves a node out.
+    pub fn instance(&self) -> Result<(Engine, Synth), Refusal> {
+        self.within_limits()?;
+        let mut engine = Engine::new(EngineConfig::default());
+        let synth = engine.instantiate_synthdef(&self.build(&Made::default(), &Log::default()));
+        let order = engine.graph_mut().trial_order();
+        check(order.len() == self.nodes.len(), 9)?;
+        Ok((engine, synth))
+    }
+
     /// 9 if the definition is outside the limits, but for a cycle of its counted edges, which only its graph shows.
-    pub fn within_limits(&self) -> Result<(), Refusal> {
+    fn within_limits(&self) -> Result<(), Refusal> {
         let nodes = self.nodes.len();
         let has_port = |e: &Edge| e.from < nodes && self.nodes.get(e.to).is_some_and(|n| e.port < n.ports.len());
         let has_param = |p: &Param| limits::is_name(&p.name) && p.node < nodes;
@@ -112,7 +125,7 @@ impl Definition {
             def.connect(edge.from, edge.to, edge.port);
         }
         for param in &self.params {
-            def.param(String::from_utf8_lossy(&param.name), param.node, 0);
+            def.param(name::text(&param.name), param.node, 0);
         }
         def.set_output(self.output);
         def.build()

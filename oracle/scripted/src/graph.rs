@@ -18,11 +18,12 @@ pub fn host_nodes(graph: &AudioGraph, owned: impl Fn(NodeId) -> bool, ids: &[Nod
     check(!ids.iter().any(|&id| owned(id)), 5)
 }
 
-/// Whether a host node may be added: 6 for its name, ports and required ports, 7 for the table.
+/// Whether a host node may be added: 6 for its name, ports and required ports, 7 for the table, 8 for the ids.
 pub fn host_add(graph: &AudioGraph, name: &[u8], ports: usize, required: u64) -> Result<(), Refusal> {
     let named = limits::is_name(name) && ports <= limits::HOST_PORTS;
     check(named && (ports == 64 || required >> ports == 0), 6)?;
-    check(graph.live_nodes().len() < limits::NODES, 7)
+    check(graph.live_nodes().len() < limits::NODES, 7)?;
+    check(graph.nodes_given() < limits::NODE_IDS, 8)
 }
 
 /// Whether a live node has this port; else 6.
@@ -42,14 +43,19 @@ pub fn free_port(graph: &AudioGraph, id: NodeId) -> Option<usize> {
     (0..ports(graph, id)?).find(|port| !used.contains(port))
 }
 
+/// What `act` answers. Of a panic that it catches nothing is printed.
+pub fn quietly<T>(act: impl FnOnce() -> T) -> T {
+    let hook = panic::take_hook();
+    panic::set_hook(Box::new(|_| ()));
+    let answer = act();
+    panic::set_hook(hook);
+    answer
+}
+
 /// What a prepare answers: the order that the Rust would leave; 13 where it would panic for a required port; 14 where
 /// its order would leave a live node out. The graph stays as it is.
 pub fn trial(graph: &mut AudioGraph) -> Result<Vec<NodeId>, Refusal> {
-    let hook = panic::take_hook();
-    panic::set_hook(Box::new(|_| ()));
-    let connected = graph.trial_inputs();
-    panic::set_hook(hook);
-    check(connected, 13)?;
+    check(quietly(|| graph.trial_inputs()), 13)?;
     let order = graph.trial_order();
     check(order.len() == graph.live_nodes().len(), 14)?;
     Ok(order)

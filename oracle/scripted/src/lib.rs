@@ -5,3 +5,5 @@ pub mod definition;
 pub mod generator;
 pub mod graph;
 pub mod limits;
+pub mod name;
+pub mod words;

@@ -7,6 +7,11 @@ pub type Refusal = u8;
 pub const NODES: usize = 512;
 pub const EDGES: usize = 1024;
 pub const EVENTS: usize = 256;
+pub const VOICES: usize = 64;
+pub const BUDGET: usize = 64;
+/// How many node ids there are, and how many voice ids: the latter start at 1.
+pub const NODE_IDS: u64 = 1 << 32;
+pub const VOICE_IDS: u64 = u64::MAX;
 pub const BUS_INPUTS: usize = 64;
 pub const RECORDS: usize = 64;
 pub const HOST_PORTS: usize = 64;

@@ -5,6 +5,8 @@ use std::fmt::Write;
 use std::path::Path;
 use std::{fs, io};
 
+use scripted::words;
+
 /// One vector: its input, and the lines that are to be written for it.
 #[derive(Default)]
 pub struct Vector {
@@ -70,19 +72,8 @@ impl Vector {
 
     /// A line that begins with a word and goes on with numbers, samples or the like.
     pub fn row<T: std::fmt::Display>(&mut self, word: &str, rest: impl IntoIterator<Item = T>) {
-        self.answer.push_str(word);
-        for item in rest {
-            write!(self.answer, " {item}").expect("a string can be written");
-        }
-        self.answer.push('\n');
+        self.line(words::row(word, rest));
     }
-}
-
-/// The pattern of an f32 in eight digits, every NaN as the same.
-pub fn hex32(x: f32) -> String {
-    let bits = x.to_bits();
-    let is_nan = bits & 0x7fff_ffff > 0x7f80_0000;
-    format!("{:08x}", if is_nan { 0x7fc0_0000 } else { bits })
 }
 
 /// The pattern of an f64 in sixteen digits, every NaN as the same. Told by the pattern: of `x.is_nan()` just after a
@@ -91,11 +82,6 @@ pub fn hex64(x: f64) -> String {
     let bits = x.to_bits();
     let is_nan = bits & 0x7fff_ffff_ffff_ffff > 0x7ff0_0000_0000_0000;
     format!("{:016x}", if is_nan { 0x7ff8_0000_0000_0000 } else { bits })
-}
-
-/// What may be missing, as a number or `-`.
-pub fn or_dash<T: ToString>(value: Option<T>) -> String {
-    value.map_or_else(|| "-".to_string(), |v| v.to_string())
 }
 
 /// One file of inputs and what is to be written for it.

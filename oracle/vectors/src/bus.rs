@@ -8,10 +8,11 @@ use microsynth::ugens::{Bus, ChannelCount, StealFade, steal_fade_samples};
 use scripted::definition::{Definition, Made, Node};
 use scripted::generator::Log;
 use scripted::limits::{self, Refusal, check};
+use scripted::words::hex32;
+use seeded::floats::{self, Profile};
+use seeded::rng::Rng;
 
-use crate::book::{Book, Vector, hex32};
-use crate::floats::{self, Profile};
-use crate::rng::Rng;
+use crate::book::{Book, Vector};
 
 const RATE: u8 = 11;
 const FADE_LENGTHS: u8 = 12;

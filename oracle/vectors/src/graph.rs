@@ -8,9 +8,10 @@ use microsynth::node::NodeId;
 use scripted::generator::{Generator, Handle, Kind, Log};
 use scripted::graph as host;
 use scripted::limits::{self, Refusal};
+use scripted::words::or_dash;
+use seeded::rng::Rng;
 
-use crate::book::{Book, Vector, or_dash};
-use crate::rng::Rng;
+use crate::book::{Book, Vector};
 
 const SCRIPT: u8 = 21;
 

@@ -3,10 +3,11 @@
 use microsynth::engine::{Engine, EngineConfig};
 use scripted::definition::{Definition, Made, Node};
 use scripted::generator::{Generator, Handle, Kind, Log};
+use scripted::words::hex32;
+use seeded::floats;
+use seeded::rng::Rng;
 
-use crate::book::{Book, Vector, hex32, hex64};
-use crate::floats;
-use crate::rng::Rng;
+use crate::book::{Book, Vector, hex64};
 
 const ROOT: u8 = 1;
 const NARROW: u8 = 2;

@@ -5,10 +5,8 @@
 
 mod book;
 mod bus;
-mod floats;
 mod graph;
 mod level;
-mod rng;
 mod scheduler;
 mod synthdef;
 mod voice;
@@ -16,7 +14,7 @@ mod voice;
 use std::path::Path;
 
 use book::Book;
-use rng::Rng;
+use seeded::rng::Rng;
 
 /// One leaf: how its vectors are made, and how many of them, all in all and in the sample.
 struct Leaf {

@@ -3,10 +3,11 @@
 use microsynth::curve::{GlideShape, GlideSpace};
 use microsynth::scheduler::{Event, EventAction, Scheduler, VoiceId};
 use scripted::limits;
+use scripted::words::{self, hex32};
+use seeded::floats::Profile;
+use seeded::rng::Rng;
 
-use crate::book::{Book, Vector, hex32};
-use crate::floats::Profile;
-use crate::rng::Rng;
+use crate::book::{Book, Vector};
 
 const HISTORY: u8 = 31;
 
@@ -165,18 +166,8 @@ fn described(action: &EventAction) -> (VoiceId, String) {
     match action {
         EventAction::SetParam { voice, param, value } => (*voice, format!("value {} {}", name(param), hex32(*value))),
         EventAction::SetParamGlide { voice, param, target, glide_secs, shape, space } => {
-            let shape = match shape {
-                GlideShape::Hold => "hold".to_string(),
-                GlideShape::Linear => "linear".to_string(),
-                GlideShape::Sine => "sine".to_string(),
-                GlideShape::Exponential(tension) => format!("exponential {}", hex32(*tension)),
-            };
-            let space = match space {
-                GlideSpace::Raw => "raw",
-                GlideSpace::Pitch => "pitch",
-            };
-            let floats = format!("{} {}", hex32(*target), hex32(*glide_secs));
-            (*voice, format!("glide {} {floats} {shape} {space}", name(param)))
+            let glide = words::glide(*target, *glide_secs, *shape, *space);
+            (*voice, format!("glide {} {glide}", name(param)))
         }
         EventAction::SetGate { voice, value } => (*voice, format!("gate {}", hex32(*value))),
         EventAction::FreeSynth { voice } => (*voice, "free".to_string()),

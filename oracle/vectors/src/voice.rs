@@ -4,10 +4,11 @@ use microsynth::engine::StealRecord;
 use microsynth::scheduler::VoiceId;
 use microsynth::voice::{Admission, BudgetScope, StealPolicy, VoiceAllocator};
 use scripted::limits;
+use scripted::words;
+use seeded::floats::{self, Profile};
+use seeded::rng::Rng;
 
-use crate::book::{Book, Vector, hex32};
-use crate::floats::{self, Profile};
-use crate::rng::Rng;
+use crate::book::{Book, Vector};
 
 const VICTIM: u8 = 41;
 const ADMISSION: u8 = 42;
@@ -205,9 +206,7 @@ impl Steals {
         vector.append(self.vector);
         vector.line(format_args!("steals {}", self.made.len()));
         for record in &self.made[self.made.len().saturating_sub(limits::RECORDS)..] {
-            let level = record.level.map_or("-".to_string(), hex32);
-            let cut = if record.cut { "cut" } else { "faded" };
-            vector.line(format_args!("{} {level} {cut}", record.sample));
+            vector.line(words::steal(record));
         }
         vector
     }

@@ -48,6 +48,20 @@ impl Rng {
         &choices[self.below(choices.len())]
     }
 
+    /// One of these, each as likely as its weight.
+    pub fn weighted<'a, T>(&mut self, choices: &'a [T], weight: impl Fn(&T) -> usize) -> &'a T {
+        let mut left = self.below(choices.iter().map(&weight).sum());
+        let mut choices = choices.iter();
+        loop {
+            let choice = choices.next().expect("the number is below the sum");
+            let weight = weight(choice);
+            if left < weight {
+                return choice;
+            }
+            left -= weight;
+        }
+    }
+
     /// Puts these into random order.
     pub fn shuffle<T>(&mut self, items: &mut [T]) {
         for last in (1..items.len()).rev() {

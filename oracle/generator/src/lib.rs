@@ -1,0 +1,13 @@
+//! Call scripts from a seed, and what they reach.
+
+mod aims;
+mod choices;
+mod crowds;
+mod moves;
+pub mod reach;
+mod reports;
+pub mod scenes;
+pub mod script;
+pub mod shrink;
+mod values;
+mod writer;

@@ -1,0 +1,74 @@
+//! Writes call scripts.
+//!
+//! `generator scripts SEED CALLS FOLDER` writes scripts of some thousand calls each, about so many calls in all;
+//! `generator sample SEED FILE` writes the one script that is recorded. With `--reach` at the end it also prints what
+//! they reach. `generator shrink SCRIPT PROGRAM` cuts a script that the program answers otherwise than the Rust.
+
+use std::fs;
+use std::path::Path;
+
+use generator::reach::Reach;
+use generator::{scenes, script, shrink};
+
+/// About how many calls a script has.
+const SCRIPT_CALLS: usize = 3000;
+
+fn main() {
+    let words: Vec<String> = std::env::args().skip(1).collect();
+    let words: Vec<&str> = words.iter().map(String::as_str).collect();
+    let (reach, prints) = match words[..] {
+        ["shrink", script, program] => return shrink(Path::new(script), Path::new(program)),
+        ["scripts", seed, calls, folder, ref rest @ ..] => {
+            (scripts(number(seed), number(calls) as usize, Path::new(folder)), rest == ["--reach"])
+        }
+        ["sample", seed, file, ref rest @ ..] => (sample(number(seed), Path::new(file)), rest == ["--reach"]),
+        _ => panic!(
+            "usage: generator scripts SEED CALLS FOLDER [--reach] | sample SEED FILE [--reach] | shrink SCRIPT PROGRAM"
+        ),
+    };
+    println!("{} scripts, {} calls, {} of them states", reach.scripts, reach.calls, reach.states);
+    if prints {
+        println!("{reach}");
+    }
+}
+
+/// Writes the short script in place of the long one, and prints its calls.
+fn shrink(path: &Path, program: &Path) {
+    let script = fs::read(path).unwrap_or_else(|e| panic!("{}: {e}", path.display()));
+    assert!(shrink::differs(&script, program), "the answers do not differ");
+    let calls = shrink::shrink(&script, program);
+    write(path, &shrink::bytes_of(&calls));
+    for call in calls {
+        println!("{call:?}");
+    }
+}
+
+fn number(word: &str) -> u64 {
+    word.parse().unwrap_or_else(|_| panic!("{word} is not a number"))
+}
+
+fn write(path: &Path, script: &[u8]) {
+    fs::write(path, script).unwrap_or_else(|e| panic!("{}: {e}", path.display()));
+}
+
+fn scripts(seed: u64, calls: usize, folder: &Path) -> Reach {
+    fs::create_dir_all(folder).unwrap_or_else(|e| panic!("{}: {e}", folder.display()));
+    let mut reach = Reach::default();
+    while reach.calls < calls {
+        let number = reach.scripts;
+        let script = scenes::script(seed, number, SCRIPT_CALLS.min(calls));
+        write(&folder.join(format!("{number:04}.script")), &script.bytes);
+        reach.add(script.reach);
+    }
+    reach
+}
+
+fn sample(seed: u64, file: &Path) -> Reach {
+    let script = script::sample(seed);
+    write(file, &script.bytes);
+    for row in script.reach.missed() {
+        println!("not reached: {row}");
+    }
+    println!("{} bytes with the transcript", script.size());
+    script.reach
+}

@@ -1,0 +1,272 @@
+//! What scripts reach, counted while they are played on the Rust.
+
+mod before;
+mod rows;
+mod spawns;
+
+use std::collections::BTreeMap;
+use std::fmt;
+
+use microsynth::engine::Engine;
+use microsynth::scheduler::EventAction;
+use microsynth::synthdef::silence_pass_through;
+use replay::script::Call;
+use scripted::limits;
+
+pub use before::Before;
+pub use spawns::Spawn;
+
+use crate::writer::Answer;
+
+/// How often each row was reached.
+#[derive(Default)]
+pub struct Reach {
+    pub scripts: usize,
+    pub calls: usize,
+    pub states: usize,
+    counts: BTreeMap<&'static str, usize>,
+    /// How often each sort of entry gave this refusal, or 0 for none.
+    answers: BTreeMap<(u8, u64), usize>,
+    /// The refusals in a row just now.
+    row: usize,
+}
+
+/// A call, what it answered, and the store before and after it.
+pub struct Seen<'a> {
+    pub sort: u8,
+    pub before: &'a Before,
+    pub call: &'a Call,
+    pub answer: &'a Answer,
+    pub engine: &'a Engine,
+    /// What a spawn was asked for.
+    pub spawn: Option<Spawn<'a>>,
+}
+
+impl Reach {
+    fn hit(&mut self, row: &'static str) {
+        *self.counts.entry(row).or_default() += 1;
+    }
+
+    fn hit_if(&mut self, row: &'static str, reached: bool) {
+        if reached {
+            self.hit(row);
+        }
+    }
+
+    /// Adds what another script reached.
+    pub fn add(&mut self, other: Reach) {
+        self.scripts += other.scripts;
+        self.calls += other.calls;
+        self.states += other.states;
+        for (row, count) in other.counts {
+            *self.counts.entry(row).or_default() += count;
+        }
+        for (answer, count) in other.answers {
+            *self.answers.entry(answer).or_default() += count;
+        }
+    }
+
+    /// How many rows and answers this reaches that the other does not.
+    pub fn beyond(&self, other: &Reach) -> usize {
+        let rows = self.counts.keys().filter(|row| !other.counts.contains_key(*row)).count();
+        rows + self.answers.keys().filter(|answer| !other.answers.contains_key(*answer)).count()
+    }
+
+    /// The rows that nothing reached.
+    pub fn missed(&self) -> Vec<&'static str> {
+        let rows = rows::PROFILES.iter().flat_map(|(_, rows)| rows.iter().copied());
+        rows.filter(|row| !self.counts.contains_key(row)).collect()
+    }
+
+    pub fn note(&mut self, seen: &Seen) {
+        self.calls += 1;
+        self.note_answer(seen);
+        if let Some(spawn) = &seen.spawn {
+            self.note_spawn(seen, spawn);
+        }
+        match seen.call {
+            Call::State {} => self.states += 1,
+            Call::RemoveNode { node } if seen.answer.is("done") => {
+                let held = |bus: &microsynth::node::NodeId| bus.index() == *node as usize;
+                self.hit_if(
+                    "bus removed under voices",
+                    seen.before.voices.iter().any(|v| v.bus.as_ref().is_some_and(held)),
+                );
+            }
+            Call::AddNode { .. } => {
+                self.hit_if("512 nodes: node refused", seen.answer.of("refused") == Some(7));
+            }
+            Call::Connect { to, port, .. } => self.note_connect(seen, (*to, *port)),
+            Call::Schedule { time, voice, action, name, .. } => self.note_event(seen, *time, *voice, *action, name),
+            Call::Clear {} => self.note_clearing(seen),
+            Call::Render {} => self.note_render(seen),
+            Call::Report { done, samples, .. } => self.note_report(seen, *done, &samples.0),
+            Call::ReportRepeated { done, samples, .. } => self.note_report(seen, *done, &[samples.sample]),
+            Call::Level { voice } => self.note_level(seen, *voice),
+            Call::Page { length } => self.note_page(seen, length.0),
+            _ => {}
+        }
+    }
+
+    /// A script ends so.
+    pub fn note_end(&mut self, how: usize) {
+        self.hit(rows::MALFORMED[how]);
+    }
+
+    fn note_answer(&mut self, seen: &Seen) {
+        let refused = seen.answer.of("refused");
+        *self.answers.entry((seen.sort, refused.unwrap_or(0))).or_default() += 1;
+        self.row = if refused.is_some() { self.row + 1 } else { 0 };
+        self.hit_if("ten in a row", self.row == 10);
+        self.hit_if("twenty in a row", self.row == 20);
+    }
+
+    fn note_connect(&mut self, seen: &Seen, place: (u32, u32)) {
+        let full = seen.before.edges == limits::EDGES;
+        self.hit_if("1,024 edges: edge refused", full && seen.answer.of("refused") == Some(7));
+        if seen.answer.is("done") {
+            self.hit_if("1,024 edges: edge replaced", full);
+            if let Some(voice) = seen.before.voices.iter().find(|voice| voice.feeds == Some(place)) {
+                let faded = voice.fade.is_some();
+                self.hit(if faded {
+                    "host connection takes a fade's port"
+                } else {
+                    "host connection takes a voice's port"
+                });
+            }
+        }
+    }
+
+    fn note_event(&mut self, seen: &Seen, time: u64, voice: u64, action: u8, name: &[u8]) {
+        if seen.answer.of("refused") == Some(7) {
+            return self.hit("256 events: event refused");
+        }
+        let clock = seen.before.clock;
+        let equal = seen.engine.scheduler().pending().iter().filter(|event| event.time == time).count();
+        self.hit_if("in the past", time < clock);
+        self.hit_if("at the clock", time == clock);
+        self.hit_if("at the deadline", Some(time) == clock.checked_add(seen.engine.context().block_size as u64));
+        self.hit_if("at 2^64 - 1", time == u64::MAX);
+        self.hit_if("at the time of another", equal > 1);
+        self.hit_if("for a voice not yet let in", voice >= seen.engine.scheduler().next_voice().0);
+        self.hit_if("with a name of 0 or more than 16 bytes", action < 2 && !limits::is_name(name));
+    }
+
+    fn note_clearing(&mut self, seen: &Seen) {
+        let gone = seen.before.voices.iter().filter(|v| !seen.engine.voice_rows().any(|row| row.id.0 == v.id));
+        for voice in gone {
+            if voice.fade.is_some_and(|fade| fade.ended) {
+                self.hit("fade ended");
+                continue;
+            }
+            self.hit_if("output silent by its rule alone", !seen.before.done.contains(&voice.output));
+            self.hit(output_row(voice.output_kind));
+        }
+        let done = |voice: &before::Voice| voice.nodes.iter().any(|id| seen.before.done.contains(id));
+        let none = seen.answer.of("removed") == Some(0);
+        self.hit_if("none, though a node of some voice is done", none && seen.before.voices.iter().any(done));
+    }
+
+    fn note_render(&mut self, seen: &Seen) {
+        if seen.answer.is("refused") {
+            return self.hit("render refused at the clock's end");
+        }
+        let sounding = seen.answer.is("sounding");
+        let mut frees = false;
+        for action in &seen.before.due {
+            match action {
+                EventAction::SetGate { .. } => self.hit("gate"),
+                EventAction::FreeSynth { voice } => {
+                    frees = true;
+                    let known = seen.before.voice(voice.0).is_some();
+                    self.hit(if known { "free of a voice" } else { "free of no voice" });
+                }
+                _ => self.hit("value or glide"),
+            }
+        }
+        self.hit_if("ten and more in one render", seen.before.due.len() >= 10);
+        self.hit_if("sounding", sounding);
+        self.hit_if("sounding: a free's prepare heals the graph", sounding && !seen.before.prepared && frees);
+        let full = seen.before.nodes == limits::NODES && seen.before.edges == limits::EDGES;
+        self.hit_if("512 nodes and 1,024 edges: sounding render", sounding && full);
+        match seen.answer.of("silent") {
+            Some(13) => self.hit("silent: a free's prepare gives 13"),
+            Some(_) => self.hit("silent: a free's prepare gives 14"),
+            None if sounding => {}
+            None => {
+                let unprepared = seen.engine.graph().is_dirty();
+                self.hit(if unprepared { "silent: unprepared" } else { "silent: no sink" });
+            }
+        }
+    }
+
+    fn note_report(&mut self, seen: &Seen, done: u8, samples: &[f32]) {
+        if !seen.answer.is("done") {
+            return;
+        }
+        self.hit_if("sample NaN", samples.iter().any(|x| x.is_nan()));
+        self.hit_if("sample infinite", samples.iter().any(|x| x.is_infinite()));
+        self.hit_if("sample subnormal", samples.iter().any(|x| x.is_subnormal()));
+        self.hit_if("sample -0", samples.iter().any(|x| x.to_bits() == (-0.0f32).to_bits()));
+        let were = seen.before.done.len();
+        let are = seen.engine.graph().live_nodes().iter().filter(|&&id| seen.engine.graph().node_is_done(id)).count();
+        self.hit_if("done flag set", done != 0 && are > were);
+        self.hit_if("done flag cleared", done == 0 && are < were);
+    }
+
+    fn note_level(&mut self, seen: &Seen, voice: u64) {
+        let level = seen.engine.voice_level(microsynth::scheduler::VoiceId(voice));
+        self.hit(match level {
+            None if seen.before.voice(voice).is_none() => "level none: no such voice",
+            None => "level none: just born",
+            Some(x) if x.is_nan() => "level NaN",
+            Some(x) if x.is_infinite() => "level infinite",
+            Some(x) if x.is_subnormal() => "level subnormal",
+            Some(0.0) => "level +0",
+            Some(_) => "level normal",
+        });
+    }
+
+    fn note_page(&mut self, seen: &Seen, length: u32) {
+        match seen.answer.of("page") {
+            Some(written) if written == u64::from(length) => self.hit("buffer just long enough"),
+            Some(_) => self.hit("buffer longer"),
+            None => self.hit("buffer too short"),
+        }
+    }
+}
+
+/// The row of a voice that was silent, by its output's kind.
+fn output_row(kind: &str) -> &'static str {
+    match kind {
+        "Mul" => "output Mul",
+        "Div" => "output Div",
+        "Add" | "Sub" => "output Add or Sub",
+        "FmOp" => "output FmOp",
+        "Paf" => "output Paf",
+        "Neg" => "output Neg",
+        name if silence_pass_through().contains(&name) => "output of the 27 names",
+        _ => "output of another kind",
+    }
+}
+
+/// A table of the profiles, and one of the entries.
+impl fmt::Display for Reach {
+    fn fmt(&self, f: &mut fmt::Formatter) -> fmt::Result {
+        writeln!(f, "| Profile | Reached | Times |\n|---|---|---|")?;
+        for (profile, rows) in rows::PROFILES {
+            for row in *rows {
+                writeln!(f, "| {profile} | {row} | {} |", self.counts.get(row).unwrap_or(&0))?;
+            }
+        }
+        writeln!(f, "\n| Entry | Times | Refused |\n|---|---|---|")?;
+        for (sort, entry) in (1..).zip(rows::ENTRIES) {
+            let answers = self.answers.range((sort, 0)..=(sort, u64::MAX));
+            let times: usize = answers.clone().map(|(_, count)| count).sum();
+            let refused = answers.filter(|((_, number), _)| *number > 0);
+            let refused: Vec<String> = refused.map(|((_, number), count)| format!("{number}: {count}")).collect();
+            writeln!(f, "| {entry} | {times} | {} |", refused.join(", "))?;
+        }
+        Ok(())
+    }
+}

@@ -1,0 +1,90 @@
+//! The store as it stood before a call.
+
+use microsynth::engine::Engine;
+use microsynth::node::NodeId;
+use microsynth::scheduler::{EventAction, VoiceId};
+use replay::script::Call;
+
+use crate::writer::fed_port;
+
+pub struct Voice {
+    pub id: u64,
+    pub bus: Option<NodeId>,
+    pub output: NodeId,
+    pub output_kind: &'static str,
+    pub nodes: Vec<NodeId>,
+    pub fade: Option<Fade>,
+    /// The bus and the port of it that the voice feeds.
+    pub feeds: Option<(u32, u32)>,
+    pub level: Option<f32>,
+}
+
+#[derive(Clone, Copy)]
+pub struct Fade {
+    pub start: u64,
+    pub record: usize,
+    pub ended: bool,
+}
+
+pub struct Before {
+    pub clock: u64,
+    pub noise: u32,
+    pub prepared: bool,
+    pub steals: usize,
+    pub nodes: usize,
+    pub edges: usize,
+    pub voices: Vec<Voice>,
+    tracked: Vec<VoiceId>,
+    pub done: Vec<NodeId>,
+    /// The events that a render takes.
+    pub due: Vec<EventAction>,
+}
+
+impl Before {
+    pub fn of(engine: &Engine, call: &Call) -> Before {
+        let graph = engine.graph();
+        let live = graph.live_nodes();
+        Before {
+            clock: engine.sample_offset(),
+            noise: engine.noise_sequence(),
+            prepared: !graph.is_dirty(),
+            steals: engine.steals().len(),
+            nodes: live.len(),
+            edges: graph.all_edges().len(),
+            voices: voices(engine),
+            tracked: engine.voice_allocator().map_or(vec![], |allocator| allocator.active_voices().to_vec()),
+            done: live.into_iter().filter(|&id| graph.node_is_done(id)).collect(),
+            due: if matches!(call, Call::Render {}) { due(engine) } else { vec![] },
+        }
+    }
+
+    /// The tracked voices in order.
+    pub fn tracked(&self) -> impl Iterator<Item = &Voice> {
+        self.voices.iter().filter(|voice| self.tracked.contains(&VoiceId(voice.id)))
+    }
+
+    pub fn voice(&self, id: u64) -> Option<&Voice> {
+        self.voices.iter().find(|voice| voice.id == id)
+    }
+}
+
+fn due(engine: &Engine) -> Vec<EventAction> {
+    let deadline = engine.sample_offset().saturating_add(engine.context().block_size as u64);
+    let due = engine.scheduler().pending().iter().take_while(|event| event.time < deadline);
+    due.map(|event| event.action.clone()).collect()
+}
+
+fn voices(engine: &Engine) -> Vec<Voice> {
+    let fade = |(node, start, record)| Fade { start, record, ended: engine.graph().node_is_done(node) };
+    let voice = engine.voice_rows().map(|row| Voice {
+        id: row.id.0,
+        bus: row.bus,
+        output: row.synth.output_node(),
+        output_kind: engine.graph().node_spec(row.synth.output_node()).map_or("", |spec| spec.name),
+        nodes: row.synth.node_ids().to_vec(),
+        fade: row.fade.map(fade),
+        feeds: fed_port(engine, &row),
+        level: engine.voice_level(row.id),
+    });
+    voice.collect()
+}

@@ -1,0 +1,304 @@
+//! Scenes: a newly made store and the calls on it. A script is a row of scenes.
+
+use replay::script::Call;
+use seeded::rng::Rng;
+
+use crate::aims::refused_making;
+use crate::crowds::{edges_brink, full_graph, many_events, many_voices, nodes_brink};
+use crate::moves::Move::{self, *};
+use crate::script::Script;
+use crate::values::{self, Config};
+use crate::writer::Writer;
+
+/// How likely each move is.
+type Weights = &'static [(Move, usize)];
+
+pub struct Scene {
+    begin: fn(&mut Writer),
+    weights: Weights,
+    /// How often it is chosen.
+    likely: usize,
+}
+
+/// The fewest and the most calls of a scene.
+const FEWEST: usize = 60;
+const MOST: usize = 500;
+
+const MIXED: Weights = &[
+    (Spawn, 40),
+    (Sound, 28),
+    (Render, 8),
+    (Prepare, 4),
+    (Clear, 10),
+    (Free, 6),
+    (Order, 24),
+    (Event, 16),
+    (Read, 20),
+    (Connect, 8),
+    (Disconnect, 5),
+    (Add, 5),
+    (Remove, 2),
+    (Sink, 2),
+    (Keep, 3),
+    (Limits, 4),
+    (Hush, 2),
+    (ReportAgain, 6),
+    (ReportRefused, 3),
+    (TakePort, 4),
+    (RemoveBus, 1),
+    (Squeeze, 1),
+    (FailingFree, 1),
+    (Cycle, 1),
+    (Refusals, 1),
+    (Page, 1),
+];
+
+const STEALING: Weights = &[
+    (Spawn, 40),
+    (Sound, 8),
+    (Render, 4),
+    (Clear, 3),
+    (Free, 2),
+    (Read, 5),
+    (ReportAgain, 2),
+    (TakePort, 3),
+    (Disconnect, 1),
+    (Squeeze, 2),
+    (RemoveBus, 1),
+    (Event, 3),
+];
+
+const LISTENING: Weights = &[(Spawn, 14), (Sound, 20), (Read, 10), (Order, 5), (ReportAgain, 3), (Clear, 3), (Keep, 1)];
+
+const SILENCE: Weights = &[
+    (Spawn, 14),
+    (Limits, 10),
+    (Sound, 12),
+    (Hush, 12),
+    (Rules, 20),
+    (ReportAgain, 4),
+    (Clear, 3),
+    (Keep, 6),
+    (Read, 3),
+    (Event, 2),
+];
+
+const WIRING: Weights = &[
+    (Add, 8),
+    (Connect, 30),
+    (Disconnect, 8),
+    (Remove, 4),
+    (Sink, 3),
+    (Prepare, 10),
+    (Sound, 8),
+    (Render, 2),
+    (Read, 10),
+    (Spawn, 5),
+    (Cycle, 2),
+    (TakePort, 2),
+];
+
+const TIMING: Weights = &[
+    (Event, 40),
+    (Sound, 12),
+    (Render, 6),
+    (Spawn, 10),
+    (Order, 5),
+    (FailingFree, 1),
+    (Cycle, 1),
+    (Read, 5),
+    (Free, 2),
+];
+
+const CROSSING: Weights = &[(Spawn, 10), (Sound, 10), (Read, 2)];
+
+const FADING: Weights = &[(Spawn, 6), (Sound, 12), (Clear, 12), (Read, 6), (Render, 1)];
+
+pub const SCENES: [Scene; 16] = [
+    Scene { begin: mixed, weights: MIXED, likely: 20 },
+    Scene { begin: stealing, weights: STEALING, likely: 12 },
+    Scene { begin: listening, weights: LISTENING, likely: 8 },
+    Scene { begin: silence, weights: SILENCE, likely: 14 },
+    Scene { begin: mixed, weights: WIRING, likely: 6 },
+    Scene { begin: mixed, weights: TIMING, likely: 6 },
+    Scene { begin: fading, weights: FADING, likely: 6 },
+    Scene { begin: crossing_fades, weights: CROSSING, likely: 6 },
+    Scene { begin: long_fades, weights: STEALING, likely: 3 },
+    Scene { begin: last_samples, weights: MIXED, likely: 3 },
+    Scene { begin: last_voices, weights: STEALING, likely: 3 },
+    Scene { begin: full_graph, weights: MIXED, likely: 2 },
+    Scene { begin: nodes_brink, weights: MIXED, likely: 2 },
+    Scene { begin: edges_brink, weights: MIXED, likely: 2 },
+    Scene { begin: many_voices, weights: STEALING, likely: 2 },
+    Scene { begin: many_events, weights: TIMING, likely: 2 },
+];
+
+impl Scene {
+    /// Plays a scene of about so many calls.
+    fn play(&self, writer: &mut Writer, calls: usize) {
+        let end = writer.calls() + calls;
+        (self.begin)(writer);
+        while writer.calls() < end {
+            let (which, _) = *writer.rng.weighted(self.weights, |(_, weight)| *weight);
+            writer.make_move(which);
+            writer.state_if_due();
+        }
+        writer.state();
+    }
+}
+
+/// The script with this number of a seed, of about so many calls.
+pub fn script(seed: u64, number: usize, calls: usize) -> Script {
+    let mut writer = Writer::new(Rng::new(seed, &format!("script {number}")));
+    keep_all(&mut writer);
+    while writer.calls() < calls {
+        let scene = writer.rng.weighted(&SCENES, |scene| scene.likely);
+        let length = writer.rng.within(FEWEST, MOST);
+        scene.play(&mut writer, length);
+    }
+    if writer.rng.once_in(4) {
+        writer.break_off();
+    }
+    writer.finish()
+}
+
+/// A short scene by itself: the scenes of rising numbers take turns.
+pub fn short(seed: u64, number: usize) -> Script {
+    let mut writer = Writer::new(Rng::new(seed, &format!("scene {number}")));
+    keep_all(&mut writer);
+    SCENES[number % SCENES.len()].play(&mut writer, FEWEST);
+    writer.finish()
+}
+
+/// Fills the slots but the last.
+fn keep_all(writer: &mut Writer) {
+    for slot in 0..15 {
+        let n = writer.rng.below(32);
+        let definition = match slot {
+            0 => values::tone(),
+            1..8 => values::definition(&mut writer.rng, n),
+            _ => values::edge_definition(&mut writer.rng),
+        };
+        writer.put(Call::Keep { slot, definition });
+    }
+}
+
+/// A store made so, after a making that was refused, perhaps.
+pub fn make(writer: &mut Writer, config: Config) {
+    if writer.rng.once_in(4) {
+        let refused = refused_making(&mut writer.rng);
+        writer.put(refused);
+    }
+    writer.done_once_in = 8;
+    let call = config.call(&mut writer.rng);
+    writer.put(call);
+}
+
+/// A store with a few definitions kept anew, buses and a sink.
+fn furnish(writer: &mut Writer, config: Config) {
+    make(writer, config);
+    for _ in 0..writer.rng.below(4) {
+        writer.keep();
+    }
+    for _ in 0..writer.rng.within(1, 3) {
+        writer.add_bus();
+    }
+    let sink = writer.some_node(12);
+    writer.put(Call::SetSink { node: sink });
+}
+
+pub fn mixed(writer: &mut Writer) {
+    let config = Config::random(&mut writer.rng);
+    furnish(writer, config);
+}
+
+fn stealing(writer: &mut Writer) {
+    let mut config = Config::random(&mut writer.rng);
+    config.budget = Some(writer.rng.within(1, 4) as u32);
+    config.policy = writer.rng.within(1, 3) as u8;
+    furnish(writer, config);
+}
+
+fn listening(writer: &mut Writer) {
+    let mut config = Config::random(&mut writer.rng);
+    config.budget = Some(writer.rng.within(2, 6) as u32);
+    config.policy = 3;
+    furnish(writer, config);
+}
+
+/// Few voices are stolen, so that silence removes them.
+fn silence(writer: &mut Writer) {
+    let mut config = Config::random(&mut writer.rng);
+    config.budget = None;
+    make(writer, config);
+    writer.done_once_in = 4;
+    if let Some(node) = writer.add_node(b"Bus", 12, 0) {
+        writer.put(Call::SetSink { node });
+    }
+}
+
+/// Long fades that do not begin in voice order, on a bus that they fill.
+fn crossing_fades(writer: &mut Writer) {
+    let budget = writer.rng.within(2, 4) as u32;
+    let (block, per_group) = (writer.rng.within(1, 4) as u32, writer.rng.flag());
+    make(writer, Config { rate: 384_000.0, block, budget: Some(budget), policy: 3, per_group });
+    writer.put(Call::Keep { slot: 0, definition: values::tone() });
+    let ports = budget + writer.rng.within(2, 7) as u32;
+    if let Some(node) = writer.add_node(b"Bus", ports, 0) {
+        writer.put(Call::SetSink { node });
+    }
+}
+
+/// Short fades, most of them of a length half way between two numbers, with blocks of one or two samples, so that a
+/// clearing meets the very end of each.
+fn fading(writer: &mut Writer) {
+    let mut config = Config::random(&mut writer.rng);
+    let half = 200 * writer.rng.below(12) + 100;
+    config.rate = *writer.rng.pick(&[half, half, half - 1, half + 1, half + 100]) as f32;
+    config.block = writer.rng.within(1, 2) as u32;
+    config.budget = Some(writer.rng.within(1, 3) as u32);
+    config.policy = writer.rng.within(1, 3) as u8;
+    furnish(writer, config);
+}
+
+/// Fades that outlast more than 64 steals on another bus, and are reclaimed then.
+fn long_fades(writer: &mut Writer) {
+    let per_group = writer.rng.flag();
+    let policy = writer.rng.within(1, 3) as u8;
+    make(writer, Config { rate: 384_000.0, block: 1, budget: Some(1), policy, per_group });
+    writer.put(Call::Keep { slot: 0, definition: values::tone() });
+    let (Some(first), Some(second)) = (writer.add_node(b"Bus", 2, 0), writer.add_node(b"Bus", 3, 0)) else {
+        return;
+    };
+    writer.put(Call::SetSink { node: second });
+    for _ in 0..2 {
+        writer.spawn_on(0, first, true);
+    }
+    for _ in 0..writer.rng.within(64, 70) {
+        writer.spawn_on(0, second, true);
+        if writer.rng.once_in(8) {
+            writer.sound();
+        }
+    }
+    writer.put(Call::Steals {});
+    for _ in 0..3 {
+        writer.spawn_on(0, first, true);
+    }
+    writer.state();
+}
+
+/// The clock near its end.
+fn last_samples(writer: &mut Writer) {
+    mixed(writer);
+    let last = writer.block() * writer.rng.within(0, 30) + writer.rng.below(3);
+    let (voices, noise) = (writer.voice_ids(), u32::MAX - writer.rng.below(6) as u32);
+    writer.put(Call::SetCounters { clock: u64::MAX - last as u64, voices, noise });
+}
+
+/// The voice ids and the noise sequence near their ends.
+fn last_voices(writer: &mut Writer) {
+    stealing(writer);
+    let voices = u64::MAX - writer.rng.below(40) as u64;
+    let (clock, noise) = (writer.clock() + writer.rng.below(1000) as u64, u32::MAX - writer.rng.below(6) as u32);
+    writer.put(Call::SetCounters { clock, voices, noise });
+}

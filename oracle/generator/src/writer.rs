@@ -1,0 +1,248 @@
+//! A script in the making: each call is written and also played on the Rust, so that the next one can be aimed. Only
+//! the script is compared.
+
+use std::collections::HashMap;
+
+use microsynth::engine::{Engine, VoiceRow};
+use microsynth::node::NodeId;
+use microsynth::scheduler::EventAction;
+use replay::player::Player;
+use replay::script::{Call, Definition, Length, Repeated};
+use seeded::rng::Rng;
+
+use crate::reach::{Before, Reach, Seen, Spawn};
+use crate::script::Script;
+
+/// A host node that lives.
+#[derive(Clone, Copy)]
+pub struct Host {
+    pub id: u32,
+    pub ports: u32,
+}
+
+/// The first line of what a call answered.
+pub struct Answer(String);
+
+impl Answer {
+    pub fn is(&self, word: &str) -> bool {
+        self.0.split(' ').next() == Some(word)
+    }
+
+    /// The number that follows the line's word.
+    pub fn number(&self) -> Option<u64> {
+        self.0.split(' ').nth(1)?.parse().ok()
+    }
+
+    /// The number after this word.
+    pub fn of(&self, word: &str) -> Option<u64> {
+        self.number().filter(|_| self.is(word))
+    }
+}
+
+pub struct Writer {
+    pub rng: Rng,
+    pub reach: Reach,
+    /// The host nodes that live, by rising id.
+    pub hosts: Vec<Host>,
+    /// One report in so many has the done flag.
+    pub done_once_in: usize,
+    pub slots: Vec<Definition>,
+    player: Player,
+    script: Vec<u8>,
+    calls: usize,
+    answered: usize,
+    /// The number of calls at which the state is due.
+    state_at: usize,
+    /// The channels of each node that was made in this store, but for fades, pans and constants.
+    channels: HashMap<u32, u8>,
+}
+
+impl Writer {
+    pub fn new(rng: Rng) -> Writer {
+        let empty = Definition { nodes: vec![], edges: vec![], params: vec![], output: 0 };
+        Writer {
+            rng,
+            reach: Reach::default(),
+            hosts: vec![],
+            done_once_in: 8,
+            slots: vec![empty; 16],
+            player: Player::default(),
+            script: vec![],
+            calls: 0,
+            answered: 0,
+            state_at: 0,
+            channels: HashMap::new(),
+        }
+    }
+
+    pub fn finish(mut self) -> Script {
+        self.reach.scripts += 1;
+        Script { bytes: self.script, answered: self.answered, reach: self.reach }
+    }
+
+    /// Ends the script with what is no entry: nothing of it is played.
+    pub fn break_off(&mut self) {
+        let start = self.script.len();
+        let how = self.rng.below(4);
+        match how {
+            0 => self.script.push(*self.rng.pick(&[0, 34, 255])),
+            1 => Call::Page { length: Length(4097) }.encode(&mut self.script),
+            2 => {
+                let samples = Repeated { count: 513, sample: 0.0 };
+                Call::ReportRepeated { node: 0, channels: 1, done: 0, samples }.encode(&mut self.script);
+            }
+            _ => {
+                Call::SetCounters { clock: 0, voices: 0, noise: 0 }.encode(&mut self.script);
+                self.script.truncate(self.rng.within(start + 1, self.script.len() - 1));
+            }
+        }
+        self.reach.note_end(how);
+    }
+
+    pub fn calls(&self) -> usize {
+        self.calls
+    }
+
+    pub fn put(&mut self, call: Call) -> Answer {
+        self.put_before(call, &[])
+    }
+
+    /// Puts a call that these follow.
+    pub fn put_before(&mut self, call: Call, upcoming: &[Call]) -> Answer {
+        let start = self.script.len();
+        call.encode(&mut self.script);
+        let sort = self.script[start];
+        self.calls += 1;
+        let before = Before::of(self.engine(), &call);
+        let lines = self.player.play(&call, upcoming);
+        self.answered += lines.len();
+        let answer = Answer(lines.lines().next().unwrap_or_default().to_string());
+        let (engine, spawn) = (self.player.store().engine(), Spawn::of(&call, &self.slots));
+        self.reach.note(&Seen { sort, before: &before, call: &call, answer: &answer, engine, spawn });
+        self.learn(&call, &answer);
+        answer
+    }
+
+    /// Puts the state once in 15 to 35 calls, and less often where it is long.
+    pub fn state_if_due(&mut self) {
+        if self.calls >= self.state_at {
+            self.state();
+        }
+    }
+
+    pub fn state(&mut self) {
+        self.put(Call::State {});
+        let rows = self.engine().graph().all_edges().len() + self.engine().scheduler().pending().len();
+        self.state_at = self.calls + self.rng.within(15, 35) + rows / 4;
+    }
+
+    fn learn(&mut self, call: &Call, answer: &Answer) {
+        match call {
+            Call::Make { .. } if answer.is("made") => {
+                self.hosts.clear();
+                self.channels.clear();
+            }
+            Call::AddNode { ports, channels, .. } => {
+                if let Some(id) = answer.of("node") {
+                    self.hosts.push(Host { id: id as u32, ports: *ports });
+                    self.channels.insert(id as u32, *channels);
+                }
+            }
+            Call::RemoveNode { node } if answer.is("done") => self.hosts.retain(|host| host.id != *node),
+            Call::Keep { slot, definition } => self.slots[usize::from(*slot) % 16] = definition.clone(),
+            Call::SpawnManagedPanned { slot, .. }
+            | Call::SpawnPanned { slot, .. }
+            | Call::SpawnManaged { slot, .. }
+            | Call::Spawn { slot, .. } => {
+                if let Some(id) = answer.of("voice") {
+                    self.learn_voice(id, usize::from(*slot) % 16);
+                }
+            }
+            _ => {}
+        }
+    }
+
+    fn learn_voice(&mut self, id: u64, slot: usize) {
+        let row = self.player.store().engine().voice_rows().find(|row| row.id.0 == id).expect("the voice was let in");
+        for (node, made) in row.synth.node_ids().iter().zip(&self.slots[slot].nodes) {
+            self.channels.insert(node.index() as u32, made.channels);
+        }
+    }
+
+    pub fn engine(&self) -> &Engine {
+        self.player.store().engine()
+    }
+
+    pub fn clock(&self) -> u64 {
+        self.engine().sample_offset()
+    }
+
+    pub fn block(&self) -> usize {
+        self.engine().context().block_size
+    }
+
+    /// The ids of the voices in order.
+    pub fn voices(&self) -> Vec<u64> {
+        self.engine().voice_rows().map(|row| row.id.0).collect()
+    }
+
+    /// How many voice ids were given out.
+    pub fn voice_ids(&self) -> u64 {
+        self.engine().scheduler().next_voice().0.wrapping_sub(1)
+    }
+
+    pub fn live_nodes(&self) -> usize {
+        self.engine().graph().live_nodes().len()
+    }
+
+    pub fn edges(&self) -> usize {
+        self.engine().graph().all_edges().len()
+    }
+
+    /// The nodes that take a report.
+    pub fn reportable(&self) -> Vec<u32> {
+        let voices = self.engine().voice_rows().flat_map(|row| row.synth.node_ids().to_vec());
+        self.hosts.iter().map(|host| host.id).chain(voices.map(|id| id.index() as u32)).collect()
+    }
+
+    /// The channels of a node that takes a report.
+    pub fn channels_of(&self, node: u32) -> u8 {
+        self.channels[&node]
+    }
+
+    /// What a node wrote last; none before its first prepare.
+    pub fn last_block(&self, node: u32) -> Option<Vec<f32>> {
+        let buffer = self.engine().graph().node_output(NodeId::numbered(node))?;
+        let channels = (0..buffer.num_channels()).map(|channel| buffer.channel(channel).samples());
+        let block: Vec<f32> = channels.flatten().copied().collect();
+        (block.len() == usize::from(self.channels_of(node)) * self.block()).then_some(block)
+    }
+
+    /// Whether the next render sounds for certain: where a free is due it depends on a prepare.
+    pub fn will_sound(&self) -> bool {
+        let Some(deadline) = self.clock().checked_add(self.block() as u64) else {
+            return false;
+        };
+        let graph = self.engine().graph();
+        let mut due = self.engine().scheduler().pending().iter().take_while(|event| event.time < deadline);
+        !graph.is_dirty()
+            && graph.sink_node().is_some()
+            && !due.any(|event| matches!(event.action, EventAction::FreeSynth { .. }))
+    }
+}
+
+/// The node by which a voice feeds its bus.
+pub fn feeder(row: &VoiceRow) -> NodeId {
+    match (row.fade, row.pan) {
+        (Some((fade, _, _)), _) => fade,
+        (None, Some((pan, _))) => pan,
+        (None, None) => row.synth.output_node(),
+    }
+}
+
+/// The bus of a voice and the port of it that the voice feeds.
+pub fn fed_port(engine: &Engine, row: &VoiceRow) -> Option<(u32, u32)> {
+    let bus = row.bus?;
+    let port = engine.graph().input_slot_from(feeder(row), bus)?;
+    Some((bus.index() as u32, port as u32))
+}

@@ -1,0 +1,12 @@
+//! Plays call scripts on the Rust (docs/REPLAY.md).
+
+mod definition;
+mod host;
+mod orders;
+pub mod player;
+mod reading;
+mod render;
+pub mod script;
+mod spawn;
+pub mod store;
+mod voices;

@@ -1,0 +1,144 @@
+//! Plays the entries of a script one by one, each on the store that the last left.
+
+use microsynth::node::NodeId;
+use microsynth::scheduler::VoiceId;
+use microsynth::voice::{BudgetScope, StealPolicy};
+use scripted::definition::Definition;
+use scripted::limits::Refusal;
+
+use crate::script::{self, Call};
+use crate::spawn::Spawn;
+use crate::store::{Answer, Config, Store};
+
+pub struct Player {
+    store: Store,
+    /// The definitions that were kept; 9 where one is outside the limits.
+    slots: [Result<Definition, Refusal>; 16],
+}
+
+impl Default for Player {
+    /// What the entries before the first making are played on.
+    fn default() -> Player {
+        let config = Config { rate: 48_000.0, block: 64, budget: None };
+        let store = Store::make(&config).expect("it is within the limits");
+        Player { store, slots: [const { Err(9) }; 16] }
+    }
+}
+
+/// The policy that an entry says.
+pub fn policy_of(said: u8) -> StealPolicy {
+    match said {
+        0 => StealPolicy::Reject,
+        1 => StealPolicy::Oldest,
+        2 => StealPolicy::Newest,
+        _ => StealPolicy::Quietest,
+    }
+}
+
+/// The scope that an entry says.
+pub fn scope_of(said: u8) -> BudgetScope {
+    if said == 0 { BudgetScope::Global } else { BudgetScope::PerGroup }
+}
+
+fn done(result: Result<(), Refusal>) -> Answer {
+    result.map(|()| "done".to_string())
+}
+
+fn yes_or_no(answer: bool) -> String {
+    if answer { "yes".to_string() } else { "no".to_string() }
+}
+
+impl Player {
+    /// The store that was made last, to be looked at.
+    pub fn store(&self) -> &Store {
+        &self.store
+    }
+
+    /// Plays an entry and answers its lines. `upcoming` is what the script has after it.
+    pub fn play(&mut self, call: &Call, upcoming: &[Call]) -> String {
+        self.answer(call, upcoming).unwrap_or_else(|number| format!("refused {number}")) + "\n"
+    }
+
+    fn answer(&mut self, call: &Call, upcoming: &[Call]) -> Answer {
+        let (store, id) = (&mut self.store, NodeId::numbered);
+        match *call {
+            Call::Make { .. } => self.make(call),
+            Call::SetCounters { clock, voices, noise } => {
+                store.set_counters(clock, voices, noise);
+                Ok("set".to_string())
+            }
+            Call::AddNode { ref kind, ports, required, takes, channels } => {
+                store.add_node(kind, ports, required, takes, channels).map(|id| format!("node {}", id.index()))
+            }
+            Call::RemoveNode { node } => done(store.remove_node(id(node))),
+            Call::Connect { from, to, port } => done(store.connect(id(from), id(to), port as usize)),
+            Call::Disconnect { to, port } => done(store.disconnect(id(to), port as usize)),
+            Call::SetSink { node } => done(store.set_sink(id(node))),
+            Call::Keep { slot, ref definition } => Ok(self.keep(slot, definition)),
+            Call::SpawnManagedPanned { slot, bus, pan } => self.spawn(slot, true, bus, Some(pan)),
+            Call::SpawnPanned { slot, bus, pan } => self.spawn(slot, false, bus, Some(pan)),
+            Call::SpawnManaged { slot, bus } => self.spawn(slot, true, bus, None),
+            Call::Spawn { slot, bus } => self.spawn(slot, false, bus, None),
+            Call::Free { voice } => {
+                store.engine.free_voice(VoiceId(voice));
+                done(Ok(()))
+            }
+            Call::Clear {} => Ok(format!("removed {}", store.engine.free_done_synths())),
+            Call::Value { voice, ref name, value } => Ok(yes_or_no(store.value(voice, name, value))),
+            Call::SetGlide { voice, ref name, ref glide } => Ok(yes_or_no(store.glide(voice, name, glide))),
+            Call::Schedule { time, voice, action, ref name, ref glide } => {
+                done(store.schedule(time, voice, action, name, glide))
+            }
+            Call::Report { .. } | Call::ReportRepeated { .. } => done(store.report(call)),
+            Call::Prepare {} => done(store.prepare()),
+            Call::Render {} => store.render(upcoming).map(|rendered| rendered.to_string()),
+            _ => store.read(call),
+        }
+    }
+
+    /// The old store stays where a new one is refused.
+    fn make(&mut self, call: &Call) -> Answer {
+        let Call::Make { rate, block, budgeted, budget, policy, scope } = *call else {
+            unreachable!("{call:?} makes no store");
+        };
+        let budget = (budgeted != 0).then_some((budget, policy_of(policy), scope_of(scope)));
+        self.store = Store::make(&Config { rate, block, budget })?;
+        Ok("made".to_string())
+    }
+
+    fn keep(&mut self, slot: u8, rows: &script::Definition) -> String {
+        let definition = Definition::from(rows);
+        self.slots[usize::from(slot % 16)] = definition.instance().map(|_| definition);
+        "kept".to_string()
+    }
+
+    fn spawn(&mut self, slot: u8, is_managed: bool, bus: u32, pan: Option<f32>) -> Answer {
+        let definition = self.slots[usize::from(slot % 16)].as_ref().map_err(|&number| number)?;
+        let voice = self.store.spawn(definition, &Spawn { is_managed, bus: NodeId::numbered(bus), pan })?;
+        Ok(format!("voice {}", voice.0))
+    }
+}
+
+/// The entries of a script, and the last line of its transcript.
+fn entries(script: &[u8]) -> (Vec<Call>, String) {
+    let (mut calls, mut at) = (Vec::new(), 0);
+    while at < script.len() {
+        match script::decode(script, at) {
+            Ok((call, next)) => {
+                calls.push(call);
+                at = next;
+            }
+            Err(at) => return (calls, format!("malformed {at}\n")),
+        }
+    }
+    let end = format!("played {}\n", calls.len());
+    (calls, end)
+}
+
+/// The transcript of a script: the lines of each entry as it is played, and the last line.
+pub fn transcript(script: &[u8]) -> impl Iterator<Item = String> {
+    let (calls, end) = entries(script);
+    let mut player = Player::default();
+    let lines = (0..calls.len()).map(move |n| player.play(&calls[n], &calls[n + 1..]));
+    lines.chain([end])
+}

@@ -1,0 +1,108 @@
+//! The Rust's engine, and what the store keeps that the Rust does not.
+
+use std::collections::HashMap;
+
+use microsynth::engine::{Engine, EngineConfig, VoiceRow};
+use microsynth::graph::AudioGraph;
+use microsynth::node::NodeId;
+use microsynth::scheduler::VoiceId;
+use microsynth::voice::{BudgetScope, StealPolicy, VoiceAllocator};
+use scripted::generator::{Handle, Log};
+use scripted::limits::{self, Refusal, check};
+
+/// The lines of an entry, or a refusal.
+pub(crate) type Answer = Result<String, Refusal>;
+
+/// A node whose generator is ours: one of the host's, or one of a voice's definition.
+pub(crate) struct Part {
+    pub handle: Handle,
+    pub takes_values: bool,
+    pub takes_glides: bool,
+    pub is_hosts: bool,
+}
+
+/// What a voice got at its spawn.
+pub(crate) struct Birth {
+    pub port: usize,
+    pub sequence: u32,
+}
+
+/// What making fixes.
+pub struct Config {
+    pub rate: f32,
+    pub block: u32,
+    /// The budget, the policy and the scope.
+    pub budget: Option<(u32, StealPolicy, BudgetScope)>,
+}
+
+pub struct Store {
+    pub(crate) engine: Engine,
+    pub(crate) parts: HashMap<NodeId, Part>,
+    pub(crate) births: HashMap<VoiceId, Birth>,
+    pub(crate) log: Log,
+}
+
+impl Store {
+    /// A new store; 1, 2 or 3.
+    pub fn make(config: &Config) -> Result<Store, Refusal> {
+        limits::whole_rate(config.rate)?;
+        check((1..=128).contains(&config.block), 2)?;
+        check(config.budget.is_none_or(|(budget, ..)| budget as usize <= limits::BUDGET), 3)?;
+        let mut engine = Engine::new(EngineConfig { sample_rate: config.rate, block_size: config.block as usize });
+        if let Some((budget, policy, scope)) = config.budget {
+            engine.set_voice_allocator(VoiceAllocator::new(budget as usize, policy).with_scope(scope));
+        }
+        Ok(Store { engine, parts: HashMap::new(), births: HashMap::new(), log: Log::default() })
+    }
+
+    /// The engine, to be looked at.
+    pub fn engine(&self) -> &Engine {
+        &self.engine
+    }
+
+    pub(crate) fn graph(&self) -> &AudioGraph {
+        self.engine.graph()
+    }
+
+    pub(crate) fn block(&self) -> usize {
+        self.engine.context().block_size
+    }
+
+    /// How many voice ids were given out. After the last one the Rust's next id has wrapped to 0.
+    pub(crate) fn voices_given(&self) -> u64 {
+        self.engine.scheduler().next_voice().0.wrapping_sub(1)
+    }
+
+    /// Sets the counters, but for that of the node ids, which the Rust has no way to move.
+    pub(crate) fn set_counters(&mut self, clock: u64, voices: u64, noise: u32) {
+        assert!(voices >= self.voices_given(), "two voices of one id: the voice ids given out go back");
+        self.engine.set_sample_offset(clock);
+        self.engine.scheduler_mut().set_next_voice(VoiceId(voices.wrapping_add(1)));
+        self.engine.set_noise_sequence(noise);
+    }
+
+    pub(crate) fn tracked(&self) -> &[VoiceId] {
+        self.engine.voice_allocator().map_or(&[], VoiceAllocator::active_voices)
+    }
+
+    pub(crate) fn voice(&self, id: VoiceId) -> Option<VoiceRow<'_>> {
+        self.engine.voice_rows().find(|row| row.id == id)
+    }
+}
+
+/// The nodes of a voice.
+pub(crate) fn nodes_of(row: &VoiceRow<'_>) -> Vec<NodeId> {
+    let pan = row.pan.into_iter().flat_map(|(pan, constant)| [pan, constant]);
+    let fade = row.fade.map(|(fade, ..)| fade);
+    row.synth.node_ids().iter().copied().chain(pan).chain(fade).collect()
+}
+
+/// The node of a voice that fed its bus when it was spawned: its pan node, or its output.
+pub(crate) fn feeder(row: &VoiceRow<'_>) -> NodeId {
+    row.pan.map_or(row.synth.output_node(), |(pan, _)| pan)
+}
+
+/// The bus that a voice was spawned on.
+pub(crate) fn bus_of(row: &VoiceRow<'_>) -> NodeId {
+    row.bus.expect("every voice of a script has a bus")
+}
