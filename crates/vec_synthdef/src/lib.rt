@@ -1,13 +1,13 @@
 // Answers the vectors of `synthdef`: whether a definition is allowed, its counted edges, which done flags silence it, and the nodes
 // of its parameters.
-use node::name::Name;
 use node::name::name_of;
-use synthdef::def::DefEdge;
+use script::def::edges_at;
+use script::def::params_at;
+use script::name::name_at;
+use script::name::name_end;
 use synthdef::def::DefEdges;
 use synthdef::def::DefNode;
 use synthdef::def::DefNodes;
-use synthdef::def::Param;
-use synthdef::def::Params;
 use synthdef::def::SynthDef;
 use synthdef::edges::counted_edges;
 use synthdef::limits::allowed;
@@ -19,25 +19,14 @@ use synthdef::silent::plan_silent;
 use wire::field::after;
 use wire::field::at_most;
 use wire::field::byte_at;
-use wire::field::bytes_at;
 use wire::field::word_at;
 use wire::word::and_number;
 use wire::word::end_line;
 use wire::word::text;
 
-// A table that was read, and the position after it. A count above the table's capacity is kept; its rows are read and left out.
+// The nodes that were read, and the position after them. A count above the table's capacity is kept; its rows are read and left out.
 struct ReadNodes {
     nodes: DefNodes,
-    end: usize,
-}
-
-struct ReadEdges {
-    edges: DefEdges,
-    end: usize,
-}
-
-struct ReadParams {
-    params: Params,
     end: usize,
 }
 
@@ -46,20 +35,12 @@ struct ReadDef {
     end: usize,
 }
 
-fn name_at(s: &[u8], at: usize) -> Name {
-    name_of(bytes_at(s, after(at, 1), byte_at(s, at) as usize))
-}
-
-fn name_end(s: &[u8], at: usize) -> usize {
-    after(after(at, 1), byte_at(s, at) as usize)
-}
-
 // A kind name, ports, required ports, what the node takes, and its ports by name.
 fn node_at(s: &[u8], at: usize) -> DefNode {
     let rest = name_end(s, at);
     let takes = byte_at(s, after(rest, 2));
     DefNode {
-        kind: name_at(s, at),
+        kind: name_of(name_at(s, at)),
         ports: byte_at(s, rest),
         required: byte_at(s, after(rest, 1)),
         takes_values: takes % 2 == 1,
@@ -67,21 +48,6 @@ fn node_at(s: &[u8], at: usize) -> DefNode {
         in_port: byte_at(s, after(rest, 3)),
         level_port: byte_at(s, after(rest, 4)),
         amp_port: byte_at(s, after(rest, 5)),
-    }
-}
-
-fn edge_at(s: &[u8], at: usize) -> DefEdge {
-    DefEdge {
-        from: byte_at(s, at),
-        to: byte_at(s, after(at, 1)),
-        port: byte_at(s, after(at, 2)),
-    }
-}
-
-fn param_at(s: &[u8], at: usize) -> Param {
-    Param {
-        name: name_at(s, at),
-        node: byte_at(s, name_end(s, at)),
     }
 }
 
@@ -101,46 +67,6 @@ fn nodes_at(s: &[u8], at: usize) -> ReadNodes {
     }
     ReadNodes {
         nodes: DefNodes { rows, count },
-        end,
-    }
-}
-
-fn edges_at(s: &[u8], at: usize) -> ReadEdges {
-    let count = byte_at(s, at) as usize;
-    let mut rows = [edge_at(b"", 0); 48];
-    let mut end = after(at, 1);
-    let mut i: usize = 0;
-    while i < count {
-        let edge = edge_at(s, end);
-        end = after(end, 3);
-        let place = i;
-        i += 1;
-        if place < 48 {
-            rows[place] = edge;
-        }
-    }
-    ReadEdges {
-        edges: DefEdges { rows, count },
-        end,
-    }
-}
-
-fn params_at(s: &[u8], at: usize) -> ReadParams {
-    let count = byte_at(s, at) as usize;
-    let mut rows = [param_at(b"", 0); 8];
-    let mut end = after(at, 1);
-    let mut i: usize = 0;
-    while i < count {
-        let param = param_at(s, end);
-        end = after(name_end(s, end), 1);
-        let place = i;
-        i += 1;
-        if place < 8 {
-            rows[place] = param;
-        }
-    }
-    ReadParams {
-        params: Params { rows, count },
         end,
     }
 }
@@ -232,8 +158,8 @@ pub fn definition(s: &[u8], at: usize) -> usize {
     text(b"\nsilent");
     silent_words(s, sets, count, done_plan(def));
     text(b"\nparams");
-    param_word(param_node(params, name_at(s, first)));
-    param_word(param_node(params, name_at(s, second)));
+    param_word(param_node(params, name_of(name_at(s, first))));
+    param_word(param_node(params, name_of(name_at(s, second))));
     end_line();
     name_end(s, second)
 }

@@ -13,11 +13,12 @@ use scheduler::queue::ScheduleAnswer;
 use scheduler::queue::drain_before;
 use scheduler::queue::no_events;
 use scheduler::queue::schedule;
+use script::glide::action_of;
+use script::glide::glide_at;
 use wire::field::after;
 use wire::field::at_most;
 use wire::field::byte_at;
 use wire::field::bytes_at;
-use wire::field::float;
 use wire::field::long_at;
 use wire::field::word_at;
 use wire::word::and_number;
@@ -32,38 +33,6 @@ struct Played {
     end: usize,
 }
 
-fn shape_at(s: &[u8], at: usize) -> GlideShape {
-    match byte_at(s, at) {
-        0 => GlideShape::Hold,
-        1 => GlideShape::Linear,
-        2 => GlideShape::Sine,
-        _ => GlideShape::Exponential(float(word_at(s, after(at, 1)))),
-    }
-}
-
-fn space_at(s: &[u8], at: usize) -> GlideSpace {
-    match byte_at(s, at) {
-        0 => GlideSpace::Raw,
-        _ => GlideSpace::Pitch,
-    }
-}
-
-// The sort of an action; then two floats, and the shape and space of a glide.
-fn action_at(s: &[u8], at: usize) -> Action {
-    let first = float(word_at(s, after(at, 1)));
-    match byte_at(s, at) {
-        0 => Action::Value(first),
-        1 => Action::Glide {
-            target: first,
-            seconds: float(word_at(s, after(at, 5))),
-            shape: shape_at(s, after(at, 9)),
-            space: space_at(s, after(at, 14)),
-        },
-        2 => Action::Gate(first),
-        _ => Action::Free,
-    }
-}
-
 // Schedules the event at `at`: time, voice, name and action.
 fn scheduled(s: &[u8], at: usize, queue: Events) -> Played {
     let len = byte_at(s, after(at, 16)) as usize;
@@ -73,7 +42,7 @@ fn scheduled(s: &[u8], at: usize, queue: Events) -> Played {
         time: long_at(s, at),
         voice: VoiceId(long_at(s, after(at, 8))),
         name: name_of(bytes_at(s, from, len)),
-        action: action_at(s, end),
+        action: action_of(byte_at(s, end), glide_at(s, after(end, 1))),
     };
     let r = schedule(queue, event);
     let answer = r.answer;

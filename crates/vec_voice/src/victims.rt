@@ -2,13 +2,14 @@
 ghost use Prim.Native.Nat.{_≤_};
 use node::record::NodeId;
 use node::record::VoiceId;
+use script::config::budget_of;
+use script::config::policy_of;
+use script::config::scope_of;
 use voice::policy::Admission;
-use voice::policy::Budget;
 use voice::policy::BudgetScope;
 use voice::policy::Candidate;
 use voice::policy::Candidates;
 use voice::policy::Level;
-use voice::policy::StealPolicy;
 use voice::policy::Victim;
 use voice::policy::counts_for;
 use voice::policy::pick_victim;
@@ -33,29 +34,6 @@ use wire::word::and_sample;
 use wire::word::end_line;
 use wire::word::number;
 use wire::word::text;
-
-fn policy_at(s: &[u8], at: usize) -> StealPolicy {
-    match byte_at(s, at) {
-        0 => StealPolicy::Reject,
-        1 => StealPolicy::Oldest,
-        2 => StealPolicy::Newest,
-        _ => StealPolicy::Quietest,
-    }
-}
-
-fn scope_at(s: &[u8], at: usize) -> BudgetScope {
-    match byte_at(s, at) {
-        0 => BudgetScope::Global,
-        _ => BudgetScope::PerGroup,
-    }
-}
-
-fn budget_at(s: &[u8], at: usize) -> Budget {
-    match byte_at(s, at) {
-        0 => Budget::Unlimited,
-        _ => Budget::AtMost(word_at(s, after(at, 1)) as usize),
-    }
-}
 
 fn level_at(s: &[u8], at: usize) -> Level {
     match byte_at(s, at) {
@@ -97,7 +75,7 @@ pub fn victim(s: &[u8], at: usize) -> usize {
         return usize::MAX;
     }
     let t = candidates_at(s, after(at, 5), n, BudgetScope::Global, NodeId(0));
-    match pick_victim(t, policy_at(s, at)) {
+    match pick_victim(t, policy_of(byte_at(s, at))) {
         Victim::Nobody => text(b"-"),
         Victim::Goes { place, voice } => {
             number(place as u64);
@@ -114,10 +92,11 @@ pub fn admission(s: &[u8], at: usize) -> usize {
     if n > 64 {
         return usize::MAX;
     }
-    let scope = scope_at(s, after(at, 6));
+    let scope = scope_of(byte_at(s, after(at, 6)));
     let bus = NodeId(word_at(s, after(at, 7)));
     let t = candidates_at(s, after(at, 15), n, scope, bus);
-    match request_in(budget_at(s, at), policy_at(s, after(at, 5)), t) {
+    let budget = budget_of(byte_at(s, at), word_at(s, after(at, 1)) as usize);
+    match request_in(budget, policy_of(byte_at(s, after(at, 5))), t) {
         Admission::Admit => text(b"admit"),
         Admission::Reject => text(b"reject"),
         Admission::Steal { place: _, voice } => {
