@@ -8,8 +8,8 @@ use std::collections::BTreeMap;
 use std::fmt;
 
 use microsynth::engine::Engine;
+use microsynth::node::NodeId;
 use microsynth::scheduler::EventAction;
-use microsynth::synthdef::silence_pass_through;
 use replay::script::Call;
 use scripted::limits;
 
@@ -66,10 +66,11 @@ impl Reach {
         }
     }
 
-    /// How many rows and answers this reaches that the other does not.
-    pub fn beyond(&self, other: &Reach) -> usize {
-        let rows = self.counts.keys().filter(|row| !other.counts.contains_key(*row)).count();
-        rows + self.answers.keys().filter(|answer| !other.answers.contains_key(*answer)).count()
+    /// How much this adds to what the other reaches, where each row and each answer counts up to `most` times.
+    pub fn adds(&self, other: &Reach, most: usize) -> usize {
+        let gain = |own: usize, had: Option<&usize>| own.min(most.saturating_sub(had.copied().unwrap_or(0)));
+        let rows = self.counts.iter().map(|(row, &own)| gain(own, other.counts.get(row)));
+        rows.chain(self.answers.iter().map(|(answer, &own)| gain(own, other.answers.get(answer)))).sum()
     }
 
     /// The rows that nothing reached.
@@ -86,12 +87,15 @@ impl Reach {
         }
         match seen.call {
             Call::State {} => self.states += 1,
+            Call::SetSink { .. } => self.hit_if("sink set", seen.before.prepared && seen.answer.is("done")),
+            Call::Disconnect { .. } => {
+                let is_empty = seen.answer.is("done") && seen.engine.graph().all_edges().len() == seen.before.edges;
+                self.hit_if("disconnect of a port without an edge", seen.before.prepared && is_empty);
+            }
             Call::RemoveNode { node } if seen.answer.is("done") => {
-                let held = |bus: &microsynth::node::NodeId| bus.index() == *node as usize;
-                self.hit_if(
-                    "bus removed under voices",
-                    seen.before.voices.iter().any(|v| v.bus.as_ref().is_some_and(held)),
-                );
+                let gone = Some(NodeId::numbered(*node));
+                self.hit_if("sink removed", seen.before.prepared && seen.before.sink == gone);
+                self.hit_if("bus removed under voices", seen.before.voices.iter().any(|voice| voice.bus == gone));
             }
             Call::AddNode { .. } => {
                 self.hit_if("512 nodes: node refused", seen.answer.of("refused") == Some(7));
@@ -125,6 +129,8 @@ impl Reach {
         let full = seen.before.edges == limits::EDGES;
         self.hit_if("1,024 edges: edge refused", full && seen.answer.of("refused") == Some(7));
         if seen.answer.is("done") {
+            let is_replaced = seen.engine.graph().all_edges().len() == seen.before.edges;
+            self.hit_if("edge replaced", seen.before.prepared && is_replaced);
             self.hit_if("1,024 edges: edge replaced", full);
             if let Some(voice) = seen.before.voices.iter().find(|voice| voice.feeds == Some(place)) {
                 let faded = voice.fade.is_some();
@@ -155,12 +161,14 @@ impl Reach {
     fn note_clearing(&mut self, seen: &Seen) {
         let gone = seen.before.voices.iter().filter(|v| !seen.engine.voice_rows().any(|row| row.id.0 == v.id));
         for voice in gone {
-            if voice.fade.is_some_and(|fade| fade.ended) {
-                self.hit("fade ended");
-                continue;
+            match voice.fade.filter(|fade| fade.ended) {
+                Some(fade) => {
+                    self.hit("fade ended");
+                    self.hit_if("fade ended in the last block", fade.is_fresh);
+                }
+                None if seen.before.done.contains(&voice.output) => self.hit("output done itself"),
+                None => self.hit(rule_row(voice.output_kind)),
             }
-            self.hit_if("output silent by its rule alone", !seen.before.done.contains(&voice.output));
-            self.hit(output_row(voice.output_kind));
         }
         let done = |voice: &before::Voice| voice.nodes.iter().any(|id| seen.before.done.contains(id));
         let none = seen.answer.of("removed") == Some(0);
@@ -175,7 +183,11 @@ impl Reach {
         let mut frees = false;
         for action in &seen.before.due {
             match action {
-                EventAction::SetGate { .. } => self.hit("gate"),
+                EventAction::SetGate { voice, .. } => {
+                    self.hit("gate");
+                    let has_gate = seen.before.voice(voice.0).is_some_and(|voice| voice.has_gate);
+                    self.hit_if("gate of a voice that has one", has_gate);
+                }
                 EventAction::FreeSynth { voice } => {
                     frees = true;
                     let known = seen.before.voice(voice.0).is_some();
@@ -236,17 +248,17 @@ impl Reach {
     }
 }
 
-/// The row of a voice that was silent, by its output's kind.
-fn output_row(kind: &str) -> &'static str {
+/// The row of a voice that was silent by the rule of its output's kind.
+fn rule_row(kind: &str) -> &'static str {
     match kind {
-        "Mul" => "output Mul",
-        "Div" => "output Div",
-        "Add" | "Sub" => "output Add or Sub",
-        "FmOp" => "output FmOp",
-        "Paf" => "output Paf",
-        "Neg" => "output Neg",
-        name if silence_pass_through().contains(&name) => "output of the 27 names",
-        _ => "output of another kind",
+        "Mul" => "output silent by its rule: Mul",
+        "Div" => "output silent by its rule: Div",
+        "Add" => "output silent by its rule: Add",
+        "Sub" => "output silent by its rule: Sub",
+        "FmOp" => "output silent by its rule: FmOp",
+        "Paf" => "output silent by its rule: Paf",
+        "Neg" => "output silent by its rule: Neg",
+        _ => "output silent by its rule: one of the 27 names",
     }
 }
 

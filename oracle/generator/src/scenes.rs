@@ -165,7 +165,7 @@ pub fn script(seed: u64, number: usize, calls: usize) -> Script {
 /// A short scene by itself: the scenes of rising numbers take turns.
 pub fn short(seed: u64, number: usize) -> Script {
     let mut writer = Writer::new(Rng::new(seed, &format!("scene {number}")));
-    keep_all(&mut writer);
+    keep_small(&mut writer);
     SCENES[number % SCENES.len()].play(&mut writer, FEWEST);
     writer.finish()
 }
@@ -178,6 +178,20 @@ fn keep_all(writer: &mut Writer) {
             0 => values::tone(),
             1..8 => values::definition(&mut writer.rng, n),
             _ => values::edge_definition(&mut writer.rng),
+        };
+        writer.put(Call::Keep { slot, definition });
+    }
+}
+
+/// Fills the slots but the last with definitions of few nodes, or of one.
+fn keep_small(writer: &mut Writer) {
+    for slot in 0..15 {
+        let n = writer.rng.within(2, 15);
+        let definition = match (slot, writer.rng.below(3)) {
+            (1..8, 0) => values::definition(&mut writer.rng, n),
+            (1..8, _) => values::two_sources(&mut writer.rng),
+            (8..15, 0) => values::edge_definition(&mut writer.rng),
+            _ => values::tone(),
         };
         writer.put(Call::Keep { slot, definition });
     }

@@ -24,27 +24,23 @@ impl Script {
     }
 }
 
-/// How many short scenes the sample is chosen from, and about how long it becomes with its transcript.
+/// How many short scenes the sample is chosen from, and how long it may become with its transcript.
 const CANDIDATES: usize = 1600;
-const SAMPLE_SIZE: usize = 380_000;
+const SAMPLE_SIZE: usize = 390_000;
 
-/// The script that is recorded: first the scenes that reach the most of what is missing for their length, until nothing
-/// is, and then others while there is room.
+/// The script that is recorded: one after the other the scene that adds the most for its length to what is reached,
+/// until each row is reached once, then until it is twice, and so on.
 pub fn sample(seed: u64) -> Script {
     let mut candidates: Vec<Script> = (0..CANDIDATES).map(|number| scenes::short(seed, number)).collect();
     let mut sample = Script::default();
-    loop {
-        let gain = |script: &Script| 1_000_000 * script.reach.beyond(&sample.reach) / script.size();
-        let best =
-            (0..candidates.len()).max_by_key(|&n| gain(&candidates[n])).expect("there are more scenes than rows");
-        if gain(&candidates[best]) == 0 {
-            break;
-        }
-        sample.append(candidates.swap_remove(best));
-    }
-    for script in candidates {
-        if sample.size() + script.size() <= SAMPLE_SIZE {
-            sample.append(script);
+    for wanted in [1, 2, 4, 8, 16] {
+        loop {
+            let fits = |n: &usize| sample.size() + candidates[*n].size() <= SAMPLE_SIZE;
+            let gain = |n: &usize| 1_000_000 * candidates[*n].reach.adds(&sample.reach, wanted) / candidates[*n].size();
+            match (0..candidates.len()).filter(fits).max_by_key(gain) {
+                Some(best) if gain(&best) > 0 => sample.append(candidates.swap_remove(best)),
+                _ => break,
+            }
         }
     }
     sample

@@ -3,6 +3,7 @@
 use microsynth::engine::Engine;
 use microsynth::node::NodeId;
 use microsynth::scheduler::{EventAction, VoiceId};
+use microsynth::ugens::steal_fade_samples;
 use replay::script::Call;
 
 use crate::writer::fed_port;
@@ -17,6 +18,7 @@ pub struct Voice {
     /// The bus and the port of it that the voice feeds.
     pub feeds: Option<(u32, u32)>,
     pub level: Option<f32>,
+    pub has_gate: bool,
 }
 
 #[derive(Clone, Copy)]
@@ -24,12 +26,15 @@ pub struct Fade {
     pub start: u64,
     pub record: usize,
     pub ended: bool,
+    /// Whether it came to its end, at the earliest, in the last sounding render.
+    pub is_fresh: bool,
 }
 
 pub struct Before {
     pub clock: u64,
     pub noise: u32,
     pub prepared: bool,
+    pub sink: Option<NodeId>,
     pub steals: usize,
     pub nodes: usize,
     pub edges: usize,
@@ -48,6 +53,7 @@ impl Before {
             clock: engine.sample_offset(),
             noise: engine.noise_sequence(),
             prepared: !graph.is_dirty(),
+            sink: graph.sink_node(),
             steals: engine.steals().len(),
             nodes: live.len(),
             edges: graph.all_edges().len(),
@@ -75,7 +81,12 @@ fn due(engine: &Engine) -> Vec<EventAction> {
 }
 
 fn voices(engine: &Engine) -> Vec<Voice> {
-    let fade = |(node, start, record)| Fade { start, record, ended: engine.graph().node_is_done(node) };
+    let length = steal_fade_samples(engine.context().sample_rate) as u64;
+    let fade = |(node, start, record)| {
+        let position = engine.graph().fade_position(node);
+        let is_fresh = position < length + engine.context().block_size as u64;
+        Fade { start, record, ended: position >= length, is_fresh }
+    };
     let voice = engine.voice_rows().map(|row| Voice {
         id: row.id.0,
         bus: row.bus,
@@ -85,6 +96,7 @@ fn voices(engine: &Engine) -> Vec<Voice> {
         fade: row.fade.map(fade),
         feeds: fed_port(engine, &row),
         level: engine.voice_level(row.id),
+        has_gate: row.synth.param_node("gate").is_some(),
     });
     voice.collect()
 }

@@ -108,16 +108,17 @@ pub const PROFILES: &[(&str, &[&str])] = &[
     (
         "Voices that clearing removes",
         &[
-            "output Mul",
-            "output Div",
-            "output Add or Sub",
-            "output FmOp",
-            "output Paf",
-            "output Neg",
-            "output of the 27 names",
-            "output of another kind",
-            "output silent by its rule alone",
+            "output done itself",
+            "output silent by its rule: Mul",
+            "output silent by its rule: Div",
+            "output silent by its rule: Add",
+            "output silent by its rule: Sub",
+            "output silent by its rule: FmOp",
+            "output silent by its rule: Paf",
+            "output silent by its rule: Neg",
+            "output silent by its rule: one of the 27 names",
             "fade ended",
+            "fade ended in the last block",
             "none, though a node of some voice is done",
         ],
     ),
@@ -134,7 +135,17 @@ pub const PROFILES: &[(&str, &[&str])] = &[
             "with a name of 0 or more than 16 bytes",
         ],
     ),
-    ("Events taken", &["value or glide", "gate", "free of a voice", "free of no voice", "ten and more in one render"]),
+    (
+        "Events taken",
+        &[
+            "value or glide",
+            "gate",
+            "gate of a voice that has one",
+            "free of a voice",
+            "free of no voice",
+            "ten and more in one render",
+        ],
+    ),
     (
         "Renders",
         &[
@@ -167,6 +178,10 @@ pub const PROFILES: &[(&str, &[&str])] = &[
         &[
             "steal that fades",
             "steal that cuts",
+            "steal of the oldest of several",
+            "steal of the newest of several",
+            "steal of the quietest of several",
+            "steal of the quietest, levels equal",
             "steal with a NaN among the levels",
             "steal with more than 64 made since a fade began that lives",
             "steal that drops the oldest record",
@@ -187,5 +202,9 @@ pub const PROFILES: &[(&str, &[&str])] = &[
     ),
     ("Refusals in rows", &["ten in a row", "twenty in a row"]),
     ("Malformed ends of scripts", &MALFORMED),
+    (
+        "Wiring of a prepared graph",
+        &["disconnect of a port without an edge", "sink set", "sink removed", "edge replaced"],
+    ),
     ("Pages", &["buffer too short", "buffer just long enough", "buffer longer"]),
 ];

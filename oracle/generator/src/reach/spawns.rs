@@ -114,6 +114,7 @@ impl Reach {
             victim = pick(allocator.policy(), &counted);
         }
         self.note_steal(seen, victim, &counted);
+        self.note_choice(allocator.policy(), victim, &counted);
         self.note_reclaims(seen, spawn, victim);
     }
 
@@ -131,6 +132,20 @@ impl Reach {
             self.hit_if("steal with more than 64 made since a fade began that lives", lives);
         }
         self.hit_if("steal that drops the oldest record", total > seen.before.steals && total > limits::RECORDS);
+    }
+
+    /// A victim that was not the only one in question.
+    fn note_choice(&mut self, policy: StealPolicy, victim: Option<&Voice>, counted: &[&Voice]) {
+        let Some(victim) = victim.filter(|_| counted.len() > 1) else {
+            return;
+        };
+        let equal = counted.iter().filter(|voice| victim.level.is_some() && voice.level == victim.level).count() > 1;
+        self.hit(match policy {
+            StealPolicy::Oldest => "steal of the oldest of several",
+            StealPolicy::Newest => "steal of the newest of several",
+            _ if equal => "steal of the quietest, levels equal",
+            _ => "steal of the quietest of several",
+        });
     }
 
     /// The voices that are gone but for a victim that was cut at once.
