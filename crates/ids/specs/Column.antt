@@ -13,6 +13,12 @@ use Rattle.node.specs.declared.record.Nodes.{Nodes}
 abbrev pub idOf : Node → ℕ
 idOf n = n .id .0
 
+abbrev pub ownerOf : Node → ℕ
+ownerOf n = n .owner .0
+
+abbrev pub portsIn : Node → ℕ
+portsIn n = n .ports
+
 abbrev pub levelOf : Node → Float
 levelOf n = n .level
 

@@ -3,7 +3,7 @@
 ghost use mathlib.Core.Path.{_≡_};
 ghost use Rattle.rank.specs.Names.{rowOf};
 ghost use Rattle.node.specs.Rows.{nodesOf};
-ghost use Rattle.ids.specs.Column.{Column, idOf, levelOf, doneOf};
+ghost use Rattle.ids.specs.Column.{Column, idOf, ownerOf, portsIn, levelOf, doneOf};
 use node::record::Nodes;
 
 // The row of the first number that is `k`; past the rows where none is.
@@ -38,6 +38,34 @@ pub fn node_ids(t: Nodes) -> [u64; 512]
         i += 1;
     }
     ids
+}
+
+// Their owners.
+pub fn node_owners(t: Nodes) -> [u64; 512]
+    ensures { λ r. ⌜ Column ownerOf t r ⌝ }
+{
+    let n = rank::at_most(t.count, 512);
+    let mut owners = [0u64; 512];
+    let mut i: usize = 0;
+    while i < n {
+        owners[i] = t.rows[i].owner.0;
+        i += 1;
+    }
+    owners
+}
+
+// How many ports each has.
+pub fn node_ports(t: Nodes) -> [u32; 512]
+    ensures { λ r. ⌜ Column portsIn t r ⌝ }
+{
+    let n = rank::at_most(t.count, 512);
+    let mut ports = [0u32; 512];
+    let mut i: usize = 0;
+    while i < n {
+        ports[i] = t.rows[i].ports;
+        i += 1;
+    }
+    ports
 }
 
 // Their levels.
