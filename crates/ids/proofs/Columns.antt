@@ -1,35 +1,51 @@
--- The loop that copies a column. Assumes nothing.
+-- The loop that copies a column, for any field f of a row: its invariant, its start, its step and its end.
+-- Assumes nothing.
 use Prim.Native.Nat.{ℕ, _+_, _≤_, _<_, min}
 use native.Mathlib.Omega.{arith}
-use mathlib.Core.Path.{_≡_, sym, ap, _∙_}
+use mathlib.Core.Path.{_≡_, refl, sym, ap, _∙_}
 use mathlib.Core.List.{List, [], _∷_, _++_, map}
-use lib.ListN.{length, take, getD, set, length-set}
+use lib.ListN.{length, take, getD, set, length-set, length-map}
 use Rattle.lists.specs.Member.{map-append}
 use Rattle.lists.specs.Table.{append-row, passed-row}
 use Rattle.node.specs.declared.record.Node.{Node}
 use Rattle.node.specs.declared.record.Nodes.{Nodes}
+use Rattle.node.proofs.record.Nodes.{the-type}
 use Rattle.ids.specs.Column.{Column}
 
-module _ {A : Type 0} (f : Node → A) where
-  -- the first i places hold the column of the first i rows
-  abbrev pub Copied : List Node → List A → ℕ → ℕ → Type 0
-  Copied rows out n i = (i ≤ n) × (length out ≡ 512) × (take i out ≡ map f (take i rows))
+-- the first i places hold the column of the first i rows
+pub record Copied {A : Type 0} (f : Node → A) (t : Nodes) (n : ℕ) (out : List A) (i : ℕ) : Type 0 where
+  pub within : i ≤ n
+  pub long : length out ≡ 512
+  pub is : take i out ≡ map f (take i (t .rows))
 
-  pub copied-next : (rows : List Node) (out : List A) (n i : ℕ) (d : Node) (x : A) → n ≤ 512 → length rows ≡ 512 → i < n → x ≡ f (getD rows i d) → Copied rows out n i
-      → Copied rows (set out i x) n (i + 1)
-  copied-next rows out n i d x fits long more e inv =
-      let inside : i < length out = omega (arith, inv .1) in
-      let below : i < length rows = omega arith in (
-        omega arith,
-        length-set out i x ∙ inv .1,
-        append-row out i x inside
-            ∙ ap (λ l. l ++ (x ∷ [])) (inv .2)
-            ∙ ap (λ y. map f (take i rows) ++ (y ∷ [])) e
-            ∙ sym (map-append f (take i rows) (getD rows i d ∷ []))
-            ∙ ap (map f) (sym (passed-row d rows i below)),
-      )
+-- that a table has 512 rows, as a function is told it of a parameter
+abbrev pub Whole : Nodes → Type 0
+Whole t = length ((the-type .to t) .0) ≡ 512
 
-  pub copied-done : (t : Nodes) (out : List A) (n i : ℕ) → n ≡ min (t .count) 512 → i ≡ n → Copied (t .rows) out n i → Column f t out
-  copied-done t out n i e all inv =
-      let at : i ≡ min (t .count) 512 = all ∙ e in
-      record { long = inv .1; is = ap (λ k. take k out) (sym at) ∙ inv .2 ∙ ap (λ k. map f (take k (t .rows))) at }
+module _ {A : Type 0} {f : Node → A} {t : Nodes} {n : ℕ} {out : List A} where
+  pub copied-none : length out ≡ 512 → Copied f t n out 0
+  copied-none e = record { within = omega arith; long = e; is = refl }
+
+  module _ {i : ℕ} (clamp : n ≡ min (t .count) 512) (inv : Copied f t n out i) where
+    pub copied-next : {x : A} (d : Node) → Whole t → i < n → x ≡ f (getD (t .rows) i d) → Copied f t n (set out i x) (i + 1)
+    copied-next {x} d whole more e =
+        let rows-long : length (t .rows) ≡ 512 = simp length-map at whole in
+        let inside : i < length out = omega arith in
+        let below : i < length (t .rows) = omega arith in
+        record {
+          within = omega arith;
+          long = length-set out i x ∙ inv .long;
+          is = append-row out i x inside
+              ∙ ap (λ l. l ++ (x ∷ [])) (inv .is)
+              ∙ ap (λ y. map f (take i (t .rows)) ++ (y ∷ [])) e
+              ∙ sym (map-append f (take i (t .rows)) (getD (t .rows) i d ∷ []))
+              ∙ ap (map f) (sym (passed-row d (t .rows) i below));
+        }
+
+    pub copied-all : n ≤ i → Column f t out
+    copied-all over =
+        let at : i ≡ min (t .count) 512 = omega arith in
+        record {
+          long = inv .long;
+          is = ap (λ k. take k out) (sym at) ∙ inv .is ∙ ap (λ k. map f (take k (t .rows))) at;
+        }
