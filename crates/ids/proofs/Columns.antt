@@ -26,7 +26,7 @@ module _ {A : Type 0} {f : Node → A} {t : Nodes} {n : ℕ} {out : List A} wher
   pub copied-none : length out ≡ 512 → Copied f t n out 0
   copied-none e = record { within = omega arith; long = e; is = refl }
 
-  module _ {i : ℕ} (clamp : n ≡ min (t .count) 512) (inv : Copied f t n out i) where
+  module _ {i : ℕ} (inv : Copied f t n out i) (clamp : n ≡ min (t .count) 512) where
     pub copied-next : {x : A} (d : Node) → Whole t → i < n → x ≡ f (getD (t .rows) i d) → Copied f t n (set out i x) (i + 1)
     copied-next {x} d whole more e =
         let rows-long : length (t .rows) ≡ 512 = simp length-map at whole in

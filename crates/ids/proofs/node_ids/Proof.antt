@@ -43,10 +43,10 @@ loop-again : tie.Need-loop-again Inv-loop μ-loop
 loop-again c =
     let l = c .before in
     let a = l .before .before in
-    copied-next (a .at-most .ensures) (l .before .loop .inv) _ (a .before .good .0 .1 .1 .0 .1 .0 .1) (l .loop-test .taken) (c .wide .ensures)
+    copied-next (l .before .loop .inv) (a .at-most .ensures) _ (a .before .good .0 .1 .1 .0 .1 .0 .1) (l .loop-test .taken) (c .wide .ensures)
 
 returns : tie.Need-returns Inv-loop μ-loop
-returns c = copied-all (c .before .before .at-most .ensures) (c .before .loop .inv) (c .loop-test .left)
+returns c = copied-all (c .before .loop .inv) (c .before .before .at-most .ensures) (c .loop-test .left)
 
 pub node-ids-spec : {M : Type 1} → statement M
 node-ids-spec =
