@@ -247,11 +247,12 @@ module _ (ids known : List ℕ) (t : Voices) (rows : List Event) (n : ℕ) (star
             ∙ ap (λ j. set ns j (withOrder o (getD ns j dn))) its-row
             ∙ row-set o (v .first .0) ns (place v) dn rise (subst (λ j. j < length ns) its-row in-live))
 
--- ---- the whole: the nodes put back, and the freed voices gone
+-- ---- the whole: the nodes put back, and the freed voices gone from the store with that graph, of which nothing else is changed
 module _ (s r : Store) (h : Happened) (g : Graph) (due : List Event) where
   pub together-is : Left (nodesOf (s .graph .nodes)) (voicesOf (s .voices)) due h → viewOf g ≡ withNodes (viewOf (s .graph)) (nodesOf (h .nodes))
-      → modelOf r ≡ goneIds (take (h .count) (h .freed)) (modelOf (putGraph g s)) → modelOf r ≡ happenAll due (modelOf s)
-  together-is left view gone =
+      → {m : Model} → modelOf r ≡ goneIds (take (h .count) (h .freed)) m → m ≡ modelOf (putGraph g s) → modelOf r ≡ happenAll due (modelOf s)
+  together-is left view gone alone =
       gone
+      ∙ ap (goneIds (take (h .count) (h .freed))) alone
       ∙ ap (λ v. goneIds (take (h .count) (h .freed)) (record { desk = withGraph v (deskOf s); voices = voicesOf (s .voices) })) view
       ∙ sym (left .is (deskOf s))

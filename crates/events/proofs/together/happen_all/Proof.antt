@@ -1,5 +1,5 @@
 use Prim.Native.Nat.{_≤_, min}
-use mathlib.Core.Path.{sym, ap, _∙_}
+use mathlib.Core.Path.{refl, sym, ap, _∙_}
 use native.Mathlib.Omega.{arith}
 use lib.ListN.{length, take}
 use lib.Seq.{length-take-le}
@@ -95,7 +95,7 @@ returns-3 : tie.Need-returns-3
 returns-3 c =
     let s = c .before .before .before .before .before .before .before .before .before .before .before .before .before .before .before .before .before .before .before .before .args .s in
     let h = c .before .before .before .before .before .happen-together in
-    together-is s (c .forget-voices .result) (h .result) (c .before .before .with-nodes .result) (eventsOf (c .before .before .before .before .before .before .before .before .before .before .before .before .before .before .before .before .before .before .before .before .args .due)) (h .ensures) (c .before .before .with-nodes .ensures) (c .forget-voices .ensures .0)
+    together-is s (c .forget-voices .result) (h .result) (c .before .before .with-nodes .result) (eventsOf (c .before .before .before .before .before .before .before .before .before .before .before .before .before .before .before .before .before .before .before .before .args .due)) (h .ensures) (c .before .before .with-nodes .ensures) (c .forget-voices .ensures .0) refl
 
 pub happen-all-spec : {M : Type 1} → statement M
 happen-all-spec =
