@@ -15,9 +15,13 @@ use Rattle.node.specs.declared.record.Edge.{Edge}
 abbrev pub edgeLimit : ℕ
 edgeLimit = 1024
 
+-- the edge ends at the node n
+abbrev pub endsOn : NodeId → Edge → Bool
+endsOn n e = eqb (e .to .0) (n .0)
+
 -- the edge ends at the port p of the node n
 abbrev pub endsAt : NodeId → ℕ → Edge → Bool
-endsAt n p e = eqb (e .to .0) (n .0) && eqb (e .port) p
+endsAt n p e = endsOn n e && eqb (e .port) p
 
 -- an edge ends at the port p of the node n
 abbrev pub taken : List Edge → NodeId → ℕ → Bool

@@ -2,6 +2,7 @@ ghost use mathlib.Core.Path.{_≡_};
 ghost use Rattle.node.specs.Rows.{edgesOf};
 ghost use Rattle.edges.specs.Ports.{portOf, freePort, portFrom, sources, feeds};
 use crate::table::at_most;
+use crate::table::edges_to;
 use crate::table::ends_at;
 use node::record::Edge;
 use node::record::Edges;
@@ -19,8 +20,8 @@ pub enum Source {
     Nothing,
 }
 
-// The lowest port of `node` below `ports` without an edge.
-pub fn free_port(edges: Edges, node: NodeId, ports: u32) -> Port
+// The lowest port of `node` below `ports` without an edge: each port in turn is looked for among the edges, which are best few.
+pub fn lowest_port(edges: Edges, node: NodeId, ports: u32) -> Port
     ensures { λ r. ⌜ r ≡ portOf (freePort (edgesOf edges) node ports) ⌝ }
 {
     let n = at_most(edges.count, 1024);
@@ -41,6 +42,14 @@ pub fn free_port(edges: Edges, node: NodeId, ports: u32) -> Port
         break Port::At(p);
     };
     found
+}
+
+// The lowest port of `node` below `ports` without an edge. Only the edges of `node` are searched, port by port.
+pub fn free_port(edges: Edges, node: NodeId, ports: u32) -> Port
+    ensures { λ r. ⌜ r ≡ portOf (freePort (edgesOf edges) node ports) ⌝ }
+{
+    let here = edges_to(edges, node);
+    lowest_port(here, node, ports)
 }
 
 // Whether the edge leads from `from` to `to`.

@@ -1,8 +1,9 @@
 ghost use mathlib.Core.Path.{_≡_};
 ghost use Prim.Native.Nat.{min};
 ghost use lib.ListN.{length};
+ghost use Rattle.lists.specs.Keep.{keep};
 ghost use Rattle.node.specs.Rows.{edgesOf};
-ghost use Rattle.edges.specs.Wiring.{edgeLimit, endsAt, dropAt, among, touches, dropTouching, pushed, put};
+ghost use Rattle.edges.specs.Wiring.{edgeLimit, endsOn, endsAt, dropAt, listed, among, touches, dropTouching, pushed, put};
 use node::record::Edge;
 use node::record::Edges;
 use node::record::NodeId;
@@ -26,6 +27,26 @@ pub fn ends_at(e: Edge, node: NodeId, port: u32) -> bool
     ensures { λ r. ⌜ r ≡ endsAt node port e ⌝ }
 {
     e.to.0 == node.0 && e.port == port
+}
+
+// The edges that end at `node`, in one pass.
+pub fn edges_to(t: Edges, node: NodeId) -> Edges
+    ensures { λ r. ⌜ edgesOf r ≡ keep (endsOn node) (edgesOf t) ⌝ }
+{
+    let n = at_most(t.count, 1024);
+    let mut out = t;
+    let mut w: usize = 0;
+    let mut i: usize = 0;
+    while i < n {
+        let e = t.rows[i];
+        i += 1;
+        if e.to.0 == node.0 {
+            out.rows[w] = e;
+            w += 1;
+        }
+    }
+    out.count = w;
+    out
 }
 
 // The table without the edge at the port `port` of `node`, in one pass that closes the gap.
@@ -76,13 +97,13 @@ pub fn put_edge(t: Edges, e: Edge) -> Edges
     }
 }
 
-// Whether `id` is among `ids`.
-pub fn is_among(ids: &[u32], id: NodeId) -> bool
-    ensures { λ r. ⌜ r ≡ among (now (ids .entry)) id ⌝ }
+// Whether `x` is one of `keys`.
+pub fn is_listed(keys: &[u64], x: u64) -> bool
+    ensures { λ r. ⌜ r ≡ listed (now (keys .entry)) x ⌝ }
 {
     let mut i: usize = 0;
-    while i < ids.len() {
-        if ids[i] == id.0 {
+    while i < keys.len() {
+        if keys[i] == x {
             return true;
         }
         i += 1;
@@ -90,15 +111,22 @@ pub fn is_among(ids: &[u32], id: NodeId) -> bool
     false
 }
 
+// Whether `id` is among `ids`.
+pub fn is_among(ids: &[u64], id: NodeId) -> bool
+    ensures { λ r. ⌜ r ≡ among (now (ids .entry)) id ⌝ }
+{
+    is_listed(ids, id.0 as u64)
+}
+
 // Whether the edge starts or ends at one of `ids`.
-pub fn touches_any(ids: &[u32], e: Edge) -> bool
+pub fn touches_any(ids: &[u64], e: Edge) -> bool
     ensures { λ r. ⌜ r ≡ touches (now (ids .entry)) e ⌝ }
 {
     is_among(ids, e.from) || is_among(ids, e.to)
 }
 
 // The table without the edges that start or end at one of `ids`, in one pass that closes the gaps.
-pub fn drop_touching(t: Edges, ids: &[u32]) -> Edges
+pub fn drop_touching(t: Edges, ids: &[u64]) -> Edges
     ensures { λ r. ⌜ edgesOf r ≡ dropTouching (edgesOf t) (now (ids .entry)) ⌝ }
 {
     let n = at_most(t.count, 1024);

@@ -1,8 +1,8 @@
 -- The port search, one step at a time, and the room that it leaves.
 -- Assumes nothing.
-use Prim.Native.Nat.{ℕ, zero, suc, _-_, _+_, _≤_, _<_}
+use Prim.Native.Nat.{ℕ, zero, suc, _+_, _≤_, _<_}
 use native.Mathlib.Omega.{arith}
-use mathlib.Core.Path.{_≡_, refl, ap, _∙_}
+use mathlib.Core.Path.{_≡_, refl, sym, ap, _∙_}
 use mathlib.Core.Bool.{Bool}
 use mathlib.Core.List.{List, _∷_, [], _++_}
 use mathlib.Core.Option.{Option, none, some}
@@ -11,8 +11,6 @@ use borrow.Author.Tests.{lt-ltb}
 use Rattle.lists.specs.Keep.{length-keep}
 use Rattle.node.specs.declared.record.NodeId.{NodeId}
 use Rattle.node.specs.declared.refusal.Refusal.the-variants.{NoPort}
-use Rattle.edges.specs.Ports.{portOf}
-use Rattle.edges.specs.declared.ports.Port.the-variants as Port
 use Rattle.synthdef.specs.declared.def.SynthDef.{SynthDef}
 use Rattle.store.specs.declared.voices.Voice.{Voice}
 use Rattle.store.specs.declared.voices.VoiceState.{VoiceState}
@@ -24,15 +22,8 @@ use Rattle.model.specs.Desk.{Desk}
 use Rattle.model.specs.Voice.{id}
 use Rattle.model.specs.Model.{Model, Landed, portFree, place, land, landOr, refused, cutOff}
 use Rattle.model.specs.Spawn.{nextOut, nextVoice}
+use Rattle.reclaim.specs.Reclaimed.{ifNone, leaving, goOn, reclaimed}
 use Rattle.engine.specs.Room.{Headroom}
-
-pub port-some : (o : Option ℕ) (p : ℕ) → portOf o ≡ Port.At p → o ≡ some p
-port-some none p e = let z : _≡_ {A = ℕ} 0 1 = cc in absurd (omega arith)
-port-some (some q) p e = cc
-
-pub port-none : (o : Option ℕ) → portOf o ≡ Port.Nothing → o ≡ none
-port-none none e = refl
-port-none (some q) e = let z : _≡_ {A = ℕ} 0 1 = cc in absurd (omega arith)
 
 pub pushed-seat : (vs : List Voice) (v : Voice) → length vs < 64 → pushedVoice vs v ≡ vs ++ (v ∷ [])
 pushed-seat vs v h = rw (lt-ltb (length vs) 64 h)
@@ -47,22 +38,16 @@ module _ (def : SynthDef) (pan : Bool) (s : VoiceState) (bus : NodeId) (m : Mode
   pub place-over : portFree bus m ≡ none → place 0 def pan s bus m ≡ refused NoPort m
   place-over e = ap (λ o. landOr o none def pan s bus m (refused NoPort)) e
 
-  -- no port, and nobody to reclaim
-  pub place-nobody : (fuel : ℕ) → portFree bus m ≡ none → nextOut (m .desk) bus (m .voices) ≡ none → place fuel def pan s bus m ≡ refused NoPort m
-  place-nobody zero e f = place-over e
-  place-nobody (suc k) e f =
-      ap (λ o. landOr o (nextOut (m .desk) bus (m .voices)) def pan s bus m (λ j. place k def pan s bus j)) e
-      ∙ ap (λ o. landOr none o def pan s bus m (λ j. place k def pan s bus j)) f
-
-  -- no port: the next one out goes, and the search goes on
-  pub place-again : (fuel : ℕ) (v : Voice) → 0 < fuel → portFree bus m ≡ none → nextOut (m .desk) bus (m .voices) ≡ some v
-      → place fuel def pan s bus m ≡ place (fuel - 1) def pan s bus (cutOff v (v .state) m)
-  place-again zero v h e f = absurd (omega arith)
-  place-again (suc k) v h e f =
-      let z : k ≡ suc k - 1 = omega arith in
-      ap (λ o. landOr o (nextOut (m .desk) bus (m .voices)) def pan s bus m (λ j. place k def pan s bus j)) e
-      ∙ ap (λ o. landOr none o def pan s bus m (λ j. place k def pan s bus j)) f
-      ∙ ap (λ i. place i def pan s bus (cutOff v (v .state) m)) z
+-- landing after what was reclaimed
+pub place-reclaimed : (def : SynthDef) (pan : Bool) (s : VoiceState) (bus : NodeId) (k : ℕ) (m : Model) → place k def pan s bus m ≡ place 0 def pan s bus (reclaimed k bus m)
+place-reclaimed def pan s bus zero m = refl
+place-reclaimed def pan s bus (suc k) m = go (portFree bus m) refl (nextOut (m .desk) bus (m .voices)) (place-reclaimed def pan s bus k)
+  where
+    go : (o : Option ℕ) → portFree bus m ≡ o → (u : Option Voice) → ((j : Model) → place k def pan s bus j ≡ place 0 def pan s bus (reclaimed k bus j))
+        → landOr o u def pan s bus m (λ j. place k def pan s bus j) ≡ place 0 def pan s bus (goOn (ifNone o u) m (λ j. reclaimed k bus j))
+    go (some p) e u ih = sym (place-port def pan s bus m 0 p e)
+    go none e none ih = sym (place-over def pan s bus m e)
+    go none e (some v) ih = ih (cutOff v (v .state) m)
 
 -- what goes makes room
 pub headroom-cut : (def : SynthDef) (v : Voice) (s : VoiceState) (m : Model) → Headroom def m → Headroom def (cutOff v s m)
@@ -81,6 +66,15 @@ headroom-cut def v s m h =
       ids = h .ids;
       names = h .names;
     }
+
+-- and so does all that is reclaimed
+pub headroom-reclaimed : (def : SynthDef) (bus : NodeId) (k : ℕ) (m : Model) → Headroom def m → Headroom def (reclaimed k bus m)
+headroom-reclaimed def bus zero m h = h
+headroom-reclaimed def bus (suc k) m h = go (leaving bus m) (headroom-reclaimed def bus k)
+  where
+    go : (o : Option Voice) → ((j : Model) → Headroom def j → Headroom def (reclaimed k bus j)) → Headroom def (goOn o m (λ j. reclaimed k bus j))
+    go none ih = h
+    go (some v) ih = ih (cutOff v (v .state) m) (headroom-cut def v (v .state) m h)
 
 -- ---- the newcomer's record, and the store after it landed, by the parts that the code computes
 abbrev pub made : Desk → SynthDef → Bool → VoiceState → NodeId → ℕ → ℕ → NodeId → DonePlan → Voice

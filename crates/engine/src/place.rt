@@ -1,5 +1,3 @@
-use crate::going::cut_off;
-use crate::going::next_out;
 use crate::land::Landed;
 use crate::land::land_voice;
 use edges::ports::Port;
@@ -8,10 +6,12 @@ use graph::nodes::node_at;
 use node::record::NodeId;
 use node::record::Nodes;
 use node::refusal::Refusal;
+use reclaim::reclaim;
 use store::answer::Spawned;
 use store::state::Store;
 use store::voices::VoiceState;
 use synthdef::def::SynthDef;
+ghost use Prim.Native.Nat.{min};
 ghost use mathlib.Core.Path.{_≡_};
 ghost use Rattle.node.specs.Rows.{nodesOf};
 ghost use Rattle.edges.specs.Ports.{portOf};
@@ -53,7 +53,7 @@ pub(crate) fn refuse(s: Store, why: Refusal) -> Landed
     }
 }
 
-// The newcomer lands on the lowest free port. While there is none, who goes next is reclaimed, `fuel` times at most.
+// The newcomer lands on the lowest free port. Where there is none, voices of the bus go for one, `fuel` and 64 at most.
 pub(crate) fn place(
     s: Store,
     def: SynthDef,
@@ -63,24 +63,13 @@ pub(crate) fn place(
     fuel: usize,
 ) -> Landed
     requires { ⌜ Headroom def (modelOf s) ⌝ }
-    ensures { λ r. ⌜ landedOf r ≡ place fuel def pan state bus (modelOf s) ⌝ }
+    ensures { λ r. ⌜ landedOf r ≡ place (min fuel 64) def pan state bus (modelOf s) ⌝ }
 {
-    let mut now = s;
-    let mut left = fuel;
-    while 0 < left {
-        let port = port_free(now, bus);
-        if let Port::At(p) = port {
-            return land_voice(now, def, pan, state, bus, p);
-        }
-        let next = next_out(now, bus);
-        if !next.found {
-            return refuse(now, Refusal::NoPort);
-        }
-        let v = next.voice;
-        let was = v.state;
-        now = cut_off(now, v, was);
-        left -= 1;
+    let first = port_free(s, bus);
+    if let Port::At(p) = first {
+        return land_voice(s, def, pan, state, bus, p);
     }
+    let now = reclaim(s, bus, fuel);
     let port = port_free(now, bus);
     match port {
         Port::At(p) => land_voice(now, def, pan, state, bus, p),

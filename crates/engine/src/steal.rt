@@ -5,7 +5,6 @@ use node::record::NodeId;
 use store::state::Store;
 use store::voices::Fade;
 use store::voices::Voice;
-use store::voices::VoiceState;
 use voice_table::start_fade;
 ghost use mathlib.Core.Path.{_≡_};
 ghost use Rattle.model.specs.Model.{stealVoice};
@@ -36,7 +35,7 @@ pub(crate) fn steal_voice(s: Store, v: Voice) -> Store
     let g = s.graph;
     let faded = fade_voice(g, v);
     if !faded.fades {
-        return cut_off(s, v, VoiceState::Tracked);
+        return cut_off(s, v);
     }
     let steals = record_steal(s, v, false);
     let f = new_fade(s);

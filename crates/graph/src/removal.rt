@@ -2,7 +2,7 @@ ghost use mathlib.Core.Path.{_≡_};
 ghost use mathlib.Core.Bool.{not};
 ghost use Rattle.lists.specs.Find.{keepO};
 ghost use Rattle.node.specs.Rows.{nodesOf};
-ghost use Rattle.edges.specs.Wiring.{among, listed};
+ghost use Rattle.edges.specs.Wiring.{among};
 ghost use Rattle.graph.specs.Node.{ownedByAny};
 ghost use Rattle.graph.specs.Change.{removeVoice, without};
 ghost use Rattle.graph.specs.Tables.{viewOf, sinkOf, goes, Parts};
@@ -11,6 +11,7 @@ use crate::state::Sink;
 use edges::table::at_most;
 use edges::table::drop_touching;
 use edges::table::is_among;
+use edges::table::is_listed;
 use node::record::Node;
 use node::record::Nodes;
 use node::record::VoiceId;
@@ -24,24 +25,11 @@ pub enum By {
 // The nodes that stay, and the ids of those that go: the first `count` of `ids`.
 pub struct Parted {
     pub nodes: Nodes,
-    pub ids: [u32; 512],
+    pub ids: [u64; 512],
     pub count: usize,
 }
 
-// Whether `x` is one of `keys`.
-pub fn is_listed(keys: &[u64], x: u64) -> bool
-    ensures { λ r. ⌜ r ≡ listed (now (keys .entry)) x ⌝ }
-{
-    let mut i: usize = 0;
-    while i < keys.len() {
-        if keys[i] == x {
-            return true;
-        }
-        i += 1;
-    }
-    false
-}
-
+// Whether a node goes, by what it is known by.
 fn is_going(by: By, keys: &[u64], n: Node) -> bool
     ensures { λ r. ⌜ r ≡ goes by (now (keys .entry)) n ⌝ }
 {
@@ -51,13 +39,19 @@ fn is_going(by: By, keys: &[u64], n: Node) -> bool
     }
 }
 
+fn wide(x: u32) -> u64
+    ensures { λ r. ⌜ r ≡ x ⌝ }
+{
+    x as u64
+}
+
 // One pass over the nodes, which closes the gaps.
 fn part(t: Nodes, by: By, keys: &[u64]) -> Parted
     ensures { λ r. ⌜ Parts (nodesOf t) by (now (keys .entry)) r ⌝ }
 {
     let n = at_most(t.count, 512);
     let mut out = t;
-    let mut ids = [0u32; 512];
+    let mut ids = [0u64; 512];
     let mut count: usize = 0;
     let mut w: usize = 0;
     let mut i: usize = 0;
@@ -65,7 +59,7 @@ fn part(t: Nodes, by: By, keys: &[u64]) -> Parted
         let x = t.rows[i];
         i += 1;
         if is_going(by, keys, x) {
-            ids[count] = x.id.0;
+            ids[count] = wide(x.id.0);
             count += 1;
         } else {
             out.rows[w] = x;
@@ -81,7 +75,7 @@ fn part(t: Nodes, by: By, keys: &[u64]) -> Parted
 }
 
 // The sink, or none if it is one of `ids`.
-fn keep_sink(sink: Sink, ids: &[u32]) -> Sink
+fn keep_sink(sink: Sink, ids: &[u64]) -> Sink
     ensures { λ r. ⌜ sinkOf r ≡ keepO (λ k. not (among (now (ids .entry)) k)) (sinkOf sink) ⌝ }
 {
     match sink {

@@ -22,7 +22,7 @@ known-node none = refl
 known-node (some n) = refl
 
 module _ (ns : List Node) (clock : ℕ) where
-  level-same : (v : Voice) → levelIn (map idOf ns) (map levelOf ns) clock v ≡ levelAt ns clock v
+  pub level-same : (v : Voice) → levelIn (map idOf ns) (map levelOf ns) clock v ≡ levelAt ns clock v
   level-same v = ap (λ x. cond (ltb (v .birth) clock) x Unknown) (ap knownLevel (held-is idOf levelOf nan (v .output .0) ns) ∙ known-node (nodeAt ns (v .output)))
 
   all-same : (vs : List Voice) → map (candidateIn (map idOf ns) (map levelOf ns) clock) vs ≡ map (candidateAt ns clock) vs

@@ -1,2 +1,2 @@
 pub mod Picked
-mod Columns
+pub mod Columns

@@ -1,7 +1,7 @@
 // The table of live voices: the part of engine.rs that works on `voices` alone.
 use edges::table::at_most;
+use edges::table::is_listed;
 use graph::nodes::node_at;
-use graph::removal::is_listed;
 use ids::node_ids;
 use ids::node_levels;
 use ids::row_of;
@@ -337,7 +337,7 @@ fn is_counted(v: Voice, scope: BudgetScope, bus: NodeId) -> bool
 }
 
 // The level of a voice by the columns of the nodes' ids and levels.
-fn level_in(ids: &[u64], levels: &[f32], clock: u64, v: Voice) -> Level
+pub fn level_in(ids: &[u64], levels: &[f32], clock: u64, v: Voice) -> Level
     ensures { λ r. ⌜ r ≡ levelIn (now (ids .entry)) (now (levels .entry)) clock v ⌝ }
 {
     if !is_past_birth(v, clock) {
@@ -360,7 +360,7 @@ fn candidate(ids: &[u64], levels: &[f32], clock: u64, v: Voice) -> Candidate
 }
 
 // The voices that count for a newcomer on `bus`, by those columns.
-fn candidates_in(
+pub fn candidates_in(
     t: Voices,
     ids: &[u64],
     levels: &[f32],

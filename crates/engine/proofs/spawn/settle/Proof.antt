@@ -1,6 +1,9 @@
-use Prim.Native.Nat.{_-_}
-use mathlib.Core.Path.{sym, ap, _∙_}
+use Prim.Native.Nat.{_≤_, _-_, min}
+use native.Mathlib.Omega.{arith}
+use mathlib.Core.Path.{_≡_, sym, ap, _∙_}
+use lib.ListN.{length}
 use borrow.Author.Needs.{needs}
+use Rattle.edges.proofs.Loops.{rows-small}
 use Rattle.store.specs.declared.voices.VoiceState.the-variants.{Tracked}
 use Rattle.model.specs.Model.{place}
 use Rattle.model.specs.Spawn.{tries, stateUnder}
@@ -32,8 +35,12 @@ returns c =
 returns-2 : tie.Need-returns-2
 returns-2 c =
     let a = c .before .before .before .before .before .before .args in
+    let vs = voicesOf (a .s .voices) in
+    let small : length vs ≤ 64 = rows-small 64 (a .s .voices .count) (a .s .voices .rows) in
+    let all : min (length vs) 64 ≡ length vs = omega arith in
     c .place2 .ensures
-    ∙ ap (λ n. place n (a .def) (a .pan) Tracked (a .bus) (modelOf (a .s))) (c .before .voice-count .ensures)
+    ∙ ap (λ n. place (min n 64) (a .def) (a .pan) Tracked (a .bus) (modelOf (a .s))) (c .before .voice-count .ensures)
+    ∙ ap (λ n. place n (a .def) (a .pan) Tracked (a .bus) (modelOf (a .s))) all
     ∙ sym (ap (λ b. place (tries b (voicesOf (a .s .voices))) (a .def) (a .pan) (stateUnder b) (a .bus) (modelOf (a .s))) (c .before .before .before .enum-told2 .given .1))
 
 pub settle-spec : {M : Type 1} → statement M

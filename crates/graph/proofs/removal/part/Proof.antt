@@ -38,6 +38,9 @@ add-i c = search needs
 is-going-requires : tie.Need-is-going-requires Inv-loop μ-loop
 is-going-requires c κs = search needs
 
+wide-requires : tie.Need-wide-requires Inv-loop μ-loop
+wide-requires c κs = search needs
+
 mul-ids : tie.Need-mul-ids Inv-loop μ-loop
 mul-ids c = search needs
 
@@ -52,17 +55,17 @@ loop-less c = search needs
 
 loop-again : tie.Need-loop-again Inv-loop μ-loop
 loop-again c =
-    let s = c .before .before .before .before .before .before .before in
-    let l = c .before .before .before .before .loop in
-    let n = c .before .before .before .before .before .at-most .result in
+    let s = c .before .before .before .before .before .before .before .before in
+    let l = c .before .before .before .before .before .loop in
+    let n = c .before .before .before .before .before .before .at-most .result in
     let long = rows-long s in
     let fits : n ≤ 512 = omega arith in
     let more : l .i < n = omega arith in
     let inside : l .i < length (s .args .t1 .rows) = omega arith in
     let small : l .i < 512 = omega arith in
-    let test = sym (c .before .is-going .ensures) ∙ c .if1 .taken in (
+    let test = sym (c .before .before .is-going .ensures) ∙ c .before .if1 .taken in (
       closing-drop (λ x. not (goes (s .args .by) (s .args .keys .now) x)) 512 (s .args .t1 .rows) (l .out .rows) n (l .i) (l .w) _ fits long (l .inv .0) more (ap not test),
-      leaving-goes (λ x. goes (s .args .by) (s .args .keys .now) x) (s .args .t1 .rows) (l .ids) (l .i) (l .count) _ inside small (l .inv .1) test,
+      rw (c .wide .ensures) (leaving-goes (λ x. goes (s .args .by) (s .args .keys .now) x) (s .args .t1 .rows) (l .ids) (l .i) (l .count) _ inside small (l .inv .1) test),
     )
 
 mul-x-2 : tie.Need-mul-x-2 Inv-loop μ-loop
@@ -118,6 +121,7 @@ part-spec =
     element-copy-out-x
     add-i
     is-going-requires
+    wide-requires
     mul-ids
     array-write-ids
     add-count

@@ -8,14 +8,14 @@ use borrow.Author.Tests.{eq-eqb, ne-eqb}
 use Rattle.lists.specs.Find.{find, isSome}
 use Rattle.lists.specs.Table.{left-cons}
 use Rattle.edges.proofs.Loops.{find-hit, find-pass, find-over}
-use Rattle.edges.proofs.table.is_among.Statement.{statement}
-use Rattle.edges.proofs.table.is_among.Tie as tie
+use Rattle.edges.proofs.table.is_listed.Statement.{statement}
+use Rattle.edges.proofs.table.is_listed.Tie as tie
 
 abbrev Inv-loop : tie.InvT-loop
-Inv-loop ids id i₀ i = (i ≤ length ids) × (find (λ k. eqb k (id .0)) (drop i ids) ≡ find (λ k. eqb k (id .0)) ids)
+Inv-loop keys x i₀ i = (i ≤ length keys) × (find (λ k. eqb k x) (drop i keys) ≡ find (λ k. eqb k x) keys)
 
 abbrev μ-loop : tie.MeasureT-loop
-μ-loop ids id i₀ i = length ids - i
+μ-loop keys x i₀ i = length keys - i
 
 loop-holds : tie.Need-loop-holds Inv-loop μ-loop
 loop-holds c = (omega arith, refl)
@@ -28,11 +28,10 @@ shared-slice-read-if1 c = search needs
 
 returns : tie.Need-returns Inv-loop μ-loop
 returns c =
-    let s = c .before .before .before .before .before in
-    let l = c .before .before .before .before .loop in
-    let more : l .i < length (s .args .ids .now) = omega arith in
-    let row = left-cons _ (s .args .ids .now) (l .i) more in
-    ap isSome (sym (find-hit (λ k. eqb k (s .args .id .0)) (s .args .ids .now) (l .i) _ row (eq-eqb _ _ (c .if1 .taken))) ∙ l .inv .1)
+    let s = c .before .before .before .before in
+    let l = c .before .before .before .loop in
+    let more : l .i < length (s .args .keys .now) = omega arith in
+    ap isSome (sym (find-hit (λ k. eqb k (s .args .x)) (s .args .keys .now) (l .i) _ (left-cons _ (s .args .keys .now) (l .i) more) (eq-eqb _ _ (c .if1 .taken))) ∙ l .inv .1)
 
 add-i : tie.Need-add-i Inv-loop μ-loop
 add-i c = search needs
@@ -42,21 +41,20 @@ loop-less c = search needs
 
 loop-again : tie.Need-loop-again Inv-loop μ-loop
 loop-again c =
-    let s = c .before .before .before .before .before in
-    let l = c .before .before .before .before .loop in
-    let more : l .i < length (s .args .ids .now) = omega arith in
-    let row = left-cons _ (s .args .ids .now) (l .i) more in
-    (omega arith, find-pass (λ k. eqb k (s .args .id .0)) (s .args .ids .now) (l .i) _ row (ne-eqb _ _ (c .if1 .left)) ∙ l .inv .1)
+    let s = c .before .before .before .before in
+    let l = c .before .before .before .loop in
+    let more : l .i < length (s .args .keys .now) = omega arith in
+    (omega arith, find-pass (λ k. eqb k (s .args .x)) (s .args .keys .now) (l .i) _ (left-cons _ (s .args .keys .now) (l .i) more) (ne-eqb _ _ (c .if1 .left)) ∙ l .inv .1)
 
 returns-2 : tie.Need-returns-2 Inv-loop μ-loop
 returns-2 c =
     let s = c .before .before in
     let l = c .before .loop in
-    let over : length (s .args .ids .now) ≤ l .i = omega arith in
-    ap isSome (sym (find-over (λ k. eqb k (s .args .id .0)) (s .args .ids .now) (l .i) over) ∙ l .inv .1)
+    let over : length (s .args .keys .now) ≤ l .i = omega arith in
+    ap isSome (sym (find-over (λ k. eqb k (s .args .x)) (s .args .keys .now) (l .i) over) ∙ l .inv .1)
 
-pub is-among-spec : {M : Type 1} → statement M
-is-among-spec =
+pub is-listed-spec : {M : Type 1} → statement M
+is-listed-spec =
     tie.close
     (tie.spec
     Inv-loop
