@@ -1,5 +1,6 @@
--- 01's "if none" of a managed spawn: while no port of the bus is free, a voice of the bus goes, "and try again". Here without
--- the newcomer, which lands on what is left.
+-- "If none: reclaim the earliest-started fade of that bus (ties by voice order) and mark its record, if still held, cut, else free
+-- the policy's victim among tracked voices of that bus with a cut record; try again." Here without the newcomer, which lands on
+-- what is left.
 -- Assumes nothing.
 use Prim.Native.Nat.{ℕ, zero, suc}
 use mathlib.Core.List.{List}
@@ -38,8 +39,8 @@ abbrev pub reclaimed : ℕ → NodeId → Model → Model
 reclaimed zero bus m = m
 reclaimed (suc k) bus m = goOn (leaving bus m) m (λ j. reclaimed k bus j)
 
--- the steal records after the going of a voice of that level and state: "a fade's record is marked cut, if still held"; a tracked
--- voice gets a cut record
+-- the steal records after the going of a voice of that level and state: a fade's record is marked, "if still held, cut"; a tracked
+-- voice goes "with a cut record"
 abbrev pub bookAfter : Book → ℕ → Level → VoiceState → Book
 bookAfter b clock level Tracked = pushed b (recordOf clock level true)
 bookAfter b clock level (Fading f) = marked b (f .number)
