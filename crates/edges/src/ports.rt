@@ -20,7 +20,8 @@ pub enum Source {
     Nothing,
 }
 
-// The lowest port of `node` below `ports` without an edge: each port in turn is looked for among the edges, which are best few.
+// The lowest port of `node` below `ports` without an edge: each port in turn is looked for among all the
+// edges given.
 pub fn lowest_port(edges: Edges, node: NodeId, ports: u32) -> Port
     ensures { λ r. ⌜ r ≡ portOf (freePort (edgesOf edges) node ports) ⌝ }
 {

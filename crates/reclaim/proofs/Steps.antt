@@ -60,9 +60,6 @@ gone-remade [] m = refl
 gone-remade (k ∷ ids) m = gone-remade ids (gone (record { 0 = k }) m)
 
 -- ---- what is left after these voices went, with these steal records
-pub left-none : (m : Model) → left [] (m .desk .steals) m ≡ m
-left-none m = refl
-
 pub left-is : (ids : List ℕ) (b : Book) (m x : Model) → x ≡ goneIds ids m → record { desk = withSteals b (x .desk); voices = x .voices } ≡ left ids b m
 left-is ids b m x e = ap (λ (y : Model). record { desk = withSteals b (y .desk); voices = y .voices }) (e ∙ gone-remade ids m)
 

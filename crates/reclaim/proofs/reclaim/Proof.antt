@@ -1,4 +1,4 @@
-use Prim.Native.Nat.{_+_, _≤_, _<_, _-_, min}
+use Prim.Native.Nat.{_+_, _≤_, _<_, _-_}
 use mathlib.Core.Path.{_≡_, refl, sym, ap, _∙_, subst⁻¹}
 use mathlib.Core.Option.{none, some}
 use mathlib.Core.Bool.{cond}

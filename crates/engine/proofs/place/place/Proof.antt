@@ -5,7 +5,6 @@ use Rattle.model.specs.Model.{portFree, place}
 use Rattle.model.specs.View.{modelOf}
 use Rattle.reclaim.specs.Reclaimed.{reclaimed}
 use Rattle.reclaim.proofs.Steps.{port-some, port-none}
-use Rattle.engine.specs.Room.{Headroom}
 use Rattle.engine.proofs.Placing.{place-port, place-over, place-reclaimed, headroom-reclaimed}
 use Rattle.engine.proofs.place.place.Statement.{statement}
 use Rattle.engine.proofs.place.place.Tie as tie
