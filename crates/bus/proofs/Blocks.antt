@@ -1,7 +1,6 @@
 -- Loops that fill a lent block, sample by sample and channel by channel.
 --     Filling     the first i samples are f 0, f 1, .., and the rest is as it was
 --     Laying      so are the first c channels, each filled whole
--- Assumes nothing.
 use mathlib.Core.Path.{_≡_, refl, sym, ap, _∙_, subst}
 use mathlib.Core.List.{List, [], _∷_, _++_, append-assoc, append-nil}
 use mathlib.Core.Logic.{⊎-elim}

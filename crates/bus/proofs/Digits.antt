@@ -1,4 +1,4 @@
--- The machine's exclusive or, and its products that wrap, in the words of `Noise`. Assumes nothing.
+-- The machine's exclusive or, and its products that wrap, in the words of `Noise`.
 use mathlib.Core.Path.{_≡_, refl, sym, ap, _∙_, subst}
 use Prim.Native.Nat.{ℕ, zero, suc, _+_, _*_, _/_, _%_, _^_, _<_}
 use native.Mathlib.Nat.{le-of-lt, lt-of-le-of-lt, mul-le-mul-left, mul-lt-mul-of-pos-right, mod-lt, pow-suc, div-add-mod', add-mul, add-comm, mul-right-comm, add-mul-mod-self-right}

@@ -1,4 +1,4 @@
--- The gain of a sample, within the fade and past its end. Assumes nothing.
+-- The gain of a sample, within the fade and past its end.
 use mathlib.Core.Path.{_≡_, refl, sym, ap, _∙_, subst}
 use mathlib.Core.Bool.{true, _&&_}
 use mathlib.Core.List.{List, [], _∷_}

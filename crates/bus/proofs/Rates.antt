@@ -2,7 +2,7 @@
 --     rate-is     a rate that is accepted as n is the f32 of n, and n is from 1 to 384,000
 --     rate-taken  the f32 of such an n is accepted as n
 --     refuses     an f32 that is that of no such n is refused
--- The rest is what the tests of `sample_rate` say of the f32 of such an n. Assumes nothing.
+-- The rest is what the tests of `sample_rate` say of the f32 of such an n.
 use mathlib.Core.Path.{_≡_, refl, sym, ap, _∙_, subst}
 use mathlib.Core.Bool.{Bool, true, false, not}
 use Prim.Native.Nat.{ℕ, _+_, _*_, _/_, _%_, _^_, _≤_, _<_}

@@ -1,4 +1,4 @@
--- The tests of a block's channels and its length. Assumes nothing.
+-- The tests of a block's channels and its length.
 use mathlib.Core.Path.{_≡_, refl, sym, ap, _∙_}
 use mathlib.Core.Bool.{Bool, true, false, cond}
 use Prim.Native.Nat.{ℕ, _+_, _*_, _/_, _%_, _≤_, _<_}

@@ -1,4 +1,4 @@
--- The sum of a bus, input by input: what each turn of a loop over the channel counts does. Assumes nothing.
+-- The sum of a bus, input by input: what each turn of a loop over the channel counts does.
 --     Summing     the first k inputs, which end at `at`, are added, and what is left makes the sum whole
 use mathlib.Core.Path.{_≡_, sym, ap, _∙_, subst}
 use mathlib.Core.Bool.{true, _&&_}

@@ -1,4 +1,4 @@
--- A plan looks at the done flags by their places, and one that is not there is clear. Assumes nothing.
+-- A plan looks at the done flags by their places, and one that is not there is clear.
 use Prim.Native.Nat.{ℕ, zero, suc, _+_, _-_, _≤_, _<_, min}
 use native.Mathlib.Omega.{arith}
 use mathlib.Core.Path.{_≡_, refl, sym, ap, _∙_}

@@ -1,4 +1,4 @@
--- One pass over the voices: those that pass a test go. Assumes nothing.
+-- One pass over the voices: those that pass a test go.
 use Prim.Native.Nat.{ℕ, _+_, _≤_}
 use native.Mathlib.Omega.{arith}
 use mathlib.Core.Path.{_≡_, refl, sym, ap, _∙_}

@@ -1,5 +1,4 @@
 -- The two passes of clearing.
--- Assumes nothing.
 use Prim.Native.Nat.{ℕ, _+_, _≤_, min}
 use mathlib.Core.Path.{_≡_}
 use mathlib.Core.List.{List, map}

@@ -1,5 +1,4 @@
 -- The laws of the loops over a table, for any row type: the count, closing gaps, and looking for the first row that passes.
--- Assumes nothing.
 use Prim.Native.Nat.{ℕ, _+_, _≤_, _<_, min}
 use native.Mathlib.Omega.{arith}
 use mathlib.Core.Path.{_≡_, sym, ap, _∙_}

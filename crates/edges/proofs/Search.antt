@@ -1,4 +1,4 @@
--- The laws of the port search and of the table of sources. Assumes nothing.
+-- The laws of the port search and of the table of sources.
 use Prim.Native.Nat.{ℕ, zero, suc, _+_, _-_, _≤_, _<_}
 use native.Mathlib.Omega.{arith}
 use native.Mathlib.Numerals.{add-one}

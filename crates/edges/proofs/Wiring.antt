@@ -1,4 +1,4 @@
--- Connecting: dropping the edge at a port makes a place if there was one. Assumes nothing.
+-- Connecting: dropping the edge at a port makes a place if there was one.
 use Prim.Native.Nat.{ℕ, _≤_, _<_}
 use native.Mathlib.Omega.{arith}
 use mathlib.Core.Path.{_≡_, refl, sym, ap, _∙_}

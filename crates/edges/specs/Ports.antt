@@ -1,6 +1,5 @@
 -- What can be asked of the edges: "the lowest port without an edge", the port that a source feeds, and the "table of source
 -- ids" that takes the place of the pointer scratch in `AudioGraph::render`.
--- Assumes nothing.
 use Prim.Native.Nat.{ℕ, zero, suc}
 use mathlib.Core.List.{List, [], _∷_}
 use mathlib.Core.Option.{Option, none, some}

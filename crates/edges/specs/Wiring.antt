@@ -1,6 +1,5 @@
 -- The edges of the graph as a list, in the order in which they were put: graph.rs, and "`connect` drops the edge at that
 -- port and appends".
--- Assumes nothing.
 use Prim.Native.Nat.{ℕ}
 use mathlib.Core.List.{List, [], _∷_, _++_}
 use mathlib.Core.Bool.{Bool, not, cond, _&&_, _||_}

@@ -1,5 +1,4 @@
 -- From the refusals to the landing: the room that each step leaves, and which refusals are left.
--- Assumes nothing.
 use Prim.Native.Nat.{ℕ, _+_}
 use native.Mathlib.Omega.{arith}
 use mathlib.Core.Path.{_≡_, refl, ap, _∙_}

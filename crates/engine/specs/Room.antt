@@ -1,6 +1,5 @@
 -- What stands between the refusals of a spawn and its landing: room for the newcomer, with its pan. A fade has used up no more
 -- than the one node, edge and id that headroom counts for it, and what is reclaimed only makes room.
--- Assumes nothing.
 use Prim.Native.Nat.{_+_, _≤_, _<_}
 use mathlib.Core.Path.{_≡_}
 use mathlib.Core.Bool.{true}

@@ -1,4 +1,4 @@
--- Freed voices, all gone at the end instead of each at its event. Assumes nothing.
+-- Freed voices, all gone at the end instead of each at its event.
 use Prim.Native.Nat.{ℕ, zero, suc, _+_, _≤_, _<_}
 use native.Mathlib.Omega.{arith}
 use mathlib.Core.Path.{_≡_, refl, sym, ap, _∙_}

@@ -1,4 +1,4 @@
--- The loops over lent ids: the first that is k, and whether they rise. Assumes nothing.
+-- The loops over lent ids: the first that is k, and whether they rise.
 use Prim.Native.Nat.{ℕ, suc, _+_, _≤_, _<_}
 use native.Mathlib.Omega.{arith}
 use mathlib.Core.Path.{_≡_, refl, sym, ap, _∙_}

@@ -1,4 +1,4 @@
--- Rows that are found by a number: what stands at the row, and one row changed in place. Assumes nothing.
+-- Rows that are found by a number: what stands at the row, and one row changed in place.
 use Prim.Native.Nat.{ℕ, zero, suc, _≤_, _<_}
 use native.Mathlib.Omega.{arith}
 use mathlib.Core.Path.{_≡_, refl, sym, ap}

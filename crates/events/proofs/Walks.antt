@@ -1,4 +1,4 @@
--- The walks over the due events, one at a time. Assumes nothing.
+-- The walks over the due events, one at a time.
 use Prim.Native.Nat.{ℕ, _+_, _≤_, _<_}
 use native.Mathlib.Omega.{arith}
 use mathlib.Core.Path.{_≡_, sym, ap, _∙_}

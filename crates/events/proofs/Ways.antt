@@ -1,4 +1,4 @@
--- The walk over the due events, one law for each way of an event through it. Assumes nothing.
+-- The walk over the due events, one law for each way of an event through it.
 use Prim.Native.Nat.{ℕ, _+_, _≤_, _<_, min}
 use native.Mathlib.Omega.{arith}
 use mathlib.Core.Path.{_≡_, refl, sym, ap, subst, _∙_}

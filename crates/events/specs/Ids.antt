@@ -1,5 +1,4 @@
 -- The ids of a table's rows as numbers, and whether they rise.
--- Assumes nothing.
 use Prim.Native.Nat.{ℕ, min}
 use mathlib.Core.Path.{_≡_}
 use mathlib.Core.List.{List, [], _∷_, map}

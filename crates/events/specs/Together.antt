@@ -1,5 +1,4 @@
 -- What the due events leave, found in one walk: the records of the nodes, and the voices that are freed.
--- Assumes nothing.
 use Prim.Native.Nat.{ℕ, _+_, _≤_}
 use mathlib.Core.Path.{_≡_}
 use mathlib.Core.List.{List}

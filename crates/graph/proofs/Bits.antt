@@ -1,4 +1,4 @@
--- A mask has a bit at or past k exactly if it is 2 to the k or more. Assumes nothing.
+-- A mask has a bit at or past k exactly if it is 2 to the k or more.
 use Prim.Native.Nat.{ℕ, _<_, _≤_, _*_, _/_, _^_}
 use native.Mathlib.Omega.{arith}
 use native.Mathlib.Nat.{div-eq-of-lt, le-div-iff-mul-le, one-mul}

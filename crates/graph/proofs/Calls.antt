@@ -1,4 +1,4 @@
--- What a call promises, from its refusal and the graph that it leaves. Assumes nothing.
+-- What a call promises, from its refusal and the graph that it leaves.
 use Prim.Native.Nat.{ℕ, _≤_, _<_}
 use native.Mathlib.Omega.{arith}
 use mathlib.Core.Path.{_≡_, refl, sym, ap, subst, _∙_}

@@ -1,4 +1,4 @@
--- The laws of the pass that parts the nodes that stay from those that go. Assumes nothing.
+-- The laws of the pass that parts the nodes that stay from those that go.
 use Prim.Native.Nat.{ℕ, _+_, _≤_, _<_, min}
 use native.Mathlib.Omega.{arith}
 use mathlib.Core.Path.{_≡_, sym, ap, _∙_}

@@ -1,4 +1,4 @@
--- Prepare's refusal and order, from its outcome. Assumes nothing.
+-- Prepare's refusal and order, from its outcome.
 use native.Mathlib.Omega.{arith}
 use Prim.Native.Nat.{ℕ}
 use mathlib.Core.Path.{_≡_, refl, sym, ap, _∙_}

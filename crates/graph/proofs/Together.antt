@@ -1,6 +1,5 @@
 -- Going one after the other is going together: the nodes that pass a test, and then those that pass another one, are those that
 -- pass the one or the other. The ids of the nodes need not be distinct.
--- Assumes nothing.
 use Prim.Native.Nat.{ℕ}
 use native.Mathlib.Decide.{ℕ-discrete}
 use mathlib.Core.Path.{_≡_, refl, sym, ap, fun-ext, _∙_}

@@ -1,6 +1,5 @@
 -- The host's calls, whole: what is answered, and the graph that is left. "Each refusal returns its number and leaves store and
 -- buffers unchanged." The number of a refusal is `numberOf`.
--- Assumes nothing.
 use Prim.Native.Nat.{ℕ}
 use mathlib.Core.List.{List}
 use mathlib.Core.Option.{Option, none, some}

@@ -1,6 +1,5 @@
 -- What each call that is not refused does to the graph: "Adding, removing, connecting or disconnecting makes it
 -- unprepared", and so does setting the sink.
--- Assumes nothing.
 use Prim.Native.Nat.{ℕ, _+_}
 use mathlib.Core.List.{List, [], _∷_, _++_, map}
 use mathlib.Core.Option.{some}

@@ -1,5 +1,4 @@
 -- Closed scenes: the definitions compute, and each scene shuts out a wrong rule that it names.
--- Assumes nothing.
 use Prim.Native.Nat.{ℕ, _+_, _*_}
 use mathlib.Core.Path.{_≡_, refl}
 use mathlib.Core.List.{List, [], _∷_, map}

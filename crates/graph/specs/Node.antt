@@ -1,5 +1,4 @@
 -- Live nodes: who they are, whose they are, and what a new one holds.
--- Assumes nothing.
 use Prim.Native.Nat.{ℕ}
 use mathlib.Core.List.{List, map}
 use mathlib.Core.Option.{Option, none, some}

@@ -1,6 +1,5 @@
 -- Prepare: the rows "13 required port unconnected" and "14 cycle among live nodes" of the refusal table, top first; else the
 -- graph is prepared, with its processing order. A refusal leaves the graph as it was.
--- Assumes nothing.
 use mathlib.Core.List.{map}
 use mathlib.Core.Option.{Option, none}
 use mathlib.Core.Bool.{true, not}

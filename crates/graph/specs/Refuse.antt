@@ -1,6 +1,5 @@
 -- The refusals of the host's calls: the rows "host nodes, wiring, sink, disconnecting, host removal" of the refusal table,
 -- top first.
--- Assumes nothing.
 use Prim.Native.Nat.{ℕ, _^_}
 use mathlib.Core.List.{List}
 use mathlib.Core.Option.{Option, none, some}

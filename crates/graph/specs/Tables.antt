@@ -1,5 +1,4 @@
 -- What the tables of a graph stand for, and what its calls promise.
--- Assumes nothing.
 use Prim.Native.Nat.{ℕ, _≤_}
 use mathlib.Core.Path.{_≡_}
 use mathlib.Core.List.{List}

@@ -1,5 +1,4 @@
 -- The graph as a value of plain lists. Every call on it is a function on this record.
--- Assumes nothing.
 use Prim.Native.Nat.{ℕ}
 use mathlib.Core.List.{List, []}
 use mathlib.Core.Option.{Option, none}

@@ -1,5 +1,4 @@
 -- The loop that copies a column, for any field f of a row: its invariant, its start, its step and its end.
--- Assumes nothing.
 use Prim.Native.Nat.{ℕ, _+_, _≤_, _<_, min}
 use native.Mathlib.Omega.{arith}
 use mathlib.Core.Path.{_≡_, refl, sym, ap, _∙_}

@@ -1,4 +1,4 @@
--- The loop that looks for a number. Assumes nothing.
+-- The loop that looks for a number.
 use Prim.Native.Nat.{ℕ, zero, suc, _+_, _≤_, _<_}
 use native.Mathlib.Omega.{arith}
 use mathlib.Core.Path.{_≡_, refl, sym, ap, _∙_}

@@ -1,5 +1,4 @@
 -- A column of the node table: what each row holds, in the first places of an array.
--- Assumes nothing.
 use Prim.Native.Nat.{ℕ, min}
 use mathlib.Core.Path.{_≡_}
 use mathlib.Core.List.{List, map}

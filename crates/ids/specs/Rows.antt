@@ -1,4 +1,4 @@
--- The row of a number among the ids of a table is the row of the first record with that id. Assumes nothing.
+-- The row of a number among the ids of a table is the row of the first record with that id.
 use Prim.Native.Nat.{ℕ, zero, suc}
 use native.Mathlib.Omega.{arith}
 use mathlib.Core.Path.{_≡_, refl}

@@ -1,7 +1,6 @@
 -- Where there is room, what is put into the graph is what the model says. A newcomer of n nodes and e edges needs n + 2 nodes,
 -- e + 3 edges and n + 2 ids; a fade needs one node, two edges and one id, and leaves one node, one edge and one id fewer: its
 -- edge to the bus replaces the feeder's. Together these are the headroom of a spawn.
--- Assumes nothing.
 use Prim.Native.Nat.{ℕ, _+_, _≤_, _<_, min}
 use native.Mathlib.Omega.{arith}
 use native.Mathlib.Nat.{min-le-left}

@@ -1,6 +1,5 @@
 -- A victim that is to fade: "takes the port of the bus that the victim's output or pan node feeds at that moment"; "a victim that
 -- feeds none there, and only such a one, cannot fade". With room the graph is the model's `fadeGraph` (proofs/Room.antt).
--- Assumes nothing.
 use Prim.Native.Nat.{ℕ}
 use mathlib.Core.Option.{Option, none, some}
 use mathlib.Core.Bool.{Bool, true, false}

@@ -1,7 +1,6 @@
 -- What a fade and a newcomer put into the graph, for every graph: where there is room, what the model's `fadeGraph` and
 -- `landGraph` say (proofs/Room.antt). Without a place or an id for each node the graph stays as it was; of the edges those
 -- without a place are left out; an id past the last is the last.
--- Assumes nothing.
 use Prim.Native.Nat.{ℕ, _+_, _≤_}
 use mathlib.Core.List.{List, [], _∷_, _++_, map}
 use mathlib.Core.Bool.{Bool, false, cond, _&&_}

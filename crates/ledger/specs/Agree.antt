@@ -1,6 +1,5 @@
 -- The model and the ledger agree, call by call and on every list of calls: the same answers, and the store that the ledger stands
 -- for. What is kept on the way is that the ledger is sound.
--- Assumes nothing.
 use Prim.Native.Nat.{ℕ, _≤_, _<_}
 use native.Mathlib.Omega.{arith}
 use mathlib.Core.Path.{_≡_, refl, sym, ap, ap₂, _∙_, subst}

@@ -1,6 +1,5 @@
 -- Where a fade comes from: it was there before the call, with the count that the call's answer gives; or a managed spawn has just begun
 -- it, of a tracked voice, with count 0.
--- Assumes nothing.
 use Prim.Native.Nat.{ℕ}
 use mathlib.Core.Path.{_≡_, refl, sym, ap, _∙_, subst}
 use mathlib.Core.Logic.{_⊎_, inl, inr, ⊎-elim}

@@ -1,6 +1,5 @@
 -- When a managed spawn that 01 allows is refused. With a budget above 0 and a policy that steals it is refused exactly when every
 -- port of its bus is held by a node of no tracked or fading voice of that bus: "no port, nothing left to reclaim".
--- Assumes nothing.
 use Prim.Native.Nat.{ℕ, zero, suc, _+_, _≤_, _<_}
 use native.Mathlib.Omega.{arith}
 use native.Mathlib.Decide.{ℕ-discrete}

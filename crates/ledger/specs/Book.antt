@@ -1,5 +1,4 @@
 -- The steal records by their numbers: which are held, and what a new record and a mark do to each.
--- Assumes nothing.
 use Prim.Native.Nat.{ℕ, zero, suc, _+_, _-_, _≤_, _<_}
 use native.Mathlib.Omega.{arith}
 use native.Mathlib.Nat.{min-eq-left}

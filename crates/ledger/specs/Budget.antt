@@ -1,6 +1,5 @@
 -- "At budget (all, or those of the bus under `PerGroup`)": tracked voices never exceed the budget. "Without a budget nobody is
 -- tracked, stolen or reclaimed."
--- Assumes nothing.
 use Prim.Native.Nat.{ℕ, suc, _≤_, _<_}
 use native.Mathlib.Omega.{arith}
 use mathlib.Core.Path.{_≡_, refl, sym, ap, _∙_, subst}

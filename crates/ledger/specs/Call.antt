@@ -1,5 +1,4 @@
 -- The ledger's answer to each call, and to a list of calls.
--- Assumes nothing.
 use Prim.Native.Nat.{ℕ, _*_}
 use mathlib.Core.List.{List, [], _∷_, map}
 use mathlib.Core.Option.{Option, none, some}

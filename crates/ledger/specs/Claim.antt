@@ -4,7 +4,6 @@
 -- Read with 01's "The ledger" and "Contracts": a fade that moves only at the first steal or never contradicts `ends`; "no port" before
 -- reclaiming, a store refusing all spawns, and one that does nothing contradict `spawns`; steal records counted at will contradict
 -- `quiet`, `marks` and `writes`.
--- Assumes nothing.
 use Prim.Native.Nat.{ℕ, suc, _+_, _≤_, _<_, _*_}
 use native.Mathlib.Omega.{arith}
 use mathlib.Core.Path.{_≡_, refl, sym, ap, _∙_, subst}

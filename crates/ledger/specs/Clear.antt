@@ -1,5 +1,4 @@
 -- "Clearing: as above; ended is count × block at least L."
--- Assumes nothing.
 use Prim.Native.Nat.{ℕ, _+_, _*_}
 use mathlib.Core.List.{List, [], _∷_}
 use mathlib.Core.Bool.{Bool, true, false}

@@ -1,6 +1,5 @@
 -- What a clearing leaves: exactly the voices whose fade has not ended and whose plan is not silent, in their order; and it answers how
 -- many it removed.
--- Assumes nothing.
 use Prim.Native.Nat.{ℕ, suc, _+_, _-_, _*_, _/_, _≤_, _<_}
 use native.Mathlib.Omega.{arith}
 use native.Mathlib.Nat.{suc-mul, div-lt-iff-lt-mul}

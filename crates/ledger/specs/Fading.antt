@@ -1,5 +1,4 @@
 -- A fade begins: "takes the port of the bus that the victim's output or pan node feeds at that moment". The voice keeps its port.
--- Assumes nothing.
 use Prim.Native.Nat.{ℕ, _+_, _<_}
 use native.Mathlib.Omega.{arith}
 use mathlib.Core.Path.{_≡_, refl, sym, ap, _∙_, subst}

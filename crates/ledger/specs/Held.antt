@@ -1,6 +1,5 @@
 -- The holders that the edges give: a port of a host node is held by the owner of the source of its edge. And what each change of
 -- nodes and edges does to them.
--- Assumes nothing.
 use Prim.Native.Nat.{ℕ, zero, suc, _<_}
 use native.Mathlib.Omega.{arith}
 use native.Mathlib.Decide.{ℕ-discrete}

@@ -1,5 +1,4 @@
 -- The count of a fade over a list of calls: it is the number of sounding renders since the managed spawn that stole the voice.
--- Assumes nothing.
 use Prim.Native.Nat.{ℕ}
 use mathlib.Core.Path.{_≡_, refl, sym, ap, _∙_, subst}
 use mathlib.Core.List.{List, [], _∷_, _++_, append-assoc, append-nil}

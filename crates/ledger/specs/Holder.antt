@@ -1,5 +1,4 @@
 -- "Each port of a host node has a holder: host node, voice or none."
--- Assumes nothing.
 use Prim.Native.Nat.{ℕ}
 use mathlib.Core.Bool.{Bool, true, false, cond, _&&_}
 use lib.Dec.{eqb}

@@ -1,5 +1,4 @@
 -- Voices stand by rising id; ids start at 1, and none is above the number given out. So no two voices have one id.
--- Assumes nothing.
 use Prim.Native.Nat.{ℕ, suc, _+_, _≤_, _<_}
 use native.Mathlib.Omega.{arith}
 use mathlib.Core.Path.{_≡_, refl, sym, ap, _∙_}

@@ -1,5 +1,4 @@
 -- A newcomer lands: its nodes come under the next ids, its wires join only them, and its feeder takes the port found.
--- Assumes nothing.
 use Prim.Native.Nat.{ℕ, _+_, _≤_, _<_}
 use native.Mathlib.Omega.{arith}
 use mathlib.Core.Path.{_≡_, refl, sym, ap, _∙_, subst}

@@ -1,6 +1,5 @@
 -- How a fading voice goes on and how it leaves: each sounding render raises its count by one and nothing else does; it leaves by a
 -- free, called or timed, at a clearing for its end or its silence, or by a reclaim.
--- Assumes nothing.
 use Prim.Native.Nat.{ℕ, suc, _<_}
 use native.Mathlib.Omega.{arith}
 use native.Mathlib.Decide.{ℕ-discrete}

@@ -1,7 +1,6 @@
 -- 01's ledger: "fed the calls with all their arguments, making's too, and nothing from the store". Ports are decided by their
 -- holders and fades by counts of sounding renders: in a fading voice's record `position` is that count here. What the rules
 -- give both, it shares with the model: nodes, edges, ids, clock, events, reports, steal records, policy, level, silence.
--- Assumes nothing.
 use Prim.Native.Nat.{ℕ, zero, suc, _+_, _*_, min}
 use mathlib.Core.List.{List, [], _∷_, _++_, map}
 use mathlib.Core.Option.{Option, none, some}

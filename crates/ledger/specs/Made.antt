@@ -1,5 +1,4 @@
 -- What an accepted making gives: its rate is a whole 1 to 384,000, so that the fade length is short, and its block has a sample.
--- Assumes nothing.
 use Prim.Native.Nat.{ℕ, _*_, _/_, _%_, _≤_, _<_}
 use native.Mathlib.Omega.{arith}
 use mathlib.Core.Path.{_≡_, refl, sym}

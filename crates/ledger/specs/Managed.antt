@@ -1,5 +1,4 @@
 -- A managed spawn taken apart: rejected, admitted, or let in after a steal; and that voices keep distinct ids through every list.
--- Assumes nothing.
 use Prim.Native.Nat.{ℕ, suc}
 use mathlib.Core.Path.{_≡_, refl, sym, _∙_, subst}
 use mathlib.Core.List.{List, [], _∷_}

@@ -2,7 +2,6 @@
 -- earliest-started fade of that bus ... and mark its record, if still held, cut". No call but a managed spawn writes a record or
 -- marks one; there a record is marked for a fade of that bus that went in this very call, and one is written for each voice that
 -- was tracked and is not any more.
--- Assumes nothing.
 use Prim.Native.Nat.{ℕ, suc, _+_, _≤_, _<_}
 use native.Mathlib.Omega.{arith}
 use native.Mathlib.Decide.{ℕ-discrete}

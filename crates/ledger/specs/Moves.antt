@@ -1,5 +1,4 @@
 -- What is not a spawn: frees, clearing, values, glides, reports, prepare and render of the model and of the ledger agree.
--- Assumes nothing.
 use Prim.Native.Nat.{ℕ, _+_, _≤_, _<_}
 use mathlib.Core.Path.{_≡_, refl, sym, ap, ap₂, _∙_, subst}
 use mathlib.Core.Logic.{inl, inr}

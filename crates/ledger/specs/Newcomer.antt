@@ -1,5 +1,4 @@
 -- The newcomer of an allowed definition: its nodes are its own, its wires join them, and one of them feeds the bus.
--- Assumes nothing.
 use Prim.Native.Nat.{ℕ, _+_, _<_}
 use native.Mathlib.Omega.{arith}
 use native.Mathlib.Nat.{zero-add}

@@ -1,6 +1,5 @@
 -- A voice's definition's nodes are its own: a live node whose id is one of its places belongs to it. So the going of other voices
 -- leaves its done flags, and its silence is its own.
--- Assumes nothing.
 use Prim.Native.Nat.{ℕ, _+_, _≤_, _<_, min}
 use native.Mathlib.Omega.{arith}
 use native.Mathlib.Nat.{min-le-left}

@@ -1,5 +1,4 @@
 -- Who owns the node of an id, and what appending, removing and replacing nodes does to that.
--- Assumes nothing.
 use Prim.Native.Nat.{ℕ, _+_, _≤_, _<_}
 use native.Mathlib.Omega.{arith}
 use mathlib.Core.Path.{_≡_, refl, sym, ap, _∙_}

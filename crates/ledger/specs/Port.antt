@@ -1,6 +1,5 @@
 -- The port search: the lowest port that passes; that it is the same by holders as by edges; and that the port which a tracked
 -- voice holds is the one that its feeder feeds.
--- Assumes nothing.
 use Prim.Native.Nat.{ℕ, zero, suc, _+_, _≤_, _<_}
 use native.Mathlib.Omega.{arith}
 use native.Mathlib.Decide.{ℕ-discrete}

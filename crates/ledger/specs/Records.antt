@@ -1,6 +1,5 @@
 -- The steal records of every run: each steal has a voice id of its own, so that the count never ends; the newest 64 are held; each
 -- fade has a record of its own.
--- Assumes nothing.
 use Prim.Native.Nat.{ℕ, suc, _+_, _≤_, _<_}
 use native.Mathlib.Omega.{arith}
 use mathlib.Core.Path.{_≡_, refl, sym, ap, _∙_, subst}

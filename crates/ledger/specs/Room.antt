@@ -1,6 +1,5 @@
 -- The tables hold what every list of calls makes: 512 live nodes, 1,024 edges, 64 voices, 256 pending events, and the newest 64 steal
 -- records. So nothing overflows in the store.
--- Assumes nothing.
 use Prim.Native.Nat.{ℕ, suc, _+_, _≤_, _<_, min}
 use native.Mathlib.Omega.{arith}
 use native.Mathlib.Nat.{min-le-left}

@@ -1,6 +1,5 @@
 -- The store that a ledger stands for: the same desk, and the voices with positions for counts. Who goes, and what is recorded,
 -- does not depend on how far a fade has come.
--- Assumes nothing.
 use Prim.Native.Nat.{ℕ, _+_, _*_, _≤_, min}
 use native.Mathlib.Omega.{arith}
 use native.Mathlib.Nat.{zero-mul, suc-mul}

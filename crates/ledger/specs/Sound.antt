@@ -1,6 +1,5 @@
 -- A sound ledger: its nodes are listed, its edges and voices keep the invariant, and its holders are those that the edges give.
 -- Each change of the graph keeps it.
--- Assumes nothing.
 use Prim.Native.Nat.{ℕ, _+_, _≤_, _<_}
 use native.Mathlib.Omega.{arith}
 use mathlib.Core.Path.{_≡_, refl, sym, ap, _∙_}

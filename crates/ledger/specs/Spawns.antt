@@ -1,5 +1,4 @@
 -- Spawns of the model and of the ledger agree: the same answer, and a store that is the ledger's, which stays sound.
--- Assumes nothing.
 use Prim.Native.Nat.{ℕ, zero, suc, _<_}
 use native.Mathlib.Omega.{arith}
 use mathlib.Core.Path.{_≡_, refl, sym, ap, _∙_, subst}

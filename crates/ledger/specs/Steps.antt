@@ -2,7 +2,6 @@
 -- here each call is taken apart into them once. `Steady` has the moves of all calls but a managed spawn: `steady-step` is for
 -- those calls, `kept-step` and `kept-run` are for all, given what a managed spawn does. The port search of a spawn is taken apart
 -- by `place-kept`, a managed spawn by `managed-kept` of `Managed`.
--- Assumes nothing.
 use Prim.Native.Nat.{ℕ, zero, suc, _+_, _<_}
 use mathlib.Core.Path.{_≡_, refl, sym, ap, _∙_}
 use mathlib.Core.List.{List, [], _∷_, _++_, map}

@@ -1,6 +1,5 @@
 -- No run reaches 2^64 - 1 samples: the clock stays below, and a fade has sounded no longer than it stands. So a fade's position is
 -- its count of sounding renders × block.
--- Assumes nothing.
 use Prim.Native.Nat.{ℕ, _+_, _*_, _≤_, min}
 use native.Mathlib.Omega.{arith}
 use native.Mathlib.Nat.{zero-mul}

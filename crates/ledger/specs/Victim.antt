@@ -1,6 +1,5 @@
 -- Who goes is one of the voices: the victim of an admission is tracked and counts for the newcomer, and the next to be
 -- reclaimed is tracked or fading on the bus. Where nobody is found there is nobody.
--- Assumes nothing.
 use Prim.Native.Nat.{ℕ, suc, _≤_, _<_}
 use native.Mathlib.Omega.{arith}
 use mathlib.Core.Path.{_≡_, refl, sym, ap, _∙_, subst}

@@ -1,7 +1,6 @@
 -- What every run keeps of edges and voices, over `own`, the owner of each live node: one edge per port, both ends of each edge
 -- live, and its port one of the target's where the target is a host node; voices stand by rising id, each with its feeder, on a
 -- bus of the host; what a voice feeds is one port, of its own bus, and from its feeder while it is tracked.
--- Assumes nothing.
 use Prim.Native.Nat.{ℕ, _≤_, _<_}
 use native.Mathlib.Omega.{arith}
 use mathlib.Core.Path.{_≡_, refl, sym, ap, _∙_, subst}

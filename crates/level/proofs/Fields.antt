@@ -1,4 +1,4 @@
--- What the bits of a binary64 value say of it: its value from the exponent's field and the digits, for either sign. Assumes nothing.
+-- What the bits of a binary64 value say of it: its value from the exponent's field and the digits, for either sign.
 use mathlib.Core.Path.{_≡_, refl, sym, ap, _∙_, subst}
 use Prim.Native.Nat.{ℕ, suc, _+_, _-_, _*_, _/_, _%_, _^_, _<_}
 use native.Mathlib.Omega.{arith}

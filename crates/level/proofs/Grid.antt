@@ -1,4 +1,4 @@
--- The numbers of P + 1 binary digits times a power of two. Assumes nothing.
+-- The numbers of P + 1 binary digits times a power of two.
 use mathlib.Core.Path.{_≡_, sym, ap, _∙_}
 use mathlib.Core.Logic.{_⊎_, inl, inr}
 use Prim.Native.Nat.{ℕ, suc, _+_, _-_, _*_, _^_, _≤_, _<_}

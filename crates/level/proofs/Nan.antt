@@ -1,4 +1,4 @@
--- How the code makes a NaN and tests for one, in either format. Assumes nothing.
+-- How the code makes a NaN and tests for one, in either format.
 use mathlib.Core.Path.{_≡_, refl, sym, ap, _∙_, subst}
 use mathlib.Core.Bool.{Bool, true, false, not}
 use Prim.Native.Nat.{ℕ, _*_, _%_, _≤_}

@@ -1,4 +1,4 @@
--- `narrow_bits` on plain numbers: the bits of the nearest binary32 value, from those of a binary64 one. Assumes nothing.
+-- `narrow_bits` on plain numbers: the bits of the nearest binary32 value, from those of a binary64 one.
 use mathlib.Core.Path.{_≡_, refl, sym, ap, _∙_, subst}
 use mathlib.Core.Logic.{_⊎_, inl, inr}
 use Prim.Native.Nat.{ℕ, _+_, _-_, _*_, _/_, _%_, _^_, _≤_, _<_}

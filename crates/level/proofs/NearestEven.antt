@@ -1,4 +1,4 @@
--- The kit's `round`, and so `narrow`, is the nearest value, at a tie the even one. Assumes nothing.
+-- The kit's `round`, and so `narrow`, is the nearest value, at a tie the even one.
 use mathlib.Core.Path.{_≡_, refl, sym, ap, _∙_, subst}
 use mathlib.Core.Logic.{_⊎_, inl, inr}
 use Prim.Native.Nat.{ℕ, suc, _+_, _-_, _*_, _/_, _%_, _^_, _≤_, _<_, Ordering·lt, Ordering·eq, Ordering·gt}

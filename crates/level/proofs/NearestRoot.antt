@@ -1,4 +1,4 @@
--- `sqrt` is the nearest binary64 value to the root: no other is as near, by the squares of the numbers halfway. Assumes nothing.
+-- `sqrt` is the nearest binary64 value to the root: no other is as near, by the squares of the numbers halfway.
 use mathlib.Core.Path.{_≡_, refl, sym, ap, _∙_, subst}
 use mathlib.Core.Logic.{_⊎_, inl, inr}
 use Prim.Native.Nat.{ℕ, zero, suc, _+_, _-_, _*_, _/_, _%_, _^_, _≤_, _<_}

@@ -1,4 +1,4 @@
--- A rounded number as a bit pattern: the digits kept, and how many were dropped times the weight of the exponent's field. Assumes nothing.
+-- A rounded number as a bit pattern: the digits kept, and how many were dropped times the weight of the exponent's field.
 use mathlib.Core.Path.{_≡_, refl, sym, ap, _∙_, subst}
 use mathlib.Core.Logic.{_⊎_, inl, inr}
 use Prim.Native.Nat.{ℕ, suc, _+_, _-_, _*_, _/_, _%_, _^_, _≤_, _<_, compare}

@@ -1,4 +1,4 @@
--- The root's digits and its bits: `rounded` from any 53 digits that the root lies at, and the digits that `root_digits` finds. Assumes nothing.
+-- The root's digits and its bits: `rounded` from any 53 digits that the root lies at, and the digits that `root_digits` finds.
 use mathlib.Core.Path.{_≡_, refl, sym, ap, _∙_}
 use mathlib.Core.Logic.{inr}
 use Prim.Native.Nat.{ℕ, zero, suc, _+_, _-_, _*_, _/_, _%_, _^_, _≤_, _<_}

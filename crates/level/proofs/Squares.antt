@@ -1,4 +1,4 @@
--- Squares, and the root cut to a whole number. Assumes nothing.
+-- Squares, and the root cut to a whole number.
 use mathlib.Core.Path.{_≡_, refl, sym, ap, _∙_, subst}
 use Prim.Native.Nat.{ℕ, zero, suc, _+_, _*_, _/_, _^_, _≤_, _<_}
 use native.Mathlib.Nat.{le-trans, le-of-eq, lt-of-lt-of-le, lt-of-not-le, not-le-of-lt, mul-assoc, mul-comm, mul-left-comm, mul-pos, mul-le-mul, mul-le-mul-left, mul-one, add-mul, mul-add, pow-suc, pow-succ'}

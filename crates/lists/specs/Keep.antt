@@ -1,5 +1,4 @@
 -- The rows that pass a test: what removal leaves of a table.
--- Assumes nothing.
 use Prim.Native.Nat.{_≤_}
 use native.Mathlib.Omega.{arith}
 use mathlib.Core.Path.{_≡_, refl, sym, ap, _∙_}

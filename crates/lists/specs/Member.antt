@@ -1,5 +1,4 @@
 -- Membership, and laws on Bools and options that the other files share.
--- Assumes nothing.
 use Prim.Native.Nat.{ℕ}
 use native.Mathlib.Omega.{arith}
 use mathlib.Core.Path.{_≡_, refl, ap}

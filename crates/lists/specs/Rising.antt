@@ -1,5 +1,4 @@
 -- Rows that stand by rising number, as nodes and voices do by their ids; so no two have the same one.
--- Assumes nothing.
 use Prim.Native.Nat.{ℕ, suc, _≤_, _<_}
 use native.Mathlib.Omega.{arith}
 use mathlib.Core.Path.{_≡_, refl, sym, ap, _∙_}

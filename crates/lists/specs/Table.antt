@@ -1,7 +1,6 @@
 -- A table is an array of rows and a count: its rows are the first `count`, and a count above the capacity is the capacity.
 -- The laws of loops that walk, extend and close such a table, for any row type and capacity; `i + 1` as the code says it.
 -- What the toolchain has already (`take-suc-set`, `take-set-le`, `getD-take`, `drop-cons`, `set-at` of `lib.Seq`) is cited.
--- Assumes nothing.
 use Prim.Native.Nat.{ℕ, suc, _+_, _-_, _≤_, _<_, min}
 use native.Mathlib.Omega.{arith}
 use native.Mathlib.Numerals.{add-one}

@@ -1,5 +1,4 @@
 -- What making answers, as the model says it.
--- Assumes nothing.
 use Prim.Native.Nat.{ℕ}
 use mathlib.Core.Option.{Option, none, some}
 use lib.Ieee.{Float}

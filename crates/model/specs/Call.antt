@@ -1,6 +1,5 @@
 -- The store's calls as one datatype, each a function from a model to an answer and a model; and a list of calls, where "each
 -- call gets the store that the last left".
--- Assumes nothing.
 use Prim.Native.Nat.{ℕ}
 use mathlib.Core.List.{List, [], _∷_}
 use mathlib.Core.Option.{Option, none, some}

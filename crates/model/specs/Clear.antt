@@ -1,6 +1,5 @@
 -- Clearing (`free_done_synths`): "first the voices whose fade has ended, in voice order, then those whose done plan is silent;
 -- it answers how many it removed."
--- Assumes nothing.
 use Prim.Native.Nat.{ℕ, _+_, min}
 use mathlib.Core.List.{List, [], _∷_, map}
 use mathlib.Core.Option.{Option, none, some}

@@ -1,6 +1,5 @@
 -- Scenes of clearing: "first the voices whose fade has ended, in voice order, then those whose done plan is silent; it answers
 -- how many it removed."
--- Assumes nothing.
 use mathlib.Core.Path.{_≡_, refl}
 use mathlib.Core.List.{List, [], _∷_}
 use mathlib.Core.Option.{none, some}

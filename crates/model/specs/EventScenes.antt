@@ -1,5 +1,4 @@
 -- Scenes of events, values and glides: when an event is taken, in which order, what it does, and what a render then answers.
--- Assumes nothing.
 use Prim.Native.Nat.{ℕ}
 use Prim.Native.String.{String}
 use mathlib.Core.Path.{_≡_, refl}

@@ -1,5 +1,4 @@
 -- The examples of the scope, as one table over the definitions, proved by one computed check: the marked ones first.
--- Assumes nothing.
 use Prim.Native.Nat.{ℕ, suc}
 use mathlib.Core.Path.{_≡_, refl}
 use mathlib.Core.List.{List, [], _∷_, map}

@@ -1,6 +1,5 @@
 -- Scenes of levels and reports: "none until the clock passes the birth sample, and none for an unknown voice or a dead output.
 -- Else, over the last reported block .. Before any report it is 0."
--- Assumes nothing.
 use mathlib.Core.Path.{_≡_, refl}
 use mathlib.Core.List.{[], _∷_}
 use mathlib.Core.Bool.{false}

@@ -1,5 +1,4 @@
 -- Making a store: 1, 2, 3, or a new store.
--- Assumes nothing.
 use Prim.Native.Nat.{ℕ}
 use mathlib.Core.List.{List, []}
 use mathlib.Core.Option.{Option, none, some}

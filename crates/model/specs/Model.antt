@@ -1,5 +1,4 @@
 -- The store as a value of plain lists. Here ports are decided by edges and fades by positions.
--- Assumes nothing.
 use Prim.Native.Nat.{ℕ, zero, suc, _+_, min}
 use mathlib.Core.List.{List, [], _∷_, _++_, map}
 use mathlib.Core.Option.{Option, none, some}

@@ -1,6 +1,5 @@
 -- "12: no port, nothing left to reclaim": the bus that 12 leaves has no port without an edge, and under a budget nobody is left
 -- to reclaim. So the search never gives up early. Of every model.
--- Assumes nothing.
 use Prim.Native.Nat.{ℕ, zero, suc, _≤_}
 use native.Mathlib.Omega.{arith}
 use mathlib.Core.Path.{_≡_, refl, subst, sym, ap, _∙_}

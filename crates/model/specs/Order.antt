@@ -1,5 +1,4 @@
 -- Values, glides and reports: what changes the record of a node.
--- Assumes nothing.
 use Prim.Native.Nat.{ℕ, _+_}
 use mathlib.Core.List.{List}
 use mathlib.Core.Option.{Option, none, some}

@@ -1,6 +1,5 @@
 -- "The page": "a header and a line for each voice in voice order: id, clock less birth, port given at its spawn, state (`held`
 -- tracked, `fading`, `loose` otherwise), all decimal, one space between, a line feed after each".
--- Assumes nothing.
 use Prim.Native.Nat.{ℕ, _-_}
 use mathlib.Core.List.{List, [], _∷_, _++_}
 use Rattle.node.specs.Silence.{bytes}

@@ -1,5 +1,4 @@
 -- Scenes of admission: who counts at budget, and which voice each policy and scope takes.
--- Assumes nothing.
 use Prim.Native.Nat.{ℕ}
 use mathlib.Core.Path.{_≡_, refl}
 use mathlib.Core.List.{List, [], _∷_}

@@ -1,5 +1,4 @@
 -- Scenes of stealing and reclaiming: who goes when a bus has no free port, who fades and who cannot, and what the records say.
--- Assumes nothing.
 use Prim.Native.Nat.{ℕ}
 use mathlib.Core.Path.{_≡_, refl}
 use mathlib.Core.List.{List, [], _∷_, _++_}

@@ -1,6 +1,5 @@
 -- Scenes of the newest 64 records: "mark its record, if still held, cut". A record is still held if its number is at least the
 -- total less 64, counted after this spawn's own admission record.
--- Assumes nothing.
 use Prim.Native.Nat.{ℕ, zero, suc}
 use mathlib.Core.Path.{_≡_, refl}
 use mathlib.Core.List.{List, [], _∷_, map}

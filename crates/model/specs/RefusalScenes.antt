@@ -1,6 +1,5 @@
 -- Scenes of the refusal table, "top first": every number at its place, mostly where the number of a lower row holds too. 13 and 14 are in
 -- `SoundingScenes`, 15 and the 7 of events in `EventScenes`, 4 and 16 of a report in `LevelScenes`.
--- Assumes nothing.
 use Prim.Native.Nat.{ℕ}
 use mathlib.Core.Path.{_≡_, refl}
 use mathlib.Core.List.{List, [], _∷_, _++_, map}

@@ -1,6 +1,5 @@
 -- The refusals of making, of the spawns and of a report, in the order of the table "Where each refusal is checked, top first".
 -- Those of the host's calls are the graph's.
--- Assumes nothing.
 use Prim.Native.Nat.{ℕ, _+_, _*_, _^_}
 use mathlib.Core.List.{List}
 use mathlib.Core.Option.{Option, none, some}

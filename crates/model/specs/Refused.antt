@@ -1,6 +1,5 @@
 -- "Each refusal returns its number and leaves store and buffers unchanged; 12 leaves the steals and reclaims made." Of every
 -- call and every model, also of one that no calls make.
--- Assumes nothing.
 use Prim.Native.Nat.{ℕ, zero, suc}
 use mathlib.Core.Path.{_≡_, refl, sym, ap, _∙_}
 use mathlib.Core.Logic.{_⊎_, inl, inr, ⊎-elim}

@@ -1,6 +1,5 @@
 -- The vocabulary of the scenes: a store, the calls in short, and what is looked at. A scene is a closed list of calls that
 -- computes to its literal outcome; each names the wrong rule that it refuses.
--- Assumes nothing.
 use Prim.Native.Nat.{ℕ}
 use Prim.Native.String.{String}
 use mathlib.Core.List.{List, [], _∷_, map}

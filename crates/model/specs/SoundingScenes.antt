@@ -1,6 +1,5 @@
 -- Scenes of sounding: when a render sounds, what makes the graph unprepared, what a failed prepare leaves, and the processing
 -- order.
--- Assumes nothing.
 use mathlib.Core.Path.{_≡_, refl}
 use mathlib.Core.List.{List, [], _∷_}
 use mathlib.Core.Option.{none, some}

@@ -1,5 +1,4 @@
 -- What a spawn puts into the graph, and who goes for it: the parts of 01's "Managed spawn" that do not ask who holds a port.
--- Assumes nothing.
 use Prim.Native.Nat.{ℕ, zero, suc, _+_, _^_}
 use mathlib.Core.List.{List, [], _∷_, _++_, map}
 use mathlib.Core.Option.{Option, none, some}

@@ -1,5 +1,4 @@
 -- Scenes of what a spawn creates: nodes and edges in their order, pan, ids and the noise sequence.
--- Assumes nothing.
 use Prim.Native.Nat.{ℕ}
 use Prim.Native.String.{String}
 use mathlib.Core.Path.{_≡_, refl}

@@ -1,5 +1,4 @@
 -- What the store's tables stand for: the model. What lies past a count is no part of the store.
--- Assumes nothing.
 use mathlib.Core.List.{List}
 use Rattle.lists.specs.Table.{rowsOf}
 use Rattle.graph.specs.Tables.{viewOf}

@@ -1,7 +1,6 @@
 -- Voices: who they are, their states, the node that they sound through, their level, and how a fade begins and moves.
 -- A fade's `position` is a number of samples in the model. The ledger keeps the same record and has there the count of
 -- sounding renders.
--- Assumes nothing.
 use Prim.Native.Nat.{ℕ, _+_}
 use mathlib.Core.List.{List, map}
 use mathlib.Core.Option.{Option, none, some}

@@ -1,5 +1,4 @@
 -- A text at the start of a lent buffer: the bytes after it stay.
--- Assumes nothing.
 use Prim.Native.Nat.{ℕ}
 use mathlib.Core.List.{List, _++_}
 use lib.ListN.{length, drop}

@@ -1,5 +1,4 @@
 -- Names: "Names (`String`) become byte strings of 1 to 16 bytes."
--- Assumes nothing.
 use Prim.Native.Nat.{ℕ, _-_}
 use mathlib.Core.List.{List, [], _∷_, _++_}
 use mathlib.Core.Bool.{Bool, true, false, _&&_, cond}

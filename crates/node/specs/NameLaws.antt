@@ -1,6 +1,5 @@
 -- What the tests on names say: `sameName` is true exactly for two names of one byte string, and a lookup in a table of names,
 -- of any length, exactly for the byte strings that the table lists.
--- Assumes nothing.
 use Prim.Native.Nat.{ℕ, _≤_}
 use mathlib.Core.Path.{_≡_, refl, sym, ap, _∙_}
 use mathlib.Core.Logic.{inl, inr}

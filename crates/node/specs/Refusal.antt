@@ -1,5 +1,4 @@
 -- The refusals and their numbers: the table "Where each refusal is checked, top first".
--- Assumes nothing.
 use Prim.Native.Nat.{ℕ}
 use Rattle.node.specs.declared.refusal.Refusal.{Refusal}
 use Rattle.node.specs.declared.refusal.Refusal.the-variants.{SampleRate, BlockSize, BudgetTooLarge, UnknownNode, VoiceNode, PortOrKind, TableFull, IdsUsedUp, DefinitionLimits, BusWithoutPorts, Rejected, NoPort, RequiredPort, Cycle, ClockEnd, LentBlock, ShortBuffer}

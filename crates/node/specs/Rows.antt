@@ -1,6 +1,5 @@
 -- The rows of the graph's two tables: "512 live nodes, 1,024 edges". Nodes stand by rising id, edges in the order in which
 -- they were put.
--- Assumes nothing.
 use mathlib.Core.List.{List}
 use Rattle.lists.specs.Table.{rowsOf}
 use Rattle.node.specs.declared.record.Node.{Node}

@@ -1,7 +1,6 @@
 -- The silence rule by the name of a kind. 01: "A node is silent if its done flag is set, or by its kind name: `Mul`: some
 -- connected source is silent; `Div`: that of port 0; `Add`, `Sub`: every port connected, at least one, all silent; `FmOp`:
 -- source of `level`; `Paf`: of `amp`; `Neg` and the 27 names in `SILENCE_PASS_THROUGH`: of `in`; other names: not."
--- Assumes nothing.
 use Prim.Native.Nat.{ℕ}
 use Prim.Native.Char.{code}
 use Prim.Native.String.{String, [] as []ˢ, _∷_ as _∷ˢ_}

@@ -1,4 +1,4 @@
--- The rows that stand for what lies past a table's end. Assumes nothing.
+-- The rows that stand for what lies past a table's end.
 use mathlib.Core.List.{[]}
 use mathlib.Core.Bool.{false}
 use lib.Ieee.{nan}

@@ -1,4 +1,4 @@
--- The laws of the row of an id. Assumes nothing.
+-- The laws of the row of an id.
 use Prim.Native.Nat.{ℕ, zero, suc, _+_, _-_, _≤_, _<_}
 use native.Mathlib.Omega.{arith}
 use native.Mathlib.Nat.{not-suc-le-zero}

@@ -1,4 +1,4 @@
--- From the rows of the parts to the ids of the definitions. Assumes nothing.
+-- From the rows of the parts to the ids of the definitions.
 use Prim.Native.Nat.{ℕ, zero, suc, _+_, _*_, _≤_, _<_, min}
 use native.Mathlib.Omega.{arith}
 use native.Mathlib.Decide.{ℕ-discrete}

@@ -1,4 +1,4 @@
--- A loop that fills an array with f of each row: what is filled, with f of what is left, is f of all. Assumes nothing.
+-- A loop that fills an array with f of each row: what is filled, with f of what is left, is f of all.
 use Prim.Native.Nat.{ℕ, _+_, _≤_, _<_}
 use native.Mathlib.Omega.{arith}
 use mathlib.Core.Path.{_≡_, sym, ap, _∙_}

@@ -1,4 +1,4 @@
--- The laws of the required ports. Assumes nothing.
+-- The laws of the required ports.
 use Prim.Native.Nat.{ℕ, suc, _+_, _-_, _*_, _^_, _/_, _%_, _≤_, _<_}
 use native.Mathlib.Omega.{arith}
 use native.Mathlib.Nat.{div-div-eq-div-mul, pow-suc}

@@ -1,4 +1,4 @@
--- The laws of the live rows. Assumes nothing.
+-- The laws of the live rows.
 use Prim.Native.Nat.{ℕ, zero, suc, _+_, _≤_, _<_}
 use native.Mathlib.Omega.{arith}
 use native.Mathlib.Nat.{not-suc-le-zero}

@@ -1,7 +1,6 @@
 -- What prepare's answers mean: 13 exactly where a required port of a live node is unconnected, 14 exactly where it is not so
 -- and there is a cycle among the live nodes; and an order that is accepted has every live node once, each source before its
 -- target.
--- Assumes nothing.
 use Prim.Native.Nat.{ℕ}
 use native.Mathlib.Omega.{arith}
 use mathlib.Core.Path.{_≡_, refl, ap, _∙_}

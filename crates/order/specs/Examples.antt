@@ -1,5 +1,4 @@
 -- Worked examples over the definitions, in a table that one computed check proves.
--- Assumes nothing.
 use Prim.Native.Nat.{ℕ}
 use mathlib.Core.Path.{_≡_, refl}
 use mathlib.Core.List.{List, [], _∷_, map}

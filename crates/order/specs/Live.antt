@@ -1,5 +1,4 @@
 -- What is live in the graph's two tables, and the processing order of graph.rs.
--- Assumes nothing.
 use Prim.Native.Nat.{ℕ, suc, _≤_}
 use mathlib.Core.List.{List, [], _∷_, map}
 use mathlib.Core.Bool.{cond}

@@ -1,5 +1,4 @@
 -- What the parts of `processing_order` and `prepare` compute, by rows of the node table. Nothing here has to be believed.
--- Assumes nothing.
 use Prim.Native.Nat.{ℕ, suc, _+_, _*_, _<_, _≤_, min}
 use mathlib.Core.List.{List, [], _∷_, map}
 use mathlib.Core.Bool.{Bool, false, _&&_, _||_, not}

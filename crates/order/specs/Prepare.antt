@@ -1,6 +1,5 @@
 -- Prepare: "13: required port unconnected; 14: cycle among live nodes", tested in that order; else the processing order.
 -- That the order has not all live nodes is that there is a cycle among them: proofs/Theorems.antt, both ways.
--- Assumes nothing.
 use mathlib.Core.List.{List, [], map}
 use mathlib.Core.Bool.{cond, not}
 use Rattle.node.specs.declared.record.Node.{Node}

@@ -1,5 +1,4 @@
 -- Refusal 13, "required port unconnected".
--- Assumes nothing.
 use Prim.Native.Nat.{ℕ, _^_, _/_, _%_, min}
 use mathlib.Core.List.{List, [], _∷_}
 use mathlib.Core.Bool.{Bool, false, _&&_, _||_, not}

@@ -1,4 +1,4 @@
--- What an order leaves, from the ways through its code. Assumes nothing.
+-- What an order leaves, from the ways through its code.
 use Prim.Native.Nat.{ℕ, _+_}
 use native.Mathlib.Omega.{arith}
 use mathlib.Core.Path.{_≡_, refl, sym, ap, subst, _∙_}

@@ -1,4 +1,4 @@
--- What a report leaves, from the ways through its code. Assumes nothing.
+-- What a report leaves, from the ways through its code.
 use Prim.Native.Nat.{ℕ, _+_, _*_, _-_, _≤_, _<_}
 use native.Mathlib.Omega.{arith}
 use mathlib.Core.Path.{_≡_, refl, sym, ap, _∙_}

@@ -1,5 +1,4 @@
 -- What an order leaves.
--- Assumes nothing.
 use mathlib.Core.Path.{_≡_, ap, _∙_}
 use mathlib.Core.Bool.{false}
 use Rattle.store.specs.declared.state.Store.{Store}

@@ -1,5 +1,4 @@
 -- A node after a report.
--- Assumes nothing.
 use mathlib.Core.Bool.{Bool}
 use lib.Ieee.{Float}
 use Rattle.node.specs.declared.record.Node.{Node}

@@ -1,4 +1,4 @@
--- What the page answers, from what was put and what was copied. Assumes nothing.
+-- What the page answers, from what was put and what was copied.
 use Prim.Native.Nat.{ℕ, _+_, _≤_, _<_}
 use native.Mathlib.Omega.{arith}
 use mathlib.Core.Path.{_≡_, refl, sym, ap, _∙_}

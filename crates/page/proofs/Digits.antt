@@ -1,4 +1,4 @@
--- The fewest digits that hold a number are its decimal, for every number of digits. Assumes nothing.
+-- The fewest digits that hold a number are its decimal, for every number of digits.
 use Prim.Native.Nat.{ℕ, zero, suc, _*_, _-_, _/_, _%_, _^_, _≤_, _<_}
 use native.Mathlib.Nat.{pow-suc, pow-le-pow-right}
 use native.Mathlib.Omega.{arith}

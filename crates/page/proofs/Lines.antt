@@ -1,4 +1,4 @@
--- The lines of one voice more. Assumes nothing.
+-- The lines of one voice more.
 use Prim.Native.Nat.{ℕ, _+_, _<_}
 use native.Mathlib.Numerals.{add-one}
 use mathlib.Core.Path.{_≡_, refl, sym, ap, _∙_}

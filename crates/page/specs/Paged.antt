@@ -1,5 +1,4 @@
 -- What the page answers, and what its parts put into the room that they are lent.
--- Assumes nothing.
 use Prim.Native.Nat.{ℕ, _≤_}
 use mathlib.Core.Path.{_≡_}
 use mathlib.Core.List.{List}

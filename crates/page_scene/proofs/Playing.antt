@@ -1,4 +1,4 @@
--- Calls one after the other, each by its contract. Assumes nothing.
+-- Calls one after the other, each by its contract.
 use Prim.Native.Nat.{ℕ, zero, suc, _+_}
 use native.Mathlib.Numerals.{add-one}
 use mathlib.Core.Path.{_≡_, refl, sym, ap, _∙_}

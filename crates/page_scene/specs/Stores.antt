@@ -1,5 +1,4 @@
 -- The other stores that the examples meet: by the calls that lead there, or a store with another clock or next node id.
--- Assumes nothing.
 use Prim.Native.Nat.{ℕ}
 use mathlib.Core.List.{List, [], _∷_}
 use mathlib.Core.Bool.{false}

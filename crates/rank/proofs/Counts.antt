@@ -1,5 +1,4 @@
 -- The counts of specs/Parts.antt give the order of specs/Order.antt: a count is how many arcs are left to the index.
--- Assumes nothing.
 use Prim.Native.Nat.{ℕ, zero, suc, _+_, _-_, _≤_, _<_, min}
 use native.Mathlib.Omega.{arith}
 use native.Mathlib.Nat.{zero-add}

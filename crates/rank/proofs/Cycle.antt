@@ -1,4 +1,4 @@
--- Where the order is shorter than the rows, there is a cycle. Assumes nothing.
+-- Where the order is shorter than the rows, there is a cycle.
 use Prim.Native.Nat.{ℕ, zero, suc, _+_, _-_, _≤_, _<_}
 use native.Mathlib.Omega.{arith}
 use native.Mathlib.Nat.{le-refl, not-suc-le-zero, zero-add}

@@ -1,4 +1,4 @@
--- The laws by which the proofs of this crate go. Assumes nothing.
+-- The laws by which the proofs of this crate go.
 use Prim.Native.Nat.{ℕ, zero, suc, _+_, _-_, _≤_, _<_, min}
 use native.Mathlib.Omega.{arith}
 use native.Mathlib.Nat.{not-suc-le-zero, add-zero, zero-add, le-refl}

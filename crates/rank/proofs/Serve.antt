@@ -1,4 +1,4 @@
--- The laws of the walk over the queue. Assumes nothing.
+-- The laws of the walk over the queue.
 use Prim.Native.Nat.{ℕ, zero, suc, _+_, _-_, _≤_, _<_}
 use native.Mathlib.Omega.{arith}
 use native.Mathlib.Nat.{le-refl, not-suc-le-zero, sub-zero}

@@ -1,4 +1,4 @@
--- Where the order has all rows, each edge between live rows goes up in it. Assumes nothing.
+-- Where the order has all rows, each edge between live rows goes up in it.
 use Prim.Native.Nat.{ℕ, zero, suc, _+_, _-_, _≤_, _<_}
 use native.Mathlib.Omega.{arith}
 use native.Mathlib.Nat.{le-refl, not-suc-le-zero, zero-add}

@@ -1,6 +1,5 @@
 -- What the order is good for: it has all nodes exactly where there is no cycle among them, and then each once and every
 -- source before its target.
--- Assumes nothing.
 use Prim.Native.Nat.{ℕ, zero, suc, _≤_, _<_}
 use native.Mathlib.Omega.{arith}
 use mathlib.Core.Path.{_≡_, refl, sym, ap, subst, _∙_}

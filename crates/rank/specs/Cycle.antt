@@ -1,5 +1,4 @@
 -- "Cycle among live nodes": a closed walk over arcs of live nodes. And what an order of all nodes is.
--- Assumes nothing.
 use Prim.Native.Nat.{ℕ}
 use mathlib.Core.List.{List, [], _∷_}
 use mathlib.Core.Bool.{false}

@@ -1,5 +1,4 @@
 -- Worked examples over the definitions, in a table that one computed check proves.
--- Assumes nothing.
 use Prim.Native.Nat.{ℕ}
 use mathlib.Core.List.{List, [], _∷_, map}
 use mathlib.Core.Bool.{Bool, true, false}

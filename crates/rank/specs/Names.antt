@@ -1,6 +1,5 @@
 -- Nodes by any names, and the same nodes by the rows in which their names stand. Nothing here has to be believed:
 -- proofs/Names.antt shows that the order is the same.
--- Assumes nothing.
 use Prim.Native.Nat.{ℕ, zero, suc}
 use mathlib.Core.List.{List, [], _∷_}
 use mathlib.Core.Bool.{cond}

@@ -1,7 +1,6 @@
 -- The order in which nodes are processed: "live nodes without a live source by rising id; then, walking that queue, each
 -- target whose last source has been served, in edge order." Here nodes are numbers, listed as they are to be taken, and
 -- arcs are pairs of numbers: a graph's node ids with its edges, or a definition's node indices with its edges.
--- Assumes nothing.
 use Prim.Native.Nat.{ℕ, zero, suc}
 use mathlib.Core.List.{List, [], _∷_, _++_}
 use mathlib.Core.Bool.{Bool, false, _&&_, _||_, not}

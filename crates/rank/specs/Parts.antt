@@ -1,6 +1,5 @@
 -- What the parts of `ranked` compute, with counts in place of the arcs that are left. Nothing here has to be believed but
 -- `rankingOf`: proofs/Counts.antt shows that the counts give the order of specs/Order.antt.
--- Assumes nothing.
 use Prim.Native.Nat.{ℕ, zero, suc, _+_, _-_, _<_, _≤_}
 use mathlib.Core.List.{List, [], _∷_, _++_}
 use mathlib.Core.Bool.{Bool, true, false, _&&_, cond}

@@ -1,4 +1,4 @@
--- What was looked for, from what the table answered. Assumes nothing.
+-- What was looked for, from what the table answered.
 use Prim.Native.Nat.{ℕ, zero, suc, _≤_, _<_}
 use native.Mathlib.Omega.{arith}
 use mathlib.Core.Path.{_≡_, refl, sym, ap, _∙_}

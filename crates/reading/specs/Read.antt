@@ -1,5 +1,4 @@
 -- What the answers of the reading calls stand for.
--- Assumes nothing.
 use Prim.Native.Nat.{ℕ}
 use mathlib.Core.Option.{Option, none, some}
 use Rattle.store.specs.declared.answer.Position.{Position}

@@ -1,5 +1,4 @@
 -- The loop that parts the columns: of each column the places of the nodes that stay, and the ids of those that go.
--- Assumes nothing.
 use Prim.Native.Nat.{ℕ, zero, suc, _+_, _≤_, _<_, min}
 use native.Mathlib.Omega.{arith}
 use mathlib.Core.Path.{_≡_, refl, sym, ap, _∙_}

@@ -1,4 +1,4 @@
--- What is read off columns that hold a list of nodes is what the nodes say. Assumes nothing.
+-- What is read off columns that hold a list of nodes is what the nodes say.
 use Prim.Native.Nat.{ℕ, _≤_, min}
 use native.Mathlib.Omega.{arith}
 use mathlib.Core.Path.{_≡_, refl, ap, ap₂, _∙_}

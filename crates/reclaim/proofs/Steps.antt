@@ -1,4 +1,4 @@
--- Reclaiming, one voice at a time: what is left, by the voices that went and the steal records. Assumes nothing.
+-- Reclaiming, one voice at a time: what is left, by the voices that went and the steal records.
 use Prim.Native.Nat.{ℕ, zero, suc, _+_, _-_, _<_}
 use native.Mathlib.Omega.{arith}
 use mathlib.Core.Path.{_≡_, refl, sym, ap, _∙_}

@@ -1,6 +1,5 @@
 -- The columns of the nodes that decisions read. They stand for a list of nodes, of which they hold ids, owners, levels and port
 -- counts.
--- Assumes nothing.
 use Prim.Native.Nat.{ℕ, _≤_}
 use mathlib.Core.Path.{_≡_}
 use mathlib.Core.List.{List, map}

@@ -1,7 +1,6 @@
 -- "If none: reclaim the earliest-started fade of that bus (ties by voice order) and mark its record, if still held, cut, else free
 -- the policy's victim among tracked voices of that bus with a cut record; try again." Here without the newcomer, which lands on
 -- what is left.
--- Assumes nothing.
 use Prim.Native.Nat.{ℕ, zero, suc}
 use mathlib.Core.List.{List}
 use mathlib.Core.Bool.{true}

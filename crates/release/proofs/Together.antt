@@ -1,4 +1,4 @@
--- Voices that go one after the other go together. Assumes nothing.
+-- Voices that go one after the other go together.
 use Prim.Native.Nat.{ℕ}
 use native.Mathlib.Omega.{arith}
 use mathlib.Core.Path.{_≡_, refl, sym, ap, _∙_}

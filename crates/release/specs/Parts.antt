@@ -1,5 +1,4 @@
 -- A store's model, one part changed, and several voices gone.
--- Assumes nothing.
 use Prim.Native.Nat.{ℕ}
 use mathlib.Core.Path.{_≡_, ap, _∙_}
 use mathlib.Core.List.{List, [], _∷_}

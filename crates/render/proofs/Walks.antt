@@ -1,4 +1,4 @@
--- What the due events leave alone, and the block after them. Assumes nothing.
+-- What the due events leave alone, and the block after them.
 use Prim.Native.Nat.{ℕ, _+_}
 use native.Mathlib.Omega.{arith}
 use mathlib.Core.Path.{_≡_, refl, sym, ap, _∙_}

@@ -1,4 +1,4 @@
--- The whole render from its parts. Assumes nothing.
+-- The whole render from its parts.
 use Prim.Native.Nat.{ℕ, _+_, _-_, _≤_, _<_}
 use native.Mathlib.Omega.{arith}
 use mathlib.Core.Path.{_≡_, refl, sym, ap, _∙_}

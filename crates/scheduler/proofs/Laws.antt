@@ -1,4 +1,4 @@
--- The laws by which the loops over the queue go: one for each way through a body. Assumes nothing.
+-- The laws by which the loops over the queue go: one for each way through a body.
 use Prim.Native.Nat.{ℕ, _+_, _≤_, _<_}
 use native.Mathlib.Omega.{arith}
 use mathlib.Core.Path.{_≡_, sym, ap, _∙_}

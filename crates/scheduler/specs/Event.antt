@@ -1,6 +1,5 @@
 -- What an event stands for: "An action is a value, a glide (target, seconds, shape, space), a gate or a free, carrying its
 -- floats with it. A gate is a value for the parameter `gate`."
--- Assumes nothing.
 use mathlib.Core.List.{[], _∷_}
 use Rattle.node.specs.Name.{nameOf}
 use Rattle.node.specs.declared.name.Name.{Name}

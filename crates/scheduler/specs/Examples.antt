@@ -1,5 +1,4 @@
 -- The examples of the scope: events at 64 with deadline 64 are not taken, events at 63 are.
--- Assumes nothing.
 use Prim.Native.Nat.{ℕ}
 use mathlib.Core.Path.{_≡_, refl}
 use mathlib.Core.List.{List, [], _∷_}

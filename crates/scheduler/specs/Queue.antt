@@ -1,6 +1,5 @@
 -- The queue of pending events: "Events are ordered by time, equal times by insertion. `drain_before` takes times strictly
 -- below the deadline."
--- Assumes nothing.
 use Prim.Native.Nat.{ℕ, _≤_}
 use mathlib.Core.Path.{_≡_}
 use mathlib.Core.List.{List, [], _∷_, _++_}

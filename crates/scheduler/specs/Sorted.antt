@@ -1,6 +1,5 @@
 -- What 01 says of an ordered queue follows from the definitions of `Queue`: scheduling keeps it ordered and puts an event
 -- after all events that are not later; a deadline takes the first ones; an event at 2^64 - 1 is never taken.
--- Assumes nothing.
 use Prim.Native.Nat.{ℕ, suc, _≤_, _<_}
 use native.Mathlib.Omega.{arith}
 use mathlib.Core.Path.{_≡_, refl, ap}

@@ -1,4 +1,4 @@
--- A definition whose three tables were read one after the other, and then its output. Assumes nothing.
+-- A definition whose three tables were read one after the other, and then its output.
 use Prim.Native.Nat.{ℕ}
 use mathlib.Core.Path.{_≡_}
 use mathlib.Core.List.{List}

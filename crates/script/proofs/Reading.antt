@@ -1,5 +1,5 @@
 -- The loop that reads n rows and keeps the first `cap` of them: where it begins, a turn that keeps the row, one that does not, and
--- where it ends. Assumes nothing.
+-- where it ends.
 use Prim.Native.Nat.{ℕ, suc, _+_, _-_, _≤_, _<_, min}
 use native.Mathlib.Nat.{sub-zero, min-eq-left, min-eq-right, le-of-lt}
 use native.Mathlib.Omega.{arith}

@@ -1,6 +1,5 @@
 -- "flag budgeted, u32 budget, u8 policy (0 reject, 1 oldest, 2 newest, anything else quietest), u8 scope (0 global, anything else per
 -- group)" (docs/REPLAY.md).
--- Assumes nothing.
 use Prim.Native.Nat.{ℕ}
 use mathlib.Core.Bool.{cond}
 use lib.Dec.{eqb}

@@ -1,6 +1,5 @@
 -- "A definition is u8 how many nodes and the nodes, u8 how many edges and the edges, u8 how many parameters and the parameters, u8
 -- output. Rows above 24, 48 and 8 are read and not kept, but counted" (docs/REPLAY.md).
--- Assumes nothing.
 use Prim.Native.Nat.{ℕ, _/_, _%_}
 use mathlib.Core.Path.{_≡_}
 use mathlib.Core.List.{List}

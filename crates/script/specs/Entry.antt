@@ -1,5 +1,4 @@
 -- The table of sorts of docs/REPLAY.md: how long the fields of each are.
--- Assumes nothing.
 use Prim.Native.Nat.{ℕ, _+_, _*_}
 use mathlib.Core.List.{List, [], _∷_}
 use mathlib.Core.Bool.{cond}

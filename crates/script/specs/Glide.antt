@@ -1,6 +1,5 @@
 -- "glide: f32 target, f32 seconds, u8 shape (0 hold, 1 linear, 2 sine, anything else exponential), f32 curve of an exponential
 -- shape, u8 space (0 raw, anything else pitch)" (docs/REPLAY.md).
--- Assumes nothing.
 use Prim.Native.Nat.{ℕ}
 use mathlib.Core.List.{List}
 use mathlib.Core.Bool.{cond}

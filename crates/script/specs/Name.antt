@@ -1,5 +1,4 @@
 -- "name: u8: how many bytes, 0 to 255; then so many bytes" (docs/REPLAY.md).
--- Assumes nothing.
 use Prim.Native.Nat.{ℕ}
 use mathlib.Core.List.{List}
 use Rattle.wire.specs.Field.{moved, little, run}

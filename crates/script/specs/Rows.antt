@@ -1,5 +1,4 @@
 -- Rows that stand one after the other in a script: each is read at its position, and gives the position of the next.
--- Assumes nothing.
 use Prim.Native.Nat.{ℕ, zero, suc}
 use mathlib.Core.List.{List, [], _∷_}
 

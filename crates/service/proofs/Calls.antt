@@ -1,4 +1,4 @@
--- What a call on the store promises, from what the graph's or the queue's own call promises. Assumes nothing.
+-- What a call on the store promises, from what the graph's or the queue's own call promises.
 use Prim.Native.Nat.{ℕ}
 use native.Mathlib.Omega.{arith}
 use mathlib.Core.Path.{_≡_, refl, sym, ap, subst, _∙_}

@@ -1,5 +1,4 @@
 -- What the calls of this crate leave, as the model says it.
--- Assumes nothing.
 use mathlib.Core.Path.{_≡_}
 use mathlib.Core.Option.{Option, none, some}
 use Rattle.node.specs.declared.refusal.Refusal.{Refusal}

@@ -1,6 +1,5 @@
 -- For an allowed definition the done plan answers silent exactly by 01's rule: its answer meets the rule at every node, and every
 -- answer that does is the same at every node of the definition, the output among them.
--- Assumes nothing.
 use Prim.Native.Nat.{ℕ, zero, suc, _<_}
 use native.Mathlib.Omega.{arith}
 use mathlib.Core.Path.{_≡_, refl, sym}

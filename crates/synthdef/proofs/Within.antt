@@ -1,5 +1,4 @@
 -- `allowed` answers yes exactly where a definition keeps the limits that `Within` states.
--- Assumes nothing.
 use Prim.Native.Nat.{ℕ, _≤_, _<_}
 use mathlib.Core.Path.{_≡_, refl}
 use mathlib.Core.Logic.{_⊎_, inl, inr}

@@ -1,6 +1,5 @@
 -- The silence of a definition: the plan's answer meets the rule at every node, and since counted edges have no cycle no other
 -- answer does.
--- Assumes nothing.
 use Prim.Native.Nat.{ℕ, zero, suc, _+_, _≤_, _<_}
 use native.Mathlib.Omega.{arith}
 use native.Mathlib.Nat.{add-zero, add-suc}

@@ -1,5 +1,4 @@
 -- Laws of counted edges.
--- Assumes nothing.
 use Prim.Native.Nat.{ℕ, suc, _≤_, min}
 use native.Mathlib.Omega.{arith}
 use mathlib.Core.Path.{_≡_, refl, sym, ap, _∙_}

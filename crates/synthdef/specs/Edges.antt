@@ -1,6 +1,5 @@
 -- Counted edges: "the last edge to a port counts". They stand in the order of their last occurrence, which is what connecting
 -- the edges one by one leaves (`connect-one-by-one` of `EdgeLaws`).
--- Assumes nothing.
 use Prim.Native.Nat.{ℕ}
 use mathlib.Core.List.{List, [], _∷_, _++_}
 use mathlib.Core.Option.{Option}

@@ -1,5 +1,4 @@
 -- The definitions, computed on small definitions. The traps of 01 among them: "treating an unconnected port of `Add` as silent".
--- Assumes nothing.
 use Prim.Native.Nat.{ℕ}
 use Prim.Native.String.{String}
 use mathlib.Core.Path.{_≡_, refl}

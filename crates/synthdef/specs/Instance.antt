@@ -1,6 +1,5 @@
 -- What a spawn makes of a definition's nodes and counted edges: nodes with consecutive ids, "done flag, which is clear in a new
 -- node", "Before any report [the level] is 0", no order taken; and edges between them.
--- Assumes nothing.
 use Prim.Native.Nat.{ℕ, suc, _+_, min}
 use mathlib.Core.List.{List, [], _∷_, map}
 use mathlib.Core.Bool.{false}

@@ -1,7 +1,6 @@
 -- The limits of a definition, refusal 9: "A definition has 1 to 24 nodes of 0 to 8 ports, up to 48 edges and 8 parameters; edges,
 -- parameters, required ports, the ports given by name and output name nodes and ports it has; the last edge to a port counts;
 -- counted edges have no cycle." Names are "byte strings of 1 to 16 bytes".
--- Assumes nothing.
 use Prim.Native.Nat.{ℕ, _^_, _≤_, _<_}
 use mathlib.Core.Path.{_≡_}
 use mathlib.Core.Logic.{_⊎_}

@@ -1,5 +1,4 @@
 -- Parameters: "Of two parameters of one name the first counts."
--- Assumes nothing.
 use Prim.Native.Nat.{ℕ}
 use mathlib.Core.List.{List}
 use mathlib.Core.Option.{Option, none, some}

@@ -1,5 +1,4 @@
 -- Passes over the steps settle: each adds silent nodes to those before, and there are 24 to add.
--- Assumes nothing.
 use Prim.Native.Nat.{ℕ, zero, suc, _+_, _-_, _≤_, _<_}
 use native.Mathlib.Omega.{arith}
 use mathlib.Core.Path.{_≡_, refl, sym, ap, _∙_}

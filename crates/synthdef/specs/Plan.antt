@@ -1,7 +1,6 @@
 -- The done plan: of each node the sources that its rule reads, and whether one or all of them have to be silent. A plan is evaluated
 -- on the done flags by passes over the nodes until nothing changes. That its answer meets the rule of `Silent` at every node, and that
 -- no other does, is the theorem `plan-answers` of proofs/Theorem.antt: nothing here has to be believed beside it.
--- Assumes nothing.
 use Prim.Native.Nat.{ℕ, zero, suc, _-_, min}
 use mathlib.Core.List.{List, [], _∷_, _++_}
 use mathlib.Core.Option.{Option, none, some}

@@ -1,5 +1,4 @@
 -- The place in a list that has the sources of arcs before their targets is a ranking of the arcs.
--- Assumes nothing.
 use Prim.Native.Nat.{ℕ, zero, suc, _<_}
 use native.Mathlib.Omega.{arith}
 use mathlib.Core.Path.{_≡_, refl, sym, ap, _∙_}

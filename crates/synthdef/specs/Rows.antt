@@ -1,5 +1,4 @@
 -- Whether every row, or some row, passes a test; and what a table holds that was filled from its front.
--- Assumes nothing.
 use Prim.Native.Nat.{ℕ, _≤_, min}
 use native.Mathlib.Omega.{arith}
 use mathlib.Core.Path.{_≡_, refl, ap, _∙_}

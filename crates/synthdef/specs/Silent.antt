@@ -2,7 +2,6 @@
 -- of port 0; `Add`, `Sub`: every port connected, at least one, all silent; `FmOp`: source of `level`; `Paf`: of `amp`; `Neg` and
 -- the 27 names in `SILENCE_PASS_THROUGH`: of `in`; other names: not."
 -- The rule speaks of the silence of other nodes, so it is an equation that an answer has to meet at every node.
--- Assumes nothing.
 use Prim.Native.Nat.{ℕ, zero, suc}
 use mathlib.Core.Path.{_≡_}
 use mathlib.Core.List.{List}

@@ -1,5 +1,4 @@
 -- A step of the plan says what the rule says of its node.
--- Assumes nothing.
 use Prim.Native.Nat.{ℕ, zero, suc, _-_, _≤_, min}
 use native.Mathlib.Omega.{arith}
 use mathlib.Core.Path.{_≡_, refl, ap, _∙_}

@@ -1,6 +1,5 @@
 -- The tables of a definition: "1 to 24 nodes of 0 to 8 ports, up to 48 edges and 8 parameters". A count above the capacity is
 -- the capacity.
--- Assumes nothing.
 use Prim.Native.Nat.{_-_}
 use mathlib.Core.List.{List, [], _++_}
 use mathlib.Core.Bool.{false}

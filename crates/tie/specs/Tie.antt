@@ -1,6 +1,5 @@
 -- The store that code makes is the model that the ledger's theorem speaks of: a run of calls on stores, each related to the
 -- next by the contract of its call, gives the answers of the model's run, and its last store stands for the model's last state.
--- Assumes nothing.
 use Prim.Native.Nat.{ℕ}
 use mathlib.Core.Path.{_≡_, refl, ap, _∙_}
 use mathlib.Core.List.{List, [], _∷_}

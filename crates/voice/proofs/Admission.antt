@@ -1,4 +1,4 @@
--- The two ways through an admission under a budget: below it, and at it. Assumes nothing.
+-- The two ways through an admission under a budget: below it, and at it.
 use Prim.Native.Nat.{ℕ, _≤_, _<_}
 use mathlib.Core.Path.{_≡_, refl, sym, ap, _∙_}
 use mathlib.Core.List.{List}

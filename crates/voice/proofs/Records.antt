@@ -1,4 +1,4 @@
--- What each call on the ring of steal records makes of the book that the ring stands for. Assumes nothing.
+-- What each call on the ring of steal records makes of the book that the ring stands for.
 use Prim.Native.Nat.{ℕ, zero, suc, _+_, _-_, _%_, _≤_, _<_, min}
 use native.Mathlib.Omega.{arith}
 use mathlib.Core.Path.{_≡_, refl, sym, ap, _∙_}

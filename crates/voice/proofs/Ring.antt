@@ -1,5 +1,5 @@
 -- A ring of n places, read from its oldest place on: what a store at the next place and one at any place make of it, and
--- what stands at a place. The laws hold for any n and any sort of row. Assumes nothing.
+-- what stands at a place. The laws hold for any n and any sort of row.
 use Prim.Native.Nat.{ℕ, _+_, _-_, _≤_, _<_, min}
 use native.Mathlib.Omega.{arith}
 use native.Mathlib.Nat.{suc-add, zero-add}

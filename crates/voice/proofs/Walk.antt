@@ -1,4 +1,4 @@
--- The laws by which the walk over the candidates goes, and the last of a list by its place. Assumes nothing.
+-- The laws by which the walk over the candidates goes, and the last of a list by its place.
 use Prim.Native.Nat.{ℕ, _+_, _-_, _≤_, _<_}
 use native.Mathlib.Omega.{arith}
 use native.Mathlib.Numerals.{add-one}

@@ -1,5 +1,4 @@
 -- What every book of a run keeps, for the layers above: it holds as many records as there were steals, and at most 64.
--- Assumes nothing.
 use Prim.Native.Nat.{ℕ, zero, suc, _-_, min}
 use native.Mathlib.Omega.{arith}
 use mathlib.Core.Path.{_≡_, refl, ap, _∙_}

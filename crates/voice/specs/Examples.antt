@@ -1,5 +1,4 @@
 -- The example of the scope, levels 2, 1, 1: the second voice goes; and the other sentences on the walk, in the same table.
--- Assumes nothing.
 use Prim.Native.Nat.{ℕ, suc}
 use mathlib.Core.Path.{_≡_, refl}
 use mathlib.Core.List.{List, [], _∷_}

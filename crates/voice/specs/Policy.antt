@@ -1,7 +1,6 @@
 -- Victim and admission: "Tracked voices stand in order of admission. At budget (all, or those of the bus under `PerGroup`)
 -- `pick_victim` decides: `Reject` none; `Oldest` first; `Newest` last; `Quietest` walks in order, takes the first known
 -- level, then each strictly lower one. No level known: the oldest. A NaN met first is never displaced."
--- Assumes nothing.
 use Prim.Native.Nat.{ℕ, suc}
 use mathlib.Core.List.{List, [], _∷_}
 use mathlib.Core.Option.{Option, none, some}

@@ -1,5 +1,4 @@
 -- The steal records: "`steals` becomes a running count and the newest 64 records (sample, level or none, cut mark)."
--- Assumes nothing.
 use Prim.Native.Nat.{ℕ, zero, suc, _+_, _-_, _%_, min}
 use mathlib.Core.List.{List, [], _∷_, _++_}
 use mathlib.Core.Bool.{Bool, true, false, cond}

@@ -1,6 +1,5 @@
 -- What follows of a victim, for the layers above: it is one of the candidates, at its place, and where the policy steals there
 -- is one as soon as there is a candidate.
--- Assumes nothing.
 use Prim.Native.Nat.{ℕ, suc, _+_, _<_}
 use native.Mathlib.Omega.{arith}
 use mathlib.Core.Path.{_≡_, refl, ap, _∙_}

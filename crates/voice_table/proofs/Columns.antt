@@ -1,4 +1,4 @@
--- Levels by the columns of the nodes are the levels by the nodes. Assumes nothing.
+-- Levels by the columns of the nodes are the levels by the nodes.
 use Prim.Native.Nat.{ℕ}
 use mathlib.Core.Path.{_≡_, refl, ap, _∙_}
 use mathlib.Core.List.{List, [], _∷_, map}

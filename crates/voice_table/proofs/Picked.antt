@@ -1,6 +1,5 @@
 -- A loop that walks rows and stores what it makes of those that pass: what the first w new rows hold is that of the first i
 -- old ones.
--- Assumes nothing.
 use Prim.Native.Nat.{ℕ, _+_, _<_}
 use mathlib.Core.Path.{_≡_, sym, ap, _∙_}
 use mathlib.Core.List.{List, [], _∷_, _++_, map}

@@ -1,5 +1,4 @@
 -- Levels and candidates over what they read: the live nodes and the clock. The model says the same over its whole state.
--- Assumes nothing.
 use Prim.Native.Nat.{ℕ}
 use mathlib.Core.Path.{_≡_, refl}
 use mathlib.Core.List.{List, map}

@@ -1,5 +1,4 @@
 -- What the voice table is asked, and what its answers stand for.
--- Assumes nothing.
 use Prim.Native.Nat.{ℕ}
 use mathlib.Core.List.{List, [], _∷_, _++_}
 use mathlib.Core.Option.{Option, none, some}

@@ -1,4 +1,4 @@
--- The loop that fills a list of n fields from the front: where it begins, a turn of it, and where it ends. Assumes nothing.
+-- The loop that fills a list of n fields from the front: where it begins, a turn of it, and where it ends.
 use Prim.Native.Nat.{ℕ, suc, _+_, _-_, _≤_, _<_}
 use native.Mathlib.Nat.{sub-zero}
 use native.Mathlib.Omega.{arith}

@@ -1,4 +1,4 @@
--- A field of 2 k bytes is its low half and its high half. Assumes nothing.
+-- A field of 2 k bytes is its low half and its high half.
 use Prim.Native.Nat.{ℕ, zero, suc, _+_, _*_, _^_, _≤_, _<_, min}
 use native.Mathlib.Nat.{mul-assoc, zero-add, suc-add, add-zero, pow-suc, min-eq-left, min-eq-right, le-of-lt}
 use native.Mathlib.Omega.{arith}

@@ -1,4 +1,4 @@
--- How a NaN is made, read and told, in either format. Assumes nothing.
+-- How a NaN is made, read and told, in either format.
 use mathlib.Core.Path.{_≡_, refl, sym, ap, _∙_, subst}
 use mathlib.Core.Bool.{Bool, true, false, not, cond}
 use Prim.Native.Nat.{ℕ, _*_, _%_, _<_, _≤_}

@@ -1,4 +1,4 @@
--- The first n elements of a list that has at least so many are n. Assumes nothing.
+-- The first n elements of a list that has at least so many are n.
 use Prim.Native.Nat.{ℕ, _≤_}
 use native.Mathlib.Omega.{arith}
 use mathlib.Core.Path.{_≡_, sym}

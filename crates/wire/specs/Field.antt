@@ -1,5 +1,4 @@
 -- Fields of a binary input, little-endian. A byte past its end is 0.
--- Assumes nothing.
 use Prim.Native.Nat.{ℕ, zero, suc, _+_, _*_, min}
 use mathlib.Core.List.{List, [], _∷_}
 use mathlib.Core.Bool.{cond}

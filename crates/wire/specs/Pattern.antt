@@ -1,5 +1,4 @@
 -- The pattern of a float as it is written.
--- Assumes nothing.
 use Prim.Native.Nat.{ℕ, _+_, _*_, _/_}
 use mathlib.Core.Bool.{cond}
 use lib.Ieee.{Float, Format, ones, hid, isNan, toBits}

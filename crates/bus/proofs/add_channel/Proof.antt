@@ -1,4 +1,4 @@
--- `bus::add_channel` meets its contract: the samples up to i are added, and the rest is as it was. Assumes nothing.
+-- `bus::add_channel` meets its contract: the samples up to i are added, and the rest is as it was.
 use Prim.Native.Nat.{ℕ, _-_}
 use mathlib.Core.Path.{_≡_, ap}
 use mathlib.Core.List.{List}

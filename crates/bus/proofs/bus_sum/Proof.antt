@@ -1,4 +1,4 @@
--- `bus::bus_sum` meets its contract. Assumes nothing.
+-- `bus::bus_sum` meets its contract.
 use mathlib.Core.Path.{sym, _∙_}
 use borrow.Author.Needs.{needs}
 use Rattle.bus.proofs.Sizes.{when-so, when-not}

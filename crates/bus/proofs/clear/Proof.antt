@@ -1,4 +1,4 @@
--- `bus::clear` meets its contract. Assumes nothing.
+-- `bus::clear` meets its contract.
 use Prim.Native.Nat.{_-_}
 use mathlib.Core.Path.{refl}
 use lib.ListN.{length}

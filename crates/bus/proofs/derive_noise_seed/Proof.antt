@@ -1,4 +1,4 @@
--- `bus::derive_noise_seed` meets its contract. Assumes nothing.
+-- `bus::derive_noise_seed` meets its contract.
 use borrow.Author.Needs.{needs}
 use Rattle.bus.proofs.Digits.{seed-is}
 use Rattle.bus.proofs.derive_noise_seed.Statement.{statement}

@@ -1,4 +1,4 @@
--- `bus::every_is_channels` meets its contract: what is left of the counts decides. Assumes nothing.
+-- `bus::every_is_channels` meets its contract: what is left of the counts decides.
 use Prim.Native.Nat.{_+_, _-_, _≤_}
 use mathlib.Core.Path.{_≡_, refl, sym, ap, _∙_}
 use mathlib.Core.Bool.{Bool, true, false, _&&_}

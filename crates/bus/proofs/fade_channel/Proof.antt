@@ -1,4 +1,4 @@
--- `bus::fade_channel` meets its contract: the samples up to i are faded, and the rest is as it was. Assumes nothing.
+-- `bus::fade_channel` meets its contract: the samples up to i are faded, and the rest is as it was.
 use Prim.Native.Nat.{ℕ, _-_, _≤_}
 use mathlib.Core.Path.{_≡_, ap}
 use mathlib.Core.List.{List}

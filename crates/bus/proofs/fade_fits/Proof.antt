@@ -1,4 +1,4 @@
--- `bus::fade_fits` meets its contract. Assumes nothing.
+-- `bus::fade_fits` meets its contract.
 use mathlib.Core.Path.{sym, _∙_}
 use borrow.Author.Needs.{needs}
 use Rattle.bus.proofs.fade_fits.Statement.{statement}

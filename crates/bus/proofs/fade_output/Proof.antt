@@ -1,4 +1,4 @@
--- `bus::fade_output` meets its contract. Assumes nothing.
+-- `bus::fade_output` meets its contract.
 use mathlib.Core.Path.{sym, _∙_}
 use borrow.Author.Needs.{needs}
 use Rattle.bus.proofs.Sizes.{when-so, when-not}

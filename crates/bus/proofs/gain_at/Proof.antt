@@ -1,4 +1,4 @@
--- `bus::gain_at` meets its contract. Assumes nothing.
+-- `bus::gain_at` meets its contract.
 use Prim.Native.Nat.{_+_, _≤_, _<_}
 use native.Mathlib.Omega.{arith}
 use lib.Ieee.{nan, ofBits}

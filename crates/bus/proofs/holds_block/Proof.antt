@@ -1,4 +1,4 @@
--- `bus::holds_block` meets its contract. Assumes nothing.
+-- `bus::holds_block` meets its contract.
 use mathlib.Core.Path.{sym, _∙_}
 use borrow.Author.Needs.{needs}
 use Rattle.bus.proofs.holds_block.Statement.{statement}

@@ -1,4 +1,4 @@
--- `bus::is_channels` meets its contract. Assumes nothing.
+-- `bus::is_channels` meets its contract.
 use borrow.Author.Tests.{eq-eqb, ne-eqb}
 use Rattle.bus.proofs.is_channels.Statement.{statement}
 use Rattle.bus.proofs.is_channels.Tie as tie

@@ -1,4 +1,4 @@
--- `bus::is_product` meets its contract. Assumes nothing.
+-- `bus::is_product` meets its contract.
 use mathlib.Core.Path.{sym}
 use borrow.Author.Needs.{needs}
 use Rattle.bus.proofs.Sizes.{product-none, product-is, product-not}

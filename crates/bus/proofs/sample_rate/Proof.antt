@@ -1,4 +1,4 @@
--- `bus::sample_rate` meets its contract: what each test says of the f32 of a rate is in `Rates`. Assumes nothing.
+-- `bus::sample_rate` meets its contract: what each test says of the f32 of a rate is in `Rates`.
 use Prim.Native.Nat.{_≤_, _^_}
 use mathlib.Core.Path.{sym, subst}
 use native.Mathlib.Omega.{arith}

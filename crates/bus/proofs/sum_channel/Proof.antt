@@ -1,4 +1,4 @@
--- `bus::sum_channel` meets its contract: the inputs before k are added, and those after it make the sum whole. Assumes nothing.
+-- `bus::sum_channel` meets its contract: the inputs before k are added, and those after it make the sum whole.
 use Prim.Native.Nat.{_+_, _*_, _-_, _%_, _≤_, _<_}
 use mathlib.Core.Path.{_≡_}
 use native.Mathlib.Omega.{arith}

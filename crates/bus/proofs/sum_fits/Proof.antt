@@ -1,4 +1,4 @@
--- `bus::sum_fits` meets its contract. Assumes nothing.
+-- `bus::sum_fits` meets its contract.
 use mathlib.Core.Path.{_≡_, sym, ap, _∙_, subst}
 use mathlib.Core.Bool.{true, false}
 use Prim.Native.Nat.{_*_}

@@ -1,4 +1,4 @@
--- `bus::total_channels` meets its contract: with what is left of the counts, n makes the sum. Assumes nothing.
+-- `bus::total_channels` meets its contract: with what is left of the counts, n makes the sum.
 use Prim.Native.Nat.{_+_, _*_, _-_, _≤_}
 use mathlib.Core.Path.{_≡_}
 use native.Mathlib.Omega.{arith}

@@ -1,4 +1,4 @@
--- `bus::wrapping_mul` meets its contract: a product of two numbers below 2 ^ 32 is below 2 ^ 64. Assumes nothing.
+-- `bus::wrapping_mul` meets its contract: a product of two numbers below 2 ^ 32 is below 2 ^ 64.
 use borrow.Author.Needs.{needs}
 use Rattle.bus.proofs.Digits.{product}
 use Rattle.bus.proofs.wrapping_mul.Statement.{statement}

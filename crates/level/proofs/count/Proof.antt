@@ -1,4 +1,4 @@
--- `level::count` meets its contract, by `proofs/Counting.antt`. Assumes nothing.
+-- `level::count` meets its contract, by `proofs/Counting.antt`.
 use mathlib.Core.Path.{_≡_, refl, _∙_}
 use mathlib.Core.Bool.{false}
 use Prim.Native.Nat.{ℕ, _/_, _%_, _^_, _<_}

@@ -1,4 +1,4 @@
--- `level::level` meets its contract: its four steps are the definition's. Assumes nothing.
+-- `level::level` meets its contract: its four steps are the definition's.
 use borrow.Author.Needs.{needs}
 use mathlib.Core.Path.{_≡_, ap, _∙_}
 use mathlib.Core.List.{List}

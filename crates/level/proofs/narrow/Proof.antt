@@ -1,4 +1,4 @@
--- `level::narrow` meets its contract. Assumes nothing.
+-- `level::narrow` meets its contract.
 use borrow.Author.Needs.{needs}
 use mathlib.Core.Path.{sym, ap, _∙_, subst}
 use mathlib.Core.Bool.{true, false}

@@ -1,4 +1,4 @@
--- `level::narrow_bits` meets its contract: each way is a law of `proofs.Narrowing.antt`. Assumes nothing.
+-- `level::narrow_bits` meets its contract: each way is a law of `proofs.Narrowing.antt`.
 use borrow.Author.Needs.{needs}
 use mathlib.Core.Path.{sym, subst}
 use Prim.Native.Nat.{ℕ, _-_, _/_, _^_, _<_}

@@ -1,4 +1,4 @@
--- `level::nearest` meets its contract: the two tests are how twice the remainder compares with the divisor. Assumes nothing.
+-- `level::nearest` meets its contract: the two tests are how twice the remainder compares with the divisor.
 use borrow.Author.Needs.{needs}
 use mathlib.Core.Path.{sym, _∙_}
 use Prim.Native.Nat.{Ordering·lt, Ordering·eq, Ordering·gt}

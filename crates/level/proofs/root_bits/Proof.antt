@@ -1,4 +1,4 @@
--- `level::root_bits` meets its contract, by `proofs/Rooting.antt`. Assumes nothing.
+-- `level::root_bits` meets its contract, by `proofs/Rooting.antt`.
 use borrow.Author.Needs.{needs}
 use Prim.Native.Nat.{_%_, _<_}
 use native.Mathlib.Omega.{arith}

@@ -1,4 +1,4 @@
--- `level::root_digits` meets its contract. The loop's invariant is `Found`, and a turn finds one more digit. Assumes nothing.
+-- `level::root_digits` meets its contract. The loop's invariant is `Found`, and a turn finds one more digit.
 use Prim.Native.Nat.{_-_, _<_}
 use native.Mathlib.Omega.{arith}
 use Rattle.level.proofs.Turns.{Found, none, zero-digit, one-digit, few, done}

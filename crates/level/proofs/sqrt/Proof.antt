@@ -1,4 +1,4 @@
--- `level::sqrt` meets its contract. Assumes nothing.
+-- `level::sqrt` meets its contract.
 use borrow.Author.Needs.{needs}
 use mathlib.Core.Path.{sym, ap, _∙_, subst}
 use Prim.Native.Nat.{_-_, _%_, _^_, _≤_, _<_}

@@ -1,4 +1,4 @@
--- `level::sqrt_bits` meets its contract. Assumes nothing.
+-- `level::sqrt_bits` meets its contract.
 use borrow.Author.Needs.{needs}
 use mathlib.Core.Path.{sym, ap, _∙_}
 use mathlib.Core.Bool.{false}

@@ -1,4 +1,4 @@
--- `level::sum_of_squares` meets its contract. The loop's invariant: the sum so far with the squares that are left is the sum of all. Assumes nothing.
+-- `level::sum_of_squares` meets its contract. The loop's invariant: the sum so far with the squares that are left is the sum of all.
 use mathlib.Core.Path.{_≡_, refl, sym, ap, _∙_}
 use mathlib.Core.List.{List}
 use Prim.Native.Nat.{ℕ, suc, _+_, _-_, _≤_, _<_}

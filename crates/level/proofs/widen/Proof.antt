@@ -1,4 +1,4 @@
--- `level::widen` gives its argument. Assumes nothing.
+-- `level::widen` gives its argument.
 use borrow.Author.Needs.{needs}
 use mathlib.Core.Path.{sym, _∙_}
 use mathlib.Core.Bool.{not}

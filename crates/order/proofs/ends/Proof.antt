@@ -1,5 +1,4 @@
 -- `order::ends` meets its contract: both arrays, with the rows of the edges that are left, are the rows of all.
--- Assumes nothing.
 use Prim.Native.Nat.{ℕ, _≤_, _<_, _-_}
 use mathlib.Core.Path.{_≡_, refl, ap, _∙_}
 use native.Mathlib.Omega.{arith}

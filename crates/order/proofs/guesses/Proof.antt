@@ -1,5 +1,4 @@
 -- `order::guesses` meets its contract, which is the array's length alone: a guess may be wrong.
--- Assumes nothing.
 use Prim.Native.Nat.{_-_}
 use mathlib.Core.Path.{_≡_, refl, _∙_}
 use lib.ListN.{length, length-set}

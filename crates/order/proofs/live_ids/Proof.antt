@@ -1,5 +1,4 @@
 -- `order::live_ids` meets its contract: the ids so far, with the live ones of what is left, are all live ids.
--- Assumes nothing.
 use Prim.Native.Nat.{_≤_, _<_, _-_}
 use mathlib.Core.Path.{_≡_, refl, _∙_}
 use mathlib.Core.List.{[]}

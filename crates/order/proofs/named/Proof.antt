@@ -1,5 +1,4 @@
 -- `order::named` meets its contract: the ids so far, with those of the rows that are left, are those of all.
--- Assumes nothing.
 use Prim.Native.Nat.{ℕ, _≤_, _<_, _-_}
 use mathlib.Core.Path.{_≡_, refl, sym, ap, _∙_}
 use native.Mathlib.Omega.{arith}

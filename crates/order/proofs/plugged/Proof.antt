@@ -1,5 +1,4 @@
 -- `order::plugged` meets its contract: the flags, with what the edges that are left feed, are what all feed.
--- Assumes nothing.
 use Prim.Native.Nat.{ℕ, _+_, _*_, _≤_, _<_, _-_}
 use mathlib.Core.Path.{_≡_, ap, _∙_}
 use mathlib.Core.Bool.{true}

@@ -1,5 +1,4 @@
 -- `order::port_lacks` meets its contract: the mask that is left is the mask from the port on, and no port before it lacks.
--- Assumes nothing.
 use Prim.Native.Nat.{ℕ, _+_, _*_, _≤_, _<_, _-_, _/_, _^_, min}
 use mathlib.Core.Path.{_≡_, sym, ap, _∙_}
 use mathlib.Core.List.{List}

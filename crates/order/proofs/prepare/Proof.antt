@@ -1,5 +1,4 @@
 -- `order::prepare` meets its contract: its two tests are those of the definition, and its three answers the definition's.
--- Assumes nothing.
 use Prim.Native.Nat.{_-_, min}
 use mathlib.Core.Path.{_≡_, sym, ap, _∙_}
 use mathlib.Core.List.{List, map}

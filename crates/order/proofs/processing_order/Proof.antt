@@ -1,5 +1,4 @@
 -- `order::processing_order` meets its contract, by the laws of proofs/Graph.antt.
--- Assumes nothing.
 use Prim.Native.Nat.{_-_, min}
 use mathlib.Core.Path.{_≡_}
 use lib.ListN.{length, take}

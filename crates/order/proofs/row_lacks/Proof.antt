@@ -1,5 +1,4 @@
 -- `order::row_lacks` meets its contract: no row before this one lacks a port.
--- Assumes nothing.
 use Prim.Native.Nat.{_+_, _≤_, _<_, _-_}
 use mathlib.Core.Path.{_≡_, refl, sym, ap, _∙_}
 use mathlib.Core.List.{List}

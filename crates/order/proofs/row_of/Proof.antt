@@ -1,5 +1,4 @@
 -- `order::row_of` meets its contract: rows below `lo` have smaller ids, rows from `hi` on no smaller ones.
--- Assumes nothing.
 use Prim.Native.Nat.{_+_, _≤_, _<_, _-_, _/_}
 use native.Mathlib.Omega.{arith}
 use lib.ListN.{length}

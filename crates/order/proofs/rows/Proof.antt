@@ -1,5 +1,4 @@
 -- `order::rows` meets its contract, which is that of `rank::ranked` on the first rows of the two arrays.
--- Assumes nothing.
 use Prim.Native.Nat.{_≤_, _-_}
 use mathlib.Core.Path.{sym}
 use native.Mathlib.Omega.{arith}

@@ -1,5 +1,4 @@
 -- `page::length_of` meets its contract. One answer for each case, that of a refusal said by a term: a wrong one is refused at its own line.
--- Assumes nothing.
 use mathlib.Core.Path.{sym, ap}
 use borrow.Author.Needs.{needs}
 use Rattle.page.specs.Paged.{lengthOf}

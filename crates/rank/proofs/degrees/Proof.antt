@@ -1,5 +1,4 @@
 -- `rank::degrees` meets its contract: the counts, with the arcs that are left, are the in-degrees of all.
--- Assumes nothing.
 use Prim.Native.Nat.{_≤_, _<_, _-_}
 use mathlib.Core.Logic.{⊎-elim}
 use native.Mathlib.Omega.{arith}

@@ -1,5 +1,4 @@
 -- `rank::linked` meets its contract: from arc i on, the chains lead from arc to arc of each source.
--- Assumes nothing.
 use Prim.Native.Nat.{_+_, _≤_, _<_, _-_}
 use mathlib.Core.Path.{_≡_, ap}
 use native.Mathlib.Omega.{arith}

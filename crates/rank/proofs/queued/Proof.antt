@@ -1,5 +1,4 @@
 -- `rank::queued` meets its contract: the walk from the state so far ends as the walk from the start, for the queue and, in it, for the arcs of one source.
--- Assumes nothing.
 use Prim.Native.Nat.{ℕ, _≤_, _<_, _-_}
 use mathlib.Core.Path.{_≡_, sym, ap, _∙_}
 use mathlib.Core.List.{List}

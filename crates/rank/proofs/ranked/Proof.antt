@@ -1,5 +1,4 @@
 -- `rank::ranked` meets its contract, by the laws of proofs/Counts.antt.
--- Assumes nothing.
 use Prim.Native.Nat.{ℕ, _≤_, _-_, min}
 use mathlib.Core.Path.{_≡_, ap, _∙_}
 use native.Mathlib.Omega.{arith}

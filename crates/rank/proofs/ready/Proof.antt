@@ -1,5 +1,4 @@
 -- `rank::ready` meets its contract: the queue, with what is ready among the counts that are left, is all that is ready.
--- Assumes nothing.
 use Prim.Native.Nat.{_≤_, _<_, _-_}
 use mathlib.Core.Path.{_≡_, refl, sym, _∙_}
 use mathlib.Core.List.{append-nil}

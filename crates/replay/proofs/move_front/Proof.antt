@@ -1,4 +1,4 @@
--- `replay::move_front` is safe and ends. Assumes nothing.
+-- `replay::move_front` is safe and ends.
 use Prim.Native.Nat.{_≤_, _-_}
 use mathlib.Core.Path.{_≡_}
 use native.Mathlib.Omega.{arith}

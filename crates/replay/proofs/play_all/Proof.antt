@@ -1,4 +1,4 @@
--- `replay::play_all` is safe and ends. Assumes nothing.
+-- `replay::play_all` is safe and ends.
 use mathlib.Core.Path.{_≡_, refl}
 use lib.ListN.{length}
 use borrow.Author.Needs.{needs}

@@ -1,4 +1,4 @@
--- `replay::play_whole` is safe and ends. Assumes nothing.
+-- `replay::play_whole` is safe and ends.
 use Prim.Native.Nat.{_-_}
 use lib.ListN.{length}
 use borrow.Author.Needs.{needs}

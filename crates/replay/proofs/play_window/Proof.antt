@@ -1,4 +1,4 @@
--- `replay::play_window` is safe. Assumes nothing.
+-- `replay::play_window` is safe.
 use Prim.Native.Nat.{_≤_}
 use mathlib.Core.Path.{sym}
 use native.Mathlib.Omega.{arith}

@@ -1,4 +1,4 @@
--- `vec_graph::id_words` is safe and ends. Assumes nothing.
+-- `vec_graph::id_words` is safe and ends.
 use Prim.Native.Nat.{_≤_, _-_}
 use borrow.Author.Needs.{needs}
 use Rattle.vec_graph.proofs.id_words.Statement.{statement}

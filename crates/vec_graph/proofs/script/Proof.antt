@@ -1,4 +1,4 @@
--- `vec_graph::script` is safe and ends. Assumes nothing.
+-- `vec_graph::script` is safe and ends.
 use Prim.Native.Nat.{_-_}
 use borrow.Author.Needs.{needs}
 use Rattle.vec_graph.proofs.script.Statement.{statement}

@@ -1,4 +1,4 @@
--- `vec_synthdef::edge_words` is safe and ends. Assumes nothing.
+-- `vec_synthdef::edge_words` is safe and ends.
 use Prim.Native.Nat.{_≤_, _-_}
 use borrow.Author.Needs.{needs}
 use Rattle.vec_synthdef.proofs.edge_words.Statement.{statement}

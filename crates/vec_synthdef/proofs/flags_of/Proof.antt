@@ -1,4 +1,4 @@
--- `vec_synthdef::flags_of` is safe and ends. Assumes nothing.
+-- `vec_synthdef::flags_of` is safe and ends.
 use Prim.Native.Nat.{_≤_, _-_}
 use mathlib.Core.Path.{_≡_}
 use lib.ListN.{length}

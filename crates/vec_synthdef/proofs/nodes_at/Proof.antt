@@ -1,4 +1,4 @@
--- `vec_synthdef::nodes_at` is safe and ends. Assumes nothing.
+-- `vec_synthdef::nodes_at` is safe and ends.
 use Prim.Native.Nat.{_-_}
 use mathlib.Core.Path.{_≡_}
 use lib.ListN.{length}

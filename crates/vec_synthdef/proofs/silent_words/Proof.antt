@@ -1,4 +1,4 @@
--- `vec_synthdef::silent_words` is safe and ends. Assumes nothing.
+-- `vec_synthdef::silent_words` is safe and ends.
 use Prim.Native.Nat.{_-_}
 use borrow.Author.Needs.{needs}
 use Rattle.vec_synthdef.proofs.silent_words.Statement.{statement}

@@ -1,4 +1,4 @@
--- `vectors::answer_all` is safe and ends. Assumes nothing.
+-- `vectors::answer_all` is safe and ends.
 use Prim.Native.Nat.{_-_}
 use borrow.Author.Needs.{needs}
 use Rattle.vectors.proofs.answer_all.Statement.{statement}

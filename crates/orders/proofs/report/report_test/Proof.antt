@@ -1,6 +1,5 @@
 -- `orders::report::report_test` meets its contract. Each answer rests on what the two tests say, which is looked for among what is known
 -- at that place: a change of the order of the tests is refused at what is then not known.
--- Assumes nothing.
 use mathlib.Core.Path.{_≡_, sym, _∙_}
 use mathlib.Core.Bool.{Bool, true, false, not}
 use borrow.Author.Needs.{needs}

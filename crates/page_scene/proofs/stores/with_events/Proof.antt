@@ -1,4 +1,4 @@
--- The loop's invariant: the calls so far. Assumes nothing.
+-- The loop's invariant: the calls so far.
 use Prim.Native.Nat.{_≤_, _-_}
 use mathlib.Core.Path.{_≡_, ap}
 use native.Mathlib.Omega.{arith}

@@ -1,4 +1,4 @@
--- `play::blocks::reported` is safe. Assumes nothing.
+-- `play::blocks::reported` is safe.
 use Prim.Native.Nat.{_≤_}
 use native.Mathlib.Omega.{arith}
 use borrow.Author.Needs.{needs}

@@ -1,4 +1,4 @@
--- `play::tell::lent_page` is safe. Assumes nothing.
+-- `play::tell::lent_page` is safe.
 use Prim.Native.Nat.{_≤_}
 use native.Mathlib.Omega.{arith}
 use borrow.Author.Needs.{needs}

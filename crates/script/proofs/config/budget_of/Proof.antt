@@ -1,4 +1,4 @@
--- `script::config::budget_of` meets its contract. Assumes nothing.
+-- `script::config::budget_of` meets its contract.
 use Prim.Native.Nat.{ℕ}
 use mathlib.Core.Path.{sym, ap}
 use borrow.Author.Tests.{ne-eqb}

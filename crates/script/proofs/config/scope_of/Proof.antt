@@ -1,4 +1,4 @@
--- `script::config::scope_of` meets its contract. Assumes nothing.
+-- `script::config::scope_of` meets its contract.
 use mathlib.Core.Path.{sym, ap}
 use borrow.Author.Tests.{ne-eqb}
 use Rattle.script.specs.Config.{scopeOf}

@@ -1,4 +1,4 @@
--- `script::def::def_at` meets its contract. Assumes nothing.
+-- `script::def::def_at` meets its contract.
 use borrow.Author.Needs.{needs}
 use Rattle.script.proofs.Defined.{defined}
 use Rattle.script.proofs.def.def_at.Statement.{statement}

@@ -1,4 +1,4 @@
--- `script::def::edge_at` meets its contract. Assumes nothing.
+-- `script::def::edge_at` meets its contract.
 use borrow.Author.Needs.{needs}
 use Rattle.script.proofs.def.edge_at.Statement.{statement}
 use Rattle.script.proofs.def.edge_at.Tie as tie

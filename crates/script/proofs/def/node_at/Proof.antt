@@ -1,4 +1,4 @@
--- `script::def::node_at` meets its contract. Assumes nothing.
+-- `script::def::node_at` meets its contract.
 use borrow.Author.Needs.{needs}
 use Rattle.script.proofs.def.node_at.Statement.{statement}
 use Rattle.script.proofs.def.node_at.Tie as tie

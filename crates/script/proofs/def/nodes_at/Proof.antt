@@ -1,4 +1,4 @@
--- `script::def::nodes_at` meets its contract. Assumes nothing.
+-- `script::def::nodes_at` meets its contract.
 use Prim.Native.Nat.{_-_}
 use borrow.Author.Needs.{needs}
 use Rattle.script.specs.Def.{nodeAt, nodeEnd}

@@ -1,4 +1,4 @@
--- `script::def::param_at` meets its contract. Assumes nothing.
+-- `script::def::param_at` meets its contract.
 use borrow.Author.Needs.{needs}
 use Rattle.script.proofs.def.param_at.Statement.{statement}
 use Rattle.script.proofs.def.param_at.Tie as tie

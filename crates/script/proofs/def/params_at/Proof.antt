@@ -1,4 +1,4 @@
--- `script::def::params_at` meets its contract. Assumes nothing.
+-- `script::def::params_at` meets its contract.
 use Prim.Native.Nat.{_-_}
 use borrow.Author.Needs.{needs}
 use Rattle.script.specs.Def.{paramAt, paramEnd}

@@ -1,4 +1,4 @@
--- `script::entry::entry_end` meets its contract. Assumes nothing.
+-- `script::entry::entry_end` meets its contract.
 use borrow.Author.Needs.{needs}
 use Rattle.script.proofs.entry.entry_end.Statement.{statement}
 use Rattle.script.proofs.entry.entry_end.Tie as tie

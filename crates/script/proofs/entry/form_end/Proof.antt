@@ -1,4 +1,4 @@
--- `script::entry::form_end` meets its contract. Assumes nothing.
+-- `script::entry::form_end` meets its contract.
 use borrow.Author.Needs.{needs}
 use Rattle.script.proofs.entry.form_end.Statement.{statement}
 use Rattle.script.proofs.entry.form_end.Tie as tie

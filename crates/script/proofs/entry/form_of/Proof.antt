@@ -1,4 +1,4 @@
--- `script::entry::form_of` meets its contract. Assumes nothing.
+-- `script::entry::form_of` meets its contract.
 use mathlib.Core.Path.{sym}
 use lib.ListN.{List·getD-eq-default}
 use Rattle.script.specs.Entry.{forms}

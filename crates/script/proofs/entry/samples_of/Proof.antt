@@ -1,4 +1,4 @@
--- `script::entry::samples_of` meets its contract. Assumes nothing.
+-- `script::entry::samples_of` meets its contract.
 use borrow.Author.Needs.{needs}
 use Rattle.script.proofs.entry.samples_of.Statement.{statement}
 use Rattle.script.proofs.entry.samples_of.Tie as tie

@@ -1,4 +1,4 @@
--- `script::entry::within` meets its contract. Assumes nothing.
+-- `script::entry::within` meets its contract.
 use borrow.Author.Tests.{le-leb, lt-leb}
 use Rattle.script.proofs.entry.within.Statement.{statement}
 use Rattle.script.proofs.entry.within.Tie as tie

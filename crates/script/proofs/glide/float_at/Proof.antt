@@ -1,4 +1,4 @@
--- `script::glide::float_at` meets its contract. Assumes nothing.
+-- `script::glide::float_at` meets its contract.
 use borrow.Author.Needs.{needs}
 use Rattle.script.proofs.glide.float_at.Statement.{statement}
 use Rattle.script.proofs.glide.float_at.Tie as tie

@@ -1,4 +1,4 @@
--- `script::glide::glide_at` meets its contract. Assumes nothing.
+-- `script::glide::glide_at` meets its contract.
 use borrow.Author.Needs.{needs}
 use Rattle.script.proofs.glide.glide_at.Statement.{statement}
 use Rattle.script.proofs.glide.glide_at.Tie as tie

@@ -1,4 +1,4 @@
--- `script::name::name_at` meets its contract. Assumes nothing.
+-- `script::name::name_at` meets its contract.
 use borrow.Author.Needs.{needs}
 use Rattle.script.proofs.name.name_at.Statement.{statement}
 use Rattle.script.proofs.name.name_at.Tie as tie

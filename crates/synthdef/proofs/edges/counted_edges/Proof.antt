@@ -1,5 +1,4 @@
 -- `synthdef::edges::counted_edges` meets its contract. Invariant: the rows so far and the counted edges of what is left are the counted edges of all; past the rows so far the array is as it began.
--- Assumes nothing.
 use Prim.Native.Nat.{_+_, _≤_, _<_, _-_}
 use mathlib.Core.Path.{_≡_, refl, sym, ap, _∙_}
 use mathlib.Core.List.{List, _∷_, _++_, append-nil}

@@ -1,5 +1,4 @@
 -- `synthdef::edges::ends_at` meets its contract. The two comparisons, and what is left where the first fails.
--- Assumes nothing.
 use mathlib.Core.Path.{_≡_, sym, _∙_}
 use borrow.Author.Needs.{needs}
 use borrow.Author.Tests.{eq-eqb, ne-eqb}

@@ -1,5 +1,4 @@
 -- `synthdef::edges::taken_after` meets its contract. Invariant: of the edges from i on, one ends at the port exactly if one of those from the start does.
--- Assumes nothing.
 use Prim.Native.Nat.{ℕ, _-_}
 use mathlib.Core.Path.{_≡_, refl, sym, ap, _∙_}
 use mathlib.Core.List.{List}

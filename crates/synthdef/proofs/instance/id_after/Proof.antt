@@ -1,5 +1,4 @@
 -- `synthdef::instance::id_after` meets its contract. The sum is within the ids, or the last id stands for it.
--- Assumes nothing.
 use Prim.Native.Nat.{_+_, min}
 use mathlib.Core.Path.{_≡_, ap}
 use native.Mathlib.Omega.{arith}

@@ -1,5 +1,4 @@
 -- `synthdef::instance::live_edge` meets its contract. Both ends are those that `id_after` gives.
--- Assumes nothing.
 use borrow.Author.Needs.{needs}
 use Rattle.synthdef.proofs.instance.live_edge.Statement.{statement}
 use Rattle.synthdef.proofs.instance.live_edge.Tie as tie

@@ -1,5 +1,4 @@
 -- `synthdef::instance::live_node` meets its contract. The literal 0.0 is +0.
--- Assumes nothing.
 use mathlib.Core.Path.{refl}
 use borrow.Author.Needs.{needs}
 use lib.Ieee.{ofBits}

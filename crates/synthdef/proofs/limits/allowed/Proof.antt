@@ -1,5 +1,4 @@
 -- `synthdef::limits::allowed` meets its contract. Each refusal rewrites with the tests that were passed before it.
--- Assumes nothing.
 use Prim.Native.Nat.{ℕ, _≤_, _<_}
 use mathlib.Core.Path.{_≡_, sym, ap, _∙_}
 use mathlib.Core.Bool.{true}

@@ -1,5 +1,4 @@
 -- `synthdef::limits::bit_value` meets its contract. A shift by at most 8 loses nothing of 2 ^ n.
--- Assumes nothing.
 use Prim.Native.Nat.{_<_}
 use native.Mathlib.Omega.{arith}
 use borrow.Author.Needs.{needs}

@@ -1,5 +1,4 @@
 -- `synthdef::limits::counts_allowed` meets its contract. Each answer by the limits that were kept before it.
--- Assumes nothing.
 use Prim.Native.Nat.{_≤_, _<_}
 use native.Mathlib.Omega.{arith}
 use borrow.Author.Tests.{le-leb, lt-leb}

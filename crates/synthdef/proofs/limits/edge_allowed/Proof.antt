@@ -1,5 +1,4 @@
 -- `synthdef::limits::edge_allowed` meets its contract. A row below the count is a row of the table.
--- Assumes nothing.
 use Prim.Native.Nat.{ℕ, _≤_, _<_, min}
 use mathlib.Core.Path.{_≡_, ap, _∙_}
 use native.Mathlib.Omega.{arith}

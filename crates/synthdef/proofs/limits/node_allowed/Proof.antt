@@ -1,5 +1,4 @@
 -- `synthdef::limits::node_allowed` meets its contract. Each refusal rewrites with the tests that were passed before it.
--- Assumes nothing.
 use Prim.Native.Nat.{_≤_, _<_}
 use mathlib.Core.Path.{_≡_, sym, _∙_}
 use mathlib.Core.Bool.{true}

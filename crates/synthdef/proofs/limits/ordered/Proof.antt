@@ -1,5 +1,4 @@
 -- `synthdef::limits::ordered` meets its contract. Invariant: the ends so far and those of what is left are the ends of all edges. The arcs of the ends are the arcs of the edges.
--- Assumes nothing.
 use Prim.Native.Nat.{ℕ, _+_, _≤_, _<_, _-_, min}
 use mathlib.Core.Path.{_≡_, refl, sym, ap, _∙_}
 use mathlib.Core.List.{List, [], _∷_, _++_}

@@ -1,5 +1,4 @@
 -- `synthdef::limits::param_allowed` meets its contract. The name first, then the node.
--- Assumes nothing.
 use mathlib.Core.Path.{sym, _∙_}
 use borrow.Author.Needs.{needs}
 use borrow.Author.Tests.{not-true, not-false}

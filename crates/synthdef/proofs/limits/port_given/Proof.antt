@@ -1,5 +1,4 @@
 -- `synthdef::limits::port_given` meets its contract. None, or a port below the ports.
--- Assumes nothing.
 use borrow.Author.Tests.{eq-eqb, ne-eqb}
 use Rattle.synthdef.proofs.limits.port_given.Statement.{statement}
 use Rattle.synthdef.proofs.limits.port_given.Tie as tie

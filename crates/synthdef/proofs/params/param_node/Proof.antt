@@ -1,5 +1,4 @@
 -- `synthdef::params::param_node` meets its contract. Invariant: the first of that name from i on is the first of all.
--- Assumes nothing.
 use Prim.Native.Nat.{_-_}
 use mathlib.Core.Path.{_≡_, refl, sym, ap, _∙_}
 use lib.ListN.{length, drop}

@@ -1,5 +1,4 @@
 -- `synthdef::plan::done_plan` meets its contract. Invariant: the steps so far and those of the nodes that are left are the steps of all; past the steps so far the array has steps without sources.
--- Assumes nothing.
 use Prim.Native.Nat.{_+_, _≤_, _<_, _-_}
 use mathlib.Core.Path.{_≡_, refl, sym, ap, _∙_}
 use mathlib.Core.List.{[], _∷_, _++_}

@@ -1,6 +1,5 @@
 -- `synthdef::plan::is_every` meets its contract. One answer for each rule, said by a term: an arm with the wrong answer is refused at
 -- its own line.
--- Assumes nothing.
 use mathlib.Core.Path.{sym, ap}
 use borrow.Author.Needs.{needs}
 use Rattle.synthdef.specs.Plan.{isEvery}

@@ -1,5 +1,4 @@
 -- `synthdef::plan::named_span` meets its contract. The port is one of the ports, or none.
--- Assumes nothing.
 use borrow.Author.Tests.{lt-ltb, le-ltb}
 use Rattle.synthdef.proofs.plan.named_span.Statement.{statement}
 use Rattle.synthdef.proofs.plan.named_span.Tie as tie

@@ -1,5 +1,4 @@
 -- `synthdef::plan::sources_of` meets its contract. Invariant: the sources so far and those of the ports that are left are the sources of all; past the sources so far the array is 0.
--- Assumes nothing.
 use Prim.Native.Nat.{ℕ, zero, suc, _+_, _≤_, _<_, _-_}
 use mathlib.Core.Path.{_≡_, refl, sym, ap, _∙_}
 use mathlib.Core.List.{List, _++_}

@@ -1,5 +1,4 @@
 -- `synthdef::plan::span_of` meets its contract. One answer for each rule.
--- Assumes nothing.
 use Prim.Native.Nat.{min}
 use mathlib.Core.Path.{_≡_, sym, ap, _∙_}
 use borrow.Author.Needs.{needs}

@@ -1,5 +1,4 @@
 -- `synthdef::plan::step_of` meets its contract. A rule reads at most 8 ports, of the first 8; the step is that of the rule and the ports that were found.
--- Assumes nothing.
 use Prim.Native.Nat.{ℕ, _≤_}
 use mathlib.Core.Path.{_≡_, refl, sym, ap, _∙_}
 use mathlib.Core.Bool.{Bool, true, false}

@@ -1,5 +1,4 @@
 -- `synthdef::plan::sum_of` meets its contract. No port, an unconnected one, or all of them connected.
--- Assumes nothing.
 use Prim.Native.Nat.{_<_}
 use mathlib.Core.Path.{sym, _∙_}
 use native.Mathlib.Omega.{arith}

@@ -1,5 +1,4 @@
 -- `synthdef::silent::node_silent` meets its contract. By the done flag, else by the step.
--- Assumes nothing.
 use borrow.Author.Needs.{needs}
 use Rattle.synthdef.proofs.silent.node_silent.Statement.{statement}
 use Rattle.synthdef.proofs.silent.node_silent.Tie as tie

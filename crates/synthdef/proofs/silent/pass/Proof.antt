@@ -1,5 +1,4 @@
 -- `synthdef::silent::pass` meets its contract. Invariant: the flags so far and those of the steps that are left are the pass.
--- Assumes nothing.
 use Prim.Native.Nat.{_+_, _≤_, _<_, _-_}
 use mathlib.Core.Path.{_≡_, refl, sym, ap, _∙_}
 use mathlib.Core.List.{_∷_, _++_}

@@ -1,5 +1,4 @@
 -- `synthdef::silent::plan_silent` meets its contract. The output among the flags that have settled.
--- Assumes nothing.
 use mathlib.Core.Path.{ap, _∙_}
 use borrow.Author.Needs.{needs}
 use Rattle.synthdef.specs.Plan.{silentIn}

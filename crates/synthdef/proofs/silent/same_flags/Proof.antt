@@ -1,5 +1,4 @@
 -- `synthdef::silent::same_flags` meets its contract. Invariant: the flags from i on are the same exactly if all are.
--- Assumes nothing.
 use Prim.Native.Nat.{_+_, _≤_, _-_}
 use mathlib.Core.Path.{_≡_, refl, sym, ap, _∙_}
 use mathlib.Core.List.{_∷_}

@@ -1,5 +1,4 @@
 -- `synthdef::silent::says` meets its contract. Invariant: the sources from i on say what all say.
--- Assumes nothing.
 use Prim.Native.Nat.{ℕ, _+_, _-_, min}
 use mathlib.Core.Path.{_≡_, refl, sym, ap, _∙_}
 use mathlib.Core.List.{List, [], _∷_}

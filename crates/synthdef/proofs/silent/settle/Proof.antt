@@ -1,5 +1,4 @@
 -- `synthdef::silent::settle` meets its contract. Invariant: the passes that are left, from the flags so far, give what all passes give. Flags that a pass leaves as they are stay so.
--- Assumes nothing.
 use Prim.Native.Nat.{_≤_, _-_}
 use mathlib.Core.Path.{_≡_, refl, sym, ap, _∙_}
 use native.Mathlib.Omega.{arith}

@@ -1,5 +1,4 @@
 -- `synthdef::silent::silent_in` meets its contract. Past the flags nothing is silent.
--- Assumes nothing.
 use Prim.Native.Nat.{_≤_}
 use mathlib.Core.Path.{sym, ap}
 use mathlib.Core.Bool.{false}

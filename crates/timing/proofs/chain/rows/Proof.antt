@@ -1,4 +1,4 @@
--- `timing::chain::rows` is safe and ends. Assumes nothing.
+-- `timing::chain::rows` is safe and ends.
 use Prim.Native.Nat.{_≤_, _-_}
 use mathlib.Core.Path.{_≡_}
 use lib.ListN.{length}

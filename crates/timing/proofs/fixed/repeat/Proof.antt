@@ -1,4 +1,4 @@
--- `timing::fixed::repeat` is safe and ends. Assumes nothing.
+-- `timing::fixed::repeat` is safe and ends.
 use Prim.Native.Nat.{_≤_, _-_}
 use borrow.Author.Needs.{needs}
 use Rattle.timing.proofs.fixed.repeat.Statement.{statement}

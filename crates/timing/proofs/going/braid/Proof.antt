@@ -1,4 +1,4 @@
--- `timing::going::braid` is safe and ends. Assumes nothing.
+-- `timing::going::braid` is safe and ends.
 use Prim.Native.Nat.{_≤_, _-_}
 use borrow.Author.Needs.{needs}
 use Rattle.timing.proofs.going.braid.Statement.{statement}

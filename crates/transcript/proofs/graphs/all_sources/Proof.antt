@@ -1,4 +1,4 @@
--- `transcript::graphs::all_sources` is safe and ends. Assumes nothing.
+-- `transcript::graphs::all_sources` is safe and ends.
 use Prim.Native.Nat.{_≤_, _-_}
 use borrow.Author.Needs.{needs}
 use Rattle.transcript.proofs.graphs.all_sources.Statement.{statement}

@@ -1,4 +1,4 @@
--- `transcript::graphs::node_lines` is safe and ends. Assumes nothing.
+-- `transcript::graphs::node_lines` is safe and ends.
 use Prim.Native.Nat.{_≤_, _-_}
 use borrow.Author.Needs.{needs}
 use Rattle.transcript.proofs.graphs.node_lines.Statement.{statement}

@@ -1,4 +1,4 @@
--- `transcript::queue::event_lines` is safe and ends. Assumes nothing.
+-- `transcript::queue::event_lines` is safe and ends.
 use Prim.Native.Nat.{_≤_, _-_}
 use borrow.Author.Needs.{needs}
 use Rattle.transcript.proofs.queue.event_lines.Statement.{statement}

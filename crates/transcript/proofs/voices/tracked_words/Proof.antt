@@ -1,4 +1,4 @@
--- `transcript::voices::tracked_words` is safe and ends. Assumes nothing.
+-- `transcript::voices::tracked_words` is safe and ends.
 use Prim.Native.Nat.{_≤_, _-_}
 use borrow.Author.Needs.{needs}
 use Rattle.transcript.proofs.voices.tracked_words.Statement.{statement}

@@ -1,4 +1,4 @@
--- `transcript::voices::voice_lines` is safe and ends. Assumes nothing.
+-- `transcript::voices::voice_lines` is safe and ends.
 use Prim.Native.Nat.{_≤_, _-_}
 use borrow.Author.Needs.{needs}
 use Rattle.transcript.proofs.voices.voice_lines.Statement.{statement}

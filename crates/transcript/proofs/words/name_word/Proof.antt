@@ -1,4 +1,4 @@
--- `transcript::words::name_word` is safe. Assumes nothing.
+-- `transcript::words::name_word` is safe.
 use Prim.Native.Nat.{ℕ, _≤_}
 use mathlib.Core.Path.{_≡_, sym, _∙_}
 use native.Mathlib.Omega.{arith}

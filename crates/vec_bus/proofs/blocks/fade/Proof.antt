@@ -1,4 +1,4 @@
--- `vec_bus::blocks::fade` is safe. Assumes nothing.
+-- `vec_bus::blocks::fade` is safe.
 use borrow.Author.Needs.{needs}
 use Rattle.wire.proofs.Part.{counted}
 use Rattle.vec_bus.proofs.blocks.fade.Statement.{statement}

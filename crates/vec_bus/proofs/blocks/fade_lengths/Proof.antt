@@ -1,4 +1,4 @@
--- `vec_bus::blocks::fade_lengths` is safe and ends. Assumes nothing.
+-- `vec_bus::blocks::fade_lengths` is safe and ends.
 use Prim.Native.Nat.{_-_}
 use borrow.Author.Needs.{needs}
 use Rattle.vec_bus.proofs.blocks.fade_lengths.Statement.{statement}

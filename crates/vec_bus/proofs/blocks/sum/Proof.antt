@@ -1,4 +1,4 @@
--- `vec_bus::blocks::sum` is safe. Assumes nothing.
+-- `vec_bus::blocks::sum` is safe.
 use borrow.Author.Needs.{needs}
 use Rattle.wire.proofs.Part.{counted}
 use Rattle.vec_bus.proofs.blocks.sum.Statement.{statement}

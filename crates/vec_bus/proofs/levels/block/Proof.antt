@@ -1,4 +1,4 @@
--- `vec_bus::levels::block` is safe. Assumes nothing.
+-- `vec_bus::levels::block` is safe.
 use borrow.Author.Needs.{needs}
 use Rattle.wire.proofs.Part.{counted}
 use Rattle.vec_bus.proofs.levels.block.Statement.{statement}

@@ -1,4 +1,4 @@
--- `vec_voice::queues::name_word` is safe. Assumes nothing.
+-- `vec_voice::queues::name_word` is safe.
 use Prim.Native.Nat.{ℕ, _≤_}
 use mathlib.Core.Path.{_≡_, sym, _∙_}
 use native.Mathlib.Omega.{arith}

@@ -1,4 +1,4 @@
--- `vec_voice::victims::candidates_at` is safe and ends: no more candidates are kept than rows were read. Assumes nothing.
+-- `vec_voice::victims::candidates_at` is safe and ends: no more candidates are kept than rows were read.
 use Prim.Native.Nat.{_≤_, _-_}
 use mathlib.Core.Path.{_≡_}
 use lib.ListN.{length}

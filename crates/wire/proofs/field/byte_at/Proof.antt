@@ -1,4 +1,4 @@
--- `wire::field::byte_at` gives the byte, or 0 past the end. Assumes nothing.
+-- `wire::field::byte_at` gives the byte, or 0 past the end.
 use borrow.Author.Needs.{needs}
 use mathlib.Core.Path.{sym}
 use Rattle.wire.proofs.Halves.{one, past}

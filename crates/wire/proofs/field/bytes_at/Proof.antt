@@ -1,4 +1,4 @@
--- `wire::field::bytes_at` gives the bytes, or none. Assumes nothing.
+-- `wire::field::bytes_at` gives the bytes, or none.
 use Prim.Native.Nat.{ℕ, _+_, _≤_, _<_, _-_}
 use mathlib.Core.Path.{_≡_, ap}
 use native.Mathlib.Omega.{arith}

@@ -1,4 +1,4 @@
--- `wire::field::float` gives the float of its pattern. Assumes nothing.
+-- `wire::field::float` gives the float of its pattern.
 use borrow.Author.Needs.{needs}
 use lib.Ieee.{binary32}
 use Rattle.wire.proofs.Nan.{made, no-nan-bits}

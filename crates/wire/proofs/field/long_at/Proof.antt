@@ -1,4 +1,4 @@
--- `wire::field::long_at` gives its two halves. Assumes nothing.
+-- `wire::field::long_at` gives its two halves.
 use borrow.Author.Needs.{needs}
 use Rattle.wire.specs.Field.{last}
 use Rattle.wire.proofs.Halves.{halves}

@@ -1,4 +1,4 @@
--- `wire::word::long_pattern` gives the pattern of a float. Assumes nothing.
+-- `wire::word::long_pattern` gives the pattern of a float.
 use lib.Ieee.{binary64}
 use Rattle.wire.proofs.Nan.{told, plain, no-nan}
 use Rattle.wire.proofs.word.long_pattern.Statement.{statement}

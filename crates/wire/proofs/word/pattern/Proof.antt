@@ -1,4 +1,4 @@
--- `wire::word::pattern` gives the pattern of a float. Assumes nothing.
+-- `wire::word::pattern` gives the pattern of a float.
 use lib.Ieee.{binary32}
 use Rattle.wire.proofs.Nan.{told, plain, no-nan}
 use Rattle.wire.proofs.word.pattern.Statement.{statement}
