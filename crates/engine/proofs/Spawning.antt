@@ -30,7 +30,7 @@ use Rattle.model.specs.Voice.{feeder, beginFade}
 use Rattle.model.specs.Refuse.{orElse, noHeadroom, noIds, spawnRefusal}
 use Rattle.model.specs.Spawn.{tries, stateUnder, recorded, fadeOf}
 use Rattle.model.specs.Model.{Model, settle, stolen, stealVoice, stealThen}
-use Rattle.model.specs.Refused.{notSpawned, place-left}
+use Rattle.model.proofs.Refused.{notSpawned, place-left}
 use Rattle.engine.specs.Room.{Headroom, FadeRoom, Roomy}
 use Rattle.engine.proofs.Placing.{headroom-cut}
 

@@ -29,7 +29,7 @@ use Rattle.graph.specs.Change.{append, connect, edge}
 use Rattle.graph.proofs.Calls.{same-view}
 use Rattle.synthdef.specs.Tables.{nodeRows, edgeRows}
 use Rattle.synthdef.specs.Edges.{counted}
-use Rattle.synthdef.specs.EdgeLaws.{counted-in, length-counted}
+use Rattle.synthdef.proofs.EdgeLaws.{counted-in, length-counted}
 use Rattle.synthdef.specs.Instance.{idAfter, liveEdges}
 use Rattle.synthdef.specs.Limits.{allowed}
 use Rattle.synthdef.specs.declared.def.DefEdge.{DefEdge}

@@ -2,11 +2,9 @@
 use Prim.Native.Nat.{ℕ, _*_}
 use mathlib.Core.List.{List, [], _∷_, map}
 use mathlib.Core.Option.{Option, none, some}
-use mathlib.Core.Bool.{Bool, true, false}
 use lib.ListN.{length}
 use Rattle.lists.specs.Find.{find, mapO}
 use Rattle.node.specs.Name.{nameOf}
-use Rattle.node.specs.declared.record.NodeId.{NodeId}
 use Rattle.node.specs.declared.refusal.Refusal.{Refusal}
 use Rattle.edges.specs.Ports as ports
 use Rattle.graph.specs.View.{GraphView}

@@ -1,7 +1,7 @@
 -- "Clearing: as above; ended is count × block at least L."
 use Prim.Native.Nat.{ℕ, _+_, _*_}
 use mathlib.Core.List.{List, [], _∷_}
-use mathlib.Core.Bool.{Bool, true, false}
+use mathlib.Core.Bool.{Bool, false}
 use lib.Dec.{leb}
 use lib.ListN.{length}
 use Rattle.lists.specs.Keep.{keep}

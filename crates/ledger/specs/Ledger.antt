@@ -1,12 +1,10 @@
 -- 01's ledger: "fed the calls with all their arguments, making's too, and nothing from the store". Ports are decided by their
 -- holders and fades by counts of sounding renders: in a fading voice's record `position` is that count here. What the rules
 -- give both, it shares with the model: nodes, edges, ids, clock, events, reports, steal records, policy, level, silence.
-use Prim.Native.Nat.{ℕ, zero, suc, _+_, _*_, min}
+use Prim.Native.Nat.{ℕ, zero, suc}
 use mathlib.Core.List.{List, [], _∷_, _++_, map}
 use mathlib.Core.Option.{Option, none, some}
-use mathlib.Core.Bool.{Bool, true, false, not, cond}
-use lib.Dec.{leb}
-use lib.ListN.{length}
+use mathlib.Core.Bool.{Bool, not, cond}
 use Rattle.lists.specs.Keep.{keep}
 use Rattle.lists.specs.Find.{find}
 use Rattle.node.specs.declared.record.NodeId.{NodeId}
@@ -24,12 +22,12 @@ use Rattle.store.specs.declared.answer.Spawned.the-variants as Spawned
 use Rattle.store.specs.declared.config.Config.{Config}
 use Rattle.store.specs.declared.voices.Voice.{Voice}
 use Rattle.store.specs.declared.voices.VoiceState.{VoiceState}
-use Rattle.store.specs.declared.voices.VoiceState.the-variants.{Tracked, Fading, Loose}
+use Rattle.store.specs.declared.voices.VoiceState.the-variants.{Tracked, Loose}
 use Rattle.model.specs.Desk.{Desk, newDesk, withGraph, withSteals}
 use Rattle.model.specs.Voice.{isVoice, candidates, counted, beginFade}
 use Rattle.model.specs.Refuse.{spawnRefusal}
 use Rattle.model.specs.Spawn.{landDesk, newcomer, nextVoice, stateUnder, tries, fadeDesk, fadeOf, reclaimBook, nextOut}
-use Rattle.ledger.specs.Holder.{Holders, Holder, nobody, voice, isHeld, byVoice, hold, dropVoice}
+use Rattle.ledger.specs.Holder.{Holders, nobody, voice, isHeld, byVoice, hold, dropVoice}
 
 pub record Ledger : Type 0 where
   pub desk : Desk

@@ -9,7 +9,7 @@ use Rattle.scheduler.specs.declared.event.Event.{Event}
 use Rattle.store.specs.declared.answer.Rendered.{Rendered}
 use Rattle.store.specs.declared.answer.Rendered.the-variants as Rendered
 use Rattle.store.specs.declared.voices.Voice.{Voice}
-use Rattle.model.specs.Desk.{Desk, withEvents, withClock, sounding}
+use Rattle.model.specs.Desk.{withEvents, withClock, sounding}
 use Rattle.model.specs.Voice.{moved}
 use Rattle.model.specs.Order.{order}
 use Rattle.model.specs.Render.{prepareOutcome, prepareDesk, isFree, anyFree, heard, answerAfter, isSounding, deadline, due, clockEnds}

@@ -3,7 +3,7 @@
 use Prim.Native.Nat.{ℕ}
 use mathlib.Core.List.{List, [], _∷_}
 use mathlib.Core.Option.{Option, none, some}
-use mathlib.Core.Bool.{Bool, true, false, cond}
+use mathlib.Core.Bool.{Bool, cond}
 use lib.ListN.{length}
 use lib.Dec.{leb}
 use lib.Ieee.{Float}
@@ -20,7 +20,7 @@ use Rattle.edges.specs.declared.ports.Source.{Source}
 use Rattle.graph.specs.View.{GraphView}
 use Rattle.graph.specs.Node.{nodeAt, hostNode}
 use Rattle.graph.specs.Change as change
-use Rattle.graph.specs.Refuse.{addRefusal, hostRefusal, disconnectRefusal, connectRefusal}
+use Rattle.graph.specs.Refuse.{addRefusal, hostRefusal, disconnectRefusal, connectRefusal, when}
 use Rattle.order.specs.declared.Readiness.{Readiness}
 use Rattle.order.specs.declared.Readiness.the-variants as Readiness
 use Rattle.scheduler.specs.Queue.{full, inserted}
@@ -35,7 +35,6 @@ use Rattle.store.specs.declared.voices.Voice.{Voice}
 use Rattle.store.specs.declared.voices.VoiceState.{VoiceState}
 use Rattle.store.specs.declared.voices.VoiceState.the-variants.{Tracked, Fading, Loose}
 use Rattle.node.specs.declared.refusal.Refusal.the-variants.{TableFull, ShortBuffer}
-use Rattle.graph.specs.Refuse.{when}
 use Rattle.model.specs.Desk.{Desk, withGraph, withEvents}
 use Rattle.model.specs.Voice.{isVoice, levelOr}
 use Rattle.model.specs.Refuse.{reportRefusal}

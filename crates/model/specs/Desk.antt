@@ -1,10 +1,9 @@
 -- What the store has besides its voices: what making fixed, the graph, the pending events, the steal records, the clock, the
 -- voice ids given out and the noise sequence. The ledger has the same, since 01 says of the ledger: "From these the rules above
 -- give its nodes, edges, ids, clock, events, reports and steal records".
-use Prim.Native.Nat.{ℕ, _+_, _%_, _^_}
+use Prim.Native.Nat.{ℕ, _+_, _%_}
 use mathlib.Core.List.{List, []}
-use mathlib.Core.Option.{Option, none, some}
-use mathlib.Core.Bool.{Bool, true, false, _&&_}
+use mathlib.Core.Bool.{Bool, _&&_}
 use Rattle.lists.specs.Find.{isSome}
 use Rattle.bus.specs.Fade.{fadeLength}
 use Rattle.graph.specs.View.{GraphView, newGraph}

@@ -1,6 +1,6 @@
 -- Making a store: 1, 2, 3, or a new store.
 use Prim.Native.Nat.{ℕ}
-use mathlib.Core.List.{List, []}
+use mathlib.Core.List.{[]}
 use mathlib.Core.Option.{Option, none, some}
 use lib.Ieee.{Float}
 use Rattle.node.specs.declared.refusal.Refusal.{Refusal}

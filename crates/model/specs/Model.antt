@@ -1,9 +1,8 @@
 -- The store as a value of plain lists. Here ports are decided by edges and fades by positions.
-use Prim.Native.Nat.{ℕ, zero, suc, _+_, min}
+use Prim.Native.Nat.{ℕ, zero, suc}
 use mathlib.Core.List.{List, [], _∷_, _++_, map}
 use mathlib.Core.Option.{Option, none, some}
-use mathlib.Core.Bool.{Bool, true, false, not}
-use lib.ListN.{length}
+use mathlib.Core.Bool.{Bool, not}
 use Rattle.lists.specs.Keep.{keep}
 use Rattle.lists.specs.Find.{find}
 use Rattle.node.specs.declared.record.NodeId.{NodeId}
@@ -21,11 +20,11 @@ use Rattle.store.specs.declared.answer.Spawned.{Spawned}
 use Rattle.store.specs.declared.answer.Spawned.the-variants as Spawned
 use Rattle.store.specs.declared.voices.Voice.{Voice}
 use Rattle.store.specs.declared.voices.VoiceState.{VoiceState}
-use Rattle.store.specs.declared.voices.VoiceState.the-variants.{Tracked, Fading, Loose}
+use Rattle.store.specs.declared.voices.VoiceState.the-variants.{Tracked, Loose}
 use Rattle.model.specs.Desk.{Desk, withGraph, withSteals}
 use Rattle.model.specs.Voice.{isVoice, feeder, candidates, counted, beginFade}
 use Rattle.model.specs.Refuse.{spawnRefusal}
-use Rattle.model.specs.Spawn.{landDesk, newcomer, nextVoice, stateUnder, tries, fadeDesk, fadeOf, reclaimBook, recorded, nextOut}
+use Rattle.model.specs.Spawn.{landDesk, newcomer, nextVoice, stateUnder, tries, fadeDesk, fadeOf, reclaimBook, nextOut}
 
 pub record Model : Type 0 where
   pub desk : Desk

@@ -3,17 +3,14 @@ use Prim.Native.Nat.{ℕ, _+_}
 use mathlib.Core.List.{List}
 use mathlib.Core.Option.{Option, none, some}
 use mathlib.Core.Bool.{Bool, true, false, cond}
-use lib.ListN.{length}
 use lib.Ieee.{Float}
 use Rattle.lists.specs.Find.{find}
 use Rattle.level.specs.Level.{levelOf}
 use Rattle.node.specs.declared.name.Name.{Name}
 use Rattle.node.specs.declared.order.LastOrder.{LastOrder}
 use Rattle.node.specs.declared.order.LastOrder.the-variants as LastOrder
-use Rattle.node.specs.declared.record.NodeId.{NodeId}
 use Rattle.node.specs.declared.record.VoiceId.{VoiceId}
 use Rattle.node.specs.declared.record.Node.{Node}
-use Rattle.graph.specs.View.{GraphView}
 use Rattle.graph.specs.Node.{nodeAt, replaced}
 use Rattle.synthdef.specs.Tables.{paramRows}
 use Rattle.synthdef.specs.Params.{paramNode}

@@ -3,10 +3,10 @@
 use Prim.Native.Nat.{ℕ, _-_}
 use mathlib.Core.List.{List, [], _∷_, _++_}
 use Rattle.node.specs.Silence.{bytes}
-use Rattle.model.specs.Decimal.{decimal}
 use Rattle.store.specs.declared.voices.Voice.{Voice}
 use Rattle.store.specs.declared.voices.VoiceState.{VoiceState}
 use Rattle.store.specs.declared.voices.VoiceState.the-variants.{Tracked, Fading, Loose}
+use Rattle.model.specs.Decimal.{decimal}
 
 abbrev pub header : List ℕ
 header = bytes "voice age port state\n"

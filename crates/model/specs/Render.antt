@@ -1,13 +1,11 @@
 -- Prepare and render.
 use Prim.Native.Nat.{ℕ, _+_, min}
 use mathlib.Core.List.{List, [], _∷_, map}
-use mathlib.Core.Option.{Option, none, some}
 use mathlib.Core.Bool.{Bool, true, false, _||_, cond}
 use lib.Dec.{ltb}
 use Rattle.node.specs.declared.order.Action.{Action}
 use Rattle.node.specs.declared.order.Action.the-variants as Action
 use Rattle.node.specs.declared.record.NodeId.{NodeId}
-use Rattle.node.specs.declared.refusal.Refusal.{Refusal}
 use Rattle.node.specs.declared.refusal.Refusal.the-variants.{ClockEnd}
 use Rattle.order.specs.Prepare as graph
 use Rattle.order.specs.declared.Readiness.{Readiness}

@@ -16,6 +16,7 @@ use Rattle.voice.specs.declared.policy.Budget.the-variants.{AtMost}
 use Rattle.voice.specs.declared.policy.BudgetScope.{BudgetScope}
 use Rattle.voice.specs.declared.policy.BudgetScope.the-variants as BudgetScope
 use Rattle.voice.specs.declared.policy.StealPolicy.{StealPolicy}
+use Rattle.voice.specs.declared.policy.StealPolicy.the-variants as StealPolicy
 use Rattle.synthdef.specs.declared.def.DefNode.{DefNode}
 use Rattle.synthdef.specs.declared.def.SynthDef.{SynthDef}
 use Rattle.store.specs.declared.answer.Rendered.the-variants as Rendered
@@ -163,3 +164,11 @@ fading node start position number = Fading (record { node = id node; start = sta
 -- an edge, by source, target and port
 abbrev pub edge : ℕ → ℕ → ℕ → Edge
 edge a b p = record { from = id a; to = id b; port = p }
+
+-- ---- the page's scene: "rate 8000, block 16, budget 2, `Oldest`, `Global`"
+abbrev pub pageConfig : Config
+pageConfig = upTo 2 StealPolicy.Oldest
+
+-- what is printed
+abbrev pub printed : List ℕ
+printed = bytes "voice age port state\n1 48 0 fading\n2 32 1 held\n3 16 2 held\n"

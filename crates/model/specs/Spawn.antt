@@ -1,5 +1,5 @@
 -- What a spawn puts into the graph, and who goes for it: the parts of 01's "Managed spawn" that do not ask who holds a port.
-use Prim.Native.Nat.{ℕ, zero, suc, _+_, _^_}
+use Prim.Native.Nat.{ℕ, _+_}
 use mathlib.Core.List.{List, [], _∷_, _++_, map}
 use mathlib.Core.Option.{Option, none, some}
 use mathlib.Core.Bool.{Bool, true, false, not, cond, _&&_}
@@ -17,12 +17,10 @@ use Rattle.node.specs.declared.order.LastOrder.the-variants as LastOrder
 use Rattle.graph.specs.View.{GraphView}
 use Rattle.graph.specs.Change.{append, connect}
 use Rattle.voice.specs.Policy.{victim}
-use Rattle.voice.specs.declared.policy.StealPolicy.{StealPolicy}
 use Rattle.voice.specs.declared.policy.Victim.{Victim}
 use Rattle.voice.specs.declared.policy.Victim.the-variants.{Nobody, Goes}
 use Rattle.voice.specs.declared.policy.Budget.{Budget}
 use Rattle.voice.specs.declared.policy.Budget.the-variants.{Unlimited, AtMost}
-use Rattle.voice.specs.declared.policy.Level.{Level}
 use Rattle.voice.specs.Steals.{Book, pushed, marked, recordOf}
 use Rattle.synthdef.specs.Tables.{nodeRows, edgeRows}
 use Rattle.synthdef.specs.Edges.{counted}

@@ -17,8 +17,7 @@ use Rattle.model.specs.Make.{newModel}
 use Rattle.model.specs.Call.{Call, Ran, run}
 use Rattle.model.specs.Call as call
 use Rattle.model.specs.Page.{page}
-use Rattle.model.specs.Scene.{plain, float, host, sink}
-use Rattle.model.specs.PageScene.{pageConfig, printed}
+use Rattle.model.specs.Scene.{plain, float, host, sink, pageConfig, printed}
 
 -- a one-node definition `Tone`. Rows past a count are no part of it.
 abbrev pub tone : SynthDef

@@ -29,7 +29,7 @@ ghost use Rattle.model.specs.View.{modelOf};
 ghost use Rattle.model.specs.Call.{pageAnswer};
 ghost use Rattle.model.specs.Make.{newModel};
 ghost use Rattle.model.specs.Scene.{plain, further};
-ghost use Rattle.model.specs.PageScene.{pageConfig, printed};
+ghost use Rattle.model.specs.Scene.{pageConfig, printed};
 ghost use Rattle.page.specs.Paged.{pagedOf};
 ghost use Rattle.page_scene.specs.Played as played;
 

@@ -4,9 +4,9 @@ use native.Mathlib.Omega.{arith}
 use mathlib.Core.Path.{_≡_, sym, ap, _∙_}
 use mathlib.Core.List.{List, _∷_, _++_}
 use mathlib.Core.Bool.{true, false, not}
-use borrow.Author.Tests.{lt-ltb, le-ltb}
 use lib.ListN.{length, take, drop, getD, set, length-take, length-set, drop-of-length-le}
 use lib.Seq.{append-snoc, getD-take, length-take-le, take-set-lt, drop-set-lt}
+use borrow.Author.Tests.{lt-ltb, le-ltb}
 use Rattle.lists.specs.Table.{left-row, passed-row, append-row, keep-row, drop-row}
 use Rattle.scheduler.specs.declared.event.Event.{Event}
 use Rattle.scheduler.specs.Queue.{later, before?, inserted, due, takenBefore, leftAfter}

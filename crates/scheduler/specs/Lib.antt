@@ -1,4 +1,2 @@
 pub mod Event
 pub mod Queue
-pub mod Sorted
-pub mod Examples

@@ -1,3 +1,9 @@
+pub mod EdgeLaws
+pub mod StepLaws
+pub mod PassLaws
+pub mod Ranked
+pub mod Answer
+pub mod Examples
 pub mod Walk
 pub mod Within
 pub mod Theorem

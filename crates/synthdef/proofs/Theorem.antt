@@ -14,15 +14,15 @@ use Rattle.rank.proofs.Cycle.{in-upto}
 use Rattle.rank.proofs.Theorems.{distinct-upto, whole-sorted}
 use Rattle.synthdef.specs.Tables.{nodeRows, edgeRows}
 use Rattle.synthdef.specs.Edges.{counted}
-use Rattle.synthdef.specs.EdgeLaws.{counted-in}
 use Rattle.synthdef.specs.Limits.{arcOf, allowed, Within}
 use Rattle.synthdef.specs.Silent.{Silence}
 use Rattle.synthdef.specs.Plan.{planOf, planSilent}
-use Rattle.synthdef.specs.Ranked.{place, before-lower}
-use Rattle.synthdef.specs.Answer.{answer, answer-meets, only-one}
 use Rattle.synthdef.specs.declared.def.DefNode.{DefNode}
 use Rattle.synthdef.specs.declared.def.DefEdge.{DefEdge}
 use Rattle.synthdef.specs.declared.def.SynthDef.{SynthDef}
+use Rattle.synthdef.proofs.EdgeLaws.{counted-in}
+use Rattle.synthdef.proofs.Ranked.{place, before-lower}
+use Rattle.synthdef.proofs.Answer.{answer, answer-meets, only-one}
 use Rattle.synthdef.proofs.Within.{allowed-within, within-ordered}
 
 -- the rule, for a definition

@@ -1,14 +1,8 @@
 pub mod Rows
 pub mod Tables
 pub mod Edges
-pub mod EdgeLaws
 pub mod Params
 pub mod Limits
 pub mod Silent
 pub mod Plan
-pub mod StepLaws
-pub mod PassLaws
-pub mod Ranked
-pub mod Answer
 pub mod Instance
-pub mod Examples

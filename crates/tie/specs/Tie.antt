@@ -15,7 +15,8 @@ use Rattle.model.specs.Spawn.{pans}
 use Rattle.model.specs.View.{modelOf}
 use Rattle.model.specs.Call.{Call, Answer, Step, Ran, step, run}
 use Rattle.model.specs.Call as call
-use Rattle.ledger.specs.Claim.{Claim, claim}
+use Rattle.ledger.specs.Claim.{Claim}
+use Rattle.ledger.proofs.Claim.{claim}
 use Rattle.lists.specs.Member.{some-inj, none-some}
 use Rattle.node.specs.declared.record.VoiceId.{VoiceId}
 use Rattle.graph.specs.declared.state.Answer.the-variants as graph

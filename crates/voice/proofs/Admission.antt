@@ -4,8 +4,8 @@ use mathlib.Core.Path.{_≡_, refl, sym, ap, _∙_}
 use mathlib.Core.List.{List}
 use mathlib.Core.Option.{none, some}
 use mathlib.Core.Bool.{Bool, true, false, _&&_, cond}
-use borrow.Author.Tests.{le-leb, lt-leb}
 use lib.ListN.{length}
+use borrow.Author.Tests.{le-leb, lt-leb}
 use Rattle.voice.specs.declared.policy.StealPolicy.{StealPolicy}
 use Rattle.voice.specs.declared.policy.Candidate.{Candidate}
 use Rattle.voice.specs.declared.policy.Victim.{Victim}

@@ -1,3 +1,6 @@
+pub mod Victims
+pub mod Books
+pub mod Examples
 pub mod Walk
 pub mod Admission
 pub mod Ring

@@ -4,8 +4,8 @@ use native.Mathlib.Omega.{arith}
 use mathlib.Core.Path.{_≡_, refl, sym, ap, _∙_}
 use mathlib.Core.List.{List, [], _∷_, _++_}
 use mathlib.Core.Bool.{cond}
-use borrow.Author.Tests.{le-leb, lt-leb}
 use lib.ListN.{length, drop, getD, set}
+use borrow.Author.Tests.{le-leb, lt-leb}
 use Rattle.voice.specs.declared.steals.StealRecord.{StealRecord}
 use Rattle.voice.specs.declared.steals.Steals.{Steals}
 use Rattle.voice.specs.declared.steals.StealFound.the-variants as found

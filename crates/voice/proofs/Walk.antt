@@ -15,8 +15,8 @@ use Rattle.voice.specs.declared.policy.Held.the-variants as held
 use Rattle.voice.specs.declared.policy.Level.{Level}
 use Rattle.voice.specs.declared.policy.Level.the-variants.{Known}
 use Rattle.voice.specs.declared.policy.Victim.the-variants.{Goes}
-use Rattle.voice.specs.Victims.{last-from}
 use Rattle.voice.specs.Policy.{takes, take?, passed, walk, newest, oldest}
+use Rattle.voice.proofs.Victims.{last-from}
 
 -- a candidate whose level is known
 pub pass-known : (g : Held) (p : ℕ) (c : Candidate) (l : Level) (x : Float) (b : Bool) → l ≡ Known x → takes g x ≡ b → passed g p c l ≡ take? b (held.Taken p (c .voice) x) g

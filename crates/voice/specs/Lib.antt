@@ -1,5 +1,2 @@
 pub mod Policy
-pub mod Victims
 pub mod Steals
-pub mod Books
-pub mod Examples

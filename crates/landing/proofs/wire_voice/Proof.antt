@@ -10,7 +10,7 @@ use Rattle.edges.proofs.Loops.{rows-count}
 use Rattle.graph.specs.Change.{edge}
 use Rattle.synthdef.specs.Tables.{nodeRows, edgeRows}
 use Rattle.synthdef.specs.Edges.{counted}
-use Rattle.synthdef.specs.EdgeLaws.{counted-table}
+use Rattle.synthdef.proofs.EdgeLaws.{counted-table}
 use Rattle.synthdef.specs.Instance.{idAfter, liveEdges}
 use Rattle.landing.specs.Landed.{putAll, panEdges, voiceEdges}
 use Rattle.landing.proofs.Laws.{voice-put}

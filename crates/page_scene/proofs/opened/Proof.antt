@@ -1,15 +1,14 @@
 use mathlib.Core.Path.{refl, ap, _∙_}
 use mathlib.Core.List.{[], _∷_}
+use borrow.Author.Needs.{needs}
 use Rattle.voice.specs.declared.policy.Budget.the-variants.{AtMost}
 use Rattle.voice.specs.declared.policy.StealPolicy.the-variants.{Oldest}
 use Rattle.voice.specs.declared.policy.BudgetScope.the-variants.{Global}
 use Rattle.model.specs.Make.{newModel}
 use Rattle.model.specs.Call.{step}
 use Rattle.model.specs.View.{modelOf}
-use Rattle.model.specs.Scene.{host, sink}
-use Rattle.model.specs.PageScene.{pageConfig}
+use Rattle.model.specs.Scene.{host, sink, pageConfig}
 use Rattle.page_scene.proofs.Playing.{and-then, config-is}
-use borrow.Author.Needs.{needs}
 use Rattle.page_scene.proofs.opened.Statement.{statement}
 use Rattle.page_scene.proofs.opened.Tie as tie
 

@@ -1,9 +1,9 @@
+use borrow.Author.Needs.{needs}
 use Rattle.model.specs.Make.{newModel}
 use Rattle.model.specs.View.{modelOf}
-use Rattle.model.specs.PageScene.{pageConfig}
+use Rattle.model.specs.Scene.{pageConfig}
 use Rattle.page_scene.specs.Played.{opening, turn, played}
 use Rattle.page_scene.proofs.Playing.{three-turns}
-use borrow.Author.Needs.{needs}
 use Rattle.page_scene.proofs.played.Statement.{statement}
 use Rattle.page_scene.proofs.played.Tie as tie
 

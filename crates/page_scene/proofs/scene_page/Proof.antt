@@ -1,7 +1,7 @@
+use borrow.Author.Needs.{needs}
 use Rattle.model.specs.View.{modelOf}
 use Rattle.page.specs.Paged.{pagedOf}
 use Rattle.page_scene.proofs.Playing.{page-is}
-use borrow.Author.Needs.{needs}
 use Rattle.page_scene.proofs.scene_page.Statement.{statement}
 use Rattle.page_scene.proofs.scene_page.Tie as tie
 

@@ -1,6 +1,7 @@
 use mathlib.Core.Path.{refl, ap, _∙_}
 use mathlib.Core.List.{[], _∷_}
 use mathlib.Core.Bool.{false}
+use borrow.Author.Needs.{needs}
 use Rattle.model.specs.Voice.{id}
 use Rattle.model.specs.Model.{spawnManaged}
 use Rattle.model.specs.Call as call
@@ -9,7 +10,6 @@ use Rattle.model.specs.Scene.{float}
 use Rattle.engine.specs.Room.{landedOf}
 use Rattle.page_scene.specs.Played.{tone}
 use Rattle.page_scene.proofs.Playing.{and-then, spawn-step}
-use borrow.Author.Needs.{needs}
 use Rattle.page_scene.proofs.turn.Statement.{statement}
 use Rattle.page_scene.proofs.turn.Tie as tie
 

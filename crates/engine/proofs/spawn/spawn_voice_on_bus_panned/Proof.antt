@@ -7,7 +7,7 @@ use Rattle.model.specs.View.{deskOf, modelOf, voicesOf}
 use Rattle.engine.proofs.Refusals.{answer-done}
 use Rattle.store.specs.declared.voices.VoiceState.the-variants.{Loose}
 use Rattle.model.specs.Model.{unless, place}
-use Rattle.model.specs.Refused.{notSpawned, place-left}
+use Rattle.model.proofs.Refused.{notSpawned, place-left}
 use Rattle.engine.proofs.Spawning.{roomy, roomy-head, answer-some}
 use Rattle.engine.proofs.spawn.spawn_voice_on_bus_panned.Statement.{statement}
 use Rattle.engine.proofs.spawn.spawn_voice_on_bus_panned.Tie as tie

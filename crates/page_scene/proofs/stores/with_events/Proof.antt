@@ -1,7 +1,7 @@
 -- The loop's invariant: the calls so far.
 use Prim.Native.Nat.{_≤_, _-_}
-use mathlib.Core.Path.{_≡_, ap}
 use native.Mathlib.Omega.{arith}
+use mathlib.Core.Path.{_≡_, ap}
 use borrow.Author.Needs.{needs}
 use Rattle.model.specs.View.{modelOf}
 use Rattle.model.specs.Scene.{further}

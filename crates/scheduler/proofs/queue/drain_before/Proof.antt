@@ -1,12 +1,12 @@
 use Prim.Native.Nat.{_≤_, _<_, _-_, min}
-use mathlib.Core.Path.{_≡_, refl, ap, _∙_}
 use native.Mathlib.Omega.{arith}
+use mathlib.Core.Path.{_≡_, refl, ap, _∙_}
 use lib.ListN.{length, take, length-map}
-use Rattle.scheduler.proofs.Laws.{Parted, part-due, part-left}
 use borrow.Author.Needs.{needs}
+use Rattle.scheduler.specs.Queue.{takenBefore, leftAfter}
+use Rattle.scheduler.proofs.Laws.{Parted, part-due, part-left}
 use Rattle.scheduler.proofs.queue.drain_before.Statement.{statement}
 use Rattle.scheduler.proofs.queue.drain_before.Tie as tie
-use Rattle.scheduler.specs.Queue.{takenBefore, leftAfter}
 
 abbrev Inv-loop : tie.InvT-loop
 Inv-loop deadline q n taken₀ rest₀ t₀ k₀ i₀ taken rest t k i = (i ≤ n) × Parted deadline (q .rows) i taken t rest k

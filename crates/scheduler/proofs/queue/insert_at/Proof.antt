@@ -1,11 +1,11 @@
 use Prim.Native.Nat.{_+_, _≤_, _<_, _-_, min}
+use native.Mathlib.Omega.{arith}
 use mathlib.Core.Path.{_≡_, refl, _∙_}
 use mathlib.Core.List.{_∷_, _++_}
-use native.Mathlib.Omega.{arith}
 use lib.ListN.{length, take, drop, length-map, length-set}
 use lib.Seq.{take-take}
-use Rattle.scheduler.proofs.Laws.{carry-row, carry-end}
 use borrow.Author.Needs.{needs}
+use Rattle.scheduler.proofs.Laws.{carry-row, carry-end}
 use Rattle.scheduler.proofs.queue.insert_at.Statement.{statement}
 use Rattle.scheduler.proofs.queue.insert_at.Tie as tie
 

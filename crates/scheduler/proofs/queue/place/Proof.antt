@@ -1,15 +1,15 @@
 use Prim.Native.Nat.{_≤_, _<_, _-_, min}
+use native.Mathlib.Omega.{arith}
 use mathlib.Core.Path.{_≡_, refl}
 use mathlib.Core.List.{[], _++_}
-use native.Mathlib.Omega.{arith}
 use lib.ListN.{length, take, drop, length-map, drop-of-length-le}
 use lib.Seq.{length-take-le}
 use borrow.Author.Needs.{needs}
-use Rattle.scheduler.proofs.queue.place.Statement.{statement}
-use Rattle.scheduler.proofs.queue.place.Tie as tie
 use Rattle.scheduler.specs.declared.event.Event.{Event}
 use Rattle.scheduler.specs.Queue.{inserted}
 use Rattle.scheduler.proofs.Laws.{place-pass, place-found}
+use Rattle.scheduler.proofs.queue.place.Statement.{statement}
+use Rattle.scheduler.proofs.queue.place.Tie as tie
 
 abbrev Inv-loop : tie.InvT-loop
 Inv-loop q n time i₀ i =

@@ -1,11 +1,11 @@
 use Prim.Native.Nat.{_≤_, _<_, min}
+use native.Mathlib.Omega.{arith}
 use mathlib.Core.Path.{_≡_, refl, sym, _∙_}
 use mathlib.Core.Bool.{true, false, false≢true}
-use native.Mathlib.Omega.{arith}
 use lib.ListN.{length, length-map, length-take}
 use borrow.Author.Tests.{le-leb, lt-leb}
-use Rattle.scheduler.specs.Queue.{eventsOf, full}
 use borrow.Author.Needs.{needs}
+use Rattle.scheduler.specs.Queue.{eventsOf, full}
 use Rattle.scheduler.proofs.queue.schedule.Statement.{statement}
 use Rattle.scheduler.proofs.queue.schedule.Tie as tie
 

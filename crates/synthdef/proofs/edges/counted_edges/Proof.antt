@@ -1,9 +1,9 @@
 -- `synthdef::edges::counted_edges` meets its contract. Invariant: the rows so far and the counted edges of what is left are the counted edges of all; past the rows so far the array is as it began.
 use Prim.Native.Nat.{_+_, _≤_, _<_, _-_}
+use native.Mathlib.Omega.{arith}
 use mathlib.Core.Path.{_≡_, refl, sym, ap, _∙_}
 use mathlib.Core.List.{List, _∷_, _++_, append-nil}
 use mathlib.Core.Bool.{true, false}
-use native.Mathlib.Omega.{arith}
 use lib.ListN.{length, take, drop, getD, length-set, length-map}
 use borrow.Author.Needs.{needs}
 use borrow.Author.Tests.{not-true, not-false}

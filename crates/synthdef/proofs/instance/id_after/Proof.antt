@@ -1,7 +1,7 @@
 -- `synthdef::instance::id_after` meets its contract. The sum is within the ids, or the last id stands for it.
 use Prim.Native.Nat.{_+_, min}
-use mathlib.Core.Path.{_≡_, ap}
 use native.Mathlib.Omega.{arith}
+use mathlib.Core.Path.{_≡_, ap}
 use borrow.Author.Needs.{needs}
 use Rattle.synthdef.proofs.instance.id_after.Statement.{statement}
 use Rattle.synthdef.proofs.instance.id_after.Tie as tie

@@ -1,7 +1,7 @@
 -- `synthdef::instance::live_node` meets its contract. The literal 0.0 is +0.
 use mathlib.Core.Path.{refl}
-use borrow.Author.Needs.{needs}
 use lib.Ieee.{ofBits}
+use borrow.Author.Needs.{needs}
 use Rattle.synthdef.proofs.instance.live_node.Statement.{statement}
 use Rattle.synthdef.proofs.instance.live_node.Tie as tie
 

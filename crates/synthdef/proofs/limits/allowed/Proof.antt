@@ -1,20 +1,19 @@
 -- `synthdef::limits::allowed` meets its contract. Each refusal rewrites with the tests that were passed before it.
 use Prim.Native.Nat.{ℕ, _≤_, _<_}
+use native.Mathlib.Omega.{arith}
 use mathlib.Core.Path.{_≡_, sym, ap, _∙_}
 use mathlib.Core.Bool.{true}
-use native.Mathlib.Omega.{arith}
-use lib.ListN.{length}
-use borrow.Author.Needs.{needs}
+use mathlib.Core.List.{map}
+use lib.ListN.{length, length-take, length-map}
 use lib.Dec.{ltb}
-use lib.ListN.{length-take, length-map}
+use borrow.Author.Needs.{needs}
 use borrow.Author.Tests.{not-true, not-false, le-ltb, lt-ltb}
 use Rattle.rank.specs.Order.{upto, whole}
-use mathlib.Core.List.{map}
 use Rattle.synthdef.specs.Rows.{every}
 use Rattle.synthdef.specs.Tables.{nodeRows, edgeRows, paramRows}
-use Rattle.synthdef.specs.EdgeLaws.{counted-table}
 use Rattle.synthdef.specs.Limits.{nodeAllowed, edgeAllowed, paramAllowed, countsAllowed, arcOf}
 use Rattle.synthdef.specs.declared.def.SynthDef.{SynthDef}
+use Rattle.synthdef.proofs.EdgeLaws.{counted-table}
 use Rattle.synthdef.proofs.limits.allowed.Statement.{statement}
 use Rattle.synthdef.proofs.limits.allowed.Tie as tie
 

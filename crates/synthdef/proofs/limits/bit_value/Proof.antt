@@ -1,10 +1,9 @@
 -- `synthdef::limits::bit_value` meets its contract. A shift by at most 8 loses nothing of 2 ^ n.
-use Prim.Native.Nat.{_<_}
+use Prim.Native.Nat.{_<_, _^_}
 use native.Mathlib.Omega.{arith}
-use borrow.Author.Needs.{needs}
-use Prim.Native.Nat.{_^_}
 use native.Mathlib.Nat.{one-mul, mod-eq-of-lt}
 use lib.Pow.{pow-mono}
+use borrow.Author.Needs.{needs}
 use Rattle.synthdef.proofs.limits.bit_value.Statement.{statement}
 use Rattle.synthdef.proofs.limits.bit_value.Tie as tie
 

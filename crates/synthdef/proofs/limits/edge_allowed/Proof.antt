@@ -1,11 +1,10 @@
 -- `synthdef::limits::edge_allowed` meets its contract. A row below the count is a row of the table.
 use Prim.Native.Nat.{ℕ, _≤_, _<_, min}
-use mathlib.Core.Path.{_≡_, ap, _∙_}
 use native.Mathlib.Omega.{arith}
-use lib.ListN.{length, getD}
-use borrow.Author.Needs.{needs}
-use lib.ListN.{length-take, length-map, List·getD-map}
+use mathlib.Core.Path.{_≡_, ap, _∙_}
+use lib.ListN.{length, getD, length-take, length-map, List·getD-map}
 use lib.Seq.{getD-take}
+use borrow.Author.Needs.{needs}
 use borrow.Author.Tests.{le-ltb, lt-ltb}
 use Rattle.synthdef.specs.Tables.{nodeRows, noNode}
 use Rattle.synthdef.specs.Limits.{portsAt}

@@ -1,11 +1,10 @@
 -- `synthdef::limits::node_allowed` meets its contract. Each refusal rewrites with the tests that were passed before it.
-use Prim.Native.Nat.{_≤_, _<_}
+use Prim.Native.Nat.{_≤_, _<_, _^_}
+use native.Mathlib.Omega.{arith}
 use mathlib.Core.Path.{_≡_, sym, _∙_}
 use mathlib.Core.Bool.{true}
-use native.Mathlib.Omega.{arith}
-use borrow.Author.Needs.{needs}
-use Prim.Native.Nat.{_^_}
 use lib.Dec.{leb, ltb}
+use borrow.Author.Needs.{needs}
 use borrow.Author.Tests.{not-true, not-false, le-leb, lt-leb, le-ltb, lt-ltb}
 use Rattle.node.specs.Name.{named}
 use Rattle.synthdef.specs.Limits.{portGiven}

@@ -1,13 +1,11 @@
 -- `synthdef::limits::ordered` meets its contract. Invariant: the ends so far and those of what is left are the ends of all edges. The arcs of the ends are the arcs of the edges.
 use Prim.Native.Nat.{ℕ, _+_, _≤_, _<_, _-_, min}
-use mathlib.Core.Path.{_≡_, refl, sym, ap, _∙_}
-use mathlib.Core.List.{List, [], _∷_, _++_}
 use native.Mathlib.Omega.{arith}
-use lib.ListN.{length, take, drop, getD, set}
-use borrow.Author.Needs.{needs}
-use mathlib.Core.List.{map, append-nil}
-use lib.ListN.{length-set, length-map, length-take}
+use mathlib.Core.Path.{_≡_, refl, sym, ap, _∙_}
+use mathlib.Core.List.{List, [], _∷_, _++_, map, append-nil}
+use lib.ListN.{length, take, drop, getD, set, length-set, length-map, length-take}
 use lib.Seq.{take-all}
+use borrow.Author.Needs.{needs}
 use Rattle.rank.specs.Order.{arc, arcs, upto, whole}
 use Rattle.synthdef.specs.Tables.{edgeRows, noEdge}
 use Rattle.synthdef.specs.Limits.{arcOf}

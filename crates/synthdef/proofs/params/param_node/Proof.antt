@@ -1,9 +1,8 @@
 -- `synthdef::params::param_node` meets its contract. Invariant: the first of that name from i on is the first of all.
 use Prim.Native.Nat.{_-_}
 use mathlib.Core.Path.{_≡_, refl, sym, ap, _∙_}
-use lib.ListN.{length, drop}
+use lib.ListN.{length, drop, length-map}
 use borrow.Author.Needs.{needs}
-use lib.ListN.{length-map}
 use Rattle.lists.specs.Find.{find, mapO}
 use Rattle.synthdef.specs.Tables.{paramRows, noParam}
 use Rattle.synthdef.specs.Params.{called, asParamNode}

@@ -1,18 +1,16 @@
 -- `synthdef::plan::done_plan` meets its contract. Invariant: the steps so far and those of the nodes that are left are the steps of all; past the steps so far the array has steps without sources.
 use Prim.Native.Nat.{_+_, _≤_, _<_, _-_}
-use mathlib.Core.Path.{_≡_, refl, sym, ap, _∙_}
-use mathlib.Core.List.{[], _∷_, _++_}
-use mathlib.Core.Bool.{false}
 use native.Mathlib.Omega.{arith}
 use native.Mathlib.Numerals.{add-one}
-use lib.ListN.{length, take, drop, getD}
+use mathlib.Core.Path.{_≡_, refl, sym, ap, _∙_}
+use mathlib.Core.List.{[], _∷_, _++_, append-nil}
+use mathlib.Core.Bool.{false}
+use lib.ListN.{length, take, drop, getD, length-set, length-map}
 use borrow.Author.Needs.{needs}
-use mathlib.Core.List.{append-nil}
-use lib.ListN.{length-set, length-map}
 use Rattle.synthdef.specs.Tables.{nodeRows, edgeRows, noNode}
 use Rattle.synthdef.specs.Edges.{counted}
-use Rattle.synthdef.specs.EdgeLaws.{counted-table}
 use Rattle.synthdef.specs.Plan.{step, stepOf, stepsFrom, fullSteps}
+use Rattle.synthdef.proofs.EdgeLaws.{counted-table}
 use Rattle.synthdef.proofs.Walk.{walked, next-row, Filled, filled-none, filled-one, filled-is, one-more}
 use Rattle.synthdef.proofs.plan.done_plan.Statement.{statement}
 use Rattle.synthdef.proofs.plan.done_plan.Tie as tie

@@ -1,14 +1,12 @@
 -- `synthdef::plan::sources_of` meets its contract. Invariant: the sources so far and those of the ports that are left are the sources of all; past the sources so far the array is 0.
 use Prim.Native.Nat.{ℕ, zero, suc, _+_, _≤_, _<_, _-_}
-use mathlib.Core.Path.{_≡_, refl, sym, ap, _∙_}
-use mathlib.Core.List.{List, _++_}
 use native.Mathlib.Omega.{arith}
 use native.Mathlib.Numerals.{add-one}
-use lib.ListN.{length, take}
-use borrow.Author.Needs.{needs}
-use mathlib.Core.List.{append-nil}
+use mathlib.Core.Path.{_≡_, refl, sym, ap, _∙_}
+use mathlib.Core.List.{List, _++_, append-nil}
 use mathlib.Core.Option.{Option, none, some}
-use lib.ListN.{length-set}
+use lib.ListN.{length, take, length-set}
+use borrow.Author.Needs.{needs}
 use Rattle.synthdef.specs.Tables.{edgeRows}
 use Rattle.synthdef.specs.Edges.{sourceAt}
 use Rattle.synthdef.specs.Plan.{more, sourcesFrom, asSource}

@@ -1,11 +1,10 @@
 -- `synthdef::plan::step_of` meets its contract. A rule reads at most 8 ports, of the first 8; the step is that of the rule and the ports that were found.
 use Prim.Native.Nat.{ℕ, _≤_}
-use mathlib.Core.Path.{_≡_, refl, sym, ap, _∙_}
-use mathlib.Core.Bool.{Bool, true, false}
 use native.Mathlib.Omega.{arith}
-use borrow.Author.Needs.{needs}
-use mathlib.Core.Bool.{cond}
+use mathlib.Core.Path.{_≡_, refl, sym, ap, _∙_}
+use mathlib.Core.Bool.{Bool, true, false, cond}
 use lib.Dec.{ltb}
+use borrow.Author.Needs.{needs}
 use borrow.Author.Tests.{ltb-true}
 use Rattle.node.specs.declared.silence.SilenceRule.{SilenceRule}
 use Rattle.node.specs.declared.silence.SilenceRule.the-variants.{Own, AnyPort, FirstPort, EveryPort, LevelPort, AmpPort, InPort}

@@ -1,7 +1,7 @@
 -- `synthdef::plan::sum_of` meets its contract. No port, an unconnected one, or all of them connected.
 use Prim.Native.Nat.{_<_}
-use mathlib.Core.Path.{sym, _∙_}
 use native.Mathlib.Omega.{arith}
+use mathlib.Core.Path.{sym, _∙_}
 use borrow.Author.Needs.{needs}
 use borrow.Author.Tests.{eq-eqb, ne-eqb, lt-ltb, le-ltb}
 use Rattle.synthdef.proofs.plan.sum_of.Statement.{statement}

@@ -1,16 +1,13 @@
 -- `synthdef::silent::pass` meets its contract. Invariant: the flags so far and those of the steps that are left are the pass.
 use Prim.Native.Nat.{_+_, _≤_, _<_, _-_}
-use mathlib.Core.Path.{_≡_, refl, sym, ap, _∙_}
-use mathlib.Core.List.{_∷_, _++_}
-use mathlib.Core.Bool.{false}
 use native.Mathlib.Omega.{arith}
 use native.Mathlib.Numerals.{add-one}
-use lib.ListN.{length, take, drop, getD}
-use borrow.Author.Needs.{needs}
-use mathlib.Core.List.{append-nil}
-use mathlib.Core.Bool.{_||_}
-use lib.ListN.{length-set, length-map, drop-of-length-le}
+use mathlib.Core.Path.{_≡_, refl, sym, ap, _∙_}
+use mathlib.Core.List.{_∷_, _++_, append-nil}
+use mathlib.Core.Bool.{false, _||_}
+use lib.ListN.{length, take, drop, getD, length-set, length-map, drop-of-length-le}
 use lib.Seq.{take-all}
+use borrow.Author.Needs.{needs}
 use Rattle.lists.specs.Table.{left-cons}
 use Rattle.synthdef.specs.Plan.{says, passFrom, noStep}
 use Rattle.synthdef.proofs.Walk.{one-more}

@@ -1,13 +1,11 @@
 -- `synthdef::silent::same_flags` meets its contract. Invariant: the flags from i on are the same exactly if all are.
 use Prim.Native.Nat.{_+_, _≤_, _-_}
+use native.Mathlib.Omega.{arith}
 use mathlib.Core.Path.{_≡_, refl, sym, ap, _∙_}
 use mathlib.Core.List.{_∷_}
-use mathlib.Core.Bool.{Bool, true, false}
-use native.Mathlib.Omega.{arith}
-use lib.ListN.{length, drop, getD}
+use mathlib.Core.Bool.{Bool, true, false, _&&_, Bool·beq}
+use lib.ListN.{length, drop, getD, drop-of-length-le}
 use borrow.Author.Needs.{needs}
-use mathlib.Core.Bool.{_&&_, Bool·beq}
-use lib.ListN.{drop-of-length-le}
 use borrow.Author.Tests.{not-true, not-false}
 use Rattle.lists.specs.Table.{left-cons}
 use Rattle.synthdef.specs.Plan.{sameFlags}

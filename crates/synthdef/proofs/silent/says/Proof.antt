@@ -2,11 +2,9 @@
 use Prim.Native.Nat.{ℕ, _+_, _-_, min}
 use mathlib.Core.Path.{_≡_, refl, sym, ap, _∙_}
 use mathlib.Core.List.{List, [], _∷_}
-use mathlib.Core.Bool.{Bool, true, false}
+use mathlib.Core.Bool.{Bool, true, false, not, cond}
 use lib.ListN.{length, drop, getD}
-use borrow.Author.Needs.{needs}
-use mathlib.Core.Bool.{not, cond}
-use borrow.Author.Needs.{length-unmapped}
+use borrow.Author.Needs.{needs, length-unmapped}
 use borrow.Author.Tests.{not-false}
 use Rattle.synthdef.specs.Rows.{every, any}
 use Rattle.synthdef.specs.Plan.{stepSources, silentIn, says}

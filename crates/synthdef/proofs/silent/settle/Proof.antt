@@ -1,12 +1,11 @@
 -- `synthdef::silent::settle` meets its contract. Invariant: the passes that are left, from the flags so far, give what all passes give. Flags that a pass leaves as they are stay so.
 use Prim.Native.Nat.{_≤_, _-_}
-use mathlib.Core.Path.{_≡_, refl, sym, ap, _∙_}
 use native.Mathlib.Omega.{arith}
-use lib.ListN.{length}
+use mathlib.Core.Path.{_≡_, refl, sym, ap, _∙_}
+use lib.ListN.{length, length-map}
 use borrow.Author.Needs.{needs}
-use lib.ListN.{length-map}
 use Rattle.synthdef.specs.Plan.{pass, passes, settled}
-use Rattle.synthdef.specs.PassLaws.{stays, next-pass, same-same, length-pass}
+use Rattle.synthdef.proofs.PassLaws.{stays, next-pass, same-same, length-pass}
 use Rattle.synthdef.proofs.silent.settle.Statement.{statement}
 use Rattle.synthdef.proofs.silent.settle.Tie as tie
 

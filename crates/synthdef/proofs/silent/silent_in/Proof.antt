@@ -1,11 +1,10 @@
 -- `synthdef::silent::silent_in` meets its contract. Past the flags nothing is silent.
 use Prim.Native.Nat.{_≤_}
+use native.Mathlib.Omega.{arith}
 use mathlib.Core.Path.{sym, ap}
 use mathlib.Core.Bool.{false}
-use native.Mathlib.Omega.{arith}
-use lib.ListN.{length, getD}
+use lib.ListN.{length, getD, List·getD-eq-default}
 use borrow.Author.Needs.{needs}
-use lib.ListN.{List·getD-eq-default}
 use Rattle.synthdef.proofs.silent.silent_in.Statement.{statement}
 use Rattle.synthdef.proofs.silent.silent_in.Tie as tie
 

@@ -1,6 +1,6 @@
 use Prim.Native.Nat.{_≤_, _<_, min}
-use mathlib.Core.Path.{_≡_, sym}
 use native.Mathlib.Omega.{arith}
+use mathlib.Core.Path.{_≡_, sym}
 use lib.ListN.{length, length-map}
 use borrow.Author.Needs.{needs}
 use Rattle.voice.proofs.Walk.{oldest-row}

@@ -1,6 +1,6 @@
 use Prim.Native.Nat.{_≤_, _<_, min}
-use mathlib.Core.Path.{_≡_, sym, _∙_}
 use native.Mathlib.Omega.{arith}
+use mathlib.Core.Path.{_≡_, sym, _∙_}
 use lib.ListN.{length, length-map, length-take}
 use borrow.Author.Needs.{needs}
 use Rattle.voice.specs.Policy.{candidatesOf}

@@ -1,7 +1,7 @@
 use Prim.Native.Nat.{_+_, _≤_, _<_, _-_}
+use native.Mathlib.Omega.{arith}
 use mathlib.Core.Path.{_≡_, refl, sym, ap, _∙_}
 use mathlib.Core.List.{[]}
-use native.Mathlib.Omega.{arith}
 use lib.ListN.{length, take, drop, length-map, length-take, drop-of-length-le}
 use borrow.Author.Needs.{needs}
 use Rattle.voice.specs.Policy.{walk}

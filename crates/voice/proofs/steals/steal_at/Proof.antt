@@ -1,9 +1,8 @@
-use Prim.Native.Nat.{_+_, _≤_, _<_, _-_, min}
-use mathlib.Core.Path.{_≡_}
+use Prim.Native.Nat.{_+_, _≤_, _<_, _-_, min, _%_}
 use native.Mathlib.Omega.{arith}
+use mathlib.Core.Path.{_≡_}
 use lib.ListN.{length, length-map}
 use borrow.Author.Needs.{needs}
-use Prim.Native.Nat.{_%_}
 use Rattle.voice.proofs.Records.{read-none, read-held}
 use Rattle.voice.proofs.steals.steal_at.Statement.{statement}
 use Rattle.voice.proofs.steals.steal_at.Tie as tie

@@ -1,0 +1,212 @@
+-- "At budget (all, or those of the bus under `PerGroup`)": tracked voices never exceed the budget. "Without a budget nobody is
+-- tracked, stolen or reclaimed."
+use Prim.Native.Nat.{ℕ, suc, _≤_, _<_}
+use native.Mathlib.Omega.{arith}
+use mathlib.Core.Path.{_≡_, refl, sym, ap, _∙_, subst}
+use mathlib.Core.Logic.{⊎-elim}
+use mathlib.Core.List.{List, [], _∷_, _++_, map}
+use mathlib.Core.Option.{Option, none, some}
+use mathlib.Core.Bool.{Bool, true, false, not, cond, _&&_, false≢true}
+use lib.Dec.{eqb}
+use lib.Ieee.{Float}
+use borrow.Author.Tests.{eq-eqb, eqb-true}
+use Rattle.lists.specs.Member.{In, in-snoc, in-map, in-left}
+use Rattle.lists.specs.Keep.{keep, in-keep}
+use Rattle.lists.specs.Count.{more, count, count-keep, count-keep-lt, count-snoc, count-change, count-change-lt}
+use Rattle.node.specs.declared.record.NodeId.{NodeId}
+use Rattle.node.specs.declared.record.VoiceId.{VoiceId}
+use Rattle.node.specs.declared.refusal.Refusal.{Refusal}
+use Rattle.node.specs.declared.refusal.Refusal.the-variants.{NoPort}
+use Rattle.voice.specs.Policy.{counts, admits}
+use Rattle.voice.specs.Steals.{Book}
+use Rattle.voice.specs.declared.policy.BudgetScope.{BudgetScope}
+use Rattle.voice.specs.declared.policy.BudgetScope.the-variants.{Global, PerGroup}
+use Rattle.voice.specs.declared.policy.Budget.the-variants.{Unlimited, AtMost}
+use Rattle.voice.specs.declared.policy.Admission.the-variants as admission
+use Rattle.synthdef.specs.declared.def.SynthDef.{SynthDef}
+use Rattle.store.specs.declared.config.Config.{Config}
+use Rattle.store.specs.declared.voices.Voice.{Voice}
+use Rattle.store.specs.declared.voices.VoiceState.{VoiceState}
+use Rattle.store.specs.declared.voices.VoiceState.the-variants.{Tracked, Fading, Loose}
+use Rattle.store.specs.declared.voices.Fade.{Fade}
+use Rattle.model.specs.Voice.{isVoice, isTracked, withState, beginFade, movedState, moved, counted, candidates}
+use Rattle.model.specs.Spawn.{newcomer, stateUnder, tries, fadeOf, pans}
+use Rattle.model.specs.Refuse.{spawnRefusal}
+use Rattle.model.specs.Call.{Call}
+use Rattle.model.specs.Call as call
+use Rattle.ledger.specs.Ledger.{Ledger, newLedger, Landed, portFree, portHeld, stolen, stealVoice, landOr, place, settle, refused, admitted, admissionOn}
+use Rattle.ledger.specs.Render.{oneMore}
+use Rattle.ledger.specs.Ledger as ledger
+use Rattle.ledger.specs.Call.{step, run}
+use Rattle.ledger.specs.Claim.{noSteals, AllLoose}
+use Rattle.ledger.proofs.Ids.{Ids, ids-keep, ids-map, ids-snoc, notVoice-self}
+use Rattle.ledger.proofs.Victim.{admit-below}
+use Rattle.ledger.proofs.Steps.{place-kept, Steady, Calm, calm, kept-run}
+use Rattle.ledger.proofs.Managed.{IdsOf, managed-kept, ids-steal, ids-cut, ids-new, config-steal, config-run}
+
+-- ---- no more than k of the voices that a bus's newcomer counts
+abbrev Few : BudgetScope → ℕ → List Voice → Type 0
+Few sc k vs = (bus : NodeId) → count (counted sc bus) vs ≤ k
+
+few-keep : (sc : BudgetScope) (k : ℕ) (t : Voice → Bool) (vs : List Voice) → Few sc k vs → Few sc k (keep t vs)
+few-keep sc k t vs f bus = omega (arith, count-keep (counted sc bus) t vs, f bus)
+
+few-map : (sc : BudgetScope) (k : ℕ) (g : Voice → Voice) → ((bus : NodeId) (v : Voice) → counted sc bus (g v) ≡ true → counted sc bus v ≡ true) → (vs : List Voice) → Few sc k vs → Few sc k (map g vs)
+few-map sc k g h vs f bus = omega (arith, count-change (counted sc bus) g (h bus) vs, f bus)
+
+-- a newcomer on the bus, for whom there is room if it is tracked
+few-land : (sc : BudgetScope) (k : ℕ) (bus : NodeId) (v : Voice) → v .bus ≡ bus → (vs : List Voice) → Few sc k vs → (isTracked (v .state) ≡ true → count (counted sc bus) vs < k) → Few sc k (vs ++ (v ∷ []))
+few-land sc k bus v e vs f room b = rw (count-snoc (counted sc b) vs v) (go (isTracked (v .state)) refl)
+  where
+    at : (sc : BudgetScope) → Few sc k vs → count (counted sc bus) vs < k → more (counts sc (v .bus) b) (count (counted sc b) vs) ≤ k
+    at Global f r = r
+    at PerGroup f r = two (eqb (v .bus .0) (b .0)) refl
+      where
+        two : (c : Bool) → eqb (v .bus .0) (b .0) ≡ c → more c (count (counted PerGroup b) vs) ≤ k
+        two true q =
+            let j : bus ≡ b = ap (λ n. record { 0 = n }) (ap (λ (x : NodeId). x .0) (sym e) ∙ eqb-true _ _ q) in
+            subst (λ z. suc (count (counted PerGroup z) vs) ≤ k) j r
+        two false q = f b
+
+    go : (t : Bool) → isTracked (v .state) ≡ t → more (t && counts sc (v .bus) b) (count (counted sc b) vs) ≤ k
+    go true q = at sc f (room q)
+    go false q = f b
+
+begin-counted : (sc : BudgetScope) (w : VoiceId) (f : Fade) (bus : NodeId) (v : Voice) → counted sc bus (beginFade w f v) ≡ true → counted sc bus v ≡ true
+begin-counted sc w f bus v h = go (isVoice w v) h
+  where
+    go : (b : Bool) → counted sc bus (cond b (withState (Fading f) v) v) ≡ true → counted sc bus v ≡ true
+    go true h = absurd (false≢true h)
+    go false h = h
+
+moved-counted : (sc : BudgetScope) (bus : NodeId) (v : Voice) → counted sc bus (moved oneMore v) ≡ true → counted sc bus v ≡ true
+moved-counted sc bus v h = go (v .state) h
+  where
+    go : (s : VoiceState) → (isTracked (movedState oneMore s) && counts sc (v .bus) bus) ≡ true → (isTracked s && counts sc (v .bus) bus) ≡ true
+    go Tracked h = h
+    go (Fading f) h = h
+    go Loose h = h
+
+-- ---- under a budget
+abbrev Within : Config → List Voice → Type 0
+Within c vs = (k : ℕ) → c .budget ≡ AtMost k → Few (c .scope) k vs
+
+abbrev WithinOf : Ledger → Type 0
+WithinOf l = IdsOf l × Within (l .desk .config) (l .voices)
+
+at-most : {a b : ℕ} → AtMost a ≡ AtMost b → a ≡ b
+at-most e = cc
+
+within-steady : Steady WithinOf
+within-steady =
+    calm (λ c b n vs. Ids n vs × Within c vs)
+    (λ c b n vs w u. (ids-keep (λ x. not (isVoice w x)) (u .0), λ k e. few-keep (c .scope) k (λ x. not (isVoice w x)) vs (u .1 k e)))
+    (λ c b n vs u. (ids-map (moved oneMore) (λ v. refl) (u .0), λ k e. few-map (c .scope) k (moved oneMore) (moved-counted (c .scope)) vs (u .1 k e)))
+    (λ c b n vs v e s h u. (ids-snoc v e (u .0), λ k f. few-land (c .scope) k (v .bus) v refl vs (u .1 k f) (λ t. absurd (false≢true (sym (ap isTracked s) ∙ t)))))
+
+-- room for one more tracked voice on the bus
+abbrev Spare : NodeId → Ledger → Type 0
+Spare bus l = (k : ℕ) → l .desk .config .budget ≡ AtMost k → count (counted (l .desk .config .scope) bus) (l .voices) < k
+
+within-settle : (def : SynthDef) (pan : Bool) (bus : NodeId) (l : Ledger) → WithinOf l → Spare bus l → WithinOf (settle def pan bus l .ledger)
+within-settle def pan bus l u r =
+    place-kept def pan (stateUnder (l .desk .config .budget)) bus (λ n l. WithinOf l × Spare bus l) (λ r. WithinOf (r .ledger))
+    (λ n l p e q. (ids-snoc (newcomer def pan _ bus p (l .desk)) refl (q .0 .0), λ k f. few-land (l .desk .config .scope) k bus (newcomer def pan _ bus p (l .desk)) refl (l .voices) (q .0 .1 k f) (λ t. q .1 k f)))
+    (λ l e q. q .0) (λ n l e f q. q .0)
+    (λ n l v e f q. (
+      (ids-cut v (v .state) l (q .0 .0), λ k f. few-keep (l .desk .config .scope) k (λ x. not (isVoice (v .id) x)) (l .voices) (q .0 .1 k f)),
+      λ k f. let s = q .1 k f in omega (arith, s, count-keep (counted (l .desk .config .scope) bus) (λ x. not (isVoice (v .id) x)) (l .voices)),
+    ))
+    (tries (l .desk .config .budget) (l .voices)) l (u, r)
+
+-- the victim of an admission makes room
+steal-room : (sc : BudgetScope) (bus : NodeId) (v : Voice) (l : Ledger) → In v (l .voices) → counted sc bus v ≡ true → suc (count (counted sc bus) (stealVoice v l .voices)) ≤ count (counted sc bus) (l .voices)
+steal-room sc bus v l i t = go (portHeld v l)
+  where
+    off : counted sc bus (beginFade (v .id) (fadeOf (l .desk)) v) ≡ false
+    off = rw (eq-eqb (v .id .0) (v .id .0) refl)
+
+    go : (o : Option ℕ) → suc (count (counted sc bus) (stolen v o l .voices)) ≤ count (counted sc bus) (l .voices)
+    go none = count-keep-lt (counted sc bus) (λ x. not (isVoice (v .id) x)) (l .voices) v i t (notVoice-self v)
+    go (some p) = count-change-lt (counted sc bus) (beginFade (v .id) (fadeOf (l .desk))) (begin-counted sc (v .id) (fadeOf (l .desk)) bus) (l .voices) v i t off
+
+within-steal : (v : Voice) (l : Ledger) → WithinOf l → WithinOf (stealVoice v l)
+within-steal v l u = (ids-steal v l (u .0), go (portHeld v l))
+  where
+    go : (o : Option ℕ) → Within (stolen v o l .desk .config) (stolen v o l .voices)
+    go none k e = few-keep (l .desk .config .scope) k (λ x. not (isVoice (v .id) x)) (l .voices) (u .1 k e)
+    go (some p) k e = few-map (l .desk .config .scope) k (beginFade (v .id) (fadeOf (l .desk))) (begin-counted (l .desk .config .scope) (v .id) (fadeOf (l .desk))) (l .voices) (u .1 k e)
+
+spare-steal : (bus : NodeId) (v : Voice) (l : Ledger) → WithinOf l → In v (l .voices) → counted (l .desk .config .scope) bus v ≡ true → Spare bus (stealVoice v l)
+spare-steal bus v l u i t k e =
+    let c = config-steal v l in
+    let f : count (counted (l .desk .config .scope) bus) (l .voices) ≤ k = u .1 k (ap (λ (x : Config). x .budget) (sym c) ∙ e) bus in
+    subst (λ (x : Config). count (counted (x .scope) bus) (stealVoice v l .voices) < k) (sym c) (omega (arith, f, steal-room (l .desk .config .scope) bus v l i t))
+
+within-managed : (l : Ledger) (def : SynthDef) (bus : NodeId) (pan : Bool) → WithinOf l → WithinOf (admitted (admissionOn bus l) def pan bus l .ledger)
+within-managed l def bus pan u =
+    managed-kept def pan bus (λ r. WithinOf (r .ledger)) l (u .0) (λ h. u)
+    (λ h. within-settle def pan bus l u (λ k e. admit-below (u .0) (l .desk) (counted (l .desk .config .scope) bus) k (l .desk .config .policy)
+    (subst (λ b. admits b (l .desk .config .policy) (candidates (l .desk) (counted (l .desk .config .scope) bus) (l .voices)) ≡ admission.Admit) e h)))
+    (λ p w h v i t. within-settle def pan bus (stealVoice v l) (within-steal v l u) (spare-steal bus v l u i t))
+
+within-run : (xs : List Call) (l : Ledger) → WithinOf l → WithinOf (run xs l .ledger)
+within-run = kept-run WithinOf within-steady (λ l def bus pan e u. within-managed l def bus pan u)
+
+-- after every list, from a new store: of the voices that a newcomer on any bus would count, at most the budget
+pub within-budget : (c : Config) (k : ℕ) → c .budget ≡ AtMost k → (xs : List Call) (bus : NodeId) → count (counted (c .scope) bus) (run xs (newLedger c) .ledger .voices) ≤ k
+within-budget c k e xs bus =
+    let r = within-run xs (newLedger c) (ids-new c, λ k e bus. omega arith) in
+    let q = config-run xs (newLedger c) (ids-new c) in
+    subst (λ (x : Config). count (counted (x .scope) bus) (run xs (newLedger c) .ledger .voices) ≤ k) q (r .1 k (ap (λ (x : Config). x .budget) q ∙ e) bus)
+
+abbrev Free : Config → Book → ℕ → List Voice → Type 0
+Free c b n vs = (c .budget ≡ Unlimited) × ((v : Voice) → In v vs → v .state ≡ Loose) × (b ≡ noSteals)
+
+loose-snoc : (vs : List Voice) (v : Voice) → v .state ≡ Loose → ((x : Voice) → In x vs → x .state ≡ Loose) → (x : Voice) → In x (vs ++ (v ∷ [])) → x .state ≡ Loose
+loose-snoc vs v s f x i = ⊎-elim (λ j. f x j) (λ z. ap (λ (y : Voice). y .state) z ∙ s) (in-snoc vs v x i)
+
+free-steady : Steady (Calm Free)
+free-steady =
+    calm Free
+    (λ c b n vs w u. (u .0, λ v i. u .1 v (in-keep (λ x. not (isVoice w x)) vs v i .0), u .2))
+    (λ c b n vs u. (u .0, λ v i. let r = in-map (moved oneMore) vs v i in ap (λ (x : Voice). x .state) (r .2) ∙ ap (movedState oneMore) (u .1 (r .0) (r .1)), u .2))
+    (λ c b n vs v q s h u. (u .0, loose-snoc vs v s (u .1), u .2))
+
+-- a managed spawn is then the port search alone, and its newcomer is loose
+module _ (def : SynthDef) (pan : Bool) (bus : NodeId) (l : Ledger) (e : l .desk .config .budget ≡ Unlimited) where
+  pub unlimited-spawn : admitted (admissionOn bus l) def pan bus l ≡ place 0 def pan Loose bus l
+  unlimited-spawn =
+      ap (λ b. admitted (admits b (l .desk .config .policy) (candidates (l .desk) (counted (l .desk .config .scope) bus) (l .voices))) def pan bus l) e
+      ∙ ap (λ b. place (tries b (l .voices)) def pan (stateUnder b) bus l) e
+
+free-managed : (l : Ledger) (def : SynthDef) (bus : NodeId) (pan : Bool) → Calm Free l → Calm Free (admitted (admissionOn bus l) def pan bus l .ledger)
+free-managed l def bus pan u = subst (λ r. Calm Free (r .ledger)) (sym (unlimited-spawn def pan bus l (u .0))) (go (portFree bus l))
+  where
+    go : (o : Option ℕ) → Calm Free (landOr o none def pan Loose bus l (refused NoPort) .ledger)
+    go none = u
+    go (some p) = (u .0, loose-snoc (l .voices) (newcomer def pan Loose bus p (l .desk)) refl (u .1), u .2)
+
+pub without-budget : (c : Config) → c .budget ≡ Unlimited → (xs : List Call) → AllLoose (run xs (newLedger c) .ledger)
+without-budget c e xs =
+    let r = kept-run (Calm Free) free-steady (λ l def bus pan h u. free-managed l def bus pan u) xs (newLedger c) (e, λ v i. absurd i, refl) in
+    record { voices = r .1; book = r .2 }
+
+-- nobody is reclaimed: a managed spawn takes no voice away
+pub nobody-reclaimed : (c : Config) → c .budget ≡ Unlimited → (xs : List Call) (def : SynthDef) (bus : NodeId) (pan : Float) (v : Voice)
+    → In v (run xs (newLedger c) .ledger .voices) → In v (step (call.spawnManaged def bus pan) (run xs (newLedger c) .ledger) .ledger .voices)
+nobody-reclaimed c e xs def bus pan v i = unless (spawnRefusal (l .desk) (l .voices) def bus)
+  where
+    l : Ledger
+    l = run xs (newLedger c) .ledger
+
+    u : l .desk .config .budget ≡ Unlimited
+    u = ap (λ (x : Config). x .budget) (config-run xs (newLedger c) (ids-new c)) ∙ e
+
+    go : (o : Option ℕ) → In v (landOr o none def (pans pan) Loose bus l (refused NoPort) .ledger .voices)
+    go none = i
+    go (some p) = in-left (l .voices) (newcomer def (pans pan) Loose bus p (l .desk) ∷ []) v i
+
+    unless : (o : Option Refusal) → In v (ledger.unless o l (admitted (admissionOn bus l) def (pans pan) bus l) .ledger .voices)
+    unless (some r) = i
+    unless none = subst (λ (r : Landed). In v (r .ledger .voices)) (sym (unlimited-spawn def (pans pan) bus l u)) (go (portFree bus l))

@@ -1,0 +1,289 @@
+-- How a fading voice goes on and how it leaves: each sounding render raises its count by one and nothing else does; it leaves by a
+-- free, called or timed, at a clearing for its end or its silence, or by a reclaim.
+use Prim.Native.Nat.{ℕ, suc, _<_}
+use native.Mathlib.Omega.{arith}
+use native.Mathlib.Decide.{ℕ-discrete}
+use mathlib.Core.Path.{_≡_, refl, sym, ap, _∙_, subst}
+use mathlib.Core.Logic.{_⊎_, inl, inr, ⊎-elim}
+use mathlib.Core.List.{List, [], _∷_, map}
+use mathlib.Core.Option.{Option, none, some}
+use mathlib.Core.Bool.{Bool, true, false, not, cond}
+use lib.ListN.{length}
+use lib.Dec.{leb}
+use lib.Ieee.{Float}
+use borrow.Author.Tests.{ne-eqb, eqb-true, not-true}
+use Rattle.lists.specs.Member.{In, in-left, in-of-map, and-left, and-right}
+use Rattle.lists.specs.Find.{find, find-in}
+use Rattle.lists.specs.Keep.{keep, in-keep, keep-in}
+use Rattle.lists.specs.Count.{more}
+use Rattle.node.specs.declared.record.NodeId.{NodeId}
+use Rattle.node.specs.declared.record.VoiceId.{VoiceId}
+use Rattle.node.specs.declared.refusal.Refusal.{Refusal}
+use Rattle.node.specs.declared.refusal.Refusal.the-variants.{NoPort, ClockEnd, ShortBuffer}
+use Rattle.graph.specs.Refuse.{addRefusal, hostRefusal, disconnectRefusal, connectRefusal}
+use Rattle.scheduler.specs.Event.{paramOrder}
+use Rattle.scheduler.specs.Queue as queue
+use Rattle.scheduler.specs.declared.event.Event.{Event}
+use Rattle.voice.specs.Steals.{Book, pushed, marked, recordOf}
+use Rattle.voice.specs.declared.steals.StealRecord.{StealRecord}
+use Rattle.synthdef.specs.declared.def.SynthDef.{SynthDef}
+use Rattle.store.specs.declared.answer.Rendered.{Rendered}
+use Rattle.store.specs.declared.answer.Rendered.the-variants as Rendered
+use Rattle.store.specs.declared.voices.Voice.{Voice}
+use Rattle.store.specs.declared.voices.VoiceState.{VoiceState}
+use Rattle.store.specs.declared.voices.VoiceState.the-variants.{Tracked, Fading, Loose}
+use Rattle.store.specs.declared.voices.Fade.{Fade}
+use Rattle.model.specs.Desk.{sounding}
+use Rattle.model.specs.Voice.{isVoice, isTracked, isOn, withState, beginFade, movedFade, movedState, moved, voiceLevel}
+use Rattle.model.specs.Refuse.{spawnRefusal, reportRefusal}
+use Rattle.model.specs.Spawn.{pans, newcomer, stateUnder, tries, fadeOf}
+use Rattle.model.specs.Order.{order}
+use Rattle.model.specs.Clear.{isSilent}
+use Rattle.model.specs.Render.{prepareOutcome, prepareDesk, isFree, anyFree, heard, answerAfter, isSounding, deadline, due, clockEnds}
+use Rattle.model.specs.Written.{written}
+use Rattle.model.specs.Page.{page}
+use Rattle.model.specs.Call.{Call, scheduleRefusal, readyAnswer, pageAnswer}
+use Rattle.model.specs.Call as call
+use Rattle.order.specs.declared.Readiness.{Readiness}
+use Rattle.order.specs.declared.Readiness.the-variants.{Ready, Refused}
+use Rattle.ledger.specs.Ledger.{Ledger, Landed, portFree, portHeld, gone, cutOff, stolen, stealVoice, landOr, place, settle, refused, admitted, admissionOn, free}
+use Rattle.ledger.specs.Ledger as ledger
+use Rattle.ledger.specs.Clear.{goneAll, endedVoices, silentVoices}
+use Rattle.ledger.specs.Clear as clearing
+use Rattle.ledger.specs.Render as rendering
+use Rattle.ledger.specs.Render.{happen, happenAll, countedIf, preparedIf, rested, render}
+use Rattle.ledger.specs.Call.{Step, unless, step}
+use Rattle.ledger.specs.Claim.{busy, heldRecord, cutIfHeld, Newest, tracks, isSounded, GoesOn, Why, freed, timed, ended, silent, reclaimed}
+use Rattle.ledger.proofs.Ids.{unique, same-id}
+use Rattle.ledger.proofs.Victim.{nextOut-in}
+use Rattle.ledger.proofs.Book.{held-pushed, held-marked, held-unmarked, cut-cut, count-pushed}
+use Rattle.ledger.proofs.Steps.{place-kept, goneAll-kept, atDesk}
+use Rattle.ledger.proofs.Managed.{IdsOf, managed-kept, ids-steady}
+use Rattle.ledger.proofs.Nodes.{OwnNodes, silent-first}
+use Rattle.ledger.proofs.Clearing.{faded-voices}
+use Rattle.ledger.proofs.Records.{RecordedOf, not-fading, steal-small, recorded-cut, recorded-steal, begin-other}
+
+-- the page is no render
+pub page-silent : (text out : List ℕ) → isSounded (pageAnswer text out) ≡ false
+page-silent text out = go (leb (length text) (length out))
+  where
+    go : (b : Bool) → isSounded (cond b (call.printed (length text) (written text out)) (call.refused ShortBuffer)) ≡ false
+    go true = refl
+    go false = refl
+
+abbrev Next : Ledger → Voice → Fade → Call → Step → Type 0
+Next l v f x s = GoesOn v f (s .answer) (s .ledger .voices) ⊎ Why l (s .ledger) v f x
+
+-- ---- a record that is cut, if held, stays so
+module _ (k : ℕ) where
+  abbrev CutIn : Book → Type 0
+  CutIn b = (k < b .count) × (cutIfHeld (heldRecord b k) ≡ true)
+
+  cut-pushed : (b : Book) (r : StealRecord) → b .count < 18446744073709551615 → Newest b → CutIn b → CutIn (pushed b r)
+  cut-pushed b r small w h =
+      let c = count-pushed b r small in
+      let lt = h .0 in
+      (omega arith, ⊎-elim (λ e. ap cutIfHeld e ∙ h .1) (λ z. ap cutIfHeld (z .0)) (held-pushed b r small w k (h .0)))
+
+  cut-marked : (b : Book) (j : ℕ) → CutIn b → CutIn (marked b j)
+  cut-marked b j h = (h .0, go (ℕ-discrete k j))
+    where
+      go : Dec (k ≡ j) → cutIfHeld (heldRecord (marked b j) k) ≡ true
+      go (yes e) = ap (λ i. cutIfHeld (heldRecord (marked b j) i)) e ∙ ap cutIfHeld (held-marked b j) ∙ cut-cut (heldRecord b j)
+      go (no e) = ap cutIfHeld (held-unmarked b j k e) ∙ h .1
+
+  cut-cutOff : (w : Voice) (s : VoiceState) (m : Ledger) → RecordedOf m → In w (m .voices) → w .state ≡ s → CutIn (m .desk .steals) → CutIn (cutOff w s m .desk .steals)
+  cut-cutOff w Tracked m r i e h = cut-pushed (m .desk .steals) (recordOf (m .desk .clock) (voiceLevel (m .desk) w) true) (steal-small r w i e) (r .newest) h
+  cut-cutOff w (Fading f) m r i e h = cut-marked (m .desk .steals) (f .number) h
+  cut-cutOff w Loose m r i e h = h
+
+module _ (v : Voice) (f : Fade) (ph : v .state ≡ Fading f) where
+  same-voice : withState (Fading f) v ≡ v
+  same-voice = ap (λ s. withState s v) (sym ph)
+
+  still : (vs : List Voice) → In v vs → In (withState (Fading f) v) vs
+  still vs i = subst (λ z. In z vs) (sym same-voice) i
+
+  -- one voice goes: it is this one or another
+  stays-keep : (w : VoiceId) (vs : List Voice) → In v vs → In v (keep (λ x. not (isVoice w x)) vs) ⊎ (v .id .0 ≡ w .0)
+  stays-keep w vs i = go (ℕ-discrete (v .id .0) (w .0))
+    where
+      go : Dec (v .id .0 ≡ w .0) → In v (keep (λ x. not (isVoice w x)) vs) ⊎ (v .id .0 ≡ w .0)
+      go (yes e) = inr e
+      go (no e) = inl (keep-in (λ x. not (isVoice w x)) vs v i (ap not (ne-eqb (v .id .0) (w .0) e)))
+
+  -- ---- the reclaims of a managed spawn
+  module _ (def : SynthDef) (pan : Bool) (bus : NodeId) where
+    abbrev Here : Ledger → Type 0
+    Here m = In v (m .voices) ⊎ ((isOn bus v ≡ true) × CutIn (f .number) (m .desk .steals))
+
+    here-cut : (w : Voice) (m : Ledger) → RecordedOf m → In w (m .voices) → isOn bus w ≡ true → Here m → Here (cutOff w (w .state) m)
+    here-cut w m r j o (inr z) = inr (z .0, cut-cutOff (f .number) w (w .state) m r j refl (z .1))
+    here-cut w m r j o (inl i) = ⊎-elim inl this (stays-keep (w .id) (m .voices) i)
+      where
+        this : v .id .0 ≡ w .id .0 → Here (cutOff w (w .state) m)
+        this e =
+            let z : v ≡ w = unique (r .ids) v w i j e in
+            let h : w .state ≡ Fading f = ap (λ (x : Voice). x .state) (sym z) ∙ ph in
+            let n = r .numbers v i f ph in
+            inr (ap (isOn bus) z ∙ o, subst (λ s. CutIn (f .number) (cutOff w s m .desk .steals)) (sym h) (n, ap cutIfHeld (held-marked (m .desk .steals) (f .number)) ∙ cut-cut (heldRecord (m .desk .steals) (f .number))))
+
+    here-settle : (m : Ledger) → RecordedOf m → Here m → Here (settle def pan bus m .ledger)
+    here-settle m r h =
+        place-kept def pan (stateUnder (m .desk .config .budget)) bus (λ n m. RecordedOf m × Here m) (λ r. Here (r .ledger))
+        (λ n m p e q. ⊎-elim (λ i. inl (in-left (m .voices) (newcomer def pan _ bus p (m .desk) ∷ []) v i)) inr (q .1)) (λ m e q. q .1) (λ n m e g q. q .1)
+        (λ n m w e g q. let i = nextOut-in (q .0 .ids) (m .desk) bus w g in (recorded-cut w (w .state) m (q .0) (i .0) refl, here-cut w m (q .0) (i .0) (and-right (busy (w .state)) (isOn bus w) (i .1)) (q .1)))
+        (tries (m .desk .config .budget) (m .voices)) m (r, h)
+
+    -- the victim of the admission is another voice: it is tracked
+    here-steal : (w : Voice) (m : Ledger) → RecordedOf m → In v (m .voices) → In w (m .voices) → isTracked (w .state) ≡ true → In v (stealVoice w m .voices)
+    here-steal w m r i j t = go (portHeld w m)
+      where
+        other : v .id .0 ≡ w .id .0 → ⊥
+        other e = let z : v ≡ w = unique (r .ids) v w i j e in not-fading (w .state) f t (ap (λ (x : Voice). x .state) (sym z) ∙ ph)
+
+        off : isVoice (w .id) v ≡ false
+        off = ne-eqb (v .id .0) (w .id .0) other
+
+        go : (o : Option ℕ) → In v (stolen w o m .voices)
+        go none = keep-in (λ x. not (isVoice (w .id) x)) (m .voices) v i (ap not off)
+        go (some p) = subst (λ z. In z (map (beginFade (w .id) (fadeOf (m .desk))) (m .voices))) (begin-other (w .id) (fadeOf (m .desk)) v off) (in-of-map (beginFade (w .id) (fadeOf (m .desk))) (m .voices) v i)
+
+    here-managed : (m : Ledger) → RecordedOf m → In v (m .voices) → Here (admitted (admissionOn bus m) def pan bus m .ledger)
+    here-managed m r i =
+        managed-kept def pan bus (λ z. Here (z .ledger)) m (r .ids) (λ a. inl i) (λ a. here-settle m r (inl i))
+        (λ p w a u j t. let z = and-left (tracks u) _ t in here-settle (stealVoice u m) (recorded-steal u m r j z) (inl (here-steal u m r i j z)))
+
+  -- ---- frees and clearings
+  leaves-freed : (o : Option Voice) (m : Ledger) → In v (m .voices) → In v (ledger.freed o m .voices) ⊎ ((w : Voice) × (o ≡ some w) × (v .id .0 ≡ w .id .0))
+  leaves-freed none m i = inl i
+  leaves-freed (some w) m i = ⊎-elim inl (λ e. inr (w, refl, e)) (stays-keep (w .id) (m .voices) i)
+
+  leaves-free : (w : VoiceId) (m : Ledger) → In v (m .voices) → In v (free w m .voices) ⊎ (w ≡ v .id)
+  leaves-free w m i =
+      ⊎-elim inl (λ z. inr (same-id w (v .id) (sym (eqb-true _ _ (find-in (isVoice w) (m .voices) (z .0) (z .1) .1)) ∙ sym (z .2)))) (leaves-freed (find (isVoice w) (m .voices)) m i)
+
+  abbrev TimedBy : List Event → Type 0
+  TimedBy q = (e : Event) × In e q × (isFree (e .action) ≡ true) × (e .voice ≡ v .id)
+
+  leaves-happen : (e : Event) (m : Ledger) → In v (m .voices) → In v (happen e m .voices) ⊎ ((isFree (e .action) ≡ true) × (e .voice ≡ v .id))
+  leaves-happen e m i = go (isFree (e .action)) refl
+    where
+      go : (b : Bool) → isFree (e .action) ≡ b
+          → In v (cond b (free (e .voice) m) (atDesk m (order (e .voice) (paramOrder e .name) (paramOrder e .order) (m .voices) (m .desk) .desk)) .voices) ⊎ ((isFree (e .action) ≡ true) × (e .voice ≡ v .id))
+      go true h = ⊎-elim inl (λ z. inr (h, z)) (leaves-free (e .voice) m i)
+      go false h = inl i
+
+  leaves-events : (q : List Event) (m : Ledger) → In v (m .voices) → In v (happenAll q m .voices) ⊎ TimedBy q
+  leaves-events [] m i = inl i
+  leaves-events (e ∷ q) m i =
+      ⊎-elim (λ j. ⊎-elim inl (λ z. inr (z .0, inr (z .1), z .2, z .3)) (leaves-events q (happen e m) j)) (λ z. inr (e, inl refl, z .0, z .1)) (leaves-happen e m i)
+
+  leaves-all : (gs : List Voice) (m : Ledger) → In v (m .voices) → In v (goneAll gs m .voices) ⊎ ((g : Voice) × In g gs × (v .id .0 ≡ g .id .0))
+  leaves-all [] m i = inl i
+  leaves-all (g ∷ gs) m i =
+      ⊎-elim (λ j. ⊎-elim inl (λ z. inr (z .0, inr (z .1), z .2)) (leaves-all gs (gone (g .id) m) j)) (λ z. inr (g, inl refl, z)) (stays-keep (g .id) (m .voices) i)
+
+  -- ---- a block
+  counts : (b : Bool) (vs : List Voice) → In v vs → In (withState (Fading (movedFade (more b) f)) v) (countedIf b vs)
+  counts true vs i = subst (λ z. In z (map (moved suc) vs)) (ap (λ s. withState (movedState suc s) v) ph) (in-of-map (moved suc) vs v i)
+  counts false vs i = still vs i
+
+  blocks : (b : Bool) (m : Ledger) → In v (m .voices) → GoesOn v f (call.rendered (preparedIf b m .answer)) (preparedIf b m .ledger .voices)
+  blocks true m i = counts (isSounding (answerAfter (prepareOutcome (m .desk) .answer) (prepareDesk (m .desk)))) (m .voices) i
+  blocks false m i = counts (isSounding (heard (sounding (m .desk)))) (m .voices) i
+
+  -- ---- every call
+  guarded : (o : Option Refusal) (x : Call) (l : Ledger) (s : Step) → In v (l .voices) → (o ≡ none → Next l v f x s) → Next l v f x (unless o l s)
+  guarded (some r) x l s i g = inl (still (l .voices) i)
+  guarded none x l s i g = g refl
+
+  leaves-loose : (o : Option ℕ) (def : SynthDef) (pan : Bool) (bus : NodeId) (l : Ledger) → In v (l .voices) → In v (landOr o none def pan Loose bus l (ledger.refused NoPort) .ledger .voices)
+  leaves-loose (some p) def pan bus l i = in-left (l .voices) (newcomer def pan Loose bus p (l .desk) ∷ []) v i
+  leaves-loose none def pan bus l i = i
+
+  leaves-clear : (l : Ledger) → OwnNodes l → In v (l .voices) → Next l v f call.clear (step call.clear l)
+  leaves-clear l q i = ⊎-elim second first (leaves-all (endedVoices l) l i)
+    where
+      m : Ledger
+      m = goneAll (endedVoices l) l
+
+      unended : In v (m .voices) → clearing.ended (l .desk) (v .state) ≡ false
+      unended k = not-true _ (in-keep (λ x. not (clearing.ended (l .desk) (x .state))) (l .voices) v (subst (In v) (faded-voices l (q .0)) k) .1)
+
+      first : (g : Voice) × In g (endedVoices l) × (v .id .0 ≡ g .id .0) → Next l v f call.clear (step call.clear l)
+      first z =
+          let j = in-keep (λ x. clearing.ended (l .desk) (x .state)) (l .voices) (z .0) (z .1) in
+          let e : v ≡ z .0 = unique (q .0) v (z .0) i (j .0) (z .2) in
+          inr (ended (ap (λ (x : Voice). clearing.ended (l .desk) (x .state)) e ∙ j .1))
+
+      last : In v (m .voices) → (g : Voice) × In g (silentVoices m) × (v .id .0 ≡ g .id .0) → Next l v f call.clear (step call.clear l)
+      last k z =
+          let j = in-keep (isSilent (m .desk .graph .nodes)) (m .voices) (z .0) (z .1) in
+          let e : v ≡ z .0 = unique (goneAll-kept IdsOf ids-steady (endedVoices l) l (q .0)) v (z .0) k (j .0) (z .2) in
+          inr (silent (sym (silent-first l q v i (unended k)) ∙ ap (isSilent (m .desk .graph .nodes)) e ∙ j .1))
+
+      second : In v (m .voices) → Next l v f call.clear (step call.clear l)
+      second k = ⊎-elim (λ j. inl (still (goneAll (silentVoices m) m .voices) j)) (last k) (leaves-all (silentVoices m) m k)
+
+  leaves-render : (l : Ledger) → In v (l .voices) → Next l v f call.render (step call.render l)
+  leaves-render l i = go (clockEnds (l .desk))
+    where
+      q : List Event
+      q = due (l .desk)
+
+      out : rendering.Heard → Step
+      out h = record { answer = call.rendered (h .answer); ledger = h .ledger }
+
+      timed-by : (s : Step) → TimedBy q → Why l (s .ledger) v f call.render
+      timed-by s z = let j = in-keep (queue.due (deadline (l .desk))) (l .desk .events) (z .0) (z .1) in timed (z .0) (j .0) (j .1) (z .2) (z .3)
+
+      go : (b : Bool) → Next l v f call.render (out (cond b (record { answer = Rendered.Refused ClockEnd; ledger = l }) (preparedIf (anyFree q) (happenAll q (rested l)))))
+      go true = inl (still (l .voices) i)
+      go false =
+          ⊎-elim (λ j. inl (blocks (anyFree q) (happenAll q (rested l)) j)) (λ z. inr (timed-by (out (preparedIf (anyFree q) (happenAll q (rested l)))) z)) (leaves-events q (rested l) i)
+
+  leaves-managed : (def : SynthDef) (bus : NodeId) (pan : Float) (l : Ledger) → RecordedOf l → In v (l .voices) → Next l v f (call.spawnManaged def bus pan) (step (call.spawnManaged def bus pan) l)
+  leaves-managed def bus pan l r i = go (spawnRefusal (l .desk) (l .voices) def bus)
+    where
+      out : Landed → Step
+      out z = record { answer = call.spawned (z .answer); ledger = z .ledger }
+
+      go : (o : Option Refusal) → Next l v f (call.spawnManaged def bus pan) (out (ledger.unless o l (admitted (admissionOn bus l) def (pans pan) bus l)))
+      go (some n) = inl (still (l .voices) i)
+      go none =
+          ⊎-elim (λ j. inl (still (admitted (admissionOn bus l) def (pans pan) bus l .ledger .voices) j)) (λ z. inr (reclaimed def bus pan (z .0) (z .1 .1))) (here-managed def (pans pan) bus l r i)
+
+  ready-still : (l : Ledger) (a : Readiness) → In v (l .voices) → GoesOn v f (readyAnswer a) (l .voices)
+  ready-still l Ready i = still (l .voices) i
+  ready-still l (Refused r) i = still (l .voices) i
+
+  pub leaves : (x : Call) (l : Ledger) → RecordedOf l → OwnNodes l → In v (l .voices) → GoesOn v f (step x l .answer) (step x l .ledger .voices) ⊎ Why l (step x l .ledger) v f x
+  leaves (call.addNode kind ports required values glides) l r q i = guarded (addRefusal (l .desk .graph) kind ports required) _ l _ i (λ e. inl (still (l .voices) i))
+  leaves (call.removeNode k) l r q i = guarded (hostRefusal (l .desk .graph) k) _ l _ i (λ e. inl (still (l .voices) i))
+  leaves (call.connect a b p) l r q i = guarded (connectRefusal (l .desk .graph) a b p) _ l _ i (λ e. inl (still (l .voices) i))
+  leaves (call.disconnect b p) l r q i = guarded (disconnectRefusal (l .desk .graph) b p) _ l _ i (λ e. inl (still (l .voices) i))
+  leaves (call.setSink k) l r q i = guarded (hostRefusal (l .desk .graph) k) _ l _ i (λ e. inl (still (l .voices) i))
+  leaves (call.spawnManaged def bus pan) l r q i = leaves-managed def bus pan l r i
+  leaves (call.spawnLoose def bus pan) l r q i = inl (go (spawnRefusal (l .desk) (l .voices) def bus))
+    where
+      go : (o : Option Refusal) → In (withState (Fading f) v) (ledger.unless o l (place 0 def (pans pan) Loose bus l) .ledger .voices)
+      go (some n) = still (l .voices) i
+      go none = still (place 0 def (pans pan) Loose bus l .ledger .voices) (leaves-loose (portFree bus l) def (pans pan) bus l i)
+  leaves (call.free w) l r q i = ⊎-elim (λ j. inl (still (free w l .voices) j)) (λ e. inr (subst (λ z. Why l (free w l) v f (call.free z)) (sym e) freed)) (leaves-free w l i)
+  leaves call.clear l r q i = leaves-clear l q i
+  leaves (call.order w name o) l r q i = inl (still (l .voices) i)
+  leaves (call.schedule t w name a) l r q i = guarded (scheduleRefusal (l .desk .events)) _ l _ i (λ e. inl (still (l .voices) i))
+  leaves (call.report k channels samples flag) l r q i = guarded (reportRefusal (l .desk) (l .voices) k channels (length samples)) _ l _ i (λ e. inl (still (l .voices) i))
+  leaves call.prepare l r q i = inl (ready-still l (prepareOutcome (l .desk) .answer) i)
+  leaves call.render l r q i = leaves-render l i
+  leaves (call.level w) l r q i = inl (still (l .voices) i)
+  leaves (call.position w) l r q i = inl (still (l .voices) i)
+  leaves (call.voice w) l r q i = inl (still (l .voices) i)
+  leaves call.voices l r q i = inl (still (l .voices) i)
+  leaves call.steals l r q i = inl (still (l .voices) i)
+  leaves call.edges l r q i = inl (still (l .voices) i)
+  leaves call.processing l r q i = inl (still (l .voices) i)
+  leaves (call.sources k) l r q i = inl (still (l .voices) i)
+  leaves call.clock l r q i = inl (still (l .voices) i)
+  leaves (call.page out) l r q i = inl (rw (page-silent (page (l .desk .clock) (l .voices)) out) (still (l .voices) i))

@@ -1,0 +1,283 @@
+-- What each call does to the steal records. "a victim is untracked, faded, or freed if it cannot fade, and recorded"; "reclaim the
+-- earliest-started fade of that bus ... and mark its record, if still held, cut". No call but a managed spawn writes a record or
+-- marks one; there a record is marked for a fade of that bus that went in this very call, and one is written for each voice that
+-- was tracked and is not any more.
+use Prim.Native.Nat.{ℕ, suc, _+_, _≤_, _<_}
+use native.Mathlib.Omega.{arith}
+use native.Mathlib.Decide.{ℕ-discrete}
+use mathlib.Core.Path.{_≡_, refl, sym, ap, _∙_, subst}
+use mathlib.Core.Logic.{_⊎_, inl, inr, ⊎-elim}
+use mathlib.Core.List.{List, [], _∷_, _++_}
+use mathlib.Core.Option.{Option, none, some}
+use mathlib.Core.Bool.{Bool, true, false, not}
+use lib.Ieee.{Float}
+use borrow.Author.Tests.{ne-eqb, not-true}
+use Rattle.lists.specs.Member.{In, and-left, and-right}
+use Rattle.lists.specs.Find.{find, find-none, none-find, find-snoc-off}
+use Rattle.lists.specs.Keep.{keep, in-keep}
+use Rattle.lists.specs.Count.{more, count, count-snoc}
+use Rattle.node.specs.declared.record.NodeId.{NodeId}
+use Rattle.node.specs.declared.record.VoiceId.{VoiceId}
+use Rattle.node.specs.declared.refusal.Refusal.{Refusal}
+use Rattle.voice.specs.Steals.{Book, pushed, marked, recordOf}
+use Rattle.voice.specs.declared.steals.StealRecord.{StealRecord}
+use Rattle.voice.specs.declared.policy.Budget.the-variants.{AtMost}
+use Rattle.synthdef.specs.declared.def.SynthDef.{SynthDef}
+use Rattle.store.specs.declared.answer.Spawned.{Spawned}
+use Rattle.store.specs.declared.answer.Spawned.the-variants as Spawned
+use Rattle.store.specs.declared.config.Config.{Config}
+use Rattle.store.specs.declared.voices.Voice.{Voice}
+use Rattle.store.specs.declared.voices.VoiceState.{VoiceState}
+use Rattle.store.specs.declared.voices.VoiceState.the-variants.{Tracked, Fading, Loose}
+use Rattle.store.specs.declared.voices.Fade.{Fade}
+use Rattle.model.specs.Voice.{isVoice, isTracked, isOn, beginFade, voiceLevel}
+use Rattle.model.specs.Refuse.{spawnRefusal}
+use Rattle.model.specs.Spawn.{pans, newcomer, stateUnder, tries, fadeOf}
+use Rattle.model.specs.Call.{Call}
+use Rattle.model.specs.Call as call
+use Rattle.ledger.specs.Ledger.{Ledger, Landed, portHeld, cutOff, stolen, stealVoice, settle, admitted, admissionOn, unless}
+use Rattle.ledger.specs.Ledger as ledger
+use Rattle.ledger.specs.Call.{step}
+use Rattle.ledger.specs.Claim.{busy, heldRecord, cutFound, Newest, isManaged, tracks, Reclaimed, Fate, same, older, struck, isLet}
+use Rattle.ledger.proofs.Allowed.{spawn-allowed}
+use Rattle.ledger.proofs.Ids.{Ids, one-gone, one-changed}
+use Rattle.ledger.proofs.Victim.{nextOut-in}
+use Rattle.ledger.proofs.Book.{count-pushed, held-pushed, held-marked, held-unmarked, cut-twice}
+use Rattle.ledger.proofs.Steps.{place-kept, calm, steady-step}
+use Rattle.ledger.proofs.Managed.{managed-kept, config-steal}
+use Rattle.ledger.proofs.Records.{RecordedOf, tracked-state, fade-inj, steal-small, recorded-cut, recorded-steal, spawned-steal, begun, begin-other, begin-self}
+
+-- ---- every call but a managed spawn
+pub book-stays : (x : Call) → isManaged x ≡ false → (l : Ledger) → step x l .ledger .desk .steals ≡ l .desk .steals
+book-stays x h l =
+    steady-step (λ m. m .desk .steals ≡ l .desk .steals) (calm (λ c b n vs. b ≡ l .desk .steals) (λ c b n vs w e. e) (λ c b n vs e. e) (λ c b n vs v q s k e. e)) x h l refl
+
+module _ {b₀ : Book} {R : Type 0} {k : ℕ} where
+  fate-voices : {b : Book} {S : Type 0} → (R → S) → Fate b₀ b R k → Fate b₀ b S k
+  fate-voices f (same e) = same e
+  fate-voices f (older e h) = older e h
+  fate-voices f (struck e r) = struck e (f r)
+
+  fate-pushed : (b : Book) (r : StealRecord) → b .count < 18446744073709551615 → Newest b → k < b .count → Fate b₀ b R k → Fate b₀ (pushed b r) R k
+  fate-pushed b r small w lt f = ⊎-elim keeps (λ z. older (z .0) (z .1)) (held-pushed b r small w k lt)
+    where
+      keeps : heldRecord (pushed b r) k ≡ heldRecord b k → Fate b₀ (pushed b r) R k
+      keeps e = go f
+        where
+          go : Fate b₀ b R k → Fate b₀ (pushed b r) R k
+          go (same q) = same (e ∙ q)
+          go (older q h) = older (e ∙ q) (let c = count-pushed b r small in omega arith)
+          go (struck q x) = struck (e ∙ q) x
+
+  fate-unmarked : (b : Book) (j : ℕ) → (k ≡ j → ⊥) → Fate b₀ b R k → Fate b₀ (marked b j) R k
+  fate-unmarked b j h (same q) = same (held-unmarked b j k h ∙ q)
+  fate-unmarked b j h (older q m) = older (held-unmarked b j k h ∙ q) m
+  fate-unmarked b j h (struck q x) = struck (held-unmarked b j k h ∙ q) x
+
+  fate-marked : (b : Book) → R → Fate b₀ b R k → Fate b₀ (marked b k) R k
+  fate-marked b r (same q) = struck (held-marked b k ∙ ap cutFound q) r
+  fate-marked b r (older q m) = older (held-marked b k ∙ ap cutFound q) m
+  fate-marked b r (struck q x) = struck (held-marked b k ∙ ap cutFound q ∙ cut-twice (heldRecord b₀ k)) r
+
+gone-keep : (w : VoiceId) (t : Voice → Bool) (vs : List Voice) → find (isVoice w) vs ≡ none → find (isVoice w) (keep t vs) ≡ none
+gone-keep w t vs h = none-find (isVoice w) (keep t vs) (λ x i. find-none (isVoice w) vs x h (in-keep t vs x i .0))
+
+gone-self : (w : VoiceId) (vs : List Voice) → find (isVoice w) (keep (λ x. not (isVoice w x)) vs) ≡ none
+gone-self w vs = none-find (isVoice w) (keep (λ x. not (isVoice w x)) vs) (λ x i. not-true (isVoice w x) (in-keep (λ x. not (isVoice w x)) vs x i .1))
+
+module _ (def : SynthDef) (pan : Bool) (bus : NodeId) (l₀ : Ledger) (d₀ : Ids (l₀ .desk .spawned) (l₀ .voices)) where
+  -- what holds during the port search, after l₀
+  record During (m : Ledger) : Type 0 where
+    recorded : RecordedOf m
+    ids : m .desk .spawned ≡ l₀ .desk .spawned
+    left : m .desk .spawned < 18446744073709551615
+    grown : l₀ .desk .steals .count ≤ m .desk .steals .count
+    from : (v : Voice) → In v (m .voices) → (f : Fade) → v .state ≡ Fading f → In v (l₀ .voices) ⊎ (f .number ≡ l₀ .desk .steals .count)
+    fate : (k : ℕ) → k < l₀ .desk .steals .count → Fate (l₀ .desk .steals) (m .desk .steals) (Reclaimed (l₀ .voices) (m .voices) bus k) k
+
+  reclaimed-keep : (t : Voice → Bool) (vs : List Voice) (k : ℕ) → Reclaimed (l₀ .voices) vs bus k → Reclaimed (l₀ .voices) (keep t vs) bus k
+  reclaimed-keep t vs k r =
+      record { voice = r .voice; fade = r .fade; member = r .member; state = r .state; number = r .number; on = r .on; gone = gone-keep (r .voice .id) t vs (r .gone) }
+
+  fates-cut : (m : Ledger) → During m → (v : Voice) → In v (m .voices) → isOn bus v ≡ true → (s : VoiceState) → v .state ≡ s → (k : ℕ) → k < l₀ .desk .steals .count
+      → Fate (l₀ .desk .steals) (cutOff v s m .desk .steals) (Reclaimed (l₀ .voices) (cutOff v s m .voices) bus k) k
+  fates-cut m q v i o Tracked e k lt =
+      fate-pushed (m .desk .steals) (recordOf (m .desk .clock) (voiceLevel (m .desk) v) true) (steal-small (q .recorded) v i e) (q .recorded .newest) (let g = q .grown in omega arith)
+      (fate-voices (reclaimed-keep (λ x. not (isVoice (v .id) x)) (m .voices) k) (q .fate k lt))
+  fates-cut m q v i o (Fading f) e k lt = go (ℕ-discrete k (f .number))
+    where
+      old : Fate (l₀ .desk .steals) (m .desk .steals) (Reclaimed (l₀ .voices) (keep (λ x. not (isVoice (v .id) x)) (m .voices)) bus k) k
+      old = fate-voices (reclaimed-keep (λ x. not (isVoice (v .id) x)) (m .voices) k) (q .fate k lt)
+
+      this : k ≡ f .number → Reclaimed (l₀ .voices) (keep (λ x. not (isVoice (v .id) x)) (m .voices)) bus k
+      this h =
+          record {
+            voice = v;
+            fade = f;
+            member = ⊎-elim (λ j. j) (λ z. absurd (omega (arith, h, z, lt))) (q .from v i f e);
+            state = e;
+            number = sym h;
+            on = o;
+            gone = gone-self (v .id) (m .voices);
+          }
+
+      go : Dec (k ≡ f .number) → Fate (l₀ .desk .steals) (marked (m .desk .steals) (f .number)) (Reclaimed (l₀ .voices) (keep (λ x. not (isVoice (v .id) x)) (m .voices)) bus k) k
+      go (yes h) = subst (λ j. Fate (l₀ .desk .steals) (marked (m .desk .steals) j) (Reclaimed (l₀ .voices) (keep (λ x. not (isVoice (v .id) x)) (m .voices)) bus k) k) h (fate-marked (m .desk .steals) (this h) old)
+      go (no h) = fate-unmarked (m .desk .steals) (f .number) h old
+  fates-cut m q v i o Loose e k lt = fate-voices (reclaimed-keep (λ x. not (isVoice (v .id) x)) (m .voices) k) (q .fate k lt)
+
+  grown-cut : (m : Ledger) → During m → (v : Voice) → In v (m .voices) → (s : VoiceState) → v .state ≡ s → l₀ .desk .steals .count ≤ cutOff v s m .desk .steals .count
+  grown-cut m q v i Tracked e =
+      let c = count-pushed (m .desk .steals) (recordOf (m .desk .clock) (voiceLevel (m .desk) v) true) (steal-small (q .recorded) v i e) in
+      let g = q .grown in
+      omega arith
+  grown-cut m q v i (Fading f) e = q .grown
+  grown-cut m q v i Loose e = q .grown
+
+  during-cut : (m : Ledger) → During m → (v : Voice) → In v (m .voices) → isOn bus v ≡ true → (s : VoiceState) → v .state ≡ s → During (cutOff v s m)
+  during-cut m q v i o s e =
+      record {
+        recorded = recorded-cut v s m (q .recorded) i e;
+        ids = q .ids;
+        left = q .left;
+        grown = grown-cut m q v i s e;
+        from = λ u j f h. q .from u (in-keep (λ x. not (isVoice (v .id) x)) (m .voices) u j .0) f h;
+        fate = fates-cut m q v i o s e;
+      }
+
+  -- the newcomer is none of those that went
+  reclaimed-land : (m : Ledger) → During m → (n : Voice) → n .id .0 ≡ m .desk .spawned + 1 → (k : ℕ) → Reclaimed (l₀ .voices) (m .voices) bus k → Reclaimed (l₀ .voices) (m .voices ++ (n ∷ [])) bus k
+  reclaimed-land m q n e k r =
+      record {
+        voice = r .voice;
+        fade = r .fade;
+        member = r .member;
+        state = r .state;
+        number = r .number;
+        on = r .on;
+        gone = find-snoc-off (isVoice (r .voice .id)) (m .voices) n (ne-eqb (n .id .0) (r .voice .id .0) (λ z. omega (arith, z, e, q .ids, d₀ .below (r .voice) (r .member)))) ∙ r .gone;
+      }
+
+  fates-settle : (m : Ledger) → During m → (k : ℕ) → k < l₀ .desk .steals .count
+      → Fate (l₀ .desk .steals) (settle def pan bus m .ledger .desk .steals) (Reclaimed (l₀ .voices) (settle def pan bus m .ledger .voices) bus k) k
+  fates-settle m q k lt =
+      place-kept def pan (stateUnder (m .desk .config .budget)) bus (λ n m. During m)
+      (λ r. Fate (l₀ .desk .steals) (r .ledger .desk .steals) (Reclaimed (l₀ .voices) (r .ledger .voices) bus k) k)
+      (λ n m p e q. fate-voices (reclaimed-land m q (newcomer def pan _ bus p (m .desk)) refl k) (q .fate k lt)) (λ m e q. q .fate k lt) (λ n m e f q. q .fate k lt)
+      (λ n m v e f q. let r = nextOut-in (q .recorded .ids) (m .desk) bus v f in during-cut m q v (r .0) (and-right (busy (v .state)) (isOn bus v) (r .1)) (v .state) refl)
+      (tries (m .desk .config .budget) (m .voices)) m q
+
+  during-new : RecordedOf l₀ → l₀ .desk .spawned < 18446744073709551615 → During l₀
+  during-new r h = record { recorded = r; ids = refl; left = h; grown = omega arith; from = λ v i f e. inl i; fate = λ k lt. same refl }
+
+  during-steal : RecordedOf l₀ → l₀ .desk .spawned < 18446744073709551615 → (v : Voice) → In v (l₀ .voices) → isTracked (v .state) ≡ true → During (stealVoice v l₀)
+  during-steal r h v i t =
+      record {
+        recorded = recorded-steal v l₀ r i t;
+        ids = spawned-steal v l₀;
+        left = rw (spawned-steal v l₀) h;
+        grown = rest (portHeld v l₀) .0;
+        from = rest (portHeld v l₀) .1;
+        fate = rest (portHeld v l₀) .2;
+      }
+    where
+      b : Book
+      b = l₀ .desk .steals
+
+      small : b .count < 18446744073709551615
+      small = steal-small r v i (tracked-state (v .state) t)
+
+      rec : Bool → StealRecord
+      rec cut = recordOf (l₀ .desk .clock) (voiceLevel (l₀ .desk) v) cut
+
+      grown : (c : Bool) → b .count ≤ pushed b (rec c) .count
+      grown c = let e = count-pushed b (rec c) small in omega arith
+
+      rest : (o : Option ℕ) → (b .count ≤ stolen v o l₀ .desk .steals .count)
+          × ((u : Voice) → In u (stolen v o l₀ .voices) → (f : Fade) → u .state ≡ Fading f → In u (l₀ .voices) ⊎ (f .number ≡ b .count))
+          × ((k : ℕ) → k < b .count → Fate b (stolen v o l₀ .desk .steals) (Reclaimed (l₀ .voices) (stolen v o l₀ .voices) bus k) k)
+      rest none = (grown true, λ u j f e. inl (in-keep (λ x. not (isVoice (v .id) x)) (l₀ .voices) u j .0), λ k lt. fate-pushed b (rec true) small (r .newest) lt (same refl))
+      rest (some p) = (
+        grown false,
+        λ u j f e. ⊎-elim (λ z. inr (ap (λ (x : Fade). x .number) (fade-inj (sym e ∙ ap (λ (x : Voice). x .state) z)))) (λ z. inl (z .0)) (begun (r .ids) v i (fadeOf (l₀ .desk)) u j),
+        λ k lt. fate-pushed b (rec false) small (r .newest) lt (same refl),
+      )
+
+-- ---- the claim: what becomes of record k in a managed spawn
+pub marks : (def : SynthDef) (bus : NodeId) (pan : Float) (l : Ledger) → RecordedOf l → (k : ℕ) → k < l .desk .steals .count
+    → Fate (l .desk .steals) (step (call.spawnManaged def bus pan) l .ledger .desk .steals) (Reclaimed (l .voices) (step (call.spawnManaged def bus pan) l .ledger .voices) bus k) k
+marks def bus pan l r k lt = go (spawnRefusal (l .desk) (l .voices) def bus) refl
+  where
+    R : Landed → Type 0
+    R z = Fate (l .desk .steals) (z .ledger .desk .steals) (Reclaimed (l .voices) (z .ledger .voices) bus k) k
+
+    go : (o : Option Refusal) → spawnRefusal (l .desk) (l .voices) def bus ≡ o → R (unless o l (admitted (admissionOn bus l) def (pans pan) bus l))
+    go (some n) e = same refl
+    go none e =
+        let h : l .desk .spawned < 18446744073709551615 = spawn-allowed (l .desk) (l .voices) def bus e .ids-left in
+        managed-kept def (pans pan) bus R l (r .ids) (λ a. same refl) (λ a. fates-settle def (pans pan) bus l (r .ids) l (during-new def (pans pan) bus l (r .ids) r h) k lt)
+        (λ p w a v i t. fates-settle def (pans pan) bus l (r .ids) (stealVoice v l) (during-steal def (pans pan) bus l (r .ids) r h v i (and-left (tracks v) _ t)) k lt)
+
+abbrev pub tallyOf : Ledger → ℕ
+tallyOf l = l .desk .steals .count + count tracks (l .voices)
+
+tally-cut : (v : Voice) (s : VoiceState) (m : Ledger) → RecordedOf m → In v (m .voices) → v .state ≡ s → tallyOf (cutOff v s m) ≡ tallyOf m
+tally-cut v Tracked m r i e =
+    let one = one-gone (r .ids) tracks v i ∙ ap (λ s. more (isTracked s) (count tracks (keep (λ x. not (isVoice (v .id) x)) (m .voices)))) e in
+    let c = count-pushed (m .desk .steals) (recordOf (m .desk .clock) (voiceLevel (m .desk) v) true) (steal-small r v i e) in
+    omega arith
+tally-cut v (Fading f) m r i e =
+    let one = one-gone (r .ids) tracks v i ∙ ap (λ s. more (isTracked s) (count tracks (keep (λ x. not (isVoice (v .id) x)) (m .voices)))) e in
+    omega arith
+tally-cut v Loose m r i e =
+    let one = one-gone (r .ids) tracks v i ∙ ap (λ s. more (isTracked s) (count tracks (keep (λ x. not (isVoice (v .id) x)) (m .voices)))) e in
+    omega arith
+
+tally-steal : (v : Voice) (m : Ledger) → RecordedOf m → In v (m .voices) → isTracked (v .state) ≡ true → tallyOf (stealVoice v m) ≡ tallyOf m
+tally-steal v m r i t = go (portHeld v m)
+  where
+    s : v .state ≡ Tracked
+    s = tracked-state (v .state) t
+
+    go : (o : Option ℕ) → tallyOf (stolen v o m) ≡ tallyOf m
+    go none = tally-cut v Tracked m r i s
+    go (some p) =
+        let f = fadeOf (m .desk) in
+        let one = one-changed (r .ids) tracks (beginFade (v .id) f) v (begin-other (v .id) f) t (ap tracks (begin-self v f)) i in
+        let c = count-pushed (m .desk .steals) (recordOf (m .desk .clock) (voiceLevel (m .desk) v) false) (steal-small r v i s) in
+        omega arith
+
+module _ (def : SynthDef) (pan : Bool) (bus : NodeId) (n : ℕ) where
+  abbrev Tallies : ℕ → Landed → Type 0
+  Tallies t r = tallyOf (r .ledger) ≡ more (isLet (r .answer)) t
+
+  tally-settle : (m : Ledger) → m .desk .config .budget ≡ AtMost n → RecordedOf m → Tallies (tallyOf m) (settle def pan bus m)
+  tally-settle m b r =
+      place-kept def pan (stateUnder (m .desk .config .budget)) bus (λ k z. RecordedOf z × (tallyOf z ≡ tallyOf m)) (Tallies (tallyOf m))
+      (λ k z p e q. lands z p (q .1)) (λ z e q. q .1) (λ k z e f q. q .1)
+      (λ k z v e f q. let i = nextOut-in (q .0 .ids) (z .desk) bus v f .0 in (recorded-cut v (v .state) z (q .0) i refl, tally-cut v (v .state) z (q .0) i refl ∙ q .1))
+      (tries (m .desk .config .budget) (m .voices)) m (r, refl)
+    where
+      lands : (z : Ledger) (p : ℕ) → tallyOf z ≡ tallyOf m → z .desk .steals .count + count tracks (z .voices ++ (newcomer def pan (stateUnder (m .desk .config .budget)) bus p (z .desk) ∷ [])) ≡ suc (tallyOf m)
+      lands z p e =
+          let c = count-snoc tracks (z .voices) (newcomer def pan (stateUnder (m .desk .config .budget)) bus p (z .desk)) ∙ ap (λ b. more (isTracked (stateUnder b)) (count tracks (z .voices))) b in
+          omega arith
+
+pub tallies : (def : SynthDef) (bus : NodeId) (pan : Float) (n : ℕ) (l : Ledger) → l .desk .config .budget ≡ AtMost n → RecordedOf l → (a : Spawned) → step (call.spawnManaged def bus pan) l .answer ≡ call.spawned a
+    → tallyOf (step (call.spawnManaged def bus pan) l .ledger) ≡ more (isLet a) (tallyOf l)
+tallies def bus pan n l b r a e = all ∙ ap (λ x. more (isLet x) (tallyOf l)) (spawned-inj e)
+  where
+    spawned-inj : {x y : Spawned} → call.spawned x ≡ call.spawned y → x ≡ y
+    spawned-inj h = cc
+
+    go : (o : Option Refusal) → Tallies def (pans pan) bus n (tallyOf l) (unless o l (admitted (admissionOn bus l) def (pans pan) bus l))
+    go (some k) = refl
+    go none =
+        managed-kept def (pans pan) bus (Tallies def (pans pan) bus n (tallyOf l)) l (r .ids) (λ h. refl) (λ h. tally-settle def (pans pan) bus n l b r)
+        (λ p w h v i t.
+        let z = and-left (tracks v) _ t in
+        tally-settle def (pans pan) bus n (stealVoice v l) (ap (λ (c : Config). c .budget) (config-steal v l) ∙ b) (recorded-steal v l r i z)
+        ∙ ap (more (isLet (settle def (pans pan) bus (stealVoice v l) .answer))) (tally-steal v l r i z))
+
+    all : Tallies def (pans pan) bus n (tallyOf l) (ledger.spawnManaged def bus (pans pan) l)
+    all = go (spawnRefusal (l .desk) (l .voices) def bus)

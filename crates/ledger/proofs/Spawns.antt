@@ -1,0 +1,223 @@
+-- Spawns of the model and of the ledger agree: the same answer, and a store that is the ledger's, which stays sound.
+use Prim.Native.Nat.{ℕ, zero, suc, _<_}
+use native.Mathlib.Omega.{arith}
+use mathlib.Core.Path.{_≡_, refl, sym, ap, _∙_, subst}
+use mathlib.Core.List.{List, [], _∷_, _++_, map}
+use mathlib.Core.Option.{Option, none, some}
+use mathlib.Core.Bool.{Bool, true, not}
+use lib.Dec.{eqb}
+use lib.ListN.{length-map}
+use borrow.Author.Tests.{eqb-true, ne-eqb}
+use Rattle.lists.specs.Member.{In, some-inj, and-left, and-right, map-append, map-swap}
+use Rattle.lists.specs.Keep.{keep-map}
+use Rattle.lists.specs.Find.{find, mapO, find-in}
+use Rattle.node.specs.declared.record.NodeId.{NodeId}
+use Rattle.node.specs.declared.record.VoiceId.{VoiceId}
+use Rattle.node.specs.declared.record.Node.{Node}
+use Rattle.node.specs.declared.record.Edge.{Edge}
+use Rattle.node.specs.declared.refusal.Refusal.{Refusal}
+use Rattle.node.specs.declared.refusal.Refusal.the-variants.{Rejected, NoPort}
+use Rattle.edges.specs.Ports.{feeds}
+use Rattle.graph.specs.Node.{ownedBy}
+use Rattle.voice.specs.declared.policy.Admission.{Admission}
+use Rattle.voice.specs.declared.policy.Admission.the-variants as admission
+use Rattle.synthdef.specs.Limits.{allowed}
+use Rattle.synthdef.specs.declared.def.SynthDef.{SynthDef}
+use Rattle.store.specs.declared.voices.Voice.{Voice}
+use Rattle.store.specs.declared.voices.VoiceState.{VoiceState}
+use Rattle.store.specs.declared.voices.VoiceState.the-variants.{Tracked, Loose}
+use Rattle.model.specs.Desk.{withSteals}
+use Rattle.model.specs.Voice.{isVoice, isTracked, feeder, counted, movedState, beginFade}
+use Rattle.model.specs.Refuse.{spawnRefusal}
+use Rattle.model.specs.Spawn.{fadeNode, fadeOf, newcomer, nextOut, reclaimBook, stateUnder, tries}
+use Rattle.model.specs.Model.{Model}
+use Rattle.model.specs.Model as model
+use Rattle.ledger.specs.Holder.{isHeld}
+use Rattle.ledger.specs.Ledger.{Ledger}
+use Rattle.ledger.specs.Ledger as ledger
+use Rattle.ledger.specs.Claim.{ownerOf}
+use Rattle.ledger.proofs.Allowed.{spawn-allowed}
+use Rattle.ledger.proofs.Allowed as refusal
+use Rattle.ledger.proofs.Ids.{Ids}
+use Rattle.ledger.proofs.Victim.{steal-voice, nextOut-in}
+use Rattle.ledger.proofs.Owner.{portsAt, live-below, owner-old, owner-thin, dead-voice}
+use Rattle.ledger.proofs.Wired.{above}
+use Rattle.ledger.proofs.Sound.{Sound, HostAt, sound-gone}
+use Rattle.ledger.proofs.Fading.{sound-fade}
+use Rattle.ledger.proofs.Newcomer.{feeder-out, sound-newcomer}
+use Rattle.ledger.proofs.Port.{lowest-some, free-same, feeds-held}
+use Rattle.ledger.proofs.Shown.{modelOf, reached, stored, book-same, admits-same, find-stored, nextOut-same, tries-same, under-same, begin-stored}
+
+abbrev pub SoundL : Ledger → Type 0
+SoundL l = Sound (l .desk .graph .nodes) (l .desk .graph .edges) (l .desk .graph .next) (l .desk .spawned) (l .voices) (l .holders)
+
+pub ids-of : (l : Ledger) → SoundL l → Ids (l .desk .spawned) (l .voices)
+ids-of l s = record { rising = s .voiced .rises; below = λ v i. s .voiced .sung v i .named }
+
+-- the store is the ledger's, and the ledger is sound
+pub record Left (m : Model) (l : Ledger) : Type 0 where
+  pub model : m ≡ modelOf l
+  pub sound : SoundL l
+
+pub record Lands (r : model.Landed) (t : ledger.Landed) : Type 0 where
+  pub answer : r .answer ≡ t .answer
+  pub model : r .model ≡ modelOf (t .ledger)
+  pub sound : SoundL (t .ledger)
+
+-- ---- a voice goes
+pub model-gone : (w : VoiceId) (l : Ledger) → model.gone w (modelOf l) ≡ modelOf (ledger.gone w l)
+model-gone w l =
+    ap (λ vs. record { desk = ledger.gone w l .desk; voices = vs }) (keep-map (stored l) (λ v. not (isVoice w v)) (λ v. not (isVoice w v)) (λ v. refl) (l .voices))
+
+model-cut : (v : Voice) (t : VoiceState) (l : Ledger) → model.cutOff (stored l v) (movedState (reached (l .desk .config .block)) t) (modelOf l) ≡ modelOf (ledger.cutOff v t l)
+model-cut v t l =
+    ap (λ b. model.gone (v .id) (record { desk = withSteals b (l .desk); voices = map (stored l) (l .voices) })) (book-same (reached (l .desk .config .block)) v t (l .desk))
+    ∙ model-gone (v .id) (record { desk = withSteals (reclaimBook v t (l .desk)) (l .desk); holders = l .holders; voices = l .voices })
+
+model-fade : (v : Voice) (p : ℕ) (l : Ledger) → model.fade (stored l v) p (modelOf l) ≡ modelOf (ledger.fade v p l)
+model-fade v p l =
+    ap (λ vs. record { desk = ledger.fade v p l .desk; voices = vs })
+    (map-swap (stored l) (beginFade (v .id) (fadeOf (l .desk))) (beginFade (v .id) (fadeOf (l .desk)))
+    (begin-stored (l .desk .config .block) (v .id) (l .desk .graph .next) (l .desk .clock) (l .desk .steals .count)) (l .voices))
+
+-- what becomes of a ledger in which a voice was stolen or reclaimed; the host's nodes stay
+pub record Stolen (m : Model) (l₀ l : Ledger) : Type 0 where
+  pub model : m ≡ modelOf l
+  pub sound : SoundL l
+  pub hosts : (n : ℕ) → HostAt (l₀ .desk .graph .nodes) n → HostAt (l .desk .graph .nodes) n
+
+module _ (l : Ledger) (s : SoundL l) where
+  pub cut-off : (v : Voice) (t : VoiceState) → In v (l .voices) → Stolen (model.cutOff (stored l v) (movedState (reached (l .desk .config .block)) t) (modelOf l)) l (ledger.cutOff v t l)
+  cut-off v t i =
+      let pos = above (s .voiced) v i in
+      record {
+        model = model-cut v t l;
+        sound = sound-gone s (v .id) pos;
+        hosts = λ n h. owner-thin (s .listed) (ownedBy (v .id)) n ∙ rw (dead-voice (s .listed) (v .id) n 0 h, ne-eqb 0 (v .id .0) (λ q. omega (arith, pos))) h;
+      }
+
+  faded : (v : Voice) → In v (l .voices) → (e : Edge) → In e (l .desk .graph .edges) → e .from .0 ≡ feeder v .0 → e .to .0 ≡ v .bus .0
+      → Stolen (model.fade (stored l v) (e .port) (modelOf l)) l (ledger.fade v (e .port) l)
+  faded v i e j ef et =
+      record {
+        model = model-fade v (e .port) l;
+        sound = sound-fade s v i e j ef et (fadeOf (l .desk));
+        hosts = λ n h. owner-old (s .listed) (fadeNode (v .id)) n (live-below (s .listed) n 0 h .0) ∙ h;
+      }
+
+  -- the admission victim
+  pub stolen : (v : Voice) → In v (l .voices) → isTracked (v .state) ≡ true → Stolen (model.stealVoice (stored l v) (modelOf l)) l (ledger.stealVoice v l)
+  stolen v i t =
+      subst (λ o. Stolen (model.stealVoice (stored l v) (modelOf l)) l (ledger.stolen v o l)) (feeds-held s v i t) (go (find (feeds (feeder v) (v .bus)) (l .desk .graph .edges)) refl)
+    where
+      go : (o : Option Edge) → find (feeds (feeder v) (v .bus)) (l .desk .graph .edges) ≡ o
+          → Stolen (model.stolen (stored l v) (mapO (λ e. e .port) o) (modelOf l)) l (ledger.stolen v (mapO (λ e. e .port) o) l)
+      go none e = cut-off v Tracked i
+      go (some d) e =
+          let r = find-in (feeds (feeder v) (v .bus)) (l .desk .graph .edges) d e in
+          faded v i d (r .0) (eqb-true _ _ (and-left _ _ (r .1))) (eqb-true _ _ (and-right (eqb (d .from .0) (feeder v .0)) _ (r .1)))
+
+-- ---- the port search
+pub refused-agrees : (r : Refusal) (l : Ledger) → SoundL l → Lands (model.refused r (modelOf l)) (ledger.refused r l)
+refused-agrees r l s = record { answer = refl; model = refl; sound = s }
+
+module _ (def : SynthDef) (ok : allowed def ≡ true) (pan : Bool) (t : VoiceState) (still : (more : ℕ → ℕ) → movedState more t ≡ t) (bus : NodeId) where
+  land-agrees : (p : ℕ) (l : Ledger) → SoundL l → HostAt (l .desk .graph .nodes) (bus .0) → p < portsAt (l .desk .graph .nodes) (bus .0)
+      → Lands (model.land def pan t bus p (modelOf l)) (ledger.land def pan t bus p l)
+  land-agrees p l s live range =
+      record {
+        answer = refl;
+        model = ap (λ vs. record { desk = ledger.land def pan t bus p l .ledger .desk; voices = vs })
+            (ap (λ v. map (stored l) (l .voices) ++ (v ∷ [])) same ∙ sym (map-append (stored l) (l .voices) (newcomer def pan t bus p (l .desk) ∷ [])));
+        sound = sound-newcomer def ok pan bus p (l .desk .spawned) (l .desk .graph) (l .voices) (l .holders) s live range (newcomer def pan t bus p (l .desk)) refl refl (feeder-out def pan t bus p (l .desk));
+      }
+    where
+      same : newcomer def pan t bus p (l .desk) ≡ stored l (newcomer def pan t bus p (l .desk))
+      same = ap (λ u. newcomer def pan u bus p (l .desk)) (sym (still (reached (l .desk .config .block))))
+
+  free-below : (p : ℕ) (l : Ledger) → ledger.portFree bus l ≡ some p → p < portsAt (l .desk .graph .nodes) (bus .0)
+  free-below p l e =
+      let r = lowest-some (portsAt (l .desk .graph .nodes) (bus .0)) (λ p. not (isHeld (l .holders (bus .0) p))) 0 p e in
+      omega (arith, r .1)
+
+  place-agrees : (k : ℕ) (l : Ledger) → SoundL l → HostAt (l .desk .graph .nodes) (bus .0) → Lands (model.place k def pan t bus (modelOf l)) (ledger.place k def pan t bus l)
+  place-agrees zero l s live =
+      subst (λ o. Lands (model.landOr o none def pan t bus (modelOf l) (model.refused NoPort)) (ledger.place zero def pan t bus l)) (sym (free-same s bus live)) (go (ledger.portFree bus l) refl)
+    where
+      go : (o : Option ℕ) → ledger.portFree bus l ≡ o
+          → Lands (model.landOr o none def pan t bus (modelOf l) (model.refused NoPort)) (ledger.landOr o none def pan t bus l (ledger.refused NoPort))
+      go (some p) e = land-agrees p l s live (free-below p l e)
+      go none e = refused-agrees NoPort l s
+  place-agrees (suc k) l s live =
+      subst (λ o. Lands (model.landOr o (nextOut (l .desk) bus (map (stored l) (l .voices))) def pan t bus (modelOf l) (λ m. model.place k def pan t bus m)) (ledger.place (suc k) def pan t bus l))
+      (sym (free-same s bus live))
+      (subst (λ u. Lands (model.landOr (ledger.portFree bus l) u def pan t bus (modelOf l) (λ m. model.place k def pan t bus m)) (ledger.place (suc k) def pan t bus l))
+      (sym (nextOut-same (reached (l .desk .config .block)) (l .desk) bus (l .voices)))
+      (go (ledger.portFree bus l) refl (nextOut (l .desk) bus (l .voices)) refl (place-agrees k)))
+    where
+      go : (o : Option ℕ) → ledger.portFree bus l ≡ o → (u : Option Voice) → nextOut (l .desk) bus (l .voices) ≡ u
+          → ((l : Ledger) → SoundL l → HostAt (l .desk .graph .nodes) (bus .0) → Lands (model.place k def pan t bus (modelOf l)) (ledger.place k def pan t bus l))
+          → Lands (model.landOr o (mapO (stored l) u) def pan t bus (modelOf l) (λ m. model.place k def pan t bus m)) (ledger.landOr o u def pan t bus l (λ l. ledger.place k def pan t bus l))
+      go (some p) e u f ih = land-agrees p l s live (free-below p l e)
+      go none e none f ih = refused-agrees NoPort l s
+      go none e (some v) f ih =
+          let z = cut-off l s v (v .state) (nextOut-in (ids-of l s) (l .desk) bus v f .0) in
+          subst (λ m. Lands (model.place k def pan t bus m) (ledger.place k def pan t bus (ledger.cutOff v (v .state) l))) (sym (z .model)) (ih (ledger.cutOff v (v .state) l) (z .sound) (z .hosts (bus .0) live))
+
+-- ---- admission
+module _ (def : SynthDef) (ok : allowed def ≡ true) (pan : Bool) (bus : NodeId) where
+  settle-agrees : (l : Ledger) → SoundL l → HostAt (l .desk .graph .nodes) (bus .0) → Lands (model.settle def pan bus (modelOf l)) (ledger.settle def pan bus l)
+  settle-agrees l s live =
+      subst (λ k. Lands (model.place k def pan (stateUnder (l .desk .config .budget)) bus (modelOf l)) (ledger.settle def pan bus l))
+      (sym (tries-same (reached (l .desk .config .block)) (l .desk .config .budget) (l .voices)))
+      (place-agrees def ok pan (stateUnder (l .desk .config .budget)) (λ more. under-same more (l .desk .config .budget)) bus (tries (l .desk .config .budget) (l .voices)) l s live)
+
+  steal-agrees : (l : Ledger) → SoundL l → HostAt (l .desk .graph .nodes) (bus .0) → (o : Option Voice) → ((v : Voice) → o ≡ some v → In v (l .voices) × (isTracked (v .state) ≡ true))
+      → Lands (model.stealThen (mapO (stored l) o) def pan bus (modelOf l)) (ledger.stealThen o def pan bus l)
+  steal-agrees l s live none who = settle-agrees l s live
+  steal-agrees l s live (some v) who =
+      let r = who v refl in
+      let z = stolen l s v (r .0) (r .1) in
+      subst (λ m. Lands (model.settle def pan bus m) (ledger.settle def pan bus (ledger.stealVoice v l))) (sym (z .model)) (settle-agrees (ledger.stealVoice v l) (z .sound) (z .hosts (bus .0) live))
+
+  admitted-agrees : (l : Ledger) → SoundL l → HostAt (l .desk .graph .nodes) (bus .0)
+      → Lands (model.admitted (model.admissionOn bus (modelOf l)) def pan bus (modelOf l)) (ledger.admitted (ledger.admissionOn bus l) def pan bus l)
+  admitted-agrees l s live =
+      subst (λ a. Lands (model.admitted a def pan bus (modelOf l)) (ledger.admitted (ledger.admissionOn bus l) def pan bus l))
+      (sym (admits-same (reached (l .desk .config .block)) (l .desk) bus (l .voices))) (go (ledger.admissionOn bus l) refl)
+    where
+      go : (a : Admission) → ledger.admissionOn bus l ≡ a → Lands (model.admitted a def pan bus (modelOf l)) (ledger.admitted a def pan bus l)
+      go admission.Admit e = settle-agrees l s live
+      go admission.Reject e = refused-agrees Rejected l s
+      go (admission.Steal place w) e =
+          let r = steal-voice (ids-of l s) (l .desk) (counted (l .desk .config .scope) bus) (l .desk .config .budget) (l .desk .config .policy) place w e in
+          let y : find (isVoice w) (map (stored l) (l .voices)) ≡ some (stored l (r .0)) = find-stored (reached (l .desk .config .block)) w (l .voices) ∙ ap (mapO (stored l)) (r .3) in
+          subst (λ o. Lands (model.stealThen o def pan bus (modelOf l)) (ledger.stealThen (find (isVoice w) (l .voices)) def pan bus l)) (sym y)
+          (subst (λ o. Lands (model.stealThen (some (stored l (r .0))) def pan bus (modelOf l)) (ledger.stealThen o def pan bus l)) (sym (r .3))
+          (steal-agrees l s live (some (r .0)) (λ v q. subst (λ x. In x (l .voices) × (isTracked (x .state) ≡ true)) (some-inj q) (r .1, and-left (isTracked (r .0 .state)) _ (r .2)))))
+
+-- ---- the spawns
+-- a live node of the host, by its owner
+pub host-owned : (ns : List Node) (k : NodeId) → refusal.HostAt ns k → HostAt ns (k .0)
+host-owned ns k r = ap ownerOf (r .1) ∙ ap some (r .2)
+
+module _ (l : Ledger) (s : SoundL l) where
+  refusal-same : (def : SynthDef) (bus : NodeId) → spawnRefusal (l .desk) (map (stored l) (l .voices)) def bus ≡ spawnRefusal (l .desk) (l .voices) def bus
+  refusal-same def bus = rw (length-map (l .voices) (stored l))
+
+  unless-agrees : (o : Option Refusal) (r : model.Landed) (t : ledger.Landed) → (o ≡ none → Lands r t) → Lands (model.unless o (modelOf l) r) (ledger.unless o l t)
+  unless-agrees none r t f = f refl
+  unless-agrees (some n) r t f = refused-agrees n l s
+
+  host-bus : (def : SynthDef) (bus : NodeId) → spawnRefusal (l .desk) (l .voices) def bus ≡ none → HostAt (l .desk .graph .nodes) (bus .0)
+  host-bus def bus e = host-owned (l .desk .graph .nodes) bus (spawn-allowed (l .desk) (l .voices) def bus e .host)
+
+  pub managed-agrees : (def : SynthDef) (bus : NodeId) (pan : Bool) → Lands (model.spawnManaged def bus pan (modelOf l)) (ledger.spawnManaged def bus pan l)
+  managed-agrees def bus pan =
+      subst (λ o. Lands (model.unless o (modelOf l) (model.admitted (model.admissionOn bus (modelOf l)) def pan bus (modelOf l))) (ledger.spawnManaged def bus pan l)) (sym (refusal-same def bus))
+      (unless-agrees (spawnRefusal (l .desk) (l .voices) def bus) _ _ (λ e. admitted-agrees def (spawn-allowed (l .desk) (l .voices) def bus e .definition) pan bus l s (host-bus def bus e)))
+
+  pub loose-agrees : (def : SynthDef) (bus : NodeId) (pan : Bool) → Lands (model.spawnLoose def bus pan (modelOf l)) (ledger.spawnLoose def bus pan l)
+  loose-agrees def bus pan =
+      subst (λ o. Lands (model.unless o (modelOf l) (model.place 0 def pan Loose bus (modelOf l))) (ledger.spawnLoose def bus pan l)) (sym (refusal-same def bus))
+      (unless-agrees (spawnRefusal (l .desk) (l .voices) def bus) _ _ (λ e. place-agrees def (spawn-allowed (l .desk) (l .voices) def bus e .definition) pan Loose (λ more. refl) bus 0 l s (host-bus def bus e)))

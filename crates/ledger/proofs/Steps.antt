@@ -1,0 +1,273 @@
+-- What is true of the ledger after every list of calls is shown move by move: what a call does is a chain of a few moves, and
+-- here each call is taken apart into them once. `Steady` has the moves of all calls but a managed spawn: `steady-step` is for
+-- those calls, `kept-step` and `kept-run` are for all, given what a managed spawn does. The port search of a spawn is taken apart
+-- by `place-kept`, a managed spawn by `managed-kept` of `Managed`.
+use Prim.Native.Nat.{ℕ, zero, suc, _+_, _<_}
+use mathlib.Core.Path.{_≡_, refl, sym, ap, _∙_}
+use mathlib.Core.List.{List, [], _∷_, _++_, map}
+use mathlib.Core.Option.{Option, none, some}
+use mathlib.Core.Bool.{Bool, true, false, not, cond, true≢false}
+use lib.ListN.{length}
+use lib.Ieee.{Float}
+use Rattle.lists.specs.Find.{find}
+use Rattle.lists.specs.Keep.{keep}
+use Rattle.node.specs.declared.record.NodeId.{NodeId}
+use Rattle.node.specs.declared.record.VoiceId.{VoiceId}
+use Rattle.node.specs.declared.record.Node.{Node}
+use Rattle.node.specs.declared.refusal.Refusal.{Refusal}
+use Rattle.node.specs.declared.refusal.Refusal.the-variants.{NoPort, TableFull, ClockEnd}
+use Rattle.node.specs.Name.{nameOf}
+use Rattle.graph.specs.View.{GraphView}
+use Rattle.graph.specs.Node.{nodeAt, hostNode}
+use Rattle.graph.specs.Change as change
+use Rattle.graph.specs.Refuse.{addRefusal, hostRefusal, disconnectRefusal, connectRefusal}
+use Rattle.order.specs.declared.Readiness.{Readiness}
+use Rattle.order.specs.declared.Readiness.the-variants.{Ready, Refused}
+use Rattle.scheduler.specs.Event.{paramOrder}
+use Rattle.scheduler.specs.Queue.{full, inserted}
+use Rattle.scheduler.specs.declared.event.Event.{Event}
+use Rattle.node.specs.declared.order.LastOrder.{LastOrder}
+use Rattle.node.specs.declared.name.Name.{Name}
+use Rattle.synthdef.specs.Tables.{paramRows}
+use Rattle.synthdef.specs.Params.{paramNode}
+use Rattle.synthdef.specs.declared.def.SynthDef.{SynthDef}
+use Rattle.store.specs.declared.answer.Rendered.{Rendered}
+use Rattle.store.specs.declared.answer.Rendered.the-variants as Rendered
+use Rattle.store.specs.declared.answer.Outcome.the-variants.{Applied, NotTaken}
+use Rattle.store.specs.declared.config.Config.{Config}
+use Rattle.store.specs.declared.voices.Voice.{Voice}
+use Rattle.store.specs.declared.voices.VoiceState.{VoiceState}
+use Rattle.store.specs.declared.voices.VoiceState.the-variants.{Loose}
+use Rattle.model.specs.Desk.{Desk, withGraph, withEvents, sounding}
+use Rattle.voice.specs.Steals.{Book}
+use Rattle.model.specs.Voice.{isVoice, id, moved}
+use Rattle.model.specs.Refuse.{spawnRefusal, reportRefusal}
+use Rattle.model.specs.Spawn.{pans, nextOut, newcomer}
+use Rattle.model.specs.Order.{withNode, withLast, takes, order, orderVoice, orderParam, orderNode, stays, reportNode, withReport}
+use Rattle.model.specs.Render.{prepareOutcome, prepareDesk, readyDesk, isFree, anyFree, heard, answerAfter, isSounding, due, clockEnds}
+use Rattle.model.specs.Call.{Call, event, scheduleRefusal}
+use Rattle.model.specs.Call as call
+use Rattle.ledger.specs.Holder.{Holders, nobody, host, hold, dropNode}
+use Rattle.ledger.specs.Ledger.{Ledger, Landed, portFree, gone, cutOff, land, landOr, place, refused, admitted, admissionOn, freed, free}
+use Rattle.ledger.specs.Ledger as ledger
+use Rattle.ledger.specs.Clear.{goneAll, endedVoices, silentVoices, clear}
+use Rattle.ledger.specs.Render.{happen, happenAll, oneMore, countedIf, blockOf, preparedIf, rested, render}
+use Rattle.ledger.specs.Call.{Step, unless, step, run}
+use Rattle.ledger.specs.Claim.{isManaged}
+use Rattle.ledger.proofs.Allowed.{when-none, spawn-allowed}
+
+-- ---- the port search: what holds of it while n tries are left, and what of its outcome
+module _ (def : SynthDef) (pan : Bool) (s : VoiceState) (bus : NodeId) (Q : ℕ → Ledger → Type 0) (R : Landed → Type 0)
+    (lands : (n : ℕ) (l : Ledger) (p : ℕ) → portFree bus l ≡ some p → Q n l → R (land def pan s bus p l))
+    (spent : (l : Ledger) → portFree bus l ≡ none → Q zero l → R (refused NoPort l))
+    (idle : (n : ℕ) (l : Ledger) → portFree bus l ≡ none → nextOut (l .desk) bus (l .voices) ≡ none → Q (suc n) l → R (refused NoPort l))
+    (cuts : (n : ℕ) (l : Ledger) (v : Voice) → portFree bus l ≡ none → nextOut (l .desk) bus (l .voices) ≡ some v → Q (suc n) l → Q n (cutOff v (v .state) l)) where
+  pub place-kept : (n : ℕ) (l : Ledger) → Q n l → R (place n def pan s bus l)
+  place-kept zero l q = go (portFree bus l) refl
+    where
+      go : (o : Option ℕ) → portFree bus l ≡ o → R (landOr o none def pan s bus l (refused NoPort))
+      go (some p) e = lands zero l p e q
+      go none e = spent l e q
+  place-kept (suc n) l q = go (portFree bus l) refl (nextOut (l .desk) bus (l .voices)) refl (place-kept n)
+    where
+      go : (o : Option ℕ) → portFree bus l ≡ o → (u : Option Voice) → nextOut (l .desk) bus (l .voices) ≡ u
+          → ((l : Ledger) → Q n l → R (place n def pan s bus l)) → R (landOr o u def pan s bus l (λ k. place n def pan s bus k))
+      go (some p) e u f ih = lands (suc n) l p e q
+      go none e none f ih = idle n l e f q
+      go none e (some v) f ih = ih (cutOff v (v .state) l) (cuts n l v e f q)
+
+-- ---- the moves
+-- the graph and the holders changed, or what stands beside the voices
+abbrev pub atGraph : Ledger → GraphView → Holders → Ledger
+atGraph l g h = record { desk = withGraph g (l .desk); holders = h; voices = l .voices }
+
+abbrev pub atDesk : Ledger → Desk → Ledger
+atDesk l d = record { desk = d; holders = l .holders; voices = l .voices }
+
+pub record Steady (P : Ledger → Type 0) : Type 0 where
+  pub addNode : (l : Ledger) (kind : List ℕ) (ports required : ℕ) (values glides : Bool) → addRefusal (l .desk .graph) kind ports required ≡ none → P l
+      → P (atGraph l (change.append (l .desk .graph) (hostNode kind ports required values glides)) (l .holders))
+  pub removeNode : (l : Ledger) (k : NodeId) → hostRefusal (l .desk .graph) k ≡ none → P l → P (atGraph l (change.removeNode (l .desk .graph) k) (dropNode k (l .holders)))
+  pub connect : (l : Ledger) (a b : NodeId) (p : ℕ) → connectRefusal (l .desk .graph) a b p ≡ none → P l
+      → P (atGraph l (change.connect (l .desk .graph) a b p) (hold b p (host a) (l .holders)))
+  pub disconnect : (l : Ledger) (b : NodeId) (p : ℕ) → disconnectRefusal (l .desk .graph) b p ≡ none → P l
+      → P (atGraph l (change.disconnect (l .desk .graph) b p) (hold b p nobody (l .holders)))
+  pub setSink : (l : Ledger) (k : NodeId) → P l → P (atGraph l (change.setSink (l .desk .graph) k) (l .holders))
+  pub loose : (l : Ledger) (def : SynthDef) (bus : NodeId) (pan : Bool) → spawnRefusal (l .desk) (l .voices) def bus ≡ none → P l → P (place 0 def pan Loose bus l .ledger)
+  pub goes : (l : Ledger) (w : VoiceId) → P l → P (gone w l)
+  -- the record x of a live node becomes n, of the same id and owner
+  pub node : (l : Ledger) (k : NodeId) (x n : Node) → nodeAt (l .desk .graph .nodes) k ≡ some x → n .id ≡ x .id → n .owner ≡ x .owner → P l → P (atDesk l (withNode n (l .desk)))
+  pub schedule : (l : Ledger) (e : Event) → full (l .desk .events) ≡ false → P l → P (atDesk l (withEvents (inserted e (l .desk .events)) (l .desk)))
+  pub rest : (l : Ledger) → P l → P (rested l)
+  pub prepare : (l : Ledger) (o : List NodeId) → P l → P (atDesk l (readyDesk Ready o (l .desk)))
+  pub block : (l : Ledger) (a : Rendered) → P l → P (blockOf a l .ledger)
+
+-- two that hold of the ledger hold together
+pub both-steady : {P Q : Ledger → Type 0} → Steady P → Steady Q → Steady (λ l. P l × Q l)
+both-steady a b =
+    record {
+      addNode = λ l kind ports required values glides e h. (a .addNode l kind ports required values glides e (h .0), b .addNode l kind ports required values glides e (h .1));
+      removeNode = λ l k e h. (a .removeNode l k e (h .0), b .removeNode l k e (h .1));
+      connect = λ l x y p e h. (a .connect l x y p e (h .0), b .connect l x y p e (h .1));
+      disconnect = λ l y p e h. (a .disconnect l y p e (h .0), b .disconnect l y p e (h .1));
+      setSink = λ l k h. (a .setSink l k (h .0), b .setSink l k (h .1));
+      loose = λ l def bus pan e h. (a .loose l def bus pan e (h .0), b .loose l def bus pan e (h .1));
+      goes = λ l w h. (a .goes l w (h .0), b .goes l w (h .1));
+      node = λ l k x n e i o h. (a .node l k x n e i o (h .0), b .node l k x n e i o (h .1));
+      schedule = λ l e f h. (a .schedule l e f (h .0), b .schedule l e f (h .1));
+      rest = λ l h. (a .rest l (h .0), b .rest l (h .1));
+      prepare = λ l o h. (a .prepare l o (h .0), b .prepare l o (h .1));
+      block = λ l r h. (a .block l r (h .0), b .block l r (h .1));
+    }
+
+module _ (P : Ledger → Type 0) where
+  unless-kept : (o : Option Refusal) (l : Ledger) (s : Step) → P l → (o ≡ none → P (s .ledger)) → P (unless o l s .ledger)
+  unless-kept (some r) l s p f = p
+  unless-kept none l s p f = f refl
+
+  pub landed-kept : (o : Option Refusal) (l : Ledger) (r : Landed) → P l → (o ≡ none → P (r .ledger)) → P (ledger.unless o l r .ledger)
+  landed-kept (some n) l r p f = p
+  landed-kept none l r p f = f refl
+
+  module _ (k : Steady P) where
+    freed-kept : (o : Option Voice) (l : Ledger) → P l → P (freed o l)
+    freed-kept none l p = p
+    freed-kept (some v) l p = k .goes l (v .id) p
+
+    pub goneAll-kept : (vs : List Voice) (l : Ledger) → P l → P (goneAll vs l)
+    goneAll-kept [] l p = p
+    goneAll-kept (v ∷ vs) l p = goneAll-kept vs (gone (v .id) l) (k .goes l (v .id) p)
+
+    -- a value or a glide changes a node's record or nothing
+    orderNode-kept : (j : NodeId) (o : Option Node) (x : LastOrder) (l : Ledger) → nodeAt (l .desk .graph .nodes) j ≡ o → P l → P (atDesk l (orderNode o x (l .desk) .desk))
+    orderNode-kept j none x l e p = p
+    orderNode-kept j (some n) x l e p = go (takes x n)
+      where
+        go : (b : Bool) → P (atDesk l (cond b (record { outcome = Applied; desk = withNode (withLast x n) (l .desk) }) (stays NotTaken (l .desk)) .desk))
+        go true = k .node l j n (withLast x n) e refl refl p
+        go false = p
+
+    orderParam-kept : (o : Option ℕ) (v : Voice) (x : LastOrder) (l : Ledger) → P l → P (atDesk l (orderParam o v x (l .desk) .desk))
+    orderParam-kept none v x l p = p
+    orderParam-kept (some i) v x l p = orderNode-kept (id (v .first .0 + i)) (nodeAt (l .desk .graph .nodes) (id (v .first .0 + i))) x l refl p
+
+    order-kept : (o : Option Voice) (name : Name) (x : LastOrder) (l : Ledger) → P l → P (atDesk l (orderVoice o name x (l .desk) .desk))
+    order-kept none name x l p = p
+    order-kept (some v) name x l p = orderParam-kept (paramNode (paramRows (v .params)) name) v x l p
+
+    report-kept : (j : NodeId) (o : Option Node) (samples : List Float) (flag : Bool) (l : Ledger) → nodeAt (l .desk .graph .nodes) j ≡ o → P l → P (atDesk l (reportNode o samples flag (l .desk)))
+    report-kept j none samples flag l e p = p
+    report-kept j (some n) samples flag l e p = k .node l j n (withReport samples flag n) e refl refl p
+
+    ready-kept : (r : Readiness) (o : List NodeId) (l : Ledger) → P l → P (atDesk l (readyDesk r o (l .desk)))
+    ready-kept Ready o l p = k .prepare l o p
+    ready-kept (Refused r) o l p = p
+
+    happen-kept : (e : Event) (l : Ledger) → P l → P (happen e l)
+    happen-kept e l p = go (isFree (e .action))
+      where
+        go : (b : Bool) → P (cond b (free (e .voice) l) (atDesk l (order (e .voice) (paramOrder e .name) (paramOrder e .order) (l .voices) (l .desk) .desk)))
+        go true = freed-kept (find (isVoice (e .voice)) (l .voices)) l p
+        go false = order-kept (find (isVoice (e .voice)) (l .voices)) (paramOrder e .name) (paramOrder e .order) l p
+
+    pub happenAll-kept : (q : List Event) (l : Ledger) → P l → P (happenAll q l)
+    happenAll-kept [] l p = p
+    happenAll-kept (e ∷ q) l p = happenAll-kept q (happen e l) (happen-kept e l p)
+
+    block-kept : (b : Bool) (l : Ledger) → P l → P (preparedIf b l .ledger)
+    block-kept true l p =
+        k .block (atDesk l (prepareDesk (l .desk))) (answerAfter (prepareOutcome (l .desk) .answer) (prepareDesk (l .desk)))
+        (ready-kept (prepareOutcome (l .desk) .answer) (prepareOutcome (l .desk) .order) l p)
+    block-kept false l p = k .block l (heard (sounding (l .desk))) p
+
+    render-kept : (l : Ledger) → P l → P (render l .ledger)
+    render-kept l p = go (clockEnds (l .desk))
+      where
+        q : List Event
+        q = due (l .desk)
+
+        go : (b : Bool) → P (cond b (record { answer = Rendered.Refused ClockEnd; ledger = l }) (preparedIf (anyFree q) (happenAll q (rested l))) .ledger)
+        go true = p
+        go false = block-kept (anyFree q) (happenAll q (rested l)) (happenAll-kept q (rested l) (k .rest l p))
+
+    -- every call, given what a managed spawn does
+    pub step-kept : (x : Call) (l : Ledger) → ((def : SynthDef) (bus : NodeId) (pan : Float) → x ≡ call.spawnManaged def bus pan → P (ledger.spawnManaged def bus (pans pan) l .ledger)) → P l → P (step x l .ledger)
+    step-kept (call.addNode kind ports required values glides) l m p =
+        unless-kept (addRefusal (l .desk .graph) kind ports required) l _ p (λ e. k .addNode l kind ports required values glides e p)
+    step-kept (call.removeNode j) l m p = unless-kept (hostRefusal (l .desk .graph) j) l _ p (λ e. k .removeNode l j e p)
+    step-kept (call.connect a b q) l m p = unless-kept (connectRefusal (l .desk .graph) a b q) l _ p (λ e. k .connect l a b q e p)
+    step-kept (call.disconnect b q) l m p = unless-kept (disconnectRefusal (l .desk .graph) b q) l _ p (λ e. k .disconnect l b q e p)
+    step-kept (call.setSink j) l m p = unless-kept (hostRefusal (l .desk .graph) j) l _ p (λ e. k .setSink l j p)
+    step-kept (call.spawnManaged def bus pan) l m p = m def bus pan refl
+    step-kept (call.spawnLoose def bus pan) l m p =
+        landed-kept (spawnRefusal (l .desk) (l .voices) def bus) l (place 0 def (pans pan) Loose bus l) p (λ e. k .loose l def bus (pans pan) e p)
+    step-kept (call.free w) l m p = freed-kept (find (isVoice w) (l .voices)) l p
+    step-kept call.clear l m p =
+        let faded = goneAll (endedVoices l) l in
+        goneAll-kept (silentVoices faded) faded (goneAll-kept (endedVoices l) l p)
+    step-kept (call.order w name o) l m p = order-kept (find (isVoice w) (l .voices)) (nameOf name) o l p
+    step-kept (call.schedule t w name a) l m p =
+        unless-kept (scheduleRefusal (l .desk .events)) l _ p (λ e. k .schedule l (event t w name a) (when-none (full (l .desk .events)) TableFull none e .0) p)
+    step-kept (call.report j channels samples flag) l m p =
+        unless-kept (reportRefusal (l .desk) (l .voices) j channels (length samples)) l _ p (λ e. report-kept j (nodeAt (l .desk .graph .nodes) j) samples flag l refl p)
+    step-kept call.prepare l m p = ready-kept (prepareOutcome (l .desk) .answer) (prepareOutcome (l .desk) .order) l p
+    step-kept call.render l m p = render-kept l p
+    step-kept (call.level w) l m p = p
+    step-kept (call.position w) l m p = p
+    step-kept (call.voice w) l m p = p
+    step-kept call.voices l m p = p
+    step-kept call.steals l m p = p
+    step-kept call.edges l m p = p
+    step-kept call.processing l m p = p
+    step-kept (call.sources j) l m p = p
+    step-kept call.clock l m p = p
+    step-kept (call.page out) l m p = p
+
+    pub steady-step : (x : Call) → isManaged x ≡ false → (l : Ledger) → P l → P (step x l .ledger)
+    steady-step x h l p = step-kept x l (λ def bus pan e. absurd (true≢false (sym (ap isManaged e) ∙ h))) p
+
+    -- and a managed spawn
+    module _ (m : (l : Ledger) (def : SynthDef) (bus : NodeId) (pan : Bool) → spawnRefusal (l .desk) (l .voices) def bus ≡ none → P l → P (admitted (admissionOn bus l) def pan bus l .ledger)) where
+      pub kept-step : (x : Call) (l : Ledger) → P l → P (step x l .ledger)
+      kept-step x l p =
+          step-kept x l (λ def bus pan e. landed-kept (spawnRefusal (l .desk) (l .voices) def bus) l (admitted (admissionOn bus l) def (pans pan) bus l) p (λ r. m l def bus (pans pan) r p)) p
+
+      pub kept-run : (xs : List Call) (l : Ledger) → P l → P (run xs l .ledger)
+      kept-run [] l p = p
+      kept-run (x ∷ xs) l p = kept-run xs (step x l .ledger) (kept-step x l p)
+
+-- ---- what speaks of the configuration, the steal records, the voice ids given out and the voices alone: the host's calls, reports,
+-- orders, prepares and the clock do not touch it
+abbrev pub Calm : (Config → Book → ℕ → List Voice → Type 0) → Ledger → Type 0
+Calm F l = F (l .desk .config) (l .desk .steals) (l .desk .spawned) (l .voices)
+
+module _ (F : Config → Book → ℕ → List Voice → Type 0)
+    (goes : (c : Config) (b : Book) (n : ℕ) (vs : List Voice) (w : VoiceId) → F c b n vs → F c b n (keep (λ v. not (isVoice w v)) vs))
+    (counts : (c : Config) (b : Book) (n : ℕ) (vs : List Voice) → F c b n vs → F c b n (map (moved oneMore) vs))
+    (lands : (c : Config) (b : Book) (n : ℕ) (vs : List Voice) (v : Voice) → v .id .0 ≡ n + 1 → v .state ≡ Loose → n < 18446744073709551615 → F c b n vs → F c b (n + 1) (vs ++ (v ∷ []))) where
+  pub calm : Steady (Calm F)
+  calm =
+      record {
+        addNode = λ l kind ports required values glides e f. f;
+        removeNode = λ l k e f. f;
+        connect = λ l a b p e f. f;
+        disconnect = λ l b p e f. f;
+        setSink = λ l k f. f;
+        loose = λ l def bus pan e f. one l def bus pan e f (portFree bus l);
+        goes = λ l w f. goes (l .desk .config) (l .desk .steals) (l .desk .spawned) (l .voices) w f;
+        node = λ l k x n e i o f. f;
+        schedule = λ l e h f. f;
+        rest = λ l f. f;
+        prepare = λ l o f. f;
+        block = λ l a f. sounds l (isSounding a) f;
+      }
+    where
+      one : (l : Ledger) (def : SynthDef) (bus : NodeId) (pan : Bool) → spawnRefusal (l .desk) (l .voices) def bus ≡ none → Calm F l
+          → (o : Option ℕ) → Calm F (landOr o none def pan Loose bus l (refused NoPort) .ledger)
+      one l def bus pan e f none = f
+      one l def bus pan e f (some p) =
+          lands (l .desk .config) (l .desk .steals) (l .desk .spawned) (l .voices) (newcomer def pan Loose bus p (l .desk)) refl refl (spawn-allowed (l .desk) (l .voices) def bus e .ids-left) f
+
+      sounds : (l : Ledger) (b : Bool) → Calm F l → F (l .desk .config) (l .desk .steals) (l .desk .spawned) (countedIf b (l .voices))
+      sounds l true f = counts (l .desk .config) (l .desk .steals) (l .desk .spawned) (l .voices) f
+      sounds l false f = f

@@ -1,0 +1,306 @@
+-- No run reaches 2^64 - 1 samples: the clock stays below, and a fade has sounded no longer than it stands. So a fade's position is
+-- its count of sounding renders × block.
+use Prim.Native.Nat.{ℕ, _+_, _*_, _≤_, min}
+use native.Mathlib.Omega.{arith}
+use native.Mathlib.Nat.{zero-mul}
+use mathlib.Core.Path.{_≡_, refl, sym, ap, _∙_, subst}
+use mathlib.Core.Logic.{inl, inr, ⊎-elim}
+use mathlib.Core.List.{List, [], _∷_, map}
+use mathlib.Core.Option.{Option, none, some}
+use mathlib.Core.Bool.{Bool, true, false, not, cond}
+use lib.Ieee.{Float}
+use lib.ListN.{length}
+use borrow.Author.Tests.{ltb-false}
+use Rattle.lists.specs.Member.{In, in-snoc, in-map}
+use Rattle.lists.specs.Keep.{in-keep}
+use Rattle.lists.specs.Find.{find, mapO, find-in}
+use Rattle.node.specs.Name.{nameOf}
+use Rattle.node.specs.declared.name.Name.{Name}
+use Rattle.node.specs.declared.order.LastOrder.{LastOrder}
+use Rattle.node.specs.declared.record.NodeId.{NodeId}
+use Rattle.node.specs.declared.record.VoiceId.{VoiceId}
+use Rattle.node.specs.declared.record.Node.{Node}
+use Rattle.node.specs.declared.refusal.Refusal.{Refusal}
+use Rattle.node.specs.declared.refusal.Refusal.the-variants.{ClockEnd}
+use Rattle.graph.specs.Node.{nodeAt}
+use Rattle.graph.specs.Refuse.{addRefusal, hostRefusal, disconnectRefusal, connectRefusal}
+use Rattle.order.specs.declared.Readiness.{Readiness}
+use Rattle.order.specs.declared.Readiness.the-variants.{Ready, Refused}
+use Rattle.scheduler.specs.Event.{paramOrder}
+use Rattle.scheduler.specs.declared.event.Event.{Event}
+use Rattle.synthdef.specs.Tables.{paramRows}
+use Rattle.synthdef.specs.Params.{paramNode}
+use Rattle.synthdef.specs.declared.def.SynthDef.{SynthDef}
+use Rattle.store.specs.declared.answer.Outcome.the-variants.{Applied, NotTaken}
+use Rattle.store.specs.declared.answer.Rendered.{Rendered}
+use Rattle.store.specs.declared.answer.Rendered.the-variants as Rendered
+use Rattle.store.specs.declared.config.Config.{Config}
+use Rattle.store.specs.declared.voices.Voice.{Voice}
+use Rattle.store.specs.declared.voices.VoiceState.{VoiceState}
+use Rattle.store.specs.declared.voices.VoiceState.the-variants.{Tracked, Fading, Loose}
+use Rattle.voice.specs.declared.policy.Budget.{Budget}
+use Rattle.voice.specs.declared.policy.Budget.the-variants.{Unlimited, AtMost}
+use Rattle.model.specs.Desk.{Desk}
+use Rattle.model.specs.Voice.{isVoice, id, withState, moved, movedState, beginFade}
+use Rattle.model.specs.Refuse.{spawnRefusal, reportRefusal}
+use Rattle.model.specs.Spawn.{pans, newcomer, stateUnder, tries, fadeOf}
+use Rattle.model.specs.Order.{withNode, withLast, takes, order, orderVoice, orderParam, orderNode, stays, reportNode}
+use Rattle.model.specs.Render.{prepareOutcome, readyDesk, isFree, anyFree, isSounding, due, clockEnds}
+use Rattle.model.specs.Call.{Call, scheduleRefusal}
+use Rattle.model.specs.Call as call
+use Rattle.ledger.specs.Ledger.{Ledger, Landed, portHeld, gone, stolen, stealVoice, settle, place, admitted, admissionOn, freed, free}
+use Rattle.ledger.specs.Ledger as ledger
+use Rattle.ledger.specs.Clear.{goneAll, endedVoices, silentVoices}
+use Rattle.ledger.specs.Render.{oneMore, happen, happenAll, countedIf, blockOf, preparedIf, rested, render}
+use Rattle.ledger.specs.Call.{Step, unless, step, position, shown}
+use Rattle.ledger.proofs.Steps.{atDesk, place-kept, Steady, kept-step, both-steady}
+use Rattle.ledger.proofs.Shown.{reached, stored}
+use Rattle.ledger.proofs.Managed.{IdsOf, ids-steal, ids-settle, ids-steady, managed-kept}
+
+-- ---- the clock moves in a render only
+abbrev Still : Desk → Ledger → Type 0
+Still d l = (l .desk .clock ≡ d .clock) × (l .desk .config ≡ d .config)
+
+still-freed : (o : Option Voice) (l : Ledger) → Still (l .desk) (freed o l)
+still-freed none l = (refl, refl)
+still-freed (some v) l = (refl, refl)
+
+still-all : (vs : List Voice) (l : Ledger) → Still (l .desk) (goneAll vs l)
+still-all [] l = (refl, refl)
+still-all (v ∷ vs) l = still-all vs (gone (v .id) l)
+
+still-node : (o : Option Node) (x : LastOrder) (d : Desk) → (orderNode o x d .desk .clock ≡ d .clock) × (orderNode o x d .desk .config ≡ d .config)
+still-node none x d = (refl, refl)
+still-node (some n) x d = go (takes x n)
+  where
+    go : (b : Bool) → (cond b (record { outcome = Applied; desk = withNode (withLast x n) d }) (stays NotTaken d) .desk .clock ≡ d .clock)
+        × (cond b (record { outcome = Applied; desk = withNode (withLast x n) d }) (stays NotTaken d) .desk .config ≡ d .config)
+    go true = (refl, refl)
+    go false = (refl, refl)
+
+still-param : (o : Option ℕ) (v : Voice) (x : LastOrder) (d : Desk) → (orderParam o v x d .desk .clock ≡ d .clock) × (orderParam o v x d .desk .config ≡ d .config)
+still-param none v x d = (refl, refl)
+still-param (some i) v x d = still-node (nodeAt (d .graph .nodes) (id (v .first .0 + i))) x d
+
+still-order : (o : Option Voice) (name : Name) (x : LastOrder) (d : Desk) → (orderVoice o name x d .desk .clock ≡ d .clock) × (orderVoice o name x d .desk .config ≡ d .config)
+still-order none name x d = (refl, refl)
+still-order (some v) name x d = still-param (paramNode (paramRows (v .params)) name) v x d
+
+still-report : (o : Option Node) (samples : List Float) (flag : Bool) (d : Desk) → reportNode o samples flag d .clock ≡ d .clock
+still-report none samples flag d = refl
+still-report (some n) samples flag d = refl
+
+still-ready : (r : Readiness) (o : List NodeId) (d : Desk) → (readyDesk r o d .clock ≡ d .clock) × (readyDesk r o d .config ≡ d .config)
+still-ready Ready o d = (refl, refl)
+still-ready (Refused r) o d = (refl, refl)
+
+still-happen : (e : Event) (l : Ledger) → Still (l .desk) (happen e l)
+still-happen e l = go (isFree (e .action))
+  where
+    go : (b : Bool) → Still (l .desk) (cond b (free (e .voice) l) (atDesk l (order (e .voice) (paramOrder e .name) (paramOrder e .order) (l .voices) (l .desk) .desk)))
+    go true = still-freed (find (isVoice (e .voice)) (l .voices)) l
+    go false = still-order (find (isVoice (e .voice)) (l .voices)) (paramOrder e .name) (paramOrder e .order) (l .desk)
+
+still-events : (q : List Event) (l : Ledger) → Still (l .desk) (happenAll q l)
+still-events [] l = (refl, refl)
+still-events (e ∷ q) l =
+    let a = still-happen e l in
+    let b = still-events q (happen e l) in
+    (b .0 ∙ a .0, b .1 ∙ a .1)
+
+-- the block
+still-block : (b : Bool) (l : Ledger) → preparedIf b l .ledger .desk .clock ≡ l .desk .clock + l .desk .config .block
+still-block true l = let r = still-ready (prepareOutcome (l .desk) .answer) (prepareOutcome (l .desk) .order) (l .desk) in rw (r .0, r .1)
+still-block false l = refl
+
+-- a spawn
+still-steal : (v : Voice) (l : Ledger) → stealVoice v l .desk .clock ≡ l .desk .clock
+still-steal v l = go (portHeld v l)
+  where
+    go : (o : Option ℕ) → stolen v o l .desk .clock ≡ l .desk .clock
+    go none = refl
+    go (some p) = refl
+
+still-place : (k : ℕ) (def : SynthDef) (pan : Bool) (t : VoiceState) (bus : NodeId) (c : ℕ) (l : Ledger) → l .desk .clock ≡ c → place k def pan t bus l .ledger .desk .clock ≡ c
+still-place k def pan t bus c l e =
+    place-kept def pan t bus (λ n l. l .desk .clock ≡ c) (λ r. r .ledger .desk .clock ≡ c) (λ n l p h e. e) (λ l h e. e) (λ n l h f e. e) (λ n l v h f e. e) k l e
+
+still-settle : (def : SynthDef) (pan : Bool) (bus : NodeId) (c : ℕ) (l : Ledger) → l .desk .clock ≡ c → settle def pan bus l .ledger .desk .clock ≡ c
+still-settle def pan bus c l e = still-place (tries (l .desk .config .budget) (l .voices)) def pan (stateUnder (l .desk .config .budget)) bus c l e
+
+still-managed : (def : SynthDef) (pan : Bool) (bus : NodeId) (l : Ledger) → IdsOf l → admitted (admissionOn bus l) def pan bus l .ledger .desk .clock ≡ l .desk .clock
+still-managed def pan bus l u =
+    managed-kept def pan bus (λ r. r .ledger .desk .clock ≡ l .desk .clock) l u (λ h. refl) (λ h. still-settle def pan bus (l .desk .clock) l refl)
+    (λ p w h v i t. still-settle def pan bus (l .desk .clock) (stealVoice v l) (still-steal v l))
+
+still-landed : (o : Option Refusal) (l : Ledger) (r : Landed) → r .ledger .desk .clock ≡ l .desk .clock → ledger.unless o l r .ledger .desk .clock ≡ l .desk .clock
+still-landed none l r e = e
+still-landed (some n) l r e = refl
+
+still-unless : (o : Option Refusal) (l : Ledger) (s : Step) → s .ledger .desk .clock ≡ l .desk .clock → unless o l s .ledger .desk .clock ≡ l .desk .clock
+still-unless none l s e = e
+still-unless (some n) l s e = refl
+
+-- ---- so the clock stays within 64 bits: "15 clock + block above 2^64 - 1"
+pub clock-step : (x : Call) (l : Ledger) → IdsOf l → l .desk .clock ≤ 18446744073709551615 → step x l .ledger .desk .clock ≤ 18446744073709551615
+clock-step x l u h = go x
+  where
+    same : {n : ℕ} → n ≡ l .desk .clock → n ≤ 18446744073709551615
+    same e = omega arith
+
+    sounds : (b : Bool) → clockEnds (l .desk) ≡ b
+        → cond b (record { answer = Rendered.Refused ClockEnd; ledger = l }) (preparedIf (anyFree (due (l .desk))) (happenAll (due (l .desk)) (rested l))) .ledger .desk .clock ≤ 18446744073709551615
+    sounds true e = h
+    sounds false e =
+        let a = still-events (due (l .desk)) (rested l) in
+        let b : l .desk .clock + l .desk .config .block ≤ 18446744073709551615 = ltb-false _ _ e in
+        let c : happenAll (due (l .desk)) (rested l) .desk .config .block ≡ l .desk .config .block = ap (λ (z : Config). z .block) (a .1) in
+        omega (arith, still-block (anyFree (due (l .desk))) (happenAll (due (l .desk)) (rested l)), a .0, b, c)
+
+    go : (x : Call) → step x l .ledger .desk .clock ≤ 18446744073709551615
+    go (call.addNode kind ports required values glides) = same (still-unless (addRefusal (l .desk .graph) kind ports required) l _ refl)
+    go (call.removeNode k) = same (still-unless (hostRefusal (l .desk .graph) k) l _ refl)
+    go (call.connect a b p) = same (still-unless (connectRefusal (l .desk .graph) a b p) l _ refl)
+    go (call.disconnect b p) = same (still-unless (disconnectRefusal (l .desk .graph) b p) l _ refl)
+    go (call.setSink k) = same (still-unless (hostRefusal (l .desk .graph) k) l _ refl)
+    go (call.spawnManaged def bus pan) =
+        same (still-landed (spawnRefusal (l .desk) (l .voices) def bus) l (admitted (admissionOn bus l) def (pans pan) bus l) (still-managed def (pans pan) bus l u))
+    go (call.spawnLoose def bus pan) =
+        same (still-landed (spawnRefusal (l .desk) (l .voices) def bus) l (place 0 def (pans pan) Loose bus l) (still-place 0 def (pans pan) Loose bus (l .desk .clock) l refl))
+    go (call.free w) = same (still-freed (find (isVoice w) (l .voices)) l .0)
+    go call.clear =
+        let faded = goneAll (endedVoices l) l in
+        same (still-all (silentVoices faded) faded .0 ∙ still-all (endedVoices l) l .0)
+    go (call.order w name o) = same (still-order (find (isVoice w) (l .voices)) (nameOf name) o (l .desk) .0)
+    go (call.schedule t w name a) = same (still-unless (scheduleRefusal (l .desk .events)) l _ refl)
+    go (call.report k channels samples flag) =
+        same (still-unless (reportRefusal (l .desk) (l .voices) k channels (length samples)) l _ (still-report (nodeAt (l .desk .graph .nodes) k) samples flag (l .desk)))
+    go call.prepare = same (still-ready (prepareOutcome (l .desk) .answer) (prepareOutcome (l .desk) .order) (l .desk) .0)
+    go call.render = sounds (clockEnds (l .desk)) refl
+    go (call.level w) = h
+    go (call.position w) = h
+    go (call.voice w) = h
+    go call.voices = h
+    go call.steals = h
+    go call.edges = h
+    go call.processing = h
+    go (call.sources k) = h
+    go call.clock = h
+    go (call.page out) = h
+
+-- ---- "Position = count × block ≤ clock - start"
+abbrev pub Within : ℕ → ℕ → VoiceState → Type 0
+Within block clock Tracked = Unit {0}
+Within block clock (Fading f) = f .position * block + f .start ≤ clock
+Within block clock Loose = Unit {0}
+
+abbrev pub Timely : Ledger → Type 0
+Timely l = (v : Voice) → In v (l .voices) → Within (l .desk .config .block) (l .desk .clock) (v .state)
+
+timely-gone : (w : VoiceId) (l : Ledger) → Timely l → Timely (gone w l)
+timely-gone w l h v i = h v (in-keep (λ v. not (isVoice w v)) (l .voices) v i .0)
+
+timely-land : (def : SynthDef) (pan : Bool) (t : VoiceState) → ((block clock : ℕ) → Within block clock t) → (bus : NodeId) (p : ℕ) (l : Ledger) → Timely l → Timely (ledger.land def pan t bus p l .ledger)
+timely-land def pan t new bus p l h v i =
+    ⊎-elim (h v) (λ q. subst (λ (u : Voice). Within (l .desk .config .block) (l .desk .clock) (u .state)) (sym q) (new (l .desk .config .block) (l .desk .clock)))
+    (in-snoc (l .voices) (newcomer def pan t bus p (l .desk)) v i)
+
+timely-place : (k : ℕ) (def : SynthDef) (pan : Bool) (t : VoiceState) → ((block clock : ℕ) → Within block clock t) → (bus : NodeId) (l : Ledger) → Timely l → Timely (place k def pan t bus l .ledger)
+timely-place k def pan t new bus l h =
+    place-kept def pan t bus (λ n l. Timely l) (λ r. Timely (r .ledger)) (λ n l p e h. timely-land def pan t new bus p l h) (λ l e h. h) (λ n l e f h. h)
+    (λ n l v e f h. λ u i. h u (in-keep (λ u. not (isVoice (v .id) u)) (l .voices) u i .0)) k l h
+
+timely-settle : (def : SynthDef) (pan : Bool) (bus : NodeId) (l : Ledger) → Timely l → Timely (settle def pan bus l .ledger)
+timely-settle def pan bus l h = timely-place (tries (l .desk .config .budget) (l .voices)) def pan (stateUnder (l .desk .config .budget)) (new (l .desk .config .budget)) bus l h
+  where
+    new : (b : Budget) (block clock : ℕ) → Within block clock (stateUnder b)
+    new Unlimited block clock = tt
+    new (AtMost n) block clock = tt
+
+timely-steal : (v : Voice) (l : Ledger) → Timely l → Timely (stealVoice v l)
+timely-steal v l h = go (portHeld v l)
+  where
+    begins : (u : Voice) (b : Bool) → Within (l .desk .config .block) (l .desk .clock) (u .state) → Within (l .desk .config .block) (l .desk .clock) (cond b (withState (Fading (fadeOf (l .desk))) u) u .state)
+    begins u true w = omega (arith, zero-mul (l .desk .config .block))
+    begins u false w = w
+
+    go : (o : Option ℕ) → Timely (stolen v o l)
+    go none u i = h u (in-keep (λ u. not (isVoice (v .id) u)) (l .voices) u i .0)
+    go (some p) u i =
+        let r = in-map (beginFade (v .id) (fadeOf (l .desk))) (l .voices) u i in
+        subst (λ (z : Voice). Within (l .desk .config .block) (l .desk .clock) (z .state)) (sym (r .2)) (begins (r .0) (isVoice (v .id) (r .0)) (h (r .0) (r .1)))
+
+-- each block of a render makes room for one count more
+timely-block : (a : Rendered) (l : Ledger) → Timely l → Timely (blockOf a l .ledger)
+timely-block a l h = go (isSounding a)
+  where
+    longer : (t : VoiceState) → Within (l .desk .config .block) (l .desk .clock) t → Within (l .desk .config .block) (l .desk .clock + l .desk .config .block) t
+    longer Tracked w = tt
+    longer (Fading f) w = omega arith
+    longer Loose w = tt
+
+    counts : (t : VoiceState) → Within (l .desk .config .block) (l .desk .clock) t → Within (l .desk .config .block) (l .desk .clock + l .desk .config .block) (movedState oneMore t)
+    counts Tracked w = tt
+    counts (Fading f) w = omega arith
+    counts Loose w = tt
+
+    go : (b : Bool) (v : Voice) → In v (countedIf b (l .voices)) → Within (l .desk .config .block) (l .desk .clock + l .desk .config .block) (v .state)
+    go true v i =
+        let r = in-map (moved oneMore) (l .voices) v i in
+        subst (λ (z : Voice). Within (l .desk .config .block) (l .desk .clock + l .desk .config .block) (z .state)) (sym (r .2)) (counts (r .0 .state) (h (r .0) (r .1)))
+    go false v i = longer (v .state) (h v i)
+
+timely-steady : Steady Timely
+timely-steady =
+    record {
+      addNode = λ l kind ports required values glides e h. h;
+      removeNode = λ l k e h. h;
+      connect = λ l a b p e h. h;
+      disconnect = λ l b p e h. h;
+      setSink = λ l k h. h;
+      loose = λ l def bus pan e h. timely-place 0 def pan Loose (λ block clock. tt) bus l h;
+      goes = λ l w h. timely-gone w l h;
+      node = λ l k x n e i o h. h;
+      schedule = λ l e f h. h;
+      rest = λ l h. h;
+      prepare = λ l o h. h;
+      block = λ l a h. timely-block a l h;
+    }
+
+pub timely-step : (x : Call) (l : Ledger) → IdsOf l → Timely l → Timely (step x l .ledger)
+timely-step x l u h =
+    kept-step (λ l. IdsOf l × Timely l) (both-steady ids-steady timely-steady)
+    (λ l def bus pan e k.
+    managed-kept def pan bus (λ r. IdsOf (r .ledger) × Timely (r .ledger)) l (k .0) (λ h. k)
+    (λ h. (ids-settle def pan bus l (k .0), timely-settle def pan bus l (k .1)))
+    (λ p w h v i t. (ids-settle def pan bus (stealVoice v l) (ids-steal v l (k .0)), timely-settle def pan bus (stealVoice v l) (timely-steal v l (k .1)))))
+    x l (u, h) .1
+
+-- ---- so the store's number is exactly count × block
+module _ (block clock : ℕ) (short : clock ≤ 18446744073709551615) where
+  exact-state : (t : VoiceState) → Within block clock t → movedState (reached block) t ≡ movedState (position block) t
+  exact-state Tracked w = refl
+  exact-state (Fading f) w =
+      ap (λ n. Fading (record { node = f .node; start = f .start; position = n; number = f .number })) (go (f .position * block) (omega (arith, w, short)))
+    where
+      go : (n : ℕ) → n ≤ 18446744073709551615 → min n 18446744073709551615 ≡ n
+      go n h = omega arith
+  exact-state Loose w = refl
+
+  exact : (v : Voice) → Within block clock (v .state) → moved (reached block) v ≡ moved (position block) v
+  exact v w = ap (λ t. withState t v) (exact-state (v .state) w)
+
+  exact-all : (vs : List Voice) → ((v : Voice) → In v vs → Within block clock (v .state)) → map (moved (reached block)) vs ≡ map (moved (position block)) vs
+  exact-all [] h = refl
+  exact-all (v ∷ vs) h = rw (exact v (h v (inl refl)), exact-all vs (λ u i. h u (inr i)))
+
+module _ (l : Ledger) (t : Timely l) (c : l .desk .clock ≤ 18446744073709551615) where
+  pub stored-shown : map (stored l) (l .voices) ≡ map (shown l) (l .voices)
+  stored-shown = exact-all (l .desk .config .block) (l .desk .clock) c (l .voices) t
+
+  pub found-shown : (w : VoiceId) → mapO (stored l) (find (isVoice w) (l .voices)) ≡ mapO (shown l) (find (isVoice w) (l .voices))
+  found-shown w = go (find (isVoice w) (l .voices)) refl
+    where
+      go : (o : Option Voice) → find (isVoice w) (l .voices) ≡ o → mapO (stored l) o ≡ mapO (shown l) o
+      go none e = refl
+      go (some v) e = ap some (exact (l .desk .config .block) (l .desk .clock) c v (t v (find-in (isVoice w) (l .voices) v e .0)))

@@ -1,0 +1,13 @@
+pub mod PageScene
+pub mod SoundingScenes
+pub mod SpawnScenes
+pub mod PolicyScenes
+pub mod ReclaimScenes
+pub mod RecordScenes
+pub mod ClearScenes
+pub mod LevelScenes
+pub mod EventScenes
+pub mod RefusalScenes
+pub mod Refused
+pub mod NoPort
+pub mod Examples
