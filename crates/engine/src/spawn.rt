@@ -17,10 +17,9 @@ use voice::policy::Budget;
 use voice_table::find_voice;
 use voice_table::voice_count;
 ghost use mathlib.Core.Path.{_≡_};
-ghost use mathlib.Core.Bool.{false};
 ghost use Rattle.lists.specs.Find.{find};
 ghost use Rattle.model.specs.Model.{settle, stealThen, admitted, admissionOn, spawnManaged, spawnLoose};
-ghost use Rattle.model.specs.Spawn.{pans};
+ghost use Rattle.model.specs.Spawn.{spawnOf, middle};
 ghost use Rattle.model.specs.Voice.{isVoice};
 ghost use Rattle.model.specs.View.{modelOf, voicesOf};
 ghost use Rattle.engine.specs.Room.{Headroom, Roomy, landedOf, Kept};
@@ -72,7 +71,7 @@ fn admit(s: Store, def: SynthDef, pan: bool, bus: NodeId) -> Landed
 
 // A managed spawn: the refusals; admission, with a victim if it asks for one; then the lowest port without an edge.
 pub fn spawn_voice_on_bus_panned_managed(s: Store, def: SynthDef, bus: NodeId, pan: f32) -> Landed
-    ensures is { λ r. ⌜ landedOf r ≡ spawnManaged def bus (pans pan) (modelOf s) ⌝ }
+    ensures is { λ r. ⌜ landedOf r ≡ spawnManaged (spawnOf def bus pan) (modelOf s) ⌝ }
     ensures same { λ r. ⌜ Kept s r ⌝ }
 {
     let test = spawn_refusal(s, def, bus);
@@ -84,7 +83,7 @@ pub fn spawn_voice_on_bus_panned_managed(s: Store, def: SynthDef, bus: NodeId, p
 
 // An unmanaged spawn: the refusals, and the port search alone; the newcomer is loose.
 pub fn spawn_voice_on_bus_panned(s: Store, def: SynthDef, bus: NodeId, pan: f32) -> Landed
-    ensures is { λ r. ⌜ landedOf r ≡ spawnLoose def bus (pans pan) (modelOf s) ⌝ }
+    ensures is { λ r. ⌜ landedOf r ≡ spawnLoose (spawnOf def bus pan) (modelOf s) ⌝ }
     ensures same { λ r. ⌜ Kept s r ⌝ }
 {
     let test = spawn_refusal(s, def, bus);
@@ -96,7 +95,7 @@ pub fn spawn_voice_on_bus_panned(s: Store, def: SynthDef, bus: NodeId, pan: f32)
 
 // A managed spawn in the middle.
 pub fn spawn_voice_on_bus_managed(s: Store, def: SynthDef, bus: NodeId) -> Landed
-    ensures is { λ r. ⌜ landedOf r ≡ spawnManaged def bus false (modelOf s) ⌝ }
+    ensures is { λ r. ⌜ landedOf r ≡ spawnManaged (spawnOf def bus middle) (modelOf s) ⌝ }
     ensures same { λ r. ⌜ Kept s r ⌝ }
 {
     spawn_voice_on_bus_panned_managed(s, def, bus, 0.0)
@@ -104,7 +103,7 @@ pub fn spawn_voice_on_bus_managed(s: Store, def: SynthDef, bus: NodeId) -> Lande
 
 // An unmanaged spawn in the middle.
 pub fn spawn_voice_on_bus(s: Store, def: SynthDef, bus: NodeId) -> Landed
-    ensures is { λ r. ⌜ landedOf r ≡ spawnLoose def bus false (modelOf s) ⌝ }
+    ensures is { λ r. ⌜ landedOf r ≡ spawnLoose (spawnOf def bus middle) (modelOf s) ⌝ }
     ensures same { λ r. ⌜ Kept s r ⌝ }
 {
     spawn_voice_on_bus_panned(s, def, bus, 0.0)

@@ -2,7 +2,7 @@
 -- for. What is kept on the way is that the ledger is sound.
 use Prim.Native.Nat.{ℕ, _≤_, _<_}
 use native.Mathlib.Omega.{arith}
-use mathlib.Core.Path.{_≡_, refl, sym, ap, ap₂, _∙_, subst}
+use mathlib.Core.Path.{_≡_, refl, sym, ap, ap₂, subst}
 use mathlib.Core.List.{List, [], _∷_}
 use mathlib.Core.Option.{Option, none, some}
 use mathlib.Core.Bool.{Bool, false, _||_, true≢false}
@@ -24,10 +24,9 @@ use Rattle.bus.specs.Fade.{fadeLength}
 use Rattle.store.specs.declared.config.Config.{Config}
 use Rattle.model.specs.Desk.{lengthL}
 use Rattle.model.specs.Refuse.{reportRefusal}
-use Rattle.model.specs.Spawn.{pans}
 use Rattle.model.specs.Order.{order, reportNode}
 use Rattle.model.specs.Render.{prepareOutcome}
-use Rattle.model.specs.Call.{Call, positionIn, scheduleRefusal, pageAnswer}
+use Rattle.model.specs.Call.{Call, scheduleRefusal, answerTo}
 use Rattle.model.specs.Call as call
 use Rattle.ledger.specs.Ledger.{Ledger, newLedger}
 use Rattle.ledger.specs.Call as ledger
@@ -36,10 +35,10 @@ use Rattle.ledger.proofs.Allowed.{when-none, or-false, host-at}
 use Rattle.ledger.proofs.Managed.{config-step}
 use Rattle.ledger.proofs.Owner.{portsAt}
 use Rattle.ledger.proofs.Sound.{HostAt, sound-append, sound-removed, sound-connect, sound-disconnect, sound-new}
-use Rattle.ledger.proofs.Shown.{modelOf, reached, find-stored, page-same}
-use Rattle.ledger.proofs.Timely.{Timely, clock-step, timely-step, stored-shown, found-shown}
+use Rattle.ledger.proofs.Shown.{modelOf, reached}
+use Rattle.ledger.proofs.Timely.{Timely, clock-step, timely-step, stored-shown}
 use Rattle.ledger.proofs.Spawns.{SoundL, host-owned, ids-of, managed-agrees, loose-agrees}
-use Rattle.ledger.proofs.Moves.{free-agrees, clear-agrees, order-desk, report-desk, ready-desk, order-same, level-same, refusal-same, render-agrees}
+use Rattle.ledger.proofs.Moves.{free-agrees, clear-agrees, order-desk, report-desk, ready-desk, order-same, refusal-same, render-agrees}
 
 pub record Agrees (r : call.Step) (t : ledger.Step) : Type 0 where
   pub answer : r .answer ≡ t .answer
@@ -120,10 +119,10 @@ step-agrees (call.removeNode k) l h = remove-agrees l (h .sound) k
 step-agrees (call.connect a b p) l h = connect-agrees l (h .sound) a b p
 step-agrees (call.disconnect b p) l h = disconnect-agrees l (h .sound) b p
 step-agrees (call.setSink k) l h = sink-agrees l (h .sound) k
-step-agrees (call.spawnManaged def bus pan) l h =
-    let r = managed-agrees l (h .sound) def bus (pans pan) in record { answer = ap call.spawned (r .answer); model = r .model; sound = r .sound }
-step-agrees (call.spawnLoose def bus pan) l h =
-    let r = loose-agrees l (h .sound) def bus (pans pan) in record { answer = ap call.spawned (r .answer); model = r .model; sound = r .sound }
+step-agrees (call.spawnManaged x) l h =
+    let r = managed-agrees l (h .sound) x in record { answer = ap call.spawned (r .answer); model = r .model; sound = r .sound }
+step-agrees (call.spawnLoose x) l h =
+    let r = loose-agrees l (h .sound) x in record { answer = ap call.spawned (r .answer); model = r .model; sound = r .sound }
 step-agrees (call.free w) l h = let r = free-agrees w l (h .sound) in record { answer = refl; model = r .model; sound = r .sound }
 step-agrees call.clear l h = let r = clear-agrees l (h .length) (h .sound) in record { answer = ap call.removed (r .removed); model = r .model; sound = r .sound }
 step-agrees (call.order w name o) l h = order-agrees l (h .sound) w name o
@@ -133,16 +132,8 @@ step-agrees call.prepare l h =
     let r = ready-desk l (h .sound) (prepareOutcome (l .desk) .answer) (prepareOutcome (l .desk) .order) in
     record { answer = refl; model = r .model; sound = r .sound }
 step-agrees call.render l h = let r = render-agrees l (h .sound) in record { answer = ap call.rendered (r .answer); model = r .model; sound = r .sound }
-step-agrees (call.level w) l h = reads-agrees l (h .sound) _ _ (ap call.known (level-same (reached (l .desk .config .block)) (l .voices) (l .desk) w))
-step-agrees (call.position w) l h = reads-agrees l (h .sound) _ _ (ap (λ o. call.reached (positionIn o)) (find-stored (reached (l .desk .config .block)) w (l .voices) ∙ found-shown l (h .timely) (h .clock) w))
-step-agrees (call.voice w) l h = reads-agrees l (h .sound) _ _ (ap call.found (find-stored (reached (l .desk .config .block)) w (l .voices) ∙ found-shown l (h .timely) (h .clock) w))
-step-agrees call.voices l h = reads-agrees l (h .sound) _ _ (ap call.all (stored-shown l (h .timely) (h .clock)))
-step-agrees call.steals l h = reads-agrees l (h .sound) _ _ refl
-step-agrees call.edges l h = reads-agrees l (h .sound) _ _ refl
-step-agrees call.processing l h = reads-agrees l (h .sound) _ _ refl
-step-agrees (call.sources k) l h = reads-agrees l (h .sound) _ _ refl
-step-agrees call.clock l h = reads-agrees l (h .sound) _ _ refl
-step-agrees (call.page out) l h = reads-agrees l (h .sound) _ _ (ap (λ t. pageAnswer t out) (page-same (reached (l .desk .config .block)) (l .desk .clock) (l .voices)))
+step-agrees (call.ask q) l h =
+    reads-agrees l (h .sound) _ _ (ap (λ vs. answerTo q (record { desk = l .desk; voices = vs })) (stored-shown l (h .timely) (h .clock)))
 
 pub kept-step : (x : Call) (l : Ledger) → Kept l → Kept (ledger.step x l .ledger)
 kept-step x l h =

@@ -7,7 +7,6 @@ use mathlib.Core.List.{List, [], _∷_, _++_}
 use mathlib.Core.Option.{Option, none, some}
 use mathlib.Core.Bool.{Bool, true, false, not, cond}
 use lib.ListN.{length}
-use lib.Ieee.{Float}
 use Rattle.lists.specs.Member.{In, in-snoc, and-left}
 use Rattle.lists.specs.Find.{find}
 use Rattle.lists.specs.Keep.{in-keep}
@@ -29,10 +28,9 @@ use Rattle.store.specs.declared.voices.Fade.{Fade}
 use Rattle.model.specs.Desk.{sounding}
 use Rattle.model.specs.Voice.{isVoice, isTracked, withState, movedFade}
 use Rattle.model.specs.Refuse.{spawnRefusal, reportRefusal}
-use Rattle.model.specs.Spawn.{pans, newcomer, stateUnder, tries, fadeOf}
+use Rattle.model.specs.Spawn.{pans, newcomer, stateUnder, tries, fadeOf, Spawn}
 use Rattle.model.specs.Order.{order}
 use Rattle.model.specs.Render.{prepareOutcome, prepareDesk, isFree, anyFree, heard, answerAfter, isSounding, due, clockEnds}
-use Rattle.model.specs.Page.{page}
 use Rattle.model.specs.Call.{Call, Answer, scheduleRefusal, readyAnswer}
 use Rattle.model.specs.Call as call
 use Rattle.ledger.specs.Ledger.{Ledger, Landed, portFree, portHeld, gone, stolen, stealVoice, landOr, place, settle, admitted, admissionOn, freed, free}
@@ -40,17 +38,17 @@ use Rattle.ledger.specs.Ledger as ledger
 use Rattle.ledger.specs.Clear.{goneAll, endedVoices, silentVoices}
 use Rattle.ledger.specs.Render.{happen, happenAll, countedIf, preparedIf, rested}
 use Rattle.ledger.specs.Render as rendering
-use Rattle.ledger.specs.Call.{Step, unless, step}
+use Rattle.ledger.specs.Call.{Step, unless, step, seen}
 use Rattle.ledger.specs.Claim.{tracks, isSounded, beat}
 use Rattle.ledger.proofs.Steps.{place-kept, atDesk}
 use Rattle.ledger.proofs.Managed.{IdsOf, managed-kept}
 use Rattle.ledger.proofs.Records.{tracked-state, was-moved, begun, fade-inj, under-fading, loose-fading}
-use Rattle.ledger.proofs.Leaves.{page-silent}
+use Rattle.ledger.proofs.Leaves.{answer-silent}
 
 -- the voice v of the ledger before the call x, which answered a
 pub data From (l : Ledger) (a : Answer) (v : Voice) (f : Fade) : Call → Type 0 where
   went-on : {x : Call} (g : Fade) → In (withState (Fading g) v) (l .voices) → f ≡ beat a g → From l a v f x
-  began : (def : SynthDef) (bus : NodeId) (pan : Float) → In (withState Tracked v) (l .voices) → f ≡ fadeOf (l .desk) → From l a v f (call.spawnManaged def bus pan)
+  began : (spawn : Spawn) → In (withState Tracked v) (l .voices) → f ≡ fadeOf (l .desk) → From l a v f (call.spawnManaged spawn)
 
 -- ---- what goes leaves the others as they were
 goneAll-sub : (gs : List Voice) (m : Ledger) (v : Voice) → In v (goneAll gs m .voices) → In v (m .voices)
@@ -131,22 +129,22 @@ module _ (v : Voice) (f : Fade) (ph : v .state ≡ Fading f) where
       go none i = inl (in-keep (λ x. not (isVoice (w .id) x)) (l .voices) v i .0)
       go (some p) i = ⊎-elim (λ e. inr (self e)) (λ z. inl (z .0)) (begun d w j (fadeOf (l .desk)) v i)
 
-  from-managed : (def : SynthDef) (bus : NodeId) (pan : Float) (l : Ledger) → IdsOf l → In v (step (call.spawnManaged def bus pan) l .ledger .voices)
-      → From l (step (call.spawnManaged def bus pan) l .answer) v f (call.spawnManaged def bus pan)
-  from-managed def bus pan l d = go (spawnRefusal (l .desk) (l .voices) def bus)
+  from-managed : (spawn : Spawn) (l : Ledger) → IdsOf l → In v (step (call.spawnManaged spawn) l .ledger .voices)
+      → From l (step (call.spawnManaged spawn) l .answer) v f (call.spawnManaged spawn)
+  from-managed spawn l d = go (spawnRefusal (l .desk) (l .voices) (spawn .def) (spawn .bus))
     where
       R : Landed → Type 0
-      R r = In v (r .ledger .voices) → From l (call.spawned (r .answer)) v f (call.spawnManaged def bus pan)
+      R r = In v (r .ledger .voices) → From l (call.spawned (r .answer)) v f (call.spawnManaged spawn)
 
-      keeps : (r : Landed) → In v (l .voices) → From l (call.spawned (r .answer)) v f (call.spawnManaged def bus pan)
-      keeps r i = old l (call.spawnManaged def bus pan) (call.spawned (r .answer)) refl i
+      keeps : (r : Landed) → In v (l .voices) → From l (call.spawned (r .answer)) v f (call.spawnManaged spawn)
+      keeps r i = old l (call.spawnManaged spawn) (call.spawned (r .answer)) refl i
 
-      go : (o : Option Refusal) → R (ledger.unless o l (admitted (admissionOn bus l) def (pans pan) bus l))
+      go : (o : Option Refusal) → R (ledger.unless o l (admitted (admissionOn (spawn .bus) l) (spawn .def) (pans (spawn .pan)) (spawn .bus) l))
       go (some n) = keeps (ledger.refused n l)
       go none =
-          managed-kept def (pans pan) bus R l d (λ h i. keeps (ledger.refused Rejected l) i) (λ h i. keeps (settle def (pans pan) bus l) (from-settle def (pans pan) bus l i))
+          managed-kept (spawn .def) (pans (spawn .pan)) (spawn .bus) R l d (λ h i. keeps (ledger.refused Rejected l) i) (λ h i. keeps (settle (spawn .def) (pans (spawn .pan)) (spawn .bus) l) (from-settle (spawn .def) (pans (spawn .pan)) (spawn .bus) l i))
           (λ p w h u j t i.
-          ⊎-elim (λ k. keeps (settle def (pans pan) bus (stealVoice u l)) k) (λ z. began def bus pan (z .0) (z .1)) (from-steal l d u j (and-left (tracks u) _ t) (from-settle def (pans pan) bus (stealVoice u l) i)))
+          ⊎-elim (λ k. keeps (settle (spawn .def) (pans (spawn .pan)) (spawn .bus) (stealVoice u l)) k) (λ z. began spawn (z .0) (z .1)) (from-steal l d u j (and-left (tracks u) _ t) (from-settle (spawn .def) (pans (spawn .pan)) (spawn .bus) (stealVoice u l) i)))
 
   pub comes : (x : Call) (l : Ledger) → IdsOf l → In v (step x l .ledger .voices) → From l (step x l .answer) v f x
   comes (call.addNode kind ports required values glides) l d i = guarded (addRefusal (l .desk .graph) kind ports required) _ l _ i (λ j. old l _ _ refl j)
@@ -154,17 +152,17 @@ module _ (v : Voice) (f : Fade) (ph : v .state ≡ Fading f) where
   comes (call.connect a b p) l d i = guarded (connectRefusal (l .desk .graph) a b p) _ l _ i (λ j. old l _ _ refl j)
   comes (call.disconnect b p) l d i = guarded (disconnectRefusal (l .desk .graph) b p) _ l _ i (λ j. old l _ _ refl j)
   comes (call.setSink k) l d i = guarded (hostRefusal (l .desk .graph) k) _ l _ i (λ j. old l _ _ refl j)
-  comes (call.spawnManaged def bus pan) l d i = from-managed def bus pan l d i
-  comes (call.spawnLoose def bus pan) l d i = go (spawnRefusal (l .desk) (l .voices) def bus) i
+  comes (call.spawnManaged spawn) l d i = from-managed spawn l d i
+  comes (call.spawnLoose spawn) l d i = go (spawnRefusal (l .desk) (l .voices) (spawn .def) (spawn .bus)) i
     where
-      two : (o : Option ℕ) → In v (landOr o none def (pans pan) Loose bus l (ledger.refused NoPort) .ledger .voices) → In v (l .voices)
+      two : (o : Option ℕ) → In v (landOr o none (spawn .def) (pans (spawn .pan)) Loose (spawn .bus) l (ledger.refused NoPort) .ledger .voices) → In v (l .voices)
       two none i = i
-      two (some p) i = not-newcomer Loose loose-fading (l .voices) (newcomer def (pans pan) Loose bus p (l .desk)) refl i
+      two (some p) i = not-newcomer Loose loose-fading (l .voices) (newcomer (spawn .def) (pans (spawn .pan)) Loose (spawn .bus) p (l .desk)) refl i
 
-      go : (o : Option Refusal) → In v (ledger.unless o l (place 0 def (pans pan) Loose bus l) .ledger .voices)
-          → From l (call.spawned (ledger.unless o l (place 0 def (pans pan) Loose bus l) .answer)) v f (call.spawnLoose def bus pan)
+      go : (o : Option Refusal) → In v (ledger.unless o l (place 0 (spawn .def) (pans (spawn .pan)) Loose (spawn .bus) l) .ledger .voices)
+          → From l (call.spawned (ledger.unless o l (place 0 (spawn .def) (pans (spawn .pan)) Loose (spawn .bus) l) .answer)) v f (call.spawnLoose spawn)
       go (some n) i = old l _ _ refl i
-      go none i = old l _ _ refl (two (portFree bus l) i)
+      go none i = old l _ _ refl (two (portFree (spawn .bus) l) i)
   comes (call.free w) l d i = old l _ _ refl (freed-sub (find (isVoice w) (l .voices)) l v i)
   comes call.clear l d i =
       let m = goneAll (endedVoices l) l in
@@ -178,13 +176,4 @@ module _ (v : Voice) (f : Fade) (ph : v .state ≡ Fading f) where
       go Ready = old l _ _ refl i
       go (Refused r) = old l _ _ refl i
   comes call.render l d i = from-render l i
-  comes (call.level w) l d i = old l _ _ refl i
-  comes (call.position w) l d i = old l _ _ refl i
-  comes (call.voice w) l d i = old l _ _ refl i
-  comes call.voices l d i = old l _ _ refl i
-  comes call.steals l d i = old l _ _ refl i
-  comes call.edges l d i = old l _ _ refl i
-  comes call.processing l d i = old l _ _ refl i
-  comes (call.sources k) l d i = old l _ _ refl i
-  comes call.clock l d i = old l _ _ refl i
-  comes (call.page out) l d i = old l _ _ (page-silent (page (l .desk .clock) (l .voices)) out) i
+  comes (call.ask q) l d i = old l _ _ (answer-silent q (seen l)) i

@@ -8,7 +8,6 @@ use mathlib.Core.Option.{Option, none, some}
 use mathlib.Core.Bool.{Bool, true, false, not, cond, _&&_, false≢true}
 use lib.Dec.{eqb}
 use lib.ListN.{length}
-use lib.Ieee.{Float}
 use borrow.Author.Tests.{eq-eqb, ne-eqb, eqb-true, not-false}
 use Rattle.lists.specs.Member.{In, and-left, both}
 use Rattle.lists.specs.Find.{find, mapO, find-in, find-keep-same, find-keep-some, find-snoc-some, find-map}
@@ -36,7 +35,7 @@ use Rattle.store.specs.declared.voices.VoiceState.the-variants.{Tracked, Fading
 use Rattle.store.specs.declared.voices.Fade.{Fade}
 use Rattle.model.specs.Voice.{id, isVoice, isTracked, isOn, withState, beginFade, counted, candidates}
 use Rattle.model.specs.Refuse.{spawnRefusal}
-use Rattle.model.specs.Spawn.{pans, nextVoice, nextOut, stateUnder, tries, fadeOf}
+use Rattle.model.specs.Spawn.{pans, nextVoice, nextOut, stateUnder, tries, fadeOf, Spawn}
 use Rattle.model.specs.Call as call
 use Rattle.ledger.specs.Holder.{Holder, nobody, host, voice, isHeld, byVoice}
 use Rattle.ledger.specs.Ledger.{Ledger, Landed, portFree, portHeld, cutOff, stolen, stealVoice, settle, place, admitted, admissionOn, unless}
@@ -258,34 +257,34 @@ module _ (def : SynthDef) (pan : Bool) (bus : NodeId) (b : Bool) (given : VoiceI
       (λ n m v e f q. search-cut n m v f q) n m q
 
 -- ---- the claim
-pub spawn-answer : (def : SynthDef) (bus : NodeId) (pan : Float) (l : Ledger) → SoundL l → (k : ℕ) → l .desk .config .budget ≡ AtMost (suc k) → Stealing (l .desk .config .policy) → spawnRefusal (l .desk) (l .voices) def bus ≡ none
-    → step (call.spawnManaged def bus pan) l .answer ≡ call.spawned (spawnAnswer bus l)
-spawn-answer def bus pan l s k b t h = ap call.spawned (ap (λ o. unless o l (admitted (admissionOn bus l) def (pans pan) bus l) .answer) h ∙ all)
+pub spawn-answer : (spawn : Spawn) (l : Ledger) → SoundL l → (k : ℕ) → l .desk .config .budget ≡ AtMost (suc k) → Stealing (l .desk .config .policy) → spawnRefusal (l .desk) (l .voices) (spawn .def) (spawn .bus) ≡ none
+    → step (call.spawnManaged spawn) l .answer ≡ call.spawned (spawnAnswer (spawn .bus) l)
+spawn-answer spawn l s k b t h = ap call.spawned (ap (λ o. unless o l (admitted (admissionOn (spawn .bus) l) (spawn .def) (pans (spawn .pan)) (spawn .bus) l) .answer) h ∙ all)
   where
     ids : IdsOf l
     ids = ids-of l s
 
-    hb : HostAt (l .desk .graph .nodes) bus
-    hb = spawn-allowed (l .desk) (l .voices) def bus h .host
+    hb : HostAt (l .desk .graph .nodes) (spawn .bus)
+    hb = spawn-allowed (l .desk) (l .voices) (spawn .def) (spawn .bus) h .host
 
     R : Landed → Type 0
-    R r = r .answer ≡ spawnAnswer bus l
+    R r = r .answer ≡ spawnAnswer (spawn .bus) l
 
-    settles : (m : Ledger) → m .desk .config ≡ l .desk .config → IdsOf m → HostAt (m .desk .graph .nodes) bus → nextVoice (m .desk) ≡ nextVoice (l .desk) → blocked bus m ≡ blocked bus l → R (settle def (pans pan) bus m)
+    settles : (m : Ledger) → m .desk .config ≡ l .desk .config → IdsOf m → HostAt (m .desk .graph .nodes) (spawn .bus) → nextVoice (m .desk) ≡ nextVoice (l .desk) → blocked (spawn .bus) m ≡ blocked (spawn .bus) l → R (settle (spawn .def) (pans (spawn .pan)) (spawn .bus) m)
     settles m c d at next e =
         let u : m .desk .config .budget ≡ AtMost (suc k) = ap (λ (x : Config). x .budget) c ∙ b in
         let n : tries (m .desk .config .budget) (m .voices) ≡ length (m .voices) = ap (λ x. tries x (m .voices)) u in
-        answers def (pans pan) bus (blocked bus l) (nextVoice (l .desk)) (tries (m .desk .config .budget) (m .voices)) (stateUnder (m .desk .config .budget)) m
+        answers (spawn .def) (pans (spawn .pan)) (spawn .bus) (blocked (spawn .bus) l) (nextVoice (l .desk)) (tries (m .desk .config .budget) (m .voices)) (stateUnder (m .desk .config .budget)) m
         (record { ids = d; at = at; steals = subst (λ (x : Config). Stealing (x .policy)) (sym c) t; next = next; enough = omega arith; is = e })
 
-    rejected : admissionOn bus l ≡ admission.Reject → ⊥
+    rejected : admissionOn (spawn .bus) l ≡ admission.Reject → ⊥
     rejected e =
-        never-rejects ids (l .desk) (counted (l .desk .config .scope) bus) k (l .desk .config .policy) t
-        (subst (λ x. admits x (l .desk .config .policy) (candidates (l .desk) (counted (l .desk .config .scope) bus) (l .voices)) ≡ admission.Reject) b e)
+        never-rejects ids (l .desk) (counted (l .desk .config .scope) (spawn .bus)) k (l .desk .config .policy) t
+        (subst (λ x. admits x (l .desk .config .policy) (candidates (l .desk) (counted (l .desk .config .scope) (spawn .bus)) (l .voices)) ≡ admission.Reject) b e)
 
-    all : R (admitted (admissionOn bus l) def (pans pan) bus l)
+    all : R (admitted (admissionOn (spawn .bus) l) (spawn .def) (pans (spawn .pan)) (spawn .bus) l)
     all =
-        managed-kept def (pans pan) bus R l ids (λ e. absurd (rejected e)) (λ e. settles l refl ids hb refl refl)
+        managed-kept (spawn .def) (pans (spawn .pan)) (spawn .bus) R l ids (λ e. absurd (rejected e)) (λ e. settles l refl ids hb refl refl)
         (λ p w e v i x.
         let tr = and-left (isTracked (v .state)) _ x in
-        settles (stealVoice v l) (config-steal v l) (ids-steal v l ids) (host-steal bus l ids hb v i) (ap (λ n. record { 0 = n + 1 }) (spawned-steal v l)) (blocked-steal bus l ids hb v i s tr))
+        settles (stealVoice v l) (config-steal v l) (ids-steal v l ids) (host-steal (spawn .bus) l ids hb v i) (ap (λ n. record { 0 = n + 1 }) (spawned-steal v l)) (blocked-steal (spawn .bus) l ids hb v i s tr))

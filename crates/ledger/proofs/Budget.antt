@@ -8,7 +8,6 @@ use mathlib.Core.List.{List, [], _∷_, _++_, map}
 use mathlib.Core.Option.{Option, none, some}
 use mathlib.Core.Bool.{Bool, true, false, not, cond, _&&_, false≢true}
 use lib.Dec.{eqb}
-use lib.Ieee.{Float}
 use borrow.Author.Tests.{eq-eqb, eqb-true}
 use Rattle.lists.specs.Member.{In, in-snoc, in-map, in-left}
 use Rattle.lists.specs.Keep.{keep, in-keep}
@@ -30,7 +29,7 @@ use Rattle.store.specs.declared.voices.VoiceState.{VoiceState}
 use Rattle.store.specs.declared.voices.VoiceState.the-variants.{Tracked, Fading, Loose}
 use Rattle.store.specs.declared.voices.Fade.{Fade}
 use Rattle.model.specs.Voice.{isVoice, isTracked, withState, beginFade, movedState, moved, counted, candidates}
-use Rattle.model.specs.Spawn.{newcomer, stateUnder, tries, fadeOf, pans}
+use Rattle.model.specs.Spawn.{newcomer, stateUnder, tries, fadeOf, pans, Spawn}
 use Rattle.model.specs.Refuse.{spawnRefusal}
 use Rattle.model.specs.Call.{Call}
 use Rattle.model.specs.Call as call
@@ -193,9 +192,9 @@ without-budget c e xs =
     record { voices = r .1; book = r .2 }
 
 -- nobody is reclaimed: a managed spawn takes no voice away
-pub nobody-reclaimed : (c : Config) → c .budget ≡ Unlimited → (xs : List Call) (def : SynthDef) (bus : NodeId) (pan : Float) (v : Voice)
-    → In v (run xs (newLedger c) .ledger .voices) → In v (step (call.spawnManaged def bus pan) (run xs (newLedger c) .ledger) .ledger .voices)
-nobody-reclaimed c e xs def bus pan v i = unless (spawnRefusal (l .desk) (l .voices) def bus)
+pub nobody-reclaimed : (c : Config) → c .budget ≡ Unlimited → (xs : List Call) (spawn : Spawn) (v : Voice)
+    → In v (run xs (newLedger c) .ledger .voices) → In v (step (call.spawnManaged spawn) (run xs (newLedger c) .ledger) .ledger .voices)
+nobody-reclaimed c e xs spawn v i = unless (spawnRefusal (l .desk) (l .voices) (spawn .def) (spawn .bus))
   where
     l : Ledger
     l = run xs (newLedger c) .ledger
@@ -203,10 +202,10 @@ nobody-reclaimed c e xs def bus pan v i = unless (spawnRefusal (l .desk) (l .voi
     u : l .desk .config .budget ≡ Unlimited
     u = ap (λ (x : Config). x .budget) (config-run xs (newLedger c) (ids-new c)) ∙ e
 
-    go : (o : Option ℕ) → In v (landOr o none def (pans pan) Loose bus l (refused NoPort) .ledger .voices)
+    go : (o : Option ℕ) → In v (landOr o none (spawn .def) (pans (spawn .pan)) Loose (spawn .bus) l (refused NoPort) .ledger .voices)
     go none = i
-    go (some p) = in-left (l .voices) (newcomer def (pans pan) Loose bus p (l .desk) ∷ []) v i
+    go (some p) = in-left (l .voices) (newcomer (spawn .def) (pans (spawn .pan)) Loose (spawn .bus) p (l .desk) ∷ []) v i
 
-    unless : (o : Option Refusal) → In v (ledger.unless o l (admitted (admissionOn bus l) def (pans pan) bus l) .ledger .voices)
+    unless : (o : Option Refusal) → In v (ledger.unless o l (admitted (admissionOn (spawn .bus) l) (spawn .def) (pans (spawn .pan)) (spawn .bus) l) .ledger .voices)
     unless (some r) = i
-    unless none = subst (λ (r : Landed). In v (r .ledger .voices)) (sym (unlimited-spawn def (pans pan) bus l u)) (go (portFree bus l))
+    unless none = subst (λ (r : Landed). In v (r .ledger .voices)) (sym (unlimited-spawn (spawn .def) (pans (spawn .pan)) (spawn .bus) l u)) (go (portFree (spawn .bus) l))

@@ -57,14 +57,14 @@ from-new c block fits xs =
       removed = cleared-count l (r .ids);
       leaves = λ x v i f e. leaves v f e x l r q i;
       quiet = λ x h. book-stays x h l;
-      marks = λ def bus pan k h. marks def bus pan l r k h;
-      writes = λ n b def bus pan a e. tallies def bus pan n l (ap (λ (z : Config). z .budget) is ∙ b) r a e;
+      marks = λ x k h. marks x l r k h;
+      writes = λ n b x a e. tallies x n l (ap (λ (z : Config). z .budget) is ∙ b) r a e;
       numbers = r .numbers;
       own = r .own;
       budget = λ n b bus. within-budget c n b xs bus;
       loose = λ b. without-budget c b xs;
       stay = λ b. nobody-reclaimed c b xs;
-      spawns = λ n b t def bus pan h. spawn-answer def bus pan l (agree .kept .sound) n (ap (λ (z : Config). z .budget) is ∙ b) (subst (λ (z : Config). Stealing (z .policy)) (sym is) t) h;
+      spawns = λ n b t x h. spawn-answer x l (agree .kept .sound) n (ap (λ (z : Config). z .budget) is ∙ b) (subst (λ (z : Config). Stealing (z .policy)) (sym is) t) h;
       room = room-run xs (newLedger c) (kept-new c fits) (record { nodes = omega arith; edges = omega arith; voices = omega arith; events = omega arith });
       records = r .newest;
     }
@@ -85,7 +85,7 @@ from-new c block fits xs =
     agree = runs xs (newLedger c) (kept-new c fits)
 
     at : (v : Voice) → In v (l .voices) → (f : Fade) → v .state ≡ Fading f → (s : Stolen c xs v f)
-        → (ended (l .desk) (v .state) ≡ true) ↔ (roundedUp (fadeLength (c .rate)) (c .block) ≤ soundings (s .after) (ledgerAfter c (s .before ++ (call.spawnManaged (s .def) (s .bus) (s .pan) ∷ []))))
+        → (ended (l .desk) (v .state) ≡ true) ↔ (roundedUp (fadeLength (c .rate)) (c .block) ≤ soundings (s .after) (ledgerAfter c (s .before ++ (call.spawnManaged (s .spawn) ∷ []))))
     at v i f e s =
         let a = ended-iff (l .desk) (subst (λ (z : Config). 0 < z .block) (sym is) block) f in
         subst (λ n. (ended (l .desk) (v .state) ≡ true) ↔ (roundedUp (fadeLength (c .rate)) (c .block) ≤ n)) (s .counts)

@@ -37,10 +37,8 @@ module _ (c : Config) where
       record {
         before = s .before;
         after = s .after ++ (x ∷ []);
-        def = s .def;
-        bus = s .bus;
-        pan = s .pan;
-        split = ap (λ z. z ++ (x ∷ [])) (s .split) ∙ append-assoc (s .before) (call.spawnManaged (s .def) (s .bus) (s .pan) ∷ s .after) (x ∷ []);
+        spawn = s .spawn;
+        split = ap (λ z. z ++ (x ∷ [])) (s .split) ∙ append-assoc (s .before) (call.spawnManaged (s .spawn) ∷ s .after) (x ∷ []);
         tracked = s .tracked;
         start = ap (λ (z : Fade). z .start) e ∙ s .start;
         number = ap (λ (z : Fade). z .number) e ∙ s .number;
@@ -51,16 +49,16 @@ module _ (c : Config) where
             ∙ sym (soundings-snoc (s .after) x m);
       }
     where
-      spawn : Call
-      spawn = call.spawnManaged (s .def) (s .bus) (s .pan)
+      theft : Call
+      theft = call.spawnManaged (s .spawn)
 
       m : Ledger
-      m = ledgerAfter c (s .before ++ (spawn ∷ []))
+      m = ledgerAfter c (s .before ++ (theft ∷ []))
 
       whole : ledgerAfter c xs ≡ run (s .after) m .ledger
       whole =
-          ap (ledgerAfter c) (s .split ∙ sym (append-assoc (s .before) (spawn ∷ []) (s .after)))
-          ∙ run-append (s .before ++ (spawn ∷ [])) (s .after) (newLedger c)
+          ap (ledgerAfter c) (s .split ∙ sym (append-assoc (s .before) (theft ∷ []) (s .after)))
+          ∙ run-append (s .before ++ (theft ∷ [])) (s .after) (newLedger c)
 
   known-step : (xs : List Call) (x : Call) → Known xs → Known (xs ++ (x ∷ []))
   known-step xs x k v i f ph =
@@ -68,13 +66,11 @@ module _ (c : Config) where
     where
       go : (y : Call) → From (ledgerAfter c xs) (step y (ledgerAfter c xs) .answer) v f y → Stolen c (xs ++ (y ∷ [])) v f
       go y (went-on g j e) = later xs y v g f (k (withState (Fading g) v) j g refl) e
-      go y (began def bus pan j e) =
+      go y (began spawn j e) =
           record {
             before = xs;
             after = [];
-            def = def;
-            bus = bus;
-            pan = pan;
+            spawn = spawn;
             split = refl;
             tracked = j;
             start = ap (λ (z : Fade). z .start) e;

@@ -10,7 +10,6 @@ use mathlib.Core.Option.{Option, none, some}
 use mathlib.Core.Bool.{Bool, true, false, not, cond}
 use lib.ListN.{length}
 use lib.Dec.{leb}
-use lib.Ieee.{Float}
 use borrow.Author.Tests.{ne-eqb, eqb-true, not-true}
 use Rattle.lists.specs.Member.{In, in-left, in-of-map, and-left, and-right}
 use Rattle.lists.specs.Find.{find, find-in}
@@ -36,23 +35,24 @@ use Rattle.store.specs.declared.voices.Fade.{Fade}
 use Rattle.model.specs.Desk.{sounding}
 use Rattle.model.specs.Voice.{isVoice, isTracked, isOn, withState, beginFade, movedFade, movedState, moved, voiceLevel}
 use Rattle.model.specs.Refuse.{spawnRefusal, reportRefusal}
-use Rattle.model.specs.Spawn.{pans, newcomer, stateUnder, tries, fadeOf}
+use Rattle.model.specs.Spawn.{pans, newcomer, stateUnder, tries, fadeOf, Spawn}
 use Rattle.model.specs.Order.{order}
 use Rattle.model.specs.Clear.{isSilent}
 use Rattle.model.specs.Render.{prepareOutcome, prepareDesk, isFree, anyFree, heard, answerAfter, isSounding, deadline, due, clockEnds}
 use Rattle.model.specs.Written.{written}
 use Rattle.model.specs.Page.{page}
-use Rattle.model.specs.Call.{Call, scheduleRefusal, readyAnswer, pageAnswer}
+use Rattle.model.specs.Call.{Call, scheduleRefusal, readyAnswer, Question, answerTo}
 use Rattle.model.specs.Call as call
 use Rattle.order.specs.declared.Readiness.{Readiness}
 use Rattle.order.specs.declared.Readiness.the-variants.{Ready, Refused}
+use Rattle.model.specs.Model.{Model}
 use Rattle.ledger.specs.Ledger.{Ledger, Landed, portFree, portHeld, gone, cutOff, stolen, stealVoice, landOr, place, settle, refused, admitted, admissionOn, free}
 use Rattle.ledger.specs.Ledger as ledger
 use Rattle.ledger.specs.Clear.{goneAll, endedVoices, silentVoices}
 use Rattle.ledger.specs.Clear as clearing
 use Rattle.ledger.specs.Render as rendering
 use Rattle.ledger.specs.Render.{happen, happenAll, countedIf, preparedIf, rested, render}
-use Rattle.ledger.specs.Call.{Step, unless, step}
+use Rattle.ledger.specs.Call.{Step, unless, step, seen}
 use Rattle.ledger.specs.Claim.{busy, heldRecord, cutIfHeld, Newest, tracks, isSounded, GoesOn, Why, freed, timed, ended, silent, reclaimed}
 use Rattle.ledger.proofs.Ids.{unique, same-id}
 use Rattle.ledger.proofs.Victim.{nextOut-in}
@@ -63,10 +63,24 @@ use Rattle.ledger.proofs.Nodes.{OwnNodes, silent-first}
 use Rattle.ledger.proofs.Clearing.{faded-voices}
 use Rattle.ledger.proofs.Records.{RecordedOf, not-fading, steal-small, recorded-cut, recorded-steal, begin-other}
 
--- the page is no render
-pub page-silent : (text out : List ℕ) → isSounded (pageAnswer text out) ≡ false
-page-silent text out = go (leb (length text) (length out))
+-- no question is a render
+pub answer-silent : (q : Question) (m : Model) → isSounded (answerTo q m) ≡ false
+answer-silent (call.level w) m = refl
+answer-silent (call.position w) m = refl
+answer-silent (call.voice w) m = refl
+answer-silent (call.voiceAt i) m = refl
+answer-silent call.voices m = refl
+answer-silent call.steals m = refl
+answer-silent call.edges m = refl
+answer-silent call.processing m = refl
+answer-silent (call.sources k) m = refl
+answer-silent (call.nodeRecord k) m = refl
+answer-silent call.clock m = refl
+answer-silent (call.page out) m = go (leb (length text) (length out))
   where
+    text : List ℕ
+    text = page (m .desk .clock) (m .voices)
+
     go : (b : Bool) → isSounded (cond b (call.printed (length text) (written text out)) (call.refused ShortBuffer)) ≡ false
     go true = refl
     go false = refl
@@ -243,16 +257,16 @@ module _ (v : Voice) (f : Fade) (ph : v .state ≡ Fading f) where
       go false =
           ⊎-elim (λ j. inl (blocks (anyFree q) (happenAll q (rested l)) j)) (λ z. inr (timed-by (out (preparedIf (anyFree q) (happenAll q (rested l)))) z)) (leaves-events q (rested l) i)
 
-  leaves-managed : (def : SynthDef) (bus : NodeId) (pan : Float) (l : Ledger) → RecordedOf l → In v (l .voices) → Next l v f (call.spawnManaged def bus pan) (step (call.spawnManaged def bus pan) l)
-  leaves-managed def bus pan l r i = go (spawnRefusal (l .desk) (l .voices) def bus)
+  leaves-managed : (spawn : Spawn) (l : Ledger) → RecordedOf l → In v (l .voices) → Next l v f (call.spawnManaged spawn) (step (call.spawnManaged spawn) l)
+  leaves-managed spawn l r i = go (spawnRefusal (l .desk) (l .voices) (spawn .def) (spawn .bus))
     where
       out : Landed → Step
       out z = record { answer = call.spawned (z .answer); ledger = z .ledger }
 
-      go : (o : Option Refusal) → Next l v f (call.spawnManaged def bus pan) (out (ledger.unless o l (admitted (admissionOn bus l) def (pans pan) bus l)))
+      go : (o : Option Refusal) → Next l v f (call.spawnManaged spawn) (out (ledger.unless o l (admitted (admissionOn (spawn .bus) l) (spawn .def) (pans (spawn .pan)) (spawn .bus) l)))
       go (some n) = inl (still (l .voices) i)
       go none =
-          ⊎-elim (λ j. inl (still (admitted (admissionOn bus l) def (pans pan) bus l .ledger .voices) j)) (λ z. inr (reclaimed def bus pan (z .0) (z .1 .1))) (here-managed def (pans pan) bus l r i)
+          ⊎-elim (λ j. inl (still (admitted (admissionOn (spawn .bus) l) (spawn .def) (pans (spawn .pan)) (spawn .bus) l .ledger .voices) j)) (λ z. inr (reclaimed spawn (z .0) (z .1 .1))) (here-managed (spawn .def) (pans (spawn .pan)) (spawn .bus) l r i)
 
   ready-still : (l : Ledger) (a : Readiness) → In v (l .voices) → GoesOn v f (readyAnswer a) (l .voices)
   ready-still l Ready i = still (l .voices) i
@@ -264,12 +278,12 @@ module _ (v : Voice) (f : Fade) (ph : v .state ≡ Fading f) where
   leaves (call.connect a b p) l r q i = guarded (connectRefusal (l .desk .graph) a b p) _ l _ i (λ e. inl (still (l .voices) i))
   leaves (call.disconnect b p) l r q i = guarded (disconnectRefusal (l .desk .graph) b p) _ l _ i (λ e. inl (still (l .voices) i))
   leaves (call.setSink k) l r q i = guarded (hostRefusal (l .desk .graph) k) _ l _ i (λ e. inl (still (l .voices) i))
-  leaves (call.spawnManaged def bus pan) l r q i = leaves-managed def bus pan l r i
-  leaves (call.spawnLoose def bus pan) l r q i = inl (go (spawnRefusal (l .desk) (l .voices) def bus))
+  leaves (call.spawnManaged spawn) l r q i = leaves-managed spawn l r i
+  leaves (call.spawnLoose spawn) l r q i = inl (go (spawnRefusal (l .desk) (l .voices) (spawn .def) (spawn .bus)))
     where
-      go : (o : Option Refusal) → In (withState (Fading f) v) (ledger.unless o l (place 0 def (pans pan) Loose bus l) .ledger .voices)
+      go : (o : Option Refusal) → In (withState (Fading f) v) (ledger.unless o l (place 0 (spawn .def) (pans (spawn .pan)) Loose (spawn .bus) l) .ledger .voices)
       go (some n) = still (l .voices) i
-      go none = still (place 0 def (pans pan) Loose bus l .ledger .voices) (leaves-loose (portFree bus l) def (pans pan) bus l i)
+      go none = still (place 0 (spawn .def) (pans (spawn .pan)) Loose (spawn .bus) l .ledger .voices) (leaves-loose (portFree (spawn .bus) l) (spawn .def) (pans (spawn .pan)) (spawn .bus) l i)
   leaves (call.free w) l r q i = ⊎-elim (λ j. inl (still (free w l .voices) j)) (λ e. inr (subst (λ z. Why l (free w l) v f (call.free z)) (sym e) freed)) (leaves-free w l i)
   leaves call.clear l r q i = leaves-clear l q i
   leaves (call.order w name o) l r q i = inl (still (l .voices) i)
@@ -277,13 +291,4 @@ module _ (v : Voice) (f : Fade) (ph : v .state ≡ Fading f) where
   leaves (call.report k channels samples flag) l r q i = guarded (reportRefusal (l .desk) (l .voices) k channels (length samples)) _ l _ i (λ e. inl (still (l .voices) i))
   leaves call.prepare l r q i = inl (ready-still l (prepareOutcome (l .desk) .answer) i)
   leaves call.render l r q i = leaves-render l i
-  leaves (call.level w) l r q i = inl (still (l .voices) i)
-  leaves (call.position w) l r q i = inl (still (l .voices) i)
-  leaves (call.voice w) l r q i = inl (still (l .voices) i)
-  leaves call.voices l r q i = inl (still (l .voices) i)
-  leaves call.steals l r q i = inl (still (l .voices) i)
-  leaves call.edges l r q i = inl (still (l .voices) i)
-  leaves call.processing l r q i = inl (still (l .voices) i)
-  leaves (call.sources k) l r q i = inl (still (l .voices) i)
-  leaves call.clock l r q i = inl (still (l .voices) i)
-  leaves (call.page out) l r q i = inl (rw (page-silent (page (l .desk .clock) (l .voices)) out) (still (l .voices) i))
+  leaves (call.ask w) l r q i = inl (rw (answer-silent w (seen l)) (still (l .voices) i))

@@ -10,7 +10,6 @@ use mathlib.Core.Logic.{_⊎_, inl, inr, ⊎-elim}
 use mathlib.Core.List.{List, [], _∷_, _++_}
 use mathlib.Core.Option.{Option, none, some}
 use mathlib.Core.Bool.{Bool, true, false, not}
-use lib.Ieee.{Float}
 use borrow.Author.Tests.{ne-eqb, not-true}
 use Rattle.lists.specs.Member.{In, and-left, and-right}
 use Rattle.lists.specs.Find.{find, find-none, none-find, find-snoc-off}
@@ -32,7 +31,7 @@ use Rattle.store.specs.declared.voices.VoiceState.the-variants.{Tracked, Fading
 use Rattle.store.specs.declared.voices.Fade.{Fade}
 use Rattle.model.specs.Voice.{isVoice, isTracked, isOn, beginFade, voiceLevel}
 use Rattle.model.specs.Refuse.{spawnRefusal}
-use Rattle.model.specs.Spawn.{pans, newcomer, stateUnder, tries, fadeOf}
+use Rattle.model.specs.Spawn.{pans, newcomer, stateUnder, tries, fadeOf, Spawn}
 use Rattle.model.specs.Call.{Call}
 use Rattle.model.specs.Call as call
 use Rattle.ledger.specs.Ledger.{Ledger, Landed, portHeld, cutOff, stolen, stealVoice, settle, admitted, admissionOn, unless}
@@ -204,19 +203,19 @@ module _ (def : SynthDef) (pan : Bool) (bus : NodeId) (l₀ : Ledger) (d₀ : Id
       )
 
 -- ---- the claim: what becomes of record k in a managed spawn
-pub marks : (def : SynthDef) (bus : NodeId) (pan : Float) (l : Ledger) → RecordedOf l → (k : ℕ) → k < l .desk .steals .count
-    → Fate (l .desk .steals) (step (call.spawnManaged def bus pan) l .ledger .desk .steals) (Reclaimed (l .voices) (step (call.spawnManaged def bus pan) l .ledger .voices) bus k) k
-marks def bus pan l r k lt = go (spawnRefusal (l .desk) (l .voices) def bus) refl
+pub marks : (spawn : Spawn) (l : Ledger) → RecordedOf l → (k : ℕ) → k < l .desk .steals .count
+    → Fate (l .desk .steals) (step (call.spawnManaged spawn) l .ledger .desk .steals) (Reclaimed (l .voices) (step (call.spawnManaged spawn) l .ledger .voices) (spawn .bus) k) k
+marks spawn l r k lt = go (spawnRefusal (l .desk) (l .voices) (spawn .def) (spawn .bus)) refl
   where
     R : Landed → Type 0
-    R z = Fate (l .desk .steals) (z .ledger .desk .steals) (Reclaimed (l .voices) (z .ledger .voices) bus k) k
+    R z = Fate (l .desk .steals) (z .ledger .desk .steals) (Reclaimed (l .voices) (z .ledger .voices) (spawn .bus) k) k
 
-    go : (o : Option Refusal) → spawnRefusal (l .desk) (l .voices) def bus ≡ o → R (unless o l (admitted (admissionOn bus l) def (pans pan) bus l))
+    go : (o : Option Refusal) → spawnRefusal (l .desk) (l .voices) (spawn .def) (spawn .bus) ≡ o → R (unless o l (admitted (admissionOn (spawn .bus) l) (spawn .def) (pans (spawn .pan)) (spawn .bus) l))
     go (some n) e = same refl
     go none e =
-        let h : l .desk .spawned < 18446744073709551615 = spawn-allowed (l .desk) (l .voices) def bus e .ids-left in
-        managed-kept def (pans pan) bus R l (r .ids) (λ a. same refl) (λ a. fates-settle def (pans pan) bus l (r .ids) l (during-new def (pans pan) bus l (r .ids) r h) k lt)
-        (λ p w a v i t. fates-settle def (pans pan) bus l (r .ids) (stealVoice v l) (during-steal def (pans pan) bus l (r .ids) r h v i (and-left (tracks v) _ t)) k lt)
+        let h : l .desk .spawned < 18446744073709551615 = spawn-allowed (l .desk) (l .voices) (spawn .def) (spawn .bus) e .ids-left in
+        managed-kept (spawn .def) (pans (spawn .pan)) (spawn .bus) R l (r .ids) (λ a. same refl) (λ a. fates-settle (spawn .def) (pans (spawn .pan)) (spawn .bus) l (r .ids) l (during-new (spawn .def) (pans (spawn .pan)) (spawn .bus) l (r .ids) r h) k lt)
+        (λ p w a v i t. fates-settle (spawn .def) (pans (spawn .pan)) (spawn .bus) l (r .ids) (stealVoice v l) (during-steal (spawn .def) (pans (spawn .pan)) (spawn .bus) l (r .ids) r h v i (and-left (tracks v) _ t)) k lt)
 
 abbrev pub tallyOf : Ledger → ℕ
 tallyOf l = l .desk .steals .count + count tracks (l .voices)
@@ -263,21 +262,21 @@ module _ (def : SynthDef) (pan : Bool) (bus : NodeId) (n : ℕ) where
           let c = count-snoc tracks (z .voices) (newcomer def pan (stateUnder (m .desk .config .budget)) bus p (z .desk)) ∙ ap (λ b. more (isTracked (stateUnder b)) (count tracks (z .voices))) b in
           omega arith
 
-pub tallies : (def : SynthDef) (bus : NodeId) (pan : Float) (n : ℕ) (l : Ledger) → l .desk .config .budget ≡ AtMost n → RecordedOf l → (a : Spawned) → step (call.spawnManaged def bus pan) l .answer ≡ call.spawned a
-    → tallyOf (step (call.spawnManaged def bus pan) l .ledger) ≡ more (isLet a) (tallyOf l)
-tallies def bus pan n l b r a e = all ∙ ap (λ x. more (isLet x) (tallyOf l)) (spawned-inj e)
+pub tallies : (spawn : Spawn) (n : ℕ) (l : Ledger) → l .desk .config .budget ≡ AtMost n → RecordedOf l → (a : Spawned) → step (call.spawnManaged spawn) l .answer ≡ call.spawned a
+    → tallyOf (step (call.spawnManaged spawn) l .ledger) ≡ more (isLet a) (tallyOf l)
+tallies spawn n l b r a e = all ∙ ap (λ x. more (isLet x) (tallyOf l)) (spawned-inj e)
   where
     spawned-inj : {x y : Spawned} → call.spawned x ≡ call.spawned y → x ≡ y
     spawned-inj h = cc
 
-    go : (o : Option Refusal) → Tallies def (pans pan) bus n (tallyOf l) (unless o l (admitted (admissionOn bus l) def (pans pan) bus l))
+    go : (o : Option Refusal) → Tallies (spawn .def) (pans (spawn .pan)) (spawn .bus) n (tallyOf l) (unless o l (admitted (admissionOn (spawn .bus) l) (spawn .def) (pans (spawn .pan)) (spawn .bus) l))
     go (some k) = refl
     go none =
-        managed-kept def (pans pan) bus (Tallies def (pans pan) bus n (tallyOf l)) l (r .ids) (λ h. refl) (λ h. tally-settle def (pans pan) bus n l b r)
+        managed-kept (spawn .def) (pans (spawn .pan)) (spawn .bus) (Tallies (spawn .def) (pans (spawn .pan)) (spawn .bus) n (tallyOf l)) l (r .ids) (λ h. refl) (λ h. tally-settle (spawn .def) (pans (spawn .pan)) (spawn .bus) n l b r)
         (λ p w h v i t.
         let z = and-left (tracks v) _ t in
-        tally-settle def (pans pan) bus n (stealVoice v l) (ap (λ (c : Config). c .budget) (config-steal v l) ∙ b) (recorded-steal v l r i z)
-        ∙ ap (more (isLet (settle def (pans pan) bus (stealVoice v l) .answer))) (tally-steal v l r i z))
+        tally-settle (spawn .def) (pans (spawn .pan)) (spawn .bus) n (stealVoice v l) (ap (λ (c : Config). c .budget) (config-steal v l) ∙ b) (recorded-steal v l r i z)
+        ∙ ap (more (isLet (settle (spawn .def) (pans (spawn .pan)) (spawn .bus) (stealVoice v l) .answer))) (tally-steal v l r i z))
 
-    all : Tallies def (pans pan) bus n (tallyOf l) (ledger.spawnManaged def bus (pans pan) l)
-    all = go (spawnRefusal (l .desk) (l .voices) def bus)
+    all : Tallies (spawn .def) (pans (spawn .pan)) (spawn .bus) n (tallyOf l) (ledger.spawnManaged spawn l)
+    all = go (spawnRefusal (l .desk) (l .voices) (spawn .def) (spawn .bus))

@@ -29,7 +29,7 @@ use Rattle.store.specs.declared.answer.Rendered.{Rendered}
 use Rattle.store.specs.declared.answer.Rendered.the-variants as Rendered
 use Rattle.store.specs.declared.voices.Voice.{Voice}
 use Rattle.model.specs.Desk.{Desk, lengthL, sounding}
-use Rattle.model.specs.Voice.{isVoice, id, moved, levelOr}
+use Rattle.model.specs.Voice.{isVoice, id, moved}
 use Rattle.model.specs.Refuse.{ofDefinition, reports, reportRefusal}
 use Rattle.model.specs.Order.{withNode, withLast, takes, order, orderVoice, orderParam, orderNode, stays, reportNode, withReport}
 use Rattle.model.specs.Render.{prepareOutcome, prepareDesk, readyDesk, isFree, anyFree, further, movedIf, heard, answerAfter, isSounding, due, clockEnds}
@@ -171,13 +171,6 @@ module _ (more : ℕ → ℕ) (vs : List Voice) (d : Desk) where
       go : (o : Option Voice) → orderVoice (mapO (moved more) o) name x d ≡ orderVoice o name x d
       go none = refl
       go (some v) = param (paramNode (paramRows (v .params)) name) v
-
-  pub level-same : (w : VoiceId) → levelOr d (find (isVoice w) (map (moved more) vs)) ≡ levelOr d (find (isVoice w) vs)
-  level-same w = ap (levelOr d) (find-stored more w vs) ∙ go (find (isVoice w) vs)
-    where
-      go : (o : Option Voice) → levelOr d (mapO (moved more) o) ≡ levelOr d o
-      go none = refl
-      go (some v) = refl
 
   reports-same : (o : Option Node) → reports (map (moved more) vs) o ≡ reports vs o
   reports-same none = refl

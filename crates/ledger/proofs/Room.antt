@@ -36,7 +36,7 @@ use Rattle.store.specs.declared.voices.VoiceState.{VoiceState}
 use Rattle.store.specs.declared.voices.VoiceState.the-variants.{Tracked, Loose}
 use Rattle.model.specs.Voice.{id, isVoice, isTracked, feeder, beginFade, moved, counted}
 use Rattle.model.specs.Refuse.{spawnRefusal}
-use Rattle.model.specs.Spawn.{pans, Wire, voiceNodes, voiceWires, voiceOut, defWire, wire, appendAll, wireAll, newcomer, nextVoice, stateUnder, tries, fadeNode, fadeOf}
+use Rattle.model.specs.Spawn.{pans, Wire, voiceNodes, voiceWires, voiceOut, defWire, wire, appendAll, wireAll, newcomer, nextVoice, stateUnder, tries, fadeNode, fadeOf, Spawn}
 use Rattle.model.specs.Render.{isSounding, deadline}
 use Rattle.model.specs.Call.{Call}
 use Rattle.ledger.specs.Ledger as ledger
@@ -283,13 +283,13 @@ room-steady =
     counted-length false vs = refl
 
 room-step : (x : Call) (l : Ledger) → SoundL l → RoomOf l → RoomOf (step x l .ledger)
-room-step x l s r = step-kept RoomOf room-steady x l (λ def bus pan q. managed def bus (pans pan)) r
+room-step x l s r = step-kept RoomOf room-steady x l (λ spawn q. managed spawn) r
   where
-    managed : (def : SynthDef) (bus : NodeId) (pan : Bool) → RoomOf (ledger.spawnManaged def bus pan l .ledger)
-    managed def bus pan = landed-kept RoomOf (spawnRefusal (l .desk) (l .voices) def bus) l (admitted (admissionOn bus l) def pan bus l) r (λ e.
-        let a = room-spawn def bus l r e in
-        managed-kept def pan bus (λ z. RoomOf (z .ledger)) l (ids-of l s) (λ h. r) (λ h. room-settle def pan bus l (room-spare _ _ _ l a))
-        (λ p w h v i t. room-settle def pan bus (stealVoice v l) (room-steal (def .nodes .count + 2) (def .edges .count + 3) l s v i (and-left (isTracked (v .state)) _ t) a)))
+    managed : (spawn : Spawn) → RoomOf (ledger.spawnManaged spawn l .ledger)
+    managed spawn = landed-kept RoomOf (spawnRefusal (l .desk) (l .voices) (spawn .def) (spawn .bus)) l (admitted (admissionOn (spawn .bus) l) (spawn .def) (pans (spawn .pan)) (spawn .bus) l) r (λ e.
+        let a = room-spawn (spawn .def) (spawn .bus) l r e in
+        managed-kept (spawn .def) (pans (spawn .pan)) (spawn .bus) (λ z. RoomOf (z .ledger)) l (ids-of l s) (λ h. r) (λ h. room-settle (spawn .def) (pans (spawn .pan)) (spawn .bus) l (room-spare _ _ _ l a))
+        (λ p w h v i t. room-settle (spawn .def) (pans (spawn .pan)) (spawn .bus) (stealVoice v l) (room-steal ((spawn .def) .nodes .count + 2) ((spawn .def) .edges .count + 3) l s v i (and-left (isTracked (v .state)) _ t) a)))
 
 pub room-run : (xs : List Call) (l : Ledger) → Kept l → RoomOf l → RoomOf (run xs l .ledger)
 room-run [] l h r = r

@@ -4,7 +4,7 @@ use Prim.Native.Nat.{ℕ, _+_, _*_, _≤_, min}
 use native.Mathlib.Omega.{arith}
 use native.Mathlib.Nat.{zero-mul, suc-mul}
 use mathlib.Core.Path.{_≡_, refl, ap, _∙_}
-use mathlib.Core.List.{List, [], _∷_, _++_, map, map-map}
+use mathlib.Core.List.{List, [], _∷_, map, map-map}
 use mathlib.Core.Option.{Option, none, some}
 use mathlib.Core.Bool.{Bool, true, false, cond, _&&_}
 use lib.Dec.{leb}
@@ -26,7 +26,6 @@ use Rattle.store.specs.declared.voices.VoiceState.the-variants.{Tracked, Fading
 use Rattle.model.specs.Desk.{Desk, lengthL}
 use Rattle.model.specs.Voice.{isVoice, isOn, isTracked, isFading, startOf, withState, moved, movedState, counted, trackedOn, fadesOn, candidate, candidates, newFade, beginFade}
 use Rattle.model.specs.Spawn.{tries, stateUnder, reclaimBook, voiceOf, earlier, earliest, elseVictim, nextOut}
-use Rattle.model.specs.Page.{header, word, lines, page}
 use Rattle.model.specs.Model.{Model}
 use Rattle.model.specs.Render.{further}
 use Rattle.model.specs.Clear as model
@@ -81,19 +80,6 @@ module _ (more : ℕ → ℕ) where
 
   pub find-stored : (w : VoiceId) (vs : List Voice) → find (isVoice w) (map (moved more) vs) ≡ mapO (moved more) (find (isVoice w) vs)
   find-stored w vs = find-map (moved more) (isVoice w) (isVoice w) (λ v. refl) vs
-
-  -- the page does not show how far a fade has come
-  word-same : (t : VoiceState) → word (movedState more t) ≡ word t
-  word-same Tracked = refl
-  word-same (Fading f) = refl
-  word-same Loose = refl
-
-  lines-same : (clock : ℕ) (vs : List Voice) → lines clock (map (moved more) vs) ≡ lines clock vs
-  lines-same clock [] = refl
-  lines-same clock (v ∷ vs) = rw (word-same (v .state), lines-same clock vs) refl
-
-  pub page-same : (clock : ℕ) (vs : List Voice) → page clock (map (moved more) vs) ≡ page clock vs
-  page-same clock vs = ap (λ t. header ++ t) (lines-same clock vs)
 
   -- "reclaim the earliest-started fade of that bus ... else free the policy's victim among tracked voices of that bus"
   earliest-same : (bus : NodeId) (vs : List Voice) → earliest (fadesOn bus) (map (moved more) vs) ≡ mapO (moved more) (earliest (fadesOn bus) vs)

@@ -29,7 +29,7 @@ use Rattle.store.specs.declared.voices.VoiceState.the-variants.{Tracked, Loose}
 use Rattle.model.specs.Desk.{withSteals}
 use Rattle.model.specs.Voice.{isVoice, isTracked, feeder, counted, movedState, beginFade}
 use Rattle.model.specs.Refuse.{spawnRefusal}
-use Rattle.model.specs.Spawn.{fadeNode, fadeOf, newcomer, nextOut, reclaimBook, stateUnder, tries}
+use Rattle.model.specs.Spawn.{fadeNode, fadeOf, newcomer, nextOut, reclaimBook, stateUnder, tries, Spawn, pans}
 use Rattle.model.specs.Model.{Model}
 use Rattle.model.specs.Model as model
 use Rattle.ledger.specs.Holder.{isHeld}
@@ -212,12 +212,12 @@ module _ (l : Ledger) (s : SoundL l) where
   host-bus : (def : SynthDef) (bus : NodeId) → spawnRefusal (l .desk) (l .voices) def bus ≡ none → HostAt (l .desk .graph .nodes) (bus .0)
   host-bus def bus e = host-owned (l .desk .graph .nodes) bus (spawn-allowed (l .desk) (l .voices) def bus e .host)
 
-  pub managed-agrees : (def : SynthDef) (bus : NodeId) (pan : Bool) → Lands (model.spawnManaged def bus pan (modelOf l)) (ledger.spawnManaged def bus pan l)
-  managed-agrees def bus pan =
-      subst (λ o. Lands (model.unless o (modelOf l) (model.admitted (model.admissionOn bus (modelOf l)) def pan bus (modelOf l))) (ledger.spawnManaged def bus pan l)) (sym (refusal-same def bus))
-      (unless-agrees (spawnRefusal (l .desk) (l .voices) def bus) _ _ (λ e. admitted-agrees def (spawn-allowed (l .desk) (l .voices) def bus e .definition) pan bus l s (host-bus def bus e)))
+  pub managed-agrees : (spawn : Spawn) → Lands (model.spawnManaged spawn (modelOf l)) (ledger.spawnManaged spawn l)
+  managed-agrees spawn =
+      subst (λ o. Lands (model.unless o (modelOf l) (model.admitted (model.admissionOn (spawn .bus) (modelOf l)) (spawn .def) (pans (spawn .pan)) (spawn .bus) (modelOf l))) (ledger.spawnManaged spawn l)) (sym (refusal-same (spawn .def) (spawn .bus)))
+      (unless-agrees (spawnRefusal (l .desk) (l .voices) (spawn .def) (spawn .bus)) _ _ (λ e. admitted-agrees (spawn .def) (spawn-allowed (l .desk) (l .voices) (spawn .def) (spawn .bus) e .definition) (pans (spawn .pan)) (spawn .bus) l s (host-bus (spawn .def) (spawn .bus) e)))
 
-  pub loose-agrees : (def : SynthDef) (bus : NodeId) (pan : Bool) → Lands (model.spawnLoose def bus pan (modelOf l)) (ledger.spawnLoose def bus pan l)
-  loose-agrees def bus pan =
-      subst (λ o. Lands (model.unless o (modelOf l) (model.place 0 def pan Loose bus (modelOf l))) (ledger.spawnLoose def bus pan l)) (sym (refusal-same def bus))
-      (unless-agrees (spawnRefusal (l .desk) (l .voices) def bus) _ _ (λ e. place-agrees def (spawn-allowed (l .desk) (l .voices) def bus e .definition) pan Loose (λ more. refl) bus 0 l s (host-bus def bus e)))
+  pub loose-agrees : (spawn : Spawn) → Lands (model.spawnLoose spawn (modelOf l)) (ledger.spawnLoose spawn l)
+  loose-agrees spawn =
+      subst (λ o. Lands (model.unless o (modelOf l) (model.place 0 (spawn .def) (pans (spawn .pan)) Loose (spawn .bus) (modelOf l))) (ledger.spawnLoose spawn l)) (sym (refusal-same (spawn .def) (spawn .bus)))
+      (unless-agrees (spawnRefusal (l .desk) (l .voices) (spawn .def) (spawn .bus)) _ _ (λ e. place-agrees (spawn .def) (spawn-allowed (l .desk) (l .voices) (spawn .def) (spawn .bus) e .definition) (pans (spawn .pan)) Loose (λ more. refl) (spawn .bus) 0 l s (host-bus (spawn .def) (spawn .bus) e)))

@@ -42,7 +42,7 @@ use Rattle.model.specs.Desk.{Desk, withGraph, withEvents, sounding}
 use Rattle.voice.specs.Steals.{Book}
 use Rattle.model.specs.Voice.{isVoice, id, moved}
 use Rattle.model.specs.Refuse.{spawnRefusal, reportRefusal}
-use Rattle.model.specs.Spawn.{pans, nextOut, newcomer}
+use Rattle.model.specs.Spawn.{pans, nextOut, newcomer, Spawn}
 use Rattle.model.specs.Order.{withNode, withLast, takes, order, orderVoice, orderParam, orderNode, stays, reportNode, withReport}
 use Rattle.model.specs.Render.{prepareOutcome, prepareDesk, readyDesk, isFree, anyFree, heard, answerAfter, isSounding, due, clockEnds}
 use Rattle.model.specs.Call.{Call, event, scheduleRefusal}
@@ -191,16 +191,16 @@ module _ (P : Ledger → Type 0) where
         go false = block-kept (anyFree q) (happenAll q (rested l)) (happenAll-kept q (rested l) (k .rest l p))
 
     -- every call, given what a managed spawn does
-    pub step-kept : (x : Call) (l : Ledger) → ((def : SynthDef) (bus : NodeId) (pan : Float) → x ≡ call.spawnManaged def bus pan → P (ledger.spawnManaged def bus (pans pan) l .ledger)) → P l → P (step x l .ledger)
+    pub step-kept : (x : Call) (l : Ledger) → ((spawn : Spawn) → x ≡ call.spawnManaged spawn → P (ledger.spawnManaged spawn l .ledger)) → P l → P (step x l .ledger)
     step-kept (call.addNode kind ports required values glides) l m p =
         unless-kept (addRefusal (l .desk .graph) kind ports required) l _ p (λ e. k .addNode l kind ports required values glides e p)
     step-kept (call.removeNode j) l m p = unless-kept (hostRefusal (l .desk .graph) j) l _ p (λ e. k .removeNode l j e p)
     step-kept (call.connect a b q) l m p = unless-kept (connectRefusal (l .desk .graph) a b q) l _ p (λ e. k .connect l a b q e p)
     step-kept (call.disconnect b q) l m p = unless-kept (disconnectRefusal (l .desk .graph) b q) l _ p (λ e. k .disconnect l b q e p)
     step-kept (call.setSink j) l m p = unless-kept (hostRefusal (l .desk .graph) j) l _ p (λ e. k .setSink l j p)
-    step-kept (call.spawnManaged def bus pan) l m p = m def bus pan refl
-    step-kept (call.spawnLoose def bus pan) l m p =
-        landed-kept (spawnRefusal (l .desk) (l .voices) def bus) l (place 0 def (pans pan) Loose bus l) p (λ e. k .loose l def bus (pans pan) e p)
+    step-kept (call.spawnManaged spawn) l m p = m spawn refl
+    step-kept (call.spawnLoose spawn) l m p =
+        landed-kept (spawnRefusal (l .desk) (l .voices) (spawn .def) (spawn .bus)) l (place 0 (spawn .def) (pans (spawn .pan)) Loose (spawn .bus) l) p (λ e. k .loose l (spawn .def) (spawn .bus) (pans (spawn .pan)) e p)
     step-kept (call.free w) l m p = freed-kept (find (isVoice w) (l .voices)) l p
     step-kept call.clear l m p =
         let faded = goneAll (endedVoices l) l in
@@ -212,25 +212,16 @@ module _ (P : Ledger → Type 0) where
         unless-kept (reportRefusal (l .desk) (l .voices) j channels (length samples)) l _ p (λ e. report-kept j (nodeAt (l .desk .graph .nodes) j) samples flag l refl p)
     step-kept call.prepare l m p = ready-kept (prepareOutcome (l .desk) .answer) (prepareOutcome (l .desk) .order) l p
     step-kept call.render l m p = render-kept l p
-    step-kept (call.level w) l m p = p
-    step-kept (call.position w) l m p = p
-    step-kept (call.voice w) l m p = p
-    step-kept call.voices l m p = p
-    step-kept call.steals l m p = p
-    step-kept call.edges l m p = p
-    step-kept call.processing l m p = p
-    step-kept (call.sources j) l m p = p
-    step-kept call.clock l m p = p
-    step-kept (call.page out) l m p = p
+    step-kept (call.ask q) l m p = p
 
     pub steady-step : (x : Call) → isManaged x ≡ false → (l : Ledger) → P l → P (step x l .ledger)
-    steady-step x h l p = step-kept x l (λ def bus pan e. absurd (true≢false (sym (ap isManaged e) ∙ h))) p
+    steady-step x h l p = step-kept x l (λ spawn e. absurd (true≢false (sym (ap isManaged e) ∙ h))) p
 
     -- and a managed spawn
     module _ (m : (l : Ledger) (def : SynthDef) (bus : NodeId) (pan : Bool) → spawnRefusal (l .desk) (l .voices) def bus ≡ none → P l → P (admitted (admissionOn bus l) def pan bus l .ledger)) where
       pub kept-step : (x : Call) (l : Ledger) → P l → P (step x l .ledger)
       kept-step x l p =
-          step-kept x l (λ def bus pan e. landed-kept (spawnRefusal (l .desk) (l .voices) def bus) l (admitted (admissionOn bus l) def (pans pan) bus l) p (λ r. m l def bus (pans pan) r p)) p
+          step-kept x l (λ spawn e. landed-kept (spawnRefusal (l .desk) (l .voices) (spawn .def) (spawn .bus)) l (admitted (admissionOn (spawn .bus) l) (spawn .def) (pans (spawn .pan)) (spawn .bus) l) p (λ r. m l (spawn .def) (spawn .bus) (pans (spawn .pan)) r p)) p
 
       pub kept-run : (xs : List Call) (l : Ledger) → P l → P (run xs l .ledger)
       kept-run [] l p = p

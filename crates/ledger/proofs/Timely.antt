@@ -13,7 +13,7 @@ use lib.ListN.{length}
 use borrow.Author.Tests.{ltb-false}
 use Rattle.lists.specs.Member.{In, in-snoc, in-map}
 use Rattle.lists.specs.Keep.{in-keep}
-use Rattle.lists.specs.Find.{find, mapO, find-in}
+use Rattle.lists.specs.Find.{find}
 use Rattle.node.specs.Name.{nameOf}
 use Rattle.node.specs.declared.name.Name.{Name}
 use Rattle.node.specs.declared.order.LastOrder.{LastOrder}
@@ -163,10 +163,10 @@ clock-step x l u h = go x
     go (call.connect a b p) = same (still-unless (connectRefusal (l .desk .graph) a b p) l _ refl)
     go (call.disconnect b p) = same (still-unless (disconnectRefusal (l .desk .graph) b p) l _ refl)
     go (call.setSink k) = same (still-unless (hostRefusal (l .desk .graph) k) l _ refl)
-    go (call.spawnManaged def bus pan) =
-        same (still-landed (spawnRefusal (l .desk) (l .voices) def bus) l (admitted (admissionOn bus l) def (pans pan) bus l) (still-managed def (pans pan) bus l u))
-    go (call.spawnLoose def bus pan) =
-        same (still-landed (spawnRefusal (l .desk) (l .voices) def bus) l (place 0 def (pans pan) Loose bus l) (still-place 0 def (pans pan) Loose bus (l .desk .clock) l refl))
+    go (call.spawnManaged spawn) =
+        same (still-landed (spawnRefusal (l .desk) (l .voices) (spawn .def) (spawn .bus)) l (admitted (admissionOn (spawn .bus) l) (spawn .def) (pans (spawn .pan)) (spawn .bus) l) (still-managed (spawn .def) (pans (spawn .pan)) (spawn .bus) l u))
+    go (call.spawnLoose spawn) =
+        same (still-landed (spawnRefusal (l .desk) (l .voices) (spawn .def) (spawn .bus)) l (place 0 (spawn .def) (pans (spawn .pan)) Loose (spawn .bus) l) (still-place 0 (spawn .def) (pans (spawn .pan)) Loose (spawn .bus) (l .desk .clock) l refl))
     go (call.free w) = same (still-freed (find (isVoice w) (l .voices)) l .0)
     go call.clear =
         let faded = goneAll (endedVoices l) l in
@@ -177,16 +177,7 @@ clock-step x l u h = go x
         same (still-unless (reportRefusal (l .desk) (l .voices) k channels (length samples)) l _ (still-report (nodeAt (l .desk .graph .nodes) k) samples flag (l .desk)))
     go call.prepare = same (still-ready (prepareOutcome (l .desk) .answer) (prepareOutcome (l .desk) .order) (l .desk) .0)
     go call.render = sounds (clockEnds (l .desk)) refl
-    go (call.level w) = h
-    go (call.position w) = h
-    go (call.voice w) = h
-    go call.voices = h
-    go call.steals = h
-    go call.edges = h
-    go call.processing = h
-    go (call.sources k) = h
-    go call.clock = h
-    go (call.page out) = h
+    go (call.ask q) = h
 
 -- ---- "Position = count × block ≤ clock - start"
 abbrev pub Within : ℕ → ℕ → VoiceState → Type 0
@@ -297,10 +288,3 @@ module _ (block clock : ℕ) (short : clock ≤ 18446744073709551615) where
 module _ (l : Ledger) (t : Timely l) (c : l .desk .clock ≤ 18446744073709551615) where
   pub stored-shown : map (stored l) (l .voices) ≡ map (shown l) (l .voices)
   stored-shown = exact-all (l .desk .config .block) (l .desk .clock) c (l .voices) t
-
-  pub found-shown : (w : VoiceId) → mapO (stored l) (find (isVoice w) (l .voices)) ≡ mapO (shown l) (find (isVoice w) (l .voices))
-  found-shown w = go (find (isVoice w) (l .voices)) refl
-    where
-      go : (o : Option Voice) → find (isVoice w) (l .voices) ≡ o → mapO (stored l) o ≡ mapO (shown l) o
-      go none e = refl
-      go (some v) e = ap some (exact (l .desk .config .block) (l .desk .clock) c v (t v (find-in (isVoice w) (l .voices) v e .0)))

@@ -3,7 +3,6 @@ use Prim.Native.Nat.{ℕ, _*_}
 use mathlib.Core.List.{List, [], _∷_, map}
 use mathlib.Core.Option.{Option, none, some}
 use lib.ListN.{length}
-use Rattle.lists.specs.Find.{find, mapO}
 use Rattle.node.specs.Name.{nameOf}
 use Rattle.node.specs.declared.refusal.Refusal.{Refusal}
 use Rattle.edges.specs.Ports as ports
@@ -14,14 +13,13 @@ use Rattle.graph.specs.Refuse.{addRefusal, hostRefusal, disconnectRefusal, conn
 use Rattle.scheduler.specs.Queue.{inserted}
 use Rattle.store.specs.declared.voices.Voice.{Voice}
 use Rattle.model.specs.Desk.{Desk, withGraph, withEvents}
-use Rattle.model.specs.Voice.{isVoice, levelOr, moved}
+use Rattle.model.specs.Voice.{moved}
 use Rattle.model.specs.Refuse.{reportRefusal}
-use Rattle.model.specs.Spawn.{pans}
 use Rattle.model.specs.Order.{reportNode}
 use Rattle.model.specs.Order as param
 use Rattle.model.specs.Render.{prepareOutcome, prepareDesk}
-use Rattle.model.specs.Page.{page}
-use Rattle.model.specs.Call.{Call, Answer, readyAnswer, positionIn, event, scheduleRefusal, pageAnswer}
+use Rattle.model.specs.Model.{Model}
+use Rattle.model.specs.Call.{Call, Answer, readyAnswer, answerTo, event, scheduleRefusal}
 use Rattle.model.specs.Call as call
 use Rattle.ledger.specs.Holder.{Holders, nobody, host, hold, dropNode}
 use Rattle.ledger.specs.Ledger.{Ledger}
@@ -54,6 +52,10 @@ position block count = count * block
 abbrev pub shown : Ledger → Voice → Voice
 shown l v = moved (position (l .desk .config .block)) v
 
+-- what a question finds: the rules of reading are the model's
+abbrev pub seen : Ledger → Model
+seen l = record { desk = l .desk; voices = map (shown l) (l .voices) }
+
 abbrev pub step : Call → Ledger → Step
 step (call.addNode kind ports required values glides) l =
     unless (addRefusal (l .desk .graph) kind ports required) l
@@ -65,11 +67,11 @@ step (call.connect a b p) l =
 step (call.disconnect b p) l =
     unless (disconnectRefusal (l .desk .graph) b p) l (graphStep l (change.disconnect (l .desk .graph) b p) (hold b p nobody (l .holders)) call.done)
 step (call.setSink k) l = unless (hostRefusal (l .desk .graph) k) l (graphStep l (change.setSink (l .desk .graph) k) (l .holders) call.done)
-step (call.spawnManaged def bus pan) l =
-    let r = ledger.spawnManaged def bus (pans pan) l in
+step (call.spawnManaged x) l =
+    let r = ledger.spawnManaged x l in
     record { answer = call.spawned (r .answer); ledger = r .ledger }
-step (call.spawnLoose def bus pan) l =
-    let r = ledger.spawnLoose def bus (pans pan) l in
+step (call.spawnLoose x) l =
+    let r = ledger.spawnLoose x l in
     record { answer = call.spawned (r .answer); ledger = r .ledger }
 step (call.free w) l = record { answer = call.done; ledger = ledger.free w l }
 step call.clear l =
@@ -87,16 +89,7 @@ step call.prepare l = deskStep l (prepareDesk (l .desk)) (readyAnswer (prepareOu
 step call.render l =
     let h = rendering.render l in
     record { answer = call.rendered (h .answer); ledger = h .ledger }
-step (call.level w) l = reads l (call.known (levelOr (l .desk) (find (isVoice w) (l .voices))))
-step (call.position w) l = reads l (call.reached (positionIn (mapO (shown l) (find (isVoice w) (l .voices)))))
-step (call.voice w) l = reads l (call.found (mapO (shown l) (find (isVoice w) (l .voices))))
-step call.voices l = reads l (call.all (map (shown l) (l .voices)))
-step call.steals l = reads l (call.stolen (l .desk .steals))
-step call.edges l = reads l (call.wires (l .desk .graph .edges))
-step call.processing l = reads l (call.inOrder (l .desk .graph .order))
-step (call.sources k) l = reads l (call.fed (ports.sources (l .desk .graph .edges) k))
-step call.clock l = reads l (call.time (l .desk .clock))
-step (call.page out) l = reads l (pageAnswer (page (l .desk .clock) (l .voices)) out)
+step (call.ask q) l = reads l (answerTo q (seen l))
 
 pub record Ran : Type 0 where
   pub answers : List Answer

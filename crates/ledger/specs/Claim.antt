@@ -11,7 +11,6 @@ use mathlib.Core.List.{List, [], _∷_, _++_, map}
 use mathlib.Core.Option.{Option, none, some}
 use mathlib.Core.Bool.{Bool, true, false, not, cond, _&&_, _||_}
 use lib.Dec.{eqb, leb}
-use lib.Ieee.{Float}
 use lib.ListN.{length}
 use Rattle.lists.specs.Member.{In}
 use Rattle.lists.specs.Find.{find, mapO}
@@ -34,7 +33,6 @@ use Rattle.voice.specs.declared.policy.StealPolicy.the-variants as policy
 use Rattle.voice.specs.declared.steals.StealFound.{StealFound}
 use Rattle.voice.specs.declared.steals.StealFound.the-variants as found
 use Rattle.synthdef.specs.Rows.{every}
-use Rattle.synthdef.specs.declared.def.SynthDef.{SynthDef}
 use Rattle.store.specs.declared.answer.Spawned.{Spawned}
 use Rattle.store.specs.declared.answer.Spawned.the-variants as Spawned
 use Rattle.store.specs.declared.config.Config.{Config}
@@ -44,7 +42,7 @@ use Rattle.store.specs.declared.voices.VoiceState.the-variants.{Tracked, Fading
 use Rattle.store.specs.declared.voices.Fade.{Fade}
 use Rattle.model.specs.Voice.{id, isVoice, isTracked, isFading, isOn, counted, moved, movedFade, withState}
 use Rattle.model.specs.Refuse.{spawnRefusal}
-use Rattle.model.specs.Spawn.{nextVoice}
+use Rattle.model.specs.Spawn.{Spawn, nextVoice}
 use Rattle.model.specs.Clear.{isSilent}
 use Rattle.model.specs.Render.{isFree, isSounding, deadline}
 use Rattle.model.specs.Model.{Model}
@@ -67,8 +65,8 @@ isManaged (call.removeNode k) = false
 isManaged (call.connect a b p) = false
 isManaged (call.disconnect b p) = false
 isManaged (call.setSink k) = false
-isManaged (call.spawnManaged def bus pan) = true
-isManaged (call.spawnLoose def bus pan) = false
+isManaged (call.spawnManaged x) = true
+isManaged (call.spawnLoose x) = false
 isManaged (call.free w) = false
 isManaged call.clear = false
 isManaged (call.order w name o) = false
@@ -76,16 +74,7 @@ isManaged (call.schedule t w name a) = false
 isManaged (call.report k channels samples flag) = false
 isManaged call.prepare = false
 isManaged call.render = false
-isManaged (call.level w) = false
-isManaged (call.position w) = false
-isManaged (call.voice w) = false
-isManaged call.voices = false
-isManaged call.steals = false
-isManaged call.edges = false
-isManaged call.processing = false
-isManaged (call.sources k) = false
-isManaged call.clock = false
-isManaged (call.page out) = false
+isManaged (call.ask q) = false
 
 -- a sounding render
 abbrev pub isSounded : Answer → Bool
@@ -99,6 +88,7 @@ isSounded (call.rendered a) = isSounding a
 isSounded (call.known x) = false
 isSounded (call.reached p) = false
 isSounded (call.found v) = false
+isSounded (call.foundNode n) = false
 isSounded (call.all vs) = false
 isSounded (call.stolen b) = false
 isSounded (call.wires es) = false
@@ -153,14 +143,12 @@ holderAt ns es n p = holdsAt (ownerAt ns) es n p
 pub record Stolen (c : Config) (xs : List Call) (v : Voice) (f : Fade) : Type 0 where
   pub before : List Call
   pub after : List Call
-  pub def : SynthDef
-  pub bus : NodeId
-  pub pan : Float
-  pub split : xs ≡ before ++ (call.spawnManaged def bus pan ∷ after)
+  pub spawn : Spawn
+  pub split : xs ≡ before ++ (call.spawnManaged spawn ∷ after)
   pub tracked : In (withState Tracked v) (ledgerAfter c before .voices)
   pub start : f .start ≡ ledgerAfter c before .desk .clock
   pub number : f .number ≡ ledgerAfter c before .desk .steals .count
-  pub counts : f .position ≡ soundings after (ledgerAfter c (before ++ (call.spawnManaged def bus pan ∷ [])))
+  pub counts : f .position ≡ soundings after (ledgerAfter c (before ++ (call.spawnManaged spawn ∷ [])))
 
 -- so many blocks of b samples are a samples or more
 abbrev pub roundedUp : ℕ → ℕ → ℕ
@@ -199,7 +187,7 @@ pub data Why (l l' : Ledger) (v : Voice) (f : Fade) : Call → Type 0 where
   timed : (e : Event) → In e (l .desk .events) → queue.due (deadline (l .desk)) e ≡ true → isFree (e .action) ≡ true → e .voice ≡ v .id → Why l l' v f call.render
   ended : clearing.ended (l .desk) (v .state) ≡ true → Why l l' v f call.clear
   silent : isSilent (l .desk .graph .nodes) v ≡ true → Why l l' v f call.clear
-  reclaimed : (def : SynthDef) (bus : NodeId) (pan : Float) → isOn bus v ≡ true → cutIfHeld (heldRecord (l' .desk .steals) (f .number)) ≡ true → Why l l' v f (call.spawnManaged def bus pan)
+  reclaimed : (x : Spawn) → isOn (x .bus) v ≡ true → cutIfHeld (heldRecord (l' .desk .steals) (f .number)) ≡ true → Why l l' v f (call.spawnManaged x)
 
 -- a fade of the bus that has the record k, among the voices vs and not among the voices vs' after them
 pub record Reclaimed (vs vs' : List Voice) (bus : NodeId) (k : ℕ) : Type 0 where
@@ -297,7 +285,7 @@ pub record Claim (c : Config) (m : Model) (xs : List Call) : Type 0 where
   -- exactly when these are at least L over block, rounded up.
   pub ends : (v : Voice) → In v (ledgerAfter c xs .voices) → (f : Fade) → v .state ≡ Fading f
       → (s : Stolen c xs v f)
-      × ((clearing.ended (ledgerAfter c xs .desk) (v .state) ≡ true) ↔ (roundedUp (fadeLength (c .rate)) (c .block) ≤ soundings (s .after) (ledgerAfter c (s .before ++ (call.spawnManaged (s .def) (s .bus) (s .pan) ∷ [])))))
+      × ((clearing.ended (ledgerAfter c xs .desk) (v .state) ≡ true) ↔ (roundedUp (fadeLength (c .rate)) (c .block) ≤ soundings (s .after) (ledgerAfter c (s .before ++ (call.spawnManaged (s .spawn) ∷ [])))))
   -- The next clearing call has removed it; what is left are the voices whose fade has not ended and, of these, whose plan is not
   -- silent; it answers how many it removed.
   pub removes : (v : Voice) → In v (ledgerAfter c xs .voices) → clearing.ended (ledgerAfter c xs .desk) (v .state) ≡ true → find (isVoice (v .id)) (step call.clear (ledgerAfter c xs) .ledger .voices) ≡ none
@@ -312,11 +300,11 @@ pub record Claim (c : Config) (m : Model) (xs : List Call) : Type 0 where
   -- marked, and then the fade that has it was on this bus and went in this call; and one record is written for each voice that was
   -- tracked and is not any more: both numbers together rise by one if the newcomer is let in, else not.
   pub quiet : (x : Call) → isManaged x ≡ false → step x (ledgerAfter c xs) .ledger .desk .steals ≡ ledgerAfter c xs .desk .steals
-  pub marks : (def : SynthDef) (bus : NodeId) (pan : Float) (k : ℕ) → k < ledgerAfter c xs .desk .steals .count
-      → Fate (ledgerAfter c xs .desk .steals) (step (call.spawnManaged def bus pan) (ledgerAfter c xs) .ledger .desk .steals)
-      (Reclaimed (ledgerAfter c xs .voices) (step (call.spawnManaged def bus pan) (ledgerAfter c xs) .ledger .voices) bus k) k
-  pub writes : (n : ℕ) → c .budget ≡ AtMost n → (def : SynthDef) (bus : NodeId) (pan : Float) (a : Spawned) → step (call.spawnManaged def bus pan) (ledgerAfter c xs) .answer ≡ call.spawned a
-      → step (call.spawnManaged def bus pan) (ledgerAfter c xs) .ledger .desk .steals .count + count tracks (step (call.spawnManaged def bus pan) (ledgerAfter c xs) .ledger .voices)
+  pub marks : (x : Spawn) (k : ℕ) → k < ledgerAfter c xs .desk .steals .count
+      → Fate (ledgerAfter c xs .desk .steals) (step (call.spawnManaged x) (ledgerAfter c xs) .ledger .desk .steals)
+      (Reclaimed (ledgerAfter c xs .voices) (step (call.spawnManaged x) (ledgerAfter c xs) .ledger .voices) (x .bus) k) k
+  pub writes : (n : ℕ) → c .budget ≡ AtMost n → (x : Spawn) (a : Spawned) → step (call.spawnManaged x) (ledgerAfter c xs) .answer ≡ call.spawned a
+      → step (call.spawnManaged x) (ledgerAfter c xs) .ledger .desk .steals .count + count tracks (step (call.spawnManaged x) (ledgerAfter c xs) .ledger .voices)
       ≡ more (isLet a) (ledgerAfter c xs .desk .steals .count + count tracks (ledgerAfter c xs .voices))
   -- Each fade has a record of its own: its number was written, and no other fade has it.
   pub numbers : (v : Voice) → In v (ledgerAfter c xs .voices) → (f : Fade) → v .state ≡ Fading f → f .number < ledgerAfter c xs .desk .steals .count
@@ -325,12 +313,12 @@ pub record Claim (c : Config) (m : Model) (xs : List Call) : Type 0 where
   -- tracked, stolen or reclaimed.
   pub budget : (n : ℕ) → c .budget ≡ AtMost n → (bus : NodeId) → count (counted (c .scope) bus) (ledgerAfter c xs .voices) ≤ n
   pub loose : c .budget ≡ Unlimited → AllLoose (ledgerAfter c xs)
-  pub stay : c .budget ≡ Unlimited → (def : SynthDef) (bus : NodeId) (pan : Float) (v : Voice) → In v (ledgerAfter c xs .voices) → In v (step (call.spawnManaged def bus pan) (ledgerAfter c xs) .ledger .voices)
+  pub stay : c .budget ≡ Unlimited → (x : Spawn) (v : Voice) → In v (ledgerAfter c xs .voices) → In v (step (call.spawnManaged x) (ledgerAfter c xs) .ledger .voices)
   -- ---- 5. With a budget above 0 and a policy that steals, a managed spawn that the table does not refuse (definition and bus, headroom, ids
   -- left) is refused exactly when every port of its bus is held by a node of no tracked or fading voice of that bus, and with 12; else
   -- it answers the next voice id.
-  pub spawns : (n : ℕ) → c .budget ≡ AtMost (suc n) → Stealing (c .policy) → (def : SynthDef) (bus : NodeId) (pan : Float) → spawnRefusal (ledgerAfter c xs .desk) (ledgerAfter c xs .voices) def bus ≡ none
-      → step (call.spawnManaged def bus pan) (ledgerAfter c xs) .answer ≡ call.spawned (spawnAnswer bus (ledgerAfter c xs))
+  pub spawns : (n : ℕ) → c .budget ≡ AtMost (suc n) → Stealing (c .policy) → (x : Spawn) → spawnRefusal (ledgerAfter c xs .desk) (ledgerAfter c xs .voices) (x .def) (x .bus) ≡ none
+      → step (call.spawnManaged x) (ledgerAfter c xs) .answer ≡ call.spawned (spawnAnswer (x .bus) (ledgerAfter c xs))
   -- ---- The tables hold it: 512 nodes, 1,024 edges, 64 voices, 256 events, and the newest 64 records.
   pub room : Room 0 0 0 (ledgerAfter c xs)
   pub records : Newest (ledgerAfter c xs .desk .steals)

@@ -26,7 +26,7 @@ use Rattle.store.specs.declared.voices.VoiceState.the-variants.{Tracked, Loose}
 use Rattle.model.specs.Desk.{Desk, newDesk, withGraph, withSteals}
 use Rattle.model.specs.Voice.{isVoice, candidates, counted, beginFade}
 use Rattle.model.specs.Refuse.{spawnRefusal}
-use Rattle.model.specs.Spawn.{landDesk, newcomer, nextVoice, stateUnder, tries, fadeDesk, fadeOf, reclaimBook, nextOut}
+use Rattle.model.specs.Spawn.{landDesk, newcomer, nextVoice, stateUnder, tries, fadeDesk, fadeOf, reclaimBook, nextOut, Spawn, pans}
 use Rattle.ledger.specs.Holder.{Holders, nobody, voice, isHeld, byVoice, hold, dropVoice}
 
 pub record Ledger : Type 0 where
@@ -124,12 +124,13 @@ abbrev pub unless : Option Refusal → Ledger → Landed → Landed
 unless none l r = r
 unless (some n) l r = refused n l
 
-abbrev pub spawnManaged : SynthDef → NodeId → Bool → Ledger → Landed
-spawnManaged def bus pan l = unless (spawnRefusal (l .desk) (l .voices) def bus) l (admitted (admissionOn bus l) def pan bus l)
+abbrev pub spawnManaged : Spawn → Ledger → Landed
+spawnManaged x l =
+    unless (spawnRefusal (l .desk) (l .voices) (x .def) (x .bus)) l (admitted (admissionOn (x .bus) l) (x .def) (pans (x .pan)) (x .bus) l)
 
 -- "Unmanaged: the port search alone; the newcomer takes id and port likewise and is loose. No port: 12."
-abbrev pub spawnLoose : SynthDef → NodeId → Bool → Ledger → Landed
-spawnLoose def bus pan l = unless (spawnRefusal (l .desk) (l .voices) def bus) l (place 0 def pan Loose bus l)
+abbrev pub spawnLoose : Spawn → Ledger → Landed
+spawnLoose x l = unless (spawnRefusal (l .desk) (l .voices) (x .def) (x .bus)) l (place 0 (x .def) (pans (x .pan)) Loose (x .bus) l)
 
 -- ---- "Free, called or by event: the voice goes."
 abbrev pub freed : Option Voice → Ledger → Ledger

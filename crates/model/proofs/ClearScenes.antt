@@ -29,7 +29,7 @@ twice = after (upTo 1 Oldest) (host 2 ∷ sink 0 ∷ spawn 0 ∷ spawn 0 ∷ cal
 -- 32 is short of L, 48 is past it; a clearing that removes nothing leaves the graph prepared, one that removes a voice does not.
 -- Refuses: rounding L over block down; a fade that is removed by the render; a clearing that does nothing, or all.
 ends-at-L :
-    asked (call.clear ∷ call.render ∷ call.clear ∷ call.clear ∷ call.position (voice 1) ∷ call.edges ∷ call.render ∷ []) twice
+    asked (call.clear ∷ call.render ∷ call.clear ∷ call.clear ∷ call.ask (call.position (voice 1)) ∷ call.ask call.edges ∷ call.render ∷ []) twice
     ≡ removed 0 ∷ sounding ∷ removed 1 ∷ removed 0 ∷ reached none ∷ wires (edge 3 0 1 ∷ []) ∷ silent ∷ []
 unfolding eq silencePassThrough rules prepare processingOrder lacking lacks any liveIds liveNodes risingFrom whole order walk released fed among count-up settled
 ends-at-L = refl
@@ -46,7 +46,7 @@ exact calls =
     (after (record { rate = 400; block = 1; budget = AtMost 1; policy = Oldest; scope = Global }) (host 2 ∷ sink 0 ∷ spawn 0 ∷ spawn 0 ∷ call.prepare ∷ []))
 
 to-the-sample :
-    exact (call.render ∷ call.clear ∷ call.render ∷ call.position (voice 1) ∷ call.clear ∷ [])
+    exact (call.render ∷ call.clear ∷ call.render ∷ call.ask (call.position (voice 1)) ∷ call.clear ∷ [])
     ≡ sounding ∷ removed 0 ∷ sounding ∷ reached (some 2) ∷ removed 1 ∷ []
 unfolding eq silencePassThrough rules prepare processingOrder lacking lacks any liveIds liveNodes risingFrom whole order walk released fed among count-up settled
 to-the-sample = refl

@@ -34,6 +34,7 @@ use Rattle.model.specs.Model.{Model}
 use Rattle.model.specs.Call.{Call, done, refused, ordered, rendered, time}
 use Rattle.model.specs.Call as call
 use Rattle.model.specs.Scene.{upTo, plain, float, voice, host, sink, wire, spawn, free, timedFree, spawned, sounding, silent, after, asked, further, seen, voices, fading}
+use Rattle.model.specs.Spawn.{spawnOf}
 
 -- ---- a definition of two nodes, the output takes values, the other one glides. `cut` is the first's, and again the second's;
 -- `gate` is the first's
@@ -66,7 +67,7 @@ abbrev last : ℕ → Model → Option LastOrder
 last k m = mapO (λ n. n .last) (nodeAt (m .desk .graph .nodes) (id k))
 
 abbrev key : List Call → Model
-key calls = after (upTo 2 Oldest) (host 2 ∷ sink 0 ∷ call.spawnManaged keyDef (id 0) (float 0) ∷ call.prepare ∷ calls)
+key calls = after (upTo 2 Oldest) (host 2 ∷ sink 0 ∷ call.spawnManaged (spawnOf keyDef (id 0) (float 0)) ∷ call.prepare ∷ calls)
 
 -- ---- "answers yes and becomes the node's last order if the voice is known, has the parameter, and its node takes that sort; else
 -- it answers no and changes nothing"; "Of two parameters of one name the first counts", also where its node refuses the order; a
@@ -128,14 +129,14 @@ unknown-free = (refl, refl)
 abbrev cyclic : List Call → Model
 cyclic calls =
     after (upTo 2 Oldest)
-    (host 4 ∷ sink 0 ∷ call.spawnManaged keyDef (id 0) (float 0) ∷ spawn 0 ∷ spawn 0 ∷ host 1 ∷ wire 6 6 0 ∷ timedFree 4 1 ∷ timedFree 5 9 ∷ calls)
+    (host 4 ∷ sink 0 ∷ call.spawnManaged (spawnOf keyDef (id 0) (float 0)) ∷ spawn 0 ∷ spawn 0 ∷ host 1 ∷ wire 6 6 0 ∷ timedFree 4 1 ∷ timedFree 5 9 ∷ calls)
 
 failed-prepare :
-    (asked (call.render ∷ call.clock ∷ []) (cyclic []) ≡ rendered (Rendered.Unprepared Cycle) ∷ time 16 ∷ [])
+    (asked (call.render ∷ call.ask call.clock ∷ []) (cyclic []) ≡ rendered (Rendered.Unprepared Cycle) ∷ time 16 ∷ [])
     × (voices (cyclic []) ≡ seen 1 0 (fading 4 0 0 0) ∷ seen 2 1 Tracked ∷ seen 3 2 Tracked ∷ [])
     × (voices (cyclic (spawn 0 ∷ call.render ∷ [])) ≡ seen 2 1 (fading 7 0 0 1) ∷ seen 3 2 Tracked ∷ seen 4 3 Tracked ∷ [])
     × (cyclic (call.render ∷ []) .desk .events ≡ [])
-    × (asked (call.render ∷ call.clock ∷ []) (after (upTo 2 Oldest) (call.addNode (bytes "Fx") 1 1 false false ∷ timedFree 5 9 ∷ []))
+    × (asked (call.render ∷ call.ask call.clock ∷ []) (after (upTo 2 Oldest) (call.addNode (bytes "Fx") 1 1 false false ∷ timedFree 5 9 ∷ []))
     ≡ rendered (Rendered.Unprepared RequiredPort) ∷ time 16 ∷ [])
 unfolding eq prepare processingOrder lacking lacks any liveIds liveNodes risingFrom whole order walk released fed among count-up
 failed-prepare = (refl, refl, refl, refl, refl)
@@ -175,7 +176,7 @@ end =
     }
 
 clock-end :
-    (asked (call.render ∷ call.clock ∷ call.render ∷ call.clock ∷ []) end
+    (asked (call.render ∷ call.ask call.clock ∷ call.render ∷ call.ask call.clock ∷ []) end
     ≡ sounding ∷ time 18446744073709551615 ∷ rendered (Rendered.Refused ClockEnd) ∷ time 18446744073709551615 ∷ [])
     × (length (further (call.render ∷ call.render ∷ []) end .desk .events) ≡ 1)
     × (voices (further (call.render ∷ []) end) ≡ [])

@@ -93,7 +93,7 @@ given (taken t deadline n) = taken t deadline (length (takenBefore deadline (eve
 given (third-prepare l) = third-prepare (map (λ (k : NodeId). k .0) (page .model .desk .graph .order))
 given (prints t) = prints (paper.page (page .model .desk .clock) (page .model .voices))
 given (cleared a l) = cleared (asked (call.clear ∷ []) (further twoMore (page .model))) (ids (further (call.clear ∷ []) (further twoMore (page .model))))
-given (block xs a) = block xs (asked (call.level (voice 1) ∷ []) (heard xs))
+given (block xs a) = block xs (asked (call.ask (call.level (voice 1)) ∷ []) (heard xs))
 given (stolen xs l) = stolen xs (map (λ v. isFading (v .state)) (full xs .voices))
 given (freed t l) = freed t (ids (timed t))
 

@@ -16,6 +16,7 @@ use Rattle.model.specs.Model.{Model}
 use Rattle.model.specs.Call.{done, known, refused}
 use Rattle.model.specs.Call as call
 use Rattle.model.specs.Scene.{small, toneDef, float, voice, host, spawn, free, sounds, spawned, silent, after, asked}
+use Rattle.model.specs.Spawn.{spawnOf}
 
 -- Voice 1 is born at 1. Reported before the clock has passed its birth, its level is none all the same; without a report it is 0 once the
 -- clock has moved, by a silent render alone; then that of the last report; a voice that is gone, or never was, has none.
@@ -24,16 +25,16 @@ abbrev lone : Model
 lone = after (small 1 Oldest) (host 1 ∷ call.render ∷ [])
 
 levels :
-    (asked (spawn 0 ∷ call.level (voice 1) ∷ call.render ∷ call.level (voice 1) ∷ sounds 1 3 ∷ call.level (voice 1) ∷ sounds 1 1 ∷ call.level (voice 1) ∷ []) lone
+    (asked (spawn 0 ∷ call.ask (call.level (voice 1)) ∷ call.render ∷ call.ask (call.level (voice 1)) ∷ sounds 1 3 ∷ call.ask (call.level (voice 1)) ∷ sounds 1 1 ∷ call.ask (call.level (voice 1)) ∷ []) lone
     ≡ spawned 1 ∷ known Unknown ∷ silent ∷ known (Known (float 0)) ∷ done ∷ known (Known (float 3)) ∷ done ∷ known (Known (float 1)) ∷ [])
-    × (asked (spawn 0 ∷ sounds 1 3 ∷ call.level (voice 1) ∷ call.render ∷ call.level (voice 1) ∷ free 1 ∷ call.level (voice 1) ∷ call.level (voice 2) ∷ []) lone
+    × (asked (spawn 0 ∷ sounds 1 3 ∷ call.ask (call.level (voice 1)) ∷ call.render ∷ call.ask (call.level (voice 1)) ∷ free 1 ∷ call.ask (call.level (voice 1)) ∷ call.ask (call.level (voice 2)) ∷ []) lone
     ≡ spawned 1 ∷ done ∷ known Unknown ∷ silent ∷ known (Known (float 3)) ∷ done ∷ known Unknown ∷ known Unknown ∷ [])
 unfolding eq levelOf squares rootOf sqrt narrow add mul div ofInt ofBits whole order walk released fed among count-up
 levels = (refl, refl)
 
 -- "channel by channel": the block of two channels, 1 and 7, has the level 5. Refuses: the first channel alone; the sum of levels.
 stereo :
-    asked (call.report (id 1) 2 (float 1 ∷ float 7 ∷ []) false ∷ call.level (voice 1) ∷ []) (after (small 1 Oldest) (host 1 ∷ spawn 0 ∷ call.render ∷ []))
+    asked (call.report (id 1) 2 (float 1 ∷ float 7 ∷ []) false ∷ call.ask (call.level (voice 1)) ∷ []) (after (small 1 Oldest) (host 1 ∷ spawn 0 ∷ call.render ∷ []))
     ≡ done ∷ known (Known (float 5)) ∷ []
 unfolding eq levelOf squares rootOf sqrt narrow add mul div ofInt ofBits whole order walk released fed among count-up
 stereo = refl
@@ -42,10 +43,10 @@ stereo = refl
 -- the fade node of a voice take no report, also with a wrong block; a host node does; an unknown node and a gone one do not.
 -- Voice 1: node 1, constant 2, pan 3; then its fade 4, and voice 2 with node 5. Refuses: 16 before 4; the pan node's level.
 abbrev panned : Model
-panned = after (small 1 Oldest) (host 2 ∷ call.spawnManaged toneDef (id 0) nan ∷ call.render ∷ [])
+panned = after (small 1 Oldest) (host 2 ∷ call.spawnManaged (spawnOf toneDef (id 0) nan) ∷ call.render ∷ [])
 
 reports :
-    (asked (sounds 1 3 ∷ sounds 0 1 ∷ call.level (voice 1) ∷ sounds 2 1 ∷ sounds 3 1 ∷ []) panned
+    (asked (sounds 1 3 ∷ sounds 0 1 ∷ call.ask (call.level (voice 1)) ∷ sounds 2 1 ∷ sounds 3 1 ∷ []) panned
     ≡ done ∷ done ∷ known (Known (float 3)) ∷ refused UnknownNode ∷ refused UnknownNode ∷ [])
     × (asked (spawn 0 ∷ sounds 1 1 ∷ sounds 4 1 ∷ sounds 5 1 ∷ sounds 6 1 ∷ call.report (id 4) 3 [] false ∷ free 1 ∷ sounds 1 1 ∷ []) panned
     ≡ spawned 2 ∷ done ∷ refused UnknownNode ∷ done ∷ refused UnknownNode ∷ refused UnknownNode ∷ done ∷ refused UnknownNode ∷ [])

@@ -9,7 +9,6 @@ use mathlib.Core.Option.{Option, none, some}
 use mathlib.Core.Bool.{Bool, true, false, not, _&&_, true≢false}
 use lib.Dec.{eqb}
 use lib.ListN.{length}
-use lib.Ieee.{Float}
 use borrow.Author.Tests.{eq-eqb}
 use Rattle.lists.specs.Member.{In, some-inj, none-some}
 use Rattle.lists.specs.Keep.{keep}
@@ -36,8 +35,8 @@ use Rattle.store.specs.declared.voices.VoiceState.the-variants.{Tracked, Loose}
 use Rattle.model.specs.Desk.{Desk}
 use Rattle.model.specs.Voice.{isVoice, feeder, candidates, trackedOn, fadesOn}
 use Rattle.model.specs.Refuse.{spawnRefusal}
-use Rattle.model.specs.Spawn.{pans, tries, stateUnder, voiceOf, noLater, earlier, earliest, elseVictim, nextOut}
-use Rattle.model.specs.Model.{Model, cutOff, stealVoice, portFree, landOr, place, settle, stealThen, admitted, admissionOn}
+use Rattle.model.specs.Spawn.{pans, tries, stateUnder, voiceOf, noLater, earlier, earliest, elseVictim, nextOut, Spawn}
+use Rattle.model.specs.Model.{Model, cutOff, stealVoice, portFree, landOr, place, settle, stealThen, admitted, admissionOn, Landed}
 use Rattle.model.specs.Model as store
 use Rattle.model.specs.Call.{step}
 use Rattle.model.specs.Call as call
@@ -156,11 +155,14 @@ module _ (def : SynthDef) (pan : Bool) (bus : NodeId) (r : Refusal) where
       go (some v) e = subst (λ (b : Budget). Exhausted b bus (settle def pan bus (stealVoice v m) .model)) (same v (portFrom (m .desk .graph .edges) (feeder v) (v .bus)))
           (settle-exhausted (stealVoice v m) e)
 
-pub no-port-exhausts : (def : SynthDef) (bus : NodeId) (pan : Float) (m : Model) → step (call.spawnManaged def bus pan) m .answer ≡ call.spawned (Spawned.Refused NoPort)
-    → Exhausted (m .desk .config .budget) bus (step (call.spawnManaged def bus pan) m .model)
-no-port-exhausts def bus pan m h = go (spawnRefusal (m .desk) (m .voices) def bus) (spawn-not (m .desk) (m .voices) def bus) (ap refusalIn h)
+pub no-port-exhausts : (x : Spawn) (m : Model) → step (call.spawnManaged x) m .answer ≡ call.spawned (Spawned.Refused NoPort)
+    → Exhausted (m .desk .config .budget) (x .bus) (step (call.spawnManaged x) m .model)
+no-port-exhausts x m h = go (spawnRefusal (m .desk) (m .voices) (x .def) (x .bus)) (spawn-not (m .desk) (m .voices) (x .def) (x .bus)) (ap refusalIn h)
   where
-    go : (o : Option Refusal) → is12 o ≡ false → notSpawned (store.unless o m (admitted (admissionOn bus m) def (pans pan) bus m) .answer) ≡ some NoPort
-        → Exhausted (m .desk .config .budget) bus (store.unless o m (admitted (admissionOn bus m) def (pans pan) bus m) .model)
+    admits : Landed
+    admits = admitted (admissionOn (x .bus) m) (x .def) (pans (x .pan)) (x .bus) m
+
+    go : (o : Option Refusal) → is12 o ≡ false → notSpawned (store.unless o m admits .answer) ≡ some NoPort → Exhausted (m .desk .config .budget) (x .bus) (store.unless o m admits .model)
     go (some q) n e = let z : true ≡ false = sym (ap (λ x. eqb (numberOf x) 12) (some-inj e)) ∙ n in absurd (true≢false z)
-    go none n e = admitted-exhausted def (pans pan) bus NoPort (admissionOn bus m) m e (λ p. let z : _≡_ {A = ℕ} 0 1 = cc in absurd (omega arith))
+    go none n e =
+        admitted-exhausted (x .def) (pans (x .pan)) (x .bus) NoPort (admissionOn (x .bus) m) m e (λ p. let z : _≡_ {A = ℕ} 0 1 = cc in absurd (omega arith))

@@ -57,7 +57,7 @@ page-order = refl
 
 -- "Two more renders and a clearing call: it removes voice 1 and answers 1." After one more, at 32 of 40, it removes nobody.
 page-clear :
-    (asked (call.render ∷ call.clear ∷ call.render ∷ call.position (voice 1) ∷ call.clear ∷ []) (page .model)
+    (asked (call.render ∷ call.clear ∷ call.render ∷ call.ask (call.position (voice 1)) ∷ call.clear ∷ []) (page .model)
     ≡ sounding ∷ removed 0 ∷ sounding ∷ reached (some 48) ∷ removed 1 ∷ [])
     × (voices (further (call.render ∷ call.render ∷ call.clear ∷ []) (page .model)) ≡ seen 2 1 Tracked ∷ seen 3 2 Tracked ∷ [])
 unfolding page eq silencePassThrough rules prepare processingOrder lacking lacks any liveIds liveNodes risingFrom whole order walk released fed among count-up settled

@@ -28,6 +28,7 @@ use Rattle.model.specs.Make.{refusalOf}
 use Rattle.model.specs.Call.{Call}
 use Rattle.model.specs.Call as call
 use Rattle.model.specs.Scene.{upTo, plain, toneDef, float, host, sink, wire, unwire, spawn, spawnLoose, after, asked, edge}
+use Rattle.model.specs.Spawn.{spawnOf}
 use Rattle.model.proofs.Refused.{refusalIn}
 
 abbrev numbers : List Call → Model → List (Option ℕ)
@@ -133,10 +134,10 @@ tones n =
     }
 
 abbrev managed : SynthDef → ℕ → Call
-managed def b = call.spawnManaged def (id b) (float 0)
+managed def b = call.spawnManaged (spawnOf def (id b) (float 0))
 
 abbrev loose : SynthDef → ℕ → Call
-loose def b = call.spawnLoose def (id b) (float 0)
+loose def b = call.spawnLoose (spawnOf def (id b) (float 0))
 
 -- 9 before 4: 25 nodes, 0 nodes, 24 nodes; 4 before 10: the unknown and the dead have no ports either; 5 before 10: the voice's node has
 -- none; 10. Refuses: 4 first; 10 first.

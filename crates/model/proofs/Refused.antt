@@ -32,8 +32,8 @@ use Rattle.store.specs.declared.voices.VoiceState.the-variants.{Loose}
 use Rattle.model.specs.Desk.{Desk, sounding}
 use Rattle.model.specs.Voice.{isVoice}
 use Rattle.model.specs.Refuse.{orElse, noHeadroom, noIds, spawnRefusal, reportRefusal}
-use Rattle.model.specs.Spawn.{pans, tries, stateUnder, nextOut}
-use Rattle.model.specs.Model.{Model, cutOff, stealVoice, portFree, landOr, place, stealThen, admitted, admissionOn}
+use Rattle.model.specs.Spawn.{pans, tries, stateUnder, nextOut, Spawn}
+use Rattle.model.specs.Model.{Model, cutOff, stealVoice, portFree, landOr, place, stealThen, admitted, admissionOn, Landed}
 use Rattle.model.specs.Model as store
 use Rattle.model.specs.Render.{prepareOutcome, prepareDesk, readyDesk, heard, answerAfter, preparedIf, anyFree, due, rested, happenAll, clockEnds, render}
 use Rattle.model.specs.Call.{Call, Answer, Step, unless, step, readyAnswer, scheduleRefusal}
@@ -61,6 +61,7 @@ refusalIn (call.rendered a) = notRendered a
 refusalIn (call.known l) = none
 refusalIn (call.reached p) = none
 refusalIn (call.found v) = none
+refusalIn (call.foundNode n) = none
 refusalIn (call.all vs) = none
 refusalIn (call.stolen b) = none
 refusalIn (call.wires es) = none
@@ -100,8 +101,8 @@ leftByNoPort (call.removeNode k) m = m
 leftByNoPort (call.connect a b p) m = m
 leftByNoPort (call.disconnect b p) m = m
 leftByNoPort (call.setSink k) m = m
-leftByNoPort (call.spawnManaged def bus pan) m = allReclaims bus (admissionLeaves (admissionOn bus m) m)
-leftByNoPort (call.spawnLoose def bus pan) m = m
+leftByNoPort (call.spawnManaged x) m = allReclaims (x .bus) (admissionLeaves (admissionOn (x .bus) m) m)
+leftByNoPort (call.spawnLoose x) m = m
 leftByNoPort (call.free w) m = m
 leftByNoPort call.clear m = m
 leftByNoPort (call.order w name o) m = m
@@ -109,16 +110,7 @@ leftByNoPort (call.schedule t w name a) m = m
 leftByNoPort (call.report k channels samples flag) m = m
 leftByNoPort call.prepare m = m
 leftByNoPort call.render m = m
-leftByNoPort (call.level w) m = m
-leftByNoPort (call.position w) m = m
-leftByNoPort (call.voice w) m = m
-leftByNoPort call.voices m = m
-leftByNoPort call.steals m = m
-leftByNoPort call.edges m = m
-leftByNoPort call.processing m = m
-leftByNoPort (call.sources k) m = m
-leftByNoPort call.clock m = m
-leftByNoPort (call.page out) m = m
+leftByNoPort (call.ask q) m = m
 
 -- nothing changed, or with 12 that
 abbrev pub left : Refusal → Call → Model → Model
@@ -219,23 +211,25 @@ same-left r m k e = go (eqb (numberOf r) 12)
     go true = e
     go false = e
 
-managed-left : (def : SynthDef) (bus : NodeId) (pan : Bool) (m : Model) (r : Refusal) → notSpawned (store.spawnManaged def bus pan m .answer) ≡ some r
-    → store.spawnManaged def bus pan m .model ≡ cond (eqb (numberOf r) 12) (allReclaims bus (admissionLeaves (admissionOn bus m) m)) m
-managed-left def bus pan m r h = go (spawnRefusal (m .desk) (m .voices) def bus) (spawn-not (m .desk) (m .voices) def bus) h
+managed-left : (x : Spawn) (m : Model) (r : Refusal) → notSpawned (store.spawnManaged x m .answer) ≡ some r
+    → store.spawnManaged x m .model ≡ cond (eqb (numberOf r) 12) (allReclaims (x .bus) (admissionLeaves (admissionOn (x .bus) m) m)) m
+managed-left x m r h = go (spawnRefusal (m .desk) (m .voices) (x .def) (x .bus)) (spawn-not (m .desk) (m .voices) (x .def) (x .bus)) h
   where
-    go : (o : Option Refusal) → is12 o ≡ false → notSpawned (store.unless o m (admitted (admissionOn bus m) def pan bus m) .answer) ≡ some r
-        → store.unless o m (admitted (admissionOn bus m) def pan bus m) .model ≡ cond (eqb (numberOf r) 12) (allReclaims bus (admissionLeaves (admissionOn bus m) m)) m
-    go (some q) n e = let s : q ≡ r = some-inj e in let t : eqb (numberOf r) 12 ≡ false = ap (λ x. eqb (numberOf x) 12) (sym s) ∙ n in rw t
-    go none n e = ⊎-elim (λ p. rw (p .0) (p .1)) (λ p. rw (p .0) (p .1)) (admitted-left def pan bus m (admissionOn bus m) r e)
+    admits : Landed
+    admits = admitted (admissionOn (x .bus) m) (x .def) (pans (x .pan)) (x .bus) m
 
-loose-left : (def : SynthDef) (bus : NodeId) (pan : Bool) (m : Model) (r : Refusal) → notSpawned (store.spawnLoose def bus pan m .answer) ≡ some r
-    → store.spawnLoose def bus pan m .model ≡ m
-loose-left def bus pan m r h = go (spawnRefusal (m .desk) (m .voices) def bus) h
+    go : (o : Option Refusal) → is12 o ≡ false → notSpawned (store.unless o m admits .answer) ≡ some r
+        → store.unless o m admits .model ≡ cond (eqb (numberOf r) 12) (allReclaims (x .bus) (admissionLeaves (admissionOn (x .bus) m) m)) m
+    go (some q) n e = let s : q ≡ r = some-inj e in let t : eqb (numberOf r) 12 ≡ false = ap (λ x. eqb (numberOf x) 12) (sym s) ∙ n in rw t
+    go none n e = ⊎-elim (λ p. rw (p .0) (p .1)) (λ p. rw (p .0) (p .1)) (admitted-left (x .def) (pans (x .pan)) (x .bus) m (admissionOn (x .bus) m) r e)
+
+loose-left : (x : Spawn) (m : Model) (r : Refusal) → notSpawned (store.spawnLoose x m .answer) ≡ some r → store.spawnLoose x m .model ≡ m
+loose-left x m r h = go (spawnRefusal (m .desk) (m .voices) (x .def) (x .bus)) h
   where
-    go : (o : Option Refusal) → notSpawned (store.unless o m (place 0 def pan Loose bus m) .answer) ≡ some r
-        → store.unless o m (place 0 def pan Loose bus m) .model ≡ m
+    go : (o : Option Refusal) → notSpawned (store.unless o m (place 0 (x .def) (pans (x .pan)) Loose (x .bus) m) .answer) ≡ some r
+        → store.unless o m (place 0 (x .def) (pans (x .pan)) Loose (x .bus) m) .model ≡ m
     go (some q) e = refl
-    go none e = place-left def pan Loose bus 0 m r e .1
+    go none e = place-left (x .def) (pans (x .pan)) Loose (x .bus) 0 m r e .1
 
 -- whatever the call and the model: a refused call leaves the model as it was, and 12 the steals and reclaims made
 pub refused-leaves : (c : Call) (m : Model) (r : Refusal) → refusalIn (step c m .answer) ≡ some r → step c m .model ≡ left r c m
@@ -244,8 +238,8 @@ refused-leaves (call.removeNode k) m r h = same-left r m _ (unless-left (hostRef
 refused-leaves (call.connect a b p) m r h = same-left r m _ (unless-left (connectRefusal (m .desk .graph) a b p) m _ r refl h)
 refused-leaves (call.disconnect b p) m r h = same-left r m _ (unless-left (disconnectRefusal (m .desk .graph) b p) m _ r refl h)
 refused-leaves (call.setSink k) m r h = same-left r m _ (unless-left (hostRefusal (m .desk .graph) k) m _ r refl h)
-refused-leaves (call.spawnManaged def bus pan) m r h = managed-left def bus (pans pan) m r h
-refused-leaves (call.spawnLoose def bus pan) m r h = same-left r m _ (loose-left def bus (pans pan) m r h)
+refused-leaves (call.spawnManaged x) m r h = managed-left x m r h
+refused-leaves (call.spawnLoose x) m r h = same-left r m _ (loose-left x m r h)
 refused-leaves (call.free w) m r h = absurd (none-some h)
 refused-leaves call.clear m r h = absurd (none-some h)
 refused-leaves (call.order w name o) m r h = absurd (none-some h)
@@ -255,16 +249,7 @@ refused-leaves (call.report k channels samples flag) m r h =
 refused-leaves call.prepare m r h =
     same-left r m _ (ap (λ d. record { desk = d; voices = m .voices }) (ready-left (prepareOutcome (m .desk) .answer) (prepareOutcome (m .desk) .order) (m .desk) r h))
 refused-leaves call.render m r h = same-left r m _ (render-left m r h)
-refused-leaves (call.level w) m r h = absurd (none-some h)
-refused-leaves (call.position w) m r h = absurd (none-some h)
-refused-leaves (call.voice w) m r h = absurd (none-some h)
-refused-leaves call.voices m r h = absurd (none-some h)
-refused-leaves call.steals m r h = absurd (none-some h)
-refused-leaves call.edges m r h = absurd (none-some h)
-refused-leaves call.processing m r h = absurd (none-some h)
-refused-leaves (call.sources k) m r h = absurd (none-some h)
-refused-leaves call.clock m r h = absurd (none-some h)
-refused-leaves (call.page out) m r h = same-left r m _ refl
+refused-leaves (call.ask q) m r h = same-left r m _ refl
 
 -- the two halves: any number but 12, and 12
 pub refused-same : (c : Call) (m : Model) (r : Refusal) → refusalIn (step c m .answer) ≡ some r → eqb (numberOf r) 12 ≡ false → step c m .model ≡ m

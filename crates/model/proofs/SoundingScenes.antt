@@ -23,7 +23,7 @@ use Rattle.model.specs.Scene.{upTo, host, sink, wire, unwire, spawn, spa
 -- Refuses: prepared alone; a sink alone; a new store that is prepared; a sink that leaves it prepared; a clock that stops.
 when-sounding :
     asked
-    (call.render ∷ call.prepare ∷ call.render ∷ sink 0 ∷ call.render ∷ call.prepare ∷ call.render ∷ sink 0 ∷ call.render ∷ call.clock ∷ [])
+    (call.render ∷ call.prepare ∷ call.render ∷ sink 0 ∷ call.render ∷ call.prepare ∷ call.render ∷ sink 0 ∷ call.render ∷ call.ask call.clock ∷ [])
     (after (upTo 1 Oldest) (host 1 ∷ []))
     ≡ silent ∷ done ∷ silent ∷ done ∷ silent ∷ done ∷ sounding ∷ done ∷ silent ∷ time 80 ∷ []
 unfolding prepare processingOrder lacking lacks any liveIds liveNodes risingFrom whole order walk released fed among count-up
@@ -70,8 +70,8 @@ no-sink = (refl, refl)
 -- Refuses: counting silent renders in a fade; a fade that stops at L; a fade that moves at its steal; one that never moves.
 moves :
     asked
-    (call.position (voice 1) ∷ call.render ∷ call.position (voice 1) ∷ call.prepare ∷ call.render ∷ call.position (voice 1)
-    ∷ call.render ∷ call.render ∷ call.render ∷ call.position (voice 1) ∷ call.position (voice 2) ∷ call.position (voice 9) ∷ [])
+    (call.ask (call.position (voice 1)) ∷ call.render ∷ call.ask (call.position (voice 1)) ∷ call.prepare ∷ call.render ∷ call.ask (call.position (voice 1))
+    ∷ call.render ∷ call.render ∷ call.render ∷ call.ask (call.position (voice 1)) ∷ call.ask (call.position (voice 2)) ∷ call.ask (call.position (voice 9)) ∷ [])
     (after (upTo 1 Oldest) (host 2 ∷ sink 0 ∷ spawn 0 ∷ spawn 0 ∷ []))
     ≡ reached (some 0) ∷ silent ∷ reached (some 0) ∷ done ∷ sounding ∷ reached (some 16)
     ∷ sounding ∷ sounding ∷ sounding ∷ reached (some 64) ∷ reached none ∷ reached none ∷ []
@@ -81,7 +81,7 @@ moves = refl
 -- "All live nodes are processed": a fade whose port the host has taken moves too. Refuses: fades that move only if they reach
 -- the sink.
 unconnected-moves :
-    asked (wire 1 0 0 ∷ call.prepare ∷ call.render ∷ call.position (voice 1) ∷ [])
+    asked (wire 1 0 0 ∷ call.prepare ∷ call.render ∷ call.ask (call.position (voice 1)) ∷ [])
     (after (upTo 1 Oldest) (host 2 ∷ host 0 ∷ sink 0 ∷ spawn 0 ∷ spawn 0 ∷ []))
     ≡ done ∷ done ∷ sounding ∷ reached (some 16) ∷ []
 unfolding eq prepare processingOrder lacking lacks any liveIds liveNodes risingFrom whole order walk released fed among count-up
@@ -90,7 +90,7 @@ unconnected-moves = refl
 -- ---- a prepare that fails keeps the old order and leaves the graph unprepared; a healed graph prepares.
 -- Refuses: an order that is cleared; a graph that stays prepared.
 failing :
-    asked (wire 0 0 1 ∷ call.prepare ∷ call.processing ∷ call.render ∷ unwire 0 1 ∷ call.prepare ∷ call.render ∷ []) ready
+    asked (wire 0 0 1 ∷ call.prepare ∷ call.ask call.processing ∷ call.render ∷ unwire 0 1 ∷ call.prepare ∷ call.render ∷ []) ready
     ≡ done ∷ refused Cycle ∷ inOrder (1 ∷ 0 ∷ []) ∷ silent ∷ done ∷ done ∷ sounding ∷ []
 unfolding prepare processingOrder lacking lacks any liveIds liveNodes risingFrom whole order walk released fed among count-up
 failing = refl
@@ -106,7 +106,7 @@ required-first = refl
 -- Two edges from 0 to 1, the one to 2 between them: 1 is queued at its last edge. The edge to port 0 put anew goes to the end.
 -- Refuses: a target queued at its first edge; an edge put anew that keeps its place.
 edge-order :
-    asked (call.prepare ∷ call.processing ∷ unwire 1 1 ∷ call.prepare ∷ call.processing ∷ wire 0 1 0 ∷ call.edges ∷ call.prepare ∷ call.processing ∷ [])
+    asked (call.prepare ∷ call.ask call.processing ∷ unwire 1 1 ∷ call.prepare ∷ call.ask call.processing ∷ wire 0 1 0 ∷ call.ask call.edges ∷ call.prepare ∷ call.ask call.processing ∷ [])
     (after (upTo 1 Oldest) (host 0 ∷ host 2 ∷ host 1 ∷ wire 0 1 0 ∷ wire 0 2 0 ∷ wire 0 1 1 ∷ []))
     ≡ done ∷ inOrder (0 ∷ 2 ∷ 1 ∷ []) ∷ done ∷ done ∷ inOrder (0 ∷ 1 ∷ 2 ∷ [])
     ∷ done ∷ wires (edge 0 2 0 ∷ edge 0 1 0 ∷ []) ∷ done ∷ inOrder (0 ∷ 2 ∷ 1 ∷ []) ∷ []

@@ -31,6 +31,7 @@ use Rattle.model.specs.Make.{newModel}
 use Rattle.model.specs.Call.{fed, stolen, found}
 use Rattle.model.specs.Call as call
 use Rattle.model.specs.Scene.{upTo, plain, toneDef, host, wire, spawn, spawnLoose, free, voice, notSpawned, after, asked, further, edge, seen, voices, fading}
+use Rattle.model.specs.Spawn.{spawnOf}
 
 -- ---- a definition of three nodes. Its edges: 0 to port 0 of 2, 1 to port 1 of 2, 1 to port 0 of 2, which counts
 abbrev mix : DefNode
@@ -78,7 +79,7 @@ nodes m = map (λ n. record { id = n .id .0; owner = n .owner .0; kind = n .kind
 -- Refuses: the fade after the newcomer's nodes; the pan node before the constant; an edge of the definition that does not count;
 -- a fade that takes another port than the victim's.
 abbrev panned : Model
-panned = after (upTo 1 Oldest) (host 2 ∷ spawn 0 ∷ call.spawnManaged threeDef (id 0) nan ∷ [])
+panned = after (upTo 1 Oldest) (host 2 ∷ spawn 0 ∷ call.spawnManaged (spawnOf threeDef (id 0) nan) ∷ [])
 
 created :
     (nodes panned ≡
@@ -90,7 +91,7 @@ created = (refl, refl)
 
 -- As the reading calls give it: what feeds each of 64 ports, the records, an unknown voice. Refuses: ports by edge order.
 read :
-    asked (call.sources (id 0) ∷ call.sources (id 5) ∷ call.steals ∷ call.voice (voice 3) ∷ []) panned
+    asked (call.ask (call.sources (id 0)) ∷ call.ask (call.sources (id 5)) ∷ call.ask call.steals ∷ call.ask (call.voice (voice 3)) ∷ []) panned
     ≡ fed (From (id 2) ∷ From (id 7) ∷ replicate 62 Nothing) ∷ fed (From (id 4) ∷ From (id 4) ∷ replicate 62 Nothing)
     ∷ stolen (record { count = 1; newest = recordOf 0 Unknown false ∷ [] }) ∷ found none ∷ []
 unfolding eq whole order walk released rank.fed among count-up sourcesFrom
@@ -98,14 +99,14 @@ read = refl
 
 -- The pan node feeds the bus, so the fade of a panned voice stands behind it. Refuses: a fade behind the output node.
 behind-pan :
-    further (spawn 0 ∷ []) (after (upTo 1 Oldest) (host 2 ∷ call.spawnManaged toneDef (id 0) nan ∷ [])) .desk .graph .edges
+    further (spawn 0 ∷ []) (after (upTo 1 Oldest) (host 2 ∷ call.spawnManaged (spawnOf toneDef (id 0) nan) ∷ [])) .desk .graph .edges
     ≡ edge 1 3 0 ∷ edge 2 3 1 ∷ edge 3 4 0 ∷ edge 4 0 0 ∷ edge 5 0 1 ∷ []
 unfolding eq whole order walk released rank.fed among count-up
 behind-pan = refl
 
 -- ---- "Pan is left out for +0 and -0; NaN pans", and so does every other number
 abbrev nextAfter : Float → ℕ
-nextAfter pan = after (upTo 1 Oldest) (host 1 ∷ call.spawnManaged toneDef (id 0) pan ∷ []) .desk .graph .next
+nextAfter pan = after (upTo 1 Oldest) (host 1 ∷ call.spawnManaged (spawnOf toneDef (id 0) pan) ∷ []) .desk .graph .next
 
 pans-when : (nextAfter (fin false 0 (pos 0)) ≡ 2) × (nextAfter (fin true 0 (pos 0)) ≡ 2) × (nextAfter nan ≡ 4) × (nextAfter (fin true 1 (pos 0)) ≡ 4)
 unfolding eq whole order walk released rank.fed among count-up

@@ -4,13 +4,14 @@ use Prim.Native.Nat.{ℕ}
 use mathlib.Core.List.{List, [], _∷_}
 use mathlib.Core.Option.{Option, none, some}
 use mathlib.Core.Bool.{Bool, cond}
-use lib.ListN.{length}
+use lib.ListN.{length, getElem?}
 use lib.Dec.{leb}
 use lib.Ieee.{Float}
 use Rattle.lists.specs.Find.{find}
 use Rattle.node.specs.Name.{nameOf}
 use Rattle.node.specs.declared.order.Action.{Action}
 use Rattle.node.specs.declared.order.LastOrder.{LastOrder}
+use Rattle.node.specs.declared.record.Node.{Node}
 use Rattle.node.specs.declared.record.NodeId.{NodeId}
 use Rattle.node.specs.declared.record.VoiceId.{VoiceId}
 use Rattle.node.specs.declared.record.Edge.{Edge}
@@ -27,7 +28,6 @@ use Rattle.scheduler.specs.Queue.{full, inserted}
 use Rattle.scheduler.specs.declared.event.Event.{Event}
 use Rattle.voice.specs.Steals.{Book}
 use Rattle.voice.specs.declared.policy.Level.{Level}
-use Rattle.synthdef.specs.declared.def.SynthDef.{SynthDef}
 use Rattle.store.specs.declared.answer.Outcome.{Outcome}
 use Rattle.store.specs.declared.answer.Spawned.{Spawned}
 use Rattle.store.specs.declared.answer.Rendered.{Rendered}
@@ -38,7 +38,7 @@ use Rattle.node.specs.declared.refusal.Refusal.the-variants.{TableFull, ShortBu
 use Rattle.model.specs.Desk.{Desk, withGraph, withEvents}
 use Rattle.model.specs.Voice.{isVoice, levelOr}
 use Rattle.model.specs.Refuse.{reportRefusal}
-use Rattle.model.specs.Spawn.{pans}
+use Rattle.model.specs.Spawn.{Spawn}
 use Rattle.model.specs.Model.{Model}
 use Rattle.model.specs.Model as store
 use Rattle.model.specs.Order.{reportNode}
@@ -49,15 +49,35 @@ use Rattle.model.specs.Written.{written}
 use Rattle.model.specs.Render.{prepareOutcome, prepareDesk}
 use Rattle.model.specs.Render as rendering
 
--- names and kinds come as lent bytes of any length, samples as a lent block
+-- ---- what can be read: questions, which change nothing
+pub data Question : Type 0 where
+  -- of a voice by its id: its level, the position of its fade, its record
+  level : VoiceId → Question
+  position : VoiceId → Question
+  voice : VoiceId → Question
+  -- the voice at a place in voice order; all voices
+  voiceAt : ℕ → Question
+  voices : Question
+  steals : Question
+  edges : Question
+  -- the processing order of the last prepare
+  processing : Question
+  -- what feeds each port of a node; the node's record
+  sources : NodeId → Question
+  nodeRecord : NodeId → Question
+  clock : Question
+  -- the page into a lent buffer, which holds these bytes
+  page : List ℕ → Question
+
+-- ---- the calls. Names and kinds come as lent bytes of any length, samples as a lent block
 pub data Call : Type 0 where
   addNode : List ℕ → ℕ → ℕ → Bool → Bool → Call
   removeNode : NodeId → Call
   connect : NodeId → NodeId → ℕ → Call
   disconnect : NodeId → ℕ → Call
   setSink : NodeId → Call
-  spawnManaged : SynthDef → NodeId → Float → Call
-  spawnLoose : SynthDef → NodeId → Float → Call
+  spawnManaged : Spawn → Call
+  spawnLoose : Spawn → Call
   free : VoiceId → Call
   clear : Call
   -- a value or a glide
@@ -66,18 +86,7 @@ pub data Call : Type 0 where
   report : NodeId → ℕ → List Float → Bool → Call
   prepare : Call
   render : Call
-  -- reading calls
-  level : VoiceId → Call
-  position : VoiceId → Call
-  voice : VoiceId → Call
-  voices : Call
-  steals : Call
-  edges : Call
-  processing : Call
-  sources : NodeId → Call
-  clock : Call
-  -- into a lent buffer, which holds these bytes
-  page : List ℕ → Call
+  ask : Question → Call
 
 pub data Answer : Type 0 where
   done : Answer
@@ -90,6 +99,7 @@ pub data Answer : Type 0 where
   known : Level → Answer
   reached : Option ℕ → Answer
   found : Option Voice → Answer
+  foundNode : Option Node → Answer
   all : List Voice → Answer
   stolen : Book → Answer
   wires : List Edge → Answer
@@ -142,6 +152,20 @@ scheduleRefusal q = when (full q) TableFull none
 abbrev pub pageAnswer : List ℕ → List ℕ → Answer
 pageAnswer text out = cond (leb (length text) (length out)) (printed (length text) (written text out)) (refused ShortBuffer)
 
+abbrev pub answerTo : Question → Model → Answer
+answerTo (level w) m = known (levelOr (m .desk) (find (isVoice w) (m .voices)))
+answerTo (position w) m = reached (positionIn (find (isVoice w) (m .voices)))
+answerTo (voice w) m = found (find (isVoice w) (m .voices))
+answerTo (voiceAt i) m = found (getElem? (m .voices) i)
+answerTo voices m = all (m .voices)
+answerTo steals m = stolen (m .desk .steals)
+answerTo edges m = wires (m .desk .graph .edges)
+answerTo processing m = inOrder (m .desk .graph .order)
+answerTo (sources k) m = fed (ports.sources (m .desk .graph .edges) k)
+answerTo (nodeRecord k) m = foundNode (nodeAt (m .desk .graph .nodes) k)
+answerTo clock m = time (m .desk .clock)
+answerTo (page out) m = pageAnswer (paper.page (m .desk .clock) (m .voices)) out
+
 abbrev pub step : Call → Model → Step
 step (addNode kind ports required values glides) m =
     unless (addRefusal (m .desk .graph) kind ports required) m
@@ -150,11 +174,11 @@ step (removeNode k) m = unless (hostRefusal (m .desk .graph) k) m (graphStep m (
 step (connect a b p) m = unless (connectRefusal (m .desk .graph) a b p) m (graphStep m (change.connect (m .desk .graph) a b p) done)
 step (disconnect b p) m = unless (disconnectRefusal (m .desk .graph) b p) m (graphStep m (change.disconnect (m .desk .graph) b p) done)
 step (setSink k) m = unless (hostRefusal (m .desk .graph) k) m (graphStep m (change.setSink (m .desk .graph) k) done)
-step (spawnManaged def bus pan) m =
-    let l = store.spawnManaged def bus (pans pan) m in
+step (spawnManaged x) m =
+    let l = store.spawnManaged x m in
     record { answer = spawned (l .answer); model = l .model }
-step (spawnLoose def bus pan) m =
-    let l = store.spawnLoose def bus (pans pan) m in
+step (spawnLoose x) m =
+    let l = store.spawnLoose x m in
     record { answer = spawned (l .answer); model = l .model }
 step (free w) m = record { answer = done; model = store.free w m }
 step clear m =
@@ -172,16 +196,7 @@ step prepare m = deskStep m (prepareDesk (m .desk)) (readyAnswer (prepareOutcome
 step render m =
     let h = rendering.render m in
     record { answer = rendered (h .answer); model = h .model }
-step (level w) m = reads m (known (levelOr (m .desk) (find (isVoice w) (m .voices))))
-step (position w) m = reads m (reached (positionIn (find (isVoice w) (m .voices))))
-step (voice w) m = reads m (found (find (isVoice w) (m .voices)))
-step voices m = reads m (all (m .voices))
-step steals m = reads m (stolen (m .desk .steals))
-step edges m = reads m (wires (m .desk .graph .edges))
-step processing m = reads m (inOrder (m .desk .graph .order))
-step (sources k) m = reads m (fed (ports.sources (m .desk .graph .edges) k))
-step clock m = reads m (time (m .desk .clock))
-step (page out) m = reads m (pageAnswer (paper.page (m .desk .clock) (m .voices)) out)
+step (ask q) m = reads m (answerTo q m)
 
 -- ---- a list of calls
 pub record Ran : Type 0 where

@@ -24,7 +24,7 @@ use Rattle.store.specs.declared.voices.VoiceState.the-variants.{Tracked, Loose}
 use Rattle.model.specs.Desk.{Desk, withGraph, withSteals}
 use Rattle.model.specs.Voice.{isVoice, feeder, candidates, counted, beginFade}
 use Rattle.model.specs.Refuse.{spawnRefusal}
-use Rattle.model.specs.Spawn.{landDesk, newcomer, nextVoice, stateUnder, tries, fadeDesk, fadeOf, reclaimBook, nextOut}
+use Rattle.model.specs.Spawn.{landDesk, newcomer, nextVoice, stateUnder, tries, fadeDesk, fadeOf, reclaimBook, nextOut, Spawn, pans}
 
 pub record Model : Type 0 where
   pub desk : Desk
@@ -110,12 +110,13 @@ unless none m r = r
 unless (some n) m r = refused n m
 
 -- `spawn_voice_on_bus_panned_managed`: the refusals of the table, then "admission; a victim ...; then the lowest port ..."
-abbrev pub spawnManaged : SynthDef → NodeId → Bool → Model → Landed
-spawnManaged def bus pan m = unless (spawnRefusal (m .desk) (m .voices) def bus) m (admitted (admissionOn bus m) def pan bus m)
+abbrev pub spawnManaged : Spawn → Model → Landed
+spawnManaged x m =
+    unless (spawnRefusal (m .desk) (m .voices) (x .def) (x .bus)) m (admitted (admissionOn (x .bus) m) (x .def) (pans (x .pan)) (x .bus) m)
 
 -- `spawn_voice_on_bus_panned`: "the port search alone; the newcomer ... is loose. No port: 12."
-abbrev pub spawnLoose : SynthDef → NodeId → Bool → Model → Landed
-spawnLoose def bus pan m = unless (spawnRefusal (m .desk) (m .voices) def bus) m (place 0 def pan Loose bus m)
+abbrev pub spawnLoose : Spawn → Model → Landed
+spawnLoose x m = unless (spawnRefusal (m .desk) (m .voices) (x .def) (x .bus)) m (place 0 (x .def) (pans (x .pan)) Loose (x .bus) m)
 
 -- ---- "A free of an unknown voice does nothing."
 abbrev pub freed : Option Voice → Model → Model

@@ -30,6 +30,7 @@ use Rattle.model.specs.Model.{Model}
 use Rattle.model.specs.Make.{newModel}
 use Rattle.model.specs.Call.{Call, Answer, run}
 use Rattle.model.specs.Call as call
+use Rattle.model.specs.Spawn.{spawnOf}
 
 -- ---- stores: rate 8000, so that L is 40; block 16
 abbrev pub config : Budget → StealPolicy → BudgetScope → Config
@@ -90,10 +91,10 @@ unwire b p = call.disconnect (id b) p
 
 -- a managed and an unmanaged spawn of a `Tone`, not panned
 abbrev pub spawn : ℕ → Call
-spawn b = call.spawnManaged toneDef (id b) (float 0)
+spawn b = call.spawnManaged (spawnOf toneDef (id b) (float 0))
 
 abbrev pub spawnLoose : ℕ → Call
-spawnLoose b = call.spawnLoose toneDef (id b) (float 0)
+spawnLoose b = call.spawnLoose (spawnOf toneDef (id b) (float 0))
 
 abbrev pub free : ℕ → Call
 free w = call.free (voice w)

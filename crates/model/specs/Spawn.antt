@@ -35,6 +35,15 @@ use Rattle.store.specs.declared.voices.Fade.{Fade}
 use Rattle.model.specs.Desk.{Desk, withGraph, withSteals, oneMoreVoice}
 use Rattle.model.specs.Voice.{isVoice, startOf, id, feeder, voiceLevel, candidates, trackedOn, fadesOn, newFade}
 
+-- ---- the arguments of a spawn
+pub record Spawn : Type 0 where
+  pub def : SynthDef
+  pub bus : NodeId
+  pub pan : Float
+
+abbrev pub spawnOf : SynthDef → NodeId → Float → Spawn
+spawnOf def bus pan = record { def = def; bus = bus; pan = pan }
+
 -- ---- the nodes of a voice. Its done flag "is clear in a new node", and "before any report" its level is 0
 abbrev pub voiceNode : VoiceId → Name → ℕ → ℕ → Bool → Bool → Node
 voiceNode w kind ports required values glides =
@@ -64,9 +73,12 @@ panNode w = voiceNode w (name "Pan2") 2 1 false false
 abbrev pub fadeNode : VoiceId → Node
 fadeNode w = voiceNode w (name "StealFade") 1 1 false false
 
--- "Pan is left out for +0 and -0; NaN pans."
+-- "Pan is left out for +0 and -0; NaN pans." A spawn in the middle "has pan 0"
+abbrev pub middle : Float
+middle = fin false 0 (pos 0)
+
 abbrev pub pans : Float → Bool
-pans x = not (eq x (fin false 0 (pos 0)))
+pans x = not (eq x middle)
 
 -- the definition's nodes, then the constant, then the pan node
 abbrev pub voiceNodes : VoiceId → SynthDef → Bool → List Node

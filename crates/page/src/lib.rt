@@ -26,7 +26,7 @@ fn all_or_none(n: usize, room: usize) -> usize
 
 // The page in `out`, and its length; or 17 where `out` is too short, and then `out` stays as it is.
 pub fn page(s: Store, out: &mut [u8]) -> Paged
-    ensures is { λ r. ⌜ call.reads (modelOf s) (pagedOf r (now (out .exit))) ≡ call.step (call.page (now (out .entry))) (modelOf s) ⌝ }
+    ensures is { λ r. ⌜ call.reads (modelOf s) (pagedOf r (now (out .exit))) ≡ call.step (call.ask (call.page (now (out .entry)))) (modelOf s) ⌝ }
     ensures same { λ r. ⌜ ((x : refusal.Refusal) → r ≡ paged.Refused x → now (out .exit) ≡ now (out .entry)) ⌝ }
 {
     let mut text = [0u8; 4501];

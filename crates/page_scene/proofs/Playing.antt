@@ -3,22 +3,18 @@ use Prim.Native.Nat.{ℕ, zero, suc, _+_}
 use native.Mathlib.Numerals.{add-one}
 use mathlib.Core.Path.{_≡_, refl, sym, ap, _∙_}
 use mathlib.Core.List.{List, [], _∷_, _++_}
-use mathlib.Core.Bool.{Bool, false}
 use lib.ListN.{replicate}
-use lib.Ieee.{eq, ofBits, binary32}
+use lib.Ieee.{ofBits, binary32}
 use Rattle.bus.specs.Rate.{rateOf}
-use Rattle.node.specs.declared.record.NodeId.{NodeId}
-use Rattle.synthdef.specs.declared.def.SynthDef.{SynthDef}
 use Rattle.voice.specs.declared.policy.Budget.{Budget}
 use Rattle.voice.specs.declared.policy.StealPolicy.{StealPolicy}
 use Rattle.voice.specs.declared.policy.BudgetScope.{BudgetScope}
-use Rattle.model.specs.Spawn.{pans}
-use Rattle.model.specs.Model.{Model, Landed, spawnManaged}
+use Rattle.model.specs.Model.{Model}
 use Rattle.model.specs.Make.{configOf}
 use Rattle.model.specs.Call.{Call, Answer, Step, step, pageAnswer}
 use Rattle.model.specs.Call as call
 use Rattle.model.specs.Page.{page}
-use Rattle.model.specs.Scene.{config, float, further, printed}
+use Rattle.model.specs.Scene.{config, further, printed}
 use Rattle.making.specs.Made.{making}
 use Rattle.page_scene.specs.Played.{played, played-page}
 use Rattle.page_scene.specs.Stores.{timed, waiting}
@@ -35,14 +31,6 @@ pub three-turns : (o t : List Call) (m a b c d : Model) → a ≡ further o m �
 three-turns o t m a b c d e f g h =
     h ∙ ap (further t) (g ∙ ap (further t) (f ∙ ap (further t) e))
     ∙ sym (further-both o (t ++ (t ++ t)) m ∙ further-both t (t ++ t) (further o m) ∙ further-both t t (further t (further o m)))
-
--- a spawn in the middle has pan 0
-flat : pans (float 0) ≡ false
-unfolding eq
-flat = refl
-
-pub spawn-step : (def : SynthDef) (bus : NodeId) (m : Model) (l : Landed) → l ≡ spawnManaged def bus false m → l .model ≡ step (call.spawnManaged def bus (float 0)) m .model
-spawn-step def bus m l e = ap (λ (x : Landed). x .model) e ∙ ap (λ (b : Bool). spawnManaged def bus b m .model) (sym flat)
 
 -- a rate of 8000, as the code writes it
 pub config-is : (b : Budget) (p : StealPolicy) (s : BudgetScope) → configOf (making (ofBits binary32 0x45fa0000) 16 b p s) ≡ config b p s
@@ -67,7 +55,7 @@ pub so-many-wait : (i n : ℕ) (m end : Model) → i ≡ n → end ≡ further (
 so-many-wait i n m end e f = f ∙ ap (λ (k : ℕ). further (waiting k) m) e
 
 -- the page of the scene
-pub page-is : (s : Model) (a : Answer) (out : List ℕ) → call.reads s a ≡ step (call.page out) s → s ≡ played .model → a ≡ pageAnswer printed out
+pub page-is : (s : Model) (a : Answer) (out : List ℕ) → call.reads s a ≡ step (call.ask (call.page out)) s → s ≡ played .model → a ≡ pageAnswer printed out
 page-is s a out e f =
     ap (λ (x : Step). x .answer) e
     ∙ ap (λ (m : Model). pageAnswer (page (m .desk .clock) (m .voices)) out) f

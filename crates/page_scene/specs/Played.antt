@@ -18,6 +18,7 @@ use Rattle.model.specs.Call.{Call, Ran, run}
 use Rattle.model.specs.Call as call
 use Rattle.model.specs.Page.{page}
 use Rattle.model.specs.Scene.{plain, float, host, sink, pageConfig, printed}
+use Rattle.model.specs.Spawn.{spawnOf}
 
 -- a one-node definition `Tone`. Rows past a count are no part of it.
 abbrev pub tone : SynthDef
@@ -33,7 +34,7 @@ abbrev pub opening : List Call
 opening = host 3 ∷ sink 0 ∷ []
 
 abbrev pub turn : List Call
-turn = call.spawnManaged tone (id 0) (float 0) ∷ call.prepare ∷ call.render ∷ []
+turn = call.spawnManaged (spawnOf tone (id 0) (float 0)) ∷ call.prepare ∷ call.render ∷ []
 
 abbrev pub sceneCalls : List Call
 sceneCalls = opening ++ (turn ++ (turn ++ turn))

@@ -4,16 +4,13 @@ use Prim.Native.Nat.{ℕ}
 use mathlib.Core.Path.{_≡_, refl, ap, _∙_}
 use mathlib.Core.List.{List, [], _∷_}
 use mathlib.Core.Option.{some}
-use lib.Ieee.{Float}
-use Rattle.node.specs.declared.record.NodeId.{NodeId}
-use Rattle.synthdef.specs.declared.def.SynthDef.{SynthDef}
 use Rattle.store.specs.declared.state.Store.{Store}
 use Rattle.store.specs.declared.answer.Paged.{Paged}
 use Rattle.model.specs.Make.{Making, make, configOf}
 use Rattle.model.specs.Model.{Model, spawnManaged, spawnLoose, free}
-use Rattle.model.specs.Spawn.{pans}
+use Rattle.model.specs.Spawn.{Spawn}
 use Rattle.model.specs.View.{modelOf}
-use Rattle.model.specs.Call.{Call, Answer, Step, Ran, step, run}
+use Rattle.model.specs.Call.{Call, Question, Answer, Step, Ran, step, run}
 use Rattle.model.specs.Call as call
 use Rattle.ledger.specs.Claim.{Claim}
 use Rattle.ledger.proofs.Claim.{claim}
@@ -41,13 +38,11 @@ abbrev pub Called : Call → Store → Answer → Store → Type 0
 Called c s a t = _≡_ {A = Step} (record { answer = a; model = modelOf t }) (step c (modelOf s))
 
 -- the contracts of the spawns say so
-pub managed-called : (s : Store) (def : SynthDef) (bus : NodeId) (pan : Float) (r : Landed) → landedOf r ≡ spawnManaged def bus (pans pan) (modelOf s)
-    → Called (call.spawnManaged def bus pan) s (call.spawned (r .answer)) (r .store)
-managed-called s def bus pan r e = ap (λ l. record { answer = call.spawned (l .answer); model = l .model }) e
+pub managed-called : (s : Store) (x : Spawn) (r : Landed) → landedOf r ≡ spawnManaged x (modelOf s) → Called (call.spawnManaged x) s (call.spawned (r .answer)) (r .store)
+managed-called s x r e = ap (λ l. record { answer = call.spawned (l .answer); model = l .model }) e
 
-pub loose-called : (s : Store) (def : SynthDef) (bus : NodeId) (pan : Float) (r : Landed) → landedOf r ≡ spawnLoose def bus (pans pan) (modelOf s)
-    → Called (call.spawnLoose def bus pan) s (call.spawned (r .answer)) (r .store)
-loose-called s def bus pan r e = ap (λ l. record { answer = call.spawned (l .answer); model = l .model }) e
+pub loose-called : (s : Store) (x : Spawn) (r : Landed) → landedOf r ≡ spawnLoose x (modelOf s) → Called (call.spawnLoose x) s (call.spawned (r .answer)) (r .store)
+loose-called s x r e = ap (λ l. record { answer = call.spawned (l .answer); model = l .model }) e
 
 -- the contracts of the other calls say it as they stand: those of the host's calls, of prepare, scheduling and a report
 pub granted-called : (c : Call) (s : Store) (r : Granted) → grantedOf r ≡ step c (modelOf s) → Called c s (given (r .given)) (r .store)
@@ -67,11 +62,12 @@ pub cleared-called : (c : Call) (s : Store) (r : Cleared) → clearing.stepOf r 
 cleared-called c s r e = e
 
 -- of the reading calls, which leave the very store
-pub read-called : (c : Call) (s : Store) (a : Answer) → call.reads (modelOf s) a ≡ step c (modelOf s) → Called c s a s
-read-called c s a e = e
+pub read-called : (q : Question) (s : Store) (a : Answer) → call.reads (modelOf s) a ≡ step (call.ask q) (modelOf s) → Called (call.ask q) s a s
+read-called q s a e = e
 
 -- of the page, which holds the buffer as the call found it and as the call left it
-pub page-called : (s : Store) (out after : List ℕ) (r : Paged) → call.reads (modelOf s) (pagedOf r after) ≡ step (call.page out) (modelOf s) → Called (call.page out) s (pagedOf r after) s
+pub page-called : (s : Store) (out after : List ℕ) (r : Paged) → call.reads (modelOf s) (pagedOf r after) ≡ step (call.ask (call.page out)) (modelOf s)
+    → Called (call.ask (call.page out)) s (pagedOf r after) s
 page-called s out after r e = e
 
 -- and of a free

@@ -1,15 +1,14 @@
 use mathlib.Core.Path.{refl, ap, _∙_}
 use mathlib.Core.List.{[], _∷_}
-use mathlib.Core.Bool.{false}
 use borrow.Author.Needs.{needs}
 use Rattle.model.specs.Voice.{id}
 use Rattle.model.specs.Model.{spawnManaged}
 use Rattle.model.specs.Call as call
 use Rattle.model.specs.View.{modelOf}
 use Rattle.model.specs.Scene.{float}
-use Rattle.engine.specs.Room.{landedOf}
+use Rattle.model.specs.Spawn.{spawnOf, middle}
 use Rattle.page_scene.specs.Played.{tone}
-use Rattle.page_scene.proofs.Playing.{and-then, spawn-step}
+use Rattle.page_scene.proofs.Playing.{and-then}
 use Rattle.page_scene.proofs.turn.Statement.{statement}
 use Rattle.page_scene.proofs.turn.Tie as tie
 
@@ -36,8 +35,8 @@ returns c =
     let more = modelOf (landed .result .store) in
     let ready = modelOf (served .result .store) in
     let end = modelOf (rendering .result .store) in
-    let spawned = landed .ensures .0 ∙ ap (λ d. spawnManaged d (id 0) false s) (def .ensures) in
-    and-then (call.spawnManaged tone (id 0) (float 0)) (call.prepare ∷ call.render ∷ []) s more end (spawn-step tone (id 0) s (landedOf (landed .result)) spawned)
+    let spawned = landed .ensures .0 ∙ ap (λ d. spawnManaged (spawnOf d (id 0) middle) s) (def .ensures) in
+    and-then (call.spawnManaged (spawnOf tone (id 0) (float 0))) (call.prepare ∷ call.render ∷ []) s more end (ap (λ l. l .model) spawned)
     (and-then call.prepare (call.render ∷ []) more ready end (ap (λ x. x .model) (served .ensures .0))
     (and-then call.render [] ready end end (ap (λ x. x .model) (rendering .ensures .0)) refl))
 
