@@ -1,1 +1,1 @@
-// Statements only: see specs/Tie.antt.
+// Statements only: see specs/Tie.antt, and proofs/Tied.antt for the theorem.
