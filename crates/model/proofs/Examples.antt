@@ -4,7 +4,7 @@ use mathlib.Core.Path.{_≡_, refl}
 use mathlib.Core.List.{List, [], _∷_, map}
 use mathlib.Core.Bool.{Bool, true, false}
 use lib.IntN.{pos}
-use lib.Ieee.{Float, fin, eq, lt, add, mul, div, ofInt, ofBits}
+use lib.Ieee.{Float, fin, eq, lt, le, add, mul, div, ofInt, ofBits}
 use lib.ListN.{length}
 use Rattle.bus.specs.Fade.{fadeLength}
 use Rattle.bus.specs.Noise.{exclusiveOr, seedOf}
@@ -43,7 +43,7 @@ pub data Row : Type 0 where
   level : List Float → Float → Row
   -- ● "Seed, sequence .., node ..: .."
   seed : ℕ → ℕ → ℕ → Row
-  -- ● "Levels .., .., ..: second voice goes"
+  -- ● levels in order of admission: by Paper 5 "in 01's example with 2, 1, 1 the third voice goes"
   quietest : List Float → Victim → Row
   -- ● "Events at .. with deadline ..": how many of one are taken
   taken : ℕ → ℕ → ℕ → Row
@@ -112,18 +112,18 @@ table =
     ∷ seed 0 0 0xDEADBEEF
     ∷ seed 0 1 0x5B467498
     ∷ seed 1 0 0x409AC756
-    ∷ quietest (two ∷ float 1 ∷ float 1 ∷ []) (Goes 1 (voice 2))
+    ∷ quietest (two ∷ float 1 ∷ float 1 ∷ []) (Goes 2 (voice 3))
     ∷ taken 64 64 0
     ∷ taken 63 64 1
     ∷ third-prepare (1 ∷ 2 ∷ 4 ∷ 3 ∷ 0 ∷ [])
     ∷ prints printed
     ∷ cleared (removed 1 ∷ []) (2 ∷ 3 ∷ [])
     ∷ block (float 1 ∷ float 7 ∷ []) (known (Known (float 5)) ∷ [])
-    ∷ stolen (two ∷ float 1 ∷ float 1 ∷ []) (false ∷ true ∷ false ∷ false ∷ [])
+    ∷ stolen (two ∷ float 1 ∷ float 1 ∷ []) (false ∷ false ∷ true ∷ false ∷ [])
     ∷ freed 64 (1 ∷ [])
     ∷ freed 63 []
     ∷ []
 
 pub right : map given table ≡ table
-unfolding given table page eq lt levelOf squares rootOf sqrt narrow add mul div ofInt ofBits seedOf exclusiveOr silencePassThrough rules prepare processingOrder lacking lacks any liveIds liveNodes risingFrom whole order walk released fed among count-up settled
+unfolding given table page eq lt le levelOf squares rootOf sqrt narrow add mul div ofInt ofBits seedOf exclusiveOr silencePassThrough rules prepare processingOrder lacking lacks any liveIds liveNodes risingFrom whole order walk released fed among count-up settled
 right = refl

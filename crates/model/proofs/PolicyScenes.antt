@@ -2,7 +2,7 @@
 use Prim.Native.Nat.{ℕ}
 use mathlib.Core.Path.{_≡_, refl}
 use mathlib.Core.List.{List, [], _∷_}
-use lib.Ieee.{eq, lt, add, mul, div, ofInt, ofBits}
+use lib.Ieee.{eq, lt, le, add, mul, div, ofInt, ofBits}
 use Rattle.level.specs.Root.{rootOf, sqrt}
 use Rattle.level.specs.Narrow.{narrow}
 use Rattle.level.specs.Level.{squares, levelOf}
@@ -34,14 +34,14 @@ by-age : (voices (two Oldest []) ≡ firstGoes) × (voices (two Newest []) ≡ s
 unfolding eq whole order walk released fed among count-up
 by-age = (refl, refl)
 
--- `Quietest`: the lower level; of equal ones the first; the level is known without a report, 0, once the clock has moved.
--- Refuses: the loudest; of equal ones the last; a level that is unknown before a report.
+-- `Quietest`: the lower level; of equal ones the last; the level is known without a report, 0, once the clock has moved.
+-- Refuses: the loudest; of equal ones the first; a level that is unknown before a report.
 by-level :
     (voices (two Quietest (sounds 1 3 ∷ sounds 2 1 ∷ [])) ≡ secondGoes)
     × (voices (two Quietest (sounds 1 1 ∷ sounds 2 3 ∷ [])) ≡ firstGoes)
-    × (voices (two Quietest (sounds 1 1 ∷ sounds 2 1 ∷ [])) ≡ firstGoes)
+    × (voices (two Quietest (sounds 1 1 ∷ sounds 2 1 ∷ [])) ≡ secondGoes)
     × (voices (two Quietest (sounds 1 1 ∷ [])) ≡ secondGoes)
-unfolding eq lt levelOf squares rootOf sqrt narrow add mul div ofInt ofBits whole order walk released fed among count-up
+unfolding eq lt le levelOf squares rootOf sqrt narrow add mul div ofInt ofBits whole order walk released fed among count-up
 by-level = (refl, refl, refl, refl)
 
 -- A voice whose birth the clock has not passed has no level: it is passed over, although it reports the lowest one; where no level
@@ -50,7 +50,7 @@ unborn :
     (voices (further (call.render ∷ spawn 0 ∷ sounds 1 3 ∷ sounds 2 1 ∷ spawn 0 ∷ []) (after (small 2 Quietest) (host 4 ∷ spawn 0 ∷ []))) ≡ firstGoes)
     × (voices (further (spawn 0 ∷ sounds 1 3 ∷ sounds 2 1 ∷ spawn 0 ∷ []) (after (small 2 Quietest) (host 4 ∷ spawn 0 ∷ [])))
     ≡ seen 1 0 (fading 3 0 0 0) ∷ seen 2 1 Tracked ∷ seen 3 2 Tracked ∷ [])
-unfolding eq lt levelOf squares rootOf sqrt narrow add mul div ofInt whole order walk released fed among count-up
+unfolding eq lt le levelOf squares rootOf sqrt narrow add mul div ofInt whole order walk released fed among count-up
 unborn = (refl, refl)
 
 -- Loose and fading voices neither count nor go: voice 3 is loose; voice 2 fades when voice 5 comes. Refuses: the last of all voices.

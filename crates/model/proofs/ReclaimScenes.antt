@@ -3,7 +3,7 @@ use Prim.Native.Nat.{ℕ}
 use mathlib.Core.Path.{_≡_, refl}
 use mathlib.Core.List.{List, [], _∷_, _++_}
 use mathlib.Core.Bool.{true, false}
-use lib.Ieee.{inf, eq, lt, add, mul, div, ofInt, ofBits, binary32}
+use lib.Ieee.{inf, eq, lt, le, add, mul, div, ofInt, ofBits, binary32}
 use Rattle.level.specs.Root.{rootOf, sqrt}
 use Rattle.level.specs.Narrow.{narrow}
 use Rattle.level.specs.Level.{squares, levelOf}
@@ -23,7 +23,7 @@ use Rattle.model.specs.Voice.{id}
 use Rattle.model.specs.Model.{Model}
 use Rattle.model.specs.Call.{Call}
 use Rattle.model.specs.Call as call
-use Rattle.model.specs.Scene.{config, upTo, small, float, host, sink, wire, spawn, spawnLoose, free, loud, spawned, notSpawned, after, asked, further, seen, voices, fading}
+use Rattle.model.specs.Scene.{config, upTo, small, float, host, sink, wire, spawn, spawnLoose, free, sounds, loud, spawned, notSpawned, after, asked, further, seen, voices, fading}
 
 abbrev book : ℕ → List StealRecord → Book
 book n l = record { count = n; newest = l }
@@ -71,14 +71,14 @@ cannot-fade = (refl, refl, refl, refl)
 -- Refuses: the first fading voice; the least or the greatest position; the latest-started.
 abbrev starts : Model
 starts =
-    after (small 2 Quietest) (host 4 ∷ spawn 0 ∷ spawn 0 ∷ call.render ∷ loud 1 ∷ spawn 0 ∷ call.render ∷ loud 4 ∷ spawn 0 ∷ [])
+    after (small 2 Quietest) (host 4 ∷ spawn 0 ∷ spawn 0 ∷ call.render ∷ sounds 1 3 ∷ spawn 0 ∷ call.render ∷ loud 4 ∷ spawn 0 ∷ [])
 
 earliest-first :
     (voices starts ≡ seen 1 0 (fading 5 2 0 1) ∷ seen 2 1 (fading 3 1 0 0) ∷ seen 3 2 Tracked ∷ seen 4 3 Tracked ∷ [])
     × (voices (further (spawn 0 ∷ []) starts) ≡ seen 1 0 (fading 5 2 0 1) ∷ seen 3 2 (fading 7 2 0 2) ∷ seen 4 3 Tracked ∷ seen 5 1 Tracked ∷ [])
     × (further (spawn 0 ∷ []) starts .desk .steals
-    ≡ book 3 (recordOf 1 (Known (float 0)) true ∷ recordOf 2 (Known (inf false)) false ∷ recordOf 2 (Known (inf false)) false ∷ []))
-unfolding eq lt levelOf squares rootOf sqrt narrow add mul div ofInt ofBits whole order walk released fed among count-up
+    ≡ book 3 (recordOf 1 (Known (float 0)) true ∷ recordOf 2 (Known (float 3)) false ∷ recordOf 2 (Known (inf false)) false ∷ []))
+unfolding eq lt le levelOf squares rootOf sqrt narrow add mul div ofInt ofBits whole order walk released fed among count-up
 earliest-first = (refl, refl, refl)
 
 -- Ties by voice order: voice 2 is stolen before voice 1, at the same clock; voice 1 goes first. Refuses: ties by record number.
@@ -91,7 +91,7 @@ ties-by-order :
     × (voices (further (spawn 0 ∷ []) ties) ≡ seen 2 1 (fading 3 1 0 0) ∷ seen 3 2 (fading 7 1 0 2) ∷ seen 4 3 Tracked ∷ seen 5 0 Tracked ∷ [])
     × (further (spawn 0 ∷ []) ties .desk .steals
     ≡ book 3 (recordOf 1 (Known (float 0)) false ∷ recordOf 1 (Known (inf false)) true ∷ recordOf 1 Unknown false ∷ []))
-unfolding eq lt levelOf squares rootOf sqrt narrow add mul div ofInt ofBits whole order walk released fed among count-up
+unfolding eq lt le levelOf squares rootOf sqrt narrow add mul div ofInt ofBits whole order walk released fed among count-up
 ties-by-order = (refl, refl, refl)
 
 -- ---- Without a fade on the bus the policy's victim among its tracked voices goes, with a cut record; those of another bus and
@@ -103,6 +103,11 @@ tracked-goes :
     × (voices (after (upTo 9 Newest) (host 2 ∷ spawn 0 ∷ spawn 0 ∷ spawn 0 ∷ [])) ≡ seen 1 0 Tracked ∷ seen 3 1 Tracked ∷ [])
 unfolding eq whole order walk released fed among count-up
 tracked-goes = (refl, refl, refl)
+
+-- The policy is asked here as it is at admission: of voices 1 and 2, equally quiet, the younger goes. Refuses: of equal levels the first.
+younger-goes : voices (after (small 9 Quietest) (host 2 ∷ spawn 0 ∷ spawn 0 ∷ call.render ∷ sounds 1 1 ∷ sounds 2 1 ∷ spawn 0 ∷ [])) ≡ seen 1 0 Tracked ∷ seen 3 1 Tracked ∷ []
+unfolding eq lt le levelOf squares rootOf sqrt narrow add mul div ofInt ofBits whole order walk released fed among count-up
+younger-goes = refl
 
 -- Fades of another bus are not reclaimed: voice 1 fades on bus 0; bus 1 has one port, which voice 2 holds. Refuses: any fade.
 other-bus :

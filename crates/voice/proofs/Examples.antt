@@ -1,11 +1,11 @@
--- The example of the scope, levels 2, 1, 1: the second voice goes; and the other sentences on the walk, in the same table.
+-- "In 01's example with 2, 1, 1 the third voice goes" (Paper 5), and the other sentences on the walk, in the same table.
 use Prim.Native.Nat.{ℕ, suc}
 use mathlib.Core.Path.{_≡_, refl}
 use mathlib.Core.List.{List, [], _∷_}
 use mathlib.Core.Bool.{Bool, true, false, _&&_}
 use lib.Dec.{eqb}
 use lib.IntN.{pos}
-use lib.Ieee.{nan, inf, fin, lt}
+use lib.Ieee.{nan, inf, fin, lt, eq, le}
 use Rattle.voice.specs.declared.policy.StealPolicy.{StealPolicy}
 use Rattle.voice.specs.declared.policy.StealPolicy.the-variants as policy
 use Rattle.voice.specs.declared.policy.Level.{Level}
@@ -35,12 +35,17 @@ minusZero = Known (fin true 0 (pos 0))
 
 abbrev pub table : List Row
 table =
-    record { rule = policy.Quietest; levels = two ∷ one ∷ one ∷ []; voice = 2 } ∷
+    record { rule = policy.Quietest; levels = two ∷ one ∷ one ∷ []; voice = 3 } ∷
+    record { rule = policy.Quietest; levels = one ∷ one ∷ two ∷ []; voice = 2 } ∷
     record { rule = policy.Quietest; levels = Known nan ∷ one ∷ []; voice = 1 } ∷
+    record { rule = policy.Quietest; levels = Known nan ∷ Known nan ∷ []; voice = 1 } ∷
     record { rule = policy.Quietest; levels = two ∷ Known nan ∷ one ∷ []; voice = 3 } ∷
+    record { rule = policy.Quietest; levels = one ∷ Known nan ∷ []; voice = 1 } ∷
+    record { rule = policy.Quietest; levels = one ∷ Unknown ∷ one ∷ Unknown ∷ []; voice = 3 } ∷
     record { rule = policy.Quietest; levels = Unknown ∷ two ∷ []; voice = 2 } ∷
     record { rule = policy.Quietest; levels = Unknown ∷ Unknown ∷ []; voice = 1 } ∷
-    record { rule = policy.Quietest; levels = plusZero ∷ minusZero ∷ []; voice = 1 } ∷
+    record { rule = policy.Quietest; levels = plusZero ∷ minusZero ∷ []; voice = 2 } ∷
+    record { rule = policy.Quietest; levels = minusZero ∷ plusZero ∷ []; voice = 2 } ∷
     record { rule = policy.Quietest; levels = Known (inf false) ∷ Known (inf true) ∷ []; voice = 2 } ∷
     record { rule = policy.Quietest; levels = []; voice = 0 } ∷
     record { rule = policy.Oldest; levels = two ∷ one ∷ one ∷ []; voice = 1 } ∷
@@ -63,5 +68,5 @@ right [] = true
 right (x ∷ l) = goes (victim (x .rule) (numbered 1 (x .levels))) (x .voice) && right l
 
 pub examples : right table ≡ true
-unfolding lt
+unfolding lt eq le
 examples = refl

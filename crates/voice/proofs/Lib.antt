@@ -5,3 +5,5 @@ pub mod Walk
 pub mod Admission
 pub mod Ring
 pub mod Records
+pub mod FloatOrder
+pub mod Quietest

@@ -1,2 +1,3 @@
 pub mod Policy
+pub mod Quietest
 pub mod Steals

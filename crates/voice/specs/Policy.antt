@@ -1,13 +1,14 @@
 -- Victim and admission: "Tracked voices stand in order of admission. At budget (all, or those of the bus under `PerGroup`)
 -- `pick_victim` decides: `Reject` none; `Oldest` first; `Newest` last; `Quietest` walks in order, takes the first known
--- level, then each strictly lower one. No level known: the oldest. A NaN met first is never displaced."
+-- level", and then, by Paper 5, "a level equal to the lowest so far takes its place. A NaN met first stays, and no known level
+-- still means the oldest."
 use Prim.Native.Nat.{ℕ, suc}
 use mathlib.Core.List.{List, [], _∷_}
 use mathlib.Core.Option.{Option, none, some}
 use mathlib.Core.Bool.{Bool, true, false, _&&_, cond}
 use lib.ListN.{length}
 use lib.Dec.{leb, eqb}
-use lib.Ieee.{Float, lt}
+use lib.Ieee.{Float, le}
 use Rattle.lists.specs.Table.{rowsOf}
 use Rattle.node.specs.Refusal.{numberOf}
 use Rattle.node.specs.declared.record.NodeId.{NodeId}
@@ -49,11 +50,12 @@ lastFrom p (c ∷ d ∷ l) = lastFrom (suc p) (d ∷ l)
 abbrev pub newest : List Candidate → Victim
 newest l = lastFrom 0 l
 
--- Whether the walk takes a level: the first known one, then each strictly lower one, by IEEE 754's comparison. Nothing is
--- below a NaN and a NaN is below nothing, so a NaN met first stays and one met later is passed over.
+-- Whether the walk takes a level: the first known one, then each that is lower than the lowest so far or equal to it, by
+-- IEEE 754's comparison: +0 and -0 are equal. Nothing is lower than a NaN or equal to it, nor is a NaN to anything, so a NaN
+-- met first stays and one met later is passed over.
 abbrev pub takes : Held → Float → Bool
 takes held.Nothing x = true
-takes (held.Taken place voice level) x = lt x level
+takes (held.Taken place voice level) x = le x level
 
 abbrev pub take? : Bool → Held → Held → Held
 take? true new old = new

@@ -97,7 +97,7 @@ fn takes_level(h: Held, x: f32) -> bool
             place: _,
             voice: _,
             level,
-        } => x < level,
+        } => x <= level,
     }
 }
 
