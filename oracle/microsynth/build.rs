@@ -1,10 +1,15 @@
-//! Copies the sources of microsynth into the build folder, unchanged, each followed by our accessors to its private
-//! state where `accessors/` has a file of its name, and writes the list of modules that `src/lib.rs` includes.
+//! Copies the sources of microsynth into the build folder, makes there the changes that the papers order (`../changes`, one
+//! patch each, by rising number), puts after each source our accessors to its private state where `accessors/` has a file
+//! of its name, and writes the list of modules that `src/lib.rs` includes.
+//!
+//! MICROSYNTH_SOURCES names another folder with the sources' `src/`. With MICROSYNTH_UNCHANGED in the environment no change
+//! is made.
 
 use std::env;
 use std::fmt::Write;
 use std::fs;
 use std::path::{Path, PathBuf};
+use std::process::Command;
 
 /// The modules of the crate's root.
 const ROOT: [&str; 9] = ["buffer", "context", "curve", "engine", "graph", "node", "scheduler", "synthdef", "voice"];
@@ -21,37 +26,75 @@ fn sources() -> PathBuf {
     }
 }
 
+/// The patches to be applied, in their order.
+fn changes() -> Vec<PathBuf> {
+    println!("cargo::rerun-if-env-changed=MICROSYNTH_UNCHANGED");
+    println!("cargo::rerun-if-changed=../changes");
+    if env::var_os("MICROSYNTH_UNCHANGED").is_some() {
+        return vec![];
+    }
+    let files = fs::read_dir("../changes").expect("oracle/changes can be read");
+    let mut patches: Vec<PathBuf> = files.map(|file| file.expect("oracle/changes can be read").path()).collect();
+    patches.sort();
+    patches
+}
+
 fn read(path: &Path) -> String {
     println!("cargo::rerun-if-changed={}", path.display());
     fs::read_to_string(path)
         .unwrap_or_else(|e| panic!("{}: {e} (MICROSYNTH_SOURCES names the folder that has src/)", path.display()))
 }
 
-/// Copies the module `file` of `src/` with its accessors, and answers the line that declares it.
-fn module(sources: &Path, out: &Path, file: &str, name: &str) -> String {
-    let mut text = read(&sources.join("src").join(file).with_extension("rs"));
+/// The file of a module, from the folder that has `src/`.
+fn file(module: &str) -> PathBuf {
+    Path::new("src").join(module).with_extension("rs")
+}
+
+/// Copies the modules, and changes the copy.
+fn copy(modules: &[String], changes: &[PathBuf], to: &Path) {
+    let sources = sources();
+    fs::create_dir_all(to.join("src/ugens")).expect("the build folder can be written");
+    for module in modules {
+        let file = file(module);
+        fs::write(to.join(&file), read(&sources.join(&file))).expect("the build folder can be written");
+    }
+    for change in changes {
+        let how = ["--silent", "--fuzz=0", "--no-backup-if-mismatch", "-p1", "-d"];
+        let patch = Command::new("patch").args(how).arg(to).arg("-i").arg(change.canonicalize().expect("it is there")).status();
+        assert!(patch.is_ok_and(|status| status.success()), "{} cannot be applied by patch", change.display());
+    }
+}
+
+/// Writes the module with its accessors into the build folder, and answers the line that declares it.
+fn module(copy: &Path, out: &Path, path: &str, name: &str) -> String {
+    let mut text = fs::read_to_string(copy.join(file(path))).expect("the module was copied");
     let accessors = Path::new("accessors").join(name).with_extension("rs");
     if accessors.exists() {
         text.push_str(&read(&accessors));
     }
-    let copy = out.join(name).with_extension("rs");
-    fs::write(&copy, text).expect("the build folder can be written");
-    format!("#[path = {copy:?}]\npub mod {name};\n")
+    let written = out.join(name).with_extension("rs");
+    fs::write(&written, text).expect("the build folder can be written");
+    format!("#[path = {written:?}]\npub mod {name};\n")
 }
 
 fn main() {
-    let sources = sources();
     let out = PathBuf::from(env::var_os("OUT_DIR").expect("cargo sets OUT_DIR"));
+    let changes = changes();
+    let ugens = UGENS.map(|name| format!("ugens/{name}"));
+    let modules: Vec<String> = ROOT.iter().map(|name| name.to_string()).chain(ugens.clone()).collect();
+    let copied = out.join("copy");
+    copy(&modules, &changes, &copied);
     let mut list = String::new();
     for name in ROOT {
-        list += &module(&sources, &out, name, name);
+        list += &module(&copied, &out, name, name);
     }
     list += "pub mod ugens {\n";
-    for name in UGENS {
-        list += &module(&sources, &out, &format!("ugens/{name}"), name);
+    for (name, path) in UGENS.iter().zip(&ugens) {
+        list += &module(&copied, &out, path, name);
         writeln!(list, "pub use {name}::*;").expect("a string can be written");
     }
     list += "}\n";
     println!("cargo::rerun-if-changed=accessors");
+    println!("cargo::rustc-env=MICROSYNTH_CHANGES={}", changes.len());
     fs::write(out.join("modules.rs"), list).expect("the build folder can be written");
 }

@@ -7,6 +7,7 @@ mod entries;
 
 mod arithmetic;
 mod behaviour;
+mod changes;
 mod engines;
 mod limits;
 mod rows;

@@ -1,8 +1,10 @@
-//! A script as a table: an entry, what the store answers, what the Rust does.
+//! A script as a table: an entry, what the store answers, what the Rust does. The player of docs/REPLAY.md answers as the
+//! store does, but where a paper orders a change and the Rust is built without it.
 
 use std::path::Path;
 use std::{env, fs};
 
+use microsynth::IS_PUBLISHED;
 use microsynth::engine::Engine;
 use replay::script::Call;
 
@@ -12,7 +14,8 @@ use crate::unguarded::Unguarded;
 pub struct Row {
     call: Call,
     store: String,
-    /// None where the Rust has no such call.
+    player: String,
+    /// None where the Rust has no such call, or none but through the player.
     rust: Option<String>,
 }
 
@@ -22,12 +25,18 @@ pub fn same(call: Call, answer: &str) -> Row {
 }
 
 pub fn departs(call: Call, store: &str, rust: &str) -> Row {
-    Row { call, store: store.to_string(), rust: Some(rust.to_string()) }
+    Row { rust: Some(rust.to_string()), ..alone(call, store) }
 }
 
 /// The Rust has no such call.
 pub fn alone(call: Call, store: &str) -> Row {
-    Row { call, store: store.to_string(), rust: None }
+    changed(call, store, store)
+}
+
+/// The player answers as the store does with the changes of `oracle/changes`, and otherwise on the Rust as it was published.
+pub fn changed(call: Call, store: &str, published: &str) -> Row {
+    let player = if IS_PUBLISHED { published } else { store };
+    Row { call, store: store.to_string(), player: player.to_string(), rust: None }
 }
 
 /// Plays the script on both, compares the answers with the table and the script with the recorded one, and answers the
@@ -36,9 +45,11 @@ pub fn compare(name: &str, rows: impl IntoIterator<Item = Row>) -> Engine {
     let rows: Vec<Row> = rows.into_iter().collect();
     let calls: Vec<Call> = rows.iter().map(|row| row.call.clone()).collect();
     let script = entries::script(&calls);
-    let mut transcript: String = rows.iter().map(|row| format!("{}\n", row.store)).collect();
-    transcript += &format!("played {}\n", rows.len());
-    assert_eq!(entries::transcript(&script), transcript, "{name}: the store");
+    let lines = |answer: fn(&Row) -> &str| -> String {
+        rows.iter().map(|row| format!("{}\n", answer(row))).collect::<String>() + &format!("played {}\n", rows.len())
+    };
+    let transcript = lines(|row| &row.store);
+    assert_eq!(entries::transcript(&script), lines(|row| &row.player), "{name}: the player");
     let mut rust = Unguarded::default();
     for Row { call, rust: said, .. } in &rows {
         if let Some(said) = said {
