@@ -60,7 +60,8 @@ fn copy(modules: &[String], changes: &[PathBuf], to: &Path) {
     }
     for change in changes {
         let how = ["--silent", "--fuzz=0", "--no-backup-if-mismatch", "-p1", "-d"];
-        let patch = Command::new("patch").args(how).arg(to).arg("-i").arg(change.canonicalize().expect("it is there")).status();
+        let patch =
+            Command::new("patch").args(how).arg(to).arg("-i").arg(change.canonicalize().expect("it is there")).status();
         assert!(patch.is_ok_and(|status| status.success()), "{} cannot be applied by patch", change.display());
     }
 }

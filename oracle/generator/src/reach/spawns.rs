@@ -204,7 +204,7 @@ fn pick<'a>(policy: StealPolicy, voices: &[&'a Voice]) -> Option<&'a Voice> {
         StealPolicy::Newest => voices.last().copied(),
         StealPolicy::Quietest => {
             let known = voices.iter().copied().filter(|voice| voice.level.is_some());
-            known.reduce(|quiet, voice| if voice.level < quiet.level { voice } else { quiet }).or(first)
+            known.reduce(|quiet, voice| if voice.level <= quiet.level { voice } else { quiet }).or(first)
         }
     }
 }
