@@ -8,6 +8,9 @@ pub mod ClearScenes
 pub mod LevelScenes
 pub mod EventScenes
 pub mod RefusalScenes
+pub mod WholeScenes
+pub mod ReadingScenes
+pub mod SilenceScenes
 pub mod Refused
 pub mod NoPort
 pub mod Examples

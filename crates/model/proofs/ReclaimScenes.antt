@@ -109,6 +109,18 @@ younger-goes : voices (after (small 9 Quietest) (host 2 ∷ spawn 0 ∷ spawn 0 
 unfolding eq lt le levelOf squares rootOf sqrt narrow add mul div ofInt ofBits whole order walk released fed among count-up
 younger-goes = refl
 
+-- And the levels decide: of two voices that have reported 3 and 1 the one with 1 goes, be it the second or the first, with the record of its level. Refuses: a
+-- reclaim that takes the oldest, or the newest, as if no level were known.
+abbrev quiet : ℕ → ℕ → Model
+quiet a b = after (small 9 Quietest) (host 2 ∷ spawn 0 ∷ spawn 0 ∷ call.render ∷ sounds 1 a ∷ sounds 2 b ∷ spawn 0 ∷ [])
+
+quietest-goes :
+    (voices (quiet 3 1) ≡ seen 1 0 Tracked ∷ seen 3 1 Tracked ∷ [])
+    × (voices (quiet 1 3) ≡ seen 2 1 Tracked ∷ seen 3 0 Tracked ∷ [])
+    × (quiet 3 1 .desk .steals ≡ book 1 (recordOf 1 (Known (float 1)) true ∷ []))
+unfolding eq lt le levelOf squares rootOf sqrt narrow add mul div ofInt ofBits whole order walk released fed among count-up
+quietest-goes = (refl, refl, refl)
+
 -- Fades of another bus are not reclaimed: voice 1 fades on bus 0; bus 1 has one port, which voice 2 holds. Refuses: any fade.
 other-bus :
     voices (after (config (AtMost 1) Oldest PerGroup) (host 2 ∷ host 1 ∷ spawn 0 ∷ spawn 0 ∷ spawn 1 ∷ spawn 1 ∷ []))
