@@ -8,6 +8,7 @@ pub mod ClearScenes
 pub mod LevelScenes
 pub mod EventScenes
 pub mod RefusalScenes
+pub mod MakingScenes
 pub mod WholeScenes
 pub mod ReadingScenes
 pub mod SilenceScenes

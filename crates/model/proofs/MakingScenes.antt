@@ -1,0 +1,39 @@
+-- Scenes of making: what a new store holds, field by field, for two makings that differ in every argument. The refusals are in `RefusalScenes`.
+use mathlib.Core.Path.{_≡_, refl}
+use mathlib.Core.List.{[]}
+use mathlib.Core.Option.{none, some}
+use mathlib.Core.Bool.{false}
+use lib.IntN.{pos}
+use lib.Ieee.{fin}
+use Rattle.bus.specs.Rate.{rateOf}
+use Rattle.voice.specs.declared.policy.Budget.the-variants.{Unlimited, AtMost}
+use Rattle.voice.specs.declared.policy.BudgetScope.the-variants.{Global, PerGroup}
+use Rattle.voice.specs.declared.policy.StealPolicy.the-variants.{Newest, Quietest}
+use Rattle.store.specs.declared.config.Config.{Config}
+use Rattle.model.specs.Model.{Model}
+use Rattle.model.specs.Make.{make}
+
+-- "a new store is unprepared"; nothing is in it, no id is given out, the clock and the noise sequence are 0
+abbrev empty : Config → Model
+empty c =
+    record {
+      desk = record {
+        config = c;
+        graph = record { nodes = []; edges = []; sink = none; prepared = false; order = []; next = 0 };
+        events = [];
+        steals = record { count = 0; newest = [] };
+        clock = 0;
+        spawned = 0;
+        sequence = 0;
+      };
+      voices = [];
+    }
+
+-- 8000 and 44,100 Hz. Refuses: an argument that is not kept: a rate, a block, a budget, a policy or a scope that is always the same; a store that is not empty.
+makes :
+    (make (record { rate = fin false 125 (pos 6); block = 16; budget = AtMost 2; policy = Quietest; scope = PerGroup })
+    ≡ some (empty (record { rate = 8000; block = 16; budget = AtMost 2; policy = Quietest; scope = PerGroup })))
+    × (make (record { rate = fin false 11025 (pos 2); block = 128; budget = Unlimited; policy = Newest; scope = Global })
+    ≡ some (empty (record { rate = 44100; block = 128; budget = Unlimited; policy = Newest; scope = Global })))
+unfolding rateOf
+makes = (refl, refl)
