@@ -39,7 +39,8 @@ use Rattle.ledger.specs.Clear.{goneAll, endedVoices, silentVoices}
 use Rattle.ledger.specs.Render.{happen, happenAll, countedIf, preparedIf, rested}
 use Rattle.ledger.specs.Render as rendering
 use Rattle.ledger.specs.Call.{Step, unless, step, seen}
-use Rattle.ledger.specs.Claim.{tracks, isSounded, beat}
+use Rattle.ledger.specs.Claim.{tracks, isSounded}
+use Rattle.ledger.proofs.Words.{beat}
 use Rattle.ledger.proofs.Steps.{place-kept, atDesk}
 use Rattle.ledger.proofs.Managed.{IdsOf, managed-kept}
 use Rattle.ledger.proofs.Records.{tracked-state, was-moved, begun, fade-inj, under-fading, loose-fading}

@@ -40,7 +40,8 @@ use Rattle.model.specs.Call as call
 use Rattle.ledger.specs.Holder.{Holder, nobody, host, voice, isHeld, byVoice}
 use Rattle.ledger.specs.Ledger.{Ledger, Landed, portFree, portHeld, cutOff, stolen, stealVoice, settle, place, admitted, admissionOn, unless}
 use Rattle.ledger.specs.Call.{step}
-use Rattle.ledger.specs.Claim.{Stealing, busy, busyOn, ownerAt, holderOf, heldBy, isHost, isBusy, byOther, blocked, spawnAnswer}
+use Rattle.ledger.specs.Claim.{Stealing, busy, busyOn, ownerAt, holderOf, heldBy, isHost, isBusy, byOther}
+use Rattle.ledger.proofs.Words.{blocked, spawnAnswer}
 use Rattle.ledger.proofs.Allowed.{HostAt, spawn-allowed}
 use Rattle.ledger.proofs.Upto.{up-in, in-up}
 use Rattle.ledger.proofs.Ids.{once, above, unique, notVoice-self}
@@ -53,7 +54,7 @@ use Rattle.ledger.proofs.Port.{lowest-some, lowest-none}
 use Rattle.ledger.proofs.Spawns.{SoundL, ids-of}
 
 -- ---- ports
-every-same : {A : Type 0} (t u : A → Bool) (l : List A) → ((x : A) → t x ≡ u x) → every t l ≡ every u l
+pub every-same : {A : Type 0} (t u : A → Bool) (l : List A) → ((x : A) → t x ≡ u x) → every t l ≡ every u l
 every-same t u [] h = refl
 every-same t u (x ∷ l) h = rw (h x, every-same t u l h)
 

@@ -37,7 +37,8 @@ use Rattle.ledger.specs.Ledger.{Ledger, newLedger, Landed, portFree, por
 use Rattle.ledger.specs.Render.{oneMore}
 use Rattle.ledger.specs.Ledger as ledger
 use Rattle.ledger.specs.Call.{step, run}
-use Rattle.ledger.specs.Claim.{noSteals, AllLoose}
+use Rattle.ledger.specs.Claim.{noSteals}
+use Rattle.ledger.proofs.Words.{AllLoose}
 use Rattle.ledger.proofs.Ids.{Ids, ids-keep, ids-map, ids-snoc, notVoice-self}
 use Rattle.ledger.proofs.Victim.{admit-below}
 use Rattle.ledger.proofs.Steps.{place-kept, Steady, Calm, calm, kept-run}

@@ -13,9 +13,6 @@ use borrow.Author.Tests.{eq-eqb, leb-true, le-leb, not-true}
 use Rattle.lists.specs.Member.{In}
 use Rattle.lists.specs.Keep.{put?, keep, keep-all, keep-same, in-keep}
 use Rattle.store.specs.declared.voices.Voice.{Voice}
-use Rattle.store.specs.declared.voices.VoiceState.the-variants.{Fading}
-use Rattle.store.specs.declared.voices.Fade.{Fade}
-use Rattle.model.specs.Desk.{Desk, lengthL}
 use Rattle.model.specs.Voice.{isVoice}
 use Rattle.model.specs.Clear.{isSilent}
 use Rattle.model.specs.Call as call
@@ -104,18 +101,18 @@ module _ {n : ℕ} (l : Ledger) (d : Ids n (l .voices)) where
       removed-inj : {x y : ℕ} → call.removed x ≡ call.removed y → x ≡ y
       removed-inj h = cc
 
-pub ended-iff : (d : Desk) → 0 < d .config .block → (f : Fade) → (ended d (Fading f) ≡ true) ↔ (roundedUp (lengthL d) (d .config .block) ≤ f .position)
-ended-iff d pos f = (to, from)
+pub rounded-iff : (len block n : ℕ) → 0 < block → (leb len (n * block) ≡ true) ↔ (roundedUp len block ≤ n)
+rounded-iff len block n pos = (to, from)
   where
-    to : leb (lengthL d) (f .position * d .config .block) ≡ true → roundedUp (lengthL d) (d .config .block) ≤ f .position
+    to : leb len (n * block) ≡ true → roundedUp len block ≤ n
     to h =
-        let le : lengthL d ≤ f .position * d .config .block = leb-true _ _ h in
-        let lt : lengthL d + (d .config .block - 1) < suc (f .position) * d .config .block = rw (suc-mul (f .position) (d .config .block)) (omega arith) in
+        let le : len ≤ n * block = leb-true _ _ h in
+        let lt : len + (block - 1) < suc n * block = rw (suc-mul n block) (omega arith) in
         omega (arith, div-lt-iff-lt-mul pos .1 lt)
 
-    from : roundedUp (lengthL d) (d .config .block) ≤ f .position → leb (lengthL d) (f .position * d .config .block) ≡ true
+    from : roundedUp len block ≤ n → leb len (n * block) ≡ true
     from h =
-        let q : roundedUp (lengthL d) (d .config .block) < suc (f .position) = omega arith in
-        let lt : lengthL d + (d .config .block - 1) < suc (f .position) * d .config .block = div-lt-iff-lt-mul pos .0 q in
-        let lt' = rw (suc-mul (f .position) (d .config .block)) at lt in
-        le-leb (lengthL d) (f .position * d .config .block) (omega arith)
+        let q : roundedUp len block < suc n = omega arith in
+        let lt : len + (block - 1) < suc n * block = div-lt-iff-lt-mul pos .0 q in
+        let lt' = rw (suc-mul n block) at lt in
+        le-leb len (n * block) (omega arith)

@@ -12,7 +12,8 @@ use Rattle.model.specs.Call.{Call}
 use Rattle.model.specs.Call as call
 use Rattle.ledger.specs.Ledger.{Ledger, newLedger}
 use Rattle.ledger.specs.Call.{step, run}
-use Rattle.ledger.specs.Claim.{isSounded, beat, ledgerAfter, soundings, Stolen}
+use Rattle.ledger.specs.Claim.{isSounded, ledgerAfter}
+use Rattle.ledger.proofs.Words.{beat, soundings, Stolen}
 use Rattle.ledger.proofs.Managed.{ids-run, ids-new}
 use Rattle.ledger.proofs.Begins.{From, went-on, began, comes}
 

@@ -53,7 +53,8 @@ use Rattle.ledger.specs.Clear as clearing
 use Rattle.ledger.specs.Render as rendering
 use Rattle.ledger.specs.Render.{happen, happenAll, countedIf, preparedIf, rested, render}
 use Rattle.ledger.specs.Call.{Step, unless, step, seen}
-use Rattle.ledger.specs.Claim.{busy, heldRecord, cutIfHeld, Newest, tracks, isSounded, GoesOn, Why, freed, timed, ended, silent, reclaimed}
+use Rattle.ledger.specs.Claim.{busy, heldRecord, cutIfHeld, Newest, tracks, isSounded}
+use Rattle.ledger.proofs.Words.{GoesOn, Why, freed, timed, ended, silent, reclaimed}
 use Rattle.ledger.proofs.Ids.{unique, same-id}
 use Rattle.ledger.proofs.Victim.{nextOut-in}
 use Rattle.ledger.proofs.Book.{held-pushed, held-marked, held-unmarked, cut-cut, count-pushed}

@@ -1,3 +1,4 @@
+pub mod Words
 pub mod Owner
 pub mod Wired
 pub mod Held
@@ -29,4 +30,8 @@ pub mod Clearing
 pub mod Begins
 pub mod History
 pub mod Blocked
+pub mod Spawning
+pub mod Gone
+pub mod Store
+pub mod Holds
 pub mod Claim

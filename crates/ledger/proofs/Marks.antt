@@ -52,7 +52,7 @@ book-stays x h l =
     steady-step (λ m. m .desk .steals ≡ l .desk .steals) (calm (λ c b n vs. b ≡ l .desk .steals) (λ c b n vs w e. e) (λ c b n vs e. e) (λ c b n vs v q s k e. e)) x h l refl
 
 module _ {b₀ : Book} {R : Type 0} {k : ℕ} where
-  fate-voices : {b : Book} {S : Type 0} → (R → S) → Fate b₀ b R k → Fate b₀ b S k
+  pub fate-voices : {b : Book} {S : Type 0} → (R → S) → Fate b₀ b R k → Fate b₀ b S k
   fate-voices f (same e) = same e
   fate-voices f (older e h) = older e h
   fate-voices f (struck e r) = struck e (f r)

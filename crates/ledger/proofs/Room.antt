@@ -43,7 +43,7 @@ use Rattle.ledger.specs.Ledger as ledger
 use Rattle.ledger.specs.Ledger.{Ledger, portFree, portHeld, cutOff, stolen, stealVoice, land, landOr, settle, refused, admitted, admissionOn}
 use Rattle.ledger.specs.Render.{oneMore, countedIf}
 use Rattle.ledger.specs.Call.{step, run}
-use Rattle.ledger.specs.Claim.{Room}
+use Rattle.ledger.proofs.Words.{Room}
 use Rattle.ledger.proofs.Allowed.{when-none, spawn-allowed}
 use Rattle.ledger.proofs.Steps.{place-kept, Steady, step-kept, landed-kept}
 use Rattle.ledger.proofs.Managed.{managed-kept}

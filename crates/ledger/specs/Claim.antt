@@ -1,6 +1,7 @@
 -- Demand 3: one claim about every list of calls, refused ones too, from every making that is accepted. "A list starts from a newly
 -- made store; each call gets the store that the last left". The ledger "is fed the calls with all their arguments, making's too, and
--- nothing from the store". What 2 to 5 say of the ledger after the list, and of the call that is next, is by 1 said of the store.
+-- nothing from the store". 1 says that the store is the ledger's; 2 to 5 are said of the store itself, after the list and at the call
+-- that is next. `Claim`, at the end, is the statement; the words before it are what it says.
 -- Read with 01's "The ledger" and "Contracts": a fade that moves only at the first steal or never contradicts `ends`; "no port" before
 -- reclaiming, a store refusing all spawns, and one that does nothing contradict `spawns`; steal records counted at will contradict
 -- `quiet`, `marks` and `writes`.
@@ -40,18 +41,19 @@ use Rattle.store.specs.declared.voices.Voice.{Voice}
 use Rattle.store.specs.declared.voices.VoiceState.{VoiceState}
 use Rattle.store.specs.declared.voices.VoiceState.the-variants.{Tracked, Fading, Loose}
 use Rattle.store.specs.declared.voices.Fade.{Fade}
+use Rattle.model.specs.Desk.{lengthL}
 use Rattle.model.specs.Voice.{id, isVoice, isTracked, isFading, isOn, counted, moved, movedFade, withState}
 use Rattle.model.specs.Refuse.{spawnRefusal}
 use Rattle.model.specs.Spawn.{Spawn, nextVoice}
 use Rattle.model.specs.Clear.{isSilent}
+use Rattle.model.specs.Clear as clearing
 use Rattle.model.specs.Render.{isFree, isSounding, deadline}
 use Rattle.model.specs.Model.{Model}
 use Rattle.model.specs.Call.{Call, Answer}
 use Rattle.model.specs.Call as call
 use Rattle.ledger.specs.Holder.{Holder, nobody, host, voice}
 use Rattle.ledger.specs.Ledger.{Ledger, newLedger}
-use Rattle.ledger.specs.Clear as clearing
-use Rattle.ledger.specs.Call.{step, run}
+use Rattle.ledger.specs.Call.{run}
 
 -- ---- lists of calls
 -- the ledger after a list of calls, from making
@@ -97,9 +99,13 @@ isSounded (call.fed ss) = false
 isSounded (call.time t) = false
 isSounded (call.printed n out) = false
 
--- how many of the calls, from the ledger l on, were sounding renders
-abbrev pub soundings : List Call → Ledger → ℕ
-soundings xs l = count isSounded (run xs l .answers)
+-- the store after a list of calls, from m
+abbrev pub after : Model → List Call → Model
+after m xs = call.run xs m .model
+
+-- how many of the calls, made on the store m, were sounding renders
+abbrev pub soundings : List Call → Model → ℕ
+soundings xs m = count isSounded (call.run xs m .answers)
 
 -- ---- holders, as the edges give them
 -- who owns the node of an id
@@ -138,29 +144,33 @@ abbrev pub holderAt : List Node → List Edge → ℕ → ℕ → Holder
 holderAt ns es n p = holdsAt (ownerAt ns) es n p
 
 -- ---- fades
--- the voice v, which fades by f after the calls xs, was stolen by one of them, a managed spawn: it was tracked before, the fade starts
--- at that clock and has the number of the next record, and its count is the number of sounding renders since
-pub record Stolen (c : Config) (xs : List Call) (v : Voice) (f : Fade) : Type 0 where
+-- the voice v, which fades by f after the calls xs on the store m, was stolen by one of them, a managed spawn: it was tracked before, the
+-- fade starts at that clock and has the number of the next record, and its position is a block for each sounding render since
+pub record Stolen (m : Model) (block : ℕ) (xs : List Call) (v : Voice) (f : Fade) : Type 0 where
   pub before : List Call
-  pub after : List Call
+  pub later : List Call
   pub spawn : Spawn
-  pub split : xs ≡ before ++ (call.spawnManaged spawn ∷ after)
-  pub tracked : In (withState Tracked v) (ledgerAfter c before .voices)
-  pub start : f .start ≡ ledgerAfter c before .desk .clock
-  pub number : f .number ≡ ledgerAfter c before .desk .steals .count
-  pub counts : f .position ≡ soundings after (ledgerAfter c (before ++ (call.spawnManaged spawn ∷ [])))
+  pub split : xs ≡ before ++ (call.spawnManaged spawn ∷ later)
+  pub tracked : In (withState Tracked v) (after m before .voices)
+  pub start : f .start ≡ after m before .desk .clock
+  pub number : f .number ≡ after m before .desk .steals .count
+  pub moves : f .position ≡ soundings later (after m (before ++ (call.spawnManaged spawn ∷ []))) * block
+
+-- the sounding renders since the spawn
+abbrev pub since : {m : Model} {block : ℕ} {xs : List Call} {v : Voice} {f : Fade} → Stolen m block xs v f → ℕ
+since {m} {block} {xs} {v} {f} s = soundings (s .later) (after m (s .before ++ (call.spawnManaged (s .spawn) ∷ [])))
 
 -- so many blocks of b samples are a samples or more
 abbrev pub roundedUp : ℕ → ℕ → ℕ
 roundedUp a b = (a + (b - 1)) / b
 
--- the fade after a call that answered so: its count, here `position`, is one more after a sounding render, and else the same
-abbrev pub beat : Answer → Fade → Fade
-beat a f = movedFade (more (isSounded a)) f
+-- the fade after a call that answered so: a block further after a sounding render, and else the same
+abbrev pub beat : ℕ → Answer → Fade → Fade
+beat block a f = movedFade (λ p. cond (isSounded a) (p + block) p) f
 
--- the voice is still there, all the same but for the count
-abbrev pub GoesOn : Voice → Fade → Answer → List Voice → Type 0
-GoesOn v f a vs = In (withState (Fading (beat a f)) v) vs
+-- the voice is still there, all the same but for the position of its fade
+abbrev pub GoesOn : ℕ → Voice → Fade → Answer → List Voice → Type 0
+GoesOn block v f a vs = In (withState (Fading (beat block a f)) v) vs
 
 -- ---- steal records
 -- the number of the oldest record that is still held
@@ -181,13 +191,13 @@ abbrev pub cutIfHeld : StealFound → Bool
 cutIfHeld found.Nothing = true
 cutIfHeld (found.Record r) = r .cut
 
--- why a voice v that faded by f is not there any more, after the call x that made of l the ledger l'
-pub data Why (l l' : Ledger) (v : Voice) (f : Fade) : Call → Type 0 where
-  freed : Why l l' v f (call.free (v .id))
-  timed : (e : Event) → In e (l .desk .events) → queue.due (deadline (l .desk)) e ≡ true → isFree (e .action) ≡ true → e .voice ≡ v .id → Why l l' v f call.render
-  ended : clearing.ended (l .desk) (v .state) ≡ true → Why l l' v f call.clear
-  silent : isSilent (l .desk .graph .nodes) v ≡ true → Why l l' v f call.clear
-  reclaimed : (x : Spawn) → isOn (x .bus) v ≡ true → cutIfHeld (heldRecord (l' .desk .steals) (f .number)) ≡ true → Why l l' v f (call.spawnManaged x)
+-- why a voice v that faded by f is not there any more, after the call x that made of s the store s'
+pub data Why (s s' : Model) (v : Voice) (f : Fade) : Call → Type 0 where
+  freed : Why s s' v f (call.free (v .id))
+  timed : (e : Event) → In e (s .desk .events) → queue.due (deadline (s .desk)) e ≡ true → isFree (e .action) ≡ true → e .voice ≡ v .id → Why s s' v f call.render
+  ended : clearing.ended (lengthL (s .desk)) (v .state) ≡ true → Why s s' v f call.clear
+  silent : isSilent (s .desk .graph .nodes) v ≡ true → Why s s' v f call.clear
+  reclaimed : (x : Spawn) → isOn (x .bus) v ≡ true → cutIfHeld (heldRecord (s' .desk .steals) (f .number)) ≡ true → Why s s' v f (call.spawnManaged x)
 
 -- a fade of the bus that has the record k, among the voices vs and not among the voices vs' after them
 pub record Reclaimed (vs vs' : List Voice) (bus : NodeId) (k : ℕ) : Type 0 where
@@ -220,9 +230,9 @@ abbrev pub noSteals : Book
 noSteals = record { count = 0; newest = [] }
 
 -- nobody is tracked or fading, and nothing was recorded
-pub record AllLoose (l : Ledger) : Type 0 where
-  pub voices : (v : Voice) → In v (l .voices) → v .state ≡ Loose
-  pub book : l .desk .steals ≡ noSteals
+pub record AllLoose (s : Model) : Type 0 where
+  pub voices : (v : Voice) → In v (s .voices) → v .state ≡ Loose
+  pub book : s .desk .steals ≡ noSteals
 
 -- ---- when a managed spawn finds a port
 -- a policy that steals
@@ -251,24 +261,62 @@ byOther bus vs (host k) = true
 byOther bus vs (voice w) = not (isBusy bus (find (isVoice w) vs))
 
 -- every port of the bus is held so
-abbrev pub blocked : NodeId → Ledger → Bool
-blocked bus l = every (λ p. byOther bus (l .voices) (l .holders (bus .0) p)) (upto (portsOf (nodeAt (l .desk .graph .nodes) bus)))
+abbrev pub blocked : NodeId → Model → Bool
+blocked bus s = every (λ p. byOther bus (s .voices) (holderAt (s .desk .graph .nodes) (s .desk .graph .edges) (bus .0) p)) (upto (portsOf (nodeAt (s .desk .graph .nodes) bus)))
 
--- what a spawn answers that the table does not refuse
-abbrev pub spawnAnswer : NodeId → Ledger → Spawned
-spawnAnswer bus l = cond (blocked bus l) (Spawned.Refused NoPort) (Spawned.Voice (nextVoice (l .desk)))
+-- what a managed spawn answers that the table does not refuse
+abbrev pub spawnAnswer : NodeId → Model → Spawned
+spawnAnswer bus s = cond (blocked bus s) (Spawned.Refused NoPort) (Spawned.Voice (nextVoice (s .desk)))
 
 -- ---- the tables
--- what they hold, with places left for so many nodes, edges and voices
-pub record Room (n e v : ℕ) (l : Ledger) : Type 0 where
-  pub nodes : length (l .desk .graph .nodes) + n ≤ 512
-  pub edges : length (l .desk .graph .edges) + e ≤ 1024
-  pub voices : length (l .voices) + v ≤ 64
-  pub events : length (l .desk .events) ≤ 256
+-- "512 live nodes, 1,024 edges, 64 voices, 256 pending events"
+pub record Room (s : Model) : Type 0 where
+  pub nodes : length (s .desk .graph .nodes) ≤ 512
+  pub edges : length (s .desk .graph .edges) ≤ 1024
+  pub voices : length (s .voices) ≤ 64
+  pub events : length (s .desk .events) ≤ 256
 
 -- the newest 64 are held, or all where there are fewer
 abbrev pub Newest : Book → Type 0
 Newest b = ((length (b .newest) ≡ 64) × (64 ≤ b .count)) ⊎ ((length (b .newest) ≡ b .count) × (b .count < 64))
+
+-- ---- 2 to 5, of the store s, which a list of calls left, and of the call that is next
+pub record Holds (c : Config) (s : Model) : Type 0 where
+  -- ---- 2. The next clearing call has removed a voice whose fade has ended; what is left are the voices whose fade has not ended and, of
+  -- these, whose plan is not silent; it answers how many it removed.
+  pub removes : (v : Voice) → In v (s .voices) → clearing.ended (fadeLength (c .rate)) (v .state) ≡ true → find (isVoice (v .id)) (call.step call.clear s .model .voices) ≡ none
+  pub clears : call.step call.clear s .model .voices
+      ≡ keep (λ v. not (isSilent (s .desk .graph .nodes) v)) (keep (λ v. not (clearing.ended (fadeLength (c .rate)) (v .state))) (s .voices))
+  pub removed : (n : ℕ) → call.step call.clear s .answer ≡ call.removed n → length (s .voices) ≡ length (call.step call.clear s .model .voices) + n
+  -- ---- 3. At the next call x a fading voice goes on, a block further after a sounding render and else the same; or it is gone, for one of
+  -- the reasons of `Why`: a free, called or timed, its end or its silence at a clearing, or a reclaim, which marks its record.
+  pub leaves : (x : Call) (v : Voice) → In v (s .voices) → (f : Fade) → v .state ≡ Fading f
+      → GoesOn (c .block) v f (call.step x s .answer) (call.step x s .model .voices) ⊎ ((find (isVoice (v .id)) (call.step x s .model .voices) ≡ none) × Why s (call.step x s .model) v f x)
+  -- No call but a managed spawn touches the steal records. There a record that was written before stays, goes out of the newest 64, or is
+  -- marked, and then the fade that has it was on this bus and went in this call; and one record is written for each voice that was
+  -- tracked and is not any more: both numbers together rise by one if the newcomer is let in, else not.
+  pub quiet : (x : Call) → isManaged x ≡ false → call.step x s .model .desk .steals ≡ s .desk .steals
+  pub marks : (x : Spawn) (k : ℕ) → k < s .desk .steals .count
+      → Fate (s .desk .steals) (call.step (call.spawnManaged x) s .model .desk .steals) (Reclaimed (s .voices) (call.step (call.spawnManaged x) s .model .voices) (x .bus) k) k
+  pub writes : (n : ℕ) → c .budget ≡ AtMost n → (x : Spawn) (a : Spawned) → call.step (call.spawnManaged x) s .answer ≡ call.spawned a
+      → call.step (call.spawnManaged x) s .model .desk .steals .count + count tracks (call.step (call.spawnManaged x) s .model .voices)
+      ≡ more (isLet a) (s .desk .steals .count + count tracks (s .voices))
+  -- Each fade has a record of its own: its number was written, and no other fade has it.
+  pub numbers : (v : Voice) → In v (s .voices) → (f : Fade) → v .state ≡ Fading f → f .number < s .desk .steals .count
+  pub own : (u v : Voice) → In u (s .voices) → In v (s .voices) → (f g : Fade) → u .state ≡ Fading f → v .state ≡ Fading g → f .number ≡ g .number → u ≡ v
+  -- ---- 4. Tracked voices never exceed the budget: all of them, or those of each bus under `PerGroup`. Without a budget nobody is
+  -- tracked, stolen or reclaimed.
+  pub budget : (n : ℕ) → c .budget ≡ AtMost n → (bus : NodeId) → count (counted (c .scope) bus) (s .voices) ≤ n
+  pub loose : c .budget ≡ Unlimited → AllLoose s
+  pub stay : c .budget ≡ Unlimited → (x : Spawn) (v : Voice) → In v (s .voices) → In v (call.step (call.spawnManaged x) s .model .voices)
+  -- ---- 5. With a budget above 0 and a policy that steals, a managed spawn that the table does not refuse (definition and bus, headroom, ids
+  -- left) is refused exactly when every port of its bus is held by a node of no tracked or fading voice of that bus, and with 12; else
+  -- it answers the next voice id.
+  pub spawns : (n : ℕ) → c .budget ≡ AtMost (suc n) → Stealing (c .policy) → (x : Spawn) → spawnRefusal (s .desk) (s .voices) (x .def) (x .bus) ≡ none
+      → call.step (call.spawnManaged x) s .answer ≡ call.spawned (spawnAnswer (x .bus) s)
+  -- ---- The tables hold it: 512 nodes, 1,024 edges, 64 voices, 256 events, and the newest 64 records.
+  pub room : Room s
+  pub records : Newest (s .desk .steals)
 
 -- ---- the claim
 -- the store m was made with c; xs are the calls
@@ -276,49 +324,14 @@ pub record Claim (c : Config) (m : Model) (xs : List Call) : Type 0 where
   -- ---- 1. Every answer is the ledger's: refusals, spawn answers and clearing counts among them.
   pub answers : call.run xs m .answers ≡ run xs (newLedger c) .answers
   -- What the rules give both is the same: "nodes, edges, ids, clock, events, reports and steal records".
-  pub desk : call.run xs m .model .desk ≡ ledgerAfter c xs .desk
+  pub desk : after m xs .desk ≡ ledgerAfter c xs .desk
   -- The voices are the ledger's, in order, with their states: tracked, loose, or fading, at count × block samples.
-  pub voices : call.run xs m .model .voices ≡ map (moved (λ count. count * c .block)) (ledgerAfter c xs .voices)
+  pub voices : after m xs .voices ≡ map (moved (λ count. count * c .block)) (ledgerAfter c xs .voices)
   -- The held ports: the ledger's holder of a port is the owner of the source of the store's edge at it.
-  pub holders : (n p : ℕ) → ledgerAfter c xs .holders n p ≡ holderAt (call.run xs m .model .desk .graph .nodes) (call.run xs m .model .desk .graph .edges) n p
-  -- ---- 2. A fade was begun by a managed spawn of the list, and its count is the number of sounding renders since. It has ended
-  -- exactly when these are at least L over block, rounded up.
-  pub ends : (v : Voice) → In v (ledgerAfter c xs .voices) → (f : Fade) → v .state ≡ Fading f
-      → (s : Stolen c xs v f)
-      × ((clearing.ended (ledgerAfter c xs .desk) (v .state) ≡ true) ↔ (roundedUp (fadeLength (c .rate)) (c .block) ≤ soundings (s .after) (ledgerAfter c (s .before ++ (call.spawnManaged (s .spawn) ∷ [])))))
-  -- The next clearing call has removed it; what is left are the voices whose fade has not ended and, of these, whose plan is not
-  -- silent; it answers how many it removed.
-  pub removes : (v : Voice) → In v (ledgerAfter c xs .voices) → clearing.ended (ledgerAfter c xs .desk) (v .state) ≡ true → find (isVoice (v .id)) (step call.clear (ledgerAfter c xs) .ledger .voices) ≡ none
-  pub clears : step call.clear (ledgerAfter c xs) .ledger .voices
-      ≡ keep (λ v. not (isSilent (ledgerAfter c xs .desk .graph .nodes) v)) (keep (λ v. not (clearing.ended (ledgerAfter c xs .desk) (v .state))) (ledgerAfter c xs .voices))
-  pub removed : (n : ℕ) → step call.clear (ledgerAfter c xs) .answer ≡ call.removed n → length (ledgerAfter c xs .voices) ≡ length (step call.clear (ledgerAfter c xs) .ledger .voices) + n
-  -- ---- 3. At the next call x a fading voice goes on, its count one more after a sounding render and else the same; or it leaves for
-  -- one of the reasons of `Why`: a free, called or timed, its end or its silence at a clearing, or a reclaim, which marks its record.
-  pub leaves : (x : Call) (v : Voice) → In v (ledgerAfter c xs .voices) → (f : Fade) → v .state ≡ Fading f
-      → GoesOn v f (step x (ledgerAfter c xs) .answer) (step x (ledgerAfter c xs) .ledger .voices) ⊎ Why (ledgerAfter c xs) (step x (ledgerAfter c xs) .ledger) v f x
-  -- No call but a managed spawn touches the steal records. There a record that was written before stays, goes out of the newest 64, or is
-  -- marked, and then the fade that has it was on this bus and went in this call; and one record is written for each voice that was
-  -- tracked and is not any more: both numbers together rise by one if the newcomer is let in, else not.
-  pub quiet : (x : Call) → isManaged x ≡ false → step x (ledgerAfter c xs) .ledger .desk .steals ≡ ledgerAfter c xs .desk .steals
-  pub marks : (x : Spawn) (k : ℕ) → k < ledgerAfter c xs .desk .steals .count
-      → Fate (ledgerAfter c xs .desk .steals) (step (call.spawnManaged x) (ledgerAfter c xs) .ledger .desk .steals)
-      (Reclaimed (ledgerAfter c xs .voices) (step (call.spawnManaged x) (ledgerAfter c xs) .ledger .voices) (x .bus) k) k
-  pub writes : (n : ℕ) → c .budget ≡ AtMost n → (x : Spawn) (a : Spawned) → step (call.spawnManaged x) (ledgerAfter c xs) .answer ≡ call.spawned a
-      → step (call.spawnManaged x) (ledgerAfter c xs) .ledger .desk .steals .count + count tracks (step (call.spawnManaged x) (ledgerAfter c xs) .ledger .voices)
-      ≡ more (isLet a) (ledgerAfter c xs .desk .steals .count + count tracks (ledgerAfter c xs .voices))
-  -- Each fade has a record of its own: its number was written, and no other fade has it.
-  pub numbers : (v : Voice) → In v (ledgerAfter c xs .voices) → (f : Fade) → v .state ≡ Fading f → f .number < ledgerAfter c xs .desk .steals .count
-  pub own : (u v : Voice) → In u (ledgerAfter c xs .voices) → In v (ledgerAfter c xs .voices) → (f g : Fade) → u .state ≡ Fading f → v .state ≡ Fading g → f .number ≡ g .number → u ≡ v
-  -- ---- 4. Tracked voices never exceed the budget: all of them, or those of each bus under `PerGroup`. Without a budget nobody is
-  -- tracked, stolen or reclaimed.
-  pub budget : (n : ℕ) → c .budget ≡ AtMost n → (bus : NodeId) → count (counted (c .scope) bus) (ledgerAfter c xs .voices) ≤ n
-  pub loose : c .budget ≡ Unlimited → AllLoose (ledgerAfter c xs)
-  pub stay : c .budget ≡ Unlimited → (x : Spawn) (v : Voice) → In v (ledgerAfter c xs .voices) → In v (step (call.spawnManaged x) (ledgerAfter c xs) .ledger .voices)
-  -- ---- 5. With a budget above 0 and a policy that steals, a managed spawn that the table does not refuse (definition and bus, headroom, ids
-  -- left) is refused exactly when every port of its bus is held by a node of no tracked or fading voice of that bus, and with 12; else
-  -- it answers the next voice id.
-  pub spawns : (n : ℕ) → c .budget ≡ AtMost (suc n) → Stealing (c .policy) → (x : Spawn) → spawnRefusal (ledgerAfter c xs .desk) (ledgerAfter c xs .voices) (x .def) (x .bus) ≡ none
-      → step (call.spawnManaged x) (ledgerAfter c xs) .answer ≡ call.spawned (spawnAnswer (x .bus) (ledgerAfter c xs))
-  -- ---- The tables hold it: 512 nodes, 1,024 edges, 64 voices, 256 events, and the newest 64 records.
-  pub room : Room 0 0 0 (ledgerAfter c xs)
-  pub records : Newest (ledgerAfter c xs .desk .steals)
+  pub holders : (n p : ℕ) → ledgerAfter c xs .holders n p ≡ holderAt (after m xs .desk .graph .nodes) (after m xs .desk .graph .edges) n p
+  -- ---- 2. A fade was begun by a managed spawn of the list, and has moved by a block at each sounding render since. It has ended
+  -- exactly when these renders are at least L over block, rounded up.
+  pub ends : (v : Voice) → In v (after m xs .voices) → (f : Fade) → v .state ≡ Fading f
+      → (t : Stolen m (c .block) xs v f) × ((clearing.ended (fadeLength (c .rate)) (v .state) ≡ true) ↔ (roundedUp (fadeLength (c .rate)) (c .block) ≤ since t))
+  -- ---- 2 to 5, and the tables
+  pub now : Holds c (after m xs)

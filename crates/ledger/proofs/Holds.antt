@@ -1,0 +1,167 @@
+-- What is known of the ledger after a list of calls, said of the store: claims 2 to 5.
+use Prim.Native.Nat.{ℕ, _+_, _≤_, _<_, _*_}
+use native.Mathlib.Omega.{arith}
+use mathlib.Core.Path.{_≡_, refl, sym, ap, _∙_, subst}
+use mathlib.Core.Logic.{_⊎_, ⊎-elim, inl, inr}
+use mathlib.Core.List.{List, map}
+use mathlib.Core.Option.{none}
+use mathlib.Core.Bool.{Bool, true, false, not, true≢false}
+use lib.ListN.{length, length-map}
+use borrow.Author.Tests.{eqb-true, not-true}
+use Rattle.lists.specs.Member.{In, in-map, in-of-map}
+use Rattle.lists.specs.Find.{find, mapO, none-find}
+use Rattle.lists.specs.Keep.{keep, keep-map, in-keep}
+use Rattle.lists.specs.Count.{more, count, count-map}
+use Rattle.node.specs.declared.record.NodeId.{NodeId}
+use Rattle.order.specs.Prepare as graph
+use Rattle.bus.specs.Fade.{fadeLength}
+use Rattle.store.specs.declared.config.Config.{Config}
+use Rattle.store.specs.declared.voices.Voice.{Voice}
+use Rattle.store.specs.declared.voices.VoiceState.the-variants.{Fading}
+use Rattle.store.specs.declared.voices.Fade.{Fade}
+use Rattle.voice.specs.declared.policy.Budget.the-variants.{Unlimited, AtMost}
+use Rattle.model.specs.Voice.{id, isVoice, movedFade, movedState, counted}
+use Rattle.model.specs.Clear.{isSilent}
+use Rattle.model.specs.Clear as clearing
+use Rattle.model.specs.Spawn.{Spawn}
+use Rattle.model.specs.Model.{Model}
+use Rattle.model.specs.Call.{Call, Answer}
+use Rattle.model.specs.Call as call
+use Rattle.ledger.specs.Ledger.{Ledger}
+use Rattle.ledger.specs.Clear as ledger
+use Rattle.ledger.specs.Call.{step}
+use Rattle.ledger.specs.Claim.{Holds, Stealing, GoesOn, Why, Fate, Reclaimed, tracks, isLet, spawnAnswer}
+use Rattle.ledger.proofs.Words as words
+use Rattle.ledger.proofs.Ids.{unique}
+use Rattle.ledger.proofs.Shown.{counted-same, find-stored}
+use Rattle.ledger.proofs.Agree.{Kept}
+use Rattle.ledger.proofs.Room.{RoomOf}
+use Rattle.ledger.proofs.Nodes.{OwnNodes}
+use Rattle.ledger.proofs.Records.{RecordedOf}
+use Rattle.ledger.proofs.Marks.{fate-voices, book-stays, marks, tallies}
+use Rattle.ledger.proofs.Gone.{leaves-gone}
+use Rattle.ledger.proofs.Clearing.{cleared-voices, cleared-count}
+use Rattle.ledger.proofs.Blocked.{spawn-answer}
+use Rattle.ledger.proofs.Store.{shown, storeOf, store-step, Was, was, tracks-count, answer-same, refusal-same, reclaimed-shown, ended-shown, goes-shown, why-shown}
+
+-- what is known of the ledger l after a list of calls from making with c
+pub record Known (c : Config) (l : Ledger) : Type 0 where
+  pub kept : Kept l
+  pub is : l .desk .config ≡ c
+  pub recorded : RecordedOf l
+  pub nodes : OwnNodes l
+  pub room : RoomOf l
+  pub budget : (n : ℕ) → c .budget ≡ AtMost n → (bus : NodeId) → count (counted (c .scope) bus) (l .voices) ≤ n
+  pub loose : c .budget ≡ Unlimited → words.AllLoose l
+  pub stay : c .budget ≡ Unlimited → (x : Spawn) (v : Voice) → In v (l .voices) → In v (step (call.spawnManaged x) l .ledger .voices)
+
+module _ (c : Config) (l : Ledger) (known : Known c l) where
+  abbrev is : l .desk .config ≡ c
+  is = known .is
+
+  abbrev r : RecordedOf l
+  r = known .recorded
+
+  abbrev q : OwnNodes l
+  q = known .nodes
+
+  -- what a call answers and leaves, from what the ledger answers and leaves
+  next : (x : Call) (P : call.Step → Type 0) → P (record { answer = step x l .answer; model = storeOf c (step x l .ledger) }) → P (call.step x (storeOf c l))
+  next x P h = subst P (sym (store-step c x l (known .kept) is)) h
+
+  -- ---- clearing
+  ends-same : (v : Voice) → not (clearing.ended (fadeLength (c .rate)) (shown c v .state)) ≡ not (ledger.ended (l .desk) (v .state))
+  ends-same v = ap not (ended-shown c (l .desk) is (v .state))
+
+  abbrev Left : List Voice → List Voice
+  Left vs = keep (λ v. not (isSilent (l .desk .graph .nodes) v)) (keep (λ v. not (clearing.ended (fadeLength (c .rate)) (v .state))) vs)
+
+  left : map (shown c) (step call.clear l .ledger .voices) ≡ Left (map (shown c) (l .voices))
+  left =
+      ap (map (shown c)) (cleared-voices l (r .ids) q)
+      ∙ sym (ap (keep (λ v. not (isSilent (l .desk .graph .nodes) v))) (keep-map (shown c) (λ v. not (clearing.ended (fadeLength (c .rate)) (v .state))) (λ v. not (ledger.ended (l .desk) (v .state))) ends-same (l .voices))
+      ∙ keep-map (shown c) (λ v. not (isSilent (l .desk .graph .nodes) v)) (λ v. not (isSilent (l .desk .graph .nodes) v)) (λ v. refl) (keep (λ v. not (ledger.ended (l .desk) (v .state))) (l .voices)))
+
+  -- no two voices have one id
+  one : (u v : Voice) → In u (map (shown c) (l .voices)) → In v (map (shown c) (l .voices)) → u .id .0 ≡ v .id .0 → u ≡ v
+  one u v i j e =
+      let a = in-map (shown c) (l .voices) u i in
+      let b = in-map (shown c) (l .voices) v j in
+      let n : a .0 .id .0 ≡ b .0 .id .0 = ap (λ (x : Voice). x .id .0) (sym (a .2)) ∙ e ∙ ap (λ (x : Voice). x .id .0) (b .2) in
+      a .2 ∙ ap (shown c) (unique (r .ids) (a .0) (b .0) (a .1) (b .1) n) ∙ sym (b .2)
+
+  gone : (v : Voice) → In v (map (shown c) (l .voices)) → clearing.ended (fadeLength (c .rate)) (v .state) ≡ true → find (isVoice (v .id)) (Left (map (shown c) (l .voices))) ≡ none
+  gone v i e = none-find (isVoice (v .id)) (Left (map (shown c) (l .voices))) (λ x j. go x j (isVoice (v .id) x) refl)
+    where
+      go : (x : Voice) → In x (Left (map (shown c) (l .voices))) → (b : Bool) → isVoice (v .id) x ≡ b → b ≡ false
+      go x j false h = refl
+      go x j true h =
+          let m = in-keep (λ v. not (isSilent (l .desk .graph .nodes) v)) (keep (λ v. not (clearing.ended (fadeLength (c .rate)) (v .state))) (map (shown c) (l .voices))) x j .0 in
+          let n = in-keep (λ v. not (clearing.ended (fadeLength (c .rate)) (v .state))) (map (shown c) (l .voices)) x m in
+          let z : x ≡ v = one x v (n .0) i (eqb-true _ _ h) in
+          absurd (true≢false (sym e ∙ ap (λ (y : Voice). clearing.ended (fadeLength (c .rate)) (y .state)) (sym z) ∙ not-true _ (n .1)))
+
+  -- ---- fading voices
+  -- what becomes of a fading voice in the call that left the voices vs
+  abbrev Next : Call → Answer → List Voice → Model → Voice → Fade → Type 0
+  Next x a vs s v f = GoesOn (c .block) v f a vs ⊎ ((find (isVoice (v .id)) vs ≡ none) × Why (storeOf c l) s v f x)
+
+  goes : (x : Call) (v : Voice) → In v (map (shown c) (l .voices)) → (f : Fade) → v .state ≡ Fading f → Next x (step x l .answer) (map (shown c) (step x l .ledger .voices)) (storeOf c (step x l .ledger)) v f
+  goes x v i f e =
+      subst (λ g. Next x a vs s v g) (sym (w .moves)) (subst (λ u. Next x a vs s u (movedFade (λ n. n * c .block) (w .fade))) (sym (w .is))
+      (⊎-elim (λ h. inl (goes-shown c l is (w .voice) (w .fade) a (step x l .ledger .voices) h))
+      (λ h. inr (find-stored (λ n. n * c .block) (w .voice .id) (step x l .ledger .voices) ∙ ap (mapO (shown c)) (h .0), why-shown c l is (w .voice) (w .fade) (step x l .ledger) x (h .1)))
+      (leaves-gone (w .voice) (w .fade) (w .state) x l r q (w .member))))
+    where
+      w : Was c (l .voices) v f
+      w = was c (l .voices) v i f e
+
+      a : Answer
+      a = step x l .answer
+
+      vs : List Voice
+      vs = map (shown c) (step x l .ledger .voices)
+
+      s : Model
+      s = storeOf c (step x l .ledger)
+
+  own : (u v : Voice) → In u (map (shown c) (l .voices)) → In v (map (shown c) (l .voices)) → (f g : Fade) → u .state ≡ Fading f → v .state ≡ Fading g → f .number ≡ g .number → u ≡ v
+  own u v i j f g e h s =
+      let a = was c (l .voices) u i f e in
+      let b = was c (l .voices) v j g h in
+      let n : a .fade .number ≡ b .fade .number = ap (λ (x : Fade). x .number) (sym (a .moves)) ∙ s ∙ ap (λ (x : Fade). x .number) (b .moves) in
+      a .is ∙ ap (shown c) (r .own (a .voice) (b .voice) (a .member) (b .member) (a .fade) (b .fade) (a .state) (b .state) n) ∙ sym (b .is)
+
+  pub holds : Holds c (storeOf c l)
+  holds =
+      record {
+        removes = λ v i e. next call.clear (λ t. find (isVoice (v .id)) (t .model .voices) ≡ none) (ap (find (isVoice (v .id))) left ∙ gone v i e);
+        clears = next call.clear (λ t. t .model .voices ≡ Left (map (shown c) (l .voices))) left;
+        removed = λ n. next call.clear (λ t. t .answer ≡ call.removed n → length (map (shown c) (l .voices)) ≡ length (t .model .voices) + n) (λ e.
+            length-map (l .voices) (shown c) ∙ cleared-count l (r .ids) n e ∙ ap (λ z. z + n) (sym (length-map (step call.clear l .ledger .voices) (shown c))));
+        leaves = λ x v i f e. next x (λ t. Next x (t .answer) (t .model .voices) (t .model) v f) (goes x v i f e);
+        quiet = λ x h. next x (λ t. t .model .desk .steals ≡ l .desk .steals) (book-stays x h l);
+        marks = λ x n h. next (call.spawnManaged x) (λ t. Fate (l .desk .steals) (t .model .desk .steals) (Reclaimed (map (shown c) (l .voices)) (t .model .voices) (x .bus) n) n)
+            (fate-voices (reclaimed-shown c (l .voices) (step (call.spawnManaged x) l .ledger .voices) (x .bus) n) (marks x l r n h));
+        writes = λ n b x a. next (call.spawnManaged x) (λ t. t .answer ≡ call.spawned a → t .model .desk .steals .count + count tracks (t .model .voices) ≡ more (isLet a) (l .desk .steals .count + count tracks (map (shown c) (l .voices)))) (λ e.
+            ap (λ z. step (call.spawnManaged x) l .ledger .desk .steals .count + z) (tracks-count c (step (call.spawnManaged x) l .ledger .voices))
+            ∙ tallies x n l (ap (λ (z : Config). z .budget) is ∙ b) r a e
+            ∙ ap (λ z. more (isLet a) (l .desk .steals .count + z)) (sym (tracks-count c (l .voices))));
+        numbers = λ v i f e. let w = was c (l .voices) v i f e in subst (λ (g : Fade). g .number < l .desk .steals .count) (sym (w .moves)) (r .numbers (w .voice) (w .member) (w .fade) (w .state));
+        own = own;
+        budget = λ n b bus. subst (λ z. z ≤ n) (sym (count-map (shown c) (counted (c .scope) bus) (counted (c .scope) bus) (counted-same (λ n. n * c .block) (c .scope) bus) (l .voices))) (known .budget n b bus);
+        loose = λ b.
+            let a = known .loose b in
+            record {
+              voices = λ v i. let w = in-map (shown c) (l .voices) v i in ap (λ (x : Voice). x .state) (w .2) ∙ ap (movedState (λ n. n * c .block)) (a .voices (w .0) (w .1));
+              book = a .book;
+            };
+        stay = λ b x v i. next (call.spawnManaged x) (λ t. In v (t .model .voices)) (
+            let w = in-map (shown c) (l .voices) v i in
+            subst (λ z. In z (map (shown c) (step (call.spawnManaged x) l .ledger .voices))) (sym (w .2)) (in-of-map (shown c) (step (call.spawnManaged x) l .ledger .voices) (w .0) (known .stay b x (w .0) (w .1))));
+        spawns = λ n b t x h. next (call.spawnManaged x) (λ z. z .answer ≡ call.spawned (spawnAnswer (x .bus) (storeOf c l)))
+            (spawn-answer x l (known .kept .sound) n (ap (λ (z : Config). z .budget) is ∙ b) (subst (λ (z : Config). Stealing (z .policy)) (sym is) t) (sym (refusal-same c (l .desk) (l .voices) (x .def) (x .bus)) ∙ h)
+            ∙ ap call.spawned (sym (answer-same c (x .bus) l (known .kept .sound))));
+        room = record { nodes = omega (arith, known .room .nodes); edges = omega (arith, known .room .edges); voices = omega (arith, known .room .voices, length-map (l .voices) (shown c)); events = known .room .events };
+        records = r .newest;
+      }

@@ -1,0 +1,186 @@
+-- From the ledger to the store. After every list of calls the store is that of the ledger: the same desk, and its voices with count × block
+-- samples for a count. So what was shown of the ledger is said of the store.
+use Prim.Native.Nat.{ℕ, _+_, _*_, _≤_}
+use native.Mathlib.Omega.{arith}
+use native.Mathlib.Nat.{suc-mul}
+use mathlib.Core.Path.{_≡_, refl, sym, ap, ap₂, _∙_, subst}
+use mathlib.Core.List.{List, map}
+use mathlib.Core.Option.{Option, none, some}
+use mathlib.Core.Bool.{Bool, true, false, not, cond, _&&_, _||_}
+use lib.Dec.{leb}
+use lib.ListN.{length-map}
+use Rattle.lists.specs.Member.{In, in-map, in-of-map}
+use Rattle.lists.specs.Find.{find, mapO}
+use Rattle.lists.specs.Count.{more, count, count-map}
+use Rattle.node.specs.declared.record.NodeId.{NodeId}
+use Rattle.node.specs.declared.refusal.Refusal.the-variants.{NoPort}
+use Rattle.bus.specs.Fade.{fadeLength}
+use Rattle.rank.specs.Order.{upto}
+use Rattle.graph.specs.Node.{nodeAt, portsOf}
+use Rattle.synthdef.specs.declared.def.SynthDef.{SynthDef}
+use Rattle.store.specs.declared.answer.Spawned.the-variants as Spawned
+use Rattle.store.specs.declared.config.Config.{Config}
+use Rattle.store.specs.declared.voices.Voice.{Voice}
+use Rattle.store.specs.declared.voices.VoiceState.{VoiceState}
+use Rattle.store.specs.declared.voices.VoiceState.the-variants.{Tracked, Fading, Loose}
+use Rattle.store.specs.declared.voices.Fade.{Fade}
+use Rattle.model.specs.Desk.{Desk}
+use Rattle.model.specs.Voice.{isVoice, isOn, withState, movedFade, movedState, moved}
+use Rattle.model.specs.Refuse.{spawnRefusal}
+use Rattle.model.specs.Spawn.{nextVoice}
+use Rattle.model.specs.Clear as clearing
+use Rattle.model.specs.Model.{Model}
+use Rattle.model.specs.Make.{newModel}
+use Rattle.model.specs.Call.{Call, Answer}
+use Rattle.model.specs.Call as call
+use Rattle.ledger.specs.Holder.{Holder, nobody, host, voice}
+use Rattle.ledger.specs.Ledger.{Ledger, newLedger}
+use Rattle.ledger.specs.Ledger as ledger
+use Rattle.ledger.specs.Clear as ledgerClear
+use Rattle.ledger.specs.Call.{step}
+use Rattle.ledger.specs.Claim as claim
+use Rattle.ledger.specs.Claim.{ledgerAfter, isSounded, tracks, Reclaimed, isBusy, byOther, holderAt}
+use Rattle.ledger.proofs.Words as words
+use Rattle.ledger.proofs.Shown.{modelOf, tracked-same, fading-same, find-stored}
+use Rattle.ledger.proofs.Timely.{stored-shown}
+use Rattle.ledger.proofs.Spawns.{SoundL, ids-of}
+use Rattle.ledger.proofs.Managed.{config-step, config-run, ids-new}
+use Rattle.ledger.proofs.Agree.{Kept, step-agrees, kept-step, kept-new, runs}
+use Rattle.ledger.proofs.Blocked.{every-same}
+
+-- ---- the store of a ledger
+abbrev pub shown : Config → Voice → Voice
+shown c v = moved (λ n. n * c .block) v
+
+abbrev pub storeOf : Config → Ledger → Model
+storeOf c l = record { desk = l .desk; voices = map (shown c) (l .voices) }
+
+module _ (c : Config) where
+  model-store : (l : Ledger) → Kept l → l .desk .config ≡ c → modelOf l ≡ storeOf c l
+  model-store l k is =
+      ap (λ vs. record { desk = l .desk; voices = vs }) (stored-shown l (k .timely) (k .clock)) ∙ ap (λ (z : Config). storeOf z l) is
+
+  -- a call on it
+  pub store-step : (x : Call) (l : Ledger) → Kept l → l .desk .config ≡ c → call.step x (storeOf c l) ≡ record { answer = step x l .answer; model = storeOf c (step x l .ledger) }
+  store-step x l k is =
+      let a = step-agrees x l k in
+      ap (call.step x) (sym (model-store l k is))
+      ∙ ap₂ (λ b m. record { answer = b; model = m }) (a .answer) (a .model ∙ model-store (step x l .ledger) (kept-step x l k) (config-step x l (ids-of l (k .sound)) ∙ is))
+
+  module _ (fits : fadeLength (c .rate) ≤ 18446744073709551615) where
+    pub kept-after : (xs : List Call) → Kept (ledgerAfter c xs)
+    kept-after xs = runs xs (newLedger c) (kept-new c fits) .kept
+
+    pub config-after : (xs : List Call) → ledgerAfter c xs .desk .config ≡ c
+    config-after xs = config-run xs (newLedger c) (ids-new c)
+
+    -- the store after a list
+    pub store-after : (xs : List Call) → claim.after (newModel c) xs ≡ storeOf c (ledgerAfter c xs)
+    store-after xs = runs xs (newLedger c) (kept-new c fits) .model ∙ model-store (ledgerAfter c xs) (kept-after xs) (config-after xs)
+
+    -- and how many of further calls sound
+    pub soundings-same : (ys xs : List Call) → claim.soundings xs (claim.after (newModel c) ys) ≡ words.soundings xs (ledgerAfter c ys)
+    soundings-same ys xs =
+        let l = ledgerAfter c ys in
+        ap (claim.soundings xs) (store-after ys ∙ sym (model-store l (kept-after ys) (config-after ys))) ∙ ap (count isSounded) (runs xs l (kept-after ys) .answers)
+
+  -- ---- its voices
+  tracked-shown : (s : VoiceState) → movedState (λ n. n * c .block) s ≡ Tracked → s ≡ Tracked
+  tracked-shown Tracked e = refl
+  tracked-shown (Fading f) e = let z : _≡_ {A = ℕ} 0 1 = cc in absurd (omega arith)
+  tracked-shown Loose e = e
+
+  -- one that is tracked is the ledger's own
+  pub tracked-in : (vs : List Voice) (v : Voice) → v .state ≡ Tracked → In v (map (shown c) vs) → In v vs
+  tracked-in vs v t i =
+      let r = in-map (shown c) vs v i in
+      let s : r .0 .state ≡ Tracked = tracked-shown (r .0 .state) (ap (λ (x : Voice). x .state) (sym (r .2)) ∙ t) in
+      let e : v ≡ r .0 = r .2 ∙ ap (λ z. withState (movedState (λ n. n * c .block) z) (r .0)) s ∙ ap (λ z. withState z (r .0)) (sym s) in
+      subst (λ x. In x vs) (sym e) (r .1)
+
+  pub in-tracked : (vs : List Voice) (v : Voice) → v .state ≡ Tracked → In v vs → In v (map (shown c) vs)
+  in-tracked vs v t i =
+      let e : shown c v ≡ v = ap (λ z. withState (movedState (λ n. n * c .block) z) v) t ∙ ap (λ z. withState z v) (sym t) in
+      subst (λ x. In x (map (shown c) vs)) e (in-of-map (shown c) vs v i)
+
+  -- one that fades has a fade of the ledger's
+  pub record Was (vs : List Voice) (v : Voice) (f : Fade) : Type 0 where
+    pub voice : Voice
+    pub fade : Fade
+    pub member : In voice vs
+    pub state : voice .state ≡ Fading fade
+    pub is : v ≡ shown c voice
+    pub moves : f ≡ movedFade (λ n. n * c .block) fade
+
+  pub was : (vs : List Voice) (v : Voice) → In v (map (shown c) vs) → (f : Fade) → v .state ≡ Fading f → Was vs v f
+  was vs v i f e =
+      let r = in-map (shown c) vs v i in
+      let m = back (r .0 .state) (ap (λ (x : Voice). x .state) (sym (r .2)) ∙ e) in
+      record { voice = r .0; fade = m .0; member = r .1; state = m .1; is = r .2; moves = m .2 }
+    where
+      inj : {a b : Fade} → Fading a ≡ Fading b → a ≡ b
+      inj e = cc
+
+      back : (s : VoiceState) → movedState (λ n. n * c .block) s ≡ Fading f → (g : Fade) × (s ≡ Fading g) × (f ≡ movedFade (λ n. n * c .block) g)
+      back Tracked e = let z : _≡_ {A = ℕ} 0 1 = cc in absurd (omega arith)
+      back (Fading g) e = (g, refl, sym (inj e))
+      back Loose e = let z : _≡_ {A = ℕ} 0 1 = cc in absurd (omega arith)
+
+  -- ---- what the claim reads of them
+  pub tracks-count : (vs : List Voice) → count tracks (map (shown c) vs) ≡ count tracks vs
+  tracks-count vs = count-map (shown c) tracks tracks (λ v. tracked-same (λ n. n * c .block) (v .state)) vs
+
+  busy-same : (bus : NodeId) (o : Option Voice) → isBusy bus (mapO (shown c) o) ≡ isBusy bus o
+  busy-same bus none = refl
+  busy-same bus (some v) = ap₂ (λ a b. (a || b) && isOn bus v) (tracked-same (λ n. n * c .block) (v .state)) (fading-same (λ n. n * c .block) (v .state))
+
+  other-same : (bus : NodeId) (vs : List Voice) (h : Holder) → byOther bus (map (shown c) vs) h ≡ byOther bus vs h
+  other-same bus vs nobody = refl
+  other-same bus vs (host k) = refl
+  other-same bus vs (voice w) = ap (λ o. not (isBusy bus o)) (find-stored (λ n. n * c .block) w vs) ∙ ap not (busy-same bus (find (isVoice w) vs))
+
+  -- by its edges, as by the ledger's holders
+  pub answer-same : (bus : NodeId) (l : Ledger) → SoundL l → claim.spawnAnswer bus (storeOf c l) ≡ words.spawnAnswer bus l
+  answer-same bus l s =
+      ap (λ b. cond b (Spawned.Refused NoPort) (Spawned.Voice (nextVoice (l .desk))))
+      (every-same (λ p. byOther bus (map (shown c) (l .voices)) (holderAt (l .desk .graph .nodes) (l .desk .graph .edges) (bus .0) p)) (λ p. byOther bus (l .voices) (l .holders (bus .0) p)) (upto (portsOf (nodeAt (l .desk .graph .nodes) bus)))
+      (λ p. other-same bus (l .voices) (holderAt (l .desk .graph .nodes) (l .desk .graph .edges) (bus .0) p) ∙ ap (byOther bus (l .voices)) (sym (s .held (bus .0) p))))
+
+  pub refusal-same : (d : Desk) (vs : List Voice) (def : SynthDef) (bus : NodeId) → spawnRefusal d (map (shown c) vs) def bus ≡ spawnRefusal d vs def bus
+  refusal-same d vs def bus = rw (length-map vs (shown c))
+
+  pub reclaimed-shown : (vs vs' : List Voice) (bus : NodeId) (k : ℕ) → Reclaimed vs vs' bus k → Reclaimed (map (shown c) vs) (map (shown c) vs') bus k
+  reclaimed-shown vs vs' bus k r =
+      record {
+        voice = shown c (r .voice);
+        fade = movedFade (λ n. n * c .block) (r .fade);
+        member = in-of-map (shown c) vs (r .voice) (r .member);
+        state = ap (movedState (λ n. n * c .block)) (r .state);
+        number = r .number;
+        on = r .on;
+        gone = find-stored (λ n. n * c .block) (r .voice .id) vs' ∙ ap (mapO (shown c)) (r .gone);
+      }
+
+  -- a fade has ended as the ledger says: "ended is count × block at least L"
+  pub ended-shown : (d : Desk) → d .config ≡ c → (s : VoiceState) → clearing.ended (fadeLength (c .rate)) (movedState (λ n. n * c .block) s) ≡ ledgerClear.ended d s
+  ended-shown d is Tracked = refl
+  ended-shown d is (Fading f) = ap (λ (z : Config). leb (fadeLength (z .rate)) (f .position * z .block)) (sym is)
+  ended-shown d is Loose = refl
+
+  -- ---- how a fading voice goes on, or why it leaves
+  module _ (l : Ledger) (is : l .desk .config ≡ c) (u : Voice) (g : Fade) where
+    further : (b : Bool) (n : ℕ) → more b n * c .block ≡ cond b (n * c .block + c .block) (n * c .block)
+    further true n = suc-mul n (c .block)
+    further false n = refl
+
+    pub goes-shown : (a : Answer) (vs : List Voice) → words.GoesOn u g a vs → claim.GoesOn (c .block) (shown c u) (movedFade (λ n. n * c .block) g) a (map (shown c) vs)
+    goes-shown a vs i =
+        subst (λ n. In (withState (Fading (record { node = g .node; start = g .start; position = n; number = g .number })) u) (map (shown c) vs)) (further (isSounded a) (g .position))
+        (in-of-map (shown c) vs (withState (Fading (words.beat a g)) u) i)
+
+    pub why-shown : (l' : Ledger) (x : Call) → words.Why l l' u g x → claim.Why (storeOf c l) (storeOf c l') (shown c u) (movedFade (λ n. n * c .block) g) x
+    why-shown l' x words.freed = claim.freed
+    why-shown l' x (words.timed e i d f v) = claim.timed e i d f v
+    why-shown l' x (words.ended e) = claim.ended (ap (λ (z : Config). clearing.ended (fadeLength (z .rate)) (shown c u .state)) is ∙ ended-shown (l .desk) is (u .state) ∙ e)
+    why-shown l' x (words.silent e) = claim.silent e
+    why-shown l' x (words.reclaimed y on e) = claim.reclaimed y on e
