@@ -32,6 +32,7 @@ use Rattle.ledger.proofs.Nodes.{own-run, own-new}
 use Rattle.ledger.proofs.Records.{recorded-run, recorded-new}
 use Rattle.ledger.proofs.Clearing.{rounded-iff}
 use Rattle.ledger.proofs.History.{stolen-at}
+use Rattle.ledger.proofs.Ready.{ready-run, ready-new}
 use Rattle.ledger.proofs.Holds.{Known, holds}
 use Rattle.ledger.proofs.Store.{shown, kept-after, config-after, store-after, soundings-same, Was, was}
 
@@ -45,6 +46,7 @@ module _ (c : Config) (block : 0 < c .block) (fits : fadeLength (c .rate) ≤ 18
         recorded = recorded-run xs (newLedger c) (recorded-new c);
         nodes = own-run xs (newLedger c) (own-new c);
         room = room-run xs (newLedger c) (kept-new c fits) (record { nodes = omega arith; edges = omega arith; voices = omega arith; events = omega arith });
+        ready = ready-run xs (newLedger c) (ready-new c);
         budget = λ n b bus. within-budget c n b xs bus;
         loose = λ b. without-budget c b xs;
         stay = λ b. nobody-reclaimed c b xs;

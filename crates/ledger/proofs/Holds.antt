@@ -1,25 +1,29 @@
 -- What is known of the ledger after a list of calls, said of the store: claims 2 to 5.
 use Prim.Native.Nat.{ℕ, _+_, _≤_, _<_, _*_}
 use native.Mathlib.Omega.{arith}
-use mathlib.Core.Path.{_≡_, refl, sym, ap, _∙_, subst}
+use mathlib.Core.Path.{_≡_, refl, sym, ap, ap₂, _∙_, subst}
 use mathlib.Core.Logic.{_⊎_, ⊎-elim, inl, inr}
 use mathlib.Core.List.{List, map}
-use mathlib.Core.Option.{none}
+use mathlib.Core.Option.{none, some}
 use mathlib.Core.Bool.{Bool, true, false, not, true≢false}
 use lib.ListN.{length, length-map}
 use borrow.Author.Tests.{eqb-true, not-true}
 use Rattle.lists.specs.Member.{In, in-map, in-of-map}
-use Rattle.lists.specs.Find.{find, mapO, none-find}
+use Rattle.lists.specs.Find.{find, mapO, find-in, none-find}
 use Rattle.lists.specs.Keep.{keep, keep-map, in-keep}
 use Rattle.lists.specs.Count.{more, count, count-map}
 use Rattle.node.specs.declared.record.NodeId.{NodeId}
+use Rattle.node.specs.declared.record.Node.{Node}
+use Rattle.node.specs.declared.record.Edge.{Edge}
 use Rattle.order.specs.Prepare as graph
+use Rattle.graph.specs.Node.{isNode, nodeAt}
 use Rattle.bus.specs.Fade.{fadeLength}
 use Rattle.store.specs.declared.config.Config.{Config}
 use Rattle.store.specs.declared.voices.Voice.{Voice}
 use Rattle.store.specs.declared.voices.VoiceState.the-variants.{Fading}
 use Rattle.store.specs.declared.voices.Fade.{Fade}
 use Rattle.voice.specs.declared.policy.Budget.the-variants.{Unlimited, AtMost}
+use Rattle.model.specs.Desk.{sounding}
 use Rattle.model.specs.Voice.{id, isVoice, movedFade, movedState, counted}
 use Rattle.model.specs.Clear.{isSilent}
 use Rattle.model.specs.Clear as clearing
@@ -30,7 +34,7 @@ use Rattle.model.specs.Call as call
 use Rattle.ledger.specs.Ledger.{Ledger}
 use Rattle.ledger.specs.Clear as ledger
 use Rattle.ledger.specs.Call.{step}
-use Rattle.ledger.specs.Claim.{Holds, Stealing, GoesOn, Why, Fate, Reclaimed, tracks, isLet, spawnAnswer}
+use Rattle.ledger.specs.Claim.{Holds, Stealing, GoesOn, Why, Fate, Reclaimed, tracks, isLet, spawnAnswer, isSounded, nodeIds, ownerAt}
 use Rattle.ledger.proofs.Words as words
 use Rattle.ledger.proofs.Ids.{unique}
 use Rattle.ledger.proofs.Shown.{counted-same, find-stored}
@@ -42,6 +46,8 @@ use Rattle.ledger.proofs.Marks.{fate-voices, book-stays, marks, tallies
 use Rattle.ledger.proofs.Gone.{leaves-gone}
 use Rattle.ledger.proofs.Clearing.{cleared-voices, cleared-count}
 use Rattle.ledger.proofs.Blocked.{spawn-answer}
+use Rattle.ledger.proofs.Owner.{owner-some}
+use Rattle.ledger.proofs.Ready.{ReadyOf, prepared-sorted, prepared-same, render-sounds}
 use Rattle.ledger.proofs.Store.{shown, storeOf, store-step, Was, was, tracks-count, answer-same, refusal-same, reclaimed-shown, ended-shown, goes-shown, why-shown}
 
 -- what is known of the ledger l after a list of calls from making with c
@@ -51,6 +57,7 @@ pub record Known (c : Config) (l : Ledger) : Type 0 where
   pub recorded : RecordedOf l
   pub nodes : OwnNodes l
   pub room : RoomOf l
+  pub ready : ReadyOf l
   pub budget : (n : ℕ) → c .budget ≡ AtMost n → (bus : NodeId) → count (counted (c .scope) bus) (l .voices) ≤ n
   pub loose : c .budget ≡ Unlimited → words.AllLoose l
   pub stay : c .budget ≡ Unlimited → (x : Spawn) (v : Voice) → In v (l .voices) → In v (step (call.spawnManaged x) l .ledger .voices)
@@ -132,6 +139,21 @@ module _ (c : Config) (l : Ledger) (known : Known c l) where
       let n : a .fade .number ≡ b .fade .number = ap (λ (x : Fade). x .number) (sym (a .moves)) ∙ s ∙ ap (λ (x : Fade). x .number) (b .moves) in
       a .is ∙ ap (shown c) (r .own (a .voice) (b .voice) (a .member) (b .member) (a .fade) (b .fade) (a .state) (b .state) n) ∙ sym (b .is)
 
+  -- ---- the graph
+  live-in : (ns : List Node) (n a : ℕ) → ownerAt ns n ≡ some a → In n (nodeIds ns)
+  live-in ns n a e =
+      let x = owner-some (nodeAt ns (id n)) a e in
+      let i = find-in (isNode (id n)) ns (x .0) (x .1) in
+      subst (λ j. In j (nodeIds ns)) (eqb-true (x .0 .id .0) n (i .1)) (in-of-map (λ (y : Node). y .id .0) ns (x .0) (i .0))
+
+  wired : (e : Edge) → In e (l .desk .graph .edges) → In (e .from .0) (nodeIds (l .desk .graph .nodes)) × In (e .to .0) (nodeIds (l .desk .graph .nodes))
+  wired e i = let g = known .kept .sound .wired .ends e i in (live-in (l .desk .graph .nodes) (e .from .0) (g .a) (g .from), live-in (l .desk .graph .nodes) (e .to .0) (g .b) (g .to))
+
+  prepares : l .desk .graph .prepared ≡ true → call.step call.prepare (storeOf c l) ≡ record { answer = call.done; model = storeOf c l }
+  prepares p =
+      ap₂ (λ a d. record { answer = call.readyAnswer a; model = record { desk = d; voices = map (shown c) (l .voices) } })
+      (ap (λ (o : graph.Outcome). o .answer) (known .ready .holds p)) (prepared-same (l .desk) (known .ready) p)
+
   pub holds : Holds c (storeOf c l)
   holds =
       record {
@@ -162,6 +184,10 @@ module _ (c : Config) (l : Ledger) (known : Known c l) where
         spawns = λ n b t x h. next (call.spawnManaged x) (λ z. z .answer ≡ call.spawned (spawnAnswer (x .bus) (storeOf c l)))
             (spawn-answer x l (known .kept .sound) n (ap (λ (z : Config). z .budget) is ∙ b) (subst (λ (z : Config). Stealing (z .policy)) (sym is) t) (sym (refusal-same c (l .desk) (l .voices) (x .def) (x .bus)) ∙ h)
             ∙ ap call.spawned (sym (answer-same c (x .bus) l (known .kept .sound))));
+        wires = wired;
+        inOrder = prepared-sorted (l .desk .graph) (known .ready);
+        prepares = prepares;
+        sounds = λ e. next call.render (λ t. isSounded (t .answer) ≡ sounding (t .model .desk)) (render-sounds l (known .ready) e);
         room = record { nodes = omega (arith, known .room .nodes); edges = omega (arith, known .room .edges); voices = omega (arith, known .room .voices, length-map (l .voices) (shown c)); events = known .room .events };
         records = r .newest;
       }

@@ -31,6 +31,8 @@ pub mod Begins
 pub mod History
 pub mod Blocked
 pub mod Spawning
+pub mod Rows
+pub mod Ready
 pub mod Gone
 pub mod Store
 pub mod Holds

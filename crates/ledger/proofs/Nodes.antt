@@ -193,10 +193,10 @@ own-steady =
       setSink = λ l k q. q;
       loose = λ l def bus pan e q. (ids-steady .loose l def bus pan e (q .0), lands l def bus pan (q .1) (portFree bus l));
       goes = λ l w q. (ids-steady .goes l w (q .0), mine-less (λ x. not (ownedBy w x)) (λ x. not (isVoice w x)) (q .1));
-      node = λ l k x n e i o q. (q .0, mine-replaced k x n e i o (q .1));
+      node = λ l k x n e s q. (q .0, mine-replaced k x n e (s .id) (s .owner) (q .1));
       schedule = λ l e h q. q;
       rest = λ l q. q;
-      prepare = λ l o q. q;
+      prepare = λ l e q. q;
       block = λ l a q. (ids-steady .block l a (q .0), counts l (isSounding a) (q .1));
     }
   where

@@ -264,13 +264,13 @@ room-steady =
       setSink = λ l k r. record { nodes = r .nodes; edges = r .edges; voices = r .voices; events = r .events };
       loose = λ l def bus pan e r. one l def bus pan (room-spare _ _ _ l (room-spawn def bus l r e)) (portFree bus l);
       goes = λ l w r. room-gone 0 0 0 l w r;
-      node = λ l k x n e i o r. record { nodes = rw (length-map (l .desk .graph .nodes) (λ m. cond (isNode (n .id) m) n m)) (r .nodes); edges = r .edges; voices = r .voices; events = r .events };
+      node = λ l k x n e s r. record { nodes = rw (length-map (l .desk .graph .nodes) (λ m. cond (isNode (n .id) m) n m)) (r .nodes); edges = r .edges; voices = r .voices; events = r .events };
       schedule = λ l e h r.
           let lt : length (l .desk .events) < 256 = leb-false _ _ h in
           record { nodes = r .nodes; edges = r .edges; voices = r .voices; events = omega (arith, lt, length-inserted e (l .desk .events)) };
       rest = λ l r.
           record { nodes = r .nodes; edges = r .edges; voices = r .voices; events = omega (arith, r .events, length-keep (λ e. not (due (deadline (l .desk)) e)) (l .desk .events)) };
-      prepare = λ l o r. record { nodes = r .nodes; edges = r .edges; voices = r .voices; events = r .events };
+      prepare = λ l e r. record { nodes = r .nodes; edges = r .edges; voices = r .voices; events = r .events };
       block = λ l a r. record { nodes = r .nodes; edges = r .edges; voices = rw (counted-length (isSounding a) (l .voices)) (r .voices); events = r .events };
     }
   where

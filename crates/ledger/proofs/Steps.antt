@@ -84,6 +84,13 @@ atGraph l g h = record { desk = withGraph g (l .desk); holders = h; voices = l .
 abbrev pub atDesk : Ledger → Desk → Ledger
 atDesk l d = record { desk = d; holders = l .holders; voices = l .voices }
 
+-- what a report, a value and a glide leave of a node's record
+pub record Alike (x n : Node) : Type 0 where
+  pub id : n .id ≡ x .id
+  pub owner : n .owner ≡ x .owner
+  pub ports : n .ports ≡ x .ports
+  pub required : n .required ≡ x .required
+
 pub record Steady (P : Ledger → Type 0) : Type 0 where
   pub addNode : (l : Ledger) (kind : List ℕ) (ports required : ℕ) (values glides : Bool) → addRefusal (l .desk .graph) kind ports required ≡ none → P l
       → P (atGraph l (change.append (l .desk .graph) (hostNode kind ports required values glides)) (l .holders))
@@ -95,11 +102,11 @@ pub record Steady (P : Ledger → Type 0) : Type 0 where
   pub setSink : (l : Ledger) (k : NodeId) → P l → P (atGraph l (change.setSink (l .desk .graph) k) (l .holders))
   pub loose : (l : Ledger) (def : SynthDef) (bus : NodeId) (pan : Bool) → spawnRefusal (l .desk) (l .voices) def bus ≡ none → P l → P (place 0 def pan Loose bus l .ledger)
   pub goes : (l : Ledger) (w : VoiceId) → P l → P (gone w l)
-  -- the record x of a live node becomes n, of the same id and owner
-  pub node : (l : Ledger) (k : NodeId) (x n : Node) → nodeAt (l .desk .graph .nodes) k ≡ some x → n .id ≡ x .id → n .owner ≡ x .owner → P l → P (atDesk l (withNode n (l .desk)))
+  -- the record x of a live node becomes n
+  pub node : (l : Ledger) (k : NodeId) (x n : Node) → nodeAt (l .desk .graph .nodes) k ≡ some x → Alike x n → P l → P (atDesk l (withNode n (l .desk)))
   pub schedule : (l : Ledger) (e : Event) → full (l .desk .events) ≡ false → P l → P (atDesk l (withEvents (inserted e (l .desk .events)) (l .desk)))
   pub rest : (l : Ledger) → P l → P (rested l)
-  pub prepare : (l : Ledger) (o : List NodeId) → P l → P (atDesk l (readyDesk Ready o (l .desk)))
+  pub prepare : (l : Ledger) → prepareOutcome (l .desk) .answer ≡ Ready → P l → P (atDesk l (readyDesk Ready (prepareOutcome (l .desk) .order) (l .desk)))
   pub block : (l : Ledger) (a : Rendered) → P l → P (blockOf a l .ledger)
 
 -- two that hold of the ledger hold together
@@ -113,10 +120,10 @@ both-steady a b =
       setSink = λ l k h. (a .setSink l k (h .0), b .setSink l k (h .1));
       loose = λ l def bus pan e h. (a .loose l def bus pan e (h .0), b .loose l def bus pan e (h .1));
       goes = λ l w h. (a .goes l w (h .0), b .goes l w (h .1));
-      node = λ l k x n e i o h. (a .node l k x n e i o (h .0), b .node l k x n e i o (h .1));
+      node = λ l k x n e s h. (a .node l k x n e s (h .0), b .node l k x n e s (h .1));
       schedule = λ l e f h. (a .schedule l e f (h .0), b .schedule l e f (h .1));
       rest = λ l h. (a .rest l (h .0), b .rest l (h .1));
-      prepare = λ l o h. (a .prepare l o (h .0), b .prepare l o (h .1));
+      prepare = λ l e h. (a .prepare l e (h .0), b .prepare l e (h .1));
       block = λ l r h. (a .block l r (h .0), b .block l r (h .1));
     }
 
@@ -144,7 +151,7 @@ module _ (P : Ledger → Type 0) where
     orderNode-kept j (some n) x l e p = go (takes x n)
       where
         go : (b : Bool) → P (atDesk l (cond b (record { outcome = Applied; desk = withNode (withLast x n) (l .desk) }) (stays NotTaken (l .desk)) .desk))
-        go true = k .node l j n (withLast x n) e refl refl p
+        go true = k .node l j n (withLast x n) e (record { id = refl; owner = refl; ports = refl; required = refl }) p
         go false = p
 
     orderParam-kept : (o : Option ℕ) (v : Voice) (x : LastOrder) (l : Ledger) → P l → P (atDesk l (orderParam o v x (l .desk) .desk))
@@ -157,11 +164,14 @@ module _ (P : Ledger → Type 0) where
 
     report-kept : (j : NodeId) (o : Option Node) (samples : List Float) (flag : Bool) (l : Ledger) → nodeAt (l .desk .graph .nodes) j ≡ o → P l → P (atDesk l (reportNode o samples flag (l .desk)))
     report-kept j none samples flag l e p = p
-    report-kept j (some n) samples flag l e p = k .node l j n (withReport samples flag n) e refl refl p
+    report-kept j (some n) samples flag l e p = k .node l j n (withReport samples flag n) e (record { id = refl; owner = refl; ports = refl; required = refl }) p
 
-    ready-kept : (r : Readiness) (o : List NodeId) (l : Ledger) → P l → P (atDesk l (readyDesk r o (l .desk)))
-    ready-kept Ready o l p = k .prepare l o p
-    ready-kept (Refused r) o l p = p
+    ready-kept : (l : Ledger) → P l → P (atDesk l (prepareDesk (l .desk)))
+    ready-kept l p = go (prepareOutcome (l .desk) .answer) refl
+      where
+        go : (r : Readiness) → prepareOutcome (l .desk) .answer ≡ r → P (atDesk l (readyDesk r (prepareOutcome (l .desk) .order) (l .desk)))
+        go Ready e = k .prepare l e p
+        go (Refused r) e = p
 
     happen-kept : (e : Event) (l : Ledger) → P l → P (happen e l)
     happen-kept e l p = go (isFree (e .action))
@@ -177,7 +187,7 @@ module _ (P : Ledger → Type 0) where
     block-kept : (b : Bool) (l : Ledger) → P l → P (preparedIf b l .ledger)
     block-kept true l p =
         k .block (atDesk l (prepareDesk (l .desk))) (answerAfter (prepareOutcome (l .desk) .answer) (prepareDesk (l .desk)))
-        (ready-kept (prepareOutcome (l .desk) .answer) (prepareOutcome (l .desk) .order) l p)
+        (ready-kept l p)
     block-kept false l p = k .block l (heard (sounding (l .desk))) p
 
     render-kept : (l : Ledger) → P l → P (render l .ledger)
@@ -210,7 +220,7 @@ module _ (P : Ledger → Type 0) where
         unless-kept (scheduleRefusal (l .desk .events)) l _ p (λ e. k .schedule l (event t w name a) (when-none (full (l .desk .events)) TableFull none e .0) p)
     step-kept (call.report j channels samples flag) l m p =
         unless-kept (reportRefusal (l .desk) (l .voices) j channels (length samples)) l _ p (λ e. report-kept j (nodeAt (l .desk .graph .nodes) j) samples flag l refl p)
-    step-kept call.prepare l m p = ready-kept (prepareOutcome (l .desk) .answer) (prepareOutcome (l .desk) .order) l p
+    step-kept call.prepare l m p = ready-kept l p
     step-kept call.render l m p = render-kept l p
     step-kept (call.ask q) l m p = p
 
@@ -246,10 +256,10 @@ module _ (F : Config → Book → ℕ → List Voice → Type 0)
         setSink = λ l k f. f;
         loose = λ l def bus pan e f. one l def bus pan e f (portFree bus l);
         goes = λ l w f. goes (l .desk .config) (l .desk .steals) (l .desk .spawned) (l .voices) w f;
-        node = λ l k x n e i o f. f;
+        node = λ l k x n e s f. f;
         schedule = λ l e h f. f;
         rest = λ l f. f;
-        prepare = λ l o f. f;
+        prepare = λ l e f. f;
         block = λ l a f. sounds l (isSounding a) f;
       }
     where

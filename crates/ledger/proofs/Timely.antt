@@ -251,10 +251,10 @@ timely-steady =
       setSink = λ l k h. h;
       loose = λ l def bus pan e h. timely-place 0 def pan Loose (λ block clock. tt) bus l h;
       goes = λ l w h. timely-gone w l h;
-      node = λ l k x n e i o h. h;
+      node = λ l k x n e s h. h;
       schedule = λ l e f h. h;
       rest = λ l h. h;
-      prepare = λ l o h. h;
+      prepare = λ l e h. h;
       block = λ l a h. timely-block a l h;
     }
 

@@ -23,7 +23,10 @@ use Rattle.node.specs.declared.record.NodeId.{NodeId}
 use Rattle.node.specs.declared.refusal.Refusal.the-variants.{NoPort}
 use Rattle.bus.specs.Fade.{fadeLength}
 use Rattle.rank.specs.Order.{upto}
+use Rattle.rank.specs.Cycle.{Sorted}
+use Rattle.order.specs.Live.{arcOf}
 use Rattle.edges.specs.Wiring.{endsAt}
+use Rattle.graph.specs.View.{GraphView}
 use Rattle.graph.specs.Node.{nodeAt, portsOf}
 use Rattle.scheduler.specs.Queue as queue
 use Rattle.scheduler.specs.declared.event.Event.{Event}
@@ -41,13 +44,13 @@ use Rattle.store.specs.declared.voices.Voice.{Voice}
 use Rattle.store.specs.declared.voices.VoiceState.{VoiceState}
 use Rattle.store.specs.declared.voices.VoiceState.the-variants.{Tracked, Fading, Loose}
 use Rattle.store.specs.declared.voices.Fade.{Fade}
-use Rattle.model.specs.Desk.{lengthL}
+use Rattle.model.specs.Desk.{lengthL, sounding}
 use Rattle.model.specs.Voice.{id, isVoice, isTracked, isFading, isOn, counted, moved, movedFade, withState}
 use Rattle.model.specs.Refuse.{spawnRefusal}
 use Rattle.model.specs.Spawn.{Spawn, nextVoice}
 use Rattle.model.specs.Clear.{isSilent}
 use Rattle.model.specs.Clear as clearing
-use Rattle.model.specs.Render.{isFree, isSounding, deadline}
+use Rattle.model.specs.Render.{isFree, isSounding, deadline, clockEnds}
 use Rattle.model.specs.Model.{Model}
 use Rattle.model.specs.Call.{Call, Answer}
 use Rattle.model.specs.Call as call
@@ -106,6 +109,11 @@ after m xs = call.run xs m .model
 -- how many of the calls, made on the store m, were sounding renders
 abbrev pub soundings : List Call → Model → ℕ
 soundings xs m = count isSounded (call.run xs m .answers)
+
+-- ---- ids
+-- the ids of the live nodes, as numbers
+abbrev pub nodeIds : List Node → List ℕ
+nodeIds ns = map (λ (x : Node). x .id .0) ns
 
 -- ---- holders, as the edges give them
 -- who owns the node of an id
@@ -280,6 +288,11 @@ pub record Room (s : Model) : Type 0 where
 abbrev pub Newest : Book → Type 0
 Newest b = ((length (b .newest) ≡ 64) × (64 ≤ b .count)) ⊎ ((length (b .newest) ≡ b .count) × (b .count < 64))
 
+-- ---- the graph
+-- "All live nodes are processed once": the processing order has every live node once and nothing else, and each edge's source before its target
+abbrev pub InOrder : GraphView → Type 0
+InOrder g = Sorted (nodeIds (g .nodes)) (map arcOf (g .edges)) (map (λ (k : NodeId). k .0) (g .order))
+
 -- ---- 2 to 5, of the store s, which a list of calls left, and of the call that is next
 pub record Holds (c : Config) (s : Model) : Type 0 where
   -- ---- 2. The next clearing call has removed a voice whose fade has ended; what is left are the voices whose fade has not ended and, of
@@ -314,6 +327,13 @@ pub record Holds (c : Config) (s : Model) : Type 0 where
   -- it answers the next voice id.
   pub spawns : (n : ℕ) → c .budget ≡ AtMost (suc n) → Stealing (c .policy) → (x : Spawn) → spawnRefusal (s .desk) (s .voices) (x .def) (x .bus) ≡ none
       → call.step (call.spawnManaged x) s .answer ≡ call.spawned (spawnAnswer (x .bus) s)
+  -- ---- "All live nodes are processed once in a sounding render, that is a prepared graph with a sink": while the graph is prepared it has
+  -- such an order, of edges between live nodes. A prepared graph never fails to prepare: prepare answers done and changes nothing. A
+  -- render that is not refused sounds exactly where the graph that it leaves is prepared and has a sink.
+  pub wires : (e : Edge) → In e (s .desk .graph .edges) → In (e .from .0) (nodeIds (s .desk .graph .nodes)) × In (e .to .0) (nodeIds (s .desk .graph .nodes))
+  pub inOrder : s .desk .graph .prepared ≡ true → InOrder (s .desk .graph)
+  pub prepares : s .desk .graph .prepared ≡ true → call.step call.prepare s ≡ record { answer = call.done; model = s }
+  pub sounds : clockEnds (s .desk) ≡ false → isSounded (call.step call.render s .answer) ≡ sounding (call.step call.render s .model .desk)
   -- ---- The tables hold it: 512 nodes, 1,024 edges, 64 voices, 256 events, and the newest 64 records.
   pub room : Room s
   pub records : Newest (s .desk .steals)
