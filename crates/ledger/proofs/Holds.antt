@@ -34,7 +34,7 @@ use Rattle.model.specs.Call as call
 use Rattle.ledger.specs.Ledger.{Ledger}
 use Rattle.ledger.specs.Clear as ledger
 use Rattle.ledger.specs.Call.{step}
-use Rattle.ledger.specs.Claim.{Holds, Stealing, GoesOn, Why, Fate, Reclaimed, tracks, isLet, spawnAnswer, isSounded, nodeIds, ownerAt}
+use Rattle.ledger.specs.Claim.{Holds, Losses, Stealing, GoesOn, Why, Fate, Reclaimed, tracks, isLet, spawnAnswer, isSounded, nodeIds, ownerAt}
 use Rattle.ledger.proofs.Words as words
 use Rattle.ledger.proofs.Ids.{unique}
 use Rattle.ledger.proofs.Shown.{counted-same, find-stored}
@@ -48,7 +48,8 @@ use Rattle.ledger.proofs.Clearing.{cleared-voices, cleared-count}
 use Rattle.ledger.proofs.Blocked.{spawn-answer}
 use Rattle.ledger.proofs.Owner.{owner-some}
 use Rattle.ledger.proofs.Ready.{ReadyOf, prepared-sorted, prepared-same, render-sounds}
-use Rattle.ledger.proofs.Store.{shown, storeOf, store-step, Was, was, tracks-count, answer-same, refusal-same, reclaimed-shown, ended-shown, goes-shown, why-shown}
+use Rattle.ledger.proofs.Losses.{losses}
+use Rattle.ledger.proofs.Store.{shown, storeOf, store-step, Was, was, tracks-count, answer-same, refusal-same, reclaimed-shown, ended-shown, goes-shown, why-shown, losses-shown}
 
 -- what is known of the ledger l after a list of calls from making with c
 pub record Known (c : Config) (l : Ledger) : Type 0 where
@@ -169,6 +170,7 @@ module _ (c : Config) (l : Ledger) (known : Known c l) where
             ap (λ z. step (call.spawnManaged x) l .ledger .desk .steals .count + z) (tracks-count c (step (call.spawnManaged x) l .ledger .voices))
             ∙ tallies x n l (ap (λ (z : Config). z .budget) is ∙ b) r a e
             ∙ ap (λ z. more (isLet a) (l .desk .steals .count + z)) (sym (tracks-count c (l .voices))));
+        losses = λ x. next (call.spawnManaged x) (λ t. Losses x (storeOf c l) (t .model)) (losses-shown c x l (step (call.spawnManaged x) l .ledger) (known .kept .sound) (losses x l r q));
         numbers = λ v i f e. let w = was c (l .voices) v i f e in subst (λ (g : Fade). g .number < l .desk .steals .count) (sym (w .moves)) (r .numbers (w .voice) (w .member) (w .fade) (w .state));
         own = own;
         budget = λ n b bus. subst (λ z. z ≤ n) (sym (count-map (shown c) (counted (c .scope) bus) (counted (c .scope) bus) (counted-same (λ n. n * c .block) (c .scope) bus) (l .voices))) (known .budget n b bus);

@@ -34,6 +34,7 @@ pub mod Spawning
 pub mod Rows
 pub mod Ready
 pub mod Gone
+pub mod Losses
 pub mod Store
 pub mod Holds
 pub mod Claim

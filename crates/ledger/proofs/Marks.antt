@@ -81,7 +81,7 @@ module _ {b₀ : Book} {R : Type 0} {k : ℕ} where
 gone-keep : (w : VoiceId) (t : Voice → Bool) (vs : List Voice) → find (isVoice w) vs ≡ none → find (isVoice w) (keep t vs) ≡ none
 gone-keep w t vs h = none-find (isVoice w) (keep t vs) (λ x i. find-none (isVoice w) vs x h (in-keep t vs x i .0))
 
-gone-self : (w : VoiceId) (vs : List Voice) → find (isVoice w) (keep (λ x. not (isVoice w x)) vs) ≡ none
+pub gone-self : (w : VoiceId) (vs : List Voice) → find (isVoice w) (keep (λ x. not (isVoice w x)) vs) ≡ none
 gone-self w vs = none-find (isVoice w) (keep (λ x. not (isVoice w x)) vs) (λ x i. not-true (isVoice w x) (in-keep (λ x. not (isVoice w x)) vs x i .1))
 
 module _ (def : SynthDef) (pan : Bool) (bus : NodeId) (l₀ : Ledger) (d₀ : Ids (l₀ .desk .spawned) (l₀ .voices)) where
@@ -220,7 +220,7 @@ marks spawn l r k lt = go (spawnRefusal (l .desk) (l .voices) (spawn .def) (spaw
 abbrev pub tallyOf : Ledger → ℕ
 tallyOf l = l .desk .steals .count + count tracks (l .voices)
 
-tally-cut : (v : Voice) (s : VoiceState) (m : Ledger) → RecordedOf m → In v (m .voices) → v .state ≡ s → tallyOf (cutOff v s m) ≡ tallyOf m
+pub tally-cut : (v : Voice) (s : VoiceState) (m : Ledger) → RecordedOf m → In v (m .voices) → v .state ≡ s → tallyOf (cutOff v s m) ≡ tallyOf m
 tally-cut v Tracked m r i e =
     let one = one-gone (r .ids) tracks v i ∙ ap (λ s. more (isTracked s) (count tracks (keep (λ x. not (isVoice (v .id) x)) (m .voices)))) e in
     let c = count-pushed (m .desk .steals) (recordOf (m .desk .clock) (voiceLevel (m .desk) v) true) (steal-small r v i e) in
@@ -232,7 +232,7 @@ tally-cut v Loose m r i e =
     let one = one-gone (r .ids) tracks v i ∙ ap (λ s. more (isTracked s) (count tracks (keep (λ x. not (isVoice (v .id) x)) (m .voices)))) e in
     omega arith
 
-tally-steal : (v : Voice) (m : Ledger) → RecordedOf m → In v (m .voices) → isTracked (v .state) ≡ true → tallyOf (stealVoice v m) ≡ tallyOf m
+pub tally-steal : (v : Voice) (m : Ledger) → RecordedOf m → In v (m .voices) → isTracked (v .state) ≡ true → tallyOf (stealVoice v m) ≡ tallyOf m
 tally-steal v m r i t = go (portHeld v m)
   where
     s : v .state ≡ Tracked

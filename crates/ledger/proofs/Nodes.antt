@@ -21,6 +21,7 @@ use Rattle.graph.specs.View.{GraphView}
 use Rattle.graph.specs.Node.{isNode, ownedBy, nodeAt, hostNode, withId, replaced}
 use Rattle.graph.specs.Change as change
 use Rattle.rank.specs.Order.{upto}
+use Rattle.synthdef.specs.Tables.{nodeRows}
 use Rattle.synthdef.specs.Plan.{planSilent}
 use Rattle.synthdef.specs.declared.def.SynthDef.{SynthDef}
 use Rattle.store.specs.declared.config.Config.{Config}
@@ -41,12 +42,21 @@ use Rattle.ledger.proofs.Upto.{up-in}
 use Rattle.ledger.proofs.Ids.{unique}
 use Rattle.ledger.proofs.Steps.{place-kept, Steady, kept-run}
 use Rattle.ledger.proofs.Managed.{IdsOf, managed-kept, ids-steady, ids-settle, ids-steal}
-use Rattle.ledger.proofs.Newcomer.{nodes-owned, nodes-count}
+use Rattle.ledger.proofs.Newcomer.{nodes-owned, nodes-count, output-in}
+use Rattle.ledger.proofs.Allowed.{spawn-allowed}
+
+-- the place of a voice's output
+pub record Place (v : Voice) : Type 0 where
+  pub at : ℕ
+  pub below : at < v .count
+  pub is : v .output ≡ id (v .first .0 + at)
 
 pub record Mine (ns : List Node) (next : ℕ) (vs : List Voice) : Type 0 where
   pub below : (x : Node) → In x ns → x .id .0 < next
   pub places : (v : Voice) → In v vs → v .first .0 + v .count ≤ next
   pub owned : (v : Voice) → In v vs → (x : Node) → In x ns → v .first .0 ≤ x .id .0 → x .id .0 < v .first .0 + v .count → x .owner .0 ≡ v .id .0
+  -- its output is one of its places
+  pub output : (v : Voice) → In v vs → Place v
 
 -- ---- moves
 mine-less : {ns : List Node} {next : ℕ} {vs : List Voice} (t : Node → Bool) (u : Voice → Bool) → Mine ns next vs → Mine (keep t ns) next (keep u vs)
@@ -55,11 +65,12 @@ mine-less {ns} {next} {vs} t u m =
       below = λ x i. m .below x (in-keep t ns x i .0);
       places = λ v i. m .places v (in-keep u vs v i .0);
       owned = λ v i x j. m .owned v (in-keep u vs v i .0) x (in-keep t ns x j .0);
+      output = λ v i. m .output v (in-keep u vs v i .0);
     }
 
 mine-nodes : {ns : List Node} {next : ℕ} {vs : List Voice} (t : Node → Bool) → Mine ns next vs → Mine (keep t ns) next vs
 mine-nodes {ns} {next} {vs} t m =
-    record { below = λ x i. m .below x (in-keep t ns x i .0); places = m .places; owned = λ v i x j. m .owned v i x (in-keep t ns x j .0) }
+    record { below = λ x i. m .below x (in-keep t ns x i .0); places = m .places; owned = λ v i x j. m .owned v i x (in-keep t ns x j .0); output = m .output }
 
 mine-append : {ns : List Node} {next : ℕ} {vs : List Voice} (n : Node) → Mine ns next vs → Mine (ns ++ (withId next n ∷ [])) (next + 1) vs
 mine-append {ns} {next} {vs} n m =
@@ -67,14 +78,20 @@ mine-append {ns} {next} {vs} n m =
       below = λ x i. ⊎-elim (λ j. omega (arith, m .below x j)) (λ e. let z : x .id .0 ≡ next = ap (λ (y : Node). y .id .0) e in omega arith) (in-snoc ns (withId next n) x i);
       places = λ v i. omega (arith, m .places v i);
       owned = λ v i x j a b. ⊎-elim (λ k. m .owned v i x k a b) (λ e. let z : x .id .0 ≡ next = ap (λ (y : Node). y .id .0) e in absurd (omega (arith, z, b, m .places v i))) (in-snoc ns (withId next n) x j);
+      output = m .output;
     }
 
-mine-map : {ns : List Node} {next : ℕ} {vs : List Voice} (f : Voice → Voice) → ((v : Voice) → f v .first ≡ v .first) → ((v : Voice) → f v .count ≡ v .count) → ((v : Voice) → f v .id ≡ v .id) → Mine ns next vs → Mine ns next (map f vs)
-mine-map {ns} {next} {vs} f a b c m =
+mine-map : {ns : List Node} {next : ℕ} {vs : List Voice} (f : Voice → Voice) → ((v : Voice) → f v .first ≡ v .first) → ((v : Voice) → f v .count ≡ v .count) → ((v : Voice) → f v .id ≡ v .id) → ((v : Voice) → f v .output ≡ v .output) → Mine ns next vs → Mine ns next (map f vs)
+mine-map {ns} {next} {vs} f a b c d m =
     record {
       below = m .below;
       places = λ v i. let r = in-map f vs v i in rw (r .2, a (r .0), b (r .0)) (m .places (r .0) (r .1));
       owned = λ v i x j. let r = in-map f vs v i in rw (r .2, a (r .0), b (r .0), c (r .0)) (m .owned (r .0) (r .1) x j);
+      output = λ v i.
+          let r = in-map f vs v i in
+          let p = m .output (r .0) (r .1) in
+          subst Place (sym (r .2))
+          (record { at = p .at; below = rw (b (r .0)) (p .below); is = d (r .0) ∙ p .is ∙ ap (λ (k : NodeId). id (k .0 + p .at)) (sym (a (r .0))) });
     }
 
 mine-replaced : {ns : List Node} {next : ℕ} {vs : List Voice} (k : NodeId) (x n : Node) → nodeAt ns k ≡ some x → n .id ≡ x .id → n .owner ≡ x .owner → Mine ns next vs → Mine (replaced ns n) next vs
@@ -83,6 +100,7 @@ mine-replaced {ns} {next} {vs} k x n e i o m =
       below = λ y j. let r = was y j in let z = r .2 .0 in omega (arith, z, m .below (r .0) (r .1));
       places = m .places;
       owned = λ v q y j a b. let r = was y j in let z = r .2 in let h : v .first .0 ≤ r .0 .id .0 = omega arith in let g : r .0 .id .0 < v .first .0 + v .count = omega arith in z .1 ∙ m .owned v q (r .0) (r .1) h g;
+      output = m .output;
     }
   where
     was : (y : Node) → In y (replaced ns n) → (z : Node) × In z ns × ((y .id .0 ≡ z .id .0) × (y .owner .0 ≡ z .owner .0))
@@ -110,11 +128,11 @@ wires-same : (base : ℕ) (ws : List Wire) (g : GraphView) → (wireAll base g w
 wires-same base [] g = (refl, refl)
 wires-same base (w ∷ ws) g = wires-same base ws (change.connect g (id (base + w .from)) (id (base + w .to)) (w .port))
 
-abbrev MineOf : Ledger → Type 0
+abbrev pub MineOf : Ledger → Type 0
 MineOf l = Mine (l .desk .graph .nodes) (l .desk .graph .next) (l .voices)
 
-mine-land : (def : SynthDef) (pan : Bool) (s : VoiceState) (bus : NodeId) (p : ℕ) (l : Ledger) → MineOf l → MineOf (land def pan s bus p l .ledger)
-mine-land def pan s bus p l m =
+mine-land : (def : SynthDef) → def .output < length (nodeRows (def .nodes)) → (pan : Bool) (s : VoiceState) (bus : NodeId) (p : ℕ) (l : Ledger) → MineOf l → MineOf (land def pan s bus p l .ledger)
+mine-land def sings pan s bus p l m =
     subst (λ ns. Mine ns (land def pan s bus p l .ledger .desk .graph .next) (l .voices ++ (v ∷ []))) (sym (same .0))
     (subst (λ k. Mine (appendAll g xs .nodes) k (l .voices ++ (v ∷ []))) (sym (same .1 ∙ grown-next xs g)) all)
   where
@@ -150,6 +168,7 @@ mine-land def pan s bus p l m =
           below = λ x i. ⊎-elim (λ j. omega (arith, m .below x j)) (λ r. r .4) (in-grown xs g x i);
           places = λ u i. ⊎-elim (λ j. omega (arith, m .places u j)) (λ e. subst (λ (y : Voice). y .first .0 + y .count ≤ g .next + length xs) (sym e) (omega (arith, many))) (in-snoc (l .voices) v u i);
           owned = own;
+          output = λ u i. ⊎-elim (λ j. m .output u j) (λ e. subst Place (sym e) (record { at = def .output; below = sings; is = refl })) (in-snoc (l .voices) v u i);
         }
 
 -- ---- every call
@@ -160,10 +179,10 @@ begin-same get e w f v = go (isVoice w v)
     go true = e (Fading f) v
     go false = refl
 
-mine-cut : (v : Voice) (s : VoiceState) (l : Ledger) → MineOf l → MineOf (cutOff v s l)
+pub mine-cut : (v : Voice) (s : VoiceState) (l : Ledger) → MineOf l → MineOf (cutOff v s l)
 mine-cut v s l m = mine-less (λ x. not (ownedBy (v .id) x)) (λ x. not (isVoice (v .id) x)) m
 
-mine-steal : (v : Voice) (l : Ledger) → MineOf l → MineOf (stealVoice v l)
+pub mine-steal : (v : Voice) (l : Ledger) → MineOf l → MineOf (stealVoice v l)
 mine-steal v l m = go (portHeld v l)
   where
     f : Fade
@@ -172,12 +191,12 @@ mine-steal v l m = go (portHeld v l)
     go : (o : Option ℕ) → MineOf (stolen v o l)
     go none = mine-cut v Tracked l m
     go (some p) =
-        mine-map (beginFade (v .id) f) (begin-same (λ (x : Voice). x .first) (λ s v. refl) (v .id) f) (begin-same (λ (x : Voice). x .count) (λ s v. refl) (v .id) f) (begin-same (λ (x : Voice). x .id) (λ s v. refl) (v .id) f)
+        mine-map (beginFade (v .id) f) (begin-same (λ (x : Voice). x .first) (λ s v. refl) (v .id) f) (begin-same (λ (x : Voice). x .count) (λ s v. refl) (v .id) f) (begin-same (λ (x : Voice). x .id) (λ s v. refl) (v .id) f) (begin-same (λ (x : Voice). x .output) (λ s v. refl) (v .id) f)
         (mine-append (fadeNode (v .id)) m)
 
-mine-settle : (def : SynthDef) (pan : Bool) (bus : NodeId) (l : Ledger) → MineOf l → MineOf (settle def pan bus l .ledger)
-mine-settle def pan bus l m =
-    place-kept def pan (stateUnder (l .desk .config .budget)) bus (λ n z. MineOf z) (λ r. MineOf (r .ledger)) (λ n z p e q. mine-land def pan _ bus p z q) (λ z e q. q) (λ n z e f q. q)
+mine-settle : (def : SynthDef) → def .output < length (nodeRows (def .nodes)) → (pan : Bool) (bus : NodeId) (l : Ledger) → MineOf l → MineOf (settle def pan bus l .ledger)
+mine-settle def sings pan bus l m =
+    place-kept def pan (stateUnder (l .desk .config .budget)) bus (λ n z. MineOf z) (λ r. MineOf (r .ledger)) (λ n z p e q. mine-land def sings pan _ bus p z q) (λ z e q. q) (λ n z e f q. q)
     (λ n z v e f q. mine-cut v (v .state) z q) (tries (l .desk .config .budget) (l .voices)) l m
 
 abbrev pub OwnNodes : Ledger → Type 0
@@ -191,7 +210,7 @@ own-steady =
       connect = λ l a b p e q. q;
       disconnect = λ l b p e q. q;
       setSink = λ l k q. q;
-      loose = λ l def bus pan e q. (ids-steady .loose l def bus pan e (q .0), lands l def bus pan (q .1) (portFree bus l));
+      loose = λ l def bus pan e q. (ids-steady .loose l def bus pan e (q .0), lands l def (output-in def (spawn-allowed (l .desk) (l .voices) def bus e .definition)) bus pan (q .1) (portFree bus l));
       goes = λ l w q. (ids-steady .goes l w (q .0), mine-less (λ x. not (ownedBy w x)) (λ x. not (isVoice w x)) (q .1));
       node = λ l k x n e s q. (q .0, mine-replaced k x n e (s .id) (s .owner) (q .1));
       schedule = λ l e h q. q;
@@ -200,26 +219,27 @@ own-steady =
       block = λ l a q. (ids-steady .block l a (q .0), counts l (isSounding a) (q .1));
     }
   where
-    lands : (l : Ledger) (def : SynthDef) (bus : NodeId) (pan : Bool) → MineOf l → (o : Option ℕ) → MineOf (landOr o none def pan Loose bus l (refused NoPort) .ledger)
-    lands l def bus pan m none = m
-    lands l def bus pan m (some p) = mine-land def pan Loose bus p l m
+    lands : (l : Ledger) (def : SynthDef) → def .output < length (nodeRows (def .nodes)) → (bus : NodeId) (pan : Bool) → MineOf l → (o : Option ℕ) → MineOf (landOr o none def pan Loose bus l (refused NoPort) .ledger)
+    lands l def sings bus pan m none = m
+    lands l def sings bus pan m (some p) = mine-land def sings pan Loose bus p l m
 
     counts : (l : Ledger) (b : Bool) → MineOf l → Mine (l .desk .graph .nodes) (l .desk .graph .next) (countedIf b (l .voices))
-    counts l true m = mine-map (moved oneMore) (λ v. refl) (λ v. refl) (λ v. refl) m
+    counts l true m = mine-map (moved oneMore) (λ v. refl) (λ v. refl) (λ v. refl) (λ v. refl) m
     counts l false m = m
 
 pub own-run : (xs : List Call) (l : Ledger) → OwnNodes l → OwnNodes (run xs l .ledger)
 own-run = kept-run OwnNodes own-steady (λ l def bus pan e q.
-    managed-kept def pan bus (λ r. OwnNodes (r .ledger)) l (q .0) (λ h. q) (λ h. (ids-settle def pan bus l (q .0), mine-settle def pan bus l (q .1)))
-    (λ p w h v i t. (ids-settle def pan bus (stealVoice v l) (ids-steal v l (q .0)), mine-settle def pan bus (stealVoice v l) (mine-steal v l (q .1)))))
+    let sings = output-in def (spawn-allowed (l .desk) (l .voices) def bus e .definition) in
+    managed-kept def pan bus (λ r. OwnNodes (r .ledger)) l (q .0) (λ h. q) (λ h. (ids-settle def pan bus l (q .0), mine-settle def sings pan bus l (q .1)))
+    (λ p w h v i t. (ids-settle def pan bus (stealVoice v l) (ids-steal v l (q .0)), mine-settle def sings pan bus (stealVoice v l) (mine-steal v l (q .1)))))
 
 pub own-new : (c : Config) → OwnNodes (newLedger c)
-own-new c = (record { rising = tt; below = λ v i. absurd i }, record { below = λ x i. absurd i; places = λ v i. absurd i; owned = λ v i. absurd i })
+own-new c = (record { rising = tt; below = λ v i. absurd i }, record { below = λ x i. absurd i; places = λ v i. absurd i; owned = λ v i. absurd i; output = λ v i. absurd i })
 
 -- ---- the silence of a voice is its own
 module _ (l : Ledger) (q : OwnNodes l) (v : Voice) (i : In v (l .voices)) where
   -- another voice goes
-  node-stays : (w : VoiceId) → (v .id .0 ≡ w .0 → ⊥) → (k : ℕ) → k < v .count → nodeAt (keep (λ x. not (ownedBy w x)) (l .desk .graph .nodes)) (id (v .first .0 + k)) ≡ nodeAt (l .desk .graph .nodes) (id (v .first .0 + k))
+  pub node-stays : (w : VoiceId) → (v .id .0 ≡ w .0 → ⊥) → (k : ℕ) → k < v .count → nodeAt (keep (λ x. not (ownedBy w x)) (l .desk .graph .nodes)) (id (v .first .0 + k)) ≡ nodeAt (l .desk .graph .nodes) (id (v .first .0 + k))
   node-stays w other k lt = go (nodeAt ns j) refl
     where
       ns : List Node

@@ -2,21 +2,29 @@
 -- samples for a count. So what was shown of the ledger is said of the store.
 use Prim.Native.Nat.{ℕ, _+_, _*_, _≤_}
 use native.Mathlib.Omega.{arith}
-use native.Mathlib.Nat.{suc-mul}
+use native.Mathlib.Nat.{suc-mul, zero-mul}
 use mathlib.Core.Path.{_≡_, refl, sym, ap, ap₂, _∙_, subst}
-use mathlib.Core.List.{List, map}
+use mathlib.Core.Logic.{inl, inr, ⊎-elim}
+use mathlib.Core.List.{List, [], _∷_, map}
 use mathlib.Core.Option.{Option, none, some}
 use mathlib.Core.Bool.{Bool, true, false, not, cond, _&&_, _||_}
 use lib.Dec.{leb}
 use lib.ListN.{length-map}
-use Rattle.lists.specs.Member.{In, in-map, in-of-map}
-use Rattle.lists.specs.Find.{find, mapO}
+use Rattle.lists.specs.Member.{In, in-map, in-of-map, some-inj, none-some}
+use Rattle.lists.specs.Find.{find, isSome, mapO}
 use Rattle.lists.specs.Count.{more, count, count-map}
 use Rattle.node.specs.declared.record.NodeId.{NodeId}
+use Rattle.node.specs.declared.refusal.Refusal.{Refusal}
 use Rattle.node.specs.declared.refusal.Refusal.the-variants.{NoPort}
 use Rattle.bus.specs.Fade.{fadeLength}
-use Rattle.rank.specs.Order.{upto}
+use Rattle.rank.specs.Order.{among, upto}
+use Rattle.rank.specs.Cycle.{Distinct}
+use Rattle.rank.proofs.Sound.{among-in, bool-false}
+use Rattle.edges.specs.Ports.{portFrom}
 use Rattle.graph.specs.Node.{nodeAt, portsOf}
+use Rattle.voice.specs.Steals.{recordOf}
+use Rattle.voice.specs.declared.policy.Admission.{Admission}
+use Rattle.voice.specs.declared.policy.Admission.the-variants as admission
 use Rattle.synthdef.specs.declared.def.SynthDef.{SynthDef}
 use Rattle.store.specs.declared.answer.Spawned.the-variants as Spawned
 use Rattle.store.specs.declared.config.Config.{Config}
@@ -25,9 +33,9 @@ use Rattle.store.specs.declared.voices.VoiceState.{VoiceState}
 use Rattle.store.specs.declared.voices.VoiceState.the-variants.{Tracked, Fading, Loose}
 use Rattle.store.specs.declared.voices.Fade.{Fade}
 use Rattle.model.specs.Desk.{Desk}
-use Rattle.model.specs.Voice.{isVoice, isOn, withState, movedFade, movedState, moved}
+use Rattle.model.specs.Voice.{isVoice, isTracked, isOn, feeder, voiceLevel, withState, movedFade, movedState, moved}
 use Rattle.model.specs.Refuse.{spawnRefusal}
-use Rattle.model.specs.Spawn.{nextVoice}
+use Rattle.model.specs.Spawn.{Spawn, nextVoice, fadeOf}
 use Rattle.model.specs.Clear as clearing
 use Rattle.model.specs.Model.{Model}
 use Rattle.model.specs.Make.{newModel}
@@ -39,13 +47,15 @@ use Rattle.ledger.specs.Ledger as ledger
 use Rattle.ledger.specs.Clear as ledgerClear
 use Rattle.ledger.specs.Call.{step}
 use Rattle.ledger.specs.Claim as claim
-use Rattle.ledger.specs.Claim.{ledgerAfter, isSounded, tracks, Reclaimed, isBusy, byOther, holderAt}
+use Rattle.ledger.specs.Claim.{ledgerAfter, isSounded, tracks, Reclaimed, isBusy, byOther, holderAt, voiceIds, victimIn, Heads, lossOf}
 use Rattle.ledger.proofs.Words as words
-use Rattle.ledger.proofs.Shown.{modelOf, tracked-same, fading-same, find-stored}
+use Rattle.ledger.proofs.Shown.{modelOf, tracked-same, fading-same, admits-same, find-stored}
 use Rattle.ledger.proofs.Timely.{stored-shown}
 use Rattle.ledger.proofs.Spawns.{SoundL, ids-of}
 use Rattle.ledger.proofs.Managed.{config-step, config-run, ids-new}
 use Rattle.ledger.proofs.Agree.{Kept, step-agrees, kept-step, kept-new, runs}
+use Rattle.ledger.proofs.Port.{feeds-held}
+use Rattle.ledger.proofs.Losses.{LossesOf, Apart, records-same}
 use Rattle.ledger.proofs.Blocked.{every-same}
 
 -- ---- the store of a ledger
@@ -184,3 +194,76 @@ module _ (c : Config) where
     why-shown l' x (words.ended e) = claim.ended (ap (λ (z : Config). clearing.ended (fadeLength (z .rate)) (shown c u .state)) is ∙ ended-shown (l .desk) is (u .state) ∙ e)
     why-shown l' x (words.silent e) = claim.silent e
     why-shown l' x (words.reclaimed y on e) = claim.reclaimed y on e
+
+  -- ---- what a managed spawn records
+  -- a tracked voice is the same in both
+  as-tracked : (v : Voice) → v .state ≡ Tracked → shown c v ≡ v
+  as-tracked v t = ap (λ z. withState (movedState (λ n. n * c .block) z) v) t ∙ ap (λ z. withState z v) (sym t)
+
+  victim-shown : (o : Option Refusal) (a : Admission) (vs : List Voice) → victimIn o a (map (shown c) vs) ≡ mapO (shown c) (victimIn o a vs)
+  victim-shown (some r) a vs = refl
+  victim-shown none admission.Admit vs = refl
+  victim-shown none admission.Reject vs = refl
+  victim-shown none (admission.Steal place w) vs = find-stored (λ n. n * c .block) w vs
+
+  apart-distinct : (vs : List Voice) → Apart vs → Distinct (voiceIds vs)
+  apart-distinct [] a = tt
+  apart-distinct (v ∷ vs) a = (
+    bool-false (among (v .id .0) (voiceIds vs)) (λ t. let r = in-map (λ (u : Voice). u .id .0) vs (v .id .0) (among-in (v .id .0) (voiceIds vs) t) in a .0 (r .0) (r .1) (sym (r .2))),
+    apart-distinct vs (a .1),
+  )
+
+  module _ (x : Spawn) (l l' : Ledger) (s : SoundL l) (h : LossesOf (x .bus) (victimIn (spawnRefusal (l .desk) (l .voices) (x .def) (x .bus)) (ledger.admissionOn (x .bus) l) (l .voices)) l l') where
+    abbrev o : Option Voice
+    o = victimIn (spawnRefusal (l .desk) (l .voices) (x .def) (x .bus)) (ledger.admissionOn (x .bus) l) (l .voices)
+
+    victim-same : claim.victimOf x (storeOf c l) ≡ mapO (shown c) o
+    victim-same =
+        ap₂ (λ r a. victimIn r a (map (shown c) (l .voices))) (refusal-same (l .desk) (l .voices) (x .def) (x .bus)) (admits-same (λ n. n * c .block) (l .desk) (x .bus) (l .voices))
+        ∙ victim-shown (spawnRefusal (l .desk) (l .voices) (x .def) (x .bus)) (ledger.admissionOn (x .bus) l) (l .voices)
+
+    found-same : (v : Voice) → isSome (find (isVoice (v .id)) (l' .voices)) ≡ isSome (find (isVoice (v .id)) (map (shown c) (l' .voices)))
+    found-same v = sym (ap isSome (find-stored (λ n. n * c .block) (v .id) (l' .voices)) ∙ some-same (find (isVoice (v .id)) (l' .voices)))
+      where
+        some-same : (o : Option Voice) → isSome (mapO (shown c) o) ≡ isSome o
+        some-same none = refl
+        some-same (some u) = refl
+
+    heads-shown : (o : Option Voice) → Heads o (h .lost) → Heads (mapO (shown c) o) (h .lost)
+    heads-shown none q = tt
+    heads-shown (some g) q =
+        let i : In g (h .lost) = subst (In g) (sym (q .1)) (inl refl) in
+        (q .0, q .1 ∙ ap (λ z. z ∷ q .0) (sym (as-tracked g (h .were g i .1))))
+
+    -- a fade begins at 0
+    start-shown : (f : Fade) → f .position ≡ 0 → movedFade (λ n. n * c .block) f ≡ f
+    start-shown f e = ap (λ n. record { node = f .node; start = f .start; position = n; number = f .number }) (ap (λ n. n * c .block) e ∙ zero-mul (c .block) ∙ sym e)
+
+    fades-shown : (v u : Voice) → In v (h .lost) → find (isVoice (v .id)) (map (shown c) (l' .voices)) ≡ some u
+        → (u ≡ withState (Fading (fadeOf (l .desk))) v) × (isSome (portFrom (l .desk .graph .edges) (feeder v) (v .bus)) ≡ true)
+    fades-shown v u i e = go (find (isVoice (v .id)) (l' .voices)) refl (sym (find-stored (λ n. n * c .block) (v .id) (l' .voices)) ∙ e)
+      where
+        go : (z : Option Voice) → find (isVoice (v .id)) (l' .voices) ≡ z → mapO (shown c) z ≡ some u → (u ≡ withState (Fading (fadeOf (l .desk))) v) × (isSome (portFrom (l .desk .graph .edges) (feeder v) (v .bus)) ≡ true)
+        go none p q = absurd (none-some q)
+        go (some w) p q =
+            let r = h .fades v w i p in
+            let t : isTracked (v .state) ≡ true = ap isTracked (h .were v i .1) in (
+              sym (some-inj q) ∙ ap (shown c) (r .0) ∙ ap (λ f. withState (Fading f) v) (start-shown (fadeOf (l .desk)) refl),
+              ap isSome (feeds-held s v (h .were v i .0) t ∙ r .1 .1),
+            )
+
+    pub losses-shown : claim.Losses x (storeOf c l) (storeOf c l')
+    losses-shown =
+        record {
+          lost = h .lost;
+          were = λ v i. let w = h .were v i in (in-tracked (l .voices) v (w .1) (w .0), w .1);
+          away = λ v i j. h .away v i (tracked-in (l' .voices) v (h .were v i .1) j);
+          all = λ v i t. ⊎-elim inl (λ j. inr (in-tracked (l' .voices) v t j)) (h .all v (tracked-in (l .voices) v t i) t);
+          once = apart-distinct (h .lost) (h .apart);
+          first = subst (λ z. Heads z (h .lost)) (sym victim-same) (heads-shown o (h .first));
+          others = λ v i. ⊎-elim (λ e. inl (victim-same ∙ ap (mapO (shown c)) e ∙ ap some (as-tracked v (h .were v i .1)))) inr (h .others v i);
+          fades = fades-shown;
+          added = h .count;
+          records = records-same (lossOf (l .desk) (l' .voices)) (lossOf (l .desk) (map (shown c) (l' .voices))) (l' .desk .steals) (l' .desk .steals) (l .desk .steals .count) (h .lost)
+              (λ v i. ap (λ b. recordOf (l .desk .clock) (voiceLevel (l .desk) v) (not b)) (found-same v)) (λ j lo hi. refl) (h .records);
+        }

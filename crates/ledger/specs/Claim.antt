@@ -14,26 +14,31 @@ use mathlib.Core.Bool.{Bool, true, false, not, cond, _&&_, _||_}
 use lib.Dec.{eqb, leb}
 use lib.ListN.{length}
 use Rattle.lists.specs.Member.{In}
-use Rattle.lists.specs.Find.{find, mapO}
+use Rattle.lists.specs.Find.{find, isSome, mapO}
 use Rattle.lists.specs.Keep.{keep}
 use Rattle.lists.specs.Count.{more, count}
 use Rattle.node.specs.declared.record.Edge.{Edge}
 use Rattle.node.specs.declared.record.Node.{Node}
 use Rattle.node.specs.declared.record.NodeId.{NodeId}
+use Rattle.node.specs.declared.refusal.Refusal.{Refusal}
 use Rattle.node.specs.declared.refusal.Refusal.the-variants.{NoPort}
 use Rattle.bus.specs.Fade.{fadeLength}
 use Rattle.rank.specs.Order.{upto}
-use Rattle.rank.specs.Cycle.{Sorted}
+use Rattle.rank.specs.Cycle.{Distinct, Sorted}
 use Rattle.order.specs.Live.{arcOf}
 use Rattle.edges.specs.Wiring.{endsAt}
+use Rattle.edges.specs.Ports.{portFrom}
 use Rattle.graph.specs.View.{GraphView}
 use Rattle.graph.specs.Node.{nodeAt, portsOf}
 use Rattle.scheduler.specs.Queue as queue
 use Rattle.scheduler.specs.declared.event.Event.{Event}
-use Rattle.voice.specs.Steals.{Book, cutOf, foundAt}
+use Rattle.voice.specs.Steals.{Book, cutOf, foundAt, recordOf}
+use Rattle.voice.specs.declared.policy.Admission.{Admission}
+use Rattle.voice.specs.declared.policy.Admission.the-variants as admission
 use Rattle.voice.specs.declared.policy.Budget.the-variants.{Unlimited, AtMost}
 use Rattle.voice.specs.declared.policy.StealPolicy.{StealPolicy}
 use Rattle.voice.specs.declared.policy.StealPolicy.the-variants as policy
+use Rattle.voice.specs.declared.steals.StealRecord.{StealRecord}
 use Rattle.voice.specs.declared.steals.StealFound.{StealFound}
 use Rattle.voice.specs.declared.steals.StealFound.the-variants as found
 use Rattle.synthdef.specs.Rows.{every}
@@ -44,14 +49,14 @@ use Rattle.store.specs.declared.voices.Voice.{Voice}
 use Rattle.store.specs.declared.voices.VoiceState.{VoiceState}
 use Rattle.store.specs.declared.voices.VoiceState.the-variants.{Tracked, Fading, Loose}
 use Rattle.store.specs.declared.voices.Fade.{Fade}
-use Rattle.model.specs.Desk.{lengthL, sounding}
-use Rattle.model.specs.Voice.{id, isVoice, isTracked, isFading, isOn, counted, moved, movedFade, withState}
+use Rattle.model.specs.Desk.{Desk, lengthL, sounding}
+use Rattle.model.specs.Voice.{id, isVoice, isTracked, isFading, isOn, feeder, voiceLevel, counted, moved, movedFade, withState}
 use Rattle.model.specs.Refuse.{spawnRefusal}
-use Rattle.model.specs.Spawn.{Spawn, nextVoice}
+use Rattle.model.specs.Spawn.{Spawn, nextVoice, fadeOf}
 use Rattle.model.specs.Clear.{isSilent}
 use Rattle.model.specs.Clear as clearing
 use Rattle.model.specs.Render.{isFree, isSounding, deadline, clockEnds}
-use Rattle.model.specs.Model.{Model}
+use Rattle.model.specs.Model.{Model, admissionOn}
 use Rattle.model.specs.Call.{Call, Answer}
 use Rattle.model.specs.Call as call
 use Rattle.ledger.specs.Holder.{Holder, nobody, host, voice}
@@ -111,9 +116,12 @@ abbrev pub soundings : List Call → Model → ℕ
 soundings xs m = count isSounded (call.run xs m .answers)
 
 -- ---- ids
--- the ids of the live nodes, as numbers
+-- the ids of the live nodes and of the voices, as numbers
 abbrev pub nodeIds : List Node → List ℕ
 nodeIds ns = map (λ (x : Node). x .id .0) ns
+
+abbrev pub voiceIds : List Voice → List ℕ
+voiceIds vs = map (λ (v : Voice). v .id .0) vs
 
 -- ---- holders, as the edges give them
 -- who owns the node of an id
@@ -232,6 +240,50 @@ abbrev pub isLet : Spawned → Bool
 isLet (Spawned.Voice w) = true
 isLet (Spawned.Refused r) = false
 
+-- The victim of an admission, where the table does not refuse the spawn.
+abbrev pub victimIn : Option Refusal → Admission → List Voice → Option Voice
+victimIn (some r) a vs = none
+victimIn none admission.Admit vs = none
+victimIn none admission.Reject vs = none
+victimIn none (admission.Steal place w) vs = find (isVoice w) vs
+
+abbrev pub victimOf : Spawn → Model → Option Voice
+victimOf x s = victimIn (spawnRefusal (s .desk) (s .voices) (x .def) (x .bus)) (admissionOn (x .bus) s) (s .voices)
+
+-- the list begins with the voice, if there is one
+abbrev pub Heads : Option Voice → List Voice → Type 0
+Heads none vs = Unit {0}
+Heads (some g) vs = (rest : List Voice) × (vs ≡ g ∷ rest)
+
+-- what is recorded of the voice v, which was one of the tracked voices beside the desk d, when vs' are the voices after the call: the
+-- clock, the level that it had before the call, and a cut mark exactly if it is gone
+abbrev pub lossOf : Desk → List Voice → Voice → StealRecord
+lossOf d vs' v = recordOf (d .clock) (voiceLevel d v) (not (isSome (find (isVoice (v .id)) vs')))
+
+-- from number k on, the records of these voices, in this order, are held
+abbrev pub Records : (Voice → StealRecord) → Book → ℕ → List Voice → Type 0
+Records r b k [] = Unit {0}
+Records r b k (v ∷ vs) = (heldRecord b k ≡ found.Record (r v)) × Records r b (suc k) vs
+
+-- What the managed spawn x, which made of s the store s', records. "A victim is untracked, faded, or freed if it cannot fade, and
+-- recorded"; later "free the policy's victim among tracked voices of that bus with a cut record".
+pub record Losses (x : Spawn) (s s' : Model) : Type 0 where
+  -- the voices that were tracked and are not any more: each once
+  pub lost : List Voice
+  pub were : (v : Voice) → In v lost → In v (s .voices) × (v .state ≡ Tracked)
+  pub away : (v : Voice) → In v lost → In v (s' .voices) → ⊥
+  pub all : (v : Voice) → In v (s .voices) → v .state ≡ Tracked → In v lost ⊎ In v (s' .voices)
+  pub once : Distinct (voiceIds lost)
+  -- first the victim of the admission; the others were on the bus
+  pub first : Heads (victimOf x s) lost
+  pub others : (v : Voice) → In v lost → (victimOf x s ≡ some v) ⊎ (isOn (x .bus) v ≡ true)
+  -- one that is still there fades, from now on, and fed a port of its bus. So one that cannot fade is gone
+  pub fades : (v u : Voice) → In v lost → find (isVoice (v .id)) (s' .voices) ≡ some u
+      → (u ≡ withState (Fading (fadeOf (s .desk))) v) × (isSome (portFrom (s .desk .graph .edges) (feeder v) (v .bus)) ≡ true)
+  -- there are so many more records, and these are the voices'
+  pub added : s' .desk .steals .count ≡ s .desk .steals .count + length lost
+  pub records : Records (lossOf (s .desk) (s' .voices)) (s' .desk .steals) (s .desk .steals .count) lost
+
 -- ---- without a budget
 -- no record was ever written
 abbrev pub noSteals : Book
@@ -314,6 +366,8 @@ pub record Holds (c : Config) (s : Model) : Type 0 where
   pub writes : (n : ℕ) → c .budget ≡ AtMost n → (x : Spawn) (a : Spawned) → call.step (call.spawnManaged x) s .answer ≡ call.spawned a
       → call.step (call.spawnManaged x) s .model .desk .steals .count + count tracks (call.step (call.spawnManaged x) s .model .voices)
       ≡ more (isLet a) (s .desk .steals .count + count tracks (s .voices))
+  -- What these records hold: the clock, the level of the voice before anything of the call changed, and a cut mark exactly if it is gone.
+  pub losses : (x : Spawn) → Losses x s (call.step (call.spawnManaged x) s .model)
   -- Each fade has a record of its own: its number was written, and no other fade has it.
   pub numbers : (v : Voice) → In v (s .voices) → (f : Fade) → v .state ≡ Fading f → f .number < s .desk .steals .count
   pub own : (u v : Voice) → In u (s .voices) → In v (s .voices) → (f g : Fade) → u .state ≡ Fading f → v .state ≡ Fading g → f .number ≡ g .number → u ≡ v
