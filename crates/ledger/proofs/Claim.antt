@@ -3,7 +3,7 @@ use Prim.Native.Nat.{_≤_, _<_, _*_}
 use native.Mathlib.Omega.{arith}
 use mathlib.Core.Path.{_≡_, sym, ap, _∙_, subst}
 use mathlib.Core.Logic.{_↔_}
-use mathlib.Core.List.{List, [], _∷_, _++_, map}
+use mathlib.Core.List.{List, [], _∷_, _++_, map, map-map}
 use mathlib.Core.Option.{some}
 use mathlib.Core.Bool.{true}
 use lib.Dec.{leb}
@@ -22,7 +22,7 @@ use Rattle.model.specs.Make.{Making, configOf, newModel, make}
 use Rattle.model.specs.Call.{Call}
 use Rattle.model.specs.Call as call
 use Rattle.ledger.specs.Ledger.{newLedger}
-use Rattle.ledger.specs.Claim.{Claim, Holds, Stolen, since, after, ledgerAfter, roundedUp, holderAt}
+use Rattle.ledger.specs.Claim.{Claim, Holds, voiceIds, nodeIds, Stolen, since, after, ledgerAfter, roundedUp, holderAt}
 use Rattle.ledger.proofs.Words as words
 use Rattle.ledger.proofs.Agree.{runs, kept-new}
 use Rattle.ledger.proofs.Made.{made}
@@ -33,6 +33,7 @@ use Rattle.ledger.proofs.Records.{recorded-run, recorded-new}
 use Rattle.ledger.proofs.Clearing.{rounded-iff}
 use Rattle.ledger.proofs.History.{stolen-at}
 use Rattle.ledger.proofs.Ready.{ready-run, ready-new}
+use Rattle.ledger.proofs.Since.{nextNode, nextVoice, nodes-after, voices-after, never-returns, since-same}
 use Rattle.ledger.proofs.Holds.{Known, holds}
 use Rattle.ledger.proofs.Store.{shown, kept-after, config-after, store-after, soundings-same, Was, was}
 
@@ -79,6 +80,13 @@ module _ (c : Config) (block : 0 < c .block) (fits : fadeLength (c .rate) ≤ 18
       subst (λ s. (clearing.ended (fadeLength (c .rate)) s ≡ true) ↔ (roundedUp (fadeLength (c .rate)) (c .block) ≤ since t)) (sym e)
       (subst (λ n. (leb (fadeLength (c .rate)) n ≡ true) ↔ (roundedUp (fadeLength (c .rate)) (c .block) ≤ since t)) (sym (t .moves)) (rounded-iff (fadeLength (c .rate)) (c .block) (since t) block))
 
+  -- ---- ids
+  nodes-same : (ys : List Call) → nodeIds (ledgerAfter c ys .desk .graph .nodes) ≡ nodeIds (after (newModel c) ys .desk .graph .nodes)
+  nodes-same ys = ap (λ (m : Model). nodeIds (m .desk .graph .nodes)) (sym (store-after c fits ys))
+
+  voices-same : (ys : List Call) → voiceIds (ledgerAfter c ys .voices) ≡ voiceIds (after (newModel c) ys .voices)
+  voices-same ys = sym (ap (λ (m : Model). voiceIds (m .voices)) (store-after c fits ys) ∙ map-map (λ (v : Voice). v .id .0) (shown c) (ledgerAfter c ys .voices))
+
   from-new : (xs : List Call) → Claim c (newModel c) xs
   from-new xs =
       record {
@@ -87,6 +95,8 @@ module _ (c : Config) (block : 0 < c .block) (fits : fadeLength (c .rate) ≤ 18
         voices = ap (λ (m : Model). m .voices) (store-after c fits xs);
         holders = λ n p. kept-after c fits xs .sound .held n p ∙ sym (ap (λ (m : Model). holderAt (m .desk .graph .nodes) (m .desk .graph .edges) n p) (store-after c fits xs));
         ends = λ v i f e. let j = subst (λ (m : Model). In v (m .voices)) (store-after c fits xs) i in let t = stolen-here xs v j f e in (t, ends-here xs v f e t);
+        noVoiceReturns = never-returns (λ ys. voiceIds (after (newModel c) ys .voices)) (nextVoice c) (λ ys zs. since-same (voices-same ys) (voices-same (ys ++ zs)) (voices-after c ys zs)) xs;
+        noNodeReturns = never-returns (λ ys. nodeIds (after (newModel c) ys .desk .graph .nodes)) (nextNode c) (λ ys zs. since-same (nodes-same ys) (nodes-same (ys ++ zs)) (nodes-after c ys zs)) xs;
         now = subst (Holds c) (sym (store-after c fits xs)) (holds c (ledgerAfter c xs) (known-after xs));
       }
 

@@ -3,12 +3,12 @@ use Prim.Native.Nat.{ℕ, _+_, _≤_, _<_, _*_}
 use native.Mathlib.Omega.{arith}
 use mathlib.Core.Path.{_≡_, refl, sym, ap, ap₂, _∙_, subst}
 use mathlib.Core.Logic.{_⊎_, ⊎-elim, inl, inr}
-use mathlib.Core.List.{List, map}
-use mathlib.Core.Option.{none, some}
+use mathlib.Core.List.{List, [], _∷_, _++_, map}
+use mathlib.Core.Option.{Option, none, some}
 use mathlib.Core.Bool.{Bool, true, false, not, true≢false}
 use lib.ListN.{length, length-map}
 use borrow.Author.Tests.{eqb-true, not-true}
-use Rattle.lists.specs.Member.{In, in-map, in-of-map}
+use Rattle.lists.specs.Member.{In, in-map, in-of-map, in-right}
 use Rattle.lists.specs.Find.{find, mapO, find-in, none-find}
 use Rattle.lists.specs.Keep.{keep, keep-map, in-keep}
 use Rattle.lists.specs.Count.{more, count, count-map}
@@ -16,29 +16,39 @@ use Rattle.node.specs.declared.record.NodeId.{NodeId}
 use Rattle.node.specs.declared.record.Node.{Node}
 use Rattle.node.specs.declared.record.Edge.{Edge}
 use Rattle.order.specs.Prepare as graph
-use Rattle.graph.specs.Node.{isNode, nodeAt}
+use Rattle.graph.specs.Node.{isNode, nodeAt, hostNode, withId}
 use Rattle.bus.specs.Fade.{fadeLength}
 use Rattle.store.specs.declared.config.Config.{Config}
 use Rattle.store.specs.declared.voices.Voice.{Voice}
-use Rattle.store.specs.declared.voices.VoiceState.the-variants.{Fading}
+use Rattle.store.specs.declared.voices.VoiceState.the-variants.{Fading, Loose}
 use Rattle.store.specs.declared.voices.Fade.{Fade}
 use Rattle.voice.specs.declared.policy.Budget.the-variants.{Unlimited, AtMost}
 use Rattle.model.specs.Desk.{sounding}
 use Rattle.model.specs.Voice.{id, isVoice, movedFade, movedState, counted}
 use Rattle.model.specs.Clear.{isSilent}
 use Rattle.model.specs.Clear as clearing
-use Rattle.model.specs.Spawn.{Spawn}
+use Rattle.model.specs.Spawn.{Spawn, stateUnder}
 use Rattle.model.specs.Model.{Model}
 use Rattle.model.specs.Call.{Call, Answer}
 use Rattle.model.specs.Call as call
+use Rattle.graph.specs.View.{GraphView}
+use Rattle.graph.specs.Change as change
+use Rattle.graph.specs.Refuse.{addRefusal}
+use Rattle.node.specs.declared.record.VoiceId.{VoiceId}
+use Rattle.node.specs.declared.refusal.Refusal.{Refusal}
+use Rattle.store.specs.declared.answer.Spawned.{Spawned}
+use Rattle.store.specs.declared.answer.Spawned.the-variants as Spawned
+use Rattle.store.specs.declared.voices.VoiceState.{VoiceState}
 use Rattle.ledger.specs.Ledger.{Ledger}
 use Rattle.ledger.specs.Clear as ledger
 use Rattle.ledger.specs.Call.{step}
-use Rattle.ledger.specs.Claim.{Holds, Losses, Stealing, GoesOn, Why, Fate, Reclaimed, tracks, isLet, spawnAnswer, isSounded, nodeIds, ownerAt}
+use Rattle.ledger.specs.Claim.{Arrives, Holds, Losses, Stealing, GoesOn, Why, Fate, Reclaimed, tracks, isLet, spawnAnswer, isSounded, nodeIds, ownerAt}
+use Rattle.ledger.specs.Call as ledgerCall
+use Rattle.ledger.proofs.Arrives.{ArrivesAt, managed-comes, loose-comes}
 use Rattle.ledger.proofs.Words as words
 use Rattle.ledger.proofs.Ids.{unique}
-use Rattle.ledger.proofs.Shown.{counted-same, find-stored}
-use Rattle.ledger.proofs.Agree.{Kept}
+use Rattle.ledger.proofs.Shown.{counted-same, under-same, find-stored}
+use Rattle.ledger.proofs.Agree.{Kept, kept-step}
 use Rattle.ledger.proofs.Room.{RoomOf}
 use Rattle.ledger.proofs.Nodes.{OwnNodes}
 use Rattle.ledger.proofs.Records.{RecordedOf}
@@ -155,6 +165,52 @@ module _ (c : Config) (l : Ledger) (known : Known c l) where
       ap₂ (λ a d. record { answer = call.readyAnswer a; model = record { desk = d; voices = map (shown c) (l .voices) } })
       (ap (λ (o : graph.Outcome). o .answer) (known .ready .holds p)) (prepared-same (l .desk) (known .ready) p)
 
+  -- ---- newcomers
+  arrives-shown : (x : Call) (y : Spawn) (state : VoiceState) → movedState (λ n. n * c .block) state ≡ state → (w : VoiceId) → ArrivesAt (y .bus) state w l (step x l .ledger)
+      → Arrives y state w (storeOf c l) (storeOf c (step x l .ledger))
+  arrives-shown x y state same w a =
+      record {
+        newcomer = shown c (a .voice);
+        member = in-of-map (shown c) (step x l .ledger .voices) (a .voice) (a .member);
+        named = a .named;
+        next = a .next;
+        on = a .on;
+        birth = a .birth;
+        is = ap (movedState (λ n. n * c .block)) (a .state) ∙ same;
+        holds = sym (kept-step x l (known .kept) .sound .held (y .bus .0) (a .voice .port)) ∙ a .holds;
+      }
+
+  under-budget : stateUnder (l .desk .config .budget) ≡ stateUnder (c .budget)
+  under-budget = ap (λ (z : Config). stateUnder (z .budget)) is
+
+  spawned-is : {a b : Spawned} → call.spawned a ≡ call.spawned b → a ≡ b
+  spawned-is e = cc
+
+  managed-arrives : (x : Spawn) (w : VoiceId) → step (call.spawnManaged x) l .answer ≡ call.spawned (Spawned.Voice w) → Arrives x (stateUnder (c .budget)) w (storeOf c l) (storeOf c (step (call.spawnManaged x) l .ledger))
+  managed-arrives x w e =
+      arrives-shown (call.spawnManaged x) x (stateUnder (c .budget)) (under-same (λ n. n * c .block) (c .budget)) w
+      (subst (λ z. ArrivesAt (x .bus) z w l (step (call.spawnManaged x) l .ledger)) under-budget (managed-comes x l w (spawned-is e)))
+
+  node-added : (kind : List ℕ) (ports required : ℕ) (values glides : Bool) (k : NodeId) → step (call.addNode kind ports required values glides) l .answer ≡ call.node k
+      → In (k .0) (nodeIds (step (call.addNode kind ports required values glides) l .ledger .desk .graph .nodes)) × (In (k .0) (nodeIds (l .desk .graph .nodes)) → ⊥)
+  node-added kind ports required values glides k = go (addRefusal g kind ports required)
+    where
+      g : GraphView
+      g = l .desk .graph
+
+      new : ledgerCall.Step
+      new = ledgerCall.graphStep l (change.append g (hostNode kind ports required values glides)) (l .holders) (call.node (record { 0 = g .next }))
+
+      go : (o : Option Refusal) → ledgerCall.unless o l new .answer ≡ call.node k → In (k .0) (nodeIds (ledgerCall.unless o l new .ledger .desk .graph .nodes)) × (In (k .0) (nodeIds (g .nodes)) → ⊥)
+      go (some r) e = let z : _≡_ {A = ℕ} 0 1 = cc in absurd (omega arith)
+      go none e =
+          let n : record { 0 = g .next } ≡ k = cc in
+          let m : g .next ≡ k .0 = ap (λ (j : NodeId). j .0) n in (
+            subst (λ j. In j (nodeIds (change.append g (hostNode kind ports required values glides) .nodes))) m
+                (in-of-map (λ (y : Node). y .id .0) (g .nodes ++ (withId (g .next) (hostNode kind ports required values glides) ∷ [])) (withId (g .next) (hostNode kind ports required values glides)) (in-right (g .nodes) (withId (g .next) (hostNode kind ports required values glides) ∷ []) _ (inl refl))),
+            λ i. let r = in-map (λ (y : Node). y .id .0) (g .nodes) (k .0) i in let b = known .ready .rows .below (r .0) (r .1) in let x = r .2 in omega (arith, b, x, m),
+          )
+
   pub holds : Holds c (storeOf c l)
   holds =
       record {
@@ -186,6 +242,11 @@ module _ (c : Config) (l : Ledger) (known : Known c l) where
         spawns = λ n b t x h. next (call.spawnManaged x) (λ z. z .answer ≡ call.spawned (spawnAnswer (x .bus) (storeOf c l)))
             (spawn-answer x l (known .kept .sound) n (ap (λ (z : Config). z .budget) is ∙ b) (subst (λ (z : Config). Stealing (z .policy)) (sym is) t) (sym (refusal-same c (l .desk) (l .voices) (x .def) (x .bus)) ∙ h)
             ∙ ap call.spawned (sym (answer-same c (x .bus) l (known .kept .sound))));
+        arrives = λ x w. next (call.spawnManaged x) (λ t. t .answer ≡ call.spawned (Spawned.Voice w) → Arrives x (stateUnder (c .budget)) w (storeOf c l) (t .model)) (managed-arrives x w);
+        arrivesLoose = λ x w. next (call.spawnLoose x) (λ t. t .answer ≡ call.spawned (Spawned.Voice w) → Arrives x Loose w (storeOf c l) (t .model)) (λ e.
+            arrives-shown (call.spawnLoose x) x Loose refl w (loose-comes x l w (spawned-is e)));
+        adds = λ kind ports required values glides k. next (call.addNode kind ports required values glides)
+            (λ t. t .answer ≡ call.node k → In (k .0) (nodeIds (t .model .desk .graph .nodes)) × (In (k .0) (nodeIds (l .desk .graph .nodes)) → ⊥)) (node-added kind ports required values glides k);
         wires = wired;
         inOrder = prepared-sorted (l .desk .graph) (known .ready);
         prepares = prepares;

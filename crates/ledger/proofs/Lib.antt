@@ -33,8 +33,11 @@ pub mod Blocked
 pub mod Spawning
 pub mod Rows
 pub mod Ready
+pub mod Voices
+pub mod Since
 pub mod Gone
 pub mod Losses
+pub mod Arrives
 pub mod Store
 pub mod Holds
 pub mod Claim

@@ -20,6 +20,7 @@ use Rattle.lists.specs.Count.{more, count}
 use Rattle.node.specs.declared.record.Edge.{Edge}
 use Rattle.node.specs.declared.record.Node.{Node}
 use Rattle.node.specs.declared.record.NodeId.{NodeId}
+use Rattle.node.specs.declared.record.VoiceId.{VoiceId}
 use Rattle.node.specs.declared.refusal.Refusal.{Refusal}
 use Rattle.node.specs.declared.refusal.Refusal.the-variants.{NoPort}
 use Rattle.bus.specs.Fade.{fadeLength}
@@ -52,7 +53,7 @@ use Rattle.store.specs.declared.voices.Fade.{Fade}
 use Rattle.model.specs.Desk.{Desk, lengthL, sounding}
 use Rattle.model.specs.Voice.{id, isVoice, isTracked, isFading, isOn, feeder, voiceLevel, counted, moved, movedFade, withState}
 use Rattle.model.specs.Refuse.{spawnRefusal}
-use Rattle.model.specs.Spawn.{Spawn, nextVoice, fadeOf}
+use Rattle.model.specs.Spawn.{Spawn, nextVoice, stateUnder, fadeOf}
 use Rattle.model.specs.Clear.{isSilent}
 use Rattle.model.specs.Clear as clearing
 use Rattle.model.specs.Render.{isFree, isSounding, deadline, clockEnds}
@@ -122,6 +123,13 @@ nodeIds ns = map (λ (x : Node). x .id .0) ns
 
 abbrev pub voiceIds : List Voice → List ℕ
 voiceIds vs = map (λ (v : Voice). v .id .0) vs
+
+-- "A freed row serves again; its id never returns": `ids` are those that are live after a list of calls
+pub record NeverReturns (ids : List Call → List ℕ) (xs : List Call) : Type 0 where
+  -- one that was live after some of the calls, and is not after all of them, is never live again
+  pub never : (before rest : List Call) → xs ≡ before ++ rest → (k : ℕ) → In k (ids before) → (In k (ids xs) → ⊥) → (ys : List Call) → In k (ids (xs ++ ys)) → ⊥
+  -- one that the next call makes live is above each that was live before it
+  pub rises : (before rest : List Call) → xs ≡ before ++ rest → (j k : ℕ) → In j (ids before) → (x : Call) → In k (ids (xs ++ (x ∷ []))) → (In k (ids xs) → ⊥) → j < k
 
 -- ---- holders, as the edges give them
 -- who owns the node of an id
@@ -328,6 +336,18 @@ blocked bus s = every (λ p. byOther bus (s .voices) (holderAt (s .desk .graph .
 abbrev pub spawnAnswer : NodeId → Model → Spawned
 spawnAnswer bus s = cond (blocked bus s) (Spawned.Refused NoPort) (Spawned.Voice (nextVoice (s .desk)))
 
+-- "The newcomer takes the next id and the port found": after the spawn x, which made of s the store s', the voice w is there, on the bus
+-- and in that state, and holds its port
+pub record Arrives (x : Spawn) (state : VoiceState) (w : VoiceId) (s s' : Model) : Type 0 where
+  pub newcomer : Voice
+  pub member : In newcomer (s' .voices)
+  pub named : newcomer .id ≡ w
+  pub next : w ≡ nextVoice (s .desk)
+  pub on : newcomer .bus ≡ x .bus
+  pub birth : newcomer .birth ≡ s .desk .clock
+  pub is : newcomer .state ≡ state
+  pub holds : holderAt (s' .desk .graph .nodes) (s' .desk .graph .edges) (x .bus .0) (newcomer .port) ≡ voice w
+
 -- ---- the tables
 -- "512 live nodes, 1,024 edges, 64 voices, 256 pending events"
 pub record Room (s : Model) : Type 0 where
@@ -381,6 +401,11 @@ pub record Holds (c : Config) (s : Model) : Type 0 where
   -- it answers the next voice id.
   pub spawns : (n : ℕ) → c .budget ≡ AtMost (suc n) → Stealing (c .policy) → (x : Spawn) → spawnRefusal (s .desk) (s .voices) (x .def) (x .bus) ≡ none
       → call.step (call.spawnManaged x) s .answer ≡ call.spawned (spawnAnswer (x .bus) s)
+  -- A spawn that answers a voice has let it in, "tracked under a budget", or loose. A node that is answered is there, and was not before.
+  pub arrives : (x : Spawn) (w : VoiceId) → call.step (call.spawnManaged x) s .answer ≡ call.spawned (Spawned.Voice w) → Arrives x (stateUnder (c .budget)) w s (call.step (call.spawnManaged x) s .model)
+  pub arrivesLoose : (x : Spawn) (w : VoiceId) → call.step (call.spawnLoose x) s .answer ≡ call.spawned (Spawned.Voice w) → Arrives x Loose w s (call.step (call.spawnLoose x) s .model)
+  pub adds : (kind : List ℕ) (ports required : ℕ) (values glides : Bool) (k : NodeId) → call.step (call.addNode kind ports required values glides) s .answer ≡ call.node k
+      → In (k .0) (nodeIds (call.step (call.addNode kind ports required values glides) s .model .desk .graph .nodes)) × (In (k .0) (nodeIds (s .desk .graph .nodes)) → ⊥)
   -- ---- "All live nodes are processed once in a sounding render, that is a prepared graph with a sink": while the graph is prepared it has
   -- such an order, of edges between live nodes. A prepared graph never fails to prepare: prepare answers done and changes nothing. A
   -- render that is not refused sounds exactly where the graph that it leaves is prepared and has a sink.
@@ -409,3 +434,6 @@ pub record Claim (c : Config) (m : Model) (xs : List Call) : Type 0 where
       → (t : Stolen m (c .block) xs v f) × ((clearing.ended (fadeLength (c .rate)) (v .state) ≡ true) ↔ (roundedUp (fadeLength (c .rate)) (c .block) ≤ since t))
   -- ---- 2 to 5, and the tables
   pub now : Holds c (after m xs)
+  -- ---- "A freed row serves again; its id never returns": the ids of voices, and those of nodes
+  pub noVoiceReturns : NeverReturns (λ ys. voiceIds (after m ys .voices)) xs
+  pub noNodeReturns : NeverReturns (λ ys. nodeIds (after m ys .desk .graph .nodes)) xs
