@@ -1,0 +1,5 @@
+pub mod Rises
+pub mod Seen
+pub mod Theorem
+pub mod Found
+pub mod Rows

@@ -1,0 +1,4 @@
+pub mod Stretch
+pub mod Scan
+pub mod Newest
+pub mod Examples

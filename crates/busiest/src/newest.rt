@@ -1,0 +1,47 @@
+use voice::steals::StealFound;
+use voice::steals::StealRecord;
+use voice::steals::Steals;
+use voice::steals::held_steals;
+use voice::steals::steal_at;
+ghost use mathlib.Core.Path.{_≡_};
+ghost use Rattle.voice.specs.Steals.{bookOf};
+ghost use Rattle.busiest.specs.Newest.{recordOr, newestOf};
+
+// A run of records in an array: the first `count` rows.
+pub struct Newest {
+    pub rows: [StealRecord; 64],
+    pub count: usize,
+}
+
+// A record that is held, or the other one.
+fn record_or(f: StealFound, other: StealRecord) -> StealRecord
+    ensures { λ r. ⌜ r ≡ recordOr f other ⌝ }
+{
+    match f {
+        StealFound::Nothing => other,
+        StealFound::Record(r) => r,
+    }
+}
+
+// The newest records that the store holds, oldest first.
+pub fn newest_records(s: Steals) -> Newest
+    ensures { λ r. ⌜ r ≡ newestOf (bookOf s .newest) ⌝ }
+{
+    let n = held_steals(s);
+    let none = StealRecord {
+        sample: 0,
+        level: 0.0,
+        known: false,
+        cut: false,
+    };
+    let mut rows = [none; 64];
+    let mut i: usize = 0;
+    while i < n {
+        rows[i] = record_or(steal_at(s, i), none);
+        i += 1;
+    }
+    Newest {
+        rows: rows,
+        count: n,
+    }
+}
