@@ -3,3 +3,5 @@ pub mod Seen
 pub mod Theorem
 pub mod Found
 pub mod Rows
+pub mod LocalArray
+pub mod LendRows

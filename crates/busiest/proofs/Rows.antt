@@ -11,13 +11,14 @@ use Rattle.voice.specs.Steals.{foundAt}
 use Rattle.busiest.specs.Newest.{noRecord, recordOr, newestOf}
 
 -- the run that is lent is the list of the newest records
-pub newest-rows : (l : List StealRecord) → length l ≤ 64 → rowsOf 64 (newestOf l .count) (newestOf l .rows) ≡ l
-newest-rows l h =
-    let size : min (length l) 64 ≡ length l = omega arith in
+pub newest-run : (l : List StealRecord) → take (newestOf l .count) (newestOf l .rows) ≡ l
+newest-run l =
     let whole : length l ≤ length l = omega arith in
-    ap (λ k. take k (l ++ replicate (64 - length l) noRecord)) size
-    ∙ take-append-le (length l) l (replicate (64 - length l) noRecord) whole
-    ∙ take-all (length l) l whole
+    take-append-le (length l) l (replicate (64 - length l) noRecord) whole ∙ take-all (length l) l whole
+
+-- as a table of 64 rows and a count
+pub newest-rows : (l : List StealRecord) → length l ≤ 64 → rowsOf 64 (newestOf l .count) (newestOf l .rows) ≡ l
+newest-rows l h = let size : min (length l) 64 ≡ length l = omega arith in ap (λ k. take k (newestOf l .rows)) size ∙ newest-run l
 
 -- what is read at a place
 pub found-row : (l : List StealRecord) (i : ℕ) (d : StealRecord) → recordOr (foundAt i l) d ≡ getD l i d

@@ -1,11 +1,16 @@
+use crate::stretch::Busiest;
+use crate::stretch::busiest_stretch;
 use voice::steals::StealFound;
 use voice::steals::StealRecord;
 use voice::steals::Steals;
 use voice::steals::held_steals;
 use voice::steals::steal_at;
 ghost use mathlib.Core.Path.{_≡_};
+ghost use Prim.Native.Nat.{_≤_};
+ghost use lib.ListN.{take};
 ghost use Rattle.voice.specs.Steals.{bookOf};
 ghost use Rattle.busiest.specs.Newest.{recordOr, newestOf};
+ghost use Rattle.busiest.specs.Stretch.{samples, said, busiest};
 
 // A run of records in an array: the first `count` rows.
 pub struct Newest {
@@ -44,4 +49,21 @@ pub fn newest_records(s: Steals) -> Newest
         rows: rows,
         count: n,
     }
+}
+
+// The busiest stretch of the first `n` rows, which are lent as the run.
+fn busiest_rows(rows: [StealRecord; 64], n: usize, width: u64) -> Busiest
+    requires { ⌜ n ≤ 64 ⌝ }
+    ensures { λ r. ⌜ said r ≡ busiest width (samples (take n rows)) ⌝ }
+{
+    busiest_stretch(&rows[..n], width)
+}
+
+// The busiest stretch of the newest records that the store holds.
+pub fn busiest_steals(s: Steals, width: u64) -> Busiest
+    ensures { λ r. ⌜ said r ≡ busiest width (samples (bookOf s .newest)) ⌝ }
+{
+    let run = newest_records(s);
+    let rows = run.rows;
+    busiest_rows(rows, run.count, width)
 }
