@@ -2,6 +2,7 @@
 use Prim.Native.Nat.{ℕ, zero, suc, _+_, _-_, _≤_, _<_}
 use native.Mathlib.Omega.{arith}
 use mathlib.Core.Path.{_≡_, refl, sym, ap, _∙_}
+use mathlib.Core.Logic.{_⊎_, inl, inr}
 use mathlib.Core.List.{List, [], _∷_, _++_}
 use mathlib.Core.Option.{Option, none, some}
 use mathlib.Core.Bool.{Bool, true, false, cond, false≢true, _||_}
@@ -11,11 +12,11 @@ use lib.ListN.{length, take, drop, getD}
 use lib.Seq.{take-all, getD-take, length-take-le}
 use Rattle.lists.specs.Table.{left-cons, passed-row, left-none}
 use Rattle.busiest.specs.declared.stretch.Scan.{Scan}
-use Rattle.busiest.specs.Stretch.{within, fallsFrom, falls, largest, firstOf, Answer, refused, gives, busiest}
+use Rattle.busiest.specs.Stretch.{within, fallsFrom, falls, largest, firstOf, Answer, refused, gives, busiest, BusiestStretch}
 use Rattle.busiest.specs.Scan.{begun, grown, moved, advanced, scanFrom, scanned, concluded}
-use Rattle.busiest.proofs.Rises.{Rises, falls-not, rises-take}
+use Rattle.busiest.proofs.Rises.{Rises, falls-not, falls-to, falls-from, rises-take}
 use Rattle.busiest.proofs.Seen.{Seen, seen-none, seen-grown, seen-kept}
-use Rattle.busiest.proofs.Theorem.{Stretch, some-inside, seen-stretch, seen-largest, seen-first}
+use Rattle.busiest.proofs.Theorem.{some-inside, seen-stretch, seen-largest, seen-first}
 
 -- ---- one record more
 
@@ -147,6 +148,17 @@ scanned-falls w xs = scan-falls xs (length xs) 0 (begun w) (omega arith)
 pub no-width : (xs : List ℕ) → busiest 0 xs ≡ refused 22
 no-width xs = refl
 
+-- "samples fall somewhere in the run": some sample is below the one before it
+pub falls-there : (xs : List ℕ) (i : ℕ) → suc i < length xs → getD xs (suc i) 0 < getD xs i 0 → falls xs ≡ true
+falls-there xs i h f = falls-to 0 xs i h f
+
+pub falls-where : (xs : List ℕ) → falls xs ≡ true → (i : ℕ) × (suc i < length xs) × (getD xs (suc i) 0 < getD xs i 0)
+falls-where xs h = go (falls-from 0 xs h)
+  where
+    go : (getD xs 0 0 < 0) ⊎ ((i : ℕ) × (suc i < length xs) × (getD xs (suc i) 0 < getD xs i 0)) → (i : ℕ) × (suc i < length xs) × (getD xs (suc i) 0 < getD xs i 0)
+    go (inl below) = absurd (omega arith)
+    go (inr fall) = fall
+
 -- "23 samples fall somewhere in the run, checked after 22"
 pub samples-fall : (w : ℕ) (xs : List ℕ) → 0 < w → falls xs ≡ true → busiest w xs ≡ refused 23
 samples-fall w xs wide f = let e : eqb w 0 ≡ false = ne-eqb w 0 (λ z. omega arith) in rw (e, f)
@@ -156,7 +168,7 @@ pub empty-run : (w : ℕ) → 0 < w → busiest w [] ≡ gives 0 none
 empty-run w wide = let e : eqb w 0 ≡ false = ne-eqb w 0 (λ z. omega arith) in rw e
 
 -- any other run gives the busiest stretch
-pub found : (w : ℕ) (xs : List ℕ) → 0 < w → falls xs ≡ false → 0 < length xs → (n : ℕ) × (x : ℕ) × (busiest w xs ≡ gives n (some x)) × Stretch w xs n x
+pub found : (w : ℕ) (xs : List ℕ) → 0 < w → falls xs ≡ false → 0 < length xs → (n : ℕ) × (x : ℕ) × (busiest w xs ≡ gives n (some x)) × BusiestStretch w xs n x
 found w xs wide f records =
     let rises = falls-not 0 xs f in
     let seen = seen-all xs w wide rises in

@@ -1,3 +1,4 @@
+pub mod Examples
 pub mod Rises
 pub mod Seen
 pub mod Theorem

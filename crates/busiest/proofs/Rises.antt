@@ -2,11 +2,11 @@
 use Prim.Native.Nat.{ℕ, zero, suc, _+_, _-_, _≤_, _<_}
 use native.Mathlib.Omega.{arith}
 use mathlib.Core.Path.{_≡_, refl, sym, ap, _∙_}
-use mathlib.Core.Logic.{inl, inr}
+use mathlib.Core.Logic.{_⊎_, inl, inr, ⊎-elim}
 use mathlib.Core.List.{List, [], _∷_, _++_}
 use mathlib.Core.Option.{none, some}
-use mathlib.Core.Bool.{Bool, true, false, false≢true, _||_}
-use borrow.Author.Tests.{ltb-false}
+use mathlib.Core.Bool.{Bool, true, false, false≢true, _||_, or-true}
+use borrow.Author.Tests.{ltb-true, ltb-false, lt-ltb}
 use lib.Dec.{ltb}
 use lib.ListN.{length, take, getD}
 use Rattle.lists.specs.Member.{In, some-inj, none-some}
@@ -65,6 +65,26 @@ falls-not a (x ∷ l) h = go (ltb x a) refl h (falls-not x l)
     go : (b : Bool) → ltb x a ≡ b → (b || fallsFrom x l) ≡ false → (fallsFrom x l ≡ false → Rises x l) → Rises a (x ∷ l)
     go true e h ih = absurd (false≢true (sym h))
     go false e h ih = (ltb-false x a e, ih h)
+
+-- a pair that falls, and that there is one
+pub falls-to : (a : ℕ) (l : List ℕ) (i : ℕ) → suc i < length l → getD l (suc i) 0 < getD l i 0 → fallsFrom a l ≡ true
+falls-to a [] i h f = absurd (omega arith)
+falls-to a (x ∷ []) i h f = absurd (omega arith)
+falls-to a (x ∷ y ∷ l) zero h f = rw (lt-ltb y x f) (or-true (ltb x a))
+falls-to a (x ∷ y ∷ l) (suc i) h f = let k : suc i < length (y ∷ l) = omega arith in rw (falls-to x (y ∷ l) i k f) (or-true (ltb x a))
+
+pub falls-from : (a : ℕ) (l : List ℕ) → fallsFrom a l ≡ true → (getD l 0 0 < a) ⊎ ((i : ℕ) × (suc i < length l) × (getD l (suc i) 0 < getD l i 0))
+falls-from a [] h = absurd (false≢true h)
+falls-from a (x ∷ l) h = go (ltb x a) refl h (falls-from x l)
+  where
+    below : (l : List ℕ) → fallsFrom x l ≡ true → 0 < length l
+    below [] h = absurd (false≢true h)
+    below (y ∷ l) h = omega arith
+
+    go : (b : Bool) → ltb x a ≡ b → (b || fallsFrom x l) ≡ true → (fallsFrom x l ≡ true → (getD l 0 0 < x) ⊎ ((i : ℕ) × (suc i < length l) × (getD l (suc i) 0 < getD l i 0)))
+        → (x < a) ⊎ ((i : ℕ) × (suc i < suc (length l)) × (getD (x ∷ l) (suc i) 0 < getD (x ∷ l) i 0))
+    go true e h ih = inl (ltb-true x a e)
+    go false e h ih = ⊎-elim (λ f. let k = below l h in inr (0, omega arith, f)) (λ f. let k = f .1 in inr (suc (f .0), omega arith, f .2)) (ih h)
 
 pub rises-take : (a k : ℕ) (l : List ℕ) → Rises a l → Rises a (take k l)
 rises-take a zero l r = tt

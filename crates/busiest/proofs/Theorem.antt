@@ -1,5 +1,5 @@
--- The paper's sentence, for every stretch and not only those that start at a record: no stretch of w samples holds more than n of
--- the records, the earliest that holds as many is the one from `start` on, and x is the sample of its first record.
+-- The paper's sentence of every stretch (`BusiestStretch`): that it names one number and one sample, and that what the walk knows at
+-- the end and what the definition computes are these.
 use Prim.Native.Nat.{ℕ, zero, suc, _+_, _≤_, _<_, max}
 use native.Mathlib.Omega.{arith}
 use mathlib.Core.Path.{_≡_, refl, sym, ap, _∙_}
@@ -13,19 +13,12 @@ use lib.ListN.{length}
 use Rattle.lists.specs.Member.{In, some-inj, none-some}
 use Rattle.lists.specs.Find.{find, find-in, find-none}
 use Rattle.lists.specs.Count.{count, count-none}
-use Rattle.busiest.specs.Stretch.{within, inside, largest, firstOf}
+use Rattle.busiest.specs.Stretch.{within, inside, largest, firstOf, BusiestStretch}
 use Rattle.busiest.proofs.Rises.{Rises, count-le, count-some, find-least}
 use Rattle.busiest.proofs.Seen.{within-from, within-to, within-on, Seen}
 
-pub record Stretch (w : ℕ) (xs : List ℕ) (n x : ℕ) : Type 0 where
-  pub start : ℕ
-  pub no-more : (a : ℕ) → inside w a xs ≤ n
-  pub as-many : inside w start xs ≡ n
-  pub earliest : (a : ℕ) → inside w a xs ≡ n → start ≤ a
-  pub first : find (within w start) xs ≡ some x
-
--- this says which n and which x
-pub only : (w : ℕ) (xs : List ℕ) (n x m y : ℕ) → Stretch w xs n x → Stretch w xs m y → (n ≡ m) × (x ≡ y)
+-- it names one number and one sample
+pub only : (w : ℕ) (xs : List ℕ) (n x m y : ℕ) → BusiestStretch w xs n x → BusiestStretch w xs m y → (n ≡ m) × (x ≡ y)
 only w xs n x m y s t =
     let a = s .no-more (t .start) in
     let b = t .no-more (s .start) in
@@ -95,7 +88,7 @@ module _ (w : ℕ) (xs : List ℕ) (n x : ℕ) (wide : 0 < w) (rises : Rises 0 x
       let same : r ≡ x = omega arith in
       ap some same
 
-  pub seen-stretch : Stretch w xs n x
+  pub seen-stretch : BusiestStretch w xs n x
   seen-stretch =
       let l = least (λ a. eqb (inside w a xs) n) x (eq-eqb (inside w x xs) n (seen .as-many)) in
       let holds = eqb-true (inside w (l .0) xs) n (l .1) in

@@ -1,4 +1,3 @@
 pub mod Stretch
 pub mod Scan
 pub mod Newest
-pub mod Examples

@@ -1,8 +1,10 @@
 -- The busiest stretch: "Over a lent run of steal records and a width W in samples, give the largest number of records inside any
 -- stretch of W consecutive samples, and the sample of the first record of the earliest such stretch. An empty run gives 0 and no
 -- sample. Equal samples count separately."
--- proofs/Theorem shows that the stretches that start at a record are enough: no stretch, wherever it starts, holds more.
-use Prim.Native.Nat.{ℕ, zero, suc, _+_, max}
+-- `busiest` computes it from the stretches that start at a record. `BusiestStretch` below says it of every stretch, wherever it starts;
+-- `found` of proofs/Found shows that the answer is the one that it names.
+use Prim.Native.Nat.{ℕ, zero, suc, _+_, _≤_, max}
+use mathlib.Core.Path.{_≡_}
 use mathlib.Core.List.{List, [], _∷_, map}
 use mathlib.Core.Option.{Option, none, some}
 use mathlib.Core.Bool.{Bool, true, false, cond, _&&_, _||_}
@@ -57,3 +59,14 @@ said (Found n x) = gives n (some x)
 -- "22 W is 0; 23 samples fall somewhere in the run, checked after 22"
 abbrev pub busiest : ℕ → List ℕ → Answer
 busiest width xs = cond (eqb width 0) (refused 22) (cond (falls xs) (refused 23) (gives (largest width xs xs) (firstOf width xs)))
+
+-- ---- the sentence, of every stretch
+
+-- Of the stretches of `width` samples none holds more than n of the records; the one from `start` on holds n, and none that starts
+-- before it does; the first record in it is at the sample x.
+pub record BusiestStretch (width : ℕ) (xs : List ℕ) (n x : ℕ) : Type 0 where
+  pub start : ℕ
+  pub no-more : (a : ℕ) → inside width a xs ≤ n
+  pub as-many : inside width start xs ≡ n
+  pub earliest : (a : ℕ) → inside width a xs ≡ n → start ≤ a
+  pub first : find (within width start) xs ≡ some x
