@@ -1,15 +1,15 @@
 -- The walk ends at what the definition says, and what the definition says is the busiest stretch.
-use Prim.Native.Nat.{ℕ, zero, suc, _+_, _-_, _≤_, _<_}
+use Prim.Native.Nat.{ℕ, zero, suc, _+_, _-_, _<_}
 use native.Mathlib.Omega.{arith}
 use mathlib.Core.Path.{_≡_, refl, sym, ap, _∙_}
 use mathlib.Core.Logic.{_⊎_, inl, inr}
 use mathlib.Core.List.{List, [], _∷_, _++_}
-use mathlib.Core.Option.{Option, none, some}
-use mathlib.Core.Bool.{Bool, true, false, cond, false≢true, _||_}
-use borrow.Author.Tests.{eqb-true, eqb-false, eq-eqb, ne-eqb}
+use mathlib.Core.Option.{none, some}
+use mathlib.Core.Bool.{Bool, true, false, cond, _||_}
 use lib.Dec.{eqb, ltb}
 use lib.ListN.{length, take, drop, getD}
 use lib.Seq.{take-all, getD-take, length-take-le}
+use borrow.Author.Tests.{eqb-false, ne-eqb}
 use Rattle.lists.specs.Table.{left-cons, passed-row, left-none}
 use Rattle.busiest.specs.declared.stretch.Scan.{Scan}
 use Rattle.busiest.specs.Stretch.{within, fallsFrom, falls, largest, firstOf, Answer, refused, gives, busiest, BusiestStretch}

@@ -1,15 +1,15 @@
 -- Samples that never fall, and how many of them pass a test that begins or ends at one of them.
-use Prim.Native.Nat.{ℕ, zero, suc, _+_, _-_, _≤_, _<_}
+use Prim.Native.Nat.{ℕ, zero, suc, _-_, _≤_, _<_}
 use native.Mathlib.Omega.{arith}
 use mathlib.Core.Path.{_≡_, refl, sym, ap, _∙_}
 use mathlib.Core.Logic.{_⊎_, inl, inr, ⊎-elim}
 use mathlib.Core.List.{List, [], _∷_, _++_}
-use mathlib.Core.Option.{none, some}
+use mathlib.Core.Option.{some}
 use mathlib.Core.Bool.{Bool, true, false, false≢true, _||_, or-true}
-use borrow.Author.Tests.{ltb-true, ltb-false, lt-ltb}
 use lib.Dec.{ltb}
 use lib.ListN.{length, take, getD}
-use Rattle.lists.specs.Member.{In, some-inj, none-some}
+use borrow.Author.Tests.{ltb-true, ltb-false, lt-ltb}
+use Rattle.lists.specs.Member.{In, some-inj}
 use Rattle.lists.specs.Find.{find, or?}
 use Rattle.lists.specs.Count.{count, more, count-length}
 use Rattle.busiest.specs.Stretch.{fallsFrom}

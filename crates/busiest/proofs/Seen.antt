@@ -2,12 +2,12 @@
 use Prim.Native.Nat.{ℕ, suc, _+_, _-_, _≤_, _<_}
 use native.Mathlib.Omega.{arith}
 use mathlib.Core.Path.{_≡_, refl, sym, ap, _∙_}
-use mathlib.Core.Logic.{_⊎_, inl, inr, ⊎-elim}
+use mathlib.Core.Logic.{_⊎_, inl, inr}
 use mathlib.Core.List.{List, [], _∷_, _++_}
-use mathlib.Core.Bool.{Bool, true, false, false≢true, _&&_, and-false}
-use borrow.Author.Tests.{leb-true, ltb-true, ltb-false, le-leb, lt-ltb, lt-leb, le-ltb}
+use mathlib.Core.Bool.{Bool, true, false, _&&_}
 use lib.Dec.{leb, ltb}
 use lib.ListN.{length, getD, length-append}
+use borrow.Author.Tests.{leb-true, ltb-true, ltb-false, le-leb, lt-ltb, lt-leb, le-ltb}
 use Rattle.lists.specs.Member.{In, and-left, and-right, both, in-snoc, in-left}
 use Rattle.lists.specs.Count.{more, count-length, count-snoc}
 use Rattle.busiest.specs.Stretch.{within, inside}

@@ -1,18 +1,18 @@
 -- The paper's sentence of every stretch (`BusiestStretch`): that it names one number and one sample, and that what the walk knows at
 -- the end and what the definition computes are these.
-use Prim.Native.Nat.{ℕ, zero, suc, _+_, _≤_, _<_, max}
+use Prim.Native.Nat.{ℕ, zero, suc, _+_, _≤_, _<_}
 use native.Mathlib.Omega.{arith}
 use mathlib.Core.Path.{_≡_, refl, sym, ap, _∙_}
 use mathlib.Core.Logic.{inl, inr}
 use mathlib.Core.List.{List, [], _∷_}
 use mathlib.Core.Option.{Option, none, some}
 use mathlib.Core.Bool.{Bool, true, false, false≢true}
-use borrow.Author.Tests.{eq-eqb, eqb-true}
 use lib.Dec.{eqb}
 use lib.ListN.{length}
-use Rattle.lists.specs.Member.{In, some-inj, none-some}
+use borrow.Author.Tests.{eq-eqb, eqb-true}
+use Rattle.lists.specs.Member.{In, some-inj}
 use Rattle.lists.specs.Find.{find, find-in, find-none}
-use Rattle.lists.specs.Count.{count, count-none}
+use Rattle.lists.specs.Count.{count-none}
 use Rattle.busiest.specs.Stretch.{within, inside, largest, firstOf, BusiestStretch}
 use Rattle.busiest.proofs.Rises.{Rises, count-le, count-some, find-least}
 use Rattle.busiest.proofs.Seen.{within-from, within-to, within-on, Seen}

@@ -1,6 +1,6 @@
 -- "the newest 64 records" of the store as a run that can be lent: an array whose first rows are the records that are held, oldest
 -- first, and their count. The rows after them hold `noRecord`.
-use Prim.Native.Nat.{ℕ, _-_}
+use Prim.Native.Nat.{_-_}
 use mathlib.Core.List.{List, _++_}
 use mathlib.Core.Bool.{false}
 use lib.Ieee.{ofBits, binary32}

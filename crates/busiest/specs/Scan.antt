@@ -1,8 +1,8 @@
 -- The walk over a run in one pass. That it ends at what Stretch says is shown in proofs/Found.
 use Prim.Native.Nat.{ℕ, zero, suc, _+_}
-use mathlib.Core.List.{List, [], _∷_}
+use mathlib.Core.List.{List}
 use mathlib.Core.Option.{none, some}
-use mathlib.Core.Bool.{Bool, true, false, cond, _||_}
+use mathlib.Core.Bool.{false, cond, _||_}
 use lib.Dec.{eqb, ltb}
 use lib.ListN.{length, getD}
 use Rattle.voice.specs.declared.steals.StealRecord.{StealRecord}

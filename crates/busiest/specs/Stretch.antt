@@ -3,11 +3,11 @@
 -- sample. Equal samples count separately."
 -- `busiest` computes it from the stretches that start at a record. `BusiestStretch` below says it of every stretch, wherever it starts;
 -- `found` of proofs/Found shows that the answer is the one that it names.
-use Prim.Native.Nat.{ℕ, zero, suc, _+_, _≤_, max}
+use Prim.Native.Nat.{ℕ, _+_, _≤_, max}
 use mathlib.Core.Path.{_≡_}
 use mathlib.Core.List.{List, [], _∷_, map}
 use mathlib.Core.Option.{Option, none, some}
-use mathlib.Core.Bool.{Bool, true, false, cond, _&&_, _||_}
+use mathlib.Core.Bool.{Bool, false, cond, _&&_, _||_}
 use lib.Dec.{eqb, leb, ltb}
 use Rattle.lists.specs.Count.{count}
 use Rattle.lists.specs.Find.{find}

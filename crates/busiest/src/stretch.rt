@@ -18,13 +18,13 @@ pub enum Busiest {
 // What is known of the records passed so far: the largest number of them inside a stretch, the sample of the first record of the
 // earliest such stretch, the sample passed last, whether samples fell. `head` is the place of the record from which a stretch
 // would have to reach to the next record to hold one more: `most` places before that one.
-pub struct Scan {
-    pub width: u64,
-    pub most: usize,
-    pub first: u64,
-    pub last: u64,
-    pub head: usize,
-    pub falls: bool,
+struct Scan {
+    width: u64,
+    most: usize,
+    first: u64,
+    last: u64,
+    head: usize,
+    falls: bool,
 }
 
 // Nothing is passed yet.

@@ -10,8 +10,8 @@ use Rattle.busiest.proofs.stretch.busiest_stretch.Symbol.{name as #stretch}
 use Rattle.busiest.proofs.stretch.busiest_stretch.Met as stretch-thm
 use Rattle.test_busiest.proofs.busiest_of.Key.{name as #busiest-of}
 use Rattle.test_busiest.proofs.busiest_of as busiest-of
-use Rattle.test_busiest.proofs.busiest_of.Statement as stated
 use Rattle.test_busiest.proofs.busiest_of.Code as code
+use Rattle.test_busiest.proofs.busiest_of.Statement as stated
 
 pub busiest-of-spec : {M : Type 1} → stated.statement M
 unfolding code.routine tablesOf

@@ -10,8 +10,8 @@ use Rattle.busiest.proofs.stretch.busiest_stretch.Symbol.{name as #stre
 use Rattle.busiest.proofs.stretch.busiest_stretch.Met as stretch-thm
 use Rattle.busiest.proofs.newest.busiest_rows.Key.{name as #busiest-rows}
 use Rattle.busiest.proofs.newest.busiest_rows as busiest-rows
-use Rattle.busiest.proofs.newest.busiest_rows.Statement as stated
 use Rattle.busiest.proofs.newest.busiest_rows.Code as code
+use Rattle.busiest.proofs.newest.busiest_rows.Statement as stated
 
 pub busiest-rows-spec : {M : Type 1} → stated.statement M
 unfolding code.routine tablesOf

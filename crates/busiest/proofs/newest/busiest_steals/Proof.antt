@@ -1,8 +1,7 @@
-use Prim.Native.Nat.{_≤_, min}
 use native.Mathlib.Omega.{arith}
 use mathlib.Core.Path.{_≡_, ap, _∙_}
-use borrow.Author.Needs.{needs}
 use lib.ListN.{length, take, length-map}
+use borrow.Author.Needs.{needs}
 use Rattle.voice.specs.Steals.{bookOf}
 use Rattle.voice.proofs.Records.{book-long}
 use Rattle.busiest.specs.declared.newest.Newest.{Newest}

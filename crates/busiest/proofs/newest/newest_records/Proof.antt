@@ -1,9 +1,9 @@
-use Prim.Native.Nat.{_+_, _-_, _≤_, _<_, min}
+use Prim.Native.Nat.{_-_, _≤_, _<_}
 use native.Mathlib.Omega.{arith}
-use mathlib.Core.Path.{_≡_, refl, sym, ap, _∙_}
+use mathlib.Core.Path.{_≡_, refl, ap, _∙_}
 use mathlib.Core.List.{_++_}
-use borrow.Author.Needs.{needs}
 use lib.ListN.{length, take, getD, set, replicate, length-map}
+use borrow.Author.Needs.{needs}
 use Rattle.lists.specs.Table.{filled-more}
 use Rattle.voice.specs.Steals.{bookOf}
 use Rattle.voice.proofs.Records.{book-long}

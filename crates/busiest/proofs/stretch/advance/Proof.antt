@@ -1,7 +1,6 @@
-use mathlib.Core.Path.{_≡_, sym, ap, _∙_}
-use mathlib.Core.Bool.{Bool, true, false, cond}
+use mathlib.Core.Path.{_≡_, sym, _∙_}
+use mathlib.Core.Bool.{true, false}
 use borrow.Author.Needs.{needs}
-use Rattle.busiest.specs.Scan.{grown, moved}
 use Rattle.busiest.specs.Stretch.{within}
 use Rattle.busiest.proofs.stretch.advance.Statement.{statement}
 use Rattle.busiest.proofs.stretch.advance.Tie as tie
