@@ -26,8 +26,9 @@ fn refusal(number_of: u64, c: Counted) {
 }
 
 pub fn compare(n: usize, width: u64, found: Busiest, c: Counted) {
+    text(b"run of ");
     number(n as u64);
-    text(b" records, width ");
+    text(b", width ");
     number(width);
     text(b": ");
     match found {
