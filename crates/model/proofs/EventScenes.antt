@@ -141,6 +141,15 @@ failed-prepare :
 unfolding eq prepare processingOrder lacking lacks any liveIds liveNodes risingFrom whole order walk released fed among count-up
 failed-prepare = (refl, refl, refl, refl, refl)
 
+-- A free prepares, but a render without a sink does not sound, and its fades stay. Refuses: sounding because the prepare went well.
+abbrev sinkless : List Call → Model
+sinkless calls = after (upTo 1 Oldest) (host 2 ∷ spawn 0 ∷ spawn 0 ∷ timedFree 4 9 ∷ calls)
+
+free-without-sink :
+    (asked (call.render ∷ []) (sinkless []) ≡ silent ∷ []) × (voices (sinkless (call.render ∷ [])) ≡ seen 1 0 (fading 2 0 0 0) ∷ seen 2 1 Tracked ∷ [])
+unfolding eq prepare processingOrder lacking lacks any liveIds liveNodes risingFrom whole order walk released fed among count-up
+free-without-sink = (refl, refl)
+
 -- ---- A timed free marks no record cut: voice 1 fades with record 0. It leaves before the fades move. Refuses: a mark for it.
 timed-free-marks-none :
     (after (upTo 1 Oldest) (host 2 ∷ sink 0 ∷ spawn 0 ∷ spawn 0 ∷ timedFree 0 1 ∷ call.render ∷ []) .desk .steals

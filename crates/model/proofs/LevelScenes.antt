@@ -2,7 +2,7 @@
 -- Else, over the last reported block .. Before any report it is 0."
 use mathlib.Core.Path.{_≡_, refl}
 use mathlib.Core.List.{[], _∷_}
-use mathlib.Core.Bool.{false}
+use mathlib.Core.Bool.{false, true}
 use lib.Ieee.{nan, eq, add, mul, div, ofInt, ofBits}
 use Rattle.level.specs.Root.{rootOf, sqrt}
 use Rattle.level.specs.Narrow.{narrow}
@@ -11,11 +11,21 @@ use Rattle.node.specs.declared.refusal.Refusal.the-variants.{UnknownNode, LentB
 use Rattle.rank.specs.Order.{among, fed, released, walk, order, whole, count-up}
 use Rattle.voice.specs.declared.policy.Level.the-variants.{Unknown, Known}
 use Rattle.voice.specs.declared.policy.StealPolicy.the-variants.{Oldest}
+use lib.ListN.{replicate}
+use mathlib.Core.Option.{some}
+use Rattle.lists.specs.Find.{mapO}
+use Rattle.graph.specs.Node.{nodeAt}
+use Rattle.node.specs.Silence.{name, bytes, silencePassThrough, rules}
+use Rattle.synthdef.specs.Plan.{settled}
+use Rattle.synthdef.specs.declared.def.SynthDef.{SynthDef}
+use Rattle.node.specs.declared.order.LastOrder.{LastOrder}
+use Rattle.node.specs.declared.order.LastOrder.the-variants as LastOrder
+use Rattle.store.specs.declared.answer.Outcome.the-variants.{Applied, NotTaken}
 use Rattle.model.specs.Voice.{id}
 use Rattle.model.specs.Model.{Model}
-use Rattle.model.specs.Call.{done, known, refused}
+use Rattle.model.specs.Call.{done, known, refused, Call, ordered, removed}
 use Rattle.model.specs.Call as call
-use Rattle.model.specs.Scene.{small, toneDef, float, voice, host, spawn, free, sounds, spawned, silent, after, asked}
+use Rattle.model.specs.Scene.{small, toneDef, float, voice, host, spawn, free, sounds, spawned, silent, after, asked, upTo, plain, further}
 use Rattle.model.specs.Spawn.{spawnOf}
 
 -- Voice 1 is born at 1. Reported before the clock has passed its birth, its level is none all the same; without a report it is 0 once the
@@ -62,3 +72,60 @@ blocks :
     ≡ refused LentBlock ∷ refused LentBlock ∷ refused LentBlock ∷ refused LentBlock ∷ done ∷ []
 unfolding eq whole order walk released fed among count-up
 blocks = refl
+
+-- The same where the block is 16: 16 samples of one channel, 32 of two. Refuses: as many samples as channels; the block's length for two channels too.
+blocks-of-16 :
+    asked
+    (call.report (id 0) 1 (float 1 ∷ []) false ∷ call.report (id 0) 1 (replicate 16 (float 1)) false ∷ call.report (id 0) 2 (replicate 16 (float 1)) false
+    ∷ call.report (id 0) 2 (replicate 32 (float 1)) false ∷ call.report (id 0) 1 (replicate 32 (float 1)) false ∷ [])
+    (after (upTo 1 Oldest) (host 1 ∷ []))
+    ≡ refused LentBlock ∷ done ∷ refused LentBlock ∷ done ∷ refused LentBlock ∷ []
+unfolding eq whole order walk released fed among count-up
+blocks-of-16 = refl
+
+-- ---- "none for .. a dead output", which no call makes: a store that has its voice and no node. The voice is not silent then, and takes no order. Refuses: the level 0
+-- of a node that is not there; a missing node that is done.
+abbrev nodeless : Model → Model
+nodeless m =
+    let d = m .desk in
+    let g = d .graph in
+    record {
+      desk = record {
+        config = d .config;
+        graph = record { nodes = []; edges = g .edges; sink = g .sink; prepared = g .prepared; order = g .order; next = g .next };
+        events = d .events;
+        steals = d .steals;
+        clock = d .clock;
+        spawned = d .spawned;
+        sequence = d .sequence;
+      };
+      voices = m .voices;
+    }
+
+abbrev cutDef : SynthDef
+cutDef =
+    record {
+      nodes = record { rows = plain "Tone" true true ∷ []; count = 1 };
+      edges = record { rows = []; count = 0 };
+      params = record { rows = record { name = name "cut"; node = 0 } ∷ []; count = 1 };
+      output = 0;
+    }
+
+abbrev cut : LastOrder → Call
+cut o = call.order (voice 1) (bytes "cut") o
+
+abbrev lively : Model
+lively = after (small 1 Oldest) (host 1 ∷ call.spawnManaged (spawnOf cutDef (id 0) (float 0)) ∷ call.render ∷ [])
+
+dead-output :
+    (asked (call.ask (call.level (voice 1)) ∷ cut (LastOrder.Value (float 1)) ∷ call.clear ∷ []) lively ≡ known (Known (float 0)) ∷ ordered Applied ∷ removed 0 ∷ [])
+    × (asked (call.ask (call.level (voice 1)) ∷ cut (LastOrder.Value (float 1)) ∷ call.clear ∷ []) (nodeless lively) ≡ known Unknown ∷ ordered NotTaken ∷ removed 0 ∷ [])
+unfolding eq levelOf squares rootOf sqrt narrow add mul div ofInt ofBits silencePassThrough rules whole order walk released fed among count-up settled
+dead-output = (refl, refl)
+
+-- An order that is none is not taken, and the last one stays. Refuses: an empty order that erases it.
+no-order :
+    (asked (cut LastOrder.Nothing ∷ []) lively ≡ ordered NotTaken ∷ [])
+    × (mapO (λ n. n .last) (nodeAt (further (cut (LastOrder.Value (float 3)) ∷ cut LastOrder.Nothing ∷ []) lively .desk .graph .nodes) (id 1)) ≡ some (LastOrder.Value (float 3)))
+unfolding eq whole order walk released fed among count-up
+no-order = (refl, refl)

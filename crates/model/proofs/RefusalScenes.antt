@@ -165,6 +165,15 @@ in-order :
 unfolding eq whole order walk released fed among count-up
 in-order = (refl, refl, refl, refl, refl, refl, refl)
 
+-- Headroom and ids by the definition's nodes: 24 and 3 more make 512 of 485, which with the three of `held` are 482 more. Refuses: the headroom of one node for all.
+by-nodes :
+    (numbers (managed (tones 24) 0 ∷ []) (crowded 482 0 3 1 held) ≡ some 11 ∷ [])
+    × (numbers (managed (tones 24) 0 ∷ []) (crowded 483 0 3 1 held) ≡ some 7 ∷ [])
+    × (numbers (managed (tones 24) 0 ∷ []) (crowded 0 0 4294967269 1 held) ≡ some 11 ∷ [])
+    × (numbers (managed (tones 24) 0 ∷ []) (crowded 0 0 4294967270 1 held) ≡ some 8 ∷ [])
+unfolding eq whole order walk released fed among count-up
+by-nodes = (refl, refl, refl, refl)
+
 -- Headroom counts all edges that the definition gives: three, of which one counts. Refuses: counted edges only.
 abbrev thrice : DefEdge
 thrice = record { from = 0; to = 1; port = 0 }
