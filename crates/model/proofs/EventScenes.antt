@@ -8,7 +8,7 @@ use mathlib.Core.Bool.{true, false}
 use lib.ListN.{replicate, length}
 use lib.Ieee.{eq}
 use Rattle.lists.specs.Find.{mapO}
-use Rattle.node.specs.Silence.{name, bytes}
+use Rattle.node.specs.Silence.{bytes}
 use Rattle.node.specs.declared.order.Action.{Action}
 use Rattle.node.specs.declared.order.Action.the-variants as Action
 use Rattle.node.specs.declared.order.GlideShape.the-variants.{Linear}
@@ -24,7 +24,6 @@ use Rattle.order.specs.Prepare.{prepare}
 use Rattle.voice.specs.declared.policy.StealPolicy.the-variants.{Oldest}
 use Rattle.voice.specs.Steals.{recordOf}
 use Rattle.voice.specs.declared.policy.Level.the-variants.{Unknown}
-use Rattle.synthdef.specs.declared.def.Param.{Param}
 use Rattle.synthdef.specs.declared.def.SynthDef.{SynthDef}
 use Rattle.store.specs.declared.answer.Outcome.the-variants.{Applied, NoVoice, NoParameter, NotTaken}
 use Rattle.store.specs.declared.answer.Rendered.the-variants as Rendered
@@ -33,14 +32,11 @@ use Rattle.model.specs.Voice.{id}
 use Rattle.model.specs.Model.{Model}
 use Rattle.model.specs.Call.{Call, done, refused, ordered, rendered, time}
 use Rattle.model.specs.Call as call
-use Rattle.model.specs.Scene.{upTo, plain, float, voice, host, sink, wire, spawn, free, timedFree, spawned, sounding, silent, after, asked, further, seen, voices, fading}
+use Rattle.model.specs.Scene.{upTo, plain, float, voice, host, sink, wire, spawn, free, timedFree, spawned, sounding, silent, after, asked, further, seen, voices, fading, param, value, glide}
 use Rattle.model.specs.Spawn.{spawnOf}
 
 -- ---- a definition of two nodes, the output takes values, the other one glides. `cut` is the first's, and again the second's;
 -- `gate` is the first's
-abbrev param : String → ℕ → Param
-param s i = record { name = name s; node = i }
-
 abbrev keyDef : SynthDef
 keyDef =
     record {
@@ -49,12 +45,6 @@ keyDef =
       params = record { rows = param "cut" 0 ∷ param "cut" 1 ∷ param "rate" 1 ∷ param "gate" 0 ∷ []; count = 4 };
       output = 0;
     }
-
-abbrev value : ℕ → LastOrder
-value n = LastOrder.Value (float n)
-
-abbrev glide : ℕ → ℕ → LastOrder
-glide target seconds = LastOrder.Glide (float target) (float seconds) Linear Raw
 
 abbrev set : String → LastOrder → Call
 set s o = call.order (voice 1) (bytes s) o

@@ -3,7 +3,9 @@
 use mathlib.Core.Path.{_≡_, refl}
 use mathlib.Core.List.{[], _∷_}
 use mathlib.Core.Bool.{false, true}
+use mathlib.Core.Option.{some}
 use lib.Ieee.{nan, eq, add, mul, div, ofInt, ofBits}
+use lib.ListN.{replicate}
 use Rattle.level.specs.Root.{rootOf, sqrt}
 use Rattle.level.specs.Narrow.{narrow}
 use Rattle.level.specs.Level.{squares, levelOf}
@@ -11,11 +13,9 @@ use Rattle.node.specs.declared.refusal.Refusal.the-variants.{UnknownNode, LentB
 use Rattle.rank.specs.Order.{among, fed, released, walk, order, whole, count-up}
 use Rattle.voice.specs.declared.policy.Level.the-variants.{Unknown, Known}
 use Rattle.voice.specs.declared.policy.StealPolicy.the-variants.{Oldest}
-use lib.ListN.{replicate}
-use mathlib.Core.Option.{some}
 use Rattle.lists.specs.Find.{mapO}
 use Rattle.graph.specs.Node.{nodeAt}
-use Rattle.node.specs.Silence.{name, bytes, silencePassThrough, rules}
+use Rattle.node.specs.Silence.{bytes, silencePassThrough, rules}
 use Rattle.synthdef.specs.Plan.{settled}
 use Rattle.synthdef.specs.declared.def.SynthDef.{SynthDef}
 use Rattle.node.specs.declared.order.LastOrder.{LastOrder}
@@ -25,7 +25,7 @@ use Rattle.model.specs.Voice.{id}
 use Rattle.model.specs.Model.{Model}
 use Rattle.model.specs.Call.{done, known, refused, Call, ordered, removed}
 use Rattle.model.specs.Call as call
-use Rattle.model.specs.Scene.{small, toneDef, float, voice, host, spawn, free, sounds, spawned, silent, after, asked, upTo, plain, further}
+use Rattle.model.specs.Scene.{small, toneDef, float, voice, host, spawn, free, sounds, spawned, silent, after, asked, upTo, plain, further, param, value}
 use Rattle.model.specs.Spawn.{spawnOf}
 
 -- Voice 1 is born at 1. Reported before the clock has passed its birth, its level is none all the same; without a report it is 0 once the
@@ -107,7 +107,7 @@ cutDef =
     record {
       nodes = record { rows = plain "Tone" true true ∷ []; count = 1 };
       edges = record { rows = []; count = 0 };
-      params = record { rows = record { name = name "cut"; node = 0 } ∷ []; count = 1 };
+      params = record { rows = param "cut" 0 ∷ []; count = 1 };
       output = 0;
     }
 
@@ -118,14 +118,14 @@ abbrev lively : Model
 lively = after (small 1 Oldest) (host 1 ∷ call.spawnManaged (spawnOf cutDef (id 0) (float 0)) ∷ call.render ∷ [])
 
 dead-output :
-    (asked (call.ask (call.level (voice 1)) ∷ cut (LastOrder.Value (float 1)) ∷ call.clear ∷ []) lively ≡ known (Known (float 0)) ∷ ordered Applied ∷ removed 0 ∷ [])
-    × (asked (call.ask (call.level (voice 1)) ∷ cut (LastOrder.Value (float 1)) ∷ call.clear ∷ []) (nodeless lively) ≡ known Unknown ∷ ordered NotTaken ∷ removed 0 ∷ [])
+    (asked (call.ask (call.level (voice 1)) ∷ cut (value 1) ∷ call.clear ∷ []) lively ≡ known (Known (float 0)) ∷ ordered Applied ∷ removed 0 ∷ [])
+    × (asked (call.ask (call.level (voice 1)) ∷ cut (value 1) ∷ call.clear ∷ []) (nodeless lively) ≡ known Unknown ∷ ordered NotTaken ∷ removed 0 ∷ [])
 unfolding eq levelOf squares rootOf sqrt narrow add mul div ofInt ofBits silencePassThrough rules whole order walk released fed among count-up settled
 dead-output = (refl, refl)
 
 -- An order that is none is not taken, and the last one stays. Refuses: an empty order that erases it.
 no-order :
     (asked (cut LastOrder.Nothing ∷ []) lively ≡ ordered NotTaken ∷ [])
-    × (mapO (λ n. n .last) (nodeAt (further (cut (LastOrder.Value (float 3)) ∷ cut LastOrder.Nothing ∷ []) lively .desk .graph .nodes) (id 1)) ≡ some (LastOrder.Value (float 3)))
+    × (mapO (λ n. n .last) (nodeAt (further (cut (value 3) ∷ cut LastOrder.Nothing ∷ []) lively .desk .graph .nodes) (id 1)) ≡ some (value 3))
 unfolding eq whole order walk released fed among count-up
 no-order = (refl, refl)

@@ -21,8 +21,8 @@ use Rattle.model.specs.Voice.{id}
 use Rattle.model.specs.Model.{Model}
 use Rattle.model.specs.Call.{Answer, Question, known, reached, found, foundNode, all, stolen, wires, fed, time, printed, refused}
 use Rattle.model.specs.Call as call
-use Rattle.model.specs.Scene.{upTo, float, voice, host, spawn, inOrder, after, asked}
-use Rattle.model.proofs.WholeScenes.{heard, key, key1, value, v1, v2, v3, v4, fades, node, fx, edges, one}
+use Rattle.model.specs.Scene.{upTo, float, voice, host, spawn, inOrder, after, asked, value}
+use Rattle.model.proofs.WholeScenes.{heard, key, key1, v1, v2, v3, v4, fades, node, fx, edges, one}
 
 -- what the store answers to these
 abbrev told : List Question → Model → List Answer

@@ -19,7 +19,6 @@ use Rattle.voice.specs.declared.policy.Budget.{Budget}
 use Rattle.voice.specs.declared.policy.Budget.the-variants.{Unlimited, AtMost}
 use Rattle.voice.specs.declared.policy.BudgetScope.the-variants.{Global}
 use Rattle.voice.specs.declared.policy.StealPolicy.the-variants.{Oldest, Reject}
-use Rattle.synthdef.specs.declared.def.DefEdge.{DefEdge}
 use Rattle.synthdef.specs.declared.def.SynthDef.{SynthDef}
 use Rattle.store.specs.declared.voices.Voice.{Voice}
 use Rattle.model.specs.Voice.{id}
@@ -27,7 +26,7 @@ use Rattle.model.specs.Model.{Model}
 use Rattle.model.specs.Make.{refusalOf}
 use Rattle.model.specs.Call.{Call}
 use Rattle.model.specs.Call as call
-use Rattle.model.specs.Scene.{upTo, plain, toneDef, float, host, sink, wire, unwire, spawn, spawnLoose, after, asked, edge}
+use Rattle.model.specs.Scene.{upTo, plain, toneDef, float, host, sink, wire, unwire, spawn, spawnLoose, after, asked, edge, tones, defEdge}
 use Rattle.model.specs.Spawn.{spawnOf}
 use Rattle.model.proofs.Refused.{refusalIn}
 
@@ -124,15 +123,6 @@ adds :
 adds = (refl, refl, refl)
 
 -- ---- spawns: 9; 4, 5; 10; 7; 8; 11; 12
-abbrev tones : ℕ → SynthDef
-tones n =
-    record {
-      nodes = record { rows = replicate n (plain "Tone" false false); count = n };
-      edges = record { rows = []; count = 0 };
-      params = record { rows = []; count = 0 };
-      output = 0;
-    }
-
 abbrev managed : SynthDef → ℕ → Call
 managed def b = call.spawnManaged (spawnOf def (id b) (float 0))
 
@@ -142,9 +132,9 @@ loose def b = call.spawnLoose (spawnOf def (id b) (float 0))
 -- 9 before 4: 25 nodes, 0 nodes, 24 nodes; 4 before 10: the unknown and the dead have no ports either; 5 before 10: the voice's node has
 -- none; 10. Refuses: 4 first; 10 first.
 bus-refused :
-    (numbers (managed (tones 25) 9 ∷ managed (tones 0) 9 ∷ managed (tones 24) 9 ∷ managed toneDef 3 ∷ managed toneDef 2 ∷ managed toneDef 1 ∷ managed (tones 24) 0 ∷ []) wired
+    (numbers (managed (tones 25 0) 9 ∷ managed (tones 0 0) 9 ∷ managed (tones 24 0) 9 ∷ managed toneDef 3 ∷ managed toneDef 2 ∷ managed toneDef 1 ∷ managed (tones 24 0) 0 ∷ []) wired
     ≡ some 9 ∷ some 9 ∷ some 4 ∷ some 4 ∷ some 5 ∷ some 10 ∷ some 12 ∷ [])
-    × (numbers (loose (tones 25) 9 ∷ loose (tones 0) 9 ∷ loose (tones 24) 9 ∷ loose toneDef 3 ∷ loose toneDef 2 ∷ loose toneDef 1 ∷ loose toneDef 0 ∷ []) wired
+    × (numbers (loose (tones 25 0) 9 ∷ loose (tones 0 0) 9 ∷ loose (tones 24 0) 9 ∷ loose toneDef 3 ∷ loose toneDef 2 ∷ loose toneDef 1 ∷ loose toneDef 0 ∷ []) wired
     ≡ some 9 ∷ some 9 ∷ some 4 ∷ some 4 ∷ some 5 ∷ some 10 ∷ some 12 ∷ [])
 unfolding eq whole order walk released fed among count-up
 bus-refused = (refl, refl)
@@ -167,17 +157,14 @@ in-order = (refl, refl, refl, refl, refl, refl, refl)
 
 -- Headroom and ids by the definition's nodes: 24 and 3 more make 512 of 485, which with the three of `held` are 482 more. Refuses: the headroom of one node for all.
 by-nodes :
-    (numbers (managed (tones 24) 0 ∷ []) (crowded 482 0 3 1 held) ≡ some 11 ∷ [])
-    × (numbers (managed (tones 24) 0 ∷ []) (crowded 483 0 3 1 held) ≡ some 7 ∷ [])
-    × (numbers (managed (tones 24) 0 ∷ []) (crowded 0 0 4294967269 1 held) ≡ some 11 ∷ [])
-    × (numbers (managed (tones 24) 0 ∷ []) (crowded 0 0 4294967270 1 held) ≡ some 8 ∷ [])
+    (numbers (managed (tones 24 0) 0 ∷ []) (crowded 482 0 3 1 held) ≡ some 11 ∷ [])
+    × (numbers (managed (tones 24 0) 0 ∷ []) (crowded 483 0 3 1 held) ≡ some 7 ∷ [])
+    × (numbers (managed (tones 24 0) 0 ∷ []) (crowded 0 0 4294967269 1 held) ≡ some 11 ∷ [])
+    × (numbers (managed (tones 24 0) 0 ∷ []) (crowded 0 0 4294967270 1 held) ≡ some 8 ∷ [])
 unfolding eq whole order walk released fed among count-up
 by-nodes = (refl, refl, refl, refl)
 
 -- Headroom counts all edges that the definition gives: three, of which one counts. Refuses: counted edges only.
-abbrev thrice : DefEdge
-thrice = record { from = 0; to = 1; port = 0 }
-
 abbrev edged : SynthDef
 edged =
     record {
@@ -185,7 +172,7 @@ edged =
         rows = plain "Tone" false false ∷ record { kind = plain "Mix" false false .kind; ports = 1; required = 0; «takes_values» = false; «takes_glides» = false; «in_port» = 0; «level_port» = 255; «amp_port» = 255 } ∷ [];
         count = 2;
       };
-      edges = record { rows = replicate 3 thrice; count = 3 };
+      edges = record { rows = replicate 3 (defEdge 0 1 0); count = 3 };
       params = record { rows = []; count = 0 };
       output = 1;
     }

@@ -1,10 +1,8 @@
 -- Scenes of silence at a clearing: "those whose done plan is silent". The voices are those of `WholeScenes`: voice 1 fades, voice 2 is loose, both of `Key` and `Lfo` into
 -- `Mul`, which is the output; voices 3 and 4 are tracked, each a `Tone`. No fade has ended.
-use Prim.Native.Nat.{ℕ, _+_}
+use Prim.Native.Nat.{ℕ}
 use mathlib.Core.Path.{_≡_, refl}
 use mathlib.Core.List.{List, [], _∷_, map}
-use mathlib.Core.Bool.{false}
-use lib.ListN.{replicate}
 use lib.Ieee.{eq, add, mul, div, ofInt, ofBits}
 use Rattle.level.specs.Root.{rootOf, sqrt}
 use Rattle.level.specs.Narrow.{narrow}
@@ -13,13 +11,12 @@ use Rattle.node.specs.Silence.{silencePassThrough, rules}
 use Rattle.rank.specs.Order.{among, fed, released, walk, order, whole, count-up}
 use Rattle.voice.specs.declared.policy.StealPolicy.the-variants.{Oldest}
 use Rattle.synthdef.specs.Plan.{settled}
-use Rattle.synthdef.specs.declared.def.SynthDef.{SynthDef}
 use Rattle.model.specs.Voice.{id}
 use Rattle.model.specs.Spawn.{spawnOf}
 use Rattle.model.specs.Model.{Model}
 use Rattle.model.specs.Call.{Call, Answer, removed}
 use Rattle.model.specs.Call as call
-use Rattle.model.specs.Scene.{small, plain, float, host, sounds, ends, after, asked, further}
+use Rattle.model.specs.Scene.{small, float, host, sounds, ends, after, asked, further, tones}
 use Rattle.model.proofs.WholeScenes.{heard, key1}
 
 -- what a clearing answers after these reports, and who is left
@@ -55,17 +52,8 @@ unfolding eq levelOf squares rootOf sqrt narrow add mul div ofInt ofBits silence
 heard-again = refl
 
 -- ---- 24 nodes, the last of which is the output: its flag is read. Refuses: flags of 23 nodes; a report of the last node refused.
-abbrev tones : ℕ → SynthDef
-tones n =
-    record {
-      nodes = record { rows = replicate (n + 1) (plain "Tone" false false); count = n + 1 };
-      edges = record { rows = []; count = 0 };
-      params = record { rows = []; count = 0 };
-      output = n;
-    }
-
 abbrev large : Model
-large = after (small 9 Oldest) (host 1 ∷ call.spawnManaged (spawnOf (tones 23) (id 0) (float 0)) ∷ [])
+large = after (small 9 Oldest) (host 1 ∷ call.spawnManaged (spawnOf (tones 24 23) (id 0) (float 0)) ∷ [])
 
 last-flag :
     (asked (ends 23 ∷ call.clear ∷ []) large ≡ call.done ∷ removed 0 ∷ []) × (asked (ends 24 ∷ call.clear ∷ []) large ≡ call.done ∷ removed 1 ∷ [])

@@ -22,7 +22,6 @@ use Rattle.voice.specs.Steals.{recordOf}
 use Rattle.voice.specs.declared.policy.Level.the-variants.{Unknown}
 use Rattle.voice.specs.declared.policy.StealPolicy.the-variants.{Oldest, Reject}
 use Rattle.synthdef.specs.declared.def.DefNode.{DefNode}
-use Rattle.synthdef.specs.declared.def.DefEdge.{DefEdge}
 use Rattle.synthdef.specs.declared.def.SynthDef.{SynthDef}
 use Rattle.store.specs.declared.voices.VoiceState.the-variants.{Tracked, Loose}
 use Rattle.model.specs.Voice.{id}
@@ -30,7 +29,7 @@ use Rattle.model.specs.Model.{Model}
 use Rattle.model.specs.Make.{newModel}
 use Rattle.model.specs.Call.{fed, stolen, found}
 use Rattle.model.specs.Call as call
-use Rattle.model.specs.Scene.{upTo, plain, toneDef, host, wire, spawn, spawnLoose, free, voice, notSpawned, after, asked, further, edge, seen, voices, fading}
+use Rattle.model.specs.Scene.{upTo, plain, toneDef, host, wire, spawn, spawnLoose, free, voice, notSpawned, after, asked, further, edge, seen, voices, fading, defEdge}
 use Rattle.model.specs.Spawn.{spawnOf}
 
 -- ---- a definition of three nodes. Its edges: 0 to port 0 of 2, 1 to port 1 of 2, 1 to port 0 of 2, which counts
@@ -46,9 +45,6 @@ mix =
       «level_port» = 255;
       «amp_port» = 255;
     }
-
-abbrev defEdge : ℕ → ℕ → ℕ → DefEdge
-defEdge a b p = record { from = a; to = b; port = p }
 
 abbrev threeDef : SynthDef
 threeDef =

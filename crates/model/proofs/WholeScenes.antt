@@ -5,17 +5,15 @@ use Prim.Native.Nat.{ℕ}
 use Prim.Native.String.{String}
 use mathlib.Core.Path.{_≡_, refl}
 use mathlib.Core.List.{List, [], _∷_, _++_, map}
-use mathlib.Core.Option.{Option, none, some}
+use mathlib.Core.Option.{Option, some}
 use mathlib.Core.Bool.{Bool, true, false}
-use lib.Ieee.{Float, nan, eq, add, mul, div, ofInt, ofBits}
+use lib.Ieee.{nan, eq, add, mul, div, ofInt, ofBits}
 use Rattle.level.specs.Root.{rootOf, sqrt}
 use Rattle.level.specs.Narrow.{narrow}
 use Rattle.level.specs.Level.{squares, levelOf}
 use Rattle.node.specs.Name.{nameOf}
 use Rattle.node.specs.Silence.{name, bytes, silencePassThrough, rules}
 use Rattle.node.specs.declared.order.Action.the-variants as Action
-use Rattle.node.specs.declared.order.GlideShape.the-variants.{Linear}
-use Rattle.node.specs.declared.order.GlideSpace.the-variants.{Raw}
 use Rattle.node.specs.declared.order.LastOrder.{LastOrder}
 use Rattle.node.specs.declared.order.LastOrder.the-variants as LastOrder
 use Rattle.node.specs.declared.record.Edge.{Edge}
@@ -33,9 +31,7 @@ use Rattle.voice.specs.declared.policy.BudgetScope.the-variants.{PerGroup}
 use Rattle.voice.specs.declared.policy.Level.the-variants.{Known}
 use Rattle.voice.specs.declared.policy.StealPolicy.the-variants.{Oldest}
 use Rattle.synthdef.specs.Plan.{planOf, settled}
-use Rattle.synthdef.specs.declared.def.DefEdge.{DefEdge}
 use Rattle.synthdef.specs.declared.def.DefNode.{DefNode}
-use Rattle.synthdef.specs.declared.def.Param.{Param}
 use Rattle.synthdef.specs.declared.def.SynthDef.{SynthDef}
 use Rattle.store.specs.declared.config.Config.{Config}
 use Rattle.store.specs.declared.voices.Voice.{Voice}
@@ -46,7 +42,7 @@ use Rattle.model.specs.Spawn.{spawnOf}
 use Rattle.model.specs.Model.{Model}
 use Rattle.model.specs.Call.{Call}
 use Rattle.model.specs.Call as call
-use Rattle.model.specs.Scene.{plain, toneDef, float, voice, sink, wire, spawn, free, sounds, ends, after, further, edge, fading}
+use Rattle.model.specs.Scene.{plain, toneDef, float, voice, sink, wire, spawn, free, sounds, after, further, edge, fading, defEdge, param, value, glide}
 
 -- ---- the definition: `Key` takes values, `Lfo` glides, and both feed the output `Mul`, whose port 0 is required
 abbrev mul2 : DefNode
@@ -61,12 +57,6 @@ mul2 =
       «level_port» = 255;
       «amp_port» = 255;
     }
-
-abbrev defEdge : ℕ → ℕ → ℕ → DefEdge
-defEdge a b p = record { from = a; to = b; port = p }
-
-abbrev param : String → ℕ → Param
-param s i = record { name = name s; node = i }
 
 abbrev pub keyDef : SynthDef
 keyDef =
@@ -125,12 +115,6 @@ node k w kind ports required values glides done level last =
 abbrev new : ℕ → ℕ → String → ℕ → ℕ → Bool → Bool → Node
 new k w kind ports required values glides = node k w kind ports required values glides false 0 LastOrder.Nothing
 
-abbrev pub value : ℕ → LastOrder
-value n = LastOrder.Value (float n)
-
-abbrev pub glide : ℕ → ℕ → LastOrder
-glide target seconds = LastOrder.Glide (float target) (float seconds) Linear Raw
-
 -- the host's nodes: `Fx`, the sink, whose port 1 is required and fed by the bus; and the bus, of 4 ports
 abbrev pub fx : Node
 fx = new 0 0 "Fx" 2 2 false true
@@ -144,8 +128,11 @@ voice1 key =
     key ∷ node 3 1 "Lfo" 0 0 false true false 0 (glide 3 5) ∷ node 4 1 "Mul" 2 1 true true false 3 LastOrder.Nothing
     ∷ new 5 1 "Const" 0 0 false false ∷ new 6 1 "Pan2" 2 1 false false ∷ []
 
+abbrev pub key : Bool → ℕ → LastOrder → Node
+key done level last = node 2 1 "Key" 0 0 true false done level last
+
 abbrev pub key1 : Node
-key1 = node 2 1 "Key" 0 0 true false false 0 (value 7)
+key1 = key false 0 (value 7)
 
 -- voice 2, unmanaged, and voice 3, a `Tone`; then the fade of voice 1, and voice 4, another `Tone`
 abbrev voice2 : LastOrder → List Node
@@ -273,9 +260,6 @@ unfolding eq levelOf squares rootOf sqrt narrow add mul div ofInt ofBits silence
 happens = record { config = refl; graph = refl; events = refl; steals = refl; clock = refl; spawned = refl; sequence = refl; voices = refl }
 
 -- ---- A report of voice 1's `Key`, which is done, with a sample 5; then a value for it, although its voice fades and it is done; then a report that it is not done.
-abbrev pub key : Bool → ℕ → LastOrder → Node
-key done level last = node 2 1 "Key" 0 0 true false done level last
-
 -- Refuses: a report that erases the last order, unprepares, or loses another field of the node or of the graph.
 reports : Same (further (call.report (id 2) 1 (float 5 ∷ []) true ∷ []) (heard key1)) (heard (key true 5 (value 7)))
 unfolding eq levelOf squares rootOf sqrt narrow add mul div ofInt ofBits silencePassThrough rules prepare processingOrder lacking lacks any liveIds liveNodes risingFrom whole order walk released fed among count-up settled

@@ -6,8 +6,13 @@ use mathlib.Core.List.{List, [], _∷_, map}
 use mathlib.Core.Bool.{Bool, true, false}
 use lib.IntN.{pos}
 use lib.Ieee.{Float, inf, fin}
+use lib.ListN.{replicate}
 use Rattle.node.specs.Silence.{name, bytes}
 use Rattle.node.specs.declared.order.Action.the-variants as Action
+use Rattle.node.specs.declared.order.GlideShape.the-variants.{Linear}
+use Rattle.node.specs.declared.order.GlideSpace.the-variants.{Raw}
+use Rattle.node.specs.declared.order.LastOrder.{LastOrder}
+use Rattle.node.specs.declared.order.LastOrder.the-variants as LastOrder
 use Rattle.node.specs.declared.record.VoiceId.{VoiceId}
 use Rattle.node.specs.declared.record.Edge.{Edge}
 use Rattle.node.specs.declared.refusal.Refusal.{Refusal}
@@ -18,6 +23,8 @@ use Rattle.voice.specs.declared.policy.BudgetScope.the-variants as BudgetScope
 use Rattle.voice.specs.declared.policy.StealPolicy.{StealPolicy}
 use Rattle.voice.specs.declared.policy.StealPolicy.the-variants as StealPolicy
 use Rattle.synthdef.specs.declared.def.DefNode.{DefNode}
+use Rattle.synthdef.specs.declared.def.DefEdge.{DefEdge}
+use Rattle.synthdef.specs.declared.def.Param.{Param}
 use Rattle.synthdef.specs.declared.def.SynthDef.{SynthDef}
 use Rattle.store.specs.declared.answer.Rendered.the-variants as Rendered
 use Rattle.store.specs.declared.answer.Spawned.the-variants as Spawned
@@ -67,9 +74,33 @@ toneDef =
       output = 0;
     }
 
+-- so many of these, with no edges; the node k is the output
+abbrev pub tones : ℕ → ℕ → SynthDef
+tones n k =
+    record {
+      nodes = record { rows = replicate n (plain "Tone" false false); count = n };
+      edges = record { rows = []; count = 0 };
+      params = record { rows = []; count = 0 };
+      output = k;
+    }
+
+-- an edge and a parameter of a definition, by the places of its nodes
+abbrev pub defEdge : ℕ → ℕ → ℕ → DefEdge
+defEdge a b p = record { from = a; to = b; port = p }
+
+abbrev pub param : String → ℕ → Param
+param s i = record { name = name s; node = i }
+
 -- ---- a whole number as a float; odd or 0, so that it is in its own form
 abbrev pub float : ℕ → Float
 float n = fin false n (pos 0)
+
+-- ---- orders
+abbrev pub value : ℕ → LastOrder
+value n = LastOrder.Value (float n)
+
+abbrev pub glide : ℕ → ℕ → LastOrder
+glide target seconds = LastOrder.Glide (float target) (float seconds) Linear Raw
 
 -- ---- ids
 abbrev pub voice : ℕ → VoiceId
