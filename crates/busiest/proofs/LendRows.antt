@@ -1,7 +1,7 @@
 -- The first rows of an array, lent to `busiest_stretch`: one walk of the MIR that
 --     fn f(rows: [StealRecord; N], n: usize, width: u64) -> Busiest { busiest_stretch(&rows[..n], width) }
--- is lowered to, for every N. A lifetime is made, the first n rows of the local array are lent for it as a slice, `busiest_stretch` is
--- called, the lifetime ends, and the array is whole again.
+-- is lowered to, for every N of which there is room. A lifetime is made, the first n rows of the local array are lent for it as a slice,
+-- `busiest_stretch` is called, the lifetime ends, and the array is whole again.
 use Prim.Native.Nat.{ℕ, _*_, _<_, _≤_, _^_}
 use native.Mathlib.Omega.{arith}
 use mathlib.Core.Path.{_≡_, refl, sym}
@@ -185,7 +185,7 @@ module _ {M : Type 1} (𝓤 : URA M) (H : Heap 𝓤) (A : Atoms 𝓤) (W : Given
         move ! (0 ∷ 8 ∷ []) $ free1 ! $ move ! (5 ∷ 6 ∷ []) $ free1 ! $ move ! (3 ∷ 4 ∷ []) $ free1 ! $ free0 ! $
         keep ! (0 ∷ 2 ∷ []) $ by ! (exits r u e))))))))))))))
 
-module _ {M : Type 1} (𝓤 : URA M) (H : Heap 𝓤) (A : Atoms 𝓤) (W : Given 𝓤 H A) (mm : Memory → SProp 𝓤) (run : Routine → Fun 𝓤) (𝓣 : Tables 𝓤 H) (known : Triple 𝓤 (𝓣 .C #stretch) (Stretch 𝓤 H A mm run)) (N : ℕ) (small : N ≤ 65536) where
+module _ {M : Type 1} (𝓤 : URA M) (H : Heap 𝓤) (A : Atoms 𝓤) (W : Given 𝓤 H A) (mm : Memory → SProp 𝓤) (run : Routine → Fun 𝓤) (𝓣 : Tables 𝓤 H) (known : Triple 𝓤 (𝓣 .C #stretch) (Stretch 𝓤 H A mm run)) (N : ℕ) (small : N * 16 < 2 ^ 63) where
   abbrev lend : List Val → (Val → SProp 𝓤) → SProp 𝓤
   lend = WpFn 𝓤 H (𝓣 .C) (𝓣 .Λ) (lend-code N)
 
