@@ -1,3 +1,5 @@
+pub mod Examples
+pub mod Scenes
 pub mod Rates
 pub mod Digits
 pub mod Sizes

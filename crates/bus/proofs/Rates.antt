@@ -16,7 +16,8 @@ use lib.Ieee.Bits.{ofBits-toBits}
 use lib.Ieee.Exact.{HasValue}
 use lib.Ieee.Fits.{ofInt-fits, down-pos}
 use borrow.Author.Tests.{le-leb, lt-ltb, leb-true}
-use Rattle.bus.specs.Answer.{refused, gives}
+use Rattle.node.specs.Refusal.{refused, gives, numberOf}
+use Rattle.node.specs.declared.refusal.Refusal.the-variants.{SampleRate}
 use Rattle.bus.specs.Rate.{highestRate, wholeRate, rateOf}
 
 -- n is a rate, and x is its f32
@@ -59,7 +60,7 @@ whole m e f r l h =
 
 -- one or the other: x is refused, or accepted as the n whose f32 it is
 data Decided (x : Float) : Type 0 where
-  no : rateOf x ≡ refused 1 → Decided x
+  no : rateOf x ≡ refused (numberOf SampleRate) → Decided x
   yes : (n : ℕ) → rateOf x ≡ gives n → IsRate x n → Decided x
 
 decided : (x : Float) → T (fits binary32 x) → Decided x
@@ -83,10 +84,10 @@ rate-is x n f t = go (decided x f)
     go (no q) = let z : _≡_ {A = ℕ} 0 1 = cc in absurd (omega arith)
     go (yes k q s) = let e : k ≡ n = cc in subst (λ (j : ℕ). IsRate x j) e s
 
-pub refuses : (x : Float) → T (fits binary32 x) → ((n : ℕ) → IsRate x n → ⊥) → rateOf x ≡ refused 1
+pub refuses : (x : Float) → T (fits binary32 x) → ((n : ℕ) → IsRate x n → ⊥) → rateOf x ≡ refused (numberOf SampleRate)
 refuses x f none = go (decided x f)
   where
-    go : Decided x → rateOf x ≡ refused 1
+    go : Decided x → rateOf x ≡ refused (numberOf SampleRate)
     go (no q) = q
     go (yes n q s) = absurd (none n s)
 
@@ -147,18 +148,18 @@ ordered (fin s m e) nan l = subst T (sym l) tt
 never : {b : Bool} → b ≡ true → b ≡ false → ⊥
 never p q = subst T (sym p ∙ q) tt
 
-pub not-above : (x : Float) → T (fits binary32 x) → lt (fin true 1 (pos 0)) x ≡ false → rateOf x ≡ refused 1
+pub not-above : (x : Float) → T (fits binary32 x) → lt (fin true 1 (pos 0)) x ≡ false → rateOf x ≡ refused (numberOf SampleRate)
 not-above x f q = refuses x f (λ n s. never (above x n s) q)
 
-pub not-under : (x : Float) → T (fits binary32 x) → lt x (fin false 1 (pos 64)) ≡ false → rateOf x ≡ refused 1
+pub not-under : (x : Float) → T (fits binary32 x) → lt x (fin false 1 (pos 64)) ≡ false → rateOf x ≡ refused (numberOf SampleRate)
 not-under x f q = refuses x f (λ n s. never (under x n s) q)
 
 -- k is what is left of x without its fraction
-pub out-of-range : (x : Float) (k : ℕ) → T (fits binary32 x) → k ≡ toUnsigned 64 x → (1 ≤ k → k ≤ highestRate → ⊥) → rateOf x ≡ refused 1
+pub out-of-range : (x : Float) (k : ℕ) → T (fits binary32 x) → k ≡ toUnsigned 64 x → (1 ≤ k → k ≤ highestRate → ⊥) → rateOf x ≡ refused (numberOf SampleRate)
 out-of-range x k f e out =
     refuses x f (λ n s. let q : k ≡ n = e ∙ cut x n s in subst (λ (j : ℕ). 1 ≤ j → j ≤ highestRate → ⊥) q out (s .low) (s .high))
 
-pub not-whole : (x : Float) (k : ℕ) → T (fits binary32 x) → k ≡ toUnsigned 64 x → (toBits binary32 (ofInt binary32 (pos k)) ≡ toBits binary32 x → ⊥) → rateOf x ≡ refused 1
+pub not-whole : (x : Float) (k : ℕ) → T (fits binary32 x) → k ≡ toUnsigned 64 x → (toBits binary32 (ofInt binary32 (pos k)) ≡ toBits binary32 x → ⊥) → rateOf x ≡ refused (numberOf SampleRate)
 not-whole x k f e other =
     refuses x f (λ n s. let q : k ≡ n = e ∙ cut x n s in other (ap (λ (j : ℕ). toBits binary32 (ofInt binary32 (pos j))) q ∙ ap (toBits binary32) (sym (s .same))))
 

@@ -1,21 +1,17 @@
--- What each answer of this crate says in the numbers of 01's table of refusals. Definitions only.
+-- What each answer of this crate says in 01's terms.
 use Prim.Native.Nat.{ℕ}
+use Rattle.node.specs.Refusal.{Said, refused, gives, numberOf}
 use Rattle.bus.specs.declared.SampleRate.{SampleRate}
 use Rattle.bus.specs.declared.SampleRate.the-variants as rate
 use Rattle.bus.specs.declared.Written.{Written}
 use Rattle.bus.specs.declared.Written.the-variants as block
 
--- the number of the refusal, or what the call gives
-pub data Answer (A : Type 0) : Type 0 where
-  refused : ℕ → Answer A
-  gives : A → Answer A
-
--- making, 1: "sample rate not a whole 1 to 384,000 Hz"
-abbrev pub rated : SampleRate → Answer ℕ
+-- making: a whole rate, or the number of a refusal
+abbrev pub rated : SampleRate → Said ℕ
 rated (rate.Hertz n) = gives n
-rated rate.Refused = refused 1
+rated (rate.Refused r) = refused (numberOf r)
 
--- fade output and bus sum, 16: "channels not 1 or 2, a lent block not channels × block, more than 64 inputs, or fewer than L gains"
-abbrev pub written : Written → Answer Unit
+-- fade output and bus sum: the output is written, or the number of a refusal
+abbrev pub written : Written → Said Unit
 written block.Done = gives tt
-written block.Refused = refused 16
+written (block.Refused r) = refused (numberOf r)

@@ -6,7 +6,8 @@ use lib.Dec.{leb, ltb}
 use lib.IntN.{pos}
 use lib.ListN.{length, getD}
 use lib.Ieee.{Float, nan, fin, binary32, mul}
-use Rattle.bus.specs.Answer.{Answer, refused, gives}
+use Rattle.node.specs.Refusal.{Said, refused, gives, numberOf}
+use Rattle.node.specs.declared.refusal.Refusal.the-variants.{LentBlock}
 use Rattle.bus.specs.Block.{blockOf, sampleAt, holds}
 
 -- 01: "Fade length L is the sample rate over 200, halves up, at least 1."
@@ -31,12 +32,12 @@ faded gains len position i x = mul binary32 x (gainAt silence gains len position
 abbrev pub fadedOf : List Float → ℕ → List Float → ℕ → ℕ → ℕ → ℕ → ℕ → Float
 fadedOf input ins gains len position size c i = faded gains len position i (sampleAt nan size input (c % ins) i)
 
--- 01's table: 16 unless both blocks are channels × block with 1 or 2 channels, and there are L gains; input, gains and out are how many there are of each
+-- 01's table: 16, `LentBlock`, unless both blocks are channels × block with 1 or 2 channels, and there are L gains; input, gains and out are how many there are of each
 abbrev pub fadeFits : ℕ → ℕ → ℕ → ℕ → ℕ → ℕ → ℕ → Bool
 fadeFits input ins gains len size out outs = holds input ins size && (holds out outs size && leb len gains)
 
-abbrev pub fadeAnswer : List Float → ℕ → List Float → ℕ → ℕ → List Float → ℕ → Answer Unit
-fadeAnswer input ins gains len size out outs = cond (fadeFits (length input) ins (length gains) len size (length out) outs) (gives tt) (refused 16)
+abbrev pub fadeAnswer : List Float → ℕ → List Float → ℕ → ℕ → List Float → ℕ → Said Unit
+fadeAnswer input ins gains len size out outs = cond (fadeFits (length input) ins (length gains) len size (length out) outs) (gives tt) (refused (numberOf LentBlock))
 
 -- the output as it is left: whole, or where the call is refused, as it was
 abbrev pub fadeOutput : List Float → ℕ → List Float → ℕ → ℕ → ℕ → List Float → ℕ → List Float

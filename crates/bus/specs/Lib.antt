@@ -4,5 +4,3 @@ pub mod Block
 pub mod Fade
 pub mod Sum
 pub mod Noise
-pub mod Examples
-pub mod Scenes

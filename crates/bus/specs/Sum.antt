@@ -5,7 +5,8 @@ use mathlib.Core.List.{List, [], _∷_}
 use lib.Dec.{leb, eqb}
 use lib.ListN.{length, drop}
 use lib.Ieee.{Float, nan, binary32, add}
-use Rattle.bus.specs.Answer.{Answer, refused, gives}
+use Rattle.node.specs.Refusal.{Said, refused, gives, numberOf}
+use Rattle.node.specs.declared.refusal.Refusal.the-variants.{LentBlock}
 use Rattle.bus.specs.Block.{blockOf, sampleAt, isChannels, holds}
 use Rattle.bus.specs.Fade.{silence}
 
@@ -28,14 +29,14 @@ unfoldable pub summed : Float → ℕ → ℕ → ℕ → List Float → List �
 summed a size c i xs [] = a
 summed a size c i xs (n ∷ ns) = summed (add binary32 a (sampleAt nan size xs (c % n) i)) size c i (drop (n * size) xs) ns
 
--- 01's table: 16 unless there are at most 64 inputs of 1 or 2 channels each, and their blocks and the output are channels × block; inputs and out are how
+-- 01's table: 16, `LentBlock`, unless there are at most 64 inputs of 1 or 2 channels each, and their blocks and the output are channels × block; inputs and out are how
 -- many samples there are of each
 unfoldable pub sumFits : ℕ → List ℕ → ℕ → ℕ → ℕ → Bool
 unfolding channels everyIsChannels
 sumFits inputs counts size out outs = leb (length counts) mostInputs && (everyIsChannels counts && (eqb inputs (channels counts * size) && holds out outs size))
 
-abbrev pub sumAnswer : List Float → List ℕ → ℕ → List Float → ℕ → Answer Unit
-sumAnswer inputs counts size out outs = cond (sumFits (length inputs) counts size (length out) outs) (gives tt) (refused 16)
+abbrev pub sumAnswer : List Float → List ℕ → ℕ → List Float → ℕ → Said Unit
+sumAnswer inputs counts size out outs = cond (sumFits (length inputs) counts size (length out) outs) (gives tt) (refused (numberOf LentBlock))
 
 -- The output as it is left: whole, or where the call is refused, as it was. 01: "A bus sums from +0, port by port in rising order, one rounding per addition".
 abbrev pub sumOutput : List Float → List ℕ → ℕ → List Float → ℕ → List Float

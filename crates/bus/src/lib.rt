@@ -1,5 +1,6 @@
 // The arithmetic of one voice's sound on its way to a bus: the sample rate that the store accepts, the length of a stolen
 // voice's fade, the fade's output, the sum of a bus, and the seed of a node's noise. Blocks are lent; nothing is kept.
+use node::refusal::Refusal;
 ghost use mathlib.Core.Path.{_≡_};
 ghost use Prim.Native.Nat.{ℕ, _+_, _*_, _≤_, _<_};
 ghost use lib.Dec.{T, eqb};
@@ -15,13 +16,13 @@ ghost use Rattle.bus.specs.Noise.{wrap, seedOf};
 // The sample rate in whole hertz.
 pub enum SampleRate {
     Hertz(u32),
-    Refused,
+    Refused(Refusal),
 }
 
 // Whether the lent output was written, whole, or left as it was.
 pub enum Written {
     Done,
-    Refused,
+    Refused(Refusal),
 }
 
 pub fn sample_rate(x: f32) -> SampleRate
@@ -41,7 +42,7 @@ pub fn sample_rate(x: f32) -> SampleRate
             }
         }
     }
-    SampleRate::Refused
+    SampleRate::Refused(Refusal::SampleRate)
 }
 
 pub fn fade_length(rate: u32) -> u32
@@ -186,7 +187,7 @@ pub fn fade_output(
         fade_block(input, ins, gains, len, position as usize, size, out, outs);
         return Written::Done;
     }
-    Written::Refused
+    Written::Refused(Refusal::LentBlock)
 }
 
 fn every_is_channels(counts: &[usize]) -> bool
@@ -295,5 +296,5 @@ pub fn bus_sum(
         sum_block(inputs, counts, size, out, outs);
         return Written::Done;
     }
-    Written::Refused
+    Written::Refused(Refusal::LentBlock)
 }

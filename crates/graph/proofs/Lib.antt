@@ -1,3 +1,4 @@
+pub mod Examples
 pub mod Calls
 pub mod Going
 pub mod Bits

@@ -2,7 +2,6 @@
 -- unprepared", and so does setting the sink.
 use Prim.Native.Nat.{ℕ, _+_}
 use mathlib.Core.List.{List, [], _∷_, _++_, map}
-use mathlib.Core.Option.{some}
 use mathlib.Core.Bool.{Bool, false, not}
 use Rattle.lists.specs.Keep.{keep}
 use Rattle.lists.specs.Find.{keepO}
@@ -11,7 +10,8 @@ use Rattle.node.specs.declared.record.VoiceId.{VoiceId}
 use Rattle.node.specs.declared.record.Node.{Node}
 use Rattle.node.specs.declared.record.Edge.{Edge}
 use Rattle.edges.specs.Wiring.{dropAt, wired, among, dropTouching}
-use Rattle.graph.specs.View.{GraphView}
+use Rattle.graph.specs.View.{GraphView, withSink}
+pub use Rattle.graph.specs.View.{withEdges, withNodes}
 use Rattle.graph.specs.Node.{isNode, ownedBy, withId}
 
 -- a node is appended under the next id
@@ -26,13 +26,6 @@ append v n =
       next = v .next + 1;
     }
 
-abbrev pub withEdges : GraphView → List Edge → GraphView
-withEdges v es = record { nodes = v .nodes; edges = es; sink = v .sink; prepared = false; order = v .order; next = v .next }
-
--- other records of the nodes, as after a report, a value or a glide: what is prepared stays so
-abbrev pub withNodes : GraphView → List Node → GraphView
-withNodes v ns = record { nodes = ns; edges = v .edges; sink = v .sink; prepared = v .prepared; order = v .order; next = v .next }
-
 abbrev pub edge : NodeId → NodeId → ℕ → Edge
 edge a b p = record { from = a; to = b; port = p }
 
@@ -44,7 +37,7 @@ abbrev pub disconnect : GraphView → NodeId → ℕ → GraphView
 disconnect v b p = withEdges v (dropAt (v .edges) b p)
 
 abbrev pub setSink : GraphView → NodeId → GraphView
-setSink v k = record { nodes = v .nodes; edges = v .edges; sink = some k; prepared = false; order = v .order; next = v .next }
+setSink v k = withSink v k
 
 -- the ids of the nodes that pass the test
 abbrev pub idsOf : (Node → Bool) → List Node → List ℕ

@@ -5,4 +5,3 @@ pub mod Refuse
 pub mod Call
 pub mod Prepare
 pub mod Tables
-pub mod Examples

@@ -4,14 +4,14 @@ use mathlib.Core.List.{List, map}
 use mathlib.Core.Option.{Option, none, some}
 use mathlib.Core.Bool.{Bool, false, not, cond}
 use lib.Dec.{eqb}
-use lib.Ieee.{ofBits, binary32}
 use Rattle.lists.specs.Find.{find}
 use Rattle.node.specs.Name.{nameOf}
+use Rattle.node.specs.Node.{newNode}
+pub use Rattle.node.specs.Node.{withId}
 use Rattle.edges.specs.Wiring.{listed}
 use Rattle.node.specs.declared.record.NodeId.{NodeId}
 use Rattle.node.specs.declared.record.VoiceId.{VoiceId}
 use Rattle.node.specs.declared.record.Node.{Node}
-use Rattle.node.specs.declared.order.LastOrder.the-variants as LastOrder
 
 -- "512 live nodes"
 abbrev pub nodeLimit : ℕ
@@ -47,37 +47,9 @@ portsOf (some n) = n .ports
 abbrev pub hostId : VoiceId
 hostId = record { 0 = 0 }
 
--- a node that the host adds: its done flag "is clear in a new node", and "before any report" its level is 0. Its id is
--- given when it is appended
+-- a node that the host adds. Its id is given when it is appended
 abbrev pub hostNode : List ℕ → ℕ → ℕ → Bool → Bool → Node
-hostNode kind ports required values glides =
-    record {
-      id = record { 0 = 0 };
-      owner = hostId;
-      kind = nameOf kind;
-      ports = ports;
-      required = required;
-      «takes_values» = values;
-      «takes_glides» = glides;
-      done = false;
-      level = ofBits binary32 0;
-      last = LastOrder.Nothing;
-    }
-
-abbrev pub withId : ℕ → Node → Node
-withId k n =
-    record {
-      id = record { 0 = k };
-      owner = n .owner;
-      kind = n .kind;
-      ports = n .ports;
-      required = n .required;
-      «takes_values» = n .«takes_values»;
-      «takes_glides» = n .«takes_glides»;
-      done = n .done;
-      level = n .level;
-      last = n .last;
-    }
+hostNode kind ports required values glides = newNode (record { 0 = 0 }) hostId (nameOf kind) ports required values glides
 
 -- a node's record is replaced, as a report, a value or a glide does
 abbrev pub replaced : List Node → Node → List Node

@@ -2,13 +2,13 @@
 -- graph is prepared, with its processing order. A refusal leaves the graph as it was.
 use mathlib.Core.List.{map}
 use mathlib.Core.Option.{Option, none}
-use mathlib.Core.Bool.{true, not}
+use mathlib.Core.Bool.{not}
 use Rattle.node.specs.declared.refusal.Refusal.{Refusal}
 use Rattle.node.specs.declared.refusal.Refusal.the-variants.{RequiredPort, Cycle}
 use Rattle.rank.specs.Order.{whole}
 use Rattle.order.specs.Live.{liveIds, arcOf, processingOrder}
 use Rattle.order.specs.Required.{lacking}
-use Rattle.graph.specs.View.{GraphView}
+use Rattle.graph.specs.View.{GraphView, preparedBy}
 use Rattle.graph.specs.Refuse.{when}
 use Rattle.graph.specs.Call.{Outcome, attempt}
 
@@ -19,7 +19,7 @@ prepareRefusal v =
     (when (not (whole (liveIds (v .nodes)) (map arcOf (v .edges)))) Cycle none)
 
 abbrev pub prepare : GraphView → GraphView
-prepare v = record { nodes = v .nodes; edges = v .edges; sink = v .sink; prepared = true; order = processingOrder (v .nodes) (v .edges); next = v .next }
+prepare v = preparedBy v (processingOrder (v .nodes) (v .edges))
 
 abbrev pub prepareCall : GraphView → Outcome
 prepareCall v = attempt (prepareRefusal v) v (prepare v)

@@ -10,7 +10,7 @@ use borrow.Author.Tests.{leb-true, not-false}
 use Rattle.lists.specs.Member.{some-inj, none-some, and-left, and-right}
 use Rattle.node.specs.declared.refusal.Refusal.{Refusal}
 use Rattle.node.specs.declared.refusal.Refusal.the-variants.{SampleRate, BlockSize}
-use Rattle.bus.specs.Answer.{Answer, refused, gives}
+use Rattle.node.specs.Refusal.{Said, refused, gives}
 use Rattle.bus.specs.Rate.{wholeRate, rateOf}
 use Rattle.bus.specs.Fade.{fadeLength}
 use Rattle.model.specs.Refuse.{noRate}
@@ -54,6 +54,6 @@ made k m h =
     small : (n : ℕ) → n ≤ 384000 → fadeLength n ≤ 18446744073709551615
     small n h = omega arith
 
-    short : (a : Answer ℕ) → rateOf (k .rate) ≡ a → noRate a ≡ false → fadeLength (wholeOr0 a) ≤ 18446744073709551615
+    short : (a : Said ℕ) → rateOf (k .rate) ≡ a → noRate a ≡ false → fadeLength (wholeOr0 a) ≤ 18446744073709551615
     short (refused n) e r = absurd (true≢false r)
     short (gives n) e r = small n (rate-bound (k .rate) n e)

@@ -43,7 +43,7 @@ fn no_rate(x: SampleRate) -> bool
 {
     match x {
         SampleRate::Hertz(_) => false,
-        SampleRate::Refused => true,
+        SampleRate::Refused(_) => true,
     }
 }
 
@@ -53,7 +53,7 @@ fn hertz(x: SampleRate) -> u32
 {
     match x {
         SampleRate::Hertz(n) => n,
-        SampleRate::Refused => 0,
+        SampleRate::Refused(_) => 0,
     }
 }
 

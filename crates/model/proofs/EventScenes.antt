@@ -34,6 +34,7 @@ use Rattle.model.specs.Call.{Call, done, refused, ordered, rendered, tim
 use Rattle.model.specs.Call as call
 use Rattle.model.specs.Scene.{upTo, plain, float, voice, host, sink, wire, spawn, free, timedFree, spawned, sounding, silent, after, asked, further, seen, voices, fading, param, value, glide}
 use Rattle.model.specs.Spawn.{spawnOf}
+use Rattle.model.specs.Desk.{withClock}
 
 -- ---- a definition of two nodes, the output takes values, the other one glides. `cut` is the first's, and again the second's;
 -- `gate` is the first's
@@ -168,11 +169,7 @@ table-full = refl
 abbrev end : Model
 end =
     let m = key (timedFree 18446744073709551614 1 ∷ timedFree 18446744073709551615 1 ∷ []) in
-    let d = m .desk in
-    record {
-      desk = record { config = d .config; graph = d .graph; events = d .events; steals = d .steals; clock = 18446744073709551599; spawned = d .spawned; sequence = d .sequence };
-      voices = m .voices;
-    }
+    record { desk = withClock 18446744073709551599 (m .desk); voices = m .voices }
 
 clock-end :
     (asked (call.render ∷ call.ask call.clock ∷ call.render ∷ call.ask call.clock ∷ []) end

@@ -18,6 +18,7 @@ use Rattle.model.specs.Model.{Model}
 use Rattle.model.specs.Call.{Call, Answer}
 use Rattle.model.specs.Call as call
 use Rattle.model.specs.Scene.{config, upTo, small, host, spawn, spawnLoose, sounds, spawned, notSpawned, after, asked, further, Seen, seen, voices, fading}
+use Rattle.model.specs.Desk.{withConfig}
 
 -- ---- which voice goes: voices 1 and 2 sound through nodes 1 and 2, at budget; they are born at 0, the clock is 1
 abbrev two : StealPolicy → List Call → Model
@@ -84,12 +85,7 @@ at-budget = (refl, refl)
 
 -- Above it, which no calls make: one voice goes, not as many as are too many.
 abbrev lowered : Model → Model
-lowered m =
-    let d = m .desk in
-    record {
-      desk = record { config = upTo 1 Oldest; graph = d .graph; events = d .events; steals = d .steals; clock = d .clock; spawned = d .spawned; sequence = d .sequence };
-      voices = m .voices;
-    }
+lowered m = record { desk = withConfig (upTo 1 Oldest) (m .desk); voices = m .voices }
 
 above-budget :
     voices (further (spawn 0 ∷ []) (lowered (after (upTo 3 Oldest) (host 4 ∷ spawn 0 ∷ spawn 0 ∷ spawn 0 ∷ []))))

@@ -28,10 +28,12 @@ use Rattle.model.specs.Call.{Call}
 use Rattle.model.specs.Call as call
 use Rattle.model.specs.Scene.{upTo, plain, toneDef, float, host, sink, wire, unwire, spawn, spawnLoose, after, asked, edge, tones, defEdge}
 use Rattle.model.specs.Spawn.{spawnOf}
-use Rattle.model.proofs.Refused.{refusalIn}
+use Rattle.model.specs.Numbers.{numberIn}
+use Rattle.model.specs.Desk.{withSpawned, withGraph}
+use Rattle.graph.specs.View.{GraphView}
 
 abbrev numbers : List Call → Model → List (Option ℕ)
-numbers calls m = map (λ a. mapO numberOf (refusalIn a)) (asked calls m)
+numbers calls m = map numberIn (asked calls m)
 
 -- ---- making: 1, 2, 3
 abbrev making : Float → ℕ → Budget → Option ℕ
@@ -64,25 +66,15 @@ abbrev crowded : ℕ → ℕ → ℕ → ℕ → Model → Model
 crowded nodes edges next spawned m =
     let d = m .desk in
     let g = d .graph in
-    record {
-      desk = record {
-        config = d .config;
-        graph = record {
-          nodes = g .nodes ++ replicate nodes idle;
-          edges = g .edges ++ replicate edges (edge 7 8 0);
-          sink = g .sink;
-          prepared = g .prepared;
-          order = g .order;
-          next = next;
-        };
-        events = d .events;
-        steals = d .steals;
-        clock = d .clock;
-        spawned = spawned;
-        sequence = d .sequence;
-      };
-      voices = m .voices;
-    }
+    let more : GraphView = record {
+      nodes = g .nodes ++ replicate nodes idle;
+      edges = g .edges ++ replicate edges (edge 7 8 0);
+      sink = g .sink;
+      prepared = g .prepared;
+      order = g .order;
+      next = next;
+    } in
+    record { desk = withSpawned spawned (withGraph more d); voices = m .voices }
 
 -- ---- host nodes: node 0 has 2 ports, node 1 none, node 2 is a voice's, node 3 is dead, node 9 unknown
 abbrev wired : Model

@@ -31,6 +31,7 @@ use Rattle.model.specs.Call.{fed, stolen, found}
 use Rattle.model.specs.Call as call
 use Rattle.model.specs.Scene.{upTo, plain, toneDef, host, wire, spawn, spawnLoose, free, voice, notSpawned, after, asked, further, edge, seen, voices, fading, defEdge}
 use Rattle.model.specs.Spawn.{spawnOf}
+use Rattle.model.specs.Desk.{withSequence}
 
 -- ---- a definition of three nodes. Its edges: 0 to port 0 of 2, 1 to port 1 of 2, 1 to port 0 of 2, which counts
 abbrev mix : DefNode
@@ -154,10 +155,7 @@ moved = (refl, refl, refl, refl, refl, refl)
 
 -- ---- the noise sequence wraps after 2^32 - 1, and a voice keeps the one that it was given
 abbrev late : Model
-late =
-    let m = newModel (upTo 9 Oldest) in
-    let d = m .desk in
-    record { desk = record { config = d .config; graph = d .graph; events = d .events; steals = d .steals; clock = d .clock; spawned = d .spawned; sequence = 4294967295 }; voices = [] }
+late = record { desk = withSequence 4294967295 (newModel (upTo 9 Oldest) .desk); voices = [] }
 
 wraps : map (λ v. v .sequence) (further (host 2 ∷ spawn 0 ∷ spawn 0 ∷ []) late .voices) ≡ 4294967295 ∷ 0 ∷ []
 unfolding eq whole order walk released rank.fed among count-up

@@ -54,6 +54,19 @@ abbrev pub withClock : ℕ → Desk → Desk
 withClock c d =
     record { config = d .config; graph = d .graph; events = d .events; steals = d .steals; clock = c; spawned = d .spawned; sequence = d .sequence }
 
+abbrev pub withConfig : Config → Desk → Desk
+withConfig c d =
+    record { config = c; graph = d .graph; events = d .events; steals = d .steals; clock = d .clock; spawned = d .spawned; sequence = d .sequence }
+
+-- so many voice ids given out; the next noise sequence
+abbrev pub withSpawned : ℕ → Desk → Desk
+withSpawned n d =
+    record { config = d .config; graph = d .graph; events = d .events; steals = d .steals; clock = d .clock; spawned = n; sequence = d .sequence }
+
+abbrev pub withSequence : ℕ → Desk → Desk
+withSequence n d =
+    record { config = d .config; graph = d .graph; events = d .events; steals = d .steals; clock = d .clock; spawned = d .spawned; sequence = n }
+
 -- "Id and noise sequence move only when a port is found"; the sequence wraps after 2^32 - 1
 abbrev pub oneMoreVoice : Desk → Desk
 oneMoreVoice d =

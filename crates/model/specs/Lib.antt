@@ -10,6 +10,7 @@ pub mod Decimal
 pub mod Written
 pub mod Page
 pub mod Call
+pub mod Numbers
 pub mod Make
 pub mod View
 pub mod Scene

@@ -4,7 +4,7 @@ use mathlib.Core.List.{[]}
 use mathlib.Core.Option.{Option, none, some}
 use lib.Ieee.{Float}
 use Rattle.node.specs.declared.refusal.Refusal.{Refusal}
-use Rattle.bus.specs.Answer.{Answer, refused, gives}
+use Rattle.node.specs.Refusal.{Said, refused, gives}
 use Rattle.bus.specs.Rate.{rateOf}
 use Rattle.voice.specs.declared.policy.Budget.{Budget}
 use Rattle.voice.specs.declared.policy.StealPolicy.{StealPolicy}
@@ -23,7 +23,7 @@ pub record Making : Type 0 where
   pub scope : BudgetScope
 
 -- the rate as a whole number; 0 where it is none, which is refused
-abbrev pub wholeOr0 : Answer ℕ → ℕ
+abbrev pub wholeOr0 : Said ℕ → ℕ
 wholeOr0 (refused n) = 0
 wholeOr0 (gives n) = n
 

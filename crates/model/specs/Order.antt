@@ -6,11 +6,14 @@ use mathlib.Core.Bool.{Bool, true, false, cond}
 use lib.Ieee.{Float}
 use Rattle.lists.specs.Find.{find}
 use Rattle.level.specs.Level.{levelOf}
+use Rattle.node.specs.Node.{reported}
+pub use Rattle.node.specs.Node.{withLast}
 use Rattle.node.specs.declared.name.Name.{Name}
 use Rattle.node.specs.declared.order.LastOrder.{LastOrder}
 use Rattle.node.specs.declared.order.LastOrder.the-variants as LastOrder
 use Rattle.node.specs.declared.record.VoiceId.{VoiceId}
 use Rattle.node.specs.declared.record.Node.{Node}
+use Rattle.graph.specs.View.{withNodes}
 use Rattle.graph.specs.Node.{nodeAt, replaced}
 use Rattle.synthdef.specs.Tables.{paramRows}
 use Rattle.synthdef.specs.Params.{paramNode}
@@ -22,9 +25,7 @@ use Rattle.model.specs.Voice.{isVoice, id}
 
 -- the node's record is replaced; the graph stays prepared
 abbrev pub withNode : Node → Desk → Desk
-withNode n d =
-    let g = d .graph in
-    withGraph (record { nodes = replaced (g .nodes) n; edges = g .edges; sink = g .sink; prepared = g .prepared; order = g .order; next = g .next }) d
+withNode n d = withGraph (withNodes (d .graph) (replaced (d .graph .nodes) n)) d
 
 -- ---- "A value or glide, set directly or by an event, answers yes and becomes the node's last order if the voice is known, has
 -- the parameter, and its node takes that sort; else it answers no and changes nothing."
@@ -32,21 +33,6 @@ abbrev pub takes : LastOrder → Node → Bool
 takes LastOrder.Nothing n = false
 takes (LastOrder.Value x) n = n .«takes_values»
 takes (LastOrder.Glide target seconds shape space) n = n .«takes_glides»
-
-abbrev pub withLast : LastOrder → Node → Node
-withLast o n =
-    record {
-      id = n .id;
-      owner = n .owner;
-      kind = n .kind;
-      ports = n .ports;
-      required = n .required;
-      «takes_values» = n .«takes_values»;
-      «takes_glides» = n .«takes_glides»;
-      done = n .done;
-      level = n .level;
-      last = o;
-    }
 
 pub record Ordered : Type 0 where
   pub outcome : Outcome
@@ -79,19 +65,7 @@ isYes NotTaken = false
 
 -- ---- "A report gives a node's block and its done flag". The level of the block is worked out when it is reported.
 abbrev pub withReport : List Float → Bool → Node → Node
-withReport samples done n =
-    record {
-      id = n .id;
-      owner = n .owner;
-      kind = n .kind;
-      ports = n .ports;
-      required = n .required;
-      «takes_values» = n .«takes_values»;
-      «takes_glides» = n .«takes_glides»;
-      done = done;
-      level = levelOf samples;
-      last = n .last;
-    }
+withReport samples done n = reported (levelOf samples) done n
 
 abbrev pub reportNode : Option Node → List Float → Bool → Desk → Desk
 reportNode none samples done d = d

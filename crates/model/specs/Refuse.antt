@@ -11,7 +11,7 @@ use Rattle.node.specs.declared.record.NodeId.{NodeId}
 use Rattle.node.specs.declared.record.Node.{Node}
 use Rattle.node.specs.declared.refusal.Refusal.{Refusal}
 use Rattle.node.specs.declared.refusal.Refusal.the-variants.{SampleRate, BlockSize, BudgetTooLarge, UnknownNode, TableFull, IdsUsedUp, DefinitionLimits, BusWithoutPorts, LentBlock}
-use Rattle.bus.specs.Answer.{Answer, refused, gives}
+use Rattle.node.specs.Refusal.{Said, refused, gives}
 use Rattle.edges.specs.Wiring.{edgeLimit}
 use Rattle.graph.specs.Node.{nodeLimit, idLimit, nodeAt, portsOf}
 use Rattle.graph.specs.Refuse.{when, hostRefusal}
@@ -31,7 +31,7 @@ abbrev pub voiceIdLimit : ℕ
 voiceIdLimit = 18446744073709551615
 
 -- ---- making: 1, 2, 3
-abbrev pub noRate : Answer ℕ → Bool
+abbrev pub noRate : Said ℕ → Bool
 noRate (refused n) = true
 noRate (gives n) = false
 
@@ -39,7 +39,7 @@ abbrev pub overBudget : Budget → Bool
 overBudget Unlimited = false
 overBudget (AtMost n) = ltb 64 n
 
-abbrev pub makeRefusal : Answer ℕ → ℕ → Budget → Option Refusal
+abbrev pub makeRefusal : Said ℕ → ℕ → Budget → Option Refusal
 makeRefusal rate block budget =
     when (noRate rate) SampleRate
     (when (not (leb 1 block && leb block 128)) BlockSize

@@ -20,15 +20,14 @@ use Rattle.model.specs.Desk.{Desk, withGraph, withEvents, withClock, sou
 use Rattle.model.specs.Voice.{moved}
 use Rattle.model.specs.Model.{Model, free}
 use Rattle.model.specs.Order.{order}
+use Rattle.graph.specs.View.{preparedBy}
 
 -- ---- prepare: 13, 14, or prepared with the processing order; a refusal changes nothing
 abbrev pub prepareOutcome : Desk → graph.Outcome
 prepareOutcome d = graph.prepare (d .graph .nodes) (d .graph .edges)
 
 abbrev pub readyDesk : Readiness → List NodeId → Desk → Desk
-readyDesk Ready l d =
-    let g = d .graph in
-    withGraph (record { nodes = g .nodes; edges = g .edges; sink = g .sink; prepared = true; order = l; next = g .next }) d
+readyDesk Ready l d = withGraph (preparedBy (d .graph) l) d
 readyDesk (Refused r) l d = d
 
 abbrev pub prepareDesk : Desk → Desk

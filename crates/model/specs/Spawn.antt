@@ -6,14 +6,14 @@ use mathlib.Core.Bool.{Bool, true, false, not, cond, _&&_}
 use lib.Dec.{leb}
 use lib.ListN.{length}
 use lib.IntN.{pos}
-use lib.Ieee.{Float, fin, eq, ofBits, binary32}
+use lib.Ieee.{Float, fin, eq}
 use Rattle.lists.specs.Find.{find, or?}
+use Rattle.node.specs.Node.{newNode}
 use Rattle.node.specs.Silence.{name}
 use Rattle.node.specs.declared.name.Name.{Name}
 use Rattle.node.specs.declared.record.NodeId.{NodeId}
 use Rattle.node.specs.declared.record.VoiceId.{VoiceId}
 use Rattle.node.specs.declared.record.Node.{Node}
-use Rattle.node.specs.declared.order.LastOrder.the-variants as LastOrder
 use Rattle.graph.specs.View.{GraphView}
 use Rattle.graph.specs.Change.{append, connect}
 use Rattle.voice.specs.Policy.{victim}
@@ -44,21 +44,9 @@ pub record Spawn : Type 0 where
 abbrev pub spawnOf : SynthDef → NodeId → Float → Spawn
 spawnOf def bus pan = record { def = def; bus = bus; pan = pan }
 
--- ---- the nodes of a voice. Its done flag "is clear in a new node", and "before any report" its level is 0
+-- ---- the nodes of a voice. An id is given when it is appended
 abbrev pub voiceNode : VoiceId → Name → ℕ → ℕ → Bool → Bool → Node
-voiceNode w kind ports required values glides =
-    record {
-      id = id 0;
-      owner = w;
-      kind = kind;
-      ports = ports;
-      required = required;
-      «takes_values» = values;
-      «takes_glides» = glides;
-      done = false;
-      level = ofBits binary32 0;
-      last = LastOrder.Nothing;
-    }
+voiceNode w kind ports required values glides = newNode (id 0) w kind ports required values glides
 
 abbrev pub defNode : VoiceId → DefNode → Node
 defNode w n = voiceNode w (n .kind) (n .ports) (n .required) (n .«takes_values») (n .«takes_glides»)

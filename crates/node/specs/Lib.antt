@@ -1,5 +1,5 @@
 pub mod Name
 pub mod Refusal
 pub mod Rows
+pub mod Node
 pub mod Silence
-pub mod NameLaws

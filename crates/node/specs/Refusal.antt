@@ -3,6 +3,12 @@ use Prim.Native.Nat.{ℕ}
 use Rattle.node.specs.declared.refusal.Refusal.{Refusal}
 use Rattle.node.specs.declared.refusal.Refusal.the-variants.{SampleRate, BlockSize, BudgetTooLarge, UnknownNode, VoiceNode, PortOrKind, TableFull, IdsUsedUp, DefinitionLimits, BusWithoutPorts, Rejected, NoPort, RequiredPort, Cycle, ClockEnd, LentBlock, ShortBuffer}
 
+-- What an answer says in 01's terms: the number of a refusal, or what the call gives. Each enum that a call answers by has one definition
+-- that gives this for each of its cases.
+pub data Said (A : Type 0) : Type 0 where
+  refused : ℕ → Said A
+  gives : A → Said A
+
 abbrev pub numberOf : Refusal → ℕ
 numberOf SampleRate = 1
 numberOf BlockSize = 2

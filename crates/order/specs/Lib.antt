@@ -1,5 +1,4 @@
 pub mod Live
 pub mod Required
 pub mod Prepare
-pub mod Examples
 pub mod Parts

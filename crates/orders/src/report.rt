@@ -1,6 +1,7 @@
 ghost use mathlib.Core.Path.{_≡_};
 ghost use mathlib.Core.Bool.{not};
 ghost use mathlib.Core.Option.{none};
+ghost use Rattle.node.specs.Node.{reported};
 ghost use Rattle.node.specs.declared.refusal.Refusal.the-variants as refusal;
 ghost use Rattle.graph.specs.Refuse.{when};
 ghost use Rattle.graph.specs.Tables.{answerOf, seenOf};
@@ -8,7 +9,6 @@ ghost use Rattle.model.specs.Refuse.{ofDefinition, reports, lentBlock};
 ghost use Rattle.model.specs.View.{modelOf, voicesOf};
 ghost use Rattle.model.specs.Call as call;
 ghost use Rattle.voice_table.specs.Looked.{lookedOf};
-ghost use Rattle.orders.specs.Report.{reported};
 ghost use Rattle.service.specs.Steps.{servedOf, Kept};
 use graph::nodes::Seen;
 use graph::nodes::node_at;

@@ -5,7 +5,7 @@ use mathlib.Core.Bool.{false}
 use lib.ListN.{replicate}
 use Rattle.node.specs.Silence.{bytes}
 use Rattle.node.specs.declared.order.Action.the-variants as Action
-use Rattle.graph.specs.View.{GraphView}
+use Rattle.graph.specs.View.{GraphView, withNext}
 use Rattle.synthdef.specs.declared.def.SynthDef.{SynthDef}
 use Rattle.model.specs.Desk.{withGraph, withClock}
 use Rattle.model.specs.Model.{Model}
@@ -28,19 +28,8 @@ waiting n = replicate n timed
 abbrev pub atClock : ℕ → Model → Model
 atClock clock m = record { desk = withClock clock (m .desk); voices = m .voices }
 
-abbrev pub nextOf : ℕ → GraphView → GraphView
-nextOf next g =
-    record {
-      nodes = g .nodes;
-      edges = g .edges;
-      sink = g .sink;
-      prepared = g .prepared;
-      order = g .order;
-      next = next;
-    }
-
 abbrev pub atNext : ℕ → Model → Model
-atNext next m = record { desk = withGraph (nextOf next (m .desk .graph)) (m .desk); voices = m .voices }
+atNext next m = record { desk = withGraph (withNext (m .desk .graph) next) (m .desk); voices = m .voices }
 
 -- a definition of so many nodes, each as that of `tone`
 abbrev pub ofNodes : ℕ → ℕ → SynthDef

@@ -23,9 +23,9 @@ ghost use Rattle.order.specs.Live.{orderOf};
 ghost use Rattle.graph.specs.Tables.{seenOf};
 ghost use Rattle.voice.specs.Steals.{bookOf};
 ghost use Rattle.voice_table.specs.Looked.{lookedOf};
+ghost use Rattle.model.specs.Numbers.{positionSays};
 ghost use Rattle.model.specs.View.{modelOf, voicesOf};
 ghost use Rattle.model.specs.Call as call;
-ghost use Rattle.reading.specs.Read.{asOption};
 
 // The level of a voice, or none.
 pub fn voice_level(s: Store, w: VoiceId) -> Level
@@ -43,7 +43,7 @@ pub fn voice_level(s: Store, w: VoiceId) -> Level
 }
 
 fn position_of(s: VoiceState) -> Position
-    ensures { λ r. ⌜ asOption r ≡ call.positionOf s ⌝ }
+    ensures { λ r. ⌜ positionSays r ≡ call.positionOf s ⌝ }
 {
     match s {
         VoiceState::Tracked => Position::Nothing,
@@ -54,7 +54,7 @@ fn position_of(s: VoiceState) -> Position
 
 // The position of a voice's fade, or none.
 pub fn fade_position(s: Store, w: VoiceId) -> Position
-    ensures { λ r. ⌜ call.reads (modelOf s) (call.reached (asOption r)) ≡ call.step (call.ask (call.position w)) (modelOf s) ⌝ }
+    ensures { λ r. ⌜ call.reads (modelOf s) (call.reached (positionSays r)) ≡ call.step (call.ask (call.position w)) (modelOf s) ⌝ }
 {
     let t = s.voices;
     let looked = find_voice(t, w);

@@ -17,7 +17,7 @@ use Rattle.graph.specs.declared.state.Answer.{Answer}
 use Rattle.graph.specs.declared.state.Answer.the-variants as Answer
 use Rattle.graph.specs.declared.state.Changed.{Changed}
 use Rattle.graph.specs.declared.state.Added.{Added}
-use Rattle.graph.specs.View.{GraphView}
+use Rattle.graph.specs.View.{GraphView, preparedBy}
 use Rattle.graph.specs.Refuse.{when}
 use Rattle.graph.specs.Call.{Outcome, Grant, attempt, grant}
 use Rattle.graph.specs.Tables.{viewOf, outcomeOf, grantOf}
@@ -69,11 +69,8 @@ module _ (s : Store) (o : Option Refusal) (new : GraphView) where
 abbrev tested : Bool → Bool → List NodeId → ready.Outcome
 tested lacks cyclic order = cond lacks (ready.refused RequiredPort) (cond cyclic (ready.refused Cycle) (record { answer = Readiness.Ready; order = order }))
 
-abbrev inOrder : List NodeId → GraphView → GraphView
-inOrder l g = record { nodes = g .nodes; edges = g .edges; sink = g .sink; prepared = true; order = l; next = g .next }
-
 prepared-by : (a b : Bool) (l : List NodeId) (m : Model)
-    → unless (when a RequiredPort (when b Cycle none)) m (graphStep m (inOrder l (m .desk .graph)) done)
+    → unless (when a RequiredPort (when b Cycle none)) m (graphStep m (preparedBy (m .desk .graph) l) done)
     ≡ deskStep m (readyDesk (tested a b l .answer) (tested a b l .order) (m .desk)) (readyAnswer (tested a b l .answer))
 prepared-by true b l m = refl
 prepared-by false true l m = refl

@@ -2,14 +2,11 @@
 -- node", "Before any report [the level] is 0", no order taken; and edges between them.
 use Prim.Native.Nat.{ℕ, suc, _+_, min}
 use mathlib.Core.List.{List, [], _∷_, map}
-use mathlib.Core.Bool.{false}
-use lib.IntN.{pos}
-use lib.Ieee.{Float, fin}
+use Rattle.node.specs.Node.{newNode}
 use Rattle.node.specs.declared.record.NodeId.{NodeId}
 use Rattle.node.specs.declared.record.VoiceId.{VoiceId}
 use Rattle.node.specs.declared.record.Node.{Node}
 use Rattle.node.specs.declared.record.Edge.{Edge}
-use Rattle.node.specs.declared.order.LastOrder.the-variants.{Nothing}
 use Rattle.synthdef.specs.declared.def.DefNode.{DefNode}
 use Rattle.synthdef.specs.declared.def.DefEdge.{DefEdge}
 
@@ -17,23 +14,8 @@ use Rattle.synthdef.specs.declared.def.DefEdge.{DefEdge}
 abbrev pub idAfter : NodeId → ℕ → NodeId
 idAfter first k = record { 0 = min (first .0 + k) 4294967295 }
 
-abbrev pub plusZero : Float
-plusZero = fin false 0 (pos 0)
-
 abbrev pub liveNode : DefNode → NodeId → VoiceId → Node
-liveNode n id owner =
-    record {
-      id = id;
-      owner = owner;
-      kind = n .kind;
-      ports = n .ports;
-      required = n .required;
-      «takes_values» = n .«takes_values»;
-      «takes_glides» = n .«takes_glides»;
-      done = false;
-      level = plusZero;
-      last = Nothing;
-    }
+liveNode n id owner = newNode id owner (n .kind) (n .ports) (n .required) (n .«takes_values») (n .«takes_glides»)
 
 abbrev pub liveEdge : DefEdge → NodeId → Edge
 liveEdge e first = record { from = idAfter first (e .from); to = idAfter first (e .to); port = e .port }

@@ -1,7 +1,7 @@
 -- Every call's contract is the model's step, so that a run of calls is the model's run; and the store of an accepted making is the
 -- model's new store.
 use mathlib.Core.Path.{_≡_, refl, ap, _∙_}
-use mathlib.Core.List.{List, [], _∷_}
+use mathlib.Core.List.{List, [], _∷_, map}
 use mathlib.Core.Option.{some}
 use Rattle.lists.specs.Member.{some-inj, none-some}
 use Rattle.graph.specs.declared.state.Answer.the-variants as graph
@@ -12,6 +12,7 @@ use Rattle.model.specs.Make.{Making, make}
 use Rattle.model.specs.View.{modelOf}
 use Rattle.model.specs.Call.{Call, Answer, Step, Ran, step, run}
 use Rattle.model.specs.Call as call
+use Rattle.model.specs.Numbers.{numberIn}
 use Rattle.ledger.proofs.Claim.{claim}
 use Rattle.making.specs.declared.Made.{Made}
 use Rattle.making.specs.Made.{ifDone, madeOf, making}
@@ -76,4 +77,6 @@ pub tie : (κs : _) (a : _) (r : _) (s : _) → fn-make.Post κs a r s
     → Tied (making (a .0) (a .1 .0) (a .1 .1 .0) (a .1 .1 .1 .0) (a .1 .1 .1 .1 .0)) m cs said t
 tie κs a r s p m accepted t cs said ran =
     let k = making (a .0) (a .1 .0) (a .1 .1 .0) (a .1 .1 .1 .0) (a .1 .1 .1 .1 .0) in
-    record { ran = run-is ran ∙ ap (run cs) (made-new k m r (p .0) accepted); claimed = claim k m accepted cs }
+    let is = run-is ran ∙ ap (run cs) (made-new k m r (p .0) accepted) in
+    let holds = claim k m accepted cs in
+    record { ran = is; claimed = holds; numbers = ap (map numberIn) (ap (λ (x : Ran). x .answers) is ∙ holds .answers) }

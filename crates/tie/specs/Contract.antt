@@ -8,13 +8,13 @@ use Rattle.order.specs.Live.{orderOf}
 use Rattle.graph.specs.Tables.{seenOf}
 use Rattle.voice.specs.Steals.{bookOf}
 use Rattle.store.specs.declared.state.Store.{Store}
+use Rattle.model.specs.Numbers.{positionSays}
 use Rattle.model.specs.View.{voicesOf}
 use Rattle.model.specs.Spawn.{spawnOf, middle}
 use Rattle.model.specs.Call.{Call, Answer}
 use Rattle.model.specs.Call as call
 use Rattle.voice_table.specs.Looked.{lookedOf}
 use Rattle.service.specs.Steps.{answered, given}
-use Rattle.reading.specs.Read.{asOption}
 use Rattle.page.specs.Paged.{pagedOf}
 use Rattle.service.proofs.host.add_node.Reads as fn-add-node
 use Rattle.service.proofs.host.remove_node.Reads as fn-remove-node
@@ -86,7 +86,7 @@ pub data Contract : Call → Store → Answer → Store → Type 1 where
   voice-level : (κs : _) (a : _) (r : _) (s : _) → fn-voice-level.Post κs a r s
       → Contract (call.ask (call.level (a .1 .0))) (a .0) (call.known r) (a .0)
   fade-position : (κs : _) (a : _) (r : _) (s : _) → fn-fade-position.Post κs a r s
-      → Contract (call.ask (call.position (a .1 .0))) (a .0) (call.reached (asOption r)) (a .0)
+      → Contract (call.ask (call.position (a .1 .0))) (a .0) (call.reached (positionSays r)) (a .0)
   voice : (κs : _) (a : _) (r : _) (s : _) → fn-voice.Post κs a r s
       → Contract (call.ask (call.voice (a .1 .0))) (a .0) (call.found (lookedOf r)) (a .0)
   voice-at : (κs : _) (a : _) (r : _) (s : _) → fn-voice-at.Post κs a r s

@@ -23,7 +23,7 @@ pub fn rate(s: &[u8], at: usize) -> usize {
             text(b"rate ");
             number(rate as u64);
         }
-        SampleRate::Refused => text(b"refused 1"),
+        SampleRate::Refused(_) => text(b"refused 1"),
     }
     end_line();
     after(at, 4)
@@ -94,7 +94,7 @@ fn filled(s: &[u8], at: usize, out: &mut [f32]) -> usize {
 fn block_line(written: Written, out: &[f32]) {
     match written {
         Written::Done => text(b"block"),
-        Written::Refused => text(b"refused 16"),
+        Written::Refused(_) => text(b"refused 16"),
     }
     and_samples(out);
     end_line();

@@ -3,7 +3,7 @@ use mathlib.Core.Path.{_≡_, refl, ap, _∙_}
 use mathlib.Core.Option.{Option, none, some}
 use borrow.Author.Needs.{needs}
 use Rattle.node.specs.declared.refusal.Refusal.{Refusal}
-use Rattle.bus.specs.Answer.{Answer}
+use Rattle.node.specs.Refusal.{Said}
 use Rattle.graph.specs.declared.state.Answer as graph
 use Rattle.graph.specs.Tables.{answerOf}
 use Rattle.model.specs.Model.{Model}
@@ -37,7 +37,7 @@ returns : tie.Need-returns
 returns c =
     let a = c .before .before .before .before .args in
     let rate = c .before .before .before .sample-rate .ensures in
-    let told = c .before .before .make-test .ensures ∙ ap (λ (x : Answer ℕ). answerOf (makeRefusal x (a .block) (a .budget))) rate in
+    let told = c .before .before .make-test .ensures ∙ ap (λ (x : Said ℕ). answerOf (makeRefusal x (a .block) (a .budget))) rate in
     let left = c .new-store .ensures ∙ ap (λ n. newModel (record { rate = n; block = a .block; budget = a .budget; policy = a .policy; scope = a .scope })) (c .before .hertz .ensures ∙ ap wholeOr0 rate) in
     let k = making (a .rate) (a .block) (a .budget) (a .policy) (a .scope) in
     (made (c .before .before .make-test .result) (refusalOf k) (modelOf (c .new-store .result)) (newModel (configOf k)) told left, (told, left))

@@ -11,7 +11,7 @@ use mir.Syntax.{w8}
 use lib.ListN.{replicate}
 use Rattle.lists.specs.Table.{filled-more}
 use Rattle.node.specs.Name.{nameLength}
-use Rattle.node.specs.NameLaws.{name-long}
+use Rattle.node.proofs.NameLaws.{name-long}
 use Rattle.node.proofs.name.name_of.Statement.{statement}
 use Rattle.node.proofs.name.name_of.Tie as tie
 

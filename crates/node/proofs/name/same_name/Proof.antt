@@ -7,7 +7,7 @@ use borrow.Author.Needs.{needs, length-unmapped}
 use borrow.Author.Tests.{not-true, not-false}
 use lib.ListN.{length-take}
 use Rattle.node.specs.Name.{named}
-use Rattle.node.specs.NameLaws.{name-long, same-is}
+use Rattle.node.proofs.NameLaws.{name-long, same-is}
 use Rattle.node.proofs.name.same_name.Statement.{statement}
 use Rattle.node.proofs.name.same_name.Tie as tie
 

@@ -4,7 +4,7 @@ use Rattle.node.specs.Rows.{nodesOf}
 use Rattle.graph.specs.Node.{nodeAt, replaced}
 use Rattle.graph.specs.Change.{withNodes}
 use Rattle.graph.specs.Tables.{viewOf}
-use Rattle.orders.specs.Report.{reported}
+use Rattle.node.specs.Node.{reported}
 use Rattle.orders.proofs.Reports.{report-refused, report-done}
 use Rattle.orders.proofs.report.report.Statement.{statement}
 use Rattle.orders.proofs.report.report.Tie as tie

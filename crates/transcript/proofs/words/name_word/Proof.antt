@@ -5,7 +5,7 @@ use native.Mathlib.Omega.{arith}
 use lib.ListN.{length, length-take}
 use borrow.Author.Needs.{needs, length-unmapped}
 use borrow.Author.Tests.{not-false}
-use Rattle.node.specs.NameLaws.{name-long}
+use Rattle.node.proofs.NameLaws.{name-long}
 use Rattle.transcript.proofs.words.name_word.Statement.{statement}
 use Rattle.transcript.proofs.words.name_word.Tie as tie
 

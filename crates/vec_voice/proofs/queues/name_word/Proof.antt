@@ -6,7 +6,7 @@ use lib.ListN.{length}
 use borrow.Author.Needs.{needs, length-unmapped}
 use borrow.Author.Tests.{not-false}
 use lib.ListN.{length-take}
-use Rattle.node.specs.NameLaws.{name-long}
+use Rattle.node.proofs.NameLaws.{name-long}
 use Rattle.vec_voice.proofs.queues.name_word.Statement.{statement}
 use Rattle.vec_voice.proofs.queues.name_word.Tie as tie
 

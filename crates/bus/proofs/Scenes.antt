@@ -4,7 +4,7 @@ use mathlib.Core.Bool.{true, false}
 use mathlib.Core.List.{[], _∷_}
 use lib.IntN.{pos, negsuc}
 use lib.Ieee.{Float, nan, fin, add, mul}
-use Rattle.bus.specs.Answer.{refused, gives}
+use Rattle.node.specs.Refusal.{refused, gives}
 use Rattle.bus.specs.Rate.{rateOf}
 use Rattle.bus.specs.Block.{each, blockOf}
 use Rattle.bus.specs.Fade.{silence, fadeAnswer, fadeOutput}

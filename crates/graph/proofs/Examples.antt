@@ -19,6 +19,7 @@ use Rattle.order.specs.Live.{risingFrom, liveNodes, liveIds, processingOrder}
 use Rattle.order.specs.Required.{any, lacks, lacking}
 use Rattle.graph.specs.Prepare.{prepareRefusal, prepare}
 use Rattle.graph.specs.Refuse.{addRefusal, hostRefusal, disconnectRefusal, connectRefusal}
+use Rattle.node.specs.Node.{withOwner}
 
 -- ---- a bus of 3 ports, three nodes of one port, and a node of voice 5
 abbrev node : ℕ → NodeId
@@ -31,7 +32,7 @@ abbrev plain : ℕ → Node
 plain ports = hostNode bus ports 0 false false
 
 abbrev voiced : Node → Node
-voiced n = record { id = n .id; owner = record { 0 = 5 }; kind = n .kind; ports = n .ports; required = n .required; «takes_values» = n .«takes_values»; «takes_glides» = n .«takes_glides»; done = n .done; level = n .level; last = n .last }
+voiced n = withOwner (record { 0 = 5 }) n
 
 abbrev desk : GraphView
 desk = append (append (append (append (append newGraph (plain 3)) (plain 1)) (plain 1)) (plain 1)) (voiced (plain 1))
