@@ -48,6 +48,7 @@ use Rattle.model.specs.Render.{prepareOutcome, prepareDesk, readyDesk, isFree, 
 use Rattle.model.specs.Call.{Call, event, scheduleRefusal}
 use Rattle.model.specs.Call as call
 use Rattle.ledger.specs.Holder.{Holders, nobody, host, hold, dropNode}
+pub use Rattle.ledger.specs.Ledger.{atDesk, atGraph}
 use Rattle.ledger.specs.Ledger.{Ledger, Landed, portFree, gone, cutOff, land, landOr, place, refused, admitted, admissionOn, freed, free}
 use Rattle.ledger.specs.Ledger as ledger
 use Rattle.ledger.specs.Clear.{goneAll, endedVoices, silentVoices, clear}
@@ -77,13 +78,6 @@ module _ (def : SynthDef) (pan : Bool) (s : VoiceState) (bus : NodeId) (Q : ℕ 
       go none e (some v) f ih = ih (cutOff v (v .state) l) (cuts n l v e f q)
 
 -- ---- the moves
--- the graph and the holders changed, or what stands beside the voices
-abbrev pub atGraph : Ledger → GraphView → Holders → Ledger
-atGraph l g h = record { desk = withGraph g (l .desk); holders = h; voices = l .voices }
-
-abbrev pub atDesk : Ledger → Desk → Ledger
-atDesk l d = record { desk = d; holders = l .holders; voices = l .voices }
-
 -- what a report, a value and a glide leave of a node's record
 pub record Alike (x n : Node) : Type 0 where
   pub id : n .id ≡ x .id

@@ -12,7 +12,7 @@ use Rattle.graph.specs.Change as change
 use Rattle.graph.specs.Refuse.{addRefusal, hostRefusal, disconnectRefusal, connectRefusal}
 use Rattle.scheduler.specs.Queue.{inserted}
 use Rattle.store.specs.declared.voices.Voice.{Voice}
-use Rattle.model.specs.Desk.{Desk, withGraph, withEvents}
+use Rattle.model.specs.Desk.{Desk, withEvents}
 use Rattle.model.specs.Voice.{moved}
 use Rattle.model.specs.Refuse.{reportRefusal}
 use Rattle.model.specs.Order.{reportNode}
@@ -22,7 +22,7 @@ use Rattle.model.specs.Model.{Model}
 use Rattle.model.specs.Call.{Call, Answer, readyAnswer, answerTo, event, scheduleRefusal}
 use Rattle.model.specs.Call as call
 use Rattle.ledger.specs.Holder.{Holders, nobody, host, hold, dropNode}
-use Rattle.ledger.specs.Ledger.{Ledger}
+use Rattle.ledger.specs.Ledger.{Ledger, atDesk, atGraph}
 use Rattle.ledger.specs.Ledger as ledger
 use Rattle.ledger.specs.Clear as clearing
 use Rattle.ledger.specs.Render as rendering
@@ -37,10 +37,10 @@ unless (some r) l s = record { answer = call.refused r; ledger = l }
 
 -- the host's calls change the graph and the holders
 abbrev pub graphStep : Ledger → GraphView → Holders → Answer → Step
-graphStep l g h a = record { answer = a; ledger = record { desk = withGraph g (l .desk); holders = h; voices = l .voices } }
+graphStep l g h a = record { answer = a; ledger = atGraph l g h }
 
 abbrev pub deskStep : Ledger → Desk → Answer → Step
-deskStep l d a = record { answer = a; ledger = record { desk = d; holders = l .holders; voices = l .voices } }
+deskStep l d a = record { answer = a; ledger = atDesk l d }
 
 abbrev pub reads : Ledger → Answer → Step
 reads l a = record { answer = a; ledger = l }

@@ -11,6 +11,7 @@ use Rattle.node.specs.declared.record.NodeId.{NodeId}
 use Rattle.node.specs.declared.record.VoiceId.{VoiceId}
 use Rattle.node.specs.declared.refusal.Refusal.{Refusal}
 use Rattle.node.specs.declared.refusal.Refusal.the-variants.{Rejected, NoPort}
+use Rattle.graph.specs.View.{GraphView}
 use Rattle.graph.specs.Node.{nodeAt, portsOf}
 use Rattle.graph.specs.Change.{removeVoice}
 use Rattle.voice.specs.Policy.{admits}
@@ -36,6 +37,13 @@ pub record Ledger : Type 0 where
 
 abbrev pub newLedger : Config → Ledger
 newLedger c = record { desk = newDesk c; holders = λ n p. nobody; voices = [] }
+
+-- ---- one part changed: what stands beside the voices; the graph and the holders
+abbrev pub atDesk : Ledger → Desk → Ledger
+atDesk l d = record { desk = d; holders = l .holders; voices = l .voices }
+
+abbrev pub atGraph : Ledger → GraphView → Holders → Ledger
+atGraph l g h = record { desk = withGraph g (l .desk); holders = h; voices = l .voices }
 
 -- ---- ports by their holders: the lowest of the k ports from p on whose holder passes
 abbrev pub lowestPort : ℕ → (ℕ → Bool) → ℕ → Option ℕ
@@ -64,7 +72,7 @@ abbrev pub fade : Voice → ℕ → Ledger → Ledger
 fade v p l = record { desk = fadeDesk v p (l .desk); holders = l .holders; voices = map (beginFade (v .id) (fadeOf (l .desk))) (l .voices) }
 
 abbrev pub cutOff : Voice → VoiceState → Ledger → Ledger
-cutOff v s l = gone (v .id) (record { desk = withSteals (reclaimBook v s (l .desk)) (l .desk); holders = l .holders; voices = l .voices })
+cutOff v s l = gone (v .id) (atDesk l (withSteals (reclaimBook v s (l .desk)) (l .desk)))
 
 abbrev pub stolen : Voice → Option ℕ → Ledger → Ledger
 stolen v (some p) l = fade v p l

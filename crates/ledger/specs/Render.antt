@@ -13,16 +13,12 @@ use Rattle.model.specs.Desk.{withEvents, withClock, sounding}
 use Rattle.model.specs.Voice.{moved}
 use Rattle.model.specs.Order.{order}
 use Rattle.model.specs.Render.{prepareOutcome, prepareDesk, isFree, anyFree, heard, answerAfter, isSounding, deadline, due, clockEnds}
-use Rattle.ledger.specs.Ledger.{Ledger, free}
+use Rattle.ledger.specs.Ledger.{Ledger, free, atDesk}
 
 abbrev pub happen : Event → Ledger → Ledger
 happen e l =
     cond (isFree (e .action)) (free (e .voice) l)
-    (record {
-      desk = order (e .voice) (paramOrder e .name) (paramOrder e .order) (l .voices) (l .desk) .desk;
-      holders = l .holders;
-      voices = l .voices;
-    })
+    (atDesk l (order (e .voice) (paramOrder e .name) (paramOrder e .order) (l .voices) (l .desk) .desk))
 
 abbrev pub happenAll : List Event → Ledger → Ledger
 happenAll [] l = l
@@ -53,11 +49,11 @@ blockOf a l =
 abbrev pub preparedIf : Bool → Ledger → Heard
 preparedIf true l =
     blockOf (answerAfter (prepareOutcome (l .desk) .answer) (prepareDesk (l .desk)))
-    (record { desk = prepareDesk (l .desk); holders = l .holders; voices = l .voices })
+    (atDesk l (prepareDesk (l .desk)))
 preparedIf false l = blockOf (heard (sounding (l .desk))) l
 
 abbrev pub rested : Ledger → Ledger
-rested l = record { desk = withEvents (leftAfter (deadline (l .desk)) (l .desk .events)) (l .desk); holders = l .holders; voices = l .voices }
+rested l = atDesk l (withEvents (leftAfter (deadline (l .desk)) (l .desk .events)) (l .desk))
 
 abbrev pub render : Ledger → Heard
 render l =
