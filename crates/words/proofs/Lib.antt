@@ -1,0 +1,6 @@
+pub mod Words
+pub mod Rows
+pub mod InPlace
+pub mod InWords
+pub mod Floats
+pub mod Bytes
