@@ -1,11 +1,11 @@
--- Bytes in words.
+-- Bytes in words, and a u64 in two.
 use Prim.Native.Nat.{ℕ, _+_, _*_, _/_, _%_, _<_}
 use native.Mathlib.Omega.{arith}
 use mathlib.Core.Path.{_≡_, ap, _∙_}
 use mathlib.Core.List.{List, [], _∷_, _++_}
 use lib.ListN.{length}
 use Rattle.node.specs.declared.name.Name.{Name}
-use Rattle.words.specs.Fields.{four, nameFrom}
+use Rattle.words.specs.Fields.{longFrom, four, nameFrom}
 use Rattle.words.proofs.Words.{spell, spelled}
 
 pub four-is : (a b c d : ℕ) → a < 256 → b < 256 → c < 256 → d < 256 → four (a + b * 256 + c * 65536 + d * 16777216) ≡ a ∷ b ∷ c ∷ d ∷ []
@@ -35,3 +35,7 @@ name-back n a b c d h k p q r s =
     ∙ ap (λ x. made (spell 0 4 l) (spell 4 4 l) (spell 8 4 l) x (n .len % 256)) s
     ∙ ap (made (spell 0 4 l) (spell 4 4 l) (spell 8 4 l) (spell 12 4 l)) m
     ∙ ap (λ x. record { bytes = x; len = n .len }) (spelled 16 l h)
+
+-- a u64 in two words comes back
+pub long-back : (x low high : ℕ) → low ≡ x % 4294967296 → high ≡ x / 4294967296 → longFrom low high ≡ x
+long-back x low high p q = omega arith
