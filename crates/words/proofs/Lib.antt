@@ -4,3 +4,4 @@ pub mod InPlace
 pub mod InWords
 pub mod Floats
 pub mod Bytes
+pub mod Place

@@ -9,7 +9,7 @@ use mathlib.Core.Logic.{inl, inr}
 use mathlib.Core.List.{List, [], _∷_}
 use lib.Dec.{leb, ltb}
 use lib.ListN.{length, take, drop, getD, set, length-set, drop-of-length-le}
-use lib.Seq.{set-out, getD-set-other, take-nil, drop-cons, set-getD, sets}
+use lib.Seq.{set-out, getD-set-other, drop-cons, set-getD, sets}
 use borrow.Author.Tests.{leb-true, leb-false, ltb-true, ltb-false}
 use Rattle.lists.specs.Table.{left-cons}
 use Rattle.words.specs.Rows.{Apart}
@@ -104,14 +104,6 @@ module _ (old : List ℕ) (from to n : ℕ) where
         away z j x y q (inr u) = omega (arith, inv .fewer, inv .source, inv .target)
 
   module _ (new : List ℕ) (a b k : ℕ) (inv : Moving old new from to n a b k) where
-    -- all are moved, or the next one stands or goes past the end
+    -- all are moved
     pub moving-done : k ≡ 0 → new ≡ sets old to (take n (drop from old))
     moving-done e = sym (ap (λ m. sets new b (take m (drop a old))) e) ∙ inv .whole
-
-    pub moving-past : length new ≤ a → new ≡ sets old to (take n (drop from old))
-    moving-past h =
-        let past : length old ≤ a = omega (arith, inv .long) in
-        sym (ap (λ l. sets new b l) (ap (take k) (drop-of-length-le old past) ∙ take-nil k)) ∙ inv .whole
-
-    pub moving-out : length new ≤ b → new ≡ sets old to (take n (drop from old))
-    moving-out h = sym (sets-past (take k (drop a old)) new b h) ∙ inv .whole

@@ -1,6 +1,6 @@
 ghost use mathlib.Core.Path.{_≡_};
-ghost use Prim.Native.Nat.{min};
-ghost use lib.ListN.{getD, take, drop};
+ghost use Prim.Native.Nat.{_+_, _≤_, min};
+ghost use lib.ListN.{length, getD, take, drop};
 ghost use lib.Seq.{sets};
 ghost use Rattle.words.specs.Rows.{Apart, rowAt, rowPut, wordPut, rowMoved, opened};
 
@@ -84,20 +84,15 @@ pub fn put_row(t: &mut [u32], w: usize, i: usize, ws: &[u32])
     }
 }
 
-// The `n` words from `from` on, stored from `to` on too. Where `to` is among those after `from`, no more is said.
+// The `n` words from `from` on, stored from `to` on too, the first one first.
 fn move_words(t: &mut [u32], from: usize, to: usize, n: usize)
-    ensures { λ _. ⌜ (Apart from to n → now (t .exit) ≡ sets (now (t .entry)) to (take n (drop from (now (t .entry))))) ⌝ }
+    requires { ⌜ (from + n ≤ length (now t)) × (to + n ≤ length (now t)) × Apart from to n ⌝ }
+    ensures { λ _. ⌜ now (t .exit) ≡ sets (now (t .entry)) to (take n (drop from (now (t .entry)))) ⌝ }
 {
     let mut a = from;
     let mut b = to;
     let mut k = n;
     while 0 < k {
-        if t.len() <= a {
-            return;
-        }
-        if t.len() <= b {
-            return;
-        }
         t[b] = t[a];
         a += 1;
         b += 1;

@@ -29,7 +29,12 @@ mul-move-words-2 : tie.Need-mul-move-words-2
 mul-move-words-2 c = let s = c .before .before .before .before .before .before in omega (arith, row-fits (s .args .w) (s .args .to) (s .args .t .now) (c .before .before .if3 .taken))
 
 move-words-requires : tie.Need-move-words-requires
-move-words-requires c κs = search needs
+move-words-requires c κs =
+    let s = c .before .before .before .before .before .before in (
+      row-fits (s .args .w) (s .args .from) (s .args .t .now) (c .before .before .before .if2 .taken),
+      row-fits (s .args .w) (s .args .to) (s .args .t .now) (c .before .before .if3 .taken),
+      apart (s .args .w) (s .args .from) (s .args .to),
+    )
 
 same-length : tie.Need-same-length
 same-length c = search needs
@@ -37,7 +42,7 @@ same-length c = search needs
 returns-2 : tie.Need-returns-2
 returns-2 c =
     let s = c .before .before .before .before .before .before .before .before .before in
-    c .before .before .move-words .ensures (apart (s .args .w) (s .args .from) (s .args .to))
+    c .before .before .move-words .ensures
     ∙ sym (moved-is (s .args .w) (s .args .from) (s .args .to) (s .args .t .now) (c .before .before .before .before .before .before .if2 .taken) (c .before .before .before .before .before .if3 .taken))
 
 returns-3 : tie.Need-returns-3

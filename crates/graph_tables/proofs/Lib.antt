@@ -1,0 +1,5 @@
+pub mod Brief
+pub mod Edges
+pub mod Fed
+pub mod Marks
+pub mod Voices

@@ -1,0 +1,64 @@
+use Prim.Native.Nat.{ℕ, zero, suc, _+_, _*_, _/_, _≤_, _<_, _-_, min}
+use mathlib.Core.Path.{_≡_, refl, sym, ap, _∙_, subst}
+use mathlib.Core.List.{List, [], _∷_, _++_}
+use mathlib.Core.Bool.{Bool, true, false, not, cond, _&&_}
+use mathlib.Core.Logic.{⊎-elim, inl, inr}
+use native.Mathlib.Omega.{arith}
+use native.Mathlib.Numerals.{add-one}
+use lib.ListN.{length, take, drop, getD, set}
+use borrow.Author.Needs.{needs}
+use borrow.Author.Tests.{lt-ltb, le-ltb, eq-eqb, ne-eqb, eqb-true, eqb-false, ltb-true, ltb-false}
+use Rattle.words.specs.Rows.{rows}
+use Rattle.words.proofs.Rows.{rows-long, row-is, at-word}
+use Rattle.words.proofs.Place.{counted, holds-count, pushed-more, PlacingIn, placing-start, placing-hit, placing-next, placing-none}
+use Rattle.words.proofs.InWords.{ChangingIn, change-start, change-row, change-none, change-done}
+use Rattle.edges.proofs.Loops.{pushed-on, pushed-off}
+use Rattle.edges.specs.Wiring.{pushed, endsAt}
+use Rattle.words.specs.Place.{Holds, placeOf}
+use Rattle.graph.specs.Node.{isNode, nodeAt, replaced}
+use Rattle.graph_rows.specs.Node.{nodeOf, nodesIn, briefOf}
+use Rattle.graph_rows.specs.Edge.{edgeOf, edgesIn}
+use Rattle.graph_tables.proofs.lookup.append_in.Statement.{statement}
+use Rattle.graph_tables.proofs.lookup.append_in.Tie as tie
+use Rattle.graph_tables.proofs.lookup.append_in.Reads as reads
+use Rattle.graph_tables.proofs.lookup.append_in.Lts as lts
+use Rattle.graph_rows.proofs.node_row.put_node.Reads as put-node-reads
+use Rattle.words.proofs.table.at_most.Reads as at-most-reads
+
+at-most-requires : tie.Need-at-most-requires
+at-most-requires c κs = search needs
+
+put-node-requires : tie.Need-put-node-requires
+put-node-requires c κs = search needs
+
+add-result : tie.Need-add-result
+add-result c = search needs
+
+same-length : tie.Need-same-length
+same-length c = search needs
+
+returns : tie.Need-returns
+returns c =
+    let s = c .before .before .before .before .before .before .before in
+    let k = c .before .before .before .before .before .at-most in
+    let old = s .args .t .now in
+    let l = take (s .args .count) (nodesIn old) in
+    let held : Holds (nodesIn old) (k .result) l = holds-count 21 nodeOf old (s .args .count) (k .result) (k .ensures) in
+    let room : length l < length old / 21 = omega (arith, held .many, c .before .before .before .before .if1 .taken) in
+    subst (Holds (nodesIn (c .before .before .put-node .last .0)) (k .result + 1)) (sym (pushed-on (length old / 21) l (s .args .n) room))
+    (pushed-more 21 nodeOf old (c .before .before .put-node .last .0) (k .result) l (s .args .n) (c .before .before .before .before .if1 .taken) held (c .before .before .put-node .ensures))
+
+returns-2 : tie.Need-returns-2
+returns-2 c =
+    let s = c .before .before .before in
+    let k = c .before .at-most in
+    let old = s .args .t .now in
+    let l = take (s .args .count) (nodesIn old) in
+    let held : Holds (nodesIn old) (k .result) l = holds-count 21 nodeOf old (s .args .count) (k .result) (k .ensures) in
+    let full : length old / 21 ≤ length l = omega (arith, held .many, c .if1 .left) in
+    subst (Holds (nodesIn old) (k .result)) (sym (pushed-off (length old / 21) l (s .args .n) full)) held
+
+pub append-in-spec : {M : Type 1} → statement M
+append-in-spec =
+    tie.close
+    (tie.spec at-most-requires put-node-requires add-result same-length returns returns-2)

@@ -1,0 +1,83 @@
+use Prim.Native.Nat.{ℕ, zero, suc, _+_, _*_, _/_, _≤_, _<_, _-_, min}
+use mathlib.Core.Path.{_≡_, refl, sym, ap, _∙_, subst}
+use mathlib.Core.List.{List, [], _∷_, _++_}
+use mathlib.Core.Bool.{Bool, true, false, not, cond, _&&_}
+use mathlib.Core.Logic.{⊎-elim, inl, inr}
+use native.Mathlib.Omega.{arith}
+use native.Mathlib.Numerals.{add-one}
+use lib.ListN.{length, take, drop, getD, set}
+use borrow.Author.Needs.{needs}
+use borrow.Author.Tests.{lt-ltb, le-ltb, eq-eqb, ne-eqb, eqb-true, eqb-false, ltb-true, ltb-false}
+use lib.Dec.{eqb}
+use lib.ListN.{length-set, getD-replicate}
+use Rattle.lists.specs.Find.{find, isSome, keepO, or?}
+use Rattle.lists.specs.Table.{left-cons}
+use Rattle.words.proofs.Rows.{rows-long}
+use Rattle.words.proofs.Place.{closed}
+use Rattle.words.proofs.InPlace.{Gathering, gathering-start, gathering-take, gathering-pass}
+use Rattle.words.proofs.InWords.{ClosingIn, words-start, words-row, words-keep, words-drop, take-count}
+use Rattle.edges.specs.Wiring.{touches, listed, among}
+use Rattle.edges.proofs.Loops.{find-hit, find-pass, find-over}
+use Rattle.graph.specs.Change.{idsOf}
+use Rattle.graph_rows.specs.Node.{nodeOf, nodesIn}
+use Rattle.graph_rows.specs.Edge.{edgeOf, edgesIn}
+use Rattle.graph_tables.specs.Removal.{leaves}
+use Rattle.graph_tables.proofs.Marks.{MarkedTo, marks-more, marks-done, unmarked, listed-at}
+use Rattle.graph_tables.proofs.removal.is_any.Statement.{statement}
+use Rattle.graph_tables.proofs.removal.is_any.Tie as tie
+use Rattle.graph_tables.proofs.removal.is_any.Reads as reads
+use Rattle.graph_tables.proofs.removal.is_any.Lts as lts
+
+abbrev Inv-loop : tie.InvT-loop
+Inv-loop ids x i₀ i = (i ≤ length ids) × (find (λ k. eqb k x) (drop i ids) ≡ find (λ k. eqb k x) ids)
+
+abbrev μ-loop : tie.MeasureT-loop
+μ-loop ids x i₀ i = length ids - i
+
+loop-holds : tie.Need-loop-holds Inv-loop μ-loop
+loop-holds c = (omega arith, refl)
+
+mul-if1 : tie.Need-mul-if1 Inv-loop μ-loop
+mul-if1 c = search needs
+
+shared-slice-read-if1 : tie.Need-shared-slice-read-if1 Inv-loop μ-loop
+shared-slice-read-if1 c = search needs
+
+returns : tie.Need-returns Inv-loop μ-loop
+returns c =
+    let s = c .before .before .before .before in
+    let l = c .before .before .before .loop in
+    ap isSome (sym (find-hit (λ k. eqb k (s .args .x)) (s .args .ids .now) (l .i) _ (left-cons _ (s .args .ids .now) (l .i) (c .before .before .loop-test .taken)) (eq-eqb _ _ (c .if1 .taken))) ∙ l .inv .1)
+
+add-i : tie.Need-add-i Inv-loop μ-loop
+add-i c = search needs
+
+loop-less : tie.Need-loop-less Inv-loop μ-loop
+loop-less c = search needs
+
+loop-again : tie.Need-loop-again Inv-loop μ-loop
+loop-again c =
+    let s = c .before .before .before .before in
+    let l = c .before .before .before .loop in
+    (omega arith, find-pass (λ k. eqb k (s .args .x)) (s .args .ids .now) (l .i) _ (left-cons _ (s .args .ids .now) (l .i) (c .before .before .loop-test .taken)) (ne-eqb _ _ (c .if1 .left)) ∙ l .inv .1)
+
+returns-2 : tie.Need-returns-2 Inv-loop μ-loop
+returns-2 c =
+    let s = c .before .before in
+    let l = c .before .loop in
+    ap isSome (sym (find-over (λ k. eqb k (s .args .x)) (s .args .ids .now) (l .i) (c .loop-test .left)) ∙ l .inv .1)
+
+pub is-any-spec : {M : Type 1} → statement M
+is-any-spec =
+    tie.close
+    (tie.spec
+    Inv-loop
+    μ-loop
+    loop-holds
+    mul-if1
+    shared-slice-read-if1
+    returns
+    add-i
+    loop-less
+    loop-again
+    returns-2)

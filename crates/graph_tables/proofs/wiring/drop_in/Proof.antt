@@ -1,0 +1,114 @@
+use Prim.Native.Nat.{ℕ, zero, suc, _+_, _*_, _/_, _≤_, _<_, _-_, min}
+use mathlib.Core.Path.{_≡_, refl, sym, ap, _∙_, subst}
+use mathlib.Core.List.{List, [], _∷_, _++_}
+use mathlib.Core.Bool.{Bool, true, false, not, cond, _&&_}
+use mathlib.Core.Logic.{⊎-elim, inl, inr}
+use native.Mathlib.Omega.{arith}
+use native.Mathlib.Numerals.{add-one}
+use lib.ListN.{length, take, drop, getD, set}
+use borrow.Author.Needs.{needs}
+use borrow.Author.Tests.{lt-ltb, le-ltb, eq-eqb, ne-eqb, eqb-true, eqb-false, ltb-true, ltb-false}
+use Rattle.words.specs.Rows.{rows}
+use Rattle.words.proofs.Rows.{rows-long, row-is, at-word}
+use Rattle.words.proofs.Place.{counted, holds-count, pushed-more, PlacingIn, placing-start, placing-hit, placing-next, placing-none}
+use Rattle.words.proofs.InWords.{ChangingIn, change-start, change-row, change-none, change-done}
+use Rattle.edges.proofs.Loops.{pushed-on, pushed-off}
+use Rattle.edges.specs.Wiring.{pushed, endsAt}
+use Rattle.words.specs.Place.{Holds, placeOf}
+use Rattle.graph.specs.Node.{isNode, nodeAt, replaced}
+use Rattle.graph_rows.specs.Node.{nodeOf, nodesIn, briefOf}
+use Rattle.graph_rows.specs.Edge.{edgeOf, edgesIn}
+use Rattle.words.proofs.Place.{found-in, lost-in, some-in, close-from, closed, holds-room}
+use Rattle.words.proofs.InWords.{ClosingIn, words-keep, words-drop}
+use Rattle.graph_tables.proofs.wiring.drop_in.Statement.{statement}
+use Rattle.graph_tables.proofs.wiring.drop_in.Tie as tie
+use Rattle.graph_tables.proofs.wiring.drop_in.Reads as reads
+use Rattle.graph_tables.proofs.wiring.drop_in.Lts as lts
+use Rattle.graph_tables.proofs.wiring.ends_at.Reads as ends-at-reads
+use Rattle.graph_tables.proofs.wiring.row_in.Reads as row-in-reads
+use Rattle.words.proofs.table.at_most.Reads as at-most-reads
+use Rattle.words.proofs.table.move_row.Reads as move-row-reads
+
+abbrev Inv-loop : tie.InvT-loop
+Inv-loop t₀ count node port n i₀ k₀ t i k = ClosingIn 3 edgeOf (λ e. not (endsAt node port e)) t₀ t n i k
+
+abbrev μ-loop : tie.MeasureT-loop
+μ-loop t₀ count node port n i₀ k₀ t i k = n - i
+
+at-most-requires : tie.Need-at-most-requires Inv-loop μ-loop
+at-most-requires c κs = search needs
+
+row-in-requires : tie.Need-row-in-requires Inv-loop μ-loop
+row-in-requires c κs = search needs
+
+loop-holds : tie.Need-loop-holds Inv-loop μ-loop
+loop-holds c = let s = c .before .before .before .before in close-from 3 edgeOf (endsAt (s .args .node) (s .args .port)) (s .args .t .now) (s .args .count) (c .before .before .at-most .result) (c .before .before .at-most .ensures) (c .row-in .result) (c .row-in .ensures)
+
+ends-at-requires : tie.Need-ends-at-requires Inv-loop μ-loop
+ends-at-requires c κs = search needs
+
+add-i : tie.Need-add-i Inv-loop μ-loop
+add-i c = search needs
+
+loop-less : tie.Need-loop-less Inv-loop μ-loop
+loop-less c = search needs
+
+loop-again : tie.Need-loop-again Inv-loop μ-loop
+loop-again c =
+    let s = c .before .before .before .before .before .before .before .before .before in
+    let m = c .before .before .before .before .before .before .before .at-most in
+    let l = c .before .before .before .before .loop in
+    let fits : m .result ≤ length (s .args .t .now) / 3 = omega (arith, m .ensures) in
+    words-drop 3 edgeOf (λ e. not (endsAt (s .args .node) (s .args .port) e)) (s .args .t .now) (l .t) (m .result) (l .i) (l .k) fits (c .before .before .before .loop-test .taken) (l .inv) (ap not (sym (c .before .ends-at .ensures) ∙ c .if1 .taken))
+
+move-row-requires : tie.Need-move-row-requires Inv-loop μ-loop
+move-row-requires c κs = search needs
+
+add-i-2 : tie.Need-add-i-2 Inv-loop μ-loop
+add-i-2 c = search needs
+
+add-k : tie.Need-add-k Inv-loop μ-loop
+add-k c = search needs
+
+loop-less-2 : tie.Need-loop-less-2 Inv-loop μ-loop
+loop-less-2 c = search needs
+
+loop-again-2 : tie.Need-loop-again-2 Inv-loop μ-loop
+loop-again-2 c =
+    let s = c .before .before .before .before .before .before .before .before .before .before .before .before .before in
+    let m = c .before .before .before .before .before .before .before .before .before .before .before .at-most in
+    let l = c .before .before .before .before .before .before .before .before .loop in
+    let moved = c .before .before .move-row in
+    let fits : m .result ≤ length (s .args .t .now) / 3 = omega (arith, m .ensures) in
+    words-keep 3 edgeOf (λ e. not (endsAt (s .args .node) (s .args .port) e)) (s .args .t .now) (l .t) (m .result) (l .i) (l .k) fits (c .before .before .before .before .before .before .before .loop-test .taken) (l .inv) (moved .last .0) (moved .ensures) (ap not (sym (c .before .before .before .before .before .ends-at .ensures) ∙ c .before .before .before .before .if1 .left))
+
+same-length : tie.Need-same-length Inv-loop μ-loop
+same-length c = search needs
+
+returns : tie.Need-returns Inv-loop μ-loop
+returns c =
+    let s = c .before .before .before .before .before .before in
+    let m = c .before .before .before .before .at-most in
+    let l = c .before .loop in
+    closed 3 edgeOf (s .args .t .now) (l .t) (λ e. not (endsAt (s .args .node) (s .args .port) e)) (s .args .count) (m .result) (l .i) (l .k) (m .ensures) (c .loop-test .left) (l .inv)
+
+pub drop-in-spec : {M : Type 1} → statement M
+drop-in-spec =
+    tie.close
+    (tie.spec
+    Inv-loop
+    μ-loop
+    at-most-requires
+    row-in-requires
+    loop-holds
+    ends-at-requires
+    add-i
+    loop-less
+    loop-again
+    move-row-requires
+    add-i-2
+    add-k
+    loop-less-2
+    loop-again-2
+    same-length
+    returns)

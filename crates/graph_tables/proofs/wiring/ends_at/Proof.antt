@@ -1,0 +1,51 @@
+use Prim.Native.Nat.{ℕ, zero, suc, _+_, _*_, _/_, _≤_, _<_, _-_, min}
+use mathlib.Core.Path.{_≡_, refl, sym, ap, _∙_, subst}
+use mathlib.Core.List.{List, [], _∷_, _++_}
+use mathlib.Core.Bool.{Bool, true, false, not, cond, _&&_}
+use mathlib.Core.Logic.{⊎-elim, inl, inr}
+use native.Mathlib.Omega.{arith}
+use native.Mathlib.Numerals.{add-one}
+use lib.ListN.{length, take, drop, getD, set}
+use borrow.Author.Needs.{needs}
+use borrow.Author.Tests.{lt-ltb, le-ltb, eq-eqb, ne-eqb, eqb-true, eqb-false, ltb-true, ltb-false}
+use Rattle.words.specs.Rows.{rows}
+use Rattle.words.proofs.Rows.{rows-long, row-is, at-word}
+use Rattle.words.proofs.Place.{counted, holds-count, pushed-more, PlacingIn, placing-start, placing-hit, placing-next, placing-none}
+use Rattle.words.proofs.InWords.{ChangingIn, change-start, change-row, change-none, change-done}
+use Rattle.edges.proofs.Loops.{pushed-on, pushed-off}
+use Rattle.edges.specs.Wiring.{pushed, endsAt}
+use Rattle.words.specs.Place.{Holds, placeOf}
+use Rattle.graph.specs.Node.{isNode, nodeAt, replaced}
+use Rattle.graph_rows.specs.Node.{nodeOf, nodesIn, briefOf}
+use Rattle.graph_rows.specs.Edge.{edgeOf, edgesIn}
+use lib.Dec.{eqb}
+use Rattle.graph_tables.proofs.wiring.ends_at.Statement.{statement}
+use Rattle.graph_tables.proofs.wiring.ends_at.Tie as tie
+use Rattle.graph_tables.proofs.wiring.ends_at.Reads as reads
+use Rattle.graph_tables.proofs.wiring.ends_at.Lts as lts
+use Rattle.words.proofs.table.word_at.Reads as word-at-reads
+
+word-at-requires : tie.Need-word-at-requires
+word-at-requires c κs = search needs
+
+word-at-requires-2 : tie.Need-word-at-requires-2
+word-at-requires-2 c κs = search needs
+
+returns : tie.Need-returns
+unfolding edgeOf
+returns c =
+    let s = c .before .before .before .before .before in
+    let e = row-is 3 edgeOf (s .args .t .now) (s .args .i) in
+    let to : eqb (getD (edgesIn (s .args .t .now)) (s .args .i) (edgeOf []) .to .0) (s .args .node .0) ≡ true = eq-eqb _ _ (ap (λ x. x .to .0) e ∙ sym (c .before .before .before .word-at .ensures) ∙ c .before .if1 .taken) in
+    sym (ap (λ b. b && eqb (getD (edgesIn (s .args .t .now)) (s .args .i) (edgeOf []) .port) (s .args .port)) to ∙ ap (λ x. eqb x (s .args .port)) (ap (λ x. x .port) e ∙ sym (c .word-at2 .ensures)))
+
+returns-2 : tie.Need-returns-2
+unfolding edgeOf
+returns-2 c =
+    let s = c .before .before .before .before in
+    let e = row-is 3 edgeOf (s .args .t .now) (s .args .i) in
+    let to : eqb (getD (edgesIn (s .args .t .now)) (s .args .i) (edgeOf []) .to .0) (s .args .node .0) ≡ false = ne-eqb _ _ (λ q. c .if1 .left (c .before .before .word-at .ensures ∙ sym (ap (λ x. x .to .0) e) ∙ q)) in
+    ne-eqb _ _ (c .if1 .left) ∙ sym (ap (λ b. b && eqb (getD (edgesIn (s .args .t .now)) (s .args .i) (edgeOf []) .port) (s .args .port)) to)
+
+pub ends-at-spec : {M : Type 1} → statement M
+ends-at-spec = tie.close (tie.spec word-at-requires word-at-requires-2 returns returns-2)

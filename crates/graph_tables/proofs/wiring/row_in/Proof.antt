@@ -1,0 +1,83 @@
+use Prim.Native.Nat.{ℕ, zero, suc, _+_, _*_, _/_, _≤_, _<_, _-_, min}
+use mathlib.Core.Path.{_≡_, refl, sym, ap, _∙_, subst}
+use mathlib.Core.List.{List, [], _∷_, _++_}
+use mathlib.Core.Bool.{Bool, true, false, not, cond, _&&_}
+use mathlib.Core.Logic.{⊎-elim, inl, inr}
+use native.Mathlib.Omega.{arith}
+use native.Mathlib.Numerals.{add-one}
+use lib.ListN.{length, take, drop, getD, set}
+use borrow.Author.Needs.{needs}
+use borrow.Author.Tests.{lt-ltb, le-ltb, eq-eqb, ne-eqb, eqb-true, eqb-false, ltb-true, ltb-false}
+use Rattle.words.specs.Rows.{rows}
+use Rattle.words.proofs.Rows.{rows-long, row-is, at-word}
+use Rattle.words.proofs.Place.{counted, holds-count, pushed-more, PlacingIn, placing-start, placing-hit, placing-next, placing-none}
+use Rattle.words.proofs.InWords.{ChangingIn, change-start, change-row, change-none, change-done}
+use Rattle.edges.proofs.Loops.{pushed-on, pushed-off}
+use Rattle.edges.specs.Wiring.{pushed, endsAt}
+use Rattle.words.specs.Place.{Holds, placeOf}
+use Rattle.graph.specs.Node.{isNode, nodeAt, replaced}
+use Rattle.graph_rows.specs.Node.{nodeOf, nodesIn, briefOf}
+use Rattle.graph_rows.specs.Edge.{edgeOf, edgesIn}
+use Rattle.graph_tables.proofs.wiring.row_in.Statement.{statement}
+use Rattle.graph_tables.proofs.wiring.row_in.Tie as tie
+use Rattle.graph_tables.proofs.wiring.row_in.Reads as reads
+use Rattle.graph_tables.proofs.wiring.row_in.Lts as lts
+use Rattle.graph_tables.proofs.wiring.ends_at.Reads as ends-at-reads
+use Rattle.words.proofs.table.at_most.Reads as at-most-reads
+
+abbrev Inv-loop : tie.InvT-loop
+Inv-loop t count node port n i₀ i = PlacingIn 3 edgeOf (endsAt node port) t count n i
+
+abbrev μ-loop : tie.MeasureT-loop
+μ-loop t count node port n i₀ i = n - i
+
+at-most-requires : tie.Need-at-most-requires Inv-loop μ-loop
+at-most-requires c κs = search needs
+
+loop-holds : tie.Need-loop-holds Inv-loop μ-loop
+loop-holds c = let s = c .before .before in placing-start 3 edgeOf (endsAt (s .args .node) (s .args .port)) (s .args .t .now) (s .args .count) (c .at-most .result)
+
+ends-at-requires : tie.Need-ends-at-requires Inv-loop μ-loop
+ends-at-requires c κs = search needs
+
+returns : tie.Need-returns Inv-loop μ-loop
+returns c =
+    let s = c .before .before .before .before .before .before in
+    let m = c .before .before .before .before .at-most in
+    let l = c .before .before .before .loop in
+    placing-hit 3 edgeOf (endsAt (s .args .node) (s .args .port)) (s .args .t .now) (s .args .count) (m .result) (m .ensures) (l .i) (c .before .before .loop-test .taken) (l .inv) (sym (c .before .ends-at .ensures) ∙ c .if1 .taken)
+
+add-i : tie.Need-add-i Inv-loop μ-loop
+add-i c = search needs
+
+loop-less : tie.Need-loop-less Inv-loop μ-loop
+loop-less c = search needs
+
+loop-again : tie.Need-loop-again Inv-loop μ-loop
+loop-again c =
+    let s = c .before .before .before .before .before .before in
+    let m = c .before .before .before .before .at-most in
+    let l = c .before .before .before .loop in
+    placing-next 3 edgeOf (endsAt (s .args .node) (s .args .port)) (s .args .t .now) (s .args .count) (m .result) (m .ensures) (l .i) (c .before .before .loop-test .taken) (l .inv) (sym (c .before .ends-at .ensures) ∙ c .if1 .left)
+
+returns-2 : tie.Need-returns-2 Inv-loop μ-loop
+returns-2 c =
+    let s = c .before .before .before .before in
+    let m = c .before .before .at-most in
+    let l = c .before .loop in
+    placing-none 3 edgeOf (endsAt (s .args .node) (s .args .port)) (s .args .t .now) (s .args .count) (m .result) (m .ensures) (l .i) (c .loop-test .left) (l .inv)
+
+pub row-in-spec : {M : Type 1} → statement M
+row-in-spec =
+    tie.close
+    (tie.spec
+    Inv-loop
+    μ-loop
+    at-most-requires
+    loop-holds
+    ends-at-requires
+    returns
+    add-i
+    loop-less
+    loop-again
+    returns-2)

@@ -1,0 +1,137 @@
+use crate::wiring::ends_at;
+use edges::ports::Port;
+use edges::ports::Source;
+use graph_rows::edge_row::EdgeTable;
+use graph_rows::edge_row::edge_at;
+use node::record::NodeId;
+use words::table::at_most;
+use words::table::word_at;
+ghost use mathlib.Core.Path.{_≡_};
+ghost use mathlib.Core.List.{List, []};
+ghost use Prim.Native.Nat.{_≤_};
+ghost use lib.ListN.{take, getD};
+ghost use Rattle.node.specs.declared.record.NodeId.{NodeId};
+ghost use Rattle.node.specs.declared.record.Edge.{Edge};
+ghost use Rattle.edges.specs.Ports.{portOf, freePort, portFrom, feeds, sources};
+ghost use Rattle.graph_rows.specs.Edge.{edgeOf, edgesIn};
+ghost use Rattle.graph_tables.specs.Fed.{isFed};
+
+// The source of each of the ports 0 to 63 of `node`: one walk over the edges, from the last to the first, so that of two
+// edges at one port the first counts.
+fn sources_in(t: &[u32], count: usize, node: NodeId) -> [Source; 64]
+    ensures { λ r. ⌜ r ≡ sources (take count (edgesIn (now (t .entry)))) node ⌝ }
+{
+    let mut table = [Source::Nothing; 64];
+    let mut i = at_most(count, t.len() / 3);
+    while i > 0 {
+        i -= 1;
+        let e = edge_at(t, i);
+        if e.to.0 == node.0 {
+            let p = e.port;
+            let from = e.from;
+            if p < 64 {
+                table[p as usize] = Source::From(from);
+            }
+        }
+    }
+    table
+}
+
+pub fn sources_of(edges: &EdgeTable, count: usize, node: NodeId) -> [Source; 64]
+    ensures { λ r. ⌜ r ≡ sources (take count (edgesIn (now (edges .entry)))) node ⌝ }
+{
+    sources_in(edges, count, node)
+}
+
+fn is_fed(s: Source) -> bool
+    ensures { λ r. ⌜ r ≡ isFed s ⌝ }
+{
+    match s {
+        Source::From(_) => true,
+        Source::Nothing => false,
+    }
+}
+
+// The first of the ports below `ports` that nothing feeds, by the table of sources.
+fn first_unfed(table: [Source; 64], ports: u32) -> Port
+    requires { ⌜ ports ≤ 64 ⌝ }
+    ensures { λ r. ⌜ ((es : List Edge) (n : NodeId) → table ≡ sources es n → r ≡ portOf (freePort es n ports)) ⌝ }
+{
+    let mut p: u32 = 0;
+    while p < ports {
+        let s = table[p as usize];
+        if !is_fed(s) {
+            return Port::At(p);
+        }
+        p += 1;
+    }
+    Port::Nothing
+}
+
+// The lowest port of `node` below `ports` without an edge: each port in turn is looked for among all the edges.
+fn lowest_port(t: &[u32], count: usize, node: NodeId, ports: u32) -> Port
+    ensures { λ r. ⌜ r ≡ portOf (freePort (take count (edgesIn (now (t .entry)))) node ports) ⌝ }
+{
+    let n = at_most(count, t.len() / 3);
+    let mut p: u32 = 0;
+    let found = 'outer: loop {
+        if p >= ports {
+            break Port::Nothing;
+        }
+        let mut i: usize = 0;
+        while i < n {
+            if ends_at(t, i, node, p) {
+                p += 1;
+                continue 'outer;
+            }
+            i += 1;
+        }
+        break Port::At(p);
+    };
+    found
+}
+
+// The lowest port of `node` below `ports` without an edge, in one walk over the edges. No node that a call makes has more
+// than 64 ports; one that has is searched port by port.
+fn free_in(t: &[u32], count: usize, node: NodeId, ports: u32) -> Port
+    ensures { λ r. ⌜ r ≡ portOf (freePort (take count (edgesIn (now (t .entry)))) node ports) ⌝ }
+{
+    if 64 < ports {
+        return lowest_port(t, count, node, ports);
+    }
+    first_unfed(sources_in(t, count, node), ports)
+}
+
+pub fn free_port(edges: &EdgeTable, count: usize, node: NodeId, ports: u32) -> Port
+    ensures { λ r. ⌜ r ≡ portOf (freePort (take count (edgesIn (now (edges .entry)))) node ports) ⌝ }
+{
+    free_in(edges, count, node, ports)
+}
+
+// Whether the edge in row `i` leads from `from` to `to`.
+fn leads(t: &[u32], i: usize, from: NodeId, to: NodeId) -> bool
+    ensures { λ r. ⌜ r ≡ feeds from to (getD (edgesIn (now (t .entry))) i (edgeOf [])) ⌝ }
+{
+    word_at(t, 3, i, 0) == from.0 && word_at(t, 3, i, 1) == to.0
+}
+
+// The port of `to` that `from` feeds, by the first such edge.
+fn port_in(t: &[u32], count: usize, from: NodeId, to: NodeId) -> Port
+    ensures { λ r. ⌜ r ≡ portOf (portFrom (take count (edgesIn (now (t .entry)))) from to) ⌝ }
+{
+    let n = at_most(count, t.len() / 3);
+    let mut i: usize = 0;
+    while i < n {
+        if leads(t, i, from, to) {
+            return Port::At(edge_at(t, i).port);
+        }
+        i += 1;
+    }
+    Port::Nothing
+}
+
+pub fn port_from(edges: &EdgeTable, count: usize, from: NodeId, to: NodeId) -> Port
+    ensures { λ r. ⌜ r ≡ portOf (portFrom (take count (edgesIn (now (edges .entry)))) from to) ⌝ }
+{
+    port_in(edges, count, from, to)
+}
