@@ -1,0 +1,111 @@
+-- Prepare's three answers, from what its tests found.
+use Prim.Native.Nat.{ℕ, zero, suc, _/_, _≤_, min}
+use native.Mathlib.Omega.{arith}
+use mathlib.Core.Path.{_≡_, refl, sym, ap, _∙_, subst}
+use mathlib.Core.List.{List, [], _∷_, map}
+use mathlib.Core.Bool.{Bool, true, false}
+use lib.ListN.{length, take, getD, length-map, length-take}
+use lib.Seq.{length-take-le, take-take}
+use Rattle.node.specs.declared.record.Node.{Node}
+use Rattle.node.specs.declared.record.Edge.{Edge}
+use Rattle.node.specs.declared.refusal.Refusal.the-variants.{RequiredPort, Cycle}
+use Rattle.words.specs.Place.{Holds}
+use Rattle.words.proofs.Rows.{rows-long}
+use Rattle.words.proofs.InWords.{take-count}
+use Rattle.rank.specs.Order.{whole, upto, arcs}
+use Rattle.rank.specs.Parts.{Ranked}
+use Rattle.rank.specs.declared.Ranking.{Ranking}
+use Rattle.graph_rows.specs.Node.{nodesIn}
+use Rattle.graph_rows.specs.Edge.{edgeOf, edgesIn}
+use Rattle.order.specs.declared.Readiness.the-variants.{Ready, Refused}
+use Rattle.order.specs.declared.Order.{Order}
+use Rattle.order.specs.Live.{liveIds, arcOf, asId, processingOrder}
+use Rattle.order.specs.Required.{lacking}
+use Rattle.order.specs.Prepare.{prepare}
+use Rattle.order.specs.Parts.{Named, Ordered, RowsIn, rowsLack}
+use Rattle.order.proofs.Graph.{many-live, rows-in, whole-is, ordered, lacking-is}
+use Rattle.order.proofs.Rises.{live-few}
+use Rattle.order_table.specs.Prepares.{idsIn, Prepares, Lives, Meets, Lacks}
+use Rattle.order_table.specs.declared.Live.{Live}
+use Rattle.order_table.specs.declared.Ended.{Ended}
+
+module _ (nodes : List Node) (edges : List Edge) (old : List ℕ) where
+  pub refused-13 : lacking nodes edges ≡ true → Prepares nodes edges old old (record { answer = Refused RequiredPort; count = 0 })
+  unfolding prepare
+  refused-13 h = record { answer = rw h; order = rw h (record { is = refl; many = refl }); kept = λ x e. refl }
+
+  pub refused-14 : lacking nodes edges ≡ false → whole (liveIds nodes) (map arcOf edges) ≡ false → Prepares nodes edges old old (record { answer = Refused Cycle; count = 0 })
+  unfolding prepare
+  refused-14 h w = record { answer = rw (h, w); order = rw (h, w) (record { is = refl; many = refl }); kept = λ x e. refl }
+
+  pub accepted : lacking nodes edges ≡ false → whole (liveIds nodes) (map arcOf edges) ≡ true → (new : List ℕ) (k : ℕ) → Holds (idsIn new) k (processingOrder nodes edges)
+      → Prepares nodes edges old new (record { answer = Ready; count = k })
+  unfolding prepare
+  accepted h w new k held = record {
+    answer = rw (h, w);
+    order = rw (h, w) held;
+    kept = λ x e. let z : _≡_ {A = ℕ} 0 1 = cc in absurd (omega arith);
+  }
+
+-- ---- the ids that were written
+map-take : {A B : Type 0} (f : A → B) (n : ℕ) (l : List A) → take n (map f l) ≡ map f (take n l)
+map-take f zero l = refl
+map-take f (suc n) [] = refl
+map-take f (suc n) (x ∷ l) = ap (λ r. f x ∷ r) (map-take f n l)
+
+map-map : {A B C : Type 0} (f : A → B) (g : B → C) (l : List A) → map g (map f l) ≡ map (λ x. g (f x)) l
+map-map f g [] = refl
+map-map f g (x ∷ l) = ap (λ r. g (f x) ∷ r) (map-map f g l)
+
+abbrev pub written : List ℕ → ℕ → Order
+written new k = record { ids = idsIn new; count = k }
+
+pub named-as : (new ids rows : List ℕ) (k : ℕ) → length new ≡ 512 → k ≤ length rows → take k new ≡ map (λ x. getD ids x 0) (take k rows) → Named (written new k) ids (take k rows)
+named-as new ids rows k long fits e = record {
+  long = length-map new asId ∙ long;
+  many = sym (length-take-le k rows fits);
+  is = map-take asId k new ∙ ap (map asId) e ∙ map-map (λ x. getD ids x 0) asId (take k rows);
+}
+
+pub holds-order : (new : List ℕ) (k : ℕ) (nodes : List Node) (edges : List Edge) → k ≤ 512 → Ordered (written new k) nodes edges → Holds (idsIn new) k (processingOrder nodes edges)
+holds-order new k nodes edges few o =
+    let clamp : k ≡ min k 512 = omega arith in
+    let is : take k (idsIn new) ≡ processingOrder nodes edges = ap (λ n. take n (idsIn new)) clamp ∙ o .is in
+    record { is = is; many = o .many ∙ ap length (o .is) }
+
+-- the live nodes are the first of the rows
+pub first-of : (rows : List Node) (n k : ℕ) → k ≡ length (liveIds (take n rows)) → take k (take n rows) ≡ take k rows
+first-of rows n k e =
+    let few : k ≤ length (take n rows) = omega (arith, live-few (take n rows)) in
+    take-take k n rows (omega (arith, length-take n rows))
+
+-- ---- what the tests found, of the first n nodes and the first m edges: `count` is m, or the room
+module _ (ns es : List ℕ) (n m : ℕ) (l : Live) (lv : Lives l (take n (nodesIn ns))) (count : ℕ) (c : count ≡ min m (length es / 3)) (e : Ended) (en : Meets e (take (l .count) (l .ids)) (take count (edgesIn es))) where
+  all-edges : take count (edgesIn es) ≡ take m (edgesIn es)
+  all-edges = take-count 3 edgeOf es m count c
+
+  many-edges : length (take count (edgesIn es)) ≡ count
+  many-edges = length-take-le count (edgesIn es) (omega (arith, rows-long 3 edgeOf es))
+
+  pub lacked : (b : Bool) → Lacks (take (l .count) (nodesIn ns)) (l .count) (e .from) (e .to) (take count (edgesIn es)) b → b ≡ lacking (take n (nodesIn ns)) (take m (edgesIn es))
+  lacked b k =
+      k .is
+      ∙ ap (λ xs. rowsLack (k .flags) xs 0) (sym (first-of (nodesIn ns) n (l .count) (sym (many-live (take n (nodesIn ns)) _ lv))))
+      ∙ lacking-is (take n (nodesIn ns)) _ lv (take count (edgesIn es)) _ en (k .flags) (k .plugged)
+      ∙ ap (lacking (take n (nodesIn ns))) all-edges
+
+  module _ (r : Ranking) (rk : Ranked r (upto (min (l .count) 512)) (arcs (take count (e .from)) (take count (e .to)))) where
+    by-edges : Ranked r (upto (min (l .count) 512)) (arcs (take (length (take count (edgesIn es))) (e .from)) (take (length (take count (edgesIn es))) (e .to)))
+    by-edges = subst (λ k. Ranked r (upto (min (l .count) 512)) (arcs (take k (e .from)) (take k (e .to)))) (sym many-edges) rk
+
+    pub held : r .whole ≡ whole (liveIds (take n (nodesIn ns))) (map arcOf (take m (edgesIn es)))
+    held = whole-is (take n (nodesIn ns)) _ lv (take count (edgesIn es)) _ en r by-edges ∙ ap (λ xs. whole (liveIds (take n (nodesIn ns))) (map arcOf xs)) all-edges
+
+    pub rows-fit : RowsIn r
+    rows-fit = rows-in (take n (nodesIn ns)) _ lv (take count (edgesIn es)) _ en r by-edges
+
+    pub ordered-as : (new : List ℕ) → length new ≡ 512 → take (r .count) new ≡ map (λ x. getD (l .ids) x 0) (take (r .count) (r .rows)) → Holds (idsIn new) (r .count) (processingOrder (take n (nodesIn ns)) (take m (edgesIn es)))
+    ordered-as new long w =
+        let inside : r .count ≤ length (r .rows) = omega (arith, rows-fit .few, rows-fit .long) in
+        let o = ordered (take n (nodesIn ns)) _ lv (take count (edgesIn es)) _ en r by-edges (written new (r .count)) (named-as new (l .ids) (r .rows) (r .count) long inside w) in
+        subst (λ xs. Holds (idsIn new) (r .count) (processingOrder (take n (nodesIn ns)) xs)) all-edges (holds-order new (r .count) (take n (nodesIn ns)) (take count (edgesIn es)) (rows-fit .few) o)

@@ -1,0 +1,283 @@
+// The processing order and prepare, from graph.rs, on the lent tables: nodes and edges are read where they stand, and the order
+// is written to a table of node ids, once nothing is refused.
+use graph_rows::edge_row::EdgeTable;
+use graph_rows::edge_row::edge_at;
+use graph_rows::node_row::NodeTable;
+use graph_rows::node_row::id_at;
+use graph_rows::node_row::ports_at;
+use graph_rows::node_row::required_at;
+use node::refusal::Refusal;
+use order::Readiness;
+use rank::Ranking;
+use words::table::at_most;
+ghost use mathlib.Core.Path.{_≡_};
+ghost use mathlib.Core.List.{map};
+ghost use Prim.Native.Nat.{ℕ, _≤_, _<_, min};
+ghost use lib.ListN.{length, take, getD};
+ghost use Rattle.rank.specs.Names.{rowOf};
+ghost use Rattle.rank.specs.Order.{upto, arcs};
+ghost use Rattle.rank.specs.Parts.{Ranked};
+ghost use Rattle.order.specs.Parts.{Rising, Plugged, Blank, portsLack, rowsLack};
+ghost use Rattle.graph_rows.specs.Node.{nodesIn};
+ghost use Rattle.graph_rows.specs.Edge.{edgesIn};
+ghost use Rattle.order_table.specs.Prepares.{Prepares, Lives, Meets, Lacks};
+
+// "512 live nodes": a node id for each.
+pub const ORDER_WORDS: usize = 512;
+
+pub type OrderTable = [u32; ORDER_WORDS];
+
+// The answer, and how many ids the order has: none where it is refused.
+pub struct Prepared {
+    pub answer: Readiness,
+    pub count: usize,
+}
+
+// The ids of the live nodes, the first `count`: they rise.
+struct Live {
+    ids: [u32; 512],
+    count: usize,
+}
+
+// The rows of the edges' sources and targets, edge by edge.
+struct Ended {
+    from: [usize; 1024],
+    to: [usize; 1024],
+}
+
+fn wide(x: u32) -> usize
+    ensures { λ r. ⌜ (r ≡ x) × (r < 4294967296) ⌝ }
+{
+    x as usize
+}
+
+// The ids of the rows up to the first that does not rise.
+fn live_ids(nodes: &[u32], count: usize) -> Live
+    requires { ⌜ length (now nodes) ≡ 10752 ⌝ }
+    ensures { λ r. ⌜ Lives r (take count (nodesIn (now (nodes .entry)))) ⌝ }
+{
+    let n = at_most(count, nodes.len() / 21);
+    let mut ids = [0u32; 512];
+    let mut least: usize = 0;
+    let mut i: usize = 0;
+    while i < n {
+        let x = id_at(nodes, i).0;
+        let w = wide(x);
+        if w < least {
+            return Live { ids: ids, count: i };
+        }
+        ids[i] = x;
+        least = w + 1;
+        i += 1;
+    }
+    Live { ids: ids, count: i }
+}
+
+// A row for each remainder of an id: a guess that `row_of` tests before it halves. Ids are counted up, so it is mostly right.
+fn guesses(ids: &[u32], n: usize) -> [usize; 1024]
+    requires { ⌜ n ≤ length (now ids) ⌝ }
+    ensures { λ r. ⌜ length r ≡ 1024 ⌝ }
+{
+    let mut rows = [0usize; 1024];
+    let mut i: usize = 0;
+    while i < n {
+        rows[wide(ids[i]) % 1024] = i;
+        i += 1;
+    }
+    rows
+}
+
+// The row of the id `x` among the first `n`, which rise; `n` where it is none of them. By the guess, or by halving.
+fn row_of(ids: &[u32], n: usize, x: u32, guess: usize) -> usize
+    requires { ⌜ n ≤ 512 ⌝ }
+    requires { ⌜ n ≤ length (now ids) ⌝ }
+    requires { ⌜ Rising (take n (now ids)) ⌝ }
+    ensures { λ r. ⌜ r ≡ rowOf (take n (now (ids .entry))) x ⌝ }
+{
+    if guess < n {
+        if ids[guess] == x {
+            return guess;
+        }
+    }
+    let mut lo: usize = 0;
+    let mut hi = n;
+    while lo < hi {
+        let mid = lo + (hi - lo) / 2;
+        if ids[mid] < x {
+            lo = mid + 1;
+        } else {
+            hi = mid;
+        }
+    }
+    if lo < n {
+        if ids[lo] == x {
+            return lo;
+        }
+    }
+    n
+}
+
+// The rows of the ends of the first `m` edges.
+fn ends(ids: &[u32], n: usize, edges: &[u32], m: usize) -> Ended
+    requires { ⌜ (n ≤ 512) × (n ≤ length (now ids)) × (m ≤ 1024) × (m ≤ length (edgesIn (now edges))) ⌝ }
+    requires { ⌜ Rising (take n (now ids)) ⌝ }
+    ensures { λ r. ⌜ Meets r (take n (now (ids .entry))) (take m (edgesIn (now (edges .entry)))) ⌝ }
+{
+    let rows = guesses(ids, n);
+    let mut from = [0usize; 1024];
+    let mut to = [0usize; 1024];
+    let mut i: usize = 0;
+    while i < m {
+        let e = edge_at(edges, i);
+        from[i] = row_of(ids, n, e.from.0, rows[wide(e.from.0) % 1024]);
+        to[i] = row_of(ids, n, e.to.0, rows[wide(e.to.0) % 1024]);
+        i += 1;
+    }
+    Ended { from: from, to: to }
+}
+
+// The order of the rows, by the ends of the first `m` edges.
+fn rows(n: usize, e: Ended, m: usize) -> Ranking
+    requires { ⌜ m ≤ 1024 ⌝ }
+    requires { ⌜ (length (e .from) ≡ 1024) × (length (e .to) ≡ 1024) ⌝ }
+    ensures { λ r. ⌜ Ranked r (upto (min n 512)) (arcs (take m (e .from)) (take m (e .to))) ⌝ }
+{
+    let from = e.from;
+    let to = e.to;
+    rank::ranked(n, &from[..m], &to[..m])
+}
+
+fn blank() -> [bool; 32768]
+    ensures { λ r. ⌜ Blank r ⌝ }
+{
+    [false; 32768]
+}
+
+// Which ports of the first `n` rows one of the first `m` edges of two live ends feeds: port p of row r at r * 64 + p.
+fn plugged(n: usize, e: Ended, edges: &[u32], m: usize) -> [bool; 32768]
+    requires { ⌜ (n ≤ 512) × (m ≤ 1024) × (m ≤ length (edgesIn (now edges))) ⌝ }
+    requires { ⌜ (length (e .from) ≡ 1024) × (length (e .to) ≡ 1024) ⌝ }
+    ensures { λ r. ⌜ Plugged r n (e .from) (e .to) (take m (edgesIn (now (edges .entry)))) ⌝ }
+{
+    let mut flags = blank();
+    let mut i: usize = 0;
+    while i < m {
+        let f = e.from[i];
+        let t = e.to[i];
+        let p = wide(edge_at(edges, i).port);
+        if f < n {
+            if t < n {
+                if p < 64 {
+                    flags[t * 64 + p] = true;
+                }
+            }
+        }
+        i += 1;
+    }
+    flags
+}
+
+// Whether a port of a row is required and has no flag.
+fn port_lacks(flags: &[bool], row: usize, ports: u32, required: u64) -> bool
+    requires { ⌜ row < 512 ⌝ }
+    requires { ⌜ 32768 ≤ length (now flags) ⌝ }
+    ensures { λ r. ⌜ r ≡ portsLack (now (flags .entry)) row ports required ⌝ }
+{
+    let most = at_most(wide(ports), 64);
+    let mut left = required;
+    let mut p: usize = 0;
+    while p < most {
+        if left % 2 == 1 {
+            if !flags[row * 64 + p] {
+                return true;
+            }
+        }
+        left = left / 2;
+        p += 1;
+    }
+    false
+}
+
+// Whether one of the first `n` nodes lacks a required port.
+fn row_lacks(nodes: &[u32], n: usize, flags: &[bool]) -> bool
+    requires { ⌜ (n ≤ 512) × (n ≤ length (nodesIn (now nodes))) × (32768 ≤ length (now flags)) ⌝ }
+    ensures { λ r. ⌜ r ≡ rowsLack (now (flags .entry)) (take n (nodesIn (now (nodes .entry)))) 0 ⌝ }
+{
+    let mut i: usize = 0;
+    while i < n {
+        if port_lacks(flags, i, ports_at(nodes, i), required_at(nodes, i)) {
+            return true;
+        }
+        i += 1;
+    }
+    false
+}
+
+// Whether a live node lacks a required port.
+fn lacks(nodes: &[u32], n: usize, e: Ended, edges: &[u32], m: usize) -> bool
+    requires { ⌜ (n ≤ 512) × (n ≤ length (nodesIn (now nodes))) × (m ≤ 1024) × (m ≤ length (edgesIn (now edges))) ⌝ }
+    requires { ⌜ (length (e .from) ≡ 1024) × (length (e .to) ≡ 1024) ⌝ }
+    ensures { λ r. ⌜ Lacks (take n (nodesIn (now (nodes .entry)))) n (e .from) (e .to) (take m (edgesIn (now (edges .entry)))) r ⌝ }
+{
+    let flags = plugged(n, e, edges, m);
+    row_lacks(nodes, n, &flags)
+}
+
+// The ids of the first `k` ranked rows, written to the order.
+fn named(ids: &[u32], rows: &[usize], k: usize, order: &mut [u32])
+    requires { ⌜ (length (now ids) ≡ 512) × (length (now order) ≡ 512) × (k ≤ 512) × (k ≤ length (now rows)) ⌝ }
+    requires { ⌜ ((j : ℕ) → j < k → getD (now rows) j 0 < 512) ⌝ }
+    ensures { λ _. ⌜ take k (now (order .exit)) ≡ map (λ x. getD (now (ids .entry)) x 0) (take k (now (rows .entry))) ⌝ }
+{
+    let mut i: usize = 0;
+    while i < k {
+        let row = rows[i];
+        order[i] = ids[row];
+        i += 1;
+    }
+}
+
+// Prepare's two tests and the order: 13 where a required port of a live node is unconnected, else 14 where there is a cycle
+// among live nodes, else the processing order.
+fn prepare_in(nodes: &[u32], n: usize, edges: &[u32], m: usize, order: &mut [u32]) -> Prepared
+    requires { ⌜ (length (now nodes) ≡ 10752) × (length (now edges) ≡ 3072) × (length (now order) ≡ 512) ⌝ }
+    ensures { λ r. ⌜ Prepares (take n (nodesIn (now (nodes .entry)))) (take m (edgesIn (now (edges .entry)))) (now (order .entry)) (now (order .exit)) r ⌝ }
+{
+    let l = live_ids(nodes, n);
+    let ids = l.ids;
+    let k = l.count;
+    let count = at_most(m, edges.len() / 3);
+    let e = ends(&ids, k, edges, count);
+    if lacks(nodes, k, e, edges, count) {
+        return Prepared {
+            answer: Readiness::Refused(Refusal::RequiredPort),
+            count: 0,
+        };
+    }
+    let r = rows(k, e, count);
+    if r.whole {
+        let ranked = r.rows;
+        named(&ids, &ranked, r.count, order);
+        Prepared {
+            answer: Readiness::Ready,
+            count: r.count,
+        }
+    } else {
+        Prepared {
+            answer: Readiness::Refused(Refusal::Cycle),
+            count: 0,
+        }
+    }
+}
+
+pub fn prepare(
+    nodes: &NodeTable,
+    n: usize,
+    edges: &EdgeTable,
+    m: usize,
+    order: &mut OrderTable,
+) -> Prepared
+    ensures { λ r. ⌜ Prepares (take n (nodesIn (now (nodes .entry)))) (take m (edgesIn (now (edges .entry)))) (now (order .entry)) (now (order .exit)) r ⌝ }
+{
+    prepare_in(nodes, n, edges, m, order)
+}
