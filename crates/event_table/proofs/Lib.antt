@@ -1,0 +1,3 @@
+pub mod Records
+pub mod Room
+pub mod Scheduling
