@@ -1,2 +1,3 @@
 pub mod Row
 pub mod Counting
+pub mod Copying
