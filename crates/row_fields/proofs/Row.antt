@@ -64,14 +64,14 @@ drop-sets n k c (x ∷ ws) =
     let e : suc (n + k) ≡ n + suc k = omega arith in
     ap (λ m. drop n (sets (set c (n + k) x) m ws)) e ∙ drop-sets n (suc k) (set c (n + k) x) ws ∙ ap (λ l. sets l (suc k) ws) (drop-set-add n c k x)
 
-take-sets : (n k : ℕ) (c ws : List ℕ) → k + length ws ≤ n → take n (sets c k ws) ≡ sets (take n c) k ws
+pub take-sets : (n k : ℕ) (c ws : List ℕ) → k + length ws ≤ n → take n (sets c k ws) ≡ sets (take n c) k ws
 take-sets n k c [] h = refl
 take-sets n k c (x ∷ ws) h =
     let next : suc k + length ws ≤ n = omega arith in
     let below : k < n = omega arith in
     take-sets n (suc k) (set c k x) ws next ∙ ap (λ l. sets l (suc k) ws) (take-set-lt n c k x below)
 
-sets-out : (ws c : List ℕ) (at k : ℕ) → (k < at) ⊎ (at + length ws ≤ k) → getD (sets c at ws) k 0 ≡ getD c k 0
+pub sets-out : (ws c : List ℕ) (at k : ℕ) → (k < at) ⊎ (at + length ws ≤ k) → getD (sets c at ws) k 0 ≡ getD c k 0
 sets-out [] c at k h = refl
 sets-out (x ∷ ws) c at k (inl h) = sets-out ws (set c at x) (suc at) k (inl (omega arith)) ∙ getD-set-other c at k x 0 (λ q. omega arith)
 sets-out (x ∷ ws) c at k (inr h) = sets-out ws (set c at x) (suc at) k (inr (omega arith)) ∙ getD-set-other c at k x 0 (λ q. omega arith)

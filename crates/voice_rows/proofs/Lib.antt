@@ -1,0 +1,5 @@
+pub mod Filling
+pub mod Records
+pub mod Words
+pub mod Reading
+pub mod Earliest

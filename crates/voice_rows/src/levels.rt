@@ -1,0 +1,120 @@
+// Who counts for a new voice on a bus, and with which level.
+use crate::row::VoiceTable;
+use crate::row::birth_at;
+use crate::row::bus_at;
+use crate::row::id_at;
+use crate::row::output_at;
+use crate::row::state_at;
+use node::record::NodeId;
+use store::voices::VoiceState;
+use voice::policy::BudgetScope;
+use voice::policy::Candidate;
+use voice::policy::Candidates;
+use voice::policy::Level;
+use voice::policy::counts_for;
+use voice::policy::no_candidates;
+use words::fields::float_at;
+use words::table::at_most;
+ghost use mathlib.Core.Path.{_≡_};
+ghost use mathlib.Core.List.{[]};
+ghost use lib.ListN.{length, take, getD};
+ghost use Rattle.voice.specs.Policy.{candidatesOf};
+ghost use Rattle.graph.specs.Node.{nodeAt};
+ghost use Rattle.model.specs.Voice.{isTracked, counted, nodeLevel};
+ghost use Rattle.voice_table.specs.Levels.{levelAt, candidateAt, candidatesAt};
+ghost use Rattle.graph_rows.specs.Node.{nodesIn};
+ghost use Rattle.voice_rows.specs.Rows.{voiceOf, voicesIn};
+
+// The level of the node `id` among the first `n` nodes; none if it does not live.
+fn node_level(nodes: &[u32], n: usize, id: NodeId) -> Level
+    ensures { λ r. ⌜ r ≡ nodeLevel (nodeAt (take n (nodesIn (now (nodes .entry)))) id) ⌝ }
+{
+    let m = at_most(n, nodes.len() / 21);
+    let mut i: usize = 0;
+    while i < m {
+        if graph_rows::node_row::id_at(nodes, i).0 == id.0 {
+            return Level::Known(float_at(nodes, 21, i, 14));
+        }
+        i += 1;
+    }
+    Level::Unknown
+}
+
+// The level of the voice in row `i`: none until the clock passes its birth, and none where its output does not live.
+pub fn level_at(t: &[u32], i: usize, nodes: &[u32], n: usize, clock: u64) -> Level
+    ensures { λ r. ⌜ r ≡ levelAt (take n (nodesIn (now (nodes .entry)))) clock (getD (voicesIn (now (t .entry))) i (voiceOf [])) ⌝ }
+{
+    if birth_at(t, i) < clock {
+        let output = output_at(t, i);
+        return node_level(nodes, n, output);
+    }
+    Level::Unknown
+}
+
+// Whether the voice in row `i` is tracked and counts for a new voice on `bus`.
+pub fn is_counted(t: &[u32], i: usize, scope: BudgetScope, bus: NodeId) -> bool
+    ensures { λ r. ⌜ r ≡ counted scope bus (getD (voicesIn (now (t .entry))) i (voiceOf [])) ⌝ }
+{
+    let s = state_at(t, i);
+    match s {
+        VoiceState::Tracked => {
+            let theirs = bus_at(t, i);
+            counts_for(scope, theirs, bus)
+        }
+        VoiceState::Fading(_) => false,
+        VoiceState::Loose => false,
+    }
+}
+
+// The voice in row `i` as one that may have to go, with its level.
+fn candidate_at(t: &[u32], i: usize, nodes: &[u32], n: usize, clock: u64) -> Candidate
+    ensures { λ r. ⌜ r ≡ candidateAt (take n (nodesIn (now (nodes .entry)))) clock (getD (voicesIn (now (t .entry))) i (voiceOf [])) ⌝ }
+{
+    let voice = id_at(t, i);
+    let level = level_at(t, i, nodes, n, clock);
+    Candidate { voice, level }
+}
+
+fn candidates_in(
+    t: &[u32],
+    count: usize,
+    nodes: &[u32],
+    n: usize,
+    clock: u64,
+    scope: BudgetScope,
+    bus: NodeId,
+) -> Candidates
+    requires { ⌜ length (now t) ≡ 9088 ⌝ }
+    ensures { λ r. ⌜ candidatesOf r ≡ candidatesAt (take n (nodesIn (now (nodes .entry)))) clock (counted scope bus) (take count (voicesIn (now (t .entry)))) ⌝ }
+{
+    let m = at_most(count, 64);
+    let mut out = no_candidates();
+    let mut kept: usize = 0;
+    let mut i: usize = 0;
+    while i < m {
+        if is_counted(t, i, scope, bus) {
+            out.rows[kept] = candidate_at(t, i, nodes, n, clock);
+            kept += 1;
+            i += 1;
+        } else {
+            i += 1;
+        }
+    }
+    out.count = kept;
+    out
+}
+
+// The tracked voices that count for a new voice on `bus`, in order of admission, each with its level.
+pub fn candidates(
+    t: &VoiceTable,
+    count: usize,
+    nodes: &[u32],
+    n: usize,
+    clock: u64,
+    scope: BudgetScope,
+    bus: NodeId,
+) -> Candidates
+    ensures { λ r. ⌜ candidatesOf r ≡ candidatesAt (take n (nodesIn (now (nodes .entry)))) clock (counted scope bus) (take count (voicesIn (now (t .entry)))) ⌝ }
+{
+    candidates_in(t, count, nodes, n, clock, scope, bus)
+}
