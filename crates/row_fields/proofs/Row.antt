@@ -12,7 +12,7 @@ use borrow.Author.Tests.{ltb-true, ltb-false, lt-ltb, le-ltb, le-leb, lt-leb}
 use Rattle.words.specs.Fields.{longFrom}
 use Rattle.words.specs.Rows.{rowAt, rows}
 use Rattle.words.proofs.Rows.{rows-long, rows-at, rows-kept, rows-change}
-use Rattle.row_fields.specs.Row.{fieldsPut, Holds}
+use Rattle.row_fields.specs.Row.{fieldsPut, RowsAre}
 
 -- ---- the three tests before a store
 module _ (w i k : ℕ) (ws c : List ℕ) where
@@ -99,8 +99,8 @@ module _ {A : Type 0} (w : ℕ) (of : List ℕ → A) (c ws : List ℕ) (i k : �
 -- ---- counts
 
 -- the first r rows, where there are as many, are r
-pub holds : {A : Type 0} (w : ℕ) (of : List ℕ → A) (c : List ℕ) (r : ℕ) (l : List A) → r ≤ length c / w → take r (rows w of c) ≡ l → Holds l r (rows w of c)
-holds w of c r l h e =
+pub rows-are : {A : Type 0} (w : ℕ) (of : List ℕ → A) (c : List ℕ) (r : ℕ) (l : List A) → r ≤ length c / w → take r (rows w of c) ≡ l → RowsAre l r (rows w of c)
+rows-are w of c r l h e =
     let long : r ≤ length (rows w of c) = omega (arith, rows-long w of c) in
     record { is = e; count = sym (length-take-le r (rows w of c) long) ∙ ap length e }
 

@@ -12,6 +12,6 @@ unfoldable pub fieldsPut : ℕ → ℕ → ℕ → List ℕ → List ℕ → Lis
 fieldsPut w i k ws c = cond (ltb k w && leb (length ws) (w - k) && ltb i (length c / w)) (sets c (i * w + k) ws) c
 
 -- A table whose first r rows are these, and no others: r is what a host sees as the table's count.
-pub record Holds {A : Type 0} (l : List A) (r : ℕ) (rows : List A) : Type 0 where
+pub record RowsAre {A : Type 0} (l : List A) (r : ℕ) (rows : List A) : Type 0 where
   pub is : take r rows ≡ l
   pub count : r ≡ length l
