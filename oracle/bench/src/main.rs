@@ -14,7 +14,7 @@ const BLOCK: f64 = 128.0 / 48_000.0 * 1e6;
 type Pair = (&'static str, u32, store::Scene, fn(u32) -> (u32, Duration));
 
 const COMPARED: [Pair; 4] = [
-    ("an edge put anew and prepare, 512 nodes and 1,024 edges", 10_000, store::piecrag_prepare, rust::prepare),
+    ("prepare, an edge put anew before it, 512 nodes, 1,024 edges", 10_000, store::piecrag_prepare, rust::prepare),
     ("spawn, prepare, render and clearing, budget 32", 1_000, store::piecrag_notes, rust::notes),
     ("port search, 1 port, 1,024 edges", 10_000, store::piecrag_ports_1, |rounds| rust::ports(1, rounds)),
     ("port search, 64 ports, 1,024 edges", 10_000, store::piecrag_ports_64, |rounds| rust::ports(64, rounds)),

@@ -1,5 +1,7 @@
 //! The beginnings of crowded scenes: tables that are full, and stores at the brink of a spawn's headroom.
 
+use std::ops::Range;
+
 use replay::script::{Call, Definition};
 use scripted::limits;
 
@@ -66,6 +68,19 @@ impl Writer {
         }
     }
 
+    /// Connects nodes that stand `step` apart in the list, from each of these places, to this port.
+    fn connect_apart(&mut self, nodes: &[u32], places: Range<usize>, step: usize, port: u32) {
+        for from in places {
+            self.put(Call::Connect { from: nodes[from], to: nodes[from + step], port });
+        }
+    }
+
+    /// Prepares, and reads the processing order.
+    fn order_anew(&mut self) {
+        self.put(Call::Prepare {});
+        self.put(Call::Order {});
+    }
+
     /// Spawns, and calls that need a place, where there may be none.
     fn push(&mut self, bus: u32) {
         self.spawn_on(LARGEST, bus, true);
@@ -92,6 +107,26 @@ pub fn full_graph(writer: &mut Writer) {
     writer.push(bus);
     writer.sound();
     writer.state();
+}
+
+/// The big console: 512 nodes of 8 ports in one chain; then with a second edge between its last two nodes, the last of the
+/// table; then with all 1,024 edges, without a cycle. Each time an edge is put anew before the prepare.
+pub fn big_console(writer: &mut Writer) {
+    make(writer, Config { rate: 48_000.0, block: 128, budget: Some(64), policy: 1, per_group: false });
+    let nodes: Vec<u32> = (0..limits::NODES).filter_map(|_| writer.add_node(b"Host", 8, 0)).collect();
+    let last = nodes.len() - 1;
+    writer.put(Call::SetSink { node: nodes[0] });
+    writer.connect_apart(&nodes, 0..last, 1, 0);
+    writer.connect_apart(&nodes, last / 2..last / 2 + 1, 1, 0);
+    writer.order_anew();
+    for port in [1, 1] {
+        writer.connect_apart(&nodes, last - 1..last, 1, port);
+    }
+    writer.order_anew();
+    writer.connect_apart(&nodes, 0..last - 1, 2, 2);
+    writer.connect_apart(&nodes, 0..2, 3, 3);
+    writer.connect_apart(&nodes, 100..101, 1, 0);
+    writer.order_anew();
 }
 
 /// One node more than leaves the headroom of a definition, and then as many as leave it.

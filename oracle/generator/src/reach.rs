@@ -8,6 +8,7 @@ use std::collections::BTreeMap;
 use std::fmt;
 
 use microsynth::engine::Engine;
+use microsynth::graph::Edge;
 use microsynth::node::NodeId;
 use microsynth::scheduler::EventAction;
 use replay::script::Call;
@@ -107,6 +108,7 @@ impl Reach {
             Call::Report { done, samples, .. } => self.note_report(seen, *done, &samples.0),
             Call::ReportRepeated { done, samples, .. } => self.note_report(seen, *done, &[samples.sample]),
             Call::Level { voice } => self.note_level(seen, *voice),
+            Call::Order {} => self.note_order(seen),
             Call::Page { length } => self.note_page(seen, length.0),
             _ => {}
         }
@@ -210,6 +212,21 @@ impl Reach {
                 self.hit(if unprepared { "silent: unprepared" } else { "silent: no sink" });
             }
         }
+    }
+
+    /// The order of a prepared graph with all the nodes that it may have.
+    fn note_order(&mut self, seen: &Seen) {
+        if !seen.before.prepared || seen.before.nodes != limits::NODES {
+            return;
+        }
+        let edges = seen.engine.graph().all_edges();
+        let is_link = |edge: &Edge| edge.to.index() == edge.from.index() + 1;
+        let twice = |pair: &[Edge]| pair[0].from == pair[1].from && pair[0].to == pair[1].to;
+        self.hit_if("512 nodes and 1,024 edges: order read", edges.len() == limits::EDGES);
+        let is_chain = edges.len() + 1 == limits::NODES && edges.iter().all(is_link);
+        self.hit_if("512 nodes in one chain: order read", is_chain);
+        let doubled = edges.windows(2).last().is_some_and(twice);
+        self.hit_if("512 nodes, the last two edges between the same nodes: order read", doubled);
     }
 
     fn note_report(&mut self, seen: &Seen, done: u8, samples: &[f32]) {

@@ -4,7 +4,7 @@ use replay::script::Call;
 use seeded::rng::Rng;
 
 use crate::aims::refused_making;
-use crate::crowds::{edges_brink, full_graph, many_events, many_voices, nodes_brink};
+use crate::crowds::{big_console, edges_brink, full_graph, many_events, many_voices, nodes_brink};
 use crate::moves::Move::{self, *};
 use crate::script::Script;
 use crate::values::{self, Config};
@@ -114,7 +114,7 @@ const CROSSING: Weights = &[(Spawn, 10), (Sound, 10), (Read, 2)];
 
 const FADING: Weights = &[(Spawn, 6), (Sound, 12), (Clear, 12), (Read, 6), (Render, 1)];
 
-pub const SCENES: [Scene; 16] = [
+pub const SCENES: [Scene; 17] = [
     Scene { begin: mixed, weights: MIXED, likely: 20 },
     Scene { begin: stealing, weights: STEALING, likely: 12 },
     Scene { begin: listening, weights: LISTENING, likely: 8 },
@@ -127,6 +127,7 @@ pub const SCENES: [Scene; 16] = [
     Scene { begin: last_samples, weights: MIXED, likely: 3 },
     Scene { begin: last_voices, weights: STEALING, likely: 3 },
     Scene { begin: full_graph, weights: MIXED, likely: 2 },
+    Scene { begin: big_console, weights: WIRING, likely: 1 },
     Scene { begin: nodes_brink, weights: MIXED, likely: 2 },
     Scene { begin: edges_brink, weights: MIXED, likely: 2 },
     Scene { begin: many_voices, weights: STEALING, likely: 2 },
@@ -167,6 +168,13 @@ pub fn short(seed: u64, number: usize) -> Script {
     let mut writer = Writer::new(Rng::new(seed, &format!("scene {number}")));
     keep_small(&mut writer);
     SCENES[number % SCENES.len()].play(&mut writer, FEWEST);
+    writer.finish()
+}
+
+/// The big console by itself, the same for every seed: it always stands in the recorded script.
+pub fn console() -> Script {
+    let mut writer = Writer::new(Rng::new(0, "big console"));
+    big_console(&mut writer);
     writer.finish()
 }
 

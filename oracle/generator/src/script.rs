@@ -26,13 +26,13 @@ impl Script {
 
 /// How many short scenes the sample is chosen from, and how long it may become with its transcript.
 const CANDIDATES: usize = 1600;
-const SAMPLE_SIZE: usize = 390_000;
+const SAMPLE_SIZE: usize = 440_000;
 
-/// The script that is recorded: one after the other the scene that adds the most for its length to what is reached,
-/// until each row is reached once, then until it is twice, and so on.
+/// The script that is recorded: the big console, then one after the other the scene that adds the most for its length to
+/// what is reached, until each row is reached once, then until it is twice, and so on.
 pub fn sample(seed: u64) -> Script {
     let mut candidates: Vec<Script> = (0..CANDIDATES).map(|number| scenes::short(seed, number)).collect();
-    let mut sample = Script::default();
+    let mut sample = scenes::console();
     for wanted in [1, 2, 4, 8, 16] {
         loop {
             let fits = |n: &usize| sample.size() + candidates[*n].size() <= SAMPLE_SIZE;
