@@ -119,7 +119,7 @@ pub fn big_console(writer: &mut Writer) {
     writer.connect_apart(&nodes, 0..last, 1, 0);
     writer.connect_apart(&nodes, last / 2..last / 2 + 1, 1, 0);
     writer.order_anew();
-    for port in [1, 1] {
+    for port in [0, 1] {
         writer.connect_apart(&nodes, last - 1..last, 1, port);
     }
     writer.order_anew();
