@@ -1,0 +1,6 @@
+pub mod Held
+pub mod Walk
+pub mod Runs
+pub mod Restores
+pub mod Clean
+pub mod Theorem

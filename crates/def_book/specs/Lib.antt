@@ -1,0 +1,7 @@
+pub mod Held
+pub mod Bytes
+pub mod Rows
+pub mod Read
+pub mod Write
+pub mod WellFormed
+pub mod Examples

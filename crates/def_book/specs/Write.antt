@@ -1,0 +1,33 @@
+-- Writing a book: "A writer puts nodes, edges, parameters and answers the length; later bytes stay." "A definition beyond 01's limits keeps
+-- refusal 9, .. before 19"; "19 writer's buffer too short". On a refusal every byte stays.
+use Prim.Native.Nat.{ℕ}
+use mathlib.Core.List.{List, _++_}
+use mathlib.Core.Bool.{cond}
+use lib.Dec.{leb}
+use lib.ListN.{length, drop}
+use Rattle.synthdef.specs.Limits.{allowed}
+use Rattle.synthdef.specs.declared.def.SynthDef.{SynthDef}
+use Rattle.def_book.specs.Bytes.{bookOf}
+use Rattle.def_book.specs.declared.answer.WriteAnswer.{WriteAnswer}
+use Rattle.def_book.specs.declared.answer.WriteAnswer.the-variants as answer
+
+-- what writing answers: the length, or the number of the refusal
+pub data Wrote : Type 0 where
+  length-of : ℕ → Wrote
+  refused : ℕ → Wrote
+
+abbrev pub wroteOf : WriteAnswer → Wrote
+wroteOf (answer.Length n) = length-of n
+wroteOf answer.Limits = refused 9
+wroteOf answer.ShortBuffer = refused 19
+
+-- a text at the start of a lent buffer: the bytes after it stay
+abbrev pub written : List ℕ → List ℕ → List ℕ
+written text out = text ++ drop (length text) out
+
+-- "refusal 9, .. before 19"
+unfoldable pub writeAnswer : SynthDef → List ℕ → Wrote
+writeAnswer d out = cond (allowed d) (cond (leb (length (bookOf d)) (length out)) (length-of (length (bookOf d))) (refused 19)) (refused 9)
+
+unfoldable pub writeBook : SynthDef → List ℕ → List ℕ
+writeBook d out = cond (allowed d) (cond (leb (length (bookOf d)) (length out)) (written (bookOf d) out) out) out
