@@ -3,4 +3,7 @@ pub mod Walk
 pub mod Runs
 pub mod Restores
 pub mod Clean
+pub mod Fields
+pub mod Gather
+pub mod Reading
 pub mod Theorem

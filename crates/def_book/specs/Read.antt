@@ -71,7 +71,7 @@ abbrev pub defOf : ℕ → List Row → SynthDef
 defOf output rs = tables (nodesOf rs) (edgesOf rs) (paramsOf rs) output
 
 abbrev pub blankDef : SynthDef
-blankDef = defOf 0 []
+blankDef = tables [] [] [] 0
 
 -- ---- the book
 -- "9, after 18"

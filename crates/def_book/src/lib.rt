@@ -1,2 +1,5 @@
 // A book: one definition as bytes, so that a builder's data memory can hold it. A reader, a writer, and what each answers.
 pub mod answer;
+mod field;
+pub mod read;
+mod rows;

@@ -1,0 +1,45 @@
+use Prim.Native.Nat.{ℕ, zero, suc, _+_, _*_, _≤_, _<_, _-_, min}
+use mathlib.Core.Path.{_≡_, refl, sym, ap, _∙_}
+use mathlib.Core.List.{List, [], _∷_, _++_}
+use mathlib.Core.Bool.{Bool, true, false}
+use native.Mathlib.Omega.{arith}
+use lib.ListN.{length, take, drop, getD, set}
+use borrow.Author.Needs.{needs}
+use lib.ListN.{length-map}
+use lib.Seq.{set-out}
+use Rattle.def_book.proofs.rows.more_edges.Statement.{statement}
+use Rattle.def_book.proofs.rows.more_edges.Tie as tie
+use Rattle.def_book.proofs.rows.more_edges.Reads as reads
+use Rattle.def_book.proofs.rows.more_edges.Lts as lts
+
+-- src/rows.rt:108:9
+mul-rows : tie.Need-mul-rows
+mul-rows c = search needs
+
+-- src/rows.rt:108:9
+array-set-from-rows : tie.Need-array-set-from-rows
+array-set-from-rows c = search needs
+
+-- src/rows.rt:111:20
+add-t6 : tie.Need-add-t6
+add-t6 c = search needs
+
+-- src/rows.rt:109:9
+returns : tie.Need-returns
+returns c = search needs
+
+-- src/rows.rt:116:16
+add-t11 : tie.Need-add-t11
+add-t11 c = search needs
+
+-- src/rows.rt:101:1
+returns-2 : tie.Need-returns-2
+returns-2 c =
+    let a = c .before .before in
+    let long : length (a .args .t .rows) ≡ 48 = simp length-map at (a .good .0 .1 .1 .0 .1 .0 .1) in
+    let past : length (a .args .t .rows) ≤ a .args .t .count = omega (arith, c .if1 .left) in
+    rw (set-out (a .args .t .rows) (a .args .t .count) (a .args .e) past)
+
+pub more-edges-spec : {M : Type 1} → statement M
+more-edges-spec =
+    tie.close (tie.spec mul-rows array-set-from-rows add-t6 returns add-t11 returns-2)
