@@ -1,18 +1,17 @@
 -- What a book keeps of a definition is within the limits where the definition is, and what was read from a book is kept whole.
-use Prim.Native.Nat.{ℕ, _≤_, _<_, min}
+use Prim.Native.Nat.{ℕ, _≤_, _<_}
 use native.Mathlib.Omega.{arith}
-use mathlib.Core.Path.{_≡_, refl, sym, ap, _∙_}
-use mathlib.Core.Logic.{inl, inr}
+use mathlib.Core.Path.{_≡_, refl, ap, _∙_}
 use mathlib.Core.List.{List, [], _∷_, map}
 use mathlib.Core.Bool.{Bool, true, _&&_}
 use lib.Dec.{leb, ltb}
-use lib.ListN.{length, take, drop, length-map, length-take}
+use lib.ListN.{length, length-map, length-take}
 use borrow.Author.Tests.{le-leb, leb-true, ltb-true}
 use Rattle.lists.specs.Member.{and-left, and-right, both}
 use Rattle.lists.specs.Table.{rowsOf}
 use Rattle.synthdef.specs.Rows.{every}
 use Rattle.synthdef.specs.Tables.{nodeRows, edgeRows, paramRows, noEdge}
-use Rattle.synthdef.specs.Limits.{nodeAllowed, portsAt, edgeAllowed, paramAllowed, countsAllowed, ordered, allowed}
+use Rattle.synthdef.specs.Limits.{nodeAllowed, edgeAllowed, paramAllowed, countsAllowed, ordered, allowed}
 use Rattle.synthdef.specs.declared.def.DefNode.{DefNode}
 use Rattle.synthdef.specs.declared.def.DefEdge.{DefEdge}
 use Rattle.synthdef.specs.declared.def.Param.{Param}

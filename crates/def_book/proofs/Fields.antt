@@ -1,8 +1,8 @@
 -- Laws for the functions that look at one record.
 use Prim.Native.Nat.{ℕ, _+_, _-_, _≤_, _<_}
 use native.Mathlib.Omega.{arith}
-use mathlib.Core.Path.{_≡_, refl, sym, ap, _∙_}
-use mathlib.Core.List.{List, _∷_, _++_, append-nil}
+use mathlib.Core.Path.{_≡_, sym, ap, _∙_}
+use mathlib.Core.List.{List, _++_, append-nil}
 use mathlib.Core.Bool.{Bool, true, false, not, _&&_}
 use lib.Dec.{leb, eqb}
 use lib.ListN.{length, take, drop, getD, set, replicate, drop-of-length-le}

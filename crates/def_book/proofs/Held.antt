@@ -1,11 +1,10 @@
 -- Laws of what an array holds of a list, for any row type and room.
-use Prim.Native.Nat.{ℕ, zero, suc, _≤_, _<_, min}
+use Prim.Native.Nat.{ℕ, zero, suc, _≤_, _<_}
 use native.Mathlib.Nat.{min-eq-left}
 use native.Mathlib.Omega.{arith}
 use mathlib.Core.Path.{_≡_, refl, sym, ap, _∙_}
 use mathlib.Core.List.{List, [], _∷_, _++_}
-use mathlib.Core.Bool.{true, _&&_}
-use lib.Dec.{eqb}
+use mathlib.Core.Bool.{true}
 use lib.ListN.{length, take, drop, getD, set, replicate}
 use lib.Seq.{take-nil, drop-nil}
 use borrow.Author.Tests.{eqb-true}

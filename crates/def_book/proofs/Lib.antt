@@ -6,4 +6,6 @@ pub mod Clean
 pub mod Fields
 pub mod Gather
 pub mod Reading
+pub mod Puts
+pub mod Writing
 pub mod Theorem

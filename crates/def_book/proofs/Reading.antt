@@ -1,7 +1,6 @@
 -- The reader's tests, one after the other, and what the reader answers then.
-use Prim.Native.Nat.{ℕ, _+_, _-_, _≤_}
-use native.Mathlib.Omega.{arith}
-use mathlib.Core.Path.{_≡_, refl, sym, ap, _∙_}
+use Prim.Native.Nat.{ℕ, _+_}
+use mathlib.Core.Path.{_≡_, sym, ap, _∙_}
 use mathlib.Core.List.{List}
 use mathlib.Core.Bool.{Bool, true, false, cond}
 use lib.Dec.{eqb}
@@ -13,7 +12,7 @@ use Rattle.def_book.specs.Bytes.{Row}
 use Rattle.def_book.specs.Body.{bodyOf}
 use Rattle.def_book.specs.declared.rows.Body.{Body}
 use Rattle.def_book.specs.Rows.{isHeading, rows, size, nodesOf}
-use Rattle.def_book.specs.Read.{Read, gives, malformed, limits, defOf, blankDef, within, readRows, readBook, readOf, defIn}
+use Rattle.def_book.specs.Read.{Read, gives, malformed, limits, defOf, blankDef, readRows, readBook, readOf, defIn}
 use Rattle.def_book.specs.declared.answer.ReadAnswer.{ReadAnswer}
 use Rattle.def_book.specs.declared.answer.ReadAnswer.the-variants as answer
 

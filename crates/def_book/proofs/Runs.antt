@@ -1,28 +1,28 @@
 -- The reader's tests and the plain statements on runs of bytes say the same: a test on bytes that go on behind a record, and the statement
 -- on the record alone.
-use Prim.Native.Nat.{ℕ, zero, suc, _+_, _*_, _-_, _≤_, _<_}
+use Prim.Native.Nat.{ℕ, zero, suc, _+_, _-_, _≤_, _<_}
 use native.Mathlib.Omega.{arith}
 use mathlib.Core.Path.{_≡_, refl, sym, ap, _∙_}
-use mathlib.Core.Logic.{_⊎_, inl, inr, ⊎-elim}
+use mathlib.Core.Logic.{inl, inr, ⊎-elim}
 use mathlib.Core.List.{List, [], _∷_, _++_}
 use mathlib.Core.Option.{Option, none, some}
-use mathlib.Core.Bool.{Bool, true, false, _&&_, false≢true}
+use mathlib.Core.Bool.{true, false, _&&_}
 use lib.Dec.{leb, eqb}
 use lib.ListN.{length, take, drop, getD, length-append, length-drop, take-append-drop, List·getD-append}
 use lib.Seq.{getD-take, getD-drop, length-take-le, drop-at}
-use borrow.Author.Tests.{le-leb, leb-true, eq-eqb, ne-eqb, eqb-true}
+use borrow.Author.Tests.{le-leb, leb-true, eq-eqb, eqb-true}
 use Rattle.lists.specs.Member.{In, and-left, and-right, both, some-inj, none-some}
 use Rattle.lists.specs.Find.{isSome}
 use Rattle.lists.specs.Count.{count, more as counted}
-use Rattle.node.specs.Name.{nameLength, named}
+use Rattle.node.specs.Name.{named}
 use Rattle.node.specs.NameLaws.{name-long}
 use Rattle.synthdef.specs.Rows.{every}
 use Rattle.def_book.specs.Held.{held}
 use Rattle.def_book.specs.Bytes.{Row, node, edge, param, long, joined}
-use Rattle.def_book.specs.Rows.{pairAt, isRecord, isZero, nameAt, nameFits, isNode, isEdge, isParam, nodeAt, edgeAt, paramAt, rowAt, rows, size, more, gather, asNode, nodesOf}
-use Rattle.def_book.specs.WellFormed.{IsRecord, IsName, IsNode, IsParam, IsRow, ofNode}
+use Rattle.def_book.specs.Rows.{pairAt, isRecord, isZero, nameAt, nameFits, isNode, nodeAt, edgeAt, paramAt, rowAt, rows, size, more, gather, asNode, nodesOf}
+use Rattle.def_book.specs.WellFormed.{IsRecord, IsName, IsRow, ofNode}
 use Rattle.def_book.proofs.Held.{length-held, getD-held}
-use Rattle.def_book.proofs.Walk.{Front, a-node, an-edge, a-param, no-row, front, as-node, as-edge, as-param, record-fits, row-fits, rows-nil, rows-none, rows-some}
+use Rattle.def_book.proofs.Walk.{Front, a-node, an-edge, a-param, no-row, front, as-node, as-edge, as-param, record-fits, rows-nil, rows-none, rows-some}
 
 -- ---- a record
 module _ (kind n : ℕ) (s : List ℕ) where

@@ -6,14 +6,13 @@ use native.Mathlib.Omega.{arith}
 use mathlib.Core.Path.{_≡_, refl, sym, ap, _∙_}
 use mathlib.Core.Logic.{_↔_}
 use mathlib.Core.List.{List, [], _∷_, _++_, map, append-nil}
-use mathlib.Core.Option.{none, some}
-use mathlib.Core.Bool.{Bool, true, false, _&&_, cond}
-use lib.Dec.{leb, eqb}
+use mathlib.Core.Bool.{Bool, true, false, cond}
+use lib.Dec.{eqb}
 use lib.ListN.{length, take, drop, getD, length-map, take-append-drop, List·getD-append}
 use lib.Seq.{getD-take, drop-at}
 use borrow.Author.Tests.{le-leb, eq-eqb, eqb-true}
 use Rattle.lists.specs.Member.{and-left, and-right, both, map-append}
-use Rattle.node.specs.Name.{named, text}
+use Rattle.node.specs.Name.{named}
 use Rattle.synthdef.specs.Rows.{every}
 use Rattle.synthdef.specs.Tables.{nodeRows, edgeRows, paramRows, noEdge}
 use Rattle.synthdef.specs.Limits.{nodeAllowed, paramAllowed, countsAllowed, allowed}

@@ -2,10 +2,10 @@
 -- one byte each. Kinds: 1 heading (node count, output node), 2 node (kind name, ports, required ports with bit p for port p, sorts
 -- taken as 1 for values plus 2 for glides, ports `in`, `level`, `amp` or 255), 3 edge (source, target, port), 4 parameter (name,
 -- node). A name is its length, then 16 bytes, unused ones zero."
-use Prim.Native.Nat.{ℕ, _+_, _/_, _%_}
+use Prim.Native.Nat.{ℕ, _/_, _%_}
 use mathlib.Core.List.{List, [], _∷_, _++_, map}
 use mathlib.Core.Bool.{Bool, true, false}
-use lib.ListN.{length, take}
+use lib.ListN.{length}
 use Rattle.node.specs.Name.{text}
 use Rattle.node.specs.declared.name.Name.{Name}
 use Rattle.synthdef.specs.Tables.{nodeRows, edgeRows, paramRows}

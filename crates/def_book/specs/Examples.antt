@@ -2,15 +2,12 @@
 use Prim.Native.Nat.{ℕ}
 use mathlib.Core.Path.{_≡_, refl}
 use mathlib.Core.List.{List, [], _∷_, _++_, map}
-use mathlib.Core.Bool.{true, false}
-use lib.ListN.{length, take, replicate}
+use lib.ListN.{take, replicate}
 use Rattle.rank.specs.Order.{among, fed, released, walk, order, whole, count-up}
-use Rattle.synthdef.specs.declared.def.SynthDef.{SynthDef}
 use Rattle.def_book.specs.Held.{held}
-use Rattle.def_book.specs.Bytes.{Row, joined, bookOf}
+use Rattle.def_book.specs.Bytes.{joined}
 use Rattle.def_book.specs.Rows.{rowAt, rowsAfter, size, gather}
-use Rattle.def_book.specs.Read.{Read, gives, malformed, limits, readRows, readBook, defIn, canonical}
-use Rattle.def_book.specs.Write.{length-of, refused, writeAnswer, writeBook}
+use Rattle.def_book.specs.Read.{Read, gives, malformed, limits, readRows, readBook}
 
 unfoldable pub heading : ℕ → ℕ → List ℕ
 heading count output = 6 ∷ 0 ∷ 1 ∷ 0 ∷ count ∷ output ∷ []

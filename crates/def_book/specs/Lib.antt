@@ -4,5 +4,6 @@ pub mod Rows
 pub mod Read
 pub mod Body
 pub mod Write
+pub mod Put
 pub mod WellFormed
 pub mod Examples

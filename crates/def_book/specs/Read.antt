@@ -2,7 +2,7 @@
 -- malformed. "A definition beyond 01's limits keeps refusal 9, after 18".
 use Prim.Native.Nat.{ℕ, _+_}
 use mathlib.Core.List.{List, [], map}
-use mathlib.Core.Bool.{Bool, false, cond}
+use mathlib.Core.Bool.{false, cond}
 use lib.Dec.{eqb}
 use lib.ListN.{length, drop, getD, replicate}
 use Rattle.node.specs.Name.{text}

@@ -1,6 +1,6 @@
 -- Writing a book: "A writer puts nodes, edges, parameters and answers the length; later bytes stay." "A definition beyond 01's limits keeps
 -- refusal 9, .. before 19"; "19 writer's buffer too short". On a refusal every byte stays.
-use Prim.Native.Nat.{ℕ}
+use Prim.Native.Nat.{ℕ, _+_, _*_, min}
 use mathlib.Core.List.{List, _++_}
 use mathlib.Core.Bool.{cond}
 use lib.Dec.{leb}
@@ -16,6 +16,12 @@ pub data Wrote : Type 0 where
   length-of : ℕ → Wrote
   refused : ℕ → Wrote
 
+-- 0 is no refusal
+abbrev pub wroteNumber : Wrote → ℕ
+wroteNumber (length-of n) = 0
+wroteNumber (refused n) = n
+
+-- "9", and "19 writer's buffer too short"
 abbrev pub wroteOf : WriteAnswer → Wrote
 wroteOf (answer.Length n) = length-of n
 wroteOf answer.Limits = refused 9
@@ -24,6 +30,10 @@ wroteOf answer.ShortBuffer = refused 19
 -- a text at the start of a lent buffer: the bytes after it stay
 abbrev pub written : List ℕ → List ℕ → List ℕ
 written text out = text ++ drop (length text) out
+
+-- the length of a book: a heading, and the records of each sort
+abbrev pub bookLength : ℕ → ℕ → ℕ → ℕ
+bookLength nodes edges params = 6 + 27 * min nodes 24 + 7 * min edges 48 + 22 * min params 8
 
 -- "refusal 9, .. before 19"
 unfoldable pub writeAnswer : SynthDef → List ℕ → Wrote

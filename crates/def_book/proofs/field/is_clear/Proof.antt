@@ -1,18 +1,13 @@
-use Prim.Native.Nat.{ℕ, zero, suc, _+_, _*_, _≤_, _<_, _-_, min}
-use mathlib.Core.Path.{_≡_, refl, sym, ap, _∙_}
-use mathlib.Core.List.{List, [], _∷_, _++_}
-use mathlib.Core.Bool.{Bool, true, false}
+use Prim.Native.Nat.{_≤_, _<_, _-_}
 use native.Mathlib.Omega.{arith}
-use lib.ListN.{length, take, drop, getD, set}
+use mathlib.Core.Path.{_≡_, refl, sym, ap, _∙_}
+use lib.ListN.{length, drop}
 use borrow.Author.Needs.{needs}
 use Rattle.synthdef.specs.Rows.{every}
 use Rattle.def_book.specs.Rows.{isZero}
 use Rattle.def_book.proofs.Fields.{zeros-hit, zeros-next, zeros-over}
 use Rattle.def_book.proofs.field.is_clear.Statement.{statement}
 use Rattle.def_book.proofs.field.is_clear.Tie as tie
-use Rattle.def_book.proofs.field.is_clear.Reads as reads
-use Rattle.def_book.proofs.field.is_clear.Lts as lts
-use Rattle.synthdef.proofs.edges.wide.Reads as wide-reads
 
 abbrev Inv-loop : tie.InvT-loop
 Inv-loop bytes i₀ i = every isZero (drop i bytes) ≡ every isZero (drop i₀ bytes)
@@ -20,19 +15,15 @@ Inv-loop bytes i₀ i = every isZero (drop i bytes) ≡ every isZero (drop i₀ 
 abbrev μ-loop : tie.MeasureT-loop
 μ-loop bytes i₀ i = 16 - i
 
--- src/field.rt:64:9
 wide-requires : tie.Need-wide-requires Inv-loop μ-loop
 wide-requires c κs = search needs
 
--- src/field.rt:65:5
 loop-holds : tie.Need-loop-holds Inv-loop μ-loop
 loop-holds c = refl
 
--- src/field.rt:66:12
 array-read-if1 : tie.Need-array-read-if1 Inv-loop μ-loop
 array-read-if1 c = search needs
 
--- src/field.rt:67:13
 returns : tie.Need-returns Inv-loop μ-loop
 returns c =
     let l = c .before .before in
@@ -40,15 +31,12 @@ returns c =
     let below : l .loop .i < length bytes = search needs in
     sym (ap (λ k. every isZero (drop k bytes)) (sym (l .before .wide .ensures)) ∙ sym (l .loop .inv) ∙ zeros-hit bytes (l .loop .i) below (c .if1 .taken))
 
--- src/field.rt:69:9
 add-i : tie.Need-add-i Inv-loop μ-loop
 add-i c = search needs
 
--- src/field.rt:65:5
 loop-less : tie.Need-loop-less Inv-loop μ-loop
 loop-less c = search needs
 
--- src/field.rt:65:5
 loop-again : tie.Need-loop-again Inv-loop μ-loop
 loop-again c =
     let l = c .before .before in
@@ -56,7 +44,6 @@ loop-again c =
     let below : l .loop .i < length bytes = search needs in
     zeros-next bytes (l .loop .i) below (c .if1 .left) ∙ l .loop .inv
 
--- src/field.rt:60:1
 returns-2 : tie.Need-returns-2 Inv-loop μ-loop
 returns-2 c =
     let l = c .before in

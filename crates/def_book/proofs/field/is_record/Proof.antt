@@ -1,51 +1,34 @@
-use Prim.Native.Nat.{ℕ, zero, suc, _+_, _*_, _≤_, _<_, _-_, min}
-use mathlib.Core.Path.{_≡_, refl, sym, ap, _∙_}
-use mathlib.Core.List.{List, [], _∷_, _++_}
-use mathlib.Core.Bool.{Bool, true, false}
-use native.Mathlib.Omega.{arith}
-use lib.ListN.{length, take, drop, getD, set}
+use mathlib.Core.Path.{_≡_, sym, _∙_}
 use borrow.Author.Needs.{needs}
 use Rattle.def_book.specs.Rows.{pairAt}
 use Rattle.def_book.proofs.Fields.{other-size, other-kind, same-both}
 use Rattle.def_book.proofs.field.is_record.Statement.{statement}
 use Rattle.def_book.proofs.field.is_record.Tie as tie
-use Rattle.def_book.proofs.field.is_record.Reads as reads
-use Rattle.def_book.proofs.field.is_record.Lts as lts
-use Rattle.def_book.proofs.field.byte_at.Reads as byte-at-reads
-use Rattle.def_book.proofs.field.pair.Reads as pair-reads
 
--- src/field.rt:35:13
 byte-at-requires : tie.Need-byte-at-requires
 byte-at-requires c κs = search needs
 
--- src/field.rt:35:28
 byte-at-requires-2 : tie.Need-byte-at-requires-2
 byte-at-requires-2 c κs = search needs
 
--- src/field.rt:35:8
 pair-requires : tie.Need-pair-requires
 pair-requires c κs = search needs
 
--- src/field.rt:36:9
 returns : tie.Need-returns
 returns c =
     let a = c .before .before .before .before .before .args in
     let p : c .before .pair .result ≡ pairAt (a .s .now) 0 = cc in
     sym (other-size (a .kind) (a .size) (a .s .now) (λ e. c .if1 .taken (p ∙ e)))
 
--- src/field.rt:38:13
 byte-at-requires-3 : tie.Need-byte-at-requires-3
 byte-at-requires-3 c κs = search needs
 
--- src/field.rt:38:28
 byte-at-requires-4 : tie.Need-byte-at-requires-4
 byte-at-requires-4 c κs = search needs
 
--- src/field.rt:38:8
 pair-requires-2 : tie.Need-pair-requires-2
 pair-requires-2 c κs = search needs
 
--- src/field.rt:39:9
 returns-2 : tie.Need-returns-2
 returns-2 c =
     let a = c .before .before .before .before .before .before .before .before .before .args in
@@ -53,7 +36,6 @@ returns-2 c =
     let q : c .before .pair2 .result ≡ pairAt (a .s .now) 2 = cc in
     sym (other-kind (a .kind) (a .size) (a .s .now) (sym p ∙ c .before .before .before .before .if1 .left) (λ e. c .if2 .taken (q ∙ e)))
 
--- src/field.rt:32:1
 returns-3 : tie.Need-returns-3
 returns-3 c =
     let a = c .before .before .before .before .before .before .before .before .before .args in

@@ -1,16 +1,11 @@
-use Prim.Native.Nat.{ℕ, zero, suc, _+_, _*_, _≤_, _<_, _-_, min}
-use mathlib.Core.Path.{_≡_, refl, sym, ap, _∙_}
-use mathlib.Core.List.{List, [], _∷_, _++_}
-use mathlib.Core.Bool.{Bool, true, false}
+use Prim.Native.Nat.{_≤_, _<_, _-_}
 use native.Mathlib.Omega.{arith}
-use lib.ListN.{length, take, drop, getD, set}
+use mathlib.Core.Path.{_≡_, refl, ap, _∙_}
+use lib.ListN.{set}
 use borrow.Author.Needs.{needs}
 use Rattle.def_book.proofs.Fields.{copied, copied-more, copied-all}
 use Rattle.def_book.proofs.field.name_at.Statement.{statement}
 use Rattle.def_book.proofs.field.name_at.Tie as tie
-use Rattle.def_book.proofs.field.name_at.Reads as reads
-use Rattle.def_book.proofs.field.name_at.Lts as lts
-use Rattle.def_book.proofs.field.byte_at.Reads as byte-at-reads
 
 abbrev Inv-loop : tie.InvT-loop
 Inv-loop s bytes₀ i₀ bytes i = (i ≤ 16) × (bytes ≡ copied s i)
@@ -18,31 +13,24 @@ Inv-loop s bytes₀ i₀ bytes i = (i ≤ 16) × (bytes ≡ copied s i)
 abbrev μ-loop : tie.MeasureT-loop
 μ-loop s bytes₀ i₀ bytes i = 16 - i
 
--- src/field.rt:49:5
 loop-holds : tie.Need-loop-holds Inv-loop μ-loop
 loop-holds c = (search needs, refl)
 
--- src/field.rt:50:31
 add-byte-at : tie.Need-add-byte-at Inv-loop μ-loop
 add-byte-at c = search needs
 
--- src/field.rt:50:20
 byte-at-requires : tie.Need-byte-at-requires Inv-loop μ-loop
 byte-at-requires c κs = search needs
 
--- src/field.rt:50:9
 array-write-bytes : tie.Need-array-write-bytes Inv-loop μ-loop
 array-write-bytes c = search needs
 
--- src/field.rt:51:9
 add-i : tie.Need-add-i Inv-loop μ-loop
 add-i c = search needs
 
--- src/field.rt:49:5
 loop-less : tie.Need-loop-less Inv-loop μ-loop
 loop-less c = search needs
 
--- src/field.rt:49:5
 loop-again : tie.Need-loop-again Inv-loop μ-loop
 loop-again c =
     let l = c .before .before in
@@ -50,11 +38,9 @@ loop-again c =
     let h : l .loop .i < 16 = omega arith in
     (omega arith, ap (λ z. set z (l .loop .i) (c .byte-at .result)) (l .loop .inv .1) ∙ copied-more s (l .loop .i) (c .byte-at .result) h (c .byte-at .ensures))
 
--- src/field.rt:55:14
 byte-at-requires-2 : tie.Need-byte-at-requires-2 Inv-loop μ-loop
 byte-at-requires-2 c κs = search needs
 
--- src/field.rt:44:1
 returns : tie.Need-returns Inv-loop μ-loop
 returns c =
     let l = c .before .before in

@@ -1,14 +1,13 @@
-use Prim.Native.Nat.{ℕ, zero, suc, _+_, _*_, _≤_, _<_, _-_, min}
-use mathlib.Core.Path.{_≡_, refl, sym, ap, _∙_}
-use mathlib.Core.List.{List, [], _∷_, _++_}
-use mathlib.Core.Bool.{Bool, true, false}
+use Prim.Native.Nat.{ℕ, _+_, _≤_, _-_}
 use native.Mathlib.Omega.{arith}
-use lib.ListN.{length, take, drop, getD, set}
+use mathlib.Core.Path.{_≡_, refl, sym, ap, _∙_}
+use mathlib.Core.List.{List}
+use mathlib.Core.Bool.{true, false}
+use lib.ListN.{length, drop, getD, length-drop}
 use borrow.Author.Needs.{needs}
+use borrow.Author.Tests.{not-true, not-false}
 use Rattle.synthdef.specs.Limits.{allowed}
 use Rattle.def_book.specs.Read.{gives, defOf}
-use lib.ListN.{length-drop}
-use borrow.Author.Tests.{not-true, not-false}
 use Rattle.def_book.specs.Rows.{isHeading, rows, size, nodesOf}
 use Rattle.def_book.specs.Body.{bodyOf}
 use Rattle.def_book.specs.declared.answer.ReadAnswer.the-variants as answer
@@ -17,14 +16,6 @@ use Rattle.def_book.proofs.Gather.{part, size-fits}
 use Rattle.def_book.proofs.Reading.{built, says-malformed, says-limits, says-definition, no-heading, not-taken, not-many, beyond, given}
 use Rattle.def_book.proofs.read.read_book.Statement.{statement}
 use Rattle.def_book.proofs.read.read_book.Tie as tie
-use Rattle.def_book.proofs.read.read_book.Reads as reads
-use Rattle.def_book.proofs.read.read_book.Lts as lts
-use Rattle.def_book.proofs.field.byte_at.Reads as byte-at-reads
-use Rattle.def_book.proofs.field.is_heading.Reads as is-heading-reads
-use Rattle.def_book.proofs.read.refused.Reads as refused-reads
-use Rattle.def_book.proofs.rows.rows_of.Reads as rows-of-reads
-use Rattle.synthdef.proofs.edges.wide.Reads as wide-reads
-use Rattle.synthdef.proofs.limits.allowed.Reads as allowed-reads
 
 abbrev book : tie.Start → List ℕ
 book a = a .args .s .now
@@ -60,52 +51,41 @@ many c = sym (count (c .before .before .before .before .before .before)) ∙ c .
 made : (c : tie.After-allowed) → c .allowed .result ≡ allowed (defOf (getD (book (c .before .before .before .before .before .before .before .before .before .before .before .before .before .before .before)) 5 0) (rows (drop 6 (book (c .before .before .before .before .before .before .before .before .before .before .before .before .before .before .before)))))
 made c = c .allowed .ensures ∙ ap allowed (built _ _ _ _ (body (c .before .before .before .before .before .before .before .before .before .before)) (c .before .byte-at2 .ensures))
 
--- src/read.rt:44:9
 is-heading-requires : tie.Need-is-heading-requires
 is-heading-requires c κs = search needs
 
--- src/read.rt:45:9
 refused-requires : tie.Need-refused-requires
 refused-requires c κs = search needs
 
--- src/read.rt:45:9
 returns : tie.Need-returns
 returns c =
     let s = book (c .before .before .before .before) in
     let no : isHeading s ≡ false = sym (c .before .before .is-heading .ensures) ∙ not-true _ (c .before .if1 .taken) in
     says-malformed s _ _ 0 (no-heading s no) (c .refused .ensures .0) (c .refused .ensures .1)
 
--- src/read.rt:48:21
 sub-rows-of : tie.Need-sub-rows-of
 sub-rows-of c = let h = six c in omega arith
 
--- src/read.rt:48:21
 part-rows-of-start : tie.Need-part-rows-of-start
 part-rows-of-start c = let h = six c in omega arith
 
--- src/read.rt:48:21
 part-rows-of-end : tie.Need-part-rows-of-end
 part-rows-of-end c = search needs
 
--- src/read.rt:48:9
 rows-of-requires : tie.Need-rows-of-requires
 rows-of-requires c κs = search needs
 
--- src/read.rt:50:15
 sub-if2 : tie.Need-sub-if2
 sub-if2 c = let h = six (c .before .before) in omega arith
 
--- src/read.rt:51:46
 add-t16 : tie.Need-add-t16
 add-t16 c =
     let s = book (c .before .before .before .before .before .before) in
     omega (arith, end (c .before), size-fits (drop 6 s), behind (c .before .before .before), six (c .before .before .before))
 
--- src/read.rt:51:9
 refused-requires-2 : tie.Need-refused-requires-2
 refused-requires-2 c κs = search needs
 
--- src/read.rt:51:9
 returns-2 : tie.Need-returns-2
 returns-2 c =
     let s = book (c .before .before .before .before .before .before .before) in
@@ -114,19 +94,15 @@ returns-2 c =
     let short = not-taken s (heading h) (λ k. c .before .if2 .taken (e ∙ k ∙ behind h)) in
     says-malformed s _ _ _ short (c .refused2 .ensures .0 ∙ ap (λ k. answer.Malformed (6 + k)) e) (c .refused2 .ensures .1)
 
--- src/read.rt:54:28
 byte-at-requires : tie.Need-byte-at-requires
 byte-at-requires c κs = search needs
 
--- src/read.rt:54:23
 wide-requires : tie.Need-wide-requires
 wide-requires c κs = search needs
 
--- src/read.rt:55:9
 refused-requires-3 : tie.Need-refused-requires-3
 refused-requires-3 c κs = search needs
 
--- src/read.rt:55:9
 returns-3 : tie.Need-returns-3
 returns-3 c =
     let s = book (c .before .before .before .before .before .before .before .before .before .before .before .before) in
@@ -137,19 +113,15 @@ returns-3 c =
     let whole : length s ≡ 6 + length (drop 6 s) = omega (arith, behind h, six h) in
     says-malformed s _ _ _ other (c .refused3 .ensures .0 ∙ ap (λ k. answer.Malformed k) whole) (c .refused3 .ensures .1)
 
--- src/read.rt:63:17
 byte-at-requires-2 : tie.Need-byte-at-requires-2
 byte-at-requires-2 c κs = search needs
 
--- src/read.rt:65:9
 allowed-requires : tie.Need-allowed-requires
 allowed-requires c κs = search needs
 
--- src/read.rt:66:9
 refused-requires-4 : tie.Need-refused-requires-4
 refused-requires-4 c κs = search needs
 
--- src/read.rt:66:9
 returns-4 : tie.Need-returns-4
 returns-4 c =
     let s = book (c .before .before .before .before .before .before .before .before .before .before .before .before .before .before .before .before .before) in
@@ -159,7 +131,6 @@ returns-4 c =
     let no = sym (made (c .before .before)) ∙ not-true _ (c .before .if4 .taken) in
     says-limits s _ _ (beyond s (heading h) (all f) (many g) no) (c .refused4 .ensures .0) (c .refused4 .ensures .1)
 
--- src/read.rt:40:1
 returns-5 : tie.Need-returns-5
 returns-5 c =
     let s = book (c .before .before .before .before .before .before .before .before .before .before .before .before .before .before .before .before) in

@@ -1,11 +1,11 @@
-use Prim.Native.Nat.{ℕ, zero, suc, _+_, _*_, _≤_, _<_, _-_, min}
-use mathlib.Core.Path.{_≡_, refl, sym, ap, _∙_}
-use mathlib.Core.List.{List, [], _∷_, _++_}
-use mathlib.Core.Bool.{Bool, true, false}
+use Prim.Native.Nat.{ℕ, _-_}
 use native.Mathlib.Omega.{arith}
-use lib.ListN.{length, take, drop, getD, set}
-use borrow.Author.Needs.{needs}
+use mathlib.Core.Path.{_≡_, sym, ap, _∙_}
+use mathlib.Core.List.{List}
+use mathlib.Core.Bool.{false}
 use mathlib.Core.Option.{none, some}
+use lib.ListN.{length, take, drop}
+use borrow.Author.Needs.{needs}
 use Rattle.def_book.specs.Bytes.{node, edge, param}
 use Rattle.def_book.specs.Rows.{rowAt, isNode, isEdge, isParam, nodeAt, edgeAt, paramAt}
 use Rattle.def_book.specs.Body.{moreNodes, moreEdges, moreParams}
@@ -13,20 +13,6 @@ use Rattle.def_book.proofs.Walk.{as-node, as-edge, as-param, as-none}
 use Rattle.def_book.proofs.Gather.{part, Walked, begun, few-nodes, few-edges, few-params, row-inside, node-turn, edge-turn, param-turn, no-row-left, no-byte-left}
 use Rattle.def_book.proofs.rows.rows_of.Statement.{statement}
 use Rattle.def_book.proofs.rows.rows_of.Tie as tie
-use Rattle.def_book.proofs.rows.rows_of.Reads as reads
-use Rattle.def_book.proofs.rows.rows_of.Lts as lts
-use Rattle.def_book.proofs.field.edge_at.Reads as edge-at-reads
-use Rattle.def_book.proofs.field.is_edge.Reads as is-edge-reads
-use Rattle.def_book.proofs.field.is_node.Reads as is-node-reads
-use Rattle.def_book.proofs.field.is_param.Reads as is-param-reads
-use Rattle.def_book.proofs.field.node_at.Reads as node-at-reads
-use Rattle.def_book.proofs.field.param_at.Reads as param-at-reads
-use Rattle.def_book.proofs.rows.more_edges.Reads as more-edges-reads
-use Rattle.def_book.proofs.rows.more_nodes.Reads as more-nodes-reads
-use Rattle.def_book.proofs.rows.more_params.Reads as more-params-reads
-use Rattle.def_book.proofs.rows.no_edges.Reads as no-edges-reads
-use Rattle.def_book.proofs.rows.no_nodes.Reads as no-nodes-reads
-use Rattle.def_book.proofs.rows.no_params.Reads as no-params-reads
 
 abbrev Inv-loop : tie.InvT-loop
 Inv-loop s nodes₀ edges₀ params₀ at₀ nodes edges params at = Walked s nodes edges params at
@@ -69,180 +55,138 @@ no-param c =
     let l = e .before .before .before .before .before .before .before in
     as-none (left l) (no-node (e .before .before .before)) (no-edge e) (ap isParam (rest l) ∙ sym (c .before .is-param .ensures) ∙ c .if3 .left)
 
--- src/rows.rt:143:9
 no-nodes-requires : tie.Need-no-nodes-requires Inv-loop μ-loop
 no-nodes-requires c κs = search needs
 
--- src/rows.rt:144:9
 no-edges-requires : tie.Need-no-edges-requires Inv-loop μ-loop
 no-edges-requires c κs = search needs
 
--- src/rows.rt:145:9
 no-params-requires : tie.Need-no-params-requires Inv-loop μ-loop
 no-params-requires c κs = search needs
 
--- src/rows.rt:147:5
 loop-holds : tie.Need-loop-holds Inv-loop μ-loop
 loop-holds c = begun _ _ _ _ (c .before .before .no-nodes .ensures) (c .before .no-edges .ensures) (c .no-params .ensures)
 
--- src/rows.rt:148:20
 sub-is-node : tie.Need-sub-is-node Inv-loop μ-loop
 sub-is-node c = search needs
 
--- src/rows.rt:148:20
 part-is-node-start : tie.Need-part-is-node-start Inv-loop μ-loop
 part-is-node-start c = search needs
 
--- src/rows.rt:148:20
 part-is-node-end : tie.Need-part-is-node-end Inv-loop μ-loop
 part-is-node-end c = search needs
 
--- src/rows.rt:148:12
 is-node-requires : tie.Need-is-node-requires Inv-loop μ-loop
 is-node-requires c κs = search needs
 
--- src/rows.rt:149:47
 sub-node-at : tie.Need-sub-node-at Inv-loop μ-loop
 sub-node-at c = search needs
 
--- src/rows.rt:149:47
 part-node-at-start : tie.Need-part-node-at-start Inv-loop μ-loop
 part-node-at-start c = search needs
 
--- src/rows.rt:149:47
 part-node-at-end : tie.Need-part-node-at-end Inv-loop μ-loop
 part-node-at-end c = search needs
 
--- src/rows.rt:149:39
 node-at-requires : tie.Need-node-at-requires Inv-loop μ-loop
 node-at-requires c κs = search needs
 
--- src/rows.rt:149:13
 more-nodes-requires : tie.Need-more-nodes-requires Inv-loop μ-loop
 more-nodes-requires c κs = let h = few-nodes (c .before .before .before .before .before .before .loop .inv) in omega arith
 
--- src/rows.rt:150:13
 add-at : tie.Need-add-at Inv-loop μ-loop
 add-at c = let h = row-inside (c .before .before .before .before .before .before .before .loop .inv) _ (node-here (c .before .before .before)) in omega arith
 
--- src/rows.rt:147:5
 loop-less : tie.Need-loop-less Inv-loop μ-loop
 loop-less c = search needs
 
--- src/rows.rt:147:5
 loop-again : tie.Need-loop-again Inv-loop μ-loop
 loop-again c =
     let l = c .before .before .before .before .before .before .before in
     let read : c .before .node-at .result ≡ nodeAt (left l) = c .before .node-at .ensures ∙ ap nodeAt (sym (rest l)) in
     node-turn (l .loop .inv) (nodeAt (left l)) (c .more-nodes .result) (node-here (c .before .before .before)) (c .more-nodes .ensures ∙ ap (moreNodes (l .loop .nodes)) read)
 
--- src/rows.rt:151:27
 sub-is-edge : tie.Need-sub-is-edge Inv-loop μ-loop
 sub-is-edge c = search needs
 
--- src/rows.rt:151:27
 part-is-edge-start : tie.Need-part-is-edge-start Inv-loop μ-loop
 part-is-edge-start c = search needs
 
--- src/rows.rt:151:27
 part-is-edge-end : tie.Need-part-is-edge-end Inv-loop μ-loop
 part-is-edge-end c = search needs
 
--- src/rows.rt:151:19
 is-edge-requires : tie.Need-is-edge-requires Inv-loop μ-loop
 is-edge-requires c κs = search needs
 
--- src/rows.rt:152:47
 sub-edge-at : tie.Need-sub-edge-at Inv-loop μ-loop
 sub-edge-at c = search needs
 
--- src/rows.rt:152:47
 part-edge-at-start : tie.Need-part-edge-at-start Inv-loop μ-loop
 part-edge-at-start c = search needs
 
--- src/rows.rt:152:47
 part-edge-at-end : tie.Need-part-edge-at-end Inv-loop μ-loop
 part-edge-at-end c = search needs
 
--- src/rows.rt:152:39
 edge-at-requires : tie.Need-edge-at-requires Inv-loop μ-loop
 edge-at-requires c κs = search needs
 
--- src/rows.rt:152:13
 more-edges-requires : tie.Need-more-edges-requires Inv-loop μ-loop
 more-edges-requires c κs = let h = few-edges (c .before .before .before .before .before .before .before .before .before .loop .inv) in omega arith
 
--- src/rows.rt:153:13
 add-at-2 : tie.Need-add-at-2 Inv-loop μ-loop
 add-at-2 c = let h = row-inside (c .before .before .before .before .before .before .before .before .before .before .loop .inv) _ (edge-here (c .before .before .before)) in omega arith
 
--- src/rows.rt:147:5
 loop-less-2 : tie.Need-loop-less-2 Inv-loop μ-loop
 loop-less-2 c = search needs
 
--- src/rows.rt:147:5
 loop-again-2 : tie.Need-loop-again-2 Inv-loop μ-loop
 loop-again-2 c =
     let l = c .before .before .before .before .before .before .before .before .before .before in
     let read : c .before .edge-at .result ≡ edgeAt (left l) = c .before .edge-at .ensures ∙ ap edgeAt (sym (rest l)) in
     edge-turn (l .loop .inv) (edgeAt (left l)) (c .more-edges .result) (edge-here (c .before .before .before)) (c .more-edges .ensures ∙ ap (moreEdges (l .loop .edges)) read)
 
--- src/rows.rt:154:28
 sub-is-param : tie.Need-sub-is-param Inv-loop μ-loop
 sub-is-param c = search needs
 
--- src/rows.rt:154:28
 part-is-param-start : tie.Need-part-is-param-start Inv-loop μ-loop
 part-is-param-start c = search needs
 
--- src/rows.rt:154:28
 part-is-param-end : tie.Need-part-is-param-end Inv-loop μ-loop
 part-is-param-end c = search needs
 
--- src/rows.rt:154:19
 is-param-requires : tie.Need-is-param-requires Inv-loop μ-loop
 is-param-requires c κs = search needs
 
--- src/rows.rt:155:51
 sub-param-at : tie.Need-sub-param-at Inv-loop μ-loop
 sub-param-at c = search needs
 
--- src/rows.rt:155:51
 part-param-at-start : tie.Need-part-param-at-start Inv-loop μ-loop
 part-param-at-start c = search needs
 
--- src/rows.rt:155:51
 part-param-at-end : tie.Need-part-param-at-end Inv-loop μ-loop
 part-param-at-end c = search needs
 
--- src/rows.rt:155:42
 param-at-requires : tie.Need-param-at-requires Inv-loop μ-loop
 param-at-requires c κs = search needs
 
--- src/rows.rt:155:13
 more-params-requires : tie.Need-more-params-requires Inv-loop μ-loop
 more-params-requires c κs = let h = few-params (c .before .before .before .before .before .before .before .before .before .before .before .before .loop .inv) in omega arith
 
--- src/rows.rt:156:13
 add-at-3 : tie.Need-add-at-3 Inv-loop μ-loop
 add-at-3 c = let h = row-inside (c .before .before .before .before .before .before .before .before .before .before .before .before .before .loop .inv) _ (param-here (c .before .before .before)) in omega arith
 
--- src/rows.rt:147:5
 loop-less-3 : tie.Need-loop-less-3 Inv-loop μ-loop
 loop-less-3 c = search needs
 
--- src/rows.rt:147:5
 loop-again-3 : tie.Need-loop-again-3 Inv-loop μ-loop
 loop-again-3 c =
     let l = c .before .before .before .before .before .before .before .before .before .before .before .before .before in
     let read : c .before .param-at .result ≡ paramAt (left l) = c .before .param-at .ensures ∙ ap paramAt (sym (rest l)) in
     param-turn (l .loop .inv) (paramAt (left l)) (c .more-params .result) (param-here (c .before .before .before)) (c .more-params .ensures ∙ ap (moreParams (l .loop .params)) read)
 
--- src/rows.rt:158:13
 returns : tie.Need-returns Inv-loop μ-loop
 returns c = no-row-left (c .before .before .before .before .before .before .before .before .before .before .loop .inv) (no-param c)
 
--- src/rows.rt:140:1
 returns-2 : tie.Need-returns-2 Inv-loop μ-loop
 returns-2 c = no-byte-left (c .before .loop .inv) (c .loop-test .left)
 
