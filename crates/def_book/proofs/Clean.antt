@@ -27,7 +27,7 @@ every-same : {A : Type 0} (q r : A → Bool) → ((x : A) → q x ≡ r x) → (
 every-same q r e [] = refl
 every-same q r e (x ∷ l) = rw (e x, every-same q r e l)
 
-rows-few : {A : Type 0} (room count : ℕ) (l : List A) → length (rowsOf room count l) ≤ room
+pub rows-few : {A : Type 0} (room count : ℕ) (l : List A) → length (rowsOf room count l) ≤ room
 rows-few room count l = simp length-take (omega arith)
 
 ports-clean : (ns : List DefNode) → map (λ n. n .ports) (map cleanNode ns) ≡ map (λ n. n .ports) ns

@@ -48,7 +48,7 @@ module _ {A : Type 0} (d : A) where
   getD-held (suc room) (x ∷ l) zero h = refl
   getD-held (suc room) (x ∷ l) (suc i) h = getD-held room l i (omega arith)
 
-  take-held : (room : ℕ) (l : List A) → length l ≤ room → take (length l) (held room d l) ≡ l
+  pub take-held : (room : ℕ) (l : List A) → length l ≤ room → take (length l) (held room d l) ≡ l
   unfolding held
   take-held room [] h = refl
   take-held zero (x ∷ l) h = absurd (omega arith)

@@ -7,12 +7,14 @@ use mathlib.Core.Path.{_≡_, refl, sym, ap, _∙_}
 use mathlib.Core.Logic.{_↔_}
 use mathlib.Core.List.{List, [], _∷_, _++_, map, append-nil}
 use mathlib.Core.Bool.{Bool, true, false, cond}
-use lib.Dec.{eqb}
+use lib.Dec.{leb, eqb}
 use lib.ListN.{length, take, drop, getD, length-map, take-append-drop, List·getD-append}
-use lib.Seq.{getD-take, drop-at}
+use lib.Seq.{length-take-le, take-append-seam, getD-take, drop-at}
 use borrow.Author.Tests.{le-leb, eq-eqb, eqb-true}
 use Rattle.lists.specs.Member.{and-left, and-right, both, map-append}
-use Rattle.node.specs.Name.{named}
+use Rattle.node.specs.Name.{named, text}
+use Rattle.node.specs.declared.name.Name.{Name}
+use Rattle.def_book.specs.Held.{held}
 use Rattle.synthdef.specs.Rows.{every}
 use Rattle.synthdef.specs.Tables.{nodeRows, edgeRows, paramRows, noEdge}
 use Rattle.synthdef.specs.Limits.{nodeAllowed, paramAllowed, countsAllowed, allowed}
@@ -22,12 +24,13 @@ use Rattle.synthdef.specs.declared.def.Param.{Param}
 use Rattle.synthdef.specs.declared.def.SynthDef.{SynthDef}
 use Rattle.def_book.specs.Bytes.{Row, node, edge, param, rowBytes, joined, rowsIn, bookOf}
 use Rattle.def_book.specs.Rows.{isHeading, rows, size, gather, asNode, asEdge, asParam, nodesOf, edgesOf, paramsOf}
-use Rattle.def_book.specs.Read.{Read, gives, malformed, limits, readNumber, blankNode, blankParam, defOf, within, readRows, readBook, cleanNode, cleanParam, canonical}
+use Rattle.def_book.specs.Read.{Read, gives, malformed, limits, readNumber, blankNode, blankParam, defOf, within, readRows, readBook, cleanName, cleanNode, cleanParam, canonical}
+use Rattle.def_book.specs.Write.{written, writeBook}
 use Rattle.def_book.specs.WellFormed.{WellFormed}
-use Rattle.def_book.proofs.Held.{rows-held}
+use Rattle.def_book.proofs.Held.{take-held, rows-held}
 use Rattle.def_book.proofs.Runs.{record-cut, record-goes-on, read-all, cut, cut-all}
 use Rattle.def_book.proofs.Restores.{rowNamed, cleanRow, rows-back, size-back, rows-clean, node-cleaned, param-cleaned, gather-append, gather-map, gather-all, gather-none}
-use Rattle.def_book.proofs.Clean.{counts-there, nodes-there, params-there, rows-allowed, canonical-allowed}
+use Rattle.def_book.proofs.Clean.{rows-few, counts-there, nodes-there, params-there, rows-allowed, canonical-allowed}
 
 given : (d : SynthDef) → allowed d ≡ true → within d ≡ gives d
 given d h = ap (λ b. cond b (gives d) limits) h
@@ -119,6 +122,39 @@ module _ (d : SynthDef) where
       let long : 6 ≤ length (bookOf d) = omega arith in
       rw (le-leb 6 (length (bookOf d)) long, eq-eqb (size (rows body)) (length body) taken, eq-eqb (length (nodesOf (rows body))) (length ns) many)
       (ap within def ∙ given (canonical d) (canonical-allowed d h))
+
+-- its output: the bytes that the writer answers as its length
+pub output-restores : (d : SynthDef) (out : List ℕ) → allowed d ≡ true → length (bookOf d) ≤ length out → readBook (take (length (bookOf d)) (writeBook d out)) ≡ gives (canonical d)
+unfolding writeBook
+output-restores d out h l =
+    let there : writeBook d out ≡ written (bookOf d) out =
+    ap (λ b. cond b (cond (leb (length (bookOf d)) (length out)) (written (bookOf d) out) out) out) h ∙ ap (λ b. cond b (written (bookOf d) out) out) (le-leb (length (bookOf d)) (length out) l) in
+    ap (λ s. readBook (take (length (bookOf d)) s)) there ∙ ap readBook (take-append-seam (bookOf d) (drop (length (bookOf d)) out)) ∙ restores d h
+
+-- What is restored: the nodes, edges and parameters that count, in their order, each as it was but for the unused bytes of names; and the
+-- output node.
+pub record Restored (d e : SynthDef) : Type 0 where
+  pub nodes : nodeRows (e .nodes) ≡ map cleanNode (nodeRows (d .nodes))
+  pub edges : edgeRows (e .edges) ≡ edgeRows (d .edges)
+  pub params : paramRows (e .params) ≡ map cleanParam (paramRows (d .params))
+  pub output : e .output ≡ d .output
+
+pub restored : (d : SynthDef) → Restored d (canonical d)
+restored d =
+    let n = rows-few 24 (d .nodes .count) (d .nodes .rows) in
+    let p = rows-few 8 (d .params .count) (d .params .rows) in
+    record {
+      nodes = rows-held blankNode 24 (map cleanNode (nodeRows (d .nodes))) (omega (arith, length-map (nodeRows (d .nodes)) cleanNode));
+      edges = rows-held noEdge 48 (edgeRows (d .edges)) (rows-few 48 (d .edges .count) (d .edges .rows));
+      params = rows-held blankParam 8 (map cleanParam (paramRows (d .params))) (omega (arith, length-map (paramRows (d .params)) cleanParam));
+      output = refl;
+    }
+
+-- a name of 1 to 16 bytes stands for the same byte string after it
+pub same-string : (n : Name) → length (n .bytes) ≡ 16 → n .len ≤ 16 → text (cleanName n) ≡ text n
+same-string n h l =
+    let many : length (text n) ≡ n .len = length-take-le (n .len) (n .bytes) (omega arith) in
+    ap (λ k. take k (held 16 0 (text n))) (sym many) ∙ take-held 0 16 (text n) (omega arith)
 
 -- ---- what was accepted
 pub record Accepted (s : List ℕ) (d : SynthDef) : Type 0 where

@@ -1,13 +1,17 @@
 -- The definitions, computed on books whose bytes stand here as a builder would write them. Each row names the wrong reader that it refuses.
 use Prim.Native.Nat.{ℕ}
+use mathlib.Core.Bool.{true}
 use mathlib.Core.Path.{_≡_, refl}
 use mathlib.Core.List.{List, [], _∷_, _++_, map}
 use lib.ListN.{take, replicate}
 use Rattle.rank.specs.Order.{among, fed, released, walk, order, whole, count-up}
+use Rattle.synthdef.specs.declared.def.DefNode.{DefNode}
+use Rattle.synthdef.specs.declared.def.SynthDef.{SynthDef}
 use Rattle.def_book.specs.Held.{held}
-use Rattle.def_book.specs.Bytes.{joined}
+use Rattle.def_book.specs.Bytes.{joined, bookOf}
 use Rattle.def_book.specs.Rows.{rowAt, rowsAfter, size, gather}
-use Rattle.def_book.specs.Read.{Read, gives, malformed, limits, readRows, readBook}
+use Rattle.def_book.specs.Read.{Read, gives, malformed, limits, readRows, readBook, defIn, canonical}
+use Rattle.def_book.specs.Write.{length-of, refused, writeAnswer, writeBook}
 
 unfoldable pub heading : ℕ → ℕ → List ℕ
 heading count output = 6 ∷ 0 ∷ 1 ∷ 0 ∷ count ∷ output ∷ []
@@ -102,3 +106,61 @@ read c = case (c .book) (said (readBook (c .book)))
 pub all-said : map read cases ≡ cases
 unfolding cases read case said heading edge node tone param joined held rowAt rowsAfter size gather readRows readBook whole order walk released fed among count-up
 all-said = refl
+
+-- ---- writing
+-- a node and a definition as code may hold them: a name with other bytes behind its length, and a row past the count
+unfoldable pub code-node : DefNode
+code-node =
+    record {
+      kind = record { bytes = 84 ∷ 111 ∷ 110 ∷ 101 ∷ replicate 12 7; len = 4 };
+      ports = 2;
+      required = 0;
+      «takes_values» = true;
+      «takes_glides» = true;
+      «in_port» = 0;
+      «level_port» = 255;
+      «amp_port» = 255;
+    }
+
+unfoldable pub held-by-code : SynthDef
+held-by-code =
+    record {
+      nodes = record { rows = code-node ∷ code-node ∷ []; count = 1 };
+      edges = record { rows = []; count = 0 };
+      params = record { rows = []; count = 0 };
+      output = 0;
+    }
+
+-- the writer puts zeros there, and later bytes stay
+pub written-clean : writeBook held-by-code (replicate 35 9) ≡ heading 1 0 ++ (tone ++ (9 ∷ 9 ∷ []))
+unfolding code-node held-by-code heading node tone joined held writeBook whole order walk released fed among count-up
+written-clean = refl
+
+pub length-said : writeAnswer held-by-code (replicate 35 9) ≡ length-of 33
+unfolding code-node held-by-code joined held writeAnswer whole order walk released fed among count-up
+length-said = refl
+
+-- a buffer that is a byte too short stays as it is
+pub short-kept : writeBook held-by-code (replicate 32 9) ≡ replicate 32 9
+unfolding code-node held-by-code joined held writeBook whole order walk released fed among count-up
+short-kept = refl
+
+pub short-said : writeAnswer held-by-code (replicate 32 9) ≡ refused 19
+unfolding code-node held-by-code joined held writeAnswer whole order walk released fed among count-up
+short-said = refl
+
+-- 9 before 19: no node, and no buffer
+pub limits-first : writeAnswer (defIn limits) [] ≡ refused 9
+unfolding held writeAnswer
+limits-first = refl
+
+-- a book whose rows are interleaved is rewritten with nodes, edges and parameters one after the other
+pub sorted : bookOf (defIn (readBook (heading 2 1 ++ (edge 0 1 0 ++ (tone ++ (param 1 1 ++ (tone ++ edge 0 1 1)))))))
+    ≡ heading 2 1 ++ (tone ++ (tone ++ (edge 0 1 0 ++ (edge 0 1 1 ++ param 1 1))))
+unfolding heading edge node tone param joined held rowAt rowsAfter size gather readRows readBook whole order walk released fed among count-up
+sorted = refl
+
+-- what was held by code is restored with that name clean and nothing past the count
+pub restored : readBook (bookOf held-by-code) ≡ gives (canonical held-by-code)
+unfolding code-node held-by-code joined held rowAt rowsAfter size gather readRows readBook whole order walk released fed among count-up
+restored = refl
