@@ -86,8 +86,9 @@ cases =
     ∷ case (heading 2 0 ++ (tone ++ (tone ++ edge 0 1 2))) (9 ∷ [])
     ∷ case (heading 1 0 ++ (tone ++ param 1 1)) (9 ∷ [])
     ∷ case (heading 1 0 ++ (tone ++ edge 0 0 0)) (9 ∷ [])
-    -- 18 before 9: an output that is no node, and behind it a record of no kind
+    -- 18 before 9: an output that is no node, and behind it a record of no kind; and with a node too few
     ∷ case (heading 1 1 ++ (tone ++ (7 ∷ 0 ∷ 5 ∷ 0 ∷ 0 ∷ 0 ∷ 0 ∷ []))) (18 ∷ 33 ∷ [])
+    ∷ case (heading 2 9 ++ tone) (18 ∷ 33 ∷ [])
     -- 24 nodes; 25 announced and given; 24 announced and 25 given
     ∷ case (heading 24 23 ++ joined (replicate 24 tone)) (0 ∷ [])
     ∷ case (heading 25 0 ++ joined (replicate 25 tone)) (9 ∷ [])
