@@ -1,3 +1,4 @@
+pub mod Examples
 pub mod Held
 pub mod Walk
 pub mod Runs

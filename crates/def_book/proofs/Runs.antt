@@ -15,7 +15,7 @@ use Rattle.lists.specs.Member.{In, and-left, and-right, both, some-inj, none-so
 use Rattle.lists.specs.Find.{isSome}
 use Rattle.lists.specs.Count.{count, more as counted}
 use Rattle.node.specs.Name.{named}
-use Rattle.node.specs.NameLaws.{name-long}
+use Rattle.node.proofs.NameLaws.{name-long}
 use Rattle.synthdef.specs.Rows.{every}
 use Rattle.def_book.specs.Held.{held}
 use Rattle.def_book.specs.Bytes.{Row, node, edge, param, long, joined}

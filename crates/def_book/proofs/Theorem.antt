@@ -24,7 +24,7 @@ use Rattle.synthdef.specs.declared.def.Param.{Param}
 use Rattle.synthdef.specs.declared.def.SynthDef.{SynthDef}
 use Rattle.def_book.specs.Bytes.{Row, node, edge, param, rowBytes, joined, rowsIn, bookOf}
 use Rattle.def_book.specs.Rows.{isHeading, rows, size, gather, asNode, asEdge, asParam, nodesOf, edgesOf, paramsOf}
-use Rattle.def_book.specs.Read.{Read, gives, malformed, limits, readNumber, blankNode, blankParam, defOf, within, readRows, readBook, cleanName, cleanNode, cleanParam, canonical}
+use Rattle.def_book.specs.Read.{Read, gives, malformed, limits, readNumber, blankNode, blankParam, defOf, within, readRows, readBook, cleanName, cleanNode, cleanParam, canonical, Restored}
 use Rattle.def_book.specs.Write.{written, writeBook}
 use Rattle.def_book.specs.WellFormed.{WellFormed}
 use Rattle.def_book.proofs.Held.{take-held, rows-held}
@@ -131,14 +131,7 @@ output-restores d out h l =
     ap (λ b. cond b (cond (leb (length (bookOf d)) (length out)) (written (bookOf d) out) out) out) h ∙ ap (λ b. cond b (written (bookOf d) out) out) (le-leb (length (bookOf d)) (length out) l) in
     ap (λ s. readBook (take (length (bookOf d)) s)) there ∙ ap readBook (take-append-seam (bookOf d) (drop (length (bookOf d)) out)) ∙ restores d h
 
--- What is restored: the nodes, edges and parameters that count, in their order, each as it was but for the unused bytes of names; and the
--- output node.
-pub record Restored (d e : SynthDef) : Type 0 where
-  pub nodes : nodeRows (e .nodes) ≡ map cleanNode (nodeRows (d .nodes))
-  pub edges : edgeRows (e .edges) ≡ edgeRows (d .edges)
-  pub params : paramRows (e .params) ≡ map cleanParam (paramRows (d .params))
-  pub output : e .output ≡ d .output
-
+-- what is restored, row by row
 pub restored : (d : SynthDef) → Restored d (canonical d)
 restored d =
     let n = rows-few 24 (d .nodes .count) (d .nodes .rows) in

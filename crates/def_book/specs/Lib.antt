@@ -6,4 +6,3 @@ pub mod Body
 pub mod Write
 pub mod Put
 pub mod WellFormed
-pub mod Examples

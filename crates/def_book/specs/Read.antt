@@ -1,6 +1,7 @@
 -- Reading a book: "A book holds one definition." What is read is the whole of the lent bytes, so that bytes behind the last record are
 -- malformed. "A definition beyond 01's limits keeps refusal 9, after 18".
 use Prim.Native.Nat.{ℕ, _+_}
+use mathlib.Core.Path.{_≡_}
 use mathlib.Core.List.{List, [], map}
 use mathlib.Core.Bool.{false, cond}
 use lib.Dec.{eqb}
@@ -122,3 +123,11 @@ cleanParam p = record { name = cleanName (p .name); node = p .node }
 
 abbrev pub canonical : SynthDef → SynthDef
 canonical d = tables (map cleanNode (nodeRows (d .nodes))) (edgeRows (d .edges)) (map cleanParam (paramRows (d .params))) (d .output)
+
+-- What is restored: the nodes, edges and parameters that count, in their order, each as it was but for the unused bytes of names; and the
+-- output node.
+pub record Restored (d e : SynthDef) : Type 0 where
+  pub nodes : nodeRows (e .nodes) ≡ map cleanNode (nodeRows (d .nodes))
+  pub edges : edgeRows (e .edges) ≡ edgeRows (d .edges)
+  pub params : paramRows (e .params) ≡ map cleanParam (paramRows (d .params))
+  pub output : e .output ≡ d .output

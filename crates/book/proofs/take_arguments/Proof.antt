@@ -1,3 +1,4 @@
+-- `book::take_arguments` is safe and ends.
 use Prim.Native.Nat.{_-_}
 use borrow.Author.Needs.{needs}
 use Rattle.book.proofs.take_arguments.Statement.{statement}

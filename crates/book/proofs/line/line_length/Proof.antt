@@ -1,3 +1,4 @@
+-- `book::line::line_length` is safe and ends.
 use Prim.Native.Nat.{_≤_, _-_}
 use lib.ListN.{length}
 use borrow.Author.Needs.{needs}

@@ -1,3 +1,4 @@
+-- `book::show::show_params` is safe and ends.
 use Prim.Native.Nat.{_≤_, _-_}
 use borrow.Author.Needs.{needs}
 use Rattle.book.proofs.show.show_params.Statement.{statement}

@@ -1,3 +1,4 @@
+-- `def_book::field::byte_at` meets its contract.
 use mathlib.Core.Path.{sym}
 use lib.ListN.{List·getD-eq-default}
 use borrow.Author.Needs.{needs}

@@ -1,3 +1,4 @@
+-- `def_book::field::edge_at` meets its contract.
 use borrow.Author.Needs.{needs}
 use Rattle.def_book.proofs.field.edge_at.Statement.{statement}
 use Rattle.def_book.proofs.field.edge_at.Tie as tie

@@ -1,3 +1,4 @@
+-- `def_book::field::is_node` meets its contract.
 use mathlib.Core.Path.{ap, _∙_}
 use lib.Dec.{leb}
 use borrow.Author.Needs.{needs}

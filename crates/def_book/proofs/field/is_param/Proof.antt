@@ -1,3 +1,4 @@
+-- `def_book::field::is_param` meets its contract.
 use mathlib.Core.Path.{ap, _∙_}
 use borrow.Author.Needs.{needs}
 use Rattle.def_book.specs.Rows.{nameFits}

@@ -1,3 +1,4 @@
+-- `def_book::field::is_record` meets its contract.
 use mathlib.Core.Path.{_≡_, sym, _∙_}
 use borrow.Author.Needs.{needs}
 use Rattle.def_book.specs.Rows.{pairAt}

@@ -1,3 +1,4 @@
+-- `def_book::field::name_fits` meets its contract.
 use borrow.Author.Needs.{needs}
 use Rattle.def_book.proofs.Fields.{and-no, and-yes}
 use Rattle.def_book.proofs.field.name_fits.Statement.{statement}

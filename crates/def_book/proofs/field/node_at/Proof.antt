@@ -1,3 +1,4 @@
+-- `def_book::field::node_at` meets its contract.
 use borrow.Author.Needs.{needs}
 use Rattle.def_book.proofs.field.node_at.Statement.{statement}
 use Rattle.def_book.proofs.field.node_at.Tie as tie

@@ -1,3 +1,4 @@
+-- `def_book::put::clean_bytes` meets its contract.
 use Prim.Native.Nat.{_≤_, _<_, _-_, min}
 use native.Mathlib.Omega.{arith}
 use mathlib.Core.Path.{_≡_, refl, ap, _∙_}

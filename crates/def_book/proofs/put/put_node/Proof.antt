@@ -1,3 +1,4 @@
+-- `def_book::put::put_node` meets its contract.
 use Prim.Native.Nat.{ℕ}
 use mathlib.Core.Path.{refl, ap}
 use mathlib.Core.List.{List, [], _∷_}

@@ -1,3 +1,4 @@
+-- `def_book::put::put_param` meets its contract.
 use mathlib.Core.Path.{refl}
 use mathlib.Core.List.{[], _∷_}
 use borrow.Author.Needs.{needs}

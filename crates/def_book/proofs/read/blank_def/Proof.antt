@@ -1,3 +1,4 @@
+-- `def_book::read::blank_def` meets its contract.
 use borrow.Author.Needs.{needs}
 use Rattle.def_book.proofs.read.blank_def.Statement.{statement}
 use Rattle.def_book.proofs.read.blank_def.Tie as tie

@@ -1,3 +1,4 @@
+-- `def_book::rows::more_params` meets its contract.
 use Prim.Native.Nat.{_≤_}
 use native.Mathlib.Omega.{arith}
 use mathlib.Core.Path.{_≡_}

@@ -1,3 +1,4 @@
+-- `def_book::rows::rows_of` meets its contract.
 use Prim.Native.Nat.{ℕ, _-_}
 use native.Mathlib.Omega.{arith}
 use mathlib.Core.Path.{_≡_, sym, ap, _∙_}

@@ -1,3 +1,4 @@
+-- `def_book::write::put_book` meets its contract.
 use Prim.Native.Nat.{_*_, min}
 use native.Mathlib.Omega.{arith}
 use mathlib.Core.Path.{_≡_, ap, _∙_}
