@@ -22,6 +22,7 @@ fn block(n: usize) {
         Budget::Unlimited,
         StealPolicy::Oldest,
         BudgetScope::Global,
+        false,
     );
     text(b"block ");
     number(n as u64);

@@ -29,24 +29,44 @@ use voice::policy::BudgetScope;
 use voice::policy::StealPolicy;
 use wire::word::text;
 
-fn making(rate: f32, block: usize, budget: Budget, what: &[u8]) {
+fn making(rate: f32, block: usize, budget: Budget, table: bool, what: &[u8]) {
     let made = make(
         rate,
         block,
         budget,
         StealPolicy::Oldest,
         BudgetScope::Global,
+        table,
     );
     let a = made.answer;
     show::answer(a);
     text(what);
 }
 
-// 1, 2, 3
+// 1, 2, 3, 20
 pub fn makings() {
-    making(44100.5, 128, Budget::Unlimited, b" making, rate 44100.5\n");
-    making(48000.0, 0, Budget::Unlimited, b" making, block 0\n");
-    making(48000.0, 128, Budget::AtMost(65), b" making, budget 65\n");
+    making(
+        44100.5,
+        128,
+        Budget::Unlimited,
+        false,
+        b" making, rate 44100.5\n",
+    );
+    making(48000.0, 0, Budget::Unlimited, false, b" making, block 0\n");
+    making(
+        48000.0,
+        128,
+        Budget::AtMost(65),
+        false,
+        b" making, budget 65\n",
+    );
+    making(
+        44100.0,
+        128,
+        Budget::Unlimited,
+        true,
+        b" making, fade table at 44100\n",
+    );
 }
 
 fn wiring(from: u32, to: u32, port: u32, what: &[u8]) {

@@ -17,6 +17,7 @@ use Rattle.store.specs.declared.voices.VoiceState.the-variants.{Tracked, Fading
 use Rattle.store.specs.declared.voices.Fade.{Fade}
 use Rattle.model.specs.Voice.{withState}
 use Rattle.model.specs.Clear as clearing
+use Rattle.model.specs.Refuse.{tableRate}
 use Rattle.model.specs.Model.{Model}
 use Rattle.model.specs.Make.{Making, configOf, newModel, make}
 use Rattle.model.specs.Call.{Call}
@@ -35,10 +36,11 @@ use Rattle.ledger.proofs.History.{stolen-at}
 use Rattle.ledger.proofs.Ready.{ready-run, ready-new}
 use Rattle.ledger.proofs.Since.{nextNode, nextVoice, nodes-after, voices-after, never-returns, since-same}
 use Rattle.ledger.proofs.Holds.{Known, holds}
+use Rattle.ledger.proofs.FadeTable.{blocks}
 use Rattle.ledger.proofs.Store.{shown, kept-after, config-after, store-after, soundings-same, Was, was}
 
--- from a block of at least 1 sample and a fade length of 64 bits
-module _ (c : Config) (block : 0 < c .block) (fits : fadeLength (c .rate) ≤ 18446744073709551615) where
+-- from a block of at least 1 sample, a fade length of 64 bits, and with the fade table its rate
+module _ (c : Config) (block : 0 < c .block) (fits : fadeLength (c .rate) ≤ 18446744073709551615) (table : c .table ≡ true → c .rate ≡ tableRate) where
   known-after : (xs : List Call) → Known c (ledgerAfter c xs)
   known-after xs =
       record {
@@ -98,9 +100,10 @@ module _ (c : Config) (block : 0 < c .block) (fits : fadeLength (c .rate) ≤ 18
         noVoiceReturns = never-returns (λ ys. voiceIds (after (newModel c) ys .voices)) (nextVoice c) (λ ys zs. since-same (voices-same ys) (voices-same (ys ++ zs)) (voices-after c ys zs)) xs;
         noNodeReturns = never-returns (λ ys. nodeIds (after (newModel c) ys .desk .graph .nodes)) (nextNode c) (λ ys zs. since-same (nodes-same ys) (nodes-same (ys ++ zs)) (nodes-after c ys zs)) xs;
         now = subst (Holds c) (sym (store-after c fits xs)) (holds c (ledgerAfter c xs) (known-after xs));
+        blocks = blocks c (after (newModel c) xs) (ap (λ (m : Model). m .desk .config) (store-after c fits xs) ∙ config-after c fits xs) table;
       }
 
 pub claim : (k : Making) (m : Model) → make k ≡ some m → (xs : List Call) → Claim (configOf k) m xs
 claim k m accepted xs =
     let a = made k m accepted in
-    subst (λ m. Claim (configOf k) m xs) (sym (a .new)) (from-new (configOf k) (a .block) (a .length) xs)
+    subst (λ m. Claim (configOf k) m xs) (sym (a .new)) (from-new (configOf k) (a .block) (a .length) (a .table) xs)

@@ -8,6 +8,7 @@ use mathlib.Core.Logic.{_⊎_, inl, inr, ⊎-elim}
 use mathlib.Core.List.{List, [], _∷_, map}
 use mathlib.Core.Option.{Option, none, some}
 use mathlib.Core.Bool.{Bool, true, false, not, cond}
+use lib.Ieee.{Float}
 use lib.ListN.{length}
 use lib.Dec.{leb}
 use borrow.Author.Tests.{ne-eqb, eqb-true, not-true}
@@ -41,7 +42,8 @@ use Rattle.model.specs.Clear.{isSilent}
 use Rattle.model.specs.Render.{prepareOutcome, prepareDesk, isFree, anyFree, heard, answerAfter, isSounding, deadline, due, clockEnds}
 use Rattle.model.specs.Written.{written}
 use Rattle.model.specs.Page.{page}
-use Rattle.model.specs.Call.{Call, scheduleRefusal, readyAnswer, Question, answerTo}
+use Rattle.model.specs.Call.{Call, scheduleRefusal, readyAnswer, Question, answerTo, blockAnswer}
+use Rattle.model.specs.Block.{fades, sums}
 use Rattle.model.specs.Call as call
 use Rattle.order.specs.declared.Readiness.{Readiness}
 use Rattle.order.specs.declared.Readiness.the-variants.{Ready, Refused}
@@ -64,6 +66,10 @@ use Rattle.ledger.proofs.Nodes.{OwnNodes, silent-first}
 use Rattle.ledger.proofs.Clearing.{faded-voices}
 use Rattle.ledger.proofs.Records.{RecordedOf, not-fading, steal-small, recorded-cut, recorded-steal, begin-other}
 
+block-silent : (b : Bool) (out : List Float) → isSounded (blockAnswer b out) ≡ false
+block-silent true out = refl
+block-silent false out = refl
+
 -- no question is a render
 pub answer-silent : (q : Question) (m : Model) → isSounded (answerTo q m) ≡ false
 answer-silent (call.level w) m = refl
@@ -85,6 +91,8 @@ answer-silent (call.page out) m = go (leb (length text) (length out))
     go : (b : Bool) → isSounded (cond b (call.printed (length text) (written text out)) (call.refused ShortBuffer)) ≡ false
     go true = refl
     go false = refl
+answer-silent (call.fadeOutput input ins lent position out outs) m = block-silent (fades (m .desk .config) input ins lent out outs) _
+answer-silent (call.busSum inputs counts out outs) m = block-silent (sums (m .desk .config) inputs counts out outs) _
 
 abbrev Next : Ledger → Voice → Fade → Call → Step → Type 0
 Next l v f x s = GoesOn v f (s .answer) (s .ledger .voices) ⊎ Why l (s .ledger) v f x

@@ -40,4 +40,5 @@ pub mod Losses
 pub mod Arrives
 pub mod Store
 pub mod Holds
+pub mod FadeTable
 pub mod Claim

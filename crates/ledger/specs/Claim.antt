@@ -12,6 +12,7 @@ use mathlib.Core.List.{List, [], _∷_, _++_, map}
 use mathlib.Core.Option.{Option, none, some}
 use mathlib.Core.Bool.{Bool, true, false, not, cond, _&&_, _||_}
 use lib.Dec.{eqb, leb}
+use lib.Ieee.{Float}
 use lib.ListN.{length}
 use Rattle.lists.specs.Member.{In}
 use Rattle.lists.specs.Find.{find, isSome, mapO}
@@ -23,7 +24,9 @@ use Rattle.node.specs.declared.record.NodeId.{NodeId}
 use Rattle.node.specs.declared.record.VoiceId.{VoiceId}
 use Rattle.node.specs.declared.refusal.Refusal.{Refusal}
 use Rattle.node.specs.declared.refusal.Refusal.the-variants.{NoPort}
-use Rattle.bus.specs.Fade.{fadeLength}
+use Rattle.bus.specs.Block as samples
+use Rattle.bus.specs.Fade.{fadeLength, fadeOutput}
+use Rattle.fade_table.specs.Gain.{gains}
 use Rattle.rank.specs.Order.{upto}
 use Rattle.rank.specs.Cycle.{Distinct, Sorted}
 use Rattle.order.specs.Live.{arcOf}
@@ -107,6 +110,7 @@ isSounded (call.inOrder ks) = false
 isSounded (call.fed ss) = false
 isSounded (call.time t) = false
 isSounded (call.printed n out) = false
+isSounded (call.filled out) = false
 
 -- the store after a list of calls, from m
 abbrev pub after : Model → List Call → Model
@@ -417,6 +421,17 @@ pub record Holds (c : Config) (s : Model) : Type 0 where
   pub room : Room s
   pub records : Newest (s .desk .steals)
 
+-- 02, Paper 7. What fade output and bus sum answer is decided by what making fixed. Where the fade table was chosen, the gains are the table's and "lent gains are
+-- then ignored, by 16 too": 16 is answered for the two blocks alone.
+pub record Blocks (c : Config) (s : Model) : Type 0 where
+  pub fade : (input : List Float) (ins : ℕ) (lent : List Float) (at : ℕ) (out : List Float) (outs : ℕ)
+      → call.step (call.ask (call.fadeOutput input ins lent at out outs)) s .answer ≡ call.fadeAnswer c input ins lent at out outs
+  pub sum : (inputs : List Float) (counts : List ℕ) (out : List Float) (outs : ℕ)
+      → call.step (call.ask (call.busSum inputs counts out outs)) s .answer ≡ call.sumAnswer c inputs counts out outs
+  pub table : c .table ≡ true → (input : List Float) (ins : ℕ) (lent : List Float) (at : ℕ) (out : List Float) (outs : ℕ)
+      → call.step (call.ask (call.fadeOutput input ins lent at out outs)) s .answer
+      ≡ call.blockAnswer (samples.holds (length input) ins (c .block) && samples.holds (length out) outs (c .block)) (fadeOutput input ins gains 240 at (c .block) out outs)
+
 -- ---- the claim
 -- the store m was made with c; xs are the calls
 pub record Claim (c : Config) (m : Model) (xs : List Call) : Type 0 where
@@ -434,6 +449,7 @@ pub record Claim (c : Config) (m : Model) (xs : List Call) : Type 0 where
       → (t : Stolen m (c .block) xs v f) × ((clearing.ended (fadeLength (c .rate)) (v .state) ≡ true) ↔ (roundedUp (fadeLength (c .rate)) (c .block) ≤ since t))
   -- ---- 2 to 5, and the tables
   pub now : Holds c (after m xs)
+  pub blocks : Blocks c (after m xs)
   -- ---- "A freed row serves again; its id never returns": the ids of voices, and those of nodes
   pub noVoiceReturns : NeverReturns (λ ys. voiceIds (after m ys .voices)) xs
   pub noNodeReturns : NeverReturns (λ ys. nodeIds (after m ys .desk .graph .nodes)) xs

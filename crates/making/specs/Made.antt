@@ -1,6 +1,7 @@
 -- What making answers, as the model says it.
 use Prim.Native.Nat.{ℕ}
 use mathlib.Core.Option.{Option, none, some}
+use mathlib.Core.Bool.{Bool}
 use lib.Ieee.{Float}
 use Rattle.graph.specs.declared.state.Answer.{Answer}
 use Rattle.graph.specs.declared.state.Answer.the-variants as Answer
@@ -12,8 +13,8 @@ use Rattle.model.specs.Make.{Making}
 use Rattle.model.specs.View.{modelOf}
 use Rattle.making.specs.declared.Made.{Made}
 
-abbrev pub making : Float → ℕ → Budget → StealPolicy → BudgetScope → Making
-making rate block budget policy scope = record { rate = rate; block = block; budget = budget; policy = policy; scope = scope }
+abbrev pub making : Float → ℕ → Budget → StealPolicy → BudgetScope → Bool → Making
+making rate block budget policy scope table = record { rate = rate; block = block; budget = budget; policy = policy; scope = scope; table = table }
 
 -- the store, unless making was refused
 abbrev pub ifDone : Answer → Model → Option Model

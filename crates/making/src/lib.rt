@@ -27,7 +27,7 @@ ghost use mathlib.Core.Bool.{_&&_};
 ghost use lib.Dec.{leb};
 ghost use Rattle.bus.specs.Answer.{rated};
 ghost use Rattle.graph.specs.Tables.{answerOf};
-ghost use Rattle.model.specs.Refuse.{noRate, overBudget, makeRefusal};
+ghost use Rattle.model.specs.Refuse.{noRate, overBudget, otherRate, makeRefusal};
 ghost use Rattle.model.specs.Make.{make, wholeOr0, newModel, configOf, refusalOf};
 ghost use Rattle.model.specs.View.{modelOf, voicesOf};
 ghost use Rattle.making.specs.Made.{making, madeOf};
@@ -72,9 +72,22 @@ fn is_block(block: usize) -> bool
     1 <= block && block <= 128
 }
 
-// Whether making is refused: 1, 2, 3.
-fn make_test(rate: SampleRate, block: usize, budget: Budget) -> Answer
-    ensures { λ r. ⌜ r ≡ answerOf (makeRefusal (rated rate) block budget) ⌝ }
+// Whether the fade table, if it is chosen, is chosen at another rate than its own.
+fn other_rate(x: SampleRate, table: bool) -> bool
+    ensures { λ r. ⌜ r ≡ (table && otherRate (rated x)) ⌝ }
+{
+    if !table {
+        return false;
+    }
+    match x {
+        SampleRate::Hertz(n) => n != 48000,
+        SampleRate::Refused(_) => true,
+    }
+}
+
+// Whether making is refused: 1, 2, 3, 20.
+fn make_test(rate: SampleRate, block: usize, budget: Budget, table: bool) -> Answer
+    ensures { λ r. ⌜ r ≡ answerOf (makeRefusal (rated rate) block budget table) ⌝ }
 {
     if no_rate(rate) {
         return Answer::Refused(Refusal::SampleRate);
@@ -84,6 +97,9 @@ fn make_test(rate: SampleRate, block: usize, budget: Budget) -> Answer
     }
     if over_budget(budget) {
         return Answer::Refused(Refusal::BudgetTooLarge);
+    }
+    if other_rate(rate, table) {
+        return Answer::Refused(Refusal::TableRate);
     }
     Answer::Done
 }
@@ -154,27 +170,29 @@ fn new_store(config: Config) -> Store
     }
 }
 
-// A new store: a sample rate in hertz, the samples of a block, and how many voices may be tracked, which goes, and among
-// which ones.
+// A new store: a sample rate in hertz, the samples of a block, how many voices may be tracked, which goes, and among
+// which ones, and whether fades take their gains from the fade table.
 pub fn make(
     rate: f32,
     block: usize,
     budget: Budget,
     policy: StealPolicy,
     scope: BudgetScope,
+    table: bool,
 ) -> Made
-    ensures is { λ r. ⌜ madeOf r ≡ make (making rate block budget policy scope) ⌝ }
-    ensures answer { λ r. ⌜ r .answer ≡ answerOf (refusalOf (making rate block budget policy scope)) ⌝ }
-    ensures store { λ r. ⌜ modelOf (r .store) ≡ newModel (configOf (making rate block budget policy scope)) ⌝ }
+    ensures is { λ r. ⌜ madeOf r ≡ make (making rate block budget policy scope table) ⌝ }
+    ensures answer { λ r. ⌜ r .answer ≡ answerOf (refusalOf (making rate block budget policy scope table)) ⌝ }
+    ensures store { λ r. ⌜ modelOf (r .store) ≡ newModel (configOf (making rate block budget policy scope table)) ⌝ }
 {
     let heard = sample_rate(rate);
-    let answer = make_test(heard, block, budget);
+    let answer = make_test(heard, block, budget, table);
     let config = Config {
         rate: hertz(heard),
         block,
         budget,
         policy,
         scope,
+        table,
     };
     let store = new_store(config);
     Made { store, answer }

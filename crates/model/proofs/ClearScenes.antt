@@ -43,7 +43,7 @@ uncut = refl
 abbrev exact : List Call → List Answer
 exact calls =
     asked calls
-    (after (record { rate = 400; block = 1; budget = AtMost 1; policy = Oldest; scope = Global }) (host 2 ∷ sink 0 ∷ spawn 0 ∷ spawn 0 ∷ call.prepare ∷ []))
+    (after (record { rate = 400; block = 1; budget = AtMost 1; policy = Oldest; scope = Global; table = false }) (host 2 ∷ sink 0 ∷ spawn 0 ∷ spawn 0 ∷ call.prepare ∷ []))
 
 to-the-sample :
     exact (call.render ∷ call.clear ∷ call.render ∷ call.ask (call.position (voice 1)) ∷ call.clear ∷ [])
@@ -58,7 +58,7 @@ to-the-sample = refl
 abbrev four : List Call → Model
 four calls =
     further calls
-    (after (record { rate = 400; block = 1; budget = AtMost 2; policy = Oldest; scope = Global })
+    (after (record { rate = 400; block = 1; budget = AtMost 2; policy = Oldest; scope = Global; table = false })
     (host 4 ∷ sink 0 ∷ spawn 0 ∷ spawn 0 ∷ spawn 0 ∷ call.prepare ∷ call.render ∷ spawn 0 ∷ call.prepare ∷ call.render ∷ []))
 
 once :

@@ -80,7 +80,7 @@ full xs = further (reported 1 xs) (after (small 3 Quietest) (host 4 ∷ spawn 0 
 
 -- a block of 64, so that the first render's deadline is 64
 abbrev timed : ℕ → Model
-timed t = after (record { rate = 8000; block = 64; budget = AtMost 1; policy = Oldest; scope = Global }) (host 1 ∷ spawn 0 ∷ timedFree t 1 ∷ call.render ∷ [])
+timed t = after (record { rate = 8000; block = 64; budget = AtMost 1; policy = Oldest; scope = Global; table = false }) (host 1 ∷ spawn 0 ∷ timedFree t 1 ∷ call.render ∷ [])
 
 -- the row as the definitions give it
 unfoldable pub given : Row → Row

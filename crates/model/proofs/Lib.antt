@@ -9,6 +9,7 @@ pub mod LevelScenes
 pub mod EventScenes
 pub mod RefusalScenes
 pub mod MakingScenes
+pub mod TableScenes
 pub mod WholeScenes
 pub mod ReadingScenes
 pub mod SilenceScenes

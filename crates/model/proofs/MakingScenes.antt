@@ -1,8 +1,8 @@
--- Scenes of making: what a new store holds, field by field, for two makings that differ in every argument. The refusals are in `RefusalScenes`.
+-- Scenes of making: what a new store holds, field by field, for makings that differ in every argument. The refusals are in `RefusalScenes`.
 use mathlib.Core.Path.{_≡_, refl}
 use mathlib.Core.List.{[]}
 use mathlib.Core.Option.{none, some}
-use mathlib.Core.Bool.{false}
+use mathlib.Core.Bool.{true, false}
 use lib.IntN.{pos}
 use lib.Ieee.{fin}
 use Rattle.bus.specs.Rate.{rateOf}
@@ -29,11 +29,14 @@ empty c =
       voices = [];
     }
 
--- 8000 and 44,100 Hz. Refuses: an argument that is not kept: a rate, a block, a budget, a policy or a scope that is always the same; a store that is not empty.
+-- 8000 and 44,100 Hz, and 48,000 Hz with the fade table. Refuses: an argument that is not kept: a rate, a block, a budget, a policy, a scope or a choice of the table
+-- that is always the same; a store that is not empty.
 makes :
-    (make (record { rate = fin false 125 (pos 6); block = 16; budget = AtMost 2; policy = Quietest; scope = PerGroup })
-    ≡ some (empty (record { rate = 8000; block = 16; budget = AtMost 2; policy = Quietest; scope = PerGroup })))
-    × (make (record { rate = fin false 11025 (pos 2); block = 128; budget = Unlimited; policy = Newest; scope = Global })
-    ≡ some (empty (record { rate = 44100; block = 128; budget = Unlimited; policy = Newest; scope = Global })))
+    (make (record { rate = fin false 125 (pos 6); block = 16; budget = AtMost 2; policy = Quietest; scope = PerGroup; table = false })
+    ≡ some (empty (record { rate = 8000; block = 16; budget = AtMost 2; policy = Quietest; scope = PerGroup; table = false })))
+    × (make (record { rate = fin false 11025 (pos 2); block = 128; budget = Unlimited; policy = Newest; scope = Global; table = false })
+    ≡ some (empty (record { rate = 44100; block = 128; budget = Unlimited; policy = Newest; scope = Global; table = false })))
+    × (make (record { rate = fin false 375 (pos 7); block = 128; budget = Unlimited; policy = Newest; scope = Global; table = true })
+    ≡ some (empty (record { rate = 48000; block = 128; budget = Unlimited; policy = Newest; scope = Global; table = true })))
 unfolding rateOf
-makes = (refl, refl)
+makes = (refl, refl, refl)

@@ -35,9 +35,9 @@ use Rattle.graph.specs.View.{GraphView}
 abbrev numbers : List Call → Model → List (Option ℕ)
 numbers calls m = map numberIn (asked calls m)
 
--- ---- making: 1, 2, 3
+-- ---- making: 1, 2, 3; the 20 of the fade table is in `TableScenes`
 abbrev making : Float → ℕ → Budget → Option ℕ
-making rate block budget = mapO numberOf (refusalOf (record { rate = rate; block = block; budget = budget; policy = Oldest; scope = Global }))
+making rate block budget = mapO numberOf (refusalOf (record { rate = rate; block = block; budget = budget; policy = Oldest; scope = Global; table = false }))
 
 -- 8000
 abbrev rate : Float

@@ -69,6 +69,7 @@ refusalIn (call.inOrder l) = none
 refusalIn (call.fed l) = none
 refusalIn (call.time t) = none
 refusalIn (call.printed n out) = none
+refusalIn (call.filled out) = none
 
 -- ---- what 12 leaves
 -- the admission's steal

@@ -69,7 +69,7 @@ keyDef =
 
 -- ---- a store, field by field. Rate 400, so that L is 2; block 1, so that a sample reported is a level
 abbrev made : Config
-made = record { rate = 400; block = 1; budget = AtMost 2; policy = Oldest; scope = PerGroup }
+made = record { rate = 400; block = 1; budget = AtMost 2; policy = Oldest; scope = PerGroup; table = false }
 
 -- unprepared, or prepared; the processing order of the last prepare; the next id
 abbrev graph : List Node → List Edge → Option NodeId → Bool → List ℕ → ℕ → GraphView

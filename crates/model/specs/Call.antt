@@ -28,13 +28,14 @@ use Rattle.scheduler.specs.Queue.{full, inserted}
 use Rattle.scheduler.specs.declared.event.Event.{Event}
 use Rattle.voice.specs.Steals.{Book}
 use Rattle.voice.specs.declared.policy.Level.{Level}
+use Rattle.store.specs.declared.config.Config.{Config}
 use Rattle.store.specs.declared.answer.Outcome.{Outcome}
 use Rattle.store.specs.declared.answer.Spawned.{Spawned}
 use Rattle.store.specs.declared.answer.Rendered.{Rendered}
 use Rattle.store.specs.declared.voices.Voice.{Voice}
 use Rattle.store.specs.declared.voices.VoiceState.{VoiceState}
 use Rattle.store.specs.declared.voices.VoiceState.the-variants.{Tracked, Fading, Loose}
-use Rattle.node.specs.declared.refusal.Refusal.the-variants.{TableFull, ShortBuffer}
+use Rattle.node.specs.declared.refusal.Refusal.the-variants.{TableFull, LentBlock, ShortBuffer}
 use Rattle.model.specs.Desk.{Desk, withGraph, withEvents}
 use Rattle.model.specs.Voice.{isVoice, levelOr}
 use Rattle.model.specs.Refuse.{reportRefusal}
@@ -46,6 +47,7 @@ use Rattle.model.specs.Order as param
 use Rattle.model.specs.Clear as clearing
 use Rattle.model.specs.Page as paper
 use Rattle.model.specs.Written.{written}
+use Rattle.model.specs.Block.{fades, fadeBlock, sums, sumBlock}
 use Rattle.model.specs.Render.{prepareOutcome, prepareDesk}
 use Rattle.model.specs.Render as rendering
 
@@ -68,6 +70,10 @@ pub data Question : Type 0 where
   clock : Question
   -- the page into a lent buffer, which holds these bytes
   page : List ℕ → Question
+  -- the output of a fade: the input's block and channel count, lent gains, the fade's position, the lent output and its channel count
+  fadeOutput : List Float → ℕ → List Float → ℕ → List Float → ℕ → Question
+  -- the sum of a bus: the inputs' blocks, the channel count of each, the lent output and its channel count
+  busSum : List Float → List ℕ → List Float → ℕ → Question
 
 -- ---- the calls. Names and kinds come as lent bytes of any length, samples as a lent block
 pub data Call : Type 0 where
@@ -108,6 +114,8 @@ pub data Answer : Type 0 where
   time : ℕ → Answer
   -- the length of the page, and the buffer with the page in it
   printed : ℕ → List ℕ → Answer
+  -- the lent output, written whole
+  filled : List Float → Answer
 
 pub record Step : Type 0 where
   pub answer : Answer
@@ -152,6 +160,16 @@ scheduleRefusal q = when (full q) TableFull none
 abbrev pub pageAnswer : List ℕ → List ℕ → Answer
 pageAnswer text out = cond (leb (length text) (length out)) (printed (length text) (written text out)) (refused ShortBuffer)
 
+-- the output, or 16
+abbrev pub blockAnswer : Bool → List Float → Answer
+blockAnswer fits out = cond fits (filled out) (refused LentBlock)
+
+abbrev pub fadeAnswer : Config → List Float → ℕ → List Float → ℕ → List Float → ℕ → Answer
+fadeAnswer c input ins lent at out outs = blockAnswer (fades c input ins lent out outs) (fadeBlock c input ins lent at out outs)
+
+abbrev pub sumAnswer : Config → List Float → List ℕ → List Float → ℕ → Answer
+sumAnswer c inputs counts out outs = blockAnswer (sums c inputs counts out outs) (sumBlock c inputs counts out outs)
+
 abbrev pub answerTo : Question → Model → Answer
 answerTo (level w) m = known (levelOr (m .desk) (find (isVoice w) (m .voices)))
 answerTo (position w) m = reached (positionIn (find (isVoice w) (m .voices)))
@@ -165,6 +183,8 @@ answerTo (sources k) m = fed (ports.sources (m .desk .graph .edges) k)
 answerTo (nodeRecord k) m = foundNode (nodeAt (m .desk .graph .nodes) k)
 answerTo clock m = time (m .desk .clock)
 answerTo (page out) m = pageAnswer (paper.page (m .desk .clock) (m .voices)) out
+answerTo (fadeOutput input ins lent at out outs) m = fadeAnswer (m .desk .config) input ins lent at out outs
+answerTo (busSum inputs counts out outs) m = sumAnswer (m .desk .config) inputs counts out outs
 
 abbrev pub step : Call → Model → Step
 step (addNode kind ports required values glides) m =

@@ -9,6 +9,7 @@ pub mod Render
 pub mod Decimal
 pub mod Written
 pub mod Page
+pub mod Block
 pub mod Call
 pub mod Numbers
 pub mod Make

@@ -1,7 +1,8 @@
--- Making a store: 1, 2, 3, or a new store.
+-- Making a store: 1, 2, 3, 20, or a new store.
 use Prim.Native.Nat.{ℕ}
 use mathlib.Core.List.{[]}
 use mathlib.Core.Option.{Option, none, some}
+use mathlib.Core.Bool.{Bool}
 use lib.Ieee.{Float}
 use Rattle.node.specs.declared.refusal.Refusal.{Refusal}
 use Rattle.node.specs.Refusal.{Said, refused, gives}
@@ -21,6 +22,8 @@ pub record Making : Type 0 where
   pub budget : Budget
   pub policy : StealPolicy
   pub scope : BudgetScope
+  -- 02: "Hosts may choose the table when making the store"
+  pub table : Bool
 
 -- the rate as a whole number; 0 where it is none, which is refused
 abbrev pub wholeOr0 : Said ℕ → ℕ
@@ -28,10 +31,10 @@ wholeOr0 (refused n) = 0
 wholeOr0 (gives n) = n
 
 abbrev pub configOf : Making → Config
-configOf k = record { rate = wholeOr0 (rateOf (k .rate)); block = k .block; budget = k .budget; policy = k .policy; scope = k .scope }
+configOf k = record { rate = wholeOr0 (rateOf (k .rate)); block = k .block; budget = k .budget; policy = k .policy; scope = k .scope; table = k .table }
 
 abbrev pub refusalOf : Making → Option Refusal
-refusalOf k = makeRefusal (rateOf (k .rate)) (k .block) (k .budget)
+refusalOf k = makeRefusal (rateOf (k .rate)) (k .block) (k .budget) (k .table)
 
 abbrev pub newModel : Config → Model
 newModel c = record { desk = newDesk c; voices = [] }

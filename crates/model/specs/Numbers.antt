@@ -103,3 +103,4 @@ numberIn (call.inOrder l) = none
 numberIn (call.fed l) = none
 numberIn (call.time t) = none
 numberIn (call.printed n out) = none
+numberIn (call.filled out) = none

@@ -10,7 +10,7 @@ use Rattle.lists.specs.Find.{find}
 use Rattle.node.specs.declared.record.NodeId.{NodeId}
 use Rattle.node.specs.declared.record.Node.{Node}
 use Rattle.node.specs.declared.refusal.Refusal.{Refusal}
-use Rattle.node.specs.declared.refusal.Refusal.the-variants.{SampleRate, BlockSize, BudgetTooLarge, UnknownNode, TableFull, IdsUsedUp, DefinitionLimits, BusWithoutPorts, LentBlock}
+use Rattle.node.specs.declared.refusal.Refusal.the-variants.{SampleRate, BlockSize, BudgetTooLarge, UnknownNode, TableFull, IdsUsedUp, DefinitionLimits, BusWithoutPorts, LentBlock, TableRate}
 use Rattle.node.specs.Refusal.{Said, refused, gives}
 use Rattle.edges.specs.Wiring.{edgeLimit}
 use Rattle.graph.specs.Node.{nodeLimit, idLimit, nodeAt, portsOf}
@@ -30,7 +30,7 @@ voiceLimit = 64
 abbrev pub voiceIdLimit : ℕ
 voiceIdLimit = 18446744073709551615
 
--- ---- making: 1, 2, 3
+-- ---- making: 1, 2, 3, 20
 abbrev pub noRate : Said ℕ → Bool
 noRate (refused n) = true
 noRate (gives n) = false
@@ -39,11 +39,21 @@ abbrev pub overBudget : Budget → Bool
 overBudget Unlimited = false
 overBudget (AtMost n) = ltb 64 n
 
-abbrev pub makeRefusal : Said ℕ → ℕ → Budget → Option Refusal
-makeRefusal rate block budget =
+-- 02: "A fade table for 48,000 Hz."
+abbrev pub tableRate : ℕ
+tableRate = 48000
+
+abbrev pub otherRate : Said ℕ → Bool
+otherRate (refused n) = true
+otherRate (gives n) = not (eqb n tableRate)
+
+-- 02: "20 table chosen at another rate, after 3"
+abbrev pub makeRefusal : Said ℕ → ℕ → Budget → Bool → Option Refusal
+makeRefusal rate block budget table =
     when (noRate rate) SampleRate
     (when (not (leb 1 block && leb block 128)) BlockSize
-    (when (overBudget budget) BudgetTooLarge none))
+    (when (overBudget budget) BudgetTooLarge
+    (when (table && otherRate rate) TableRate none)))
 
 -- ---- a spawn, managed or not: 9; 4 and 5 of the bus; 10; 7, headroom; 8
 abbrev pub orElse : Option Refusal → Option Refusal → Option Refusal

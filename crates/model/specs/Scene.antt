@@ -41,7 +41,7 @@ use Rattle.model.specs.Spawn.{spawnOf}
 
 -- ---- stores: rate 8000, so that L is 40; block 16
 abbrev pub config : Budget → StealPolicy → BudgetScope → Config
-config b p s = record { rate = 8000; block = 16; budget = b; policy = p; scope = s }
+config b p s = record { rate = 8000; block = 16; budget = b; policy = p; scope = s; table = false }
 
 -- all voices count
 abbrev pub upTo : ℕ → StealPolicy → Config
@@ -49,7 +49,7 @@ upTo n p = config (AtMost n) p BudgetScope.Global
 
 -- a block of one sample: L is 40 blocks, and a report of a sample is its level
 abbrev pub small : ℕ → StealPolicy → Config
-small n p = record { rate = 8000; block = 1; budget = AtMost n; policy = p; scope = BudgetScope.Global }
+small n p = record { rate = 8000; block = 1; budget = AtMost n; policy = p; scope = BudgetScope.Global; table = false }
 
 -- ---- definitions of one node, which has no ports
 abbrev pub plain : String → Bool → Bool → DefNode

@@ -20,6 +20,7 @@ pub enum Refusal {
     ClockEnd,
     LentBlock,
     ShortBuffer,
+    TableRate,
 }
 
 // The number of a refusal, as the table gives it.
@@ -44,5 +45,6 @@ pub fn refusal_number(r: Refusal) -> u8
         Refusal::ClockEnd => 15,
         Refusal::LentBlock => 16,
         Refusal::ShortBuffer => 17,
+        Refusal::TableRate => 20,
     }
 }

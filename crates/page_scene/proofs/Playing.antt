@@ -3,6 +3,7 @@ use Prim.Native.Nat.{ℕ, zero, suc, _+_}
 use native.Mathlib.Numerals.{add-one}
 use mathlib.Core.Path.{_≡_, refl, sym, ap, _∙_}
 use mathlib.Core.List.{List, [], _∷_, _++_}
+use mathlib.Core.Bool.{false}
 use lib.ListN.{replicate}
 use lib.Ieee.{ofBits, binary32}
 use Rattle.bus.specs.Rate.{rateOf}
@@ -33,7 +34,7 @@ three-turns o t m a b c d e f g h =
     ∙ sym (further-both o (t ++ (t ++ t)) m ∙ further-both t (t ++ t) (further o m) ∙ further-both t t (further t (further o m)))
 
 -- a rate of 8000, as the code writes it
-pub config-is : (b : Budget) (p : StealPolicy) (s : BudgetScope) → configOf (making (ofBits binary32 0x45fa0000) 16 b p s) ≡ config b p s
+pub config-is : (b : Budget) (p : StealPolicy) (s : BudgetScope) → configOf (making (ofBits binary32 0x45fa0000) 16 b p s false) ≡ config b p s
 unfolding ofBits rateOf
 config-is b p s = refl
 

@@ -91,6 +91,7 @@ pub fn opened() -> Store
         Budget::AtMost(2),
         StealPolicy::Oldest,
         BudgetScope::Global,
+        false,
     );
     let empty = made.store;
     let added = add_node(empty, b"Bus", 3, 0, false, false);

@@ -25,7 +25,14 @@ ghost use Rattle.page_scene.specs.Stores.{feeder, waiting, atClock, atNe
 pub fn with_bus(budget: Budget, ports: u32) -> Store
     ensures { λ r. ⌜ modelOf r ≡ further (host ports ∷ []) (newModel (config budget policy.Oldest scope.Global)) ⌝ }
 {
-    let made = make(8000.0, 16, budget, StealPolicy::Oldest, BudgetScope::Global);
+    let made = make(
+        8000.0,
+        16,
+        budget,
+        StealPolicy::Oldest,
+        BudgetScope::Global,
+        false,
+    );
     let s = made.store;
     let granted = add_node(s, b"Bus", ports, 0, false, false);
     granted.store

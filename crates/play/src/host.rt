@@ -36,13 +36,13 @@ pub(crate) fn told(r: Served) -> Store {
 }
 
 // A refused making leaves the store before.
-fn made(s: &[u8], at: usize, store: Store) -> Store {
+pub(crate) fn made(s: &[u8], at: usize, table: bool, store: Store) -> Store {
     let rate = float(word_at(s, at));
     let block = word_at(s, after(at, 4)) as usize;
     let budget = budget_of(byte_at(s, after(at, 8)), word_at(s, after(at, 9)) as usize);
     let policy = policy_of(byte_at(s, after(at, 13)));
     let scope = scope_of(byte_at(s, after(at, 14)));
-    let r = make(rate, block, budget, policy, scope);
+    let r = make(rate, block, budget, policy, scope, table);
     let answer = r.answer;
     made_line(answer);
     match answer {
@@ -93,7 +93,7 @@ fn part(s: &[u8], at: usize, store: Store) -> Store {
 
 pub(crate) fn play_host(s: &[u8], from: usize, sort: u8, store: Store) -> Store {
     match sort {
-        1 => made(s, from, store),
+        1 => made(s, from, false, store),
         2 => set(s, from, store),
         3 => add(s, from, store),
         4 => told(remove_node(store, id_at(s, from))),

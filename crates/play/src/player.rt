@@ -1,5 +1,6 @@
 // A script's store and the definitions that it keeps.
 use crate::blocks::play_block;
+use crate::host::made;
 use crate::host::play_host;
 use crate::slots::Slots;
 use crate::slots::keep;
@@ -28,6 +29,7 @@ pub fn new_player() -> Player {
         Budget::Unlimited,
         StealPolicy::Reject,
         BudgetScope::Global,
+        false,
     );
     let store = r.store;
     let slots = no_slots();
@@ -47,6 +49,9 @@ fn play_on(s: &[u8], from: usize, sort: u8, store: Store, slots: Slots) -> Store
     }
     if sort < 22 {
         return play_block(s, from, sort, store);
+    }
+    if sort == 34 {
+        return made(s, from, true, store);
     }
     tell(s, from, sort, store);
     store

@@ -27,7 +27,7 @@ enum Form {
 }
 
 // By rising sort, from 0 on.
-const FORMS: [Form; 34] = [
+const FORMS: [Form; 35] = [
     Form::Malformed,
     Form::Fixed(15),
     Form::Fixed(20),
@@ -74,13 +74,14 @@ const FORMS: [Form; 34] = [
     Form::Fixed(0),
     Form::Buffer,
     Form::Fixed(0),
+    Form::Fixed(15),
 ];
 
 fn form_of(sort: u8) -> Form
     ensures { λ r. ⌜ r ≡ formOf sort ⌝ }
 {
     let n = sort as usize;
-    if n < 34 {
+    if n < 35 {
         return FORMS[n];
     }
     Form::Malformed

@@ -2,12 +2,13 @@ use voice::policy::Budget;
 use voice::policy::BudgetScope;
 use voice::policy::StealPolicy;
 
-// What making fixes: the sample rate in Hz, the samples of a block, and how many voices may be tracked, which goes, and
-// among which ones.
+// What making fixes: the sample rate in Hz, the samples of a block, how many voices may be tracked, which goes, and
+// among which ones, and whether fades take their gains from the fade table.
 pub struct Config {
     pub rate: u32,
     pub block: usize,
     pub budget: Budget,
     pub policy: StealPolicy,
     pub scope: BudgetScope,
+    pub table: bool,
 }

@@ -1,6 +1,6 @@
 -- Every call's contract is the model's step, so that a run of calls is the model's run; and the store of an accepted making is the
 -- model's new store.
-use mathlib.Core.Path.{_≡_, refl, ap, _∙_}
+use mathlib.Core.Path.{_≡_, refl, sym, ap, _∙_}
 use mathlib.Core.List.{List, [], _∷_, map}
 use mathlib.Core.Option.{some}
 use Rattle.lists.specs.Member.{some-inj, none-some}
@@ -54,6 +54,11 @@ called (contract.sources κs a r s p) = p
 called (contract.node-record κs a r s p) = p
 called (contract.clock κs a r s p) = p
 called (contract.page κs a r s p) = p .0
+called (contract.fade-output κs a r s p t e) =
+    ap (call.reads (modelOf t))
+    (p .0 ∙ ap (λ c. call.fadeAnswer c (a .1 .0 .now) (a .1 .1 .0) (a .1 .1 .1 .0 .now) (a .1 .1 .1 .1 .0) (a .1 .1 .1 .1 .1 .0 .now) (a .1 .1 .1 .1 .1 .1 .0)) (sym e))
+called (contract.bus-sum κs a r s p t e) =
+    ap (call.reads (modelOf t)) (p .0 ∙ ap (λ c. call.sumAnswer c (a .1 .0 .now) (a .1 .1 .0 .now) (a .1 .1 .1 .0 .now) (a .1 .1 .1 .1 .0)) (sym e))
 
 abbrev after : Answer → Ran → Ran
 after a r = record { answers = a ∷ r .answers; model = r .model }
@@ -72,11 +77,11 @@ made-new k m r e accepted = go (r .answer) (e ∙ accepted)
 
 -- the tie, from the contract of `make`
 pub tie : (κs : _) (a : _) (r : _) (s : _) → fn-make.Post κs a r s
-    → (m : Model) → make (making (a .0) (a .1 .0) (a .1 .1 .0) (a .1 .1 .1 .0) (a .1 .1 .1 .1 .0)) ≡ some m
+    → (m : Model) → make (making (a .0) (a .1 .0) (a .1 .1 .0) (a .1 .1 .1 .0) (a .1 .1 .1 .1 .0) (a .1 .1 .1 .1 .1 .0)) ≡ some m
     → (t : Store) (cs : List Call) (said : List Answer) → Runs (r .store) cs said t
-    → Tied (making (a .0) (a .1 .0) (a .1 .1 .0) (a .1 .1 .1 .0) (a .1 .1 .1 .1 .0)) m cs said t
+    → Tied (making (a .0) (a .1 .0) (a .1 .1 .0) (a .1 .1 .1 .0) (a .1 .1 .1 .1 .0) (a .1 .1 .1 .1 .1 .0)) m cs said t
 tie κs a r s p m accepted t cs said ran =
-    let k = making (a .0) (a .1 .0) (a .1 .1 .0) (a .1 .1 .1 .0) (a .1 .1 .1 .1 .0) in
+    let k = making (a .0) (a .1 .0) (a .1 .1 .0) (a .1 .1 .1 .0) (a .1 .1 .1 .1 .0) (a .1 .1 .1 .1 .1 .0) in
     let is = run-is ran ∙ ap (run cs) (made-new k m r (p .0) accepted) in
     let holds = claim k m accepted cs in
     record { ran = is; claimed = holds; numbers = ap (map numberIn) (ap (λ (x : Ran). x .answers) is ∙ holds .answers) }

@@ -2,6 +2,7 @@
 -- the arguments a, the result r and what lent memory holds after the call, s. The store is the first argument, `a .0`, and the others
 -- follow: `a .1 .0`, `a .1 .1 .0`, ... Nothing is restated here: a contract that says less has a `Post` that says less, and then
 -- `called` (proofs/Tied.antt) is not proved.
+use mathlib.Core.Path.{_≡_}
 use Rattle.node.specs.Rows.{edgesOf}
 use Rattle.node.specs.declared.order.LastOrder.the-variants as LastOrder
 use Rattle.order.specs.Live.{orderOf}
@@ -16,6 +17,7 @@ use Rattle.model.specs.Call as call
 use Rattle.voice_table.specs.Looked.{lookedOf}
 use Rattle.service.specs.Steps.{answered, given}
 use Rattle.page.specs.Paged.{pagedOf}
+use Rattle.mixing.specs.Filled.{filledOf}
 use Rattle.service.proofs.host.add_node.Reads as fn-add-node
 use Rattle.service.proofs.host.remove_node.Reads as fn-remove-node
 use Rattle.service.proofs.host.connect.Reads as fn-connect
@@ -45,6 +47,8 @@ use Rattle.reading.proofs.sources.Reads as fn-sources
 use Rattle.reading.proofs.node_record.Reads as fn-node-record
 use Rattle.reading.proofs.clock.Reads as fn-clock
 use Rattle.page.proofs.page.Reads as fn-page
+use Rattle.mixing.proofs.fade_output.Reads as fn-fade-output
+use Rattle.mixing.proofs.bus_sum.Reads as fn-bus-sum
 
 -- this call on this store answers so and leaves that store
 pub data Contract : Call → Store → Answer → Store → Type 1 where
@@ -102,3 +106,9 @@ pub data Contract : Call → Store → Answer → Store → Type 1 where
   clock : (κs : _) (a : _) (r : _) (s : _) → fn-clock.Post κs a r s → Contract (call.ask call.clock) (a .0) (call.time r) (a .0)
   page : (κs : _) (a : _) (r : _) (s : _) → fn-page.Post κs a r s
       → Contract (call.ask (call.page (a .1 .0 .now))) (a .0) (pagedOf r (s .1 .0 .now)) (a .0)
+  -- fade output and bus sum, which are given no more of the store t than what making fixed
+  fade-output : (κs : _) (a : _) (r : _) (s : _) → fn-fade-output.Post κs a r s → (t : Store) → t .config ≡ a .0
+      → Contract (call.ask (call.fadeOutput (a .1 .0 .now) (a .1 .1 .0) (a .1 .1 .1 .0 .now) (a .1 .1 .1 .1 .0) (a .1 .1 .1 .1 .1 .0 .now) (a .1 .1 .1 .1 .1 .1 .0)))
+      t (filledOf r (s .1 .1 .1 .1 .1 .0 .now)) t
+  bus-sum : (κs : _) (a : _) (r : _) (s : _) → fn-bus-sum.Post κs a r s → (t : Store) → t .config ≡ a .0
+      → Contract (call.ask (call.busSum (a .1 .0 .now) (a .1 .1 .0 .now) (a .1 .1 .1 .0 .now) (a .1 .1 .1 .1 .0))) t (filledOf r (s .1 .1 .1 .0 .now)) t

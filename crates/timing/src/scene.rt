@@ -33,6 +33,7 @@ pub fn bus_store(budget: usize, policy: StealPolicy, ports: u32) -> Store {
         Budget::AtMost(budget),
         policy,
         BudgetScope::Global,
+        false,
     );
     let empty = made.store;
     let served = set_sink(host_node(empty, ports), NodeId(0));

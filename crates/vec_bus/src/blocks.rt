@@ -3,6 +3,10 @@ ghost use Prim.Native.Nat.{_≤_};
 use bus::SampleRate;
 use bus::Written;
 use libc::STDOUT_FILENO;
+use store::config::Config;
+use voice::policy::Budget;
+use voice::policy::BudgetScope;
+use voice::policy::StealPolicy;
 use wire::field::after;
 use wire::field::float;
 use wire::field::float_room;
@@ -100,9 +104,21 @@ fn block_line(written: Written, out: &[f32]) {
     end_line();
 }
 
+// What making fixes, as far as fades and sums depend on it.
+fn config(rate: u32, block: usize, table: bool) -> Config {
+    Config {
+        rate,
+        block,
+        budget: Budget::Unlimited,
+        policy: StealPolicy::Reject,
+        scope: BudgetScope::Global,
+        table,
+    }
+}
+
 // The channel counts of input and output, the block size, the position and the length; then the gains, the input, and what the
-// output holds before.
-pub fn fade(s: &[u8], at: usize) -> usize {
+// output holds before. Of sorts 16 and 17, the calls of a store, 17 with the fade table, the rate stands in the length's place.
+pub fn fade(s: &[u8], at: usize, sort: u8) -> usize {
     let gains = lent_at(s, after(at, 24));
     let input = lent_at(s, gains.end);
     let out = lent_at(s, input.end);
@@ -112,11 +128,11 @@ pub fn fade(s: &[u8], at: usize) -> usize {
     let g = gains.count;
     let i = input.count;
     let o = out.count;
-    fade_line(s, at, &mut a[..g], &mut b[..i], &mut c[..o]);
+    fade_line(s, at, sort, &mut a[..g], &mut b[..i], &mut c[..o]);
     out.end
 }
 
-fn fade_line(s: &[u8], at: usize, gains: &mut [f32], input: &mut [f32], out: &mut [f32]) {
+fn fade_line(s: &[u8], at: usize, sort: u8, gains: &mut [f32], input: &mut [f32], out: &mut [f32]) {
     let ins = word_at(s, at) as usize;
     let outs = word_at(s, after(at, 4)) as usize;
     let size = word_at(s, after(at, 8)) as usize;
@@ -125,14 +141,23 @@ fn fade_line(s: &[u8], at: usize, gains: &mut [f32], input: &mut [f32], out: &mu
     let first = filled(s, after(at, 24), gains);
     let second = filled(s, first, input);
     filled(s, second, out);
+    if sort == 14 {
+        block_line(
+            bus::fade_output(input, ins, gains, length, position, size, out, outs),
+            out,
+        );
+        return;
+    }
+    let made = config(length, size, sort == 17);
     block_line(
-        bus::fade_output(input, ins, gains, length, position, size, out, outs),
+        mixing::fade_output(made, input, ins, gains, position, out, outs),
         out,
     );
 }
 
-// The output's channel count and the block size; then the channel count of each input, the inputs, and what the output holds before.
-pub fn sum(s: &[u8], at: usize) -> usize {
+// The output's channel count and the block size; then the channel count of each input, the inputs, and what the output holds before. Sort 18
+// is the call of a store.
+pub fn sum(s: &[u8], at: usize, sort: u8) -> usize {
     let counts = lent_at(s, after(at, 8));
     let input = lent_at(s, counts.end);
     let out = lent_at(s, input.end);
@@ -142,16 +167,30 @@ pub fn sum(s: &[u8], at: usize) -> usize {
     let n = counts.count;
     let i = input.count;
     let o = out.count;
-    sum_line(s, at, &mut a[..n], &mut b[..i], &mut c[..o]);
+    sum_line(s, at, sort, &mut a[..n], &mut b[..i], &mut c[..o]);
     out.end
 }
 
-fn sum_line(s: &[u8], at: usize, counts: &mut [usize], input: &mut [f32], out: &mut [f32]) {
+fn sum_line(
+    s: &[u8],
+    at: usize,
+    sort: u8,
+    counts: &mut [usize],
+    input: &mut [f32],
+    out: &mut [f32],
+) {
     let outs = word_at(s, at) as usize;
     let size = word_at(s, after(at, 4)) as usize;
     words_at(s, after(at, 12), counts);
     let first = lent_at(s, after(at, 8)).end;
     let second = filled(s, first, input);
     filled(s, second, out);
-    block_line(bus::bus_sum(input, counts, size, out, outs), out);
+    if sort == 15 {
+        block_line(bus::bus_sum(input, counts, size, out, outs), out);
+        return;
+    }
+    block_line(
+        mixing::bus_sum(config(48000, size, false), input, counts, out, outs),
+        out,
+    );
 }

@@ -18,15 +18,16 @@ use wire::word::text;
 // Answers the vector at `at` by its sort, and gives the position after it. A sort that there is not has its end past the input.
 fn answer(s: &[u8], at: usize) -> usize {
     let from = after(at, 1);
-    match byte_at(s, at) {
+    let sort = byte_at(s, at);
+    match sort {
         1 => levels::root(s, from),
         2 => levels::narrowing(s, from),
         3 => levels::block(s, from),
         11 => blocks::rate(s, from),
         12 => blocks::fade_lengths(s, from),
         13 => blocks::seed(s, from),
-        14 => blocks::fade(s, from),
-        15 => blocks::sum(s, from),
+        14 | 16 | 17 => blocks::fade(s, from, sort),
+        15 | 18 => blocks::sum(s, from, sort),
         21 => script(s, from),
         31 => queues::history(s, from),
         41 => victims::victim(s, from),

@@ -9,10 +9,14 @@ use crate::writer::{Host, Writer, fed_port};
 /// A refused making.
 pub fn refused_making(rng: &mut Rng) -> Call {
     let mut config = Config::random(rng);
-    match rng.below(3) {
+    match rng.below(4) {
         0 => config.rate = *rng.pick(&[0.0, -1.0, 44100.5, 0.5, 384_001.0, f32::NAN, f32::INFINITY, -0.0]),
         1 => config.block = *rng.pick(&[0, 129, 256, u32::MAX]),
-        _ => config.budget = Some(*rng.pick(&[65, 66, 1000, u32::MAX])),
+        2 => config.budget = Some(*rng.pick(&[65, 66, 1000, u32::MAX])),
+        _ => {
+            config.rate = *rng.pick(&[44_100.0, 47_999.0, 48_001.0, 24_000.0, 96_000.0]);
+            config.has_table = true;
+        }
     }
     config.call(rng)
 }

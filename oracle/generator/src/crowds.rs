@@ -112,7 +112,7 @@ pub fn full_graph(writer: &mut Writer) {
 /// The big console: 512 nodes of 8 ports in one chain; then with a second edge between its last two nodes, the last of the
 /// table; then with all 1,024 edges, without a cycle. Each time an edge is put anew before the prepare.
 pub fn big_console(writer: &mut Writer) {
-    make(writer, Config { rate: 48_000.0, block: 128, budget: Some(64), policy: 1, per_group: false });
+    make(writer, Config { rate: 48_000.0, block: 128, budget: Some(64), policy: 1, per_group: false, has_table: false });
     let nodes: Vec<u32> = (0..limits::NODES).filter_map(|_| writer.add_node(b"Host", 8, 0)).collect();
     let last = nodes.len() - 1;
     writer.put(Call::SetSink { node: nodes[0] });

@@ -263,7 +263,7 @@ fn silence(writer: &mut Writer) {
 fn crossing_fades(writer: &mut Writer) {
     let budget = writer.rng.within(2, 4) as u32;
     let (block, per_group) = (writer.rng.within(1, 4) as u32, writer.rng.flag());
-    make(writer, Config { rate: 384_000.0, block, budget: Some(budget), policy: 3, per_group });
+    make(writer, Config { rate: 384_000.0, block, budget: Some(budget), policy: 3, per_group, has_table: false });
     writer.put(Call::Keep { slot: 0, definition: values::tone() });
     let ports = budget + writer.rng.within(2, 7) as u32;
     if let Some(node) = writer.add_node(b"Bus", ports, 0) {
@@ -276,7 +276,9 @@ fn crossing_fades(writer: &mut Writer) {
 fn fading(writer: &mut Writer) {
     let mut config = Config::random(&mut writer.rng);
     let half = 200 * writer.rng.below(12) + 100;
-    config.rate = *writer.rng.pick(&[half, half, half - 1, half + 1, half + 100]) as f32;
+    if !config.has_table {
+        config.rate = *writer.rng.pick(&[half, half, half - 1, half + 1, half + 100]) as f32;
+    }
     config.block = writer.rng.within(1, 2) as u32;
     config.budget = Some(writer.rng.within(1, 3) as u32);
     config.policy = writer.rng.within(1, 3) as u8;
@@ -287,7 +289,7 @@ fn fading(writer: &mut Writer) {
 fn long_fades(writer: &mut Writer) {
     let per_group = writer.rng.flag();
     let policy = writer.rng.within(1, 3) as u8;
-    make(writer, Config { rate: 384_000.0, block: 1, budget: Some(1), policy, per_group });
+    make(writer, Config { rate: 384_000.0, block: 1, budget: Some(1), policy, per_group, has_table: false });
     writer.put(Call::Keep { slot: 0, definition: values::tone() });
     let (Some(first), Some(second)) = (writer.add_node(b"Bus", 2, 0), writer.add_node(b"Bus", 3, 0)) else {
         return;

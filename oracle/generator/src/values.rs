@@ -61,27 +61,32 @@ pub struct Config {
     /// 0 reject, 1 oldest, 2 newest, 3 quietest.
     pub policy: u8,
     pub per_group: bool,
+    pub has_table: bool,
 }
 
 impl Config {
     pub fn random(rng: &mut Rng) -> Config {
+        let has_table = rng.once_in(8);
         Config {
-            rate: rate(rng),
+            rate: if has_table { 48_000.0 } else { rate(rng) },
             block: block(rng),
             budget: budget(rng),
             policy: rng.below(4) as u8,
             per_group: rng.flag(),
+            has_table,
         }
     }
 
     pub fn call(self, rng: &mut Rng) -> Call {
-        Call::Make {
-            rate: self.rate,
-            block: self.block,
-            budgeted: if self.budget.is_some() { yes(rng) } else { 0 },
-            budget: self.budget.unwrap_or(7),
-            policy: if self.policy == 3 { *rng.pick(&[3, 3, 4, 255]) } else { self.policy },
-            scope: if self.per_group { yes(rng) } else { 0 },
+        let Config { rate, block, .. } = self;
+        let budgeted = if self.budget.is_some() { yes(rng) } else { 0 };
+        let budget = self.budget.unwrap_or(7);
+        let policy = if self.policy == 3 { *rng.pick(&[3, 3, 4, 255]) } else { self.policy };
+        let scope = if self.per_group { yes(rng) } else { 0 };
+        if self.has_table {
+            Call::MakeWithTable { rate, block, budgeted, budget, policy, scope }
+        } else {
+            Call::Make { rate, block, budgeted, budget, policy, scope }
         }
     }
 }

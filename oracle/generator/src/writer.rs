@@ -138,7 +138,7 @@ impl Writer {
 
     fn learn(&mut self, call: &Call, answer: &Answer) {
         match call {
-            Call::Make { .. } if answer.is("made") => {
+            Call::Make { .. } | Call::MakeWithTable { .. } if answer.is("made") => {
                 self.hosts.clear();
                 self.channels.clear();
             }

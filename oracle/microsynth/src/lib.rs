@@ -26,4 +26,5 @@ include!(concat!(env!("OUT_DIR"), "/modules.rs"));
 pub const IS_PUBLISHED: bool = matches!(env!("MICROSYNTH_CHANGES").as_bytes(), b"0");
 
 pub mod routing;
+pub mod table;
 pub mod tuning;

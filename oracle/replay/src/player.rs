@@ -19,7 +19,7 @@ pub struct Player {
 impl Default for Player {
     /// What the entries before the first making are played on.
     fn default() -> Player {
-        let config = Config { rate: 48_000.0, block: 64, budget: None };
+        let config = Config { rate: 48_000.0, block: 64, budget: None, has_table: false };
         let store = Store::make(&config).expect("it is within the limits");
         Player { store, slots: [const { Err(9) }; 16] }
     }
@@ -62,7 +62,7 @@ impl Player {
     fn answer(&mut self, call: &Call, upcoming: &[Call]) -> Answer {
         let (store, id) = (&mut self.store, NodeId::numbered);
         match *call {
-            Call::Make { .. } => self.make(call),
+            Call::Make { .. } | Call::MakeWithTable { .. } => self.make(call),
             Call::SetCounters { clock, voices, noise } => {
                 store.set_counters(clock, voices, noise);
                 Ok("set".to_string())
@@ -98,11 +98,17 @@ impl Player {
 
     /// The old store stays where a new one is refused.
     fn make(&mut self, call: &Call) -> Answer {
-        let Call::Make { rate, block, budgeted, budget, policy, scope } = *call else {
-            unreachable!("{call:?} makes no store");
+        let (rate, block, budgeted, budget, policy, scope, has_table) = match *call {
+            Call::Make { rate, block, budgeted, budget, policy, scope } => {
+                (rate, block, budgeted, budget, policy, scope, false)
+            }
+            Call::MakeWithTable { rate, block, budgeted, budget, policy, scope } => {
+                (rate, block, budgeted, budget, policy, scope, true)
+            }
+            _ => unreachable!("{call:?} makes no store"),
         };
         let budget = (budgeted != 0).then_some((budget, policy_of(policy), scope_of(scope)));
-        self.store = Store::make(&Config { rate, block, budget })?;
+        self.store = Store::make(&Config { rate, block, budget, has_table })?;
         Ok("made".to_string())
     }
 

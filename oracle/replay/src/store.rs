@@ -6,6 +6,7 @@ use microsynth::engine::{Engine, EngineConfig, VoiceRow};
 use microsynth::graph::AudioGraph;
 use microsynth::node::NodeId;
 use microsynth::scheduler::VoiceId;
+use microsynth::table;
 use microsynth::voice::{BudgetScope, StealPolicy, VoiceAllocator};
 use scripted::generator::{Handle, Log};
 use scripted::limits::{self, Refusal, check};
@@ -33,6 +34,8 @@ pub struct Config {
     pub block: u32,
     /// The budget, the policy and the scope.
     pub budget: Option<(u32, StealPolicy, BudgetScope)>,
+    /// Whether fades take their gains from the fade table.
+    pub has_table: bool,
 }
 
 pub struct Store {
@@ -43,11 +46,13 @@ pub struct Store {
 }
 
 impl Store {
-    /// A new store; 1, 2 or 3.
+    /// A new store; 1, 2, 3 or 20.
     pub fn make(config: &Config) -> Result<Store, Refusal> {
         limits::whole_rate(config.rate)?;
         check((1..=128).contains(&config.block), 2)?;
         check(config.budget.is_none_or(|(budget, ..)| budget as usize <= limits::BUDGET), 3)?;
+        check(!config.has_table || config.rate == table::RATE, 20)?;
+        table::choose(config.has_table);
         let mut engine = Engine::new(EngineConfig { sample_rate: config.rate, block_size: config.block as usize });
         if let Some((budget, policy, scope)) = config.budget {
             engine.set_voice_allocator(VoiceAllocator::new(budget as usize, policy).with_scope(scope));

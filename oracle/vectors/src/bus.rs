@@ -4,6 +4,7 @@ use microsynth::buffer::AudioBuffer;
 use microsynth::context::ProcessContext;
 use microsynth::engine::{Engine, EngineConfig, noise_seed};
 use microsynth::node::UGen;
+use microsynth::table;
 use microsynth::ugens::{Bus, ChannelCount, StealFade, steal_fade_samples};
 use scripted::definition::{Definition, Made, Node};
 use scripted::generator::Log;
@@ -19,6 +20,10 @@ const FADE_LENGTHS: u8 = 12;
 const SEED: u8 = 13;
 const FADE: u8 = 14;
 const SUM: u8 = 15;
+/// The same as calls of a store, which takes its fade length from the rate and may have chosen the fade table.
+const STORE_FADE: u8 = 16;
+const TABLE_FADE: u8 = 17;
+const STORE_SUM: u8 = 18;
 
 const HIGHEST_RATE: usize = 384_000;
 
@@ -31,12 +36,17 @@ pub fn book(rng: &mut Rng, amount: usize) -> Book {
     for (sequence, node) in [(0, 0), (0, 1), (1, 0)] {
         book.put("seeds", 1, seed(sequence, node));
     }
-    for _ in 0..amount {
+    for turn in 0..amount {
         book.put("sample rates", 1, rate(any_rate(rng)));
         let (sequence, node) = (counter(rng), any_node(rng));
         book.put("seeds", 1, seed(sequence, node));
-        book.put("fade blocks", 1, fade(rng));
-        book.put("bus sums", 1, sum(rng));
+        book.put("fade blocks", 1, fade(rng, FADE));
+        book.put("bus sums", 1, sum(rng, SUM));
+        match turn % 3 {
+            0 => book.put("fade blocks of a store", 1, fade(rng, STORE_FADE)),
+            1 => book.put("fade blocks with the fade table", 1, fade(rng, TABLE_FADE)),
+            _ => book.put("bus sums of a store", 1, sum(rng, STORE_SUM)),
+        }
     }
     book
 }
@@ -198,49 +208,73 @@ fn block_samples(rng: &mut Rng, profile: Profile, whole: usize) -> Vec<f32> {
     profile.samples(rng, count)
 }
 
-fn fade(rng: &mut Rng) -> Vector {
+/// Rates whose fades have 1, 2, 5, 16, 40, 80, 221 and 240 samples.
+const FADE_RATES: [f32; 9] = [200.0, 300.0, 1000.0, 3200.0, 3200.0, 8000.0, 16_000.0, 44_100.0, 48_000.0];
+
+/// The gains of the Rust, one too few or some too many now and then.
+fn lent_gains(rng: &mut Rng, length: usize) -> Vec<f32> {
+    let lent = match rng.below(12) {
+        0 => length - 1,
+        1 => length + rng.within(1, 3),
+        _ => length,
+    };
+    (0..lent).map(|k| StealFade::new(length).gain(k)).collect()
+}
+
+/// Gains that do not count: any samples, often too few of them, or none.
+fn unused_gains(rng: &mut Rng, length: usize) -> Vec<f32> {
+    let lent = match rng.below(4) {
+        0 => 0,
+        1 => rng.below(length),
+        2 => length - 1,
+        _ => length + rng.below(4),
+    };
+    Profile::Any.samples(rng, lent)
+}
+
+fn fade(rng: &mut Rng, sort: u8) -> Vector {
     let (from, to, block) = (channels(rng), channels(rng), block_size(rng));
-    let length = *rng.pick(&[1, 2, 5, 16, 16, 40, 80, 221, 240]);
+    let has_table = sort == TABLE_FADE;
+    let rate = if has_table { table::RATE } else { *rng.pick(&FADE_RATES) };
+    let length = steal_fade_samples(rate);
     let position = match rng.below(5) {
         0 => rng.below(3 * length + 1) as u64,
         1 => (length as u64 + 2).saturating_sub(rng.below(4) as u64),
         2 => u64::MAX - rng.below(200) as u64,
         _ => rng.below(length) as u64,
     };
-    let lent = match rng.below(12) {
-        0 => length - 1,
-        1 => length + rng.within(1, 3),
-        _ => length,
-    };
-    let gains: Vec<f32> = (0..lent).map(|k| StealFade::new(length).gain(k)).collect();
+    let gains = if has_table { unused_gains(rng, length) } else { lent_gains(rng, length) };
     let profile = *rng.pick(&floats::PROFILES);
     let input = block_samples(rng, profile, from * block);
     let before = block_samples(rng, Profile::Any, to * block);
 
-    let mut vector = Vector::new(FADE);
+    let mut vector = Vector::new(sort);
     vector.u32(from);
     vector.u32(to);
     vector.u32(block);
     vector.u64(position);
-    vector.u32(length);
+    vector.u32(if sort == FADE { length } else { rate as usize });
     vector.samples(&gains);
     vector.samples(&input);
     vector.samples(&before);
 
     let result = limits::lent_block(from, block, input.len())
         .and(limits::lent_block(to, block, before.len()))
-        .and(check(gains.len() >= length, 16))
+        .and(check(has_table || gains.len() >= length, 16))
         .map(|()| {
             // The Rust's position would pass its largest number; from the length on every gain is the same.
             let reached = if position > u64::MAX - block as u64 { length as u64 } else { position };
             let mut unit = StealFade::standing_at(length, reached);
-            written(&mut unit, &[Some(&buffer(from, block, &input))], to, block, &before)
+            table::choose(has_table);
+            let samples = written(&mut unit, &[Some(&buffer(from, block, &input))], to, block, &before);
+            table::choose(false);
+            samples
         });
     answer(&mut vector, result, &before);
     vector
 }
 
-fn sum(rng: &mut Rng) -> Vector {
+fn sum(rng: &mut Rng, sort: u8) -> Vector {
     let count = match rng.below(16) {
         0 => 0,
         1 => *rng.pick(&[63, 64, 65]),
@@ -257,7 +291,7 @@ fn sum(rng: &mut Rng) -> Vector {
     let input = block_samples(rng, profile, from.iter().sum::<usize>() * block);
     let before = block_samples(rng, Profile::Any, to * block);
 
-    let mut vector = Vector::new(SUM);
+    let mut vector = Vector::new(sort);
     vector.u32(to);
     vector.u32(block);
     vector.u32(count);

@@ -37,9 +37,9 @@ returns : tie.Need-returns
 returns c =
     let a = c .before .before .before .before .args in
     let rate = c .before .before .before .sample-rate .ensures in
-    let told = c .before .before .make-test .ensures ∙ ap (λ (x : Said ℕ). answerOf (makeRefusal x (a .block) (a .budget))) rate in
-    let left = c .new-store .ensures ∙ ap (λ n. newModel (record { rate = n; block = a .block; budget = a .budget; policy = a .policy; scope = a .scope })) (c .before .hertz .ensures ∙ ap wholeOr0 rate) in
-    let k = making (a .rate) (a .block) (a .budget) (a .policy) (a .scope) in
+    let told = c .before .before .make-test .ensures ∙ ap (λ (x : Said ℕ). answerOf (makeRefusal x (a .block) (a .budget) (a .table))) rate in
+    let left = c .new-store .ensures ∙ ap (λ n. newModel (record { rate = n; block = a .block; budget = a .budget; policy = a .policy; scope = a .scope; table = a .table })) (c .before .hertz .ensures ∙ ap wholeOr0 rate) in
+    let k = making (a .rate) (a .block) (a .budget) (a .policy) (a .scope) (a .table) in
     (made (c .before .before .make-test .result) (refusalOf k) (modelOf (c .new-store .result)) (newModel (configOf k)) told left, (told, left))
 
 pub make-spec : {M : Type 1} → statement M

@@ -31,15 +31,28 @@ returns-3 c =
       sym (c .before .over-budget .ensures) ∙ c .if3 .taken,
     )
 
+other-rate-requires : tie.Need-other-rate-requires
+other-rate-requires c κs = search needs
+
 returns-4 : tie.Need-returns-4
 returns-4 c =
     rw (
-      sym (c .before .before .before .before .before .no-rate .ensures) ∙ c .before .before .before .before .if1 .left,
-      sym (c .before .before .before .is-block .ensures) ∙ not-false (c .before .before .before .is-block .result) (c .before .before .if2 .left),
-      sym (c .before .over-budget .ensures) ∙ c .if3 .left,
+      sym (c .before .before .before .before .before .before .before .no-rate .ensures) ∙ c .before .before .before .before .before .before .if1 .left,
+      sym (c .before .before .before .before .before .is-block .ensures) ∙ not-false (c .before .before .before .before .before .is-block .result) (c .before .before .before .before .if2 .left),
+      sym (c .before .before .before .over-budget .ensures) ∙ c .before .before .if3 .left,
+      sym (c .before .other-rate .ensures) ∙ c .if4 .taken,
+    )
+
+returns-5 : tie.Need-returns-5
+returns-5 c =
+    rw (
+      sym (c .before .before .before .before .before .before .before .no-rate .ensures) ∙ c .before .before .before .before .before .before .if1 .left,
+      sym (c .before .before .before .before .before .is-block .ensures) ∙ not-false (c .before .before .before .before .before .is-block .result) (c .before .before .before .before .if2 .left),
+      sym (c .before .before .before .over-budget .ensures) ∙ c .before .before .if3 .left,
+      sym (c .before .other-rate .ensures) ∙ c .if4 .left,
     )
 
 pub make-test-spec : {M : Type 1} → statement M
 make-test-spec =
     tie.close
-    (tie.spec no-rate-requires returns is-block-requires returns-2 over-budget-requires returns-3 returns-4)
+    (tie.spec no-rate-requires returns is-block-requires returns-2 over-budget-requires returns-3 other-rate-requires returns-4 returns-5)

@@ -1,7 +1,7 @@
 //! What is counted, by profile.
 
 /// The entries of a script by their sort, from 1 on.
-pub const ENTRIES: [&str; 33] = [
+pub const ENTRIES: [&str; 34] = [
     "make a store",
     "set the counters",
     "add a host node",
@@ -35,6 +35,7 @@ pub const ENTRIES: [&str; 33] = [
     "clock",
     "page",
     "state",
+    "make a store with the fade table",
 ];
 
 /// How a script ends that is malformed.

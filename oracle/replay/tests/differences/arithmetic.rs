@@ -1,4 +1,4 @@
-//! Departures 10, 14 to 18 and the lent blocks of 7: the leaves, which no call reaches in this way. What the store's
+//! Departures 10, 14 to 18, 21 and the lent blocks of 7: the leaves, which no call reaches in this way. What the store's
 //! functions answer is recorded as a vector (docs/VECTORS.md).
 
 use std::panic::catch_unwind;
@@ -7,6 +7,8 @@ use microsynth::buffer::AudioBuffer;
 use microsynth::context::ProcessContext;
 use microsynth::node::UGen;
 use microsynth::scheduler::VoiceId;
+use microsynth::table;
+use microsynth::IS_PUBLISHED;
 use microsynth::ugens::{Bus, ChannelCount, MAX_BUS_INPUTS, StealFade};
 use replay::script::{Call, Field, Samples};
 use scripted::definition;
@@ -120,4 +122,16 @@ fn departure_18_bus_inputs() {
     assert_eq!(output(&mut bus, 65, &[1.0, 2.0]), [65.0, 130.0]);
     let numbers = [&[1, 1, 65], &[1; 65][..]].concat();
     ask("18-bus-inputs", 15, &fields(&numbers, &[&[1.0; 65], &[9.0]]), "refused 16 41100000");
+}
+
+/// With the fade table, samples 1 and 2 of a fade at 48,000 Hz: the Rust as published has another last digit in both. No gain is
+/// lent to the store.
+#[test]
+fn departure_21_fade_table() {
+    table::choose(true);
+    let heard = output(&mut StealFade::standing_at(240, 1), 1, &[3.0, 5.0]).into_iter().map(f32::to_bits);
+    table::choose(false);
+    let expected = if IS_PUBLISHED { [0x403f_fde6, 0x409f_f8fc] } else { [0x403f_fde5, 0x409f_f8fb] };
+    assert!(heard.eq(expected));
+    ask("21-fade-table", 17, &fade_output(1, 48_000, &[]), "block 403ffde5 409ff8fb");
 }
