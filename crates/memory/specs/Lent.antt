@@ -1,0 +1,23 @@
+-- The store m, of which a call was lent these parts: the state, and the words of some tables. What a call was not lent stands in m
+-- as it is, before the call and after it.
+use Prim.Native.Nat.{ℕ}
+use mathlib.Core.List.{List}
+use Rattle.memory.specs.declared.state.State.{State}
+use Rattle.memory.specs.View.{Memory}
+
+abbrev pub lentState : State → Memory → Memory
+lentState s m = record { state = s; nodes = m .nodes; edges = m .edges; order = m .order; voices = m .voices; events = m .events; steals = m .steals }
+
+abbrev pub lentNodes : State → List ℕ → Memory → Memory
+lentNodes s nodes m = record { state = s; nodes = nodes; edges = m .edges; order = m .order; voices = m .voices; events = m .events; steals = m .steals }
+
+-- nodes and edges
+abbrev pub lentGraph : State → List ℕ → List ℕ → Memory → Memory
+lentGraph s nodes edges m = record { state = s; nodes = nodes; edges = edges; order = m .order; voices = m .voices; events = m .events; steals = m .steals }
+
+-- nodes, edges and the processing order
+abbrev pub lentOrder : State → List ℕ → List ℕ → List ℕ → Memory → Memory
+lentOrder s nodes edges order m = record { state = s; nodes = nodes; edges = edges; order = order; voices = m .voices; events = m .events; steals = m .steals }
+
+abbrev pub lentEvents : State → List ℕ → Memory → Memory
+lentEvents s events m = record { state = s; nodes = m .nodes; edges = m .edges; order = m .order; voices = m .voices; events = events; steals = m .steals }

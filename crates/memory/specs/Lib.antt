@@ -1,0 +1,3 @@
+pub mod View
+pub mod Lent
+pub mod Called

@@ -1,0 +1,35 @@
+use graph::state::Answer;
+use graph::state::Given;
+use graph::state::Sink;
+use store::config::Config;
+
+// What is no table: what making fixed, how many rows each table holds, the sink, whether the graph is prepared, the next node id, the
+// clock, the voice ids given out, the noise sequence, and of the ring of steal records the total and the next place.
+pub struct State {
+    pub config: Config,
+    pub nodes: usize,
+    pub edges: usize,
+    pub order: usize,
+    pub voices: usize,
+    pub events: usize,
+    pub sink: Sink,
+    pub prepared: bool,
+    pub next: u64,
+    pub clock: u64,
+    pub spawned: u64,
+    pub sequence: u32,
+    pub stolen: u64,
+    pub place: usize,
+}
+
+// The state that a call left, and what it answers.
+pub struct Served {
+    pub state: State,
+    pub answer: Answer,
+}
+
+// The same of a call that gives a node id.
+pub struct Granted {
+    pub state: State,
+    pub given: Given,
+}
