@@ -40,8 +40,7 @@ returns c =
     let rate = c .before .before .before .sample-rate .ensures in
     let told = c .before .before .make-test .ensures ∙ ap (λ (x : Said ℕ). answerOf (makeRefusal x (a .block) (a .budget) (a .table))) rate in
     let whole = ap (λ n. newModel (record { rate = n; block = a .block; budget = a .budget; policy = a .policy; scope = a .scope; table = a .table })) (c .before .hertz .ensures ∙ ap wholeOr0 rate) in
-    let k = making (a .rate) (a .block) (a .budget) (a .policy) (a .scope) (a .table) in
-    (
+    let k = making (a .rate) (a .block) (a .budget) (a .policy) (a .scope) (a .table) in (
       λ m. made (c .before .before .make-test .result) (refusalOf k) (modelOf (lentState (c .new-state .result) m)) (newModel (configOf k)) told (c .new-state .ensures m ∙ whole),
       (told, λ m. c .new-state .ensures m ∙ whole),
     )

@@ -1,0 +1,4 @@
+pub mod Tests
+pub mod Wiring
+pub mod Ordering
+pub mod Queueing

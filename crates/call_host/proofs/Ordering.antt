@@ -1,0 +1,45 @@
+-- What prepare promises on the lent store, from what it promises on the tables.
+use Prim.Native.Nat.{ℕ}
+use mathlib.Core.Path.{_≡_, sym, ap, subst, _∙_}
+use mathlib.Core.List.{List}
+use lib.ListN.{take}
+use Rattle.node.specs.declared.refusal.Refusal.{Refusal}
+use Rattle.order.specs.declared.Readiness.{Readiness}
+use Rattle.order.specs.declared.Readiness.the-variants as Readiness
+use Rattle.order.specs.Prepare as order
+use Rattle.graph.specs.View.{preparedBy}
+use Rattle.graph_rows.specs.Node.{nodesIn}
+use Rattle.graph_rows.specs.Edge.{edgesIn}
+use Rattle.order_table.specs.Prepares.{Prepares}
+use Rattle.order_table.specs.declared.Prepared.{Prepared}
+use Rattle.model.specs.Desk.{withGraph}
+use Rattle.model.specs.Render.{readyDesk}
+use Rattle.model.specs.Call.{Step, deskStep, readyAnswer, done, refused}
+use Rattle.model.specs.Call as call
+use Rattle.memory.specs.declared.state.State.{State}
+use Rattle.memory.specs.View.{Memory, graphOf, deskOf, modelOf}
+use Rattle.memory.specs.Lent.{lentOrder}
+use Rattle.memory.specs.Called.{Called, Kept}
+use Rattle.call_host.specs.Parts.{ordered}
+
+module _ (s : State) (ns es os os' : List ℕ) (r : Prepared) (h : Prepares (take (s .nodes) (nodesIn ns)) (take (s .edges) (edgesIn es)) os os' r) (m : Memory) where
+  abbrev outcome : order.Outcome
+  outcome = order.prepare (take (s .nodes) (nodesIn ns)) (take (s .edges) (edgesIn es))
+
+  -- the model's step, by the answer
+  abbrev by : Readiness → Step
+  by a = deskStep (modelOf (lentOrder s ns es os m)) (readyDesk a (outcome .order) (deskOf (lentOrder s ns es os m))) (readyAnswer a)
+
+  pub prepares-not : (x : Refusal) → r .answer ≡ Readiness.Refused x → Called call.prepare (lentOrder s ns es os m) (refused x) (lentOrder s ns es os' m)
+  prepares-not x e =
+      subst (λ w. Called call.prepare (lentOrder s ns es os m) (refused x) (lentOrder s ns es w m)) (sym (h .kept x e))
+      (ap by (sym e ∙ h .answer))
+
+  pub prepares-kept : (x : Refusal) → r .answer ≡ Readiness.Refused x → (a : call.Answer) → Kept a (lentOrder s ns es os m) (lentOrder s ns es os' m)
+  prepares-kept x e a y told = ap (λ w. lentOrder s ns es w m) (h .kept x e)
+
+  pub prepares : r .answer ≡ Readiness.Ready → (u : State) → u ≡ ordered s (r .count) → Called call.prepare (lentOrder s ns es os m) done (lentOrder u ns es os' m)
+  prepares e u left =
+      subst (λ v. Called call.prepare (lentOrder s ns es os m) done (lentOrder v ns es os' m)) (sym left)
+      (ap (λ l. deskStep (modelOf (lentOrder s ns es os m)) (withGraph (preparedBy (graphOf (lentOrder s ns es os m)) l) (deskOf (lentOrder s ns es os m))) done) (h .order .is)
+      ∙ ap by (sym e ∙ h .answer))

@@ -1,0 +1,67 @@
+-- What scheduling promises on the lent store, from what it promises on the table of events.
+use Prim.Native.Nat.{ℕ}
+use native.Mathlib.Omega.{arith}
+use mathlib.Core.Path.{_≡_, refl, sym, ap, subst, _∙_}
+use mathlib.Core.List.{List}
+use mathlib.Core.Bool.{Bool, true, false, cond}
+use mathlib.Core.Option.{none}
+use lib.ListN.{take}
+use Rattle.node.specs.declared.order.Action.{Action}
+use Rattle.node.specs.declared.record.VoiceId.{VoiceId}
+use Rattle.node.specs.declared.refusal.Refusal.{Refusal}
+use Rattle.node.specs.declared.refusal.Refusal.the-variants.{TableFull}
+use Rattle.graph.specs.Refuse.{when}
+use Rattle.scheduler.specs.Queue.{full, inserted}
+use Rattle.scheduler.specs.declared.queue.ScheduleAnswer.the-variants as queue
+use Rattle.event_table.specs.Rows.{eventsIn}
+use Rattle.event_table.specs.Queue.{Queued}
+use Rattle.event_table.specs.declared.queue.Scheduled.{Scheduled}
+use Rattle.model.specs.Desk.{withEvents}
+use Rattle.model.specs.Call.{Step, unless, deskStep, event, done, refused}
+use Rattle.model.specs.Call as call
+use Rattle.memory.specs.declared.state.State.{State}
+use Rattle.memory.specs.View.{Memory, deskOf, modelOf}
+use Rattle.memory.specs.Lent.{lentEvents}
+use Rattle.memory.specs.Called.{Called, Kept}
+use Rattle.call_host.specs.Parts.{queued}
+
+module _ (s : State) (old new : List ℕ) (time : ℕ) (voice : VoiceId) (name : List ℕ) (action : Action) (r : Scheduled)
+    (h : Queued (s .events) (event time voice name action) old r new) where
+  -- refused: the queue was full
+  full-refused : (x : Refusal) → r .answer ≡ queue.Refused x → (full (take (s .events) (eventsIn old)) ≡ true) × (x ≡ TableFull)
+  full-refused x e = go (full (take (s .events) (eventsIn old))) (sym (h .answer) ∙ e)
+    where
+      go : (b : Bool) → cond b (queue.Refused TableFull) queue.Taken ≡ queue.Refused x → (b ≡ true) × (x ≡ TableFull)
+      go true e = (refl, cc)
+      go false e = absurd (let z : _≡_ {A = ℕ} 0 1 = cc in omega arith)
+
+  room-taken : r .answer ≡ queue.Taken → full (take (s .events) (eventsIn old)) ≡ false
+  room-taken e = go (full (take (s .events) (eventsIn old))) (sym (h .answer) ∙ e)
+    where
+      go : (b : Bool) → cond b (queue.Refused TableFull) queue.Taken ≡ queue.Taken → b ≡ false
+      go true e = absurd (let z : _≡_ {A = ℕ} 0 1 = cc in omega arith)
+      go false e = refl
+
+  module _ (m : Memory) where
+    -- the model's step, by whether the queue is full
+    abbrev by : Bool → Step
+    by b =
+        unless (when b TableFull none) (modelOf (lentEvents s old m))
+        (deskStep (modelOf (lentEvents s old m)) (withEvents (inserted (event time voice name action) (take (s .events) (eventsIn old))) (deskOf (lentEvents s old m))) done)
+
+    pub schedules-not : (x : Refusal) → r .answer ≡ queue.Refused x → Called (call.schedule time voice name action) (lentEvents s old m) (refused x) (lentEvents s new m)
+    schedules-not x e =
+        let f = full-refused x e in
+        subst (λ w. Called (call.schedule time voice name action) (lentEvents s old m) (refused x) (lentEvents s w m)) (sym (h .kept (f .0) .1))
+        (ap (λ y. record { answer = refused y; model = modelOf (lentEvents s old m) }) (f .1) ∙ ap by (sym (f .0)))
+
+    pub schedules-kept : (x : Refusal) → r .answer ≡ queue.Refused x → (a : call.Answer) → Kept a (lentEvents s old m) (lentEvents s new m)
+    schedules-kept x e a y told = ap (λ w. lentEvents s w m) (h .kept (full-refused x e .0) .1)
+
+    pub schedules : r .answer ≡ queue.Taken → (u : State) → u ≡ queued s (r .count) → Called (call.schedule time voice name action) (lentEvents s old m) done (lentEvents u new m)
+    schedules e u left =
+        let q = take (s .events) (eventsIn old) in
+        let room : full q ≡ false = room-taken e in
+        subst (λ v. Called (call.schedule time voice name action) (lentEvents s old m) done (lentEvents v new m)) (sym left)
+        (ap (λ l. deskStep (modelOf (lentEvents s old m)) (withEvents l (deskOf (lentEvents s old m))) done) (h .queue ∙ ap (λ b. cond b q (inserted (event time voice name action) q)) room)
+        ∙ ap by (sym room))

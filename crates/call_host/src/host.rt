@@ -1,0 +1,180 @@
+use crate::parts::with_graph;
+use crate::refusals::host_answer;
+use crate::refusals::port_answer;
+use crate::refusals::wire_answer;
+use graph::host::host_node;
+use graph::state::Answer;
+use graph::state::Given;
+use graph::state::Sink;
+use graph::tests::is_bad_kind;
+use graph_rows::edge_row::EdgeTable;
+use graph_rows::node_row::NodeTable;
+use graph_tables::lookup::append_node;
+use graph_tables::lookup::node_count;
+use graph_tables::wiring::drop_port;
+use graph_tables::wiring::put_edge;
+use memory::state::Granted;
+use memory::state::Served;
+use memory::state::State;
+use node::record::Edge;
+use node::record::NodeId;
+use node::refusal::Refusal;
+ghost use Rattle.model.specs.Call.{addNode, removeNode, connect, disconnect, setSink};
+ghost use Rattle.memory.specs.View.{Memory};
+ghost use Rattle.memory.specs.Lent.{lentNodes, lentGraph};
+ghost use Rattle.memory.specs.Called.{Called, Kept, answered, granted};
+
+// The host adds a node: a kind name of 1 to 16 bytes, up to 64 ports, of which bit p of `required` says that port p must be
+// connected, and whether it takes values and glides.
+pub fn add_node(
+    s: State,
+    nodes: &mut NodeTable,
+    kind: &[u8],
+    ports: u32,
+    required: u64,
+    values: bool,
+    glides: bool,
+) -> Granted
+    ensures is { λ r. ⌜ ((m : Memory) → Called (addNode (now (kind .entry)) ports required values glides) (lentNodes s (now (nodes .entry)) m) (granted (r .given)) (lentNodes (r .state) (now (nodes .exit)) m)) ⌝ }
+    ensures same { λ r. ⌜ ((m : Memory) → Kept (granted (r .given)) (lentNodes s (now (nodes .entry)) m) (lentNodes (r .state) (now (nodes .exit)) m)) ⌝ }
+{
+    if is_bad_kind(kind, ports, required) {
+        return Granted {
+            state: s,
+            given: Given::Refused(Refusal::PortOrKind),
+        };
+    }
+    if node_count(nodes, s.nodes) >= 512 {
+        return Granted {
+            state: s,
+            given: Given::Refused(Refusal::TableFull),
+        };
+    }
+    if s.next >= 4294967296 {
+        return Granted {
+            state: s,
+            given: Given::Refused(Refusal::IdsUsedUp),
+        };
+    }
+    let id = s.next as u32;
+    let mut row = host_node(kind, ports, required, values, glides);
+    row.id.0 = id;
+    let n = append_node(nodes, s.nodes, row);
+    let sink = s.sink;
+    let state = with_graph(s, n, s.edges, sink, s.next + 1);
+    Granted {
+        state,
+        given: Given::Id(NodeId(id)),
+    }
+}
+
+// The host removes one of its nodes, with its edges.
+pub fn remove_node(s: State, nodes: &mut NodeTable, edges: &mut EdgeTable, node: NodeId) -> Served
+    ensures is { λ r. ⌜ ((m : Memory) → Called (removeNode node) (lentGraph s (now (nodes .entry)) (now (edges .entry)) m) (answered (r .answer)) (lentGraph (r .state) (now (nodes .exit)) (now (edges .exit)) m)) ⌝ }
+    ensures same { λ r. ⌜ ((m : Memory) → Kept (answered (r .answer)) (lentGraph s (now (nodes .entry)) (now (edges .entry)) m) (lentGraph (r .state) (now (nodes .exit)) (now (edges .exit)) m)) ⌝ }
+{
+    let test = host_answer(s, nodes, node);
+    match test {
+        Answer::Refused(r) => Served {
+            state: s,
+            answer: Answer::Refused(r),
+        },
+        Answer::Done => {
+            let sink = s.sink;
+            let left = graph_tables::removal::remove_node(
+                nodes,
+                s.nodes,
+                edges,
+                s.edges,
+                sink,
+                node,
+            );
+            let heard = left.sink;
+            let state = with_graph(s, left.nodes, left.edges, heard, s.next);
+            Served {
+                state,
+                answer: Answer::Done,
+            }
+        }
+    }
+}
+
+// The output of `from` feeds the port `port` of `to`, in the place of what fed it.
+pub fn connect(
+    s: State,
+    nodes: &NodeTable,
+    edges: &mut EdgeTable,
+    from: NodeId,
+    to: NodeId,
+    port: u32,
+) -> Served
+    ensures is { λ r. ⌜ ((m : Memory) → Called (connect from to port) (lentGraph s (now (nodes .entry)) (now (edges .entry)) m) (answered (r .answer)) (lentGraph (r .state) (now (nodes .entry)) (now (edges .exit)) m)) ⌝ }
+    ensures same { λ r. ⌜ ((m : Memory) → Kept (answered (r .answer)) (lentGraph s (now (nodes .entry)) (now (edges .entry)) m) (lentGraph (r .state) (now (nodes .entry)) (now (edges .exit)) m)) ⌝ }
+{
+    let test = wire_answer(s, nodes, edges, from, to, port);
+    match test {
+        Answer::Refused(r) => Served {
+            state: s,
+            answer: Answer::Refused(r),
+        },
+        Answer::Done => {
+            let n = put_edge(edges, s.edges, Edge { from, to, port });
+            let sink = s.sink;
+            let state = with_graph(s, s.nodes, n, sink, s.next);
+            Served {
+                state,
+                answer: Answer::Done,
+            }
+        }
+    }
+}
+
+// Nothing feeds the port `port` of `to` any more.
+pub fn disconnect(
+    s: State,
+    nodes: &NodeTable,
+    edges: &mut EdgeTable,
+    to: NodeId,
+    port: u32,
+) -> Served
+    ensures is { λ r. ⌜ ((m : Memory) → Called (disconnect to port) (lentGraph s (now (nodes .entry)) (now (edges .entry)) m) (answered (r .answer)) (lentGraph (r .state) (now (nodes .entry)) (now (edges .exit)) m)) ⌝ }
+    ensures same { λ r. ⌜ ((m : Memory) → Kept (answered (r .answer)) (lentGraph s (now (nodes .entry)) (now (edges .entry)) m) (lentGraph (r .state) (now (nodes .entry)) (now (edges .exit)) m)) ⌝ }
+{
+    let test = port_answer(s, nodes, to, port);
+    match test {
+        Answer::Refused(r) => Served {
+            state: s,
+            answer: Answer::Refused(r),
+        },
+        Answer::Done => {
+            let n = drop_port(edges, s.edges, to, port);
+            let sink = s.sink;
+            let state = with_graph(s, s.nodes, n, sink, s.next);
+            Served {
+                state,
+                answer: Answer::Done,
+            }
+        }
+    }
+}
+
+// The host hears `node`.
+pub fn set_sink(s: State, nodes: &NodeTable, node: NodeId) -> Served
+    ensures is { λ r. ⌜ ((m : Memory) → Called (setSink node) (lentNodes s (now (nodes .entry)) m) (answered (r .answer)) (lentNodes (r .state) (now (nodes .entry)) m)) ⌝ }
+    ensures same { λ r. ⌜ ((m : Memory) → Kept (answered (r .answer)) (lentNodes s (now (nodes .entry)) m) (lentNodes (r .state) (now (nodes .entry)) m)) ⌝ }
+{
+    let test = host_answer(s, nodes, node);
+    match test {
+        Answer::Refused(r) => Served {
+            state: s,
+            answer: Answer::Refused(r),
+        },
+        Answer::Done => {
+            let state = with_graph(s, s.nodes, s.edges, Sink::Node(node), s.next);
+            Served {
+                state,
+                answer: Answer::Done,
+            }
+        }
+    }
+}
