@@ -34,7 +34,7 @@ use Rattle.memory.specs.View.{Memory, graphOf, modelOf}
 use Rattle.memory.specs.Lent.{lentGraph}
 use Rattle.memory.specs.Called.{Called}
 use Rattle.memory.proofs.Steps.{refuses, serves}
-use Rattle.call_host.specs.Parts.{graphed}
+use Rattle.memory.specs.Parts.{graphed}
 
 -- a call that changes the graph: refused, or done with the graph that the model leaves
 module _ (c : Call) (s : State) (ns es : List ℕ) (m : Memory) (o : Option Refusal) (new : GraphView) (a : call.Answer)

@@ -1,4 +1,3 @@
-use crate::parts::with_graph;
 use crate::refusals::host_answer;
 use crate::refusals::port_answer;
 use crate::refusals::wire_answer;
@@ -13,6 +12,7 @@ use graph_tables::lookup::append_node;
 use graph_tables::lookup::node_count;
 use graph_tables::wiring::drop_port;
 use graph_tables::wiring::put_edge;
+use memory::parts::with_graph;
 use memory::state::Granted;
 use memory::state::Served;
 use memory::state::State;

@@ -1,7 +1,7 @@
-use crate::parts::with_order;
 use graph::state::Answer;
 use graph_rows::edge_row::EdgeTable;
 use graph_rows::node_row::NodeTable;
+use memory::parts::with_order;
 use memory::state::Served;
 use memory::state::State;
 use order::Readiness;

@@ -1,6 +1,6 @@
-use crate::parts::with_events;
 use event_table::row::EventTable;
 use graph::state::Answer;
+use memory::parts::with_events;
 use memory::state::Served;
 use memory::state::State;
 use node::name::name_of;

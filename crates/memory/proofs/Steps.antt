@@ -19,11 +19,11 @@ module _ (c : Call) (m : Memory) (o : Option Refusal) (s : Step) (is : step c (m
   serves a n e f = f ∙ sym (is ∙ ap (λ k. unless k (modelOf m) s) e)
 
 pub kept-all : (a : Answer) (m : Memory) → Kept a m m
-kept-all a m x e = refl
+kept-all a m e = refl
 
 -- an answer that is no refusal says nothing of what is kept
 pub kept-done : (m n : Memory) → Kept done m n
-kept-done m n x e = absurd (let z : _≡_ {A = ℕ} 0 1 = cc in omega arith)
+kept-done m n e = absurd (let z : _≡_ {A = ℕ} 0 1 = cc in omega arith)
 
 pub kept-node : (k : NodeId) (m n : Memory) → Kept (node k) m n
-kept-node k m n x e = absurd (let z : _≡_ {A = ℕ} 0 1 = cc in omega arith)
+kept-node k m n e = absurd (let z : _≡_ {A = ℕ} 0 1 = cc in omega arith)

@@ -21,3 +21,32 @@ lentOrder s nodes edges order m = record { state = s; nodes = nodes; edges = edg
 
 abbrev pub lentEvents : State → List ℕ → Memory → Memory
 lentEvents s events m = record { state = s; nodes = m .nodes; edges = m .edges; order = m .order; voices = m .voices; events = events; steals = m .steals }
+
+-- nodes, edges and voices
+abbrev pub lentVoices : State → List ℕ → List ℕ → List ℕ → Memory → Memory
+lentVoices s nodes edges voices m = record { state = s; nodes = nodes; edges = edges; order = m .order; voices = voices; events = m .events; steals = m .steals }
+
+-- nodes and voices
+abbrev pub lentParams : State → List ℕ → List ℕ → Memory → Memory
+lentParams s nodes voices m = record { state = s; nodes = nodes; edges = m .edges; order = m .order; voices = voices; events = m .events; steals = m .steals }
+
+-- all but the steal records
+abbrev pub lentRender : State → List ℕ → List ℕ → List ℕ → List ℕ → List ℕ → Memory → Memory
+lentRender s nodes edges order voices events m = record { state = s; nodes = nodes; edges = edges; order = order; voices = voices; events = events; steals = m .steals }
+
+-- nodes, edges, voices and steal records
+abbrev pub lentSpawn : State → List ℕ → List ℕ → List ℕ → List ℕ → Memory → Memory
+lentSpawn s nodes edges voices steals m = record { state = s; nodes = nodes; edges = edges; order = m .order; voices = voices; events = m .events; steals = steals }
+
+-- one table
+abbrev pub lentEdges : State → List ℕ → Memory → Memory
+lentEdges s edges m = record { state = s; nodes = m .nodes; edges = edges; order = m .order; voices = m .voices; events = m .events; steals = m .steals }
+
+abbrev pub lentProcessing : State → List ℕ → Memory → Memory
+lentProcessing s order m = record { state = s; nodes = m .nodes; edges = m .edges; order = order; voices = m .voices; events = m .events; steals = m .steals }
+
+abbrev pub lentVoiceTable : State → List ℕ → Memory → Memory
+lentVoiceTable s voices m = record { state = s; nodes = m .nodes; edges = m .edges; order = m .order; voices = voices; events = m .events; steals = m .steals }
+
+abbrev pub lentSteals : State → List ℕ → Memory → Memory
+lentSteals s steals m = record { state = s; nodes = m .nodes; edges = m .edges; order = m .order; voices = m .voices; events = m .events; steals = steals }

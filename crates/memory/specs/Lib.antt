@@ -1,3 +1,4 @@
 pub mod View
 pub mod Lent
 pub mod Called
+pub mod Parts

@@ -21,7 +21,7 @@ returns : tie.Need-returns
 returns c =
     let s = c .before .before .before .before in
     let t = c .before .before .before .host-answer in
-    (λ m. sinks-not (s .args .s) (s .args .nodes .now) (m .edges) (s .args .node) (t .result) (t .ensures) m _ (c .before .test .given .1), λ m x e. refl)
+    (λ m. sinks-not (s .args .s) (s .args .nodes .now) (m .edges) (s .args .node) (t .result) (t .ensures) m _ (c .before .test .given .1), λ m e. refl)
 
 returns-2 : tie.Need-returns-2
 returns-2 c =

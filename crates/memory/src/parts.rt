@@ -1,7 +1,7 @@
 use graph::state::Sink;
-use memory::state::State;
+use crate::state::State;
 ghost use mathlib.Core.Path.{_≡_};
-ghost use Rattle.call_host.specs.Parts.{graphed, ordered, queued};
+ghost use Rattle.memory.specs.Parts.{graphed, ordered, queued, voiced, clocked, numbered, logged};
 
 // The state with these counts of nodes and edges, this sink and this next node id, unprepared.
 pub fn with_graph(s: State, nodes: usize, edges: usize, sink: Sink, next: u64) -> State
@@ -42,5 +42,43 @@ pub fn with_events(s: State, events: usize) -> State
 {
     let mut out = s;
     out.events = events;
+    out
+}
+
+// The state with so many voices.
+pub fn with_voices(s: State, voices: usize) -> State
+    ensures { λ r. ⌜ r ≡ voiced s voices ⌝ }
+{
+    let mut out = s;
+    out.voices = voices;
+    out
+}
+
+// The state at this clock.
+pub fn with_clock(s: State, clock: u64) -> State
+    ensures { λ r. ⌜ r ≡ clocked s clock ⌝ }
+{
+    let mut out = s;
+    out.clock = clock;
+    out
+}
+
+// The state with so many voice ids given out, and this noise sequence.
+pub fn with_numbers(s: State, spawned: u64, sequence: u32) -> State
+    ensures { λ r. ⌜ r ≡ numbered s spawned sequence ⌝ }
+{
+    let mut out = s;
+    out.spawned = spawned;
+    out.sequence = sequence;
+    out
+}
+
+// The state with so many steal records written, and this place of the next one.
+pub fn with_steals(s: State, stolen: u64, place: usize) -> State
+    ensures { λ r. ⌜ r ≡ logged s stolen place ⌝ }
+{
+    let mut out = s;
+    out.stolen = stolen;
+    out.place = place;
     out
 }
