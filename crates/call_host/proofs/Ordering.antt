@@ -19,7 +19,7 @@ use Rattle.model.specs.Call as call
 use Rattle.memory.specs.declared.state.State.{State}
 use Rattle.memory.specs.View.{Memory, graphOf, deskOf, modelOf}
 use Rattle.memory.specs.Lent.{lentOrder}
-use Rattle.memory.specs.Called.{Called, Kept}
+use Rattle.memory.specs.Called.{Called}
 use Rattle.memory.specs.Parts.{ordered}
 
 module _ (s : State) (ns es os os' : List ℕ) (r : Prepared) (h : Prepares (take (s .nodes) (nodesIn ns)) (take (s .edges) (edgesIn es)) os os' r) (m : Memory) where
@@ -35,8 +35,8 @@ module _ (s : State) (ns es os os' : List ℕ) (r : Prepared) (h : Prepares (tak
       subst (λ w. Called call.prepare (lentOrder s ns es os m) (refused x) (lentOrder s ns es w m)) (sym (h .kept x e))
       (ap by (sym e ∙ h .answer))
 
-  pub prepares-kept : (x : Refusal) → r .answer ≡ Readiness.Refused x → (a : call.Answer) → Kept a (lentOrder s ns es os m) (lentOrder s ns es os' m)
-  prepares-kept x e a told = ap (λ w. lentOrder s ns es w m) (h .kept x e)
+  pub prepares-kept : (x : Refusal) → r .answer ≡ Readiness.Refused x → lentOrder s ns es os' m ≡ lentOrder s ns es os m
+  prepares-kept x e = ap (λ w. lentOrder s ns es w m) (h .kept x e)
 
   pub prepares : r .answer ≡ Readiness.Ready → (u : State) → u ≡ ordered s (r .count) → Called call.prepare (lentOrder s ns es os m) done (lentOrder u ns es os' m)
   prepares e u left =

@@ -22,7 +22,7 @@ use Rattle.model.specs.Call as call
 use Rattle.memory.specs.declared.state.State.{State}
 use Rattle.memory.specs.View.{Memory, deskOf, modelOf}
 use Rattle.memory.specs.Lent.{lentEvents}
-use Rattle.memory.specs.Called.{Called, Kept}
+use Rattle.memory.specs.Called.{Called}
 use Rattle.memory.specs.Parts.{queued}
 
 module _ (s : State) (old new : List ℕ) (time : ℕ) (voice : VoiceId) (name : List ℕ) (action : Action) (r : Scheduled)
@@ -55,8 +55,8 @@ module _ (s : State) (old new : List ℕ) (time : ℕ) (voice : VoiceId) (name :
         subst (λ w. Called (call.schedule time voice name action) (lentEvents s old m) (refused x) (lentEvents s w m)) (sym (h .kept (f .0) .1))
         (ap (λ y. record { answer = refused y; model = modelOf (lentEvents s old m) }) (f .1) ∙ ap by (sym (f .0)))
 
-    pub schedules-kept : (x : Refusal) → r .answer ≡ queue.Refused x → (a : call.Answer) → Kept a (lentEvents s old m) (lentEvents s new m)
-    schedules-kept x e a told = ap (λ w. lentEvents s w m) (h .kept (full-refused x e .0) .1)
+    pub schedules-kept : (x : Refusal) → r .answer ≡ queue.Refused x → lentEvents s new m ≡ lentEvents s old m
+    schedules-kept x e = ap (λ w. lentEvents s w m) (h .kept (full-refused x e .0) .1)
 
     pub schedules : r .answer ≡ queue.Taken → (u : State) → u ≡ queued s (r .count) → Called (call.schedule time voice name action) (lentEvents s old m) done (lentEvents u new m)
     schedules e u left =

@@ -3,11 +3,11 @@ use Prim.Native.Nat.{ℕ}
 use native.Mathlib.Omega.{arith}
 use mathlib.Core.Path.{_≡_, refl, sym, ap, _∙_}
 use mathlib.Core.Option.{Option, none, some}
+use mathlib.Core.Bool.{true, false}
 use Rattle.node.specs.declared.refusal.Refusal.{Refusal}
-use Rattle.node.specs.declared.record.NodeId.{NodeId}
-use Rattle.model.specs.Call.{Call, Answer, Step, step, unless, done, refused, node}
+use Rattle.model.specs.Call.{Call, Answer, Step, step, unless, refused}
 use Rattle.memory.specs.View.{Memory, modelOf}
-use Rattle.memory.specs.Called.{Called, Kept}
+use Rattle.memory.specs.Called.{Called}
 
 module _ (c : Call) (m : Memory) (o : Option Refusal) (s : Step) (is : step c (modelOf m) ≡ unless o (modelOf m) s) where
   -- refused: the very memory
@@ -18,12 +18,6 @@ module _ (c : Call) (m : Memory) (o : Option Refusal) (s : Step) (is : step c (m
   pub serves : (a : Answer) (n : Memory) → o ≡ none → _≡_ {A = Step} (record { answer = a; model = modelOf n }) s → Called c m a n
   serves a n e f = f ∙ sym (is ∙ ap (λ k. unless k (modelOf m) s) e)
 
-pub kept-all : (a : Answer) (m : Memory) → Kept a m m
-kept-all a m e = refl
-
--- an answer that is no refusal says nothing of what is kept
-pub kept-done : (m n : Memory) → Kept done m n
-kept-done m n e = absurd (let z : _≡_ {A = ℕ} 0 1 = cc in omega arith)
-
-pub kept-node : (k : NodeId) (m n : Memory) → Kept (node k) m n
-kept-node k m n e = absurd (let z : _≡_ {A = ℕ} 0 1 = cc in omega arith)
+-- an answer without a number says nothing of what is kept
+pub kept-none : {m n : Memory} → false ≡ true → n ≡ m
+kept-none e = absurd (let z : _≡_ {A = ℕ} 0 1 = cc in omega arith)

@@ -5,7 +5,7 @@ use lib.ListN.{length, take}
 use borrow.Author.Needs.{needs}
 use Rattle.graph.specs.Node.{withId}
 use Rattle.graph_rows.specs.Node.{nodesIn}
-use Rattle.memory.proofs.Steps.{kept-node}
+use Rattle.memory.proofs.Steps.{kept-none}
 use Rattle.call_host.proofs.Wiring.{bad-kind, table-full, ids-used, adds}
 use Rattle.call_host.proofs.host.add_node.Statement.{statement}
 use Rattle.call_host.proofs.host.add_node.Tie as tie
@@ -54,7 +54,7 @@ returns-4 c =
     let room : length (take (s .args .s .nodes) (nodesIn (s .args .nodes .now))) < 512 = omega (arith, c .before .before .before .before .before .before .before .before .before .before .node-count .ensures, c .before .before .before .before .before .before .before .before .before .if2 .left) in
     let n = c .before .before .append-node in (
       λ m. adds (s .args .s) (s .args .nodes .now) (m .edges) (s .args .kind .now) (s .args .ports) (s .args .required) (s .args .values) (s .args .glides) m (sym (c .before .before .before .before .before .before .before .before .before .before .before .before .before .is-bad-kind .ensures) ∙ c .before .before .before .before .before .before .before .before .before .before .before .before .if1 .left) room (c .before .before .before .before .before .before .before .if3 .left) _ (ap (withId (s .args .s .next)) (c .before .before .before .before .before .host-node .ensures)) (n .result) (n .last .0) (n .ensures) (c .with-graph .result) (c .with-graph .ensures),
-      λ m. kept-node _ _ _,
+      λ m e. kept-none e,
     )
 
 pub add-node-spec : {M : Type 1} → statement M

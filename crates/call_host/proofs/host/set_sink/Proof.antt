@@ -1,6 +1,6 @@
 use mathlib.Core.Path.{refl}
 use borrow.Author.Needs.{needs}
-use Rattle.memory.proofs.Steps.{kept-done}
+use Rattle.memory.proofs.Steps.{kept-none}
 use Rattle.call_host.proofs.Wiring.{sinks-not, sinks}
 use Rattle.call_host.proofs.host.set_sink.Statement.{statement}
 use Rattle.call_host.proofs.host.set_sink.Tie as tie
@@ -27,7 +27,7 @@ returns-2 : tie.Need-returns-2
 returns-2 c =
     let s = c .before .before .before .before in
     let t = c .before .before .before .host-answer in
-    (λ m. sinks (s .args .s) (s .args .nodes .now) (m .edges) (s .args .node) (t .result) (t .ensures) m (c .before .enum-told .given .1) (c .with-graph .result) (c .with-graph .ensures), λ m. kept-done _ _)
+    (λ m. sinks (s .args .s) (s .args .nodes .now) (m .edges) (s .args .node) (t .result) (t .ensures) m (c .before .enum-told .given .1) (c .with-graph .result) (c .with-graph .ensures), λ m e. kept-none e)
 
 pub set-sink-spec : {M : Type 1} → statement M
 set-sink-spec =
