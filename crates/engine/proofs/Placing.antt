@@ -20,32 +20,32 @@ use Rattle.graph.specs.View.{GraphView}
 use Rattle.model.specs.Desk.{Desk}
 use Rattle.model.specs.Voice.{id}
 use Rattle.model.specs.Model.{Model, Landed, portFree, place, land, landOr, refused, cutOff}
-use Rattle.model.specs.Spawn.{nextOut, nextVoice}
+use Rattle.model.specs.Spawn.{Spawn, nextOut, nextVoice}
 use Rattle.reclaim.specs.Reclaimed.{ifNone, leaving, goOn, reclaimed}
 use Rattle.engine.specs.Room.{Headroom}
 
 pub pushed-seat : (vs : List Voice) (v : Voice) → length vs < 64 → pushedVoice vs v ≡ vs ++ (v ∷ [])
 pushed-seat vs v h = rw (lt-ltb (length vs) 64 h)
 
-module _ (def : SynthDef) (pan : Bool) (s : VoiceState) (bus : NodeId) (m : Model) where
+module _ (spawn : Spawn) (s : VoiceState) (m : Model) where
   -- a port: the newcomer lands
-  pub place-port : (fuel p : ℕ) → portFree bus m ≡ some p → place fuel def pan s bus m ≡ land def pan s bus p m
-  place-port zero p e = ap (λ o. landOr o none def pan s bus m (refused NoPort)) e
-  place-port (suc k) p e = ap (λ o. landOr o (nextOut (m .desk) bus (m .voices)) def pan s bus m (λ j. place k def pan s bus j)) e
+  pub place-port : (fuel p : ℕ) → portFree (spawn .bus) m ≡ some p → place fuel spawn s m ≡ land spawn s p m
+  place-port zero p e = ap (λ o. landOr o none spawn s m (refused NoPort)) e
+  place-port (suc k) p e = ap (λ o. landOr o (nextOut (m .desk) (spawn .bus) (m .voices)) spawn s m (λ j. place k spawn s j)) e
 
   -- no port, and no try left
-  pub place-over : portFree bus m ≡ none → place 0 def pan s bus m ≡ refused NoPort m
-  place-over e = ap (λ o. landOr o none def pan s bus m (refused NoPort)) e
+  pub place-over : portFree (spawn .bus) m ≡ none → place 0 spawn s m ≡ refused NoPort m
+  place-over e = ap (λ o. landOr o none spawn s m (refused NoPort)) e
 
 -- landing after what was reclaimed
-pub place-reclaimed : (def : SynthDef) (pan : Bool) (s : VoiceState) (bus : NodeId) (k : ℕ) (m : Model) → place k def pan s bus m ≡ place 0 def pan s bus (reclaimed k bus m)
-place-reclaimed def pan s bus zero m = refl
-place-reclaimed def pan s bus (suc k) m = go (portFree bus m) refl (nextOut (m .desk) bus (m .voices)) (place-reclaimed def pan s bus k)
+pub place-reclaimed : (spawn : Spawn) (s : VoiceState) (k : ℕ) (m : Model) → place k spawn s m ≡ place 0 spawn s (reclaimed k (spawn .bus) m)
+place-reclaimed spawn s zero m = refl
+place-reclaimed spawn s (suc k) m = go (portFree (spawn .bus) m) refl (nextOut (m .desk) (spawn .bus) (m .voices)) (place-reclaimed spawn s k)
   where
-    go : (o : Option ℕ) → portFree bus m ≡ o → (u : Option Voice) → ((j : Model) → place k def pan s bus j ≡ place 0 def pan s bus (reclaimed k bus j))
-        → landOr o u def pan s bus m (λ j. place k def pan s bus j) ≡ place 0 def pan s bus (goOn (ifNone o u) m (λ j. reclaimed k bus j))
-    go (some p) e u ih = sym (place-port def pan s bus m 0 p e)
-    go none e none ih = sym (place-over def pan s bus m e)
+    go : (o : Option ℕ) → portFree (spawn .bus) m ≡ o → (u : Option Voice) → ((j : Model) → place k spawn s j ≡ place 0 spawn s (reclaimed k (spawn .bus) j))
+        → landOr o u spawn s m (λ j. place k spawn s j) ≡ place 0 spawn s (goOn (ifNone o u) m (λ j. reclaimed k (spawn .bus) j))
+    go (some p) e u ih = sym (place-port spawn s m 0 p e)
+    go none e none ih = sym (place-over spawn s m e)
     go none e (some v) ih = ih (cutOff v (v .state) m)
 
 -- what goes makes room

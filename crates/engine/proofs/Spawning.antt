@@ -28,7 +28,7 @@ use Rattle.landing.proofs.Room.{faded-room, fade-nodes, fade-edges}
 use Rattle.model.specs.Desk.{Desk, withGraph, withSteals}
 use Rattle.model.specs.Voice.{feeder, beginFade}
 use Rattle.model.specs.Refuse.{orElse, noHeadroom, noIds, spawnRefusal}
-use Rattle.model.specs.Spawn.{tries, stateUnder, recorded, fadeOf}
+use Rattle.model.specs.Spawn.{Spawn, tries, stateUnder, recorded, fadeOf}
 use Rattle.model.specs.Model.{Model, settle, stolen, stealVoice, stealThen}
 use Rattle.model.proofs.Refused.{notSpawned, place-left}
 use Rattle.engine.specs.Room.{Headroom, FadeRoom, Roomy}
@@ -120,11 +120,11 @@ fades-so v m (some p) r e =
     (faded-room v p (m .desk .graph) (r .places) (r .wires) (r .ids))
 
 -- ---- past the table's refusals and admission, 12 is left
-module _ (def : SynthDef) (pan : Bool) (bus : NodeId) (k : Refusal) where
-  pub settle-12 : (m : Model) → settle def pan bus m .answer ≡ Spawned.Refused k → k ≡ NoPort
+module _ (spawn : Spawn) (k : Refusal) where
+  pub settle-12 : (m : Model) → settle spawn m .answer ≡ Spawned.Refused k → k ≡ NoPort
   settle-12 m e =
-      place-left def pan (stateUnder (m .desk .config .budget)) bus (tries (m .desk .config .budget) (m .voices)) m k (ap notSpawned e) .0
+      place-left spawn (stateUnder (m .desk .config .budget)) (tries (m .desk .config .budget) (m .voices)) m k (ap notSpawned e) .0
 
-  pub steal-12 : (o : Option Voice) (m : Model) → stealThen o def pan bus m .answer ≡ Spawned.Refused k → k ≡ NoPort
+  pub steal-12 : (o : Option Voice) (m : Model) → stealThen o spawn m .answer ≡ Spawned.Refused k → k ≡ NoPort
   steal-12 none m e = settle-12 m e
   steal-12 (some v) m e = settle-12 (stealVoice v m) e

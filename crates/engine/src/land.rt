@@ -1,5 +1,6 @@
 use edges::table::at_most;
 use landing::land_graph;
+use landing::pans;
 use node::record::NodeId;
 use node::record::VoiceId;
 use store::answer::Spawned;
@@ -13,7 +14,7 @@ use voice_table::push_voice;
 ghost use mathlib.Core.Path.{_≡_};
 ghost use Prim.Native.Nat.{_+_, _%_};
 ghost use Rattle.model.specs.Model.{land};
-ghost use Rattle.model.specs.Spawn.{newcomer};
+ghost use Rattle.model.specs.Spawn.{newcomer, spawnOf};
 ghost use Rattle.model.specs.View.{deskOf, modelOf};
 ghost use Rattle.engine.specs.Room.{Headroom, landedOf};
 
@@ -31,9 +32,9 @@ fn next_sequence(n: u32) -> u32
 }
 
 // The record of the newcomer.
-fn newcomer(s: Store, def: SynthDef, pan: bool, state: VoiceState, bus: NodeId, port: u32) -> Voice
+fn newcomer(s: Store, def: SynthDef, pan: f32, state: VoiceState, bus: NodeId, port: u32) -> Voice
     requires { ⌜ Headroom def (modelOf s) ⌝ }
-    ensures { λ r. ⌜ r ≡ newcomer def pan state bus port (deskOf s) ⌝ }
+    ensures { λ r. ⌜ r ≡ newcomer (spawnOf def bus pan) state port (deskOf s) ⌝ }
 {
     let g = s.graph;
     let ns = def.nodes;
@@ -42,6 +43,7 @@ fn newcomer(s: Store, def: SynthDef, pan: bool, state: VoiceState, bus: NodeId, 
     let plan = done_plan(def);
     let first = NodeId(g.next as u32);
     let output = id_after(first, def.output);
+    let panned = pans(pan);
     Voice {
         id: VoiceId(s.spawned + 1),
         birth: s.clock,
@@ -50,7 +52,7 @@ fn newcomer(s: Store, def: SynthDef, pan: bool, state: VoiceState, bus: NodeId, 
         first,
         count,
         output,
-        panned: pan,
+        panned,
         sequence: s.sequence,
         state,
         params,
@@ -62,19 +64,20 @@ fn newcomer(s: Store, def: SynthDef, pan: bool, state: VoiceState, bus: NodeId, 
 pub(crate) fn land_voice(
     s: Store,
     def: SynthDef,
-    pan: bool,
+    pan: f32,
     state: VoiceState,
     bus: NodeId,
     port: u32,
 ) -> Landed
     requires { ⌜ Headroom def (modelOf s) ⌝ }
-    ensures { λ r. ⌜ landedOf r ≡ land def pan state bus port (modelOf s) ⌝ }
+    ensures { λ r. ⌜ landedOf r ≡ land (spawnOf def bus pan) state port (modelOf s) ⌝ }
 {
     let v = newcomer(s, def, pan, state, bus, port);
     let id = VoiceId(s.spawned + 1);
     let g = s.graph;
     let t = s.voices;
-    let graph = land_graph(g, id, def, pan, bus, port);
+    let panned = pans(pan);
+    let graph = land_graph(g, id, def, panned, bus, port);
     let voices = push_voice(t, v);
     let mut store = s;
     store.graph = graph;

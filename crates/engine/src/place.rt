@@ -17,6 +17,7 @@ ghost use Rattle.node.specs.Rows.{nodesOf};
 ghost use Rattle.edges.specs.Ports.{portOf};
 ghost use Rattle.graph.specs.Node.{nodeAt, portsOf};
 ghost use Rattle.model.specs.Model.{portFree, place, refused};
+ghost use Rattle.model.specs.Spawn.{spawnOf};
 ghost use Rattle.model.specs.View.{modelOf};
 ghost use Rattle.engine.specs.Room.{Headroom, landedOf};
 
@@ -57,13 +58,13 @@ pub(crate) fn refuse(s: Store, why: Refusal) -> Landed
 pub(crate) fn place(
     s: Store,
     def: SynthDef,
-    pan: bool,
+    pan: f32,
     state: VoiceState,
     bus: NodeId,
     fuel: usize,
 ) -> Landed
     requires { ⌜ Headroom def (modelOf s) ⌝ }
-    ensures { λ r. ⌜ landedOf r ≡ place (min fuel 64) def pan state bus (modelOf s) ⌝ }
+    ensures { λ r. ⌜ landedOf r ≡ place (min fuel 64) (spawnOf def bus pan) state (modelOf s) ⌝ }
 {
     let first = port_free(s, bus);
     if let Port::At(p) = first {

@@ -5,7 +5,6 @@ use crate::place::refuse;
 use crate::refuse::spawn_refusal;
 use crate::steal::steal_voice;
 use graph::state::Answer;
-use landing::pans;
 use node::record::NodeId;
 use node::record::VoiceId;
 use node::refusal::Refusal;
@@ -25,9 +24,9 @@ ghost use Rattle.model.specs.View.{modelOf, voicesOf};
 ghost use Rattle.engine.specs.Room.{Headroom, Roomy, landedOf, Kept};
 
 // The port search with what the budget allows: without one nobody is tracked or reclaimed.
-fn settle(s: Store, def: SynthDef, pan: bool, bus: NodeId) -> Landed
+fn settle(s: Store, def: SynthDef, pan: f32, bus: NodeId) -> Landed
     requires { ⌜ Headroom def (modelOf s) ⌝ }
-    ensures { λ r. ⌜ landedOf r ≡ settle def pan bus (modelOf s) ⌝ }
+    ensures { λ r. ⌜ landedOf r ≡ settle (spawnOf def bus pan) (modelOf s) ⌝ }
 {
     let config = s.config;
     let budget = config.budget;
@@ -41,9 +40,9 @@ fn settle(s: Store, def: SynthDef, pan: bool, bus: NodeId) -> Landed
 }
 
 // The victim `w` goes, then the port search.
-fn steal_then(s: Store, def: SynthDef, pan: bool, bus: NodeId, w: VoiceId) -> Landed
+fn steal_then(s: Store, def: SynthDef, pan: f32, bus: NodeId, w: VoiceId) -> Landed
     requires { ⌜ Roomy def (modelOf s) ⌝ }
-    ensures { λ r. ⌜ landedOf r ≡ stealThen (find (isVoice w) (voicesOf (s .voices))) def pan bus (modelOf s) ⌝ }
+    ensures { λ r. ⌜ landedOf r ≡ stealThen (find (isVoice w) (voicesOf (s .voices))) (spawnOf def bus pan) (modelOf s) ⌝ }
 {
     let t = s.voices;
     let looked = find_voice(t, w);
@@ -56,9 +55,9 @@ fn steal_then(s: Store, def: SynthDef, pan: bool, bus: NodeId, w: VoiceId) -> La
 }
 
 // Admission, then the port search.
-fn admit(s: Store, def: SynthDef, pan: bool, bus: NodeId) -> Landed
+fn admit(s: Store, def: SynthDef, pan: f32, bus: NodeId) -> Landed
     requires { ⌜ Roomy def (modelOf s) ⌝ }
-    ensures is { λ r. ⌜ landedOf r ≡ admitted (admissionOn bus (modelOf s)) def pan bus (modelOf s) ⌝ }
+    ensures is { λ r. ⌜ landedOf r ≡ admitted (admissionOn bus (modelOf s)) (spawnOf def bus pan) (modelOf s) ⌝ }
     ensures same { λ r. ⌜ Kept s r ⌝ }
 {
     let a = admission(s, bus);
@@ -77,7 +76,7 @@ pub fn spawn_voice_on_bus_panned_managed(s: Store, def: SynthDef, bus: NodeId, p
     let test = spawn_refusal(s, def, bus);
     match test {
         Answer::Refused(why) => refuse(s, why),
-        Answer::Done => admit(s, def, pans(pan), bus),
+        Answer::Done => admit(s, def, pan, bus),
     }
 }
 
@@ -89,7 +88,7 @@ pub fn spawn_voice_on_bus_panned(s: Store, def: SynthDef, bus: NodeId, pan: f32)
     let test = spawn_refusal(s, def, bus);
     match test {
         Answer::Refused(why) => refuse(s, why),
-        Answer::Done => place(s, def, pans(pan), VoiceState::Loose, bus, 0),
+        Answer::Done => place(s, def, pan, VoiceState::Loose, bus, 0),
     }
 }
 

@@ -5,7 +5,6 @@ use mathlib.Core.Path.{_≡_, refl, sym, ap, _∙_, subst}
 use mathlib.Core.Logic.{inl}
 use mathlib.Core.List.{[], _∷_}
 use mathlib.Core.Option.{Option, none, some}
-use mathlib.Core.Bool.{Bool}
 use borrow.Author.Tests.{eq-eqb}
 use Rattle.lists.specs.Find.{find}
 use Rattle.lists.specs.Member.{In, in-right}
@@ -14,7 +13,6 @@ use Rattle.node.specs.declared.record.VoiceId.{VoiceId}
 use Rattle.node.specs.declared.refusal.Refusal.{Refusal}
 use Rattle.voice.specs.declared.policy.Admission.{Admission}
 use Rattle.voice.specs.declared.policy.Admission.the-variants as admission
-use Rattle.synthdef.specs.declared.def.SynthDef.{SynthDef}
 use Rattle.store.specs.declared.answer.Spawned.the-variants as Spawned
 use Rattle.store.specs.declared.config.Config.{Config}
 use Rattle.store.specs.declared.voices.Voice.{Voice}
@@ -22,7 +20,7 @@ use Rattle.store.specs.declared.voices.VoiceState.{VoiceState}
 use Rattle.store.specs.declared.voices.VoiceState.the-variants.{Loose}
 use Rattle.model.specs.Voice.{isVoice}
 use Rattle.model.specs.Refuse.{spawnRefusal}
-use Rattle.model.specs.Spawn.{Spawn, pans, newcomer, nextVoice, stateUnder, tries}
+use Rattle.model.specs.Spawn.{Spawn, newcomer, nextVoice, stateUnder, tries}
 use Rattle.ledger.specs.Holder as holder
 use Rattle.ledger.specs.Ledger.{Ledger, Landed, portHeld, stolen, stealVoice, place, settle, stealThen, admitted, admissionOn, unless, spawnManaged, spawnLoose}
 use Rattle.ledger.proofs.Steps.{place-kept}
@@ -38,64 +36,64 @@ pub record ArrivesAt (bus : NodeId) (s : VoiceState) (w : VoiceId) (l l' : Ledge
   pub state : voice .state ≡ s
   pub holds : l' .holders (bus .0) (voice .port) ≡ holder.voice w
 
-module _ (bus : NodeId) (s : VoiceState) (l : Ledger) where
+module _ (spawn : Spawn) (s : VoiceState) (l : Ledger) where
   abbrev pub Comes : Landed → Type 0
-  Comes r = (w : VoiceId) → r .answer ≡ Spawned.Voice w → ArrivesAt bus s w l (r .ledger)
+  Comes r = (w : VoiceId) → r .answer ≡ Spawned.Voice w → ArrivesAt (spawn .bus) s w l (r .ledger)
 
   -- who is refused does not come
   refused-comes : (n : Refusal) (l' : Ledger) → Comes (record { answer = Spawned.Refused n; ledger = l' })
   refused-comes n l' w e = let z : _≡_ {A = ℕ} 0 1 = cc in absurd (omega arith)
 
-  place-comes : (n : ℕ) (def : SynthDef) (pan : Bool) (z : Ledger) → z .desk .clock ≡ l .desk .clock → z .desk .spawned ≡ l .desk .spawned → Comes (place n def pan s bus z)
-  place-comes n def pan z a b =
-      place-kept def pan s bus (λ n z. (z .desk .clock ≡ l .desk .clock) × (z .desk .spawned ≡ l .desk .spawned)) Comes
+  place-comes : (n : ℕ) (z : Ledger) → z .desk .clock ≡ l .desk .clock → z .desk .spawned ≡ l .desk .spawned → Comes (place n spawn s z)
+  place-comes n z a b =
+      place-kept spawn s (λ n z. (z .desk .clock ≡ l .desk .clock) × (z .desk .spawned ≡ l .desk .spawned)) Comes
       (λ n z p e q w is.
       let id : nextVoice (z .desk) ≡ w = cc in
       record {
-        voice = newcomer def pan s bus p (z .desk);
-        member = in-right (z .voices) (newcomer def pan s bus p (z .desk) ∷ []) (newcomer def pan s bus p (z .desk)) (inl refl);
+        voice = newcomer spawn s p (z .desk);
+        member = in-right (z .voices) (newcomer spawn s p (z .desk) ∷ []) (newcomer spawn s p (z .desk)) (inl refl);
         named = id;
         next = sym id ∙ ap (λ n. record { 0 = n + 1 }) (q .1);
         on = refl;
         birth = q .0;
         state = refl;
-        holds = rw (eq-eqb (bus .0) (bus .0) refl, eq-eqb p p refl) (ap holder.voice id);
+        holds = rw (eq-eqb (spawn .bus .0) (spawn .bus .0) refl, eq-eqb p p refl) (ap holder.voice id);
       })
       (λ z e q. refused-comes _ z) (λ n z e f q. refused-comes _ z) (λ n z v e f q. q) n z (a, b)
 
-pub managed-comes : (x : Spawn) (l : Ledger) → Comes (x .bus) (stateUnder (l .desk .config .budget)) l (spawnManaged x l)
+pub managed-comes : (x : Spawn) (l : Ledger) → Comes x (stateUnder (l .desk .config .budget)) l (spawnManaged x l)
 managed-comes x l = go (spawnRefusal (l .desk) (l .voices) (x .def) (x .bus))
   where
     s : VoiceState
     s = stateUnder (l .desk .config .budget)
 
-    settles : (z : Ledger) → z .desk .config ≡ l .desk .config → z .desk .clock ≡ l .desk .clock → z .desk .spawned ≡ l .desk .spawned → Comes (x .bus) s l (settle (x .def) (pans (x .pan)) (x .bus) z)
-    settles z c a b = subst (λ y. Comes (x .bus) s l (place (tries (z .desk .config .budget) (z .voices)) (x .def) (pans (x .pan)) y (x .bus) z)) (ap (λ (k : Config). stateUnder (k .budget)) (sym c))
-        (place-comes (x .bus) s l (tries (z .desk .config .budget) (z .voices)) (x .def) (pans (x .pan)) z a b)
+    settles : (z : Ledger) → z .desk .config ≡ l .desk .config → z .desk .clock ≡ l .desk .clock → z .desk .spawned ≡ l .desk .spawned → Comes x s l (settle x z)
+    settles z c a b = subst (λ y. Comes x s l (place (tries (z .desk .config .budget) (z .voices)) x y z)) (ap (λ (k : Config). stateUnder (k .budget)) (sym c))
+        (place-comes x s l (tries (z .desk .config .budget) (z .voices)) z a b)
 
-    steals : (v : Voice) → Comes (x .bus) s l (settle (x .def) (pans (x .pan)) (x .bus) (stealVoice v l))
+    steals : (v : Voice) → Comes x s l (settle x (stealVoice v l))
     steals v = at (portHeld v l)
       where
-        at : (o : Option ℕ) → Comes (x .bus) s l (settle (x .def) (pans (x .pan)) (x .bus) (stolen v o l))
+        at : (o : Option ℕ) → Comes x s l (settle x (stolen v o l))
         at none = settles (stolen v none l) refl refl refl
         at (some p) = settles (stolen v (some p) l) refl refl refl
 
-    victims : (o : Option Voice) → Comes (x .bus) s l (stealThen o (x .def) (pans (x .pan)) (x .bus) l)
+    victims : (o : Option Voice) → Comes x s l (stealThen o x l)
     victims none = settles l refl refl refl
     victims (some v) = steals v
 
-    admits : (a : Admission) → Comes (x .bus) s l (admitted a (x .def) (pans (x .pan)) (x .bus) l)
+    admits : (a : Admission) → Comes x s l (admitted a x l)
     admits admission.Admit = settles l refl refl refl
-    admits admission.Reject = refused-comes (x .bus) s l _ l
+    admits admission.Reject = refused-comes x s l _ l
     admits (admission.Steal p w) = victims (find (isVoice w) (l .voices))
 
-    go : (o : Option Refusal) → Comes (x .bus) s l (unless o l (admitted (admissionOn (x .bus) l) (x .def) (pans (x .pan)) (x .bus) l))
-    go (some n) = refused-comes (x .bus) s l n l
+    go : (o : Option Refusal) → Comes x s l (unless o l (admitted (admissionOn (x .bus) l) x l))
+    go (some n) = refused-comes x s l n l
     go none = admits (admissionOn (x .bus) l)
 
-pub loose-comes : (x : Spawn) (l : Ledger) → Comes (x .bus) Loose l (spawnLoose x l)
+pub loose-comes : (x : Spawn) (l : Ledger) → Comes x Loose l (spawnLoose x l)
 loose-comes x l = go (spawnRefusal (l .desk) (l .voices) (x .def) (x .bus))
   where
-    go : (o : Option Refusal) → Comes (x .bus) Loose l (unless o l (place 0 (x .def) (pans (x .pan)) Loose (x .bus) l))
-    go (some n) = refused-comes (x .bus) Loose l n l
-    go none = place-comes (x .bus) Loose l 0 (x .def) (pans (x .pan)) l refl refl
+    go : (o : Option Refusal) → Comes x Loose l (unless o l (place 0 x Loose l))
+    go (some n) = refused-comes x Loose l n l
+    go none = place-comes x Loose l 0 l refl refl

@@ -11,7 +11,6 @@ use Rattle.lists.specs.Member.{In, in-snoc, and-left}
 use Rattle.lists.specs.Find.{find}
 use Rattle.lists.specs.Keep.{in-keep}
 use Rattle.lists.specs.Count.{more}
-use Rattle.node.specs.declared.record.NodeId.{NodeId}
 use Rattle.node.specs.declared.refusal.Refusal.{Refusal}
 use Rattle.node.specs.declared.refusal.Refusal.the-variants.{Rejected, NoPort, ClockEnd}
 use Rattle.graph.specs.Refuse.{addRefusal, hostRefusal, disconnectRefusal, connectRefusal}
@@ -19,7 +18,6 @@ use Rattle.order.specs.declared.Readiness.{Readiness}
 use Rattle.order.specs.declared.Readiness.the-variants.{Ready, Refused}
 use Rattle.scheduler.specs.Event.{paramOrder}
 use Rattle.scheduler.specs.declared.event.Event.{Event}
-use Rattle.synthdef.specs.declared.def.SynthDef.{SynthDef}
 use Rattle.store.specs.declared.answer.Rendered.the-variants as Rendered
 use Rattle.store.specs.declared.voices.Voice.{Voice}
 use Rattle.store.specs.declared.voices.VoiceState.{VoiceState}
@@ -28,7 +26,7 @@ use Rattle.store.specs.declared.voices.Fade.{Fade}
 use Rattle.model.specs.Desk.{sounding}
 use Rattle.model.specs.Voice.{isVoice, isTracked, withState, movedFade}
 use Rattle.model.specs.Refuse.{spawnRefusal, reportRefusal}
-use Rattle.model.specs.Spawn.{pans, newcomer, stateUnder, tries, fadeOf, Spawn}
+use Rattle.model.specs.Spawn.{newcomer, stateUnder, tries, fadeOf, Spawn}
 use Rattle.model.specs.Order.{order}
 use Rattle.model.specs.Render.{prepareOutcome, prepareDesk, isFree, anyFree, heard, answerAfter, isSounding, due, clockEnds}
 use Rattle.model.specs.Call.{Call, Answer, scheduleRefusal, readyAnswer}
@@ -112,10 +110,10 @@ module _ (v : Voice) (f : Fade) (ph : v .state ≡ Fading f) where
   not-newcomer : (s : VoiceState) → ((g : Fade) → s ≡ Fading g → ⊥) → (vs : List Voice) (n : Voice) → n .state ≡ s → In v (vs ++ (n ∷ [])) → In v vs
   not-newcomer s h vs n e i = ⊎-elim (λ j. j) (λ z. absurd (h f (sym e ∙ ap (λ (x : Voice). x .state) (sym z) ∙ ph))) (in-snoc vs n v i)
 
-  from-settle : (def : SynthDef) (pan : Bool) (bus : NodeId) (m : Ledger) → In v (settle def pan bus m .ledger .voices) → In v (m .voices)
-  from-settle def pan bus m =
-      place-kept def pan (stateUnder (m .desk .config .budget)) bus (λ n z. In v (z .voices) → In v (m .voices)) (λ r. In v (r .ledger .voices) → In v (m .voices))
-      (λ n z p e q i. q (not-newcomer (stateUnder (m .desk .config .budget)) (under-fading (m .desk .config .budget)) (z .voices) (newcomer def pan _ bus p (z .desk)) refl i)) (λ z e q. q) (λ n z e g q. q)
+  from-settle : (spawn : Spawn) (m : Ledger) → In v (settle spawn m .ledger .voices) → In v (m .voices)
+  from-settle spawn m =
+      place-kept spawn (stateUnder (m .desk .config .budget)) (λ n z. In v (z .voices) → In v (m .voices)) (λ r. In v (r .ledger .voices) → In v (m .voices))
+      (λ n z p e q i. q (not-newcomer (stateUnder (m .desk .config .budget)) (under-fading (m .desk .config .budget)) (z .voices) (newcomer spawn _ p (z .desk)) refl i)) (λ z e q. q) (λ n z e g q. q)
       (λ n z w e g q i. q (in-keep (λ x. not (isVoice (w .id) x)) (z .voices) v i .0)) (tries (m .desk .config .budget) (m .voices)) m (λ i. i)
 
   from-steal : (l : Ledger) → IdsOf l → (w : Voice) → In w (l .voices) → isTracked (w .state) ≡ true → In v (stealVoice w l .voices) → In v (l .voices) ⊎ (In (withState Tracked v) (l .voices) × (f ≡ fadeOf (l .desk)))
@@ -140,12 +138,12 @@ module _ (v : Voice) (f : Fade) (ph : v .state ≡ Fading f) where
       keeps : (r : Landed) → In v (l .voices) → From l (call.spawned (r .answer)) v f (call.spawnManaged spawn)
       keeps r i = old l (call.spawnManaged spawn) (call.spawned (r .answer)) refl i
 
-      go : (o : Option Refusal) → R (ledger.unless o l (admitted (admissionOn (spawn .bus) l) (spawn .def) (pans (spawn .pan)) (spawn .bus) l))
+      go : (o : Option Refusal) → R (ledger.unless o l (admitted (admissionOn (spawn .bus) l) spawn l))
       go (some n) = keeps (ledger.refused n l)
       go none =
-          managed-kept (spawn .def) (pans (spawn .pan)) (spawn .bus) R l d (λ h i. keeps (ledger.refused Rejected l) i) (λ h i. keeps (settle (spawn .def) (pans (spawn .pan)) (spawn .bus) l) (from-settle (spawn .def) (pans (spawn .pan)) (spawn .bus) l i))
+          managed-kept spawn R l d (λ h i. keeps (ledger.refused Rejected l) i) (λ h i. keeps (settle spawn l) (from-settle spawn l i))
           (λ p w h u j t i.
-          ⊎-elim (λ k. keeps (settle (spawn .def) (pans (spawn .pan)) (spawn .bus) (stealVoice u l)) k) (λ z. began spawn (z .0) (z .1)) (from-steal l d u j (and-left (tracks u) _ t) (from-settle (spawn .def) (pans (spawn .pan)) (spawn .bus) (stealVoice u l) i)))
+          ⊎-elim (λ k. keeps (settle spawn (stealVoice u l)) k) (λ z. began spawn (z .0) (z .1)) (from-steal l d u j (and-left (tracks u) _ t) (from-settle spawn (stealVoice u l) i)))
 
   pub comes : (x : Call) (l : Ledger) → IdsOf l → In v (step x l .ledger .voices) → From l (step x l .answer) v f x
   comes (call.addNode kind ports required values glides) l d i = guarded (addRefusal (l .desk .graph) kind ports required) _ l _ i (λ j. old l _ _ refl j)
@@ -156,12 +154,12 @@ module _ (v : Voice) (f : Fade) (ph : v .state ≡ Fading f) where
   comes (call.spawnManaged spawn) l d i = from-managed spawn l d i
   comes (call.spawnLoose spawn) l d i = go (spawnRefusal (l .desk) (l .voices) (spawn .def) (spawn .bus)) i
     where
-      two : (o : Option ℕ) → In v (landOr o none (spawn .def) (pans (spawn .pan)) Loose (spawn .bus) l (ledger.refused NoPort) .ledger .voices) → In v (l .voices)
+      two : (o : Option ℕ) → In v (landOr o none spawn Loose l (ledger.refused NoPort) .ledger .voices) → In v (l .voices)
       two none i = i
-      two (some p) i = not-newcomer Loose loose-fading (l .voices) (newcomer (spawn .def) (pans (spawn .pan)) Loose (spawn .bus) p (l .desk)) refl i
+      two (some p) i = not-newcomer Loose loose-fading (l .voices) (newcomer spawn Loose p (l .desk)) refl i
 
-      go : (o : Option Refusal) → In v (ledger.unless o l (place 0 (spawn .def) (pans (spawn .pan)) Loose (spawn .bus) l) .ledger .voices)
-          → From l (call.spawned (ledger.unless o l (place 0 (spawn .def) (pans (spawn .pan)) Loose (spawn .bus) l) .answer)) v f (call.spawnLoose spawn)
+      go : (o : Option Refusal) → In v (ledger.unless o l (place 0 spawn Loose l) .ledger .voices)
+          → From l (call.spawned (ledger.unless o l (place 0 spawn Loose l) .answer)) v f (call.spawnLoose spawn)
       go (some n) i = old l _ _ refl i
       go none i = old l _ _ refl (two (portFree (spawn .bus) l) i)
   comes (call.free w) l d i = old l _ _ refl (freed-sub (find (isVoice w) (l .voices)) l v i)

@@ -25,7 +25,6 @@ use Rattle.graph.specs.Node.{isNode, nodeAt, portsOf, ownedBy}
 use Rattle.voice.specs.declared.policy.Budget.the-variants.{AtMost}
 use Rattle.voice.specs.declared.policy.Admission.the-variants as admission
 use Rattle.voice.specs.Policy.{admits}
-use Rattle.synthdef.specs.declared.def.SynthDef.{SynthDef}
 use Rattle.store.specs.declared.answer.Spawned.{Spawned}
 use Rattle.store.specs.declared.answer.Spawned.the-variants as Spawned
 use Rattle.store.specs.declared.config.Config.{Config}
@@ -35,7 +34,7 @@ use Rattle.store.specs.declared.voices.VoiceState.the-variants.{Tracked, Fading
 use Rattle.store.specs.declared.voices.Fade.{Fade}
 use Rattle.model.specs.Voice.{id, isVoice, isTracked, isOn, withState, beginFade, counted, candidates}
 use Rattle.model.specs.Refuse.{spawnRefusal}
-use Rattle.model.specs.Spawn.{pans, nextVoice, nextOut, stateUnder, tries, fadeOf, Spawn}
+use Rattle.model.specs.Spawn.{nextVoice, nextOut, stateUnder, tries, fadeOf, Spawn}
 use Rattle.model.specs.Call as call
 use Rattle.ledger.specs.Holder.{Holder, nobody, host, voice, isHeld, byVoice}
 use Rattle.ledger.specs.Ledger.{Ledger, Landed, portFree, portHeld, cutOff, stolen, stealVoice, settle, place, admitted, admissionOn, unless}
@@ -216,51 +215,51 @@ module _ (bus : NodeId) (l : Ledger) (d : IdsOf l) (hb : HostAt (l .desk .graph 
       go (some p) = (hb .0, find-snoc-some (isNode bus) (l .desk .graph .nodes) _ (hb .0) (hb .1), hb .2)
 
 -- ---- the port search
-module _ (def : SynthDef) (pan : Bool) (bus : NodeId) (b : Bool) (given : VoiceId) where
+module _ (spawn : Spawn) (b : Bool) (given : VoiceId) where
   -- the answer, if b says whether the bus is blocked and `given` is the next voice id
   abbrev Answers : Landed → Type 0
   Answers r = r .answer ≡ cond b (Spawned.Refused NoPort) (Spawned.Voice given)
 
   record Search (n : ℕ) (m : Ledger) : Type 0 where
     ids : IdsOf m
-    at : HostAt (m .desk .graph .nodes) bus
+    at : HostAt (m .desk .graph .nodes) (spawn .bus)
     steals : Stealing (m .desk .config .policy)
     next : nextVoice (m .desk) ≡ given
     enough : length (m .voices) ≤ n
-    is : blocked bus m ≡ b
+    is : blocked (spawn .bus) m ≡ b
 
   none-left : (vs : List Voice) → length vs ≤ 0 → (v : Voice) → In v vs → ⊥
   none-left [] h v i = i
   none-left (x ∷ vs) h v i = omega arith
 
-  search-cut : (n : ℕ) (m : Ledger) (v : Voice) → nextOut (m .desk) bus (m .voices) ≡ some v → Search (suc n) m → Search n (cutOff v (v .state) m)
+  search-cut : (n : ℕ) (m : Ledger) (v : Voice) → nextOut (m .desk) (spawn .bus) (m .voices) ≡ some v → Search (suc n) m → Search n (cutOff v (v .state) m)
   search-cut n m v e q =
-      let r = nextOut-in (q .ids) (m .desk) bus v e in
+      let r = nextOut-in (q .ids) (m .desk) (spawn .bus) v e in
       let less = count-keep-lt (λ x. true) (λ x. not (isVoice (v .id) x)) (m .voices) v (r .0) refl (notVoice-self v) in
       let all = count-all (m .voices) in
       let left = count-all (keep (λ x. not (isVoice (v .id) x)) (m .voices)) in
       let le = q .enough in
       record {
         ids = ids-cut v (v .state) m (q .ids);
-        at = host-gone (m .desk .graph .nodes) bus (v .id) (above (q .ids) v (r .0)) (q .at);
+        at = host-gone (m .desk .graph .nodes) (spawn .bus) (v .id) (above (q .ids) v (r .0)) (q .at);
         steals = q .steals;
         next = q .next;
         enough = omega arith;
-        is = blocked-cut bus m (q .ids) (q .at) v (r .0) (v .state) (λ p w h k. r .1) ∙ q .is;
+        is = blocked-cut (spawn .bus) m (q .ids) (q .at) v (r .0) (v .state) (λ p w h k. r .1) ∙ q .is;
       }
 
-  answers : (n : ℕ) (s : VoiceState) (m : Ledger) → Search n m → Answers (place n def pan s bus m)
+  answers : (n : ℕ) (s : VoiceState) (m : Ledger) → Search n m → Answers (place n spawn s m)
   answers n s m q =
-      place-kept def pan s bus Search Answers
-      (λ n m p e q. ap Spawned.Voice (q .next) ∙ ap (λ c. cond c (Spawned.Refused NoPort) (Spawned.Voice given)) (sym (free-blocked bus m p e) ∙ q .is))
-      (λ m e q. ap (λ c. cond c (Spawned.Refused NoPort) (Spawned.Voice given)) (sym (idle-blocked bus m e (λ v i. absurd (none-left (m .voices) (q .enough) v i))) ∙ q .is))
-      (λ n m e f q. ap (λ c. cond c (Spawned.Refused NoPort) (Spawned.Voice given)) (sym (idle-blocked bus m e (nextOut-none (q .ids) (m .desk) bus (q .steals) f)) ∙ q .is))
+      place-kept spawn s Search Answers
+      (λ n m p e q. ap Spawned.Voice (q .next) ∙ ap (λ c. cond c (Spawned.Refused NoPort) (Spawned.Voice given)) (sym (free-blocked (spawn .bus) m p e) ∙ q .is))
+      (λ m e q. ap (λ c. cond c (Spawned.Refused NoPort) (Spawned.Voice given)) (sym (idle-blocked (spawn .bus) m e (λ v i. absurd (none-left (m .voices) (q .enough) v i))) ∙ q .is))
+      (λ n m e f q. ap (λ c. cond c (Spawned.Refused NoPort) (Spawned.Voice given)) (sym (idle-blocked (spawn .bus) m e (nextOut-none (q .ids) (m .desk) (spawn .bus) (q .steals) f)) ∙ q .is))
       (λ n m v e f q. search-cut n m v f q) n m q
 
 -- ---- the claim
 pub spawn-answer : (spawn : Spawn) (l : Ledger) → SoundL l → (k : ℕ) → l .desk .config .budget ≡ AtMost (suc k) → Stealing (l .desk .config .policy) → spawnRefusal (l .desk) (l .voices) (spawn .def) (spawn .bus) ≡ none
     → step (call.spawnManaged spawn) l .answer ≡ call.spawned (spawnAnswer (spawn .bus) l)
-spawn-answer spawn l s k b t h = ap call.spawned (ap (λ o. unless o l (admitted (admissionOn (spawn .bus) l) (spawn .def) (pans (spawn .pan)) (spawn .bus) l) .answer) h ∙ all)
+spawn-answer spawn l s k b t h = ap call.spawned (ap (λ o. unless o l (admitted (admissionOn (spawn .bus) l) spawn l) .answer) h ∙ all)
   where
     ids : IdsOf l
     ids = ids-of l s
@@ -271,11 +270,11 @@ spawn-answer spawn l s k b t h = ap call.spawned (ap (λ o. unless o l (admitted
     R : Landed → Type 0
     R r = r .answer ≡ spawnAnswer (spawn .bus) l
 
-    settles : (m : Ledger) → m .desk .config ≡ l .desk .config → IdsOf m → HostAt (m .desk .graph .nodes) (spawn .bus) → nextVoice (m .desk) ≡ nextVoice (l .desk) → blocked (spawn .bus) m ≡ blocked (spawn .bus) l → R (settle (spawn .def) (pans (spawn .pan)) (spawn .bus) m)
+    settles : (m : Ledger) → m .desk .config ≡ l .desk .config → IdsOf m → HostAt (m .desk .graph .nodes) (spawn .bus) → nextVoice (m .desk) ≡ nextVoice (l .desk) → blocked (spawn .bus) m ≡ blocked (spawn .bus) l → R (settle spawn m)
     settles m c d at next e =
         let u : m .desk .config .budget ≡ AtMost (suc k) = ap (λ (x : Config). x .budget) c ∙ b in
         let n : tries (m .desk .config .budget) (m .voices) ≡ length (m .voices) = ap (λ x. tries x (m .voices)) u in
-        answers (spawn .def) (pans (spawn .pan)) (spawn .bus) (blocked (spawn .bus) l) (nextVoice (l .desk)) (tries (m .desk .config .budget) (m .voices)) (stateUnder (m .desk .config .budget)) m
+        answers spawn (blocked (spawn .bus) l) (nextVoice (l .desk)) (tries (m .desk .config .budget) (m .voices)) (stateUnder (m .desk .config .budget)) m
         (record { ids = d; at = at; steals = subst (λ (x : Config). Stealing (x .policy)) (sym c) t; next = next; enough = omega arith; is = e })
 
     rejected : admissionOn (spawn .bus) l ≡ admission.Reject → ⊥
@@ -283,9 +282,9 @@ spawn-answer spawn l s k b t h = ap call.spawned (ap (λ o. unless o l (admitted
         never-rejects ids (l .desk) (counted (l .desk .config .scope) (spawn .bus)) k (l .desk .config .policy) t
         (subst (λ x. admits x (l .desk .config .policy) (candidates (l .desk) (counted (l .desk .config .scope) (spawn .bus)) (l .voices)) ≡ admission.Reject) b e)
 
-    all : R (admitted (admissionOn (spawn .bus) l) (spawn .def) (pans (spawn .pan)) (spawn .bus) l)
+    all : R (admitted (admissionOn (spawn .bus) l) spawn l)
     all =
-        managed-kept (spawn .def) (pans (spawn .pan)) (spawn .bus) R l ids (λ e. absurd (rejected e)) (λ e. settles l refl ids hb refl refl)
+        managed-kept spawn R l ids (λ e. absurd (rejected e)) (λ e. settles l refl ids hb refl refl)
         (λ p w e v i x.
         let tr = and-left (isTracked (v .state)) _ x in
         settles (stealVoice v l) (config-steal v l) (ids-steal v l ids) (host-steal (spawn .bus) l ids hb v i) (ap (λ n. record { 0 = n + 1 }) (spawned-steal v l)) (blocked-steal (spawn .bus) l ids hb v i s tr))

@@ -22,14 +22,13 @@ use Rattle.voice.specs.declared.policy.BudgetScope.{BudgetScope}
 use Rattle.voice.specs.declared.policy.BudgetScope.the-variants.{Global, PerGroup}
 use Rattle.voice.specs.declared.policy.Budget.the-variants.{Unlimited, AtMost}
 use Rattle.voice.specs.declared.policy.Admission.the-variants as admission
-use Rattle.synthdef.specs.declared.def.SynthDef.{SynthDef}
 use Rattle.store.specs.declared.config.Config.{Config}
 use Rattle.store.specs.declared.voices.Voice.{Voice}
 use Rattle.store.specs.declared.voices.VoiceState.{VoiceState}
 use Rattle.store.specs.declared.voices.VoiceState.the-variants.{Tracked, Fading, Loose}
 use Rattle.store.specs.declared.voices.Fade.{Fade}
 use Rattle.model.specs.Voice.{isVoice, isTracked, withState, beginFade, movedState, moved, counted, candidates}
-use Rattle.model.specs.Spawn.{newcomer, stateUnder, tries, fadeOf, pans, Spawn}
+use Rattle.model.specs.Spawn.{newcomer, stateUnder, tries, fadeOf, Spawn}
 use Rattle.model.specs.Refuse.{spawnRefusal}
 use Rattle.model.specs.Call.{Call}
 use Rattle.model.specs.Call as call
@@ -108,14 +107,14 @@ within-steady =
 abbrev Spare : NodeId → Ledger → Type 0
 Spare bus l = (k : ℕ) → l .desk .config .budget ≡ AtMost k → count (counted (l .desk .config .scope) bus) (l .voices) < k
 
-within-settle : (def : SynthDef) (pan : Bool) (bus : NodeId) (l : Ledger) → WithinOf l → Spare bus l → WithinOf (settle def pan bus l .ledger)
-within-settle def pan bus l u r =
-    place-kept def pan (stateUnder (l .desk .config .budget)) bus (λ n l. WithinOf l × Spare bus l) (λ r. WithinOf (r .ledger))
-    (λ n l p e q. (ids-snoc (newcomer def pan _ bus p (l .desk)) refl (q .0 .0), λ k f. few-land (l .desk .config .scope) k bus (newcomer def pan _ bus p (l .desk)) refl (l .voices) (q .0 .1 k f) (λ t. q .1 k f)))
+within-settle : (spawn : Spawn) (l : Ledger) → WithinOf l → Spare (spawn .bus) l → WithinOf (settle spawn l .ledger)
+within-settle spawn l u r =
+    place-kept spawn (stateUnder (l .desk .config .budget)) (λ n l. WithinOf l × Spare (spawn .bus) l) (λ r. WithinOf (r .ledger))
+    (λ n l p e q. (ids-snoc (newcomer spawn _ p (l .desk)) refl (q .0 .0), λ k f. few-land (l .desk .config .scope) k (spawn .bus) (newcomer spawn _ p (l .desk)) refl (l .voices) (q .0 .1 k f) (λ t. q .1 k f)))
     (λ l e q. q .0) (λ n l e f q. q .0)
     (λ n l v e f q. (
       (ids-cut v (v .state) l (q .0 .0), λ k f. few-keep (l .desk .config .scope) k (λ x. not (isVoice (v .id) x)) (l .voices) (q .0 .1 k f)),
-      λ k f. let s = q .1 k f in omega (arith, s, count-keep (counted (l .desk .config .scope) bus) (λ x. not (isVoice (v .id) x)) (l .voices)),
+      λ k f. let s = q .1 k f in omega (arith, s, count-keep (counted (l .desk .config .scope) (spawn .bus)) (λ x. not (isVoice (v .id) x)) (l .voices)),
     ))
     (tries (l .desk .config .budget) (l .voices)) l (u, r)
 
@@ -143,15 +142,15 @@ spare-steal bus v l u i t k e =
     let f : count (counted (l .desk .config .scope) bus) (l .voices) ≤ k = u .1 k (ap (λ (x : Config). x .budget) (sym c) ∙ e) bus in
     subst (λ (x : Config). count (counted (x .scope) bus) (stealVoice v l .voices) < k) (sym c) (omega (arith, f, steal-room (l .desk .config .scope) bus v l i t))
 
-within-managed : (l : Ledger) (def : SynthDef) (bus : NodeId) (pan : Bool) → WithinOf l → WithinOf (admitted (admissionOn bus l) def pan bus l .ledger)
-within-managed l def bus pan u =
-    managed-kept def pan bus (λ r. WithinOf (r .ledger)) l (u .0) (λ h. u)
-    (λ h. within-settle def pan bus l u (λ k e. admit-below (u .0) (l .desk) (counted (l .desk .config .scope) bus) k (l .desk .config .policy)
-    (subst (λ b. admits b (l .desk .config .policy) (candidates (l .desk) (counted (l .desk .config .scope) bus) (l .voices)) ≡ admission.Admit) e h)))
-    (λ p w h v i t. within-settle def pan bus (stealVoice v l) (within-steal v l u) (spare-steal bus v l u i t))
+within-managed : (l : Ledger) (spawn : Spawn) → WithinOf l → WithinOf (admitted (admissionOn (spawn .bus) l) spawn l .ledger)
+within-managed l spawn u =
+    managed-kept spawn (λ r. WithinOf (r .ledger)) l (u .0) (λ h. u)
+    (λ h. within-settle spawn l u (λ k e. admit-below (u .0) (l .desk) (counted (l .desk .config .scope) (spawn .bus)) k (l .desk .config .policy)
+    (subst (λ b. admits b (l .desk .config .policy) (candidates (l .desk) (counted (l .desk .config .scope) (spawn .bus)) (l .voices)) ≡ admission.Admit) e h)))
+    (λ p w h v i t. within-settle spawn (stealVoice v l) (within-steal v l u) (spare-steal (spawn .bus) v l u i t))
 
 within-run : (xs : List Call) (l : Ledger) → WithinOf l → WithinOf (run xs l .ledger)
-within-run = kept-run WithinOf within-steady (λ l def bus pan e u. within-managed l def bus pan u)
+within-run = kept-run WithinOf within-steady (λ l spawn e u. within-managed l spawn u)
 
 -- after every list, from a new store: of the voices that a newcomer on any bus would count, at most the budget
 pub within-budget : (c : Config) (k : ℕ) → c .budget ≡ AtMost k → (xs : List Call) (bus : NodeId) → count (counted (c .scope) bus) (run xs (newLedger c) .ledger .voices) ≤ k
@@ -174,22 +173,22 @@ free-steady =
     (λ c b n vs v q s h u. (u .0, loose-snoc vs v s (u .1), u .2))
 
 -- a managed spawn is then the port search alone, and its newcomer is loose
-module _ (def : SynthDef) (pan : Bool) (bus : NodeId) (l : Ledger) (e : l .desk .config .budget ≡ Unlimited) where
-  pub unlimited-spawn : admitted (admissionOn bus l) def pan bus l ≡ place 0 def pan Loose bus l
+module _ (spawn : Spawn) (l : Ledger) (e : l .desk .config .budget ≡ Unlimited) where
+  pub unlimited-spawn : admitted (admissionOn (spawn .bus) l) spawn l ≡ place 0 spawn Loose l
   unlimited-spawn =
-      ap (λ b. admitted (admits b (l .desk .config .policy) (candidates (l .desk) (counted (l .desk .config .scope) bus) (l .voices))) def pan bus l) e
-      ∙ ap (λ b. place (tries b (l .voices)) def pan (stateUnder b) bus l) e
+      ap (λ b. admitted (admits b (l .desk .config .policy) (candidates (l .desk) (counted (l .desk .config .scope) (spawn .bus)) (l .voices))) spawn l) e
+      ∙ ap (λ b. place (tries b (l .voices)) spawn (stateUnder b) l) e
 
-free-managed : (l : Ledger) (def : SynthDef) (bus : NodeId) (pan : Bool) → Calm Free l → Calm Free (admitted (admissionOn bus l) def pan bus l .ledger)
-free-managed l def bus pan u = subst (λ r. Calm Free (r .ledger)) (sym (unlimited-spawn def pan bus l (u .0))) (go (portFree bus l))
+free-managed : (l : Ledger) (spawn : Spawn) → Calm Free l → Calm Free (admitted (admissionOn (spawn .bus) l) spawn l .ledger)
+free-managed l spawn u = subst (λ r. Calm Free (r .ledger)) (sym (unlimited-spawn spawn l (u .0))) (go (portFree (spawn .bus) l))
   where
-    go : (o : Option ℕ) → Calm Free (landOr o none def pan Loose bus l (refused NoPort) .ledger)
+    go : (o : Option ℕ) → Calm Free (landOr o none spawn Loose l (refused NoPort) .ledger)
     go none = u
-    go (some p) = (u .0, loose-snoc (l .voices) (newcomer def pan Loose bus p (l .desk)) refl (u .1), u .2)
+    go (some p) = (u .0, loose-snoc (l .voices) (newcomer spawn Loose p (l .desk)) refl (u .1), u .2)
 
 pub without-budget : (c : Config) → c .budget ≡ Unlimited → (xs : List Call) → AllLoose (run xs (newLedger c) .ledger)
 without-budget c e xs =
-    let r = kept-run (Calm Free) free-steady (λ l def bus pan h u. free-managed l def bus pan u) xs (newLedger c) (e, λ v i. absurd i, refl) in
+    let r = kept-run (Calm Free) free-steady (λ l spawn h u. free-managed l spawn u) xs (newLedger c) (e, λ v i. absurd i, refl) in
     record { voices = r .1; book = r .2 }
 
 -- nobody is reclaimed: a managed spawn takes no voice away
@@ -203,10 +202,10 @@ nobody-reclaimed c e xs spawn v i = unless (spawnRefusal (l .desk) (l .voices) (
     u : l .desk .config .budget ≡ Unlimited
     u = ap (λ (x : Config). x .budget) (config-run xs (newLedger c) (ids-new c)) ∙ e
 
-    go : (o : Option ℕ) → In v (landOr o none (spawn .def) (pans (spawn .pan)) Loose (spawn .bus) l (refused NoPort) .ledger .voices)
+    go : (o : Option ℕ) → In v (landOr o none spawn Loose l (refused NoPort) .ledger .voices)
     go none = i
-    go (some p) = in-left (l .voices) (newcomer (spawn .def) (pans (spawn .pan)) Loose (spawn .bus) p (l .desk) ∷ []) v i
+    go (some p) = in-left (l .voices) (newcomer spawn Loose p (l .desk) ∷ []) v i
 
-    unless : (o : Option Refusal) → In v (ledger.unless o l (admitted (admissionOn (spawn .bus) l) (spawn .def) (pans (spawn .pan)) (spawn .bus) l) .ledger .voices)
+    unless : (o : Option Refusal) → In v (ledger.unless o l (admitted (admissionOn (spawn .bus) l) spawn l) .ledger .voices)
     unless (some r) = i
-    unless none = subst (λ (r : Landed). In v (r .ledger .voices)) (sym (unlimited-spawn (spawn .def) (pans (spawn .pan)) (spawn .bus) l u)) (go (portFree (spawn .bus) l))
+    unless none = subst (λ (r : Landed). In v (r .ledger .voices)) (sym (unlimited-spawn spawn l u)) (go (portFree (spawn .bus) l))

@@ -10,7 +10,7 @@ use Rattle.bus.specs.Fade.{fadeLength, fadeOutput}
 use Rattle.fade_table.specs.Gain.{gains}
 use Rattle.store.specs.declared.config.Config.{Config}
 use Rattle.model.specs.Refuse.{tableRate}
-use Rattle.model.specs.Block.{gainsOf, fades, fadeBlock}
+use Rattle.model.specs.Block.{fadeBlock}
 use Rattle.model.specs.Model.{Model}
 use Rattle.model.specs.Call as call
 use Rattle.model.proofs.TableScenes.{gains-enough}

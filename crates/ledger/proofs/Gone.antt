@@ -79,11 +79,11 @@ module _ (n₀ : ℕ) (vs₀ : List Voice) where
       record {
         cuts = λ l v s h. still-keep (l .desk .spawned) (l .voices) (λ x. not (isVoice (v .id) x)) h;
         fades = λ l v p h. still-fade (l .desk .spawned) (l .voices) (v .id) (fadeOf (l .desk)) h;
-        lands = λ l def pan s bus p h. still-land (l .desk .spawned) (l .voices) (newcomer def pan s bus p (l .desk)) refl h;
+        lands = λ l spawn s p h. still-land (l .desk .spawned) (l .voices) (newcomer spawn s p (l .desk)) refl h;
       }
 
   still-step : (x : Call) (l : Ledger) → StillOf l → StillOf (step x l .ledger)
-  still-step = kept-step StillOf still-steady (λ l def bus pan e h. managed-keeps StillOf still-spawning def pan bus (admissionOn bus l) l h)
+  still-step = kept-step StillOf still-steady (λ l spawn e h. managed-keeps StillOf still-spawning spawn (admissionOn (spawn .bus) l) l h)
 
 -- ---- so a fading voice goes on, or it is gone
 module _ (v : Voice) (f : Fade) (ph : v .state ≡ Fading f) (x : Call) (l : Ledger) (r : RecordedOf l) (q : OwnNodes l) (i : In v (l .voices)) where

@@ -16,7 +16,6 @@ use Rattle.lists.specs.Member.{In, in-left, in-of-map, and-left, and-right}
 use Rattle.lists.specs.Find.{find, find-in}
 use Rattle.lists.specs.Keep.{keep, in-keep, keep-in}
 use Rattle.lists.specs.Count.{more}
-use Rattle.node.specs.declared.record.NodeId.{NodeId}
 use Rattle.node.specs.declared.record.VoiceId.{VoiceId}
 use Rattle.node.specs.declared.refusal.Refusal.{Refusal}
 use Rattle.node.specs.declared.refusal.Refusal.the-variants.{NoPort, ClockEnd, ShortBuffer}
@@ -26,7 +25,6 @@ use Rattle.scheduler.specs.Queue as queue
 use Rattle.scheduler.specs.declared.event.Event.{Event}
 use Rattle.voice.specs.Steals.{Book, pushed, marked, recordOf}
 use Rattle.voice.specs.declared.steals.StealRecord.{StealRecord}
-use Rattle.synthdef.specs.declared.def.SynthDef.{SynthDef}
 use Rattle.store.specs.declared.answer.Rendered.{Rendered}
 use Rattle.store.specs.declared.answer.Rendered.the-variants as Rendered
 use Rattle.store.specs.declared.voices.Voice.{Voice}
@@ -36,7 +34,7 @@ use Rattle.store.specs.declared.voices.Fade.{Fade}
 use Rattle.model.specs.Desk.{sounding}
 use Rattle.model.specs.Voice.{isVoice, isTracked, isOn, withState, beginFade, movedFade, movedState, moved, voiceLevel}
 use Rattle.model.specs.Refuse.{spawnRefusal, reportRefusal}
-use Rattle.model.specs.Spawn.{pans, newcomer, stateUnder, tries, fadeOf, Spawn}
+use Rattle.model.specs.Spawn.{newcomer, stateUnder, tries, fadeOf, Spawn}
 use Rattle.model.specs.Order.{order}
 use Rattle.model.specs.Clear.{isSilent}
 use Rattle.model.specs.Render.{prepareOutcome, prepareDesk, isFree, anyFree, heard, answerAfter, isSounding, deadline, due, clockEnds}
@@ -136,11 +134,11 @@ module _ (v : Voice) (f : Fade) (ph : v .state ≡ Fading f) where
       go (no e) = inl (keep-in (λ x. not (isVoice w x)) vs v i (ap not (ne-eqb (v .id .0) (w .0) e)))
 
   -- ---- the reclaims of a managed spawn
-  module _ (def : SynthDef) (pan : Bool) (bus : NodeId) where
+  module _ (spawn : Spawn) where
     abbrev Here : Ledger → Type 0
-    Here m = In v (m .voices) ⊎ ((isOn bus v ≡ true) × CutIn (f .number) (m .desk .steals))
+    Here m = In v (m .voices) ⊎ ((isOn (spawn .bus) v ≡ true) × CutIn (f .number) (m .desk .steals))
 
-    here-cut : (w : Voice) (m : Ledger) → RecordedOf m → In w (m .voices) → isOn bus w ≡ true → Here m → Here (cutOff w (w .state) m)
+    here-cut : (w : Voice) (m : Ledger) → RecordedOf m → In w (m .voices) → isOn (spawn .bus) w ≡ true → Here m → Here (cutOff w (w .state) m)
     here-cut w m r j o (inr z) = inr (z .0, cut-cutOff (f .number) w (w .state) m r j refl (z .1))
     here-cut w m r j o (inl i) = ⊎-elim inl this (stays-keep (w .id) (m .voices) i)
       where
@@ -149,13 +147,13 @@ module _ (v : Voice) (f : Fade) (ph : v .state ≡ Fading f) where
             let z : v ≡ w = unique (r .ids) v w i j e in
             let h : w .state ≡ Fading f = ap (λ (x : Voice). x .state) (sym z) ∙ ph in
             let n = r .numbers v i f ph in
-            inr (ap (isOn bus) z ∙ o, subst (λ s. CutIn (f .number) (cutOff w s m .desk .steals)) (sym h) (n, ap cutIfHeld (held-marked (m .desk .steals) (f .number)) ∙ cut-cut (heldRecord (m .desk .steals) (f .number))))
+            inr (ap (isOn (spawn .bus)) z ∙ o, subst (λ s. CutIn (f .number) (cutOff w s m .desk .steals)) (sym h) (n, ap cutIfHeld (held-marked (m .desk .steals) (f .number)) ∙ cut-cut (heldRecord (m .desk .steals) (f .number))))
 
-    here-settle : (m : Ledger) → RecordedOf m → Here m → Here (settle def pan bus m .ledger)
+    here-settle : (m : Ledger) → RecordedOf m → Here m → Here (settle spawn m .ledger)
     here-settle m r h =
-        place-kept def pan (stateUnder (m .desk .config .budget)) bus (λ n m. RecordedOf m × Here m) (λ r. Here (r .ledger))
-        (λ n m p e q. ⊎-elim (λ i. inl (in-left (m .voices) (newcomer def pan _ bus p (m .desk) ∷ []) v i)) inr (q .1)) (λ m e q. q .1) (λ n m e g q. q .1)
-        (λ n m w e g q. let i = nextOut-in (q .0 .ids) (m .desk) bus w g in (recorded-cut w (w .state) m (q .0) (i .0) refl, here-cut w m (q .0) (i .0) (and-right (busy (w .state)) (isOn bus w) (i .1)) (q .1)))
+        place-kept spawn (stateUnder (m .desk .config .budget)) (λ n m. RecordedOf m × Here m) (λ r. Here (r .ledger))
+        (λ n m p e q. ⊎-elim (λ i. inl (in-left (m .voices) (newcomer spawn _ p (m .desk) ∷ []) v i)) inr (q .1)) (λ m e q. q .1) (λ n m e g q. q .1)
+        (λ n m w e g q. let i = nextOut-in (q .0 .ids) (m .desk) (spawn .bus) w g in (recorded-cut w (w .state) m (q .0) (i .0) refl, here-cut w m (q .0) (i .0) (and-right (busy (w .state)) (isOn (spawn .bus) w) (i .1)) (q .1)))
         (tries (m .desk .config .budget) (m .voices)) m (r, h)
 
     -- the victim of the admission is another voice: it is tracked
@@ -172,9 +170,9 @@ module _ (v : Voice) (f : Fade) (ph : v .state ≡ Fading f) where
         go none = keep-in (λ x. not (isVoice (w .id) x)) (m .voices) v i (ap not off)
         go (some p) = subst (λ z. In z (map (beginFade (w .id) (fadeOf (m .desk))) (m .voices))) (begin-other (w .id) (fadeOf (m .desk)) v off) (in-of-map (beginFade (w .id) (fadeOf (m .desk))) (m .voices) v i)
 
-    here-managed : (m : Ledger) → RecordedOf m → In v (m .voices) → Here (admitted (admissionOn bus m) def pan bus m .ledger)
+    here-managed : (m : Ledger) → RecordedOf m → In v (m .voices) → Here (admitted (admissionOn (spawn .bus) m) spawn m .ledger)
     here-managed m r i =
-        managed-kept def pan bus (λ z. Here (z .ledger)) m (r .ids) (λ a. inl i) (λ a. here-settle m r (inl i))
+        managed-kept spawn (λ z. Here (z .ledger)) m (r .ids) (λ a. inl i) (λ a. here-settle m r (inl i))
         (λ p w a u j t. let z = and-left (tracks u) _ t in here-settle (stealVoice u m) (recorded-steal u m r j z) (inl (here-steal u m r i j z)))
 
   -- ---- frees and clearings
@@ -221,9 +219,9 @@ module _ (v : Voice) (f : Fade) (ph : v .state ≡ Fading f) where
   guarded (some r) x l s i g = inl (still (l .voices) i)
   guarded none x l s i g = g refl
 
-  leaves-loose : (o : Option ℕ) (def : SynthDef) (pan : Bool) (bus : NodeId) (l : Ledger) → In v (l .voices) → In v (landOr o none def pan Loose bus l (ledger.refused NoPort) .ledger .voices)
-  leaves-loose (some p) def pan bus l i = in-left (l .voices) (newcomer def pan Loose bus p (l .desk) ∷ []) v i
-  leaves-loose none def pan bus l i = i
+  leaves-loose : (o : Option ℕ) (spawn : Spawn) (l : Ledger) → In v (l .voices) → In v (landOr o none spawn Loose l (ledger.refused NoPort) .ledger .voices)
+  leaves-loose (some p) spawn l i = in-left (l .voices) (newcomer spawn Loose p (l .desk) ∷ []) v i
+  leaves-loose none spawn l i = i
 
   leaves-clear : (l : Ledger) → OwnNodes l → In v (l .voices) → Next l v f call.clear (step call.clear l)
   leaves-clear l q i = ⊎-elim second first (leaves-all (endedVoices l) l i)
@@ -272,10 +270,10 @@ module _ (v : Voice) (f : Fade) (ph : v .state ≡ Fading f) where
       out : Landed → Step
       out z = record { answer = call.spawned (z .answer); ledger = z .ledger }
 
-      go : (o : Option Refusal) → Next l v f (call.spawnManaged spawn) (out (ledger.unless o l (admitted (admissionOn (spawn .bus) l) (spawn .def) (pans (spawn .pan)) (spawn .bus) l)))
+      go : (o : Option Refusal) → Next l v f (call.spawnManaged spawn) (out (ledger.unless o l (admitted (admissionOn (spawn .bus) l) spawn l)))
       go (some n) = inl (still (l .voices) i)
       go none =
-          ⊎-elim (λ j. inl (still (admitted (admissionOn (spawn .bus) l) (spawn .def) (pans (spawn .pan)) (spawn .bus) l .ledger .voices) j)) (λ z. inr (reclaimed spawn (z .0) (z .1 .1))) (here-managed (spawn .def) (pans (spawn .pan)) (spawn .bus) l r i)
+          ⊎-elim (λ j. inl (still (admitted (admissionOn (spawn .bus) l) spawn l .ledger .voices) j)) (λ z. inr (reclaimed spawn (z .0) (z .1 .1))) (here-managed spawn l r i)
 
   ready-still : (l : Ledger) (a : Readiness) → In v (l .voices) → GoesOn v f (readyAnswer a) (l .voices)
   ready-still l Ready i = still (l .voices) i
@@ -290,9 +288,9 @@ module _ (v : Voice) (f : Fade) (ph : v .state ≡ Fading f) where
   leaves (call.spawnManaged spawn) l r q i = leaves-managed spawn l r i
   leaves (call.spawnLoose spawn) l r q i = inl (go (spawnRefusal (l .desk) (l .voices) (spawn .def) (spawn .bus)))
     where
-      go : (o : Option Refusal) → In (withState (Fading f) v) (ledger.unless o l (place 0 (spawn .def) (pans (spawn .pan)) Loose (spawn .bus) l) .ledger .voices)
+      go : (o : Option Refusal) → In (withState (Fading f) v) (ledger.unless o l (place 0 spawn Loose l) .ledger .voices)
       go (some n) = still (l .voices) i
-      go none = still (place 0 (spawn .def) (pans (spawn .pan)) Loose (spawn .bus) l .ledger .voices) (leaves-loose (portFree (spawn .bus) l) (spawn .def) (pans (spawn .pan)) (spawn .bus) l i)
+      go none = still (place 0 spawn Loose l .ledger .voices) (leaves-loose (portFree (spawn .bus) l) spawn l i)
   leaves (call.free w) l r q i = ⊎-elim (λ j. inl (still (free w l .voices) j)) (λ e. inr (subst (λ z. Why l (free w l) v f (call.free z)) (sym e) freed)) (leaves-free w l i)
   leaves call.clear l r q i = leaves-clear l q i
   leaves (call.order w name o) l r q i = inl (still (l .voices) i)

@@ -27,14 +27,13 @@ use Rattle.voice.specs.declared.policy.Level.{Level}
 use Rattle.voice.specs.declared.policy.Level.the-variants.{Unknown, Known}
 use Rattle.voice.specs.declared.steals.StealRecord.{StealRecord}
 use Rattle.voice.specs.declared.steals.StealFound.the-variants as found
-use Rattle.synthdef.specs.declared.def.SynthDef.{SynthDef}
 use Rattle.store.specs.declared.voices.Voice.{Voice}
 use Rattle.store.specs.declared.voices.VoiceState.{VoiceState}
 use Rattle.store.specs.declared.voices.VoiceState.the-variants.{Tracked, Fading, Loose}
 use Rattle.store.specs.declared.voices.Fade.{Fade}
 use Rattle.model.specs.Voice.{id, isVoice, isTracked, isOn, withState, beginFade, nodeLevel, voiceLevel, counted}
 use Rattle.model.specs.Refuse.{spawnRefusal}
-use Rattle.model.specs.Spawn.{Spawn, pans, newcomer, stateUnder, tries, fadeNode, fadeOf}
+use Rattle.model.specs.Spawn.{Spawn, newcomer, stateUnder, tries, fadeNode, fadeOf, nextOut}
 use Rattle.model.specs.Call as call
 use Rattle.ledger.specs.Ledger.{Ledger, portHeld, cutOff, stolen, stealVoice, land, settle, stealThen, admitted, admissionOn, unless}
 use Rattle.ledger.specs.Call.{step}
@@ -451,8 +450,8 @@ module _ (bus : NodeId) (l₀ : Ledger) (r₀ : RecordedOf l₀) (q₀ : OwnNode
               let g : s .0 ≡ v = unique (r₀ .ids) (s .0) v (h .were (s .0) j .0) (h .were v i .0) (ap (λ (x : Voice). x .id .0) (sym (s .4)) ∙ same) in
               (s .4 ∙ ap (withState (Fading (fadeOf (l₀ .desk)))) g, (s .1, ap (λ x. portHeld x l₀) (sym g) ∙ s .3))
 
-  losing-lands : (z : Ledger) (h : Losing z) → Heads o (h .lost) → (def : SynthDef) (pan : Bool) (s : VoiceState) (b : NodeId) (p : ℕ) → LossesOf bus o l₀ (land def pan s b p z .ledger)
-  losing-lands z h heads def pan s b p =
+  losing-lands : (z : Ledger) (h : Losing z) → Heads o (h .lost) → (spawn : Spawn) (s : VoiceState) (p : ℕ) → LossesOf bus o l₀ (land spawn s p z .ledger)
+  losing-lands z h heads spawn s p =
       let e = losing-ends z h heads in
       record {
         lost = e .lost;
@@ -469,7 +468,7 @@ module _ (bus : NodeId) (l₀ : Ledger) (r₀ : RecordedOf l₀) (q₀ : OwnNode
       }
     where
       n : Voice
-      n = newcomer def pan s b p (z .desk)
+      n = newcomer spawn s p (z .desk)
 
       newer : (v : Voice) → In v (l₀ .voices) → n .id .0 ≡ v .id .0 → ⊥
       newer v i e = let k = h .ids in omega (arith, e, k, r₀ .ids .below v i)
@@ -477,11 +476,11 @@ module _ (bus : NodeId) (l₀ : Ledger) (r₀ : RecordedOf l₀) (q₀ : OwnNode
       same : (v : Voice) → In v (l₀ .voices) → find (isVoice (v .id)) (z .voices ++ (n ∷ [])) ≡ find (isVoice (v .id)) (z .voices)
       same v i = find-snoc-off (isVoice (v .id)) (z .voices) n (ne-eqb (n .id .0) (v .id .0) (newer v i))
 
-  losing-settle : (def : SynthDef) (pan : Bool) (z : Ledger) (h : Losing z) → Heads o (h .lost) → LossesOf bus o l₀ (settle def pan bus z .ledger)
-  losing-settle def pan z h heads =
-      place-kept def pan (stateUnder (z .desk .config .budget)) bus (λ n z. (h : Losing z) × Heads o (h .lost)) (λ r. LossesOf bus o l₀ (r .ledger))
-      (λ n z p e q. losing-lands z (q .0) (q .1) def pan _ bus p) (λ z e q. losing-ends z (q .0) (q .1)) (λ n z e f q. losing-ends z (q .0) (q .1))
-      (λ n z v e f q. let r = nextOut-in (q .0 .recorded .ids) (z .desk) bus v f in losing-cut z (q .0) (q .1) v (r .0) (r .1) (v .state) refl)
+  losing-settle : (spawn : Spawn) → spawn .bus ≡ bus → (z : Ledger) (h : Losing z) → Heads o (h .lost) → LossesOf bus o l₀ (settle spawn z .ledger)
+  losing-settle spawn on z h heads =
+      place-kept spawn (stateUnder (z .desk .config .budget)) (λ n z. (h : Losing z) × Heads o (h .lost)) (λ r. LossesOf bus o l₀ (r .ledger))
+      (λ n z p e q. losing-lands z (q .0) (q .1) spawn _ p) (λ z e q. losing-ends z (q .0) (q .1)) (λ n z e f q. losing-ends z (q .0) (q .1))
+      (λ n z v e f q. let r = nextOut-in (q .0 .recorded .ids) (z .desk) bus v (ap (λ b. nextOut (z .desk) b (z .voices)) (sym on) ∙ f) in losing-cut z (q .0) (q .1) v (r .0) (r .1) (v .state) refl)
       (tries (z .desk .config .budget) (z .voices)) z (h, heads)
 
 -- ---- every managed spawn
@@ -492,15 +491,15 @@ losses x l r q = go (spawnRefusal (l .desk) (l .voices) (x .def) (x .bus)) refl
     bus : NodeId
     bus = x .bus
 
-    admits : length (l .voices) < 64 → (a : Admission) → admissionOn bus l ≡ a → LossesOf bus (victimIn none a (l .voices)) l (admitted a (x .def) (pans (x .pan)) bus l .ledger)
-    admits few admission.Admit e = losing-settle bus l r q few none (x .def) (pans (x .pan)) l (losing-start bus l r q few none) tt
+    admits : length (l .voices) < 64 → (a : Admission) → admissionOn bus l ≡ a → LossesOf bus (victimIn none a (l .voices)) l (admitted a x l .ledger)
+    admits few admission.Admit e = losing-settle bus l r q few none x refl l (losing-start bus l r q few none) tt
     admits few admission.Reject e = nothing-lost bus l
     admits few (admission.Steal p w) e =
         let s = steal-voice (r .ids) (l .desk) (counted (l .desk .config .scope) bus) (l .desk .config .budget) (l .desk .config .policy) p w e in
         let z = losing-steal bus l r q few (some (s .0)) (s .0) (s .1) (tracked-state (s .0 .state) (and-left (isTracked (s .0 .state)) _ (s .2))) refl in
-        subst (λ o. LossesOf bus o l (stealThen o (x .def) (pans (x .pan)) bus l .ledger)) (sym (s .3)) (losing-settle bus l r q few (some (s .0)) (x .def) (pans (x .pan)) (stealVoice (s .0) l) (z .0) (z .1))
+        subst (λ o. LossesOf bus o l (stealThen o x l .ledger)) (sym (s .3)) (losing-settle bus l r q few (some (s .0)) x refl (stealVoice (s .0) l) (z .0) (z .1))
 
     go : (o : Option Refusal) → spawnRefusal (l .desk) (l .voices) (x .def) bus ≡ o
-        → LossesOf bus (victimIn o (admissionOn bus l) (l .voices)) l (unless o l (admitted (admissionOn bus l) (x .def) (pans (x .pan)) bus l) .ledger)
+        → LossesOf bus (victimIn o (admissionOn bus l) (l .voices)) l (unless o l (admitted (admissionOn bus l) x l) .ledger)
     go (some n) e = nothing-lost bus l
     go none e = admits (spawn-allowed (l .desk) (l .voices) (x .def) bus e .voices) (admissionOn bus l) refl

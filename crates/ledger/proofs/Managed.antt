@@ -5,19 +5,17 @@ use mathlib.Core.List.{List, [], _∷_}
 use mathlib.Core.Option.{Option, none, some}
 use mathlib.Core.Bool.{Bool, true, false, not, cond}
 use Rattle.lists.specs.Member.{In}
-use Rattle.node.specs.declared.record.NodeId.{NodeId}
 use Rattle.node.specs.declared.record.VoiceId.{VoiceId}
 use Rattle.node.specs.declared.refusal.Refusal.the-variants.{Rejected}
 use Rattle.voice.specs.declared.policy.Admission.{Admission}
 use Rattle.voice.specs.declared.policy.Admission.the-variants as admission
-use Rattle.synthdef.specs.declared.def.SynthDef.{SynthDef}
 use Rattle.store.specs.declared.config.Config.{Config}
 use Rattle.store.specs.declared.voices.Voice.{Voice}
 use Rattle.store.specs.declared.voices.VoiceState.{VoiceState}
 use Rattle.store.specs.declared.voices.VoiceState.the-variants.{Fading}
 use Rattle.store.specs.declared.voices.Fade.{Fade}
 use Rattle.model.specs.Voice.{isVoice, withState, beginFade, moved, counted}
-use Rattle.model.specs.Spawn.{newcomer, stateUnder, tries, fadeOf}
+use Rattle.model.specs.Spawn.{newcomer, stateUnder, tries, fadeOf, Spawn}
 use Rattle.model.specs.Call.{Call}
 use Rattle.ledger.specs.Ledger.{Ledger, newLedger, Landed, portHeld, cutOff, stolen, stealVoice, settle, stealThen, refused, admitted, admissionOn}
 use Rattle.ledger.specs.Render.{oneMore}
@@ -29,19 +27,19 @@ use Rattle.ledger.proofs.Steps.{place-kept, Steady, calm, kept-step}
 abbrev pub IdsOf : Ledger → Type 0
 IdsOf l = Ids (l .desk .spawned) (l .voices)
 
-module _ (def : SynthDef) (pan : Bool) (bus : NodeId) (R : Landed → Type 0) (l : Ledger) (u : IdsOf l)
-    (rejects : admissionOn bus l ≡ admission.Reject → R (refused Rejected l))
-    (admits : admissionOn bus l ≡ admission.Admit → R (settle def pan bus l))
-    (steals : (p : ℕ) (w : VoiceId) → admissionOn bus l ≡ admission.Steal p w → (v : Voice) → In v (l .voices) → counted (l .desk .config .scope) bus v ≡ true → R (settle def pan bus (stealVoice v l))) where
-  pub managed-kept : R (admitted (admissionOn bus l) def pan bus l)
-  managed-kept = go (admissionOn bus l) refl
+module _ (spawn : Spawn) (R : Landed → Type 0) (l : Ledger) (u : IdsOf l)
+    (rejects : admissionOn (spawn .bus) l ≡ admission.Reject → R (refused Rejected l))
+    (admits : admissionOn (spawn .bus) l ≡ admission.Admit → R (settle spawn l))
+    (steals : (p : ℕ) (w : VoiceId) → admissionOn (spawn .bus) l ≡ admission.Steal p w → (v : Voice) → In v (l .voices) → counted (l .desk .config .scope) (spawn .bus) v ≡ true → R (settle spawn (stealVoice v l))) where
+  pub managed-kept : R (admitted (admissionOn (spawn .bus) l) spawn l)
+  managed-kept = go (admissionOn (spawn .bus) l) refl
     where
-      go : (a : Admission) → admissionOn bus l ≡ a → R (admitted a def pan bus l)
+      go : (a : Admission) → admissionOn (spawn .bus) l ≡ a → R (admitted a spawn l)
       go admission.Admit e = admits e
       go admission.Reject e = rejects e
       go (admission.Steal p w) e =
-          let r = steal-voice u (l .desk) (counted (l .desk .config .scope) bus) (l .desk .config .budget) (l .desk .config .policy) p w e in
-          subst (λ o. R (stealThen o def pan bus l)) (sym (r .3)) (steals p w e (r .0) (r .1) (r .2))
+          let r = steal-voice u (l .desk) (counted (l .desk .config .scope) (spawn .bus)) (l .desk .config .budget) (l .desk .config .policy) p w e in
+          subst (λ o. R (stealThen o spawn l)) (sym (r .3)) (steals p w e (r .0) (r .1) (r .2))
 
 -- ---- distinct ids
 pub begin-id : (w : VoiceId) (f : Fade) (v : Voice) → beginFade w f v .id ≡ v .id
@@ -61,10 +59,10 @@ ids-steal v l u = go (portHeld v l)
 pub ids-cut : (v : Voice) (s : VoiceState) (l : Ledger) → IdsOf l → IdsOf (cutOff v s l)
 ids-cut v s l u = ids-keep (λ x. not (isVoice (v .id) x)) u
 
-pub ids-settle : (def : SynthDef) (pan : Bool) (bus : NodeId) (l : Ledger) → IdsOf l → IdsOf (settle def pan bus l .ledger)
-ids-settle def pan bus l u =
-    place-kept def pan (stateUnder (l .desk .config .budget)) bus (λ n l. IdsOf l) (λ r. IdsOf (r .ledger))
-    (λ n l p e u. ids-snoc (newcomer def pan _ bus p (l .desk)) refl u) (λ l e u. u) (λ n l e f u. u) (λ n l v e f u. ids-cut v (v .state) l u)
+pub ids-settle : (spawn : Spawn) (l : Ledger) → IdsOf l → IdsOf (settle spawn l .ledger)
+ids-settle spawn l u =
+    place-kept spawn (stateUnder (l .desk .config .budget)) (λ n l. IdsOf l) (λ r. IdsOf (r .ledger))
+    (λ n l p e u. ids-snoc (newcomer spawn _ p (l .desk)) refl u) (λ l e u. u) (λ n l e f u. u) (λ n l v e f u. ids-cut v (v .state) l u)
     (tries (l .desk .config .budget) (l .voices)) l u
 
 pub ids-steady : Steady IdsOf
@@ -72,8 +70,8 @@ ids-steady =
     calm (λ c b n vs. Ids n vs) (λ c b n vs w u. ids-keep (λ x. not (isVoice w x)) u) (λ c b n vs u. ids-map (moved oneMore) (λ v. refl) u) (λ c b n vs v e s h u. ids-snoc v e u)
 
 pub ids-step : (x : Call) (l : Ledger) → IdsOf l → IdsOf (step x l .ledger)
-ids-step = kept-step IdsOf ids-steady (λ l def bus pan e u.
-    managed-kept def pan bus (λ r. IdsOf (r .ledger)) l u (λ h. u) (λ h. ids-settle def pan bus l u) (λ p w h v i t. ids-settle def pan bus (stealVoice v l) (ids-steal v l u)))
+ids-step = kept-step IdsOf ids-steady (λ l spawn e u.
+    managed-kept spawn (λ r. IdsOf (r .ledger)) l u (λ h. u) (λ h. ids-settle spawn l u) (λ p w h v i t. ids-settle spawn (stealVoice v l) (ids-steal v l u)))
 
 pub ids-run : (xs : List Call) (l : Ledger) → IdsOf l → IdsOf (run xs l .ledger)
 ids-run [] l u = u
@@ -83,9 +81,9 @@ pub ids-new : (c : Config) → IdsOf (newLedger c)
 ids-new c = record { rising = tt; below = λ v i. absurd i }
 
 -- ---- what making fixed stays
-pub config-settle : (c : Config) (def : SynthDef) (pan : Bool) (bus : NodeId) (l : Ledger) → l .desk .config ≡ c → settle def pan bus l .ledger .desk .config ≡ c
-config-settle c def pan bus l e =
-    place-kept def pan (stateUnder (l .desk .config .budget)) bus (λ n l. l .desk .config ≡ c) (λ r. r .ledger .desk .config ≡ c) (λ n l p h e. e) (λ l h e. e) (λ n l h f e. e) (λ n l v h f e. e)
+pub config-settle : (c : Config) (spawn : Spawn) (l : Ledger) → l .desk .config ≡ c → settle spawn l .ledger .desk .config ≡ c
+config-settle c spawn l e =
+    place-kept spawn (stateUnder (l .desk .config .budget)) (λ n l. l .desk .config ≡ c) (λ r. r .ledger .desk .config ≡ c) (λ n l p h e. e) (λ l h e. e) (λ n l h f e. e) (λ n l v h f e. e)
     (tries (l .desk .config .budget) (l .voices)) l e
 
 pub config-steal : (v : Voice) (l : Ledger) → stealVoice v l .desk .config ≡ l .desk .config
@@ -99,10 +97,10 @@ pub config-step : (x : Call) (l : Ledger) → IdsOf l → step x l .ledger .desk
 config-step x l u =
     kept-step (λ m. IdsOf m × (m .desk .config ≡ l .desk .config))
     (calm (λ c b n vs. Ids n vs × (c ≡ l .desk .config)) (λ c b n vs w u. (ids-keep (λ x. not (isVoice w x)) (u .0), u .1)) (λ c b n vs u. (ids-map (moved oneMore) (λ v. refl) (u .0), u .1)) (λ c b n vs v e s h u. (ids-snoc v e (u .0), u .1)))
-    (λ m def bus pan e u.
-    managed-kept def pan bus (λ r. IdsOf (r .ledger) × (r .ledger .desk .config ≡ l .desk .config)) m (u .0) (λ h. u)
-    (λ h. (ids-settle def pan bus m (u .0), config-settle (l .desk .config) def pan bus m (u .1)))
-    (λ p w h v i t. (ids-settle def pan bus (stealVoice v m) (ids-steal v m (u .0)), config-settle (l .desk .config) def pan bus (stealVoice v m) (config-steal v m ∙ u .1))))
+    (λ m spawn e u.
+    managed-kept spawn (λ r. IdsOf (r .ledger) × (r .ledger .desk .config ≡ l .desk .config)) m (u .0) (λ h. u)
+    (λ h. (ids-settle spawn m (u .0), config-settle (l .desk .config) spawn m (u .1)))
+    (λ p w h v i t. (ids-settle spawn (stealVoice v m) (ids-steal v m (u .0)), config-settle (l .desk .config) spawn (stealVoice v m) (config-steal v m ∙ u .1))))
     x l (u, refl) .1
 
 pub config-run : (xs : List Call) (l : Ledger) → IdsOf l → run xs l .ledger .desk .config ≡ l .desk .config

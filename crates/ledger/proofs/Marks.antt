@@ -15,13 +15,11 @@ use Rattle.lists.specs.Member.{In, and-left, and-right}
 use Rattle.lists.specs.Find.{find, find-none, none-find, find-snoc-off}
 use Rattle.lists.specs.Keep.{keep, in-keep}
 use Rattle.lists.specs.Count.{more, count, count-snoc}
-use Rattle.node.specs.declared.record.NodeId.{NodeId}
 use Rattle.node.specs.declared.record.VoiceId.{VoiceId}
 use Rattle.node.specs.declared.refusal.Refusal.{Refusal}
 use Rattle.voice.specs.Steals.{Book, pushed, marked, recordOf}
 use Rattle.voice.specs.declared.steals.StealRecord.{StealRecord}
 use Rattle.voice.specs.declared.policy.Budget.the-variants.{AtMost}
-use Rattle.synthdef.specs.declared.def.SynthDef.{SynthDef}
 use Rattle.store.specs.declared.answer.Spawned.{Spawned}
 use Rattle.store.specs.declared.answer.Spawned.the-variants as Spawned
 use Rattle.store.specs.declared.config.Config.{Config}
@@ -31,7 +29,7 @@ use Rattle.store.specs.declared.voices.VoiceState.the-variants.{Tracked, Fading
 use Rattle.store.specs.declared.voices.Fade.{Fade}
 use Rattle.model.specs.Voice.{isVoice, isTracked, isOn, beginFade, voiceLevel}
 use Rattle.model.specs.Refuse.{spawnRefusal}
-use Rattle.model.specs.Spawn.{pans, newcomer, stateUnder, tries, fadeOf, Spawn}
+use Rattle.model.specs.Spawn.{newcomer, stateUnder, tries, fadeOf, Spawn}
 use Rattle.model.specs.Call.{Call}
 use Rattle.model.specs.Call as call
 use Rattle.ledger.specs.Ledger.{Ledger, Landed, portHeld, cutOff, stolen, stealVoice, settle, admitted, admissionOn, unless}
@@ -84,7 +82,7 @@ gone-keep w t vs h = none-find (isVoice w) (keep t vs) (λ x i. find-none (isVoi
 pub gone-self : (w : VoiceId) (vs : List Voice) → find (isVoice w) (keep (λ x. not (isVoice w x)) vs) ≡ none
 gone-self w vs = none-find (isVoice w) (keep (λ x. not (isVoice w x)) vs) (λ x i. not-true (isVoice w x) (in-keep (λ x. not (isVoice w x)) vs x i .1))
 
-module _ (def : SynthDef) (pan : Bool) (bus : NodeId) (l₀ : Ledger) (d₀ : Ids (l₀ .desk .spawned) (l₀ .voices)) where
+module _ (spawn : Spawn) (l₀ : Ledger) (d₀ : Ids (l₀ .desk .spawned) (l₀ .voices)) where
   -- what holds during the port search, after l₀
   record During (m : Ledger) : Type 0 where
     recorded : RecordedOf m
@@ -92,23 +90,23 @@ module _ (def : SynthDef) (pan : Bool) (bus : NodeId) (l₀ : Ledger) (d₀ : Id
     left : m .desk .spawned < 18446744073709551615
     grown : l₀ .desk .steals .count ≤ m .desk .steals .count
     from : (v : Voice) → In v (m .voices) → (f : Fade) → v .state ≡ Fading f → In v (l₀ .voices) ⊎ (f .number ≡ l₀ .desk .steals .count)
-    fate : (k : ℕ) → k < l₀ .desk .steals .count → Fate (l₀ .desk .steals) (m .desk .steals) (Reclaimed (l₀ .voices) (m .voices) bus k) k
+    fate : (k : ℕ) → k < l₀ .desk .steals .count → Fate (l₀ .desk .steals) (m .desk .steals) (Reclaimed (l₀ .voices) (m .voices) (spawn .bus) k) k
 
-  reclaimed-keep : (t : Voice → Bool) (vs : List Voice) (k : ℕ) → Reclaimed (l₀ .voices) vs bus k → Reclaimed (l₀ .voices) (keep t vs) bus k
+  reclaimed-keep : (t : Voice → Bool) (vs : List Voice) (k : ℕ) → Reclaimed (l₀ .voices) vs (spawn .bus) k → Reclaimed (l₀ .voices) (keep t vs) (spawn .bus) k
   reclaimed-keep t vs k r =
       record { voice = r .voice; fade = r .fade; member = r .member; state = r .state; number = r .number; on = r .on; gone = gone-keep (r .voice .id) t vs (r .gone) }
 
-  fates-cut : (m : Ledger) → During m → (v : Voice) → In v (m .voices) → isOn bus v ≡ true → (s : VoiceState) → v .state ≡ s → (k : ℕ) → k < l₀ .desk .steals .count
-      → Fate (l₀ .desk .steals) (cutOff v s m .desk .steals) (Reclaimed (l₀ .voices) (cutOff v s m .voices) bus k) k
+  fates-cut : (m : Ledger) → During m → (v : Voice) → In v (m .voices) → isOn (spawn .bus) v ≡ true → (s : VoiceState) → v .state ≡ s → (k : ℕ) → k < l₀ .desk .steals .count
+      → Fate (l₀ .desk .steals) (cutOff v s m .desk .steals) (Reclaimed (l₀ .voices) (cutOff v s m .voices) (spawn .bus) k) k
   fates-cut m q v i o Tracked e k lt =
       fate-pushed (m .desk .steals) (recordOf (m .desk .clock) (voiceLevel (m .desk) v) true) (steal-small (q .recorded) v i e) (q .recorded .newest) (let g = q .grown in omega arith)
       (fate-voices (reclaimed-keep (λ x. not (isVoice (v .id) x)) (m .voices) k) (q .fate k lt))
   fates-cut m q v i o (Fading f) e k lt = go (ℕ-discrete k (f .number))
     where
-      old : Fate (l₀ .desk .steals) (m .desk .steals) (Reclaimed (l₀ .voices) (keep (λ x. not (isVoice (v .id) x)) (m .voices)) bus k) k
+      old : Fate (l₀ .desk .steals) (m .desk .steals) (Reclaimed (l₀ .voices) (keep (λ x. not (isVoice (v .id) x)) (m .voices)) (spawn .bus) k) k
       old = fate-voices (reclaimed-keep (λ x. not (isVoice (v .id) x)) (m .voices) k) (q .fate k lt)
 
-      this : k ≡ f .number → Reclaimed (l₀ .voices) (keep (λ x. not (isVoice (v .id) x)) (m .voices)) bus k
+      this : k ≡ f .number → Reclaimed (l₀ .voices) (keep (λ x. not (isVoice (v .id) x)) (m .voices)) (spawn .bus) k
       this h =
           record {
             voice = v;
@@ -120,8 +118,8 @@ module _ (def : SynthDef) (pan : Bool) (bus : NodeId) (l₀ : Ledger) (d₀ : Id
             gone = gone-self (v .id) (m .voices);
           }
 
-      go : Dec (k ≡ f .number) → Fate (l₀ .desk .steals) (marked (m .desk .steals) (f .number)) (Reclaimed (l₀ .voices) (keep (λ x. not (isVoice (v .id) x)) (m .voices)) bus k) k
-      go (yes h) = subst (λ j. Fate (l₀ .desk .steals) (marked (m .desk .steals) j) (Reclaimed (l₀ .voices) (keep (λ x. not (isVoice (v .id) x)) (m .voices)) bus k) k) h (fate-marked (m .desk .steals) (this h) old)
+      go : Dec (k ≡ f .number) → Fate (l₀ .desk .steals) (marked (m .desk .steals) (f .number)) (Reclaimed (l₀ .voices) (keep (λ x. not (isVoice (v .id) x)) (m .voices)) (spawn .bus) k) k
+      go (yes h) = subst (λ j. Fate (l₀ .desk .steals) (marked (m .desk .steals) j) (Reclaimed (l₀ .voices) (keep (λ x. not (isVoice (v .id) x)) (m .voices)) (spawn .bus) k) k) h (fate-marked (m .desk .steals) (this h) old)
       go (no h) = fate-unmarked (m .desk .steals) (f .number) h old
   fates-cut m q v i o Loose e k lt = fate-voices (reclaimed-keep (λ x. not (isVoice (v .id) x)) (m .voices) k) (q .fate k lt)
 
@@ -133,7 +131,7 @@ module _ (def : SynthDef) (pan : Bool) (bus : NodeId) (l₀ : Ledger) (d₀ : Id
   grown-cut m q v i (Fading f) e = q .grown
   grown-cut m q v i Loose e = q .grown
 
-  during-cut : (m : Ledger) → During m → (v : Voice) → In v (m .voices) → isOn bus v ≡ true → (s : VoiceState) → v .state ≡ s → During (cutOff v s m)
+  during-cut : (m : Ledger) → During m → (v : Voice) → In v (m .voices) → isOn (spawn .bus) v ≡ true → (s : VoiceState) → v .state ≡ s → During (cutOff v s m)
   during-cut m q v i o s e =
       record {
         recorded = recorded-cut v s m (q .recorded) i e;
@@ -145,7 +143,7 @@ module _ (def : SynthDef) (pan : Bool) (bus : NodeId) (l₀ : Ledger) (d₀ : Id
       }
 
   -- the newcomer is none of those that went
-  reclaimed-land : (m : Ledger) → During m → (n : Voice) → n .id .0 ≡ m .desk .spawned + 1 → (k : ℕ) → Reclaimed (l₀ .voices) (m .voices) bus k → Reclaimed (l₀ .voices) (m .voices ++ (n ∷ [])) bus k
+  reclaimed-land : (m : Ledger) → During m → (n : Voice) → n .id .0 ≡ m .desk .spawned + 1 → (k : ℕ) → Reclaimed (l₀ .voices) (m .voices) (spawn .bus) k → Reclaimed (l₀ .voices) (m .voices ++ (n ∷ [])) (spawn .bus) k
   reclaimed-land m q n e k r =
       record {
         voice = r .voice;
@@ -158,12 +156,12 @@ module _ (def : SynthDef) (pan : Bool) (bus : NodeId) (l₀ : Ledger) (d₀ : Id
       }
 
   fates-settle : (m : Ledger) → During m → (k : ℕ) → k < l₀ .desk .steals .count
-      → Fate (l₀ .desk .steals) (settle def pan bus m .ledger .desk .steals) (Reclaimed (l₀ .voices) (settle def pan bus m .ledger .voices) bus k) k
+      → Fate (l₀ .desk .steals) (settle spawn m .ledger .desk .steals) (Reclaimed (l₀ .voices) (settle spawn m .ledger .voices) (spawn .bus) k) k
   fates-settle m q k lt =
-      place-kept def pan (stateUnder (m .desk .config .budget)) bus (λ n m. During m)
-      (λ r. Fate (l₀ .desk .steals) (r .ledger .desk .steals) (Reclaimed (l₀ .voices) (r .ledger .voices) bus k) k)
-      (λ n m p e q. fate-voices (reclaimed-land m q (newcomer def pan _ bus p (m .desk)) refl k) (q .fate k lt)) (λ m e q. q .fate k lt) (λ n m e f q. q .fate k lt)
-      (λ n m v e f q. let r = nextOut-in (q .recorded .ids) (m .desk) bus v f in during-cut m q v (r .0) (and-right (busy (v .state)) (isOn bus v) (r .1)) (v .state) refl)
+      place-kept spawn (stateUnder (m .desk .config .budget)) (λ n m. During m)
+      (λ r. Fate (l₀ .desk .steals) (r .ledger .desk .steals) (Reclaimed (l₀ .voices) (r .ledger .voices) (spawn .bus) k) k)
+      (λ n m p e q. fate-voices (reclaimed-land m q (newcomer spawn _ p (m .desk)) refl k) (q .fate k lt)) (λ m e q. q .fate k lt) (λ n m e f q. q .fate k lt)
+      (λ n m v e f q. let r = nextOut-in (q .recorded .ids) (m .desk) (spawn .bus) v f in during-cut m q v (r .0) (and-right (busy (v .state)) (isOn (spawn .bus) v) (r .1)) (v .state) refl)
       (tries (m .desk .config .budget) (m .voices)) m q
 
   during-new : RecordedOf l₀ → l₀ .desk .spawned < 18446744073709551615 → During l₀
@@ -194,7 +192,7 @@ module _ (def : SynthDef) (pan : Bool) (bus : NodeId) (l₀ : Ledger) (d₀ : Id
 
       rest : (o : Option ℕ) → (b .count ≤ stolen v o l₀ .desk .steals .count)
           × ((u : Voice) → In u (stolen v o l₀ .voices) → (f : Fade) → u .state ≡ Fading f → In u (l₀ .voices) ⊎ (f .number ≡ b .count))
-          × ((k : ℕ) → k < b .count → Fate b (stolen v o l₀ .desk .steals) (Reclaimed (l₀ .voices) (stolen v o l₀ .voices) bus k) k)
+          × ((k : ℕ) → k < b .count → Fate b (stolen v o l₀ .desk .steals) (Reclaimed (l₀ .voices) (stolen v o l₀ .voices) (spawn .bus) k) k)
       rest none = (grown true, λ u j f e. inl (in-keep (λ x. not (isVoice (v .id) x)) (l₀ .voices) u j .0), λ k lt. fate-pushed b (rec true) small (r .newest) lt (same refl))
       rest (some p) = (
         grown false,
@@ -210,12 +208,12 @@ marks spawn l r k lt = go (spawnRefusal (l .desk) (l .voices) (spawn .def) (spaw
     R : Landed → Type 0
     R z = Fate (l .desk .steals) (z .ledger .desk .steals) (Reclaimed (l .voices) (z .ledger .voices) (spawn .bus) k) k
 
-    go : (o : Option Refusal) → spawnRefusal (l .desk) (l .voices) (spawn .def) (spawn .bus) ≡ o → R (unless o l (admitted (admissionOn (spawn .bus) l) (spawn .def) (pans (spawn .pan)) (spawn .bus) l))
+    go : (o : Option Refusal) → spawnRefusal (l .desk) (l .voices) (spawn .def) (spawn .bus) ≡ o → R (unless o l (admitted (admissionOn (spawn .bus) l) spawn l))
     go (some n) e = same refl
     go none e =
         let h : l .desk .spawned < 18446744073709551615 = spawn-allowed (l .desk) (l .voices) (spawn .def) (spawn .bus) e .ids-left in
-        managed-kept (spawn .def) (pans (spawn .pan)) (spawn .bus) R l (r .ids) (λ a. same refl) (λ a. fates-settle (spawn .def) (pans (spawn .pan)) (spawn .bus) l (r .ids) l (during-new (spawn .def) (pans (spawn .pan)) (spawn .bus) l (r .ids) r h) k lt)
-        (λ p w a v i t. fates-settle (spawn .def) (pans (spawn .pan)) (spawn .bus) l (r .ids) (stealVoice v l) (during-steal (spawn .def) (pans (spawn .pan)) (spawn .bus) l (r .ids) r h v i (and-left (tracks v) _ t)) k lt)
+        managed-kept spawn R l (r .ids) (λ a. same refl) (λ a. fates-settle spawn l (r .ids) l (during-new spawn l (r .ids) r h) k lt)
+        (λ p w a v i t. fates-settle spawn l (r .ids) (stealVoice v l) (during-steal spawn l (r .ids) r h v i (and-left (tracks v) _ t)) k lt)
 
 abbrev pub tallyOf : Ledger → ℕ
 tallyOf l = l .desk .steals .count + count tracks (l .voices)
@@ -246,20 +244,20 @@ tally-steal v m r i t = go (portHeld v m)
         let c = count-pushed (m .desk .steals) (recordOf (m .desk .clock) (voiceLevel (m .desk) v) false) (steal-small r v i s) in
         omega arith
 
-module _ (def : SynthDef) (pan : Bool) (bus : NodeId) (n : ℕ) where
+module _ (spawn : Spawn) (n : ℕ) where
   abbrev Tallies : ℕ → Landed → Type 0
   Tallies t r = tallyOf (r .ledger) ≡ more (isLet (r .answer)) t
 
-  tally-settle : (m : Ledger) → m .desk .config .budget ≡ AtMost n → RecordedOf m → Tallies (tallyOf m) (settle def pan bus m)
+  tally-settle : (m : Ledger) → m .desk .config .budget ≡ AtMost n → RecordedOf m → Tallies (tallyOf m) (settle spawn m)
   tally-settle m b r =
-      place-kept def pan (stateUnder (m .desk .config .budget)) bus (λ k z. RecordedOf z × (tallyOf z ≡ tallyOf m)) (Tallies (tallyOf m))
+      place-kept spawn (stateUnder (m .desk .config .budget)) (λ k z. RecordedOf z × (tallyOf z ≡ tallyOf m)) (Tallies (tallyOf m))
       (λ k z p e q. lands z p (q .1)) (λ z e q. q .1) (λ k z e f q. q .1)
-      (λ k z v e f q. let i = nextOut-in (q .0 .ids) (z .desk) bus v f .0 in (recorded-cut v (v .state) z (q .0) i refl, tally-cut v (v .state) z (q .0) i refl ∙ q .1))
+      (λ k z v e f q. let i = nextOut-in (q .0 .ids) (z .desk) (spawn .bus) v f .0 in (recorded-cut v (v .state) z (q .0) i refl, tally-cut v (v .state) z (q .0) i refl ∙ q .1))
       (tries (m .desk .config .budget) (m .voices)) m (r, refl)
     where
-      lands : (z : Ledger) (p : ℕ) → tallyOf z ≡ tallyOf m → z .desk .steals .count + count tracks (z .voices ++ (newcomer def pan (stateUnder (m .desk .config .budget)) bus p (z .desk) ∷ [])) ≡ suc (tallyOf m)
+      lands : (z : Ledger) (p : ℕ) → tallyOf z ≡ tallyOf m → z .desk .steals .count + count tracks (z .voices ++ (newcomer spawn (stateUnder (m .desk .config .budget)) p (z .desk) ∷ [])) ≡ suc (tallyOf m)
       lands z p e =
-          let c = count-snoc tracks (z .voices) (newcomer def pan (stateUnder (m .desk .config .budget)) bus p (z .desk)) ∙ ap (λ b. more (isTracked (stateUnder b)) (count tracks (z .voices))) b in
+          let c = count-snoc tracks (z .voices) (newcomer spawn (stateUnder (m .desk .config .budget)) p (z .desk)) ∙ ap (λ b. more (isTracked (stateUnder b)) (count tracks (z .voices))) b in
           omega arith
 
 pub tallies : (spawn : Spawn) (n : ℕ) (l : Ledger) → l .desk .config .budget ≡ AtMost n → RecordedOf l → (a : Spawned) → step (call.spawnManaged spawn) l .answer ≡ call.spawned a
@@ -269,14 +267,14 @@ tallies spawn n l b r a e = all ∙ ap (λ x. more (isLet x) (tallyOf l)) (spawn
     spawned-inj : {x y : Spawned} → call.spawned x ≡ call.spawned y → x ≡ y
     spawned-inj h = cc
 
-    go : (o : Option Refusal) → Tallies (spawn .def) (pans (spawn .pan)) (spawn .bus) n (tallyOf l) (unless o l (admitted (admissionOn (spawn .bus) l) (spawn .def) (pans (spawn .pan)) (spawn .bus) l))
+    go : (o : Option Refusal) → Tallies spawn n (tallyOf l) (unless o l (admitted (admissionOn (spawn .bus) l) spawn l))
     go (some k) = refl
     go none =
-        managed-kept (spawn .def) (pans (spawn .pan)) (spawn .bus) (Tallies (spawn .def) (pans (spawn .pan)) (spawn .bus) n (tallyOf l)) l (r .ids) (λ h. refl) (λ h. tally-settle (spawn .def) (pans (spawn .pan)) (spawn .bus) n l b r)
+        managed-kept spawn (Tallies spawn n (tallyOf l)) l (r .ids) (λ h. refl) (λ h. tally-settle spawn n l b r)
         (λ p w h v i t.
         let z = and-left (tracks v) _ t in
-        tally-settle (spawn .def) (pans (spawn .pan)) (spawn .bus) n (stealVoice v l) (ap (λ (c : Config). c .budget) (config-steal v l) ∙ b) (recorded-steal v l r i z)
-        ∙ ap (more (isLet (settle (spawn .def) (pans (spawn .pan)) (spawn .bus) (stealVoice v l) .answer))) (tally-steal v l r i z))
+        tally-settle spawn n (stealVoice v l) (ap (λ (c : Config). c .budget) (config-steal v l) ∙ b) (recorded-steal v l r i z)
+        ∙ ap (more (isLet (settle spawn (stealVoice v l) .answer))) (tally-steal v l r i z))
 
-    all : Tallies (spawn .def) (pans (spawn .pan)) (spawn .bus) n (tallyOf l) (ledger.spawnManaged spawn l)
+    all : Tallies spawn n (tallyOf l) (ledger.spawnManaged spawn l)
     all = go (spawnRefusal (l .desk) (l .voices) (spawn .def) (spawn .bus))

@@ -26,7 +26,7 @@ use Rattle.store.specs.declared.voices.Voice.{Voice}
 use Rattle.store.specs.declared.voices.VoiceState.{VoiceState}
 use Rattle.model.specs.Desk.{Desk}
 use Rattle.model.specs.Voice.{id, feeder}
-use Rattle.model.specs.Spawn.{Wire, wire, defNode, defWire, constNode, panNode, voiceNodes, voiceWires, voiceOut, appendAll, wireAll, landGraph, newcomer}
+use Rattle.model.specs.Spawn.{Wire, wire, defNode, defWire, constNode, panNode, voiceNodes, voiceWires, voiceOut, appendAll, wireAll, landGraph, newcomer, Spawn, pans}
 use Rattle.ledger.specs.Holder.{Holders, voice, hold}
 use Rattle.ledger.proofs.Owner.{portsAt, live-below}
 use Rattle.ledger.proofs.Sound.{Sound, HostAt, sound-more}
@@ -94,9 +94,12 @@ nodes-count k def pan = length-append (map (defNode k) (nodeRows (def .nodes))) 
     go false = refl
 
 -- ---- the newcomer
-pub feeder-out : (def : SynthDef) (pan : Bool) (t : VoiceState) (bus : NodeId) (p : ℕ) (d : Desk) → feeder (newcomer def pan t bus p d) .0 ≡ d .graph .next + voiceOut def pan
-feeder-out def true t bus p d = omega arith
-feeder-out def false t bus p d = refl
+pub feeder-out : (spawn : Spawn) (t : VoiceState) (p : ℕ) (d : Desk) → feeder (newcomer spawn t p d) .0 ≡ d .graph .next + voiceOut (spawn .def) (pans (spawn .pan))
+feeder-out spawn t p d = go (pans (spawn .pan))
+  where
+    go : (b : Bool) → cond b (id (d .graph .next + rows (spawn .def) + 1)) (id (d .graph .next + spawn .def .output)) .0 ≡ d .graph .next + voiceOut (spawn .def) b
+    go true = omega arith
+    go false = refl
 
 module _ (def : SynthDef) (ok : allowed def ≡ true) (pan : Bool) (bus : NodeId) (p nv : ℕ) (g : GraphView) (vs : List Voice) (h : Holders)
     (s : Sound (g .nodes) (g .edges) (g .next) nv vs h) (live : HostAt (g .nodes) (bus .0)) (range : p < portsAt (g .nodes) (bus .0)) where

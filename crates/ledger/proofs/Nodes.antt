@@ -23,14 +23,13 @@ use Rattle.graph.specs.Change as change
 use Rattle.rank.specs.Order.{upto}
 use Rattle.synthdef.specs.Tables.{nodeRows}
 use Rattle.synthdef.specs.Plan.{planSilent}
-use Rattle.synthdef.specs.declared.def.SynthDef.{SynthDef}
 use Rattle.store.specs.declared.config.Config.{Config}
 use Rattle.store.specs.declared.voices.Voice.{Voice}
 use Rattle.store.specs.declared.voices.VoiceState.{VoiceState}
 use Rattle.store.specs.declared.voices.VoiceState.the-variants.{Tracked, Fading, Loose}
 use Rattle.store.specs.declared.voices.Fade.{Fade}
 use Rattle.model.specs.Voice.{id, isVoice, withState, beginFade, moved}
-use Rattle.model.specs.Spawn.{Wire, voiceNodes, voiceWires, appendAll, wireAll, newcomer, nextVoice, stateUnder, tries, fadeNode, fadeOf}
+use Rattle.model.specs.Spawn.{Wire, voiceNodes, voiceWires, appendAll, wireAll, newcomer, nextVoice, stateUnder, tries, fadeNode, fadeOf, Spawn, pans}
 use Rattle.model.specs.Clear.{doneFlag, isSilent}
 use Rattle.model.specs.Render.{isSounding}
 use Rattle.model.specs.Call.{Call}
@@ -131,25 +130,25 @@ wires-same base (w ∷ ws) g = wires-same base ws (change.connect g (id (base + 
 abbrev pub MineOf : Ledger → Type 0
 MineOf l = Mine (l .desk .graph .nodes) (l .desk .graph .next) (l .voices)
 
-mine-land : (def : SynthDef) → def .output < length (nodeRows (def .nodes)) → (pan : Bool) (s : VoiceState) (bus : NodeId) (p : ℕ) (l : Ledger) → MineOf l → MineOf (land def pan s bus p l .ledger)
-mine-land def sings pan s bus p l m =
-    subst (λ ns. Mine ns (land def pan s bus p l .ledger .desk .graph .next) (l .voices ++ (v ∷ []))) (sym (same .0))
+mine-land : (spawn : Spawn) → spawn .def .output < length (nodeRows (spawn .def .nodes)) → (s : VoiceState) (p : ℕ) (l : Ledger) → MineOf l → MineOf (land spawn s p l .ledger)
+mine-land spawn sings s p l m =
+    subst (λ ns. Mine ns (land spawn s p l .ledger .desk .graph .next) (l .voices ++ (v ∷ []))) (sym (same .0))
     (subst (λ k. Mine (appendAll g xs .nodes) k (l .voices ++ (v ∷ []))) (sym (same .1 ∙ grown-next xs g)) all)
   where
     g : GraphView
     g = l .desk .graph
 
     v : Voice
-    v = newcomer def pan s bus p (l .desk)
+    v = newcomer spawn s p (l .desk)
 
     xs : List Node
-    xs = voiceNodes (nextVoice (l .desk)) def pan
+    xs = voiceNodes (nextVoice (l .desk)) (spawn .def) (pans (spawn .pan))
 
-    same : (wireAll (g .next) (appendAll g xs) (voiceWires def pan) .nodes ≡ appendAll g xs .nodes) × (wireAll (g .next) (appendAll g xs) (voiceWires def pan) .next ≡ appendAll g xs .next)
-    same = wires-same (g .next) (voiceWires def pan) (appendAll g xs)
+    same : (wireAll (g .next) (appendAll g xs) (voiceWires (spawn .def) (pans (spawn .pan))) .nodes ≡ appendAll g xs .nodes) × (wireAll (g .next) (appendAll g xs) (voiceWires (spawn .def) (pans (spawn .pan))) .next ≡ appendAll g xs .next)
+    same = wires-same (g .next) (voiceWires (spawn .def) (pans (spawn .pan))) (appendAll g xs)
 
     many : v .count ≤ length xs
-    many = let e = nodes-count (nextVoice (l .desk)) def pan in omega arith
+    many = let e = nodes-count (nextVoice (l .desk)) (spawn .def) (pans (spawn .pan)) in omega arith
 
     own : (u : Voice) → In u (l .voices ++ (v ∷ [])) → (x : Node) → In x (appendAll g xs .nodes) → u .first .0 ≤ x .id .0 → x .id .0 < u .first .0 + u .count → x .owner .0 ≡ u .id .0
     own u i x j a b = ⊎-elim old new (in-snoc (l .voices) v u i)
@@ -160,7 +159,7 @@ mine-land def sings pan s bus p l m =
         new : u ≡ v → x .owner .0 ≡ u .id .0
         new e =
             let f : u .first .0 ≡ g .next = ap (λ (y : Voice). y .first .0) e in
-            ⊎-elim (λ q. absurd (omega (arith, a, f, m .below x q))) (λ r. r .2 ∙ nodes-owned (nextVoice (l .desk)) def pan (r .0) (r .1) ∙ ap (λ (y : Voice). y .id .0) (sym e)) (in-grown xs g x j)
+            ⊎-elim (λ q. absurd (omega (arith, a, f, m .below x q))) (λ r. r .2 ∙ nodes-owned (nextVoice (l .desk)) (spawn .def) (pans (spawn .pan)) (r .0) (r .1) ∙ ap (λ (y : Voice). y .id .0) (sym e)) (in-grown xs g x j)
 
     all : Mine (appendAll g xs .nodes) (g .next + length xs) (l .voices ++ (v ∷ []))
     all =
@@ -168,7 +167,7 @@ mine-land def sings pan s bus p l m =
           below = λ x i. ⊎-elim (λ j. omega (arith, m .below x j)) (λ r. r .4) (in-grown xs g x i);
           places = λ u i. ⊎-elim (λ j. omega (arith, m .places u j)) (λ e. subst (λ (y : Voice). y .first .0 + y .count ≤ g .next + length xs) (sym e) (omega (arith, many))) (in-snoc (l .voices) v u i);
           owned = own;
-          output = λ u i. ⊎-elim (λ j. m .output u j) (λ e. subst Place (sym e) (record { at = def .output; below = sings; is = refl })) (in-snoc (l .voices) v u i);
+          output = λ u i. ⊎-elim (λ j. m .output u j) (λ e. subst Place (sym e) (record { at = spawn .def .output; below = sings; is = refl })) (in-snoc (l .voices) v u i);
         }
 
 -- ---- every call
@@ -194,9 +193,9 @@ mine-steal v l m = go (portHeld v l)
         mine-map (beginFade (v .id) f) (begin-same (λ (x : Voice). x .first) (λ s v. refl) (v .id) f) (begin-same (λ (x : Voice). x .count) (λ s v. refl) (v .id) f) (begin-same (λ (x : Voice). x .id) (λ s v. refl) (v .id) f) (begin-same (λ (x : Voice). x .output) (λ s v. refl) (v .id) f)
         (mine-append (fadeNode (v .id)) m)
 
-mine-settle : (def : SynthDef) → def .output < length (nodeRows (def .nodes)) → (pan : Bool) (bus : NodeId) (l : Ledger) → MineOf l → MineOf (settle def pan bus l .ledger)
-mine-settle def sings pan bus l m =
-    place-kept def pan (stateUnder (l .desk .config .budget)) bus (λ n z. MineOf z) (λ r. MineOf (r .ledger)) (λ n z p e q. mine-land def sings pan _ bus p z q) (λ z e q. q) (λ n z e f q. q)
+mine-settle : (spawn : Spawn) → spawn .def .output < length (nodeRows (spawn .def .nodes)) → (l : Ledger) → MineOf l → MineOf (settle spawn l .ledger)
+mine-settle spawn sings l m =
+    place-kept spawn (stateUnder (l .desk .config .budget)) (λ n z. MineOf z) (λ r. MineOf (r .ledger)) (λ n z p e q. mine-land spawn sings _ p z q) (λ z e q. q) (λ n z e f q. q)
     (λ n z v e f q. mine-cut v (v .state) z q) (tries (l .desk .config .budget) (l .voices)) l m
 
 abbrev pub OwnNodes : Ledger → Type 0
@@ -210,7 +209,7 @@ own-steady =
       connect = λ l a b p e q. q;
       disconnect = λ l b p e q. q;
       setSink = λ l k q. q;
-      loose = λ l def bus pan e q. (ids-steady .loose l def bus pan e (q .0), lands l def (output-in def (spawn-allowed (l .desk) (l .voices) def bus e .definition)) bus pan (q .1) (portFree bus l));
+      loose = λ l spawn e q. (ids-steady .loose l spawn e (q .0), lands l spawn (output-in (spawn .def) (spawn-allowed (l .desk) (l .voices) (spawn .def) (spawn .bus) e .definition)) (q .1) (portFree (spawn .bus) l));
       goes = λ l w q. (ids-steady .goes l w (q .0), mine-less (λ x. not (ownedBy w x)) (λ x. not (isVoice w x)) (q .1));
       node = λ l k x n e s q. (q .0, mine-replaced k x n e (s .id) (s .owner) (q .1));
       schedule = λ l e h q. q;
@@ -219,19 +218,19 @@ own-steady =
       block = λ l a q. (ids-steady .block l a (q .0), counts l (isSounding a) (q .1));
     }
   where
-    lands : (l : Ledger) (def : SynthDef) → def .output < length (nodeRows (def .nodes)) → (bus : NodeId) (pan : Bool) → MineOf l → (o : Option ℕ) → MineOf (landOr o none def pan Loose bus l (refused NoPort) .ledger)
-    lands l def sings bus pan m none = m
-    lands l def sings bus pan m (some p) = mine-land def sings pan Loose bus p l m
+    lands : (l : Ledger) (spawn : Spawn) → spawn .def .output < length (nodeRows (spawn .def .nodes)) → MineOf l → (o : Option ℕ) → MineOf (landOr o none spawn Loose l (refused NoPort) .ledger)
+    lands l spawn sings m none = m
+    lands l spawn sings m (some p) = mine-land spawn sings Loose p l m
 
     counts : (l : Ledger) (b : Bool) → MineOf l → Mine (l .desk .graph .nodes) (l .desk .graph .next) (countedIf b (l .voices))
     counts l true m = mine-map (moved oneMore) (λ v. refl) (λ v. refl) (λ v. refl) (λ v. refl) m
     counts l false m = m
 
 pub own-run : (xs : List Call) (l : Ledger) → OwnNodes l → OwnNodes (run xs l .ledger)
-own-run = kept-run OwnNodes own-steady (λ l def bus pan e q.
-    let sings = output-in def (spawn-allowed (l .desk) (l .voices) def bus e .definition) in
-    managed-kept def pan bus (λ r. OwnNodes (r .ledger)) l (q .0) (λ h. q) (λ h. (ids-settle def pan bus l (q .0), mine-settle def sings pan bus l (q .1)))
-    (λ p w h v i t. (ids-settle def pan bus (stealVoice v l) (ids-steal v l (q .0)), mine-settle def sings pan bus (stealVoice v l) (mine-steal v l (q .1)))))
+own-run = kept-run OwnNodes own-steady (λ l spawn e q.
+    let sings = output-in (spawn .def) (spawn-allowed (l .desk) (l .voices) (spawn .def) (spawn .bus) e .definition) in
+    managed-kept spawn (λ r. OwnNodes (r .ledger)) l (q .0) (λ h. q) (λ h. (ids-settle spawn l (q .0), mine-settle spawn sings l (q .1)))
+    (λ p w h v i t. (ids-settle spawn (stealVoice v l) (ids-steal v l (q .0)), mine-settle spawn sings (stealVoice v l) (mine-steal v l (q .1)))))
 
 pub own-new : (c : Config) → OwnNodes (newLedger c)
 own-new c = (record { rising = tt; below = λ v i. absurd i }, record { below = λ x i. absurd i; places = λ v i. absurd i; owned = λ v i. absurd i; output = λ v i. absurd i })

@@ -121,7 +121,7 @@ ready-spawning =
     record {
       cuts = λ l v s h. record { rows = rows-spawning .cuts l v s (h .rows); holds = unprepared };
       fades = λ l v p h. record { rows = rows-spawning .fades l v p (h .rows); holds = unprepared };
-      lands = λ l def pan s bus p h. record { rows = rows-spawning .lands l def pan s bus p (h .rows); holds = unprepared };
+      lands = λ l spawn s p h. record { rows = rows-spawning .lands l spawn s p (h .rows); holds = unprepared };
     }
 
 ready-steady : Steady ReadyOf
@@ -132,7 +132,7 @@ ready-steady =
       connect = λ l a b p e h. record { rows = h .rows; holds = unprepared };
       disconnect = λ l b p e h. record { rows = h .rows; holds = unprepared };
       setSink = λ l k h. record { rows = h .rows; holds = unprepared };
-      loose = λ l def bus pan e h. place-keeps ReadyOf ready-spawning def pan bus 0 _ l h;
+      loose = λ l spawn e h. place-keeps ReadyOf ready-spawning spawn 0 _ l h;
       goes = λ l w h. record { rows = rows-steady .goes l w (h .rows); holds = unprepared };
       node = λ l k x n e s h.
           record {
@@ -146,7 +146,7 @@ ready-steady =
     }
 
 pub ready-run : (xs : List Call) (l : Ledger) → ReadyOf l → ReadyOf (run xs l .ledger)
-ready-run = kept-run ReadyOf ready-steady (λ l def bus pan e h. managed-keeps ReadyOf ready-spawning def pan bus (admissionOn bus l) l h)
+ready-run = kept-run ReadyOf ready-steady (λ l spawn e h. managed-keeps ReadyOf ready-spawning spawn (admissionOn (spawn .bus) l) l h)
 
 pub ready-new : (c : Config) → ReadyOf (newLedger c)
 ready-new c = record { rows = record { rises = tt; below = λ x i. absurd i }; holds = unprepared }

@@ -11,20 +11,18 @@ use borrow.Author.Tests.{eq-eqb, eqb-true}
 use Rattle.lists.specs.Member.{In, in-snoc, in-map, and-left}
 use Rattle.lists.specs.Keep.{keep, in-keep}
 use Rattle.lists.specs.Count.{more, count, count-keep, count-snoc, count-map}
-use Rattle.node.specs.declared.record.NodeId.{NodeId}
 use Rattle.node.specs.declared.record.VoiceId.{VoiceId}
 use Rattle.voice.specs.Steals.{Book, pushed, recordOf}
 use Rattle.voice.specs.declared.steals.StealRecord.{StealRecord}
 use Rattle.voice.specs.declared.policy.Budget.{Budget}
 use Rattle.voice.specs.declared.policy.Budget.the-variants.{Unlimited, AtMost}
-use Rattle.synthdef.specs.declared.def.SynthDef.{SynthDef}
 use Rattle.store.specs.declared.config.Config.{Config}
 use Rattle.store.specs.declared.voices.Voice.{Voice}
 use Rattle.store.specs.declared.voices.VoiceState.{VoiceState}
 use Rattle.store.specs.declared.voices.VoiceState.the-variants.{Tracked, Fading, Loose}
 use Rattle.store.specs.declared.voices.Fade.{Fade}
 use Rattle.model.specs.Voice.{isVoice, isTracked, withState, beginFade, movedFade, movedState, moved, voiceLevel}
-use Rattle.model.specs.Spawn.{newcomer, stateUnder, tries, fadeOf}
+use Rattle.model.specs.Spawn.{newcomer, stateUnder, tries, fadeOf, Spawn}
 use Rattle.model.specs.Call.{Call}
 use Rattle.ledger.specs.Ledger.{Ledger, newLedger, portHeld, cutOff, fade, stolen, stealVoice, settle}
 use Rattle.ledger.specs.Render.{oneMore}
@@ -252,12 +250,12 @@ pub under-fading : (b : Budget) (f : Fade) → stateUnder b ≡ Fading f → ⊥
 under-fading Unlimited f e = loose-fading f e
 under-fading (AtMost k) f e = tracked-fading f e
 
-recorded-settle : (def : SynthDef) (pan : Bool) (bus : NodeId) (l : Ledger) → RecordedOf l → l .desk .spawned < 18446744073709551615 → RecordedOf (settle def pan bus l .ledger)
-recorded-settle def pan bus l r h =
-    place-kept def pan (stateUnder (l .desk .config .budget)) bus (λ n m. RecordedOf m × (m .desk .spawned < 18446744073709551615)) (λ r. RecordedOf (r .ledger))
-    (λ n m p e q. recorded-lands (m .desk .steals) (m .desk .spawned) (m .voices) (newcomer def pan _ bus p (m .desk)) refl (under-fading (l .desk .config .budget)) (q .1) (q .0))
+recorded-settle : (spawn : Spawn) (l : Ledger) → RecordedOf l → l .desk .spawned < 18446744073709551615 → RecordedOf (settle spawn l .ledger)
+recorded-settle spawn l r h =
+    place-kept spawn (stateUnder (l .desk .config .budget)) (λ n m. RecordedOf m × (m .desk .spawned < 18446744073709551615)) (λ r. RecordedOf (r .ledger))
+    (λ n m p e q. recorded-lands (m .desk .steals) (m .desk .spawned) (m .voices) (newcomer spawn _ p (m .desk)) refl (under-fading (l .desk .config .budget)) (q .1) (q .0))
     (λ m e q. q .0) (λ n m e f q. q .0)
-    (λ n m v e f q. (recorded-cut v (v .state) m (q .0) (nextOut-in (q .0 .ids) (m .desk) bus v f .0) refl, q .1))
+    (λ n m v e f q. (recorded-cut v (v .state) m (q .0) (nextOut-in (q .0 .ids) (m .desk) (spawn .bus) v f .0) refl, q .1))
     (tries (l .desk .config .budget) (l .voices)) l (r, h)
 
 pub spawned-steal : (v : Voice) (l : Ledger) → stealVoice v l .desk .spawned ≡ l .desk .spawned
@@ -275,10 +273,10 @@ recorded-steady =
 pub recorded-step : (x : Call) (l : Ledger) → RecordedOf l → RecordedOf (step x l .ledger)
 recorded-step =
     kept-step RecordedOf recorded-steady
-    (λ l def bus pan e r.
-    let h : l .desk .spawned < 18446744073709551615 = spawn-allowed (l .desk) (l .voices) def bus e .ids-left in
-    managed-kept def pan bus (λ z. RecordedOf (z .ledger)) l (r .ids) (λ a. r) (λ a. recorded-settle def pan bus l r h)
-    (λ p w a v i t. recorded-settle def pan bus (stealVoice v l) (recorded-steal v l r i (and-left (tracks v) _ t)) (rw (spawned-steal v l) h)))
+    (λ l spawn e r.
+    let h : l .desk .spawned < 18446744073709551615 = spawn-allowed (l .desk) (l .voices) (spawn .def) (spawn .bus) e .ids-left in
+    managed-kept spawn (λ z. RecordedOf (z .ledger)) l (r .ids) (λ a. r) (λ a. recorded-settle spawn l r h)
+    (λ p w a v i t. recorded-settle spawn (stealVoice v l) (recorded-steal v l r i (and-left (tracks v) _ t)) (rw (spawned-steal v l) h)))
 
 pub recorded-run : (xs : List Call) (l : Ledger) → RecordedOf l → RecordedOf (run xs l .ledger)
 recorded-run [] l r = r

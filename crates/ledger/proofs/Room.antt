@@ -146,12 +146,12 @@ room-gone n e v l w r =
 room-cut : (n e k : ℕ) (l : Ledger) (v : Voice) (s : VoiceState) → Room n e k l → Room n e k (cutOff v s l)
 room-cut n e k l v s r = let g = room-gone n e k l (v .id) r in record { nodes = g .nodes; edges = g .edges; voices = g .voices; events = g .events }
 
-room-land : (def : SynthDef) (pan : Bool) (s : VoiceState) (bus : NodeId) (p : ℕ) (l : Ledger) → Room (def .nodes .count + 2) (def .edges .count + 3) 1 l → Room 0 0 0 (land def pan s bus p l .ledger)
-room-land def pan s bus p l r =
+room-land : (spawn : Spawn) (s : VoiceState) (p : ℕ) (l : Ledger) → Room (spawn .def .nodes .count + 2) (spawn .def .edges .count + 3) 1 l → Room 0 0 0 (land spawn s p l .ledger)
+room-land spawn s p l r =
     record {
-      nodes = omega (arith, r .nodes, ap length (wired-nodes (g .next) ws g₁), grown-nodes xs g, nodes-few (nextVoice (l .desk)) def pan);
-      edges = omega (arith, r .edges, length-wired (wireAll (g .next) g₁ ws .edges) (change.edge (id (g .next + voiceOut def pan)) bus p), wired-edges (g .next) ws g₁, ap length (grown-edges xs g), wires-few def pan);
-      voices = omega (arith, r .voices, length-snoc (l .voices) (newcomer def pan s bus p (l .desk)));
+      nodes = omega (arith, r .nodes, ap length (wired-nodes (g .next) ws g₁), grown-nodes xs g, nodes-few (nextVoice (l .desk)) (spawn .def) (pans (spawn .pan)));
+      edges = omega (arith, r .edges, length-wired (wireAll (g .next) g₁ ws .edges) (change.edge (id (g .next + voiceOut (spawn .def) (pans (spawn .pan)))) (spawn .bus) p), wired-edges (g .next) ws g₁, ap length (grown-edges xs g), wires-few (spawn .def) (pans (spawn .pan)));
+      voices = omega (arith, r .voices, length-snoc (l .voices) (newcomer spawn s p (l .desk)));
       events = r .events;
     }
   where
@@ -159,18 +159,18 @@ room-land def pan s bus p l r =
     g = l .desk .graph
 
     xs : List Node
-    xs = voiceNodes (nextVoice (l .desk)) def pan
+    xs = voiceNodes (nextVoice (l .desk)) (spawn .def) (pans (spawn .pan))
 
     ws : List Wire
-    ws = voiceWires def pan
+    ws = voiceWires (spawn .def) (pans (spawn .pan))
 
     g₁ : GraphView
     g₁ = appendAll g xs
 
-room-settle : (def : SynthDef) (pan : Bool) (bus : NodeId) (l : Ledger) → Room (def .nodes .count + 2) (def .edges .count + 3) 1 l → Room 0 0 0 (settle def pan bus l .ledger)
-room-settle def pan bus l r =
-    place-kept def pan (stateUnder (l .desk .config .budget)) bus (λ n m. Room (def .nodes .count + 2) (def .edges .count + 3) 1 m) (λ z. Room 0 0 0 (z .ledger))
-    (λ n m p e q. room-land def pan _ bus p m q) (λ m e q. room-less _ _ _ m q) (λ n m e f q. room-less _ _ _ m q) (λ n m v e f q. room-cut _ _ _ m v (v .state) q)
+room-settle : (spawn : Spawn) (l : Ledger) → Room (spawn .def .nodes .count + 2) (spawn .def .edges .count + 3) 1 l → Room 0 0 0 (settle spawn l .ledger)
+room-settle spawn l r =
+    place-kept spawn (stateUnder (l .desk .config .budget)) (λ n m. Room (spawn .def .nodes .count + 2) (spawn .def .edges .count + 3) 1 m) (λ z. Room 0 0 0 (z .ledger))
+    (λ n m p e q. room-land spawn _ p m q) (λ m e q. room-less _ _ _ m q) (λ n m e f q. room-less _ _ _ m q) (λ n m v e f q. room-cut _ _ _ m v (v .state) q)
     (tries (l .desk .config .budget) (l .voices)) l r
 
 -- a fade takes one node and one edge: its edge to the bus replaces the feeder's
@@ -262,7 +262,7 @@ room-steady =
       disconnect = λ l b p e r.
           record { nodes = r .nodes; edges = omega (arith, r .edges, length-keep (λ d. not (endsAt b p d)) (l .desk .graph .edges)); voices = r .voices; events = r .events };
       setSink = λ l k r. record { nodes = r .nodes; edges = r .edges; voices = r .voices; events = r .events };
-      loose = λ l def bus pan e r. one l def bus pan (room-spare _ _ _ l (room-spawn def bus l r e)) (portFree bus l);
+      loose = λ l spawn e r. one l spawn (room-spare _ _ _ l (room-spawn (spawn .def) (spawn .bus) l r e)) (portFree (spawn .bus) l);
       goes = λ l w r. room-gone 0 0 0 l w r;
       node = λ l k x n e s r. record { nodes = rw (length-map (l .desk .graph .nodes) (λ m. cond (isNode (n .id) m) n m)) (r .nodes); edges = r .edges; voices = r .voices; events = r .events };
       schedule = λ l e h r.
@@ -274,9 +274,9 @@ room-steady =
       block = λ l a r. record { nodes = r .nodes; edges = r .edges; voices = rw (counted-length (isSounding a) (l .voices)) (r .voices); events = r .events };
     }
   where
-    one : (l : Ledger) (def : SynthDef) (bus : NodeId) (pan : Bool) → Room (def .nodes .count + 2) (def .edges .count + 3) 1 l → (o : Option ℕ) → RoomOf (landOr o none def pan Loose bus l (refused NoPort) .ledger)
-    one l def bus pan r none = room-less _ _ _ l r
-    one l def bus pan r (some p) = room-land def pan Loose bus p l r
+    one : (l : Ledger) (spawn : Spawn) → Room (spawn .def .nodes .count + 2) (spawn .def .edges .count + 3) 1 l → (o : Option ℕ) → RoomOf (landOr o none spawn Loose l (refused NoPort) .ledger)
+    one l spawn r none = room-less _ _ _ l r
+    one l spawn r (some p) = room-land spawn Loose p l r
 
     counted-length : (b : Bool) (vs : List Voice) → length (countedIf b vs) ≡ length vs
     counted-length true vs = length-map vs (moved oneMore)
@@ -286,10 +286,10 @@ room-step : (x : Call) (l : Ledger) → SoundL l → RoomOf l → RoomOf (step x
 room-step x l s r = step-kept RoomOf room-steady x l (λ spawn q. managed spawn) r
   where
     managed : (spawn : Spawn) → RoomOf (ledger.spawnManaged spawn l .ledger)
-    managed spawn = landed-kept RoomOf (spawnRefusal (l .desk) (l .voices) (spawn .def) (spawn .bus)) l (admitted (admissionOn (spawn .bus) l) (spawn .def) (pans (spawn .pan)) (spawn .bus) l) r (λ e.
+    managed spawn = landed-kept RoomOf (spawnRefusal (l .desk) (l .voices) (spawn .def) (spawn .bus)) l (admitted (admissionOn (spawn .bus) l) spawn l) r (λ e.
         let a = room-spawn (spawn .def) (spawn .bus) l r e in
-        managed-kept (spawn .def) (pans (spawn .pan)) (spawn .bus) (λ z. RoomOf (z .ledger)) l (ids-of l s) (λ h. r) (λ h. room-settle (spawn .def) (pans (spawn .pan)) (spawn .bus) l (room-spare _ _ _ l a))
-        (λ p w h v i t. room-settle (spawn .def) (pans (spawn .pan)) (spawn .bus) (stealVoice v l) (room-steal ((spawn .def) .nodes .count + 2) ((spawn .def) .edges .count + 3) l s v i (and-left (isTracked (v .state)) _ t) a)))
+        managed-kept spawn (λ z. RoomOf (z .ledger)) l (ids-of l s) (λ h. r) (λ h. room-settle spawn l (room-spare _ _ _ l a))
+        (λ p w h v i t. room-settle spawn (stealVoice v l) (room-steal ((spawn .def) .nodes .count + 2) ((spawn .def) .edges .count + 3) l s v i (and-left (isTracked (v .state)) _ t) a)))
 
 pub room-run : (xs : List Call) (l : Ledger) → Kept l → RoomOf l → RoomOf (run xs l .ledger)
 room-run [] l h r = r

@@ -17,7 +17,7 @@ use Rattle.graph.specs.View.{GraphView}
 use Rattle.graph.specs.Node.{isNode, ownedBy, nodeAt, hostNode, withId, replaced}
 use Rattle.graph.specs.Change as change
 use Rattle.model.specs.Voice.{id}
-use Rattle.model.specs.Spawn.{Wire, voiceNodes, voiceWires, appendAll, wireAll, nextVoice, fadeNode}
+use Rattle.model.specs.Spawn.{Wire, voiceNodes, voiceWires, appendAll, wireAll, nextVoice, fadeNode, pans}
 use Rattle.model.specs.Call.{Call}
 use Rattle.ledger.specs.Ledger.{Ledger, admissionOn}
 use Rattle.ledger.specs.Call.{run}
@@ -44,9 +44,9 @@ module _ (N : List Node → ℕ → Type 0)
       record {
         cuts = λ l v s h. fewer (l .desk .graph .nodes) (l .desk .graph .next) (λ x. not (ownedBy (v .id) x)) h;
         fades = λ l v p h. more (l .desk .graph .nodes) (l .desk .graph .next) (fadeNode (v .id)) h;
-        lands = λ l def pan s bus p h.
-            let xs = voiceNodes (nextVoice (l .desk)) def pan in
-            wire-all (l .desk .graph .next) (voiceWires def pan) (appendAll (l .desk .graph) xs) (append-all xs (l .desk .graph) h);
+        lands = λ l spawn s p h.
+            let xs = voiceNodes (nextVoice (l .desk)) (spawn .def) (pans (spawn .pan)) in
+            wire-all (l .desk .graph .next) (voiceWires (spawn .def) (pans (spawn .pan))) (appendAll (l .desk .graph) xs) (append-all xs (l .desk .graph) h);
       }
 
   pub nodes-steady : Steady NodesOf
@@ -57,7 +57,7 @@ module _ (N : List Node → ℕ → Type 0)
         connect = λ l a b p e h. h;
         disconnect = λ l b p e h. h;
         setSink = λ l k h. h;
-        loose = λ l def bus pan e h. place-keeps NodesOf nodes-spawning def pan bus 0 _ l h;
+        loose = λ l spawn e h. place-keeps NodesOf nodes-spawning spawn 0 _ l h;
         goes = λ l w h. fewer (l .desk .graph .nodes) (l .desk .graph .next) (λ x. not (ownedBy w x)) h;
         node = λ l k x n e s h. other (l .desk .graph .nodes) (l .desk .graph .next) k x n e s h;
         schedule = λ l e f h. h;
@@ -67,7 +67,7 @@ module _ (N : List Node → ℕ → Type 0)
       }
 
   pub nodes-run : (xs : List Call) (l : Ledger) → NodesOf l → NodesOf (run xs l .ledger)
-  nodes-run = kept-run NodesOf nodes-steady (λ l def bus pan e h. managed-keeps NodesOf nodes-spawning def pan bus (admissionOn bus l) l h)
+  nodes-run = kept-run NodesOf nodes-steady (λ l spawn e h. managed-keeps NodesOf nodes-spawning spawn (admissionOn (spawn .bus) l) l h)
 
 -- ---- by rising id, all below the next
 pub record Rows (ns : List Node) (next : ℕ) : Type 0 where

@@ -4,7 +4,7 @@ use native.Mathlib.Omega.{arith}
 use mathlib.Core.Path.{_≡_, refl, sym, ap, _∙_, subst}
 use mathlib.Core.List.{List, [], _∷_, _++_, map}
 use mathlib.Core.Option.{Option, none, some}
-use mathlib.Core.Bool.{Bool, true, not}
+use mathlib.Core.Bool.{true, not}
 use lib.Dec.{eqb}
 use lib.ListN.{length-map}
 use borrow.Author.Tests.{eqb-true, ne-eqb}
@@ -121,79 +121,82 @@ module _ (l : Ledger) (s : SoundL l) where
 pub refused-agrees : (r : Refusal) (l : Ledger) → SoundL l → Lands (model.refused r (modelOf l)) (ledger.refused r l)
 refused-agrees r l s = record { answer = refl; model = refl; sound = s }
 
-module _ (def : SynthDef) (ok : allowed def ≡ true) (pan : Bool) (t : VoiceState) (still : (more : ℕ → ℕ) → movedState more t ≡ t) (bus : NodeId) where
+module _ (spawn : Spawn) (ok : allowed (spawn .def) ≡ true) (t : VoiceState) (still : (more : ℕ → ℕ) → movedState more t ≡ t) where
+  abbrev bus : NodeId
+  bus = spawn .bus
+
   land-agrees : (p : ℕ) (l : Ledger) → SoundL l → HostAt (l .desk .graph .nodes) (bus .0) → p < portsAt (l .desk .graph .nodes) (bus .0)
-      → Lands (model.land def pan t bus p (modelOf l)) (ledger.land def pan t bus p l)
+      → Lands (model.land spawn t p (modelOf l)) (ledger.land spawn t p l)
   land-agrees p l s live range =
       record {
         answer = refl;
-        model = ap (λ vs. record { desk = ledger.land def pan t bus p l .ledger .desk; voices = vs })
-            (ap (λ v. map (stored l) (l .voices) ++ (v ∷ [])) same ∙ sym (map-append (stored l) (l .voices) (newcomer def pan t bus p (l .desk) ∷ [])));
-        sound = sound-newcomer def ok pan bus p (l .desk .spawned) (l .desk .graph) (l .voices) (l .holders) s live range (newcomer def pan t bus p (l .desk)) refl refl (feeder-out def pan t bus p (l .desk));
+        model = ap (λ vs. record { desk = ledger.land spawn t p l .ledger .desk; voices = vs })
+            (ap (λ v. map (stored l) (l .voices) ++ (v ∷ [])) same ∙ sym (map-append (stored l) (l .voices) (newcomer spawn t p (l .desk) ∷ [])));
+        sound = sound-newcomer (spawn .def) ok (pans (spawn .pan)) bus p (l .desk .spawned) (l .desk .graph) (l .voices) (l .holders) s live range (newcomer spawn t p (l .desk)) refl refl (feeder-out spawn t p (l .desk));
       }
     where
-      same : newcomer def pan t bus p (l .desk) ≡ stored l (newcomer def pan t bus p (l .desk))
-      same = ap (λ u. newcomer def pan u bus p (l .desk)) (sym (still (reached (l .desk .config .block))))
+      same : newcomer spawn t p (l .desk) ≡ stored l (newcomer spawn t p (l .desk))
+      same = ap (λ u. newcomer spawn u p (l .desk)) (sym (still (reached (l .desk .config .block))))
 
   free-below : (p : ℕ) (l : Ledger) → ledger.portFree bus l ≡ some p → p < portsAt (l .desk .graph .nodes) (bus .0)
   free-below p l e =
       let r = lowest-some (portsAt (l .desk .graph .nodes) (bus .0)) (λ p. not (isHeld (l .holders (bus .0) p))) 0 p e in
       omega (arith, r .1)
 
-  place-agrees : (k : ℕ) (l : Ledger) → SoundL l → HostAt (l .desk .graph .nodes) (bus .0) → Lands (model.place k def pan t bus (modelOf l)) (ledger.place k def pan t bus l)
+  place-agrees : (k : ℕ) (l : Ledger) → SoundL l → HostAt (l .desk .graph .nodes) (bus .0) → Lands (model.place k spawn t (modelOf l)) (ledger.place k spawn t l)
   place-agrees zero l s live =
-      subst (λ o. Lands (model.landOr o none def pan t bus (modelOf l) (model.refused NoPort)) (ledger.place zero def pan t bus l)) (sym (free-same s bus live)) (go (ledger.portFree bus l) refl)
+      subst (λ o. Lands (model.landOr o none spawn t (modelOf l) (model.refused NoPort)) (ledger.place zero spawn t l)) (sym (free-same s bus live)) (go (ledger.portFree bus l) refl)
     where
       go : (o : Option ℕ) → ledger.portFree bus l ≡ o
-          → Lands (model.landOr o none def pan t bus (modelOf l) (model.refused NoPort)) (ledger.landOr o none def pan t bus l (ledger.refused NoPort))
+          → Lands (model.landOr o none spawn t (modelOf l) (model.refused NoPort)) (ledger.landOr o none spawn t l (ledger.refused NoPort))
       go (some p) e = land-agrees p l s live (free-below p l e)
       go none e = refused-agrees NoPort l s
   place-agrees (suc k) l s live =
-      subst (λ o. Lands (model.landOr o (nextOut (l .desk) bus (map (stored l) (l .voices))) def pan t bus (modelOf l) (λ m. model.place k def pan t bus m)) (ledger.place (suc k) def pan t bus l))
+      subst (λ o. Lands (model.landOr o (nextOut (l .desk) bus (map (stored l) (l .voices))) spawn t (modelOf l) (λ m. model.place k spawn t m)) (ledger.place (suc k) spawn t l))
       (sym (free-same s bus live))
-      (subst (λ u. Lands (model.landOr (ledger.portFree bus l) u def pan t bus (modelOf l) (λ m. model.place k def pan t bus m)) (ledger.place (suc k) def pan t bus l))
+      (subst (λ u. Lands (model.landOr (ledger.portFree bus l) u spawn t (modelOf l) (λ m. model.place k spawn t m)) (ledger.place (suc k) spawn t l))
       (sym (nextOut-same (reached (l .desk .config .block)) (l .desk) bus (l .voices)))
       (go (ledger.portFree bus l) refl (nextOut (l .desk) bus (l .voices)) refl (place-agrees k)))
     where
       go : (o : Option ℕ) → ledger.portFree bus l ≡ o → (u : Option Voice) → nextOut (l .desk) bus (l .voices) ≡ u
-          → ((l : Ledger) → SoundL l → HostAt (l .desk .graph .nodes) (bus .0) → Lands (model.place k def pan t bus (modelOf l)) (ledger.place k def pan t bus l))
-          → Lands (model.landOr o (mapO (stored l) u) def pan t bus (modelOf l) (λ m. model.place k def pan t bus m)) (ledger.landOr o u def pan t bus l (λ l. ledger.place k def pan t bus l))
+          → ((l : Ledger) → SoundL l → HostAt (l .desk .graph .nodes) (bus .0) → Lands (model.place k spawn t (modelOf l)) (ledger.place k spawn t l))
+          → Lands (model.landOr o (mapO (stored l) u) spawn t (modelOf l) (λ m. model.place k spawn t m)) (ledger.landOr o u spawn t l (λ l. ledger.place k spawn t l))
       go (some p) e u f ih = land-agrees p l s live (free-below p l e)
       go none e none f ih = refused-agrees NoPort l s
       go none e (some v) f ih =
           let z = cut-off l s v (v .state) (nextOut-in (ids-of l s) (l .desk) bus v f .0) in
-          subst (λ m. Lands (model.place k def pan t bus m) (ledger.place k def pan t bus (ledger.cutOff v (v .state) l))) (sym (z .model)) (ih (ledger.cutOff v (v .state) l) (z .sound) (z .hosts (bus .0) live))
+          subst (λ m. Lands (model.place k spawn t m) (ledger.place k spawn t (ledger.cutOff v (v .state) l))) (sym (z .model)) (ih (ledger.cutOff v (v .state) l) (z .sound) (z .hosts (bus .0) live))
 
 -- ---- admission
-module _ (def : SynthDef) (ok : allowed def ≡ true) (pan : Bool) (bus : NodeId) where
-  settle-agrees : (l : Ledger) → SoundL l → HostAt (l .desk .graph .nodes) (bus .0) → Lands (model.settle def pan bus (modelOf l)) (ledger.settle def pan bus l)
+module _ (spawn : Spawn) (ok : allowed (spawn .def) ≡ true) where
+  settle-agrees : (l : Ledger) → SoundL l → HostAt (l .desk .graph .nodes) (spawn .bus .0) → Lands (model.settle spawn (modelOf l)) (ledger.settle spawn l)
   settle-agrees l s live =
-      subst (λ k. Lands (model.place k def pan (stateUnder (l .desk .config .budget)) bus (modelOf l)) (ledger.settle def pan bus l))
+      subst (λ k. Lands (model.place k spawn (stateUnder (l .desk .config .budget)) (modelOf l)) (ledger.settle spawn l))
       (sym (tries-same (reached (l .desk .config .block)) (l .desk .config .budget) (l .voices)))
-      (place-agrees def ok pan (stateUnder (l .desk .config .budget)) (λ more. under-same more (l .desk .config .budget)) bus (tries (l .desk .config .budget) (l .voices)) l s live)
+      (place-agrees spawn ok (stateUnder (l .desk .config .budget)) (λ more. under-same more (l .desk .config .budget)) (tries (l .desk .config .budget) (l .voices)) l s live)
 
-  steal-agrees : (l : Ledger) → SoundL l → HostAt (l .desk .graph .nodes) (bus .0) → (o : Option Voice) → ((v : Voice) → o ≡ some v → In v (l .voices) × (isTracked (v .state) ≡ true))
-      → Lands (model.stealThen (mapO (stored l) o) def pan bus (modelOf l)) (ledger.stealThen o def pan bus l)
+  steal-agrees : (l : Ledger) → SoundL l → HostAt (l .desk .graph .nodes) (spawn .bus .0) → (o : Option Voice) → ((v : Voice) → o ≡ some v → In v (l .voices) × (isTracked (v .state) ≡ true))
+      → Lands (model.stealThen (mapO (stored l) o) spawn (modelOf l)) (ledger.stealThen o spawn l)
   steal-agrees l s live none who = settle-agrees l s live
   steal-agrees l s live (some v) who =
       let r = who v refl in
       let z = stolen l s v (r .0) (r .1) in
-      subst (λ m. Lands (model.settle def pan bus m) (ledger.settle def pan bus (ledger.stealVoice v l))) (sym (z .model)) (settle-agrees (ledger.stealVoice v l) (z .sound) (z .hosts (bus .0) live))
+      subst (λ m. Lands (model.settle spawn m) (ledger.settle spawn (ledger.stealVoice v l))) (sym (z .model)) (settle-agrees (ledger.stealVoice v l) (z .sound) (z .hosts (spawn .bus .0) live))
 
-  admitted-agrees : (l : Ledger) → SoundL l → HostAt (l .desk .graph .nodes) (bus .0)
-      → Lands (model.admitted (model.admissionOn bus (modelOf l)) def pan bus (modelOf l)) (ledger.admitted (ledger.admissionOn bus l) def pan bus l)
+  admitted-agrees : (l : Ledger) → SoundL l → HostAt (l .desk .graph .nodes) (spawn .bus .0)
+      → Lands (model.admitted (model.admissionOn (spawn .bus) (modelOf l)) spawn (modelOf l)) (ledger.admitted (ledger.admissionOn (spawn .bus) l) spawn l)
   admitted-agrees l s live =
-      subst (λ a. Lands (model.admitted a def pan bus (modelOf l)) (ledger.admitted (ledger.admissionOn bus l) def pan bus l))
-      (sym (admits-same (reached (l .desk .config .block)) (l .desk) bus (l .voices))) (go (ledger.admissionOn bus l) refl)
+      subst (λ a. Lands (model.admitted a spawn (modelOf l)) (ledger.admitted (ledger.admissionOn (spawn .bus) l) spawn l))
+      (sym (admits-same (reached (l .desk .config .block)) (l .desk) (spawn .bus) (l .voices))) (go (ledger.admissionOn (spawn .bus) l) refl)
     where
-      go : (a : Admission) → ledger.admissionOn bus l ≡ a → Lands (model.admitted a def pan bus (modelOf l)) (ledger.admitted a def pan bus l)
+      go : (a : Admission) → ledger.admissionOn (spawn .bus) l ≡ a → Lands (model.admitted a spawn (modelOf l)) (ledger.admitted a spawn l)
       go admission.Admit e = settle-agrees l s live
       go admission.Reject e = refused-agrees Rejected l s
       go (admission.Steal place w) e =
-          let r = steal-voice (ids-of l s) (l .desk) (counted (l .desk .config .scope) bus) (l .desk .config .budget) (l .desk .config .policy) place w e in
+          let r = steal-voice (ids-of l s) (l .desk) (counted (l .desk .config .scope) (spawn .bus)) (l .desk .config .budget) (l .desk .config .policy) place w e in
           let y : find (isVoice w) (map (stored l) (l .voices)) ≡ some (stored l (r .0)) = find-stored (reached (l .desk .config .block)) w (l .voices) ∙ ap (mapO (stored l)) (r .3) in
-          subst (λ o. Lands (model.stealThen o def pan bus (modelOf l)) (ledger.stealThen (find (isVoice w) (l .voices)) def pan bus l)) (sym y)
-          (subst (λ o. Lands (model.stealThen (some (stored l (r .0))) def pan bus (modelOf l)) (ledger.stealThen o def pan bus l)) (sym (r .3))
+          subst (λ o. Lands (model.stealThen o spawn (modelOf l)) (ledger.stealThen (find (isVoice w) (l .voices)) spawn l)) (sym y)
+          (subst (λ o. Lands (model.stealThen (some (stored l (r .0))) spawn (modelOf l)) (ledger.stealThen o spawn l)) (sym (r .3))
           (steal-agrees l s live (some (r .0)) (λ v q. subst (λ x. In x (l .voices) × (isTracked (x .state) ≡ true)) (some-inj q) (r .1, and-left (isTracked (r .0 .state)) _ (r .2)))))
 
 -- ---- the spawns
@@ -214,10 +217,10 @@ module _ (l : Ledger) (s : SoundL l) where
 
   pub managed-agrees : (spawn : Spawn) → Lands (model.spawnManaged spawn (modelOf l)) (ledger.spawnManaged spawn l)
   managed-agrees spawn =
-      subst (λ o. Lands (model.unless o (modelOf l) (model.admitted (model.admissionOn (spawn .bus) (modelOf l)) (spawn .def) (pans (spawn .pan)) (spawn .bus) (modelOf l))) (ledger.spawnManaged spawn l)) (sym (refusal-same (spawn .def) (spawn .bus)))
-      (unless-agrees (spawnRefusal (l .desk) (l .voices) (spawn .def) (spawn .bus)) _ _ (λ e. admitted-agrees (spawn .def) (spawn-allowed (l .desk) (l .voices) (spawn .def) (spawn .bus) e .definition) (pans (spawn .pan)) (spawn .bus) l s (host-bus (spawn .def) (spawn .bus) e)))
+      subst (λ o. Lands (model.unless o (modelOf l) (model.admitted (model.admissionOn (spawn .bus) (modelOf l)) spawn (modelOf l))) (ledger.spawnManaged spawn l)) (sym (refusal-same (spawn .def) (spawn .bus)))
+      (unless-agrees (spawnRefusal (l .desk) (l .voices) (spawn .def) (spawn .bus)) _ _ (λ e. admitted-agrees spawn (spawn-allowed (l .desk) (l .voices) (spawn .def) (spawn .bus) e .definition) l s (host-bus (spawn .def) (spawn .bus) e)))
 
   pub loose-agrees : (spawn : Spawn) → Lands (model.spawnLoose spawn (modelOf l)) (ledger.spawnLoose spawn l)
   loose-agrees spawn =
-      subst (λ o. Lands (model.unless o (modelOf l) (model.place 0 (spawn .def) (pans (spawn .pan)) Loose (spawn .bus) (modelOf l))) (ledger.spawnLoose spawn l)) (sym (refusal-same (spawn .def) (spawn .bus)))
-      (unless-agrees (spawnRefusal (l .desk) (l .voices) (spawn .def) (spawn .bus)) _ _ (λ e. place-agrees (spawn .def) (spawn-allowed (l .desk) (l .voices) (spawn .def) (spawn .bus) e .definition) (pans (spawn .pan)) Loose (λ more. refl) (spawn .bus) 0 l s (host-bus (spawn .def) (spawn .bus) e)))
+      subst (λ o. Lands (model.unless o (modelOf l) (model.place 0 spawn Loose (modelOf l))) (ledger.spawnLoose spawn l)) (sym (refusal-same (spawn .def) (spawn .bus)))
+      (unless-agrees (spawnRefusal (l .desk) (l .voices) (spawn .def) (spawn .bus)) _ _ (λ e. place-agrees spawn (spawn-allowed (l .desk) (l .voices) (spawn .def) (spawn .bus) e .definition) Loose (λ more. refl) 0 l s (host-bus (spawn .def) (spawn .bus) e)))

@@ -17,7 +17,6 @@ use Rattle.node.specs.declared.record.Node.{Node}
 use Rattle.node.specs.declared.refusal.Refusal.{Refusal}
 use Rattle.node.specs.declared.refusal.Refusal.the-variants.{NoPort, TableFull, ClockEnd}
 use Rattle.node.specs.Name.{nameOf}
-use Rattle.graph.specs.View.{GraphView}
 use Rattle.graph.specs.Node.{nodeAt, hostNode}
 use Rattle.graph.specs.Change as change
 use Rattle.graph.specs.Refuse.{addRefusal, hostRefusal, disconnectRefusal, connectRefusal}
@@ -30,7 +29,6 @@ use Rattle.node.specs.declared.order.LastOrder.{LastOrder}
 use Rattle.node.specs.declared.name.Name.{Name}
 use Rattle.synthdef.specs.Tables.{paramRows}
 use Rattle.synthdef.specs.Params.{paramNode}
-use Rattle.synthdef.specs.declared.def.SynthDef.{SynthDef}
 use Rattle.store.specs.declared.answer.Rendered.{Rendered}
 use Rattle.store.specs.declared.answer.Rendered.the-variants as Rendered
 use Rattle.store.specs.declared.answer.Outcome.the-variants.{Applied, NotTaken}
@@ -38,17 +36,16 @@ use Rattle.store.specs.declared.config.Config.{Config}
 use Rattle.store.specs.declared.voices.Voice.{Voice}
 use Rattle.store.specs.declared.voices.VoiceState.{VoiceState}
 use Rattle.store.specs.declared.voices.VoiceState.the-variants.{Loose}
-use Rattle.model.specs.Desk.{Desk, withGraph, withEvents, sounding}
+use Rattle.model.specs.Desk.{withEvents, sounding}
 use Rattle.voice.specs.Steals.{Book}
 use Rattle.model.specs.Voice.{isVoice, id, moved}
 use Rattle.model.specs.Refuse.{spawnRefusal, reportRefusal}
-use Rattle.model.specs.Spawn.{pans, nextOut, newcomer, Spawn}
+use Rattle.model.specs.Spawn.{nextOut, newcomer, Spawn}
 use Rattle.model.specs.Order.{withNode, withLast, takes, order, orderVoice, orderParam, orderNode, stays, reportNode, withReport}
 use Rattle.model.specs.Render.{prepareOutcome, prepareDesk, readyDesk, isFree, anyFree, heard, answerAfter, isSounding, due, clockEnds}
 use Rattle.model.specs.Call.{Call, event, scheduleRefusal}
 use Rattle.model.specs.Call as call
-use Rattle.ledger.specs.Holder.{Holders, nobody, host, hold, dropNode}
-pub use Rattle.ledger.specs.Ledger.{atDesk, atGraph}
+use Rattle.ledger.specs.Holder.{nobody, host, hold, dropNode}
 use Rattle.ledger.specs.Ledger.{Ledger, Landed, portFree, gone, cutOff, land, landOr, place, refused, admitted, admissionOn, freed, free}
 use Rattle.ledger.specs.Ledger as ledger
 use Rattle.ledger.specs.Clear.{goneAll, endedVoices, silentVoices, clear}
@@ -57,22 +54,24 @@ use Rattle.ledger.specs.Call.{Step, unless, step, run}
 use Rattle.ledger.specs.Claim.{isManaged}
 use Rattle.ledger.proofs.Allowed.{when-none, spawn-allowed}
 
+pub use Rattle.ledger.specs.Ledger.{atDesk, atGraph}
+
 -- ---- the port search: what holds of it while n tries are left, and what of its outcome
-module _ (def : SynthDef) (pan : Bool) (s : VoiceState) (bus : NodeId) (Q : ℕ → Ledger → Type 0) (R : Landed → Type 0)
-    (lands : (n : ℕ) (l : Ledger) (p : ℕ) → portFree bus l ≡ some p → Q n l → R (land def pan s bus p l))
-    (spent : (l : Ledger) → portFree bus l ≡ none → Q zero l → R (refused NoPort l))
-    (idle : (n : ℕ) (l : Ledger) → portFree bus l ≡ none → nextOut (l .desk) bus (l .voices) ≡ none → Q (suc n) l → R (refused NoPort l))
-    (cuts : (n : ℕ) (l : Ledger) (v : Voice) → portFree bus l ≡ none → nextOut (l .desk) bus (l .voices) ≡ some v → Q (suc n) l → Q n (cutOff v (v .state) l)) where
-  pub place-kept : (n : ℕ) (l : Ledger) → Q n l → R (place n def pan s bus l)
-  place-kept zero l q = go (portFree bus l) refl
+module _ (spawn : Spawn) (s : VoiceState) (Q : ℕ → Ledger → Type 0) (R : Landed → Type 0)
+    (lands : (n : ℕ) (l : Ledger) (p : ℕ) → portFree (spawn .bus) l ≡ some p → Q n l → R (land spawn s p l))
+    (spent : (l : Ledger) → portFree (spawn .bus) l ≡ none → Q zero l → R (refused NoPort l))
+    (idle : (n : ℕ) (l : Ledger) → portFree (spawn .bus) l ≡ none → nextOut (l .desk) (spawn .bus) (l .voices) ≡ none → Q (suc n) l → R (refused NoPort l))
+    (cuts : (n : ℕ) (l : Ledger) (v : Voice) → portFree (spawn .bus) l ≡ none → nextOut (l .desk) (spawn .bus) (l .voices) ≡ some v → Q (suc n) l → Q n (cutOff v (v .state) l)) where
+  pub place-kept : (n : ℕ) (l : Ledger) → Q n l → R (place n spawn s l)
+  place-kept zero l q = go (portFree (spawn .bus) l) refl
     where
-      go : (o : Option ℕ) → portFree bus l ≡ o → R (landOr o none def pan s bus l (refused NoPort))
+      go : (o : Option ℕ) → portFree (spawn .bus) l ≡ o → R (landOr o none spawn s l (refused NoPort))
       go (some p) e = lands zero l p e q
       go none e = spent l e q
-  place-kept (suc n) l q = go (portFree bus l) refl (nextOut (l .desk) bus (l .voices)) refl (place-kept n)
+  place-kept (suc n) l q = go (portFree (spawn .bus) l) refl (nextOut (l .desk) (spawn .bus) (l .voices)) refl (place-kept n)
     where
-      go : (o : Option ℕ) → portFree bus l ≡ o → (u : Option Voice) → nextOut (l .desk) bus (l .voices) ≡ u
-          → ((l : Ledger) → Q n l → R (place n def pan s bus l)) → R (landOr o u def pan s bus l (λ k. place n def pan s bus k))
+      go : (o : Option ℕ) → portFree (spawn .bus) l ≡ o → (u : Option Voice) → nextOut (l .desk) (spawn .bus) (l .voices) ≡ u
+          → ((l : Ledger) → Q n l → R (place n spawn s l)) → R (landOr o u spawn s l (λ k. place n spawn s k))
       go (some p) e u f ih = lands (suc n) l p e q
       go none e none f ih = idle n l e f q
       go none e (some v) f ih = ih (cutOff v (v .state) l) (cuts n l v e f q)
@@ -94,7 +93,7 @@ pub record Steady (P : Ledger → Type 0) : Type 0 where
   pub disconnect : (l : Ledger) (b : NodeId) (p : ℕ) → disconnectRefusal (l .desk .graph) b p ≡ none → P l
       → P (atGraph l (change.disconnect (l .desk .graph) b p) (hold b p nobody (l .holders)))
   pub setSink : (l : Ledger) (k : NodeId) → P l → P (atGraph l (change.setSink (l .desk .graph) k) (l .holders))
-  pub loose : (l : Ledger) (def : SynthDef) (bus : NodeId) (pan : Bool) → spawnRefusal (l .desk) (l .voices) def bus ≡ none → P l → P (place 0 def pan Loose bus l .ledger)
+  pub loose : (l : Ledger) (spawn : Spawn) → spawnRefusal (l .desk) (l .voices) (spawn .def) (spawn .bus) ≡ none → P l → P (place 0 spawn Loose l .ledger)
   pub goes : (l : Ledger) (w : VoiceId) → P l → P (gone w l)
   -- the record x of a live node becomes n
   pub node : (l : Ledger) (k : NodeId) (x n : Node) → nodeAt (l .desk .graph .nodes) k ≡ some x → Alike x n → P l → P (atDesk l (withNode n (l .desk)))
@@ -112,7 +111,7 @@ both-steady a b =
       connect = λ l x y p e h. (a .connect l x y p e (h .0), b .connect l x y p e (h .1));
       disconnect = λ l y p e h. (a .disconnect l y p e (h .0), b .disconnect l y p e (h .1));
       setSink = λ l k h. (a .setSink l k (h .0), b .setSink l k (h .1));
-      loose = λ l def bus pan e h. (a .loose l def bus pan e (h .0), b .loose l def bus pan e (h .1));
+      loose = λ l spawn e h. (a .loose l spawn e (h .0), b .loose l spawn e (h .1));
       goes = λ l w h. (a .goes l w (h .0), b .goes l w (h .1));
       node = λ l k x n e s h. (a .node l k x n e s (h .0), b .node l k x n e s (h .1));
       schedule = λ l e f h. (a .schedule l e f (h .0), b .schedule l e f (h .1));
@@ -204,7 +203,7 @@ module _ (P : Ledger → Type 0) where
     step-kept (call.setSink j) l m p = unless-kept (hostRefusal (l .desk .graph) j) l _ p (λ e. k .setSink l j p)
     step-kept (call.spawnManaged spawn) l m p = m spawn refl
     step-kept (call.spawnLoose spawn) l m p =
-        landed-kept (spawnRefusal (l .desk) (l .voices) (spawn .def) (spawn .bus)) l (place 0 (spawn .def) (pans (spawn .pan)) Loose (spawn .bus) l) p (λ e. k .loose l (spawn .def) (spawn .bus) (pans (spawn .pan)) e p)
+        landed-kept (spawnRefusal (l .desk) (l .voices) (spawn .def) (spawn .bus)) l (place 0 spawn Loose l) p (λ e. k .loose l spawn e p)
     step-kept (call.free w) l m p = freed-kept (find (isVoice w) (l .voices)) l p
     step-kept call.clear l m p =
         let faded = goneAll (endedVoices l) l in
@@ -222,10 +221,10 @@ module _ (P : Ledger → Type 0) where
     steady-step x h l p = step-kept x l (λ spawn e. absurd (true≢false (sym (ap isManaged e) ∙ h))) p
 
     -- and a managed spawn
-    module _ (m : (l : Ledger) (def : SynthDef) (bus : NodeId) (pan : Bool) → spawnRefusal (l .desk) (l .voices) def bus ≡ none → P l → P (admitted (admissionOn bus l) def pan bus l .ledger)) where
+    module _ (m : (l : Ledger) (spawn : Spawn) → spawnRefusal (l .desk) (l .voices) (spawn .def) (spawn .bus) ≡ none → P l → P (admitted (admissionOn (spawn .bus) l) spawn l .ledger)) where
       pub kept-step : (x : Call) (l : Ledger) → P l → P (step x l .ledger)
       kept-step x l p =
-          step-kept x l (λ spawn e. landed-kept (spawnRefusal (l .desk) (l .voices) (spawn .def) (spawn .bus)) l (admitted (admissionOn (spawn .bus) l) (spawn .def) (pans (spawn .pan)) (spawn .bus) l) p (λ r. m l (spawn .def) (spawn .bus) (pans (spawn .pan)) r p)) p
+          step-kept x l (λ spawn e. landed-kept (spawnRefusal (l .desk) (l .voices) (spawn .def) (spawn .bus)) l (admitted (admissionOn (spawn .bus) l) spawn l) p (λ r. m l spawn r p)) p
 
       pub kept-run : (xs : List Call) (l : Ledger) → P l → P (run xs l .ledger)
       kept-run [] l p = p
@@ -248,7 +247,7 @@ module _ (F : Config → Book → ℕ → List Voice → Type 0)
         connect = λ l a b p e f. f;
         disconnect = λ l b p e f. f;
         setSink = λ l k f. f;
-        loose = λ l def bus pan e f. one l def bus pan e f (portFree bus l);
+        loose = λ l spawn e f. one l spawn e f (portFree (spawn .bus) l);
         goes = λ l w f. goes (l .desk .config) (l .desk .steals) (l .desk .spawned) (l .voices) w f;
         node = λ l k x n e s f. f;
         schedule = λ l e h f. f;
@@ -257,11 +256,11 @@ module _ (F : Config → Book → ℕ → List Voice → Type 0)
         block = λ l a f. sounds l (isSounding a) f;
       }
     where
-      one : (l : Ledger) (def : SynthDef) (bus : NodeId) (pan : Bool) → spawnRefusal (l .desk) (l .voices) def bus ≡ none → Calm F l
-          → (o : Option ℕ) → Calm F (landOr o none def pan Loose bus l (refused NoPort) .ledger)
-      one l def bus pan e f none = f
-      one l def bus pan e f (some p) =
-          lands (l .desk .config) (l .desk .steals) (l .desk .spawned) (l .voices) (newcomer def pan Loose bus p (l .desk)) refl refl (spawn-allowed (l .desk) (l .voices) def bus e .ids-left) f
+      one : (l : Ledger) (spawn : Spawn) → spawnRefusal (l .desk) (l .voices) (spawn .def) (spawn .bus) ≡ none → Calm F l
+          → (o : Option ℕ) → Calm F (landOr o none spawn Loose l (refused NoPort) .ledger)
+      one l spawn e f none = f
+      one l spawn e f (some p) =
+          lands (l .desk .config) (l .desk .steals) (l .desk .spawned) (l .voices) (newcomer spawn Loose p (l .desk)) refl refl (spawn-allowed (l .desk) (l .voices) (spawn .def) (spawn .bus) e .ids-left) f
 
       sounds : (l : Ledger) (b : Bool) → Calm F l → F (l .desk .config) (l .desk .steals) (l .desk .spawned) (countedIf b (l .voices))
       sounds l true f = counts (l .desk .config) (l .desk .steals) (l .desk .spawned) (l .voices) f

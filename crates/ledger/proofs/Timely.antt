@@ -30,7 +30,6 @@ use Rattle.scheduler.specs.Event.{paramOrder}
 use Rattle.scheduler.specs.declared.event.Event.{Event}
 use Rattle.synthdef.specs.Tables.{paramRows}
 use Rattle.synthdef.specs.Params.{paramNode}
-use Rattle.synthdef.specs.declared.def.SynthDef.{SynthDef}
 use Rattle.store.specs.declared.answer.Outcome.the-variants.{Applied, NotTaken}
 use Rattle.store.specs.declared.answer.Rendered.{Rendered}
 use Rattle.store.specs.declared.answer.Rendered.the-variants as Rendered
@@ -43,7 +42,7 @@ use Rattle.voice.specs.declared.policy.Budget.the-variants.{Unlimited, AtMost}
 use Rattle.model.specs.Desk.{Desk}
 use Rattle.model.specs.Voice.{isVoice, id, withState, moved, movedState, beginFade}
 use Rattle.model.specs.Refuse.{spawnRefusal, reportRefusal}
-use Rattle.model.specs.Spawn.{pans, newcomer, stateUnder, tries, fadeOf}
+use Rattle.model.specs.Spawn.{newcomer, stateUnder, tries, fadeOf, Spawn}
 use Rattle.model.specs.Order.{withNode, withLast, takes, order, orderVoice, orderParam, orderNode, stays, reportNode}
 use Rattle.model.specs.Render.{prepareOutcome, readyDesk, isFree, anyFree, isSounding, due, clockEnds}
 use Rattle.model.specs.Call.{Call, scheduleRefusal}
@@ -121,17 +120,17 @@ still-steal v l = go (portHeld v l)
     go none = refl
     go (some p) = refl
 
-still-place : (k : ℕ) (def : SynthDef) (pan : Bool) (t : VoiceState) (bus : NodeId) (c : ℕ) (l : Ledger) → l .desk .clock ≡ c → place k def pan t bus l .ledger .desk .clock ≡ c
-still-place k def pan t bus c l e =
-    place-kept def pan t bus (λ n l. l .desk .clock ≡ c) (λ r. r .ledger .desk .clock ≡ c) (λ n l p h e. e) (λ l h e. e) (λ n l h f e. e) (λ n l v h f e. e) k l e
+still-place : (k : ℕ) (spawn : Spawn) (t : VoiceState) (c : ℕ) (l : Ledger) → l .desk .clock ≡ c → place k spawn t l .ledger .desk .clock ≡ c
+still-place k spawn t c l e =
+    place-kept spawn t (λ n l. l .desk .clock ≡ c) (λ r. r .ledger .desk .clock ≡ c) (λ n l p h e. e) (λ l h e. e) (λ n l h f e. e) (λ n l v h f e. e) k l e
 
-still-settle : (def : SynthDef) (pan : Bool) (bus : NodeId) (c : ℕ) (l : Ledger) → l .desk .clock ≡ c → settle def pan bus l .ledger .desk .clock ≡ c
-still-settle def pan bus c l e = still-place (tries (l .desk .config .budget) (l .voices)) def pan (stateUnder (l .desk .config .budget)) bus c l e
+still-settle : (spawn : Spawn) (c : ℕ) (l : Ledger) → l .desk .clock ≡ c → settle spawn l .ledger .desk .clock ≡ c
+still-settle spawn c l e = still-place (tries (l .desk .config .budget) (l .voices)) spawn (stateUnder (l .desk .config .budget)) c l e
 
-still-managed : (def : SynthDef) (pan : Bool) (bus : NodeId) (l : Ledger) → IdsOf l → admitted (admissionOn bus l) def pan bus l .ledger .desk .clock ≡ l .desk .clock
-still-managed def pan bus l u =
-    managed-kept def pan bus (λ r. r .ledger .desk .clock ≡ l .desk .clock) l u (λ h. refl) (λ h. still-settle def pan bus (l .desk .clock) l refl)
-    (λ p w h v i t. still-settle def pan bus (l .desk .clock) (stealVoice v l) (still-steal v l))
+still-managed : (spawn : Spawn) (l : Ledger) → IdsOf l → admitted (admissionOn (spawn .bus) l) spawn l .ledger .desk .clock ≡ l .desk .clock
+still-managed spawn l u =
+    managed-kept spawn (λ r. r .ledger .desk .clock ≡ l .desk .clock) l u (λ h. refl) (λ h. still-settle spawn (l .desk .clock) l refl)
+    (λ p w h v i t. still-settle spawn (l .desk .clock) (stealVoice v l) (still-steal v l))
 
 still-landed : (o : Option Refusal) (l : Ledger) (r : Landed) → r .ledger .desk .clock ≡ l .desk .clock → ledger.unless o l r .ledger .desk .clock ≡ l .desk .clock
 still-landed none l r e = e
@@ -164,9 +163,9 @@ clock-step x l u h = go x
     go (call.disconnect b p) = same (still-unless (disconnectRefusal (l .desk .graph) b p) l _ refl)
     go (call.setSink k) = same (still-unless (hostRefusal (l .desk .graph) k) l _ refl)
     go (call.spawnManaged spawn) =
-        same (still-landed (spawnRefusal (l .desk) (l .voices) (spawn .def) (spawn .bus)) l (admitted (admissionOn (spawn .bus) l) (spawn .def) (pans (spawn .pan)) (spawn .bus) l) (still-managed (spawn .def) (pans (spawn .pan)) (spawn .bus) l u))
+        same (still-landed (spawnRefusal (l .desk) (l .voices) (spawn .def) (spawn .bus)) l (admitted (admissionOn (spawn .bus) l) spawn l) (still-managed spawn l u))
     go (call.spawnLoose spawn) =
-        same (still-landed (spawnRefusal (l .desk) (l .voices) (spawn .def) (spawn .bus)) l (place 0 (spawn .def) (pans (spawn .pan)) Loose (spawn .bus) l) (still-place 0 (spawn .def) (pans (spawn .pan)) Loose (spawn .bus) (l .desk .clock) l refl))
+        same (still-landed (spawnRefusal (l .desk) (l .voices) (spawn .def) (spawn .bus)) l (place 0 spawn Loose l) (still-place 0 spawn Loose (l .desk .clock) l refl))
     go (call.free w) = same (still-freed (find (isVoice w) (l .voices)) l .0)
     go call.clear =
         let faded = goneAll (endedVoices l) l in
@@ -191,18 +190,18 @@ Timely l = (v : Voice) → In v (l .voices) → Within (l .desk .config .block) 
 timely-gone : (w : VoiceId) (l : Ledger) → Timely l → Timely (gone w l)
 timely-gone w l h v i = h v (in-keep (λ v. not (isVoice w v)) (l .voices) v i .0)
 
-timely-land : (def : SynthDef) (pan : Bool) (t : VoiceState) → ((block clock : ℕ) → Within block clock t) → (bus : NodeId) (p : ℕ) (l : Ledger) → Timely l → Timely (ledger.land def pan t bus p l .ledger)
-timely-land def pan t new bus p l h v i =
+timely-land : (spawn : Spawn) (t : VoiceState) → ((block clock : ℕ) → Within block clock t) → (p : ℕ) (l : Ledger) → Timely l → Timely (ledger.land spawn t p l .ledger)
+timely-land spawn t new p l h v i =
     ⊎-elim (h v) (λ q. subst (λ (u : Voice). Within (l .desk .config .block) (l .desk .clock) (u .state)) (sym q) (new (l .desk .config .block) (l .desk .clock)))
-    (in-snoc (l .voices) (newcomer def pan t bus p (l .desk)) v i)
+    (in-snoc (l .voices) (newcomer spawn t p (l .desk)) v i)
 
-timely-place : (k : ℕ) (def : SynthDef) (pan : Bool) (t : VoiceState) → ((block clock : ℕ) → Within block clock t) → (bus : NodeId) (l : Ledger) → Timely l → Timely (place k def pan t bus l .ledger)
-timely-place k def pan t new bus l h =
-    place-kept def pan t bus (λ n l. Timely l) (λ r. Timely (r .ledger)) (λ n l p e h. timely-land def pan t new bus p l h) (λ l e h. h) (λ n l e f h. h)
+timely-place : (k : ℕ) (spawn : Spawn) (t : VoiceState) → ((block clock : ℕ) → Within block clock t) → (l : Ledger) → Timely l → Timely (place k spawn t l .ledger)
+timely-place k spawn t new l h =
+    place-kept spawn t (λ n l. Timely l) (λ r. Timely (r .ledger)) (λ n l p e h. timely-land spawn t new p l h) (λ l e h. h) (λ n l e f h. h)
     (λ n l v e f h. λ u i. h u (in-keep (λ u. not (isVoice (v .id) u)) (l .voices) u i .0)) k l h
 
-timely-settle : (def : SynthDef) (pan : Bool) (bus : NodeId) (l : Ledger) → Timely l → Timely (settle def pan bus l .ledger)
-timely-settle def pan bus l h = timely-place (tries (l .desk .config .budget) (l .voices)) def pan (stateUnder (l .desk .config .budget)) (new (l .desk .config .budget)) bus l h
+timely-settle : (spawn : Spawn) (l : Ledger) → Timely l → Timely (settle spawn l .ledger)
+timely-settle spawn l h = timely-place (tries (l .desk .config .budget) (l .voices)) spawn (stateUnder (l .desk .config .budget)) (new (l .desk .config .budget)) l h
   where
     new : (b : Budget) (block clock : ℕ) → Within block clock (stateUnder b)
     new Unlimited block clock = tt
@@ -249,7 +248,7 @@ timely-steady =
       connect = λ l a b p e h. h;
       disconnect = λ l b p e h. h;
       setSink = λ l k h. h;
-      loose = λ l def bus pan e h. timely-place 0 def pan Loose (λ block clock. tt) bus l h;
+      loose = λ l spawn e h. timely-place 0 spawn Loose (λ block clock. tt) l h;
       goes = λ l w h. timely-gone w l h;
       node = λ l k x n e s h. h;
       schedule = λ l e f h. h;
@@ -261,10 +260,10 @@ timely-steady =
 pub timely-step : (x : Call) (l : Ledger) → IdsOf l → Timely l → Timely (step x l .ledger)
 timely-step x l u h =
     kept-step (λ l. IdsOf l × Timely l) (both-steady ids-steady timely-steady)
-    (λ l def bus pan e k.
-    managed-kept def pan bus (λ r. IdsOf (r .ledger) × Timely (r .ledger)) l (k .0) (λ h. k)
-    (λ h. (ids-settle def pan bus l (k .0), timely-settle def pan bus l (k .1)))
-    (λ p w h v i t. (ids-settle def pan bus (stealVoice v l) (ids-steal v l (k .0)), timely-settle def pan bus (stealVoice v l) (timely-steal v l (k .1)))))
+    (λ l spawn e k.
+    managed-kept spawn (λ r. IdsOf (r .ledger) × Timely (r .ledger)) l (k .0) (λ h. k)
+    (λ h. (ids-settle spawn l (k .0), timely-settle spawn l (k .1)))
+    (λ p w h v i t. (ids-settle spawn (stealVoice v l) (ids-steal v l (k .0)), timely-settle spawn (stealVoice v l) (timely-steal v l (k .1)))))
     x l (u, h) .1
 
 -- ---- so the store's number is exactly count × block

@@ -28,7 +28,7 @@ module _ (F : ℕ → List Voice → Type 0)
       record {
         cuts = λ l v s h. fewer (l .desk .spawned) (l .voices) (λ x. not (isVoice (v .id) x)) h;
         fades = λ l v p h. same (l .desk .spawned) (l .voices) (beginFade (v .id) (fadeOf (l .desk))) (begin-id (v .id) (fadeOf (l .desk))) h;
-        lands = λ l def pan s bus p h. more (l .desk .spawned) (l .voices) (newcomer def pan s bus p (l .desk)) refl h;
+        lands = λ l spawn s p h. more (l .desk .spawned) (l .voices) (newcomer spawn s p (l .desk)) refl h;
       }
 
   pub voices-steady : Steady VoicesOf
@@ -36,4 +36,4 @@ module _ (F : ℕ → List Voice → Type 0)
       calm (λ c b n vs. F n vs) (λ c b n vs w h. fewer n vs (λ x. not (isVoice w x)) h) (λ c b n vs h. same n vs (moved oneMore) (λ v. refl) h) (λ c b n vs v e s lt h. more n vs v e h)
 
   pub voices-run : (xs : List Call) (l : Ledger) → VoicesOf l → VoicesOf (run xs l .ledger)
-  voices-run = kept-run VoicesOf voices-steady (λ l def bus pan e h. managed-keeps VoicesOf voices-spawning def pan bus (admissionOn bus l) l h)
+  voices-run = kept-run VoicesOf voices-steady (λ l spawn e h. managed-keeps VoicesOf voices-spawning spawn (admissionOn (spawn .bus) l) l h)

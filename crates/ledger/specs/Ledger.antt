@@ -17,7 +17,6 @@ use Rattle.graph.specs.Change.{removeVoice}
 use Rattle.voice.specs.Policy.{admits}
 use Rattle.voice.specs.declared.policy.Admission.{Admission}
 use Rattle.voice.specs.declared.policy.Admission.the-variants as admission
-use Rattle.synthdef.specs.declared.def.SynthDef.{SynthDef}
 use Rattle.store.specs.declared.answer.Spawned.{Spawned}
 use Rattle.store.specs.declared.answer.Spawned.the-variants as Spawned
 use Rattle.store.specs.declared.config.Config.{Config}
@@ -27,7 +26,7 @@ use Rattle.store.specs.declared.voices.VoiceState.the-variants.{Tracked, Loose}
 use Rattle.model.specs.Desk.{Desk, newDesk, withGraph, withSteals}
 use Rattle.model.specs.Voice.{isVoice, candidates, counted, beginFade}
 use Rattle.model.specs.Refuse.{spawnRefusal}
-use Rattle.model.specs.Spawn.{landDesk, newcomer, nextVoice, stateUnder, tries, fadeDesk, fadeOf, reclaimBook, nextOut, Spawn, pans}
+use Rattle.model.specs.Spawn.{landDesk, newcomer, nextVoice, stateUnder, tries, fadeDesk, fadeOf, reclaimBook, nextOut, Spawn}
 use Rattle.ledger.specs.Holder.{Holders, nobody, voice, isHeld, byVoice, hold, dropVoice}
 
 pub record Ledger : Type 0 where
@@ -89,39 +88,37 @@ pub record Landed : Type 0 where
 abbrev pub refused : Refusal → Ledger → Landed
 refused r l = record { answer = Spawned.Refused r; ledger = l }
 
-abbrev pub land : SynthDef → Bool → VoiceState → NodeId → ℕ → Ledger → Landed
-land def pan s bus p l =
+abbrev pub land : Spawn → VoiceState → ℕ → Ledger → Landed
+land x s p l =
     record {
       answer = Spawned.Voice (nextVoice (l .desk));
       ledger = record {
-        desk = landDesk def pan bus p (l .desk);
-        holders = hold bus p (voice (nextVoice (l .desk))) (l .holders);
-        voices = l .voices ++ (newcomer def pan s bus p (l .desk) ∷ []);
+        desk = landDesk x p (l .desk);
+        holders = hold (x .bus) p (voice (nextVoice (l .desk))) (l .holders);
+        voices = l .voices ++ (newcomer x s p (l .desk) ∷ []);
       };
     }
 
-abbrev pub landOr : Option ℕ → Option Voice → SynthDef → Bool → VoiceState → NodeId → Ledger → (Ledger → Landed) → Landed
-landOr (some p) o def pan s bus l again = land def pan s bus p l
-landOr none none def pan s bus l again = refused NoPort l
-landOr none (some v) def pan s bus l again = again (cutOff v (v .state) l)
+abbrev pub landOr : Option ℕ → Option Voice → Spawn → VoiceState → Ledger → (Ledger → Landed) → Landed
+landOr (some p) o x s l again = land x s p l
+landOr none none x s l again = refused NoPort l
+landOr none (some v) x s l again = again (cutOff v (v .state) l)
 
-abbrev pub place : ℕ → SynthDef → Bool → VoiceState → NodeId → Ledger → Landed
-place zero def pan s bus l = landOr (portFree bus l) none def pan s bus l (refused NoPort)
-place (suc fuel) def pan s bus l =
-    landOr (portFree bus l) (nextOut (l .desk) bus (l .voices)) def pan s bus l (λ k. place fuel def pan s bus k)
+abbrev pub place : ℕ → Spawn → VoiceState → Ledger → Landed
+place zero x s l = landOr (portFree (x .bus) l) none x s l (refused NoPort)
+place (suc fuel) x s l = landOr (portFree (x .bus) l) (nextOut (l .desk) (x .bus) (l .voices)) x s l (λ k. place fuel x s k)
 
-abbrev pub settle : SynthDef → Bool → NodeId → Ledger → Landed
-settle def pan bus l =
-    place (tries (l .desk .config .budget) (l .voices)) def pan (stateUnder (l .desk .config .budget)) bus l
+abbrev pub settle : Spawn → Ledger → Landed
+settle x l = place (tries (l .desk .config .budget) (l .voices)) x (stateUnder (l .desk .config .budget)) l
 
-abbrev pub stealThen : Option Voice → SynthDef → Bool → NodeId → Ledger → Landed
-stealThen none def pan bus l = settle def pan bus l
-stealThen (some v) def pan bus l = settle def pan bus (stealVoice v l)
+abbrev pub stealThen : Option Voice → Spawn → Ledger → Landed
+stealThen none x l = settle x l
+stealThen (some v) x l = settle x (stealVoice v l)
 
-abbrev pub admitted : Admission → SynthDef → Bool → NodeId → Ledger → Landed
-admitted admission.Admit def pan bus l = settle def pan bus l
-admitted admission.Reject def pan bus l = refused Rejected l
-admitted (admission.Steal place w) def pan bus l = stealThen (find (isVoice w) (l .voices)) def pan bus l
+abbrev pub admitted : Admission → Spawn → Ledger → Landed
+admitted admission.Admit x l = settle x l
+admitted admission.Reject x l = refused Rejected l
+admitted (admission.Steal place w) x l = stealThen (find (isVoice w) (l .voices)) x l
 
 abbrev pub admissionOn : NodeId → Ledger → Admission
 admissionOn bus l =
@@ -134,11 +131,11 @@ unless (some n) l r = refused n l
 
 abbrev pub spawnManaged : Spawn → Ledger → Landed
 spawnManaged x l =
-    unless (spawnRefusal (l .desk) (l .voices) (x .def) (x .bus)) l (admitted (admissionOn (x .bus) l) (x .def) (pans (x .pan)) (x .bus) l)
+    unless (spawnRefusal (l .desk) (l .voices) (x .def) (x .bus)) l (admitted (admissionOn (x .bus) l) x l)
 
 -- "Unmanaged: the port search alone; the newcomer takes id and port likewise and is loose. No port: 12."
 abbrev pub spawnLoose : Spawn → Ledger → Landed
-spawnLoose x l = unless (spawnRefusal (l .desk) (l .voices) (x .def) (x .bus)) l (place 0 (x .def) (pans (x .pan)) Loose (x .bus) l)
+spawnLoose x l = unless (spawnRefusal (l .desk) (l .voices) (x .def) (x .bus)) l (place 0 x Loose l)
 
 -- ---- "Free, called or by event: the voice goes."
 abbrev pub freed : Option Voice → Ledger → Ledger

@@ -1,5 +1,5 @@
-use graph::state::Sink;
 use crate::state::State;
+use graph::state::Sink;
 ghost use mathlib.Core.Path.{_≡_};
 ghost use Rattle.memory.specs.Parts.{graphed, ordered, queued, voiced, clocked, numbered, logged};
 

@@ -32,7 +32,7 @@ use Rattle.model.specs.Voice.{id}
 use Rattle.model.specs.Model.{Model}
 use Rattle.model.specs.Call.{Call, done, refused, ordered, rendered, time}
 use Rattle.model.specs.Call as call
-use Rattle.model.specs.Scene.{upTo, plain, float, voice, host, sink, wire, spawn, free, timedFree, spawned, sounding, silent, after, asked, further, seen, voices, fading, param, value, glide}
+use Rattle.model.specs.Scene.{upTo, plain, float, voice, host, sink, wire, spawn, free, timedFree, sounding, silent, after, asked, further, seen, voices, fading, param, value, glide}
 use Rattle.model.specs.Spawn.{spawnOf}
 use Rattle.model.specs.Desk.{withClock}
 

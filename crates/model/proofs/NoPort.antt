@@ -26,7 +26,6 @@ use Rattle.voice.specs.declared.policy.Admission.{Admission}
 use Rattle.voice.specs.declared.policy.Admission.the-variants as admission
 use Rattle.voice.specs.declared.policy.Budget.{Budget}
 use Rattle.voice.specs.declared.policy.Budget.the-variants.{Unlimited, AtMost}
-use Rattle.synthdef.specs.declared.def.SynthDef.{SynthDef}
 use Rattle.store.specs.declared.answer.Spawned.{Spawned}
 use Rattle.store.specs.declared.answer.Spawned.the-variants as Spawned
 use Rattle.store.specs.declared.voices.Voice.{Voice}
@@ -35,7 +34,7 @@ use Rattle.store.specs.declared.voices.VoiceState.the-variants.{Tracked, Loose}
 use Rattle.model.specs.Desk.{Desk}
 use Rattle.model.specs.Voice.{isVoice, feeder, candidates, trackedOn, fadesOn}
 use Rattle.model.specs.Refuse.{spawnRefusal}
-use Rattle.model.specs.Spawn.{pans, tries, stateUnder, voiceOf, noLater, earlier, earliest, elseVictim, nextOut, Spawn}
+use Rattle.model.specs.Spawn.{tries, stateUnder, voiceOf, noLater, earlier, earliest, elseVictim, nextOut, Spawn}
 use Rattle.model.specs.Model.{Model, cutOff, stealVoice, portFree, landOr, place, settle, stealThen, admitted, admissionOn, Landed}
 use Rattle.model.specs.Model as store
 use Rattle.model.specs.Call.{step}
@@ -72,49 +71,49 @@ gone-fewer vs v i =
     let off : not (isVoice (v .id) v) ≡ false = ap not (eq-eqb (v .id .0) (v .id .0) refl) in
     rw (count-all (keep (λ x. not (isVoice (v .id) x)) vs), count-all vs) at (count-keep-lt (λ x. true) (λ x. not (isVoice (v .id) x)) vs v i refl off)
 
-module _ (def : SynthDef) (pan : Bool) (s : VoiceState) (bus : NodeId) where
-  pub place-no-port : (fuel : ℕ) (m : Model) (r : Refusal) → notSpawned (place fuel def pan s bus m .answer) ≡ some r
-      → portFree bus (place fuel def pan s bus m .model) ≡ none
-  place-no-port zero m r h = go (portFree bus m) refl h
+module _ (spawn : Spawn) (s : VoiceState) where
+  pub place-no-port : (fuel : ℕ) (m : Model) (r : Refusal) → notSpawned (place fuel spawn s m .answer) ≡ some r
+      → portFree (spawn .bus) (place fuel spawn s m .model) ≡ none
+  place-no-port zero m r h = go (portFree (spawn .bus) m) refl h
     where
-      go : (o : Option ℕ) → portFree bus m ≡ o → notSpawned (landOr o none def pan s bus m (store.refused NoPort) .answer) ≡ some r
-          → portFree bus (landOr o none def pan s bus m (store.refused NoPort) .model) ≡ none
+      go : (o : Option ℕ) → portFree (spawn .bus) m ≡ o → notSpawned (landOr o none spawn s m (store.refused NoPort) .answer) ≡ some r
+          → portFree (spawn .bus) (landOr o none spawn s m (store.refused NoPort) .model) ≡ none
       go none p e = p
       go (some x) p e = absurd (none-some e)
-  place-no-port (suc fuel) m r h = go (portFree bus m) refl (nextOut (m .desk) bus (m .voices)) h (λ k. place-no-port fuel k r)
+  place-no-port (suc fuel) m r h = go (portFree (spawn .bus) m) refl (nextOut (m .desk) (spawn .bus) (m .voices)) h (λ k. place-no-port fuel k r)
     where
-      go : (o : Option ℕ) → portFree bus m ≡ o → (v : Option Voice)
-          → notSpawned (landOr o v def pan s bus m (λ k. place fuel def pan s bus k) .answer) ≡ some r
-          → ((k : Model) → notSpawned (place fuel def pan s bus k .answer) ≡ some r → portFree bus (place fuel def pan s bus k .model) ≡ none)
-          → portFree bus (landOr o v def pan s bus m (λ k. place fuel def pan s bus k) .model) ≡ none
+      go : (o : Option ℕ) → portFree (spawn .bus) m ≡ o → (v : Option Voice)
+          → notSpawned (landOr o v spawn s m (λ k. place fuel spawn s k) .answer) ≡ some r
+          → ((k : Model) → notSpawned (place fuel spawn s k .answer) ≡ some r → portFree (spawn .bus) (place fuel spawn s k .model) ≡ none)
+          → portFree (spawn .bus) (landOr o v spawn s m (λ k. place fuel spawn s k) .model) ≡ none
       go none p none e ih = p
       go none p (some v) e ih = ih (cutOff v (v .state) m) e
       go (some x) p v e ih = absurd (none-some e)
 
   -- as many tries as there are voices are enough
-  pub place-nobody : (fuel : ℕ) (m : Model) (r : Refusal) → length (m .voices) ≤ fuel → notSpawned (place fuel def pan s bus m .answer) ≡ some r
-      → nextOut (place fuel def pan s bus m .model .desk) bus (place fuel def pan s bus m .model .voices) ≡ none
-  place-nobody zero m r few h = go (portFree bus m) h
+  pub place-nobody : (fuel : ℕ) (m : Model) (r : Refusal) → length (m .voices) ≤ fuel → notSpawned (place fuel spawn s m .answer) ≡ some r
+      → nextOut (place fuel spawn s m .model .desk) (spawn .bus) (place fuel spawn s m .model .voices) ≡ none
+  place-nobody zero m r few h = go (portFree (spawn .bus) m) h
     where
-      nobody : (o : Option Voice) → nextOut (m .desk) bus (m .voices) ≡ o → o ≡ none
+      nobody : (o : Option Voice) → nextOut (m .desk) (spawn .bus) (m .voices) ≡ o → o ≡ none
       nobody none p = refl
-      nobody (some v) p = absurd (omega (arith, gone-fewer (m .voices) v (next-in (m .desk) bus (m .voices) v p)))
+      nobody (some v) p = absurd (omega (arith, gone-fewer (m .voices) v (next-in (m .desk) (spawn .bus) (m .voices) v p)))
 
-      go : (o : Option ℕ) → notSpawned (landOr o none def pan s bus m (store.refused NoPort) .answer) ≡ some r
-          → nextOut (landOr o none def pan s bus m (store.refused NoPort) .model .desk) bus (landOr o none def pan s bus m (store.refused NoPort) .model .voices) ≡ none
-      go none e = nobody (nextOut (m .desk) bus (m .voices)) refl
+      go : (o : Option ℕ) → notSpawned (landOr o none spawn s m (store.refused NoPort) .answer) ≡ some r
+          → nextOut (landOr o none spawn s m (store.refused NoPort) .model .desk) (spawn .bus) (landOr o none spawn s m (store.refused NoPort) .model .voices) ≡ none
+      go none e = nobody (nextOut (m .desk) (spawn .bus) (m .voices)) refl
       go (some x) e = absurd (none-some e)
-  place-nobody (suc fuel) m r few h = go (portFree bus m) (nextOut (m .desk) bus (m .voices)) refl h (λ k. place-nobody fuel k r)
+  place-nobody (suc fuel) m r few h = go (portFree (spawn .bus) m) (nextOut (m .desk) (spawn .bus) (m .voices)) refl h (λ k. place-nobody fuel k r)
     where
-      go : (o : Option ℕ) (v : Option Voice) → nextOut (m .desk) bus (m .voices) ≡ v
-          → notSpawned (landOr o v def pan s bus m (λ k. place fuel def pan s bus k) .answer) ≡ some r
-          → ((k : Model) → length (k .voices) ≤ fuel → notSpawned (place fuel def pan s bus k .answer) ≡ some r
-          → nextOut (place fuel def pan s bus k .model .desk) bus (place fuel def pan s bus k .model .voices) ≡ none)
-          → nextOut (landOr o v def pan s bus m (λ k. place fuel def pan s bus k) .model .desk) bus
-          (landOr o v def pan s bus m (λ k. place fuel def pan s bus k) .model .voices) ≡ none
+      go : (o : Option ℕ) (v : Option Voice) → nextOut (m .desk) (spawn .bus) (m .voices) ≡ v
+          → notSpawned (landOr o v spawn s m (λ k. place fuel spawn s k) .answer) ≡ some r
+          → ((k : Model) → length (k .voices) ≤ fuel → notSpawned (place fuel spawn s k .answer) ≡ some r
+          → nextOut (place fuel spawn s k .model .desk) (spawn .bus) (place fuel spawn s k .model .voices) ≡ none)
+          → nextOut (landOr o v spawn s m (λ k. place fuel spawn s k) .model .desk) (spawn .bus)
+          (landOr o v spawn s m (λ k. place fuel spawn s k) .model .voices) ≡ none
       go none none p e ih = p
       go none (some v) p e ih =
-          let i : In v (m .voices) = next-in (m .desk) bus (m .voices) v p in
+          let i : In v (m .voices) = next-in (m .desk) (spawn .bus) (m .voices) v p in
           let f : length (keep (λ x. not (isVoice (v .id) x)) (m .voices)) ≤ fuel = omega (arith, gone-fewer (m .voices) v i) in
           ih (cutOff v (v .state) m) f e
       go (some x) v p e ih = absurd (none-some e)
@@ -123,25 +122,25 @@ pub record Exhausted (b : Budget) (bus : NodeId) (k : Model) : Type 0 where
   pub no-port : portFree bus k ≡ none
   pub nobody : (n : ℕ) → b ≡ AtMost n → nextOut (k .desk) bus (k .voices) ≡ none
 
-module _ (def : SynthDef) (pan : Bool) (bus : NodeId) (r : Refusal) where
-  settle-exhausted : (m : Model) → notSpawned (settle def pan bus m .answer) ≡ some r → Exhausted (m .desk .config .budget) bus (settle def pan bus m .model)
+module _ (spawn : Spawn) (r : Refusal) where
+  settle-exhausted : (m : Model) → notSpawned (settle spawn m .answer) ≡ some r → Exhausted (m .desk .config .budget) (spawn .bus) (settle spawn m .model)
   settle-exhausted m h = go (m .desk .config .budget) h
     where
-      go : (b : Budget) → notSpawned (place (tries b (m .voices)) def pan (stateUnder b) bus m .answer) ≡ some r
-          → Exhausted b bus (place (tries b (m .voices)) def pan (stateUnder b) bus m .model)
+      go : (b : Budget) → notSpawned (place (tries b (m .voices)) spawn (stateUnder b) m .answer) ≡ some r
+          → Exhausted b (spawn .bus) (place (tries b (m .voices)) spawn (stateUnder b) m .model)
       go Unlimited e =
           record {
-            no-port = place-no-port def pan Loose bus 0 m r e;
+            no-port = place-no-port spawn Loose 0 m r e;
             nobody = λ n p. let z : _≡_ {A = ℕ} 0 1 = cc in absurd (omega arith);
           }
       go (AtMost n) e =
           record {
-            no-port = place-no-port def pan Tracked bus (length (m .voices)) m r e;
-            nobody = λ n p. let few : length (m .voices) ≤ length (m .voices) = omega arith in place-nobody def pan Tracked bus (length (m .voices)) m r few e;
+            no-port = place-no-port spawn Tracked (length (m .voices)) m r e;
+            nobody = λ n p. let few : length (m .voices) ≤ length (m .voices) = omega arith in place-nobody spawn Tracked (length (m .voices)) m r few e;
           }
 
-  admitted-exhausted : (a : Admission) (m : Model) → notSpawned (admitted a def pan bus m .answer) ≡ some r → (r ≡ Rejected → ⊥)
-      → Exhausted (m .desk .config .budget) bus (admitted a def pan bus m .model)
+  admitted-exhausted : (a : Admission) (m : Model) → notSpawned (admitted a spawn m .answer) ≡ some r → (r ≡ Rejected → ⊥)
+      → Exhausted (m .desk .config .budget) (spawn .bus) (admitted a spawn m .model)
   admitted-exhausted admission.Admit m h k = settle-exhausted m h
   admitted-exhausted admission.Reject m h k = absurd (k (sym (some-inj h)))
   admitted-exhausted (admission.Steal place w) m h k = go (find (isVoice w) (m .voices)) h
@@ -150,9 +149,9 @@ module _ (def : SynthDef) (pan : Bool) (bus : NodeId) (r : Refusal) where
       same v none = refl
       same v (some p) = refl
 
-      go : (o : Option Voice) → notSpawned (stealThen o def pan bus m .answer) ≡ some r → Exhausted (m .desk .config .budget) bus (stealThen o def pan bus m .model)
+      go : (o : Option Voice) → notSpawned (stealThen o spawn m .answer) ≡ some r → Exhausted (m .desk .config .budget) (spawn .bus) (stealThen o spawn m .model)
       go none e = settle-exhausted m e
-      go (some v) e = subst (λ (b : Budget). Exhausted b bus (settle def pan bus (stealVoice v m) .model)) (same v (portFrom (m .desk .graph .edges) (feeder v) (v .bus)))
+      go (some v) e = subst (λ (b : Budget). Exhausted b (spawn .bus) (settle spawn (stealVoice v m) .model)) (same v (portFrom (m .desk .graph .edges) (feeder v) (v .bus)))
           (settle-exhausted (stealVoice v m) e)
 
 pub no-port-exhausts : (x : Spawn) (m : Model) → step (call.spawnManaged x) m .answer ≡ call.spawned (Spawned.Refused NoPort)
@@ -160,9 +159,9 @@ pub no-port-exhausts : (x : Spawn) (m : Model) → step (call.spawnManaged x) m 
 no-port-exhausts x m h = go (spawnRefusal (m .desk) (m .voices) (x .def) (x .bus)) (spawn-not (m .desk) (m .voices) (x .def) (x .bus)) (ap refusalIn h)
   where
     admits : Landed
-    admits = admitted (admissionOn (x .bus) m) (x .def) (pans (x .pan)) (x .bus) m
+    admits = admitted (admissionOn (x .bus) m) x m
 
     go : (o : Option Refusal) → is12 o ≡ false → notSpawned (store.unless o m admits .answer) ≡ some NoPort → Exhausted (m .desk .config .budget) (x .bus) (store.unless o m admits .model)
     go (some q) n e = let z : true ≡ false = sym (ap (λ x. eqb (numberOf x) 12) (some-inj e)) ∙ n in absurd (true≢false z)
     go none n e =
-        admitted-exhausted (x .def) (pans (x .pan)) (x .bus) NoPort (admissionOn (x .bus) m) m e (λ p. let z : _≡_ {A = ℕ} 0 1 = cc in absurd (omega arith))
+        admitted-exhausted x NoPort (admissionOn (x .bus) m) m e (λ p. let z : _≡_ {A = ℕ} 0 1 = cc in absurd (omega arith))

@@ -21,6 +21,7 @@ use Rattle.voice.specs.declared.policy.BudgetScope.the-variants.{Global}
 use Rattle.voice.specs.declared.policy.StealPolicy.the-variants.{Oldest, Reject}
 use Rattle.synthdef.specs.declared.def.SynthDef.{SynthDef}
 use Rattle.store.specs.declared.voices.Voice.{Voice}
+use Rattle.graph.specs.View.{GraphView}
 use Rattle.model.specs.Voice.{id}
 use Rattle.model.specs.Model.{Model}
 use Rattle.model.specs.Make.{refusalOf}
@@ -30,7 +31,6 @@ use Rattle.model.specs.Scene.{upTo, plain, toneDef, float, host, sink, w
 use Rattle.model.specs.Spawn.{spawnOf}
 use Rattle.model.specs.Numbers.{numberIn}
 use Rattle.model.specs.Desk.{withSpawned, withGraph}
-use Rattle.graph.specs.View.{GraphView}
 
 abbrev numbers : List Call → Model → List (Option ℕ)
 numbers calls m = map numberIn (asked calls m)

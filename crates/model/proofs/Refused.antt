@@ -32,7 +32,7 @@ use Rattle.store.specs.declared.voices.VoiceState.the-variants.{Loose}
 use Rattle.model.specs.Desk.{Desk, sounding}
 use Rattle.model.specs.Voice.{isVoice}
 use Rattle.model.specs.Refuse.{orElse, noHeadroom, noIds, spawnRefusal, reportRefusal}
-use Rattle.model.specs.Spawn.{pans, tries, stateUnder, nextOut, Spawn}
+use Rattle.model.specs.Spawn.{tries, stateUnder, nextOut, Spawn}
 use Rattle.model.specs.Model.{Model, cutOff, stealVoice, portFree, landOr, place, stealThen, admitted, admissionOn, Landed}
 use Rattle.model.specs.Model as store
 use Rattle.model.specs.Render.{prepareOutcome, prepareDesk, readyDesk, heard, answerAfter, preparedIf, anyFree, due, rested, happenAll, clockEnds, render}
@@ -118,40 +118,40 @@ abbrev pub left : Refusal → Call → Model → Model
 left r c m = cond (eqb (numberOf r) 12) (leftByNoPort c m) m
 
 -- ---- the port search answers a voice or 12
-module _ (def : SynthDef) (pan : Bool) (s : VoiceState) (bus : NodeId) where
-  pub place-left : (fuel : ℕ) (m : Model) (r : Refusal) → notSpawned (place fuel def pan s bus m .answer) ≡ some r
-      → (r ≡ NoPort) × (place fuel def pan s bus m .model ≡ reclaims fuel bus m)
-  place-left zero m r h = go (portFree bus m) h
+module _ (spawn : Spawn) (s : VoiceState) where
+  pub place-left : (fuel : ℕ) (m : Model) (r : Refusal) → notSpawned (place fuel spawn s m .answer) ≡ some r
+      → (r ≡ NoPort) × (place fuel spawn s m .model ≡ reclaims fuel (spawn .bus) m)
+  place-left zero m r h = go (portFree (spawn .bus) m) h
     where
-      go : (o : Option ℕ) → notSpawned (landOr o none def pan s bus m (store.refused NoPort) .answer) ≡ some r
-          → (r ≡ NoPort) × (landOr o none def pan s bus m (store.refused NoPort) .model ≡ m)
+      go : (o : Option ℕ) → notSpawned (landOr o none spawn s m (store.refused NoPort) .answer) ≡ some r
+          → (r ≡ NoPort) × (landOr o none spawn s m (store.refused NoPort) .model ≡ m)
       go none e = (sym (some-inj e), refl)
       go (some p) e = absurd (none-some e)
-  place-left (suc fuel) m r h = go (portFree bus m) (nextOut (m .desk) bus (m .voices)) h (λ k. place-left fuel k r)
+  place-left (suc fuel) m r h = go (portFree (spawn .bus) m) (nextOut (m .desk) (spawn .bus) (m .voices)) h (λ k. place-left fuel k r)
     where
-      go : (o : Option ℕ) (v : Option Voice) → notSpawned (landOr o v def pan s bus m (λ k. place fuel def pan s bus k) .answer) ≡ some r
-          → ((k : Model) → notSpawned (place fuel def pan s bus k .answer) ≡ some r → (r ≡ NoPort) × (place fuel def pan s bus k .model ≡ reclaims fuel bus k))
-          → (r ≡ NoPort) × (landOr o v def pan s bus m (λ k. place fuel def pan s bus k) .model ≡ reclaimsOr v m (λ k. reclaims fuel bus k))
+      go : (o : Option ℕ) (v : Option Voice) → notSpawned (landOr o v spawn s m (λ k. place fuel spawn s k) .answer) ≡ some r
+          → ((k : Model) → notSpawned (place fuel spawn s k .answer) ≡ some r → (r ≡ NoPort) × (place fuel spawn s k .model ≡ reclaims fuel (spawn .bus) k))
+          → (r ≡ NoPort) × (landOr o v spawn s m (λ k. place fuel spawn s k) .model ≡ reclaimsOr v m (λ k. reclaims fuel (spawn .bus) k))
       go none none e ih = (sym (some-inj e), refl)
       go none (some v) e ih = ih (cutOff v (v .state) m) e
       go (some p) v e ih = absurd (none-some e)
 
 -- a managed spawn past the table's refusals: 12; or 11, and nothing has changed
-module _ (def : SynthDef) (pan : Bool) (bus : NodeId) (m : Model) where
-  pub admitted-left : (a : Admission) (r : Refusal) → notSpawned (admitted a def pan bus m .answer) ≡ some r
-      → ((r ≡ NoPort) × (admitted a def pan bus m .model ≡ allReclaims bus (admissionLeaves a m)))
-      ⊎ ((r ≡ Rejected) × (admitted a def pan bus m .model ≡ m))
+module _ (spawn : Spawn) (m : Model) where
+  pub admitted-left : (a : Admission) (r : Refusal) → notSpawned (admitted a spawn m .answer) ≡ some r
+      → ((r ≡ NoPort) × (admitted a spawn m .model ≡ allReclaims (spawn .bus) (admissionLeaves a m)))
+      ⊎ ((r ≡ Rejected) × (admitted a spawn m .model ≡ m))
   admitted-left admission.Admit r h =
-      inl (place-left def pan (stateUnder (m .desk .config .budget)) bus (tries (m .desk .config .budget) (m .voices)) m r h)
+      inl (place-left spawn (stateUnder (m .desk .config .budget)) (tries (m .desk .config .budget) (m .voices)) m r h)
   admitted-left admission.Reject r h = inr (sym (some-inj h), refl)
   admitted-left (admission.Steal place w) r h = inl (go (find (isVoice w) (m .voices)) h)
     where
-      go : (o : Option Voice) → notSpawned (stealThen o def pan bus m .answer) ≡ some r
-          → (r ≡ NoPort) × (stealThen o def pan bus m .model ≡ allReclaims bus (stolenIf o m))
-      go none e = place-left def pan (stateUnder (m .desk .config .budget)) bus (tries (m .desk .config .budget) (m .voices)) m r e
+      go : (o : Option Voice) → notSpawned (stealThen o spawn m .answer) ≡ some r
+          → (r ≡ NoPort) × (stealThen o spawn m .model ≡ allReclaims (spawn .bus) (stolenIf o m))
+      go none e = place-left spawn (stateUnder (m .desk .config .budget)) (tries (m .desk .config .budget) (m .voices)) m r e
       go (some v) e =
           let k = stealVoice v m in
-          place-left def pan (stateUnder (k .desk .config .budget)) bus (tries (k .desk .config .budget) (k .voices)) k r e
+          place-left spawn (stateUnder (k .desk .config .budget)) (tries (k .desk .config .budget) (k .voices)) k r e
 
 -- ---- the table's refusals are none of them 12
 abbrev pub is12 : Option Refusal → Bool
@@ -217,20 +217,20 @@ managed-left : (x : Spawn) (m : Model) (r : Refusal) → notSpawned (store.spawn
 managed-left x m r h = go (spawnRefusal (m .desk) (m .voices) (x .def) (x .bus)) (spawn-not (m .desk) (m .voices) (x .def) (x .bus)) h
   where
     admits : Landed
-    admits = admitted (admissionOn (x .bus) m) (x .def) (pans (x .pan)) (x .bus) m
+    admits = admitted (admissionOn (x .bus) m) x m
 
     go : (o : Option Refusal) → is12 o ≡ false → notSpawned (store.unless o m admits .answer) ≡ some r
         → store.unless o m admits .model ≡ cond (eqb (numberOf r) 12) (allReclaims (x .bus) (admissionLeaves (admissionOn (x .bus) m) m)) m
     go (some q) n e = let s : q ≡ r = some-inj e in let t : eqb (numberOf r) 12 ≡ false = ap (λ x. eqb (numberOf x) 12) (sym s) ∙ n in rw t
-    go none n e = ⊎-elim (λ p. rw (p .0) (p .1)) (λ p. rw (p .0) (p .1)) (admitted-left (x .def) (pans (x .pan)) (x .bus) m (admissionOn (x .bus) m) r e)
+    go none n e = ⊎-elim (λ p. rw (p .0) (p .1)) (λ p. rw (p .0) (p .1)) (admitted-left x m (admissionOn (x .bus) m) r e)
 
 loose-left : (x : Spawn) (m : Model) (r : Refusal) → notSpawned (store.spawnLoose x m .answer) ≡ some r → store.spawnLoose x m .model ≡ m
 loose-left x m r h = go (spawnRefusal (m .desk) (m .voices) (x .def) (x .bus)) h
   where
-    go : (o : Option Refusal) → notSpawned (store.unless o m (place 0 (x .def) (pans (x .pan)) Loose (x .bus) m) .answer) ≡ some r
-        → store.unless o m (place 0 (x .def) (pans (x .pan)) Loose (x .bus) m) .model ≡ m
+    go : (o : Option Refusal) → notSpawned (store.unless o m (place 0 x Loose m) .answer) ≡ some r
+        → store.unless o m (place 0 x Loose m) .model ≡ m
     go (some q) e = refl
-    go none e = place-left (x .def) (pans (x .pan)) Loose (x .bus) 0 m r e .1
+    go none e = place-left x Loose 0 m r e .1
 
 -- whatever the call and the model: a refused call leaves the model as it was, and 12 the steals and reclaims made
 pub refused-leaves : (c : Call) (m : Model) (r : Refusal) → refusalIn (step c m .answer) ≡ some r → step c m .model ≡ left r c m

@@ -2,7 +2,7 @@
 use Prim.Native.Nat.{ℕ, zero, suc}
 use mathlib.Core.List.{List, [], _∷_, _++_, map}
 use mathlib.Core.Option.{Option, none, some}
-use mathlib.Core.Bool.{Bool, not}
+use mathlib.Core.Bool.{not}
 use Rattle.lists.specs.Keep.{keep}
 use Rattle.lists.specs.Find.{find}
 use Rattle.node.specs.declared.record.NodeId.{NodeId}
@@ -15,7 +15,6 @@ use Rattle.graph.specs.Change.{removeVoice}
 use Rattle.voice.specs.Policy.{admits}
 use Rattle.voice.specs.declared.policy.Admission.{Admission}
 use Rattle.voice.specs.declared.policy.Admission.the-variants as admission
-use Rattle.synthdef.specs.declared.def.SynthDef.{SynthDef}
 use Rattle.store.specs.declared.answer.Spawned.{Spawned}
 use Rattle.store.specs.declared.answer.Spawned.the-variants as Spawned
 use Rattle.store.specs.declared.voices.Voice.{Voice}
@@ -24,7 +23,7 @@ use Rattle.store.specs.declared.voices.VoiceState.the-variants.{Tracked, Loose}
 use Rattle.model.specs.Desk.{Desk, withGraph, withSteals}
 use Rattle.model.specs.Voice.{isVoice, feeder, candidates, counted, beginFade}
 use Rattle.model.specs.Refuse.{spawnRefusal}
-use Rattle.model.specs.Spawn.{landDesk, newcomer, nextVoice, stateUnder, tries, fadeDesk, fadeOf, reclaimBook, nextOut, Spawn, pans}
+use Rattle.model.specs.Spawn.{landDesk, newcomer, nextVoice, stateUnder, tries, fadeDesk, fadeOf, reclaimBook, nextOut, Spawn}
 
 pub record Model : Type 0 where
   pub desk : Desk
@@ -68,38 +67,36 @@ refused r m = record { answer = Spawned.Refused r; model = m }
 abbrev pub portFree : NodeId → Model → Option ℕ
 portFree bus m = freePort (m .desk .graph .edges) bus (portsOf (nodeAt (m .desk .graph .nodes) bus))
 
-abbrev pub land : SynthDef → Bool → VoiceState → NodeId → ℕ → Model → Landed
-land def pan s bus p m =
+abbrev pub land : Spawn → VoiceState → ℕ → Model → Landed
+land x s p m =
     record {
       answer = Spawned.Voice (nextVoice (m .desk));
-      model = record { desk = landDesk def pan bus p (m .desk); voices = m .voices ++ (newcomer def pan s bus p (m .desk) ∷ []) };
+      model = record { desk = landDesk x p (m .desk); voices = m .voices ++ (newcomer x s p (m .desk) ∷ []) };
     }
 
 -- a port: land there; none, and nobody to reclaim: 12; else reclaim that voice and "try again"
-abbrev pub landOr : Option ℕ → Option Voice → SynthDef → Bool → VoiceState → NodeId → Model → (Model → Landed) → Landed
-landOr (some p) o def pan s bus m again = land def pan s bus p m
-landOr none none def pan s bus m again = refused NoPort m
-landOr none (some v) def pan s bus m again = again (cutOff v (v .state) m)
+abbrev pub landOr : Option ℕ → Option Voice → Spawn → VoiceState → Model → (Model → Landed) → Landed
+landOr (some p) o x s m again = land x s p m
+landOr none none x s m again = refused NoPort m
+landOr none (some v) x s m again = again (cutOff v (v .state) m)
 
 -- at most `fuel` reclaims
-abbrev pub place : ℕ → SynthDef → Bool → VoiceState → NodeId → Model → Landed
-place zero def pan s bus m = landOr (portFree bus m) none def pan s bus m (refused NoPort)
-place (suc fuel) def pan s bus m =
-    landOr (portFree bus m) (nextOut (m .desk) bus (m .voices)) def pan s bus m (λ k. place fuel def pan s bus k)
+abbrev pub place : ℕ → Spawn → VoiceState → Model → Landed
+place zero x s m = landOr (portFree (x .bus) m) none x s m (refused NoPort)
+place (suc fuel) x s m = landOr (portFree (x .bus) m) (nextOut (m .desk) (x .bus) (m .voices)) x s m (λ k. place fuel x s k)
 
-abbrev pub settle : SynthDef → Bool → NodeId → Model → Landed
-settle def pan bus m =
-    place (tries (m .desk .config .budget) (m .voices)) def pan (stateUnder (m .desk .config .budget)) bus m
+abbrev pub settle : Spawn → Model → Landed
+settle x m = place (tries (m .desk .config .budget) (m .voices)) x (stateUnder (m .desk .config .budget)) m
 
 -- the victim of an admission is one of the voices
-abbrev pub stealThen : Option Voice → SynthDef → Bool → NodeId → Model → Landed
-stealThen none def pan bus m = settle def pan bus m
-stealThen (some v) def pan bus m = settle def pan bus (stealVoice v m)
+abbrev pub stealThen : Option Voice → Spawn → Model → Landed
+stealThen none x m = settle x m
+stealThen (some v) x m = settle x (stealVoice v m)
 
-abbrev pub admitted : Admission → SynthDef → Bool → NodeId → Model → Landed
-admitted admission.Admit def pan bus m = settle def pan bus m
-admitted admission.Reject def pan bus m = refused Rejected m
-admitted (admission.Steal place w) def pan bus m = stealThen (find (isVoice w) (m .voices)) def pan bus m
+abbrev pub admitted : Admission → Spawn → Model → Landed
+admitted admission.Admit x m = settle x m
+admitted admission.Reject x m = refused Rejected m
+admitted (admission.Steal place w) x m = stealThen (find (isVoice w) (m .voices)) x m
 
 abbrev pub admissionOn : NodeId → Model → Admission
 admissionOn bus m =
@@ -112,11 +109,11 @@ unless (some n) m r = refused n m
 -- `spawn_voice_on_bus_panned_managed`: the refusals of the table, then "admission; a victim ...; then the lowest port ..."
 abbrev pub spawnManaged : Spawn → Model → Landed
 spawnManaged x m =
-    unless (spawnRefusal (m .desk) (m .voices) (x .def) (x .bus)) m (admitted (admissionOn (x .bus) m) (x .def) (pans (x .pan)) (x .bus) m)
+    unless (spawnRefusal (m .desk) (m .voices) (x .def) (x .bus)) m (admitted (admissionOn (x .bus) m) x m)
 
 -- `spawn_voice_on_bus_panned`: "the port search alone; the newcomer ... is loose. No port: 12."
 abbrev pub spawnLoose : Spawn → Model → Landed
-spawnLoose x m = unless (spawnRefusal (m .desk) (m .voices) (x .def) (x .bus)) m (place 0 (x .def) (pans (x .pan)) Loose (x .bus) m)
+spawnLoose x m = unless (spawnRefusal (m .desk) (m .voices) (x .def) (x .bus)) m (place 0 x Loose m)
 
 -- ---- "A free of an unknown voice does nothing."
 abbrev pub freed : Option Voice → Model → Model

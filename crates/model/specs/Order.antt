@@ -7,7 +7,6 @@ use lib.Ieee.{Float}
 use Rattle.lists.specs.Find.{find}
 use Rattle.level.specs.Level.{levelOf}
 use Rattle.node.specs.Node.{reported}
-pub use Rattle.node.specs.Node.{withLast}
 use Rattle.node.specs.declared.name.Name.{Name}
 use Rattle.node.specs.declared.order.LastOrder.{LastOrder}
 use Rattle.node.specs.declared.order.LastOrder.the-variants as LastOrder
@@ -22,6 +21,8 @@ use Rattle.store.specs.declared.answer.Outcome.the-variants.{Applied, NoVoice, 
 use Rattle.store.specs.declared.voices.Voice.{Voice}
 use Rattle.model.specs.Desk.{Desk, withGraph}
 use Rattle.model.specs.Voice.{isVoice, id}
+
+pub use Rattle.node.specs.Node.{withLast}
 
 -- the node's record is replaced; the graph stays prepared
 abbrev pub withNode : Node → Desk → Desk

@@ -16,11 +16,11 @@ use Rattle.scheduler.specs.declared.event.Event.{Event}
 use Rattle.store.specs.declared.answer.Rendered.{Rendered}
 use Rattle.store.specs.declared.answer.Rendered.the-variants as Rendered
 use Rattle.store.specs.declared.voices.Voice.{Voice}
+use Rattle.graph.specs.View.{preparedBy}
 use Rattle.model.specs.Desk.{Desk, withGraph, withEvents, withClock, sounding}
 use Rattle.model.specs.Voice.{moved}
 use Rattle.model.specs.Model.{Model, free}
 use Rattle.model.specs.Order.{order}
-use Rattle.graph.specs.View.{preparedBy}
 
 -- ---- prepare: 13, 14, or prepared with the processing order; a refusal changes nothing
 abbrev pub prepareOutcome : Desk → graph.Outcome

@@ -110,24 +110,24 @@ landGraph w def pan bus p g =
 abbrev pub nextVoice : Desk → VoiceId
 nextVoice d = record { 0 = d .spawned + 1 }
 
-abbrev pub landDesk : SynthDef → Bool → NodeId → ℕ → Desk → Desk
-landDesk def pan bus p d = oneMoreVoice (withGraph (landGraph (nextVoice d) def pan bus p (d .graph)) d)
+abbrev pub landDesk : Spawn → ℕ → Desk → Desk
+landDesk x p d = oneMoreVoice (withGraph (landGraph (nextVoice d) (x .def) (pans (x .pan)) (x .bus) p (d .graph)) d)
 
-abbrev pub newcomer : SynthDef → Bool → VoiceState → NodeId → ℕ → Desk → Voice
-newcomer def pan s bus p d =
+abbrev pub newcomer : Spawn → VoiceState → ℕ → Desk → Voice
+newcomer x s p d =
     record {
       id = nextVoice d;
       birth = d .clock;
-      bus = bus;
+      bus = x .bus;
       port = p;
       first = id (d .graph .next);
-      count = length (nodeRows (def .nodes));
-      output = id (d .graph .next + def .output);
-      panned = pan;
+      count = length (nodeRows (x .def .nodes));
+      output = id (d .graph .next + x .def .output);
+      panned = pans (x .pan);
       sequence = d .sequence;
       state = s;
-      params = def .params;
-      plan = planOf def;
+      params = x .def .params;
+      plan = planOf (x .def);
     }
 
 -- "tracked under a budget"; "without a budget nobody is tracked, stolen or reclaimed"

@@ -1,10 +1,10 @@
 use mathlib.Core.Path.{ap, _∙_}
+use mathlib.Core.Bool.{true}
 use borrow.Author.Needs.{needs}
 use Rattle.model.specs.Desk.{withSteals}
 use Rattle.model.specs.Model.{Model}
 use Rattle.model.specs.Spawn.{recorded}
 use Rattle.model.specs.View.{deskOf, voicesOf}
-use mathlib.Core.Bool.{true}
 use Rattle.engine.proofs.going.cut_off.Statement.{statement}
 use Rattle.engine.proofs.going.cut_off.Tie as tie
 

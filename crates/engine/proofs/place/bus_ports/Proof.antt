@@ -1,4 +1,3 @@
-use Prim.Native.Nat.{_-_}
 use borrow.Author.Needs.{needs}
 use Rattle.engine.proofs.place.bus_ports.Statement.{statement}
 use Rattle.engine.proofs.place.bus_ports.Tie as tie

@@ -1,10 +1,10 @@
-use mathlib.Core.Path.{_≡_, sym, ap, _∙_}
 use Prim.Native.Nat.{min}
+use mathlib.Core.Path.{sym, ap, _∙_}
 use borrow.Author.Needs.{needs}
 use Rattle.model.specs.Model.{portFree, place}
 use Rattle.model.specs.View.{modelOf}
-use Rattle.reclaim.specs.Reclaimed.{reclaimed}
 use Rattle.reclaim.proofs.Steps.{port-some, port-none}
+use Rattle.model.specs.Spawn.{spawnOf}
 use Rattle.engine.proofs.Placing.{place-port, place-over, place-reclaimed, headroom-reclaimed}
 use Rattle.engine.proofs.place.place.Statement.{statement}
 use Rattle.engine.proofs.place.place.Tie as tie
@@ -24,7 +24,7 @@ returns c =
     let a = free .before .args in
     let p = c .before .before .first .given .0 .0 in
     c .land-voice .ensures
-    ∙ sym (place-port (a .def) (a .pan) (a .state) (a .bus) (modelOf (a .s)) (min (a .fuel) 64) p (port-some (portFree (a .bus) (modelOf (a .s))) p (sym (free .port-free .ensures) ∙ c .before .before .first .given .1)))
+    ∙ sym (place-port (spawnOf (a .def) (a .bus) (a .pan)) (a .state) (modelOf (a .s)) (min (a .fuel) 64) p (port-some (portFree (a .bus) (modelOf (a .s))) p (sym (free .port-free .ensures) ∙ c .before .before .first .given .1)))
 
 enum-told : tie.Need-enum-told
 enum-told c = search needs
@@ -58,9 +58,9 @@ returns-2 c =
     let left = modelOf (now .reclaim .result) in
     let p = c .before .before .port .given .0 .0 in
     c .land-voice2 .ensures
-    ∙ sym (place-port (a .def) (a .pan) (a .state) (a .bus) left 0 p (port-some (portFree (a .bus) left) p (sym (free .port-free2 .ensures) ∙ c .before .before .port .given .1)))
-    ∙ ap (place 0 (a .def) (a .pan) (a .state) (a .bus)) (now .reclaim .ensures)
-    ∙ sym (place-reclaimed (a .def) (a .pan) (a .state) (a .bus) (min (a .fuel) 64) (modelOf (a .s)))
+    ∙ sym (place-port (spawnOf (a .def) (a .bus) (a .pan)) (a .state) left 0 p (port-some (portFree (a .bus) left) p (sym (free .port-free2 .ensures) ∙ c .before .before .port .given .1)))
+    ∙ ap (place 0 (spawnOf (a .def) (a .bus) (a .pan)) (a .state)) (now .reclaim .ensures)
+    ∙ sym (place-reclaimed (spawnOf (a .def) (a .bus) (a .pan)) (a .state) (min (a .fuel) 64) (modelOf (a .s)))
 
 returns-3 : tie.Need-returns-3
 returns-3 c =
@@ -69,9 +69,9 @@ returns-3 c =
     let a = now .before .before .before .before .args in
     let left = modelOf (now .reclaim .result) in
     c .refuse .ensures .0
-    ∙ sym (place-over (a .def) (a .pan) (a .state) (a .bus) left (port-none (portFree (a .bus) left) (sym (free .port-free2 .ensures) ∙ c .before .enum-told2 .given .1)))
-    ∙ ap (place 0 (a .def) (a .pan) (a .state) (a .bus)) (now .reclaim .ensures)
-    ∙ sym (place-reclaimed (a .def) (a .pan) (a .state) (a .bus) (min (a .fuel) 64) (modelOf (a .s)))
+    ∙ sym (place-over (spawnOf (a .def) (a .bus) (a .pan)) (a .state) left (port-none (portFree (a .bus) left) (sym (free .port-free2 .ensures) ∙ c .before .enum-told2 .given .1)))
+    ∙ ap (place 0 (spawnOf (a .def) (a .bus) (a .pan)) (a .state)) (now .reclaim .ensures)
+    ∙ sym (place-reclaimed (spawnOf (a .def) (a .bus) (a .pan)) (a .state) (min (a .fuel) 64) (modelOf (a .s)))
 
 pub place-spec : {M : Type 1} → statement M
 place-spec =

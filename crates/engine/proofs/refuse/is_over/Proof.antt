@@ -1,7 +1,7 @@
 use Prim.Native.Nat.{ℕ, _+_, _≤_, _<_, _-_}
+use native.Mathlib.Omega.{arith}
 use mathlib.Core.Path.{_≡_, refl, sym}
 use mathlib.Core.Bool.{Bool, true, false}
-use native.Mathlib.Omega.{arith}
 use lib.Dec.{ltb}
 use borrow.Author.Tests.{ltb-true, ltb-false, lt-ltb, le-ltb}
 use borrow.Author.Needs.{needs}

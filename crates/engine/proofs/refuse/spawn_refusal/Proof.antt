@@ -1,10 +1,9 @@
-use Prim.Native.Nat.{_-_}
 use mathlib.Core.Path.{_≡_, sym, ap, _∙_}
 use mathlib.Core.Bool.{true}
 use mathlib.Core.Option.{Option, none}
+use lib.Dec.{eqb}
 use borrow.Author.Tests.{not-true, not-false}
 use borrow.Author.Needs.{needs}
-use lib.Dec.{eqb}
 use Rattle.node.specs.Rows.{nodesOf}
 use Rattle.node.specs.declared.record.Node.{Node}
 use Rattle.node.specs.declared.refusal.Refusal.{Refusal}
@@ -14,8 +13,8 @@ use Rattle.graph.specs.Refuse.{when, hostTest}
 use Rattle.graph.specs.Tables.{answerOf}
 use Rattle.model.specs.Refuse.{orElse, noHeadroom, noIds}
 use Rattle.model.specs.View.{deskOf, voicesOf}
-use Rattle.engine.proofs.Refusals.{above-refused, above-done}
 use Rattle.synthdef.specs.Limits.{allowed}
+use Rattle.engine.proofs.Refusals.{above-refused, above-done}
 use Rattle.engine.proofs.refuse.spawn_refusal.Statement.{statement}
 use Rattle.engine.proofs.refuse.spawn_refusal.Tie as tie
 

@@ -1,4 +1,4 @@
-use Prim.Native.Nat.{_≤_, _-_, min}
+use Prim.Native.Nat.{_≤_, min}
 use native.Mathlib.Omega.{arith}
 use mathlib.Core.Path.{_≡_, sym, ap, _∙_}
 use lib.ListN.{length}
@@ -6,7 +6,7 @@ use borrow.Author.Needs.{needs}
 use Rattle.edges.proofs.Loops.{rows-small}
 use Rattle.store.specs.declared.voices.VoiceState.the-variants.{Tracked}
 use Rattle.model.specs.Model.{place}
-use Rattle.model.specs.Spawn.{tries, stateUnder}
+use Rattle.model.specs.Spawn.{tries, stateUnder, spawnOf}
 use Rattle.model.specs.View.{modelOf, voicesOf}
 use Rattle.engine.proofs.spawn.settle.Statement.{statement}
 use Rattle.engine.proofs.spawn.settle.Tie as tie
@@ -30,7 +30,7 @@ returns : tie.Need-returns
 returns c =
     let a = c .before .before .before .before .args in
     c .place .ensures
-    ∙ sym (ap (λ b. place (tries b (voicesOf (a .s .voices))) (a .def) (a .pan) (stateUnder b) (a .bus) (modelOf (a .s))) (c .before .enum-told .given .1))
+    ∙ sym (ap (λ b. place (tries b (voicesOf (a .s .voices))) (spawnOf (a .def) (a .bus) (a .pan)) (stateUnder b) (modelOf (a .s))) (c .before .enum-told .given .1))
 
 returns-2 : tie.Need-returns-2
 returns-2 c =
@@ -39,9 +39,9 @@ returns-2 c =
     let small : length vs ≤ 64 = rows-small 64 (a .s .voices .count) (a .s .voices .rows) in
     let all : min (length vs) 64 ≡ length vs = omega arith in
     c .place2 .ensures
-    ∙ ap (λ n. place (min n 64) (a .def) (a .pan) Tracked (a .bus) (modelOf (a .s))) (c .before .voice-count .ensures)
-    ∙ ap (λ n. place n (a .def) (a .pan) Tracked (a .bus) (modelOf (a .s))) all
-    ∙ sym (ap (λ b. place (tries b (voicesOf (a .s .voices))) (a .def) (a .pan) (stateUnder b) (a .bus) (modelOf (a .s))) (c .before .before .before .enum-told2 .given .1))
+    ∙ ap (λ n. place (min n 64) (spawnOf (a .def) (a .bus) (a .pan)) Tracked (modelOf (a .s))) (c .before .voice-count .ensures)
+    ∙ ap (λ n. place n (spawnOf (a .def) (a .bus) (a .pan)) Tracked (modelOf (a .s))) all
+    ∙ sym (ap (λ b. place (tries b (voicesOf (a .s .voices))) (spawnOf (a .def) (a .bus) (a .pan)) (stateUnder b) (modelOf (a .s))) (c .before .before .before .enum-told2 .given .1))
 
 pub settle-spec : {M : Type 1} → statement M
 settle-spec =

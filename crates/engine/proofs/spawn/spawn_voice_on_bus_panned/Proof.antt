@@ -1,13 +1,12 @@
-use Prim.Native.Nat.{_-_}
 use mathlib.Core.Path.{sym, ap, _∙_}
 use borrow.Author.Needs.{needs}
 use Rattle.model.specs.Refuse.{spawnRefusal}
-use Rattle.model.specs.Spawn.{pans}
+use Rattle.model.specs.Spawn.{spawnOf}
 use Rattle.model.specs.View.{deskOf, modelOf, voicesOf}
-use Rattle.engine.proofs.Refusals.{answer-done}
 use Rattle.store.specs.declared.voices.VoiceState.the-variants.{Loose}
 use Rattle.model.specs.Model.{unless, place}
 use Rattle.model.proofs.Refused.{notSpawned, place-left}
+use Rattle.engine.proofs.Refusals.{answer-done}
 use Rattle.engine.proofs.Spawning.{roomy, roomy-head, answer-some}
 use Rattle.engine.proofs.spawn.spawn_voice_on_bus_panned.Statement.{statement}
 use Rattle.engine.proofs.spawn.spawn_voice_on_bus_panned.Tie as tie
@@ -24,14 +23,11 @@ refuse-requires c κs = search needs
 enum-told : tie.Need-enum-told
 enum-told c = search needs
 
-pans-requires : tie.Need-pans-requires
-pans-requires c κs = search needs
-
 place-requires : tie.Need-place-requires
 place-requires c κs =
-    let told = c .before .before .before in
+    let told = c .before .before in
     let a = told .before .args in
-    let room = roomy (modelOf (a .s)) (a .def) (a .bus) (answer-done (spawnRefusal (deskOf (a .s)) (voicesOf (a .s .voices)) (a .def) (a .bus)) (sym (told .spawn-refusal .ensures) ∙ c .before .enum-told .given .1)) in
+    let room = roomy (modelOf (a .s)) (a .def) (a .bus) (answer-done (spawnRefusal (deskOf (a .s)) (voicesOf (a .s .voices)) (a .def) (a .bus)) (sym (told .spawn-refusal .ensures) ∙ c .enum-told .given .1)) in
     roomy-head (a .def) (modelOf (a .s)) room
 
 returns : tie.Need-returns
@@ -41,15 +37,15 @@ returns c =
     let m = modelOf (a .s) in
     let why = c .before .before .test .given .0 .0 in
     let is = answer-some (spawnRefusal (m .desk) (m .voices) (a .def) (a .bus)) why (sym (told .spawn-refusal .ensures) ∙ c .before .before .test .given .1) in
-    (c .refuse .ensures .0 ∙ sym (ap (λ o. unless o m (place 0 (a .def) (pans (a .pan)) Loose (a .bus) m)) is), λ k e h. c .refuse .ensures .1)
+    (c .refuse .ensures .0 ∙ sym (ap (λ o. unless o m (place 0 (spawnOf (a .def) (a .bus) (a .pan)) Loose m)) is), λ k e h. c .refuse .ensures .1)
 
 returns-2 : tie.Need-returns-2
 returns-2 c =
-    let told = c .before .before .before .before in
+    let told = c .before .before .before in
     let a = told .before .args in
     let m = modelOf (a .s) in
-    let is = answer-done (spawnRefusal (m .desk) (m .voices) (a .def) (a .bus)) (sym (told .spawn-refusal .ensures) ∙ c .before .before .enum-told .given .1) in
-    (c .place .ensures ∙ ap (λ b. place 0 (a .def) b Loose (a .bus) m) (c .before .pans .ensures) ∙ sym (ap (λ o. unless o m (place 0 (a .def) (pans (a .pan)) Loose (a .bus) m)) is), λ k e h. absurd (h (place-left (a .def) (c .before .pans .result) Loose (a .bus) 0 m k (ap notSpawned (ap (λ x. x .answer) (sym (c .place .ensures)) ∙ e)) .0)))
+    let is = answer-done (spawnRefusal (m .desk) (m .voices) (a .def) (a .bus)) (sym (told .spawn-refusal .ensures) ∙ c .before .enum-told .given .1) in
+    (c .place .ensures ∙ sym (ap (λ o. unless o m (place 0 (spawnOf (a .def) (a .bus) (a .pan)) Loose m)) is), λ k e h. absurd (h (place-left (spawnOf (a .def) (a .bus) (a .pan)) Loose 0 m k (ap notSpawned (ap (λ x. x .answer) (sym (c .place .ensures)) ∙ e)) .0)))
 
 pub spawn-voice-on-bus-panned-spec : {M : Type 1} → statement M
 spawn-voice-on-bus-panned-spec =
@@ -59,7 +55,6 @@ spawn-voice-on-bus-panned-spec =
     enum-known-test
     refuse-requires
     enum-told
-    pans-requires
     place-requires
     returns
     returns-2)

@@ -1,4 +1,3 @@
-use Prim.Native.Nat.{_-_}
 use mathlib.Core.Path.{_≡_, sym, ap, _∙_}
 use mathlib.Core.Option.{none, some}
 use borrow.Author.Needs.{needs}
@@ -6,6 +5,7 @@ use Rattle.lists.specs.Find.{find}
 use Rattle.model.specs.Voice.{isVoice}
 use Rattle.model.specs.Model.{settle, stealThen}
 use Rattle.model.specs.View.{modelOf}
+use Rattle.model.specs.Spawn.{spawnOf}
 use Rattle.engine.proofs.Spawning.{roomy-fade, roomy-steal, roomy-head}
 use Rattle.engine.proofs.spawn.steal_then.Statement.{statement}
 use Rattle.engine.proofs.spawn.steal_then.Tie as tie
@@ -28,8 +28,8 @@ returns c =
     let m = modelOf (a .s) in
     let is : find (isVoice (a .w)) (m .voices) ≡ some (found .find-voice .result .voice) = sym (found .find-voice .ensures) ∙ rw (c .before .before .before .if1 .taken) in
     c .settle .ensures
-    ∙ ap (settle (a .def) (a .pan) (a .bus)) (c .before .steal-voice .ensures)
-    ∙ sym (ap (λ o. stealThen o (a .def) (a .pan) (a .bus) m) is)
+    ∙ ap (settle (spawnOf (a .def) (a .bus) (a .pan))) (c .before .steal-voice .ensures)
+    ∙ sym (ap (λ o. stealThen o (spawnOf (a .def) (a .bus) (a .pan)) m) is)
 
 settle-requires-2 : tie.Need-settle-requires-2
 settle-requires-2 c κs = roomy-head (c .before .before .before .args .def) (modelOf (c .before .before .before .args .s)) (c .before .before .before .pre)
@@ -40,7 +40,7 @@ returns-2 c =
     let a = found .before .before .args in
     let m = modelOf (a .s) in
     let is : find (isVoice (a .w)) (m .voices) ≡ none = sym (found .find-voice .ensures) ∙ rw (c .before .if1 .left) in
-    c .settle2 .ensures ∙ sym (ap (λ o. stealThen o (a .def) (a .pan) (a .bus) m) is)
+    c .settle2 .ensures ∙ sym (ap (λ o. stealThen o (spawnOf (a .def) (a .bus) (a .pan)) m) is)
 
 pub steal-then-spec : {M : Type 1} → statement M
 steal-then-spec =

@@ -1,9 +1,8 @@
-use Prim.Native.Nat.{_-_}
 use mathlib.Core.Path.{sym, ap, _∙_}
 use mathlib.Core.Bool.{false}
+use mathlib.Core.List.{map}
 use borrow.Author.Tests.{not-true, not-false}
 use borrow.Author.Needs.{needs}
-use mathlib.Core.List.{map}
 use Rattle.graph.specs.Tables.{viewOf}
 use Rattle.edges.specs.Ports.{portFrom}
 use Rattle.landing.specs.Faded.{fadedFrom}
