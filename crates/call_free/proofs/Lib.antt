@@ -1,0 +1,3 @@
+pub mod Together
+pub mod Forgets
+pub mod Frees
