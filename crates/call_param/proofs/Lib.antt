@@ -1,0 +1,3 @@
+pub mod LastWords
+pub mod Copying
+pub mod Whole

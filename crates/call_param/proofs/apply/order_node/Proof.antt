@@ -1,0 +1,71 @@
+use mathlib.Core.Path.{sym, _∙_}
+use borrow.Author.Tests.{not-true, not-false}
+use borrow.Author.Needs.{needs}
+use Rattle.call_param.proofs.Whole.{node-lost, node-off, node-on, still-first}
+use Rattle.call_param.proofs.apply.order_node.Statement.{statement}
+use Rattle.call_param.proofs.apply.order_node.Tie as tie
+
+at-most-requires : tie.Need-at-most-requires
+at-most-requires c κs = search needs
+
+row-left-requires : tie.Need-row-left-requires
+row-left-requires c κs = search needs
+
+same-length : tie.Need-same-length
+same-length c = search needs
+
+returns : tie.Need-returns
+returns c =
+    let s = c .before .before .before .before .before .before .args in
+    let n = c .before .before .before .at-most in
+    let p = c .before .row-left in
+    node-lost (s .freed .now) (s .t .now) (s .count) (s .k) (s .o) (n .result) (p .result) (n .ensures) (p .ensures) (c .if1 .taken)
+
+takes-at-requires : tie.Need-takes-at-requires
+takes-at-requires c κs = search needs
+
+same-length-2 : tie.Need-same-length-2
+same-length-2 c = search needs
+
+returns-2 : tie.Need-returns-2
+returns-2 c =
+    let s = c .before .before .before .before .before .before .before .before .before .args in
+    let n = c .before .before .before .before .before .before .at-most in
+    let p = c .before .before .before .before .row-left in
+    node-off (s .freed .now) (s .t .now) (s .count) (s .k) (s .o) (n .result) (p .result) (n .ensures) (p .ensures) (c .before .before .before .if1 .left) (sym (c .before .takes-at .ensures) ∙ not-true (c .before .takes-at .result) (c .if2 .taken))
+
+put-last-requires : tie.Need-put-last-requires
+put-last-requires c κs = search needs
+
+copy-on-requires : tie.Need-copy-on-requires
+copy-on-requires c κs =
+    let s = c .before .before .before .before .before .before .before .before .before .before .before .before .before .before .args in
+    let n = c .before .before .before .before .before .before .before .before .before .before .before .at-most in
+    let p = c .before .before .before .before .before .before .before .before .before .row-left in
+    still-first (s .freed .now) (s .t .now) (s .count) (s .k) (s .o) (n .result) (p .result) (n .ensures) (p .ensures) (c .before .before .before .before .before .before .before .before .if1 .left) (c .before .before .before .put-last .last .0) (c .before .before .before .put-last .ensures)
+
+same-length-3 : tie.Need-same-length-3
+same-length-3 c = search needs
+
+returns-3 : tie.Need-returns-3
+returns-3 c =
+    let s = c .before .before .before .before .before .before .before .before .before .before .before .before .before .before .before .before .before .args in
+    let n = c .before .before .before .before .before .before .before .before .before .before .before .before .before .before .at-most in
+    let p = c .before .before .before .before .before .before .before .before .before .before .before .before .row-left in
+    node-on (s .freed .now) (s .t .now) (s .count) (s .k) (s .o) (n .result) (p .result) (n .ensures) (p .ensures) (c .before .before .before .before .before .before .before .before .before .before .before .if1 .left) (c .before .before .before .before .before .before .put-last .last .0) (c .before .before .before .before .before .before .put-last .ensures) (sym (c .before .before .before .before .before .before .before .before .before .takes-at .ensures) ∙ not-false (c .before .before .before .before .before .before .before .before .before .takes-at .result) (c .before .before .before .before .before .before .before .before .if2 .left)) (c .before .before .copy-on .last .0) (c .before .before .copy-on .ensures)
+
+pub order-node-spec : {M : Type 1} → statement M
+order-node-spec =
+    tie.close
+    (tie.spec
+    at-most-requires
+    row-left-requires
+    same-length
+    returns
+    takes-at-requires
+    same-length-2
+    returns-2
+    put-last-requires
+    copy-on-requires
+    same-length-3
+    returns-3)
