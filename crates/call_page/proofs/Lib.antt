@@ -1,0 +1,4 @@
+mod Answers
+mod Digits
+mod Lines
+mod Puts
