@@ -12,7 +12,7 @@ use Rattle.graph.specs.Tables.{sinkOf}
 use Rattle.graph.proofs.Calls.{same-view}
 use Rattle.graph_tables.specs.Removal.{Removed}
 use Rattle.graph_tables.specs.declared.removal.Left.{Left}
-use Rattle.voice_table.specs.Looked.{isAnyOf}
+use Rattle.voice_rows.specs.Listed.{isAnyOf}
 use Rattle.voice_rows.specs.Rows.{voicesIn}
 use Rattle.memory.specs.declared.state.State.{State}
 use Rattle.memory.specs.View.{Memory, modelOf, deskOf, graphOf}

@@ -15,7 +15,7 @@ use Rattle.store.specs.declared.voices.Voice.{Voice}
 use Rattle.model.specs.Desk.{Desk, withGraph}
 use Rattle.model.specs.Model.{Model, gone}
 use Rattle.model.specs.Voice.{isVoice}
-use Rattle.voice_table.specs.Looked.{isAnyOf}
+use Rattle.voice_rows.specs.Listed.{isAnyOf}
 use Rattle.call_free.specs.Forgotten.{goneIds}
 
 -- another graph and other voices

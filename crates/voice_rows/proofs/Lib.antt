@@ -3,3 +3,4 @@ pub mod Records
 pub mod Words
 pub mod Reading
 pub mod Earliest
+pub mod Picked

@@ -21,7 +21,7 @@ ghost use lib.ListN.{length, take, getD};
 ghost use Rattle.voice.specs.Policy.{candidatesOf};
 ghost use Rattle.graph.specs.Node.{nodeAt};
 ghost use Rattle.model.specs.Voice.{isTracked, counted, nodeLevel};
-ghost use Rattle.voice_table.specs.Levels.{levelAt, candidateAt, candidatesAt};
+ghost use Rattle.voice_rows.specs.Levels.{levelAt, candidateAt, candidatesAt};
 ghost use Rattle.graph_rows.specs.Node.{nodesIn};
 ghost use Rattle.voice_rows.specs.Rows.{voiceOf, voicesIn};
 

@@ -13,7 +13,7 @@ ghost use lib.ListN.{length, take};
 ghost use Rattle.lists.specs.Keep.{keep};
 ghost use Rattle.lists.specs.Find.{find};
 ghost use Rattle.model.specs.Voice.{isVoice};
-ghost use Rattle.voice_table.specs.Looked.{isAnyOf, pushedVoice};
+ghost use Rattle.voice_rows.specs.Listed.{isAnyOf, pushedVoice};
 ghost use Rattle.row_fields.specs.Row.{RowsAre};
 ghost use Rattle.voice_rows.specs.Rows.{voicesIn};
 ghost use Rattle.voice_rows.specs.Found.{FoundAt};

@@ -6,8 +6,8 @@ use mathlib.Core.Bool.{true, false}
 use lib.ListN.{length-map, length-set, length, take, getD}
 use borrow.Author.Needs.{needs}
 use Rattle.model.specs.Voice.{counted}
-use Rattle.voice_table.specs.Levels.{candidateAt, candidatesAt}
-use Rattle.voice_table.proofs.Picked.{picked-on, picked-off}
+use Rattle.voice_rows.specs.Levels.{candidateAt, candidatesAt}
+use Rattle.voice_rows.proofs.Picked.{picked-on, picked-off}
 use Rattle.words.proofs.InWords.{take-count}
 use Rattle.words.proofs.Rows.{rows-long}
 use Rattle.graph_rows.specs.Node.{nodesIn}

@@ -7,7 +7,7 @@ use Rattle.lists.specs.Keep.{keep, keep-same}
 use Rattle.graph.proofs.Together.{listed-one}
 use Rattle.store.specs.declared.voices.Voice.{Voice}
 use Rattle.model.specs.Voice.{isVoice}
-use Rattle.voice_table.specs.Looked.{isAnyOf}
+use Rattle.voice_rows.specs.Listed.{isAnyOf}
 use Rattle.voice_rows.specs.Rows.{voicesIn}
 use Rattle.voice_rows.proofs.table.remove_voice.Statement.{statement}
 use Rattle.voice_rows.proofs.table.remove_voice.Tie as tie

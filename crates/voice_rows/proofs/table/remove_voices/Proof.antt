@@ -8,7 +8,7 @@ use borrow.Author.Needs.{needs}
 use Rattle.node.specs.declared.record.VoiceId.{VoiceId}
 use Rattle.edges.specs.Wiring.{listed}
 use Rattle.store.specs.declared.voices.Voice.{Voice}
-use Rattle.voice_table.specs.Looked.{isAnyOf}
+use Rattle.voice_rows.specs.Listed.{isAnyOf}
 use Rattle.words.proofs.InWords.{ClosingIn, words-start, words-keep, words-drop, words-done}
 use Rattle.row_fields.proofs.Row.{rows-are}
 use Rattle.voice_rows.specs.Rows.{voiceOf}
