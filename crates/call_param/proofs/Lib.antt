@@ -1,3 +1,4 @@
 pub mod LastWords
 pub mod Copying
+pub mod Replacing
 pub mod Whole

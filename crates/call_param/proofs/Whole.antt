@@ -2,14 +2,12 @@
 use Prim.Native.Nat.{ℕ, _+_, _/_, _≤_, _<_, min}
 use native.Mathlib.Omega.{arith}
 use mathlib.Core.Path.{_≡_, refl, sym, ap, subst, _∙_}
-use mathlib.Core.List.{List, [], map}
+use mathlib.Core.List.{List, []}
 use mathlib.Core.Option.{Option, none, some}
 use mathlib.Core.Bool.{Bool, true, false, not, cond, _&&_}
-use lib.Dec.{eqb}
-use lib.ListN.{length, take, getD, set, length-take}
-use lib.Seq.{take-set-lt, getD-set-same, getD-take}
+use lib.ListN.{length, take, getD}
 use borrow.Author.Tests.{eqb-true}
-use Rattle.lists.specs.Find.{find, none-find, find-same, find-in}
+use Rattle.lists.specs.Find.{find, none-find, find-same}
 use Rattle.node.specs.Name.{nameOf}
 use Rattle.node.specs.declared.name.Name.{Name}
 use Rattle.node.specs.declared.order.LastOrder.{LastOrder}
@@ -17,11 +15,9 @@ use Rattle.node.specs.declared.record.NodeId.{NodeId}
 use Rattle.node.specs.declared.record.VoiceId.{VoiceId}
 use Rattle.node.specs.declared.record.Node.{Node}
 use Rattle.words.specs.Place.{placeOf}
-use Rattle.words.proofs.Rows.{rows-long}
-use Rattle.words.proofs.Place.{counted, found-in, lost-in}
 use Rattle.edges.specs.Wiring.{listed}
 use Rattle.graph.specs.View.{withNodes}
-use Rattle.graph.specs.Node.{ownedByAny, nodeAt}
+use Rattle.graph.specs.Node.{nodeAt}
 use Rattle.graph_rows.specs.Node.{nodeOf, nodesIn}
 use Rattle.synthdef.specs.Tables.{paramRows}
 use Rattle.synthdef.specs.Params.{paramNode, asParamNode}
@@ -44,7 +40,7 @@ use Rattle.memory.specs.Lent.{lentParams}
 use Rattle.memory.specs.Called.{Called}
 use Rattle.call_param.specs.Left.{isLeft, isKnown, Reply, reply, replacedLeft, replyNode, replyParam, replyVoice, orderLeft}
 use Rattle.call_param.specs.Replies.{Replies}
-use Rattle.call_param.proofs.Copying.{place-set, map-set}
+use Rattle.call_param.proofs.Replacing.{first-lost, first-found}
 
 -- no: the very words
 pub refused : (c : List ℕ) (count : ℕ) (o : Outcome) (r : Reply) → reply o (take count (nodesIn c)) ≡ r → Replies c c count o r
@@ -55,9 +51,6 @@ replies-same old new count o r u e h = subst (Replies old new count o) e h
 
 -- ---- the node
 module _ (l c : List ℕ) (count k : ℕ) (o : LastOrder) (n p : ℕ) (e : n ≡ min count (length c / 21)) (at : p ≡ placeOf (isLeft l (id k)) (take count (nodesIn c))) where
-  abbrev q : Node → Bool
-  q = isLeft l (id k)
-
   abbrev ns : List Node
   ns = take count (nodesIn c)
 
@@ -65,64 +58,20 @@ module _ (l c : List ℕ) (count k : ℕ) (o : LastOrder) (n p : ℕ) (e : n ≡
   node = getD (nodesIn c) p (nodeOf [])
 
   abbrev whole : Reply
-  whole = replyNode l (find q ns) o ns
-
-  many : n ≡ length ns
-  many = sym (counted 21 nodeOf c count n e)
+  whole = replyNode l (find (isLeft l (id k)) ns) o ns
 
   pub node-lost : n ≤ p → Replies c c count NotTaken whole
-  node-lost h = refused c count NotTaken whole (ap (λ x. replyNode l x o ns) (sym (lost-in 21 nodeOf q c count p n at many h)))
+  node-lost h = refused c count NotTaken whole (ap (λ x. replyNode l x o ns) (sym (first-lost l c count k n p e at h)))
 
   module _ (h : p < n) where
-    there : find q ns ≡ some node
-    there = found-in 21 nodeOf q c count p n at many h
+    by-takes : (b : Bool) → takes o node ≡ b → whole ≡ cond b (reply Applied (replacedLeft l ns (withLast o node))) (reply NotTaken ns)
+    by-takes b t = ap (λ x. replyNode l x o ns) (first-found l c count k n p e at h) ∙ ap (λ b. cond b (reply Applied (replacedLeft l ns (withLast o node))) (reply NotTaken ns)) t
 
     pub node-off : takes o node ≡ false → Replies c c count NotTaken whole
-    node-off t = refused c count NotTaken whole (sym (ap (λ x. replyNode l x o ns) there ∙ ap (λ b. cond b (reply Applied (replacedLeft l ns (withLast o node))) (reply NotTaken ns)) t))
+    node-off t = refused c count NotTaken whole (sym (by-takes false t))
 
-    below : p < count
-    below = omega (arith, many, length-take count (nodesIn c))
-
-    room : p < length (nodesIn c)
-    room = omega (arith, rows-long 21 nodeOf c)
-
-    -- the row with its last order stored: it passes as before
-    module _ (put : List ℕ) (stored : nodesIn put ≡ set (nodesIn c) p (withLast o node)) where
-      front : take count (nodesIn put) ≡ set ns p (withLast o node)
-      front = ap (take count) stored ∙ take-set-lt count (nodesIn c) p (withLast o node) below
-
-      read : getD ns p (nodeOf []) ≡ node
-      read = getD-take count (nodesIn c) p (nodeOf []) below
-
-      pub still-first : p ≡ placeOf q (take count (nodesIn put))
-      still-first = at ∙ sym (ap (placeOf q) front ∙ place-set q (nodeOf []) (withLast o node) ns p (sym (ap q read)))
-
-      its-id : k ≡ node .id .0
-      its-id = sym (eqb-true (node .id .0) k (second (not (ownedByAny l node)) (eqb (node .id .0) k) (find-in q ns node there .1)))
-        where
-          second : (a b : Bool) → (a && b) ≡ true → b ≡ true
-          second true b t = t
-          second false b t = absurd (let z : _≡_ {A = ℕ} 0 1 = cc in omega arith)
-
-      pub node-on : takes o node ≡ true → (new : List ℕ) → take count (nodesIn new) ≡ map (λ x. cond (q x) (getD (nodesIn put) p (nodeOf [])) x) (take count (nodesIn put)) → Replies c new count Applied whole
-      node-on t new copied =
-          let same : getD (nodesIn put) p (nodeOf []) ≡ withLast o node = ap (λ r. getD r p (nodeOf [])) stored ∙ getD-set-same (nodesIn c) p (withLast o node) (nodeOf []) room in
-          let first : cond (q node) (withLast o node) (withLast o node) ≡ cond (q (getD ns p (nodeOf []))) (withLast o node) (getD ns p (nodeOf [])) =
-          either (q node) ∙ sym (ap (λ b. cond b (withLast o node) node) (find-in q ns node there .1)) ∙ ap (λ x. cond (q x) (withLast o node) x) (sym read) in
-          record {
-            is = ap (reply Applied)
-                (copied
-                ∙ ap (λ y. map (λ x. cond (q x) y x) (take count (nodesIn put))) same
-                ∙ ap (map (λ x. cond (q x) (withLast o node) x)) front
-                ∙ map-set (λ x. cond (q x) (withLast o node) x) (nodeOf []) (withLast o node) ns p first
-                ∙ ap (λ j. map (λ x. cond (isLeft l (id j) x) (withLast o node) x) ns) its-id)
-                ∙ sym (ap (λ x. replyNode l x o ns) there ∙ ap (λ b. cond b (reply Applied (replacedLeft l ns (withLast o node))) (reply NotTaken ns)) t);
-            same = λ z. absurd (let y : _≡_ {A = ℕ} 0 1 = cc in omega arith);
-          }
-        where
-          either : (b : Bool) → cond b (withLast o node) (withLast o node) ≡ withLast o node
-          either true = refl
-          either false = refl
+    pub node-on : takes o node ≡ true → (new : List ℕ) → take count (nodesIn new) ≡ replacedLeft l ns (withLast o node) → Replies c new count Applied whole
+    node-on t new is = record { is = ap (reply Applied) is ∙ sym (by-takes true t); same = λ z. absurd (let y : _≡_ {A = ℕ} 0 1 = cc in omega arith) }
 
 -- ---- the voice
 module _ (l : List ℕ) (w : VoiceId) where

@@ -25,7 +25,7 @@ fn is_left(t: &[u32], i: usize, k: u64, freed: &[u64]) -> bool
 }
 
 // The row of the first such node among the first `count`; behind them where there is none.
-pub(crate) fn row_left(t: &[u32], count: usize, k: u64, freed: &[u64]) -> usize
+pub fn row_left(t: &[u32], count: usize, k: u64, freed: &[u64]) -> usize
     ensures { λ r. ⌜ r ≡ placeOf (isLeft (now (freed .entry)) (id k)) (take count (nodesIn (now (t .entry)))) ⌝ }
 {
     let n = at_most(count, t.len() / 21);
@@ -39,10 +39,9 @@ pub(crate) fn row_left(t: &[u32], count: usize, k: u64, freed: &[u64]) -> usize
     n
 }
 
-// The node in row `p`, the first such one, takes the place of those behind it.
-pub(crate) fn copy_on(t: &mut [u32], count: usize, p: usize, k: u64, freed: &[u64])
-    requires { ⌜ p ≡ placeOf (isLeft (now freed) (id k)) (take count (nodesIn (now t))) ⌝ }
-    ensures { λ _. ⌜ take count (nodesIn (now (t .exit))) ≡ map (λ x. cond (isLeft (now (freed .entry)) (id k) x) (getD (nodesIn (now (t .entry))) p (nodeOf [])) x) (take count (nodesIn (now (t .entry)))) ⌝ }
+// If `p` is the row of the first such node, that node takes the place of those behind it.
+pub fn copy_on(t: &mut [u32], count: usize, p: usize, k: u64, freed: &[u64])
+    ensures { λ _. ⌜ (p ≡ placeOf (isLeft (now (freed .entry)) (id k)) (take count (nodesIn (now (t .entry)))) → take count (nodesIn (now (t .exit))) ≡ map (λ x. cond (isLeft (now (freed .entry)) (id k) x) (getD (nodesIn (now (t .entry))) p (nodeOf [])) x) (take count (nodesIn (now (t .entry))))) ⌝ }
 {
     let n = at_most(count, t.len() / 21);
     let mut i = p;

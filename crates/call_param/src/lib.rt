@@ -2,5 +2,5 @@
 // touched.
 mod apply;
 mod last;
-mod left;
+pub mod left;
 pub mod param;

@@ -1,7 +1,12 @@
-use mathlib.Core.Path.{sym, _∙_}
+use mathlib.Core.Path.{refl, sym, _∙_}
+use mathlib.Core.List.{[]}
+use lib.ListN.{getD}
 use borrow.Author.Tests.{not-true, not-false}
 use borrow.Author.Needs.{needs}
-use Rattle.call_param.proofs.Whole.{node-lost, node-off, node-on, still-first}
+use Rattle.model.specs.Order.{withLast}
+use Rattle.graph_rows.specs.Node.{nodeOf, nodesIn}
+use Rattle.call_param.proofs.Replacing.{still-first, all-replaced}
+use Rattle.call_param.proofs.Whole.{node-lost, node-off, node-on}
 use Rattle.call_param.proofs.apply.order_node.Statement.{statement}
 use Rattle.call_param.proofs.apply.order_node.Tie as tie
 
@@ -38,11 +43,7 @@ put-last-requires : tie.Need-put-last-requires
 put-last-requires c κs = search needs
 
 copy-on-requires : tie.Need-copy-on-requires
-copy-on-requires c κs =
-    let s = c .before .before .before .before .before .before .before .before .before .before .before .before .before .before .args in
-    let n = c .before .before .before .before .before .before .before .before .before .before .before .at-most in
-    let p = c .before .before .before .before .before .before .before .before .before .row-left in
-    still-first (s .freed .now) (s .t .now) (s .count) (s .k) (s .o) (n .result) (p .result) (n .ensures) (p .ensures) (c .before .before .before .before .before .before .before .before .if1 .left) (c .before .before .before .put-last .last .0) (c .before .before .before .put-last .ensures)
+copy-on-requires c κs = search needs
 
 same-length-3 : tie.Need-same-length-3
 same-length-3 c = search needs
@@ -52,7 +53,14 @@ returns-3 c =
     let s = c .before .before .before .before .before .before .before .before .before .before .before .before .before .before .before .before .before .args in
     let n = c .before .before .before .before .before .before .before .before .before .before .before .before .before .before .at-most in
     let p = c .before .before .before .before .before .before .before .before .before .before .before .before .row-left in
-    node-on (s .freed .now) (s .t .now) (s .count) (s .k) (s .o) (n .result) (p .result) (n .ensures) (p .ensures) (c .before .before .before .before .before .before .before .before .before .before .before .if1 .left) (c .before .before .before .before .before .before .put-last .last .0) (c .before .before .before .before .before .before .put-last .ensures) (sym (c .before .before .before .before .before .before .before .before .before .takes-at .ensures) ∙ not-false (c .before .before .before .before .before .before .before .before .before .takes-at .result) (c .before .before .before .before .before .before .before .before .if2 .left)) (c .before .before .copy-on .last .0) (c .before .before .copy-on .ensures)
+    let put = c .before .before .before .before .before .before .put-last in
+    let copied = c .before .before .copy-on in
+    let takes = c .before .before .before .before .before .before .before .before .before .takes-at in
+    let low = c .before .before .before .before .before .before .before .before .before .before .before .if1 .left in
+    let new = withLast (s .o) (getD (nodesIn (s .t .now)) (p .result) (nodeOf [])) in
+    let first = still-first (s .freed .now) (s .t .now) (s .count) (s .k) (n .result) (p .result) (n .ensures) (p .ensures) low new refl refl (put .last .0) (put .ensures) in
+    let all = all-replaced (s .freed .now) (s .t .now) (s .count) (s .k) (n .result) (p .result) (n .ensures) (p .ensures) low new refl refl (put .last .0) (put .ensures) (copied .last .0) (copied .ensures first) in
+    node-on (s .freed .now) (s .t .now) (s .count) (s .k) (s .o) (n .result) (p .result) (n .ensures) (p .ensures) low (sym (takes .ensures) ∙ not-false (takes .result) (c .before .before .before .before .before .before .before .before .if2 .left)) (copied .last .0) all
 
 pub order-node-spec : {M : Type 1} → statement M
 order-node-spec =

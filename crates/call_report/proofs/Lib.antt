@@ -1,0 +1,2 @@
+pub mod ReportWords
+pub mod Reports
