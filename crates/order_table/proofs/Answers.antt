@@ -26,8 +26,6 @@ use Rattle.order.specs.Parts.{Named, Ordered, RowsIn, rowsLack}
 use Rattle.order.proofs.Graph.{many-live, rows-in, whole-is, ordered, lacking-is}
 use Rattle.order.proofs.Rises.{live-few}
 use Rattle.order_table.specs.Prepares.{idsIn, Prepares, Lives, Meets, Lacks}
-use Rattle.order_table.specs.declared.Live.{Live}
-use Rattle.order_table.specs.declared.Ended.{Ended}
 
 module _ (nodes : List Node) (edges : List Edge) (old : List ℕ) where
   pub refused-13 : lacking nodes edges ≡ true → Prepares nodes edges old old (record { answer = Refused RequiredPort; count = 0 })
@@ -80,23 +78,23 @@ first-of rows n k e =
     take-take k n rows (omega (arith, length-take n rows))
 
 -- ---- what the tests found, of the first n nodes and the first m edges: `count` is m, or the room
-module _ (ns es : List ℕ) (n m : ℕ) (l : Live) (lv : Lives l (take n (nodesIn ns))) (count : ℕ) (c : count ≡ min m (length es / 3)) (e : Ended) (en : Meets e (take (l .count) (l .ids)) (take count (edgesIn es))) where
+module _ (ns es : List ℕ) (n m : ℕ) (ids : List ℕ) (live : ℕ) (lv : Lives ids live (take n (nodesIn ns))) (count : ℕ) (c : count ≡ min m (length es / 3)) (from to : List ℕ) (en : Meets from to (take live ids) (take count (edgesIn es))) where
   all-edges : take count (edgesIn es) ≡ take m (edgesIn es)
   all-edges = take-count 3 edgeOf es m count c
 
   many-edges : length (take count (edgesIn es)) ≡ count
   many-edges = length-take-le count (edgesIn es) (omega (arith, rows-long 3 edgeOf es))
 
-  pub lacked : (b : Bool) → Lacks (take (l .count) (nodesIn ns)) (l .count) (e .from) (e .to) (take count (edgesIn es)) b → b ≡ lacking (take n (nodesIn ns)) (take m (edgesIn es))
+  pub lacked : (b : Bool) → Lacks (take live (nodesIn ns)) live from to (take count (edgesIn es)) b → b ≡ lacking (take n (nodesIn ns)) (take m (edgesIn es))
   lacked b k =
       k .is
-      ∙ ap (λ xs. rowsLack (k .flags) xs 0) (sym (first-of (nodesIn ns) n (l .count) (sym (many-live (take n (nodesIn ns)) _ lv))))
+      ∙ ap (λ xs. rowsLack (k .flags) xs 0) (sym (first-of (nodesIn ns) n live (sym (many-live (take n (nodesIn ns)) _ lv))))
       ∙ lacking-is (take n (nodesIn ns)) _ lv (take count (edgesIn es)) _ en (k .flags) (k .plugged)
       ∙ ap (lacking (take n (nodesIn ns))) all-edges
 
-  module _ (r : Ranking) (rk : Ranked r (upto (min (l .count) 512)) (arcs (take count (e .from)) (take count (e .to)))) where
-    by-edges : Ranked r (upto (min (l .count) 512)) (arcs (take (length (take count (edgesIn es))) (e .from)) (take (length (take count (edgesIn es))) (e .to)))
-    by-edges = subst (λ k. Ranked r (upto (min (l .count) 512)) (arcs (take k (e .from)) (take k (e .to)))) (sym many-edges) rk
+  module _ (r : Ranking) (rk : Ranked r (upto (min live 512)) (arcs (take count from) (take count to))) where
+    by-edges : Ranked r (upto (min live 512)) (arcs (take (length (take count (edgesIn es))) from) (take (length (take count (edgesIn es))) to))
+    by-edges = subst (λ k. Ranked r (upto (min live 512)) (arcs (take k from) (take k to))) (sym many-edges) rk
 
     pub held : r .whole ≡ whole (liveIds (take n (nodesIn ns))) (map arcOf (take m (edgesIn es)))
     held = whole-is (take n (nodesIn ns)) _ lv (take count (edgesIn es)) _ en r by-edges ∙ ap (λ xs. whole (liveIds (take n (nodesIn ns))) (map arcOf xs)) all-edges
@@ -104,8 +102,8 @@ module _ (ns es : List ℕ) (n m : ℕ) (l : Live) (lv : Lives l (take n (nodesI
     pub rows-fit : RowsIn r
     rows-fit = rows-in (take n (nodesIn ns)) _ lv (take count (edgesIn es)) _ en r by-edges
 
-    pub ordered-as : (new : List ℕ) → length new ≡ 512 → take (r .count) new ≡ map (λ x. getD (l .ids) x 0) (take (r .count) (r .rows)) → Holds (idsIn new) (r .count) (processingOrder (take n (nodesIn ns)) (take m (edgesIn es)))
+    pub ordered-as : (new : List ℕ) → length new ≡ 512 → take (r .count) new ≡ map (λ x. getD ids x 0) (take (r .count) (r .rows)) → Holds (idsIn new) (r .count) (processingOrder (take n (nodesIn ns)) (take m (edgesIn es)))
     ordered-as new long w =
         let inside : r .count ≤ length (r .rows) = omega (arith, rows-fit .few, rows-fit .long) in
-        let o = ordered (take n (nodesIn ns)) _ lv (take count (edgesIn es)) _ en r by-edges (written new (r .count)) (named-as new (l .ids) (r .rows) (r .count) long inside w) in
+        let o = ordered (take n (nodesIn ns)) _ lv (take count (edgesIn es)) _ en r by-edges (written new (r .count)) (named-as new ids (r .rows) (r .count) long inside w) in
         subst (λ xs. Holds (idsIn new) (r .count) (processingOrder (take n (nodesIn ns)) xs)) all-edges (holds-order new (r .count) (take n (nodesIn ns)) (take count (edgesIn es)) (rows-fit .few) o)

@@ -12,8 +12,6 @@ use Rattle.order.specs.declared.Readiness.the-variants.{Refused}
 use Rattle.order.specs.Live.{asId}
 use Rattle.order.specs.Prepare.{prepare}
 use Rattle.order.specs.Parts.{Lived, Ends, Plugged, rowsLack}
-use Rattle.order_table.specs.declared.Live as own-live
-use Rattle.order_table.specs.declared.Ended as own-ended
 use Rattle.order_table.specs.declared.Prepared.{Prepared}
 
 -- the node ids in the order table
@@ -27,11 +25,13 @@ pub record Prepares (nodes : List Node) (edges : List Edge) (old new : List ℕ)
   pub kept : (x : Refusal) → r .answer ≡ Refused x → new ≡ old
 
 -- ---- parts
-abbrev pub Lives : own-live.Live → List Node → Type 0
-Lives r nodes = Lived (record { ids = r .ids; count = r .count }) nodes
+-- the ids of the live nodes, the first `count` of these: they rise
+abbrev pub Lives : List ℕ → ℕ → List Node → Type 0
+Lives ids count nodes = Lived (record { ids = ids; count = count }) nodes
 
-abbrev pub Meets : own-ended.Ended → List ℕ → List Edge → Type 0
-Meets r ids edges = Ends (record { from = r .from; to = r .to }) ids edges
+-- the rows of the edges' sources and targets, edge by edge
+abbrev pub Meets : List ℕ → List ℕ → List ℕ → List Edge → Type 0
+Meets from to ids edges = Ends (record { from = from; to = to }) ids edges
 
 -- a row of the first n lacks a port, by some flags that say which ports are fed
 pub record Lacks (nodes : List Node) (n : ℕ) (from to : List ℕ) (edges : List Edge) (r : Bool) : Type 0 where

@@ -33,58 +33,43 @@ pub struct Prepared {
     pub count: usize,
 }
 
-// The ids of the live nodes, the first `count`: they rise.
-struct Live {
-    ids: [u32; 512],
-    count: usize,
-}
-
-// The rows of the edges' sources and targets, edge by edge.
-struct Ended {
-    from: [usize; 1024],
-    to: [usize; 1024],
-}
-
 fn wide(x: u32) -> usize
     ensures { λ r. ⌜ (r ≡ x) × (r < 4294967296) ⌝ }
 {
     x as usize
 }
 
-// The ids of the rows up to the first that does not rise.
-fn live_ids(nodes: &[u32], count: usize) -> Live
-    requires { ⌜ length (now nodes) ≡ 10752 ⌝ }
-    ensures { λ r. ⌜ Lives r (take count (nodesIn (now (nodes .entry)))) ⌝ }
+// The ids of the rows up to the first that does not rise are stored in `ids`: how many there are.
+fn live_ids(nodes: &[u32], count: usize, ids: &mut [u32]) -> usize
+    requires { ⌜ (length (now nodes) ≡ 10752) × (length (now ids) ≡ 512) ⌝ }
+    ensures { λ r. ⌜ Lives (now (ids .exit)) r (take count (nodesIn (now (nodes .entry)))) ⌝ }
 {
     let n = at_most(count, nodes.len() / 21);
-    let mut ids = [0u32; 512];
     let mut least: usize = 0;
     let mut i: usize = 0;
     while i < n {
         let x = id_at(nodes, i).0;
         let w = wide(x);
         if w < least {
-            return Live { ids: ids, count: i };
+            return i;
         }
         ids[i] = x;
         least = w + 1;
         i += 1;
     }
-    Live { ids: ids, count: i }
+    i
 }
 
-// A row for each remainder of an id: a guess that `row_of` tests before it halves. Ids are counted up, so it is mostly right.
-fn guesses(ids: &[u32], n: usize) -> [usize; 1024]
-    requires { ⌜ n ≤ length (now ids) ⌝ }
-    ensures { λ r. ⌜ length r ≡ 1024 ⌝ }
+// A row for each remainder of an id: a guess that `row_of` tests before it halves, so nothing is promised of it. Ids are counted up, so
+// it is mostly right.
+fn guesses(ids: &[u32], n: usize, rows: &mut [usize])
+    requires { ⌜ (n ≤ length (now ids)) × (length (now rows) ≡ 1024) ⌝ }
 {
-    let mut rows = [0usize; 1024];
     let mut i: usize = 0;
     while i < n {
         rows[wide(ids[i]) % 1024] = i;
         i += 1;
     }
-    rows
 }
 
 // The row of the id `x` among the first `n`, which rise; `n` where it is none of them. By the guess, or by halving.
@@ -117,15 +102,14 @@ fn row_of(ids: &[u32], n: usize, x: u32, guess: usize) -> usize
     n
 }
 
-// The rows of the ends of the first `m` edges.
-fn ends(ids: &[u32], n: usize, edges: &[u32], m: usize) -> Ended
+// The rows of the ends of the first `m` edges are stored, edge by edge.
+fn ends(ids: &[u32], n: usize, edges: &[u32], m: usize, from: &mut [usize], to: &mut [usize])
     requires { ⌜ (n ≤ 512) × (n ≤ length (now ids)) × (m ≤ 1024) × (m ≤ length (edgesIn (now edges))) ⌝ }
-    requires { ⌜ Rising (take n (now ids)) ⌝ }
-    ensures { λ r. ⌜ Meets r (take n (now (ids .entry))) (take m (edgesIn (now (edges .entry)))) ⌝ }
+    requires { ⌜ (length (now from) ≡ 1024) × (length (now to) ≡ 1024) × Rising (take n (now ids)) ⌝ }
+    ensures { λ _. ⌜ Meets (now (from .exit)) (now (to .exit)) (take n (now (ids .entry))) (take m (edgesIn (now (edges .entry)))) ⌝ }
 {
-    let rows = guesses(ids, n);
-    let mut from = [0usize; 1024];
-    let mut to = [0usize; 1024];
+    let mut rows = [0usize; 1024];
+    guesses(ids, n, &mut rows);
     let mut i: usize = 0;
     while i < m {
         let e = edge_at(edges, i);
@@ -133,37 +117,26 @@ fn ends(ids: &[u32], n: usize, edges: &[u32], m: usize) -> Ended
         to[i] = row_of(ids, n, e.to.0, rows[wide(e.to.0) % 1024]);
         i += 1;
     }
-    Ended { from: from, to: to }
 }
 
 // The order of the rows, by the ends of the first `m` edges.
-fn rows(n: usize, e: Ended, m: usize) -> Ranking
-    requires { ⌜ m ≤ 1024 ⌝ }
-    requires { ⌜ (length (e .from) ≡ 1024) × (length (e .to) ≡ 1024) ⌝ }
-    ensures { λ r. ⌜ Ranked r (upto (min n 512)) (arcs (take m (e .from)) (take m (e .to))) ⌝ }
+fn rows(n: usize, from: &[usize], to: &[usize], m: usize) -> Ranking
+    requires { ⌜ (m ≤ 1024) × (length (now from) ≡ 1024) × (length (now to) ≡ 1024) ⌝ }
+    ensures { λ r. ⌜ Ranked r (upto (min n 512)) (arcs (take m (now (from .entry))) (take m (now (to .entry)))) ⌝ }
 {
-    let from = e.from;
-    let to = e.to;
     rank::ranked(n, &from[..m], &to[..m])
 }
 
-fn blank() -> [bool; 32768]
-    ensures { λ r. ⌜ Blank r ⌝ }
-{
-    [false; 32768]
-}
-
-// Which ports of the first `n` rows one of the first `m` edges of two live ends feeds: port p of row r at r * 64 + p.
-fn plugged(n: usize, e: Ended, edges: &[u32], m: usize) -> [bool; 32768]
+// Which ports of the first `n` rows one of the first `m` edges of two live ends feeds is stored: port p of row r at r * 64 + p.
+fn plugged(n: usize, from: &[usize], to: &[usize], edges: &[u32], m: usize, flags: &mut [bool])
     requires { ⌜ (n ≤ 512) × (m ≤ 1024) × (m ≤ length (edgesIn (now edges))) ⌝ }
-    requires { ⌜ (length (e .from) ≡ 1024) × (length (e .to) ≡ 1024) ⌝ }
-    ensures { λ r. ⌜ Plugged r n (e .from) (e .to) (take m (edgesIn (now (edges .entry)))) ⌝ }
+    requires { ⌜ (length (now from) ≡ 1024) × (length (now to) ≡ 1024) × Blank (now flags) ⌝ }
+    ensures { λ _. ⌜ Plugged (now (flags .exit)) n (now (from .entry)) (now (to .entry)) (take m (edgesIn (now (edges .entry)))) ⌝ }
 {
-    let mut flags = blank();
     let mut i: usize = 0;
     while i < m {
-        let f = e.from[i];
-        let t = e.to[i];
+        let f = from[i];
+        let t = to[i];
         let p = wide(edge_at(edges, i).port);
         if f < n {
             if t < n {
@@ -174,7 +147,6 @@ fn plugged(n: usize, e: Ended, edges: &[u32], m: usize) -> [bool; 32768]
         }
         i += 1;
     }
-    flags
 }
 
 // Whether a port of a row is required and has no flag.
@@ -214,12 +186,13 @@ fn row_lacks(nodes: &[u32], n: usize, flags: &[bool]) -> bool
 }
 
 // Whether a live node lacks a required port.
-fn lacks(nodes: &[u32], n: usize, e: Ended, edges: &[u32], m: usize) -> bool
+fn lacks(nodes: &[u32], n: usize, from: &[usize], to: &[usize], edges: &[u32], m: usize) -> bool
     requires { ⌜ (n ≤ 512) × (n ≤ length (nodesIn (now nodes))) × (m ≤ 1024) × (m ≤ length (edgesIn (now edges))) ⌝ }
-    requires { ⌜ (length (e .from) ≡ 1024) × (length (e .to) ≡ 1024) ⌝ }
-    ensures { λ r. ⌜ Lacks (take n (nodesIn (now (nodes .entry)))) n (e .from) (e .to) (take m (edgesIn (now (edges .entry)))) r ⌝ }
+    requires { ⌜ (length (now from) ≡ 1024) × (length (now to) ≡ 1024) ⌝ }
+    ensures { λ r. ⌜ Lacks (take n (nodesIn (now (nodes .entry)))) n (now (from .entry)) (now (to .entry)) (take m (edgesIn (now (edges .entry)))) r ⌝ }
 {
-    let flags = plugged(n, e, edges, m);
+    let mut flags = [false; 32768];
+    plugged(n, from, to, edges, m, &mut flags);
     row_lacks(nodes, n, &flags)
 }
 
@@ -243,18 +216,19 @@ fn prepare_in(nodes: &[u32], n: usize, edges: &[u32], m: usize, order: &mut [u32
     requires { ⌜ (length (now nodes) ≡ 10752) × (length (now edges) ≡ 3072) × (length (now order) ≡ 512) ⌝ }
     ensures { λ r. ⌜ Prepares (take n (nodesIn (now (nodes .entry)))) (take m (edgesIn (now (edges .entry)))) (now (order .entry)) (now (order .exit)) r ⌝ }
 {
-    let l = live_ids(nodes, n);
-    let ids = l.ids;
-    let k = l.count;
+    let mut ids = [0u32; 512];
+    let k = live_ids(nodes, n, &mut ids);
     let count = at_most(m, edges.len() / 3);
-    let e = ends(&ids, k, edges, count);
-    if lacks(nodes, k, e, edges, count) {
+    let mut from = [0usize; 1024];
+    let mut to = [0usize; 1024];
+    ends(&ids, k, edges, count, &mut from, &mut to);
+    if lacks(nodes, k, &from, &to, edges, count) {
         return Prepared {
             answer: Readiness::Refused(Refusal::RequiredPort),
             count: 0,
         };
     }
-    let r = rows(k, e, count);
+    let r = rows(k, &from, &to, count);
     if r.whole {
         let ranked = r.rows;
         named(&ids, &ranked, r.count, order);

@@ -13,16 +13,19 @@ use Rattle.order_table.proofs.ends.Statement.{statement}
 use Rattle.order_table.proofs.ends.Tie as tie
 
 abbrev Inv-loop : tie.InvT-loop
-Inv-loop ids n edges m rows from₀ to₀ i₀ from to i = (i ≤ m) × (length from ≡ 1024) × (length to ≡ 1024) × Mapped (sourceRow (take n ids)) from i (take m (edgesIn edges)) × Mapped (targetRow (take n ids)) to i (take m (edgesIn edges))
+Inv-loop ids n edges m from₀ to₀ rows i₀ from to i = (i ≤ m) × (length from ≡ 1024) × (length to ≡ 1024) × Mapped (sourceRow (take n ids)) from i (take m (edgesIn edges)) × Mapped (targetRow (take n ids)) to i (take m (edgesIn edges))
 
 abbrev μ-loop : tie.MeasureT-loop
-μ-loop ids n edges m rows from₀ to₀ i₀ from to i = m - i
+μ-loop ids n edges m from₀ to₀ rows i₀ from to i = m - i
+
+slice-aggregate-guesses : tie.Need-slice-aggregate-guesses Inv-loop μ-loop
+slice-aggregate-guesses c = search needs
 
 guesses-requires : tie.Need-guesses-requires Inv-loop μ-loop
 guesses-requires c κs = search needs
 
 loop-holds : tie.Need-loop-holds Inv-loop μ-loop
-loop-holds c = (omega arith, refl, refl, refl, refl)
+loop-holds c = let s = c .before .before .before .before .before .before .before in (omega arith, s .pre .1 .0, s .pre .1 .1, refl, refl)
 
 edge-at-requires : tie.Need-edge-at-requires Inv-loop μ-loop
 edge-at-requires c κs = search needs
@@ -37,13 +40,13 @@ array-read-row-of : tie.Need-array-read-row-of Inv-loop μ-loop
 array-read-row-of c = search needs
 
 row-of-requires : tie.Need-row-of-requires Inv-loop μ-loop
-row-of-requires c κs = let s = c .before .before .before .before .before .before .before in (s .pre .0 .0, (s .pre .0 .1, s .pre .1))
+row-of-requires c κs = let s = c .before .before .before .before .before .before .before .before .before .before .before in (s .pre .0 .0, (s .pre .0 .1, s .pre .1 .2))
 
 mul-from : tie.Need-mul-from Inv-loop μ-loop
 mul-from c = search needs
 
-array-write-from : tie.Need-array-write-from Inv-loop μ-loop
-array-write-from c = search needs
+slice-write-from : tie.Need-slice-write-from Inv-loop μ-loop
+slice-write-from c = search needs
 
 wide-requires-2 : tie.Need-wide-requires-2 Inv-loop μ-loop
 wide-requires-2 c κs = search needs
@@ -55,13 +58,13 @@ array-read-row-of-2 : tie.Need-array-read-row-of-2 Inv-loop μ-loop
 array-read-row-of-2 c = search needs
 
 row-of-requires-2 : tie.Need-row-of-requires-2 Inv-loop μ-loop
-row-of-requires-2 c κs = let s = c .before .before .before .before .before .before .before .before .before in (s .pre .0 .0, (s .pre .0 .1, s .pre .1))
+row-of-requires-2 c κs = let s = c .before .before .before .before .before .before .before .before .before .before .before .before .before in (s .pre .0 .0, (s .pre .0 .1, s .pre .1 .2))
 
 mul-to : tie.Need-mul-to Inv-loop μ-loop
 mul-to c = search needs
 
-array-write-to : tie.Need-array-write-to Inv-loop μ-loop
-array-write-to c = search needs
+slice-write-to : tie.Need-slice-write-to Inv-loop μ-loop
+slice-write-to c = search needs
 
 add-i : tie.Need-add-i Inv-loop μ-loop
 add-i c = search needs
@@ -71,7 +74,7 @@ loop-less c = search needs
 
 loop-again : tie.Need-loop-again Inv-loop μ-loop
 loop-again c =
-    let s = c .before .before .before .before .before .before .before .before .before .before in
+    let s = c .before .before .before .before .before .before .before .before .before .before .before .before .before .before in
     let l = c .before .before .before .before .before .before .loop in
     let e = c .before .before .before .before .edge-at in
     let es = edgesIn (s .args .edges .now) in
@@ -88,9 +91,15 @@ loop-again c =
       map-next _ (l .to) (l .i) (take m es) (e .result) _ ht dr (c .row-of2 .ensures) (l .inv .4),
     )
 
+same-length : tie.Need-same-length Inv-loop μ-loop
+same-length c = search needs
+
+same-length-2 : tie.Need-same-length-2 Inv-loop μ-loop
+same-length-2 c = search needs
+
 returns : tie.Need-returns Inv-loop μ-loop
 returns c =
-    let s = c .before .before .before .before .before in
+    let s = c .before .before .before .before .before .before .before .before .before in
     let l = c .before .loop in
     let es = edgesIn (s .args .edges .now) in
     let m = s .args .m in
@@ -109,6 +118,7 @@ ends-spec =
     (tie.spec
     Inv-loop
     μ-loop
+    slice-aggregate-guesses
     guesses-requires
     loop-holds
     edge-at-requires
@@ -117,14 +127,16 @@ ends-spec =
     array-read-row-of
     row-of-requires
     mul-from
-    array-write-from
+    slice-write-from
     wide-requires-2
     mul-row-of-2
     array-read-row-of-2
     row-of-requires-2
     mul-to
-    array-write-to
+    slice-write-to
     add-i
     loop-less
     loop-again
+    same-length
+    same-length-2
     returns)

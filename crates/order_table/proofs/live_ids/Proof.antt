@@ -1,6 +1,6 @@
 use Prim.Native.Nat.{_/_, _≤_, _<_, _-_}
 use native.Mathlib.Omega.{arith}
-use mathlib.Core.Path.{_≡_, refl, ap, _∙_}
+use mathlib.Core.Path.{_≡_, ap, _∙_}
 use mathlib.Core.List.{[]}
 use lib.ListN.{length, take, getD, length-set}
 use borrow.Author.Needs.{needs}
@@ -15,16 +15,16 @@ use Rattle.order_table.proofs.live_ids.Statement.{statement}
 use Rattle.order_table.proofs.live_ids.Tie as tie
 
 abbrev Inv-loop : tie.InvT-loop
-Inv-loop nodes count n ids₀ least₀ i₀ ids least i = (i ≤ n) × (length ids ≡ 512) × (least ≤ 4294967296) × Passed (take n (nodesIn nodes)) ids least i
+Inv-loop nodes count ids₀ n least₀ i₀ ids least i = (i ≤ n) × (length ids ≡ 512) × (least ≤ 4294967296) × Passed (take n (nodesIn nodes)) ids least i
 
 abbrev μ-loop : tie.MeasureT-loop
-μ-loop nodes count n ids₀ least₀ i₀ ids least i = n - i
+μ-loop nodes count ids₀ n least₀ i₀ ids least i = n - i
 
 at-most-requires : tie.Need-at-most-requires Inv-loop μ-loop
 at-most-requires c κs = search needs
 
 loop-holds : tie.Need-loop-holds Inv-loop μ-loop
-loop-holds c = (omega arith, refl, omega arith, passed-start _ [])
+loop-holds c = (omega arith, c .before .before .before .pre .1, omega arith, passed-start _ [])
 
 id-at-requires : tie.Need-id-at-requires Inv-loop μ-loop
 id-at-requires c κs = search needs
@@ -32,15 +32,18 @@ id-at-requires c κs = search needs
 wide-requires : tie.Need-wide-requires Inv-loop μ-loop
 wide-requires c κs = search needs
 
+same-length : tie.Need-same-length Inv-loop μ-loop
+same-length c = search needs
+
 returns : tie.Need-returns Inv-loop μ-loop
 returns c =
-    let s = c .before .before .before .before .before .before .before in
+    let s = c .before .before .before .before .before .before .before .before in
     let l = c .before .before .before .before .loop in
     let n = c .before .before .before .before .before .at-most in
     let w = c .before .wide in
     let rows = nodesIn (s .args .nodes .now) in
-    let long : length rows ≡ 512 = rows-long 21 nodeOf (s .args .nodes .now) ∙ ap (λ k. k / 21) (s .pre) in
-    let few : n .result ≤ 512 = omega (arith, n .ensures, s .pre) in
+    let long : length rows ≡ 512 = rows-long 21 nodeOf (s .args .nodes .now) ∙ ap (λ k. k / 21) (s .pre .0) in
+    let few : n .result ≤ 512 = omega (arith, n .ensures, s .pre .0) in
     let hi : l .i < n .result = c .before .before .before .loop-test .taken in
     let hn : n .result ≤ length rows = omega arith in
     let x = getD rows (l .i) (nodeOf []) in
@@ -55,8 +58,8 @@ returns c =
 mul-ids : tie.Need-mul-ids Inv-loop μ-loop
 mul-ids c = search needs
 
-array-write-ids : tie.Need-array-write-ids Inv-loop μ-loop
-array-write-ids c = search needs
+slice-write-ids : tie.Need-slice-write-ids Inv-loop μ-loop
+slice-write-ids c = search needs
 
 add-least : tie.Need-add-least Inv-loop μ-loop
 add-least c = search needs
@@ -69,13 +72,13 @@ loop-less c = search needs
 
 loop-again : tie.Need-loop-again Inv-loop μ-loop
 loop-again c =
-    let s = c .before .before .before .before .before .before .before in
+    let s = c .before .before .before .before .before .before .before .before in
     let l = c .before .before .before .before .loop in
     let n = c .before .before .before .before .before .at-most in
     let w = c .before .wide in
     let rows = nodesIn (s .args .nodes .now) in
-    let long : length rows ≡ 512 = rows-long 21 nodeOf (s .args .nodes .now) ∙ ap (λ k. k / 21) (s .pre) in
-    let few : n .result ≤ 512 = omega (arith, n .ensures, s .pre) in
+    let long : length rows ≡ 512 = rows-long 21 nodeOf (s .args .nodes .now) ∙ ap (λ k. k / 21) (s .pre .0) in
+    let few : n .result ≤ 512 = omega (arith, n .ensures, s .pre .0) in
     let hi : l .i < n .result = c .before .before .before .loop-test .taken in
     let hn : n .result ≤ length rows = omega arith in
     let x = getD rows (l .i) (nodeOf []) in
@@ -89,13 +92,16 @@ loop-again c =
       rw (id, same) (passed-more (take (n .result) rows) (l .ids) (l .least) (l .i) (l .inv .3) x dr (omega (arith, c .if1 .left)) hk),
     )
 
+same-length-2 : tie.Need-same-length-2 Inv-loop μ-loop
+same-length-2 c = search needs
+
 returns-2 : tie.Need-returns-2 Inv-loop μ-loop
 returns-2 c =
-    let s = c .before .before .before .before in
+    let s = c .before .before .before .before .before in
     let l = c .before .loop in
     let n = c .before .before .at-most in
     let rows = nodesIn (s .args .nodes .now) in
-    let few : n .result ≤ 512 = omega (arith, n .ensures, s .pre) in
+    let few : n .result ≤ 512 = omega (arith, n .ensures, s .pre .0) in
     record {
       long = l .inv .1;
       few = omega arith;
@@ -112,11 +118,13 @@ live-ids-spec =
     loop-holds
     id-at-requires
     wide-requires
+    same-length
     returns
     mul-ids
-    array-write-ids
+    slice-write-ids
     add-least
     add-i
     loop-less
     loop-again
+    same-length-2
     returns-2)

@@ -15,28 +15,25 @@ use Rattle.order_table.proofs.plugged.Statement.{statement}
 use Rattle.order_table.proofs.plugged.Tie as tie
 
 abbrev Inv-loop : tie.InvT-loop
-Inv-loop n edges m e flags₀ i₀ flags i = (i ≤ m) × Flags flags n (drop i (e .from)) (drop i (e .to)) (drop i (take m (edgesIn edges))) (plugs n (e .from) (e .to) (take m (edgesIn edges)))
+Inv-loop n from to edges m flags₀ i₀ flags i = (i ≤ m) × Flags flags n (drop i from) (drop i to) (drop i (take m (edgesIn edges))) (plugs n from to (take m (edgesIn edges)))
 
 abbrev μ-loop : tie.MeasureT-loop
-μ-loop n edges m e flags₀ i₀ flags i = m - i
-
-blank-requires : tie.Need-blank-requires Inv-loop μ-loop
-blank-requires c κs = search needs
+μ-loop n from to edges m flags₀ i₀ flags i = m - i
 
 loop-holds : tie.Need-loop-holds Inv-loop μ-loop
-loop-holds c = let s = c .before .before in (omega arith, flags-start (c .blank .result) (s .args .n) (s .args .t2 .from) (s .args .t2 .to) (take (s .args .m) (edgesIn (s .args .edges .now))) (c .blank .ensures .long) (c .blank .ensures .none))
+loop-holds c = let s = c .before .before .before .before in (omega arith, flags-start (s .args .flags .now) (s .args .n) (s .args .from .now) (s .args .to .now) (take (s .args .m) (edgesIn (s .args .edges .now))) (s .pre .1 .2 .long) (s .pre .1 .2 .none))
 
 mul-f : tie.Need-mul-f Inv-loop μ-loop
 mul-f c = search needs
 
-element-copy-out-f : tie.Need-element-copy-out-f Inv-loop μ-loop
-element-copy-out-f c = search needs
+shared-slice-read-f : tie.Need-shared-slice-read-f Inv-loop μ-loop
+shared-slice-read-f c = search needs
 
 mul-t : tie.Need-mul-t Inv-loop μ-loop
 mul-t c = search needs
 
-element-copy-out-t : tie.Need-element-copy-out-t Inv-loop μ-loop
-element-copy-out-t c = search needs
+shared-slice-read-t : tie.Need-shared-slice-read-t Inv-loop μ-loop
+shared-slice-read-t c = search needs
 
 edge-at-requires : tie.Need-edge-at-requires Inv-loop μ-loop
 edge-at-requires c κs = search needs
@@ -50,8 +47,8 @@ mul-flags c = search needs
 add-flags : tie.Need-add-flags Inv-loop μ-loop
 add-flags c = search needs
 
-array-write-flags : tie.Need-array-write-flags Inv-loop μ-loop
-array-write-flags c = search needs
+slice-write-flags : tie.Need-slice-write-flags Inv-loop μ-loop
+slice-write-flags c = search needs
 
 add-i : tie.Need-add-i Inv-loop μ-loop
 add-i c = search needs
@@ -61,13 +58,13 @@ loop-less c = search needs
 
 loop-again : tie.Need-loop-again Inv-loop μ-loop
 loop-again c =
-    let s = c .before .before .before .before .before .before .before .before .before in
+    let s = c .before .before .before .before .before .before .before .before .before .before .before in
     let l = c .before .before .before .before .before .before .loop in
     let e = c .before .before .edge-at in
     let m = s .args .m in
     let n = s .args .n in
-    let fs = s .args .t2 .from in
-    let ts = s .args .t2 .to in
+    let fs = s .args .from .now in
+    let ts = s .args .to .now in
     let es = edgesIn (s .args .edges .now) in
     let x = e .result in
     let w : c .before .wide .result ≡ x .port = c .before .wide .ensures .0 in
@@ -88,9 +85,12 @@ loop-again c =
           (c .if1 .came),
     )
 
+same-length : tie.Need-same-length Inv-loop μ-loop
+same-length c = search needs
+
 returns : tie.Need-returns Inv-loop μ-loop
 returns c =
-    let s = c .before .before .before .before in
+    let s = c .before .before .before .before .before .before in
     let l = c .before .loop in
     let es = edgesIn (s .args .edges .now) in
     let inv = rw (no-row es (s .args .m) (l .i) (c .loop-test .left)) at (l .inv .1) in
@@ -102,18 +102,18 @@ plugged-spec =
     (tie.spec
     Inv-loop
     μ-loop
-    blank-requires
     loop-holds
     mul-f
-    element-copy-out-f
+    shared-slice-read-f
     mul-t
-    element-copy-out-t
+    shared-slice-read-t
     edge-at-requires
     wide-requires
     mul-flags
     add-flags
-    array-write-flags
+    slice-write-flags
     add-i
     loop-less
     loop-again
+    same-length
     returns)
