@@ -1,0 +1,2 @@
+pub mod Reclaimed
+pub mod Room

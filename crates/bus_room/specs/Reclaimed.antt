@@ -1,0 +1,50 @@
+-- "If none: reclaim the earliest-started fade of that bus (ties by voice order) and mark its record, if still held, cut, else free
+-- the policy's victim among tracked voices of that bus with a cut record; try again." Here without the new voice, which takes its
+-- port in what is left.
+use Prim.Native.Nat.{ℕ, zero, suc}
+use mathlib.Core.List.{List}
+use mathlib.Core.Bool.{Bool, true, false}
+use mathlib.Core.Option.{Option, none, some}
+use Rattle.node.specs.declared.record.NodeId.{NodeId}
+use Rattle.node.specs.declared.record.Node.{Node}
+use Rattle.edges.specs.declared.ports.Port.{Port}
+use Rattle.edges.specs.declared.ports.Port.the-variants as Port
+use Rattle.voice.specs.Policy.{victim}
+use Rattle.voice.specs.Steals.{Book}
+use Rattle.voice.specs.declared.policy.StealPolicy.{StealPolicy}
+use Rattle.store.specs.declared.voices.Voice.{Voice}
+use Rattle.voice_table.specs.Levels.{candidatesAt}
+use Rattle.model.specs.Desk.{withSteals}
+use Rattle.model.specs.Voice.{trackedOn, fadesOn}
+use Rattle.model.specs.Spawn.{voiceOf, earliest, elseVictim, nextOut}
+use Rattle.model.specs.Model.{Model, portFree, cutOff}
+
+-- who is removed, where no port is free
+abbrev pub ifNone : Option ℕ → Option Voice → Option Voice
+ifNone none o = o
+ifNone (some p) o = none
+
+abbrev pub leaving : NodeId → Model → Option Voice
+leaving bus m = ifNone (portFree bus m) (nextOut (m .desk) bus (m .voices))
+
+abbrev pub goOn : Option Voice → Model → (Model → Model) → Model
+goOn none m again = m
+goOn (some v) m again = again (cutOff v (v .state) m)
+
+-- what is left after at most so many removals
+abbrev pub reclaimed : ℕ → NodeId → Model → Model
+reclaimed zero bus m = m
+reclaimed (suc k) bus m = goOn (leaving bus m) m (λ j. reclaimed k bus j)
+
+-- other steal records
+abbrev pub restolen : Book → Model → Model
+restolen b m = record { desk = withSteals b (m .desk); voices = m .voices }
+
+-- a port was found
+abbrev pub isPort : Port → Bool
+isPort (Port.At p) = true
+isPort Port.Nothing = false
+
+-- `nextOut` over what it reads
+abbrev pub nextAt : List Node → ℕ → StealPolicy → NodeId → List Voice → Option Voice
+nextAt ns clock policy bus vs = elseVictim (earliest (fadesOn bus) vs) (voiceOf (victim policy (candidatesAt ns clock (trackedOn bus) vs)) vs)
