@@ -3,6 +3,7 @@ use edges::ports::Port;
 use edges::ports::Source;
 use graph_rows::edge_row::EdgeTable;
 use graph_rows::edge_row::edge_at;
+use node::record::Edge;
 use node::record::NodeId;
 use words::table::at_most;
 use words::table::word_at;
@@ -12,9 +13,10 @@ ghost use Prim.Native.Nat.{_≤_};
 ghost use lib.ListN.{take, getD};
 ghost use Rattle.node.specs.declared.record.NodeId.{NodeId};
 ghost use Rattle.node.specs.declared.record.Edge.{Edge};
-ghost use Rattle.edges.specs.Ports.{portOf, freePort, portFrom, feeds, sources};
+ghost use Rattle.lists.specs.Find.{find};
+ghost use Rattle.edges.specs.Ports.{portOf, freePort, feeds, sources};
 ghost use Rattle.graph_rows.specs.Edge.{edgeOf, edgesIn};
-ghost use Rattle.graph_tables.specs.Fed.{isFed};
+ghost use Rattle.graph_tables.specs.Fed.{isFed, node, feedingOf};
 
 // The source of each of the ports 0 to 63 of `node`: one walk over the edges, from the last to the first, so that of two
 // edges at one port the first counts.
@@ -108,30 +110,45 @@ pub fn free_port(edges: &EdgeTable, count: usize, node: NodeId, ports: u32) -> P
     free_in(edges, count, node, ports)
 }
 
-// Whether the edge in row `i` leads from `from` to `to`.
-fn leads(t: &[u32], i: usize, from: NodeId, to: NodeId) -> bool
-    ensures { λ r. ⌜ r ≡ feeds from to (getD (edgesIn (now (t .entry))) i (edgeOf [])) ⌝ }
-{
-    word_at(t, 3, i, 0) == from.0 && word_at(t, 3, i, 1) == to.0
+// An edge that was looked for: `edge` is it, if it is `found`.
+pub struct Feeding {
+    pub found: bool,
+    pub edge: Edge,
 }
 
-// The port of `to` that `from` feeds, by the first such edge.
-fn port_in(t: &[u32], count: usize, from: NodeId, to: NodeId) -> Port
-    ensures { λ r. ⌜ r ≡ portOf (portFrom (take count (edgesIn (now (t .entry)))) from to) ⌝ }
+// A number of 32 bits as one of 64.
+fn long(x: u32) -> u64
+    ensures { λ r. ⌜ r ≡ x ⌝ }
+{
+    x as u64
+}
+
+// Whether the edge in row `i` leads from the node of the id `from` to `to`.
+fn leads(t: &[u32], i: usize, from: u64, to: NodeId) -> bool
+    ensures { λ r. ⌜ r ≡ feeds (node from) to (getD (edgesIn (now (t .entry))) i (edgeOf [])) ⌝ }
+{
+    long(word_at(t, 3, i, 0)) == from && word_at(t, 3, i, 1) == to.0
+}
+
+// The first edge from the node of the id `from` to `to`. An id past the last is no node's.
+fn feeding_in(t: &[u32], count: usize, from: u64, to: NodeId) -> Feeding
+    ensures { λ r. ⌜ feedingOf r ≡ find (feeds (node from) to) (take count (edgesIn (now (t .entry)))) ⌝ }
 {
     let n = at_most(count, t.len() / 3);
     let mut i: usize = 0;
     while i < n {
         if leads(t, i, from, to) {
-            return Port::At(edge_at(t, i).port);
+            let edge = edge_at(t, i);
+            return Feeding { found: true, edge };
         }
         i += 1;
     }
-    Port::Nothing
+    let edge = edge_at(t, 0);
+    Feeding { found: false, edge }
 }
 
-pub fn port_from(edges: &EdgeTable, count: usize, from: NodeId, to: NodeId) -> Port
-    ensures { λ r. ⌜ r ≡ portOf (portFrom (take count (edgesIn (now (edges .entry)))) from to) ⌝ }
+pub fn feeding_edge(edges: &EdgeTable, count: usize, from: u64, to: NodeId) -> Feeding
+    ensures { λ r. ⌜ feedingOf r ≡ find (feeds (node from) to) (take count (edgesIn (now (edges .entry)))) ⌝ }
 {
-    port_in(edges, count, from, to)
+    feeding_in(edges, count, from, to)
 }
