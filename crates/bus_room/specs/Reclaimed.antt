@@ -13,7 +13,7 @@ use Rattle.voice.specs.Policy.{victim}
 use Rattle.voice.specs.Steals.{Book}
 use Rattle.voice.specs.declared.policy.StealPolicy.{StealPolicy}
 use Rattle.store.specs.declared.voices.Voice.{Voice}
-use Rattle.voice_table.specs.Levels.{candidatesAt}
+use Rattle.voice_rows.specs.Levels.{candidatesAt}
 use Rattle.model.specs.Desk.{withSteals}
 use Rattle.model.specs.Voice.{trackedOn, fadesOn}
 use Rattle.model.specs.Spawn.{voiceOf, earliest, elseVictim, nextOut}

@@ -20,7 +20,7 @@ ghost use Rattle.graph.specs.Node.{nodeAt, portsOf};
 ghost use Rattle.graph_rows.specs.Node.{nodesIn};
 ghost use Rattle.graph_rows.specs.Edge.{edgesIn};
 ghost use Rattle.voice.specs.Policy.{victim};
-ghost use Rattle.voice_table.specs.Levels.{candidatesAt};
+ghost use Rattle.voice_rows.specs.Levels.{candidatesAt};
 ghost use Rattle.voice_rows.specs.Rows.{voicesIn};
 ghost use Rattle.voice_rows.specs.Found.{FoundAt};
 ghost use Rattle.model.specs.Voice.{trackedOn};

@@ -35,6 +35,7 @@ called (contract.free-done κs a r s p m) = p m
 called (contract.set-param κs a r s p m) = p .0 m
 called (contract.set-param-glide κs a r s p m) = p .0 m
 called (contract.schedule κs a r s p m) = p .0 m
+called (contract.report κs a r s p m) = p .0 m
 called (contract.prepare κs a r s p m) = p .0 m
 called (contract.voice-level κs a r s p m) = p m
 called (contract.fade-position κs a r s p m) = p m
@@ -47,6 +48,7 @@ called (contract.processing-order κs a r s p m) = p .0 m
 called (contract.sources κs a r s p m) = p m
 called (contract.node-record κs a r s p m) = p m
 called (contract.clock κs a r s p m) = p m
+called (contract.page κs a r s p m) = p .0 m
 called (contract.fade-output κs a r s p m e) =
     ap (call.reads (modelOf m))
     (p .0 ∙ ap (λ c. call.fadeAnswer c (a .1 .0 .now) (a .1 .1 .0) (a .1 .1 .1 .0 .now) (a .1 .1 .1 .1 .0) (a .1 .1 .1 .1 .1 .0 .now) (a .1 .1 .1 .1 .1 .1 .0)) (sym e))
@@ -65,6 +67,7 @@ kept (contract.free-done κs a r s p m) = λ e. kept-none e
 kept (contract.set-param κs a r s p m) = λ e. kept-none e
 kept (contract.set-param-glide κs a r s p m) = λ e. kept-none e
 kept (contract.schedule κs a r s p m) = p .1 m
+kept (contract.report κs a r s p m) = p .1 m
 kept (contract.prepare κs a r s p m) = p .1 m
 kept (contract.voice-level κs a r s p m) = λ e. refl
 kept (contract.fade-position κs a r s p m) = λ e. refl
@@ -77,6 +80,7 @@ kept (contract.processing-order κs a r s p m) = λ e. refl
 kept (contract.sources κs a r s p m) = λ e. refl
 kept (contract.node-record κs a r s p m) = λ e. refl
 kept (contract.clock κs a r s p m) = λ e. refl
+kept (contract.page κs a r s p m) = λ e. refl
 kept (contract.fade-output κs a r s p m e) = λ f. refl
 kept (contract.bus-sum κs a r s p m e) = λ f. refl
 

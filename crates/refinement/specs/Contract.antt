@@ -19,6 +19,7 @@ use Rattle.memory.specs.View.{Memory}
 use Rattle.memory.specs.Lent.{lentEdges, lentEvents, lentGraph, lentNodes, lentOrder, lentParams, lentProcessing, lentState, lentSteals, lentVoiceTable, lentVoices}
 use Rattle.memory.specs.Called.{answered, granted}
 use Rattle.call_read.specs.Found.{voiceFound}
+use Rattle.call_page.specs.Paged.{pagedOf}
 use Rattle.mixing.specs.Filled.{filledOf}
 use Rattle.call_host.proofs.host.add_node.Reads as fn-add-node
 use Rattle.call_host.proofs.host.remove_node.Reads as fn-remove-node
@@ -30,6 +31,7 @@ use Rattle.call_clear.proofs.clear.free_done_synths.Reads as fn-free-done
 use Rattle.call_param.proofs.param.set_voice_param.Reads as fn-set-param
 use Rattle.call_param.proofs.param.set_voice_param_glide.Reads as fn-set-param-glide
 use Rattle.call_host.proofs.schedule.schedule.Reads as fn-schedule
+use Rattle.call_report.proofs.report.report.Reads as fn-report
 use Rattle.call_host.proofs.prepare.prepare.Reads as fn-prepare
 use Rattle.call_read.proofs.look.voice_level.Reads as fn-voice-level
 use Rattle.call_read.proofs.look.fade_position.Reads as fn-fade-position
@@ -42,6 +44,7 @@ use Rattle.call_read.proofs.counts.processing_order.Reads as fn-processing-orde
 use Rattle.call_read.proofs.records.sources.Reads as fn-sources
 use Rattle.call_read.proofs.records.node_record.Reads as fn-node-record
 use Rattle.call_read.proofs.records.clock.Reads as fn-clock
+use Rattle.call_page.proofs.page.Reads as fn-page
 use Rattle.mixing.proofs.fade_output.Reads as fn-fade-output
 use Rattle.mixing.proofs.bus_sum.Reads as fn-bus-sum
 
@@ -71,6 +74,8 @@ pub data Contract : Call → Memory → Answer → Memory → Type 1 where
       → Contract (call.order (a .1 .1 .1 .0) (a .1 .1 .1 .1 .0 .now) (LastOrder.Glide (a .1 .1 .1 .1 .1 .0) (a .1 .1 .1 .1 .1 .1 .0) (a .1 .1 .1 .1 .1 .1 .1 .0) (a .1 .1 .1 .1 .1 .1 .1 .1 .0))) (lentParams (a .0) (a .1 .0 .now) (a .1 .1 .0 .now) m) (call.ordered r) (lentParams (a .0) (s .1 .0 .now) (a .1 .1 .0 .now) m)
   schedule : (κs : _) (a : _) (r : _) (s : _) → fn-schedule.Post κs a r s → (m : Memory)
       → Contract (call.schedule (a .1 .1 .0) (a .1 .1 .1 .0) (a .1 .1 .1 .1 .0 .now) (a .1 .1 .1 .1 .1 .0)) (lentEvents (a .0) (a .1 .0 .now) m) (answered (r .answer)) (lentEvents (r .state) (s .1 .0 .now) m)
+  report : (κs : _) (a : _) (r : _) (s : _) → fn-report.Post κs a r s → (m : Memory)
+      → Contract (call.report (a .1 .1 .1 .0) (a .1 .1 .1 .1 .0) (a .1 .1 .1 .1 .1 .0 .now) (a .1 .1 .1 .1 .1 .1 .0)) (lentParams (a .0) (a .1 .0 .now) (a .1 .1 .0 .now) m) (answered r) (lentParams (a .0) (s .1 .0 .now) (a .1 .1 .0 .now) m)
   -- prepare and render
   prepare : (κs : _) (a : _) (r : _) (s : _) → fn-prepare.Post κs a r s → (m : Memory)
       → Contract call.prepare (lentOrder (a .0) (a .1 .0 .now) (a .1 .1 .0 .now) (a .1 .1 .1 .0 .now) m) (answered (r .answer)) (lentOrder (r .state) (a .1 .0 .now) (a .1 .1 .0 .now) (s .1 .1 .1 .0 .now) m)
@@ -97,6 +102,8 @@ pub data Contract : Call → Memory → Answer → Memory → Type 1 where
       → Contract (call.ask (call.nodeRecord (a .1 .1 .0))) (lentNodes (a .0) (a .1 .0 .now) m) (call.foundNode (seenOf r)) (lentNodes (a .0) (a .1 .0 .now) m)
   clock : (κs : _) (a : _) (r : _) (s : _) → fn-clock.Post κs a r s → (m : Memory)
       → Contract (call.ask call.clock) (lentState (a .0) m) (call.time r) (lentState (a .0) m)
+  page : (κs : _) (a : _) (r : _) (s : _) → fn-page.Post κs a r s → (m : Memory)
+      → Contract (call.ask (call.page (a .1 .1 .0 .now))) (lentVoiceTable (a .0) (a .1 .0 .now) m) (pagedOf r (s .1 .1 .0 .now)) (lentVoiceTable (a .0) (a .1 .0 .now) m)
   -- fade output and bus sum, which are given no more of the store m than what making fixed
   fade-output : (κs : _) (a : _) (r : _) (s : _) → fn-fade-output.Post κs a r s → (m : Memory) → m .state .config ≡ a .0
       → Contract (call.ask (call.fadeOutput (a .1 .0 .now) (a .1 .1 .0) (a .1 .1 .1 .0 .now) (a .1 .1 .1 .1 .0) (a .1 .1 .1 .1 .1 .0 .now) (a .1 .1 .1 .1 .1 .1 .0))) m (filledOf r (s .1 .1 .1 .1 .1 .0 .now)) m
