@@ -1,0 +1,76 @@
+use mathlib.Core.Path.{sym, ap, _∙_}
+use mathlib.Core.Bool.{not}
+use lib.ListN.{length, take}
+use lib.Dec.{eqb}
+use borrow.Author.Needs.{needs}
+use borrow.Author.Tests.{not-true, not-false}
+use Rattle.node.specs.declared.refusal.Refusal.the-variants.{DefinitionLimits, BusWithoutPorts}
+use Rattle.graph.specs.Node.{nodeAt, portsOf}
+use Rattle.graph.specs.Refuse.{when, hostTest}
+use Rattle.graph.specs.Tables.{answerOf}
+use Rattle.graph_rows.specs.Node.{nodesIn}
+use Rattle.graph_rows.specs.Edge.{edgesIn}
+use Rattle.voice_rows.specs.Rows.{voicesIn}
+use Rattle.model.specs.Refuse.{orElse}
+use Rattle.call_spawn.specs.Room.{busBrief, roomRefusal}
+use Rattle.call_spawn.proofs.Refusals.{above-refused, above-done, bus-brief}
+use Rattle.call_spawn.proofs.refuse.spawn_refusal.Statement.{statement}
+use Rattle.call_spawn.proofs.refuse.spawn_refusal.Tie as tie
+
+allowed-requires : tie.Need-allowed-requires
+allowed-requires c κs = search needs
+
+returns : tie.Need-returns
+returns c =
+    λ m. rw (sym (c .before .allowed .ensures) ∙ not-true (c .before .allowed .result) (c .if1 .taken))
+
+brief-of-requires : tie.Need-brief-of-requires
+brief-of-requires c κs = search needs
+
+bus-test-requires : tie.Need-bus-test-requires
+bus-test-requires c κs = search needs
+
+enum-told : tie.Need-enum-told
+enum-told c = search needs
+
+enum-told-2 : tie.Need-enum-told-2
+enum-told-2 c = search needs
+
+tables-test-requires : tie.Need-tables-test-requires
+tables-test-requires c κs = search needs
+
+returns-2 : tie.Need-returns-2
+returns-2 c =
+    let a = c .before .before .before .before .before .before .args in
+    let s = a .s in
+    let on = sym (c .before .before .before .before .before .allowed .ensures) ∙ not-false (c .before .before .before .before .before .allowed .result) (c .before .before .before .before .if1 .left) in
+    let o = nodeAt (take (s .nodes) (nodesIn (a .nodes .now))) (a .bus) in
+    let below = roomRefusal (length (take (s .nodes) (nodesIn (a .nodes .now)))) (length (take (s .edges) (edgesIn (a .edges .now)))) (length (take (s .voices) (voicesIn (a .voices .now)))) (s .next) (s .spawned) (a .def .nodes .count) (a .def .edges .count) in
+    let e = c .before .before .bus-test .ensures ∙ ap (λ b. answerOf (busBrief b)) (c .before .before .before .brief-of .ensures) ∙ ap answerOf (bus-brief o) in
+    let rest = e ∙ above-refused (eqb (portsOf o) 0) BusWithoutPorts below (hostTest o) (c .enum-told .given .0 .0) (sym e ∙ c .enum-told .given .1) in
+    λ m. rest ∙ sym (ap (λ b. answerOf (when (not b) DefinitionLimits (orElse (hostTest o) (when (eqb (portsOf o) 0) BusWithoutPorts below)))) on)
+
+returns-3 : tie.Need-returns-3
+returns-3 c =
+    let a = c .before .before .before .before .before .before .before .before .before .args in
+    let s = a .s in
+    let on = sym (c .before .before .before .before .before .before .before .before .allowed .ensures) ∙ not-false (c .before .before .before .before .before .before .before .before .allowed .result) (c .before .before .before .before .before .before .before .if1 .left) in
+    let o = nodeAt (take (s .nodes) (nodesIn (a .nodes .now))) (a .bus) in
+    let below = roomRefusal (length (take (s .nodes) (nodesIn (a .nodes .now)))) (length (take (s .edges) (edgesIn (a .edges .now)))) (length (take (s .voices) (voicesIn (a .voices .now)))) (s .next) (s .spawned) (a .def .nodes .count) (a .def .edges .count) in
+    let e = c .before .before .before .before .before .bus-test .ensures ∙ ap (λ b. answerOf (busBrief b)) (c .before .before .before .before .before .before .brief-of .ensures) ∙ ap answerOf (bus-brief o) in
+    let rest = c .tables-test .ensures ∙ above-done (eqb (portsOf o) 0) BusWithoutPorts below (hostTest o) (sym e ∙ c .before .before .before .enum-told2 .given .1) in
+    λ m. rest ∙ sym (ap (λ b. answerOf (when (not b) DefinitionLimits (orElse (hostTest o) (when (eqb (portsOf o) 0) BusWithoutPorts below)))) on)
+
+pub spawn-refusal-spec : {M : Type 1} → statement M
+spawn-refusal-spec =
+    tie.close
+    (tie.spec
+    allowed-requires
+    returns
+    brief-of-requires
+    bus-test-requires
+    enum-told
+    enum-told-2
+    tables-test-requires
+    returns-2
+    returns-3)

@@ -1,0 +1,75 @@
+use Prim.Native.Nat.{_+_}
+use native.Mathlib.Omega.{arith}
+use mathlib.Core.Path.{ap, _∙_}
+use borrow.Author.Needs.{needs}
+use Rattle.store.specs.declared.answer.Spawned.the-variants as Spawned
+use Rattle.model.specs.Spawn.{spawnOf, nextVoice}
+use Rattle.memory.specs.declared.state.State.{State}
+use Rattle.memory.specs.View.{modelOf, deskOf}
+use Rattle.memory.specs.Lent.{lentVoices}
+use Rattle.memory.specs.Parts.{numbered}
+use Rattle.call_spawn.proofs.Rooms.{blank}
+use Rattle.call_spawn.proofs.Seating.{seats, landedIn}
+use Rattle.call_spawn.proofs.seat.seat_voice.Statement.{statement}
+use Rattle.call_spawn.proofs.seat.seat_voice.Tie as tie
+
+new-voice-requires : tie.Need-new-voice-requires
+new-voice-requires c κs =
+    let h = c .pre (blank (c .args .s)) in
+    record { within = h .within; ids = h .ids; names = h .names }
+
+add-with-numbers : tie.Need-add-with-numbers
+add-with-numbers c =
+    omega (arith, c .before .before .pre (blank (c .before .before .args .s)) .names)
+
+pans-requires : tie.Need-pans-requires
+pans-requires c κs = search needs
+
+add-voice-requires : tie.Need-add-voice-requires
+add-voice-requires c κs = search needs
+
+push-voice-requires : tie.Need-push-voice-requires
+push-voice-requires c κs = search needs
+
+with-voices-requires : tie.Need-with-voices-requires
+with-voices-requires c κs = search needs
+
+next-sequence-requires : tie.Need-next-sequence-requires
+next-sequence-requires c κs = search needs
+
+add-with-numbers-2 : tie.Need-add-with-numbers-2
+add-with-numbers-2 c =
+    omega (arith, c .before .before .before .before .before .before .before .before .before .before .before .pre (blank (c .before .before .before .before .before .before .before .before .before .before .before .args .s)) .names)
+
+with-numbers-requires : tie.Need-with-numbers-requires
+with-numbers-requires c κs = search needs
+
+returns : tie.Need-returns
+returns c =
+    let s = c .before .before .before .before .before .before .before .before .before .before .before .before in
+    let a = s .args in
+    let x = spawnOf (a .def) (a .bus) (a .pan) in
+    let grown = c .before .before .before .before .before .before .add-voice in
+    let seat = c .before .before .before .before .push-voice in
+    let left = c .with-numbers .ensures ∙ ap (λ (k : State). numbered k (a .s .spawned + 1) (c .before .before .next-sequence .result)) (c .before .before .before .with-voices .ensures) in
+    λ m.
+    let old = lentVoices (a .s) (a .nodes .now) (a .edges .now) (a .voices .now) m in
+    let more = lentVoices (grown .result) (grown .last .1 .0) (grown .last .1 .1 .0) (a .voices .now) m in
+    ap (landedIn (Spawned.Voice (nextVoice (deskOf old))))
+    (ap (λ (k : State). modelOf (lentVoices k (grown .last .1 .0) (grown .last .1 .1 .0) (seat .last .0) m)) left
+    ∙ seats x (a .state) (a .port) (modelOf old) (s .pre m) (modelOf more) (c .before .before .before .before .before .before .before .before .before .pans .result) (c .before .before .before .before .before .before .before .before .before .pans .ensures) (grown .ensures old) (c .before .before .before .before .before .before .before .before .before .before .before .new-voice .result) (c .before .before .before .before .before .before .before .before .before .before .before .new-voice .ensures old) _ (seat .ensures .is) (c .before .before .next-sequence .result) (c .before .before .next-sequence .ensures))
+
+pub seat-voice-spec : {M : Type 1} → statement M
+seat-voice-spec =
+    tie.close
+    (tie.spec
+    new-voice-requires
+    add-with-numbers
+    pans-requires
+    add-voice-requires
+    push-voice-requires
+    with-voices-requires
+    next-sequence-requires
+    add-with-numbers-2
+    with-numbers-requires
+    returns)

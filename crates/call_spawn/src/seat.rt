@@ -1,0 +1,96 @@
+use crate::spawn::Spawning;
+use graph_rows::edge_row::EdgeTable;
+use graph_rows::node_row::NodeTable;
+use memory::parts::with_numbers;
+use memory::parts::with_voices;
+use memory::state::State;
+use node::record::NodeId;
+use node::record::VoiceId;
+use store::answer::Spawned;
+use store::voices::Voice;
+use store::voices::VoiceState;
+use synthdef::def::SynthDef;
+use synthdef::instance::id_after;
+use synthdef::plan::done_plan;
+use voice_graph::growth::add_voice;
+use voice_rows::row::VoiceTable;
+use voice_rows::table::push_voice;
+use words::table::at_most;
+ghost use mathlib.Core.Path.{_≡_};
+ghost use Prim.Native.Nat.{_+_, _%_};
+ghost use Rattle.model.specs.Spawn.{pans, spawnOf, newcomer};
+ghost use Rattle.model.specs.Model.{land};
+ghost use Rattle.memory.specs.View.{Memory, deskOf, modelOf};
+ghost use Rattle.memory.specs.Lent.{lentState, lentVoices};
+ghost use Rattle.call_spawn.specs.Room.{Headroom, landedAs, NewIds};
+
+// Whether a pan position asks for a pan node.
+fn pans(pan: f32) -> bool
+    ensures { λ r. ⌜ r ≡ pans pan ⌝ }
+{
+    !(pan == 0.0)
+}
+
+// The sequence wraps after 2^32 - 1.
+fn next_sequence(n: u32) -> u32
+    ensures { λ r. ⌜ r ≡ (n + 1) % 4294967296 ⌝ }
+{
+    ((n as u64 + 1) % 4294967296) as u32
+}
+
+// The record of the new voice.
+fn new_voice(s: State, def: SynthDef, pan: f32, state: VoiceState, bus: NodeId, port: u32) -> Voice
+    requires { ⌜ NewIds def (s .next) (s .spawned) ⌝ }
+    ensures { λ r. ⌜ ((m : Memory) → r ≡ newcomer (spawnOf def bus pan) state port (deskOf (lentState s m))) ⌝ }
+{
+    let ns = def.nodes;
+    let count = at_most(ns.count, 24) as u32;
+    let params = def.params;
+    let plan = done_plan(def);
+    let first = NodeId(s.next as u32);
+    let output = id_after(first, def.output);
+    let panned = pans(pan);
+    Voice {
+        id: VoiceId(s.spawned + 1),
+        birth: s.clock,
+        bus,
+        port,
+        first,
+        count,
+        output,
+        panned,
+        sequence: s.sequence,
+        state,
+        params,
+        plan,
+    }
+}
+
+// The new voice stands on the port `port` of the bus.
+pub(crate) fn seat_voice(
+    s: State,
+    nodes: &mut NodeTable,
+    edges: &mut EdgeTable,
+    voices: &mut VoiceTable,
+    def: SynthDef,
+    pan: f32,
+    state: VoiceState,
+    bus: NodeId,
+    port: u32,
+) -> Spawning
+    requires { ⌜ ((m : Memory) → Headroom def (modelOf (lentVoices s (now nodes) (now edges) (now voices) m))) ⌝ }
+    ensures { λ r. ⌜ ((m : Memory) → landedAs (r .answer) (lentVoices (r .state) (now (nodes .exit)) (now (edges .exit)) (now (voices .exit)) m) ≡ land (spawnOf def bus pan) state port (modelOf (lentVoices s (now (nodes .entry)) (now (edges .entry)) (now (voices .entry)) m))) ⌝ }
+{
+    let v = new_voice(s, def, pan, state, bus, port);
+    let id = VoiceId(s.spawned + 1);
+    let panned = pans(pan);
+    let grown = add_voice(s, nodes, edges, id, def, panned, bus, port);
+    let count = push_voice(voices, grown.voices, v);
+    let seated = with_voices(grown, count);
+    let sequence = next_sequence(s.sequence);
+    let told = with_numbers(seated, s.spawned + 1, sequence);
+    Spawning {
+        state: told,
+        answer: Spawned::Voice(id),
+    }
+}
