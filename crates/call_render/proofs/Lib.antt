@@ -1,0 +1,4 @@
+pub mod Gone
+pub mod Events
+pub mod Ends
+pub mod Whole

@@ -1,0 +1,54 @@
+use Prim.Native.Nat.{_≤_}
+use native.Mathlib.Omega.{arith}
+use mathlib.Core.Path.{sym}
+use lib.Seq.{length-take-le}
+use lib.ListN.{length}
+use borrow.Author.Needs.{needs}
+use Rattle.call_render.proofs.Events.{all-happen}
+use Rattle.call_render.proofs.due.happen_all.Statement.{statement}
+use Rattle.call_render.proofs.due.happen_all.Tie as tie
+
+slice-aggregate-happen-due : tie.Need-slice-aggregate-happen-due
+slice-aggregate-happen-due c = search needs
+
+happen-due-requires : tie.Need-happen-due-requires
+happen-due-requires c κs = search needs
+
+remove-due-requires : tie.Need-remove-due-requires
+remove-due-requires c κs = search needs
+
+with-events-requires : tie.Need-with-events-requires
+with-events-requires c κs = search needs
+
+array-share-prefix-freed : tie.Need-array-share-prefix-freed
+array-share-prefix-freed c = search needs
+
+slice-aggregate-forget-voices : tie.Need-slice-aggregate-forget-voices
+slice-aggregate-forget-voices c =
+    let h = c .before .before .before .before .before .before .before .before .happen-due in
+    let fits : h .result ≤ length (h .last .1 .1 .1 .1 .1 .0) = omega (arith, h .ensures .fits, h .ensures .long) in
+    sym (length-take-le (h .result) (h .last .1 .1 .1 .1 .1 .0) fits)
+
+forget-voices-requires : tie.Need-forget-voices-requires
+forget-voices-requires c κs = search needs
+
+returns : tie.Need-returns
+returns c =
+    let s = c .before .before .before .before .before .before .before .before .before .before .before .before .before .before .before .args in
+    let h = c .before .before .before .before .before .before .before .before .before .happen-due in
+    let e = c .before .before .before .before .before .before .remove-due in
+    let f = c .forget-voices in
+    all-happen (s .s) (s .nodes .now) (s .edges .now) (s .voices .now) (s .events .now) (s .deadline) (h .last .1 .0) (h .last .1 .1 .1 .1 .1 .0) (h .result) (h .ensures) (e .last .0) (e .result) (e .ensures) (c .before .before .before .before .before .with-events .result) (c .before .before .before .before .before .with-events .ensures) (f .result) (f .last .1 .0) (f .last .1 .1 .0) (f .last .1 .1 .1 .0) (f .ensures)
+
+pub happen-all-spec : {M : Type 1} → statement M
+happen-all-spec =
+    tie.close
+    (tie.spec
+    slice-aggregate-happen-due
+    happen-due-requires
+    remove-due-requires
+    with-events-requires
+    array-share-prefix-freed
+    slice-aggregate-forget-voices
+    forget-voices-requires
+    returns)

@@ -1,0 +1,107 @@
+use Prim.Native.Nat.{_≤_, _-_}
+use native.Mathlib.Omega.{arith}
+use mathlib.Core.Path.{sym, _∙_, subst}
+use mathlib.Core.List.{[]}
+use lib.ListN.{length, take}
+use borrow.Author.Needs.{needs}
+use Rattle.scheduler.specs.declared.event.Event.{Event}
+use Rattle.voice_rows.specs.Rows.{voicesIn}
+use Rattle.graph_rows.specs.Node.{nodesIn}
+use Rattle.event_table.specs.Rows.{eventOf, eventsIn}
+use Rattle.words.proofs.Rows.{rows-long}
+use Rattle.words.proofs.InWords.{take-count}
+use Rattle.call_render.specs.Happened.{Happens}
+use Rattle.call_render.proofs.Events.{Going, going-start, going-on, going-off, going-done}
+use Rattle.call_render.proofs.due.happen_due.Statement.{statement}
+use Rattle.call_render.proofs.due.happen_due.Tie as tie
+
+abbrev Inv-loop : tie.InvT-loop
+Inv-loop s nodes₀ voices t deadline freed₀ n count₀ i₀ nodes freed count i = Going deadline (eventsIn t) n (take (s .voices) (voicesIn voices)) (take (s .nodes) (nodesIn nodes₀)) (take (s .nodes) (nodesIn nodes)) freed count i
+
+abbrev μ-loop : tie.MeasureT-loop
+μ-loop s nodes₀ voices t deadline freed₀ n count₀ i₀ nodes freed count i = n - i
+
+at-most-requires : tie.Need-at-most-requires Inv-loop μ-loop
+at-most-requires c κs = search needs
+
+loop-holds : tie.Need-loop-holds Inv-loop μ-loop
+loop-holds c =
+    let s = c .before .before .before .args in
+    going-start (s .deadline) (eventsIn (s .t .now)) (c .at-most .result) (take (s .s .voices) (voicesIn (s .voices .now))) (take (s .s .nodes) (nodesIn (s .nodes .now))) (s .freed .now) (c .before .before .before .pre .1)
+
+is-due-requires : tie.Need-is-due-requires Inv-loop μ-loop
+is-due-requires c κs = search needs
+
+event-at-requires : tie.Need-event-at-requires Inv-loop μ-loop
+event-at-requires c κs = search needs
+
+happen-requires : tie.Need-happen-requires Inv-loop μ-loop
+happen-requires c κs =
+    let l = c .before .before .before .before .before .before .loop in
+    let n = c .before .before .before .before .before .before .before .at-most in
+    let s = c .before .before .before .before .before .before .before .before .before .before .args in
+    omega (arith, l .inv .few, l .inv .passed, l .inv .long, n .ensures, c .before .before .before .before .before .loop-test .taken, c .before .before .before .before .before .before .before .before .before .before .pre .0)
+
+add-i : tie.Need-add-i Inv-loop μ-loop
+add-i c = search needs
+
+loop-less : tie.Need-loop-less Inv-loop μ-loop
+loop-less c = search needs
+
+loop-again : tie.Need-loop-again Inv-loop μ-loop
+loop-again c =
+    let s = c .before .before .before .before .before .before .before .before .before .before .before .before .before .args in
+    let l = c .before .before .before .before .before .before .before .before .before .loop in
+    let n = c .before .before .before .before .before .before .before .before .before .before .at-most in
+    let vs = take (s .s .voices) (voicesIn (s .voices .now)) in
+    let ns = take (s .s .nodes) (nodesIn (l .nodes)) in
+    let top : n .result ≤ length (eventsIn (s .t .now)) = omega (arith, n .ensures, rows-long 15 eventOf (s .t .now)) in
+    let h = c .before .before .happen in
+    let new = take (s .s .nodes) (nodesIn (h .last .1 .0)) in
+    going-on (s .deadline) (eventsIn (s .t .now)) (n .result) vs (take (s .s .nodes) (nodesIn (s .nodes .now))) (eventOf []) ns (l .freed) (l .count) (l .i) (l .inv) (c .before .before .before .before .before .before .before .before .loop-test .taken) top (sym (c .before .before .before .before .before .before .before .is-due .ensures) ∙ c .before .before .before .before .before .before .if1 .taken) new (h .last .1 .1 .1 .1 .0) (h .result) (subst (λ (e : Event). Happens vs e ns (l .freed) (l .count) new (h .last .1 .1 .1 .1 .0) (h .result)) (c .before .before .before .before .before .event-at .ensures) (h .ensures))
+
+add-i-2 : tie.Need-add-i-2 Inv-loop μ-loop
+add-i-2 c = search needs
+
+loop-less-2 : tie.Need-loop-less-2 Inv-loop μ-loop
+loop-less-2 c = search needs
+
+loop-again-2 : tie.Need-loop-again-2 Inv-loop μ-loop
+loop-again-2 c =
+    let s = c .before .before .before .before .before .before .before .args in
+    let l = c .before .before .before .loop in
+    let n = c .before .before .before .before .at-most in
+    let top : n .result ≤ length (eventsIn (s .t .now)) = omega (arith, n .ensures, rows-long 15 eventOf (s .t .now)) in
+    going-off (s .deadline) (eventsIn (s .t .now)) (n .result) (take (s .s .voices) (voicesIn (s .voices .now))) (take (s .s .nodes) (nodesIn (s .nodes .now))) (eventOf []) (take (s .s .nodes) (nodesIn (l .nodes))) (l .freed) (l .count) (l .i) (l .inv) (c .before .before .loop-test .taken) top (sym (c .before .is-due .ensures) ∙ c .if1 .left)
+
+same-length : tie.Need-same-length Inv-loop μ-loop
+same-length c = search needs
+
+returns : tie.Need-returns Inv-loop μ-loop
+returns c =
+    let s = c .before .before .before .before .before .args in
+    let l = c .before .loop in
+    let n = c .before .before .at-most in
+    let top : n .result ≤ length (eventsIn (s .t .now)) = omega (arith, n .ensures, rows-long 15 eventOf (s .t .now)) in
+    let room : n .result ≤ 256 = omega (arith, n .ensures, c .before .before .before .before .before .pre .0) in
+    going-done (s .deadline) (eventsIn (s .t .now)) (n .result) (take (s .s .voices) (voicesIn (s .voices .now))) (take (s .s .nodes) (nodesIn (s .nodes .now))) (take (s .s .nodes) (nodesIn (l .nodes))) (l .freed) (l .count) (l .i) (l .inv) (c .loop-test .left) top room (take (s .s .events) (eventsIn (s .t .now))) (take-count 15 eventOf (s .t .now) (s .s .events) (n .result) (n .ensures))
+
+pub happen-due-spec : {M : Type 1} → statement M
+happen-due-spec =
+    tie.close
+    (tie.spec
+    Inv-loop
+    μ-loop
+    at-most-requires
+    loop-holds
+    is-due-requires
+    event-at-requires
+    happen-requires
+    add-i
+    loop-less
+    loop-again
+    add-i-2
+    loop-less-2
+    loop-again-2
+    same-length
+    returns)

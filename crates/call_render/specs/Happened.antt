@@ -1,0 +1,51 @@
+-- What the due events leave: the records of the nodes, and the voices that are freed. These are noted first, and removed all together
+-- at the end (proofs/Gone.antt: that is the same as each at its event).
+use Prim.Native.Nat.{ℕ, _+_, _≤_}
+use mathlib.Core.Path.{_≡_}
+use mathlib.Core.List.{List, [], _∷_, _++_}
+use mathlib.Core.Option.{Option, none, some}
+use lib.ListN.{length, take}
+use Rattle.lists.specs.Find.{find}
+use Rattle.node.specs.declared.record.Node.{Node}
+use Rattle.node.specs.declared.record.VoiceId.{VoiceId}
+use Rattle.graph.specs.View.{withNodes}
+use Rattle.scheduler.specs.Queue.{takenBefore, leftAfter}
+use Rattle.scheduler.specs.declared.event.Event.{Event}
+use Rattle.store.specs.declared.voices.Voice.{Voice}
+use Rattle.model.specs.Desk.{Desk, withGraph, withEvents}
+use Rattle.model.specs.Model.{Model}
+use Rattle.model.specs.Render.{happen, happenAll}
+use Rattle.call_param.specs.Left.{isKnown}
+use Rattle.call_free.specs.Forgotten.{goneIds}
+
+-- a model with these nodes and voices
+abbrev pub scene : Desk → List Node → List Voice → Model
+scene d ns vs = record { desk = withGraph (withNodes (d .graph) ns) d; voices = vs }
+
+-- one voice more, if it is known
+abbrev pub noted : Option Voice → List ℕ → ℕ → List ℕ
+noted none l w = l
+noted (some v) l w = l ++ (w ∷ [])
+
+pub record Noted (vs : List Voice) (w : VoiceId) (old : List ℕ) (count : ℕ) (new : List ℕ) (r : ℕ) : Type 0 where
+  pub is : take r new ≡ noted (find (isKnown (take count old) w) vs) (take count old) (w .0)
+  pub more : r ≤ count + 1
+  pub long : length new ≡ length old
+
+-- one event, whatever else the store holds
+pub record Happens (vs : List Voice) (e : Event) (ns : List Node) (old : List ℕ) (count : ℕ) (new-ns : List Node) (new : List ℕ) (r : ℕ) : Type 0 where
+  pub is : (d : Desk) → goneIds (take r new) (scene d new-ns vs) ≡ happen e (goneIds (take count old) (scene d ns vs))
+  pub more : r ≤ count + 1
+  pub long : length new ≡ length old
+
+-- all of them
+pub record Left (ns : List Node) (vs : List Voice) (events : List Event) (new-ns : List Node) (freed : List ℕ) (r : ℕ) : Type 0 where
+  pub is : (d : Desk) → happenAll events (scene d ns vs) ≡ goneIds (take r freed) (scene d new-ns vs)
+  pub fits : r ≤ 256
+  pub long : length freed ≡ 256
+
+-- the due events are removed from the queue, and happen
+abbrev pub left : ℕ → Model → Model
+left deadline m =
+    happenAll (takenBefore deadline (m .desk .events))
+    (record { desk = withEvents (leftAfter deadline (m .desk .events)) (m .desk); voices = m .voices })

@@ -1,0 +1,2 @@
+pub mod Happened
+pub mod Blocks

@@ -1,0 +1,90 @@
+// The events that are due, row by row where they stand; then they are removed from the queue together.
+use crate::happen::happen;
+use crate::happen::is_free;
+use call_free::forget::forget_voices;
+use event_table::queue::is_due;
+use event_table::queue::remove_due;
+use event_table::row::EventTable;
+use event_table::row::event_at;
+use graph_rows::edge_row::EdgeTable;
+use graph_rows::node_row::NodeTable;
+use memory::parts::with_events;
+use memory::state::State;
+use voice_rows::row::VoiceTable;
+use words::table::at_most;
+ghost use mathlib.Core.Path.{_≡_};
+ghost use lib.ListN.{length, take};
+ghost use Rattle.scheduler.specs.Queue.{takenBefore, leftAfter};
+ghost use Rattle.model.specs.Render.{anyFree, happenAll};
+ghost use Rattle.event_table.specs.Rows.{eventsIn};
+ghost use Rattle.graph_rows.specs.Node.{nodesIn};
+ghost use Rattle.voice_rows.specs.Rows.{voicesIn};
+ghost use Rattle.memory.specs.View.{Memory, modelOf};
+ghost use Rattle.memory.specs.Lent.{lentRender};
+ghost use Rattle.call_render.specs.Happened.{Left, left};
+
+// Whether any of the due events is a free, of a known voice or not.
+pub(crate) fn any_free(t: &[u32], count: usize, deadline: u64) -> bool
+    ensures { λ r. ⌜ r ≡ anyFree (takenBefore deadline (take count (eventsIn (now (t .entry))))) ⌝ }
+{
+    let n = at_most(count, t.len() / 15);
+    let mut i: usize = 0;
+    while i < n {
+        if is_due(t, i, deadline) {
+            let e = event_at(t, i);
+            let action = e.action;
+            if is_free(action) {
+                return true;
+            }
+            i += 1;
+        } else {
+            i += 1;
+        }
+    }
+    false
+}
+
+// The due events happen to the nodes, in order, and the voices that they free are noted in `freed`: how many.
+fn happen_due(
+    s: State,
+    nodes: &mut NodeTable,
+    voices: &VoiceTable,
+    t: &[u32],
+    deadline: u64,
+    freed: &mut [u64],
+) -> usize
+    requires { ⌜ (length (now t) ≡ 3840) × (length (now freed) ≡ 256) ⌝ }
+    ensures { λ r. ⌜ Left (take (s .nodes) (nodesIn (now (nodes .entry)))) (take (s .voices) (voicesIn (now (voices .entry)))) (takenBefore deadline (take (s .events) (eventsIn (now (t .entry))))) (take (s .nodes) (nodesIn (now (nodes .exit)))) (now (freed .exit)) r ⌝ }
+{
+    let n = at_most(s.events, t.len() / 15);
+    let mut count: usize = 0;
+    let mut i: usize = 0;
+    while i < n {
+        if is_due(t, i, deadline) {
+            let e = event_at(t, i);
+            count = happen(s, nodes, voices, e, freed, count);
+            i += 1;
+        } else {
+            i += 1;
+        }
+    }
+    count
+}
+
+// The due events are removed from the queue and happen: the state then.
+pub(crate) fn happen_all(
+    s: State,
+    nodes: &mut NodeTable,
+    edges: &mut EdgeTable,
+    voices: &mut VoiceTable,
+    events: &mut EventTable,
+    deadline: u64,
+) -> State
+    ensures { λ r. ⌜ ((m : Memory) → modelOf (lentRender r (now (nodes .exit)) (now (edges .exit)) (m .order) (now (voices .exit)) (now (events .exit)) m) ≡ left deadline (modelOf (lentRender s (now (nodes .entry)) (now (edges .entry)) (m .order) (now (voices .entry)) (now (events .entry)) m))) ⌝ }
+{
+    let mut freed = [0u64; 256];
+    let count = happen_due(s, nodes, voices, events, deadline, &mut freed);
+    let rest = remove_due(events, s.events, deadline);
+    let state = with_events(s, rest);
+    forget_voices(state, nodes, edges, voices, &freed[..count])
+}

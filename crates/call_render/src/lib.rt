@@ -1,0 +1,5 @@
+// Render on a lent store: the events before clock + block, one prepare if any was a free, the fades and the clock.
+mod block;
+mod due;
+mod happen;
+pub mod render;
