@@ -1,6 +1,6 @@
 ghost use mathlib.Core.Path.{_≡_};
 ghost use Prim.Native.Nat.{min, _≤_};
-ghost use lib.ListN.{length, take};
+ghost use lib.ListN.{length, take, replicate};
 ghost use Rattle.rank.specs.Order.{arcs, upto, order, whole};
 ghost use Rattle.rank.specs.Parts.{Degrees, Linked, Ready, Queued, rankingOf};
 
@@ -44,19 +44,13 @@ fn degrees(from: &[usize], to: &[usize], n: usize, m: usize) -> [usize; 512]
     counts
 }
 
-// The arcs of one source, as a chain in their order: `first` of an index, `next` of an arc; past the arcs where there is none.
-struct Links {
-    first: [usize; 512],
-    next: [usize; 1024],
-}
-
-fn linked(from: &[usize], to: &[usize], n: usize, m: usize) -> Links
-    requires { ⌜ (n ≤ 512) × (m ≤ 1024) ⌝ }
+// The arcs of one source, as a chain in their order, are stored: `first` of an index, `next` of an arc; `m`, past the arcs, where there
+// is none, as it stands there before.
+fn linked(from: &[usize], to: &[usize], n: usize, m: usize, first: &mut [usize], next: &mut [usize])
+    requires { ⌜ (n ≤ 512) × (m ≤ 1024) × (now first ≡ replicate 512 m) × (now next ≡ replicate 1024 m) ⌝ }
     requires { ⌜ (m ≤ length (now from)) × (m ≤ length (now to)) ⌝ }
-    ensures { λ r. ⌜ Linked (r .first) (r .next) n (take m (arcs (now (from .entry)) (now (to .entry)))) ⌝ }
+    ensures { λ _. ⌜ Linked (now (first .exit)) (now (next .exit)) n (take m (arcs (now (from .entry)) (now (to .entry)))) ⌝ }
 {
-    let mut first = [m; 512];
-    let mut next = [m; 1024];
     let mut i = m;
     while 0 < i {
         i -= 1;
@@ -66,16 +60,12 @@ fn linked(from: &[usize], to: &[usize], n: usize, m: usize) -> Links
             first[v] = i;
         }
     }
-    Links {
-        first: first,
-        next: next,
-    }
 }
 
 // The indices below `n` whose count is 0.
-fn ready(counts: [usize; 512], n: usize) -> Queue
-    requires { ⌜ n ≤ 512 ⌝ }
-    ensures { λ r. ⌜ Ready r (take n counts) ⌝ }
+fn ready(counts: &[usize], n: usize) -> Queue
+    requires { ⌜ (n ≤ 512) × (length (now counts) ≡ 512) ⌝ }
+    ensures { λ r. ⌜ Ready r (take n (now (counts .entry))) ⌝ }
 {
     let mut queue = [0usize; 512];
     let mut tail: usize = 0;
@@ -99,15 +89,17 @@ fn queued(from: &[usize], to: &[usize], n: usize, m: usize) -> Queue
     requires { ⌜ (m ≤ length (now from)) × (m ≤ length (now to)) ⌝ }
     ensures { λ r. ⌜ Queued r n (take m (arcs (now (from .entry)) (now (to .entry)))) ⌝ }
 {
-    let l = linked(from, to, n, m);
+    let mut first = [m; 512];
+    let mut next = [m; 1024];
+    linked(from, to, n, m, &mut first, &mut next);
     let mut counts = degrees(from, to, n, m);
-    let o = ready(counts, n);
+    let o = ready(&counts, n);
     let mut queue = o.rows;
     let mut tail = o.count;
     let mut head: usize = 0;
     while head < tail {
         let v = queue[head];
-        let mut e = l.first[v];
+        let mut e = first[v];
         while e < m {
             let t = to[e];
             if t < n {
@@ -120,7 +112,7 @@ fn queued(from: &[usize], to: &[usize], n: usize, m: usize) -> Queue
                     }
                 }
             }
-            e = l.next[e];
+            e = next[e];
         }
         head += 1;
     }

@@ -1,14 +1,11 @@
--- `rank::linked` meets its contract: from arc i on, the chains lead from arc to arc of each source.
-use Prim.Native.Nat.{_+_, _≤_, _<_, _-_}
-use mathlib.Core.Path.{_≡_, ap}
+use Prim.Native.Nat.{ℕ, _+_, _≤_, _<_, _-_}
 use native.Mathlib.Omega.{arith}
-use lib.ListN.{take, getD}
-use Rattle.rank.specs.Order.{arcs}
-use Rattle.rank.proofs.Laws.{enough, next-arc, arc-at, Chain, chain-start, chain-skip, chain-link}
-use mathlib.Core.Path.{subst}
-use Rattle.rank.specs.Order.{Arc, arc}
-use Rattle.rank.specs.Parts.{fromAt}
+use mathlib.Core.Path.{_≡_, sym, ap, subst, _∙_}
+use lib.ListN.{length, take, getD, length-replicate}
 use borrow.Author.Needs.{needs}
+use Rattle.rank.specs.Order.{arcs, Arc, arc}
+use Rattle.rank.specs.Parts.{fromAt}
+use Rattle.rank.proofs.Laws.{enough, next-arc, arc-at, Chain, chain-start, chain-skip, chain-link}
 use Rattle.rank.proofs.linked.Statement.{statement}
 use Rattle.rank.proofs.linked.Tie as tie
 
@@ -19,7 +16,7 @@ abbrev μ-loop : tie.MeasureT-loop
 μ-loop from to n m first₀ next₀ i₀ first next i = i
 
 loop-holds : tie.Need-loop-holds Inv-loop μ-loop
-loop-holds c = (omega arith, chain-start _ _ _ (c .pre .0 .0) (enough _ _ _ (c .pre .1 .0) (c .pre .1 .1)))
+loop-holds c = (omega arith, rw (c .pre .0 .2, c .pre .0 .3) (chain-start _ _ _ (c .pre .0 .0) (enough _ _ _ (c .pre .1 .0) (c .pre .1 .1))))
 
 sub-i : tie.Need-sub-i Inv-loop μ-loop
 sub-i c = search needs
@@ -33,36 +30,36 @@ shared-slice-read-v c = search needs
 mul-next : tie.Need-mul-next Inv-loop μ-loop
 mul-next c = search needs
 
-array-read-next : tie.Need-array-read-next Inv-loop μ-loop
-array-read-next c = search needs
+slice-read-next : tie.Need-slice-read-next Inv-loop μ-loop
+slice-read-next c = search needs
 
 mul-next-2 : tie.Need-mul-next-2 Inv-loop μ-loop
 mul-next-2 c = search needs
 
-array-write-next : tie.Need-array-write-next Inv-loop μ-loop
-array-write-next c = search needs
+slice-write-next : tie.Need-slice-write-next Inv-loop μ-loop
+slice-write-next c = search needs
 
 mul-first : tie.Need-mul-first Inv-loop μ-loop
 mul-first c = search needs
 
-array-write-first : tie.Need-array-write-first Inv-loop μ-loop
-array-write-first c = search needs
+slice-write-first : tie.Need-slice-write-first Inv-loop μ-loop
+slice-write-first c = search needs
 
 loop-less : tie.Need-loop-less Inv-loop μ-loop
 loop-less c = search needs
 
 loop-again : tie.Need-loop-again Inv-loop μ-loop
 loop-again c =
-    let a = c .before .before .before .before .args in
-    let l = c .before .before .before .loop in
-    let p = c .before .before .before .before .pre in
+    let a = c .before .before .before .before .before .args in
+    let l = c .before .before .before .before .loop in
+    let p = c .before .before .before .before .before .pre in
     let i = l .i - 1 in
     let es = take (a .m) (arcs (a .from .now) (a .to .now)) in
     let hi : i < a .m = omega arith in
     let q : l .i ≡ i + 1 = omega arith in
     let inv : Chain (l .first) (l .next) (a .n) es (i + 1) = subst (Chain (l .first) (l .next) (a .n) es) q (l .inv .1) in
     let fr : fromAt es i ≡ getD (a .from .now) i 0 = ap (λ (x : Arc). x .from) (arc-at (a .from .now) (a .to .now) (a .m) (p .1 .0) (p .1 .1) i hi) in
-    (omega arith, chain-link es i (arc (getD (a .from .now) i 0) (getD (a .to .now) i 0)) (next-arc (a .from .now) (a .to .now) (a .m) (p .1 .0) (p .1 .1) i hi) (l .first) (l .next) (a .n) fr inv (c .if1 .taken) (p .0 .0) (omega arith))
+    (omega arith, chain-link es i (arc (getD (a .from .now) i 0) (getD (a .to .now) i 0)) (next-arc (a .from .now) (a .to .now) (a .m) (p .1 .0) (p .1 .1) i hi) (l .first) (l .next) (a .n) fr inv (c .before .if1 .taken) (p .0 .0) (omega arith))
 
 loop-less-2 : tie.Need-loop-less-2 Inv-loop μ-loop
 loop-less-2 c = search needs
@@ -79,6 +76,12 @@ loop-again-2 c =
     let inv : Chain (l .first) (l .next) (a .n) es (i + 1) = subst (Chain (l .first) (l .next) (a .n) es) q (l .inv .1) in
     let fr : fromAt es i ≡ getD (a .from .now) i 0 = ap (λ (x : Arc). x .from) (arc-at (a .from .now) (a .to .now) (a .m) (p .1 .0) (p .1 .1) i hi) in
     (omega arith, chain-skip es i (arc (getD (a .from .now) i 0) (getD (a .to .now) i 0)) (next-arc (a .from .now) (a .to .now) (a .m) (p .1 .0) (p .1 .1) i hi) (l .first) (l .next) (a .n) fr inv (c .if1 .left))
+
+same-length : tie.Need-same-length Inv-loop μ-loop
+same-length c = c .before .loop .inv .1 .0 ∙ sym (ap length (c .before .before .pre .0 .2) ∙ length-replicate {A = ℕ} 512 (c .before .before .args .m))
+
+same-length-2 : tie.Need-same-length-2 Inv-loop μ-loop
+same-length-2 c = c .before .loop .inv .1 .1 ∙ sym (ap length (c .before .before .pre .0 .3) ∙ length-replicate {A = ℕ} 1024 (c .before .before .args .m))
 
 returns : tie.Need-returns Inv-loop μ-loop
 returns c =
@@ -100,13 +103,15 @@ linked-spec =
     mul-v
     shared-slice-read-v
     mul-next
-    array-read-next
+    slice-read-next
     mul-next-2
-    array-write-next
+    slice-write-next
     mul-first
-    array-write-first
+    slice-write-first
     loop-less
     loop-again
     loop-less-2
     loop-again-2
+    same-length
+    same-length-2
     returns)

@@ -1,25 +1,21 @@
--- `rank::ready` meets its contract: the queue, with what is ready among the counts that are left, is all that is ready.
 use Prim.Native.Nat.{_≤_, _<_, _-_}
-use mathlib.Core.Path.{_≡_, refl, sym, _∙_}
+use native.Mathlib.Omega.{arith}
+use mathlib.Core.Path.{refl, sym, _∙_}
 use mathlib.Core.List.{append-nil}
 use mathlib.Core.Logic.{⊎-elim}
-use Rattle.rank.specs.Parts.{ready}
-use Rattle.lists.specs.Table.{left-row}
-use Rattle.rank.proofs.Laws.{no-row, Filled, fill-hit, fill-miss}
-use native.Mathlib.Omega.{arith}
 use lib.ListN.{length, take, length-take}
 use borrow.Author.Needs.{needs}
+use Rattle.lists.specs.Table.{left-row}
+use Rattle.rank.specs.Parts.{ready}
+use Rattle.rank.proofs.Laws.{no-row, Filled, fill-hit, fill-miss}
 use Rattle.rank.proofs.ready.Statement.{statement}
 use Rattle.rank.proofs.ready.Tie as tie
 
 abbrev Inv-loop : tie.InvT-loop
-Inv-loop n counts queue₀ tail₀ v₀ queue tail v = (v ≤ n) × Filled queue tail v (take n counts)
+Inv-loop counts n queue₀ tail₀ v₀ queue tail v = (v ≤ n) × Filled queue tail v (take n counts)
 
 abbrev μ-loop : tie.MeasureT-loop
-μ-loop n counts queue₀ tail₀ v₀ queue tail v = n - v
-
-counts-long : (c : tie.Start Inv-loop μ-loop) → length (c .args .t1) ≡ 512
-counts-long c = c .good .0 .1 .0 .1
+μ-loop counts n queue₀ tail₀ v₀ queue tail v = n - v
 
 loop-holds : tie.Need-loop-holds Inv-loop μ-loop
 loop-holds c = (omega arith, (refl, omega arith, refl))
@@ -27,8 +23,8 @@ loop-holds c = (omega arith, (refl, omega arith, refl))
 mul-if1 : tie.Need-mul-if1 Inv-loop μ-loop
 mul-if1 c = search needs
 
-array-read-if1 : tie.Need-array-read-if1 Inv-loop μ-loop
-array-read-if1 c = search needs
+shared-slice-read-if1 : tie.Need-shared-slice-read-if1 Inv-loop μ-loop
+shared-slice-read-if1 c = search needs
 
 mul-queue : tie.Need-mul-queue Inv-loop μ-loop
 mul-queue c = search needs
@@ -47,13 +43,12 @@ loop-less c = search needs
 
 loop-again : tie.Need-loop-again Inv-loop μ-loop
 loop-again c =
-    let s = c .before .before .before in
-    let l = c .before .before .loop in
-    let k = counts-long s in
+    let s = c .before .before .before .before in
+    let l = c .before .before .before .loop in
     let n = s .args .n in
-    let cs = s .args .t1 in
+    let cs = s .args .counts .now in
     let hv : l .v < n = omega arith in
-    let hn : n ≤ length cs = omega arith in
+    let hn : n ≤ length cs = omega (arith, s .pre .0, s .pre .1) in
     let dr = left-row 0 cs n (l .v) hv hn in (
       omega arith,
       ⊎-elim (λ w. rw (w .1, w .2) (fill-hit (l .queue) (l .tail) (l .v) (take n cs) _ dr (l .inv .1) (w .0 .taken) (omega arith)))
@@ -66,11 +61,10 @@ unfolding ready
 returns c =
     let s = c .before .before in
     let l = c .before .loop in
-    let k = counts-long s in
     let n = s .args .n in
     let h : n ≤ l .v = omega arith in
-    let e = rw (no-row (s .args .t1) n (l .v) h) at (l .inv .1 .2) in
-    record { long = l .inv .1 .0; few = simp length-take (omega arith); is = sym (append-nil _) ∙ e }
+    let e = rw (no-row (s .args .counts .now) n (l .v) h) at (l .inv .1 .2) in
+    record { long = l .inv .1 .0; few = simp length-take (omega (arith, s .pre .0, s .pre .1)); is = sym (append-nil _) ∙ e }
 
 pub ready-spec : {M : Type 1} → statement M
 ready-spec =
@@ -80,7 +74,7 @@ ready-spec =
     μ-loop
     loop-holds
     mul-if1
-    array-read-if1
+    shared-slice-read-if1
     mul-queue
     array-write-queue
     add-tail
