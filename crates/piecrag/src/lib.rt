@@ -1,0 +1,103 @@
+// The store: the calls that a host makes on memory that it lends, the tables that it lends, and the types of arguments and answers.
+// What else writes a store is no call, and is not shown here.
+
+// ---- the state, which goes by value, and the six tables with how many words each has
+pub use event_table::row::EVENT_WORDS;
+pub use event_table::row::EventTable;
+pub use graph_rows::edge_row::EDGE_WORDS;
+pub use graph_rows::edge_row::EdgeTable;
+pub use graph_rows::node_row::NODE_WORDS;
+pub use graph_rows::node_row::NodeTable;
+pub use memory::state::State;
+pub use order_table::ORDER_WORDS;
+pub use order_table::OrderTable;
+pub use steal_log::STEAL_WORDS;
+pub use steal_log::StealTable;
+pub use voice_rows::row::VOICE_WORDS;
+pub use voice_rows::row::VoiceTable;
+
+// ---- making
+pub use call_make::Made;
+pub use call_make::make;
+
+// ---- the host's nodes, wiring and sink, prepare and scheduling
+pub use call_host::host::add_node;
+pub use call_host::host::connect;
+pub use call_host::host::disconnect;
+pub use call_host::host::remove_node;
+pub use call_host::host::set_sink;
+pub use call_host::prepare::prepare;
+pub use call_host::schedule::schedule;
+pub use memory::state::Granted;
+pub use memory::state::Served;
+
+// ---- voices
+pub use call_clear::clear::Cleared;
+pub use call_clear::clear::free_done_synths;
+pub use call_free::free::free_voice;
+pub use call_param::param::set_voice_param;
+pub use call_param::param::set_voice_param_glide;
+pub use call_report::report::report;
+
+// ---- reading, and the page
+pub use call_page::page;
+pub use call_page::page_length;
+pub use call_read::counts::FoundEdge;
+pub use call_read::counts::edge_at;
+pub use call_read::counts::edges;
+pub use call_read::counts::processing_order;
+pub use call_read::counts::voices;
+pub use call_read::look::FoundVoice;
+pub use call_read::look::fade_position;
+pub use call_read::look::voice;
+pub use call_read::look::voice_at;
+pub use call_read::look::voice_level;
+pub use call_read::records::clock;
+pub use call_read::records::node_record;
+pub use call_read::records::sources;
+pub use call_read::records::steals;
+
+// ---- arguments
+pub use node::name::Name;
+pub use node::name::name_of;
+pub use node::order::Action;
+pub use node::order::GlideShape;
+pub use node::order::GlideSpace;
+pub use node::record::NodeId;
+pub use node::record::VoiceId;
+pub use synthdef::def::DefEdge;
+pub use synthdef::def::DefEdges;
+pub use synthdef::def::DefNode;
+pub use synthdef::def::DefNodes;
+pub use synthdef::def::NO_PORT;
+pub use synthdef::def::Param;
+pub use synthdef::def::Params;
+pub use synthdef::def::SynthDef;
+pub use voice::policy::Budget;
+pub use voice::policy::BudgetScope;
+pub use voice::policy::StealPolicy;
+
+// ---- answers
+pub use edges::ports::Source;
+pub use graph::nodes::Seen;
+pub use graph::state::Answer;
+pub use graph::state::Given;
+pub use graph::state::Sink;
+pub use node::order::LastOrder;
+pub use node::record::Edge;
+pub use node::record::Node;
+pub use node::refusal::Refusal;
+pub use node::refusal::refusal_number;
+pub use store::answer::Outcome;
+pub use store::answer::Paged;
+pub use store::answer::Position;
+pub use store::config::Config;
+pub use store::voices::Fade;
+pub use store::voices::Voice;
+pub use store::voices::VoiceState;
+pub use synthdef::plan::DonePlan;
+pub use synthdef::plan::DoneStep;
+pub use voice::policy::Level;
+pub use voice::steals::StealFound;
+pub use voice::steals::StealRecord;
+pub use voice::steals::Steals;
