@@ -10,7 +10,7 @@ use Rattle.synthdef.specs.declared.def.SynthDef.{SynthDef}
 use Rattle.synthdef.specs.declared.plan.DonePlan.{DonePlan}
 use Rattle.store.specs.declared.voices.Voice.{Voice}
 use Rattle.store.specs.declared.voices.VoiceState.{VoiceState}
-use Rattle.voice_table.specs.Looked.{pushedVoice}
+use Rattle.voice_rows.specs.Listed.{pushedVoice}
 use Rattle.model.specs.Desk.{Desk, withSpawned, withSequence}
 use Rattle.model.specs.Voice.{id}
 use Rattle.model.specs.Spawn.{Spawn, pans, nextVoice, newcomer, landGraph}

@@ -37,7 +37,18 @@ pub use call_clear::clear::free_done_synths;
 pub use call_free::free::free_voice;
 pub use call_param::param::set_voice_param;
 pub use call_param::param::set_voice_param_glide;
+pub use call_render::render::Rendering;
+pub use call_render::render::render;
 pub use call_report::report::report;
+pub use call_spawn::spawn::Spawning;
+pub use call_spawn::spawn::spawn_voice_on_bus;
+pub use call_spawn::spawn::spawn_voice_on_bus_managed;
+pub use call_spawn::spawn::spawn_voice_on_bus_panned;
+pub use call_spawn::spawn::spawn_voice_on_bus_panned_managed;
+
+// ---- what a block needs besides: fade output and bus sum
+pub use mixing::bus_sum;
+pub use mixing::fade_output;
 
 // ---- reading, and the page
 pub use call_page::page;

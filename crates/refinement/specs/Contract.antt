@@ -13,10 +13,11 @@ use Rattle.order_table.specs.Prepares.{idsIn}
 use Rattle.voice.specs.Steals.{bookOf}
 use Rattle.voice_rows.specs.Rows.{voicesIn}
 use Rattle.model.specs.Numbers.{positionSays}
+use Rattle.model.specs.Spawn.{spawnOf, middle}
 use Rattle.model.specs.Call.{Call, Answer}
 use Rattle.model.specs.Call as call
 use Rattle.memory.specs.View.{Memory}
-use Rattle.memory.specs.Lent.{lentEdges, lentEvents, lentGraph, lentNodes, lentOrder, lentParams, lentProcessing, lentState, lentSteals, lentVoiceTable, lentVoices}
+use Rattle.memory.specs.Lent.{lentEdges, lentEvents, lentGraph, lentNodes, lentOrder, lentParams, lentProcessing, lentRender, lentSpawn, lentState, lentSteals, lentVoiceTable, lentVoices}
 use Rattle.memory.specs.Called.{answered, granted}
 use Rattle.call_read.specs.Found.{voiceFound}
 use Rattle.call_page.specs.Paged.{pagedOf}
@@ -26,6 +27,10 @@ use Rattle.call_host.proofs.host.remove_node.Reads as fn-remove-node
 use Rattle.call_host.proofs.host.connect.Reads as fn-connect
 use Rattle.call_host.proofs.host.disconnect.Reads as fn-disconnect
 use Rattle.call_host.proofs.host.set_sink.Reads as fn-set-sink
+use Rattle.call_spawn.proofs.spawn.spawn_voice_on_bus_panned_managed.Reads as fn-spawn-panned-managed
+use Rattle.call_spawn.proofs.spawn.spawn_voice_on_bus_panned.Reads as fn-spawn-panned
+use Rattle.call_spawn.proofs.spawn.spawn_voice_on_bus_managed.Reads as fn-spawn-managed
+use Rattle.call_spawn.proofs.spawn.spawn_voice_on_bus.Reads as fn-spawn
 use Rattle.call_free.proofs.free.free_voice.Reads as fn-free-voice
 use Rattle.call_clear.proofs.clear.free_done_synths.Reads as fn-free-done
 use Rattle.call_param.proofs.param.set_voice_param.Reads as fn-set-param
@@ -33,6 +38,7 @@ use Rattle.call_param.proofs.param.set_voice_param_glide.Reads as fn-set-param-
 use Rattle.call_host.proofs.schedule.schedule.Reads as fn-schedule
 use Rattle.call_report.proofs.report.report.Reads as fn-report
 use Rattle.call_host.proofs.prepare.prepare.Reads as fn-prepare
+use Rattle.call_render.proofs.render.render.Reads as fn-render
 use Rattle.call_read.proofs.look.voice_level.Reads as fn-voice-level
 use Rattle.call_read.proofs.look.fade_position.Reads as fn-fade-position
 use Rattle.call_read.proofs.look.voice.Reads as fn-voice
@@ -62,6 +68,14 @@ pub data Contract : Call → Memory → Answer → Memory → Type 1 where
   set-sink : (κs : _) (a : _) (r : _) (s : _) → fn-set-sink.Post κs a r s → (m : Memory)
       → Contract (call.setSink (a .1 .1 .0)) (lentNodes (a .0) (a .1 .0 .now) m) (answered (r .answer)) (lentNodes (r .state) (a .1 .0 .now) m)
   -- the spawns; those in the middle have pan 0
+  spawn-panned-managed : (κs : _) (a : _) (r : _) (s : _) → fn-spawn-panned-managed.Post κs a r s → (m : Memory)
+      → Contract (call.spawnManaged (spawnOf (a .1 .1 .1 .1 .1 .0) (a .1 .1 .1 .1 .1 .1 .0) (a .1 .1 .1 .1 .1 .1 .1 .0))) (lentSpawn (a .0) (a .1 .0 .now) (a .1 .1 .0 .now) (a .1 .1 .1 .0 .now) (a .1 .1 .1 .1 .0 .now) m) (call.spawned (r .answer)) (lentSpawn (r .state) (s .1 .0 .now) (s .1 .1 .0 .now) (s .1 .1 .1 .0 .now) (s .1 .1 .1 .1 .0 .now) m)
+  spawn-panned : (κs : _) (a : _) (r : _) (s : _) → fn-spawn-panned.Post κs a r s → (m : Memory)
+      → Contract (call.spawnLoose (spawnOf (a .1 .1 .1 .1 .1 .0) (a .1 .1 .1 .1 .1 .1 .0) (a .1 .1 .1 .1 .1 .1 .1 .0))) (lentSpawn (a .0) (a .1 .0 .now) (a .1 .1 .0 .now) (a .1 .1 .1 .0 .now) (a .1 .1 .1 .1 .0 .now) m) (call.spawned (r .answer)) (lentSpawn (r .state) (s .1 .0 .now) (s .1 .1 .0 .now) (s .1 .1 .1 .0 .now) (s .1 .1 .1 .1 .0 .now) m)
+  spawn-managed : (κs : _) (a : _) (r : _) (s : _) → fn-spawn-managed.Post κs a r s → (m : Memory)
+      → Contract (call.spawnManaged (spawnOf (a .1 .1 .1 .1 .1 .0) (a .1 .1 .1 .1 .1 .1 .0) middle)) (lentSpawn (a .0) (a .1 .0 .now) (a .1 .1 .0 .now) (a .1 .1 .1 .0 .now) (a .1 .1 .1 .1 .0 .now) m) (call.spawned (r .answer)) (lentSpawn (r .state) (s .1 .0 .now) (s .1 .1 .0 .now) (s .1 .1 .1 .0 .now) (s .1 .1 .1 .1 .0 .now) m)
+  spawn : (κs : _) (a : _) (r : _) (s : _) → fn-spawn.Post κs a r s → (m : Memory)
+      → Contract (call.spawnLoose (spawnOf (a .1 .1 .1 .1 .1 .0) (a .1 .1 .1 .1 .1 .1 .0) middle)) (lentSpawn (a .0) (a .1 .0 .now) (a .1 .1 .0 .now) (a .1 .1 .1 .0 .now) (a .1 .1 .1 .1 .0 .now) m) (call.spawned (r .answer)) (lentSpawn (r .state) (s .1 .0 .now) (s .1 .1 .0 .now) (s .1 .1 .1 .0 .now) (s .1 .1 .1 .1 .0 .now) m)
   -- free and clearing
   free-voice : (κs : _) (a : _) (r : _) (s : _) → fn-free-voice.Post κs a r s → (m : Memory)
       → Contract (call.free (a .1 .1 .1 .1 .0)) (lentVoices (a .0) (a .1 .0 .now) (a .1 .1 .0 .now) (a .1 .1 .1 .0 .now) m) call.done (lentVoices r (s .1 .0 .now) (s .1 .1 .0 .now) (s .1 .1 .1 .0 .now) m)
@@ -79,6 +93,8 @@ pub data Contract : Call → Memory → Answer → Memory → Type 1 where
   -- prepare and render
   prepare : (κs : _) (a : _) (r : _) (s : _) → fn-prepare.Post κs a r s → (m : Memory)
       → Contract call.prepare (lentOrder (a .0) (a .1 .0 .now) (a .1 .1 .0 .now) (a .1 .1 .1 .0 .now) m) (answered (r .answer)) (lentOrder (r .state) (a .1 .0 .now) (a .1 .1 .0 .now) (s .1 .1 .1 .0 .now) m)
+  render : (κs : _) (a : _) (r : _) (s : _) → fn-render.Post κs a r s → (m : Memory)
+      → Contract call.render (lentRender (a .0) (a .1 .0 .now) (a .1 .1 .0 .now) (a .1 .1 .1 .0 .now) (a .1 .1 .1 .1 .0 .now) (a .1 .1 .1 .1 .1 .0 .now) m) (call.rendered (r .answer)) (lentRender (r .state) (s .1 .0 .now) (s .1 .1 .0 .now) (s .1 .1 .1 .0 .now) (s .1 .1 .1 .1 .0 .now) (s .1 .1 .1 .1 .1 .0 .now) m)
   -- the questions, which leave the very store
   voice-level : (κs : _) (a : _) (r : _) (s : _) → fn-voice-level.Post κs a r s → (m : Memory)
       → Contract (call.ask (call.level (a .1 .1 .1 .0))) (lentParams (a .0) (a .1 .0 .now) (a .1 .1 .0 .now) m) (call.known r) (lentParams (a .0) (a .1 .0 .now) (a .1 .1 .0 .now) m)
