@@ -3,3 +3,5 @@ mod block;
 mod due;
 mod happen;
 pub mod render;
+
+pub use block::Rendering;
