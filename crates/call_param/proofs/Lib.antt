@@ -1,4 +1,5 @@
 pub mod LastWords
 pub mod Copying
 pub mod Replacing
+pub mod Params
 pub mod Whole

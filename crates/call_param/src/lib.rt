@@ -3,4 +3,5 @@
 mod apply;
 mod last;
 pub mod left;
+mod named;
 pub mod param;

@@ -1,4 +1,5 @@
 use crate::apply::order_node;
+use crate::named::param_named;
 use edges::table::is_listed;
 use graph_rows::node_row::NodeTable;
 use memory::state::State;
@@ -12,7 +13,6 @@ use store::answer::Outcome;
 use synthdef::params::ParamNode;
 use voice_rows::row::VoiceTable;
 use voice_rows::row::first_at;
-use voice_rows::row::param_node_at;
 use voice_rows::table::find_voice;
 ghost use mathlib.Core.Path.{_≡_};
 ghost use mathlib.Core.Bool.{false};
@@ -49,7 +49,7 @@ pub fn order_voice(
     if !v.found {
         return Outcome::NoVoice;
     }
-    let place = param_node_at(voices, v.row, name);
+    let place = param_named(voices, v.row, name);
     match place {
         ParamNode::Nothing => Outcome::NoParameter,
         ParamNode::At(i) => {

@@ -33,7 +33,7 @@ use Rattle.memory.specs.View.{Memory, modelOf, deskOf}
 use Rattle.memory.specs.Lent.{lentOrder, lentVoiceTable}
 use Rattle.memory.specs.Called.{Called, Kept, keeps}
 use Rattle.memory.specs.Parts.{ordered, clocked}
-use Rattle.call_render.specs.declared.block.Rendering.{Rendering}
+use Rattle.call_render.specs.declared.render.Rendering.{Rendering}
 use Rattle.call_render.specs.Happened.{left}
 use Rattle.call_render.specs.Blocks.{heardIn, readied, blockTo}
 use Rattle.call_render.proofs.Ends.{all-ends, block-is}

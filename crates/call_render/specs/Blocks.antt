@@ -6,7 +6,7 @@ use Rattle.model.specs.Desk.{sounding, withClock}
 use Rattle.model.specs.Model.{Model}
 use Rattle.model.specs.Render.{Heard, heard, answerAfter, isSounding, movedIf, prepareOutcome, prepareDesk}
 use Rattle.memory.specs.View.{Memory, modelOf}
-use Rattle.call_render.specs.declared.block.Rendering.{Rendering}
+use Rattle.call_render.specs.declared.render.Rendering.{Rendering}
 
 -- what is heard, and the memory that is left
 abbrev pub heardIn : Rendering → Memory → Heard

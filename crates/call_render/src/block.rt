@@ -1,4 +1,5 @@
 // After the events: a prepare, if there was a free, and the block itself.
+use crate::render::Rendering;
 use graph::state::Sink;
 use graph_rows::edge_row::EdgeTable;
 use graph_rows::node_row::NodeTable;
@@ -20,12 +21,6 @@ ghost use Rattle.voice_rows.specs.Rows.{voicesIn};
 ghost use Rattle.memory.specs.View.{Memory, modelOf};
 ghost use Rattle.memory.specs.Lent.{lentOrder, lentVoiceTable};
 ghost use Rattle.call_render.specs.Blocks.{heardIn, readied, blockTo};
-
-// The state that a render left, and what it answers.
-pub struct Rendering {
-    pub state: State,
-    pub answer: Rendered,
-}
 
 fn has_sink(k: Sink) -> bool
     ensures { λ r. ⌜ r ≡ isSome (sinkOf k) ⌝ }

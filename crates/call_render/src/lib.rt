@@ -3,5 +3,3 @@ mod block;
 mod due;
 mod happen;
 pub mod render;
-
-pub use block::Rendering;

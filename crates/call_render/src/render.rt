@@ -1,4 +1,3 @@
-use crate::block::Rendering;
 use crate::block::block_to;
 use crate::block::readied;
 use crate::due::any_free;
@@ -16,6 +15,12 @@ ghost use Rattle.model.specs.Call as call;
 ghost use Rattle.memory.specs.View.{Memory};
 ghost use Rattle.memory.specs.Lent.{lentRender};
 ghost use Rattle.memory.specs.Called.{Called, Kept};
+
+// The state that a render left, and what it answers.
+pub struct Rendering {
+    pub state: State,
+    pub answer: Rendered,
+}
 
 // A block is rendered: what sounds is the host's to make, from the processing order.
 pub fn render(

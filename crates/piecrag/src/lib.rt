@@ -37,7 +37,7 @@ pub use call_clear::clear::free_done_synths;
 pub use call_free::free::free_voice;
 pub use call_param::param::set_voice_param;
 pub use call_param::param::set_voice_param_glide;
-pub use call_render::Rendering;
+pub use call_render::render::Rendering;
 pub use call_render::render::render;
 pub use call_report::report::report;
 pub use call_spawn::spawn::Spawning;

@@ -22,8 +22,8 @@ returns-2 c =
     let v = c .before .before .find-voice in
     voice-none (s .freed .now) (s .w) (s .name) (s .o) (s .voices .now) (s .nodes .now) (s .s .voices) (s .s .nodes) (sym (c .before .before .before .before .before .is-listed .ensures) ∙ c .before .before .before .before .if1 .left) (v .result) (v .ensures) (not-true (v .result .found) (c .if2 .taken))
 
-param-node-at-requires : tie.Need-param-node-at-requires
-param-node-at-requires c κs = search needs
+param-named-requires : tie.Need-param-named-requires
+param-named-requires c κs = search needs
 
 enum-told : tie.Need-enum-told
 enum-told c = search needs
@@ -50,14 +50,14 @@ returns-3 : tie.Need-returns-3
 returns-3 c =
     let s = c .before .before .before .before .before .before .before .before .before .before .before .args in
     let v = c .before .before .before .before .before .before .find-voice in
-    param-none (s .freed .now) (s .w) (s .name) (s .o) (s .voices .now) (s .nodes .now) (s .s .voices) (s .s .nodes) (sym (c .before .before .before .before .before .before .before .before .before .is-listed .ensures) ∙ c .before .before .before .before .before .before .before .before .if1 .left) (v .result) (v .ensures) (not-false (v .result .found) (c .before .before .before .before .if2 .left)) (sym (c .enum-told .given .1) ∙ c .before .before .param-node-at .ensures)
+    param-none (s .freed .now) (s .w) (s .name) (s .o) (s .voices .now) (s .nodes .now) (s .s .voices) (s .s .nodes) (sym (c .before .before .before .before .before .before .before .before .before .is-listed .ensures) ∙ c .before .before .before .before .before .before .before .before .if1 .left) (v .result) (v .ensures) (not-false (v .result .found) (c .before .before .before .before .if2 .left)) (sym (c .enum-told .given .1) ∙ c .before .before .param-named .ensures)
 
 returns-4 : tie.Need-returns-4
 returns-4 c =
     let s = c .before .before .before .before .before .before .before .before .before .before .before .before .before .before .before .before .before .args in
     let v = c .before .before .before .before .before .before .before .before .before .before .before .before .find-voice in
     let r = c .order-node in
-    param-at (s .freed .now) (s .w) (s .name) (s .o) (s .voices .now) (s .nodes .now) (s .s .voices) (s .s .nodes) (sym (c .before .before .before .before .before .before .before .before .before .before .before .before .before .before .before .is-listed .ensures) ∙ c .before .before .before .before .before .before .before .before .before .before .before .before .before .before .if1 .left) (v .result) (v .ensures) _ (c .before .before .before .first-at .result) (r .last .0) (r .result) (not-false (v .result .found) (c .before .before .before .before .before .before .before .before .before .before .if2 .left)) (sym (c .before .before .before .before .before .before .place .given .1) ∙ c .before .before .before .before .before .before .before .before .param-node-at .ensures) (c .before .before .before .first-at .ensures) (r .ensures)
+    param-at (s .freed .now) (s .w) (s .name) (s .o) (s .voices .now) (s .nodes .now) (s .s .voices) (s .s .nodes) (sym (c .before .before .before .before .before .before .before .before .before .before .before .before .before .before .before .is-listed .ensures) ∙ c .before .before .before .before .before .before .before .before .before .before .before .before .before .before .if1 .left) (v .result) (v .ensures) _ (c .before .before .before .first-at .result) (r .last .0) (r .result) (not-false (v .result .found) (c .before .before .before .before .before .before .before .before .before .before .if2 .left)) (sym (c .before .before .before .before .before .before .place .given .1) ∙ c .before .before .before .before .before .before .before .before .param-named .ensures) (c .before .before .before .first-at .ensures) (r .ensures)
 
 pub order-voice-spec : {M : Type 1} → statement M
 order-voice-spec =
@@ -67,7 +67,7 @@ order-voice-spec =
     returns
     find-voice-requires
     returns-2
-    param-node-at-requires
+    param-named-requires
     enum-told
     enum-known-place
     first-at-requires
