@@ -12,15 +12,16 @@ use rank::Ranking;
 use words::table::at_most;
 ghost use mathlib.Core.Path.{_≡_};
 ghost use mathlib.Core.List.{map};
-ghost use Prim.Native.Nat.{ℕ, _≤_, _<_, min};
-ghost use lib.ListN.{length, take, getD};
+ghost use Prim.Native.Nat.{ℕ, _≤_, _<_, _^_, min};
+ghost use lib.ListN.{length, take, getD, replicate};
 ghost use Rattle.rank.specs.Names.{rowOf};
 ghost use Rattle.rank.specs.Order.{upto, arcs};
 ghost use Rattle.rank.specs.Parts.{Ranked};
-ghost use Rattle.order.specs.Parts.{Rising, Plugged, Blank, portsLack, rowsLack};
+ghost use Rattle.order.specs.Parts.{Rising, Plugged, rowsLack};
 ghost use Rattle.graph_rows.specs.Node.{nodesIn};
 ghost use Rattle.graph_rows.specs.Edge.{edgesIn};
 ghost use Rattle.order_table.specs.Prepares.{Prepares, Lives, Meets, Lacks};
+ghost use Rattle.order_table.specs.Masks.{portsIn, maskLacks, WithPort};
 
 // "512 live nodes": a node id for each.
 pub const ORDER_WORDS: usize = 512;
@@ -127,11 +128,31 @@ fn rows(n: usize, from: &[usize], to: &[usize], m: usize) -> Ranking
     rank::ranked(n, &from[..m], &to[..m])
 }
 
-// Which ports of the first `n` rows one of the first `m` edges of two live ends feeds is stored: port p of row r at r * 64 + p.
-fn plugged(n: usize, from: &[usize], to: &[usize], edges: &[u32], m: usize, flags: &mut [bool])
+// The value of bit `p`.
+fn bit_value(p: usize) -> u64
+    requires { ⌜ p < 64 ⌝ }
+    ensures { λ r. ⌜ r ≡ 2 ^ p ⌝ }
+{
+    1u64 << p
+}
+
+// The ports `mask`, and `p` too.
+fn with_port(mask: u64, p: usize) -> u64
+    requires { ⌜ p < 64 ⌝ }
+    ensures { λ r. ⌜ WithPort mask p r ⌝ }
+{
+    if (mask >> p) % 2 == 1 {
+        return mask;
+    }
+    mask + bit_value(p)
+}
+
+// Which ports of each of the first `n` rows one of the first `m` edges of two live ends feeds is stored: a mask for each row, in which
+// bit p is port p.
+fn plugged(n: usize, from: &[usize], to: &[usize], edges: &[u32], m: usize, masks: &mut [u64])
     requires { ⌜ (n ≤ 512) × (m ≤ 1024) × (m ≤ length (edgesIn (now edges))) ⌝ }
-    requires { ⌜ (length (now from) ≡ 1024) × (length (now to) ≡ 1024) × Blank (now flags) ⌝ }
-    ensures { λ _. ⌜ Plugged (now (flags .exit)) n (now (from .entry)) (now (to .entry)) (take m (edgesIn (now (edges .entry)))) ⌝ }
+    requires { ⌜ (length (now from) ≡ 1024) × (length (now to) ≡ 1024) × (now masks ≡ replicate 512 0) ⌝ }
+    ensures { λ _. ⌜ Plugged (portsIn (now (masks .exit))) n (now (from .entry)) (now (to .entry)) (take m (edgesIn (now (edges .entry)))) ⌝ }
 {
     let mut i: usize = 0;
     while i < m {
@@ -141,7 +162,7 @@ fn plugged(n: usize, from: &[usize], to: &[usize], edges: &[u32], m: usize, flag
         if f < n {
             if t < n {
                 if p < 64 {
-                    flags[t * 64 + p] = true;
+                    masks[t] = with_port(masks[t], p);
                 }
             }
         }
@@ -149,35 +170,35 @@ fn plugged(n: usize, from: &[usize], to: &[usize], edges: &[u32], m: usize, flag
     }
 }
 
-// Whether a port of a row is required and has no flag.
-fn port_lacks(flags: &[bool], row: usize, ports: u32, required: u64) -> bool
-    requires { ⌜ row < 512 ⌝ }
-    requires { ⌜ 32768 ≤ length (now flags) ⌝ }
-    ensures { λ r. ⌜ r ≡ portsLack (now (flags .entry)) row ports required ⌝ }
+// Whether one of the first `ports` ports is required and not in the mask.
+fn port_lacks(mask: u64, ports: u32, required: u64) -> bool
+    ensures { λ r. ⌜ r ≡ maskLacks mask ports required ⌝ }
 {
     let most = at_most(wide(ports), 64);
     let mut left = required;
+    let mut fed = mask;
     let mut p: usize = 0;
     while p < most {
         if left % 2 == 1 {
-            if !flags[row * 64 + p] {
+            if fed % 2 == 0 {
                 return true;
             }
         }
         left = left / 2;
+        fed = fed / 2;
         p += 1;
     }
     false
 }
 
 // Whether one of the first `n` nodes lacks a required port.
-fn row_lacks(nodes: &[u32], n: usize, flags: &[bool]) -> bool
-    requires { ⌜ (n ≤ 512) × (n ≤ length (nodesIn (now nodes))) × (32768 ≤ length (now flags)) ⌝ }
-    ensures { λ r. ⌜ r ≡ rowsLack (now (flags .entry)) (take n (nodesIn (now (nodes .entry)))) 0 ⌝ }
+fn row_lacks(nodes: &[u32], n: usize, masks: &[u64]) -> bool
+    requires { ⌜ (n ≤ 512) × (n ≤ length (nodesIn (now nodes))) × (length (now masks) ≡ 512) ⌝ }
+    ensures { λ r. ⌜ r ≡ rowsLack (portsIn (now (masks .entry))) (take n (nodesIn (now (nodes .entry)))) 0 ⌝ }
 {
     let mut i: usize = 0;
     while i < n {
-        if port_lacks(flags, i, ports_at(nodes, i), required_at(nodes, i)) {
+        if port_lacks(masks[i], ports_at(nodes, i), required_at(nodes, i)) {
             return true;
         }
         i += 1;
@@ -191,9 +212,9 @@ fn lacks(nodes: &[u32], n: usize, from: &[usize], to: &[usize], edges: &[u32], m
     requires { ⌜ (length (now from) ≡ 1024) × (length (now to) ≡ 1024) ⌝ }
     ensures { λ r. ⌜ Lacks (take n (nodesIn (now (nodes .entry)))) n (now (from .entry)) (now (to .entry)) (take m (edgesIn (now (edges .entry)))) r ⌝ }
 {
-    let mut flags = [false; 32768];
-    plugged(n, from, to, edges, m, &mut flags);
-    row_lacks(nodes, n, &flags)
+    let mut masks = [0u64; 512];
+    plugged(n, from, to, edges, m, &mut masks);
+    row_lacks(nodes, n, &masks)
 }
 
 // The ids of the first `k` ranked rows, written to the order.

@@ -1,27 +1,26 @@
-use Prim.Native.Nat.{ℕ, _+_, _*_, _/_, _≤_, _<_, _-_, _^_, min}
+use Prim.Native.Nat.{ℕ, _+_, _/_, _%_, _≤_, _<_, _-_, _^_, min}
 use native.Mathlib.Omega.{arith}
 use native.Mathlib.Nat.{div-one, sub-zero}
 use mathlib.Core.Path.{_≡_, sym, ap, _∙_}
-use mathlib.Core.List.{List}
 use mathlib.Core.Bool.{Bool, true, false, not, _&&_, _||_}
 use mathlib.Core.Logic.{⊎-elim}
-use lib.ListN.{getD}
+use lib.Dec.{eqb}
 use borrow.Author.Needs.{needs}
-use Rattle.order.specs.Parts.{portsLack}
 use Rattle.order.specs.Required.{any, bit}
 use Rattle.order.proofs.Ports.{any-next, any-end, half, lack-on, lack-fed, lack-off}
 use Rattle.rank.specs.Order.{count-up, upto}
+use Rattle.order_table.specs.Masks.{maskLacks}
 use Rattle.order_table.proofs.port_lacks.Statement.{statement}
 use Rattle.order_table.proofs.port_lacks.Tie as tie
 
-abbrev lackAt : List Bool → ℕ → ℕ → ℕ → Bool
-lackAt flags row required p = bit required p && not (getD flags (row * 64 + p) false)
+abbrev lackAt : ℕ → ℕ → ℕ → Bool
+lackAt mask required p = bit required p && not (bit mask p)
 
 abbrev Inv-loop : tie.InvT-loop
-Inv-loop flags row ports required most left₀ p₀ left p = (p ≤ most) × (left ≡ required / 2 ^ p) × (any (lackAt flags row required) (count-up (most - p) p) ≡ any (lackAt flags row required) (upto most))
+Inv-loop mask ports required most left₀ fed₀ p₀ left fed p = (p ≤ most) × (left ≡ required / 2 ^ p) × (fed ≡ mask / 2 ^ p) × (any (lackAt mask required) (count-up (most - p) p) ≡ any (lackAt mask required) (upto most))
 
 abbrev μ-loop : tie.MeasureT-loop
-μ-loop flags row ports required most left₀ p₀ left p = most - p
+μ-loop mask ports required most left₀ fed₀ p₀ left fed p = most - p
 
 wide-requires : tie.Need-wide-requires Inv-loop μ-loop
 wide-requires c κs = search needs
@@ -30,29 +29,21 @@ at-most-requires : tie.Need-at-most-requires Inv-loop μ-loop
 at-most-requires c κs = search needs
 
 loop-holds : tie.Need-loop-holds Inv-loop μ-loop
-loop-holds c = (omega arith, sym (div-one _), rw sub-zero)
-
-mul-if2 : tie.Need-mul-if2 Inv-loop μ-loop
-mul-if2 c = search needs
-
-add-if2 : tie.Need-add-if2 Inv-loop μ-loop
-add-if2 c = search needs
-
-shared-slice-read-if2 : tie.Need-shared-slice-read-if2 Inv-loop μ-loop
-shared-slice-read-if2 c = search needs
+loop-holds c = (omega arith, sym (div-one _), sym (div-one _), rw sub-zero)
 
 returns : tie.Need-returns Inv-loop μ-loop
-unfolding portsLack
+unfolding maskLacks
 returns c =
-    let a = c .before .before .before .before .before .before .before .before .args in
-    let l = c .before .before .before .before .loop in
-    let m = c .before .before .before .before .before .at-most in
-    let w = c .before .before .before .before .before .before .wide in
-    let q = lackAt (a .flags .now) (a .row) (a .required) in
+    let a = c .before .before .before .before .before .before .args in
+    let l = c .before .before .before .loop in
+    let m = c .before .before .before .before .at-most in
+    let w = c .before .before .before .before .before .wide in
+    let q = lackAt (a .mask) (a .required) in
     let e : m .result ≡ min (a .ports) 64 = m .ensures ∙ ap (λ k. min k 64) (w .ensures .0) in
-    let h : l .p < m .result = c .before .before .before .loop-test .taken in
-    let on : q (l .p) ≡ true = lack-on (a .required) (l .left) (l .p) (getD (a .flags .now) (a .row * 64 + l .p) false) (l .inv .1) (c .before .before .if1 .taken) (c .if2 .taken) in
-    rw (← e) (sym (sym (l .inv .2) ∙ any-next q (m .result) (l .p) h ∙ ap (λ b. b || any q (count-up (m .result - (l .p + 1)) (l .p + 1))) on))
+    let h : l .p < m .result = c .before .before .loop-test .taken in
+    let unfed : bit (a .mask) (l .p) ≡ false = ap (λ k. eqb (k % 2) 1) (sym (l .inv .2)) ∙ ap (λ k. eqb k 1) (c .if2 .taken) in
+    let on : q (l .p) ≡ true = lack-on (a .required) (l .left) (l .p) (bit (a .mask) (l .p)) (l .inv .1) (c .before .if1 .taken) (ap not unfed) in
+    rw (← e) (sym (sym (l .inv .3) ∙ any-next q (m .result) (l .p) h ∙ ap (λ b. b || any q (count-up (m .result - (l .p + 1)) (l .p + 1))) on))
 
 add-p : tie.Need-add-p Inv-loop μ-loop
 add-p c = search needs
@@ -62,29 +53,29 @@ loop-less c = search needs
 
 loop-again : tie.Need-loop-again Inv-loop μ-loop
 loop-again c =
-    let a = c .before .before .before .before .before .before .args in
+    let a = c .before .before .before .before .before .args in
     let l = c .before .before .loop in
     let m = c .before .before .before .at-most in
-    let w = c .before .before .before .before .wide in
-    let q = lackAt (a .flags .now) (a .row) (a .required) in
+    let q = lackAt (a .mask) (a .required) in
     let h : l .p < m .result = c .before .loop-test .taken in
-    let off : q (l .p) ≡ false =
-    ⊎-elim (λ v. lack-fed (a .required) (l .p) (getD (a .flags .now) (a .row * 64 + l .p) false) (v .2 .left)) (λ v. lack-off (a .required) (l .left) (l .p) (getD (a .flags .now) (a .row * 64 + l .p) false) (l .inv .1) (v .left)) (c .if1 .came) in (
+    let fed : (l .fed % 2 ≡ 0 → ⊥) → bit (a .mask) (l .p) ≡ true = λ o. let one : l .fed % 2 ≡ 1 = omega (arith, o) in ap (λ k. eqb (k % 2) 1) (sym (l .inv .2)) ∙ ap (λ k. eqb k 1) one in
+    let off : q (l .p) ≡ false = ⊎-elim (λ v. lack-fed (a .required) (l .p) (bit (a .mask) (l .p)) (ap not (fed (v .1 .left)))) (λ v. lack-off (a .required) (l .left) (l .p) (bit (a .mask) (l .p)) (l .inv .1) (v .left)) (c .if1 .came) in (
       omega arith,
       ap (λ x. x / 2) (l .inv .1) ∙ half (a .required) (l .p),
-      sym (any-next q (m .result) (l .p) h ∙ ap (λ b. b || any q (count-up (m .result - (l .p + 1)) (l .p + 1))) off) ∙ l .inv .2,
+      ap (λ x. x / 2) (l .inv .2) ∙ half (a .mask) (l .p),
+      sym (any-next q (m .result) (l .p) h ∙ ap (λ b. b || any q (count-up (m .result - (l .p + 1)) (l .p + 1))) off) ∙ l .inv .3,
     )
 
 returns-2 : tie.Need-returns-2 Inv-loop μ-loop
-unfolding portsLack
+unfolding maskLacks
 returns-2 c =
-    let a = c .before .before .before .before .before .args in
+    let a = c .before .before .before .before .args in
     let l = c .before .loop in
     let m = c .before .before .at-most in
     let w = c .before .before .before .wide in
-    let q = lackAt (a .flags .now) (a .row) (a .required) in
+    let q = lackAt (a .mask) (a .required) in
     let e : m .result ≡ min (a .ports) 64 = m .ensures ∙ ap (λ k. min k 64) (w .ensures .0) in
-    rw (← e) (sym (any-end q (m .result) (l .p) (c .loop-test .left)) ∙ l .inv .2)
+    rw (← e) (sym (any-end q (m .result) (l .p) (c .loop-test .left)) ∙ l .inv .3)
 
 pub port-lacks-spec : {M : Type 1} → statement M
 port-lacks-spec =
@@ -95,9 +86,6 @@ port-lacks-spec =
     wide-requires
     at-most-requires
     loop-holds
-    mul-if2
-    add-if2
-    shared-slice-read-if2
     returns
     add-p
     loop-less
