@@ -1,2 +1,0 @@
-mod Flags
-mod Passes

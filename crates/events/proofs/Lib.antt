@@ -1,5 +1,0 @@
-pub mod Walks
-mod Rows
-mod Gone
-mod Loops
-mod Ways

@@ -1,2 +1,0 @@
-pub mod Landed
-pub mod Faded

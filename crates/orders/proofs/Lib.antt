@@ -1,2 +1,0 @@
-mod Laws
-mod Reports

@@ -1,4 +1,0 @@
-mod Answers
-mod Digits
-mod Lines
-mod Puts

@@ -1,1 +1,0 @@
-// Statements only: see specs/Tie.antt, and proofs/Tied.antt for the theorem.
