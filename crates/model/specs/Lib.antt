@@ -13,5 +13,4 @@ pub mod Block
 pub mod Call
 pub mod Numbers
 pub mod Make
-pub mod View
 pub mod Scene

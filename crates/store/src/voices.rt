@@ -35,9 +35,3 @@ pub struct Voice {
     pub params: Params,
     pub plan: DonePlan,
 }
-
-// The voices in order of admission: the first `count` rows. A count above the capacity is the capacity.
-pub struct Voices {
-    pub rows: [Voice; 64],
-    pub count: usize,
-}
