@@ -1,7 +1,7 @@
--- What a call promises, from its refusal and the graph that it leaves.
+-- The laws of the refusals, and when two graphs are the same.
 use Prim.Native.Nat.{ℕ, _≤_, _<_}
 use native.Mathlib.Omega.{arith}
-use mathlib.Core.Path.{_≡_, refl, sym, ap, subst, _∙_}
+use mathlib.Core.Path.{_≡_, refl, sym, ap, _∙_}
 use mathlib.Core.Option.{Option, none, some}
 use mathlib.Core.List.{List}
 use mathlib.Core.Bool.{Bool, true, false, _||_}
@@ -14,42 +14,12 @@ use Rattle.node.specs.declared.record.Node.{Node}
 use Rattle.node.specs.declared.record.Edge.{Edge}
 use Rattle.node.specs.declared.refusal.Refusal.{Refusal}
 use Rattle.node.specs.declared.refusal.Refusal.the-variants.{UnknownNode, VoiceNode, PortOrKind, TableFull, IdsUsedUp}
-use Rattle.graph.specs.declared.state.Graph.{Graph}
 use Rattle.graph.specs.declared.state.Answer.{Answer}
 use Rattle.graph.specs.declared.state.Answer.the-variants as Answer
-use Rattle.graph.specs.declared.nodes.Seen.{Seen}
-use Rattle.graph.specs.declared.state.Given.the-variants as Given
-use Rattle.graph.specs.declared.state.Changed.{Changed}
-use Rattle.graph.specs.declared.state.Added.{Added}
 use Rattle.graph.specs.View.{GraphView}
 use Rattle.graph.specs.Node.{ofVoice, portsOf}
 use Rattle.graph.specs.Refuse.{when, dead, wireTest, appendRefusal}
-use Rattle.graph.specs.Call.{attempt, grant}
-use Rattle.graph.specs.Tables.{viewOf, seenOf, answerOf, outcomeOf, grantOf, Kept, KeptToo}
-
-abbrev pub Changes : Graph → Option Refusal → GraphView → Changed → Type 0
-Changes g o new r = (outcomeOf r ≡ attempt o (viewOf g) new) × Kept g r
-
-abbrev pub Gives : Graph → Option Refusal → GraphView → Added → Type 0
-Gives g o new r = (grantOf r ≡ grant o (viewOf g) new) × KeptToo g r
-
-module _ (g : Graph) (o : Option Refusal) (new : GraphView) where
-  -- refused: the very graph
-  pub changes-refused : (x : Refusal) → o ≡ some x → Changes g o new (record { graph = g; answer = Answer.Refused x })
-  changes-refused x e = (ap (λ k. attempt k (viewOf g) new) (sym e), λ y h. refl)
-
-  pub gives-refused : (x : Refusal) → o ≡ some x → Gives g o new (record { graph = g; given = Given.Refused x })
-  gives-refused x e = (ap (λ k. grant k (viewOf g) new) (sym e), λ y h. refl)
-
-  -- done: the new graph
-  pub changes-done : (h : Graph) → o ≡ none → viewOf h ≡ new → Changes g o new (record { graph = h; answer = Answer.Done })
-  changes-done h e v = (ap (attempt none (viewOf g)) v ∙ ap (λ k. attempt k (viewOf g) new) (sym e), λ y t. absurd (let z : _≡_ {A = ℕ} 0 1 = cc in omega arith))
-
-  pub gives-done : (h : Graph) → o ≡ none → viewOf h ≡ new → Gives g o new (record { graph = h; given = Given.Id (record { 0 = g .next }) })
-  gives-done h e v = (ap (grant none (viewOf g)) v ∙ ap (λ k. grant k (viewOf g) new) (sym e), λ y t. absurd (let z : _≡_ {A = ℕ} 0 1 = cc in omega arith))
-
-pub gives-same : (g : Graph) (o o' : Option Refusal) (new new' : GraphView) (r : Added) → o ≡ o' → new ≡ new' → Gives g o new r → Gives g o' new' r
-gives-same g o o' new new' r e f h = subst (λ x. Gives g x new' r) e (subst (λ x. Gives g o x r) f h)
+use Rattle.graph.specs.Tables.{answerOf}
 
 -- the answer says which of the two it is
 pub answer-refused : (o : Option Refusal) (x : Refusal) → answerOf o ≡ Answer.Refused x → o ≡ some x
@@ -59,14 +29,6 @@ answer-refused (some y) x e = let s : y ≡ x = cc in ap some s
 pub answer-done : (o : Option Refusal) → answerOf o ≡ Answer.Done → o ≡ none
 answer-done none e = refl
 answer-done (some y) e = absurd (let z : _≡_ {A = ℕ} 0 1 = cc in omega arith)
-
--- the same of a test on a row that was looked for
-module _ (test : Option Node → Option Refusal) (n : Seen) (o : Option Node) (a : Answer) (seen : seenOf n ≡ o) (told : a ≡ answerOf (test (seenOf n))) where
-  pub test-refused : (x : Refusal) → a ≡ Answer.Refused x → test o ≡ some x
-  test-refused x e = answer-refused (test o) x (ap (λ k. answerOf (test k)) (sym seen) ∙ sym told ∙ e)
-
-  pub test-done : a ≡ Answer.Done → test o ≡ none
-  test-done e = answer-done (test o) (ap (λ k. answerOf (test k)) (sym seen) ∙ sym told ∙ e)
 
 pub when-on : (t : Bool) (r : Refusal) (rest : Option Refusal) → t ≡ true → when t r rest ≡ some r
 when-on t r rest e = rw e
@@ -84,9 +46,6 @@ module _ (v : GraphView) where
 
   pub append-fine : length (v .nodes) < 512 → v .next < 4294967296 → appendRefusal v ≡ none
   append-fine h k = when-off _ _ _ (lt-leb _ _ h) ∙ when-off _ _ _ (lt-leb _ _ k)
-
-pub wire-same : (a a' b b' : Option Node) (p : ℕ) (f f' : Bool) → a ≡ a' → b ≡ b' → f ≡ f' → wireTest a b p f ≡ wireTest a' b' p f'
-wire-same a a' b b' p f f' i j k = ap (λ x. wireTest x b p f) i ∙ ap (λ x. wireTest a' x p f) j ∙ ap (wireTest a' b' p) k
 
 -- a place is the last test of connecting
 pub wire-room : (a b : Option Node) (p : ℕ) (full : Bool) → wireTest a b p full ≡ none → full ≡ false

@@ -11,15 +11,17 @@ use Rattle.node.specs.declared.record.Node.{Node}
 use Rattle.node.specs.declared.record.Edge.{Edge}
 use Rattle.node.specs.declared.refusal.Refusal.{Refusal}
 use Rattle.edges.specs.Ports.{freePort, portFrom, sourceAt}
-use Rattle.graph.specs.View.{GraphView, newGraph}
-use Rattle.graph.specs.Node.{hostNode}
-use Rattle.graph.specs.Change.{append, connect, disconnect, setSink, removeNode, removeVoice}
 use Rattle.rank.specs.Order.{among, fed, released, walk, order, whole, count-up}
 use Rattle.order.specs.Live.{risingFrom, liveNodes, liveIds, processingOrder}
 use Rattle.order.specs.Required.{any, lacks, lacking}
-use Rattle.graph.specs.Prepare.{prepareRefusal, prepare}
-use Rattle.graph.specs.Refuse.{addRefusal, hostRefusal, disconnectRefusal, connectRefusal}
+use Rattle.order.specs.Prepare.{Outcome, refused, prepare}
+use Rattle.order.specs.declared.Readiness.the-variants.{Ready}
+use Rattle.node.specs.declared.refusal.Refusal.the-variants.{Cycle}
 use Rattle.node.specs.Node.{withOwner}
+use Rattle.graph.specs.View.{GraphView, newGraph}
+use Rattle.graph.specs.Node.{hostNode}
+use Rattle.graph.specs.Change.{append, connect, disconnect, setSink, removeNode, removeVoice}
+use Rattle.graph.specs.Refuse.{addRefusal, hostRefusal, disconnectRefusal, connectRefusal}
 
 -- ---- a bus of 3 ports, three nodes of one port, and a node of voice 5
 abbrev node : ℕ → NodeId
@@ -127,15 +129,14 @@ page =
     let faded = connect (connect (append two (plain 1)) (node 1) (node 3) 0) (node 3) (node 0) 0 in
     connect (append faded (plain 0)) (node 4) (node 0) 2
 
-page-fine : prepareRefusal page ≡ none
-unfolding among fed released walk order whole risingFrom liveNodes liveIds any lacks lacking count-up
-page-fine = refl
+abbrev prepared : GraphView → Outcome
+prepared v = prepare (v .nodes) (v .edges)
 
-page-order : map (λ k. k .0) (prepare page .order) ≡ 1 ∷ 2 ∷ 4 ∷ 3 ∷ 0 ∷ []
-unfolding among fed released walk order whole risingFrom liveNodes liveIds processingOrder
+page-order : prepared page ≡ record { answer = Ready; order = map node (1 ∷ 2 ∷ 4 ∷ 3 ∷ 0 ∷ []) }
+unfolding prepare processingOrder among fed released walk order whole risingFrom liveNodes liveIds any lacks lacking count-up
 page-order = refl
 
 -- a node that feeds itself is a cycle
-page-cycle : number (prepareRefusal (connect page (node 3) (node 3) 0)) ≡ some 14
-unfolding among fed released walk order whole risingFrom liveNodes liveIds any lacks lacking count-up
+page-cycle : prepared (connect page (node 3) (node 3) 0) ≡ refused Cycle
+unfolding prepare processingOrder among fed released walk order whole risingFrom liveNodes liveIds any lacks lacking count-up
 page-cycle = refl

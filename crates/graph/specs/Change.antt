@@ -11,8 +11,8 @@ use Rattle.node.specs.declared.record.Node.{Node}
 use Rattle.node.specs.declared.record.Edge.{Edge}
 use Rattle.edges.specs.Wiring.{dropAt, wired, among, dropTouching}
 use Rattle.graph.specs.View.{GraphView, withSink}
-pub use Rattle.graph.specs.View.{withEdges, withNodes}
 use Rattle.graph.specs.Node.{isNode, ownedBy, withId}
+pub use Rattle.graph.specs.View.{withEdges, withNodes}
 
 -- a node is appended under the next id
 abbrev pub append : GraphView → Node → GraphView

@@ -7,11 +7,11 @@ use lib.Dec.{eqb}
 use Rattle.lists.specs.Find.{find}
 use Rattle.node.specs.Name.{nameOf}
 use Rattle.node.specs.Node.{newNode}
-pub use Rattle.node.specs.Node.{withId}
 use Rattle.edges.specs.Wiring.{listed}
 use Rattle.node.specs.declared.record.NodeId.{NodeId}
 use Rattle.node.specs.declared.record.VoiceId.{VoiceId}
 use Rattle.node.specs.declared.record.Node.{Node}
+pub use Rattle.node.specs.Node.{withId}
 
 -- "512 live nodes"
 abbrev pub nodeLimit : ℕ

@@ -35,7 +35,3 @@ withSink v k = record { nodes = v .nodes; edges = v .edges; sink = some k; prepa
 -- prepared, with this processing order
 abbrev pub preparedBy : GraphView → List NodeId → GraphView
 preparedBy v l = record { nodes = v .nodes; edges = v .edges; sink = v .sink; prepared = true; order = l; next = v .next }
-
--- the next node id
-abbrev pub withNext : GraphView → ℕ → GraphView
-withNext v n = record { nodes = v .nodes; edges = v .edges; sink = v .sink; prepared = v .prepared; order = v .order; next = n }
