@@ -1,5 +1,4 @@
 pub mod Examples
-pub mod Empty
 pub mod Find
 pub mod Rises
 pub mod Mapped

@@ -7,10 +7,10 @@ use native.Mathlib.Decide.{decLt}
 use mathlib.Core.Path.{_≡_, refl, sym, ap, _∙_}
 use mathlib.Core.List.{List, [], _∷_, _++_, map, append-nil}
 use mathlib.Core.Bool.{Bool, true, false, cond}
-use borrow.Author.Tests.{le-leb, lt-leb}
 use lib.Dec.{leb}
 use lib.ListN.{length, take, drop, getD, set, length-map, length-take}
 use lib.Seq.{append-snoc}
+use borrow.Author.Tests.{le-leb, lt-leb}
 use Rattle.lists.specs.Table.{append-row}
 use Rattle.node.specs.declared.record.Node.{Node}
 use Rattle.rank.specs.Order.{among}

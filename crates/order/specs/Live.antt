@@ -5,12 +5,10 @@ use mathlib.Core.Bool.{cond}
 use mathlib.Core.Path.{_≡_, refl}
 use lib.Dec.{leb}
 use borrow.Author.Tests.{le-leb}
-use Rattle.lists.specs.Table.{rowsOf}
 use Rattle.node.specs.declared.record.Node.{Node}
 use Rattle.node.specs.declared.record.NodeId.{NodeId}
 use Rattle.node.specs.declared.record.Edge.{Edge}
 use Rattle.rank.specs.Order.{Arc, arc, order}
-use Rattle.order.specs.declared.Order.{Order}
 
 -- The rows of the node table are the live nodes, by rising id. A table whose ids do not rise, which no call makes, is read
 -- up to the first row that does not rise: here, whose id is below `least`.
@@ -37,10 +35,6 @@ asId i = record { 0 = i }
 
 unfoldable pub processingOrder : List Node → List Edge → List NodeId
 processingOrder nodes edges = map asId (order (liveIds nodes) (map arcOf edges))
-
--- what the struct holds
-abbrev pub orderOf : Order → List NodeId
-orderOf o = rowsOf 512 (o .count) (o .ids)
 
 -- ---- a table whose ids rise is read whole
 abbrev pub RisesFrom : ℕ → List Node → Type 0

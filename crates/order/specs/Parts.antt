@@ -1,4 +1,4 @@
--- What the parts of `processing_order` and `prepare` compute, by rows of the node table. Nothing here has to be believed.
+-- What the parts of a prepare compute, by rows of the node table. Nothing here has to be believed.
 use Prim.Native.Nat.{ℕ, suc, _+_, _*_, _<_, _≤_, min}
 use mathlib.Core.List.{List, [], _∷_, map}
 use mathlib.Core.Bool.{Bool, false, _&&_, _||_, not}
@@ -10,18 +10,14 @@ use Rattle.node.specs.declared.record.Edge.{Edge}
 use Rattle.rank.specs.Order.{upto}
 use Rattle.rank.specs.Names.{rowOf}
 use Rattle.rank.specs.declared.Ranking.{Ranking}
-use Rattle.order.specs.declared.Live.{Live}
-use Rattle.order.specs.declared.Ended.{Ended}
-use Rattle.order.specs.declared.Order.{Order}
-use Rattle.order.specs.declared.Prepared.{Prepared}
-use Rattle.order.specs.Live.{liveIds, asId, processingOrder, orderOf}
-use Rattle.order.specs.Prepare.{prepare, outcomeOf}
+use Rattle.order.specs.Live.{liveIds}
 use Rattle.order.specs.Required.{any, bit}
 
-pub record Lived (r : Live) (nodes : List Node) : Type 0 where
-  pub long : length (r .ids) ≡ 512
-  pub few : r .count ≤ 512
-  pub is : take (r .count) (r .ids) ≡ liveIds nodes
+-- the ids of the live nodes are the first `count` of these
+pub record Lived (ids : List ℕ) (count : ℕ) (nodes : List Node) : Type 0 where
+  pub long : length ids ≡ 512
+  pub few : count ≤ 512
+  pub is : take count ids ≡ liveIds nodes
 
 -- the numbers rise
 pub record Rising (l : List ℕ) : Type 0 where
@@ -33,11 +29,12 @@ sourceRow ids e = rowOf ids (e .from .0)
 abbrev pub targetRow : List ℕ → Edge → ℕ
 targetRow ids e = rowOf ids (e .to .0)
 
-pub record Ends (r : Ended) (ids : List ℕ) (edges : List Edge) : Type 0 where
-  pub from-long : length (r .from) ≡ 1024
-  pub to-long : length (r .to) ≡ 1024
-  pub from-is : take (length edges) (r .from) ≡ map (sourceRow ids) edges
-  pub to-is : take (length edges) (r .to) ≡ map (targetRow ids) edges
+-- the rows of the edges' sources and targets, edge by edge
+pub record Ends (from to ids : List ℕ) (edges : List Edge) : Type 0 where
+  pub from-long : length from ≡ 1024
+  pub to-long : length to ≡ 1024
+  pub from-is : take (length edges) from ≡ map (sourceRow ids) edges
+  pub to-is : take (length edges) to ≡ map (targetRow ids) edges
 
 -- ---- required ports
 pub record Blank (l : List Bool) : Type 0 where
@@ -62,24 +59,8 @@ unfoldable pub rowsLack : List Bool → List Node → ℕ → Bool
 rowsLack flags [] row = false
 rowsLack flags (x ∷ l) row = portsLack flags row (x .ports) (x .required) || rowsLack flags l (suc row)
 
--- ---- ids
+-- ---- the ranking: each of its rows is one of the node table
 pub record RowsIn (r : Ranking) : Type 0 where
   pub long : length (r .rows) ≡ 512
   pub few : r .count ≤ 512
   pub below : (j : ℕ) → j < r .count → getD (r .rows) j 0 < 512
-
-pub record Named (o : Order) (ids : List ℕ) (rows : List ℕ) : Type 0 where
-  pub long : length (o .ids) ≡ 512
-  pub many : o .count ≡ length rows
-  pub is : take (o .count) (o .ids) ≡ map (λ r. asId (getD ids r 0)) rows
-
--- ---- what the two functions promise, as one record each
-pub record Ordered (r : Order) (nodes : List Node) (edges : List Edge) : Type 0 where
-  pub long : length (r .ids) ≡ 512
-  pub many : r .count ≡ length (orderOf r)
-  pub is : orderOf r ≡ processingOrder nodes edges
-
-pub record Prepares (r : Prepared) (nodes : List Node) (edges : List Edge) : Type 0 where
-  pub long : length (r .order .ids) ≡ 512
-  pub many : r .order .count ≡ length (orderOf (r .order))
-  pub is : outcomeOf r ≡ prepare nodes edges

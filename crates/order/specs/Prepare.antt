@@ -10,8 +10,7 @@ use Rattle.node.specs.declared.refusal.Refusal.the-variants.{RequiredPort, Cycl
 use Rattle.rank.specs.Order.{whole}
 use Rattle.order.specs.declared.Readiness.{Readiness}
 use Rattle.order.specs.declared.Readiness.the-variants.{Ready, Refused}
-use Rattle.order.specs.declared.Prepared.{Prepared}
-use Rattle.order.specs.Live.{liveIds, arcOf, processingOrder, orderOf}
+use Rattle.order.specs.Live.{liveIds, arcOf, processingOrder}
 use Rattle.order.specs.Required.{lacking}
 
 pub record Outcome : Type 0 where
@@ -26,7 +25,3 @@ prepare nodes edges =
     cond (lacking nodes edges) (refused RequiredPort)
     (cond (not (whole (liveIds nodes) (map arcOf edges))) (refused Cycle)
     (record { answer = Ready; order = processingOrder nodes edges }))
-
--- what the struct holds
-abbrev pub outcomeOf : Prepared → Outcome
-outcomeOf r = record { answer = r .answer; order = orderOf (r .order) }

@@ -4,7 +4,7 @@ use native.Mathlib.Omega.{arith}
 use mathlib.Core.Path.{_≡_, refl, sym, ap, _∙_, subst}
 use mathlib.Core.List.{List, [], _∷_, map}
 use mathlib.Core.Bool.{Bool, true, false}
-use lib.ListN.{length, take, getD, length-map, length-take}
+use lib.ListN.{length, take, getD, length-take}
 use lib.Seq.{length-take-le, take-take}
 use Rattle.node.specs.declared.record.Node.{Node}
 use Rattle.node.specs.declared.record.Edge.{Edge}
@@ -18,14 +18,13 @@ use Rattle.rank.specs.declared.Ranking.{Ranking}
 use Rattle.graph_rows.specs.Node.{nodesIn}
 use Rattle.graph_rows.specs.Edge.{edgeOf, edgesIn}
 use Rattle.order.specs.declared.Readiness.the-variants.{Ready, Refused}
-use Rattle.order.specs.declared.Order.{Order}
 use Rattle.order.specs.Live.{liveIds, arcOf, asId, processingOrder}
 use Rattle.order.specs.Required.{lacking}
 use Rattle.order.specs.Prepare.{prepare}
-use Rattle.order.specs.Parts.{Named, Ordered, RowsIn, rowsLack}
-use Rattle.order.proofs.Graph.{many-live, rows-in, whole-is, ordered, lacking-is}
+use Rattle.order.specs.Parts.{Lived, Ends, RowsIn, rowsLack}
+use Rattle.order.proofs.Graph.{many-live, rows-in, whole-is, ordered, many-ordered, lacking-is}
 use Rattle.order.proofs.Rises.{live-few}
-use Rattle.order_table.specs.Prepares.{idsIn, Prepares, Lives, Meets, Lacks}
+use Rattle.order_table.specs.Prepares.{idsIn, Prepares, Lacks}
 
 module _ (nodes : List Node) (edges : List Edge) (old : List ℕ) where
   pub refused-13 : lacking nodes edges ≡ true → Prepares nodes edges old old (record { answer = Refused RequiredPort; count = 0 })
@@ -51,26 +50,6 @@ map-take f zero l = refl
 map-take f (suc n) [] = refl
 map-take f (suc n) (x ∷ l) = ap (λ r. f x ∷ r) (map-take f n l)
 
-map-map : {A B C : Type 0} (f : A → B) (g : B → C) (l : List A) → map g (map f l) ≡ map (λ x. g (f x)) l
-map-map f g [] = refl
-map-map f g (x ∷ l) = ap (λ r. g (f x) ∷ r) (map-map f g l)
-
-abbrev pub written : List ℕ → ℕ → Order
-written new k = record { ids = idsIn new; count = k }
-
-pub named-as : (new ids rows : List ℕ) (k : ℕ) → length new ≡ 512 → k ≤ length rows → take k new ≡ map (λ x. getD ids x 0) (take k rows) → Named (written new k) ids (take k rows)
-named-as new ids rows k long fits e = record {
-  long = length-map new asId ∙ long;
-  many = sym (length-take-le k rows fits);
-  is = map-take asId k new ∙ ap (map asId) e ∙ map-map (λ x. getD ids x 0) asId (take k rows);
-}
-
-pub holds-order : (new : List ℕ) (k : ℕ) (nodes : List Node) (edges : List Edge) → k ≤ 512 → Ordered (written new k) nodes edges → Holds (idsIn new) k (processingOrder nodes edges)
-holds-order new k nodes edges few o =
-    let clamp : k ≡ min k 512 = omega arith in
-    let is : take k (idsIn new) ≡ processingOrder nodes edges = ap (λ n. take n (idsIn new)) clamp ∙ o .is in
-    record { is = is; many = o .many ∙ ap length (o .is) }
-
 -- the live nodes are the first of the rows
 pub first-of : (rows : List Node) (n k : ℕ) → k ≡ length (liveIds (take n rows)) → take k (take n rows) ≡ take k rows
 first-of rows n k e =
@@ -78,7 +57,7 @@ first-of rows n k e =
     take-take k n rows (omega (arith, length-take n rows))
 
 -- ---- what the tests found, of the first n nodes and the first m edges: `count` is m, or the room
-module _ (ns es : List ℕ) (n m : ℕ) (ids : List ℕ) (live : ℕ) (lv : Lives ids live (take n (nodesIn ns))) (count : ℕ) (c : count ≡ min m (length es / 3)) (from to : List ℕ) (en : Meets from to (take live ids) (take count (edgesIn es))) where
+module _ (ns es : List ℕ) (n m : ℕ) (ids : List ℕ) (live : ℕ) (lv : Lived ids live (take n (nodesIn ns))) (count : ℕ) (c : count ≡ min m (length es / 3)) (from to : List ℕ) (en : Ends from to (take live ids) (take count (edgesIn es))) where
   all-edges : take count (edgesIn es) ≡ take m (edgesIn es)
   all-edges = take-count 3 edgeOf es m count c
 
@@ -88,8 +67,8 @@ module _ (ns es : List ℕ) (n m : ℕ) (ids : List ℕ) (live : ℕ) (lv : Live
   pub lacked : (b : Bool) → Lacks (take live (nodesIn ns)) live from to (take count (edgesIn es)) b → b ≡ lacking (take n (nodesIn ns)) (take m (edgesIn es))
   lacked b k =
       k .is
-      ∙ ap (λ xs. rowsLack (k .flags) xs 0) (sym (first-of (nodesIn ns) n live (sym (many-live (take n (nodesIn ns)) _ lv))))
-      ∙ lacking-is (take n (nodesIn ns)) _ lv (take count (edgesIn es)) _ en (k .flags) (k .plugged)
+      ∙ ap (λ xs. rowsLack (k .flags) xs 0) (sym (first-of (nodesIn ns) n live (sym (many-live (take n (nodesIn ns)) _ _ lv))))
+      ∙ lacking-is (take n (nodesIn ns)) _ _ lv (take count (edgesIn es)) _ _ en (k .flags) (k .plugged)
       ∙ ap (lacking (take n (nodesIn ns))) all-edges
 
   module _ (r : Ranking) (rk : Ranked r (upto (min live 512)) (arcs (take count from) (take count to))) where
@@ -97,13 +76,14 @@ module _ (ns es : List ℕ) (n m : ℕ) (ids : List ℕ) (live : ℕ) (lv : Live
     by-edges = subst (λ k. Ranked r (upto (min live 512)) (arcs (take k from) (take k to))) (sym many-edges) rk
 
     pub held : r .whole ≡ whole (liveIds (take n (nodesIn ns))) (map arcOf (take m (edgesIn es)))
-    held = whole-is (take n (nodesIn ns)) _ lv (take count (edgesIn es)) _ en r by-edges ∙ ap (λ xs. whole (liveIds (take n (nodesIn ns))) (map arcOf xs)) all-edges
+    held = whole-is (take n (nodesIn ns)) _ _ lv (take count (edgesIn es)) _ _ en r by-edges ∙ ap (λ xs. whole (liveIds (take n (nodesIn ns))) (map arcOf xs)) all-edges
 
     pub rows-fit : RowsIn r
-    rows-fit = rows-in (take n (nodesIn ns)) _ lv (take count (edgesIn es)) _ en r by-edges
+    rows-fit = rows-in (take n (nodesIn ns)) _ _ lv (take count (edgesIn es)) _ _ en r by-edges
 
-    pub ordered-as : (new : List ℕ) → length new ≡ 512 → take (r .count) new ≡ map (λ x. getD ids x 0) (take (r .count) (r .rows)) → Holds (idsIn new) (r .count) (processingOrder (take n (nodesIn ns)) (take m (edgesIn es)))
-    ordered-as new long w =
-        let inside : r .count ≤ length (r .rows) = omega (arith, rows-fit .few, rows-fit .long) in
-        let o = ordered (take n (nodesIn ns)) _ lv (take count (edgesIn es)) _ en r by-edges (written new (r .count)) (named-as new ids (r .rows) (r .count) long inside w) in
-        subst (λ xs. Holds (idsIn new) (r .count) (processingOrder (take n (nodesIn ns)) xs)) all-edges (holds-order new (r .count) (take n (nodesIn ns)) (take count (edgesIn es)) (rows-fit .few) o)
+    pub ordered-as : (new : List ℕ) → take (r .count) new ≡ map (λ x. getD ids x 0) (take (r .count) (r .rows)) → Holds (idsIn new) (r .count) (processingOrder (take n (nodesIn ns)) (take m (edgesIn es)))
+    ordered-as new w =
+        subst (λ xs. Holds (idsIn new) (r .count) (processingOrder (take n (nodesIn ns)) xs)) all-edges (record {
+          is = map-take asId (r .count) new ∙ ap (map asId) w ∙ ordered (take n (nodesIn ns)) _ _ lv (take count (edgesIn es)) _ _ en r by-edges;
+          many = many-ordered (take n (nodesIn ns)) _ _ lv (take count (edgesIn es)) _ _ en r by-edges;
+        })

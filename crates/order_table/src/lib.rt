@@ -10,6 +10,7 @@ use node::refusal::Refusal;
 use order::Readiness;
 use rank::Ranking;
 use words::table::at_most;
+use words::table::wide;
 ghost use mathlib.Core.Path.{_≡_};
 ghost use mathlib.Core.List.{map};
 ghost use Prim.Native.Nat.{ℕ, _≤_, _<_, _^_, min};
@@ -17,10 +18,10 @@ ghost use lib.ListN.{length, take, getD, replicate};
 ghost use Rattle.rank.specs.Names.{rowOf};
 ghost use Rattle.rank.specs.Order.{upto, arcs};
 ghost use Rattle.rank.specs.Parts.{Ranked};
-ghost use Rattle.order.specs.Parts.{Rising, Plugged, rowsLack};
+ghost use Rattle.order.specs.Parts.{Lived, Rising, Ends, Plugged, rowsLack};
 ghost use Rattle.graph_rows.specs.Node.{nodesIn};
 ghost use Rattle.graph_rows.specs.Edge.{edgesIn};
-ghost use Rattle.order_table.specs.Prepares.{Prepares, Lives, Meets, Lacks};
+ghost use Rattle.order_table.specs.Prepares.{Prepares, Lacks};
 ghost use Rattle.order_table.specs.Masks.{portsIn, maskLacks, WithPort};
 
 // "512 live nodes": a node id for each.
@@ -34,16 +35,10 @@ pub struct Prepared {
     pub count: usize,
 }
 
-fn wide(x: u32) -> usize
-    ensures { λ r. ⌜ (r ≡ x) × (r < 4294967296) ⌝ }
-{
-    x as usize
-}
-
 // The ids of the rows up to the first that does not rise are stored in `ids`: how many there are.
 fn live_ids(nodes: &[u32], count: usize, ids: &mut [u32]) -> usize
     requires { ⌜ (length (now nodes) ≡ 10752) × (length (now ids) ≡ 512) ⌝ }
-    ensures { λ r. ⌜ Lives (now (ids .exit)) r (take count (nodesIn (now (nodes .entry)))) ⌝ }
+    ensures { λ r. ⌜ Lived (now (ids .exit)) r (take count (nodesIn (now (nodes .entry)))) ⌝ }
 {
     let n = at_most(count, nodes.len() / 21);
     let mut least: usize = 0;
@@ -107,7 +102,7 @@ fn row_of(ids: &[u32], n: usize, x: u32, guess: usize) -> usize
 fn ends(ids: &[u32], n: usize, edges: &[u32], m: usize, from: &mut [usize], to: &mut [usize])
     requires { ⌜ (n ≤ 512) × (n ≤ length (now ids)) × (m ≤ 1024) × (m ≤ length (edgesIn (now edges))) ⌝ }
     requires { ⌜ (length (now from) ≡ 1024) × (length (now to) ≡ 1024) × Rising (take n (now ids)) ⌝ }
-    ensures { λ _. ⌜ Meets (now (from .exit)) (now (to .exit)) (take n (now (ids .entry))) (take m (edgesIn (now (edges .entry)))) ⌝ }
+    ensures { λ _. ⌜ Ends (now (from .exit)) (now (to .exit)) (take n (now (ids .entry))) (take m (edgesIn (now (edges .entry)))) ⌝ }
 {
     let mut rows = [0usize; 1024];
     guesses(ids, n, &mut rows);

@@ -47,7 +47,7 @@ returns c =
     let hi : l .i < n .result = c .before .before .before .loop-test .taken in
     let hn : n .result ≤ length rows = omega arith in
     let x = getD rows (l .i) (nodeOf []) in
-    let id : w .result ≡ idOf x = w .ensures .0 ∙ ap (λ k. k .0) (c .before .before .id-at .ensures) in
+    let id : w .result ≡ idOf x = w .ensures ∙ ap (λ k. k .0) (c .before .before .id-at .ensures) in
     let dr = left-row (nodeOf []) rows (n .result) (l .i) hi hn in
     record {
       long = l .inv .1;
@@ -82,13 +82,14 @@ loop-again c =
     let hi : l .i < n .result = c .before .before .before .loop-test .taken in
     let hn : n .result ≤ length rows = omega arith in
     let x = getD rows (l .i) (nodeOf []) in
-    let id : w .result ≡ idOf x = w .ensures .0 ∙ ap (λ k. k .0) (c .before .before .id-at .ensures) in
+    let id : w .result ≡ idOf x = w .ensures ∙ ap (λ k. k .0) (c .before .before .id-at .ensures) in
     let dr = left-row (nodeOf []) rows (n .result) (l .i) hi hn in
     let hk : l .i < length (l .ids) = omega (arith, l .inv .1) in
+    let fit : w .result < 4294967296 = search needs in
     let same : c .before .before .id-at .result .0 ≡ idOf x = ap (λ k. k .0) (c .before .before .id-at .ensures) in (
       omega arith,
       length-set (l .ids) (l .i) _ ∙ l .inv .1,
-      omega (arith, w .ensures .1),
+      omega (arith, fit),
       rw (id, same) (passed-more (take (n .result) rows) (l .ids) (l .least) (l .i) (l .inv .3) x dr (omega (arith, c .if1 .left)) hk),
     )
 

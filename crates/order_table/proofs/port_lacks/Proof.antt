@@ -39,7 +39,7 @@ returns c =
     let m = c .before .before .before .before .at-most in
     let w = c .before .before .before .before .before .wide in
     let q = lackAt (a .mask) (a .required) in
-    let e : m .result ≡ min (a .ports) 64 = m .ensures ∙ ap (λ k. min k 64) (w .ensures .0) in
+    let e : m .result ≡ min (a .ports) 64 = m .ensures ∙ ap (λ k. min k 64) (w .ensures) in
     let h : l .p < m .result = c .before .before .loop-test .taken in
     let unfed : bit (a .mask) (l .p) ≡ false = ap (λ k. eqb (k % 2) 1) (sym (l .inv .2)) ∙ ap (λ k. eqb k 1) (c .if2 .taken) in
     let on : q (l .p) ≡ true = lack-on (a .required) (l .left) (l .p) (bit (a .mask) (l .p)) (l .inv .1) (c .before .if1 .taken) (ap not unfed) in
@@ -74,7 +74,7 @@ returns-2 c =
     let m = c .before .before .at-most in
     let w = c .before .before .before .wide in
     let q = lackAt (a .mask) (a .required) in
-    let e : m .result ≡ min (a .ports) 64 = m .ensures ∙ ap (λ k. min k 64) (w .ensures .0) in
+    let e : m .result ≡ min (a .ports) 64 = m .ensures ∙ ap (λ k. min k 64) (w .ensures) in
     rw (← e) (sym (any-end q (m .result) (l .p) (c .loop-test .left)) ∙ l .inv .3)
 
 pub port-lacks-spec : {M : Type 1} → statement M

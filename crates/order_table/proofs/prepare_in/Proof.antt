@@ -85,7 +85,7 @@ ends-requires c κs =
     let a = c .before .before .before .at-most in
     let few : a .result ≤ 1024 = omega (arith, a .ensures, s .pre .1) in
     let inside : a .result ≤ length (edgesIn (s .args .edges .now)) = omega (arith, edges-long s) in
-    ((l .ensures .few, omega (arith, l .ensures .few, l .ensures .long), few, inside), (search needs, search needs, ids-rise (take (s .args .n) (nodesIn (s .args .nodes .now))) _ (l .ensures)))
+    ((l .ensures .few, omega (arith, l .ensures .few, l .ensures .long), few, inside), (search needs, search needs, ids-rise (take (s .args .n) (nodesIn (s .args .nodes .now))) _ _ (l .ensures)))
 
 slice-aggregate-lacks : tie.Need-slice-aggregate-lacks
 slice-aggregate-lacks c = search needs
@@ -144,11 +144,10 @@ returns-2 c =
     let r = c .before .before .before .before .before .before .before .before .rows in
     let w = c .before .before .named in
     let new = w .last .1 .1 .1 .0 in
-    let same : length new ≡ length (s .args .order .now) = search needs in
     let sound = sym (lack-is e (k .result) (k .ensures)) ∙ c .before .before .before .before .before .before .before .before .before .before .before .if1 .left in
     let all = sym (whole-is e (r .result) (r .ensures)) ∙ c .before .before .before .before .before .before .before .if2 .taken in
     accepted (nodes e) (edges e) (s .args .order .now) sound all new (r .result .count)
-    (ordered-as (s .args .nodes .now) (s .args .edges .now) (s .args .n) (s .args .m) (ids e) (live e) (e .before .before .before .before .before .before .live-ids .ensures) (many e) (e .before .before .before .before .at-most .ensures) (from e) (to e) (e .ends .ensures) (r .result) (r .ensures) new (same ∙ s .pre .2) (w .ensures))
+    (ordered-as (s .args .nodes .now) (s .args .edges .now) (s .args .n) (s .args .m) (ids e) (live e) (e .before .before .before .before .before .before .live-ids .ensures) (many e) (e .before .before .before .before .at-most .ensures) (from e) (to e) (e .ends .ensures) (r .result) (r .ensures) new (w .ensures))
 
 returns-3 : tie.Need-returns-3
 returns-3 c =
