@@ -7,20 +7,18 @@ use native.Mathlib.Nat.{add-zero, suc-add, add-suc}
 use mathlib.Core.Path.{_≡_, refl, sym, ap, _∙_}
 use mathlib.Core.List.{List, _∷_}
 use mathlib.Core.Option.{none, some}
-use mathlib.Core.Bool.{true, false, cond, _&&_, and-false}
+use mathlib.Core.Bool.{true, false, _&&_, and-false}
 use lib.Dec.{eqb}
 use lib.ListN.{length, take, drop, getD, set, length-set}
 use lib.Seq.{getD-set-same, getD-set-other, ext-getD}
 use borrow.Author.Tests.{eq-eqb, ne-eqb}
-use Rattle.lists.specs.Member.{and-left}
-use Rattle.lists.specs.Keep.{keep}
-use Rattle.lists.specs.Find.{find, or?, mapO, isSome, find-keep-same}
+use Rattle.lists.specs.Find.{find, or?, mapO}
 use Rattle.lists.specs.Table.{left-row}
 use Rattle.node.specs.declared.record.NodeId.{NodeId}
 use Rattle.node.specs.declared.record.Edge.{Edge}
 use Rattle.edges.specs.declared.ports.Source.{Source}
 use Rattle.edges.specs.declared.ports.Source.the-variants as Source
-use Rattle.edges.specs.Wiring.{endsOn, endsAt, taken}
+use Rattle.edges.specs.Wiring.{endsAt, taken}
 use Rattle.edges.specs.Ports.{lowest, sourceAt, sourceOf, sourcesFrom}
 
 -- ---- the lowest port: from the port p on, `top - p` ports are left
@@ -96,10 +94,3 @@ says-all table es n inv =
     let long : length table ≡ 64 = inv .0 in
     ext-getD Source.Nothing table (sourcesFrom 64 es n 0) (long ∙ sym (length-sources 64 es n 0))
     (λ p h. let less : p < 64 = omega arith in inv .1 p less ∙ sym (source-in 64 es n 0 p Source.Nothing less ∙ ap (λ m. sourceOf (sourceAt es n m)) (omega arith)))
-
--- only the edges of the node count
-pub lowest-here : (k : ℕ) (es : List Edge) (n : NodeId) (p : ℕ) → lowest k (keep (endsOn n) es) n p ≡ lowest k es n p
-lowest-here zero es n p = refl
-lowest-here (suc k) es n p =
-    ap (λ o. cond (isSome o) (lowest k (keep (endsOn n) es) n (suc p)) (some p)) (find-keep-same (endsAt n p) (endsOn n) (λ e h. and-left _ _ h) es)
-    ∙ ap (λ r. cond (taken es n p) r (some p)) (lowest-here k es n (suc p))

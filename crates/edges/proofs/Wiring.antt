@@ -13,8 +13,8 @@ use Rattle.lists.specs.Find.{find, isSome, find-in, find-none}
 use Rattle.lists.specs.Count.{count-keep-lt, count-all}
 use Rattle.node.specs.declared.record.NodeId.{NodeId}
 use Rattle.node.specs.declared.record.Edge.{Edge}
-use Rattle.edges.proofs.Loops.{pushed-on}
 use Rattle.edges.specs.Wiring.{endsAt, taken, dropAt, noPlace, put, wired, pushed}
+use Rattle.edges.proofs.Loops.{pushed-on}
 
 -- with an edge at the port, dropping it leaves fewer; without one, all
 pub drop-fewer : (es : List Edge) (n : NodeId) (p : ℕ) → taken es n p ≡ true → length (dropAt es n p) < length es

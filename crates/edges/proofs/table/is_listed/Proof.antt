@@ -1,24 +1,24 @@
 use Prim.Native.Nat.{_≤_, _<_, _-_}
-use mathlib.Core.Path.{_≡_, refl, sym, ap, _∙_}
 use native.Mathlib.Omega.{arith}
-use lib.ListN.{length, drop}
-use borrow.Author.Needs.{needs}
+use mathlib.Core.Path.{_≡_, refl, sym, ap, _∙_}
+use lib.ListN.{length, take, drop}
+use lib.Seq.{take-all}
 use lib.Dec.{eqb}
+use borrow.Author.Needs.{needs}
 use borrow.Author.Tests.{eq-eqb, ne-eqb}
 use Rattle.lists.specs.Find.{find, isSome}
-use Rattle.lists.specs.Table.{left-cons}
-use Rattle.edges.proofs.Loops.{find-hit, find-pass, find-over}
+use Rattle.lists.specs.Table.{find-hit, find-next, find-over}
 use Rattle.edges.proofs.table.is_listed.Statement.{statement}
 use Rattle.edges.proofs.table.is_listed.Tie as tie
 
 abbrev Inv-loop : tie.InvT-loop
-Inv-loop keys x i₀ i = (i ≤ length keys) × (find (λ k. eqb k x) (drop i keys) ≡ find (λ k. eqb k x) keys)
+Inv-loop keys x i₀ i = (i ≤ length keys) × (find (λ k. eqb k x) (drop i (take (length keys) keys)) ≡ find (λ k. eqb k x) keys)
 
 abbrev μ-loop : tie.MeasureT-loop
 μ-loop keys x i₀ i = length keys - i
 
 loop-holds : tie.Need-loop-holds Inv-loop μ-loop
-loop-holds c = (omega arith, refl)
+loop-holds c = let keys = c .args .keys .now in (omega arith, ap (find (λ k. eqb k (c .args .x))) (take-all (length keys) keys (omega arith)))
 
 mul-if1 : tie.Need-mul-if1 Inv-loop μ-loop
 mul-if1 c = search needs
@@ -30,8 +30,8 @@ returns : tie.Need-returns Inv-loop μ-loop
 returns c =
     let s = c .before .before .before .before in
     let l = c .before .before .before .loop in
-    let more : l .i < length (s .args .keys .now) = omega arith in
-    ap isSome (sym (find-hit (λ k. eqb k (s .args .x)) (s .args .keys .now) (l .i) _ (left-cons _ (s .args .keys .now) (l .i) more) (eq-eqb _ _ (c .if1 .taken))) ∙ l .inv .1)
+    let keys = s .args .keys .now in
+    ap isSome (sym (find-hit _ (λ k. eqb k (s .args .x)) keys (length keys) (l .i) (c .before .before .loop-test .taken) (omega arith) (eq-eqb _ _ (c .if1 .taken))) ∙ l .inv .1)
 
 add-i : tie.Need-add-i Inv-loop μ-loop
 add-i c = search needs
@@ -43,15 +43,16 @@ loop-again : tie.Need-loop-again Inv-loop μ-loop
 loop-again c =
     let s = c .before .before .before .before in
     let l = c .before .before .before .loop in
-    let more : l .i < length (s .args .keys .now) = omega arith in
-    (omega arith, find-pass (λ k. eqb k (s .args .x)) (s .args .keys .now) (l .i) _ (left-cons _ (s .args .keys .now) (l .i) more) (ne-eqb _ _ (c .if1 .left)) ∙ l .inv .1)
+    let keys = s .args .keys .now in
+    (omega arith, find-next _ (λ k. eqb k (s .args .x)) keys (length keys) (l .i) (c .before .before .loop-test .taken) (omega arith) (ne-eqb _ _ (c .if1 .left)) ∙ l .inv .1)
 
 returns-2 : tie.Need-returns-2 Inv-loop μ-loop
 returns-2 c =
     let s = c .before .before in
     let l = c .before .loop in
-    let over : length (s .args .keys .now) ≤ l .i = omega arith in
-    ap isSome (sym (find-over (λ k. eqb k (s .args .x)) (s .args .keys .now) (l .i) over) ∙ l .inv .1)
+    let keys = s .args .keys .now in
+    let end : l .i ≡ length keys = omega (arith, l .inv .0, c .loop-test .left) in
+    ap isSome (sym (find-over (λ k. eqb k (s .args .x)) keys (length keys) (l .i) end (omega arith)) ∙ l .inv .1)
 
 pub is-listed-spec : {M : Type 1} → statement M
 is-listed-spec =

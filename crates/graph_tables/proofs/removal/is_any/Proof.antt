@@ -9,15 +9,15 @@ use lib.ListN.{length, take, drop, getD, set}
 use borrow.Author.Needs.{needs}
 use borrow.Author.Tests.{lt-ltb, le-ltb, eq-eqb, ne-eqb, eqb-true, eqb-false, ltb-true, ltb-false}
 use lib.Dec.{eqb}
+use lib.Seq.{take-all}
 use lib.ListN.{length-set, getD-replicate}
 use Rattle.lists.specs.Find.{find, isSome, keepO, or?}
-use Rattle.lists.specs.Table.{left-cons}
+use Rattle.lists.specs.Table.{find-hit, find-next, find-over}
 use Rattle.words.proofs.Rows.{rows-long}
 use Rattle.words.proofs.Place.{closed}
 use Rattle.words.proofs.InPlace.{Gathering, gathering-start, gathering-take, gathering-pass}
 use Rattle.words.proofs.InWords.{ClosingIn, words-start, words-row, words-keep, words-drop, take-count}
 use Rattle.edges.specs.Wiring.{touches, listed, among}
-use Rattle.edges.proofs.Loops.{find-hit, find-pass, find-over}
 use Rattle.graph.specs.Change.{idsOf}
 use Rattle.graph_rows.specs.Node.{nodeOf, nodesIn}
 use Rattle.graph_rows.specs.Edge.{edgeOf, edgesIn}
@@ -29,13 +29,13 @@ use Rattle.graph_tables.proofs.removal.is_any.Reads as reads
 use Rattle.graph_tables.proofs.removal.is_any.Lts as lts
 
 abbrev Inv-loop : tie.InvT-loop
-Inv-loop ids x i₀ i = (i ≤ length ids) × (find (λ k. eqb k x) (drop i ids) ≡ find (λ k. eqb k x) ids)
+Inv-loop ids x i₀ i = (i ≤ length ids) × (find (λ k. eqb k x) (drop i (take (length ids) ids)) ≡ find (λ k. eqb k x) ids)
 
 abbrev μ-loop : tie.MeasureT-loop
 μ-loop ids x i₀ i = length ids - i
 
 loop-holds : tie.Need-loop-holds Inv-loop μ-loop
-loop-holds c = (omega arith, refl)
+loop-holds c = let keys = c .args .ids .now in (omega arith, ap (find (λ k. eqb k (c .args .x))) (take-all (length keys) keys (omega arith)))
 
 mul-if1 : tie.Need-mul-if1 Inv-loop μ-loop
 mul-if1 c = search needs
@@ -47,7 +47,8 @@ returns : tie.Need-returns Inv-loop μ-loop
 returns c =
     let s = c .before .before .before .before in
     let l = c .before .before .before .loop in
-    ap isSome (sym (find-hit (λ k. eqb k (s .args .x)) (s .args .ids .now) (l .i) _ (left-cons _ (s .args .ids .now) (l .i) (c .before .before .loop-test .taken)) (eq-eqb _ _ (c .if1 .taken))) ∙ l .inv .1)
+    let keys = s .args .ids .now in
+    ap isSome (sym (find-hit _ (λ k. eqb k (s .args .x)) keys (length keys) (l .i) (c .before .before .loop-test .taken) (omega arith) (eq-eqb _ _ (c .if1 .taken))) ∙ l .inv .1)
 
 add-i : tie.Need-add-i Inv-loop μ-loop
 add-i c = search needs
@@ -59,13 +60,16 @@ loop-again : tie.Need-loop-again Inv-loop μ-loop
 loop-again c =
     let s = c .before .before .before .before in
     let l = c .before .before .before .loop in
-    (omega arith, find-pass (λ k. eqb k (s .args .x)) (s .args .ids .now) (l .i) _ (left-cons _ (s .args .ids .now) (l .i) (c .before .before .loop-test .taken)) (ne-eqb _ _ (c .if1 .left)) ∙ l .inv .1)
+    let keys = s .args .ids .now in
+    (omega arith, find-next _ (λ k. eqb k (s .args .x)) keys (length keys) (l .i) (c .before .before .loop-test .taken) (omega arith) (ne-eqb _ _ (c .if1 .left)) ∙ l .inv .1)
 
 returns-2 : tie.Need-returns-2 Inv-loop μ-loop
 returns-2 c =
     let s = c .before .before in
     let l = c .before .loop in
-    ap isSome (sym (find-over (λ k. eqb k (s .args .x)) (s .args .ids .now) (l .i) (c .loop-test .left)) ∙ l .inv .1)
+    let keys = s .args .ids .now in
+    let end : l .i ≡ length keys = omega (arith, l .inv .0, c .loop-test .left) in
+    ap isSome (sym (find-over (λ k. eqb k (s .args .x)) keys (length keys) (l .i) end (omega arith)) ∙ l .inv .1)
 
 pub is-any-spec : {M : Type 1} → statement M
 is-any-spec =
