@@ -5,7 +5,7 @@ use mathlib.Core.List.{List}
 use mathlib.Core.Bool.{not}
 use lib.ListN.{length, take}
 use Rattle.lists.specs.Keep.{keep}
-use Rattle.row_fields.specs.Row.{RowsAre}
+use Rattle.words.specs.Place.{Holds}
 use Rattle.graph.specs.Node.{ownedByAny}
 use Rattle.graph.specs.Change.{without}
 use Rattle.graph.specs.Tables.{sinkOf}
@@ -27,7 +27,7 @@ module _ (s : State) (ns es vs ids : List ℕ) (l : Left) (count : ℕ) where
 
   pub forgets : (ns' es' vs' : List ℕ) → (length ids ≡ 0 → ⊥)
       → Removed ns es ns' es' (s .nodes) (s .edges) (sinkOf (s .sink)) (ownedByAny ids) l
-      → RowsAre (keep (λ v. not (isAnyOf ids v)) (take (s .voices) (voicesIn vs))) count (voicesIn vs')
+      → Holds (voicesIn vs') count (keep (λ v. not (isAnyOf ids v)) (take (s .voices) (voicesIn vs)))
       → (rest u : State) → rest ≡ graphed s (l .nodes) (l .edges) (l .sink) (s .next) → u ≡ voiced rest count
       → (m : Memory) → modelOf (lentVoices u ns' es' vs' m) ≡ goneIds ids (modelOf (lentVoices s ns es vs m))
   forgets ns' es' vs' some graph rows rest u is-rest is m =

@@ -13,8 +13,8 @@ use Rattle.words.specs.Fields.{lastAt}
 use Rattle.words.specs.Rows.{rowAt}
 use Rattle.words.proofs.Words.{spell, spelled}
 use Rattle.words.proofs.Rows.{row-is, rows-kept, at-long}
-use Rattle.row_fields.specs.Row.{fieldsPut}
-use Rattle.row_fields.proofs.Row.{put-past, fields-is}
+use Rattle.words.specs.Rows.{fieldsPut}
+use Rattle.words.proofs.Within.{put-past, fields-is}
 use Rattle.graph_rows.specs.Node.{nodeOf, nodesIn}
 use Rattle.model.specs.Order.{withLast}
 

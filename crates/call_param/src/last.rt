@@ -1,7 +1,7 @@
 use node::order::LastOrder;
-use row_fields::put_fields;
 use words::fields::flag_at;
 use words::fields::last_words;
+use words::table::put_fields;
 ghost use mathlib.Core.Path.{_≡_};
 ghost use mathlib.Core.List.{[]};
 ghost use lib.ListN.{getD, set};

@@ -14,7 +14,7 @@ ghost use mathlib.Core.List.{List, []};
 ghost use Prim.Native.Nat.{ℕ, _+_, _<_};
 ghost use lib.ListN.{length, take, getD};
 ghost use Rattle.scheduler.specs.Queue.{Place, inserted, full, due, takenBefore, leftAfter};
-ghost use Rattle.row_fields.specs.Row.{RowsAre};
+ghost use Rattle.words.specs.Place.{Holds};
 ghost use Rattle.event_table.specs.Rows.{eventOf, eventsIn};
 ghost use Rattle.event_table.specs.Queue.{Queued};
 
@@ -108,7 +108,7 @@ pub fn count_due(t: &[u32], count: usize, deadline: u64) -> usize
 
 // Removes the events that are due, in one pass that closes the gaps: how many are left.
 pub fn remove_due(t: &mut [u32], count: usize, deadline: u64) -> usize
-    ensures { λ r. ⌜ RowsAre (leftAfter deadline (take count (eventsIn (now (t .entry))))) r (eventsIn (now (t .exit))) ⌝ }
+    ensures { λ r. ⌜ Holds (eventsIn (now (t .exit))) r (leftAfter deadline (take count (eventsIn (now (t .entry))))) ⌝ }
 {
     let n = at_most(count, t.len() / 15);
     let mut w: usize = 0;

@@ -11,7 +11,7 @@ use lib.Dec.{eqb}
 use lib.ListN.{length, getD, set, length-set}
 use lib.Seq.{ext-getD, sets, length-sets, getD-set-same}
 use borrow.Author.Tests.{eqb-true, eqb-false}
-use Rattle.row_fields.proofs.Row.{sets-out}
+use Rattle.words.proofs.Within.{sets-out}
 use Rattle.voice_rows.specs.Rows.{each}
 use Rattle.voice_rows.specs.Filled.{Filled}
 

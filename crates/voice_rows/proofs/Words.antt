@@ -18,8 +18,8 @@ use Rattle.model.specs.Voice.{withState}
 use Rattle.words.specs.Rows.{rowAt}
 use Rattle.words.proofs.Words.{spell, spelled}
 use Rattle.words.proofs.Rows.{row-is, rows-kept, at-long}
-use Rattle.row_fields.specs.Row.{fieldsPut}
-use Rattle.row_fields.proofs.Row.{sets-out, take-sets, put-past, fields-is}
+use Rattle.words.specs.Rows.{fieldsPut}
+use Rattle.words.proofs.Within.{sets-out, take-sets, put-past, fields-is}
 use Rattle.voice_rows.specs.Rows.{stateAt, paramAt, stepAt, paramsIn, stepsIn, headed, voiceOf, voicesIn, Heads, Stands, Spells}
 use Rattle.voice_rows.specs.Filled.{Filled}
 use Rattle.voice_rows.proofs.Filling.{each-same, sets-in}

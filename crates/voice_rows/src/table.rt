@@ -14,7 +14,7 @@ ghost use Rattle.lists.specs.Keep.{keep};
 ghost use Rattle.lists.specs.Find.{find};
 ghost use Rattle.model.specs.Voice.{isVoice};
 ghost use Rattle.voice_rows.specs.Listed.{isAnyOf, pushedVoice};
-ghost use Rattle.row_fields.specs.Row.{RowsAre};
+ghost use Rattle.words.specs.Place.{Holds};
 ghost use Rattle.voice_rows.specs.Rows.{voicesIn};
 ghost use Rattle.voice_rows.specs.Found.{FoundAt};
 
@@ -47,7 +47,7 @@ pub fn find_voice(t: &[u32], count: usize, w: VoiceId) -> FoundRow
 
 fn push_in(t: &mut [u32], count: usize, v: Voice) -> usize
     requires { ⌜ length (now t) ≡ 9088 ⌝ }
-    ensures { λ r. ⌜ RowsAre (pushedVoice (take count (voicesIn (now (t .entry)))) v) r (voicesIn (now (t .exit))) ⌝ }
+    ensures { λ r. ⌜ Holds (voicesIn (now (t .exit))) r (pushedVoice (take count (voicesIn (now (t .entry)))) v) ⌝ }
 {
     let n = at_most(count, 64);
     if n < 64 {
@@ -59,14 +59,14 @@ fn push_in(t: &mut [u32], count: usize, v: Voice) -> usize
 
 // One voice more behind the first `count`, if there is a place: how many there are.
 pub fn push_voice(t: &mut VoiceTable, count: usize, v: Voice) -> usize
-    ensures { λ r. ⌜ RowsAre (pushedVoice (take count (voicesIn (now (t .entry)))) v) r (voicesIn (now (t .exit))) ⌝ }
+    ensures { λ r. ⌜ Holds (voicesIn (now (t .exit))) r (pushedVoice (take count (voicesIn (now (t .entry)))) v) ⌝ }
 {
     push_in(t, count, v)
 }
 
 // Removes the voices whose ids are among `ids`, in one pass that closes the gaps: how many are left.
 pub fn remove_voices(t: &mut [u32], count: usize, ids: &[u64]) -> usize
-    ensures { λ r. ⌜ RowsAre (keep (λ v. not (isAnyOf (now (ids .entry)) v)) (take count (voicesIn (now (t .entry))))) r (voicesIn (now (t .exit))) ⌝ }
+    ensures { λ r. ⌜ Holds (voicesIn (now (t .exit))) r (keep (λ v. not (isAnyOf (now (ids .entry)) v)) (take count (voicesIn (now (t .entry))))) ⌝ }
 {
     let n = at_most(count, t.len() / 142);
     let mut w: usize = 0;
@@ -85,7 +85,7 @@ pub fn remove_voices(t: &mut [u32], count: usize, ids: &[u64]) -> usize
 
 // Removes the voice `v`: how many are left.
 pub fn remove_voice(t: &mut [u32], count: usize, v: VoiceId) -> usize
-    ensures { λ r. ⌜ RowsAre (keep (λ x. not (isVoice v x)) (take count (voicesIn (now (t .entry))))) r (voicesIn (now (t .exit))) ⌝ }
+    ensures { λ r. ⌜ Holds (voicesIn (now (t .exit))) r (keep (λ x. not (isVoice v x)) (take count (voicesIn (now (t .entry))))) ⌝ }
 {
     let one = [v.0];
     remove_voices(t, count, &one)

@@ -5,3 +5,6 @@ pub mod InWords
 pub mod Floats
 pub mod Bytes
 pub mod Place
+pub mod Within
+pub mod Counting
+pub mod Copying

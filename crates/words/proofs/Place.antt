@@ -133,6 +133,12 @@ module _ {A : Type 0} (w : ℕ) (of : List ℕ → A) (old new : List ℕ) where
 pub holds-count : {A : Type 0} (w : ℕ) (of : List ℕ → A) (c : List ℕ) (count n : ℕ) → n ≡ min count (length c / w) → Holds (rows w of c) n (take count (rows w of c))
 holds-count w of c count n e = record { is = take-count w of c count n e; many = sym (counted w of c count n e) }
 
+-- the first r rows, where there are as many, are r
+pub holds-rows : {A : Type 0} (w : ℕ) (of : List ℕ → A) (c : List ℕ) (r : ℕ) (l : List A) → r ≤ length c / w → take r (rows w of c) ≡ l → Holds (rows w of c) r l
+holds-rows w of c r l h e =
+    let long : r ≤ length (rows w of c) = omega (arith, rows-long w of c) in
+    record { is = e; many = sym (length-take-le r (rows w of c) long) ∙ ap length e }
+
 -- what a table holds is no more than there is room for
 pub holds-room : {A : Type 0} (w : ℕ) (of : List ℕ → A) (c : List ℕ) (n : ℕ) (l : List A) → Holds (rows w of c) n l → n ≤ length c / w
 holds-room w of c n l inv = omega (arith, rows-long w of c, inv .many, ap length (inv .is), length-take n (rows w of c))

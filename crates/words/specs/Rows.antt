@@ -5,7 +5,7 @@ use Prim.Native.Nat.{ℕ, zero, suc, _+_, _-_, _*_, _/_, _≤_}
 use mathlib.Core.Logic.{_⊎_}
 use mathlib.Core.List.{List, [], _∷_}
 use mathlib.Core.Bool.{cond, _&&_}
-use lib.Dec.{eqb, ltb}
+use lib.Dec.{eqb, leb, ltb}
 use lib.ListN.{length, take, drop, getD, set}
 use lib.Seq.{sets}
 
@@ -53,3 +53,7 @@ opened w n p c = cond (ltb n (length c / w)) (movedUp (n - p) w p c) c
 -- the n words from `from` on can be moved to `to` word by word, the first one first
 abbrev pub Apart : ℕ → ℕ → ℕ → Type 0
 Apart from to n = (to ≤ from) ⊎ (from + n ≤ to)
+
+-- the words ws stored from word k of row i on, if they end within the row
+unfoldable pub fieldsPut : ℕ → ℕ → ℕ → List ℕ → List ℕ → List ℕ
+fieldsPut w i k ws c = cond (ltb k w && leb (length ws) (w - k) && ltb i (length c / w)) (sets c (i * w + k) ws) c

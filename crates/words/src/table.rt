@@ -2,7 +2,7 @@ ghost use mathlib.Core.Path.{_≡_};
 ghost use Prim.Native.Nat.{_+_, _≤_, min};
 ghost use lib.ListN.{length, getD, take, drop};
 ghost use lib.Seq.{sets};
-ghost use Rattle.words.specs.Rows.{Apart, rowAt, rowPut, wordPut, rowMoved, opened};
+ghost use Rattle.words.specs.Rows.{Apart, rowAt, rowPut, wordPut, fieldsPut, rowMoved, opened};
 
 // A count above the room of its table is the room.
 pub fn at_most(count: usize, room: usize) -> usize
@@ -79,6 +79,19 @@ pub fn put_row(t: &mut [u32], w: usize, i: usize, ws: &[u32])
         if i < t.len() / w {
             if ws.len() == w {
                 put_words(t, i * w, ws);
+            }
+        }
+    }
+}
+
+// The words `ws` are stored from word `k` of row `i` on, if they end within the row; a row has `w` words.
+pub fn put_fields(t: &mut [u32], w: usize, i: usize, k: usize, ws: &[u32])
+    ensures { λ _. ⌜ now (t .exit) ≡ fieldsPut w i k (now (ws .entry)) (now (t .entry)) ⌝ }
+{
+    if k < w {
+        if ws.len() <= w - k {
+            if i < t.len() / w {
+                put_words(t, i * w + k, ws);
             }
         }
     }

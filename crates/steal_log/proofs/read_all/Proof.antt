@@ -2,7 +2,7 @@ use Prim.Native.Nat.{_-_}
 use mathlib.Core.Path.{_≡_, refl, ap}
 use mathlib.Core.List.{[]}
 use borrow.Author.Needs.{needs}
-use Rattle.row_fields.proofs.Copying.{Copying, copy-start, copy-more, copy-done}
+use Rattle.words.proofs.Copying.{Copying, copy-start, copy-more, copy-done}
 use Rattle.steal_log.specs.Rows.{stealOf, recordsIn}
 use Rattle.steal_log.proofs.Records.{room}
 use Rattle.steal_log.proofs.read_all.Statement.{statement}

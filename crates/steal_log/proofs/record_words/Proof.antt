@@ -1,6 +1,6 @@
 use mathlib.Core.Path.{refl}
 use borrow.Author.Needs.{needs}
-use Rattle.row_fields.proofs.Row.{long-back}
+use Rattle.words.proofs.Within.{long-back}
 use Rattle.steal_log.specs.Rows.{stealOf}
 use Rattle.steal_log.proofs.Records.{record-same}
 use Rattle.steal_log.proofs.record_words.Statement.{statement}

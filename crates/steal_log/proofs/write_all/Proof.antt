@@ -3,7 +3,7 @@ use mathlib.Core.Path.{_≡_, refl, _∙_}
 use mathlib.Core.List.{[]}
 use lib.ListN.{length-map, length}
 use borrow.Author.Needs.{needs}
-use Rattle.row_fields.proofs.Copying.{Copying, copy-start, copy-more, copy-done}
+use Rattle.words.proofs.Copying.{Copying, copy-start, copy-more, copy-done}
 use Rattle.steal_log.specs.Rows.{stealOf, recordsIn}
 use Rattle.steal_log.proofs.Records.{room}
 use Rattle.steal_log.proofs.write_all.Statement.{statement}

@@ -4,7 +4,7 @@ use mathlib.Core.Path.{sym, _∙_}
 use lib.ListN.{length}
 use borrow.Author.Needs.{needs}
 use Rattle.scheduler.specs.Queue.{due}
-use Rattle.row_fields.proofs.Counting.{CountingIn, count-start, count-on, count-off, count-done}
+use Rattle.words.proofs.Counting.{CountingIn, count-start, count-on, count-off, count-done}
 use Rattle.event_table.specs.Rows.{eventOf}
 use Rattle.event_table.proofs.queue.count_due.Statement.{statement}
 use Rattle.event_table.proofs.queue.count_due.Tie as tie

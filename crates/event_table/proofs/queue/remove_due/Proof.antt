@@ -7,7 +7,7 @@ use borrow.Author.Needs.{needs}
 use Rattle.scheduler.specs.Queue.{due}
 use Rattle.scheduler.specs.declared.event.Event.{Event}
 use Rattle.words.proofs.InWords.{ClosingIn, words-start, words-keep, words-drop, words-done}
-use Rattle.row_fields.proofs.Row.{rows-are}
+use Rattle.words.proofs.Place.{holds-rows}
 use Rattle.event_table.specs.Rows.{eventOf}
 use Rattle.event_table.proofs.queue.remove_due.Statement.{statement}
 use Rattle.event_table.proofs.queue.remove_due.Tie as tie
@@ -73,7 +73,7 @@ returns c =
     let l = c .before .loop in
     let n = c .before .before .at-most .result in
     let fits : l .w ≤ length (l .t) / 15 = omega (arith, c .before .before .at-most .ensures, l .inv .0, l .inv .2 .low, ap (λ k. k / 15) (l .inv .1)) in
-    rows-are 15 eventOf (l .t) (l .w) _ fits
+    holds-rows 15 eventOf (l .t) (l .w) _ fits
     (words-done 15 eventOf (stays (s .deadline)) (s .t .now) (l .t) (s .count) n (l .i) (l .w) (c .before .before .at-most .ensures) (c .loop-test .left) (l .inv))
 
 pub remove-due-spec : {M : Type 1} → statement M

@@ -2,7 +2,7 @@ use Prim.Native.Nat.{ℕ}
 use mathlib.Core.Path.{refl, ap}
 use borrow.Author.Needs.{needs}
 use Rattle.node.specs.declared.record.VoiceId.{VoiceId}
-use Rattle.row_fields.proofs.Row.{long-back}
+use Rattle.words.proofs.Within.{long-back}
 use Rattle.event_table.specs.Rows.{eventOf}
 use Rattle.event_table.proofs.Records.{event-same}
 use Rattle.event_table.proofs.row.event_words.Statement.{statement}

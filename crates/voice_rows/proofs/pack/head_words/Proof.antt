@@ -3,7 +3,7 @@ use native.Mathlib.Omega.{arith}
 use mathlib.Core.Path.{_≡_, refl, ap}
 use borrow.Author.Needs.{needs}
 use Rattle.node.specs.declared.record.VoiceId.{VoiceId}
-use Rattle.row_fields.proofs.Row.{long-back}
+use Rattle.words.proofs.Within.{long-back}
 use Rattle.voice_rows.specs.Rows.{headed}
 use Rattle.voice_rows.proofs.Records.{voice-same}
 use Rattle.voice_rows.proofs.pack.head_words.Statement.{statement}

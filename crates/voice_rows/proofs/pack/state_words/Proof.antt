@@ -1,7 +1,7 @@
 use mathlib.Core.Path.{refl, sym, ap, _∙_}
 use borrow.Author.Needs.{needs}
 use Rattle.store.specs.declared.voices.VoiceState.the-variants.{Fading}
-use Rattle.row_fields.proofs.Row.{long-back}
+use Rattle.words.proofs.Within.{long-back}
 use Rattle.voice_rows.proofs.Records.{fade-same}
 use Rattle.voice_rows.proofs.pack.state_words.Statement.{statement}
 use Rattle.voice_rows.proofs.pack.state_words.Tie as tie

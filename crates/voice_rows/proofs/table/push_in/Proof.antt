@@ -7,7 +7,7 @@ use lib.Dec.{ltb}
 use lib.ListN.{length, take}
 use borrow.Author.Needs.{needs}
 use Rattle.words.proofs.InWords.{words-push, words-full}
-use Rattle.row_fields.proofs.Row.{rows-are}
+use Rattle.words.proofs.Place.{holds-rows}
 use Rattle.voice_rows.specs.Rows.{voiceOf, voicesIn}
 use Rattle.voice_rows.proofs.table.push_in.Statement.{statement}
 use Rattle.voice_rows.proofs.table.push_in.Tie as tie
@@ -38,7 +38,7 @@ returns c =
     let e : n ≡ min (s .args .count) (length old / 142) = c .before .before .before .before .before .at-most .ensures ∙ ap (min (s .args .count)) (sym r) in
     let less : n < length old / 142 = omega (arith, r, c .before .before .before .before .if1 .taken) in
     let fits : n + 1 ≤ length new / 142 = omega (arith, r, c .before .before .before .before .if1 .taken, ap (λ k. k / 142) (c .before .t .given)) in
-    rows-are 142 voiceOf new (n + 1) _ fits
+    holds-rows 142 voiceOf new (n + 1) _ fits
     (words-push 142 voiceOf old new (s .args .count) n (s .args .v) e less (c .before .before .put-voice .ensures) ∙ ap (λ k. cond (ltb (length l) k) (l ++ (s .args .v ∷ [])) l) r)
 
 returns-2 : tie.Need-returns-2
@@ -51,7 +51,7 @@ returns-2 c =
     let e : n ≡ min (s .args .count) (length old / 142) = c .before .at-most .ensures ∙ ap (min (s .args .count)) (sym r) in
     let full : length old / 142 ≤ n = omega (arith, r, c .if1 .left) in
     let fits : n ≤ length old / 142 = omega (arith, e) in
-    rows-are 142 voiceOf old n _ fits
+    holds-rows 142 voiceOf old n _ fits
     (words-full 142 voiceOf old old (s .args .count) n (s .args .v) e full ∙ ap (λ k. cond (ltb (length l) k) (l ++ (s .args .v ∷ [])) l) r)
 
 pub push-in-spec : {M : Type 1} → statement M

@@ -26,7 +26,7 @@ returns c =
     let s = c .before .before .before .before .before .before .args in
     let l = take (s .count) (voicesIn (s .t .now)) in
     let same : keep (λ (x : Voice). not (isAnyOf (s .v .0 ∷ []) x)) l ≡ keep (λ (x : Voice). not (isVoice (s .v) x)) l = keep-same _ _ l (λ x i. ap not (listed-one (s .v .0) (x .id .0))) in
-    record { is = c .before .before .remove-voices .ensures .is ∙ same; count = c .before .before .remove-voices .ensures .count ∙ ap length same }
+    record { is = c .before .before .remove-voices .ensures .is ∙ same; many = c .before .before .remove-voices .ensures .many ∙ ap length same }
 
 pub remove-voice-spec : {M : Type 1} → statement M
 remove-voice-spec =

@@ -10,7 +10,7 @@ use Rattle.edges.specs.Wiring.{listed}
 use Rattle.store.specs.declared.voices.Voice.{Voice}
 use Rattle.voice_rows.specs.Listed.{isAnyOf}
 use Rattle.words.proofs.InWords.{ClosingIn, words-start, words-keep, words-drop, words-done}
-use Rattle.row_fields.proofs.Row.{rows-are}
+use Rattle.words.proofs.Place.{holds-rows}
 use Rattle.voice_rows.specs.Rows.{voiceOf}
 use Rattle.voice_rows.proofs.table.remove_voices.Statement.{statement}
 use Rattle.voice_rows.proofs.table.remove_voices.Tie as tie
@@ -84,7 +84,7 @@ returns c =
     let l = c .before .loop in
     let n = c .before .before .at-most .result in
     let fits : l .w ≤ length (l .t) / 142 = omega (arith, c .before .before .at-most .ensures, l .inv .0, l .inv .2 .low, ap (λ k. k / 142) (l .inv .1)) in
-    rows-are 142 voiceOf (l .t) (l .w) _ fits
+    holds-rows 142 voiceOf (l .t) (l .w) _ fits
     (words-done 142 voiceOf (stays (s .ids .now)) (s .t .now) (l .t) (s .count) n (l .i) (l .w) (c .before .before .at-most .ensures) (c .loop-test .left) (l .inv))
 
 pub remove-voices-spec : {M : Type 1} → statement M

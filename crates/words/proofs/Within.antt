@@ -7,12 +7,11 @@ use mathlib.Core.List.{List, [], _∷_}
 use mathlib.Core.Bool.{Bool, true, false, cond, _&&_}
 use lib.Dec.{leb, ltb}
 use lib.ListN.{length, take, drop, getD, set}
-use lib.Seq.{sets, length-sets, length-take-le, getD-set-other, drop-set-add, take-set-lt}
+use lib.Seq.{sets, length-sets, getD-set-other, drop-set-add, take-set-lt}
 use borrow.Author.Tests.{ltb-true, ltb-false, lt-ltb, le-ltb, le-leb, lt-leb}
 use Rattle.words.specs.Fields.{longFrom}
-use Rattle.words.specs.Rows.{rowAt, rows}
-use Rattle.words.proofs.Rows.{rows-long, rows-at, rows-kept, rows-change}
-use Rattle.row_fields.specs.Row.{fieldsPut, RowsAre}
+use Rattle.words.specs.Rows.{rowAt, rows, fieldsPut}
+use Rattle.words.proofs.Rows.{rows-at, rows-kept, rows-change}
 
 -- ---- the three tests before a store
 module _ (w i k : ℕ) (ws c : List ℕ) where
@@ -95,14 +94,6 @@ module _ {A : Type 0} (w : ℕ) (of : List ℕ → A) (c ws : List ℕ) (i k : �
       go false e =
           let past : length c / w ≤ i = ltb-false i (length c / w) e in
           ap (rows w of) (sym (put-past w i k ws c past)) ∙ rows-kept w of c i (of (sets (rowAt w i c) k ws)) past
-
--- ---- counts
-
--- the first r rows, where there are as many, are r
-pub rows-are : {A : Type 0} (w : ℕ) (of : List ℕ → A) (c : List ℕ) (r : ℕ) (l : List A) → r ≤ length c / w → take r (rows w of c) ≡ l → RowsAre l r (rows w of c)
-rows-are w of c r l h e =
-    let long : r ≤ length (rows w of c) = omega (arith, rows-long w of c) in
-    record { is = e; count = sym (length-take-le r (rows w of c) long) ∙ ap length e }
 
 -- ---- a u64 comes back
 pub long-back : (x low high : ℕ) → low ≡ x % 4294967296 → high ≡ x / 4294967296 → longFrom low high ≡ x

@@ -1,10 +1,10 @@
 use native.Mathlib.Omega.{arith}
 use mathlib.Core.Path.{_∙_}
 use borrow.Author.Needs.{needs}
 use Rattle.words.proofs.Rows.{row-fits}
-use Rattle.row_fields.proofs.Row.{put-in, put-short, put-past, put-out}
-use Rattle.row_fields.proofs.put_fields.Statement.{statement}
-use Rattle.row_fields.proofs.put_fields.Tie as tie
+use Rattle.words.proofs.Within.{put-in, put-short, put-past, put-out}
+use Rattle.words.proofs.table.put_fields.Statement.{statement}
+use Rattle.words.proofs.table.put_fields.Tie as tie
 
 sub-if2 : tie.Need-sub-if2
 sub-if2 c = search needs
