@@ -7,18 +7,12 @@ use mathlib.Core.Option.{Option, none, some}
 use mathlib.Core.Bool.{Bool, true, false, not, cond}
 use lib.ListN.{length, take, drop}
 use lib.Dec.{leb, ltb}
-use Rattle.lists.specs.Table.{rowsOf}
 use Rattle.lists.specs.Keep.{keep}
 use Rattle.node.specs.Refusal.{numberOf}
 use Rattle.node.specs.declared.refusal.Refusal.the-variants.{TableFull}
 use Rattle.scheduler.specs.declared.event.Event.{Event}
-use Rattle.scheduler.specs.declared.queue.Events.{Events}
 use Rattle.scheduler.specs.declared.queue.ScheduleAnswer.{ScheduleAnswer}
 use Rattle.scheduler.specs.declared.queue.ScheduleAnswer.the-variants.{Taken, Refused}
-
--- "256 pending events"
-abbrev pub eventsOf : Events → List Event
-eventsOf q = rowsOf 256 (q .count) (q .rows)
 
 -- ---- scheduling
 
@@ -42,6 +36,7 @@ pub record Place (l : List Event) (e : Event) (p : ℕ) : Type 0 where
   pub within : p ≤ length l
   pub splits : inserted e l ≡ take p l ++ (e ∷ drop p l)
 
+-- "256 pending events"
 abbrev pub full : List Event → Bool
 full l = leb 256 (length l)
 
