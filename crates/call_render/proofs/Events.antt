@@ -17,7 +17,7 @@ use Rattle.scheduler.specs.Event.{paramOrder}
 use Rattle.scheduler.specs.Queue.{due, takenBefore, leftAfter}
 use Rattle.scheduler.specs.declared.event.Event.{Event}
 use Rattle.scheduler.specs.declared.event.ParamOrder.{ParamOrder}
-use Rattle.row_fields.specs.Row.{RowsAre}
+use Rattle.words.specs.Place.{Holds}
 use Rattle.event_table.specs.Rows.{eventsIn}
 use Rattle.graph_rows.specs.Node.{nodesIn}
 use Rattle.store.specs.declared.answer.Outcome.{Outcome}
@@ -167,7 +167,7 @@ module _ (deadline : ℕ) (rows : List Event) (n : ℕ) (vs : List Voice) (start
 -- ---- all of them: the events are removed from the queue, and the freed voices from the tables
 module _ (s : State) (ns es vs ev : List ℕ) (deadline : ℕ) (ns1 freed : List ℕ) (r : ℕ)
     (h : Left (take (s .nodes) (nodesIn ns)) (take (s .voices) (voicesIn vs)) (takenBefore deadline (take (s .events) (eventsIn ev))) (take (s .nodes) (nodesIn ns1)) freed r)
-    (ev1 : List ℕ) (k : ℕ) (removed : RowsAre (leftAfter deadline (take (s .events) (eventsIn ev))) k (eventsIn ev1))
+    (ev1 : List ℕ) (k : ℕ) (removed : Holds (eventsIn ev1) k (leftAfter deadline (take (s .events) (eventsIn ev))))
     (u : State) (counted : u ≡ queued s k) (after : State) (ns2 es2 vs2 : List ℕ)
     (forgot : (m : Memory) → modelOf (lentVoices after ns2 es2 vs2 m) ≡ goneIds (take r freed) (modelOf (lentVoices u ns1 es vs m))) where
   pub all-happen : (m : Memory) → modelOf (lentRender after ns2 es2 (m .order) vs2 ev1 m) ≡ left deadline (modelOf (lentRender s ns es (m .order) vs ev m))

@@ -14,8 +14,8 @@ use Rattle.words.specs.Fields.{isSet, floatFrom}
 use Rattle.words.specs.Rows.{rowAt}
 use Rattle.words.proofs.Words.{spell, spelled}
 use Rattle.words.proofs.Rows.{row-is, rows-kept, at-long}
-use Rattle.row_fields.specs.Row.{fieldsPut}
-use Rattle.row_fields.proofs.Row.{put-past, fields-is}
+use Rattle.words.specs.Rows.{fieldsPut}
+use Rattle.words.proofs.Within.{put-past, fields-is}
 use Rattle.graph_rows.specs.Node.{nodeOf, nodesIn}
 
 report-set : (r : List ℕ) (a b : ℕ) (done : Bool) (level : Float) → length r ≡ 21 → isSet a ≡ done → floatFrom b ≡ level → nodeOf (sets r 13 (a ∷ b ∷ [])) ≡ reported level done (nodeOf r)

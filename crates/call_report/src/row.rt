@@ -1,4 +1,4 @@
-use row_fields::put_fields;
+use words::table::put_fields;
 use words::fields::flag_word;
 use words::fields::float_word;
 ghost use mathlib.Core.Path.{_≡_};
