@@ -8,6 +8,8 @@ use crate::words::is_over;
 use crate::words::labelled;
 use crate::words::next_byte;
 use crate::words::next_name;
+use codec::field::after;
+use codec::field::bytes_at;
 use def_book::read::read_book;
 use rank::at_most;
 use synthdef::def::DefEdge;
@@ -17,8 +19,6 @@ use synthdef::def::DefNodes;
 use synthdef::def::Param;
 use synthdef::def::Params;
 use synthdef::def::SynthDef;
-use wire::field::after;
-use wire::field::bytes_at;
 
 // A definition so far; whether a line could not be read, and how many lines were.
 pub struct Draft {

@@ -1,7 +1,7 @@
 // Lines and words of a text. Every function is there for any text and any position.
-use wire::field::after;
-use wire::field::byte_at;
-use wire::field::bytes_at;
+use codec::field::after;
+use codec::field::byte_at;
+use codec::field::bytes_at;
 
 pub(crate) fn same_bytes(a: &[u8], b: &[u8]) -> bool {
     check::same(a, b)

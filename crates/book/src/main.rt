@@ -10,6 +10,13 @@ mod line;
 mod show;
 mod words;
 
+use codec::field::bytes_at;
+use codec::field::input_room;
+use codec::word::and_number;
+use codec::word::end_line;
+use codec::word::hex_bytes;
+use codec::word::number;
+use codec::word::text;
 use def_book::answer::ReadAnswer;
 use def_book::answer::WriteAnswer;
 use def_book::answer::read_number;
@@ -21,13 +28,6 @@ use libc::STDIN_FILENO;
 use line::same_bytes;
 use show::show;
 use synthdef::def::SynthDef;
-use wire::field::bytes_at;
-use wire::field::input_room;
-use wire::word::and_number;
-use wire::word::end_line;
-use wire::word::hex_bytes;
-use wire::word::number;
-use wire::word::text;
 
 // What is done with an input.
 enum Verb {

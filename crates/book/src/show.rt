@@ -1,4 +1,7 @@
 // A definition as text: a line for the output, and one for each node, edge and parameter.
+use codec::word::and_number;
+use codec::word::end_line;
+use codec::word::text;
 use libc::STDOUT_FILENO;
 use node::name::Name;
 use rank::at_most;
@@ -10,9 +13,6 @@ use synthdef::def::NO_PORT;
 use synthdef::def::Param;
 use synthdef::def::Params;
 use synthdef::def::SynthDef;
-use wire::word::and_number;
-use wire::word::end_line;
-use wire::word::text;
 
 // A byte of a name: itself where it is visible and no `%`, else `%` and two hexadecimal digits.
 fn show_byte(b: u8) {

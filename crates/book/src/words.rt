@@ -4,11 +4,11 @@ use crate::line::next_word;
 use crate::line::same_bytes;
 use crate::line::word_bytes;
 use crate::line::word_end;
+use codec::field::after;
+use codec::field::byte_at;
+use codec::field::bytes_at;
 use node::name::Name;
 use node::name::name_of;
-use wire::field::after;
-use wire::field::byte_at;
-use wire::field::bytes_at;
 ghost use Prim.Native.Nat.{_≤_};
 
 // A number that was read from a line, the position behind it, and whether there was one.

@@ -14,9 +14,9 @@ use Rattle.edges.specs.declared.ports.Port.{Port}
 use Rattle.edges.specs.declared.ports.Port.the-variants as Port
 use Rattle.graph.specs.Node.{portsOf}
 use Rattle.graph_rows.specs.Node.{briefOf}
-use Rattle.voice.specs.Steals.{Book}
+use Rattle.voice.specs.Steals.{StealLog}
 use Rattle.store.specs.declared.voices.Voice.{Voice}
-use Rattle.steal_log.specs.Rows.{bookIn}
+use Rattle.steal_log.specs.Rows.{logIn}
 use Rattle.voice_rows.specs.Rows.{voiceOf}
 use Rattle.voice_rows.specs.Found.{foundIn, FoundAt}
 use Rattle.voice_rows.specs.declared.table.FoundRow.{FoundRow}
@@ -35,7 +35,7 @@ brief-ports none = refl
 brief-ports (some n) = refl
 
 -- the state with other records
-pub relogged : (s : State) (ns vs ss ss' : List ℕ) (total place : ℕ) (b : Book) (u : State) → u ≡ logged s total place → bookIn ss' total place ≡ b
+pub relogged : (s : State) (ns vs ss ss' : List ℕ) (total place : ℕ) (b : StealLog) (u : State) → u ≡ logged s total place → logIn ss' total place ≡ b
     → (m : Memory) → modelOf (lentSpawn u ns (m .edges) vs ss' m) ≡ restolen b (modelOf (lentSpawn s ns (m .edges) vs ss m))
 relogged s ns vs ss ss' total place b u left is m =
     ap (λ x. modelOf (lentSpawn x ns (m .edges) vs ss' m)) left ∙ ap (λ x. restolen x (modelOf (lentSpawn s ns (m .edges) vs ss m))) is
@@ -53,15 +53,15 @@ pub no-fade : (r : FoundRow) (vs : List Voice) (o : Option Voice) → foundIn r 
 no-fade r vs o is f = sym is ∙ ap (λ b. cond b (some (getD vs (r .row) (voiceOf []))) none) f
 
 -- ---- one try
-module _ (bus : NodeId) (m : Model) (r : FoundRow) (vs : List Voice) (is : foundIn r vs ≡ nextOut (m .desk) bus (m .voices)) where
+module _ (bus : NodeId) (m : Model) (r : FoundRow) (vs : List Voice) (is : foundIn r vs ≡ nextOut (m .shared) bus (m .voices)) where
   pub tries-one : r .found ≡ true → (n : Model) → n ≡ cutOff (getD vs (r .row) (voiceOf [])) (getD vs (r .row) (voiceOf []) .state) m → Tries bus m n true
   tries-one f n e =
-      let o : nextOut (m .desk) bus (m .voices) ≡ some (getD vs (r .row) (voiceOf [])) = sym is ∙ ap (λ b. cond b (some (getD vs (r .row) (voiceOf []))) none) f in
+      let o : nextOut (m .shared) bus (m .voices) ≡ some (getD vs (r .row) (voiceOf [])) = sym is ∙ ap (λ b. cond b (some (getD vs (r .row) (voiceOf []))) none) f in
       record { some = ap isSome (sym o); is = e ∙ ap (λ x. goOn x m (λ j. j)) (sym o) }
 
   pub tries-none : r .found ≡ false → Tries bus m m false
   tries-none f =
-      let o : nextOut (m .desk) bus (m .voices) ≡ none = no-fade r vs _ is f in
+      let o : nextOut (m .shared) bus (m .voices) ≡ none = no-fade r vs _ is f in
       record { some = ap isSome (sym o); is = ap (λ x. goOn x m (λ j. j)) (sym o) }
 
 -- ---- one after the other: what is left to do on what is there is what there was to do
@@ -69,13 +69,13 @@ pub reclaim-port : (k : ℕ) (bus : NodeId) (n : Model) (p : Port) → p ≡ por
 reclaim-port zero bus n p e t = refl
 reclaim-port (suc k) bus n p e t = go (portFree bus n) (ap isPort (sym e) ∙ t)
   where
-    go : (o : Option ℕ) → isPort (portOf o) ≡ true → goOn (ifNone o (nextOut (n .desk) bus (n .voices))) n (λ j. reclaimed k bus j) ≡ n
+    go : (o : Option ℕ) → isPort (portOf o) ≡ true → goOn (ifNone o (nextOut (n .shared) bus (n .voices))) n (λ j. reclaimed k bus j) ≡ n
     go none h = let z : _≡_ {A = ℕ} 0 1 = cc in absurd (omega arith)
     go (some q) h = refl
 
 -- nobody was there to be removed
 pub same-left : (bus : NodeId) (n n' : Model) → Tries bus n n' false → n' ≡ n
-same-left bus n n' t = t .is ∙ go (nextOut (n .desk) bus (n .voices)) (t .some)
+same-left bus n n' t = t .is ∙ go (nextOut (n .shared) bus (n .voices)) (t .some)
   where
     go : (o : Option Voice) → false ≡ isSome o → goOn o n (λ j. j) ≡ n
     go none h = refl
@@ -89,12 +89,12 @@ module _ (bus : NodeId) (n : Model) (p : Port) (is-p : p ≡ portOf (portFree bu
       go none h = refl
       go (some q) h = let z : _≡_ {A = ℕ} 0 1 = cc in absurd (omega arith)
 
-  leaves : leaving bus n ≡ nextOut (n .desk) bus (n .voices)
-  leaves = ap (λ o. ifNone o (nextOut (n .desk) bus (n .voices))) no-port
+  leaves : leaving bus n ≡ nextOut (n .shared) bus (n .voices)
+  leaves = ap (λ o. ifNone o (nextOut (n .shared) bus (n .voices))) no-port
 
   pub reclaim-over : (k : ℕ) (n' : Model) → Tries bus n n' false → reclaimed k bus n ≡ n'
   reclaim-over zero n' t = sym (same-left bus n n' t)
-  reclaim-over (suc k) n' t = ap (λ o. goOn o n (λ j. reclaimed k bus j)) leaves ∙ go (nextOut (n .desk) bus (n .voices)) (t .some) (t .is)
+  reclaim-over (suc k) n' t = ap (λ o. goOn o n (λ j. reclaimed k bus j)) leaves ∙ go (nextOut (n .shared) bus (n .voices)) (t .some) (t .is)
     where
       go : (o : Option Voice) → false ≡ isSome o → n' ≡ goOn o n (λ j. j) → goOn o n (λ j. reclaimed k bus j) ≡ n'
       go none h e = sym e
@@ -102,7 +102,7 @@ module _ (bus : NodeId) (n : Model) (p : Port) (is-p : p ≡ portOf (portFree bu
 
   pub reclaim-one : (k : ℕ) (n' : Model) → 0 < k → Tries bus n n' true → reclaimed k bus n ≡ reclaimed (k - 1) bus n'
   reclaim-one zero n' h t = absurd (omega arith)
-  reclaim-one (suc k) n' h t = ap (λ o. goOn o n (λ j. reclaimed k bus j)) leaves ∙ go (nextOut (n .desk) bus (n .voices)) (t .some) (t .is) ∙ ap (λ i. reclaimed i bus n') less
+  reclaim-one (suc k) n' h t = ap (λ o. goOn o n (λ j. reclaimed k bus j)) leaves ∙ go (nextOut (n .shared) bus (n .voices)) (t .some) (t .is) ∙ ap (λ i. reclaimed i bus n') less
     where
       less : k ≡ suc k - 1
       less = omega arith

@@ -10,11 +10,11 @@ use Rattle.node.specs.declared.record.Node.{Node}
 use Rattle.edges.specs.declared.ports.Port.{Port}
 use Rattle.edges.specs.declared.ports.Port.the-variants as Port
 use Rattle.voice.specs.Policy.{victim}
-use Rattle.voice.specs.Steals.{Book}
+use Rattle.voice.specs.Steals.{StealLog}
 use Rattle.voice.specs.declared.policy.StealPolicy.{StealPolicy}
 use Rattle.store.specs.declared.voices.Voice.{Voice}
 use Rattle.voice_rows.specs.Levels.{candidatesAt}
-use Rattle.model.specs.Desk.{withSteals}
+use Rattle.model.specs.SharedState.{withSteals}
 use Rattle.model.specs.Voice.{trackedOn, fadesOn}
 use Rattle.model.specs.Spawn.{voiceOf, earliest, elseVictim, nextOut}
 use Rattle.model.specs.Model.{Model, portFree, cutOff}
@@ -25,7 +25,7 @@ ifNone none o = o
 ifNone (some p) o = none
 
 abbrev pub leaving : NodeId → Model → Option Voice
-leaving bus m = ifNone (portFree bus m) (nextOut (m .desk) bus (m .voices))
+leaving bus m = ifNone (portFree bus m) (nextOut (m .shared) bus (m .voices))
 
 abbrev pub goOn : Option Voice → Model → (Model → Model) → Model
 goOn none m again = m
@@ -37,8 +37,8 @@ reclaimed zero bus m = m
 reclaimed (suc k) bus m = goOn (leaving bus m) m (λ j. reclaimed k bus j)
 
 -- other steal records
-abbrev pub restolen : Book → Model → Model
-restolen b m = record { desk = withSteals b (m .desk); voices = m .voices }
+abbrev pub restolen : StealLog → Model → Model
+restolen b m = record { shared = withSteals b (m .shared); voices = m .voices }
 
 -- a port was found
 abbrev pub isPort : Port → Bool

@@ -12,8 +12,8 @@ use Rattle.bus_room.specs.Reclaimed.{goOn, reclaimed}
 
 -- the next voice, if there is one, is removed
 pub record Tries (bus : NodeId) (m n : Model) (removed : Bool) : Type 0 where
-  pub some : removed ≡ isSome (nextOut (m .desk) bus (m .voices))
-  pub is : n ≡ goOn (nextOut (m .desk) bus (m .voices)) m (λ j. j)
+  pub some : removed ≡ isSome (nextOut (m .shared) bus (m .voices))
+  pub is : n ≡ goOn (nextOut (m .shared) bus (m .voices)) m (λ j. j)
 
 -- at most so many are removed, and this is the lowest free port of what is left
 pub record Makes (fuel : ℕ) (bus : NodeId) (m n : Model) (p : Port) : Type 0 where

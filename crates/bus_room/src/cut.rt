@@ -15,9 +15,9 @@ ghost use mathlib.Core.Path.{_≡_};
 ghost use mathlib.Core.List.{[]};
 ghost use lib.ListN.{getD};
 ghost use Rattle.voice_rows.specs.Rows.{voiceOf, voicesIn};
-ghost use Rattle.model.specs.Spawn.{recorded, reclaimBook};
+ghost use Rattle.model.specs.Spawn.{recorded, reclaimLog};
 ghost use Rattle.model.specs.Model.{cutOff};
-ghost use Rattle.memory.specs.View.{Memory, deskOf, modelOf};
+ghost use Rattle.memory.specs.View.{Memory, sharedOf, modelOf};
 ghost use Rattle.memory.specs.Lent.{lentSpawn};
 ghost use Rattle.bus_room.specs.Reclaimed.{restolen};
 
@@ -30,7 +30,7 @@ pub fn record_steal(
     row: usize,
     cut: bool,
 ) -> State
-    ensures { λ r. ⌜ ((m : Memory) → modelOf (lentSpawn r (now (nodes .entry)) (m .edges) (now (voices .entry)) (now (steals .exit)) m) ≡ restolen (recorded (getD (voicesIn (now (voices .entry))) row (voiceOf [])) cut (deskOf (lentSpawn s (now (nodes .entry)) (m .edges) (now (voices .entry)) (now (steals .entry)) m))) (modelOf (lentSpawn s (now (nodes .entry)) (m .edges) (now (voices .entry)) (now (steals .entry)) m))) ⌝ }
+    ensures { λ r. ⌜ ((m : Memory) → modelOf (lentSpawn r (now (nodes .entry)) (m .edges) (now (voices .entry)) (now (steals .exit)) m) ≡ restolen (recorded (getD (voicesIn (now (voices .entry))) row (voiceOf [])) cut (sharedOf (lentSpawn s (now (nodes .entry)) (m .edges) (now (voices .entry)) (now (steals .entry)) m))) (modelOf (lentSpawn s (now (nodes .entry)) (m .edges) (now (voices .entry)) (now (steals .entry)) m))) ⌝ }
 {
     let level = level_at(voices, row, nodes, s.nodes, s.clock);
     let ring = log_steal(steals, s.stolen, s.place, steal_record(s.clock, level, cut));
@@ -47,7 +47,7 @@ fn record_removal(
     row: usize,
     state: VoiceState,
 ) -> State
-    ensures { λ r. ⌜ ((m : Memory) → modelOf (lentSpawn r (now (nodes .entry)) (m .edges) (now (voices .entry)) (now (steals .exit)) m) ≡ restolen (reclaimBook (getD (voicesIn (now (voices .entry))) row (voiceOf [])) state (deskOf (lentSpawn s (now (nodes .entry)) (m .edges) (now (voices .entry)) (now (steals .entry)) m))) (modelOf (lentSpawn s (now (nodes .entry)) (m .edges) (now (voices .entry)) (now (steals .entry)) m))) ⌝ }
+    ensures { λ r. ⌜ ((m : Memory) → modelOf (lentSpawn r (now (nodes .entry)) (m .edges) (now (voices .entry)) (now (steals .exit)) m) ≡ restolen (reclaimLog (getD (voicesIn (now (voices .entry))) row (voiceOf [])) state (sharedOf (lentSpawn s (now (nodes .entry)) (m .edges) (now (voices .entry)) (now (steals .entry)) m))) (modelOf (lentSpawn s (now (nodes .entry)) (m .edges) (now (voices .entry)) (now (steals .entry)) m))) ⌝ }
 {
     match state {
         VoiceState::Tracked => record_steal(s, nodes, voices, steals, row, true),

@@ -1,6 +1,6 @@
 pub mod Examples
 pub mod Rises
-pub mod Seen
+pub mod FoundNode
 pub mod Theorem
 pub mod Found
 pub mod Rows

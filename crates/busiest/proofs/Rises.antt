@@ -9,9 +9,11 @@ use mathlib.Core.Bool.{Bool, true, false, false≢true, _||_, or-true}
 use lib.Dec.{ltb}
 use lib.ListN.{length, take, getD}
 use borrow.Author.Tests.{ltb-true, ltb-false, lt-ltb}
-use Rattle.lists.specs.Member.{In, some-inj}
+use Rattle.lists.specs.Member.{In}
+use Rattle.lists.proofs.Member.{some-inj}
 use Rattle.lists.specs.Find.{find, or?}
-use Rattle.lists.specs.Count.{count, more, count-length}
+use Rattle.lists.specs.Count.{count, more}
+use Rattle.lists.proofs.Count.{count-length}
 use Rattle.busiest.specs.Stretch.{fallsFrom}
 
 -- ---- two tests on one list

@@ -8,7 +8,7 @@ use voice::steals::steal_at;
 ghost use mathlib.Core.Path.{_≡_};
 ghost use Prim.Native.Nat.{_≤_};
 ghost use lib.ListN.{take};
-ghost use Rattle.voice.specs.Steals.{bookOf};
+ghost use Rattle.voice.specs.Steals.{logOf};
 ghost use Rattle.busiest.specs.Newest.{recordOr, newestOf};
 ghost use Rattle.busiest.specs.Stretch.{samples, said, busiest};
 
@@ -30,7 +30,7 @@ fn record_or(f: StealFound, other: StealRecord) -> StealRecord
 
 // The newest records that the store holds, oldest first.
 pub fn newest_records(s: Steals) -> Newest
-    ensures { λ r. ⌜ r ≡ newestOf (bookOf s .newest) ⌝ }
+    ensures { λ r. ⌜ r ≡ newestOf (logOf s .newest) ⌝ }
 {
     let n = held_steals(s);
     let none = StealRecord {
@@ -61,7 +61,7 @@ fn busiest_rows(rows: [StealRecord; 64], n: usize, width: u64) -> Busiest
 
 // The busiest stretch of the newest records that the store holds.
 pub fn busiest_steals(s: Steals, width: u64) -> Busiest
-    ensures { λ r. ⌜ said r ≡ busiest width (samples (bookOf s .newest)) ⌝ }
+    ensures { λ r. ⌜ said r ≡ busiest width (samples (logOf s .newest)) ⌝ }
 {
     let run = newest_records(s);
     let rows = run.rows;

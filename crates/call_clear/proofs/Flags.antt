@@ -9,7 +9,7 @@ use lib.Dec.{ltb}
 use lib.ListN.{length, take, drop, getD, set, replicate, length-set, length-take, drop-of-length-le, List·getD-eq-default}
 use lib.Seq.{getD-take, getD-set-same, getD-set-other}
 use borrow.Author.Tests.{lt-ltb, ltb-true, ltb-false, eq-eqb, ne-eqb}
-use Rattle.lists.specs.Table.{left-cons}
+use Rattle.lists.proofs.Table.{left-cons}
 use Rattle.lists.specs.Find.{or?}
 use Rattle.node.specs.declared.record.Node.{Node}
 use Rattle.rank.specs.Order.{count-up}

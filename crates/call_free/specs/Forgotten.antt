@@ -1,8 +1,8 @@
 -- Several voices removed, each with its nodes and their edges, one after the other.
 use Prim.Native.Nat.{ℕ}
 use mathlib.Core.List.{List, [], _∷_}
-use Rattle.model.specs.Model.{Model, gone}
+use Rattle.model.specs.Model.{Model, withoutVoice}
 
-abbrev pub goneIds : List ℕ → Model → Model
-goneIds [] m = m
-goneIds (k ∷ ids) m = goneIds ids (gone (record { 0 = k }) m)
+abbrev pub withoutIds : List ℕ → Model → Model
+withoutIds [] m = m
+withoutIds (k ∷ ids) m = withoutIds ids (withoutVoice (record { 0 = k }) m)

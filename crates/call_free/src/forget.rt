@@ -7,10 +7,10 @@ use memory::state::State;
 use node::record::VoiceId;
 use voice_rows::row::VoiceTable;
 ghost use mathlib.Core.Path.{_≡_};
-ghost use Rattle.model.specs.Model.{gone};
+ghost use Rattle.model.specs.Model.{withoutVoice};
 ghost use Rattle.memory.specs.View.{Memory, modelOf};
 ghost use Rattle.memory.specs.Lent.{lentVoices};
-ghost use Rattle.call_free.specs.Forgotten.{goneIds};
+ghost use Rattle.call_free.specs.Forgotten.{withoutIds};
 
 // The voices of `ids` are removed, as if one after the other; each table is passed over once. Without ids nothing is stored, and what
 // was prepared stays prepared.
@@ -21,7 +21,7 @@ pub fn forget_voices(
     voices: &mut VoiceTable,
     ids: &[u64],
 ) -> State
-    ensures { λ r. ⌜ ((m : Memory) → modelOf (lentVoices r (now (nodes .exit)) (now (edges .exit)) (now (voices .exit)) m) ≡ goneIds (now (ids .entry)) (modelOf (lentVoices s (now (nodes .entry)) (now (edges .entry)) (now (voices .entry)) m))) ⌝ }
+    ensures { λ r. ⌜ ((m : Memory) → modelOf (lentVoices r (now (nodes .exit)) (now (edges .exit)) (now (voices .exit)) m) ≡ withoutIds (now (ids .entry)) (modelOf (lentVoices s (now (nodes .entry)) (now (edges .entry)) (now (voices .entry)) m))) ⌝ }
 {
     if ids.len() == 0 {
         return s;
@@ -42,7 +42,7 @@ pub fn forget_voice(
     voices: &mut VoiceTable,
     w: VoiceId,
 ) -> State
-    ensures { λ r. ⌜ ((m : Memory) → modelOf (lentVoices r (now (nodes .exit)) (now (edges .exit)) (now (voices .exit)) m) ≡ gone w (modelOf (lentVoices s (now (nodes .entry)) (now (edges .entry)) (now (voices .entry)) m))) ⌝ }
+    ensures { λ r. ⌜ ((m : Memory) → modelOf (lentVoices r (now (nodes .exit)) (now (edges .exit)) (now (voices .exit)) m) ≡ withoutVoice w (modelOf (lentVoices s (now (nodes .entry)) (now (edges .entry)) (now (voices .entry)) m))) ⌝ }
 {
     let one = [w.0];
     forget_voices(s, nodes, edges, voices, &one)

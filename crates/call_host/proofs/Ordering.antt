@@ -12,12 +12,12 @@ use Rattle.graph_rows.specs.Node.{nodesIn}
 use Rattle.graph_rows.specs.Edge.{edgesIn}
 use Rattle.order_table.specs.Prepares.{Prepares}
 use Rattle.order_table.specs.declared.Prepared.{Prepared}
-use Rattle.model.specs.Desk.{withGraph}
-use Rattle.model.specs.Render.{readyDesk}
-use Rattle.model.specs.Call.{Step, deskStep, readyAnswer, done, refused}
+use Rattle.model.specs.SharedState.{withGraph}
+use Rattle.model.specs.Render.{readyShared}
+use Rattle.model.specs.Call.{Step, sharedStep, readyAnswer, done, refused}
 use Rattle.model.specs.Call as call
 use Rattle.memory.specs.declared.state.State.{State}
-use Rattle.memory.specs.View.{Memory, graphOf, deskOf, modelOf}
+use Rattle.memory.specs.View.{Memory, graphOf, sharedOf, modelOf}
 use Rattle.memory.specs.Lent.{lentOrder}
 use Rattle.memory.specs.Called.{Called}
 use Rattle.memory.specs.Parts.{ordered}
@@ -28,7 +28,7 @@ module _ (s : State) (ns es os os' : List ℕ) (r : Prepared) (h : Prepares (tak
 
   -- the model's step, by the answer
   abbrev by : Readiness → Step
-  by a = deskStep (modelOf (lentOrder s ns es os m)) (readyDesk a (outcome .order) (deskOf (lentOrder s ns es os m))) (readyAnswer a)
+  by a = sharedStep (modelOf (lentOrder s ns es os m)) (readyShared a (outcome .order) (sharedOf (lentOrder s ns es os m))) (readyAnswer a)
 
   pub prepares-not : (x : Refusal) → r .answer ≡ Readiness.Refused x → Called call.prepare (lentOrder s ns es os m) (refused x) (lentOrder s ns es os' m)
   prepares-not x e =
@@ -41,5 +41,5 @@ module _ (s : State) (ns es os os' : List ℕ) (r : Prepared) (h : Prepares (tak
   pub prepares : r .answer ≡ Readiness.Ready → (u : State) → u ≡ ordered s (r .count) → Called call.prepare (lentOrder s ns es os m) done (lentOrder u ns es os' m)
   prepares e u left =
       subst (λ v. Called call.prepare (lentOrder s ns es os m) done (lentOrder v ns es os' m)) (sym left)
-      (ap (λ l. deskStep (modelOf (lentOrder s ns es os m)) (withGraph (preparedBy (graphOf (lentOrder s ns es os m)) l) (deskOf (lentOrder s ns es os m))) done) (h .order .is)
+      (ap (λ l. sharedStep (modelOf (lentOrder s ns es os m)) (withGraph (preparedBy (graphOf (lentOrder s ns es os m)) l) (sharedOf (lentOrder s ns es os m))) done) (h .order .is)
       ∙ ap by (sym e ∙ h .answer))

@@ -16,11 +16,11 @@ use Rattle.scheduler.specs.declared.queue.ScheduleAnswer.the-variants as queue
 use Rattle.event_table.specs.Rows.{eventsIn}
 use Rattle.event_table.specs.Queue.{Queued}
 use Rattle.event_table.specs.declared.queue.Scheduled.{Scheduled}
-use Rattle.model.specs.Desk.{withEvents}
-use Rattle.model.specs.Call.{Step, unless, deskStep, event, done, refused}
+use Rattle.model.specs.SharedState.{withEvents}
+use Rattle.model.specs.Call.{Step, unless, sharedStep, event, done, refused}
 use Rattle.model.specs.Call as call
 use Rattle.memory.specs.declared.state.State.{State}
-use Rattle.memory.specs.View.{Memory, deskOf, modelOf}
+use Rattle.memory.specs.View.{Memory, sharedOf, modelOf}
 use Rattle.memory.specs.Lent.{lentEvents}
 use Rattle.memory.specs.Called.{Called}
 use Rattle.memory.specs.Parts.{queued}
@@ -47,7 +47,7 @@ module _ (s : State) (old new : List ℕ) (time : ℕ) (voice : VoiceId) (name :
     abbrev by : Bool → Step
     by b =
         unless (when b TableFull none) (modelOf (lentEvents s old m))
-        (deskStep (modelOf (lentEvents s old m)) (withEvents (inserted (event time voice name action) (take (s .events) (eventsIn old))) (deskOf (lentEvents s old m))) done)
+        (sharedStep (modelOf (lentEvents s old m)) (withEvents (inserted (event time voice name action) (take (s .events) (eventsIn old))) (sharedOf (lentEvents s old m))) done)
 
     pub schedules-not : (x : Refusal) → r .answer ≡ queue.Refused x → Called (call.schedule time voice name action) (lentEvents s old m) (refused x) (lentEvents s new m)
     schedules-not x e =
@@ -63,5 +63,5 @@ module _ (s : State) (old new : List ℕ) (time : ℕ) (voice : VoiceId) (name :
         let q = take (s .events) (eventsIn old) in
         let room : full q ≡ false = room-taken e in
         subst (λ v. Called (call.schedule time voice name action) (lentEvents s old m) done (lentEvents v new m)) (sym left)
-        (ap (λ l. deskStep (modelOf (lentEvents s old m)) (withEvents l (deskOf (lentEvents s old m))) done) (h .queue ∙ ap (λ b. cond b q (inserted (event time voice name action) q)) room)
+        (ap (λ l. sharedStep (modelOf (lentEvents s old m)) (withEvents l (sharedOf (lentEvents s old m))) done) (h .queue ∙ ap (λ b. cond b q (inserted (event time voice name action) q)) room)
         ∙ ap by (sym room))

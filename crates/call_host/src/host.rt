@@ -2,8 +2,8 @@ use crate::refusals::host_answer;
 use crate::refusals::port_answer;
 use crate::refusals::wire_answer;
 use graph::host::host_node;
+use graph::state::AddAnswer;
 use graph::state::Answer;
-use graph::state::Given;
 use graph::state::Sink;
 use graph::tests::is_bad_kind;
 use graph_rows::edge_row::EdgeTable;
@@ -13,8 +13,8 @@ use graph_tables::lookup::node_count;
 use graph_tables::wiring::drop_port;
 use graph_tables::wiring::put_edge;
 use memory::parts::with_graph;
-use memory::state::Granted;
-use memory::state::Served;
+use memory::state::AddResult;
+use memory::state::HostResult;
 use memory::state::State;
 use node::record::Edge;
 use node::record::NodeId;
@@ -34,26 +34,26 @@ pub fn add_node(
     required: u64,
     values: bool,
     glides: bool,
-) -> Granted
+) -> AddResult
     ensures is { λ r. ⌜ ((m : Memory) → Called (addNode (now (kind .entry)) ports required values glides) (lentNodes s (now (nodes .entry)) m) (granted (r .given)) (lentNodes (r .state) (now (nodes .exit)) m)) ⌝ }
     ensures same { λ r. ⌜ ((m : Memory) → Kept (granted (r .given)) (lentNodes s (now (nodes .entry)) m) (lentNodes (r .state) (now (nodes .exit)) m)) ⌝ }
 {
     if is_bad_kind(kind, ports, required) {
-        return Granted {
+        return AddResult {
             state: s,
-            given: Given::Refused(Refusal::PortOrKind),
+            given: AddAnswer::Refused(Refusal::PortOrKind),
         };
     }
     if node_count(nodes, s.nodes) >= 512 {
-        return Granted {
+        return AddResult {
             state: s,
-            given: Given::Refused(Refusal::TableFull),
+            given: AddAnswer::Refused(Refusal::TableFull),
         };
     }
     if s.next >= 4294967296 {
-        return Granted {
+        return AddResult {
             state: s,
-            given: Given::Refused(Refusal::IdsUsedUp),
+            given: AddAnswer::Refused(Refusal::IdsUsedUp),
         };
     }
     let id = s.next as u32;
@@ -62,20 +62,25 @@ pub fn add_node(
     let n = append_node(nodes, s.nodes, row);
     let sink = s.sink;
     let state = with_graph(s, n, s.edges, sink, s.next + 1);
-    Granted {
+    AddResult {
         state,
-        given: Given::Id(NodeId(id)),
+        given: AddAnswer::Id(NodeId(id)),
     }
 }
 
 // The host removes one of its nodes, with its edges.
-pub fn remove_node(s: State, nodes: &mut NodeTable, edges: &mut EdgeTable, node: NodeId) -> Served
+pub fn remove_node(
+    s: State,
+    nodes: &mut NodeTable,
+    edges: &mut EdgeTable,
+    node: NodeId,
+) -> HostResult
     ensures is { λ r. ⌜ ((m : Memory) → Called (removeNode node) (lentGraph s (now (nodes .entry)) (now (edges .entry)) m) (answered (r .answer)) (lentGraph (r .state) (now (nodes .exit)) (now (edges .exit)) m)) ⌝ }
     ensures same { λ r. ⌜ ((m : Memory) → Kept (answered (r .answer)) (lentGraph s (now (nodes .entry)) (now (edges .entry)) m) (lentGraph (r .state) (now (nodes .exit)) (now (edges .exit)) m)) ⌝ }
 {
     let test = host_answer(s, nodes, node);
     match test {
-        Answer::Refused(r) => Served {
+        Answer::Refused(r) => HostResult {
             state: s,
             answer: Answer::Refused(r),
         },
@@ -91,7 +96,7 @@ pub fn remove_node(s: State, nodes: &mut NodeTable, edges: &mut EdgeTable, node:
             );
             let heard = left.sink;
             let state = with_graph(s, left.nodes, left.edges, heard, s.next);
-            Served {
+            HostResult {
                 state,
                 answer: Answer::Done,
             }
@@ -107,13 +112,13 @@ pub fn connect(
     from: NodeId,
     to: NodeId,
     port: u32,
-) -> Served
+) -> HostResult
     ensures is { λ r. ⌜ ((m : Memory) → Called (connect from to port) (lentGraph s (now (nodes .entry)) (now (edges .entry)) m) (answered (r .answer)) (lentGraph (r .state) (now (nodes .entry)) (now (edges .exit)) m)) ⌝ }
     ensures same { λ r. ⌜ ((m : Memory) → Kept (answered (r .answer)) (lentGraph s (now (nodes .entry)) (now (edges .entry)) m) (lentGraph (r .state) (now (nodes .entry)) (now (edges .exit)) m)) ⌝ }
 {
     let test = wire_answer(s, nodes, edges, from, to, port);
     match test {
-        Answer::Refused(r) => Served {
+        Answer::Refused(r) => HostResult {
             state: s,
             answer: Answer::Refused(r),
         },
@@ -121,7 +126,7 @@ pub fn connect(
             let n = put_edge(edges, s.edges, Edge { from, to, port });
             let sink = s.sink;
             let state = with_graph(s, s.nodes, n, sink, s.next);
-            Served {
+            HostResult {
                 state,
                 answer: Answer::Done,
             }
@@ -136,13 +141,13 @@ pub fn disconnect(
     edges: &mut EdgeTable,
     to: NodeId,
     port: u32,
-) -> Served
+) -> HostResult
     ensures is { λ r. ⌜ ((m : Memory) → Called (disconnect to port) (lentGraph s (now (nodes .entry)) (now (edges .entry)) m) (answered (r .answer)) (lentGraph (r .state) (now (nodes .entry)) (now (edges .exit)) m)) ⌝ }
     ensures same { λ r. ⌜ ((m : Memory) → Kept (answered (r .answer)) (lentGraph s (now (nodes .entry)) (now (edges .entry)) m) (lentGraph (r .state) (now (nodes .entry)) (now (edges .exit)) m)) ⌝ }
 {
     let test = port_answer(s, nodes, to, port);
     match test {
-        Answer::Refused(r) => Served {
+        Answer::Refused(r) => HostResult {
             state: s,
             answer: Answer::Refused(r),
         },
@@ -150,7 +155,7 @@ pub fn disconnect(
             let n = drop_port(edges, s.edges, to, port);
             let sink = s.sink;
             let state = with_graph(s, s.nodes, n, sink, s.next);
-            Served {
+            HostResult {
                 state,
                 answer: Answer::Done,
             }
@@ -159,19 +164,19 @@ pub fn disconnect(
 }
 
 // The host hears `node`.
-pub fn set_sink(s: State, nodes: &NodeTable, node: NodeId) -> Served
+pub fn set_sink(s: State, nodes: &NodeTable, node: NodeId) -> HostResult
     ensures is { λ r. ⌜ ((m : Memory) → Called (setSink node) (lentNodes s (now (nodes .entry)) m) (answered (r .answer)) (lentNodes (r .state) (now (nodes .entry)) m)) ⌝ }
     ensures same { λ r. ⌜ ((m : Memory) → Kept (answered (r .answer)) (lentNodes s (now (nodes .entry)) m) (lentNodes (r .state) (now (nodes .entry)) m)) ⌝ }
 {
     let test = host_answer(s, nodes, node);
     match test {
-        Answer::Refused(r) => Served {
+        Answer::Refused(r) => HostResult {
             state: s,
             answer: Answer::Refused(r),
         },
         Answer::Done => {
             let state = with_graph(s, s.nodes, s.edges, Sink::Node(node), s.next);
-            Served {
+            HostResult {
                 state,
                 answer: Answer::Done,
             }

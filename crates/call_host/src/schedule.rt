@@ -1,7 +1,7 @@
 use event_table::row::EventTable;
 use graph::state::Answer;
 use memory::parts::with_events;
-use memory::state::Served;
+use memory::state::HostResult;
 use memory::state::State;
 use node::name::name_of;
 use node::order::Action;
@@ -22,7 +22,7 @@ pub fn schedule(
     voice: VoiceId,
     name: &[u8],
     action: Action,
-) -> Served
+) -> HostResult
     ensures is { λ r. ⌜ ((m : Memory) → Called (schedule time voice (now (name .entry)) action) (lentEvents s (now (events .entry)) m) (answered (r .answer)) (lentEvents (r .state) (now (events .exit)) m)) ⌝ }
     ensures same { λ r. ⌜ ((m : Memory) → Kept (answered (r .answer)) (lentEvents s (now (events .entry)) m) (lentEvents (r .state) (now (events .exit)) m)) ⌝ }
 {
@@ -36,13 +36,13 @@ pub fn schedule(
     let q = event_table::queue::schedule(events, s.events, e);
     let told = q.answer;
     match told {
-        ScheduleAnswer::Refused(r) => Served {
+        ScheduleAnswer::Refused(r) => HostResult {
             state: s,
             answer: Answer::Refused(r),
         },
         ScheduleAnswer::Taken => {
             let state = with_events(s, q.count);
-            Served {
+            HostResult {
                 state,
                 answer: Answer::Done,
             }

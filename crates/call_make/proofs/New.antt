@@ -41,7 +41,7 @@ blank c =
 abbrev holding : Config → List StealRecord → Model
 holding c l =
     record {
-      desk = record { config = c; graph = newGraph; events = []; steals = record { count = 0; newest = l }; clock = 0; spawned = 0; sequence = 0 };
+      shared = record { config = c; graph = newGraph; events = []; steals = record { count = 0; newest = l }; clock = 0; spawned = 0; sequence = 0 };
       voices = [];
     }
 

@@ -6,7 +6,7 @@ use mathlib.Core.List.{List, []}
 use mathlib.Core.Option.{Option}
 use mathlib.Core.Bool.{true, false}
 use lib.ListN.{length, take, drop, getD}
-use Rattle.lists.specs.Table.{find-hit, find-next, find-over}
+use Rattle.lists.proofs.Table.{find-hit, find-next, find-over}
 use Rattle.lists.specs.Find.{find, mapO}
 use Rattle.node.specs.declared.name.Name.{Name}
 use Rattle.words.specs.Fields.{longAt}

@@ -9,8 +9,9 @@ use lib.Dec.{eqb}
 use lib.ListN.{length, take, getD, set, length-take}
 use lib.Seq.{take-set-lt, getD-set-same, getD-take}
 use borrow.Author.Tests.{eqb-true}
-use Rattle.lists.specs.Member.{and-right}
-use Rattle.lists.specs.Find.{find, find-in}
+use Rattle.lists.proofs.Member.{and-right}
+use Rattle.lists.specs.Find.{find}
+use Rattle.lists.proofs.Find.{find-in}
 use Rattle.node.specs.declared.record.Node.{Node}
 use Rattle.words.specs.Place.{placeOf}
 use Rattle.words.proofs.Rows.{rows-long}

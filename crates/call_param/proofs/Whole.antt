@@ -7,7 +7,8 @@ use mathlib.Core.Option.{Option, none, some}
 use mathlib.Core.Bool.{Bool, true, false, not, cond, _&&_}
 use lib.ListN.{length, take, getD}
 use borrow.Author.Tests.{eqb-true}
-use Rattle.lists.specs.Find.{find, none-find, find-same}
+use Rattle.lists.specs.Find.{find}
+use Rattle.lists.proofs.Find.{none-find, find-same}
 use Rattle.node.specs.Name.{nameOf}
 use Rattle.node.specs.declared.name.Name.{Name}
 use Rattle.node.specs.declared.order.LastOrder.{LastOrder}
@@ -25,11 +26,11 @@ use Rattle.synthdef.specs.declared.params.ParamNode.the-variants.{At, Nothing}
 use Rattle.store.specs.declared.answer.Outcome.{Outcome}
 use Rattle.store.specs.declared.answer.Outcome.the-variants.{Applied, NoVoice, NoParameter, NotTaken}
 use Rattle.store.specs.declared.voices.Voice.{Voice}
-use Rattle.model.specs.Desk.{Desk, withGraph}
+use Rattle.model.specs.SharedState.{SharedState, withGraph}
 use Rattle.model.specs.Voice.{isVoice, id}
 use Rattle.model.specs.Order.{takes, withLast, orderNode, orderParam, orderVoice, stays}
 use Rattle.model.specs.Order as model
-use Rattle.model.specs.Call.{deskStep, ordered}
+use Rattle.model.specs.Call.{sharedStep, ordered}
 use Rattle.model.specs.Call as call
 use Rattle.voice_rows.specs.Rows.{voiceOf, voicesIn}
 use Rattle.voice_rows.specs.Found.{FoundAt}
@@ -147,9 +148,9 @@ module _ (l : List ℕ) (w : VoiceId) (name : Name) (o : LastOrder) (voices node
         answer
 
 -- ---- the order of the model
-module _ (o : LastOrder) (d : Desk) where
+module _ (o : LastOrder) (d : SharedState) where
   abbrev carried : Reply → model.Ordered
-  carried r = record { outcome = r .outcome; desk = withGraph (withNodes (d .graph) (r .nodes)) d }
+  carried r = record { outcome = r .outcome; shared = withGraph (withNodes (d .graph) (r .nodes)) d }
 
   abbrev all : List Node
   all = d .graph .nodes
@@ -158,7 +159,7 @@ module _ (o : LastOrder) (d : Desk) where
   by-node none = refl
   by-node (some n) = go (takes o n)
     where
-      go : (b : Bool) → cond b (record { outcome = Applied; desk = model.withNode (withLast o n) d }) (stays NotTaken d) ≡ carried (cond b (reply Applied (replacedLeft [] all (withLast o n))) (reply NotTaken all))
+      go : (b : Bool) → cond b (record { outcome = Applied; shared = model.withNode (withLast o n) d }) (stays NotTaken d) ≡ carried (cond b (reply Applied (replacedLeft [] all (withLast o n))) (reply NotTaken all))
       go true = refl
       go false = refl
 
@@ -174,5 +175,5 @@ pub order-called : (s : State) (ns vs new name : List ℕ) (w : VoiceId) (o : La
     → (m : Memory) → Called (call.order w name o) (lentParams s ns vs m) (ordered r) (lentParams s new vs m)
 order-called s ns vs new name w o r h m =
     let old = modelOf (lentParams s ns vs m) in
-    ap (λ (x : Reply). deskStep old (withGraph (withNodes (old .desk .graph) (x .nodes)) (old .desk)) (ordered (x .outcome))) (h .is)
-    ∙ ap (λ (x : model.Ordered). deskStep old (x .desk) (ordered (x .outcome))) (sym (by-voice o (old .desk) (find (isVoice w) (old .voices)) (nameOf name)))
+    ap (λ (x : Reply). sharedStep old (withGraph (withNodes (old .shared .graph) (x .nodes)) (old .shared)) (ordered (x .outcome))) (h .is)
+    ∙ ap (λ (x : model.Ordered). sharedStep old (x .shared) (ordered (x .outcome))) (sym (by-voice o (old .shared) (find (isVoice w) (old .voices)) (nameOf name)))

@@ -1,4 +1,4 @@
--- The walk over the events: those that are due happen, one after the other.
+-- The walk over the events: those that are due applyEvent, one after the other.
 use Prim.Native.Nat.{ℕ, _+_, _≤_, _<_}
 use native.Mathlib.Omega.{arith}
 use mathlib.Core.Path.{_≡_, refl, sym, ap, _∙_}
@@ -7,9 +7,9 @@ use mathlib.Core.Option.{none, some}
 use mathlib.Core.Bool.{Bool, true, false, cond, _||_}
 use lib.ListN.{length, take, drop, getD, set, length-set, drop-of-length-le}
 use lib.Seq.{length-take-le}
-use Rattle.lists.specs.Keep.{put?}
+use Rattle.lists.specs.Filter.{put?}
 use Rattle.lists.specs.Find.{find}
-use Rattle.lists.specs.Table.{left-row, append-row}
+use Rattle.lists.proofs.Table.{left-row, append-row}
 use Rattle.node.specs.declared.record.Node.{Node}
 use Rattle.node.specs.declared.record.VoiceId.{VoiceId}
 use Rattle.edges.specs.Wiring.{listed}
@@ -22,10 +22,10 @@ use Rattle.event_table.specs.Rows.{eventsIn}
 use Rattle.graph_rows.specs.Node.{nodesIn}
 use Rattle.store.specs.declared.answer.Outcome.{Outcome}
 use Rattle.store.specs.declared.voices.Voice.{Voice}
-use Rattle.model.specs.Desk.{Desk, withEvents}
+use Rattle.model.specs.SharedState.{SharedState, withEvents}
 use Rattle.model.specs.Model.{freed}
 use Rattle.model.specs.Order.{order}
-use Rattle.model.specs.Render.{isFree, anyFree, happenAll}
+use Rattle.model.specs.Render.{isFree, anyFree, applyEvents}
 use Rattle.model.specs.Voice.{isVoice}
 use Rattle.voice_rows.specs.Rows.{voiceOf, voicesIn}
 use Rattle.voice_rows.specs.Found.{FoundAt}
@@ -37,7 +37,7 @@ use Rattle.memory.specs.Parts.{queued}
 use Rattle.call_param.specs.Left.{Reply, isKnown, orderLeft}
 use Rattle.call_param.specs.Replies.{Replies}
 use Rattle.call_param.proofs.Whole.{freed-unknown, others-known}
-use Rattle.call_free.specs.Forgotten.{goneIds}
+use Rattle.call_free.specs.Forgotten.{withoutIds}
 use Rattle.call_render.specs.Happened.{scene, noted, Noted, Happens, Left, left}
 use Rattle.call_render.proofs.Gone.{way-order, way-free}
 
@@ -72,7 +72,7 @@ module _ (vs : List Voice) (e : Event) (ns : List Node) (old : List ℕ) (count 
   pub happens-free : isFree (e .action) ≡ true → (new : List ℕ) (r : ℕ) → Noted vs (e .voice) old count new r → Happens vs e ns old count ns new r
   happens-free t new r h =
       record {
-        is = λ d. ap (λ z. goneIds z (scene d ns vs)) (h .is) ∙ way-free (take count old) d ns vs (e .voice) ∙ rw t;
+        is = λ d. ap (λ z. withoutIds z (scene d ns vs)) (h .is) ∙ way-free (take count old) d ns vs (e .voice) ∙ rw t;
         more = h .more;
         long = h .long;
       }
@@ -82,8 +82,8 @@ module _ (vs : List Voice) (e : Event) (ns : List Node) (old : List ℕ) (count 
   happens-order t p is words new live o same h =
       record {
         is = λ d.
-            ap (λ (z : Reply). goneIds (take count old) (scene d (z .nodes) vs)) (h .is)
-            ∙ ap (λ (q : ParamOrder). goneIds (take count old) (scene d (orderLeft (take count old) (e .voice) (q .name) (q .order) vs ns .nodes) vs)) is
+            ap (λ (z : Reply). withoutIds (take count old) (scene d (z .nodes) vs)) (h .is)
+            ∙ ap (λ (q : ParamOrder). withoutIds (take count old) (scene d (orderLeft (take count old) (e .voice) (q .name) (q .order) vs ns .nodes) vs)) is
             ∙ way-order (take count old) d ns vs (e .voice) (paramOrder e .name) (paramOrder e .order)
             ∙ rw t;
         more = omega arith;
@@ -99,7 +99,7 @@ module _ (deadline : ℕ) (rows : List Event) (n : ℕ) (vs : List Voice) (start
     pub passed : i ≤ n
     pub few : count ≤ i
     pub long : length freed ≡ 256
-    pub left : (d : Desk) → happenAll (rest i) (goneIds (take count freed) (scene d ns vs)) ≡ happenAll (rest 0) (scene d start vs)
+    pub left : (d : SharedState) → applyEvents (rest i) (withoutIds (take count freed) (scene d ns vs)) ≡ applyEvents (rest 0) (scene d start vs)
 
   pub going-start : (freed : List ℕ) → length freed ≡ 256 → Going start freed 0 0
   going-start freed h = record { passed = omega arith; few = omega arith; long = h; left = λ d. refl }
@@ -117,7 +117,7 @@ module _ (deadline : ℕ) (rows : List Event) (n : ℕ) (vs : List Voice) (start
           passed = omega arith;
           few = omega (arith, h .more, g .few);
           long = h .long ∙ g .long;
-          left = λ x. ap (happenAll (rest (i + 1))) (h .is x) ∙ sym (ap (λ z. happenAll z (goneIds (take count freed) (scene x ns vs))) (split true t)) ∙ g .left x;
+          left = λ x. ap (applyEvents (rest (i + 1))) (h .is x) ∙ sym (ap (λ z. applyEvents z (withoutIds (take count freed) (scene x ns vs))) (split true t)) ∙ g .left x;
         }
 
     pub going-off : due deadline e ≡ false → Going ns freed count (i + 1)
@@ -126,7 +126,7 @@ module _ (deadline : ℕ) (rows : List Event) (n : ℕ) (vs : List Voice) (start
           passed = omega arith;
           few = omega (arith, g .few);
           long = g .long;
-          left = λ x. sym (ap (λ z. happenAll z (goneIds (take count freed) (scene x ns vs))) (split false t)) ∙ g .left x;
+          left = λ x. sym (ap (λ z. applyEvents z (withoutIds (take count freed) (scene x ns vs))) (split false t)) ∙ g .left x;
         }
 
   -- nothing is left at the end
@@ -139,7 +139,7 @@ module _ (deadline : ℕ) (rows : List Event) (n : ℕ) (vs : List Voice) (start
   pub going-done : (ns : List Node) (freed : List ℕ) (count i : ℕ) → Going ns freed count i → n ≤ i → n ≤ length rows → n ≤ 256 → (all : List Event) → take n rows ≡ all → Left start vs (takenBefore deadline all) ns freed count
   going-done ns freed count i g h top room all is =
       record {
-        is = λ d. ap (λ z. happenAll (takenBefore deadline z) (scene d start vs)) (sym is) ∙ sym (g .left d) ∙ ap (λ z. happenAll z (goneIds (take count freed) (scene d ns vs))) (over i h top);
+        is = λ d. ap (λ z. applyEvents (takenBefore deadline z) (scene d start vs)) (sym is) ∙ sym (g .left d) ∙ ap (λ z. applyEvents z (withoutIds (take count freed) (scene d ns vs))) (over i h top);
         fits = omega (arith, g .few, g .passed);
         long = g .long;
       }
@@ -169,12 +169,12 @@ module _ (s : State) (ns es vs ev : List ℕ) (deadline : ℕ) (ns1 freed : List
     (h : Left (take (s .nodes) (nodesIn ns)) (take (s .voices) (voicesIn vs)) (takenBefore deadline (take (s .events) (eventsIn ev))) (take (s .nodes) (nodesIn ns1)) freed r)
     (ev1 : List ℕ) (k : ℕ) (removed : Holds (eventsIn ev1) k (leftAfter deadline (take (s .events) (eventsIn ev))))
     (u : State) (counted : u ≡ queued s k) (after : State) (ns2 es2 vs2 : List ℕ)
-    (forgot : (m : Memory) → modelOf (lentVoices after ns2 es2 vs2 m) ≡ goneIds (take r freed) (modelOf (lentVoices u ns1 es vs m))) where
+    (forgot : (m : Memory) → modelOf (lentVoices after ns2 es2 vs2 m) ≡ withoutIds (take r freed) (modelOf (lentVoices u ns1 es vs m))) where
   pub all-happen : (m : Memory) → modelOf (lentRender after ns2 es2 (m .order) vs2 ev1 m) ≡ left deadline (modelOf (lentRender s ns es (m .order) vs ev m))
   all-happen m =
       let old = modelOf (lentRender s ns es (m .order) vs ev m) in
-      let resting : List Event → Desk = λ q. withEvents q (old .desk) in
+      let resting : List Event → SharedState = λ q. withEvents q (old .shared) in
       forgot (lentEvents (m .state) ev1 m)
-      ∙ ap (λ x. goneIds (take r freed) (modelOf (lentVoices x ns1 es vs (lentEvents (m .state) ev1 m)))) counted
+      ∙ ap (λ x. withoutIds (take r freed) (modelOf (lentVoices x ns1 es vs (lentEvents (m .state) ev1 m)))) counted
       ∙ sym (h .is (resting (take k (eventsIn ev1))))
-      ∙ ap (λ q. happenAll (takenBefore deadline (old .desk .events)) (record { desk = resting q; voices = old .voices })) (removed .is)
+      ∙ ap (λ q. applyEvents (takenBefore deadline (old .shared .events)) (record { shared = resting q; voices = old .voices })) (removed .is)

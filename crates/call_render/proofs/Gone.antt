@@ -8,9 +8,12 @@ use mathlib.Core.Option.{Option, none, some}
 use mathlib.Core.Bool.{Bool, true, false, not, cond, _&&_, false≢true}
 use lib.Dec.{eqb}
 use borrow.Author.Tests.{eqb-true, eq-eqb, ne-eqb, not-true}
-use Rattle.lists.specs.Member.{In, and-left, and-right, map-same}
-use Rattle.lists.specs.Keep.{put?, keep, keep-all, keep-keep, keep-same, keep-map, in-keep}
-use Rattle.lists.specs.Find.{or?, find, isSome, keepO, find-in, find-none}
+use Rattle.lists.specs.Member.{In}
+use Rattle.lists.proofs.Member.{and-left, and-right, map-same}
+use Rattle.lists.specs.Filter.{put?, filter}
+use Rattle.lists.proofs.Filter.{filter-all, filter-filter, filter-same, filter-map, in-filter}
+use Rattle.lists.specs.Find.{or?, find, isSome, filterO}
+use Rattle.lists.proofs.Find.{find-in, find-none}
 use Rattle.node.specs.declared.name.Name.{Name}
 use Rattle.node.specs.declared.order.LastOrder.{LastOrder}
 use Rattle.node.specs.declared.record.Node.{Node}
@@ -24,20 +27,20 @@ use Rattle.synthdef.specs.Tables.{paramRows}
 use Rattle.synthdef.specs.Params.{paramNode}
 use Rattle.store.specs.declared.answer.Outcome.the-variants.{Applied, NotTaken}
 use Rattle.store.specs.declared.voices.Voice.{Voice}
-use Rattle.model.specs.Desk.{Desk, withGraph}
-use Rattle.model.specs.Model.{Model, gone, freed}
+use Rattle.model.specs.SharedState.{SharedState, withGraph}
+use Rattle.model.specs.Model.{Model, withoutVoice, freed}
 use Rattle.model.specs.Order.{takes, withLast, withNode, stays, orderNode, orderParam, orderVoice, order}
 use Rattle.model.specs.Voice.{isVoice, id}
 use Rattle.call_param.specs.Left.{isLeft, isKnown, reply, replacedLeft, replyNode, replyParam, replyVoice, orderLeft}
-use Rattle.call_free.specs.Forgotten.{goneIds}
+use Rattle.call_free.specs.Forgotten.{withoutIds}
 use Rattle.call_render.specs.Happened.{scene, noted}
 
 -- what is found among those that pass a test passes both
-find-and : {A : Type 0} (q t : A → Bool) (l : List A) → find q (keep t l) ≡ find (λ x. t x && q x) l
+find-and : {A : Type 0} (q t : A → Bool) (l : List A) → find q (filter t l) ≡ find (λ x. t x && q x) l
 find-and q t [] = refl
 find-and q t (x ∷ l) = go (t x) (find-and q t l)
   where
-    go : (b : Bool) → find q (keep t l) ≡ find (λ y. t y && q y) l → find q (put? b x (keep t l)) ≡ or? (b && q x) x (find (λ y. t y && q y) l)
+    go : (b : Bool) → find q (filter t l) ≡ find (λ y. t y && q y) l → find q (put? b x (filter t l)) ≡ or? (b && q x) x (find (λ y. t y && q y) l)
     go true ih = ap (or? (q x) x) ih
     go false ih = ih
 
@@ -52,41 +55,41 @@ abbrev voice : ℕ → VoiceId
 voice w = record { 0 = w }
 
 -- ---- what is left of the nodes and of the voices
-pub gone-nodes : (l : List ℕ) (m : Model) → goneIds l m .desk .graph .nodes ≡ keep (λ n. not (ownedByAny l n)) (m .desk .graph .nodes)
-gone-nodes [] m = sym (keep-all (λ n. not (ownedByAny [] n)) (m .desk .graph .nodes) (λ x i. refl))
+pub gone-nodes : (l : List ℕ) (m : Model) → withoutIds l m .shared .graph .nodes ≡ filter (λ n. not (ownedByAny l n)) (m .shared .graph .nodes)
+gone-nodes [] m = sym (filter-all (λ n. not (ownedByAny [] n)) (m .shared .graph .nodes) (λ x i. refl))
 gone-nodes (w ∷ l) m =
-    gone-nodes l (gone (voice w) m)
-    ∙ keep-keep (λ n. not (ownedByAny l n)) (λ n. not (ownedBy (voice w) n)) (m .desk .graph .nodes)
-    ∙ keep-same _ _ (m .desk .graph .nodes) (λ n i. neither (ownedBy (voice w) n) (ownedByAny l n) ∙ ap not (sym (listed-more w (n .owner .0) l)))
+    gone-nodes l (withoutVoice (voice w) m)
+    ∙ filter-filter (λ n. not (ownedByAny l n)) (λ n. not (ownedBy (voice w) n)) (m .shared .graph .nodes)
+    ∙ filter-same _ _ (m .shared .graph .nodes) (λ n i. neither (ownedBy (voice w) n) (ownedByAny l n) ∙ ap not (sym (listed-more w (n .owner .0) l)))
 
-pub gone-voices : (l : List ℕ) (m : Model) → goneIds l m .voices ≡ keep (λ v. not (listed l (v .id .0))) (m .voices)
-gone-voices [] m = sym (keep-all (λ v. not (listed [] (v .id .0))) (m .voices) (λ x i. refl))
+pub gone-voices : (l : List ℕ) (m : Model) → withoutIds l m .voices ≡ filter (λ v. not (listed l (v .id .0))) (m .voices)
+gone-voices [] m = sym (filter-all (λ v. not (listed [] (v .id .0))) (m .voices) (λ x i. refl))
 gone-voices (w ∷ l) m =
-    gone-voices l (gone (voice w) m)
-    ∙ keep-keep (λ v. not (listed l (v .id .0))) (λ v. not (isVoice (voice w) v)) (m .voices)
-    ∙ keep-same _ _ (m .voices) (λ v i. neither (isVoice (voice w) v) (listed l (v .id .0)) ∙ ap not (sym (listed-more w (v .id .0) l)))
+    gone-voices l (withoutVoice (voice w) m)
+    ∙ filter-filter (λ v. not (listed l (v .id .0))) (λ v. not (isVoice (voice w) v)) (m .voices)
+    ∙ filter-same _ _ (m .voices) (λ v i. neither (isVoice (voice w) v) (listed l (v .id .0)) ∙ ap not (sym (listed-more w (v .id .0) l)))
 
-gone-more : (l : List ℕ) (w : ℕ) (m : Model) → goneIds (l ++ (w ∷ [])) m ≡ gone (voice w) (goneIds l m)
+gone-more : (l : List ℕ) (w : ℕ) (m : Model) → withoutIds (l ++ (w ∷ [])) m ≡ withoutVoice (voice w) (withoutIds l m)
 gone-more [] w m = refl
-gone-more (x ∷ l) w m = gone-more l w (gone (voice x) m)
+gone-more (x ∷ l) w m = gone-more l w (withoutVoice (voice x) m)
 
 -- ---- other records of the nodes
 abbrev mapped : (Node → Node) → Model → Model
-mapped f m = record { desk = withGraph (withNodes (m .desk .graph) (map f (m .desk .graph .nodes))) (m .desk); voices = m .voices }
+mapped f m = record { shared = withGraph (withNodes (m .shared .graph) (map f (m .shared .graph .nodes))) (m .shared); voices = m .voices }
 
 -- what goes with the voice w, from the nodes that stay and the ids of those that are removed
 abbrev without : VoiceId → Model → List Node → List ℕ → Model
 without w m ns ids =
     record {
-      desk = withGraph (record {
+      shared = withGraph (record {
         nodes = ns;
-        edges = dropTouching (m .desk .graph .edges) ids;
-        sink = keepO (λ k. not (among ids k)) (m .desk .graph .sink);
+        edges = dropTouching (m .shared .graph .edges) ids;
+        sink = filterO (λ k. not (among ids k)) (m .shared .graph .sink);
         prepared = false;
-        order = m .desk .graph .order;
-        next = m .desk .graph .next;
-      }) (m .desk);
-      voices = keep (λ v. not (isVoice w v)) (m .voices);
+        order = m .shared .graph .order;
+        next = m .shared .graph .next;
+      }) (m .shared);
+      voices = filter (λ v. not (isVoice w v)) (m .voices);
     }
 
 abbrev idOf : Node → ℕ
@@ -98,15 +101,15 @@ map-kept f g e (x ∷ l) = rw (e x) (ap (λ z. g x ∷ z) (map-kept f g e l))
 
 -- the ids stay, and whether one of these voices owns a node: the same nodes are removed with them
 module _ (f : Node → Node) (ids : (n : Node) → f n .id .0 ≡ n .id .0) where
-  gone-mapped : (w : VoiceId) → ((n : Node) → ownedBy w (f n) ≡ ownedBy w n) → (m : Model) → gone w (mapped f m) ≡ mapped f (gone w m)
+  gone-mapped : (w : VoiceId) → ((n : Node) → ownedBy w (f n) ≡ ownedBy w n) → (m : Model) → withoutVoice w (mapped f m) ≡ mapped f (withoutVoice w m)
   gone-mapped w own m =
-      let ns = m .desk .graph .nodes in
-      ap (λ x. without w m x (idsOf (ownedBy w) (map f ns))) (keep-map f (λ n. not (ownedBy w n)) (λ n. not (ownedBy w n)) (λ n. ap not (own n)) ns)
-      ∙ ap (without w m (map f (keep (λ n. not (ownedBy w n)) ns))) (ap (map idOf) (keep-map f (ownedBy w) (ownedBy w) own ns) ∙ map-kept f idOf ids (keep (ownedBy w) ns))
+      let ns = m .shared .graph .nodes in
+      ap (λ x. without w m x (idsOf (ownedBy w) (map f ns))) (filter-map f (λ n. not (ownedBy w n)) (λ n. not (ownedBy w n)) (λ n. ap not (own n)) ns)
+      ∙ ap (without w m (map f (filter (λ n. not (ownedBy w n)) ns))) (ap (map idOf) (filter-map f (ownedBy w) (ownedBy w) own ns) ∙ map-kept f idOf ids (filter (ownedBy w) ns))
 
-  all-mapped : (l : List ℕ) → ((w : ℕ) → In w l → (n : Node) → ownedBy (voice w) (f n) ≡ ownedBy (voice w) n) → (m : Model) → goneIds l (mapped f m) ≡ mapped f (goneIds l m)
+  all-mapped : (l : List ℕ) → ((w : ℕ) → In w l → (n : Node) → ownedBy (voice w) (f n) ≡ ownedBy (voice w) n) → (m : Model) → withoutIds l (mapped f m) ≡ mapped f (withoutIds l m)
   all-mapped [] own m = refl
-  all-mapped (w ∷ l) own m = ap (goneIds l) (gone-mapped (voice w) (own w (inl refl)) m) ∙ all-mapped l (λ v i. own v (inr i)) (gone (voice w) m)
+  all-mapped (w ∷ l) own m = ap (withoutIds l) (gone-mapped (voice w) (own w (inl refl)) m) ∙ all-mapped l (λ v i. own v (inr i)) (withoutVoice (voice w) m)
 
 -- ---- an order gives the node that it finds, and those of its id, another record
 module _ (l : List ℕ) (ns : List Node) (k : ℕ) (o : LastOrder) (n : Node) (found : find (isLeft l (id k)) ns ≡ some n) where
@@ -137,58 +140,58 @@ module _ (l : List ℕ) (ns : List Node) (k : ℕ) (o : LastOrder) (n : Node) (f
       go false t = refl
 
   -- of the nodes that stay it is every one of that id
-  left-replaced : map f (keep (λ x. not (ownedByAny l x)) ns) ≡ replaced (keep (λ x. not (ownedByAny l x)) ns) new
+  left-replaced : map f (filter (λ x. not (ownedByAny l x)) ns) ≡ replaced (filter (λ x. not (ownedByAny l x)) ns) new
   left-replaced =
-      map-same f (λ x. cond (isNode (new .id) x) new x) (keep (λ x. not (ownedByAny l x)) ns)
-      (λ x i. ap (λ b. cond (b && isNode (new .id) x) new x) (in-keep (λ x. not (ownedByAny l x)) ns x i .1))
+      map-same f (λ x. cond (isNode (new .id) x) new x) (filter (λ x. not (ownedByAny l x)) ns)
+      (λ x i. ap (λ b. cond (b && isNode (new .id) x) new x) (in-filter (λ x. not (ownedByAny l x)) ns x i .1))
 
-  pub order-gone : (d : Desk) (vs : List Voice) → goneIds l (scene d (replacedLeft l ns new) vs) ≡ record { desk = withNode new (goneIds l (scene d ns vs) .desk); voices = goneIds l (scene d ns vs) .voices }
+  pub order-gone : (d : SharedState) (vs : List Voice) → withoutIds l (scene d (replacedLeft l ns new) vs) ≡ record { shared = withNode new (withoutIds l (scene d ns vs) .shared); voices = withoutIds l (scene d ns vs) .voices }
   order-gone d vs =
-      let now = goneIds l (scene d ns vs) in
+      let now = withoutIds l (scene d ns vs) in
       let kept = gone-nodes l (scene d ns vs) in
       all-mapped f f-id l f-own (scene d ns vs)
-      ∙ ap (λ z. record { desk = withGraph (withNodes (now .desk .graph) z) (now .desk); voices = now .voices }) (ap (map f) kept ∙ left-replaced ∙ ap (λ z. replaced z new) (sym kept))
+      ∙ ap (λ z. record { shared = withGraph (withNodes (now .shared .graph) z) (now .shared); voices = now .voices }) (ap (map f) kept ∙ left-replaced ∙ ap (λ z. replaced z new) (sym kept))
 
 -- ---- one event
-module _ (l : List ℕ) (d : Desk) (ns : List Node) (vs : List Voice) where
+module _ (l : List ℕ) (d : SharedState) (ns : List Node) (vs : List Voice) where
   abbrev now : Model
-  now = goneIds l (scene d ns vs)
+  now = withoutIds l (scene d ns vs)
 
-  node-left : (k : ℕ) → nodeAt (now .desk .graph .nodes) (id k) ≡ find (isLeft l (id k)) ns
+  node-left : (k : ℕ) → nodeAt (now .shared .graph .nodes) (id k) ≡ find (isLeft l (id k)) ns
   node-left k = ap (find (isNode (id k))) (gone-nodes l (scene d ns vs)) ∙ find-and (isNode (id k)) (λ n. not (ownedByAny l n)) ns
 
   voice-left : (w : VoiceId) → find (isVoice w) (now .voices) ≡ find (isKnown l w) vs
   voice-left w = ap (find (isVoice w)) (gone-voices l (scene d ns vs)) ∙ find-and (isVoice w) (λ v. not (listed l (v .id .0))) vs
 
-  abbrev with : Desk → Model
-  with x = record { desk = x; voices = now .voices }
+  abbrev with : SharedState → Model
+  with x = record { shared = x; voices = now .voices }
 
-  way-node : (k : ℕ) (o : LastOrder) (x : Option Node) → find (isLeft l (id k)) ns ≡ x → goneIds l (scene d (replyNode l x o ns .nodes) vs) ≡ with (orderNode x o (now .desk) .desk)
+  way-node : (k : ℕ) (o : LastOrder) (x : Option Node) → find (isLeft l (id k)) ns ≡ x → withoutIds l (scene d (replyNode l x o ns .nodes) vs) ≡ with (orderNode x o (now .shared) .shared)
   way-node k o none e = refl
   way-node k o (some n) e = go (takes o n)
     where
-      go : (b : Bool) → goneIds l (scene d (cond b (reply Applied (replacedLeft l ns (withLast o n))) (reply NotTaken ns) .nodes) vs) ≡ with (cond b (record { outcome = Applied; desk = withNode (withLast o n) (now .desk) }) (stays NotTaken (now .desk)) .desk)
+      go : (b : Bool) → withoutIds l (scene d (cond b (reply Applied (replacedLeft l ns (withLast o n))) (reply NotTaken ns) .nodes) vs) ≡ with (cond b (record { outcome = Applied; shared = withNode (withLast o n) (now .shared) }) (stays NotTaken (now .shared)) .shared)
       go true = order-gone l ns k o n e d vs
       go false = refl
 
-  way-param : (v : Voice) (o : LastOrder) (p : Option ℕ) → goneIds l (scene d (replyParam l p v o ns .nodes) vs) ≡ with (orderParam p v o (now .desk) .desk)
+  way-param : (v : Voice) (o : LastOrder) (p : Option ℕ) → withoutIds l (scene d (replyParam l p v o ns .nodes) vs) ≡ with (orderParam p v o (now .shared) .shared)
   way-param v o none = refl
   way-param v o (some i) =
       way-node (v .first .0 + i) o (find (isLeft l (id (v .first .0 + i))) ns) refl
-      ∙ ap (λ x. with (orderNode x o (now .desk) .desk)) (sym (node-left (v .first .0 + i)))
+      ∙ ap (λ x. with (orderNode x o (now .shared) .shared)) (sym (node-left (v .first .0 + i)))
 
-  way-voice : (name : Name) (o : LastOrder) (x : Option Voice) → goneIds l (scene d (replyVoice l x name o ns .nodes) vs) ≡ with (orderVoice x name o (now .desk) .desk)
+  way-voice : (name : Name) (o : LastOrder) (x : Option Voice) → withoutIds l (scene d (replyVoice l x name o ns .nodes) vs) ≡ with (orderVoice x name o (now .shared) .shared)
   way-voice name o none = refl
   way-voice name o (some v) = way-param v o (paramNode (paramRows (v .params)) name)
 
   -- a value or a glide
-  pub way-order : (w : VoiceId) (name : Name) (o : LastOrder) → goneIds l (scene d (orderLeft l w name o vs ns .nodes) vs) ≡ with (order w name o (now .voices) (now .desk) .desk)
-  way-order w name o = way-voice name o (find (isKnown l w) vs) ∙ ap (λ x. with (orderVoice x name o (now .desk) .desk)) (sym (voice-left w))
+  pub way-order : (w : VoiceId) (name : Name) (o : LastOrder) → withoutIds l (scene d (orderLeft l w name o vs ns .nodes) vs) ≡ with (order w name o (now .voices) (now .shared) .shared)
+  way-order w name o = way-voice name o (find (isKnown l w) vs) ∙ ap (λ x. with (orderVoice x name o (now .shared) .shared)) (sym (voice-left w))
 
   -- a free
-  pub way-free : (w : VoiceId) → goneIds (noted (find (isKnown l w) vs) l (w .0)) (scene d ns vs) ≡ freed (find (isVoice w) (now .voices)) now
-  way-free w = ap (λ x. goneIds (noted x l (w .0)) (scene d ns vs)) (sym (voice-left w)) ∙ go (find (isVoice w) (now .voices)) refl
+  pub way-free : (w : VoiceId) → withoutIds (noted (find (isKnown l w) vs) l (w .0)) (scene d ns vs) ≡ freed (find (isVoice w) (now .voices)) now
+  way-free w = ap (λ x. withoutIds (noted x l (w .0)) (scene d ns vs)) (sym (voice-left w)) ∙ go (find (isVoice w) (now .voices)) refl
     where
-      go : (x : Option Voice) → find (isVoice w) (now .voices) ≡ x → goneIds (noted x l (w .0)) (scene d ns vs) ≡ freed x now
+      go : (x : Option Voice) → find (isVoice w) (now .voices) ≡ x → withoutIds (noted x l (w .0)) (scene d ns vs) ≡ freed x now
       go none e = refl
-      go (some v) e = gone-more l (w .0) (scene d ns vs) ∙ ap (λ z. gone (voice z) now) (sym (eqb-true (v .id .0) (w .0) (find-in (isVoice w) (now .voices) v e .1)))
+      go (some v) e = gone-more l (w .0) (scene d ns vs) ∙ ap (λ z. withoutVoice (voice z) now) (sym (eqb-true (v .id .0) (w .0) (find-in (isVoice w) (now .voices) v e .1)))

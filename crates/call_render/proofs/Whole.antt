@@ -16,9 +16,9 @@ use Rattle.graph.specs.Tables.{sinkOf}
 use Rattle.scheduler.specs.Queue.{takenBefore}
 use Rattle.store.specs.declared.answer.Rendered.{Rendered}
 use Rattle.store.specs.declared.answer.Rendered.the-variants as Rendered
-use Rattle.model.specs.Desk.{Desk, sounding, withClock}
+use Rattle.model.specs.SharedState.{SharedState, sounding, withClock}
 use Rattle.model.specs.Model.{Model}
-use Rattle.model.specs.Render.{Heard, heard, answerAfter, prepareOutcome, prepareDesk, readyDesk, anyFree, happenAll, deadline, due, rested, clockEnds, preparedIf, isSounding, movedIf}
+use Rattle.model.specs.Render.{Heard, heard, answerAfter, prepareOutcome, prepareShared, readyShared, anyFree, applyEvents, deadline, due, rested, clockEnds, preparedIf, isSounding, movedIf}
 use Rattle.model.specs.Render as model
 use Rattle.model.specs.Call.{Step, rendered}
 use Rattle.model.specs.Call as call
@@ -29,7 +29,7 @@ use Rattle.order_table.specs.Prepares.{Prepares}
 use Rattle.order_table.specs.declared.Prepared.{Prepared}
 use Rattle.voice_rows.specs.Rows.{voicesIn}
 use Rattle.memory.specs.declared.state.State.{State}
-use Rattle.memory.specs.View.{Memory, modelOf, deskOf}
+use Rattle.memory.specs.View.{Memory, modelOf, sharedOf}
 use Rattle.memory.specs.Lent.{lentOrder, lentVoiceTable}
 use Rattle.memory.specs.Called.{Called, Kept, keeps}
 use Rattle.memory.specs.Parts.{ordered, clocked}
@@ -54,7 +54,7 @@ module _ (s : State) (ns es os : List ℕ) where
 
     -- by the answer of the prepare
     abbrev by : Readiness → Heard
-    by a = record { answer = answerAfter a (readyDesk a (outcome .order) (old .desk)); model = record { desk = readyDesk a (outcome .order) (old .desk); voices = old .voices } }
+    by a = record { answer = answerAfter a (readyShared a (outcome .order) (old .shared)); model = record { shared = readyShared a (outcome .order) (old .shared); voices = old .voices } }
 
     pub ready-not : (x : Refusal) → p .answer ≡ Readiness.Refused x → heardIn (record { state = s; answer = Rendered.Unprepared x }) (lentOrder s ns es os' m) ≡ readied freed old
     ready-not x e =
@@ -69,7 +69,7 @@ module _ (s : State) (ns es os : List ℕ) where
         ∙ ap (λ (x : State). record { answer = heard (x .prepared && isSome (sinkOf (x .sink))); model = modelOf (lentOrder x ns es os' m) }) is
         ∙ ap (λ l. record {
           answer = heard (isSome (sinkOf (s .sink)));
-          model = record { desk = readyDesk Readiness.Ready l (old .desk); voices = old .voices };
+          model = record { shared = readyShared Readiness.Ready l (old .shared); voices = old .voices };
         }) (h .order .is)
         ∙ ap by (sym e ∙ h .answer)
         ∙ ap (λ b. readied b old) (sym t)
@@ -81,15 +81,15 @@ pub block-left : (s : State) (vs vs' : List ℕ) (a : Rendered) (end : ℕ) (b :
 block-left s vs vs' a end b told moved u is m =
     let old = modelOf (lentVoiceTable s vs m) in
     ap (λ x. record { answer = a; model = modelOf (lentVoiceTable x vs' m) }) is
-    ∙ ap (λ l. record { answer = a; model = record { desk = withClock end (old .desk); voices = l } }) (moved ∙ ap (λ x. movedIf x (s .config .block) (old .voices)) told)
+    ∙ ap (λ l. record { answer = a; model = record { shared = withClock end (old .shared); voices = l } }) (moved ∙ ap (λ x. movedIf x (s .config .block) (old .voices)) told)
 
 -- ---- 15
 abbrev asStep : Heard → Step
 asStep h = record { answer = rendered (h .answer); model = h .model }
 
-ended : (m : Model) (b : Bool) → clockEnds (m .desk) ≡ b
-    → cond b (record { answer = Rendered.Refused ClockEnd; model = m }) (preparedIf (anyFree (due (m .desk))) (happenAll (due (m .desk)) (rested m))) ≡ model.render m
-ended m b e = ap (λ x. cond x (record { answer = Rendered.Refused ClockEnd; model = m }) (preparedIf (anyFree (due (m .desk))) (happenAll (due (m .desk)) (rested m)))) (sym e)
+ended : (m : Model) (b : Bool) → clockEnds (m .shared) ≡ b
+    → cond b (record { answer = Rendered.Refused ClockEnd; model = m }) (preparedIf (anyFree (due (m .shared))) (applyEvents (due (m .shared)) (rested m))) ≡ model.render m
+ended m b e = ap (λ x. cond x (record { answer = Rendered.Refused ClockEnd; model = m }) (preparedIf (anyFree (due (m .shared))) (applyEvents (due (m .shared)) (rested m)))) (sym e)
 
 pub render-refused : (m : Memory) → 18446744073709551615 - m .state .config .block < m .state .clock → Called call.render m (rendered (Rendered.Refused ClockEnd)) m
 render-refused m h =
@@ -104,22 +104,22 @@ heard-kept : (b : Bool) → kept (heard b) ≡ false
 heard-kept true = refl
 heard-kept false = refl
 
-after-kept : (k : Readiness) (d : Desk) → kept (answerAfter k d) ≡ false
+after-kept : (k : Readiness) (d : SharedState) → kept (answerAfter k d) ≡ false
 after-kept Readiness.Ready d = heard-kept (sounding d)
 after-kept (Readiness.Refused y) d = refl
 
 readied-kept : (b : Bool) (m : Model) → kept (readied b m .answer) ≡ false
-readied-kept true m = after-kept (prepareOutcome (m .desk) .answer) (prepareDesk (m .desk))
-readied-kept false m = heard-kept (sounding (m .desk))
+readied-kept true m = after-kept (prepareOutcome (m .shared) .answer) (prepareShared (m .shared))
+readied-kept false m = heard-kept (sounding (m .shared))
 
 -- ---- the memory at first, after the events, when it is ready, and at the end
 module _ (old mid then last : Memory) (b : Bool) (ready out : Rendering) (end : ℕ) (is-end : end ≡ old .state .clock + old .state .config .block) (fits : end ≤ 18446744073709551615)
-    (frees : b ≡ anyFree (takenBefore end (deskOf old .events)))
+    (frees : b ≡ anyFree (takenBefore end (sharedOf old .events)))
     (happened : modelOf mid ≡ left end (modelOf old))
     (readying : heardIn ready then ≡ readied b (modelOf mid))
     (block : heardIn out last ≡ blockTo end (ready .answer) (modelOf then)) where
-  ends : end ≡ deadline (modelOf mid .desk)
-  ends = is-end ∙ sym (ap (λ (k : Model). deadline (k .desk)) happened ∙ all-ends (takenBefore end (deskOf old .events)) _)
+  ends : end ≡ deadline (modelOf mid .shared)
+  ends = is-end ∙ sym (ap (λ (k : Model). deadline (k .shared)) happened ∙ all-ends (takenBefore end (sharedOf old .events)) _)
 
   over : heardIn out last ≡ blockTo end (readied b (modelOf mid) .answer) (readied b (modelOf mid) .model)
   over = block ∙ ap (λ (h : Heard). blockTo end (h .answer) (h .model)) readying
@@ -129,8 +129,8 @@ module _ (old mid then last : Memory) (b : Bool) (ready out : Rendering) (end : 
       over
       ∙ block-is b (modelOf mid) end ends
       ∙ ap (λ x. preparedIf x (modelOf mid)) frees
-      ∙ ap (preparedIf (anyFree (takenBefore end (deskOf old .events)))) happened
-      ∙ ap (λ x. preparedIf (anyFree (takenBefore x (deskOf old .events))) (left x (modelOf old))) is-end
+      ∙ ap (preparedIf (anyFree (takenBefore end (sharedOf old .events)))) happened
+      ∙ ap (λ x. preparedIf (anyFree (takenBefore x (sharedOf old .events))) (left x (modelOf old))) is-end
       ∙ ended (modelOf old) false (le-ltb 18446744073709551615 (old .state .clock + old .state .config .block) (subst (λ x. x ≤ 18446744073709551615) is-end fits))
 
   pub render-done : Called call.render old (rendered (out .answer)) last

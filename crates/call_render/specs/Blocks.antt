@@ -2,9 +2,9 @@
 use Prim.Native.Nat.{ℕ}
 use mathlib.Core.Bool.{Bool, true, false}
 use Rattle.store.specs.declared.answer.Rendered.{Rendered}
-use Rattle.model.specs.Desk.{sounding, withClock}
+use Rattle.model.specs.SharedState.{sounding, withClock}
 use Rattle.model.specs.Model.{Model}
-use Rattle.model.specs.Render.{Heard, heard, answerAfter, isSounding, movedIf, prepareOutcome, prepareDesk}
+use Rattle.model.specs.Render.{Heard, heard, answerAfter, isSounding, movedIf, prepareOutcome, prepareShared}
 use Rattle.memory.specs.View.{Memory, modelOf}
 use Rattle.call_render.specs.declared.render.Rendering.{Rendering}
 
@@ -16,12 +16,12 @@ heardIn r m = record { answer = r .answer; model = modelOf m }
 abbrev pub readied : Bool → Model → Heard
 readied true m =
     record {
-      answer = answerAfter (prepareOutcome (m .desk) .answer) (prepareDesk (m .desk));
-      model = record { desk = prepareDesk (m .desk); voices = m .voices };
+      answer = answerAfter (prepareOutcome (m .shared) .answer) (prepareShared (m .shared));
+      model = record { shared = prepareShared (m .shared); voices = m .voices };
     }
-readied false m = record { answer = heard (sounding (m .desk)); model = m }
+readied false m = record { answer = heard (sounding (m .shared)); model = m }
 
 -- the block itself, with the clock that it leaves
 abbrev pub blockTo : ℕ → Rendered → Model → Heard
 blockTo end a m =
-    record { answer = a; model = record { desk = withClock end (m .desk); voices = movedIf (isSounding a) (m .desk .config .block) (m .voices) } }
+    record { answer = a; model = record { shared = withClock end (m .shared); voices = movedIf (isSounding a) (m .shared .config .block) (m .voices) } }

@@ -12,15 +12,15 @@ use Rattle.graph.specs.View.{withNodes}
 use Rattle.scheduler.specs.Queue.{takenBefore, leftAfter}
 use Rattle.scheduler.specs.declared.event.Event.{Event}
 use Rattle.store.specs.declared.voices.Voice.{Voice}
-use Rattle.model.specs.Desk.{Desk, withGraph, withEvents}
+use Rattle.model.specs.SharedState.{SharedState, withGraph, withEvents}
 use Rattle.model.specs.Model.{Model}
-use Rattle.model.specs.Render.{happen, happenAll}
+use Rattle.model.specs.Render.{applyEvent, applyEvents}
 use Rattle.call_param.specs.Left.{isKnown}
-use Rattle.call_free.specs.Forgotten.{goneIds}
+use Rattle.call_free.specs.Forgotten.{withoutIds}
 
 -- a model with these nodes and voices
-abbrev pub scene : Desk → List Node → List Voice → Model
-scene d ns vs = record { desk = withGraph (withNodes (d .graph) ns) d; voices = vs }
+abbrev pub scene : SharedState → List Node → List Voice → Model
+scene d ns vs = record { shared = withGraph (withNodes (d .graph) ns) d; voices = vs }
 
 -- one voice more, if it is known
 abbrev pub noted : Option Voice → List ℕ → ℕ → List ℕ
@@ -34,18 +34,18 @@ pub record Noted (vs : List Voice) (w : VoiceId) (old : List ℕ) (count : ℕ) 
 
 -- one event, whatever else the store holds
 pub record Happens (vs : List Voice) (e : Event) (ns : List Node) (old : List ℕ) (count : ℕ) (new-ns : List Node) (new : List ℕ) (r : ℕ) : Type 0 where
-  pub is : (d : Desk) → goneIds (take r new) (scene d new-ns vs) ≡ happen e (goneIds (take count old) (scene d ns vs))
+  pub is : (d : SharedState) → withoutIds (take r new) (scene d new-ns vs) ≡ applyEvent e (withoutIds (take count old) (scene d ns vs))
   pub more : r ≤ count + 1
   pub long : length new ≡ length old
 
 -- all of them
 pub record Left (ns : List Node) (vs : List Voice) (events : List Event) (new-ns : List Node) (freed : List ℕ) (r : ℕ) : Type 0 where
-  pub is : (d : Desk) → happenAll events (scene d ns vs) ≡ goneIds (take r freed) (scene d new-ns vs)
+  pub is : (d : SharedState) → applyEvents events (scene d ns vs) ≡ withoutIds (take r freed) (scene d new-ns vs)
   pub fits : r ≤ 256
   pub long : length freed ≡ 256
 
--- the due events are removed from the queue, and happen
+-- the due events are removed from the queue, and applyEvent
 abbrev pub left : ℕ → Model → Model
 left deadline m =
-    happenAll (takenBefore deadline (m .desk .events))
-    (record { desk = withEvents (leftAfter deadline (m .desk .events)) (m .desk); voices = m .voices })
+    applyEvents (takenBefore deadline (m .shared .events))
+    (record { shared = withEvents (leftAfter deadline (m .shared .events)) (m .shared); voices = m .voices })

@@ -15,7 +15,7 @@ use words::table::at_most;
 ghost use mathlib.Core.Path.{_≡_};
 ghost use lib.ListN.{length, take};
 ghost use Rattle.scheduler.specs.Queue.{takenBefore, leftAfter};
-ghost use Rattle.model.specs.Render.{anyFree, happenAll};
+ghost use Rattle.model.specs.Render.{anyFree, applyEvents};
 ghost use Rattle.event_table.specs.Rows.{eventsIn};
 ghost use Rattle.graph_rows.specs.Node.{nodesIn};
 ghost use Rattle.voice_rows.specs.Rows.{voicesIn};

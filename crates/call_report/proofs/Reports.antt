@@ -28,17 +28,17 @@ use Rattle.graph.specs.Refuse.{when}
 use Rattle.graph.proofs.Calls.{answer-refused, answer-done}
 use Rattle.graph_rows.specs.Node.{nodeOf, nodesIn}
 use Rattle.store.specs.declared.voices.Voice.{Voice}
-use Rattle.model.specs.Desk.{withGraph}
+use Rattle.model.specs.SharedState.{withGraph}
 use Rattle.model.specs.Voice.{isVoice}
 use Rattle.model.specs.Refuse.{reports, ofDefinition, lentBlock}
 use Rattle.model.specs.Order.{reportNode}
-use Rattle.model.specs.Call.{deskStep, done, refused}
+use Rattle.model.specs.Call.{sharedStep, done, refused}
 use Rattle.model.specs.Call as call
 use Rattle.voice_rows.specs.Rows.{voiceOf, voicesIn}
 use Rattle.voice_rows.specs.Found.{FoundAt}
 use Rattle.voice_rows.specs.declared.table.FoundRow.{FoundRow}
 use Rattle.memory.specs.declared.state.State.{State}
-use Rattle.memory.specs.View.{Memory, modelOf, deskOf, graphOf}
+use Rattle.memory.specs.View.{Memory, modelOf, sharedOf, graphOf}
 use Rattle.memory.proofs.Steps.{refuses, serves}
 use Rattle.memory.specs.Lent.{lentParams}
 use Rattle.memory.specs.Called.{Called}
@@ -163,7 +163,7 @@ module _ (s : State) (ns voices : List ℕ) (k : NodeId) (channels : ℕ) (sampl
     old = lentParams s ns voices m
 
     abbrev reporting : call.Step
-    reporting = deskStep (modelOf old) (reportNode (nodeAt all k) samples flag (deskOf old)) done
+    reporting = sharedStep (modelOf old) (reportNode (nodeAt all k) samples flag (sharedOf old)) done
 
     pub reports-not : (x : Refusal) → t ≡ Answer.Refused x → Called (call.report k channels samples flag) old (refused x) old
     reports-not x e = refuses (call.report k channels samples flag) old refusal reporting refl x (answer-refused refusal x (sym told-whole ∙ e))
@@ -173,5 +173,5 @@ module _ (s : State) (ns voices : List ℕ) (k : NodeId) (channels : ℕ) (sampl
     reports-done e new level is left =
         let there : nodeAt all k ≡ some its = found-in 21 nodeOf (isNode k) ns (s .nodes) p n at many (live-there e) in
         serves (call.report k channels samples flag) old refusal reporting refl done (lentParams s new voices m) (answer-done refusal (sym told-whole ∙ e))
-        (ap (λ l. deskStep (modelOf old) (withGraph (withNodes (graphOf old) l) (deskOf old)) done) (left ∙ ap (λ x. replaced all (reported x flag its)) is)
-        ∙ ap (λ o. deskStep (modelOf old) (reportNode o samples flag (deskOf old)) done) (sym there))
+        (ap (λ l. sharedStep (modelOf old) (withGraph (withNodes (graphOf old) l) (sharedOf old)) done) (left ∙ ap (λ x. replaced all (reported x flag its)) is)
+        ∙ ap (λ o. sharedStep (modelOf old) (reportNode o samples flag (sharedOf old)) done) (sym there))

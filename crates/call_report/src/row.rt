@@ -1,6 +1,6 @@
-use words::table::put_fields;
 use words::fields::flag_word;
 use words::fields::float_word;
+use words::table::put_fields;
 ghost use mathlib.Core.Path.{_≡_};
 ghost use mathlib.Core.List.{[]};
 ghost use lib.ListN.{getD, set};

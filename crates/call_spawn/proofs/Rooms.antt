@@ -8,7 +8,7 @@ use mathlib.Core.List.{List, []}
 use lib.Dec.{ltb, leb, eqb}
 use lib.ListN.{length, length-map}
 use borrow.Author.Tests.{ltb-false, leb-false, not-false}
-use Rattle.lists.specs.Keep.{length-keep}
+use Rattle.lists.proofs.Filter.{length-filter}
 use Rattle.node.specs.declared.record.NodeId.{NodeId}
 use Rattle.node.specs.declared.refusal.Refusal.{Refusal}
 use Rattle.node.specs.declared.refusal.Refusal.the-variants.{DefinitionLimits, BusWithoutPorts, TableFull, IdsUsedUp}
@@ -50,9 +50,9 @@ or-none : (a b : Bool) → (a || b) ≡ false → (a ≡ false) × (b ≡ false)
 or-none true b e = let z : _≡_ {A = ℕ} 0 1 = cc in absurd (omega arith)
 or-none false b e = (refl, e)
 
-pub roomy : (m : Model) (def : SynthDef) (bus : NodeId) → spawnRefusal (m .desk) (m .voices) def bus ≡ none → Roomy def m
+pub roomy : (m : Model) (def : SynthDef) (bus : NodeId) → spawnRefusal (m .shared) (m .voices) def bus ≡ none → Roomy def m
 roomy m def bus e =
-    let d = m .desk in
+    let d = m .shared in
     let vs = m .voices in
     let a = when-none (not (allowed def)) DefinitionLimits _ e in
     let b = when-none (eqb (portsOf (nodeAt (d .graph .nodes) bus)) 0) BusWithoutPorts _ (else-none (hostRefusal (d .graph) bus) _ (a .1)) in
@@ -87,9 +87,9 @@ roomy-fade def m r =
 -- ---- what is removed makes room
 headroom-cut : (def : SynthDef) (v : Voice) (s : VoiceState) (m : Model) → Headroom def m → Headroom def (cutOff v s m)
 headroom-cut def v s m h =
-    let ns : length (cutOff v s m .desk .graph .nodes) ≤ length (m .desk .graph .nodes) = length-keep _ (m .desk .graph .nodes) in
-    let es : length (cutOff v s m .desk .graph .edges) ≤ length (m .desk .graph .edges) = length-keep _ (m .desk .graph .edges) in
-    let vs : length (cutOff v s m .voices) ≤ length (m .voices) = length-keep _ (m .voices) in
+    let ns : length (cutOff v s m .shared .graph .nodes) ≤ length (m .shared .graph .nodes) = length-filter _ (m .shared .graph .nodes) in
+    let es : length (cutOff v s m .shared .graph .edges) ≤ length (m .shared .graph .edges) = length-filter _ (m .shared .graph .edges) in
+    let vs : length (cutOff v s m .voices) ≤ length (m .voices) = length-filter _ (m .voices) in
     let a = h .places in
     let b = h .wires in
     let c = h .seats in
@@ -113,14 +113,14 @@ headroom-reclaimed def bus (suc k) m h = go (leaving bus m) (headroom-reclaimed 
 
 -- a fade takes one node, one edge and one id
 pub roomy-steal : (def : SynthDef) (v : Voice) (m : Model) → Roomy def m → Headroom def (stealVoice v m)
-roomy-steal def v m r = go (portFrom (m .desk .graph .edges) (feeder v) (v .bus)) refl
+roomy-steal def v m r = go (portFrom (m .shared .graph .edges) (feeder v) (v .bus)) refl
   where
-    go : (o : Option ℕ) → portFrom (m .desk .graph .edges) (feeder v) (v .bus) ≡ o → Headroom def (stolen v o m)
+    go : (o : Option ℕ) → portFrom (m .shared .graph .edges) (feeder v) (v .bus) ≡ o → Headroom def (stolen v o m)
     go none e = headroom-cut def v Tracked m (roomy-head def m r)
     go (some p) e =
-        let ns = fade-nodes v p (m .desk .graph) in
-        let es = fade-edges v p (m .desk .graph) e in
-        let vs = length-map (m .voices) (beginFade (v .id) (fadeOf (m .desk))) in
+        let ns = fade-nodes v p (m .shared .graph) in
+        let es = fade-edges v p (m .shared .graph) e in
+        let vs = length-map (m .voices) (beginFade (v .id) (fadeOf (m .shared))) in
         let a = r .places in
         let b = r .wires in
         let c = r .ids in

@@ -17,7 +17,7 @@ refused-in r a m n e f = ap (λ k. landedAs k n) e ∙ ap (λ k. landedAs (Spawn
 
 module _ (x : Spawn) (m : Model) where
   abbrev tested : Option Refusal
-  tested = spawnRefusal (m .desk) (m .voices) (x .def) (x .bus)
+  tested = spawnRefusal (m .shared) (m .voices) (x .def) (x .bus)
 
   pub managed-not : (r : Refusal) → tested ≡ some r → refused r m ≡ spawnManaged x m
   managed-not r e = sym (ap (λ o. unless o m (admitted (admissionOn (x .bus) m) x m)) e)

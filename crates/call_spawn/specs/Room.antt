@@ -18,7 +18,7 @@ use Rattle.synthdef.specs.Limits.{allowed}
 use Rattle.synthdef.specs.declared.def.SynthDef.{SynthDef}
 use Rattle.model.specs.Refuse.{orElse}
 use Rattle.model.specs.Spawn.{Spawn}
-use Rattle.model.specs.Model.{Model, Landed, settle, admitted, admissionOn}
+use Rattle.model.specs.Model.{Model, SpawnResult, placeWithinBudget, admitted, admissionOn}
 use Rattle.memory.specs.View.{Memory, modelOf}
 
 -- ---- the refusals over what they read: of the bus 4, 5, 10; of the counts 7 and 8
@@ -38,35 +38,35 @@ pub record NewIds (def : SynthDef) (next spawned : ℕ) : Type 0 where
 
 pub record Headroom (def : SynthDef) (m : Model) : Type 0 where
   pub within : allowed def ≡ true
-  pub places : length (m .desk .graph .nodes) + def .nodes .count + 2 ≤ 512
-  pub wires : length (m .desk .graph .edges) + def .edges .count + 3 ≤ 1024
+  pub places : length (m .shared .graph .nodes) + def .nodes .count + 2 ≤ 512
+  pub wires : length (m .shared .graph .edges) + def .edges .count + 3 ≤ 1024
   pub seats : length (m .voices) < 64
-  pub ids : m .desk .graph .next + def .nodes .count + 2 ≤ 4294967296
-  pub names : m .desk .spawned < 18446744073709551615
+  pub ids : m .shared .graph .next + def .nodes .count + 2 ≤ 4294967296
+  pub names : m .shared .spawned < 18446744073709551615
 
 -- room for a fade alone
 pub record FadeRoom (m : Model) : Type 0 where
-  pub places : length (m .desk .graph .nodes) + 1 ≤ 512
-  pub wires : length (m .desk .graph .edges) + 2 ≤ 1024
-  pub ids : m .desk .graph .next + 1 ≤ 4294967296
+  pub places : length (m .shared .graph .nodes) + 1 ≤ 512
+  pub wires : length (m .shared .graph .edges) + 2 ≤ 1024
+  pub ids : m .shared .graph .next + 1 ≤ 4294967296
 
 -- room for a fade and the new voice: what the refusals leave
 pub record Roomy (def : SynthDef) (m : Model) : Type 0 where
   pub within : allowed def ≡ true
-  pub places : length (m .desk .graph .nodes) + def .nodes .count + 3 ≤ 512
-  pub wires : length (m .desk .graph .edges) + def .edges .count + 4 ≤ 1024
+  pub places : length (m .shared .graph .nodes) + def .nodes .count + 3 ≤ 512
+  pub wires : length (m .shared .graph .edges) + def .edges .count + 4 ≤ 1024
   pub seats : length (m .voices) < 64
-  pub ids : m .desk .graph .next + def .nodes .count + 3 ≤ 4294967296
-  pub names : m .desk .spawned < 18446744073709551615
+  pub ids : m .shared .graph .next + def .nodes .count + 3 ≤ 4294967296
+  pub names : m .shared .spawned < 18446744073709551615
 
 -- ---- what a spawn answers, and what the store then stands for
-abbrev pub landedAs : Spawned → Memory → Landed
+abbrev pub landedAs : Spawned → Memory → SpawnResult
 landedAs a n = record { answer = a; model = modelOf n }
 
 -- A request to come in on the bus, from the store m: admitted, every spawn goes on with the port search in the store n, where there
 -- is room for it; else admission rejects
 pub record Meets (bus : NodeId) (m n : Model) (ok : Bool) : Type 0 where
-  pub goes-on : ok ≡ true → (x : Spawn) → admitted (admissionOn bus m) x m ≡ settle x n
+  pub goes-on : ok ≡ true → (x : Spawn) → admitted (admissionOn bus m) x m ≡ placeWithinBudget x n
   pub room : ok ≡ true → (def : SynthDef) → Roomy def m → Headroom def n
   pub rejects : ok ≡ false → admissionOn bus m ≡ admission.Reject
 

@@ -24,7 +24,7 @@ ghost use Rattle.graph_rows.specs.Node.{nodesIn};
 ghost use Rattle.graph_rows.specs.Edge.{edgesIn};
 ghost use Rattle.voice_rows.specs.Rows.{voicesIn};
 ghost use Rattle.model.specs.Refuse.{spawnRefusal};
-ghost use Rattle.memory.specs.View.{Memory, deskOf};
+ghost use Rattle.memory.specs.View.{Memory, sharedOf};
 ghost use Rattle.memory.specs.Lent.{lentVoices};
 ghost use Rattle.call_spawn.specs.Room.{busBrief, roomRefusal};
 
@@ -132,7 +132,7 @@ pub fn spawn_refusal(
     def: SynthDef,
     bus: NodeId,
 ) -> Answer
-    ensures { λ r. ⌜ ((m : Memory) → r ≡ answerOf (spawnRefusal (deskOf (lentVoices s (now (nodes .entry)) (now (edges .entry)) (now (voices .entry)) m)) (take (s .voices) (voicesIn (now (voices .entry)))) def bus)) ⌝ }
+    ensures { λ r. ⌜ ((m : Memory) → r ≡ answerOf (spawnRefusal (sharedOf (lentVoices s (now (nodes .entry)) (now (edges .entry)) (now (voices .entry)) m)) (take (s .voices) (voicesIn (now (voices .entry)))) def bus)) ⌝ }
 {
     if !allowed(def) {
         return Answer::Refused(Refusal::DefinitionLimits);

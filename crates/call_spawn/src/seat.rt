@@ -18,9 +18,9 @@ use voice_rows::table::push_voice;
 use words::table::at_most;
 ghost use mathlib.Core.Path.{_≡_};
 ghost use Prim.Native.Nat.{_+_, _%_};
-ghost use Rattle.model.specs.Spawn.{pans, spawnOf, newcomer};
-ghost use Rattle.model.specs.Model.{land};
-ghost use Rattle.memory.specs.View.{Memory, deskOf, modelOf};
+ghost use Rattle.model.specs.Spawn.{pans, spawnOf, newVoice};
+ghost use Rattle.model.specs.Model.{instantiate};
+ghost use Rattle.memory.specs.View.{Memory, sharedOf, modelOf};
 ghost use Rattle.memory.specs.Lent.{lentState, lentVoices};
 ghost use Rattle.call_spawn.specs.Room.{Headroom, landedAs, NewIds};
 
@@ -41,7 +41,7 @@ fn next_sequence(n: u32) -> u32
 // The record of the new voice.
 fn new_voice(s: State, def: SynthDef, pan: f32, state: VoiceState, bus: NodeId, port: u32) -> Voice
     requires { ⌜ NewIds def (s .next) (s .spawned) ⌝ }
-    ensures { λ r. ⌜ ((m : Memory) → r ≡ newcomer (spawnOf def bus pan) state port (deskOf (lentState s m))) ⌝ }
+    ensures { λ r. ⌜ ((m : Memory) → r ≡ newVoice (spawnOf def bus pan) state port (sharedOf (lentState s m))) ⌝ }
 {
     let ns = def.nodes;
     let count = at_most(ns.count, 24) as u32;
@@ -79,7 +79,7 @@ pub(crate) fn seat_voice(
     port: u32,
 ) -> Spawning
     requires { ⌜ ((m : Memory) → Headroom def (modelOf (lentVoices s (now nodes) (now edges) (now voices) m))) ⌝ }
-    ensures { λ r. ⌜ ((m : Memory) → landedAs (r .answer) (lentVoices (r .state) (now (nodes .exit)) (now (edges .exit)) (now (voices .exit)) m) ≡ land (spawnOf def bus pan) state port (modelOf (lentVoices s (now (nodes .entry)) (now (edges .entry)) (now (voices .entry)) m))) ⌝ }
+    ensures { λ r. ⌜ ((m : Memory) → landedAs (r .answer) (lentVoices (r .state) (now (nodes .exit)) (now (edges .exit)) (now (voices .exit)) m) ≡ instantiate (spawnOf def bus pan) state port (modelOf (lentVoices s (now (nodes .entry)) (now (edges .entry)) (now (voices .entry)) m))) ⌝ }
 {
     let v = new_voice(s, def, pan, state, bus, port);
     let id = VoiceId(s.spawned + 1);

@@ -20,7 +20,7 @@ ghost use mathlib.Core.Path.{_≡_};
 ghost use lib.ListN.{take};
 ghost use Rattle.voice_rows.specs.Rows.{voicesIn};
 ghost use Rattle.model.specs.Spawn.{spawnOf, middle, stateUnder, tries};
-ghost use Rattle.model.specs.Model.{place, settle, refused};
+ghost use Rattle.model.specs.Model.{place, placeWithinBudget, refused};
 ghost use Rattle.model.specs.Call.{spawnManaged, spawnLoose, spawned};
 ghost use Rattle.memory.specs.View.{Memory, modelOf};
 ghost use Rattle.memory.specs.Lent.{lentSpawn};
@@ -102,7 +102,7 @@ fn settle(
     bus: NodeId,
 ) -> Spawning
     requires { ⌜ ((m : Memory) → Headroom def (modelOf (lentSpawn s (now nodes) (now edges) (now voices) (now steals) m))) ⌝ }
-    ensures { λ r. ⌜ ((m : Memory) → landedAs (r .answer) (lentSpawn (r .state) (now (nodes .exit)) (now (edges .exit)) (now (voices .exit)) (now (steals .exit)) m) ≡ settle (spawnOf def bus pan) (modelOf (lentSpawn s (now (nodes .entry)) (now (edges .entry)) (now (voices .entry)) (now (steals .entry)) m))) ⌝ }
+    ensures { λ r. ⌜ ((m : Memory) → landedAs (r .answer) (lentSpawn (r .state) (now (nodes .exit)) (now (edges .exit)) (now (voices .exit)) (now (steals .exit)) m) ≡ placeWithinBudget (spawnOf def bus pan) (modelOf (lentSpawn s (now (nodes .entry)) (now (edges .entry)) (now (voices .entry)) (now (steals .entry)) m))) ⌝ }
 {
     let config = s.config;
     let budget = config.budget;

@@ -7,7 +7,7 @@ use mathlib.Core.Bool.{Bool, true, _&&_}
 use lib.Dec.{leb, ltb}
 use lib.ListN.{length, length-map, length-take}
 use borrow.Author.Tests.{le-leb, leb-true, ltb-true}
-use Rattle.lists.specs.Member.{and-left, and-right, both}
+use Rattle.lists.proofs.Member.{and-left, and-right, both}
 use Rattle.lists.specs.Table.{rowsOf}
 use Rattle.synthdef.specs.Rows.{every}
 use Rattle.synthdef.specs.Tables.{nodeRows, edgeRows, paramRows, noEdge}

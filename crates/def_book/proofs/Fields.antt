@@ -8,7 +8,7 @@ use lib.Dec.{leb, eqb}
 use lib.ListN.{length, take, drop, getD, set, replicate, drop-of-length-le}
 use lib.Seq.{getD-drop, take-all}
 use borrow.Author.Tests.{ne-eqb, eq-eqb, not-true, not-false}
-use Rattle.lists.specs.Table.{left-cons, filled-more}
+use Rattle.lists.proofs.Table.{left-cons, filled-more}
 use Rattle.synthdef.specs.Rows.{every}
 use Rattle.def_book.specs.Held.{held}
 use Rattle.def_book.specs.Rows.{pairAt, isRecord, isZero}

@@ -9,7 +9,7 @@ use lib.ListN.{length, take, drop, getD, set, replicate}
 use lib.Seq.{take-nil, drop-nil}
 use borrow.Author.Tests.{eqb-true}
 use Rattle.lists.specs.Table.{rowsOf}
-use Rattle.lists.specs.Member.{and-left, and-right}
+use Rattle.lists.proofs.Member.{and-left, and-right}
 use Rattle.synthdef.specs.Rows.{every}
 use Rattle.def_book.specs.Held.{held}
 use Rattle.def_book.specs.Rows.{isZero}

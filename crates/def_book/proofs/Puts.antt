@@ -11,7 +11,7 @@ use lib.Dec.{leb}
 use lib.Seq.{take-all, take-nil, take-suc, take-append-seam, drop-append-seam, drop-drop, take-length, drop-length}
 use borrow.Author.Tests.{leb-true, leb-false}
 use borrow.Rule.Slice.PartMut.{midOf, putMid}
-use Rattle.lists.specs.Member.{map-append}
+use Rattle.lists.proofs.Member.{map-append}
 use Rattle.def_book.specs.Held.{held}
 use Rattle.def_book.specs.Bytes.{joined}
 use Rattle.def_book.specs.Write.{written}

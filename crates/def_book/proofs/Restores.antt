@@ -9,7 +9,7 @@ use lib.Dec.{leb, eqb}
 use lib.ListN.{length, drop, getD, length-append}
 use lib.Seq.{drop-at, getD-append-add}
 use borrow.Author.Tests.{le-leb}
-use Rattle.lists.specs.Member.{and-left, and-right, both, some-inj}
+use Rattle.lists.proofs.Member.{and-left, and-right, both, some-inj}
 use Rattle.lists.specs.Find.{mapO}
 use Rattle.node.specs.Name.{named, text}
 use Rattle.node.specs.declared.name.Name.{Name}

@@ -11,7 +11,7 @@ use lib.Dec.{leb, eqb}
 use lib.ListN.{length, take, drop, getD, length-map, take-append-drop, List·getD-append}
 use lib.Seq.{length-take-le, take-append-seam, getD-take, drop-at}
 use borrow.Author.Tests.{le-leb, eq-eqb, eqb-true}
-use Rattle.lists.specs.Member.{and-left, and-right, both, map-append}
+use Rattle.lists.proofs.Member.{and-left, and-right, both, map-append}
 use Rattle.node.specs.Name.{named, text}
 use Rattle.node.specs.declared.name.Name.{Name}
 use Rattle.def_book.specs.Held.{held}

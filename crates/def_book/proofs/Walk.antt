@@ -7,7 +7,7 @@ use mathlib.Core.Bool.{Bool, true, false, _&&_, cond}
 use lib.Dec.{leb, eqb}
 use lib.ListN.{length, drop}
 use borrow.Author.Tests.{leb-true}
-use Rattle.lists.specs.Member.{and-left, and-right, some-inj, none-some}
+use Rattle.lists.proofs.Member.{and-left, and-right, some-inj, none-some}
 use Rattle.def_book.specs.Bytes.{Row, node, edge, param, long}
 use Rattle.def_book.specs.Rows.{pairAt, isRecord, nameAt, nameFits, isNode, isEdge, isParam, nodeAt, edgeAt, paramAt, rowAt, follow, rowsAfter, rows}
 

@@ -8,7 +8,7 @@ use mathlib.Core.Bool.{true, false, cond}
 use lib.ListN.{length, length-append, length-take}
 use lib.Dec.{leb}
 use borrow.Author.Tests.{le-leb, lt-leb}
-use Rattle.lists.specs.Member.{map-append}
+use Rattle.lists.proofs.Member.{map-append}
 use Rattle.synthdef.specs.Limits.{allowed}
 use Rattle.synthdef.specs.Tables.{nodeRows, edgeRows, paramRows}
 use Rattle.synthdef.specs.declared.def.SynthDef.{SynthDef}

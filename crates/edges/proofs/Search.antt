@@ -13,7 +13,7 @@ use lib.ListN.{length, take, drop, getD, set, length-set}
 use lib.Seq.{getD-set-same, getD-set-other, ext-getD}
 use borrow.Author.Tests.{eq-eqb, ne-eqb}
 use Rattle.lists.specs.Find.{find, or?, mapO}
-use Rattle.lists.specs.Table.{left-row}
+use Rattle.lists.proofs.Table.{left-row}
 use Rattle.node.specs.declared.record.NodeId.{NodeId}
 use Rattle.node.specs.declared.record.Edge.{Edge}
 use Rattle.edges.specs.declared.ports.Source.{Source}

@@ -8,9 +8,10 @@ use mathlib.Core.Bool.{Bool, true, false, not, cond, _&&_, and-false}
 use lib.Dec.{leb}
 use lib.ListN.{length}
 use borrow.Author.Tests.{le-leb, lt-leb, leb-false}
-use Rattle.lists.specs.Keep.{keep-all}
-use Rattle.lists.specs.Find.{find, isSome, find-in, find-none}
-use Rattle.lists.specs.Count.{count-keep-lt, count-all}
+use Rattle.lists.proofs.Filter.{filter-all}
+use Rattle.lists.specs.Find.{find, isSome}
+use Rattle.lists.proofs.Find.{find-in, find-none}
+use Rattle.lists.proofs.Count.{count-filter-lt, count-all}
 use Rattle.node.specs.declared.record.NodeId.{NodeId}
 use Rattle.node.specs.declared.record.Edge.{Edge}
 use Rattle.edges.specs.Wiring.{endsAt, taken, dropAt, noPlace, put, wired, pushed}
@@ -24,14 +25,14 @@ drop-fewer es n p h = go (find (endsAt n p) es) refl h
     go none e t = absurd (let z : _≡_ {A = ℕ} 0 1 = cc in omega arith)
     go (some x) e t =
         let i = find-in (endsAt n p) es x e in
-        let fewer = count-keep-lt (λ y. true) (λ y. not (endsAt n p y)) es x (i .0) refl (ap not (i .1)) in
+        let fewer = count-filter-lt (λ y. true) (λ y. not (endsAt n p y)) es x (i .0) refl (ap not (i .1)) in
         omega (arith, fewer, count-all es, count-all (dropAt es n p))
 
 pub drop-none : (es : List Edge) (n : NodeId) (p : ℕ) → taken es n p ≡ false → dropAt es n p ≡ es
 drop-none es n p h = go (find (endsAt n p) es) refl h
   where
     go : (o : Option Edge) → find (endsAt n p) es ≡ o → isSome o ≡ false → dropAt es n p ≡ es
-    go none e t = keep-all (λ y. not (endsAt n p y)) es (λ x i. ap not (find-none (endsAt n p) es x e i))
+    go none e t = filter-all (λ y. not (endsAt n p y)) es (λ x i. ap not (find-none (endsAt n p) es x e i))
     go (some x) e t = absurd (let z : _≡_ {A = ℕ} 0 1 = cc in omega arith)
 
 -- so there is no place exactly where none is left after dropping

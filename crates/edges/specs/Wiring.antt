@@ -5,7 +5,7 @@ use mathlib.Core.List.{List, [], _∷_, _++_}
 use mathlib.Core.Bool.{Bool, not, cond, _&&_, _||_}
 use lib.Dec.{eqb, leb, ltb}
 use lib.ListN.{length}
-use Rattle.lists.specs.Keep.{keep}
+use Rattle.lists.specs.Filter.{filter}
 use Rattle.lists.specs.Find.{find, isSome}
 use Rattle.node.specs.declared.record.NodeId.{NodeId}
 use Rattle.node.specs.declared.record.Edge.{Edge}
@@ -28,7 +28,7 @@ taken es n p = isSome (find (endsAt n p) es)
 
 -- disconnecting: the edge at that port goes
 abbrev pub dropAt : List Edge → NodeId → ℕ → List Edge
-dropAt es n p = keep (λ e. not (endsAt n p e)) es
+dropAt es n p = filter (λ e. not (endsAt n p e)) es
 
 -- connecting: "drops the edge at that port and appends"
 abbrev pub wired : List Edge → Edge → List Edge
@@ -60,4 +60,4 @@ touches ids e = among ids (e .from) || among ids (e .to)
 
 -- nodes go "with their edges"
 abbrev pub dropTouching : List Edge → List ℕ → List Edge
-dropTouching es ids = keep (λ e. not (touches ids e)) es
+dropTouching es ids = filter (λ e. not (touches ids e)) es

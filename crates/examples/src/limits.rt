@@ -1,6 +1,8 @@
 // "Block 128 accepted, 129 refused; 24 nodes accepted, 25 refused. Two more renders and a clearing call: it removes voice 1 and answers 1."
 use crate::show;
 use clearing::free_done_synths;
+use codec::word::number;
+use codec::word::text;
 use engine::spawn::spawn_voice_on_bus_managed;
 use making::make;
 use node::record::NodeId;
@@ -12,8 +14,6 @@ use store::state::Store;
 use voice::policy::Budget;
 use voice::policy::BudgetScope;
 use voice::policy::StealPolicy;
-use wire::word::number;
-use wire::word::text;
 
 fn block(n: usize) {
     let made = make(

@@ -1,5 +1,6 @@
 // Each refusal, by a call of its own. Where nothing may change, the page before and the page after are compared.
 use crate::show;
+use codec::word::text;
 use engine::spawn::spawn_voice_on_bus;
 use engine::spawn::spawn_voice_on_bus_managed;
 use making::make;
@@ -27,7 +28,6 @@ use synthdef::def::SynthDef;
 use voice::policy::Budget;
 use voice::policy::BudgetScope;
 use voice::policy::StealPolicy;
-use wire::word::text;
 
 fn making(rate: f32, block: usize, budget: Budget, table: bool, what: &[u8]) {
     let made = make(

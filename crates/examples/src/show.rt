@@ -1,6 +1,8 @@
 // What a call answered, and what became of the page.
+use codec::word::number;
+use codec::word::text;
+use graph::state::AddAnswer;
 use graph::state::Answer;
-use graph::state::Given;
 use node::refusal::Refusal;
 use node::refusal::refusal_number;
 use page::page;
@@ -9,8 +11,6 @@ use store::answer::Paged;
 use store::answer::Rendered;
 use store::answer::Spawned;
 use store::state::Store;
-use wire::word::number;
-use wire::word::text;
 
 fn refused(r: Refusal) {
     text(b"refused ");
@@ -24,10 +24,10 @@ pub fn answer(a: Answer) {
     }
 }
 
-pub fn given(g: Given) {
+pub fn given(g: AddAnswer) {
     match g {
-        Given::Id(_) => text(b"accepted"),
-        Given::Refused(r) => refused(r),
+        AddAnswer::Id(_) => text(b"accepted"),
+        AddAnswer::Refused(r) => refused(r),
     }
 }
 

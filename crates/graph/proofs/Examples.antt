@@ -36,12 +36,12 @@ plain ports = hostNode bus ports 0 false false
 abbrev voiced : Node → Node
 voiced n = withOwner (record { 0 = 5 }) n
 
-abbrev desk : GraphView
-desk = append (append (append (append (append newGraph (plain 3)) (plain 1)) (plain 1)) (plain 1)) (voiced (plain 1))
+abbrev shared : GraphView
+shared = append (append (append (append (append newGraph (plain 3)) (plain 1)) (plain 1)) (plain 1)) (voiced (plain 1))
 
 -- 1 and 2 feed the bus at 0 and 1, then 3 takes port 0; the voice's node feeds port 2
 abbrev wires : GraphView
-wires = connect (connect (connect (connect (setSink desk (node 0)) (node 1) (node 0) 0) (node 2) (node 0) 1) (node 3) (node 0) 0) (node 4) (node 0) 2
+wires = connect (connect (connect (connect (setSink shared (node 0)) (node 1) (node 0) 0) (node 2) (node 0) 1) (node 3) (node 0) 0) (node 4) (node 0) 2
 
 abbrev number : Option Refusal → Option ℕ
 number = mapO numberOf

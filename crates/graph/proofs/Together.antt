@@ -8,8 +8,9 @@ use mathlib.Core.Option.{Option, none, some}
 use mathlib.Core.Bool.{Bool, true, false, not, _&&_, _||_, or-assoc, or-false}
 use lib.Dec.{eqb}
 use borrow.Author.Tests.{eq-eqb, ne-eqb}
-use Rattle.lists.specs.Keep.{put?, keep, keep-keep, keep-same}
-use Rattle.lists.specs.Find.{or?, find, isSome, keepO}
+use Rattle.lists.specs.Filter.{put?, filter}
+use Rattle.lists.proofs.Filter.{filter-filter, filter-same}
+use Rattle.lists.specs.Find.{or?, find, isSome, filterO}
 use Rattle.node.specs.declared.record.NodeId.{NodeId}
 use Rattle.node.specs.declared.record.Node.{Node}
 use Rattle.node.specs.declared.record.Edge.{Edge}
@@ -54,7 +55,7 @@ listed-one k x = listed-more k x [] ∙ or-false (eqb x k)
 module _ (q p : Node → Bool) where
   -- those that go then, of those that are left
   abbrev later : List Node → List ℕ
-  later ns = idsOf p (keep (λ n. not (q n)) ns)
+  later ns = idsOf p (filter (λ n. not (q n)) ns)
 
   ids-together : (ns : List Node) (x : ℕ) → listed (idsOf (λ n. q n || p n) ns) x ≡ (listed (idsOf q ns) x || listed (later ns) x)
   ids-together [] x = refl
@@ -64,13 +65,13 @@ module _ (q p : Node → Bool) where
       id m = m .id .0
 
       all : List Node
-      all = keep (λ m. q m || p m) ns
+      all = filter (λ m. q m || p m) ns
 
       left : List Node
-      left = keep (λ m. not (q m)) ns
+      left = filter (λ m. not (q m)) ns
 
       go : (a b : Bool) → p n ≡ b → listed (map id all) x ≡ (listed (idsOf q ns) x || listed (idsOf p left) x)
-          → listed (map id (put? (a || b) n all)) x ≡ (listed (map id (put? a n (keep q ns))) x || listed (idsOf p (put? (not a) n left)) x)
+          → listed (map id (put? (a || b) n all)) x ≡ (listed (map id (put? a n (filter q ns))) x || listed (idsOf p (put? (not a) n left)) x)
       go true b e ih =
           listed-more (id n) x (map id all)
           ∙ ap (λ z. eqb x (id n) || z) ih
@@ -81,8 +82,8 @@ module _ (q p : Node → Bool) where
           ∙ ap (λ z. eqb x (id n) || z) ih
           ∙ after (listed (idsOf q ns) x) (listed (idsOf p left) x) (eqb x (id n))
           ∙ ap (λ z. listed (idsOf q ns) x || z) (sym (listed-more (id n) x (idsOf p left)))
-          ∙ ap (λ b. listed (idsOf q ns) x || listed (map id (put? b n (keep p left))) x) (sym e)
-      go false false e ih = ih ∙ ap (λ b. listed (idsOf q ns) x || listed (map id (put? b n (keep p left))) x) (sym e)
+          ∙ ap (λ b. listed (idsOf q ns) x || listed (map id (put? b n (filter p left))) x) (sym e)
+      go false false e ih = ih ∙ ap (λ b. listed (idsOf q ns) x || listed (map id (put? b n (filter p left))) x) (sym e)
 
   module _ (ns : List Node) where
     touch-together : (e : Edge) → touches (idsOf (λ n. q n || p n) ns) e ≡ (touches (idsOf q ns) e || touches (later ns) e)
@@ -91,20 +92,20 @@ module _ (q p : Node → Bool) where
         ∙ ap (λ z. (listed (idsOf q ns) (e .from .0) || listed (later ns) (e .from .0)) || z) (ids-together ns (e .to .0))
         ∙ pairs (listed (idsOf q ns) (e .from .0)) (listed (later ns) (e .from .0)) (listed (idsOf q ns) (e .to .0)) (listed (later ns) (e .to .0))
 
-    sink-together : (o : Option NodeId) → keepO (λ k. not (among (later ns) k)) (keepO (λ k. not (among (idsOf q ns) k)) o) ≡ keepO (λ k. not (among (idsOf (λ n. q n || p n) ns) k)) o
+    sink-together : (o : Option NodeId) → filterO (λ k. not (among (later ns) k)) (filterO (λ k. not (among (idsOf q ns) k)) o) ≡ filterO (λ k. not (among (idsOf (λ n. q n || p n) ns) k)) o
     sink-together none = refl
     sink-together (some k) = go (among (idsOf q ns) k) ∙ ap (λ b. or? (not b) k none) (sym (ids-together ns (k .0)))
       where
-        go : (b : Bool) → keepO (λ j. not (among (later ns) j)) (or? (not b) k none) ≡ or? (not (b || among (later ns) k)) k none
+        go : (b : Bool) → filterO (λ j. not (among (later ns) j)) (or? (not b) k none) ≡ or? (not (b || among (later ns) k)) k none
         go true = refl
         go false = refl
 
   pub without-together : (v : GraphView) → without p (without q v) ≡ without (λ n. q n || p n) v
   without-together v =
       same-view _ _
-      (keep-keep (λ n. not (p n)) (λ n. not (q n)) (v .nodes) ∙ keep-same _ _ (v .nodes) (λ n i. neither (q n) (p n)))
-      (keep-keep (λ e. not (touches (later (v .nodes)) e)) (λ e. not (touches (idsOf q (v .nodes)) e)) (v .edges)
-      ∙ keep-same _ _ (v .edges) (λ e i. neither (touches (idsOf q (v .nodes)) e) (touches (later (v .nodes)) e) ∙ ap not (sym (touch-together (v .nodes) e))))
+      (filter-filter (λ n. not (p n)) (λ n. not (q n)) (v .nodes) ∙ filter-same _ _ (v .nodes) (λ n i. neither (q n) (p n)))
+      (filter-filter (λ e. not (touches (later (v .nodes)) e)) (λ e. not (touches (idsOf q (v .nodes)) e)) (v .edges)
+      ∙ filter-same _ _ (v .edges) (λ e i. neither (touches (idsOf q (v .nodes)) e) (touches (later (v .nodes)) e) ∙ ap not (sym (touch-together (v .nodes) e))))
       (sink-together (v .nodes) (v .sink))
       refl refl refl
 

@@ -3,8 +3,8 @@
 use Prim.Native.Nat.{ℕ, _+_}
 use mathlib.Core.List.{List, [], _∷_, _++_, map}
 use mathlib.Core.Bool.{Bool, false, not}
-use Rattle.lists.specs.Keep.{keep}
-use Rattle.lists.specs.Find.{keepO}
+use Rattle.lists.specs.Filter.{filter}
+use Rattle.lists.specs.Find.{filterO}
 use Rattle.node.specs.declared.record.NodeId.{NodeId}
 use Rattle.node.specs.declared.record.VoiceId.{VoiceId}
 use Rattle.node.specs.declared.record.Node.{Node}
@@ -41,15 +41,15 @@ setSink v k = withSink v k
 
 -- the ids of the nodes that pass the test
 abbrev pub idsOf : (Node → Bool) → List Node → List ℕ
-idsOf goes ns = map (λ n. n .id .0) (keep goes ns)
+idsOf goes ns = map (λ n. n .id .0) (filter goes ns)
 
 -- the nodes that pass the test go, with every edge that touches them, and the sink if it is one of them
 abbrev pub without : (Node → Bool) → GraphView → GraphView
 without goes v =
     record {
-      nodes = keep (λ n. not (goes n)) (v .nodes);
+      nodes = filter (λ n. not (goes n)) (v .nodes);
       edges = dropTouching (v .edges) (idsOf goes (v .nodes));
-      sink = keepO (λ k. not (among (idsOf goes (v .nodes)) k)) (v .sink);
+      sink = filterO (λ k. not (among (idsOf goes (v .nodes)) k)) (v .sink);
       prepared = false;
       order = v .order;
       next = v .next;

@@ -8,15 +8,15 @@ use Rattle.graph.specs.declared.state.Sink.{Sink}
 use Rattle.graph.specs.declared.state.Sink.the-variants as Sink
 use Rattle.graph.specs.declared.state.Answer.{Answer}
 use Rattle.graph.specs.declared.state.Answer.the-variants as Answer
-use Rattle.graph.specs.declared.nodes.Seen.{Seen}
+use Rattle.graph.specs.declared.nodes.FoundNode.{FoundNode}
 
 abbrev pub sinkOf : Sink → Option NodeId
 sinkOf (Sink.Node k) = some k
 sinkOf Sink.Nothing = none
 
 -- a row that was looked for
-abbrev pub seenOf : Seen → Option Node
-seenOf s = or? (s .live) (s .node) none
+abbrev pub foundNodeOf : FoundNode → Option Node
+foundNodeOf s = or? (s .live) (s .node) none
 
 -- the answer of a test
 abbrev pub answerOf : Option Refusal → Answer

@@ -1,7 +1,7 @@
 use node::record::Node;
 
 // A row that was looked for: `node` is it, if it is `live`.
-pub struct Seen {
+pub struct FoundNode {
     pub live: bool,
     pub node: Node,
 }

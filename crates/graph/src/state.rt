@@ -14,7 +14,7 @@ pub enum Answer {
 }
 
 // What adding a node answers.
-pub enum Given {
+pub enum AddAnswer {
     Id(NodeId),
     Refused(Refusal),
 }

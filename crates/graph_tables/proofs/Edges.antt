@@ -6,7 +6,7 @@ use mathlib.Core.Bool.{true, false, not}
 use lib.Dec.{leb}
 use lib.ListN.{length}
 use borrow.Author.Tests.{not-true, le-leb}
-use Rattle.lists.specs.Member.{and-right}
+use Rattle.lists.proofs.Member.{and-right}
 use Rattle.node.specs.declared.record.Edge.{Edge}
 use Rattle.edges.specs.Wiring.{taken, noPlace, dropAt, put}
 use Rattle.edges.proofs.Wiring.{drop-none, place-left, put-full}

@@ -6,8 +6,8 @@ use mathlib.Core.List.{List}
 use mathlib.Core.Option.{Option}
 use mathlib.Core.Bool.{Bool, not}
 use lib.ListN.{length, take, getD}
-use Rattle.lists.specs.Keep.{keep}
-use Rattle.lists.specs.Find.{keepO}
+use Rattle.lists.specs.Filter.{filter}
+use Rattle.lists.specs.Find.{filterO}
 use Rattle.words.specs.Place.{Holds}
 use Rattle.node.specs.declared.record.Node.{Node}
 use Rattle.node.specs.declared.record.NodeId.{NodeId}
@@ -29,16 +29,16 @@ leaves Leaving.Voices voices n = ownedByAny voices n
 
 -- of the first n nodes of the words ns: those that stay, and the ids of those that go
 pub record Parts (ns new gone : List ℕ) (n : ℕ) (goes : Node → Bool) (r : Parted) : Type 0 where
-  pub stay : Holds (nodesIn new) (r .stay) (keep (λ x. not (goes x)) (take n (nodesIn ns)))
+  pub stay : Holds (nodesIn new) (r .stay) (filter (λ x. not (goes x)) (take n (nodesIn ns)))
   pub leave : take (r .gone) gone ≡ idsOf goes (take n (nodesIn ns))
   pub fits : r .gone ≤ 512
   pub long : length gone ≡ 512
 
 -- the first n nodes of ns and the first m edges of es, with a sink: what is left of them when these nodes go
 pub record Removed (ns es new-ns new-es : List ℕ) (n m : ℕ) (heard : Option NodeId) (goes : Node → Bool) (r : Left) : Type 0 where
-  pub nodes : Holds (nodesIn new-ns) (r .nodes) (keep (λ x. not (goes x)) (take n (nodesIn ns)))
+  pub nodes : Holds (nodesIn new-ns) (r .nodes) (filter (λ x. not (goes x)) (take n (nodesIn ns)))
   pub edges : Holds (edgesIn new-es) (r .edges) (dropTouching (take m (edgesIn es)) (idsOf goes (take n (nodesIn ns))))
-  pub sink : sinkOf (r .sink) ≡ keepO (λ k. not (among (idsOf goes (take n (nodesIn ns))) k)) heard
+  pub sink : sinkOf (r .sink) ≡ filterO (λ k. not (among (idsOf goes (take n (nodesIn ns))) k)) heard
 
 -- A mark for each remainder of an id: without a mark there, an id is none of these; with one, it is looked for. Nothing here
 -- has to be believed: it is what the search by remainders needs.

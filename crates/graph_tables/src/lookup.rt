@@ -1,4 +1,4 @@
-use graph::nodes::Seen;
+use graph::nodes::FoundNode;
 use graph_rows::node_row::Brief;
 use graph_rows::node_row::NodeTable;
 use graph_rows::node_row::brief_at;
@@ -15,7 +15,7 @@ ghost use lib.ListN.{length, take};
 ghost use Rattle.words.specs.Place.{placeOf, Holds};
 ghost use Rattle.edges.specs.Wiring.{pushed};
 ghost use Rattle.graph.specs.Node.{nodeLimit, isNode, nodeAt, replaced};
-ghost use Rattle.graph.specs.Tables.{seenOf};
+ghost use Rattle.graph.specs.Tables.{foundNodeOf};
 ghost use Rattle.graph_rows.specs.Node.{nodesIn, briefOf};
 
 // How many nodes live.
@@ -68,17 +68,17 @@ pub fn brief_of(nodes: &NodeTable, count: usize, id: NodeId) -> Brief
 }
 
 // The node of an id, if it lives.
-fn node_in(t: &[u32], count: usize, id: NodeId) -> Seen
-    ensures { λ r. ⌜ seenOf r ≡ nodeAt (take count (nodesIn (now (t .entry)))) id ⌝ }
+fn node_in(t: &[u32], count: usize, id: NodeId) -> FoundNode
+    ensures { λ r. ⌜ foundNodeOf r ≡ nodeAt (take count (nodesIn (now (t .entry)))) id ⌝ }
 {
     let i = row_in(t, count, id);
     let live = i < count_in(t, count);
     let node = node_at(t, i);
-    Seen { live, node }
+    FoundNode { live, node }
 }
 
-pub fn node_of(nodes: &NodeTable, count: usize, id: NodeId) -> Seen
-    ensures { λ r. ⌜ seenOf r ≡ nodeAt (take count (nodesIn (now (nodes .entry)))) id ⌝ }
+pub fn node_of(nodes: &NodeTable, count: usize, id: NodeId) -> FoundNode
+    ensures { λ r. ⌜ foundNodeOf r ≡ nodeAt (take count (nodesIn (now (nodes .entry)))) id ⌝ }
 {
     node_in(nodes, count, id)
 }

@@ -16,7 +16,7 @@ ghost use mathlib.Core.List.{[]};
 ghost use mathlib.Core.Bool.{not};
 ghost use Prim.Native.Nat.{_≤_};
 ghost use lib.ListN.{length, take, getD};
-ghost use Rattle.lists.specs.Find.{keepO};
+ghost use Rattle.lists.specs.Find.{filterO};
 ghost use Rattle.words.specs.Place.{Holds};
 ghost use Rattle.edges.specs.Wiring.{listed, among, touches, dropTouching};
 ghost use Rattle.graph.specs.Node.{isNode, ownedBy, ownedByAny};
@@ -161,7 +161,7 @@ fn drop_touching(t: &mut [u32], count: usize, ids: &[u32]) -> usize
 
 // The sink, or none if it is one of `ids`.
 fn keep_sink(sink: Sink, ids: &[u32]) -> Sink
-    ensures { λ r. ⌜ sinkOf r ≡ keepO (λ k. not (among (now (ids .entry)) k)) (sinkOf sink) ⌝ }
+    ensures { λ r. ⌜ sinkOf r ≡ filterO (λ k. not (among (now (ids .entry)) k)) (sinkOf sink) ⌝ }
 {
     match sink {
         Sink::Node(k) => {

@@ -8,7 +8,7 @@ use mathlib.Core.Bool.{Bool, true, false, not, _||_, true≢false}
 use lib.Dec.{eqb, ltb}
 use lib.ListN.{length}
 use borrow.Author.Tests.{eqb-true, eqb-false, ltb-false, leb-false, not-false}
-use Rattle.lists.specs.Member.{none-some}
+use Rattle.lists.proofs.Member.{none-some}
 use Rattle.node.specs.declared.record.NodeId.{NodeId}
 use Rattle.node.specs.declared.record.Node.{Node}
 use Rattle.node.specs.declared.refusal.Refusal.{Refusal}
@@ -19,7 +19,7 @@ use Rattle.graph.specs.Refuse.{when, hostRefusal, dead}
 use Rattle.synthdef.specs.Limits.{allowed}
 use Rattle.synthdef.specs.declared.def.SynthDef.{SynthDef}
 use Rattle.store.specs.declared.voices.Voice.{Voice}
-use Rattle.model.specs.Desk.{Desk}
+use Rattle.model.specs.SharedState.{SharedState}
 use Rattle.model.specs.Refuse.{orElse, noHeadroom, noIds, spawnRefusal}
 
 pub when-none : (b : Bool) (r : Refusal) (o : Option Refusal) → when b r o ≡ none → (b ≡ false) × (o ≡ none)
@@ -45,7 +45,7 @@ host-at g k h = go (nodeAt (g .nodes) k) refl (when-none (dead (nodeAt (g .nodes
     go none e r = absurd (true≢false (r .0))
     go (some n) e r = (n, e, eqb-true _ _ (not-false _ (when-none (ofVoice (some n)) VoiceNode none (r .1) .0)))
 
-pub record Allowed (d : Desk) (vs : List Voice) (def : SynthDef) (bus : NodeId) : Type 0 where
+pub record Allowed (d : SharedState) (vs : List Voice) (def : SynthDef) (bus : NodeId) : Type 0 where
   pub definition : allowed def ≡ true
   pub host : HostAt (d .graph .nodes) bus
   pub ports : 0 < portsOf (nodeAt (d .graph .nodes) bus)
@@ -54,7 +54,7 @@ pub record Allowed (d : Desk) (vs : List Voice) (def : SynthDef) (bus : NodeId) 
   pub voices : length vs < 64
   pub ids-left : d .spawned < 18446744073709551615
 
-pub spawn-allowed : (d : Desk) (vs : List Voice) (def : SynthDef) (bus : NodeId) → spawnRefusal d vs def bus ≡ none → Allowed d vs def bus
+pub spawn-allowed : (d : SharedState) (vs : List Voice) (def : SynthDef) (bus : NodeId) → spawnRefusal d vs def bus ≡ none → Allowed d vs def bus
 spawn-allowed d vs def bus h =
     let h₁ = when-none (not (allowed def)) DefinitionLimits _ h in
     let h₂ = orElse-none (hostRefusal (d .graph) bus) _ (h₁ .1) in

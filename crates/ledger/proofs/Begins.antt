@@ -7,9 +7,10 @@ use mathlib.Core.List.{List, [], _∷_, _++_}
 use mathlib.Core.Option.{Option, none, some}
 use mathlib.Core.Bool.{Bool, true, false, not, cond}
 use lib.ListN.{length}
-use Rattle.lists.specs.Member.{In, in-snoc, and-left}
+use Rattle.lists.specs.Member.{In}
+use Rattle.lists.proofs.Member.{in-snoc, and-left}
 use Rattle.lists.specs.Find.{find}
-use Rattle.lists.specs.Keep.{in-keep}
+use Rattle.lists.proofs.Filter.{in-filter}
 use Rattle.lists.specs.Count.{more}
 use Rattle.node.specs.declared.refusal.Refusal.{Refusal}
 use Rattle.node.specs.declared.refusal.Refusal.the-variants.{Rejected, NoPort, ClockEnd}
@@ -23,23 +24,23 @@ use Rattle.store.specs.declared.voices.Voice.{Voice}
 use Rattle.store.specs.declared.voices.VoiceState.{VoiceState}
 use Rattle.store.specs.declared.voices.VoiceState.the-variants.{Tracked, Fading, Loose}
 use Rattle.store.specs.declared.voices.Fade.{Fade}
-use Rattle.model.specs.Desk.{sounding}
+use Rattle.model.specs.SharedState.{sounding}
 use Rattle.model.specs.Voice.{isVoice, isTracked, withState, movedFade}
 use Rattle.model.specs.Refuse.{spawnRefusal, reportRefusal}
-use Rattle.model.specs.Spawn.{newcomer, stateUnder, tries, fadeOf, Spawn}
+use Rattle.model.specs.Spawn.{newVoice, stateUnder, tries, fadeOf, Spawn}
 use Rattle.model.specs.Order.{order}
-use Rattle.model.specs.Render.{prepareOutcome, prepareDesk, isFree, anyFree, heard, answerAfter, isSounding, due, clockEnds}
+use Rattle.model.specs.Render.{prepareOutcome, prepareShared, isFree, anyFree, heard, answerAfter, isSounding, due, clockEnds}
 use Rattle.model.specs.Call.{Call, Answer, scheduleRefusal, readyAnswer}
 use Rattle.model.specs.Call as call
-use Rattle.ledger.specs.Ledger.{Ledger, Landed, portFree, portHeld, gone, stolen, stealVoice, landOr, place, settle, admitted, admissionOn, freed, free}
+use Rattle.ledger.specs.Ledger.{Ledger, SpawnResult, portFree, portHeld, withoutVoice, stolen, stealVoice, instantiateOr, place, placeWithinBudget, admitted, admissionOn, freed, free}
 use Rattle.ledger.specs.Ledger as ledger
-use Rattle.ledger.specs.Clear.{goneAll, endedVoices, silentVoices}
-use Rattle.ledger.specs.Render.{happen, happenAll, countedIf, preparedIf, rested}
+use Rattle.ledger.specs.Clear.{withoutVoices, endedVoices, silentVoices}
+use Rattle.ledger.specs.Render.{applyEvent, applyEvents, countedIf, preparedIf, rested}
 use Rattle.ledger.specs.Render as rendering
 use Rattle.ledger.specs.Call.{Step, unless, step, seen}
 use Rattle.ledger.specs.Claim.{tracks, isSounded}
 use Rattle.ledger.proofs.Words.{beat}
-use Rattle.ledger.proofs.Steps.{place-kept, atDesk}
+use Rattle.ledger.proofs.Preserved.{place-kept, atShared}
 use Rattle.ledger.proofs.Managed.{IdsOf, managed-kept}
 use Rattle.ledger.proofs.Records.{tracked-state, was-moved, begun, fade-inj, under-fading, loose-fading}
 use Rattle.ledger.proofs.Leaves.{answer-silent}
@@ -47,27 +48,27 @@ use Rattle.ledger.proofs.Leaves.{answer-silent}
 -- the voice v of the ledger before the call x, which answered a
 pub data From (l : Ledger) (a : Answer) (v : Voice) (f : Fade) : Call → Type 0 where
   went-on : {x : Call} (g : Fade) → In (withState (Fading g) v) (l .voices) → f ≡ beat a g → From l a v f x
-  began : (spawn : Spawn) → In (withState Tracked v) (l .voices) → f ≡ fadeOf (l .desk) → From l a v f (call.spawnManaged spawn)
+  began : (spawn : Spawn) → In (withState Tracked v) (l .voices) → f ≡ fadeOf (l .shared) → From l a v f (call.spawnManaged spawn)
 
 -- ---- what goes leaves the others as they were
-goneAll-sub : (gs : List Voice) (m : Ledger) (v : Voice) → In v (goneAll gs m .voices) → In v (m .voices)
+goneAll-sub : (gs : List Voice) (m : Ledger) (v : Voice) → In v (withoutVoices gs m .voices) → In v (m .voices)
 goneAll-sub [] m v i = i
-goneAll-sub (g ∷ gs) m v i = in-keep (λ x. not (isVoice (g .id) x)) (m .voices) v (goneAll-sub gs (gone (g .id) m) v i) .0
+goneAll-sub (g ∷ gs) m v i = in-filter (λ x. not (isVoice (g .id) x)) (m .voices) v (goneAll-sub gs (withoutVoice (g .id) m) v i) .0
 
 freed-sub : (o : Option Voice) (m : Ledger) (v : Voice) → In v (freed o m .voices) → In v (m .voices)
 freed-sub none m v i = i
-freed-sub (some w) m v i = in-keep (λ x. not (isVoice (w .id) x)) (m .voices) v i .0
+freed-sub (some w) m v i = in-filter (λ x. not (isVoice (w .id) x)) (m .voices) v i .0
 
-happen-sub : (e : Event) (m : Ledger) (v : Voice) → In v (happen e m .voices) → In v (m .voices)
+happen-sub : (e : Event) (m : Ledger) (v : Voice) → In v (applyEvent e m .voices) → In v (m .voices)
 happen-sub e m v i = go (isFree (e .action)) i
   where
-    go : (b : Bool) → In v (cond b (free (e .voice) m) (atDesk m (order (e .voice) (paramOrder e .name) (paramOrder e .order) (m .voices) (m .desk) .desk)) .voices) → In v (m .voices)
+    go : (b : Bool) → In v (cond b (free (e .voice) m) (atShared m (order (e .voice) (paramOrder e .name) (paramOrder e .order) (m .voices) (m .shared) .shared)) .voices) → In v (m .voices)
     go true i = freed-sub (find (isVoice (e .voice)) (m .voices)) m v i
     go false i = i
 
-happenAll-sub : (q : List Event) (m : Ledger) (v : Voice) → In v (happenAll q m .voices) → In v (m .voices)
+happenAll-sub : (q : List Event) (m : Ledger) (v : Voice) → In v (applyEvents q m .voices) → In v (m .voices)
 happenAll-sub [] m v i = i
-happenAll-sub (e ∷ q) m v i = happen-sub e m v (happenAll-sub q (happen e m) v i)
+happenAll-sub (e ∷ q) m v i = happen-sub e m v (happenAll-sub q (applyEvent e m) v i)
 
 module _ (v : Voice) (f : Fade) (ph : v .state ≡ Fading f) where
   itself : (vs : List Voice) → In v vs → In (withState (Fading f) v) vs
@@ -90,73 +91,73 @@ module _ (v : Voice) (f : Fade) (ph : v .state ≡ Fading f) where
 
   from-block : (b : Bool) (l m : Ledger) → ((u : Voice) → In u (m .voices) → In u (l .voices)) → In v (preparedIf b m .ledger .voices) → From l (call.rendered (preparedIf b m .answer)) v f call.render
   from-block true l m sub i =
-      from-counted (isSounding (answerAfter (prepareOutcome (m .desk) .answer) (prepareDesk (m .desk)))) l call.render (m .voices) sub _ refl i
-  from-block false l m sub i = from-counted (isSounding (heard (sounding (m .desk)))) l call.render (m .voices) sub _ refl i
+      from-counted (isSounding (answerAfter (prepareOutcome (m .shared) .answer) (prepareShared (m .shared)))) l call.render (m .voices) sub _ refl i
+  from-block false l m sub i = from-counted (isSounding (heard (sounding (m .shared)))) l call.render (m .voices) sub _ refl i
 
   from-render : (l : Ledger) → In v (step call.render l .ledger .voices) → From l (step call.render l .answer) v f call.render
-  from-render l i = go (clockEnds (l .desk)) i
+  from-render l i = go (clockEnds (l .shared)) i
     where
       q : List Event
-      q = due (l .desk)
+      q = due (l .shared)
 
       heardOf : Bool → rendering.Heard
-      heardOf b = cond b (record { answer = Rendered.Refused ClockEnd; ledger = l }) (preparedIf (anyFree q) (happenAll q (rested l)))
+      heardOf b = cond b (record { answer = Rendered.Refused ClockEnd; ledger = l }) (preparedIf (anyFree q) (applyEvents q (rested l)))
 
       go : (b : Bool) → In v (heardOf b .ledger .voices) → From l (call.rendered (heardOf b .answer)) v f call.render
       go true i = old l call.render (call.rendered (Rendered.Refused ClockEnd)) refl i
-      go false i = from-block (anyFree q) l (happenAll q (rested l)) (happenAll-sub q (rested l)) i
+      go false i = from-block (anyFree q) l (applyEvents q (rested l)) (happenAll-sub q (rested l)) i
 
   -- ---- the spawns
   not-newcomer : (s : VoiceState) → ((g : Fade) → s ≡ Fading g → ⊥) → (vs : List Voice) (n : Voice) → n .state ≡ s → In v (vs ++ (n ∷ [])) → In v vs
   not-newcomer s h vs n e i = ⊎-elim (λ j. j) (λ z. absurd (h f (sym e ∙ ap (λ (x : Voice). x .state) (sym z) ∙ ph))) (in-snoc vs n v i)
 
-  from-settle : (spawn : Spawn) (m : Ledger) → In v (settle spawn m .ledger .voices) → In v (m .voices)
+  from-settle : (spawn : Spawn) (m : Ledger) → In v (placeWithinBudget spawn m .ledger .voices) → In v (m .voices)
   from-settle spawn m =
-      place-kept spawn (stateUnder (m .desk .config .budget)) (λ n z. In v (z .voices) → In v (m .voices)) (λ r. In v (r .ledger .voices) → In v (m .voices))
-      (λ n z p e q i. q (not-newcomer (stateUnder (m .desk .config .budget)) (under-fading (m .desk .config .budget)) (z .voices) (newcomer spawn _ p (z .desk)) refl i)) (λ z e q. q) (λ n z e g q. q)
-      (λ n z w e g q i. q (in-keep (λ x. not (isVoice (w .id) x)) (z .voices) v i .0)) (tries (m .desk .config .budget) (m .voices)) m (λ i. i)
+      place-kept spawn (stateUnder (m .shared .config .budget)) (λ n z. In v (z .voices) → In v (m .voices)) (λ r. In v (r .ledger .voices) → In v (m .voices))
+      (λ n z p e q i. q (not-newcomer (stateUnder (m .shared .config .budget)) (under-fading (m .shared .config .budget)) (z .voices) (newVoice spawn _ p (z .shared)) refl i)) (λ z e q. q) (λ n z e g q. q)
+      (λ n z w e g q i. q (in-filter (λ x. not (isVoice (w .id) x)) (z .voices) v i .0)) (tries (m .shared .config .budget) (m .voices)) m (λ i. i)
 
-  from-steal : (l : Ledger) → IdsOf l → (w : Voice) → In w (l .voices) → isTracked (w .state) ≡ true → In v (stealVoice w l .voices) → In v (l .voices) ⊎ (In (withState Tracked v) (l .voices) × (f ≡ fadeOf (l .desk)))
+  from-steal : (l : Ledger) → IdsOf l → (w : Voice) → In w (l .voices) → isTracked (w .state) ≡ true → In v (stealVoice w l .voices) → In v (l .voices) ⊎ (In (withState Tracked v) (l .voices) × (f ≡ fadeOf (l .shared)))
   from-steal l d w j t = go (portHeld w l)
     where
-      self : v ≡ withState (Fading (fadeOf (l .desk))) w → In (withState Tracked v) (l .voices) × (f ≡ fadeOf (l .desk))
+      self : v ≡ withState (Fading (fadeOf (l .shared))) w → In (withState Tracked v) (l .voices) × (f ≡ fadeOf (l .shared))
       self e =
           let s : w ≡ withState Tracked v = ap (λ s. withState s w) (tracked-state (w .state) t) ∙ ap (withState Tracked) (sym e) in
           (subst (λ z. In z (l .voices)) s j, fade-inj (sym ph ∙ ap (λ (x : Voice). x .state) e))
 
-      go : (o : Option ℕ) → In v (stolen w o l .voices) → In v (l .voices) ⊎ (In (withState Tracked v) (l .voices) × (f ≡ fadeOf (l .desk)))
-      go none i = inl (in-keep (λ x. not (isVoice (w .id) x)) (l .voices) v i .0)
-      go (some p) i = ⊎-elim (λ e. inr (self e)) (λ z. inl (z .0)) (begun d w j (fadeOf (l .desk)) v i)
+      go : (o : Option ℕ) → In v (stolen w o l .voices) → In v (l .voices) ⊎ (In (withState Tracked v) (l .voices) × (f ≡ fadeOf (l .shared)))
+      go none i = inl (in-filter (λ x. not (isVoice (w .id) x)) (l .voices) v i .0)
+      go (some p) i = ⊎-elim (λ e. inr (self e)) (λ z. inl (z .0)) (begun d w j (fadeOf (l .shared)) v i)
 
   from-managed : (spawn : Spawn) (l : Ledger) → IdsOf l → In v (step (call.spawnManaged spawn) l .ledger .voices)
       → From l (step (call.spawnManaged spawn) l .answer) v f (call.spawnManaged spawn)
-  from-managed spawn l d = go (spawnRefusal (l .desk) (l .voices) (spawn .def) (spawn .bus))
+  from-managed spawn l d = go (spawnRefusal (l .shared) (l .voices) (spawn .def) (spawn .bus))
     where
-      R : Landed → Type 0
+      R : SpawnResult → Type 0
       R r = In v (r .ledger .voices) → From l (call.spawned (r .answer)) v f (call.spawnManaged spawn)
 
-      keeps : (r : Landed) → In v (l .voices) → From l (call.spawned (r .answer)) v f (call.spawnManaged spawn)
+      keeps : (r : SpawnResult) → In v (l .voices) → From l (call.spawned (r .answer)) v f (call.spawnManaged spawn)
       keeps r i = old l (call.spawnManaged spawn) (call.spawned (r .answer)) refl i
 
       go : (o : Option Refusal) → R (ledger.unless o l (admitted (admissionOn (spawn .bus) l) spawn l))
       go (some n) = keeps (ledger.refused n l)
       go none =
-          managed-kept spawn R l d (λ h i. keeps (ledger.refused Rejected l) i) (λ h i. keeps (settle spawn l) (from-settle spawn l i))
+          managed-kept spawn R l d (λ h i. keeps (ledger.refused Rejected l) i) (λ h i. keeps (placeWithinBudget spawn l) (from-settle spawn l i))
           (λ p w h u j t i.
-          ⊎-elim (λ k. keeps (settle spawn (stealVoice u l)) k) (λ z. began spawn (z .0) (z .1)) (from-steal l d u j (and-left (tracks u) _ t) (from-settle spawn (stealVoice u l) i)))
+          ⊎-elim (λ k. keeps (placeWithinBudget spawn (stealVoice u l)) k) (λ z. began spawn (z .0) (z .1)) (from-steal l d u j (and-left (tracks u) _ t) (from-settle spawn (stealVoice u l) i)))
 
   pub comes : (x : Call) (l : Ledger) → IdsOf l → In v (step x l .ledger .voices) → From l (step x l .answer) v f x
-  comes (call.addNode kind ports required values glides) l d i = guarded (addRefusal (l .desk .graph) kind ports required) _ l _ i (λ j. old l _ _ refl j)
-  comes (call.removeNode k) l d i = guarded (hostRefusal (l .desk .graph) k) _ l _ i (λ j. old l _ _ refl j)
-  comes (call.connect a b p) l d i = guarded (connectRefusal (l .desk .graph) a b p) _ l _ i (λ j. old l _ _ refl j)
-  comes (call.disconnect b p) l d i = guarded (disconnectRefusal (l .desk .graph) b p) _ l _ i (λ j. old l _ _ refl j)
-  comes (call.setSink k) l d i = guarded (hostRefusal (l .desk .graph) k) _ l _ i (λ j. old l _ _ refl j)
+  comes (call.addNode kind ports required values glides) l d i = guarded (addRefusal (l .shared .graph) kind ports required) _ l _ i (λ j. old l _ _ refl j)
+  comes (call.removeNode k) l d i = guarded (hostRefusal (l .shared .graph) k) _ l _ i (λ j. old l _ _ refl j)
+  comes (call.connect a b p) l d i = guarded (connectRefusal (l .shared .graph) a b p) _ l _ i (λ j. old l _ _ refl j)
+  comes (call.disconnect b p) l d i = guarded (disconnectRefusal (l .shared .graph) b p) _ l _ i (λ j. old l _ _ refl j)
+  comes (call.setSink k) l d i = guarded (hostRefusal (l .shared .graph) k) _ l _ i (λ j. old l _ _ refl j)
   comes (call.spawnManaged spawn) l d i = from-managed spawn l d i
-  comes (call.spawnLoose spawn) l d i = go (spawnRefusal (l .desk) (l .voices) (spawn .def) (spawn .bus)) i
+  comes (call.spawnLoose spawn) l d i = go (spawnRefusal (l .shared) (l .voices) (spawn .def) (spawn .bus)) i
     where
-      two : (o : Option ℕ) → In v (landOr o none spawn Loose l (ledger.refused NoPort) .ledger .voices) → In v (l .voices)
+      two : (o : Option ℕ) → In v (instantiateOr o none spawn Loose l (ledger.refused NoPort) .ledger .voices) → In v (l .voices)
       two none i = i
-      two (some p) i = not-newcomer Loose loose-fading (l .voices) (newcomer spawn Loose p (l .desk)) refl i
+      two (some p) i = not-newcomer Loose loose-fading (l .voices) (newVoice spawn Loose p (l .shared)) refl i
 
       go : (o : Option Refusal) → In v (ledger.unless o l (place 0 spawn Loose l) .ledger .voices)
           → From l (call.spawned (ledger.unless o l (place 0 spawn Loose l) .answer)) v f (call.spawnLoose spawn)
@@ -164,12 +165,12 @@ module _ (v : Voice) (f : Fade) (ph : v .state ≡ Fading f) where
       go none i = old l _ _ refl (two (portFree (spawn .bus) l) i)
   comes (call.free w) l d i = old l _ _ refl (freed-sub (find (isVoice w) (l .voices)) l v i)
   comes call.clear l d i =
-      let m = goneAll (endedVoices l) l in
+      let m = withoutVoices (endedVoices l) l in
       old l _ _ refl (goneAll-sub (endedVoices l) l v (goneAll-sub (silentVoices m) m v i))
   comes (call.order w name o) l d i = old l _ _ refl i
-  comes (call.schedule t w name a) l d i = guarded (scheduleRefusal (l .desk .events)) _ l _ i (λ j. old l _ _ refl j)
-  comes (call.report k channels samples flag) l d i = guarded (reportRefusal (l .desk) (l .voices) k channels (length samples)) _ l _ i (λ j. old l _ _ refl j)
-  comes call.prepare l d i = go (prepareOutcome (l .desk) .answer)
+  comes (call.schedule t w name a) l d i = guarded (scheduleRefusal (l .shared .events)) _ l _ i (λ j. old l _ _ refl j)
+  comes (call.report k channels samples flag) l d i = guarded (reportRefusal (l .shared) (l .voices) k channels (length samples)) _ l _ i (λ j. old l _ _ refl j)
+  comes call.prepare l d i = go (prepareOutcome (l .shared) .answer)
     where
       go : (r : Readiness) → From l (readyAnswer r) v f call.prepare
       go Ready = old l _ _ refl i

@@ -8,7 +8,8 @@ use mathlib.Core.Option.{some}
 use mathlib.Core.Bool.{true}
 use lib.Dec.{leb}
 use lib.ListN.{length}
-use Rattle.lists.specs.Member.{In, in-of-map}
+use Rattle.lists.specs.Member.{In}
+use Rattle.lists.proofs.Member.{in-of-map}
 use Rattle.lists.specs.Count.{count}
 use Rattle.bus.specs.Fade.{fadeLength}
 use Rattle.store.specs.declared.config.Config.{Config}
@@ -25,9 +26,9 @@ use Rattle.model.specs.Call as call
 use Rattle.ledger.specs.Ledger.{newLedger}
 use Rattle.ledger.specs.Claim.{Claim, Holds, voiceIds, nodeIds, Stolen, since, after, ledgerAfter, roundedUp, holderAt}
 use Rattle.ledger.proofs.Words as words
-use Rattle.ledger.proofs.Agree.{runs, kept-new}
+use Rattle.ledger.proofs.Simulation.{runs, kept-new}
 use Rattle.ledger.proofs.Made.{made}
-use Rattle.ledger.proofs.Room.{room-run}
+use Rattle.ledger.proofs.Capacity.{room-run}
 use Rattle.ledger.proofs.Budget.{within-budget, without-budget, nobody-reclaimed}
 use Rattle.ledger.proofs.Nodes.{own-run, own-new}
 use Rattle.ledger.proofs.Records.{recorded-run, recorded-new}
@@ -65,8 +66,8 @@ module _ (c : Config) (block : 0 < c .block) (fits : fadeLength (c .rate) ≤ 18
         split = s .split;
         tracked = subst (λ (m : Model). In (withState Tracked v) (m .voices)) (sym (store-after c fits (s .before)))
             (subst (λ u. In (withState Tracked u) (map (shown c) (ledgerAfter c (s .before) .voices))) (sym (w .is)) (in-of-map (shown c) (ledgerAfter c (s .before) .voices) (withState Tracked (w .voice)) (s .tracked)));
-        start = ap (λ (g : Fade). g .start) (w .moves) ∙ s .start ∙ ap (λ (m : Model). m .desk .clock) (sym (store-after c fits (s .before)));
-        number = ap (λ (g : Fade). g .number) (w .moves) ∙ s .number ∙ ap (λ (m : Model). m .desk .steals .count) (sym (store-after c fits (s .before)));
+        start = ap (λ (g : Fade). g .start) (w .moves) ∙ s .start ∙ ap (λ (m : Model). m .shared .clock) (sym (store-after c fits (s .before)));
+        number = ap (λ (g : Fade). g .number) (w .moves) ∙ s .number ∙ ap (λ (m : Model). m .shared .steals .count) (sym (store-after c fits (s .before)));
         moves = ap (λ (g : Fade). g .position) (w .moves) ∙ ap (λ n. n * c .block) (s .counts ∙ sym (soundings-same c fits (s .before ++ (call.spawnManaged (s .spawn) ∷ [])) (s .after)));
       }
     where
@@ -83,8 +84,8 @@ module _ (c : Config) (block : 0 < c .block) (fits : fadeLength (c .rate) ≤ 18
       (subst (λ n. (leb (fadeLength (c .rate)) n ≡ true) ↔ (roundedUp (fadeLength (c .rate)) (c .block) ≤ since t)) (sym (t .moves)) (rounded-iff (fadeLength (c .rate)) (c .block) (since t) block))
 
   -- ---- ids
-  nodes-same : (ys : List Call) → nodeIds (ledgerAfter c ys .desk .graph .nodes) ≡ nodeIds (after (newModel c) ys .desk .graph .nodes)
-  nodes-same ys = ap (λ (m : Model). nodeIds (m .desk .graph .nodes)) (sym (store-after c fits ys))
+  nodes-same : (ys : List Call) → nodeIds (ledgerAfter c ys .shared .graph .nodes) ≡ nodeIds (after (newModel c) ys .shared .graph .nodes)
+  nodes-same ys = ap (λ (m : Model). nodeIds (m .shared .graph .nodes)) (sym (store-after c fits ys))
 
   voices-same : (ys : List Call) → voiceIds (ledgerAfter c ys .voices) ≡ voiceIds (after (newModel c) ys .voices)
   voices-same ys = sym (ap (λ (m : Model). voiceIds (m .voices)) (store-after c fits ys) ∙ map-map (λ (v : Voice). v .id .0) (shown c) (ledgerAfter c ys .voices))
@@ -93,14 +94,14 @@ module _ (c : Config) (block : 0 < c .block) (fits : fadeLength (c .rate) ≤ 18
   from-new xs =
       record {
         answers = runs xs (newLedger c) (kept-new c fits) .answers;
-        desk = ap (λ (m : Model). m .desk) (store-after c fits xs);
+        shared = ap (λ (m : Model). m .shared) (store-after c fits xs);
         voices = ap (λ (m : Model). m .voices) (store-after c fits xs);
-        holders = λ n p. kept-after c fits xs .sound .held n p ∙ sym (ap (λ (m : Model). holderAt (m .desk .graph .nodes) (m .desk .graph .edges) n p) (store-after c fits xs));
+        holders = λ n p. kept-after c fits xs .sound .held n p ∙ sym (ap (λ (m : Model). holderAt (m .shared .graph .nodes) (m .shared .graph .edges) n p) (store-after c fits xs));
         ends = λ v i f e. let j = subst (λ (m : Model). In v (m .voices)) (store-after c fits xs) i in let t = stolen-here xs v j f e in (t, ends-here xs v f e t);
         noVoiceReturns = never-returns (λ ys. voiceIds (after (newModel c) ys .voices)) (nextVoice c) (λ ys zs. since-same (voices-same ys) (voices-same (ys ++ zs)) (voices-after c ys zs)) xs;
-        noNodeReturns = never-returns (λ ys. nodeIds (after (newModel c) ys .desk .graph .nodes)) (nextNode c) (λ ys zs. since-same (nodes-same ys) (nodes-same (ys ++ zs)) (nodes-after c ys zs)) xs;
+        noNodeReturns = never-returns (λ ys. nodeIds (after (newModel c) ys .shared .graph .nodes)) (nextNode c) (λ ys zs. since-same (nodes-same ys) (nodes-same (ys ++ zs)) (nodes-after c ys zs)) xs;
         now = subst (Holds c) (sym (store-after c fits xs)) (holds c (ledgerAfter c xs) (known-after xs));
-        blocks = blocks c (after (newModel c) xs) (ap (λ (m : Model). m .desk .config) (store-after c fits xs) ∙ config-after c fits xs) table;
+        blocks = blocks c (after (newModel c) xs) (ap (λ (m : Model). m .shared .config) (store-after c fits xs) ∙ config-after c fits xs) table;
       }
 
 pub claim : (k : Making) (m : Model) → make k ≡ some m → (xs : List Call) → Claim (configOf k) m xs

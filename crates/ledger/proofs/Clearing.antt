@@ -11,13 +11,14 @@ use lib.Dec.{leb}
 use lib.ListN.{length}
 use borrow.Author.Tests.{eq-eqb, leb-true, le-leb, not-true}
 use Rattle.lists.specs.Member.{In}
-use Rattle.lists.specs.Keep.{put?, keep, keep-all, keep-same, in-keep}
+use Rattle.lists.specs.Filter.{put?, filter}
+use Rattle.lists.proofs.Filter.{filter-all, filter-same, in-filter}
 use Rattle.store.specs.declared.voices.Voice.{Voice}
 use Rattle.model.specs.Voice.{isVoice}
 use Rattle.model.specs.Clear.{isSilent}
 use Rattle.model.specs.Call as call
-use Rattle.ledger.specs.Ledger.{Ledger, gone}
-use Rattle.ledger.specs.Clear.{ended, goneAll, endedVoices, silentVoices, clear}
+use Rattle.ledger.specs.Ledger.{Ledger, withoutVoice}
+use Rattle.ledger.specs.Clear.{ended, withoutVoices, endedVoices, silentVoices, clear}
 use Rattle.ledger.specs.Call.{step}
 use Rattle.ledger.specs.Claim.{roundedUp}
 use Rattle.ledger.proofs.Nodes.{OwnNodes, silent-first}
@@ -26,44 +27,44 @@ use Rattle.ledger.proofs.Ids.{Ids, Rising, other-below, other-above, id
 -- ---- voices that go one by one
 abbrev dropAll : List Voice → List Voice → List Voice
 dropAll [] vs = vs
-dropAll (g ∷ gs) vs = dropAll gs (keep (λ v. not (isVoice (g .id) v)) vs)
+dropAll (g ∷ gs) vs = dropAll gs (filter (λ v. not (isVoice (g .id) v)) vs)
 
-goneAll-drops : (gs : List Voice) (l : Ledger) → goneAll gs l .voices ≡ dropAll gs (l .voices)
+goneAll-drops : (gs : List Voice) (l : Ledger) → withoutVoices gs l .voices ≡ dropAll gs (l .voices)
 goneAll-drops [] l = refl
-goneAll-drops (g ∷ gs) l = goneAll-drops gs (gone (g .id) l)
+goneAll-drops (g ∷ gs) l = goneAll-drops gs (withoutVoice (g .id) l)
 
 drop-front : (gs : List Voice) (x : Voice) (vs : List Voice) → ((g : Voice) → In g gs → isVoice (g .id) x ≡ false) → dropAll gs (x ∷ vs) ≡ x ∷ dropAll gs vs
 drop-front [] x vs h = refl
 drop-front (g ∷ gs) x vs h =
-    let e : keep (λ v. not (isVoice (g .id) v)) (x ∷ vs) ≡ x ∷ keep (λ v. not (isVoice (g .id) v)) vs = rw (h g (inl refl)) in
-    ap (dropAll gs) e ∙ drop-front gs x (keep (λ v. not (isVoice (g .id) v)) vs) (λ u i. h u (inr i))
+    let e : filter (λ v. not (isVoice (g .id) v)) (x ∷ vs) ≡ x ∷ filter (λ v. not (isVoice (g .id) v)) vs = rw (h g (inl refl)) in
+    ap (dropAll gs) e ∙ drop-front gs x (filter (λ v. not (isVoice (g .id) v)) vs) (λ u i. h u (inr i))
 
 -- those that pass a test go: those that do not are left
-drop-kept : (t : Voice → Bool) (n : ℕ) (vs : List Voice) → Rising n vs → dropAll (keep t vs) vs ≡ keep (λ v. not (t v)) vs
+drop-kept : (t : Voice → Bool) (n : ℕ) (vs : List Voice) → Rising n vs → dropAll (filter t vs) vs ≡ filter (λ v. not (t v)) vs
 drop-kept t n [] r = refl
 drop-kept t n (x ∷ vs) r = go (t x) refl (drop-kept t (x .id .0) vs (r .1))
   where
     self : isVoice (x .id) x ≡ true
     self = eq-eqb (x .id .0) (x .id .0) refl
 
-    rest : keep (λ v. not (isVoice (x .id) v)) vs ≡ vs
-    rest = let le : x .id .0 ≤ x .id .0 = omega arith in keep-all (λ v. not (isVoice (x .id) v)) vs (λ u j. ap not (other-above (x .id .0) vs (r .1) (x .id) le u j))
+    rest : filter (λ v. not (isVoice (x .id) v)) vs ≡ vs
+    rest = let le : x .id .0 ≤ x .id .0 = omega arith in filter-all (λ v. not (isVoice (x .id) v)) vs (λ u j. ap not (other-above (x .id .0) vs (r .1) (x .id) le u j))
 
-    whole : keep (λ v. not (isVoice (x .id) v)) (x ∷ vs) ≡ vs
+    whole : filter (λ v. not (isVoice (x .id) v)) (x ∷ vs) ≡ vs
     whole = rw self rest
 
-    go : (b : Bool) → t x ≡ b → dropAll (keep t vs) vs ≡ keep (λ v. not (t v)) vs → dropAll (put? b x (keep t vs)) (x ∷ vs) ≡ put? (not b) x (keep (λ v. not (t v)) vs)
-    go true e ih = ap (dropAll (keep t vs)) whole ∙ ih
-    go false e ih = drop-front (keep t vs) x vs (λ g i. other-below n x vs r g (in-keep t vs g i .0)) ∙ ap (λ z. x ∷ z) ih
+    go : (b : Bool) → t x ≡ b → dropAll (filter t vs) vs ≡ filter (λ v. not (t v)) vs → dropAll (put? b x (filter t vs)) (x ∷ vs) ≡ put? (not b) x (filter (λ v. not (t v)) vs)
+    go true e ih = ap (dropAll (filter t vs)) whole ∙ ih
+    go false e ih = drop-front (filter t vs) x vs (λ g i. other-below n x vs r g (in-filter t vs g i .0)) ∙ ap (λ z. x ∷ z) ih
 
-gone-voices : {n : ℕ} (t : Voice → Bool) (l : Ledger) → Ids n (l .voices) → goneAll (keep t (l .voices)) l .voices ≡ keep (λ v. not (t v)) (l .voices)
-gone-voices t l d = goneAll-drops (keep t (l .voices)) l ∙ drop-kept t 0 (l .voices) (d .rising)
+gone-voices : {n : ℕ} (t : Voice → Bool) (l : Ledger) → Ids n (l .voices) → withoutVoices (filter t (l .voices)) l .voices ≡ filter (λ v. not (t v)) (l .voices)
+gone-voices t l d = goneAll-drops (filter t (l .voices)) l ∙ drop-kept t 0 (l .voices) (d .rising)
 
-split-length : (t : Voice → Bool) (vs : List Voice) → length vs ≡ length (keep (λ v. not (t v)) vs) + length (keep t vs)
+split-length : (t : Voice → Bool) (vs : List Voice) → length vs ≡ length (filter (λ v. not (t v)) vs) + length (filter t vs)
 split-length t [] = refl
 split-length t (x ∷ vs) = go (t x) (split-length t vs)
   where
-    go : (b : Bool) → length vs ≡ length (keep (λ v. not (t v)) vs) + length (keep t vs) → suc (length vs) ≡ length (put? (not b) x (keep (λ v. not (t v)) vs)) + length (put? b x (keep t vs))
+    go : (b : Bool) → length vs ≡ length (filter (λ v. not (t v)) vs) + length (filter t vs) → suc (length vs) ≡ length (put? (not b) x (filter (λ v. not (t v)) vs)) + length (put? b x (filter t vs))
     go true h = omega arith
     go false h = omega arith
 
@@ -71,30 +72,30 @@ split-length t (x ∷ vs) = go (t x) (split-length t vs)
 module _ {n : ℕ} (l : Ledger) (d : Ids n (l .voices)) where
   -- without the voices whose fade has ended
   abbrev unended : List Voice
-  unended = keep (λ v. not (ended (l .desk) (v .state))) (l .voices)
+  unended = filter (λ v. not (ended (l .shared) (v .state))) (l .voices)
 
-  pub faded-voices : goneAll (endedVoices l) l .voices ≡ unended
-  faded-voices = gone-voices (λ v. ended (l .desk) (v .state)) l d
+  pub faded-voices : withoutVoices (endedVoices l) l .voices ≡ unended
+  faded-voices = gone-voices (λ v. ended (l .shared) (v .state)) l d
 
-  pub cleared-voices : OwnNodes l → step call.clear l .ledger .voices ≡ keep (λ v. not (isSilent (l .desk .graph .nodes) v)) unended
+  pub cleared-voices : OwnNodes l → step call.clear l .ledger .voices ≡ filter (λ v. not (isSilent (l .shared .graph .nodes) v)) unended
   cleared-voices q =
-      gone-voices (isSilent (m .desk .graph .nodes)) m (subst (Ids n) (sym faded-voices) (ids-keep (λ v. not (ended (l .desk) (v .state))) d))
-      ∙ ap (keep (λ v. not (isSilent (m .desk .graph .nodes) v))) faded-voices
-      ∙ keep-same (λ v. not (isSilent (m .desk .graph .nodes) v)) (λ v. not (isSilent (l .desk .graph .nodes) v)) unended (λ v i.
-      let j = in-keep (λ v. not (ended (l .desk) (v .state))) (l .voices) v i in
+      gone-voices (isSilent (m .shared .graph .nodes)) m (subst (Ids n) (sym faded-voices) (ids-keep (λ v. not (ended (l .shared) (v .state))) d))
+      ∙ ap (filter (λ v. not (isSilent (m .shared .graph .nodes) v))) faded-voices
+      ∙ filter-same (λ v. not (isSilent (m .shared .graph .nodes) v)) (λ v. not (isSilent (l .shared .graph .nodes) v)) unended (λ v i.
+      let j = in-filter (λ v. not (ended (l .shared) (v .state))) (l .voices) v i in
       ap not (silent-first l q v (j .0) (not-true _ (j .1))))
     where
       m : Ledger
-      m = goneAll (endedVoices l) l
+      m = withoutVoices (endedVoices l) l
 
   pub cleared-count : (k : ℕ) → step call.clear l .answer ≡ call.removed k → length (l .voices) ≡ length (step call.clear l .ledger .voices) + k
   cleared-count k e =
-      let m = goneAll (endedVoices l) l in
-      let t = isSilent (m .desk .graph .nodes) in
-      let a = split-length (λ v. ended (l .desk) (v .state)) (l .voices) in
+      let m = withoutVoices (endedVoices l) l in
+      let t = isSilent (m .shared .graph .nodes) in
+      let a = split-length (λ v. ended (l .shared) (v .state)) (l .voices) in
       let b = split-length t (m .voices) in
       let c = ap length faded-voices in
-      let f = ap length (gone-voices t m (subst (Ids n) (sym faded-voices) (ids-keep (λ v. not (ended (l .desk) (v .state))) d))) in
+      let f = ap length (gone-voices t m (subst (Ids n) (sym faded-voices) (ids-keep (λ v. not (ended (l .shared) (v .state))) d))) in
       let g : length (endedVoices l) + length (silentVoices m) ≡ k = removed-inj e in
       omega arith
     where

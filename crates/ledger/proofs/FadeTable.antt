@@ -29,7 +29,7 @@ module _ (c : Config) (input : List Float) (ins : ℕ) (lent : List Float) (at :
       answer used len =
           call.blockAnswer (samples.holds (length input) ins (c .block) && samples.holds (length out) outs (c .block)) (fadeOutput input ins used len at (c .block) out outs)
 
-pub blocks : (c : Config) (s : Model) → s .desk .config ≡ c → (c .table ≡ true → c .rate ≡ tableRate) → Blocks c s
+pub blocks : (c : Config) (s : Model) → s .shared .config ≡ c → (c .table ≡ true → c .rate ≡ tableRate) → Blocks c s
 blocks c s is rate =
     record {
       fade = λ input ins lent at out outs. ap (λ (d : Config). call.fadeAnswer d input ins lent at out outs) is;

@@ -8,7 +8,8 @@ use mathlib.Core.Option.{some}
 use mathlib.Core.Bool.{Bool, true, false, not, cond, _&&_, false≢true}
 use lib.Dec.{eqb}
 use borrow.Author.Tests.{eqb-true, eq-eqb}
-use Rattle.lists.specs.Member.{In, some-inj, in-map}
+use Rattle.lists.specs.Member.{In}
+use Rattle.lists.proofs.Member.{some-inj, in-map}
 use Rattle.lists.specs.Find.{find}
 use Rattle.node.specs.declared.record.NodeId.{NodeId}
 use Rattle.node.specs.declared.record.Node.{Node}
@@ -24,9 +25,9 @@ use Rattle.model.specs.Spawn.{fadeNode}
 use Rattle.ledger.specs.Holder.{Holder, Holders, voice, hold}
 use Rattle.ledger.specs.Claim.{ownerAt, holderAt, sourceHolds}
 use Rattle.ledger.proofs.Owner.{portsAt, owner-new}
-use Rattle.ledger.proofs.Wired.{Wired, Voiced, Out, Fed, above, at-ends, in-put, wired-put, voiced-put, voiced-map}
+use Rattle.ledger.proofs.EdgeInvariant.{EdgeInvariant, Voiced, Out, Fed, above, at-ends, in-put, wired-put, voiced-put, voiced-map}
 use Rattle.ledger.proofs.Held.{holder-voice, hold-put, hold-put-off}
-use Rattle.ledger.proofs.Sound.{Sound, HostAt, sound-append}
+use Rattle.ledger.proofs.Invariant.{Invariant, HostAt, sound-append}
 
 -- who holds the port already, holds it still
 pub hold-again : (g : Holders) (b : NodeId) (p : ℕ) (x : Holder) → g (b .0) p ≡ x → (n q : ℕ) → hold b p x g n q ≡ g n q
@@ -38,7 +39,7 @@ hold-again g b p x e n q = go (eqb n (b .0)) refl (eqb q p) refl
     go false j d k = refl
 
 -- ---- an edge from a voice's feeder to its bus
-module _ {ns : List Node} {es : List Edge} {nx nv : ℕ} {vs : List Voice} {h : Holders} (s : Sound ns es nx nv vs h)
+module _ {ns : List Node} {es : List Edge} {nx nv : ℕ} {vs : List Voice} {h : Holders} (s : Invariant ns es nx nv vs h)
     (v : Voice) (i : In v vs) (e : Edge) (j : In e es) (ef : e .from .0 ≡ feeder v .0) (et : e .to .0 ≡ v .bus .0) where
   pub fed-host : HostAt ns (v .bus .0)
   fed-host =
@@ -61,7 +62,7 @@ module _ {ns : List Node} {es : List Edge} {nx nv : ℕ} {vs : List Voice} {h : 
   pub fed-holds : holderAt ns es (v .bus .0) (e .port) ≡ voice (v .id)
   fed-holds = rw (fed-host, fed-edge, fed-out .1) (holder-voice (v .id .0) (e .from) (above (s .voiced) v i))
 
-module _ {ns : List Node} {es : List Edge} {nx nv : ℕ} {vs : List Voice} {h : Holders} (s : Sound ns es nx nv vs h)
+module _ {ns : List Node} {es : List Edge} {nx nv : ℕ} {vs : List Voice} {h : Holders} (s : Invariant ns es nx nv vs h)
     (v : Voice) (i : In v vs) (e : Edge) (j : In e es) (ef : e .from .0 ≡ feeder v .0) (et : e .to .0 ≡ v .bus .0) (f : Fade) where
   abbrev ns₁ : List Node
   ns₁ = ns ++ (withId nx (fadeNode (v .id)) ∷ [])
@@ -78,7 +79,7 @@ module _ {ns : List Node} {es : List Edge} {nx nv : ℕ} {vs : List Voice} {h : 
   pos : 0 < v .id .0
   pos = above (s .voiced) v i
 
-  sound₁ : Sound ns₁ es (nx + 1) nv vs h
+  sound₁ : Invariant ns₁ es (nx + 1) nv vs h
   sound₁ = sound-append s (fadeNode (v .id)) (s .voiced .sung v i .named)
 
   at-fade : ownerAt ns₁ nx ≡ some (v .id .0)
@@ -87,7 +88,7 @@ module _ {ns : List Node} {es : List Edge} {nx nv : ℕ} {vs : List Voice} {h : 
   not-host : ownerAt ns₁ nx ≡ some 0 → ⊥
   not-host o = let z : v .id .0 ≡ 0 = some-inj (sym at-fade ∙ o) in omega (arith, pos)
 
-  wired₂ : Wired (ownerAt ns₁) (portsAt ns₁) (wired es e₁)
+  wired₂ : EdgeInvariant (ownerAt ns₁) (portsAt ns₁) (wired es e₁)
   wired₂ =
       wired-put e₁ es (sound₁ .wired)
       (record { a = v .id .0; b = v .id .0; from = sound₁ .voiced .sung v i .feeds; to = at-fade; range = λ z. absurd (omega (arith, pos, z)) })
@@ -141,7 +142,7 @@ module _ {ns : List Node} {es : List Edge} {nx nv : ℕ} {vs : List Voice} {h : 
       (λ m. not-host (sym (ap (λ (y : Edge). ownerAt ns₁ (y .to .0)) m) ∙ r .0))
       (in-put e₁ es d q)
 
-  pub sound-fade : Sound ns₁ (wired (wired es e₁) e₂) (nx + 1) nv vs₁ h
+  pub sound-fade : Invariant ns₁ (wired (wired es e₁) e₂) (nx + 1) nv vs₁ h
   sound-fade =
       record {
         listed = sound₁ .listed;

@@ -1,4 +1,4 @@
--- A fading voice goes on or is gone: it becomes nothing else. For a voice that does not fade is, at every call, as it was before.
+-- A fading voice goes on or is withoutVoice: it becomes nothing else. For a voice that does not fade is, at every call, as it was before.
 use Prim.Native.Nat.{ℕ, _+_, _≤_}
 use native.Mathlib.Omega.{arith}
 use mathlib.Core.Path.{_≡_, refl, sym, ap, _∙_, subst}
@@ -7,24 +7,27 @@ use mathlib.Core.List.{List, [], _∷_, _++_, map}
 use mathlib.Core.Option.{Option, none, some}
 use mathlib.Core.Bool.{Bool, true, false, not, cond, true≢false}
 use borrow.Author.Tests.{eqb-true}
-use Rattle.lists.specs.Member.{In, in-snoc, in-map}
-use Rattle.lists.specs.Find.{find, find-in}
-use Rattle.lists.specs.Keep.{keep, in-keep}
+use Rattle.lists.specs.Member.{In}
+use Rattle.lists.proofs.Member.{in-snoc, in-map}
+use Rattle.lists.specs.Find.{find}
+use Rattle.lists.proofs.Find.{find-in}
+use Rattle.lists.specs.Filter.{filter}
+use Rattle.lists.proofs.Filter.{in-filter}
 use Rattle.node.specs.declared.record.VoiceId.{VoiceId}
 use Rattle.store.specs.declared.voices.Voice.{Voice}
 use Rattle.store.specs.declared.voices.VoiceState.{VoiceState}
 use Rattle.store.specs.declared.voices.VoiceState.the-variants.{Tracked, Fading, Loose}
 use Rattle.store.specs.declared.voices.Fade.{Fade}
 use Rattle.model.specs.Voice.{isVoice, isFading, withState, beginFade, movedState, moved}
-use Rattle.model.specs.Spawn.{newcomer, fadeOf}
+use Rattle.model.specs.Spawn.{newVoice, fadeOf}
 use Rattle.model.specs.Call.{Call}
 use Rattle.ledger.specs.Ledger.{Ledger, admissionOn}
 use Rattle.ledger.specs.Render.{oneMore}
 use Rattle.ledger.specs.Call.{step}
 use Rattle.ledger.proofs.Words.{GoesOn, Why, beat}
 use Rattle.ledger.proofs.Ids.{unique}
-use Rattle.ledger.proofs.Shown.{fading-same}
-use Rattle.ledger.proofs.Steps.{Steady, calm, kept-step}
+use Rattle.ledger.proofs.Abstraction.{fading-same}
+use Rattle.ledger.proofs.Preserved.{Preserves, calm, kept-step}
 use Rattle.ledger.proofs.Spawning.{Spawning, managed-keeps}
 use Rattle.ledger.proofs.Nodes.{OwnNodes}
 use Rattle.ledger.proofs.Records.{RecordedOf, fade-inj}
@@ -37,8 +40,8 @@ module _ (n₀ : ℕ) (vs₀ : List Voice) where
     grows : n₀ ≤ n
     same : (u : Voice) → In u vs → isFading (u .state) ≡ false → u .id .0 ≤ n₀ → In u vs₀
 
-  still-keep : (n : ℕ) (vs : List Voice) (t : Voice → Bool) → Still n vs → Still n (keep t vs)
-  still-keep n vs t h = record { grows = h .grows; same = λ u i. h .same u (in-keep t vs u i .0) }
+  still-keep : (n : ℕ) (vs : List Voice) (t : Voice → Bool) → Still n vs → Still n (filter t vs)
+  still-keep n vs t h = record { grows = h .grows; same = λ u i. h .same u (in-filter t vs u i .0) }
 
   still-count : (n : ℕ) (vs : List Voice) → Still n vs → Still n (map (moved oneMore) vs)
   still-count n vs h = record { grows = h .grows; same = λ u i f le. go u (in-map (moved oneMore) vs u i) f le }
@@ -69,23 +72,23 @@ module _ (n₀ : ℕ) (vs₀ : List Voice) where
       }
 
   abbrev StillOf : Ledger → Type 0
-  StillOf l = Still (l .desk .spawned) (l .voices)
+  StillOf l = Still (l .shared .spawned) (l .voices)
 
-  still-steady : Steady StillOf
+  still-steady : Preserves StillOf
   still-steady = calm (λ c b n vs. Still n vs) (λ c b n vs w h. still-keep n vs (λ x. not (isVoice w x)) h) (λ c b n vs h. still-count n vs h) (λ c b n vs v e s lt h. still-land n vs v e h)
 
   still-spawning : Spawning StillOf
   still-spawning =
       record {
-        cuts = λ l v s h. still-keep (l .desk .spawned) (l .voices) (λ x. not (isVoice (v .id) x)) h;
-        fades = λ l v p h. still-fade (l .desk .spawned) (l .voices) (v .id) (fadeOf (l .desk)) h;
-        lands = λ l spawn s p h. still-land (l .desk .spawned) (l .voices) (newcomer spawn s p (l .desk)) refl h;
+        cuts = λ l v s h. still-keep (l .shared .spawned) (l .voices) (λ x. not (isVoice (v .id) x)) h;
+        fades = λ l v p h. still-fade (l .shared .spawned) (l .voices) (v .id) (fadeOf (l .shared)) h;
+        lands = λ l spawn s p h. still-land (l .shared .spawned) (l .voices) (newVoice spawn s p (l .shared)) refl h;
       }
 
   still-step : (x : Call) (l : Ledger) → StillOf l → StillOf (step x l .ledger)
   still-step = kept-step StillOf still-steady (λ l spawn e h. managed-keeps StillOf still-spawning spawn (admissionOn (spawn .bus) l) l h)
 
--- ---- so a fading voice goes on, or it is gone
+-- ---- so a fading voice goes on, or it is withoutVoice
 module _ (v : Voice) (f : Fade) (ph : v .state ≡ Fading f) (x : Call) (l : Ledger) (r : RecordedOf l) (q : OwnNodes l) (i : In v (l .voices)) where
   abbrev after : List Voice
   after = step x l .ledger .voices
@@ -94,8 +97,8 @@ module _ (v : Voice) (f : Fade) (ph : v .state ≡ Fading f) (x : Call) (l : Led
   unfading : (u : Voice) → In u after → u .id .0 ≡ v .id .0 → (s : VoiceState) → u .state ≡ s → isFading s ≡ false → ⊥
   unfading u j e s h g =
       let b = r .ids .below v i in
-      let le : u .id .0 ≤ l .desk .spawned = omega arith in
-      let k = still-step (l .desk .spawned) (l .voices) x l (record { grows = omega arith; same = λ w m f le. m }) .same u j (ap isFading h ∙ g) le in
+      let le : u .id .0 ≤ l .shared .spawned = omega arith in
+      let k = still-step (l .shared .spawned) (l .voices) x l (record { grows = omega arith; same = λ w m f le. m }) .same u j (ap isFading h ∙ g) le in
       let z : u ≡ v = unique (r .ids) u v k i e in
       true≢false (ap isFading (sym ph) ∙ ap (λ (y : Voice). isFading (y .state)) (sym z) ∙ ap isFading h ∙ g)
 

@@ -9,9 +9,11 @@ use mathlib.Core.Option.{Option, none, some}
 use mathlib.Core.Bool.{Bool, true, false, not, cond, _&&_, _||_}
 use lib.Dec.{eqb}
 use borrow.Author.Tests.{eqb-true, eq-eqb, ne-eqb}
-use Rattle.lists.specs.Member.{In, some-inj, and-left}
-use Rattle.lists.specs.Keep.{keep}
-use Rattle.lists.specs.Find.{find, or?, isSome, keepO, find-keep}
+use Rattle.lists.specs.Member.{In}
+use Rattle.lists.proofs.Member.{some-inj, and-left}
+use Rattle.lists.specs.Filter.{filter}
+use Rattle.lists.specs.Find.{find, or?, isSome, filterO}
+use Rattle.lists.proofs.Find.{find-filter}
 use Rattle.node.specs.declared.record.NodeId.{NodeId}
 use Rattle.node.specs.declared.record.VoiceId.{VoiceId}
 use Rattle.node.specs.declared.record.Edge.{Edge}
@@ -19,7 +21,7 @@ use Rattle.edges.specs.Wiring.{endsAt, taken, dropAt, wired}
 use Rattle.model.specs.Voice.{id}
 use Rattle.ledger.specs.Holder.{Holder, nobody, voice, isHeld, byVoice, byHost, hold, dropVoice, dropNode}
 use Rattle.ledger.specs.Claim.{Owners, holderOf, sourceHolds, heldBy, isHost, holdsAt}
-use Rattle.ledger.proofs.Wired.{Wired, Same, edge-at, edge-put}
+use Rattle.ledger.proofs.EdgeInvariant.{EdgeInvariant, Same, edge-at, edge-put}
 
 cond-same : {A : Type 0} (b : Bool) (x : A) → cond b x x ≡ x
 cond-same true x = refl
@@ -36,7 +38,7 @@ pub holder-voice : (k : ℕ) (s : NodeId) → 0 < k → holderOf k s ≡ voice (
 holder-voice zero s h = absurd (omega arith)
 holder-voice (suc k) s h = refl
 
-module _ {own : Owners} {ports : ℕ → ℕ} {es : List Edge} (w : Wired own ports es) where
+module _ {own : Owners} {ports : ℕ → ℕ} {es : List Edge} (w : EdgeInvariant own ports es) where
   -- a port of a host node is held where an edge ends at it
   pub held-taken : (k : NodeId) → own (k .0) ≡ some 0 → (p : ℕ) → isHeld (holdsAt own es (k .0) p) ≡ taken es k p
   held-taken k h p = rw h (go (find (endsAt k p) es) refl)
@@ -90,7 +92,7 @@ module _ {own : Owners} {ports : ℕ → ℕ} {es : List Edge} (w : Wired own po
   -- an edge less
   pub hold-drop : (k : NodeId) (q : ℕ) (n p : ℕ) → holdsAt own (dropAt es k q) n p ≡ hold k q nobody (holdsAt own es) n p
   hold-drop k q n p =
-      ap (λ o. cond (isHost (own n)) (heldBy own o) nobody) (find-keep (endsAt (id n) p) (λ e. not (endsAt k q e)) es (w .once (id n) p))
+      ap (λ o. cond (isHost (own n)) (heldBy own o) nobody) (find-filter (endsAt (id n) p) (λ e. not (endsAt k q e)) es (w .once (id n) p))
       ∙ go (find (endsAt (id n) p) es) refl
     where
       at : (d : Edge) → find (endsAt (id n) p) es ≡ some d → (b : Bool) → (eqb n (k .0) && eqb p q) ≡ b → endsAt k q d ≡ b
@@ -102,7 +104,7 @@ module _ {own : Owners} {ports : ℕ → ℕ} {es : List Edge} (w : Wired own po
       some' d e false h = rw (at d e false h)
 
       go : (o : Option Edge) → find (endsAt (id n) p) es ≡ o
-          → cond (isHost (own n)) (heldBy own (keepO (λ e. not (endsAt k q e)) o)) nobody ≡ cond (eqb n (k .0) && eqb p q) nobody (cond (isHost (own n)) (heldBy own o) nobody)
+          → cond (isHost (own n)) (heldBy own (filterO (λ e. not (endsAt k q e)) o)) nobody ≡ cond (eqb n (k .0) && eqb p q) nobody (cond (isHost (own n)) (heldBy own o) nobody)
       go none e =
           cond-same (isHost (own n)) nobody
           ∙ sym (ap (λ x. cond (eqb n (k .0) && eqb p q) nobody x) (cond-same (isHost (own n)) nobody) ∙ cond-same (eqb n (k .0) && eqb p q) nobody)
@@ -111,7 +113,7 @@ module _ {own : Owners} {ports : ℕ → ℕ} {es : List Edge} (w : Wired own po
   -- ---- nodes go, with every edge that touches them: at a node that stays, what is held by one that stays
   module _ (dead : ℕ → Bool) (own' : Owners) (thin : (n : ℕ) → own' n ≡ cond (dead n) none (own n)) where
     abbrev es' : List Edge
-    es' = keep (λ e. not (dead (e .from .0) || dead (e .to .0))) es
+    es' = filter (λ e. not (dead (e .from .0) || dead (e .to .0))) es
 
     abbrev leftOf : Option Edge → ℕ → ℕ → Holder
     leftOf none n p = nobody
@@ -119,11 +121,11 @@ module _ {own : Owners} {ports : ℕ → ℕ} {es : List Edge} (w : Wired own po
 
     pub hold-thin : (n p : ℕ) → holdsAt own' es' n p ≡ cond (dead n) nobody (leftOf (find (endsAt (id n) p) es) n p)
     hold-thin n p =
-        ap (λ o. cond (isHost (own' n)) (heldBy own' o) nobody) (find-keep (endsAt (id n) p) (λ e. not (dead (e .from .0) || dead (e .to .0))) es (w .once (id n) p))
+        ap (λ o. cond (isHost (own' n)) (heldBy own' o) nobody) (find-filter (endsAt (id n) p) (λ e. not (dead (e .from .0) || dead (e .to .0))) es (w .once (id n) p))
         ∙ at (dead n) refl
       where
         Kept : Option Edge → Option Edge
-        Kept o = keepO (λ e. not (dead (e .from .0) || dead (e .to .0))) o
+        Kept o = filterO (λ e. not (dead (e .from .0) || dead (e .to .0))) o
 
         from' : (d : Edge) → find (endsAt (id n) p) es ≡ some d → dead n ≡ false → own' n ≡ own n → (b : Bool) → dead (d .from .0) ≡ b
             → cond (isHost (own' n)) (heldBy own' (or? (not (b || dead (d .to .0))) d none)) nobody ≡ cond b nobody (holdsAt own es n p)

@@ -2,7 +2,8 @@
 use mathlib.Core.Path.{_≡_, refl, sym, ap, _∙_, subst}
 use mathlib.Core.List.{List, [], _∷_, _++_, append-assoc, append-nil}
 use Rattle.lists.specs.Member.{In}
-use Rattle.lists.specs.Count.{more, count, count-snoc}
+use Rattle.lists.specs.Count.{more, count}
+use Rattle.lists.proofs.Count.{count-snoc}
 use Rattle.store.specs.declared.config.Config.{Config}
 use Rattle.store.specs.declared.voices.Voice.{Voice}
 use Rattle.store.specs.declared.voices.VoiceState.the-variants.{Fading}

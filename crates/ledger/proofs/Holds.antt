@@ -8,10 +8,14 @@ use mathlib.Core.Option.{Option, none, some}
 use mathlib.Core.Bool.{Bool, true, false, not, true≢false}
 use lib.ListN.{length, length-map}
 use borrow.Author.Tests.{eqb-true, not-true}
-use Rattle.lists.specs.Member.{In, in-map, in-of-map, in-right}
-use Rattle.lists.specs.Find.{find, mapO, find-in, none-find}
-use Rattle.lists.specs.Keep.{keep, keep-map, in-keep}
-use Rattle.lists.specs.Count.{more, count, count-map}
+use Rattle.lists.specs.Member.{In}
+use Rattle.lists.proofs.Member.{in-map, in-of-map, in-right}
+use Rattle.lists.specs.Find.{find, mapO}
+use Rattle.lists.proofs.Find.{find-in, none-find}
+use Rattle.lists.specs.Filter.{filter}
+use Rattle.lists.proofs.Filter.{filter-map, in-filter}
+use Rattle.lists.specs.Count.{more, count}
+use Rattle.lists.proofs.Count.{count-map}
 use Rattle.node.specs.declared.record.NodeId.{NodeId}
 use Rattle.node.specs.declared.record.Node.{Node}
 use Rattle.node.specs.declared.record.Edge.{Edge}
@@ -23,7 +27,7 @@ use Rattle.store.specs.declared.voices.Voice.{Voice}
 use Rattle.store.specs.declared.voices.VoiceState.the-variants.{Fading, Loose}
 use Rattle.store.specs.declared.voices.Fade.{Fade}
 use Rattle.voice.specs.declared.policy.Budget.the-variants.{Unlimited, AtMost}
-use Rattle.model.specs.Desk.{sounding}
+use Rattle.model.specs.SharedState.{sounding}
 use Rattle.model.specs.Voice.{id, isVoice, movedFade, movedState, counted}
 use Rattle.model.specs.Clear.{isSilent}
 use Rattle.model.specs.Clear as clearing
@@ -47,15 +51,15 @@ use Rattle.ledger.specs.Call as ledgerCall
 use Rattle.ledger.proofs.Arrives.{ArrivesAt, managed-comes, loose-comes}
 use Rattle.ledger.proofs.Words as words
 use Rattle.ledger.proofs.Ids.{unique}
-use Rattle.ledger.proofs.Shown.{counted-same, under-same, find-stored}
-use Rattle.ledger.proofs.Agree.{Kept, kept-step}
-use Rattle.ledger.proofs.Room.{RoomOf}
+use Rattle.ledger.proofs.Abstraction.{counted-same, under-same, find-stored}
+use Rattle.ledger.proofs.Simulation.{Kept, kept-step}
+use Rattle.ledger.proofs.Capacity.{RoomOf}
 use Rattle.ledger.proofs.Nodes.{OwnNodes}
 use Rattle.ledger.proofs.Records.{RecordedOf}
 use Rattle.ledger.proofs.Marks.{fate-voices, book-stays, marks, tallies}
 use Rattle.ledger.proofs.Gone.{leaves-gone}
 use Rattle.ledger.proofs.Clearing.{cleared-voices, cleared-count}
-use Rattle.ledger.proofs.Blocked.{spawn-answer}
+use Rattle.ledger.proofs.SpawnFailure.{spawn-answer}
 use Rattle.ledger.proofs.Owner.{owner-some}
 use Rattle.ledger.proofs.Ready.{ReadyOf, prepared-sorted, prepared-same, render-sounds}
 use Rattle.ledger.proofs.Losses.{losses}
@@ -64,7 +68,7 @@ use Rattle.ledger.proofs.Store.{shown, storeOf, store-step, Was, was, t
 -- what is known of the ledger l after a list of calls from making with c
 pub record Known (c : Config) (l : Ledger) : Type 0 where
   pub kept : Kept l
-  pub is : l .desk .config ≡ c
+  pub is : l .shared .config ≡ c
   pub recorded : RecordedOf l
   pub nodes : OwnNodes l
   pub room : RoomOf l
@@ -74,7 +78,7 @@ pub record Known (c : Config) (l : Ledger) : Type 0 where
   pub stay : c .budget ≡ Unlimited → (x : Spawn) (v : Voice) → In v (l .voices) → In v (step (call.spawnManaged x) l .ledger .voices)
 
 module _ (c : Config) (l : Ledger) (known : Known c l) where
-  abbrev is : l .desk .config ≡ c
+  abbrev is : l .shared .config ≡ c
   is = known .is
 
   abbrev r : RecordedOf l
@@ -88,17 +92,17 @@ module _ (c : Config) (l : Ledger) (known : Known c l) where
   next x P h = subst P (sym (store-step c x l (known .kept) is)) h
 
   -- ---- clearing
-  ends-same : (v : Voice) → not (clearing.ended (fadeLength (c .rate)) (shown c v .state)) ≡ not (ledger.ended (l .desk) (v .state))
-  ends-same v = ap not (ended-shown c (l .desk) is (v .state))
+  ends-same : (v : Voice) → not (clearing.ended (fadeLength (c .rate)) (shown c v .state)) ≡ not (ledger.ended (l .shared) (v .state))
+  ends-same v = ap not (ended-shown c (l .shared) is (v .state))
 
   abbrev Left : List Voice → List Voice
-  Left vs = keep (λ v. not (isSilent (l .desk .graph .nodes) v)) (keep (λ v. not (clearing.ended (fadeLength (c .rate)) (v .state))) vs)
+  Left vs = filter (λ v. not (isSilent (l .shared .graph .nodes) v)) (filter (λ v. not (clearing.ended (fadeLength (c .rate)) (v .state))) vs)
 
   left : map (shown c) (step call.clear l .ledger .voices) ≡ Left (map (shown c) (l .voices))
   left =
       ap (map (shown c)) (cleared-voices l (r .ids) q)
-      ∙ sym (ap (keep (λ v. not (isSilent (l .desk .graph .nodes) v))) (keep-map (shown c) (λ v. not (clearing.ended (fadeLength (c .rate)) (v .state))) (λ v. not (ledger.ended (l .desk) (v .state))) ends-same (l .voices))
-      ∙ keep-map (shown c) (λ v. not (isSilent (l .desk .graph .nodes) v)) (λ v. not (isSilent (l .desk .graph .nodes) v)) (λ v. refl) (keep (λ v. not (ledger.ended (l .desk) (v .state))) (l .voices)))
+      ∙ sym (ap (filter (λ v. not (isSilent (l .shared .graph .nodes) v))) (filter-map (shown c) (λ v. not (clearing.ended (fadeLength (c .rate)) (v .state))) (λ v. not (ledger.ended (l .shared) (v .state))) ends-same (l .voices))
+      ∙ filter-map (shown c) (λ v. not (isSilent (l .shared .graph .nodes) v)) (λ v. not (isSilent (l .shared .graph .nodes) v)) (λ v. refl) (filter (λ v. not (ledger.ended (l .shared) (v .state))) (l .voices)))
 
   -- no two voices have one id
   one : (u v : Voice) → In u (map (shown c) (l .voices)) → In v (map (shown c) (l .voices)) → u .id .0 ≡ v .id .0 → u ≡ v
@@ -108,14 +112,14 @@ module _ (c : Config) (l : Ledger) (known : Known c l) where
       let n : a .0 .id .0 ≡ b .0 .id .0 = ap (λ (x : Voice). x .id .0) (sym (a .2)) ∙ e ∙ ap (λ (x : Voice). x .id .0) (b .2) in
       a .2 ∙ ap (shown c) (unique (r .ids) (a .0) (b .0) (a .1) (b .1) n) ∙ sym (b .2)
 
-  gone : (v : Voice) → In v (map (shown c) (l .voices)) → clearing.ended (fadeLength (c .rate)) (v .state) ≡ true → find (isVoice (v .id)) (Left (map (shown c) (l .voices))) ≡ none
-  gone v i e = none-find (isVoice (v .id)) (Left (map (shown c) (l .voices))) (λ x j. go x j (isVoice (v .id) x) refl)
+  withoutVoice : (v : Voice) → In v (map (shown c) (l .voices)) → clearing.ended (fadeLength (c .rate)) (v .state) ≡ true → find (isVoice (v .id)) (Left (map (shown c) (l .voices))) ≡ none
+  withoutVoice v i e = none-find (isVoice (v .id)) (Left (map (shown c) (l .voices))) (λ x j. go x j (isVoice (v .id) x) refl)
     where
       go : (x : Voice) → In x (Left (map (shown c) (l .voices))) → (b : Bool) → isVoice (v .id) x ≡ b → b ≡ false
       go x j false h = refl
       go x j true h =
-          let m = in-keep (λ v. not (isSilent (l .desk .graph .nodes) v)) (keep (λ v. not (clearing.ended (fadeLength (c .rate)) (v .state))) (map (shown c) (l .voices))) x j .0 in
-          let n = in-keep (λ v. not (clearing.ended (fadeLength (c .rate)) (v .state))) (map (shown c) (l .voices)) x m in
+          let m = in-filter (λ v. not (isSilent (l .shared .graph .nodes) v)) (filter (λ v. not (clearing.ended (fadeLength (c .rate)) (v .state))) (map (shown c) (l .voices))) x j .0 in
+          let n = in-filter (λ v. not (clearing.ended (fadeLength (c .rate)) (v .state))) (map (shown c) (l .voices)) x m in
           let z : x ≡ v = one x v (n .0) i (eqb-true _ _ h) in
           absurd (true≢false (sym e ∙ ap (λ (y : Voice). clearing.ended (fadeLength (c .rate)) (y .state)) (sym z) ∙ not-true _ (n .1)))
 
@@ -157,20 +161,20 @@ module _ (c : Config) (l : Ledger) (known : Known c l) where
       let i = find-in (isNode (id n)) ns (x .0) (x .1) in
       subst (λ j. In j (nodeIds ns)) (eqb-true (x .0 .id .0) n (i .1)) (in-of-map (λ (y : Node). y .id .0) ns (x .0) (i .0))
 
-  wired : (e : Edge) → In e (l .desk .graph .edges) → In (e .from .0) (nodeIds (l .desk .graph .nodes)) × In (e .to .0) (nodeIds (l .desk .graph .nodes))
-  wired e i = let g = known .kept .sound .wired .ends e i in (live-in (l .desk .graph .nodes) (e .from .0) (g .a) (g .from), live-in (l .desk .graph .nodes) (e .to .0) (g .b) (g .to))
+  wired : (e : Edge) → In e (l .shared .graph .edges) → In (e .from .0) (nodeIds (l .shared .graph .nodes)) × In (e .to .0) (nodeIds (l .shared .graph .nodes))
+  wired e i = let g = known .kept .sound .wired .ends e i in (live-in (l .shared .graph .nodes) (e .from .0) (g .a) (g .from), live-in (l .shared .graph .nodes) (e .to .0) (g .b) (g .to))
 
-  prepares : l .desk .graph .prepared ≡ true → call.step call.prepare (storeOf c l) ≡ record { answer = call.done; model = storeOf c l }
+  prepares : l .shared .graph .prepared ≡ true → call.step call.prepare (storeOf c l) ≡ record { answer = call.done; model = storeOf c l }
   prepares p =
-      ap₂ (λ a d. record { answer = call.readyAnswer a; model = record { desk = d; voices = map (shown c) (l .voices) } })
-      (ap (λ (o : graph.Outcome). o .answer) (known .ready .holds p)) (prepared-same (l .desk) (known .ready) p)
+      ap₂ (λ a d. record { answer = call.readyAnswer a; model = record { shared = d; voices = map (shown c) (l .voices) } })
+      (ap (λ (o : graph.Outcome). o .answer) (known .ready .holds p)) (prepared-same (l .shared) (known .ready) p)
 
   -- ---- newcomers
   arrives-shown : (x : Call) (y : Spawn) (state : VoiceState) → movedState (λ n. n * c .block) state ≡ state → (w : VoiceId) → ArrivesAt (y .bus) state w l (step x l .ledger)
       → Arrives y state w (storeOf c l) (storeOf c (step x l .ledger))
   arrives-shown x y state same w a =
       record {
-        newcomer = shown c (a .voice);
+        newVoice = shown c (a .voice);
         member = in-of-map (shown c) (step x l .ledger .voices) (a .voice) (a .member);
         named = a .named;
         next = a .next;
@@ -180,7 +184,7 @@ module _ (c : Config) (l : Ledger) (known : Known c l) where
         holds = sym (kept-step x l (known .kept) .sound .held (y .bus .0) (a .voice .port)) ∙ a .holds;
       }
 
-  under-budget : stateUnder (l .desk .config .budget) ≡ stateUnder (c .budget)
+  under-budget : stateUnder (l .shared .config .budget) ≡ stateUnder (c .budget)
   under-budget = ap (λ (z : Config). stateUnder (z .budget)) is
 
   spawned-is : {a b : Spawned} → call.spawned a ≡ call.spawned b → a ≡ b
@@ -192,16 +196,16 @@ module _ (c : Config) (l : Ledger) (known : Known c l) where
       (subst (λ z. ArrivesAt (x .bus) z w l (step (call.spawnManaged x) l .ledger)) under-budget (managed-comes x l w (spawned-is e)))
 
   node-added : (kind : List ℕ) (ports required : ℕ) (values glides : Bool) (k : NodeId) → step (call.addNode kind ports required values glides) l .answer ≡ call.node k
-      → In (k .0) (nodeIds (step (call.addNode kind ports required values glides) l .ledger .desk .graph .nodes)) × (In (k .0) (nodeIds (l .desk .graph .nodes)) → ⊥)
+      → In (k .0) (nodeIds (step (call.addNode kind ports required values glides) l .ledger .shared .graph .nodes)) × (In (k .0) (nodeIds (l .shared .graph .nodes)) → ⊥)
   node-added kind ports required values glides k = go (addRefusal g kind ports required)
     where
       g : GraphView
-      g = l .desk .graph
+      g = l .shared .graph
 
       new : ledgerCall.Step
       new = ledgerCall.graphStep l (change.append g (hostNode kind ports required values glides)) (l .holders) (call.node (record { 0 = g .next }))
 
-      go : (o : Option Refusal) → ledgerCall.unless o l new .answer ≡ call.node k → In (k .0) (nodeIds (ledgerCall.unless o l new .ledger .desk .graph .nodes)) × (In (k .0) (nodeIds (g .nodes)) → ⊥)
+      go : (o : Option Refusal) → ledgerCall.unless o l new .answer ≡ call.node k → In (k .0) (nodeIds (ledgerCall.unless o l new .ledger .shared .graph .nodes)) × (In (k .0) (nodeIds (g .nodes)) → ⊥)
       go (some r) e = let z : _≡_ {A = ℕ} 0 1 = cc in absurd (omega arith)
       go none e =
           let n : record { 0 = g .next } ≡ k = cc in
@@ -214,20 +218,20 @@ module _ (c : Config) (l : Ledger) (known : Known c l) where
   pub holds : Holds c (storeOf c l)
   holds =
       record {
-        removes = λ v i e. next call.clear (λ t. find (isVoice (v .id)) (t .model .voices) ≡ none) (ap (find (isVoice (v .id))) left ∙ gone v i e);
+        removes = λ v i e. next call.clear (λ t. find (isVoice (v .id)) (t .model .voices) ≡ none) (ap (find (isVoice (v .id))) left ∙ withoutVoice v i e);
         clears = next call.clear (λ t. t .model .voices ≡ Left (map (shown c) (l .voices))) left;
         removed = λ n. next call.clear (λ t. t .answer ≡ call.removed n → length (map (shown c) (l .voices)) ≡ length (t .model .voices) + n) (λ e.
             length-map (l .voices) (shown c) ∙ cleared-count l (r .ids) n e ∙ ap (λ z. z + n) (sym (length-map (step call.clear l .ledger .voices) (shown c))));
         leaves = λ x v i f e. next x (λ t. Next x (t .answer) (t .model .voices) (t .model) v f) (goes x v i f e);
-        quiet = λ x h. next x (λ t. t .model .desk .steals ≡ l .desk .steals) (book-stays x h l);
-        marks = λ x n h. next (call.spawnManaged x) (λ t. Fate (l .desk .steals) (t .model .desk .steals) (Reclaimed (map (shown c) (l .voices)) (t .model .voices) (x .bus) n) n)
+        quiet = λ x h. next x (λ t. t .model .shared .steals ≡ l .shared .steals) (book-stays x h l);
+        marks = λ x n h. next (call.spawnManaged x) (λ t. Fate (l .shared .steals) (t .model .shared .steals) (Reclaimed (map (shown c) (l .voices)) (t .model .voices) (x .bus) n) n)
             (fate-voices (reclaimed-shown c (l .voices) (step (call.spawnManaged x) l .ledger .voices) (x .bus) n) (marks x l r n h));
-        writes = λ n b x a. next (call.spawnManaged x) (λ t. t .answer ≡ call.spawned a → t .model .desk .steals .count + count tracks (t .model .voices) ≡ more (isLet a) (l .desk .steals .count + count tracks (map (shown c) (l .voices)))) (λ e.
-            ap (λ z. step (call.spawnManaged x) l .ledger .desk .steals .count + z) (tracks-count c (step (call.spawnManaged x) l .ledger .voices))
+        writes = λ n b x a. next (call.spawnManaged x) (λ t. t .answer ≡ call.spawned a → t .model .shared .steals .count + count tracks (t .model .voices) ≡ more (isLet a) (l .shared .steals .count + count tracks (map (shown c) (l .voices)))) (λ e.
+            ap (λ z. step (call.spawnManaged x) l .ledger .shared .steals .count + z) (tracks-count c (step (call.spawnManaged x) l .ledger .voices))
             ∙ tallies x n l (ap (λ (z : Config). z .budget) is ∙ b) r a e
-            ∙ ap (λ z. more (isLet a) (l .desk .steals .count + z)) (sym (tracks-count c (l .voices))));
+            ∙ ap (λ z. more (isLet a) (l .shared .steals .count + z)) (sym (tracks-count c (l .voices))));
         losses = λ x. next (call.spawnManaged x) (λ t. Losses x (storeOf c l) (t .model)) (losses-shown c x l (step (call.spawnManaged x) l .ledger) (known .kept .sound) (losses x l r q));
-        numbers = λ v i f e. let w = was c (l .voices) v i f e in subst (λ (g : Fade). g .number < l .desk .steals .count) (sym (w .moves)) (r .numbers (w .voice) (w .member) (w .fade) (w .state));
+        numbers = λ v i f e. let w = was c (l .voices) v i f e in subst (λ (g : Fade). g .number < l .shared .steals .count) (sym (w .moves)) (r .numbers (w .voice) (w .member) (w .fade) (w .state));
         own = own;
         budget = λ n b bus. subst (λ z. z ≤ n) (sym (count-map (shown c) (counted (c .scope) bus) (counted (c .scope) bus) (counted-same (λ n. n * c .block) (c .scope) bus) (l .voices))) (known .budget n b bus);
         loose = λ b.
@@ -240,17 +244,17 @@ module _ (c : Config) (l : Ledger) (known : Known c l) where
             let w = in-map (shown c) (l .voices) v i in
             subst (λ z. In z (map (shown c) (step (call.spawnManaged x) l .ledger .voices))) (sym (w .2)) (in-of-map (shown c) (step (call.spawnManaged x) l .ledger .voices) (w .0) (known .stay b x (w .0) (w .1))));
         spawns = λ n b t x h. next (call.spawnManaged x) (λ z. z .answer ≡ call.spawned (spawnAnswer (x .bus) (storeOf c l)))
-            (spawn-answer x l (known .kept .sound) n (ap (λ (z : Config). z .budget) is ∙ b) (subst (λ (z : Config). Stealing (z .policy)) (sym is) t) (sym (refusal-same c (l .desk) (l .voices) (x .def) (x .bus)) ∙ h)
+            (spawn-answer x l (known .kept .sound) n (ap (λ (z : Config). z .budget) is ∙ b) (subst (λ (z : Config). Stealing (z .policy)) (sym is) t) (sym (refusal-same c (l .shared) (l .voices) (x .def) (x .bus)) ∙ h)
             ∙ ap call.spawned (sym (answer-same c (x .bus) l (known .kept .sound))));
         arrives = λ x w. next (call.spawnManaged x) (λ t. t .answer ≡ call.spawned (Spawned.Voice w) → Arrives x (stateUnder (c .budget)) w (storeOf c l) (t .model)) (managed-arrives x w);
         arrivesLoose = λ x w. next (call.spawnLoose x) (λ t. t .answer ≡ call.spawned (Spawned.Voice w) → Arrives x Loose w (storeOf c l) (t .model)) (λ e.
             arrives-shown (call.spawnLoose x) x Loose refl w (loose-comes x l w (spawned-is e)));
         adds = λ kind ports required values glides k. next (call.addNode kind ports required values glides)
-            (λ t. t .answer ≡ call.node k → In (k .0) (nodeIds (t .model .desk .graph .nodes)) × (In (k .0) (nodeIds (l .desk .graph .nodes)) → ⊥)) (node-added kind ports required values glides k);
+            (λ t. t .answer ≡ call.node k → In (k .0) (nodeIds (t .model .shared .graph .nodes)) × (In (k .0) (nodeIds (l .shared .graph .nodes)) → ⊥)) (node-added kind ports required values glides k);
         wires = wired;
-        inOrder = prepared-sorted (l .desk .graph) (known .ready);
+        inOrder = prepared-sorted (l .shared .graph) (known .ready);
         prepares = prepares;
-        sounds = λ e. next call.render (λ t. isSounded (t .answer) ≡ sounding (t .model .desk)) (render-sounds l (known .ready) e);
+        sounds = λ e. next call.render (λ t. isSounded (t .answer) ≡ sounding (t .model .shared)) (render-sounds l (known .ready) e);
         room = record { nodes = omega (arith, known .room .nodes); edges = omega (arith, known .room .edges); voices = omega (arith, known .room .voices, length-map (l .voices) (shown c)); events = known .room .events };
         records = r .newest;
       }

@@ -6,11 +6,14 @@ use mathlib.Core.Logic.{inl, inr, ⊎-elim}
 use mathlib.Core.List.{List, [], _∷_, _++_, map}
 use mathlib.Core.Bool.{Bool, true, false, not}
 use borrow.Author.Tests.{eq-eqb, ne-eqb}
-use Rattle.lists.specs.Member.{In, in-snoc, in-map, some-inj}
+use Rattle.lists.specs.Member.{In}
+use Rattle.lists.proofs.Member.{in-snoc, in-map, some-inj}
 use Rattle.lists.specs.Find.{Once}
-use Rattle.lists.specs.Keep.{keep, keep-all, in-keep}
+use Rattle.lists.specs.Filter.{filter}
+use Rattle.lists.proofs.Filter.{filter-all, in-filter}
 use Rattle.lists.specs.Count.{more, count}
-use Rattle.lists.specs.Rising.{RisesFrom, rises-in, rises-keep, rises-snoc, rises-map, rises-once}
+use Rattle.lists.specs.Rising.{RisesFrom}
+use Rattle.lists.proofs.Rising.{rises-in, rises-filter, rises-snoc, rises-map, rises-once}
 use Rattle.node.specs.declared.record.VoiceId.{VoiceId}
 use Rattle.store.specs.declared.voices.Voice.{Voice}
 use Rattle.model.specs.Voice.{isVoice}
@@ -32,8 +35,8 @@ once {n} {vs} d w = rises-once (λ (v : Voice). v .id .0) 1 vs (d .rising) (w .0
 pub above : {n : ℕ} {vs : List Voice} → Ids n vs → (v : Voice) → In v vs → 0 < v .id .0
 above {n} {vs} d v i = rising-above 0 vs (d .rising) v i
 
-pub ids-keep : {n : ℕ} {vs : List Voice} (t : Voice → Bool) → Ids n vs → Ids n (keep t vs)
-ids-keep {n} {vs} t d = record { rising = rises-keep (λ (v : Voice). v .id .0) t 1 vs (d .rising); below = λ v i. d .below v (in-keep t vs v i .0) }
+pub ids-keep : {n : ℕ} {vs : List Voice} (t : Voice → Bool) → Ids n vs → Ids n (filter t vs)
+ids-keep {n} {vs} t d = record { rising = rises-filter (λ (v : Voice). v .id .0) t 1 vs (d .rising); below = λ v i. d .below v (in-filter t vs v i .0) }
 
 pub ids-map : {n : ℕ} {vs : List Voice} (f : Voice → Voice) → ((v : Voice) → f v .id ≡ v .id) → Ids n vs → Ids n (map f vs)
 ids-map {n} {vs} f e d = record { rising = rises-map (λ (v : Voice). v .id .0) f (λ v. ap (λ (w : VoiceId). w .0) (e v)) 1 vs (d .rising); below = λ v i. let r = in-map f vs v i in rw (r .2, e (r .0)) (d .below (r .0) (r .1)) }
@@ -62,10 +65,10 @@ other-below n x vs r v i = ne-eqb (x .id .0) (v .id .0) (λ e. omega (arith, e, 
 pub other-above : (n : ℕ) (vs : List Voice) → Rising n vs → (w : VoiceId) → w .0 ≤ n → (u : Voice) → In u vs → isVoice w u ≡ false
 other-above n vs r w h u i = ne-eqb (u .id .0) (w .0) (λ e. omega (arith, e, rising-above n vs r u i))
 
-count-gone : (q : Voice → Bool) (n : ℕ) (vs : List Voice) → Rising n vs → (v : Voice) → In v vs → count q vs ≡ more (q v) (count q (keep (λ x. not (isVoice (v .id) x)) vs))
+count-gone : (q : Voice → Bool) (n : ℕ) (vs : List Voice) → Rising n vs → (v : Voice) → In v vs → count q vs ≡ more (q v) (count q (filter (λ x. not (isVoice (v .id) x)) vs))
 count-gone q n [] r v i = absurd i
 count-gone q n (x ∷ vs) r v (inl p) =
-    let a : keep (λ y. not (isVoice (v .id) y)) vs ≡ vs = keep-all (λ y. not (isVoice (v .id) y)) vs (λ u j. ap not (other-above (x .id .0) vs (r .1) (v .id) (ap-le p) u j)) in
+    let a : filter (λ y. not (isVoice (v .id) y)) vs ≡ vs = filter-all (λ y. not (isVoice (v .id) y)) vs (λ u j. ap not (other-above (x .id .0) vs (r .1) (v .id) (ap-le p) u j)) in
     let b : isVoice (v .id) x ≡ true = eq-eqb (x .id .0) (v .id .0) (ap (λ (y : Voice). y .id .0) (sym p)) in
     rw (b, a) (ap (λ z. more (q z) (count q vs)) (sym p))
   where
@@ -73,13 +76,13 @@ count-gone q n (x ∷ vs) r v (inl p) =
     ap-le e = let z : v .id .0 ≡ x .id .0 = ap (λ (y : Voice). y .id .0) e in omega arith
 count-gone q n (x ∷ vs) r v (inr i) = rw (other-below n x vs r v i, count-gone q (x .id .0) vs (r .1) v i) (swap (q x) (q v))
   where
-    swap : (a b : Bool) → more a (more b (count q (keep (λ y. not (isVoice (v .id) y)) vs))) ≡ more b (more a (count q (keep (λ y. not (isVoice (v .id) y)) vs)))
+    swap : (a b : Bool) → more a (more b (count q (filter (λ y. not (isVoice (v .id) y)) vs))) ≡ more b (more a (count q (filter (λ y. not (isVoice (v .id) y)) vs)))
     swap true true = refl
     swap true false = refl
     swap false true = refl
     swap false false = refl
 
-pub one-gone : {n : ℕ} {vs : List Voice} → Ids n vs → (q : Voice → Bool) (v : Voice) → In v vs → count q vs ≡ more (q v) (count q (keep (λ x. not (isVoice (v .id) x)) vs))
+pub one-gone : {n : ℕ} {vs : List Voice} → Ids n vs → (q : Voice → Bool) (v : Voice) → In v vs → count q vs ≡ more (q v) (count q (filter (λ x. not (isVoice (v .id) x)) vs))
 one-gone {n} {vs} d q v i = count-gone q 0 vs (d .rising) v i
 
 -- a change of the voices that leaves all but v

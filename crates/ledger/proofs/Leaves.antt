@@ -12,9 +12,12 @@ use lib.Ieee.{Float}
 use lib.ListN.{length}
 use lib.Dec.{leb}
 use borrow.Author.Tests.{ne-eqb, eqb-true, not-true}
-use Rattle.lists.specs.Member.{In, in-left, in-of-map, and-left, and-right}
-use Rattle.lists.specs.Find.{find, find-in}
-use Rattle.lists.specs.Keep.{keep, in-keep, keep-in}
+use Rattle.lists.specs.Member.{In}
+use Rattle.lists.proofs.Member.{in-left, in-of-map, and-left, and-right}
+use Rattle.lists.specs.Find.{find}
+use Rattle.lists.proofs.Find.{find-in}
+use Rattle.lists.specs.Filter.{filter}
+use Rattle.lists.proofs.Filter.{in-filter, filter-in}
 use Rattle.lists.specs.Count.{more}
 use Rattle.node.specs.declared.record.VoiceId.{VoiceId}
 use Rattle.node.specs.declared.refusal.Refusal.{Refusal}
@@ -23,7 +26,7 @@ use Rattle.graph.specs.Refuse.{addRefusal, hostRefusal, disconnectRefusal, conn
 use Rattle.scheduler.specs.Event.{paramOrder}
 use Rattle.scheduler.specs.Queue as queue
 use Rattle.scheduler.specs.declared.event.Event.{Event}
-use Rattle.voice.specs.Steals.{Book, pushed, marked, recordOf}
+use Rattle.voice.specs.Steals.{StealLog, pushed, marked, recordOf}
 use Rattle.voice.specs.declared.steals.StealRecord.{StealRecord}
 use Rattle.store.specs.declared.answer.Rendered.{Rendered}
 use Rattle.store.specs.declared.answer.Rendered.the-variants as Rendered
@@ -31,13 +34,13 @@ use Rattle.store.specs.declared.voices.Voice.{Voice}
 use Rattle.store.specs.declared.voices.VoiceState.{VoiceState}
 use Rattle.store.specs.declared.voices.VoiceState.the-variants.{Tracked, Fading, Loose}
 use Rattle.store.specs.declared.voices.Fade.{Fade}
-use Rattle.model.specs.Desk.{sounding}
+use Rattle.model.specs.SharedState.{sounding}
 use Rattle.model.specs.Voice.{isVoice, isTracked, isOn, withState, beginFade, movedFade, movedState, moved, voiceLevel}
 use Rattle.model.specs.Refuse.{spawnRefusal, reportRefusal}
-use Rattle.model.specs.Spawn.{newcomer, stateUnder, tries, fadeOf, Spawn}
+use Rattle.model.specs.Spawn.{newVoice, stateUnder, tries, fadeOf, Spawn}
 use Rattle.model.specs.Order.{order}
 use Rattle.model.specs.Clear.{isSilent}
-use Rattle.model.specs.Render.{prepareOutcome, prepareDesk, isFree, anyFree, heard, answerAfter, isSounding, deadline, due, clockEnds}
+use Rattle.model.specs.Render.{prepareOutcome, prepareShared, isFree, anyFree, heard, answerAfter, isSounding, deadline, due, clockEnds}
 use Rattle.model.specs.Written.{written}
 use Rattle.model.specs.Page.{page}
 use Rattle.model.specs.Call.{Call, scheduleRefusal, readyAnswer, Question, answerTo, blockAnswer}
@@ -46,19 +49,19 @@ use Rattle.model.specs.Call as call
 use Rattle.order.specs.declared.Readiness.{Readiness}
 use Rattle.order.specs.declared.Readiness.the-variants.{Ready, Refused}
 use Rattle.model.specs.Model.{Model}
-use Rattle.ledger.specs.Ledger.{Ledger, Landed, portFree, portHeld, gone, cutOff, stolen, stealVoice, landOr, place, settle, refused, admitted, admissionOn, free}
+use Rattle.ledger.specs.Ledger.{Ledger, SpawnResult, portFree, portHeld, withoutVoice, cutOff, stolen, stealVoice, instantiateOr, place, placeWithinBudget, refused, admitted, admissionOn, free}
 use Rattle.ledger.specs.Ledger as ledger
-use Rattle.ledger.specs.Clear.{goneAll, endedVoices, silentVoices}
+use Rattle.ledger.specs.Clear.{withoutVoices, endedVoices, silentVoices}
 use Rattle.ledger.specs.Clear as clearing
 use Rattle.ledger.specs.Render as rendering
-use Rattle.ledger.specs.Render.{happen, happenAll, countedIf, preparedIf, rested, render}
+use Rattle.ledger.specs.Render.{applyEvent, applyEvents, countedIf, preparedIf, rested, render}
 use Rattle.ledger.specs.Call.{Step, unless, step, seen}
 use Rattle.ledger.specs.Claim.{busy, heldRecord, cutIfHeld, Newest, tracks, isSounded}
 use Rattle.ledger.proofs.Words.{GoesOn, Why, freed, timed, ended, silent, reclaimed}
 use Rattle.ledger.proofs.Ids.{unique, same-id}
 use Rattle.ledger.proofs.Victim.{nextOut-in}
-use Rattle.ledger.proofs.Book.{held-pushed, held-marked, held-unmarked, cut-cut, count-pushed}
-use Rattle.ledger.proofs.Steps.{place-kept, goneAll-kept, atDesk}
+use Rattle.ledger.proofs.StealLog.{held-pushed, held-marked, held-unmarked, cut-cut, count-pushed}
+use Rattle.ledger.proofs.Preserved.{place-kept, goneAll-kept, atShared}
 use Rattle.ledger.proofs.Managed.{IdsOf, managed-kept, ids-steady}
 use Rattle.ledger.proofs.Nodes.{OwnNodes, silent-first}
 use Rattle.ledger.proofs.Clearing.{faded-voices}
@@ -84,38 +87,38 @@ answer-silent call.clock m = refl
 answer-silent (call.page out) m = go (leb (length text) (length out))
   where
     text : List ℕ
-    text = page (m .desk .clock) (m .voices)
+    text = page (m .shared .clock) (m .voices)
 
     go : (b : Bool) → isSounded (cond b (call.printed (length text) (written text out)) (call.refused ShortBuffer)) ≡ false
     go true = refl
     go false = refl
-answer-silent (call.fadeOutput input ins lent position out outs) m = block-silent (fades (m .desk .config) input ins lent out outs) _
-answer-silent (call.busSum inputs counts out outs) m = block-silent (sums (m .desk .config) inputs counts out outs) _
+answer-silent (call.fadeOutput input ins lent position out outs) m = block-silent (fades (m .shared .config) input ins lent out outs) _
+answer-silent (call.busSum inputs counts out outs) m = block-silent (sums (m .shared .config) inputs counts out outs) _
 
 abbrev Next : Ledger → Voice → Fade → Call → Step → Type 0
 Next l v f x s = GoesOn v f (s .answer) (s .ledger .voices) ⊎ Why l (s .ledger) v f x
 
 -- ---- a record that is cut, if held, stays so
 module _ (k : ℕ) where
-  abbrev CutIn : Book → Type 0
+  abbrev CutIn : StealLog → Type 0
   CutIn b = (k < b .count) × (cutIfHeld (heldRecord b k) ≡ true)
 
-  cut-pushed : (b : Book) (r : StealRecord) → b .count < 18446744073709551615 → Newest b → CutIn b → CutIn (pushed b r)
+  cut-pushed : (b : StealLog) (r : StealRecord) → b .count < 18446744073709551615 → Newest b → CutIn b → CutIn (pushed b r)
   cut-pushed b r small w h =
       let c = count-pushed b r small in
       let lt = h .0 in
       (omega arith, ⊎-elim (λ e. ap cutIfHeld e ∙ h .1) (λ z. ap cutIfHeld (z .0)) (held-pushed b r small w k (h .0)))
 
-  cut-marked : (b : Book) (j : ℕ) → CutIn b → CutIn (marked b j)
+  cut-marked : (b : StealLog) (j : ℕ) → CutIn b → CutIn (marked b j)
   cut-marked b j h = (h .0, go (ℕ-discrete k j))
     where
       go : Dec (k ≡ j) → cutIfHeld (heldRecord (marked b j) k) ≡ true
       go (yes e) = ap (λ i. cutIfHeld (heldRecord (marked b j) i)) e ∙ ap cutIfHeld (held-marked b j) ∙ cut-cut (heldRecord b j)
       go (no e) = ap cutIfHeld (held-unmarked b j k e) ∙ h .1
 
-  cut-cutOff : (w : Voice) (s : VoiceState) (m : Ledger) → RecordedOf m → In w (m .voices) → w .state ≡ s → CutIn (m .desk .steals) → CutIn (cutOff w s m .desk .steals)
-  cut-cutOff w Tracked m r i e h = cut-pushed (m .desk .steals) (recordOf (m .desk .clock) (voiceLevel (m .desk) w) true) (steal-small r w i e) (r .newest) h
-  cut-cutOff w (Fading f) m r i e h = cut-marked (m .desk .steals) (f .number) h
+  cut-cutOff : (w : Voice) (s : VoiceState) (m : Ledger) → RecordedOf m → In w (m .voices) → w .state ≡ s → CutIn (m .shared .steals) → CutIn (cutOff w s m .shared .steals)
+  cut-cutOff w Tracked m r i e h = cut-pushed (m .shared .steals) (recordOf (m .shared .clock) (voiceLevel (m .shared) w) true) (steal-small r w i e) (r .newest) h
+  cut-cutOff w (Fading f) m r i e h = cut-marked (m .shared .steals) (f .number) h
   cut-cutOff w Loose m r i e h = h
 
 module _ (v : Voice) (f : Fade) (ph : v .state ≡ Fading f) where
@@ -126,17 +129,17 @@ module _ (v : Voice) (f : Fade) (ph : v .state ≡ Fading f) where
   still vs i = subst (λ z. In z vs) (sym same-voice) i
 
   -- one voice goes: it is this one or another
-  stays-keep : (w : VoiceId) (vs : List Voice) → In v vs → In v (keep (λ x. not (isVoice w x)) vs) ⊎ (v .id .0 ≡ w .0)
+  stays-keep : (w : VoiceId) (vs : List Voice) → In v vs → In v (filter (λ x. not (isVoice w x)) vs) ⊎ (v .id .0 ≡ w .0)
   stays-keep w vs i = go (ℕ-discrete (v .id .0) (w .0))
     where
-      go : Dec (v .id .0 ≡ w .0) → In v (keep (λ x. not (isVoice w x)) vs) ⊎ (v .id .0 ≡ w .0)
+      go : Dec (v .id .0 ≡ w .0) → In v (filter (λ x. not (isVoice w x)) vs) ⊎ (v .id .0 ≡ w .0)
       go (yes e) = inr e
-      go (no e) = inl (keep-in (λ x. not (isVoice w x)) vs v i (ap not (ne-eqb (v .id .0) (w .0) e)))
+      go (no e) = inl (filter-in (λ x. not (isVoice w x)) vs v i (ap not (ne-eqb (v .id .0) (w .0) e)))
 
   -- ---- the reclaims of a managed spawn
   module _ (spawn : Spawn) where
     abbrev Here : Ledger → Type 0
-    Here m = In v (m .voices) ⊎ ((isOn (spawn .bus) v ≡ true) × CutIn (f .number) (m .desk .steals))
+    Here m = In v (m .voices) ⊎ ((isOn (spawn .bus) v ≡ true) × CutIn (f .number) (m .shared .steals))
 
     here-cut : (w : Voice) (m : Ledger) → RecordedOf m → In w (m .voices) → isOn (spawn .bus) w ≡ true → Here m → Here (cutOff w (w .state) m)
     here-cut w m r j o (inr z) = inr (z .0, cut-cutOff (f .number) w (w .state) m r j refl (z .1))
@@ -147,14 +150,14 @@ module _ (v : Voice) (f : Fade) (ph : v .state ≡ Fading f) where
             let z : v ≡ w = unique (r .ids) v w i j e in
             let h : w .state ≡ Fading f = ap (λ (x : Voice). x .state) (sym z) ∙ ph in
             let n = r .numbers v i f ph in
-            inr (ap (isOn (spawn .bus)) z ∙ o, subst (λ s. CutIn (f .number) (cutOff w s m .desk .steals)) (sym h) (n, ap cutIfHeld (held-marked (m .desk .steals) (f .number)) ∙ cut-cut (heldRecord (m .desk .steals) (f .number))))
+            inr (ap (isOn (spawn .bus)) z ∙ o, subst (λ s. CutIn (f .number) (cutOff w s m .shared .steals)) (sym h) (n, ap cutIfHeld (held-marked (m .shared .steals) (f .number)) ∙ cut-cut (heldRecord (m .shared .steals) (f .number))))
 
-    here-settle : (m : Ledger) → RecordedOf m → Here m → Here (settle spawn m .ledger)
+    here-settle : (m : Ledger) → RecordedOf m → Here m → Here (placeWithinBudget spawn m .ledger)
     here-settle m r h =
-        place-kept spawn (stateUnder (m .desk .config .budget)) (λ n m. RecordedOf m × Here m) (λ r. Here (r .ledger))
-        (λ n m p e q. ⊎-elim (λ i. inl (in-left (m .voices) (newcomer spawn _ p (m .desk) ∷ []) v i)) inr (q .1)) (λ m e q. q .1) (λ n m e g q. q .1)
-        (λ n m w e g q. let i = nextOut-in (q .0 .ids) (m .desk) (spawn .bus) w g in (recorded-cut w (w .state) m (q .0) (i .0) refl, here-cut w m (q .0) (i .0) (and-right (busy (w .state)) (isOn (spawn .bus) w) (i .1)) (q .1)))
-        (tries (m .desk .config .budget) (m .voices)) m (r, h)
+        place-kept spawn (stateUnder (m .shared .config .budget)) (λ n m. RecordedOf m × Here m) (λ r. Here (r .ledger))
+        (λ n m p e q. ⊎-elim (λ i. inl (in-left (m .voices) (newVoice spawn _ p (m .shared) ∷ []) v i)) inr (q .1)) (λ m e q. q .1) (λ n m e g q. q .1)
+        (λ n m w e g q. let i = nextOut-in (q .0 .ids) (m .shared) (spawn .bus) w g in (recorded-cut w (w .state) m (q .0) (i .0) refl, here-cut w m (q .0) (i .0) (and-right (busy (w .state)) (isOn (spawn .bus) w) (i .1)) (q .1)))
+        (tries (m .shared .config .budget) (m .voices)) m (r, h)
 
     -- the victim of the admission is another voice: it is tracked
     here-steal : (w : Voice) (m : Ledger) → RecordedOf m → In v (m .voices) → In w (m .voices) → isTracked (w .state) ≡ true → In v (stealVoice w m .voices)
@@ -167,8 +170,8 @@ module _ (v : Voice) (f : Fade) (ph : v .state ≡ Fading f) where
         off = ne-eqb (v .id .0) (w .id .0) other
 
         go : (o : Option ℕ) → In v (stolen w o m .voices)
-        go none = keep-in (λ x. not (isVoice (w .id) x)) (m .voices) v i (ap not off)
-        go (some p) = subst (λ z. In z (map (beginFade (w .id) (fadeOf (m .desk))) (m .voices))) (begin-other (w .id) (fadeOf (m .desk)) v off) (in-of-map (beginFade (w .id) (fadeOf (m .desk))) (m .voices) v i)
+        go none = filter-in (λ x. not (isVoice (w .id) x)) (m .voices) v i (ap not off)
+        go (some p) = subst (λ z. In z (map (beginFade (w .id) (fadeOf (m .shared))) (m .voices))) (begin-other (w .id) (fadeOf (m .shared)) v off) (in-of-map (beginFade (w .id) (fadeOf (m .shared))) (m .voices) v i)
 
     here-managed : (m : Ledger) → RecordedOf m → In v (m .voices) → Here (admitted (admissionOn (spawn .bus) m) spawn m .ledger)
     here-managed m r i =
@@ -187,23 +190,23 @@ module _ (v : Voice) (f : Fade) (ph : v .state ≡ Fading f) where
   abbrev TimedBy : List Event → Type 0
   TimedBy q = (e : Event) × In e q × (isFree (e .action) ≡ true) × (e .voice ≡ v .id)
 
-  leaves-happen : (e : Event) (m : Ledger) → In v (m .voices) → In v (happen e m .voices) ⊎ ((isFree (e .action) ≡ true) × (e .voice ≡ v .id))
+  leaves-happen : (e : Event) (m : Ledger) → In v (m .voices) → In v (applyEvent e m .voices) ⊎ ((isFree (e .action) ≡ true) × (e .voice ≡ v .id))
   leaves-happen e m i = go (isFree (e .action)) refl
     where
       go : (b : Bool) → isFree (e .action) ≡ b
-          → In v (cond b (free (e .voice) m) (atDesk m (order (e .voice) (paramOrder e .name) (paramOrder e .order) (m .voices) (m .desk) .desk)) .voices) ⊎ ((isFree (e .action) ≡ true) × (e .voice ≡ v .id))
+          → In v (cond b (free (e .voice) m) (atShared m (order (e .voice) (paramOrder e .name) (paramOrder e .order) (m .voices) (m .shared) .shared)) .voices) ⊎ ((isFree (e .action) ≡ true) × (e .voice ≡ v .id))
       go true h = ⊎-elim inl (λ z. inr (h, z)) (leaves-free (e .voice) m i)
       go false h = inl i
 
-  leaves-events : (q : List Event) (m : Ledger) → In v (m .voices) → In v (happenAll q m .voices) ⊎ TimedBy q
+  leaves-events : (q : List Event) (m : Ledger) → In v (m .voices) → In v (applyEvents q m .voices) ⊎ TimedBy q
   leaves-events [] m i = inl i
   leaves-events (e ∷ q) m i =
-      ⊎-elim (λ j. ⊎-elim inl (λ z. inr (z .0, inr (z .1), z .2, z .3)) (leaves-events q (happen e m) j)) (λ z. inr (e, inl refl, z .0, z .1)) (leaves-happen e m i)
+      ⊎-elim (λ j. ⊎-elim inl (λ z. inr (z .0, inr (z .1), z .2, z .3)) (leaves-events q (applyEvent e m) j)) (λ z. inr (e, inl refl, z .0, z .1)) (leaves-happen e m i)
 
-  leaves-all : (gs : List Voice) (m : Ledger) → In v (m .voices) → In v (goneAll gs m .voices) ⊎ ((g : Voice) × In g gs × (v .id .0 ≡ g .id .0))
+  leaves-all : (gs : List Voice) (m : Ledger) → In v (m .voices) → In v (withoutVoices gs m .voices) ⊎ ((g : Voice) × In g gs × (v .id .0 ≡ g .id .0))
   leaves-all [] m i = inl i
   leaves-all (g ∷ gs) m i =
-      ⊎-elim (λ j. ⊎-elim inl (λ z. inr (z .0, inr (z .1), z .2)) (leaves-all gs (gone (g .id) m) j)) (λ z. inr (g, inl refl, z)) (stays-keep (g .id) (m .voices) i)
+      ⊎-elim (λ j. ⊎-elim inl (λ z. inr (z .0, inr (z .1), z .2)) (leaves-all gs (withoutVoice (g .id) m) j)) (λ z. inr (g, inl refl, z)) (stays-keep (g .id) (m .voices) i)
 
   -- ---- a block
   counts : (b : Bool) (vs : List Voice) → In v vs → In (withState (Fading (movedFade (more b) f)) v) (countedIf b vs)
@@ -211,63 +214,63 @@ module _ (v : Voice) (f : Fade) (ph : v .state ≡ Fading f) where
   counts false vs i = still vs i
 
   blocks : (b : Bool) (m : Ledger) → In v (m .voices) → GoesOn v f (call.rendered (preparedIf b m .answer)) (preparedIf b m .ledger .voices)
-  blocks true m i = counts (isSounding (answerAfter (prepareOutcome (m .desk) .answer) (prepareDesk (m .desk)))) (m .voices) i
-  blocks false m i = counts (isSounding (heard (sounding (m .desk)))) (m .voices) i
+  blocks true m i = counts (isSounding (answerAfter (prepareOutcome (m .shared) .answer) (prepareShared (m .shared)))) (m .voices) i
+  blocks false m i = counts (isSounding (heard (sounding (m .shared)))) (m .voices) i
 
   -- ---- every call
   guarded : (o : Option Refusal) (x : Call) (l : Ledger) (s : Step) → In v (l .voices) → (o ≡ none → Next l v f x s) → Next l v f x (unless o l s)
   guarded (some r) x l s i g = inl (still (l .voices) i)
   guarded none x l s i g = g refl
 
-  leaves-loose : (o : Option ℕ) (spawn : Spawn) (l : Ledger) → In v (l .voices) → In v (landOr o none spawn Loose l (ledger.refused NoPort) .ledger .voices)
-  leaves-loose (some p) spawn l i = in-left (l .voices) (newcomer spawn Loose p (l .desk) ∷ []) v i
+  leaves-loose : (o : Option ℕ) (spawn : Spawn) (l : Ledger) → In v (l .voices) → In v (instantiateOr o none spawn Loose l (ledger.refused NoPort) .ledger .voices)
+  leaves-loose (some p) spawn l i = in-left (l .voices) (newVoice spawn Loose p (l .shared) ∷ []) v i
   leaves-loose none spawn l i = i
 
   leaves-clear : (l : Ledger) → OwnNodes l → In v (l .voices) → Next l v f call.clear (step call.clear l)
   leaves-clear l q i = ⊎-elim second first (leaves-all (endedVoices l) l i)
     where
       m : Ledger
-      m = goneAll (endedVoices l) l
+      m = withoutVoices (endedVoices l) l
 
-      unended : In v (m .voices) → clearing.ended (l .desk) (v .state) ≡ false
-      unended k = not-true _ (in-keep (λ x. not (clearing.ended (l .desk) (x .state))) (l .voices) v (subst (In v) (faded-voices l (q .0)) k) .1)
+      unended : In v (m .voices) → clearing.ended (l .shared) (v .state) ≡ false
+      unended k = not-true _ (in-filter (λ x. not (clearing.ended (l .shared) (x .state))) (l .voices) v (subst (In v) (faded-voices l (q .0)) k) .1)
 
       first : (g : Voice) × In g (endedVoices l) × (v .id .0 ≡ g .id .0) → Next l v f call.clear (step call.clear l)
       first z =
-          let j = in-keep (λ x. clearing.ended (l .desk) (x .state)) (l .voices) (z .0) (z .1) in
+          let j = in-filter (λ x. clearing.ended (l .shared) (x .state)) (l .voices) (z .0) (z .1) in
           let e : v ≡ z .0 = unique (q .0) v (z .0) i (j .0) (z .2) in
-          inr (ended (ap (λ (x : Voice). clearing.ended (l .desk) (x .state)) e ∙ j .1))
+          inr (ended (ap (λ (x : Voice). clearing.ended (l .shared) (x .state)) e ∙ j .1))
 
       last : In v (m .voices) → (g : Voice) × In g (silentVoices m) × (v .id .0 ≡ g .id .0) → Next l v f call.clear (step call.clear l)
       last k z =
-          let j = in-keep (isSilent (m .desk .graph .nodes)) (m .voices) (z .0) (z .1) in
+          let j = in-filter (isSilent (m .shared .graph .nodes)) (m .voices) (z .0) (z .1) in
           let e : v ≡ z .0 = unique (goneAll-kept IdsOf ids-steady (endedVoices l) l (q .0)) v (z .0) k (j .0) (z .2) in
-          inr (silent (sym (silent-first l q v i (unended k)) ∙ ap (isSilent (m .desk .graph .nodes)) e ∙ j .1))
+          inr (silent (sym (silent-first l q v i (unended k)) ∙ ap (isSilent (m .shared .graph .nodes)) e ∙ j .1))
 
       second : In v (m .voices) → Next l v f call.clear (step call.clear l)
-      second k = ⊎-elim (λ j. inl (still (goneAll (silentVoices m) m .voices) j)) (last k) (leaves-all (silentVoices m) m k)
+      second k = ⊎-elim (λ j. inl (still (withoutVoices (silentVoices m) m .voices) j)) (last k) (leaves-all (silentVoices m) m k)
 
   leaves-render : (l : Ledger) → In v (l .voices) → Next l v f call.render (step call.render l)
-  leaves-render l i = go (clockEnds (l .desk))
+  leaves-render l i = go (clockEnds (l .shared))
     where
       q : List Event
-      q = due (l .desk)
+      q = due (l .shared)
 
       out : rendering.Heard → Step
       out h = record { answer = call.rendered (h .answer); ledger = h .ledger }
 
       timed-by : (s : Step) → TimedBy q → Why l (s .ledger) v f call.render
-      timed-by s z = let j = in-keep (queue.due (deadline (l .desk))) (l .desk .events) (z .0) (z .1) in timed (z .0) (j .0) (j .1) (z .2) (z .3)
+      timed-by s z = let j = in-filter (queue.due (deadline (l .shared))) (l .shared .events) (z .0) (z .1) in timed (z .0) (j .0) (j .1) (z .2) (z .3)
 
-      go : (b : Bool) → Next l v f call.render (out (cond b (record { answer = Rendered.Refused ClockEnd; ledger = l }) (preparedIf (anyFree q) (happenAll q (rested l)))))
+      go : (b : Bool) → Next l v f call.render (out (cond b (record { answer = Rendered.Refused ClockEnd; ledger = l }) (preparedIf (anyFree q) (applyEvents q (rested l)))))
       go true = inl (still (l .voices) i)
       go false =
-          ⊎-elim (λ j. inl (blocks (anyFree q) (happenAll q (rested l)) j)) (λ z. inr (timed-by (out (preparedIf (anyFree q) (happenAll q (rested l)))) z)) (leaves-events q (rested l) i)
+          ⊎-elim (λ j. inl (blocks (anyFree q) (applyEvents q (rested l)) j)) (λ z. inr (timed-by (out (preparedIf (anyFree q) (applyEvents q (rested l)))) z)) (leaves-events q (rested l) i)
 
   leaves-managed : (spawn : Spawn) (l : Ledger) → RecordedOf l → In v (l .voices) → Next l v f (call.spawnManaged spawn) (step (call.spawnManaged spawn) l)
-  leaves-managed spawn l r i = go (spawnRefusal (l .desk) (l .voices) (spawn .def) (spawn .bus))
+  leaves-managed spawn l r i = go (spawnRefusal (l .shared) (l .voices) (spawn .def) (spawn .bus))
     where
-      out : Landed → Step
+      out : SpawnResult → Step
       out z = record { answer = call.spawned (z .answer); ledger = z .ledger }
 
       go : (o : Option Refusal) → Next l v f (call.spawnManaged spawn) (out (ledger.unless o l (admitted (admissionOn (spawn .bus) l) spawn l)))
@@ -280,13 +283,13 @@ module _ (v : Voice) (f : Fade) (ph : v .state ≡ Fading f) where
   ready-still l (Refused r) i = still (l .voices) i
 
   pub leaves : (x : Call) (l : Ledger) → RecordedOf l → OwnNodes l → In v (l .voices) → GoesOn v f (step x l .answer) (step x l .ledger .voices) ⊎ Why l (step x l .ledger) v f x
-  leaves (call.addNode kind ports required values glides) l r q i = guarded (addRefusal (l .desk .graph) kind ports required) _ l _ i (λ e. inl (still (l .voices) i))
-  leaves (call.removeNode k) l r q i = guarded (hostRefusal (l .desk .graph) k) _ l _ i (λ e. inl (still (l .voices) i))
-  leaves (call.connect a b p) l r q i = guarded (connectRefusal (l .desk .graph) a b p) _ l _ i (λ e. inl (still (l .voices) i))
-  leaves (call.disconnect b p) l r q i = guarded (disconnectRefusal (l .desk .graph) b p) _ l _ i (λ e. inl (still (l .voices) i))
-  leaves (call.setSink k) l r q i = guarded (hostRefusal (l .desk .graph) k) _ l _ i (λ e. inl (still (l .voices) i))
+  leaves (call.addNode kind ports required values glides) l r q i = guarded (addRefusal (l .shared .graph) kind ports required) _ l _ i (λ e. inl (still (l .voices) i))
+  leaves (call.removeNode k) l r q i = guarded (hostRefusal (l .shared .graph) k) _ l _ i (λ e. inl (still (l .voices) i))
+  leaves (call.connect a b p) l r q i = guarded (connectRefusal (l .shared .graph) a b p) _ l _ i (λ e. inl (still (l .voices) i))
+  leaves (call.disconnect b p) l r q i = guarded (disconnectRefusal (l .shared .graph) b p) _ l _ i (λ e. inl (still (l .voices) i))
+  leaves (call.setSink k) l r q i = guarded (hostRefusal (l .shared .graph) k) _ l _ i (λ e. inl (still (l .voices) i))
   leaves (call.spawnManaged spawn) l r q i = leaves-managed spawn l r i
-  leaves (call.spawnLoose spawn) l r q i = inl (go (spawnRefusal (l .desk) (l .voices) (spawn .def) (spawn .bus)))
+  leaves (call.spawnLoose spawn) l r q i = inl (go (spawnRefusal (l .shared) (l .voices) (spawn .def) (spawn .bus)))
     where
       go : (o : Option Refusal) → In (withState (Fading f) v) (ledger.unless o l (place 0 spawn Loose l) .ledger .voices)
       go (some n) = still (l .voices) i
@@ -294,8 +297,8 @@ module _ (v : Voice) (f : Fade) (ph : v .state ≡ Fading f) where
   leaves (call.free w) l r q i = ⊎-elim (λ j. inl (still (free w l .voices) j)) (λ e. inr (subst (λ z. Why l (free w l) v f (call.free z)) (sym e) freed)) (leaves-free w l i)
   leaves call.clear l r q i = leaves-clear l q i
   leaves (call.order w name o) l r q i = inl (still (l .voices) i)
-  leaves (call.schedule t w name a) l r q i = guarded (scheduleRefusal (l .desk .events)) _ l _ i (λ e. inl (still (l .voices) i))
-  leaves (call.report k channels samples flag) l r q i = guarded (reportRefusal (l .desk) (l .voices) k channels (length samples)) _ l _ i (λ e. inl (still (l .voices) i))
-  leaves call.prepare l r q i = inl (ready-still l (prepareOutcome (l .desk) .answer) i)
+  leaves (call.schedule t w name a) l r q i = guarded (scheduleRefusal (l .shared .events)) _ l _ i (λ e. inl (still (l .voices) i))
+  leaves (call.report k channels samples flag) l r q i = guarded (reportRefusal (l .shared) (l .voices) k channels (length samples)) _ l _ i (λ e. inl (still (l .voices) i))
+  leaves call.prepare l r q i = inl (ready-still l (prepareOutcome (l .shared) .answer) i)
   leaves call.render l r q i = leaves-render l i
   leaves (call.ask w) l r q i = inl (rw (answer-silent w (seen l)) (still (l .voices) i))

@@ -1,6 +1,6 @@
 -- What the records of a managed spawn hold: "a victim is untracked, faded, or freed if it cannot fade, and recorded"; "else free the
 -- policy's victim among tracked voices of that bus with a cut record". Each voice that was tracked and is not any more has its record, with
--- the clock, the level that it had before anything changed, and a cut mark exactly if it is gone.
+-- the clock, the level that it had before anything changed, and a cut mark exactly if it is withoutVoice.
 use Prim.Native.Nat.{ℕ, suc, _+_, _≤_, _<_}
 use native.Mathlib.Omega.{arith}
 use native.Mathlib.Decide.{ℕ-discrete}
@@ -12,15 +12,19 @@ use mathlib.Core.Bool.{Bool, true, false, not, cond, false≢true}
 use lib.Dec.{eqb, ltb}
 use lib.ListN.{length, length-append}
 use borrow.Author.Tests.{eq-eqb, ne-eqb, eqb-true, not-true}
-use Rattle.lists.specs.Member.{In, in-snoc, in-left, in-right, in-map, in-of-map, and-left, and-right}
-use Rattle.lists.specs.Find.{find, isSome, mapO, find-in, find-keep-same, find-snoc-off, find-map}
-use Rattle.lists.specs.Keep.{keep, in-keep, keep-in}
-use Rattle.lists.specs.Count.{count, count-length}
+use Rattle.lists.specs.Member.{In}
+use Rattle.lists.proofs.Member.{in-snoc, in-left, in-right, in-map, in-of-map, and-left, and-right}
+use Rattle.lists.specs.Find.{find, isSome, mapO}
+use Rattle.lists.proofs.Find.{find-in, find-filter-same, find-snoc-off, find-map}
+use Rattle.lists.specs.Filter.{filter}
+use Rattle.lists.proofs.Filter.{in-filter, filter-in}
+use Rattle.lists.specs.Count.{count}
+use Rattle.lists.proofs.Count.{count-length}
 use Rattle.node.specs.declared.record.NodeId.{NodeId}
 use Rattle.node.specs.declared.record.VoiceId.{VoiceId}
 use Rattle.node.specs.declared.refusal.Refusal.{Refusal}
 use Rattle.graph.specs.Node.{isNode, nodeAt, withId}
-use Rattle.voice.specs.Steals.{Book, pushed, marked, cutOf, recordOf}
+use Rattle.voice.specs.Steals.{StealLog, pushed, marked, cutOf, recordOf}
 use Rattle.voice.specs.declared.policy.Admission.{Admission}
 use Rattle.voice.specs.declared.policy.Admission.the-variants as admission
 use Rattle.voice.specs.declared.policy.Level.{Level}
@@ -33,23 +37,23 @@ use Rattle.store.specs.declared.voices.VoiceState.the-variants.{Tracked, Fading
 use Rattle.store.specs.declared.voices.Fade.{Fade}
 use Rattle.model.specs.Voice.{id, isVoice, isTracked, isOn, withState, beginFade, nodeLevel, voiceLevel, counted}
 use Rattle.model.specs.Refuse.{spawnRefusal}
-use Rattle.model.specs.Spawn.{Spawn, newcomer, stateUnder, tries, fadeNode, fadeOf, nextOut}
+use Rattle.model.specs.Spawn.{Spawn, newVoice, stateUnder, tries, fadeNode, fadeOf, nextOut}
 use Rattle.model.specs.Call as call
-use Rattle.ledger.specs.Ledger.{Ledger, portHeld, cutOff, stolen, stealVoice, land, settle, stealThen, admitted, admissionOn, unless}
+use Rattle.ledger.specs.Ledger.{Ledger, portHeld, cutOff, stolen, stealVoice, instantiate, placeWithinBudget, stealThen, admitted, admissionOn, unless}
 use Rattle.ledger.specs.Call.{step}
 use Rattle.ledger.specs.Claim.{heldRecord, cutFound, tracks, busy, busyOn, Heads, victimIn, lossOf, Records}
 use Rattle.ledger.proofs.Allowed.{spawn-allowed}
 use Rattle.ledger.proofs.Victim.{nextOut-in, steal-voice}
-use Rattle.ledger.proofs.Steps.{place-kept}
+use Rattle.ledger.proofs.Preserved.{place-kept}
 use Rattle.ledger.proofs.Ids.{unique, once}
-use Rattle.ledger.proofs.Book.{held-pushed, held-new, held-marked, held-unmarked, count-pushed}
+use Rattle.ledger.proofs.StealLog.{held-pushed, held-new, held-marked, held-unmarked, count-pushed}
 use Rattle.ledger.proofs.Nodes.{MineOf, OwnNodes, mine-cut, mine-steal, node-stays}
 use Rattle.ledger.proofs.Managed.{begin-id}
 use Rattle.ledger.proofs.Records.{RecordedOf, tracked-state, fade-inj, recorded-cut, recorded-steal, steal-small, begun, begin-other}
 use Rattle.ledger.proofs.Marks.{tallyOf, tally-cut, tally-steal, gone-self}
 
 -- ---- laws of these
-pub records-same : (r r' : Voice → StealRecord) (b b' : Book) (k : ℕ) (vs : List Voice) → ((v : Voice) → In v vs → r v ≡ r' v) → ((j : ℕ) → k ≤ j → j < k + length vs → heldRecord b' j ≡ heldRecord b j)
+pub records-same : (r r' : Voice → StealRecord) (b b' : StealLog) (k : ℕ) (vs : List Voice) → ((v : Voice) → In v vs → r v ≡ r' v) → ((j : ℕ) → k ≤ j → j < k + length vs → heldRecord b' j ≡ heldRecord b j)
     → Records r b k vs → Records r' b' k vs
 records-same r r' b b' k [] h g s = tt
 records-same r r' b b' k (v ∷ vs) h g s = (
@@ -57,7 +61,7 @@ records-same r r' b b' k (v ∷ vs) h g s = (
   records-same r r' b b' (suc k) vs (λ u i. h u (inr i)) (λ j a c. g j (omega arith) (omega arith)) (s .1),
 )
 
-records-snoc : (r : Voice → StealRecord) (b : Book) (k : ℕ) (vs : List Voice) (v : Voice) → Records r b k vs → heldRecord b (k + length vs) ≡ found.Record (r v) → Records r b k (vs ++ (v ∷ []))
+records-snoc : (r : Voice → StealRecord) (b : StealLog) (k : ℕ) (vs : List Voice) (v : Voice) → Records r b k vs → heldRecord b (k + length vs) ≡ found.Record (r v) → Records r b k (vs ++ (v ∷ []))
 records-snoc r b k [] v s e = let z : k + 0 ≡ k = omega arith in (ap (heldRecord b) (sym z) ∙ e, tt)
 records-snoc r b k (u ∷ vs) v s e = let z : suc k + length vs ≡ k + suc (length vs) = omega arith in (s .0, records-snoc r b (suc k) vs v (s .1) (ap (heldRecord b) z ∙ e))
 
@@ -90,9 +94,9 @@ pub record LossesOf (bus : NodeId) (o : Option Voice) (l l' : Ledger) : Type 0 w
   pub apart : Apart lost
   pub first : Heads o lost
   pub others : (v : Voice) → In v lost → (o ≡ some v) ⊎ (isOn bus v ≡ true)
-  pub fades : (v u : Voice) → In v lost → find (isVoice (v .id)) (l' .voices) ≡ some u → (u ≡ withState (Fading (fadeOf (l .desk))) v) × ((p : ℕ) × (portHeld v l ≡ some p))
-  pub count : l' .desk .steals .count ≡ l .desk .steals .count + length lost
-  pub records : Records (lossOf (l .desk) (l' .voices)) (l' .desk .steals) (l .desk .steals .count) lost
+  pub fades : (v u : Voice) → In v lost → find (isVoice (v .id)) (l' .voices) ≡ some u → (u ≡ withState (Fading (fadeOf (l .shared))) v) × ((p : ℕ) × (portHeld v l ≡ some p))
+  pub count : l' .shared .steals .count ≡ l .shared .steals .count + length lost
+  pub records : Records (lossOf (l .shared) (l' .voices)) (l' .shared .steals) (l .shared .steals .count) lost
 
 nothing-lost : (bus : NodeId) (l : Ledger) → LossesOf bus none l l
 nothing-lost bus l =
@@ -115,19 +119,19 @@ tracked-fades f e = let z : _≡_ {A = ℕ} 0 1 = cc in omega arith
 -- ---- during a managed spawn that found the ledger l₀, with the victim o of the admission
 module _ (bus : NodeId) (l₀ : Ledger) (r₀ : RecordedOf l₀) (q₀ : OwnNodes l₀) (few : length (l₀ .voices) < 64) (o : Option Voice) where
   abbrev k₀ : ℕ
-  k₀ = l₀ .desk .steals .count
+  k₀ = l₀ .shared .steals .count
 
   -- the victim, which fades from this spawn on
   abbrev pub Started : Voice → Type 0
-  Started v = (g : Voice) × (p : ℕ) × (o ≡ some g) × (portHeld g l₀ ≡ some p) × (v ≡ withState (Fading (fadeOf (l₀ .desk))) g)
+  Started v = (g : Voice) × (p : ℕ) × (o ≡ some g) × (portHeld g l₀ ≡ some p) × (v ≡ withState (Fading (fadeOf (l₀ .shared))) g)
 
   pub record Losing (z : Ledger) : Type 0 where
     pub recorded : RecordedOf z
     pub mine : MineOf z
-    pub ids : z .desk .spawned ≡ l₀ .desk .spawned
-    pub clock : z .desk .clock ≡ l₀ .desk .clock
+    pub ids : z .shared .spawned ≡ l₀ .shared .spawned
+    pub clock : z .shared .clock ≡ l₀ .shared .clock
     pub tally : tallyOf z ≡ tallyOf l₀
-    pub sees : (v : Voice) → In v (z .voices) → nodeAt (z .desk .graph .nodes) (v .output) ≡ nodeAt (l₀ .desk .graph .nodes) (v .output)
+    pub sees : (v : Voice) → In v (z .voices) → nodeAt (z .shared .graph .nodes) (v .output) ≡ nodeAt (l₀ .shared .graph .nodes) (v .output)
     pub from : (v : Voice) → In v (z .voices) → In v (l₀ .voices) ⊎ Started v
     pub lost : List Voice
     pub were : (v : Voice) → In v lost → In v (l₀ .voices) × (v .state ≡ Tracked)
@@ -135,19 +139,19 @@ module _ (bus : NodeId) (l₀ : Ledger) (r₀ : RecordedOf l₀) (q₀ : OwnNode
     pub all : (v : Voice) → In v (l₀ .voices) → v .state ≡ Tracked → In v lost ⊎ In v (z .voices)
     pub apart : Apart lost
     pub others : (v : Voice) → In v lost → (o ≡ some v) ⊎ (isOn bus v ≡ true)
-    pub count : z .desk .steals .count ≡ k₀ + length lost
-    pub records : Records (lossOf (l₀ .desk) (z .voices)) (z .desk .steals) k₀ lost
+    pub count : z .shared .steals .count ≡ k₀ + length lost
+    pub records : Records (lossOf (l₀ .shared) (z .voices)) (z .shared .steals) k₀ lost
 
   -- what was tracked in z was there before, as it is
   module _ (z : Ledger) (h : Losing z) (v : Voice) (i : In v (z .voices)) where
     pub tracked-from : v .state ≡ Tracked → In v (l₀ .voices)
-    tracked-from t = ⊎-elim (λ j. j) (λ s. absurd (tracked-fades (fadeOf (l₀ .desk)) (sym t ∙ ap (λ (x : Voice). x .state) (s .4)))) (h .from v i)
+    tracked-from t = ⊎-elim (λ j. j) (λ s. absurd (tracked-fades (fadeOf (l₀ .shared)) (sym t ∙ ap (λ (x : Voice). x .state) (s .4)))) (h .from v i)
 
     -- and its level is what it was: no part of the spawn changed its nodes
-    level-same : voiceLevel (z .desk) v ≡ voiceLevel (l₀ .desk) v
+    level-same : voiceLevel (z .shared) v ≡ voiceLevel (l₀ .shared) v
     level-same =
-        ap (λ c. cond (ltb (v .birth) c) (nodeLevel (nodeAt (z .desk .graph .nodes) (v .output))) Unknown) (h .clock)
-        ∙ ap (λ x. cond (ltb (v .birth) (l₀ .desk .clock)) (nodeLevel x) Unknown) (h .sees v i)
+        ap (λ c. cond (ltb (v .birth) c) (nodeLevel (nodeAt (z .shared .graph .nodes) (v .output))) Unknown) (h .clock)
+        ∙ ap (λ x. cond (ltb (v .birth) (l₀ .shared .clock)) (nodeLevel x) Unknown) (h .sees v i)
 
     -- another voice of the losses has another id
     lost-other : v .state ≡ Tracked → (g : Voice) → In g (h .lost) → g .id .0 ≡ v .id .0 → ⊥
@@ -156,41 +160,41 @@ module _ (bus : NodeId) (l₀ : Ledger) (r₀ : RecordedOf l₀) (q₀ : OwnNode
         h .away g j (subst (λ x. In x (z .voices)) (sym s) i)
 
   -- a voice of another id is found as before
-  other-found : (w : VoiceId) (vs : List Voice) (g : Voice) → (g .id .0 ≡ w .0 → ⊥) → find (isVoice (g .id)) (keep (λ x. not (isVoice w x)) vs) ≡ find (isVoice (g .id)) vs
+  other-found : (w : VoiceId) (vs : List Voice) (g : Voice) → (g .id .0 ≡ w .0 → ⊥) → find (isVoice (g .id)) (filter (λ x. not (isVoice w x)) vs) ≡ find (isVoice (g .id)) vs
   other-found w vs g off =
-      find-keep-same (isVoice (g .id)) (λ x. not (isVoice w x)) (λ x e. ap not (ne-eqb (x .id .0) (w .0) (λ q. off (sym (eqb-true (x .id .0) (g .id .0) e) ∙ q)))) vs
+      find-filter-same (isVoice (g .id)) (λ x. not (isVoice w x)) (λ x e. ap not (ne-eqb (x .id .0) (w .0) (λ q. off (sym (eqb-true (x .id .0) (g .id .0) e) ∙ q)))) vs
 
-  loss-other : (w : VoiceId) (vs : List Voice) (g : Voice) → (g .id .0 ≡ w .0 → ⊥) → lossOf (l₀ .desk) vs g ≡ lossOf (l₀ .desk) (keep (λ x. not (isVoice w x)) vs) g
-  loss-other w vs g off = ap (λ x. recordOf (l₀ .desk .clock) (voiceLevel (l₀ .desk) g) (not (isSome x))) (sym (other-found w vs g off))
+  loss-other : (w : VoiceId) (vs : List Voice) (g : Voice) → (g .id .0 ≡ w .0 → ⊥) → lossOf (l₀ .shared) vs g ≡ lossOf (l₀ .shared) (filter (λ x. not (isVoice w x)) vs) g
+  loss-other w vs g off = ap (λ x. recordOf (l₀ .shared .clock) (voiceLevel (l₀ .shared) g) (not (isSome x))) (sym (other-found w vs g off))
 
-  loss-gone : (vs : List Voice) (g : Voice) → find (isVoice (g .id)) vs ≡ none → recordOf (l₀ .desk .clock) (voiceLevel (l₀ .desk) g) true ≡ lossOf (l₀ .desk) vs g
-  loss-gone vs g e = ap (λ x. recordOf (l₀ .desk .clock) (voiceLevel (l₀ .desk) g) (not (isSome x))) (sym e)
+  loss-gone : (vs : List Voice) (g : Voice) → find (isVoice (g .id)) vs ≡ none → recordOf (l₀ .shared .clock) (voiceLevel (l₀ .shared) g) true ≡ lossOf (l₀ .shared) vs g
+  loss-gone vs g e = ap (λ x. recordOf (l₀ .shared .clock) (voiceLevel (l₀ .shared) g) (not (isSome x))) (sym e)
 
   -- at most 64 records are written, so that all are held
-  held-still : (z : Ledger) → Losing z → (r : StealRecord) → z .desk .steals .count < 18446744073709551615 → (j : ℕ) → k₀ ≤ j → j < z .desk .steals .count
-      → heldRecord (pushed (z .desk .steals) r) j ≡ heldRecord (z .desk .steals) j
+  held-still : (z : Ledger) → Losing z → (r : StealRecord) → z .shared .steals .count < 18446744073709551615 → (j : ℕ) → k₀ ≤ j → j < z .shared .steals .count
+      → heldRecord (pushed (z .shared .steals) r) j ≡ heldRecord (z .shared .steals) j
   held-still z h r small j a b =
       ⊎-elim (λ e. e)
       (λ e.
-      let c = count-pushed (z .desk .steals) r small in
+      let c = count-pushed (z .shared .steals) r small in
       absurd (omega (arith, c, e .1, h .tally, count-length tracks (l₀ .voices))))
-      (held-pushed (z .desk .steals) r small (h .recorded .newest) j b)
+      (held-pushed (z .shared .steals) r small (h .recorded .newest) j b)
 
   module _ (z : Ledger) (h : Losing z) (v : Voice) (i : In v (z .voices)) where
     abbrev rest : List Voice
-    rest = keep (λ x. not (isVoice (v .id) x)) (z .voices)
+    rest = filter (λ x. not (isVoice (v .id) x)) (z .voices)
 
     in-rest : (u : Voice) → In u rest → In u (z .voices) × (v .id .0 ≡ u .id .0 → ⊥)
     in-rest u j =
-        let r = in-keep (λ x. not (isVoice (v .id) x)) (z .voices) u j in
+        let r = in-filter (λ x. not (isVoice (v .id) x)) (z .voices) u j in
         (r .0, λ e. false≢true (sym (not-true _ (r .1)) ∙ eq-eqb (u .id .0) (v .id .0) (sym e)))
 
     -- the nodes of the others stay
-    sees-rest : (u : Voice) → In u rest → nodeAt (cutOff v (v .state) z .desk .graph .nodes) (u .output) ≡ nodeAt (l₀ .desk .graph .nodes) (u .output)
+    sees-rest : (u : Voice) → In u rest → nodeAt (cutOff v (v .state) z .shared .graph .nodes) (u .output) ≡ nodeAt (l₀ .shared .graph .nodes) (u .output)
     sees-rest u j =
         let r = in-rest u j in
         let p = h .mine .output u (r .0) in
-        subst (λ (k : NodeId). nodeAt (cutOff v (v .state) z .desk .graph .nodes) k ≡ nodeAt (z .desk .graph .nodes) k) (sym (p .is))
+        subst (λ (k : NodeId). nodeAt (cutOff v (v .state) z .shared .graph .nodes) k ≡ nodeAt (z .shared .graph .nodes) k) (sym (p .is))
         (node-stays z (h .recorded .ids, h .mine) u (r .0) (v .id) (λ e. r .1 (sym e)) (p .at) (p .below))
         ∙ h .sees u (r .0)
 
@@ -198,7 +202,7 @@ module _ (bus : NodeId) (l₀ : Ledger) (r₀ : RecordedOf l₀) (q₀ : OwnNode
     all-rest lost own sub u j t = ⊎-elim (λ k. inl (sub u k)) (λ k. go k (ℕ-discrete (u .id .0) (v .id .0))) (h .all u j t)
       where
         go : In u (z .voices) → Dec (u .id .0 ≡ v .id .0) → In u lost ⊎ In u rest
-        go k (no e) = inr (keep-in (λ x. not (isVoice (v .id) x)) (z .voices) u k (ap not (ne-eqb (u .id .0) (v .id .0) e)))
+        go k (no e) = inr (filter-in (λ x. not (isVoice (v .id) x)) (z .voices) u k (ap not (ne-eqb (u .id .0) (v .id .0) e)))
         go k (yes e) =
             let s : u ≡ v = unique (h .recorded .ids) u v k i e in
             ⊎-elim (λ m. inl (subst (λ x. In x lost) (sym s) m)) (λ f. absurd (f (ap (λ (x : Voice). x .state) (sym s) ∙ t))) own
@@ -222,23 +226,23 @@ module _ (bus : NodeId) (l₀ : Ledger) (r₀ : RecordedOf l₀) (q₀ : OwnNode
           others = λ u j. ⊎-elim (h .others u) (λ e. subst (λ x. (o ≡ some x) ⊎ (isOn bus x ≡ true)) (sym e) why) (in-snoc (h .lost) v u j);
           count = let a = count-pushed b rec small in let e = h .count in let n = length-append (h .lost) (v ∷ []) in omega arith;
           records =
-              records-snoc (lossOf (l₀ .desk) rest) (pushed b rec) k₀ (h .lost) v
-              (records-same (lossOf (l₀ .desk) (z .voices)) (lossOf (l₀ .desk) rest) b (pushed b rec) k₀ (h .lost) (λ g j. loss-other (v .id) (z .voices) g (lost-other z h v i t g j))
+              records-snoc (lossOf (l₀ .shared) rest) (pushed b rec) k₀ (h .lost) v
+              (records-same (lossOf (l₀ .shared) (z .voices)) (lossOf (l₀ .shared) rest) b (pushed b rec) k₀ (h .lost) (λ g j. loss-other (v .id) (z .voices) g (lost-other z h v i t g j))
               (λ j lo hi. held-still z h rec small j lo (let e = h .count in omega arith)) (h .records))
               (ap (heldRecord (pushed b rec)) (sym (h .count)) ∙ held-new b rec small (h .recorded .newest) ∙ ap found.Record what);
         }
       where
-        b : Book
-        b = z .desk .steals
+        b : StealLog
+        b = z .shared .steals
 
         rec : StealRecord
-        rec = recordOf (z .desk .clock) (voiceLevel (z .desk) v) true
+        rec = recordOf (z .shared .clock) (voiceLevel (z .shared) v) true
 
         small : b .count < 18446744073709551615
         small = steal-small (h .recorded) v i t
 
-        what : rec ≡ lossOf (l₀ .desk) rest v
-        what = ap (λ c. recordOf c (voiceLevel (z .desk) v) true) (h .clock) ∙ ap (λ x. recordOf (l₀ .desk .clock) x true) (level-same z h v i) ∙ loss-gone rest v (gone-self (v .id) (z .voices))
+        what : rec ≡ lossOf (l₀ .shared) rest v
+        what = ap (λ c. recordOf c (voiceLevel (z .shared) v) true) (h .clock) ∙ ap (λ x. recordOf (l₀ .shared .clock) x true) (level-same z h v i) ∙ loss-gone rest v (gone-self (v .id) (z .voices))
 
     -- a fade goes, and its record is marked: an older one, or that of the victim of this very spawn
     losing-mark : (f : Fade) → v .state ≡ Fading f → Heads o (h .lost) → Losing (cutOff v (Fading f) z)
@@ -261,16 +265,16 @@ module _ (bus : NodeId) (l₀ : Ledger) (r₀ : RecordedOf l₀) (q₀ : OwnNode
           records = ⊎-elim old this (h .from v i);
         }
       where
-        b : Book
-        b = z .desk .steals
+        b : StealLog
+        b = z .shared .steals
 
         Marked : List Voice → Type 0
-        Marked vs = Records (lossOf (l₀ .desk) rest) (marked b (f .number)) k₀ vs
+        Marked vs = Records (lossOf (l₀ .shared) rest) (marked b (f .number)) k₀ vs
 
         old : In v (l₀ .voices) → Marked (h .lost)
         old j =
             let n = r₀ .numbers v j f t in
-            records-same (lossOf (l₀ .desk) (z .voices)) (lossOf (l₀ .desk) rest) b (marked b (f .number)) k₀ (h .lost)
+            records-same (lossOf (l₀ .shared) (z .voices)) (lossOf (l₀ .shared) rest) b (marked b (f .number)) k₀ (h .lost)
             (λ g k. loss-other (v .id) (z .voices) g (λ e.
             let s : g ≡ v = unique (r₀ .ids) g v (h .were g k .0) j e in
             tracked-fades f (sym (h .were g k .1) ∙ ap (λ (x : Voice). x .state) s ∙ t)))
@@ -293,14 +297,14 @@ module _ (bus : NodeId) (l₀ : Ledger) (r₀ : RecordedOf l₀) (q₀ : OwnNode
 
             first : (q : List Voice) × (h .lost ≡ g ∷ q) → Marked (h .lost)
             first q = subst Marked (sym (q .1)) (
-              ap (λ j. heldRecord (marked b j) k₀) number ∙ held-marked b k₀ ∙ ap cutFound (recs .0) ∙ ap found.Record (cut-record (l₀ .desk .clock) (voiceLevel (l₀ .desk) g) _ ∙ loss-gone rest g absent),
-              records-same (lossOf (l₀ .desk) (z .voices)) (lossOf (l₀ .desk) rest) b (marked b (f .number)) (suc k₀) (q .0)
+              ap (λ j. heldRecord (marked b j) k₀) number ∙ held-marked b k₀ ∙ ap cutFound (recs .0) ∙ ap found.Record (cut-record (l₀ .shared .clock) (voiceLevel (l₀ .shared) g) _ ∙ loss-gone rest g absent),
+              records-same (lossOf (l₀ .shared) (z .voices)) (lossOf (l₀ .shared) rest) b (marked b (f .number)) (suc k₀) (q .0)
                   (λ u j. loss-other (v .id) (z .voices) u (λ e. ap' .0 u j (e ∙ same)))
                   (λ j lo hi. held-unmarked b (f .number) j (λ e. omega (arith, e, number, lo))) (recs .1),
             )
               where
-                recs : Records (lossOf (l₀ .desk) (z .voices)) b k₀ (g ∷ q .0)
-                recs = subst (Records (lossOf (l₀ .desk) (z .voices)) b k₀) (q .1) (h .records)
+                recs : Records (lossOf (l₀ .shared) (z .voices)) b k₀ (g ∷ q .0)
+                recs = subst (Records (lossOf (l₀ .shared) (z .voices)) b k₀) (q .1) (h .records)
 
                 ap' : Apart (g ∷ q .0)
                 ap' = subst Apart (q .1) (h .apart)
@@ -345,28 +349,28 @@ module _ (bus : NodeId) (l₀ : Ledger) (r₀ : RecordedOf l₀) (q₀ : OwnNode
         from = λ u j. ⊎-elim (λ e. inr (v, p, is, held, e)) (λ r. inl (r .0)) (begun (r₀ .ids) v i f₀ u j);
         lost = v ∷ [];
         were = λ u j. only u j (λ x. In x (l₀ .voices) × (x .state ≡ Tracked)) (i, t);
-        away = λ u j. only u j (λ x. In x (map begins (l₀ .voices)) → ⊥) gone;
+        away = λ u j. only u j (λ x. In x (map begins (l₀ .voices)) → ⊥) withoutVoice;
         all = λ u j s. go u j (ℕ-discrete (u .id .0) (v .id .0));
         apart = (λ u j. absurd j, tt);
         others = λ u j. only u j (λ x. (o ≡ some x) ⊎ (isOn bus x ≡ true)) (inl is);
         count = count-pushed b rec small;
-        records = (held-new b rec small (r₀ .newest) ∙ ap found.Record (ap (λ x. recordOf (l₀ .desk .clock) (voiceLevel (l₀ .desk) v) (not (isSome x))) (sym there)), tt);
+        records = (held-new b rec small (r₀ .newest) ∙ ap found.Record (ap (λ x. recordOf (l₀ .shared .clock) (voiceLevel (l₀ .shared) v) (not (isSome x))) (sym there)), tt);
       }
     where
       tracks' : VoiceState → Bool
       tracks' s = isTracked s
 
-      b : Book
-      b = l₀ .desk .steals
+      b : StealLog
+      b = l₀ .shared .steals
 
       f₀ : Fade
-      f₀ = fadeOf (l₀ .desk)
+      f₀ = fadeOf (l₀ .shared)
 
       begins : Voice → Voice
       begins = beginFade (v .id) f₀
 
       rec : StealRecord
-      rec = recordOf (l₀ .desk .clock) (voiceLevel (l₀ .desk) v) false
+      rec = recordOf (l₀ .shared .clock) (voiceLevel (l₀ .shared) v) false
 
       small : b .count < 18446744073709551615
       small = steal-small r₀ v i t
@@ -375,8 +379,8 @@ module _ (bus : NodeId) (l₀ : Ledger) (r₀ : RecordedOf l₀) (q₀ : OwnNode
       only u (inl e) P x = subst P (sym e) x
       only u (inr j) P x = absurd j
 
-      gone : In v (map begins (l₀ .voices)) → ⊥
-      gone j =
+      withoutVoice : In v (map begins (l₀ .voices)) → ⊥
+      withoutVoice j =
           ⊎-elim (λ e. tracked-fades f₀ (sym t ∙ ap (λ (x : Voice). x .state) e)) (λ r. false≢true (sym (r .1) ∙ eq-eqb (v .id .0) (v .id .0) refl)) (begun (r₀ .ids) v i f₀ v j)
 
       go : (u : Voice) → In u (l₀ .voices) → Dec (u .id .0 ≡ v .id .0) → In u (v ∷ []) ⊎ In u (map begins (l₀ .voices))
@@ -395,14 +399,14 @@ module _ (bus : NodeId) (l₀ : Ledger) (r₀ : RecordedOf l₀) (q₀ : OwnNode
           at true = refl
           at false = refl
 
-      sees : (x : Voice) → In x (l₀ .voices) → (u : Voice) → u .output ≡ x .output → nodeAt (stolen v (some p) l₀ .desk .graph .nodes) (u .output) ≡ nodeAt (l₀ .desk .graph .nodes) (u .output)
+      sees : (x : Voice) → In x (l₀ .voices) → (u : Voice) → u .output ≡ x .output → nodeAt (stolen v (some p) l₀ .shared .graph .nodes) (u .output) ≡ nodeAt (l₀ .shared .graph .nodes) (u .output)
       sees x j u e =
           let q = q₀ .1 .output x j in
           let a = q₀ .1 .places x j in
           let lt = q .below in
-          subst (λ (k : NodeId). nodeAt (stolen v (some p) l₀ .desk .graph .nodes) k ≡ nodeAt (l₀ .desk .graph .nodes) k) (sym (e ∙ q .is))
-          (find-snoc-off (isNode (id (x .first .0 + q .at))) (l₀ .desk .graph .nodes) (withId (l₀ .desk .graph .next) (fadeNode (v .id)))
-          (ne-eqb (l₀ .desk .graph .next) (x .first .0 + q .at) (λ m. omega (arith, m, a, lt))))
+          subst (λ (k : NodeId). nodeAt (stolen v (some p) l₀ .shared .graph .nodes) k ≡ nodeAt (l₀ .shared .graph .nodes) k) (sym (e ∙ q .is))
+          (find-snoc-off (isNode (id (x .first .0 + q .at))) (l₀ .shared .graph .nodes) (withId (l₀ .shared .graph .next) (fadeNode (v .id)))
+          (ne-eqb (l₀ .shared .graph .next) (x .first .0 + q .at) (λ m. omega (arith, m, a, lt))))
 
   losing-steal : (v : Voice) → In v (l₀ .voices) → v .state ≡ Tracked → o ≡ some v → (n : Losing (stealVoice v l₀)) × Heads o (n .lost)
   unfolding losing-push losing-start losing-fade
@@ -415,7 +419,7 @@ module _ (bus : NodeId) (l₀ : Ledger) (r₀ : RecordedOf l₀) (q₀ : OwnNode
       go none e = (losing-push l₀ losing-start v i t (inl is), heads)
       go (some p) e = (losing-fade v i t is p e, heads)
 
-  -- ---- its end: no port, or a newcomer, whose id is none of theirs
+  -- ---- its end: no port, or a newVoice, whose id is none of theirs
   losing-ends : (z : Ledger) (h : Losing z) → Heads o (h .lost) → LossesOf bus o l₀ z
   losing-ends z h heads =
       record {
@@ -431,7 +435,7 @@ module _ (bus : NodeId) (l₀ : Ledger) (r₀ : RecordedOf l₀) (q₀ : OwnNode
         records = h .records;
       }
     where
-      fades : (v u : Voice) → In v (h .lost) → find (isVoice (v .id)) (z .voices) ≡ some u → (u ≡ withState (Fading (fadeOf (l₀ .desk))) v) × ((p : ℕ) × (portHeld v l₀ ≡ some p))
+      fades : (v u : Voice) → In v (h .lost) → find (isVoice (v .id)) (z .voices) ≡ some u → (u ≡ withState (Fading (fadeOf (l₀ .shared))) v) × ((p : ℕ) × (portHeld v l₀ ≡ some p))
       fades v u i e = ⊎-elim old started (h .from u (r .0))
         where
           r : In u (z .voices) × (isVoice (v .id) u ≡ true)
@@ -440,17 +444,17 @@ module _ (bus : NodeId) (l₀ : Ledger) (r₀ : RecordedOf l₀) (q₀ : OwnNode
           same : u .id .0 ≡ v .id .0
           same = eqb-true (u .id .0) (v .id .0) (r .1)
 
-          old : In u (l₀ .voices) → (u ≡ withState (Fading (fadeOf (l₀ .desk))) v) × ((p : ℕ) × (portHeld v l₀ ≡ some p))
+          old : In u (l₀ .voices) → (u ≡ withState (Fading (fadeOf (l₀ .shared))) v) × ((p : ℕ) × (portHeld v l₀ ≡ some p))
           old j = let s : u ≡ v = unique (r₀ .ids) u v j (h .were v i .0) same in absurd (h .away v i (subst (λ x. In x (z .voices)) s (r .0)))
 
-          started : Started u → (u ≡ withState (Fading (fadeOf (l₀ .desk))) v) × ((p : ℕ) × (portHeld v l₀ ≡ some p))
+          started : Started u → (u ≡ withState (Fading (fadeOf (l₀ .shared))) v) × ((p : ℕ) × (portHeld v l₀ ≡ some p))
           started s =
               let q = subst (λ x. Heads x (h .lost)) (s .2) heads in
               let j : In (s .0) (h .lost) = subst (In (s .0)) (sym (q .1)) (inl refl) in
               let g : s .0 ≡ v = unique (r₀ .ids) (s .0) v (h .were (s .0) j .0) (h .were v i .0) (ap (λ (x : Voice). x .id .0) (sym (s .4)) ∙ same) in
-              (s .4 ∙ ap (withState (Fading (fadeOf (l₀ .desk)))) g, (s .1, ap (λ x. portHeld x l₀) (sym g) ∙ s .3))
+              (s .4 ∙ ap (withState (Fading (fadeOf (l₀ .shared)))) g, (s .1, ap (λ x. portHeld x l₀) (sym g) ∙ s .3))
 
-  losing-lands : (z : Ledger) (h : Losing z) → Heads o (h .lost) → (spawn : Spawn) (s : VoiceState) (p : ℕ) → LossesOf bus o l₀ (land spawn s p z .ledger)
+  losing-lands : (z : Ledger) (h : Losing z) → Heads o (h .lost) → (spawn : Spawn) (s : VoiceState) (p : ℕ) → LossesOf bus o l₀ (instantiate spawn s p z .ledger)
   losing-lands z h heads spawn s p =
       let e = losing-ends z h heads in
       record {
@@ -463,12 +467,12 @@ module _ (bus : NodeId) (l₀ : Ledger) (r₀ : RecordedOf l₀) (q₀ : OwnNode
         others = e .others;
         fades = λ v u i f. e .fades v u i (sym (same v (e .were v i .0)) ∙ f);
         count = e .count;
-        records = records-same (lossOf (l₀ .desk) (z .voices)) (lossOf (l₀ .desk) (z .voices ++ (n ∷ []))) (z .desk .steals) (z .desk .steals) k₀ (e .lost)
-            (λ v i. ap (λ x. recordOf (l₀ .desk .clock) (voiceLevel (l₀ .desk) v) (not (isSome x))) (sym (same v (e .were v i .0)))) (λ j lo hi. refl) (e .records);
+        records = records-same (lossOf (l₀ .shared) (z .voices)) (lossOf (l₀ .shared) (z .voices ++ (n ∷ []))) (z .shared .steals) (z .shared .steals) k₀ (e .lost)
+            (λ v i. ap (λ x. recordOf (l₀ .shared .clock) (voiceLevel (l₀ .shared) v) (not (isSome x))) (sym (same v (e .were v i .0)))) (λ j lo hi. refl) (e .records);
       }
     where
       n : Voice
-      n = newcomer spawn s p (z .desk)
+      n = newVoice spawn s p (z .shared)
 
       newer : (v : Voice) → In v (l₀ .voices) → n .id .0 ≡ v .id .0 → ⊥
       newer v i e = let k = h .ids in omega (arith, e, k, r₀ .ids .below v i)
@@ -476,17 +480,17 @@ module _ (bus : NodeId) (l₀ : Ledger) (r₀ : RecordedOf l₀) (q₀ : OwnNode
       same : (v : Voice) → In v (l₀ .voices) → find (isVoice (v .id)) (z .voices ++ (n ∷ [])) ≡ find (isVoice (v .id)) (z .voices)
       same v i = find-snoc-off (isVoice (v .id)) (z .voices) n (ne-eqb (n .id .0) (v .id .0) (newer v i))
 
-  losing-settle : (spawn : Spawn) → spawn .bus ≡ bus → (z : Ledger) (h : Losing z) → Heads o (h .lost) → LossesOf bus o l₀ (settle spawn z .ledger)
+  losing-settle : (spawn : Spawn) → spawn .bus ≡ bus → (z : Ledger) (h : Losing z) → Heads o (h .lost) → LossesOf bus o l₀ (placeWithinBudget spawn z .ledger)
   losing-settle spawn on z h heads =
-      place-kept spawn (stateUnder (z .desk .config .budget)) (λ n z. (h : Losing z) × Heads o (h .lost)) (λ r. LossesOf bus o l₀ (r .ledger))
+      place-kept spawn (stateUnder (z .shared .config .budget)) (λ n z. (h : Losing z) × Heads o (h .lost)) (λ r. LossesOf bus o l₀ (r .ledger))
       (λ n z p e q. losing-lands z (q .0) (q .1) spawn _ p) (λ z e q. losing-ends z (q .0) (q .1)) (λ n z e f q. losing-ends z (q .0) (q .1))
-      (λ n z v e f q. let r = nextOut-in (q .0 .recorded .ids) (z .desk) bus v (ap (λ b. nextOut (z .desk) b (z .voices)) (sym on) ∙ f) in losing-cut z (q .0) (q .1) v (r .0) (r .1) (v .state) refl)
-      (tries (z .desk .config .budget) (z .voices)) z (h, heads)
+      (λ n z v e f q. let r = nextOut-in (q .0 .recorded .ids) (z .shared) bus v (ap (λ b. nextOut (z .shared) b (z .voices)) (sym on) ∙ f) in losing-cut z (q .0) (q .1) v (r .0) (r .1) (v .state) refl)
+      (tries (z .shared .config .budget) (z .voices)) z (h, heads)
 
 -- ---- every managed spawn
 pub losses : (x : Spawn) (l : Ledger) → RecordedOf l → OwnNodes l
-    → LossesOf (x .bus) (victimIn (spawnRefusal (l .desk) (l .voices) (x .def) (x .bus)) (admissionOn (x .bus) l) (l .voices)) l (step (call.spawnManaged x) l .ledger)
-losses x l r q = go (spawnRefusal (l .desk) (l .voices) (x .def) (x .bus)) refl
+    → LossesOf (x .bus) (victimIn (spawnRefusal (l .shared) (l .voices) (x .def) (x .bus)) (admissionOn (x .bus) l) (l .voices)) l (step (call.spawnManaged x) l .ledger)
+losses x l r q = go (spawnRefusal (l .shared) (l .voices) (x .def) (x .bus)) refl
   where
     bus : NodeId
     bus = x .bus
@@ -495,11 +499,11 @@ losses x l r q = go (spawnRefusal (l .desk) (l .voices) (x .def) (x .bus)) refl
     admits few admission.Admit e = losing-settle bus l r q few none x refl l (losing-start bus l r q few none) tt
     admits few admission.Reject e = nothing-lost bus l
     admits few (admission.Steal p w) e =
-        let s = steal-voice (r .ids) (l .desk) (counted (l .desk .config .scope) bus) (l .desk .config .budget) (l .desk .config .policy) p w e in
+        let s = steal-voice (r .ids) (l .shared) (counted (l .shared .config .scope) bus) (l .shared .config .budget) (l .shared .config .policy) p w e in
         let z = losing-steal bus l r q few (some (s .0)) (s .0) (s .1) (tracked-state (s .0 .state) (and-left (isTracked (s .0 .state)) _ (s .2))) refl in
         subst (λ o. LossesOf bus o l (stealThen o x l .ledger)) (sym (s .3)) (losing-settle bus l r q few (some (s .0)) x refl (stealVoice (s .0) l) (z .0) (z .1))
 
-    go : (o : Option Refusal) → spawnRefusal (l .desk) (l .voices) (x .def) bus ≡ o
+    go : (o : Option Refusal) → spawnRefusal (l .shared) (l .voices) (x .def) bus ≡ o
         → LossesOf bus (victimIn o (admissionOn bus l) (l .voices)) l (unless o l (admitted (admissionOn bus l) x l) .ledger)
     go (some n) e = nothing-lost bus l
-    go none e = admits (spawn-allowed (l .desk) (l .voices) (x .def) bus e .voices) (admissionOn bus l) refl
+    go none e = admits (spawn-allowed (l .shared) (l .voices) (x .def) bus e .voices) (admissionOn bus l) refl

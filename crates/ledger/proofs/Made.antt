@@ -8,7 +8,7 @@ use mathlib.Core.Bool.{Bool, true, false, not, cond, _&&_, true≢false}
 use lib.Dec.{eqb, leb}
 use lib.Ieee.{Float, nan, inf, fin, up, down}
 use borrow.Author.Tests.{leb-true, eqb-true, not-false}
-use Rattle.lists.specs.Member.{some-inj, none-some, and-left, and-right}
+use Rattle.lists.proofs.Member.{some-inj, none-some, and-left, and-right}
 use Rattle.node.specs.declared.refusal.Refusal.{Refusal}
 use Rattle.node.specs.declared.refusal.Refusal.the-variants.{SampleRate, BlockSize, BudgetTooLarge, TableRate}
 use Rattle.node.specs.Refusal.{Said, refused, gives}

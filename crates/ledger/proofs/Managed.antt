@@ -1,4 +1,4 @@
--- A managed spawn taken apart: rejected, admitted, or let in after a steal; and that voices keep distinct ids through every list.
+-- A managed spawn taken apart: rejected, admitted, or let in after a steal; and that voices filter distinct ids through every list.
 use Prim.Native.Nat.{ℕ}
 use mathlib.Core.Path.{_≡_, refl, sym, _∙_, subst}
 use mathlib.Core.List.{List, [], _∷_}
@@ -15,22 +15,22 @@ use Rattle.store.specs.declared.voices.VoiceState.{VoiceState}
 use Rattle.store.specs.declared.voices.VoiceState.the-variants.{Fading}
 use Rattle.store.specs.declared.voices.Fade.{Fade}
 use Rattle.model.specs.Voice.{isVoice, withState, beginFade, moved, counted}
-use Rattle.model.specs.Spawn.{newcomer, stateUnder, tries, fadeOf, Spawn}
+use Rattle.model.specs.Spawn.{newVoice, stateUnder, tries, fadeOf, Spawn}
 use Rattle.model.specs.Call.{Call}
-use Rattle.ledger.specs.Ledger.{Ledger, newLedger, Landed, portHeld, cutOff, stolen, stealVoice, settle, stealThen, refused, admitted, admissionOn}
+use Rattle.ledger.specs.Ledger.{Ledger, newLedger, SpawnResult, portHeld, cutOff, stolen, stealVoice, placeWithinBudget, stealThen, refused, admitted, admissionOn}
 use Rattle.ledger.specs.Render.{oneMore}
 use Rattle.ledger.specs.Call.{step, run}
 use Rattle.ledger.proofs.Ids.{Ids, ids-keep, ids-map, ids-snoc}
 use Rattle.ledger.proofs.Victim.{steal-voice}
-use Rattle.ledger.proofs.Steps.{place-kept, Steady, calm, kept-step}
+use Rattle.ledger.proofs.Preserved.{place-kept, Preserves, calm, kept-step}
 
 abbrev pub IdsOf : Ledger → Type 0
-IdsOf l = Ids (l .desk .spawned) (l .voices)
+IdsOf l = Ids (l .shared .spawned) (l .voices)
 
-module _ (spawn : Spawn) (R : Landed → Type 0) (l : Ledger) (u : IdsOf l)
+module _ (spawn : Spawn) (R : SpawnResult → Type 0) (l : Ledger) (u : IdsOf l)
     (rejects : admissionOn (spawn .bus) l ≡ admission.Reject → R (refused Rejected l))
-    (admits : admissionOn (spawn .bus) l ≡ admission.Admit → R (settle spawn l))
-    (steals : (p : ℕ) (w : VoiceId) → admissionOn (spawn .bus) l ≡ admission.Steal p w → (v : Voice) → In v (l .voices) → counted (l .desk .config .scope) (spawn .bus) v ≡ true → R (settle spawn (stealVoice v l))) where
+    (admits : admissionOn (spawn .bus) l ≡ admission.Admit → R (placeWithinBudget spawn l))
+    (steals : (p : ℕ) (w : VoiceId) → admissionOn (spawn .bus) l ≡ admission.Steal p w → (v : Voice) → In v (l .voices) → counted (l .shared .config .scope) (spawn .bus) v ≡ true → R (placeWithinBudget spawn (stealVoice v l))) where
   pub managed-kept : R (admitted (admissionOn (spawn .bus) l) spawn l)
   managed-kept = go (admissionOn (spawn .bus) l) refl
     where
@@ -38,7 +38,7 @@ module _ (spawn : Spawn) (R : Landed → Type 0) (l : Ledger) (u : IdsOf l)
       go admission.Admit e = admits e
       go admission.Reject e = rejects e
       go (admission.Steal p w) e =
-          let r = steal-voice u (l .desk) (counted (l .desk .config .scope) (spawn .bus)) (l .desk .config .budget) (l .desk .config .policy) p w e in
+          let r = steal-voice u (l .shared) (counted (l .shared .config .scope) (spawn .bus)) (l .shared .config .budget) (l .shared .config .policy) p w e in
           subst (λ o. R (stealThen o spawn l)) (sym (r .3)) (steals p w e (r .0) (r .1) (r .2))
 
 -- ---- distinct ids
@@ -54,18 +54,18 @@ ids-steal v l u = go (portHeld v l)
   where
     go : (o : Option ℕ) → IdsOf (stolen v o l)
     go none = ids-keep (λ x. not (isVoice (v .id) x)) u
-    go (some p) = ids-map (beginFade (v .id) (fadeOf (l .desk))) (begin-id (v .id) (fadeOf (l .desk))) u
+    go (some p) = ids-map (beginFade (v .id) (fadeOf (l .shared))) (begin-id (v .id) (fadeOf (l .shared))) u
 
 pub ids-cut : (v : Voice) (s : VoiceState) (l : Ledger) → IdsOf l → IdsOf (cutOff v s l)
 ids-cut v s l u = ids-keep (λ x. not (isVoice (v .id) x)) u
 
-pub ids-settle : (spawn : Spawn) (l : Ledger) → IdsOf l → IdsOf (settle spawn l .ledger)
+pub ids-settle : (spawn : Spawn) (l : Ledger) → IdsOf l → IdsOf (placeWithinBudget spawn l .ledger)
 ids-settle spawn l u =
-    place-kept spawn (stateUnder (l .desk .config .budget)) (λ n l. IdsOf l) (λ r. IdsOf (r .ledger))
-    (λ n l p e u. ids-snoc (newcomer spawn _ p (l .desk)) refl u) (λ l e u. u) (λ n l e f u. u) (λ n l v e f u. ids-cut v (v .state) l u)
-    (tries (l .desk .config .budget) (l .voices)) l u
+    place-kept spawn (stateUnder (l .shared .config .budget)) (λ n l. IdsOf l) (λ r. IdsOf (r .ledger))
+    (λ n l p e u. ids-snoc (newVoice spawn _ p (l .shared)) refl u) (λ l e u. u) (λ n l e f u. u) (λ n l v e f u. ids-cut v (v .state) l u)
+    (tries (l .shared .config .budget) (l .voices)) l u
 
-pub ids-steady : Steady IdsOf
+pub ids-steady : Preserves IdsOf
 ids-steady =
     calm (λ c b n vs. Ids n vs) (λ c b n vs w u. ids-keep (λ x. not (isVoice w x)) u) (λ c b n vs u. ids-map (moved oneMore) (λ v. refl) u) (λ c b n vs v e s h u. ids-snoc v e u)
 
@@ -81,28 +81,28 @@ pub ids-new : (c : Config) → IdsOf (newLedger c)
 ids-new c = record { rising = tt; below = λ v i. absurd i }
 
 -- ---- what making fixed stays
-pub config-settle : (c : Config) (spawn : Spawn) (l : Ledger) → l .desk .config ≡ c → settle spawn l .ledger .desk .config ≡ c
+pub config-settle : (c : Config) (spawn : Spawn) (l : Ledger) → l .shared .config ≡ c → placeWithinBudget spawn l .ledger .shared .config ≡ c
 config-settle c spawn l e =
-    place-kept spawn (stateUnder (l .desk .config .budget)) (λ n l. l .desk .config ≡ c) (λ r. r .ledger .desk .config ≡ c) (λ n l p h e. e) (λ l h e. e) (λ n l h f e. e) (λ n l v h f e. e)
-    (tries (l .desk .config .budget) (l .voices)) l e
+    place-kept spawn (stateUnder (l .shared .config .budget)) (λ n l. l .shared .config ≡ c) (λ r. r .ledger .shared .config ≡ c) (λ n l p h e. e) (λ l h e. e) (λ n l h f e. e) (λ n l v h f e. e)
+    (tries (l .shared .config .budget) (l .voices)) l e
 
-pub config-steal : (v : Voice) (l : Ledger) → stealVoice v l .desk .config ≡ l .desk .config
+pub config-steal : (v : Voice) (l : Ledger) → stealVoice v l .shared .config ≡ l .shared .config
 config-steal v l = go (portHeld v l)
   where
-    go : (o : Option ℕ) → stolen v o l .desk .config ≡ l .desk .config
+    go : (o : Option ℕ) → stolen v o l .shared .config ≡ l .shared .config
     go none = refl
     go (some p) = refl
 
-pub config-step : (x : Call) (l : Ledger) → IdsOf l → step x l .ledger .desk .config ≡ l .desk .config
+pub config-step : (x : Call) (l : Ledger) → IdsOf l → step x l .ledger .shared .config ≡ l .shared .config
 config-step x l u =
-    kept-step (λ m. IdsOf m × (m .desk .config ≡ l .desk .config))
-    (calm (λ c b n vs. Ids n vs × (c ≡ l .desk .config)) (λ c b n vs w u. (ids-keep (λ x. not (isVoice w x)) (u .0), u .1)) (λ c b n vs u. (ids-map (moved oneMore) (λ v. refl) (u .0), u .1)) (λ c b n vs v e s h u. (ids-snoc v e (u .0), u .1)))
+    kept-step (λ m. IdsOf m × (m .shared .config ≡ l .shared .config))
+    (calm (λ c b n vs. Ids n vs × (c ≡ l .shared .config)) (λ c b n vs w u. (ids-keep (λ x. not (isVoice w x)) (u .0), u .1)) (λ c b n vs u. (ids-map (moved oneMore) (λ v. refl) (u .0), u .1)) (λ c b n vs v e s h u. (ids-snoc v e (u .0), u .1)))
     (λ m spawn e u.
-    managed-kept spawn (λ r. IdsOf (r .ledger) × (r .ledger .desk .config ≡ l .desk .config)) m (u .0) (λ h. u)
-    (λ h. (ids-settle spawn m (u .0), config-settle (l .desk .config) spawn m (u .1)))
-    (λ p w h v i t. (ids-settle spawn (stealVoice v m) (ids-steal v m (u .0)), config-settle (l .desk .config) spawn (stealVoice v m) (config-steal v m ∙ u .1))))
+    managed-kept spawn (λ r. IdsOf (r .ledger) × (r .ledger .shared .config ≡ l .shared .config)) m (u .0) (λ h. u)
+    (λ h. (ids-settle spawn m (u .0), config-settle (l .shared .config) spawn m (u .1)))
+    (λ p w h v i t. (ids-settle spawn (stealVoice v m) (ids-steal v m (u .0)), config-settle (l .shared .config) spawn (stealVoice v m) (config-steal v m ∙ u .1))))
     x l (u, refl) .1
 
-pub config-run : (xs : List Call) (l : Ledger) → IdsOf l → run xs l .ledger .desk .config ≡ l .desk .config
+pub config-run : (xs : List Call) (l : Ledger) → IdsOf l → run xs l .ledger .shared .config ≡ l .shared .config
 config-run [] l u = refl
 config-run (x ∷ xs) l u = config-run xs (step x l .ledger) (ids-step x l u) ∙ config-step x l u

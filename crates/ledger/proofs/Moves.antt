@@ -8,9 +8,12 @@ use mathlib.Core.Bool.{Bool, true, false, cond, _||_}
 use lib.Dec.{eqb}
 use lib.Ieee.{Float}
 use lib.ListN.{length, length-map}
-use Rattle.lists.specs.Member.{In, map-swap}
-use Rattle.lists.specs.Keep.{keep, keep-map, in-keep}
-use Rattle.lists.specs.Find.{find, mapO, find-in}
+use Rattle.lists.specs.Member.{In}
+use Rattle.lists.proofs.Member.{map-swap}
+use Rattle.lists.specs.Filter.{filter}
+use Rattle.lists.proofs.Filter.{filter-map, in-filter}
+use Rattle.lists.specs.Find.{find, mapO}
+use Rattle.lists.proofs.Find.{find-in}
 use Rattle.node.specs.declared.name.Name.{Name}
 use Rattle.node.specs.declared.order.LastOrder.{LastOrder}
 use Rattle.node.specs.declared.record.NodeId.{NodeId}
@@ -28,11 +31,11 @@ use Rattle.store.specs.declared.answer.Outcome.the-variants.{Applied, NotTaken}
 use Rattle.store.specs.declared.answer.Rendered.{Rendered}
 use Rattle.store.specs.declared.answer.Rendered.the-variants as Rendered
 use Rattle.store.specs.declared.voices.Voice.{Voice}
-use Rattle.model.specs.Desk.{Desk, lengthL, sounding}
+use Rattle.model.specs.SharedState.{SharedState, lengthL, sounding}
 use Rattle.model.specs.Voice.{isVoice, id, moved}
 use Rattle.model.specs.Refuse.{ofDefinition, reports, reportRefusal}
 use Rattle.model.specs.Order.{withNode, withLast, takes, order, orderVoice, orderParam, orderNode, stays, reportNode, withReport}
-use Rattle.model.specs.Render.{prepareOutcome, prepareDesk, readyDesk, isFree, anyFree, further, movedIf, heard, answerAfter, isSounding, due, clockEnds}
+use Rattle.model.specs.Render.{prepareOutcome, prepareShared, readyShared, isFree, anyFree, further, movedIf, heard, answerAfter, isSounding, due, clockEnds}
 use Rattle.model.specs.Clear.{isSilent}
 use Rattle.model.specs.Model.{Model}
 use Rattle.model.specs.Model as model
@@ -43,124 +46,124 @@ use Rattle.ledger.specs.Ledger as ledger
 use Rattle.ledger.specs.Clear as ledgerClear
 use Rattle.ledger.specs.Render.{oneMore, countedIf}
 use Rattle.ledger.specs.Render as ledgerRender
-use Rattle.ledger.proofs.Steps.{atDesk}
-use Rattle.ledger.proofs.Wired.{above, voiced-map}
-use Rattle.ledger.proofs.Sound.{Sound, sound-gone, sound-replaced}
-use Rattle.ledger.proofs.Shown.{modelOf, reached, stored, tracked-same, find-stored, moved-stored, ended-stored}
-use Rattle.ledger.proofs.Spawns.{SoundL, Left, model-gone}
+use Rattle.ledger.proofs.Preserved.{atShared}
+use Rattle.ledger.proofs.EdgeInvariant.{above, voiced-map}
+use Rattle.ledger.proofs.Invariant.{Invariant, sound-gone, sound-replaced}
+use Rattle.ledger.proofs.Abstraction.{modelOf, reached, stored, tracked-same, find-stored, moved-stored, ended-stored}
+use Rattle.ledger.proofs.Spawns.{InvariantOf, Left, model-gone}
 
 -- ---- frees, called and timed
-pub free-agrees : (w : VoiceId) (l : Ledger) → SoundL l → Left (model.free w (modelOf l)) (ledger.free w l)
+pub free-agrees : (w : VoiceId) (l : Ledger) → InvariantOf l → Left (model.free w (modelOf l)) (ledger.free w l)
 free-agrees w l s =
-    subst (λ o. Left (model.freed o (modelOf l)) (ledger.free w l)) (sym (find-stored (reached (l .desk .config .block)) w (l .voices))) (go (find (isVoice w) (l .voices)) refl)
+    subst (λ o. Left (model.freed o (modelOf l)) (ledger.free w l)) (sym (find-stored (reached (l .shared .config .block)) w (l .voices))) (go (find (isVoice w) (l .voices)) refl)
   where
     go : (o : Option Voice) → find (isVoice w) (l .voices) ≡ o → Left (model.freed (mapO (stored l) o) (modelOf l)) (ledger.freed o l)
     go none e = record { model = refl; sound = s }
     go (some v) e = record { model = model-gone (v .id) l; sound = sound-gone s (v .id) (above (s .voiced) v (find-in (isVoice w) (l .voices) v e .0)) }
 
 -- ---- clearing
-gone-all : (gs : List Voice) (l : Ledger) → ((v : Voice) → In v gs → 0 < v .id .0) → SoundL l → Left (modelClear.goneAll (map (stored l) gs) (modelOf l)) (ledgerClear.goneAll gs l)
+gone-all : (gs : List Voice) (l : Ledger) → ((v : Voice) → In v gs → 0 < v .id .0) → InvariantOf l → Left (modelClear.withoutVoices (map (stored l) gs) (modelOf l)) (ledgerClear.withoutVoices gs l)
 gone-all [] l pos s = record { model = refl; sound = s }
 gone-all (v ∷ gs) l pos s =
-    subst (λ m. Left (modelClear.goneAll (map (stored l) gs) m) (ledgerClear.goneAll gs (ledger.gone (v .id) l))) (sym (model-gone (v .id) l))
-    (gone-all gs (ledger.gone (v .id) l) (λ u i. pos u (inr i)) (sound-gone s (v .id) (pos v (inl refl))))
+    subst (λ m. Left (modelClear.withoutVoices (map (stored l) gs) m) (ledgerClear.withoutVoices gs (ledger.withoutVoice (v .id) l))) (sym (model-gone (v .id) l))
+    (gone-all gs (ledger.withoutVoice (v .id) l) (λ u i. pos u (inr i)) (sound-gone s (v .id) (pos v (inl refl))))
 
-kept-above : (t : Voice → Bool) (l : Ledger) → SoundL l → (v : Voice) → In v (keep t (l .voices)) → 0 < v .id .0
-kept-above t l s v i = above (s .voiced) v (in-keep t (l .voices) v i .0)
+kept-above : (t : Voice → Bool) (l : Ledger) → InvariantOf l → (v : Voice) → In v (filter t (l .voices)) → 0 < v .id .0
+kept-above t l s v i = above (s .voiced) v (in-filter t (l .voices) v i .0)
 
 silent-stored : (l : Ledger) → modelClear.silentVoices (modelOf l) ≡ map (stored l) (ledgerClear.silentVoices l)
-silent-stored l = keep-map (stored l) (isSilent (l .desk .graph .nodes)) (isSilent (l .desk .graph .nodes)) (λ v. refl) (l .voices)
+silent-stored l = filter-map (stored l) (isSilent (l .shared .graph .nodes)) (isSilent (l .shared .graph .nodes)) (λ v. refl) (l .voices)
 
--- the silent ones, once the ended fades are gone
-silent-agrees : (l : Ledger) → SoundL l → Left (modelClear.goneAll (modelClear.silentVoices (modelOf l)) (modelOf l)) (ledgerClear.goneAll (ledgerClear.silentVoices l) l)
+-- the silent ones, once the ended fades are withoutVoice
+silent-agrees : (l : Ledger) → InvariantOf l → Left (modelClear.withoutVoices (modelClear.silentVoices (modelOf l)) (modelOf l)) (ledgerClear.withoutVoices (ledgerClear.silentVoices l) l)
 silent-agrees l s =
-    subst (λ gs. Left (modelClear.goneAll gs (modelOf l)) (ledgerClear.goneAll (ledgerClear.silentVoices l) l)) (sym (silent-stored l))
-    (gone-all (ledgerClear.silentVoices l) l (kept-above (isSilent (l .desk .graph .nodes)) l s) s)
+    subst (λ gs. Left (modelClear.withoutVoices gs (modelOf l)) (ledgerClear.withoutVoices (ledgerClear.silentVoices l) l)) (sym (silent-stored l))
+    (gone-all (ledgerClear.silentVoices l) l (kept-above (isSilent (l .shared .graph .nodes)) l s) s)
 
 pub record Clears (c : modelClear.Cleared) (t : ledgerClear.Cleared) : Type 0 where
   pub removed : c .removed ≡ t .removed
   pub model : c .model ≡ modelOf (t .ledger)
-  pub sound : SoundL (t .ledger)
+  pub sound : InvariantOf (t .ledger)
 
-pub clear-agrees : (l : Ledger) → lengthL (l .desk) ≤ 18446744073709551615 → SoundL l → Clears (modelClear.clear (modelOf l)) (ledgerClear.clear l)
+pub clear-agrees : (l : Ledger) → lengthL (l .shared) ≤ 18446744073709551615 → InvariantOf l → Clears (modelClear.clear (modelOf l)) (ledgerClear.clear l)
 clear-agrees l fits s =
-    subst (λ gs. Clears (cleared gs (modelOf l)) (ledgerClear.clear l)) (sym ended) (go (ledgerClear.endedVoices l) (kept-above (λ v. ledgerClear.ended (l .desk) (v .state)) l s))
+    subst (λ gs. Clears (cleared gs (modelOf l)) (ledgerClear.clear l)) (sym ended) (go (ledgerClear.endedVoices l) (kept-above (λ v. ledgerClear.ended (l .shared) (v .state)) l s))
   where
     cleared : List Voice → Model → modelClear.Cleared
     cleared gs m =
-        let faded = modelClear.goneAll gs m in
-        record { removed = length gs + length (modelClear.silentVoices faded); model = modelClear.goneAll (modelClear.silentVoices faded) faded }
+        let faded = modelClear.withoutVoices gs m in
+        record { removed = length gs + length (modelClear.silentVoices faded); model = modelClear.withoutVoices (modelClear.silentVoices faded) faded }
 
     ended : modelClear.endedVoices (modelOf l) ≡ map (stored l) (ledgerClear.endedVoices l)
-    ended = keep-map (stored l) (λ v. modelClear.ended (lengthL (l .desk)) (v .state)) (λ v. ledgerClear.ended (l .desk) (v .state)) (λ v. ended-stored (l .desk) fits (v .state)) (l .voices)
+    ended = filter-map (stored l) (λ v. modelClear.ended (lengthL (l .shared)) (v .state)) (λ v. ledgerClear.ended (l .shared) (v .state)) (λ v. ended-stored (l .shared) fits (v .state)) (l .voices)
 
     told : List Voice → ledgerClear.Cleared
     told gs =
-        let faded = ledgerClear.goneAll gs l in
-        record { removed = length gs + length (ledgerClear.silentVoices faded); ledger = ledgerClear.goneAll (ledgerClear.silentVoices faded) faded }
+        let faded = ledgerClear.withoutVoices gs l in
+        record { removed = length gs + length (ledgerClear.silentVoices faded); ledger = ledgerClear.withoutVoices (ledgerClear.silentVoices faded) faded }
 
     go : (gs : List Voice) → ((v : Voice) → In v gs → 0 < v .id .0) → Clears (cleared (map (stored l) gs) (modelOf l)) (told gs)
     go gs pos =
         let z = gone-all gs l pos s in
-        let faded = ledgerClear.goneAll gs l in
+        let faded = ledgerClear.withoutVoices gs l in
         let y = silent-agrees faded (z .sound) in
-        subst (λ m. Clears (record { removed = length (map (stored l) gs) + length (modelClear.silentVoices m); model = modelClear.goneAll (modelClear.silentVoices m) m }) (told gs)) (sym (z .model))
+        subst (λ m. Clears (record { removed = length (map (stored l) gs) + length (modelClear.silentVoices m); model = modelClear.withoutVoices (modelClear.silentVoices m) m }) (told gs)) (sym (z .model))
         (record {
           removed = ap₂ _+_ (length-map gs (stored l)) (ap length (silent-stored faded) ∙ length-map (ledgerClear.silentVoices faded) (stored faded));
           model = y .model;
           sound = y .sound;
         })
 
--- ---- what changes the desk alone
-abbrev pub AtDesk : Ledger → Desk → Type 0
-AtDesk l d = Left (record { desk = d; voices = map (stored l) (l .voices) }) (atDesk l d)
+-- ---- what changes the shared alone
+abbrev pub AtDesk : Ledger → SharedState → Type 0
+AtDesk l d = Left (record { shared = d; voices = map (stored l) (l .voices) }) (atShared l d)
 
-module _ (l : Ledger) (s : SoundL l) where
-  pub same-desk : AtDesk l (l .desk)
+module _ (l : Ledger) (s : InvariantOf l) where
+  pub same-desk : AtDesk l (l .shared)
   same-desk = record { model = refl; sound = s }
 
-  replaced-desk : (y x : Node) (k : NodeId) → nodeAt (l .desk .graph .nodes) k ≡ some x → y .id .0 ≡ x .id .0 → y .owner .0 ≡ x .owner .0 → y .ports ≡ x .ports → AtDesk l (withNode y (l .desk))
+  replaced-desk : (y x : Node) (k : NodeId) → nodeAt (l .shared .graph .nodes) k ≡ some x → y .id .0 ≡ x .id .0 → y .owner .0 ≡ x .owner .0 → y .ports ≡ x .ports → AtDesk l (withNode y (l .shared))
   replaced-desk y x k e i o p = record { model = refl; sound = sound-replaced s y x k e i o p }
 
   -- a value or a glide
-  order-node : (x : LastOrder) (k : NodeId) → AtDesk l (orderNode (nodeAt (l .desk .graph .nodes) k) x (l .desk) .desk)
-  order-node x k = go (nodeAt (l .desk .graph .nodes) k) refl
+  order-node : (x : LastOrder) (k : NodeId) → AtDesk l (orderNode (nodeAt (l .shared .graph .nodes) k) x (l .shared) .shared)
+  order-node x k = go (nodeAt (l .shared .graph .nodes) k) refl
     where
-      at : (n : Node) → nodeAt (l .desk .graph .nodes) k ≡ some n → (b : Bool)
-          → AtDesk l (cond b (record { outcome = Applied; desk = withNode (withLast x n) (l .desk) }) (stays NotTaken (l .desk)) .desk)
+      at : (n : Node) → nodeAt (l .shared .graph .nodes) k ≡ some n → (b : Bool)
+          → AtDesk l (cond b (record { outcome = Applied; shared = withNode (withLast x n) (l .shared) }) (stays NotTaken (l .shared)) .shared)
       at n e true = replaced-desk (withLast x n) n k e refl refl refl
       at n e false = same-desk
 
-      go : (o : Option Node) → nodeAt (l .desk .graph .nodes) k ≡ o → AtDesk l (orderNode o x (l .desk) .desk)
+      go : (o : Option Node) → nodeAt (l .shared .graph .nodes) k ≡ o → AtDesk l (orderNode o x (l .shared) .shared)
       go none e = same-desk
       go (some n) e = at n e (takes x n)
 
-  order-param : (o : Option ℕ) (v : Voice) (x : LastOrder) → AtDesk l (orderParam o v x (l .desk) .desk)
+  order-param : (o : Option ℕ) (v : Voice) (x : LastOrder) → AtDesk l (orderParam o v x (l .shared) .shared)
   order-param none v x = same-desk
   order-param (some i) v x = order-node x (id (v .first .0 + i))
 
-  order-voice : (o : Option Voice) (name : Name) (x : LastOrder) → AtDesk l (orderVoice o name x (l .desk) .desk)
+  order-voice : (o : Option Voice) (name : Name) (x : LastOrder) → AtDesk l (orderVoice o name x (l .shared) .shared)
   order-voice none name x = same-desk
   order-voice (some v) name x = order-param (paramNode (paramRows (v .params)) name) v x
 
-  pub order-desk : (w : VoiceId) (name : Name) (x : LastOrder) → AtDesk l (order w name x (l .voices) (l .desk) .desk)
+  pub order-desk : (w : VoiceId) (name : Name) (x : LastOrder) → AtDesk l (order w name x (l .voices) (l .shared) .shared)
   order-desk w name x = order-voice (find (isVoice w) (l .voices)) name x
 
   -- a report
-  pub report-desk : (k : NodeId) (samples : List Float) (flag : Bool) → AtDesk l (reportNode (nodeAt (l .desk .graph .nodes) k) samples flag (l .desk))
-  report-desk k samples flag = go (nodeAt (l .desk .graph .nodes) k) refl
+  pub report-desk : (k : NodeId) (samples : List Float) (flag : Bool) → AtDesk l (reportNode (nodeAt (l .shared .graph .nodes) k) samples flag (l .shared))
+  report-desk k samples flag = go (nodeAt (l .shared .graph .nodes) k) refl
     where
-      go : (o : Option Node) → nodeAt (l .desk .graph .nodes) k ≡ o → AtDesk l (reportNode o samples flag (l .desk))
+      go : (o : Option Node) → nodeAt (l .shared .graph .nodes) k ≡ o → AtDesk l (reportNode o samples flag (l .shared))
       go none e = same-desk
       go (some n) e = replaced-desk (withReport samples flag n) n k e refl refl refl
 
   -- prepare
-  pub ready-desk : (r : Readiness) (o : List NodeId) → AtDesk l (readyDesk r o (l .desk))
+  pub ready-desk : (r : Readiness) (o : List NodeId) → AtDesk l (readyShared r o (l .shared))
   ready-desk Ready o = record { model = refl; sound = s }
   ready-desk (Refused r) o = same-desk
 
 -- ---- what the voices are asked for does not depend on positions
-module _ (more : ℕ → ℕ) (vs : List Voice) (d : Desk) where
+module _ (more : ℕ → ℕ) (vs : List Voice) (d : SharedState) where
   pub order-same : (w : VoiceId) (name : Name) (x : LastOrder) → order w name x (map (moved more) vs) d ≡ order w name x vs d
   order-same w name x = ap (λ o. orderVoice o name x d) (find-stored more w vs) ∙ go (find (isVoice w) vs)
     where
@@ -184,43 +187,43 @@ module _ (more : ℕ → ℕ) (vs : List Voice) (d : Desk) where
   refusal-same k channels samples = rw (reports-same (nodeAt (d .graph .nodes) k))
 
 -- ---- render: the events
-pub happen-agrees : (e : Event) (l : Ledger) → SoundL l → Left (modelRender.happen e (modelOf l)) (ledgerRender.happen e l)
+pub happen-agrees : (e : Event) (l : Ledger) → InvariantOf l → Left (modelRender.applyEvent e (modelOf l)) (ledgerRender.applyEvent e l)
 happen-agrees e l s = go (isFree (e .action))
   where
     go : (b : Bool)
-        → Left (cond b (model.free (e .voice) (modelOf l)) (record { desk = order (e .voice) (paramOrder e .name) (paramOrder e .order) (map (stored l) (l .voices)) (l .desk) .desk; voices = map (stored l) (l .voices) }))
-        (cond b (ledger.free (e .voice) l) (atDesk l (order (e .voice) (paramOrder e .name) (paramOrder e .order) (l .voices) (l .desk) .desk)))
+        → Left (cond b (model.free (e .voice) (modelOf l)) (record { shared = order (e .voice) (paramOrder e .name) (paramOrder e .order) (map (stored l) (l .voices)) (l .shared) .shared; voices = map (stored l) (l .voices) }))
+        (cond b (ledger.free (e .voice) l) (atShared l (order (e .voice) (paramOrder e .name) (paramOrder e .order) (l .voices) (l .shared) .shared)))
     go true = free-agrees (e .voice) l s
     go false =
-        subst (λ r. Left (record { desk = r .desk; voices = map (stored l) (l .voices) }) (atDesk l (order (e .voice) (paramOrder e .name) (paramOrder e .order) (l .voices) (l .desk) .desk)))
-        (sym (order-same (reached (l .desk .config .block)) (l .voices) (l .desk) (e .voice) (paramOrder e .name) (paramOrder e .order)))
+        subst (λ r. Left (record { shared = r .shared; voices = map (stored l) (l .voices) }) (atShared l (order (e .voice) (paramOrder e .name) (paramOrder e .order) (l .voices) (l .shared) .shared)))
+        (sym (order-same (reached (l .shared .config .block)) (l .voices) (l .shared) (e .voice) (paramOrder e .name) (paramOrder e .order)))
         (order-desk l s (e .voice) (paramOrder e .name) (paramOrder e .order))
 
-happenAll-agrees : (q : List Event) (l : Ledger) → SoundL l → Left (modelRender.happenAll q (modelOf l)) (ledgerRender.happenAll q l)
+happenAll-agrees : (q : List Event) (l : Ledger) → InvariantOf l → Left (modelRender.applyEvents q (modelOf l)) (ledgerRender.applyEvents q l)
 happenAll-agrees [] l s = record { model = refl; sound = s }
 happenAll-agrees (e ∷ q) l s =
     let r = happen-agrees e l s in
-    subst (λ m. Left (modelRender.happenAll q m) (ledgerRender.happenAll q (ledgerRender.happen e l))) (sym (r .model)) (happenAll-agrees q (ledgerRender.happen e l) (r .sound))
+    subst (λ m. Left (modelRender.applyEvents q m) (ledgerRender.applyEvents q (ledgerRender.applyEvent e l))) (sym (r .model)) (happenAll-agrees q (ledgerRender.applyEvent e l) (r .sound))
 
 -- the block
 pub record Heards (h : modelRender.Heard) (t : ledgerRender.Heard) : Type 0 where
   pub answer : h .answer ≡ t .answer
   pub model : h .model ≡ modelOf (t .ledger)
-  pub sound : SoundL (t .ledger)
+  pub sound : InvariantOf (t .ledger)
 
 counted-stored : (b : Bool) (block : ℕ) (vs : List Voice) → movedIf b block (map (moved (reached block)) vs) ≡ map (moved (reached block)) (countedIf b vs)
 counted-stored true block vs = map-swap (moved (reached block)) (moved (further block)) (moved oneMore) (moved-stored block) vs
 counted-stored false block vs = refl
 
-block-agrees : (a : Rendered) (l : Ledger) → SoundL l → Heards (modelRender.blockOf a (modelOf l)) (ledgerRender.blockOf a l)
+block-agrees : (a : Rendered) (l : Ledger) → InvariantOf l → Heards (modelRender.blockOf a (modelOf l)) (ledgerRender.blockOf a l)
 block-agrees a l s =
     record {
       answer = refl;
-      model = ap (λ vs. record { desk = ledgerRender.blockOf a l .ledger .desk; voices = vs }) (counted-stored (isSounding a) (l .desk .config .block) (l .voices));
+      model = ap (λ vs. record { shared = ledgerRender.blockOf a l .ledger .shared; voices = vs }) (counted-stored (isSounding a) (l .shared .config .block) (l .voices));
       sound = go (isSounding a);
     }
   where
-    go : (b : Bool) → Sound (l .desk .graph .nodes) (l .desk .graph .edges) (l .desk .graph .next) (l .desk .spawned) (countedIf b (l .voices)) (l .holders)
+    go : (b : Bool) → Invariant (l .shared .graph .nodes) (l .shared .graph .edges) (l .shared .graph .next) (l .shared .spawned) (countedIf b (l .voices)) (l .holders)
     go true =
         record {
           listed = s .listed;
@@ -230,21 +233,21 @@ block-agrees a l s =
         }
     go false = s
 
-prepared-agrees : (b : Bool) (l : Ledger) → SoundL l → Heards (modelRender.preparedIf b (modelOf l)) (ledgerRender.preparedIf b l)
+prepared-agrees : (b : Bool) (l : Ledger) → InvariantOf l → Heards (modelRender.preparedIf b (modelOf l)) (ledgerRender.preparedIf b l)
 prepared-agrees true l s =
-    let a = answerAfter (prepareOutcome (l .desk) .answer) (prepareDesk (l .desk)) in
-    let r = ready-desk l s (prepareOutcome (l .desk) .answer) (prepareOutcome (l .desk) .order) in
-    subst (λ m. Heards (modelRender.blockOf a m) (ledgerRender.preparedIf true l)) (sym (r .model)) (block-agrees a (atDesk l (prepareDesk (l .desk))) (r .sound))
-prepared-agrees false l s = block-agrees (heard (sounding (l .desk))) l s
+    let a = answerAfter (prepareOutcome (l .shared) .answer) (prepareShared (l .shared)) in
+    let r = ready-desk l s (prepareOutcome (l .shared) .answer) (prepareOutcome (l .shared) .order) in
+    subst (λ m. Heards (modelRender.blockOf a m) (ledgerRender.preparedIf true l)) (sym (r .model)) (block-agrees a (atShared l (prepareShared (l .shared))) (r .sound))
+prepared-agrees false l s = block-agrees (heard (sounding (l .shared))) l s
 
-pub render-agrees : (l : Ledger) → SoundL l → Heards (modelRender.render (modelOf l)) (ledgerRender.render l)
-render-agrees l s = go (clockEnds (l .desk))
+pub render-agrees : (l : Ledger) → InvariantOf l → Heards (modelRender.render (modelOf l)) (ledgerRender.render l)
+render-agrees l s = go (clockEnds (l .shared))
   where
     go : (b : Bool)
-        → Heards (cond b (record { answer = Rendered.Refused ClockEnd; model = modelOf l }) (modelRender.preparedIf (anyFree (due (l .desk))) (modelRender.happenAll (due (l .desk)) (modelRender.rested (modelOf l)))))
-        (cond b (record { answer = Rendered.Refused ClockEnd; ledger = l }) (ledgerRender.preparedIf (anyFree (due (l .desk))) (ledgerRender.happenAll (due (l .desk)) (ledgerRender.rested l))))
+        → Heards (cond b (record { answer = Rendered.Refused ClockEnd; model = modelOf l }) (modelRender.preparedIf (anyFree (due (l .shared))) (modelRender.applyEvents (due (l .shared)) (modelRender.rested (modelOf l)))))
+        (cond b (record { answer = Rendered.Refused ClockEnd; ledger = l }) (ledgerRender.preparedIf (anyFree (due (l .shared))) (ledgerRender.applyEvents (due (l .shared)) (ledgerRender.rested l))))
     go true = record { answer = refl; model = refl; sound = s }
     go false =
-        let r = happenAll-agrees (due (l .desk)) (ledgerRender.rested l) s in
-        subst (λ m. Heards (modelRender.preparedIf (anyFree (due (l .desk))) m) (ledgerRender.preparedIf (anyFree (due (l .desk))) (ledgerRender.happenAll (due (l .desk)) (ledgerRender.rested l)))) (sym (r .model))
-        (prepared-agrees (anyFree (due (l .desk))) (ledgerRender.happenAll (due (l .desk)) (ledgerRender.rested l)) (r .sound))
+        let r = happenAll-agrees (due (l .shared)) (ledgerRender.rested l) s in
+        subst (λ m. Heards (modelRender.preparedIf (anyFree (due (l .shared))) m) (ledgerRender.preparedIf (anyFree (due (l .shared))) (ledgerRender.applyEvents (due (l .shared)) (ledgerRender.rested l)))) (sym (r .model))
+        (prepared-agrees (anyFree (due (l .shared))) (ledgerRender.applyEvents (due (l .shared)) (ledgerRender.rested l)) (r .sound))

@@ -10,9 +10,11 @@ use mathlib.Core.Option.{Option, none, some}
 use mathlib.Core.Bool.{Bool, true, false, not, cond, false≢true}
 use lib.ListN.{length}
 use borrow.Author.Tests.{eqb-true, ne-eqb}
-use Rattle.lists.specs.Member.{In, in-snoc, in-map, map-same}
-use Rattle.lists.specs.Find.{find-in, find-none, none-find, find-keep-some}
-use Rattle.lists.specs.Keep.{keep, in-keep, keep-in}
+use Rattle.lists.specs.Member.{In}
+use Rattle.lists.proofs.Member.{in-snoc, in-map, map-same}
+use Rattle.lists.proofs.Find.{find-in, find-none, none-find, find-filter-some}
+use Rattle.lists.specs.Filter.{filter}
+use Rattle.lists.proofs.Filter.{in-filter, filter-in}
 use Rattle.node.specs.declared.record.NodeId.{NodeId}
 use Rattle.node.specs.declared.record.VoiceId.{VoiceId}
 use Rattle.node.specs.declared.record.Node.{Node}
@@ -29,19 +31,19 @@ use Rattle.store.specs.declared.voices.VoiceState.{VoiceState}
 use Rattle.store.specs.declared.voices.VoiceState.the-variants.{Tracked, Fading, Loose}
 use Rattle.store.specs.declared.voices.Fade.{Fade}
 use Rattle.model.specs.Voice.{id, isVoice, withState, beginFade, moved}
-use Rattle.model.specs.Spawn.{Wire, voiceNodes, voiceWires, appendAll, wireAll, newcomer, nextVoice, stateUnder, tries, fadeNode, fadeOf, Spawn, pans}
+use Rattle.model.specs.Spawn.{Wire, voiceNodes, voiceWires, appendAll, wireAll, newVoice, nextVoice, stateUnder, tries, fadeNode, fadeOf, Spawn, pans}
 use Rattle.model.specs.Clear.{doneFlag, isSilent}
 use Rattle.model.specs.Render.{isSounding}
 use Rattle.model.specs.Call.{Call}
-use Rattle.ledger.specs.Ledger.{Ledger, newLedger, portFree, portHeld, gone, cutOff, stolen, stealVoice, land, landOr, settle, refused}
-use Rattle.ledger.specs.Clear.{ended, goneAll, endedVoices}
+use Rattle.ledger.specs.Ledger.{Ledger, newLedger, portFree, portHeld, withoutVoice, cutOff, stolen, stealVoice, instantiate, instantiateOr, placeWithinBudget, refused}
+use Rattle.ledger.specs.Clear.{ended, withoutVoices, endedVoices}
 use Rattle.ledger.specs.Render.{oneMore, countedIf}
 use Rattle.ledger.specs.Call.{run}
 use Rattle.ledger.proofs.Upto.{up-in}
 use Rattle.ledger.proofs.Ids.{unique}
-use Rattle.ledger.proofs.Steps.{place-kept, Steady, kept-run}
+use Rattle.ledger.proofs.Preserved.{place-kept, Preserves, kept-run}
 use Rattle.ledger.proofs.Managed.{IdsOf, managed-kept, ids-steady, ids-settle, ids-steal}
-use Rattle.ledger.proofs.Newcomer.{nodes-owned, nodes-count, output-in}
+use Rattle.ledger.proofs.NewVoice.{nodes-owned, nodes-count, output-in}
 use Rattle.ledger.proofs.Allowed.{spawn-allowed}
 
 -- the place of a voice's output
@@ -58,18 +60,18 @@ pub record Mine (ns : List Node) (next : ℕ) (vs : List Voice) : Type 0 where
   pub output : (v : Voice) → In v vs → Place v
 
 -- ---- moves
-mine-less : {ns : List Node} {next : ℕ} {vs : List Voice} (t : Node → Bool) (u : Voice → Bool) → Mine ns next vs → Mine (keep t ns) next (keep u vs)
+mine-less : {ns : List Node} {next : ℕ} {vs : List Voice} (t : Node → Bool) (u : Voice → Bool) → Mine ns next vs → Mine (filter t ns) next (filter u vs)
 mine-less {ns} {next} {vs} t u m =
     record {
-      below = λ x i. m .below x (in-keep t ns x i .0);
-      places = λ v i. m .places v (in-keep u vs v i .0);
-      owned = λ v i x j. m .owned v (in-keep u vs v i .0) x (in-keep t ns x j .0);
-      output = λ v i. m .output v (in-keep u vs v i .0);
+      below = λ x i. m .below x (in-filter t ns x i .0);
+      places = λ v i. m .places v (in-filter u vs v i .0);
+      owned = λ v i x j. m .owned v (in-filter u vs v i .0) x (in-filter t ns x j .0);
+      output = λ v i. m .output v (in-filter u vs v i .0);
     }
 
-mine-nodes : {ns : List Node} {next : ℕ} {vs : List Voice} (t : Node → Bool) → Mine ns next vs → Mine (keep t ns) next vs
+mine-nodes : {ns : List Node} {next : ℕ} {vs : List Voice} (t : Node → Bool) → Mine ns next vs → Mine (filter t ns) next vs
 mine-nodes {ns} {next} {vs} t m =
-    record { below = λ x i. m .below x (in-keep t ns x i .0); places = m .places; owned = λ v i x j. m .owned v i x (in-keep t ns x j .0); output = m .output }
+    record { below = λ x i. m .below x (in-filter t ns x i .0); places = m .places; owned = λ v i x j. m .owned v i x (in-filter t ns x j .0); output = m .output }
 
 mine-append : {ns : List Node} {next : ℕ} {vs : List Voice} (n : Node) → Mine ns next vs → Mine (ns ++ (withId next n ∷ [])) (next + 1) vs
 mine-append {ns} {next} {vs} n m =
@@ -109,7 +111,7 @@ mine-replaced {ns} {next} {vs} k x n e i o m =
         go z q true s = (x, find-in (isNode k) ns x e .0, (ap (λ (w : Node). w .id .0) s ∙ ap (λ (w : NodeId). w .0) i, ap (λ (w : Node). w .owner .0) s ∙ ap (λ (w : VoiceId). w .0) o))
         go z q false s = (z, q, (ap (λ (w : Node). w .id .0) s, ap (λ (w : Node). w .owner .0) s))
 
--- ---- a newcomer's nodes
+-- ---- a new voice's nodes
 grown-next : (xs : List Node) (g : GraphView) → appendAll g xs .next ≡ g .next + length xs
 grown-next [] g = omega arith
 grown-next (x ∷ xs) g = grown-next xs (change.append g x) ∙ omega arith
@@ -128,27 +130,27 @@ wires-same base [] g = (refl, refl)
 wires-same base (w ∷ ws) g = wires-same base ws (change.connect g (id (base + w .from)) (id (base + w .to)) (w .port))
 
 abbrev pub MineOf : Ledger → Type 0
-MineOf l = Mine (l .desk .graph .nodes) (l .desk .graph .next) (l .voices)
+MineOf l = Mine (l .shared .graph .nodes) (l .shared .graph .next) (l .voices)
 
-mine-land : (spawn : Spawn) → spawn .def .output < length (nodeRows (spawn .def .nodes)) → (s : VoiceState) (p : ℕ) (l : Ledger) → MineOf l → MineOf (land spawn s p l .ledger)
+mine-land : (spawn : Spawn) → spawn .def .output < length (nodeRows (spawn .def .nodes)) → (s : VoiceState) (p : ℕ) (l : Ledger) → MineOf l → MineOf (instantiate spawn s p l .ledger)
 mine-land spawn sings s p l m =
-    subst (λ ns. Mine ns (land spawn s p l .ledger .desk .graph .next) (l .voices ++ (v ∷ []))) (sym (same .0))
+    subst (λ ns. Mine ns (instantiate spawn s p l .ledger .shared .graph .next) (l .voices ++ (v ∷ []))) (sym (same .0))
     (subst (λ k. Mine (appendAll g xs .nodes) k (l .voices ++ (v ∷ []))) (sym (same .1 ∙ grown-next xs g)) all)
   where
     g : GraphView
-    g = l .desk .graph
+    g = l .shared .graph
 
     v : Voice
-    v = newcomer spawn s p (l .desk)
+    v = newVoice spawn s p (l .shared)
 
     xs : List Node
-    xs = voiceNodes (nextVoice (l .desk)) (spawn .def) (pans (spawn .pan))
+    xs = voiceNodes (nextVoice (l .shared)) (spawn .def) (pans (spawn .pan))
 
     same : (wireAll (g .next) (appendAll g xs) (voiceWires (spawn .def) (pans (spawn .pan))) .nodes ≡ appendAll g xs .nodes) × (wireAll (g .next) (appendAll g xs) (voiceWires (spawn .def) (pans (spawn .pan))) .next ≡ appendAll g xs .next)
     same = wires-same (g .next) (voiceWires (spawn .def) (pans (spawn .pan))) (appendAll g xs)
 
     many : v .count ≤ length xs
-    many = let e = nodes-count (nextVoice (l .desk)) (spawn .def) (pans (spawn .pan)) in omega arith
+    many = let e = nodes-count (nextVoice (l .shared)) (spawn .def) (pans (spawn .pan)) in omega arith
 
     own : (u : Voice) → In u (l .voices ++ (v ∷ [])) → (x : Node) → In x (appendAll g xs .nodes) → u .first .0 ≤ x .id .0 → x .id .0 < u .first .0 + u .count → x .owner .0 ≡ u .id .0
     own u i x j a b = ⊎-elim old new (in-snoc (l .voices) v u i)
@@ -159,7 +161,7 @@ mine-land spawn sings s p l m =
         new : u ≡ v → x .owner .0 ≡ u .id .0
         new e =
             let f : u .first .0 ≡ g .next = ap (λ (y : Voice). y .first .0) e in
-            ⊎-elim (λ q. absurd (omega (arith, a, f, m .below x q))) (λ r. r .2 ∙ nodes-owned (nextVoice (l .desk)) (spawn .def) (pans (spawn .pan)) (r .0) (r .1) ∙ ap (λ (y : Voice). y .id .0) (sym e)) (in-grown xs g x j)
+            ⊎-elim (λ q. absurd (omega (arith, a, f, m .below x q))) (λ r. r .2 ∙ nodes-owned (nextVoice (l .shared)) (spawn .def) (pans (spawn .pan)) (r .0) (r .1) ∙ ap (λ (y : Voice). y .id .0) (sym e)) (in-grown xs g x j)
 
     all : Mine (appendAll g xs .nodes) (g .next + length xs) (l .voices ++ (v ∷ []))
     all =
@@ -185,7 +187,7 @@ pub mine-steal : (v : Voice) (l : Ledger) → MineOf l → MineOf (stealVoice v 
 mine-steal v l m = go (portHeld v l)
   where
     f : Fade
-    f = fadeOf (l .desk)
+    f = fadeOf (l .shared)
 
     go : (o : Option ℕ) → MineOf (stolen v o l)
     go none = mine-cut v Tracked l m
@@ -193,15 +195,15 @@ mine-steal v l m = go (portHeld v l)
         mine-map (beginFade (v .id) f) (begin-same (λ (x : Voice). x .first) (λ s v. refl) (v .id) f) (begin-same (λ (x : Voice). x .count) (λ s v. refl) (v .id) f) (begin-same (λ (x : Voice). x .id) (λ s v. refl) (v .id) f) (begin-same (λ (x : Voice). x .output) (λ s v. refl) (v .id) f)
         (mine-append (fadeNode (v .id)) m)
 
-mine-settle : (spawn : Spawn) → spawn .def .output < length (nodeRows (spawn .def .nodes)) → (l : Ledger) → MineOf l → MineOf (settle spawn l .ledger)
+mine-settle : (spawn : Spawn) → spawn .def .output < length (nodeRows (spawn .def .nodes)) → (l : Ledger) → MineOf l → MineOf (placeWithinBudget spawn l .ledger)
 mine-settle spawn sings l m =
-    place-kept spawn (stateUnder (l .desk .config .budget)) (λ n z. MineOf z) (λ r. MineOf (r .ledger)) (λ n z p e q. mine-land spawn sings _ p z q) (λ z e q. q) (λ n z e f q. q)
-    (λ n z v e f q. mine-cut v (v .state) z q) (tries (l .desk .config .budget) (l .voices)) l m
+    place-kept spawn (stateUnder (l .shared .config .budget)) (λ n z. MineOf z) (λ r. MineOf (r .ledger)) (λ n z p e q. mine-land spawn sings _ p z q) (λ z e q. q) (λ n z e f q. q)
+    (λ n z v e f q. mine-cut v (v .state) z q) (tries (l .shared .config .budget) (l .voices)) l m
 
 abbrev pub OwnNodes : Ledger → Type 0
 OwnNodes l = IdsOf l × MineOf l
 
-own-steady : Steady OwnNodes
+own-steady : Preserves OwnNodes
 own-steady =
     record {
       addNode = λ l kind ports required values glides e q. (q .0, mine-append (hostNode kind ports required values glides) (q .1));
@@ -209,7 +211,7 @@ own-steady =
       connect = λ l a b p e q. q;
       disconnect = λ l b p e q. q;
       setSink = λ l k q. q;
-      loose = λ l spawn e q. (ids-steady .loose l spawn e (q .0), lands l spawn (output-in (spawn .def) (spawn-allowed (l .desk) (l .voices) (spawn .def) (spawn .bus) e .definition)) (q .1) (portFree (spawn .bus) l));
+      loose = λ l spawn e q. (ids-steady .loose l spawn e (q .0), lands l spawn (output-in (spawn .def) (spawn-allowed (l .shared) (l .voices) (spawn .def) (spawn .bus) e .definition)) (q .1) (portFree (spawn .bus) l));
       goes = λ l w q. (ids-steady .goes l w (q .0), mine-less (λ x. not (ownedBy w x)) (λ x. not (isVoice w x)) (q .1));
       node = λ l k x n e s q. (q .0, mine-replaced k x n e (s .id) (s .owner) (q .1));
       schedule = λ l e h q. q;
@@ -218,17 +220,17 @@ own-steady =
       block = λ l a q. (ids-steady .block l a (q .0), counts l (isSounding a) (q .1));
     }
   where
-    lands : (l : Ledger) (spawn : Spawn) → spawn .def .output < length (nodeRows (spawn .def .nodes)) → MineOf l → (o : Option ℕ) → MineOf (landOr o none spawn Loose l (refused NoPort) .ledger)
+    lands : (l : Ledger) (spawn : Spawn) → spawn .def .output < length (nodeRows (spawn .def .nodes)) → MineOf l → (o : Option ℕ) → MineOf (instantiateOr o none spawn Loose l (refused NoPort) .ledger)
     lands l spawn sings m none = m
     lands l spawn sings m (some p) = mine-land spawn sings Loose p l m
 
-    counts : (l : Ledger) (b : Bool) → MineOf l → Mine (l .desk .graph .nodes) (l .desk .graph .next) (countedIf b (l .voices))
+    counts : (l : Ledger) (b : Bool) → MineOf l → Mine (l .shared .graph .nodes) (l .shared .graph .next) (countedIf b (l .voices))
     counts l true m = mine-map (moved oneMore) (λ v. refl) (λ v. refl) (λ v. refl) (λ v. refl) m
     counts l false m = m
 
 pub own-run : (xs : List Call) (l : Ledger) → OwnNodes l → OwnNodes (run xs l .ledger)
 own-run = kept-run OwnNodes own-steady (λ l spawn e q.
-    let sings = output-in (spawn .def) (spawn-allowed (l .desk) (l .voices) (spawn .def) (spawn .bus) e .definition) in
+    let sings = output-in (spawn .def) (spawn-allowed (l .shared) (l .voices) (spawn .def) (spawn .bus) e .definition) in
     managed-kept spawn (λ r. OwnNodes (r .ledger)) l (q .0) (λ h. q) (λ h. (ids-settle spawn l (q .0), mine-settle spawn sings l (q .1)))
     (λ p w h v i t. (ids-settle spawn (stealVoice v l) (ids-steal v l (q .0)), mine-settle spawn sings (stealVoice v l) (mine-steal v l (q .1)))))
 
@@ -238,41 +240,41 @@ own-new c = (record { rising = tt; below = λ v i. absurd i }, record { below = 
 -- ---- the silence of a voice is its own
 module _ (l : Ledger) (q : OwnNodes l) (v : Voice) (i : In v (l .voices)) where
   -- another voice goes
-  pub node-stays : (w : VoiceId) → (v .id .0 ≡ w .0 → ⊥) → (k : ℕ) → k < v .count → nodeAt (keep (λ x. not (ownedBy w x)) (l .desk .graph .nodes)) (id (v .first .0 + k)) ≡ nodeAt (l .desk .graph .nodes) (id (v .first .0 + k))
+  pub node-stays : (w : VoiceId) → (v .id .0 ≡ w .0 → ⊥) → (k : ℕ) → k < v .count → nodeAt (filter (λ x. not (ownedBy w x)) (l .shared .graph .nodes)) (id (v .first .0 + k)) ≡ nodeAt (l .shared .graph .nodes) (id (v .first .0 + k))
   node-stays w other k lt = go (nodeAt ns j) refl
     where
       ns : List Node
-      ns = l .desk .graph .nodes
+      ns = l .shared .graph .nodes
 
       j : NodeId
       j = id (v .first .0 + k)
 
-      go : (o : Option Node) → nodeAt ns j ≡ o → nodeAt (keep (λ x. not (ownedBy w x)) ns) j ≡ nodeAt ns j
-      go none e = none-find (isNode j) (keep (λ x. not (ownedBy w x)) ns) (λ x m. find-none (isNode j) ns x e (in-keep (λ x. not (ownedBy w x)) ns x m .0)) ∙ sym e
+      go : (o : Option Node) → nodeAt ns j ≡ o → nodeAt (filter (λ x. not (ownedBy w x)) ns) j ≡ nodeAt ns j
+      go none e = none-find (isNode j) (filter (λ x. not (ownedBy w x)) ns) (λ x m. find-none (isNode j) ns x e (in-filter (λ x. not (ownedBy w x)) ns x m .0)) ∙ sym e
       go (some x) e =
           let r = find-in (isNode j) ns x e in
           let at : x .id .0 ≡ v .first .0 + k = eqb-true _ _ (r .1) in
           let a : v .first .0 ≤ x .id .0 = omega arith in
           let b : x .id .0 < v .first .0 + v .count = omega arith in
           let o : x .owner .0 ≡ v .id .0 = q .1 .owned v i x (r .0) a b in
-          find-keep-some (isNode j) (λ x. not (ownedBy w x)) ns x e (ap not (ne-eqb (x .owner .0) (w .0) (λ z. other (sym o ∙ z)))) ∙ sym e
+          find-filter-some (isNode j) (λ x. not (ownedBy w x)) ns x e (ap not (ne-eqb (x .owner .0) (w .0) (λ z. other (sym o ∙ z)))) ∙ sym e
 
-  silent-stays : (w : VoiceId) → (v .id .0 ≡ w .0 → ⊥) → isSilent (gone w l .desk .graph .nodes) v ≡ isSilent (l .desk .graph .nodes) v
+  silent-stays : (w : VoiceId) → (v .id .0 ≡ w .0 → ⊥) → isSilent (withoutVoice w l .shared .graph .nodes) v ≡ isSilent (l .shared .graph .nodes) v
   silent-stays w other =
-      ap (planSilent (v .plan)) (map-same (λ k. doneFlag (nodeAt (gone w l .desk .graph .nodes) (id (v .first .0 + k)))) (λ k. doneFlag (nodeAt (l .desk .graph .nodes) (id (v .first .0 + k)))) (upto (min (v .count) 24))
+      ap (planSilent (v .plan)) (map-same (λ k. doneFlag (nodeAt (withoutVoice w l .shared .graph .nodes) (id (v .first .0 + k)))) (λ k. doneFlag (nodeAt (l .shared .graph .nodes) (id (v .first .0 + k)))) (upto (min (v .count) 24))
       (λ k j. ap doneFlag (node-stays w other k (let r = up-in (min (v .count) 24) 0 k j .1 in let m = min-le-left (v .count) 24 in omega arith))))
 
-pub silent-same : (gs : List Voice) (l : Ledger) → OwnNodes l → (v : Voice) → In v (l .voices) → ((g : Voice) → In g gs → v .id .0 ≡ g .id .0 → ⊥) → isSilent (goneAll gs l .desk .graph .nodes) v ≡ isSilent (l .desk .graph .nodes) v
+pub silent-same : (gs : List Voice) (l : Ledger) → OwnNodes l → (v : Voice) → In v (l .voices) → ((g : Voice) → In g gs → v .id .0 ≡ g .id .0 → ⊥) → isSilent (withoutVoices gs l .shared .graph .nodes) v ≡ isSilent (l .shared .graph .nodes) v
 silent-same [] l q v i other = refl
 silent-same (g ∷ gs) l q v i other =
     let off : v .id .0 ≡ g .id .0 → ⊥ = other g (inl refl) in
-    silent-same gs (gone (g .id) l) (own-steady .goes l (g .id) q) v (keep-in (λ x. not (isVoice (g .id) x)) (l .voices) v i (ap not (ne-eqb (v .id .0) (g .id .0) off))) (λ u j. other u (inr j))
+    silent-same gs (withoutVoice (g .id) l) (own-steady .goes l (g .id) q) v (filter-in (λ x. not (isVoice (g .id) x)) (l .voices) v i (ap not (ne-eqb (v .id .0) (g .id .0) off))) (λ u j. other u (inr j))
     ∙ silent-stays l q v i (g .id) off
 
 -- the voices whose fade has ended are others than one whose fade has not
-pub silent-first : (l : Ledger) → OwnNodes l → (v : Voice) → In v (l .voices) → ended (l .desk) (v .state) ≡ false → isSilent (goneAll (endedVoices l) l .desk .graph .nodes) v ≡ isSilent (l .desk .graph .nodes) v
+pub silent-first : (l : Ledger) → OwnNodes l → (v : Voice) → In v (l .voices) → ended (l .shared) (v .state) ≡ false → isSilent (withoutVoices (endedVoices l) l .shared .graph .nodes) v ≡ isSilent (l .shared .graph .nodes) v
 silent-first l q v i e =
     silent-same (endedVoices l) l q v i (λ g j z.
-    let k = in-keep (λ x. ended (l .desk) (x .state)) (l .voices) g j in
+    let k = in-filter (λ x. ended (l .shared) (x .state)) (l .voices) g j in
     let s : v ≡ g = unique (q .0) v g i (k .0) z in
-    false≢true (sym e ∙ ap (λ (x : Voice). ended (l .desk) (x .state)) s ∙ k .1))
+    false≢true (sym e ∙ ap (λ (x : Voice). ended (l .shared) (x .state)) s ∙ k .1))

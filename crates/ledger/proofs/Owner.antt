@@ -8,10 +8,14 @@ use mathlib.Core.Option.{Option, none, some}
 use mathlib.Core.Bool.{Bool, true, false, not, cond}
 use lib.Dec.{eqb}
 use borrow.Author.Tests.{eqb-true, eq-eqb, ne-eqb}
-use Rattle.lists.specs.Member.{In, some-inj, none-some, in-snoc, in-map}
-use Rattle.lists.specs.Keep.{keep, in-keep}
-use Rattle.lists.specs.Find.{or?, isSome, mapO, keepO, Once, find-in, none-find, find-snoc-off, find-snoc-none, find-keep, find-map}
-use Rattle.lists.specs.Rising.{RisesFrom, rises-keep, rises-snoc, rises-map, rises-once}
+use Rattle.lists.specs.Member.{In}
+use Rattle.lists.proofs.Member.{some-inj, none-some, in-snoc, in-map}
+use Rattle.lists.specs.Filter.{filter}
+use Rattle.lists.proofs.Filter.{in-filter}
+use Rattle.lists.specs.Find.{or?, isSome, mapO, filterO, Once}
+use Rattle.lists.proofs.Find.{find-in, none-find, find-snoc-off, find-snoc-none, find-filter, find-map}
+use Rattle.lists.specs.Rising.{RisesFrom}
+use Rattle.lists.proofs.Rising.{rises-filter, rises-snoc, rises-map, rises-once}
 use Rattle.node.specs.declared.record.NodeId.{NodeId}
 use Rattle.node.specs.declared.record.VoiceId.{VoiceId}
 use Rattle.node.specs.declared.record.Node.{Node}
@@ -72,41 +76,41 @@ module _ {ns : List Node} {nx nv : ℕ} (l : Listed ns nx nv) where
 
   -- ---- the nodes that pass a test go
   module _ (goes : Node → Bool) where
-    pub among-is : (k : NodeId) → among (idsOf goes ns) k ≡ isSome (keepO goes (nodeAt ns k))
+    pub among-is : (k : NodeId) → among (idsOf goes ns) k ≡ isSome (filterO goes (nodeAt ns k))
     among-is k =
-        ap isSome (find-map (λ (x : Node). x .id .0) (λ j. eqb j (k .0)) (isNode k) (λ x. refl) (keep goes ns) ∙ ap (mapO (λ x. x .id .0)) (find-keep (isNode k) goes ns (once k)))
-        ∙ go (keepO goes (nodeAt ns k))
+        ap isSome (find-map (λ (x : Node). x .id .0) (λ j. eqb j (k .0)) (isNode k) (λ x. refl) (filter goes ns) ∙ ap (mapO (λ x. x .id .0)) (find-filter (isNode k) goes ns (once k)))
+        ∙ go (filterO goes (nodeAt ns k))
       where
         go : (o : Option Node) → isSome (mapO (λ x. x .id .0) o) ≡ isSome o
         go none = refl
         go (some x) = refl
 
-    pub look-thin : (k : NodeId) → nodeAt (keep (λ x. not (goes x)) ns) k ≡ cond (among (idsOf goes ns) k) none (nodeAt ns k)
-    look-thin k = find-keep (isNode k) (λ x. not (goes x)) ns (once k) ∙ go (nodeAt ns k) ∙ ap (λ b. cond b none (nodeAt ns k)) (sym (among-is k))
+    pub look-thin : (k : NodeId) → nodeAt (filter (λ x. not (goes x)) ns) k ≡ cond (among (idsOf goes ns) k) none (nodeAt ns k)
+    look-thin k = find-filter (isNode k) (λ x. not (goes x)) ns (once k) ∙ go (nodeAt ns k) ∙ ap (λ b. cond b none (nodeAt ns k)) (sym (among-is k))
       where
         at : (x : Node) (b : Bool) → or? (not b) x none ≡ cond (isSome (or? b x none)) none (some x)
         at x true = refl
         at x false = refl
 
-        go : (o : Option Node) → keepO (λ x. not (goes x)) o ≡ cond (isSome (keepO goes o)) none o
+        go : (o : Option Node) → filterO (λ x. not (goes x)) o ≡ cond (isSome (filterO goes o)) none o
         go none = refl
         go (some x) = at x (goes x)
 
-    pub owner-thin : (n : ℕ) → ownerAt (keep (λ x. not (goes x)) ns) n ≡ cond (among (idsOf goes ns) (id n)) none (ownerAt ns n)
+    pub owner-thin : (n : ℕ) → ownerAt (filter (λ x. not (goes x)) ns) n ≡ cond (among (idsOf goes ns) (id n)) none (ownerAt ns n)
     owner-thin n = ap ownerOf (look-thin (id n)) ∙ go (among (idsOf goes ns) (id n))
       where
         go : (b : Bool) → ownerOf (cond b none (nodeAt ns (id n))) ≡ cond b none (ownerAt ns n)
         go true = refl
         go false = refl
 
-    pub ports-thin : (n : ℕ) → among (idsOf goes ns) (id n) ≡ false → portsAt (keep (λ x. not (goes x)) ns) n ≡ portsAt ns n
+    pub ports-thin : (n : ℕ) → among (idsOf goes ns) (id n) ≡ false → portsAt (filter (λ x. not (goes x)) ns) n ≡ portsAt ns n
     ports-thin n h = ap portsOf (look-thin (id n)) ∙ rw h
 
-    pub listed-thin : Listed (keep (λ x. not (goes x)) ns) nx nv
+    pub listed-thin : Listed (filter (λ x. not (goes x)) ns) nx nv
     listed-thin =
         record {
-          rises = rises-keep (λ (x : Node). x .id .0) (λ x. not (goes x)) 0 ns (l .rises);
-          below = λ x i. l .below x (in-keep (λ x. not (goes x)) ns x i .0);
+          rises = rises-filter (λ (x : Node). x .id .0) (λ x. not (goes x)) 0 ns (l .rises);
+          below = λ x i. l .below x (in-filter (λ x. not (goes x)) ns x i .0);
         }
 
   -- whose nodes go

@@ -9,8 +9,10 @@ use mathlib.Core.Option.{Option, none, some}
 use mathlib.Core.Bool.{Bool, true, false, not, cond, true≢false, false≢true}
 use lib.Dec.{eqb}
 use borrow.Author.Tests.{eqb-true, eq-eqb, ne-eqb}
-use Rattle.lists.specs.Member.{In, some-inj, none-some, and-left, and-right, both}
-use Rattle.lists.specs.Find.{find, mapO, find-in, find-none}
+use Rattle.lists.specs.Member.{In}
+use Rattle.lists.proofs.Member.{some-inj, none-some, and-left, and-right, both}
+use Rattle.lists.specs.Find.{find, mapO}
+use Rattle.lists.proofs.Find.{find-in, find-none}
 use Rattle.node.specs.declared.record.NodeId.{NodeId}
 use Rattle.node.specs.declared.record.Node.{Node}
 use Rattle.node.specs.declared.record.Edge.{Edge}
@@ -22,9 +24,9 @@ use Rattle.ledger.specs.Holder.{Holders, nobody, isHeld, byVoice}
 use Rattle.ledger.specs.Ledger.{lowestPort}
 use Rattle.ledger.specs.Claim.{ownerAt, holderAt, holderOf, heldBy, isHost}
 use Rattle.ledger.proofs.Owner.{portsAt}
-use Rattle.ledger.proofs.Wired.{edge-at}
+use Rattle.ledger.proofs.EdgeInvariant.{edge-at}
 use Rattle.ledger.proofs.Held.{held-taken}
-use Rattle.ledger.proofs.Sound.{Sound, HostAt}
+use Rattle.ledger.proofs.Invariant.{Invariant, HostAt}
 use Rattle.ledger.proofs.Fading.{fed-host, fed-range, fed-holds, fed-out}
 
 -- ---- the lowest port that passes
@@ -59,7 +61,7 @@ lowest-same es n t same (suc k) p = rw (same p, lowest-same es n t same k (suc p
     go true = refl
     go false = refl
 
-module _ {ns : List Node} {es : List Edge} {nx nv : ℕ} {vs : List Voice} {h : Holders} (s : Sound ns es nx nv vs h) where
+module _ {ns : List Node} {es : List Edge} {nx nv : ℕ} {vs : List Voice} {h : Holders} (s : Invariant ns es nx nv vs h) where
   -- "the lowest port without an edge" is the lowest that nobody holds
   pub free-same : (bus : NodeId) → HostAt ns (bus .0) → freePort es bus (portsAt ns (bus .0)) ≡ lowestPort (portsAt ns (bus .0)) (λ p. not (isHeld (h (bus .0) p))) 0
   free-same bus live =

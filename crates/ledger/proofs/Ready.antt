@@ -9,9 +9,12 @@ use mathlib.Core.List.{List, [], _∷_, map, map-map}
 use mathlib.Core.Option.{some}
 use mathlib.Core.Bool.{Bool, true, false, cond, _&&_, false≢true}
 use borrow.Author.Tests.{eqb-true, eq-eqb}
-use Rattle.lists.specs.Member.{In, some-inj, map-same}
-use Rattle.lists.specs.Find.{isSome, find-in}
-use Rattle.lists.specs.Rising.{RisesFrom, rises-once}
+use Rattle.lists.specs.Member.{In}
+use Rattle.lists.proofs.Member.{some-inj, map-same}
+use Rattle.lists.specs.Find.{isSome}
+use Rattle.lists.proofs.Find.{find-in}
+use Rattle.lists.specs.Rising.{RisesFrom}
+use Rattle.lists.proofs.Rising.{rises-once}
 use Rattle.node.specs.declared.record.NodeId.{NodeId}
 use Rattle.node.specs.declared.record.Node.{Node}
 use Rattle.node.specs.declared.record.Edge.{Edge}
@@ -31,14 +34,14 @@ use Rattle.graph.specs.Node.{isNode, nodeAt, replaced}
 use Rattle.scheduler.specs.declared.event.Event.{Event}
 use Rattle.store.specs.declared.config.Config.{Config}
 use Rattle.store.specs.declared.answer.Rendered.the-variants as Rendered
-use Rattle.model.specs.Desk.{Desk, withGraph, sounding}
-use Rattle.model.specs.Render.{prepareOutcome, prepareDesk, readyDesk, anyFree, heard, answerAfter, isSounding, due, clockEnds}
+use Rattle.model.specs.SharedState.{SharedState, withGraph, sounding}
+use Rattle.model.specs.Render.{prepareOutcome, prepareShared, readyShared, anyFree, heard, answerAfter, isSounding, due, clockEnds}
 use Rattle.model.specs.Call.{Call}
 use Rattle.ledger.specs.Ledger.{Ledger, newLedger, admissionOn}
-use Rattle.ledger.specs.Render.{happenAll, preparedIf, rested, render}
+use Rattle.ledger.specs.Render.{applyEvents, preparedIf, rested, render}
 use Rattle.ledger.specs.Render as rendering
 use Rattle.ledger.specs.Call.{run}
-use Rattle.ledger.proofs.Steps.{Steady, Alike, kept-run, happenAll-kept}
+use Rattle.ledger.proofs.Preserved.{Preserves, Alike, kept-run, happenAll-kept}
 use Rattle.ledger.proofs.Spawning.{Spawning, place-keeps, managed-keeps}
 use Rattle.ledger.proofs.Rows.{Rows, rows-other, rows-steady, rows-spawning, replaced-id}
 
@@ -110,7 +113,7 @@ pub record Prepares (g : GraphView) : Type 0 where
   pub holds : HoldsOrder g
 
 abbrev pub ReadyOf : Ledger → Type 0
-ReadyOf l = Prepares (l .desk .graph)
+ReadyOf l = Prepares (l .shared .graph)
 
 -- a change of the graph makes it unprepared
 unprepared : {A : Type 0} → _≡_ {A = Bool} false true → A
@@ -124,7 +127,7 @@ ready-spawning =
       lands = λ l spawn s p h. record { rows = rows-spawning .lands l spawn s p (h .rows); holds = unprepared };
     }
 
-ready-steady : Steady ReadyOf
+ready-steady : Preserves ReadyOf
 ready-steady =
     record {
       addNode = λ l kind ports required values glides e h. record { rows = rows-steady .addNode l kind ports required values glides e (h .rows); holds = unprepared };
@@ -137,11 +140,11 @@ ready-steady =
       node = λ l k x n e s h.
           record {
             rows = rows-steady .node l k x n e s (h .rows);
-            holds = λ p. prepare-same (l .desk .graph .nodes) (l .desk .graph .next) (h .rows) k x n e s (l .desk .graph .edges) ∙ h .holds p;
+            holds = λ p. prepare-same (l .shared .graph .nodes) (l .shared .graph .next) (h .rows) k x n e s (l .shared .graph .edges) ∙ h .holds p;
           };
       schedule = λ l e f h. h;
       rest = λ l h. h;
-      prepare = λ l e h. record { rows = h .rows; holds = λ p. ap (λ a. record { answer = a; order = prepareOutcome (l .desk) .order }) e };
+      prepare = λ l e h. record { rows = h .rows; holds = λ p. ap (λ a. record { answer = a; order = prepareOutcome (l .shared) .order }) e };
       block = λ l a h. h;
     }
 
@@ -158,9 +161,9 @@ prepared-sorted g h p =
     (subst (λ (o : graph.Outcome). Sorted (liveIds (g .nodes)) (map arcOf (g .edges)) (map number (o .order))) (h .holds p)
     (ready-sorted (g .nodes) (g .edges) (ap (λ (o : graph.Outcome). o .answer) (h .holds p))))
 
-pub prepared-same : (d : Desk) → Prepares (d .graph) → d .graph .prepared ≡ true → prepareDesk d ≡ d
+pub prepared-same : (d : SharedState) → Prepares (d .graph) → d .graph .prepared ≡ true → prepareShared d ≡ d
 prepared-same d h p =
-    ap (λ (o : graph.Outcome). readyDesk (o .answer) (o .order) d) (h .holds p)
+    ap (λ (o : graph.Outcome). readyShared (o .answer) (o .order) d) (h .holds p)
     ∙ ap (λ b. withGraph (record { nodes = d .graph .nodes; edges = d .graph .edges; sink = d .graph .sink; prepared = b; order = d .graph .order; next = d .graph .next }) d) (sym p)
 
 -- ---- a render sounds exactly where the graph that it leaves is prepared and has a sink: a prepare that fails inside it met a graph that
@@ -169,7 +172,7 @@ heard-is : (b : Bool) → isSounding (heard b) ≡ b
 heard-is true = refl
 heard-is false = refl
 
-module _ (d : Desk) (h : Prepares (d .graph)) where
+module _ (d : SharedState) (h : Prepares (d .graph)) where
   failed : (r : Refusal) → prepareOutcome d .answer ≡ Refused r → d .graph .prepared ≡ false
   failed r e = go (d .graph .prepared) refl
     where
@@ -180,26 +183,26 @@ module _ (d : Desk) (h : Prepares (d .graph)) where
           let z : _≡_ {A = ℕ} 0 1 = cc in
           absurd (omega arith)
 
-  after-sounds : isSounding (answerAfter (prepareOutcome d .answer) (prepareDesk d)) ≡ sounding (prepareDesk d)
+  after-sounds : isSounding (answerAfter (prepareOutcome d .answer) (prepareShared d)) ≡ sounding (prepareShared d)
   after-sounds = go (prepareOutcome d .answer) refl
     where
-      go : (r : Readiness) → prepareOutcome d .answer ≡ r → isSounding (answerAfter r (readyDesk r (prepareOutcome d .order) d)) ≡ sounding (readyDesk r (prepareOutcome d .order) d)
-      go Ready e = heard-is (sounding (readyDesk Ready (prepareOutcome d .order) d))
+      go : (r : Readiness) → prepareOutcome d .answer ≡ r → isSounding (answerAfter r (readyShared r (prepareOutcome d .order) d)) ≡ sounding (readyShared r (prepareOutcome d .order) d)
+      go Ready e = heard-is (sounding (readyShared Ready (prepareOutcome d .order) d))
       go (Refused r) e = sym (ap (λ b. b && isSome (d .graph .sink)) (failed r e))
 
-block-sounds : (b : Bool) (l : Ledger) → ReadyOf l → isSounding (preparedIf b l .answer) ≡ sounding (preparedIf b l .ledger .desk)
-block-sounds true l h = after-sounds (l .desk) h
-block-sounds false l h = heard-is (sounding (l .desk))
+block-sounds : (b : Bool) (l : Ledger) → ReadyOf l → isSounding (preparedIf b l .answer) ≡ sounding (preparedIf b l .ledger .shared)
+block-sounds true l h = after-sounds (l .shared) h
+block-sounds false l h = heard-is (sounding (l .shared))
 
-pub render-sounds : (l : Ledger) → ReadyOf l → clockEnds (l .desk) ≡ false → isSounding (render l .answer) ≡ sounding (render l .ledger .desk)
+pub render-sounds : (l : Ledger) → ReadyOf l → clockEnds (l .shared) ≡ false → isSounding (render l .answer) ≡ sounding (render l .ledger .shared)
 render-sounds l h e =
-    ap (λ b. isSounding (cond b ends goes .answer)) e ∙ block-sounds (anyFree q) (happenAll q (rested l)) (happenAll-kept ReadyOf ready-steady q (rested l) h) ∙ ap (λ b. sounding (cond b ends goes .ledger .desk)) (sym e)
+    ap (λ b. isSounding (cond b ends goes .answer)) e ∙ block-sounds (anyFree q) (applyEvents q (rested l)) (happenAll-kept ReadyOf ready-steady q (rested l) h) ∙ ap (λ b. sounding (cond b ends goes .ledger .shared)) (sym e)
   where
     q : List Event
-    q = due (l .desk)
+    q = due (l .shared)
 
     ends : rendering.Heard
     ends = record { answer = Rendered.Refused ClockEnd; ledger = l }
 
     goes : rendering.Heard
-    goes = preparedIf (anyFree q) (happenAll q (rested l))
+    goes = preparedIf (anyFree q) (applyEvents q (rested l))

@@ -8,11 +8,14 @@ use mathlib.Core.List.{List, [], _∷_, _++_, map}
 use mathlib.Core.Option.{Option, none, some}
 use mathlib.Core.Bool.{Bool, true, false, not, false≢true}
 use borrow.Author.Tests.{eq-eqb, eqb-true}
-use Rattle.lists.specs.Member.{In, in-snoc, in-map, and-left}
-use Rattle.lists.specs.Keep.{keep, in-keep}
-use Rattle.lists.specs.Count.{more, count, count-keep, count-snoc, count-map}
+use Rattle.lists.specs.Member.{In}
+use Rattle.lists.proofs.Member.{in-snoc, in-map, and-left}
+use Rattle.lists.specs.Filter.{filter}
+use Rattle.lists.proofs.Filter.{in-filter}
+use Rattle.lists.specs.Count.{more, count}
+use Rattle.lists.proofs.Count.{count-filter, count-snoc, count-map}
 use Rattle.node.specs.declared.record.VoiceId.{VoiceId}
-use Rattle.voice.specs.Steals.{Book, pushed, recordOf}
+use Rattle.voice.specs.Steals.{StealLog, pushed, recordOf}
 use Rattle.voice.specs.declared.steals.StealRecord.{StealRecord}
 use Rattle.voice.specs.declared.policy.Budget.{Budget}
 use Rattle.voice.specs.declared.policy.Budget.the-variants.{Unlimited, AtMost}
@@ -22,17 +25,17 @@ use Rattle.store.specs.declared.voices.VoiceState.{VoiceState}
 use Rattle.store.specs.declared.voices.VoiceState.the-variants.{Tracked, Fading, Loose}
 use Rattle.store.specs.declared.voices.Fade.{Fade}
 use Rattle.model.specs.Voice.{isVoice, isTracked, withState, beginFade, movedFade, movedState, moved, voiceLevel}
-use Rattle.model.specs.Spawn.{newcomer, stateUnder, tries, fadeOf, Spawn}
+use Rattle.model.specs.Spawn.{newVoice, stateUnder, tries, fadeOf, Spawn}
 use Rattle.model.specs.Call.{Call}
-use Rattle.ledger.specs.Ledger.{Ledger, newLedger, portHeld, cutOff, fade, stolen, stealVoice, settle}
+use Rattle.ledger.specs.Ledger.{Ledger, newLedger, portHeld, cutOff, fade, stolen, stealVoice, placeWithinBudget}
 use Rattle.ledger.specs.Render.{oneMore}
 use Rattle.ledger.specs.Call.{step, run}
 use Rattle.ledger.specs.Claim.{Newest, tracks}
 use Rattle.ledger.proofs.Allowed.{spawn-allowed}
 use Rattle.ledger.proofs.Ids.{Ids, ids-keep, ids-map, ids-snoc, unique, one-gone, one-changed}
 use Rattle.ledger.proofs.Victim.{nextOut-in}
-use Rattle.ledger.proofs.Book.{count-pushed, newest-pushed, newest-marked}
-use Rattle.ledger.proofs.Steps.{place-kept, Steady, calm, kept-step}
+use Rattle.ledger.proofs.StealLog.{count-pushed, newest-pushed, newest-marked}
+use Rattle.ledger.proofs.Preserved.{place-kept, Preserves, calm, kept-step}
 use Rattle.ledger.proofs.Managed.{managed-kept, begin-id}
 
 -- every fade has the number of a record that was written, and no two have one
@@ -42,7 +45,7 @@ Numbers k vs = (v : Voice) → In v vs → (f : Fade) → v .state ≡ Fading f 
 abbrev Own : List Voice → Type 0
 Own vs = (u v : Voice) → In u vs → In v vs → (f g : Fade) → u .state ≡ Fading f → v .state ≡ Fading g → f .number ≡ g .number → u ≡ v
 
-pub record Recorded (b : Book) (n : ℕ) (vs : List Voice) : Type 0 where
+pub record Recorded (b : StealLog) (n : ℕ) (vs : List Voice) : Type 0 where
   pub ids : Ids n vs
   pub newest : Newest b
   pub tally : b .count + count tracks vs ≤ n
@@ -51,7 +54,7 @@ pub record Recorded (b : Book) (n : ℕ) (vs : List Voice) : Type 0 where
   pub own : Own vs
 
 abbrev pub RecordedOf : Ledger → Type 0
-RecordedOf l = Recorded (l .desk .steals) (l .desk .spawned) (l .voices)
+RecordedOf l = Recorded (l .shared .steals) (l .shared .spawned) (l .voices)
 
 -- ---- states
 pub tracked-state : (s : VoiceState) → isTracked s ≡ true → s ≡ Tracked
@@ -77,21 +80,21 @@ moved-fading (Fading g) f e = (g, refl, sym (fade-inj e))
 moved-fading Loose f e = absurd (loose-fading f e)
 
 -- ---- moves of the voices
-numbers-keep : (k : ℕ) (t : Voice → Bool) (vs : List Voice) → Numbers k vs → Numbers k (keep t vs)
-numbers-keep k t vs h v i = h v (in-keep t vs v i .0)
+numbers-keep : (k : ℕ) (t : Voice → Bool) (vs : List Voice) → Numbers k vs → Numbers k (filter t vs)
+numbers-keep k t vs h v i = h v (in-filter t vs v i .0)
 
-own-keep : (t : Voice → Bool) (vs : List Voice) → Own vs → Own (keep t vs)
-own-keep t vs h u v i j = h u v (in-keep t vs u i .0) (in-keep t vs v j .0)
+own-keep : (t : Voice → Bool) (vs : List Voice) → Own vs → Own (filter t vs)
+own-keep t vs h u v i j = h u v (in-filter t vs u i .0) (in-filter t vs v j .0)
 
 numbers-more : (k m : ℕ) (vs : List Voice) → k ≤ m → Numbers k vs → Numbers m vs
 numbers-more k m vs le h v i f e = omega (arith, le, h v i f e)
 
-recorded-gone : (b : Book) (n : ℕ) (vs : List Voice) (w : VoiceId) → Recorded b n vs → Recorded b n (keep (λ x. not (isVoice w x)) vs)
+recorded-gone : (b : StealLog) (n : ℕ) (vs : List Voice) (w : VoiceId) → Recorded b n vs → Recorded b n (filter (λ x. not (isVoice w x)) vs)
 recorded-gone b n vs w r =
     record {
       ids = ids-keep (λ x. not (isVoice w x)) (r .ids);
       newest = r .newest;
-      tally = omega (arith, r .tally, count-keep tracks (λ x. not (isVoice w x)) vs);
+      tally = omega (arith, r .tally, count-filter tracks (λ x. not (isVoice w x)) vs);
       most = r .most;
       numbers = numbers-keep (b .count) (λ x. not (isVoice w x)) vs (r .numbers);
       own = own-keep (λ x. not (isVoice w x)) vs (r .own);
@@ -121,7 +124,7 @@ was-moved vs v i f e =
     let m = moved-fading (q .0 .state) f (ap (λ (x : Voice). x .state) (sym (q .2)) ∙ e) in
     record { voice = q .0; fade = m .0; member = q .1; is = q .2; state = m .1; moves = m .2; number = ap (λ (x : Fade). x .number) (m .2) }
 
-recorded-moved : (b : Book) (n : ℕ) (vs : List Voice) → Recorded b n vs → Recorded b n (map (moved oneMore) vs)
+recorded-moved : (b : StealLog) (n : ℕ) (vs : List Voice) → Recorded b n vs → Recorded b n (map (moved oneMore) vs)
 recorded-moved b n vs r =
     record {
       ids = ids-map (moved oneMore) (λ v. refl) (r .ids);
@@ -135,7 +138,7 @@ recorded-moved b n vs r =
           p .is ∙ ap (moved oneMore) (r .own (p .voice) (q .voice) (p .member) (q .member) (p .fade) (q .fade) (p .state) (q .state) (sym (p .number) ∙ s ∙ q .number)) ∙ sym (q .is);
     }
 
-recorded-lands : (b : Book) (n : ℕ) (vs : List Voice) (v : Voice) → v .id .0 ≡ n + 1 → ((f : Fade) → v .state ≡ Fading f → ⊥) → n < 18446744073709551615 → Recorded b n vs → Recorded b (n + 1) (vs ++ (v ∷ []))
+recorded-lands : (b : StealLog) (n : ℕ) (vs : List Voice) (v : Voice) → v .id .0 ≡ n + 1 → ((f : Fade) → v .state ≡ Fading f → ⊥) → n < 18446744073709551615 → Recorded b n vs → Recorded b (n + 1) (vs ++ (v ∷ []))
 recorded-lands b n vs v e s h r =
     record {
       ids = ids-snoc v e (r .ids);
@@ -167,9 +170,9 @@ begun {n} {vs} d v i f u j = let q = in-map (beginFade (v .id) f) vs u j in go (
     go x k e false h = let s : u ≡ x = e ∙ begin-other (v .id) f x h in inr (subst (λ z. In z vs) (sym s) k, ap (isVoice (v .id)) s ∙ h)
 
 -- a tracked voice has an id that no record has yet
-pub steal-small : {b : Book} {n : ℕ} {vs : List Voice} → Recorded b n vs → (v : Voice) → In v vs → v .state ≡ Tracked → b .count < 18446744073709551615
+pub steal-small : {b : StealLog} {n : ℕ} {vs : List Voice} → Recorded b n vs → (v : Voice) → In v vs → v .state ≡ Tracked → b .count < 18446744073709551615
 steal-small {b} {n} {vs} r v i t =
-    let one = one-gone (r .ids) tracks v i ∙ ap (λ s. more (isTracked s) (count tracks (keep (λ x. not (isVoice (v .id) x)) vs))) t in
+    let one = one-gone (r .ids) tracks v i ∙ ap (λ s. more (isTracked s) (count tracks (filter (λ x. not (isVoice (v .id) x)) vs))) t in
     let k = r .tally in
     let m = r .most in
     omega arith
@@ -177,22 +180,22 @@ steal-small {b} {n} {vs} r v i t =
 recorded-fade : (v : Voice) (p : ℕ) (l : Ledger) → RecordedOf l → In v (l .voices) → v .state ≡ Tracked → RecordedOf (fade v p l)
 recorded-fade v p l r i t =
     record {
-      ids = ids-map (beginFade (v .id) (fadeOf (l .desk))) (begin-id (v .id) (fadeOf (l .desk))) (r .ids);
-      newest = newest-pushed (l .desk .steals) rec small (r .newest);
-      tally = let c = count-pushed (l .desk .steals) rec small in let k = fewer in let q = r .tally in omega arith;
+      ids = ids-map (beginFade (v .id) (fadeOf (l .shared))) (begin-id (v .id) (fadeOf (l .shared))) (r .ids);
+      newest = newest-pushed (l .shared .steals) rec small (r .newest);
+      tally = let c = count-pushed (l .shared .steals) rec small in let k = fewer in let q = r .tally in omega arith;
       most = r .most;
       numbers = num;
       own = own;
     }
   where
-    b : Book
-    b = l .desk .steals
+    b : StealLog
+    b = l .shared .steals
 
     rec : StealRecord
-    rec = recordOf (l .desk .clock) (voiceLevel (l .desk) v) false
+    rec = recordOf (l .shared .clock) (voiceLevel (l .shared) v) false
 
     f₀ : Fade
-    f₀ = fadeOf (l .desk)
+    f₀ = fadeOf (l .shared)
 
     fewer : count tracks (l .voices) ≡ suc (count tracks (map (beginFade (v .id) f₀) (l .voices)))
     fewer = one-changed (r .ids) tracks (beginFade (v .id) f₀) v (begin-other (v .id) f₀) (ap isTracked t) (ap tracks (begin-self v f₀)) i
@@ -217,10 +220,10 @@ recorded-fade v p l r i t =
 
 pub recorded-cut : (v : Voice) (s : VoiceState) (l : Ledger) → RecordedOf l → In v (l .voices) → v .state ≡ s → RecordedOf (cutOff v s l)
 recorded-cut v Tracked l r i t =
-    let b = l .desk .steals in
-    let rec = recordOf (l .desk .clock) (voiceLevel (l .desk) v) true in
+    let b = l .shared .steals in
+    let rec = recordOf (l .shared .clock) (voiceLevel (l .shared) v) true in
     let one = one-gone (r .ids) tracks v i in
-    let fewer : count tracks (l .voices) ≡ suc (count tracks (keep (λ x. not (isVoice (v .id) x)) (l .voices))) = one ∙ ap (λ s. more (isTracked s) (count tracks (keep (λ x. not (isVoice (v .id) x)) (l .voices)))) t in
+    let fewer : count tracks (l .voices) ≡ suc (count tracks (filter (λ x. not (isVoice (v .id) x)) (l .voices))) = one ∙ ap (λ s. more (isTracked s) (count tracks (filter (λ x. not (isVoice (v .id) x)) (l .voices)))) t in
     let k = r .tally in
     let m = r .most in
     let small : b .count < 18446744073709551615 = omega arith in
@@ -230,13 +233,13 @@ recorded-cut v Tracked l r i t =
       newest = newest-pushed b rec small (r .newest);
       tally = omega arith;
       most = r .most;
-      numbers = numbers-more (b .count) (pushed b rec .count) (keep (λ x. not (isVoice (v .id) x)) (l .voices)) (omega arith) (numbers-keep (b .count) (λ x. not (isVoice (v .id) x)) (l .voices) (r .numbers));
+      numbers = numbers-more (b .count) (pushed b rec .count) (filter (λ x. not (isVoice (v .id) x)) (l .voices)) (omega arith) (numbers-keep (b .count) (λ x. not (isVoice (v .id) x)) (l .voices) (r .numbers));
       own = own-keep (λ x. not (isVoice (v .id) x)) (l .voices) (r .own);
     }
 recorded-cut v (Fading f) l r i t =
-    let g = recorded-gone (l .desk .steals) (l .desk .spawned) (l .voices) (v .id) r in
-    record { ids = g .ids; newest = newest-marked (l .desk .steals) (f .number) (r .newest); tally = g .tally; most = g .most; numbers = g .numbers; own = g .own }
-recorded-cut v Loose l r i t = recorded-gone (l .desk .steals) (l .desk .spawned) (l .voices) (v .id) r
+    let g = recorded-gone (l .shared .steals) (l .shared .spawned) (l .voices) (v .id) r in
+    record { ids = g .ids; newest = newest-marked (l .shared .steals) (f .number) (r .newest); tally = g .tally; most = g .most; numbers = g .numbers; own = g .own }
+recorded-cut v Loose l r i t = recorded-gone (l .shared .steals) (l .shared .spawned) (l .voices) (v .id) r
 
 pub recorded-steal : (v : Voice) (l : Ledger) → RecordedOf l → In v (l .voices) → isTracked (v .state) ≡ true → RecordedOf (stealVoice v l)
 recorded-steal v l r i t = go (portHeld v l)
@@ -250,22 +253,22 @@ pub under-fading : (b : Budget) (f : Fade) → stateUnder b ≡ Fading f → ⊥
 under-fading Unlimited f e = loose-fading f e
 under-fading (AtMost k) f e = tracked-fading f e
 
-recorded-settle : (spawn : Spawn) (l : Ledger) → RecordedOf l → l .desk .spawned < 18446744073709551615 → RecordedOf (settle spawn l .ledger)
+recorded-settle : (spawn : Spawn) (l : Ledger) → RecordedOf l → l .shared .spawned < 18446744073709551615 → RecordedOf (placeWithinBudget spawn l .ledger)
 recorded-settle spawn l r h =
-    place-kept spawn (stateUnder (l .desk .config .budget)) (λ n m. RecordedOf m × (m .desk .spawned < 18446744073709551615)) (λ r. RecordedOf (r .ledger))
-    (λ n m p e q. recorded-lands (m .desk .steals) (m .desk .spawned) (m .voices) (newcomer spawn _ p (m .desk)) refl (under-fading (l .desk .config .budget)) (q .1) (q .0))
+    place-kept spawn (stateUnder (l .shared .config .budget)) (λ n m. RecordedOf m × (m .shared .spawned < 18446744073709551615)) (λ r. RecordedOf (r .ledger))
+    (λ n m p e q. recorded-lands (m .shared .steals) (m .shared .spawned) (m .voices) (newVoice spawn _ p (m .shared)) refl (under-fading (l .shared .config .budget)) (q .1) (q .0))
     (λ m e q. q .0) (λ n m e f q. q .0)
-    (λ n m v e f q. (recorded-cut v (v .state) m (q .0) (nextOut-in (q .0 .ids) (m .desk) (spawn .bus) v f .0) refl, q .1))
-    (tries (l .desk .config .budget) (l .voices)) l (r, h)
+    (λ n m v e f q. (recorded-cut v (v .state) m (q .0) (nextOut-in (q .0 .ids) (m .shared) (spawn .bus) v f .0) refl, q .1))
+    (tries (l .shared .config .budget) (l .voices)) l (r, h)
 
-pub spawned-steal : (v : Voice) (l : Ledger) → stealVoice v l .desk .spawned ≡ l .desk .spawned
+pub spawned-steal : (v : Voice) (l : Ledger) → stealVoice v l .shared .spawned ≡ l .shared .spawned
 spawned-steal v l = go (portHeld v l)
   where
-    go : (o : Option ℕ) → stolen v o l .desk .spawned ≡ l .desk .spawned
+    go : (o : Option ℕ) → stolen v o l .shared .spawned ≡ l .shared .spawned
     go none = refl
     go (some p) = refl
 
-recorded-steady : Steady RecordedOf
+recorded-steady : Preserves RecordedOf
 recorded-steady =
     calm (λ c b n vs. Recorded b n vs) (λ c b n vs w r. recorded-gone b n vs w r) (λ c b n vs r. recorded-moved b n vs r)
     (λ c b n vs v e s h r. recorded-lands b n vs v e (λ f q. loose-fading f (sym s ∙ q)) h r)
@@ -274,7 +277,7 @@ pub recorded-step : (x : Call) (l : Ledger) → RecordedOf l → RecordedOf (ste
 recorded-step =
     kept-step RecordedOf recorded-steady
     (λ l spawn e r.
-    let h : l .desk .spawned < 18446744073709551615 = spawn-allowed (l .desk) (l .voices) (spawn .def) (spawn .bus) e .ids-left in
+    let h : l .shared .spawned < 18446744073709551615 = spawn-allowed (l .shared) (l .voices) (spawn .def) (spawn .bus) e .ids-left in
     managed-kept spawn (λ z. RecordedOf (z .ledger)) l (r .ids) (λ a. r) (λ a. recorded-settle spawn l r h)
     (λ p w a v i t. recorded-settle spawn (stealVoice v l) (recorded-steal v l r i (and-left (tracks v) _ t)) (rw (spawned-steal v l) h)))
 

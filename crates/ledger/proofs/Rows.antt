@@ -8,9 +8,12 @@ use mathlib.Core.List.{List, [], _∷_, _++_}
 use mathlib.Core.Option.{some}
 use mathlib.Core.Bool.{Bool, true, false, not, cond}
 use borrow.Author.Tests.{eqb-true}
-use Rattle.lists.specs.Member.{In, in-snoc, in-map}
-use Rattle.lists.specs.Keep.{keep, in-keep}
-use Rattle.lists.specs.Rising.{RisesFrom, rises-keep, rises-snoc, rises-map}
+use Rattle.lists.specs.Member.{In}
+use Rattle.lists.proofs.Member.{in-snoc, in-map}
+use Rattle.lists.specs.Filter.{filter}
+use Rattle.lists.proofs.Filter.{in-filter}
+use Rattle.lists.specs.Rising.{RisesFrom}
+use Rattle.lists.proofs.Rising.{rises-filter, rises-snoc, rises-map}
 use Rattle.node.specs.declared.record.NodeId.{NodeId}
 use Rattle.node.specs.declared.record.Node.{Node}
 use Rattle.graph.specs.View.{GraphView}
@@ -21,15 +24,15 @@ use Rattle.model.specs.Spawn.{Wire, voiceNodes, voiceWires, appendAll, wireAll,
 use Rattle.model.specs.Call.{Call}
 use Rattle.ledger.specs.Ledger.{Ledger, admissionOn}
 use Rattle.ledger.specs.Call.{run}
-use Rattle.ledger.proofs.Steps.{Steady, Alike, kept-run}
+use Rattle.ledger.proofs.Preserved.{Preserves, Alike, kept-run}
 use Rattle.ledger.proofs.Spawning.{Spawning, place-keeps, managed-keeps}
 
 module _ (N : List Node → ℕ → Type 0)
     (more : (ns : List Node) (next : ℕ) (n : Node) → N ns next → N (ns ++ (withId next n ∷ [])) (next + 1))
-    (fewer : (ns : List Node) (next : ℕ) (t : Node → Bool) → N ns next → N (keep t ns) next)
+    (fewer : (ns : List Node) (next : ℕ) (t : Node → Bool) → N ns next → N (filter t ns) next)
     (other : (ns : List Node) (next : ℕ) (k : NodeId) (x n : Node) → nodeAt ns k ≡ some x → Alike x n → N ns next → N (replaced ns n) next) where
   abbrev pub NodesOf : Ledger → Type 0
-  NodesOf l = N (l .desk .graph .nodes) (l .desk .graph .next)
+  NodesOf l = N (l .shared .graph .nodes) (l .shared .graph .next)
 
   append-all : (xs : List Node) (g : GraphView) → N (g .nodes) (g .next) → N (appendAll g xs .nodes) (appendAll g xs .next)
   append-all [] g h = h
@@ -42,24 +45,24 @@ module _ (N : List Node → ℕ → Type 0)
   pub nodes-spawning : Spawning NodesOf
   nodes-spawning =
       record {
-        cuts = λ l v s h. fewer (l .desk .graph .nodes) (l .desk .graph .next) (λ x. not (ownedBy (v .id) x)) h;
-        fades = λ l v p h. more (l .desk .graph .nodes) (l .desk .graph .next) (fadeNode (v .id)) h;
+        cuts = λ l v s h. fewer (l .shared .graph .nodes) (l .shared .graph .next) (λ x. not (ownedBy (v .id) x)) h;
+        fades = λ l v p h. more (l .shared .graph .nodes) (l .shared .graph .next) (fadeNode (v .id)) h;
         lands = λ l spawn s p h.
-            let xs = voiceNodes (nextVoice (l .desk)) (spawn .def) (pans (spawn .pan)) in
-            wire-all (l .desk .graph .next) (voiceWires (spawn .def) (pans (spawn .pan))) (appendAll (l .desk .graph) xs) (append-all xs (l .desk .graph) h);
+            let xs = voiceNodes (nextVoice (l .shared)) (spawn .def) (pans (spawn .pan)) in
+            wire-all (l .shared .graph .next) (voiceWires (spawn .def) (pans (spawn .pan))) (appendAll (l .shared .graph) xs) (append-all xs (l .shared .graph) h);
       }
 
-  pub nodes-steady : Steady NodesOf
+  pub nodes-steady : Preserves NodesOf
   nodes-steady =
       record {
-        addNode = λ l kind ports required values glides e h. more (l .desk .graph .nodes) (l .desk .graph .next) (hostNode kind ports required values glides) h;
-        removeNode = λ l k e h. fewer (l .desk .graph .nodes) (l .desk .graph .next) (λ x. not (isNode k x)) h;
+        addNode = λ l kind ports required values glides e h. more (l .shared .graph .nodes) (l .shared .graph .next) (hostNode kind ports required values glides) h;
+        removeNode = λ l k e h. fewer (l .shared .graph .nodes) (l .shared .graph .next) (λ x. not (isNode k x)) h;
         connect = λ l a b p e h. h;
         disconnect = λ l b p e h. h;
         setSink = λ l k h. h;
         loose = λ l spawn e h. place-keeps NodesOf nodes-spawning spawn 0 _ l h;
-        goes = λ l w h. fewer (l .desk .graph .nodes) (l .desk .graph .next) (λ x. not (ownedBy w x)) h;
-        node = λ l k x n e s h. other (l .desk .graph .nodes) (l .desk .graph .next) k x n e s h;
+        goes = λ l w h. fewer (l .shared .graph .nodes) (l .shared .graph .next) (λ x. not (ownedBy w x)) h;
+        node = λ l k x n e s h. other (l .shared .graph .nodes) (l .shared .graph .next) k x n e s h;
         schedule = λ l e f h. h;
         rest = λ l h. h;
         prepare = λ l e h. h;
@@ -81,8 +84,8 @@ rows-more ns next n r =
       below = λ y i. ⊎-elim (λ j. omega (arith, r .below y j)) (λ p. let z : y .id .0 ≡ next = ap (λ (x : Node). x .id .0) p in omega arith) (in-snoc ns (withId next n) y i);
     }
 
-pub rows-fewer : (ns : List Node) (next : ℕ) (t : Node → Bool) → Rows ns next → Rows (keep t ns) next
-rows-fewer ns next t r = record { rises = rises-keep (λ (x : Node). x .id .0) t 0 ns (r .rises); below = λ y i. r .below y (in-keep t ns y i .0) }
+pub rows-fewer : (ns : List Node) (next : ℕ) (t : Node → Bool) → Rows ns next → Rows (filter t ns) next
+rows-fewer ns next t r = record { rises = rises-filter (λ (x : Node). x .id .0) t 0 ns (r .rises); below = λ y i. r .below y (in-filter t ns y i .0) }
 
 -- the row keeps its id
 pub replaced-id : (n m : Node) → cond (isNode (n .id) m) n m .id .0 ≡ m .id .0
@@ -103,9 +106,9 @@ rows-other ns next n r =
     }
 
 abbrev pub RowsOf : Ledger → Type 0
-RowsOf l = Rows (l .desk .graph .nodes) (l .desk .graph .next)
+RowsOf l = Rows (l .shared .graph .nodes) (l .shared .graph .next)
 
-pub rows-steady : Steady RowsOf
+pub rows-steady : Preserves RowsOf
 rows-steady = nodes-steady Rows rows-more rows-fewer (λ ns next k x n e s r. rows-other ns next n r)
 
 pub rows-spawning : Spawning RowsOf

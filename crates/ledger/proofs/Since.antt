@@ -7,8 +7,10 @@ use mathlib.Core.Path.{_≡_, refl, sym, ap, _∙_, subst}
 use mathlib.Core.Logic.{⊎-elim}
 use mathlib.Core.List.{List, [], _∷_, _++_, map, map-map, append-nil}
 use mathlib.Core.Bool.{Bool, cond}
-use Rattle.lists.specs.Member.{In, in-snoc, in-map, in-of-map, map-append, map-same}
-use Rattle.lists.specs.Keep.{keep, in-keep}
+use Rattle.lists.specs.Member.{In}
+use Rattle.lists.proofs.Member.{in-snoc, in-map, in-of-map, map-append, map-same}
+use Rattle.lists.specs.Filter.{filter}
+use Rattle.lists.proofs.Filter.{in-filter}
 use Rattle.node.specs.declared.record.Node.{Node}
 use Rattle.graph.specs.Node.{isNode, withId, replaced}
 use Rattle.store.specs.declared.voices.Voice.{Voice}
@@ -50,27 +52,27 @@ pub since-same : {a a' b b' : List ℕ} {n m : ℕ} → a ≡ a' → b ≡ b' �
 since-same {a} {a'} {b} {b'} {n} {m} e f s = subst (λ z. Since z n b' m) e (subst (λ z. Since a n z m) f s)
 
 -- ---- rows with ids
-in-kept : {A : Type 0} (f : A → ℕ) (t : A → Bool) (l : List A) (k : ℕ) → In k (map f (keep t l)) → In k (map f l)
+in-kept : {A : Type 0} (f : A → ℕ) (t : A → Bool) (l : List A) (k : ℕ) → In k (map f (filter t l)) → In k (map f l)
 in-kept f t l k i =
-    let r = in-map f (keep t l) k i in
-    subst (λ j. In j (map f l)) (sym (r .2)) (in-of-map f l (r .0) (in-keep t l (r .0) (r .1) .0))
+    let r = in-map f (filter t l) k i in
+    subst (λ j. In j (map f l)) (sym (r .2)) (in-of-map f l (r .0) (in-filter t l (r .0) (r .1) .0))
 
 module _ (ids₀ : List ℕ) (next₀ : ℕ) where
-  nodes-since : (xs : List Call) (l : Ledger) → Since ids₀ next₀ (nodeIds (l .desk .graph .nodes)) (l .desk .graph .next)
-      → Since ids₀ next₀ (nodeIds (run xs l .ledger .desk .graph .nodes)) (run xs l .ledger .desk .graph .next)
+  nodes-since : (xs : List Call) (l : Ledger) → Since ids₀ next₀ (nodeIds (l .shared .graph .nodes)) (l .shared .graph .next)
+      → Since ids₀ next₀ (nodeIds (run xs l .ledger .shared .graph .nodes)) (run xs l .ledger .shared .graph .next)
   nodes-since =
       nodes-run (λ ns next. Since ids₀ next₀ (nodeIds ns) next)
       (λ ns next n s. subst (λ ids. Since ids₀ next₀ ids (next + 1)) (sym (map-append (λ (x : Node). x .id .0) ns (withId next n ∷ []))) (since-more ids₀ next₀ (nodeIds ns) next next refl s))
-      (λ ns next t s. since-fewer ids₀ next₀ (nodeIds ns) (nodeIds (keep t ns)) next (in-kept (λ (x : Node). x .id .0) t ns) s)
+      (λ ns next t s. since-fewer ids₀ next₀ (nodeIds ns) (nodeIds (filter t ns)) next (in-kept (λ (x : Node). x .id .0) t ns) s)
       (λ ns next k x n e a s.
       let same : nodeIds (replaced ns n) ≡ nodeIds ns = map-map (λ (x : Node). x .id .0) (λ m. cond (isNode (n .id) m) n m) ns ∙ map-same _ (λ (x : Node). x .id .0) ns (λ m i. replaced-id n m) in
       subst (λ ids. Since ids₀ next₀ ids next) (sym same) s)
 
-  voices-since : (xs : List Call) (l : Ledger) → Since ids₀ next₀ (voiceIds (l .voices)) (l .desk .spawned + 1)
-      → Since ids₀ next₀ (voiceIds (run xs l .ledger .voices)) (run xs l .ledger .desk .spawned + 1)
+  voices-since : (xs : List Call) (l : Ledger) → Since ids₀ next₀ (voiceIds (l .voices)) (l .shared .spawned + 1)
+      → Since ids₀ next₀ (voiceIds (run xs l .ledger .voices)) (run xs l .ledger .shared .spawned + 1)
   voices-since =
       voices-run (λ n vs. Since ids₀ next₀ (voiceIds vs) (n + 1))
-      (λ n vs t s. since-fewer ids₀ next₀ (voiceIds vs) (voiceIds (keep t vs)) (n + 1) (in-kept (λ (v : Voice). v .id .0) t vs) s)
+      (λ n vs t s. since-fewer ids₀ next₀ (voiceIds vs) (voiceIds (filter t vs)) (n + 1) (in-kept (λ (v : Voice). v .id .0) t vs) s)
       (λ n vs f e s.
       let same : voiceIds (map f vs) ≡ voiceIds vs = map-map (λ (v : Voice). v .id .0) f vs ∙ map-same _ (λ (v : Voice). v .id .0) vs (λ v i. ap (λ w. w .0) (e v)) in
       subst (λ ids. Since ids₀ next₀ ids (n + 1)) (sym same) s)
@@ -79,27 +81,27 @@ module _ (ids₀ : List ℕ) (next₀ : ℕ) where
 -- ---- from making
 module _ (c : Config) where
   abbrev pub nodesAfter : List Call → List ℕ
-  nodesAfter ys = nodeIds (ledgerAfter c ys .desk .graph .nodes)
+  nodesAfter ys = nodeIds (ledgerAfter c ys .shared .graph .nodes)
 
   abbrev pub nextNode : List Call → ℕ
-  nextNode ys = ledgerAfter c ys .desk .graph .next
+  nextNode ys = ledgerAfter c ys .shared .graph .next
 
   abbrev pub voicesAfter : List Call → List ℕ
   voicesAfter ys = voiceIds (ledgerAfter c ys .voices)
 
   abbrev pub nextVoice : List Call → ℕ
-  nextVoice ys = ledgerAfter c ys .desk .spawned + 1
+  nextVoice ys = ledgerAfter c ys .shared .spawned + 1
 
   pub nodes-after : (ys zs : List Call) → Since (nodesAfter ys) (nextNode ys) (nodesAfter (ys ++ zs)) (nextNode (ys ++ zs))
   nodes-after ys zs =
       let start = nodes-since [] 0 ys (newLedger c) (since-start [] 0 (λ k i. absurd i)) in
-      subst (λ (l : Ledger). Since (nodesAfter ys) (nextNode ys) (nodeIds (l .desk .graph .nodes)) (l .desk .graph .next)) (sym (run-append ys zs (newLedger c)))
+      subst (λ (l : Ledger). Since (nodesAfter ys) (nextNode ys) (nodeIds (l .shared .graph .nodes)) (l .shared .graph .next)) (sym (run-append ys zs (newLedger c)))
       (nodes-since (nodesAfter ys) (nextNode ys) zs (ledgerAfter c ys) (since-start (nodesAfter ys) (nextNode ys) (start .below)))
 
   pub voices-after : (ys zs : List Call) → Since (voicesAfter ys) (nextVoice ys) (voicesAfter (ys ++ zs)) (nextVoice (ys ++ zs))
   voices-after ys zs =
       let start = voices-since [] 0 ys (newLedger c) (record { grows = omega arith; below = λ k i. absurd i; old = λ k i. absurd i }) in
-      subst (λ (l : Ledger). Since (voicesAfter ys) (nextVoice ys) (voiceIds (l .voices)) (l .desk .spawned + 1)) (sym (run-append ys zs (newLedger c)))
+      subst (λ (l : Ledger). Since (voicesAfter ys) (nextVoice ys) (voiceIds (l .voices)) (l .shared .spawned + 1)) (sym (run-append ys zs (newLedger c)))
       (voices-since (voicesAfter ys) (nextVoice ys) zs (ledgerAfter c ys) (since-start (voicesAfter ys) (nextVoice ys) (start .below)))
 
 -- ---- so an id never returns
@@ -115,7 +117,7 @@ module _ (ids : List Call → List ℕ) (next : List Call → ℕ) (since : (ys 
   pub never-returns : (xs : List Call) → NeverReturns ids xs
   never-returns xs =
       record {
-        never = λ before rest e k i gone ys j. gone (since xs ys .old k j (passed xs before rest e k i));
+        never = λ before rest e k i withoutVoice ys j. withoutVoice (since xs ys .old k j (passed xs before rest e k i));
         rises = λ before rest e j k i x a new. go (decLt k (next xs)) (passed xs before rest e j i) (λ lt. new (since xs (x ∷ []) .old k a lt));
       }
     where

@@ -1,5 +1,5 @@
--- What both spawns keep, whoever goes for them: what the going of a voice with its record, the start of a fade and the landing of a
--- newcomer each keep.
+-- What both spawns filter, whoever goes for them: what the going of a voice with its record, the start of a fade and the landing of a
+-- newVoice each filter.
 use Prim.Native.Nat.{ℕ}
 use mathlib.Core.Option.{Option, none, some}
 use Rattle.lists.specs.Find.{find}
@@ -10,21 +10,21 @@ use Rattle.store.specs.declared.voices.VoiceState.{VoiceState}
 use Rattle.store.specs.declared.voices.VoiceState.the-variants.{Tracked}
 use Rattle.model.specs.Voice.{isVoice}
 use Rattle.model.specs.Spawn.{stateUnder, tries, Spawn}
-use Rattle.ledger.specs.Ledger.{Ledger, portHeld, cutOff, fade, stolen, stealVoice, land, place, settle, stealThen, admitted}
-use Rattle.ledger.proofs.Steps.{place-kept}
+use Rattle.ledger.specs.Ledger.{Ledger, portHeld, cutOff, fade, stolen, stealVoice, instantiate, place, placeWithinBudget, stealThen, admitted}
+use Rattle.ledger.proofs.Preserved.{place-kept}
 
 pub record Spawning (P : Ledger → Type 0) : Type 0 where
   pub cuts : (l : Ledger) (v : Voice) (s : VoiceState) → P l → P (cutOff v s l)
   pub fades : (l : Ledger) (v : Voice) (p : ℕ) → P l → P (fade v p l)
-  pub lands : (l : Ledger) (spawn : Spawn) (s : VoiceState) (p : ℕ) → P l → P (land spawn s p l .ledger)
+  pub lands : (l : Ledger) (spawn : Spawn) (s : VoiceState) (p : ℕ) → P l → P (instantiate spawn s p l .ledger)
 
 module _ (P : Ledger → Type 0) (k : Spawning P) (spawn : Spawn) where
   pub place-keeps : (n : ℕ) (s : VoiceState) (l : Ledger) → P l → P (place n spawn s l .ledger)
   place-keeps n s l q =
       place-kept spawn s (λ n l. P l) (λ r. P (r .ledger)) (λ n l p e q. k .lands l spawn s p q) (λ l e q. q) (λ n l e f q. q) (λ n l v e f q. k .cuts l v (v .state) q) n l q
 
-  settle-keeps : (l : Ledger) → P l → P (settle spawn l .ledger)
-  settle-keeps l q = place-keeps (tries (l .desk .config .budget) (l .voices)) (stateUnder (l .desk .config .budget)) l q
+  settle-keeps : (l : Ledger) → P l → P (placeWithinBudget spawn l .ledger)
+  settle-keeps l q = place-keeps (tries (l .shared .config .budget) (l .voices)) (stateUnder (l .shared .config .budget)) l q
 
   steal-keeps : (v : Voice) (l : Ledger) → P l → P (stealVoice v l)
   steal-keeps v l q = go (portHeld v l)

@@ -1,4 +1,4 @@
--- From the ledger to the store. After every list of calls the store is that of the ledger: the same desk, and its voices with count × block
+-- From the ledger to the store. After every list of calls the store is that of the ledger: the same shared, and its voices with count × block
 -- samples for a count. So what was shown of the ledger is said of the store.
 use Prim.Native.Nat.{ℕ, _+_, _*_, _≤_}
 use native.Mathlib.Omega.{arith}
@@ -10,9 +10,11 @@ use mathlib.Core.Option.{Option, none, some}
 use mathlib.Core.Bool.{Bool, true, false, not, cond, _&&_, _||_}
 use lib.Dec.{leb}
 use lib.ListN.{length-map}
-use Rattle.lists.specs.Member.{In, in-map, in-of-map, some-inj, none-some}
+use Rattle.lists.specs.Member.{In}
+use Rattle.lists.proofs.Member.{in-map, in-of-map, some-inj, none-some}
 use Rattle.lists.specs.Find.{find, isSome, mapO}
-use Rattle.lists.specs.Count.{more, count, count-map}
+use Rattle.lists.specs.Count.{more, count}
+use Rattle.lists.proofs.Count.{count-map}
 use Rattle.node.specs.declared.record.NodeId.{NodeId}
 use Rattle.node.specs.declared.refusal.Refusal.{Refusal}
 use Rattle.node.specs.declared.refusal.Refusal.the-variants.{NoPort}
@@ -32,7 +34,7 @@ use Rattle.store.specs.declared.voices.Voice.{Voice}
 use Rattle.store.specs.declared.voices.VoiceState.{VoiceState}
 use Rattle.store.specs.declared.voices.VoiceState.the-variants.{Tracked, Fading, Loose}
 use Rattle.store.specs.declared.voices.Fade.{Fade}
-use Rattle.model.specs.Desk.{Desk}
+use Rattle.model.specs.SharedState.{SharedState}
 use Rattle.model.specs.Voice.{isVoice, isTracked, isOn, feeder, voiceLevel, withState, movedFade, movedState, moved}
 use Rattle.model.specs.Refuse.{spawnRefusal}
 use Rattle.model.specs.Spawn.{Spawn, nextVoice, fadeOf}
@@ -49,29 +51,29 @@ use Rattle.ledger.specs.Call.{step}
 use Rattle.ledger.specs.Claim as claim
 use Rattle.ledger.specs.Claim.{ledgerAfter, isSounded, tracks, Reclaimed, isBusy, byOther, holderAt, voiceIds, victimIn, Heads, lossOf}
 use Rattle.ledger.proofs.Words as words
-use Rattle.ledger.proofs.Shown.{modelOf, tracked-same, fading-same, admits-same, find-stored}
-use Rattle.ledger.proofs.Timely.{stored-shown}
-use Rattle.ledger.proofs.Spawns.{SoundL, ids-of}
+use Rattle.ledger.proofs.Abstraction.{modelOf, tracked-same, fading-same, admits-same, find-stored}
+use Rattle.ledger.proofs.NoOverflow.{stored-shown}
+use Rattle.ledger.proofs.Spawns.{InvariantOf, ids-of}
 use Rattle.ledger.proofs.Managed.{config-step, config-run, ids-new}
-use Rattle.ledger.proofs.Agree.{Kept, step-agrees, kept-step, kept-new, runs}
+use Rattle.ledger.proofs.Simulation.{Kept, step-agrees, kept-step, kept-new, runs}
 use Rattle.ledger.proofs.Port.{feeds-held}
 use Rattle.ledger.proofs.Losses.{LossesOf, Apart, records-same}
-use Rattle.ledger.proofs.Blocked.{every-same}
+use Rattle.ledger.proofs.SpawnFailure.{every-same}
 
 -- ---- the store of a ledger
 abbrev pub shown : Config → Voice → Voice
 shown c v = moved (λ n. n * c .block) v
 
 abbrev pub storeOf : Config → Ledger → Model
-storeOf c l = record { desk = l .desk; voices = map (shown c) (l .voices) }
+storeOf c l = record { shared = l .shared; voices = map (shown c) (l .voices) }
 
 module _ (c : Config) where
-  model-store : (l : Ledger) → Kept l → l .desk .config ≡ c → modelOf l ≡ storeOf c l
+  model-store : (l : Ledger) → Kept l → l .shared .config ≡ c → modelOf l ≡ storeOf c l
   model-store l k is =
-      ap (λ vs. record { desk = l .desk; voices = vs }) (stored-shown l (k .timely) (k .clock)) ∙ ap (λ (z : Config). storeOf z l) is
+      ap (λ vs. record { shared = l .shared; voices = vs }) (stored-shown l (k .timely) (k .clock)) ∙ ap (λ (z : Config). storeOf z l) is
 
   -- a call on it
-  pub store-step : (x : Call) (l : Ledger) → Kept l → l .desk .config ≡ c → call.step x (storeOf c l) ≡ record { answer = step x l .answer; model = storeOf c (step x l .ledger) }
+  pub store-step : (x : Call) (l : Ledger) → Kept l → l .shared .config ≡ c → call.step x (storeOf c l) ≡ record { answer = step x l .answer; model = storeOf c (step x l .ledger) }
   store-step x l k is =
       let a = step-agrees x l k in
       ap (call.step x) (sym (model-store l k is))
@@ -81,7 +83,7 @@ module _ (c : Config) where
     pub kept-after : (xs : List Call) → Kept (ledgerAfter c xs)
     kept-after xs = runs xs (newLedger c) (kept-new c fits) .kept
 
-    pub config-after : (xs : List Call) → ledgerAfter c xs .desk .config ≡ c
+    pub config-after : (xs : List Call) → ledgerAfter c xs .shared .config ≡ c
     config-after xs = config-run xs (newLedger c) (ids-new c)
 
     -- the store after a list
@@ -150,13 +152,13 @@ module _ (c : Config) where
   other-same bus vs (voice w) = ap (λ o. not (isBusy bus o)) (find-stored (λ n. n * c .block) w vs) ∙ ap not (busy-same bus (find (isVoice w) vs))
 
   -- by its edges, as by the ledger's holders
-  pub answer-same : (bus : NodeId) (l : Ledger) → SoundL l → claim.spawnAnswer bus (storeOf c l) ≡ words.spawnAnswer bus l
+  pub answer-same : (bus : NodeId) (l : Ledger) → InvariantOf l → claim.spawnAnswer bus (storeOf c l) ≡ words.spawnAnswer bus l
   answer-same bus l s =
-      ap (λ b. cond b (Spawned.Refused NoPort) (Spawned.Voice (nextVoice (l .desk))))
-      (every-same (λ p. byOther bus (map (shown c) (l .voices)) (holderAt (l .desk .graph .nodes) (l .desk .graph .edges) (bus .0) p)) (λ p. byOther bus (l .voices) (l .holders (bus .0) p)) (upto (portsOf (nodeAt (l .desk .graph .nodes) bus)))
-      (λ p. other-same bus (l .voices) (holderAt (l .desk .graph .nodes) (l .desk .graph .edges) (bus .0) p) ∙ ap (byOther bus (l .voices)) (sym (s .held (bus .0) p))))
+      ap (λ b. cond b (Spawned.Refused NoPort) (Spawned.Voice (nextVoice (l .shared))))
+      (every-same (λ p. byOther bus (map (shown c) (l .voices)) (holderAt (l .shared .graph .nodes) (l .shared .graph .edges) (bus .0) p)) (λ p. byOther bus (l .voices) (l .holders (bus .0) p)) (upto (portsOf (nodeAt (l .shared .graph .nodes) bus)))
+      (λ p. other-same bus (l .voices) (holderAt (l .shared .graph .nodes) (l .shared .graph .edges) (bus .0) p) ∙ ap (byOther bus (l .voices)) (sym (s .held (bus .0) p))))
 
-  pub refusal-same : (d : Desk) (vs : List Voice) (def : SynthDef) (bus : NodeId) → spawnRefusal d (map (shown c) vs) def bus ≡ spawnRefusal d vs def bus
+  pub refusal-same : (d : SharedState) (vs : List Voice) (def : SynthDef) (bus : NodeId) → spawnRefusal d (map (shown c) vs) def bus ≡ spawnRefusal d vs def bus
   refusal-same d vs def bus = rw (length-map vs (shown c))
 
   pub reclaimed-shown : (vs vs' : List Voice) (bus : NodeId) (k : ℕ) → Reclaimed vs vs' bus k → Reclaimed (map (shown c) vs) (map (shown c) vs') bus k
@@ -168,17 +170,17 @@ module _ (c : Config) where
         state = ap (movedState (λ n. n * c .block)) (r .state);
         number = r .number;
         on = r .on;
-        gone = find-stored (λ n. n * c .block) (r .voice .id) vs' ∙ ap (mapO (shown c)) (r .gone);
+        withoutVoice = find-stored (λ n. n * c .block) (r .voice .id) vs' ∙ ap (mapO (shown c)) (r .withoutVoice);
       }
 
   -- a fade has ended as the ledger says: "ended is count × block at least L"
-  pub ended-shown : (d : Desk) → d .config ≡ c → (s : VoiceState) → clearing.ended (fadeLength (c .rate)) (movedState (λ n. n * c .block) s) ≡ ledgerClear.ended d s
+  pub ended-shown : (d : SharedState) → d .config ≡ c → (s : VoiceState) → clearing.ended (fadeLength (c .rate)) (movedState (λ n. n * c .block) s) ≡ ledgerClear.ended d s
   ended-shown d is Tracked = refl
   ended-shown d is (Fading f) = ap (λ (z : Config). leb (fadeLength (z .rate)) (f .position * z .block)) (sym is)
   ended-shown d is Loose = refl
 
   -- ---- how a fading voice goes on, or why it leaves
-  module _ (l : Ledger) (is : l .desk .config ≡ c) (u : Voice) (g : Fade) where
+  module _ (l : Ledger) (is : l .shared .config ≡ c) (u : Voice) (g : Fade) where
     further : (b : Bool) (n : ℕ) → more b n * c .block ≡ cond b (n * c .block + c .block) (n * c .block)
     further true n = suc-mul n (c .block)
     further false n = refl
@@ -191,7 +193,7 @@ module _ (c : Config) where
     pub why-shown : (l' : Ledger) (x : Call) → words.Why l l' u g x → claim.Why (storeOf c l) (storeOf c l') (shown c u) (movedFade (λ n. n * c .block) g) x
     why-shown l' x words.freed = claim.freed
     why-shown l' x (words.timed e i d f v) = claim.timed e i d f v
-    why-shown l' x (words.ended e) = claim.ended (ap (λ (z : Config). clearing.ended (fadeLength (z .rate)) (shown c u .state)) is ∙ ended-shown (l .desk) is (u .state) ∙ e)
+    why-shown l' x (words.ended e) = claim.ended (ap (λ (z : Config). clearing.ended (fadeLength (z .rate)) (shown c u .state)) is ∙ ended-shown (l .shared) is (u .state) ∙ e)
     why-shown l' x (words.silent e) = claim.silent e
     why-shown l' x (words.reclaimed y on e) = claim.reclaimed y on e
 
@@ -213,14 +215,14 @@ module _ (c : Config) where
     apart-distinct vs (a .1),
   )
 
-  module _ (x : Spawn) (l l' : Ledger) (s : SoundL l) (h : LossesOf (x .bus) (victimIn (spawnRefusal (l .desk) (l .voices) (x .def) (x .bus)) (ledger.admissionOn (x .bus) l) (l .voices)) l l') where
+  module _ (x : Spawn) (l l' : Ledger) (s : InvariantOf l) (h : LossesOf (x .bus) (victimIn (spawnRefusal (l .shared) (l .voices) (x .def) (x .bus)) (ledger.admissionOn (x .bus) l) (l .voices)) l l') where
     abbrev o : Option Voice
-    o = victimIn (spawnRefusal (l .desk) (l .voices) (x .def) (x .bus)) (ledger.admissionOn (x .bus) l) (l .voices)
+    o = victimIn (spawnRefusal (l .shared) (l .voices) (x .def) (x .bus)) (ledger.admissionOn (x .bus) l) (l .voices)
 
     victim-same : claim.victimOf x (storeOf c l) ≡ mapO (shown c) o
     victim-same =
-        ap₂ (λ r a. victimIn r a (map (shown c) (l .voices))) (refusal-same (l .desk) (l .voices) (x .def) (x .bus)) (admits-same (λ n. n * c .block) (l .desk) (x .bus) (l .voices))
-        ∙ victim-shown (spawnRefusal (l .desk) (l .voices) (x .def) (x .bus)) (ledger.admissionOn (x .bus) l) (l .voices)
+        ap₂ (λ r a. victimIn r a (map (shown c) (l .voices))) (refusal-same (l .shared) (l .voices) (x .def) (x .bus)) (admits-same (λ n. n * c .block) (l .shared) (x .bus) (l .voices))
+        ∙ victim-shown (spawnRefusal (l .shared) (l .voices) (x .def) (x .bus)) (ledger.admissionOn (x .bus) l) (l .voices)
 
     found-same : (v : Voice) → isSome (find (isVoice (v .id)) (l' .voices)) ≡ isSome (find (isVoice (v .id)) (map (shown c) (l' .voices)))
     found-same v = sym (ap isSome (find-stored (λ n. n * c .block) (v .id) (l' .voices)) ∙ some-same (find (isVoice (v .id)) (l' .voices)))
@@ -240,15 +242,15 @@ module _ (c : Config) where
     start-shown f e = ap (λ n. record { node = f .node; start = f .start; position = n; number = f .number }) (ap (λ n. n * c .block) e ∙ zero-mul (c .block) ∙ sym e)
 
     fades-shown : (v u : Voice) → In v (h .lost) → find (isVoice (v .id)) (map (shown c) (l' .voices)) ≡ some u
-        → (u ≡ withState (Fading (fadeOf (l .desk))) v) × (isSome (portFrom (l .desk .graph .edges) (feeder v) (v .bus)) ≡ true)
+        → (u ≡ withState (Fading (fadeOf (l .shared))) v) × (isSome (portFrom (l .shared .graph .edges) (feeder v) (v .bus)) ≡ true)
     fades-shown v u i e = go (find (isVoice (v .id)) (l' .voices)) refl (sym (find-stored (λ n. n * c .block) (v .id) (l' .voices)) ∙ e)
       where
-        go : (z : Option Voice) → find (isVoice (v .id)) (l' .voices) ≡ z → mapO (shown c) z ≡ some u → (u ≡ withState (Fading (fadeOf (l .desk))) v) × (isSome (portFrom (l .desk .graph .edges) (feeder v) (v .bus)) ≡ true)
+        go : (z : Option Voice) → find (isVoice (v .id)) (l' .voices) ≡ z → mapO (shown c) z ≡ some u → (u ≡ withState (Fading (fadeOf (l .shared))) v) × (isSome (portFrom (l .shared .graph .edges) (feeder v) (v .bus)) ≡ true)
         go none p q = absurd (none-some q)
         go (some w) p q =
             let r = h .fades v w i p in
             let t : isTracked (v .state) ≡ true = ap isTracked (h .were v i .1) in (
-              sym (some-inj q) ∙ ap (shown c) (r .0) ∙ ap (λ f. withState (Fading f) v) (start-shown (fadeOf (l .desk)) refl),
+              sym (some-inj q) ∙ ap (shown c) (r .0) ∙ ap (λ f. withState (Fading f) v) (start-shown (fadeOf (l .shared)) refl),
               ap isSome (feeds-held s v (h .were v i .0) t ∙ r .1 .1),
             )
 
@@ -264,6 +266,6 @@ module _ (c : Config) where
           others = λ v i. ⊎-elim (λ e. inl (victim-same ∙ ap (mapO (shown c)) e ∙ ap some (as-tracked v (h .were v i .1)))) inr (h .others v i);
           fades = fades-shown;
           added = h .count;
-          records = records-same (lossOf (l .desk) (l' .voices)) (lossOf (l .desk) (map (shown c) (l' .voices))) (l' .desk .steals) (l' .desk .steals) (l .desk .steals .count) (h .lost)
-              (λ v i. ap (λ b. recordOf (l .desk .clock) (voiceLevel (l .desk) v) (not b)) (found-same v)) (λ j lo hi. refl) (h .records);
+          records = records-same (lossOf (l .shared) (l' .voices)) (lossOf (l .shared) (map (shown c) (l' .voices))) (l' .shared .steals) (l' .shared .steals) (l .shared .steals .count) (h .lost)
+              (λ v i. ap (λ b. recordOf (l .shared .clock) (voiceLevel (l .shared) v) (not b)) (found-same v)) (λ j lo hi. refl) (h .records);
         }

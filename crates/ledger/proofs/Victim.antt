@@ -1,4 +1,4 @@
--- Who goes is one of the voices: the victim of an admission is tracked and counts for the newcomer, and the next to be
+-- Who goes is one of the voices: the victim of an admission is tracked and counts for the newVoice, and the next to be
 -- reclaimed is tracked or fading on the bus. Where nobody is found there is nobody.
 use Prim.Native.Nat.{ℕ, suc, _≤_, _<_}
 use native.Mathlib.Omega.{arith}
@@ -11,10 +11,13 @@ use lib.Dec.{leb}
 use lib.ListN.{length, length-map}
 use lib.Ieee.{Float}
 use borrow.Author.Tests.{eq-eqb, leb-true, leb-false}
-use Rattle.lists.specs.Member.{In, in-map, in-of-map, some-inj, none-some}
+use Rattle.lists.specs.Member.{In}
+use Rattle.lists.proofs.Member.{in-map, in-of-map, some-inj, none-some}
 use Rattle.lists.specs.Find.{find, or?}
-use Rattle.lists.specs.Keep.{keep, in-keep, keep-in}
-use Rattle.lists.specs.Count.{count, count-is-length, count-none}
+use Rattle.lists.specs.Filter.{filter}
+use Rattle.lists.proofs.Filter.{in-filter, filter-in}
+use Rattle.lists.specs.Count.{count}
+use Rattle.lists.proofs.Count.{count-is-length, count-none}
 use Rattle.node.specs.declared.record.NodeId.{NodeId}
 use Rattle.node.specs.declared.record.VoiceId.{VoiceId}
 use Rattle.voice.specs.Policy.{oldest, lastFrom, takes, take?, passed, walk, tookOr, victim, decides, admits}
@@ -31,7 +34,7 @@ use Rattle.voice.specs.declared.policy.Budget.{Budget}
 use Rattle.voice.specs.declared.policy.Budget.the-variants.{Unlimited, AtMost}
 use Rattle.voice.specs.declared.policy.Admission.the-variants as admission
 use Rattle.store.specs.declared.voices.Voice.{Voice}
-use Rattle.model.specs.Desk.{Desk}
+use Rattle.model.specs.SharedState.{SharedState}
 use Rattle.model.specs.Voice.{isVoice, isTracked, isFading, isOn, startOf, candidate, candidates, trackedOn, fadesOn}
 use Rattle.model.specs.Spawn.{voiceOf, earlier, earliest, elseVictim, nextOut}
 use Rattle.ledger.specs.Claim.{Stealing, busyOn}
@@ -101,13 +104,13 @@ victim-none policy.Newest s (c ∷ cs) h = absurd (last-some 0 c cs h)
 victim-none policy.Quietest s (c ∷ cs) h = absurd (took-some (walk held.Nothing 0 (c ∷ cs)) 0 (c .voice) h)
 
 -- ---- among voices
-module _ {n : ℕ} {vs : List Voice} (u : Ids n vs) (d : Desk) (q : Voice → Bool) where
+module _ {n : ℕ} {vs : List Voice} (u : Ids n vs) (d : SharedState) (q : Voice → Bool) where
   pub victim-voice : (t : StealPolicy) (p : ℕ) (w : VoiceId) → victim t (candidates d q vs) ≡ Goes p w
       → (v : Voice) × In v vs × (q v ≡ true) × (find (isVoice w) vs ≡ some v)
   victim-voice t p w h =
       let r = victim-in t (candidates d q vs) p w h in
-      let s = in-map (candidate d) (keep q vs) (r .0) (r .1) in
-      let i = in-keep q vs (s .0) (s .1) in
+      let s = in-map (candidate d) (filter q vs) (r .0) (r .1) in
+      let i = in-filter q vs (s .0) (s .1) in
       let e : s .0 .id .0 ≡ w .0 = ap (λ (x : VoiceId). x .0) (sym (ap (λ (c : Candidate). c .voice) (s .2)) ∙ r .2) in
       (s .0, i .0, i .1, once u w (s .0) (i .0) (eq-eqb _ _ e))
 
@@ -120,13 +123,13 @@ module _ {n : ℕ} {vs : List Voice} (u : Ids n vs) (d : Desk) (q : Voice → Bo
 
       go : (b : Bool) → q v ≡ b → b ≡ false
       go false e = refl
-      go true e = absurd (none (candidates d q vs) (victim-none t s (candidates d q vs) h) (in-of-map (candidate d) (keep q vs) v (keep-in q vs v i e)))
+      go true e = absurd (none (candidates d q vs) (victim-none t s (candidates d q vs) h) (in-of-map (candidate d) (filter q vs) v (filter-in q vs v i e)))
 
-pub candidates-count : (d : Desk) (q : Voice → Bool) (vs : List Voice) → length (candidates d q vs) ≡ count q vs
-candidates-count d q vs = length-map (keep q vs) (candidate d) ∙ sym (count-is-length q vs)
+pub candidates-count : (d : SharedState) (q : Voice → Bool) (vs : List Voice) → length (candidates d q vs) ≡ count q vs
+candidates-count d q vs = length-map (filter q vs) (candidate d) ∙ sym (count-is-length q vs)
 
 -- ---- admission
-module _ {n : ℕ} {vs : List Voice} (u : Ids n vs) (d : Desk) (q : Voice → Bool) where
+module _ {n : ℕ} {vs : List Voice} (u : Ids n vs) (d : SharedState) (q : Voice → Bool) where
   pub steal-voice : (b : Budget) (t : StealPolicy) (p : ℕ) (w : VoiceId) → admits b t (candidates d q vs) ≡ admission.Steal p w
       → (v : Voice) × In v vs × (q v ≡ true) × (find (isVoice w) vs ≡ some v)
   steal-voice Unlimited t p w h = let z : _≡_ {A = ℕ} 0 1 = cc in absurd (omega arith)
@@ -198,7 +201,7 @@ idle-busy : (a b c : Bool) → (b && c) ≡ false → (a && c) ≡ false → ((a
 idle-busy true b c h k = k
 idle-busy false b c h k = h
 
-module _ {n : ℕ} {vs : List Voice} (u : Ids n vs) (d : Desk) (bus : NodeId) where
+module _ {n : ℕ} {vs : List Voice} (u : Ids n vs) (d : SharedState) (bus : NodeId) where
   pub nextOut-in : (v : Voice) → nextOut d bus vs ≡ some v → In v vs × (busyOn bus v ≡ true)
   nextOut-in v h = go (earliest (fadesOn bus) vs) refl h
     where

@@ -43,8 +43,8 @@ pub record Stolen (c : Config) (xs : List Call) (v : Voice) (f : Fade) : Type 0 
   pub spawn : Spawn
   pub split : xs ≡ before ++ (call.spawnManaged spawn ∷ after)
   pub tracked : In (withState Tracked v) (ledgerAfter c before .voices)
-  pub start : f .start ≡ ledgerAfter c before .desk .clock
-  pub number : f .number ≡ ledgerAfter c before .desk .steals .count
+  pub start : f .start ≡ ledgerAfter c before .shared .clock
+  pub number : f .number ≡ ledgerAfter c before .shared .steals .count
   pub counts : f .position ≡ soundings after (ledgerAfter c (before ++ (call.spawnManaged spawn ∷ [])))
 
 -- the fade after a call that answered so: its count, here `position`, is one more after a sounding render, and else the same
@@ -58,27 +58,27 @@ GoesOn v f a vs = In (withState (Fading (beat a f)) v) vs
 -- why a voice v that faded by f is not there any more, after the call x that made of l the ledger l'
 pub data Why (l l' : Ledger) (v : Voice) (f : Fade) : Call → Type 0 where
   freed : Why l l' v f (call.free (v .id))
-  timed : (e : Event) → In e (l .desk .events) → queue.due (deadline (l .desk)) e ≡ true → isFree (e .action) ≡ true → e .voice ≡ v .id → Why l l' v f call.render
-  ended : clearing.ended (l .desk) (v .state) ≡ true → Why l l' v f call.clear
-  silent : isSilent (l .desk .graph .nodes) v ≡ true → Why l l' v f call.clear
-  reclaimed : (x : Spawn) → isOn (x .bus) v ≡ true → cutIfHeld (heldRecord (l' .desk .steals) (f .number)) ≡ true → Why l l' v f (call.spawnManaged x)
+  timed : (e : Event) → In e (l .shared .events) → queue.due (deadline (l .shared)) e ≡ true → isFree (e .action) ≡ true → e .voice ≡ v .id → Why l l' v f call.render
+  ended : clearing.ended (l .shared) (v .state) ≡ true → Why l l' v f call.clear
+  silent : isSilent (l .shared .graph .nodes) v ≡ true → Why l l' v f call.clear
+  reclaimed : (x : Spawn) → isOn (x .bus) v ≡ true → cutIfHeld (heldRecord (l' .shared .steals) (f .number)) ≡ true → Why l l' v f (call.spawnManaged x)
 
 -- nobody is tracked or fading, and nothing was recorded
 pub record AllLoose (l : Ledger) : Type 0 where
   pub voices : (v : Voice) → In v (l .voices) → v .state ≡ Loose
-  pub book : l .desk .steals ≡ noSteals
+  pub book : l .shared .steals ≡ noSteals
 
 -- every port of the bus is held so
 abbrev pub blocked : NodeId → Ledger → Bool
-blocked bus l = every (λ p. byOther bus (l .voices) (l .holders (bus .0) p)) (upto (portsOf (nodeAt (l .desk .graph .nodes) bus)))
+blocked bus l = every (λ p. byOther bus (l .voices) (l .holders (bus .0) p)) (upto (portsOf (nodeAt (l .shared .graph .nodes) bus)))
 
 -- what a spawn answers that the table does not refuse
 abbrev pub spawnAnswer : NodeId → Ledger → Spawned
-spawnAnswer bus l = cond (blocked bus l) (Spawned.Refused NoPort) (Spawned.Voice (nextVoice (l .desk)))
+spawnAnswer bus l = cond (blocked bus l) (Spawned.Refused NoPort) (Spawned.Voice (nextVoice (l .shared)))
 
 -- what they hold, with places left for so many nodes, edges and voices
 pub record Room (n e v : ℕ) (l : Ledger) : Type 0 where
-  pub nodes : length (l .desk .graph .nodes) + n ≤ 512
-  pub edges : length (l .desk .graph .edges) + e ≤ 1024
+  pub nodes : length (l .shared .graph .nodes) + n ≤ 512
+  pub edges : length (l .shared .graph .edges) + e ≤ 1024
   pub voices : length (l .voices) + v ≤ 64
-  pub events : length (l .desk .events) ≤ 256
+  pub events : length (l .shared .events) ≤ 256

@@ -12,17 +12,17 @@ use Rattle.graph.specs.Change as change
 use Rattle.graph.specs.Refuse.{addRefusal, hostRefusal, disconnectRefusal, connectRefusal}
 use Rattle.scheduler.specs.Queue.{inserted}
 use Rattle.store.specs.declared.voices.Voice.{Voice}
-use Rattle.model.specs.Desk.{Desk, withEvents}
+use Rattle.model.specs.SharedState.{SharedState, withEvents}
 use Rattle.model.specs.Voice.{moved}
 use Rattle.model.specs.Refuse.{reportRefusal}
 use Rattle.model.specs.Order.{reportNode}
 use Rattle.model.specs.Order as param
-use Rattle.model.specs.Render.{prepareOutcome, prepareDesk}
+use Rattle.model.specs.Render.{prepareOutcome, prepareShared}
 use Rattle.model.specs.Model.{Model}
 use Rattle.model.specs.Call.{Call, Answer, readyAnswer, answerTo, event, scheduleRefusal}
 use Rattle.model.specs.Call as call
 use Rattle.ledger.specs.Holder.{Holders, nobody, host, hold, dropNode}
-use Rattle.ledger.specs.Ledger.{Ledger, atDesk, atGraph}
+use Rattle.ledger.specs.Ledger.{Ledger, atShared, atGraph}
 use Rattle.ledger.specs.Ledger as ledger
 use Rattle.ledger.specs.Clear as clearing
 use Rattle.ledger.specs.Render as rendering
@@ -39,8 +39,8 @@ unless (some r) l s = record { answer = call.refused r; ledger = l }
 abbrev pub graphStep : Ledger → GraphView → Holders → Answer → Step
 graphStep l g h a = record { answer = a; ledger = atGraph l g h }
 
-abbrev pub deskStep : Ledger → Desk → Answer → Step
-deskStep l d a = record { answer = a; ledger = atDesk l d }
+abbrev pub sharedStep : Ledger → SharedState → Answer → Step
+sharedStep l d a = record { answer = a; ledger = atShared l d }
 
 abbrev pub reads : Ledger → Answer → Step
 reads l a = record { answer = a; ledger = l }
@@ -50,23 +50,23 @@ abbrev pub position : ℕ → ℕ → ℕ
 position block count = count * block
 
 abbrev pub shown : Ledger → Voice → Voice
-shown l v = moved (position (l .desk .config .block)) v
+shown l v = moved (position (l .shared .config .block)) v
 
 -- what a question finds: the rules of reading are the model's
 abbrev pub seen : Ledger → Model
-seen l = record { desk = l .desk; voices = map (shown l) (l .voices) }
+seen l = record { shared = l .shared; voices = map (shown l) (l .voices) }
 
 abbrev pub step : Call → Ledger → Step
 step (call.addNode kind ports required values glides) l =
-    unless (addRefusal (l .desk .graph) kind ports required) l
-    (graphStep l (change.append (l .desk .graph) (hostNode kind ports required values glides)) (l .holders) (call.node (record { 0 = l .desk .graph .next })))
+    unless (addRefusal (l .shared .graph) kind ports required) l
+    (graphStep l (change.append (l .shared .graph) (hostNode kind ports required values glides)) (l .holders) (call.node (record { 0 = l .shared .graph .next })))
 step (call.removeNode k) l =
-    unless (hostRefusal (l .desk .graph) k) l (graphStep l (change.removeNode (l .desk .graph) k) (dropNode k (l .holders)) call.done)
+    unless (hostRefusal (l .shared .graph) k) l (graphStep l (change.removeNode (l .shared .graph) k) (dropNode k (l .holders)) call.done)
 step (call.connect a b p) l =
-    unless (connectRefusal (l .desk .graph) a b p) l (graphStep l (change.connect (l .desk .graph) a b p) (hold b p (host a) (l .holders)) call.done)
+    unless (connectRefusal (l .shared .graph) a b p) l (graphStep l (change.connect (l .shared .graph) a b p) (hold b p (host a) (l .holders)) call.done)
 step (call.disconnect b p) l =
-    unless (disconnectRefusal (l .desk .graph) b p) l (graphStep l (change.disconnect (l .desk .graph) b p) (hold b p nobody (l .holders)) call.done)
-step (call.setSink k) l = unless (hostRefusal (l .desk .graph) k) l (graphStep l (change.setSink (l .desk .graph) k) (l .holders) call.done)
+    unless (disconnectRefusal (l .shared .graph) b p) l (graphStep l (change.disconnect (l .shared .graph) b p) (hold b p nobody (l .holders)) call.done)
+step (call.setSink k) l = unless (hostRefusal (l .shared .graph) k) l (graphStep l (change.setSink (l .shared .graph) k) (l .holders) call.done)
 step (call.spawnManaged x) l =
     let r = ledger.spawnManaged x l in
     record { answer = call.spawned (r .answer); ledger = r .ledger }
@@ -78,14 +78,14 @@ step call.clear l =
     let c = clearing.clear l in
     record { answer = call.removed (c .removed); ledger = c .ledger }
 step (call.order w name o) l =
-    let r = param.order w (nameOf name) o (l .voices) (l .desk) in
-    deskStep l (r .desk) (call.ordered (r .outcome))
+    let r = param.order w (nameOf name) o (l .voices) (l .shared) in
+    sharedStep l (r .shared) (call.ordered (r .outcome))
 step (call.schedule t w name a) l =
-    unless (scheduleRefusal (l .desk .events)) l (deskStep l (withEvents (inserted (event t w name a) (l .desk .events)) (l .desk)) call.done)
+    unless (scheduleRefusal (l .shared .events)) l (sharedStep l (withEvents (inserted (event t w name a) (l .shared .events)) (l .shared)) call.done)
 step (call.report k channels samples flag) l =
-    unless (reportRefusal (l .desk) (l .voices) k channels (length samples)) l
-    (deskStep l (reportNode (nodeAt (l .desk .graph .nodes) k) samples flag (l .desk)) call.done)
-step call.prepare l = deskStep l (prepareDesk (l .desk)) (readyAnswer (prepareOutcome (l .desk) .answer))
+    unless (reportRefusal (l .shared) (l .voices) k channels (length samples)) l
+    (sharedStep l (reportNode (nodeAt (l .shared .graph .nodes) k) samples flag (l .shared)) call.done)
+step call.prepare l = sharedStep l (prepareShared (l .shared)) (readyAnswer (prepareOutcome (l .shared) .answer))
 step call.render l =
     let h = rendering.render l in
     record { answer = call.rendered (h .answer); ledger = h .ledger }

@@ -16,7 +16,7 @@ use lib.Ieee.{Float}
 use lib.ListN.{length}
 use Rattle.lists.specs.Member.{In}
 use Rattle.lists.specs.Find.{find, isSome, mapO}
-use Rattle.lists.specs.Keep.{keep}
+use Rattle.lists.specs.Filter.{filter}
 use Rattle.lists.specs.Count.{more, count}
 use Rattle.node.specs.declared.record.Edge.{Edge}
 use Rattle.node.specs.declared.record.Node.{Node}
@@ -36,7 +36,7 @@ use Rattle.graph.specs.View.{GraphView}
 use Rattle.graph.specs.Node.{nodeAt, portsOf}
 use Rattle.scheduler.specs.Queue as queue
 use Rattle.scheduler.specs.declared.event.Event.{Event}
-use Rattle.voice.specs.Steals.{Book, cutOf, foundAt, recordOf}
+use Rattle.voice.specs.Steals.{StealLog, cutOf, foundAt, recordOf}
 use Rattle.voice.specs.declared.policy.Admission.{Admission}
 use Rattle.voice.specs.declared.policy.Admission.the-variants as admission
 use Rattle.voice.specs.declared.policy.Budget.the-variants.{Unlimited, AtMost}
@@ -53,7 +53,7 @@ use Rattle.store.specs.declared.voices.Voice.{Voice}
 use Rattle.store.specs.declared.voices.VoiceState.{VoiceState}
 use Rattle.store.specs.declared.voices.VoiceState.the-variants.{Tracked, Fading, Loose}
 use Rattle.store.specs.declared.voices.Fade.{Fade}
-use Rattle.model.specs.Desk.{Desk, lengthL, sounding}
+use Rattle.model.specs.SharedState.{SharedState, lengthL, sounding}
 use Rattle.model.specs.Voice.{id, isVoice, isTracked, isFading, isOn, feeder, voiceLevel, counted, moved, movedFade, withState}
 use Rattle.model.specs.Refuse.{spawnRefusal}
 use Rattle.model.specs.Spawn.{Spawn, nextVoice, stateUnder, fadeOf}
@@ -180,8 +180,8 @@ pub record Stolen (m : Model) (block : ℕ) (xs : List Call) (v : Voice) (f : Fa
   pub spawn : Spawn
   pub split : xs ≡ before ++ (call.spawnManaged spawn ∷ later)
   pub tracked : In (withState Tracked v) (after m before .voices)
-  pub start : f .start ≡ after m before .desk .clock
-  pub number : f .number ≡ after m before .desk .steals .count
+  pub start : f .start ≡ after m before .shared .clock
+  pub number : f .number ≡ after m before .shared .steals .count
   pub moves : f .position ≡ soundings later (after m (before ++ (call.spawnManaged spawn ∷ []))) * block
 
 -- the sounding renders since the spawn
@@ -202,11 +202,11 @@ GoesOn block v f a vs = In (withState (Fading (beat block a f)) v) vs
 
 -- ---- steal records
 -- the number of the oldest record that is still held
-abbrev pub firstHeld : Book → ℕ
+abbrev pub firstHeld : StealLog → ℕ
 firstHeld b = b .count - length (b .newest)
 
 -- the record of this number, if still held
-abbrev pub heldRecord : Book → ℕ → StealFound
+abbrev pub heldRecord : StealLog → ℕ → StealFound
 heldRecord b k = cond (leb (firstHeld b) k) (foundAt (k - firstHeld b) (b .newest)) found.Nothing
 
 -- the same record, marked cut
@@ -222,10 +222,10 @@ cutIfHeld (found.Record r) = r .cut
 -- why a voice v that faded by f is not there any more, after the call x that made of s the store s'
 pub data Why (s s' : Model) (v : Voice) (f : Fade) : Call → Type 0 where
   freed : Why s s' v f (call.free (v .id))
-  timed : (e : Event) → In e (s .desk .events) → queue.due (deadline (s .desk)) e ≡ true → isFree (e .action) ≡ true → e .voice ≡ v .id → Why s s' v f call.render
-  ended : clearing.ended (lengthL (s .desk)) (v .state) ≡ true → Why s s' v f call.clear
-  silent : isSilent (s .desk .graph .nodes) v ≡ true → Why s s' v f call.clear
-  reclaimed : (x : Spawn) → isOn (x .bus) v ≡ true → cutIfHeld (heldRecord (s' .desk .steals) (f .number)) ≡ true → Why s s' v f (call.spawnManaged x)
+  timed : (e : Event) → In e (s .shared .events) → queue.due (deadline (s .shared)) e ≡ true → isFree (e .action) ≡ true → e .voice ≡ v .id → Why s s' v f call.render
+  ended : clearing.ended (lengthL (s .shared)) (v .state) ≡ true → Why s s' v f call.clear
+  silent : isSilent (s .shared .graph .nodes) v ≡ true → Why s s' v f call.clear
+  reclaimed : (x : Spawn) → isOn (x .bus) v ≡ true → cutIfHeld (heldRecord (s' .shared .steals) (f .number)) ≡ true → Why s s' v f (call.spawnManaged x)
 
 -- a fade of the bus that has the record k, among the voices vs and not among the voices vs' after them
 pub record Reclaimed (vs vs' : List Voice) (bus : NodeId) (k : ℕ) : Type 0 where
@@ -235,10 +235,10 @@ pub record Reclaimed (vs vs' : List Voice) (bus : NodeId) (k : ℕ) : Type 0 whe
   pub state : voice .state ≡ Fading fade
   pub number : fade .number ≡ k
   pub on : isOn bus voice ≡ true
-  pub gone : find (isVoice (voice .id)) vs' ≡ none
+  pub withoutVoice : find (isVoice (voice .id)) vs' ≡ none
 
 -- record k, which was there before a managed spawn, is as before; or no longer one of the newest 64; or it is marked cut, and a fade that has it was reclaimed
-pub data Fate (b b' : Book) (R : Type 0) (k : ℕ) : Type 0 where
+pub data Fate (b b' : StealLog) (R : Type 0) (k : ℕ) : Type 0 where
   same : heldRecord b' k ≡ heldRecord b k → Fate b b' R k
   older : heldRecord b' k ≡ found.Nothing → k + 64 < b' .count → Fate b b' R k
   struck : heldRecord b' k ≡ cutFound (heldRecord b k) → R → Fate b b' R k
@@ -247,7 +247,7 @@ pub data Fate (b b' : Book) (R : Type 0) (k : ℕ) : Type 0 where
 abbrev pub tracks : Voice → Bool
 tracks v = isTracked (v .state)
 
--- the newcomer is let in
+-- the newVoice is let in
 abbrev pub isLet : Spawned → Bool
 isLet (Spawned.Voice w) = true
 isLet (Spawned.Refused r) = false
@@ -260,20 +260,20 @@ victimIn none admission.Reject vs = none
 victimIn none (admission.Steal place w) vs = find (isVoice w) vs
 
 abbrev pub victimOf : Spawn → Model → Option Voice
-victimOf x s = victimIn (spawnRefusal (s .desk) (s .voices) (x .def) (x .bus)) (admissionOn (x .bus) s) (s .voices)
+victimOf x s = victimIn (spawnRefusal (s .shared) (s .voices) (x .def) (x .bus)) (admissionOn (x .bus) s) (s .voices)
 
 -- the list begins with the voice, if there is one
 abbrev pub Heads : Option Voice → List Voice → Type 0
 Heads none vs = Unit {0}
 Heads (some g) vs = (rest : List Voice) × (vs ≡ g ∷ rest)
 
--- what is recorded of the voice v, which was one of the tracked voices beside the desk d, when vs' are the voices after the call: the
--- clock, the level that it had before the call, and a cut mark exactly if it is gone
-abbrev pub lossOf : Desk → List Voice → Voice → StealRecord
+-- what is recorded of the voice v, which was one of the tracked voices beside the shared d, when vs' are the voices after the call: the
+-- clock, the level that it had before the call, and a cut mark exactly if it is withoutVoice
+abbrev pub lossOf : SharedState → List Voice → Voice → StealRecord
 lossOf d vs' v = recordOf (d .clock) (voiceLevel d v) (not (isSome (find (isVoice (v .id)) vs')))
 
 -- from number k on, the records of these voices, in this order, are held
-abbrev pub Records : (Voice → StealRecord) → Book → ℕ → List Voice → Type 0
+abbrev pub Records : (Voice → StealRecord) → StealLog → ℕ → List Voice → Type 0
 Records r b k [] = Unit {0}
 Records r b k (v ∷ vs) = (heldRecord b k ≡ found.Record (r v)) × Records r b (suc k) vs
 
@@ -289,22 +289,22 @@ pub record Losses (x : Spawn) (s s' : Model) : Type 0 where
   -- first the victim of the admission; the others were on the bus
   pub first : Heads (victimOf x s) lost
   pub others : (v : Voice) → In v lost → (victimOf x s ≡ some v) ⊎ (isOn (x .bus) v ≡ true)
-  -- one that is still there fades, from now on, and fed a port of its bus. So one that cannot fade is gone
+  -- one that is still there fades, from now on, and fed a port of its bus. So one that cannot fade is withoutVoice
   pub fades : (v u : Voice) → In v lost → find (isVoice (v .id)) (s' .voices) ≡ some u
-      → (u ≡ withState (Fading (fadeOf (s .desk))) v) × (isSome (portFrom (s .desk .graph .edges) (feeder v) (v .bus)) ≡ true)
+      → (u ≡ withState (Fading (fadeOf (s .shared))) v) × (isSome (portFrom (s .shared .graph .edges) (feeder v) (v .bus)) ≡ true)
   -- there are so many more records, and these are the voices'
-  pub added : s' .desk .steals .count ≡ s .desk .steals .count + length lost
-  pub records : Records (lossOf (s .desk) (s' .voices)) (s' .desk .steals) (s .desk .steals .count) lost
+  pub added : s' .shared .steals .count ≡ s .shared .steals .count + length lost
+  pub records : Records (lossOf (s .shared) (s' .voices)) (s' .shared .steals) (s .shared .steals .count) lost
 
 -- ---- without a budget
 -- no record was ever written
-abbrev pub noSteals : Book
+abbrev pub noSteals : StealLog
 noSteals = record { count = 0; newest = [] }
 
 -- nobody is tracked or fading, and nothing was recorded
 pub record AllLoose (s : Model) : Type 0 where
   pub voices : (v : Voice) → In v (s .voices) → v .state ≡ Loose
-  pub book : s .desk .steals ≡ noSteals
+  pub book : s .shared .steals ≡ noSteals
 
 -- ---- when a managed spawn finds a port
 -- a policy that steals
@@ -334,34 +334,34 @@ byOther bus vs (voice w) = not (isBusy bus (find (isVoice w) vs))
 
 -- every port of the bus is held so
 abbrev pub blocked : NodeId → Model → Bool
-blocked bus s = every (λ p. byOther bus (s .voices) (holderAt (s .desk .graph .nodes) (s .desk .graph .edges) (bus .0) p)) (upto (portsOf (nodeAt (s .desk .graph .nodes) bus)))
+blocked bus s = every (λ p. byOther bus (s .voices) (holderAt (s .shared .graph .nodes) (s .shared .graph .edges) (bus .0) p)) (upto (portsOf (nodeAt (s .shared .graph .nodes) bus)))
 
 -- what a managed spawn answers that the table does not refuse
 abbrev pub spawnAnswer : NodeId → Model → Spawned
-spawnAnswer bus s = cond (blocked bus s) (Spawned.Refused NoPort) (Spawned.Voice (nextVoice (s .desk)))
+spawnAnswer bus s = cond (blocked bus s) (Spawned.Refused NoPort) (Spawned.Voice (nextVoice (s .shared)))
 
--- "The newcomer takes the next id and the port found": after the spawn x, which made of s the store s', the voice w is there, on the bus
+-- "The newVoice takes the next id and the port found": after the spawn x, which made of s the store s', the voice w is there, on the bus
 -- and in that state, and holds its port
 pub record Arrives (x : Spawn) (state : VoiceState) (w : VoiceId) (s s' : Model) : Type 0 where
-  pub newcomer : Voice
-  pub member : In newcomer (s' .voices)
-  pub named : newcomer .id ≡ w
-  pub next : w ≡ nextVoice (s .desk)
-  pub on : newcomer .bus ≡ x .bus
-  pub birth : newcomer .birth ≡ s .desk .clock
-  pub is : newcomer .state ≡ state
-  pub holds : holderAt (s' .desk .graph .nodes) (s' .desk .graph .edges) (x .bus .0) (newcomer .port) ≡ voice w
+  pub newVoice : Voice
+  pub member : In newVoice (s' .voices)
+  pub named : newVoice .id ≡ w
+  pub next : w ≡ nextVoice (s .shared)
+  pub on : newVoice .bus ≡ x .bus
+  pub birth : newVoice .birth ≡ s .shared .clock
+  pub is : newVoice .state ≡ state
+  pub holds : holderAt (s' .shared .graph .nodes) (s' .shared .graph .edges) (x .bus .0) (newVoice .port) ≡ voice w
 
 -- ---- the tables
 -- "512 live nodes, 1,024 edges, 64 voices, 256 pending events"
 pub record Room (s : Model) : Type 0 where
-  pub nodes : length (s .desk .graph .nodes) ≤ 512
-  pub edges : length (s .desk .graph .edges) ≤ 1024
+  pub nodes : length (s .shared .graph .nodes) ≤ 512
+  pub edges : length (s .shared .graph .edges) ≤ 1024
   pub voices : length (s .voices) ≤ 64
-  pub events : length (s .desk .events) ≤ 256
+  pub events : length (s .shared .events) ≤ 256
 
 -- the newest 64 are held, or all where there are fewer
-abbrev pub Newest : Book → Type 0
+abbrev pub Newest : StealLog → Type 0
 Newest b = ((length (b .newest) ≡ 64) × (64 ≤ b .count)) ⊎ ((length (b .newest) ≡ b .count) × (b .count < 64))
 
 -- ---- the graph
@@ -375,25 +375,25 @@ pub record Holds (c : Config) (s : Model) : Type 0 where
   -- these, whose plan is not silent; it answers how many it removed.
   pub removes : (v : Voice) → In v (s .voices) → clearing.ended (fadeLength (c .rate)) (v .state) ≡ true → find (isVoice (v .id)) (call.step call.clear s .model .voices) ≡ none
   pub clears : call.step call.clear s .model .voices
-      ≡ keep (λ v. not (isSilent (s .desk .graph .nodes) v)) (keep (λ v. not (clearing.ended (fadeLength (c .rate)) (v .state))) (s .voices))
+      ≡ filter (λ v. not (isSilent (s .shared .graph .nodes) v)) (filter (λ v. not (clearing.ended (fadeLength (c .rate)) (v .state))) (s .voices))
   pub removed : (n : ℕ) → call.step call.clear s .answer ≡ call.removed n → length (s .voices) ≡ length (call.step call.clear s .model .voices) + n
-  -- ---- 3. At the next call x a fading voice goes on, a block further after a sounding render and else the same; or it is gone, for one of
+  -- ---- 3. At the next call x a fading voice goes on, a block further after a sounding render and else the same; or it is withoutVoice, for one of
   -- the reasons of `Why`: a free, called or timed, its end or its silence at a clearing, or a reclaim, which marks its record.
   pub leaves : (x : Call) (v : Voice) → In v (s .voices) → (f : Fade) → v .state ≡ Fading f
       → GoesOn (c .block) v f (call.step x s .answer) (call.step x s .model .voices) ⊎ ((find (isVoice (v .id)) (call.step x s .model .voices) ≡ none) × Why s (call.step x s .model) v f x)
   -- No call but a managed spawn touches the steal records. There a record that was written before stays, goes out of the newest 64, or is
   -- marked, and then the fade that has it was on this bus and went in this call; and one record is written for each voice that was
-  -- tracked and is not any more: both numbers together rise by one if the newcomer is let in, else not.
-  pub quiet : (x : Call) → isManaged x ≡ false → call.step x s .model .desk .steals ≡ s .desk .steals
-  pub marks : (x : Spawn) (k : ℕ) → k < s .desk .steals .count
-      → Fate (s .desk .steals) (call.step (call.spawnManaged x) s .model .desk .steals) (Reclaimed (s .voices) (call.step (call.spawnManaged x) s .model .voices) (x .bus) k) k
+  -- tracked and is not any more: both numbers together rise by one if the newVoice is let in, else not.
+  pub quiet : (x : Call) → isManaged x ≡ false → call.step x s .model .shared .steals ≡ s .shared .steals
+  pub marks : (x : Spawn) (k : ℕ) → k < s .shared .steals .count
+      → Fate (s .shared .steals) (call.step (call.spawnManaged x) s .model .shared .steals) (Reclaimed (s .voices) (call.step (call.spawnManaged x) s .model .voices) (x .bus) k) k
   pub writes : (n : ℕ) → c .budget ≡ AtMost n → (x : Spawn) (a : Spawned) → call.step (call.spawnManaged x) s .answer ≡ call.spawned a
-      → call.step (call.spawnManaged x) s .model .desk .steals .count + count tracks (call.step (call.spawnManaged x) s .model .voices)
-      ≡ more (isLet a) (s .desk .steals .count + count tracks (s .voices))
-  -- What these records hold: the clock, the level of the voice before anything of the call changed, and a cut mark exactly if it is gone.
+      → call.step (call.spawnManaged x) s .model .shared .steals .count + count tracks (call.step (call.spawnManaged x) s .model .voices)
+      ≡ more (isLet a) (s .shared .steals .count + count tracks (s .voices))
+  -- What these records hold: the clock, the level of the voice before anything of the call changed, and a cut mark exactly if it is withoutVoice.
   pub losses : (x : Spawn) → Losses x s (call.step (call.spawnManaged x) s .model)
   -- Each fade has a record of its own: its number was written, and no other fade has it.
-  pub numbers : (v : Voice) → In v (s .voices) → (f : Fade) → v .state ≡ Fading f → f .number < s .desk .steals .count
+  pub numbers : (v : Voice) → In v (s .voices) → (f : Fade) → v .state ≡ Fading f → f .number < s .shared .steals .count
   pub own : (u v : Voice) → In u (s .voices) → In v (s .voices) → (f g : Fade) → u .state ≡ Fading f → v .state ≡ Fading g → f .number ≡ g .number → u ≡ v
   -- ---- 4. Tracked voices never exceed the budget: all of them, or those of each bus under `PerGroup`. Without a budget nobody is
   -- tracked, stolen or reclaimed.
@@ -403,23 +403,23 @@ pub record Holds (c : Config) (s : Model) : Type 0 where
   -- ---- 5. With a budget above 0 and a policy that steals, a managed spawn that the table does not refuse (definition and bus, headroom, ids
   -- left) is refused exactly when every port of its bus is held by a node of no tracked or fading voice of that bus, and with 12; else
   -- it answers the next voice id.
-  pub spawns : (n : ℕ) → c .budget ≡ AtMost (suc n) → Stealing (c .policy) → (x : Spawn) → spawnRefusal (s .desk) (s .voices) (x .def) (x .bus) ≡ none
+  pub spawns : (n : ℕ) → c .budget ≡ AtMost (suc n) → Stealing (c .policy) → (x : Spawn) → spawnRefusal (s .shared) (s .voices) (x .def) (x .bus) ≡ none
       → call.step (call.spawnManaged x) s .answer ≡ call.spawned (spawnAnswer (x .bus) s)
   -- A spawn that answers a voice has let it in, "tracked under a budget", or loose. A node that is answered is there, and was not before.
   pub arrives : (x : Spawn) (w : VoiceId) → call.step (call.spawnManaged x) s .answer ≡ call.spawned (Spawned.Voice w) → Arrives x (stateUnder (c .budget)) w s (call.step (call.spawnManaged x) s .model)
   pub arrivesLoose : (x : Spawn) (w : VoiceId) → call.step (call.spawnLoose x) s .answer ≡ call.spawned (Spawned.Voice w) → Arrives x Loose w s (call.step (call.spawnLoose x) s .model)
   pub adds : (kind : List ℕ) (ports required : ℕ) (values glides : Bool) (k : NodeId) → call.step (call.addNode kind ports required values glides) s .answer ≡ call.node k
-      → In (k .0) (nodeIds (call.step (call.addNode kind ports required values glides) s .model .desk .graph .nodes)) × (In (k .0) (nodeIds (s .desk .graph .nodes)) → ⊥)
+      → In (k .0) (nodeIds (call.step (call.addNode kind ports required values glides) s .model .shared .graph .nodes)) × (In (k .0) (nodeIds (s .shared .graph .nodes)) → ⊥)
   -- ---- "All live nodes are processed once in a sounding render, that is a prepared graph with a sink": while the graph is prepared it has
   -- such an order, of edges between live nodes. A prepared graph never fails to prepare: prepare answers done and changes nothing. A
   -- render that is not refused sounds exactly where the graph that it leaves is prepared and has a sink.
-  pub wires : (e : Edge) → In e (s .desk .graph .edges) → In (e .from .0) (nodeIds (s .desk .graph .nodes)) × In (e .to .0) (nodeIds (s .desk .graph .nodes))
-  pub inOrder : s .desk .graph .prepared ≡ true → InOrder (s .desk .graph)
-  pub prepares : s .desk .graph .prepared ≡ true → call.step call.prepare s ≡ record { answer = call.done; model = s }
-  pub sounds : clockEnds (s .desk) ≡ false → isSounded (call.step call.render s .answer) ≡ sounding (call.step call.render s .model .desk)
+  pub wires : (e : Edge) → In e (s .shared .graph .edges) → In (e .from .0) (nodeIds (s .shared .graph .nodes)) × In (e .to .0) (nodeIds (s .shared .graph .nodes))
+  pub inOrder : s .shared .graph .prepared ≡ true → InOrder (s .shared .graph)
+  pub prepares : s .shared .graph .prepared ≡ true → call.step call.prepare s ≡ record { answer = call.done; model = s }
+  pub sounds : clockEnds (s .shared) ≡ false → isSounded (call.step call.render s .answer) ≡ sounding (call.step call.render s .model .shared)
   -- ---- The tables hold it: 512 nodes, 1,024 edges, 64 voices, 256 events, and the newest 64 records.
   pub room : Room s
-  pub records : Newest (s .desk .steals)
+  pub records : Newest (s .shared .steals)
 
 -- 02, Paper 7. What fade output and bus sum answer is decided by what making fixed. Where the fade table was chosen, the gains are the table's and "lent gains are
 -- then ignored, by 16 too": 16 is answered for the two blocks alone.
@@ -438,11 +438,11 @@ pub record Claim (c : Config) (m : Model) (xs : List Call) : Type 0 where
   -- ---- 1. Every answer is the ledger's: refusals, spawn answers and clearing counts among them.
   pub answers : call.run xs m .answers ≡ run xs (newLedger c) .answers
   -- What the rules give both is the same: "nodes, edges, ids, clock, events, reports and steal records".
-  pub desk : after m xs .desk ≡ ledgerAfter c xs .desk
+  pub shared : after m xs .shared ≡ ledgerAfter c xs .shared
   -- The voices are the ledger's, in order, with their states: tracked, loose, or fading, at count × block samples.
   pub voices : after m xs .voices ≡ map (moved (λ count. count * c .block)) (ledgerAfter c xs .voices)
   -- The held ports: the ledger's holder of a port is the owner of the source of the store's edge at it.
-  pub holders : (n p : ℕ) → ledgerAfter c xs .holders n p ≡ holderAt (after m xs .desk .graph .nodes) (after m xs .desk .graph .edges) n p
+  pub holders : (n p : ℕ) → ledgerAfter c xs .holders n p ≡ holderAt (after m xs .shared .graph .nodes) (after m xs .shared .graph .edges) n p
   -- ---- 2. A fade was begun by a managed spawn of the list, and has moved by a block at each sounding render since. It has ended
   -- exactly when these renders are at least L over block, rounded up.
   pub ends : (v : Voice) → In v (after m xs .voices) → (f : Fade) → v .state ≡ Fading f
@@ -452,4 +452,4 @@ pub record Claim (c : Config) (m : Model) (xs : List Call) : Type 0 where
   pub blocks : Blocks c (after m xs)
   -- ---- "A freed row serves again; its id never returns": the ids of voices, and those of nodes
   pub noVoiceReturns : NeverReturns (λ ys. voiceIds (after m ys .voices)) xs
-  pub noNodeReturns : NeverReturns (λ ys. nodeIds (after m ys .desk .graph .nodes)) xs
+  pub noNodeReturns : NeverReturns (λ ys. nodeIds (after m ys .shared .graph .nodes)) xs

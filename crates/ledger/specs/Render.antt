@@ -9,20 +9,20 @@ use Rattle.scheduler.specs.declared.event.Event.{Event}
 use Rattle.store.specs.declared.answer.Rendered.{Rendered}
 use Rattle.store.specs.declared.answer.Rendered.the-variants as Rendered
 use Rattle.store.specs.declared.voices.Voice.{Voice}
-use Rattle.model.specs.Desk.{withEvents, withClock, sounding}
+use Rattle.model.specs.SharedState.{withEvents, withClock, sounding}
 use Rattle.model.specs.Voice.{moved}
 use Rattle.model.specs.Order.{order}
-use Rattle.model.specs.Render.{prepareOutcome, prepareDesk, isFree, anyFree, heard, answerAfter, isSounding, deadline, due, clockEnds}
-use Rattle.ledger.specs.Ledger.{Ledger, free, atDesk}
+use Rattle.model.specs.Render.{prepareOutcome, prepareShared, isFree, anyFree, heard, answerAfter, isSounding, deadline, due, clockEnds}
+use Rattle.ledger.specs.Ledger.{Ledger, free, atShared}
 
-abbrev pub happen : Event → Ledger → Ledger
-happen e l =
+abbrev pub applyEvent : Event → Ledger → Ledger
+applyEvent e l =
     cond (isFree (e .action)) (free (e .voice) l)
-    (atDesk l (order (e .voice) (paramOrder e .name) (paramOrder e .order) (l .voices) (l .desk) .desk))
+    (atShared l (order (e .voice) (paramOrder e .name) (paramOrder e .order) (l .voices) (l .shared) .shared))
 
-abbrev pub happenAll : List Event → Ledger → Ledger
-happenAll [] l = l
-happenAll (e ∷ q) l = happenAll q (happen e l)
+abbrev pub applyEvents : List Event → Ledger → Ledger
+applyEvents [] l = l
+applyEvents (e ∷ q) l = applyEvents q (applyEvent e l)
 
 abbrev pub oneMore : ℕ → ℕ
 oneMore count = suc count
@@ -40,7 +40,7 @@ blockOf a l =
     record {
       answer = a;
       ledger = record {
-        desk = withClock (l .desk .clock + l .desk .config .block) (l .desk);
+        shared = withClock (l .shared .clock + l .shared .config .block) (l .shared);
         holders = l .holders;
         voices = countedIf (isSounding a) (l .voices);
       };
@@ -48,14 +48,14 @@ blockOf a l =
 
 abbrev pub preparedIf : Bool → Ledger → Heard
 preparedIf true l =
-    blockOf (answerAfter (prepareOutcome (l .desk) .answer) (prepareDesk (l .desk)))
-    (atDesk l (prepareDesk (l .desk)))
-preparedIf false l = blockOf (heard (sounding (l .desk))) l
+    blockOf (answerAfter (prepareOutcome (l .shared) .answer) (prepareShared (l .shared)))
+    (atShared l (prepareShared (l .shared)))
+preparedIf false l = blockOf (heard (sounding (l .shared))) l
 
 abbrev pub rested : Ledger → Ledger
-rested l = atDesk l (withEvents (leftAfter (deadline (l .desk)) (l .desk .events)) (l .desk))
+rested l = atShared l (withEvents (leftAfter (deadline (l .shared)) (l .shared .events)) (l .shared))
 
 abbrev pub render : Ledger → Heard
 render l =
-    cond (clockEnds (l .desk)) (record { answer = Rendered.Refused ClockEnd; ledger = l })
-    (preparedIf (anyFree (due (l .desk))) (happenAll (due (l .desk)) (rested l)))
+    cond (clockEnds (l .shared)) (record { answer = Rendered.Refused ClockEnd; ledger = l })
+    (preparedIf (anyFree (due (l .shared))) (applyEvents (due (l .shared)) (rested l)))

@@ -1,8 +1,8 @@
 -- A count as the nearest binary64 value: the sum of its two exact halves, rounded once.
-use mathlib.Core.Path.{_≡_, sym, ap, _∙_, subst}
 use Prim.Native.Nat.{ℕ, _+_, _*_, _/_, _%_, _^_, _≤_, _<_}
 use native.Mathlib.Nat.{mul-one, one-mul, mul-assoc, mul-comm, mul-right-comm, mul-pos, add-mul, div-add-mod', lt-of-lt-of-le}
 use native.Mathlib.Omega.{arith}
+use mathlib.Core.Path.{_≡_, sym, ap, _∙_, subst}
 use mathlib.Core.Bool.{true, false, true≢false}
 use lib.Dec.{lit<, lit≤}
 use lib.IntN.{pos}

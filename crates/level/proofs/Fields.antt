@@ -1,12 +1,12 @@
 -- What the bits of a binary64 value say of it: its value from the exponent's field and the digits, for either sign.
-use mathlib.Core.Path.{_≡_, refl, sym, ap, _∙_, subst}
 use Prim.Native.Nat.{ℕ, suc, _+_, _-_, _*_, _/_, _%_, _^_, _<_}
 use native.Mathlib.Omega.{arith}
+use mathlib.Core.Path.{_≡_, refl, sym, ap, _∙_, subst}
 use mathlib.Core.Bool.{Bool, true, false, cond}
-use borrow.Author.Tests.{le-leb, lt-leb, ne-eqb}
 use lib.Dec.{leb, eqb}
 use lib.Ieee.{Float, nan, inf, binary64, odd, ofBits, ofFields}
 use lib.Ieee.Exact.{HasValue, odd-sign}
+use borrow.Author.Tests.{le-leb, lt-leb, ne-eqb}
 
 -- the bits a with the sign s
 abbrev pub signed : Bool → ℕ → ℕ

@@ -1,9 +1,9 @@
 -- The numbers of P + 1 binary digits times a power of two.
-use mathlib.Core.Path.{_≡_, sym, ap, _∙_}
-use mathlib.Core.Logic.{_⊎_, inl, inr}
 use Prim.Native.Nat.{ℕ, suc, _+_, _-_, _*_, _^_, _≤_, _<_}
 use native.Mathlib.Nat.{le-trans, le-of-eq, le-of-lt, lt-of-lt-of-le, not-le-of-lt, lt-of-mul-lt-mul-right, mul-assoc, mul-le-mul-right}
 use native.Mathlib.Omega.{arith}
+use mathlib.Core.Path.{_≡_, sym, ap, _∙_}
+use mathlib.Core.Logic.{_⊎_, inl, inr}
 use lib.Pow.{pow-add, pow-mono}
 use lib.Ieee.Digits.{back}
 use Rattle.level.proofs.Pack.{or-less}

@@ -11,3 +11,4 @@ mod Signs
 mod Counting
 pub mod NearestRoot
 pub mod NearestEven
+mod Examples

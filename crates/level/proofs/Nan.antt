@@ -1,12 +1,12 @@
 -- How the code makes a NaN and tests for one, in either format.
+use Prim.Native.Nat.{ℕ, _*_, _%_, _≤_}
 use mathlib.Core.Path.{_≡_, refl, sym, ap, _∙_, subst}
 use mathlib.Core.Bool.{Bool, true, false, not}
-use Prim.Native.Nat.{ℕ, _*_, _%_, _≤_}
-use borrow.Author.Tests.{ltb-false, le-ltb}
 use lib.Dec.{T}
 use lib.Ieee.{Float, nan, inf, fin, Format, binary32, binary64, div, fits, hid, ones, top, ofBits, toBits, nanBits, ne, isNan}
 use lib.Ieee.Bits.{is-false, ofBits-toBits, nanBits-is, nanBits-above}
 use lib.Ieee.Compare.{differs-from-itself, nan-differs}
+use borrow.Author.Tests.{ltb-false, le-ltb}
 
 pub zero-by-zero : (f : Format) → div f (ofBits f 0) (ofBits f 0) ≡ nan
 unfolding div ofBits

@@ -1,9 +1,9 @@
 -- `narrow_bits` on plain numbers: the bits of the nearest binary32 value, from those of a binary64 one.
-use mathlib.Core.Path.{_≡_, refl, sym, ap, _∙_, subst}
-use mathlib.Core.Logic.{_⊎_, inl, inr}
 use Prim.Native.Nat.{ℕ, _+_, _-_, _*_, _/_, _%_, _^_, _≤_, _<_}
 use native.Mathlib.Nat.{eq-zero-or-pos, le-trans, le-of-eq, lt-of-lt-of-le, lt-of-le-of-lt, zero-add, one-mul, mul-one, mul-le-mul, mul-le-mul-left, mul-lt-mul-of-pos-right}
 use native.Mathlib.Omega.{arith}
+use mathlib.Core.Path.{_≡_, refl, sym, ap, _∙_, subst}
+use mathlib.Core.Logic.{_⊎_, inl, inr}
 use mathlib.Core.Bool.{Bool, true, false, cond}
 use lib.Dec.{lit<, lit≤}
 use lib.Pow.{pow-pos, pow-mono, shl-exact}

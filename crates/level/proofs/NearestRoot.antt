@@ -1,11 +1,10 @@
 -- `sqrt` is the nearest binary64 value to the root: no other is as near, by the squares of the numbers halfway.
-use mathlib.Core.Path.{_≡_, refl, sym, ap, _∙_, subst}
-use mathlib.Core.Logic.{_⊎_, inl, inr}
 use Prim.Native.Nat.{ℕ, zero, suc, _+_, _-_, _*_, _/_, _%_, _^_, _≤_, _<_}
 use native.Mathlib.Nat.{le-refl, le-trans, le-of-eq, le-of-lt, lt-of-lt-of-le, lt-of-le-of-lt, lt-of-not-le, not-le-of-lt, lt-of-mul-lt-mul-right, eq-of-mul-eq-mul-right, eq-or-lt-of-le, mul-assoc, mul-right-comm, mul-pos, mul-le-mul, mul-le-mul-left, mul-le-mul-right, mul-lt-mul-of-pos-right, zero-mul, one-mul, mul-one, add-mul, div-mul-le-self, div-add-mod', mod-lt, le-div-iff-mul-le}
 use native.Mathlib.Omega.{arith}
+use mathlib.Core.Path.{_≡_, refl, sym, ap, _∙_, subst}
+use mathlib.Core.Logic.{_⊎_, inl, inr}
 use mathlib.Core.Bool.{Bool, true, false, cond, _&&_}
-use borrow.Author.Tests.{ltb-true, ltb-false}
 use lib.Dec.{T, ltb, leb, eqb, ltb→lt, leb→le, lit<, lit≤}
 use lib.IntN.{ℤ, pos, negsuc}
 use lib.Pow.{pow-add, pow-pos, pow-mono, pow-lt}
@@ -14,6 +13,7 @@ use lib.Ieee.Digits.{size-lt, size-reaches, back}
 use lib.Ieee.Fits.{and-l, and-r, down-pos, kept-lt}
 use lib.Ieee.Exact.{HasValue, units-val}
 use lib.Ieee.Positive.{positive}
+use borrow.Author.Tests.{ltb-true, ltb-false}
 use Rattle.level.specs.Root.{wholeRoot, nearer, rootOf, sqrt, NearestRoot}
 use Rattle.level.proofs.Pack.{or-less, pow-lt-back, units-held}
 use Rattle.level.proofs.Grid.{gap}

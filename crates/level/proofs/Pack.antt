@@ -1,9 +1,9 @@
 -- A rounded number as a bit pattern: the digits kept, and how many were dropped times the weight of the exponent's field.
-use mathlib.Core.Path.{_≡_, refl, sym, ap, _∙_, subst}
-use mathlib.Core.Logic.{_⊎_, inl, inr}
 use Prim.Native.Nat.{ℕ, suc, _+_, _-_, _*_, _/_, _%_, _^_, _≤_, _<_, compare}
 use native.Mathlib.Nat.{le-trans, le-refl, le-of-eq, le-antisymm, lt-of-lt-of-le, lt-of-le-of-lt, lt-of-not-le, lt-irrefl, not-le-of-lt, mul-one, mul-comm, mul-assoc, mul-left-comm, mul-right-comm, mul-div-cancel, mul-pos, mul-le-mul-right, mul-lt-mul-of-pos-right, div-one, add-assoc, pow-succ', le-div-iff-mul-le, div-lt-iff-lt-mul, eq-or-lt-of-le, suc-mul, suc-add}
 use native.Mathlib.Omega.{arith}
+use mathlib.Core.Path.{_≡_, refl, sym, ap, _∙_, subst}
+use mathlib.Core.Logic.{_⊎_, inl, inr}
 use mathlib.Core.Bool.{Bool, true, false, not, cond}
 use lib.Dec.{T, ltb, leb, leb→le, nleb→lt, ltb→lt}
 use lib.Arith.{le→nltb}

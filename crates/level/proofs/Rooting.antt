@@ -1,14 +1,14 @@
 -- The root's digits and its bits: `rounded` from any 53 digits that the root lies at, and the digits that `root_digits` finds.
-use mathlib.Core.Path.{_≡_, refl, sym, ap, _∙_}
-use mathlib.Core.Logic.{inr}
 use Prim.Native.Nat.{ℕ, zero, suc, _+_, _-_, _*_, _/_, _%_, _^_, _≤_, _<_}
 use native.Mathlib.Nat.{le-trans, le-of-eq, lt-of-lt-of-le, lt-of-le-of-lt, lt-of-mul-lt-mul-left, eq-of-mul-eq-mul-right, mul-assoc, mul-left-comm, mul-right-comm, mul-le-mul, mul-le-mul-left, mul-le-mul-right, mul-lt-mul-of-pos-right, zero-add, le-add-right, div-eq-of-lt-le}
 use native.Mathlib.Omega.{arith}
+use mathlib.Core.Path.{_≡_, refl, sym, ap, _∙_}
+use mathlib.Core.Logic.{inr}
 use mathlib.Core.Bool.{Bool, false, cond}
-use borrow.Author.Tests.{lt-ltb, le-ltb}
 use lib.Dec.{lit<, lit≤}
 use lib.Pow.{pow-add, pow-pos, pow-mono}
 use lib.Ieee.{binary64, size, units, ofBits}
+use borrow.Author.Tests.{lt-ltb, le-ltb}
 use Rattle.level.specs.Digits.{Rooted}
 use Rattle.level.specs.Root.{wholeRoot, nearer, rounded, rootOf}
 use Rattle.level.proofs.Pack.{size-above, units-bits}

@@ -1,14 +1,14 @@
 -- Squares, and the root cut to a whole number.
-use mathlib.Core.Path.{_≡_, refl, sym, ap, _∙_, subst}
 use Prim.Native.Nat.{ℕ, zero, suc, _+_, _*_, _/_, _^_, _≤_, _<_}
 use native.Mathlib.Nat.{le-trans, le-of-eq, lt-of-lt-of-le, lt-of-not-le, not-le-of-lt, mul-assoc, mul-comm, mul-left-comm, mul-pos, mul-le-mul, mul-le-mul-left, mul-one, add-mul, mul-add, pow-suc, pow-succ'}
 use native.Mathlib.Omega.{arith}
+use mathlib.Core.Path.{_≡_, refl, sym, ap, _∙_, subst}
 use mathlib.Core.Bool.{Bool, true, false, cond}
-use borrow.Author.Tests.{leb-true, leb-false}
 use lib.Dec.{leb}
 use lib.Pow.{pow-pos}
 use lib.Ieee.{size}
 use lib.Ieee.Digits.{size-lt}
+use borrow.Author.Tests.{leb-true, leb-false}
 use Rattle.level.specs.Root.{upTo, cutRoot, wholeRoot}
 
 -- ---- squares of a product, of an even number, of an odd one and of the next one

@@ -2,4 +2,3 @@ pub mod Root
 pub mod Narrow
 pub mod Level
 pub mod Digits
-pub mod Examples

@@ -1,8 +1,8 @@
 -- A binary64 value as a binary32 one, and what it is to be the nearest value of a format. Definitions only.
 -- 01, "engine.rs": "narrowed to f32, each nearest-even".
+use Prim.Native.Nat.{ℕ, _+_, _*_, _%_, _^_, _≤_, _<_}
 use mathlib.Core.Path.{_≡_}
 use mathlib.Core.Bool.{Bool}
-use Prim.Native.Nat.{ℕ, _+_, _*_, _%_, _^_, _≤_, _<_}
 use lib.Dec.{T}
 use lib.Ieee.{Float, nan, inf, fin, Format, binary32, prec, low, up, down, round, fits, toBits}
 use lib.Ieee.Exact.{HasValue}

@@ -1,5 +1,5 @@
 pub mod Member
-pub mod Keep
+pub mod Filter
 pub mod Find
 pub mod Count
 pub mod Table

@@ -8,8 +8,8 @@ use Prim.Native.Nat.{ℕ}
 use lib.Dec.{eqb}
 use Rattle.graph.specs.declared.state.Answer as graph
 use Rattle.graph.specs.declared.state.Answer.the-variants as Answer
-use Rattle.graph.specs.declared.state.Given as given
-use Rattle.graph.specs.declared.state.Given.the-variants as Given
+use Rattle.graph.specs.declared.state.AddAnswer as given
+use Rattle.graph.specs.declared.state.AddAnswer.the-variants as AddAnswer
 use Rattle.model.specs.Call.{Call, Answer, Step, step, done, refused, node}
 use Rattle.model.specs.Numbers.{numberIn}
 use Rattle.memory.specs.View.{Memory, modelOf}
@@ -33,9 +33,9 @@ abbrev pub answered : graph.Answer → Answer
 answered Answer.Done = done
 answered (Answer.Refused r) = refused r
 
-abbrev pub granted : given.Given → Answer
-granted (Given.Id k) = node k
-granted (Given.Refused r) = refused r
+abbrev pub granted : given.AddAnswer → Answer
+granted (AddAnswer.Id k) = node k
+granted (AddAnswer.Refused r) = refused r
 
 -- a list of calls on a lent store: each gets what the last left
 pub data Runs : Memory → List Call → List Answer → Memory → Type 0 where

@@ -5,13 +5,13 @@ use mathlib.Core.List.{List}
 use lib.ListN.{take}
 use Rattle.graph.specs.View.{GraphView}
 use Rattle.graph.specs.Tables.{sinkOf}
-use Rattle.model.specs.Desk.{Desk}
+use Rattle.model.specs.SharedState.{SharedState}
 use Rattle.model.specs.Model.{Model}
 use Rattle.graph_rows.specs.Node.{nodesIn}
 use Rattle.graph_rows.specs.Edge.{edgesIn}
 use Rattle.order_table.specs.Prepares.{idsIn}
 use Rattle.event_table.specs.Rows.{eventsIn}
-use Rattle.steal_log.specs.Rows.{bookIn}
+use Rattle.steal_log.specs.Rows.{logIn}
 use Rattle.voice_rows.specs.Rows.{voicesIn}
 use Rattle.memory.specs.declared.state.State.{State}
 
@@ -36,17 +36,17 @@ graphOf m =
       next = m .state .next;
     }
 
-abbrev pub deskOf : Memory → Desk
-deskOf m =
+abbrev pub sharedOf : Memory → SharedState
+sharedOf m =
     record {
       config = m .state .config;
       graph = graphOf m;
       events = take (m .state .events) (eventsIn (m .events));
-      steals = bookIn (m .steals) (m .state .stolen) (m .state .place);
+      steals = logIn (m .steals) (m .state .stolen) (m .state .place);
       clock = m .state .clock;
       spawned = m .state .spawned;
       sequence = m .state .sequence;
     }
 
 abbrev pub modelOf : Memory → Model
-modelOf m = record { desk = deskOf m; voices = take (m .state .voices) (voicesIn (m .voices)) }
+modelOf m = record { shared = sharedOf m; voices = take (m .state .voices) (voicesIn (m .voices)) }

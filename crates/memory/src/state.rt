@@ -1,5 +1,5 @@
+use graph::state::AddAnswer;
 use graph::state::Answer;
-use graph::state::Given;
 use graph::state::Sink;
 use store::config::Config;
 
@@ -23,13 +23,13 @@ pub struct State {
 }
 
 // The state that a call left, and what it answers.
-pub struct Served {
+pub struct HostResult {
     pub state: State,
     pub answer: Answer,
 }
 
 // The same of a call that gives a node id.
-pub struct Granted {
+pub struct AddResult {
     pub state: State,
-    pub given: Given,
+    pub given: AddAnswer,
 }

@@ -35,7 +35,7 @@ unfolding eq silencePassThrough rules prepare processingOrder lacking lacks any 
 ends-at-L = refl
 
 -- Its record stays uncut. Refuses: a mark for every fade that leaves.
-uncut : further (call.render ∷ call.clear ∷ []) twice .desk .steals ≡ record { count = 1; newest = recordOf 0 Unknown false ∷ [] }
+uncut : further (call.render ∷ call.clear ∷ []) twice .shared .steals ≡ record { count = 1; newest = recordOf 0 Unknown false ∷ [] }
 unfolding eq silencePassThrough rules prepare processingOrder lacking lacks any liveIds liveNodes risingFrom whole order walk released fed among count-up settled
 uncut = refl
 

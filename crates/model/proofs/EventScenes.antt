@@ -34,7 +34,7 @@ use Rattle.model.specs.Call.{Call, done, refused, ordered, rendered, tim
 use Rattle.model.specs.Call as call
 use Rattle.model.specs.Scene.{upTo, plain, float, voice, host, sink, wire, spawn, free, timedFree, sounding, silent, after, asked, further, seen, voices, fading, param, value, glide}
 use Rattle.model.specs.Spawn.{spawnOf}
-use Rattle.model.specs.Desk.{withClock}
+use Rattle.model.specs.SharedState.{withClock}
 
 -- ---- a definition of two nodes, the output takes values, the other one glides. `cut` is the first's, and again the second's;
 -- `gate` is the first's
@@ -55,7 +55,7 @@ at t s n = call.schedule t (voice 1) (bytes s) (Action.Value (float n))
 
 -- the last orders of the voice's two nodes, 1 and 2
 abbrev last : ℕ → Model → Option LastOrder
-last k m = mapO (λ n. n .last) (nodeAt (m .desk .graph .nodes) (id k))
+last k m = mapO (λ n. n .last) (nodeAt (m .shared .graph .nodes) (id k))
 
 abbrev key : List Call → Model
 key calls = after (upTo 2 Oldest) (host 2 ∷ sink 0 ∷ call.spawnManaged (spawnOf keyDef (id 0) (float 0)) ∷ call.prepare ∷ calls)
@@ -96,12 +96,12 @@ by-time :
 unfolding eq prepare processingOrder lacking lacks any liveIds liveNodes risingFrom whole order walk released fed among count-up
 by-time = (refl, refl, refl, refl, refl)
 
--- A free before a value of the same time: the voice is gone, the value does nothing, and none of the two is left. The free prepares
+-- A free before a value of the same time: the voice is withoutVoice, the value does nothing, and none of the two is left. The free prepares
 -- inside the render, which sounds. A value does not prepare. Refuses: frees after the values; a free that leaves it unprepared.
 free-first :
     (asked (timedFree 4 1 ∷ at 4 "cut" 3 ∷ call.render ∷ []) (key []) ≡ done ∷ done ∷ sounding ∷ [])
     × (voices (key (timedFree 4 1 ∷ at 4 "cut" 3 ∷ call.render ∷ [])) ≡ [])
-    × (key (timedFree 4 1 ∷ at 4 "cut" 3 ∷ call.render ∷ []) .desk .events ≡ [])
+    × (key (timedFree 4 1 ∷ at 4 "cut" 3 ∷ call.render ∷ []) .shared .events ≡ [])
     × (asked (host 1 ∷ at 4 "cut" 3 ∷ call.render ∷ []) (key []) ≡ call.node (id 3) ∷ done ∷ silent ∷ [])
 unfolding eq prepare processingOrder lacking lacks any liveIds liveNodes risingFrom whole order walk released fed among count-up
 free-first = (refl, refl, refl, refl)
@@ -126,7 +126,7 @@ failed-prepare :
     (asked (call.render ∷ call.ask call.clock ∷ []) (cyclic []) ≡ rendered (Rendered.Unprepared Cycle) ∷ time 16 ∷ [])
     × (voices (cyclic []) ≡ seen 1 0 (fading 4 0 0 0) ∷ seen 2 1 Tracked ∷ seen 3 2 Tracked ∷ [])
     × (voices (cyclic (spawn 0 ∷ call.render ∷ [])) ≡ seen 2 1 (fading 7 0 0 1) ∷ seen 3 2 Tracked ∷ seen 4 3 Tracked ∷ [])
-    × (cyclic (call.render ∷ []) .desk .events ≡ [])
+    × (cyclic (call.render ∷ []) .shared .events ≡ [])
     × (asked (call.render ∷ call.ask call.clock ∷ []) (after (upTo 2 Oldest) (call.addNode (bytes "Fx") 1 1 false false ∷ timedFree 5 9 ∷ []))
     ≡ rendered (Rendered.Unprepared RequiredPort) ∷ time 16 ∷ [])
 unfolding eq prepare processingOrder lacking lacks any liveIds liveNodes risingFrom whole order walk released fed among count-up
@@ -143,7 +143,7 @@ free-without-sink = (refl, refl)
 
 -- ---- A timed free marks no record cut: voice 1 fades with record 0. It leaves before the fades move. Refuses: a mark for it.
 timed-free-marks-none :
-    (after (upTo 1 Oldest) (host 2 ∷ sink 0 ∷ spawn 0 ∷ spawn 0 ∷ timedFree 0 1 ∷ call.render ∷ []) .desk .steals
+    (after (upTo 1 Oldest) (host 2 ∷ sink 0 ∷ spawn 0 ∷ spawn 0 ∷ timedFree 0 1 ∷ call.render ∷ []) .shared .steals
     ≡ record { count = 1; newest = recordOf 0 Unknown false ∷ [] })
     × (voices (after (upTo 1 Oldest) (host 2 ∷ sink 0 ∷ spawn 0 ∷ spawn 0 ∷ timedFree 0 1 ∷ call.render ∷ [])) ≡ seen 2 1 Tracked ∷ [])
 unfolding eq prepare processingOrder lacking lacks any liveIds liveNodes risingFrom whole order walk released fed among count-up
@@ -169,12 +169,12 @@ table-full = refl
 abbrev end : Model
 end =
     let m = key (timedFree 18446744073709551614 1 ∷ timedFree 18446744073709551615 1 ∷ []) in
-    record { desk = withClock 18446744073709551599 (m .desk); voices = m .voices }
+    record { shared = withClock 18446744073709551599 (m .shared); voices = m .voices }
 
 clock-end :
     (asked (call.render ∷ call.ask call.clock ∷ call.render ∷ call.ask call.clock ∷ []) end
     ≡ sounding ∷ time 18446744073709551615 ∷ rendered (Rendered.Refused ClockEnd) ∷ time 18446744073709551615 ∷ [])
-    × (length (further (call.render ∷ call.render ∷ []) end .desk .events) ≡ 1)
+    × (length (further (call.render ∷ call.render ∷ []) end .shared .events) ≡ 1)
     × (voices (further (call.render ∷ []) end) ≡ [])
 unfolding eq prepare processingOrder lacking lacks any liveIds liveNodes risingFrom whole order walk released fed among count-up
 clock-end = (refl, refl, refl)

@@ -17,7 +17,7 @@ use Rattle.model.specs.Make.{make}
 abbrev empty : Config → Model
 empty c =
     record {
-      desk = record {
+      shared = record {
         config = c;
         graph = record { nodes = []; edges = []; sink = none; prepared = false; order = []; next = 0 };
         events = [];

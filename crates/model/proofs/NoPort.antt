@@ -10,10 +10,12 @@ use mathlib.Core.Bool.{Bool, true, false, not, _&&_, true≢false}
 use lib.Dec.{eqb}
 use lib.ListN.{length}
 use borrow.Author.Tests.{eq-eqb}
-use Rattle.lists.specs.Member.{In, some-inj, none-some}
-use Rattle.lists.specs.Keep.{keep}
-use Rattle.lists.specs.Count.{count-all, count-keep-lt}
-use Rattle.lists.specs.Find.{or?, find, find-in}
+use Rattle.lists.specs.Member.{In}
+use Rattle.lists.proofs.Member.{some-inj, none-some}
+use Rattle.lists.specs.Filter.{filter}
+use Rattle.lists.proofs.Count.{count-all, count-filter-lt}
+use Rattle.lists.specs.Find.{or?, find}
+use Rattle.lists.proofs.Find.{find-in}
 use Rattle.node.specs.declared.record.NodeId.{NodeId}
 use Rattle.node.specs.Refusal.{numberOf}
 use Rattle.node.specs.declared.refusal.Refusal.{Refusal}
@@ -31,11 +33,11 @@ use Rattle.store.specs.declared.answer.Spawned.the-variants as Spawned
 use Rattle.store.specs.declared.voices.Voice.{Voice}
 use Rattle.store.specs.declared.voices.VoiceState.{VoiceState}
 use Rattle.store.specs.declared.voices.VoiceState.the-variants.{Tracked, Loose}
-use Rattle.model.specs.Desk.{Desk}
+use Rattle.model.specs.SharedState.{SharedState}
 use Rattle.model.specs.Voice.{isVoice, feeder, candidates, trackedOn, fadesOn}
 use Rattle.model.specs.Refuse.{spawnRefusal}
 use Rattle.model.specs.Spawn.{tries, stateUnder, voiceOf, noLater, earlier, earliest, elseVictim, nextOut, Spawn}
-use Rattle.model.specs.Model.{Model, cutOff, stealVoice, portFree, landOr, place, settle, stealThen, admitted, admissionOn, Landed}
+use Rattle.model.specs.Model.{Model, cutOff, stealVoice, portFree, instantiateOr, place, placeWithinBudget, stealThen, admitted, admissionOn, SpawnResult}
 use Rattle.model.specs.Model as store
 use Rattle.model.specs.Call.{step}
 use Rattle.model.specs.Call as call
@@ -54,7 +56,7 @@ earliest-in : (q : Voice → Bool) (vs : List Voice) (v : Voice) → earliest q 
 earliest-in q [] v h = absurd (none-some h)
 earliest-in q (x ∷ vs) v h = ⊎-elim inl (λ p. inr (earliest-in q vs v p)) (earlier-in (earliest q vs) (q x) x v h)
 
-next-in : (d : Desk) (bus : NodeId) (vs : List Voice) (v : Voice) → nextOut d bus vs ≡ some v → In v vs
+next-in : (d : SharedState) (bus : NodeId) (vs : List Voice) (v : Voice) → nextOut d bus vs ≡ some v → In v vs
 next-in d bus vs v h = go (earliest (fadesOn bus) vs) refl h
   where
     chosen : (x : Victim) → voiceOf x vs ≡ some v → In v vs
@@ -66,65 +68,65 @@ next-in d bus vs v h = go (earliest (fadesOn bus) vs) refl h
     go (some u) p e = earliest-in (fadesOn bus) vs v (p ∙ e)
 
 -- a voice that goes leaves fewer
-gone-fewer : (vs : List Voice) (v : Voice) → In v vs → suc (length (keep (λ x. not (isVoice (v .id) x)) vs)) ≤ length vs
+gone-fewer : (vs : List Voice) (v : Voice) → In v vs → suc (length (filter (λ x. not (isVoice (v .id) x)) vs)) ≤ length vs
 gone-fewer vs v i =
     let off : not (isVoice (v .id) v) ≡ false = ap not (eq-eqb (v .id .0) (v .id .0) refl) in
-    rw (count-all (keep (λ x. not (isVoice (v .id) x)) vs), count-all vs) at (count-keep-lt (λ x. true) (λ x. not (isVoice (v .id) x)) vs v i refl off)
+    rw (count-all (filter (λ x. not (isVoice (v .id) x)) vs), count-all vs) at (count-filter-lt (λ x. true) (λ x. not (isVoice (v .id) x)) vs v i refl off)
 
 module _ (spawn : Spawn) (s : VoiceState) where
   pub place-no-port : (fuel : ℕ) (m : Model) (r : Refusal) → notSpawned (place fuel spawn s m .answer) ≡ some r
       → portFree (spawn .bus) (place fuel spawn s m .model) ≡ none
   place-no-port zero m r h = go (portFree (spawn .bus) m) refl h
     where
-      go : (o : Option ℕ) → portFree (spawn .bus) m ≡ o → notSpawned (landOr o none spawn s m (store.refused NoPort) .answer) ≡ some r
-          → portFree (spawn .bus) (landOr o none spawn s m (store.refused NoPort) .model) ≡ none
+      go : (o : Option ℕ) → portFree (spawn .bus) m ≡ o → notSpawned (instantiateOr o none spawn s m (store.refused NoPort) .answer) ≡ some r
+          → portFree (spawn .bus) (instantiateOr o none spawn s m (store.refused NoPort) .model) ≡ none
       go none p e = p
       go (some x) p e = absurd (none-some e)
-  place-no-port (suc fuel) m r h = go (portFree (spawn .bus) m) refl (nextOut (m .desk) (spawn .bus) (m .voices)) h (λ k. place-no-port fuel k r)
+  place-no-port (suc fuel) m r h = go (portFree (spawn .bus) m) refl (nextOut (m .shared) (spawn .bus) (m .voices)) h (λ k. place-no-port fuel k r)
     where
       go : (o : Option ℕ) → portFree (spawn .bus) m ≡ o → (v : Option Voice)
-          → notSpawned (landOr o v spawn s m (λ k. place fuel spawn s k) .answer) ≡ some r
+          → notSpawned (instantiateOr o v spawn s m (λ k. place fuel spawn s k) .answer) ≡ some r
           → ((k : Model) → notSpawned (place fuel spawn s k .answer) ≡ some r → portFree (spawn .bus) (place fuel spawn s k .model) ≡ none)
-          → portFree (spawn .bus) (landOr o v spawn s m (λ k. place fuel spawn s k) .model) ≡ none
+          → portFree (spawn .bus) (instantiateOr o v spawn s m (λ k. place fuel spawn s k) .model) ≡ none
       go none p none e ih = p
       go none p (some v) e ih = ih (cutOff v (v .state) m) e
       go (some x) p v e ih = absurd (none-some e)
 
   -- as many tries as there are voices are enough
   pub place-nobody : (fuel : ℕ) (m : Model) (r : Refusal) → length (m .voices) ≤ fuel → notSpawned (place fuel spawn s m .answer) ≡ some r
-      → nextOut (place fuel spawn s m .model .desk) (spawn .bus) (place fuel spawn s m .model .voices) ≡ none
+      → nextOut (place fuel spawn s m .model .shared) (spawn .bus) (place fuel spawn s m .model .voices) ≡ none
   place-nobody zero m r few h = go (portFree (spawn .bus) m) h
     where
-      nobody : (o : Option Voice) → nextOut (m .desk) (spawn .bus) (m .voices) ≡ o → o ≡ none
+      nobody : (o : Option Voice) → nextOut (m .shared) (spawn .bus) (m .voices) ≡ o → o ≡ none
       nobody none p = refl
-      nobody (some v) p = absurd (omega (arith, gone-fewer (m .voices) v (next-in (m .desk) (spawn .bus) (m .voices) v p)))
+      nobody (some v) p = absurd (omega (arith, gone-fewer (m .voices) v (next-in (m .shared) (spawn .bus) (m .voices) v p)))
 
-      go : (o : Option ℕ) → notSpawned (landOr o none spawn s m (store.refused NoPort) .answer) ≡ some r
-          → nextOut (landOr o none spawn s m (store.refused NoPort) .model .desk) (spawn .bus) (landOr o none spawn s m (store.refused NoPort) .model .voices) ≡ none
-      go none e = nobody (nextOut (m .desk) (spawn .bus) (m .voices)) refl
+      go : (o : Option ℕ) → notSpawned (instantiateOr o none spawn s m (store.refused NoPort) .answer) ≡ some r
+          → nextOut (instantiateOr o none spawn s m (store.refused NoPort) .model .shared) (spawn .bus) (instantiateOr o none spawn s m (store.refused NoPort) .model .voices) ≡ none
+      go none e = nobody (nextOut (m .shared) (spawn .bus) (m .voices)) refl
       go (some x) e = absurd (none-some e)
-  place-nobody (suc fuel) m r few h = go (portFree (spawn .bus) m) (nextOut (m .desk) (spawn .bus) (m .voices)) refl h (λ k. place-nobody fuel k r)
+  place-nobody (suc fuel) m r few h = go (portFree (spawn .bus) m) (nextOut (m .shared) (spawn .bus) (m .voices)) refl h (λ k. place-nobody fuel k r)
     where
-      go : (o : Option ℕ) (v : Option Voice) → nextOut (m .desk) (spawn .bus) (m .voices) ≡ v
-          → notSpawned (landOr o v spawn s m (λ k. place fuel spawn s k) .answer) ≡ some r
+      go : (o : Option ℕ) (v : Option Voice) → nextOut (m .shared) (spawn .bus) (m .voices) ≡ v
+          → notSpawned (instantiateOr o v spawn s m (λ k. place fuel spawn s k) .answer) ≡ some r
           → ((k : Model) → length (k .voices) ≤ fuel → notSpawned (place fuel spawn s k .answer) ≡ some r
-          → nextOut (place fuel spawn s k .model .desk) (spawn .bus) (place fuel spawn s k .model .voices) ≡ none)
-          → nextOut (landOr o v spawn s m (λ k. place fuel spawn s k) .model .desk) (spawn .bus)
-          (landOr o v spawn s m (λ k. place fuel spawn s k) .model .voices) ≡ none
+          → nextOut (place fuel spawn s k .model .shared) (spawn .bus) (place fuel spawn s k .model .voices) ≡ none)
+          → nextOut (instantiateOr o v spawn s m (λ k. place fuel spawn s k) .model .shared) (spawn .bus)
+          (instantiateOr o v spawn s m (λ k. place fuel spawn s k) .model .voices) ≡ none
       go none none p e ih = p
       go none (some v) p e ih =
-          let i : In v (m .voices) = next-in (m .desk) (spawn .bus) (m .voices) v p in
-          let f : length (keep (λ x. not (isVoice (v .id) x)) (m .voices)) ≤ fuel = omega (arith, gone-fewer (m .voices) v i) in
+          let i : In v (m .voices) = next-in (m .shared) (spawn .bus) (m .voices) v p in
+          let f : length (filter (λ x. not (isVoice (v .id) x)) (m .voices)) ≤ fuel = omega (arith, gone-fewer (m .voices) v i) in
           ih (cutOff v (v .state) m) f e
       go (some x) v p e ih = absurd (none-some e)
 
 pub record Exhausted (b : Budget) (bus : NodeId) (k : Model) : Type 0 where
   pub no-port : portFree bus k ≡ none
-  pub nobody : (n : ℕ) → b ≡ AtMost n → nextOut (k .desk) bus (k .voices) ≡ none
+  pub nobody : (n : ℕ) → b ≡ AtMost n → nextOut (k .shared) bus (k .voices) ≡ none
 
 module _ (spawn : Spawn) (r : Refusal) where
-  settle-exhausted : (m : Model) → notSpawned (settle spawn m .answer) ≡ some r → Exhausted (m .desk .config .budget) (spawn .bus) (settle spawn m .model)
-  settle-exhausted m h = go (m .desk .config .budget) h
+  settle-exhausted : (m : Model) → notSpawned (placeWithinBudget spawn m .answer) ≡ some r → Exhausted (m .shared .config .budget) (spawn .bus) (placeWithinBudget spawn m .model)
+  settle-exhausted m h = go (m .shared .config .budget) h
     where
       go : (b : Budget) → notSpawned (place (tries b (m .voices)) spawn (stateUnder b) m .answer) ≡ some r
           → Exhausted b (spawn .bus) (place (tries b (m .voices)) spawn (stateUnder b) m .model)
@@ -140,28 +142,28 @@ module _ (spawn : Spawn) (r : Refusal) where
           }
 
   admitted-exhausted : (a : Admission) (m : Model) → notSpawned (admitted a spawn m .answer) ≡ some r → (r ≡ Rejected → ⊥)
-      → Exhausted (m .desk .config .budget) (spawn .bus) (admitted a spawn m .model)
+      → Exhausted (m .shared .config .budget) (spawn .bus) (admitted a spawn m .model)
   admitted-exhausted admission.Admit m h k = settle-exhausted m h
   admitted-exhausted admission.Reject m h k = absurd (k (sym (some-inj h)))
   admitted-exhausted (admission.Steal place w) m h k = go (find (isVoice w) (m .voices)) h
     where
-      same : (v : Voice) (o : Option ℕ) → store.stolen v o m .desk .config .budget ≡ m .desk .config .budget
+      same : (v : Voice) (o : Option ℕ) → store.stolen v o m .shared .config .budget ≡ m .shared .config .budget
       same v none = refl
       same v (some p) = refl
 
-      go : (o : Option Voice) → notSpawned (stealThen o spawn m .answer) ≡ some r → Exhausted (m .desk .config .budget) (spawn .bus) (stealThen o spawn m .model)
+      go : (o : Option Voice) → notSpawned (stealThen o spawn m .answer) ≡ some r → Exhausted (m .shared .config .budget) (spawn .bus) (stealThen o spawn m .model)
       go none e = settle-exhausted m e
-      go (some v) e = subst (λ (b : Budget). Exhausted b (spawn .bus) (settle spawn (stealVoice v m) .model)) (same v (portFrom (m .desk .graph .edges) (feeder v) (v .bus)))
+      go (some v) e = subst (λ (b : Budget). Exhausted b (spawn .bus) (placeWithinBudget spawn (stealVoice v m) .model)) (same v (portFrom (m .shared .graph .edges) (feeder v) (v .bus)))
           (settle-exhausted (stealVoice v m) e)
 
 pub no-port-exhausts : (x : Spawn) (m : Model) → step (call.spawnManaged x) m .answer ≡ call.spawned (Spawned.Refused NoPort)
-    → Exhausted (m .desk .config .budget) (x .bus) (step (call.spawnManaged x) m .model)
-no-port-exhausts x m h = go (spawnRefusal (m .desk) (m .voices) (x .def) (x .bus)) (spawn-not (m .desk) (m .voices) (x .def) (x .bus)) (ap refusalIn h)
+    → Exhausted (m .shared .config .budget) (x .bus) (step (call.spawnManaged x) m .model)
+no-port-exhausts x m h = go (spawnRefusal (m .shared) (m .voices) (x .def) (x .bus)) (spawn-not (m .shared) (m .voices) (x .def) (x .bus)) (ap refusalIn h)
   where
-    admits : Landed
+    admits : SpawnResult
     admits = admitted (admissionOn (x .bus) m) x m
 
-    go : (o : Option Refusal) → is12 o ≡ false → notSpawned (store.unless o m admits .answer) ≡ some NoPort → Exhausted (m .desk .config .budget) (x .bus) (store.unless o m admits .model)
+    go : (o : Option Refusal) → is12 o ≡ false → notSpawned (store.unless o m admits .answer) ≡ some NoPort → Exhausted (m .shared .config .budget) (x .bus) (store.unless o m admits .model)
     go (some q) n e = let z : true ≡ false = sym (ap (λ x. eqb (numberOf x) 12) (some-inj e)) ∙ n in absurd (true≢false z)
     go none n e =
         admitted-exhausted x NoPort (admissionOn (x .bus) m) m e (λ p. let z : _≡_ {A = ℕ} 0 1 = cc in absurd (omega arith))

@@ -46,12 +46,12 @@ page-voices : voices (page .model) ≡ seen 1 0 (fading 3 32 16 0) ∷ seen 2 1 
 unfolding page eq prepare processingOrder lacking lacks any liveIds liveNodes risingFrom whole order walk released fed among count-up settled
 page-voices = refl
 
-page-steals : page .model .desk .steals ≡ record { count = 1; newest = recordOf 32 (Known (ofBits binary32 0)) false ∷ [] }
+page-steals : page .model .shared .steals ≡ record { count = 1; newest = recordOf 32 (Known (ofBits binary32 0)) false ∷ [] }
 unfolding page eq prepare processingOrder lacking lacks any liveIds liveNodes risingFrom whole order walk released fed among count-up settled
 page-steals = refl
 
 -- ● "In the page's scene the order of the third prepare is 1, 2, 4, 3, 0."
-pub page-order : map (λ (k : NodeId). k .0) (page .model .desk .graph .order) ≡ 1 ∷ 2 ∷ 4 ∷ 3 ∷ 0 ∷ []
+pub page-order : map (λ (k : NodeId). k .0) (page .model .shared .graph .order) ≡ 1 ∷ 2 ∷ 4 ∷ 3 ∷ 0 ∷ []
 unfolding page eq prepare processingOrder lacking lacks any liveIds liveNodes risingFrom whole order walk released fed among count-up settled
 page-order = refl
 

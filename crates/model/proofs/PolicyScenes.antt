@@ -17,17 +17,17 @@ use Rattle.store.specs.declared.voices.VoiceState.the-variants.{Tracked, Loose}
 use Rattle.model.specs.Model.{Model}
 use Rattle.model.specs.Call.{Call, Answer}
 use Rattle.model.specs.Call as call
-use Rattle.model.specs.Scene.{config, upTo, small, host, spawn, spawnLoose, sounds, spawned, notSpawned, after, asked, further, Seen, seen, voices, fading}
-use Rattle.model.specs.Desk.{withConfig}
+use Rattle.model.specs.Scene.{config, upTo, small, host, spawn, spawnLoose, sounds, spawned, notSpawned, after, asked, further, FoundNode, seen, voices, fading}
+use Rattle.model.specs.SharedState.{withConfig}
 
 -- ---- which voice goes: voices 1 and 2 sound through nodes 1 and 2, at budget; they are born at 0, the clock is 1
 abbrev two : StealPolicy → List Call → Model
 two p calls = further (spawn 0 ∷ []) (further calls (after (small 2 p) (host 4 ∷ spawn 0 ∷ spawn 0 ∷ call.render ∷ [])))
 
-abbrev firstGoes : List Seen
+abbrev firstGoes : List FoundNode
 firstGoes = seen 1 0 (fading 3 1 0 0) ∷ seen 2 1 Tracked ∷ seen 3 2 Tracked ∷ []
 
-abbrev secondGoes : List Seen
+abbrev secondGoes : List FoundNode
 secondGoes = seen 1 0 Tracked ∷ seen 2 1 (fading 3 1 0 0) ∷ seen 3 2 Tracked ∷ []
 
 -- Refuses: policies exchanged; one fixed victim.
@@ -85,7 +85,7 @@ at-budget = (refl, refl)
 
 -- Above it, which no calls make: one voice goes, not as many as are too many.
 abbrev lowered : Model → Model
-lowered m = record { desk = withConfig (upTo 1 Oldest) (m .desk); voices = m .voices }
+lowered m = record { shared = withConfig (upTo 1 Oldest) (m .shared); voices = m .voices }
 
 above-budget :
     voices (further (spawn 0 ∷ []) (lowered (after (upTo 3 Oldest) (host 4 ∷ spawn 0 ∷ spawn 0 ∷ spawn 0 ∷ []))))
@@ -100,7 +100,7 @@ unlimited = after (config Unlimited Oldest Global) (host 2 ∷ [])
 no-budget :
     (asked (spawn 0 ∷ spawn 0 ∷ spawn 0 ∷ []) unlimited ≡ spawned 1 ∷ spawned 2 ∷ notSpawned NoPort ∷ [])
     × (voices (further (spawn 0 ∷ spawn 0 ∷ spawn 0 ∷ []) unlimited) ≡ seen 1 0 Loose ∷ seen 2 1 Loose ∷ [])
-    × (further (spawn 0 ∷ spawn 0 ∷ spawn 0 ∷ []) unlimited .desk .steals .count ≡ 0)
+    × (further (spawn 0 ∷ spawn 0 ∷ spawn 0 ∷ []) unlimited .shared .steals .count ≡ 0)
 unfolding eq whole order walk released fed among count-up
 no-budget = (refl, refl, refl)
 

@@ -12,7 +12,7 @@ use Rattle.rank.specs.Order.{among, fed, released, walk, order, whole, count-up
 use Rattle.order.specs.Live.{risingFrom, liveNodes, liveIds, processingOrder}
 use Rattle.order.specs.Required.{any, lacks, lacking}
 use Rattle.order.specs.Prepare.{prepare}
-use Rattle.voice.specs.Steals.{Book, recordOf}
+use Rattle.voice.specs.Steals.{StealLog, recordOf}
 use Rattle.voice.specs.declared.policy.Budget.the-variants.{AtMost}
 use Rattle.voice.specs.declared.policy.BudgetScope.the-variants.{PerGroup}
 use Rattle.voice.specs.declared.policy.Level.the-variants.{Unknown, Known}
@@ -25,7 +25,7 @@ use Rattle.model.specs.Call.{Call}
 use Rattle.model.specs.Call as call
 use Rattle.model.specs.Scene.{config, upTo, small, float, host, sink, wire, spawn, spawnLoose, free, sounds, loud, spawned, notSpawned, after, asked, further, seen, voices, fading}
 
-abbrev book : ℕ → List StealRecord → Book
+abbrev book : ℕ → List StealRecord → StealLog
 book n l = record { count = n; newest = l }
 
 -- ---- Budget 1, one port: the fade begun by this very spawn is reclaimed; its record, written uncut, is marked cut.
@@ -36,11 +36,11 @@ one = after (upTo 1 Oldest) (host 1 ∷ spawn 0 ∷ [])
 own-fade :
     (asked (spawn 0 ∷ []) one ≡ spawned 2 ∷ [])
     × (voices (further (spawn 0 ∷ []) one) ≡ seen 2 0 Tracked ∷ [])
-    × (further (spawn 0 ∷ []) one .desk .steals ≡ book 1 (recordOf 0 Unknown true ∷ []))
+    × (further (spawn 0 ∷ []) one .shared .steals ≡ book 1 (recordOf 0 Unknown true ∷ []))
 unfolding eq whole order walk released fed among count-up
 own-fade = (refl, refl, refl)
 
--- ---- Two ports, budget 2, `Oldest`; two spawns; the host takes both ports; a spawn gives 12, both voices gone, two cut records.
+-- ---- Two ports, budget 2, `Oldest`; two spawns; the host takes both ports; a spawn gives 12, both voices withoutVoice, two cut records.
 -- Refuses: a reclaim that asks for a port; a search that stops at the first voice that frees none.
 abbrev taken : Model
 taken = after (upTo 2 Oldest) (host 2 ∷ host 0 ∷ spawn 0 ∷ spawn 0 ∷ wire 1 0 0 ∷ wire 1 0 1 ∷ [])
@@ -48,7 +48,7 @@ taken = after (upTo 2 Oldest) (host 2 ∷ host 0 ∷ spawn 0 ∷ spawn 0 ∷ wir
 emptied :
     (asked (spawn 0 ∷ []) taken ≡ notSpawned NoPort ∷ [])
     × (voices (further (spawn 0 ∷ []) taken) ≡ [])
-    × (further (spawn 0 ∷ []) taken .desk .steals ≡ book 2 (recordOf 0 Unknown true ∷ recordOf 0 Unknown true ∷ []))
+    × (further (spawn 0 ∷ []) taken .shared .steals ≡ book 2 (recordOf 0 Unknown true ∷ recordOf 0 Unknown true ∷ []))
 unfolding eq whole order walk released fed among count-up
 emptied = (refl, refl, refl)
 
@@ -60,9 +60,9 @@ unfed calls = after (small 2 Oldest) (host 4 ∷ host 0 ∷ spawn 0 ∷ spawn 0 
 
 cannot-fade :
     (voices (unfed (wire 1 0 0 ∷ [])) ≡ seen 2 1 Tracked ∷ seen 3 2 Tracked ∷ [])
-    × (unfed (wire 1 0 0 ∷ []) .desk .steals ≡ book 1 (recordOf 1 (Known (inf false)) true ∷ []))
+    × (unfed (wire 1 0 0 ∷ []) .shared .steals ≡ book 1 (recordOf 1 (Known (inf false)) true ∷ []))
     × (voices (unfed []) ≡ seen 1 0 (fading 4 1 0 0) ∷ seen 2 1 Tracked ∷ seen 3 2 Tracked ∷ [])
-    × (unfed [] .desk .steals ≡ book 1 (recordOf 1 (Known (inf false)) false ∷ []))
+    × (unfed [] .shared .steals ≡ book 1 (recordOf 1 (Known (inf false)) false ∷ []))
 unfolding eq levelOf squares rootOf sqrt narrow add mul div ofInt ofBits whole order walk released fed among count-up
 cannot-fade = (refl, refl, refl, refl)
 
@@ -76,7 +76,7 @@ starts =
 earliest-first :
     (voices starts ≡ seen 1 0 (fading 5 2 0 1) ∷ seen 2 1 (fading 3 1 0 0) ∷ seen 3 2 Tracked ∷ seen 4 3 Tracked ∷ [])
     × (voices (further (spawn 0 ∷ []) starts) ≡ seen 1 0 (fading 5 2 0 1) ∷ seen 3 2 (fading 7 2 0 2) ∷ seen 4 3 Tracked ∷ seen 5 1 Tracked ∷ [])
-    × (further (spawn 0 ∷ []) starts .desk .steals
+    × (further (spawn 0 ∷ []) starts .shared .steals
     ≡ book 3 (recordOf 1 (Known (float 0)) true ∷ recordOf 2 (Known (float 3)) false ∷ recordOf 2 (Known (inf false)) false ∷ []))
 unfolding eq lt le levelOf squares rootOf sqrt narrow add mul div ofInt ofBits whole order walk released fed among count-up
 earliest-first = (refl, refl, refl)
@@ -89,7 +89,7 @@ ties =
 ties-by-order :
     (voices ties ≡ seen 1 0 (fading 5 1 0 1) ∷ seen 2 1 (fading 3 1 0 0) ∷ seen 3 2 Tracked ∷ seen 4 3 Tracked ∷ [])
     × (voices (further (spawn 0 ∷ []) ties) ≡ seen 2 1 (fading 3 1 0 0) ∷ seen 3 2 (fading 7 1 0 2) ∷ seen 4 3 Tracked ∷ seen 5 0 Tracked ∷ [])
-    × (further (spawn 0 ∷ []) ties .desk .steals
+    × (further (spawn 0 ∷ []) ties .shared .steals
     ≡ book 3 (recordOf 1 (Known (float 0)) false ∷ recordOf 1 (Known (inf false)) true ∷ recordOf 1 Unknown false ∷ []))
 unfolding eq lt le levelOf squares rootOf sqrt narrow add mul div ofInt ofBits whole order walk released fed among count-up
 ties-by-order = (refl, refl, refl)
@@ -99,7 +99,7 @@ ties-by-order = (refl, refl, refl)
 -- Refuses: the policy's victim among all voices; a loose victim; an uncut record; the admission's victim only.
 tracked-goes :
     (voices (after (upTo 9 Oldest) (host 1 ∷ host 2 ∷ spawn 0 ∷ spawnLoose 1 ∷ spawn 1 ∷ spawn 1 ∷ [])) ≡ seen 1 0 Tracked ∷ seen 2 0 Loose ∷ seen 4 1 Tracked ∷ [])
-    × (after (upTo 9 Oldest) (host 1 ∷ host 2 ∷ spawn 0 ∷ spawnLoose 1 ∷ spawn 1 ∷ spawn 1 ∷ []) .desk .steals ≡ book 1 (recordOf 0 Unknown true ∷ []))
+    × (after (upTo 9 Oldest) (host 1 ∷ host 2 ∷ spawn 0 ∷ spawnLoose 1 ∷ spawn 1 ∷ spawn 1 ∷ []) .shared .steals ≡ book 1 (recordOf 0 Unknown true ∷ []))
     × (voices (after (upTo 9 Newest) (host 2 ∷ spawn 0 ∷ spawn 0 ∷ spawn 0 ∷ [])) ≡ seen 1 0 Tracked ∷ seen 3 1 Tracked ∷ [])
 unfolding eq whole order walk released fed among count-up
 tracked-goes = (refl, refl, refl)
@@ -117,7 +117,7 @@ quiet a b = after (small 9 Quietest) (host 2 ∷ spawn 0 ∷ spawn 0 ∷ call.re
 quietest-goes :
     (voices (quiet 3 1) ≡ seen 1 0 Tracked ∷ seen 3 1 Tracked ∷ [])
     × (voices (quiet 1 3) ≡ seen 2 1 Tracked ∷ seen 3 0 Tracked ∷ [])
-    × (quiet 3 1 .desk .steals ≡ book 1 (recordOf 1 (Known (float 1)) true ∷ []))
+    × (quiet 3 1 .shared .steals ≡ book 1 (recordOf 1 (Known (float 1)) true ∷ []))
 unfolding eq lt le levelOf squares rootOf sqrt narrow add mul div ofInt ofBits whole order walk released fed among count-up
 quietest-goes = (refl, refl, refl)
 
@@ -132,7 +132,7 @@ other-bus = refl
 -- next spawn reclaims voice 1, which frees none, then its own fade. Refuses: reclaiming only fades that hold a port.
 portless :
     (voices (after (upTo 1 Oldest) (host 2 ∷ host 0 ∷ spawn 0 ∷ spawn 0 ∷ wire 1 0 0 ∷ spawn 0 ∷ [])) ≡ seen 3 1 Tracked ∷ [])
-    × (after (upTo 1 Oldest) (host 2 ∷ host 0 ∷ spawn 0 ∷ spawn 0 ∷ wire 1 0 0 ∷ spawn 0 ∷ []) .desk .steals
+    × (after (upTo 1 Oldest) (host 2 ∷ host 0 ∷ spawn 0 ∷ spawn 0 ∷ wire 1 0 0 ∷ spawn 0 ∷ []) .shared .steals
     ≡ book 2 (recordOf 0 Unknown true ∷ recordOf 0 Unknown true ∷ []))
 unfolding eq whole order walk released fed among count-up
 portless = (refl, refl)
@@ -145,7 +145,7 @@ over = after (upTo 1 Oldest) (host 2 ∷ sink 0 ∷ spawn 0 ∷ spawn 0 ∷ call
 ended-reclaimed :
     (voices over ≡ seen 1 0 (fading 2 0 48 0) ∷ seen 2 1 Tracked ∷ [])
     × (voices (further (spawn 0 ∷ []) over) ≡ seen 2 1 (fading 4 48 0 1) ∷ seen 3 0 Tracked ∷ [])
-    × (further (spawn 0 ∷ []) over .desk .steals .newest ≡ recordOf 0 Unknown true ∷ recordOf 48 (Known (ofBits binary32 0)) false ∷ [])
+    × (further (spawn 0 ∷ []) over .shared .steals .newest ≡ recordOf 0 Unknown true ∷ recordOf 48 (Known (ofBits binary32 0)) false ∷ [])
 unfolding eq prepare processingOrder lacking lacks any liveIds liveNodes risingFrom whole order walk released fed among count-up
 ended-reclaimed = (refl, refl, refl)
 
@@ -158,7 +158,7 @@ unfolding eq whole order walk released fed among count-up
 nobody-goes = (refl, refl, refl)
 
 -- ---- A free marks no record cut. Refuses: a mark for every fade that leaves.
-free-marks-none : after (upTo 1 Oldest) (host 2 ∷ spawn 0 ∷ spawn 0 ∷ free 1 ∷ []) .desk .steals ≡ book 1 (recordOf 0 Unknown false ∷ [])
+free-marks-none : after (upTo 1 Oldest) (host 2 ∷ spawn 0 ∷ spawn 0 ∷ free 1 ∷ []) .shared .steals ≡ book 1 (recordOf 0 Unknown false ∷ [])
 unfolding eq whole order walk released fed among count-up
 free-marks-none = refl
 
@@ -172,6 +172,6 @@ bus-removed :
     (voices busless ≡ seen 1 0 (fading 3 0 16 0) ∷ seen 2 1 Tracked ∷ [])
     × (asked (spawn 1 ∷ spawn 1 ∷ []) busless ≡ spawned 3 ∷ spawned 4 ∷ [])
     × (voices (further (spawn 1 ∷ spawn 1 ∷ []) busless) ≡ seen 1 0 (fading 3 0 16 0) ∷ seen 4 0 Tracked ∷ [])
-    × (further (spawn 1 ∷ []) busless .desk .steals .newest ≡ recordOf 0 Unknown false ∷ recordOf 16 (Known (ofBits binary32 0)) true ∷ [])
+    × (further (spawn 1 ∷ []) busless .shared .steals .newest ≡ recordOf 0 Unknown false ∷ recordOf 16 (Known (ofBits binary32 0)) true ∷ [])
 unfolding eq prepare processingOrder lacking lacks any liveIds liveNodes risingFrom whole order walk released fed among count-up
 bus-removed = (refl, refl, refl, refl)

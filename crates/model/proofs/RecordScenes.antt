@@ -26,16 +26,16 @@ abbrev many : ℕ → Model
 many n = further (spawn 0 ∷ []) (after (config (AtMost 1) Oldest PerGroup) (host 2 ∷ host 2 ∷ spawn 0 ∷ spawn 0 ∷ spawn 1 ∷ steals n 3))
 
 abbrev marks : Model → List Bool
-marks m = map (λ r. r .cut) (m .desk .steals .newest)
+marks m = map (λ r. r .cut) (m .shared .steals .newest)
 
 -- 64 in all: record 0 is the oldest that is held, and is marked. Refuses: held only if its number is above the total less 64.
-still-held : (many 62 .desk .steals .count ≡ 64) × (marks (many 62) ≡ true ∷ replicate 63 false)
+still-held : (many 62 .shared .steals .count ≡ 64) × (marks (many 62) ≡ true ∷ replicate 63 false)
 unfolding eq whole order walk released fed among count-up
 still-held = (refl, refl)
 
 -- 65 in all: record 0 is not held, and no other one is marked, though voice 1 goes. Refuses: held as counted before this spawn's
--- own record; the oldest held one marked instead; a fade that stays because its record is gone; more than 64 records kept.
-not-held : (many 63 .desk .steals .count ≡ 65) × (marks (many 63) ≡ replicate 64 false)
+-- own record; the oldest held one marked instead; a fade that stays because its record is withoutVoice; more than 64 records kept.
+not-held : (many 63 .shared .steals .count ≡ 65) × (marks (many 63) ≡ replicate 64 false)
 unfolding eq whole order walk released fed among count-up
 not-held = (refl, refl)
 

@@ -30,7 +30,7 @@ use Rattle.model.specs.Call as call
 use Rattle.model.specs.Scene.{upTo, plain, toneDef, float, host, sink, wire, unwire, spawn, spawnLoose, after, asked, edge, tones, defEdge}
 use Rattle.model.specs.Spawn.{spawnOf}
 use Rattle.model.specs.Numbers.{numberIn}
-use Rattle.model.specs.Desk.{withSpawned, withGraph}
+use Rattle.model.specs.SharedState.{withSpawned, withGraph}
 
 abbrev numbers : List Call → Model → List (Option ℕ)
 numbers calls m = map numberIn (asked calls m)
@@ -64,7 +64,7 @@ idle = withId 7 (hostNode (bytes "Bus") 0 0 false false)
 
 abbrev crowded : ℕ → ℕ → ℕ → ℕ → Model → Model
 crowded nodes edges next spawned m =
-    let d = m .desk in
+    let d = m .shared in
     let g = d .graph in
     let more : GraphView = record {
       nodes = g .nodes ++ replicate nodes idle;
@@ -74,7 +74,7 @@ crowded nodes edges next spawned m =
       order = g .order;
       next = next;
     } in
-    record { desk = withSpawned spawned (withGraph more d); voices = m .voices }
+    record { shared = withSpawned spawned (withGraph more d); voices = m .voices }
 
 -- ---- host nodes: node 0 has 2 ports, node 1 none, node 2 is a voice's, node 3 is dead, node 9 unknown
 abbrev wired : Model
@@ -182,7 +182,7 @@ copies n (v ∷ vs) = replicate n v
 abbrev crowd : ℕ → Model
 crowd n =
     let m = after (upTo 1 Oldest) (host 2 ∷ spawn 0 ∷ []) in
-    record { desk = m .desk; voices = copies n (m .voices) }
+    record { shared = m .shared; voices = copies n (m .voices) }
 
 voices-full : (numbers (spawnLoose 0 ∷ spawnLoose 0 ∷ spawn 0 ∷ []) (crowd 63) ≡ none ∷ some 7 ∷ some 7 ∷ [])
 unfolding eq whole order walk released fed among count-up

@@ -8,7 +8,7 @@ use mathlib.Core.Option.{Option, none, some}
 use mathlib.Core.Bool.{Bool, true, false, not, cond}
 use lib.Dec.{eqb}
 use lib.ListN.{length}
-use Rattle.lists.specs.Member.{some-inj, none-some}
+use Rattle.lists.proofs.Member.{some-inj, none-some}
 use Rattle.lists.specs.Find.{find}
 use Rattle.node.specs.declared.record.NodeId.{NodeId}
 use Rattle.node.specs.Refusal.{numberOf}
@@ -29,13 +29,13 @@ use Rattle.store.specs.declared.answer.Spawned.the-variants as Spawned
 use Rattle.store.specs.declared.voices.Voice.{Voice}
 use Rattle.store.specs.declared.voices.VoiceState.{VoiceState}
 use Rattle.store.specs.declared.voices.VoiceState.the-variants.{Loose}
-use Rattle.model.specs.Desk.{Desk, sounding}
+use Rattle.model.specs.SharedState.{SharedState, sounding}
 use Rattle.model.specs.Voice.{isVoice}
 use Rattle.model.specs.Refuse.{orElse, noHeadroom, noIds, spawnRefusal, reportRefusal}
 use Rattle.model.specs.Spawn.{tries, stateUnder, nextOut, Spawn}
-use Rattle.model.specs.Model.{Model, cutOff, stealVoice, portFree, landOr, place, stealThen, admitted, admissionOn, Landed}
+use Rattle.model.specs.Model.{Model, cutOff, stealVoice, portFree, instantiateOr, place, stealThen, admitted, admissionOn, SpawnResult}
 use Rattle.model.specs.Model as store
-use Rattle.model.specs.Render.{prepareOutcome, prepareDesk, readyDesk, heard, answerAfter, preparedIf, anyFree, due, rested, happenAll, clockEnds, render}
+use Rattle.model.specs.Render.{prepareOutcome, prepareShared, readyShared, heard, answerAfter, preparedIf, anyFree, due, rested, applyEvents, clockEnds, render}
 use Rattle.model.specs.Call.{Call, Answer, Step, unless, step, readyAnswer, scheduleRefusal}
 use Rattle.model.specs.Call as call
 
@@ -89,11 +89,11 @@ reclaimsOr (some v) m again = again (cutOff v (v .state) m)
 
 abbrev pub reclaims : ℕ → NodeId → Model → Model
 reclaims zero bus m = m
-reclaims (suc fuel) bus m = reclaimsOr (nextOut (m .desk) bus (m .voices)) m (λ k. reclaims fuel bus k)
+reclaims (suc fuel) bus m = reclaimsOr (nextOut (m .shared) bus (m .voices)) m (λ k. reclaims fuel bus k)
 
 -- without a budget none
 abbrev pub allReclaims : NodeId → Model → Model
-allReclaims bus m = reclaims (tries (m .desk .config .budget) (m .voices)) bus m
+allReclaims bus m = reclaims (tries (m .shared .config .budget) (m .voices)) bus m
 
 -- a managed spawn that gives 12: the steal and all reclaims; an unmanaged one: nothing
 abbrev pub leftByNoPort : Call → Model → Model
@@ -123,15 +123,15 @@ module _ (spawn : Spawn) (s : VoiceState) where
       → (r ≡ NoPort) × (place fuel spawn s m .model ≡ reclaims fuel (spawn .bus) m)
   place-left zero m r h = go (portFree (spawn .bus) m) h
     where
-      go : (o : Option ℕ) → notSpawned (landOr o none spawn s m (store.refused NoPort) .answer) ≡ some r
-          → (r ≡ NoPort) × (landOr o none spawn s m (store.refused NoPort) .model ≡ m)
+      go : (o : Option ℕ) → notSpawned (instantiateOr o none spawn s m (store.refused NoPort) .answer) ≡ some r
+          → (r ≡ NoPort) × (instantiateOr o none spawn s m (store.refused NoPort) .model ≡ m)
       go none e = (sym (some-inj e), refl)
       go (some p) e = absurd (none-some e)
-  place-left (suc fuel) m r h = go (portFree (spawn .bus) m) (nextOut (m .desk) (spawn .bus) (m .voices)) h (λ k. place-left fuel k r)
+  place-left (suc fuel) m r h = go (portFree (spawn .bus) m) (nextOut (m .shared) (spawn .bus) (m .voices)) h (λ k. place-left fuel k r)
     where
-      go : (o : Option ℕ) (v : Option Voice) → notSpawned (landOr o v spawn s m (λ k. place fuel spawn s k) .answer) ≡ some r
+      go : (o : Option ℕ) (v : Option Voice) → notSpawned (instantiateOr o v spawn s m (λ k. place fuel spawn s k) .answer) ≡ some r
           → ((k : Model) → notSpawned (place fuel spawn s k .answer) ≡ some r → (r ≡ NoPort) × (place fuel spawn s k .model ≡ reclaims fuel (spawn .bus) k))
-          → (r ≡ NoPort) × (landOr o v spawn s m (λ k. place fuel spawn s k) .model ≡ reclaimsOr v m (λ k. reclaims fuel (spawn .bus) k))
+          → (r ≡ NoPort) × (instantiateOr o v spawn s m (λ k. place fuel spawn s k) .model ≡ reclaimsOr v m (λ k. reclaims fuel (spawn .bus) k))
       go none none e ih = (sym (some-inj e), refl)
       go none (some v) e ih = ih (cutOff v (v .state) m) e
       go (some p) v e ih = absurd (none-some e)
@@ -142,16 +142,16 @@ module _ (spawn : Spawn) (m : Model) where
       → ((r ≡ NoPort) × (admitted a spawn m .model ≡ allReclaims (spawn .bus) (admissionLeaves a m)))
       ⊎ ((r ≡ Rejected) × (admitted a spawn m .model ≡ m))
   admitted-left admission.Admit r h =
-      inl (place-left spawn (stateUnder (m .desk .config .budget)) (tries (m .desk .config .budget) (m .voices)) m r h)
+      inl (place-left spawn (stateUnder (m .shared .config .budget)) (tries (m .shared .config .budget) (m .voices)) m r h)
   admitted-left admission.Reject r h = inr (sym (some-inj h), refl)
   admitted-left (admission.Steal place w) r h = inl (go (find (isVoice w) (m .voices)) h)
     where
       go : (o : Option Voice) → notSpawned (stealThen o spawn m .answer) ≡ some r
           → (r ≡ NoPort) × (stealThen o spawn m .model ≡ allReclaims (spawn .bus) (stolenIf o m))
-      go none e = place-left spawn (stateUnder (m .desk .config .budget)) (tries (m .desk .config .budget) (m .voices)) m r e
+      go none e = place-left spawn (stateUnder (m .shared .config .budget)) (tries (m .shared .config .budget) (m .voices)) m r e
       go (some v) e =
           let k = stealVoice v m in
-          place-left spawn (stateUnder (k .desk .config .budget)) (tries (k .desk .config .budget) (k .voices)) k r e
+          place-left spawn (stateUnder (k .shared .config .budget)) (tries (k .shared .config .budget) (k .voices)) k r e
 
 -- ---- the table's refusals are none of them 12
 abbrev pub is12 : Option Refusal → Bool
@@ -162,7 +162,7 @@ when-not : (b : Bool) (q : Refusal) (rest : Option Refusal) → is12 (some q) �
 when-not true q rest h k = h
 when-not false q rest h k = k
 
-pub spawn-not : (d : Desk) (vs : List Voice) (def : SynthDef) (bus : NodeId) → is12 (spawnRefusal d vs def bus) ≡ false
+pub spawn-not : (d : SharedState) (vs : List Voice) (def : SynthDef) (bus : NodeId) → is12 (spawnRefusal d vs def bus) ≡ false
 spawn-not d vs def bus =
     when-not (not (allowed def)) DefinitionLimits _ refl
     (or-not (hostRefusal (d .graph) bus) _
@@ -179,29 +179,29 @@ unless-left : (o : Option Refusal) (m : Model) (s : Step) (r : Refusal) → refu
 unless-left none m s r n h = absurd (none-some (sym n ∙ h))
 unless-left (some q) m s r n h = refl
 
-ready-left : (a : Readiness) (l : List NodeId) (d : Desk) (r : Refusal) → refusalIn (readyAnswer a) ≡ some r → readyDesk a l d ≡ d
+ready-left : (a : Readiness) (l : List NodeId) (d : SharedState) (r : Refusal) → refusalIn (readyAnswer a) ≡ some r → readyShared a l d ≡ d
 ready-left Readiness.Ready l d r h = absurd (none-some h)
 ready-left (Readiness.Refused q) l d r h = refl
 
 render-left : (m : Model) (r : Refusal) → notRendered (render m .answer) ≡ some r → render m .model ≡ m
-render-left m r h = go (clockEnds (m .desk)) (anyFree (due (m .desk))) h
+render-left m r h = go (clockEnds (m .shared)) (anyFree (due (m .shared))) h
   where
     heard-not : (b : Bool) → notRendered (heard b) ≡ none
     heard-not true = refl
     heard-not false = refl
 
-    after-not : (a : Readiness) (d : Desk) → notRendered (answerAfter a d) ≡ none
+    after-not : (a : Readiness) (d : SharedState) → notRendered (answerAfter a d) ≡ none
     after-not Readiness.Ready d = heard-not (sounding d)
     after-not (Readiness.Refused q) d = refl
 
     inside-not : (f : Bool) (k : Model) → notRendered (preparedIf f k .answer) ≡ none
-    inside-not true k = after-not (prepareOutcome (k .desk) .answer) (prepareDesk (k .desk))
-    inside-not false k = heard-not (sounding (k .desk))
+    inside-not true k = after-not (prepareOutcome (k .shared) .answer) (prepareShared (k .shared))
+    inside-not false k = heard-not (sounding (k .shared))
 
-    go : (b f : Bool) → notRendered (cond b (record { answer = Rendered.Refused ClockEnd; model = m }) (preparedIf f (happenAll (due (m .desk)) (rested m))) .answer) ≡ some r
-        → cond b (record { answer = Rendered.Refused ClockEnd; model = m }) (preparedIf f (happenAll (due (m .desk)) (rested m))) .model ≡ m
+    go : (b f : Bool) → notRendered (cond b (record { answer = Rendered.Refused ClockEnd; model = m }) (preparedIf f (applyEvents (due (m .shared)) (rested m))) .answer) ≡ some r
+        → cond b (record { answer = Rendered.Refused ClockEnd; model = m }) (preparedIf f (applyEvents (due (m .shared)) (rested m))) .model ≡ m
     go true f e = refl
-    go false f e = absurd (none-some (sym (inside-not f (happenAll (due (m .desk)) (rested m))) ∙ e))
+    go false f e = absurd (none-some (sym (inside-not f (applyEvents (due (m .shared)) (rested m))) ∙ e))
 
 -- ---- the theorem
 -- where 12 would leave nothing either
@@ -214,9 +214,9 @@ same-left r m k e = go (eqb (numberOf r) 12)
 
 managed-left : (x : Spawn) (m : Model) (r : Refusal) → notSpawned (store.spawnManaged x m .answer) ≡ some r
     → store.spawnManaged x m .model ≡ cond (eqb (numberOf r) 12) (allReclaims (x .bus) (admissionLeaves (admissionOn (x .bus) m) m)) m
-managed-left x m r h = go (spawnRefusal (m .desk) (m .voices) (x .def) (x .bus)) (spawn-not (m .desk) (m .voices) (x .def) (x .bus)) h
+managed-left x m r h = go (spawnRefusal (m .shared) (m .voices) (x .def) (x .bus)) (spawn-not (m .shared) (m .voices) (x .def) (x .bus)) h
   where
-    admits : Landed
+    admits : SpawnResult
     admits = admitted (admissionOn (x .bus) m) x m
 
     go : (o : Option Refusal) → is12 o ≡ false → notSpawned (store.unless o m admits .answer) ≡ some r
@@ -225,7 +225,7 @@ managed-left x m r h = go (spawnRefusal (m .desk) (m .voices) (x .def) (x .bus))
     go none n e = ⊎-elim (λ p. rw (p .0) (p .1)) (λ p. rw (p .0) (p .1)) (admitted-left x m (admissionOn (x .bus) m) r e)
 
 loose-left : (x : Spawn) (m : Model) (r : Refusal) → notSpawned (store.spawnLoose x m .answer) ≡ some r → store.spawnLoose x m .model ≡ m
-loose-left x m r h = go (spawnRefusal (m .desk) (m .voices) (x .def) (x .bus)) h
+loose-left x m r h = go (spawnRefusal (m .shared) (m .voices) (x .def) (x .bus)) h
   where
     go : (o : Option Refusal) → notSpawned (store.unless o m (place 0 x Loose m) .answer) ≡ some r
         → store.unless o m (place 0 x Loose m) .model ≡ m
@@ -234,21 +234,21 @@ loose-left x m r h = go (spawnRefusal (m .desk) (m .voices) (x .def) (x .bus)) h
 
 -- whatever the call and the model: a refused call leaves the model as it was, and 12 the steals and reclaims made
 pub refused-leaves : (c : Call) (m : Model) (r : Refusal) → refusalIn (step c m .answer) ≡ some r → step c m .model ≡ left r c m
-refused-leaves (call.addNode kind ports required values glides) m r h = same-left r m _ (unless-left (addRefusal (m .desk .graph) kind ports required) m _ r refl h)
-refused-leaves (call.removeNode k) m r h = same-left r m _ (unless-left (hostRefusal (m .desk .graph) k) m _ r refl h)
-refused-leaves (call.connect a b p) m r h = same-left r m _ (unless-left (connectRefusal (m .desk .graph) a b p) m _ r refl h)
-refused-leaves (call.disconnect b p) m r h = same-left r m _ (unless-left (disconnectRefusal (m .desk .graph) b p) m _ r refl h)
-refused-leaves (call.setSink k) m r h = same-left r m _ (unless-left (hostRefusal (m .desk .graph) k) m _ r refl h)
+refused-leaves (call.addNode kind ports required values glides) m r h = same-left r m _ (unless-left (addRefusal (m .shared .graph) kind ports required) m _ r refl h)
+refused-leaves (call.removeNode k) m r h = same-left r m _ (unless-left (hostRefusal (m .shared .graph) k) m _ r refl h)
+refused-leaves (call.connect a b p) m r h = same-left r m _ (unless-left (connectRefusal (m .shared .graph) a b p) m _ r refl h)
+refused-leaves (call.disconnect b p) m r h = same-left r m _ (unless-left (disconnectRefusal (m .shared .graph) b p) m _ r refl h)
+refused-leaves (call.setSink k) m r h = same-left r m _ (unless-left (hostRefusal (m .shared .graph) k) m _ r refl h)
 refused-leaves (call.spawnManaged x) m r h = managed-left x m r h
 refused-leaves (call.spawnLoose x) m r h = same-left r m _ (loose-left x m r h)
 refused-leaves (call.free w) m r h = absurd (none-some h)
 refused-leaves call.clear m r h = absurd (none-some h)
 refused-leaves (call.order w name o) m r h = absurd (none-some h)
-refused-leaves (call.schedule t w name a) m r h = same-left r m _ (unless-left (scheduleRefusal (m .desk .events)) m _ r refl h)
+refused-leaves (call.schedule t w name a) m r h = same-left r m _ (unless-left (scheduleRefusal (m .shared .events)) m _ r refl h)
 refused-leaves (call.report k channels samples flag) m r h =
-    same-left r m _ (unless-left (reportRefusal (m .desk) (m .voices) k channels (length samples)) m _ r refl h)
+    same-left r m _ (unless-left (reportRefusal (m .shared) (m .voices) k channels (length samples)) m _ r refl h)
 refused-leaves call.prepare m r h =
-    same-left r m _ (ap (λ d. record { desk = d; voices = m .voices }) (ready-left (prepareOutcome (m .desk) .answer) (prepareOutcome (m .desk) .order) (m .desk) r h))
+    same-left r m _ (ap (λ d. record { shared = d; voices = m .voices }) (ready-left (prepareOutcome (m .shared) .answer) (prepareOutcome (m .shared) .order) (m .shared) r h))
 refused-leaves call.render m r h = same-left r m _ (render-left m r h)
 refused-leaves (call.ask q) m r h = same-left r m _ refl
 

@@ -31,7 +31,7 @@ use Rattle.model.specs.Call.{fed, stolen, found}
 use Rattle.model.specs.Call as call
 use Rattle.model.specs.Scene.{upTo, plain, toneDef, host, wire, spawn, spawnLoose, free, voice, notSpawned, after, asked, further, edge, seen, voices, fading, defEdge}
 use Rattle.model.specs.Spawn.{spawnOf}
-use Rattle.model.specs.Desk.{withSequence}
+use Rattle.model.specs.SharedState.{withSequence}
 
 -- ---- a definition of three nodes. Its edges: 0 to port 0 of 2, 1 to port 1 of 2, 1 to port 0 of 2, which counts
 abbrev mix : DefNode
@@ -68,12 +68,12 @@ abbrev made : ℕ → ℕ → String → ℕ → ℕ → Made
 made k w s p r = record { id = k; owner = w; kind = name s; ports = p; required = r }
 
 abbrev nodes : Model → List Made
-nodes m = map (λ n. record { id = n .id .0; owner = n .owner .0; kind = n .kind; ports = n .ports; required = n .required }) (m .desk .graph .nodes)
+nodes m = map (λ n. record { id = n .id .0; owner = n .owner .0; kind = n .kind; ports = n .ports; required = n .required }) (m .shared .graph .nodes)
 
 -- ---- a panned spawn that steals: the fade's node first, with the edges feeder to fade and fade to bus, which replaces the
 -- feeder's; then the definition's nodes, the constant and the pan node; then the counted edges in the order of their last
 -- occurrence, output to pan, constant to pan, pan to bus.
--- Refuses: the fade after the newcomer's nodes; the pan node before the constant; an edge of the definition that does not count;
+-- Refuses: the fade after the new voice's nodes; the pan node before the constant; an edge of the definition that does not count;
 -- a fade that takes another port than the victim's.
 abbrev panned : Model
 panned = after (upTo 1 Oldest) (host 2 ∷ spawn 0 ∷ call.spawnManaged (spawnOf threeDef (id 0) nan) ∷ [])
@@ -82,7 +82,7 @@ created :
     (nodes panned ≡
     made 0 0 "Bus" 2 0 ∷ made 1 1 "Tone" 0 0 ∷ made 2 1 "StealFade" 1 1 ∷ made 3 2 "Tone" 0 0 ∷ made 4 2 "Tone" 0 0 ∷ made 5 2 "Mix" 2 0
     ∷ made 6 2 "Const" 0 0 ∷ made 7 2 "Pan2" 2 1 ∷ [])
-    × (panned .desk .graph .edges ≡ edge 1 2 0 ∷ edge 2 0 0 ∷ edge 4 5 1 ∷ edge 4 5 0 ∷ edge 5 7 0 ∷ edge 6 7 1 ∷ edge 7 0 1 ∷ [])
+    × (panned .shared .graph .edges ≡ edge 1 2 0 ∷ edge 2 0 0 ∷ edge 4 5 1 ∷ edge 4 5 0 ∷ edge 5 7 0 ∷ edge 6 7 1 ∷ edge 7 0 1 ∷ [])
 unfolding eq whole order walk released rank.fed among count-up
 created = (refl, refl)
 
@@ -96,14 +96,14 @@ read = refl
 
 -- The pan node feeds the bus, so the fade of a panned voice stands behind it. Refuses: a fade behind the output node.
 behind-pan :
-    further (spawn 0 ∷ []) (after (upTo 1 Oldest) (host 2 ∷ call.spawnManaged (spawnOf toneDef (id 0) nan) ∷ [])) .desk .graph .edges
+    further (spawn 0 ∷ []) (after (upTo 1 Oldest) (host 2 ∷ call.spawnManaged (spawnOf toneDef (id 0) nan) ∷ [])) .shared .graph .edges
     ≡ edge 1 3 0 ∷ edge 2 3 1 ∷ edge 3 4 0 ∷ edge 4 0 0 ∷ edge 5 0 1 ∷ []
 unfolding eq whole order walk released rank.fed among count-up
 behind-pan = refl
 
 -- ---- "Pan is left out for +0 and -0; NaN pans", and so does every other number
 abbrev nextAfter : Float → ℕ
-nextAfter pan = after (upTo 1 Oldest) (host 1 ∷ call.spawnManaged (spawnOf toneDef (id 0) pan) ∷ []) .desk .graph .next
+nextAfter pan = after (upTo 1 Oldest) (host 1 ∷ call.spawnManaged (spawnOf toneDef (id 0) pan) ∷ []) .shared .graph .next
 
 pans-when : (nextAfter (fin false 0 (pos 0)) ≡ 2) × (nextAfter (fin true 0 (pos 0)) ≡ 2) × (nextAfter nan ≡ 4) × (nextAfter (fin true 1 (pos 0)) ≡ 4)
 unfolding eq whole order walk released rank.fed among count-up
@@ -124,7 +124,7 @@ pub record Counters : Type 0 where
   pub next : ℕ
 
 abbrev counters : Model → Counters
-counters m = record { spawned = m .desk .spawned; sequence = m .desk .sequence; next = m .desk .graph .next }
+counters m = record { spawned = m .shared .spawned; sequence = m .shared .sequence; next = m .shared .graph .next }
 
 abbrev at : ℕ → ℕ → ℕ → Counters
 at w q k = record { spawned = w; sequence = q; next = k }
@@ -138,7 +138,7 @@ unmoved :
 unfolding eq whole order walk released rank.fed among count-up
 unmoved = (refl, refl, refl, refl)
 
--- 12 with a steal: voice 1 fades on bus 0, whose newcomer finds no port on bus 1, which the host holds. The fade's node id is
+-- 12 with a steal: voice 1 fades on bus 0, whose newVoice finds no port on bus 1, which the host holds. The fade's node id is
 -- spent, voice id and sequence are not, and the graph is unprepared; the steal stands, its record uncut.
 abbrev twelve : Model
 twelve = after (upTo 1 Oldest) (host 1 ∷ host 1 ∷ host 0 ∷ wire 2 1 0 ∷ spawn 0 ∷ [])
@@ -148,14 +148,14 @@ moved :
     × (counters twelve ≡ at 1 1 4)
     × (counters (further (spawn 1 ∷ []) twelve) ≡ at 1 1 5)
     × (voices (further (spawn 1 ∷ []) twelve) ≡ seen 1 0 (fading 4 0 0 0) ∷ [])
-    × (further (spawn 1 ∷ []) twelve .desk .steals ≡ record { count = 1; newest = recordOf 0 Unknown false ∷ [] })
-    × (further (spawn 1 ∷ []) (further (call.prepare ∷ []) twelve) .desk .graph .prepared ≡ false)
+    × (further (spawn 1 ∷ []) twelve .shared .steals ≡ record { count = 1; newest = recordOf 0 Unknown false ∷ [] })
+    × (further (spawn 1 ∷ []) (further (call.prepare ∷ []) twelve) .shared .graph .prepared ≡ false)
 unfolding eq prepare processingOrder lacking lacks any liveIds liveNodes risingFrom whole order walk released rank.fed among count-up
 moved = (refl, refl, refl, refl, refl, refl)
 
 -- ---- the noise sequence wraps after 2^32 - 1, and a voice keeps the one that it was given
 abbrev late : Model
-late = record { desk = withSequence 4294967295 (newModel (upTo 9 Oldest) .desk); voices = [] }
+late = record { shared = withSequence 4294967295 (newModel (upTo 9 Oldest) .shared); voices = [] }
 
 wraps : map (λ v. v .sequence) (further (host 2 ∷ spawn 0 ∷ spawn 0 ∷ []) late .voices) ≡ 4294967295 ∷ 0 ∷ []
 unfolding eq whole order walk released rank.fed among count-up

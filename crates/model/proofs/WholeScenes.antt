@@ -25,7 +25,7 @@ use Rattle.order.specs.Required.{any, lacks, lacking}
 use Rattle.order.specs.Prepare.{prepare}
 use Rattle.graph.specs.View.{GraphView}
 use Rattle.scheduler.specs.declared.event.Event.{Event}
-use Rattle.voice.specs.Steals.{Book, recordOf}
+use Rattle.voice.specs.Steals.{StealLog, recordOf}
 use Rattle.voice.specs.declared.policy.Budget.the-variants.{AtMost}
 use Rattle.voice.specs.declared.policy.BudgetScope.the-variants.{PerGroup}
 use Rattle.voice.specs.declared.policy.Level.the-variants.{Known}
@@ -77,22 +77,22 @@ graph nodes edges out prepared order next =
     record { nodes = nodes; edges = edges; sink = out; prepared = prepared; order = map id order; next = next }
 
 -- graph, events, records, clock, voices; made as above, with one voice id and one number of the noise sequence for each spawn
-abbrev store : GraphView → List Event → Book → ℕ → ℕ → List Voice → Model
+abbrev store : GraphView → List Event → StealLog → ℕ → ℕ → List Voice → Model
 store g pending book time spawns vs =
     record {
-      desk = record { config = made; graph = g; events = pending; steals = book; clock = time; spawned = spawns; sequence = spawns };
+      shared = record { config = made; graph = g; events = pending; steals = book; clock = time; spawned = spawns; sequence = spawns };
       voices = vs;
     }
 
 -- the store m is the store n, field by field
 pub record Same (m n : Model) : Type 0 where
-  pub config : m .desk .config ≡ n .desk .config
-  pub graph : m .desk .graph ≡ n .desk .graph
-  pub events : m .desk .events ≡ n .desk .events
-  pub steals : m .desk .steals ≡ n .desk .steals
-  pub clock : m .desk .clock ≡ n .desk .clock
-  pub spawned : m .desk .spawned ≡ n .desk .spawned
-  pub sequence : m .desk .sequence ≡ n .desk .sequence
+  pub config : m .shared .config ≡ n .shared .config
+  pub graph : m .shared .graph ≡ n .shared .graph
+  pub events : m .shared .events ≡ n .shared .events
+  pub steals : m .shared .steals ≡ n .shared .steals
+  pub clock : m .shared .clock ≡ n .shared .clock
+  pub spawned : m .shared .spawned ≡ n .shared .spawned
+  pub sequence : m .shared .sequence ≡ n .shared .sequence
   pub voices : m .voices ≡ n .voices
 
 -- a node: id, voice, kind, ports, required ports, takes values, takes glides; then what calls change: done, level, last order
@@ -209,7 +209,7 @@ opened =
     (some (id 0)) true (2 ∷ 3 ∷ 5 ∷ 7 ∷ 8 ∷ 10 ∷ 4 ∷ 9 ∷ 6 ∷ 1 ∷ 0 ∷ []) 11)
     (valueAt ∷ freeAt ∷ []) (record { count = 0; newest = [] }) 2 3 (v1 Tracked ∷ v2 ∷ v3 ∷ [])
 
--- Refuses: a newcomer's birth, bus, port, nodes, output, pan, noise sequence, parameters or plan that are another's; a noise sequence that stands still for an
+-- Refuses: a new voice's birth, bus, port, nodes, output, pan, noise sequence, parameters or plan that are another's; a noise sequence that stands still for an
 -- unmanaged spawn; a definition's ports, required ports or sorts of orders lost or exchanged; the same of host nodes; a new node that is done or has an order;
 -- a constant or a pan node that takes orders; a call that resets another's part of the store.
 opens : Same (after made calls) opened
@@ -223,7 +223,7 @@ nodes key cut = fx ∷ bus ∷ voice1 key ++ (voice2 cut ++ (tone 10 3 ∷ fade1
 abbrev pub edges : List Edge
 edges = edge 1 0 1 ∷ edges1 ++ (edges2 ++ (edge 10 1 2 ∷ edge 6 11 0 ∷ edge 11 1 0 ∷ edge 12 1 3 ∷ []))
 
-abbrev pub one : Book
+abbrev pub one : StealLog
 one = record { count = 1; newest = recordOf 2 (Known (float 3)) false ∷ [] }
 
 abbrev pub fades : ℕ → VoiceState
@@ -276,19 +276,19 @@ unfolding eq levelOf squares rootOf sqrt narrow add mul div ofInt ofBits silence
 reports-again = record { config = refl; graph = refl; events = refl; steals = refl; clock = refl; spawned = refl; sequence = refl; voices = refl }
 
 -- ---- A clearing removes voice 1, which is silent through its `Key`; a free removes voice 2.
-abbrev gone : List Node → List Edge → List Voice → Model
-gone ns es vs = store (graph ns es (some (id 0)) false (2 ∷ 3 ∷ 5 ∷ 7 ∷ 8 ∷ 10 ∷ 12 ∷ 4 ∷ 9 ∷ 6 ∷ 11 ∷ 1 ∷ 0 ∷ []) 13) (valueAt ∷ freeAt ∷ []) one 3 4 vs
+abbrev withoutVoice : List Node → List Edge → List Voice → Model
+withoutVoice ns es vs = store (graph ns es (some (id 0)) false (2 ∷ 3 ∷ 5 ∷ 7 ∷ 8 ∷ 10 ∷ 12 ∷ 4 ∷ 9 ∷ 6 ∷ 11 ∷ 1 ∷ 0 ∷ []) 13) (valueAt ∷ freeAt ∷ []) one 3 4 vs
 
 -- Refuses: one that takes more or less than the voice's nodes with their edges; one that takes its record, the order or the events.
 clears :
     Same (further (call.clear ∷ []) (heard (key true 5 (value 7))))
-    (gone (fx ∷ bus ∷ voice2 LastOrder.Nothing ++ (tone 10 3 ∷ tone 12 4 ∷ [])) (edge 1 0 1 ∷ edges2 ++ (edge 10 1 2 ∷ edge 12 1 3 ∷ [])) (v2 ∷ v3 ∷ v4 ∷ []))
+    (withoutVoice (fx ∷ bus ∷ voice2 LastOrder.Nothing ++ (tone 10 3 ∷ tone 12 4 ∷ [])) (edge 1 0 1 ∷ edges2 ++ (edge 10 1 2 ∷ edge 12 1 3 ∷ [])) (v2 ∷ v3 ∷ v4 ∷ []))
 unfolding eq levelOf squares rootOf sqrt narrow add mul div ofInt ofBits silencePassThrough rules prepare processingOrder lacking lacks any liveIds liveNodes risingFrom whole order walk released fed among count-up settled
 clears = record { config = refl; graph = refl; events = refl; steals = refl; clock = refl; spawned = refl; sequence = refl; voices = refl }
 
 frees :
     Same (further (free 2 ∷ []) (heard key1))
-    (gone (fx ∷ bus ∷ voice1 key1 ++ (tone 10 3 ∷ fade1 ∷ tone 12 4 ∷ []))
+    (withoutVoice (fx ∷ bus ∷ voice1 key1 ++ (tone 10 3 ∷ fade1 ∷ tone 12 4 ∷ []))
     (edge 1 0 1 ∷ edges1 ++ (edge 10 1 2 ∷ edge 6 11 0 ∷ edge 11 1 0 ∷ edge 12 1 3 ∷ [])) (v1 (fades 1) ∷ v3 ∷ v4 ∷ []))
 unfolding eq levelOf squares rootOf sqrt narrow add mul div ofInt ofBits silencePassThrough rules prepare processingOrder lacking lacks any liveIds liveNodes risingFrom whole order walk released fed among count-up settled
 frees = record { config = refl; graph = refl; events = refl; steals = refl; clock = refl; spawned = refl; sequence = refl; voices = refl }

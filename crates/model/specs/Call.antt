@@ -26,7 +26,7 @@ use Rattle.order.specs.declared.Readiness.{Readiness}
 use Rattle.order.specs.declared.Readiness.the-variants as Readiness
 use Rattle.scheduler.specs.Queue.{full, inserted}
 use Rattle.scheduler.specs.declared.event.Event.{Event}
-use Rattle.voice.specs.Steals.{Book}
+use Rattle.voice.specs.Steals.{StealLog}
 use Rattle.voice.specs.declared.policy.Level.{Level}
 use Rattle.store.specs.declared.config.Config.{Config}
 use Rattle.store.specs.declared.answer.Outcome.{Outcome}
@@ -36,7 +36,7 @@ use Rattle.store.specs.declared.voices.Voice.{Voice}
 use Rattle.store.specs.declared.voices.VoiceState.{VoiceState}
 use Rattle.store.specs.declared.voices.VoiceState.the-variants.{Tracked, Fading, Loose}
 use Rattle.node.specs.declared.refusal.Refusal.the-variants.{TableFull, LentBlock, ShortBuffer}
-use Rattle.model.specs.Desk.{Desk, withGraph, withEvents}
+use Rattle.model.specs.SharedState.{SharedState, withGraph, withEvents}
 use Rattle.model.specs.Voice.{isVoice, levelOr}
 use Rattle.model.specs.Refuse.{reportRefusal}
 use Rattle.model.specs.Spawn.{Spawn}
@@ -48,7 +48,7 @@ use Rattle.model.specs.Clear as clearing
 use Rattle.model.specs.Page as paper
 use Rattle.model.specs.Written.{written}
 use Rattle.model.specs.Block.{fades, fadeBlock, sums, sumBlock}
-use Rattle.model.specs.Render.{prepareOutcome, prepareDesk}
+use Rattle.model.specs.Render.{prepareOutcome, prepareShared}
 use Rattle.model.specs.Render as rendering
 
 -- ---- what can be read: questions, which change nothing
@@ -107,7 +107,7 @@ pub data Answer : Type 0 where
   found : Option Voice → Answer
   foundNode : Option Node → Answer
   all : List Voice → Answer
-  stolen : Book → Answer
+  stolen : StealLog → Answer
   wires : List Edge → Answer
   inOrder : List NodeId → Answer
   fed : List Source → Answer
@@ -127,10 +127,10 @@ unless none m s = s
 unless (some r) m s = record { answer = refused r; model = m }
 
 abbrev pub graphStep : Model → GraphView → Answer → Step
-graphStep m g a = record { answer = a; model = record { desk = withGraph g (m .desk); voices = m .voices } }
+graphStep m g a = record { answer = a; model = record { shared = withGraph g (m .shared); voices = m .voices } }
 
-abbrev pub deskStep : Model → Desk → Answer → Step
-deskStep m d a = record { answer = a; model = record { desk = d; voices = m .voices } }
+abbrev pub sharedStep : Model → SharedState → Answer → Step
+sharedStep m d a = record { answer = a; model = record { shared = d; voices = m .voices } }
 
 abbrev pub reads : Model → Answer → Step
 reads m a = record { answer = a; model = m }
@@ -171,29 +171,29 @@ abbrev pub sumAnswer : Config → List Float → List ℕ → List Float → ℕ
 sumAnswer c inputs counts out outs = blockAnswer (sums c inputs counts out outs) (sumBlock c inputs counts out outs)
 
 abbrev pub answerTo : Question → Model → Answer
-answerTo (level w) m = known (levelOr (m .desk) (find (isVoice w) (m .voices)))
+answerTo (level w) m = known (levelOr (m .shared) (find (isVoice w) (m .voices)))
 answerTo (position w) m = reached (positionIn (find (isVoice w) (m .voices)))
 answerTo (voice w) m = found (find (isVoice w) (m .voices))
 answerTo (voiceAt i) m = found (getElem? (m .voices) i)
 answerTo voices m = all (m .voices)
-answerTo steals m = stolen (m .desk .steals)
-answerTo edges m = wires (m .desk .graph .edges)
-answerTo processing m = inOrder (m .desk .graph .order)
-answerTo (sources k) m = fed (ports.sources (m .desk .graph .edges) k)
-answerTo (nodeRecord k) m = foundNode (nodeAt (m .desk .graph .nodes) k)
-answerTo clock m = time (m .desk .clock)
-answerTo (page out) m = pageAnswer (paper.page (m .desk .clock) (m .voices)) out
-answerTo (fadeOutput input ins lent at out outs) m = fadeAnswer (m .desk .config) input ins lent at out outs
-answerTo (busSum inputs counts out outs) m = sumAnswer (m .desk .config) inputs counts out outs
+answerTo steals m = stolen (m .shared .steals)
+answerTo edges m = wires (m .shared .graph .edges)
+answerTo processing m = inOrder (m .shared .graph .order)
+answerTo (sources k) m = fed (ports.sources (m .shared .graph .edges) k)
+answerTo (nodeRecord k) m = foundNode (nodeAt (m .shared .graph .nodes) k)
+answerTo clock m = time (m .shared .clock)
+answerTo (page out) m = pageAnswer (paper.page (m .shared .clock) (m .voices)) out
+answerTo (fadeOutput input ins lent at out outs) m = fadeAnswer (m .shared .config) input ins lent at out outs
+answerTo (busSum inputs counts out outs) m = sumAnswer (m .shared .config) inputs counts out outs
 
 abbrev pub step : Call → Model → Step
 step (addNode kind ports required values glides) m =
-    unless (addRefusal (m .desk .graph) kind ports required) m
-    (graphStep m (change.append (m .desk .graph) (hostNode kind ports required values glides)) (node (record { 0 = m .desk .graph .next })))
-step (removeNode k) m = unless (hostRefusal (m .desk .graph) k) m (graphStep m (change.removeNode (m .desk .graph) k) done)
-step (connect a b p) m = unless (connectRefusal (m .desk .graph) a b p) m (graphStep m (change.connect (m .desk .graph) a b p) done)
-step (disconnect b p) m = unless (disconnectRefusal (m .desk .graph) b p) m (graphStep m (change.disconnect (m .desk .graph) b p) done)
-step (setSink k) m = unless (hostRefusal (m .desk .graph) k) m (graphStep m (change.setSink (m .desk .graph) k) done)
+    unless (addRefusal (m .shared .graph) kind ports required) m
+    (graphStep m (change.append (m .shared .graph) (hostNode kind ports required values glides)) (node (record { 0 = m .shared .graph .next })))
+step (removeNode k) m = unless (hostRefusal (m .shared .graph) k) m (graphStep m (change.removeNode (m .shared .graph) k) done)
+step (connect a b p) m = unless (connectRefusal (m .shared .graph) a b p) m (graphStep m (change.connect (m .shared .graph) a b p) done)
+step (disconnect b p) m = unless (disconnectRefusal (m .shared .graph) b p) m (graphStep m (change.disconnect (m .shared .graph) b p) done)
+step (setSink k) m = unless (hostRefusal (m .shared .graph) k) m (graphStep m (change.setSink (m .shared .graph) k) done)
 step (spawnManaged x) m =
     let l = store.spawnManaged x m in
     record { answer = spawned (l .answer); model = l .model }
@@ -205,14 +205,14 @@ step clear m =
     let c = clearing.clear m in
     record { answer = removed (c .removed); model = c .model }
 step (order w name o) m =
-    let r = param.order w (nameOf name) o (m .voices) (m .desk) in
-    deskStep m (r .desk) (ordered (r .outcome))
+    let r = param.order w (nameOf name) o (m .voices) (m .shared) in
+    sharedStep m (r .shared) (ordered (r .outcome))
 step (schedule t w name a) m =
-    unless (scheduleRefusal (m .desk .events)) m (deskStep m (withEvents (inserted (event t w name a) (m .desk .events)) (m .desk)) done)
+    unless (scheduleRefusal (m .shared .events)) m (sharedStep m (withEvents (inserted (event t w name a) (m .shared .events)) (m .shared)) done)
 step (report k channels samples flag) m =
-    unless (reportRefusal (m .desk) (m .voices) k channels (length samples)) m
-    (deskStep m (reportNode (nodeAt (m .desk .graph .nodes) k) samples flag (m .desk)) done)
-step prepare m = deskStep m (prepareDesk (m .desk)) (readyAnswer (prepareOutcome (m .desk) .answer))
+    unless (reportRefusal (m .shared) (m .voices) k channels (length samples)) m
+    (sharedStep m (reportNode (nodeAt (m .shared .graph .nodes) k) samples flag (m .shared)) done)
+step prepare m = sharedStep m (prepareShared (m .shared)) (readyAnswer (prepareOutcome (m .shared) .answer))
 step render m =
     let h = rendering.render m in
     record { answer = rendered (h .answer); model = h .model }

@@ -6,7 +6,7 @@ use mathlib.Core.Option.{Option, none, some}
 use mathlib.Core.Bool.{Bool, false}
 use lib.Dec.{leb}
 use lib.ListN.{length}
-use Rattle.lists.specs.Keep.{keep}
+use Rattle.lists.specs.Filter.{filter}
 use Rattle.node.specs.declared.record.Node.{Node}
 use Rattle.rank.specs.Order.{upto}
 use Rattle.graph.specs.Node.{nodeAt}
@@ -14,9 +14,9 @@ use Rattle.synthdef.specs.Plan.{planSilent}
 use Rattle.store.specs.declared.voices.Voice.{Voice}
 use Rattle.store.specs.declared.voices.VoiceState.{VoiceState}
 use Rattle.store.specs.declared.voices.VoiceState.the-variants.{Tracked, Fading, Loose}
-use Rattle.model.specs.Desk.{lengthL}
+use Rattle.model.specs.SharedState.{lengthL}
 use Rattle.model.specs.Voice.{id}
-use Rattle.model.specs.Model.{Model, gone}
+use Rattle.model.specs.Model.{Model, withoutVoice}
 
 -- a fade "ends when position reaches L"
 abbrev pub ended : ℕ → VoiceState → Bool
@@ -36,15 +36,15 @@ doneFlags ns v = map (λ i. doneFlag (nodeAt ns (id (v .first .0 + i)))) (upto (
 abbrev pub isSilent : List Node → Voice → Bool
 isSilent ns v = planSilent (v .plan) (doneFlags ns v)
 
-abbrev pub goneAll : List Voice → Model → Model
-goneAll [] m = m
-goneAll (v ∷ vs) m = goneAll vs (gone (v .id) m)
+abbrev pub withoutVoices : List Voice → Model → Model
+withoutVoices [] m = m
+withoutVoices (v ∷ vs) m = withoutVoices vs (withoutVoice (v .id) m)
 
 abbrev pub endedVoices : Model → List Voice
-endedVoices m = keep (λ v. ended (lengthL (m .desk)) (v .state)) (m .voices)
+endedVoices m = filter (λ v. ended (lengthL (m .shared)) (v .state)) (m .voices)
 
 abbrev pub silentVoices : Model → List Voice
-silentVoices m = keep (isSilent (m .desk .graph .nodes)) (m .voices)
+silentVoices m = filter (isSilent (m .shared .graph .nodes)) (m .voices)
 
 pub record Cleared : Type 0 where
   pub removed : ℕ
@@ -52,5 +52,5 @@ pub record Cleared : Type 0 where
 
 abbrev pub clear : Model → Cleared
 clear m =
-    let faded = goneAll (endedVoices m) m in
-    record { removed = length (endedVoices m) + length (silentVoices faded); model = goneAll (silentVoices faded) faded }
+    let faded = withoutVoices (endedVoices m) m in
+    record { removed = length (endedVoices m) + length (silentVoices faded); model = withoutVoices (silentVoices faded) faded }

@@ -1,4 +1,4 @@
-pub mod Desk
+pub mod SharedState
 pub mod Voice
 pub mod Refuse
 pub mod Spawn

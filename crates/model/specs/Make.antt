@@ -11,7 +11,7 @@ use Rattle.voice.specs.declared.policy.Budget.{Budget}
 use Rattle.voice.specs.declared.policy.StealPolicy.{StealPolicy}
 use Rattle.voice.specs.declared.policy.BudgetScope.{BudgetScope}
 use Rattle.store.specs.declared.config.Config.{Config}
-use Rattle.model.specs.Desk.{newDesk}
+use Rattle.model.specs.SharedState.{newShared}
 use Rattle.model.specs.Refuse.{makeRefusal}
 use Rattle.model.specs.Model.{Model}
 
@@ -37,7 +37,7 @@ abbrev pub refusalOf : Making → Option Refusal
 refusalOf k = makeRefusal (rateOf (k .rate)) (k .block) (k .budget) (k .table)
 
 abbrev pub newModel : Config → Model
-newModel c = record { desk = newDesk c; voices = [] }
+newModel c = record { shared = newShared c; voices = [] }
 
 abbrev pub madeUnless : Option Refusal → Model → Option Model
 madeUnless none m = some m

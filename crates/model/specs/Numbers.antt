@@ -12,8 +12,8 @@ use Rattle.order.specs.declared.Readiness.{Readiness}
 use Rattle.order.specs.declared.Readiness.the-variants as readiness
 use Rattle.graph.specs.declared.state.Answer as graph
 use Rattle.graph.specs.declared.state.Answer.the-variants as answer
-use Rattle.graph.specs.declared.state.Given.{Given}
-use Rattle.graph.specs.declared.state.Given.the-variants as given
+use Rattle.graph.specs.declared.state.AddAnswer.{AddAnswer}
+use Rattle.graph.specs.declared.state.AddAnswer.the-variants as given
 use Rattle.scheduler.specs.declared.queue.ScheduleAnswer.{ScheduleAnswer}
 use Rattle.scheduler.specs.declared.queue.ScheduleAnswer.the-variants as schedule
 use Rattle.voice.specs.declared.policy.Admission.{Admission}
@@ -34,7 +34,7 @@ abbrev pub hostSays : graph.Answer → Said Unit
 hostSays answer.Done = gives tt
 hostSays (answer.Refused r) = refused (numberOf r)
 
-abbrev pub addSays : Given → Said NodeId
+abbrev pub addSays : AddAnswer → Said NodeId
 addSays (given.Id k) = gives k
 addSays (given.Refused r) = refused (numberOf r)
 
@@ -53,7 +53,7 @@ admissionSays admission.Admit = gives none
 admissionSays admission.Reject = refused (numberOf Rejected)
 admissionSays (admission.Steal place w) = gives (some w)
 
--- a spawn: the newcomer's id, or a number
+-- a spawn: the new voice's id, or a number
 abbrev pub spawnSays : Spawned → Said VoiceId
 spawnSays (spawned.Voice w) = gives w
 spawnSays (spawned.Refused r) = refused (numberOf r)

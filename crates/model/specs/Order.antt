@@ -19,12 +19,12 @@ use Rattle.synthdef.specs.Params.{paramNode}
 use Rattle.store.specs.declared.answer.Outcome.{Outcome}
 use Rattle.store.specs.declared.answer.Outcome.the-variants.{Applied, NoVoice, NoParameter, NotTaken}
 use Rattle.store.specs.declared.voices.Voice.{Voice}
-use Rattle.model.specs.Desk.{Desk, withGraph}
+use Rattle.model.specs.SharedState.{SharedState, withGraph}
 use Rattle.model.specs.Voice.{isVoice, id}
 pub use Rattle.node.specs.Node.{withLast}
 
 -- the node's record is replaced; the graph stays prepared
-abbrev pub withNode : Node → Desk → Desk
+abbrev pub withNode : Node → SharedState → SharedState
 withNode n d = withGraph (withNodes (d .graph) (replaced (d .graph .nodes) n)) d
 
 -- ---- "A value or glide, set directly or by an event, answers yes and becomes the node's last order if the voice is known, has
@@ -36,24 +36,24 @@ takes (LastOrder.Glide target seconds shape space) n = n .«takes_glides»
 
 pub record Ordered : Type 0 where
   pub outcome : Outcome
-  pub desk : Desk
+  pub shared : SharedState
 
-abbrev pub stays : Outcome → Desk → Ordered
-stays o d = record { outcome = o; desk = d }
+abbrev pub stays : Outcome → SharedState → Ordered
+stays o d = record { outcome = o; shared = d }
 
-abbrev pub orderNode : Option Node → LastOrder → Desk → Ordered
+abbrev pub orderNode : Option Node → LastOrder → SharedState → Ordered
 orderNode none o d = stays NotTaken d
-orderNode (some n) o d = cond (takes o n) (record { outcome = Applied; desk = withNode (withLast o n) d }) (stays NotTaken d)
+orderNode (some n) o d = cond (takes o n) (record { outcome = Applied; shared = withNode (withLast o n) d }) (stays NotTaken d)
 
-abbrev pub orderParam : Option ℕ → Voice → LastOrder → Desk → Ordered
+abbrev pub orderParam : Option ℕ → Voice → LastOrder → SharedState → Ordered
 orderParam none v o d = stays NoParameter d
 orderParam (some i) v o d = orderNode (nodeAt (d .graph .nodes) (id (v .first .0 + i))) o d
 
-abbrev pub orderVoice : Option Voice → Name → LastOrder → Desk → Ordered
+abbrev pub orderVoice : Option Voice → Name → LastOrder → SharedState → Ordered
 orderVoice none name o d = stays NoVoice d
 orderVoice (some v) name o d = orderParam (paramNode (paramRows (v .params)) name) v o d
 
-abbrev pub order : VoiceId → Name → LastOrder → List Voice → Desk → Ordered
+abbrev pub order : VoiceId → Name → LastOrder → List Voice → SharedState → Ordered
 order w name o vs d = orderVoice (find (isVoice w) vs) name o d
 
 -- yes or no
@@ -67,6 +67,6 @@ isYes NotTaken = false
 abbrev pub withReport : List Float → Bool → Node → Node
 withReport samples done n = reported (levelOf samples) done n
 
-abbrev pub reportNode : Option Node → List Float → Bool → Desk → Desk
+abbrev pub reportNode : Option Node → List Float → Bool → SharedState → SharedState
 reportNode none samples done d = d
 reportNode (some n) samples done d = withNode (withReport samples done n) d

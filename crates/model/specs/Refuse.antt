@@ -20,7 +20,7 @@ use Rattle.voice.specs.declared.policy.Budget.the-variants.{Unlimited, AtMost}
 use Rattle.synthdef.specs.Limits.{allowed}
 use Rattle.synthdef.specs.declared.def.SynthDef.{SynthDef}
 use Rattle.store.specs.declared.voices.Voice.{Voice}
-use Rattle.model.specs.Desk.{Desk}
+use Rattle.model.specs.SharedState.{SharedState}
 use Rattle.model.specs.Voice.{isVoice}
 
 -- "64 voices"; "All ... voice ids 1 to 2^64 - 1 can be given out"
@@ -60,15 +60,15 @@ abbrev pub orElse : Option Refusal → Option Refusal → Option Refusal
 orElse none rest = rest
 orElse (some r) rest = some r
 
-abbrev pub noHeadroom : Desk → List Voice → SynthDef → Bool
+abbrev pub noHeadroom : SharedState → List Voice → SynthDef → Bool
 noHeadroom d vs def =
     ltb nodeLimit (length (d .graph .nodes) + def .nodes .count + 3)
     || (ltb edgeLimit (length (d .graph .edges) + def .edges .count + 4) || leb voiceLimit (length vs))
 
-abbrev pub noIds : Desk → SynthDef → Bool
+abbrev pub noIds : SharedState → SynthDef → Bool
 noIds d def = ltb idLimit (d .graph .next + def .nodes .count + 3) || leb voiceIdLimit (d .spawned)
 
-abbrev pub spawnRefusal : Desk → List Voice → SynthDef → NodeId → Option Refusal
+abbrev pub spawnRefusal : SharedState → List Voice → SynthDef → NodeId → Option Refusal
 spawnRefusal d vs def bus =
     when (not (allowed def)) DefinitionLimits
     (orElse (hostRefusal (d .graph) bus)
@@ -89,7 +89,7 @@ reports vs (some n) = eqb (n .owner .0) 0 || ofDefinition (n .id .0) (find (isVo
 abbrev pub lentBlock : ℕ → ℕ → ℕ → Bool
 lentBlock block channels samples = (eqb channels 1 || eqb channels 2) && eqb samples (channels * block)
 
-abbrev pub reportRefusal : Desk → List Voice → NodeId → ℕ → ℕ → Option Refusal
+abbrev pub reportRefusal : SharedState → List Voice → NodeId → ℕ → ℕ → Option Refusal
 reportRefusal d vs k channels samples =
     when (not (reports vs (nodeAt (d .graph .nodes) k))) UnknownNode
     (when (not (lentBlock (d .config .block) channels samples)) LentBlock none)

@@ -17,21 +17,21 @@ use Rattle.store.specs.declared.answer.Rendered.{Rendered}
 use Rattle.store.specs.declared.answer.Rendered.the-variants as Rendered
 use Rattle.store.specs.declared.voices.Voice.{Voice}
 use Rattle.graph.specs.View.{preparedBy}
-use Rattle.model.specs.Desk.{Desk, withGraph, withEvents, withClock, sounding}
+use Rattle.model.specs.SharedState.{SharedState, withGraph, withEvents, withClock, sounding}
 use Rattle.model.specs.Voice.{moved}
 use Rattle.model.specs.Model.{Model, free}
 use Rattle.model.specs.Order.{order}
 
 -- ---- prepare: 13, 14, or prepared with the processing order; a refusal changes nothing
-abbrev pub prepareOutcome : Desk → graph.Outcome
+abbrev pub prepareOutcome : SharedState → graph.Outcome
 prepareOutcome d = graph.prepare (d .graph .nodes) (d .graph .edges)
 
-abbrev pub readyDesk : Readiness → List NodeId → Desk → Desk
-readyDesk Ready l d = withGraph (preparedBy (d .graph) l) d
-readyDesk (Refused r) l d = d
+abbrev pub readyShared : Readiness → List NodeId → SharedState → SharedState
+readyShared Ready l d = withGraph (preparedBy (d .graph) l) d
+readyShared (Refused r) l d = d
 
-abbrev pub prepareDesk : Desk → Desk
-prepareDesk d = readyDesk (prepareOutcome d .answer) (prepareOutcome d .order) d
+abbrev pub prepareShared : SharedState → SharedState
+prepareShared d = readyShared (prepareOutcome d .answer) (prepareOutcome d .order) d
 
 -- ---- events: "a free, known or not, prepares inside the render"
 abbrev pub isFree : Action → Bool
@@ -45,14 +45,14 @@ anyFree [] = false
 anyFree (e ∷ l) = isFree (e .action) || anyFree l
 
 -- one event: a free lets the voice go, any other is a value or a glide
-abbrev pub happen : Event → Model → Model
-happen e m =
+abbrev pub applyEvent : Event → Model → Model
+applyEvent e m =
     cond (isFree (e .action)) (free (e .voice) m)
-    (record { desk = order (e .voice) (paramOrder e .name) (paramOrder e .order) (m .voices) (m .desk) .desk; voices = m .voices })
+    (record { shared = order (e .voice) (paramOrder e .name) (paramOrder e .order) (m .voices) (m .shared) .shared; voices = m .voices })
 
-abbrev pub happenAll : List Event → Model → Model
-happenAll [] m = m
-happenAll (e ∷ l) m = happenAll l (happen e m)
+abbrev pub applyEvents : List Event → Model → Model
+applyEvents [] m = m
+applyEvents (e ∷ l) m = applyEvents l (applyEvent e m)
 
 -- ---- a fade's position "gains the block size at each sounding render". No run reaches 2^64 - 1 samples.
 abbrev pub further : ℕ → ℕ → ℕ
@@ -68,7 +68,7 @@ abbrev pub heard : Bool → Rendered
 heard true = Rendered.Sounding
 heard false = Rendered.Silent
 
-abbrev pub answerAfter : Readiness → Desk → Rendered
+abbrev pub answerAfter : Readiness → SharedState → Rendered
 answerAfter Ready d = heard (sounding d)
 answerAfter (Refused r) d = Rendered.Unprepared r
 
@@ -88,31 +88,31 @@ blockOf a m =
     record {
       answer = a;
       model = record {
-        desk = withClock (m .desk .clock + m .desk .config .block) (m .desk);
-        voices = movedIf (isSounding a) (m .desk .config .block) (m .voices);
+        shared = withClock (m .shared .clock + m .shared .config .block) (m .shared);
+        voices = movedIf (isSounding a) (m .shared .config .block) (m .voices);
       };
     }
 
 -- prepared inside the render, or not
 abbrev pub preparedIf : Bool → Model → Heard
-preparedIf true m = blockOf (answerAfter (prepareOutcome (m .desk) .answer) (prepareDesk (m .desk))) (record { desk = prepareDesk (m .desk); voices = m .voices })
-preparedIf false m = blockOf (heard (sounding (m .desk))) m
+preparedIf true m = blockOf (answerAfter (prepareOutcome (m .shared) .answer) (prepareShared (m .shared))) (record { shared = prepareShared (m .shared); voices = m .voices })
+preparedIf false m = blockOf (heard (sounding (m .shared))) m
 
 -- "Render: events before clock + block"
-abbrev pub deadline : Desk → ℕ
+abbrev pub deadline : SharedState → ℕ
 deadline d = d .clock + d .config .block
 
-abbrev pub due : Desk → List Event
+abbrev pub due : SharedState → List Event
 due d = takenBefore (deadline d) (d .events)
 
 abbrev pub rested : Model → Model
-rested m = record { desk = withEvents (leftAfter (deadline (m .desk)) (m .desk .events)) (m .desk); voices = m .voices }
+rested m = record { shared = withEvents (leftAfter (deadline (m .shared)) (m .shared .events)) (m .shared); voices = m .voices }
 
 -- 15 "clock + block above 2^64 - 1"
-abbrev pub clockEnds : Desk → Bool
+abbrev pub clockEnds : SharedState → Bool
 clockEnds d = ltb 18446744073709551615 (deadline d)
 
 abbrev pub render : Model → Heard
 render m =
-    cond (clockEnds (m .desk)) (record { answer = Rendered.Refused ClockEnd; model = m })
-    (preparedIf (anyFree (due (m .desk))) (happenAll (due (m .desk)) (rested m)))
+    cond (clockEnds (m .shared)) (record { answer = Rendered.Refused ClockEnd; model = m })
+    (preparedIf (anyFree (due (m .shared))) (applyEvents (due (m .shared)) (rested m)))

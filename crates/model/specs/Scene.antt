@@ -175,18 +175,18 @@ abbrev pub further : List Call → Model → Model
 further calls m = run calls m .model
 
 -- ---- looked at: voices by id, port given at spawn, and state
-pub record Seen : Type 0 where
+pub record FoundNode : Type 0 where
   pub id : ℕ
   pub port : ℕ
   pub state : VoiceState
 
-abbrev pub seen : ℕ → ℕ → VoiceState → Seen
+abbrev pub seen : ℕ → ℕ → VoiceState → FoundNode
 seen w p s = record { id = w; port = p; state = s }
 
-abbrev pub see : Voice → Seen
+abbrev pub see : Voice → FoundNode
 see v = seen (v .id .0) (v .port) (v .state)
 
-abbrev pub voices : Model → List Seen
+abbrev pub voices : Model → List FoundNode
 voices m = map see (m .voices)
 
 -- a fade by its node, the clock at its steal, its position and the number of its record

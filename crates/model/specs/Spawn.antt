@@ -21,7 +21,7 @@ use Rattle.voice.specs.declared.policy.Victim.{Victim}
 use Rattle.voice.specs.declared.policy.Victim.the-variants.{Nobody, Goes}
 use Rattle.voice.specs.declared.policy.Budget.{Budget}
 use Rattle.voice.specs.declared.policy.Budget.the-variants.{Unlimited, AtMost}
-use Rattle.voice.specs.Steals.{Book, pushed, marked, recordOf}
+use Rattle.voice.specs.Steals.{StealLog, pushed, marked, recordOf}
 use Rattle.synthdef.specs.Tables.{nodeRows, edgeRows}
 use Rattle.synthdef.specs.Edges.{counted}
 use Rattle.synthdef.specs.Plan.{planOf}
@@ -32,7 +32,7 @@ use Rattle.store.specs.declared.voices.Voice.{Voice}
 use Rattle.store.specs.declared.voices.VoiceState.{VoiceState}
 use Rattle.store.specs.declared.voices.VoiceState.the-variants.{Tracked, Fading, Loose}
 use Rattle.store.specs.declared.voices.Fade.{Fade}
-use Rattle.model.specs.Desk.{Desk, withGraph, withSteals, oneMoreVoice}
+use Rattle.model.specs.SharedState.{SharedState, withGraph, withSteals, oneMoreVoice}
 use Rattle.model.specs.Voice.{isVoice, startOf, id, feeder, voiceLevel, candidates, trackedOn, fadesOn, newFade}
 
 -- ---- the arguments of a spawn
@@ -103,18 +103,18 @@ wireAll base g [] = g
 wireAll base g (w ∷ ws) = wireAll base (connect g (id (base + w .from)) (id (base + w .to)) (w .port)) ws
 
 -- the voice's nodes and edges, with the edge to its port of the bus
-abbrev pub landGraph : VoiceId → SynthDef → Bool → NodeId → ℕ → GraphView → GraphView
-landGraph w def pan bus p g =
+abbrev pub instantiateGraph : VoiceId → SynthDef → Bool → NodeId → ℕ → GraphView → GraphView
+instantiateGraph w def pan bus p g =
     connect (wireAll (g .next) (appendAll g (voiceNodes w def pan)) (voiceWires def pan)) (id (g .next + voiceOut def pan)) bus p
 
-abbrev pub nextVoice : Desk → VoiceId
+abbrev pub nextVoice : SharedState → VoiceId
 nextVoice d = record { 0 = d .spawned + 1 }
 
-abbrev pub landDesk : Spawn → ℕ → Desk → Desk
-landDesk x p d = oneMoreVoice (withGraph (landGraph (nextVoice d) (x .def) (pans (x .pan)) (x .bus) p (d .graph)) d)
+abbrev pub instantiateShared : Spawn → ℕ → SharedState → SharedState
+instantiateShared x p d = oneMoreVoice (withGraph (instantiateGraph (nextVoice d) (x .def) (pans (x .pan)) (x .bus) p (d .graph)) d)
 
-abbrev pub newcomer : Spawn → VoiceState → ℕ → Desk → Voice
-newcomer x s p d =
+abbrev pub newVoice : Spawn → VoiceState → ℕ → SharedState → Voice
+newVoice x s p d =
     record {
       id = nextVoice d;
       birth = d .clock;
@@ -146,21 +146,21 @@ abbrev pub fadeGraph : Voice → ℕ → GraphView → GraphView
 fadeGraph v p g = connect (connect (append g (fadeNode (v .id))) (feeder v) (id (g .next)) 0) (id (g .next)) (v .bus) p
 
 -- the fade of a victim: it starts now, and its record is the next one
-abbrev pub fadeOf : Desk → Fade
+abbrev pub fadeOf : SharedState → Fade
 fadeOf d = newFade (d .graph .next) (d .clock) (d .steals .count)
 
 -- the record of a steal of the voice, now: sample, level at this moment, cut mark
-abbrev pub recorded : Voice → Bool → Desk → Book
+abbrev pub recorded : Voice → Bool → SharedState → StealLog
 recorded v cut d = pushed (d .steals) (recordOf (d .clock) (voiceLevel d v) cut)
 
-abbrev pub fadeDesk : Voice → ℕ → Desk → Desk
-fadeDesk v p d = withSteals (recorded v false d) (withGraph (fadeGraph v p (d .graph)) d)
+abbrev pub fadeShared : Voice → ℕ → SharedState → SharedState
+fadeShared v p d = withSteals (recorded v false d) (withGraph (fadeGraph v p (d .graph)) d)
 
 -- what the going of a reclaimed voice writes: a fade's record is marked cut, if still held; a tracked voice gets a cut record
-abbrev pub reclaimBook : Voice → VoiceState → Desk → Book
-reclaimBook v Tracked d = recorded v true d
-reclaimBook v (Fading f) d = marked (d .steals) (f .number)
-reclaimBook v Loose d = d .steals
+abbrev pub reclaimLog : Voice → VoiceState → SharedState → StealLog
+reclaimLog v Tracked d = recorded v true d
+reclaimLog v (Fading f) d = marked (d .steals) (f .number)
+reclaimLog v Loose d = d .steals
 
 -- ---- who goes
 abbrev pub voiceOf : Victim → List Voice → Option Voice
@@ -184,5 +184,5 @@ abbrev pub elseVictim : Option Voice → Option Voice → Option Voice
 elseVictim none o = o
 elseVictim (some v) o = some v
 
-abbrev pub nextOut : Desk → NodeId → List Voice → Option Voice
+abbrev pub nextOut : SharedState → NodeId → List Voice → Option Voice
 nextOut d bus vs = elseVictim (earliest (fadesOn bus) vs) (voiceOf (victim (d .config .policy) (candidates d (trackedOn bus) vs)) vs)

@@ -6,7 +6,7 @@ use mathlib.Core.List.{List, map}
 use mathlib.Core.Option.{Option, none, some}
 use mathlib.Core.Bool.{Bool, true, false, _&&_, cond}
 use lib.Dec.{eqb, ltb}
-use Rattle.lists.specs.Keep.{keep}
+use Rattle.lists.specs.Filter.{filter}
 use Rattle.node.specs.declared.record.NodeId.{NodeId}
 use Rattle.node.specs.declared.record.VoiceId.{VoiceId}
 use Rattle.node.specs.declared.record.Node.{Node}
@@ -20,7 +20,7 @@ use Rattle.store.specs.declared.voices.Voice.{Voice}
 use Rattle.store.specs.declared.voices.VoiceState.{VoiceState}
 use Rattle.store.specs.declared.voices.VoiceState.the-variants.{Tracked, Fading, Loose}
 use Rattle.store.specs.declared.voices.Fade.{Fade}
-use Rattle.model.specs.Desk.{Desk}
+use Rattle.model.specs.SharedState.{SharedState}
 
 abbrev pub isVoice : VoiceId → Voice → Bool
 isVoice w v = eqb (v .id .0) (w .0)
@@ -74,21 +74,21 @@ abbrev pub nodeLevel : Option Node → Level
 nodeLevel none = Unknown
 nodeLevel (some n) = Known (n .level)
 
-abbrev pub voiceLevel : Desk → Voice → Level
+abbrev pub voiceLevel : SharedState → Voice → Level
 voiceLevel d v = cond (ltb (v .birth) (d .clock)) (nodeLevel (nodeAt (d .graph .nodes) (v .output))) Unknown
 
-abbrev pub levelOr : Desk → Option Voice → Level
+abbrev pub levelOr : SharedState → Option Voice → Level
 levelOr d none = Unknown
 levelOr d (some v) = voiceLevel d v
 
 -- ---- candidates: voices in order of admission, each with its level
-abbrev pub candidate : Desk → Voice → Candidate
+abbrev pub candidate : SharedState → Voice → Candidate
 candidate d v = record { voice = v .id; level = voiceLevel d v }
 
-abbrev pub candidates : Desk → (Voice → Bool) → List Voice → List Candidate
-candidates d q vs = map (candidate d) (keep q vs)
+abbrev pub candidates : SharedState → (Voice → Bool) → List Voice → List Candidate
+candidates d q vs = map (candidate d) (filter q vs)
 
--- tracked, and counted for a newcomer on the bus: "all, or those of the bus under `PerGroup`"
+-- tracked, and counted for a newVoice on the bus: "all, or those of the bus under `PerGroup`"
 abbrev pub counted : BudgetScope → NodeId → Voice → Bool
 counted s bus v = isTracked (v .state) && counts s (v .bus) bus
 

@@ -9,7 +9,8 @@ use lib.Dec.{eqb}
 use lib.ListN.{length, take, getD, length-map}
 use lib.Seq.{length-take-le, getD-take}
 use borrow.Author.Tests.{eq-eqb, ne-eqb}
-use Rattle.lists.specs.Member.{In, map-same}
+use Rattle.lists.specs.Member.{In}
+use Rattle.lists.proofs.Member.{map-same}
 use Rattle.node.specs.declared.record.Node.{Node}
 use Rattle.node.specs.declared.record.Edge.{Edge}
 use Rattle.rank.specs.Order.{Arc, arc, order, whole, count-up, upto, arcs}

@@ -5,7 +5,7 @@ use mathlib.Core.Path.{_≡_, sym, ap, _∙_}
 use mathlib.Core.List.{List, [], _∷_, _++_, map, append-nil}
 use lib.ListN.{length, take, drop, set, length-take, drop-of-length-le}
 use lib.Seq.{append-snoc}
-use Rattle.lists.specs.Table.{append-row}
+use Rattle.lists.proofs.Table.{append-row}
 
 abbrev pub Mapped : {A B : Type 0} → (A → B) → List B → ℕ → List A → Type 0
 Mapped f out i l = take i out ++ map f (drop i l) ≡ map f l

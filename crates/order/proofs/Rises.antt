@@ -11,7 +11,7 @@ use lib.Dec.{leb}
 use lib.ListN.{length, take, drop, getD, set, length-map, length-take}
 use lib.Seq.{append-snoc}
 use borrow.Author.Tests.{le-leb, lt-leb}
-use Rattle.lists.specs.Table.{append-row}
+use Rattle.lists.proofs.Table.{append-row}
 use Rattle.node.specs.declared.record.Node.{Node}
 use Rattle.rank.specs.Order.{among}
 use Rattle.rank.specs.Cycle.{Distinct}

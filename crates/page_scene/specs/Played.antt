@@ -43,6 +43,6 @@ unfoldable pub played : Ran
 played = run sceneCalls (newModel pageConfig)
 
 -- its page is what 01 prints
-pub played-page : page (played .model .desk .clock) (played .model .voices) ≡ printed
+pub played-page : page (played .model .shared .clock) (played .model .voices) ≡ printed
 unfolding played eq prepare processingOrder lacking lacks any liveIds liveNodes risingFrom whole order walk released fed among count-up settled
 played-page = refl

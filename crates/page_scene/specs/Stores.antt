@@ -7,7 +7,7 @@ use Rattle.node.specs.Silence.{bytes}
 use Rattle.node.specs.declared.order.Action.the-variants as Action
 use Rattle.graph.specs.View.{GraphView, withNext}
 use Rattle.synthdef.specs.declared.def.SynthDef.{SynthDef}
-use Rattle.model.specs.Desk.{withGraph, withClock}
+use Rattle.model.specs.SharedState.{withGraph, withClock}
 use Rattle.model.specs.Model.{Model}
 use Rattle.model.specs.Call.{Call}
 use Rattle.model.specs.Call as call
@@ -26,10 +26,10 @@ unfoldable pub waiting : ℕ → List Call
 waiting n = replicate n timed
 
 abbrev pub atClock : ℕ → Model → Model
-atClock clock m = record { desk = withClock clock (m .desk); voices = m .voices }
+atClock clock m = record { shared = withClock clock (m .shared); voices = m .voices }
 
 abbrev pub atNext : ℕ → Model → Model
-atNext next m = record { desk = withGraph (withNext (m .desk .graph) next) (m .desk); voices = m .voices }
+atNext next m = record { shared = withGraph (withNext (m .shared .graph) next) (m .shared); voices = m .voices }
 
 -- a definition of so many nodes, each as that of `tone`
 abbrev pub ofNodes : ℕ → ℕ → SynthDef

@@ -28,8 +28,8 @@ pub use call_host::host::remove_node;
 pub use call_host::host::set_sink;
 pub use call_host::prepare::prepare;
 pub use call_host::schedule::schedule;
-pub use memory::state::Granted;
-pub use memory::state::Served;
+pub use memory::state::AddResult;
+pub use memory::state::HostResult;
 
 // ---- voices
 pub use call_clear::clear::Cleared;
@@ -90,9 +90,9 @@ pub use voice::policy::StealPolicy;
 
 // ---- answers
 pub use edges::ports::Source;
-pub use graph::nodes::Seen;
+pub use graph::nodes::FoundNode;
+pub use graph::state::AddAnswer;
 pub use graph::state::Answer;
-pub use graph::state::Given;
 pub use graph::state::Sink;
 pub use node::order::LastOrder;
 pub use node::record::Edge;

@@ -3,16 +3,16 @@ ghost use mathlib.Core.Path.{_≡_};
 ghost use lib.ListN.{length};
 use crate::host::id_at;
 use crate::host::told;
+use codec::field::after;
+use codec::field::at_most;
+use codec::field::byte_at;
+use codec::field::float;
+use codec::field::floats_at;
+use codec::field::word_at;
 use orders::report::report;
 use service::prepare::prepare;
 use store::state::Store;
 use transcript::answer::rendered_line;
-use wire::field::after;
-use wire::field::at_most;
-use wire::field::byte_at;
-use wire::field::float;
-use wire::field::floats_at;
-use wire::field::word_at;
 
 // 512 samples: those that stand from `at` on, or the one that stands there again and again.
 fn samples_at(s: &[u8], at: usize, repeated: bool) -> [f32; 512]

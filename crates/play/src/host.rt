@@ -1,4 +1,10 @@
 // Making, the counters and the host's calls.
+use codec::field::after;
+use codec::field::byte_at;
+use codec::field::float;
+use codec::field::long_at;
+use codec::field::word_at;
+use codec::word::text;
 use graph::state::Answer;
 use making::make;
 use node::record::NodeId;
@@ -7,7 +13,7 @@ use script::config::policy_of;
 use script::config::scope_of;
 use script::name::name_at;
 use script::name::name_end;
-use service::host::Served;
+use service::host::HostResult;
 use service::host::add_node;
 use service::host::connect;
 use service::host::disconnect;
@@ -17,19 +23,13 @@ use store::state::Store;
 use transcript::answer::answer_line;
 use transcript::answer::given_line;
 use transcript::answer::made_line;
-use wire::field::after;
-use wire::field::byte_at;
-use wire::field::float;
-use wire::field::long_at;
-use wire::field::word_at;
-use wire::word::text;
 
 pub(crate) fn id_at(s: &[u8], at: usize) -> NodeId {
     NodeId(word_at(s, at))
 }
 
 // The store that a call left; its answer is written.
-pub(crate) fn told(r: Served) -> Store {
+pub(crate) fn told(r: HostResult) -> Store {
     let answer = r.answer;
     answer_line(answer);
     r.store

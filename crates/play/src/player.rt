@@ -8,13 +8,13 @@ use crate::slots::no_slots;
 use crate::spawns::play_spawn;
 use crate::tell::tell;
 use crate::voices::play_voice;
+use codec::field::after;
+use codec::field::byte_at;
 use making::make;
 use store::state::Store;
 use voice::policy::Budget;
 use voice::policy::BudgetScope;
 use voice::policy::StealPolicy;
-use wire::field::after;
-use wire::field::byte_at;
 
 pub struct Player {
     pub store: Store,

@@ -1,9 +1,9 @@
 // The definitions that a script keeps.
+use codec::field::after;
+use codec::field::byte_at;
+use codec::word::text;
 use script::def::def_at;
 use synthdef::def::SynthDef;
-use wire::field::after;
-use wire::field::byte_at;
-use wire::word::text;
 
 pub struct Slots {
     pub rows: [SynthDef; 16],

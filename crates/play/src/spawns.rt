@@ -2,6 +2,9 @@
 use crate::host::id_at;
 use crate::slots::Slots;
 use crate::slots::slot_at;
+use codec::field::after;
+use codec::field::float;
+use codec::field::word_at;
 use engine::land::Landed;
 use engine::spawn::spawn_voice_on_bus;
 use engine::spawn::spawn_voice_on_bus_managed;
@@ -9,9 +12,6 @@ use engine::spawn::spawn_voice_on_bus_panned;
 use engine::spawn::spawn_voice_on_bus_panned_managed;
 use store::state::Store;
 use transcript::answer::spawned_line;
-use wire::field::after;
-use wire::field::float;
-use wire::field::word_at;
 
 fn landed(r: Landed) -> Store {
     let answer = r.answer;

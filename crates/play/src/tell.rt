@@ -1,6 +1,8 @@
 // The readings, which leave the store as it is.
 use crate::host::id_at;
 use crate::voices::voice_at;
+use codec::field::at_most;
+use codec::field::word_at;
 use page::page;
 use store::answer::Paged;
 use store::state::Store;
@@ -16,8 +18,6 @@ use transcript::state::state_lines;
 use transcript::stolen::steals_line;
 use transcript::voices::looked_line;
 use transcript::voices::voices_line;
-use wire::field::at_most;
-use wire::field::word_at;
 
 fn of_a_voice(s: &[u8], from: usize, sort: u8, store: Store) {
     match sort {

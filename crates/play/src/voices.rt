@@ -1,6 +1,12 @@
 // Frees, clearing, values, glides and events.
 use crate::host::told;
 use clearing::free_done_synths;
+use codec::field::after;
+use codec::field::byte_at;
+use codec::field::float;
+use codec::field::long_at;
+use codec::field::word_at;
+use codec::word::text;
 use node::record::VoiceId;
 use orders::param::Ordered;
 use orders::param::set_voice_param;
@@ -14,12 +20,6 @@ use service::schedule::schedule;
 use store::state::Store;
 use transcript::answer::outcome_line;
 use transcript::answer::removed_line;
-use wire::field::after;
-use wire::field::byte_at;
-use wire::field::float;
-use wire::field::long_at;
-use wire::field::word_at;
-use wire::word::text;
 
 pub(crate) fn voice_at(s: &[u8], at: usize) -> VoiceId {
     VoiceId(long_at(s, at))

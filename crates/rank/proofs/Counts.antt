@@ -11,8 +11,10 @@ use borrow.Author.Tests.{eq-eqb, ne-eqb, lt-ltb, le-ltb}
 use lib.Dec.{eqb, ltb}
 use lib.ListN.{length, take, drop, getD, List·getD-eq-default, drop-of-length-le}
 use lib.Seq.{length-take-le, append-snoc, take-all, take-suc, drop-cons, take-append-le, drop-append-le}
-use Rattle.lists.specs.Keep.{put?, keep, keep-keep, keep-same}
-use Rattle.lists.specs.Count.{more, count, count-append}
+use Rattle.lists.specs.Filter.{put?, filter}
+use Rattle.lists.proofs.Filter.{filter-filter, filter-same}
+use Rattle.lists.specs.Count.{more, count}
+use Rattle.lists.proofs.Count.{count-append}
 use Rattle.rank.specs.Order.{Arc, among, fed, live, own, others, released, walk, order, whole, count-up, upto, arcs}
 use Rattle.rank.specs.declared.Queue.{Queue}
 use Rattle.rank.specs.Parts.{indeg, degs, ready, St, app, fall, pickSt, serve, run, start, orderRows, Queued, Ranked}
@@ -41,12 +43,12 @@ not-fed v k l h = rw (fed-into v l, h) (go (eqb (into v l) 0))
     go true = refl
     go false = refl
 
-count-split : {A : Type 0} (p t : A → Bool) (l : List A) → count p (keep t l) + count p (keep (λ x. not (t x)) l) ≡ count p l
+count-split : {A : Type 0} (p t : A → Bool) (l : List A) → count p (filter t l) + count p (filter (λ x. not (t x)) l) ≡ count p l
 count-split p t [] = refl
 count-split p t (x ∷ l) = go (t x) (p x) refl refl (count-split p t l)
   where
-    go : (a b : Bool) → t x ≡ a → p x ≡ b → count p (keep t l) + count p (keep (λ x. not (t x)) l) ≡ count p l
-        → count p (put? a x (keep t l)) + count p (put? (not a) x (keep (λ x. not (t x)) l)) ≡ more b (count p l)
+    go : (a b : Bool) → t x ≡ a → p x ≡ b → count p (filter t l) + count p (filter (λ x. not (t x)) l) ≡ count p l
+        → count p (put? a x (filter t l)) + count p (put? (not a) x (filter (λ x. not (t x)) l)) ≡ more b (count p l)
     go true true e f h = rw f (omega arith)
     go true false e f h = rw f h
     go false true e f h = rw f (omega arith)
@@ -54,10 +56,10 @@ count-split p t (x ∷ l) = go (t x) (p x) refl refl (count-split p t l)
 
 -- ---- the arcs between indices below n whose source is not in q, and those of one source
 abbrev left : ℕ → List ℕ → List Arc → List Arc
-left n q = keep (λ e. (ltb (e .from) n && ltb (e .to) n) && not (among (e .from) q))
+left n q = filter (λ e. (ltb (e .from) n && ltb (e .to) n) && not (among (e .from) q))
 
 abbrev mine : ℕ → ℕ → List Arc → List Arc
-mine n w = keep (λ e. eqb (e .from) w && ltb (e .to) n)
+mine n w = filter (λ e. eqb (e .from) w && ltb (e .to) n)
 
 pub among-upto : (n x : ℕ) → among x (upto n) ≡ ltb x n
 among-upto n x = go (decLt x n)
@@ -76,18 +78,18 @@ length-upto n = length-count n 0
 
 live-left : (n : ℕ) (es : List Arc) → live (upto n) es ≡ left n [] es
 unfolding among
-live-left n es = keep-same _ _ es (λ e _. rw (among-upto n (e .from), among-upto n (e .to), and-true (ltb (e .from) n && ltb (e .to) n)))
+live-left n es = filter-same _ _ es (λ e _. rw (among-upto n (e .from), among-upto n (e .to), and-true (ltb (e .from) n && ltb (e .to) n)))
 
 module _ (n w : ℕ) (hw : w < n) (q : List ℕ) (o : among w q ≡ false) (es : List Arc) where
   own-left : own w (left n q es) ≡ mine n w es
-  own-left = keep-keep _ _ es ∙ keep-same _ _ es (λ e _. go e (ℕ-discrete (e .from) w))
+  own-left = filter-filter _ _ es ∙ filter-same _ _ es (λ e _. go e (ℕ-discrete (e .from) w))
     where
       go : (e : Arc) → Dec (e .from ≡ w) → (eqb (e .from) w && ((ltb (e .from) n && ltb (e .to) n) && not (among (e .from) q))) ≡ (eqb (e .from) w && ltb (e .to) n)
       go e (yes p) = rw (p, lt-ltb w n hw, o, and-true (ltb (e .to) n))
       go e (no p) = rw (ne-eqb (e .from) w p)
 
   others-left : others w (left n q es) ≡ left n (q ++ (w ∷ [])) es
-  others-left = keep-keep _ _ es ∙ keep-same _ _ es (λ e _. rw (among-snoc (e .from) q w) (go (eqb (e .from) w) (ltb (e .from) n && ltb (e .to) n) (among (e .from) q)))
+  others-left = filter-filter _ _ es ∙ filter-same _ _ es (λ e _. rw (among-snoc (e .from) q w) (go (eqb (e .from) w) (ltb (e .from) n && ltb (e .to) n) (among (e .from) q)))
     where
       go : (a b c : Bool) → (not a && (b && not c)) ≡ (b && not (c || a))
       go true true true = refl
@@ -240,7 +242,7 @@ module _ (n : ℕ) (es : List Arc) where
       go (no o) ih = walked-out (suc k) h s (omega arith)
 
   -- ---- and where it begins
-  ready-first : (k i : ℕ) → i + k ≤ n → ready (degs n es k i) i ≡ keep (λ v. not (fed v (left n [] es))) (count-up k i)
+  ready-first : (k i : ℕ) → i + k ≤ n → ready (degs n es k i) i ≡ filter (λ v. not (fed v (left n [] es))) (count-up k i)
   unfolding ready degs count-up
   ready-first zero i h = refl
   ready-first (suc k) i h =

@@ -12,7 +12,7 @@ use lib.Dec.{eqb, ltb}
 use lib.ListN.{length, take, getD, set, length-append, length-set, List·getD-eq-default, replicate, length-replicate, getD-replicate}
 use lib.Seq.{getD-set-other, take-append-le, take-suc, take-all}
 use Rattle.lists.specs.Count.{more}
-use Rattle.lists.specs.Keep.{put?}
+use Rattle.lists.specs.Filter.{put?}
 use Rattle.rank.specs.Order.{Arc, among, count-up, upto}
 use Rattle.lists.specs.Member.{In}
 use Rattle.rank.specs.Parts.{indeg, degs, ready, St, app, fall, pickSt, serve, run, start, orderRows}

@@ -12,7 +12,7 @@ use lib.Dec.{eqb, ltb}
 use lib.ListN.{length, take, drop, getD, set, length-take, length-set, drop-of-length-le, replicate, length-replicate, getD-replicate}
 use lib.Seq.{getD-take, length-take-le, getD-set-same, getD-set-other, ext-getD, take-suc-set, append-snoc}
 use Rattle.lists.specs.Count.{more}
-use Rattle.lists.specs.Table.{left-row}
+use Rattle.lists.proofs.Table.{left-row}
 use Rattle.rank.specs.Order.{Arc, arc, arcs}
 use Rattle.rank.specs.Parts.{indeg, degs, ready, start}
 use Rattle.rank.specs.Parts.{find, none, fromAt}

@@ -11,8 +11,10 @@ use borrow.Author.Tests.{eq-eqb, ne-eqb, lt-ltb, le-ltb}
 use lib.Dec.{eqb, ltb}
 use lib.ListN.{length, getD, length-map, length-append}
 use lib.Seq.{append-snoc, getD-append-seam}
-use Rattle.lists.specs.Member.{In, and-left, and-right, in-append, map-append}
-use Rattle.lists.specs.Keep.{put?, keep, in-keep}
+use Rattle.lists.specs.Member.{In}
+use Rattle.lists.proofs.Member.{and-left, and-right, in-append, map-append}
+use Rattle.lists.specs.Filter.{put?, filter}
+use Rattle.lists.proofs.Filter.{in-filter}
 use Rattle.rank.specs.Order.{Arc, arc, among, fed, live, own, others, released, walk, order, whole, count-up, upto}
 use Rattle.rank.specs.Cycle.{Distinct}
 use Rattle.rank.specs.Names.{rowOf, rowArc}
@@ -20,11 +22,11 @@ use Rattle.rank.proofs.Cycle.{upto-in}
 use Rattle.rank.proofs.Sound.{among-in, in-among, at-in}
 use Rattle.rank.proofs.Counts.{among-upto, length-upto}
 
-keep-map-in : {A B : Type 0} (f : A → B) (q : B → Bool) (r : A → Bool) (l : List A) → ((x : A) → In x l → q (f x) ≡ r x) → keep q (map f l) ≡ map f (keep r l)
+keep-map-in : {A B : Type 0} (f : A → B) (q : B → Bool) (r : A → Bool) (l : List A) → ((x : A) → In x l → q (f x) ≡ r x) → filter q (map f l) ≡ map f (filter r l)
 keep-map-in f q r [] h = refl
 keep-map-in f q r (x ∷ l) h = rw (h x (inl refl), keep-map-in f q r l (λ y m. h y (inr m))) (go (r x))
   where
-    go : (b : Bool) → put? b (f x) (map f (keep r l)) ≡ map f (put? b x (keep r l))
+    go : (b : Bool) → put? b (f x) (map f (filter r l)) ≡ map f (put? b x (filter r l))
     go true = refl
     go false = refl
 
@@ -80,8 +82,8 @@ module _ (f : ℕ → ℕ) (n : ℕ) (apart : (a b : ℕ) → a < n → b < n �
   walk-named (suc k) [] left s b = refl
   walk-named (suc k) (v ∷ queue) left s b =
       let hv : v < n = s v (inl refl) in
-      let bo : Between (own v left) = λ e m. b e (in-keep _ left e m .0) in
-      let bt : Between (others v left) = λ e m. b e (in-keep _ left e m .0) in
+      let bo : Between (own v left) = λ e m. b e (in-filter _ left e m .0) in
+      let bt : Between (others v left) = λ e m. b e (in-filter _ left e m .0) in
       let r = released (own v left) (others v left) in
       let q : Small (queue ++ r) = λ x m. ⊎-elim (λ i. s x (inr i)) (in-released (own v left) (others v left) bo x) (in-append queue r x m) in
       let e : released (own (f v) (map named left)) (others (f v) (map named left)) ≡ map f r =
@@ -185,15 +187,15 @@ module _ (names : List ℕ) (d : Distinct names) where
       let rs = live (upto n) (map (rowArc names) es) in
       let small : (x : ℕ) → In x (upto n) → x < n = upto-in n in
       let between : (e : Arc) → In e rs → (e .from < n) × (e .to < n) = λ e m.
-      let t = in-keep _ (map (rowArc names) es) e m .1 in
+      let t = in-filter _ (map (rowArc names) es) e m .1 in
       let a = among (e .from) (upto n) in
       let b = among (e .to) (upto n) in
       (upto-in n (e .from) (among-in (e .from) (upto n) (and-left a b t)), upto-in n (e .to) (among-in (e .to) (upto n) (and-right a b t))) in
-      let first : keep (λ v. not (fed v (map call rs))) names ≡ map name (keep (λ v. not (fed v rs)) (upto n)) =
-      ap (keep (λ v. not (fed v (map call rs)))) (sym (names-of-rows [] names))
+      let first : filter (λ v. not (fed v (map call rs))) names ≡ map name (filter (λ v. not (fed v rs)) (upto n)) =
+      ap (filter (λ v. not (fed v (map call rs)))) (sym (names-of-rows [] names))
       ∙ keep-map-in name _ _ (upto n) (λ v m. ap not (fed-named name n (rows-apart names d) rs v between (small v m))) in
       rw (live-named es, first, length-upto n)
-      (walk-named name n (rows-apart names d) n (keep (λ v. not (fed v rs)) (upto n)) rs (λ x m. small x (in-keep _ (upto n) x m .0)) between)
+      (walk-named name n (rows-apart names d) n (filter (λ v. not (fed v rs)) (upto n)) rs (λ x m. small x (in-filter _ (upto n) x m .0)) between)
 
   pub whole-named : (es : List Arc) → whole names es ≡ whole (upto n) (map (rowArc names) es)
   unfolding whole

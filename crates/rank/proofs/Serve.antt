@@ -13,7 +13,7 @@ use lib.Dec.{eqb}
 use lib.ListN.{length, take, drop, getD, set, length-set, List·getD-eq-default}
 use lib.Seq.{getD-take, length-take-le, getD-set-same, getD-set-other, drop-drop, drop-nil, take-suc-set, take-set-lt, set-getD}
 use Rattle.lists.specs.Count.{more}
-use Rattle.lists.specs.Keep.{put?}
+use Rattle.lists.specs.Filter.{put?}
 use Rattle.rank.specs.Order.{Arc}
 use Rattle.rank.specs.Parts.{ready, St, fall, pickSt, serve, run, orderRows, start}
 use Rattle.rank.specs.declared.Queue.{Queue}

@@ -12,7 +12,7 @@ use lib.Dec.{eqb, ltb}
 use lib.ListN.{length, take, getD, length-append, List·getD-append}
 use lib.Seq.{take-append-le, take-suc, getD-append-seam, take-append-seam}
 use Rattle.lists.specs.Count.{more}
-use Rattle.lists.specs.Keep.{put?}
+use Rattle.lists.specs.Filter.{put?}
 use Rattle.rank.specs.Order.{Arc, among, upto}
 use Rattle.lists.specs.Member.{In}
 use Rattle.rank.specs.Parts.{indeg, degs, ready, St, app, fall, pickSt, serve, run, start, orderRows}

@@ -9,7 +9,8 @@ use mathlib.Core.Bool.{true, false, cond, false≢true}
 use borrow.Author.Tests.{eq-eqb, ne-eqb, eqb-true, eqb-false}
 use lib.Dec.{eqb}
 use lib.ListN.{length, getD, length-map}
-use Rattle.lists.specs.Member.{In, in-of-map, in-map}
+use Rattle.lists.specs.Member.{In}
+use Rattle.lists.proofs.Member.{in-of-map, in-map}
 use Rattle.rank.specs.Order.{Arc, among, order, whole, count-up, upto}
 use Rattle.rank.specs.Cycle.{Walk, step, then, Cyclic, Acyclic, Distinct, Before, Sorted}
 use Rattle.rank.specs.Names.{rowOf, rowArc}

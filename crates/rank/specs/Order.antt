@@ -6,7 +6,7 @@ use mathlib.Core.List.{List, [], _∷_, _++_}
 use mathlib.Core.Bool.{Bool, false, _&&_, _||_, not}
 use lib.ListN.{length}
 use lib.Dec.{eqb}
-use Rattle.lists.specs.Keep.{put?, keep}
+use Rattle.lists.specs.Filter.{put?, filter}
 
 pub record Arc : Type 0 where
   pub from : ℕ
@@ -27,14 +27,14 @@ fed t (e ∷ es) = eqb (e .to) t || fed t es
 
 -- the arcs both ends of which are live
 abbrev pub live : List ℕ → List Arc → List Arc
-live nodes = keep (λ e. among (e .from) nodes && among (e .to) nodes)
+live nodes = filter (λ e. among (e .from) nodes && among (e .to) nodes)
 
 -- the arcs of v, and those of the others
 abbrev pub own : ℕ → List Arc → List Arc
-own v = keep (λ e. eqb (e .from) v)
+own v = filter (λ e. eqb (e .from) v)
 
 abbrev pub others : ℕ → List Arc → List Arc
-others v = keep (λ e. not (eqb (e .from) v))
+others v = filter (λ e. not (eqb (e .from) v))
 
 -- The targets of `mine`, the arcs of the node that is served, in their order: each at the arc that is the last to feed it,
 -- when `left` are the arcs of those that are not served yet.
@@ -51,7 +51,7 @@ walk (suc k) (v ∷ queue) left = v ∷ walk k (queue ++ released (own v left) (
 
 -- live nodes without a live source; then, walking that queue, what is released
 unfoldable pub order : List ℕ → List Arc → List ℕ
-order nodes arcs = walk (length nodes) (keep (λ v. not (fed v (live nodes arcs))) nodes) (live nodes arcs)
+order nodes arcs = walk (length nodes) (filter (λ v. not (fed v (live nodes arcs))) nodes) (live nodes arcs)
 
 -- whether the order has all nodes
 unfoldable pub whole : List ℕ → List Arc → Bool

@@ -6,7 +6,7 @@ use mathlib.Core.Bool.{Bool, true, false, _&&_, cond}
 use mathlib.Core.Path.{_≡_}
 use lib.ListN.{length, take, drop, getD, set}
 use lib.Dec.{eqb, ltb}
-use Rattle.lists.specs.Keep.{put?}
+use Rattle.lists.specs.Filter.{put?}
 use Rattle.lists.specs.Count.{more}
 use Rattle.lists.specs.Table.{rowsOf}
 use Rattle.rank.specs.Order.{Arc, arc, order, whole}

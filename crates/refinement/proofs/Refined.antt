@@ -3,7 +3,7 @@
 use mathlib.Core.Path.{_≡_, refl, sym, ap, _∙_}
 use mathlib.Core.List.{List, map}
 use mathlib.Core.Option.{some}
-use Rattle.lists.specs.Member.{some-inj, none-some}
+use Rattle.lists.proofs.Member.{some-inj, none-some}
 use Rattle.graph.specs.declared.state.Answer.the-variants as graph
 use Rattle.graph.specs.declared.state.Answer as answer
 use Rattle.model.specs.Model.{Model}

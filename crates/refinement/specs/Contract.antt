@@ -7,10 +7,10 @@ use mathlib.Core.Path.{_≡_}
 use mathlib.Core.List.{List, [], _∷_}
 use lib.ListN.{take}
 use Rattle.node.specs.declared.order.LastOrder.the-variants as LastOrder
-use Rattle.graph.specs.Tables.{seenOf}
+use Rattle.graph.specs.Tables.{foundNodeOf}
 use Rattle.graph_rows.specs.Edge.{edgesIn}
 use Rattle.order_table.specs.Prepares.{idsIn}
-use Rattle.voice.specs.Steals.{bookOf}
+use Rattle.voice.specs.Steals.{logOf}
 use Rattle.voice_rows.specs.Rows.{voicesIn}
 use Rattle.model.specs.Numbers.{positionSays}
 use Rattle.model.specs.Spawn.{spawnOf, middle}
@@ -107,7 +107,7 @@ pub data Contract : Call → Memory → Answer → Memory → Type 1 where
   voices : (κs : _) (a : _) (r : _) (s : _) → fn-voices.Post κs a r s → (m : Memory)
       → Contract (call.ask call.voices) (lentVoiceTable (a .0) (a .1 .0 .now) m) (call.all (take r (voicesIn (a .1 .0 .now)))) (lentVoiceTable (a .0) (a .1 .0 .now) m)
   steals : (κs : _) (a : _) (r : _) (s : _) → fn-steals.Post κs a r s → (m : Memory)
-      → Contract (call.ask call.steals) (lentSteals (a .0) (a .1 .0 .now) m) (call.stolen (bookOf r)) (lentSteals (a .0) (a .1 .0 .now) m)
+      → Contract (call.ask call.steals) (lentSteals (a .0) (a .1 .0 .now) m) (call.stolen (logOf r)) (lentSteals (a .0) (a .1 .0 .now) m)
   edges : (κs : _) (a : _) (r : _) (s : _) → fn-edges.Post κs a r s → (m : Memory)
       → Contract (call.ask call.edges) (lentEdges (a .0) (a .1 .0 .now) m) (call.wires (take r (edgesIn (a .1 .0 .now)))) (lentEdges (a .0) (a .1 .0 .now) m)
   processing-order : (κs : _) (a : _) (r : _) (s : _) → fn-processing-order.Post κs a r s → (m : Memory)
@@ -115,7 +115,7 @@ pub data Contract : Call → Memory → Answer → Memory → Type 1 where
   sources : (κs : _) (a : _) (r : _) (s : _) → fn-sources.Post κs a r s → (m : Memory)
       → Contract (call.ask (call.sources (a .1 .1 .0))) (lentEdges (a .0) (a .1 .0 .now) m) (call.fed r) (lentEdges (a .0) (a .1 .0 .now) m)
   node-record : (κs : _) (a : _) (r : _) (s : _) → fn-node-record.Post κs a r s → (m : Memory)
-      → Contract (call.ask (call.nodeRecord (a .1 .1 .0))) (lentNodes (a .0) (a .1 .0 .now) m) (call.foundNode (seenOf r)) (lentNodes (a .0) (a .1 .0 .now) m)
+      → Contract (call.ask (call.nodeRecord (a .1 .1 .0))) (lentNodes (a .0) (a .1 .0 .now) m) (call.foundNode (foundNodeOf r)) (lentNodes (a .0) (a .1 .0 .now) m)
   clock : (κs : _) (a : _) (r : _) (s : _) → fn-clock.Post κs a r s → (m : Memory)
       → Contract (call.ask call.clock) (lentState (a .0) m) (call.time r) (lentState (a .0) m)
   page : (κs : _) (a : _) (r : _) (s : _) → fn-page.Post κs a r s → (m : Memory)

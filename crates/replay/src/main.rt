@@ -1,16 +1,16 @@
 // Plays a script from standard input on a newly made store, and writes the transcript. docs/REPLAY.md describes both.
 ghost use mathlib.Core.Path.{_≡_};
 ghost use lib.ListN.{length};
+use codec::field::after;
+use codec::field::at_most;
+use codec::word::and_number;
+use codec::word::end_line;
+use codec::word::text;
 use libc::STDIN_FILENO;
 use play::player::Player;
 use play::player::new_player;
 use play::player::play;
 use script::entry::entry_end;
-use wire::field::after;
-use wire::field::at_most;
-use wire::word::and_number;
-use wire::word::end_line;
-use wire::word::text;
 
 // What was played of a window: the position after the last entry, and how many there were.
 struct Played {

@@ -7,7 +7,7 @@ use mathlib.Core.Bool.{true, false}
 use lib.ListN.{length, take, drop, getD}
 use lib.Seq.{append-snoc, getD-take, length-take-le}
 use borrow.Author.Tests.{lt-ltb, le-ltb}
-use Rattle.lists.specs.Table.{left-row, passed-row}
+use Rattle.lists.proofs.Table.{left-row, passed-row}
 use Rattle.scheduler.specs.declared.event.Event.{Event}
 use Rattle.scheduler.specs.Queue.{later, before?, inserted}
 

@@ -10,7 +10,8 @@ use lib.ListN.{length}
 use lib.Dec.{ltb}
 use borrow.Author.Tests.{ltb-true, ltb-false, lt-ltb, le-ltb, leb-false}
 use Rattle.lists.specs.Member.{In}
-use Rattle.lists.specs.Keep.{put?, keep, in-keep, keep-all, keep-none}
+use Rattle.lists.specs.Filter.{put?, filter}
+use Rattle.lists.proofs.Filter.{in-filter, filter-all, filter-none}
 use Rattle.scheduler.specs.declared.event.Event.{Event}
 use Rattle.scheduler.specs.Queue.{later, before?, inserted, full, queueAfter, due, takenBefore, leftAfter}
 
@@ -46,26 +47,26 @@ inserted-sorted e (f ∷ l) s = go (later e f) refl (inserted-sorted e l (s .1))
         (λ x i. ⊎-elim (λ p. let q : x .time ≡ e .time = ap (λ y. y .time) p in omega arith) (λ j. s .0 x j) (in-inserted e l x i), ih)
 
 -- the events of an ordered queue that are not later than e, then e, then those that are later: "equal times by insertion"
-pub inserted-place : (e : Event) (l : List Event) → Sorted l → inserted e l ≡ keep (λ f. not (later e f)) l ++ (e ∷ keep (later e) l)
+pub inserted-place : (e : Event) (l : List Event) → Sorted l → inserted e l ≡ filter (λ f. not (later e f)) l ++ (e ∷ filter (later e) l)
 inserted-place e [] s = refl
 inserted-place e (f ∷ l) s = go (later e f) refl (inserted-place e l (s .1))
   where
-    go : (b : Bool) → later e f ≡ b → inserted e l ≡ keep (λ f. not (later e f)) l ++ (e ∷ keep (later e) l)
-        → before? b e f l (inserted e l) ≡ put? (not b) f (keep (λ f. not (later e f)) l) ++ (e ∷ put? b f (keep (later e) l))
+    go : (b : Bool) → later e f ≡ b → inserted e l ≡ filter (λ f. not (later e f)) l ++ (e ∷ filter (later e) l)
+        → before? b e f l (inserted e l) ≡ put? (not b) f (filter (λ f. not (later e f)) l) ++ (e ∷ put? b f (filter (later e) l))
     go true t ih =
         let h : e .time < f .time = ltb-true _ _ t in
         let on : (x : Event) → In x l → later e x ≡ true = (λ x i. let k : e .time < x .time = omega (arith, s .0 x i) in lt-ltb _ _ k) in
-        let none : keep (λ x. not (later e x)) l ≡ [] = keep-none (λ x. not (later e x)) l (λ x i. ap not (on x i)) in
-        rw (none, keep-all (later e) l on)
+        let none : filter (λ x. not (later e x)) l ≡ [] = filter-none (λ x. not (later e x)) l (λ x i. ap not (on x i)) in
+        rw (none, filter-all (later e) l on)
     go false t ih = ap (λ z. f ∷ z) ih
 
 -- what is left out of an ordered queue leaves it ordered
-pub keep-sorted : (t : Event → Bool) (l : List Event) → Sorted l → Sorted (keep t l)
+pub keep-sorted : (t : Event → Bool) (l : List Event) → Sorted l → Sorted (filter t l)
 keep-sorted t [] s = tt
 keep-sorted t (e ∷ l) s = go (t e) (keep-sorted t l (s .1))
   where
-    go : (b : Bool) → Sorted (keep t l) → Sorted (put? b e (keep t l))
-    go true ih = (λ f i. s .0 f (in-keep t l f i .0), ih)
+    go : (b : Bool) → Sorted (filter t l) → Sorted (put? b e (filter t l))
+    go true ih = (λ f i. s .0 f (in-filter t l f i .0), ih)
     go false ih = ih
 
 -- of an ordered queue a deadline takes the first ones, and leaves the others
@@ -79,8 +80,8 @@ drained-prefix deadline (e ∷ l) s = go (due deadline e) refl (drained-prefix d
     go false t ih =
         let h : deadline ≤ e .time = ltb-false _ _ t in
         let off : (f : Event) → In f l → due deadline f ≡ false = (λ f i. let k : deadline ≤ f .time = omega (arith, s .0 f i) in le-ltb _ _ k) in
-        let none : takenBefore deadline l ≡ [] = keep-none (due deadline) l off in
-        let all : leftAfter deadline l ≡ l = keep-all (λ f. not (due deadline f)) l (λ f i. ap not (off f i)) in
+        let none : takenBefore deadline l ≡ [] = filter-none (due deadline) l off in
+        let all : leftAfter deadline l ≡ l = filter-all (λ f. not (due deadline f)) l (λ f i. ap not (off f i)) in
         rw (none, all)
 
 -- a deadline is at most 2^64 - 1, so an event at 2^64 - 1 is never taken

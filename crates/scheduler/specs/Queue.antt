@@ -7,7 +7,7 @@ use mathlib.Core.Option.{Option, none, some}
 use mathlib.Core.Bool.{Bool, true, false, not, cond}
 use lib.ListN.{length, take, drop}
 use lib.Dec.{leb, ltb}
-use Rattle.lists.specs.Keep.{keep}
+use Rattle.lists.specs.Filter.{filter}
 use Rattle.node.specs.Refusal.{numberOf}
 use Rattle.node.specs.declared.refusal.Refusal.the-variants.{TableFull}
 use Rattle.scheduler.specs.declared.event.Event.{Event}
@@ -64,7 +64,7 @@ due deadline e = ltb (e .time) deadline
 -- The events that a deadline takes, and those that it leaves, each in their order. Of an ordered queue the taken ones are
 -- the first ones (`drained-prefix` of `Sorted`).
 abbrev pub takenBefore : ℕ → List Event → List Event
-takenBefore deadline l = keep (due deadline) l
+takenBefore deadline l = filter (due deadline) l
 
 abbrev pub leftAfter : ℕ → List Event → List Event
-leftAfter deadline l = keep (λ e. not (due deadline e)) l
+leftAfter deadline l = filter (λ e. not (due deadline e)) l

@@ -2,7 +2,7 @@
 use Prim.Native.Nat.{ℕ}
 use mathlib.Core.Path.{_≡_}
 use mathlib.Core.List.{List}
-use Rattle.wire.specs.Field.{little}
+use Rattle.codec.specs.Field.{little}
 use Rattle.synthdef.specs.Tables.{nodeRows, edgeRows, paramRows}
 use Rattle.synthdef.specs.declared.def.SynthDef.{SynthDef}
 use Rattle.script.specs.Def.{nodeAt, nodeEnd, edgeAt, edgeEnd, paramAt, paramEnd, Table, DefAt}

@@ -11,7 +11,7 @@ use borrow.Author.Tests.{leb-true, leb-false}
 use lib.Dec.{leb}
 use lib.ListN.{length, take, set, length-take, length-set}
 use lib.Seq.{take-suc-set, take-all, take-take, take-append-le, append-snoc}
-use Rattle.wire.specs.Field.{moved, little}
+use Rattle.codec.specs.Field.{moved, little}
 use Rattle.script.specs.Rows.{rowsAt, rowsEnd}
 use Rattle.script.specs.Def.{Table}
 

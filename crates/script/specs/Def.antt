@@ -5,7 +5,7 @@ use mathlib.Core.Path.{_≡_}
 use mathlib.Core.List.{List}
 use lib.Dec.{eqb}
 use lib.ListN.{take}
-use Rattle.wire.specs.Field.{moved, little}
+use Rattle.codec.specs.Field.{moved, little}
 use Rattle.node.specs.Name.{nameOf}
 use Rattle.synthdef.specs.Tables.{nodeRows, edgeRows, paramRows}
 use Rattle.synthdef.specs.declared.def.DefNode.{DefNode}

@@ -4,7 +4,7 @@ use mathlib.Core.List.{List, [], _∷_}
 use mathlib.Core.Bool.{cond}
 use lib.Dec.{leb}
 use lib.ListN.{getD}
-use Rattle.wire.specs.Field.{last, moved, little}
+use Rattle.codec.specs.Field.{last, moved, little}
 use Rattle.script.specs.Name.{nameEnd}
 use Rattle.script.specs.Def.{defEnd}
 use Rattle.script.specs.declared.entry.Form.{Form}

@@ -5,7 +5,7 @@ use mathlib.Core.List.{List}
 use mathlib.Core.Bool.{cond}
 use lib.Dec.{eqb}
 use lib.Ieee.{Float, binary32, ofBits}
-use Rattle.wire.specs.Field.{moved, little}
+use Rattle.codec.specs.Field.{moved, little}
 use Rattle.node.specs.declared.order.GlideShape.{GlideShape}
 use Rattle.node.specs.declared.order.GlideShape.the-variants.{Hold, Linear, Sine, Exponential}
 use Rattle.node.specs.declared.order.GlideSpace.{GlideSpace}

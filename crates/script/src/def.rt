@@ -4,6 +4,8 @@ ghost use Rattle.synthdef.specs.Tables.{nodeRows, edgeRows, paramRows};
 ghost use Rattle.script.specs.Def.{nodeAt, nodeEnd, edgeAt, edgeEnd, paramAt, paramEnd, Table, DefAt, defEnd};
 use crate::name::name_at;
 use crate::name::name_end;
+use codec::field::after;
+use codec::field::byte_at;
 use node::name::name_of;
 use synthdef::def::DefEdge;
 use synthdef::def::DefEdges;
@@ -12,8 +14,6 @@ use synthdef::def::DefNodes;
 use synthdef::def::Param;
 use synthdef::def::Params;
 use synthdef::def::SynthDef;
-use wire::field::after;
-use wire::field::byte_at;
 
 // A table that was read, and the position after it. A count above the table's capacity is kept; its rows are read and left out.
 struct ReadNodes {

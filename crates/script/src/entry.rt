@@ -4,9 +4,9 @@ ghost use Rattle.script.specs.Def.{defEnd};
 ghost use Rattle.script.specs.Entry.{formOf, formEnd, within, samplesOf, entryEnd};
 use crate::def::def_at;
 use crate::name::name_end;
-use wire::field::after;
-use wire::field::byte_at;
-use wire::field::word_at;
+use codec::field::after;
+use codec::field::byte_at;
+use codec::field::word_at;
 
 // How the fields of an entry stand.
 enum Form {

@@ -1,13 +1,13 @@
 // Glides and actions.
 ghost use mathlib.Core.Path.{_≡_};
 ghost use Rattle.script.specs.Glide.{floatAt, shapeOf, spaceOf, glideAt, actionOf};
+use codec::field::after;
+use codec::field::byte_at;
+use codec::field::float;
+use codec::field::word_at;
 use node::order::Action;
 use node::order::GlideShape;
 use node::order::GlideSpace;
-use wire::field::after;
-use wire::field::byte_at;
-use wire::field::float;
-use wire::field::word_at;
 
 pub struct Glide {
     pub target: f32,

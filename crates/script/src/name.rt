@@ -1,9 +1,9 @@
 // A name: how many bytes, and the bytes.
 ghost use mathlib.Core.Path.{_≡_};
 ghost use Rattle.script.specs.Name.{nameAt, nameEnd};
-use wire::field::after;
-use wire::field::byte_at;
-use wire::field::bytes_at;
+use codec::field::after;
+use codec::field::byte_at;
+use codec::field::bytes_at;
 
 // The bytes of the name at `at`.
 pub fn name_at(s: &[u8], at: usize) -> &[u8]

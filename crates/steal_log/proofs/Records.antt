@@ -9,9 +9,9 @@ use lib.ListN.{length, drop}
 use Rattle.voice.specs.declared.steals.StealRecord.{StealRecord}
 use Rattle.voice.specs.Steals.{noBook, turned}
 use Rattle.voice.proofs.Records.{book-long}
-use Rattle.lists.specs.Table.{left-none}
+use Rattle.lists.proofs.Table.{left-none}
 use Rattle.words.proofs.Rows.{rows-long}
-use Rattle.steal_log.specs.Rows.{stealOf, recordsIn, stealsIn, bookIn}
+use Rattle.steal_log.specs.Rows.{stealOf, recordsIn, stealsIn, logIn}
 
 made : ℕ → Float → Bool → Bool → StealRecord
 made s l k c = record { sample = s; level = l; known = k; cut = c }
@@ -24,11 +24,11 @@ pub room : (c : List ℕ) → length c ≡ 320 → length (recordsIn c) ≡ 64
 room c long = rows-long 5 stealOf c ∙ ap (λ k. k / 5) long
 
 -- as many are held as there were, and at most 64
-pub held-is : (c : List ℕ) (total next : ℕ) → length c ≡ 320 → length (bookIn c total next .newest) ≡ min total 64
+pub held-is : (c : List ℕ) (total next : ℕ) → length c ≡ 320 → length (logIn c total next .newest) ≡ min total 64
 held-is c total next long = book-long (stealsIn c total next) (room c long)
 
 -- words that a new store is lent, whatever they are, hold no steals
-pub none-held : (c : List ℕ) (next : ℕ) → bookIn c 0 next ≡ noBook
+pub none-held : (c : List ℕ) (next : ℕ) → logIn c 0 next ≡ noBook
 none-held c next =
     let l = turned (next % 64) (recordsIn c) in
     let all : length l - 0 ≡ length l = omega arith in

@@ -4,7 +4,7 @@ use Prim.Native.Nat.{ℕ}
 use mathlib.Core.Path.{_≡_}
 use mathlib.Core.List.{List}
 use lib.ListN.{length, getD}
-use Rattle.voice.specs.Steals.{Book, bookOf}
+use Rattle.voice.specs.Steals.{StealLog, logOf}
 use Rattle.voice.specs.declared.steals.StealRecord.{StealRecord}
 use Rattle.voice.specs.declared.steals.Steals.{Steals}
 use Rattle.words.specs.Fields.{isSet, floatFrom, longAt}
@@ -21,8 +21,8 @@ recordsIn c = rows 5 stealOf c
 abbrev pub stealsIn : List ℕ → ℕ → ℕ → Steals
 stealsIn c total next = record { rows = recordsIn c; total = total; next = next }
 
-abbrev pub bookIn : List ℕ → ℕ → ℕ → Book
-bookIn c total next = bookOf (stealsIn c total next)
+abbrev pub logIn : List ℕ → ℕ → ℕ → StealLog
+logIn c total next = logOf (stealsIn c total next)
 
 -- words that stand for a record
 pub record Stands (r : StealRecord) (ws : List ℕ) : Type 0 where

@@ -21,7 +21,7 @@ ghost use mathlib.Core.List.{List, []};
 ghost use Prim.Native.Nat.{ℕ};
 ghost use lib.ListN.{length, getD, set};
 ghost use Rattle.voice.specs.Steals.{pushed, marked, foundAt};
-ghost use Rattle.steal_log.specs.Rows.{stealOf, recordsIn, stealsIn, bookIn, Stands};
+ghost use Rattle.steal_log.specs.Rows.{stealOf, recordsIn, stealsIn, logIn, Stands};
 
 // The words of the table.
 pub const STEAL_WORDS: usize = 320;
@@ -118,7 +118,7 @@ pub fn write_steals(t: &mut StealTable, s: Steals) -> Ring
 
 // One more record.
 pub fn log_steal(t: &mut StealTable, total: u64, next: usize, r: StealRecord) -> Ring
-    ensures { λ x. ⌜ bookIn (now (t .exit)) (x .total) (x .next) ≡ pushed (bookIn (now (t .entry)) total next) r ⌝ }
+    ensures { λ x. ⌜ logIn (now (t .exit)) (x .total) (x .next) ≡ pushed (logIn (now (t .entry)) total next) r ⌝ }
 {
     let old = read_steals(t, total, next);
     let new = push_steal(old, r);
@@ -127,7 +127,7 @@ pub fn log_steal(t: &mut StealTable, total: u64, next: usize, r: StealRecord) ->
 
 // The record of that number is cut, if it is still held. Records are numbered from 0.
 pub fn log_cut(t: &mut StealTable, total: u64, next: usize, number: u64) -> Ring
-    ensures { λ x. ⌜ bookIn (now (t .exit)) (x .total) (x .next) ≡ marked (bookIn (now (t .entry)) total next) number ⌝ }
+    ensures { λ x. ⌜ logIn (now (t .exit)) (x .total) (x .next) ≡ marked (logIn (now (t .entry)) total next) number ⌝ }
 {
     let old = read_steals(t, total, next);
     let new = mark_cut(old, number);
@@ -136,7 +136,7 @@ pub fn log_cut(t: &mut StealTable, total: u64, next: usize, number: u64) -> Ring
 
 // The record at the place `i` of those that are held, oldest first.
 pub fn logged_at(t: &StealTable, total: u64, next: usize, i: usize) -> StealFound
-    ensures { λ r. ⌜ r ≡ foundAt i (bookIn (now (t .entry)) total next .newest) ⌝ }
+    ensures { λ r. ⌜ r ≡ foundAt i (logIn (now (t .entry)) total next .newest) ⌝ }
 {
     let s = read_steals(t, total, next);
     steal_at(s, i)
@@ -144,7 +144,7 @@ pub fn logged_at(t: &StealTable, total: u64, next: usize, i: usize) -> StealFoun
 
 // How many records are held, where there were `total` steals.
 pub fn held_count(total: u64) -> usize
-    ensures { λ r. ⌜ ((c : List ℕ) (next : ℕ) → length c ≡ 320 → r ≡ length (bookIn c total next .newest)) ⌝ }
+    ensures { λ r. ⌜ ((c : List ℕ) (next : ℕ) → length c ≡ 320 → r ≡ length (logIn c total next .newest)) ⌝ }
 {
     at_most(total as usize, 64)
 }

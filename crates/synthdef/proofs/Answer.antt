@@ -8,7 +8,8 @@ use mathlib.Core.List.{List, [], _∷_, _++_}
 use mathlib.Core.Option.{Option, none, some}
 use mathlib.Core.Bool.{Bool, false, _||_}
 use lib.ListN.{length, getD, getElem?, length-append, length-replicate}
-use Rattle.lists.specs.Member.{In, some-inj, none-some}
+use Rattle.lists.specs.Member.{In}
+use Rattle.lists.proofs.Member.{some-inj, none-some}
 use Rattle.node.specs.Silence.{silenceOf}
 use Rattle.synthdef.specs.Edges.{sourceAt}
 use Rattle.synthdef.specs.Silent.{Silence, silentSource, byRule}

@@ -9,14 +9,18 @@ use mathlib.Core.Bool.{Bool, true, false, not, _&&_, _||_, false≢true}
 use lib.ListN.{length, length-take}
 use lib.Dec.{eqb}
 use borrow.Author.Tests.{eqb-true}
-use Rattle.lists.specs.Member.{In, and-left, and-right, some-inj, none-some}
-use Rattle.lists.specs.Keep.{put?, keep, keep-append, keep-all, keep-keep, keep-same}
-use Rattle.lists.specs.Find.{find, mapO, or?, Once, find-in, none-find}
-use Rattle.synthdef.specs.Rows.{any, none-any, table-rows}
+use Rattle.lists.specs.Member.{In}
+use Rattle.lists.proofs.Member.{and-left, and-right, some-inj, none-some}
+use Rattle.lists.specs.Filter.{put?, filter}
+use Rattle.lists.proofs.Filter.{filter-append, filter-all, filter-filter, filter-same}
+use Rattle.lists.specs.Find.{find, mapO, or?, Once}
+use Rattle.lists.proofs.Find.{find-in, none-find}
+use Rattle.synthdef.specs.Rows.{any}
 use Rattle.synthdef.specs.Tables.{edgeRows, edgeTable}
 use Rattle.synthdef.specs.Edges.{endsAt, taken, counted, sourceAt, connect, connectAll}
 use Rattle.synthdef.specs.declared.def.DefEdge.{DefEdge}
 use Rattle.synthdef.specs.declared.def.DefEdges.{DefEdges}
+use Rattle.synthdef.proofs.Rows.{none-any, table-rows}
 
 -- a counted edge is one of the edges
 pub counted-in : (es : List DefEdge) (x : DefEdge) → In x (counted es) → In x es
@@ -36,13 +40,13 @@ length-counted (e ∷ es) = go (not (taken e es)) (length-counted es)
     go true h = omega arith
     go false h = omega arith
 
-connect-onto : (l es : List DefEdge) → connectAll l es ≡ keep (λ x. not (taken x es)) l ++ counted es
-connect-onto l [] = sym (append-nil _ ∙ keep-all (λ x. true) l (λ x i. refl))
+connect-onto : (l es : List DefEdge) → connectAll l es ≡ filter (λ x. not (taken x es)) l ++ counted es
+connect-onto l [] = sym (append-nil _ ∙ filter-all (λ x. true) l (λ x i. refl))
 connect-onto l (e ∷ es) =
     connect-onto (connect l e) es
-    ∙ ap (λ z. z ++ counted es) (keep-append (free es) (keep (away e) l) (e ∷ []) ∙ ap (λ z. z ++ keep (free es) (e ∷ [])) (both-free l))
-    ∙ append-assoc (keep (free (e ∷ es)) l) (keep (free es) (e ∷ [])) (counted es)
-    ∙ ap (λ z. keep (free (e ∷ es)) l ++ z) (last (free es e))
+    ∙ ap (λ z. z ++ counted es) (filter-append (free es) (filter (away e) l) (e ∷ []) ∙ ap (λ z. z ++ filter (free es) (e ∷ [])) (both-free l))
+    ∙ append-assoc (filter (free (e ∷ es)) l) (filter (free es) (e ∷ [])) (counted es)
+    ∙ ap (λ z. filter (free (e ∷ es)) l ++ z) (last (free es e))
   where
     free : List DefEdge → DefEdge → Bool
     free m x = not (taken x m)
@@ -56,8 +60,8 @@ connect-onto l (e ∷ es) =
     de-morgan false true = refl
     de-morgan false false = refl
 
-    both-free : (m : List DefEdge) → keep (free es) (keep (away e) m) ≡ keep (free (e ∷ es)) m
-    both-free m = keep-keep (free es) (away e) m ∙ keep-same _ (free (e ∷ es)) m (λ x i. de-morgan (endsAt (x .to) (x .port) e) (taken x es))
+    both-free : (m : List DefEdge) → filter (free es) (filter (away e) m) ≡ filter (free (e ∷ es)) m
+    both-free m = filter-filter (free es) (away e) m ∙ filter-same _ (free (e ∷ es)) m (λ x i. de-morgan (endsAt (x .to) (x .port) e) (taken x es))
 
     last : (b : Bool) → put? b e [] ++ counted es ≡ put? b e (counted es)
     last true = refl

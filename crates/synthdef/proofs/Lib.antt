@@ -7,3 +7,4 @@ pub mod Examples
 pub mod Walk
 pub mod Within
 pub mod Theorem
+pub mod Rows

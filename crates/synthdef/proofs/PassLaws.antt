@@ -6,8 +6,9 @@ use mathlib.Core.Logic.{_⊎_, inl, inr, ⊎-elim}
 use mathlib.Core.List.{List, [], _∷_}
 use mathlib.Core.Bool.{Bool, true, false, _&&_, _||_, cond, Bool·beq, false≢true}
 use lib.ListN.{length, getD, replicate}
-use Rattle.lists.specs.Member.{and-left, and-right, both}
-use Rattle.lists.specs.Count.{count, count-length}
+use Rattle.lists.proofs.Member.{and-left, and-right, both}
+use Rattle.lists.specs.Count.{count}
+use Rattle.lists.proofs.Count.{count-length}
 use Rattle.synthdef.specs.Rows.{every, any}
 use Rattle.synthdef.specs.Plan.{stepSources, silentIn, says, passFrom, pass, passes, sameFlags, settled, planSilent}
 use Rattle.synthdef.specs.declared.plan.DoneStep.{DoneStep}

@@ -11,12 +11,13 @@ use borrow.Author.Tests.{ne-eqb}
 use Rattle.node.specs.Silence.{silenceOf}
 use Rattle.node.specs.declared.silence.SilenceRule.{SilenceRule}
 use Rattle.node.specs.declared.silence.SilenceRule.the-variants.{Own, AnyPort, FirstPort, EveryPort, LevelPort, AmpPort, InPort}
-use Rattle.synthdef.specs.Rows.{every, any, table-rows}
+use Rattle.synthdef.specs.Rows.{every, any}
 use Rattle.synthdef.specs.Edges.{sourceAt}
 use Rattle.synthdef.specs.Silent.{anyFrom, everyFrom, ofPort, byRule, silentSource, byKind}
 use Rattle.synthdef.specs.Plan.{span, namedSpan, spanOf, isEvery, more, sourcesFrom, step, summed, stepBy, stepOf, stepSources, silentIn, says}
 use Rattle.synthdef.specs.declared.def.DefNode.{DefNode}
 use Rattle.synthdef.specs.declared.def.DefEdge.{DefEdge}
+use Rattle.synthdef.proofs.Rows.{table-rows}
 
 module _ (es : List DefEdge) (i : ℕ) where
   pub length-sources : (p k : ℕ) → length (sourcesFrom es i p k) ≤ k

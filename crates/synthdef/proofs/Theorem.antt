@@ -8,7 +8,8 @@ use mathlib.Core.List.{List, [], _∷_, map}
 use mathlib.Core.Option.{some}
 use mathlib.Core.Bool.{Bool, true}
 use lib.ListN.{length, getElem?, length-take}
-use Rattle.lists.specs.Member.{In, in-of-map, some-inj, none-some}
+use Rattle.lists.specs.Member.{In}
+use Rattle.lists.proofs.Member.{in-of-map, some-inj, none-some}
 use Rattle.rank.specs.Order.{upto, order}
 use Rattle.rank.proofs.Cycle.{in-upto}
 use Rattle.rank.proofs.Theorems.{distinct-upto, whole-sorted}

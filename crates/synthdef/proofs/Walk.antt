@@ -7,7 +7,8 @@ use mathlib.Core.Option.{some}
 use mathlib.Core.Bool.{Bool, true, false}
 use lib.ListN.{length, take, drop, getD, set, replicate, length-take, drop-of-length-le}
 use lib.Seq.{length-take-le, set-at, append-snoc}
-use Rattle.lists.specs.Table.{rowsOf, left-row, append-row}
+use Rattle.lists.specs.Table.{rowsOf}
+use Rattle.lists.proofs.Table.{left-row, append-row}
 use Rattle.lists.specs.Find.{find}
 use Rattle.synthdef.specs.Rows.{every, any}
 

@@ -7,13 +7,12 @@ use mathlib.Core.Bool.{Bool, true, false, _&&_, _||_}
 use lib.ListN.{length}
 use lib.Dec.{leb, ltb, eqb}
 use borrow.Author.Tests.{le-leb, leb-true, lt-ltb, ltb-true, eq-eqb, eqb-true}
-use Rattle.lists.specs.Member.{and-left, and-right, both}
+use Rattle.lists.proofs.Member.{and-left, and-right, both}
 use Rattle.node.specs.Name.{named}
 use Rattle.node.specs.declared.name.Name.{Name}
 use Rattle.rank.specs.Order.{upto}
 use Rattle.rank.specs.Cycle.{Acyclic}
 use Rattle.rank.proofs.Theorems.{distinct-upto, whole-acyclic, short-cyclic}
-use Rattle.synthdef.specs.Rows.{every-in, in-every}
 use Rattle.synthdef.specs.Tables.{nodeRows, edgeRows, paramRows}
 use Rattle.synthdef.specs.Edges.{counted}
 use Rattle.synthdef.specs.Limits.{portGiven, nodeAllowed, edgeAllowed, paramAllowed, arcOf, ordered, allowed, NodeWithin, EdgeWithin, ParamWithin, Within}
@@ -21,6 +20,7 @@ use Rattle.synthdef.specs.declared.def.DefNode.{DefNode}
 use Rattle.synthdef.specs.declared.def.DefEdge.{DefEdge}
 use Rattle.synthdef.specs.declared.def.Param.{Param}
 use Rattle.synthdef.specs.declared.def.SynthDef.{SynthDef}
+use Rattle.synthdef.proofs.Rows.{every-in, in-every}
 
 split : {a b : Bool} → (a && b) ≡ true → (a ≡ true) × (b ≡ true)
 split {a} {b} h = (and-left a b h, and-right a b h)

@@ -5,7 +5,7 @@ use mathlib.Core.List.{List, [], _∷_, _++_}
 use mathlib.Core.Option.{Option}
 use mathlib.Core.Bool.{Bool, not, _&&_}
 use lib.Dec.{eqb}
-use Rattle.lists.specs.Keep.{put?, keep}
+use Rattle.lists.specs.Filter.{put?, filter}
 use Rattle.lists.specs.Find.{find, mapO}
 use Rattle.synthdef.specs.Rows.{any}
 use Rattle.synthdef.specs.declared.def.DefEdge.{DefEdge}
@@ -29,7 +29,7 @@ sourceAt es i p = mapO (λ e. e .from) (find (endsAt i p) es)
 
 -- Connecting, as the graph does: "`connect` drops the edge at that port and appends."
 abbrev pub connect : List DefEdge → DefEdge → List DefEdge
-connect l e = keep (λ x. not (endsAt (x .to) (x .port) e)) l ++ (e ∷ [])
+connect l e = filter (λ x. not (endsAt (x .to) (x .port) e)) l ++ (e ∷ [])
 
 abbrev pub connectAll : List DefEdge → List DefEdge → List DefEdge
 connectAll l [] = l

@@ -65,7 +65,7 @@ fn spawns(s: Store, rounds: u32) -> u32 {
     repeat(s, Call::Spawn, chain_7(), rounds)
 }
 
-// A victim fades, and the newcomer takes the last port.
+// A victim fades, and the new voice takes the last port.
 #[no_mangle]
 pub extern "C" fn piecrag_spawn_fade(rounds: u32) -> u32 {
     spawns(full_budget(StealPolicy::Oldest), rounds)

@@ -1,8 +1,12 @@
 // What a call answers, in one line.
 use crate::words::id_word;
 use crate::words::level_word;
+use codec::field::bytes_at;
+use codec::word::and_number;
+use codec::word::end_line;
+use codec::word::text;
+use graph::state::AddAnswer;
 use graph::state::Answer;
-use graph::state::Given;
 use node::refusal::Refusal;
 use node::refusal::refusal_number;
 use store::answer::Outcome;
@@ -10,10 +14,6 @@ use store::answer::Position;
 use store::answer::Rendered;
 use store::answer::Spawned;
 use voice::policy::Level;
-use wire::field::bytes_at;
-use wire::word::and_number;
-use wire::word::end_line;
-use wire::word::text;
 
 pub fn refused_line(refusal: Refusal) {
     text(b"refused");
@@ -35,14 +35,14 @@ pub fn answer_line(answer: Answer) {
     }
 }
 
-pub fn given_line(given: Given) {
+pub fn given_line(given: AddAnswer) {
     match given {
-        Given::Id(id) => {
+        AddAnswer::Id(id) => {
             text(b"node");
             id_word(id);
             end_line();
         }
-        Given::Refused(refusal) => refused_line(refusal),
+        AddAnswer::Refused(refusal) => refused_line(refusal),
     }
 }
 

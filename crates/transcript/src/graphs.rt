@@ -3,6 +3,11 @@ use crate::words::flag_word;
 use crate::words::glide_words;
 use crate::words::id_word;
 use crate::words::name_word;
+use codec::field::at_most;
+use codec::word::and_number;
+use codec::word::and_sample;
+use codec::word::end_line;
+use codec::word::text;
 use edges::ports::Source;
 use graph::state::Sink;
 use node::order::LastOrder;
@@ -10,11 +15,6 @@ use node::record::Edges;
 use node::record::Node;
 use node::record::Nodes;
 use order::Order;
-use wire::field::at_most;
-use wire::word::and_number;
-use wire::word::and_sample;
-use wire::word::end_line;
-use wire::word::text;
 
 fn edge_words(edges: Edges) {
     let n = at_most(edges.count, 1024);

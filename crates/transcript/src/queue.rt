@@ -1,14 +1,14 @@
 // Pending events.
 use crate::words::glide_words;
 use crate::words::name_word;
+use codec::field::at_most;
+use codec::word::and_number;
+use codec::word::and_sample;
+use codec::word::end_line;
+use codec::word::text;
 use node::order::Action;
 use scheduler::event::Event;
 use scheduler::queue::Events;
-use wire::field::at_most;
-use wire::word::and_number;
-use wire::word::and_sample;
-use wire::word::end_line;
-use wire::word::text;
 
 fn event_line(e: Event) {
     text(b"event");

@@ -9,11 +9,11 @@ use crate::stolen::steal_lines;
 use crate::voices::tracked_line;
 use crate::voices::voice_lines;
 use crate::words::flag_word;
+use codec::word::and_number;
+use codec::word::end_line;
+use codec::word::text;
 use graph::state::Graph;
 use store::state::Store;
-use wire::word::and_number;
-use wire::word::end_line;
-use wire::word::text;
 
 fn graph_lines(g: Graph) {
     text(b"prepared");

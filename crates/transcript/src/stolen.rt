@@ -1,14 +1,14 @@
 // Steal records.
 use crate::words::level_word;
+use codec::word::and_number;
+use codec::word::end_line;
+use codec::word::text;
 use voice::steals::StealFound;
 use voice::steals::StealRecord;
 use voice::steals::Steals;
 use voice::steals::held_steals;
 use voice::steals::record_level;
 use voice::steals::steal_at;
-use wire::word::and_number;
-use wire::word::end_line;
-use wire::word::text;
 
 fn record_words(r: StealRecord) {
     and_number(r.sample);

@@ -2,6 +2,10 @@
 use crate::words::flag_word;
 use crate::words::id_word;
 use crate::words::level_word;
+use codec::field::at_most;
+use codec::word::and_number;
+use codec::word::end_line;
+use codec::word::text;
 use edges::ports::Port;
 use edges::ports::port_from;
 use landing::feeder;
@@ -16,10 +20,6 @@ use store::voices::VoiceState;
 use store::voices::Voices;
 use voice_table::Looked;
 use voice_table::voice_count;
-use wire::field::at_most;
-use wire::word::and_number;
-use wire::word::end_line;
-use wire::word::text;
 
 fn state_words(state: VoiceState) {
     match state {

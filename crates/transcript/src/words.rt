@@ -1,14 +1,14 @@
 // The words of more than one line. Each has a space before it.
+use codec::word::and_number;
+use codec::word::and_sample;
+use codec::word::hex_bytes;
+use codec::word::text;
 use node::name::Name;
 use node::name::is_named;
 use node::order::GlideShape;
 use node::order::GlideSpace;
 use node::record::NodeId;
 use voice::policy::Level;
-use wire::word::and_number;
-use wire::word::and_sample;
-use wire::word::hex_bytes;
-use wire::word::text;
 
 pub fn id_word(id: NodeId) {
     and_number(id.0 as u64);

@@ -2,24 +2,24 @@
 ghost use Prim.Native.Nat.{_≤_};
 use bus::SampleRate;
 use bus::Written;
+use codec::field::after;
+use codec::field::float;
+use codec::field::float_room;
+use codec::field::floats_at;
+use codec::field::long_at;
+use codec::field::word_at;
+use codec::field::word_room;
+use codec::field::words_at;
+use codec::word::and_number;
+use codec::word::and_samples;
+use codec::word::end_line;
+use codec::word::number;
+use codec::word::text;
 use libc::STDOUT_FILENO;
 use store::config::Config;
 use voice::policy::Budget;
 use voice::policy::BudgetScope;
 use voice::policy::StealPolicy;
-use wire::field::after;
-use wire::field::float;
-use wire::field::float_room;
-use wire::field::floats_at;
-use wire::field::long_at;
-use wire::field::word_at;
-use wire::field::word_room;
-use wire::field::words_at;
-use wire::word::and_number;
-use wire::word::and_samples;
-use wire::word::end_line;
-use wire::word::number;
-use wire::word::text;
 
 pub fn rate(s: &[u8], at: usize) -> usize {
     match bus::sample_rate(float(word_at(s, at))) {

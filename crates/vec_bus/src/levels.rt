@@ -1,13 +1,13 @@
 // Roots, narrowings and levels.
-use wire::field::after;
-use wire::field::double;
-use wire::field::float_room;
-use wire::field::floats_at;
-use wire::field::long_at;
-use wire::field::word_at;
-use wire::word::end_line;
-use wire::word::long_sample;
-use wire::word::sample;
+use codec::field::after;
+use codec::field::double;
+use codec::field::float_room;
+use codec::field::floats_at;
+use codec::field::long_at;
+use codec::field::word_at;
+use codec::word::end_line;
+use codec::word::long_sample;
+use codec::word::sample;
 
 pub fn root(s: &[u8], at: usize) -> usize {
     long_sample(level::sqrt(double(long_at(s, at))));

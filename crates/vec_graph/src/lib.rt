@@ -1,4 +1,13 @@
 // Answers the vectors of `graph`, `edges` and `order`: scripts of calls on a graph.
+use codec::field::after;
+use codec::field::at_most;
+use codec::field::byte_at;
+use codec::field::bytes_at;
+use codec::field::long_at;
+use codec::field::word_at;
+use codec::word::and_number;
+use codec::word::end_line;
+use codec::word::text;
 use edges::ports::Port;
 use edges::ports::Source;
 use edges::ports::free_port;
@@ -16,9 +25,9 @@ use graph::host::set_sink;
 use graph::nodes::node_at;
 use graph::prepare::prepare_graph;
 use graph::removal::remove_voice;
+use graph::state::AddAnswer;
 use graph::state::Answer;
 use graph::state::Changed;
-use graph::state::Given;
 use graph::state::Graph;
 use graph::state::Sink;
 use graph::state::with_edges;
@@ -30,15 +39,6 @@ use node::record::VoiceId;
 use node::refusal::Refusal;
 use node::refusal::refusal_number;
 use order::Order;
-use wire::field::after;
-use wire::field::at_most;
-use wire::field::byte_at;
-use wire::field::bytes_at;
-use wire::field::long_at;
-use wire::field::word_at;
-use wire::word::and_number;
-use wire::word::end_line;
-use wire::word::text;
 
 // The graph after a call, and the position after the call.
 struct Played {
@@ -60,14 +60,14 @@ fn refused_line(refusal: Refusal) {
     end_line();
 }
 
-fn given_line(given: Given) {
+fn given_line(given: AddAnswer) {
     match given {
-        Given::Id(id) => {
+        AddAnswer::Id(id) => {
             text(b"node");
             id_word(id);
             end_line();
         }
-        Given::Refused(refusal) => refused_line(refusal),
+        AddAnswer::Refused(refusal) => refused_line(refusal),
     }
 }
 

@@ -1,5 +1,12 @@
 // Answers the vectors of `synthdef`: whether a definition is allowed, its counted edges, which done flags silence it, and the nodes
 // of its parameters.
+use codec::field::after;
+use codec::field::at_most;
+use codec::field::byte_at;
+use codec::field::word_at;
+use codec::word::and_number;
+use codec::word::end_line;
+use codec::word::text;
 use node::name::name_of;
 use script::def::edges_at;
 use script::def::params_at;
@@ -16,13 +23,6 @@ use synthdef::params::param_node;
 use synthdef::plan::DonePlan;
 use synthdef::plan::done_plan;
 use synthdef::silent::plan_silent;
-use wire::field::after;
-use wire::field::at_most;
-use wire::field::byte_at;
-use wire::field::word_at;
-use wire::word::and_number;
-use wire::word::end_line;
-use wire::word::text;
 
 // The nodes that were read, and the position after them. A count above the table's capacity is kept; its rows are read and left out.
 struct ReadNodes {

@@ -1,4 +1,15 @@
 // Histories of the event queue.
+use codec::field::after;
+use codec::field::at_most;
+use codec::field::byte_at;
+use codec::field::bytes_at;
+use codec::field::long_at;
+use codec::field::word_at;
+use codec::word::and_number;
+use codec::word::and_sample;
+use codec::word::end_line;
+use codec::word::number;
+use codec::word::text;
 use node::name::Name;
 use node::name::is_named;
 use node::name::name_of;
@@ -15,17 +26,6 @@ use scheduler::queue::no_events;
 use scheduler::queue::schedule;
 use script::glide::action_of;
 use script::glide::glide_at;
-use wire::field::after;
-use wire::field::at_most;
-use wire::field::byte_at;
-use wire::field::bytes_at;
-use wire::field::long_at;
-use wire::field::word_at;
-use wire::word::and_number;
-use wire::word::and_sample;
-use wire::word::end_line;
-use wire::word::number;
-use wire::word::text;
 
 // The queue after a call, and the position after the call.
 struct Played {

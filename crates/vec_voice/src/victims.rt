@@ -1,5 +1,15 @@
 // Victims, admissions and steal records.
 ghost use Prim.Native.Nat.{_≤_};
+use codec::field::after;
+use codec::field::byte_at;
+use codec::field::float;
+use codec::field::long_at;
+use codec::field::word_at;
+use codec::word::and_number;
+use codec::word::and_sample;
+use codec::word::end_line;
+use codec::word::number;
+use codec::word::text;
 use node::record::NodeId;
 use node::record::VoiceId;
 use script::config::budget_of;
@@ -24,16 +34,6 @@ use voice::steals::push_steal;
 use voice::steals::record_level;
 use voice::steals::steal_at;
 use voice::steals::steal_record;
-use wire::field::after;
-use wire::field::byte_at;
-use wire::field::float;
-use wire::field::long_at;
-use wire::field::word_at;
-use wire::word::and_number;
-use wire::word::and_sample;
-use wire::word::end_line;
-use wire::word::number;
-use wire::word::text;
 
 fn level_at(s: &[u8], at: usize) -> Level {
     match byte_at(s, at) {
@@ -42,7 +42,7 @@ fn level_at(s: &[u8], at: usize) -> Level {
     }
 }
 
-// The tracked voices that count for a newcomer on `bus`: of n rows, each a voice id, its bus and its level.
+// The tracked voices that count for a new voice on `bus`: of n rows, each a voice id, its bus and its level.
 fn candidates_at(s: &[u8], at: usize, n: usize, scope: BudgetScope, bus: NodeId) -> Candidates
     requires { ⌜ n ≤ 64 ⌝ }
 {
@@ -86,7 +86,7 @@ pub fn victim(s: &[u8], at: usize) -> usize {
     after(at, 5 + 17 * n)
 }
 
-// The budget, the policy, the scope and the newcomer's bus; then how many voices are tracked, and the voices.
+// The budget, the policy, the scope and the new voice's bus; then how many voices are tracked, and the voices.
 pub fn admission(s: &[u8], at: usize) -> usize {
     let n = word_at(s, after(at, 11)) as usize;
     if n > 64 {

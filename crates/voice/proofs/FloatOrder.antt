@@ -11,7 +11,7 @@ use lib.Dec.{leb, ltb, eqb}
 use lib.Ieee.{Float, nan, inf, fin, up, down, below, level, lt, eq, le, isNan}
 use lib.Ieee.Fits.{down-pos}
 use borrow.Author.Tests.{ltb-true, ltb-false, leb-true, leb-false, eqb-true, lt-ltb, eq-eqb}
-use Rattle.lists.specs.Member.{and-left, and-right, both}
+use Rattle.lists.proofs.Member.{and-left, and-right, both}
 
 or-true : (p q : Bool) → (p || q) ≡ true → (p ≡ true) ⊎ (q ≡ true)
 or-true true q h = inl refl

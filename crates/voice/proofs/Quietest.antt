@@ -8,7 +8,8 @@ use mathlib.Core.List.{List, [], _∷_, _++_}
 use mathlib.Core.Bool.{Bool, true, false, true≢false}
 use lib.ListN.{length}
 use lib.Ieee.{Float, nan, inf, fin, lt, eq, le, isNan}
-use Rattle.lists.specs.Member.{In, in-right, in-append}
+use Rattle.lists.specs.Member.{In}
+use Rattle.lists.proofs.Member.{in-right, in-append}
 use Rattle.node.specs.declared.record.VoiceId.{VoiceId}
 use Rattle.voice.specs.declared.policy.StealPolicy.the-variants as policy
 use Rattle.voice.specs.declared.policy.Level.{Level}

@@ -9,7 +9,7 @@ use borrow.Author.Tests.{le-leb, lt-leb}
 use Rattle.voice.specs.declared.steals.StealRecord.{StealRecord}
 use Rattle.voice.specs.declared.steals.Steals.{Steals}
 use Rattle.voice.specs.declared.steals.StealFound.the-variants as found
-use Rattle.voice.specs.Steals.{lastOf, turned, bookOf, pushed, marked, cutOf, cutAt, foundAt}
+use Rattle.voice.specs.Steals.{lastOf, turned, logOf, pushed, marked, cutOf, cutAt, foundAt}
 use Rattle.voice.proofs.Ring.{turned-long, turned-push, turned-set, turned-get, last-long, last-push, last-set, last-get}
 
 -- ---- a list of records
@@ -44,12 +44,12 @@ module _ (s : Steals) (long : length (s .rows) ≡ 64) where
   whole = turned-long (s .rows) 64 (s .next % 64) long below
 
   -- as many are held as there were, and at most 64
-  pub book-long : length (bookOf s .newest) ≡ min (s .total) 64
+  pub book-long : length (logOf s .newest) ≡ min (s .total) 64
   book-long = let h : min (s .total) 64 ≤ 64 = omega arith in last-long (turned (s .next % 64) (s .rows)) 64 whole (min (s .total) 64) h
 
   -- one more: the newest 64 of those that were held and this one
   push-newest : (r : StealRecord) (t q : ℕ) → t ≡ min (s .total + 1) 18446744073709551615 → q ≡ (s .next % 64 + 1) % 64
-      → lastOf (min t 64) (turned (q % 64) (set (s .rows) (s .next % 64) r)) ≡ lastOf 64 (bookOf s .newest ++ (r ∷ []))
+      → lastOf (min t 64) (turned (q % 64) (set (s .rows) (s .next % 64) r)) ≡ lastOf 64 (logOf s .newest ++ (r ∷ []))
   push-newest r t q e at =
       let up : s .next % 64 + 1 < 64 → q % 64 ≡ s .next % 64 + 1 = (λ h. omega arith) in
       let wrap : s .next % 64 + 1 ≡ 64 → q % 64 ≡ 0 = (λ h. omega arith) in
@@ -61,25 +61,25 @@ module _ (s : Steals) (long : length (s .rows) ≡ 64) where
       ∙ last-push (turned (s .next % 64) (s .rows)) 64 whole (min (s .total) 64) r some most
 
   pub book-push : (r : StealRecord) (t : ℕ) → t ≡ min (s .total + 1) 18446744073709551615
-      → bookOf (record { rows = set (s .rows) (s .next % 64) r; total = t; next = (s .next % 64 + 1) % 64 }) ≡ pushed (bookOf s) r
+      → logOf (record { rows = set (s .rows) (s .next % 64) r; total = t; next = (s .next % 64 + 1) % 64 }) ≡ pushed (logOf s) r
   book-push r t e =
       ap (λ l. record { count = t; newest = l }) (push-newest r t ((s .next % 64 + 1) % 64) e refl)
-      ∙ ap (λ n. record { count = n; newest = lastOf 64 (bookOf s .newest ++ (r ∷ [])) }) e
+      ∙ ap (λ n. record { count = n; newest = lastOf 64 (logOf s .newest ++ (r ∷ [])) }) e
 
   -- ---- a mark: of a number that no record has yet, of one that is no longer held, and of one that is
 
-  pub mark-late : (k : ℕ) → s .total ≤ k → bookOf s ≡ marked (bookOf s) k
+  pub mark-late : (k : ℕ) → s .total ≤ k → logOf s ≡ marked (logOf s) k
   mark-late k h =
-      let l = bookOf s .newest in
+      let l = logOf s .newest in
       let first = s .total - length l in
       let b = book-long in
       let le : first ≤ k = omega arith in
       let over : length l ≤ k - first = omega arith in
       ap (λ n. record { count = s .total; newest = n }) (sym (ap (λ t. cond t (cutAt (k - first) l) l) (le-leb first k le) ∙ cut-out (k - first) l over))
 
-  pub mark-early : (k : ℕ) → 64 < s .total - k → bookOf s ≡ marked (bookOf s) k
+  pub mark-early : (k : ℕ) → 64 < s .total - k → logOf s ≡ marked (logOf s) k
   mark-early k h =
-      let l = bookOf s .newest in
+      let l = logOf s .newest in
       let first = s .total - length l in
       let b = book-long in
       let lt : k < first = omega arith in
@@ -99,20 +99,20 @@ module _ (s : Steals) (long : length (s .rows) ≡ 64) where
     back : 64 - age ≡ 64 - min (s .total) 64 + (min (s .total) 64 - age)
     back = omega arith
 
-    pub back-get : getD (bookOf s .newest) (min (s .total) 64 - age) d ≡ getD (s .rows) q d
+    pub back-get : getD (logOf s .newest) (min (s .total) 64 - age) d ≡ getD (s .rows) q d
     back-get =
         last-get (turned (s .next % 64) (s .rows)) 64 whole (min (s .total) 64) (min (s .total) 64 - age) (64 - age) back d
         ∙ turned-get (s .rows) 64 (s .next % 64) long below (64 - age) q inside up wrap d
 
-    pub back-set : (x : StealRecord) → lastOf (min (s .total) 64) (turned (s .next % 64) (set (s .rows) q x)) ≡ set (bookOf s .newest) (min (s .total) 64 - age) x
+    pub back-set : (x : StealRecord) → lastOf (min (s .total) 64) (turned (s .next % 64) (set (s .rows) q x)) ≡ set (logOf s .newest) (min (s .total) 64 - age) x
     back-set x =
         ap (lastOf (min (s .total) 64)) (sym (turned-set (s .rows) 64 (s .next % 64) long below (64 - age) q inside up wrap x))
         ∙ last-set (turned (s .next % 64) (s .rows)) 64 whole (min (s .total) 64) (min (s .total) 64 - age) (64 - age) back x
 
   pub mark-held : (d : StealRecord) (k q : ℕ) → k < s .total → s .total - k ≤ 64 → q ≡ (s .next % 64 + (64 - (s .total - k))) % 64
-      → bookOf (record { rows = set (s .rows) q (cutOf (getD (s .rows) q d)); total = s .total; next = s .next }) ≡ marked (bookOf s) k
+      → logOf (record { rows = set (s .rows) q (cutOf (getD (s .rows) q d)); total = s .total; next = s .next }) ≡ marked (logOf s) k
   mark-held d k q h near at =
-      let l = bookOf s .newest in
+      let l = logOf s .newest in
       let first = s .total - length l in
       let b = book-long in
       let age = s .total - k in
@@ -129,16 +129,16 @@ module _ (s : Steals) (long : length (s .rows) ≡ 64) where
 
   -- ---- a reading
 
-  pub read-none : (i : ℕ) → min (s .total) 64 ≤ i → found.Nothing ≡ foundAt i (bookOf s .newest)
-  read-none i h = let b = book-long in let over : length (bookOf s .newest) ≤ i = omega arith in sym (found-out i (bookOf s .newest) over)
+  pub read-none : (i : ℕ) → min (s .total) 64 ≤ i → found.Nothing ≡ foundAt i (logOf s .newest)
+  read-none i h = let b = book-long in let over : length (logOf s .newest) ≤ i = omega arith in sym (found-out i (logOf s .newest) over)
 
   pub read-held : (d : StealRecord) (i q : ℕ) → i < min (s .total) 64 → q ≡ (s .next % 64 + (64 - (min (s .total) 64 - i))) % 64
-      → found.Record (getD (s .rows) q d) ≡ foundAt i (bookOf s .newest)
+      → found.Record (getD (s .rows) q d) ≡ foundAt i (logOf s .newest)
   read-held d i q h at =
       let b = book-long in
-      let inside : i < length (bookOf s .newest) = omega arith in
+      let inside : i < length (logOf s .newest) = omega arith in
       let held : min (s .total) 64 - i ≤ min (s .total) 64 = omega arith in
       let new : 0 < min (s .total) 64 - i = omega arith in
       let same : min (s .total) 64 - (min (s .total) 64 - i) ≡ i = omega arith in
-      ap found.Record (sym (back-get d (min (s .total) 64 - i) q held new at) ∙ ap (λ j. getD (bookOf s .newest) j d) same)
-      ∙ sym (found-in d i (bookOf s .newest) inside)
+      ap found.Record (sym (back-get d (min (s .total) 64 - i) q held new at) ∙ ap (λ j. getD (logOf s .newest) j d) same)
+      ∙ sym (found-in d i (logOf s .newest) inside)

@@ -8,7 +8,7 @@ use mathlib.Core.Path.{_≡_, sym, ap, _∙_}
 use mathlib.Core.List.{List, [], _∷_, _++_, append-nil, append-assoc}
 use lib.ListN.{length, take, drop, getD, set, length-append, length-take, length-drop, length-set, drop-of-length-le, List·getD-append}
 use lib.Seq.{take-all, set-append-left, drop-set-lt, drop-set-add, take-set-le, take-set-lt, drop-append-le, drop-drop, getD-append-add, getD-drop, getD-take}
-use Rattle.lists.specs.Table.{append-row}
+use Rattle.lists.proofs.Table.{append-row}
 use Rattle.voice.specs.Steals.{lastOf, turned}
 
 -- a store past the first of two lists

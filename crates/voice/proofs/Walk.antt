@@ -8,7 +8,7 @@ use mathlib.Core.Bool.{Bool}
 use lib.ListN.{length, take, drop, getD}
 use lib.Ieee.{Float}
 use lib.Seq.{length-take-le, getD-take}
-use Rattle.lists.specs.Table.{left-row}
+use Rattle.lists.proofs.Table.{left-row}
 use Rattle.voice.specs.declared.policy.Candidate.{Candidate}
 use Rattle.voice.specs.declared.policy.Held.{Held}
 use Rattle.voice.specs.declared.policy.Held.the-variants as held

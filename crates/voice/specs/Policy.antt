@@ -87,7 +87,7 @@ victim policy.Quietest l = quietest l
 
 -- ---- admission
 
--- whether a tracked voice of the bus `theirs` counts for a newcomer on `bus`
+-- whether a tracked voice of the bus `theirs` counts for a newVoice on `bus`
 abbrev pub counts : BudgetScope → NodeId → NodeId → Bool
 counts Global theirs bus = true
 counts PerGroup theirs bus = eqb (theirs .0) (bus .0)
@@ -103,7 +103,7 @@ decides false v = admission.Admit
 decides true Nobody = admission.Reject
 decides true (Goes place voice) = admission.Steal place voice
 
--- What a newcomer meets; the candidates are the tracked voices that count for it. "Without a budget nobody is tracked": it
+-- What a newVoice meets; the candidates are the tracked voices that count for it. "Without a budget nobody is tracked": it
 -- is admitted, and the caller does not track it.
 abbrev pub admits : Budget → StealPolicy → List Candidate → Admission
 admits b p l = decides (atBudget b (length l)) (victim p l)

@@ -32,11 +32,11 @@ cutOf r = record { sample = r .sample; level = r .level; known = r .known; cut =
 
 -- ---- the records as a running count and the newest ones, oldest first
 
-pub record Book : Type 0 where
+pub record StealLog : Type 0 where
   pub count : ℕ
   pub newest : List StealRecord
 
-abbrev pub noBook : Book
+abbrev pub noBook : StealLog
 noBook = record { count = 0; newest = [] }
 
 -- the last n of a list
@@ -44,7 +44,7 @@ abbrev pub lastOf : {A : Type 0} → ℕ → List A → List A
 lastOf n l = drop (length l - n) l
 
 -- One more. The count stays at 2^64 - 1, which no run passes: no voice is stolen twice, and the voice ids end there.
-abbrev pub pushed : Book → StealRecord → Book
+abbrev pub pushed : StealLog → StealRecord → StealLog
 pushed b r = record { count = min (b .count + 1) 18446744073709551615; newest = lastOf 64 (b .newest ++ (r ∷ [])) }
 
 -- the i-th of a list, cut; nothing where there is none
@@ -55,7 +55,7 @@ cutAt (suc i) (r ∷ l) = r ∷ cutAt i l
 
 -- Records are numbered from 0 in the order in which they came: the first that is still held has the number count - length.
 -- "mark its record, if still held, cut"
-abbrev pub marked : Book → ℕ → Book
+abbrev pub marked : StealLog → ℕ → StealLog
 marked b k =
     let first = b .count - length (b .newest) in
     record { count = b .count; newest = cond (leb first k) (cutAt (k - first) (b .newest)) (b .newest) }
@@ -74,5 +74,5 @@ turned p rows = drop p rows ++ take p rows
 
 -- What a ring stands for: of its records, oldest first, the last `total`, of which at most 64. Every value of the struct
 -- stands for some book.
-abbrev pub bookOf : Steals → Book
-bookOf s = record { count = s .total; newest = lastOf (min (s .total) 64) (turned (s .next % 64) (s .rows)) }
+abbrev pub logOf : Steals → StealLog
+logOf s = record { count = s .total; newest = lastOf (min (s .total) 64) (turned (s .next % 64) (s .rows)) }

@@ -13,7 +13,7 @@ pub enum StealPolicy {
     Quietest,
 }
 
-// Which tracked voices a budget counts: all, or those of the newcomer's bus.
+// Which tracked voices a budget counts: all, or those of the new voice's bus.
 pub enum BudgetScope {
     Global,
     PerGroup,
@@ -59,7 +59,7 @@ pub enum Budget {
     AtMost(usize),
 }
 
-// What a newcomer meets.
+// What a new voice meets.
 pub enum Admission {
     Admit,
     Reject,
@@ -196,7 +196,7 @@ pub fn pick_victim(t: Candidates, policy: StealPolicy) -> Victim
     }
 }
 
-// Whether a tracked voice of the bus `theirs` counts for a newcomer on `bus`.
+// Whether a tracked voice of the bus `theirs` counts for a new voice on `bus`.
 pub fn counts_for(scope: BudgetScope, theirs: NodeId, bus: NodeId) -> bool
     ensures { λ r. ⌜ r ≡ counts scope theirs bus ⌝ }
 {
@@ -206,7 +206,7 @@ pub fn counts_for(scope: BudgetScope, theirs: NodeId, bus: NodeId) -> bool
     }
 }
 
-// What a newcomer meets. The candidates are the tracked voices that count for it.
+// What a new voice meets. The candidates are the tracked voices that count for it.
 pub fn request_in(budget: Budget, policy: StealPolicy, t: Candidates) -> Admission
     ensures { λ r. ⌜
         (r ≡ admits budget policy (candidatesOf t))

@@ -3,7 +3,7 @@ use crate::policy::at_most_64;
 ghost use mathlib.Core.Path.{_≡_};
 ghost use Prim.Native.Nat.{_+_, _-_, _%_, _≤_, min};
 ghost use lib.ListN.{length};
-ghost use Rattle.voice.specs.Steals.{recordOf, recordLevel, noBook, bookOf, pushed, marked, foundAt};
+ghost use Rattle.voice.specs.Steals.{recordOf, recordLevel, noBook, logOf, pushed, marked, foundAt};
 
 // One steal: the clock at it, the victim's level if it was known, and whether the victim was cut instead of faded. `level`
 // says nothing unless `known`.
@@ -60,7 +60,7 @@ pub fn record_level(r: StealRecord) -> Level
 
 // No steals yet.
 pub fn no_steals() -> Steals
-    ensures { λ r. ⌜ bookOf r ≡ noBook ⌝ }
+    ensures { λ r. ⌜ logOf r ≡ noBook ⌝ }
 {
     let r = StealRecord {
         sample: 0,
@@ -96,7 +96,7 @@ fn place_back(next: usize, age: usize) -> usize
 
 // One more record. It takes the place of the oldest once 64 are held.
 pub fn push_steal(s: Steals, r: StealRecord) -> Steals
-    ensures { λ x. ⌜ bookOf x ≡ pushed (bookOf s) r ⌝ }
+    ensures { λ x. ⌜ logOf x ≡ pushed (logOf s) r ⌝ }
 {
     let p = s.next % 64;
     let mut rows = s.rows;
@@ -110,7 +110,7 @@ pub fn push_steal(s: Steals, r: StealRecord) -> Steals
 
 // Marks the record of that number cut, if it is still held. Records are numbered from 0.
 pub fn mark_cut(s: Steals, number: u64) -> Steals
-    ensures { λ x. ⌜ bookOf x ≡ marked (bookOf s) number ⌝ }
+    ensures { λ x. ⌜ logOf x ≡ marked (logOf s) number ⌝ }
 {
     let total = s.total;
     if total <= number {
@@ -131,14 +131,14 @@ pub fn mark_cut(s: Steals, number: u64) -> Steals
 
 // How many of the newest records are held.
 pub fn held_steals(s: Steals) -> usize
-    ensures { λ r. ⌜ r ≡ length (bookOf s .newest) ⌝ }
+    ensures { λ r. ⌜ r ≡ length (logOf s .newest) ⌝ }
 {
     at_most_64(s.total as usize)
 }
 
 // The record at the place `i` of those that are held, oldest first.
 pub fn steal_at(s: Steals, i: usize) -> StealFound
-    ensures { λ r. ⌜ r ≡ foundAt i (bookOf s .newest) ⌝ }
+    ensures { λ r. ⌜ r ≡ foundAt i (logOf s .newest) ⌝ }
 {
     let n = at_most_64(s.total as usize);
     if n <= i {

@@ -8,8 +8,8 @@ use lib.Dec.{leb}
 use lib.ListN.{length, take, getD, length-map, length-append}
 use lib.Seq.{length-take-le}
 use borrow.Author.Tests.{leb-true, leb-false, le-leb, lt-leb, not-false}
-use Rattle.lists.specs.Member.{and-left, and-right, both}
-use Rattle.lists.specs.Table.{passed-row}
+use Rattle.lists.proofs.Member.{and-left, and-right, both}
+use Rattle.lists.proofs.Table.{passed-row}
 use Rattle.words.specs.Place.{Holds}
 use Rattle.node.specs.declared.record.NodeId.{NodeId}
 use Rattle.node.specs.declared.record.VoiceId.{VoiceId}

@@ -12,10 +12,13 @@ use mathlib.Core.Bool.{Bool, true, false, not, false≢true}
 use lib.Dec.{eqb}
 use lib.ListN.{length, take, length-append, length-map, length-take}
 use borrow.Author.Tests.{lt-leb, eq-eqb}
-use Rattle.lists.specs.Member.{In, and-right, both, some-inj, none-some, map-append}
-use Rattle.lists.specs.Keep.{keep, keep-append, length-keep}
-use Rattle.lists.specs.Find.{find, mapO, isSome, find-in, find-none}
-use Rattle.lists.specs.Count.{count-is-length, count-keep}
+use Rattle.lists.specs.Member.{In}
+use Rattle.lists.proofs.Member.{and-right, both, some-inj, none-some, map-append}
+use Rattle.lists.specs.Filter.{filter}
+use Rattle.lists.proofs.Filter.{filter-append, length-filter}
+use Rattle.lists.specs.Find.{find, mapO, isSome}
+use Rattle.lists.proofs.Find.{find-in, find-none}
+use Rattle.lists.proofs.Count.{count-is-length, count-filter}
 use Rattle.node.specs.declared.record.NodeId.{NodeId}
 use Rattle.node.specs.declared.record.VoiceId.{VoiceId}
 use Rattle.node.specs.declared.record.Node.{Node}
@@ -37,7 +40,7 @@ use Rattle.synthdef.specs.declared.def.SynthDef.{SynthDef}
 use Rattle.synthdef.proofs.Within.{allowed-within}
 use Rattle.store.specs.declared.voices.Voice.{Voice}
 use Rattle.model.specs.Voice.{id, feeder}
-use Rattle.model.specs.Spawn.{Wire, wire, defWire, fadeNode, voiceNodes, voiceWires, voiceOut, appendAll, wireAll, landGraph, fadeGraph}
+use Rattle.model.specs.Spawn.{Wire, wire, defWire, fadeNode, voiceNodes, voiceWires, voiceOut, appendAll, wireAll, instantiateGraph, fadeGraph}
 use Rattle.voice_graph.specs.Added.{numbered, putAll, fadeEdges, withFade, voiceEdges, withVoice}
 use Rattle.voice_graph.proofs.Laws.{has-room, fade-on, voice-on}
 
@@ -51,7 +54,7 @@ put-place es e h = rw (lt-leb 1024 (length es) h)
 
 length-wired : (es : List Edge) (e : Edge) → length (wired es e) ≤ length es + 1
 length-wired es e =
-    omega (arith, length-append (dropAt es (e .to) (e .port)) (e ∷ []), length-keep (λ d. not (endsAt (e .to) (e .port) d)) es)
+    omega (arith, length-append (dropAt es (e .to) (e .port)) (e ∷ []), length-filter (λ d. not (endsAt (e .to) (e .port) d)) es)
 
 put-wired : (es l : List Edge) → length es + length l ≤ 1024 → putAll es l ≡ wiredAll es l
 put-wired es [] h = refl
@@ -96,12 +99,12 @@ module _ (v : Voice) (p : ℕ) (g : GraphView) where
       omega (
         arith,
         length-append (dropAt (wired es e) (v .bus) p) (edge (id (g .next)) (v .bus) p ∷ []),
-        ap length (keep-append off rest (e ∷ [])),
-        length-append (keep off rest) (keep off (e ∷ [])),
-        length-keep off (e ∷ []),
+        ap length (filter-append off rest (e ∷ [])),
+        length-append (filter off rest) (filter off (e ∷ [])),
+        length-filter off (e ∷ []),
         count-is-length off rest,
         count-is-length off es,
-        count-keep off (λ d. not (endsAt (id (g .next)) 0 d)) es,
+        count-filter off (λ d. not (endsAt (id (g .next)) 0 d)) es,
         drop-fewer es (v .bus) p (fed-taken h),
       )
 
@@ -229,7 +232,7 @@ module _ (d : SynthDef) (ok : allowed d ≡ true) (base : ℕ) (ids : base + d .
 
 module _ (w : VoiceId) (d : SynthDef) (pan : Bool) (bus : NodeId) (p : ℕ) (g : GraphView) where
   pub voice-room : allowed d ≡ true → length (g .nodes) + d .nodes .count + 2 ≤ 512 → length (g .edges) + d .edges .count + 3 ≤ 1024
-      → g .next + d .nodes .count + 2 ≤ 4294967296 → withVoice w d pan bus p g ≡ landGraph w d pan bus p g
+      → g .next + d .nodes .count + 2 ≤ 4294967296 → withVoice w d pan bus p g ≡ instantiateGraph w d pan bus p g
   voice-room ok places wires ids =
       let count = length (nodeRows (d .nodes)) in
       let small = rows-few 24 (d .nodes .count) (d .nodes .rows) in
@@ -241,7 +244,7 @@ module _ (w : VoiceId) (d : SynthDef) (pan : Bool) (bus : NodeId) (p : ℕ) (g :
       let last = edge (id (g .next + voiceOut d pan)) bus p in
       let fit : length (g .edges) + length (voiceEdges (id (g .next)) d pan bus p) ≤ 1024 = omega (arith, wires-few d ok (g .next) ids pan bus p) in
       voice-on w d pan bus p g (has-room (length (g .nodes)) (g .next) (count + 2) a b)
-      ∙ same-view _ (landGraph w d pan bus p g)
+      ∙ same-view _ (instantiateGraph w d pan bus p g)
       (sym (wire-nodes (g .next) ws g₁ ∙ append-nodes ns g))
       (put-wired (g .edges) (voiceEdges (id (g .next)) d pan bus p) fit
       ∙ ap (wiredAll (g .edges)) (sym (all-wires d ok (g .next) ids pan bus p))

@@ -1,5 +1,5 @@
 -- What a fade and a new voice put into the graph, for every graph: where there is room, what the model's `fadeGraph` and
--- `landGraph` say (proofs/Room.antt). Without a place or an id for each node the graph stays as it was; of the edges those
+-- `instantiateGraph` say (proofs/Room.antt). Without a place or an id for each node the graph stays as it was; of the edges those
 -- without a place are left out; an id past the last is the last.
 use Prim.Native.Nat.{ℕ, _+_, _≤_}
 use mathlib.Core.List.{List, [], _∷_, _++_, map}
@@ -19,7 +19,7 @@ use Rattle.synthdef.specs.Edges.{counted}
 use Rattle.synthdef.specs.Instance.{idAfter, liveEdges}
 use Rattle.synthdef.specs.declared.def.DefNodes.{DefNodes}
 use Rattle.synthdef.specs.declared.def.SynthDef.{SynthDef}
-use Rattle.model.specs.Desk.{withGraph}
+use Rattle.model.specs.SharedState.{withGraph}
 use Rattle.model.specs.Voice.{id}
 use Rattle.model.specs.Spawn.{defNode, constNode, panNode, fadeNode, voiceNodes, voiceOut}
 use Rattle.model.specs.Model.{Model}
@@ -52,7 +52,7 @@ grown g ns es =
 
 -- the model with another graph
 abbrev pub regraphed : GraphView → Model → Model
-regraphed g m = record { desk = withGraph g (m .desk); voices = m .voices }
+regraphed g m = record { shared = withGraph g (m .shared); voices = m .voices }
 
 -- ---- a fade of the voice w, between the node that feeds the bus and the bus
 abbrev pub fadeEdges : NodeId → NodeId → NodeId → ℕ → List Edge

@@ -3,7 +3,7 @@ use Prim.Native.Nat.{ℕ}
 use mathlib.Core.List.{List, map}
 use mathlib.Core.Bool.{Bool, cond}
 use lib.Dec.{ltb}
-use Rattle.lists.specs.Keep.{keep}
+use Rattle.lists.specs.Filter.{filter}
 use Rattle.node.specs.declared.record.Node.{Node}
 use Rattle.graph.specs.Node.{nodeAt}
 use Rattle.voice.specs.declared.policy.Level.{Level}
@@ -20,4 +20,4 @@ abbrev pub candidateAt : List Node → ℕ → Voice → Candidate
 candidateAt ns clock v = record { voice = v .id; level = levelAt ns clock v }
 
 abbrev pub candidatesAt : List Node → ℕ → (Voice → Bool) → List Voice → List Candidate
-candidatesAt ns clock q vs = map (candidateAt ns clock) (keep q vs)
+candidatesAt ns clock q vs = map (candidateAt ns clock) (filter q vs)

@@ -10,7 +10,7 @@ use words::table::move_row;
 ghost use mathlib.Core.Path.{_≡_};
 ghost use mathlib.Core.Bool.{not};
 ghost use lib.ListN.{length, take};
-ghost use Rattle.lists.specs.Keep.{keep};
+ghost use Rattle.lists.specs.Filter.{filter};
 ghost use Rattle.lists.specs.Find.{find};
 ghost use Rattle.model.specs.Voice.{isVoice};
 ghost use Rattle.voice_rows.specs.Listed.{isAnyOf, pushedVoice};
@@ -66,7 +66,7 @@ pub fn push_voice(t: &mut VoiceTable, count: usize, v: Voice) -> usize
 
 // Removes the voices whose ids are among `ids`, in one pass that closes the gaps: how many are left.
 pub fn remove_voices(t: &mut [u32], count: usize, ids: &[u64]) -> usize
-    ensures { λ r. ⌜ Holds (voicesIn (now (t .exit))) r (keep (λ v. not (isAnyOf (now (ids .entry)) v)) (take count (voicesIn (now (t .entry))))) ⌝ }
+    ensures { λ r. ⌜ Holds (voicesIn (now (t .exit))) r (filter (λ v. not (isAnyOf (now (ids .entry)) v)) (take count (voicesIn (now (t .entry))))) ⌝ }
 {
     let n = at_most(count, t.len() / 142);
     let mut w: usize = 0;
@@ -85,7 +85,7 @@ pub fn remove_voices(t: &mut [u32], count: usize, ids: &[u64]) -> usize
 
 // Removes the voice `v`: how many are left.
 pub fn remove_voice(t: &mut [u32], count: usize, v: VoiceId) -> usize
-    ensures { λ r. ⌜ Holds (voicesIn (now (t .exit))) r (keep (λ x. not (isVoice v x)) (take count (voicesIn (now (t .entry))))) ⌝ }
+    ensures { λ r. ⌜ Holds (voicesIn (now (t .exit))) r (filter (λ x. not (isVoice v x)) (take count (voicesIn (now (t .entry))))) ⌝ }
 {
     let one = [v.0];
     remove_voices(t, count, &one)

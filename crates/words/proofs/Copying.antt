@@ -5,7 +5,7 @@ use mathlib.Core.Path.{_≡_, refl, sym, ap, _∙_}
 use mathlib.Core.List.{List, [], _∷_, _++_}
 use lib.ListN.{length, take, getD, set, length-set}
 use lib.Seq.{take-all}
-use Rattle.lists.specs.Table.{append-row, passed-row}
+use Rattle.lists.proofs.Table.{append-row, passed-row}
 
 pub record Copying {A : Type 0} (n : ℕ) (from to : List A) (i : ℕ) : Type 0 where
   pub low : i ≤ n

@@ -5,8 +5,9 @@ use mathlib.Core.Path.{_≡_, refl, sym, ap, _∙_}
 use mathlib.Core.List.{List, [], _∷_, _++_}
 use mathlib.Core.Bool.{Bool, true, false}
 use lib.ListN.{length, take, getD, length-append}
-use Rattle.lists.specs.Keep.{keep, keep-snoc-on, keep-snoc-off}
-use Rattle.lists.specs.Table.{passed-row}
+use Rattle.lists.specs.Filter.{filter}
+use Rattle.lists.proofs.Filter.{filter-snoc-on, filter-snoc-off}
+use Rattle.lists.proofs.Table.{passed-row}
 use Rattle.words.specs.Rows.{rows}
 use Rattle.words.proofs.Rows.{rows-long}
 use Rattle.words.proofs.InWords.{take-count}
@@ -14,7 +15,7 @@ use Rattle.words.proofs.InWords.{take-count}
 module _ {A : Type 0} (w : ℕ) (of : List ℕ → A) (t : A → Bool) (c : List ℕ) where
   -- of the first i rows, found pass
   abbrev pub CountingIn : ℕ → ℕ → ℕ → Type 0
-  CountingIn n i found = (i ≤ n) × (found ≤ i) × (found ≡ length (keep t (take i (rows w of c))))
+  CountingIn n i found = (i ≤ n) × (found ≤ i) × (found ≡ length (filter t (take i (rows w of c))))
 
   pub count-start : (n : ℕ) → CountingIn n 0 0
   count-start n = (omega arith, omega arith, refl)
@@ -26,15 +27,15 @@ module _ {A : Type 0} (w : ℕ) (of : List ℕ → A) (t : A → Bool) (c : List
     pub count-on : t (getD (rows w of c) i (of [])) ≡ true → CountingIn n (i + 1) (found + 1)
     count-on p =
         let x = getD (rows w of c) i (of []) in
-        let one : length (keep t (take i (rows w of c) ++ (x ∷ []))) ≡ length (keep t (take i (rows w of c))) + 1 = ap length (keep-snoc-on t (take i (rows w of c)) x p) ∙ length-append (keep t (take i (rows w of c))) (x ∷ []) in
-        (omega arith, omega (arith, inv .1), ap (λ k. k + 1) (inv .2) ∙ sym one ∙ ap (λ l. length (keep t l)) (sym next))
+        let one : length (filter t (take i (rows w of c) ++ (x ∷ []))) ≡ length (filter t (take i (rows w of c))) + 1 = ap length (filter-snoc-on t (take i (rows w of c)) x p) ∙ length-append (filter t (take i (rows w of c))) (x ∷ []) in
+        (omega arith, omega (arith, inv .1), ap (λ k. k + 1) (inv .2) ∙ sym one ∙ ap (λ l. length (filter t l)) (sym next))
 
     pub count-off : t (getD (rows w of c) i (of [])) ≡ false → CountingIn n (i + 1) found
     count-off p =
         let x = getD (rows w of c) i (of []) in
-        (omega arith, omega (arith, inv .1), inv .2 ∙ sym (ap length (keep-snoc-off t (take i (rows w of c)) x p)) ∙ ap (λ l. length (keep t l)) (sym next))
+        (omega arith, omega (arith, inv .1), inv .2 ∙ sym (ap length (filter-snoc-off t (take i (rows w of c)) x p)) ∙ ap (λ l. length (filter t l)) (sym next))
 
-  pub count-done : (count n i found : ℕ) → n ≡ min count (length c / w) → n ≤ i → CountingIn n i found → found ≡ length (keep t (take count (rows w of c)))
+  pub count-done : (count n i found : ℕ) → n ≡ min count (length c / w) → n ≤ i → CountingIn n i found → found ≡ length (filter t (take count (rows w of c)))
   count-done count n i found e over inv =
       let all : i ≡ n = omega (arith, inv .0) in
-      inv .2 ∙ ap (λ m. length (keep t (take m (rows w of c)))) all ∙ ap (λ l. length (keep t l)) (take-count w of c count n e)
+      inv .2 ∙ ap (λ m. length (filter t (take m (rows w of c)))) all ∙ ap (λ l. length (filter t l)) (take-count w of c count n e)

@@ -10,9 +10,10 @@ use mathlib.Core.List.{List, [], _∷_, _++_, map}
 use mathlib.Core.Bool.{Bool, true, false}
 use lib.ListN.{length, take, drop, getD, set, length-set, length-map, length-take, drop-of-length-le}
 use lib.Seq.{getD-drop, getD-take, take-take, take-set-le, drop-set-lt, take-set-lt, getD-set-same, lt-length-set, set-split, drop-drop}
-use Rattle.lists.specs.Member.{map-append}
-use Rattle.lists.specs.Keep.{keep, keep-snoc-on, keep-snoc-off}
-use Rattle.lists.specs.Table.{left-cons, left-row, passed-row, append-row, keep-row, drop-row}
+use Rattle.lists.proofs.Member.{map-append}
+use Rattle.lists.specs.Filter.{filter}
+use Rattle.lists.proofs.Filter.{filter-snoc-on, filter-snoc-off}
+use Rattle.lists.proofs.Table.{left-cons, left-row, passed-row, append-row, filter-row, drop-row}
 
 -- what is left at i is known: so is the row at i
 left-same : {A : Type 0} (d : A) (old new : List A) (i : ℕ) → drop i new ≡ drop i old → getD new i d ≡ getD old i d
@@ -27,7 +28,7 @@ left-more old new i e = sym (drop-drop 1 i new) ∙ ap (drop 1) e ∙ drop-drop 
 pub record Closing {A : Type 0} (t : A → Bool) (old new : List A) (i w : ℕ) : Type 0 where
   pub low : w ≤ i
   pub long : length new ≡ length old
-  pub front : take w new ≡ keep t (take i old)
+  pub front : take w new ≡ filter t (take i old)
   pub left : drop i new ≡ drop i old
 
 module _ {A : Type 0} (d : A) (t : A → Bool) where
@@ -46,7 +47,7 @@ module _ {A : Type 0} (d : A) (t : A → Bool) where
         record {
           low = omega (arith, inv .low);
           long = length-set new w (getD new i d) ∙ inv .long;
-          front = rw same (keep-row d t old new i w h room (inv .front) (sym (ap t same) ∙ p));
+          front = rw same (filter-row d t old new i w h room (inv .front) (sym (ap t same) ∙ p));
           left = drop-set-lt (i + 1) new w (getD new i d) (omega (arith, inv .low)) ∙ left-more old new i (inv .left);
         }
 
@@ -65,7 +66,7 @@ module _ {A : Type 0} (d : A) (t : A → Bool) where
 pub record Gathering {A B : Type 0} (t : A → Bool) (f : A → B) (m : ℕ) (rows : List A) (out : List B) (i k : ℕ) : Type 0 where
   pub low : k ≤ i
   pub long : length out ≡ m
-  pub front : take k out ≡ map f (keep t (take i rows))
+  pub front : take k out ≡ map f (filter t (take i rows))
 
 module _ {A B : Type 0} (d : A) (t : A → Bool) (f : A → B) (m : ℕ) (rows : List A) where
   pub gathering-start : (out : List B) → length out ≡ m → Gathering t f m rows out 0 0
@@ -82,8 +83,8 @@ module _ {A B : Type 0} (d : A) (t : A → Bool) (f : A → B) (m : ℕ) (rows :
           front =
               append-row out k (f x) inside
               ∙ ap (λ l. l ++ (f x ∷ [])) (inv .front)
-              ∙ sym (map-append f (keep t (take i rows)) (x ∷ []))
-              ∙ ap (map f) (sym (keep-snoc-on t (take i rows) x p) ∙ ap (keep t) (sym (passed-row d rows i h)));
+              ∙ sym (map-append f (filter t (take i rows)) (x ∷ []))
+              ∙ ap (map f) (sym (filter-snoc-on t (take i rows) x p) ∙ ap (filter t) (sym (passed-row d rows i h)));
         }
 
     pub gathering-pass : t (getD rows i d) ≡ false → Gathering t f m rows out (i + 1) k
@@ -91,7 +92,7 @@ module _ {A B : Type 0} (d : A) (t : A → Bool) (f : A → B) (m : ℕ) (rows :
         record {
           low = omega (arith, inv .low);
           long = inv .long;
-          front = inv .front ∙ ap (map f) (sym (keep-snoc-off t (take i rows) (getD rows i d) p) ∙ ap (keep t) (sym (passed-row d rows i h)));
+          front = inv .front ∙ ap (map f) (sym (filter-snoc-off t (take i rows) (getD rows i d) p) ∙ ap (filter t) (sym (passed-row d rows i h)));
         }
 
 -- ---- changing each row: the first i of the first n rows are changed

@@ -11,9 +11,9 @@ use lib.ListN.{length, take, drop, getD, set, length-take}
 use lib.Seq.{take-all, set-getD}
 use lib.Dec.{leb, ltb}
 use borrow.Author.Tests.{leb-true, leb-false, lt-ltb, le-ltb}
-use Rattle.lists.specs.Keep.{keep}
+use Rattle.lists.specs.Filter.{filter}
 use Rattle.lists.specs.Find.{find}
-use Rattle.lists.specs.Table.{append-row, find-hit, find-next, find-over}
+use Rattle.lists.proofs.Table.{append-row, find-hit, find-next, find-over}
 use Rattle.words.specs.Rows.{cuts, rows, rowMoved, movedUp, opened}
 use Rattle.words.proofs.Rows.{rows-long, rows-move, rows-cuts, moved-long}
 use Rattle.words.proofs.InPlace.{Closing, closing-start, closing-row, closing-keep, closing-drop, Changing, changing-start, changing-more, Opening, opening-start, opening-more, opening-put, opening-map}
@@ -79,10 +79,10 @@ module _ {A : Type 0} (w : ℕ) (of : List ℕ → A) (t : A → Bool) where
     pub words-drop : t (getD (rows w of new) i (of [])) ≡ false → ClosingIn old new n (i + 1) k
     words-drop p = (omega arith, inv .1, closing-drop (of []) t (rows w of old) (rows w of new) i k inside (inv .2) p)
 
-  pub words-done : (old new : List ℕ) (count n i k : ℕ) → n ≡ min count (length old / w) → n ≤ i → ClosingIn old new n i k → take k (rows w of new) ≡ keep t (take count (rows w of old))
+  pub words-done : (old new : List ℕ) (count n i k : ℕ) → n ≡ min count (length old / w) → n ≤ i → ClosingIn old new n i k → take k (rows w of new) ≡ filter t (take count (rows w of old))
   words-done old new count n i k e over inv =
       let all : i ≡ n = omega (arith, inv .0) in
-      inv .2 .front ∙ ap (λ m. keep t (take m (rows w of old))) all ∙ ap (keep t) (take-count w of old count n e)
+      inv .2 .front ∙ ap (λ m. filter t (take m (rows w of old))) all ∙ ap (filter t) (take-count w of old count n e)
 
 -- appending: a row stored behind the first n of the room
 module _ {A : Type 0} (w : ℕ) (of : List ℕ → A) (old new : List ℕ) (count n : ℕ) (x : A) (e : n ≡ min count (length old / w)) where

@@ -9,9 +9,9 @@ use lib.Dec.{ltb}
 use lib.ListN.{length, take, drop, getD, set, length-take, length-append, drop-of-length-le}
 use lib.Seq.{getD-take, take-take, length-take-le}
 use borrow.Author.Tests.{ltb-true, ltb-false}
-use Rattle.lists.specs.Keep.{put?, keep}
+use Rattle.lists.specs.Filter.{put?, filter}
 use Rattle.lists.specs.Find.{find, or?, isSome}
-use Rattle.lists.specs.Table.{left-cons, append-row}
+use Rattle.lists.proofs.Table.{left-cons, append-row}
 use Rattle.words.specs.Rows.{rows}
 use Rattle.words.specs.Place.{placeOf, Holds}
 use Rattle.words.proofs.Rows.{rows-long}
@@ -48,15 +48,15 @@ module _ {A : Type 0} (q : A → Bool) where
       go false h ih = ih (omega arith)
 
   -- those before it do not pass
-  pub place-keep : (l : List A) → keep (λ x. not (q x)) (take (placeOf q l) l) ≡ take (placeOf q l) l
+  pub place-keep : (l : List A) → filter (λ x. not (q x)) (take (placeOf q l) l) ≡ take (placeOf q l) l
   unfolding placeOf
   place-keep [] = refl
   place-keep (x ∷ l) = go (q x) refl (place-keep l)
     where
-      go : (b : Bool) → q x ≡ b → keep (λ y. not (q y)) (take (placeOf q l) l) ≡ take (placeOf q l) l
-          → keep (λ y. not (q y)) (take (cond b zero (suc (placeOf q l))) (x ∷ l)) ≡ take (cond b zero (suc (placeOf q l))) (x ∷ l)
+      go : (b : Bool) → q x ≡ b → filter (λ y. not (q y)) (take (placeOf q l) l) ≡ take (placeOf q l) l
+          → filter (λ y. not (q y)) (take (cond b zero (suc (placeOf q l))) (x ∷ l)) ≡ take (cond b zero (suc (placeOf q l))) (x ∷ l)
       go true e ih = refl
-      go false e ih = ap (λ b. put? (not b) x (keep (λ y. not (q y)) (take (placeOf q l) l))) e ∙ ap (λ m. x ∷ m) ih
+      go false e ih = ap (λ b. put? (not b) x (filter (λ y. not (q y)) (take (placeOf q l) l))) e ∙ ap (λ m. x ∷ m) ih
 
   -- the loop: what is left
   module _ (d : A) (l : List A) (i : ℕ) where
@@ -108,14 +108,14 @@ module _ {A : Type 0} (w : ℕ) (of : List ℕ → A) (q : A → Bool) (c : List
         let low : p ≤ n = omega (arith, place-le q l, counted w of c count n e) in
         let below : p ≤ count = omega arith in
         let part : take p l ≡ take p (rows w of c) = take-take p count (rows w of c) below in
-        let all : keep (λ x. not (q x)) (take p l) ≡ take p l = subst (λ k. keep (λ x. not (q x)) (take k l) ≡ take k l) (sym at) (place-keep q l) in
-        (low, refl, record { low = omega arith; long = refl; front = sym (ap (keep (λ x. not (q x))) (sym part) ∙ all ∙ part); left = refl })
+        let all : filter (λ x. not (q x)) (take p l) ≡ take p l = subst (λ k. filter (λ x. not (q x)) (take k l) ≡ take k l) (sym at) (place-keep q l) in
+        (low, refl, record { low = omega arith; long = refl; front = sym (ap (filter (λ x. not (q x))) (sym part) ∙ all ∙ part); left = refl })
 
 -- what is left of the rows, and how many
 module _ {A : Type 0} (w : ℕ) (of : List ℕ → A) (old new : List ℕ) where
-  pub closed : (t : A → Bool) (count n i k : ℕ) → n ≡ min count (length old / w) → n ≤ i → ClosingIn w of t old new n i k → Holds (rows w of new) k (keep t (take count (rows w of old)))
+  pub closed : (t : A → Bool) (count n i k : ℕ) → n ≡ min count (length old / w) → n ≤ i → ClosingIn w of t old new n i k → Holds (rows w of new) k (filter t (take count (rows w of old)))
   closed t count n i k e over inv =
-      let is : take k (rows w of new) ≡ keep t (take count (rows w of old)) = words-done w of t old new count n i k e over inv in
+      let is : take k (rows w of new) ≡ filter t (take count (rows w of old)) = words-done w of t old new count n i k e over inv in
       let same : length new / w ≡ length old / w = ap (λ m. m / w) (inv .1) in
       let room : k ≤ length (rows w of new) = omega (arith, rows-long w of new, inv .0, inv .2 .low) in
       record { is = is; many = sym (length-take-le k (rows w of new) room) ∙ ap length is }

@@ -11,7 +11,7 @@ use lib.Dec.{leb, ltb}
 use lib.ListN.{length, take, drop, getD, set, length-set, drop-of-length-le}
 use lib.Seq.{set-out, getD-set-other, drop-cons, set-getD, sets}
 use borrow.Author.Tests.{leb-true, leb-false, ltb-true, ltb-false}
-use Rattle.lists.specs.Table.{left-cons}
+use Rattle.lists.proofs.Table.{left-cons}
 use Rattle.words.specs.Rows.{Apart}
 
 -- n elements from k on, one by one

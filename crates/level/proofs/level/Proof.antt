@@ -1,10 +1,10 @@
 -- `level::level` meets its contract: its four steps are the definition's.
-use borrow.Author.Needs.{needs}
 use mathlib.Core.Path.{_≡_, ap, _∙_}
 use mathlib.Core.List.{List}
 use lib.IntN.{pos}
 use lib.ListN.{length}
 use lib.Ieee.{Float, binary64, div, ofInt}
+use borrow.Author.Needs.{needs}
 use Rattle.level.specs.Root.{sqrt}
 use Rattle.level.specs.Narrow.{narrow}
 use Rattle.level.specs.Level.{plusZero, squares, levelOf}

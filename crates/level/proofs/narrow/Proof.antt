@@ -1,13 +1,13 @@
 -- `level::narrow` meets its contract.
-use borrow.Author.Needs.{needs}
-use mathlib.Core.Path.{sym, ap, _∙_, subst}
-use mathlib.Core.Bool.{true, false}
 use Prim.Native.Nat.{_+_, _%_, _^_, _≤_}
 use native.Mathlib.Nat.{zero-add, add-sub-of-le}
 use native.Mathlib.Omega.{arith}
+use mathlib.Core.Path.{sym, ap, _∙_, subst}
+use mathlib.Core.Bool.{true, false}
 use lib.Dec.{T}
 use lib.Ieee.{binary32, binary64, ofBits, toBits, fits}
 use lib.Ieee.Bits.{ofBits-toBits, toBits-lt}
+use borrow.Author.Needs.{needs}
 use Rattle.level.specs.Narrow as spec
 use Rattle.level.proofs.Nan.{zero-by-zero, is-nan, no-nan, bits-le, no-nan-bits}
 use Rattle.level.proofs.Narrowing.{narrow-nan}

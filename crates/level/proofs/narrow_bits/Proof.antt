@@ -1,11 +1,11 @@
 -- `level::narrow_bits` meets its contract: each way is a law of `proofs.Narrowing.antt`.
-use borrow.Author.Needs.{needs}
-use mathlib.Core.Path.{sym, subst}
 use Prim.Native.Nat.{ℕ, _-_, _/_, _^_, _<_}
 use native.Mathlib.Omega.{arith}
 use native.Mathlib.Nat.{le-of-lt}
+use mathlib.Core.Path.{sym, subst}
 use lib.Dec.{lit≤}
 use lib.Pow.{pow-pos}
+use borrow.Author.Needs.{needs}
 use Rattle.level.proofs.Narrowing.{at-top, at-zero, at-low, at-mid, at-over, digits-le, shl-one}
 use Rattle.level.proofs.narrow_bits.Statement.{statement}
 use Rattle.level.proofs.narrow_bits.Tie as tie

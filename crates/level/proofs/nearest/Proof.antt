@@ -1,10 +1,10 @@
 -- `level::nearest` meets its contract: the two tests are how twice the remainder compares with the divisor.
-use borrow.Author.Needs.{needs}
-use mathlib.Core.Path.{sym, _∙_}
 use Prim.Native.Nat.{Ordering·lt, Ordering·eq, Ordering·gt}
 use native.Mathlib.Nat.{mod-lt, div-le-self}
 use native.Mathlib.Numerals.{add-one}
 use native.Mathlib.Omega.{arith}
+use mathlib.Core.Path.{sym, _∙_}
+use borrow.Author.Needs.{needs}
 use Rattle.level.proofs.Quotient.{closest-by}
 use Rattle.level.proofs.nearest.Statement.{statement}
 use Rattle.level.proofs.nearest.Tie as tie

@@ -1,7 +1,7 @@
 -- `level::root_bits` meets its contract, by `proofs/Rooting.antt`.
-use borrow.Author.Needs.{needs}
 use Prim.Native.Nat.{_%_, _<_}
 use native.Mathlib.Omega.{arith}
+use borrow.Author.Needs.{needs}
 use Rattle.level.proofs.Rooting.{product, turns, bits-up, bits-same}
 use Rattle.level.proofs.root_bits.Statement.{statement}
 use Rattle.level.proofs.root_bits.Tie as tie

@@ -1,12 +1,12 @@
 -- `level::sqrt` meets its contract.
-use borrow.Author.Needs.{needs}
-use mathlib.Core.Path.{sym, ap, _∙_, subst}
 use Prim.Native.Nat.{_-_, _%_, _^_, _≤_, _<_}
 use native.Mathlib.Nat.{add-sub-of-le}
 use native.Mathlib.Omega.{arith}
+use mathlib.Core.Path.{sym, ap, _∙_, subst}
 use lib.Dec.{T}
 use lib.Ieee.{binary64, fits, ofBits, toBits}
 use lib.Ieee.Bits.{ofBits-toBits, toBits-lt}
+use borrow.Author.Needs.{needs}
 use Rattle.level.specs.Root as spec
 use Rattle.level.proofs.Nan.{zero-by-zero, is-nan, no-nan, bits-le, no-nan-bits}
 use Rattle.level.proofs.Signs.{sqrt-nan, negative, own-zero, own-inf, own-minus-zero}

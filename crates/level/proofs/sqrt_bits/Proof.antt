@@ -1,11 +1,11 @@
 -- `level::sqrt_bits` meets its contract.
-use borrow.Author.Needs.{needs}
-use mathlib.Core.Path.{sym, ap, _∙_}
-use mathlib.Core.Bool.{false}
 use Prim.Native.Nat.{ℕ}
 use native.Mathlib.Nat.{zero-add}
 use native.Mathlib.Omega.{arith}
+use mathlib.Core.Path.{sym, ap, _∙_}
+use mathlib.Core.Bool.{false}
 use lib.Ieee.{binary64, ofBits}
+use borrow.Author.Needs.{needs}
 use Rattle.level.specs.Root as spec
 use Rattle.level.proofs.Signs.{low, mid}
 use Rattle.level.proofs.sqrt_bits.Statement.{statement}

@@ -1,9 +1,9 @@
 -- `level::widen` gives its argument.
-use borrow.Author.Needs.{needs}
 use mathlib.Core.Path.{sym, _∙_}
 use mathlib.Core.Bool.{not}
 use lib.Dec.{T}
 use lib.Ieee.{binary64, isNan}
+use borrow.Author.Needs.{needs}
 use Rattle.level.proofs.Nan.{zero-by-zero, is-nan, no-nan}
 use Rattle.level.proofs.widen.Statement.{statement}
 use Rattle.level.proofs.widen.Tie as tie

@@ -5,7 +5,7 @@ use mathlib.Core.List.{[], _∷_}
 use lib.ListN.{length, take, drop, length-set}
 use lib.Seq.{length-take-le}
 use borrow.Author.Needs.{needs}
-use Rattle.lists.specs.Table.{left-row}
+use Rattle.lists.proofs.Table.{left-row}
 use Rattle.order.specs.Parts.{sourceRow, targetRow}
 use Rattle.order.proofs.Mapped.{Mapped, map-next, map-done, no-row}
 use Rattle.graph_rows.specs.Edge.{edgeOf, edgesIn}

@@ -4,7 +4,7 @@ use mathlib.Core.Path.{_≡_, ap, _∙_}
 use mathlib.Core.List.{[]}
 use lib.ListN.{length, take, getD, length-set}
 use borrow.Author.Needs.{needs}
-use Rattle.lists.specs.Table.{left-row}
+use Rattle.lists.proofs.Table.{left-row}
 use Rattle.words.proofs.Rows.{rows-long}
 use Rattle.words.proofs.InWords.{take-count}
 use Rattle.order.specs.Live.{idOf, liveIds}

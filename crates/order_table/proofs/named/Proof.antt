@@ -3,7 +3,7 @@ use native.Mathlib.Omega.{arith}
 use mathlib.Core.Path.{_≡_, refl, ap, _∙_}
 use lib.ListN.{length, take, getD, length-set}
 use borrow.Author.Needs.{needs}
-use Rattle.lists.specs.Table.{left-row}
+use Rattle.lists.proofs.Table.{left-row}
 use Rattle.order.proofs.Mapped.{Mapped, map-next, map-done, no-row}
 use Rattle.order_table.proofs.named.Statement.{statement}
 use Rattle.order_table.proofs.named.Tie as tie

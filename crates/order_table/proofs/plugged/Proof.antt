@@ -6,7 +6,7 @@ use mathlib.Core.Bool.{true, false}
 use mathlib.Core.Logic.{⊎-elim}
 use lib.ListN.{length, take, drop, getD, set, length-set, length-replicate}
 use borrow.Author.Needs.{needs}
-use Rattle.lists.specs.Table.{left-row, left-cons}
+use Rattle.lists.proofs.Table.{left-row, left-cons}
 use Rattle.order.specs.Parts.{plugs}
 use Rattle.order.proofs.Mapped.{no-row}
 use Rattle.order.proofs.Ports.{Flags, flags-start, flags-done, flag-from, flag-to, flag-port, flag-set}

@@ -5,7 +5,7 @@ use mathlib.Core.List.{[]}
 use mathlib.Core.Bool.{_||_}
 use lib.ListN.{length, take, drop, getD}
 use borrow.Author.Needs.{needs}
-use Rattle.lists.specs.Table.{left-row}
+use Rattle.lists.proofs.Table.{left-row}
 use Rattle.order.specs.Parts.{portsLack, rowsLack}
 use Rattle.order.proofs.Mapped.{no-row}
 use Rattle.order.proofs.Ports.{rows-next}

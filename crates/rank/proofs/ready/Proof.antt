@@ -5,7 +5,7 @@ use mathlib.Core.List.{append-nil}
 use mathlib.Core.Logic.{⊎-elim}
 use lib.ListN.{length, take, length-take}
 use borrow.Author.Needs.{needs}
-use Rattle.lists.specs.Table.{left-row}
+use Rattle.lists.proofs.Table.{left-row}
 use Rattle.rank.specs.Parts.{ready}
 use Rattle.rank.proofs.Laws.{no-row, Filled, fill-hit, fill-miss}
 use Rattle.rank.proofs.ready.Statement.{statement}

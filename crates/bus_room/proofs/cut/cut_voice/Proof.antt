@@ -3,7 +3,7 @@ use mathlib.Core.List.{[]}
 use lib.ListN.{getD}
 use borrow.Author.Needs.{needs}
 use Rattle.voice_rows.specs.Rows.{voiceOf, voicesIn}
-use Rattle.model.specs.Model.{gone}
+use Rattle.model.specs.Model.{withoutVoice}
 use Rattle.memory.specs.View.{modelOf}
 use Rattle.memory.specs.Lent.{lentSpawn}
 use Rattle.bus_room.proofs.cut.cut_voice.Statement.{statement}
@@ -26,8 +26,8 @@ returns c =
     λ m.
     let mid = lentSpawn (told .result) (a .nodes .now) (a .edges .now) (a .voices .now) (told .last .1 .1 .1 .0) m in
     c .forget-voice .ensures mid
-    ∙ ap (λ w. gone w (modelOf mid)) (c .before .before .before .before .id-at .ensures)
-    ∙ ap (gone (v .id)) (told .ensures (lentSpawn (a .s) (a .nodes .now) (a .edges .now) (a .voices .now) (a .steals .now) m))
+    ∙ ap (λ w. withoutVoice w (modelOf mid)) (c .before .before .before .before .id-at .ensures)
+    ∙ ap (withoutVoice (v .id)) (told .ensures (lentSpawn (a .s) (a .nodes .now) (a .edges .now) (a .voices .now) (a .steals .now) m))
 
 pub cut-voice-spec : {M : Type 1} → statement M
 cut-voice-spec =

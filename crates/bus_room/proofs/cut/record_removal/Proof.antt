@@ -3,8 +3,8 @@ use mathlib.Core.List.{[]}
 use lib.ListN.{getD}
 use borrow.Author.Needs.{needs}
 use Rattle.voice_rows.specs.Rows.{voiceOf, voicesIn}
-use Rattle.model.specs.Spawn.{reclaimBook}
-use Rattle.memory.specs.View.{deskOf, modelOf}
+use Rattle.model.specs.Spawn.{reclaimLog}
+use Rattle.memory.specs.View.{sharedOf, modelOf}
 use Rattle.memory.specs.Lent.{lentSpawn}
 use Rattle.bus_room.specs.Reclaimed.{restolen}
 use Rattle.bus_room.proofs.Laws.{relogged}
@@ -35,7 +35,7 @@ returns c =
     let v = getD (voicesIn (a .voices .now)) (a .row) (voiceOf []) in
     λ m.
     let old = lentSpawn (a .s) (a .nodes .now) (m .edges) (a .voices .now) (a .steals .now) m in
-    c .record-steal .ensures m ∙ ap (λ k. restolen (reclaimBook v k (deskOf old)) (modelOf old)) (sym (c .before .before .enum-told .given .1))
+    c .record-steal .ensures m ∙ ap (λ k. restolen (reclaimLog v k (sharedOf old)) (modelOf old)) (sym (c .before .before .enum-told .given .1))
 
 returns-2 : tie.Need-returns-2
 returns-2 c =
@@ -46,7 +46,7 @@ returns-2 c =
     λ m.
     let old = lentSpawn s (a .nodes .now) (m .edges) (a .voices .now) (a .steals .now) m in
     relogged s (a .nodes .now) (a .voices .now) (a .steals .now) (ring .last .0) (ring .result .total) (ring .result .next) _ (c .with-steals .result) (c .with-steals .ensures) (ring .ensures) m
-    ∙ ap (λ k. restolen (reclaimBook v k (deskOf old)) (modelOf old)) (sym (c .before .before .before .before .state .given .1))
+    ∙ ap (λ k. restolen (reclaimLog v k (sharedOf old)) (modelOf old)) (sym (c .before .before .before .before .state .given .1))
 
 returns-3 : tie.Need-returns-3
 returns-3 c =
@@ -54,7 +54,7 @@ returns-3 c =
     let v = getD (voicesIn (a .voices .now)) (a .row) (voiceOf []) in
     λ m.
     let old = lentSpawn (a .s) (a .nodes .now) (m .edges) (a .voices .now) (a .steals .now) m in
-    ap (λ k. restolen (reclaimBook v k (deskOf old)) (modelOf old)) (sym (c .enum-told2 .given .1))
+    ap (λ k. restolen (reclaimLog v k (sharedOf old)) (modelOf old)) (sym (c .enum-told2 .given .1))
 
 pub record-removal-spec : {M : Type 1} → statement M
 record-removal-spec =

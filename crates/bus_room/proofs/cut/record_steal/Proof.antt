@@ -3,10 +3,10 @@ use mathlib.Core.List.{[]}
 use lib.ListN.{getD}
 use borrow.Author.Needs.{needs}
 use Rattle.voice.specs.Steals.{pushed, recordOf}
-use Rattle.steal_log.specs.Rows.{bookIn}
+use Rattle.steal_log.specs.Rows.{logIn}
 use Rattle.voice_rows.specs.Rows.{voiceOf, voicesIn}
 use Rattle.model.specs.Spawn.{recorded}
-use Rattle.memory.specs.View.{deskOf}
+use Rattle.memory.specs.View.{sharedOf}
 use Rattle.memory.specs.Lent.{lentSpawn}
 use Rattle.bus_room.proofs.Laws.{relogged}
 use Rattle.bus_room.proofs.cut.record_steal.Statement.{statement}
@@ -30,9 +30,9 @@ returns c =
     let s = a .s in
     let v = getD (voicesIn (a .voices .now)) (a .row) (voiceOf []) in
     let ring = c .before .log-steal in
-    let book = bookIn (a .steals .now) (s .stolen) (s .place) in
+    let book = logIn (a .steals .now) (s .stolen) (s .place) in
     let is = ring .ensures ∙ ap (pushed book) (c .before .before .steal-record .ensures ∙ ap (λ l. recordOf (s .clock) l (a .cut)) (c .before .before .before .before .level-at .ensures)) in
-    λ m. relogged s (a .nodes .now) (a .voices .now) (a .steals .now) (ring .last .0) (ring .result .total) (ring .result .next) (recorded v (a .cut) (deskOf (lentSpawn s (a .nodes .now) (m .edges) (a .voices .now) (a .steals .now) m))) (c .with-steals .result) (c .with-steals .ensures) is m
+    λ m. relogged s (a .nodes .now) (a .voices .now) (a .steals .now) (ring .last .0) (ring .result .total) (ring .result .next) (recorded v (a .cut) (sharedOf (lentSpawn s (a .nodes .now) (m .edges) (a .voices .now) (a .steals .now) m))) (c .with-steals .result) (c .with-steals .ensures) is m
 
 pub record-steal-spec : {M : Type 1} → statement M
 record-steal-spec =

@@ -2,7 +2,7 @@ use native.Mathlib.Omega.{arith}
 use mathlib.Core.Path.{_≡_, ap, _∙_}
 use lib.ListN.{length, take, length-map}
 use borrow.Author.Needs.{needs}
-use Rattle.voice.specs.Steals.{bookOf}
+use Rattle.voice.specs.Steals.{logOf}
 use Rattle.voice.proofs.Records.{book-long}
 use Rattle.busiest.specs.declared.newest.Newest.{Newest}
 use Rattle.busiest.specs.Stretch.{samples, busiest}
@@ -20,13 +20,13 @@ busiest-rows-requires : tie.Need-busiest-rows-requires
 busiest-rows-requires c κs =
     let start = c .before .before in
     let long = book-long (start .args .s) (rows-long start) in
-    let held : c .before .newest-records .result .count ≡ length (bookOf (start .args .s) .newest) = ap (λ (r : Newest). r .count) (c .before .newest-records .ensures) in
+    let held : c .before .newest-records .result .count ≡ length (logOf (start .args .s) .newest) = ap (λ (r : Newest). r .count) (c .before .newest-records .ensures) in
     omega arith
 
 returns : tie.Need-returns
 returns c =
     let start = c .before .before .before in
-    let l = bookOf (start .args .s) .newest in
+    let l = logOf (start .args .s) .newest in
     c .busiest-rows .ensures
     ∙ ap (λ (r : Newest). busiest (start .args .width) (samples (take (r .count) (r .rows)))) (c .before .before .newest-records .ensures)
     ∙ ap (λ xs. busiest (start .args .width) (samples xs)) (newest-run l)

@@ -4,8 +4,8 @@ use mathlib.Core.Path.{_≡_, refl, ap, _∙_}
 use mathlib.Core.List.{_++_}
 use lib.ListN.{length, take, getD, set, replicate, length-map}
 use borrow.Author.Needs.{needs}
-use Rattle.lists.specs.Table.{filled-more}
-use Rattle.voice.specs.Steals.{bookOf}
+use Rattle.lists.proofs.Table.{filled-more}
+use Rattle.voice.specs.Steals.{logOf}
 use Rattle.voice.proofs.Records.{book-long}
 use Rattle.busiest.specs.Newest.{noRecord, recordOr}
 use Rattle.busiest.proofs.Rows.{found-row, rows-all}
@@ -14,7 +14,7 @@ use Rattle.busiest.proofs.newest.newest_records.Tie as tie
 
 -- the first i rows are the first i records, and no other is written
 abbrev Inv-loop : tie.InvT-loop
-Inv-loop s n none rows₀ i₀ rows i = (n ≡ length (bookOf s .newest)) × (n ≤ 64) × (none ≡ noRecord) × (i ≤ n) × (rows ≡ take i (bookOf s .newest) ++ replicate (64 - i) noRecord)
+Inv-loop s n none rows₀ i₀ rows i = (n ≡ length (logOf s .newest)) × (n ≤ 64) × (none ≡ noRecord) × (i ≤ n) × (rows ≡ take i (logOf s .newest) ++ replicate (64 - i) noRecord)
 
 abbrev μ-loop : tie.MeasureT-loop
 μ-loop s n none rows₀ i₀ rows i = n - i
@@ -53,7 +53,7 @@ loop-again : tie.Need-loop-again Inv-loop μ-loop
 loop-again c =
     let at = c .before .before .before in
     let inv = at .loop .inv in
-    let l = bookOf (at .before .before .args .s) .newest in
+    let l = logOf (at .before .before .args .s) .newest in
     let i = at .loop .i in
     let less = c .before .before .loop-test .taken in
     let in-list : i < length l = omega arith in
@@ -67,7 +67,7 @@ returns c =
     let inv = c .before .loop .inv in
     let left = c .loop-test .left in
     let end : c .before .loop .i ≡ c .before .before .held-steals .result = omega arith in
-    rows-all (bookOf (c .before .before .before .args .s) .newest) (c .before .before .held-steals .result) (c .before .loop .i) (c .before .loop .rows) (inv .0) end (inv .4)
+    rows-all (logOf (c .before .before .before .args .s) .newest) (c .before .before .held-steals .result) (c .before .loop .i) (c .before .loop .rows) (inv .0) end (inv .4)
 
 pub newest-records-spec : {M : Type 1} → statement M
 newest-records-spec =

@@ -5,7 +5,7 @@ use Rattle.lists.specs.Find.{find}
 use Rattle.model.specs.Voice.{isVoice, levelOr}
 use Rattle.voice_rows.specs.Rows.{voicesIn}
 use Rattle.model.specs.Call as call
-use Rattle.memory.specs.View.{deskOf}
+use Rattle.memory.specs.View.{sharedOf}
 use Rattle.memory.specs.Lent.{lentParams}
 use Rattle.call_read.proofs.Answers.{asks, row-found, row-none}
 use Rattle.call_read.proofs.look.voice_level.Statement.{statement}
@@ -23,7 +23,7 @@ returns c =
     let f = c .before .before .before .before .find-voice in
     let vs = voicesIn (a .voices .now) in
     let o = find (isVoice (a .w)) (take (a .s .voices) vs) in
-    λ m. asks (call.level (a .w)) (lentParams (a .s) (a .nodes .now) (a .voices .now) m) _ (ap call.known (c .level-at .ensures ∙ ap (levelOr (deskOf (lentParams (a .s) (a .nodes .now) (a .voices .now) m))) (row-found (f .result) (a .s .voices) vs o (f .ensures) (c .before .before .before .if1 .taken))))
+    λ m. asks (call.level (a .w)) (lentParams (a .s) (a .nodes .now) (a .voices .now) m) _ (ap call.known (c .level-at .ensures ∙ ap (levelOr (sharedOf (lentParams (a .s) (a .nodes .now) (a .voices .now) m))) (row-found (f .result) (a .s .voices) vs o (f .ensures) (c .before .before .before .if1 .taken))))
 
 returns-2 : tie.Need-returns-2
 returns-2 c =
@@ -31,7 +31,7 @@ returns-2 c =
     let f = c .before .find-voice in
     let vs = voicesIn (a .voices .now) in
     let o = find (isVoice (a .w)) (take (a .s .voices) vs) in
-    λ m. asks (call.level (a .w)) (lentParams (a .s) (a .nodes .now) (a .voices .now) m) _ (ap (λ x. call.known (levelOr (deskOf (lentParams (a .s) (a .nodes .now) (a .voices .now) m)) x)) (row-none (f .result) (a .s .voices) vs o (f .ensures) (c .if1 .left)))
+    λ m. asks (call.level (a .w)) (lentParams (a .s) (a .nodes .now) (a .voices .now) m) _ (ap (λ x. call.known (levelOr (sharedOf (lentParams (a .s) (a .nodes .now) (a .voices .now) m)) x)) (row-none (f .result) (a .s .voices) vs o (f .ensures) (c .if1 .left)))
 
 pub voice-level-spec : {M : Type 1} → statement M
 voice-level-spec = tie.close (tie.spec find-voice-requires level-at-requires returns returns-2)

@@ -1,6 +1,6 @@
 use mathlib.Core.Path.{ap}
 use borrow.Author.Needs.{needs}
-use Rattle.voice.specs.Steals.{bookOf}
+use Rattle.voice.specs.Steals.{logOf}
 use Rattle.model.specs.Call as call
 use Rattle.memory.specs.Lent.{lentSteals}
 use Rattle.call_read.proofs.Answers.{asks}
@@ -13,7 +13,7 @@ read-steals-requires c κs = search needs
 returns : tie.Need-returns
 returns c =
     let a = c .before .args in
-    λ m. asks call.steals (lentSteals (a .s) (a .steals .now) m) _ (ap (λ b. call.stolen (bookOf b)) (c .read-steals .ensures))
+    λ m. asks call.steals (lentSteals (a .s) (a .steals .now) m) _ (ap (λ b. call.stolen (logOf b)) (c .read-steals .ensures))
 
 pub steals-spec : {M : Type 1} → statement M
 steals-spec = tie.close (tie.spec read-steals-requires returns)

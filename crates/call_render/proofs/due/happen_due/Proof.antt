@@ -56,7 +56,7 @@ loop-again c =
     let vs = take (s .s .voices) (voicesIn (s .voices .now)) in
     let ns = take (s .s .nodes) (nodesIn (l .nodes)) in
     let top : n .result ≤ length (eventsIn (s .t .now)) = omega (arith, n .ensures, rows-long 15 eventOf (s .t .now)) in
-    let h = c .before .before .happen in
+    let h = c .before .before .applyEvent in
     let new = take (s .s .nodes) (nodesIn (h .last .1 .0)) in
     going-on (s .deadline) (eventsIn (s .t .now)) (n .result) vs (take (s .s .nodes) (nodesIn (s .nodes .now))) (eventOf []) ns (l .freed) (l .count) (l .i) (l .inv) (c .before .before .before .before .before .before .before .before .loop-test .taken) top (sym (c .before .before .before .before .before .before .before .is-due .ensures) ∙ c .before .before .before .before .before .before .if1 .taken) new (h .last .1 .1 .1 .1 .0) (h .result) (subst (λ (e : Event). Happens vs e ns (l .freed) (l .count) new (h .last .1 .1 .1 .1 .0) (h .result)) (c .before .before .before .before .before .event-at .ensures) (h .ensures))
 

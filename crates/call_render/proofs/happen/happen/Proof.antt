@@ -7,8 +7,8 @@ use borrow.Author.Needs.{needs}
 use Rattle.voice_rows.specs.Rows.{voicesIn}
 use Rattle.graph_rows.specs.Node.{nodesIn}
 use Rattle.call_render.proofs.Events.{happens-free, happens-order}
-use Rattle.call_render.proofs.happen.happen.Statement.{statement}
-use Rattle.call_render.proofs.happen.happen.Tie as tie
+use Rattle.call_render.proofs.applyEvent.happen.Statement.{statement}
+use Rattle.call_render.proofs.applyEvent.happen.Tie as tie
 
 is-free-requires : tie.Need-is-free-requires
 is-free-requires c κs = search needs

@@ -9,7 +9,7 @@ use Rattle.synthdef.specs.Plan.{planOf}
 use Rattle.synthdef.proofs.Within.{allowed-within}
 use Rattle.model.specs.Voice.{id}
 use Rattle.model.specs.Spawn.{pans}
-use Rattle.memory.specs.View.{deskOf}
+use Rattle.memory.specs.View.{sharedOf}
 use Rattle.memory.specs.Lent.{lentState}
 use Rattle.call_spawn.proofs.Seating.{made-same}
 use Rattle.call_spawn.proofs.seat.new_voice.Statement.{statement}
@@ -49,7 +49,7 @@ returns c =
     let out : a .def .output < n = allowed-within (a .def) (s .pre .within) .output in
     let id-fits = s .pre .ids in
     let reach : min (a .s .next + a .def .output) 4294967295 ≡ a .s .next + a .def .output = omega arith in
-    λ m. made-same (deskOf (lentState (a .s) m)) (a .def) (a .state) (a .bus) (a .port) (c .before .before .before .before .before .before .at-most .result) n (c .before .before .id-after .result) (id (a .s .next + a .def .output)) (c .before .before .before .before .done-plan .result) (planOf (a .def)) (c .before .pans .result) (pans (a .pan))
+    λ m. made-same (sharedOf (lentState (a .s) m)) (a .def) (a .state) (a .bus) (a .port) (c .before .before .before .before .before .before .at-most .result) n (c .before .before .id-after .result) (id (a .s .next + a .def .output)) (c .before .before .before .before .done-plan .result) (planOf (a .def)) (c .before .pans .result) (pans (a .pan))
     small (c .before .before .id-after .ensures ∙ ap id reach) (c .before .before .before .before .done-plan .ensures) (c .before .pans .ensures)
 
 pub new-voice-spec : {M : Type 1} → statement M

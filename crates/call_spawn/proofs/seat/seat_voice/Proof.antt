@@ -5,7 +5,7 @@ use borrow.Author.Needs.{needs}
 use Rattle.store.specs.declared.answer.Spawned.the-variants as Spawned
 use Rattle.model.specs.Spawn.{spawnOf, nextVoice}
 use Rattle.memory.specs.declared.state.State.{State}
-use Rattle.memory.specs.View.{modelOf, deskOf}
+use Rattle.memory.specs.View.{modelOf, sharedOf}
 use Rattle.memory.specs.Lent.{lentVoices}
 use Rattle.memory.specs.Parts.{numbered}
 use Rattle.call_spawn.proofs.Rooms.{blank}
@@ -55,7 +55,7 @@ returns c =
     λ m.
     let old = lentVoices (a .s) (a .nodes .now) (a .edges .now) (a .voices .now) m in
     let more = lentVoices (grown .result) (grown .last .1 .0) (grown .last .1 .1 .0) (a .voices .now) m in
-    ap (landedIn (Spawned.Voice (nextVoice (deskOf old))))
+    ap (landedIn (Spawned.Voice (nextVoice (sharedOf old))))
     (ap (λ (k : State). modelOf (lentVoices k (grown .last .1 .0) (grown .last .1 .1 .0) (seat .last .0) m)) left
     ∙ seats x (a .state) (a .port) (modelOf old) (s .pre m) (modelOf more) (c .before .before .before .before .before .before .before .before .before .pans .result) (c .before .before .before .before .before .before .before .before .before .pans .ensures) (grown .ensures old) (c .before .before .before .before .before .before .before .before .before .before .before .new-voice .result) (c .before .before .before .before .before .before .before .before .before .before .before .new-voice .ensures old) _ (seat .ensures .is) (c .before .before .next-sequence .result) (c .before .before .next-sequence .ensures))
 

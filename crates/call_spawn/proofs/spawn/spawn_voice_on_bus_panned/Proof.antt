@@ -2,11 +2,11 @@ use mathlib.Core.Path.{sym, ap, _∙_}
 use borrow.Author.Needs.{needs}
 use Rattle.store.specs.declared.voices.VoiceState.the-variants.{Loose}
 use Rattle.model.specs.Call.{spawned}
-use Rattle.model.specs.Model.{Landed}
+use Rattle.model.specs.Model.{SpawnResult}
 use Rattle.model.specs.Numbers.{numberIn}
 use Rattle.model.specs.Refuse.{spawnRefusal}
 use Rattle.model.specs.Spawn.{spawnOf}
-use Rattle.memory.specs.View.{deskOf, modelOf}
+use Rattle.memory.specs.View.{sharedOf, modelOf}
 use Rattle.memory.specs.Lent.{lentSpawn}
 use Rattle.memory.specs.Called.{keeps}
 use Rattle.memory.proofs.Steps.{kept-none}
@@ -34,7 +34,7 @@ place-requires c κs =
     let a = c .before .before .before .before .before .before .before .before .before .before .args in
     λ m.
     let old = lentSpawn (a .s) (a .nodes .now) (a .edges .now) (a .voices .now) (a .steals .now) m in
-    let passed = answer-done (spawnRefusal (deskOf old) (modelOf old .voices) (a .def) (a .bus)) (sym (c .before .before .before .before .before .before .spawn-refusal .ensures old) ∙ c .before .before .before .before .enum-told .given .1) in
+    let passed = answer-done (spawnRefusal (sharedOf old) (modelOf old .voices) (a .def) (a .bus)) (sym (c .before .before .before .before .before .before .spawn-refusal .ensures old) ∙ c .before .before .before .before .enum-told .given .1) in
     roomy-head (a .def) (modelOf old) (roomy (modelOf old) (a .def) (a .bus) passed)
 
 returns : tie.Need-returns
@@ -43,7 +43,7 @@ returns c =
     let x = spawnOf (a .def) (a .bus) (a .pan) in (
       λ m.
           let old = lentSpawn (a .s) (a .nodes .now) (a .edges .now) (a .voices .now) (a .steals .now) m in
-          let is = answer-some (spawnRefusal (deskOf old) (modelOf old .voices) (a .def) (a .bus)) _ (sym (c .before .before .before .before .spawn-refusal .ensures old) ∙ c .before .before .test .given .1) in
+          let is = answer-some (spawnRefusal (sharedOf old) (modelOf old .voices) (a .def) (a .bus)) _ (sym (c .before .before .before .before .spawn-refusal .ensures old) ∙ c .before .before .test .given .1) in
           ap stepOf (refused-in _ (c .refuse .result .answer) old _ (c .refuse .ensures .1) (ap (λ k. lentSpawn k (a .nodes .now) (a .edges .now) (a .voices .now) (a .steals .now) m) (c .refuse .ensures .0)) ∙ loose-not x (modelOf old) _ is),
       λ m e. ap (λ k. lentSpawn k (a .nodes .now) (a .edges .now) (a .voices .now) (a .steals .now) m) (c .refuse .ensures .0),
     )
@@ -54,11 +54,11 @@ returns-2 c =
     let x = spawnOf (a .def) (a .bus) (a .pan) in (
       λ m.
           let old = lentSpawn (a .s) (a .nodes .now) (a .edges .now) (a .voices .now) (a .steals .now) m in
-          let passed = answer-done (spawnRefusal (deskOf old) (modelOf old .voices) (a .def) (a .bus)) (sym (c .before .before .before .before .before .before .before .spawn-refusal .ensures old) ∙ c .before .before .before .before .before .enum-told .given .1) in
+          let passed = answer-done (spawnRefusal (sharedOf old) (modelOf old .voices) (a .def) (a .bus)) (sym (c .before .before .before .before .before .before .before .spawn-refusal .ensures old) ∙ c .before .before .before .before .before .enum-told .given .1) in
           ap stepOf (c .place .ensures m ∙ loose-on x (modelOf old) passed),
       λ m e.
           let old = lentSpawn (a .s) (a .nodes .now) (a .edges .now) (a .voices .now) (a .steals .now) m in
-          kept-none (sym (ap (λ (l : Landed). keeps (numberIn (spawned (l .answer)))) (c .place .ensures m) ∙ place-free 0 x Loose (modelOf old)) ∙ e),
+          kept-none (sym (ap (λ (l : SpawnResult). keeps (numberIn (spawned (l .answer)))) (c .place .ensures m) ∙ place-free 0 x Loose (modelOf old)) ∙ e),
     )
 
 pub spawn-voice-on-bus-panned-spec : {M : Type 1} → statement M

@@ -2,11 +2,11 @@ use mathlib.Core.Path.{sym, ap, _∙_}
 use borrow.Author.Needs.{needs}
 use Rattle.node.specs.declared.refusal.Refusal.the-variants.{Rejected}
 use Rattle.model.specs.Call.{spawned}
-use Rattle.model.specs.Model.{Landed, admitted}
+use Rattle.model.specs.Model.{SpawnResult, admitted}
 use Rattle.model.specs.Numbers.{numberIn}
 use Rattle.model.specs.Refuse.{spawnRefusal}
 use Rattle.model.specs.Spawn.{spawnOf, stateUnder, tries}
-use Rattle.memory.specs.View.{deskOf, modelOf}
+use Rattle.memory.specs.View.{sharedOf, modelOf}
 use Rattle.memory.specs.Lent.{lentSpawn}
 use Rattle.memory.specs.Called.{keeps}
 use Rattle.memory.proofs.Steps.{kept-none}
@@ -34,7 +34,7 @@ request-requires c κs =
     let a = c .before .before .before .before .before .before .before .before .before .before .args in
     λ m.
     let old = lentSpawn (a .s) (a .nodes .now) (a .edges .now) (a .voices .now) (a .steals .now) m in
-    let passed = answer-done (spawnRefusal (deskOf old) (modelOf old .voices) (a .def) (a .bus)) (sym (c .before .before .before .before .before .before .spawn-refusal .ensures old) ∙ c .before .before .before .before .enum-told .given .1) in
+    let passed = answer-done (spawnRefusal (sharedOf old) (modelOf old .voices) (a .def) (a .bus)) (sym (c .before .before .before .before .before .before .spawn-refusal .ensures old) ∙ c .before .before .before .before .enum-told .given .1) in
     roomy-fade (a .def) (modelOf old) (roomy (modelOf old) (a .def) (a .bus) passed)
 
 settle-requires : tie.Need-settle-requires
@@ -42,7 +42,7 @@ settle-requires c κs =
     let a = c .before .before .before .before .before .before .before .before .before .before .before .before .before .before .before .before .before .args in
     λ m.
     let old = lentSpawn (a .s) (a .nodes .now) (a .edges .now) (a .voices .now) (a .steals .now) m in
-    let passed = answer-done (spawnRefusal (deskOf old) (modelOf old .voices) (a .def) (a .bus)) (sym (c .before .before .before .before .before .before .before .before .before .before .before .before .before .spawn-refusal .ensures old) ∙ c .before .before .before .before .before .before .before .before .before .before .before .enum-told .given .1) in
+    let passed = answer-done (spawnRefusal (sharedOf old) (modelOf old .voices) (a .def) (a .bus)) (sym (c .before .before .before .before .before .before .before .before .before .before .before .before .before .spawn-refusal .ensures old) ∙ c .before .before .before .before .before .before .before .before .before .before .before .enum-told .given .1) in
     c .before .before .before .before .before .before .request .ensures .0 m .room (c .before .before .before .before .if1 .taken) (a .def) (roomy (modelOf old) (a .def) (a .bus) passed)
 
 returns : tie.Need-returns
@@ -52,11 +52,11 @@ returns c =
     let met = c .before .before .before .before .before .before .before .request in (
       λ m.
           let old = lentSpawn (a .s) (a .nodes .now) (a .edges .now) (a .voices .now) (a .steals .now) m in
-          let passed = answer-done (spawnRefusal (deskOf old) (modelOf old .voices) (a .def) (a .bus)) (sym (c .before .before .before .before .before .before .before .before .before .before .before .before .before .before .spawn-refusal .ensures old) ∙ c .before .before .before .before .before .before .before .before .before .before .before .before .enum-told .given .1) in
-          ap stepOf (c .settle .ensures m ∙ sym (met .ensures .0 m .goes-on (c .before .before .before .before .before .if1 .taken) x) ∙ managed-on x (modelOf old) passed),
+          let passed = answer-done (spawnRefusal (sharedOf old) (modelOf old .voices) (a .def) (a .bus)) (sym (c .before .before .before .before .before .before .before .before .before .before .before .before .before .before .spawn-refusal .ensures old) ∙ c .before .before .before .before .before .before .before .before .before .before .before .before .enum-told .given .1) in
+          ap stepOf (c .placeWithinBudget .ensures m ∙ sym (met .ensures .0 m .goes-on (c .before .before .before .before .before .if1 .taken) x) ∙ managed-on x (modelOf old) passed),
       λ m e.
           let left = modelOf (lentSpawn (met .result .state) (met .last .1 .0) (met .last .1 .1 .0) (met .last .1 .1 .1 .0) (met .last .1 .1 .1 .1 .0) m) in
-          kept-none (sym (ap (λ (l : Landed). keeps (numberIn (spawned (l .answer)))) (c .settle .ensures m) ∙ place-free (tries (left .desk .config .budget) (left .voices)) x (stateUnder (left .desk .config .budget)) left) ∙ e),
+          kept-none (sym (ap (λ (l : SpawnResult). keeps (numberIn (spawned (l .answer)))) (c .placeWithinBudget .ensures m) ∙ place-free (tries (left .shared .config .budget) (left .voices)) x (stateUnder (left .shared .config .budget)) left) ∙ e),
     )
 
 refuse-requires-2 : tie.Need-refuse-requires-2
@@ -68,7 +68,7 @@ returns-2 c =
     let x = spawnOf (a .def) (a .bus) (a .pan) in (
       λ m.
           let old = lentSpawn (a .s) (a .nodes .now) (a .edges .now) (a .voices .now) (a .steals .now) m in
-          let is = answer-some (spawnRefusal (deskOf old) (modelOf old .voices) (a .def) (a .bus)) _ (sym (c .before .before .before .before .spawn-refusal .ensures old) ∙ c .before .before .test .given .1) in
+          let is = answer-some (spawnRefusal (sharedOf old) (modelOf old .voices) (a .def) (a .bus)) _ (sym (c .before .before .before .before .spawn-refusal .ensures old) ∙ c .before .before .test .given .1) in
           ap stepOf (refused-in _ (c .refuse .result .answer) old _ (c .refuse .ensures .1) (ap (λ k. lentSpawn k (a .nodes .now) (a .edges .now) (a .voices .now) (a .steals .now) m) (c .refuse .ensures .0)) ∙ managed-not x (modelOf old) _ is),
       λ m e. ap (λ k. lentSpawn k (a .nodes .now) (a .edges .now) (a .voices .now) (a .steals .now) m) (c .refuse .ensures .0),
     )
@@ -80,7 +80,7 @@ returns-3 c =
     let met = c .before .before .before .request in (
       λ m.
           let old = lentSpawn (a .s) (a .nodes .now) (a .edges .now) (a .voices .now) (a .steals .now) m in
-          let passed = answer-done (spawnRefusal (deskOf old) (modelOf old .voices) (a .def) (a .bus)) (sym (c .before .before .before .before .before .before .before .before .before .before .spawn-refusal .ensures old) ∙ c .before .before .before .before .before .before .before .before .enum-told .given .1) in
+          let passed = answer-done (spawnRefusal (sharedOf old) (modelOf old .voices) (a .def) (a .bus)) (sym (c .before .before .before .before .before .before .before .before .before .before .spawn-refusal .ensures old) ∙ c .before .before .before .before .before .before .before .before .enum-told .given .1) in
           let very = ap (λ k. lentSpawn k (met .last .1 .0) (met .last .1 .1 .0) (met .last .1 .1 .1 .0) (met .last .1 .1 .1 .1 .0) m) (c .refuse2 .ensures .0) ∙ met .ensures .1 m (c .before .if1 .left) in
           ap stepOf (refused-in Rejected (c .refuse2 .result .answer) old _ (c .refuse2 .ensures .1) very ∙ sym (ap (λ k. admitted k x (modelOf old)) (met .ensures .0 m .rejects (c .before .if1 .left))) ∙ managed-on x (modelOf old) passed),
       λ m e. ap (λ k. lentSpawn k (met .last .1 .0) (met .last .1 .1 .0) (met .last .1 .1 .1 .0) (met .last .1 .1 .1 .1 .0) m) (c .refuse2 .ensures .0) ∙ met .ensures .1 m (c .before .if1 .left),

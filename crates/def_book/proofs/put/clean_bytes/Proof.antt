@@ -5,7 +5,7 @@ use mathlib.Core.Path.{_≡_, refl, ap, _∙_}
 use mathlib.Core.List.{_++_}
 use lib.ListN.{length, take, getD, set, replicate}
 use borrow.Author.Needs.{needs}
-use Rattle.lists.specs.Table.{filled-more}
+use Rattle.lists.proofs.Table.{filled-more}
 use Rattle.def_book.proofs.Puts.{name-filled}
 use Rattle.def_book.proofs.put.clean_bytes.Statement.{statement}
 use Rattle.def_book.proofs.put.clean_bytes.Tie as tie

@@ -7,7 +7,7 @@ use lib.Dec.{eqb}
 use borrow.Author.Needs.{needs}
 use borrow.Author.Tests.{eq-eqb, ne-eqb}
 use Rattle.lists.specs.Find.{find, isSome}
-use Rattle.lists.specs.Table.{find-hit, find-next, find-over}
+use Rattle.lists.proofs.Table.{find-hit, find-next, find-over}
 use Rattle.edges.proofs.table.is_listed.Statement.{statement}
 use Rattle.edges.proofs.table.is_listed.Tie as tie
 

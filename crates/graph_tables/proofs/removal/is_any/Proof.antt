@@ -11,8 +11,8 @@ use borrow.Author.Tests.{lt-ltb, le-ltb, eq-eqb, ne-eqb, eqb-true, eqb-false, lt
 use lib.Dec.{eqb}
 use lib.Seq.{take-all}
 use lib.ListN.{length-set, getD-replicate}
-use Rattle.lists.specs.Find.{find, isSome, keepO, or?}
-use Rattle.lists.specs.Table.{find-hit, find-next, find-over}
+use Rattle.lists.specs.Find.{find, isSome, filterO, or?}
+use Rattle.lists.proofs.Table.{find-hit, find-next, find-over}
 use Rattle.words.proofs.Rows.{rows-long}
 use Rattle.words.proofs.Place.{closed}
 use Rattle.words.proofs.InPlace.{Gathering, gathering-start, gathering-take, gathering-pass}

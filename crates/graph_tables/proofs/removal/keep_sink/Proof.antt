@@ -10,8 +10,8 @@ use borrow.Author.Needs.{needs}
 use borrow.Author.Tests.{lt-ltb, le-ltb, eq-eqb, ne-eqb, eqb-true, eqb-false, ltb-true, ltb-false}
 use lib.Dec.{eqb}
 use lib.ListN.{length-set, getD-replicate}
-use Rattle.lists.specs.Find.{find, isSome, keepO, or?}
-use Rattle.lists.specs.Table.{left-cons}
+use Rattle.lists.specs.Find.{find, isSome, filterO, or?}
+use Rattle.lists.proofs.Table.{left-cons}
 use Rattle.words.proofs.Rows.{rows-long}
 use Rattle.words.proofs.Place.{closed}
 use Rattle.words.proofs.InPlace.{Gathering, gathering-start, gathering-take, gathering-pass}
@@ -43,13 +43,13 @@ returns : tie.Need-returns
 returns c =
     let s = c .before .before .before .before .before .before in
     let k = c .before .before .before .sink .given in
-    sym (ap (λ x. keepO (λ j. not (among (s .args .ids .now) j)) (sinkOf x)) (k .1) ∙ ap (λ t. or? (not t) (k .0 .0) none) (sym (c .before .is-any .ensures) ∙ c .if1 .taken))
+    sym (ap (λ x. filterO (λ j. not (among (s .args .ids .now) j)) (sinkOf x)) (k .1) ∙ ap (λ t. or? (not t) (k .0 .0) none) (sym (c .before .is-any .ensures) ∙ c .if1 .taken))
 
 returns-2 : tie.Need-returns-2
 returns-2 c =
     let s = c .before .before .before .before .before .before in
     let k = c .before .before .before .sink .given in
-    sym (ap (λ x. keepO (λ j. not (among (s .args .ids .now) j)) (sinkOf x)) (k .1) ∙ ap (λ t. or? (not t) (k .0 .0) none) (sym (c .before .is-any .ensures) ∙ c .if1 .left))
+    sym (ap (λ x. filterO (λ j. not (among (s .args .ids .now) j)) (sinkOf x)) (k .1) ∙ ap (λ t. or? (not t) (k .0 .0) none) (sym (c .before .is-any .ensures) ∙ c .if1 .left))
 
 returns-3 : tie.Need-returns-3
 returns-3 c = search needs

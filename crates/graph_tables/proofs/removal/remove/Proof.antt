@@ -10,7 +10,7 @@ use borrow.Author.Needs.{needs}
 use borrow.Author.Tests.{lt-ltb, le-ltb, eq-eqb, ne-eqb, eqb-true, eqb-false, ltb-true, ltb-false}
 use lib.ListN.{length-take}
 use lib.Seq.{length-take-le}
-use Rattle.lists.specs.Find.{keepO}
+use Rattle.lists.specs.Find.{filterO}
 use Rattle.words.specs.Place.{Holds}
 use Rattle.edges.specs.Wiring.{among, dropTouching}
 use Rattle.graph.specs.Tables.{sinkOf}
@@ -70,7 +70,7 @@ returns c =
     record {
       nodes = r .ensures .stay;
       edges = subst (λ ids. Holds (edgesIn (e .last .0)) (e .result) (dropTouching es ids)) (r .ensures .leave) (e .ensures);
-      sink = c .keep-sink .ensures ∙ ap (λ ids. keepO (λ k. not (among ids k)) (sinkOf (s .args .sink))) (r .ensures .leave);
+      sink = c .keep-sink .ensures ∙ ap (λ ids. filterO (λ k. not (among ids k)) (sinkOf (s .args .sink))) (r .ensures .leave);
     }
 
 pub remove-spec : {M : Type 1} → statement M

@@ -9,7 +9,7 @@ use borrow.Author.Tests.{not-true, not-false}
 use lib.Seq.{take-length}
 use mir.Syntax.{w8}
 use lib.ListN.{replicate}
-use Rattle.lists.specs.Table.{filled-more}
+use Rattle.lists.proofs.Table.{filled-more}
 use Rattle.node.specs.Name.{nameLength}
 use Rattle.node.proofs.NameLaws.{name-long}
 use Rattle.node.proofs.name.name_of.Statement.{statement}

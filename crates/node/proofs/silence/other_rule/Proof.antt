@@ -7,7 +7,7 @@ use Rattle.node.specs.Name.{sameName}
 use Rattle.node.specs.declared.silence.KindRule.{KindRule}
 use Rattle.node.specs.declared.silence.SilenceRule.the-variants.{Own}
 use Rattle.node.specs.Silence.{ruleIn, rules}
-use Rattle.lists.specs.Table.{lookup-hit, lookup-next}
+use Rattle.lists.proofs.Table.{lookup-hit, lookup-next}
 use Rattle.node.proofs.silence.other_rule.Statement.{statement}
 use Rattle.node.proofs.silence.other_rule.Tie as tie
 

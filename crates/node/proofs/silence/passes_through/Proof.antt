@@ -7,7 +7,7 @@ use borrow.Author.Needs.{needs}
 use Rattle.node.specs.Name.{sameName}
 use Rattle.node.specs.declared.name.Name.{Name}
 use Rattle.node.specs.Silence.{isAmong, silencePassThrough}
-use Rattle.lists.specs.Table.{lookup-hit, lookup-next}
+use Rattle.lists.proofs.Table.{lookup-hit, lookup-next}
 use Rattle.node.proofs.silence.passes_through.Statement.{statement}
 use Rattle.node.proofs.silence.passes_through.Tie as tie
 

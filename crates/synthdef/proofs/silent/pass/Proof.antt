@@ -8,7 +8,7 @@ use mathlib.Core.Bool.{false, _||_}
 use lib.ListN.{length, take, drop, getD, length-set, length-map, drop-of-length-le}
 use lib.Seq.{take-all}
 use borrow.Author.Needs.{needs}
-use Rattle.lists.specs.Table.{left-cons}
+use Rattle.lists.proofs.Table.{left-cons}
 use Rattle.synthdef.specs.Plan.{says, passFrom, noStep}
 use Rattle.synthdef.proofs.Walk.{one-more}
 use Rattle.synthdef.proofs.silent.pass.Statement.{statement}

@@ -7,7 +7,7 @@ use mathlib.Core.Bool.{Bool, true, false, _&&_, Bool·beq}
 use lib.ListN.{length, drop, getD, drop-of-length-le}
 use borrow.Author.Needs.{needs}
 use borrow.Author.Tests.{not-true, not-false}
-use Rattle.lists.specs.Table.{left-cons}
+use Rattle.lists.proofs.Table.{left-cons}
 use Rattle.synthdef.specs.Plan.{sameFlags}
 use Rattle.synthdef.proofs.silent.same_flags.Statement.{statement}
 use Rattle.synthdef.proofs.silent.same_flags.Tie as tie

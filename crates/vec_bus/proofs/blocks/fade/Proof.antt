@@ -1,6 +1,6 @@
 -- `vec_bus::blocks::fade` is safe.
 use borrow.Author.Needs.{needs}
-use Rattle.wire.proofs.Part.{counted}
+use Rattle.codec.proofs.Part.{counted}
 use Rattle.vec_bus.proofs.blocks.fade.Statement.{statement}
 use Rattle.vec_bus.proofs.blocks.fade.Tie as tie
 

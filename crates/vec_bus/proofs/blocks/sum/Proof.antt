@@ -1,6 +1,6 @@
 -- `vec_bus::blocks::sum` is safe.
 use borrow.Author.Needs.{needs}
-use Rattle.wire.proofs.Part.{counted}
+use Rattle.codec.proofs.Part.{counted}
 use Rattle.vec_bus.proofs.blocks.sum.Statement.{statement}
 use Rattle.vec_bus.proofs.blocks.sum.Tie as tie
 

@@ -1,6 +1,6 @@
 -- `vec_bus::levels::block` is safe.
 use borrow.Author.Needs.{needs}
-use Rattle.wire.proofs.Part.{counted}
+use Rattle.codec.proofs.Part.{counted}
 use Rattle.vec_bus.proofs.levels.block.Statement.{statement}
 use Rattle.vec_bus.proofs.levels.block.Tie as tie
 

@@ -6,7 +6,7 @@ use mathlib.Core.Path.{_≡_, sym, ap, _∙_}
 use mathlib.Core.List.{[]}
 use lib.ListN.{length-take, drop-of-length-le, length, take, drop, getD}
 use borrow.Author.Needs.{needs}
-use Rattle.lists.specs.Table.{left-row}
+use Rattle.lists.proofs.Table.{left-row}
 use Rattle.model.specs.Voice.{fadesOn}
 use Rattle.model.specs.Spawn.{earlier, earliest}
 use Rattle.words.proofs.InWords.{take-count}

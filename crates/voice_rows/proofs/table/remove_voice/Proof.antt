@@ -3,7 +3,8 @@ use mathlib.Core.List.{[], _∷_}
 use mathlib.Core.Bool.{not}
 use lib.ListN.{length, take}
 use borrow.Author.Needs.{needs}
-use Rattle.lists.specs.Keep.{keep, keep-same}
+use Rattle.lists.specs.Filter.{filter}
+use Rattle.lists.proofs.Filter.{filter-same}
 use Rattle.graph.proofs.Together.{listed-one}
 use Rattle.store.specs.declared.voices.Voice.{Voice}
 use Rattle.model.specs.Voice.{isVoice}
@@ -25,7 +26,7 @@ returns : tie.Need-returns
 returns c =
     let s = c .before .before .before .before .before .before .args in
     let l = take (s .count) (voicesIn (s .t .now)) in
-    let same : keep (λ (x : Voice). not (isAnyOf (s .v .0 ∷ []) x)) l ≡ keep (λ (x : Voice). not (isVoice (s .v) x)) l = keep-same _ _ l (λ x i. ap not (listed-one (s .v .0) (x .id .0))) in
+    let same : filter (λ (x : Voice). not (isAnyOf (s .v .0 ∷ []) x)) l ≡ filter (λ (x : Voice). not (isVoice (s .v) x)) l = filter-same _ _ l (λ x i. ap not (listed-one (s .v .0) (x .id .0))) in
     record { is = c .before .before .remove-voices .ensures .is ∙ same; many = c .before .before .remove-voices .ensures .many ∙ ap length same }
 
 pub remove-voice-spec : {M : Type 1} → statement M

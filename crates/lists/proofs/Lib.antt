@@ -1,0 +1,6 @@
+pub mod Count
+pub mod Find
+pub mod Filter
+pub mod Member
+pub mod Rising
+pub mod Table
