@@ -1,19 +1,24 @@
 // "Block 128 accepted, 129 refused; 24 nodes accepted, 25 refused. Two more renders and a clearing call: it removes voice 1 and answers 1."
 use crate::show;
-use clearing::free_done_synths;
-use codec::word::number;
-use codec::word::text;
-use engine::spawn::spawn_voice_on_bus_managed;
-use making::make;
-use node::record::NodeId;
 use page_scene::opened;
 use page_scene::played;
 use page_scene::stores::of_nodes;
-use render::render;
-use store::state::Store;
-use voice::policy::Budget;
-use voice::policy::BudgetScope;
-use voice::policy::StealPolicy;
+use piecrag::Budget;
+use piecrag::BudgetScope;
+use piecrag::EdgeTable;
+use piecrag::EventTable;
+use piecrag::NodeId;
+use piecrag::NodeTable;
+use piecrag::OrderTable;
+use piecrag::StealPolicy;
+use piecrag::StealTable;
+use piecrag::VoiceTable;
+use piecrag::free_done_synths;
+use piecrag::make;
+use piecrag::render;
+use piecrag::spawn_voice_on_bus_managed;
+use wire::word::number;
+use wire::word::text;
 
 fn block(n: usize) {
     let made = make(
@@ -37,31 +42,58 @@ pub fn blocks() {
     block(129);
 }
 
-fn definition(n: usize) {
-    let landed = spawn_voice_on_bus_managed(opened(), of_nodes(n, 0), NodeId(0));
+fn definition(
+    n: usize,
+    nodes: &mut NodeTable,
+    edges: &mut EdgeTable,
+    voices: &mut VoiceTable,
+    steals: &mut StealTable,
+) {
+    let s = opened(nodes);
+    let spawning = spawn_voice_on_bus_managed(
+        s,
+        nodes,
+        edges,
+        voices,
+        steals,
+        of_nodes(n, 0),
+        NodeId(0),
+    );
     text(b"nodes ");
     number(n as u64);
     text(b" ");
-    let a = landed.answer;
+    let a = spawning.answer;
     show::spawned(a);
     text(b"\n");
 }
 
-pub fn definitions() {
-    definition(24);
-    definition(25);
+pub fn definitions(
+    nodes: &mut NodeTable,
+    edges: &mut EdgeTable,
+    voices: &mut VoiceTable,
+    steals: &mut StealTable,
+) {
+    definition(24, nodes, edges, voices, steals);
+    definition(25, nodes, edges, voices, steals);
 }
 
-fn rendered(s: Store) -> Store {
-    let rendering = render(s);
-    rendering.store
-}
-
-pub fn clearing() {
-    let cleared = free_done_synths(rendered(rendered(played())));
+pub fn clearing(
+    nodes: &mut NodeTable,
+    edges: &mut EdgeTable,
+    order: &mut OrderTable,
+    voices: &mut VoiceTable,
+    events: &mut EventTable,
+    steals: &mut StealTable,
+) {
+    let s = played(nodes, edges, order, voices, events, steals);
+    let first = render(s, nodes, edges, order, voices, events);
+    let t = first.state;
+    let second = render(t, nodes, edges, order, voices, events);
+    let u = second.state;
+    let cleared = free_done_synths(u, nodes, edges, voices);
     text(b"cleared ");
     number(cleared.removed as u64);
     text(b"\n");
-    let s = cleared.store;
-    show::whole_page(s);
+    let left = cleared.state;
+    show::whole_page(left, voices);
 }

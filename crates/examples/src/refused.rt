@@ -1,14 +1,5 @@
 // Each refusal, by a call of its own. Where nothing may change, the page before and the page after are compared.
 use crate::show;
-use codec::word::text;
-use engine::spawn::spawn_voice_on_bus;
-use engine::spawn::spawn_voice_on_bus_managed;
-use making::make;
-use node::order::Action;
-use node::record::NodeId;
-use node::record::VoiceId;
-use orders::report::report;
-use page::page;
 use page_scene::played;
 use page_scene::stores::of_nodes;
 use page_scene::stores::with_bus;
@@ -18,16 +9,31 @@ use page_scene::stores::with_feeder;
 use page_scene::stores::with_next;
 use page_scene::tone;
 use page_scene::turn;
-use render::render;
-use service::host::add_node;
-use service::host::connect;
-use service::prepare::prepare;
-use service::schedule::schedule;
-use store::state::Store;
-use synthdef::def::SynthDef;
-use voice::policy::Budget;
-use voice::policy::BudgetScope;
-use voice::policy::StealPolicy;
+use piecrag::Action;
+use piecrag::Budget;
+use piecrag::BudgetScope;
+use piecrag::EdgeTable;
+use piecrag::EventTable;
+use piecrag::NodeId;
+use piecrag::NodeTable;
+use piecrag::OrderTable;
+use piecrag::State;
+use piecrag::StealPolicy;
+use piecrag::StealTable;
+use piecrag::SynthDef;
+use piecrag::VoiceId;
+use piecrag::VoiceTable;
+use piecrag::add_node;
+use piecrag::connect;
+use piecrag::make;
+use piecrag::page;
+use piecrag::prepare;
+use piecrag::render;
+use piecrag::report;
+use piecrag::schedule;
+use piecrag::spawn_voice_on_bus;
+use piecrag::spawn_voice_on_bus_managed;
+use wire::word::text;
 
 fn making(rate: f32, block: usize, budget: Budget, table: bool, what: &[u8]) {
     let made = make(
@@ -69,155 +75,292 @@ pub fn makings() {
     );
 }
 
-fn wiring(from: u32, to: u32, port: u32, what: &[u8]) {
-    let s = played();
-    let served = connect(s, NodeId(from), NodeId(to), port);
+fn wiring(
+    s: State,
+    nodes: &NodeTable,
+    edges: &mut EdgeTable,
+    voices: &VoiceTable,
+    from: u32,
+    to: u32,
+    port: u32,
+    what: &[u8],
+) {
+    let mut was = io::buffer();
+    let n = show::page_of(s, voices, &mut was);
+    let served = connect(s, nodes, edges, NodeId(from), NodeId(to), port);
     let a = served.answer;
     show::answer(a);
-    let t = served.store;
-    show::call(what, s, t);
+    let t = served.state;
+    show::call(what, &was[..n], t, voices);
 }
 
-// 4, 5, 6
-pub fn wirings() {
-    wiring(99, 0, 0, b"connecting an unknown node");
-    wiring(0, 1, 0, b"connecting to a node of a voice");
-    wiring(0, 0, 3, b"connecting to port 3 of 3");
+// 4, 5, 6, on the scene's store, which each of them leaves as it is
+fn wirings(s: State, nodes: &NodeTable, edges: &mut EdgeTable, voices: &VoiceTable) {
+    wiring(
+        s,
+        nodes,
+        edges,
+        voices,
+        99,
+        0,
+        0,
+        b"connecting an unknown node",
+    );
+    wiring(
+        s,
+        nodes,
+        edges,
+        voices,
+        0,
+        1,
+        0,
+        b"connecting to a node of a voice",
+    );
+    wiring(
+        s,
+        nodes,
+        edges,
+        voices,
+        0,
+        0,
+        3,
+        b"connecting to port 3 of 3",
+    );
 }
 
 // 7
-fn full() {
-    let s = with_events(played(), 256);
-    let served = schedule(s, 1000, VoiceId(1), b"", Action::Free);
+fn full(s: State, voices: &VoiceTable, events: &mut EventTable) {
+    let filled = with_events(s, events, 256);
+    let mut was = io::buffer();
+    let n = show::page_of(filled, voices, &mut was);
+    let served = schedule(filled, events, 1000, VoiceId(1), b"", Action::Free);
     let a = served.answer;
     show::answer(a);
-    let t = served.store;
-    show::call(b"scheduling event 257", s, t);
+    let t = served.state;
+    show::call(b"scheduling event 257", &was[..n], t, voices);
 }
 
 // 8
-fn last_id() {
-    let s = with_next(played(), 4294967296);
-    let granted = add_node(s, b"Bus", 1, 0, false, false);
+fn last_id(s: State, nodes: &mut NodeTable, voices: &VoiceTable) {
+    let last = with_next(s, 4294967296);
+    let mut was = io::buffer();
+    let n = show::page_of(last, voices, &mut was);
+    let granted = add_node(last, nodes, b"Bus", 1, 0, false, false);
     let a = granted.given;
     show::given(a);
-    let t = granted.store;
-    show::call(b"adding a node after the last id", s, t);
+    let t = granted.state;
+    show::call(b"adding a node after the last id", &was[..n], t, voices);
 }
 
-pub fn tables() {
-    full();
-    last_id();
-}
-
-fn spawn(s: Store, def: SynthDef, bus: u32, what: &[u8]) {
-    let landed = spawn_voice_on_bus_managed(s, def, NodeId(bus));
-    let a = landed.answer;
+fn spawn(
+    s: State,
+    nodes: &mut NodeTable,
+    edges: &mut EdgeTable,
+    voices: &mut VoiceTable,
+    steals: &mut StealTable,
+    def: SynthDef,
+    bus: u32,
+    what: &[u8],
+) -> State {
+    let mut was = io::buffer();
+    let n = show::page_of(s, voices, &mut was);
+    let spawning = spawn_voice_on_bus_managed(s, nodes, edges, voices, steals, def, NodeId(bus));
+    let a = spawning.answer;
     show::spawned(a);
-    let t = landed.store;
-    show::call(what, s, t);
+    let t = spawning.state;
+    show::call(what, &was[..n], t, voices);
+    t
 }
 
-// A bus without ports beside the scene's: node 5.
-fn without_ports() -> Store {
-    let granted = add_node(played(), b"Bus", 0, 0, false, false);
-    granted.store
-}
-
-// 9, 10, 11
-pub fn spawns() {
+// 9, 10, 11: on the scene's store; with a bus without ports beside the scene's, node 5; on a new store with a budget of 0
+fn spawns(
+    s: State,
+    nodes: &mut NodeTable,
+    edges: &mut EdgeTable,
+    voices: &mut VoiceTable,
+    steals: &mut StealTable,
+) {
     spawn(
-        played(),
+        s,
+        nodes,
+        edges,
+        voices,
+        steals,
         of_nodes(1, 1),
         0,
         b"spawning a definition that sounds through a node that it has not",
     );
+    let granted = add_node(s, nodes, b"Bus", 0, 0, false, false);
+    let without_ports = granted.state;
     spawn(
-        without_ports(),
+        without_ports,
+        nodes,
+        edges,
+        voices,
+        steals,
         tone(),
         5,
         b"spawning on a bus without ports",
     );
+    let nobody = with_bus(nodes, Budget::AtMost(0), 3);
     spawn(
-        with_bus(Budget::AtMost(0), 3),
+        nobody,
+        nodes,
+        edges,
+        voices,
+        steals,
         tone(),
         0,
         b"spawning under a budget of 0",
     );
 }
 
-// 12 with nothing left to reclaim: the page shows that both voices went. A loose spawn steals nobody, and nothing changes.
-pub fn no_port() {
-    let two = turn(turn(with_bus(Budget::AtMost(2), 2)));
-    let s = with_feeder(with_feeder(two, 3, 0), 4, 1);
-    show::whole_page(s);
-    let landed = spawn_voice_on_bus_managed(s, tone(), NodeId(0));
-    let a = landed.answer;
-    show::spawned(a);
-    let t = landed.store;
-    show::call(b"spawning where the host holds every port", s, t);
-    show::whole_page(t);
-    let u = played();
-    let loose = spawn_voice_on_bus(u, tone(), NodeId(0));
-    let b = loose.answer;
-    show::spawned(b);
-    let v = loose.store;
-    show::call(b"spawning unmanaged where voices hold every port", u, v);
+// 12 with nothing left to reclaim: the page shows that both voices were removed.
+fn no_port(
+    nodes: &mut NodeTable,
+    edges: &mut EdgeTable,
+    order: &mut OrderTable,
+    voices: &mut VoiceTable,
+    events: &mut EventTable,
+    steals: &mut StealTable,
+) {
+    let empty = with_bus(nodes, Budget::AtMost(2), 2);
+    let one = turn(empty, nodes, edges, order, voices, events, steals);
+    let two = turn(one, nodes, edges, order, voices, events, steals);
+    let fed = with_feeder(two, nodes, edges, 3, 0);
+    let s = with_feeder(fed, nodes, edges, 4, 1);
+    show::whole_page(s, voices);
+    let t = spawn(
+        s,
+        nodes,
+        edges,
+        voices,
+        steals,
+        tone(),
+        0,
+        b"spawning where the host holds every port",
+    );
+    show::whole_page(t, voices);
 }
 
-fn preparing(s: Store, what: &[u8]) {
-    let served = prepare(s);
+// 12 by a loose spawn, which steals nobody: nothing changes.
+fn no_loose_port(
+    s: State,
+    nodes: &mut NodeTable,
+    edges: &mut EdgeTable,
+    voices: &mut VoiceTable,
+    steals: &mut StealTable,
+) {
+    let mut was = io::buffer();
+    let n = show::page_of(s, voices, &mut was);
+    let spawning = spawn_voice_on_bus(s, nodes, edges, voices, steals, tone(), NodeId(0));
+    let a = spawning.answer;
+    show::spawned(a);
+    let t = spawning.state;
+    show::call(
+        b"spawning unmanaged where voices hold every port",
+        &was[..n],
+        t,
+        voices,
+    );
+}
+
+fn preparing(
+    s: State,
+    nodes: &NodeTable,
+    edges: &EdgeTable,
+    order: &mut OrderTable,
+    voices: &VoiceTable,
+    what: &[u8],
+) {
+    let mut was = io::buffer();
+    let n = show::page_of(s, voices, &mut was);
+    let served = prepare(s, nodes, edges, order);
     let a = served.answer;
     show::answer(a);
-    let t = served.store;
-    show::call(what, s, t);
+    let t = served.state;
+    show::call(what, &was[..n], t, voices);
 }
 
-fn with_required() -> Store {
-    let granted = add_node(played(), b"Gain", 1, 1, false, false);
-    granted.store
-}
-
-fn with_cycle() -> Store {
-    let served = connect(played(), NodeId(0), NodeId(0), 0);
-    served.store
-}
-
-// 13, 14
-pub fn prepares() {
+// 13: a node is added to the scene's store whose required port nothing feeds
+fn lacking(
+    s: State,
+    nodes: &mut NodeTable,
+    edges: &EdgeTable,
+    order: &mut OrderTable,
+    voices: &VoiceTable,
+) {
+    let granted = add_node(s, nodes, b"Gain", 1, 1, false, false);
+    let with_required = granted.state;
     preparing(
-        with_required(),
+        with_required,
+        nodes,
+        edges,
+        order,
+        voices,
         b"preparing with a required port unconnected",
     );
-    preparing(with_cycle(), b"preparing with a bus that feeds itself");
+}
+
+// 14: the bus of the scene's store feeds itself
+fn cyclic(
+    s: State,
+    nodes: &NodeTable,
+    edges: &mut EdgeTable,
+    order: &mut OrderTable,
+    voices: &VoiceTable,
+) {
+    let served = connect(s, nodes, edges, NodeId(0), NodeId(0), 0);
+    let with_cycle = served.state;
+    preparing(
+        with_cycle,
+        nodes,
+        edges,
+        order,
+        voices,
+        b"preparing with a bus that feeds itself",
+    );
 }
 
 // 15: a clock from which the block of 16 ends past 2^64 - 1
-pub fn renders() {
-    let s = with_clock(played(), 18446744073709551600);
-    let rendering = render(s);
+fn late(
+    s: State,
+    nodes: &mut NodeTable,
+    edges: &mut EdgeTable,
+    order: &mut OrderTable,
+    voices: &mut VoiceTable,
+    events: &mut EventTable,
+) {
+    let last = with_clock(s, 18446744073709551600);
+    let mut was = io::buffer();
+    let n = show::page_of(last, voices, &mut was);
+    let rendering = render(last, nodes, edges, order, voices, events);
     let a = rendering.answer;
     show::rendered(a);
-    let t = rendering.store;
-    show::call(b"rendering at clock 2^64 - 16", s, t);
+    let t = rendering.state;
+    show::call(b"rendering at clock 2^64 - 16", &was[..n], t, voices);
 }
 
 // 16
-fn short_block() {
-    let s = played();
+fn short_block(s: State, nodes: &mut NodeTable, voices: &VoiceTable) {
+    let mut was = io::buffer();
+    let n = show::page_of(s, voices, &mut was);
     let samples = [0.0f32; 15];
-    let served = report(s, NodeId(0), 1, &samples, false);
-    let a = served.answer;
+    let a = report(s, nodes, voices, NodeId(0), 1, &samples, false);
     show::answer(a);
-    let t = served.store;
-    show::call(b"reporting 15 samples of a block of 16", s, t);
+    show::call(
+        b"reporting 15 samples of a block of 16",
+        &was[..n],
+        s,
+        voices,
+    );
 }
 
 // 17
-fn short_buffer() {
+fn short_buffer(s: State, voices: &VoiceTable) {
     let mut out = [7u8; 58];
     let was = [7u8; 58];
-    let a = page(played(), &mut out);
+    let a = page(s, voices, &mut out);
     show::paged(a);
     text(b" the page, of 59 bytes, in a buffer of 58");
     if check::same(&out, &was) {
@@ -227,7 +370,29 @@ fn short_buffer() {
     }
 }
 
-pub fn buffers() {
-    short_block();
-    short_buffer();
+// 4 to 9, then those that change the tables before they are refused, each on the scene's store made anew.
+pub fn all(
+    nodes: &mut NodeTable,
+    edges: &mut EdgeTable,
+    order: &mut OrderTable,
+    voices: &mut VoiceTable,
+    events: &mut EventTable,
+    steals: &mut StealTable,
+) {
+    let a = played(nodes, edges, order, voices, events, steals);
+    wirings(a, nodes, edges, voices);
+    full(a, voices, events);
+    let b = played(nodes, edges, order, voices, events, steals);
+    last_id(b, nodes, voices);
+    spawns(b, nodes, edges, voices, steals);
+    no_port(nodes, edges, order, voices, events, steals);
+    let c = played(nodes, edges, order, voices, events, steals);
+    no_loose_port(c, nodes, edges, voices, steals);
+    lacking(c, nodes, edges, order, voices);
+    let d = played(nodes, edges, order, voices, events, steals);
+    cyclic(d, nodes, edges, order, voices);
+    let e = played(nodes, edges, order, voices, events, steals);
+    late(e, nodes, edges, order, voices, events);
+    short_block(e, nodes, voices);
+    short_buffer(e, voices);
 }

@@ -1,16 +1,18 @@
 // What a call answered, and what became of the page.
-use codec::word::number;
-use codec::word::text;
-use graph::state::AddAnswer;
-use graph::state::Answer;
-use node::refusal::Refusal;
-use node::refusal::refusal_number;
-use page::page;
-use page::page_length;
-use store::answer::Paged;
-use store::answer::Rendered;
-use store::answer::Spawned;
-use store::state::Store;
+use piecrag::Answer;
+use piecrag::AddAnswer;
+use piecrag::Paged;
+use piecrag::Refusal;
+use piecrag::Rendered;
+use piecrag::Spawned;
+use piecrag::State;
+use piecrag::VoiceTable;
+use piecrag::page;
+use piecrag::page_length;
+use piecrag::refusal_number;
+use wire::word::number;
+use wire::word::text;
+ghost use Rattle.io.specs.Counts.{Counts};
 
 fn refused(r: Refusal) {
     text(b"refused ");
@@ -54,29 +56,32 @@ pub fn paged(a: Paged) {
     }
 }
 
+// The page is put into `out`: how many bytes of it count.
+pub fn page_of(s: State, voices: &VoiceTable, out: &mut [u8]) -> usize
+    ensures { λ r. ⌜ Counts r (now (out .exit)) ⌝ }
+{
+    let a = page(s, voices, out);
+    page_length(a, out)
+}
+
 // The page itself.
-pub fn whole_page(s: Store) {
+pub fn whole_page(s: State, voices: &VoiceTable) {
     let mut out = io::buffer();
-    let a = page(s, &mut out);
-    let n = page_length(a, &out);
+    let n = page_of(s, voices, &mut out);
     text(&out[..n]);
 }
 
-fn same_page(before: Store, after: Store) -> bool {
-    let mut left = io::buffer();
-    let mut right = io::buffer();
-    let a = page(before, &mut left);
-    let b = page(after, &mut right);
-    let n = page_length(a, &left);
-    let m = page_length(b, &right);
-    check::same(&left[..n], &right[..m])
+fn same_page(was: &[u8], s: State, voices: &VoiceTable) -> bool {
+    let mut out = io::buffer();
+    let n = page_of(s, voices, &mut out);
+    check::same(was, &out[..n])
 }
 
-// The name of the call that was made, and whether the page is what it was.
-pub fn call(what: &[u8], before: Store, after: Store) {
+// The name of the call that was made, and whether the page is what it was before the call.
+pub fn call(what: &[u8], was: &[u8], s: State, voices: &VoiceTable) {
     text(b" ");
     text(what);
-    if same_page(before, after) {
+    if same_page(was, s, voices) {
         text(b", same page\n");
     } else {
         text(b", another page\n");

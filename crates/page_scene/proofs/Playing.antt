@@ -16,7 +16,7 @@ use Rattle.model.specs.Call.{Call, Answer, Step, step, pageAnswer}
 use Rattle.model.specs.Call as call
 use Rattle.model.specs.Page.{page}
 use Rattle.model.specs.Scene.{config, further, printed}
-use Rattle.making.specs.Made.{making}
+use Rattle.call_make.specs.Made.{making}
 use Rattle.page_scene.specs.Played.{played, played-page}
 use Rattle.page_scene.specs.Stores.{timed, waiting}
 

@@ -12,7 +12,14 @@ use Rattle.model.specs.Model.{Model}
 use Rattle.model.specs.Call.{Call}
 use Rattle.model.specs.Call as call
 use Rattle.model.specs.Scene.{voice, wire}
+use Rattle.memory.specs.declared.state.State.{State}
+use Rattle.memory.specs.View.{Memory}
 use Rattle.page_scene.specs.Played.{tone}
+
+-- a store of which every table is lent: nodes, edges, processing order, voices, events, steal records
+abbrev pub lentAll : State → List ℕ → List ℕ → List ℕ → List ℕ → List ℕ → List ℕ → Memory
+lentAll s nodes edges order voices events steals =
+    record { state = s; nodes = nodes; edges = edges; order = order; voices = voices; events = events; steals = steals }
 
 -- a host node of no ports, which feeds a port of node 0
 abbrev pub feeder : ℕ → ℕ → List Call

@@ -1,37 +1,44 @@
-// The scene of 01's page, played by the engine's calls, and the other stores of the examples.
+// The scene of 01's page, played by the store's calls on tables that the caller lends, and the other stores of the examples.
 pub mod stores;
 
-use engine::spawn::spawn_voice_on_bus_managed;
-use making::make;
-use node::name::name_of;
-use node::record::NodeId;
-use page::page;
-use render::render;
-use service::host::add_node;
-use service::host::set_sink;
-use service::prepare::prepare;
-use store::answer::Paged;
-use store::state::Store;
-use synthdef::def::DefEdge;
-use synthdef::def::DefEdges;
-use synthdef::def::DefNode;
-use synthdef::def::DefNodes;
-use synthdef::def::NO_PORT;
-use synthdef::def::Param;
-use synthdef::def::Params;
-use synthdef::def::SynthDef;
-use voice::policy::Budget;
-use voice::policy::BudgetScope;
-use voice::policy::StealPolicy;
+use piecrag::Budget;
+use piecrag::BudgetScope;
+use piecrag::DefEdge;
+use piecrag::DefEdges;
+use piecrag::DefNode;
+use piecrag::DefNodes;
+use piecrag::EdgeTable;
+use piecrag::EventTable;
+use piecrag::NO_PORT;
+use piecrag::NodeId;
+use piecrag::NodeTable;
+use piecrag::OrderTable;
+use piecrag::Paged;
+use piecrag::Param;
+use piecrag::Params;
+use piecrag::State;
+use piecrag::StealPolicy;
+use piecrag::StealTable;
+use piecrag::SynthDef;
+use piecrag::VoiceTable;
+use piecrag::add_node;
+use piecrag::make;
+use piecrag::name_of;
+use piecrag::page;
+use piecrag::prepare;
+use piecrag::render;
+use piecrag::set_sink;
+use piecrag::spawn_voice_on_bus_managed;
 ghost use mathlib.Core.Path.{_≡_};
 ghost use mathlib.Core.Bool.{false};
-ghost use Rattle.model.specs.View.{modelOf};
 ghost use Rattle.model.specs.Call.{pageAnswer};
 ghost use Rattle.model.specs.Make.{newModel};
-ghost use Rattle.model.specs.Scene.{plain, further};
-ghost use Rattle.model.specs.Scene.{pageConfig, printed};
-ghost use Rattle.page.specs.Paged.{pagedOf};
+ghost use Rattle.model.specs.Scene.{plain, further, pageConfig, printed};
+ghost use Rattle.memory.specs.View.{Memory, modelOf};
+ghost use Rattle.memory.specs.Lent.{lentNodes};
+ghost use Rattle.call_page.specs.Paged.{pagedOf};
 ghost use Rattle.page_scene.specs.Played as played;
+ghost use Rattle.page_scene.specs.Stores.{lentAll};
 
 // A node that has no ports and takes nothing.
 fn tone_node() -> DefNode
@@ -82,8 +89,8 @@ pub fn tone() -> SynthDef
 }
 
 // A new store with a bus of 3 ports, which is the sink.
-pub fn opened() -> Store
-    ensures { λ r. ⌜ modelOf r ≡ further played.opening (newModel pageConfig) ⌝ }
+pub fn opened(nodes: &mut NodeTable) -> State
+    ensures { λ r. ⌜ ((m : Memory) → modelOf (lentNodes r (now (nodes .exit)) m) ≡ further played.opening (newModel pageConfig)) ⌝ }
 {
     let made = make(
         8000.0,
@@ -93,35 +100,62 @@ pub fn opened() -> Store
         BudgetScope::Global,
         false,
     );
-    let empty = made.store;
-    let added = add_node(empty, b"Bus", 3, 0, false, false);
-    let with_bus = added.store;
-    let heard = set_sink(with_bus, NodeId(0));
-    heard.store
+    let empty = made.state;
+    let added = add_node(empty, nodes, b"Bus", 3, 0, false, false);
+    let with_bus = added.state;
+    let heard = set_sink(with_bus, nodes, NodeId(0));
+    heard.state
 }
 
 // A managed spawn, a prepare and a render.
-pub fn turn(s: Store) -> Store
-    ensures { λ r. ⌜ modelOf r ≡ further played.turn (modelOf s) ⌝ }
+pub fn turn(
+    s: State,
+    nodes: &mut NodeTable,
+    edges: &mut EdgeTable,
+    order: &mut OrderTable,
+    voices: &mut VoiceTable,
+    events: &mut EventTable,
+    steals: &mut StealTable,
+) -> State
+    ensures { λ r. ⌜ modelOf (lentAll r (now (nodes .exit)) (now (edges .exit)) (now (order .exit)) (now (voices .exit)) (now (events .exit)) (now (steals .exit))) ≡ further played.turn (modelOf (lentAll s (now (nodes .entry)) (now (edges .entry)) (now (order .entry)) (now (voices .entry)) (now (events .entry)) (now (steals .entry)))) ⌝ }
 {
-    let landed = spawn_voice_on_bus_managed(s, tone(), NodeId(0));
-    let more = landed.store;
-    let served = prepare(more);
-    let ready = served.store;
-    let rendering = render(ready);
-    rendering.store
+    let spawning = spawn_voice_on_bus_managed(s, nodes, edges, voices, steals, tone(), NodeId(0));
+    let more = spawning.state;
+    let served = prepare(more, nodes, edges, order);
+    let ready = served.state;
+    let rendering = render(ready, nodes, edges, order, voices, events);
+    rendering.state
 }
 
 // The store after the scene.
-pub fn played() -> Store
-    ensures { λ r. ⌜ modelOf r ≡ played.played .model ⌝ }
+pub fn played(
+    nodes: &mut NodeTable,
+    edges: &mut EdgeTable,
+    order: &mut OrderTable,
+    voices: &mut VoiceTable,
+    events: &mut EventTable,
+    steals: &mut StealTable,
+) -> State
+    ensures { λ r. ⌜ modelOf (lentAll r (now (nodes .exit)) (now (edges .exit)) (now (order .exit)) (now (voices .exit)) (now (events .exit)) (now (steals .exit))) ≡ played.played .model ⌝ }
 {
-    turn(turn(turn(opened())))
+    let empty = opened(nodes);
+    let one = turn(empty, nodes, edges, order, voices, events, steals);
+    let two = turn(one, nodes, edges, order, voices, events, steals);
+    turn(two, nodes, edges, order, voices, events, steals)
 }
 
 // Its page is 01's.
-pub fn scene_page(out: &mut [u8]) -> Paged
+pub fn scene_page(
+    nodes: &mut NodeTable,
+    edges: &mut EdgeTable,
+    order: &mut OrderTable,
+    voices: &mut VoiceTable,
+    events: &mut EventTable,
+    steals: &mut StealTable,
+    out: &mut [u8],
+) -> Paged
     ensures { λ r. ⌜ pagedOf r (now (out .exit)) ≡ pageAnswer printed (now (out .entry)) ⌝ }
 {
-    page(played(), out)
+    let s = played(nodes, edges, order, voices, events, steals);
+    page(s, voices, out)
 }

@@ -1,8 +1,9 @@
 use borrow.Author.Needs.{needs}
 use Rattle.model.specs.Make.{newModel}
-use Rattle.model.specs.View.{modelOf}
 use Rattle.model.specs.Scene.{pageConfig}
+use Rattle.memory.specs.View.{modelOf}
 use Rattle.page_scene.specs.Played.{opening, turn, played}
+use Rattle.page_scene.specs.Stores.{lentAll}
 use Rattle.page_scene.proofs.Playing.{three-turns}
 use Rattle.page_scene.proofs.played.Statement.{statement}
 use Rattle.page_scene.proofs.played.Tie as tie
@@ -22,11 +23,20 @@ turn-requires-3 c κs = search needs
 returns : tie.Need-returns
 unfolding played
 returns c =
-    let o = c .before .before .before .opened in
-    let a = c .before .before .turn in
-    let b = c .before .turn2 in
-    let d = c .turn3 in
-    three-turns opening turn (newModel pageConfig) (modelOf (o .result)) (modelOf (a .result)) (modelOf (b .result)) (modelOf (d .result)) (o .ensures) (a .ensures) (b .ensures) (d .ensures)
+    let second = c .before .before .before .before .before .before .before in
+    let first = second .before .before .before .before .before .before .before in
+    let start = first .before .before .before .before .before .before .before in
+    let o = start .opened in
+    let x = first .turn in
+    let y = second .turn2 in
+    let z = c .turn3 in
+    let a = start .before .before .args in
+    let empty = lentAll (o .result) (o .last .0) (a .edges .now) (a .order .now) (a .voices .now) (a .events .now) (a .steals .now) in
+    three-turns opening turn (newModel pageConfig) (modelOf empty)
+    (modelOf (lentAll (x .result) (x .last .1 .0) (x .last .1 .1 .0) (x .last .1 .1 .1 .0) (x .last .1 .1 .1 .1 .0) (x .last .1 .1 .1 .1 .1 .0) (x .last .1 .1 .1 .1 .1 .1 .0)))
+    (modelOf (lentAll (y .result) (y .last .1 .0) (y .last .1 .1 .0) (y .last .1 .1 .1 .0) (y .last .1 .1 .1 .1 .0) (y .last .1 .1 .1 .1 .1 .0) (y .last .1 .1 .1 .1 .1 .1 .0)))
+    (modelOf (lentAll (z .result) (z .last .1 .0) (z .last .1 .1 .0) (z .last .1 .1 .1 .0) (z .last .1 .1 .1 .1 .0) (z .last .1 .1 .1 .1 .1 .0) (z .last .1 .1 .1 .1 .1 .1 .0)))
+    (o .ensures empty) (x .ensures) (y .ensures) (z .ensures)
 
 pub played-spec : {M : Type 1} → statement M
 played-spec =

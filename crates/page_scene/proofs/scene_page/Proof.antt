@@ -1,6 +1,7 @@
 use borrow.Author.Needs.{needs}
-use Rattle.model.specs.View.{modelOf}
-use Rattle.page.specs.Paged.{pagedOf}
+use Rattle.memory.specs.View.{modelOf}
+use Rattle.call_page.specs.Paged.{pagedOf}
+use Rattle.page_scene.specs.Stores.{lentAll}
 use Rattle.page_scene.proofs.Playing.{page-is}
 use Rattle.page_scene.proofs.scene_page.Statement.{statement}
 use Rattle.page_scene.proofs.scene_page.Tie as tie
@@ -16,9 +17,12 @@ same-length c = search needs
 
 returns : tie.Need-returns
 returns c =
-    let s = c .before .before .before .before .played in
+    let start = c .before .before .before .before .before in
+    let s = start .played in
     let r = c .before .before .page in
-    page-is (modelOf (s .result)) (pagedOf (r .result) (r .last .1 .0)) (c .before .before .before .before .before .before .args .out .now) (r .ensures .0) (s .ensures)
+    let a = start .before .before .before .before .before .before .before .before .args in
+    let m = lentAll (s .result) (s .last .0) (s .last .1 .0) (s .last .1 .1 .0) (s .last .1 .1 .1 .0) (s .last .1 .1 .1 .1 .0) (s .last .1 .1 .1 .1 .1 .0) in
+    page-is (modelOf m) (pagedOf (r .result) (r .last .1 .1 .0)) (a .out .now) (r .ensures .0 m) (s .ensures)
 
 pub scene-page-spec : {M : Type 1} → statement M
 scene-page-spec = tie.close (tie.spec played-requires page-requires same-length returns)

@@ -2,12 +2,13 @@ use mathlib.Core.Path.{refl, ap, _∙_}
 use mathlib.Core.List.{[], _∷_}
 use borrow.Author.Needs.{needs}
 use Rattle.model.specs.Voice.{id}
-use Rattle.model.specs.Model.{spawnManaged}
+use Rattle.model.specs.Call.{step}
 use Rattle.model.specs.Call as call
-use Rattle.model.specs.View.{modelOf}
 use Rattle.model.specs.Scene.{float}
 use Rattle.model.specs.Spawn.{spawnOf, middle}
+use Rattle.memory.specs.View.{modelOf}
 use Rattle.page_scene.specs.Played.{tone}
+use Rattle.page_scene.specs.Stores.{lentAll}
 use Rattle.page_scene.proofs.Playing.{and-then}
 use Rattle.page_scene.proofs.turn.Statement.{statement}
 use Rattle.page_scene.proofs.turn.Tie as tie
@@ -26,19 +27,27 @@ render-requires c κs = search needs
 
 returns : tie.Need-returns
 returns c =
-    let a = c .before .before .before .before .before .before .before .args in
-    let def = c .before .before .before .before .before .before .tone in
-    let landed = c .before .before .before .before .before .spawn-voice-on-bus-managed in
-    let served = c .before .before .before .prepare in
-    let rendering = c .before .render in
-    let s = modelOf (a .s) in
-    let more = modelOf (landed .result .store) in
-    let ready = modelOf (served .result .store) in
-    let end = modelOf (rendering .result .store) in
-    let spawned = landed .ensures .0 ∙ ap (λ d. spawnManaged (spawnOf d (id 0) middle) s) (def .ensures) in
-    and-then (call.spawnManaged (spawnOf tone (id 0) (float 0))) (call.prepare ∷ call.render ∷ []) s more end (ap (λ l. l .model) spawned)
-    (and-then call.prepare (call.render ∷ []) more ready end (ap (λ x. x .model) (served .ensures .0))
-    (and-then call.render [] ready end end (ap (λ x. x .model) (rendering .ensures .0)) refl))
+    let third = c .before in
+    let second = third .before .before .before .before .before .before .before in
+    let first = second .before .before .before .before .before in
+    let spawned = first .spawn-voice-on-bus-managed in
+    let prepared = second .prepare in
+    let rendered = third .render in
+    let def = first .before .tone in
+    let a = first .before .before .before .before .before .before .args in
+    let nodes = spawned .last .1 .0 in
+    let edges = spawned .last .1 .1 .0 in
+    let voices = spawned .last .1 .1 .1 .0 in
+    let steals = spawned .last .1 .1 .1 .1 .0 in
+    let s = lentAll (a .s) (a .nodes .now) (a .edges .now) (a .order .now) (a .voices .now) (a .events .now) (a .steals .now) in
+    let more = lentAll (spawned .result .state) nodes edges (a .order .now) voices (a .events .now) steals in
+    let ready = lentAll (prepared .result .state) nodes edges (prepared .last .1 .1 .1 .0) voices (a .events .now) steals in
+    let end =
+    modelOf (lentAll (rendered .result .state) (rendered .last .1 .0) (rendered .last .1 .1 .0) (rendered .last .1 .1 .1 .0) (rendered .last .1 .1 .1 .1 .0) (rendered .last .1 .1 .1 .1 .1 .0) steals) in
+    let one = spawned .ensures .0 s ∙ ap (λ d. step (call.spawnManaged (spawnOf d (id 0) middle)) (modelOf s)) (def .ensures) in
+    and-then (call.spawnManaged (spawnOf tone (id 0) (float 0))) (call.prepare ∷ call.render ∷ []) (modelOf s) (modelOf more) end (ap (λ x. x .model) one)
+    (and-then call.prepare (call.render ∷ []) (modelOf more) (modelOf ready) end (ap (λ x. x .model) (prepared .ensures .0 more))
+    (and-then call.render [] (modelOf ready) end end (ap (λ x. x .model) (rendered .ensures .0 ready)) refl))
 
 pub turn-spec : {M : Type 1} → statement M
 turn-spec =

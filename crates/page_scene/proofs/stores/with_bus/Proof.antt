@@ -5,8 +5,9 @@ use Rattle.voice.specs.declared.policy.StealPolicy.the-variants.{Oldest}
 use Rattle.voice.specs.declared.policy.BudgetScope.the-variants.{Global}
 use Rattle.model.specs.Make.{newModel}
 use Rattle.model.specs.Call.{step}
-use Rattle.model.specs.View.{modelOf}
 use Rattle.model.specs.Scene.{config, host}
+use Rattle.memory.specs.View.{modelOf}
+use Rattle.memory.specs.Lent.{lentNodes}
 use Rattle.page_scene.proofs.Playing.{and-then, config-is}
 use Rattle.page_scene.proofs.stores.with_bus.Statement.{statement}
 use Rattle.page_scene.proofs.stores.with_bus.Tie as tie
@@ -22,12 +23,15 @@ add-node-requires c κs = search needs
 
 returns : tie.Need-returns
 returns c =
-    let made = c .before .before .before .before .make in
+    let first = c .before .before .before .before .before in
+    let made = first .make in
     let added = c .before .add-node in
-    let a = c .before .before .before .before .before .args in
-    let fresh = made .ensures .1 .1 ∙ ap newModel (config-is (a .budget) Oldest Global) in
-    let end = modelOf (added .result .store) in
-    and-then (host (a .ports)) [] (newModel (config (a .budget) Oldest Global)) end end (ap (λ x. x .model) (added .ensures .0) ∙ ap (λ m. step (host (a .ports)) m .model) fresh) refl
+    let a = first .before .args in
+    λ m.
+    let fresh = made .ensures .1 .1 (lentNodes (made .result .state) (a .nodes .now) m) ∙ ap newModel (config-is (a .budget) Oldest Global) in
+    let end = modelOf (lentNodes (added .result .state) (added .last .1 .0) m) in
+    and-then (host (a .ports)) [] (newModel (config (a .budget) Oldest Global)) end end
+    (ap (λ x. x .model) (added .ensures .0 m) ∙ ap (λ x. step (host (a .ports)) x .model) fresh) refl
 
 pub with-bus-spec : {M : Type 1} → statement M
 with-bus-spec = tie.close (tie.spec make-requires slice-aggregate-add-node add-node-requires returns)

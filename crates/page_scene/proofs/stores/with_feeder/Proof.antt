@@ -4,8 +4,9 @@ use mathlib.Core.Bool.{false}
 use borrow.Author.Needs.{needs}
 use Rattle.node.specs.Silence.{bytes}
 use Rattle.model.specs.Call as call
-use Rattle.model.specs.View.{modelOf}
 use Rattle.model.specs.Scene.{wire}
+use Rattle.memory.specs.View.{modelOf}
+use Rattle.memory.specs.Lent.{lentGraph}
 use Rattle.page_scene.proofs.Playing.{and-then}
 use Rattle.page_scene.proofs.stores.with_feeder.Statement.{statement}
 use Rattle.page_scene.proofs.stores.with_feeder.Tie as tie
@@ -21,15 +22,17 @@ connect-requires c κs = search needs
 
 returns : tie.Need-returns
 returns c =
-    let added = c .before .before .before .add-node in
+    let first = c .before .before .before .before .before in
+    let added = first .add-node in
     let wired = c .before .connect in
-    let a = c .before .before .before .before .before .args in
-    let s = modelOf (a .s) in
-    let more = modelOf (added .result .store) in
-    let end = modelOf (wired .result .store) in
+    let a = first .before .before .before .args in
+    λ m.
+    let s = lentGraph (a .s) (a .nodes .now) (a .edges .now) m in
+    let more = lentGraph (added .result .state) (added .last .1 .0) (a .edges .now) m in
+    let end = modelOf (lentGraph (wired .result .state) (added .last .1 .0) (wired .last .1 .1 .0) m) in
     let fed = wire (a .node) 0 (a .port) in
-    and-then (call.addNode (bytes "Oscillator") 0 0 false false) (fed ∷ []) s more end (ap (λ x. x .model) (added .ensures .0))
-    (and-then fed [] more end end (ap (λ x. x .model) (wired .ensures .0)) refl)
+    and-then (call.addNode (bytes "Oscillator") 0 0 false false) (fed ∷ []) (modelOf s) (modelOf more) end (ap (λ x. x .model) (added .ensures .0 s))
+    (and-then fed [] (modelOf more) end end (ap (λ x. x .model) (wired .ensures .0 m)) refl)
 
 pub with-feeder-spec : {M : Type 1} → statement M
 with-feeder-spec = tie.close (tie.spec slice-aggregate-add-node add-node-requires connect-requires returns)
