@@ -1,5 +1,4 @@
-// 01's remaining examples, and each refusal by a call of its own, through the store's calls. The tables are lent to every example in
-// turn: each makes a store of its own in them.
+// 01's remaining examples, and each refusal by a call of its own, through the store's calls, on tables that are lent to all of them.
 mod limits;
 mod refused;
 mod show;

@@ -370,7 +370,8 @@ fn short_buffer(s: State, voices: &VoiceTable) {
     }
 }
 
-// 4 to 9, then those that change the tables before they are refused, each on the scene's store made anew.
+// All refusals but making's. An example that is refused leaves the scene's store for the next one; where one has changed it on the way
+// to its refusal, the scene is played anew.
 pub fn all(
     nodes: &mut NodeTable,
     edges: &mut EdgeTable,
