@@ -1,14 +1,14 @@
 // Definitions whose nodes stand in a row.
 ghost use Prim.Native.Nat.{_≤_, _<_};
-use node::name::name_of;
-use synthdef::def::DefEdge;
-use synthdef::def::DefEdges;
-use synthdef::def::DefNode;
-use synthdef::def::DefNodes;
-use synthdef::def::NO_PORT;
-use synthdef::def::Param;
-use synthdef::def::Params;
-use synthdef::def::SynthDef;
+use piecrag::DefEdge;
+use piecrag::DefEdges;
+use piecrag::DefNode;
+use piecrag::DefNodes;
+use piecrag::NO_PORT;
+use piecrag::Param;
+use piecrag::Params;
+use piecrag::SynthDef;
+use piecrag::name_of;
 
 // The edge from the node `from` to the one `step` after it, at the port `step` - 1.
 fn ahead(from: u8, step: u8) -> DefEdge
@@ -86,22 +86,17 @@ fn in_a_row(nodes: usize, edges: usize, output: u8) -> SynthDef {
     }
 }
 
-// 8 nodes, each of which feeds the next.
-pub fn chain_8() -> SynthDef {
-    in_a_row(8, 7, 7)
-}
-
-// 7 nodes: 64 voices of them find a place.
-pub fn chain_7() -> SynthDef {
-    in_a_row(7, 6, 6)
-}
-
-// 6 nodes: 64 voices of them find a place, each with a fade.
-pub fn chain_6() -> SynthDef {
-    in_a_row(6, 5, 5)
-}
-
-// As much as a definition may have: 24 nodes and 48 edges.
-pub fn largest() -> SynthDef {
+// The definition of `nodes` nodes, each of which feeds the next; with 24 nodes as much as a definition may have, 24 nodes and
+// 48 edges. 64 voices of 7 nodes find a place, and 64 of 6 nodes with a fade each.
+pub fn chain(nodes: u32) -> SynthDef {
+    if nodes == 6 {
+        return in_a_row(6, 5, 5);
+    }
+    if nodes == 7 {
+        return in_a_row(7, 6, 6);
+    }
+    if nodes == 8 {
+        return in_a_row(8, 7, 7);
+    }
     in_a_row(24, 48, 23)
 }

@@ -1,9 +1,9 @@
-// The store's calls in loops, for a driver that times them (oracle/bench). An exported function builds its scene with the
-// store's calls, makes its call `rounds` times, and answers a number into which every answer went. With 0 rounds it only
-// builds the scene.
+// The calls on a lent store for a driver in Rust that times them and measures their stack (oracle/bench). An exported function
+// takes the state in lent words, the tables that its call needs, and plain numbers; it makes the call and answers a number.
 pub mod chain;
 pub mod count;
-pub mod fixed;
-pub mod going;
-pub mod once;
-pub mod scene;
+pub mod host;
+pub mod numbers;
+pub mod reads;
+pub mod state;
+pub mod voices;

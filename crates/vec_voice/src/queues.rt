@@ -1,15 +1,10 @@
-// Histories of the event queue.
-use codec::field::after;
-use codec::field::at_most;
-use codec::field::byte_at;
-use codec::field::bytes_at;
-use codec::field::long_at;
-use codec::field::word_at;
-use codec::word::and_number;
-use codec::word::and_sample;
-use codec::word::end_line;
-use codec::word::number;
-use codec::word::text;
+// Histories of the event queue, on a table of this program.
+use event_table::queue::count_due;
+use event_table::queue::is_due;
+use event_table::queue::remove_due;
+use event_table::queue::schedule;
+use event_table::row::EventTable;
+use event_table::row::event_at;
 use node::name::Name;
 use node::name::is_named;
 use node::name::name_of;
@@ -19,22 +14,29 @@ use node::order::GlideSpace;
 use node::record::VoiceId;
 use node::refusal::refusal_number;
 use scheduler::event::Event;
-use scheduler::queue::Events;
 use scheduler::queue::ScheduleAnswer;
-use scheduler::queue::drain_before;
-use scheduler::queue::no_events;
-use scheduler::queue::schedule;
 use script::glide::action_of;
 use script::glide::glide_at;
+use wire::field::after;
+use wire::field::at_most;
+use wire::field::byte_at;
+use wire::field::bytes_at;
+use wire::field::long_at;
+use wire::field::word_at;
+use wire::word::and_number;
+use wire::word::and_sample;
+use wire::word::end_line;
+use wire::word::number;
+use wire::word::text;
 
-// The queue after a call, and the position after the call.
+// How many events wait after a call, and the position after the call.
 struct Played {
-    queue: Events,
+    count: usize,
     end: usize,
 }
 
 // Schedules the event at `at`: time, voice, name and action.
-fn scheduled(s: &[u8], at: usize, queue: Events) -> Played {
+fn scheduled(s: &[u8], at: usize, queue: &mut EventTable, count: usize) -> Played {
     let len = byte_at(s, after(at, 16)) as usize;
     let from = after(at, 17);
     let end = after(from, len);
@@ -44,7 +46,7 @@ fn scheduled(s: &[u8], at: usize, queue: Events) -> Played {
         name: name_of(bytes_at(s, from, len)),
         action: action_of(byte_at(s, end), glide_at(s, after(end, 1))),
     };
-    let r = schedule(queue, event);
+    let r = schedule(queue, count, event);
     let answer = r.answer;
     match answer {
         ScheduleAnswer::Taken => text(b"done\n"),
@@ -54,9 +56,8 @@ fn scheduled(s: &[u8], at: usize, queue: Events) -> Played {
             end_line();
         }
     }
-    let queue = r.queue;
     Played {
-        queue,
+        count: r.count,
         end: after(end, 15),
     }
 }
@@ -123,53 +124,73 @@ fn event_line(e: Event) {
     end_line();
 }
 
-fn event_lines(queue: Events) {
-    let n = at_most(queue.count, 256);
+// So many events, each on its line.
+fn event_lines(queue: &[u32], count: usize) {
+    let n = at_most(count, 256);
     and_number(n as u64);
     end_line();
     let mut i: usize = 0;
     while i < n {
-        let e = queue.rows[i];
-        event_line(e);
+        event_line(event_at(queue, i));
         i += 1;
     }
 }
 
-fn taken(s: &[u8], at: usize, queue: Events) -> Played {
-    let d = drain_before(queue, long_at(s, at));
+// The events that are due, of the first `n`.
+fn due_lines(queue: &[u32], n: usize, deadline: u64) {
+    let mut i: usize = 0;
+    while i < n {
+        if is_due(queue, i, deadline) {
+            event_line(event_at(queue, i));
+            i += 1;
+        } else {
+            i += 1;
+        }
+    }
+}
+
+fn taken(s: &[u8], at: usize, queue: &mut EventTable, count: usize) -> Played {
+    let deadline = long_at(s, at);
     text(b"taken");
-    event_lines(d.taken);
-    let queue = d.rest;
+    and_number(count_due(queue, count, deadline) as u64);
+    end_line();
+    due_lines(queue, at_most(count, 256), deadline);
     Played {
-        queue,
+        count: remove_due(queue, count, deadline),
         end: after(at, 8),
     }
 }
 
 // One call: 1 schedules an event, any other takes those before a deadline.
-fn play(s: &[u8], at: usize, queue: Events) -> Played {
+fn play(s: &[u8], at: usize, queue: &mut EventTable, count: usize) -> Played {
     match byte_at(s, at) {
-        1 => scheduled(s, after(at, 1), queue),
-        _ => taken(s, after(at, 1), queue),
+        1 => scheduled(s, after(at, 1), queue, count),
+        _ => taken(s, after(at, 1), queue, count),
     }
+}
+
+// The events that wait.
+fn waiting(queue: &EventTable, count: usize) {
+    text(b"waiting");
+    event_lines(queue, count);
 }
 
 // How many calls, and the calls; then the events that wait.
 pub fn history(s: &[u8], at: usize) -> usize {
     let n = word_at(s, at) as usize;
-    let mut queue = no_events();
+    let mut queue = [0u32; 3840];
+    let mut count: usize = 0;
     let mut from = after(at, 4);
     let mut i: usize = 0;
     while i < n {
-        let p = play(s, from, queue);
-        queue = p.queue;
+        let p = play(s, from, &mut queue, count);
+        count = p.count;
         from = p.end;
         i += 1;
         if s.len() < from {
             return from;
         }
     }
-    text(b"waiting");
-    event_lines(queue);
+    waiting(&queue, count);
     from
 }

@@ -1,78 +1,90 @@
-//! Times the store's calls, and three scenes on both sides: `bench [REPETITIONS]`, a median of so many.
+//! Times the store's calls, some beside the Rust's, and measures their stack: `bench [REPETITIONS]`, a median of so many.
 
+mod calls;
 mod rust;
+mod scenes;
+mod stack;
 mod store;
 mod time;
 
 use std::env;
-use std::time::Duration;
+
+use time::median;
 
 /// A block of 128 samples at 48 kHz, in microseconds.
 const BLOCK: f64 = 128.0 / 48_000.0 * 1e6;
 
-/// The scenes that both sides have: what a round is, how many there are, the store's function and the Rust's.
-type Pair = (&'static str, u32, store::Scene, fn(u32) -> (u32, Duration));
+/// The bytes of stack that the deepest call may need.
+const STACK: usize = 96 * 1024;
 
-const COMPARED: [Pair; 4] = [
-    ("prepare, an edge put anew before it, 512 nodes, 1,024 edges", 10_000, store::piecrag_prepare, rust::prepare),
-    ("spawn, prepare, render and clearing, budget 32", 1_000, store::piecrag_notes, rust::notes),
-    ("port search, 1 port, 1,024 edges", 10_000, store::piecrag_ports_1, |rounds| rust::ports(1, rounds)),
-    ("port search, 64 ports, 1,024 edges", 10_000, store::piecrag_ports_64, |rounds| rust::ports(64, rounds)),
+/// So many rounds of a scene: a number into which every answer went, and the microseconds of a round.
+type Scene = fn(u32) -> (u32, f64);
+
+/// The scenes that both sides have: what a round is, how many there are, the store's side, the Rust's, and the goal for the
+/// ratio of their times.
+const COMPARED: [(&str, u32, Scene, Scene, f64); 4] = [
+    ("note: spawn, prepare, render and clearing, budget 32", 1_000, scenes::notes, rust::notes, 0.1),
+    ("prepare, 512 nodes, 1,024 edges", 2_000, scenes::prepares, rust::prepare, 0.1),
+    ("port search, 1 port, 1,024 edges", 10_000, |n| scenes::ports(1, n), |n| rust::ports(1, n), 1.0),
+    ("port search, 64 ports, 1,024 edges", 10_000, |n| scenes::ports(64, n), |n| rust::ports(64, n), 1.0),
 ];
 
-/// The store's calls alone, on full tables.
-const CALLS: [(&str, u32, store::Scene); 15] = [
-    ("the loop itself, with a reading of the clock", 2_000, store::piecrag_clock),
-    ("connect", 1_000, store::piecrag_connect),
-    ("free of a voice", 1_000, store::piecrag_free),
-    ("spawn with a steal, 63 voices", 500, store::piecrag_spawn_fade),
-    ("the same, the quietest goes", 500, store::piecrag_spawn_quietest),
-    ("spawn with a steal, 24 nodes and 48 edges, 19 voices", 500, store::piecrag_spawn_large),
-    ("spawn on a full bus, one reclaimed", 500, store::piecrag_spawn_reclaim),
-    ("spawn on a bus that the host took, 63 reclaimed", 20, store::piecrag_spawn_reclaim_all),
-    ("render, no event, 64 voices", 1_000, store::piecrag_render_nothing),
-    ("render, 256 values", 50, store::piecrag_render_values),
-    ("render, 256 glides", 50, store::piecrag_render_glides),
-    ("render, 256 frees, 64 of them of voices", 50, store::piecrag_render_frees),
-    ("clearing, nobody of 64 voices goes", 200, store::piecrag_clear_nothing),
-    ("clearing, 64 silent voices go", 100, store::piecrag_clear_silent),
-    ("clearing, 63 faded voices and a silent one go", 100, store::piecrag_clear_faded),
-];
-
-fn micros(time: Duration, rounds: u32) -> f64 {
-    time.as_secs_f64() * 1e6 / f64::from(rounds)
+fn kept(value: f64, goal: f64) -> &'static str {
+    if value <= goal { "kept" } else { "MISSED" }
 }
 
-/// The answer, which must be the same every time, and the median of the microseconds of a round.
-fn median(repetitions: usize, rounds: u32, run: impl Fn() -> (u32, Duration)) -> (u32, f64) {
-    let mut times = Vec::new();
-    let mut answers = Vec::new();
-    for _ in 0..repetitions {
-        let (answer, time) = run();
-        answers.push(answer);
-        times.push(micros(time, rounds));
-    }
+/// The answer, which must be the same every time, and the median of the times.
+fn repeated(repetitions: usize, run: impl Fn() -> (u32, f64)) -> (u32, f64) {
+    let (answers, times): (Vec<u32>, Vec<f64>) = (0..repetitions).map(|_| run()).unzip();
     assert!(answers.iter().all(|a| *a == answers[0]), "the answers differ from one repetition to the next");
-    times.sort_by(f64::total_cmp);
-    (answers[0], times[repetitions / 2])
+    (answers[0], median(times))
+}
+
+fn compare(repetitions: usize) {
+    println!("{:54}{:>8}{:>10}{:>10}{:>8}{:>7}", "a round", "rounds", "store µs", "Rust µs", "ratio", "goal");
+    let mut times = Vec::new();
+    for (name, rounds, ours, theirs, goal) in COMPARED {
+        let (answer, mine) = repeated(repetitions, || ours(rounds));
+        let (other, rust) = repeated(repetitions, || theirs(rounds));
+        assert_eq!(answer, other, "{name}: the two sides answer differently");
+        let ratio = mine / rust;
+        println!("{name:54}{rounds:8}{mine:10.2}{rust:10.2}{ratio:8.3}{goal:7.2}  {}", kept(ratio, goal));
+        times.push(mine);
+    }
+    let ratio = times[3] / times[2];
+    println!("{:82}{ratio:8.3}{:7.2}  {}", "port search of the store, 64 ports to 1 port", 1.5, kept(ratio, 1.5));
+}
+
+fn time_calls(repetitions: usize) {
+    println!("\n{:22}{:42}{:>7}{:>9}{:>11}{:>7}{:>10}", "a call", "", "rounds", "µs", "of a block", "goal", "answer");
+    for line in calls::LINES {
+        let (answer, mine) = repeated(repetitions, || calls::time(line));
+        let part = mine / BLOCK;
+        let (goal, verdict) = line.goal.map_or_else(Default::default, |g| (format!("{g:.2}"), kept(part, g)));
+        println!(
+            "{:22}{:42}{:7}{mine:9.2}{part:11.4}{goal:>7}{answer:10}  {verdict}",
+            line.call, line.scene, line.rounds
+        );
+    }
+}
+
+/// The most of all the scenes of a call, a line each, and the deepest last.
+fn measure_stacks() {
+    println!();
+    let mut deepest = 0;
+    for group in calls::LINES.chunk_by(|a, b| a.call == b.call) {
+        let bytes = group.iter().map(calls::stack).max().unwrap_or(0);
+        println!("stack {} {bytes}", group[0].call);
+        deepest = deepest.max(bytes);
+    }
+    println!("store {} bytes, {} of them the state", size_of::<store::Store>(), size_of::<store::State>());
+    println!("stack deepest {deepest}, goal {STACK}  {}", kept(deepest as f64, STACK as f64));
 }
 
 fn main() {
     let asked = env::args().nth(1).map(|n| n.parse().expect("usage: bench [REPETITIONS]"));
     let repetitions: usize = asked.unwrap_or(7).max(1);
-    println!("{:58}{:>8}{:>10}{:>10}{:>8}  answers", "a round", "rounds", "store µs", "Rust µs", "ratio");
-    let mut differing = 0;
-    for (name, rounds, scene, rust) in COMPARED {
-        let (ours, mine) = median(repetitions, rounds, || store::run(scene, rounds));
-        let (theirs, other) = median(repetitions, rounds, || rust(rounds));
-        let same = if ours == theirs { "same" } else { "DIFFER" };
-        differing += u32::from(ours != theirs);
-        println!("{name:58}{rounds:8}{mine:10.2}{other:10.2}{:8.3}  {same}", mine / other);
-    }
-    println!("\n{:58}{:>8}{:>10}{:>12}{:>12}", "a call of the store", "rounds", "µs", "of a block", "answer");
-    for (name, rounds, scene) in CALLS {
-        let (answer, mine) = median(repetitions, rounds, || store::run(scene, rounds));
-        println!("{name:58}{rounds:8}{mine:10.2}{:12.3}{answer:12}", mine / BLOCK);
-    }
-    assert_eq!(differing, 0, "the two sides answered differently");
+    compare(repetitions);
+    time_calls(repetitions);
+    measure_stacks();
 }

@@ -1,12 +1,11 @@
-//! The Rust's side of the scenes that are compared, by its public calls. Each does as the function of `crates/timing` of
-//! its name, answers the same number, and says how long the rounds took.
+//! The Rust's side of the scenes that are compared, by its public calls. Each does as the function of `scenes` of its name,
+//! answers the same number, and says how many microseconds a round took.
 //!
 //! The Rust does more than the store: its prepare sizes every node's buffers and initialises new nodes, its render calls
 //! every node and works out the gains of a fade, a steal reads the victim's block for its level. The nodes here
 //! make no sound, and nothing is counted or locked in them.
 
 use std::sync::LazyLock;
-use std::time::Duration;
 
 use microsynth::buffer::AudioBuffer;
 use microsynth::context::{ProcessContext, Rate};
@@ -16,7 +15,8 @@ use microsynth::synthdef::{SynthDef, SynthDefBuilder};
 use microsynth::voice::{StealPolicy, VoiceAllocator};
 use scripted::graph::free_port;
 
-use crate::time::timed;
+use crate::scenes::add;
+use crate::time::{lap, median, timed};
 
 /// A node that makes no sound.
 struct Still {
@@ -39,11 +39,6 @@ impl UGen for Still {
     fn reset(&mut self) {}
 
     fn process(&mut self, _context: &ProcessContext, _inputs: &[Option<&AudioBuffer>], _output: &mut AudioBuffer) {}
-}
-
-/// `sum` with one more, as the store's side counts.
-fn add(sum: u32, n: u32) -> u32 {
-    sum.wrapping_mul(3).wrapping_add(n)
 }
 
 fn host_node(engine: &mut Engine, ports: usize) -> NodeId {
@@ -75,22 +70,21 @@ fn with_order(sum: u32, engine: &Engine) -> u32 {
     add(sum, order.fold(0, |sum, id| add(sum, id.index() as u32)))
 }
 
-/// An edge is put anew, untimed, and then a prepare is timed. The store's side times both.
-pub fn prepare(rounds: u32) -> (u32, Duration) {
+pub fn prepare(rounds: u32) -> (u32, f64) {
     let (mut engine, sink) = bus_engine(64, 8);
     let mut nodes = vec![sink];
     nodes.extend((0..511).map(|_| host_node(&mut engine, 8)));
     for i in 0..1024 {
         put_edge(&mut engine, &nodes, i);
     }
-    let (mut sum, mut time) = (0, Duration::ZERO);
+    let (mut sum, mut times) = (0, Vec::new());
     for i in 0..rounds {
         put_edge(&mut engine, &nodes, i as usize % 1024);
-        let ((), prepared) = timed(|| engine.prepare());
-        time += prepared;
+        let ((), time) = lap(|| engine.prepare());
+        times.push(time);
         sum = add(sum, 0);
     }
-    (with_order(sum, &engine), time)
+    (with_order(sum, &engine), median(times))
 }
 
 /// 8 nodes, each of which feeds the next.
@@ -107,13 +101,13 @@ fn chain_8() -> SynthDef {
     def.build()
 }
 
-pub fn notes(rounds: u32) -> (u32, Duration) {
+pub fn notes(rounds: u32) -> (u32, f64) {
     let (mut engine, bus) = bus_engine(32, 64);
     let def = chain_8();
     for _ in 0..32 {
         engine.spawn_voice_on_bus_managed(&def, bus);
     }
-    let (sum, time) = timed(|| {
+    let (sum, time) = timed(rounds, || {
         (0..rounds).fold(0, |sum, _| {
             let voice = engine.spawn_voice_on_bus_managed(&def, bus);
             engine.prepare();
@@ -127,7 +121,7 @@ pub fn notes(rounds: u32) -> (u32, Duration) {
 }
 
 /// The port search of the Rust's spawn among 1,024 edges, the last ones at the `ports` ports of the bus.
-pub fn ports(ports: usize, rounds: u32) -> (u32, Duration) {
+pub fn ports(ports: usize, rounds: u32) -> (u32, f64) {
     let (mut engine, bus) = bus_engine(64, ports);
     let nodes: Vec<NodeId> = (0..60).map(|_| host_node(&mut engine, 64)).collect();
     let graph = engine.graph_mut();
@@ -138,5 +132,5 @@ pub fn ports(ports: usize, rounds: u32) -> (u32, Duration) {
         graph.connect(nodes[0], bus, port);
     }
     let graph = std::hint::black_box(engine.graph());
-    timed(|| (0..rounds).fold(0, |sum, _| add(sum, free_port(graph, bus).map_or(64, |p| p as u32))))
+    timed(rounds, || (0..rounds).fold(0, |sum, _| add(sum, free_port(graph, bus).map_or(64, |p| p as u32))))
 }

@@ -5,19 +5,16 @@ use Rattle.vec_voice.proofs.queues.history.Statement.{statement}
 use Rattle.vec_voice.proofs.queues.history.Tie as tie
 
 abbrev Inv-loop : tie.InvT-loop
-Inv-loop s at n queue₀ from₀ i₀ t8 queue from i = Unit {0}
+Inv-loop s at n queue₀ count₀ from₀ i₀ queue count from i = Unit {0}
 
 abbrev μ-loop : tie.MeasureT-loop
-μ-loop s at n queue₀ from₀ i₀ t8 queue from i = n - i
+μ-loop s at n queue₀ count₀ from₀ i₀ queue count from i = n - i
 
 word-at-requires : tie.Need-word-at-requires Inv-loop μ-loop
 word-at-requires c κs = search needs
 
 cast-n : tie.Need-cast-n Inv-loop μ-loop
 cast-n c = search needs
-
-no-events-requires : tie.Need-no-events-requires Inv-loop μ-loop
-no-events-requires c κs = search needs
 
 after-requires : tie.Need-after-requires Inv-loop μ-loop
 after-requires c κs = search needs
@@ -40,14 +37,8 @@ loop-less c = search needs
 loop-again : tie.Need-loop-again Inv-loop μ-loop
 loop-again c = tt
 
-slice-aggregate-text : tie.Need-slice-aggregate-text Inv-loop μ-loop
-slice-aggregate-text c = search needs
-
-text-requires : tie.Need-text-requires Inv-loop μ-loop
-text-requires c κs = search needs
-
-event-lines-requires : tie.Need-event-lines-requires Inv-loop μ-loop
-event-lines-requires c κs = search needs
+waiting-requires : tie.Need-waiting-requires Inv-loop μ-loop
+waiting-requires c κs = search needs
 
 returns-2 : tie.Need-returns-2 Inv-loop μ-loop
 returns-2 c = tt
@@ -60,7 +51,6 @@ history-spec =
     μ-loop
     word-at-requires
     cast-n
-    no-events-requires
     after-requires
     loop-holds
     play-requires
@@ -68,7 +58,5 @@ history-spec =
     returns
     loop-less
     loop-again
-    slice-aggregate-text
-    text-requires
-    event-lines-requires
+    waiting-requires
     returns-2)
