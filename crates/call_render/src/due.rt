@@ -1,6 +1,6 @@
 // The events that are due, row by row where they stand; then they are removed from the queue together.
-use crate::happen::happen;
-use crate::happen::is_free;
+use crate::apply::apply_event;
+use crate::apply::is_free;
 use call_free::forget::forget_voices;
 use event_table::queue::is_due;
 use event_table::queue::remove_due;
@@ -44,8 +44,8 @@ pub(crate) fn any_free(t: &[u32], count: usize, deadline: u64) -> bool
     false
 }
 
-// The due events happen to the nodes, in order, and the voices that they free are noted in `freed`: how many.
-fn happen_due(
+// The due events are applied to the nodes, in order, and the voices that they free are noted in `freed`: how many.
+fn apply_due(
     s: State,
     nodes: &mut NodeTable,
     voices: &VoiceTable,
@@ -62,7 +62,7 @@ fn happen_due(
     while i < n {
         if is_due(t, i, deadline) {
             let e = event_at(t, i);
-            count = happen(s, nodes, voices, e, freed, count);
+            count = apply_event(s, nodes, voices, e, freed, count);
             i += 1;
         } else {
             i += 1;
@@ -71,8 +71,8 @@ fn happen_due(
     count
 }
 
-// The due events are removed from the queue and happen: the state then.
-pub(crate) fn happen_all(
+// The due events are removed from the queue and applied: the state then.
+pub(crate) fn apply_events(
     s: State,
     nodes: &mut NodeTable,
     edges: &mut EdgeTable,
@@ -83,7 +83,7 @@ pub(crate) fn happen_all(
     ensures { λ r. ⌜ ((m : Memory) → modelOf (lentRender r (now (nodes .exit)) (now (edges .exit)) (m .order) (now (voices .exit)) (now (events .exit)) m) ≡ left deadline (modelOf (lentRender s (now (nodes .entry)) (now (edges .entry)) (m .order) (now (voices .entry)) (now (events .entry)) m))) ⌝ }
 {
     let mut freed = [0u64; 256];
-    let count = happen_due(s, nodes, voices, events, deadline, &mut freed);
+    let count = apply_due(s, nodes, voices, events, deadline, &mut freed);
     let rest = remove_due(events, s.events, deadline);
     let state = with_events(s, rest);
     forget_voices(state, nodes, edges, voices, &freed[..count])

@@ -1,5 +1,5 @@
 // Render on a lent store: the events before clock + block, one prepare if any was a free, the fades and the clock.
+mod apply;
 mod block;
 mod due;
-mod happen;
 pub mod render;

@@ -1,7 +1,7 @@
 use crate::block::block_to;
 use crate::block::readied;
 use crate::due::any_free;
-use crate::due::happen_all;
+use crate::due::apply_events;
 use event_table::row::EventTable;
 use graph_rows::edge_row::EdgeTable;
 use graph_rows::node_row::NodeTable;
@@ -44,7 +44,7 @@ pub fn render(
     }
     let end = s.clock + block;
     let frees = any_free(events, s.events, end);
-    let after = happen_all(s, nodes, edges, voices, events, end);
+    let after = apply_events(s, nodes, edges, voices, events, end);
     let ready = readied(after, nodes, edges, order, frees);
     let state = ready.state;
     let answer = ready.answer;

@@ -9,11 +9,11 @@ use Rattle.model.specs.Refuse.{spawnRefusal}
 use Rattle.model.specs.Spawn.{Spawn}
 use Rattle.model.specs.Model.{Model, place, refused, admitted, admissionOn, unless, spawnManaged, spawnLoose}
 use Rattle.memory.specs.View.{Memory, modelOf}
-use Rattle.call_spawn.specs.Room.{landedAs}
+use Rattle.call_spawn.specs.Room.{resultOf}
 
 -- a spawn that was refused, and left the memory n
-pub refused-in : (r : Refusal) (a : Spawned) (m n : Memory) → a ≡ Spawned.Refused r → n ≡ m → landedAs a n ≡ refused r (modelOf m)
-refused-in r a m n e f = ap (λ k. landedAs k n) e ∙ ap (λ k. landedAs (Spawned.Refused r) k) f
+pub refused-in : (r : Refusal) (a : Spawned) (m n : Memory) → a ≡ Spawned.Refused r → n ≡ m → resultOf a n ≡ refused r (modelOf m)
+refused-in r a m n e f = ap (λ k. resultOf k n) e ∙ ap (λ k. resultOf (Spawned.Refused r) k) f
 
 module _ (x : Spawn) (m : Model) where
   abbrev tested : Option Refusal

@@ -60,8 +60,8 @@ pub record Roomy (def : SynthDef) (m : Model) : Type 0 where
   pub names : m .shared .spawned < 18446744073709551615
 
 -- ---- what a spawn answers, and what the store then stands for
-abbrev pub landedAs : Spawned → Memory → SpawnResult
-landedAs a n = record { answer = a; model = modelOf n }
+abbrev pub resultOf : Spawned → Memory → SpawnResult
+resultOf a n = record { answer = a; model = modelOf n }
 
 -- A request to come in on the bus, from the store m: admitted, every spawn goes on with the port search in the store n, where there
 -- is room for it; else admission rejects

@@ -22,7 +22,7 @@ ghost use Rattle.model.specs.Spawn.{pans, spawnOf, newVoice};
 ghost use Rattle.model.specs.Model.{instantiate};
 ghost use Rattle.memory.specs.View.{Memory, sharedOf, modelOf};
 ghost use Rattle.memory.specs.Lent.{lentState, lentVoices};
-ghost use Rattle.call_spawn.specs.Room.{Headroom, landedAs, NewIds};
+ghost use Rattle.call_spawn.specs.Room.{Headroom, resultOf, NewIds};
 
 // Whether a pan position asks for a pan node.
 fn pans(pan: f32) -> bool
@@ -79,7 +79,7 @@ pub(crate) fn seat_voice(
     port: u32,
 ) -> Spawning
     requires { ⌜ ((m : Memory) → Headroom def (modelOf (lentVoices s (now nodes) (now edges) (now voices) m))) ⌝ }
-    ensures { λ r. ⌜ ((m : Memory) → landedAs (r .answer) (lentVoices (r .state) (now (nodes .exit)) (now (edges .exit)) (now (voices .exit)) m) ≡ instantiate (spawnOf def bus pan) state port (modelOf (lentVoices s (now (nodes .entry)) (now (edges .entry)) (now (voices .entry)) m))) ⌝ }
+    ensures { λ r. ⌜ ((m : Memory) → resultOf (r .answer) (lentVoices (r .state) (now (nodes .exit)) (now (edges .exit)) (now (voices .exit)) m) ≡ instantiate (spawnOf def bus pan) state port (modelOf (lentVoices s (now (nodes .entry)) (now (edges .entry)) (now (voices .entry)) m))) ⌝ }
 {
     let v = new_voice(s, def, pan, state, bus, port);
     let id = VoiceId(s.spawned + 1);

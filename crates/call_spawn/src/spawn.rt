@@ -25,7 +25,7 @@ ghost use Rattle.model.specs.Call.{spawnManaged, spawnLoose, spawned};
 ghost use Rattle.memory.specs.View.{Memory, modelOf};
 ghost use Rattle.memory.specs.Lent.{lentSpawn};
 ghost use Rattle.memory.specs.Called.{Called, Kept};
-ghost use Rattle.call_spawn.specs.Room.{Headroom, landedAs};
+ghost use Rattle.call_spawn.specs.Room.{Headroom, resultOf};
 
 // The state that a spawn left, and what it answers.
 pub struct Spawning {
@@ -79,7 +79,7 @@ fn place(
     fuel: usize,
 ) -> Spawning
     requires { ⌜ ((m : Memory) → Headroom def (modelOf (lentSpawn s (now nodes) (now edges) (now voices) (now steals) m))) ⌝ }
-    ensures { λ r. ⌜ ((m : Memory) → landedAs (r .answer) (lentSpawn (r .state) (now (nodes .exit)) (now (edges .exit)) (now (voices .exit)) (now (steals .exit)) m) ≡ place fuel (spawnOf def bus pan) state (modelOf (lentSpawn s (now (nodes .entry)) (now (edges .entry)) (now (voices .entry)) (now (steals .entry)) m))) ⌝ }
+    ensures { λ r. ⌜ ((m : Memory) → resultOf (r .answer) (lentSpawn (r .state) (now (nodes .exit)) (now (edges .exit)) (now (voices .exit)) (now (steals .exit)) m) ≡ place fuel (spawnOf def bus pan) state (modelOf (lentSpawn s (now (nodes .entry)) (now (edges .entry)) (now (voices .entry)) (now (steals .entry)) m))) ⌝ }
 {
     let room = make_room(s, nodes, edges, voices, steals, bus, fuel);
     let left = room.state;
@@ -91,7 +91,7 @@ fn place(
 }
 
 // The port search with what the budget allows.
-fn settle(
+fn place_within_budget(
     s: State,
     nodes: &mut NodeTable,
     edges: &mut EdgeTable,
@@ -102,7 +102,7 @@ fn settle(
     bus: NodeId,
 ) -> Spawning
     requires { ⌜ ((m : Memory) → Headroom def (modelOf (lentSpawn s (now nodes) (now edges) (now voices) (now steals) m))) ⌝ }
-    ensures { λ r. ⌜ ((m : Memory) → landedAs (r .answer) (lentSpawn (r .state) (now (nodes .exit)) (now (edges .exit)) (now (voices .exit)) (now (steals .exit)) m) ≡ placeWithinBudget (spawnOf def bus pan) (modelOf (lentSpawn s (now (nodes .entry)) (now (edges .entry)) (now (voices .entry)) (now (steals .entry)) m))) ⌝ }
+    ensures { λ r. ⌜ ((m : Memory) → resultOf (r .answer) (lentSpawn (r .state) (now (nodes .exit)) (now (edges .exit)) (now (voices .exit)) (now (steals .exit)) m) ≡ placeWithinBudget (spawnOf def bus pan) (modelOf (lentSpawn s (now (nodes .entry)) (now (edges .entry)) (now (voices .entry)) (now (steals .entry)) m))) ⌝ }
 {
     let config = s.config;
     let budget = config.budget;
@@ -132,7 +132,7 @@ pub fn spawn_voice_on_bus_panned_managed(
             let met = request(s, nodes, edges, voices, steals, bus);
             let left = met.state;
             if met.admitted {
-                return settle(left, nodes, edges, voices, steals, def, pan, bus);
+                return place_within_budget(left, nodes, edges, voices, steals, def, pan, bus);
             }
             refuse(left, Refusal::Rejected)
         }

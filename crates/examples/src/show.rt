@@ -1,6 +1,6 @@
 // What a call answered, and what became of the page.
-use piecrag::Answer;
 use piecrag::AddAnswer;
+use piecrag::Answer;
 use piecrag::Paged;
 use piecrag::Refusal;
 use piecrag::Rendered;

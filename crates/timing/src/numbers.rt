@@ -2,8 +2,8 @@
 use crate::count::low;
 use bus::Written;
 use edges::ports::Port;
-use piecrag::Answer;
 use piecrag::AddAnswer;
+use piecrag::Answer;
 use piecrag::Level;
 use piecrag::Outcome;
 use piecrag::Paged;

@@ -22,8 +22,8 @@ add-end c = search needs
 any-free-requires : tie.Need-any-free-requires
 any-free-requires c κs = search needs
 
-happen-all-requires : tie.Need-happen-all-requires
-happen-all-requires c κs = search needs
+apply-events-requires : tie.Need-apply-events-requires
+apply-events-requires c κs = search needs
 
 readied-requires : tie.Need-readied-requires
 readied-requires c κs = search needs
@@ -35,7 +35,7 @@ returns-2 : tie.Need-returns-2
 returns-2 c =
     let s = c .before .before .before .before .before .before .before .before .before .before .before .before .before .before .before .before .before .before .before .args in
     let a = c .before .before .before .before .before .before .before .before .before .before .before .before .any-free in
-    let h = c .before .before .before .before .before .before .before .happen-all in
+    let h = c .before .before .before .before .before .before .before .apply-events in
     let r = c .before .before .before .readied in
     let b = c .block-to in
     let end = s .s .clock + s .s .config .block in
@@ -56,7 +56,7 @@ render-spec =
     returns
     add-end
     any-free-requires
-    happen-all-requires
+    apply-events-requires
     readied-requires
     block-to-requires
     returns-2)

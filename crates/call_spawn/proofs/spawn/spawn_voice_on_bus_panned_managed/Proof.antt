@@ -37,8 +37,8 @@ request-requires c κs =
     let passed = answer-done (spawnRefusal (sharedOf old) (modelOf old .voices) (a .def) (a .bus)) (sym (c .before .before .before .before .before .before .spawn-refusal .ensures old) ∙ c .before .before .before .before .enum-told .given .1) in
     roomy-fade (a .def) (modelOf old) (roomy (modelOf old) (a .def) (a .bus) passed)
 
-settle-requires : tie.Need-settle-requires
-settle-requires c κs =
+place-within-budget-requires : tie.Need-place-within-budget-requires
+place-within-budget-requires c κs =
     let a = c .before .before .before .before .before .before .before .before .before .before .before .before .before .before .before .before .before .args in
     λ m.
     let old = lentSpawn (a .s) (a .nodes .now) (a .edges .now) (a .voices .now) (a .steals .now) m in
@@ -53,10 +53,10 @@ returns c =
       λ m.
           let old = lentSpawn (a .s) (a .nodes .now) (a .edges .now) (a .voices .now) (a .steals .now) m in
           let passed = answer-done (spawnRefusal (sharedOf old) (modelOf old .voices) (a .def) (a .bus)) (sym (c .before .before .before .before .before .before .before .before .before .before .before .before .before .before .spawn-refusal .ensures old) ∙ c .before .before .before .before .before .before .before .before .before .before .before .before .enum-told .given .1) in
-          ap stepOf (c .placeWithinBudget .ensures m ∙ sym (met .ensures .0 m .goes-on (c .before .before .before .before .before .if1 .taken) x) ∙ managed-on x (modelOf old) passed),
+          ap stepOf (c .place-within-budget .ensures m ∙ sym (met .ensures .0 m .goes-on (c .before .before .before .before .before .if1 .taken) x) ∙ managed-on x (modelOf old) passed),
       λ m e.
           let left = modelOf (lentSpawn (met .result .state) (met .last .1 .0) (met .last .1 .1 .0) (met .last .1 .1 .1 .0) (met .last .1 .1 .1 .1 .0) m) in
-          kept-none (sym (ap (λ (l : SpawnResult). keeps (numberIn (spawned (l .answer)))) (c .placeWithinBudget .ensures m) ∙ place-free (tries (left .shared .config .budget) (left .voices)) x (stateUnder (left .shared .config .budget)) left) ∙ e),
+          kept-none (sym (ap (λ (l : SpawnResult). keeps (numberIn (spawned (l .answer)))) (c .place-within-budget .ensures m) ∙ place-free (tries (left .shared .config .budget) (left .voices)) x (stateUnder (left .shared .config .budget)) left) ∙ e),
     )
 
 refuse-requires-2 : tie.Need-refuse-requires-2
@@ -95,7 +95,7 @@ spawn-voice-on-bus-panned-managed-spec =
     refuse-requires
     enum-told
     request-requires
-    settle-requires
+    place-within-budget-requires
     returns
     refuse-requires-2
     returns-2

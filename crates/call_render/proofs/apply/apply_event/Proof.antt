@@ -7,8 +7,8 @@ use borrow.Author.Needs.{needs}
 use Rattle.voice_rows.specs.Rows.{voicesIn}
 use Rattle.graph_rows.specs.Node.{nodesIn}
 use Rattle.call_render.proofs.Events.{happens-free, happens-order}
-use Rattle.call_render.proofs.applyEvent.happen.Statement.{statement}
-use Rattle.call_render.proofs.applyEvent.happen.Tie as tie
+use Rattle.call_render.proofs.apply.apply_event.Statement.{statement}
+use Rattle.call_render.proofs.apply.apply_event.Tie as tie
 
 is-free-requires : tie.Need-is-free-requires
 is-free-requires c κs = search needs
@@ -48,8 +48,8 @@ returns-2 c =
     let r = c .order-voice in
     happens-order (take (s .s .voices) (voicesIn (s .voices .now))) (s .e) (take (s .s .nodes) (nodesIn (s .nodes .now))) (s .freed .now) (s .count) (sym (c .before .before .before .before .before .before .is-free .ensures) ∙ c .before .before .before .before .before .if1 .left) (c .before .before .before .before .param-order .result) (c .before .before .before .before .param-order .ensures) (s .nodes .now) (r .last .1 .0) (s .s .nodes) (r .result) refl (r .ensures)
 
-pub happen-spec : {M : Type 1} → statement M
-happen-spec =
+pub apply-event-spec : {M : Type 1} → statement M
+apply-event-spec =
     tie.close
     (tie.spec
     is-free-requires

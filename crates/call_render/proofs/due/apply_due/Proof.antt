@@ -12,8 +12,8 @@ use Rattle.words.proofs.Rows.{rows-long}
 use Rattle.words.proofs.InWords.{take-count}
 use Rattle.call_render.specs.Happened.{Happens}
 use Rattle.call_render.proofs.Events.{Going, going-start, going-on, going-off, going-done}
-use Rattle.call_render.proofs.due.happen_due.Statement.{statement}
-use Rattle.call_render.proofs.due.happen_due.Tie as tie
+use Rattle.call_render.proofs.due.apply_due.Statement.{statement}
+use Rattle.call_render.proofs.due.apply_due.Tie as tie
 
 abbrev Inv-loop : tie.InvT-loop
 Inv-loop s nodes₀ voices t deadline freed₀ n count₀ i₀ nodes freed count i = Going deadline (eventsIn t) n (take (s .voices) (voicesIn voices)) (take (s .nodes) (nodesIn nodes₀)) (take (s .nodes) (nodesIn nodes)) freed count i
@@ -35,8 +35,8 @@ is-due-requires c κs = search needs
 event-at-requires : tie.Need-event-at-requires Inv-loop μ-loop
 event-at-requires c κs = search needs
 
-happen-requires : tie.Need-happen-requires Inv-loop μ-loop
-happen-requires c κs =
+apply-event-requires : tie.Need-apply-event-requires Inv-loop μ-loop
+apply-event-requires c κs =
     let l = c .before .before .before .before .before .before .loop in
     let n = c .before .before .before .before .before .before .before .at-most in
     let s = c .before .before .before .before .before .before .before .before .before .before .args in
@@ -56,7 +56,7 @@ loop-again c =
     let vs = take (s .s .voices) (voicesIn (s .voices .now)) in
     let ns = take (s .s .nodes) (nodesIn (l .nodes)) in
     let top : n .result ≤ length (eventsIn (s .t .now)) = omega (arith, n .ensures, rows-long 15 eventOf (s .t .now)) in
-    let h = c .before .before .applyEvent in
+    let h = c .before .before .apply-event in
     let new = take (s .s .nodes) (nodesIn (h .last .1 .0)) in
     going-on (s .deadline) (eventsIn (s .t .now)) (n .result) vs (take (s .s .nodes) (nodesIn (s .nodes .now))) (eventOf []) ns (l .freed) (l .count) (l .i) (l .inv) (c .before .before .before .before .before .before .before .before .loop-test .taken) top (sym (c .before .before .before .before .before .before .before .is-due .ensures) ∙ c .before .before .before .before .before .before .if1 .taken) new (h .last .1 .1 .1 .1 .0) (h .result) (subst (λ (e : Event). Happens vs e ns (l .freed) (l .count) new (h .last .1 .1 .1 .1 .0) (h .result)) (c .before .before .before .before .before .event-at .ensures) (h .ensures))
 
@@ -86,8 +86,8 @@ returns c =
     let room : n .result ≤ 256 = omega (arith, n .ensures, c .before .before .before .before .before .pre .0) in
     going-done (s .deadline) (eventsIn (s .t .now)) (n .result) (take (s .s .voices) (voicesIn (s .voices .now))) (take (s .s .nodes) (nodesIn (s .nodes .now))) (take (s .s .nodes) (nodesIn (l .nodes))) (l .freed) (l .count) (l .i) (l .inv) (c .loop-test .left) top room (take (s .s .events) (eventsIn (s .t .now))) (take-count 15 eventOf (s .t .now) (s .s .events) (n .result) (n .ensures))
 
-pub happen-due-spec : {M : Type 1} → statement M
-happen-due-spec =
+pub apply-due-spec : {M : Type 1} → statement M
+apply-due-spec =
     tie.close
     (tie.spec
     Inv-loop
@@ -96,7 +96,7 @@ happen-due-spec =
     loop-holds
     is-due-requires
     event-at-requires
-    happen-requires
+    apply-event-requires
     add-i
     loop-less
     loop-again

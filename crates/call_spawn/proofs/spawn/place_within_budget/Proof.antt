@@ -6,8 +6,8 @@ use Rattle.model.specs.Spawn.{spawnOf, tries}
 use Rattle.model.specs.Model.{place}
 use Rattle.memory.specs.View.{modelOf}
 use Rattle.memory.specs.Lent.{lentSpawn}
-use Rattle.call_spawn.proofs.spawn.settle.Statement.{statement}
-use Rattle.call_spawn.proofs.spawn.settle.Tie as tie
+use Rattle.call_spawn.proofs.spawn.place_within_budget.Statement.{statement}
+use Rattle.call_spawn.proofs.spawn.place_within_budget.Tie as tie
 
 state-under-requires : tie.Need-state-under-requires
 state-under-requires c κs = search needs
@@ -29,6 +29,6 @@ returns c =
     ∙ ap (λ n. place n x (c .before .before .before .before .before .before .before .state-under .result) old) (c .before .before .before .before .before .most-removed .ensures)
     ∙ ap (λ k. place (tries (a .s .config .budget) (take (a .s .voices) (voicesIn (a .voices .now)))) x k old) (c .before .before .before .before .before .before .before .state-under .ensures)
 
-pub settle-spec : {M : Type 1} → statement M
-settle-spec =
+pub place-within-budget-spec : {M : Type 1} → statement M
+place-within-budget-spec =
     tie.close (tie.spec state-under-requires most-removed-requires place-requires returns)

@@ -6,8 +6,8 @@ use lib.ListN.{length, take}
 use borrow.Author.Needs.{needs}
 use Rattle.voice_rows.specs.Rows.{voicesIn}
 use Rattle.call_render.proofs.Events.{note-freed, note-unknown, note-known}
-use Rattle.call_render.proofs.applyEvent.note.Statement.{statement}
-use Rattle.call_render.proofs.applyEvent.note.Tie as tie
+use Rattle.call_render.proofs.apply.note.Statement.{statement}
+use Rattle.call_render.proofs.apply.note.Tie as tie
 
 slice-reshare-prefix-is-listed : tie.Need-slice-reshare-prefix-is-listed
 slice-reshare-prefix-is-listed c = search needs

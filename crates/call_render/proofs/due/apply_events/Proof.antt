@@ -5,14 +5,14 @@ use lib.Seq.{length-take-le}
 use lib.ListN.{length}
 use borrow.Author.Needs.{needs}
 use Rattle.call_render.proofs.Events.{all-happen}
-use Rattle.call_render.proofs.due.happen_all.Statement.{statement}
-use Rattle.call_render.proofs.due.happen_all.Tie as tie
+use Rattle.call_render.proofs.due.apply_events.Statement.{statement}
+use Rattle.call_render.proofs.due.apply_events.Tie as tie
 
-slice-aggregate-happen-due : tie.Need-slice-aggregate-happen-due
-slice-aggregate-happen-due c = search needs
+slice-aggregate-apply-due : tie.Need-slice-aggregate-apply-due
+slice-aggregate-apply-due c = search needs
 
-happen-due-requires : tie.Need-happen-due-requires
-happen-due-requires c κs = search needs
+apply-due-requires : tie.Need-apply-due-requires
+apply-due-requires c κs = search needs
 
 remove-due-requires : tie.Need-remove-due-requires
 remove-due-requires c κs = search needs
@@ -25,7 +25,7 @@ array-share-prefix-freed c = search needs
 
 slice-aggregate-forget-voices : tie.Need-slice-aggregate-forget-voices
 slice-aggregate-forget-voices c =
-    let h = c .before .before .before .before .before .before .before .before .happen-due in
+    let h = c .before .before .before .before .before .before .before .before .apply-due in
     let fits : h .result ≤ length (h .last .1 .1 .1 .1 .1 .0) = omega (arith, h .ensures .fits, h .ensures .long) in
     sym (length-take-le (h .result) (h .last .1 .1 .1 .1 .1 .0) fits)
 
@@ -35,17 +35,17 @@ forget-voices-requires c κs = search needs
 returns : tie.Need-returns
 returns c =
     let s = c .before .before .before .before .before .before .before .before .before .before .before .before .before .before .before .args in
-    let h = c .before .before .before .before .before .before .before .before .before .happen-due in
+    let h = c .before .before .before .before .before .before .before .before .before .apply-due in
     let e = c .before .before .before .before .before .before .remove-due in
     let f = c .forget-voices in
     all-happen (s .s) (s .nodes .now) (s .edges .now) (s .voices .now) (s .events .now) (s .deadline) (h .last .1 .0) (h .last .1 .1 .1 .1 .1 .0) (h .result) (h .ensures) (e .last .0) (e .result) (e .ensures) (c .before .before .before .before .before .with-events .result) (c .before .before .before .before .before .with-events .ensures) (f .result) (f .last .1 .0) (f .last .1 .1 .0) (f .last .1 .1 .1 .0) (f .ensures)
 
-pub happen-all-spec : {M : Type 1} → statement M
-happen-all-spec =
+pub apply-events-spec : {M : Type 1} → statement M
+apply-events-spec =
     tie.close
     (tie.spec
-    slice-aggregate-happen-due
-    happen-due-requires
+    slice-aggregate-apply-due
+    apply-due-requires
     remove-due-requires
     with-events-requires
     array-share-prefix-freed

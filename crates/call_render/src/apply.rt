@@ -51,7 +51,7 @@ fn note(voices: &[u32], held: usize, freed: &mut [u64], count: usize, w: VoiceId
 }
 
 // One event, after which the first voices of `freed` are noted: how many. A free notes its voice, any other is a value or a glide.
-pub(crate) fn happen(
+pub(crate) fn apply_event(
     s: State,
     nodes: &mut NodeTable,
     voices: &VoiceTable,
