@@ -28,14 +28,3 @@ pub struct Edge {
     pub to: NodeId,
     pub port: u32,
 }
-
-// The two tables of the graph. The rows are the first `count`; a count above the capacity is the capacity.
-pub struct Nodes {
-    pub rows: [Node; 512],
-    pub count: usize,
-}
-
-pub struct Edges {
-    pub rows: [Edge; 1024],
-    pub count: usize,
-}
