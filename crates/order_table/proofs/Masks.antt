@@ -169,3 +169,11 @@ unfolding maskLacks portsLack
 mask-lacks l row ports required h =
     any-up (λ p. bit required p && not (bit (getD l row 0) p)) (λ p. bit required p && not (getD (portsIn l) (row * 64 + p) false)) (min ports 64) 0
     (λ q low. ap (λ b. bit required q && not b) (sym (port-at l row q h (omega arith))))
+
+-- from where no bit is left on, nothing is required
+pub none-left : (m k p : ℕ) (g : ℕ → Bool) → m / 2 ^ p ≡ 0 → any (λ q. bit m q && g q) (count-up k p) ≡ false
+unfolding any count-up
+none-left m zero p g z = refl
+none-left m (suc k) p g z =
+    let less : m / 2 ^ suc p ≡ 0 = ap (λ x. m / x) (pow-suc 2 p) ∙ sym (div-div-eq-div-mul m (2 ^ p) 2) ∙ ap (λ x. x / 2) z in
+    ap (λ x. (eqb (x % 2) 1 && g p) || any (λ q. bit m q && g q) (count-up k (suc p))) z ∙ none-left m k (suc p) g less

@@ -165,7 +165,7 @@ fn plugged(n: usize, from: &[usize], to: &[usize], edges: &[u32], m: usize, mask
     }
 }
 
-// Whether one of the first `ports` ports is required and not in the mask.
+// Whether one of the first `ports` ports is required and not in the mask: looked at until no required port is left.
 fn port_lacks(mask: u64, ports: u32, required: u64) -> bool
     ensures { λ r. ⌜ r ≡ maskLacks mask ports required ⌝ }
 {
@@ -174,6 +174,9 @@ fn port_lacks(mask: u64, ports: u32, required: u64) -> bool
     let mut fed = mask;
     let mut p: usize = 0;
     while p < most {
+        if left == 0 {
+            return false;
+        }
         if left % 2 == 1 {
             if fed % 2 == 0 {
                 return true;

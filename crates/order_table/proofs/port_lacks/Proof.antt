@@ -10,6 +10,7 @@ use Rattle.order.specs.Required.{any, bit}
 use Rattle.order.proofs.Ports.{any-next, any-end, half, lack-on, lack-fed, lack-off}
 use Rattle.rank.specs.Order.{count-up, upto}
 use Rattle.order_table.specs.Masks.{maskLacks}
+use Rattle.order_table.proofs.Masks.{none-left}
 use Rattle.order_table.proofs.port_lacks.Statement.{statement}
 use Rattle.order_table.proofs.port_lacks.Tie as tie
 
@@ -34,15 +35,25 @@ loop-holds c = (omega arith, sym (div-one _), sym (div-one _), rw sub-zero)
 returns : tie.Need-returns Inv-loop μ-loop
 unfolding maskLacks
 returns c =
-    let a = c .before .before .before .before .before .before .args in
-    let l = c .before .before .before .loop in
-    let m = c .before .before .before .before .at-most in
-    let w = c .before .before .before .before .before .wide in
+    let a = c .before .before .before .before .before .args in
+    let l = c .before .before .loop in
+    let m = c .before .before .before .at-most in
+    let w = c .before .before .before .before .wide in
+    let e : m .result ≡ min (a .ports) 64 = m .ensures ∙ ap (λ k. min k 64) (w .ensures) in
+    rw (← e) (sym (none-left (a .required) (m .result - l .p) (l .p) (λ p. not (bit (a .mask) p)) (sym (l .inv .1) ∙ c .if1 .taken)) ∙ l .inv .3)
+
+returns-2 : tie.Need-returns-2 Inv-loop μ-loop
+unfolding maskLacks
+returns-2 c =
+    let a = c .before .before .before .before .before .before .before .args in
+    let l = c .before .before .before .before .loop in
+    let m = c .before .before .before .before .before .at-most in
+    let w = c .before .before .before .before .before .before .wide in
     let q = lackAt (a .mask) (a .required) in
     let e : m .result ≡ min (a .ports) 64 = m .ensures ∙ ap (λ k. min k 64) (w .ensures) in
-    let h : l .p < m .result = c .before .before .loop-test .taken in
-    let unfed : bit (a .mask) (l .p) ≡ false = ap (λ k. eqb (k % 2) 1) (sym (l .inv .2)) ∙ ap (λ k. eqb k 1) (c .if2 .taken) in
-    let on : q (l .p) ≡ true = lack-on (a .required) (l .left) (l .p) (bit (a .mask) (l .p)) (l .inv .1) (c .before .if1 .taken) (ap not unfed) in
+    let h : l .p < m .result = c .before .before .before .loop-test .taken in
+    let unfed : bit (a .mask) (l .p) ≡ false = ap (λ k. eqb (k % 2) 1) (sym (l .inv .2)) ∙ ap (λ k. eqb k 1) (c .if3 .taken) in
+    let on : q (l .p) ≡ true = lack-on (a .required) (l .left) (l .p) (bit (a .mask) (l .p)) (l .inv .1) (c .before .if2 .taken) (ap not unfed) in
     rw (← e) (sym (sym (l .inv .3) ∙ any-next q (m .result) (l .p) h ∙ ap (λ b. b || any q (count-up (m .result - (l .p + 1)) (l .p + 1))) on))
 
 add-p : tie.Need-add-p Inv-loop μ-loop
@@ -53,22 +64,22 @@ loop-less c = search needs
 
 loop-again : tie.Need-loop-again Inv-loop μ-loop
 loop-again c =
-    let a = c .before .before .before .before .before .args in
-    let l = c .before .before .loop in
-    let m = c .before .before .before .at-most in
+    let a = c .before .before .before .before .before .before .args in
+    let l = c .before .before .before .loop in
+    let m = c .before .before .before .before .at-most in
     let q = lackAt (a .mask) (a .required) in
-    let h : l .p < m .result = c .before .loop-test .taken in
+    let h : l .p < m .result = c .before .before .loop-test .taken in
     let fed : (l .fed % 2 ≡ 0 → ⊥) → bit (a .mask) (l .p) ≡ true = λ o. let one : l .fed % 2 ≡ 1 = omega (arith, o) in ap (λ k. eqb (k % 2) 1) (sym (l .inv .2)) ∙ ap (λ k. eqb k 1) one in
-    let off : q (l .p) ≡ false = ⊎-elim (λ v. lack-fed (a .required) (l .p) (bit (a .mask) (l .p)) (ap not (fed (v .1 .left)))) (λ v. lack-off (a .required) (l .left) (l .p) (bit (a .mask) (l .p)) (l .inv .1) (v .left)) (c .if1 .came) in (
+    let off : q (l .p) ≡ false = ⊎-elim (λ v. lack-fed (a .required) (l .p) (bit (a .mask) (l .p)) (ap not (fed (v .1 .left)))) (λ v. lack-off (a .required) (l .left) (l .p) (bit (a .mask) (l .p)) (l .inv .1) (v .left)) (c .if2 .came) in (
       omega arith,
       ap (λ x. x / 2) (l .inv .1) ∙ half (a .required) (l .p),
       ap (λ x. x / 2) (l .inv .2) ∙ half (a .mask) (l .p),
       sym (any-next q (m .result) (l .p) h ∙ ap (λ b. b || any q (count-up (m .result - (l .p + 1)) (l .p + 1))) off) ∙ l .inv .3,
     )
 
-returns-2 : tie.Need-returns-2 Inv-loop μ-loop
+returns-3 : tie.Need-returns-3 Inv-loop μ-loop
 unfolding maskLacks
-returns-2 c =
+returns-3 c =
     let a = c .before .before .before .before .args in
     let l = c .before .loop in
     let m = c .before .before .at-most in
@@ -87,7 +98,8 @@ port-lacks-spec =
     at-most-requires
     loop-holds
     returns
+    returns-2
     add-p
     loop-less
     loop-again
-    returns-2)
+    returns-3)
