@@ -11,7 +11,7 @@ use lib.Dec.{T, leb, leb→le}
 use lib.Ieee.Fits.{and-l, and-r}
 use borrow.Author.Tests.{lt-ltb, le-ltb}
 use Rattle.bus.specs.Block.{each, holds}
-use Rattle.bus.specs.Fade.{fadeLength, gainAt, faded, fadedOf, fadeFits}
+use Rattle.bus.specs.Fade.{fadeLength, gainAt, fadedBy, fadedOfBy, fadeFits}
 use Rattle.bus.proofs.Sizes.{held}
 use Rattle.bus.proofs.Blocks.{each-same, length-part, part-at}
 
@@ -34,14 +34,15 @@ module _ {A : Type 0} where
   pub gain-over : (none : A) (gains : List A) (len position i : ℕ) → len ≤ position + i → none ≡ gainAt none gains len position i
   gain-over none gains len position i h = simp (le-ltb _ _ h)
 
--- a channel that `fade_channel` wrote, from a part of the input to a part of the output
-pub channel-is : (input gains out ys : List Float) (ins len position size c j k : ℕ) → j ≡ size → k ≡ size → c * size + size ≤ length out
-    → ys ≡ each (length (take k (drop (c * size) out))) (λ i. faded gains len position i (getD (take j (drop (c % ins * size) input)) i nan))
-    → ys ≡ each size (fadedOf input ins gains len position size c)
-channel-is input gains out ys ins len position size c j k ej ek h e =
+-- a channel that a loop wrote, from a part of the input to a part of the output
+pub channel-is : {A B C : Type 0} (times : A → B → C) (past : A) (none : B) (input : List A) (gains : List B) (out ys : List C) (ins len position size c j k : ℕ)
+    → j ≡ size → k ≡ size → c * size + size ≤ length out
+    → ys ≡ each (length (take k (drop (c * size) out))) (λ i. fadedBy times none gains len position i (getD (take j (drop (c % ins * size) input)) i past))
+    → ys ≡ each size (fadedOfBy times past none input ins gains len position size c)
+channel-is times past none input gains out ys ins len position size c j k ej ek h e =
     e
-    ∙ ap (λ (n : ℕ). each n (λ i. faded gains len position i (getD (take j (drop (c % ins * size) input)) i nan))) (length-part k (c * size) size out ek h)
-    ∙ each-same size _ (fadedOf input ins gains len position size c) (λ i l. ap (faded gains len position i) (part-at j (c % ins * size) size input i nan ej l))
+    ∙ ap (λ (n : ℕ). each n (λ i. fadedBy times none gains len position i (getD (take j (drop (c % ins * size) input)) i past))) (length-part k (c * size) size out ek h)
+    ∙ each-same size _ (fadedOfBy times past none input ins gains len position size c) (λ i l. ap (fadedBy times none gains len position i) (part-at j (c % ins * size) size input i past ej l))
 
 -- what `fadeFits` says
 pub fits-says : (input ins gains len size out outs : ℕ) → fadeFits input ins gains len size out outs ≡ true

@@ -8,7 +8,7 @@ use Rattle.node.specs.Refusal.{refused, gives}
 use Rattle.bus.specs.Rate.{rateOf}
 use Rattle.bus.specs.Block.{each, blockOf}
 use Rattle.bus.specs.Fade.{silence, fadeAnswer, fadeOutput}
-use Rattle.bus.specs.Sum.{channels, everyIsChannels, summed, sumFits, sumAnswer, sumOutput}
+use Rattle.bus.specs.Sum.{channels, everyIsChannels, summedBy, sumFits, sumAnswer, sumOutput}
 
 abbrev one : Float
 one = fin false 1 (pos 0)
@@ -71,25 +71,25 @@ first = refl
 
 -- no input gives +0, and so does one of -0, which a sum from the first input on would leave
 none : sumOutput [] [] 2 (one ∷ one ∷ []) 1 ≡ silence ∷ silence ∷ []
-unfolding sumFits channels everyIsChannels blockOf each summed
+unfolding sumFits channels everyIsChannels blockOf each summedBy
 none = refl
 
 zero : sumOutput (minusZero ∷ []) (1 ∷ []) 1 (one ∷ []) 1 ≡ silence ∷ []
-unfolding sumFits channels everyIsChannels blockOf each summed add
+unfolding sumFits channels everyIsChannels blockOf each summedBy add
 zero = refl
 
 -- each addition rounds: 2 ^ 24 and 1 and 1 stay 2 ^ 24, and in the other order they do not
 rounds : sumOutput (large ∷ one ∷ one ∷ []) (1 ∷ 1 ∷ 1 ∷ []) 1 (one ∷ []) 1 ≡ large ∷ []
-unfolding sumFits channels everyIsChannels blockOf each summed add
+unfolding sumFits channels everyIsChannels blockOf each summedBy add
 rounds = refl
 
 rises : sumOutput (one ∷ one ∷ large ∷ []) (1 ∷ 1 ∷ 1 ∷ []) 1 (one ∷ []) 1 ≡ fin false 8388609 (pos 1) ∷ []
-unfolding sumFits channels everyIsChannels blockOf each summed add
+unfolding sumFits channels everyIsChannels blockOf each summedBy add
 rises = refl
 
 -- a stereo and a mono input to a stereo output
 mixed : sumOutput (one ∷ half ∷ half ∷ []) (2 ∷ 1 ∷ []) 1 (one ∷ one ∷ []) 2 ≡ fin false 3 (negsuc 0) ∷ one ∷ []
-unfolding sumFits channels everyIsChannels blockOf each summed add
+unfolding sumFits channels everyIsChannels blockOf each summedBy add
 mixed = refl
 
 -- a count of 3

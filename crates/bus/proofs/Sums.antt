@@ -7,15 +7,13 @@ use Prim.Native.Nat.{ℕ, zero, suc, _+_, _*_, _%_, _≤_, _<_}
 use native.Mathlib.Nat.{add-assoc, add-mul, mod-lt, suc-mul, mul-le-mul-right}
 use native.Mathlib.Numerals.{add-one}
 use native.Mathlib.Omega.{arith}
-use lib.Dec.{T, leb, eqb, eqb→eq}
+use lib.Dec.{T, leb, eqb, eqb→eq, leb→le}
 use lib.ListN.{length, getD, take, drop, drop-of-length-le}
 use lib.Seq.{drop-cons, drop-drop, getD-drop}
-use lib.Ieee.{Float, nan, binary32, add}
 use lib.Ieee.Fits.{and-l, and-r}
 use borrow.Author.Needs.{zero≤}
 use Rattle.bus.specs.Block.{each, sampleAt, isChannels, holds}
-use Rattle.bus.specs.Fade.{silence}
-use Rattle.bus.specs.Sum.{mostInputs, channels, everyIsChannels, summed, sumFits}
+use Rattle.bus.specs.Sum.{mostInputs, channels, everyIsChannels, summedBy, sumFits}
 use Rattle.bus.proofs.Blocks.{length-each, each-at, each-is, part-at}
 use Rattle.bus.proofs.Sizes.{channels-are, held}
 
@@ -49,26 +47,27 @@ count-is (n ∷ ns) (suc k) t h = let l : k < length ns = omega arith in count-i
 
 -- ---- one channel of the sum
 
-pub record Summing (size c : ℕ) (inputs : List Float) (counts : List ℕ) (out : List Float) (at k : ℕ) : Type 0 where
+-- in any sort of number, from a start, by an addition; past stands past the samples' end
+pub record Summing {A : Type 0} (plus : A → A → A) (past start : A) (size c : ℕ) (inputs : List A) (counts : List ℕ) (out : List A) (at k : ℕ) : Type 0 where
   pub within : k ≤ length counts
   pub left : at + channels (drop k counts) * size ≡ length inputs
   pub long : length out ≡ size
-  pub sums : (i : ℕ) → i < size → summed (getD out i nan) size c i (drop at inputs) (drop k counts) ≡ summed silence size c i inputs counts
+  pub sums : (i : ℕ) → i < size → summedBy plus past (getD out i past) size c i (drop at inputs) (drop k counts) ≡ summedBy plus past start size c i inputs counts
 
-module _ (size c : ℕ) (inputs : List Float) (counts : List ℕ) where
-  pub sum-none : (before out : List Float) → length inputs ≡ channels counts * size → length before ≡ size → out ≡ each (length before) (λ i. silence)
-      → Summing size c inputs counts out 0 0
+module _ {A : Type 0} (plus : A → A → A) (past start : A) (size c : ℕ) (inputs : List A) (counts : List ℕ) where
+  pub sum-none : (before out : List A) → length inputs ≡ channels counts * size → length before ≡ size → out ≡ each (length before) (λ i. start)
+      → Summing plus past start size c inputs counts out 0 0
   sum-none before out whole long e =
       record {
         within = zero≤;
         left = omega arith;
-        long = ap length e ∙ length-each (length before) (λ i. silence) ∙ long;
+        long = ap length e ∙ length-each (length before) (λ i. start) ∙ long;
         sums = λ i h.
             let p : i < length before = omega arith in
-            ap (λ (a : Float). summed a size c i inputs counts) (ap (λ (l : List Float). getD l i nan) e ∙ each-at (length before) i (λ i. silence) nan p);
+            ap (λ (a : A). summedBy plus past a size c i inputs counts) (ap (λ (l : List A). getD l i past) e ∙ each-at (length before) i (λ i. start) past p);
       }
 
-  module _ (out : List Float) (at k : ℕ) (q : Summing size c inputs counts out at k) where
+  module _ (out : List A) (at k : ℕ) (q : Summing plus past start size c inputs counts out at k) where
     -- what is left of the inputs: the next one, and the rest
     ahead : k < length counts → at + getD counts k 0 * size + channels (drop (k + 1) counts) * size ≡ length inputs
     ahead h =
@@ -87,10 +86,10 @@ module _ (size c : ℕ) (inputs : List Float) (counts : List ℕ) where
         subst (λ (n : ℕ). n ≤ getD counts k 0 * size) (suc-mul (c % getD counts k 0) size) (mul-le-mul-right size m) in
         omega (arith, next-within h)
 
-    pub sum-more : (after : List Float) (j : ℕ) → k < length counts → j ≡ size
-        → after ≡ each (length out) (λ i. add binary32 (getD out i nan) (getD (take j (drop (at + c % getD counts k 0 * size) inputs)) i nan))
-        → Summing size c inputs counts after (at + getD counts k 0 * size) (k + 1)
-    unfolding summed
+    pub sum-more : (after : List A) (j : ℕ) → k < length counts → j ≡ size
+        → after ≡ each (length out) (λ i. plus (getD out i past) (getD (take j (drop (at + c % getD counts k 0 * size) inputs)) i past))
+        → Summing plus past start size c inputs counts after (at + getD counts k 0 * size) (k + 1)
+    unfolding summedBy
     sum-more after j h ej e =
         let n = getD counts k 0 in
         record {
@@ -99,21 +98,21 @@ module _ (size c : ℕ) (inputs : List Float) (counts : List ℕ) where
           long = ap length e ∙ length-each (length out) _ ∙ q .long;
           sums = λ i l.
               let p : i < length out = subst (λ (x : ℕ). i < x) (sym (q .long)) l in
-              let read : getD after i nan ≡ add binary32 (getD out i nan) (sampleAt nan size (drop at inputs) (c % n) i) =
-              ap (λ (x : List Float). getD x i nan) e
-              ∙ each-at (length out) i _ nan p
-              ∙ ap (add binary32 (getD out i nan)) (part-at j (at + c % n * size) size inputs i nan ej l ∙ ap (λ (x : ℕ). getD inputs x nan) (add-assoc at (c % n * size) i) ∙ sym (getD-drop at inputs (c % n * size + i) nan)) in
-              ap (λ (a : Float). summed a size c i (drop (at + n * size) inputs) (drop (k + 1) counts)) read
-              ∙ ap (λ (xs : List Float). summed (add binary32 (getD out i nan) (sampleAt nan size (drop at inputs) (c % n) i)) size c i xs (drop (k + 1) counts)) (sym (drop-drop (n * size) at inputs))
-              ∙ ap (summed (getD out i nan) size c i (drop at inputs)) (sym (next counts k h))
+              let read : getD after i past ≡ plus (getD out i past) (sampleAt past size (drop at inputs) (c % n) i) =
+              ap (λ (x : List A). getD x i past) e
+              ∙ each-at (length out) i _ past p
+              ∙ ap (plus (getD out i past)) (part-at j (at + c % n * size) size inputs i past ej l ∙ ap (λ (x : ℕ). getD inputs x past) (add-assoc at (c % n * size) i) ∙ sym (getD-drop at inputs (c % n * size + i) past)) in
+              ap (λ (a : A). summedBy plus past a size c i (drop (at + n * size) inputs) (drop (k + 1) counts)) read
+              ∙ ap (λ (xs : List A). summedBy plus past (plus (getD out i past) (sampleAt past size (drop at inputs) (c % n) i)) size c i xs (drop (k + 1) counts)) (sym (drop-drop (n * size) at inputs))
+              ∙ ap (summedBy plus past (getD out i past) size c i (drop at inputs)) (sym (next counts k h))
               ∙ q .sums i l;
         }
 
-    pub sum-all : length counts ≤ k → out ≡ each size (λ i. summed silence size c i inputs counts)
-    unfolding summed
+    pub sum-all : length counts ≤ k → out ≡ each size (λ i. summedBy plus past start size c i inputs counts)
+    unfolding summedBy
     sum-all h =
-        each-is size (λ i. summed silence size c i inputs counts) nan out (q .long)
-        (λ i l. ap (summed (getD out i nan) size c i (drop at inputs)) (sym (drop-of-length-le counts h)) ∙ q .sums i l)
+        each-is size (λ i. summedBy plus past start size c i inputs counts) past out (q .long)
+        (λ i l. ap (summedBy plus past (getD out i past) size c i (drop at inputs)) (sym (drop-of-length-le counts h)) ∙ q .sums i l)
 
 -- ---- what `sumFits` says
 
@@ -128,3 +127,8 @@ sum-fits-says inputs counts size out outs e =
       eqb→eq inputs (channels counts * size) (and-l (eqb inputs (channels counts * size)) (holds out outs size) v),
       held out outs size (and-r (eqb inputs (channels counts * size)) (holds out outs size) v) .1,
     )
+
+pub few-inputs : (inputs : ℕ) (counts : List ℕ) (size out outs : ℕ) → sumFits inputs counts size out outs ≡ true → length counts ≤ mostInputs
+unfolding sumFits
+few-inputs inputs counts size out outs e =
+    leb→le (length counts) mostInputs (and-l (leb (length counts) mostInputs) (everyIsChannels counts && (eqb inputs (channels counts * size) && holds out outs size)) (subst T (sym e) tt))

@@ -23,14 +23,21 @@ gainAt none gains len position i = cond (ltb (position + i) len) (getD gains (po
 abbrev pub silence : Float
 silence = fin false 0 (pos 0)
 
--- sample i of a channel, faded
-abbrev pub faded : List Float → ℕ → ℕ → ℕ → Float → Float
-faded gains len position i x = mul binary32 x (gainAt silence gains len position i)
+-- sample i of a channel, faded: the sample, and the gain that goes with it, multiplied as that sort of number is
+abbrev pub fadedBy : {A B C : Type 0} → (A → B → C) → B → List B → ℕ → ℕ → ℕ → A → C
+fadedBy times none gains len position i x = times x (gainAt none gains len position i)
 
--- sample i of channel c of the output. 01: "sample i of its output is input sample i × the gain at i past the position"; "output channel c reads channel c
--- modulo the input's count".
+-- Sample i of channel c of the output. 01: "sample i of its output is input sample i × the gain at i past the position"; "output channel c reads channel c
+-- modulo the input's count". past stands past the input's end.
+abbrev pub fadedOfBy : {A B C : Type 0} → (A → B → C) → A → B → List A → ℕ → List B → ℕ → ℕ → ℕ → ℕ → ℕ → C
+fadedOfBy times past none input ins gains len position size c i = fadedBy times none gains len position i (sampleAt past size input (c % ins) i)
+
+-- both of floats, whose product is rounded once
+abbrev pub faded : List Float → ℕ → ℕ → ℕ → Float → Float
+faded = fadedBy (mul binary32) silence
+
 abbrev pub fadedOf : List Float → ℕ → List Float → ℕ → ℕ → ℕ → ℕ → ℕ → Float
-fadedOf input ins gains len position size c i = faded gains len position i (sampleAt nan size input (c % ins) i)
+fadedOf = fadedOfBy (mul binary32) nan silence
 
 -- 01's table: 16, `LentBlock`, unless both blocks are channels × block with 1 or 2 channels, and there are L gains; input, gains and out are how many there are of each
 abbrev pub fadeFits : ℕ → ℕ → ℕ → ℕ → ℕ → ℕ → ℕ → Bool

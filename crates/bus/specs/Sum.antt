@@ -24,10 +24,14 @@ unfoldable pub everyIsChannels : List ℕ → Bool
 everyIsChannels [] = true
 everyIsChannels (n ∷ ns) = isChannels n && everyIsChannels ns
 
--- a plus sample i of channel c of each input, in order, each addition rounded; an input of n channels gives its channel c modulo n
-unfoldable pub summed : Float → ℕ → ℕ → ℕ → List Float → List ℕ → Float
-summed a size c i xs [] = a
-summed a size c i xs (n ∷ ns) = summed (add binary32 a (sampleAt nan size xs (c % n) i)) size c i (drop (n * size) xs) ns
+-- a plus sample i of channel c of each input, in order, in any sort of number; an input of n channels gives its channel c modulo n
+unfoldable pub summedBy : {A : Type 0} → (A → A → A) → A → A → ℕ → ℕ → ℕ → List A → List ℕ → A
+summedBy plus past a size c i xs [] = a
+summedBy plus past a size c i xs (n ∷ ns) = summedBy plus past (plus a (sampleAt past size xs (c % n) i)) size c i (drop (n * size) xs) ns
+
+-- of floats, where each addition is rounded
+abbrev pub summed : Float → ℕ → ℕ → ℕ → List Float → List ℕ → Float
+summed = summedBy (add binary32) nan
 
 -- 01's table: 16, `LentBlock`, unless there are at most 64 inputs of 1 or 2 channels each, and their blocks and the output are channels × block; inputs and out are how
 -- many samples there are of each

@@ -148,7 +148,8 @@ fn fade_block(
     }
 }
 
-fn fade_fits(
+// Whether a fade's blocks and gains are of the sizes asked for.
+pub fn fade_fits(
     input: usize,
     ins: usize,
     gains: usize,
@@ -217,7 +218,8 @@ fn total_channels(counts: &[usize]) -> usize
     n
 }
 
-fn sum_fits(inputs: usize, counts: &[usize], size: usize, out: usize, outs: usize) -> bool
+// The same of the sum of a bus.
+pub fn sum_fits(inputs: usize, counts: &[usize], size: usize, out: usize, outs: usize) -> bool
     ensures { λ r. ⌜ r ≡ sumFits inputs (now (counts .entry)) size out outs ⌝ }
 {
     if counts.len() <= 64 {

@@ -255,6 +255,13 @@ pub fn entry(k: usize) -> u32
     if k < 241 { ENTRIES[k] } else { 0 }
 }
 
+// All entries, in order.
+pub fn table_entries() -> [u32; 241]
+    ensures { λ r. ⌜ r ≡ entries ⌝ }
+{
+    ENTRIES
+}
+
 // The gain of a fade's sample k. No digit is lost: an entry is at most 2^24, and the quotient has its digits.
 pub fn gain(k: usize) -> f32
     ensures { λ r. ⌜ r ≡ gainOf (entryOf entries k) ⌝ }

@@ -1,4 +1,4 @@
--- Fade output and bus sum of a store whose config is c; with the fade table, at its rate.
+-- Fade output and bus sum of a store whose config is c, in floats and in whole numbers; with the fade table, at its rate.
 use Prim.Native.Nat.{ℕ}
 use mathlib.Core.Path.{_≡_, ap, _∙_}
 use mathlib.Core.List.{List}
@@ -14,6 +14,7 @@ use Rattle.model.specs.Block.{fadeBlock}
 use Rattle.model.specs.Model.{Model}
 use Rattle.model.specs.Call as call
 use Rattle.model.proofs.TableScenes.{gains-enough}
+use Rattle.model.proofs.WholeNumbers.{whole-from-table}
 use Rattle.ledger.specs.Claim.{Blocks}
 
 module _ (c : Config) (input : List Float) (ins : ℕ) (lent : List Float) (at : ℕ) (out : List Float) (outs : ℕ) where
@@ -35,4 +36,7 @@ blocks c s is rate =
       fade = λ input ins lent at out outs. ap (λ (d : Config). call.fadeAnswer d input ins lent at out outs) is;
       sum = λ inputs counts out outs. ap (λ (d : Config). call.sumAnswer d inputs counts out outs) is;
       table = λ chosen input ins lent at out outs. ap (λ (d : Config). call.fadeAnswer d input ins lent at out outs) is ∙ from-table c input ins lent at out outs chosen (rate chosen);
+      wholeFade = λ input ins lent at out outs. ap (λ (d : Config). call.wholeFadeAnswer d input ins lent at out outs) is;
+      wholeSum = λ inputs counts out outs. ap (λ (d : Config). call.wholeSumAnswer d inputs counts out outs) is;
+      wholeTable = λ chosen input ins lent at out outs. ap (λ (d : Config). call.wholeFadeAnswer d input ins lent at out outs) is ∙ whole-from-table c chosen input ins at out outs (rate chosen) lent;
     }

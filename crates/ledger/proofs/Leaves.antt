@@ -8,6 +8,7 @@ use mathlib.Core.Logic.{_⊎_, inl, inr, ⊎-elim}
 use mathlib.Core.List.{List, [], _∷_, map}
 use mathlib.Core.Option.{Option, none, some}
 use mathlib.Core.Bool.{Bool, true, false, not, cond}
+use lib.IntN.{ℤ}
 use lib.Ieee.{Float}
 use lib.ListN.{length}
 use lib.Dec.{leb}
@@ -43,8 +44,8 @@ use Rattle.model.specs.Clear.{isSilent}
 use Rattle.model.specs.Render.{prepareOutcome, prepareShared, isFree, anyFree, heard, answerAfter, isSounding, deadline, due, clockEnds}
 use Rattle.model.specs.Written.{written}
 use Rattle.model.specs.Page.{page}
-use Rattle.model.specs.Call.{Call, scheduleRefusal, readyAnswer, Question, answerTo, blockAnswer}
-use Rattle.model.specs.Block.{fades, sums}
+use Rattle.model.specs.Call.{Call, scheduleRefusal, readyAnswer, Question, answerTo, blockAnswer, wholeAnswer}
+use Rattle.model.specs.Block.{fades, sums, wholeFadeRefusal, wholeSumRefusal}
 use Rattle.model.specs.Call as call
 use Rattle.order.specs.declared.Readiness.{Readiness}
 use Rattle.order.specs.declared.Readiness.the-variants.{Ready, Refused}
@@ -71,6 +72,10 @@ block-silent : (b : Bool) (out : List Float) → isSounded (blockAnswer b out) �
 block-silent true out = refl
 block-silent false out = refl
 
+whole-silent : (r : Option Refusal) (out : List ℤ) → isSounded (wholeAnswer r out) ≡ false
+whole-silent none out = refl
+whole-silent (some r) out = refl
+
 -- no question is a render
 pub answer-silent : (q : Question) (m : Model) → isSounded (answerTo q m) ≡ false
 answer-silent (call.level w) m = refl
@@ -94,6 +99,8 @@ answer-silent (call.page out) m = go (leb (length text) (length out))
     go false = refl
 answer-silent (call.fadeOutput input ins lent position out outs) m = block-silent (fades (m .shared .config) input ins lent out outs) _
 answer-silent (call.busSum inputs counts out outs) m = block-silent (sums (m .shared .config) inputs counts out outs) _
+answer-silent (call.wholeFade input ins lent position out outs) m = whole-silent (wholeFadeRefusal (m .shared .config) input ins lent out outs) _
+answer-silent (call.wholeSum inputs counts out outs) m = whole-silent (wholeSumRefusal (m .shared .config) inputs counts out outs) _
 
 abbrev Next : Ledger → Voice → Fade → Call → Step → Type 0
 Next l v f x s = GoesOn v f (s .answer) (s .ledger .voices) ⊎ Why l (s .ledger) v f x

@@ -12,6 +12,7 @@ use mathlib.Core.List.{List, [], _∷_, _++_, map}
 use mathlib.Core.Option.{Option, none, some}
 use mathlib.Core.Bool.{Bool, true, false, not, cond, _&&_, _||_}
 use lib.Dec.{eqb, leb}
+use lib.IntN.{ℤ}
 use lib.Ieee.{Float}
 use lib.ListN.{length}
 use Rattle.lists.specs.Member.{In}
@@ -26,7 +27,10 @@ use Rattle.node.specs.declared.refusal.Refusal.{Refusal}
 use Rattle.node.specs.declared.refusal.Refusal.the-variants.{NoPort}
 use Rattle.bus.specs.Block as samples
 use Rattle.bus.specs.Fade.{fadeLength, fadeOutput}
+use Rattle.fade_table.specs.Table.{entries}
 use Rattle.fade_table.specs.Gain.{gains}
+use Rattle.whole_bus.specs.Sample.{isSample}
+use Rattle.whole_bus.specs.Block as whole
 use Rattle.rank.specs.Order.{upto}
 use Rattle.rank.specs.Cycle.{Distinct, Sorted}
 use Rattle.order.specs.Live.{arcOf}
@@ -111,6 +115,7 @@ isSounded (call.fed ss) = false
 isSounded (call.time t) = false
 isSounded (call.printed n out) = false
 isSounded (call.filled out) = false
+isSounded (call.filledWhole out) = false
 
 -- the store after a list of calls, from m
 abbrev pub after : Model → List Call → Model
@@ -431,6 +436,15 @@ pub record Blocks (c : Config) (s : Model) : Type 0 where
   pub table : c .table ≡ true → (input : List Float) (ins : ℕ) (lent : List Float) (at : ℕ) (out : List Float) (outs : ℕ)
       → call.step (call.ask (call.fadeOutput input ins lent at out outs)) s .answer
       ≡ call.blockAnswer (samples.holds (length input) ins (c .block) && samples.holds (length out) outs (c .block)) (fadeOutput input ins gains 240 at (c .block) out outs)
+  -- 02, Paper 8. So it is in whole numbers: "16, then 21". With the table, 16 is answered for the two blocks alone and 21 for the input alone, and the gains are the entries.
+  pub wholeFade : (input : List ℤ) (ins : ℕ) (lent : List ℕ) (at : ℕ) (out : List ℤ) (outs : ℕ)
+      → call.step (call.ask (call.wholeFade input ins lent at out outs)) s .answer ≡ call.wholeFadeAnswer c input ins lent at out outs
+  pub wholeSum : (inputs : List ℤ) (counts : List ℕ) (out : List ℤ) (outs : ℕ)
+      → call.step (call.ask (call.wholeSum inputs counts out outs)) s .answer ≡ call.wholeSumAnswer c inputs counts out outs
+  pub wholeTable : c .table ≡ true → (input : List ℤ) (ins : ℕ) (lent : List ℕ) (at : ℕ) (out : List ℤ) (outs : ℕ)
+      → call.step (call.ask (call.wholeFade input ins lent at out outs)) s .answer
+      ≡ call.wholeAnswer (whole.refusalOf (samples.holds (length input) ins (c .block) && samples.holds (length out) outs (c .block)) (whole.every isSample input))
+      (samples.blockOf outs (c .block) (whole.fadedOf input ins entries 240 at (c .block)))
 
 -- ---- the claim
 -- the store m was made with c; xs are the calls

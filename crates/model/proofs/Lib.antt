@@ -10,6 +10,7 @@ pub mod EventScenes
 pub mod RefusalScenes
 pub mod MakingScenes
 pub mod TableScenes
+pub mod WholeNumbers
 pub mod WholeScenes
 pub mod ReadingScenes
 pub mod SilenceScenes

@@ -70,6 +70,7 @@ refusalIn (call.fed l) = none
 refusalIn (call.time t) = none
 refusalIn (call.printed n out) = none
 refusalIn (call.filled out) = none
+refusalIn (call.filledWhole out) = none
 
 -- ---- what 12 leaves
 -- the admission's steal

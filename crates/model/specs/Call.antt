@@ -6,6 +6,7 @@ use mathlib.Core.Option.{Option, none, some}
 use mathlib.Core.Bool.{Bool, cond}
 use lib.ListN.{length, getElem?}
 use lib.Dec.{leb}
+use lib.IntN.{ℤ}
 use lib.Ieee.{Float}
 use Rattle.lists.specs.Find.{find}
 use Rattle.node.specs.Name.{nameOf}
@@ -47,7 +48,7 @@ use Rattle.model.specs.Order as param
 use Rattle.model.specs.Clear as clearing
 use Rattle.model.specs.Page as paper
 use Rattle.model.specs.Written.{written}
-use Rattle.model.specs.Block.{fades, fadeBlock, sums, sumBlock}
+use Rattle.model.specs.Block.{fades, fadeBlock, sums, sumBlock, wholeFadeRefusal, wholeFadeBlock, wholeSumRefusal, wholeSumBlock}
 use Rattle.model.specs.Render.{prepareOutcome, prepareShared}
 use Rattle.model.specs.Render as rendering
 
@@ -74,6 +75,9 @@ pub data Question : Type 0 where
   fadeOutput : List Float → ℕ → List Float → ℕ → List Float → ℕ → Question
   -- the sum of a bus: the inputs' blocks, the channel count of each, the lent output and its channel count
   busSum : List Float → List ℕ → List Float → ℕ → Question
+  -- the same two in whole numbers
+  wholeFade : List ℤ → ℕ → List ℕ → ℕ → List ℤ → ℕ → Question
+  wholeSum : List ℤ → List ℕ → List ℤ → ℕ → Question
 
 -- ---- the calls. Names and kinds come as lent bytes of any length, samples as a lent block
 pub data Call : Type 0 where
@@ -116,6 +120,7 @@ pub data Answer : Type 0 where
   printed : ℕ → List ℕ → Answer
   -- the lent output, written whole
   filled : List Float → Answer
+  filledWhole : List ℤ → Answer
 
 pub record Step : Type 0 where
   pub answer : Answer
@@ -170,6 +175,17 @@ fadeAnswer c input ins lent at out outs = blockAnswer (fades c input ins lent ou
 abbrev pub sumAnswer : Config → List Float → List ℕ → List Float → ℕ → Answer
 sumAnswer c inputs counts out outs = blockAnswer (sums c inputs counts out outs) (sumBlock c inputs counts out outs)
 
+-- the output in whole numbers, or the refusal that is given
+abbrev pub wholeAnswer : Option Refusal → List ℤ → Answer
+wholeAnswer none out = filledWhole out
+wholeAnswer (some r) out = refused r
+
+abbrev pub wholeFadeAnswer : Config → List ℤ → ℕ → List ℕ → ℕ → List ℤ → ℕ → Answer
+wholeFadeAnswer c input ins lent at out outs = wholeAnswer (wholeFadeRefusal c input ins lent out outs) (wholeFadeBlock c input ins lent at out outs)
+
+abbrev pub wholeSumAnswer : Config → List ℤ → List ℕ → List ℤ → ℕ → Answer
+wholeSumAnswer c inputs counts out outs = wholeAnswer (wholeSumRefusal c inputs counts out outs) (wholeSumBlock c inputs counts out outs)
+
 abbrev pub answerTo : Question → Model → Answer
 answerTo (level w) m = known (levelOr (m .shared) (find (isVoice w) (m .voices)))
 answerTo (position w) m = reached (positionIn (find (isVoice w) (m .voices)))
@@ -185,6 +201,8 @@ answerTo clock m = time (m .shared .clock)
 answerTo (page out) m = pageAnswer (paper.page (m .shared .clock) (m .voices)) out
 answerTo (fadeOutput input ins lent at out outs) m = fadeAnswer (m .shared .config) input ins lent at out outs
 answerTo (busSum inputs counts out outs) m = sumAnswer (m .shared .config) inputs counts out outs
+answerTo (wholeFade input ins lent at out outs) m = wholeFadeAnswer (m .shared .config) input ins lent at out outs
+answerTo (wholeSum inputs counts out outs) m = wholeSumAnswer (m .shared .config) inputs counts out outs
 
 abbrev pub step : Call → Model → Step
 step (addNode kind ports required values glides) m =

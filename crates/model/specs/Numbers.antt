@@ -104,3 +104,4 @@ numberIn (call.fed l) = none
 numberIn (call.time t) = none
 numberIn (call.printed n out) = none
 numberIn (call.filled out) = none
+numberIn (call.filledWhole out) = none

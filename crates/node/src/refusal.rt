@@ -21,6 +21,7 @@ pub enum Refusal {
     LentBlock,
     ShortBuffer,
     TableRate,
+    OutOfRange,
 }
 
 // The number of a refusal, as the table gives it.
@@ -46,5 +47,6 @@ pub fn refusal_number(r: Refusal) -> u8
         Refusal::LentBlock => 16,
         Refusal::ShortBuffer => 17,
         Refusal::TableRate => 20,
+        Refusal::OutOfRange => 21,
     }
 }

@@ -50,6 +50,10 @@ pub use call_spawn::spawn::spawn_voice_on_bus_panned_managed;
 pub use mixing::bus_sum;
 pub use mixing::fade_output;
 
+// ---- the same in whole numbers
+pub use whole_mixing::bus_sum as whole_bus_sum;
+pub use whole_mixing::fade_output as whole_fade_output;
+
 // ---- reading, and the page
 pub use call_page::page;
 pub use call_page::page_length;

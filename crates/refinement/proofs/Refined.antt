@@ -59,6 +59,11 @@ called (contract.fade-output κs a r s p m e) =
     (p .0 ∙ ap (λ c. call.fadeAnswer c (a .1 .0 .now) (a .1 .1 .0) (a .1 .1 .1 .0 .now) (a .1 .1 .1 .1 .0) (a .1 .1 .1 .1 .1 .0 .now) (a .1 .1 .1 .1 .1 .1 .0)) (sym e))
 called (contract.bus-sum κs a r s p m e) =
     ap (call.reads (modelOf m)) (p .0 ∙ ap (λ c. call.sumAnswer c (a .1 .0 .now) (a .1 .1 .0 .now) (a .1 .1 .1 .0 .now) (a .1 .1 .1 .1 .0)) (sym e))
+called (contract.whole-fade κs a r s p m e) =
+    ap (call.reads (modelOf m))
+    (p .0 ∙ ap (λ c. call.wholeFadeAnswer c (a .1 .0 .now) (a .1 .1 .0) (a .1 .1 .1 .0 .now) (a .1 .1 .1 .1 .0) (a .1 .1 .1 .1 .1 .0 .now) (a .1 .1 .1 .1 .1 .1 .0)) (sym e))
+called (contract.whole-sum κs a r s p m e) =
+    ap (call.reads (modelOf m)) (p .0 ∙ ap (λ c. call.wholeSumAnswer c (a .1 .0 .now) (a .1 .1 .0 .now) (a .1 .1 .1 .0 .now) (a .1 .1 .1 .1 .0)) (sym e))
 
 -- questions leave the very memory, whatever they answer
 pub kept : {c : Call} {m : Memory} {a : Answer} {n : Memory} → Contract c m a n → Kept a m n
@@ -93,6 +98,8 @@ kept (contract.clock κs a r s p m) = λ e. refl
 kept (contract.page κs a r s p m) = λ e. refl
 kept (contract.fade-output κs a r s p m e) = λ f. refl
 kept (contract.bus-sum κs a r s p m e) = λ f. refl
+kept (contract.whole-fade κs a r s p m e) = λ f. refl
+kept (contract.whole-sum κs a r s p m e) = λ f. refl
 
 runs : {m n : Memory} {cs : List Call} {said : List Answer} → Runs m cs said n → memory.Runs m cs said n
 runs ends = memory.ends

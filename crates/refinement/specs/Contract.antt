@@ -22,6 +22,7 @@ use Rattle.memory.specs.Called.{answered, granted}
 use Rattle.call_read.specs.Found.{voiceFound}
 use Rattle.call_page.specs.Paged.{pagedOf}
 use Rattle.mixing.specs.Filled.{filledOf}
+use Rattle.whole_mixing.specs.Filled as whole
 use Rattle.call_host.proofs.host.add_node.Reads as fn-add-node
 use Rattle.call_host.proofs.host.remove_node.Reads as fn-remove-node
 use Rattle.call_host.proofs.host.connect.Reads as fn-connect
@@ -53,6 +54,8 @@ use Rattle.call_read.proofs.records.clock.Reads as fn-clock
 use Rattle.call_page.proofs.page.Reads as fn-page
 use Rattle.mixing.proofs.fade_output.Reads as fn-fade-output
 use Rattle.mixing.proofs.bus_sum.Reads as fn-bus-sum
+use Rattle.whole_mixing.proofs.fade_output.Reads as fn-whole-fade
+use Rattle.whole_mixing.proofs.bus_sum.Reads as fn-whole-sum
 
 -- this call on this store answers so and leaves that store
 pub data Contract : Call → Memory → Answer → Memory → Type 1 where
@@ -125,6 +128,11 @@ pub data Contract : Call → Memory → Answer → Memory → Type 1 where
       → Contract (call.ask (call.fadeOutput (a .1 .0 .now) (a .1 .1 .0) (a .1 .1 .1 .0 .now) (a .1 .1 .1 .1 .0) (a .1 .1 .1 .1 .1 .0 .now) (a .1 .1 .1 .1 .1 .1 .0))) m (filledOf r (s .1 .1 .1 .1 .1 .0 .now)) m
   bus-sum : (κs : _) (a : _) (r : _) (s : _) → fn-bus-sum.Post κs a r s → (m : Memory) → m .state .config ≡ a .0
       → Contract (call.ask (call.busSum (a .1 .0 .now) (a .1 .1 .0 .now) (a .1 .1 .1 .0 .now) (a .1 .1 .1 .1 .0))) m (filledOf r (s .1 .1 .1 .0 .now)) m
+  -- the same in whole numbers
+  whole-fade : (κs : _) (a : _) (r : _) (s : _) → fn-whole-fade.Post κs a r s → (m : Memory) → m .state .config ≡ a .0
+      → Contract (call.ask (call.wholeFade (a .1 .0 .now) (a .1 .1 .0) (a .1 .1 .1 .0 .now) (a .1 .1 .1 .1 .0) (a .1 .1 .1 .1 .1 .0 .now) (a .1 .1 .1 .1 .1 .1 .0))) m (whole.filledOf r (s .1 .1 .1 .1 .1 .0 .now)) m
+  whole-sum : (κs : _) (a : _) (r : _) (s : _) → fn-whole-sum.Post κs a r s → (m : Memory) → m .state .config ≡ a .0
+      → Contract (call.ask (call.wholeSum (a .1 .0 .now) (a .1 .1 .0 .now) (a .1 .1 .1 .0 .now) (a .1 .1 .1 .1 .0))) m (whole.filledOf r (s .1 .1 .1 .0 .now)) m
 
 -- "each call gets the store that the last left, and nothing else writes it"
 pub data Runs : Memory → List Call → List Answer → Memory → Type 1 where

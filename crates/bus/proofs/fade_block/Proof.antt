@@ -4,8 +4,9 @@ use mathlib.Core.Path.{_≡_}
 use native.Mathlib.Nat.{mod-lt}
 use native.Mathlib.Omega.{arith}
 use lib.ListN.{length}
+use lib.Ieee.{nan, binary32, mul}
 use borrow.Author.Needs.{needs}
-use Rattle.bus.specs.Fade.{fadedOf}
+use Rattle.bus.specs.Fade.{silence, fadedOf}
 use Rattle.bus.proofs.Blocks.{room, Laying, lay-none, lay-more, lay-all}
 use Rattle.bus.proofs.Fades.{channel-is}
 use Rattle.bus.proofs.fade_block.Statement.{statement}
@@ -91,7 +92,7 @@ loop-again c =
     let w : to + o .size ≤ length (turn .before .loop .out) = omega (arith, writes-within turn) in
     let ys = c .before .before .fade-channel .last .1 .1 .1 .1 .0 in (
       lay-more _ _ _ _ here _ ys (turn .before .loop .inv .0) (writes-within turn) k
-          (channel-is (o .input .now) (o .gains .now) (turn .before .loop .out) ys (o .ins) (o .len) (o .position) (o .size) here _ _ j k w (c .before .before .fade-channel .ensures)),
+          (channel-is (mul binary32) nan silence (o .input .now) (o .gains .now) (turn .before .loop .out) ys (o .ins) (o .len) (o .position) (o .size) here _ _ j k w (c .before .before .fade-channel .ensures)),
       omega arith,
     )
 

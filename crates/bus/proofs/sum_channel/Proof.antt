@@ -3,13 +3,15 @@ use Prim.Native.Nat.{_+_, _*_, _-_, _%_, _≤_, _<_}
 use mathlib.Core.Path.{_≡_}
 use native.Mathlib.Omega.{arith}
 use lib.ListN.{length, getD}
+use lib.Ieee.{nan, binary32, add}
 use borrow.Author.Needs.{needs}
+use Rattle.bus.specs.Fade.{silence}
 use Rattle.bus.proofs.Sums.{count-is, Summing, sum-none, next-within, source-within, sum-more, sum-all}
 use Rattle.bus.proofs.sum_channel.Statement.{statement}
 use Rattle.bus.proofs.sum_channel.Tie as tie
 
 abbrev Inv-loop : tie.InvT-loop
-Inv-loop inputs counts size c out₀ at₀ k₀ out at k = Summing size c inputs counts out at k
+Inv-loop inputs counts size c out₀ at₀ k₀ out at k = Summing (add binary32) nan silence size c inputs counts out at k
 
 abbrev μ-loop : tie.MeasureT-loop
 μ-loop inputs counts size c out₀ at₀ k₀ out at k = length counts - k
@@ -20,11 +22,11 @@ has-channels c = count-is _ (c .before .loop .k) (c .before .before .before .bef
 
 input-within : (c : tie.In-loop Inv-loop μ-loop) →
     c .before .loop .at + getD (c .before .before .before .before .before .before .before .before .before .args .counts .now) (c .before .loop .k) 0 * c .before .before .before .before .before .before .before .before .before .args .size ≤ length (c .before .before .before .before .before .before .before .before .before .args .inputs .now)
-input-within c = next-within _ _ _ _ _ _ _ (c .before .loop .inv) (c .loop-test .taken)
+input-within c = next-within (add binary32) nan silence _ _ _ _ _ _ _ (c .before .loop .inv) (c .loop-test .taken)
 
 channel-within : (c : tie.In-loop Inv-loop μ-loop) →
     c .before .loop .at + c .before .before .before .before .before .before .before .before .before .args .c % getD (c .before .before .before .before .before .before .before .before .before .args .counts .now) (c .before .loop .k) 0 * c .before .before .before .before .before .before .before .before .before .args .size + c .before .before .before .before .before .before .before .before .before .args .size ≤ length (c .before .before .before .before .before .before .before .before .before .args .inputs .now)
-channel-within c = source-within _ _ _ _ _ _ _ (c .before .loop .inv) (c .before .before .before .before .before .before .before .before .before .pre .0) (c .loop-test .taken)
+channel-within c = source-within (add binary32) nan silence _ _ _ _ _ _ _ (c .before .loop .inv) (c .before .before .before .before .before .before .before .before .before .pre .0) (c .loop-test .taken)
 
 clear-requires : tie.Need-clear-requires Inv-loop μ-loop
 clear-requires c κs = search needs
@@ -32,7 +34,7 @@ clear-requires c κs = search needs
 loop-holds : tie.Need-loop-holds Inv-loop μ-loop
 loop-holds c =
     let o = c .before .before .before .before .before .before .before in
-    sum-none _ _ _ _ (o .args .out .now) _ (o .pre .1) (o .pre .2) (c .before .before .clear .ensures)
+    sum-none (add binary32) nan silence _ _ _ _ (o .args .out .now) _ (o .pre .1) (o .pre .2) (c .before .before .clear .ensures)
 
 mul-n : tie.Need-mul-n Inv-loop μ-loop
 mul-n c = search needs
@@ -86,13 +88,13 @@ loop-again c =
     let loop = turn .before .loop in
     let from = loop .at + o .c % getD (o .counts .now) (loop .k) 0 * o .size in
     let j : from + o .size - from ≡ o .size = omega arith in
-    sum-more _ _ _ _ _ _ _ (loop .inv) _ _ (turn .loop-test .taken) j (c .before .before .add-channel .ensures)
+    sum-more (add binary32) nan silence _ _ _ _ _ _ _ (loop .inv) _ _ (turn .loop-test .taken) j (c .before .before .add-channel .ensures)
 
 same-length : tie.Need-same-length Inv-loop μ-loop
 same-length c = search needs
 
 returns : tie.Need-returns Inv-loop μ-loop
-returns c = sum-all _ _ _ _ _ _ _ (c .before .loop .inv) (c .loop-test .left)
+returns c = sum-all (add binary32) nan silence _ _ _ _ _ _ _ (c .before .loop .inv) (c .loop-test .left)
 
 pub sum-channel-spec : {M : Type 1} → statement M
 sum-channel-spec =

@@ -1,0 +1,49 @@
+// Fade output and bus sum in whole numbers, as questions of a store. What making fixed says how many samples a block has, how long a fade is, and
+// whether its gains are the fade table's entries. No table of the store is needed.
+use bus::Written;
+use bus::fade_length;
+use fade_table::table_entries;
+use store::config::Config;
+ghost use mathlib.Core.Path.{_≡_};
+ghost use Rattle.bus.specs.declared.Written.the-variants as written;
+ghost use Rattle.node.specs.declared.refusal.Refusal as refusal;
+ghost use Rattle.model.specs.Call.{wholeFadeAnswer, wholeSumAnswer};
+ghost use Rattle.whole_mixing.specs.Filled.{filledOf};
+
+// A fade's output for one block: ins and outs are the channel counts of input and output, and position is what its earlier
+// blocks have passed. Where the table was chosen, the lent gains are not looked at.
+pub fn fade_output(
+    config: Config,
+    input: &[i32],
+    ins: usize,
+    gains: &[u32],
+    position: u64,
+    out: &mut [i32],
+    outs: usize,
+) -> Written
+    ensures is { λ r. ⌜ filledOf r (now (out .exit)) ≡ wholeFadeAnswer config (now (input .entry)) ins (now (gains .entry)) position (now (out .entry)) outs ⌝ }
+    ensures same { λ r. ⌜ ((x : refusal.Refusal) → r ≡ written.Refused x → now (out .exit) ≡ now (out .entry)) ⌝ }
+{
+    let len = fade_length(config.rate);
+    let size = config.block;
+    if config.table {
+        let table = table_entries();
+        return whole_bus::fade_output(input, ins, &table, len, position, size, out, outs);
+    }
+    whole_bus::fade_output(input, ins, gains, len, position, size, out, outs)
+}
+
+// The sum of a bus for one block. The inputs' blocks stand one after the other, and counts has the channel count of each.
+pub fn bus_sum(
+    config: Config,
+    inputs: &[i32],
+    counts: &[usize],
+    out: &mut [i32],
+    outs: usize,
+) -> Written
+    ensures is { λ r. ⌜ filledOf r (now (out .exit)) ≡ wholeSumAnswer config (now (inputs .entry)) (now (counts .entry)) (now (out .entry)) outs ⌝ }
+    ensures same { λ r. ⌜ ((x : refusal.Refusal) → r ≡ written.Refused x → now (out .exit) ≡ now (out .entry)) ⌝ }
+{
+    let size = config.block;
+    whole_bus::bus_sum(inputs, counts, size, out, outs)
+}

@@ -1,0 +1,99 @@
+// Fields of the input that are whole numbers, and lines that hold them.
+ghost use Prim.Native.Nat.{_≤_};
+ghost use mathlib.Core.Path.{_≡_};
+ghost use lib.ListN.{length};
+use wire::field::after;
+use wire::field::word_at;
+use wire::word::number;
+use wire::word::text;
+
+// Where a run of lent numbers stands: how many, the first of them, and the end.
+pub struct Lent {
+    pub count: usize,
+    pub from: usize,
+    pub end: usize,
+}
+
+// A count, and that many fields of four bytes. A count of more than 2,048 has its end past the input.
+pub fn lent_at(s: &[u8], at: usize) -> Lent
+    ensures { λ r. ⌜ r .count ≤ 2048 ⌝ }
+{
+    let count = word_at(s, at) as usize;
+    let from = after(at, 4);
+    if count > 2048 {
+        return Lent {
+            count: 0,
+            from,
+            end: usize::MAX,
+        };
+    }
+    Lent {
+        count,
+        from,
+        end: after(from, 4 * count),
+    }
+}
+
+// A sample stands in the input as 2^31 more than it is.
+fn signed(w: u32) -> i32 {
+    (w as i64 - 2147483648) as i32
+}
+
+// Fills `out` with the run of samples at `at`, and gives the position after it.
+pub fn samples_at(s: &[u8], at: usize, out: &mut [i32]) -> usize {
+    let run = lent_at(s, at);
+    let mut from = run.from;
+    let mut i: usize = 0;
+    while i < out.len() {
+        let x = signed(word_at(s, from));
+        out[i] = x;
+        from = after(from, 4);
+        i += 1;
+    }
+    run.end
+}
+
+// The same of gains.
+pub fn gains_at(s: &[u8], at: usize, out: &mut [u32]) -> usize {
+    let run = lent_at(s, at);
+    let mut from = run.from;
+    let mut i: usize = 0;
+    while i < out.len() {
+        out[i] = word_at(s, from);
+        from = after(from, 4);
+        i += 1;
+    }
+    run.end
+}
+
+pub fn sample_room() -> [i32; 2048]
+    ensures { λ r. ⌜ 2048 ≡ length r ⌝ }
+{
+    [0; 2048]
+}
+
+pub fn gain_room() -> [u32; 2048]
+    ensures { λ r. ⌜ 2048 ≡ length r ⌝ }
+{
+    [0; 2048]
+}
+
+// With its sign: 2^31 is added first, so that the rest has none.
+fn and_sample(x: i32) {
+    let y = (x as i64 + 2147483648) as u32;
+    if y < 2147483648 {
+        text(b" -");
+        number((2147483648 - y) as u64);
+        return;
+    }
+    text(b" ");
+    number((y - 2147483648) as u64);
+}
+
+pub fn and_samples(xs: &[i32]) {
+    let mut i: usize = 0;
+    while i < xs.len() {
+        and_sample(xs[i]);
+        i += 1;
+    }
+}
