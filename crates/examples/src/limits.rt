@@ -1,5 +1,7 @@
 // "Block 128 accepted, 129 refused; 24 nodes accepted, 25 refused. Two more renders and a clearing call: it removes voice 1 and answers 1."
 use crate::show;
+use codec::word::number;
+use codec::word::text;
 use page_scene::opened;
 use page_scene::played;
 use page_scene::stores::of_nodes;
@@ -17,8 +19,6 @@ use piecrag::free_done_synths;
 use piecrag::make;
 use piecrag::render;
 use piecrag::spawn_voice_on_bus_managed;
-use wire::word::number;
-use wire::word::text;
 
 fn block(n: usize) {
     let made = make(

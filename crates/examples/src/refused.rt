@@ -1,5 +1,6 @@
 // Each refusal, by a call of its own. Where nothing may change, the page before and the page after are compared.
 use crate::show;
+use codec::word::text;
 use page_scene::played;
 use page_scene::stores::of_nodes;
 use page_scene::stores::with_bus;
@@ -33,7 +34,6 @@ use piecrag::report;
 use piecrag::schedule;
 use piecrag::spawn_voice_on_bus;
 use piecrag::spawn_voice_on_bus_managed;
-use wire::word::text;
 
 fn making(rate: f32, block: usize, budget: Budget, table: bool, what: &[u8]) {
     let made = make(

@@ -1,4 +1,6 @@
 // What a call answered, and what became of the page.
+use codec::word::number;
+use codec::word::text;
 use piecrag::AddAnswer;
 use piecrag::Answer;
 use piecrag::Paged;
@@ -10,8 +12,6 @@ use piecrag::VoiceTable;
 use piecrag::page;
 use piecrag::page_length;
 use piecrag::refusal_number;
-use wire::word::number;
-use wire::word::text;
 ghost use Rattle.io.specs.Counts.{Counts};
 
 fn refused(r: Refusal) {

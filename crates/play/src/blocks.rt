@@ -9,9 +9,15 @@ use codec::field::byte_at;
 use codec::field::float;
 use codec::field::floats_at;
 use codec::field::word_at;
-use orders::report::report;
-use service::prepare::prepare;
-use store::state::Store;
+use piecrag::EdgeTable;
+use piecrag::EventTable;
+use piecrag::NodeTable;
+use piecrag::OrderTable;
+use piecrag::State;
+use piecrag::VoiceTable;
+use piecrag::prepare;
+use piecrag::report;
+use transcript::answer::answer_line;
 use transcript::answer::rendered_line;
 
 // 512 samples: those that stand from `at` on, or the one that stands there again and again.
@@ -28,27 +34,60 @@ fn samples_at(s: &[u8], at: usize, repeated: bool) -> [f32; 512]
 
 // A node, its channels, its done flag and how many samples, which follow. An entry that counts more than 512 is malformed, and
 // not played.
-fn reported(s: &[u8], at: usize, repeated: bool, store: Store) -> Store {
+fn reported(
+    s: &[u8],
+    at: usize,
+    repeated: bool,
+    state: State,
+    nodes: &mut NodeTable,
+    voices: &VoiceTable,
+) {
     let node = id_at(s, at);
     let channels = byte_at(s, after(at, 4)) as usize;
     let done = byte_at(s, after(at, 5)) != 0;
     let n = at_most(word_at(s, after(at, 6)) as usize, 512);
     let samples = samples_at(s, after(at, 10), repeated);
-    told(report(store, node, channels, &samples[..n], done))
+    answer_line(report(state, nodes, voices, node, channels, &samples[..n], done));
 }
 
-fn render(store: Store) -> Store {
-    let r = render::render(store);
+fn render(
+    state: State,
+    nodes: &mut NodeTable,
+    edges: &mut EdgeTable,
+    order: &mut OrderTable,
+    voices: &mut VoiceTable,
+    events: &mut EventTable,
+) -> State {
+    let r = piecrag::render(state, nodes, edges, order, voices, events);
     let answer = r.answer;
     rendered_line(answer);
-    r.store
+    r.state
 }
 
-pub(crate) fn play_block(s: &[u8], from: usize, sort: u8, store: Store) -> Store {
+// A report changes no state.
+pub(crate) fn play_report(
+    s: &[u8],
+    from: usize,
+    sort: u8,
+    state: State,
+    nodes: &mut NodeTable,
+    voices: &VoiceTable,
+) -> State {
+    reported(s, from, sort == 19, state, nodes, voices);
+    state
+}
+
+pub(crate) fn play_block(
+    sort: u8,
+    state: State,
+    nodes: &mut NodeTable,
+    edges: &mut EdgeTable,
+    order: &mut OrderTable,
+    voices: &mut VoiceTable,
+    events: &mut EventTable,
+) -> State {
     match sort {
-        18 => reported(s, from, false, store),
-        19 => reported(s, from, true, store),
-        20 => told(prepare(store)),
-        _ => render(store),
+        20 => told(prepare(state, nodes, edges, order)),
+        _ => render(state, nodes, edges, order, voices, events),
     }
 }

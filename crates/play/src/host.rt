@@ -5,21 +5,25 @@ use codec::field::float;
 use codec::field::long_at;
 use codec::field::word_at;
 use codec::word::text;
-use graph::state::Answer;
-use making::make;
-use node::record::NodeId;
+use memory::parts::with_clock;
+use memory::parts::with_numbers;
+use piecrag::Answer;
+use piecrag::EdgeTable;
+use piecrag::HostResult;
+use piecrag::NodeId;
+use piecrag::NodeTable;
+use piecrag::State;
+use piecrag::add_node;
+use piecrag::connect;
+use piecrag::disconnect;
+use piecrag::make;
+use piecrag::remove_node;
+use piecrag::set_sink;
 use script::config::budget_of;
 use script::config::policy_of;
 use script::config::scope_of;
 use script::name::name_at;
 use script::name::name_end;
-use service::host::HostResult;
-use service::host::add_node;
-use service::host::connect;
-use service::host::disconnect;
-use service::host::remove_node;
-use service::host::set_sink;
-use store::state::Store;
 use transcript::answer::answer_line;
 use transcript::answer::given_line;
 use transcript::answer::made_line;
@@ -28,15 +32,15 @@ pub(crate) fn id_at(s: &[u8], at: usize) -> NodeId {
     NodeId(word_at(s, at))
 }
 
-// The store that a call left; its answer is written.
-pub(crate) fn told(r: HostResult) -> Store {
+// The state that a call left; its answer is written.
+pub(crate) fn told(r: HostResult) -> State {
     let answer = r.answer;
     answer_line(answer);
-    r.store
+    r.state
 }
 
-// A refused making leaves the store before.
-pub(crate) fn made(s: &[u8], at: usize, table: bool, store: Store) -> Store {
+// A refused making leaves the store before. A new store stands in the same tables, whatever its forerunner left there.
+pub(crate) fn made(s: &[u8], at: usize, table: bool, state: State) -> State {
     let rate = float(word_at(s, at));
     let block = word_at(s, after(at, 4)) as usize;
     let budget = budget_of(byte_at(s, after(at, 8)), word_at(s, after(at, 9)) as usize);
@@ -46,29 +50,27 @@ pub(crate) fn made(s: &[u8], at: usize, table: bool, store: Store) -> Store {
     let answer = r.answer;
     made_line(answer);
     match answer {
-        Answer::Done => r.store,
-        Answer::Refused(_) => store,
+        Answer::Done => r.state,
+        Answer::Refused(_) => state,
     }
 }
 
 // The clock, the voice ids given out, and the noise sequence.
-fn set(s: &[u8], at: usize, store: Store) -> Store {
-    let mut out = store;
-    out.clock = long_at(s, at);
-    out.spawned = long_at(s, after(at, 8));
-    out.sequence = word_at(s, after(at, 16));
+fn set(s: &[u8], at: usize, state: State) -> State {
+    let timed = with_clock(state, long_at(s, at));
     text(b"set\n");
-    out
+    with_numbers(timed, long_at(s, after(at, 8)), word_at(s, after(at, 16)))
 }
 
 // A kind name, ports, required ports and what the node takes. Its channels are the generator's.
-fn add(s: &[u8], at: usize, store: Store) -> Store {
+fn add(s: &[u8], at: usize, state: State, nodes: &mut NodeTable) -> State {
     let rest = name_end(s, at);
     let ports = word_at(s, rest);
     let required = long_at(s, after(rest, 4));
     let takes = byte_at(s, after(rest, 12));
     let r = add_node(
-        store,
+        state,
+        nodes,
         name_at(s, at),
         ports,
         required,
@@ -77,28 +79,35 @@ fn add(s: &[u8], at: usize, store: Store) -> Store {
     );
     let given = r.given;
     given_line(given);
-    r.store
+    r.state
 }
 
-fn join(s: &[u8], at: usize, store: Store) -> Store {
+fn join(s: &[u8], at: usize, state: State, nodes: &NodeTable, edges: &mut EdgeTable) -> State {
     let from = id_at(s, at);
     let to = id_at(s, after(at, 4));
-    told(connect(store, from, to, word_at(s, after(at, 8))))
+    told(connect(state, nodes, edges, from, to, word_at(s, after(at, 8))))
 }
 
-fn part(s: &[u8], at: usize, store: Store) -> Store {
+fn part(s: &[u8], at: usize, state: State, nodes: &NodeTable, edges: &mut EdgeTable) -> State {
     let to = id_at(s, at);
-    told(disconnect(store, to, word_at(s, after(at, 4))))
+    told(disconnect(state, nodes, edges, to, word_at(s, after(at, 4))))
 }
 
-pub(crate) fn play_host(s: &[u8], from: usize, sort: u8, store: Store) -> Store {
+pub(crate) fn play_host(
+    s: &[u8],
+    from: usize,
+    sort: u8,
+    state: State,
+    nodes: &mut NodeTable,
+    edges: &mut EdgeTable,
+) -> State {
     match sort {
-        1 => made(s, from, false, store),
-        2 => set(s, from, store),
-        3 => add(s, from, store),
-        4 => told(remove_node(store, id_at(s, from))),
-        5 => join(s, from, store),
-        6 => part(s, from, store),
-        _ => told(set_sink(store, id_at(s, from))),
+        1 => made(s, from, false, state),
+        2 => set(s, from, state),
+        3 => add(s, from, state, nodes),
+        4 => told(remove_node(state, nodes, edges, id_at(s, from))),
+        5 => join(s, from, state, nodes, edges),
+        6 => part(s, from, state, nodes, edges),
+        _ => told(set_sink(state, nodes, id_at(s, from))),
     }
 }

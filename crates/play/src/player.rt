@@ -1,28 +1,30 @@
-// A script's store and the definitions that it keeps.
+// A script's store, in six lent tables.
 use crate::blocks::play_block;
+use crate::blocks::play_report;
 use crate::host::made;
 use crate::host::play_host;
-use crate::slots::Slots;
-use crate::slots::keep;
-use crate::slots::no_slots;
 use crate::spawns::play_spawn;
 use crate::tell::tell;
-use crate::voices::play_voice;
+use crate::voices::play_event;
+use crate::voices::play_order;
+use crate::voices::play_removal;
 use codec::field::after;
 use codec::field::byte_at;
-use making::make;
-use store::state::Store;
-use voice::policy::Budget;
-use voice::policy::BudgetScope;
-use voice::policy::StealPolicy;
-
-pub struct Player {
-    pub store: Store,
-    pub slots: Slots,
-}
+use piecrag::Budget;
+use piecrag::BudgetScope;
+use piecrag::EdgeTable;
+use piecrag::EventTable;
+use piecrag::NodeTable;
+use piecrag::OrderTable;
+use piecrag::State;
+use piecrag::StealPolicy;
+use piecrag::StealTable;
+use piecrag::SynthDef;
+use piecrag::VoiceTable;
+use piecrag::make;
 
 // Entries before the first making are played on a store of 48,000 Hz, block 64, no budget.
-pub fn new_player() -> Player {
+pub fn first_state() -> State {
     let r = make(
         48000.0,
         64,
@@ -31,45 +33,75 @@ pub fn new_player() -> Player {
         BudgetScope::Global,
         false,
     );
-    let store = r.store;
-    let slots = no_slots();
-    Player { store, slots }
+    r.state
 }
 
-// An entry that leaves the slots as they are, by its sort.
-fn play_on(s: &[u8], from: usize, sort: u8, store: Store, slots: Slots) -> Store {
+// An entry that neither spawns nor only reads, by its sort.
+fn play_call(
+    s: &[u8],
+    from: usize,
+    sort: u8,
+    state: State,
+    nodes: &mut NodeTable,
+    edges: &mut EdgeTable,
+    order: &mut OrderTable,
+    voices: &mut VoiceTable,
+    events: &mut EventTable,
+) -> State {
     if sort < 8 {
-        return play_host(s, from, sort, store);
+        return play_host(s, from, sort, state, nodes, edges);
     }
-    if sort < 13 {
-        return play_spawn(s, from, sort, store, slots);
+    if sort < 15 {
+        return play_removal(s, from, sort, state, nodes, edges, voices);
+    }
+    if sort < 17 {
+        return play_order(s, from, sort, state, nodes, voices);
     }
     if sort < 18 {
-        return play_voice(s, from, sort, store);
+        return play_event(s, from, state, events);
+    }
+    if sort < 20 {
+        return play_report(s, from, sort, state, nodes, voices);
     }
     if sort < 22 {
-        return play_block(s, from, sort, store);
+        return play_block(sort, state, nodes, edges, order, voices, events);
     }
-    if sort == 34 {
-        return made(s, from, true, store);
-    }
-    tell(s, from, sort, store);
-    store
+    made(s, from, true, state)
 }
 
-// The entry at `at`, which is whole.
-pub fn play(s: &[u8], at: usize, p: Player) -> Player {
+// The entry at `at`, which is whole and keeps no definition, on the store of this state and these tables: the state after it. A
+// spawn is of the definition `def`.
+pub fn play(
+    s: &[u8],
+    at: usize,
+    state: State,
+    def: SynthDef,
+    nodes: &mut NodeTable,
+    edges: &mut EdgeTable,
+    order: &mut OrderTable,
+    voices: &mut VoiceTable,
+    events: &mut EventTable,
+    steals: &mut StealTable,
+) -> State {
     let sort = byte_at(s, at);
     let from = after(at, 1);
-    let before = p.store;
-    let kept = p.slots;
-    if sort == 8 {
-        let slots = keep(s, from, kept);
-        return Player {
-            store: before,
-            slots,
-        };
+    if 8 < sort && sort < 13 {
+        return play_spawn(s, from, sort, state, nodes, edges, voices, steals, def);
     }
-    let store = play_on(s, from, sort, before, kept);
-    Player { store, slots: kept }
+    if 21 < sort && sort < 34 {
+        tell(
+            s,
+            from,
+            sort,
+            state,
+            nodes,
+            edges,
+            order,
+            voices,
+            events,
+            steals,
+        );
+        return state;
+    }
+    play_call(s, from, sort, state, nodes, edges, order, voices, events)
 }

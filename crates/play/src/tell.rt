@@ -3,9 +3,15 @@ use crate::host::id_at;
 use crate::voices::voice_at;
 use codec::field::at_most;
 use codec::field::word_at;
-use page::page;
-use store::answer::Paged;
-use store::state::Store;
+use piecrag::EdgeTable;
+use piecrag::EventTable;
+use piecrag::NodeTable;
+use piecrag::OrderTable;
+use piecrag::Paged;
+use piecrag::State;
+use piecrag::StealTable;
+use piecrag::VoiceTable;
+use piecrag::page;
 use transcript::answer::clock_line;
 use transcript::answer::level_line;
 use transcript::answer::page_lines;
@@ -16,49 +22,80 @@ use transcript::graphs::order_line;
 use transcript::graphs::sources_line;
 use transcript::state::state_lines;
 use transcript::stolen::steals_line;
-use transcript::voices::looked_line;
+use transcript::voices::found_line;
 use transcript::voices::voices_line;
 
-fn of_a_voice(s: &[u8], from: usize, sort: u8, store: Store) {
+fn of_a_voice(
+    s: &[u8],
+    from: usize,
+    sort: u8,
+    state: State,
+    nodes: &NodeTable,
+    voices: &VoiceTable,
+) {
     match sort {
-        22 => level_line(reading::voice_level(store, voice_at(s, from))),
-        23 => position_line(reading::fade_position(store, voice_at(s, from))),
-        24 => looked_line(reading::voice(store, voice_at(s, from))),
-        _ => looked_line(reading::voice_at(store, word_at(s, from) as usize)),
+        22 => level_line(piecrag::voice_level(state, nodes, voices, voice_at(s, from))),
+        23 => position_line(piecrag::fade_position(state, voices, voice_at(s, from))),
+        24 => found_line(piecrag::voice(state, voices, voice_at(s, from))),
+        _ => found_line(piecrag::voice_at(state, voices, word_at(s, from) as usize)),
     }
 }
 
-fn paged(out: &mut [u8], store: Store) {
-    match page(store, out) {
+fn paged(out: &mut [u8], state: State, voices: &VoiceTable) {
+    match page(state, voices, out) {
         Paged::Length(n) => page_lines(n, out),
         Paged::Refused(refusal) => refused_line(refusal),
     }
 }
 
 // The length of the buffer. An entry that asks for more than 4,096 bytes is malformed, and not played.
-fn lent_page(s: &[u8], at: usize, store: Store) {
+fn lent_page(s: &[u8], at: usize, state: State, voices: &VoiceTable) {
     let n = at_most(word_at(s, at) as usize, 4096);
     let mut room = io::buffer();
-    paged(&mut room[..n], store);
+    paged(&mut room[..n], state, voices);
 }
 
-fn of_the_store(s: &[u8], from: usize, sort: u8, store: Store) {
+// What is read of one table, or of none.
+fn of_a_table(
+    s: &[u8],
+    from: usize,
+    sort: u8,
+    state: State,
+    edges: &EdgeTable,
+    order: &OrderTable,
+    voices: &VoiceTable,
+    steals: &StealTable,
+) {
     match sort {
-        26 => voices_line(reading::voices(store)),
-        27 => steals_line(reading::steals(store)),
-        28 => edges_line(reading::edges(store)),
-        29 => order_line(reading::processing_order(store)),
-        30 => sources_line(reading::sources(store, id_at(s, from))),
-        31 => clock_line(reading::clock(store)),
-        32 => lent_page(s, from, store),
-        _ => state_lines(store),
+        26 => voices_line(state, voices),
+        27 => steals_line(piecrag::steals(state, steals)),
+        28 => edges_line(state, edges),
+        29 => order_line(state, order),
+        30 => sources_line(piecrag::sources(state, edges, id_at(s, from))),
+        31 => clock_line(piecrag::clock(state)),
+        _ => lent_page(s, from, state, voices),
     }
 }
 
-pub(crate) fn tell(s: &[u8], from: usize, sort: u8, store: Store) {
+pub(crate) fn tell(
+    s: &[u8],
+    from: usize,
+    sort: u8,
+    state: State,
+    nodes: &NodeTable,
+    edges: &EdgeTable,
+    order: &OrderTable,
+    voices: &VoiceTable,
+    events: &EventTable,
+    steals: &StealTable,
+) {
     if sort < 26 {
-        of_a_voice(s, from, sort, store);
-    } else {
-        of_the_store(s, from, sort, store);
+        of_a_voice(s, from, sort, state, nodes, voices);
+        return;
     }
+    if sort < 33 {
+        of_a_table(s, from, sort, state, edges, order, voices, steals);
+        return;
+    }
+    state_lines(state, nodes, edges, order, voices, events, steals);
 }

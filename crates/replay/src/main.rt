@@ -7,14 +7,32 @@ use codec::word::and_number;
 use codec::word::end_line;
 use codec::word::text;
 use libc::STDIN_FILENO;
-use play::player::Player;
-use play::player::new_player;
+use piecrag::EDGE_WORDS;
+use piecrag::EVENT_WORDS;
+use piecrag::EdgeTable;
+use piecrag::EventTable;
+use piecrag::NODE_WORDS;
+use piecrag::NodeTable;
+use piecrag::ORDER_WORDS;
+use piecrag::OrderTable;
+use piecrag::STEAL_WORDS;
+use piecrag::State;
+use piecrag::StealTable;
+use piecrag::VOICE_WORDS;
+use piecrag::VoiceTable;
+use play::player::first_state;
 use play::player::play;
+use play::slots::Slots;
+use play::slots::is_kept;
+use play::slots::keep;
+use play::slots::no_slots;
+use play::slots::slot_at;
 use script::entry::entry_end;
 
 // What was played of a window: the position after the last entry, and how many there were.
 struct Played {
-    player: Player,
+    state: State,
+    slots: Slots,
     at: usize,
     count: usize,
 }
@@ -22,7 +40,8 @@ struct Played {
 // Between two windows. The first `held` bytes of the window were read and not played; the first of them has the position
 // `base` in the script; `count` entries were played.
 struct Run {
-    player: Player,
+    state: State,
+    slots: Slots,
     held: usize,
     base: usize,
     count: usize,
@@ -38,8 +57,18 @@ fn window_room() -> [u8; 262144]
 }
 
 // Plays the entries that stand in `s` whole. An entry has a byte at least, so there are no more of them than bytes.
-fn play_whole(s: &[u8], player: Player) -> Played {
-    let mut p = player;
+fn play_whole(
+    s: &[u8],
+    run: Run,
+    nodes: &mut NodeTable,
+    edges: &mut EdgeTable,
+    order: &mut OrderTable,
+    voices: &mut VoiceTable,
+    events: &mut EventTable,
+    steals: &mut StealTable,
+) -> Played {
+    let mut state = run.state;
+    let mut slots = run.slots;
     let mut at: usize = 0;
     let mut count: usize = 0;
     while count < s.len() {
@@ -47,15 +76,58 @@ fn play_whole(s: &[u8], player: Player) -> Played {
         if s.len() <= at || s.len() < end {
             break;
         }
-        p = play(s, at, p);
+        let here = at;
         at = end;
         count += 1;
+        if is_kept(s, here) {
+            slots = keep(s, here, slots);
+        } else {
+            let def = slot_at(s, here, slots);
+            state = play(
+                s,
+                here,
+                state,
+                def,
+                nodes,
+                edges,
+                order,
+                voices,
+                events,
+                steals,
+            );
+        }
     }
     Played {
-        player: p,
+        state,
+        slots,
         at,
         count,
     }
+}
+
+// Plays the entries that stand whole in the first `n` bytes of the window.
+fn play_held(
+    window: &[u8],
+    n: usize,
+    run: Run,
+    nodes: &mut NodeTable,
+    edges: &mut EdgeTable,
+    order: &mut OrderTable,
+    voices: &mut VoiceTable,
+    events: &mut EventTable,
+    steals: &mut StealTable,
+) -> Played {
+    let m = at_most(n, window.len());
+    play_whole(
+        &window[..m],
+        run,
+        nodes,
+        edges,
+        order,
+        voices,
+        events,
+        steals,
+    )
 }
 
 // Reads on after the first `held` bytes of the window, and gives how many it holds then.
@@ -63,7 +135,8 @@ fn fill(window: &mut [u8], held: usize) -> usize {
     if window.len() < held {
         return 0;
     }
-    after(held, io::read_full(STDIN_FILENO, &mut window[held..]))
+    let n = after(held, io::read_full(STDIN_FILENO, &mut window[held..]));
+    at_most(n, window.len())
 }
 
 // Moves what stands from `at` on to the window's front, and gives how many bytes that is.
@@ -84,14 +157,12 @@ fn last_line(word: &[u8], n: usize) {
     end_line();
 }
 
-// Plays one window. The script ends in the first that does not get full; an entry that is not whole then is malformed, and
-// so is one that a window cannot hold.
-fn play_window(window: &mut [u8], run: Run) -> Run {
-    let n = at_most(fill(window, run.held), window.len());
-    let player = run.player;
-    let r = play_whole(&window[..n], player);
+// What is to be done after a window of `n` bytes was played. The script ends in the first that does not get full; an entry that is
+// not whole then is malformed, and so is one that a window cannot hold.
+fn next_run(window: &mut [u8], n: usize, run: Run, r: Played) -> Run {
     let at = r.at;
-    let next = r.player;
+    let state = r.state;
+    let slots = r.slots;
     let count = after(run.count, r.count);
     let base = after(run.base, at);
     let full = n == window.len();
@@ -105,7 +176,8 @@ fn play_window(window: &mut [u8], run: Run) -> Run {
         }
     }
     Run {
-        player: next,
+        state,
+        slots,
         held,
         base,
         count,
@@ -113,9 +185,36 @@ fn play_window(window: &mut [u8], run: Run) -> Run {
     }
 }
 
-fn play_all(window: &mut [u8]) {
+// Plays one window.
+fn play_window(
+    window: &mut [u8],
+    run: Run,
+    nodes: &mut NodeTable,
+    edges: &mut EdgeTable,
+    order: &mut OrderTable,
+    voices: &mut VoiceTable,
+    events: &mut EventTable,
+    steals: &mut StealTable,
+) -> Run {
+    let n = fill(window, run.held);
+    let r = play_held(window, n, run, nodes, edges, order, voices, events, steals);
+    next_run(window, n, run, r)
+}
+
+fn play_all(
+    window: &mut [u8],
+    nodes: &mut NodeTable,
+    edges: &mut EdgeTable,
+    order: &mut OrderTable,
+    voices: &mut VoiceTable,
+    events: &mut EventTable,
+    steals: &mut StealTable,
+) {
+    let state = first_state();
+    let slots = no_slots();
     let mut run = Run {
-        player: new_player(),
+        state,
+        slots,
         held: 0,
         base: 0,
         count: 0,
@@ -123,7 +222,7 @@ fn play_all(window: &mut [u8]) {
     };
     let mut left = usize::MAX;
     while 0 < left {
-        run = play_window(window, run);
+        run = play_window(window, run, nodes, edges, order, voices, events, steals);
         if run.ended {
             return;
         }
@@ -131,7 +230,22 @@ fn play_all(window: &mut [u8]) {
     }
 }
 
+// The store's six tables, and the window, are lent all the way down.
 fn main() {
     let mut window = window_room();
-    play_all(&mut window);
+    let mut nodes = [0u32; NODE_WORDS];
+    let mut edges = [0u32; EDGE_WORDS];
+    let mut order = [0u32; ORDER_WORDS];
+    let mut voices = [0u32; VOICE_WORDS];
+    let mut events = [0u32; EVENT_WORDS];
+    let mut steals = [0u32; STEAL_WORDS];
+    play_all(
+        &mut window,
+        &mut nodes,
+        &mut edges,
+        &mut order,
+        &mut voices,
+        &mut events,
+        &mut steals,
+    );
 }

@@ -1,19 +1,19 @@
 // What a call answers, in one line.
-use crate::words::id_word;
-use crate::words::level_word;
+use crate::line_words::id_word;
+use crate::line_words::level_word;
 use codec::field::bytes_at;
 use codec::word::and_number;
 use codec::word::end_line;
 use codec::word::text;
-use graph::state::AddAnswer;
-use graph::state::Answer;
-use node::refusal::Refusal;
-use node::refusal::refusal_number;
-use store::answer::Outcome;
-use store::answer::Position;
-use store::answer::Rendered;
-use store::answer::Spawned;
-use voice::policy::Level;
+use piecrag::AddAnswer;
+use piecrag::Answer;
+use piecrag::Level;
+use piecrag::Outcome;
+use piecrag::Position;
+use piecrag::Refusal;
+use piecrag::Rendered;
+use piecrag::Spawned;
+use piecrag::refusal_number;
 
 pub fn refused_line(refusal: Refusal) {
     text(b"refused");

@@ -1,26 +1,32 @@
 // Nodes, edges, the processing order and the sink.
-use crate::words::flag_word;
-use crate::words::glide_words;
-use crate::words::id_word;
-use crate::words::name_word;
+use crate::line_words::flag_word;
+use crate::line_words::glide_words;
+use crate::line_words::id_word;
+use crate::line_words::name_word;
 use codec::field::at_most;
 use codec::word::and_number;
 use codec::word::and_sample;
 use codec::word::end_line;
 use codec::word::text;
-use edges::ports::Source;
-use graph::state::Sink;
-use node::order::LastOrder;
-use node::record::Edges;
-use node::record::Node;
-use node::record::Nodes;
-use order::Order;
+use graph_rows::node_row::node_at;
+use graph_tables::lookup::node_count;
+use piecrag::EdgeTable;
+use piecrag::LastOrder;
+use piecrag::Node;
+use piecrag::NodeId;
+use piecrag::NodeTable;
+use piecrag::OrderTable;
+use piecrag::Sink;
+use piecrag::Source;
+use piecrag::State;
+use piecrag::edge_at;
 
-fn edge_words(edges: Edges) {
-    let n = at_most(edges.count, 1024);
+fn edge_words(s: State, edges: &EdgeTable) {
+    let n = piecrag::edges(s, edges);
     let mut i: usize = 0;
     while i < n {
-        let e = edges.rows[i];
+        let found = edge_at(s, edges, i);
+        let e = found.edge;
         id_word(e.from);
         id_word(e.to);
         and_number(e.port as u64);
@@ -28,25 +34,25 @@ fn edge_words(edges: Edges) {
     }
 }
 
-pub fn edges_line(edges: Edges) {
+pub fn edges_line(s: State, edges: &EdgeTable) {
     text(b"edges");
-    edge_words(edges);
+    edge_words(s, edges);
     end_line();
 }
 
-fn id_words(order: Order) {
-    let n = at_most(order.count, 512);
+// The first `count` words, each the id of a node.
+fn id_words(ids: &[u32], count: usize) {
+    let n = at_most(count, ids.len());
     let mut i: usize = 0;
     while i < n {
-        let id = order.ids[i];
-        id_word(id);
+        id_word(NodeId(ids[i]));
         i += 1;
     }
 }
 
-pub fn order_line(order: Order) {
+pub fn order_line(s: State, order: &OrderTable) {
     text(b"order");
-    id_words(order);
+    id_words(order, piecrag::processing_order(s, order));
     end_line();
 }
 
@@ -135,12 +141,11 @@ fn node_line(node: Node) {
     end_line();
 }
 
-pub fn node_lines(nodes: Nodes) {
-    let n = at_most(nodes.count, 512);
+pub fn node_lines(s: State, nodes: &NodeTable) {
+    let n = node_count(nodes, s.nodes);
     let mut i: usize = 0;
     while i < n {
-        let row = nodes.rows[i];
-        node_line(row);
+        node_line(node_at(nodes, i));
         i += 1;
     }
 }

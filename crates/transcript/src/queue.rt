@@ -1,14 +1,16 @@
 // Pending events.
-use crate::words::glide_words;
-use crate::words::name_word;
+use crate::line_words::glide_words;
+use crate::line_words::name_word;
 use codec::field::at_most;
 use codec::word::and_number;
 use codec::word::and_sample;
 use codec::word::end_line;
 use codec::word::text;
-use node::order::Action;
+use event_table::row::event_at;
+use piecrag::Action;
+use piecrag::EventTable;
+use piecrag::State;
 use scheduler::event::Event;
-use scheduler::queue::Events;
 
 fn event_line(e: Event) {
     text(b"event");
@@ -41,12 +43,11 @@ fn event_line(e: Event) {
     end_line();
 }
 
-pub fn event_lines(queue: Events) {
-    let n = at_most(queue.count, 256);
+pub fn event_lines(s: State, events: &EventTable) {
+    let n = at_most(s.events, 256);
     let mut i: usize = 0;
     while i < n {
-        let e = queue.rows[i];
-        event_line(e);
+        event_line(event_at(events, i));
         i += 1;
     }
 }

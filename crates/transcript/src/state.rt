@@ -4,46 +4,60 @@ use crate::graphs::edges_line;
 use crate::graphs::node_lines;
 use crate::graphs::order_line;
 use crate::graphs::sink_line;
+use crate::line_words::flag_word;
 use crate::queue::event_lines;
 use crate::stolen::steal_lines;
 use crate::voices::tracked_line;
 use crate::voices::voice_lines;
-use crate::words::flag_word;
 use codec::word::and_number;
 use codec::word::end_line;
 use codec::word::text;
-use graph::state::Graph;
-use store::state::Store;
+use piecrag::EdgeTable;
+use piecrag::EventTable;
+use piecrag::NodeTable;
+use piecrag::OrderTable;
+use piecrag::State;
+use piecrag::StealTable;
+use piecrag::VoiceTable;
+use piecrag::clock;
+use piecrag::steals;
 
-fn graph_lines(g: Graph) {
+fn graph_lines(s: State, nodes: &NodeTable, edges: &EdgeTable, order: &OrderTable) {
     text(b"prepared");
-    flag_word(g.prepared);
+    flag_word(s.prepared);
     end_line();
-    let sink = g.sink;
+    let sink = s.sink;
     sink_line(sink);
-    edges_line(g.edges);
-    order_line(g.order);
-    node_lines(g.nodes);
+    edges_line(s, edges);
+    order_line(s, order);
+    node_lines(s, nodes);
 }
 
 // The next node id, 2^32 where none is left; how many voice ids were given out; and the noise sequence.
-fn next_line(s: Store) {
+fn next_line(s: State) {
     text(b"next");
-    let g = s.graph;
-    and_number(g.next);
+    and_number(s.next);
     and_number(s.spawned);
     and_number(s.sequence as u64);
     end_line();
 }
 
-pub fn state_lines(s: Store) {
+pub fn state_lines(
+    s: State,
+    nodes: &NodeTable,
+    edges: &EdgeTable,
+    order: &OrderTable,
+    voices: &VoiceTable,
+    events: &EventTable,
+    lent_steals: &StealTable,
+) {
     text(b"state\n");
-    clock_line(s.clock);
-    graph_lines(s.graph);
-    voice_lines(s);
-    tracked_line(s.voices);
-    event_lines(s.events);
-    steal_lines(s.steals);
+    clock_line(clock(s));
+    graph_lines(s, nodes, edges, order);
+    voice_lines(s, nodes, edges, voices);
+    tracked_line(s, voices);
+    event_lines(s, events);
+    steal_lines(steals(s, lent_steals));
     next_line(s);
     text(b"end\n");
 }

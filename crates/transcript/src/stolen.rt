@@ -1,11 +1,11 @@
 // Steal records.
-use crate::words::level_word;
+use crate::line_words::level_word;
 use codec::word::and_number;
 use codec::word::end_line;
 use codec::word::text;
-use voice::steals::StealFound;
-use voice::steals::StealRecord;
-use voice::steals::Steals;
+use piecrag::StealFound;
+use piecrag::StealRecord;
+use piecrag::Steals;
 use voice::steals::held_steals;
 use voice::steals::record_level;
 use voice::steals::steal_at;

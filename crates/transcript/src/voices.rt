@@ -1,25 +1,23 @@
 // Voices.
-use crate::words::flag_word;
-use crate::words::id_word;
-use crate::words::level_word;
-use codec::field::at_most;
+use crate::line_words::flag_word;
+use crate::line_words::id_word;
+use crate::line_words::level_word;
 use codec::word::and_number;
 use codec::word::end_line;
 use codec::word::text;
-use edges::ports::Port;
-use edges::ports::port_from;
-use landing::feeder;
-use node::record::Edges;
-use node::record::NodeId;
-use reading::edges;
-use reading::voice_at;
-use reading::voice_level;
-use store::state::Store;
-use store::voices::Voice;
-use store::voices::VoiceState;
-use store::voices::Voices;
-use voice_table::Looked;
-use voice_table::voice_count;
+use graph_tables::ports::Feeding;
+use graph_tables::ports::feeding_edge;
+use piecrag::EdgeTable;
+use piecrag::FoundVoice;
+use piecrag::NodeTable;
+use piecrag::State;
+use piecrag::Voice;
+use piecrag::VoiceState;
+use piecrag::VoiceTable;
+use piecrag::voice_at;
+use piecrag::voice_level;
+use voice_rows::row::id_at;
+use voice_rows::row::state_at;
 
 fn state_words(state: VoiceState) {
     match state {
@@ -51,28 +49,32 @@ fn record_words(v: Voice) {
     state_words(state);
 }
 
-pub fn looked_line(looked: Looked) {
-    if looked.found {
-        record_words(looked.voice);
+pub fn found_line(found: FoundVoice) {
+    if found.found {
+        record_words(found.voice);
         end_line();
         return;
     }
     text(b"-\n");
 }
 
-fn port_word(port: Port) {
-    match port {
-        Port::At(p) => and_number(p as u64),
-        Port::Nothing => text(b" -"),
+// The port of an edge that was looked for.
+fn port_word(fed: Feeding) {
+    if fed.found {
+        let e = fed.edge;
+        and_number(e.port as u64);
+        return;
     }
+    text(b" -");
 }
 
-// The port of `bus` that the node of the id `from` feeds. An id past the last is no node's.
-fn port_fed(edges: Edges, from: u64, bus: NodeId) -> Port {
-    if 0xffff_ffff < from {
-        return Port::Nothing;
+// The id of the node by which a voice reaches its bus where it does not fade: its pan node, the second behind those of its
+// definition, or its output.
+fn feeder(v: Voice) -> u64 {
+    if v.panned {
+        return v.first.0 as u64 + v.count as u64 + 1;
     }
-    port_from(edges, NodeId(from as u32), bus)
+    v.output.0 as u64
 }
 
 // The id of the node by which a voice reaches its bus now: its fade, or what fed the bus before one.
@@ -84,64 +86,62 @@ fn feeding(v: Voice, state: VoiceState) -> u64 {
     }
 }
 
-fn voice_line(s: Store, v: Voice) {
+fn voice_line(s: State, nodes: &NodeTable, edges: &EdgeTable, voices: &VoiceTable, v: Voice) {
     let id = v.id;
     let bus = v.bus;
     let state = v.state;
     record_words(v);
-    port_word(port_fed(edges(s), feeding(v, state), bus));
-    level_word(voice_level(s, id));
+    port_word(feeding_edge(edges, s.edges, feeding(v, state), bus));
+    level_word(voice_level(s, nodes, voices, id));
     end_line();
 }
 
-pub fn voice_lines(s: Store) {
-    let voices = s.voices;
-    let n = voice_count(voices);
+pub fn voice_lines(s: State, nodes: &NodeTable, edges: &EdgeTable, voices: &VoiceTable) {
+    let n = piecrag::voices(s, voices);
     let mut i: usize = 0;
     while i < n {
-        let looked = voice_at(s, i);
-        voice_line(s, looked.voice);
+        let found = voice_at(s, voices, i);
+        voice_line(s, nodes, edges, voices, found.voice);
         i += 1;
     }
 }
 
-fn voice_words(voices: Voices) {
-    let n = at_most(voices.count, 64);
+fn voice_words(s: State, voices: &VoiceTable) {
+    let n = piecrag::voices(s, voices);
     let mut i: usize = 0;
     while i < n {
-        let v = voices.rows[i];
-        and_number(v.id.0);
+        and_number(id_at(voices, i).0);
         i += 1;
     }
 }
 
-pub fn voices_line(voices: Voices) {
+pub fn voices_line(s: State, voices: &VoiceTable) {
     text(b"voices");
-    voice_words(voices);
+    voice_words(s, voices);
     end_line();
 }
 
-fn tracked_word(v: Voice) {
-    let state = v.state;
+// The id of the voice in row `i`, if that is tracked.
+fn tracked_word(voices: &[u32], i: usize) {
+    let state = state_at(voices, i);
     match state {
-        VoiceState::Tracked => and_number(v.id.0),
+        VoiceState::Tracked => and_number(id_at(voices, i).0),
         VoiceState::Loose => text(b""),
         VoiceState::Fading(_) => text(b""),
     }
 }
 
-fn tracked_words(voices: Voices) {
-    let n = at_most(voices.count, 64);
+fn tracked_words(s: State, voices: &VoiceTable) {
+    let n = piecrag::voices(s, voices);
     let mut i: usize = 0;
     while i < n {
-        let v = voices.rows[i];
-        tracked_word(v);
+        tracked_word(voices, i);
         i += 1;
     }
 }
 
-pub fn tracked_line(voices: Voices) {
+pub fn tracked_line(s: State, voices: &VoiceTable) {
     text(b"tracked");
-    tracked_words(voices);
+    tracked_words(s, voices);
     end_line();
 }

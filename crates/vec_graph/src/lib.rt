@@ -1,4 +1,10 @@
-// Answers the vectors of `graph`, `edges` and `order`: scripts of calls on a graph.
+// Answers the vectors of the graph: scripts of calls on a graph in lent tables.
+use call_host::host::add_node;
+use call_host::host::connect;
+use call_host::host::disconnect;
+use call_host::host::remove_node;
+use call_host::host::set_sink;
+use call_make::make;
 use codec::field::after;
 use codec::field::at_most;
 use codec::field::byte_at;
@@ -10,39 +16,43 @@ use codec::word::end_line;
 use codec::word::text;
 use edges::ports::Port;
 use edges::ports::Source;
-use edges::ports::free_port;
-use edges::ports::port_from;
-use edges::ports::sources_of;
-use edges::table::put_edge;
-use graph::host::add_node;
-use graph::host::append_node;
-use graph::host::connect;
-use graph::host::disconnect;
 use graph::host::host_node;
-use graph::host::new_graph;
-use graph::host::remove_node;
-use graph::host::set_sink;
-use graph::nodes::node_at;
-use graph::prepare::prepare_graph;
-use graph::removal::remove_voice;
 use graph::state::AddAnswer;
 use graph::state::Answer;
-use graph::state::Changed;
-use graph::state::Graph;
 use graph::state::Sink;
-use graph::state::with_edges;
+use graph_rows::edge_row::EDGE_WORDS;
+use graph_rows::edge_row::EdgeTable;
+use graph_rows::edge_row::edge_at;
+use graph_rows::edge_row::set_edge;
+use graph_rows::node_row::NODE_WORDS;
+use graph_rows::node_row::NodeTable;
+use graph_tables::lookup::append_node;
+use graph_tables::lookup::brief_of;
+use graph_tables::lookup::node_count;
+use graph_tables::ports::feeding_edge;
+use graph_tables::ports::free_port;
+use graph_tables::ports::sources_of;
+use graph_tables::removal::remove_voice;
+use graph_tables::wiring::edge_count;
+use graph_tables::wiring::put_edge;
+use memory::parts::with_graph;
+use memory::state::HostResult;
+use memory::state::State;
 use node::record::Edge;
-use node::record::Edges;
+use node::record::Node;
 use node::record::NodeId;
-use node::record::Nodes;
 use node::record::VoiceId;
 use node::refusal::Refusal;
 use node::refusal::refusal_number;
-use order::Order;
+use order_table::ORDER_WORDS;
+use order_table::OrderTable;
+use voice::policy::Budget;
+use voice::policy::BudgetScope;
+use voice::policy::StealPolicy;
 
-// The graph after a call, and the position after the call.
+// The state after a call, and the position after the call.
 struct Played {
-    graph: Graph,
+    state: State,
     end: usize,
 }
 
@@ -72,56 +82,64 @@ fn given_line(given: AddAnswer) {
 }
 
 // Writes the answer of a call that gives nothing back.
-fn changed(c: Changed, end: usize) -> Played {
-    let answer = c.answer;
+fn served(r: HostResult, end: usize) -> Played {
+    let answer = r.answer;
     match answer {
         Answer::Done => text(b"done\n"),
         Answer::Refused(refusal) => refused_line(refusal),
     }
-    let graph = c.graph;
-    Played { graph, end }
+    let state = r.state;
+    Played { state, end }
 }
 
 // A kind name, ports, required ports and what the node takes.
-fn add(s: &[u8], at: usize, g: Graph) -> Played {
+fn add(s: &[u8], at: usize, g: State, nodes: &mut NodeTable) -> Played {
     let len = byte_at(s, at) as usize;
     let kind = bytes_at(s, after(at, 1), len);
     let rest = after(after(at, 1), len);
     let ports = word_at(s, rest);
     let required = long_at(s, after(rest, 4));
     let takes = byte_at(s, after(rest, 12));
-    let r = add_node(g, kind, ports, required, takes % 2 == 1, takes / 2 % 2 == 1);
+    let r = add_node(
+        g,
+        nodes,
+        kind,
+        ports,
+        required,
+        takes % 2 == 1,
+        takes / 2 % 2 == 1,
+    );
     let given = r.given;
     given_line(given);
-    let graph = r.graph;
+    let state = r.state;
     Played {
-        graph,
+        state,
         end: after(rest, 13),
     }
 }
 
-fn remove(s: &[u8], at: usize, g: Graph) -> Played {
-    changed(remove_node(g, id_at(s, at)), after(at, 4))
+fn remove(s: &[u8], at: usize, g: State, nodes: &mut NodeTable, edges: &mut EdgeTable) -> Played {
+    served(remove_node(g, nodes, edges, id_at(s, at)), after(at, 4))
 }
 
-fn join(s: &[u8], at: usize, g: Graph) -> Played {
+fn join(s: &[u8], at: usize, g: State, nodes: &NodeTable, edges: &mut EdgeTable) -> Played {
     let from = id_at(s, at);
     let to = id_at(s, after(at, 4));
-    changed(
-        connect(g, from, to, word_at(s, after(at, 8))),
+    served(
+        connect(g, nodes, edges, from, to, word_at(s, after(at, 8))),
         after(at, 12),
     )
 }
 
-fn part(s: &[u8], at: usize, g: Graph) -> Played {
-    changed(
-        disconnect(g, id_at(s, at), word_at(s, after(at, 4))),
+fn part(s: &[u8], at: usize, g: State, nodes: &NodeTable, edges: &mut EdgeTable) -> Played {
+    served(
+        disconnect(g, nodes, edges, id_at(s, at), word_at(s, after(at, 4))),
         after(at, 8),
     )
 }
 
-fn hear(s: &[u8], at: usize, g: Graph) -> Played {
-    changed(set_sink(g, id_at(s, at)), after(at, 4))
+fn hear(s: &[u8], at: usize, g: State, nodes: &NodeTable) -> Played {
+    served(set_sink(g, nodes, id_at(s, at)), after(at, 4))
 }
 
 fn port_line(port: Port) {
@@ -136,31 +154,37 @@ fn port_line(port: Port) {
 }
 
 // How many ports a node has; one that is not live has none.
-fn ports_of(g: Graph, node: NodeId) -> u32 {
-    let nodes = g.nodes;
-    let seen = node_at(nodes, node);
+fn ports_of(g: State, nodes: &NodeTable, node: NodeId) -> u32 {
+    let seen = brief_of(nodes, g.nodes, node);
     if seen.live {
-        let row = seen.node;
-        return row.ports;
+        return seen.ports;
     }
     0
 }
 
-fn ask_free_port(s: &[u8], at: usize, g: Graph) -> Played {
+fn ask_free_port(s: &[u8], at: usize, g: State, nodes: &NodeTable, edges: &EdgeTable) -> Played {
     let node = id_at(s, at);
-    let edges = g.edges;
-    port_line(free_port(edges, node, ports_of(g, node)));
+    port_line(free_port(edges, g.edges, node, ports_of(g, nodes, node)));
     Played {
-        graph: g,
+        state: g,
         end: after(at, 4),
     }
 }
 
-fn ask_port_from(s: &[u8], at: usize, g: Graph) -> Played {
-    let edges = g.edges;
-    port_line(port_from(edges, id_at(s, at), id_at(s, after(at, 4))));
+// The port of the first edge from a node to another, if there is one.
+fn fed_port(g: State, edges: &EdgeTable, from: NodeId, to: NodeId) -> Port {
+    let fed = feeding_edge(edges, g.edges, from.0 as u64, to);
+    if fed.found {
+        let e = fed.edge;
+        return Port::At(e.port);
+    }
+    Port::Nothing
+}
+
+fn ask_fed_port(s: &[u8], at: usize, g: State, edges: &EdgeTable) -> Played {
+    port_line(fed_port(g, edges, id_at(s, at), id_at(s, after(at, 4))));
     Played {
-        graph: g,
+        state: g,
         end: after(at, 8),
     }
 }
@@ -183,43 +207,44 @@ fn source_words(sources: [Source; 64], ports: usize) {
     }
 }
 
-fn ask_sources(s: &[u8], at: usize, g: Graph) -> Played {
+fn ask_sources(s: &[u8], at: usize, g: State, nodes: &NodeTable, edges: &EdgeTable) -> Played {
     let node = id_at(s, at);
-    let edges = g.edges;
     text(b"sources");
-    source_words(sources_of(edges, node), ports_of(g, node) as usize);
+    source_words(
+        sources_of(edges, g.edges, node),
+        ports_of(g, nodes, node) as usize,
+    );
     end_line();
     Played {
-        graph: g,
+        state: g,
         end: after(at, 4),
     }
 }
 
-fn id_words(order: Order) {
-    let n = at_most(order.count, 512);
+// The first `count` words, each the id of a node.
+fn id_words(ids: &[u32], count: usize) {
+    let n = at_most(count, ids.len());
     let mut i: usize = 0;
     while i < n {
-        let id = order.ids[i];
-        id_word(id);
+        id_word(NodeId(ids[i]));
         i += 1;
     }
 }
 
-fn node_words(nodes: Nodes) {
-    let n = at_most(nodes.count, 512);
+fn node_words(g: State, nodes: &NodeTable) {
+    let n = node_count(nodes, g.nodes);
     let mut i: usize = 0;
     while i < n {
-        let row = nodes.rows[i];
-        id_word(row.id);
+        id_word(graph_rows::node_row::id_at(nodes, i));
         i += 1;
     }
 }
 
-fn edge_words(edges: Edges) {
-    let n = at_most(edges.count, 1024);
+fn edge_words(g: State, edges: &EdgeTable) {
+    let n = edge_count(edges, g.edges);
     let mut i: usize = 0;
     while i < n {
-        let e = edges.rows[i];
+        let e = edge_at(edges, i);
         id_word(e.from);
         id_word(e.to);
         and_number(e.port as u64);
@@ -238,113 +263,208 @@ fn sink_line(sink: Sink) {
     }
 }
 
-fn order_line(order: Order) {
+fn order_line(g: State, order: &OrderTable) {
     text(b"order");
-    id_words(order);
+    id_words(order, g.order);
     end_line();
 }
 
 // The whole graph: its sink, whether it is prepared, its nodes, its edges and its order.
-fn show(at: usize, g: Graph) -> Played {
+fn show(at: usize, g: State, nodes: &NodeTable, edges: &EdgeTable, order: &OrderTable) -> Played {
     let sink = g.sink;
-    let nodes = g.nodes;
-    let edges = g.edges;
     sink_line(sink);
     if g.prepared {
         text(b"prepared yes\nnodes");
     } else {
         text(b"prepared no\nnodes");
     }
-    node_words(nodes);
+    node_words(g, nodes);
     text(b"\nedges");
-    edge_words(edges);
+    edge_words(g, edges);
     end_line();
-    order_line(g.order);
-    Played { graph: g, end: at }
+    order_line(g, order);
+    Played { state: g, end: at }
 }
 
-fn prepare(at: usize, g: Graph) -> Played {
-    let c = prepare_graph(g);
-    let graph = c.graph;
-    let answer = c.answer;
+fn prepare(
+    at: usize,
+    g: State,
+    nodes: &NodeTable,
+    edges: &EdgeTable,
+    order: &mut OrderTable,
+) -> Played {
+    let r = call_host::prepare::prepare(g, nodes, edges, order);
+    let state = r.state;
+    let answer = r.answer;
     match answer {
-        Answer::Done => order_line(graph.order),
+        Answer::Done => order_line(state, order),
         Answer::Refused(refusal) => refused_line(refusal),
     }
-    Played { graph, end: at }
+    Played { state, end: at }
 }
 
-// A node of a voice, with so many ports.
-fn add_owned(s: &[u8], at: usize, g: Graph) -> Played {
-    let mut row = host_node(b"Tone", word_at(s, after(at, 8)), 0, false, false);
-    let voice = long_at(s, at);
+fn owned_node(id: NodeId, voice: u64, ports: u32) -> Node {
+    let mut row = host_node(b"Tone", ports, 0, false, false);
+    row.id.0 = id.0;
     row.owner.0 = voice;
-    let r = append_node(g, row);
-    let given = r.given;
-    given_line(given);
-    let graph = r.graph;
+    row
+}
+
+fn refused(refusal: Refusal, g: State, end: usize) -> Played {
+    refused_line(refusal);
+    Played { state: g, end }
+}
+
+// A node of a voice, with so many ports, under the next id.
+fn add_owned(s: &[u8], at: usize, g: State, nodes: &mut NodeTable) -> Played {
+    let end = after(at, 12);
+    if node_count(nodes, g.nodes) >= 512 {
+        return refused(Refusal::TableFull, g, end);
+    }
+    if g.next >= 4294967296 {
+        return refused(Refusal::IdsUsedUp, g, end);
+    }
+    let id = NodeId(g.next as u32);
+    let row = owned_node(id, long_at(s, at), word_at(s, after(at, 8)));
+    given_line(AddAnswer::Id(id));
+    let n = append_node(nodes, g.nodes, row);
+    let sink = g.sink;
     Played {
-        graph,
-        end: after(at, 12),
+        state: with_graph(g, n, g.edges, sink, g.next + 1),
+        end,
+    }
+}
+
+fn wire_at(s: &[u8], at: usize) -> Edge {
+    Edge {
+        from: id_at(s, at),
+        to: id_at(s, after(at, 4)),
+        port: word_at(s, after(at, 8)),
     }
 }
 
 // An edge, with no look at the nodes.
-fn put(s: &[u8], at: usize, g: Graph) -> Played {
-    let e = Edge {
-        from: id_at(s, at),
-        to: id_at(s, after(at, 4)),
-        port: word_at(s, after(at, 8)),
-    };
-    let edges = g.edges;
+fn put(s: &[u8], at: usize, g: State, edges: &mut EdgeTable) -> Played {
+    let e = wire_at(s, at);
+    let n = put_edge(edges, g.edges, e);
     text(b"done\n");
+    let sink = g.sink;
     Played {
-        graph: with_edges(g, put_edge(edges, e)),
+        state: with_graph(g, g.nodes, n, sink, g.next),
         end: after(at, 12),
     }
 }
 
-fn clear_voice(s: &[u8], at: usize, g: Graph) -> Played {
+// An edge behind the others, whatever else feeds its port.
+fn append(s: &[u8], at: usize, g: State, edges: &mut EdgeTable) -> Played {
+    let e = wire_at(s, at);
+    let n = edge_count(edges, g.edges);
+    set_edge(edges, n, e);
     text(b"done\n");
+    let sink = g.sink;
     Played {
-        graph: remove_voice(g, VoiceId(long_at(s, at))),
+        state: with_graph(g, g.nodes, after(n, 1), sink, g.next),
+        end: after(at, 12),
+    }
+}
+
+fn clear_voice(
+    s: &[u8],
+    at: usize,
+    g: State,
+    nodes: &mut NodeTable,
+    edges: &mut EdgeTable,
+) -> Played {
+    text(b"done\n");
+    let sink = g.sink;
+    let left = remove_voice(
+        nodes,
+        g.nodes,
+        edges,
+        g.edges,
+        sink,
+        VoiceId(long_at(s, at)),
+    );
+    let heard = left.sink;
+    Played {
+        state: with_graph(g, left.nodes, left.edges, heard, g.next),
         end: after(at, 8),
     }
 }
 
-// One call, by its sort. A sort that there is not has its end past the input.
-fn play(s: &[u8], at: usize, g: Graph) -> Played {
-    let from = after(at, 1);
-    match byte_at(s, at) {
-        1 => add(s, from, g),
-        2 => remove(s, from, g),
-        3 => join(s, from, g),
-        4 => part(s, from, g),
-        5 => hear(s, from, g),
-        6 => prepare(from, g),
-        7 => ask_free_port(s, from, g),
-        8 => ask_port_from(s, from, g),
-        9 => ask_sources(s, from, g),
-        10 => show(from, g),
-        11 => add_owned(s, from, g),
-        12 => put(s, from, g),
-        13 => clear_voice(s, from, g),
+// A call that reads, or one that there is not: its end is past the input.
+fn play_reading(
+    s: &[u8],
+    at: usize,
+    sort: u8,
+    g: State,
+    nodes: &NodeTable,
+    edges: &EdgeTable,
+    order: &OrderTable,
+) -> Played {
+    match sort {
+        7 => ask_free_port(s, at, g, nodes, edges),
+        8 => ask_fed_port(s, at, g, edges),
+        9 => ask_sources(s, at, g, nodes, edges),
+        10 => show(at, g, nodes, edges, order),
         _ => Played {
-            graph: g,
+            state: g,
             end: usize::MAX,
         },
     }
 }
 
-// How many calls, and the calls.
+// One call, by its sort.
+fn play(
+    s: &[u8],
+    at: usize,
+    g: State,
+    nodes: &mut NodeTable,
+    edges: &mut EdgeTable,
+    order: &mut OrderTable,
+) -> Played {
+    let from = after(at, 1);
+    let sort = byte_at(s, at);
+    match sort {
+        1 => add(s, from, g, nodes),
+        2 => remove(s, from, g, nodes, edges),
+        3 => join(s, from, g, nodes, edges),
+        4 => part(s, from, g, nodes, edges),
+        5 => hear(s, from, g, nodes),
+        6 => prepare(from, g, nodes, edges, order),
+        11 => add_owned(s, from, g, nodes),
+        12 => put(s, from, g, edges),
+        13 => clear_voice(s, from, g, nodes, edges),
+        14 => append(s, from, g, edges),
+        _ => play_reading(s, from, sort, g, nodes, edges, order),
+    }
+}
+
+// The state of a new store, of which the vectors use the graph alone.
+fn new_state() -> State {
+    let r = make(
+        48000.0,
+        64,
+        Budget::Unlimited,
+        StealPolicy::Reject,
+        BudgetScope::Global,
+        false,
+    );
+    r.state
+}
+
+// How many calls, and the calls, on a new graph in tables of its own.
 pub fn script(s: &[u8], at: usize) -> usize {
+    let mut nodes = [0u32; NODE_WORDS];
+    let mut edges = [0u32; EDGE_WORDS];
+    let mut order = [0u32; ORDER_WORDS];
     let n = word_at(s, at) as usize;
-    let mut graph = new_graph();
+    let mut state = new_state();
     let mut from = after(at, 4);
     let mut i: usize = 0;
     while i < n {
-        let p = play(s, from, graph);
-        graph = p.graph;
+        let p = play(s, from, state, &mut nodes, &mut edges, &mut order);
+        state = p.state;
         from = p.end;
         i += 1;
         if s.len() < from {

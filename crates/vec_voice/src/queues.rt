@@ -1,4 +1,15 @@
 // Histories of the event queue, on a table of this program.
+use codec::field::after;
+use codec::field::at_most;
+use codec::field::byte_at;
+use codec::field::bytes_at;
+use codec::field::long_at;
+use codec::field::word_at;
+use codec::word::and_number;
+use codec::word::and_sample;
+use codec::word::end_line;
+use codec::word::number;
+use codec::word::text;
 use event_table::queue::count_due;
 use event_table::queue::is_due;
 use event_table::queue::remove_due;
@@ -17,17 +28,6 @@ use scheduler::event::Event;
 use scheduler::queue::ScheduleAnswer;
 use script::glide::action_of;
 use script::glide::glide_at;
-use wire::field::after;
-use wire::field::at_most;
-use wire::field::byte_at;
-use wire::field::bytes_at;
-use wire::field::long_at;
-use wire::field::word_at;
-use wire::word::and_number;
-use wire::word::and_sample;
-use wire::word::end_line;
-use wire::word::number;
-use wire::word::text;
 
 // How many events wait after a call, and the position after the call.
 struct Played {

@@ -1,5 +1,15 @@
 // Victims, admissions and steal records.
 ghost use Prim.Native.Nat.{_≤_};
+use codec::field::after;
+use codec::field::byte_at;
+use codec::field::float;
+use codec::field::long_at;
+use codec::field::word_at;
+use codec::word::and_number;
+use codec::word::and_sample;
+use codec::word::end_line;
+use codec::word::number;
+use codec::word::text;
 use node::record::NodeId;
 use node::record::VoiceId;
 use script::config::budget_of;
@@ -24,16 +34,6 @@ use voice::steals::push_steal;
 use voice::steals::record_level;
 use voice::steals::steal_at;
 use voice::steals::steal_record;
-use wire::field::after;
-use wire::field::byte_at;
-use wire::field::float;
-use wire::field::long_at;
-use wire::field::word_at;
-use wire::word::and_number;
-use wire::word::and_sample;
-use wire::word::end_line;
-use wire::word::number;
-use wire::word::text;
 
 fn level_at(s: &[u8], at: usize) -> Level {
     match byte_at(s, at) {

@@ -2,10 +2,10 @@
 ghost use Prim.Native.Nat.{_≤_};
 ghost use mathlib.Core.Path.{_≡_};
 ghost use lib.ListN.{length};
-use wire::field::after;
-use wire::field::word_at;
-use wire::word::number;
-use wire::word::text;
+use codec::field::after;
+use codec::field::word_at;
+use codec::word::number;
+use codec::word::text;
 
 // Where a run of lent numbers stands: how many, the first of them, and the end.
 pub struct Lent {

@@ -39,6 +39,12 @@ impl AudioGraph {
         self.nodes.len() as u64
     }
 
+    /// Puts an edge behind the others, and leaves those that stand at its port: `connect` takes them away.
+    pub fn append_edge(&mut self, from: NodeId, to: NodeId, input_index: usize) {
+        self.edges.push(Edge { from, to, to_input: input_index });
+        self.dirty = true;
+    }
+
     /// What `act` answers while these nodes, each named once, and their edges are not there.
     pub fn without<T>(&mut self, ids: &[NodeId], act: impl FnOnce(&mut AudioGraph) -> T) -> T {
         let edges = self.edges.clone();

@@ -28,10 +28,15 @@ const STATE: u8 = 10;
 const ADD_OWNED: u8 = 11;
 const PUT: u8 = 12;
 const REMOVE_VOICE: u8 = 13;
+const APPEND: u8 = 14;
 
 pub fn book(rng: &mut Rng, amount: usize) -> Book {
     let mut book = Book::default();
     book.put("graph scripts", 1, of_the_dead());
+    for ports in [0, 1, 63, 64, 65] {
+        book.put("graph scripts", 1, filled(ports));
+        book.put("graph scripts", 1, gapped(ports));
+    }
     for n in 0..amount {
         let script = match n % 100 {
             0 => full(rng, n % 200 == 0),
@@ -105,7 +110,7 @@ impl Script {
     fn place(&mut self, name: &[u8], ports: usize, required: u64) -> NodeId {
         let mut kind = Kind::plain(&String::from_utf8_lossy(name), ports);
         for (p, port) in kind.ports.iter_mut().enumerate() {
-            port.required = required >> p & 1 == 1;
+            port.required = p < 64 && required >> p & 1 == 1;
         }
         let handle = Handle::default();
         handle.state().mark = self.given;
@@ -139,6 +144,24 @@ impl Script {
         self.dangling |= [from, to].iter().any(|&id| self.graph.node_spec(id).is_none());
         self.graph.connect(from, to, port as usize);
         self.vector.line("done");
+    }
+
+    /// Appends an edge, whatever else feeds its port.
+    fn append(&mut self, from: u32, to: u32, port: u32) {
+        self.call(APPEND, &[from, to, port]);
+        self.graph.append_edge(NodeId::numbered(from), NodeId::numbered(to), port as usize);
+        self.vector.line("done");
+    }
+
+    /// A bus of so many ports, and two nodes that can feed it, each of a voice of its own. A host's node has 64 ports at most.
+    fn add_bus(&mut self, ports: usize) -> (u32, u32, u32) {
+        let bus = self.given;
+        if ports <= limits::HOST_PORTS {
+            self.add(b"Bus", ports, 0);
+        } else {
+            self.add_owned(1, ports);
+        }
+        (bus, self.add_owned(2, 1), self.add_owned(3, 1))
     }
 
     /// Adds a run of a voice's nodes, each fed by the one before it; the last feeds a node of the host, if that lives.
@@ -287,6 +310,50 @@ fn of_the_dead() -> Vector {
     script.put(0, 2, 0);
     script.put(1, 0, 0);
     script.prepare();
+    script.finish()
+}
+
+/// The search for a free port of a bus of so many ports, which are taken from the lowest on, by two edges each, while an edge stands at
+/// port 200 and others lead to another node; then one voice's edges are removed, and then the other's.
+fn filled(ports: usize) -> Vector {
+    let mut script = Script::new();
+    let (bus, one, two) = script.add_bus(ports);
+    script.free_port(bus);
+    script.put(one, bus, 200);
+    script.free_port(bus);
+    for port in 0..ports as u32 {
+        script.append(bus, two, port);
+        script.put(one, bus, port);
+        script.append(two, bus, port);
+        script.free_port(bus);
+    }
+    script.fed_port(one, bus);
+    script.fed_port(two, bus);
+    script.remove_voice(2);
+    script.free_port(bus);
+    script.remove_voice(3);
+    script.free_port(bus);
+    script.finish()
+}
+
+/// The same search where the ports are taken from the highest on, and one in the middle is left out; it is taken at last.
+fn gapped(ports: usize) -> Vector {
+    let mut script = Script::new();
+    let (bus, one, two) = script.add_bus(ports);
+    let left = ports as u32 / 2;
+    for port in (0..ports as u32).rev().filter(|&port| port != left) {
+        script.append(two, bus, port);
+        script.append(one, bus, port);
+    }
+    script.free_port(bus);
+    script.append(one, bus, 200);
+    script.append(two, bus, 200);
+    script.free_port(bus);
+    script.fed_port(two, bus);
+    script.append(one, bus, left);
+    script.free_port(bus);
+    script.put(two, bus, left);
+    script.free_port(bus);
     script.finish()
 }
 

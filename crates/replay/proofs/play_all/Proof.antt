@@ -6,13 +6,18 @@ use Rattle.replay.proofs.play_all.Statement.{statement}
 use Rattle.replay.proofs.play_all.Tie as tie
 
 abbrev Inv-loop : tie.InvT-loop
-Inv-loop window₀ run₀ left₀ window run left = length window ≡ length window₀
+Inv-loop window₀ nodes₀ edges₀ order₀ voices₀ events₀ steals₀ run₀ left₀ window nodes edges order voices events steals run left =
+    length window ≡ length window₀
 
 abbrev μ-loop : tie.MeasureT-loop
-μ-loop window₀ run₀ left₀ window run left = left
+μ-loop window₀ nodes₀ edges₀ order₀ voices₀ events₀ steals₀ run₀ left₀ window nodes edges order voices events steals run left =
+    left
 
-new-player-requires : tie.Need-new-player-requires Inv-loop μ-loop
-new-player-requires c κs = search needs
+first-state-requires : tie.Need-first-state-requires Inv-loop μ-loop
+first-state-requires c κs = search needs
+
+no-slots-requires : tie.Need-no-slots-requires Inv-loop μ-loop
+no-slots-requires c κs = search needs
 
 loop-holds : tie.Need-loop-holds Inv-loop μ-loop
 loop-holds c = refl
@@ -47,7 +52,8 @@ play-all-spec =
     (tie.spec
     Inv-loop
     μ-loop
-    new-player-requires
+    first-state-requires
+    no-slots-requires
     loop-holds
     play-window-requires
     same-length

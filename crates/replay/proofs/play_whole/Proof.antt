@@ -1,15 +1,18 @@
 -- `replay::play_whole` is safe and ends.
 use Prim.Native.Nat.{_-_}
+use native.Mathlib.Omega.{arith}
 use lib.ListN.{length}
 use borrow.Author.Needs.{needs}
 use Rattle.replay.proofs.play_whole.Statement.{statement}
 use Rattle.replay.proofs.play_whole.Tie as tie
 
 abbrev Inv-loop : tie.InvT-loop
-Inv-loop s p₀ at₀ count₀ p at count = Unit {0}
+Inv-loop s nodes₀ edges₀ order₀ voices₀ events₀ steals₀ state₀ slots₀ at₀ count₀ nodes edges order voices events steals state slots at count =
+    Unit {0}
 
 abbrev μ-loop : tie.MeasureT-loop
-μ-loop s p₀ at₀ count₀ p at count = length s - count
+μ-loop s nodes₀ edges₀ order₀ voices₀ events₀ steals₀ state₀ slots₀ at₀ count₀ nodes edges order voices events steals state slots at count =
+    length s - count
 
 loop-holds : tie.Need-loop-holds Inv-loop μ-loop
 loop-holds c = tt
@@ -17,17 +20,34 @@ loop-holds c = tt
 entry-end-requires : tie.Need-entry-end-requires Inv-loop μ-loop
 entry-end-requires c κs = search needs
 
-play-requires : tie.Need-play-requires Inv-loop μ-loop
-play-requires c κs = search needs
-
 add-count : tie.Need-add-count Inv-loop μ-loop
 add-count c = search needs
+
+is-kept-requires : tie.Need-is-kept-requires Inv-loop μ-loop
+is-kept-requires c κs = search needs
+
+keep-requires : tie.Need-keep-requires Inv-loop μ-loop
+keep-requires c κs = search needs
 
 loop-less : tie.Need-loop-less Inv-loop μ-loop
 loop-less c = search needs
 
 loop-again : tie.Need-loop-again Inv-loop μ-loop
 loop-again c = tt
+
+slot-at-requires : tie.Need-slot-at-requires Inv-loop μ-loop
+slot-at-requires c κs = search needs
+
+play-requires : tie.Need-play-requires Inv-loop μ-loop
+play-requires c κs = search needs
+
+loop-less-2 : tie.Need-loop-less-2 Inv-loop μ-loop
+loop-less-2 c =
+    let turn = c .before .before .before .before .before .before .before .before .before .before .before .before .before in
+    omega (arith, turn .loop-test .taken)
+
+loop-again-2 : tie.Need-loop-again-2 Inv-loop μ-loop
+loop-again-2 c = tt
 
 returns : tie.Need-returns Inv-loop μ-loop
 returns c = tt
@@ -43,9 +63,14 @@ play-whole-spec =
     μ-loop
     loop-holds
     entry-end-requires
-    play-requires
     add-count
+    is-kept-requires
+    keep-requires
     loop-less
     loop-again
+    slot-at-requires
+    play-requires
+    loop-less-2
+    loop-again-2
     returns
     returns-2)

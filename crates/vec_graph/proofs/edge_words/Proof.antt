@@ -10,17 +10,14 @@ Inv-loop edges n i₀ i = i ≤ n
 abbrev μ-loop : tie.MeasureT-loop
 μ-loop edges n i₀ i = n - i
 
-at-most-requires : tie.Need-at-most-requires Inv-loop μ-loop
-at-most-requires c κs = search needs
+edge-count-requires : tie.Need-edge-count-requires Inv-loop μ-loop
+edge-count-requires c κs = search needs
 
 loop-holds : tie.Need-loop-holds Inv-loop μ-loop
 loop-holds c = search needs
 
-mul-e : tie.Need-mul-e Inv-loop μ-loop
-mul-e c = search needs
-
-element-copy-out-e : tie.Need-element-copy-out-e Inv-loop μ-loop
-element-copy-out-e c = search needs
+edge-at-requires : tie.Need-edge-at-requires Inv-loop μ-loop
+edge-at-requires c κs = search needs
 
 id-word-requires : tie.Need-id-word-requires Inv-loop μ-loop
 id-word-requires c κs = search needs
@@ -52,10 +49,9 @@ edge-words-spec =
     (tie.spec
     Inv-loop
     μ-loop
-    at-most-requires
+    edge-count-requires
     loop-holds
-    mul-e
-    element-copy-out-e
+    edge-at-requires
     id-word-requires
     id-word-requires-2
     cast-and-number

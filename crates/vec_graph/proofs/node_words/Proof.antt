@@ -10,17 +10,14 @@ Inv-loop nodes n i₀ i = i ≤ n
 abbrev μ-loop : tie.MeasureT-loop
 μ-loop nodes n i₀ i = n - i
 
-at-most-requires : tie.Need-at-most-requires Inv-loop μ-loop
-at-most-requires c κs = search needs
+node-count-requires : tie.Need-node-count-requires Inv-loop μ-loop
+node-count-requires c κs = search needs
 
 loop-holds : tie.Need-loop-holds Inv-loop μ-loop
 loop-holds c = search needs
 
-mul-row : tie.Need-mul-row Inv-loop μ-loop
-mul-row c = search needs
-
-element-copy-out-row : tie.Need-element-copy-out-row Inv-loop μ-loop
-element-copy-out-row c = search needs
+id-at-requires : tie.Need-id-at-requires Inv-loop μ-loop
+id-at-requires c κs = search needs
 
 id-word-requires : tie.Need-id-word-requires Inv-loop μ-loop
 id-word-requires c κs = search needs
@@ -43,10 +40,9 @@ node-words-spec =
     (tie.spec
     Inv-loop
     μ-loop
-    at-most-requires
+    node-count-requires
     loop-holds
-    mul-row
-    element-copy-out-row
+    id-at-requires
     id-word-requires
     add-i
     loop-less

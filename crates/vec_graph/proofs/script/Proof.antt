@@ -5,10 +5,10 @@ use Rattle.vec_graph.proofs.script.Statement.{statement}
 use Rattle.vec_graph.proofs.script.Tie as tie
 
 abbrev Inv-loop : tie.InvT-loop
-Inv-loop s at n graph₀ from₀ i₀ graph from i = Unit {0}
+Inv-loop s at nodes₀ edges₀ order₀ n state₀ from₀ i₀ nodes edges order state from i = Unit {0}
 
 abbrev μ-loop : tie.MeasureT-loop
-μ-loop s at n graph₀ from₀ i₀ graph from i = n - i
+μ-loop s at nodes₀ edges₀ order₀ n state₀ from₀ i₀ nodes edges order state from i = n - i
 
 word-at-requires : tie.Need-word-at-requires Inv-loop μ-loop
 word-at-requires c κs = search needs
@@ -16,8 +16,8 @@ word-at-requires c κs = search needs
 cast-n : tie.Need-cast-n Inv-loop μ-loop
 cast-n c = search needs
 
-new-graph-requires : tie.Need-new-graph-requires Inv-loop μ-loop
-new-graph-requires c κs = search needs
+new-state-requires : tie.Need-new-state-requires Inv-loop μ-loop
+new-state-requires c κs = search needs
 
 after-requires : tie.Need-after-requires Inv-loop μ-loop
 after-requires c κs = search needs
@@ -51,7 +51,7 @@ script-spec =
     μ-loop
     word-at-requires
     cast-n
-    new-graph-requires
+    new-state-requires
     after-requires
     loop-holds
     play-requires

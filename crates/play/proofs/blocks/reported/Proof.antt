@@ -2,7 +2,7 @@
 use Prim.Native.Nat.{_≤_}
 use native.Mathlib.Omega.{arith}
 use borrow.Author.Needs.{needs}
-use Rattle.codec.proofs.Part.{counted}
+use Rattle.wire.proofs.Part.{counted}
 use Rattle.play.proofs.blocks.reported.Statement.{statement}
 use Rattle.play.proofs.blocks.reported.Tie as tie
 
@@ -47,15 +47,15 @@ array-share-prefix-samples c = search needs
 
 slice-aggregate-report : tie.Need-slice-aggregate-report
 slice-aggregate-report c =
-    let most = c .before .before .before .at-most in
+    let most = c .before .before .before .before .at-most in
     let few : most .result ≤ 512 = omega (arith, most .ensures) in
-    counted (most .result) 512 (c .before .samples-at .result) (c .before .samples-at .ensures) few
+    counted (most .result) 512 (c .before .before .samples-at .result) (c .before .before .samples-at .ensures) few
 
 report-requires : tie.Need-report-requires
 report-requires c κs = search needs
 
-told-requires : tie.Need-told-requires
-told-requires c κs = search needs
+answer-line-requires : tie.Need-answer-line-requires
+answer-line-requires c κs = search needs
 
 returns : tie.Need-returns
 returns c = search needs
@@ -79,5 +79,5 @@ reported-spec =
     array-share-prefix-samples
     slice-aggregate-report
     report-requires
-    told-requires
+    answer-line-requires
     returns)

@@ -5,22 +5,19 @@ use Rattle.transcript.proofs.graphs.edge_words.Statement.{statement}
 use Rattle.transcript.proofs.graphs.edge_words.Tie as tie
 
 abbrev Inv-loop : tie.InvT-loop
-Inv-loop edges n i₀ i = i ≤ n
+Inv-loop s edges n i₀ i = i ≤ n
 
 abbrev μ-loop : tie.MeasureT-loop
-μ-loop edges n i₀ i = n - i
+μ-loop s edges n i₀ i = n - i
 
-at-most-requires : tie.Need-at-most-requires Inv-loop μ-loop
-at-most-requires c κs = search needs
+edges-requires : tie.Need-edges-requires Inv-loop μ-loop
+edges-requires c κs = search needs
 
 loop-holds : tie.Need-loop-holds Inv-loop μ-loop
 loop-holds c = search needs
 
-mul-e : tie.Need-mul-e Inv-loop μ-loop
-mul-e c = search needs
-
-element-copy-out-e : tie.Need-element-copy-out-e Inv-loop μ-loop
-element-copy-out-e c = search needs
+edge-at-requires : tie.Need-edge-at-requires Inv-loop μ-loop
+edge-at-requires c κs = search needs
 
 id-word-requires : tie.Need-id-word-requires Inv-loop μ-loop
 id-word-requires c κs = search needs
@@ -52,10 +49,9 @@ edge-words-spec =
     (tie.spec
     Inv-loop
     μ-loop
-    at-most-requires
+    edges-requires
     loop-holds
-    mul-e
-    element-copy-out-e
+    edge-at-requires
     id-word-requires
     id-word-requires-2
     cast-and-number

@@ -10,17 +10,14 @@ Inv-loop nodes n i₀ i = i ≤ n
 abbrev μ-loop : tie.MeasureT-loop
 μ-loop nodes n i₀ i = n - i
 
-at-most-requires : tie.Need-at-most-requires Inv-loop μ-loop
-at-most-requires c κs = search needs
+node-count-requires : tie.Need-node-count-requires Inv-loop μ-loop
+node-count-requires c κs = search needs
 
 loop-holds : tie.Need-loop-holds Inv-loop μ-loop
 loop-holds c = search needs
 
-mul-row : tie.Need-mul-row Inv-loop μ-loop
-mul-row c = search needs
-
-element-copy-out-row : tie.Need-element-copy-out-row Inv-loop μ-loop
-element-copy-out-row c = search needs
+node-at-requires : tie.Need-node-at-requires Inv-loop μ-loop
+node-at-requires c κs = search needs
 
 node-line-requires : tie.Need-node-line-requires Inv-loop μ-loop
 node-line-requires c κs = search needs
@@ -43,10 +40,9 @@ node-lines-spec =
     (tie.spec
     Inv-loop
     μ-loop
-    at-most-requires
+    node-count-requires
     loop-holds
-    mul-row
-    element-copy-out-row
+    node-at-requires
     node-line-requires
     add-i
     loop-less

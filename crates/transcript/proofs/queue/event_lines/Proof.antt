@@ -5,10 +5,10 @@ use Rattle.transcript.proofs.queue.event_lines.Statement.{statement}
 use Rattle.transcript.proofs.queue.event_lines.Tie as tie
 
 abbrev Inv-loop : tie.InvT-loop
-Inv-loop queue n i₀ i = i ≤ n
+Inv-loop events n i₀ i = i ≤ n
 
 abbrev μ-loop : tie.MeasureT-loop
-μ-loop queue n i₀ i = n - i
+μ-loop events n i₀ i = n - i
 
 at-most-requires : tie.Need-at-most-requires Inv-loop μ-loop
 at-most-requires c κs = search needs
@@ -16,11 +16,8 @@ at-most-requires c κs = search needs
 loop-holds : tie.Need-loop-holds Inv-loop μ-loop
 loop-holds c = search needs
 
-mul-e : tie.Need-mul-e Inv-loop μ-loop
-mul-e c = search needs
-
-element-copy-out-e : tie.Need-element-copy-out-e Inv-loop μ-loop
-element-copy-out-e c = search needs
+event-at-requires : tie.Need-event-at-requires Inv-loop μ-loop
+event-at-requires c κs = search needs
 
 event-line-requires : tie.Need-event-line-requires Inv-loop μ-loop
 event-line-requires c κs = search needs
@@ -45,8 +42,7 @@ event-lines-spec =
     μ-loop
     at-most-requires
     loop-holds
-    mul-e
-    element-copy-out-e
+    event-at-requires
     event-line-requires
     add-i
     loop-less

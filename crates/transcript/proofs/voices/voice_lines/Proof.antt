@@ -5,13 +5,13 @@ use Rattle.transcript.proofs.voices.voice_lines.Statement.{statement}
 use Rattle.transcript.proofs.voices.voice_lines.Tie as tie
 
 abbrev Inv-loop : tie.InvT-loop
-Inv-loop s n i₀ i = i ≤ n
+Inv-loop s nodes edges voices n i₀ i = i ≤ n
 
 abbrev μ-loop : tie.MeasureT-loop
-μ-loop s n i₀ i = n - i
+μ-loop s nodes edges voices n i₀ i = n - i
 
-voice-count-requires : tie.Need-voice-count-requires Inv-loop μ-loop
-voice-count-requires c κs = search needs
+voices-requires : tie.Need-voices-requires Inv-loop μ-loop
+voices-requires c κs = search needs
 
 loop-holds : tie.Need-loop-holds Inv-loop μ-loop
 loop-holds c = search needs
@@ -40,7 +40,7 @@ voice-lines-spec =
     (tie.spec
     Inv-loop
     μ-loop
-    voice-count-requires
+    voices-requires
     loop-holds
     voice-at-requires
     voice-line-requires

@@ -1,4 +1,4 @@
--- `transcript::words::name_word` is safe.
+-- `transcript::line_words::name_word` is safe.
 use Prim.Native.Nat.{ℕ, _≤_}
 use mathlib.Core.Path.{_≡_, sym, _∙_}
 use native.Mathlib.Omega.{arith}
@@ -6,8 +6,8 @@ use lib.ListN.{length, length-take}
 use borrow.Author.Needs.{needs, length-unmapped}
 use borrow.Author.Tests.{not-false}
 use Rattle.node.proofs.NameLaws.{name-long}
-use Rattle.transcript.proofs.words.name_word.Statement.{statement}
-use Rattle.transcript.proofs.words.name_word.Tie as tie
+use Rattle.transcript.proofs.line_words.name_word.Statement.{statement}
+use Rattle.transcript.proofs.line_words.name_word.Tie as tie
 
 -- the name's length is within its array
 within : (c : tie.Else1) → let name = c .before .before .args .name in (name .len ≤ 16) × (length (name .bytes) ≡ 16)

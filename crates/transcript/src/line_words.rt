@@ -3,12 +3,12 @@ use codec::word::and_number;
 use codec::word::and_sample;
 use codec::word::hex_bytes;
 use codec::word::text;
-use node::name::Name;
 use node::name::is_named;
-use node::order::GlideShape;
-use node::order::GlideSpace;
-use node::record::NodeId;
-use voice::policy::Level;
+use piecrag::GlideShape;
+use piecrag::GlideSpace;
+use piecrag::Level;
+use piecrag::Name;
+use piecrag::NodeId;
 
 pub fn id_word(id: NodeId) {
     and_number(id.0 as u64);
