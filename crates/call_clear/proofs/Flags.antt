@@ -5,12 +5,14 @@ use native.Mathlib.Decide.{ℕ-discrete}
 use mathlib.Core.Path.{_≡_, refl, sym, ap, subst, _∙_}
 use mathlib.Core.List.{List, [], _∷_, map}
 use mathlib.Core.Bool.{Bool, true, false, cond}
+use mathlib.Core.Option.{Option, none, some}
 use lib.Dec.{ltb}
 use lib.ListN.{length, take, drop, getD, set, replicate, length-set, length-take, drop-of-length-le, List·getD-eq-default}
 use lib.Seq.{getD-take, getD-set-same, getD-set-other}
 use borrow.Author.Tests.{lt-ltb, ltb-true, ltb-false, eq-eqb, ne-eqb}
 use Rattle.lists.proofs.Table.{left-cons}
-use Rattle.lists.specs.Find.{or?}
+use Rattle.lists.specs.Find.{or?, find, isSome}
+use Rattle.lists.proofs.Find.{find-in, find-none}
 use Rattle.node.specs.declared.record.Node.{Node}
 use Rattle.rank.specs.Order.{count-up}
 use Rattle.graph.specs.Node.{nodeAt}
@@ -21,7 +23,7 @@ use Rattle.synthdef.proofs.PassLaws.{silent-flags}
 use Rattle.store.specs.declared.voices.Voice.{Voice}
 use Rattle.model.specs.Voice.{id}
 use Rattle.model.specs.Clear.{doneFlag, doneFlags, isSilent}
-use Rattle.call_clear.specs.Flags.{PlaceOf, flagAt, FlagsAre}
+use Rattle.call_clear.specs.Flags.{PlaceOf, flagAt, FlagsAre, anyDone}
 
 -- ---- one node more in front
 module _ (first count : ℕ) (x : Node) (l : List Node) where
@@ -71,6 +73,29 @@ none-yet first count = record { long = refl; is = λ j. clear-past 24 j ∙ sym 
     go : (b : Bool) → cond b false false ≡ false
     go true = refl
     go false = refl
+
+-- ---- no node is done
+module _ (ns : List Node) (nobody : anyDone ns ≡ false) where
+  all-clear : find (λ (n : Node). n .done) ns ≡ none
+  all-clear = go (find (λ (n : Node). n .done) ns) nobody
+    where
+      go : (o : Option Node) → isSome o ≡ false → o ≡ none
+      go none e = refl
+      go (some x) e = let z : _≡_ {A = ℕ} 1 0 = ap (λ b. cond b 1 0) e in absurd (omega arith)
+
+  clear-at : (first j : ℕ) → doneFlag (nodeAt ns (id (first + j))) ≡ false
+  clear-at first j = go (nodeAt ns (id (first + j))) refl
+    where
+      go : (o : Option Node) → nodeAt ns (id (first + j)) ≡ o → doneFlag o ≡ false
+      go none e = refl
+      go (some x) e = find-none (λ (n : Node). n .done) ns x all-clear (find-in _ ns x e .0)
+
+  pub none-done : (first count : ℕ) → FlagsAre ns first count (replicate 24 false)
+  none-done first count = record { long = refl; is = λ j. clear-past 24 j ∙ sym (go j (ltb j (min count 24))) }
+    where
+      go : (j : ℕ) (b : Bool) → cond b (doneFlag (nodeAt ns (id (first + j)))) false ≡ false
+      go j true = clear-at first j
+      go j false = refl
 
 -- ---- the walk over the words: the flags by the nodes from row i on
 pub record FlagsFrom (c : List ℕ) (n first count i : ℕ) (flags : List Bool) : Type 0 where

@@ -5,6 +5,7 @@ use mathlib.Core.List.{List}
 use mathlib.Core.Bool.{Bool, false, cond}
 use lib.Dec.{ltb}
 use lib.ListN.{length, getD}
+use Rattle.lists.specs.Find.{find, isSome}
 use Rattle.node.specs.declared.record.Node.{Node}
 use Rattle.graph.specs.Node.{nodeAt}
 use Rattle.model.specs.Voice.{id}
@@ -22,3 +23,7 @@ flagAt ns first count j = cond (ltb j (min count 24)) (doneFlag (nodeAt ns (id (
 pub record FlagsAre (ns : List Node) (first count : ℕ) (flags : List Bool) : Type 0 where
   pub long : length flags ≡ 24
   pub is : (j : ℕ) → getD flags j false ≡ flagAt ns first count j
+
+-- some node is done
+abbrev pub anyDone : List Node → Bool
+anyDone ns = isSome (find (λ (n : Node). n .done) ns)

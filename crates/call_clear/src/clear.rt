@@ -1,3 +1,4 @@
+use crate::silence::has_done;
 use crate::silence::is_silent;
 use bus::fade_length;
 use call_free::forget::forget_voices;
@@ -18,6 +19,7 @@ ghost use Rattle.model.specs.Call.{clear, removed};
 ghost use Rattle.memory.specs.View.{Memory, modelOf};
 ghost use Rattle.memory.specs.Lent.{lentVoices};
 ghost use Rattle.memory.specs.Called.{Called};
+ghost use Rattle.call_clear.specs.Flags.{anyDone};
 ghost use Rattle.call_clear.specs.Passes.{leaves, passBy, cleared, Gathered};
 
 // The state that a clearing left, and how many voices it removed.
@@ -32,12 +34,22 @@ struct Leaving {
     count: usize,
 }
 
-// Whether the voice in row `i` is removed: in the second pass if its plan is silent, in the first if its fade has ended.
-fn is_leaving(silent: bool, len: u64, nodes: &[u32], n: usize, voices: &[u32], i: usize) -> bool
+// Whether the voice in row `i` is removed: in the second pass if its plan is silent, in the first if its fade has ended. `done` says
+// whether any node is done.
+fn is_leaving(
+    silent: bool,
+    len: u64,
+    nodes: &[u32],
+    n: usize,
+    done: bool,
+    voices: &[u32],
+    i: usize,
+) -> bool
+    requires { ⌜ done ≡ anyDone (take n (nodesIn (now nodes))) ⌝ }
     ensures { λ r. ⌜ r ≡ leaves silent len (take n (nodesIn (now (nodes .entry)))) (getD (voicesIn (now (voices .entry))) i (voiceOf [])) ⌝ }
 {
     if silent {
-        return is_silent(nodes, n, voices, i);
+        return is_silent(nodes, n, done, voices, i);
     }
     ended_at(voices, i, len)
 }
@@ -55,11 +67,12 @@ fn leaving_ids(
     ensures { λ r. ⌜ Gathered (leaves silent len (take n (nodesIn (now (nodes .entry))))) (take count (voicesIn (now (voices .entry)))) r ⌝ }
 {
     let room = at_most(count, 64);
+    let done = has_done(nodes, n);
     let mut ids = [0u64; 64];
     let mut k: usize = 0;
     let mut i: usize = 0;
     while i < room {
-        if is_leaving(silent, len, nodes, n, voices, i) {
+        if is_leaving(silent, len, nodes, n, done, voices, i) {
             ids[k] = id_at(voices, i).0;
             k += 1;
             i += 1;

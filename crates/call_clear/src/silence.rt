@@ -12,7 +12,7 @@ ghost use lib.ListN.{take, getD};
 ghost use Rattle.graph_rows.specs.Node.{nodesIn};
 ghost use Rattle.voice_rows.specs.Rows.{voiceOf, voicesIn};
 ghost use Rattle.model.specs.Clear.{isSilent};
-ghost use Rattle.call_clear.specs.Flags.{PlaceOf, FlagsAre};
+ghost use Rattle.call_clear.specs.Flags.{PlaceOf, FlagsAre, anyDone};
 
 // Which node of the definition, whose nodes have consecutive ids from `first` on, has this id; 24 or more if none has.
 fn place_from(first: u32, id: u32) -> usize
@@ -42,10 +42,38 @@ fn done_flags(nodes: &[u32], n: usize, first: u32, count: u32) -> [bool; 24]
     flags
 }
 
-// Whether the done plan of the voice in row `i` is silent.
-pub fn is_silent(nodes: &[u32], n: usize, voices: &[u32], i: usize) -> bool
+// Whether one of the first `n` nodes is done.
+pub fn has_done(nodes: &[u32], n: usize) -> bool
+    ensures { λ r. ⌜ r ≡ anyDone (take n (nodesIn (now (nodes .entry)))) ⌝ }
+{
+    let m = at_most(n, nodes.len() / 21);
+    let mut i: usize = 0;
+    while i < m {
+        if done_at(nodes, i) {
+            return true;
+        }
+        i += 1;
+    }
+    false
+}
+
+// The same flags; where no node is done, as in most blocks, nothing is looked for.
+fn known_flags(nodes: &[u32], n: usize, done: bool, first: u32, count: u32) -> [bool; 24]
+    requires { ⌜ done ≡ anyDone (take n (nodesIn (now nodes))) ⌝ }
+    ensures { λ r. ⌜ FlagsAre (take n (nodesIn (now (nodes .entry)))) first count r ⌝ }
+{
+    if done {
+        return done_flags(nodes, n, first, count);
+    }
+    [false; 24]
+}
+
+// Whether the done plan of the voice in row `i` is silent; `done` says whether any node is done.
+pub fn is_silent(nodes: &[u32], n: usize, done: bool, voices: &[u32], i: usize) -> bool
+    requires { ⌜ done ≡ anyDone (take n (nodesIn (now nodes))) ⌝ }
     ensures { λ r. ⌜ r ≡ isSilent (take n (nodesIn (now (nodes .entry)))) (getD (voicesIn (now (voices .entry))) i (voiceOf [])) ⌝ }
 {
-    let flags = done_flags(nodes, n, first_at(voices, i).0, count_at(voices, i));
+    let first = first_at(voices, i).0;
+    let flags = known_flags(nodes, n, done, first, count_at(voices, i));
     silent_at(voices, i, flags)
 }

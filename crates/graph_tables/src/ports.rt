@@ -18,8 +18,15 @@ ghost use Rattle.edges.specs.Ports.{portOf, freePort, feeds, sources};
 ghost use Rattle.graph_rows.specs.Edge.{edgeOf, edgesIn};
 ghost use Rattle.graph_tables.specs.Fed.{isFed, node, feedingOf};
 
+// The node at which the edge in row `i` ends.
+fn to_at(t: &[u32], i: usize) -> NodeId
+    ensures { λ r. ⌜ r ≡ getD (edgesIn (now (t .entry))) i (edgeOf []) .to ⌝ }
+{
+    NodeId(word_at(t, 3, i, 1))
+}
+
 // The source of each of the ports 0 to 63 of `node`: one walk over the edges, from the last to the first, so that of two
-// edges at one port the first counts.
+// edges at one port the first counts. Most edges end elsewhere: of these one word is read.
 fn sources_in(t: &[u32], count: usize, node: NodeId) -> [Source; 64]
     ensures { λ r. ⌜ r ≡ sources (take count (edgesIn (now (t .entry)))) node ⌝ }
 {
@@ -27,8 +34,8 @@ fn sources_in(t: &[u32], count: usize, node: NodeId) -> [Source; 64]
     let mut i = at_most(count, t.len() / 3);
     while i > 0 {
         i -= 1;
-        let e = edge_at(t, i);
-        if e.to.0 == node.0 {
+        if to_at(t, i).0 == node.0 {
+            let e = edge_at(t, i);
             let p = e.port;
             let from = e.from;
             if p < 64 {

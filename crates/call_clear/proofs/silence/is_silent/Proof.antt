@@ -16,8 +16,8 @@ first-at-requires c κs = search needs
 count-at-requires : tie.Need-count-at-requires
 count-at-requires c κs = search needs
 
-done-flags-requires : tie.Need-done-flags-requires
-done-flags-requires c κs = search needs
+known-flags-requires : tie.Need-known-flags-requires
+known-flags-requires c κs = search needs
 
 silent-at-requires : tie.Need-silent-at-requires
 silent-at-requires c κs = search needs
@@ -27,7 +27,7 @@ returns c =
     let a = c .before .before .before .before .before .before .args in
     let ns = take (a .n) (nodesIn (a .nodes .now)) in
     let v = getD (voicesIn (a .voices .now)) (a .i) (voiceOf []) in
-    let flags = c .before .done-flags in
+    let flags = c .before .known-flags in
     let count = c .before .before .count-at in
     let first = c .before .before .before .first-at in
     let by-first = subst (λ (k : NodeId). FlagsAre ns (k .0) (count .result) (flags .result)) (first .ensures) (flags .ensures) in
@@ -36,4 +36,4 @@ returns c =
 pub is-silent-spec : {M : Type 1} → statement M
 is-silent-spec =
     tie.close
-    (tie.spec first-at-requires count-at-requires done-flags-requires silent-at-requires returns)
+    (tie.spec first-at-requires count-at-requires known-flags-requires silent-at-requires returns)

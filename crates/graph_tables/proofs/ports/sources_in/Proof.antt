@@ -15,6 +15,8 @@ use Rattle.words.proofs.InWords.{SeekingIn, seek-start, seek-hit, seek-next, se
 use Rattle.edges.specs.Wiring.{endsAt, taken}
 use Rattle.edges.specs.Ports.{portOf, lowest, feeds, sources, sourceAt, sourceOf}
 use Rattle.edges.proofs.Search.{Says, says-hit, says-port, says-node, says-all, row-before, lowest-found, lowest-pass, lowest-none}
+use Rattle.node.specs.declared.record.NodeId.{NodeId}
+use Rattle.node.specs.declared.record.Edge.{Edge}
 use Rattle.graph_rows.specs.Edge.{edgeOf, edgesIn}
 use Rattle.graph_tables.specs.Fed.{isFed}
 use Rattle.graph_tables.proofs.Fed.{fed-taken}
@@ -48,6 +50,9 @@ loop-holds c =
 sub-i : tie.Need-sub-i Inv-loop μ-loop
 sub-i c = search needs
 
+to-at-requires : tie.Need-to-at-requires Inv-loop μ-loop
+to-at-requires c κs = search needs
+
 edge-at-requires : tie.Need-edge-at-requires Inv-loop μ-loop
 edge-at-requires c κs = search needs
 
@@ -65,27 +70,29 @@ loop-less c = search needs
 
 loop-again : tie.Need-loop-again Inv-loop μ-loop
 loop-again c =
-    let s = c .before .before .before .before .before .before .before .before .before .before in
-    let m = c .before .before .before .before .before .before .before .before .at-most in
-    let l = c .before .before .before .before .before .before .before .loop in
-    let e = c .before .before .before .before .before .edge-at in
+    let s = c .before .before .before .before .before .before .before .before .before .before .before in
+    let m = c .before .before .before .before .before .before .before .before .before .at-most in
+    let l = c .before .before .before .before .before .before .before .before .loop in
+    let e = c .before .before .edge-at in
+    let to = c .before .before .before .before .before .before .to-at in
     let rows = edgesIn (s .args .t .now) in
-    let some-left : 0 < l .i = c .before .before .before .before .before .before .loop-test .taken in
+    let some-left : 0 < l .i = c .before .before .before .before .before .before .before .loop-test .taken in
     let inside : m .result ≤ length rows = omega (arith, m .ensures, rows-long 3 edgeOf (s .args .t .now)) in
     let row = row-before rows (m .result) (l .i) (edgeOf []) some-left (l .inv .0) inside ∙ ap (λ x. x ∷ drop (l .i) (take (m .result) rows)) (sym (e .ensures)) in
-    (omega arith, says-hit (l .table) (e .result) (drop (l .i) (take (m .result) rows)) (s .args .node) _ row (l .inv .1) (c .before .before .if1 .taken) (c .if2 .taken))
+    let ends = ap (λ (x : Edge). x .to .0) (e .ensures) ∙ sym (ap (λ (k : NodeId). k .0) (to .ensures)) ∙ c .before .before .before .if1 .taken in
+    (omega arith, says-hit (l .table) (e .result) (drop (l .i) (take (m .result) rows)) (s .args .node) _ row (l .inv .1) ends (c .if2 .taken))
 
 loop-less-2 : tie.Need-loop-less-2 Inv-loop μ-loop
 loop-less-2 c = search needs
 
 loop-again-2 : tie.Need-loop-again-2 Inv-loop μ-loop
 loop-again-2 c =
-    let s = c .before .before .before .before .before .before .before .before .before .before in
-    let m = c .before .before .before .before .before .before .before .before .at-most in
-    let l = c .before .before .before .before .before .before .before .loop in
-    let e = c .before .before .before .before .before .edge-at in
+    let s = c .before .before .before .before .before .before .before .before .before .before .before in
+    let m = c .before .before .before .before .before .before .before .before .before .at-most in
+    let l = c .before .before .before .before .before .before .before .before .loop in
+    let e = c .before .before .edge-at in
     let rows = edgesIn (s .args .t .now) in
-    let some-left : 0 < l .i = c .before .before .before .before .before .before .loop-test .taken in
+    let some-left : 0 < l .i = c .before .before .before .before .before .before .before .loop-test .taken in
     let inside : m .result ≤ length rows = omega (arith, m .ensures, rows-long 3 edgeOf (s .args .t .now)) in
     let row = row-before rows (m .result) (l .i) (edgeOf []) some-left (l .inv .0) inside ∙ ap (λ x. x ∷ drop (l .i) (take (m .result) rows)) (sym (e .ensures)) in
     (omega arith, says-port (l .table) (e .result) (drop (l .i) (take (m .result) rows)) (s .args .node) _ row (l .inv .1) (c .if2 .left))
@@ -98,12 +105,12 @@ loop-again-3 c =
     let s = c .before .before .before .before .before .before .before .before in
     let m = c .before .before .before .before .before .before .at-most in
     let l = c .before .before .before .before .before .loop in
-    let e = c .before .before .before .edge-at in
+    let to = c .before .before .before .to-at in
     let rows = edgesIn (s .args .t .now) in
     let some-left : 0 < l .i = c .before .before .before .before .loop-test .taken in
     let inside : m .result ≤ length rows = omega (arith, m .ensures, rows-long 3 edgeOf (s .args .t .now)) in
-    let row = row-before rows (m .result) (l .i) (edgeOf []) some-left (l .inv .0) inside ∙ ap (λ x. x ∷ drop (l .i) (take (m .result) rows)) (sym (e .ensures)) in
-    (omega arith, says-node (l .table) (e .result) (drop (l .i) (take (m .result) rows)) (s .args .node) _ row (l .inv .1) (c .if1 .left))
+    let row = row-before rows (m .result) (l .i) (edgeOf []) some-left (l .inv .0) inside in
+    (omega arith, says-node (l .table) (getD rows (l .i - 1) (edgeOf [])) (drop (l .i) (take (m .result) rows)) (s .args .node) _ row (l .inv .1) (λ q. c .if1 .left (ap (λ (k : NodeId). k .0) (to .ensures) ∙ q)))
 
 returns : tie.Need-returns Inv-loop μ-loop
 returns c =
@@ -124,6 +131,7 @@ sources-in-spec =
     at-most-requires
     loop-holds
     sub-i
+    to-at-requires
     edge-at-requires
     cast-table
     mul-table

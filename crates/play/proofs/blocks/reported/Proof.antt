@@ -2,7 +2,7 @@
 use Prim.Native.Nat.{_≤_}
 use native.Mathlib.Omega.{arith}
 use borrow.Author.Needs.{needs}
-use Rattle.wire.proofs.Part.{counted}
+use Rattle.codec.proofs.Part.{counted}
 use Rattle.play.proofs.blocks.reported.Statement.{statement}
 use Rattle.play.proofs.blocks.reported.Tie as tie
 
