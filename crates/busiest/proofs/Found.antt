@@ -15,7 +15,7 @@ use Rattle.busiest.specs.declared.stretch.Scan.{Scan}
 use Rattle.busiest.specs.Stretch.{within, fallsFrom, falls, largest, firstOf, Answer, refused, gives, busiest, BusiestStretch}
 use Rattle.busiest.specs.Scan.{begun, grown, moved, advanced, scanFrom, scanned, concluded}
 use Rattle.busiest.proofs.Rises.{Rises, falls-not, falls-to, falls-from, rises-take}
-use Rattle.busiest.proofs.FoundNode.{FoundNode, seen-none, seen-grown, seen-kept}
+use Rattle.busiest.proofs.Seen.{Seen, seen-none, seen-grown, seen-kept}
 use Rattle.busiest.proofs.Theorem.{some-inside, seen-stretch, seen-largest, seen-first}
 
 -- ---- one record more
@@ -82,7 +82,7 @@ module _ (xs : List ℕ) where
   module _ (w : ℕ) (wide : 0 < w) (rises : Rises 0 xs) where
     -- what is known of the first i records, and where `head` stands
     abbrev Known : ℕ → Scan → Type 0
-    Known i s = (s .width ≡ w) × (s .head + s .most ≡ i) × FoundNode w (take i xs) (s .most) (s .first)
+    Known i s = (s .width ≡ w) × (s .head + s .most ≡ i) × Seen w (take i xs) (s .most) (s .first)
 
     known-next : (i : ℕ) (s : Scan) → i < length xs → Known i s → Known (i + 1) (advanced s (getD xs (s .head) 0) (getD xs i 0))
     known-next i s less known =
@@ -116,7 +116,7 @@ module _ (xs : List ℕ) where
         test : (b : Bool) → within (s .width) x y ≡ b → within w (getD (p ++ (y ∷ [])) (length p - s .most) 0) y ≡ b
         test b e = ap (λ a. within w a y) head ∙ ap (λ v. within v x y) (sym (known .0)) ∙ e
 
-        go : (b : Bool) → within (s .width) x y ≡ b → FoundNode w (take (i + 1) xs) (cond b (grown s x y) (moved s y) .most) (cond b (grown s x y) (moved s y) .first)
+        go : (b : Bool) → within (s .width) x y ≡ b → Seen w (take (i + 1) xs) (cond b (grown s x y) (moved s y) .most) (cond b (grown s x y) (moved s y) .first)
         go true e =
             let g = seen-grown w (s .most) (s .first) p y wide up (known .2) (test true e) in
             rw row (rw head at g)
@@ -129,7 +129,7 @@ module _ (xs : List ℕ) where
         let on : i + 1 + k ≡ length xs = omega arith in
         known-all k (i + 1) (advanced s (getD xs (s .head) 0) (getD xs i 0)) on (known-next i s less known)
 
-    pub seen-all : FoundNode w xs (scanned w xs .most) (scanned w xs .first)
+    pub seen-all : Seen w xs (scanned w xs .most) (scanned w xs .first)
     seen-all =
         let z = scanned w xs in
         let all : Known (length xs) z = known-all (length xs) 0 (begun w) (omega arith) (refl, refl, seen-none w 0) in

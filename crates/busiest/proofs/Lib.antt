@@ -1,6 +1,6 @@
 pub mod Examples
 pub mod Rises
-pub mod FoundNode
+pub mod Seen
 pub mod Theorem
 pub mod Found
 pub mod Rows

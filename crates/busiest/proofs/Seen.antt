@@ -42,17 +42,17 @@ module _ (w a x : ℕ) where
       go false e = let over = ltb-false (x - a) w e in e ∙ sym (le-ltb x (a + w) (omega arith))
 
 -- No stretch of w samples holds more than n of the records p; the one from x on holds n; none that starts at an earlier record does.
-pub record FoundNode (w : ℕ) (p : List ℕ) (n x : ℕ) : Type 0 where
+pub record Seen (w : ℕ) (p : List ℕ) (n x : ℕ) : Type 0 where
   pub no-more : (a : ℕ) → inside w a p ≤ n
   pub as-many : inside w x p ≡ n
   pub earlier : (a : ℕ) → In a p → a < x → inside w a p < n
   pub met : 0 < length p → In x p
 
-pub seen-none : (w x : ℕ) → FoundNode w [] 0 x
+pub seen-none : (w x : ℕ) → Seen w [] 0 x
 seen-none w x = record { no-more = λ a. omega arith; as-many = refl; earlier = λ a i. absurd i; met = λ h. absurd (omega arith) }
 
 -- one record more, at the sample y
-module _ (w n x : ℕ) (p : List ℕ) (y : ℕ) (wide : 0 < w) (rises : Rises 0 (p ++ (y ∷ []))) (seen : FoundNode w p n x) where
+module _ (w n x : ℕ) (p : List ℕ) (y : ℕ) (wide : 0 < w) (rises : Rises 0 (p ++ (y ∷ []))) (seen : Seen w p n x) where
   abbrev l : List ℕ
   l = p ++ (y ∷ [])
 
@@ -94,7 +94,7 @@ module _ (w n x : ℕ) (p : List ℕ) (y : ℕ) (wide : 0 < w) (rises : Rises 0 
       go false e = let c = before a (old (in-snoc p y a i) e) less in let m = one-more a false e in omega arith
 
   -- the stretch from h on holds y: one more
-  pub seen-grown : within w h y ≡ true → FoundNode w l (n + 1) h
+  pub seen-grown : within w h y ≡ true → Seen w l (n + 1) h
   seen-grown e = record { no-more = no-more; as-many = as-many; earlier = earlier-on (n + 1) h no-more as-many before; met = λ _. in-get l (length p - n) (omega (arith, long, fits)) }
     where
       no-more : (a : ℕ) → inside w a l ≤ n + 1
@@ -114,7 +114,7 @@ module _ (w n x : ℕ) (p : List ℕ) (y : ℕ) (wide : 0 < w) (rises : Rises 0 
       before a i less = let c = seen .no-more a in omega arith
 
   -- it does not: no stretch that holds y holds more than n
-  pub seen-kept : within w h y ≡ false → FoundNode w l n x
+  pub seen-kept : within w h y ≡ false → Seen w l n x
   seen-kept e = record { no-more = no-more; as-many = as-many; earlier = earlier-on n x no-more as-many (seen .earlier); met = λ _. in-left p (y ∷ []) x (seen .met some) }
     where
       past : h + w ≤ y

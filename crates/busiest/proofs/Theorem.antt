@@ -17,7 +17,7 @@ use Rattle.lists.proofs.Find.{find-in, find-none}
 use Rattle.lists.proofs.Count.{count-none}
 use Rattle.busiest.specs.Stretch.{within, inside, largest, firstOf, BusiestStretch}
 use Rattle.busiest.proofs.Rises.{Rises, count-le, count-some, find-least}
-use Rattle.busiest.proofs.FoundNode.{within-from, within-to, within-on, FoundNode}
+use Rattle.busiest.proofs.Seen.{within-from, within-to, within-on, Seen}
 
 -- it names one number and one sample
 pub only : (w : ℕ) (xs : List ℕ) (n x m y : ℕ) → BusiestStretch w xs n x → BusiestStretch w xs m y → (n ≡ m) × (x ≡ y)
@@ -54,7 +54,7 @@ module _ (q : ℕ → Bool) where
 
 -- ---- what the walk knows at the end is that
 
-module _ (w : ℕ) (xs : List ℕ) (n x : ℕ) (wide : 0 < w) (rises : Rises 0 xs) (some-record : 0 < length xs) (seen : FoundNode w xs n x) where
+module _ (w : ℕ) (xs : List ℕ) (n x : ℕ) (wide : 0 < w) (rises : Rises 0 xs) (some-record : 0 < length xs) (seen : Seen w xs n x) where
   self : (a : ℕ) → within w a a ≡ true
   self a = within-on w a a (omega arith) (omega arith)
 

@@ -29,6 +29,13 @@ const COMPARED: [(&str, u32, Scene, Scene, f64); 4] = [
     ("port search, 64 ports, 1,024 edges", 10_000, |n| scenes::ports(64, n), |n| rust::ports(64, n), 1.0),
 ];
 
+/// Fades and sums of blocks of 128 samples, stereo, at 48 kHz: in floats, and in whole numbers.
+const FORMS: [(&str, u32, store::Rounds, store::Rounds); 3] = [
+    ("fade output, 240 gains lent", 100_000, store::piecrag_fade_floats, store::piecrag_fade_whole),
+    ("fade output, the fade table", 10_000, store::piecrag_table_floats, store::piecrag_table_whole),
+    ("bus sum, 64 ports", 10_000, store::piecrag_sum_floats, store::piecrag_sum_whole),
+];
+
 fn kept(value: f64, goal: f64) -> &'static str {
     if value <= goal { "kept" } else { "MISSED" }
 }
@@ -53,6 +60,17 @@ fn compare(repetitions: usize) {
     }
     let ratio = times[3] / times[2];
     println!("{:82}{ratio:8.3}{:7.2}  {}", "port search of the store, 64 ports to 1 port", 1.5, kept(ratio, 1.5));
+}
+
+fn compare_forms(repetitions: usize) {
+    println!("\n{:54}{:>8}{:>10}{:>10}{:>8}{:>7}", "a block", "rounds", "floats µs", "whole µs", "ratio", "goal");
+    for (name, rounds, floats, whole) in FORMS {
+        let (refused, first) = repeated(repetitions, || time::timed(rounds, || floats(rounds)));
+        let (also, second) = repeated(repetitions, || time::timed(rounds, || whole(rounds)));
+        assert_eq!((refused, also), (0, 0), "no round is refused");
+        let ratio = second / first;
+        println!("{name:54}{rounds:8}{first:10.3}{second:10.3}{ratio:8.3}{:7.2}  {}", 1.0, kept(ratio, 1.0));
+    }
 }
 
 fn time_calls(repetitions: usize) {
@@ -85,6 +103,7 @@ fn main() {
     let asked = env::args().nth(1).map(|n| n.parse().expect("usage: bench [REPETITIONS]"));
     let repetitions: usize = asked.unwrap_or(7).max(1);
     compare(repetitions);
+    compare_forms(repetitions);
     time_calls(repetitions);
     measure_stacks();
 }

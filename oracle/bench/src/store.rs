@@ -32,7 +32,16 @@ impl Store {
     }
 }
 
+/// So many rounds of a scene of `mixing_timing`: how many were refused.
+pub type Rounds = extern "C" fn(u32) -> u32;
+
 unsafe extern "C" {
+    pub safe fn piecrag_fade_floats(rounds: u32) -> u32;
+    pub safe fn piecrag_fade_whole(rounds: u32) -> u32;
+    pub safe fn piecrag_table_floats(rounds: u32) -> u32;
+    pub safe fn piecrag_table_whole(rounds: u32) -> u32;
+    pub safe fn piecrag_sum_floats(rounds: u32) -> u32;
+    pub safe fn piecrag_sum_whole(rounds: u32) -> u32;
     pub safe fn piecrag_make(state: &mut State, budget: usize, policy: u32) -> u32;
     pub safe fn piecrag_add_node(state: &mut State, nodes: &mut Nodes, ports: u32) -> u32;
     pub safe fn piecrag_remove_node(state: &mut State, nodes: &mut Nodes, edges: &mut Edges, node: u32) -> u32;
