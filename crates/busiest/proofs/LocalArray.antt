@@ -14,7 +14,7 @@ use base.Logic.{ent, sep}
 use base.Fml.{Fml, fsep, fat, froom}
 use prog.Wp.{Heap}
 use ghost.Atoms.{Atoms, sem}
-use types.Kit.{AddAnswer, ‵, _⊛_, ⋆, _$_, _∵_, !, qed, by, move, use1, use2, drop as toss, split, rewrite, fsplit, fjoin, fpick, fpack, feqI, done}
+use types.Kit.{Given, ‵, _⊛_, ⋆, _$_, _∵_, !, qed, by, move, use1, use2, drop as toss, split, rewrite, fsplit, fjoin, fpick, fpack, feqI, done}
 use types.SemTy.{cells}
 use types.Share.{arr-parts}
 use denote.RattleType.{RattleType}
@@ -36,7 +36,7 @@ Rows R k xs b = arr-parts (shares R) k .part fullShare xs b 0
 abbrev pub Later : (R : RattleType) → ℕ → List (R .Denot) → ℕ → Fml
 Later R n xs b = cells (Sh R fullShare) (drop n xs) b (at 0 (mem R .size) (length (take n xs)))
 
-module _ {M : Type 1} (𝓤 : URA M) (H : Heap 𝓤) (A : Atoms 𝓤) (W : AddAnswer 𝓤 H A) (R : RattleType) (N : ℕ) where
+module _ {M : Type 1} (𝓤 : URA M) (H : Heap 𝓤) (A : Atoms 𝓤) (W : Given 𝓤 H A) (R : RattleType) (N : ℕ) where
   pub array-in : Single (R .mir) → (xs : List (R .Denot)) (b : ℕ) (v : Val) → ent 𝓤 (⋆ 𝓤 H A (‵ (fat fullShare (local R N) b 0 v) ∷ ‵ (Array R N .own xs (v ∷ [])) ∷ [])) (sem 𝓤 H A (Rows R N xs b))
   unfolding partOf
   array-in single xs b v =

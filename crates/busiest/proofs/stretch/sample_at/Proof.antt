@@ -19,7 +19,7 @@ use prog.Wp.{Heap, Calls, Loops, WpFn, Tables}
 use ghost.Atoms.{Atoms}
 use contract.Monad.{Fun}
 use contract.Running.{givenOf, tables, tablesOf}
-use types.Kit.{AddAnswer, ‵, _⊛_, ⋆, _$_, _∵_, !, qed, by, move, filter, split, join, rewrite, fsplit, fjoin, suffices, frame, done}
+use types.Kit.{Given, ‵, _⊛_, ⋆, _$_, _∵_, !, qed, by, move, keep, split, join, rewrite, fsplit, fjoin, suffices, frame, done}
 use types.Part.{whole, sub, look-in}
 use types.Run.{look, init, forget, stop, hop, fld, from, load, lit, of-opd, bin, assigns, returns, enter, alloc1, alloc0, params1, pass1, pass0, free1, free0}
 use sound.WpLaws.{WpFn-mono}
@@ -57,7 +57,7 @@ stayed = (stay-none-slice (0 ∷ []) tt (plain (λ _. R.the-row)) yes, (stay-non
 abbrev vals : StealRecord → List Val
 vals = LL.vals R.the-type R′.the-laws
 
-module _ {M : Type 1} (𝓤 : URA M) (H : Heap 𝓤) (A : Atoms 𝓤) (W : AddAnswer 𝓤 H A) (mm : Memory → SProp 𝓤) (run : Routine → Fun 𝓤) (κ : Lft) (q : Share) (b o : ℕ) (γ : GName) (ys : List StealRecord) (i : ℕ) where
+module _ {M : Type 1} (𝓤 : URA M) (H : Heap 𝓤) (A : Atoms 𝓤) (W : Given 𝓤 H A) (mm : Memory → SProp 𝓤) (run : Routine → Fun 𝓤) (κ : Lft) (q : Share) (b o : ℕ) (γ : GName) (ys : List StealRecord) (i : ℕ) where
   abbrev x : RefT (List StealRecord) × (ℕ × Unit {0})
   x = (record { ptr = (b, o); name = γ; now = ys }, (i, tt))
 
@@ -98,18 +98,18 @@ module _ {M : Type 1} (𝓤 : URA M) (H : Heap 𝓤) (A : Atoms 𝓤) (W : AddAn
         elem-back ! R.the-row q′ ys i noRecord (vals elem) b o l $ shuts-slice ! tt R.the-row q′ ys b o $
         returns ! (look ! 14 refl) $ forget ! 6 refl $ forget ! 8 refl $ forget ! 10 refl $ forget ! 12 refl $ forget ! 14 refl $
         move ! (14 ∷ 15 ∷ []) $ free1 ! $ move ! (12 ∷ 13 ∷ []) $ free1 ! $ move ! (10 ∷ 11 ∷ []) $ free1 ! $ move ! (8 ∷ 9 ∷ []) $ free1 ! $ move ! (6 ∷ 7 ∷ []) $ free1 ! $ free0 ! $
-        move ! (3 ∷ 1 ∷ []) $ fjoin ! $ move ! (3 ∷ 0 ∷ []) $ fjoin ! $ move ! (3 ∷ []) $ fsplit ! $ filter ! (3 ∷ 2 ∷ 0 ∷ []) $ by ! (exits (sample-fits g)))))))))
+        move ! (3 ∷ 1 ∷ []) $ fjoin ! $ move ! (3 ∷ 0 ∷ []) $ fjoin ! $ move ! (3 ∷ []) $ fsplit ! $ keep ! (3 ∷ 2 ∷ 0 ∷ []) $ by ! (exits (sample-fits g)))))))))
 
 scaled : (n i : ℕ) → i < n → n * 16 < 2 ^ 63 → i * 16 < 2 ^ 64
 scaled n i l r = omega arith
 
-module _ {M : Type 1} (𝓤 : URA M) (H : Heap 𝓤) (A : Atoms 𝓤) (W : AddAnswer 𝓤 H A) (mm : Memory → SProp 𝓤) (run : Routine → Fun 𝓤) where
+module _ {M : Type 1} (𝓤 : URA M) (H : Heap 𝓤) (A : Atoms 𝓤) (W : Given 𝓤 H A) (mm : Memory → SProp 𝓤) (run : Routine → Fun 𝓤) where
   sample-walks : (C : Calls 𝓤 H) (Λ : Loops 𝓤 H) → Walks 𝓤 H A sample-at.ended stayed (WpFn 𝓤 H C Λ code.function) (sample-at.clauses 𝓤 H A mm run)
   sample-walks C Λ = walked 𝓤 H A sample-at.ended stayed (sample-at.clauses 𝓤 H A mm run) (WpFn 𝓤 H C Λ code.function) (λ κs. (slice-vals, (uint-vals w64, tt))) (λ κs. (shr-slice-tells (named 0) (κs .0) R.the-row, (uint-tells w64, tt)))
       (λ κs qs bounds a g are. needs 𝓤 (a .1 .0 < length (now (a .0))) _ (λ l.
       walk 𝓤 H A W mm run (κs .0) (qs .0) (a .0 .ptr .0) (a .0 .ptr .1) (a .0 .name) (a .0 .now) (a .1 .0) C Λ (are .0) (are .1 .0 .1) (scaled (length (a .0 .now)) (a .1 .0) l (are .0 .0 .1 .1)) l))
 
-sample-meets : {M : Type 1} (𝓤 : URA M) (H : Heap 𝓤) (A : Atoms 𝓤) → AddAnswer 𝓤 H A → (mm : Memory → SProp 𝓤) (run : Routine → Fun 𝓤) (𝓣 : Tables 𝓤 H)
+sample-meets : {M : Type 1} (𝓤 : URA M) (H : Heap 𝓤) (A : Atoms 𝓤) → Given 𝓤 H A → (mm : Memory → SProp 𝓤) (run : Routine → Fun 𝓤) (𝓣 : Tables 𝓤 H)
     → Meets 𝓤 H A sample-at.signature (WpFn 𝓤 H (𝓣 .C) (𝓣 .Λ) code.function) (sample-at.spec 𝓤 H A mm run)
 sample-meets 𝓤 H A W mm run 𝓣 = walk-meets 𝓤 H A sample-at.ended stayed W (goes-none-slice 𝓤 H A W 1 (0 ∷ []) tt (plain (λ _. R.the-row)) yes, (goes-none 𝓤 H A W 1 (λ _. usize) yes (λ κs x f. refl), tt)) (sample-at.clauses 𝓤 H A mm run) (WpFn 𝓤 H (𝓣 .C) (𝓣 .Λ) code.function) (WpFn-mono 𝓤 H (W .laws) 𝓣 code.function) (sample-walks 𝓤 H A W mm run (𝓣 .C) (𝓣 .Λ))
 
