@@ -78,16 +78,21 @@ pub fn gain_room() -> [u32; 2048]
     [0; 2048]
 }
 
-// With its sign: 2^31 is added first, so that the rest has none.
+// 2^31 more than the sample, which has no sign.
+fn raised(x: i32) -> u32 {
+    (x as i64 + 2147483648) as u32
+}
+
+// With its sign.
 fn and_sample(x: i32) {
-    let y = (x as i64 + 2147483648) as u32;
+    let y = raised(x) as u64;
     if y < 2147483648 {
         text(b" -");
-        number((2147483648 - y) as u64);
+        number(2147483648 - y);
         return;
     }
     text(b" ");
-    number((y - 2147483648) as u64);
+    number(y - 2147483648);
 }
 
 pub fn and_samples(xs: &[i32]) {
