@@ -19,10 +19,10 @@ use prog.Routine.{Routine}
 use prog.Wp.{Heap, WpFn, Tables}
 use ghost.Atoms.{Atoms, sem}
 use contract.Monad.{Fun, fact}
-use types.Kit.{Given, Item, ‵, raw, some, later, _⊛_, ⋆, _$_, _∵_, !, qed, by, move, filter, use1, use2, split, join, pick, rewrite, fsplit, fjoin, suffices, frame, await, done}
+use types.Kit.{Given, Item, ‵, raw, some, later, _⊛_, ⋆, _$_, _∵_, !, qed, by, move, keep, use1, use2, split, join, pick, rewrite, fsplit, fjoin, suffices, frame, await, done}
 use types.Tokens.{lft-new, lft-end, lent-back}
 use types.Part.{agg}
-use types.Run.{look, init, forget, stop, from, load, of-opd, addr, and-then, no-more, assigns, instantiate, returns, enter, alloc1, alloc0, params1, pass1, pass0, free1, free0}
+use types.Run.{look, init, forget, stop, from, load, of-opd, addr, and-then, no-more, assigns, land, returns, enter, alloc1, alloc0, params1, pass1, pass0, free1, free0}
 use sound.WpLaws.{fmOf, WpFn-mono}
 use denote.RattleType.{RattleType, owns}
 use denote.Laws.{Is, shows}
@@ -174,7 +174,7 @@ module _ {M : Type 1} (𝓤 : URA M) (H : Heap 𝓤) (A : Atoms 𝓤) (W : Given
         split ! $ move ! (1 ∷ []) $ use1 W (raw (fact 𝓤 (said r ≡ busiest w (samples (take n rows))))) (stretch-said (α ∷ []) l₄ γ r) $ heard ! (said r ≡ busiest w (samples (take n rows))) (λ e. split ! $ split ! $ move ! (2 ∷ []) $
         -- [what the answer owns; the token; true; what is lent; the later rows; what the numbers own; _6; …]
         peeks ! B.the-row (Is B.the-row) (shows 𝓤 H A B.the-row) r (u ∷ []) (λ is.
-        instantiate ! (from ! (stop !)) (init ! 17 refl (EL.lawful B.the-type B′.the-laws 𝓤 H A W tt .typed r (u ∷ []) is .0)) $
+        land ! (from ! (stop !)) (init ! 17 refl (EL.lawful B.the-type B′.the-laws 𝓤 H A W tt .typed r (u ∷ []) is .0)) $
         -- the lifetime ends, and the array is whole again
         move ! (1 ∷ []) $ lft-end ! tt $ move ! (0 ∷ 3 ∷ []) $ lent-back ! tt $
         move ! (0 ∷ 3 ∷ []) $ use2 W (‵ (Rows R.the-row N rows l₄)) (array-glue 𝓤 H A W R.the-row N n rows l₄ long) $
@@ -183,7 +183,7 @@ module _ {M : Type 1} (𝓤 : URA M) (H : Heap 𝓤) (A : Atoms 𝓤) (W : Given
         returns ! (look ! 15 refl) $ forget ! 4 refl $ forget ! 6 refl $ forget ! 9 refl $ forget ! 11 refl $ forget ! 13 refl $ forget ! 15 refl $
         move ! (15 ∷ 16 ∷ []) $ free1 ! $ move ! (13 ∷ 14 ∷ []) $ free1 ! $ move ! (11 ∷ 12 ∷ []) $ free1 ! $ move ! (9 ∷ 10 ∷ []) $ free1 ! $
         move ! (0 ∷ 8 ∷ []) $ free1 ! $ move ! (5 ∷ 6 ∷ []) $ free1 ! $ move ! (3 ∷ 4 ∷ []) $ free1 ! $ free0 ! $
-        filter ! (0 ∷ 2 ∷ []) $ by ! (exits r u e))))))))))))))
+        keep ! (0 ∷ 2 ∷ []) $ by ! (exits r u e))))))))))))))
 
 module _ {M : Type 1} (𝓤 : URA M) (H : Heap 𝓤) (A : Atoms 𝓤) (W : Given 𝓤 H A) (mm : Memory → SProp 𝓤) (run : Routine → Fun 𝓤) (𝓣 : Tables 𝓤 H) (known : Triple 𝓤 (𝓣 .C #stretch) (Stretch 𝓤 H A mm run)) (N : ℕ) (small : N * 16 < 2 ^ 63) where
   abbrev lend : List Val → (Val → SProp 𝓤) → SProp 𝓤

@@ -21,9 +21,9 @@ use prog.Wp.{Heap, Out, Env, afterSeq, afterBlock, afterTurn, Calls, Loops, Wp, 
 use ghost.Atoms.{Atoms, sem}
 use contract.Monad.{Fun, fact}
 use contract.Running.{givenOf, tables, tablesOf}
-use types.Kit.{Given, Item, Sq, runs, anyQ, atRet, ‵, raw, some, later, _⊛_, ⋆, _$_, _∵_, !, qed, by, move, filter, drop, use1, use2, split, join, pick, rewrite, fsplit, fjoin, suffices, frame, await, done}
+use types.Kit.{Given, Item, Sq, runs, anyQ, atRet, ‵, raw, some, later, _⊛_, ⋆, _$_, _∵_, !, qed, by, move, keep, drop, use1, use2, split, join, pick, rewrite, fsplit, fjoin, suffices, frame, await, done}
 use types.Part.{whole, sub, look-in}
-use types.Run.{look, store, init, forget, stop, fld, from, load, lit, of-opd, bin, assigns, assigns-last, first, skips, jumps, blocks, branches, and-then, no-more, instantiate, returns, enter, alloc1, alloc0, params1, pass1, pass0, free1, free0, exec, Below, again, loops}
+use types.Run.{look, store, init, forget, stop, fld, from, load, lit, of-opd, bin, assigns, assigns-last, first, skips, jumps, blocks, branches, and-then, no-more, land, returns, enter, alloc1, alloc0, params1, pass1, pass0, free1, free0, exec, Below, again, loops}
 use sound.WpLaws.{FmC, fmOf, WpFn-mono}
 use denote.RattleType.{owns}
 use denote.Laws.{Is, shows}
@@ -269,7 +269,7 @@ module _ {M : Type 1} (𝓤 : URA M) (H : Heap 𝓤) (A : Atoms 𝓤) (W : Given
         split ! $ move ! (1 ∷ []) $ use1 W (raw (fact 𝓤 (a ≡ sampleAt ys (t .z .head)))) (sample-said (t .z .head) a) $ heard ! (a ≡ sampleAt ys (t .z .head)) (λ ea. split ! $ move ! (1 ∷ []) $
         -- [what the sample owns; the token; Own; room8; …]
         peeks ! u64 (Is u64) (shows 𝓤 H A u64) a (va ∷ []) (λ isa.
-        instantiate ! (from ! (stop !)) (init ! 9 refl (uint-lawful 𝓤 H A W w64 .typed a (va ∷ []) isa .0)) $ drop ! $
+        land ! (from ! (stop !)) (init ! 9 refl (uint-lawful 𝓤 H A W w64 .typed a (va ∷ []) isa .0)) $ drop ! $
         -- the next sample: [the token; Own; room8; …]
         move ! (1 ∷ []) $ use1 W (‵ Own ⊛ ‵ Own) (shr-slice-copy 𝓤 H A W (named 0) κ R.the-row .twice x (v ∷ [])) $ split ! $
         nothing ! $ owned ! usize (Is usize) (uint-makes 𝓤 H A W w64) (t .i) _ (refl, fits less) $ fjoin ! $ move ! (1 ∷ 0 ∷ []) $ fjoin ! $ move ! (2 ∷ 0 ∷ []) $
@@ -279,7 +279,7 @@ module _ {M : Type 1} (𝓤 : URA M) (H : Heap 𝓤) (A : Atoms 𝓤) (W : Given
         use1 W (later (some (λ (b : ℕ). (Token ⊛ ‵ (u64 .own b (vb ∷ []))) ⊛ raw (ensured 𝓤 H A sample.ended (sample.clauses 𝓤 H A mm run) (κ, tt) (x, (t .i, tt)) tt b)))) (id⊢ 𝓤 _) $ await ! tt $ pick ! (λ b.
         split ! $ move ! (1 ∷ []) $ use1 W (raw (fact 𝓤 (b ≡ sampleAt ys (t .i)))) (sample-said (t .i) b) $ heard ! (b ≡ sampleAt ys (t .i)) (λ eb. split ! $ move ! (1 ∷ []) $
         peeks ! u64 (Is u64) (shows 𝓤 H A u64) b (vb ∷ []) (λ isb.
-        instantiate ! (from ! (stop !)) (init ! 7 refl (uint-lawful 𝓤 H A W w64 .typed b (vb ∷ []) isb .0)) $
+        land ! (from ! (stop !)) (init ! 7 refl (uint-lawful 𝓤 H A W w64 .typed b (vb ∷ []) isb .0)) $
         -- the step: [what the sample owns; the token; Own; _8; …; what the width owns; what the scan owns]
         nothing ! $ move ! (1 ∷ 0 ∷ []) $ fjoin ! $ owned ! u64 (Is u64) (uint-makes 𝓤 H A W w64) a (va ∷ []) isa $ fjoin ! $
         move ! (22 ∷ 0 ∷ []) $ fjoin ! $ nothing ! $ use2 W (raw (Advance 𝓤 H A mm run .pre (to-advance (t .z) a va b vb))) (goes-advance (t .z) a va b vb (room less)) $
@@ -290,11 +290,11 @@ module _ {M : Type 1} (𝓤 : URA M) (H : Heap 𝓤) (A : Atoms 𝓤) (W : Given
         split ! $ move ! (1 ∷ []) $ use1 W (raw (fact 𝓤 (z′ ≡ advanced (t .z) a b))) (advance-said (t .z) a b z′) $ heard ! (z′ ≡ advanced (t .z) a b) (λ e′. split ! $ drop ! $
         -- [what the scan owns; the token; Own; _8; …; what the width owns]
         peeks ! S.the-row (Is S.the-row) (shows 𝓤 H A S.the-row) z′ (u′ ∷ []) (λ is′.
-        instantiate ! (from ! (stop !)) (store ! 13 refl (LL.lawful S.the-type S′.the-laws 𝓤 H A W .typed z′ (u′ ∷ []) is′ .0)) $
+        land ! (from ! (stop !)) (store ! 13 refl (LL.lawful S.the-type S′.the-laws 𝓤 H A W .typed z′ (u′ ∷ []) is′ .0)) $
         assigns-last ! (bin ! (load ! (from ! (stop !)) (look ! 11 refl)) (lit ! tt) (record { fits = one-more less })) (from ! (stop !)) (store ! 11 refl (tt, record { fits = one-more less })) $
         rewrite ! 13 (λ (u : Val). ‵ (fat fullShare S′.mir l₃ 0 u)) (machine-is z′ u′ is′) refl $ rewrite ! 0 (λ (u : Val). ‵ (OwnS z′ u)) (machine-is z′ u′ is′) refl $
         forget ! 3 refl $ forget ! 5 refl $ forget ! 7 refl $ forget ! 9 refl $
-        filter ! (3 ∷ 4 ∷ 5 ∷ 6 ∷ 7 ∷ 8 ∷ 9 ∷ 10 ∷ 11 ∷ 12 ∷ 13 ∷ 14 ∷ 15 ∷ 16 ∷ 17 ∷ 18 ∷ 19 ∷ 20 ∷ 1 ∷ 2 ∷ 21 ∷ 0 ∷ []) $ again ! Nearer At t (next less z′ (moved a b z′ ea eb e′)) (nearer less))))))))))))))
+        keep ! (3 ∷ 4 ∷ 5 ∷ 6 ∷ 7 ∷ 8 ∷ 9 ∷ 10 ∷ 11 ∷ 12 ∷ 13 ∷ 14 ∷ 15 ∷ 16 ∷ 17 ∷ 18 ∷ 19 ∷ 20 ∷ 1 ∷ 2 ∷ 21 ∷ 0 ∷ []) $ again ! Nearer At t (next less z′ (moved a b z′ ea eb e′)) (nearer less))))))))))))))
         (λ over. jumps ! $ exec ! C Λ E body.t-4 (atRet E Post) $
         -- [_8; …; the token; Own; what the width owns; what the scan owns]
         nothing ! $ move ! (22 ∷ 0 ∷ []) $ fjoin ! $ nothing ! $ use2 W (raw (Conclude 𝓤 H A mm run .pre (to-conclude (t .z)))) (goes-conclude (t .z)) $
@@ -303,7 +303,7 @@ module _ {M : Type 1} (𝓤 : URA M) (H : Heap 𝓤) (A : Atoms 𝓤) (W : Given
         split ! $ move ! (1 ∷ []) $ use1 W (raw (fact 𝓤 (said r ≡ concluded (t .z)))) (conclude-said (t .z) r) $ heard ! (said r ≡ concluded (t .z)) (λ e. split ! $ drop ! $
         -- [what the answer owns; _8; …; the token; Own; what the width owns]
         peeks ! B.the-row (Is B.the-row) (shows 𝓤 H A B.the-row) r (u ∷ []) (λ is.
-        instantiate ! (from ! (stop !)) (init ! 17 refl (EL.lawful B.the-type B′.the-laws 𝓤 H A W tt .typed r (u ∷ []) is .0)) $
+        land ! (from ! (stop !)) (init ! 17 refl (EL.lawful B.the-type B′.the-laws 𝓤 H A W tt .typed r (u ∷ []) is .0)) $
         returns ! (look ! 17 refl) $ forget ! 1 refl $ forget ! 3 refl $ forget ! 9 refl $ forget ! 11 refl $ forget ! 13 refl $ forget ! 15 refl $ forget ! 17 refl $
         move ! (17 ∷ 18 ∷ []) $ free1 ! $ move ! (15 ∷ 16 ∷ []) $ free1 ! $ move ! (13 ∷ 14 ∷ []) $ free1 ! $ move ! (11 ∷ 12 ∷ []) $ free1 ! $ move ! (9 ∷ 10 ∷ []) $ free1 ! $
         move ! (7 ∷ 8 ∷ []) $ free1 ! $ move ! (5 ∷ 6 ∷ []) $ free1 ! $ move ! (3 ∷ 4 ∷ []) $ free1 ! $ move ! (1 ∷ 2 ∷ []) $ free1 ! $ free0 ! $
@@ -380,10 +380,10 @@ module _ {M : Type 1} (𝓤 : URA M) (H : Heap 𝓤) (A : Atoms 𝓤) (W : Given
         split ! $ move ! (1 ∷ []) $ use1 W (raw (fact 𝓤 (z ≡ begun w))) (begin-said z) $ heard ! (z ≡ begun w) (λ e. split ! $ drop ! $
         -- [what the scan owns; what the width owns; Own; room8; …; the token]
         peeks ! S.the-row (Is S.the-row) (shows 𝓤 H A S.the-row) z (u ∷ []) (λ is.
-        instantiate ! (from ! (stop !)) (init ! 13 refl (LL.lawful S.the-type S′.the-laws 𝓤 H A W .typed z (u ∷ []) is .0)) $
+        land ! (from ! (stop !)) (init ! 13 refl (LL.lawful S.the-type S′.the-laws 𝓤 H A W .typed z (u ∷ []) is .0)) $
         assigns ! (of-opd ! (lit ! tt)) (from ! (stop !)) (init ! 11 refl (tt, record { fits = lit< tt })) $
         rewrite ! 13 (λ (m : Val). ‵ (fat fullShare S′.mir l₃ 0 m)) (machine-is z u is) refl $ rewrite ! 0 (λ (m : Val). ‵ (OwnS z m)) (machine-is z u is) refl $
-        filter ! (3 ∷ 4 ∷ 5 ∷ 6 ∷ 7 ∷ 8 ∷ 9 ∷ 10 ∷ 11 ∷ 12 ∷ 13 ∷ 14 ∷ 15 ∷ 16 ∷ 17 ∷ 18 ∷ 19 ∷ 20 ∷ 21 ∷ 2 ∷ 1 ∷ 0 ∷ []) $
+        keep ! (3 ∷ 4 ∷ 5 ∷ 6 ∷ 7 ∷ 8 ∷ 9 ∷ 10 ∷ 11 ∷ 12 ∷ 13 ∷ 14 ∷ 15 ∷ 16 ∷ 17 ∷ 18 ∷ 19 ∷ 20 ∷ 21 ∷ 2 ∷ 1 ∷ 0 ∷ []) $
         enters 𝓣 known (p .0 .1 .0) l₀ l₁ l₂ l₃ l₄ l₅ l₆ l₇ l₈ z e)))))))))))))
 
 module _ {M : Type 1} (𝓤 : URA M) (H : Heap 𝓤) (A : Atoms 𝓤) (W : Given 𝓤 H A) (mm : Memory → SProp 𝓤) (run : Routine → Fun 𝓤) (𝓣 : Tables 𝓤 H) (known : Known 𝓤 H A mm run (𝓣 .C)) where
