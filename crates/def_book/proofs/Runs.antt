@@ -14,8 +14,7 @@ use borrow.Author.Tests.{le-leb, leb-true, eq-eqb, eqb-true}
 use Rattle.lists.specs.Member.{In}
 use Rattle.lists.proofs.Member.{and-left, and-right, both, some-inj, none-some}
 use Rattle.lists.specs.Find.{isSome}
-use Rattle.lists.specs.Count.{count}
-use Rattle.lists.proofs.Count.{more as counted}
+use Rattle.lists.specs.Count.{count, more as counted}
 use Rattle.node.specs.Name.{named}
 use Rattle.node.proofs.NameLaws.{name-long}
 use Rattle.synthdef.specs.Rows.{every}

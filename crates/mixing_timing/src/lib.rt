@@ -1,5 +1,5 @@
-// Fade output and bus sum in loops, in floats and in whole numbers, for a driver that times them (oracle/bench). An exported function fills its blocks, makes its
-// call `rounds` times, with another sample each time, and answers 0 if no round was refused.
+// Fade output and bus sum, in floats and in whole numbers, for a driver that times them (oracle/bench): it lends the blocks. An
+// exported function answers 0, or 1 if the call was refused. It measures and promises nothing.
 use bus::Written;
 use store::config::Config;
 use voice::policy::Budget;
@@ -25,109 +25,50 @@ fn refused(w: Written) -> u32 {
     }
 }
 
-fn fade_floats(table: bool, rounds: u32) -> u32 {
-    let mut input = [0.25f32; 256];
-    let gains = [0.5f32; 240];
-    let mut out = [0.0f32; 256];
-    let mut sum: u32 = 0;
-    let mut i: u32 = 0;
-    while i < rounds {
-        input[i as usize % 256] = 0.5;
-        sum = sum
-            | refused(mixing::fade_output(
-                config(table),
-                &input,
-                2,
-                &gains,
-                i as u64 % 256,
-                &mut out,
-                2,
-            ));
-        i += 1;
-    }
-    sum
-}
-
-fn fade_whole(table: bool, rounds: u32) -> u32 {
-    let mut input = [2097152i32; 256];
-    let gains = [8388608u32; 240];
-    let mut out = [0i32; 256];
-    let mut sum: u32 = 0;
-    let mut i: u32 = 0;
-    while i < rounds {
-        input[i as usize % 256] = 4194304;
-        sum = sum
-            | refused(whole_mixing::fade_output(
-                config(table),
-                &input,
-                2,
-                &gains,
-                i as u64 % 256,
-                &mut out,
-                2,
-            ));
-        i += 1;
-    }
-    sum
-}
-
-fn sum_floats(rounds: u32) -> u32 {
-    let mut inputs = [0.25f32; 16384];
-    let counts = [2usize; 64];
-    let mut out = [0.0f32; 256];
-    let mut sum: u32 = 0;
-    let mut i: u32 = 0;
-    while i < rounds {
-        inputs[i as usize % 16384] = 0.5;
-        sum = sum | refused(mixing::bus_sum(config(false), &inputs, &counts, &mut out, 2));
-        i += 1;
-    }
-    sum
-}
-
-fn sum_whole(rounds: u32) -> u32 {
-    let mut inputs = [2097152i32; 16384];
-    let counts = [2usize; 64];
-    let mut out = [0i32; 256];
-    let mut sum: u32 = 0;
-    let mut i: u32 = 0;
-    while i < rounds {
-        inputs[i as usize % 16384] = 4194304;
-        sum = sum | refused(whole_mixing::bus_sum(config(false), &inputs, &counts, &mut out, 2));
-        i += 1;
-    }
-    sum
-}
-
-// A stereo fade with lent gains.
+// A stereo fade in floats, at this position of the fade; with the fade table where `table` is not 0.
 #[no_mangle]
-pub extern "C" fn piecrag_fade_floats(rounds: u32) -> u32 {
-    fade_floats(false, rounds)
+pub extern "C" fn piecrag_fade_floats(
+    input: &[f32; 256],
+    gains: &[f32; 240],
+    position: u64,
+    out: &mut [f32; 256],
+    table: u32,
+) -> u32 {
+    let c = config(table != 0);
+    refused(mixing::fade_output(c, input, 2, gains, position, out, 2))
 }
 
+// The same in whole numbers.
 #[no_mangle]
-pub extern "C" fn piecrag_fade_whole(rounds: u32) -> u32 {
-    fade_whole(false, rounds)
+pub extern "C" fn piecrag_fade_whole(
+    input: &[i32; 256],
+    gains: &[u32; 240],
+    position: u64,
+    out: &mut [i32; 256],
+    table: u32,
+) -> u32 {
+    let c = config(table != 0);
+    refused(whole_mixing::fade_output(c, input, 2, gains, position, out, 2))
 }
 
-// The same with the fade table.
+// The sum of 64 stereo ports in floats.
 #[no_mangle]
-pub extern "C" fn piecrag_table_floats(rounds: u32) -> u32 {
-    fade_floats(true, rounds)
+pub extern "C" fn piecrag_sum_floats(
+    inputs: &[f32; 16384],
+    counts: &[usize; 64],
+    out: &mut [f32; 256],
+) -> u32 {
+    let c = config(false);
+    refused(mixing::bus_sum(c, inputs, counts, out, 2))
 }
 
+// The same in whole numbers.
 #[no_mangle]
-pub extern "C" fn piecrag_table_whole(rounds: u32) -> u32 {
-    fade_whole(true, rounds)
-}
-
-// The sum of 64 stereo ports.
-#[no_mangle]
-pub extern "C" fn piecrag_sum_floats(rounds: u32) -> u32 {
-    sum_floats(rounds)
-}
-
-#[no_mangle]
-pub extern "C" fn piecrag_sum_whole(rounds: u32) -> u32 {
-    sum_whole(rounds)
+pub extern "C" fn piecrag_sum_whole(
+    inputs: &[i32; 16384],
+    counts: &[usize; 64],
+    out: &mut [i32; 256],
+) -> u32 {
+    let c = config(false);
+    refused(whole_mixing::bus_sum(c, inputs, counts, out, 2))
 }

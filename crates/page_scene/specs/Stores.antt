@@ -5,7 +5,7 @@ use mathlib.Core.Bool.{false}
 use lib.ListN.{replicate}
 use Rattle.node.specs.Silence.{bytes}
 use Rattle.node.specs.declared.order.Action.the-variants as Action
-use Rattle.graph.specs.View.{GraphView, withNext}
+use Rattle.graph.specs.View.{GraphView}
 use Rattle.synthdef.specs.declared.def.SynthDef.{SynthDef}
 use Rattle.model.specs.SharedState.{withGraph, withClock}
 use Rattle.model.specs.Model.{Model}
@@ -34,6 +34,10 @@ waiting n = replicate n timed
 
 abbrev pub atClock : ℕ → Model → Model
 atClock clock m = record { shared = withClock clock (m .shared); voices = m .voices }
+
+-- the next node id of a graph
+abbrev pub withNext : GraphView → ℕ → GraphView
+withNext v n = record { nodes = v .nodes; edges = v .edges; sink = v .sink; prepared = v .prepared; order = v .order; next = n }
 
 abbrev pub atNext : ℕ → Model → Model
 atNext next m = record { shared = withGraph (withNext (m .shared .graph) next) (m .shared); voices = m .voices }

@@ -1,6 +1,7 @@
 //! Times the store's calls, some beside the Rust's, and measures their stack: `bench [REPETITIONS]`, a median of so many.
 
 mod calls;
+mod forms;
 mod rust;
 mod scenes;
 mod stack;
@@ -29,11 +30,11 @@ const COMPARED: [(&str, u32, Scene, Scene, f64); 4] = [
     ("port search, 64 ports, 1,024 edges", 10_000, |n| scenes::ports(64, n), |n| rust::ports(64, n), 1.0),
 ];
 
-/// Fades and sums of blocks of 128 samples, stereo, at 48 kHz: in floats, and in whole numbers.
-const FORMS: [(&str, u32, store::Rounds, store::Rounds); 3] = [
-    ("fade output, 240 gains lent", 100_000, store::piecrag_fade_floats, store::piecrag_fade_whole),
-    ("fade output, the fade table", 10_000, store::piecrag_table_floats, store::piecrag_table_whole),
-    ("bus sum, 64 ports", 10_000, store::piecrag_sum_floats, store::piecrag_sum_whole),
+/// Fades and sums in both forms: what a round is, how many there are, in floats, and in whole numbers.
+const FORMS: [(&str, u32, Scene, Scene); 3] = [
+    ("fade output, 240 gains lent", 100_000, |n| forms::fade_floats(0, n), |n| forms::fade_whole(0, n)),
+    ("fade output, the fade table", 10_000, |n| forms::fade_floats(1, n), |n| forms::fade_whole(1, n)),
+    ("bus sum, 64 ports", 10_000, forms::sum_floats, forms::sum_whole),
 ];
 
 fn kept(value: f64, goal: f64) -> &'static str {
@@ -65,8 +66,8 @@ fn compare(repetitions: usize) {
 fn compare_forms(repetitions: usize) {
     println!("\n{:54}{:>8}{:>10}{:>10}{:>8}{:>7}", "a block", "rounds", "floats µs", "whole µs", "ratio", "goal");
     for (name, rounds, floats, whole) in FORMS {
-        let (refused, first) = repeated(repetitions, || time::timed(rounds, || floats(rounds)));
-        let (also, second) = repeated(repetitions, || time::timed(rounds, || whole(rounds)));
+        let (refused, first) = repeated(repetitions, || floats(rounds));
+        let (also, second) = repeated(repetitions, || whole(rounds));
         assert_eq!((refused, also), (0, 0), "no round is refused");
         let ratio = second / first;
         println!("{name:54}{rounds:8}{first:10.3}{second:10.3}{ratio:8.3}{:7.2}  {}", 1.0, kept(ratio, 1.0));

@@ -32,16 +32,23 @@ impl Store {
     }
 }
 
-/// So many rounds of a scene of `mixing_timing`: how many were refused.
-pub type Rounds = extern "C" fn(u32) -> u32;
-
 unsafe extern "C" {
-    pub safe fn piecrag_fade_floats(rounds: u32) -> u32;
-    pub safe fn piecrag_fade_whole(rounds: u32) -> u32;
-    pub safe fn piecrag_table_floats(rounds: u32) -> u32;
-    pub safe fn piecrag_table_whole(rounds: u32) -> u32;
-    pub safe fn piecrag_sum_floats(rounds: u32) -> u32;
-    pub safe fn piecrag_sum_whole(rounds: u32) -> u32;
+    pub safe fn piecrag_fade_floats(
+        input: &[f32; 256],
+        gains: &[f32; 240],
+        position: u64,
+        out: &mut [f32; 256],
+        table: u32,
+    ) -> u32;
+    pub safe fn piecrag_fade_whole(
+        input: &[i32; 256],
+        gains: &[u32; 240],
+        position: u64,
+        out: &mut [i32; 256],
+        table: u32,
+    ) -> u32;
+    pub safe fn piecrag_sum_floats(inputs: &[f32; 16384], counts: &[usize; 64], out: &mut [f32; 256]) -> u32;
+    pub safe fn piecrag_sum_whole(inputs: &[i32; 16384], counts: &[usize; 64], out: &mut [i32; 256]) -> u32;
     pub safe fn piecrag_make(state: &mut State, budget: usize, policy: u32) -> u32;
     pub safe fn piecrag_add_node(state: &mut State, nodes: &mut Nodes, ports: u32) -> u32;
     pub safe fn piecrag_remove_node(state: &mut State, nodes: &mut Nodes, edges: &mut Edges, node: u32) -> u32;
