@@ -136,9 +136,12 @@ impl Writer {
         let helper = self.some_helper_node().unwrap_or(u32::MAX);
         let dead = self.some_node(1);
         let is_dead = !self.reportable().contains(&dead);
+        // A node that lived at the last render would write what is reported of it there (`foresee` of the player), though the
+        // report is refused: so a block of its size is reported only of a node that never lived.
+        let spare = usize::from(self.channels.contains_key(&dead));
         let (node, channels, count) = match self.rng.below(5) {
             0 => (helper, 1, block),
-            1 if is_dead => (dead, 2, 2 * block),
+            1 if is_dead => (dead, 2, 2 * block + spare),
             2 => (live, *self.rng.pick(&[0, 3, 255]), block),
             3 => (live, 1, block + 1),
             _ => (live, 2, *self.rng.pick(&[0, 1, 2 * block - 1, 2 * block + 1])),
