@@ -46,6 +46,7 @@ use Rattle.ledger.specs.Ledger as ledger
 use Rattle.ledger.specs.Ledger.{Ledger, portFree, portHeld, cutOff, stolen, stealVoice, instantiate, instantiateOr, placeWithinBudget, refused, admitted, admissionOn}
 use Rattle.ledger.specs.Render.{oneMore, countedIf}
 use Rattle.ledger.specs.Call.{step, run}
+use Rattle.ledger.specs.Claim.{ownerAt}
 use Rattle.ledger.proofs.Words.{Room}
 use Rattle.ledger.proofs.Allowed.{when-none, spawn-allowed}
 use Rattle.ledger.proofs.Preserved.{place-kept, Preserves, step-kept, landed-kept}
@@ -184,7 +185,7 @@ held-edge l s v i t p h = go (find (feeds (feeder v) (v .bus)) (l .shared .graph
     go none e q = absurd (none-some q)
     go (some d) e q =
         let r = find-in (feeds (feeder v) (v .bus)) (l .shared .graph .edges) d e in
-        let f : d .from .0 ≡ feeder v .0 = eqb-true _ _ (and-left _ _ (r .1)) in
+        let f = ap (ownerAt (l .shared .graph .nodes)) (eqb-true _ _ (and-left _ _ (r .1))) ∙ s .voiced .sung v i .feeds in
         let t : d .to .0 ≡ v .bus .0 = eqb-true _ _ (and-right (eqb (d .from .0) (feeder v .0)) _ (r .1)) in
         ap (λ n. taken (l .shared .graph .edges) (v .bus) n) (sym (some-inj q)) ∙ ap isSome (fed-edge s v i d (r .0) f t)
 

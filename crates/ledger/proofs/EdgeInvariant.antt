@@ -1,6 +1,6 @@
 -- What every run keeps of edges and voices, over `own`, the owner of each live node: one edge per port, both ends of each edge
 -- live, and its port one of the target's where the target is a host node; voices stand by rising id, each with its feeder, on a
--- bus of the host; what a voice feeds is one port, of its own bus, and from its feeder while it is tracked.
+-- bus of the host; what a voice feeds is one port, of its own bus. (`EndInvariant` says from which node.)
 use Prim.Native.Nat.{ℕ, _≤_, _<_}
 use native.Mathlib.Omega.{arith}
 use mathlib.Core.Path.{_≡_, refl, sym, ap, _∙_, subst}
@@ -21,7 +21,7 @@ use Rattle.node.specs.declared.record.NodeId.{NodeId}
 use Rattle.node.specs.declared.record.Edge.{Edge}
 use Rattle.edges.specs.Wiring.{endsAt, dropAt, wired}
 use Rattle.store.specs.declared.voices.Voice.{Voice}
-use Rattle.model.specs.Voice.{isTracked, feeder}
+use Rattle.model.specs.Voice.{feeder}
 use Rattle.ledger.specs.Claim.{Owners}
 
 pub record Ends (own : Owners) (ports : ℕ → ℕ) (e : Edge) : Type 0 where
@@ -47,7 +47,7 @@ abbrev pub Out : Owners → ℕ → Edge → Type 0
 Out own i e = (own (e .to .0) ≡ some 0) × (own (e .from .0) ≡ some i)
 
 abbrev pub Fed : Owners → Voice → Edge → Type 0
-Fed own v e = Out own (v .id .0) e → (v .bus .0 ≡ e .to .0) × (isTracked (v .state) ≡ true → feeder v .0 ≡ e .from .0)
+Fed own v e = Out own (v .id .0) e → v .bus .0 ≡ e .to .0
 
 pub record Voiced (own : Owners) (next given : ℕ) (es : List Edge) (vs : List Voice) : Type 0 where
   pub rises : RisesFrom (λ (v : Voice). v .id .0) 1 vs
@@ -63,7 +63,7 @@ above {vs = vs} g v i = rises-in (λ (v : Voice). v .id .0) 1 vs v (g .rises) i
 abbrev pub Same : Owners → Owners → Edge → Type 0
 Same own own' e = (own' (e .from .0) ≡ own (e .from .0)) × (own' (e .to .0) ≡ own (e .to .0))
 
-out-back : (own own' : Owners) (i : ℕ) (e : Edge) → Same own own' e → Out own' i e → Out own i e
+pub out-back : (own own' : Owners) (i : ℕ) (e : Edge) → Same own own' e → Out own' i e → Out own i e
 out-back own own' i e s o = (sym (s .1) ∙ o .0, sym (s .0) ∙ o .1)
 
 -- ---- an edge is put
@@ -165,11 +165,10 @@ voiced-move {own} {own'} up more rises sub sube same feeds bus g =
           g .one v (sub v i) e d (sube e a) (sube d b) (out-back own own' (v .id .0) e (same e a) x) (out-back own own' (v .id .0) d (same d b) y);
     }
 
--- ---- a change of the voices that leaves id, feeder and bus, and tracks nobody anew
+-- ---- a change of the voices that leaves id, feeder and bus
 pub voiced-map : {own : Owners} {nx nv : ℕ} {es : List Edge} {vs : List Voice} (f : Voice → Voice) → ((v : Voice) → f v .id .0 ≡ v .id .0)
-    → ((v : Voice) → feeder (f v) .0 ≡ feeder v .0) → ((v : Voice) → f v .bus .0 ≡ v .bus .0)
-    → ((v : Voice) → isTracked (f v .state) ≡ true → isTracked (v .state) ≡ true) → Voiced own nx nv es vs → Voiced own nx nv es (map f vs)
-voiced-map {own} {nx} {nv} {es} {vs} f fi ff fb ft g =
+    → ((v : Voice) → feeder (f v) .0 ≡ feeder v .0) → ((v : Voice) → f v .bus .0 ≡ v .bus .0) → Voiced own nx nv es vs → Voiced own nx nv es (map f vs)
+voiced-map {own} {nx} {nv} {es} {vs} f fi ff fb g =
     record {
       rises = rises-map (λ (v : Voice). v .id .0) f fi 1 vs (g .rises);
       sung = λ v i. let r = in-map f vs v i in subst (Sung own nx nv) (sym (r .2)) (sung' (r .0) (g .sung (r .0) (r .1)));
@@ -190,7 +189,7 @@ voiced-map {own} {nx} {nv} {es} {vs} f fi ff fb ft g =
         }
 
     fed' : (v : Voice) (e : Edge) → Fed own v e → Fed own (f v) e
-    fed' v e h o = let r = h (o .0, o .1 ∙ ap some (fi v)) in (fb v ∙ r .0, λ k. ff v ∙ r .1 (ft v k))
+    fed' v e h o = fb v ∙ h (o .0, o .1 ∙ ap some (fi v))
 
 -- ---- a voice more
 pub voiced-snoc : {own : Owners} {nx nv : ℕ} {es : List Edge} {vs : List Voice} (v : Voice) → Voiced own nx nv es vs → Sung own nx nv v

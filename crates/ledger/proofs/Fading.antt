@@ -20,12 +20,13 @@ use Rattle.graph.specs.Change.{edge}
 use Rattle.store.specs.declared.voices.Voice.{Voice}
 use Rattle.store.specs.declared.voices.VoiceState.the-variants.{Fading}
 use Rattle.store.specs.declared.voices.Fade.{Fade}
-use Rattle.model.specs.Voice.{id, isVoice, isTracked, feeder, withState, beginFade}
+use Rattle.model.specs.Voice.{id, isVoice, feeder, endOf, withState, beginFade}
 use Rattle.model.specs.Spawn.{fadeNode}
 use Rattle.ledger.specs.Holder.{Holder, Holders, voice, hold}
 use Rattle.ledger.specs.Claim.{ownerAt, holderAt, sourceHolds}
 use Rattle.ledger.proofs.Owner.{portsAt, owner-new}
 use Rattle.ledger.proofs.EdgeInvariant.{EdgeInvariant, Voiced, Out, Fed, above, at-ends, in-put, wired-put, voiced-put, voiced-map}
+use Rattle.ledger.proofs.EndInvariant.{EndInvariant}
 use Rattle.ledger.proofs.Held.{holder-voice, hold-put, hold-put-off}
 use Rattle.ledger.proofs.Invariant.{Invariant, HostAt, sound-append}
 
@@ -38,9 +39,9 @@ hold-again g b p x e n q = go (eqb n (b .0)) refl (eqb q p) refl
     go true j false k = refl
     go false j d k = refl
 
--- ---- an edge from a voice's feeder to its bus
+-- ---- an edge from a node of a voice to its bus
 module _ {ns : List Node} {es : List Edge} {nx nv : ℕ} {vs : List Voice} {h : Holders} (s : Invariant ns es nx nv vs h)
-    (v : Voice) (i : In v vs) (e : Edge) (j : In e es) (ef : e .from .0 ≡ feeder v .0) (et : e .to .0 ≡ v .bus .0) where
+    (v : Voice) (i : In v vs) (e : Edge) (j : In e es) (own : ownerAt ns (e .from .0) ≡ some (v .id .0)) (et : e .to .0 ≡ v .bus .0) where
   pub fed-host : HostAt ns (v .bus .0)
   fed-host =
       let g = s .wired .ends e j in
@@ -57,13 +58,13 @@ module _ {ns : List Node} {es : List Edge} {nx nv : ℕ} {vs : List Voice} {h : 
   fed-edge = s .wired .once (v .bus) (e .port) e j (at-ends (v .bus) (e .port) e et refl)
 
   pub fed-out : Out (ownerAt ns) (v .id .0) e
-  fed-out = (ap (ownerAt ns) et ∙ fed-host, ap (ownerAt ns) ef ∙ s .voiced .sung v i .feeds)
+  fed-out = (ap (ownerAt ns) et ∙ fed-host, own)
 
   pub fed-holds : holderAt ns es (v .bus .0) (e .port) ≡ voice (v .id)
   fed-holds = rw (fed-host, fed-edge, fed-out .1) (holder-voice (v .id .0) (e .from) (above (s .voiced) v i))
 
 module _ {ns : List Node} {es : List Edge} {nx nv : ℕ} {vs : List Voice} {h : Holders} (s : Invariant ns es nx nv vs h)
-    (v : Voice) (i : In v vs) (e : Edge) (j : In e es) (ef : e .from .0 ≡ feeder v .0) (et : e .to .0 ≡ v .bus .0) (f : Fade) where
+    (v : Voice) (i : In v vs) (e : Edge) (j : In e es) (ef : e .from .0 ≡ feeder v .0) (et : e .to .0 ≡ v .bus .0) (f : Fade) (at : f .node .0 ≡ nx) where
   abbrev ns₁ : List Node
   ns₁ = ns ++ (withId nx (fadeNode (v .id)) ∷ [])
 
@@ -81,6 +82,10 @@ module _ {ns : List Node} {es : List Edge} {nx nv : ℕ} {vs : List Voice} {h : 
 
   sound₁ : Invariant ns₁ es (nx + 1) nv vs h
   sound₁ = sound-append s (fadeNode (v .id)) (s .voiced .sung v i .named)
+
+  -- the edge leaves a node of the voice
+  fed : ownerAt ns₁ (e .from .0) ≡ some (v .id .0)
+  fed = ap (ownerAt ns₁) ef ∙ sound₁ .voiced .sung v i .feeds
 
   at-fade : ownerAt ns₁ nx ≡ some (v .id .0)
   at-fade = owner-new (s .listed) (fadeNode (v .id))
@@ -108,25 +113,20 @@ module _ {ns : List Node} {es : List Edge} {nx nv : ℕ} {vs : List Voice} {h : 
   begin-bus u true = refl
   begin-bus u false = refl
 
-  begin-tracked : (u : Voice) (c : Bool) → isTracked (cond c (withState (Fading f) u) u .state) ≡ true → isTracked (u .state) ≡ true
-  begin-tracked u true k = absurd (false≢true k)
-  begin-tracked u false k = k
-
   voiced₃ : Voiced (ownerAt ns₁) (nx + 1) nv (wired es e₁) vs₁
   voiced₃ =
       voiced-map (beginFade (v .id) f) (λ u. begin-id u (isVoice (v .id) u)) (λ u. begin-feeder u (isVoice (v .id) u)) (λ u. begin-bus u (isVoice (v .id) u))
-      (λ u. begin-tracked u (isVoice (v .id) u)) voiced₂
+      voiced₂
 
   fed₂ : (u : Voice) → In u vs₁ → Fed (ownerAt ns₁) u e₂
   fed₂ u k o =
       let r = in-map (beginFade (v .id) f) vs u k in
       let same : v .id .0 ≡ u .id .0 = some-inj (sym at-fade ∙ o .1) in
       let back : u .id .0 ≡ r .0 .id .0 = ap (λ (z : Voice). z .id .0) (r .2) ∙ begin-id (r .0) (isVoice (v .id) (r .0)) in
-      let yes' : isVoice (v .id) (r .0) ≡ true = eq-eqb _ _ (sym (same ∙ back)) in
-      let out = fed-out sound₁ v i e j ef et in
+      let out = fed-out sound₁ v i e j fed et in
       let g = sound₁ .voiced .fed (r .0) (r .1) e j (out .0, out .1 ∙ ap some (same ∙ back)) in
       let bus' : u .bus .0 ≡ r .0 .bus .0 = ap (λ (z : Voice). z .bus .0) (r .2) ∙ begin-bus (r .0) (isVoice (v .id) (r .0)) in
-      (bus' ∙ g .0 ∙ et, λ t. absurd (false≢true (sym (ap (λ (z : Voice). isTracked (z .state)) (r .2) ∙ rw yes') ∙ t)))
+      bus' ∙ g ∙ et
 
   -- what else the voice fed was the same port
   other₂ : (u : Voice) → In u vs₁ → (d : Edge) → In d (wired es e₁) → not (endsAt (v .bus) (e .port) d) ≡ true
@@ -136,19 +136,59 @@ module _ {ns : List Node} {es : List Edge} {nx nv : ℕ} {vs : List Voice} {h : 
       let rd : Out (ownerAt ns₁) (v .id .0) d = (r .0, r .1 ∙ ap some same) in
       ⊎-elim
       (λ m.
-      let pd : d .port ≡ e .port = sound₁ .voiced .one v i d e (m .0) j rd (fed-out sound₁ v i e j ef et) in
-      let td : v .bus .0 ≡ d .to .0 = sound₁ .voiced .fed v i d (m .0) rd .0 in
+      let pd : d .port ≡ e .port = sound₁ .voiced .one v i d e (m .0) j rd (fed-out sound₁ v i e j fed et) in
+      let td : v .bus .0 ≡ d .to .0 = sound₁ .voiced .fed v i d (m .0) rd in
       false≢true (sym (ap not (at-ends (v .bus) (e .port) d (sym td) pd)) ∙ z))
       (λ m. not-host (sym (ap (λ (y : Edge). ownerAt ns₁ (y .to .0)) m) ∙ r .0))
       (in-put e₁ es d q)
+
+  -- its fade is its end now, and what its feeder fed of the bus is replaced; the other voices keep theirs
+  abbrev begun : Bool → Voice → Voice
+  begun c u = cond c (withState (Fading f) u) u
+
+  end-owned : (u : Voice) → In u vs → (c : Bool) → isVoice (v .id) u ≡ c → ownerAt ns₁ (endOf (begun c u) .0) ≡ some (u .id .0)
+  end-owned u m true q = ap (ownerAt ns₁) at ∙ at-fade ∙ ap some (sym (eqb-true _ _ q))
+  end-owned u m false q = sound₁ .ends .owns u m
+
+  end-fed : (u : Voice) → In u vs → In (begun (isVoice (v .id) u) u) vs₁ → (c : Bool) → isVoice (v .id) u ≡ c → (d : Edge) → In d (wired (wired es e₁) e₂) → Out (ownerAt ns₁) (u .id .0) d
+      → endOf (begun c u) .0 ≡ d .from .0
+  end-fed u m k c q d n o = ⊎-elim (old c q) (new c q) (in-put e₂ (wired es e₁) d n)
+    where
+      old : (c : Bool) → isVoice (v .id) u ≡ c → In d (wired es e₁) × (not (endsAt (v .bus) (e .port) d) ≡ true) → endOf (begun c u) .0 ≡ d .from .0
+      old true q z =
+          let same : u .id .0 ≡ v .id .0 = eqb-true _ _ q in
+          let mine : begun (isVoice (v .id) u) u .id .0 ≡ u .id .0 = begin-id u (isVoice (v .id) u) in
+          absurd (other₂ (begun (isVoice (v .id) u) u) k d (z .0) (z .1) (fed-host sound₁ v i e j fed et, at-fade ∙ ap some (sym (mine ∙ same))) (o .0, o .1 ∙ ap some (sym mine)))
+      old false q z = ⊎-elim (λ y. sound₁ .ends .leaves u m d (y .0) o) (λ y. absurd (not-host (sym (ap (λ (w : Edge). ownerAt ns₁ (w .to .0)) y) ∙ o .0))) (in-put e₁ es d (z .0))
+
+      new : (c : Bool) → isVoice (v .id) u ≡ c → d ≡ e₂ → endOf (begun c u) .0 ≡ d .from .0
+      new true q z = at ∙ sym (ap (λ (w : Edge). w .from .0) z)
+      new false q z =
+          let same : v .id .0 ≡ u .id .0 = some-inj (sym at-fade ∙ sym (ap (λ (w : Edge). ownerAt ns₁ (w .from .0)) z) ∙ o .1) in
+          absurd (false≢true (sym q ∙ eq-eqb _ _ (sym same)))
+
+  ends₂ : EndInvariant (ownerAt ns₁) (wired (wired es e₁) e₂) vs₁
+  ends₂ =
+      record {
+        owns = λ u k.
+            let r = in-map (beginFade (v .id) f) vs u k in
+            let c = isVoice (v .id) (r .0) in
+            subst (λ (z : Voice). ownerAt ns₁ (endOf z .0) ≡ some (z .id .0)) (sym (r .2)) (end-owned (r .0) (r .1) c refl ∙ ap some (sym (begin-id (r .0) c)));
+        leaves = λ u k d n o.
+            let r = in-map (beginFade (v .id) f) vs u k in
+            let c = isVoice (v .id) (r .0) in
+            let same : u .id .0 ≡ r .0 .id .0 = ap (λ (z : Voice). z .id .0) (r .2) ∙ begin-id (r .0) c in
+            ap (λ (z : Voice). endOf z .0) (r .2) ∙ end-fed (r .0) (r .1) (subst (λ z. In z vs₁) (r .2) k) c refl d n (o .0, o .1 ∙ ap some same);
+      }
 
   pub sound-fade : Invariant ns₁ (wired (wired es e₁) e₂) (nx + 1) nv vs₁ h
   sound-fade =
       record {
         listed = sound₁ .listed;
         wired = wired-put e₂ (wired es e₁) wired₂
-            (record { a = v .id .0; b = 0; from = at-fade; to = fed-host sound₁ v i e j ef et; range = λ z. fed-range sound₁ v i e j ef et });
+            (record { a = v .id .0; b = 0; from = at-fade; to = fed-host sound₁ v i e j fed et; range = λ z. fed-range sound₁ v i e j fed et });
         voiced = voiced-put e₂ (wired es e₁) voiced₃ fed₂ other₂;
+        ends = ends₂;
         held = held₂;
       }
     where
@@ -161,7 +201,7 @@ module _ {ns : List Node} {es : List Edge} {nx nv : ℕ} {vs : List Voice} {h : 
       held₂ : (n p : ℕ) → h n p ≡ holderAt ns₁ (wired (wired es e₁) e₂) n p
       held₂ n p =
           sound₁ .held n p
-          ∙ sym (hold-put wired₂ e₂ (fed-host sound₁ v i e j ef et) n p
+          ∙ sym (hold-put wired₂ e₂ (fed-host sound₁ v i e j fed et) n p
           ∙ ap (λ x. hold (v .bus) (e .port) x (holderAt ns₁ (wired es e₁)) n p) src
-          ∙ hold-again (holderAt ns₁ (wired es e₁)) (v .bus) (e .port) (voice (v .id)) (at₁ (v .bus .0) (e .port) ∙ fed-holds sound₁ v i e j ef et) n p
+          ∙ hold-again (holderAt ns₁ (wired es e₁)) (v .bus) (e .port) (voice (v .id)) (at₁ (v .bus .0) (e .port) ∙ fed-holds sound₁ v i e j fed et) n p
           ∙ at₁ n p)

@@ -2,7 +2,7 @@
 use Prim.Native.Nat.{ℕ, _+_, _≤_, _<_, _*_}
 use native.Mathlib.Omega.{arith}
 use mathlib.Core.Path.{_≡_, refl, sym, ap, ap₂, _∙_, subst}
-use mathlib.Core.Logic.{_⊎_, ⊎-elim, inl, inr}
+use mathlib.Core.Logic.{_⊎_, _↔_, ⊎-elim, inl, inr}
 use mathlib.Core.List.{List, [], _∷_, _++_, map}
 use mathlib.Core.Option.{Option, none, some}
 use mathlib.Core.Bool.{Bool, true, false, not, true≢false}
@@ -20,6 +20,7 @@ use Rattle.node.specs.declared.record.NodeId.{NodeId}
 use Rattle.node.specs.declared.record.Node.{Node}
 use Rattle.node.specs.declared.record.Edge.{Edge}
 use Rattle.order.specs.Prepare as graph
+use Rattle.edges.specs.Ports.{portFrom}
 use Rattle.graph.specs.Node.{isNode, nodeAt, hostNode, withId}
 use Rattle.bus.specs.Fade.{fadeLength}
 use Rattle.store.specs.declared.config.Config.{Config}
@@ -46,7 +47,8 @@ use Rattle.store.specs.declared.voices.VoiceState.{VoiceState}
 use Rattle.ledger.specs.Ledger.{Ledger}
 use Rattle.ledger.specs.Clear as ledger
 use Rattle.ledger.specs.Call.{step}
-use Rattle.ledger.specs.Claim.{Arrives, Holds, Losses, Stealing, GoesOn, Why, Fate, Reclaimed, tracks, isLet, spawnAnswer, isSounded, nodeIds, ownerAt}
+use Rattle.ledger.specs.Holder.{voice}
+use Rattle.ledger.specs.Claim.{Arrives, Holds, Losses, Stealing, GoesOn, Why, Fate, Reclaimed, tracks, isLet, spawnAnswer, isSounded, nodeIds, ownerAt, holderAt, Shows}
 use Rattle.ledger.specs.Call as ledgerCall
 use Rattle.ledger.proofs.Arrives.{ArrivesAt, managed-comes, loose-comes}
 use Rattle.ledger.proofs.Words as words
@@ -63,6 +65,8 @@ use Rattle.ledger.proofs.SpawnFailure.{spawn-answer}
 use Rattle.ledger.proofs.Owner.{owner-some}
 use Rattle.ledger.proofs.Ready.{ReadyOf, prepared-sorted, prepared-same, render-sounds}
 use Rattle.ledger.proofs.Losses.{losses}
+use Rattle.ledger.proofs.EndInvariant.{moved-end}
+use Rattle.ledger.proofs.Port.{now-edge, edge-now, now-holds, holds-now}
 use Rattle.ledger.proofs.Store.{shown, storeOf, store-step, Was, was, tracks-count, answer-same, refusal-same, reclaimed-shown, ended-shown, goes-shown, why-shown, losses-shown}
 
 -- what is known of the ledger l after a list of calls from making with c
@@ -215,6 +219,22 @@ module _ (c : Config) (l : Ledger) (known : Known c l) where
             λ i. let r = in-map (λ (y : Node). y .id .0) (g .nodes) (k .0) i in let b = known .ready .rows .below (r .0) (r .1) in let x = r .2 in omega (arith, b, x, m),
           )
 
+  -- ---- the page's column: what the ledger knows of a voice, of the voice as the store shows it
+  column : (v : Voice) → In v (map (shown c) (l .voices)) → Shows (storeOf c l) v
+  column v i = let w = in-map (shown c) (l .voices) v i in subst (Shows (storeOf c l)) (sym (w .2)) (at (w .0) (w .1))
+    where
+      es : List Edge
+      es = l .shared .graph .edges
+
+      at : (u : Voice) → In u (l .voices) → Shows (storeOf c l) (shown c u)
+      at u j =
+          let s = known .kept .sound in
+          let same = sym (moved-end (λ n. n * c .block) u) in
+          record {
+            feeds = λ p. subst (λ k. (portFrom es k (u .bus) ≡ some p) ↔ In (change.edge k (u .bus) p) es) same (now-edge s u j p, edge-now s u j p);
+            holds = λ p. subst (λ k. (portFrom es k (u .bus) ≡ some p) ↔ (holderAt (l .shared .graph .nodes) es (u .bus .0) p ≡ voice (u .id))) same (now-holds s u j p, holds-now s u j p);
+          }
+
   pub holds : Holds c (storeOf c l)
   holds =
       record {
@@ -255,6 +275,7 @@ module _ (c : Config) (l : Ledger) (known : Known c l) where
         inOrder = prepared-sorted (l .shared .graph) (known .ready);
         prepares = prepares;
         sounds = λ e. next call.render (λ t. isSounded (t .answer) ≡ sounding (t .model .shared)) (render-sounds l (known .ready) e);
+        shows = column;
         room = record { nodes = omega (arith, known .room .nodes); edges = omega (arith, known .room .edges); voices = omega (arith, known .room .voices, length-map (l .voices) (shown c)); events = known .room .events };
         records = r .newest;
       }

@@ -19,12 +19,13 @@ use Rattle.graph.specs.View.{GraphView}
 use Rattle.graph.specs.Node.{portsOf}
 use Rattle.graph.specs.Change.{append, connect, edge}
 use Rattle.store.specs.declared.voices.Voice.{Voice}
-use Rattle.model.specs.Voice.{id, feeder}
+use Rattle.model.specs.Voice.{id, feeder, endOf}
 use Rattle.model.specs.Spawn.{Wire, appendAll, wireAll}
 use Rattle.ledger.specs.Holder.{Holders, voice, hold}
 use Rattle.ledger.specs.Claim.{ownerAt, Owners, holderAt, sourceHolds}
 use Rattle.ledger.proofs.Owner.{portsAt, look-old, owner-old, owner-new}
 use Rattle.ledger.proofs.EdgeInvariant.{Voiced, Out, Fed, in-put, wired-put, voiced-put, voiced-snoc}
+use Rattle.ledger.proofs.EndInvariant.{end-put, end-snoc}
 use Rattle.ledger.proofs.Held.{holder-voice, hold-put, hold-put-off}
 use Rattle.ledger.proofs.Invariant.{Invariant, HostAt, sound-append, ends-below}
 
@@ -83,6 +84,7 @@ module _ {ns : List Node} {base k : ℕ} {vs : List Voice} {h : Holders} where
           listed = r .sound .listed;
           wired = wired-put e (g .edges) (r .sound .wired) (record { a = k; b = k; from = r .mine a la; to = mb; range = λ z. absurd (omega (arith, pos, z)) });
           voiced = voiced-put e (g .edges) (r .sound .voiced) (λ v i o. absurd (not-host mb (o .0))) (λ v i d j q o u. not-host mb (o .0));
+          ends = end-put e (g .edges) (r .sound .ends) (λ v i o. absurd (not-host mb (o .0)));
           held = λ n q. r .sound .held n q ∙ sym (hold-put-off (r .sound .wired) e k mb pos n q);
         };
         next = r .next;
@@ -105,7 +107,7 @@ module _ {ns : List Node} {base k : ℕ} {vs : List Voice} {h : Holders} where
   -- ---- the edge to the port found
   module _ {count : ℕ} {g : GraphView} (r : Planted ns base k count vs h g) (pos : 0 < k) (older : (u : Voice) → In u vs → u .id .0 < k)
       (bus : NodeId) (live : HostAt ns (bus .0)) (bl : bus .0 < base) (out p : ℕ) (lo : out < count) (range : p < portsAt ns (bus .0))
-      (v : Voice) (vi : v .id .0 ≡ k) (vb : v .bus .0 ≡ bus .0) (vf : feeder v .0 ≡ base + out) where
+      (v : Voice) (vi : v .id .0 ≡ k) (vb : v .bus .0 ≡ bus .0) (vf : feeder v .0 ≡ base + out) (ve : endOf v ≡ feeder v) where
     abbrev e₁ : Edge
     e₁ = edge (id (base + out)) bus p
 
@@ -132,6 +134,7 @@ module _ {ns : List Node} {base k : ℕ} {vs : List Voice} {h : Holders} where
           listed = r .sound .listed;
           wired = wired-put e₁ (g .edges) (r .sound .wired) (record { a = k; b = 0; from = r .mine out lo; to = at-bus; range = λ z. subst (λ n. p < n) (sym (r .old (bus .0) bl .1)) range });
           voiced = voiced-put e₁ (g .edges) voiced₁ fed₁ other₁;
+          ends = end-put e₁ (g .edges) (end-snoc v (r .sound .ends) (ap own at-end ∙ r .mine out lo ∙ ap some (sym vi)) (λ e i o. r .off e i (o .0, o .1 ∙ ap some vi))) end₁;
           held = λ n q.
               ap (λ x. hold bus p (voice (record { 0 = k })) (λ n q. x) n q) (r .sound .held n q)
               ∙ sym (hold-put (r .sound .wired) e₁ at-bus n q ∙ ap (λ x. hold bus p x (holderAt (g .nodes) (g .edges)) n q) src);
@@ -144,7 +147,15 @@ module _ {ns : List Node} {base k : ℕ} {vs : List Voice} {h : Holders} where
         fed₁ u i o =
             let q : k ≡ u .id .0 = some-inj (sym (r .mine out lo) ∙ o .1) in
             ⊎-elim (λ j. absurd (omega (arith, older u j, q)))
-            (λ z. (ap (λ (y : Voice). y .bus .0) z ∙ vb, λ t. ap (λ (y : Voice). feeder y .0) z ∙ vf)) (in-snoc vs v u i)
+            (λ z. ap (λ (y : Voice). y .bus .0) z ∙ vb) (in-snoc vs v u i)
+
+        at-end : endOf v .0 ≡ base + out
+        at-end = ap (λ k. k .0) ve ∙ vf
+
+        end₁ : (u : Voice) → In u (vs ++ (v ∷ [])) → Out own (u .id .0) e₁ → endOf u .0 ≡ base + out
+        end₁ u i o =
+            let q : k ≡ u .id .0 = some-inj (sym (r .mine out lo) ∙ o .1) in
+            ⊎-elim (λ j. absurd (omega (arith, older u j, q))) (λ z. ap (λ (y : Voice). endOf y .0) z ∙ at-end) (in-snoc vs v u i)
 
         other₁ : (u : Voice) → In u (vs ++ (v ∷ [])) → (d : Edge) → In d (g .edges) → not (endsAt bus p d) ≡ true → Out own (u .id .0) e₁ → Out own (u .id .0) d → ⊥
         other₁ u i d j z o x =

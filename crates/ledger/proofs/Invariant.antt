@@ -1,4 +1,4 @@
--- A sound ledger: its nodes are listed, its edges and voices filter the invariant, and its holders are those that the edges give.
+-- A sound ledger: its nodes are listed, its edges and voices filter the invariant, each voice feeds the host from the end of its chain, and its holders are those that the edges give.
 -- Each change of the graph keeps it.
 use Prim.Native.Nat.{ℕ, _+_, _≤_, _<_}
 use native.Mathlib.Omega.{arith}
@@ -22,17 +22,19 @@ use Rattle.edges.specs.Wiring.{endsAt, dropAt, wired, among, touches, dropTouch
 use Rattle.graph.specs.Node.{isNode, ownedBy, nodeAt, portsOf, withId, replaced}
 use Rattle.graph.specs.Change.{idsOf, edge}
 use Rattle.store.specs.declared.voices.Voice.{Voice}
-use Rattle.model.specs.Voice.{id, isVoice, feeder}
+use Rattle.model.specs.Voice.{id, isVoice, feeder, endOf}
 use Rattle.ledger.specs.Holder.{Holders, host, nobody, hold, dropVoice, dropNode}
 use Rattle.ledger.specs.Claim.{ownerAt, holderAt}
 use Rattle.ledger.proofs.Owner.{portsAt, Listed, live-below, look-old, owner-old, listed-append, owner-thin, ports-thin, listed-thin, dead-voice, dead-node, owner-replaced, ports-replaced, listed-replaced}
 use Rattle.ledger.proofs.EdgeInvariant.{EdgeInvariant, Voiced, Same, above, wired-put, voiced-put, wired-move, voiced-move}
+use Rattle.ledger.proofs.EndInvariant.{EndInvariant, end-move, end-put}
 use Rattle.ledger.proofs.Held.{hold-same, hold-put, hold-drop, hold-voice, hold-node}
 
 pub record Invariant (ns : List Node) (es : List Edge) (next given : ℕ) (vs : List Voice) (h : Holders) : Type 0 where
   pub listed : Listed ns next given
   pub wired : EdgeInvariant (ownerAt ns) (portsAt ns) es
   pub voiced : Voiced (ownerAt ns) next given es vs
+  pub ends : EndInvariant (ownerAt ns) es vs
   pub held : (n p : ℕ) → h n p ≡ holderAt ns es n p
 
 -- a live node of the host
@@ -61,6 +63,7 @@ module _ {ns : List Node} {es : List Edge} {nx nv : ℕ} {vs : List Voice} {h : 
           voiced = voiced-move (omega arith) (omega arith) (s .voiced .rises) (λ v i. i) (λ e i. i) same₁
               (λ v i. owner-old (s .listed) x (feeder v .0) (live-below (s .listed) (feeder v .0) (v .id .0) (s .voiced .sung v i .feeds) .0))
               (λ v i k e. sym (owner-old (s .listed) x (v .bus .0) (s .voiced .sung v i .bus)) ∙ e) (s .voiced);
+          ends = end-move (λ v i. i) (λ e i. i) same₁ (λ v i. owner-old (s .listed) x (endOf v .0) (live-below (s .listed) (endOf v .0) (v .id .0) (s .ends .owns v i) .0)) (s .ends);
           held = λ n p. s .held n p ∙ sym (hold-same (s .wired) (ownerAt ns₁) same₁ n p);
         }
 
@@ -71,6 +74,7 @@ module _ {ns : List Node} {es : List Edge} {nx nv : ℕ} {vs : List Voice} {h : 
         listed = record { rises = s .listed .rises; below = λ x i. (s .listed .below x i .0, omega (arith, s .listed .below x i .1)) };
         wired = s .wired;
         voiced = voiced-move (omega arith) (omega arith) (s .voiced .rises) (λ v i. i) (λ e i. i) (λ e i. (refl, refl)) (λ v i. refl) (λ v i k e. e) (s .voiced);
+        ends = s .ends;
         held = s .held;
       }
 
@@ -84,6 +88,7 @@ module _ {ns : List Node} {es : List Edge} {nx nv : ℕ} {vs : List Voice} {h : 
         wired = wired-move (s .wired .once) (λ d j. j) (λ d j. ((same (d .from .0), same (d .to .0)), ports-replaced (s .listed) y x k e i o p (d .to .0))) (s .wired);
         voiced = voiced-move (omega arith) (omega arith) (s .voiced .rises) (λ v j. j) (λ d j. j) (λ d j. (same (d .from .0), same (d .to .0)))
             (λ v j. same (feeder v .0)) (λ v j n q. sym (same (v .bus .0)) ∙ q) (s .voiced);
+        ends = end-move (λ v j. j) (λ d j. j) (λ d j. (same (d .from .0), same (d .to .0))) (λ v j. same (endOf v .0)) (s .ends);
         held = λ n p. s .held n p ∙ sym (hold-same (s .wired) (ownerAt (replaced ns y)) (λ d j. (same (d .from .0), same (d .to .0))) n p);
       }
 
@@ -130,6 +135,9 @@ module _ {ns : List Node} {es : List Edge} {nx nv : ℕ} {vs : List Voice} {h : 
     voiced₂ rises sub safe =
         voiced-move (omega arith) (omega arith) rises sub (λ e i. stays e i .0) same₂ (λ v i. alive (feeder v .0) (safe v i)) (λ v i k e. back (v .bus .0) k e) (s .voiced)
 
+    ends₂ : ((v : Voice) → In v vs' → In v vs) → ((v : Voice) → In v vs' → deadAt (endOf v .0) ≡ false) → EndInvariant (ownerAt ns₂) es₂ vs'
+    ends₂ sub safe = end-move sub (λ e i. stays e i .0) same₂ (λ v i. alive (endOf v .0) (safe v i)) (s .ends)
+
   abbrev others : VoiceId → Voice → Bool
   others w v = not (isVoice w v)
 
@@ -140,28 +148,34 @@ module _ {ns : List Node} {es : List Edge} {nx nv : ℕ} {vs : List Voice} {h : 
         listed = listed-thin (s .listed) (ownedBy w);
         wired = wired₂ (ownedBy w) (filter (others w) vs);
         voiced = voiced₂ (ownedBy w) (filter (others w) vs) (rises-filter (λ (v : Voice). v .id .0) (others w) 1 vs (s .voiced .rises)) (λ v i. in-filter (others w) vs v i .0)
-            (λ v i.
-            let r = in-filter (others w) vs v i in
-            dead-voice (s .listed) w (feeder v .0) (v .id .0) (s .voiced .sung v (r .0) .feeds) ∙ not-true _ (r .1));
+            (λ v i. safe v i (feeder v .0) (s .voiced .sung v (in-filter (others w) vs v i .0) .feeds));
+        ends = ends₂ (ownedBy w) (filter (others w) vs) (λ v i. in-filter (others w) vs v i .0) (λ v i. safe v i (endOf v .0) (s .ends .owns v (in-filter (others w) vs v i .0)));
         held = λ n p.
             ap (λ x. dropVoice w (λ n p. x) n p) (s .held n p)
             ∙ sym (hold-voice (s .wired) (λ n. among (idsOf (ownedBy w) ns) (id n)) (ownerAt (filter (λ x. not (ownedBy w x)) ns)) (owner-thin (s .listed) (ownedBy w)) w pos (dead-voice (s .listed) w) n p);
       }
+    where
+      -- a node of a voice that stays
+      safe : (v : Voice) → In v (filter (others w) vs) → (n : ℕ) → ownerAt ns n ≡ some (v .id .0) → among (idsOf (ownedBy w) ns) (id n) ≡ false
+      safe v i n f = dead-voice (s .listed) w n (v .id .0) f ∙ not-true _ (in-filter (others w) vs v i .1)
 
   pub sound-removed : (k : NodeId) → HostAt ns (k .0) → Invariant (filter (λ x. not (isNode k x)) ns) (dropTouching es (idsOf (isNode k) ns)) nx nv vs (dropNode k h)
   sound-removed k live =
       record {
         listed = listed-thin (s .listed) (isNode k);
         wired = wired₂ (isNode k) vs;
-        voiced = voiced₂ (isNode k) vs (s .voiced .rises) (λ v i. i) (λ v i.
-            let f = s .voiced .sung v i .feeds in
-            dead-node (s .listed) k (feeder v .0) (v .id .0) f ∙ ne-eqb (feeder v .0) (k .0) (λ q.
-            let z : v .id .0 ≡ 0 = some-inj (sym f ∙ ap (ownerAt ns) q ∙ live) in
-            omega (arith, above (s .voiced) v i)));
+        voiced = voiced₂ (isNode k) vs (s .voiced .rises) (λ v i. i) (λ v i. safe v i (feeder v .0) (s .voiced .sung v i .feeds));
+        ends = ends₂ (isNode k) vs (λ v i. i) (λ v i. safe v i (endOf v .0) (s .ends .owns v i));
         held = λ n p.
             ap (λ x. dropNode k (λ n p. x) n p) (s .held n p)
             ∙ sym (hold-node (s .wired) (λ n. among (idsOf (isNode k) ns) (id n)) (ownerAt (filter (λ x. not (isNode k x)) ns)) (owner-thin (s .listed) (isNode k)) k live (dead-node (s .listed) k) n p);
       }
+    where
+      -- a node of a voice is not the host's
+      safe : (v : Voice) → In v vs → (n : ℕ) → ownerAt ns n ≡ some (v .id .0) → among (idsOf (isNode k) ns) (id n) ≡ false
+      safe v i n f = dead-node (s .listed) k n (v .id .0) f ∙ ne-eqb n (k .0) (λ q.
+          let z : v .id .0 ≡ 0 = some-inj (sym f ∙ ap (ownerAt ns) q ∙ live) in
+          omega (arith, above (s .voiced) v i))
 
   -- ---- the host's wiring
   pub sound-connect : (a b : NodeId) (p : ℕ) → HostAt ns (a .0) → HostAt ns (b .0) → p < portsAt ns (b .0) → Invariant ns (wired es (edge a b p)) nx nv vs (hold b p (host a) h)
@@ -170,6 +184,7 @@ module _ {ns : List Node} {es : List Edge} {nx nv : ℕ} {vs : List Voice} {h : 
         listed = s .listed;
         wired = wired-put (edge a b p) es (s .wired) (record { a = 0; b = 0; from = ha; to = hb; range = λ z. range });
         voiced = voiced-put (edge a b p) es (s .voiced) (λ v i o. absurd (mine v i (o .1))) (λ v i d j k o r. mine v i (o .1));
+        ends = end-put (edge a b p) es (s .ends) (λ v i o. absurd (mine v i (o .1)));
         held = λ n q. ap (λ x. hold b p (host a) (λ n q. x) n q) (s .held n q) ∙ sym (hold-put (s .wired) (edge a b p) hb n q ∙ rw ha);
       }
     where
@@ -182,6 +197,7 @@ module _ {ns : List Node} {es : List Edge} {nx nv : ℕ} {vs : List Voice} {h : 
         listed = s .listed;
         wired = wired-move (λ k q. once-filter (endsAt k q) (λ e. not (endsAt b p e)) es (s .wired .once k q)) sub (λ e i. ((refl, refl), refl)) (s .wired);
         voiced = voiced-move (omega arith) (omega arith) (s .voiced .rises) (λ v i. i) sub (λ e i. (refl, refl)) (λ v i. refl) (λ v i k e. e) (s .voiced);
+        ends = end-move (λ v i. i) sub (λ e i. (refl, refl)) (λ v i. refl) (s .ends);
         held = λ n q. ap (λ x. hold b p nobody (λ n q. x) n q) (s .held n q) ∙ sym (hold-drop (s .wired) b p n q);
       }
     where
@@ -195,5 +211,6 @@ sound-new =
       listed = record { rises = tt; below = λ x i. absurd i };
       wired = record { once = λ k p x i e. absurd i; ends = λ e i. absurd i };
       voiced = record { rises = tt; sung = λ v i. absurd i; fed = λ v i. absurd i; one = λ v i. absurd i };
+      ends = record { owns = λ v i. absurd i; leaves = λ v i. absurd i };
       held = λ n p. refl;
     }

@@ -77,30 +77,30 @@ whole-silent none out = refl
 whole-silent (some r) out = refl
 
 -- no question is a render
-pub answer-silent : (q : Question) (m : Model) → isSounded (answerTo q m) ≡ false
-answer-silent (call.level w) m = refl
-answer-silent (call.position w) m = refl
-answer-silent (call.voice w) m = refl
-answer-silent (call.voiceAt i) m = refl
-answer-silent call.voices m = refl
-answer-silent call.steals m = refl
-answer-silent call.edges m = refl
-answer-silent call.processing m = refl
-answer-silent (call.sources k) m = refl
-answer-silent (call.nodeRecord k) m = refl
-answer-silent call.clock m = refl
-answer-silent (call.page out) m = go (leb (length text) (length out))
+pub answer-silent : (port : Voice → Option ℕ) (q : Question) (m : Model) → isSounded (answerTo port q m) ≡ false
+answer-silent port (call.level w) m = refl
+answer-silent port (call.position w) m = refl
+answer-silent port (call.voice w) m = refl
+answer-silent port (call.voiceAt i) m = refl
+answer-silent port call.voices m = refl
+answer-silent port call.steals m = refl
+answer-silent port call.edges m = refl
+answer-silent port call.processing m = refl
+answer-silent port (call.sources k) m = refl
+answer-silent port (call.nodeRecord k) m = refl
+answer-silent port call.clock m = refl
+answer-silent port (call.page out) m = go (leb (length text) (length out))
   where
     text : List ℕ
-    text = page (m .shared .clock) (m .voices)
+    text = page (m .shared .clock) port (m .voices)
 
     go : (b : Bool) → isSounded (cond b (call.printed (length text) (written text out)) (call.refused ShortBuffer)) ≡ false
     go true = refl
     go false = refl
-answer-silent (call.fadeOutput input ins lent position out outs) m = block-silent (fades (m .shared .config) input ins lent out outs) _
-answer-silent (call.busSum inputs counts out outs) m = block-silent (sums (m .shared .config) inputs counts out outs) _
-answer-silent (call.wholeFade input ins lent position out outs) m = whole-silent (wholeFadeRefusal (m .shared .config) input ins lent out outs) _
-answer-silent (call.wholeSum inputs counts out outs) m = whole-silent (wholeSumRefusal (m .shared .config) inputs counts out outs) _
+answer-silent port (call.fadeOutput input ins lent position out outs) m = block-silent (fades (m .shared .config) input ins lent out outs) _
+answer-silent port (call.busSum inputs counts out outs) m = block-silent (sums (m .shared .config) inputs counts out outs) _
+answer-silent port (call.wholeFade input ins lent position out outs) m = whole-silent (wholeFadeRefusal (m .shared .config) input ins lent out outs) _
+answer-silent port (call.wholeSum inputs counts out outs) m = whole-silent (wholeSumRefusal (m .shared .config) inputs counts out outs) _
 
 abbrev Next : Ledger → Voice → Fade → Call → Step → Type 0
 Next l v f x s = GoesOn v f (s .answer) (s .ledger .voices) ⊎ Why l (s .ledger) v f x
@@ -308,4 +308,4 @@ module _ (v : Voice) (f : Fade) (ph : v .state ≡ Fading f) where
   leaves (call.report k channels samples flag) l r q i = guarded (reportRefusal (l .shared) (l .voices) k channels (length samples)) _ l _ i (λ e. inl (still (l .voices) i))
   leaves call.prepare l r q i = inl (ready-still l (prepareOutcome (l .shared) .answer) i)
   leaves call.render l r q i = leaves-render l i
-  leaves (call.ask w) l r q i = inl (rw (answer-silent w (seen l)) (still (l .voices) i))
+  leaves (call.ask w) l r q i = inl (rw (answer-silent (λ v. portHeld v l) w (seen l)) (still (l .voices) i))

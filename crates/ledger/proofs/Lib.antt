@@ -1,6 +1,7 @@
 pub mod Words
 pub mod Owner
 pub mod EdgeInvariant
+pub mod EndInvariant
 pub mod Held
 pub mod Invariant
 pub mod Fading

@@ -48,8 +48,9 @@ use Rattle.ledger.specs.Render.{oneMore, countedIf}
 use Rattle.ledger.specs.Render as ledgerRender
 use Rattle.ledger.proofs.Preserved.{atShared}
 use Rattle.ledger.proofs.EdgeInvariant.{above, voiced-map}
+use Rattle.ledger.proofs.EndInvariant.{moved-end, end-map}
 use Rattle.ledger.proofs.Invariant.{Invariant, sound-gone, sound-replaced}
-use Rattle.ledger.proofs.Abstraction.{modelOf, reached, stored, tracked-same, find-stored, moved-stored, ended-stored}
+use Rattle.ledger.proofs.Abstraction.{modelOf, reached, stored, find-stored, moved-stored, ended-stored}
 use Rattle.ledger.proofs.Spawns.{InvariantOf, Left, model-gone}
 
 -- ---- frees, called and timed
@@ -228,7 +229,8 @@ block-agrees a l s =
         record {
           listed = s .listed;
           wired = s .wired;
-          voiced = voiced-map (moved oneMore) (λ v. refl) (λ v. refl) (λ v. refl) (λ v k. sym (tracked-same oneMore (v .state)) ∙ k) (s .voiced);
+          voiced = voiced-map (moved oneMore) (λ v. refl) (λ v. refl) (λ v. refl) (s .voiced);
+          ends = end-map (moved oneMore) (λ v. refl) (moved-end oneMore) (s .ends);
           held = s .held;
         }
     go false = s

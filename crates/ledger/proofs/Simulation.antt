@@ -2,14 +2,16 @@
 -- for. What is kept on the way is that the ledger is sound.
 use Prim.Native.Nat.{ℕ, _≤_, _<_}
 use native.Mathlib.Omega.{arith}
-use mathlib.Core.Path.{_≡_, refl, sym, ap, ap₂, subst}
-use mathlib.Core.List.{List, [], _∷_}
+use mathlib.Core.Path.{_≡_, refl, sym, ap, ap₂, _∙_, subst}
+use mathlib.Core.Logic.{inl, inr}
+use mathlib.Core.List.{List, [], _∷_, _++_, map}
 use mathlib.Core.Option.{Option, none, some}
 use mathlib.Core.Bool.{Bool, false, _||_, true≢false}
 use lib.Dec.{leb}
 use lib.Ieee.{Float}
 use lib.ListN.{length}
 use borrow.Author.Tests.{eqb-true, leb-false, not-false}
+use Rattle.lists.specs.Member.{In}
 use Rattle.node.specs.Name.{nameOf}
 use Rattle.node.specs.declared.record.NodeId.{NodeId}
 use Rattle.node.specs.declared.record.VoiceId.{VoiceId}
@@ -20,22 +22,27 @@ use Rattle.node.specs.declared.refusal.Refusal.the-variants.{UnknownNode, Voice
 use Rattle.graph.specs.View.{GraphView}
 use Rattle.graph.specs.Node.{nodeAt, ofVoice, portsOf, hostNode}
 use Rattle.graph.specs.Refuse.{dead, addRefusal, hostRefusal, disconnectRefusal, connectRefusal}
+use Rattle.edges.specs.Ports.{portFrom}
 use Rattle.bus.specs.Fade.{fadeLength}
 use Rattle.store.specs.declared.config.Config.{Config}
+use Rattle.store.specs.declared.voices.Voice.{Voice}
 use Rattle.model.specs.SharedState.{lengthL}
 use Rattle.model.specs.Refuse.{reportRefusal}
 use Rattle.model.specs.Order.{order, reportNode}
 use Rattle.model.specs.Render.{prepareOutcome}
-use Rattle.model.specs.Call.{Call, scheduleRefusal, answerTo}
+use Rattle.model.specs.Page.{header, portNow, line, lines}
+use Rattle.model.specs.Call.{Call, Question, scheduleRefusal, pageAnswer, answerTo}
 use Rattle.model.specs.Call as call
-use Rattle.ledger.specs.Ledger.{Ledger, newLedger}
+use Rattle.ledger.specs.Ledger.{Ledger, newLedger, portHeld}
 use Rattle.ledger.specs.Call as ledger
 use Rattle.ledger.specs.Claim.{ownerOf}
 use Rattle.ledger.proofs.Allowed.{when-none, or-false, host-at}
 use Rattle.ledger.proofs.Managed.{config-step}
 use Rattle.ledger.proofs.Owner.{portsAt}
 use Rattle.ledger.proofs.Invariant.{HostAt, sound-append, sound-removed, sound-connect, sound-disconnect, sound-new}
-use Rattle.ledger.proofs.Abstraction.{modelOf, reached}
+use Rattle.ledger.proofs.EndInvariant.{moved-end}
+use Rattle.ledger.proofs.Port.{end-held}
+use Rattle.ledger.proofs.Abstraction.{modelOf, reached, stored}
 use Rattle.ledger.proofs.NoOverflow.{NoOverflow, clock-step, timely-step, stored-shown}
 use Rattle.ledger.proofs.Spawns.{InvariantOf, host-owned, ids-of, managed-agrees, loose-agrees}
 use Rattle.ledger.proofs.Moves.{free-agrees, clear-agrees, order-desk, report-desk, ready-desk, order-same, refusal-same, render-agrees}
@@ -106,6 +113,32 @@ module _ (l : Ledger) (s : InvariantOf l) where
   reads-agrees : (a b : call.Answer) → a ≡ b → Agrees (call.reads (modelOf l) a) (ledger.reads l b)
   reads-agrees a b e = record { answer = e; model = refl; sound = s }
 
+  -- ---- 02, Paper 4: the store's page, by edges, and the ledger's, by holders
+  lines-agree : (vs : List Voice) → ((v : Voice) → In v vs → In v (l .voices)) → lines (l .shared .clock) (portNow (l .shared .graph .edges)) (map (stored l) vs) ≡ lines (l .shared .clock) (λ v. portHeld v l) (map (stored l) vs)
+  lines-agree [] sub = refl
+  lines-agree (v ∷ vs) sub =
+      let here : portNow (l .shared .graph .edges) (stored l v) ≡ portHeld v l =
+      ap (λ k. portFrom (l .shared .graph .edges) k (v .bus)) (moved-end (reached (l .shared .config .block)) v) ∙ end-held s v (sub v (inl refl)) in
+      ap₂ (λ o t. line (l .shared .clock) o (stored l v) ++ t) here (lines-agree vs (λ u i. sub u (inr i)))
+
+  asks-agree : (q : Question) → answerTo (portNow (l .shared .graph .edges)) q (modelOf l) ≡ answerTo (λ v. portHeld v l) q (modelOf l)
+  asks-agree (call.level w) = refl
+  asks-agree (call.position w) = refl
+  asks-agree (call.voice w) = refl
+  asks-agree (call.voiceAt i) = refl
+  asks-agree call.voices = refl
+  asks-agree call.steals = refl
+  asks-agree call.edges = refl
+  asks-agree call.processing = refl
+  asks-agree (call.sources k) = refl
+  asks-agree (call.nodeRecord k) = refl
+  asks-agree call.clock = refl
+  asks-agree (call.page out) = ap (λ t. pageAnswer (header ++ t) out) (lines-agree (l .voices) (λ v i. i))
+  asks-agree (call.fadeOutput input ins lent at out outs) = refl
+  asks-agree (call.busSum inputs counts out outs) = refl
+  asks-agree (call.wholeFade input ins lent at out outs) = refl
+  asks-agree (call.wholeSum inputs counts out outs) = refl
+
 -- what every run keeps of a ledger: it is sound, and its numbers are within 64 bits
 pub record Kept (l : Ledger) : Type 0 where
   pub sound : InvariantOf l
@@ -133,7 +166,7 @@ step-agrees call.prepare l h =
     record { answer = refl; model = r .model; sound = r .sound }
 step-agrees call.render l h = let r = render-agrees l (h .sound) in record { answer = ap call.rendered (r .answer); model = r .model; sound = r .sound }
 step-agrees (call.ask q) l h =
-    reads-agrees l (h .sound) _ _ (ap (λ vs. answerTo q (record { shared = l .shared; voices = vs })) (stored-shown l (h .timely) (h .clock)))
+    reads-agrees l (h .sound) _ _ (asks-agree l (h .sound) q ∙ ap (λ vs. answerTo (λ v. portHeld v l) q (record { shared = l .shared; voices = vs })) (stored-shown l (h .timely) (h .clock)))
 
 pub kept-step : (x : Call) (l : Ledger) → Kept l → Kept (ledger.step x l .ledger)
 kept-step x l h =

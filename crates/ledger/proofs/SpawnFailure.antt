@@ -116,7 +116,7 @@ held-own l s v i n p w h e = go (ownerAt ns n) refl (find (endsAt (id n) p) es) 
         let r = edge-at es (id n) p d f in
         let g = s .wired .ends d (r .0) in
         let a : g .a ≡ v .id .0 = own (g .a) (d .from) (rw (g .from) at q) in
-        s .voiced .fed v i d (r .0) (ap (ownerAt ns) (r .1) ∙ o, g .from ∙ ap some a) .0 ∙ r .1
+        s .voiced .fed v i d (r .0) (ap (ownerAt ns) (r .1) ∙ o, g .from ∙ ap some a) ∙ r .1
 
     at : (k : ℕ) → ownerAt ns n ≡ some k → (b : Bool) → eqb k 0 ≡ b → (oe : Option Edge) → find (endsAt (id n) p) es ≡ oe → cond b (heldBy (ownerAt ns) oe) nobody ≡ voice w → v .bus .0 ≡ n
     at k o true c oe f q = src (o ∙ ap some (eqb-true k 0 c)) oe f q

@@ -44,6 +44,7 @@ use Rattle.ledger.proofs.Ids.{Ids}
 use Rattle.ledger.proofs.Victim.{steal-voice, nextOut-in}
 use Rattle.ledger.proofs.Owner.{portsAt, live-below, owner-old, owner-thin, dead-voice}
 use Rattle.ledger.proofs.EdgeInvariant.{above}
+use Rattle.ledger.proofs.EndInvariant.{still-end}
 use Rattle.ledger.proofs.Invariant.{Invariant, HostAt, sound-gone}
 use Rattle.ledger.proofs.Fading.{sound-fade}
 use Rattle.ledger.proofs.NewVoice.{feeder-out, sound-newcomer}
@@ -103,7 +104,7 @@ module _ (l : Ledger) (s : InvariantOf l) where
   faded v i e j ef et =
       record {
         model = model-fade v (e .port) l;
-        sound = sound-fade s v i e j ef et (fadeOf (l .shared));
+        sound = sound-fade s v i e j ef et (fadeOf (l .shared)) refl;
         hosts = λ n h. owner-old (s .listed) (fadeNode (v .id)) n (live-below (s .listed) n 0 h .0) ∙ h;
       }
 
@@ -134,7 +135,7 @@ module _ (spawn : Spawn) (ok : allowed (spawn .def) ≡ true) (t : VoiceState) (
         answer = refl;
         model = ap (λ vs. record { shared = ledger.instantiate spawn t p l .ledger .shared; voices = vs })
             (ap (λ v. map (stored l) (l .voices) ++ (v ∷ [])) same ∙ sym (map-append (stored l) (l .voices) (newVoice spawn t p (l .shared) ∷ [])));
-        sound = sound-newcomer (spawn .def) ok (pans (spawn .pan)) bus p (l .shared .spawned) (l .shared .graph) (l .voices) (l .holders) s live range (newVoice spawn t p (l .shared)) refl refl (feeder-out spawn t p (l .shared));
+        sound = sound-newcomer (spawn .def) ok (pans (spawn .pan)) bus p (l .shared .spawned) (l .shared .graph) (l .voices) (l .holders) s live range (newVoice spawn t p (l .shared)) refl refl (feeder-out spawn t p (l .shared)) (still-end t still (newVoice spawn t p (l .shared)));
       }
     where
       same : newVoice spawn t p (l .shared) ≡ stored l (newVoice spawn t p (l .shared))

@@ -22,7 +22,7 @@ use Rattle.model.specs.Model.{Model}
 use Rattle.model.specs.Call.{Call, Answer, readyAnswer, answerTo, event, scheduleRefusal}
 use Rattle.model.specs.Call as call
 use Rattle.ledger.specs.Holder.{Holders, nobody, host, hold, dropNode}
-use Rattle.ledger.specs.Ledger.{Ledger, atShared, atGraph}
+use Rattle.ledger.specs.Ledger.{Ledger, atShared, atGraph, portHeld}
 use Rattle.ledger.specs.Ledger as ledger
 use Rattle.ledger.specs.Clear as clearing
 use Rattle.ledger.specs.Render as rendering
@@ -52,7 +52,7 @@ position block count = count * block
 abbrev pub shown : Ledger → Voice → Voice
 shown l v = moved (position (l .shared .config .block)) v
 
--- what a question finds: the rules of reading are the model's
+-- what a question finds: the rules of reading are the model's. For the page (02, Paper 4) the port that a voice feeds is the port of its bus that it holds
 abbrev pub seen : Ledger → Model
 seen l = record { shared = l .shared; voices = map (shown l) (l .voices) }
 
@@ -89,7 +89,7 @@ step call.prepare l = sharedStep l (prepareShared (l .shared)) (readyAnswer (pre
 step call.render l =
     let h = rendering.render l in
     record { answer = call.rendered (h .answer); ledger = h .ledger }
-step (call.ask q) l = reads l (answerTo q (seen l))
+step (call.ask q) l = reads l (answerTo (λ v. portHeld v l) q (seen l))
 
 pub record Ran : Type 0 where
   pub answers : List Answer

@@ -38,6 +38,7 @@ use Rattle.edges.specs.Wiring.{endsAt}
 use Rattle.edges.specs.Ports.{portFrom}
 use Rattle.graph.specs.View.{GraphView}
 use Rattle.graph.specs.Node.{nodeAt, portsOf}
+use Rattle.graph.specs.Change.{edge}
 use Rattle.scheduler.specs.Queue as queue
 use Rattle.scheduler.specs.declared.event.Event.{Event}
 use Rattle.voice.specs.Steals.{StealLog, cutOf, foundAt, recordOf}
@@ -58,13 +59,14 @@ use Rattle.store.specs.declared.voices.VoiceState.{VoiceState}
 use Rattle.store.specs.declared.voices.VoiceState.the-variants.{Tracked, Fading, Loose}
 use Rattle.store.specs.declared.voices.Fade.{Fade}
 use Rattle.model.specs.SharedState.{SharedState, lengthL, sounding}
-use Rattle.model.specs.Voice.{id, isVoice, isTracked, isFading, isOn, feeder, voiceLevel, counted, moved, movedFade, withState}
+use Rattle.model.specs.Voice.{id, isVoice, isTracked, isFading, isOn, feeder, endOf, voiceLevel, counted, moved, movedFade, withState}
 use Rattle.model.specs.Refuse.{spawnRefusal}
 use Rattle.model.specs.Spawn.{Spawn, nextVoice, stateUnder, fadeOf}
 use Rattle.model.specs.Clear.{isSilent}
 use Rattle.model.specs.Clear as clearing
 use Rattle.model.specs.Render.{isFree, isSounding, deadline, clockEnds}
 use Rattle.model.specs.Model.{Model, admissionOn}
+use Rattle.model.specs.Page.{portNow}
 use Rattle.model.specs.Call.{Call, Answer}
 use Rattle.model.specs.Call as call
 use Rattle.ledger.specs.Holder.{Holder, nobody, host, voice}
@@ -369,6 +371,13 @@ pub record Room (s : Model) : Type 0 where
 abbrev pub Newest : StealLog → Type 0
 Newest b = ((length (b .newest) ≡ 64) × (64 ≤ b .count)) ⊎ ((length (b .newest) ≡ b .count) × (b .count < 64))
 
+-- ---- the page
+-- 02, Paper 4: "The port column shall show the port that the voice's output, pan node or fade feeds on its bus now, or `-` if none": it shows p exactly where there is an
+-- edge from the voice's end to the port p of its bus, and exactly where the voice holds that port. So at most one p is right, and `-` stands where none is.
+pub record Shows (s : Model) (v : Voice) : Type 0 where
+  pub feeds : (p : ℕ) → (portNow (s .shared .graph .edges) v ≡ some p) ↔ In (edge (endOf v) (v .bus) p) (s .shared .graph .edges)
+  pub holds : (p : ℕ) → (portNow (s .shared .graph .edges) v ≡ some p) ↔ (holderAt (s .shared .graph .nodes) (s .shared .graph .edges) (v .bus .0) p ≡ voice (v .id))
+
 -- ---- the graph
 -- "All live nodes are processed once": the processing order has every live node once and nothing else, and each edge's source before its target
 abbrev pub InOrder : GraphView → Type 0
@@ -422,6 +431,8 @@ pub record Holds (c : Config) (s : Model) : Type 0 where
   pub inOrder : s .shared .graph .prepared ≡ true → InOrder (s .shared .graph)
   pub prepares : s .shared .graph .prepared ≡ true → call.step call.prepare s ≡ record { answer = call.done; model = s }
   pub sounds : clockEnds (s .shared) ≡ false → isSounded (call.step call.render s .answer) ≡ sounding (call.step call.render s .model .shared)
+  -- ---- 02, Paper 4. The page's port column, of every voice: tracked, fading or loose.
+  pub shows : (v : Voice) → In v (s .voices) → Shows s v
   -- ---- The tables hold it: 512 nodes, 1,024 edges, 64 voices, 256 events, and the newest 64 records.
   pub room : Room s
   pub records : Newest (s .shared .steals)

@@ -13,6 +13,7 @@ pub mod TableScenes
 pub mod WholeNumbers
 pub mod WholeScenes
 pub mod ReadingScenes
+pub mod RewiredScenes
 pub mod SilenceScenes
 pub mod Refused
 pub mod NoPort

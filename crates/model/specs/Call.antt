@@ -186,23 +186,24 @@ wholeFadeAnswer c input ins lent at out outs = wholeAnswer (wholeFadeRefusal c i
 abbrev pub wholeSumAnswer : Config → List ℤ → List ℕ → List ℤ → ℕ → Answer
 wholeSumAnswer c inputs counts out outs = wholeAnswer (wholeSumRefusal c inputs counts out outs) (wholeSumBlock c inputs counts out outs)
 
-abbrev pub answerTo : Question → Model → Answer
-answerTo (level w) m = known (levelOr (m .shared) (find (isVoice w) (m .voices)))
-answerTo (position w) m = reached (positionIn (find (isVoice w) (m .voices)))
-answerTo (voice w) m = found (find (isVoice w) (m .voices))
-answerTo (voiceAt i) m = found (getElem? (m .voices) i)
-answerTo voices m = all (m .voices)
-answerTo steals m = stolen (m .shared .steals)
-answerTo edges m = wires (m .shared .graph .edges)
-answerTo processing m = inOrder (m .shared .graph .order)
-answerTo (sources k) m = fed (ports.sources (m .shared .graph .edges) k)
-answerTo (nodeRecord k) m = foundNode (nodeAt (m .shared .graph .nodes) k)
-answerTo clock m = time (m .shared .clock)
-answerTo (page out) m = pageAnswer (paper.page (m .shared .clock) (m .voices)) out
-answerTo (fadeOutput input ins lent at out outs) m = fadeAnswer (m .shared .config) input ins lent at out outs
-answerTo (busSum inputs counts out outs) m = sumAnswer (m .shared .config) inputs counts out outs
-answerTo (wholeFade input ins lent at out outs) m = wholeFadeAnswer (m .shared .config) input ins lent at out outs
-answerTo (wholeSum inputs counts out outs) m = wholeSumAnswer (m .shared .config) inputs counts out outs
+-- `port` tells which port of its bus a voice feeds now, for the page (02, Paper 4)
+abbrev pub answerTo : (Voice → Option ℕ) → Question → Model → Answer
+answerTo port (level w) m = known (levelOr (m .shared) (find (isVoice w) (m .voices)))
+answerTo port (position w) m = reached (positionIn (find (isVoice w) (m .voices)))
+answerTo port (voice w) m = found (find (isVoice w) (m .voices))
+answerTo port (voiceAt i) m = found (getElem? (m .voices) i)
+answerTo port voices m = all (m .voices)
+answerTo port steals m = stolen (m .shared .steals)
+answerTo port edges m = wires (m .shared .graph .edges)
+answerTo port processing m = inOrder (m .shared .graph .order)
+answerTo port (sources k) m = fed (ports.sources (m .shared .graph .edges) k)
+answerTo port (nodeRecord k) m = foundNode (nodeAt (m .shared .graph .nodes) k)
+answerTo port clock m = time (m .shared .clock)
+answerTo port (page out) m = pageAnswer (paper.page (m .shared .clock) port (m .voices)) out
+answerTo port (fadeOutput input ins lent at out outs) m = fadeAnswer (m .shared .config) input ins lent at out outs
+answerTo port (busSum inputs counts out outs) m = sumAnswer (m .shared .config) inputs counts out outs
+answerTo port (wholeFade input ins lent at out outs) m = wholeFadeAnswer (m .shared .config) input ins lent at out outs
+answerTo port (wholeSum inputs counts out outs) m = wholeSumAnswer (m .shared .config) inputs counts out outs
 
 abbrev pub step : Call → Model → Step
 step (addNode kind ports required values glides) m =
@@ -234,7 +235,7 @@ step prepare m = sharedStep m (prepareShared (m .shared)) (readyAnswer (prepareO
 step render m =
     let h = rendering.render m in
     record { answer = rendered (h .answer); model = h .model }
-step (ask q) m = reads m (answerTo q m)
+step (ask q) m = reads m (answerTo (paper.portNow (m .shared .graph .edges)) q m)
 
 -- ---- a list of calls
 pub record Ran : Type 0 where

@@ -65,6 +65,16 @@ id k = record { 0 = k }
 abbrev pub feeder : Voice → NodeId
 feeder v = cond (v .panned) (id (v .first .0 + v .count + 1)) (v .output)
 
+-- 02, Paper 4: "the voice's output, pan node or fade": the last node of the voice, from which it feeds its bus. Its fade if it fades, else its pan
+-- node if it is panned, else its output
+abbrev pub endIn : VoiceState → Voice → NodeId
+endIn Tracked v = feeder v
+endIn (Fading f) v = f .node
+endIn Loose v = feeder v
+
+abbrev pub endOf : Voice → NodeId
+endOf v = endIn (v .state) v
+
 -- the voice was spawned on the bus
 abbrev pub isOn : NodeId → Voice → Bool
 isOn bus v = eqb (v .bus .0) (bus .0)
