@@ -1,30 +1,52 @@
--- The lines of one voice more.
+-- The port that a voice feeds, its line, and the lines of one voice more.
 use Prim.Native.Nat.{ℕ, _+_, _<_}
 use native.Mathlib.Numerals.{add-one}
 use mathlib.Core.Path.{_≡_, refl, sym, ap, _∙_}
 use mathlib.Core.List.{List, [], _∷_, _++_, append-assoc, append-nil}
+use mathlib.Core.Option.{Option, none}
+use mathlib.Core.Bool.{true, false}
 use lib.ListN.{length, take, getD}
 use lib.Seq.{take-suc}
 use Rattle.node.specs.Silence.{bytes}
 use Rattle.model.specs.Decimal.{decimal}
-use Rattle.model.specs.Page.{word, age, givenPort, line, lines}
+use Rattle.model.specs.Voice.{endOf}
+use Rattle.model.specs.Page.{word, age, portNow, portText, line, lines}
+use Rattle.lists.specs.Find.{find, or?, mapO}
+use Rattle.node.specs.declared.record.NodeId.{NodeId}
 use Rattle.node.specs.declared.record.VoiceId.{VoiceId}
+use Rattle.node.specs.declared.record.Edge.{Edge}
+use Rattle.edges.specs.Ports.{feeds}
+use Rattle.graph_tables.specs.Fed.{node, feedingOf}
+use Rattle.graph_tables.specs.declared.ports.Feeding.{Feeding}
 use Rattle.store.specs.declared.voices.Voice.{Voice}
 use Rattle.store.specs.declared.voices.VoiceState.{VoiceState}
+
+-- the edge that was looked for, and the text of its port
+module _ (es : List Edge) (v : Voice) (from : ℕ) (bus : NodeId) (fed : Feeding) (e : from ≡ endOf v .0) (f : bus ≡ v .bus) (h : feedingOf fed ≡ find (feeds (node from) bus) es) where
+  port-is : mapO (λ (e : Edge). e .port) (feedingOf fed) ≡ portNow es v
+  port-is = ap (mapO (λ (e : Edge). e .port)) (h ∙ ap (λ k. find (feeds (node k) bus) es) e ∙ ap (λ k. find (feeds (endOf v) k) es) f)
+
+  pub port-found : fed .found ≡ true → decimal (fed .edge .port) ++ bytes " " ≡ portText (portNow es v) ++ bytes " "
+  port-found t = ap (λ o. portText o ++ bytes " ") (sym (ap (λ b. mapO (λ (e : Edge). e .port) (or? b (fed .edge) none)) t) ∙ port-is)
+
+  pub port-none : fed .found ≡ false → bytes "- " ≡ portText (portNow es v) ++ bytes " "
+  port-none t = ap (λ o. portText o ++ bytes " ") (sym (ap (λ b. mapO (λ (e : Edge). e .port) (or? b (fed .edge) none)) t) ∙ port-is)
 
 -- a voice's line, field by field
 regrouped : (s a b c d : List ℕ) → (((a ++ s) ++ (b ++ s)) ++ (c ++ s)) ++ d ≡ a ++ (s ++ (b ++ (s ++ (c ++ (s ++ d)))))
 regrouped s a b c d = simp append-assoc
 
-pub line-is : (clock : ℕ) (v : Voice) (id : VoiceId) (since port : ℕ) (state : VoiceState) → id ≡ v .id → since ≡ age clock v → port ≡ givenPort v → state ≡ v .state
-    → (((decimal (id .0) ++ bytes " ") ++ (decimal since ++ bytes " ")) ++ (decimal port ++ bytes " ")) ++ (word state ++ bytes "\n") ≡ line clock v
-line-is clock v id since port state e f g h = rw (e, f, g, h) (regrouped (bytes " ") (decimal (v .id .0)) (decimal (age clock v)) (decimal (givenPort v)) (word (v .state) ++ bytes "\n"))
+pub line-is : (clock : ℕ) (o : Option ℕ) (v : Voice) (id : VoiceId) (since : ℕ) (state : VoiceState) → id ≡ v .id → since ≡ age clock v → state ≡ v .state
+    → (((decimal (id .0) ++ bytes " ") ++ (decimal since ++ bytes " ")) ++ (portText o ++ bytes " ")) ++ (word state ++ bytes "\n") ≡ line clock o v
+line-is clock o v id since state e f h = rw (e, f, h) (regrouped (bytes " ") (decimal (v .id .0)) (decimal (age clock v)) (portText o) (word (v .state) ++ bytes "\n"))
 
-lines-both : (clock : ℕ) (a b : List Voice) → lines clock (a ++ b) ≡ lines clock a ++ lines clock b
-lines-both clock [] b = refl
-lines-both clock (v ∷ a) b = ap (_++_ (line clock v)) (lines-both clock a b) ∙ sym (append-assoc (line clock v) (lines clock a) (lines clock b))
+module _ (clock : ℕ) (port : Voice → Option ℕ) where
+  lines-both : (a b : List Voice) → lines clock port (a ++ b) ≡ lines clock port a ++ lines clock port b
+  lines-both [] b = refl
+  lines-both (v ∷ a) b = ap (_++_ (line clock (port v) v)) (lines-both a b) ∙ sym (append-assoc (line clock (port v) v) (lines clock port a) (lines clock port b))
 
-pub lines-more : (clock i : ℕ) (rows : List Voice) (d : Voice) → i < length rows → lines clock (take i rows) ++ line clock (getD rows i d) ≡ lines clock (take (i + 1) rows)
-lines-more clock i rows d h =
-    let one : lines clock (getD rows i d ∷ []) ≡ line clock (getD rows i d) = append-nil (line clock (getD rows i d)) in
-    sym (ap (λ (k : ℕ). lines clock (take k rows)) (add-one i) ∙ ap (lines clock) (take-suc rows i d h) ∙ lines-both clock (take i rows) (getD rows i d ∷ []) ∙ ap (_++_ (lines clock (take i rows))) one)
+  pub lines-more : (i : ℕ) (rows : List Voice) (d : Voice) → i < length rows → lines clock port (take i rows) ++ line clock (port (getD rows i d)) (getD rows i d) ≡ lines clock port (take (i + 1) rows)
+  lines-more i rows d h =
+      let v = getD rows i d in
+      let one : lines clock port (v ∷ []) ≡ line clock (port v) v = append-nil (line clock (port v) v) in
+      sym (ap (λ (k : ℕ). lines clock port (take k rows)) (add-one i) ∙ ap (lines clock port) (take-suc rows i d h) ∙ lines-both (take i rows) (v ∷ []) ∙ ap (_++_ (lines clock port (take i rows))) one)

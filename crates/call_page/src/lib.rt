@@ -1,7 +1,8 @@
-// The page on a lent store: a header and a line for each voice, into a lent buffer.
+// The page on a lent store: a header and a line for each voice, into a lent buffer. The edges tell which port a voice feeds now.
 mod put;
 
 use bytes::copy;
+use graph_rows::edge_row::EdgeTable;
 use memory::state::State;
 use node::refusal::Refusal;
 use put::put_page;
@@ -16,7 +17,7 @@ ghost use Rattle.node.specs.declared.refusal.Refusal as refusal;
 ghost use Rattle.store.specs.declared.answer.Paged.the-variants as paged;
 ghost use Rattle.model.specs.Call as call;
 ghost use Rattle.memory.specs.View.{Memory};
-ghost use Rattle.memory.specs.Lent.{lentVoiceTable};
+ghost use Rattle.memory.specs.Lent.{lentPage};
 ghost use Rattle.memory.specs.Called.{Called};
 ghost use Rattle.call_page.specs.Paged.{pagedOf, allOrNone, lengthOf};
 
@@ -28,12 +29,12 @@ fn all_or_none(n: usize, room: usize) -> usize
 }
 
 // The page in `out`, and its length; or 17 where `out` is too short, and then `out` stays as it is.
-pub fn page(s: State, voices: &VoiceTable, out: &mut [u8]) -> Paged
-    ensures is { λ r. ⌜ ((m : Memory) → Called (call.ask (call.page (now (out .entry)))) (lentVoiceTable s (now (voices .entry)) m) (pagedOf r (now (out .exit))) (lentVoiceTable s (now (voices .entry)) m)) ⌝ }
+pub fn page(s: State, edges: &EdgeTable, voices: &VoiceTable, out: &mut [u8]) -> Paged
+    ensures is { λ r. ⌜ ((m : Memory) → Called (call.ask (call.page (now (out .entry)))) (lentPage s (now (edges .entry)) (now (voices .entry)) m) (pagedOf r (now (out .exit))) (lentPage s (now (edges .entry)) (now (voices .entry)) m)) ⌝ }
     ensures same { λ r. ⌜ ((x : refusal.Refusal) → r ≡ paged.Refused x → now (out .exit) ≡ now (out .entry)) ⌝ }
 {
     let mut text = [0u8; 4501];
-    let n = put_page(s.clock, voices, s.voices, &mut text);
+    let n = put_page(s.clock, edges, s.edges, voices, s.voices, &mut text);
     let room = out.len();
     let k = all_or_none(n, room);
     copy(&text[..k], out);

@@ -9,11 +9,12 @@ use Rattle.store.specs.declared.voices.Voice.{Voice}
 use Rattle.voice_rows.specs.Rows.{voiceOf}
 use Rattle.voice_rows.specs.Found.{FoundAt}
 use Rattle.voice_rows.specs.declared.table.FoundRow.{FoundRow}
+use Rattle.model.specs.Page.{portNow}
 use Rattle.model.specs.Call.{Question, Answer, answerTo, reads, ask}
 use Rattle.memory.specs.View.{Memory, modelOf}
 use Rattle.memory.specs.Called.{Called}
 
-pub asks : (q : Question) (m : Memory) (a : Answer) → a ≡ answerTo q (modelOf m) → Called (ask q) m a m
+pub asks : (q : Question) (m : Memory) (a : Answer) → a ≡ answerTo (portNow (modelOf m .shared .graph .edges)) q (modelOf m) → Called (ask q) m a m
 asks q m a e = ap (reads (modelOf m)) e
 
 -- the voice in the row that was found, or none

@@ -12,14 +12,11 @@ use voice::policy::Admission;
 use voice::policy::request_in;
 use voice_graph::growth::add_fade;
 use voice_rows::fade::begin_fade;
+use voice_rows::feeding::feeder_at;
 use voice_rows::levels::candidates;
 use voice_rows::row::VoiceTable;
 use voice_rows::row::bus_at;
-use voice_rows::row::count_at;
-use voice_rows::row::first_at;
 use voice_rows::row::id_at;
-use voice_rows::row::output_at;
-use voice_rows::row::panned_at;
 use voice_rows::table::find_voice;
 ghost use mathlib.Core.Path.{_≡_};
 ghost use mathlib.Core.List.{[]};
@@ -35,25 +32,6 @@ ghost use Rattle.call_spawn.specs.Room.{FadeRoom, Meets, Untouched};
 pub struct Met {
     pub state: State,
     pub admitted: bool,
-}
-
-// A number of 32 bits as one of 64.
-fn long(x: u32) -> u64
-    ensures { λ r. ⌜ r ≡ x ⌝ }
-{
-    x as u64
-}
-
-// The id of the node by which the voice in row `row` feeds its bus: its pan node, or its output.
-fn feeder_at(voices: &VoiceTable, row: usize) -> u64
-    ensures { λ r. ⌜ r ≡ feeder (getD (voicesIn (now (voices .entry))) row (voiceOf [])) .0 ⌝ }
-{
-    if panned_at(voices, row) {
-        let first = first_at(voices, row);
-        return long(first.0) + long(count_at(voices, row)) + 1;
-    }
-    let output = output_at(voices, row);
-    long(output.0)
 }
 
 // The voice in row `row` fades behind the port `port` of its bus, which `from` feeds. Its level is read before anything changes.

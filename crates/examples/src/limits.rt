@@ -95,5 +95,5 @@ pub fn clearing(
     number(cleared.removed as u64);
     text(b"\n");
     let left = cleared.state;
-    show::whole_page(left, voices);
+    show::whole_page(left, edges, voices);
 }

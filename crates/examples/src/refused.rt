@@ -86,12 +86,12 @@ fn wiring(
     what: &[u8],
 ) {
     let mut was = io::buffer();
-    let n = show::page_of(s, voices, &mut was);
+    let n = show::page_of(s, edges, voices, &mut was);
     let served = connect(s, nodes, edges, NodeId(from), NodeId(to), port);
     let a = served.answer;
     show::answer(a);
     let t = served.state;
-    show::call(what, &was[..n], t, voices);
+    show::call(what, &was[..n], t, edges, voices);
 }
 
 // 4, 5, 6, on the scene's store, which each of them leaves as it is
@@ -129,27 +129,33 @@ fn wirings(s: State, nodes: &NodeTable, edges: &mut EdgeTable, voices: &VoiceTab
 }
 
 // 7
-fn full(s: State, voices: &VoiceTable, events: &mut EventTable) {
+fn full(s: State, edges: &EdgeTable, voices: &VoiceTable, events: &mut EventTable) {
     let filled = with_events(s, events, 256);
     let mut was = io::buffer();
-    let n = show::page_of(filled, voices, &mut was);
+    let n = show::page_of(filled, edges, voices, &mut was);
     let served = schedule(filled, events, 1000, VoiceId(1), b"", Action::Free);
     let a = served.answer;
     show::answer(a);
     let t = served.state;
-    show::call(b"scheduling event 257", &was[..n], t, voices);
+    show::call(b"scheduling event 257", &was[..n], t, edges, voices);
 }
 
 // 8
-fn last_id(s: State, nodes: &mut NodeTable, voices: &VoiceTable) {
+fn last_id(s: State, nodes: &mut NodeTable, edges: &EdgeTable, voices: &VoiceTable) {
     let last = with_next(s, 4294967296);
     let mut was = io::buffer();
-    let n = show::page_of(last, voices, &mut was);
+    let n = show::page_of(last, edges, voices, &mut was);
     let granted = add_node(last, nodes, b"Bus", 1, 0, false, false);
     let a = granted.given;
     show::given(a);
     let t = granted.state;
-    show::call(b"adding a node after the last id", &was[..n], t, voices);
+    show::call(
+        b"adding a node after the last id",
+        &was[..n],
+        t,
+        edges,
+        voices,
+    );
 }
 
 fn spawn(
@@ -163,12 +169,12 @@ fn spawn(
     what: &[u8],
 ) -> State {
     let mut was = io::buffer();
-    let n = show::page_of(s, voices, &mut was);
+    let n = show::page_of(s, edges, voices, &mut was);
     let spawning = spawn_voice_on_bus_managed(s, nodes, edges, voices, steals, def, NodeId(bus));
     let a = spawning.answer;
     show::spawned(a);
     let t = spawning.state;
-    show::call(what, &was[..n], t, voices);
+    show::call(what, &was[..n], t, edges, voices);
     t
 }
 
@@ -229,7 +235,7 @@ fn no_port(
     let two = turn(one, nodes, edges, order, voices, events, steals);
     let fed = with_feeder(two, nodes, edges, 3, 0);
     let s = with_feeder(fed, nodes, edges, 4, 1);
-    show::whole_page(s, voices);
+    show::whole_page(s, edges, voices);
     let t = spawn(
         s,
         nodes,
@@ -240,7 +246,7 @@ fn no_port(
         0,
         b"spawning where the host holds every port",
     );
-    show::whole_page(t, voices);
+    show::whole_page(t, edges, voices);
 }
 
 // 12 by a loose spawn, which steals nobody: nothing changes.
@@ -252,7 +258,7 @@ fn no_loose_port(
     steals: &mut StealTable,
 ) {
     let mut was = io::buffer();
-    let n = show::page_of(s, voices, &mut was);
+    let n = show::page_of(s, edges, voices, &mut was);
     let spawning = spawn_voice_on_bus(s, nodes, edges, voices, steals, tone(), NodeId(0));
     let a = spawning.answer;
     show::spawned(a);
@@ -261,6 +267,7 @@ fn no_loose_port(
         b"spawning unmanaged where voices hold every port",
         &was[..n],
         t,
+        edges,
         voices,
     );
 }
@@ -274,12 +281,12 @@ fn preparing(
     what: &[u8],
 ) {
     let mut was = io::buffer();
-    let n = show::page_of(s, voices, &mut was);
+    let n = show::page_of(s, edges, voices, &mut was);
     let served = prepare(s, nodes, edges, order);
     let a = served.answer;
     show::answer(a);
     let t = served.state;
-    show::call(what, &was[..n], t, voices);
+    show::call(what, &was[..n], t, edges, voices);
 }
 
 // 13: a node is added to the scene's store whose required port nothing feeds
@@ -333,18 +340,18 @@ fn late(
 ) {
     let last = with_clock(s, 18446744073709551600);
     let mut was = io::buffer();
-    let n = show::page_of(last, voices, &mut was);
+    let n = show::page_of(last, edges, voices, &mut was);
     let rendering = render(last, nodes, edges, order, voices, events);
     let a = rendering.answer;
     show::rendered(a);
     let t = rendering.state;
-    show::call(b"rendering at clock 2^64 - 16", &was[..n], t, voices);
+    show::call(b"rendering at clock 2^64 - 16", &was[..n], t, edges, voices);
 }
 
 // 16
-fn short_block(s: State, nodes: &mut NodeTable, voices: &VoiceTable) {
+fn short_block(s: State, nodes: &mut NodeTable, edges: &EdgeTable, voices: &VoiceTable) {
     let mut was = io::buffer();
-    let n = show::page_of(s, voices, &mut was);
+    let n = show::page_of(s, edges, voices, &mut was);
     let samples = [0.0f32; 15];
     let a = report(s, nodes, voices, NodeId(0), 1, &samples, false);
     show::answer(a);
@@ -352,15 +359,16 @@ fn short_block(s: State, nodes: &mut NodeTable, voices: &VoiceTable) {
         b"reporting 15 samples of a block of 16",
         &was[..n],
         s,
+        edges,
         voices,
     );
 }
 
 // 17
-fn short_buffer(s: State, voices: &VoiceTable) {
+fn short_buffer(s: State, edges: &EdgeTable, voices: &VoiceTable) {
     let mut out = [7u8; 58];
     let was = [7u8; 58];
-    let a = page(s, voices, &mut out);
+    let a = page(s, edges, voices, &mut out);
     show::paged(a);
     text(b" the page, of 59 bytes, in a buffer of 58");
     if check::same(&out, &was) {
@@ -382,9 +390,9 @@ pub fn all(
 ) {
     let a = played(nodes, edges, order, voices, events, steals);
     wirings(a, nodes, edges, voices);
-    full(a, voices, events);
+    full(a, edges, voices, events);
     let b = played(nodes, edges, order, voices, events, steals);
-    last_id(b, nodes, voices);
+    last_id(b, nodes, edges, voices);
     spawns(b, nodes, edges, voices, steals);
     no_port(nodes, edges, order, voices, events, steals);
     let c = played(nodes, edges, order, voices, events, steals);
@@ -394,6 +402,6 @@ pub fn all(
     cyclic(d, nodes, edges, order, voices);
     let e = played(nodes, edges, order, voices, events, steals);
     late(e, nodes, edges, order, voices, events);
-    short_block(e, nodes, voices);
-    short_buffer(e, voices);
+    short_block(e, nodes, edges, voices);
+    short_buffer(e, edges, voices);
 }

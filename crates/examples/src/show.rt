@@ -3,6 +3,7 @@ use codec::word::number;
 use codec::word::text;
 use piecrag::AddAnswer;
 use piecrag::Answer;
+use piecrag::EdgeTable;
 use piecrag::Paged;
 use piecrag::Refusal;
 use piecrag::Rendered;
@@ -57,31 +58,31 @@ pub fn paged(a: Paged) {
 }
 
 // The page is put into `out`: how many bytes of it count.
-pub fn page_of(s: State, voices: &VoiceTable, out: &mut [u8]) -> usize
+pub fn page_of(s: State, edges: &EdgeTable, voices: &VoiceTable, out: &mut [u8]) -> usize
     ensures { λ r. ⌜ Counts r (now (out .exit)) ⌝ }
 {
-    let a = page(s, voices, out);
+    let a = page(s, edges, voices, out);
     page_length(a, out)
 }
 
 // The page itself.
-pub fn whole_page(s: State, voices: &VoiceTable) {
+pub fn whole_page(s: State, edges: &EdgeTable, voices: &VoiceTable) {
     let mut out = io::buffer();
-    let n = page_of(s, voices, &mut out);
+    let n = page_of(s, edges, voices, &mut out);
     text(&out[..n]);
 }
 
-fn same_page(was: &[u8], s: State, voices: &VoiceTable) -> bool {
+fn same_page(was: &[u8], s: State, edges: &EdgeTable, voices: &VoiceTable) -> bool {
     let mut out = io::buffer();
-    let n = page_of(s, voices, &mut out);
+    let n = page_of(s, edges, voices, &mut out);
     check::same(was, &out[..n])
 }
 
 // The name of the call that was made, and whether the page is what it was before the call.
-pub fn call(what: &[u8], was: &[u8], s: State, voices: &VoiceTable) {
+pub fn call(what: &[u8], was: &[u8], s: State, edges: &EdgeTable, voices: &VoiceTable) {
     text(b" ");
     text(what);
-    if same_page(was, s, voices) {
+    if same_page(was, s, edges, voices) {
         text(b", same page\n");
     } else {
         text(b", another page\n");

@@ -38,6 +38,10 @@ lentRender s nodes edges order voices events m = record { state = s; nodes = nod
 abbrev pub lentSpawn : State → List ℕ → List ℕ → List ℕ → List ℕ → Memory → Memory
 lentSpawn s nodes edges voices steals m = record { state = s; nodes = nodes; edges = edges; order = m .order; voices = voices; events = m .events; steals = steals }
 
+-- what the page reads: the voices, and the edges that tell which ports they feed
+abbrev pub lentPage : State → List ℕ → List ℕ → Memory → Memory
+lentPage s edges voices m = record { state = s; nodes = m .nodes; edges = edges; order = m .order; voices = voices; events = m .events; steals = m .steals }
+
 -- one table
 abbrev pub lentEdges : State → List ℕ → Memory → Memory
 lentEdges s edges m = record { state = s; nodes = m .nodes; edges = edges; order = m .order; voices = m .voices; events = m .events; steals = m .steals }

@@ -14,7 +14,7 @@ use Rattle.model.specs.Model.{Model}
 use Rattle.model.specs.Make.{configOf}
 use Rattle.model.specs.Call.{Call, Answer, Step, step, pageAnswer}
 use Rattle.model.specs.Call as call
-use Rattle.model.specs.Page.{page}
+use Rattle.model.specs.Page.{portNow, page}
 use Rattle.model.specs.Scene.{config, further, printed}
 use Rattle.call_make.specs.Made.{making}
 use Rattle.page_scene.specs.Played.{played, played-page}
@@ -59,5 +59,5 @@ so-many-wait i n m end e f = f ∙ ap (λ (k : ℕ). further (waiting k) m) e
 pub page-is : (s : Model) (a : Answer) (out : List ℕ) → call.reads s a ≡ step (call.ask (call.page out)) s → s ≡ played .model → a ≡ pageAnswer printed out
 page-is s a out e f =
     ap (λ (x : Step). x .answer) e
-    ∙ ap (λ (m : Model). pageAnswer (page (m .shared .clock) (m .voices)) out) f
+    ∙ ap (λ (m : Model). pageAnswer (page (m .shared .clock) (portNow (m .shared .graph .edges)) (m .voices)) out) f
     ∙ ap (λ (t : List ℕ). pageAnswer t out) played-page

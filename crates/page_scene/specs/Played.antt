@@ -16,7 +16,7 @@ use Rattle.model.specs.Voice.{id}
 use Rattle.model.specs.Make.{newModel}
 use Rattle.model.specs.Call.{Call, Ran, run}
 use Rattle.model.specs.Call as call
-use Rattle.model.specs.Page.{page}
+use Rattle.model.specs.Page.{portNow, page}
 use Rattle.model.specs.Scene.{plain, float, host, sink, pageConfig, printed}
 use Rattle.model.specs.Spawn.{spawnOf}
 
@@ -43,6 +43,6 @@ unfoldable pub played : Ran
 played = run sceneCalls (newModel pageConfig)
 
 -- its page is what 01 prints
-pub played-page : page (played .model .shared .clock) (played .model .voices) ≡ printed
+pub played-page : page (played .model .shared .clock) (portNow (played .model .shared .graph .edges)) (played .model .voices) ≡ printed
 unfolding played eq prepare processingOrder lacking lacks any liveIds liveNodes risingFrom whole order walk released fed among count-up settled
 played-page = refl

@@ -157,5 +157,5 @@ pub fn scene_page(
     ensures { λ r. ⌜ pagedOf r (now (out .exit)) ≡ pageAnswer printed (now (out .entry)) ⌝ }
 {
     let s = played(nodes, edges, order, voices, events, steals);
-    page(s, voices, out)
+    page(s, edges, voices, out)
 }

@@ -41,21 +41,21 @@ fn of_a_voice(
     }
 }
 
-fn paged(out: &mut [u8], state: State, voices: &VoiceTable) {
-    match page(state, voices, out) {
+fn paged(out: &mut [u8], state: State, edges: &EdgeTable, voices: &VoiceTable) {
+    match page(state, edges, voices, out) {
         Paged::Length(n) => page_lines(n, out),
         Paged::Refused(refusal) => refused_line(refusal),
     }
 }
 
 // The length of the buffer. An entry that asks for more than 4,096 bytes is malformed, and not played.
-fn lent_page(s: &[u8], at: usize, state: State, voices: &VoiceTable) {
+fn lent_page(s: &[u8], at: usize, state: State, edges: &EdgeTable, voices: &VoiceTable) {
     let n = at_most(word_at(s, at) as usize, 4096);
     let mut room = io::buffer();
-    paged(&mut room[..n], state, voices);
+    paged(&mut room[..n], state, edges, voices);
 }
 
-// What is read of one table, or of none.
+// What is read of one table, of none, or, for the page, of two.
 fn of_a_table(
     s: &[u8],
     from: usize,
@@ -73,7 +73,7 @@ fn of_a_table(
         29 => order_line(state, order),
         30 => sources_line(piecrag::sources(state, edges, id_at(s, from))),
         31 => clock_line(piecrag::clock(state)),
-        _ => lent_page(s, from, state, voices),
+        _ => lent_page(s, from, state, edges, voices),
     }
 }
 

@@ -17,7 +17,7 @@ use Rattle.model.specs.Spawn.{spawnOf, middle}
 use Rattle.model.specs.Call.{Call, Answer}
 use Rattle.model.specs.Call as call
 use Rattle.memory.specs.View.{Memory}
-use Rattle.memory.specs.Lent.{lentEdges, lentEvents, lentGraph, lentNodes, lentOrder, lentParams, lentProcessing, lentRender, lentSpawn, lentState, lentSteals, lentVoiceTable, lentVoices}
+use Rattle.memory.specs.Lent.{lentEdges, lentEvents, lentGraph, lentNodes, lentOrder, lentPage, lentParams, lentProcessing, lentRender, lentSpawn, lentState, lentSteals, lentVoiceTable, lentVoices}
 use Rattle.memory.specs.Called.{answered, granted}
 use Rattle.call_read.specs.Found.{voiceFound}
 use Rattle.call_page.specs.Paged.{pagedOf}
@@ -122,7 +122,7 @@ pub data Contract : Call → Memory → Answer → Memory → Type 1 where
   clock : (κs : _) (a : _) (r : _) (s : _) → fn-clock.Post κs a r s → (m : Memory)
       → Contract (call.ask call.clock) (lentState (a .0) m) (call.time r) (lentState (a .0) m)
   page : (κs : _) (a : _) (r : _) (s : _) → fn-page.Post κs a r s → (m : Memory)
-      → Contract (call.ask (call.page (a .1 .1 .0 .now))) (lentVoiceTable (a .0) (a .1 .0 .now) m) (pagedOf r (s .1 .1 .0 .now)) (lentVoiceTable (a .0) (a .1 .0 .now) m)
+      → Contract (call.ask (call.page (a .1 .1 .1 .0 .now))) (lentPage (a .0) (a .1 .0 .now) (a .1 .1 .0 .now) m) (pagedOf r (s .1 .1 .1 .0 .now)) (lentPage (a .0) (a .1 .0 .now) (a .1 .1 .0 .now) m)
   -- fade output and bus sum, which are given no more of the store m than what making fixed
   fade-output : (κs : _) (a : _) (r : _) (s : _) → fn-fade-output.Post κs a r s → (m : Memory) → m .state .config ≡ a .0
       → Contract (call.ask (call.fadeOutput (a .1 .0 .now) (a .1 .1 .0) (a .1 .1 .1 .0 .now) (a .1 .1 .1 .1 .0) (a .1 .1 .1 .1 .1 .0 .now) (a .1 .1 .1 .1 .1 .1 .0))) m (filledOf r (s .1 .1 .1 .1 .1 .0 .now)) m

@@ -116,10 +116,11 @@ pub extern "C" fn piecrag_sources(state: &StateWords, edges: &EdgeTable, node: u
 #[no_mangle]
 pub extern "C" fn piecrag_page(
     state: &StateWords,
+    edges: &EdgeTable,
     voices: &VoiceTable,
     out: &mut [u8; 4501],
 ) -> u32 {
-    page_number(page(state_in(state), voices, out))
+    page_number(page(state_in(state), edges, voices, out))
 }
 
 // The lowest port of `node` below `ports` that nothing feeds; 64 if there is none.

@@ -1,5 +1,6 @@
 // The live voices in words that the host lends: 64 rows of 142 words, in order of admission.
 pub mod fade;
+pub mod feeding;
 pub mod levels;
 pub mod pack;
 pub mod row;

@@ -3,7 +3,7 @@ use native.Mathlib.Omega.{arith}
 use mathlib.Core.Path.{_≡_, ap}
 use borrow.Author.Needs.{needs}
 use Rattle.memory.specs.View.{modelOf}
-use Rattle.memory.specs.Lent.{lentVoiceTable}
+use Rattle.memory.specs.Lent.{lentPage}
 use Rattle.model.specs.Call as call
 use Rattle.call_page.proofs.Answers.{part, long, room, kept, in-place, too-short}
 use Rattle.call_page.proofs.page.Statement.{statement}
@@ -35,7 +35,7 @@ returns c =
     let a = c .before .before .before .before .before .before .before .before .before .before .before .before .args in
     let put = c .before .before .before .before .before .before .before .before .put-page .ensures in
     let all = c .before .before .before .before .before .before .all-or-none .ensures in (
-      λ m. ap (call.reads (modelOf (lentVoiceTable (a .s) (a .voices .now) m))) (too-short put (a .out .now) _ all (c .if1 .taken)),
+      λ m. ap (call.reads (modelOf (lentPage (a .s) (a .edges .now) (a .voices .now) m))) (too-short put (a .out .now) _ all (c .if1 .taken)),
       λ x e. kept put (a .out .now) _ all _ (c .before .before .before .copy .ensures .1) (c .if1 .taken),
     )
 
@@ -47,7 +47,7 @@ returns-2 c =
     let a = c .before .before .before .before .before .before .before .before .before .before .before .before .args in
     let put = c .before .before .before .before .before .before .before .before .put-page .ensures in
     let all = c .before .before .before .before .before .before .all-or-none .ensures in (
-      λ m. ap (call.reads (modelOf (lentVoiceTable (a .s) (a .voices .now) m))) (in-place put (a .out .now) _ all _ (c .before .before .before .copy .ensures .1) (c .if1 .left)),
+      λ m. ap (call.reads (modelOf (lentPage (a .s) (a .edges .now) (a .voices .now) m))) (in-place put (a .out .now) _ all _ (c .before .before .before .copy .ensures .1) (c .if1 .left)),
       λ x e. let z : _≡_ {A = ℕ} 0 1 = cc in absurd (omega arith),
     )
 

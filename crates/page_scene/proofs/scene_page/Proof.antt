@@ -22,7 +22,7 @@ returns c =
     let r = c .before .before .page in
     let a = start .before .before .before .before .before .before .before .before .args in
     let m = lentAll (s .result) (s .last .0) (s .last .1 .0) (s .last .1 .1 .0) (s .last .1 .1 .1 .0) (s .last .1 .1 .1 .1 .0) (s .last .1 .1 .1 .1 .1 .0) in
-    page-is (modelOf m) (pagedOf (r .result) (r .last .1 .1 .0)) (a .out .now) (r .ensures .0 m) (s .ensures)
+    page-is (modelOf m) (pagedOf (r .result) (r .last .1 .1 .1 .0)) (a .out .now) (r .ensures .0 m) (s .ensures)
 
 pub scene-page-spec : {M : Type 1} → statement M
 scene-page-spec = tie.close (tie.spec played-requires page-requires same-length returns)

@@ -18,21 +18,6 @@ part-put-field-end c = search needs
 put-field-requires-2 : tie.Need-put-field-requires-2
 put-field-requires-2 c κs = search needs
 
-add-b : tie.Need-add-b
-add-b c = search needs
-
-sub-put-field-2 : tie.Need-sub-put-field-2
-sub-put-field-2 c = search needs
-
-part-put-field-start-2 : tie.Need-part-put-field-start-2
-part-put-field-start-2 c = search needs
-
-part-put-field-end-2 : tie.Need-part-put-field-end-2
-part-put-field-end-2 c = search needs
-
-put-field-requires-3 : tie.Need-put-field-requires-3
-put-field-requires-3 c κs = search needs
-
 add-result : tie.Need-add-result
 add-result c = search needs
 
@@ -40,11 +25,7 @@ same-length : tie.Need-same-length
 same-length c = search needs
 
 returns : tie.Need-returns
-returns c =
-    let e1 = c .before .before .before .before .before .before .before .before .before .before .put-field .ensures in
-    let e2 = c .before .before .before .before .before .before .put-field2 .ensures in
-    let e3 = c .before .before .put-field3 .ensures in
-    then (then e1 e2) e3
+returns c = then (c .before .before .before .before .before .before .put-field .ensures) (c .before .before .put-field2 .ensures)
 
 pub put-fields-spec : {M : Type 1} → statement M
 put-fields-spec =
@@ -55,11 +36,6 @@ put-fields-spec =
     part-put-field-start
     part-put-field-end
     put-field-requires-2
-    add-b
-    sub-put-field-2
-    part-put-field-start-2
-    part-put-field-end-2
-    put-field-requires-3
     add-result
     same-length
     returns)

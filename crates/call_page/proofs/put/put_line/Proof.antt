@@ -1,8 +1,10 @@
 use native.Mathlib.Omega.{arith}
 use mathlib.Core.List.{[]}
-use lib.ListN.{getD}
+use lib.ListN.{take, getD}
 use borrow.Author.Needs.{needs}
+use Rattle.graph_rows.specs.Edge.{edgesIn}
 use Rattle.voice_rows.specs.Rows.{voiceOf, voicesIn}
+use Rattle.model.specs.Page.{portNow}
 use Rattle.call_page.proofs.Lines.{line-is}
 use Rattle.call_page.proofs.Puts.{then, widened}
 use Rattle.call_page.proofs.put.put_line.Statement.{statement}
@@ -14,11 +16,23 @@ id-at-requires c κs = search needs
 age-at-requires : tie.Need-age-at-requires
 age-at-requires c κs = search needs
 
-port-at-requires : tie.Need-port-at-requires
-port-at-requires c κs = search needs
-
 put-fields-requires : tie.Need-put-fields-requires
 put-fields-requires c κs = search needs
+
+sub-put-port : tie.Need-sub-put-port
+sub-put-port c = search needs
+
+part-put-port-start : tie.Need-part-put-port-start
+part-put-port-start c = search needs
+
+part-put-port-end : tie.Need-part-put-port-end
+part-put-port-end c = search needs
+
+put-port-requires : tie.Need-put-port-requires
+put-port-requires c κs = search needs
+
+add-b : tie.Need-add-b
+add-b c = search needs
 
 state-at-requires : tie.Need-state-at-requires
 state-at-requires c κs = search needs
@@ -43,14 +57,16 @@ same-length c = search needs
 
 returns : tie.Need-returns
 returns c =
-    let a = c .before .before .before .before .before .before .before .before .before .before .before .before .before .before .args in
-    let v = getD (voicesIn (a .t .now)) (a .i) (voiceOf []) in
-    let numbers = c .before .before .before .before .before .before .before in
-    let port = numbers .before .before .port-at in
-    let age = numbers .before .before .before .age-at in
-    let id = numbers .before .before .before .before .id-at in
     let state = c .before .before .before .before .state-at in
-    widened (omega arith) (line-is (a .clock) v (id .result) (age .result) (port .result) (state .result) (id .ensures) (age .ensures) (port .ensures) (state .ensures)) (then (numbers .put-fields .ensures) (c .before .before .put-state .ensures))
+    let ported = c .before .before .before .before .before .before .before in
+    let numbers = ported .before .before .before .before in
+    let age = numbers .before .before .age-at in
+    let id = numbers .before .before .before .id-at in
+    let a = numbers .before .before .before .before .before .before .args in
+    let v = getD (voicesIn (a .t .now)) (a .i) (voiceOf []) in
+    let port = portNow (take (a .wired) (edgesIn (a .edges .now))) v in
+    widened (omega arith) (line-is (a .clock) port v (id .result) (age .result) (state .result) (id .ensures) (age .ensures) (state .ensures))
+    (then (then (numbers .put-fields .ensures) (ported .put-port .ensures)) (c .before .before .put-state .ensures))
 
 pub put-line-spec : {M : Type 1} → statement M
 put-line-spec =
@@ -58,8 +74,12 @@ put-line-spec =
     (tie.spec
     id-at-requires
     age-at-requires
-    port-at-requires
     put-fields-requires
+    sub-put-port
+    part-put-port-start
+    part-put-port-end
+    put-port-requires
+    add-b
     state-at-requires
     sub-put-state
     part-put-state-start

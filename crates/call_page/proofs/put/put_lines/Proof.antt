@@ -7,7 +7,8 @@ use borrow.Author.Needs.{needs}
 use Rattle.words.proofs.Rows.{rows-long}
 use Rattle.words.proofs.InWords.{take-count}
 use Rattle.voice_rows.specs.Rows.{voiceOf, voicesIn}
-use Rattle.model.specs.Page.{lines}
+use Rattle.graph_rows.specs.Edge.{edgesIn}
+use Rattle.model.specs.Page.{portNow, lines}
 use Rattle.call_page.specs.Paged.{Put}
 use Rattle.call_page.proofs.Lines.{lines-more}
 use Rattle.call_page.proofs.Puts.{then, widened, same-long}
@@ -15,10 +16,10 @@ use Rattle.call_page.proofs.put.put_lines.Statement.{statement}
 use Rattle.call_page.proofs.put.put_lines.Tie as tie
 
 abbrev Inv-loop : tie.InvT-loop
-Inv-loop clock t count out₀ n at₀ i₀ out at i = (i ≤ n) × Put (70 * i) (lines clock (take i (voicesIn t))) out₀ out at
+Inv-loop clock edges wired t count out₀ n at₀ i₀ out at i = (i ≤ n) × Put (70 * i) (lines clock (portNow (take wired (edgesIn edges))) (take i (voicesIn t))) out₀ out at
 
 abbrev μ-loop : tie.MeasureT-loop
-μ-loop clock t count out₀ n at₀ i₀ out at i = n - i
+μ-loop clock edges wired t count out₀ n at₀ i₀ out at i = n - i
 
 -- what the room still holds
 left : (c : tie.At-loop Inv-loop μ-loop) → c .loop .i < c .before .at-most .result → 70 + c .loop .at ≤ length (c .loop .out)
@@ -66,7 +67,7 @@ loop-again c =
     let rows = voicesIn (s .args .t .now) in
     let within : i < length rows = omega (arith, rows-long 142 voiceOf (s .args .t .now), l .before .at-most .ensures, c .before .before .before .before .loop-test .taken) in
     let more : 70 * i + 70 ≤ 70 * (i + 1) = omega arith in
-    (search needs, widened more (lines-more (s .args .clock) i rows (voiceOf []) within) (then (l .loop .inv .1) (c .before .before .put-line .ensures)))
+    (search needs, widened more (lines-more (s .args .clock) (portNow (take (s .args .wired) (edgesIn (s .args .edges .now)))) i rows (voiceOf []) within) (then (l .loop .inv .1) (c .before .before .put-line .ensures)))
 
 same-length : tie.Need-same-length Inv-loop μ-loop
 same-length c =
@@ -84,7 +85,8 @@ returns c =
     let most : n .result ≤ 64 = omega (arith, n .ensures, s .pre .0) in
     let all : l .loop .i ≡ n .result = omega arith in
     let few : 70 * l .loop .i ≤ 4480 = omega arith in
-    widened few (ap (λ k. lines (s .args .clock) (take k (voicesIn (s .args .t .now)))) all ∙ ap (lines (s .args .clock)) (take-count 142 voiceOf (s .args .t .now) (s .args .count) (n .result) (n .ensures))) (l .loop .inv .1)
+    let port = portNow (take (s .args .wired) (edgesIn (s .args .edges .now))) in
+    widened few (ap (λ k. lines (s .args .clock) port (take k (voicesIn (s .args .t .now)))) all ∙ ap (lines (s .args .clock) port) (take-count 142 voiceOf (s .args .t .now) (s .args .count) (n .result) (n .ensures))) (l .loop .inv .1)
 
 pub put-lines-spec : {M : Type 1} → statement M
 put-lines-spec =
