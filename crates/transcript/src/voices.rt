@@ -16,6 +16,7 @@ use piecrag::VoiceState;
 use piecrag::VoiceTable;
 use piecrag::voice_at;
 use piecrag::voice_level;
+use voice_rows::feeding::end_at;
 use voice_rows::row::id_at;
 use voice_rows::row::state_at;
 
@@ -68,30 +69,19 @@ fn port_word(fed: Feeding) {
     text(b" -");
 }
 
-// The id of the node by which a voice reaches its bus where it does not fade: its pan node, the second behind those of its
-// definition, or its output.
-fn feeder(v: Voice) -> u64 {
-    if v.panned {
-        return v.first.0 as u64 + v.count as u64 + 1;
-    }
-    v.output.0 as u64
-}
-
-// The id of the node by which a voice reaches its bus now: its fade, or what fed the bus before one.
-fn feeding(v: Voice, state: VoiceState) -> u64 {
-    match state {
-        VoiceState::Tracked => feeder(v),
-        VoiceState::Loose => feeder(v),
-        VoiceState::Fading(fade) => fade.node.0 as u64,
-    }
-}
-
-fn voice_line(s: State, nodes: &NodeTable, edges: &EdgeTable, voices: &VoiceTable, v: Voice) {
+// The voice `v`, which stands in row `i`: its record, the port of its bus that it feeds now, its level.
+fn voice_line(
+    s: State,
+    nodes: &NodeTable,
+    edges: &EdgeTable,
+    voices: &VoiceTable,
+    i: usize,
+    v: Voice,
+) {
     let id = v.id;
     let bus = v.bus;
-    let state = v.state;
     record_words(v);
-    port_word(feeding_edge(edges, s.edges, feeding(v, state), bus));
+    port_word(feeding_edge(edges, s.edges, end_at(voices, i), bus));
     level_word(voice_level(s, nodes, voices, id));
     end_line();
 }
@@ -101,7 +91,7 @@ pub fn voice_lines(s: State, nodes: &NodeTable, edges: &EdgeTable, voices: &Voic
     let mut i: usize = 0;
     while i < n {
         let found = voice_at(s, voices, i);
-        voice_line(s, nodes, edges, voices, found.voice);
+        voice_line(s, nodes, edges, voices, i, found.voice);
         i += 1;
     }
 }

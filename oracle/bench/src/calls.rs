@@ -103,7 +103,7 @@ pub const LINES: &[Line] = &[
     line("sources", "of the bus, 64 voices", 1_000, full_voices, |s| piecrag_sources(&s.state, &s.edges, 0)),
     line("node_record", "the last of 509", 1_000, full_voices, |s| piecrag_node_record(&s.state, &s.nodes, 508)),
     line("clock", "", 1_000, full_voices, |s| piecrag_clock(&s.state)),
-    line("page", "64 voices", 1_000, full_voices, |s| piecrag_page(&s.state, &s.voices, &mut [0; 4501])),
+    line("page", "64 voices", 1_000, full_voices, |s| piecrag_page(&s.state, &s.edges, &s.voices, &mut [0; 4501])),
     line("fade_output", "a block", 1_000, full_voices, |s| {
         piecrag_fade_output(&s.state, &[0.5; 128], &[0.5; 240], 7, &mut [0.0; 128])
     }),

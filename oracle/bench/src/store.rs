@@ -134,7 +134,7 @@ unsafe extern "C" {
     pub safe fn piecrag_node_record(state: &State, nodes: &Nodes, node: u32) -> u32;
     pub safe fn piecrag_steals(state: &State, steals: &Steals) -> u32;
     pub safe fn piecrag_sources(state: &State, edges: &Edges, node: u32) -> u32;
-    pub safe fn piecrag_page(state: &State, voices: &Voices, out: &mut [u8; 4501]) -> u32;
+    pub safe fn piecrag_page(state: &State, edges: &Edges, voices: &Voices, out: &mut [u8; 4501]) -> u32;
     pub safe fn piecrag_fade_output(
         state: &State,
         input: &[f32; 128],

@@ -262,6 +262,24 @@ impl Reach {
             Some(_) => self.hit("buffer longer"),
             None => self.hit("buffer too short"),
         }
+        for line in seen.answer.lines() {
+            self.note_page_line(line);
+        }
+    }
+
+    /// A voice's line: id, age, port or `-`, state.
+    fn note_page_line(&mut self, line: &str) {
+        let words: Vec<&str> = line.split(' ').collect();
+        let [_, _, port, state] = words[..] else { return };
+        match (state, port) {
+            ("held", "-") => self.hit("tracked voice without a port"),
+            ("held", _) => self.hit("tracked voice with its port"),
+            ("fading", "-") => self.hit("fade without a port"),
+            ("fading", _) => self.hit("fade with its port"),
+            ("loose", "-") => self.hit("loose voice without a port"),
+            ("loose", _) => self.hit("loose voice with its port"),
+            _ => {}
+        }
     }
 }
 

@@ -20,17 +20,26 @@ pub struct Host {
     pub ports: u32,
 }
 
-/// The first line of what a call answered.
+/// What a call answered, line by line.
 pub struct Answer(String);
 
 impl Answer {
+    pub fn lines(&self) -> impl Iterator<Item = &str> {
+        self.0.lines()
+    }
+
+    fn words(&self) -> impl Iterator<Item = &str> {
+        self.lines().next().unwrap_or_default().split(' ')
+    }
+
+    /// Whether its first line begins with the word.
     pub fn is(&self, word: &str) -> bool {
-        self.0.split(' ').next() == Some(word)
+        self.words().next() == Some(word)
     }
 
     /// The number that follows the line's word.
     pub fn number(&self) -> Option<u64> {
-        self.0.split(' ').nth(1)?.parse().ok()
+        self.words().nth(1)?.parse().ok()
     }
 
     /// The number after this word.
@@ -116,7 +125,7 @@ impl Writer {
         let before = Before::of(self.engine(), &call);
         let lines = self.player.play(&call, upcoming);
         self.answered += lines.len();
-        let answer = Answer(lines.lines().next().unwrap_or_default().to_string());
+        let answer = Answer(lines);
         let (engine, spawn) = (self.player.store().engine(), Spawn::of(&call, &self.slots));
         self.reach.note(&Seen { sort, before: &before, call: &call, answer: &answer, engine, spawn });
         self.learn(&call, &answer);

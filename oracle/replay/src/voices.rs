@@ -41,9 +41,14 @@ impl Store {
         format!("{} {}{}", row("voice", numbers), self.state_word(voice), fade.unwrap_or_default())
     }
 
-    pub(crate) fn voice_line(&self, voice: &VoiceRow<'_>) -> String {
+    /// The port of its bus that the voice's fade, pan node or output feeds now.
+    fn port_now(&self, voice: &VoiceRow<'_>) -> Option<usize> {
         let source = voice.fade.map_or(feeder(voice), |(fade, ..)| fade);
-        let port = self.graph().input_slot_from(source, bus_of(voice));
+        self.graph().input_slot_from(source, bus_of(voice))
+    }
+
+    pub(crate) fn voice_line(&self, voice: &VoiceRow<'_>) -> String {
+        let port = self.port_now(voice);
         let level = self.engine.voice_level(voice.id).map(hex32);
         format!("{} {} {}", self.voice_record(voice), or_dash(port), or_dash(level))
     }
@@ -55,12 +60,13 @@ impl Store {
         Ok(format!("page {}\n{}", page.len(), page.trim_end()))
     }
 
-    /// "a header and a line for each voice in voice order: id, clock less birth, port given at its spawn, state"
+    /// "a header and a line for each voice in voice order: id, clock less birth, port ..., state"; by Paper 4 the port is the one that it
+    /// feeds now, "or `-` if none".
     fn page(&self) -> String {
         let mut page = "voice age port state\n".to_string();
         for voice in self.engine.voice_rows() {
             let age = self.engine.sample_offset().saturating_sub(voice.born);
-            let (port, state) = (self.births[&voice.id].port, self.state_word(&voice));
+            let (port, state) = (or_dash(self.port_now(&voice)), self.state_word(&voice));
             page += &format!("{} {age} {port} {state}\n", voice.id.0);
         }
         page

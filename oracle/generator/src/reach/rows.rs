@@ -211,4 +211,15 @@ pub const PROFILES: &[(&str, &[&str])] = &[
         &["disconnect of a port without an edge", "sink set", "sink removed", "edge replaced"],
     ),
     ("Pages", &["buffer too short", "buffer just long enough", "buffer longer"]),
+    (
+        "Lines of pages",
+        &[
+            "tracked voice with its port",
+            "tracked voice without a port",
+            "fade with its port",
+            "fade without a port",
+            "loose voice with its port",
+            "loose voice without a port",
+        ],
+    ),
 ];

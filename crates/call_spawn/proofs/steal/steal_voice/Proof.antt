@@ -21,15 +21,15 @@ feeding-edge-requires c κs = search needs
 
 fade-voice-requires : tie.Need-fade-voice-requires
 fade-voice-requires c κs =
-    let a = c .before .before .before .before .before .before .before .before .before .before .before .before .before .before .args in
+    let a = c .before .before .before .before .before .before .before .before .before .before .before .before .before .before .before .args in
     let v = getD (voicesIn (a .voices .now)) (a .row) (voiceOf []) in
     let old = modelOf (lentSpawn (a .s) (a .nodes .now) (a .edges .now) (a .voices .now) (a .steals .now) (blank (a .s))) in
     let fed = c .before .before .before .before .before .before .before .feeding-edge in
-    (c .before .before .before .before .before .before .before .before .before .before .before .before .before .before .pre, feeds-from v old (c .before .before .before .before .before .before .before .before .before .before .before .before .feeder-at .result) (c .before .before .before .before .before .before .before .before .before .bus-at .result) (fed .result .found) (fed .result .edge) (c .before .before .before .before .before .before .before .before .before .before .before .before .feeder-at .ensures) (c .before .before .before .before .before .before .before .before .before .bus-at .ensures) (fed .ensures) (c .before .before .before .before .before .before .if1 .taken))
+    (c .before .before .before .before .before .before .before .before .before .before .before .before .before .before .before .pre, feeds-from v old (c .before .before .before .before .before .before .before .before .before .before .before .before .feeder-at .result) (c .before .before .before .before .before .before .before .before .before .bus-at .result) (fed .result .found) (fed .result .edge) (c .before .before .before .before .before .before .before .before .before .before .before .before .feeder-at .ensures) (c .before .before .before .before .before .before .before .before .before .bus-at .ensures) (fed .ensures) (c .before .before .before .before .before .before .if1 .taken))
 
 returns : tie.Need-returns
 returns c =
-    let a = c .before .before .before .before .before .before .before .before .before .before .before .before .before .before .before .args in
+    let a = c .before .before .before .before .before .before .before .before .before .before .before .before .before .before .before .before .args in
     let v = getD (voicesIn (a .voices .now)) (a .row) (voiceOf []) in
     let fed = c .before .before .before .before .before .before .before .before .feeding-edge in
     λ m.
@@ -41,7 +41,7 @@ cut-voice-requires c κs = search needs
 
 returns-2 : tie.Need-returns-2
 returns-2 c =
-    let a = c .before .before .before .before .before .before .before .before .before .before .before .before .before .args in
+    let a = c .before .before .before .before .before .before .before .before .before .before .before .before .before .before .args in
     let v = getD (voicesIn (a .voices .now)) (a .row) (voiceOf []) in
     let fed = c .before .before .before .before .before .before .feeding-edge in
     λ m.
