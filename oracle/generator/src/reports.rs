@@ -138,7 +138,7 @@ impl Writer {
         let is_dead = !self.reportable().contains(&dead);
         // A node that lived at the last render would write what is reported of it there (`foresee` of the player), though the
         // report is refused: so a block of its size is reported only of a node that never lived.
-        let spare = usize::from(self.channels.contains_key(&dead));
+        let spare = usize::from(self.has_lived(dead));
         let (node, channels, count) = match self.rng.below(5) {
             0 => (helper, 1, block),
             1 if is_dead => (dead, 2, 2 * block + spare),

@@ -214,6 +214,11 @@ impl Writer {
         self.hosts.iter().map(|host| host.id).chain(voices.map(|id| id.index() as u32)).collect()
     }
 
+    /// Whether a node of this id takes a report, or did before it was removed.
+    pub fn has_lived(&self, node: u32) -> bool {
+        self.channels.contains_key(&node)
+    }
+
     /// The channels of a node that takes a report.
     pub fn channels_of(&self, node: u32) -> u8 {
         self.channels[&node]
