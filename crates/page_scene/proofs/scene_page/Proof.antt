@@ -17,7 +17,7 @@ same-length c = search needs
 
 returns : tie.Need-returns
 returns c =
-    let start = c .before .before .before .before .before in
+    let start = c .before .before .before .before .before .before in
     let s = start .played in
     let r = c .before .before .page in
     let a = start .before .before .before .before .before .before .before .before .args in
