@@ -9,14 +9,14 @@ use words::table::at_most;
 use words::table::word_at;
 ghost use mathlib.Core.Path.{_≡_};
 ghost use mathlib.Core.List.{List, []};
-ghost use Prim.Native.Nat.{_≤_};
+ghost use Prim.Native.Nat.{_≤_, min};
 ghost use lib.ListN.{take, getD};
 ghost use Rattle.node.specs.declared.record.NodeId.{NodeId};
 ghost use Rattle.node.specs.declared.record.Edge.{Edge};
 ghost use Rattle.lists.specs.Find.{find};
 ghost use Rattle.edges.specs.Ports.{portOf, freePort, feeds, sources};
 ghost use Rattle.graph_rows.specs.Edge.{edgeOf, edgesIn};
-ghost use Rattle.graph_tables.specs.Fed.{isFed, node, feedingOf};
+ghost use Rattle.graph_tables.specs.Fed.{FedPorts, node, feedingOf};
 
 // The node at which the edge in row `i` ends.
 fn to_at(t: &[u32], i: usize) -> NodeId
@@ -52,24 +52,46 @@ pub fn sources_of(edges: &EdgeTable, count: usize, node: NodeId) -> [Source; 64]
     sources_in(edges, count, node)
 }
 
-fn is_fed(s: Source) -> bool
-    ensures { λ r. ⌜ r ≡ isFed s ⌝ }
+// The port at which the edge in row `i` ends.
+fn port_at(t: &[u32], i: usize) -> u32
+    ensures { λ r. ⌜ r ≡ getD (edgesIn (now (t .entry))) i (edgeOf []) .port ⌝ }
 {
-    match s {
-        Source::From(_) => true,
-        Source::Nothing => false,
-    }
+    word_at(t, 3, i, 2)
 }
 
-// The first of the ports below `ports` that nothing feeds, by the table of sources.
-fn first_unfed(table: [Source; 64], ports: u32) -> Port
+// The place of a port among 65 flags. The ports above 63 share the last flag, which nobody reads.
+fn flag_place(p: u32) -> usize
+    ensures { λ r. ⌜ r ≡ min p 64 ⌝ }
+{
+    if p < 64 { p as usize } else { 64 }
+}
+
+// Which of the ports 0 to 63 of `node` an edge feeds, a flag for each port: one walk over the edges. Most edges end elsewhere:
+// of these one word is read.
+fn fed_in(t: &[u32], count: usize, node: NodeId) -> [bool; 65]
+    ensures { λ r. ⌜ FedPorts r (take count (edgesIn (now (t .entry)))) node ⌝ }
+{
+    let mut fed = [false; 65];
+    let mut i = at_most(count, t.len() / 3);
+    while i > 0 {
+        i -= 1;
+        if to_at(t, i).0 == node.0 {
+            let p = flag_place(port_at(t, i));
+            fed[p] = true;
+        }
+    }
+    fed
+}
+
+// The first of the ports below `ports` that nothing feeds, by the flags of the fed ports.
+fn first_unfed(fed: [bool; 65], ports: u32) -> Port
     requires { ⌜ ports ≤ 64 ⌝ }
-    ensures { λ r. ⌜ ((es : List Edge) (n : NodeId) → table ≡ sources es n → r ≡ portOf (freePort es n ports)) ⌝ }
+    ensures { λ r. ⌜ ((es : List Edge) (n : NodeId) → FedPorts fed es n → r ≡ portOf (freePort es n ports)) ⌝ }
 {
     let mut p: u32 = 0;
     while p < ports {
-        let s = table[p as usize];
-        if !is_fed(s) {
+        let s = fed[p as usize];
+        if !s {
             return Port::At(p);
         }
         p += 1;
@@ -108,7 +130,7 @@ fn free_in(t: &[u32], count: usize, node: NodeId, ports: u32) -> Port
     if 64 < ports {
         return lowest_port(t, count, node, ports);
     }
-    first_unfed(sources_in(t, count, node), ports)
+    first_unfed(fed_in(t, count, node), ports)
 }
 
 pub fn free_port(edges: &EdgeTable, count: usize, node: NodeId, ports: u32) -> Port

@@ -16,8 +16,6 @@ use Rattle.edges.specs.Wiring.{endsAt, taken}
 use Rattle.edges.specs.Ports.{portOf, lowest, feeds, sources, sourceAt, sourceOf}
 use Rattle.edges.proofs.Search.{Says, says-hit, says-port, says-node, says-all, row-before, lowest-found, lowest-pass, lowest-none}
 use Rattle.graph_rows.specs.Edge.{edgeOf, edgesIn}
-use Rattle.graph_tables.specs.Fed.{isFed}
-use Rattle.graph_tables.proofs.Fed.{fed-taken}
 use lib.Dec.{eqb}
 use native.Mathlib.Nat.{sub-zero}
 use lib.ListN.{length-take, drop-of-length-le, getD-replicate}

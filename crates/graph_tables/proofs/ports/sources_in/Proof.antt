@@ -18,8 +18,6 @@ use Rattle.edges.proofs.Search.{Says, says-hit, says-port, says-node, says-all,
 use Rattle.node.specs.declared.record.NodeId.{NodeId}
 use Rattle.node.specs.declared.record.Edge.{Edge}
 use Rattle.graph_rows.specs.Edge.{edgeOf, edgesIn}
-use Rattle.graph_tables.specs.Fed.{isFed}
-use Rattle.graph_tables.proofs.Fed.{fed-taken}
 use lib.Dec.{eqb}
 use native.Mathlib.Nat.{sub-zero}
 use lib.ListN.{length-take, drop-of-length-le, getD-replicate}
