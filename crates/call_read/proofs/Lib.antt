@@ -1,2 +1,3 @@
 pub mod Answers
 pub mod Places
+pub mod Bound
