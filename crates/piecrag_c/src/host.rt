@@ -1,0 +1,184 @@
+// Making, and the host's calls: nodes, edges, the sink, prepare and scheduling.
+use crate::answer::add_code;
+use crate::answer::answer_code;
+use crate::answer::node_cell;
+use crate::answer::settle;
+use node::order::Action;
+use node::record::NodeId;
+use node::record::VoiceId;
+use piecrag::EdgeTable;
+use piecrag::EventTable;
+use piecrag::NodeTable;
+use piecrag::OrderTable;
+use state_words::StateWords;
+use state_words::budget_in;
+use state_words::policy_in;
+use state_words::scope_in;
+use state_words::state_in;
+ghost use mathlib.Core.Path.{_≡_};
+ghost use mathlib.Core.Bool.{true, false};
+ghost use Rattle.graph.specs.Tables.{answerOf};
+ghost use Rattle.words.specs.Fields.{isSet};
+ghost use Rattle.node.specs.declared.order.Action.the-variants as action;
+ghost use Rattle.model.specs.Call as call;
+ghost use Rattle.model.specs.Make.{newModel, configOf, refusalOf};
+ghost use Rattle.call_make.specs.Made.{making};
+ghost use Rattle.memory.specs.View.{Memory, modelOf};
+ghost use Rattle.memory.specs.Lent.{lentState, lentNodes, lentGraph, lentOrder, lentEvents};
+ghost use Rattle.memory.specs.Called.{answered};
+ghost use Rattle.state_words.specs.State.{stateIn, budgetIn, policyIn, scopeIn};
+ghost use Rattle.piecrag_c.specs.Exported.{Exported, Gives, code, keptCode};
+
+// A new store, whatever stands in the words of its tables.
+#[no_mangle]
+pub extern "C" fn piecrag_make(
+    state: &mut StateWords,
+    rate: f32,
+    block: usize,
+    limited: u32,
+    budget: usize,
+    policy: u32,
+    scope: u32,
+    table: u32,
+) -> u32
+    ensures answer { λ k. ⌜ k ≡ code (answered (answerOf (refusalOf (making rate block (budgetIn limited budget) (policyIn policy) (scopeIn scope) (isSet table))))) ⌝ }
+    ensures model { λ k. ⌜ (keptCode k ≡ false → (m : Memory) → modelOf (lentState (stateIn (now (state .exit))) m) ≡ newModel (configOf (making rate block (budgetIn limited budget) (policyIn policy) (scopeIn scope) (isSet table)))) ⌝ }
+    ensures same { λ k. ⌜ (keptCode k ≡ true → now (state .exit) ≡ now (state .entry)) ⌝ }
+{
+    let most = budget_in(limited, budget);
+    let way = policy_in(policy);
+    let among = scope_in(scope);
+    let made = piecrag::make(rate, block, most, way, among, table != 0);
+    let answer = made.answer;
+    settle(state, made.state, answer_code(answer))
+}
+
+// A node of the host; `node` becomes its id.
+#[no_mangle]
+pub extern "C" fn piecrag_add_node(
+    state: &mut StateWords,
+    nodes: &mut NodeTable,
+    kind: &[u8],
+    ports: u32,
+    required: u64,
+    values: u32,
+    glides: u32,
+    node: &mut u32,
+) -> u32
+    ensures is { λ k. ⌜ ((m : Memory) → Exported (call.addNode (now (kind .entry)) ports required (isSet values) (isSet glides)) (lentNodes (stateIn (now (state .entry))) (now (nodes .entry)) m) (now (state .entry)) k (lentNodes (stateIn (now (state .exit))) (now (nodes .exit)) m) (now (state .exit))) ⌝ }
+    ensures cell { λ k. ⌜ ((m : Memory) → Gives (call.addNode (now (kind .entry)) ports required (isSet values) (isSet glides)) (lentNodes (stateIn (now (state .entry))) (now (nodes .entry)) m) (now (node .entry)) (now (node .exit))) ⌝ }
+{
+    let s = state_in(state);
+    let r = piecrag::add_node(s, nodes, kind, ports, required, values != 0, glides != 0);
+    let given = r.given;
+    *node = node_cell(given, *node);
+    settle(state, r.state, add_code(given))
+}
+
+#[no_mangle]
+pub extern "C" fn piecrag_remove_node(
+    state: &mut StateWords,
+    nodes: &mut NodeTable,
+    edges: &mut EdgeTable,
+    node: u32,
+) -> u32
+    ensures { λ k. ⌜ ((m : Memory) → Exported (call.removeNode (record { 0 = node })) (lentGraph (stateIn (now (state .entry))) (now (nodes .entry)) (now (edges .entry)) m) (now (state .entry)) k (lentGraph (stateIn (now (state .exit))) (now (nodes .exit)) (now (edges .exit)) m) (now (state .exit))) ⌝ }
+{
+    let s = state_in(state);
+    let r = piecrag::remove_node(s, nodes, edges, NodeId(node));
+    let answer = r.answer;
+    settle(state, r.state, answer_code(answer))
+}
+
+#[no_mangle]
+pub extern "C" fn piecrag_connect(
+    state: &mut StateWords,
+    nodes: &NodeTable,
+    edges: &mut EdgeTable,
+    from: u32,
+    to: u32,
+    port: u32,
+) -> u32
+    ensures { λ k. ⌜ ((m : Memory) → Exported (call.connect (record { 0 = from }) (record { 0 = to }) port) (lentGraph (stateIn (now (state .entry))) (now (nodes .entry)) (now (edges .entry)) m) (now (state .entry)) k (lentGraph (stateIn (now (state .exit))) (now (nodes .entry)) (now (edges .exit)) m) (now (state .exit))) ⌝ }
+{
+    let s = state_in(state);
+    let r = piecrag::connect(s, nodes, edges, NodeId(from), NodeId(to), port);
+    let answer = r.answer;
+    settle(state, r.state, answer_code(answer))
+}
+
+#[no_mangle]
+pub extern "C" fn piecrag_disconnect(
+    state: &mut StateWords,
+    nodes: &NodeTable,
+    edges: &mut EdgeTable,
+    to: u32,
+    port: u32,
+) -> u32
+    ensures { λ k. ⌜ ((m : Memory) → Exported (call.disconnect (record { 0 = to }) port) (lentGraph (stateIn (now (state .entry))) (now (nodes .entry)) (now (edges .entry)) m) (now (state .entry)) k (lentGraph (stateIn (now (state .exit))) (now (nodes .entry)) (now (edges .exit)) m) (now (state .exit))) ⌝ }
+{
+    let s = state_in(state);
+    let r = piecrag::disconnect(s, nodes, edges, NodeId(to), port);
+    let answer = r.answer;
+    settle(state, r.state, answer_code(answer))
+}
+
+#[no_mangle]
+pub extern "C" fn piecrag_set_sink(state: &mut StateWords, nodes: &NodeTable, node: u32) -> u32
+    ensures { λ k. ⌜ ((m : Memory) → Exported (call.setSink (record { 0 = node })) (lentNodes (stateIn (now (state .entry))) (now (nodes .entry)) m) (now (state .entry)) k (lentNodes (stateIn (now (state .exit))) (now (nodes .entry)) m) (now (state .exit))) ⌝ }
+{
+    let s = state_in(state);
+    let r = piecrag::set_sink(s, nodes, NodeId(node));
+    let answer = r.answer;
+    settle(state, r.state, answer_code(answer))
+}
+
+#[no_mangle]
+pub extern "C" fn piecrag_prepare(
+    state: &mut StateWords,
+    nodes: &NodeTable,
+    edges: &EdgeTable,
+    order: &mut OrderTable,
+) -> u32
+    ensures { λ k. ⌜ ((m : Memory) → Exported call.prepare (lentOrder (stateIn (now (state .entry))) (now (nodes .entry)) (now (edges .entry)) (now (order .entry)) m) (now (state .entry)) k (lentOrder (stateIn (now (state .exit))) (now (nodes .entry)) (now (edges .entry)) (now (order .exit)) m) (now (state .exit))) ⌝ }
+{
+    let s = state_in(state);
+    let r = piecrag::prepare(s, nodes, edges, order);
+    let answer = r.answer;
+    settle(state, r.state, answer_code(answer))
+}
+
+// A value for a parameter of a voice, at the sample `time`.
+#[no_mangle]
+pub extern "C" fn piecrag_schedule_value(
+    state: &mut StateWords,
+    events: &mut EventTable,
+    time: u64,
+    voice: u64,
+    name: &[u8],
+    value: f32,
+) -> u32
+    ensures { λ k. ⌜ ((m : Memory) → Exported (call.schedule time (record { 0 = voice }) (now (name .entry)) (action.Value value)) (lentEvents (stateIn (now (state .entry))) (now (events .entry)) m) (now (state .entry)) k (lentEvents (stateIn (now (state .exit))) (now (events .exit)) m) (now (state .exit))) ⌝ }
+{
+    let s = state_in(state);
+    let r = piecrag::schedule(s, events, time, VoiceId(voice), name, Action::Value(value));
+    let answer = r.answer;
+    settle(state, r.state, answer_code(answer))
+}
+
+// The voice is freed at the sample `time`.
+#[no_mangle]
+pub extern "C" fn piecrag_schedule_free(
+    state: &mut StateWords,
+    events: &mut EventTable,
+    time: u64,
+    voice: u64,
+    name: &[u8],
+) -> u32
+    ensures { λ k. ⌜ ((m : Memory) → Exported (call.schedule time (record { 0 = voice }) (now (name .entry)) action.Free) (lentEvents (stateIn (now (state .entry))) (now (events .entry)) m) (now (state .entry)) k (lentEvents (stateIn (now (state .exit))) (now (events .exit)) m) (now (state .exit))) ⌝ }
+{
+    let s = state_in(state);
+    let r = piecrag::schedule(s, events, time, VoiceId(voice), name, Action::Free);
+    let answer = r.answer;
+    settle(state, r.state, answer_code(answer))
+}
