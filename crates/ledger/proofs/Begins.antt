@@ -176,4 +176,4 @@ module _ (v : Voice) (f : Fade) (ph : v .state ≡ Fading f) where
       go Ready = old l _ _ refl i
       go (Refused r) = old l _ _ refl i
   comes call.render l d i = from-render l i
-  comes (call.ask q) l d i = old l _ _ (answer-silent (λ v. portHeld v l) q (seen l)) i
+  comes (call.ask q) l d i = old l _ _ (answer-silent _ q (seen l)) i

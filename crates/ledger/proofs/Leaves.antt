@@ -308,4 +308,4 @@ module _ (v : Voice) (f : Fade) (ph : v .state ≡ Fading f) where
   leaves (call.report k channels samples flag) l r q i = guarded (reportRefusal (l .shared) (l .voices) k channels (length samples)) _ l _ i (λ e. inl (still (l .voices) i))
   leaves call.prepare l r q i = inl (ready-still l (prepareOutcome (l .shared) .answer) i)
   leaves call.render l r q i = leaves-render l i
-  leaves (call.ask w) l r q i = inl (rw (answer-silent (λ v. portHeld v l) w (seen l)) (still (l .voices) i))
+  leaves (call.ask w) l r q i = let silent : isSounded (step (call.ask w) l .answer) ≡ false = answer-silent _ w (seen l) in inl (rw silent (still (l .voices) i))
