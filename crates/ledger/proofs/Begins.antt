@@ -13,7 +13,7 @@ use Rattle.lists.specs.Find.{find}
 use Rattle.lists.proofs.Filter.{in-filter}
 use Rattle.lists.specs.Count.{more}
 use Rattle.node.specs.declared.refusal.Refusal.{Refusal}
-use Rattle.node.specs.declared.refusal.Refusal.the-variants.{Rejected, NoPort, ClockEnd}
+use Rattle.node.specs.declared.refusal.Refusal.the-variants.{Rejected, NoPort}
 use Rattle.graph.specs.Refuse.{addRefusal, hostRefusal, disconnectRefusal, connectRefusal}
 use Rattle.order.specs.declared.Readiness.{Readiness}
 use Rattle.order.specs.declared.Readiness.the-variants.{Ready, Refused}
@@ -29,15 +29,14 @@ use Rattle.model.specs.Voice.{isVoice, isTracked, withState, movedFade}
 use Rattle.model.specs.Refuse.{spawnRefusal, reportRefusal}
 use Rattle.model.specs.Spawn.{newVoice, stateUnder, tries, fadeOf, Spawn}
 use Rattle.model.specs.Order.{order}
-use Rattle.model.specs.Render.{prepareOutcome, prepareShared, isFree, anyFree, heard, answerAfter, isSounding, due, clockEnds}
+use Rattle.model.specs.Render.{prepareOutcome, prepareShared, isFree, anyFree, heard, answerAfter, isSounding, due, renderRefusal}
 use Rattle.model.specs.Call.{Call, Answer, scheduleRefusal, readyAnswer}
 use Rattle.model.specs.Call as call
 use Rattle.ledger.specs.Ledger.{Ledger, SpawnResult, portFree, portHeld, withoutVoice, stolen, stealVoice, instantiateOr, place, placeWithinBudget, admitted, admissionOn, freed, free}
 use Rattle.ledger.specs.Ledger as ledger
 use Rattle.ledger.specs.Clear.{withoutVoices, endedVoices, silentVoices}
 use Rattle.ledger.specs.Render.{applyEvent, applyEvents, countedIf, preparedIf, rested}
-use Rattle.ledger.specs.Render as rendering
-use Rattle.ledger.specs.Call.{Step, unless, step, seen}
+use Rattle.ledger.specs.Call.{Step, unless, step, renderStep, seen}
 use Rattle.ledger.specs.Claim.{tracks, isSounded}
 use Rattle.ledger.proofs.Words.{beat}
 use Rattle.ledger.proofs.Preserved.{place-kept, atShared}
@@ -89,23 +88,21 @@ module _ (v : Voice) (f : Fade) (ph : v .state ≡ Fading f) where
       went-on (w .fade) (subst (λ z. In z (l .voices)) (e ∙ ap (withState (Fading (w .fade))) (sym (w .is))) (sub (w .voice) (w .member)))
       (w .moves ∙ ap (λ b. movedFade (more b) (w .fade)) (sym h))
 
-  from-block : (b : Bool) (l m : Ledger) → ((u : Voice) → In u (m .voices) → In u (l .voices)) → In v (preparedIf b m .ledger .voices) → From l (call.rendered (preparedIf b m .answer)) v f call.render
-  from-block true l m sub i =
-      from-counted (isSounding (answerAfter (prepareOutcome (m .shared) .answer) (prepareShared (m .shared)))) l call.render (m .voices) sub _ refl i
-  from-block false l m sub i = from-counted (isSounding (heard (sounding (m .shared)))) l call.render (m .voices) sub _ refl i
+  from-block : (b : Bool) (l m : Ledger) → ((u : Voice) → In u (m .voices) → In u (l .voices)) → In v (preparedIf b m .ledger .voices)
+      → (out : List ℕ) (taken : ℕ) (list : List ℕ) → From l (call.rendered (preparedIf b m .answer) taken list) v f (call.render out)
+  from-block true l m sub i out taken list =
+      from-counted (isSounding (answerAfter (prepareOutcome (m .shared) .answer) (prepareShared (m .shared)))) l (call.render out) (m .voices) sub _ refl i
+  from-block false l m sub i out taken list = from-counted (isSounding (heard (sounding (m .shared)))) l (call.render out) (m .voices) sub _ refl i
 
-  from-render : (l : Ledger) → In v (step call.render l .ledger .voices) → From l (step call.render l .answer) v f call.render
-  from-render l i = go (clockEnds (l .shared)) i
+  from-render : (out : List ℕ) (l : Ledger) → In v (step (call.render out) l .ledger .voices) → From l (step (call.render out) l .answer) v f (call.render out)
+  from-render out l i = go (renderRefusal (l .shared) (length out)) i
     where
       q : List Event
       q = due (l .shared)
 
-      heardOf : Bool → rendering.Heard
-      heardOf b = cond b (record { answer = Rendered.Refused ClockEnd; ledger = l }) (preparedIf (anyFree q) (applyEvents q (rested l)))
-
-      go : (b : Bool) → In v (heardOf b .ledger .voices) → From l (call.rendered (heardOf b .answer)) v f call.render
-      go true i = old l call.render (call.rendered (Rendered.Refused ClockEnd)) refl i
-      go false i = from-block (anyFree q) l (applyEvents q (rested l)) (happenAll-sub q (rested l)) i
+      go : (o : Option Refusal) → In v (renderStep o out l .ledger .voices) → From l (renderStep o out l .answer) v f (call.render out)
+      go (some r) i = old l (call.render out) (call.rendered (Rendered.Refused r) 0 out) refl i
+      go none i = from-block (anyFree q) l (applyEvents q (rested l)) (happenAll-sub q (rested l)) i out _ _
 
   -- ---- the spawns
   not-newcomer : (s : VoiceState) → ((g : Fade) → s ≡ Fading g → ⊥) → (vs : List Voice) (n : Voice) → n .state ≡ s → In v (vs ++ (n ∷ [])) → In v vs
@@ -175,5 +172,5 @@ module _ (v : Voice) (f : Fade) (ph : v .state ≡ Fading f) where
       go : (r : Readiness) → From l (readyAnswer r) v f call.prepare
       go Ready = old l _ _ refl i
       go (Refused r) = old l _ _ refl i
-  comes call.render l d i = from-render l i
+  comes (call.render out) l d i = from-render out l i
   comes (call.ask q) l d i = old l _ _ (answer-silent _ q (seen l)) i

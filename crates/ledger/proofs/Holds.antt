@@ -274,7 +274,7 @@ module _ (c : Config) (l : Ledger) (known : Known c l) where
         wires = wired;
         inOrder = prepared-sorted (l .shared .graph) (known .ready);
         prepares = prepares;
-        sounds = λ e. next call.render (λ t. isSounded (t .answer) ≡ sounding (t .model .shared)) (render-sounds l (known .ready) e);
+        sounds = λ out e. next (call.render out) (λ t. isSounded (t .answer) ≡ sounding (t .model .shared)) (render-sounds out l (known .ready) e);
         shows = column;
         room = record { nodes = omega (arith, known .room .nodes); edges = omega (arith, known .room .edges); voices = omega (arith, known .room .voices, length-map (l .voices) (shown c)); events = known .room .events };
         records = r .newest;

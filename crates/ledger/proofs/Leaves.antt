@@ -22,15 +22,13 @@ use Rattle.lists.proofs.Filter.{in-filter, filter-in}
 use Rattle.lists.specs.Count.{more}
 use Rattle.node.specs.declared.record.VoiceId.{VoiceId}
 use Rattle.node.specs.declared.refusal.Refusal.{Refusal}
-use Rattle.node.specs.declared.refusal.Refusal.the-variants.{NoPort, ClockEnd, ShortBuffer}
+use Rattle.node.specs.declared.refusal.Refusal.the-variants.{NoPort, ShortBuffer}
 use Rattle.graph.specs.Refuse.{addRefusal, hostRefusal, disconnectRefusal, connectRefusal}
 use Rattle.scheduler.specs.Event.{paramOrder}
 use Rattle.scheduler.specs.Queue as queue
 use Rattle.scheduler.specs.declared.event.Event.{Event}
 use Rattle.voice.specs.Steals.{StealLog, pushed, marked, recordOf}
 use Rattle.voice.specs.declared.steals.StealRecord.{StealRecord}
-use Rattle.store.specs.declared.answer.Rendered.{Rendered}
-use Rattle.store.specs.declared.answer.Rendered.the-variants as Rendered
 use Rattle.store.specs.declared.voices.Voice.{Voice}
 use Rattle.store.specs.declared.voices.VoiceState.{VoiceState}
 use Rattle.store.specs.declared.voices.VoiceState.the-variants.{Tracked, Fading, Loose}
@@ -41,7 +39,7 @@ use Rattle.model.specs.Refuse.{spawnRefusal, reportRefusal}
 use Rattle.model.specs.Spawn.{newVoice, stateUnder, tries, fadeOf, Spawn}
 use Rattle.model.specs.Order.{order}
 use Rattle.model.specs.Clear.{isSilent}
-use Rattle.model.specs.Render.{prepareOutcome, prepareShared, isFree, anyFree, heard, answerAfter, isSounding, deadline, due, clockEnds}
+use Rattle.model.specs.Render.{prepareOutcome, prepareShared, isFree, anyFree, heard, answerAfter, isSounding, deadline, due, renderRefusal}
 use Rattle.model.specs.Written.{written}
 use Rattle.model.specs.Page.{page}
 use Rattle.model.specs.Call.{Call, scheduleRefusal, readyAnswer, Question, answerTo, blockAnswer, wholeAnswer}
@@ -54,9 +52,8 @@ use Rattle.ledger.specs.Ledger.{Ledger, SpawnResult, portFree, portHeld,
 use Rattle.ledger.specs.Ledger as ledger
 use Rattle.ledger.specs.Clear.{withoutVoices, endedVoices, silentVoices}
 use Rattle.ledger.specs.Clear as clearing
-use Rattle.ledger.specs.Render as rendering
 use Rattle.ledger.specs.Render.{applyEvent, applyEvents, countedIf, preparedIf, rested, render}
-use Rattle.ledger.specs.Call.{Step, unless, step, seen}
+use Rattle.ledger.specs.Call.{Step, unless, step, renderStep, seen}
 use Rattle.ledger.specs.Claim.{busy, heldRecord, cutIfHeld, Newest, tracks, isSounded}
 use Rattle.ledger.proofs.Words.{GoesOn, Why, freed, timed, ended, silent, reclaimed}
 use Rattle.ledger.proofs.Ids.{unique, same-id}
@@ -220,7 +217,8 @@ module _ (v : Voice) (f : Fade) (ph : v .state ≡ Fading f) where
   counts true vs i = subst (λ z. In z (map (moved suc) vs)) (ap (λ s. withState (movedState suc s) v) ph) (in-of-map (moved suc) vs v i)
   counts false vs i = still vs i
 
-  blocks : (b : Bool) (m : Ledger) → In v (m .voices) → GoesOn v f (call.rendered (preparedIf b m .answer)) (preparedIf b m .ledger .voices)
+  -- whatever the list that goes with it
+  blocks : (b : Bool) (m : Ledger) → In v (m .voices) → GoesOn v f (call.rendered (preparedIf b m .answer) 0 []) (preparedIf b m .ledger .voices)
   blocks true m i = counts (isSounding (answerAfter (prepareOutcome (m .shared) .answer) (prepareShared (m .shared)))) (m .voices) i
   blocks false m i = counts (isSounding (heard (sounding (m .shared)))) (m .voices) i
 
@@ -257,22 +255,18 @@ module _ (v : Voice) (f : Fade) (ph : v .state ≡ Fading f) where
       second : In v (m .voices) → Next l v f call.clear (step call.clear l)
       second k = ⊎-elim (λ j. inl (still (withoutVoices (silentVoices m) m .voices) j)) (last k) (leaves-all (silentVoices m) m k)
 
-  leaves-render : (l : Ledger) → In v (l .voices) → Next l v f call.render (step call.render l)
-  leaves-render l i = go (clockEnds (l .shared))
+  leaves-render : (out : List ℕ) (l : Ledger) → In v (l .voices) → Next l v f (call.render out) (step (call.render out) l)
+  leaves-render out l i = go (renderRefusal (l .shared) (length out))
     where
       q : List Event
       q = due (l .shared)
 
-      out : rendering.Heard → Step
-      out h = record { answer = call.rendered (h .answer); ledger = h .ledger }
+      timed-by : (s : Step) → TimedBy q → Why l (s .ledger) v f (call.render out)
+      timed-by s z = let j = in-filter (queue.due (deadline (l .shared))) (l .shared .events) (z .0) (z .1) in timed out (z .0) (j .0) (j .1) (z .2) (z .3)
 
-      timed-by : (s : Step) → TimedBy q → Why l (s .ledger) v f call.render
-      timed-by s z = let j = in-filter (queue.due (deadline (l .shared))) (l .shared .events) (z .0) (z .1) in timed (z .0) (j .0) (j .1) (z .2) (z .3)
-
-      go : (b : Bool) → Next l v f call.render (out (cond b (record { answer = Rendered.Refused ClockEnd; ledger = l }) (preparedIf (anyFree q) (applyEvents q (rested l)))))
-      go true = inl (still (l .voices) i)
-      go false =
-          ⊎-elim (λ j. inl (blocks (anyFree q) (applyEvents q (rested l)) j)) (λ z. inr (timed-by (out (preparedIf (anyFree q) (applyEvents q (rested l)))) z)) (leaves-events q (rested l) i)
+      go : (o : Option Refusal) → Next l v f (call.render out) (renderStep o out l)
+      go (some r) = inl (still (l .voices) i)
+      go none = ⊎-elim (λ j. inl (blocks (anyFree q) (applyEvents q (rested l)) j)) (λ z. inr (timed-by (renderStep none out l) z)) (leaves-events q (rested l) i)
 
   leaves-managed : (spawn : Spawn) (l : Ledger) → RecordedOf l → In v (l .voices) → Next l v f (call.spawnManaged spawn) (step (call.spawnManaged spawn) l)
   leaves-managed spawn l r i = go (spawnRefusal (l .shared) (l .voices) (spawn .def) (spawn .bus))
@@ -307,5 +301,5 @@ module _ (v : Voice) (f : Fade) (ph : v .state ≡ Fading f) where
   leaves (call.schedule t w name a) l r q i = guarded (scheduleRefusal (l .shared .events)) _ l _ i (λ e. inl (still (l .voices) i))
   leaves (call.report k channels samples flag) l r q i = guarded (reportRefusal (l .shared) (l .voices) k channels (length samples)) _ l _ i (λ e. inl (still (l .voices) i))
   leaves call.prepare l r q i = inl (ready-still l (prepareOutcome (l .shared) .answer) i)
-  leaves call.render l r q i = leaves-render l i
+  leaves (call.render out) l r q i = leaves-render out l i
   leaves (call.ask w) l r q i = let silent : isSounded (step (call.ask w) l .answer) ≡ false = answer-silent _ w (seen l) in inl (rw silent (still (l .voices) i))

@@ -19,7 +19,6 @@ use Rattle.node.specs.declared.order.LastOrder.{LastOrder}
 use Rattle.node.specs.declared.record.NodeId.{NodeId}
 use Rattle.node.specs.declared.record.VoiceId.{VoiceId}
 use Rattle.node.specs.declared.record.Node.{Node}
-use Rattle.node.specs.declared.refusal.Refusal.the-variants.{ClockEnd}
 use Rattle.graph.specs.Node.{nodeAt}
 use Rattle.order.specs.declared.Readiness.{Readiness}
 use Rattle.order.specs.declared.Readiness.the-variants.{Ready, Refused}
@@ -34,8 +33,8 @@ use Rattle.store.specs.declared.voices.Voice.{Voice}
 use Rattle.model.specs.SharedState.{SharedState, lengthL, sounding}
 use Rattle.model.specs.Voice.{isVoice, id, moved}
 use Rattle.model.specs.Refuse.{ofDefinition, reports, reportRefusal}
-use Rattle.model.specs.Order.{withNode, withLast, takes, order, orderVoice, orderParam, orderNode, stays, reportNode, withReport}
-use Rattle.model.specs.Render.{prepareOutcome, prepareShared, readyShared, isFree, anyFree, further, movedIf, heard, answerAfter, isSounding, due, clockEnds}
+use Rattle.model.specs.Order.{withNode, withLast, takes, order, orderVoice, orderParam, orderNode, stays, reportNode, withReport, outcomeNumber, freeOutcome}
+use Rattle.model.specs.Render.{prepareOutcome, prepareShared, readyShared, isFree, anyFree, further, movedIf, heard, answerAfter, isSounding, due}
 use Rattle.model.specs.Clear.{isSilent}
 use Rattle.model.specs.Model.{Model}
 use Rattle.model.specs.Model as model
@@ -243,13 +242,26 @@ prepared-agrees true l s =
 prepared-agrees false l s = block-agrees (heard (sounding (l .shared))) l s
 
 pub render-agrees : (l : Ledger) → InvariantOf l → Heards (modelRender.render (modelOf l)) (ledgerRender.render l)
-render-agrees l s = go (clockEnds (l .shared))
+render-agrees l s =
+    let r = happenAll-agrees (due (l .shared)) (ledgerRender.rested l) s in
+    subst (λ m. Heards (modelRender.preparedIf (anyFree (due (l .shared))) m) (ledgerRender.preparedIf (anyFree (due (l .shared))) (ledgerRender.applyEvents (due (l .shared)) (ledgerRender.rested l)))) (sym (r .model))
+    (prepared-agrees (anyFree (due (l .shared))) (ledgerRender.applyEvents (due (l .shared)) (ledgerRender.rested l)) (r .sound))
+
+-- ---- 02, Paper 1: what became of the events
+pub freed-same : (w : VoiceId) (l : Ledger) → freeOutcome (find (isVoice w) (map (stored l) (l .voices))) ≡ freeOutcome (find (isVoice w) (l .voices))
+freed-same w l = ap freeOutcome (find-stored (reached (l .shared .config .block)) w (l .voices)) ∙ go (find (isVoice w) (l .voices))
   where
-    go : (b : Bool)
-        → Heards (cond b (record { answer = Rendered.Refused ClockEnd; model = modelOf l }) (modelRender.preparedIf (anyFree (due (l .shared))) (modelRender.applyEvents (due (l .shared)) (modelRender.rested (modelOf l)))))
-        (cond b (record { answer = Rendered.Refused ClockEnd; ledger = l }) (ledgerRender.preparedIf (anyFree (due (l .shared))) (ledgerRender.applyEvents (due (l .shared)) (ledgerRender.rested l))))
-    go true = record { answer = refl; model = refl; sound = s }
-    go false =
-        let r = happenAll-agrees (due (l .shared)) (ledgerRender.rested l) s in
-        subst (λ m. Heards (modelRender.preparedIf (anyFree (due (l .shared))) m) (ledgerRender.preparedIf (anyFree (due (l .shared))) (ledgerRender.applyEvents (due (l .shared)) (ledgerRender.rested l)))) (sym (r .model))
-        (prepared-agrees (anyFree (due (l .shared))) (ledgerRender.applyEvents (due (l .shared)) (ledgerRender.rested l)) (r .sound))
+    go : (o : Option Voice) → freeOutcome (mapO (stored l) o) ≡ freeOutcome o
+    go none = refl
+    go (some v) = refl
+
+outcome-agrees : (e : Event) (l : Ledger) → modelRender.outcomeOf e (modelOf l) ≡ ledgerRender.outcomeOf e l
+outcome-agrees e l =
+    ap₂ (cond (isFree (e .action))) (freed-same (e .voice) l)
+    (ap (λ r. r .outcome) (order-same (reached (l .shared .config .block)) (l .voices) (l .shared) (e .voice) (paramOrder e .name) (paramOrder e .order)))
+
+pub outcomes-agree : (q : List Event) (l : Ledger) → InvariantOf l → modelRender.outcomes q (modelOf l) ≡ ledgerRender.outcomes q l
+outcomes-agree [] l s = refl
+outcomes-agree (e ∷ q) l s =
+    let r = happen-agrees e l s in
+    ap₂ (λ o rest. outcomeNumber o ∷ rest) (outcome-agrees e l) (ap (modelRender.outcomes q) (r .model) ∙ outcomes-agree q (ledgerRender.applyEvent e l) (r .sound))

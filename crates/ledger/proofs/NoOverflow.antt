@@ -45,14 +45,15 @@ use Rattle.model.specs.Voice.{isVoice, id, withState, moved, movedState, beginF
 use Rattle.model.specs.Refuse.{spawnRefusal, reportRefusal}
 use Rattle.model.specs.Spawn.{newVoice, stateUnder, tries, fadeOf, Spawn}
 use Rattle.model.specs.Order.{withNode, withLast, takes, order, orderVoice, orderParam, orderNode, stays, reportNode}
-use Rattle.model.specs.Render.{prepareOutcome, readyShared, isFree, anyFree, isSounding, due, clockEnds}
+use Rattle.model.specs.Render.{prepareOutcome, readyShared, isFree, anyFree, isSounding, due, clockEnds, renderRefusal}
 use Rattle.model.specs.Call.{Call, scheduleRefusal}
 use Rattle.model.specs.Call as call
 use Rattle.ledger.specs.Ledger.{Ledger, SpawnResult, portHeld, withoutVoice, stolen, stealVoice, placeWithinBudget, place, admitted, admissionOn, freed, free}
 use Rattle.ledger.specs.Ledger as ledger
 use Rattle.ledger.specs.Clear.{withoutVoices, endedVoices, silentVoices}
 use Rattle.ledger.specs.Render.{oneMore, applyEvent, applyEvents, countedIf, blockOf, preparedIf, rested, render}
-use Rattle.ledger.specs.Call.{Step, unless, step, position, shown}
+use Rattle.ledger.specs.Call.{Step, unless, step, renderStep, position, shown}
+use Rattle.ledger.proofs.Allowed.{when-none}
 use Rattle.ledger.proofs.Preserved.{atShared, place-kept, Preserves, kept-step, both-steady}
 use Rattle.ledger.proofs.Abstraction.{reached, stored}
 use Rattle.ledger.proofs.Managed.{IdsOf, ids-steal, ids-settle, ids-steady, managed-kept}
@@ -148,12 +149,11 @@ clock-step x l u h = go x
     same : {n : ℕ} → n ≡ l .shared .clock → n ≤ 18446744073709551615
     same e = omega arith
 
-    sounds : (b : Bool) → clockEnds (l .shared) ≡ b
-        → cond b (record { answer = Rendered.Refused ClockEnd; ledger = l }) (preparedIf (anyFree (due (l .shared))) (applyEvents (due (l .shared)) (rested l))) .ledger .shared .clock ≤ 18446744073709551615
-    sounds true e = h
-    sounds false e =
+    sounds : (out : List ℕ) (o : Option Refusal) → renderRefusal (l .shared) (length out) ≡ o → renderStep o out l .ledger .shared .clock ≤ 18446744073709551615
+    sounds out (some r) e = h
+    sounds out none e =
         let a = still-events (due (l .shared)) (rested l) in
-        let b : l .shared .clock + l .shared .config .block ≤ 18446744073709551615 = ltb-false _ _ e in
+        let b : l .shared .clock + l .shared .config .block ≤ 18446744073709551615 = ltb-false _ _ (when-none (clockEnds (l .shared)) ClockEnd _ e .0) in
         let c : applyEvents (due (l .shared)) (rested l) .shared .config .block ≡ l .shared .config .block = ap (λ (z : Config). z .block) (a .1) in
         omega (arith, still-block (anyFree (due (l .shared))) (applyEvents (due (l .shared)) (rested l)), a .0, b, c)
 
@@ -176,7 +176,7 @@ clock-step x l u h = go x
     go (call.report k channels samples flag) =
         same (still-unless (reportRefusal (l .shared) (l .voices) k channels (length samples)) l _ (still-report (nodeAt (l .shared .graph .nodes) k) samples flag (l .shared)))
     go call.prepare = same (still-ready (prepareOutcome (l .shared) .answer) (prepareOutcome (l .shared) .order) (l .shared) .0)
-    go call.render = sounds (clockEnds (l .shared)) refl
+    go (call.render out) = sounds out (renderRefusal (l .shared) (length out)) refl
     go (call.ask q) = h
 
 -- ---- "Position = count × block ≤ clock - start"

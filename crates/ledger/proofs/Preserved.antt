@@ -15,7 +15,7 @@ use Rattle.node.specs.declared.record.NodeId.{NodeId}
 use Rattle.node.specs.declared.record.VoiceId.{VoiceId}
 use Rattle.node.specs.declared.record.Node.{Node}
 use Rattle.node.specs.declared.refusal.Refusal.{Refusal}
-use Rattle.node.specs.declared.refusal.Refusal.the-variants.{NoPort, TableFull, ClockEnd}
+use Rattle.node.specs.declared.refusal.Refusal.the-variants.{NoPort, TableFull}
 use Rattle.node.specs.Name.{nameOf}
 use Rattle.graph.specs.Node.{nodeAt, hostNode}
 use Rattle.graph.specs.Change as change
@@ -42,7 +42,7 @@ use Rattle.model.specs.Voice.{isVoice, id, moved}
 use Rattle.model.specs.Refuse.{spawnRefusal, reportRefusal}
 use Rattle.model.specs.Spawn.{nextOut, newVoice, Spawn}
 use Rattle.model.specs.Order.{withNode, withLast, takes, order, orderVoice, orderParam, orderNode, stays, reportNode, withReport}
-use Rattle.model.specs.Render.{prepareOutcome, prepareShared, readyShared, isFree, anyFree, heard, answerAfter, isSounding, due, clockEnds}
+use Rattle.model.specs.Render.{prepareOutcome, prepareShared, readyShared, isFree, anyFree, heard, answerAfter, isSounding, due, renderRefusal}
 use Rattle.model.specs.Call.{Call, event, scheduleRefusal}
 use Rattle.model.specs.Call as call
 use Rattle.ledger.specs.Holder.{nobody, host, hold, dropNode}
@@ -50,7 +50,7 @@ use Rattle.ledger.specs.Ledger.{Ledger, SpawnResult, portFree, withoutVo
 use Rattle.ledger.specs.Ledger as ledger
 use Rattle.ledger.specs.Clear.{withoutVoices, endedVoices, silentVoices, clear}
 use Rattle.ledger.specs.Render.{applyEvent, applyEvents, oneMore, countedIf, blockOf, preparedIf, rested, render}
-use Rattle.ledger.specs.Call.{Step, unless, step, run}
+use Rattle.ledger.specs.Call.{Step, unless, step, renderStep, run}
 use Rattle.ledger.specs.Claim.{isManaged}
 use Rattle.ledger.proofs.Allowed.{when-none, spawn-allowed}
 pub use Rattle.ledger.specs.Ledger.{atShared, atGraph}
@@ -182,15 +182,15 @@ module _ (P : Ledger → Type 0) where
         (ready-kept l p)
     block-kept false l p = k .block l (heard (sounding (l .shared))) p
 
-    render-kept : (l : Ledger) → P l → P (render l .ledger)
-    render-kept l p = go (clockEnds (l .shared))
+    render-kept : (out : List ℕ) (l : Ledger) → P l → P (step (call.render out) l .ledger)
+    render-kept out l p = go (renderRefusal (l .shared) (length out))
       where
         q : List Event
         q = due (l .shared)
 
-        go : (b : Bool) → P (cond b (record { answer = Rendered.Refused ClockEnd; ledger = l }) (preparedIf (anyFree q) (applyEvents q (rested l))) .ledger)
-        go true = p
-        go false = block-kept (anyFree q) (applyEvents q (rested l)) (happenAll-kept q (rested l) (k .rest l p))
+        go : (o : Option Refusal) → P (renderStep o out l .ledger)
+        go (some r) = p
+        go none = block-kept (anyFree q) (applyEvents q (rested l)) (happenAll-kept q (rested l) (k .rest l p))
 
     -- every call, given what a managed spawn does
     pub step-kept : (x : Call) (l : Ledger) → ((spawn : Spawn) → x ≡ call.spawnManaged spawn → P (ledger.spawnManaged spawn l .ledger)) → P l → P (step x l .ledger)
@@ -213,7 +213,7 @@ module _ (P : Ledger → Type 0) where
     step-kept (call.report j channels samples flag) l m p =
         unless-kept (reportRefusal (l .shared) (l .voices) j channels (length samples)) l _ p (λ e. report-kept j (nodeAt (l .shared .graph .nodes) j) samples flag l refl p)
     step-kept call.prepare l m p = ready-kept l p
-    step-kept call.render l m p = render-kept l p
+    step-kept (call.render out) l m p = render-kept out l p
     step-kept (call.ask q) l m p = p
 
     pub steady-step : (x : Call) → isManaged x ≡ false → (l : Ledger) → P l → P (step x l .ledger)

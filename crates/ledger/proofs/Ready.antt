@@ -6,8 +6,9 @@ use native.Mathlib.Omega.{arith}
 use mathlib.Core.Path.{_≡_, refl, sym, ap, _∙_, subst}
 use mathlib.Core.Logic.{inl, inr}
 use mathlib.Core.List.{List, [], _∷_, map, map-map}
-use mathlib.Core.Option.{some}
+use mathlib.Core.Option.{none, some}
 use mathlib.Core.Bool.{Bool, true, false, cond, _&&_, false≢true}
+use lib.ListN.{length}
 use borrow.Author.Tests.{eqb-true, eq-eqb}
 use Rattle.lists.specs.Member.{In}
 use Rattle.lists.proofs.Member.{some-inj, map-same}
@@ -19,7 +20,6 @@ use Rattle.node.specs.declared.record.NodeId.{NodeId}
 use Rattle.node.specs.declared.record.Node.{Node}
 use Rattle.node.specs.declared.record.Edge.{Edge}
 use Rattle.node.specs.declared.refusal.Refusal.{Refusal}
-use Rattle.node.specs.declared.refusal.Refusal.the-variants.{ClockEnd}
 use Rattle.rank.specs.Order.{order}
 use Rattle.rank.specs.Cycle.{Sorted}
 use Rattle.order.specs.Live as live
@@ -33,14 +33,14 @@ use Rattle.graph.specs.View.{GraphView}
 use Rattle.graph.specs.Node.{isNode, nodeAt, replaced}
 use Rattle.scheduler.specs.declared.event.Event.{Event}
 use Rattle.store.specs.declared.config.Config.{Config}
-use Rattle.store.specs.declared.answer.Rendered.the-variants as Rendered
 use Rattle.model.specs.SharedState.{SharedState, withGraph, sounding}
-use Rattle.model.specs.Render.{prepareOutcome, prepareShared, readyShared, anyFree, heard, answerAfter, isSounding, due, clockEnds}
+use Rattle.model.specs.Render.{prepareOutcome, prepareShared, readyShared, anyFree, heard, answerAfter, isSounding, due, renderRefusal}
 use Rattle.model.specs.Call.{Call}
+use Rattle.model.specs.Call as call
 use Rattle.ledger.specs.Ledger.{Ledger, newLedger, admissionOn}
 use Rattle.ledger.specs.Render.{applyEvents, preparedIf, rested, render}
-use Rattle.ledger.specs.Render as rendering
-use Rattle.ledger.specs.Call.{run}
+use Rattle.ledger.specs.Call.{step, renderStep, run}
+use Rattle.ledger.specs.Claim.{isSounded}
 use Rattle.ledger.proofs.Preserved.{Preserves, Alike, kept-run, happenAll-kept}
 use Rattle.ledger.proofs.Spawning.{Spawning, place-keeps, managed-keeps}
 use Rattle.ledger.proofs.Rows.{Rows, rows-other, rows-steady, rows-spawning, replaced-id}
@@ -194,15 +194,11 @@ block-sounds : (b : Bool) (l : Ledger) → ReadyOf l → isSounding (preparedIf 
 block-sounds true l h = after-sounds (l .shared) h
 block-sounds false l h = heard-is (sounding (l .shared))
 
-pub render-sounds : (l : Ledger) → ReadyOf l → clockEnds (l .shared) ≡ false → isSounding (render l .answer) ≡ sounding (render l .ledger .shared)
-render-sounds l h e =
-    ap (λ b. isSounding (cond b ends goes .answer)) e ∙ block-sounds (anyFree q) (applyEvents q (rested l)) (happenAll-kept ReadyOf ready-steady q (rested l) h) ∙ ap (λ b. sounding (cond b ends goes .ledger .shared)) (sym e)
+pub render-sounds : (out : List ℕ) (l : Ledger) → ReadyOf l → renderRefusal (l .shared) (length out) ≡ none
+    → isSounded (step (call.render out) l .answer) ≡ sounding (step (call.render out) l .ledger .shared)
+render-sounds out l h e =
+    ap (λ o. isSounded (renderStep o out l .answer)) e ∙ block-sounds (anyFree q) (applyEvents q (rested l)) (happenAll-kept ReadyOf ready-steady q (rested l) h)
+    ∙ ap (λ o. sounding (renderStep o out l .ledger .shared)) (sym e)
   where
     q : List Event
     q = due (l .shared)
-
-    ends : rendering.Heard
-    ends = record { answer = Rendered.Refused ClockEnd; ledger = l }
-
-    goes : rendering.Heard
-    goes = preparedIf (anyFree q) (applyEvents q (rested l))

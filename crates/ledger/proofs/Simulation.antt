@@ -29,11 +29,13 @@ use Rattle.store.specs.declared.voices.Voice.{Voice}
 use Rattle.model.specs.SharedState.{lengthL}
 use Rattle.model.specs.Refuse.{reportRefusal}
 use Rattle.model.specs.Order.{order, reportNode}
-use Rattle.model.specs.Render.{prepareOutcome}
+use Rattle.model.specs.Render.{prepareOutcome, due, renderRefusal}
+use Rattle.model.specs.Written.{written}
 use Rattle.model.specs.Page.{header, portNow, line, lines}
 use Rattle.model.specs.Call.{Call, Question, scheduleRefusal, pageAnswer, answerTo}
 use Rattle.model.specs.Call as call
 use Rattle.ledger.specs.Ledger.{Ledger, newLedger, portHeld}
+use Rattle.ledger.specs.Render.{rested}
 use Rattle.ledger.specs.Call as ledger
 use Rattle.ledger.specs.Claim.{ownerOf}
 use Rattle.ledger.proofs.Allowed.{when-none, or-false, host-at}
@@ -45,7 +47,7 @@ use Rattle.ledger.proofs.Port.{end-held}
 use Rattle.ledger.proofs.Abstraction.{modelOf, reached, stored}
 use Rattle.ledger.proofs.NoOverflow.{NoOverflow, clock-step, timely-step, stored-shown}
 use Rattle.ledger.proofs.Spawns.{InvariantOf, host-owned, ids-of, managed-agrees, loose-agrees}
-use Rattle.ledger.proofs.Moves.{free-agrees, clear-agrees, order-desk, report-desk, ready-desk, order-same, refusal-same, render-agrees}
+use Rattle.ledger.proofs.Moves.{free-agrees, clear-agrees, order-desk, report-desk, ready-desk, order-same, refusal-same, render-agrees, freed-same, outcomes-agree}
 
 pub record Agrees (r : call.Step) (t : ledger.Step) : Type 0 where
   pub answer : r .answer ≡ t .answer
@@ -139,6 +141,17 @@ module _ (l : Ledger) (s : InvariantOf l) where
   asks-agree (call.wholeFade input ins lent at out outs) = refl
   asks-agree (call.wholeSum inputs counts out outs) = refl
 
+  -- ---- 02, Paper 1: the render with its list
+  rendered-agrees : (o : Option Refusal) (out : List ℕ) → Agrees (call.renderStep o out (modelOf l)) (ledger.renderStep o out l)
+  rendered-agrees (some r) out = record { answer = refl; model = refl; sound = s }
+  rendered-agrees none out =
+      let r = render-agrees l s in
+      record {
+        answer = ap₂ (λ a os. call.rendered a (length (due (l .shared))) (written os out)) (r .answer) (outcomes-agree (due (l .shared)) (rested l) s);
+        model = r .model;
+        sound = r .sound;
+      }
+
 -- what every run keeps of a ledger: it is sound, and its numbers are within 64 bits
 pub record Kept (l : Ledger) : Type 0 where
   pub sound : InvariantOf l
@@ -156,7 +169,7 @@ step-agrees (call.spawnManaged x) l h =
     let r = managed-agrees l (h .sound) x in record { answer = ap call.spawned (r .answer); model = r .model; sound = r .sound }
 step-agrees (call.spawnLoose x) l h =
     let r = loose-agrees l (h .sound) x in record { answer = ap call.spawned (r .answer); model = r .model; sound = r .sound }
-step-agrees (call.free w) l h = let r = free-agrees w l (h .sound) in record { answer = refl; model = r .model; sound = r .sound }
+step-agrees (call.free w) l h = let r = free-agrees w l (h .sound) in record { answer = ap call.ordered (freed-same w l); model = r .model; sound = r .sound }
 step-agrees call.clear l h = let r = clear-agrees l (h .length) (h .sound) in record { answer = ap call.removed (r .removed); model = r .model; sound = r .sound }
 step-agrees (call.order w name o) l h = order-agrees l (h .sound) w name o
 step-agrees (call.schedule t w name a) l h = guarded l (h .sound) (scheduleRefusal (l .shared .events)) _ _ (λ e. record { answer = refl; model = refl; sound = h .sound })
@@ -164,7 +177,7 @@ step-agrees (call.report k channels samples flag) l h = report-agrees l (h .soun
 step-agrees call.prepare l h =
     let r = ready-desk l (h .sound) (prepareOutcome (l .shared) .answer) (prepareOutcome (l .shared) .order) in
     record { answer = refl; model = r .model; sound = r .sound }
-step-agrees call.render l h = let r = render-agrees l (h .sound) in record { answer = ap call.rendered (r .answer); model = r .model; sound = r .sound }
+step-agrees (call.render out) l h = rendered-agrees l (h .sound) (renderRefusal (l .shared) (length out)) out
 step-agrees (call.ask q) l h =
     reads-agrees l (h .sound) _ _ (asks-agree l (h .sound) q ∙ ap (λ vs. answerTo (λ v. portHeld v l) q (record { shared = l .shared; voices = vs })) (stored-shown l (h .timely) (h .clock)))
 

@@ -192,7 +192,7 @@ module _ (c : Config) where
 
     pub why-shown : (l' : Ledger) (x : Call) → words.Why l l' u g x → claim.Why (storeOf c l) (storeOf c l') (shown c u) (movedFade (λ n. n * c .block) g) x
     why-shown l' x words.freed = claim.freed
-    why-shown l' x (words.timed e i d f v) = claim.timed e i d f v
+    why-shown l' x (words.timed out e i d f v) = claim.timed out e i d f v
     why-shown l' x (words.ended e) = claim.ended (ap (λ (z : Config). clearing.ended (fadeLength (z .rate)) (shown c u .state)) is ∙ ended-shown (l .shared) is (u .state) ∙ e)
     why-shown l' x (words.silent e) = claim.silent e
     why-shown l' x (words.reclaimed y on e) = claim.reclaimed y on e

@@ -58,7 +58,7 @@ GoesOn v f a vs = In (withState (Fading (beat a f)) v) vs
 -- why a voice v that faded by f is not there any more, after the call x that made of l the ledger l'
 pub data Why (l l' : Ledger) (v : Voice) (f : Fade) : Call → Type 0 where
   freed : Why l l' v f (call.free (v .id))
-  timed : (e : Event) → In e (l .shared .events) → queue.due (deadline (l .shared)) e ≡ true → isFree (e .action) ≡ true → e .voice ≡ v .id → Why l l' v f call.render
+  timed : (out : List ℕ) (e : Event) → In e (l .shared .events) → queue.due (deadline (l .shared)) e ≡ true → isFree (e .action) ≡ true → e .voice ≡ v .id → Why l l' v f (call.render out)
   ended : clearing.ended (l .shared) (v .state) ≡ true → Why l l' v f call.clear
   silent : isSilent (l .shared .graph .nodes) v ≡ true → Why l l' v f call.clear
   reclaimed : (x : Spawn) → isOn (x .bus) v ≡ true → cutIfHeld (heldRecord (l' .shared .steals) (f .number)) ≡ true → Why l l' v f (call.spawnManaged x)

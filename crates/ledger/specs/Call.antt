@@ -3,6 +3,7 @@ use Prim.Native.Nat.{ℕ, _*_}
 use mathlib.Core.List.{List, [], _∷_, map}
 use mathlib.Core.Option.{Option, none, some}
 use lib.ListN.{length}
+use Rattle.lists.specs.Find.{find}
 use Rattle.node.specs.Name.{nameOf}
 use Rattle.node.specs.declared.refusal.Refusal.{Refusal}
 use Rattle.edges.specs.Ports as ports
@@ -11,13 +12,15 @@ use Rattle.graph.specs.Node.{nodeAt, hostNode}
 use Rattle.graph.specs.Change as change
 use Rattle.graph.specs.Refuse.{addRefusal, hostRefusal, disconnectRefusal, connectRefusal}
 use Rattle.scheduler.specs.Queue.{inserted}
+use Rattle.store.specs.declared.answer.Rendered.the-variants as Rendered
 use Rattle.store.specs.declared.voices.Voice.{Voice}
 use Rattle.model.specs.SharedState.{SharedState, withEvents}
-use Rattle.model.specs.Voice.{moved}
+use Rattle.model.specs.Voice.{moved, isVoice}
 use Rattle.model.specs.Refuse.{reportRefusal}
 use Rattle.model.specs.Order.{reportNode}
 use Rattle.model.specs.Order as param
-use Rattle.model.specs.Render.{prepareOutcome, prepareShared}
+use Rattle.model.specs.Render.{prepareOutcome, prepareShared, due, renderRefusal}
+use Rattle.model.specs.Written.{written}
 use Rattle.model.specs.Model.{Model}
 use Rattle.model.specs.Call.{Call, Answer, readyAnswer, answerTo, event, scheduleRefusal}
 use Rattle.model.specs.Call as call
@@ -56,6 +59,14 @@ shown l v = moved (position (l .shared .config .block)) v
 abbrev pub seen : Ledger → Model
 seen l = record { shared = l .shared; voices = map (shown l) (l .voices) }
 
+-- 02, Paper 1: a refused render takes no event and writes no entry; else the outcomes stand in the list, and "later entries stay"
+abbrev pub renderStep : Option Refusal → List ℕ → Ledger → Step
+renderStep (some r) out l = record { answer = call.rendered (Rendered.Refused r) 0 out; ledger = l }
+renderStep none out l =
+    let h = rendering.render l in
+    let q = due (l .shared) in
+    record { answer = call.rendered (h .answer) (length q) (written (rendering.outcomes q (rendering.rested l)) out); ledger = h .ledger }
+
 abbrev pub step : Call → Ledger → Step
 step (call.addNode kind ports required values glides) l =
     unless (addRefusal (l .shared .graph) kind ports required) l
@@ -73,7 +84,7 @@ step (call.spawnManaged x) l =
 step (call.spawnLoose x) l =
     let r = ledger.spawnLoose x l in
     record { answer = call.spawned (r .answer); ledger = r .ledger }
-step (call.free w) l = record { answer = call.done; ledger = ledger.free w l }
+step (call.free w) l = record { answer = call.ordered (param.freeOutcome (find (isVoice w) (l .voices))); ledger = ledger.free w l }
 step call.clear l =
     let c = clearing.clear l in
     record { answer = call.removed (c .removed); ledger = c .ledger }
@@ -86,9 +97,7 @@ step (call.report k channels samples flag) l =
     unless (reportRefusal (l .shared) (l .voices) k channels (length samples)) l
     (sharedStep l (reportNode (nodeAt (l .shared .graph .nodes) k) samples flag (l .shared)) call.done)
 step call.prepare l = sharedStep l (prepareShared (l .shared)) (readyAnswer (prepareOutcome (l .shared) .answer))
-step call.render l =
-    let h = rendering.render l in
-    record { answer = call.rendered (h .answer); ledger = h .ledger }
+step (call.render out) l = renderStep (renderRefusal (l .shared) (length out)) out l
 step (call.ask q) l = reads l (answerTo (λ v. portHeld v l) q (seen l))
 
 pub record Ran : Type 0 where

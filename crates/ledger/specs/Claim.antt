@@ -64,7 +64,7 @@ use Rattle.model.specs.Refuse.{spawnRefusal}
 use Rattle.model.specs.Spawn.{Spawn, nextVoice, stateUnder, fadeOf}
 use Rattle.model.specs.Clear.{isSilent}
 use Rattle.model.specs.Clear as clearing
-use Rattle.model.specs.Render.{isFree, isSounding, deadline, clockEnds}
+use Rattle.model.specs.Render.{isFree, isSounding, deadline, renderRefusal}
 use Rattle.model.specs.Model.{Model, admissionOn}
 use Rattle.model.specs.Page.{portNow}
 use Rattle.model.specs.Call.{Call, Answer}
@@ -93,7 +93,7 @@ isManaged (call.order w name o) = false
 isManaged (call.schedule t w name a) = false
 isManaged (call.report k channels samples flag) = false
 isManaged call.prepare = false
-isManaged call.render = false
+isManaged (call.render out) = false
 isManaged (call.ask q) = false
 
 -- a sounding render
@@ -104,7 +104,7 @@ isSounded (call.node k) = false
 isSounded (call.spawned s) = false
 isSounded (call.removed n) = false
 isSounded (call.ordered o) = false
-isSounded (call.rendered a) = isSounding a
+isSounded (call.rendered a n out) = isSounding a
 isSounded (call.known x) = false
 isSounded (call.reached p) = false
 isSounded (call.found v) = false
@@ -229,7 +229,7 @@ cutIfHeld (found.Record r) = r .cut
 -- why a voice v that faded by f is not there any more, after the call x that made of s the store s'
 pub data Why (s s' : Model) (v : Voice) (f : Fade) : Call → Type 0 where
   freed : Why s s' v f (call.free (v .id))
-  timed : (e : Event) → In e (s .shared .events) → queue.due (deadline (s .shared)) e ≡ true → isFree (e .action) ≡ true → e .voice ≡ v .id → Why s s' v f call.render
+  timed : (out : List ℕ) (e : Event) → In e (s .shared .events) → queue.due (deadline (s .shared)) e ≡ true → isFree (e .action) ≡ true → e .voice ≡ v .id → Why s s' v f (call.render out)
   ended : clearing.ended (lengthL (s .shared)) (v .state) ≡ true → Why s s' v f call.clear
   silent : isSilent (s .shared .graph .nodes) v ≡ true → Why s s' v f call.clear
   reclaimed : (x : Spawn) → isOn (x .bus) v ≡ true → cutIfHeld (heldRecord (s' .shared .steals) (f .number)) ≡ true → Why s s' v f (call.spawnManaged x)
@@ -430,7 +430,7 @@ pub record Holds (c : Config) (s : Model) : Type 0 where
   pub wires : (e : Edge) → In e (s .shared .graph .edges) → In (e .from .0) (nodeIds (s .shared .graph .nodes)) × In (e .to .0) (nodeIds (s .shared .graph .nodes))
   pub inOrder : s .shared .graph .prepared ≡ true → InOrder (s .shared .graph)
   pub prepares : s .shared .graph .prepared ≡ true → call.step call.prepare s ≡ record { answer = call.done; model = s }
-  pub sounds : clockEnds (s .shared) ≡ false → isSounded (call.step call.render s .answer) ≡ sounding (call.step call.render s .model .shared)
+  pub sounds : (out : List ℕ) → renderRefusal (s .shared) (length out) ≡ none → isSounded (call.step (call.render out) s .answer) ≡ sounding (call.step (call.render out) s .model .shared)
   -- ---- 02, Paper 4. The page's port column, of every voice: tracked, fading or loose.
   pub shows : (v : Voice) → In v (s .voices) → Shows s v
   -- ---- The tables hold it: 512 nodes, 1,024 edges, 64 voices, 256 events, and the newest 64 records.

@@ -2,17 +2,17 @@
 use Prim.Native.Nat.{ℕ, suc, _+_}
 use mathlib.Core.List.{List, [], _∷_, map}
 use mathlib.Core.Bool.{Bool, true, false, cond}
-use Rattle.node.specs.declared.refusal.Refusal.the-variants.{ClockEnd}
+use Rattle.lists.specs.Find.{find}
 use Rattle.scheduler.specs.Event.{paramOrder}
 use Rattle.scheduler.specs.Queue.{leftAfter}
 use Rattle.scheduler.specs.declared.event.Event.{Event}
+use Rattle.store.specs.declared.answer.Outcome.{Outcome}
 use Rattle.store.specs.declared.answer.Rendered.{Rendered}
-use Rattle.store.specs.declared.answer.Rendered.the-variants as Rendered
 use Rattle.store.specs.declared.voices.Voice.{Voice}
 use Rattle.model.specs.SharedState.{withEvents, withClock, sounding}
-use Rattle.model.specs.Voice.{moved}
-use Rattle.model.specs.Order.{order}
-use Rattle.model.specs.Render.{prepareOutcome, prepareShared, isFree, anyFree, heard, answerAfter, isSounding, deadline, due, clockEnds}
+use Rattle.model.specs.Voice.{moved, isVoice}
+use Rattle.model.specs.Order.{order, outcomeNumber, freeOutcome}
+use Rattle.model.specs.Render.{prepareOutcome, prepareShared, isFree, anyFree, heard, answerAfter, isSounding, deadline, due}
 use Rattle.ledger.specs.Ledger.{Ledger, free, atShared}
 
 abbrev pub applyEvent : Event → Ledger → Ledger
@@ -23,6 +23,16 @@ applyEvent e l =
 abbrev pub applyEvents : List Event → Ledger → Ledger
 applyEvents [] l = l
 applyEvents (e ∷ q) l = applyEvents q (applyEvent e l)
+
+-- 02, Paper 1: what became of an event, by the ledger's voices at the moment when it happens, and of each of them
+abbrev pub outcomeOf : Event → Ledger → Outcome
+outcomeOf e l =
+    cond (isFree (e .action)) (freeOutcome (find (isVoice (e .voice)) (l .voices)))
+    (order (e .voice) (paramOrder e .name) (paramOrder e .order) (l .voices) (l .shared) .outcome)
+
+abbrev pub outcomes : List Event → Ledger → List ℕ
+outcomes [] l = []
+outcomes (e ∷ q) l = outcomeNumber (outcomeOf e l) ∷ outcomes q (applyEvent e l)
 
 abbrev pub oneMore : ℕ → ℕ
 oneMore count = suc count
@@ -55,7 +65,6 @@ preparedIf false l = blockOf (heard (sounding (l .shared))) l
 abbrev pub rested : Ledger → Ledger
 rested l = atShared l (withEvents (leftAfter (deadline (l .shared)) (l .shared .events)) (l .shared))
 
+-- a render that is not refused
 abbrev pub render : Ledger → Heard
-render l =
-    cond (clockEnds (l .shared)) (record { answer = Rendered.Refused ClockEnd; ledger = l })
-    (preparedIf (anyFree (due (l .shared))) (applyEvents (due (l .shared)) (rested l)))
+render l = preparedIf (anyFree (due (l .shared))) (applyEvents (due (l .shared)) (rested l))

@@ -20,22 +20,22 @@ use Rattle.store.specs.declared.voices.VoiceState.the-variants.{Tracked}
 use Rattle.model.specs.Model.{Model}
 use Rattle.model.specs.Call.{Call, Answer, removed, reached, wires}
 use Rattle.model.specs.Call as call
-use Rattle.model.specs.Scene.{upTo, voice, host, sink, spawn, ends, sounding, silent, after, asked, further, edge, seen, voices, fading}
+use Rattle.model.specs.Scene.{upTo, voice, host, sink, spawn, ends, sounding, silent, after, asked, further, edge, seen, voices, fading, render}
 
 -- ---- L is 40, the block 16: voice 1 fades and has sounded two renders
 abbrev twice : Model
-twice = after (upTo 1 Oldest) (host 2 ∷ sink 0 ∷ spawn 0 ∷ spawn 0 ∷ call.prepare ∷ call.render ∷ call.render ∷ [])
+twice = after (upTo 1 Oldest) (host 2 ∷ sink 0 ∷ spawn 0 ∷ spawn 0 ∷ call.prepare ∷ render ∷ render ∷ [])
 
 -- 32 is short of L, 48 is past it; a clearing that removes nothing leaves the graph prepared, one that removes a voice does not.
 -- Refuses: rounding L over block down; a fade that is removed by the render; a clearing that does nothing, or all.
 ends-at-L :
-    asked (call.clear ∷ call.render ∷ call.clear ∷ call.clear ∷ call.ask (call.position (voice 1)) ∷ call.ask call.edges ∷ call.render ∷ []) twice
+    asked (call.clear ∷ render ∷ call.clear ∷ call.clear ∷ call.ask (call.position (voice 1)) ∷ call.ask call.edges ∷ render ∷ []) twice
     ≡ removed 0 ∷ sounding ∷ removed 1 ∷ removed 0 ∷ reached none ∷ wires (edge 3 0 1 ∷ []) ∷ silent ∷ []
 unfolding eq silencePassThrough rules prepare processingOrder lacking lacks any liveIds liveNodes risingFrom whole order walk released fed among count-up settled
 ends-at-L = refl
 
 -- Its record stays uncut. Refuses: a mark for every fade that leaves.
-uncut : further (call.render ∷ call.clear ∷ []) twice .shared .steals ≡ record { count = 1; newest = recordOf 0 Unknown false ∷ [] }
+uncut : further (render ∷ call.clear ∷ []) twice .shared .steals ≡ record { count = 1; newest = recordOf 0 Unknown false ∷ [] }
 unfolding eq silencePassThrough rules prepare processingOrder lacking lacks any liveIds liveNodes risingFrom whole order walk released fed among count-up settled
 uncut = refl
 
@@ -46,7 +46,7 @@ exact calls =
     (after (record { rate = 400; block = 1; budget = AtMost 1; policy = Oldest; scope = Global; table = false }) (host 2 ∷ sink 0 ∷ spawn 0 ∷ spawn 0 ∷ call.prepare ∷ []))
 
 to-the-sample :
-    exact (call.render ∷ call.clear ∷ call.render ∷ call.ask (call.position (voice 1)) ∷ call.clear ∷ [])
+    exact (render ∷ call.clear ∷ render ∷ call.ask (call.position (voice 1)) ∷ call.clear ∷ [])
     ≡ sounding ∷ removed 0 ∷ sounding ∷ reached (some 2) ∷ removed 1 ∷ []
 unfolding eq silencePassThrough rules prepare processingOrder lacking lacks any liveIds liveNodes risingFrom whole order walk released fed among count-up settled
 to-the-sample = refl
@@ -59,7 +59,7 @@ abbrev four : List Call → Model
 four calls =
     further calls
     (after (record { rate = 400; block = 1; budget = AtMost 2; policy = Oldest; scope = Global; table = false })
-    (host 4 ∷ sink 0 ∷ spawn 0 ∷ spawn 0 ∷ spawn 0 ∷ call.prepare ∷ call.render ∷ spawn 0 ∷ call.prepare ∷ call.render ∷ []))
+    (host 4 ∷ sink 0 ∷ spawn 0 ∷ spawn 0 ∷ spawn 0 ∷ call.prepare ∷ render ∷ spawn 0 ∷ call.prepare ∷ render ∷ []))
 
 once :
     (voices (four []) ≡ seen 1 0 (fading 3 0 2 0) ∷ seen 2 1 (fading 5 1 1 1) ∷ seen 3 2 Tracked ∷ seen 4 3 Tracked ∷ [])

@@ -30,9 +30,9 @@ use Rattle.store.specs.declared.answer.Rendered.the-variants as Rendered
 use Rattle.store.specs.declared.voices.VoiceState.the-variants.{Tracked}
 use Rattle.model.specs.Voice.{id}
 use Rattle.model.specs.Model.{Model}
-use Rattle.model.specs.Call.{Call, done, refused, ordered, rendered, time}
+use Rattle.model.specs.Call.{Call, done, refused, ordered, time}
 use Rattle.model.specs.Call as call
-use Rattle.model.specs.Scene.{upTo, plain, float, voice, host, sink, wire, spawn, free, timedFree, sounding, silent, after, asked, further, seen, voices, fading, param, value, glide}
+use Rattle.model.specs.Scene.{upTo, plain, float, voice, host, sink, wire, spawn, free, timedFree, sounding, silent, told, after, asked, further, seen, voices, fading, param, value, glide, render}
 use Rattle.model.specs.Spawn.{spawnOf}
 use Rattle.model.specs.SharedState.{withClock}
 
@@ -67,7 +67,7 @@ key calls = after (upTo 2 Oldest) (host 2 ∷ sink 0 ∷ call.spawnManaged (spaw
 orders :
     (asked
     (set "cut" (value 1) ∷ set "cut" (glide 1 1) ∷ set "rate" (glide 3 0) ∷ set "rate" (value 1) ∷ set "none" (value 1) ∷ set "" (value 1)
-    ∷ set "ratexxxxxxxxxxxxx" (value 1) ∷ call.order (voice 2) (bytes "cut") (value 1) ∷ call.render ∷ []) (key [])
+    ∷ set "ratexxxxxxxxxxxxx" (value 1) ∷ call.order (voice 2) (bytes "cut") (value 1) ∷ render ∷ []) (key [])
     ≡ ordered Applied ∷ ordered NotTaken ∷ ordered Applied ∷ ordered NotTaken ∷ ordered NoParameter ∷ ordered NoParameter
     ∷ ordered NoParameter ∷ ordered NoVoice ∷ sounding ∷ [])
     × (last 1 (key (set "cut" (value 1) ∷ set "cut" (glide 1 1) ∷ set "none" (value 3) ∷ [])) ≡ some (value 1))
@@ -78,39 +78,39 @@ orders = (refl, refl, refl)
 -- ---- ● the deadline: the block is 16, so that the first render takes 15, the second 16. Refuses: times up to the deadline; times up to
 -- the clock.
 deadline :
-    (last 1 (key (at 15 "cut" 1 ∷ call.render ∷ [])) ≡ some (value 1))
-    × (last 1 (key (at 16 "cut" 1 ∷ call.render ∷ [])) ≡ some LastOrder.Nothing)
-    × (last 1 (key (at 16 "cut" 1 ∷ call.render ∷ call.render ∷ [])) ≡ some (value 1))
-    × (last 1 (key (call.render ∷ call.render ∷ at 3 "cut" 1 ∷ call.render ∷ [])) ≡ some (value 1))
+    (last 1 (key (at 15 "cut" 1 ∷ render ∷ [])) ≡ some (value 1))
+    × (last 1 (key (at 16 "cut" 1 ∷ render ∷ [])) ≡ some LastOrder.Nothing)
+    × (last 1 (key (at 16 "cut" 1 ∷ render ∷ render ∷ [])) ≡ some (value 1))
+    × (last 1 (key (render ∷ render ∷ at 3 "cut" 1 ∷ render ∷ [])) ≡ some (value 1))
 unfolding eq prepare processingOrder lacking lacks any liveIds liveNodes risingFrom whole order walk released fed among count-up
 deadline = (refl, refl, refl, refl)
 
 -- By time, equal times by insertion; a gate is a value for `gate`, whatever name stands beside it; a name that is not 1 to 16
 -- bytes matches no parameter. Refuses: by insertion alone; equal times the other way round.
 by-time :
-    (last 1 (key (at 9 "cut" 3 ∷ at 4 "cut" 5 ∷ call.render ∷ [])) ≡ some (value 3))
-    × (last 1 (key (at 4 "cut" 3 ∷ at 4 "cut" 5 ∷ call.render ∷ [])) ≡ some (value 5))
-    × (last 1 (key (call.schedule 4 (voice 1) (bytes "rate") (Action.Gate (float 7)) ∷ call.render ∷ [])) ≡ some (value 7))
-    × (last 1 (key (call.schedule 4 (voice 1) [] (Action.Value (float 7)) ∷ call.render ∷ [])) ≡ some LastOrder.Nothing)
-    × (last 2 (key (call.schedule 4 (voice 1) (bytes "rate") (Action.Glide (float 7) (float 1) Linear Raw) ∷ call.render ∷ [])) ≡ some (glide 7 1))
+    (last 1 (key (at 9 "cut" 3 ∷ at 4 "cut" 5 ∷ render ∷ [])) ≡ some (value 3))
+    × (last 1 (key (at 4 "cut" 3 ∷ at 4 "cut" 5 ∷ render ∷ [])) ≡ some (value 5))
+    × (last 1 (key (call.schedule 4 (voice 1) (bytes "rate") (Action.Gate (float 7)) ∷ render ∷ [])) ≡ some (value 7))
+    × (last 1 (key (call.schedule 4 (voice 1) [] (Action.Value (float 7)) ∷ render ∷ [])) ≡ some LastOrder.Nothing)
+    × (last 2 (key (call.schedule 4 (voice 1) (bytes "rate") (Action.Glide (float 7) (float 1) Linear Raw) ∷ render ∷ [])) ≡ some (glide 7 1))
 unfolding eq prepare processingOrder lacking lacks any liveIds liveNodes risingFrom whole order walk released fed among count-up
 by-time = (refl, refl, refl, refl, refl)
 
 -- A free before a value of the same time: the voice is withoutVoice, the value does nothing, and none of the two is left. The free prepares
 -- inside the render, which sounds. A value does not prepare. Refuses: frees after the values; a free that leaves it unprepared.
 free-first :
-    (asked (timedFree 4 1 ∷ at 4 "cut" 3 ∷ call.render ∷ []) (key []) ≡ done ∷ done ∷ sounding ∷ [])
-    × (voices (key (timedFree 4 1 ∷ at 4 "cut" 3 ∷ call.render ∷ [])) ≡ [])
-    × (key (timedFree 4 1 ∷ at 4 "cut" 3 ∷ call.render ∷ []) .shared .events ≡ [])
-    × (asked (host 1 ∷ at 4 "cut" 3 ∷ call.render ∷ []) (key []) ≡ call.node (id 3) ∷ done ∷ silent ∷ [])
+    (asked (timedFree 4 1 ∷ at 4 "cut" 3 ∷ render ∷ []) (key []) ≡ done ∷ done ∷ told Rendered.Sounding (0 ∷ 1 ∷ []) 254 ∷ [])
+    × (voices (key (timedFree 4 1 ∷ at 4 "cut" 3 ∷ render ∷ [])) ≡ [])
+    × (key (timedFree 4 1 ∷ at 4 "cut" 3 ∷ render ∷ []) .shared .events ≡ [])
+    × (asked (host 1 ∷ at 4 "cut" 3 ∷ render ∷ []) (key []) ≡ call.node (id 3) ∷ done ∷ told Rendered.Silent (0 ∷ []) 255 ∷ [])
 unfolding eq prepare processingOrder lacking lacks any liveIds liveNodes risingFrom whole order walk released fed among count-up
 free-first = (refl, refl, refl, refl)
 
 -- ---- "a free, known or not, prepares inside the render": it heals a graph that a new node left unprepared. A direct free prepares
 -- nothing. Refuses: a prepare for known voices only.
 unknown-free :
-    (asked (host 1 ∷ timedFree 4 9 ∷ call.render ∷ call.render ∷ []) (key []) ≡ call.node (id 3) ∷ done ∷ sounding ∷ sounding ∷ [])
-    × (asked (free 1 ∷ call.render ∷ []) (key []) ≡ done ∷ silent ∷ [])
+    (asked (host 1 ∷ timedFree 4 9 ∷ render ∷ render ∷ []) (key []) ≡ call.node (id 3) ∷ done ∷ told Rendered.Sounding (1 ∷ []) 255 ∷ sounding ∷ [])
+    × (asked (free 1 ∷ render ∷ []) (key []) ≡ ordered Applied ∷ silent ∷ [])
 unfolding eq prepare processingOrder lacking lacks any liveIds liveNodes risingFrom whole order walk released fed among count-up
 unknown-free = (refl, refl)
 
@@ -123,12 +123,12 @@ cyclic calls =
     (host 4 ∷ sink 0 ∷ call.spawnManaged (spawnOf keyDef (id 0) (float 0)) ∷ spawn 0 ∷ spawn 0 ∷ host 1 ∷ wire 6 6 0 ∷ timedFree 4 1 ∷ timedFree 5 9 ∷ calls)
 
 failed-prepare :
-    (asked (call.render ∷ call.ask call.clock ∷ []) (cyclic []) ≡ rendered (Rendered.Unprepared Cycle) ∷ time 16 ∷ [])
+    (asked (render ∷ call.ask call.clock ∷ []) (cyclic []) ≡ told (Rendered.Unprepared Cycle) (0 ∷ 1 ∷ []) 254 ∷ time 16 ∷ [])
     × (voices (cyclic []) ≡ seen 1 0 (fading 4 0 0 0) ∷ seen 2 1 Tracked ∷ seen 3 2 Tracked ∷ [])
-    × (voices (cyclic (spawn 0 ∷ call.render ∷ [])) ≡ seen 2 1 (fading 7 0 0 1) ∷ seen 3 2 Tracked ∷ seen 4 3 Tracked ∷ [])
-    × (cyclic (call.render ∷ []) .shared .events ≡ [])
-    × (asked (call.render ∷ call.ask call.clock ∷ []) (after (upTo 2 Oldest) (call.addNode (bytes "Fx") 1 1 false false ∷ timedFree 5 9 ∷ []))
-    ≡ rendered (Rendered.Unprepared RequiredPort) ∷ time 16 ∷ [])
+    × (voices (cyclic (spawn 0 ∷ render ∷ [])) ≡ seen 2 1 (fading 7 0 0 1) ∷ seen 3 2 Tracked ∷ seen 4 3 Tracked ∷ [])
+    × (cyclic (render ∷ []) .shared .events ≡ [])
+    × (asked (render ∷ call.ask call.clock ∷ []) (after (upTo 2 Oldest) (call.addNode (bytes "Fx") 1 1 false false ∷ timedFree 5 9 ∷ []))
+    ≡ told (Rendered.Unprepared RequiredPort) (1 ∷ []) 255 ∷ time 16 ∷ [])
 unfolding eq prepare processingOrder lacking lacks any liveIds liveNodes risingFrom whole order walk released fed among count-up
 failed-prepare = (refl, refl, refl, refl, refl)
 
@@ -137,20 +137,20 @@ abbrev sinkless : List Call → Model
 sinkless calls = after (upTo 1 Oldest) (host 2 ∷ spawn 0 ∷ spawn 0 ∷ timedFree 4 9 ∷ calls)
 
 free-without-sink :
-    (asked (call.render ∷ []) (sinkless []) ≡ silent ∷ []) × (voices (sinkless (call.render ∷ [])) ≡ seen 1 0 (fading 2 0 0 0) ∷ seen 2 1 Tracked ∷ [])
+    (asked (render ∷ []) (sinkless []) ≡ told Rendered.Silent (1 ∷ []) 255 ∷ []) × (voices (sinkless (render ∷ [])) ≡ seen 1 0 (fading 2 0 0 0) ∷ seen 2 1 Tracked ∷ [])
 unfolding eq prepare processingOrder lacking lacks any liveIds liveNodes risingFrom whole order walk released fed among count-up
 free-without-sink = (refl, refl)
 
 -- ---- A timed free marks no record cut: voice 1 fades with record 0. It leaves before the fades move. Refuses: a mark for it.
 timed-free-marks-none :
-    (after (upTo 1 Oldest) (host 2 ∷ sink 0 ∷ spawn 0 ∷ spawn 0 ∷ timedFree 0 1 ∷ call.render ∷ []) .shared .steals
+    (after (upTo 1 Oldest) (host 2 ∷ sink 0 ∷ spawn 0 ∷ spawn 0 ∷ timedFree 0 1 ∷ render ∷ []) .shared .steals
     ≡ record { count = 1; newest = recordOf 0 Unknown false ∷ [] })
-    × (voices (after (upTo 1 Oldest) (host 2 ∷ sink 0 ∷ spawn 0 ∷ spawn 0 ∷ timedFree 0 1 ∷ call.render ∷ [])) ≡ seen 2 1 Tracked ∷ [])
+    × (voices (after (upTo 1 Oldest) (host 2 ∷ sink 0 ∷ spawn 0 ∷ spawn 0 ∷ timedFree 0 1 ∷ render ∷ [])) ≡ seen 2 1 Tracked ∷ [])
 unfolding eq prepare processingOrder lacking lacks any liveIds liveNodes risingFrom whole order walk released fed among count-up
 timed-free-marks-none = (refl, refl)
 
 -- An event may name a voice that is not let in yet. Refuses: an event tested when it is scheduled.
-not-yet : voices (after (upTo 2 Oldest) (host 2 ∷ timedFree 20 1 ∷ spawn 0 ∷ spawn 0 ∷ call.render ∷ call.render ∷ [])) ≡ seen 2 1 Tracked ∷ []
+not-yet : voices (after (upTo 2 Oldest) (host 2 ∷ timedFree 20 1 ∷ spawn 0 ∷ spawn 0 ∷ render ∷ render ∷ [])) ≡ seen 2 1 Tracked ∷ []
 unfolding eq prepare processingOrder lacking lacks any liveIds liveNodes risingFrom whole order walk released fed among count-up
 not-yet = refl
 
@@ -159,8 +159,8 @@ abbrev full : Model
 full = after (upTo 2 Oldest) (timedFree 4 9 ∷ replicate 254 (timedFree 40 9))
 
 table-full :
-    asked (timedFree 40 9 ∷ timedFree 40 9 ∷ call.render ∷ timedFree 40 9 ∷ timedFree 40 9 ∷ []) full
-    ≡ done ∷ refused TableFull ∷ silent ∷ done ∷ refused TableFull ∷ []
+    asked (timedFree 40 9 ∷ timedFree 40 9 ∷ render ∷ timedFree 40 9 ∷ timedFree 40 9 ∷ []) full
+    ≡ done ∷ refused TableFull ∷ told Rendered.Silent (1 ∷ []) 255 ∷ done ∷ refused TableFull ∷ []
 unfolding prepare processingOrder lacking lacks any liveIds liveNodes risingFrom whole order walk released fed among count-up
 table-full = refl
 
@@ -172,9 +172,9 @@ end =
     record { shared = withClock 18446744073709551599 (m .shared); voices = m .voices }
 
 clock-end :
-    (asked (call.render ∷ call.ask call.clock ∷ call.render ∷ call.ask call.clock ∷ []) end
-    ≡ sounding ∷ time 18446744073709551615 ∷ rendered (Rendered.Refused ClockEnd) ∷ time 18446744073709551615 ∷ [])
-    × (length (further (call.render ∷ call.render ∷ []) end .shared .events) ≡ 1)
-    × (voices (further (call.render ∷ []) end) ≡ [])
+    (asked (render ∷ call.ask call.clock ∷ render ∷ call.ask call.clock ∷ []) end
+    ≡ told Rendered.Sounding (0 ∷ []) 255 ∷ time 18446744073709551615 ∷ told (Rendered.Refused ClockEnd) [] 256 ∷ time 18446744073709551615 ∷ [])
+    × (length (further (render ∷ render ∷ []) end .shared .events) ≡ 1)
+    × (voices (further (render ∷ []) end) ≡ [])
 unfolding eq prepare processingOrder lacking lacks any liveIds liveNodes risingFrom whole order walk released fed among count-up
 clock-end = (refl, refl, refl)

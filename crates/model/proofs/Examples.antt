@@ -33,7 +33,7 @@ use Rattle.model.specs.Model.{Model}
 use Rattle.model.specs.Page as paper
 use Rattle.model.specs.Call.{Call, Answer, removed, known, event}
 use Rattle.model.specs.Call as call
-use Rattle.model.specs.Scene.{printed, small, voice, float, host, spawn, timedFree, after, asked, further}
+use Rattle.model.specs.Scene.{printed, small, voice, float, host, spawn, timedFree, after, asked, further, render}
 use Rattle.model.proofs.PageScene.{page}
 
 pub data Row : Type 0 where
@@ -64,11 +64,11 @@ abbrev ids : Model → List ℕ
 ids m = map (λ v. v .id .0) (m .voices)
 
 abbrev twoMore : List Call
-twoMore = call.render ∷ call.render ∷ []
+twoMore = render ∷ render ∷ []
 
 -- block 1; the samples are two channels
 abbrev heard : List Float → Model
-heard xs = after (small 1 Oldest) (host 1 ∷ spawn 0 ∷ call.render ∷ call.report (id 1) 2 xs false ∷ [])
+heard xs = after (small 1 Oldest) (host 1 ∷ spawn 0 ∷ render ∷ call.report (id 1) 2 xs false ∷ [])
 
 -- three voices, their nodes 1, 2 and 3 reporting one sample each, then a fourth
 abbrev reported : ℕ → List Float → List Call
@@ -76,11 +76,11 @@ reported k [] = spawn 0 ∷ []
 reported k (x ∷ xs) = call.report (id k) 1 (x ∷ []) false ∷ reported (suc k) xs
 
 abbrev full : List Float → Model
-full xs = further (reported 1 xs) (after (small 3 Quietest) (host 4 ∷ spawn 0 ∷ spawn 0 ∷ spawn 0 ∷ call.render ∷ []))
+full xs = further (reported 1 xs) (after (small 3 Quietest) (host 4 ∷ spawn 0 ∷ spawn 0 ∷ spawn 0 ∷ render ∷ []))
 
 -- a block of 64, so that the first render's deadline is 64
 abbrev timed : ℕ → Model
-timed t = after (record { rate = 8000; block = 64; budget = AtMost 1; policy = Oldest; scope = Global; table = false }) (host 1 ∷ spawn 0 ∷ timedFree t 1 ∷ call.render ∷ [])
+timed t = after (record { rate = 8000; block = 64; budget = AtMost 1; policy = Oldest; scope = Global; table = false }) (host 1 ∷ spawn 0 ∷ timedFree t 1 ∷ render ∷ [])
 
 -- the row as the definitions give it
 unfoldable pub given : Row → Row

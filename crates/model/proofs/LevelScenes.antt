@@ -25,26 +25,26 @@ use Rattle.model.specs.Voice.{id}
 use Rattle.model.specs.Model.{Model}
 use Rattle.model.specs.Call.{done, known, refused, Call, ordered, removed}
 use Rattle.model.specs.Call as call
-use Rattle.model.specs.Scene.{small, toneDef, float, voice, host, spawn, free, sounds, spawned, silent, after, asked, upTo, plain, further, param, value}
+use Rattle.model.specs.Scene.{small, toneDef, float, voice, host, spawn, free, sounds, spawned, silent, after, asked, upTo, plain, further, param, value, render}
 use Rattle.model.specs.Spawn.{spawnOf}
 
 -- Voice 1 is born at 1. Reported before the clock has passed its birth, its level is none all the same; without a report it is 0 once the
 -- clock has moved, by a silent render alone; then that of the last report; a voice that is withoutVoice, or never was, has none.
 -- Refuses: a level from the birth on; none before the first report; the highest report; a level that outlives its voice.
 abbrev lone : Model
-lone = after (small 1 Oldest) (host 1 ∷ call.render ∷ [])
+lone = after (small 1 Oldest) (host 1 ∷ render ∷ [])
 
 levels :
-    (asked (spawn 0 ∷ call.ask (call.level (voice 1)) ∷ call.render ∷ call.ask (call.level (voice 1)) ∷ sounds 1 3 ∷ call.ask (call.level (voice 1)) ∷ sounds 1 1 ∷ call.ask (call.level (voice 1)) ∷ []) lone
+    (asked (spawn 0 ∷ call.ask (call.level (voice 1)) ∷ render ∷ call.ask (call.level (voice 1)) ∷ sounds 1 3 ∷ call.ask (call.level (voice 1)) ∷ sounds 1 1 ∷ call.ask (call.level (voice 1)) ∷ []) lone
     ≡ spawned 1 ∷ known Unknown ∷ silent ∷ known (Known (float 0)) ∷ done ∷ known (Known (float 3)) ∷ done ∷ known (Known (float 1)) ∷ [])
-    × (asked (spawn 0 ∷ sounds 1 3 ∷ call.ask (call.level (voice 1)) ∷ call.render ∷ call.ask (call.level (voice 1)) ∷ free 1 ∷ call.ask (call.level (voice 1)) ∷ call.ask (call.level (voice 2)) ∷ []) lone
-    ≡ spawned 1 ∷ done ∷ known Unknown ∷ silent ∷ known (Known (float 3)) ∷ done ∷ known Unknown ∷ known Unknown ∷ [])
+    × (asked (spawn 0 ∷ sounds 1 3 ∷ call.ask (call.level (voice 1)) ∷ render ∷ call.ask (call.level (voice 1)) ∷ free 1 ∷ call.ask (call.level (voice 1)) ∷ call.ask (call.level (voice 2)) ∷ []) lone
+    ≡ spawned 1 ∷ done ∷ known Unknown ∷ silent ∷ known (Known (float 3)) ∷ ordered Applied ∷ known Unknown ∷ known Unknown ∷ [])
 unfolding eq levelOf squares rootOf sqrt narrow add mul div ofInt ofBits whole order walk released fed among count-up
 levels = (refl, refl)
 
 -- "channel by channel": the block of two channels, 1 and 7, has the level 5. Refuses: the first channel alone; the sum of levels.
 stereo :
-    asked (call.report (id 1) 2 (float 1 ∷ float 7 ∷ []) false ∷ call.ask (call.level (voice 1)) ∷ []) (after (small 1 Oldest) (host 1 ∷ spawn 0 ∷ call.render ∷ []))
+    asked (call.report (id 1) 2 (float 1 ∷ float 7 ∷ []) false ∷ call.ask (call.level (voice 1)) ∷ []) (after (small 1 Oldest) (host 1 ∷ spawn 0 ∷ render ∷ []))
     ≡ done ∷ known (Known (float 5)) ∷ []
 unfolding eq levelOf squares rootOf sqrt narrow add mul div ofInt ofBits whole order walk released fed among count-up
 stereo = refl
@@ -53,13 +53,13 @@ stereo = refl
 -- the fade node of a voice take no report, also with a wrong block; a host node does; an unknown node and a withoutVoice one do not.
 -- Voice 1: node 1, constant 2, pan 3; then its fade 4, and voice 2 with node 5. Refuses: 16 before 4; the pan node's level.
 abbrev panned : Model
-panned = after (small 1 Oldest) (host 2 ∷ call.spawnManaged (spawnOf toneDef (id 0) nan) ∷ call.render ∷ [])
+panned = after (small 1 Oldest) (host 2 ∷ call.spawnManaged (spawnOf toneDef (id 0) nan) ∷ render ∷ [])
 
 reports :
     (asked (sounds 1 3 ∷ sounds 0 1 ∷ call.ask (call.level (voice 1)) ∷ sounds 2 1 ∷ sounds 3 1 ∷ []) panned
     ≡ done ∷ done ∷ known (Known (float 3)) ∷ refused UnknownNode ∷ refused UnknownNode ∷ [])
     × (asked (spawn 0 ∷ sounds 1 1 ∷ sounds 4 1 ∷ sounds 5 1 ∷ sounds 6 1 ∷ call.report (id 4) 3 [] false ∷ free 1 ∷ sounds 1 1 ∷ []) panned
-    ≡ spawned 2 ∷ done ∷ refused UnknownNode ∷ done ∷ refused UnknownNode ∷ refused UnknownNode ∷ done ∷ refused UnknownNode ∷ [])
+    ≡ spawned 2 ∷ done ∷ refused UnknownNode ∷ done ∷ refused UnknownNode ∷ refused UnknownNode ∷ ordered Applied ∷ refused UnknownNode ∷ [])
 unfolding eq levelOf squares rootOf sqrt narrow add mul div ofInt ofBits whole order walk released fed among count-up
 reports = (refl, refl)
 
@@ -115,7 +115,7 @@ abbrev cut : LastOrder → Call
 cut o = call.order (voice 1) (bytes "cut") o
 
 abbrev lively : Model
-lively = after (small 1 Oldest) (host 1 ∷ call.spawnManaged (spawnOf cutDef (id 0) (float 0)) ∷ call.render ∷ [])
+lively = after (small 1 Oldest) (host 1 ∷ call.spawnManaged (spawnOf cutDef (id 0) (float 0)) ∷ render ∷ [])
 
 dead-output :
     (asked (call.ask (call.level (voice 1)) ∷ cut (value 1) ∷ call.clear ∷ []) lively ≡ known (Known (float 0)) ∷ ordered Applied ∷ removed 0 ∷ [])

@@ -7,6 +7,8 @@ pub mod RecordScenes
 pub mod ClearScenes
 pub mod LevelScenes
 pub mod EventScenes
+pub mod Outcomes
+pub mod OutcomeScenes
 pub mod RefusalScenes
 pub mod MakingScenes
 pub mod TableScenes

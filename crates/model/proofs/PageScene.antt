@@ -19,10 +19,10 @@ use Rattle.model.specs.Model.{Model}
 use Rattle.model.specs.Make.{newModel}
 use Rattle.model.specs.Call.{Call, done, removed, reached, Ran, run}
 use Rattle.model.specs.Call as call
-use Rattle.model.specs.Scene.{pageConfig, host, sink, spawn, voice, spawned, sounding, after, asked, further, seen, voices, fading}
+use Rattle.model.specs.Scene.{pageConfig, host, sink, spawn, voice, spawned, sounding, after, asked, further, seen, voices, fading, render}
 
 abbrev turn : List Call
-turn = spawn 0 ∷ call.prepare ∷ call.render ∷ []
+turn = spawn 0 ∷ call.prepare ∷ render ∷ []
 
 abbrev pub pageCalls : List Call
 pageCalls = host 3 ∷ sink 0 ∷ turn ++ (turn ++ turn)
@@ -57,8 +57,8 @@ page-order = refl
 
 -- "Two more renders and a clearing call: it removes voice 1 and answers 1." After one more, at 32 of 40, it removes nobody.
 page-clear :
-    (asked (call.render ∷ call.clear ∷ call.render ∷ call.ask (call.position (voice 1)) ∷ call.clear ∷ []) (page .model)
+    (asked (render ∷ call.clear ∷ render ∷ call.ask (call.position (voice 1)) ∷ call.clear ∷ []) (page .model)
     ≡ sounding ∷ removed 0 ∷ sounding ∷ reached (some 48) ∷ removed 1 ∷ [])
-    × (voices (further (call.render ∷ call.render ∷ call.clear ∷ []) (page .model)) ≡ seen 2 1 Tracked ∷ seen 3 2 Tracked ∷ [])
+    × (voices (further (render ∷ render ∷ call.clear ∷ []) (page .model)) ≡ seen 2 1 Tracked ∷ seen 3 2 Tracked ∷ [])
 unfolding page eq silencePassThrough rules prepare processingOrder lacking lacks any liveIds liveNodes risingFrom whole order walk released fed among count-up settled
 page-clear = (refl, refl)

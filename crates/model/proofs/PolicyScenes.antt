@@ -16,13 +16,12 @@ use Rattle.voice.specs.declared.policy.StealPolicy.the-variants.{Reject, Oldest
 use Rattle.store.specs.declared.voices.VoiceState.the-variants.{Tracked, Loose}
 use Rattle.model.specs.Model.{Model}
 use Rattle.model.specs.Call.{Call, Answer}
-use Rattle.model.specs.Call as call
-use Rattle.model.specs.Scene.{config, upTo, small, host, spawn, spawnLoose, sounds, spawned, notSpawned, after, asked, further, FoundNode, seen, voices, fading}
+use Rattle.model.specs.Scene.{config, upTo, small, host, spawn, spawnLoose, sounds, spawned, notSpawned, after, asked, further, FoundNode, seen, voices, fading, render}
 use Rattle.model.specs.SharedState.{withConfig}
 
 -- ---- which voice goes: voices 1 and 2 sound through nodes 1 and 2, at budget; they are born at 0, the clock is 1
 abbrev two : StealPolicy → List Call → Model
-two p calls = further (spawn 0 ∷ []) (further calls (after (small 2 p) (host 4 ∷ spawn 0 ∷ spawn 0 ∷ call.render ∷ [])))
+two p calls = further (spawn 0 ∷ []) (further calls (after (small 2 p) (host 4 ∷ spawn 0 ∷ spawn 0 ∷ render ∷ [])))
 
 abbrev firstGoes : List FoundNode
 firstGoes = seen 1 0 (fading 3 1 0 0) ∷ seen 2 1 Tracked ∷ seen 3 2 Tracked ∷ []
@@ -48,7 +47,7 @@ by-level = (refl, refl, refl, refl)
 -- A voice whose birth the clock has not passed has no level: it is passed over, although it reports the lowest one; where no level
 -- is known, the oldest goes. Voice 1 is born at 0, voice 2 at 1, and the clock is 1. Refuses: a level from the birth sample on.
 unborn :
-    (voices (further (call.render ∷ spawn 0 ∷ sounds 1 3 ∷ sounds 2 1 ∷ spawn 0 ∷ []) (after (small 2 Quietest) (host 4 ∷ spawn 0 ∷ []))) ≡ firstGoes)
+    (voices (further (render ∷ spawn 0 ∷ sounds 1 3 ∷ sounds 2 1 ∷ spawn 0 ∷ []) (after (small 2 Quietest) (host 4 ∷ spawn 0 ∷ []))) ≡ firstGoes)
     × (voices (further (spawn 0 ∷ sounds 1 3 ∷ sounds 2 1 ∷ spawn 0 ∷ []) (after (small 2 Quietest) (host 4 ∷ spawn 0 ∷ [])))
     ≡ seen 1 0 (fading 3 0 0 0) ∷ seen 2 1 Tracked ∷ seen 3 2 Tracked ∷ [])
 unfolding eq lt le levelOf squares rootOf sqrt narrow add mul div ofInt whole order walk released fed among count-up

@@ -23,7 +23,7 @@ use Rattle.model.specs.Voice.{id}
 use Rattle.model.specs.Model.{Model}
 use Rattle.model.specs.Call.{Call}
 use Rattle.model.specs.Call as call
-use Rattle.model.specs.Scene.{config, upTo, small, float, host, sink, wire, spawn, spawnLoose, free, sounds, loud, spawned, notSpawned, after, asked, further, seen, voices, fading}
+use Rattle.model.specs.Scene.{config, upTo, small, float, host, sink, wire, spawn, spawnLoose, free, sounds, loud, spawned, notSpawned, after, asked, further, seen, voices, fading, render}
 
 abbrev book : ℕ → List StealRecord → StealLog
 book n l = record { count = n; newest = l }
@@ -56,7 +56,7 @@ emptied = (refl, refl, refl)
 -- The cut record has the level that the victim had, which is infinite. Refuses: freeing the victim before its level is read; a fade without a
 -- port; a record without the clock.
 abbrev unfed : List Call → Model
-unfed calls = after (small 2 Oldest) (host 4 ∷ host 0 ∷ spawn 0 ∷ spawn 0 ∷ call.render ∷ loud 2 ∷ calls ++ (spawn 0 ∷ []))
+unfed calls = after (small 2 Oldest) (host 4 ∷ host 0 ∷ spawn 0 ∷ spawn 0 ∷ render ∷ loud 2 ∷ calls ++ (spawn 0 ∷ []))
 
 cannot-fade :
     (voices (unfed (wire 1 0 0 ∷ [])) ≡ seen 2 1 Tracked ∷ seen 3 2 Tracked ∷ [])
@@ -71,7 +71,7 @@ cannot-fade = (refl, refl, refl, refl)
 -- Refuses: the first fading voice; the least or the greatest position; the latest-started.
 abbrev starts : Model
 starts =
-    after (small 2 Quietest) (host 4 ∷ spawn 0 ∷ spawn 0 ∷ call.render ∷ sounds 1 3 ∷ spawn 0 ∷ call.render ∷ loud 4 ∷ spawn 0 ∷ [])
+    after (small 2 Quietest) (host 4 ∷ spawn 0 ∷ spawn 0 ∷ render ∷ sounds 1 3 ∷ spawn 0 ∷ render ∷ loud 4 ∷ spawn 0 ∷ [])
 
 earliest-first :
     (voices starts ≡ seen 1 0 (fading 5 2 0 1) ∷ seen 2 1 (fading 3 1 0 0) ∷ seen 3 2 Tracked ∷ seen 4 3 Tracked ∷ [])
@@ -84,7 +84,7 @@ earliest-first = (refl, refl, refl)
 -- Ties by voice order: voice 2 is stolen before voice 1, at the same clock; voice 1 goes first. Refuses: ties by record number.
 abbrev ties : Model
 ties =
-    after (small 2 Quietest) (host 4 ∷ spawn 0 ∷ spawn 0 ∷ call.render ∷ loud 1 ∷ spawn 0 ∷ spawn 0 ∷ [])
+    after (small 2 Quietest) (host 4 ∷ spawn 0 ∷ spawn 0 ∷ render ∷ loud 1 ∷ spawn 0 ∷ spawn 0 ∷ [])
 
 ties-by-order :
     (voices ties ≡ seen 1 0 (fading 5 1 0 1) ∷ seen 2 1 (fading 3 1 0 0) ∷ seen 3 2 Tracked ∷ seen 4 3 Tracked ∷ [])
@@ -105,14 +105,14 @@ unfolding eq whole order walk released fed among count-up
 tracked-goes = (refl, refl, refl)
 
 -- The policy is asked here as it is at admission: of voices 1 and 2, equally quiet, the younger goes. Refuses: of equal levels the first.
-younger-goes : voices (after (small 9 Quietest) (host 2 ∷ spawn 0 ∷ spawn 0 ∷ call.render ∷ sounds 1 1 ∷ sounds 2 1 ∷ spawn 0 ∷ [])) ≡ seen 1 0 Tracked ∷ seen 3 1 Tracked ∷ []
+younger-goes : voices (after (small 9 Quietest) (host 2 ∷ spawn 0 ∷ spawn 0 ∷ render ∷ sounds 1 1 ∷ sounds 2 1 ∷ spawn 0 ∷ [])) ≡ seen 1 0 Tracked ∷ seen 3 1 Tracked ∷ []
 unfolding eq lt le levelOf squares rootOf sqrt narrow add mul div ofInt ofBits whole order walk released fed among count-up
 younger-goes = refl
 
 -- And the levels decide: of two voices that have reported 3 and 1 the one with 1 goes, be it the second or the first, with the record of its level. Refuses: a
 -- reclaim that takes the oldest, or the newest, as if no level were known.
 abbrev quiet : ℕ → ℕ → Model
-quiet a b = after (small 9 Quietest) (host 2 ∷ spawn 0 ∷ spawn 0 ∷ call.render ∷ sounds 1 a ∷ sounds 2 b ∷ spawn 0 ∷ [])
+quiet a b = after (small 9 Quietest) (host 2 ∷ spawn 0 ∷ spawn 0 ∷ render ∷ sounds 1 a ∷ sounds 2 b ∷ spawn 0 ∷ [])
 
 quietest-goes :
     (voices (quiet 3 1) ≡ seen 1 0 Tracked ∷ seen 3 1 Tracked ∷ [])
@@ -140,7 +140,7 @@ portless = (refl, refl)
 -- "Until it is removed, a voice whose fade has ended still counts as fading and can be reclaimed." Refuses: ended fades that go
 -- by themselves.
 abbrev over : Model
-over = after (upTo 1 Oldest) (host 2 ∷ sink 0 ∷ spawn 0 ∷ spawn 0 ∷ call.prepare ∷ call.render ∷ call.render ∷ call.render ∷ [])
+over = after (upTo 1 Oldest) (host 2 ∷ sink 0 ∷ spawn 0 ∷ spawn 0 ∷ call.prepare ∷ render ∷ render ∷ render ∷ [])
 
 ended-reclaimed :
     (voices over ≡ seen 1 0 (fading 2 0 48 0) ∷ seen 2 1 Tracked ∷ [])
@@ -166,7 +166,7 @@ free-marks-none = refl
 -- budget; the fade goes on counting; as a victim voice 2 goes at once, with a cut record; no reclaim meets voice 1.
 -- Refuses: a bus that takes its voices with it; a victim that fades without a bus.
 abbrev busless : Model
-busless = after (upTo 1 Oldest) (host 2 ∷ host 1 ∷ sink 1 ∷ spawn 0 ∷ spawn 0 ∷ call.removeNode (id 0) ∷ call.prepare ∷ call.render ∷ [])
+busless = after (upTo 1 Oldest) (host 2 ∷ host 1 ∷ sink 1 ∷ spawn 0 ∷ spawn 0 ∷ call.removeNode (id 0) ∷ call.prepare ∷ render ∷ [])
 
 bus-removed :
     (voices busless ≡ seen 1 0 (fading 3 0 16 0) ∷ seen 2 1 Tracked ∷ [])

@@ -13,7 +13,7 @@ use Rattle.lists.specs.Find.{find}
 use Rattle.node.specs.declared.record.NodeId.{NodeId}
 use Rattle.node.specs.Refusal.{numberOf}
 use Rattle.node.specs.declared.refusal.Refusal.{Refusal}
-use Rattle.node.specs.declared.refusal.Refusal.the-variants.{NoPort, Rejected, ClockEnd, DefinitionLimits, UnknownNode, VoiceNode, BusWithoutPorts, TableFull, IdsUsedUp}
+use Rattle.node.specs.declared.refusal.Refusal.the-variants.{NoPort, Rejected, DefinitionLimits, UnknownNode, VoiceNode, BusWithoutPorts, TableFull, IdsUsedUp}
 use Rattle.graph.specs.Node.{nodeAt, portsOf, ofVoice}
 use Rattle.graph.specs.Refuse.{when, dead, addRefusal, hostRefusal, disconnectRefusal, connectRefusal}
 use Rattle.order.specs.declared.Readiness.{Readiness}
@@ -35,8 +35,8 @@ use Rattle.model.specs.Refuse.{orElse, noHeadroom, noIds, spawnRefusal, 
 use Rattle.model.specs.Spawn.{tries, stateUnder, nextOut, Spawn}
 use Rattle.model.specs.Model.{Model, cutOff, stealVoice, portFree, instantiateOr, place, stealThen, admitted, admissionOn, SpawnResult}
 use Rattle.model.specs.Model as store
-use Rattle.model.specs.Render.{prepareOutcome, prepareShared, readyShared, heard, answerAfter, preparedIf, anyFree, due, rested, applyEvents, clockEnds, render}
-use Rattle.model.specs.Call.{Call, Answer, Step, unless, step, readyAnswer, scheduleRefusal}
+use Rattle.model.specs.Render.{prepareOutcome, prepareShared, readyShared, heard, answerAfter, preparedIf, anyFree, due, rested, applyEvents, renderRefusal}
+use Rattle.model.specs.Call.{Call, Answer, Step, unless, step, renderStep, readyAnswer, scheduleRefusal}
 use Rattle.model.specs.Call as call
 
 -- ---- the refusal that an answer is. A render whose prepare failed "is not refused"
@@ -57,7 +57,7 @@ refusalIn (call.node k) = none
 refusalIn (call.spawned s) = notSpawned s
 refusalIn (call.removed n) = none
 refusalIn (call.ordered o) = none
-refusalIn (call.rendered a) = notRendered a
+refusalIn (call.rendered a n out) = notRendered a
 refusalIn (call.known l) = none
 refusalIn (call.reached p) = none
 refusalIn (call.found v) = none
@@ -111,7 +111,7 @@ leftByNoPort (call.order w name o) m = m
 leftByNoPort (call.schedule t w name a) m = m
 leftByNoPort (call.report k channels samples flag) m = m
 leftByNoPort call.prepare m = m
-leftByNoPort call.render m = m
+leftByNoPort (call.render out) m = m
 leftByNoPort (call.ask q) m = m
 
 -- nothing changed, or with 12 that
@@ -184,8 +184,8 @@ ready-left : (a : Readiness) (l : List NodeId) (d : SharedState) (r : Refusal) �
 ready-left Readiness.Ready l d r h = absurd (none-some h)
 ready-left (Readiness.Refused q) l d r h = refl
 
-render-left : (m : Model) (r : Refusal) → notRendered (render m .answer) ≡ some r → render m .model ≡ m
-render-left m r h = go (clockEnds (m .shared)) (anyFree (due (m .shared))) h
+render-left : (out : List ℕ) (m : Model) (r : Refusal) → refusalIn (step (call.render out) m .answer) ≡ some r → step (call.render out) m .model ≡ m
+render-left out m r h = go (renderRefusal (m .shared) (length out)) h
   where
     heard-not : (b : Bool) → notRendered (heard b) ≡ none
     heard-not true = refl
@@ -199,10 +199,9 @@ render-left m r h = go (clockEnds (m .shared)) (anyFree (due (m .shared))) h
     inside-not true k = after-not (prepareOutcome (k .shared) .answer) (prepareShared (k .shared))
     inside-not false k = heard-not (sounding (k .shared))
 
-    go : (b f : Bool) → notRendered (cond b (record { answer = Rendered.Refused ClockEnd; model = m }) (preparedIf f (applyEvents (due (m .shared)) (rested m))) .answer) ≡ some r
-        → cond b (record { answer = Rendered.Refused ClockEnd; model = m }) (preparedIf f (applyEvents (due (m .shared)) (rested m))) .model ≡ m
-    go true f e = refl
-    go false f e = absurd (none-some (sym (inside-not f (applyEvents (due (m .shared)) (rested m))) ∙ e))
+    go : (o : Option Refusal) → refusalIn (renderStep o out m .answer) ≡ some r → renderStep o out m .model ≡ m
+    go (some q) e = refl
+    go none e = absurd (none-some (sym (inside-not (anyFree (due (m .shared))) (applyEvents (due (m .shared)) (rested m))) ∙ e))
 
 -- ---- the theorem
 -- where 12 would leave nothing either
@@ -250,7 +249,7 @@ refused-leaves (call.report k channels samples flag) m r h =
     same-left r m _ (unless-left (reportRefusal (m .shared) (m .voices) k channels (length samples)) m _ r refl h)
 refused-leaves call.prepare m r h =
     same-left r m _ (ap (λ d. record { shared = d; voices = m .voices }) (ready-left (prepareOutcome (m .shared) .answer) (prepareOutcome (m .shared) .order) (m .shared) r h))
-refused-leaves call.render m r h = same-left r m _ (render-left m r h)
+refused-leaves (call.render out) m r h = same-left r m _ (render-left out m r h)
 refused-leaves (call.ask q) m r h = same-left r m _ refl
 
 -- the two halves: any number but 12, and 12

@@ -12,18 +12,19 @@ use Rattle.order.specs.Live.{risingFrom, liveNodes, liveIds, processingOrder}
 use Rattle.order.specs.Required.{any, lacks, lacking}
 use Rattle.order.specs.Prepare.{prepare}
 use Rattle.voice.specs.declared.policy.StealPolicy.the-variants.{Oldest}
+use Rattle.store.specs.declared.answer.Outcome.the-variants.{NoVoice}
 use Rattle.model.specs.Voice.{id}
 use Rattle.model.specs.Model.{Model}
-use Rattle.model.specs.Call.{Call, Answer, done, node, refused, removed, reached, time, wires}
+use Rattle.model.specs.Call.{Call, Answer, done, node, refused, removed, ordered, reached, time, wires}
 use Rattle.model.specs.Call as call
-use Rattle.model.specs.Scene.{upTo, host, sink, wire, unwire, spawn, spawnLoose, free, voice, notSpawned, sounding, silent, inOrder, after, asked, edge}
+use Rattle.model.specs.Scene.{upTo, host, sink, wire, unwire, spawn, spawnLoose, free, voice, notSpawned, sounding, silent, inOrder, after, asked, edge, render}
 
 -- A new store is unprepared; a render sounds if the graph is prepared and has a sink; setting the sink makes it unprepared,
 -- also to the same node; the clock advances in every render.
 -- Refuses: prepared alone; a sink alone; a new store that is prepared; a sink that leaves it prepared; a clock that stops.
 when-sounding :
     asked
-    (call.render ∷ call.prepare ∷ call.render ∷ sink 0 ∷ call.render ∷ call.prepare ∷ call.render ∷ sink 0 ∷ call.render ∷ call.ask call.clock ∷ [])
+    (render ∷ call.prepare ∷ render ∷ sink 0 ∷ render ∷ call.prepare ∷ render ∷ sink 0 ∷ render ∷ call.ask call.clock ∷ [])
     (after (upTo 1 Oldest) (host 1 ∷ []))
     ≡ silent ∷ done ∷ silent ∷ done ∷ silent ∷ done ∷ sounding ∷ done ∷ silent ∷ time 80 ∷ []
 unfolding prepare processingOrder lacking lacks any liveIds liveNodes risingFrom whole order walk released fed among count-up
@@ -35,7 +36,7 @@ ready = after (upTo 1 Oldest) (host 2 ∷ host 1 ∷ wire 1 0 0 ∷ sink 0 ∷ c
 
 -- what a render answers after a call
 abbrev thenRender : Call → List Answer
-thenRender c = asked (c ∷ call.render ∷ []) ready
+thenRender c = asked (c ∷ render ∷ []) ready
 
 -- "Adding, removing, connecting or disconnecting makes it unprepared", also of a port that has no edge, and of an edge that was
 -- there. Refuses: a disconnecting of an empty port, or the same edge put anew, that leaves it prepared.
@@ -52,7 +53,7 @@ unprepared = (refl, refl, refl, refl, refl, refl)
 -- A free or a clearing that removes nothing, a refused call and a prepare leave it prepared. Refuses: a free of an unknown voice
 -- that makes it unprepared; a refused call that does.
 prepared :
-    (thenRender (free 9) ≡ done ∷ sounding ∷ [])
+    (thenRender (free 9) ≡ ordered NoVoice ∷ sounding ∷ [])
     × (thenRender call.clear ≡ removed 0 ∷ sounding ∷ [])
     × (thenRender (wire 1 0 2) ≡ refused PortOrKind ∷ sounding ∷ [])
     × (thenRender call.prepare ≡ done ∷ sounding ∷ [])
@@ -61,8 +62,8 @@ prepared = (refl, refl, refl, refl)
 
 -- Removing the sink leaves no sink; removing another node leaves it. Refuses: a sink that outlives its node.
 no-sink :
-    (asked (call.removeNode (id 0) ∷ call.prepare ∷ call.render ∷ []) ready ≡ done ∷ done ∷ silent ∷ [])
-    × (asked (call.removeNode (id 1) ∷ call.prepare ∷ call.render ∷ []) ready ≡ done ∷ done ∷ sounding ∷ [])
+    (asked (call.removeNode (id 0) ∷ call.prepare ∷ render ∷ []) ready ≡ done ∷ done ∷ silent ∷ [])
+    × (asked (call.removeNode (id 1) ∷ call.prepare ∷ render ∷ []) ready ≡ done ∷ done ∷ sounding ∷ [])
 unfolding prepare processingOrder lacking lacks any liveIds liveNodes risingFrom whole order walk released fed among count-up
 no-sink = (refl, refl)
 
@@ -70,8 +71,8 @@ no-sink = (refl, refl)
 -- Refuses: counting silent renders in a fade; a fade that stops at L; a fade that moves at its steal; one that never moves.
 moves :
     asked
-    (call.ask (call.position (voice 1)) ∷ call.render ∷ call.ask (call.position (voice 1)) ∷ call.prepare ∷ call.render ∷ call.ask (call.position (voice 1))
-    ∷ call.render ∷ call.render ∷ call.render ∷ call.ask (call.position (voice 1)) ∷ call.ask (call.position (voice 2)) ∷ call.ask (call.position (voice 9)) ∷ [])
+    (call.ask (call.position (voice 1)) ∷ render ∷ call.ask (call.position (voice 1)) ∷ call.prepare ∷ render ∷ call.ask (call.position (voice 1))
+    ∷ render ∷ render ∷ render ∷ call.ask (call.position (voice 1)) ∷ call.ask (call.position (voice 2)) ∷ call.ask (call.position (voice 9)) ∷ [])
     (after (upTo 1 Oldest) (host 2 ∷ sink 0 ∷ spawn 0 ∷ spawn 0 ∷ []))
     ≡ reached (some 0) ∷ silent ∷ reached (some 0) ∷ done ∷ sounding ∷ reached (some 16)
     ∷ sounding ∷ sounding ∷ sounding ∷ reached (some 64) ∷ reached none ∷ reached none ∷ []
@@ -81,7 +82,7 @@ moves = refl
 -- "All live nodes are processed": a fade whose port the host has taken moves too. Refuses: fades that move only if they reach
 -- the sink.
 unconnected-moves :
-    asked (wire 1 0 0 ∷ call.prepare ∷ call.render ∷ call.ask (call.position (voice 1)) ∷ [])
+    asked (wire 1 0 0 ∷ call.prepare ∷ render ∷ call.ask (call.position (voice 1)) ∷ [])
     (after (upTo 1 Oldest) (host 2 ∷ host 0 ∷ sink 0 ∷ spawn 0 ∷ spawn 0 ∷ []))
     ≡ done ∷ done ∷ sounding ∷ reached (some 16) ∷ []
 unfolding eq prepare processingOrder lacking lacks any liveIds liveNodes risingFrom whole order walk released fed among count-up
@@ -90,7 +91,7 @@ unconnected-moves = refl
 -- ---- a prepare that fails keeps the old order and leaves the graph unprepared; a healed graph prepares.
 -- Refuses: an order that is cleared; a graph that stays prepared.
 failing :
-    asked (wire 0 0 1 ∷ call.prepare ∷ call.ask call.processing ∷ call.render ∷ unwire 0 1 ∷ call.prepare ∷ call.render ∷ []) ready
+    asked (wire 0 0 1 ∷ call.prepare ∷ call.ask call.processing ∷ render ∷ unwire 0 1 ∷ call.prepare ∷ render ∷ []) ready
     ≡ done ∷ refused Cycle ∷ inOrder (1 ∷ 0 ∷ []) ∷ silent ∷ done ∷ done ∷ sounding ∷ []
 unfolding prepare processingOrder lacking lacks any liveIds liveNodes risingFrom whole order walk released fed among count-up
 failing = refl
@@ -115,7 +116,7 @@ edge-order = refl
 
 -- 12 without a steal or a reclaim leaves it prepared. Refuses: a search that makes it unprepared.
 full-bus :
-    asked (spawnLoose 0 ∷ call.render ∷ []) (after (upTo 1 Oldest) (host 1 ∷ host 0 ∷ wire 1 0 0 ∷ sink 0 ∷ call.prepare ∷ []))
+    asked (spawnLoose 0 ∷ render ∷ []) (after (upTo 1 Oldest) (host 1 ∷ host 0 ∷ wire 1 0 0 ∷ sink 0 ∷ call.prepare ∷ []))
     ≡ notSpawned NoPort ∷ sounding ∷ []
 unfolding eq prepare processingOrder lacking lacks any liveIds liveNodes risingFrom whole order walk released fed among count-up
 full-bus = refl

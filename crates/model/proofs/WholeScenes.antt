@@ -42,7 +42,7 @@ use Rattle.model.specs.Spawn.{spawnOf}
 use Rattle.model.specs.Model.{Model}
 use Rattle.model.specs.Call.{Call}
 use Rattle.model.specs.Call as call
-use Rattle.model.specs.Scene.{plain, toneDef, float, voice, sink, wire, spawn, free, sounds, after, further, edge, fading, defEdge, param, value, glide}
+use Rattle.model.specs.Scene.{plain, toneDef, float, voice, sink, wire, spawn, free, sounds, after, further, edge, fading, defEdge, param, value, glide, render}
 
 -- ---- the definition: `Key` takes values, `Lfo` glides, and both feed the output `Mul`, whose port 0 is required
 abbrev mul2 : DefNode
@@ -198,9 +198,9 @@ set w s o = call.order (voice w) (bytes s) o
 
 abbrev calls : List Call
 calls =
-    call.addNode (bytes "Fx") 2 2 false true ∷ call.addNode (bytes "Bus") 4 0 true false ∷ wire 1 0 1 ∷ sink 0 ∷ call.render ∷ spawnKey ∷ spawnKeyLoose ∷ spawn 1
+    call.addNode (bytes "Fx") 2 2 false true ∷ call.addNode (bytes "Bus") 4 0 true false ∷ wire 1 0 1 ∷ sink 0 ∷ render ∷ spawnKey ∷ spawnKeyLoose ∷ spawn 1
     ∷ set 1 "cut" (value 7) ∷ set 1 "rate" (glide 3 5) ∷ call.schedule 9 (voice 3) [] Action.Free ∷ call.schedule 3 (voice 2) (bytes "cut") (Action.Value (float 9))
-    ∷ call.prepare ∷ call.render ∷ sounds 4 3 ∷ []
+    ∷ call.prepare ∷ render ∷ sounds 4 3 ∷ []
 
 abbrev opened : Model
 opened =
@@ -251,11 +251,11 @@ heard key = sounded key LastOrder.Nothing (valueAt ∷ freeAt ∷ []) 3 1
 
 -- Refuses: a render that changes anything but the clock and the fade's position, as another field of a voice that moves; a prepare that loses the sink or an id; a
 -- render that drops the events it does not take, or keeps the one it takes; an event that unprepares.
-renders : Same (further (call.prepare ∷ call.render ∷ []) stole) (heard key1)
+renders : Same (further (call.prepare ∷ render ∷ []) stole) (heard key1)
 unfolding eq levelOf squares rootOf sqrt narrow add mul div ofInt ofBits silencePassThrough rules prepare processingOrder lacking lacks any liveIds liveNodes risingFrom whole order walk released fed among count-up settled
 renders = record { config = refl; graph = refl; events = refl; steals = refl; clock = refl; spawned = refl; sequence = refl; voices = refl }
 
-happens : Same (further (call.render ∷ []) (heard key1)) (sounded key1 (value 9) (freeAt ∷ []) 4 2)
+happens : Same (further (render ∷ []) (heard key1)) (sounded key1 (value 9) (freeAt ∷ []) 4 2)
 unfolding eq levelOf squares rootOf sqrt narrow add mul div ofInt ofBits silencePassThrough rules prepare processingOrder lacking lacks any liveIds liveNodes risingFrom whole order walk released fed among count-up settled
 happens = record { config = refl; graph = refl; events = refl; steals = refl; clock = refl; spawned = refl; sequence = refl; voices = refl }
 

@@ -33,6 +33,7 @@ use Rattle.store.specs.declared.config.Config.{Config}
 use Rattle.store.specs.declared.answer.Outcome.{Outcome}
 use Rattle.store.specs.declared.answer.Spawned.{Spawned}
 use Rattle.store.specs.declared.answer.Rendered.{Rendered}
+use Rattle.store.specs.declared.answer.Rendered.the-variants as Rendered
 use Rattle.store.specs.declared.voices.Voice.{Voice}
 use Rattle.store.specs.declared.voices.VoiceState.{VoiceState}
 use Rattle.store.specs.declared.voices.VoiceState.the-variants.{Tracked, Fading, Loose}
@@ -49,7 +50,7 @@ use Rattle.model.specs.Clear as clearing
 use Rattle.model.specs.Page as paper
 use Rattle.model.specs.Written.{written}
 use Rattle.model.specs.Block.{fades, fadeBlock, sums, sumBlock, wholeFadeRefusal, wholeFadeBlock, wholeSumRefusal, wholeSumBlock}
-use Rattle.model.specs.Render.{prepareOutcome, prepareShared}
+use Rattle.model.specs.Render.{prepareOutcome, prepareShared, due, rested, outcomes, renderRefusal}
 use Rattle.model.specs.Render as rendering
 
 -- ---- what can be read: questions, which change nothing
@@ -95,7 +96,8 @@ pub data Call : Type 0 where
   schedule : ℕ → VoiceId → List ℕ → Action → Call
   report : NodeId → ℕ → List Float → Bool → Call
   prepare : Call
-  render : Call
+  -- what became of its events goes into a lent list, which holds these entries
+  render : List ℕ → Call
   ask : Question → Call
 
 pub data Answer : Type 0 where
@@ -105,7 +107,8 @@ pub data Answer : Type 0 where
   spawned : Spawned → Answer
   removed : ℕ → Answer
   ordered : Outcome → Answer
-  rendered : Rendered → Answer
+  -- how many events the render took, and the list with the outcome of each in it
+  rendered : Rendered → ℕ → List ℕ → Answer
   known : Level → Answer
   reached : Option ℕ → Answer
   found : Option Voice → Answer
@@ -205,6 +208,14 @@ answerTo port (busSum inputs counts out outs) m = sumAnswer (m .shared .config) 
 answerTo port (wholeFade input ins lent at out outs) m = wholeFadeAnswer (m .shared .config) input ins lent at out outs
 answerTo port (wholeSum inputs counts out outs) m = wholeSumAnswer (m .shared .config) inputs counts out outs
 
+-- 02, Paper 1: a refused render takes no event and writes no entry; else the outcomes stand in the list, and "later entries stay"
+abbrev pub renderStep : Option Refusal → List ℕ → Model → Step
+renderStep (some r) out m = record { answer = rendered (Rendered.Refused r) 0 out; model = m }
+renderStep none out m =
+    let h = rendering.render m in
+    let q = due (m .shared) in
+    record { answer = rendered (h .answer) (length q) (written (outcomes q (rested m)) out); model = h .model }
+
 abbrev pub step : Call → Model → Step
 step (addNode kind ports required values glides) m =
     unless (addRefusal (m .shared .graph) kind ports required) m
@@ -219,7 +230,7 @@ step (spawnManaged x) m =
 step (spawnLoose x) m =
     let l = store.spawnLoose x m in
     record { answer = spawned (l .answer); model = l .model }
-step (free w) m = record { answer = done; model = store.free w m }
+step (free w) m = record { answer = ordered (param.freeOutcome (find (isVoice w) (m .voices))); model = store.free w m }
 step clear m =
     let c = clearing.clear m in
     record { answer = removed (c .removed); model = c .model }
@@ -232,9 +243,7 @@ step (report k channels samples flag) m =
     unless (reportRefusal (m .shared) (m .voices) k channels (length samples)) m
     (sharedStep m (reportNode (nodeAt (m .shared .graph .nodes) k) samples flag (m .shared)) done)
 step prepare m = sharedStep m (prepareShared (m .shared)) (readyAnswer (prepareOutcome (m .shared) .answer))
-step render m =
-    let h = rendering.render m in
-    record { answer = rendered (h .answer); model = h .model }
+step (render out) m = renderStep (renderRefusal (m .shared) (length out)) out m
 step (ask q) m = reads m (answerTo (paper.portNow (m .shared .graph .edges)) q m)
 
 -- ---- a list of calls

@@ -1,6 +1,6 @@
 -- "Where an answer is an enum, a definition states this paper's number and values for every one of its cases": what each answer of a call
 -- says, for every enum that the store's calls answer by. Those of `bus` are `rated` and `written`
--- (bus/specs/Answer), and yes or no of a value or a glide is `isYes` (Order).
+-- (bus/specs/Answer), and the number of a value, a glide or a free is `outcomeNumber` (Order).
 use Prim.Native.Nat.{ℕ}
 use mathlib.Core.Option.{Option, none, some}
 use mathlib.Core.Bool.{Bool, true, false}
@@ -91,7 +91,7 @@ numberIn (call.node k) = none
 numberIn (call.spawned s) = number (spawnSays s)
 numberIn (call.removed n) = none
 numberIn (call.ordered o) = none
-numberIn (call.rendered a) = number (renderSays a)
+numberIn (call.rendered a n out) = number (renderSays a)
 numberIn (call.known l) = none
 numberIn (call.reached p) = none
 numberIn (call.found v) = none

@@ -56,6 +56,19 @@ orderVoice (some v) name o d = orderParam (paramNode (paramRows (v .params)) nam
 abbrev pub order : VoiceId → Name → LastOrder → List Voice → SharedState → Ordered
 order w name o vs d = orderVoice (find (isVoice w) vs) name o d
 
+-- ---- 02, Paper 1: "Setting a value or glide shall answer 0 applied, or the first that is true of 1 no such voice, 2 no such parameter,
+-- 3 node takes none of that sort."
+abbrev pub outcomeNumber : Outcome → ℕ
+outcomeNumber Applied = 0
+outcomeNumber NoVoice = 1
+outcomeNumber NoParameter = 2
+outcomeNumber NotTaken = 3
+
+-- "A free answers 0 or 1": the voice that was looked for, or none
+abbrev pub freeOutcome : Option Voice → Outcome
+freeOutcome none = NoVoice
+freeOutcome (some v) = Applied
+
 -- yes or no
 abbrev pub isYes : Outcome → Bool
 isYes Applied = true

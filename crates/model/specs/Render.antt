@@ -1,26 +1,31 @@
 -- Prepare and render.
 use Prim.Native.Nat.{ℕ, _+_, min}
 use mathlib.Core.List.{List, [], _∷_, map}
+use mathlib.Core.Option.{Option, none}
 use mathlib.Core.Bool.{Bool, true, false, _||_, cond}
 use lib.Dec.{ltb}
+use Rattle.lists.specs.Find.{find}
 use Rattle.node.specs.declared.order.Action.{Action}
 use Rattle.node.specs.declared.order.Action.the-variants as Action
 use Rattle.node.specs.declared.record.NodeId.{NodeId}
-use Rattle.node.specs.declared.refusal.Refusal.the-variants.{ClockEnd}
+use Rattle.node.specs.declared.refusal.Refusal.{Refusal}
+use Rattle.node.specs.declared.refusal.Refusal.the-variants.{ClockEnd, ShortBuffer}
 use Rattle.order.specs.Prepare as graph
 use Rattle.order.specs.declared.Readiness.{Readiness}
 use Rattle.order.specs.declared.Readiness.the-variants.{Ready, Refused}
 use Rattle.scheduler.specs.Event.{paramOrder}
 use Rattle.scheduler.specs.Queue.{takenBefore, leftAfter}
 use Rattle.scheduler.specs.declared.event.Event.{Event}
+use Rattle.store.specs.declared.answer.Outcome.{Outcome}
 use Rattle.store.specs.declared.answer.Rendered.{Rendered}
 use Rattle.store.specs.declared.answer.Rendered.the-variants as Rendered
 use Rattle.store.specs.declared.voices.Voice.{Voice}
 use Rattle.graph.specs.View.{preparedBy}
+use Rattle.graph.specs.Refuse.{when}
 use Rattle.model.specs.SharedState.{SharedState, withGraph, withEvents, withClock, sounding}
-use Rattle.model.specs.Voice.{moved}
+use Rattle.model.specs.Voice.{moved, isVoice}
 use Rattle.model.specs.Model.{Model, free}
-use Rattle.model.specs.Order.{order}
+use Rattle.model.specs.Order.{order, outcomeNumber, freeOutcome}
 
 -- ---- prepare: 13, 14, or prepared with the processing order; a refusal changes nothing
 abbrev pub prepareOutcome : SharedState → graph.Outcome
@@ -53,6 +58,17 @@ applyEvent e m =
 abbrev pub applyEvents : List Event → Model → Model
 applyEvents [] m = m
 applyEvents (e ∷ l) m = applyEvents l (applyEvent e m)
+
+-- 02, Paper 1: what became of an event, at the moment when it happens
+abbrev pub outcomeOf : Event → Model → Outcome
+outcomeOf e m =
+    cond (isFree (e .action)) (freeOutcome (find (isVoice (e .voice)) (m .voices)))
+    (order (e .voice) (paramOrder e .name) (paramOrder e .order) (m .voices) (m .shared) .outcome)
+
+-- "hands this on for each, in event order"
+abbrev pub outcomes : List Event → Model → List ℕ
+outcomes [] m = []
+outcomes (e ∷ l) m = outcomeNumber (outcomeOf e m) ∷ outcomes l (applyEvent e m)
 
 -- ---- a fade's position "gains the block size at each sounding render". No run reaches 2^64 - 1 samples.
 abbrev pub further : ℕ → ℕ → ℕ
@@ -112,7 +128,10 @@ rested m = record { shared = withEvents (leftAfter (deadline (m .shared)) (m .sh
 abbrev pub clockEnds : SharedState → Bool
 clockEnds d = ltb 18446744073709551615 (deadline d)
 
+-- 02, Paper 1: "in a lent list of 256 entries; later entries stay, and a shorter list gives 17, after 15", whatever is due
+abbrev pub renderRefusal : SharedState → ℕ → Option Refusal
+renderRefusal d entries = when (clockEnds d) ClockEnd (when (ltb entries 256) ShortBuffer none)
+
+-- a render that is not refused
 abbrev pub render : Model → Heard
-render m =
-    cond (clockEnds (m .shared)) (record { answer = Rendered.Refused ClockEnd; model = m })
-    (preparedIf (anyFree (due (m .shared))) (applyEvents (due (m .shared)) (rested m)))
+render m = preparedIf (anyFree (due (m .shared))) (applyEvents (due (m .shared)) (rested m))

@@ -2,11 +2,11 @@
 -- computes to its literal outcome; each names the wrong rule that it refuses.
 use Prim.Native.Nat.{ℕ}
 use Prim.Native.String.{String}
-use mathlib.Core.List.{List, [], _∷_, map}
+use mathlib.Core.List.{List, [], _∷_, _++_, map}
 use mathlib.Core.Bool.{Bool, true, false}
 use lib.IntN.{pos}
 use lib.Ieee.{Float, inf, fin}
-use lib.ListN.{replicate}
+use lib.ListN.{replicate, length}
 use Rattle.node.specs.Silence.{name, bytes}
 use Rattle.node.specs.declared.order.Action.the-variants as Action
 use Rattle.node.specs.declared.order.GlideShape.the-variants.{Linear}
@@ -26,6 +26,7 @@ use Rattle.synthdef.specs.declared.def.DefNode.{DefNode}
 use Rattle.synthdef.specs.declared.def.DefEdge.{DefEdge}
 use Rattle.synthdef.specs.declared.def.Param.{Param}
 use Rattle.synthdef.specs.declared.def.SynthDef.{SynthDef}
+use Rattle.store.specs.declared.answer.Rendered.{Rendered}
 use Rattle.store.specs.declared.answer.Rendered.the-variants as Rendered
 use Rattle.store.specs.declared.answer.Spawned.the-variants as Spawned
 use Rattle.store.specs.declared.config.Config.{Config}
@@ -142,6 +143,10 @@ loud k = call.report (id k) 1 (inf false ∷ []) false
 abbrev pub ends : ℕ → Call
 ends k = call.report (id k) 1 (float 0 ∷ []) true
 
+-- a render that is lent a list of 256 entries, each 7
+abbrev pub render : Call
+render = call.render (replicate 256 7)
+
 abbrev pub timedFree : ℕ → ℕ → Call
 timedFree t w = call.schedule t (voice w) [] Action.Free
 
@@ -152,11 +157,16 @@ spawned w = call.spawned (Spawned.Voice (voice w))
 abbrev pub notSpawned : Refusal → Answer
 notSpawned r = call.spawned (Spawned.Refused r)
 
+-- a render that took no event
 abbrev pub sounding : Answer
-sounding = call.rendered Rendered.Sounding
+sounding = call.rendered Rendered.Sounding 0 (replicate 256 7)
 
 abbrev pub silent : Answer
-silent = call.rendered Rendered.Silent
+silent = call.rendered Rendered.Silent 0 (replicate 256 7)
+
+-- one that took events with these outcomes, and so many entries stayed
+abbrev pub told : Rendered → List ℕ → ℕ → Answer
+told a outcomes rest = call.rendered a (length outcomes) (outcomes ++ replicate rest 7)
 
 abbrev pub inOrder : List ℕ → Answer
 inOrder l = call.inOrder (map id l)
