@@ -9,8 +9,10 @@ use borrow.Author.Tests.{eqb-true}
 use Rattle.lists.specs.Find.{or?, find}
 use Rattle.lists.proofs.Member.{some-inj, none-some}
 use Rattle.node.specs.declared.record.VoiceId.{VoiceId}
+use Rattle.store.specs.declared.answer.Outcome.the-variants.{Applied}
 use Rattle.store.specs.declared.voices.Voice.{Voice}
 use Rattle.model.specs.Model.{Model, withoutVoice, freed}
+use Rattle.model.specs.Order.{freeOutcome}
 use Rattle.model.specs.Voice.{isVoice}
 use Rattle.voice_rows.specs.Found.{FoundAt, foundIn}
 use Rattle.voice_rows.specs.declared.table.FoundRow.{FoundRow}
@@ -35,6 +37,9 @@ module _ (w : VoiceId) (count : ℕ) (vs : List Voice) (r : FoundRow) (h : Found
 
     pub not-unknown : find (isVoice w) (take count vs) ≡ none → ⊥
     not-unknown e = none-some (sym e ∙ there)
+
+    pub known-applied : Applied ≡ freeOutcome (find (isVoice w) (take count vs))
+    known-applied = ap freeOutcome (sym there)
 
     pub frees : (m : Model) → withoutVoice w m ≡ freed (find (isVoice w) (take count vs)) m
     frees m = ap (λ (k : ℕ). withoutVoice (record { 0 = k }) m) (sym (found-is w (take count vs) _ there)) ∙ ap (λ o. freed o m) (sym there)

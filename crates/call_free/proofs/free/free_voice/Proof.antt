@@ -1,11 +1,13 @@
-use mathlib.Core.Path.{refl, sym, ap, _∙_}
+use mathlib.Core.Path.{refl, sym, ap, ap₂, _∙_}
 use borrow.Author.Needs.{needs}
-use Rattle.model.specs.Call.{done}
+use Rattle.model.specs.Call.{ordered}
+use Rattle.model.specs.Order.{freeOutcome}
+use Rattle.store.specs.declared.answer.Outcome.{Outcome}
 use Rattle.model.specs.Model.{Model, freed}
 use Rattle.voice_rows.specs.Rows.{voicesIn}
 use Rattle.memory.specs.View.{modelOf}
 use Rattle.memory.specs.Lent.{lentVoices}
-use Rattle.call_free.proofs.Frees.{unknown, not-unknown, frees}
+use Rattle.call_free.proofs.Frees.{unknown, not-unknown, known-applied, frees}
 use Rattle.call_free.proofs.free.free_voice.Statement.{statement}
 use Rattle.call_free.proofs.free.free_voice.Tie as tie
 
@@ -21,7 +23,8 @@ returns c =
     let looked = found .before .find-voice in
     let a = found .before .before .before .before .args in
     let vs = voicesIn (a .voices .now) in (
-      λ m. ap (λ (n : Model). record { answer = done; model = n })
+      λ m. ap₂ (λ (o : Outcome) (n : Model). record { answer = ordered o; model = n })
+          (known-applied (a .w) (a .s .voices) vs (looked .result) (looked .ensures) (found .if1 .taken))
           (c .forget-voice .ensures m ∙ frees (a .w) (a .s .voices) vs (looked .result) (looked .ensures) (found .if1 .taken) (modelOf (lentVoices (a .s) (a .nodes .now) (a .edges .now) (a .voices .now) m))),
       λ none. absurd (not-unknown (a .w) (a .s .voices) vs (looked .result) (looked .ensures) (found .if1 .taken) none),
     )
@@ -31,7 +34,7 @@ returns-2 c =
     let looked = c .before .find-voice in
     let a = c .before .before .before .before .args in
     let none = unknown (a .w) (a .s .voices) (voicesIn (a .voices .now)) (looked .result) (looked .ensures) (c .if1 .left) in (
-      λ m. ap (λ o. record { answer = done; model = freed o (modelOf (lentVoices (a .s) (a .nodes .now) (a .edges .now) (a .voices .now) m)) }) (sym none),
+      λ m. ap (λ o. record { answer = ordered (freeOutcome o); model = freed o (modelOf (lentVoices (a .s) (a .nodes .now) (a .edges .now) (a .voices .now) m)) }) (sym none),
       λ e m. refl,
     )
 
