@@ -10,10 +10,9 @@ use lib.Seq.{sets}
 use borrow.Author.Tests.{ltb-true, ltb-false}
 use Rattle.node.specs.declared.order.LastOrder.{LastOrder}
 use Rattle.words.specs.Fields.{lastAt}
-use Rattle.words.specs.Rows.{rowAt}
+use Rattle.words.specs.Rows.{rowAt, fieldsPut}
 use Rattle.words.proofs.Words.{spell, spelled}
 use Rattle.words.proofs.Rows.{row-is, rows-kept, at-long}
-use Rattle.words.specs.Rows.{fieldsPut}
 use Rattle.words.proofs.Within.{put-past, fields-is}
 use Rattle.graph_rows.specs.Node.{nodeOf, nodesIn}
 use Rattle.model.specs.Order.{withLast}

@@ -4,4 +4,5 @@ mod apply;
 mod last;
 pub mod left;
 mod named;
+pub mod number;
 pub mod param;

@@ -1,12 +1,12 @@
 -- The walk over the events: those that are due applyEvent, one after the other.
-use Prim.Native.Nat.{ℕ, _+_, _≤_, _<_}
+use Prim.Native.Nat.{ℕ, suc, _+_, _≤_, _<_}
 use native.Mathlib.Omega.{arith}
-use mathlib.Core.Path.{_≡_, refl, sym, ap, _∙_}
-use mathlib.Core.List.{List, []}
+use mathlib.Core.Path.{_≡_, refl, sym, ap, ap₂, _∙_}
+use mathlib.Core.List.{List, [], _∷_, _++_, append-assoc, append-nil}
 use mathlib.Core.Option.{none, some}
 use mathlib.Core.Bool.{Bool, true, false, cond, _||_}
-use lib.ListN.{length, take, drop, getD, set, length-set, drop-of-length-le}
-use lib.Seq.{length-take-le}
+use lib.ListN.{length, take, drop, getD, set, length-set, drop-of-length-le, take-append-drop}
+use lib.Seq.{length-take-le, drop-drop, drop-set-lt}
 use Rattle.lists.specs.Filter.{put?}
 use Rattle.lists.specs.Find.{find}
 use Rattle.lists.proofs.Table.{left-row, append-row}
@@ -21,11 +21,14 @@ use Rattle.words.specs.Place.{Holds}
 use Rattle.event_table.specs.Rows.{eventsIn}
 use Rattle.graph_rows.specs.Node.{nodesIn}
 use Rattle.store.specs.declared.answer.Outcome.{Outcome}
+use Rattle.store.specs.declared.answer.Outcome.the-variants.{Applied, NoVoice}
 use Rattle.store.specs.declared.voices.Voice.{Voice}
 use Rattle.model.specs.SharedState.{SharedState, withEvents}
-use Rattle.model.specs.Model.{freed}
-use Rattle.model.specs.Order.{order}
-use Rattle.model.specs.Render.{isFree, anyFree, applyEvents}
+use Rattle.model.specs.Model.{Model, freed}
+use Rattle.model.specs.Order.{order, outcomeNumber, freeOutcome}
+use Rattle.model.specs.Written.{written}
+use Rattle.model.proofs.Outcomes.{count-is}
+use Rattle.model.specs.Render.{isFree, anyFree, applyEvent, applyEvents, outcomes}
 use Rattle.model.specs.Voice.{isVoice}
 use Rattle.voice_rows.specs.Rows.{voiceOf, voicesIn}
 use Rattle.voice_rows.specs.Found.{FoundAt}
@@ -38,53 +41,60 @@ use Rattle.call_param.specs.Left.{Reply, isKnown, orderLeft}
 use Rattle.call_param.specs.Replies.{Replies}
 use Rattle.call_param.proofs.Whole.{freed-unknown, others-known}
 use Rattle.call_free.specs.Forgotten.{withoutIds}
-use Rattle.call_render.specs.Happened.{scene, noted, Noted, Happens, Left, left}
-use Rattle.call_render.proofs.Gone.{way-order, way-free}
+use Rattle.call_render.specs.Happened.{scene, noted, Noted, Happens, Left, Handed}
+use Rattle.call_render.proofs.Gone.{way-order, way-free, say-order, say-free}
 
 -- ---- a voice is noted
 module _ (vs : List Voice) (w : VoiceId) (old : List ℕ) (count : ℕ) where
   abbrev l : List ℕ
   l = take count old
 
-  same : find (isKnown l w) vs ≡ none → Noted vs w old count old count
-  same e = record { is = ap (λ x. noted x l (w .0)) (sym e); more = omega arith; long = refl }
+  same : find (isKnown l w) vs ≡ none → Noted vs w old count old count NoVoice
+  same e = record { is = ap (λ x. noted x l (w .0)) (sym e); told = ap freeOutcome (sym e); more = omega arith; long = refl }
 
-  pub note-freed : listed l (w .0) ≡ true → Noted vs w old count old count
+  pub note-freed : listed l (w .0) ≡ true → Noted vs w old count old count NoVoice
   note-freed h = same (freed-unknown l w vs h)
 
   module _ (h : listed l (w .0) ≡ false) (r : FoundRow) (rows : List Voice) (held : ℕ) (found : FoundAt r held rows (find (isVoice w) vs)) where
     by : (b : Bool) → r .found ≡ b → find (isKnown l w) vs ≡ cond b (some (getD rows (r .row) (voiceOf []))) none
     by b t = others-known l w vs h ∙ sym (found .is) ∙ ap (λ b. cond b (some (getD rows (r .row) (voiceOf []))) none) t
 
-    pub note-unknown : r .found ≡ false → Noted vs w old count old count
+    pub note-unknown : r .found ≡ false → Noted vs w old count old count NoVoice
     note-unknown t = same (by false t)
 
-    pub note-known : r .found ≡ true → count < length old → Noted vs w old count (set old count (w .0)) (count + 1)
+    pub note-known : r .found ≡ true → count < length old → Noted vs w old count (set old count (w .0)) (count + 1) Applied
     note-known t room =
         record {
           is = append-row old count (w .0) room ∙ ap (λ x. noted x l (w .0)) (sym (by true t));
+          told = ap freeOutcome (sym (by true t));
           more = omega arith;
           long = length-set old count (w .0);
         }
 
 -- ---- one event
 module _ (vs : List Voice) (e : Event) (ns : List Node) (old : List ℕ) (count : ℕ) where
-  pub happens-free : isFree (e .action) ≡ true → (new : List ℕ) (r : ℕ) → Noted vs (e .voice) old count new r → Happens vs e ns old count ns new r
-  happens-free t new r h =
+  pub happens-free : isFree (e .action) ≡ true → (new : List ℕ) (r : ℕ) (o : Outcome) → Noted vs (e .voice) old count new r o → Happens vs e ns old count ns new r o
+  happens-free t new r o h =
       record {
         is = λ d. ap (λ z. withoutIds z (scene d ns vs)) (h .is) ∙ way-free (take count old) d ns vs (e .voice) ∙ rw t;
+        told = λ d. h .told ∙ say-free (take count old) d ns vs (e .voice) ∙ rw t;
         more = h .more;
         long = h .long;
       }
 
   pub happens-order : isFree (e .action) ≡ false → (p : ParamOrder) → p ≡ paramOrder e → (words new : List ℕ) (live : ℕ) (o : Outcome) → ns ≡ take live (nodesIn words)
-      → Replies words new live o (orderLeft (take count old) (e .voice) (p .name) (p .order) vs ns) → Happens vs e ns old count (take live (nodesIn new)) old count
+      → Replies words new live o (orderLeft (take count old) (e .voice) (p .name) (p .order) vs ns) → Happens vs e ns old count (take live (nodesIn new)) old count o
   happens-order t p is words new live o same h =
       record {
         is = λ d.
             ap (λ (z : Reply). withoutIds (take count old) (scene d (z .nodes) vs)) (h .is)
             ∙ ap (λ (q : ParamOrder). withoutIds (take count old) (scene d (orderLeft (take count old) (e .voice) (q .name) (q .order) vs ns .nodes) vs)) is
             ∙ way-order (take count old) d ns vs (e .voice) (paramOrder e .name) (paramOrder e .order)
+            ∙ rw t;
+        told = λ d.
+            ap (λ (z : Reply). z .outcome) (h .is)
+            ∙ ap (λ (q : ParamOrder). orderLeft (take count old) (e .voice) (q .name) (q .order) vs ns .outcome) is
+            ∙ say-order (take count old) d ns vs (e .voice) (paramOrder e .name) (paramOrder e .order)
             ∙ rw t;
         more = omega arith;
         long = refl;
@@ -95,40 +105,6 @@ module _ (deadline : ℕ) (rows : List Event) (n : ℕ) (vs : List Voice) (start
   abbrev rest : ℕ → List Event
   rest i = takenBefore deadline (drop i (take n rows))
 
-  pub record Going (ns : List Node) (freed : List ℕ) (count i : ℕ) : Type 0 where
-    pub passed : i ≤ n
-    pub few : count ≤ i
-    pub long : length freed ≡ 256
-    pub left : (d : SharedState) → applyEvents (rest i) (withoutIds (take count freed) (scene d ns vs)) ≡ applyEvents (rest 0) (scene d start vs)
-
-  pub going-start : (freed : List ℕ) → length freed ≡ 256 → Going start freed 0 0
-  going-start freed h = record { passed = omega arith; few = omega arith; long = h; left = λ d. refl }
-
-  module _ (d : Event) (ns : List Node) (freed : List ℕ) (count i : ℕ) (g : Going ns freed count i) (below : i < n) (top : n ≤ length rows) where
-    abbrev e : Event
-    e = getD rows i d
-
-    split : (b : Bool) → due deadline e ≡ b → rest i ≡ put? b e (rest (i + 1))
-    split b t = ap (takenBefore deadline) (left-row d rows n i below top) ∙ ap (λ b. put? b e (rest (i + 1))) t
-
-    pub going-on : due deadline e ≡ true → (new-ns : List Node) (new : List ℕ) (r : ℕ) → Happens vs e ns freed count new-ns new r → Going new-ns new r (i + 1)
-    going-on t new-ns new r h =
-        record {
-          passed = omega arith;
-          few = omega (arith, h .more, g .few);
-          long = h .long ∙ g .long;
-          left = λ x. ap (applyEvents (rest (i + 1))) (h .is x) ∙ sym (ap (λ z. applyEvents z (withoutIds (take count freed) (scene x ns vs))) (split true t)) ∙ g .left x;
-        }
-
-    pub going-off : due deadline e ≡ false → Going ns freed count (i + 1)
-    going-off t =
-        record {
-          passed = omega arith;
-          few = omega (arith, g .few);
-          long = g .long;
-          left = λ x. sym (ap (λ z. applyEvents z (withoutIds (take count freed) (scene x ns vs))) (split false t)) ∙ g .left x;
-        }
-
   -- nothing is left at the end
   over : (i : ℕ) → n ≤ i → n ≤ length rows → rest i ≡ []
   over i h top =
@@ -136,13 +112,97 @@ module _ (deadline : ℕ) (rows : List Event) (n : ℕ) (vs : List Voice) (start
       let past : length (take n rows) ≤ i = omega arith in
       ap (takenBefore deadline) (drop-of-length-le (take n rows) past)
 
-  pub going-done : (ns : List Node) (freed : List ℕ) (count i : ℕ) → Going ns freed count i → n ≤ i → n ≤ length rows → n ≤ 256 → (all : List Event) → take n rows ≡ all → Left start vs (takenBefore deadline all) ns freed count
-  going-done ns freed count i g h top room all is =
-      record {
-        is = λ d. ap (λ z. applyEvents (takenBefore deadline z) (scene d start vs)) (sym is) ∙ sym (g .left d) ∙ ap (λ z. applyEvents z (withoutIds (take count freed) (scene d ns vs))) (over i h top);
-        fits = omega (arith, g .few, g .passed);
-        long = g .long;
-      }
+  -- `lent` is the list before the first event, `list` what it holds now
+  module _ (lent : List ℕ) where
+    pub record Going (ns : List Node) (freed list : List ℕ) (count taken i : ℕ) : Type 0 where
+      pub passed : i ≤ n
+      pub few : count ≤ i
+      pub took : taken ≤ i
+      pub long : length freed ≡ 256
+      pub wide : length list ≡ length lent
+      pub left : (d : SharedState) → applyEvents (rest i) (withoutIds (take count freed) (scene d ns vs)) ≡ applyEvents (rest 0) (scene d start vs)
+      pub told : (d : SharedState) → take taken list ++ outcomes (rest i) (withoutIds (take count freed) (scene d ns vs)) ≡ outcomes (rest 0) (scene d start vs)
+      pub many : taken + length (rest i) ≡ length (rest 0)
+      pub later : drop taken list ≡ drop taken lent
+
+    pub going-start : (freed : List ℕ) → length freed ≡ 256 → Going start freed lent 0 0 0
+    going-start freed h =
+        record { passed = omega arith; few = omega arith; took = omega arith; long = h; wide = refl; left = λ d. refl; told = λ d. refl; many = omega arith; later = refl }
+
+    module _ (d : Event) (ns : List Node) (freed list : List ℕ) (count taken i : ℕ) (g : Going ns freed list count taken i) (below : i < n) (top : n ≤ length rows) where
+      abbrev e : Event
+      e = getD rows i d
+
+      split : (b : Bool) → due deadline e ≡ b → rest i ≡ put? b e (rest (i + 1))
+      split b t = ap (takenBefore deadline) (left-row d rows n i below top) ∙ ap (λ b. put? b e (rest (i + 1))) t
+
+      abbrev at : SharedState → Model
+      at x = withoutIds (take count freed) (scene x ns vs)
+
+      module _ (t : due deadline e ≡ true) (new-ns : List Node) (new : List ℕ) (r : ℕ) (o : Outcome) (h : Happens vs e ns freed count new-ns new r o) (number : ℕ) (said : number ≡ outcomeNumber o) (room : taken < length list) where
+        told-on : (x : SharedState) → take (taken + 1) (set list taken number) ++ outcomes (rest (i + 1)) (withoutIds (take r new) (scene x new-ns vs)) ≡ outcomes (rest 0) (scene x start vs)
+        told-on x =
+            ap₂ (λ a m. a ++ outcomes (rest (i + 1)) m) (append-row list taken number room) (h .is x)
+            ∙ append-assoc (take taken list) (number ∷ []) (outcomes (rest (i + 1)) (applyEvent e (at x)))
+            ∙ ap (λ z. take taken list ++ (z ∷ outcomes (rest (i + 1)) (applyEvent e (at x)))) (said ∙ ap outcomeNumber (h .told x))
+            ∙ sym (ap (λ z. take taken list ++ outcomes z (at x)) (split true t))
+            ∙ g .told x
+
+        later-on : drop (taken + 1) (set list taken number) ≡ drop (taken + 1) lent
+        later-on =
+            let past : taken < taken + 1 = omega arith in
+            drop-set-lt (taken + 1) list taken number past ∙ sym (drop-drop 1 taken list) ∙ ap (drop 1) (g .later) ∙ drop-drop 1 taken lent
+
+        pub going-on : Going new-ns new (set list taken number) r (taken + 1) (i + 1)
+        going-on =
+            let more : length (rest i) ≡ suc (length (rest (i + 1))) = ap length (split true t) in
+            record {
+              passed = omega arith;
+              few = omega (arith, h .more, g .few);
+              took = omega (arith, g .took);
+              long = h .long ∙ g .long;
+              wide = length-set list taken number ∙ g .wide;
+              left = λ x. ap (applyEvents (rest (i + 1))) (h .is x) ∙ sym (ap (λ z. applyEvents z (at x)) (split true t)) ∙ g .left x;
+              told = told-on;
+              many = omega (arith, more, g .many);
+              later = later-on;
+            }
+
+      pub going-off : due deadline e ≡ false → Going ns freed list count taken (i + 1)
+      going-off t =
+          record {
+            passed = omega arith;
+            few = omega (arith, g .few);
+            took = omega (arith, g .took);
+            long = g .long;
+            wide = g .wide;
+            left = λ x. sym (ap (λ z. applyEvents z (at x)) (split false t)) ∙ g .left x;
+            told = λ x. sym (ap (λ z. take taken list ++ outcomes z (at x)) (split false t)) ∙ g .told x;
+            many = ap (λ z. taken + length z) (sym (split false t)) ∙ g .many;
+            later = g .later;
+          }
+
+    module _ (ns : List Node) (freed list : List ℕ) (count taken i : ℕ) (g : Going ns freed list count taken i) (h : n ≤ i) (top : n ≤ length rows) (room : n ≤ 256) (wide : 256 ≤ length lent) where
+      many-done : taken ≡ length (rest 0)
+      many-done = let none : length (rest i) ≡ 0 = ap length (over i h top) in omega (arith, none, g .many)
+
+      told-done : (d : SharedState) → list ≡ written (outcomes (rest 0) (scene d start vs)) lent
+      told-done d =
+          let os = outcomes (rest 0) (scene d start vs) in
+          let first : take taken list ≡ os =
+          sym (append-nil (take taken list)) ∙ sym (ap (λ z. take taken list ++ outcomes z (withoutIds (take count freed) (scene d ns vs))) (over i h top)) ∙ g .told d in
+          let long : length os ≡ taken = count-is (rest 0) (scene d start vs) ∙ sym many-done in
+          sym (take-append-drop taken list) ∙ ap₂ _++_ first (g .later) ∙ ap (λ k. os ++ drop k lent) (sym long)
+
+      pub going-done : (all : List Event) → take n rows ≡ all → Left start vs (takenBefore deadline all) ns freed lent list count taken
+      going-done all is =
+          record {
+            is = λ d. ap (λ z. applyEvents (takenBefore deadline z) (scene d start vs)) (sym is) ∙ sym (g .left d) ∙ ap (λ z. applyEvents z (withoutIds (take count freed) (scene d ns vs))) (over i h top);
+            told = λ d. told-done d ∙ ap (λ z. written (outcomes (takenBefore deadline z) (scene d start vs)) lent) is;
+            many = many-done ∙ ap (λ z. length (takenBefore deadline z)) is;
+            fits = omega (arith, g .few, g .passed);
+            long = g .long;
+          }
 
   -- ---- whether one is a free
   abbrev pub Looking : ℕ → Type 0
@@ -165,16 +225,20 @@ module _ (deadline : ℕ) (rows : List Event) (n : ℕ) (vs : List Voice) (start
   looking-done i g h top = sym (ap anyFree (over i h top)) ∙ g .1
 
 -- ---- all of them: the events are removed from the queue, and the freed voices from the tables
-module _ (s : State) (ns es vs ev : List ℕ) (deadline : ℕ) (ns1 freed : List ℕ) (r : ℕ)
-    (h : Left (take (s .nodes) (nodesIn ns)) (take (s .voices) (voicesIn vs)) (takenBefore deadline (take (s .events) (eventsIn ev))) (take (s .nodes) (nodesIn ns1)) freed r)
+module _ (s : State) (ns es vs ev : List ℕ) (deadline : ℕ) (ns1 freed lent list : List ℕ) (r taken : ℕ)
+    (h : Left (take (s .nodes) (nodesIn ns)) (take (s .voices) (voicesIn vs)) (takenBefore deadline (take (s .events) (eventsIn ev))) (take (s .nodes) (nodesIn ns1)) freed lent list r taken)
     (ev1 : List ℕ) (k : ℕ) (removed : Holds (eventsIn ev1) k (leftAfter deadline (take (s .events) (eventsIn ev))))
     (u : State) (counted : u ≡ queued s k) (after : State) (ns2 es2 vs2 : List ℕ)
     (forgot : (m : Memory) → modelOf (lentVoices after ns2 es2 vs2 m) ≡ withoutIds (take r freed) (modelOf (lentVoices u ns1 es vs m))) where
-  pub all-happen : (m : Memory) → modelOf (lentRender after ns2 es2 (m .order) vs2 ev1 m) ≡ left deadline (modelOf (lentRender s ns es (m .order) vs ev m))
+  pub all-happen : (m : Memory) → Handed deadline (modelOf (lentRender s ns es (m .order) vs ev m)) (modelOf (lentRender after ns2 es2 (m .order) vs2 ev1 m)) lent list taken
   all-happen m =
       let old = modelOf (lentRender s ns es (m .order) vs ev m) in
-      let resting : List Event → SharedState = λ q. withEvents q (old .shared) in
-      forgot (lentEvents (m .state) ev1 m)
-      ∙ ap (λ x. withoutIds (take r freed) (modelOf (lentVoices x ns1 es vs (lentEvents (m .state) ev1 m)))) counted
-      ∙ sym (h .is (resting (take k (eventsIn ev1))))
-      ∙ ap (λ q. applyEvents (takenBefore deadline (old .shared .events)) (record { shared = resting q; voices = old .voices })) (removed .is)
+      let queue : List Event → SharedState = λ q. withEvents q (old .shared) in
+      record {
+        is = forgot (lentEvents (m .state) ev1 m)
+            ∙ ap (λ x. withoutIds (take r freed) (modelOf (lentVoices x ns1 es vs (lentEvents (m .state) ev1 m)))) counted
+            ∙ sym (h .is (queue (take k (eventsIn ev1))))
+            ∙ ap (λ q. applyEvents (takenBefore deadline (old .shared .events)) (record { shared = queue q; voices = old .voices })) (removed .is);
+        told = h .told (queue (leftAfter deadline (old .shared .events)));
+        many = h .many;
+      }

@@ -29,7 +29,7 @@ use Rattle.store.specs.declared.answer.Outcome.the-variants.{Applied, NotTaken}
 use Rattle.store.specs.declared.voices.Voice.{Voice}
 use Rattle.model.specs.SharedState.{SharedState, withGraph}
 use Rattle.model.specs.Model.{Model, withoutVoice, freed}
-use Rattle.model.specs.Order.{takes, withLast, withNode, stays, orderNode, orderParam, orderVoice, order}
+use Rattle.model.specs.Order.{takes, withLast, withNode, stays, orderNode, orderParam, orderVoice, order, freeOutcome}
 use Rattle.model.specs.Voice.{isVoice, id}
 use Rattle.call_param.specs.Left.{isLeft, isKnown, reply, replacedLeft, replyNode, replyParam, replyVoice, orderLeft}
 use Rattle.call_free.specs.Forgotten.{withoutIds}
@@ -187,6 +187,30 @@ module _ (l : List ℕ) (d : SharedState) (ns : List Node) (vs : List Voice) whe
   -- a value or a glide
   pub way-order : (w : VoiceId) (name : Name) (o : LastOrder) → withoutIds l (scene d (orderLeft l w name o vs ns .nodes) vs) ≡ with (order w name o (now .voices) (now .shared) .shared)
   way-order w name o = way-voice name o (find (isKnown l w) vs) ∙ ap (λ x. with (orderVoice x name o (now .shared) .shared)) (sym (voice-left w))
+
+  -- what it answers
+  say-node : (o : LastOrder) (x : Option Node) → replyNode l x o ns .outcome ≡ orderNode x o (now .shared) .outcome
+  say-node o none = refl
+  say-node o (some n) = go (takes o n)
+    where
+      go : (b : Bool) → cond b (reply Applied (replacedLeft l ns (withLast o n))) (reply NotTaken ns) .outcome ≡ cond b (record { outcome = Applied; shared = withNode (withLast o n) (now .shared) }) (stays NotTaken (now .shared)) .outcome
+      go true = refl
+      go false = refl
+
+  say-param : (v : Voice) (o : LastOrder) (p : Option ℕ) → replyParam l p v o ns .outcome ≡ orderParam p v o (now .shared) .outcome
+  say-param v o none = refl
+  say-param v o (some i) =
+      say-node o (find (isLeft l (id (v .first .0 + i))) ns) ∙ ap (λ x. orderNode x o (now .shared) .outcome) (sym (node-left (v .first .0 + i)))
+
+  say-voice : (name : Name) (o : LastOrder) (x : Option Voice) → replyVoice l x name o ns .outcome ≡ orderVoice x name o (now .shared) .outcome
+  say-voice name o none = refl
+  say-voice name o (some v) = say-param v o (paramNode (paramRows (v .params)) name)
+
+  pub say-order : (w : VoiceId) (name : Name) (o : LastOrder) → orderLeft l w name o vs ns .outcome ≡ order w name o (now .voices) (now .shared) .outcome
+  say-order w name o = say-voice name o (find (isKnown l w) vs) ∙ ap (λ x. orderVoice x name o (now .shared) .outcome) (sym (voice-left w))
+
+  pub say-free : (w : VoiceId) → freeOutcome (find (isKnown l w) vs) ≡ freeOutcome (find (isVoice w) (now .voices))
+  say-free w = ap freeOutcome (sym (voice-left w))
 
   -- a free
   pub way-free : (w : VoiceId) → withoutIds (noted (find (isKnown l w) vs) l (w .0)) (scene d ns vs) ≡ freed (find (isVoice w) (now .voices)) now

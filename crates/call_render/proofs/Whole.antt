@@ -1,14 +1,16 @@
 -- The whole render from its parts.
 use Prim.Native.Nat.{ℕ, _+_, _-_, _≤_, _<_}
 use native.Mathlib.Omega.{arith}
-use mathlib.Core.Path.{_≡_, refl, sym, ap, subst, _∙_}
-use mathlib.Core.List.{List}
-use mathlib.Core.Bool.{Bool, true, false, cond, _&&_, false≢true}
-use lib.ListN.{take}
+use mathlib.Core.Path.{_≡_, refl, sym, ap, ap₂, subst, _∙_}
+use mathlib.Core.List.{List, []}
+use mathlib.Core.Option.{Option, none, some}
+use mathlib.Core.Bool.{Bool, true, false, _&&_, false≢true}
+use lib.Dec.{ltb}
+use lib.ListN.{length, take}
 use borrow.Author.Tests.{lt-ltb, le-ltb}
 use Rattle.lists.specs.Find.{isSome}
 use Rattle.node.specs.declared.refusal.Refusal.{Refusal}
-use Rattle.node.specs.declared.refusal.Refusal.the-variants.{ClockEnd}
+use Rattle.node.specs.declared.refusal.Refusal.the-variants.{ClockEnd, ShortBuffer}
 use Rattle.order.specs.declared.Readiness.{Readiness}
 use Rattle.order.specs.declared.Readiness.the-variants as Readiness
 use Rattle.order.specs.Prepare as order
@@ -18,9 +20,11 @@ use Rattle.store.specs.declared.answer.Rendered.{Rendered}
 use Rattle.store.specs.declared.answer.Rendered.the-variants as Rendered
 use Rattle.model.specs.SharedState.{SharedState, sounding, withClock}
 use Rattle.model.specs.Model.{Model}
-use Rattle.model.specs.Render.{Heard, heard, answerAfter, prepareOutcome, prepareShared, readyShared, anyFree, applyEvents, deadline, due, rested, clockEnds, preparedIf, isSounding, movedIf}
+use Rattle.model.specs.Render.{Heard, heard, answerAfter, prepareOutcome, prepareShared, readyShared, anyFree, applyEvents, deadline, preparedIf, isSounding, movedIf, outcomes, renderRefusal}
+use Rattle.model.specs.Written.{written}
+use Rattle.graph.specs.Refuse.{when}
 use Rattle.model.specs.Render as model
-use Rattle.model.specs.Call.{Step, rendered}
+use Rattle.model.specs.Call.{Step, step, renderStep, rendered}
 use Rattle.model.specs.Call as call
 use Rattle.model.specs.Numbers.{numberIn}
 use Rattle.graph_rows.specs.Node.{nodesIn}
@@ -33,8 +37,8 @@ use Rattle.memory.specs.View.{Memory, modelOf, sharedOf}
 use Rattle.memory.specs.Lent.{lentOrder, lentVoiceTable}
 use Rattle.memory.specs.Called.{Called, Kept, keeps}
 use Rattle.memory.specs.Parts.{ordered, clocked}
-use Rattle.call_render.specs.declared.render.Rendering.{Rendering}
-use Rattle.call_render.specs.Happened.{left}
+use Rattle.call_render.specs.declared.block.Block.{Block}
+use Rattle.call_render.specs.Happened.{resting, Handed}
 use Rattle.call_render.specs.Blocks.{heardIn, readied, blockTo}
 use Rattle.call_render.proofs.Ends.{all-ends, block-is}
 
@@ -83,22 +87,31 @@ block-left s vs vs' a end b told moved u is m =
     ap (λ x. record { answer = a; model = modelOf (lentVoiceTable x vs' m) }) is
     ∙ ap (λ l. record { answer = a; model = record { shared = withClock end (old .shared); voices = l } }) (moved ∙ ap (λ x. movedIf x (s .config .block) (old .voices)) told)
 
--- ---- 15
-abbrev asStep : Heard → Step
-asStep h = record { answer = rendered (h .answer); model = h .model }
+-- ---- 15, and then 17
+refused-is : (m : Model) (out : List ℕ) (o : Option Refusal) → renderRefusal (m .shared) (length out) ≡ o → renderStep o out m ≡ step (call.render out) m
+refused-is m out o e = ap (λ x. renderStep x out m) (sym e)
 
-ended : (m : Model) (b : Bool) → clockEnds (m .shared) ≡ b
-    → cond b (record { answer = Rendered.Refused ClockEnd; model = m }) (preparedIf (anyFree (due (m .shared))) (applyEvents (due (m .shared)) (rested m))) ≡ model.render m
-ended m b e = ap (λ x. cond x (record { answer = Rendered.Refused ClockEnd; model = m }) (preparedIf (anyFree (due (m .shared))) (applyEvents (due (m .shared)) (rested m)))) (sym e)
+module _ (m : Memory) (out : List ℕ) where
+  abbrev end : ℕ
+  end = m .state .clock + m .state .config .block
 
-pub render-refused : (m : Memory) → 18446744073709551615 - m .state .config .block < m .state .clock → Called call.render m (rendered (Rendered.Refused ClockEnd)) m
-render-refused m h =
-    let over : 18446744073709551615 < m .state .clock + m .state .config .block = omega arith in
-    ap asStep (ended (modelOf m) true (lt-ltb 18446744073709551615 (m .state .clock + m .state .config .block) over))
+  pub render-ended : 18446744073709551615 - m .state .config .block < m .state .clock → Called (call.render out) m (rendered (Rendered.Refused ClockEnd) 0 out) m
+  render-ended h =
+      let over : 18446744073709551615 < end = omega arith in
+      refused-is (modelOf m) out (some ClockEnd) (ap (λ b. when b ClockEnd (when (ltb (length out) 256) ShortBuffer none)) (lt-ltb 18446744073709551615 end over))
+
+  not-ended : (o : Option Refusal) → end ≤ 18446744073709551615 → when (ltb (length out) 256) ShortBuffer none ≡ o → renderRefusal (modelOf m .shared) (length out) ≡ o
+  not-ended o fits e = ap (λ b. when b ClockEnd (when (ltb (length out) 256) ShortBuffer none)) (le-ltb 18446744073709551615 end fits) ∙ e
+
+  pub render-short : end ≤ 18446744073709551615 → length out < 256 → Called (call.render out) m (rendered (Rendered.Refused ShortBuffer) 0 out) m
+  render-short fits short = refused-is (modelOf m) out (some ShortBuffer) (not-ended (some ShortBuffer) fits (ap (λ b. when b ShortBuffer none) (lt-ltb (length out) 256 short)))
+
+  taken-on : end ≤ 18446744073709551615 → 256 ≤ length out → renderStep none out (modelOf m) ≡ step (call.render out) (modelOf m)
+  taken-on fits long = refused-is (modelOf m) out none (not-ended none fits (ap (λ b. when b ShortBuffer none) (le-ltb (length out) 256 long)))
 
 -- ---- no other refusal
 abbrev kept : Rendered → Bool
-kept a = keeps (numberIn (rendered a))
+kept a = keeps (numberIn (rendered a 0 []))
 
 heard-kept : (b : Bool) → kept (heard b) ≡ false
 heard-kept true = refl
@@ -112,14 +125,15 @@ readied-kept : (b : Bool) (m : Model) → kept (readied b m .answer) ≡ false
 readied-kept true m = after-kept (prepareOutcome (m .shared) .answer) (prepareShared (m .shared))
 readied-kept false m = heard-kept (sounding (m .shared))
 
--- ---- the memory at first, after the events, when it is ready, and at the end
-module _ (old mid then last : Memory) (b : Bool) (ready out : Rendering) (end : ℕ) (is-end : end ≡ old .state .clock + old .state .config .block) (fits : end ≤ 18446744073709551615)
+-- ---- the memory at first, after the events, when it is ready, and at the end; the list before and after
+module _ (old mid then last : Memory) (b : Bool) (ready out : Block) (lent list : List ℕ) (taken end : ℕ) (is-end : end ≡ old .state .clock + old .state .config .block) (fits : end ≤ 18446744073709551615)
+    (long : 256 ≤ length lent)
     (frees : b ≡ anyFree (takenBefore end (sharedOf old .events)))
-    (happened : modelOf mid ≡ left end (modelOf old))
+    (happened : Handed end (modelOf old) (modelOf mid) lent list taken)
     (readying : heardIn ready then ≡ readied b (modelOf mid))
     (block : heardIn out last ≡ blockTo end (ready .answer) (modelOf then)) where
   ends : end ≡ deadline (modelOf mid .shared)
-  ends = is-end ∙ sym (ap (λ (k : Model). deadline (k .shared)) happened ∙ all-ends (takenBefore end (sharedOf old .events)) _)
+  ends = is-end ∙ sym (ap (λ (k : Model). deadline (k .shared)) (happened .is) ∙ all-ends (takenBefore end (sharedOf old .events)) _)
 
   over : heardIn out last ≡ blockTo end (readied b (modelOf mid) .answer) (readied b (modelOf mid) .model)
   over = block ∙ ap (λ (h : Heard). blockTo end (h .answer) (h .model)) readying
@@ -129,12 +143,22 @@ module _ (old mid then last : Memory) (b : Bool) (ready out : Rendering) (end : 
       over
       ∙ block-is b (modelOf mid) end ends
       ∙ ap (λ x. preparedIf x (modelOf mid)) frees
-      ∙ ap (preparedIf (anyFree (takenBefore end (sharedOf old .events)))) happened
-      ∙ ap (λ x. preparedIf (anyFree (takenBefore x (sharedOf old .events))) (left x (modelOf old))) is-end
-      ∙ ended (modelOf old) false (le-ltb 18446744073709551615 (old .state .clock + old .state .config .block) (subst (λ x. x ≤ 18446744073709551615) is-end fits))
+      ∙ ap (preparedIf (anyFree (takenBefore end (sharedOf old .events)))) (happened .is)
+      ∙ ap (λ x. preparedIf (anyFree (takenBefore x (sharedOf old .events))) (applyEvents (takenBefore x (sharedOf old .events)) (resting x (modelOf old)))) is-end
 
-  pub render-done : Called call.render old (rendered (out .answer)) last
-  render-done = ap asStep whole
+  -- what is heard, with the count of the events and the list
+  abbrev handed : Heard → ℕ → List ℕ → Step
+  handed h n l = record { answer = rendered (h .answer) n l; model = h .model }
 
-  pub render-kept : Kept (rendered (out .answer)) old last
+  abbrev handedBy : ℕ → Step
+  handedBy x = handed (model.render (modelOf old)) (length (takenBefore x (sharedOf old .events))) (written (outcomes (takenBefore x (sharedOf old .events)) (resting x (modelOf old))) lent)
+
+  pub render-done : Called (call.render lent) old (rendered (out .answer) taken list) last
+  render-done =
+      ap (λ h. handed h taken list) whole
+      ∙ ap₂ (handed (model.render (modelOf old))) (happened .many) (happened .told)
+      ∙ ap handedBy is-end
+      ∙ taken-on old lent (subst (λ x. x ≤ 18446744073709551615) is-end fits) long
+
+  pub render-kept : Kept (rendered (out .answer) taken list) old last
   render-kept e = absurd (false≢true (sym (ap (λ (h : Heard). kept (h .answer)) over ∙ readied-kept b (modelOf mid)) ∙ e))

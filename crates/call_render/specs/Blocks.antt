@@ -6,10 +6,10 @@ use Rattle.model.specs.SharedState.{sounding, withClock}
 use Rattle.model.specs.Model.{Model}
 use Rattle.model.specs.Render.{Heard, heard, answerAfter, isSounding, movedIf, prepareOutcome, prepareShared}
 use Rattle.memory.specs.View.{Memory, modelOf}
-use Rattle.call_render.specs.declared.render.Rendering.{Rendering}
+use Rattle.call_render.specs.declared.block.Block.{Block}
 
 -- what is heard, and the memory that is left
-abbrev pub heardIn : Rendering → Memory → Heard
+abbrev pub heardIn : Block → Memory → Heard
 heardIn r m = record { answer = r .answer; model = modelOf m }
 
 -- before the block: prepared inside the render, or not

@@ -8,6 +8,7 @@ use node::order::Action;
 use node::record::VoiceId;
 use scheduler::event::Event;
 use scheduler::event::param_order;
+use store::answer::Outcome;
 use voice_rows::row::VoiceTable;
 use voice_rows::table::find_voice;
 ghost use mathlib.Core.Path.{_≡_};
@@ -34,23 +35,38 @@ pub(crate) fn is_free(a: Action) -> bool
     }
 }
 
-// The voice `w` is noted behind the first `count`, if it is known and not noted yet: how many there are.
-fn note(voices: &[u32], held: usize, freed: &mut [u64], count: usize, w: VoiceId) -> usize
+// How many voices are noted after an event, and what became of it.
+pub(crate) struct EventResult {
+    pub count: usize,
+    pub outcome: Outcome,
+}
+
+// The voice `w` is noted behind the first `count`, if it is known and not noted yet.
+fn note(voices: &[u32], held: usize, freed: &mut [u64], count: usize, w: VoiceId) -> EventResult
     requires { ⌜ count < length (now freed) ⌝ }
-    ensures { λ r. ⌜ Noted (take held (voicesIn (now (voices .entry)))) w (now (freed .entry)) count (now (freed .exit)) r ⌝ }
+    ensures { λ r. ⌜ Noted (take held (voicesIn (now (voices .entry)))) w (now (freed .entry)) count (now (freed .exit)) (r .count) (r .outcome) ⌝ }
 {
     if is_listed(&freed[..count], w.0) {
-        return count;
+        return EventResult {
+            count,
+            outcome: Outcome::NoVoice,
+        };
     }
     let v = find_voice(voices, held, w);
     if v.found {
         freed[count] = w.0;
-        return count + 1;
+        return EventResult {
+            count: count + 1,
+            outcome: Outcome::Applied,
+        };
     }
-    count
+    EventResult {
+        count,
+        outcome: Outcome::NoVoice,
+    }
 }
 
-// One event, after which the first voices of `freed` are noted: how many. A free notes its voice, any other is a value or a glide.
+// One event, after which the first voices of `freed` are noted. A free notes its voice, any other is a value or a glide.
 pub(crate) fn apply_event(
     s: State,
     nodes: &mut NodeTable,
@@ -58,9 +74,9 @@ pub(crate) fn apply_event(
     e: Event,
     freed: &mut [u64],
     count: usize,
-) -> usize
+) -> EventResult
     requires { ⌜ count < length (now freed) ⌝ }
-    ensures { λ r. ⌜ Happens (take (s .voices) (voicesIn (now (voices .entry)))) e (take (s .nodes) (nodesIn (now (nodes .entry)))) (now (freed .entry)) count (take (s .nodes) (nodesIn (now (nodes .exit)))) (now (freed .exit)) r ⌝ }
+    ensures { λ r. ⌜ Happens (take (s .voices) (voicesIn (now (voices .entry)))) e (take (s .nodes) (nodesIn (now (nodes .entry)))) (now (freed .entry)) count (take (s .nodes) (nodesIn (now (nodes .exit)))) (now (freed .exit)) (r .count) (r .outcome) ⌝ }
 {
     let w = e.voice;
     let action = e.action;
@@ -70,6 +86,6 @@ pub(crate) fn apply_event(
     let p = param_order(e);
     let name = p.name;
     let order = p.order;
-    order_voice(s, nodes, voices, &freed[..count], w, name, order);
-    count
+    let outcome = order_voice(s, nodes, voices, &freed[..count], w, name, order);
+    EventResult { count, outcome }
 }

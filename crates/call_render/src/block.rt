@@ -1,5 +1,4 @@
 // After the events: a prepare, if there was a free, and the block itself.
-use crate::render::Rendering;
 use graph::state::Sink;
 use graph_rows::edge_row::EdgeTable;
 use graph_rows::node_row::NodeTable;
@@ -21,6 +20,12 @@ ghost use Rattle.voice_rows.specs.Rows.{voicesIn};
 ghost use Rattle.memory.specs.View.{Memory, modelOf};
 ghost use Rattle.memory.specs.Lent.{lentOrder, lentVoiceTable};
 ghost use Rattle.call_render.specs.Blocks.{heardIn, readied, blockTo};
+
+// The state that a part of the render left, and what the render answers.
+pub(crate) struct Block {
+    pub state: State,
+    pub answer: Rendered,
+}
 
 fn has_sink(k: Sink) -> bool
     ensures { λ r. ⌜ r ≡ isSome (sinkOf k) ⌝ }
@@ -52,24 +57,24 @@ pub(crate) fn readied(
     edges: &EdgeTable,
     order: &mut OrderTable,
     freed: bool,
-) -> Rendering
+) -> Block
     ensures { λ r. ⌜ ((m : Memory) → heardIn r (lentOrder (r .state) (now (nodes .entry)) (now (edges .entry)) (now (order .exit)) m) ≡ readied freed (modelOf (lentOrder s (now (nodes .entry)) (now (edges .entry)) (now (order .entry)) m))) ⌝ }
 {
     if !freed {
         let answer = heard_of(s);
-        return Rendering { state: s, answer };
+        return Block { state: s, answer };
     }
     let p = order_table::prepare(nodes, s.nodes, edges, s.edges, order);
     let ready = p.answer;
     match ready {
-        Readiness::Refused(r) => Rendering {
+        Readiness::Refused(r) => Block {
             state: s,
             answer: Rendered::Unprepared(r),
         },
         Readiness::Ready => {
             let state = with_order(s, p.count);
             let answer = heard_of(state);
-            Rendering { state, answer }
+            Block { state, answer }
         }
     }
 }
@@ -95,11 +100,11 @@ fn move_if(voices: &mut [u32], held: usize, sounding: bool, block: u64)
 }
 
 // The block itself: the fades move if it sounds, and the clock is then at `end`.
-pub(crate) fn block_to(s: State, voices: &mut VoiceTable, answer: Rendered, end: u64) -> Rendering
+pub(crate) fn block_to(s: State, voices: &mut VoiceTable, answer: Rendered, end: u64) -> Block
     ensures { λ r. ⌜ ((m : Memory) → heardIn r (lentVoiceTable (r .state) (now (voices .exit)) m) ≡ blockTo end answer (modelOf (lentVoiceTable s (now (voices .entry)) m))) ⌝ }
 {
     let config = s.config;
     move_if(voices, s.voices, is_sounding(answer), config.block as u64);
     let state = with_clock(s, end);
-    Rendering { state, answer }
+    Block { state, answer }
 }

@@ -22,7 +22,7 @@ same-length c = search needs
 returns : tie.Need-returns
 returns c =
     let s = c .before .before .before .before .before .before .before .before .before .args in
-    happens-free (take (s .s .voices) (voicesIn (s .voices .now))) (s .e) (take (s .s .nodes) (nodesIn (s .nodes .now))) (s .freed .now) (s .count) (sym (c .before .before .before .before .before .before .is-free .ensures) ∙ c .before .before .before .before .before .if1 .taken) (c .before .before .note .last .1 .1 .0) (c .before .before .note .result) (c .before .before .note .ensures)
+    happens-free (take (s .s .voices) (voicesIn (s .voices .now))) (s .e) (take (s .s .nodes) (nodesIn (s .nodes .now))) (s .freed .now) (s .count) (sym (c .before .before .before .before .before .before .is-free .ensures) ∙ c .before .before .before .before .before .if1 .taken) (c .before .before .note .last .1 .1 .0) (c .before .before .note .result .count) (c .before .before .note .result .outcome) (c .before .before .note .ensures)
 
 param-order-requires : tie.Need-param-order-requires
 param-order-requires c κs = search needs

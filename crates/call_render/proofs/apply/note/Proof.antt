@@ -38,8 +38,8 @@ mul-freed c = search needs
 slice-write-freed : tie.Need-slice-write-freed
 slice-write-freed c = search needs
 
-add-result : tie.Need-add-result
-add-result c = search needs
+add-t12 : tie.Need-add-t12
+add-t12 c = search needs
 
 same-length-2 : tie.Need-same-length-2
 same-length-2 c = search needs
@@ -69,7 +69,7 @@ note-spec =
     find-voice-requires
     mul-freed
     slice-write-freed
-    add-result
+    add-t12
     same-length-2
     returns-2
     same-length-3

@@ -25,20 +25,24 @@ array-share-prefix-freed c = search needs
 
 slice-aggregate-forget-voices : tie.Need-slice-aggregate-forget-voices
 slice-aggregate-forget-voices c =
-    let h = c .before .before .before .before .before .before .before .before .apply-due in
-    let fits : h .result ≤ length (h .last .1 .1 .1 .1 .1 .0) = omega (arith, h .ensures .fits, h .ensures .long) in
-    sym (length-take-le (h .result) (h .last .1 .1 .1 .1 .1 .0) fits)
+    let h = c .before .before .before .before .before .before .before .before .before .before .apply-due in
+    let fits : h .result .freed ≤ length (h .last .1 .1 .1 .1 .1 .0) = omega (arith, h .ensures .fits, h .ensures .long) in
+    sym (length-take-le (h .result .freed) (h .last .1 .1 .1 .1 .1 .0) fits)
 
 forget-voices-requires : tie.Need-forget-voices-requires
 forget-voices-requires c κs = search needs
 
+same-length : tie.Need-same-length
+same-length c = search needs
+
 returns : tie.Need-returns
 returns c =
-    let s = c .before .before .before .before .before .before .before .before .before .before .before .before .before .before .before .args in
-    let h = c .before .before .before .before .before .before .before .before .before .apply-due in
+    let s = c .before .before .before .before .before .before .before .before .before .before .before .before .before .before .before .before .before .before .before .args in
+    let h = c .before .before .before .before .before .before .before .before .before .before .before .apply-due in
     let e = c .before .before .before .before .before .before .remove-due in
+    let u = c .before .before .before .before .before .with-events in
     let f = c .forget-voices in
-    all-happen (s .s) (s .nodes .now) (s .edges .now) (s .voices .now) (s .events .now) (s .deadline) (h .last .1 .0) (h .last .1 .1 .1 .1 .1 .0) (h .result) (h .ensures) (e .last .0) (e .result) (e .ensures) (c .before .before .before .before .before .with-events .result) (c .before .before .before .before .before .with-events .ensures) (f .result) (f .last .1 .0) (f .last .1 .1 .0) (f .last .1 .1 .1 .0) (f .ensures)
+    all-happen (s .s) (s .nodes .now) (s .edges .now) (s .voices .now) (s .events .now) (s .deadline) (h .last .1 .0) (h .last .1 .1 .1 .1 .1 .0) (s .out .now) (h .last .1 .1 .1 .1 .1 .1 .0) (h .result .freed) (h .result .taken) (h .ensures) (e .last .0) (e .result) (e .ensures) (u .result) (u .ensures) (f .result) (f .last .1 .0) (f .last .1 .1 .0) (f .last .1 .1 .1 .0) (f .ensures)
 
 pub apply-events-spec : {M : Type 1} → statement M
 apply-events-spec =
@@ -51,4 +55,5 @@ apply-events-spec =
     array-share-prefix-freed
     slice-aggregate-forget-voices
     forget-voices-requires
+    same-length
     returns)
