@@ -53,7 +53,6 @@ use Rattle.ledger.specs.Render.{applyEvent, applyEvents, oneMore, counte
 use Rattle.ledger.specs.Call.{Step, unless, step, run}
 use Rattle.ledger.specs.Claim.{isManaged}
 use Rattle.ledger.proofs.Allowed.{when-none, spawn-allowed}
-
 pub use Rattle.ledger.specs.Ledger.{atShared, atGraph}
 
 -- ---- the port search: what holds of it while n tries are left, and what of its outcome

@@ -21,7 +21,6 @@ use Rattle.store.specs.declared.answer.Outcome.the-variants.{Applied, NoVoice, 
 use Rattle.store.specs.declared.voices.Voice.{Voice}
 use Rattle.model.specs.SharedState.{SharedState, withGraph}
 use Rattle.model.specs.Voice.{isVoice, id}
-
 pub use Rattle.node.specs.Node.{withLast}
 
 -- the node's record is replaced; the graph stays prepared
