@@ -53,35 +53,35 @@ pub no-fade : (r : FoundRow) (vs : List Voice) (o : Option Voice) → foundIn r 
 no-fade r vs o is f = sym is ∙ ap (λ b. cond b (some (getD vs (r .row) (voiceOf []))) none) f
 
 -- ---- one try
-module _ (bus : NodeId) (m : Model) (r : FoundRow) (vs : List Voice) (is : foundIn r vs ≡ nextOut (m .shared) bus (m .voices)) where
-  pub tries-one : r .found ≡ true → (n : Model) → n ≡ cutOff (getD vs (r .row) (voiceOf [])) (getD vs (r .row) (voiceOf []) .state) m → Tries bus m n true
+module _ (bus : NodeId) (rank : ℕ) (m : Model) (r : FoundRow) (vs : List Voice) (is : foundIn r vs ≡ nextOut (m .shared) bus rank (m .voices)) where
+  pub tries-one : r .found ≡ true → (n : Model) → n ≡ cutOff (getD vs (r .row) (voiceOf [])) (getD vs (r .row) (voiceOf []) .state) m → Tries bus rank m n true
   tries-one f n e =
-      let o : nextOut (m .shared) bus (m .voices) ≡ some (getD vs (r .row) (voiceOf [])) = sym is ∙ ap (λ b. cond b (some (getD vs (r .row) (voiceOf []))) none) f in
+      let o : nextOut (m .shared) bus rank (m .voices) ≡ some (getD vs (r .row) (voiceOf [])) = sym is ∙ ap (λ b. cond b (some (getD vs (r .row) (voiceOf []))) none) f in
       record { some = ap isSome (sym o); is = e ∙ ap (λ x. goOn x m (λ j. j)) (sym o) }
 
-  pub tries-none : r .found ≡ false → Tries bus m m false
+  pub tries-none : r .found ≡ false → Tries bus rank m m false
   tries-none f =
-      let o : nextOut (m .shared) bus (m .voices) ≡ none = no-fade r vs _ is f in
+      let o : nextOut (m .shared) bus rank (m .voices) ≡ none = no-fade r vs _ is f in
       record { some = ap isSome (sym o); is = ap (λ x. goOn x m (λ j. j)) (sym o) }
 
 -- ---- one after the other: what is left to do on what is there is what there was to do
-pub reclaim-port : (k : ℕ) (bus : NodeId) (n : Model) (p : Port) → p ≡ portOf (portFree bus n) → isPort p ≡ true → reclaimed k bus n ≡ n
-reclaim-port zero bus n p e t = refl
-reclaim-port (suc k) bus n p e t = go (portFree bus n) (ap isPort (sym e) ∙ t)
+pub reclaim-port : (k : ℕ) (bus : NodeId) (rank : ℕ) (n : Model) (p : Port) → p ≡ portOf (portFree bus n) → isPort p ≡ true → reclaimed k bus rank n ≡ n
+reclaim-port zero bus rank n p e t = refl
+reclaim-port (suc k) bus rank n p e t = go (portFree bus n) (ap isPort (sym e) ∙ t)
   where
-    go : (o : Option ℕ) → isPort (portOf o) ≡ true → goOn (ifNone o (nextOut (n .shared) bus (n .voices))) n (λ j. reclaimed k bus j) ≡ n
+    go : (o : Option ℕ) → isPort (portOf o) ≡ true → goOn (ifNone o (nextOut (n .shared) bus rank (n .voices))) n (λ j. reclaimed k bus rank j) ≡ n
     go none h = let z : _≡_ {A = ℕ} 0 1 = cc in absurd (omega arith)
     go (some q) h = refl
 
 -- nobody was there to be removed
-pub same-left : (bus : NodeId) (n n' : Model) → Tries bus n n' false → n' ≡ n
-same-left bus n n' t = t .is ∙ go (nextOut (n .shared) bus (n .voices)) (t .some)
+pub same-left : (bus : NodeId) (rank : ℕ) (n n' : Model) → Tries bus rank n n' false → n' ≡ n
+same-left bus rank n n' t = t .is ∙ go (nextOut (n .shared) bus rank (n .voices)) (t .some)
   where
     go : (o : Option Voice) → false ≡ isSome o → goOn o n (λ j. j) ≡ n
     go none h = refl
     go (some v) h = let z : _≡_ {A = ℕ} 0 1 = cc in absurd (omega arith)
 
-module _ (bus : NodeId) (n : Model) (p : Port) (is-p : p ≡ portOf (portFree bus n)) (full : isPort p ≡ false) where
+module _ (bus : NodeId) (rank : ℕ) (n : Model) (p : Port) (is-p : p ≡ portOf (portFree bus n)) (full : isPort p ≡ false) where
   no-port : portFree bus n ≡ none
   no-port = go (portFree bus n) (ap isPort (sym is-p) ∙ full)
     where
@@ -89,24 +89,24 @@ module _ (bus : NodeId) (n : Model) (p : Port) (is-p : p ≡ portOf (portFree bu
       go none h = refl
       go (some q) h = let z : _≡_ {A = ℕ} 0 1 = cc in absurd (omega arith)
 
-  leaves : leaving bus n ≡ nextOut (n .shared) bus (n .voices)
-  leaves = ap (λ o. ifNone o (nextOut (n .shared) bus (n .voices))) no-port
+  leaves : leaving bus rank n ≡ nextOut (n .shared) bus rank (n .voices)
+  leaves = ap (λ o. ifNone o (nextOut (n .shared) bus rank (n .voices))) no-port
 
-  pub reclaim-over : (k : ℕ) (n' : Model) → Tries bus n n' false → reclaimed k bus n ≡ n'
-  reclaim-over zero n' t = sym (same-left bus n n' t)
-  reclaim-over (suc k) n' t = ap (λ o. goOn o n (λ j. reclaimed k bus j)) leaves ∙ go (nextOut (n .shared) bus (n .voices)) (t .some) (t .is)
+  pub reclaim-over : (k : ℕ) (n' : Model) → Tries bus rank n n' false → reclaimed k bus rank n ≡ n'
+  reclaim-over zero n' t = sym (same-left bus rank n n' t)
+  reclaim-over (suc k) n' t = ap (λ o. goOn o n (λ j. reclaimed k bus rank j)) leaves ∙ go (nextOut (n .shared) bus rank (n .voices)) (t .some) (t .is)
     where
-      go : (o : Option Voice) → false ≡ isSome o → n' ≡ goOn o n (λ j. j) → goOn o n (λ j. reclaimed k bus j) ≡ n'
+      go : (o : Option Voice) → false ≡ isSome o → n' ≡ goOn o n (λ j. j) → goOn o n (λ j. reclaimed k bus rank j) ≡ n'
       go none h e = sym e
       go (some v) h e = let z : _≡_ {A = ℕ} 0 1 = cc in absurd (omega arith)
 
-  pub reclaim-one : (k : ℕ) (n' : Model) → 0 < k → Tries bus n n' true → reclaimed k bus n ≡ reclaimed (k - 1) bus n'
+  pub reclaim-one : (k : ℕ) (n' : Model) → 0 < k → Tries bus rank n n' true → reclaimed k bus rank n ≡ reclaimed (k - 1) bus rank n'
   reclaim-one zero n' h t = absurd (omega arith)
-  reclaim-one (suc k) n' h t = ap (λ o. goOn o n (λ j. reclaimed k bus j)) leaves ∙ go (nextOut (n .shared) bus (n .voices)) (t .some) (t .is) ∙ ap (λ i. reclaimed i bus n') less
+  reclaim-one (suc k) n' h t = ap (λ o. goOn o n (λ j. reclaimed k bus rank j)) leaves ∙ go (nextOut (n .shared) bus rank (n .voices)) (t .some) (t .is) ∙ ap (λ i. reclaimed i bus rank n') less
     where
       less : k ≡ suc k - 1
       less = omega arith
 
-      go : (o : Option Voice) → true ≡ isSome o → n' ≡ goOn o n (λ j. j) → goOn o n (λ j. reclaimed k bus j) ≡ reclaimed k bus n'
+      go : (o : Option Voice) → true ≡ isSome o → n' ≡ goOn o n (λ j. j) → goOn o n (λ j. reclaimed k bus rank j) ≡ reclaimed k bus rank n'
       go none h e = let z : _≡_ {A = ℕ} 0 1 = cc in absurd (omega arith)
-      go (some v) h e = ap (λ j. reclaimed k bus j) (sym e)
+      go (some v) h e = ap (λ j. reclaimed k bus rank j) (sym e)

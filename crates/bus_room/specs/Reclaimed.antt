@@ -1,6 +1,6 @@
 -- "If none: reclaim the earliest-started fade of that bus (ties by voice order) and mark its record, if still held, cut, else free
--- the policy's victim among tracked voices of that bus with a cut record; try again." Here without the new voice, which takes its
--- port in what is left.
+-- the policy's victim among tracked voices of that bus with a cut record; try again." Here without the new voice, of which the rank alone
+-- counts, and which takes its port in what is left.
 use Prim.Native.Nat.{ℕ, zero, suc}
 use mathlib.Core.List.{List}
 use mathlib.Core.Bool.{Bool, true, false}
@@ -24,17 +24,17 @@ abbrev pub ifNone : Option ℕ → Option Voice → Option Voice
 ifNone none o = o
 ifNone (some p) o = none
 
-abbrev pub leaving : NodeId → Model → Option Voice
-leaving bus m = ifNone (portFree bus m) (nextOut (m .shared) bus (m .voices))
+abbrev pub leaving : NodeId → ℕ → Model → Option Voice
+leaving bus rank m = ifNone (portFree bus m) (nextOut (m .shared) bus rank (m .voices))
 
 abbrev pub goOn : Option Voice → Model → (Model → Model) → Model
 goOn none m again = m
 goOn (some v) m again = again (cutOff v (v .state) m)
 
 -- what is left after at most so many removals
-abbrev pub reclaimed : ℕ → NodeId → Model → Model
-reclaimed zero bus m = m
-reclaimed (suc k) bus m = goOn (leaving bus m) m (λ j. reclaimed k bus j)
+abbrev pub reclaimed : ℕ → NodeId → ℕ → Model → Model
+reclaimed zero bus rank m = m
+reclaimed (suc k) bus rank m = goOn (leaving bus rank m) m (λ j. reclaimed k bus rank j)
 
 -- other steal records
 abbrev pub restolen : StealLog → Model → Model
@@ -46,5 +46,5 @@ isPort (Port.At p) = true
 isPort Port.Nothing = false
 
 -- `nextOut` over what it reads
-abbrev pub nextAt : List Node → ℕ → StealPolicy → NodeId → List Voice → Option Voice
-nextAt ns clock policy bus vs = elseVictim (earliest (fadesOn bus) vs) (voiceOf (victim policy (candidatesAt ns clock (trackedOn bus) vs)) vs)
+abbrev pub nextAt : List Node → ℕ → StealPolicy → NodeId → ℕ → List Voice → Option Voice
+nextAt ns clock policy bus rank vs = elseVictim (earliest (fadesOn bus) vs) (voiceOf (victim policy rank (candidatesAt ns clock (trackedOn bus) vs)) vs)

@@ -11,11 +11,11 @@ use Rattle.model.specs.Model.{Model, portFree}
 use Rattle.bus_room.specs.Reclaimed.{goOn, reclaimed}
 
 -- the next voice, if there is one, is removed
-pub record Tries (bus : NodeId) (m n : Model) (removed : Bool) : Type 0 where
-  pub some : removed ≡ isSome (nextOut (m .shared) bus (m .voices))
-  pub is : n ≡ goOn (nextOut (m .shared) bus (m .voices)) m (λ j. j)
+pub record Tries (bus : NodeId) (rank : ℕ) (m n : Model) (removed : Bool) : Type 0 where
+  pub some : removed ≡ isSome (nextOut (m .shared) bus rank (m .voices))
+  pub is : n ≡ goOn (nextOut (m .shared) bus rank (m .voices)) m (λ j. j)
 
 -- at most so many are removed, and this is the lowest free port of what is left
-pub record Makes (fuel : ℕ) (bus : NodeId) (m n : Model) (p : Port) : Type 0 where
-  pub is : n ≡ reclaimed fuel bus m
+pub record Makes (fuel : ℕ) (bus : NodeId) (rank : ℕ) (m n : Model) (p : Port) : Type 0 where
+  pub is : n ≡ reclaimed fuel bus rank m
   pub port : p ≡ portOf (portFree bus n)

@@ -34,9 +34,9 @@ pub fn bus_port(s: State, nodes: &NodeTable, edges: &EdgeTable, bus: NodeId) -> 
     free_port(edges, s.edges, bus, seen.ports)
 }
 
-// The victim of the policy among the tracked voices of `bus`, or none.
-fn bus_victim(s: State, nodes: &NodeTable, voices: &VoiceTable, bus: NodeId) -> Victim
-    ensures { λ r. ⌜ r ≡ victim (s .config .policy) (candidatesAt (take (s .nodes) (nodesIn (now (nodes .entry)))) (s .clock) (trackedOn bus) (take (s .voices) (voicesIn (now (voices .entry))))) ⌝ }
+// The tracked voice of `bus` that gives way to a new voice of rank `rank`, or none.
+fn bus_victim(s: State, nodes: &NodeTable, voices: &VoiceTable, bus: NodeId, rank: u32) -> Victim
+    ensures { λ r. ⌜ r ≡ victim (s .config .policy) rank (candidatesAt (take (s .nodes) (nodesIn (now (nodes .entry)))) (s .clock) (trackedOn bus) (take (s .voices) (voicesIn (now (voices .entry))))) ⌝ }
 {
     let config = s.config;
     let policy = config.policy;
@@ -49,18 +49,25 @@ fn bus_victim(s: State, nodes: &NodeTable, voices: &VoiceTable, bus: NodeId) -> 
         BudgetScope::PerGroup,
         bus,
     );
-    pick_victim(tracked, policy)
+    pick_victim(tracked, policy, rank)
 }
 
-// The row of the voice that is removed for a port of `bus`: its earliest fade, else the policy's victim among its tracked voices.
-pub fn next_out(s: State, nodes: &NodeTable, voices: &VoiceTable, bus: NodeId) -> FoundRow
-    ensures { λ r. ⌜ FoundAt r (s .voices) (voicesIn (now (voices .entry))) (nextAt (take (s .nodes) (nodesIn (now (nodes .entry)))) (s .clock) (s .config .policy) bus (take (s .voices) (voicesIn (now (voices .entry))))) ⌝ }
+// The row of the voice that is removed for a port of `bus`: its earliest fade, whatever its rank, else the tracked voice of the bus that gives
+// way to a new voice of rank `rank`.
+pub fn next_out(
+    s: State,
+    nodes: &NodeTable,
+    voices: &VoiceTable,
+    bus: NodeId,
+    rank: u32,
+) -> FoundRow
+    ensures { λ r. ⌜ FoundAt r (s .voices) (voicesIn (now (voices .entry))) (nextAt (take (s .nodes) (nodesIn (now (nodes .entry)))) (s .clock) (s .config .policy) bus rank (take (s .voices) (voicesIn (now (voices .entry))))) ⌝ }
 {
     let fade = earliest_fade(voices, s.voices, bus);
     if fade.found {
         return fade;
     }
-    let victim = bus_victim(s, nodes, voices, bus);
+    let victim = bus_victim(s, nodes, voices, bus, rank);
     match victim {
         Victim::Nobody => fade,
         Victim::Goes { place: _, voice } => find_voice(voices, s.voices, voice),

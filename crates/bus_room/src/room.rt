@@ -37,7 +37,7 @@ fn is_port(p: Port) -> bool
     }
 }
 
-// One voice of `bus` is removed, if there is one that may be.
+// One voice of `bus` is removed for a new voice of rank `rank`, if there is one that may be.
 fn remove_next(
     s: State,
     nodes: &mut NodeTable,
@@ -45,10 +45,11 @@ fn remove_next(
     voices: &mut VoiceTable,
     steals: &mut StealTable,
     bus: NodeId,
+    rank: u32,
 ) -> Tried
-    ensures { λ r. ⌜ ((m : Memory) → Tries bus (modelOf (lentSpawn s (now (nodes .entry)) (now (edges .entry)) (now (voices .entry)) (now (steals .entry)) m)) (modelOf (lentSpawn (r .state) (now (nodes .exit)) (now (edges .exit)) (now (voices .exit)) (now (steals .exit)) m)) (r .removed)) ⌝ }
+    ensures { λ r. ⌜ ((m : Memory) → Tries bus rank (modelOf (lentSpawn s (now (nodes .entry)) (now (edges .entry)) (now (voices .entry)) (now (steals .entry)) m)) (modelOf (lentSpawn (r .state) (now (nodes .exit)) (now (edges .exit)) (now (voices .exit)) (now (steals .exit)) m)) (r .removed)) ⌝ }
 {
-    let next = next_out(s, nodes, voices, bus);
+    let next = next_out(s, nodes, voices, bus, rank);
     if next.found {
         let row = next.row;
         let how = state_at(voices, row);
@@ -73,9 +74,10 @@ pub fn make_room(
     voices: &mut VoiceTable,
     steals: &mut StealTable,
     bus: NodeId,
+    rank: u32,
     fuel: usize,
 ) -> Room
-    ensures { λ r. ⌜ ((m : Memory) → Makes fuel bus (modelOf (lentSpawn s (now (nodes .entry)) (now (edges .entry)) (now (voices .entry)) (now (steals .entry)) m)) (modelOf (lentSpawn (r .state) (now (nodes .exit)) (now (edges .exit)) (now (voices .exit)) (now (steals .exit)) m)) (r .port)) ⌝ }
+    ensures { λ r. ⌜ ((m : Memory) → Makes fuel bus rank (modelOf (lentSpawn s (now (nodes .entry)) (now (edges .entry)) (now (voices .entry)) (now (steals .entry)) m)) (modelOf (lentSpawn (r .state) (now (nodes .exit)) (now (edges .exit)) (now (voices .exit)) (now (steals .exit)) m)) (r .port)) ⌝ }
 {
     let mut state = s;
     let mut port = bus_port(s, nodes, edges, bus);
@@ -84,7 +86,7 @@ pub fn make_room(
         if is_port(port) {
             left = 0;
         } else {
-            let one = remove_next(state, nodes, edges, voices, steals, bus);
+            let one = remove_next(state, nodes, edges, voices, steals, bus, rank);
             state = one.state;
             if one.removed {
                 port = bus_port(state, nodes, edges, bus);

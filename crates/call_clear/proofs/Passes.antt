@@ -24,15 +24,15 @@ abbrev pub idOf : Voice → ℕ
 idOf v = v .id .0
 
 -- ---- gathering the ids
-pub room : (c : List ℕ) → length c ≡ 9088 → length (voicesIn c) ≡ 64
-room c h = rows-long 142 voiceOf c ∙ ap (λ k. k / 142) h
+pub room : (c : List ℕ) → length c ≡ 9152 → length (voicesIn c) ≡ 64
+room c h = rows-long 143 voiceOf c ∙ ap (λ k. k / 143) h
 
-pub gathered : (q : Voice → Bool) (c : List ℕ) (count i k : ℕ) (ids : List ℕ) → length c ≡ 9088 → i ≡ min count 64 → Gathering q idOf 64 (voicesIn c) ids i k
+pub gathered : (q : Voice → Bool) (c : List ℕ) (count i k : ℕ) (ids : List ℕ) → length c ≡ 9152 → i ≡ min count 64 → Gathering q idOf 64 (voicesIn c) ids i k
     → Gathered q (take count (voicesIn c)) (record { ids = ids; count = k })
 gathered q c count i k ids h end g =
-    let all : i ≡ min count (length c / 142) = end ∙ ap (λ x. min count (x / 142)) (sym h) in
+    let all : i ≡ min count (length c / 143) = end ∙ ap (λ x. min count (x / 143)) (sym h) in
     record {
-      are = g .front ∙ ap (λ l. map idOf (filter q l)) (take-count 142 voiceOf c count i all);
+      are = g .front ∙ ap (λ l. map idOf (filter q l)) (take-count 143 voiceOf c count i all);
       fits = omega (arith, g .low);
       long = g .long;
     }

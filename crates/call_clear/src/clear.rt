@@ -63,7 +63,7 @@ fn leaving_ids(
     voices: &[u32],
     count: usize,
 ) -> Leaving
-    requires { ⌜ length (now voices) ≡ 9088 ⌝ }
+    requires { ⌜ length (now voices) ≡ 9152 ⌝ }
     ensures { λ r. ⌜ Gathered (leaves silent len (take n (nodesIn (now (nodes .entry))))) (take count (voicesIn (now (voices .entry)))) r ⌝ }
 {
     let room = at_most(count, 64);

@@ -114,10 +114,10 @@ fn put_lines(
     count: usize,
     out: &mut [u8],
 ) -> usize
-    requires { ⌜ (length (now t) ≡ 9088) × (4480 ≤ length (now out)) ⌝ }
+    requires { ⌜ (length (now t) ≡ 9152) × (4480 ≤ length (now out)) ⌝ }
     ensures { λ r. ⌜ Put 4480 (paper.lines clock (paper.portNow (take wired (edgesIn (now (edges .entry))))) (take count (voicesIn (now (t .entry))))) (now (out .entry)) (now (out .exit)) r ⌝ }
 {
-    let n = at_most(count, t.len() / 142);
+    let n = at_most(count, t.len() / 143);
     let mut at: usize = 0;
     let mut i: usize = 0;
     while i < n {
@@ -136,7 +136,7 @@ pub(crate) fn put_page(
     count: usize,
     out: &mut [u8],
 ) -> usize
-    requires { ⌜ (length (now t) ≡ 9088) × (4501 ≤ length (now out)) ⌝ }
+    requires { ⌜ (length (now t) ≡ 9152) × (4501 ≤ length (now out)) ⌝ }
     ensures { λ r. ⌜ Put 4501 (paper.page clock (paper.portNow (take wired (edgesIn (now (edges .entry))))) (take count (voicesIn (now (t .entry))))) (now (out .entry)) (now (out .exit)) r ⌝ }
 {
     let k = copy(b"voice age port state\n", out);

@@ -22,13 +22,13 @@ use Rattle.voice_rows.proofs.Reading.{voice-row}
 
 module _ (c : List ℕ) (i : ℕ) (name : Name) (n : ℕ) where
   abbrev row : List ℕ
-  row = rowAt 142 i c
+  row = rowAt 143 i c
 
   abbrev params : List Param
   params = paramsIn row
 
   abbrev param : ℕ → Param
-  param k = paramAt row (22 + k * 6)
+  param k = paramAt row (23 + k * 6)
 
   -- what is found from the parameter k on is what is found at all
   abbrev pub Naming : ℕ → Type 0

@@ -18,25 +18,25 @@ ghost use Rattle.voice_rows.specs.Rows.{paramAt, voiceOf, voicesIn};
 // Whether the parameter `k` of the voice in row `i` has that name.
 fn is_called(t: &[u32], i: usize, k: usize, name: Name) -> bool
     requires { ⌜ k < 8 ⌝ }
-    ensures { λ r. ⌜ r ≡ called name (paramAt (rowAt 142 i (now (t .entry))) (22 + k * 6)) ⌝ }
+    ensures { λ r. ⌜ r ≡ called name (paramAt (rowAt 143 i (now (t .entry))) (23 + k * 6)) ⌝ }
 {
-    let theirs = name_at(t, 142, i, (22 + k * 6) as u16);
+    let theirs = name_at(t, 143, i, (23 + k * 6) as u16);
     same_name(theirs, name)
 }
 
 // The place of its node in the definition.
 fn node_of(t: &[u32], i: usize, k: usize) -> u8
     requires { ⌜ k < 8 ⌝ }
-    ensures { λ r. ⌜ r ≡ paramAt (rowAt 142 i (now (t .entry))) (22 + k * 6) .node ⌝ }
+    ensures { λ r. ⌜ r ≡ paramAt (rowAt 143 i (now (t .entry))) (23 + k * 6) .node ⌝ }
 {
-    (word_at(t, 142, i, 22 + k * 6 + 5) % 256) as u8
+    (word_at(t, 143, i, 23 + k * 6 + 5) % 256) as u8
 }
 
 // The node of the first parameter of that name of the voice in row `i`, or none.
 pub(crate) fn param_named(t: &[u32], i: usize, name: Name) -> ParamNode
     ensures { λ r. ⌜ r ≡ asParamNode (paramNode (paramRows (getD (voicesIn (now (t .entry))) i (voiceOf []) .params)) name) ⌝ }
 {
-    let n = at_most(long_at(t, 142, i, 19) as usize, 8);
+    let n = at_most(long_at(t, 143, i, 19) as usize, 8);
     let mut k: usize = 0;
     while k < n {
         if is_called(t, i, k, name) {

@@ -27,7 +27,7 @@ pub struct FoundEdge {
 fn voices_in(t: &[u32], count: usize) -> usize
     ensures { λ r. ⌜ Holds (voicesIn (now (t .entry))) r (take count (voicesIn (now (t .entry)))) ⌝ }
 {
-    at_most(count, t.len() / 142)
+    at_most(count, t.len() / 143)
 }
 
 // The voices in order of admission: that many rows of the table are they.

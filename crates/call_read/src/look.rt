@@ -75,7 +75,7 @@ pub fn voice(s: State, voices: &VoiceTable, w: VoiceId) -> FoundVoice
 fn row_at(t: &[u32], count: usize, i: usize) -> FoundVoice
     ensures { λ r. ⌜ voiceFound r ≡ getElem? (take count (voicesIn (now (t .entry)))) i ⌝ }
 {
-    let n = at_most(count, t.len() / 142);
+    let n = at_most(count, t.len() / 143);
     let voice = voice_rows::row::voice_at(t, i);
     FoundVoice {
         found: i < n,

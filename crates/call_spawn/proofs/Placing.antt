@@ -22,24 +22,24 @@ module _ (x : Spawn) (s : VoiceState) (m : Model) where
   -- a port: the new voice stands there
   place-port : (fuel p : ℕ) → portFree (x .bus) m ≡ some p → place fuel x s m ≡ instantiate x s p m
   place-port zero p e = ap (λ o. instantiateOr o none x s m (refused NoPort)) e
-  place-port (suc k) p e = ap (λ o. instantiateOr o (nextOut (m .shared) (x .bus) (m .voices)) x s m (λ j. place k x s j)) e
+  place-port (suc k) p e = ap (λ o. instantiateOr o (nextOut (m .shared) (x .bus) (x .rank) (m .voices)) x s m (λ j. place k x s j)) e
 
   -- no port, and no try left
   place-over : portFree (x .bus) m ≡ none → place 0 x s m ≡ refused NoPort m
   place-over e = ap (λ o. instantiateOr o none x s m (refused NoPort)) e
 
 -- landing after what was reclaimed
-place-reclaimed : (x : Spawn) (s : VoiceState) (k : ℕ) (m : Model) → place k x s m ≡ place 0 x s (reclaimed k (x .bus) m)
+place-reclaimed : (x : Spawn) (s : VoiceState) (k : ℕ) (m : Model) → place k x s m ≡ place 0 x s (reclaimed k (x .bus) (x .rank) m)
 place-reclaimed x s zero m = refl
-place-reclaimed x s (suc k) m = go (portFree (x .bus) m) refl (nextOut (m .shared) (x .bus) (m .voices)) (place-reclaimed x s k)
+place-reclaimed x s (suc k) m = go (portFree (x .bus) m) refl (nextOut (m .shared) (x .bus) (x .rank) (m .voices)) (place-reclaimed x s k)
   where
-    go : (o : Option ℕ) → portFree (x .bus) m ≡ o → (u : Option Voice) → ((j : Model) → place k x s j ≡ place 0 x s (reclaimed k (x .bus) j))
-        → instantiateOr o u x s m (λ j. place k x s j) ≡ place 0 x s (goOn (ifNone o u) m (λ j. reclaimed k (x .bus) j))
+    go : (o : Option ℕ) → portFree (x .bus) m ≡ o → (u : Option Voice) → ((j : Model) → place k x s j ≡ place 0 x s (reclaimed k (x .bus) (x .rank) j))
+        → instantiateOr o u x s m (λ j. place k x s j) ≡ place 0 x s (goOn (ifNone o u) m (λ j. reclaimed k (x .bus) (x .rank) j))
     go (some p) e u ih = sym (place-port x s m 0 p e)
     go none e none ih = sym (place-over x s m e)
     go none e (some v) ih = ih (cutOff v (v .state) m)
 
-module _ (x : Spawn) (s : VoiceState) (fuel : ℕ) (m n : Model) (p : Port) (made : Makes fuel (x .bus) m n p) where
+module _ (x : Spawn) (s : VoiceState) (fuel : ℕ) (m n : Model) (p : Port) (made : Makes fuel (x .bus) (x .rank) m n p) where
   pub places : (k : ℕ) → p ≡ Port.At k → instantiate x s k n ≡ place fuel x s m
   places k e = sym (place-reclaimed x s fuel m ∙ ap (λ j. place 0 x s j) (sym (made .is)) ∙ place-port x s n 0 k (found (portFree (x .bus) n) (sym (made .port) ∙ e)))
     where
@@ -61,7 +61,7 @@ place-free zero x s m = go (portFree (x .bus) m)
     go : (o : Option ℕ) → keeps (numberIn (spawned (instantiateOr o none x s m (refused NoPort) .answer))) ≡ false
     go none = refl
     go (some p) = refl
-place-free (suc k) x s m = go (portFree (x .bus) m) (nextOut (m .shared) (x .bus) (m .voices)) (place-free k x s)
+place-free (suc k) x s m = go (portFree (x .bus) m) (nextOut (m .shared) (x .bus) (x .rank) (m .voices)) (place-free k x s)
   where
     go : (o : Option ℕ) (u : Option Voice) → ((j : Model) → keeps (numberIn (spawned (place k x s j .answer))) ≡ false)
         → keeps (numberIn (spawned (instantiateOr o u x s m (λ j. place k x s j) .answer))) ≡ false

@@ -1,10 +1,11 @@
 -- The rows of the refusal table, one after the other.
-use Prim.Native.Nat.{ℕ}
+use Prim.Native.Nat.{ℕ, _≤_}
 use native.Mathlib.Omega.{arith}
-use mathlib.Core.Path.{_≡_, refl, ap, _∙_}
+use mathlib.Core.Path.{_≡_, refl, sym, ap, _∙_}
 use mathlib.Core.Bool.{Bool, true, false}
 use mathlib.Core.Option.{Option, none, some}
-use lib.Dec.{eqb}
+use lib.Dec.{eqb, ltb}
+use borrow.Author.Tests.{le-ltb}
 use Rattle.node.specs.declared.record.Node.{Node}
 use Rattle.node.specs.declared.refusal.Refusal.{Refusal}
 use Rattle.graph.specs.Refuse.{when, hostTest}
@@ -12,7 +13,7 @@ use Rattle.graph.specs.Node.{portsOf}
 use Rattle.graph_rows.specs.Node.{briefOf}
 use Rattle.graph_tables.proofs.Brief.{host-brief}
 use Rattle.bus_room.proofs.Laws.{brief-ports}
-use Rattle.node.specs.declared.refusal.Refusal.the-variants.{BusWithoutPorts}
+use Rattle.node.specs.declared.refusal.Refusal.the-variants.{BusWithoutPorts, RankTooHigh}
 use Rattle.graph.specs.Tables.{answerOf}
 use Rattle.graph.specs.declared.state.Answer.{Answer}
 use Rattle.graph.specs.declared.state.Answer.the-variants as Answer
@@ -51,3 +52,7 @@ pub bus-brief : (o : Option Node) → busBrief (briefOf o) ≡ orElse (hostTest 
 bus-brief o =
     ap (λ h. orElse h (when (eqb (briefOf o .ports) 0) BusWithoutPorts none)) (host-brief o)
     ∙ ap (λ k. orElse (hostTest o) (when (eqb k 0) BusWithoutPorts none)) (brief-ports o)
+
+-- a rank that is not above 7 leaves the rows below it
+pub low-rank : (rank : ℕ) (rest : Option Refusal) → rank ≤ 7 → answerOf rest ≡ answerOf (when (ltb 7 rank) RankTooHigh rest)
+low-rank rank rest h = sym (ap (λ t. answerOf (when t RankTooHigh rest)) (le-ltb 7 rank h))

@@ -11,7 +11,7 @@ use borrow.Author.Tests.{ltb-false, leb-false, not-false}
 use Rattle.lists.proofs.Filter.{length-filter}
 use Rattle.node.specs.declared.record.NodeId.{NodeId}
 use Rattle.node.specs.declared.refusal.Refusal.{Refusal}
-use Rattle.node.specs.declared.refusal.Refusal.the-variants.{DefinitionLimits, BusWithoutPorts, TableFull, IdsUsedUp}
+use Rattle.node.specs.declared.refusal.Refusal.the-variants.{DefinitionLimits, BusWithoutPorts, TableFull, IdsUsedUp, RankTooHigh}
 use Rattle.edges.specs.Ports.{portFrom}
 use Rattle.graph.specs.Node.{nodeAt, portsOf}
 use Rattle.graph.specs.Refuse.{when, hostRefusal}
@@ -23,7 +23,7 @@ use Rattle.store.specs.declared.voices.Voice.{Voice}
 use Rattle.store.specs.declared.voices.VoiceState.{VoiceState}
 use Rattle.store.specs.declared.voices.VoiceState.the-variants.{Tracked}
 use Rattle.model.specs.Voice.{feeder, beginFade}
-use Rattle.model.specs.Refuse.{orElse, noHeadroom, noIds, spawnRefusal}
+use Rattle.model.specs.Refuse.{orElse, rankLimit, noHeadroom, noIds, spawnRefusal}
 use Rattle.model.specs.Spawn.{fadeOf}
 use Rattle.model.specs.Model.{Model, cutOff, stolen, stealVoice}
 use Rattle.voice_graph.proofs.Room.{fade-nodes, fade-edges}
@@ -50,11 +50,12 @@ or-none : (a b : Bool) → (a || b) ≡ false → (a ≡ false) × (b ≡ false)
 or-none true b e = let z : _≡_ {A = ℕ} 0 1 = cc in absurd (omega arith)
 or-none false b e = (refl, e)
 
-pub roomy : (m : Model) (def : SynthDef) (bus : NodeId) → spawnRefusal (m .shared) (m .voices) def bus ≡ none → Roomy def m
-roomy m def bus e =
+pub roomy : (m : Model) (def : SynthDef) (bus : NodeId) (rank : ℕ) → spawnRefusal (m .shared) (m .voices) def bus rank ≡ none → Roomy def m
+roomy m def bus rank e =
     let d = m .shared in
     let vs = m .voices in
-    let a = when-none (not (allowed def)) DefinitionLimits _ e in
+    let z = when-none (ltb rankLimit rank) RankTooHigh _ e in
+    let a = when-none (not (allowed def)) DefinitionLimits _ (z .1) in
     let b = when-none (eqb (portsOf (nodeAt (d .graph .nodes) bus)) 0) BusWithoutPorts _ (else-none (hostRefusal (d .graph) bus) _ (a .1)) in
     let c = when-none (noHeadroom d vs def) TableFull _ (b .1) in
     let i = when-none (noIds d def) IdsUsedUp _ (c .1) in
@@ -103,11 +104,11 @@ headroom-cut def v s m h =
     }
 
 -- and so does all that is reclaimed
-pub headroom-reclaimed : (def : SynthDef) (bus : NodeId) (k : ℕ) (m : Model) → Headroom def m → Headroom def (reclaimed k bus m)
-headroom-reclaimed def bus zero m h = h
-headroom-reclaimed def bus (suc k) m h = go (leaving bus m) (headroom-reclaimed def bus k)
+pub headroom-reclaimed : (def : SynthDef) (bus : NodeId) (rank : ℕ) (k : ℕ) (m : Model) → Headroom def m → Headroom def (reclaimed k bus rank m)
+headroom-reclaimed def bus rank zero m h = h
+headroom-reclaimed def bus rank (suc k) m h = go (leaving bus rank m) (headroom-reclaimed def bus rank k)
   where
-    go : (o : Option Voice) → ((j : Model) → Headroom def j → Headroom def (reclaimed k bus j)) → Headroom def (goOn o m (λ j. reclaimed k bus j))
+    go : (o : Option Voice) → ((j : Model) → Headroom def j → Headroom def (reclaimed k bus rank j)) → Headroom def (goOn o m (λ j. reclaimed k bus rank j))
     go none ih = h
     go (some v) ih = ih (cutOff v (v .state) m) (headroom-cut def v (v .state) m h)
 

@@ -21,8 +21,8 @@ use Rattle.voice_graph.proofs.Room.{voice-room}
 use Rattle.call_spawn.specs.Room.{Headroom}
 
 -- ---- the record
-abbrev pub made : SharedState → SynthDef → Bool → VoiceState → NodeId → ℕ → ℕ → NodeId → DonePlan → Voice
-made d def pan s bus p n out plan =
+abbrev pub made : SharedState → SynthDef → Bool → ℕ → VoiceState → NodeId → ℕ → ℕ → NodeId → DonePlan → Voice
+made d def pan rank s bus p n out plan =
     record {
       id = nextVoice d;
       birth = d .clock;
@@ -33,15 +33,16 @@ made d def pan s bus p n out plan =
       output = out;
       panned = pan;
       sequence = d .sequence;
+      rank = rank;
       state = s;
       params = def .params;
       plan = plan;
     }
 
-pub made-same : (d : SharedState) (def : SynthDef) (s : VoiceState) (bus : NodeId) (p n m : ℕ) (a b : NodeId) (x y : DonePlan) (i j : Bool) → n ≡ m → a ≡ b → x ≡ y → i ≡ j
-    → made d def i s bus p n a x ≡ made d def j s bus p m b y
-made-same d def s bus p n m a b x y i j e f g h =
-    ap (λ k. made d def i s bus p k a x) e ∙ ap (λ k. made d def i s bus p m k x) f ∙ ap (λ k. made d def i s bus p m b k) g ∙ ap (λ k. made d def k s bus p m b y) h
+pub made-same : (d : SharedState) (def : SynthDef) (rank : ℕ) (s : VoiceState) (bus : NodeId) (p n m : ℕ) (a b : NodeId) (x y : DonePlan) (i j : Bool) → n ≡ m → a ≡ b → x ≡ y → i ≡ j
+    → made d def i rank s bus p n a x ≡ made d def j rank s bus p m b y
+made-same d def rank s bus p n m a b x y i j e f g h =
+    ap (λ k. made d def i rank s bus p k a x) e ∙ ap (λ k. made d def i rank s bus p m k x) f ∙ ap (λ k. made d def i rank s bus p m b k) g ∙ ap (λ k. made d def k rank s bus p m b y) h
 
 -- ---- the store
 -- these voices, so many voice ids given out, this noise sequence

@@ -17,13 +17,13 @@ refused-in r a m n e f = ap (λ k. resultOf k n) e ∙ ap (λ k. resultOf (Spawn
 
 module _ (x : Spawn) (m : Model) where
   abbrev tested : Option Refusal
-  tested = spawnRefusal (m .shared) (m .voices) (x .def) (x .bus)
+  tested = spawnRefusal (m .shared) (m .voices) (x .def) (x .bus) (x .rank)
 
   pub managed-not : (r : Refusal) → tested ≡ some r → refused r m ≡ spawnManaged x m
-  managed-not r e = sym (ap (λ o. unless o m (admitted (admissionOn (x .bus) m) x m)) e)
+  managed-not r e = sym (ap (λ o. unless o m (admitted (admissionOn (x .bus) (x .rank) m) x m)) e)
 
-  pub managed-on : tested ≡ none → admitted (admissionOn (x .bus) m) x m ≡ spawnManaged x m
-  managed-on e = sym (ap (λ o. unless o m (admitted (admissionOn (x .bus) m) x m)) e)
+  pub managed-on : tested ≡ none → admitted (admissionOn (x .bus) (x .rank) m) x m ≡ spawnManaged x m
+  managed-on e = sym (ap (λ o. unless o m (admitted (admissionOn (x .bus) (x .rank) m) x m)) e)
 
   pub loose-not : (r : Refusal) → tested ≡ some r → refused r m ≡ spawnLoose x m
   loose-not r e = sym (ap (λ o. unless o m (place 0 x Loose m)) e)

@@ -68,8 +68,8 @@ module _ (v : Voice) (m : Model) (k : ℕ) (bus : NodeId) (found : Bool) (x : Ed
   feeds-one t = ap (λ (o : Option Edge). stolen v (mapO (λ (e : Edge). e .port) o) m) (sym (is-edge t))
 
 -- ---- a request to come in
-module _ (bus : NodeId) (m : Model) (a : Admission) (met : a ≡ admissionOn bus m) where
-  pub meets-admit : a ≡ admission.Admit → Meets bus m m true
+module _ (bus : NodeId) (rank : ℕ) (m : Model) (a : Admission) (met : a ≡ admissionOn bus rank m) where
+  pub meets-admit : a ≡ admission.Admit → Meets bus rank m m true
   meets-admit e =
       record {
         goes-on = λ t x. ap (λ k. admitted k x m) (sym met ∙ e);
@@ -77,7 +77,7 @@ module _ (bus : NodeId) (m : Model) (a : Admission) (met : a ≡ admissionOn bus
         rejects = λ t. let z : _≡_ {A = ℕ} 0 1 = cc in absurd (omega arith);
       }
 
-  pub meets-reject : a ≡ admission.Reject → Meets bus m m false
+  pub meets-reject : a ≡ admission.Reject → Meets bus rank m m false
   meets-reject e =
       record {
         goes-on = λ t x. let z : _≡_ {A = ℕ} 0 1 = cc in absurd (omega arith);
@@ -85,7 +85,7 @@ module _ (bus : NodeId) (m : Model) (a : Admission) (met : a ≡ admissionOn bus
         rejects = λ t. sym met ∙ e;
       }
 
-  pub meets-steal : (place : ℕ) (w : VoiceId) → a ≡ admission.Steal place w → (v : Voice) → find (isVoice w) (m .voices) ≡ some v → (n : Model) → n ≡ stealVoice v m → Meets bus m n true
+  pub meets-steal : (place : ℕ) (w : VoiceId) → a ≡ admission.Steal place w → (v : Voice) → find (isVoice w) (m .voices) ≡ some v → (n : Model) → n ≡ stealVoice v m → Meets bus rank m n true
   meets-steal place w e v found n is =
       record {
         goes-on = λ t x. ap (λ k. admitted k x m) (sym met ∙ e) ∙ ap (λ o. stealThen o x m) found ∙ ap (placeWithinBudget x) (sym is);
@@ -96,7 +96,7 @@ module _ (bus : NodeId) (m : Model) (a : Admission) (met : a ≡ admissionOn bus
       moved : (def : SynthDef) → Headroom def (stealVoice v m) → Headroom def n
       moved def h = subst (Headroom def) (sym is) h
 
-  pub meets-nobody : (place : ℕ) (w : VoiceId) → a ≡ admission.Steal place w → find (isVoice w) (m .voices) ≡ none → Meets bus m m true
+  pub meets-nobody : (place : ℕ) (w : VoiceId) → a ≡ admission.Steal place w → find (isVoice w) (m .voices) ≡ none → Meets bus rank m m true
   meets-nobody place w e lost =
       record {
         goes-on = λ t x. ap (λ k. admitted k x m) (sym met ∙ e) ∙ ap (λ o. stealThen o x m) lost;

@@ -63,12 +63,12 @@ pub record Roomy (def : SynthDef) (m : Model) : Type 0 where
 abbrev pub resultOf : Spawned → Memory → SpawnResult
 resultOf a n = record { answer = a; model = modelOf n }
 
--- A request to come in on the bus, from the store m: admitted, every spawn goes on with the port search in the store n, where there
+-- A request to come in on the bus with this rank, from the store m: admitted, every spawn goes on with the port search in the store n, where there
 -- is room for it; else admission rejects
-pub record Meets (bus : NodeId) (m n : Model) (ok : Bool) : Type 0 where
-  pub goes-on : ok ≡ true → (x : Spawn) → admitted (admissionOn bus m) x m ≡ placeWithinBudget x n
+pub record Meets (bus : NodeId) (rank : ℕ) (m n : Model) (ok : Bool) : Type 0 where
+  pub goes-on : ok ≡ true → (x : Spawn) → admitted (admissionOn bus rank m) x m ≡ placeWithinBudget x n
   pub room : ok ≡ true → (def : SynthDef) → Roomy def m → Headroom def n
-  pub rejects : ok ≡ false → admissionOn bus m ≡ admission.Reject
+  pub rejects : ok ≡ false → admissionOn bus rank m ≡ admission.Reject
 
 -- one that is rejected leaves the very memory
 abbrev pub Untouched : Bool → Memory → Memory → Type 0

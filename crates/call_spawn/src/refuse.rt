@@ -97,7 +97,7 @@ fn room_test(s: State, nodes: usize, edges: usize, voices: usize, ns: usize, es:
 fn count_in(t: &[u32], count: usize) -> usize
     ensures { λ r. ⌜ r ≡ length (take count (voicesIn (now (t .entry)))) ⌝ }
 {
-    at_most(count, t.len() / 142)
+    at_most(count, t.len() / 143)
 }
 
 pub(crate) fn voice_count(voices: &VoiceTable, count: usize) -> usize
@@ -131,9 +131,13 @@ pub fn spawn_refusal(
     voices: &VoiceTable,
     def: SynthDef,
     bus: NodeId,
+    rank: u32,
 ) -> Answer
-    ensures { λ r. ⌜ ((m : Memory) → r ≡ answerOf (spawnRefusal (sharedOf (lentVoices s (now (nodes .entry)) (now (edges .entry)) (now (voices .entry)) m)) (take (s .voices) (voicesIn (now (voices .entry)))) def bus)) ⌝ }
+    ensures { λ r. ⌜ ((m : Memory) → r ≡ answerOf (spawnRefusal (sharedOf (lentVoices s (now (nodes .entry)) (now (edges .entry)) (now (voices .entry)) m)) (take (s .voices) (voicesIn (now (voices .entry)))) def bus rank)) ⌝ }
 {
+    if 7 < rank {
+        return Answer::Refused(Refusal::RankTooHigh);
+    }
     if !allowed(def) {
         return Answer::Refused(Refusal::DefinitionLimits);
     }

@@ -39,9 +39,17 @@ fn next_sequence(n: u32) -> u32
 }
 
 // The record of the new voice.
-fn new_voice(s: State, def: SynthDef, pan: f32, state: VoiceState, bus: NodeId, port: u32) -> Voice
+fn new_voice(
+    s: State,
+    def: SynthDef,
+    pan: f32,
+    rank: u32,
+    state: VoiceState,
+    bus: NodeId,
+    port: u32,
+) -> Voice
     requires { ⌜ NewIds def (s .next) (s .spawned) ⌝ }
-    ensures { λ r. ⌜ ((m : Memory) → r ≡ newVoice (spawnOf def bus pan) state port (sharedOf (lentState s m))) ⌝ }
+    ensures { λ r. ⌜ ((m : Memory) → r ≡ newVoice (spawnOf def bus pan rank) state port (sharedOf (lentState s m))) ⌝ }
 {
     let ns = def.nodes;
     let count = at_most(ns.count, 24) as u32;
@@ -60,6 +68,7 @@ fn new_voice(s: State, def: SynthDef, pan: f32, state: VoiceState, bus: NodeId, 
         output,
         panned,
         sequence: s.sequence,
+        rank,
         state,
         params,
         plan,
@@ -74,14 +83,15 @@ pub(crate) fn seat_voice(
     voices: &mut VoiceTable,
     def: SynthDef,
     pan: f32,
+    rank: u32,
     state: VoiceState,
     bus: NodeId,
     port: u32,
 ) -> Spawning
     requires { ⌜ ((m : Memory) → Headroom def (modelOf (lentVoices s (now nodes) (now edges) (now voices) m))) ⌝ }
-    ensures { λ r. ⌜ ((m : Memory) → resultOf (r .answer) (lentVoices (r .state) (now (nodes .exit)) (now (edges .exit)) (now (voices .exit)) m) ≡ instantiate (spawnOf def bus pan) state port (modelOf (lentVoices s (now (nodes .entry)) (now (edges .entry)) (now (voices .entry)) m))) ⌝ }
+    ensures { λ r. ⌜ ((m : Memory) → resultOf (r .answer) (lentVoices (r .state) (now (nodes .exit)) (now (edges .exit)) (now (voices .exit)) m) ≡ instantiate (spawnOf def bus pan rank) state port (modelOf (lentVoices s (now (nodes .entry)) (now (edges .entry)) (now (voices .entry)) m))) ⌝ }
 {
-    let v = new_voice(s, def, pan, state, bus, port);
+    let v = new_voice(s, def, pan, rank, state, bus, port);
     let id = VoiceId(s.spawned + 1);
     let panned = pans(pan);
     let grown = add_voice(s, nodes, edges, id, def, panned, bus, port);

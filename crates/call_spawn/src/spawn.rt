@@ -65,7 +65,8 @@ fn most_removed(s: State, voices: &VoiceTable) -> usize
     }
 }
 
-// The new voice gets the lowest free port. Where there is none, at most `fuel` voices of the bus are removed for one.
+// The new voice gets the lowest free port. Where there is none, at most `fuel` voices of the bus are removed for one, none of them tracked and of
+// a higher rank than the new voice's.
 fn place(
     s: State,
     nodes: &mut NodeTable,
@@ -74,18 +75,19 @@ fn place(
     steals: &mut StealTable,
     def: SynthDef,
     pan: f32,
+    rank: u32,
     state: VoiceState,
     bus: NodeId,
     fuel: usize,
 ) -> Spawning
     requires { ⌜ ((m : Memory) → Headroom def (modelOf (lentSpawn s (now nodes) (now edges) (now voices) (now steals) m))) ⌝ }
-    ensures { λ r. ⌜ ((m : Memory) → resultOf (r .answer) (lentSpawn (r .state) (now (nodes .exit)) (now (edges .exit)) (now (voices .exit)) (now (steals .exit)) m) ≡ place fuel (spawnOf def bus pan) state (modelOf (lentSpawn s (now (nodes .entry)) (now (edges .entry)) (now (voices .entry)) (now (steals .entry)) m))) ⌝ }
+    ensures { λ r. ⌜ ((m : Memory) → resultOf (r .answer) (lentSpawn (r .state) (now (nodes .exit)) (now (edges .exit)) (now (voices .exit)) (now (steals .exit)) m) ≡ place fuel (spawnOf def bus pan rank) state (modelOf (lentSpawn s (now (nodes .entry)) (now (edges .entry)) (now (voices .entry)) (now (steals .entry)) m))) ⌝ }
 {
-    let room = make_room(s, nodes, edges, voices, steals, bus, fuel);
+    let room = make_room(s, nodes, edges, voices, steals, bus, rank, fuel);
     let left = room.state;
     let port = room.port;
     match port {
-        Port::At(p) => seat_voice(left, nodes, edges, voices, def, pan, state, bus, p),
+        Port::At(p) => seat_voice(left, nodes, edges, voices, def, pan, rank, state, bus, p),
         Port::Nothing => refuse(left, Refusal::NoPort),
     }
 }
@@ -99,16 +101,29 @@ fn place_within_budget(
     steals: &mut StealTable,
     def: SynthDef,
     pan: f32,
+    rank: u32,
     bus: NodeId,
 ) -> Spawning
     requires { ⌜ ((m : Memory) → Headroom def (modelOf (lentSpawn s (now nodes) (now edges) (now voices) (now steals) m))) ⌝ }
-    ensures { λ r. ⌜ ((m : Memory) → resultOf (r .answer) (lentSpawn (r .state) (now (nodes .exit)) (now (edges .exit)) (now (voices .exit)) (now (steals .exit)) m) ≡ placeWithinBudget (spawnOf def bus pan) (modelOf (lentSpawn s (now (nodes .entry)) (now (edges .entry)) (now (voices .entry)) (now (steals .entry)) m))) ⌝ }
+    ensures { λ r. ⌜ ((m : Memory) → resultOf (r .answer) (lentSpawn (r .state) (now (nodes .exit)) (now (edges .exit)) (now (voices .exit)) (now (steals .exit)) m) ≡ placeWithinBudget (spawnOf def bus pan rank) (modelOf (lentSpawn s (now (nodes .entry)) (now (edges .entry)) (now (voices .entry)) (now (steals .entry)) m))) ⌝ }
 {
     let config = s.config;
     let budget = config.budget;
     let state = state_under(budget);
     let fuel = most_removed(s, voices);
-    place(s, nodes, edges, voices, steals, def, pan, state, bus, fuel)
+    place(
+        s,
+        nodes,
+        edges,
+        voices,
+        steals,
+        def,
+        pan,
+        rank,
+        state,
+        bus,
+        fuel,
+    )
 }
 
 // A managed spawn: the refusals; admission, with a victim if it asks for one; then the lowest port without an edge.
@@ -121,18 +136,19 @@ pub fn spawn_voice_on_bus_panned_managed(
     def: SynthDef,
     bus: NodeId,
     pan: f32,
+    rank: u32,
 ) -> Spawning
-    ensures is { λ r. ⌜ ((m : Memory) → Called (spawnManaged (spawnOf def bus pan)) (lentSpawn s (now (nodes .entry)) (now (edges .entry)) (now (voices .entry)) (now (steals .entry)) m) (spawned (r .answer)) (lentSpawn (r .state) (now (nodes .exit)) (now (edges .exit)) (now (voices .exit)) (now (steals .exit)) m)) ⌝ }
+    ensures is { λ r. ⌜ ((m : Memory) → Called (spawnManaged (spawnOf def bus pan rank)) (lentSpawn s (now (nodes .entry)) (now (edges .entry)) (now (voices .entry)) (now (steals .entry)) m) (spawned (r .answer)) (lentSpawn (r .state) (now (nodes .exit)) (now (edges .exit)) (now (voices .exit)) (now (steals .exit)) m)) ⌝ }
     ensures same { λ r. ⌜ ((m : Memory) → Kept (spawned (r .answer)) (lentSpawn s (now (nodes .entry)) (now (edges .entry)) (now (voices .entry)) (now (steals .entry)) m) (lentSpawn (r .state) (now (nodes .exit)) (now (edges .exit)) (now (voices .exit)) (now (steals .exit)) m)) ⌝ }
 {
-    let test = spawn_refusal(s, nodes, edges, voices, def, bus);
+    let test = spawn_refusal(s, nodes, edges, voices, def, bus, rank);
     match test {
         Answer::Refused(why) => refuse(s, why),
         Answer::Done => {
-            let met = request(s, nodes, edges, voices, steals, bus);
+            let met = request(s, nodes, edges, voices, steals, bus, rank);
             let left = met.state;
             if met.admitted {
-                return place_within_budget(left, nodes, edges, voices, steals, def, pan, bus);
+                return place_within_budget(left, nodes, edges, voices, steals, def, pan, rank, bus);
             }
             refuse(left, Refusal::Rejected)
         }
@@ -149,11 +165,12 @@ pub fn spawn_voice_on_bus_panned(
     def: SynthDef,
     bus: NodeId,
     pan: f32,
+    rank: u32,
 ) -> Spawning
-    ensures is { λ r. ⌜ ((m : Memory) → Called (spawnLoose (spawnOf def bus pan)) (lentSpawn s (now (nodes .entry)) (now (edges .entry)) (now (voices .entry)) (now (steals .entry)) m) (spawned (r .answer)) (lentSpawn (r .state) (now (nodes .exit)) (now (edges .exit)) (now (voices .exit)) (now (steals .exit)) m)) ⌝ }
+    ensures is { λ r. ⌜ ((m : Memory) → Called (spawnLoose (spawnOf def bus pan rank)) (lentSpawn s (now (nodes .entry)) (now (edges .entry)) (now (voices .entry)) (now (steals .entry)) m) (spawned (r .answer)) (lentSpawn (r .state) (now (nodes .exit)) (now (edges .exit)) (now (voices .exit)) (now (steals .exit)) m)) ⌝ }
     ensures same { λ r. ⌜ ((m : Memory) → Kept (spawned (r .answer)) (lentSpawn s (now (nodes .entry)) (now (edges .entry)) (now (voices .entry)) (now (steals .entry)) m) (lentSpawn (r .state) (now (nodes .exit)) (now (edges .exit)) (now (voices .exit)) (now (steals .exit)) m)) ⌝ }
 {
-    let test = spawn_refusal(s, nodes, edges, voices, def, bus);
+    let test = spawn_refusal(s, nodes, edges, voices, def, bus, rank);
     match test {
         Answer::Refused(why) => refuse(s, why),
         Answer::Done => place(
@@ -164,6 +181,7 @@ pub fn spawn_voice_on_bus_panned(
             steals,
             def,
             pan,
+            rank,
             VoiceState::Loose,
             bus,
             0,
@@ -180,11 +198,12 @@ pub fn spawn_voice_on_bus_managed(
     steals: &mut StealTable,
     def: SynthDef,
     bus: NodeId,
+    rank: u32,
 ) -> Spawning
-    ensures is { λ r. ⌜ ((m : Memory) → Called (spawnManaged (spawnOf def bus middle)) (lentSpawn s (now (nodes .entry)) (now (edges .entry)) (now (voices .entry)) (now (steals .entry)) m) (spawned (r .answer)) (lentSpawn (r .state) (now (nodes .exit)) (now (edges .exit)) (now (voices .exit)) (now (steals .exit)) m)) ⌝ }
+    ensures is { λ r. ⌜ ((m : Memory) → Called (spawnManaged (spawnOf def bus middle rank)) (lentSpawn s (now (nodes .entry)) (now (edges .entry)) (now (voices .entry)) (now (steals .entry)) m) (spawned (r .answer)) (lentSpawn (r .state) (now (nodes .exit)) (now (edges .exit)) (now (voices .exit)) (now (steals .exit)) m)) ⌝ }
     ensures same { λ r. ⌜ ((m : Memory) → Kept (spawned (r .answer)) (lentSpawn s (now (nodes .entry)) (now (edges .entry)) (now (voices .entry)) (now (steals .entry)) m) (lentSpawn (r .state) (now (nodes .exit)) (now (edges .exit)) (now (voices .exit)) (now (steals .exit)) m)) ⌝ }
 {
-    spawn_voice_on_bus_panned_managed(s, nodes, edges, voices, steals, def, bus, 0.0)
+    spawn_voice_on_bus_panned_managed(s, nodes, edges, voices, steals, def, bus, 0.0, rank)
 }
 
 // An unmanaged spawn in the middle.
@@ -196,9 +215,10 @@ pub fn spawn_voice_on_bus(
     steals: &mut StealTable,
     def: SynthDef,
     bus: NodeId,
+    rank: u32,
 ) -> Spawning
-    ensures is { λ r. ⌜ ((m : Memory) → Called (spawnLoose (spawnOf def bus middle)) (lentSpawn s (now (nodes .entry)) (now (edges .entry)) (now (voices .entry)) (now (steals .entry)) m) (spawned (r .answer)) (lentSpawn (r .state) (now (nodes .exit)) (now (edges .exit)) (now (voices .exit)) (now (steals .exit)) m)) ⌝ }
+    ensures is { λ r. ⌜ ((m : Memory) → Called (spawnLoose (spawnOf def bus middle rank)) (lentSpawn s (now (nodes .entry)) (now (edges .entry)) (now (voices .entry)) (now (steals .entry)) m) (spawned (r .answer)) (lentSpawn (r .state) (now (nodes .exit)) (now (edges .exit)) (now (voices .exit)) (now (steals .exit)) m)) ⌝ }
     ensures same { λ r. ⌜ ((m : Memory) → Kept (spawned (r .answer)) (lentSpawn s (now (nodes .entry)) (now (edges .entry)) (now (voices .entry)) (now (steals .entry)) m) (lentSpawn (r .state) (now (nodes .exit)) (now (edges .exit)) (now (voices .exit)) (now (steals .exit)) m)) ⌝ }
 {
-    spawn_voice_on_bus_panned(s, nodes, edges, voices, steals, def, bus, 0.0)
+    spawn_voice_on_bus_panned(s, nodes, edges, voices, steals, def, bus, 0.0, rank)
 }

@@ -85,19 +85,19 @@ fn steal_voice(
     cut_voice(s, nodes, edges, voices, steals, row, VoiceState::Tracked)
 }
 
-// What a new voice on `bus` meets.
-fn admission(s: State, nodes: &NodeTable, voices: &VoiceTable, bus: NodeId) -> Admission
-    ensures { λ r. ⌜ ((m : Memory) → r ≡ admissionOn bus (modelOf (lentParams s (now (nodes .entry)) (now (voices .entry)) m))) ⌝ }
+// What a new voice of rank `rank` on `bus` meets.
+fn admission(s: State, nodes: &NodeTable, voices: &VoiceTable, bus: NodeId, rank: u32) -> Admission
+    ensures { λ r. ⌜ ((m : Memory) → r ≡ admissionOn bus rank (modelOf (lentParams s (now (nodes .entry)) (now (voices .entry)) m))) ⌝ }
 {
     let config = s.config;
     let budget = config.budget;
     let policy = config.policy;
     let scope = config.scope;
     let tracked = candidates(voices, s.voices, nodes, s.nodes, s.clock, scope, bus);
-    request_in(budget, policy, tracked)
+    request_in(budget, policy, rank, tracked)
 }
 
-// Whether a new voice on `bus` is admitted; where a victim is asked for, it is stolen.
+// Whether a new voice of rank `rank` on `bus` is admitted; where a victim is asked for, it is stolen.
 pub(crate) fn request(
     s: State,
     nodes: &mut NodeTable,
@@ -105,12 +105,13 @@ pub(crate) fn request(
     voices: &mut VoiceTable,
     steals: &mut StealTable,
     bus: NodeId,
+    rank: u32,
 ) -> Met
     requires { ⌜ ((m : Memory) → FadeRoom (modelOf (lentSpawn s (now nodes) (now edges) (now voices) (now steals) m))) ⌝ }
-    ensures is { λ r. ⌜ ((m : Memory) → Meets bus (modelOf (lentSpawn s (now (nodes .entry)) (now (edges .entry)) (now (voices .entry)) (now (steals .entry)) m)) (modelOf (lentSpawn (r .state) (now (nodes .exit)) (now (edges .exit)) (now (voices .exit)) (now (steals .exit)) m)) (r .admitted)) ⌝ }
+    ensures is { λ r. ⌜ ((m : Memory) → Meets bus rank (modelOf (lentSpawn s (now (nodes .entry)) (now (edges .entry)) (now (voices .entry)) (now (steals .entry)) m)) (modelOf (lentSpawn (r .state) (now (nodes .exit)) (now (edges .exit)) (now (voices .exit)) (now (steals .exit)) m)) (r .admitted)) ⌝ }
     ensures same { λ r. ⌜ ((m : Memory) → Untouched (r .admitted) (lentSpawn s (now (nodes .entry)) (now (edges .entry)) (now (voices .entry)) (now (steals .entry)) m) (lentSpawn (r .state) (now (nodes .exit)) (now (edges .exit)) (now (voices .exit)) (now (steals .exit)) m)) ⌝ }
 {
-    let a = admission(s, nodes, voices, bus);
+    let a = admission(s, nodes, voices, bus, rank);
     match a {
         Admission::Admit => Met {
             state: s,

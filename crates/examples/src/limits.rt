@@ -58,6 +58,7 @@ fn definition(
         steals,
         of_nodes(n, 0),
         NodeId(0),
+        0,
     );
     text(b"nodes ");
     number(n as u64);

@@ -170,7 +170,7 @@ fn spawn(
 ) -> State {
     let mut was = io::buffer();
     let n = show::page_of(s, edges, voices, &mut was);
-    let spawning = spawn_voice_on_bus_managed(s, nodes, edges, voices, steals, def, NodeId(bus));
+    let spawning = spawn_voice_on_bus_managed(s, nodes, edges, voices, steals, def, NodeId(bus), 0);
     let a = spawning.answer;
     show::spawned(a);
     let t = spawning.state;
@@ -259,7 +259,7 @@ fn no_loose_port(
 ) {
     let mut was = io::buffer();
     let n = show::page_of(s, edges, voices, &mut was);
-    let spawning = spawn_voice_on_bus(s, nodes, edges, voices, steals, tone(), NodeId(0));
+    let spawning = spawn_voice_on_bus(s, nodes, edges, voices, steals, tone(), NodeId(0), 0);
     let a = spawning.answer;
     show::spawned(a);
     let t = spawning.state;

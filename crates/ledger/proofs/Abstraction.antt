@@ -74,11 +74,11 @@ module _ (more : ℕ → ℕ) where
   candidates-same d q same vs = ap (map (candidate d)) (filter-map (moved more) q q same vs) ∙ map-map (candidate d) (moved more) (filter q vs)
 
   -- "admission"
-  pub admits-same : (d : SharedState) (bus : NodeId) (vs : List Voice)
-      → admits (d .config .budget) (d .config .policy) (candidates d (counted (d .config .scope) bus) (map (moved more) vs))
-      ≡ admits (d .config .budget) (d .config .policy) (candidates d (counted (d .config .scope) bus) vs)
-  admits-same d bus vs =
-      ap (admits (d .config .budget) (d .config .policy)) (candidates-same d (counted (d .config .scope) bus) (counted-same (d .config .scope) bus) vs)
+  pub admits-same : (d : SharedState) (bus : NodeId) (r : ℕ) (vs : List Voice)
+      → admits (d .config .budget) (d .config .policy) r (candidates d (counted (d .config .scope) bus) (map (moved more) vs))
+      ≡ admits (d .config .budget) (d .config .policy) r (candidates d (counted (d .config .scope) bus) vs)
+  admits-same d bus r vs =
+      ap (admits (d .config .budget) (d .config .policy) r) (candidates-same d (counted (d .config .scope) bus) (counted-same (d .config .scope) bus) vs)
 
   pub find-stored : (w : VoiceId) (vs : List Voice) → find (isVoice w) (map (moved more) vs) ≡ mapO (moved more) (find (isVoice w) vs)
   find-stored w vs = find-map (moved more) (isVoice w) (isVoice w) (λ v. refl) vs
@@ -101,13 +101,13 @@ module _ (more : ℕ → ℕ) where
   voiceOf-same Nobody vs = refl
   voiceOf-same (Goes place w) vs = find-stored w vs
 
-  pub nextOut-same : (d : SharedState) (bus : NodeId) (vs : List Voice) → nextOut d bus (map (moved more) vs) ≡ mapO (moved more) (nextOut d bus vs)
-  nextOut-same d bus vs =
-      ap (λ o. elseVictim o (voiceOf (victim (d .config .policy) (candidates d (trackedOn bus) (map (moved more) vs))) (map (moved more) vs))) (earliest-same bus vs)
-      ∙ ap (λ c. elseVictim (mapO (moved more) (earliest (fadesOn bus) vs)) (voiceOf (victim (d .config .policy) c) (map (moved more) vs)))
+  pub nextOut-same : (d : SharedState) (bus : NodeId) (r : ℕ) (vs : List Voice) → nextOut d bus r (map (moved more) vs) ≡ mapO (moved more) (nextOut d bus r vs)
+  nextOut-same d bus r vs =
+      ap (λ o. elseVictim o (voiceOf (victim (d .config .policy) r (candidates d (trackedOn bus) (map (moved more) vs))) (map (moved more) vs))) (earliest-same bus vs)
+      ∙ ap (λ c. elseVictim (mapO (moved more) (earliest (fadesOn bus) vs)) (voiceOf (victim (d .config .policy) r c) (map (moved more) vs)))
       (candidates-same d (trackedOn bus) (λ v. ap (λ b. b && isOn bus v) (tracked-same (v .state))) vs)
-      ∙ ap (elseVictim (mapO (moved more) (earliest (fadesOn bus) vs))) (voiceOf-same (victim (d .config .policy) (candidates d (trackedOn bus) vs)) vs)
-      ∙ go (earliest (fadesOn bus) vs) (voiceOf (victim (d .config .policy) (candidates d (trackedOn bus) vs)) vs)
+      ∙ ap (elseVictim (mapO (moved more) (earliest (fadesOn bus) vs))) (voiceOf-same (victim (d .config .policy) r (candidates d (trackedOn bus) vs)) vs)
+      ∙ go (earliest (fadesOn bus) vs) (voiceOf (victim (d .config .policy) r (candidates d (trackedOn bus) vs)) vs)
     where
       go : (o u : Option Voice) → elseVictim (mapO (moved more) o) (mapO (moved more) u) ≡ mapO (moved more) (elseVictim o u)
       go none u = refl

@@ -12,7 +12,7 @@ use Rattle.lists.proofs.Member.{none-some}
 use Rattle.node.specs.declared.record.NodeId.{NodeId}
 use Rattle.node.specs.declared.record.Node.{Node}
 use Rattle.node.specs.declared.refusal.Refusal.{Refusal}
-use Rattle.node.specs.declared.refusal.Refusal.the-variants.{UnknownNode, VoiceNode, DefinitionLimits, BusWithoutPorts, TableFull, IdsUsedUp}
+use Rattle.node.specs.declared.refusal.Refusal.the-variants.{UnknownNode, VoiceNode, DefinitionLimits, BusWithoutPorts, TableFull, IdsUsedUp, RankTooHigh}
 use Rattle.graph.specs.View.{GraphView}
 use Rattle.graph.specs.Node.{idLimit, nodeAt, portsOf, ofVoice}
 use Rattle.graph.specs.Refuse.{when, hostRefusal, dead}
@@ -20,7 +20,7 @@ use Rattle.synthdef.specs.Limits.{allowed}
 use Rattle.synthdef.specs.declared.def.SynthDef.{SynthDef}
 use Rattle.store.specs.declared.voices.Voice.{Voice}
 use Rattle.model.specs.SharedState.{SharedState}
-use Rattle.model.specs.Refuse.{orElse, noHeadroom, noIds, spawnRefusal}
+use Rattle.model.specs.Refuse.{orElse, rankLimit, noHeadroom, noIds, spawnRefusal}
 
 pub when-none : (b : Bool) (r : Refusal) (o : Option Refusal) → when b r o ≡ none → (b ≡ false) × (o ≡ none)
 when-none true r o h = absurd (none-some (sym h))
@@ -45,7 +45,8 @@ host-at g k h = go (nodeAt (g .nodes) k) refl (when-none (dead (nodeAt (g .nodes
     go none e r = absurd (true≢false (r .0))
     go (some n) e r = (n, e, eqb-true _ _ (not-false _ (when-none (ofVoice (some n)) VoiceNode none (r .1) .0)))
 
-pub record Allowed (d : SharedState) (vs : List Voice) (def : SynthDef) (bus : NodeId) : Type 0 where
+pub record Allowed (d : SharedState) (vs : List Voice) (def : SynthDef) (bus : NodeId) (rank : ℕ) : Type 0 where
+  pub rank-low : rank ≤ 7
   pub definition : allowed def ≡ true
   pub host : HostAt (d .graph .nodes) bus
   pub ports : 0 < portsOf (nodeAt (d .graph .nodes) bus)
@@ -54,9 +55,10 @@ pub record Allowed (d : SharedState) (vs : List Voice) (def : SynthDef) (bus : N
   pub voices : length vs < 64
   pub ids-left : d .spawned < 18446744073709551615
 
-pub spawn-allowed : (d : SharedState) (vs : List Voice) (def : SynthDef) (bus : NodeId) → spawnRefusal d vs def bus ≡ none → Allowed d vs def bus
-spawn-allowed d vs def bus h =
-    let h₁ = when-none (not (allowed def)) DefinitionLimits _ h in
+pub spawn-allowed : (d : SharedState) (vs : List Voice) (def : SynthDef) (bus : NodeId) (rank : ℕ) → spawnRefusal d vs def bus rank ≡ none → Allowed d vs def bus rank
+spawn-allowed d vs def bus rank h =
+    let h₀ = when-none (ltb rankLimit rank) RankTooHigh _ h in
+    let h₁ = when-none (not (allowed def)) DefinitionLimits _ (h₀ .1) in
     let h₂ = orElse-none (hostRefusal (d .graph) bus) _ (h₁ .1) in
     let h₃ = when-none (eqb (portsOf (nodeAt (d .graph .nodes) bus)) 0) BusWithoutPorts _ (h₂ .1) in
     let h₄ = when-none (noHeadroom d vs def) TableFull _ (h₃ .1) in
@@ -66,6 +68,7 @@ spawn-allowed d vs def bus h =
     let t = or-false (ltb idLimit (d .graph .next + def .nodes .count + 3)) _ (h₅ .0) in
     let some-port = eqb-false _ _ (h₃ .0) in
     record {
+      rank-low = ltb-false _ _ (h₀ .0);
       definition = not-false (allowed def) (h₁ .0);
       host = host-at (d .graph) bus (h₂ .0);
       ports = positive (portsOf (nodeAt (d .graph .nodes) bus)) some-port;

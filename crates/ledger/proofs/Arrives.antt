@@ -26,20 +26,21 @@ use Rattle.ledger.specs.Holder as holder
 use Rattle.ledger.specs.Ledger.{Ledger, SpawnResult, portHeld, stolen, stealVoice, place, placeWithinBudget, stealThen, admitted, admissionOn, unless, spawnManaged, spawnLoose}
 use Rattle.ledger.proofs.Preserved.{place-kept}
 
--- the voice w came to l, on the bus and in that state
-pub record ArrivesAt (bus : NodeId) (s : VoiceState) (w : VoiceId) (l l' : Ledger) : Type 0 where
+-- the voice w came to l, on the bus, with this rank and in that state
+pub record ArrivesAt (bus : NodeId) (rank : ℕ) (s : VoiceState) (w : VoiceId) (l l' : Ledger) : Type 0 where
   pub voice : Voice
   pub member : In voice (l' .voices)
   pub named : voice .id ≡ w
   pub next : w ≡ nextVoice (l .shared)
   pub on : voice .bus ≡ bus
   pub birth : voice .birth ≡ l .shared .clock
+  pub ranks : voice .rank ≡ rank
   pub state : voice .state ≡ s
   pub holds : l' .holders (bus .0) (voice .port) ≡ holder.voice w
 
 module _ (spawn : Spawn) (s : VoiceState) (l : Ledger) where
   abbrev pub Comes : SpawnResult → Type 0
-  Comes r = (w : VoiceId) → r .answer ≡ Spawned.Voice w → ArrivesAt (spawn .bus) s w l (r .ledger)
+  Comes r = (w : VoiceId) → r .answer ≡ Spawned.Voice w → ArrivesAt (spawn .bus) (spawn .rank) s w l (r .ledger)
 
   -- who is refused does not come
   refused-comes : (n : Refusal) (l' : Ledger) → Comes (record { answer = Spawned.Refused n; ledger = l' })
@@ -57,13 +58,14 @@ module _ (spawn : Spawn) (s : VoiceState) (l : Ledger) where
         next = sym id ∙ ap (λ n. record { 0 = n + 1 }) (q .1);
         on = refl;
         birth = q .0;
+        ranks = refl;
         state = refl;
         holds = rw (eq-eqb (spawn .bus .0) (spawn .bus .0) refl, eq-eqb p p refl) (ap holder.voice id);
       })
       (λ z e q. refused-comes _ z) (λ n z e f q. refused-comes _ z) (λ n z v e f q. q) n z (a, b)
 
 pub managed-comes : (x : Spawn) (l : Ledger) → Comes x (stateUnder (l .shared .config .budget)) l (spawnManaged x l)
-managed-comes x l = go (spawnRefusal (l .shared) (l .voices) (x .def) (x .bus))
+managed-comes x l = go (spawnRefusal (l .shared) (l .voices) (x .def) (x .bus) (x .rank))
   where
     s : VoiceState
     s = stateUnder (l .shared .config .budget)
@@ -88,12 +90,12 @@ managed-comes x l = go (spawnRefusal (l .shared) (l .voices) (x .def) (x .bus))
     admits admission.Reject = refused-comes x s l _ l
     admits (admission.Steal p w) = victims (find (isVoice w) (l .voices))
 
-    go : (o : Option Refusal) → Comes x s l (unless o l (admitted (admissionOn (x .bus) l) x l))
+    go : (o : Option Refusal) → Comes x s l (unless o l (admitted (admissionOn (x .bus) (x .rank) l) x l))
     go (some n) = refused-comes x s l n l
-    go none = admits (admissionOn (x .bus) l)
+    go none = admits (admissionOn (x .bus) (x .rank) l)
 
 pub loose-comes : (x : Spawn) (l : Ledger) → Comes x Loose l (spawnLoose x l)
-loose-comes x l = go (spawnRefusal (l .shared) (l .voices) (x .def) (x .bus))
+loose-comes x l = go (spawnRefusal (l .shared) (l .voices) (x .def) (x .bus) (x .rank))
   where
     go : (o : Option Refusal) → Comes x Loose l (unless o l (place 0 x Loose l))
     go (some n) = refused-comes x Loose l n l

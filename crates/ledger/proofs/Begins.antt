@@ -128,7 +128,7 @@ module _ (v : Voice) (f : Fade) (ph : v .state ≡ Fading f) where
 
   from-managed : (spawn : Spawn) (l : Ledger) → IdsOf l → In v (step (call.spawnManaged spawn) l .ledger .voices)
       → From l (step (call.spawnManaged spawn) l .answer) v f (call.spawnManaged spawn)
-  from-managed spawn l d = go (spawnRefusal (l .shared) (l .voices) (spawn .def) (spawn .bus))
+  from-managed spawn l d = go (spawnRefusal (l .shared) (l .voices) (spawn .def) (spawn .bus) (spawn .rank))
     where
       R : SpawnResult → Type 0
       R r = In v (r .ledger .voices) → From l (call.spawned (r .answer)) v f (call.spawnManaged spawn)
@@ -136,7 +136,7 @@ module _ (v : Voice) (f : Fade) (ph : v .state ≡ Fading f) where
       keeps : (r : SpawnResult) → In v (l .voices) → From l (call.spawned (r .answer)) v f (call.spawnManaged spawn)
       keeps r i = old l (call.spawnManaged spawn) (call.spawned (r .answer)) refl i
 
-      go : (o : Option Refusal) → R (ledger.unless o l (admitted (admissionOn (spawn .bus) l) spawn l))
+      go : (o : Option Refusal) → R (ledger.unless o l (admitted (admissionOn (spawn .bus) (spawn .rank) l) spawn l))
       go (some n) = keeps (ledger.refused n l)
       go none =
           managed-kept spawn R l d (λ h i. keeps (ledger.refused Rejected l) i) (λ h i. keeps (placeWithinBudget spawn l) (from-settle spawn l i))
@@ -150,7 +150,7 @@ module _ (v : Voice) (f : Fade) (ph : v .state ≡ Fading f) where
   comes (call.disconnect b p) l d i = guarded (disconnectRefusal (l .shared .graph) b p) _ l _ i (λ j. old l _ _ refl j)
   comes (call.setSink k) l d i = guarded (hostRefusal (l .shared .graph) k) _ l _ i (λ j. old l _ _ refl j)
   comes (call.spawnManaged spawn) l d i = from-managed spawn l d i
-  comes (call.spawnLoose spawn) l d i = go (spawnRefusal (l .shared) (l .voices) (spawn .def) (spawn .bus)) i
+  comes (call.spawnLoose spawn) l d i = go (spawnRefusal (l .shared) (l .voices) (spawn .def) (spawn .bus) (spawn .rank)) i
     where
       two : (o : Option ℕ) → In v (instantiateOr o none spawn Loose l (ledger.refused NoPort) .ledger .voices) → In v (l .voices)
       two none i = i

@@ -104,7 +104,7 @@ within-steady =
     calm (λ c b n vs. Ids n vs × Within c vs)
     (λ c b n vs w u. (ids-keep (λ x. not (isVoice w x)) (u .0), λ k e. few-keep (c .scope) k (λ x. not (isVoice w x)) vs (u .1 k e)))
     (λ c b n vs u. (ids-map (moved oneMore) (λ v. refl) (u .0), λ k e. few-map (c .scope) k (moved oneMore) (moved-counted (c .scope)) vs (u .1 k e)))
-    (λ c b n vs v e s h u. (ids-snoc v e (u .0), λ k f. few-land (c .scope) k (v .bus) v refl vs (u .1 k f) (λ t. absurd (false≢true (sym (ap isTracked s) ∙ t)))))
+    (λ c b n vs v e s h k u. (ids-snoc v e (u .0), λ k f. few-land (c .scope) k (v .bus) v refl vs (u .1 k f) (λ t. absurd (false≢true (sym (ap isTracked s) ∙ t)))))
 
 -- room for one more tracked voice on the bus
 abbrev Spare : NodeId → Ledger → Type 0
@@ -145,11 +145,11 @@ spare-steal bus v l u i t k e =
     let f : count (counted (l .shared .config .scope) bus) (l .voices) ≤ k = u .1 k (ap (λ (x : Config). x .budget) (sym c) ∙ e) bus in
     subst (λ (x : Config). count (counted (x .scope) bus) (stealVoice v l .voices) < k) (sym c) (omega (arith, f, steal-room (l .shared .config .scope) bus v l i t))
 
-within-managed : (l : Ledger) (spawn : Spawn) → WithinOf l → WithinOf (admitted (admissionOn (spawn .bus) l) spawn l .ledger)
+within-managed : (l : Ledger) (spawn : Spawn) → WithinOf l → WithinOf (admitted (admissionOn (spawn .bus) (spawn .rank) l) spawn l .ledger)
 within-managed l spawn u =
     managed-kept spawn (λ r. WithinOf (r .ledger)) l (u .0) (λ h. u)
-    (λ h. within-settle spawn l u (λ k e. admit-below (u .0) (l .shared) (counted (l .shared .config .scope) (spawn .bus)) k (l .shared .config .policy)
-    (subst (λ b. admits b (l .shared .config .policy) (candidates (l .shared) (counted (l .shared .config .scope) (spawn .bus)) (l .voices)) ≡ admission.Admit) e h)))
+    (λ h. within-settle spawn l u (λ k e. admit-below (u .0) (l .shared) (counted (l .shared .config .scope) (spawn .bus)) k (l .shared .config .policy) (spawn .rank)
+    (subst (λ b. admits b (l .shared .config .policy) (spawn .rank) (candidates (l .shared) (counted (l .shared .config .scope) (spawn .bus)) (l .voices)) ≡ admission.Admit) e h)))
     (λ p w h v i t. within-settle spawn (stealVoice v l) (within-steal v l u) (spare-steal (spawn .bus) v l u i t))
 
 within-run : (xs : List Call) (l : Ledger) → WithinOf l → WithinOf (run xs l .ledger)
@@ -173,16 +173,16 @@ free-steady =
     calm Free
     (λ c b n vs w u. (u .0, λ v i. u .1 v (in-filter (λ x. not (isVoice w x)) vs v i .0), u .2))
     (λ c b n vs u. (u .0, λ v i. let r = in-map (moved oneMore) vs v i in ap (λ (x : Voice). x .state) (r .2) ∙ ap (movedState oneMore) (u .1 (r .0) (r .1)), u .2))
-    (λ c b n vs v q s h u. (u .0, loose-snoc vs v s (u .1), u .2))
+    (λ c b n vs v q s h k u. (u .0, loose-snoc vs v s (u .1), u .2))
 
 -- a managed spawn is then the port search alone, and its newVoice is loose
 module _ (spawn : Spawn) (l : Ledger) (e : l .shared .config .budget ≡ Unlimited) where
-  pub unlimited-spawn : admitted (admissionOn (spawn .bus) l) spawn l ≡ place 0 spawn Loose l
+  pub unlimited-spawn : admitted (admissionOn (spawn .bus) (spawn .rank) l) spawn l ≡ place 0 spawn Loose l
   unlimited-spawn =
-      ap (λ b. admitted (admits b (l .shared .config .policy) (candidates (l .shared) (counted (l .shared .config .scope) (spawn .bus)) (l .voices))) spawn l) e
+      ap (λ b. admitted (admits b (l .shared .config .policy) (spawn .rank) (candidates (l .shared) (counted (l .shared .config .scope) (spawn .bus)) (l .voices))) spawn l) e
       ∙ ap (λ b. place (tries b (l .voices)) spawn (stateUnder b) l) e
 
-free-managed : (l : Ledger) (spawn : Spawn) → Calm Free l → Calm Free (admitted (admissionOn (spawn .bus) l) spawn l .ledger)
+free-managed : (l : Ledger) (spawn : Spawn) → Calm Free l → Calm Free (admitted (admissionOn (spawn .bus) (spawn .rank) l) spawn l .ledger)
 free-managed l spawn u = subst (λ r. Calm Free (r .ledger)) (sym (unlimited-spawn spawn l (u .0))) (go (portFree (spawn .bus) l))
   where
     go : (o : Option ℕ) → Calm Free (instantiateOr o none spawn Loose l (refused NoPort) .ledger)
@@ -197,7 +197,7 @@ without-budget c e xs =
 -- nobody is reclaimed: a managed spawn takes no voice away
 pub nobody-reclaimed : (c : Config) → c .budget ≡ Unlimited → (xs : List Call) (spawn : Spawn) (v : Voice)
     → In v (run xs (newLedger c) .ledger .voices) → In v (step (call.spawnManaged spawn) (run xs (newLedger c) .ledger) .ledger .voices)
-nobody-reclaimed c e xs spawn v i = unless (spawnRefusal (l .shared) (l .voices) (spawn .def) (spawn .bus))
+nobody-reclaimed c e xs spawn v i = unless (spawnRefusal (l .shared) (l .voices) (spawn .def) (spawn .bus) (spawn .rank))
   where
     l : Ledger
     l = run xs (newLedger c) .ledger
@@ -209,6 +209,6 @@ nobody-reclaimed c e xs spawn v i = unless (spawnRefusal (l .shared) (l .voices)
     go none = i
     go (some p) = in-left (l .voices) (newVoice spawn Loose p (l .shared) ∷ []) v i
 
-    unless : (o : Option Refusal) → In v (ledger.unless o l (admitted (admissionOn (spawn .bus) l) spawn l) .ledger .voices)
+    unless : (o : Option Refusal) → In v (ledger.unless o l (admitted (admissionOn (spawn .bus) (spawn .rank) l) spawn l) .ledger .voices)
     unless (some r) = i
     unless none = subst (λ (r : SpawnResult). In v (r .ledger .voices)) (sym (unlimited-spawn spawn l u)) (go (portFree (spawn .bus) l))

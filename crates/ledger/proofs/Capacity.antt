@@ -219,9 +219,9 @@ room-steal n e l s v i t r = go (portHeld v l) refl
 abbrev pub RoomOf : Ledger → Type 0
 RoomOf l = Room 0 0 0 l
 
-room-spawn : (def : SynthDef) (bus : NodeId) (l : Ledger) → RoomOf l → spawnRefusal (l .shared) (l .voices) def bus ≡ none → Room (def .nodes .count + 2 + 1) (def .edges .count + 3 + 1) 1 l
-room-spawn def bus l r e =
-    let a = spawn-allowed (l .shared) (l .voices) def bus e in
+room-spawn : (def : SynthDef) (bus : NodeId) (rank : ℕ) (l : Ledger) → RoomOf l → spawnRefusal (l .shared) (l .voices) def bus rank ≡ none → Room (def .nodes .count + 2 + 1) (def .edges .count + 3 + 1) 1 l
+room-spawn def bus rank l r e =
+    let a = spawn-allowed (l .shared) (l .voices) def bus rank e in
     record { nodes = omega (arith, a .nodes); edges = omega (arith, a .edges); voices = omega (arith, a .voices); events = r .events }
 
 room-spare : (n e v : ℕ) (l : Ledger) → Room (n + 1) (e + 1) v l → Room n e v l
@@ -266,7 +266,7 @@ room-steady =
       disconnect = λ l b p e r.
           record { nodes = r .nodes; edges = omega (arith, r .edges, length-filter (λ d. not (endsAt b p d)) (l .shared .graph .edges)); voices = r .voices; events = r .events };
       setSink = λ l k r. record { nodes = r .nodes; edges = r .edges; voices = r .voices; events = r .events };
-      loose = λ l spawn e r. one l spawn (room-spare _ _ _ l (room-spawn (spawn .def) (spawn .bus) l r e)) (portFree (spawn .bus) l);
+      loose = λ l spawn e r. one l spawn (room-spare _ _ _ l (room-spawn (spawn .def) (spawn .bus) (spawn .rank) l r e)) (portFree (spawn .bus) l);
       goes = λ l w r. room-gone 0 0 0 l w r;
       node = λ l k x n e s r. record { nodes = rw (length-map (l .shared .graph .nodes) (λ m. cond (isNode (n .id) m) n m)) (r .nodes); edges = r .edges; voices = r .voices; events = r .events };
       schedule = λ l e h r.
@@ -290,8 +290,8 @@ room-step : (x : Call) (l : Ledger) → InvariantOf l → RoomOf l → RoomOf (s
 room-step x l s r = step-kept RoomOf room-steady x l (λ spawn q. managed spawn) r
   where
     managed : (spawn : Spawn) → RoomOf (ledger.spawnManaged spawn l .ledger)
-    managed spawn = landed-kept RoomOf (spawnRefusal (l .shared) (l .voices) (spawn .def) (spawn .bus)) l (admitted (admissionOn (spawn .bus) l) spawn l) r (λ e.
-        let a = room-spawn (spawn .def) (spawn .bus) l r e in
+    managed spawn = landed-kept RoomOf (spawnRefusal (l .shared) (l .voices) (spawn .def) (spawn .bus) (spawn .rank)) l (admitted (admissionOn (spawn .bus) (spawn .rank) l) spawn l) r (λ e.
+        let a = room-spawn (spawn .def) (spawn .bus) (spawn .rank) l r e in
         managed-kept spawn (λ z. RoomOf (z .ledger)) l (ids-of l s) (λ h. r) (λ h. room-settle spawn l (room-spare _ _ _ l a))
         (λ p w h v i t. room-settle spawn (stealVoice v l) (room-steal ((spawn .def) .nodes .count + 2) ((spawn .def) .edges .count + 3) l s v i (and-left (isTracked (v .state)) _ t) a)))
 

@@ -29,6 +29,7 @@ use Rattle.ledger.proofs.Words as words
 use Rattle.ledger.proofs.Simulation.{runs, kept-new}
 use Rattle.ledger.proofs.Made.{made}
 use Rattle.ledger.proofs.Capacity.{room-run}
+use Rattle.ledger.proofs.Ranks.{ranks-after}
 use Rattle.ledger.proofs.Budget.{within-budget, without-budget, nobody-reclaimed}
 use Rattle.ledger.proofs.Nodes.{own-run, own-new}
 use Rattle.ledger.proofs.Records.{recorded-run, recorded-new}
@@ -53,6 +54,7 @@ module _ (c : Config) (block : 0 < c .block) (fits : fadeLength (c .rate) ≤ 18
         ready = ready-run xs (newLedger c) (ready-new c);
         budget = λ n b bus. within-budget c n b xs bus;
         loose = λ b. without-budget c b xs;
+        ranks = ranks-after c xs;
         stay = λ b. nobody-reclaimed c b xs;
       }
 

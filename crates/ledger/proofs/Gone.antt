@@ -75,7 +75,7 @@ module _ (n₀ : ℕ) (vs₀ : List Voice) where
   StillOf l = Still (l .shared .spawned) (l .voices)
 
   still-steady : Preserves StillOf
-  still-steady = calm (λ c b n vs. Still n vs) (λ c b n vs w h. still-keep n vs (λ x. not (isVoice w x)) h) (λ c b n vs h. still-count n vs h) (λ c b n vs v e s lt h. still-land n vs v e h)
+  still-steady = calm (λ c b n vs. Still n vs) (λ c b n vs w h. still-keep n vs (λ x. not (isVoice w x)) h) (λ c b n vs h. still-count n vs h) (λ c b n vs v e s lt k h. still-land n vs v e h)
 
   still-spawning : Spawning StillOf
   still-spawning =
@@ -86,7 +86,7 @@ module _ (n₀ : ℕ) (vs₀ : List Voice) where
       }
 
   still-step : (x : Call) (l : Ledger) → StillOf l → StillOf (step x l .ledger)
-  still-step = kept-step StillOf still-steady (λ l spawn e h. managed-keeps StillOf still-spawning spawn (admissionOn (spawn .bus) l) l h)
+  still-step = kept-step StillOf still-steady (λ l spawn e h. managed-keeps StillOf still-spawning spawn (admissionOn (spawn .bus) (spawn .rank) l) l h)
 
 -- ---- so a fading voice goes on, or it is withoutVoice
 module _ (v : Voice) (f : Fade) (ph : v .state ≡ Fading f) (x : Call) (l : Ledger) (r : RecordedOf l) (q : OwnNodes l) (i : In v (l .voices)) where

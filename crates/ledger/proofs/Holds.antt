@@ -79,6 +79,7 @@ pub record Known (c : Config) (l : Ledger) : Type 0 where
   pub ready : ReadyOf l
   pub budget : (n : ℕ) → c .budget ≡ AtMost n → (bus : NodeId) → count (counted (c .scope) bus) (l .voices) ≤ n
   pub loose : c .budget ≡ Unlimited → words.AllLoose l
+  pub ranks : (v : Voice) → In v (l .voices) → v .rank ≤ 7
   pub stay : c .budget ≡ Unlimited → (x : Spawn) (v : Voice) → In v (l .voices) → In v (step (call.spawnManaged x) l .ledger .voices)
 
 module _ (c : Config) (l : Ledger) (known : Known c l) where
@@ -174,7 +175,7 @@ module _ (c : Config) (l : Ledger) (known : Known c l) where
       (ap (λ (o : graph.Outcome). o .answer) (known .ready .holds p)) (prepared-same (l .shared) (known .ready) p)
 
   -- ---- newcomers
-  arrives-shown : (x : Call) (y : Spawn) (state : VoiceState) → movedState (λ n. n * c .block) state ≡ state → (w : VoiceId) → ArrivesAt (y .bus) state w l (step x l .ledger)
+  arrives-shown : (x : Call) (y : Spawn) (state : VoiceState) → movedState (λ n. n * c .block) state ≡ state → (w : VoiceId) → ArrivesAt (y .bus) (y .rank) state w l (step x l .ledger)
       → Arrives y state w (storeOf c l) (storeOf c (step x l .ledger))
   arrives-shown x y state same w a =
       record {
@@ -184,6 +185,7 @@ module _ (c : Config) (l : Ledger) (known : Known c l) where
         next = a .next;
         on = a .on;
         birth = a .birth;
+        ranks = a .ranks;
         is = ap (movedState (λ n. n * c .block)) (a .state) ∙ same;
         holds = sym (kept-step x l (known .kept) .sound .held (y .bus .0) (a .voice .port)) ∙ a .holds;
       }
@@ -197,7 +199,7 @@ module _ (c : Config) (l : Ledger) (known : Known c l) where
   managed-arrives : (x : Spawn) (w : VoiceId) → step (call.spawnManaged x) l .answer ≡ call.spawned (Spawned.Voice w) → Arrives x (stateUnder (c .budget)) w (storeOf c l) (storeOf c (step (call.spawnManaged x) l .ledger))
   managed-arrives x w e =
       arrives-shown (call.spawnManaged x) x (stateUnder (c .budget)) (under-same (λ n. n * c .block) (c .budget)) w
-      (subst (λ z. ArrivesAt (x .bus) z w l (step (call.spawnManaged x) l .ledger)) under-budget (managed-comes x l w (spawned-is e)))
+      (subst (λ z. ArrivesAt (x .bus) (x .rank) z w l (step (call.spawnManaged x) l .ledger)) under-budget (managed-comes x l w (spawned-is e)))
 
   node-added : (kind : List ℕ) (ports required : ℕ) (values glides : Bool) (k : NodeId) → step (call.addNode kind ports required values glides) l .answer ≡ call.node k
       → In (k .0) (nodeIds (step (call.addNode kind ports required values glides) l .ledger .shared .graph .nodes)) × (In (k .0) (nodeIds (l .shared .graph .nodes)) → ⊥)
@@ -263,9 +265,9 @@ module _ (c : Config) (l : Ledger) (known : Known c l) where
         stay = λ b x v i. next (call.spawnManaged x) (λ t. In v (t .model .voices)) (
             let w = in-map (shown c) (l .voices) v i in
             subst (λ z. In z (map (shown c) (step (call.spawnManaged x) l .ledger .voices))) (sym (w .2)) (in-of-map (shown c) (step (call.spawnManaged x) l .ledger .voices) (w .0) (known .stay b x (w .0) (w .1))));
-        spawns = λ n b t x h. next (call.spawnManaged x) (λ z. z .answer ≡ call.spawned (spawnAnswer (x .bus) (storeOf c l)))
-            (spawn-answer x l (known .kept .sound) n (ap (λ (z : Config). z .budget) is ∙ b) (subst (λ (z : Config). Stealing (z .policy)) (sym is) t) (sym (refusal-same c (l .shared) (l .voices) (x .def) (x .bus)) ∙ h)
-            ∙ ap call.spawned (sym (answer-same c (x .bus) l (known .kept .sound))));
+        spawns = λ n b t x h. next (call.spawnManaged x) (λ z. z .answer ≡ call.spawned (spawnAnswer (x .bus) (x .rank) (storeOf c l)))
+            (spawn-answer x l (known .kept .sound) n (ap (λ (z : Config). z .budget) is ∙ b) (subst (λ (z : Config). Stealing (z .policy)) (sym is) t) (sym (refusal-same c (l .shared) (l .voices) (x .def) (x .bus) (x .rank)) ∙ h)
+            ∙ ap call.spawned (sym (answer-same c (x .bus) (x .rank) l is (known .kept .sound))));
         arrives = λ x w. next (call.spawnManaged x) (λ t. t .answer ≡ call.spawned (Spawned.Voice w) → Arrives x (stateUnder (c .budget)) w (storeOf c l) (t .model)) (managed-arrives x w);
         arrivesLoose = λ x w. next (call.spawnLoose x) (λ t. t .answer ≡ call.spawned (Spawned.Voice w) → Arrives x Loose w (storeOf c l) (t .model)) (λ e.
             arrives-shown (call.spawnLoose x) x Loose refl w (loose-comes x l w (spawned-is e)));
@@ -277,5 +279,6 @@ module _ (c : Config) (l : Ledger) (known : Known c l) where
         sounds = λ out e. next (call.render out) (λ t. isSounded (t .answer) ≡ sounding (t .model .shared)) (render-sounds out l (known .ready) e);
         shows = column;
         room = record { nodes = omega (arith, known .room .nodes); edges = omega (arith, known .room .edges); voices = omega (arith, known .room .voices, length-map (l .voices) (shown c)); events = known .room .events };
+        ranks = λ v i. let w = in-map (shown c) (l .voices) v i in subst (λ (x : Voice). x .rank ≤ 7) (sym (w .2)) (known .ranks (w .0) (w .1));
         records = r .newest;
       }

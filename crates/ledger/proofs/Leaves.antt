@@ -54,7 +54,7 @@ use Rattle.ledger.specs.Clear.{withoutVoices, endedVoices, silentVoices}
 use Rattle.ledger.specs.Clear as clearing
 use Rattle.ledger.specs.Render.{applyEvent, applyEvents, countedIf, preparedIf, rested, render}
 use Rattle.ledger.specs.Call.{Step, unless, step, renderStep, seen}
-use Rattle.ledger.specs.Claim.{busy, heldRecord, cutIfHeld, Newest, tracks, isSounded}
+use Rattle.ledger.specs.Claim.{mayGo, heldRecord, cutIfHeld, Newest, tracks, isSounded}
 use Rattle.ledger.proofs.Words.{GoesOn, Why, freed, timed, ended, silent, reclaimed}
 use Rattle.ledger.proofs.Ids.{unique, same-id}
 use Rattle.ledger.proofs.Victim.{nextOut-in}
@@ -160,7 +160,7 @@ module _ (v : Voice) (f : Fade) (ph : v .state ≡ Fading f) where
     here-settle m r h =
         place-kept spawn (stateUnder (m .shared .config .budget)) (λ n m. RecordedOf m × Here m) (λ r. Here (r .ledger))
         (λ n m p e q. ⊎-elim (λ i. inl (in-left (m .voices) (newVoice spawn _ p (m .shared) ∷ []) v i)) inr (q .1)) (λ m e q. q .1) (λ n m e g q. q .1)
-        (λ n m w e g q. let i = nextOut-in (q .0 .ids) (m .shared) (spawn .bus) w g in (recorded-cut w (w .state) m (q .0) (i .0) refl, here-cut w m (q .0) (i .0) (and-right (busy (w .state)) (isOn (spawn .bus) w) (i .1)) (q .1)))
+        (λ n m w e g q. let i = nextOut-in (q .0 .ids) (m .shared) (spawn .bus) (spawn .rank) w g in (recorded-cut w (w .state) m (q .0) (i .0) refl, here-cut w m (q .0) (i .0) (and-right (mayGo (spawn .rank) w) (isOn (spawn .bus) w) (i .1)) (q .1)))
         (tries (m .shared .config .budget) (m .voices)) m (r, h)
 
     -- the victim of the admission is another voice: it is tracked
@@ -177,7 +177,7 @@ module _ (v : Voice) (f : Fade) (ph : v .state ≡ Fading f) where
         go none = filter-in (λ x. not (isVoice (w .id) x)) (m .voices) v i (ap not off)
         go (some p) = subst (λ z. In z (map (beginFade (w .id) (fadeOf (m .shared))) (m .voices))) (begin-other (w .id) (fadeOf (m .shared)) v off) (in-of-map (beginFade (w .id) (fadeOf (m .shared))) (m .voices) v i)
 
-    here-managed : (m : Ledger) → RecordedOf m → In v (m .voices) → Here (admitted (admissionOn (spawn .bus) m) spawn m .ledger)
+    here-managed : (m : Ledger) → RecordedOf m → In v (m .voices) → Here (admitted (admissionOn (spawn .bus) (spawn .rank) m) spawn m .ledger)
     here-managed m r i =
         managed-kept spawn (λ z. Here (z .ledger)) m (r .ids) (λ a. inl i) (λ a. here-settle m r (inl i))
         (λ p w a u j t. let z = and-left (tracks u) _ t in here-settle (stealVoice u m) (recorded-steal u m r j z) (inl (here-steal u m r i j z)))
@@ -269,15 +269,15 @@ module _ (v : Voice) (f : Fade) (ph : v .state ≡ Fading f) where
       go none = ⊎-elim (λ j. inl (blocks (anyFree q) (applyEvents q (rested l)) j)) (λ z. inr (timed-by (renderStep none out l) z)) (leaves-events q (rested l) i)
 
   leaves-managed : (spawn : Spawn) (l : Ledger) → RecordedOf l → In v (l .voices) → Next l v f (call.spawnManaged spawn) (step (call.spawnManaged spawn) l)
-  leaves-managed spawn l r i = go (spawnRefusal (l .shared) (l .voices) (spawn .def) (spawn .bus))
+  leaves-managed spawn l r i = go (spawnRefusal (l .shared) (l .voices) (spawn .def) (spawn .bus) (spawn .rank))
     where
       out : SpawnResult → Step
       out z = record { answer = call.spawned (z .answer); ledger = z .ledger }
 
-      go : (o : Option Refusal) → Next l v f (call.spawnManaged spawn) (out (ledger.unless o l (admitted (admissionOn (spawn .bus) l) spawn l)))
+      go : (o : Option Refusal) → Next l v f (call.spawnManaged spawn) (out (ledger.unless o l (admitted (admissionOn (spawn .bus) (spawn .rank) l) spawn l)))
       go (some n) = inl (still (l .voices) i)
       go none =
-          ⊎-elim (λ j. inl (still (admitted (admissionOn (spawn .bus) l) spawn l .ledger .voices) j)) (λ z. inr (reclaimed spawn (z .0) (z .1 .1))) (here-managed spawn l r i)
+          ⊎-elim (λ j. inl (still (admitted (admissionOn (spawn .bus) (spawn .rank) l) spawn l .ledger .voices) j)) (λ z. inr (reclaimed spawn (z .0) (z .1 .1))) (here-managed spawn l r i)
 
   ready-still : (l : Ledger) (a : Readiness) → In v (l .voices) → GoesOn v f (readyAnswer a) (l .voices)
   ready-still l Ready i = still (l .voices) i
@@ -290,7 +290,7 @@ module _ (v : Voice) (f : Fade) (ph : v .state ≡ Fading f) where
   leaves (call.disconnect b p) l r q i = guarded (disconnectRefusal (l .shared .graph) b p) _ l _ i (λ e. inl (still (l .voices) i))
   leaves (call.setSink k) l r q i = guarded (hostRefusal (l .shared .graph) k) _ l _ i (λ e. inl (still (l .voices) i))
   leaves (call.spawnManaged spawn) l r q i = leaves-managed spawn l r i
-  leaves (call.spawnLoose spawn) l r q i = inl (go (spawnRefusal (l .shared) (l .voices) (spawn .def) (spawn .bus)))
+  leaves (call.spawnLoose spawn) l r q i = inl (go (spawnRefusal (l .shared) (l .voices) (spawn .def) (spawn .bus) (spawn .rank)))
     where
       go : (o : Option Refusal) → In (withState (Fading f) v) (ledger.unless o l (place 0 spawn Loose l) .ledger .voices)
       go (some n) = still (l .voices) i

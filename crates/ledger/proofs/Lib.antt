@@ -39,6 +39,7 @@ pub mod Since
 pub mod Gone
 pub mod Losses
 pub mod Arrives
+pub mod Ranks
 pub mod Store
 pub mod Holds
 pub mod FadeTable

@@ -4,16 +4,16 @@
 use Prim.Native.Nat.{ℕ, suc, _+_, _≤_, _<_}
 use native.Mathlib.Omega.{arith}
 use native.Mathlib.Decide.{ℕ-discrete}
-use mathlib.Core.Path.{_≡_, refl, sym, ap, _∙_, subst}
+use mathlib.Core.Path.{_≡_, refl, sym, ap, ap₂, _∙_, subst}
 use mathlib.Core.Logic.{_⊎_, inl, inr, ⊎-elim}
 use mathlib.Core.List.{List, [], _∷_, _++_, map}
 use mathlib.Core.Option.{Option, none, some}
-use mathlib.Core.Bool.{Bool, true, false, not, cond, false≢true}
-use lib.Dec.{eqb, ltb}
+use mathlib.Core.Bool.{Bool, true, false, not, cond, _&&_, _||_, false≢true}
+use lib.Dec.{eqb, leb, ltb}
 use lib.ListN.{length, length-append}
-use borrow.Author.Tests.{eq-eqb, ne-eqb, eqb-true, not-true}
+use borrow.Author.Tests.{eq-eqb, ne-eqb, eqb-true, not-true, leb-true}
 use Rattle.lists.specs.Member.{In}
-use Rattle.lists.proofs.Member.{in-snoc, in-left, in-right, in-map, in-of-map, and-left, and-right}
+use Rattle.lists.proofs.Member.{in-snoc, in-left, in-right, in-map, in-of-map, and-left, and-right, both, some-inj, none-some}
 use Rattle.lists.specs.Find.{find, isSome, mapO}
 use Rattle.lists.proofs.Find.{find-in, find-filter-same, find-snoc-off, find-map}
 use Rattle.lists.specs.Filter.{filter}
@@ -27,6 +27,8 @@ use Rattle.graph.specs.Node.{isNode, nodeAt, withId}
 use Rattle.voice.specs.Steals.{StealLog, pushed, marked, cutOf, recordOf}
 use Rattle.voice.specs.declared.policy.Admission.{Admission}
 use Rattle.voice.specs.declared.policy.Admission.the-variants as admission
+use Rattle.voice.specs.declared.policy.BudgetScope.{BudgetScope}
+use Rattle.voice.specs.declared.policy.BudgetScope.the-variants.{Global, PerGroup}
 use Rattle.voice.specs.declared.policy.Level.{Level}
 use Rattle.voice.specs.declared.policy.Level.the-variants.{Unknown, Known}
 use Rattle.voice.specs.declared.steals.StealRecord.{StealRecord}
@@ -35,13 +37,13 @@ use Rattle.store.specs.declared.voices.Voice.{Voice}
 use Rattle.store.specs.declared.voices.VoiceState.{VoiceState}
 use Rattle.store.specs.declared.voices.VoiceState.the-variants.{Tracked, Fading, Loose}
 use Rattle.store.specs.declared.voices.Fade.{Fade}
-use Rattle.model.specs.Voice.{id, isVoice, isTracked, isOn, withState, beginFade, nodeLevel, voiceLevel, counted}
+use Rattle.model.specs.Voice.{id, isVoice, isTracked, isFading, isOn, trackedOn, withState, beginFade, nodeLevel, voiceLevel, counted}
 use Rattle.model.specs.Refuse.{spawnRefusal}
 use Rattle.model.specs.Spawn.{Spawn, newVoice, stateUnder, tries, fadeNode, fadeOf, nextOut}
 use Rattle.model.specs.Call as call
 use Rattle.ledger.specs.Ledger.{Ledger, portHeld, cutOff, stolen, stealVoice, instantiate, placeWithinBudget, stealThen, admitted, admissionOn, unless}
 use Rattle.ledger.specs.Call.{step}
-use Rattle.ledger.specs.Claim.{heldRecord, cutFound, tracks, busy, busyOn, Heads, victimIn, lossOf, Records}
+use Rattle.ledger.specs.Claim.{heldRecord, cutFound, tracks, mayGo, mayGoOn, Heads, victimIn, lossOf, Records}
 use Rattle.ledger.proofs.Allowed.{spawn-allowed}
 use Rattle.ledger.proofs.Victim.{nextOut-in, steal-voice}
 use Rattle.ledger.proofs.Preserved.{place-kept}
@@ -85,8 +87,8 @@ heads-snoc : (o : Option Voice) (vs : List Voice) (v : Voice) → Heads o vs →
 heads-snoc none vs v h = tt
 heads-snoc (some g) vs v h = (h .0 ++ (v ∷ []), ap (λ z. z ++ (v ∷ [])) (h .1))
 
--- what a managed spawn on the bus, with the victim o, made of l
-pub record LossesOf (bus : NodeId) (o : Option Voice) (l l' : Ledger) : Type 0 where
+-- what a managed spawn on the bus, of rank r and with the victim o, made of l
+pub record LossesOf (bus : NodeId) (r : ℕ) (o : Option Voice) (l l' : Ledger) : Type 0 where
   pub lost : List Voice
   pub were : (v : Voice) → In v lost → In v (l .voices) × (v .state ≡ Tracked)
   pub away : (v : Voice) → In v lost → In v (l' .voices) → ⊥
@@ -94,12 +96,15 @@ pub record LossesOf (bus : NodeId) (o : Option Voice) (l l' : Ledger) : Type 0 w
   pub apart : Apart lost
   pub first : Heads o lost
   pub others : (v : Voice) → In v lost → (o ≡ some v) ⊎ (isOn bus v ≡ true)
+  pub below : (v : Voice) → In v lost → v .rank ≤ r
+  pub least : (v u : Voice) → o ≡ some v → In u (l .voices) → counted (l .shared .config .scope) bus u ≡ true → v .rank ≤ u .rank
+  pub lowest : (v u : Voice) → In v lost → In u (l' .voices) → u .state ≡ Tracked → isOn bus u ≡ true → v .rank ≤ u .rank
   pub fades : (v u : Voice) → In v lost → find (isVoice (v .id)) (l' .voices) ≡ some u → (u ≡ withState (Fading (fadeOf (l .shared))) v) × ((p : ℕ) × (portHeld v l ≡ some p))
   pub count : l' .shared .steals .count ≡ l .shared .steals .count + length lost
   pub records : Records (lossOf (l .shared) (l' .voices)) (l' .shared .steals) (l .shared .steals .count) lost
 
-nothing-lost : (bus : NodeId) (l : Ledger) → LossesOf bus none l l
-nothing-lost bus l =
+nothing-lost : (bus : NodeId) (r : ℕ) (l : Ledger) → LossesOf bus r none l l
+nothing-lost bus r l =
     record {
       lost = [];
       were = λ v i. absurd i;
@@ -108,6 +113,9 @@ nothing-lost bus l =
       apart = tt;
       first = tt;
       others = λ v i. absurd i;
+      below = λ v i. absurd i;
+      least = λ v u e. absurd (none-some e);
+      lowest = λ v u i. absurd i;
       fades = λ v u i. absurd i;
       count = omega arith;
       records = tt;
@@ -117,7 +125,7 @@ tracked-fades : (f : Fade) → Tracked ≡ Fading f → ⊥
 tracked-fades f e = let z : _≡_ {A = ℕ} 0 1 = cc in omega arith
 
 -- ---- during a managed spawn that found the ledger l₀, with the victim o of the admission
-module _ (bus : NodeId) (l₀ : Ledger) (r₀ : RecordedOf l₀) (q₀ : OwnNodes l₀) (few : length (l₀ .voices) < 64) (o : Option Voice) where
+module _ (bus : NodeId) (rank : ℕ) (l₀ : Ledger) (r₀ : RecordedOf l₀) (q₀ : OwnNodes l₀) (few : length (l₀ .voices) < 64) (o : Option Voice) where
   abbrev k₀ : ℕ
   k₀ = l₀ .shared .steals .count
 
@@ -139,6 +147,8 @@ module _ (bus : NodeId) (l₀ : Ledger) (r₀ : RecordedOf l₀) (q₀ : OwnNode
     pub all : (v : Voice) → In v (l₀ .voices) → v .state ≡ Tracked → In v lost ⊎ In v (z .voices)
     pub apart : Apart lost
     pub others : (v : Voice) → In v lost → (o ≡ some v) ⊎ (isOn bus v ≡ true)
+    pub below : (v : Voice) → In v lost → v .rank ≤ rank
+    pub lowest : (v u : Voice) → In v lost → In u (z .voices) → u .state ≡ Tracked → isOn bus u ≡ true → v .rank ≤ u .rank
     pub count : z .shared .steals .count ≡ k₀ + length lost
     pub records : Records (lossOf (l₀ .shared) (z .voices)) (z .shared .steals) k₀ lost
 
@@ -208,8 +218,8 @@ module _ (bus : NodeId) (l₀ : Ledger) (r₀ : RecordedOf l₀) (q₀ : OwnNode
             ⊎-elim (λ m. inl (subst (λ x. In x lost) (sym s) m)) (λ f. absurd (f (ap (λ (x : Voice). x .state) (sym s) ∙ t))) own
 
     -- a tracked voice goes, with a cut record
-    losing-push : v .state ≡ Tracked → (o ≡ some v) ⊎ (isOn bus v ≡ true) → Losing (cutOff v Tracked z)
-    losing-push t why =
+    losing-push : v .state ≡ Tracked → (o ≡ some v) ⊎ (isOn bus v ≡ true) → v .rank ≤ rank → ((u : Voice) → In u (z .voices) → trackedOn bus u ≡ true → v .rank ≤ u .rank) → Losing (cutOff v Tracked z)
+    losing-push t why low least =
         record {
           recorded = recorded-cut v Tracked z (h .recorded) i t;
           mine = mine-cut v Tracked z (h .mine);
@@ -224,6 +234,8 @@ module _ (bus : NodeId) (l₀ : Ledger) (r₀ : RecordedOf l₀) (q₀ : OwnNode
           all = all-rest (h .lost ++ (v ∷ [])) (inl (in-right (h .lost) (v ∷ []) v (inl refl))) (λ u j. in-left (h .lost) (v ∷ []) u j);
           apart = apart-snoc (h .lost) v (lost-other z h v i t) (h .apart);
           others = λ u j. ⊎-elim (h .others u) (λ e. subst (λ x. (o ≡ some x) ⊎ (isOn bus x ≡ true)) (sym e) why) (in-snoc (h .lost) v u j);
+          below = λ u j. ⊎-elim (h .below u) (λ e. subst (λ (x : Voice). x .rank ≤ rank) (sym e) low) (in-snoc (h .lost) v u j);
+          lowest = λ u y j k s on. let m = in-rest y k .0 in ⊎-elim (λ i. h .lowest u y i m s on) (λ e. subst (λ (x : Voice). x .rank ≤ y .rank) (sym e) (least y m (both _ _ (ap isTracked s) on))) (in-snoc (h .lost) v u j);
           count = let a = count-pushed b rec small in let e = h .count in let n = length-append (h .lost) (v ∷ []) in omega arith;
           records =
               records-snoc (lossOf (l₀ .shared) rest) (pushed b rec) k₀ (h .lost) v
@@ -261,6 +273,8 @@ module _ (bus : NodeId) (l₀ : Ledger) (r₀ : RecordedOf l₀) (q₀ : OwnNode
           all = all-rest (h .lost) (inr (λ e. tracked-fades f (sym e ∙ t))) (λ u j. j);
           apart = h .apart;
           others = h .others;
+          below = h .below;
+          lowest = λ u y j k s on. h .lowest u y j (in-rest y k .0) s on;
           count = h .count;
           records = ⊎-elim old this (h .from v i);
         }
@@ -310,11 +324,14 @@ module _ (bus : NodeId) (l₀ : Ledger) (r₀ : RecordedOf l₀) (q₀ : OwnNode
                 ap' = subst Apart (q .1) (h .apart)
 
   -- whoever is next to go for a port
-  losing-cut : (z : Ledger) (h : Losing z) → Heads o (h .lost) → (v : Voice) → In v (z .voices) → busyOn bus v ≡ true → (s : VoiceState) → v .state ≡ s → (n : Losing (cutOff v s z)) × Heads o (n .lost)
+  losing-cut : (z : Ledger) (h : Losing z) → Heads o (h .lost) → (v : Voice) → In v (z .voices) → mayGoOn bus rank v ≡ true → (isTracked (v .state) ≡ true → (u : Voice) → In u (z .voices) → trackedOn bus u ≡ true → v .rank ≤ u .rank) → (s : VoiceState) → v .state ≡ s → (n : Losing (cutOff v s z)) × Heads o (n .lost)
   unfolding losing-push losing-mark
-  losing-cut z h heads v i on Tracked t = (losing-push z h v i t (inr (and-right (busy (v .state)) (isOn bus v) on)), heads-snoc o (h .lost) v heads)
-  losing-cut z h heads v i on (Fading f) t = (losing-mark z h v i f t heads, heads)
-  losing-cut z h heads v i on Loose t = absurd (false≢true (sym (ap busy t) ∙ and-left (busy (v .state)) (isOn bus v) on))
+  losing-cut z h heads v i on low Tracked t = (losing-push z h v i t (inr (and-right (mayGo rank v) (isOn bus v) on)) (leb-true _ _ (goes-low t)) (low (ap isTracked t)), heads-snoc o (h .lost) v heads)
+    where
+      goes-low : v .state ≡ Tracked → leb (v .rank) rank ≡ true
+      goes-low t = subst (λ s. (isFading s || (isTracked s && leb (v .rank) rank)) ≡ true) t (and-left (mayGo rank v) (isOn bus v) on)
+  losing-cut z h heads v i on low (Fading f) t = (losing-mark z h v i f t heads, heads)
+  losing-cut z h heads v i on low Loose t = absurd (false≢true (subst (λ s. (isFading s || (isTracked s && leb (v .rank) rank)) ≡ true) t (and-left (mayGo rank v) (isOn bus v) on)))
 
   losing-start : Losing l₀
   losing-start =
@@ -332,13 +349,15 @@ module _ (bus : NodeId) (l₀ : Ledger) (r₀ : RecordedOf l₀) (q₀ : OwnNode
         all = λ v i t. inr i;
         apart = tt;
         others = λ v i. absurd i;
+        below = λ v i. absurd i;
+        lowest = λ v u i. absurd i;
         count = omega arith;
         records = tt;
       }
 
   -- the victim of the admission begins to fade, with a record that is not cut
-  losing-fade : (v : Voice) → In v (l₀ .voices) → v .state ≡ Tracked → o ≡ some v → (p : ℕ) → portHeld v l₀ ≡ some p → Losing (stolen v (some p) l₀)
-  losing-fade v i t is p held =
+  losing-fade : (v : Voice) → In v (l₀ .voices) → v .state ≡ Tracked → o ≡ some v → v .rank ≤ rank → ((u : Voice) → In u (l₀ .voices) → trackedOn bus u ≡ true → v .rank ≤ u .rank) → (p : ℕ) → portHeld v l₀ ≡ some p → Losing (stolen v (some p) l₀)
+  losing-fade v i t is low least p held =
       record {
         recorded = subst (λ x. RecordedOf (stolen v x l₀)) held (recorded-steal v l₀ r₀ i (ap tracks' t));
         mine = subst (λ x. MineOf (stolen v x l₀)) held (mine-steal v l₀ (q₀ .1));
@@ -353,6 +372,8 @@ module _ (bus : NodeId) (l₀ : Ledger) (r₀ : RecordedOf l₀) (q₀ : OwnNode
         all = λ u j s. go u j (ℕ-discrete (u .id .0) (v .id .0));
         apart = (λ u j. absurd j, tt);
         others = λ u j. only u j (λ x. (o ≡ some x) ⊎ (isOn bus x ≡ true)) (inl is);
+        below = λ u j. only u j (λ x. x .rank ≤ rank) low;
+        lowest = λ u y j k s on. only u j (λ x. x .rank ≤ y .rank) (⊎-elim (λ e. absurd (tracked-fades f₀ (sym s ∙ ap (λ (x : Voice). x .state) e))) (λ m. least y (m .0) (both _ _ (ap isTracked s) on)) (begun (r₀ .ids) v i f₀ y k));
         count = count-pushed b rec small;
         records = (held-new b rec small (r₀ .newest) ∙ ap found.Record (ap (λ x. recordOf (l₀ .shared .clock) (voiceLevel (l₀ .shared) v) (not (isSome x))) (sym there)), tt);
       }
@@ -408,20 +429,24 @@ module _ (bus : NodeId) (l₀ : Ledger) (r₀ : RecordedOf l₀) (q₀ : OwnNode
           (find-snoc-off (isNode (id (x .first .0 + q .at))) (l₀ .shared .graph .nodes) (withId (l₀ .shared .graph .next) (fadeNode (v .id)))
           (ne-eqb (l₀ .shared .graph .next) (x .first .0 + q .at) (λ m. omega (arith, m, a, lt))))
 
-  losing-steal : (v : Voice) → In v (l₀ .voices) → v .state ≡ Tracked → o ≡ some v → (n : Losing (stealVoice v l₀)) × Heads o (n .lost)
+  losing-steal : (v : Voice) → In v (l₀ .voices) → v .state ≡ Tracked → o ≡ some v → v .rank ≤ rank → ((u : Voice) → In u (l₀ .voices) → trackedOn bus u ≡ true → v .rank ≤ u .rank) → (n : Losing (stealVoice v l₀)) × Heads o (n .lost)
   unfolding losing-push losing-start losing-fade
-  losing-steal v i t is = go (portHeld v l₀) refl
+  losing-steal v i t is low least = go (portHeld v l₀) refl
     where
       heads : Heads o (v ∷ [])
       heads = subst (λ x. Heads x (v ∷ [])) (sym is) ([], refl)
 
       go : (x : Option ℕ) → portHeld v l₀ ≡ x → (n : Losing (stolen v x l₀)) × Heads o (n .lost)
-      go none e = (losing-push l₀ losing-start v i t (inl is), heads)
-      go (some p) e = (losing-fade v i t is p e, heads)
+      go none e = (losing-push l₀ losing-start v i t (inl is) low least, heads)
+      go (some p) e = (losing-fade v i t is low least p e, heads)
 
   -- ---- its end: no port, or a newVoice, whose id is none of theirs
-  losing-ends : (z : Ledger) (h : Losing z) → Heads o (h .lost) → LossesOf bus o l₀ z
-  losing-ends z h heads =
+  -- the victim is of the lowest rank among those that count
+  abbrev Least : Type 0
+  Least = (v u : Voice) → o ≡ some v → In u (l₀ .voices) → counted (l₀ .shared .config .scope) bus u ≡ true → v .rank ≤ u .rank
+
+  losing-ends : Least → (z : Ledger) (h : Losing z) → Heads o (h .lost) → LossesOf bus rank o l₀ z
+  losing-ends least z h heads =
       record {
         lost = h .lost;
         were = h .were;
@@ -430,6 +455,9 @@ module _ (bus : NodeId) (l₀ : Ledger) (r₀ : RecordedOf l₀) (q₀ : OwnNode
         apart = h .apart;
         first = heads;
         others = h .others;
+        below = h .below;
+        least = least;
+        lowest = h .lowest;
         fades = fades;
         count = h .count;
         records = h .records;
@@ -454,9 +482,9 @@ module _ (bus : NodeId) (l₀ : Ledger) (r₀ : RecordedOf l₀) (q₀ : OwnNode
               let g : s .0 ≡ v = unique (r₀ .ids) (s .0) v (h .were (s .0) j .0) (h .were v i .0) (ap (λ (x : Voice). x .id .0) (sym (s .4)) ∙ same) in
               (s .4 ∙ ap (withState (Fading (fadeOf (l₀ .shared)))) g, (s .1, ap (λ x. portHeld x l₀) (sym g) ∙ s .3))
 
-  losing-lands : (z : Ledger) (h : Losing z) → Heads o (h .lost) → (spawn : Spawn) (s : VoiceState) (p : ℕ) → LossesOf bus o l₀ (instantiate spawn s p z .ledger)
-  losing-lands z h heads spawn s p =
-      let e = losing-ends z h heads in
+  losing-lands : Least → (z : Ledger) (h : Losing z) → Heads o (h .lost) → (spawn : Spawn) → spawn .rank ≡ rank → (s : VoiceState) (p : ℕ) → LossesOf bus rank o l₀ (instantiate spawn s p z .ledger)
+  losing-lands least z h heads spawn same-rank s p =
+      let e = losing-ends least z h heads in
       record {
         lost = e .lost;
         were = e .were;
@@ -465,6 +493,9 @@ module _ (bus : NodeId) (l₀ : Ledger) (r₀ : RecordedOf l₀) (q₀ : OwnNode
         apart = e .apart;
         first = e .first;
         others = e .others;
+        below = e .below;
+        least = e .least;
+        lowest = λ v u i j t on. ⊎-elim (λ k. e .lowest v u i k t on) (λ q. let low = e .below v i in let k : u .rank ≡ spawn .rank = ap (λ (x : Voice). x .rank) q in omega (arith, low, k, same-rank)) (in-snoc (z .voices) n u j);
         fades = λ v u i f. e .fades v u i (sym (same v (e .were v i .0)) ∙ f);
         count = e .count;
         records = records-same (lossOf (l₀ .shared) (z .voices)) (lossOf (l₀ .shared) (z .voices ++ (n ∷ []))) (z .shared .steals) (z .shared .steals) k₀ (e .lost)
@@ -480,30 +511,38 @@ module _ (bus : NodeId) (l₀ : Ledger) (r₀ : RecordedOf l₀) (q₀ : OwnNode
       same : (v : Voice) → In v (l₀ .voices) → find (isVoice (v .id)) (z .voices ++ (n ∷ [])) ≡ find (isVoice (v .id)) (z .voices)
       same v i = find-snoc-off (isVoice (v .id)) (z .voices) n (ne-eqb (n .id .0) (v .id .0) (newer v i))
 
-  losing-settle : (spawn : Spawn) → spawn .bus ≡ bus → (z : Ledger) (h : Losing z) → Heads o (h .lost) → LossesOf bus o l₀ (placeWithinBudget spawn z .ledger)
-  losing-settle spawn on z h heads =
-      place-kept spawn (stateUnder (z .shared .config .budget)) (λ n z. (h : Losing z) × Heads o (h .lost)) (λ r. LossesOf bus o l₀ (r .ledger))
-      (λ n z p e q. losing-lands z (q .0) (q .1) spawn _ p) (λ z e q. losing-ends z (q .0) (q .1)) (λ n z e f q. losing-ends z (q .0) (q .1))
-      (λ n z v e f q. let r = nextOut-in (q .0 .recorded .ids) (z .shared) bus v (ap (λ b. nextOut (z .shared) b (z .voices)) (sym on) ∙ f) in losing-cut z (q .0) (q .1) v (r .0) (r .1) (v .state) refl)
+  losing-settle : Least → (spawn : Spawn) → spawn .bus ≡ bus → spawn .rank ≡ rank → (z : Ledger) (h : Losing z) → Heads o (h .lost) → LossesOf bus rank o l₀ (placeWithinBudget spawn z .ledger)
+  losing-settle least spawn on high z h heads =
+      place-kept spawn (stateUnder (z .shared .config .budget)) (λ n z. (h : Losing z) × Heads o (h .lost)) (λ r. LossesOf bus rank o l₀ (r .ledger))
+      (λ n z p e q. losing-lands least z (q .0) (q .1) spawn high _ p) (λ z e q. losing-ends least z (q .0) (q .1)) (λ n z e f q. losing-ends least z (q .0) (q .1))
+      (λ n z v e f q. let r = nextOut-in (q .0 .recorded .ids) (z .shared) bus rank v (ap₂ (λ b k. nextOut (z .shared) b k (z .voices)) (sym on) (sym high) ∙ f) in losing-cut z (q .0) (q .1) v (r .0) (r .1) (r .2) (v .state) refl)
       (tries (z .shared .config .budget) (z .voices)) z (h, heads)
 
 -- ---- every managed spawn
 pub losses : (x : Spawn) (l : Ledger) → RecordedOf l → OwnNodes l
-    → LossesOf (x .bus) (victimIn (spawnRefusal (l .shared) (l .voices) (x .def) (x .bus)) (admissionOn (x .bus) l) (l .voices)) l (step (call.spawnManaged x) l .ledger)
-losses x l r q = go (spawnRefusal (l .shared) (l .voices) (x .def) (x .bus)) refl
+    → LossesOf (x .bus) (x .rank) (victimIn (spawnRefusal (l .shared) (l .voices) (x .def) (x .bus) (x .rank)) (admissionOn (x .bus) (x .rank) l) (l .voices)) l (step (call.spawnManaged x) l .ledger)
+losses x l r q = go (spawnRefusal (l .shared) (l .voices) (x .def) (x .bus) (x .rank)) refl
   where
     bus : NodeId
     bus = x .bus
 
-    admits : length (l .voices) < 64 → (a : Admission) → admissionOn bus l ≡ a → LossesOf bus (victimIn none a (l .voices)) l (admitted a x l .ledger)
-    admits few admission.Admit e = losing-settle bus l r q few none x refl l (losing-start bus l r q few none) tt
-    admits few admission.Reject e = nothing-lost bus l
-    admits few (admission.Steal p w) e =
-        let s = steal-voice (r .ids) (l .shared) (counted (l .shared .config .scope) bus) (l .shared .config .budget) (l .shared .config .policy) p w e in
-        let z = losing-steal bus l r q few (some (s .0)) (s .0) (s .1) (tracked-state (s .0 .state) (and-left (isTracked (s .0 .state)) _ (s .2))) refl in
-        subst (λ o. LossesOf bus o l (stealThen o x l .ledger)) (sym (s .3)) (losing-settle bus l r q few (some (s .0)) x refl (stealVoice (s .0) l) (z .0) (z .1))
+    counts : BudgetScope → NodeId → Type 0
+    counts s b = (u : Voice) → trackedOn b u ≡ true → counted s b u ≡ true
 
-    go : (o : Option Refusal) → spawnRefusal (l .shared) (l .voices) (x .def) bus ≡ o
-        → LossesOf bus (victimIn o (admissionOn bus l) (l .voices)) l (unless o l (admitted (admissionOn bus l) x l) .ledger)
-    go (some n) e = nothing-lost bus l
-    go none e = admits (spawn-allowed (l .shared) (l .voices) (x .def) bus e .voices) (admissionOn bus l) refl
+    on-bus : (s : BudgetScope) (b : NodeId) → counts s b
+    on-bus Global b u h = both _ _ (and-left (isTracked (u .state)) _ h) refl
+    on-bus PerGroup b u h = h
+
+    admits : length (l .voices) < 64 → (a : Admission) → admissionOn bus (x .rank) l ≡ a → LossesOf bus (x .rank) (victimIn none a (l .voices)) l (admitted a x l .ledger)
+    admits few admission.Admit e = losing-settle bus (x .rank) l r q few none (λ v u n. absurd (none-some n)) x refl refl l (losing-start bus (x .rank) l r q few none) tt
+    admits few admission.Reject e = nothing-lost bus (x .rank) l
+    admits few (admission.Steal p w) e =
+        let s = steal-voice (r .ids) (l .shared) (counted (l .shared .config .scope) bus) (l .shared .config .budget) (l .shared .config .policy) (x .rank) p w e in
+        let z = losing-steal bus (x .rank) l r q few (some (s .0)) (s .0) (s .1) (tracked-state (s .0 .state) (and-left (isTracked (s .0 .state)) _ (s .2))) refl (s .4) (λ u i t. s .5 u i (on-bus (l .shared .config .scope) bus u t)) in
+        subst (λ o. LossesOf bus (x .rank) o l (stealThen o x l .ledger)) (sym (s .3))
+        (losing-settle bus (x .rank) l r q few (some (s .0)) (λ v u n i t. subst (λ (y : Voice). y .rank ≤ u .rank) (some-inj n) (s .5 u i t)) x refl refl (stealVoice (s .0) l) (z .0) (z .1))
+
+    go : (o : Option Refusal) → spawnRefusal (l .shared) (l .voices) (x .def) bus (x .rank) ≡ o
+        → LossesOf bus (x .rank) (victimIn o (admissionOn bus (x .rank) l) (l .voices)) l (unless o l (admitted (admissionOn bus (x .rank) l) x l) .ledger)
+    go (some n) e = nothing-lost bus (x .rank) l
+    go none e = admits (spawn-allowed (l .shared) (l .voices) (x .def) bus (x .rank) e .voices) (admissionOn bus (x .rank) l) refl

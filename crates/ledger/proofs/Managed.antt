@@ -1,5 +1,5 @@
 -- A managed spawn taken apart: rejected, admitted, or let in after a steal; and that voices filter distinct ids through every list.
-use Prim.Native.Nat.{ℕ}
+use Prim.Native.Nat.{ℕ, _≤_}
 use mathlib.Core.Path.{_≡_, refl, sym, _∙_, subst}
 use mathlib.Core.List.{List, [], _∷_}
 use mathlib.Core.Option.{Option, none, some}
@@ -28,18 +28,25 @@ abbrev pub IdsOf : Ledger → Type 0
 IdsOf l = Ids (l .shared .spawned) (l .voices)
 
 module _ (spawn : Spawn) (R : SpawnResult → Type 0) (l : Ledger) (u : IdsOf l)
-    (rejects : admissionOn (spawn .bus) l ≡ admission.Reject → R (refused Rejected l))
-    (admits : admissionOn (spawn .bus) l ≡ admission.Admit → R (placeWithinBudget spawn l))
-    (steals : (p : ℕ) (w : VoiceId) → admissionOn (spawn .bus) l ≡ admission.Steal p w → (v : Voice) → In v (l .voices) → counted (l .shared .config .scope) (spawn .bus) v ≡ true → R (placeWithinBudget spawn (stealVoice v l))) where
-  pub managed-kept : R (admitted (admissionOn (spawn .bus) l) spawn l)
-  managed-kept = go (admissionOn (spawn .bus) l) refl
+    (rejects : admissionOn (spawn .bus) (spawn .rank) l ≡ admission.Reject → R (refused Rejected l))
+    (admits : admissionOn (spawn .bus) (spawn .rank) l ≡ admission.Admit → R (placeWithinBudget spawn l)) where
+  -- the victim does not outrank the newVoice
+  pub managed-ranked :
+      ((p : ℕ) (w : VoiceId) → admissionOn (spawn .bus) (spawn .rank) l ≡ admission.Steal p w → (v : Voice) → In v (l .voices) → counted (l .shared .config .scope) (spawn .bus) v ≡ true → v .rank ≤ spawn .rank
+      → R (placeWithinBudget spawn (stealVoice v l))) → R (admitted (admissionOn (spawn .bus) (spawn .rank) l) spawn l)
+  managed-ranked steals = go (admissionOn (spawn .bus) (spawn .rank) l) refl
     where
-      go : (a : Admission) → admissionOn (spawn .bus) l ≡ a → R (admitted a spawn l)
+      go : (a : Admission) → admissionOn (spawn .bus) (spawn .rank) l ≡ a → R (admitted a spawn l)
       go admission.Admit e = admits e
       go admission.Reject e = rejects e
       go (admission.Steal p w) e =
-          let r = steal-voice u (l .shared) (counted (l .shared .config .scope) (spawn .bus)) (l .shared .config .budget) (l .shared .config .policy) p w e in
-          subst (λ o. R (stealThen o spawn l)) (sym (r .3)) (steals p w e (r .0) (r .1) (r .2))
+          let r = steal-voice u (l .shared) (counted (l .shared .config .scope) (spawn .bus)) (l .shared .config .budget) (l .shared .config .policy) (spawn .rank) p w e in
+          subst (λ o. R (stealThen o spawn l)) (sym (r .3)) (steals p w e (r .0) (r .1) (r .2) (r .4))
+
+  pub managed-kept :
+      ((p : ℕ) (w : VoiceId) → admissionOn (spawn .bus) (spawn .rank) l ≡ admission.Steal p w → (v : Voice) → In v (l .voices) → counted (l .shared .config .scope) (spawn .bus) v ≡ true
+      → R (placeWithinBudget spawn (stealVoice v l))) → R (admitted (admissionOn (spawn .bus) (spawn .rank) l) spawn l)
+  managed-kept steals = managed-ranked (λ p w e v i t low. steals p w e v i t)
 
 -- ---- distinct ids
 pub begin-id : (w : VoiceId) (f : Fade) (v : Voice) → beginFade w f v .id ≡ v .id
@@ -67,7 +74,7 @@ ids-settle spawn l u =
 
 pub ids-steady : Preserves IdsOf
 ids-steady =
-    calm (λ c b n vs. Ids n vs) (λ c b n vs w u. ids-keep (λ x. not (isVoice w x)) u) (λ c b n vs u. ids-map (moved oneMore) (λ v. refl) u) (λ c b n vs v e s h u. ids-snoc v e u)
+    calm (λ c b n vs. Ids n vs) (λ c b n vs w u. ids-keep (λ x. not (isVoice w x)) u) (λ c b n vs u. ids-map (moved oneMore) (λ v. refl) u) (λ c b n vs v e s h k u. ids-snoc v e u)
 
 pub ids-step : (x : Call) (l : Ledger) → IdsOf l → IdsOf (step x l .ledger)
 ids-step = kept-step IdsOf ids-steady (λ l spawn e u.
@@ -96,7 +103,7 @@ config-steal v l = go (portHeld v l)
 pub config-step : (x : Call) (l : Ledger) → IdsOf l → step x l .ledger .shared .config ≡ l .shared .config
 config-step x l u =
     kept-step (λ m. IdsOf m × (m .shared .config ≡ l .shared .config))
-    (calm (λ c b n vs. Ids n vs × (c ≡ l .shared .config)) (λ c b n vs w u. (ids-keep (λ x. not (isVoice w x)) (u .0), u .1)) (λ c b n vs u. (ids-map (moved oneMore) (λ v. refl) (u .0), u .1)) (λ c b n vs v e s h u. (ids-snoc v e (u .0), u .1)))
+    (calm (λ c b n vs. Ids n vs × (c ≡ l .shared .config)) (λ c b n vs w u. (ids-keep (λ x. not (isVoice w x)) (u .0), u .1)) (λ c b n vs u. (ids-map (moved oneMore) (λ v. refl) (u .0), u .1)) (λ c b n vs v e s h k u. (ids-snoc v e (u .0), u .1)))
     (λ m spawn e u.
     managed-kept spawn (λ r. IdsOf (r .ledger) × (r .ledger .shared .config ≡ l .shared .config)) m (u .0) (λ h. u)
     (λ h. (ids-settle spawn m (u .0), config-settle (l .shared .config) spawn m (u .1)))

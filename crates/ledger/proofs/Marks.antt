@@ -39,7 +39,7 @@ use Rattle.model.specs.Call as call
 use Rattle.ledger.specs.Ledger.{Ledger, SpawnResult, portHeld, cutOff, stolen, stealVoice, placeWithinBudget, admitted, admissionOn, unless}
 use Rattle.ledger.specs.Ledger as ledger
 use Rattle.ledger.specs.Call.{step}
-use Rattle.ledger.specs.Claim.{busy, heldRecord, cutFound, Newest, isManaged, tracks, Reclaimed, Fate, same, older, struck, isLet}
+use Rattle.ledger.specs.Claim.{mayGo, heldRecord, cutFound, Newest, isManaged, tracks, Reclaimed, Fate, same, older, struck, isLet}
 use Rattle.ledger.proofs.Allowed.{spawn-allowed}
 use Rattle.ledger.proofs.Ids.{Ids, one-gone, one-changed}
 use Rattle.ledger.proofs.Victim.{nextOut-in}
@@ -51,7 +51,7 @@ use Rattle.ledger.proofs.Records.{RecordedOf, tracked-state, fade-inj, 
 -- ---- every call but a managed spawn
 pub book-stays : (x : Call) → isManaged x ≡ false → (l : Ledger) → step x l .ledger .shared .steals ≡ l .shared .steals
 book-stays x h l =
-    steady-step (λ m. m .shared .steals ≡ l .shared .steals) (calm (λ c b n vs. b ≡ l .shared .steals) (λ c b n vs w e. e) (λ c b n vs e. e) (λ c b n vs v q s k e. e)) x h l refl
+    steady-step (λ m. m .shared .steals ≡ l .shared .steals) (calm (λ c b n vs. b ≡ l .shared .steals) (λ c b n vs w e. e) (λ c b n vs e. e) (λ c b n vs v q s k j e. e)) x h l refl
 
 module _ {b₀ : StealLog} {R : Type 0} {k : ℕ} where
   pub fate-voices : {b : StealLog} {S : Type 0} → (R → S) → Fate b₀ b R k → Fate b₀ b S k
@@ -165,7 +165,7 @@ module _ (spawn : Spawn) (l₀ : Ledger) (d₀ : Ids (l₀ .shared .spawned) (l�
       place-kept spawn (stateUnder (m .shared .config .budget)) (λ n m. During m)
       (λ r. Fate (l₀ .shared .steals) (r .ledger .shared .steals) (Reclaimed (l₀ .voices) (r .ledger .voices) (spawn .bus) k) k)
       (λ n m p e q. fate-voices (reclaimed-land m q (newVoice spawn _ p (m .shared)) refl k) (q .fate k lt)) (λ m e q. q .fate k lt) (λ n m e f q. q .fate k lt)
-      (λ n m v e f q. let r = nextOut-in (q .recorded .ids) (m .shared) (spawn .bus) v f in during-cut m q v (r .0) (and-right (busy (v .state)) (isOn (spawn .bus) v) (r .1)) (v .state) refl)
+      (λ n m v e f q. let r = nextOut-in (q .recorded .ids) (m .shared) (spawn .bus) (spawn .rank) v f in during-cut m q v (r .0) (and-right (mayGo (spawn .rank) v) (isOn (spawn .bus) v) (r .1)) (v .state) refl)
       (tries (m .shared .config .budget) (m .voices)) m q
 
   during-new : RecordedOf l₀ → l₀ .shared .spawned < 18446744073709551615 → During l₀
@@ -207,15 +207,15 @@ module _ (spawn : Spawn) (l₀ : Ledger) (d₀ : Ids (l₀ .shared .spawned) (l�
 -- ---- the claim: what becomes of record k in a managed spawn
 pub marks : (spawn : Spawn) (l : Ledger) → RecordedOf l → (k : ℕ) → k < l .shared .steals .count
     → Fate (l .shared .steals) (step (call.spawnManaged spawn) l .ledger .shared .steals) (Reclaimed (l .voices) (step (call.spawnManaged spawn) l .ledger .voices) (spawn .bus) k) k
-marks spawn l r k lt = go (spawnRefusal (l .shared) (l .voices) (spawn .def) (spawn .bus)) refl
+marks spawn l r k lt = go (spawnRefusal (l .shared) (l .voices) (spawn .def) (spawn .bus) (spawn .rank)) refl
   where
     R : SpawnResult → Type 0
     R z = Fate (l .shared .steals) (z .ledger .shared .steals) (Reclaimed (l .voices) (z .ledger .voices) (spawn .bus) k) k
 
-    go : (o : Option Refusal) → spawnRefusal (l .shared) (l .voices) (spawn .def) (spawn .bus) ≡ o → R (unless o l (admitted (admissionOn (spawn .bus) l) spawn l))
+    go : (o : Option Refusal) → spawnRefusal (l .shared) (l .voices) (spawn .def) (spawn .bus) (spawn .rank) ≡ o → R (unless o l (admitted (admissionOn (spawn .bus) (spawn .rank) l) spawn l))
     go (some n) e = same refl
     go none e =
-        let h : l .shared .spawned < 18446744073709551615 = spawn-allowed (l .shared) (l .voices) (spawn .def) (spawn .bus) e .ids-left in
+        let h : l .shared .spawned < 18446744073709551615 = spawn-allowed (l .shared) (l .voices) (spawn .def) (spawn .bus) (spawn .rank) e .ids-left in
         managed-kept spawn R l (r .ids) (λ a. same refl) (λ a. fates-settle spawn l (r .ids) l (during-new spawn l (r .ids) r h) k lt)
         (λ p w a v i t. fates-settle spawn l (r .ids) (stealVoice v l) (during-steal spawn l (r .ids) r h v i (and-left (tracks v) _ t)) k lt)
 
@@ -256,7 +256,7 @@ module _ (spawn : Spawn) (n : ℕ) where
   tally-settle m b r =
       place-kept spawn (stateUnder (m .shared .config .budget)) (λ k z. RecordedOf z × (tallyOf z ≡ tallyOf m)) (Tallies (tallyOf m))
       (λ k z p e q. lands z p (q .1)) (λ z e q. q .1) (λ k z e f q. q .1)
-      (λ k z v e f q. let i = nextOut-in (q .0 .ids) (z .shared) (spawn .bus) v f .0 in (recorded-cut v (v .state) z (q .0) i refl, tally-cut v (v .state) z (q .0) i refl ∙ q .1))
+      (λ k z v e f q. let i = nextOut-in (q .0 .ids) (z .shared) (spawn .bus) (spawn .rank) v f .0 in (recorded-cut v (v .state) z (q .0) i refl, tally-cut v (v .state) z (q .0) i refl ∙ q .1))
       (tries (m .shared .config .budget) (m .voices)) m (r, refl)
     where
       lands : (z : Ledger) (p : ℕ) → tallyOf z ≡ tallyOf m → z .shared .steals .count + count tracks (z .voices ++ (newVoice spawn (stateUnder (m .shared .config .budget)) p (z .shared) ∷ [])) ≡ suc (tallyOf m)
@@ -271,7 +271,7 @@ tallies spawn n l b r a e = all ∙ ap (λ x. more (isLet x) (tallyOf l)) (spawn
     spawned-inj : {x y : Spawned} → call.spawned x ≡ call.spawned y → x ≡ y
     spawned-inj h = cc
 
-    go : (o : Option Refusal) → Tallies spawn n (tallyOf l) (unless o l (admitted (admissionOn (spawn .bus) l) spawn l))
+    go : (o : Option Refusal) → Tallies spawn n (tallyOf l) (unless o l (admitted (admissionOn (spawn .bus) (spawn .rank) l) spawn l))
     go (some k) = refl
     go none =
         managed-kept spawn (Tallies spawn n (tallyOf l)) l (r .ids) (λ h. refl) (λ h. tally-settle spawn n l b r)
@@ -281,4 +281,4 @@ tallies spawn n l b r a e = all ∙ ap (λ x. more (isLet x) (tallyOf l)) (spawn
         ∙ ap (more (isLet (placeWithinBudget spawn (stealVoice v l) .answer))) (tally-steal v l r i z))
 
     all : Tallies spawn n (tallyOf l) (ledger.spawnManaged spawn l)
-    all = go (spawnRefusal (l .shared) (l .voices) (spawn .def) (spawn .bus))
+    all = go (spawnRefusal (l .shared) (l .voices) (spawn .def) (spawn .bus) (spawn .rank))

@@ -129,7 +129,7 @@ still-place k spawn t c l e =
 still-settle : (spawn : Spawn) (c : ℕ) (l : Ledger) → l .shared .clock ≡ c → placeWithinBudget spawn l .ledger .shared .clock ≡ c
 still-settle spawn c l e = still-place (tries (l .shared .config .budget) (l .voices)) spawn (stateUnder (l .shared .config .budget)) c l e
 
-still-managed : (spawn : Spawn) (l : Ledger) → IdsOf l → admitted (admissionOn (spawn .bus) l) spawn l .ledger .shared .clock ≡ l .shared .clock
+still-managed : (spawn : Spawn) (l : Ledger) → IdsOf l → admitted (admissionOn (spawn .bus) (spawn .rank) l) spawn l .ledger .shared .clock ≡ l .shared .clock
 still-managed spawn l u =
     managed-kept spawn (λ r. r .ledger .shared .clock ≡ l .shared .clock) l u (λ h. refl) (λ h. still-settle spawn (l .shared .clock) l refl)
     (λ p w h v i t. still-settle spawn (l .shared .clock) (stealVoice v l) (still-steal v l))
@@ -164,9 +164,9 @@ clock-step x l u h = go x
     go (call.disconnect b p) = same (still-unless (disconnectRefusal (l .shared .graph) b p) l _ refl)
     go (call.setSink k) = same (still-unless (hostRefusal (l .shared .graph) k) l _ refl)
     go (call.spawnManaged spawn) =
-        same (still-landed (spawnRefusal (l .shared) (l .voices) (spawn .def) (spawn .bus)) l (admitted (admissionOn (spawn .bus) l) spawn l) (still-managed spawn l u))
+        same (still-landed (spawnRefusal (l .shared) (l .voices) (spawn .def) (spawn .bus) (spawn .rank)) l (admitted (admissionOn (spawn .bus) (spawn .rank) l) spawn l) (still-managed spawn l u))
     go (call.spawnLoose spawn) =
-        same (still-landed (spawnRefusal (l .shared) (l .voices) (spawn .def) (spawn .bus)) l (place 0 spawn Loose l) (still-place 0 spawn Loose (l .shared .clock) l refl))
+        same (still-landed (spawnRefusal (l .shared) (l .voices) (spawn .def) (spawn .bus) (spawn .rank)) l (place 0 spawn Loose l) (still-place 0 spawn Loose (l .shared .clock) l refl))
     go (call.free w) = same (still-freed (find (isVoice w) (l .voices)) l .0)
     go call.clear =
         let faded = withoutVoices (endedVoices l) l in

@@ -211,7 +211,7 @@ own-steady =
       connect = λ l a b p e q. q;
       disconnect = λ l b p e q. q;
       setSink = λ l k q. q;
-      loose = λ l spawn e q. (ids-steady .loose l spawn e (q .0), lands l spawn (output-in (spawn .def) (spawn-allowed (l .shared) (l .voices) (spawn .def) (spawn .bus) e .definition)) (q .1) (portFree (spawn .bus) l));
+      loose = λ l spawn e q. (ids-steady .loose l spawn e (q .0), lands l spawn (output-in (spawn .def) (spawn-allowed (l .shared) (l .voices) (spawn .def) (spawn .bus) (spawn .rank) e .definition)) (q .1) (portFree (spawn .bus) l));
       goes = λ l w q. (ids-steady .goes l w (q .0), mine-less (λ x. not (ownedBy w x)) (λ x. not (isVoice w x)) (q .1));
       node = λ l k x n e s q. (q .0, mine-replaced k x n e (s .id) (s .owner) (q .1));
       schedule = λ l e h q. q;
@@ -230,7 +230,7 @@ own-steady =
 
 pub own-run : (xs : List Call) (l : Ledger) → OwnNodes l → OwnNodes (run xs l .ledger)
 own-run = kept-run OwnNodes own-steady (λ l spawn e q.
-    let sings = output-in (spawn .def) (spawn-allowed (l .shared) (l .voices) (spawn .def) (spawn .bus) e .definition) in
+    let sings = output-in (spawn .def) (spawn-allowed (l .shared) (l .voices) (spawn .def) (spawn .bus) (spawn .rank) e .definition) in
     managed-kept spawn (λ r. OwnNodes (r .ledger)) l (q .0) (λ h. q) (λ h. (ids-settle spawn l (q .0), mine-settle spawn sings l (q .1)))
     (λ p w h v i t. (ids-settle spawn (stealVoice v l) (ids-steal v l (q .0)), mine-settle spawn sings (stealVoice v l) (mine-steal v l (q .1)))))
 

@@ -2,7 +2,7 @@
 -- here each call is taken apart into them once. `Preserves` has the moves of all calls but a managed spawn: `steady-step` is for
 -- those calls, `kept-step` and `kept-run` are for all, given what a managed spawn does. The port search of a spawn is taken apart
 -- by `place-kept`, a managed spawn by `managed-kept` of `Managed`.
-use Prim.Native.Nat.{ℕ, zero, suc, _+_, _<_}
+use Prim.Native.Nat.{ℕ, zero, suc, _+_, _≤_, _<_}
 use mathlib.Core.Path.{_≡_, refl, sym, ap, _∙_}
 use mathlib.Core.List.{List, [], _∷_, _++_, map}
 use mathlib.Core.Option.{Option, none, some}
@@ -59,17 +59,17 @@ pub use Rattle.ledger.specs.Ledger.{atShared, atGraph}
 module _ (spawn : Spawn) (s : VoiceState) (Q : ℕ → Ledger → Type 0) (R : SpawnResult → Type 0)
     (lands : (n : ℕ) (l : Ledger) (p : ℕ) → portFree (spawn .bus) l ≡ some p → Q n l → R (instantiate spawn s p l))
     (spent : (l : Ledger) → portFree (spawn .bus) l ≡ none → Q zero l → R (refused NoPort l))
-    (idle : (n : ℕ) (l : Ledger) → portFree (spawn .bus) l ≡ none → nextOut (l .shared) (spawn .bus) (l .voices) ≡ none → Q (suc n) l → R (refused NoPort l))
-    (cuts : (n : ℕ) (l : Ledger) (v : Voice) → portFree (spawn .bus) l ≡ none → nextOut (l .shared) (spawn .bus) (l .voices) ≡ some v → Q (suc n) l → Q n (cutOff v (v .state) l)) where
+    (idle : (n : ℕ) (l : Ledger) → portFree (spawn .bus) l ≡ none → nextOut (l .shared) (spawn .bus) (spawn .rank) (l .voices) ≡ none → Q (suc n) l → R (refused NoPort l))
+    (cuts : (n : ℕ) (l : Ledger) (v : Voice) → portFree (spawn .bus) l ≡ none → nextOut (l .shared) (spawn .bus) (spawn .rank) (l .voices) ≡ some v → Q (suc n) l → Q n (cutOff v (v .state) l)) where
   pub place-kept : (n : ℕ) (l : Ledger) → Q n l → R (place n spawn s l)
   place-kept zero l q = go (portFree (spawn .bus) l) refl
     where
       go : (o : Option ℕ) → portFree (spawn .bus) l ≡ o → R (instantiateOr o none spawn s l (refused NoPort))
       go (some p) e = lands zero l p e q
       go none e = spent l e q
-  place-kept (suc n) l q = go (portFree (spawn .bus) l) refl (nextOut (l .shared) (spawn .bus) (l .voices)) refl (place-kept n)
+  place-kept (suc n) l q = go (portFree (spawn .bus) l) refl (nextOut (l .shared) (spawn .bus) (spawn .rank) (l .voices)) refl (place-kept n)
     where
-      go : (o : Option ℕ) → portFree (spawn .bus) l ≡ o → (u : Option Voice) → nextOut (l .shared) (spawn .bus) (l .voices) ≡ u
+      go : (o : Option ℕ) → portFree (spawn .bus) l ≡ o → (u : Option Voice) → nextOut (l .shared) (spawn .bus) (spawn .rank) (l .voices) ≡ u
           → ((l : Ledger) → Q n l → R (place n spawn s l)) → R (instantiateOr o u spawn s l (λ k. place n spawn s k))
       go (some p) e u f ih = lands (suc n) l p e q
       go none e none f ih = idle n l e f q
@@ -92,7 +92,7 @@ pub record Preserves (P : Ledger → Type 0) : Type 0 where
   pub disconnect : (l : Ledger) (b : NodeId) (p : ℕ) → disconnectRefusal (l .shared .graph) b p ≡ none → P l
       → P (atGraph l (change.disconnect (l .shared .graph) b p) (hold b p nobody (l .holders)))
   pub setSink : (l : Ledger) (k : NodeId) → P l → P (atGraph l (change.setSink (l .shared .graph) k) (l .holders))
-  pub loose : (l : Ledger) (spawn : Spawn) → spawnRefusal (l .shared) (l .voices) (spawn .def) (spawn .bus) ≡ none → P l → P (place 0 spawn Loose l .ledger)
+  pub loose : (l : Ledger) (spawn : Spawn) → spawnRefusal (l .shared) (l .voices) (spawn .def) (spawn .bus) (spawn .rank) ≡ none → P l → P (place 0 spawn Loose l .ledger)
   pub goes : (l : Ledger) (w : VoiceId) → P l → P (withoutVoice w l)
   -- the record x of a live node becomes n
   pub node : (l : Ledger) (k : NodeId) (x n : Node) → nodeAt (l .shared .graph .nodes) k ≡ some x → Alike x n → P l → P (atShared l (withNode n (l .shared)))
@@ -202,7 +202,7 @@ module _ (P : Ledger → Type 0) where
     step-kept (call.setSink j) l m p = unless-kept (hostRefusal (l .shared .graph) j) l _ p (λ e. k .setSink l j p)
     step-kept (call.spawnManaged spawn) l m p = m spawn refl
     step-kept (call.spawnLoose spawn) l m p =
-        landed-kept (spawnRefusal (l .shared) (l .voices) (spawn .def) (spawn .bus)) l (place 0 spawn Loose l) p (λ e. k .loose l spawn e p)
+        landed-kept (spawnRefusal (l .shared) (l .voices) (spawn .def) (spawn .bus) (spawn .rank)) l (place 0 spawn Loose l) p (λ e. k .loose l spawn e p)
     step-kept (call.free w) l m p = freed-kept (find (isVoice w) (l .voices)) l p
     step-kept call.clear l m p =
         let faded = withoutVoices (endedVoices l) l in
@@ -220,10 +220,10 @@ module _ (P : Ledger → Type 0) where
     steady-step x h l p = step-kept x l (λ spawn e. absurd (true≢false (sym (ap isManaged e) ∙ h))) p
 
     -- and a managed spawn
-    module _ (m : (l : Ledger) (spawn : Spawn) → spawnRefusal (l .shared) (l .voices) (spawn .def) (spawn .bus) ≡ none → P l → P (admitted (admissionOn (spawn .bus) l) spawn l .ledger)) where
+    module _ (m : (l : Ledger) (spawn : Spawn) → spawnRefusal (l .shared) (l .voices) (spawn .def) (spawn .bus) (spawn .rank) ≡ none → P l → P (admitted (admissionOn (spawn .bus) (spawn .rank) l) spawn l .ledger)) where
       pub kept-step : (x : Call) (l : Ledger) → P l → P (step x l .ledger)
       kept-step x l p =
-          step-kept x l (λ spawn e. landed-kept (spawnRefusal (l .shared) (l .voices) (spawn .def) (spawn .bus)) l (admitted (admissionOn (spawn .bus) l) spawn l) p (λ r. m l spawn r p)) p
+          step-kept x l (λ spawn e. landed-kept (spawnRefusal (l .shared) (l .voices) (spawn .def) (spawn .bus) (spawn .rank)) l (admitted (admissionOn (spawn .bus) (spawn .rank) l) spawn l) p (λ r. m l spawn r p)) p
 
       pub kept-run : (xs : List Call) (l : Ledger) → P l → P (run xs l .ledger)
       kept-run [] l p = p
@@ -237,7 +237,7 @@ Calm F l = F (l .shared .config) (l .shared .steals) (l .shared .spawned) (l .vo
 module _ (F : Config → StealLog → ℕ → List Voice → Type 0)
     (goes : (c : Config) (b : StealLog) (n : ℕ) (vs : List Voice) (w : VoiceId) → F c b n vs → F c b n (filter (λ v. not (isVoice w v)) vs))
     (counts : (c : Config) (b : StealLog) (n : ℕ) (vs : List Voice) → F c b n vs → F c b n (map (moved oneMore) vs))
-    (lands : (c : Config) (b : StealLog) (n : ℕ) (vs : List Voice) (v : Voice) → v .id .0 ≡ n + 1 → v .state ≡ Loose → n < 18446744073709551615 → F c b n vs → F c b (n + 1) (vs ++ (v ∷ []))) where
+    (lands : (c : Config) (b : StealLog) (n : ℕ) (vs : List Voice) (v : Voice) → v .id .0 ≡ n + 1 → v .state ≡ Loose → n < 18446744073709551615 → v .rank ≤ 7 → F c b n vs → F c b (n + 1) (vs ++ (v ∷ []))) where
   pub calm : Preserves (Calm F)
   calm =
       record {
@@ -255,11 +255,12 @@ module _ (F : Config → StealLog → ℕ → List Voice → Type 0)
         block = λ l a f. sounds l (isSounding a) f;
       }
     where
-      one : (l : Ledger) (spawn : Spawn) → spawnRefusal (l .shared) (l .voices) (spawn .def) (spawn .bus) ≡ none → Calm F l
+      one : (l : Ledger) (spawn : Spawn) → spawnRefusal (l .shared) (l .voices) (spawn .def) (spawn .bus) (spawn .rank) ≡ none → Calm F l
           → (o : Option ℕ) → Calm F (instantiateOr o none spawn Loose l (refused NoPort) .ledger)
       one l spawn e f none = f
       one l spawn e f (some p) =
-          lands (l .shared .config) (l .shared .steals) (l .shared .spawned) (l .voices) (newVoice spawn Loose p (l .shared)) refl refl (spawn-allowed (l .shared) (l .voices) (spawn .def) (spawn .bus) e .ids-left) f
+          let allow = spawn-allowed (l .shared) (l .voices) (spawn .def) (spawn .bus) (spawn .rank) e in
+          lands (l .shared .config) (l .shared .steals) (l .shared .spawned) (l .voices) (newVoice spawn Loose p (l .shared)) refl refl (allow .ids-left) (allow .rank-low) f
 
       sounds : (l : Ledger) (b : Bool) → Calm F l → F (l .shared .config) (l .shared .steals) (l .shared .spawned) (countedIf b (l .voices))
       sounds l true f = counts (l .shared .config) (l .shared .steals) (l .shared .spawned) (l .voices) f

@@ -149,7 +149,7 @@ ready-steady =
     }
 
 pub ready-run : (xs : List Call) (l : Ledger) → ReadyOf l → ReadyOf (run xs l .ledger)
-ready-run = kept-run ReadyOf ready-steady (λ l spawn e h. managed-keeps ReadyOf ready-spawning spawn (admissionOn (spawn .bus) l) l h)
+ready-run = kept-run ReadyOf ready-steady (λ l spawn e h. managed-keeps ReadyOf ready-spawning spawn (admissionOn (spawn .bus) (spawn .rank) l) l h)
 
 pub ready-new : (c : Config) → ReadyOf (newLedger c)
 ready-new c = record { rows = record { rises = tt; below = λ x i. absurd i }; holds = unprepared }

@@ -258,7 +258,7 @@ recorded-settle spawn l r h =
     place-kept spawn (stateUnder (l .shared .config .budget)) (λ n m. RecordedOf m × (m .shared .spawned < 18446744073709551615)) (λ r. RecordedOf (r .ledger))
     (λ n m p e q. recorded-lands (m .shared .steals) (m .shared .spawned) (m .voices) (newVoice spawn _ p (m .shared)) refl (under-fading (l .shared .config .budget)) (q .1) (q .0))
     (λ m e q. q .0) (λ n m e f q. q .0)
-    (λ n m v e f q. (recorded-cut v (v .state) m (q .0) (nextOut-in (q .0 .ids) (m .shared) (spawn .bus) v f .0) refl, q .1))
+    (λ n m v e f q. (recorded-cut v (v .state) m (q .0) (nextOut-in (q .0 .ids) (m .shared) (spawn .bus) (spawn .rank) v f .0) refl, q .1))
     (tries (l .shared .config .budget) (l .voices)) l (r, h)
 
 pub spawned-steal : (v : Voice) (l : Ledger) → stealVoice v l .shared .spawned ≡ l .shared .spawned
@@ -271,13 +271,13 @@ spawned-steal v l = go (portHeld v l)
 recorded-steady : Preserves RecordedOf
 recorded-steady =
     calm (λ c b n vs. Recorded b n vs) (λ c b n vs w r. recorded-gone b n vs w r) (λ c b n vs r. recorded-moved b n vs r)
-    (λ c b n vs v e s h r. recorded-lands b n vs v e (λ f q. loose-fading f (sym s ∙ q)) h r)
+    (λ c b n vs v e s h k r. recorded-lands b n vs v e (λ f q. loose-fading f (sym s ∙ q)) h r)
 
 pub recorded-step : (x : Call) (l : Ledger) → RecordedOf l → RecordedOf (step x l .ledger)
 recorded-step =
     kept-step RecordedOf recorded-steady
     (λ l spawn e r.
-    let h : l .shared .spawned < 18446744073709551615 = spawn-allowed (l .shared) (l .voices) (spawn .def) (spawn .bus) e .ids-left in
+    let h : l .shared .spawned < 18446744073709551615 = spawn-allowed (l .shared) (l .voices) (spawn .def) (spawn .bus) (spawn .rank) e .ids-left in
     managed-kept spawn (λ z. RecordedOf (z .ledger)) l (r .ids) (λ a. r) (λ a. recorded-settle spawn l r h)
     (λ p w a v i t. recorded-settle spawn (stealVoice v l) (recorded-steal v l r i (and-left (tracks v) _ t)) (rw (spawned-steal v l) h)))
 

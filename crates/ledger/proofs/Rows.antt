@@ -70,7 +70,7 @@ module _ (N : List Node → ℕ → Type 0)
       }
 
   pub nodes-run : (xs : List Call) (l : Ledger) → NodesOf l → NodesOf (run xs l .ledger)
-  nodes-run = kept-run NodesOf nodes-steady (λ l spawn e h. managed-keeps NodesOf nodes-spawning spawn (admissionOn (spawn .bus) l) l h)
+  nodes-run = kept-run NodesOf nodes-steady (λ l spawn e h. managed-keeps NodesOf nodes-spawning spawn (admissionOn (spawn .bus) (spawn .rank) l) l h)
 
 -- ---- by rising id, all below the next
 pub record Rows (ns : List Node) (next : ℕ) : Type 0 where

@@ -155,19 +155,19 @@ module _ (spawn : Spawn) (ok : allowed (spawn .def) ≡ true) (t : VoiceState) (
       go (some p) e = land-agrees p l s live (free-below p l e)
       go none e = refused-agrees NoPort l s
   place-agrees (suc k) l s live =
-      subst (λ o. Lands (model.instantiateOr o (nextOut (l .shared) bus (map (stored l) (l .voices))) spawn t (modelOf l) (λ m. model.place k spawn t m)) (ledger.place (suc k) spawn t l))
+      subst (λ o. Lands (model.instantiateOr o (nextOut (l .shared) bus (spawn .rank) (map (stored l) (l .voices))) spawn t (modelOf l) (λ m. model.place k spawn t m)) (ledger.place (suc k) spawn t l))
       (sym (free-same s bus live))
       (subst (λ u. Lands (model.instantiateOr (ledger.portFree bus l) u spawn t (modelOf l) (λ m. model.place k spawn t m)) (ledger.place (suc k) spawn t l))
-      (sym (nextOut-same (reached (l .shared .config .block)) (l .shared) bus (l .voices)))
-      (go (ledger.portFree bus l) refl (nextOut (l .shared) bus (l .voices)) refl (place-agrees k)))
+      (sym (nextOut-same (reached (l .shared .config .block)) (l .shared) bus (spawn .rank) (l .voices)))
+      (go (ledger.portFree bus l) refl (nextOut (l .shared) bus (spawn .rank) (l .voices)) refl (place-agrees k)))
     where
-      go : (o : Option ℕ) → ledger.portFree bus l ≡ o → (u : Option Voice) → nextOut (l .shared) bus (l .voices) ≡ u
+      go : (o : Option ℕ) → ledger.portFree bus l ≡ o → (u : Option Voice) → nextOut (l .shared) bus (spawn .rank) (l .voices) ≡ u
           → ((l : Ledger) → InvariantOf l → HostAt (l .shared .graph .nodes) (bus .0) → Lands (model.place k spawn t (modelOf l)) (ledger.place k spawn t l))
           → Lands (model.instantiateOr o (mapO (stored l) u) spawn t (modelOf l) (λ m. model.place k spawn t m)) (ledger.instantiateOr o u spawn t l (λ l. ledger.place k spawn t l))
       go (some p) e u f ih = land-agrees p l s live (free-below p l e)
       go none e none f ih = refused-agrees NoPort l s
       go none e (some v) f ih =
-          let z = cut-off l s v (v .state) (nextOut-in (ids-of l s) (l .shared) bus v f .0) in
+          let z = cut-off l s v (v .state) (nextOut-in (ids-of l s) (l .shared) bus (spawn .rank) v f .0) in
           subst (λ m. Lands (model.place k spawn t m) (ledger.place k spawn t (ledger.cutOff v (v .state) l))) (sym (z .model)) (ih (ledger.cutOff v (v .state) l) (z .sound) (z .hosts (bus .0) live))
 
 -- ---- admission
@@ -187,16 +187,16 @@ module _ (spawn : Spawn) (ok : allowed (spawn .def) ≡ true) where
       subst (λ m. Lands (model.placeWithinBudget spawn m) (ledger.placeWithinBudget spawn (ledger.stealVoice v l))) (sym (z .model)) (settle-agrees (ledger.stealVoice v l) (z .sound) (z .hosts (spawn .bus .0) live))
 
   admitted-agrees : (l : Ledger) → InvariantOf l → HostAt (l .shared .graph .nodes) (spawn .bus .0)
-      → Lands (model.admitted (model.admissionOn (spawn .bus) (modelOf l)) spawn (modelOf l)) (ledger.admitted (ledger.admissionOn (spawn .bus) l) spawn l)
+      → Lands (model.admitted (model.admissionOn (spawn .bus) (spawn .rank) (modelOf l)) spawn (modelOf l)) (ledger.admitted (ledger.admissionOn (spawn .bus) (spawn .rank) l) spawn l)
   admitted-agrees l s live =
-      subst (λ a. Lands (model.admitted a spawn (modelOf l)) (ledger.admitted (ledger.admissionOn (spawn .bus) l) spawn l))
-      (sym (admits-same (reached (l .shared .config .block)) (l .shared) (spawn .bus) (l .voices))) (go (ledger.admissionOn (spawn .bus) l) refl)
+      subst (λ a. Lands (model.admitted a spawn (modelOf l)) (ledger.admitted (ledger.admissionOn (spawn .bus) (spawn .rank) l) spawn l))
+      (sym (admits-same (reached (l .shared .config .block)) (l .shared) (spawn .bus) (spawn .rank) (l .voices))) (go (ledger.admissionOn (spawn .bus) (spawn .rank) l) refl)
     where
-      go : (a : Admission) → ledger.admissionOn (spawn .bus) l ≡ a → Lands (model.admitted a spawn (modelOf l)) (ledger.admitted a spawn l)
+      go : (a : Admission) → ledger.admissionOn (spawn .bus) (spawn .rank) l ≡ a → Lands (model.admitted a spawn (modelOf l)) (ledger.admitted a spawn l)
       go admission.Admit e = settle-agrees l s live
       go admission.Reject e = refused-agrees Rejected l s
       go (admission.Steal place w) e =
-          let r = steal-voice (ids-of l s) (l .shared) (counted (l .shared .config .scope) (spawn .bus)) (l .shared .config .budget) (l .shared .config .policy) place w e in
+          let r = steal-voice (ids-of l s) (l .shared) (counted (l .shared .config .scope) (spawn .bus)) (l .shared .config .budget) (l .shared .config .policy) (spawn .rank) place w e in
           let y : find (isVoice w) (map (stored l) (l .voices)) ≡ some (stored l (r .0)) = find-stored (reached (l .shared .config .block)) w (l .voices) ∙ ap (mapO (stored l)) (r .3) in
           subst (λ o. Lands (model.stealThen o spawn (modelOf l)) (ledger.stealThen (find (isVoice w) (l .voices)) spawn l)) (sym y)
           (subst (λ o. Lands (model.stealThen (some (stored l (r .0))) spawn (modelOf l)) (ledger.stealThen o spawn l)) (sym (r .3))
@@ -208,22 +208,22 @@ pub host-owned : (ns : List Node) (k : NodeId) → refusal.HostAt ns k → HostA
 host-owned ns k r = ap ownerOf (r .1) ∙ ap some (r .2)
 
 module _ (l : Ledger) (s : InvariantOf l) where
-  refusal-same : (def : SynthDef) (bus : NodeId) → spawnRefusal (l .shared) (map (stored l) (l .voices)) def bus ≡ spawnRefusal (l .shared) (l .voices) def bus
-  refusal-same def bus = rw (length-map (l .voices) (stored l))
+  refusal-same : (def : SynthDef) (bus : NodeId) (rank : ℕ) → spawnRefusal (l .shared) (map (stored l) (l .voices)) def bus rank ≡ spawnRefusal (l .shared) (l .voices) def bus rank
+  refusal-same def bus rank = rw (length-map (l .voices) (stored l))
 
   unless-agrees : (o : Option Refusal) (r : model.SpawnResult) (t : ledger.SpawnResult) → (o ≡ none → Lands r t) → Lands (model.unless o (modelOf l) r) (ledger.unless o l t)
   unless-agrees none r t f = f refl
   unless-agrees (some n) r t f = refused-agrees n l s
 
-  host-bus : (def : SynthDef) (bus : NodeId) → spawnRefusal (l .shared) (l .voices) def bus ≡ none → HostAt (l .shared .graph .nodes) (bus .0)
-  host-bus def bus e = host-owned (l .shared .graph .nodes) bus (spawn-allowed (l .shared) (l .voices) def bus e .host)
+  host-bus : (def : SynthDef) (bus : NodeId) (rank : ℕ) → spawnRefusal (l .shared) (l .voices) def bus rank ≡ none → HostAt (l .shared .graph .nodes) (bus .0)
+  host-bus def bus rank e = host-owned (l .shared .graph .nodes) bus (spawn-allowed (l .shared) (l .voices) def bus rank e .host)
 
   pub managed-agrees : (spawn : Spawn) → Lands (model.spawnManaged spawn (modelOf l)) (ledger.spawnManaged spawn l)
   managed-agrees spawn =
-      subst (λ o. Lands (model.unless o (modelOf l) (model.admitted (model.admissionOn (spawn .bus) (modelOf l)) spawn (modelOf l))) (ledger.spawnManaged spawn l)) (sym (refusal-same (spawn .def) (spawn .bus)))
-      (unless-agrees (spawnRefusal (l .shared) (l .voices) (spawn .def) (spawn .bus)) _ _ (λ e. admitted-agrees spawn (spawn-allowed (l .shared) (l .voices) (spawn .def) (spawn .bus) e .definition) l s (host-bus (spawn .def) (spawn .bus) e)))
+      subst (λ o. Lands (model.unless o (modelOf l) (model.admitted (model.admissionOn (spawn .bus) (spawn .rank) (modelOf l)) spawn (modelOf l))) (ledger.spawnManaged spawn l)) (sym (refusal-same (spawn .def) (spawn .bus) (spawn .rank)))
+      (unless-agrees (spawnRefusal (l .shared) (l .voices) (spawn .def) (spawn .bus) (spawn .rank)) _ _ (λ e. admitted-agrees spawn (spawn-allowed (l .shared) (l .voices) (spawn .def) (spawn .bus) (spawn .rank) e .definition) l s (host-bus (spawn .def) (spawn .bus) (spawn .rank) e)))
 
   pub loose-agrees : (spawn : Spawn) → Lands (model.spawnLoose spawn (modelOf l)) (ledger.spawnLoose spawn l)
   loose-agrees spawn =
-      subst (λ o. Lands (model.unless o (modelOf l) (model.place 0 spawn Loose (modelOf l))) (ledger.spawnLoose spawn l)) (sym (refusal-same (spawn .def) (spawn .bus)))
-      (unless-agrees (spawnRefusal (l .shared) (l .voices) (spawn .def) (spawn .bus)) _ _ (λ e. place-agrees spawn (spawn-allowed (l .shared) (l .voices) (spawn .def) (spawn .bus) e .definition) Loose (λ more. refl) 0 l s (host-bus (spawn .def) (spawn .bus) e)))
+      subst (λ o. Lands (model.unless o (modelOf l) (model.place 0 spawn Loose (modelOf l))) (ledger.spawnLoose spawn l)) (sym (refusal-same (spawn .def) (spawn .bus) (spawn .rank)))
+      (unless-agrees (spawnRefusal (l .shared) (l .voices) (spawn .def) (spawn .bus) (spawn .rank)) _ _ (λ e. place-agrees spawn (spawn-allowed (l .shared) (l .voices) (spawn .def) (spawn .bus) (spawn .rank) e .definition) Loose (λ more. refl) 0 l s (host-bus (spawn .def) (spawn .bus) (spawn .rank) e)))

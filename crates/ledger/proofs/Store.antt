@@ -17,7 +17,6 @@ use Rattle.lists.specs.Count.{more, count}
 use Rattle.lists.proofs.Count.{count-map}
 use Rattle.node.specs.declared.record.NodeId.{NodeId}
 use Rattle.node.specs.declared.refusal.Refusal.{Refusal}
-use Rattle.node.specs.declared.refusal.Refusal.the-variants.{NoPort}
 use Rattle.bus.specs.Fade.{fadeLength}
 use Rattle.rank.specs.Order.{among, upto}
 use Rattle.rank.specs.Cycle.{Distinct}
@@ -28,14 +27,15 @@ use Rattle.voice.specs.Steals.{recordOf}
 use Rattle.voice.specs.declared.policy.Admission.{Admission}
 use Rattle.voice.specs.declared.policy.Admission.the-variants as admission
 use Rattle.synthdef.specs.declared.def.SynthDef.{SynthDef}
-use Rattle.store.specs.declared.answer.Spawned.the-variants as Spawned
+use Rattle.voice.specs.Policy.{atBudget}
+use Rattle.synthdef.specs.Rows.{every}
 use Rattle.store.specs.declared.config.Config.{Config}
 use Rattle.store.specs.declared.voices.Voice.{Voice}
 use Rattle.store.specs.declared.voices.VoiceState.{VoiceState}
 use Rattle.store.specs.declared.voices.VoiceState.the-variants.{Tracked, Fading, Loose}
 use Rattle.store.specs.declared.voices.Fade.{Fade}
 use Rattle.model.specs.SharedState.{SharedState}
-use Rattle.model.specs.Voice.{isVoice, isTracked, isOn, feeder, voiceLevel, withState, movedFade, movedState, moved}
+use Rattle.model.specs.Voice.{isVoice, isTracked, isOn, feeder, voiceLevel, withState, movedFade, movedState, moved, counted}
 use Rattle.model.specs.Refuse.{spawnRefusal}
 use Rattle.model.specs.Spawn.{Spawn, nextVoice, fadeOf}
 use Rattle.model.specs.Clear as clearing
@@ -49,9 +49,9 @@ use Rattle.ledger.specs.Ledger as ledger
 use Rattle.ledger.specs.Clear as ledgerClear
 use Rattle.ledger.specs.Call.{step}
 use Rattle.ledger.specs.Claim as claim
-use Rattle.ledger.specs.Claim.{ledgerAfter, isSounded, tracks, Reclaimed, isBusy, byOther, holderAt, voiceIds, victimIn, Heads, lossOf}
+use Rattle.ledger.specs.Claim.{ledgerAfter, isSounded, tracks, Reclaimed, isSpare, byOther, stays, outranked, answerWhen, holderAt, voiceIds, victimIn, Heads, lossOf}
 use Rattle.ledger.proofs.Words as words
-use Rattle.ledger.proofs.Abstraction.{modelOf, tracked-same, fading-same, admits-same, find-stored}
+use Rattle.ledger.proofs.Abstraction.{modelOf, tracked-same, fading-same, counted-same, admits-same, find-stored}
 use Rattle.ledger.proofs.NoOverflow.{stored-shown}
 use Rattle.ledger.proofs.Spawns.{InvariantOf, ids-of}
 use Rattle.ledger.proofs.Managed.{config-step, config-run, ids-new}
@@ -142,24 +142,33 @@ module _ (c : Config) where
   pub tracks-count : (vs : List Voice) → count tracks (map (shown c) vs) ≡ count tracks vs
   tracks-count vs = count-map (shown c) tracks tracks (λ v. tracked-same (λ n. n * c .block) (v .state)) vs
 
-  busy-same : (bus : NodeId) (o : Option Voice) → isBusy bus (mapO (shown c) o) ≡ isBusy bus o
-  busy-same bus none = refl
-  busy-same bus (some v) = ap₂ (λ a b. (a || b) && isOn bus v) (tracked-same (λ n. n * c .block) (v .state)) (fading-same (λ n. n * c .block) (v .state))
+  spare-same : (bus : NodeId) (r : ℕ) (o : Option Voice) → isSpare bus r (mapO (shown c) o) ≡ isSpare bus r o
+  spare-same bus r none = refl
+  spare-same bus r (some v) = ap₂ (λ a b. (a || (b && leb (v .rank) r)) && isOn bus v) (fading-same (λ n. n * c .block) (v .state)) (tracked-same (λ n. n * c .block) (v .state))
 
-  other-same : (bus : NodeId) (vs : List Voice) (h : Holder) → byOther bus (map (shown c) vs) h ≡ byOther bus vs h
-  other-same bus vs nobody = refl
-  other-same bus vs (host k) = refl
-  other-same bus vs (voice w) = ap (λ o. not (isBusy bus o)) (find-stored (λ n. n * c .block) w vs) ∙ ap not (busy-same bus (find (isVoice w) vs))
+  other-same : (bus : NodeId) (r : ℕ) (vs : List Voice) (h : Holder) → byOther bus r (map (shown c) vs) h ≡ byOther bus r vs h
+  other-same bus r vs nobody = refl
+  other-same bus r vs (host k) = refl
+  other-same bus r vs (voice w) = ap (λ o. not (isSpare bus r o)) (find-stored (λ n. n * c .block) w vs) ∙ ap not (spare-same bus r (find (isVoice w) vs))
+
+  stays-same : (bus : NodeId) (r : ℕ) (vs : List Voice) → every (stays (c .scope) bus r) (map (shown c) vs) ≡ every (stays (c .scope) bus r) vs
+  stays-same bus r [] = refl
+  stays-same bus r (v ∷ vs) = rw (counted-same (λ n. n * c .block) (c .scope) bus v, stays-same bus r vs)
+
+  outranked-same : (bus : NodeId) (r : ℕ) (vs : List Voice) → outranked c bus r (map (shown c) vs) ≡ outranked c bus r vs
+  outranked-same bus r vs =
+      ap₂ (λ n b. atBudget (c .budget) n && b) (count-map (shown c) (counted (c .scope) bus) (counted (c .scope) bus) (counted-same (λ n. n * c .block) (c .scope) bus) vs) (stays-same bus r vs)
 
   -- by its edges, as by the ledger's holders
-  pub answer-same : (bus : NodeId) (l : Ledger) → InvariantOf l → claim.spawnAnswer bus (storeOf c l) ≡ words.spawnAnswer bus l
-  answer-same bus l s =
-      ap (λ b. cond b (Spawned.Refused NoPort) (Spawned.Voice (nextVoice (l .shared))))
-      (every-same (λ p. byOther bus (map (shown c) (l .voices)) (holderAt (l .shared .graph .nodes) (l .shared .graph .edges) (bus .0) p)) (λ p. byOther bus (l .voices) (l .holders (bus .0) p)) (upto (portsOf (nodeAt (l .shared .graph .nodes) bus)))
-      (λ p. other-same bus (l .voices) (holderAt (l .shared .graph .nodes) (l .shared .graph .edges) (bus .0) p) ∙ ap (byOther bus (l .voices)) (sym (s .held (bus .0) p))))
+  pub answer-same : (bus : NodeId) (r : ℕ) (l : Ledger) → l .shared .config ≡ c → InvariantOf l → claim.spawnAnswer bus r (storeOf c l) ≡ words.spawnAnswer bus r l
+  answer-same bus r l is s =
+      ap₂ (λ a b. answerWhen a b (nextVoice (l .shared)))
+      (subst (λ (k : Config). outranked k bus r (map (shown c) (l .voices)) ≡ outranked k bus r (l .voices)) (sym is) (outranked-same bus r (l .voices)))
+      (every-same (λ p. byOther bus r (map (shown c) (l .voices)) (holderAt (l .shared .graph .nodes) (l .shared .graph .edges) (bus .0) p)) (λ p. byOther bus r (l .voices) (l .holders (bus .0) p)) (upto (portsOf (nodeAt (l .shared .graph .nodes) bus)))
+      (λ p. other-same bus r (l .voices) (holderAt (l .shared .graph .nodes) (l .shared .graph .edges) (bus .0) p) ∙ ap (byOther bus r (l .voices)) (sym (s .held (bus .0) p))))
 
-  pub refusal-same : (d : SharedState) (vs : List Voice) (def : SynthDef) (bus : NodeId) → spawnRefusal d (map (shown c) vs) def bus ≡ spawnRefusal d vs def bus
-  refusal-same d vs def bus = rw (length-map vs (shown c))
+  pub refusal-same : (d : SharedState) (vs : List Voice) (def : SynthDef) (bus : NodeId) (rank : ℕ) → spawnRefusal d (map (shown c) vs) def bus rank ≡ spawnRefusal d vs def bus rank
+  refusal-same d vs def bus rank = rw (length-map vs (shown c))
 
   pub reclaimed-shown : (vs vs' : List Voice) (bus : NodeId) (k : ℕ) → Reclaimed vs vs' bus k → Reclaimed (map (shown c) vs) (map (shown c) vs') bus k
   reclaimed-shown vs vs' bus k r =
@@ -215,14 +224,14 @@ module _ (c : Config) where
     apart-distinct vs (a .1),
   )
 
-  module _ (x : Spawn) (l l' : Ledger) (s : InvariantOf l) (h : LossesOf (x .bus) (victimIn (spawnRefusal (l .shared) (l .voices) (x .def) (x .bus)) (ledger.admissionOn (x .bus) l) (l .voices)) l l') where
+  module _ (x : Spawn) (l l' : Ledger) (s : InvariantOf l) (h : LossesOf (x .bus) (x .rank) (victimIn (spawnRefusal (l .shared) (l .voices) (x .def) (x .bus) (x .rank)) (ledger.admissionOn (x .bus) (x .rank) l) (l .voices)) l l') where
     abbrev o : Option Voice
-    o = victimIn (spawnRefusal (l .shared) (l .voices) (x .def) (x .bus)) (ledger.admissionOn (x .bus) l) (l .voices)
+    o = victimIn (spawnRefusal (l .shared) (l .voices) (x .def) (x .bus) (x .rank)) (ledger.admissionOn (x .bus) (x .rank) l) (l .voices)
 
     victim-same : claim.victimOf x (storeOf c l) ≡ mapO (shown c) o
     victim-same =
-        ap₂ (λ r a. victimIn r a (map (shown c) (l .voices))) (refusal-same (l .shared) (l .voices) (x .def) (x .bus)) (admits-same (λ n. n * c .block) (l .shared) (x .bus) (l .voices))
-        ∙ victim-shown (spawnRefusal (l .shared) (l .voices) (x .def) (x .bus)) (ledger.admissionOn (x .bus) l) (l .voices)
+        ap₂ (λ r a. victimIn r a (map (shown c) (l .voices))) (refusal-same (l .shared) (l .voices) (x .def) (x .bus) (x .rank)) (admits-same (λ n. n * c .block) (l .shared) (x .bus) (x .rank) (l .voices))
+        ∙ victim-shown (spawnRefusal (l .shared) (l .voices) (x .def) (x .bus) (x .rank)) (ledger.admissionOn (x .bus) (x .rank) l) (l .voices)
 
     found-same : (v : Voice) → isSome (find (isVoice (v .id)) (l' .voices)) ≡ isSome (find (isVoice (v .id)) (map (shown c) (l' .voices)))
     found-same v = sym (ap isSome (find-stored (λ n. n * c .block) (v .id) (l' .voices)) ∙ some-same (find (isVoice (v .id)) (l' .voices)))
@@ -236,6 +245,12 @@ module _ (c : Config) where
     heads-shown (some g) q =
         let i : In g (h .lost) = subst (In g) (sym (q .1)) (inl refl) in
         (q .0, q .1 ∙ ap (λ z. z ∷ q .0) (sym (as-tracked g (h .were g i .1))))
+
+    victim-back : (v : Voice) (y : Option Voice) → Heads y (h .lost) → mapO (shown c) y ≡ some v → y ≡ some v
+    victim-back v none q e = absurd (none-some e)
+    victim-back v (some g) q e =
+        let i : In g (h .lost) = subst (In g) (sym (q .1)) (inl refl) in
+        ap some (sym (as-tracked g (h .were g i .1))) ∙ e
 
     -- a fade begins at 0
     start-shown : (f : Fade) → f .position ≡ 0 → movedFade (λ n. n * c .block) f ≡ f
@@ -264,6 +279,12 @@ module _ (c : Config) where
           once = apart-distinct (h .lost) (h .apart);
           first = subst (λ z. Heads z (h .lost)) (sym victim-same) (heads-shown o (h .first));
           others = λ v i. ⊎-elim (λ e. inl (victim-same ∙ ap (mapO (shown c)) e ∙ ap some (as-tracked v (h .were v i .1)))) inr (h .others v i);
+          below = h .below;
+          least = λ v u e i t.
+              let w = in-map (shown c) (l .voices) u i in
+              subst (λ (z : Voice). v .rank ≤ z .rank) (sym (w .2)) (h .least v (w .0) (victim-back v o (h .first) (sym victim-same ∙ e)) (w .1)
+              (sym (counted-same (λ n. n * c .block) (l .shared .config .scope) (x .bus) (w .0)) ∙ subst (λ (z : Voice). counted (l .shared .config .scope) (x .bus) z ≡ true) (w .2) t));
+          lowest = λ v u i j t on. h .lowest v u i (tracked-in (l' .voices) u t j) t on;
           fades = fades-shown;
           added = h .count;
           records = records-same (lossOf (l .shared) (l' .voices)) (lossOf (l .shared) (map (shown c) (l' .voices))) (l' .shared .steals) (l' .shared .steals) (l .shared .steals .count) (h .lost)

@@ -1,6 +1,7 @@
 -- Who goes is one of the voices: the victim of an admission is tracked and counts for the newVoice, and the next to be
--- reclaimed is tracked or fading on the bus. Where nobody is found there is nobody.
-use Prim.Native.Nat.{ℕ, suc, _≤_, _<_}
+-- reclaimed is fading on the bus, or tracked there; none that is tracked outranks the newVoice, nor anybody that was asked. Where nobody is
+-- found, all that were asked outrank it.
+use Prim.Native.Nat.{ℕ, _≤_, _<_}
 use native.Mathlib.Omega.{arith}
 use mathlib.Core.Path.{_≡_, refl, sym, ap, _∙_, subst}
 use mathlib.Core.Logic.{inl, inr}
@@ -9,156 +10,100 @@ use mathlib.Core.Option.{Option, none, some}
 use mathlib.Core.Bool.{Bool, true, false, _&&_, _||_, false≢true}
 use lib.Dec.{leb}
 use lib.ListN.{length, length-map}
-use lib.Ieee.{Float}
-use borrow.Author.Tests.{eq-eqb, leb-true, leb-false}
+use borrow.Author.Tests.{eq-eqb, le-leb, lt-leb, leb-true, leb-false}
 use Rattle.lists.specs.Member.{In}
 use Rattle.lists.proofs.Member.{in-map, in-of-map, some-inj, none-some}
 use Rattle.lists.specs.Find.{find, or?}
 use Rattle.lists.specs.Filter.{filter}
 use Rattle.lists.proofs.Filter.{in-filter, filter-in}
 use Rattle.lists.specs.Count.{count}
-use Rattle.lists.proofs.Count.{count-is-length, count-none}
+use Rattle.lists.proofs.Count.{count-is-length}
 use Rattle.node.specs.declared.record.NodeId.{NodeId}
 use Rattle.node.specs.declared.record.VoiceId.{VoiceId}
-use Rattle.voice.specs.Policy.{oldest, lastFrom, takes, take?, passed, walk, tookOr, victim, decides, admits}
+use Rattle.voice.specs.Policy.{victim, decides, admits}
+use Rattle.voice.proofs.Ranks.{Lowest, victim-lowest, nobody-outranked}
 use Rattle.voice.specs.declared.policy.StealPolicy.{StealPolicy}
 use Rattle.voice.specs.declared.policy.StealPolicy.the-variants as policy
-use Rattle.voice.specs.declared.policy.Level.{Level}
-use Rattle.voice.specs.declared.policy.Level.the-variants.{Unknown, Known}
+use Rattle.voice.specs.declared.policy.Level.the-variants.{Unknown}
 use Rattle.voice.specs.declared.policy.Candidate.{Candidate}
-use Rattle.voice.specs.declared.policy.Held.{Held}
-use Rattle.voice.specs.declared.policy.Held.the-variants as held
 use Rattle.voice.specs.declared.policy.Victim.{Victim}
 use Rattle.voice.specs.declared.policy.Victim.the-variants.{Nobody, Goes}
 use Rattle.voice.specs.declared.policy.Budget.{Budget}
 use Rattle.voice.specs.declared.policy.Budget.the-variants.{Unlimited, AtMost}
 use Rattle.voice.specs.declared.policy.Admission.the-variants as admission
 use Rattle.store.specs.declared.voices.Voice.{Voice}
+use Rattle.store.specs.declared.voices.VoiceState.{VoiceState}
+use Rattle.store.specs.declared.voices.VoiceState.the-variants.{Tracked, Fading, Loose}
 use Rattle.model.specs.SharedState.{SharedState}
 use Rattle.model.specs.Voice.{isVoice, isTracked, isFading, isOn, startOf, candidate, candidates, trackedOn, fadesOn}
 use Rattle.model.specs.Spawn.{voiceOf, earlier, earliest, elseVictim, nextOut}
-use Rattle.ledger.specs.Claim.{Stealing, busyOn}
+use Rattle.ledger.specs.Claim.{Stealing, mayGoOn}
 use Rattle.ledger.proofs.Ids.{Ids, once}
-
--- ---- among candidates
--- the candidate that goes is one of them
-abbrev Among : List Candidate → VoiceId → Type 0
-Among cs w = (c : Candidate) × In c cs × (c .voice ≡ w)
-
-goes-inj : {p q : ℕ} {v w : VoiceId} → Goes p v ≡ Goes q w → v ≡ w
-goes-inj e = cc
 
 nobody-goes : {p : ℕ} {w : VoiceId} → Nobody ≡ Goes p w → ⊥
 nobody-goes e = let z : _≡_ {A = ℕ} 0 1 = cc in omega arith
 
-oldest-in : (cs : List Candidate) (p : ℕ) (w : VoiceId) → oldest cs ≡ Goes p w → Among cs w
-oldest-in [] p w h = absurd (nobody-goes h)
-oldest-in (c ∷ cs) p w h = (c, inl refl, goes-inj h)
-
-last-in : (q : ℕ) (cs : List Candidate) (p : ℕ) (w : VoiceId) → lastFrom q cs ≡ Goes p w → Among cs w
-last-in q [] p w h = absurd (nobody-goes h)
-last-in q (c ∷ []) p w h = (c, inl refl, goes-inj h)
-last-in q (c ∷ d ∷ cs) p w h = let r = last-in (suc q) (d ∷ cs) p w h in (r .0, inr (r .1), r .2)
-
--- what the walk holds is one of the candidates
-abbrev HeldAmong : List Candidate → Held → Type 0
-HeldAmong cs held.Nothing = Unit {0}
-HeldAmong cs (held.Taken place voice level) = Among cs voice
-
-walk-in : (all : List Candidate) (h : Held) (p : ℕ) (cs : List Candidate) → ((c : Candidate) → In c cs → In c all) → HeldAmong all h → HeldAmong all (walk h p cs)
-walk-in all h p [] sub a = a
-walk-in all h p (c ∷ cs) sub a = walk-in all (passed h p c (c .level)) (suc p) cs (λ d i. sub d (inr i)) (go (c .level))
-  where
-    pick : (b : Bool) (x : Float) → HeldAmong all (take? b (held.Taken p (c .voice) x) h)
-    pick true x = (c, sub c (inl refl), refl)
-    pick false x = a
-
-    go : (lv : Level) → HeldAmong all (passed h p c lv)
-    go Unknown = a
-    go (Known x) = pick (takes h x) x
-
-took-in : (cs : List Candidate) (h : Held) (v : Victim) (p : ℕ) (w : VoiceId) → HeldAmong cs h → (v ≡ Goes p w → Among cs w) → tookOr h v ≡ Goes p w → Among cs w
-took-in cs held.Nothing v p w a f e = f e
-took-in cs (held.Taken place voice level) v p w a f e = (a .0, a .1, a .2 ∙ goes-inj e)
-
-pub victim-in : (t : StealPolicy) (cs : List Candidate) (p : ℕ) (w : VoiceId) → victim t cs ≡ Goes p w → Among cs w
-victim-in policy.Reject cs p w h = absurd (nobody-goes h)
-victim-in policy.Oldest cs p w h = oldest-in cs p w h
-victim-in policy.Newest cs p w h = last-in 0 cs p w h
-victim-in policy.Quietest cs p w h = took-in cs (walk held.Nothing 0 cs) (oldest cs) p w (walk-in cs held.Nothing 0 cs (λ c i. i) tt) (oldest-in cs p w) h
-
--- nobody goes only where there is nobody
-last-some : (q : ℕ) (c : Candidate) (cs : List Candidate) → lastFrom q (c ∷ cs) ≡ Nobody → ⊥
-last-some q c [] h = nobody-goes (sym h)
-last-some q c (d ∷ cs) h = last-some (suc q) d cs h
-
-took-some : (h : Held) (p : ℕ) (w : VoiceId) → tookOr h (Goes p w) ≡ Nobody → ⊥
-took-some held.Nothing p w e = nobody-goes (sym e)
-took-some (held.Taken place voice level) p w e = nobody-goes (sym e)
-
-pub victim-none : (t : StealPolicy) → Stealing t → (cs : List Candidate) → victim t cs ≡ Nobody → cs ≡ []
-victim-none t s [] h = refl
-victim-none policy.Reject s (c ∷ cs) h = absurd s
-victim-none policy.Oldest s (c ∷ cs) h = absurd (nobody-goes (sym h))
-victim-none policy.Newest s (c ∷ cs) h = absurd (last-some 0 c cs h)
-victim-none policy.Quietest s (c ∷ cs) h = absurd (took-some (walk held.Nothing 0 (c ∷ cs)) 0 (c .voice) h)
+-- a policy that steals is not `Reject`
+stealing-not : (t : StealPolicy) → Stealing t → t ≡ policy.Reject → ⊥
+stealing-not t s e = subst Stealing e s
 
 -- ---- among voices
 module _ {n : ℕ} {vs : List Voice} (u : Ids n vs) (d : SharedState) (q : Voice → Bool) where
-  pub victim-voice : (t : StealPolicy) (p : ℕ) (w : VoiceId) → victim t (candidates d q vs) ≡ Goes p w
-      → (v : Voice) × In v vs × (q v ≡ true) × (find (isVoice w) vs ≡ some v)
-  victim-voice t p w h =
-      let r = victim-in t (candidates d q vs) p w h in
-      let s = in-map (candidate d) (filter q vs) (r .0) (r .1) in
+  -- The voice that goes for a newVoice of rank r is one of those that are asked, does not outrank the newVoice, and nobody who is asked ranks below it.
+  abbrev pub Chosen : ℕ → VoiceId → Type 0
+  Chosen r w = (v : Voice) × In v vs × (q v ≡ true) × (find (isVoice w) vs ≡ some v) × (v .rank ≤ r) × ((x : Voice) → In x vs → q x ≡ true → v .rank ≤ x .rank)
+
+  pub victim-voice : (t : StealPolicy) (r : ℕ) (p : ℕ) (w : VoiceId) → victim t r (candidates d q vs) ≡ Goes p w → Chosen r w
+  victim-voice t r p w h =
+      let c = subst (Lowest r (candidates d q vs)) h (victim-lowest (record { voice = w; level = Unknown; rank = 0 }) t r (candidates d q vs)) in
+      let s = in-map (candidate d) (filter q vs) (c .0) (c .1) in
       let i = in-filter q vs (s .0) (s .1) in
-      let e : s .0 .id .0 ≡ w .0 = ap (λ (x : VoiceId). x .0) (sym (ap (λ (c : Candidate). c .voice) (s .2)) ∙ r .2) in
-      (s .0, i .0, i .1, once u w (s .0) (i .0) (eq-eqb _ _ e))
+      let e : s .0 .id .0 ≡ w .0 = ap (λ (x : VoiceId). x .0) (sym (ap (λ (c : Candidate). c .voice) (s .2)) ∙ c .2) in
+      let k : c .0 .rank ≡ s .0 .rank = ap (λ (c : Candidate). c .rank) (s .2) in (
+        s .0,
+        i .0,
+        i .1,
+        once u w (s .0) (i .0) (eq-eqb _ _ e),
+        subst (λ m. m ≤ r) k (c .3),
+        λ x j y. subst (λ m. m ≤ x .rank) k (c .4 (candidate d x) (in-of-map (candidate d) (filter q vs) x (filter-in q vs x j y))),
+      )
 
-  pub no-victim : (t : StealPolicy) → Stealing t → victim t (candidates d q vs) ≡ Nobody → (v : Voice) → In v vs → q v ≡ false
-  no-victim t s h v i = go (q v) refl
-    where
-      none : (cs : List Candidate) → cs ≡ [] → In (candidate d v) cs → ⊥
-      none [] e j = j
-      none (c ∷ cs) e j = let z : _≡_ {A = ℕ} 0 1 = cc in omega arith
-
-      go : (b : Bool) → q v ≡ b → b ≡ false
-      go false e = refl
-      go true e = absurd (none (candidates d q vs) (victim-none t s (candidates d q vs) h) (in-of-map (candidate d) (filter q vs) v (filter-in q vs v i e)))
+  pub no-victim : (t : StealPolicy) → Stealing t → (r : ℕ) → victim t r (candidates d q vs) ≡ Nobody → (v : Voice) → In v vs → q v ≡ true → r < v .rank
+  no-victim t s r h v i e = nobody-outranked t (stealing-not t s) r (candidates d q vs) h (candidate d v) (in-of-map (candidate d) (filter q vs) v (filter-in q vs v i e))
 
 pub candidates-count : (d : SharedState) (q : Voice → Bool) (vs : List Voice) → length (candidates d q vs) ≡ count q vs
 candidates-count d q vs = length-map (filter q vs) (candidate d) ∙ sym (count-is-length q vs)
 
 -- ---- admission
 module _ {n : ℕ} {vs : List Voice} (u : Ids n vs) (d : SharedState) (q : Voice → Bool) where
-  pub steal-voice : (b : Budget) (t : StealPolicy) (p : ℕ) (w : VoiceId) → admits b t (candidates d q vs) ≡ admission.Steal p w
-      → (v : Voice) × In v vs × (q v ≡ true) × (find (isVoice w) vs ≡ some v)
-  steal-voice Unlimited t p w h = let z : _≡_ {A = ℕ} 0 1 = cc in absurd (omega arith)
-  steal-voice (AtMost k) t p w h = go (leb k (length (candidates d q vs))) (victim t (candidates d q vs)) refl h
+  pub steal-voice : (b : Budget) (t : StealPolicy) (r : ℕ) (p : ℕ) (w : VoiceId) → admits b t r (candidates d q vs) ≡ admission.Steal p w → Chosen u d q r w
+  steal-voice Unlimited t r p w h = let z : _≡_ {A = ℕ} 0 1 = cc in absurd (omega arith)
+  steal-voice (AtMost k) t r p w h = go (leb k (length (candidates d q vs))) (victim t r (candidates d q vs)) refl h
     where
-      go : (b : Bool) (x : Victim) → victim t (candidates d q vs) ≡ x → decides b x ≡ admission.Steal p w → (v : Voice) × In v vs × (q v ≡ true) × (find (isVoice w) vs ≡ some v)
+      go : (b : Bool) (x : Victim) → victim t r (candidates d q vs) ≡ x → decides b x ≡ admission.Steal p w → Chosen u d q r w
       go false x e h = let z : _≡_ {A = ℕ} 0 1 = cc in absurd (omega arith)
       go true Nobody e h = let z : _≡_ {A = ℕ} 0 1 = cc in absurd (omega arith)
-      go true (Goes p₁ w₁) e h = victim-voice u d q t p w (e ∙ cc)
+      go true (Goes p₁ w₁) e h = victim-voice u d q t r p w (e ∙ cc)
 
   -- admitted under a budget: below it
-  pub admit-below : (k : ℕ) (t : StealPolicy) → admits (AtMost k) t (candidates d q vs) ≡ admission.Admit → count q vs < k
-  admit-below k t h = go (leb k (length (candidates d q vs))) refl (victim t (candidates d q vs)) h
+  pub admit-below : (k : ℕ) (t : StealPolicy) (r : ℕ) → admits (AtMost k) t r (candidates d q vs) ≡ admission.Admit → count q vs < k
+  admit-below k t r h = go (leb k (length (candidates d q vs))) refl (victim t r (candidates d q vs)) h
     where
       go : (b : Bool) → leb k (length (candidates d q vs)) ≡ b → (x : Victim) → decides b x ≡ admission.Admit → count q vs < k
       go false e x h = let l : length (candidates d q vs) < k = leb-false _ _ e in omega (arith, l, candidates-count d q vs)
       go true e Nobody h = let z : _≡_ {A = ℕ} 0 1 = cc in absurd (omega arith)
       go true e (Goes p w) h = let z : _≡_ {A = ℕ} 0 1 = cc in absurd (omega arith)
 
-  -- a budget above 0 and a policy that steals reject nobody
-  pub never-rejects : (k : ℕ) (t : StealPolicy) → Stealing t → admits (AtMost (suc k)) t (candidates d q vs) ≡ admission.Reject → ⊥
-  never-rejects k t s h = go (leb (suc k) (length (candidates d q vs))) refl (victim t (candidates d q vs)) refl h
+  -- a policy that steals rejects at budget alone, and only where all that count outrank the newVoice
+  pub rejects-when : (k : ℕ) (t : StealPolicy) → Stealing t → (r : ℕ) → admits (AtMost k) t r (candidates d q vs) ≡ admission.Reject
+      → (k ≤ count q vs) × ((v : Voice) → In v vs → q v ≡ true → r < v .rank)
+  rejects-when k t s r h = go (leb k (length (candidates d q vs))) refl (victim t r (candidates d q vs)) refl h
     where
-      go : (b : Bool) → leb (suc k) (length (candidates d q vs)) ≡ b → (x : Victim) → victim t (candidates d q vs) ≡ x → decides b x ≡ admission.Reject → ⊥
-      go false e x f h = let z : _≡_ {A = ℕ} 0 1 = cc in omega arith
-      go true e Nobody f h =
-          let l : suc k ≤ length (candidates d q vs) = leb-true _ _ e in
-          omega (arith, l, candidates-count d q vs, count-none q vs (no-victim u d q t s f))
-      go true e (Goes p w) f h = let z : _≡_ {A = ℕ} 0 1 = cc in omega arith
+      go : (b : Bool) → leb k (length (candidates d q vs)) ≡ b → (x : Victim) → victim t r (candidates d q vs) ≡ x → decides b x ≡ admission.Reject
+          → (k ≤ count q vs) × ((v : Voice) → In v vs → q v ≡ true → r < v .rank)
+      go false e x f h = let z : _≡_ {A = ℕ} 0 1 = cc in absurd (omega arith)
+      go true e Nobody f h = let l : k ≤ length (candidates d q vs) = leb-true _ _ e in (omega (arith, l, candidates-count d q vs), no-victim u d q t s r f)
+      go true e (Goes p w) f h = let z : _≡_ {A = ℕ} 0 1 = cc in absurd (omega arith)
 
 earliest-in : (q : Voice → Bool) (vs : List Voice) (v : Voice) → earliest q vs ≡ some v → In v vs × (q v ≡ true)
 earliest-in q [] v h = absurd (none-some h)
@@ -188,44 +133,64 @@ earliest-none q (x ∷ vs) h v i = go (earliest q vs) refl (q x) refl h i (earli
     go none e false f h (inl s) ih = ap q s ∙ f
     go none e false f h (inr j) ih = ih e v j
 
-fading-busy : (a b c : Bool) → (b && c) ≡ true → ((a || b) && c) ≡ true
-fading-busy true true c h = h
-fading-busy true false c h = absurd (false≢true h)
-fading-busy false b c h = h
+fading-goes : (a b c : Bool) → (a && c) ≡ true → ((a || b) && c) ≡ true
+fading-goes true b c h = h
+fading-goes false b c h = absurd (false≢true h)
 
-tracked-busy : (a b c : Bool) → (a && c) ≡ true → ((a || b) && c) ≡ true
-tracked-busy true b c h = h
-tracked-busy false b c h = absurd (false≢true h)
+tracked-goes : (a b c d : Bool) → (b && d) ≡ true → c ≡ true → ((a || (b && c)) && d) ≡ true
+tracked-goes true true true d h e = h
+tracked-goes true false true d h e = absurd (false≢true h)
+tracked-goes false true true d h e = h
+tracked-goes false false true d h e = h
+tracked-goes a b false d h e = absurd (false≢true e)
 
-idle-busy : (a b c : Bool) → (b && c) ≡ false → (a && c) ≡ false → ((a || b) && c) ≡ false
-idle-busy true b c h k = k
-idle-busy false b c h k = h
+none-goes : (a b c d : Bool) → (a && d) ≡ false → ((b && d) ≡ true → c ≡ false) → ((a || (b && c)) && d) ≡ false
+none-goes true b c d h k = h
+none-goes false true true true h k = k refl
+none-goes false true false true h k = refl
+none-goes false true true false h k = refl
+none-goes false true false false h k = refl
+none-goes false false c d h k = refl
 
-module _ {n : ℕ} {vs : List Voice} (u : Ids n vs) (d : SharedState) (bus : NodeId) where
-  pub nextOut-in : (v : Voice) → nextOut d bus vs ≡ some v → In v vs × (busyOn bus v ≡ true)
+fading-tracked : (s : VoiceState) (c : Bool) → (isFading s && c) ≡ true → isTracked s ≡ true → ⊥
+fading-tracked Tracked c h t = false≢true h
+fading-tracked (Fading f) c h t = false≢true t
+fading-tracked Loose c h t = false≢true h
+
+module _ {n : ℕ} {vs : List Voice} (u : Ids n vs) (d : SharedState) (bus : NodeId) (r : ℕ) where
+  abbrev bus-victim : Victim
+  bus-victim = victim (d .config .policy) r (candidates d (trackedOn bus) vs)
+
+  -- The voice that goes next is of the bus and may go; where it is tracked, no tracked voice of the bus ranks below it.
+  abbrev Next : Voice → Type 0
+  Next v = In v vs × (mayGoOn bus r v ≡ true) × (isTracked (v .state) ≡ true → (x : Voice) → In x vs → trackedOn bus x ≡ true → v .rank ≤ x .rank)
+
+  pub nextOut-in : (v : Voice) → nextOut d bus r vs ≡ some v → Next v
   nextOut-in v h = go (earliest (fadesOn bus) vs) refl h
     where
-      tracks : (x : Victim) → victim (d .config .policy) (candidates d (trackedOn bus) vs) ≡ x → voiceOf x vs ≡ some v → In v vs × (busyOn bus v ≡ true)
+      tracks : (x : Victim) → bus-victim ≡ x → voiceOf x vs ≡ some v → Next v
       tracks Nobody e h = absurd (none-some h)
       tracks (Goes p w) e h =
-          let r = victim-voice u d (trackedOn bus) (d .config .policy) p w e in
-          let s : r .0 ≡ v = some-inj (sym (r .3) ∙ h) in
-          subst (λ z. In z vs × (busyOn bus z ≡ true)) s (r .1, tracked-busy (isTracked (r .0 .state)) (isFading (r .0 .state)) (isOn bus (r .0)) (r .2))
+          let z = victim-voice u d (trackedOn bus) (d .config .policy) r p w e in
+          let s : z .0 ≡ v = some-inj (sym (z .3) ∙ h) in
+          subst Next s
+          (z .1, tracked-goes (isFading (z .0 .state)) (isTracked (z .0 .state)) (leb (z .0 .rank) r) (isOn bus (z .0)) (z .2) (le-leb _ _ (z .4)), λ t. z .5)
 
-      go : (o : Option Voice) → earliest (fadesOn bus) vs ≡ o → elseVictim o (voiceOf (victim (d .config .policy) (candidates d (trackedOn bus) vs)) vs) ≡ some v → In v vs × (busyOn bus v ≡ true)
+      go : (o : Option Voice) → earliest (fadesOn bus) vs ≡ o → elseVictim o (voiceOf bus-victim vs) ≡ some v → Next v
       go (some x) e h =
-          let r = earliest-in (fadesOn bus) vs v (e ∙ h) in
-          (r .0, fading-busy (isTracked (v .state)) (isFading (v .state)) (isOn bus v) (r .1))
-      go none e h = tracks (victim (d .config .policy) (candidates d (trackedOn bus) vs)) refl h
+          let z = earliest-in (fadesOn bus) vs v (e ∙ h) in
+          (z .0, fading-goes (isFading (v .state)) (isTracked (v .state) && leb (v .rank) r) (isOn bus v) (z .1), λ t. absurd (fading-tracked (v .state) (isOn bus v) (z .1) t))
+      go none e h = tracks bus-victim refl h
 
-  pub nextOut-none : Stealing (d .config .policy) → nextOut d bus vs ≡ none → (v : Voice) → In v vs → busyOn bus v ≡ false
+  pub nextOut-none : Stealing (d .config .policy) → nextOut d bus r vs ≡ none → (v : Voice) → In v vs → mayGoOn bus r v ≡ false
   nextOut-none t h v i = go (earliest (fadesOn bus) vs) refl h
     where
-      tracks : earliest (fadesOn bus) vs ≡ none → (x : Victim) → victim (d .config .policy) (candidates d (trackedOn bus) vs) ≡ x → voiceOf x vs ≡ none → busyOn bus v ≡ false
+      tracks : earliest (fadesOn bus) vs ≡ none → (x : Victim) → bus-victim ≡ x → voiceOf x vs ≡ none → mayGoOn bus r v ≡ false
       tracks f Nobody e h =
-          idle-busy (isTracked (v .state)) (isFading (v .state)) (isOn bus v) (earliest-none (fadesOn bus) vs f v i) (no-victim u d (trackedOn bus) (d .config .policy) t e v i)
-      tracks f (Goes p w) e h = absurd (none-some (sym h ∙ victim-voice u d (trackedOn bus) (d .config .policy) p w e .3))
+          none-goes (isFading (v .state)) (isTracked (v .state)) (leb (v .rank) r) (isOn bus v) (earliest-none (fadesOn bus) vs f v i)
+          (λ y. lt-leb _ _ (no-victim u d (trackedOn bus) (d .config .policy) t r e v i y))
+      tracks f (Goes p w) e h = absurd (none-some (sym h ∙ victim-voice u d (trackedOn bus) (d .config .policy) r p w e .3))
 
-      go : (o : Option Voice) → earliest (fadesOn bus) vs ≡ o → elseVictim o (voiceOf (victim (d .config .policy) (candidates d (trackedOn bus) vs)) vs) ≡ none → busyOn bus v ≡ false
+      go : (o : Option Voice) → earliest (fadesOn bus) vs ≡ o → elseVictim o (voiceOf bus-victim vs) ≡ none → mayGoOn bus r v ≡ false
       go (some x) e h = absurd (none-some (sym h))
-      go none e h = tracks e (victim (d .config .policy) (candidates d (trackedOn bus) vs)) refl h
+      go none e h = tracks e bus-victim refl h

@@ -33,7 +33,7 @@ module _ (F : ℕ → List Voice → Type 0)
 
   pub voices-steady : Preserves VoicesOf
   voices-steady =
-      calm (λ c b n vs. F n vs) (λ c b n vs w h. fewer n vs (λ x. not (isVoice w x)) h) (λ c b n vs h. same n vs (moved oneMore) (λ v. refl) h) (λ c b n vs v e s lt h. more n vs v e h)
+      calm (λ c b n vs. F n vs) (λ c b n vs w h. fewer n vs (λ x. not (isVoice w x)) h) (λ c b n vs h. same n vs (moved oneMore) (λ v. refl) h) (λ c b n vs v e s lt k h. more n vs v e h)
 
   pub voices-run : (xs : List Call) (l : Ledger) → VoicesOf l → VoicesOf (run xs l .ledger)
-  voices-run = kept-run VoicesOf voices-steady (λ l spawn e h. managed-keeps VoicesOf voices-spawning spawn (admissionOn (spawn .bus) l) l h)
+  voices-run = kept-run VoicesOf voices-steady (λ l spawn e h. managed-keeps VoicesOf voices-spawning spawn (admissionOn (spawn .bus) (spawn .rank) l) l h)

@@ -3,12 +3,11 @@
 use Prim.Native.Nat.{ℕ, _+_, _≤_}
 use mathlib.Core.Path.{_≡_}
 use mathlib.Core.List.{List, [], _∷_, _++_}
-use mathlib.Core.Bool.{Bool, true, cond}
+use mathlib.Core.Bool.{Bool, true}
 use lib.ListN.{length}
 use Rattle.lists.specs.Member.{In}
 use Rattle.lists.specs.Count.{more, count}
 use Rattle.node.specs.declared.record.NodeId.{NodeId}
-use Rattle.node.specs.declared.refusal.Refusal.the-variants.{NoPort}
 use Rattle.rank.specs.Order.{upto}
 use Rattle.graph.specs.Node.{nodeAt, portsOf}
 use Rattle.scheduler.specs.Queue as queue
@@ -29,7 +28,7 @@ use Rattle.model.specs.Call as call
 use Rattle.ledger.specs.Ledger.{Ledger}
 use Rattle.ledger.specs.Clear as clearing
 use Rattle.ledger.specs.Call.{run}
-use Rattle.ledger.specs.Claim.{ledgerAfter, isSounded, heldRecord, cutIfHeld, noSteals, byOther}
+use Rattle.ledger.specs.Claim.{ledgerAfter, isSounded, heldRecord, cutIfHeld, noSteals, byOther, outranked, answerWhen}
 
 -- how many of the calls, from the ledger l on, were sounding renders
 abbrev pub soundings : List Call → Ledger → ℕ
@@ -69,12 +68,12 @@ pub record AllLoose (l : Ledger) : Type 0 where
   pub book : l .shared .steals ≡ noSteals
 
 -- every port of the bus is held so
-abbrev pub blocked : NodeId → Ledger → Bool
-blocked bus l = every (λ p. byOther bus (l .voices) (l .holders (bus .0) p)) (upto (portsOf (nodeAt (l .shared .graph .nodes) bus)))
+abbrev pub blocked : NodeId → ℕ → Ledger → Bool
+blocked bus r l = every (λ p. byOther bus r (l .voices) (l .holders (bus .0) p)) (upto (portsOf (nodeAt (l .shared .graph .nodes) bus)))
 
 -- what a spawn answers that the table does not refuse
-abbrev pub spawnAnswer : NodeId → Ledger → Spawned
-spawnAnswer bus l = cond (blocked bus l) (Spawned.Refused NoPort) (Spawned.Voice (nextVoice (l .shared)))
+abbrev pub spawnAnswer : NodeId → ℕ → Ledger → Spawned
+spawnAnswer bus r l = answerWhen (outranked (l .shared .config) bus r (l .voices)) (blocked bus r l) (nextVoice (l .shared))
 
 -- what they hold, with places left for so many nodes, edges and voices
 pub record Room (n e v : ℕ) (l : Ledger) : Type 0 where

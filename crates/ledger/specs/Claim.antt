@@ -11,7 +11,7 @@ use mathlib.Core.Logic.{_⊎_, _↔_}
 use mathlib.Core.List.{List, [], _∷_, _++_, map}
 use mathlib.Core.Option.{Option, none, some}
 use mathlib.Core.Bool.{Bool, true, false, not, cond, _&&_, _||_}
-use lib.Dec.{eqb, leb}
+use lib.Dec.{eqb, leb, ltb}
 use lib.IntN.{ℤ}
 use lib.Ieee.{Float}
 use lib.ListN.{length}
@@ -24,7 +24,7 @@ use Rattle.node.specs.declared.record.Node.{Node}
 use Rattle.node.specs.declared.record.NodeId.{NodeId}
 use Rattle.node.specs.declared.record.VoiceId.{VoiceId}
 use Rattle.node.specs.declared.refusal.Refusal.{Refusal}
-use Rattle.node.specs.declared.refusal.Refusal.the-variants.{NoPort}
+use Rattle.node.specs.declared.refusal.Refusal.the-variants.{Rejected, NoPort}
 use Rattle.bus.specs.Block as samples
 use Rattle.bus.specs.Fade.{fadeLength, fadeOutput}
 use Rattle.fade_table.specs.Table.{entries}
@@ -42,9 +42,11 @@ use Rattle.graph.specs.Change.{edge}
 use Rattle.scheduler.specs.Queue as queue
 use Rattle.scheduler.specs.declared.event.Event.{Event}
 use Rattle.voice.specs.Steals.{StealLog, cutOf, foundAt, recordOf}
+use Rattle.voice.specs.Policy.{atBudget}
 use Rattle.voice.specs.declared.policy.Admission.{Admission}
 use Rattle.voice.specs.declared.policy.Admission.the-variants as admission
 use Rattle.voice.specs.declared.policy.Budget.the-variants.{Unlimited, AtMost}
+use Rattle.voice.specs.declared.policy.BudgetScope.{BudgetScope}
 use Rattle.voice.specs.declared.policy.StealPolicy.{StealPolicy}
 use Rattle.voice.specs.declared.policy.StealPolicy.the-variants as policy
 use Rattle.voice.specs.declared.steals.StealRecord.{StealRecord}
@@ -267,7 +269,7 @@ victimIn none admission.Reject vs = none
 victimIn none (admission.Steal place w) vs = find (isVoice w) vs
 
 abbrev pub victimOf : Spawn → Model → Option Voice
-victimOf x s = victimIn (spawnRefusal (s .shared) (s .voices) (x .def) (x .bus)) (admissionOn (x .bus) s) (s .voices)
+victimOf x s = victimIn (spawnRefusal (s .shared) (s .voices) (x .def) (x .bus) (x .rank)) (admissionOn (x .bus) (x .rank) s) (s .voices)
 
 -- the list begins with the voice, if there is one
 abbrev pub Heads : Option Voice → List Voice → Type 0
@@ -296,6 +298,11 @@ pub record Losses (x : Spawn) (s s' : Model) : Type 0 where
   -- first the victim of the admission; the others were on the bus
   pub first : Heads (victimOf x s) lost
   pub others : (v : Voice) → In v lost → (victimOf x s ≡ some v) ⊎ (isOn (x .bus) v ≡ true)
+  -- 02, Paper 13: "The victim comes from the lowest rank among candidates, .. and never outranks the newcomer": the victim of the admission is of
+  -- the lowest rank among those that count; no tracked voice that is left on the bus, the newVoice among them, ranks below one that was lost
+  pub below : (v : Voice) → In v lost → v .rank ≤ x .rank
+  pub least : (v u : Voice) → victimOf x s ≡ some v → In u (s .voices) → counted (s .shared .config .scope) (x .bus) u ≡ true → v .rank ≤ u .rank
+  pub lowest : (v u : Voice) → In v lost → In u (s' .voices) → u .state ≡ Tracked → isOn (x .bus) u ≡ true → v .rank ≤ u .rank
   -- one that is still there fades, from now on, and fed a port of its bus. So one that cannot fade is withoutVoice
   pub fades : (v u : Voice) → In v lost → find (isVoice (v .id)) (s' .voices) ≡ some u
       → (u ≡ withState (Fading (fadeOf (s .shared))) v) × (isSome (portFrom (s .shared .graph .edges) (feeder v) (v .bus)) ≡ true)
@@ -321,34 +328,47 @@ Stealing policy.Oldest = Unit {0}
 Stealing policy.Newest = Unit {0}
 Stealing policy.Quietest = Unit {0}
 
--- tracked or fading, on the bus
-abbrev pub busy : VoiceState → Bool
-busy s = isTracked s || isFading s
+-- 02, Paper 13. Whether a voice may go for a newVoice of rank r: it is fading, "regardless of rank", or it is tracked and does not outrank it
+abbrev pub mayGo : ℕ → Voice → Bool
+mayGo r v = isFading (v .state) || (isTracked (v .state) && leb (v .rank) r)
 
-abbrev pub busyOn : NodeId → Voice → Bool
-busyOn bus v = busy (v .state) && isOn bus v
+abbrev pub mayGoOn : NodeId → ℕ → Voice → Bool
+mayGoOn bus r v = mayGo r v && isOn bus v
 
--- a tracked or fading voice of the bus
-abbrev pub isBusy : NodeId → Option Voice → Bool
-isBusy bus none = false
-isBusy bus (some v) = busyOn bus v
+-- such a voice of the bus
+abbrev pub isSpare : NodeId → ℕ → Option Voice → Bool
+isSpare bus r none = false
+isSpare bus r (some v) = mayGoOn bus r v
 
--- held, by a node of no tracked or fading voice of the bus
-abbrev pub byOther : NodeId → List Voice → Holder → Bool
-byOther bus vs nobody = false
-byOther bus vs (host k) = true
-byOther bus vs (voice w) = not (isBusy bus (find (isVoice w) vs))
+-- held, by a node of no such voice of the bus: "for want of a port, a tracked unfaded voice that outranks it holds its port as a stranger would"
+abbrev pub byOther : NodeId → ℕ → List Voice → Holder → Bool
+byOther bus r vs nobody = false
+byOther bus r vs (host k) = true
+byOther bus r vs (voice w) = not (isSpare bus r (find (isVoice w) vs))
 
 -- every port of the bus is held so
-abbrev pub blocked : NodeId → Model → Bool
-blocked bus s = every (λ p. byOther bus (s .voices) (holderAt (s .shared .graph .nodes) (s .shared .graph .edges) (bus .0) p)) (upto (portsOf (nodeAt (s .shared .graph .nodes) bus)))
+abbrev pub blocked : NodeId → ℕ → Model → Bool
+blocked bus r s = every (λ p. byOther bus r (s .voices) (holderAt (s .shared .graph .nodes) (s .shared .graph .edges) (bus .0) p)) (upto (portsOf (nodeAt (s .shared .graph .nodes) bus)))
 
--- what a managed spawn answers that the table does not refuse
-abbrev pub spawnAnswer : NodeId → Model → Spawned
-spawnAnswer bus s = cond (blocked bus s) (Spawned.Refused NoPort) (Spawned.Voice (nextVoice (s .shared)))
+-- no candidate, or one that outranks the newVoice
+abbrev pub stays : BudgetScope → NodeId → ℕ → Voice → Bool
+stays scope bus r v = not (counted scope bus v) || ltb r (v .rank)
+
+-- at budget, and "all candidates outrank it"
+abbrev pub outranked : Config → NodeId → ℕ → List Voice → Bool
+outranked c bus r vs = atBudget (c .budget) (count (counted (c .scope) bus) vs) && every (stays (c .scope) bus r) vs
+
+-- what a managed spawn answers that the table does not refuse: 11, 12, or the next voice id
+abbrev pub answerWhen : Bool → Bool → VoiceId → Spawned
+answerWhen true b w = Spawned.Refused Rejected
+answerWhen false true w = Spawned.Refused NoPort
+answerWhen false false w = Spawned.Voice w
+
+abbrev pub spawnAnswer : NodeId → ℕ → Model → Spawned
+spawnAnswer bus r s = answerWhen (outranked (s .shared .config) bus r (s .voices)) (blocked bus r s) (nextVoice (s .shared))
 
 -- "The newVoice takes the next id and the port found": after the spawn x, which made of s the store s', the voice w is there, on the bus
--- and in that state, and holds its port
+-- and in that state, has the rank that was given, and holds its port
 pub record Arrives (x : Spawn) (state : VoiceState) (w : VoiceId) (s s' : Model) : Type 0 where
   pub newVoice : Voice
   pub member : In newVoice (s' .voices)
@@ -356,6 +376,7 @@ pub record Arrives (x : Spawn) (state : VoiceState) (w : VoiceId) (s s' : Model)
   pub next : w ≡ nextVoice (s .shared)
   pub on : newVoice .bus ≡ x .bus
   pub birth : newVoice .birth ≡ s .shared .clock
+  pub ranks : newVoice .rank ≡ x .rank
   pub is : newVoice .state ≡ state
   pub holds : holderAt (s' .shared .graph .nodes) (s' .shared .graph .edges) (x .bus .0) (newVoice .port) ≡ voice w
 
@@ -414,11 +435,12 @@ pub record Holds (c : Config) (s : Model) : Type 0 where
   pub budget : (n : ℕ) → c .budget ≡ AtMost n → (bus : NodeId) → count (counted (c .scope) bus) (s .voices) ≤ n
   pub loose : c .budget ≡ Unlimited → AllLoose s
   pub stay : c .budget ≡ Unlimited → (x : Spawn) (v : Voice) → In v (s .voices) → In v (call.step (call.spawnManaged x) s .model .voices)
-  -- ---- 5. With a budget above 0 and a policy that steals, a managed spawn that the table does not refuse (definition and bus, headroom, ids
-  -- left) is refused exactly when every port of its bus is held by a node of no tracked or fading voice of that bus, and with 12; else
-  -- it answers the next voice id.
-  pub spawns : (n : ℕ) → c .budget ≡ AtMost (suc n) → Stealing (c .policy) → (x : Spawn) → spawnRefusal (s .shared) (s .voices) (x .def) (x .bus) ≡ none
-      → call.step (call.spawnManaged x) s .answer ≡ call.spawned (spawnAnswer (x .bus) s)
+  -- ---- 5. With a budget above 0 and a policy that steals, a managed spawn that the table does not refuse (rank 0 to 7, definition and bus,
+  -- headroom, ids left) is refused with 11 exactly when it is at budget and all candidates outrank it; else with 12 exactly when every port of its
+  -- bus is held by somebody who is neither a fading voice of that bus nor a tracked one of it that does not outrank it; else it answers the
+  -- next voice id.
+  pub spawns : (n : ℕ) → c .budget ≡ AtMost (suc n) → Stealing (c .policy) → (x : Spawn) → spawnRefusal (s .shared) (s .voices) (x .def) (x .bus) (x .rank) ≡ none
+      → call.step (call.spawnManaged x) s .answer ≡ call.spawned (spawnAnswer (x .bus) (x .rank) s)
   -- A spawn that answers a voice has let it in, "tracked under a budget", or loose. A node that is answered is there, and was not before.
   pub arrives : (x : Spawn) (w : VoiceId) → call.step (call.spawnManaged x) s .answer ≡ call.spawned (Spawned.Voice w) → Arrives x (stateUnder (c .budget)) w s (call.step (call.spawnManaged x) s .model)
   pub arrivesLoose : (x : Spawn) (w : VoiceId) → call.step (call.spawnLoose x) s .answer ≡ call.spawned (Spawned.Voice w) → Arrives x Loose w s (call.step (call.spawnLoose x) s .model)
@@ -435,6 +457,8 @@ pub record Holds (c : Config) (s : Model) : Type 0 where
   pub shows : (v : Voice) → In v (s .voices) → Shows s v
   -- ---- The tables hold it: 512 nodes, 1,024 edges, 64 voices, 256 events, and the newest 64 records.
   pub room : Room s
+  -- ---- 02, Paper 13: "Each voice's record gains a rank 0 to 7"
+  pub ranks : (v : Voice) → In v (s .voices) → v .rank ≤ 7
   pub records : Newest (s .shared .steals)
 
 -- 02, Paper 7. What fade output and bus sum answer is decided by what making fixed. Where the fade table was chosen, the gains are the table's and "lent gains are

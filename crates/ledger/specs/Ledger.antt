@@ -106,7 +106,7 @@ instantiateOr none (some v) x s l again = again (cutOff v (v .state) l)
 
 abbrev pub place : ℕ → Spawn → VoiceState → Ledger → SpawnResult
 place zero x s l = instantiateOr (portFree (x .bus) l) none x s l (refused NoPort)
-place (suc fuel) x s l = instantiateOr (portFree (x .bus) l) (nextOut (l .shared) (x .bus) (l .voices)) x s l (λ k. place fuel x s k)
+place (suc fuel) x s l = instantiateOr (portFree (x .bus) l) (nextOut (l .shared) (x .bus) (x .rank) (l .voices)) x s l (λ k. place fuel x s k)
 
 abbrev pub placeWithinBudget : Spawn → Ledger → SpawnResult
 placeWithinBudget x l = place (tries (l .shared .config .budget) (l .voices)) x (stateUnder (l .shared .config .budget)) l
@@ -120,9 +120,9 @@ admitted admission.Admit x l = placeWithinBudget x l
 admitted admission.Reject x l = refused Rejected l
 admitted (admission.Steal place w) x l = stealThen (find (isVoice w) (l .voices)) x l
 
-abbrev pub admissionOn : NodeId → Ledger → Admission
-admissionOn bus l =
-    admits (l .shared .config .budget) (l .shared .config .policy) (candidates (l .shared) (counted (l .shared .config .scope) bus) (l .voices))
+abbrev pub admissionOn : NodeId → ℕ → Ledger → Admission
+admissionOn bus r l =
+    admits (l .shared .config .budget) (l .shared .config .policy) r (candidates (l .shared) (counted (l .shared .config .scope) bus) (l .voices))
 
 -- "Refused: nothing changes; with 12 the steals and reclaims made stand."
 abbrev pub unless : Option Refusal → Ledger → SpawnResult → SpawnResult
@@ -131,11 +131,11 @@ unless (some n) l r = refused n l
 
 abbrev pub spawnManaged : Spawn → Ledger → SpawnResult
 spawnManaged x l =
-    unless (spawnRefusal (l .shared) (l .voices) (x .def) (x .bus)) l (admitted (admissionOn (x .bus) l) x l)
+    unless (spawnRefusal (l .shared) (l .voices) (x .def) (x .bus) (x .rank)) l (admitted (admissionOn (x .bus) (x .rank) l) x l)
 
 -- "Unmanaged: the port search alone; the newVoice takes id and port likewise and is loose. No port: 12."
 abbrev pub spawnLoose : Spawn → Ledger → SpawnResult
-spawnLoose x l = unless (spawnRefusal (l .shared) (l .voices) (x .def) (x .bus)) l (place 0 x Loose l)
+spawnLoose x l = unless (spawnRefusal (l .shared) (l .voices) (x .def) (x .bus) (x .rank)) l (place 0 x Loose l)
 
 -- ---- "Free, called or by event: the voice goes."
 abbrev pub freed : Option Voice → Ledger → Ledger

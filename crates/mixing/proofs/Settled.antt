@@ -11,7 +11,7 @@ use lib.Ieee.{Float}
 use lib.ListN.{length}
 use Rattle.node.specs.Refusal.{Said, refused, gives, numberOf}
 use Rattle.node.specs.declared.refusal.Refusal.{Refusal}
-use Rattle.node.specs.declared.refusal.Refusal.the-variants.{SampleRate, BlockSize, BudgetTooLarge, UnknownNode, VoiceNode, PortOrKind, TableFull, IdsUsedUp, DefinitionLimits, BusWithoutPorts, Rejected, NoPort, RequiredPort, Cycle, ClockEnd, LentBlock, ShortBuffer, TableRate, OutOfRange}
+use Rattle.node.specs.declared.refusal.Refusal.the-variants.{SampleRate, BlockSize, BudgetTooLarge, UnknownNode, VoiceNode, PortOrKind, TableFull, IdsUsedUp, DefinitionLimits, BusWithoutPorts, Rejected, NoPort, RequiredPort, Cycle, ClockEnd, LentBlock, ShortBuffer, TableRate, OutOfRange, RankTooHigh}
 use Rattle.bus.specs.Answer.{written}
 use Rattle.bus.specs.Block.{blockOf}
 use Rattle.bus.specs.Fade.{silence, fadeLength, fadedOf, fadeFits, fadeOutput}
@@ -46,6 +46,7 @@ sixteen LentBlock h = refl
 sixteen ShortBuffer h = let z : _≡_ {A = ℕ} 17 16 = h in absurd (omega arith)
 sixteen TableRate h = let z : _≡_ {A = ℕ} 20 16 = h in absurd (omega arith)
 sixteen OutOfRange h = let z : _≡_ {A = ℕ} 21 16 = h in absurd (omega arith)
+sixteen RankTooHigh h = let z : _≡_ {A = ℕ} 26 16 = h in absurd (omega arith)
 
 pub record Settled (b : Bool) (w : Written) (before after block : List Float) : Type 0 where
   pub answer : filledOf w after ≡ blockAnswer b (cond b block before)

@@ -58,7 +58,7 @@ abbrev last : ℕ → Model → Option LastOrder
 last k m = mapO (λ n. n .last) (nodeAt (m .shared .graph .nodes) (id k))
 
 abbrev key : List Call → Model
-key calls = after (upTo 2 Oldest) (host 2 ∷ sink 0 ∷ call.spawnManaged (spawnOf keyDef (id 0) (float 0)) ∷ call.prepare ∷ calls)
+key calls = after (upTo 2 Oldest) (host 2 ∷ sink 0 ∷ call.spawnManaged (spawnOf keyDef (id 0) (float 0) 0) ∷ call.prepare ∷ calls)
 
 -- ---- "answers yes and becomes the node's last order if the voice is known, has the parameter, and its node takes that sort; else
 -- it answers no and changes nothing"; "Of two parameters of one name the first counts", also where its node refuses the order; a
@@ -120,7 +120,7 @@ unknown-free = (refl, refl)
 abbrev cyclic : List Call → Model
 cyclic calls =
     after (upTo 2 Oldest)
-    (host 4 ∷ sink 0 ∷ call.spawnManaged (spawnOf keyDef (id 0) (float 0)) ∷ spawn 0 ∷ spawn 0 ∷ host 1 ∷ wire 6 6 0 ∷ timedFree 4 1 ∷ timedFree 5 9 ∷ calls)
+    (host 4 ∷ sink 0 ∷ call.spawnManaged (spawnOf keyDef (id 0) (float 0) 0) ∷ spawn 0 ∷ spawn 0 ∷ host 1 ∷ wire 6 6 0 ∷ timedFree 4 1 ∷ timedFree 5 9 ∷ calls)
 
 failed-prepare :
     (asked (render ∷ call.ask call.clock ∷ []) (cyclic []) ≡ told (Rendered.Unprepared Cycle) (0 ∷ 1 ∷ []) 254 ∷ time 16 ∷ [])

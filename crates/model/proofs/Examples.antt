@@ -88,7 +88,7 @@ unfolding seedOf levelOf
 given (rate r l) = rate r (fadeLength r)
 given (level xs y) = level xs (levelOf xs)
 given (seed s n x) = seed s n (seedOf s n)
-given (quietest xs v) = quietest xs (victim Quietest (numbered 1 (map Known xs)))
+given (quietest xs v) = quietest xs (victim Quietest 0 (numbered 1 (map Known xs)))
 given (taken t deadline n) = taken t deadline (length (takenBefore deadline (event t (voice 1) [] Action.Free ∷ [])))
 given (third-prepare l) = third-prepare (map (λ (k : NodeId). k .0) (page .model .shared .graph .order))
 given (prints t) = prints (paper.page (page .model .shared .clock) (paper.portNow (page .model .shared .graph .edges)) (page .model .voices))

@@ -53,7 +53,7 @@ stereo = refl
 -- the fade node of a voice take no report, also with a wrong block; a host node does; an unknown node and a withoutVoice one do not.
 -- Voice 1: node 1, constant 2, pan 3; then its fade 4, and voice 2 with node 5. Refuses: 16 before 4; the pan node's level.
 abbrev panned : Model
-panned = after (small 1 Oldest) (host 2 ∷ call.spawnManaged (spawnOf toneDef (id 0) nan) ∷ render ∷ [])
+panned = after (small 1 Oldest) (host 2 ∷ call.spawnManaged (spawnOf toneDef (id 0) nan 0) ∷ render ∷ [])
 
 reports :
     (asked (sounds 1 3 ∷ sounds 0 1 ∷ call.ask (call.level (voice 1)) ∷ sounds 2 1 ∷ sounds 3 1 ∷ []) panned
@@ -115,7 +115,7 @@ abbrev cut : LastOrder → Call
 cut o = call.order (voice 1) (bytes "cut") o
 
 abbrev lively : Model
-lively = after (small 1 Oldest) (host 1 ∷ call.spawnManaged (spawnOf cutDef (id 0) (float 0)) ∷ render ∷ [])
+lively = after (small 1 Oldest) (host 1 ∷ call.spawnManaged (spawnOf cutDef (id 0) (float 0) 0) ∷ render ∷ [])
 
 dead-output :
     (asked (call.ask (call.level (voice 1)) ∷ cut (value 1) ∷ call.clear ∷ []) lively ≡ known (Known (float 0)) ∷ ordered Applied ∷ removed 0 ∷ [])

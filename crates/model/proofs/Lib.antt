@@ -3,6 +3,7 @@ pub mod SoundingScenes
 pub mod SpawnScenes
 pub mod PolicyScenes
 pub mod ReclaimScenes
+pub mod RankScenes
 pub mod RecordScenes
 pub mod ClearScenes
 pub mod LevelScenes

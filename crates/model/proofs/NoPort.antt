@@ -56,15 +56,15 @@ earliest-in : (q : Voice → Bool) (vs : List Voice) (v : Voice) → earliest q 
 earliest-in q [] v h = absurd (none-some h)
 earliest-in q (x ∷ vs) v h = ⊎-elim inl (λ p. inr (earliest-in q vs v p)) (earlier-in (earliest q vs) (q x) x v h)
 
-next-in : (d : SharedState) (bus : NodeId) (vs : List Voice) (v : Voice) → nextOut d bus vs ≡ some v → In v vs
-next-in d bus vs v h = go (earliest (fadesOn bus) vs) refl h
+next-in : (d : SharedState) (bus : NodeId) (rank : ℕ) (vs : List Voice) (v : Voice) → nextOut d bus rank vs ≡ some v → In v vs
+next-in d bus rank vs v h = go (earliest (fadesOn bus) vs) refl h
   where
     chosen : (x : Victim) → voiceOf x vs ≡ some v → In v vs
     chosen Nobody e = absurd (none-some e)
     chosen (Goes place w) e = find-in (isVoice w) vs v e .0
 
-    go : (o : Option Voice) → earliest (fadesOn bus) vs ≡ o → elseVictim o (voiceOf (victim (d .config .policy) (candidates d (trackedOn bus) vs)) vs) ≡ some v → In v vs
-    go none p e = chosen (victim (d .config .policy) (candidates d (trackedOn bus) vs)) e
+    go : (o : Option Voice) → earliest (fadesOn bus) vs ≡ o → elseVictim o (voiceOf (victim (d .config .policy) rank (candidates d (trackedOn bus) vs)) vs) ≡ some v → In v vs
+    go none p e = chosen (victim (d .config .policy) rank (candidates d (trackedOn bus) vs)) e
     go (some u) p e = earliest-in (fadesOn bus) vs v (p ∙ e)
 
 -- a voice that goes leaves fewer
@@ -82,7 +82,7 @@ module _ (spawn : Spawn) (s : VoiceState) where
           → portFree (spawn .bus) (instantiateOr o none spawn s m (store.refused NoPort) .model) ≡ none
       go none p e = p
       go (some x) p e = absurd (none-some e)
-  place-no-port (suc fuel) m r h = go (portFree (spawn .bus) m) refl (nextOut (m .shared) (spawn .bus) (m .voices)) h (λ k. place-no-port fuel k r)
+  place-no-port (suc fuel) m r h = go (portFree (spawn .bus) m) refl (nextOut (m .shared) (spawn .bus) (spawn .rank) (m .voices)) h (λ k. place-no-port fuel k r)
     where
       go : (o : Option ℕ) → portFree (spawn .bus) m ≡ o → (v : Option Voice)
           → notSpawned (instantiateOr o v spawn s m (λ k. place fuel spawn s k) .answer) ≡ some r
@@ -94,42 +94,42 @@ module _ (spawn : Spawn) (s : VoiceState) where
 
   -- as many tries as there are voices are enough
   pub place-nobody : (fuel : ℕ) (m : Model) (r : Refusal) → length (m .voices) ≤ fuel → notSpawned (place fuel spawn s m .answer) ≡ some r
-      → nextOut (place fuel spawn s m .model .shared) (spawn .bus) (place fuel spawn s m .model .voices) ≡ none
+      → nextOut (place fuel spawn s m .model .shared) (spawn .bus) (spawn .rank) (place fuel spawn s m .model .voices) ≡ none
   place-nobody zero m r few h = go (portFree (spawn .bus) m) h
     where
-      nobody : (o : Option Voice) → nextOut (m .shared) (spawn .bus) (m .voices) ≡ o → o ≡ none
+      nobody : (o : Option Voice) → nextOut (m .shared) (spawn .bus) (spawn .rank) (m .voices) ≡ o → o ≡ none
       nobody none p = refl
-      nobody (some v) p = absurd (omega (arith, gone-fewer (m .voices) v (next-in (m .shared) (spawn .bus) (m .voices) v p)))
+      nobody (some v) p = absurd (omega (arith, gone-fewer (m .voices) v (next-in (m .shared) (spawn .bus) (spawn .rank) (m .voices) v p)))
 
       go : (o : Option ℕ) → notSpawned (instantiateOr o none spawn s m (store.refused NoPort) .answer) ≡ some r
-          → nextOut (instantiateOr o none spawn s m (store.refused NoPort) .model .shared) (spawn .bus) (instantiateOr o none spawn s m (store.refused NoPort) .model .voices) ≡ none
-      go none e = nobody (nextOut (m .shared) (spawn .bus) (m .voices)) refl
+          → nextOut (instantiateOr o none spawn s m (store.refused NoPort) .model .shared) (spawn .bus) (spawn .rank) (instantiateOr o none spawn s m (store.refused NoPort) .model .voices) ≡ none
+      go none e = nobody (nextOut (m .shared) (spawn .bus) (spawn .rank) (m .voices)) refl
       go (some x) e = absurd (none-some e)
-  place-nobody (suc fuel) m r few h = go (portFree (spawn .bus) m) (nextOut (m .shared) (spawn .bus) (m .voices)) refl h (λ k. place-nobody fuel k r)
+  place-nobody (suc fuel) m r few h = go (portFree (spawn .bus) m) (nextOut (m .shared) (spawn .bus) (spawn .rank) (m .voices)) refl h (λ k. place-nobody fuel k r)
     where
-      go : (o : Option ℕ) (v : Option Voice) → nextOut (m .shared) (spawn .bus) (m .voices) ≡ v
+      go : (o : Option ℕ) (v : Option Voice) → nextOut (m .shared) (spawn .bus) (spawn .rank) (m .voices) ≡ v
           → notSpawned (instantiateOr o v spawn s m (λ k. place fuel spawn s k) .answer) ≡ some r
           → ((k : Model) → length (k .voices) ≤ fuel → notSpawned (place fuel spawn s k .answer) ≡ some r
-          → nextOut (place fuel spawn s k .model .shared) (spawn .bus) (place fuel spawn s k .model .voices) ≡ none)
-          → nextOut (instantiateOr o v spawn s m (λ k. place fuel spawn s k) .model .shared) (spawn .bus)
+          → nextOut (place fuel spawn s k .model .shared) (spawn .bus) (spawn .rank) (place fuel spawn s k .model .voices) ≡ none)
+          → nextOut (instantiateOr o v spawn s m (λ k. place fuel spawn s k) .model .shared) (spawn .bus) (spawn .rank)
           (instantiateOr o v spawn s m (λ k. place fuel spawn s k) .model .voices) ≡ none
       go none none p e ih = p
       go none (some v) p e ih =
-          let i : In v (m .voices) = next-in (m .shared) (spawn .bus) (m .voices) v p in
+          let i : In v (m .voices) = next-in (m .shared) (spawn .bus) (spawn .rank) (m .voices) v p in
           let f : length (filter (λ x. not (isVoice (v .id) x)) (m .voices)) ≤ fuel = omega (arith, gone-fewer (m .voices) v i) in
           ih (cutOff v (v .state) m) f e
       go (some x) v p e ih = absurd (none-some e)
 
-pub record Exhausted (b : Budget) (bus : NodeId) (k : Model) : Type 0 where
-  pub no-port : portFree bus k ≡ none
-  pub nobody : (n : ℕ) → b ≡ AtMost n → nextOut (k .shared) bus (k .voices) ≡ none
+pub record Exhausted (b : Budget) (x : Spawn) (k : Model) : Type 0 where
+  pub no-port : portFree (x .bus) k ≡ none
+  pub nobody : (n : ℕ) → b ≡ AtMost n → nextOut (k .shared) (x .bus) (x .rank) (k .voices) ≡ none
 
 module _ (spawn : Spawn) (r : Refusal) where
-  settle-exhausted : (m : Model) → notSpawned (placeWithinBudget spawn m .answer) ≡ some r → Exhausted (m .shared .config .budget) (spawn .bus) (placeWithinBudget spawn m .model)
+  settle-exhausted : (m : Model) → notSpawned (placeWithinBudget spawn m .answer) ≡ some r → Exhausted (m .shared .config .budget) spawn (placeWithinBudget spawn m .model)
   settle-exhausted m h = go (m .shared .config .budget) h
     where
       go : (b : Budget) → notSpawned (place (tries b (m .voices)) spawn (stateUnder b) m .answer) ≡ some r
-          → Exhausted b (spawn .bus) (place (tries b (m .voices)) spawn (stateUnder b) m .model)
+          → Exhausted b spawn (place (tries b (m .voices)) spawn (stateUnder b) m .model)
       go Unlimited e =
           record {
             no-port = place-no-port spawn Loose 0 m r e;
@@ -142,7 +142,7 @@ module _ (spawn : Spawn) (r : Refusal) where
           }
 
   admitted-exhausted : (a : Admission) (m : Model) → notSpawned (admitted a spawn m .answer) ≡ some r → (r ≡ Rejected → ⊥)
-      → Exhausted (m .shared .config .budget) (spawn .bus) (admitted a spawn m .model)
+      → Exhausted (m .shared .config .budget) spawn (admitted a spawn m .model)
   admitted-exhausted admission.Admit m h k = settle-exhausted m h
   admitted-exhausted admission.Reject m h k = absurd (k (sym (some-inj h)))
   admitted-exhausted (admission.Steal place w) m h k = go (find (isVoice w) (m .voices)) h
@@ -151,19 +151,19 @@ module _ (spawn : Spawn) (r : Refusal) where
       same v none = refl
       same v (some p) = refl
 
-      go : (o : Option Voice) → notSpawned (stealThen o spawn m .answer) ≡ some r → Exhausted (m .shared .config .budget) (spawn .bus) (stealThen o spawn m .model)
+      go : (o : Option Voice) → notSpawned (stealThen o spawn m .answer) ≡ some r → Exhausted (m .shared .config .budget) spawn (stealThen o spawn m .model)
       go none e = settle-exhausted m e
-      go (some v) e = subst (λ (b : Budget). Exhausted b (spawn .bus) (placeWithinBudget spawn (stealVoice v m) .model)) (same v (portFrom (m .shared .graph .edges) (feeder v) (v .bus)))
+      go (some v) e = subst (λ (b : Budget). Exhausted b spawn (placeWithinBudget spawn (stealVoice v m) .model)) (same v (portFrom (m .shared .graph .edges) (feeder v) (v .bus)))
           (settle-exhausted (stealVoice v m) e)
 
 pub no-port-exhausts : (x : Spawn) (m : Model) → step (call.spawnManaged x) m .answer ≡ call.spawned (Spawned.Refused NoPort)
-    → Exhausted (m .shared .config .budget) (x .bus) (step (call.spawnManaged x) m .model)
-no-port-exhausts x m h = go (spawnRefusal (m .shared) (m .voices) (x .def) (x .bus)) (spawn-not (m .shared) (m .voices) (x .def) (x .bus)) (ap refusalIn h)
+    → Exhausted (m .shared .config .budget) x (step (call.spawnManaged x) m .model)
+no-port-exhausts x m h = go (spawnRefusal (m .shared) (m .voices) (x .def) (x .bus) (x .rank)) (spawn-not (m .shared) (m .voices) (x .def) (x .bus) (x .rank)) (ap refusalIn h)
   where
     admits : SpawnResult
-    admits = admitted (admissionOn (x .bus) m) x m
+    admits = admitted (admissionOn (x .bus) (x .rank) m) x m
 
-    go : (o : Option Refusal) → is12 o ≡ false → notSpawned (store.unless o m admits .answer) ≡ some NoPort → Exhausted (m .shared .config .budget) (x .bus) (store.unless o m admits .model)
+    go : (o : Option Refusal) → is12 o ≡ false → notSpawned (store.unless o m admits .answer) ≡ some NoPort → Exhausted (m .shared .config .budget) x (store.unless o m admits .model)
     go (some q) n e = let z : true ≡ false = sym (ap (λ x. eqb (numberOf x) 12) (some-inj e)) ∙ n in absurd (true≢false z)
     go none n e =
-        admitted-exhausted x NoPort (admissionOn (x .bus) m) m e (λ p. let z : _≡_ {A = ℕ} 0 1 = cc in absurd (omega arith))
+        admitted-exhausted x NoPort (admissionOn (x .bus) (x .rank) m) m e (λ p. let z : _≡_ {A = ℕ} 0 1 = cc in absurd (omega arith))

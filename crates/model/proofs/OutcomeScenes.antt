@@ -41,7 +41,7 @@ keyDef =
     }
 
 abbrev key : List Call → Model
-key calls = after (upTo 2 Oldest) (host 2 ∷ sink 0 ∷ call.spawnManaged (spawnOf keyDef (id 0) (float 0)) ∷ call.prepare ∷ calls)
+key calls = after (upTo 2 Oldest) (host 2 ∷ sink 0 ∷ call.spawnManaged (spawnOf keyDef (id 0) (float 0) 0) ∷ call.prepare ∷ calls)
 
 -- an event for a voice
 abbrev at : ℕ → ℕ → String → Action → Call

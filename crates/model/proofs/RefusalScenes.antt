@@ -116,10 +116,10 @@ adds = (refl, refl, refl)
 
 -- ---- spawns: 9; 4, 5; 10; 7; 8; 11; 12
 abbrev managed : SynthDef → ℕ → Call
-managed def b = call.spawnManaged (spawnOf def (id b) (float 0))
+managed def b = call.spawnManaged (spawnOf def (id b) (float 0) 0)
 
 abbrev loose : SynthDef → ℕ → Call
-loose def b = call.spawnLoose (spawnOf def (id b) (float 0))
+loose def b = call.spawnLoose (spawnOf def (id b) (float 0) 0)
 
 -- 9 before 4: 25 nodes, 0 nodes, 24 nodes; 4 before 10: the unknown and the dead have no ports either; 5 before 10: the voice's node has
 -- none; 10. Refuses: 4 first; 10 first.

@@ -6,14 +6,14 @@ use mathlib.Core.Logic.{_⊎_, inl, inr, ⊎-elim}
 use mathlib.Core.List.{List}
 use mathlib.Core.Option.{Option, none, some}
 use mathlib.Core.Bool.{Bool, true, false, not, cond}
-use lib.Dec.{eqb}
+use lib.Dec.{eqb, ltb}
 use lib.ListN.{length}
 use Rattle.lists.proofs.Member.{some-inj, none-some}
 use Rattle.lists.specs.Find.{find}
 use Rattle.node.specs.declared.record.NodeId.{NodeId}
 use Rattle.node.specs.Refusal.{numberOf}
 use Rattle.node.specs.declared.refusal.Refusal.{Refusal}
-use Rattle.node.specs.declared.refusal.Refusal.the-variants.{NoPort, Rejected, DefinitionLimits, UnknownNode, VoiceNode, BusWithoutPorts, TableFull, IdsUsedUp}
+use Rattle.node.specs.declared.refusal.Refusal.the-variants.{NoPort, Rejected, DefinitionLimits, UnknownNode, VoiceNode, BusWithoutPorts, TableFull, IdsUsedUp, RankTooHigh}
 use Rattle.graph.specs.Node.{nodeAt, portsOf, ofVoice}
 use Rattle.graph.specs.Refuse.{when, dead, addRefusal, hostRefusal, disconnectRefusal, connectRefusal}
 use Rattle.order.specs.declared.Readiness.{Readiness}
@@ -31,7 +31,7 @@ use Rattle.store.specs.declared.voices.VoiceState.{VoiceState}
 use Rattle.store.specs.declared.voices.VoiceState.the-variants.{Loose}
 use Rattle.model.specs.SharedState.{SharedState, sounding}
 use Rattle.model.specs.Voice.{isVoice}
-use Rattle.model.specs.Refuse.{orElse, noHeadroom, noIds, spawnRefusal, reportRefusal}
+use Rattle.model.specs.Refuse.{orElse, rankLimit, noHeadroom, noIds, spawnRefusal, reportRefusal}
 use Rattle.model.specs.Spawn.{tries, stateUnder, nextOut, Spawn}
 use Rattle.model.specs.Model.{Model, cutOff, stealVoice, portFree, instantiateOr, place, stealThen, admitted, admissionOn, SpawnResult}
 use Rattle.model.specs.Model as store
@@ -88,13 +88,13 @@ abbrev pub reclaimsOr : Option Voice → Model → (Model → Model) → Model
 reclaimsOr none m again = m
 reclaimsOr (some v) m again = again (cutOff v (v .state) m)
 
-abbrev pub reclaims : ℕ → NodeId → Model → Model
-reclaims zero bus m = m
-reclaims (suc fuel) bus m = reclaimsOr (nextOut (m .shared) bus (m .voices)) m (λ k. reclaims fuel bus k)
+abbrev pub reclaims : ℕ → NodeId → ℕ → Model → Model
+reclaims zero bus rank m = m
+reclaims (suc fuel) bus rank m = reclaimsOr (nextOut (m .shared) bus rank (m .voices)) m (λ k. reclaims fuel bus rank k)
 
 -- without a budget none
-abbrev pub allReclaims : NodeId → Model → Model
-allReclaims bus m = reclaims (tries (m .shared .config .budget) (m .voices)) bus m
+abbrev pub allReclaims : NodeId → ℕ → Model → Model
+allReclaims bus rank m = reclaims (tries (m .shared .config .budget) (m .voices)) bus rank m
 
 -- a managed spawn that gives 12: the steal and all reclaims; an unmanaged one: nothing
 abbrev pub leftByNoPort : Call → Model → Model
@@ -103,7 +103,7 @@ leftByNoPort (call.removeNode k) m = m
 leftByNoPort (call.connect a b p) m = m
 leftByNoPort (call.disconnect b p) m = m
 leftByNoPort (call.setSink k) m = m
-leftByNoPort (call.spawnManaged x) m = allReclaims (x .bus) (admissionLeaves (admissionOn (x .bus) m) m)
+leftByNoPort (call.spawnManaged x) m = allReclaims (x .bus) (x .rank) (admissionLeaves (admissionOn (x .bus) (x .rank) m) m)
 leftByNoPort (call.spawnLoose x) m = m
 leftByNoPort (call.free w) m = m
 leftByNoPort call.clear m = m
@@ -121,18 +121,18 @@ left r c m = cond (eqb (numberOf r) 12) (leftByNoPort c m) m
 -- ---- the port search answers a voice or 12
 module _ (spawn : Spawn) (s : VoiceState) where
   pub place-left : (fuel : ℕ) (m : Model) (r : Refusal) → notSpawned (place fuel spawn s m .answer) ≡ some r
-      → (r ≡ NoPort) × (place fuel spawn s m .model ≡ reclaims fuel (spawn .bus) m)
+      → (r ≡ NoPort) × (place fuel spawn s m .model ≡ reclaims fuel (spawn .bus) (spawn .rank) m)
   place-left zero m r h = go (portFree (spawn .bus) m) h
     where
       go : (o : Option ℕ) → notSpawned (instantiateOr o none spawn s m (store.refused NoPort) .answer) ≡ some r
           → (r ≡ NoPort) × (instantiateOr o none spawn s m (store.refused NoPort) .model ≡ m)
       go none e = (sym (some-inj e), refl)
       go (some p) e = absurd (none-some e)
-  place-left (suc fuel) m r h = go (portFree (spawn .bus) m) (nextOut (m .shared) (spawn .bus) (m .voices)) h (λ k. place-left fuel k r)
+  place-left (suc fuel) m r h = go (portFree (spawn .bus) m) (nextOut (m .shared) (spawn .bus) (spawn .rank) (m .voices)) h (λ k. place-left fuel k r)
     where
       go : (o : Option ℕ) (v : Option Voice) → notSpawned (instantiateOr o v spawn s m (λ k. place fuel spawn s k) .answer) ≡ some r
-          → ((k : Model) → notSpawned (place fuel spawn s k .answer) ≡ some r → (r ≡ NoPort) × (place fuel spawn s k .model ≡ reclaims fuel (spawn .bus) k))
-          → (r ≡ NoPort) × (instantiateOr o v spawn s m (λ k. place fuel spawn s k) .model ≡ reclaimsOr v m (λ k. reclaims fuel (spawn .bus) k))
+          → ((k : Model) → notSpawned (place fuel spawn s k .answer) ≡ some r → (r ≡ NoPort) × (place fuel spawn s k .model ≡ reclaims fuel (spawn .bus) (spawn .rank) k))
+          → (r ≡ NoPort) × (instantiateOr o v spawn s m (λ k. place fuel spawn s k) .model ≡ reclaimsOr v m (λ k. reclaims fuel (spawn .bus) (spawn .rank) k))
       go none none e ih = (sym (some-inj e), refl)
       go none (some v) e ih = ih (cutOff v (v .state) m) e
       go (some p) v e ih = absurd (none-some e)
@@ -140,7 +140,7 @@ module _ (spawn : Spawn) (s : VoiceState) where
 -- a managed spawn past the table's refusals: 12; or 11, and nothing has changed
 module _ (spawn : Spawn) (m : Model) where
   pub admitted-left : (a : Admission) (r : Refusal) → notSpawned (admitted a spawn m .answer) ≡ some r
-      → ((r ≡ NoPort) × (admitted a spawn m .model ≡ allReclaims (spawn .bus) (admissionLeaves a m)))
+      → ((r ≡ NoPort) × (admitted a spawn m .model ≡ allReclaims (spawn .bus) (spawn .rank) (admissionLeaves a m)))
       ⊎ ((r ≡ Rejected) × (admitted a spawn m .model ≡ m))
   admitted-left admission.Admit r h =
       inl (place-left spawn (stateUnder (m .shared .config .budget)) (tries (m .shared .config .budget) (m .voices)) m r h)
@@ -148,7 +148,7 @@ module _ (spawn : Spawn) (m : Model) where
   admitted-left (admission.Steal place w) r h = inl (go (find (isVoice w) (m .voices)) h)
     where
       go : (o : Option Voice) → notSpawned (stealThen o spawn m .answer) ≡ some r
-          → (r ≡ NoPort) × (stealThen o spawn m .model ≡ allReclaims (spawn .bus) (stolenIf o m))
+          → (r ≡ NoPort) × (stealThen o spawn m .model ≡ allReclaims (spawn .bus) (spawn .rank) (stolenIf o m))
       go none e = place-left spawn (stateUnder (m .shared .config .budget)) (tries (m .shared .config .budget) (m .voices)) m r e
       go (some v) e =
           let k = stealVoice v m in
@@ -163,13 +163,14 @@ when-not : (b : Bool) (q : Refusal) (rest : Option Refusal) → is12 (some q) �
 when-not true q rest h k = h
 when-not false q rest h k = k
 
-pub spawn-not : (d : SharedState) (vs : List Voice) (def : SynthDef) (bus : NodeId) → is12 (spawnRefusal d vs def bus) ≡ false
-spawn-not d vs def bus =
-    when-not (not (allowed def)) DefinitionLimits _ refl
+pub spawn-not : (d : SharedState) (vs : List Voice) (def : SynthDef) (bus : NodeId) (rank : ℕ) → is12 (spawnRefusal d vs def bus rank) ≡ false
+spawn-not d vs def bus rank =
+    when-not (ltb rankLimit rank) RankTooHigh _ refl
+    (when-not (not (allowed def)) DefinitionLimits _ refl
     (or-not (hostRefusal (d .graph) bus) _
     (when-not (dead (nodeAt (d .graph .nodes) bus)) UnknownNode _ refl (when-not (ofVoice (nodeAt (d .graph .nodes) bus)) VoiceNode none refl refl))
     (when-not (eqb (portsOf (nodeAt (d .graph .nodes) bus)) 0) BusWithoutPorts _ refl
-    (when-not (noHeadroom d vs def) TableFull _ refl (when-not (noIds d def) IdsUsedUp none refl refl))))
+    (when-not (noHeadroom d vs def) TableFull _ refl (when-not (noIds d def) IdsUsedUp none refl refl)))))
   where
     or-not : (o rest : Option Refusal) → is12 o ≡ false → is12 rest ≡ false → is12 (orElse o rest) ≡ false
     or-not none rest h k = k
@@ -213,19 +214,19 @@ same-left r m k e = go (eqb (numberOf r) 12)
     go false = e
 
 managed-left : (x : Spawn) (m : Model) (r : Refusal) → notSpawned (store.spawnManaged x m .answer) ≡ some r
-    → store.spawnManaged x m .model ≡ cond (eqb (numberOf r) 12) (allReclaims (x .bus) (admissionLeaves (admissionOn (x .bus) m) m)) m
-managed-left x m r h = go (spawnRefusal (m .shared) (m .voices) (x .def) (x .bus)) (spawn-not (m .shared) (m .voices) (x .def) (x .bus)) h
+    → store.spawnManaged x m .model ≡ cond (eqb (numberOf r) 12) (allReclaims (x .bus) (x .rank) (admissionLeaves (admissionOn (x .bus) (x .rank) m) m)) m
+managed-left x m r h = go (spawnRefusal (m .shared) (m .voices) (x .def) (x .bus) (x .rank)) (spawn-not (m .shared) (m .voices) (x .def) (x .bus) (x .rank)) h
   where
     admits : SpawnResult
-    admits = admitted (admissionOn (x .bus) m) x m
+    admits = admitted (admissionOn (x .bus) (x .rank) m) x m
 
     go : (o : Option Refusal) → is12 o ≡ false → notSpawned (store.unless o m admits .answer) ≡ some r
-        → store.unless o m admits .model ≡ cond (eqb (numberOf r) 12) (allReclaims (x .bus) (admissionLeaves (admissionOn (x .bus) m) m)) m
+        → store.unless o m admits .model ≡ cond (eqb (numberOf r) 12) (allReclaims (x .bus) (x .rank) (admissionLeaves (admissionOn (x .bus) (x .rank) m) m)) m
     go (some q) n e = let s : q ≡ r = some-inj e in let t : eqb (numberOf r) 12 ≡ false = ap (λ x. eqb (numberOf x) 12) (sym s) ∙ n in rw t
-    go none n e = ⊎-elim (λ p. rw (p .0) (p .1)) (λ p. rw (p .0) (p .1)) (admitted-left x m (admissionOn (x .bus) m) r e)
+    go none n e = ⊎-elim (λ p. rw (p .0) (p .1)) (λ p. rw (p .0) (p .1)) (admitted-left x m (admissionOn (x .bus) (x .rank) m) r e)
 
 loose-left : (x : Spawn) (m : Model) (r : Refusal) → notSpawned (store.spawnLoose x m .answer) ≡ some r → store.spawnLoose x m .model ≡ m
-loose-left x m r h = go (spawnRefusal (m .shared) (m .voices) (x .def) (x .bus)) h
+loose-left x m r h = go (spawnRefusal (m .shared) (m .voices) (x .def) (x .bus) (x .rank)) h
   where
     go : (o : Option Refusal) → notSpawned (store.unless o m (place 0 x Loose m) .answer) ≡ some r
         → store.unless o m (place 0 x Loose m) .model ≡ m

@@ -63,7 +63,7 @@ faded = (refl, refl, refl, refl)
 -- ---- a panned voice feeds from its pan node, and its fade stands behind that. The first takes port 0, so that the panned one's port is no other's. Refuses: the
 -- output's port, which is the pan node's 0.
 abbrev panned : Call
-panned = call.spawnManaged (spawnOf toneDef (id 0) (float 1))
+panned = call.spawnManaged (spawnOf toneDef (id 0) (float 1) 0)
 
 pans :
     Prints (patched 2 (spawn 0 ∷ panned ∷ [])) "1 0 0 held\n2 0 1 held\n"
@@ -95,8 +95,8 @@ looped =
     }
 
 metered :
-    Prints (patched 2 (call.spawnManaged (spawnOf looped (id 0) (float 0)) ∷ [])) "1 0 0 held\n"
-    × Prints (patched 2 (call.spawnManaged (spawnOf looped (id 0) (float 0)) ∷ wire 1 0 0 ∷ [])) "1 0 - held\n"
+    Prints (patched 2 (call.spawnManaged (spawnOf looped (id 0) (float 0) 0) ∷ [])) "1 0 0 held\n"
+    × Prints (patched 2 (call.spawnManaged (spawnOf looped (id 0) (float 0) 0) ∷ wire 1 0 0 ∷ [])) "1 0 - held\n"
 unfolding eq whole order walk released rank.fed among count-up
 metered = (refl, refl)
 

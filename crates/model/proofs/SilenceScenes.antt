@@ -53,7 +53,7 @@ heard-again = refl
 
 -- ---- 24 nodes, the last of which is the output: its flag is read. Refuses: flags of 23 nodes; a report of the last node refused.
 abbrev large : Model
-large = after (small 9 Oldest) (host 1 ∷ call.spawnManaged (spawnOf (tones 24 23) (id 0) (float 0)) ∷ [])
+large = after (small 9 Oldest) (host 1 ∷ call.spawnManaged (spawnOf (tones 24 23) (id 0) (float 0) 0) ∷ [])
 
 last-flag :
     (asked (ends 23 ∷ call.clear ∷ []) large ≡ call.done ∷ removed 0 ∷ []) × (asked (ends 24 ∷ call.clear ∷ []) large ≡ call.done ∷ removed 1 ∷ [])

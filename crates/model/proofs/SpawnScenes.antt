@@ -76,7 +76,7 @@ nodes m = map (λ n. record { id = n .id .0; owner = n .owner .0; kind = n .kind
 -- Refuses: the fade after the new voice's nodes; the pan node before the constant; an edge of the definition that does not count;
 -- a fade that takes another port than the victim's.
 abbrev panned : Model
-panned = after (upTo 1 Oldest) (host 2 ∷ spawn 0 ∷ call.spawnManaged (spawnOf threeDef (id 0) nan) ∷ [])
+panned = after (upTo 1 Oldest) (host 2 ∷ spawn 0 ∷ call.spawnManaged (spawnOf threeDef (id 0) nan 0) ∷ [])
 
 created :
     (nodes panned ≡
@@ -96,14 +96,14 @@ read = refl
 
 -- The pan node feeds the bus, so the fade of a panned voice stands behind it. Refuses: a fade behind the output node.
 behind-pan :
-    further (spawn 0 ∷ []) (after (upTo 1 Oldest) (host 2 ∷ call.spawnManaged (spawnOf toneDef (id 0) nan) ∷ [])) .shared .graph .edges
+    further (spawn 0 ∷ []) (after (upTo 1 Oldest) (host 2 ∷ call.spawnManaged (spawnOf toneDef (id 0) nan 0) ∷ [])) .shared .graph .edges
     ≡ edge 1 3 0 ∷ edge 2 3 1 ∷ edge 3 4 0 ∷ edge 4 0 0 ∷ edge 5 0 1 ∷ []
 unfolding eq whole order walk released rank.fed among count-up
 behind-pan = refl
 
 -- ---- "Pan is left out for +0 and -0; NaN pans", and so does every other number
 abbrev nextAfter : Float → ℕ
-nextAfter pan = after (upTo 1 Oldest) (host 1 ∷ call.spawnManaged (spawnOf toneDef (id 0) pan) ∷ []) .shared .graph .next
+nextAfter pan = after (upTo 1 Oldest) (host 1 ∷ call.spawnManaged (spawnOf toneDef (id 0) pan 0) ∷ []) .shared .graph .next
 
 pans-when : (nextAfter (fin false 0 (pos 0)) ≡ 2) × (nextAfter (fin true 0 (pos 0)) ≡ 2) × (nextAfter nan ≡ 4) × (nextAfter (fin true 1 (pos 0)) ≡ 4)
 unfolding eq whole order walk released rank.fed among count-up

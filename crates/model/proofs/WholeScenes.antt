@@ -150,9 +150,9 @@ edges1 = edge 2 4 0 ∷ edge 3 4 1 ∷ edge 4 6 0 ∷ edge 5 6 1 ∷ []
 abbrev edges2 : List Edge
 edges2 = edge 7 9 0 ∷ edge 8 9 1 ∷ edge 9 1 1 ∷ []
 
--- a voice: definition, id, sequence, birth, port, nodes from .. so many, output, panned, state
-abbrev spawned : SynthDef → ℕ → ℕ → ℕ → ℕ → ℕ → ℕ → ℕ → Bool → VoiceState → Voice
-spawned def w sequence birth port first count output panned state =
+-- a voice: definition, id, sequence, rank, birth, port, nodes from .. so many, output, panned, state
+abbrev spawned : SynthDef → ℕ → ℕ → ℕ → ℕ → ℕ → ℕ → ℕ → ℕ → Bool → VoiceState → Voice
+spawned def w sequence rank birth port first count output panned state =
     record {
       id = voice w;
       birth = birth;
@@ -163,22 +163,23 @@ spawned def w sequence birth port first count output panned state =
       output = id output;
       panned = panned;
       sequence = sequence;
+      rank = rank;
       state = state;
       params = def .params;
       plan = planOf def;
     }
 
 abbrev pub v1 : VoiceState → Voice
-v1 state = spawned keyDef 1 0 1 0 2 3 4 true state
+v1 state = spawned keyDef 1 0 0 1 0 2 3 4 true state
 
 abbrev pub v2 : Voice
-v2 = spawned keyDef 2 1 1 1 7 3 9 false Loose
+v2 = spawned keyDef 2 1 5 1 1 7 3 9 false Loose
 
 abbrev pub v3 : Voice
-v3 = spawned toneDef 3 2 1 2 10 1 10 false Tracked
+v3 = spawned toneDef 3 2 0 1 2 10 1 10 false Tracked
 
 abbrev pub v4 : Voice
-v4 = spawned toneDef 4 3 2 3 12 1 12 false Tracked
+v4 = spawned toneDef 4 3 0 2 3 12 1 12 false Tracked
 
 abbrev valueAt : Event
 valueAt = record { time = 3; voice = voice 2; name = name "cut"; action = Action.Value (float 9) }
@@ -188,10 +189,10 @@ freeAt = record { time = 9; voice = voice 3; name = nameOf []; action = Action.F
 
 -- ---- the calls: host nodes and wiring, a silent render, three spawns, orders, events; prepare, a sounding render, a report
 abbrev spawnKey : Call
-spawnKey = call.spawnManaged (spawnOf keyDef (id 1) nan)
+spawnKey = call.spawnManaged (spawnOf keyDef (id 1) nan 0)
 
 abbrev spawnKeyLoose : Call
-spawnKeyLoose = call.spawnLoose (spawnOf keyDef (id 1) (float 0))
+spawnKeyLoose = call.spawnLoose (spawnOf keyDef (id 1) (float 0) 5)
 
 abbrev set : ℕ → String → LastOrder → Call
 set w s o = call.order (voice w) (bytes s) o
@@ -209,7 +210,7 @@ opened =
     (some (id 0)) true (2 ∷ 3 ∷ 5 ∷ 7 ∷ 8 ∷ 10 ∷ 4 ∷ 9 ∷ 6 ∷ 1 ∷ 0 ∷ []) 11)
     (valueAt ∷ freeAt ∷ []) (record { count = 0; newest = [] }) 2 3 (v1 Tracked ∷ v2 ∷ v3 ∷ [])
 
--- Refuses: a new voice's birth, bus, port, nodes, output, pan, noise sequence, parameters or plan that are another's; a noise sequence that stands still for an
+-- Refuses: a new voice's birth, bus, port, nodes, output, pan, noise sequence, rank, parameters or plan that are another's; a noise sequence that stands still for an
 -- unmanaged spawn; a definition's ports, required ports or sorts of orders lost or exchanged; the same of host nodes; a new node that is done or has an order;
 -- a constant or a pan node that takes orders; a call that resets another's part of the store.
 opens : Same (after made calls) opened

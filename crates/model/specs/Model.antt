@@ -83,7 +83,7 @@ instantiateOr none (some v) x s m again = again (cutOff v (v .state) m)
 -- at most `fuel` reclaims
 abbrev pub place : ℕ → Spawn → VoiceState → Model → SpawnResult
 place zero x s m = instantiateOr (portFree (x .bus) m) none x s m (refused NoPort)
-place (suc fuel) x s m = instantiateOr (portFree (x .bus) m) (nextOut (m .shared) (x .bus) (m .voices)) x s m (λ k. place fuel x s k)
+place (suc fuel) x s m = instantiateOr (portFree (x .bus) m) (nextOut (m .shared) (x .bus) (x .rank) (m .voices)) x s m (λ k. place fuel x s k)
 
 abbrev pub placeWithinBudget : Spawn → Model → SpawnResult
 placeWithinBudget x m = place (tries (m .shared .config .budget) (m .voices)) x (stateUnder (m .shared .config .budget)) m
@@ -98,9 +98,9 @@ admitted admission.Admit x m = placeWithinBudget x m
 admitted admission.Reject x m = refused Rejected m
 admitted (admission.Steal place w) x m = stealThen (find (isVoice w) (m .voices)) x m
 
-abbrev pub admissionOn : NodeId → Model → Admission
-admissionOn bus m =
-    admits (m .shared .config .budget) (m .shared .config .policy) (candidates (m .shared) (counted (m .shared .config .scope) bus) (m .voices))
+abbrev pub admissionOn : NodeId → ℕ → Model → Admission
+admissionOn bus r m =
+    admits (m .shared .config .budget) (m .shared .config .policy) r (candidates (m .shared) (counted (m .shared .config .scope) bus) (m .voices))
 
 abbrev pub unless : Option Refusal → Model → SpawnResult → SpawnResult
 unless none m r = r
@@ -109,11 +109,11 @@ unless (some n) m r = refused n m
 -- `spawn_voice_on_bus_panned_managed`: the refusals of the table, then "admission; a victim ...; then the lowest port ..."
 abbrev pub spawnManaged : Spawn → Model → SpawnResult
 spawnManaged x m =
-    unless (spawnRefusal (m .shared) (m .voices) (x .def) (x .bus)) m (admitted (admissionOn (x .bus) m) x m)
+    unless (spawnRefusal (m .shared) (m .voices) (x .def) (x .bus) (x .rank)) m (admitted (admissionOn (x .bus) (x .rank) m) x m)
 
 -- `spawn_voice_on_bus_panned`: "the port search alone; the newVoice ... is loose. No port: 12."
 abbrev pub spawnLoose : Spawn → Model → SpawnResult
-spawnLoose x m = unless (spawnRefusal (m .shared) (m .voices) (x .def) (x .bus)) m (place 0 x Loose m)
+spawnLoose x m = unless (spawnRefusal (m .shared) (m .voices) (x .def) (x .bus) (x .rank)) m (place 0 x Loose m)
 
 -- ---- "A free of an unknown voice does nothing."
 abbrev pub freed : Option Voice → Model → Model

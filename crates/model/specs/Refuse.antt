@@ -10,7 +10,7 @@ use Rattle.lists.specs.Find.{find}
 use Rattle.node.specs.declared.record.NodeId.{NodeId}
 use Rattle.node.specs.declared.record.Node.{Node}
 use Rattle.node.specs.declared.refusal.Refusal.{Refusal}
-use Rattle.node.specs.declared.refusal.Refusal.the-variants.{SampleRate, BlockSize, BudgetTooLarge, UnknownNode, TableFull, IdsUsedUp, DefinitionLimits, BusWithoutPorts, LentBlock, TableRate}
+use Rattle.node.specs.declared.refusal.Refusal.the-variants.{SampleRate, BlockSize, BudgetTooLarge, UnknownNode, TableFull, IdsUsedUp, DefinitionLimits, BusWithoutPorts, LentBlock, TableRate, RankTooHigh}
 use Rattle.node.specs.Refusal.{Said, refused, gives}
 use Rattle.edges.specs.Wiring.{edgeLimit}
 use Rattle.graph.specs.Node.{nodeLimit, idLimit, nodeAt, portsOf}
@@ -55,7 +55,11 @@ makeRefusal rate block budget table =
     (when (overBudget budget) BudgetTooLarge
     (when (table && otherRate rate) TableRate none)))
 
--- ---- a spawn, managed or not: 9; 4 and 5 of the bus; 10; 7, headroom; 8
+-- ---- a spawn, managed or not: 26; 9; 4 and 5 of the bus; 10; 7, headroom; 8
+-- 02, Paper 13: "a rank 0 to 7"
+abbrev pub rankLimit : ℕ
+rankLimit = 7
+
 abbrev pub orElse : Option Refusal → Option Refusal → Option Refusal
 orElse none rest = rest
 orElse (some r) rest = some r
@@ -68,13 +72,15 @@ noHeadroom d vs def =
 abbrev pub noIds : SharedState → SynthDef → Bool
 noIds d def = ltb idLimit (d .graph .next + def .nodes .count + 3) || leb voiceIdLimit (d .spawned)
 
-abbrev pub spawnRefusal : SharedState → List Voice → SynthDef → NodeId → Option Refusal
-spawnRefusal d vs def bus =
-    when (not (allowed def)) DefinitionLimits
+-- 02, Paper 13: "26 rank above 7, before 9"
+abbrev pub spawnRefusal : SharedState → List Voice → SynthDef → NodeId → ℕ → Option Refusal
+spawnRefusal d vs def bus rank =
+    when (ltb rankLimit rank) RankTooHigh
+    (when (not (allowed def)) DefinitionLimits
     (orElse (hostRefusal (d .graph) bus)
     (when (eqb (portsOf (nodeAt (d .graph .nodes) bus)) 0) BusWithoutPorts
     (when (noHeadroom d vs def) TableFull
-    (when (noIds d def) IdsUsedUp none))))
+    (when (noIds d def) IdsUsedUp none)))))
 
 -- ---- report: 4 "unknown or dead, or a voice's fade, pan or constant node"; 16 "channels not 1 or 2, or samples not
 -- channels × block"

@@ -121,12 +121,15 @@ wire a b p = call.connect (id a) (id b) p
 abbrev pub unwire : ℕ → ℕ → Call
 unwire b p = call.disconnect (id b) p
 
--- a managed and an unmanaged spawn of a `Tone`, not panned
+-- managed spawns of a `Tone`, not panned: of rank r, and of rank 0 as in the runs against the Rust; and an unmanaged one
+abbrev pub ranked : ℕ → ℕ → Call
+ranked r b = call.spawnManaged (spawnOf toneDef (id b) (float 0) r)
+
 abbrev pub spawn : ℕ → Call
-spawn b = call.spawnManaged (spawnOf toneDef (id b) (float 0))
+spawn b = call.spawnManaged (spawnOf toneDef (id b) (float 0) 0)
 
 abbrev pub spawnLoose : ℕ → Call
-spawnLoose b = call.spawnLoose (spawnOf toneDef (id b) (float 0))
+spawnLoose b = call.spawnLoose (spawnOf toneDef (id b) (float 0) 0)
 
 abbrev pub free : ℕ → Call
 free w = call.free (voice w)

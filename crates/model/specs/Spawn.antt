@@ -35,14 +35,15 @@ use Rattle.store.specs.declared.voices.Fade.{Fade}
 use Rattle.model.specs.SharedState.{SharedState, withGraph, withSteals, oneMoreVoice}
 use Rattle.model.specs.Voice.{isVoice, startOf, id, feeder, voiceLevel, candidates, trackedOn, fadesOn, newFade}
 
--- ---- the arguments of a spawn
+-- ---- the arguments of a spawn. 02, Paper 13: "a rank 0 to 7, given at spawn": it comes as a number of any size, and 26 refuses those above 7
 pub record Spawn : Type 0 where
   pub def : SynthDef
   pub bus : NodeId
   pub pan : Float
+  pub rank : ℕ
 
-abbrev pub spawnOf : SynthDef → NodeId → Float → Spawn
-spawnOf def bus pan = record { def = def; bus = bus; pan = pan }
+abbrev pub spawnOf : SynthDef → NodeId → Float → ℕ → Spawn
+spawnOf def bus pan rank = record { def = def; bus = bus; pan = pan; rank = rank }
 
 -- ---- the nodes of a voice. An id is given when it is appended
 abbrev pub voiceNode : VoiceId → Name → ℕ → ℕ → Bool → Bool → Node
@@ -125,6 +126,7 @@ newVoice x s p d =
       output = id (d .graph .next + x .def .output);
       panned = pans (x .pan);
       sequence = d .sequence;
+      rank = x .rank;
       state = s;
       params = x .def .params;
       plan = planOf (x .def);
@@ -184,5 +186,6 @@ abbrev pub elseVictim : Option Voice → Option Voice → Option Voice
 elseVictim none o = o
 elseVictim (some v) o = some v
 
-abbrev pub nextOut : SharedState → NodeId → List Voice → Option Voice
-nextOut d bus vs = elseVictim (earliest (fadesOn bus) vs) (voiceOf (victim (d .config .policy) (candidates d (trackedOn bus) vs)) vs)
+-- who goes for a port of the bus, for a newcomer of rank r. 02, Paper 13: "Fades are reclaimed regardless of rank."
+abbrev pub nextOut : SharedState → NodeId → ℕ → List Voice → Option Voice
+nextOut d bus r vs = elseVictim (earliest (fadesOn bus) vs) (voiceOf (victim (d .config .policy) r (candidates d (trackedOn bus) vs)) vs)

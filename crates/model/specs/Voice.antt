@@ -53,6 +53,7 @@ withState s v =
       output = v .output;
       panned = v .panned;
       sequence = v .sequence;
+      rank = v .rank;
       state = s;
       params = v .params;
       plan = v .plan;
@@ -91,9 +92,9 @@ abbrev pub levelOr : SharedState → Option Voice → Level
 levelOr d none = Unknown
 levelOr d (some v) = voiceLevel d v
 
--- ---- candidates: voices in order of admission, each with its level
+-- ---- candidates: voices in order of admission, each with its level and its rank
 abbrev pub candidate : SharedState → Voice → Candidate
-candidate d v = record { voice = v .id; level = voiceLevel d v }
+candidate d v = record { voice = v .id; level = voiceLevel d v; rank = v .rank }
 
 abbrev pub candidates : SharedState → (Voice → Bool) → List Voice → List Candidate
 candidates d q vs = map (candidate d) (filter q vs)

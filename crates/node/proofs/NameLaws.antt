@@ -8,7 +8,7 @@ use mathlib.Core.Bool.{Bool, true, false, _&&_, cond, false≢true}
 use lib.Dec.{leb, eqb}
 use borrow.Author.Tests.{leb-true, eqb-true, eq-eqb}
 use Rattle.lists.specs.Member.{In}
-use Rattle.lists.proofs.Member.{and-left, and-right, both}
+use Rattle.lists.proofs.Member.{and-left, and-right}
 use Rattle.node.specs.Name.{nameLength, named, text, sameBytes, sameName}
 use Rattle.node.specs.Silence.{isAmong}
 use Rattle.node.specs.declared.name.Name.{Name}

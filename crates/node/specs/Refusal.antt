@@ -1,7 +1,7 @@
 -- The refusals and their numbers: the table "Where each refusal is checked, top first".
 use Prim.Native.Nat.{ℕ}
 use Rattle.node.specs.declared.refusal.Refusal.{Refusal}
-use Rattle.node.specs.declared.refusal.Refusal.the-variants.{SampleRate, BlockSize, BudgetTooLarge, UnknownNode, VoiceNode, PortOrKind, TableFull, IdsUsedUp, DefinitionLimits, BusWithoutPorts, Rejected, NoPort, RequiredPort, Cycle, ClockEnd, LentBlock, ShortBuffer, TableRate, OutOfRange}
+use Rattle.node.specs.declared.refusal.Refusal.the-variants.{SampleRate, BlockSize, BudgetTooLarge, UnknownNode, VoiceNode, PortOrKind, TableFull, IdsUsedUp, DefinitionLimits, BusWithoutPorts, Rejected, NoPort, RequiredPort, Cycle, ClockEnd, LentBlock, ShortBuffer, TableRate, OutOfRange, RankTooHigh}
 
 -- What an answer says in 01's terms: the number of a refusal, or what the call gives. Each enum that a call answers by has one definition
 -- that gives this for each of its cases.
@@ -31,3 +31,5 @@ numberOf ShortBuffer = 17
 numberOf TableRate = 20
 -- 02, Paper 8
 numberOf OutOfRange = 21
+-- 02, Paper 13
+numberOf RankTooHigh = 26

@@ -22,6 +22,7 @@ pub enum Refusal {
     ShortBuffer,
     TableRate,
     OutOfRange,
+    RankTooHigh,
 }
 
 // The number of a refusal, as the table gives it.
@@ -48,5 +49,6 @@ pub fn refusal_number(r: Refusal) -> u8
         Refusal::ShortBuffer => 17,
         Refusal::TableRate => 20,
         Refusal::OutOfRange => 21,
+        Refusal::RankTooHigh => 26,
     }
 }

@@ -119,7 +119,16 @@ pub fn turn(
 ) -> State
     ensures { λ r. ⌜ modelOf (lentAll r (now (nodes .exit)) (now (edges .exit)) (now (order .exit)) (now (voices .exit)) (now (events .exit)) (now (steals .exit))) ≡ further played.turn (modelOf (lentAll s (now (nodes .entry)) (now (edges .entry)) (now (order .entry)) (now (voices .entry)) (now (events .entry)) (now (steals .entry)))) ⌝ }
 {
-    let spawning = spawn_voice_on_bus_managed(s, nodes, edges, voices, steals, tone(), NodeId(0));
+    let spawning = spawn_voice_on_bus_managed(
+        s,
+        nodes,
+        edges,
+        voices,
+        steals,
+        tone(),
+        NodeId(0),
+        0,
+    );
     let more = spawning.state;
     let served = prepare(more, nodes, edges, order);
     let ready = served.state;

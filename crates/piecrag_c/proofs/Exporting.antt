@@ -53,6 +53,7 @@ number-keeps Refusal.LentBlock h = h
 number-keeps Refusal.ShortBuffer h = h
 number-keeps Refusal.TableRate h = h
 number-keeps Refusal.OutOfRange h = h
+number-keeps Refusal.RankTooHigh h = h
 
 -- above 100 nothing is kept
 above-moves : (r : refusal.Refusal) → keptCode (100 + numberOf r) ≡ false
@@ -75,6 +76,7 @@ above-moves Refusal.LentBlock = refl
 above-moves Refusal.ShortBuffer = refl
 above-moves Refusal.TableRate = refl
 above-moves Refusal.OutOfRange = refl
+above-moves Refusal.RankTooHigh = refl
 
 code-keeps : (a : Answer) → keptCode (code a) ≡ true → keeps (numberIn a) ≡ true
 code-keeps call.done h = h

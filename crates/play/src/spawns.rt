@@ -22,7 +22,15 @@ fn spawned(r: Spawning) -> State {
     r.state
 }
 
-// A slot, whose definition is `def`, a bus and, but for the calls with pan 0, a pan.
+// The rank stands last.
+fn rank_at(s: &[u8], from: usize, sort: u8) -> u32 {
+    if sort < 11 {
+        return word_at(s, after(from, 9));
+    }
+    word_at(s, after(from, 5))
+}
+
+// A slot, whose definition is `def`, a bus and, but for the calls with pan 0, a pan; then a rank.
 pub(crate) fn play_spawn(
     s: &[u8],
     from: usize,
@@ -36,6 +44,7 @@ pub(crate) fn play_spawn(
 ) -> State {
     let bus = id_at(s, after(from, 1));
     let pan = float(word_at(s, after(from, 5)));
+    let rank = rank_at(s, from, sort);
     match sort {
         9 => spawned(spawn_voice_on_bus_panned_managed(
             state,
@@ -46,6 +55,7 @@ pub(crate) fn play_spawn(
             def,
             bus,
             pan,
+            rank,
         )),
         10 => spawned(spawn_voice_on_bus_panned(
             state,
@@ -56,8 +66,18 @@ pub(crate) fn play_spawn(
             def,
             bus,
             pan,
+            rank,
         )),
-        11 => spawned(spawn_voice_on_bus_managed(state, nodes, edges, voices, steals, def, bus)),
-        _ => spawned(spawn_voice_on_bus(state, nodes, edges, voices, steals, def, bus)),
+        11 => spawned(spawn_voice_on_bus_managed(
+            state,
+            nodes,
+            edges,
+            voices,
+            steals,
+            def,
+            bus,
+            rank,
+        )),
+        _ => spawned(spawn_voice_on_bus(state, nodes, edges, voices, steals, def, bus, rank)),
     }
 }

@@ -72,13 +72,13 @@ pub data Contract : Call → Memory → Answer → Memory → Type 1 where
       → Contract (call.setSink (a .1 .1 .0)) (lentNodes (a .0) (a .1 .0 .now) m) (answered (r .answer)) (lentNodes (r .state) (a .1 .0 .now) m)
   -- the spawns; those in the middle have pan 0
   spawn-panned-managed : (κs : _) (a : _) (r : _) (s : _) → fn-spawn-panned-managed.Post κs a r s → (m : Memory)
-      → Contract (call.spawnManaged (spawnOf (a .1 .1 .1 .1 .1 .0) (a .1 .1 .1 .1 .1 .1 .0) (a .1 .1 .1 .1 .1 .1 .1 .0))) (lentSpawn (a .0) (a .1 .0 .now) (a .1 .1 .0 .now) (a .1 .1 .1 .0 .now) (a .1 .1 .1 .1 .0 .now) m) (call.spawned (r .answer)) (lentSpawn (r .state) (s .1 .0 .now) (s .1 .1 .0 .now) (s .1 .1 .1 .0 .now) (s .1 .1 .1 .1 .0 .now) m)
+      → Contract (call.spawnManaged (spawnOf (a .1 .1 .1 .1 .1 .0) (a .1 .1 .1 .1 .1 .1 .0) (a .1 .1 .1 .1 .1 .1 .1 .0) (a .1 .1 .1 .1 .1 .1 .1 .1 .0))) (lentSpawn (a .0) (a .1 .0 .now) (a .1 .1 .0 .now) (a .1 .1 .1 .0 .now) (a .1 .1 .1 .1 .0 .now) m) (call.spawned (r .answer)) (lentSpawn (r .state) (s .1 .0 .now) (s .1 .1 .0 .now) (s .1 .1 .1 .0 .now) (s .1 .1 .1 .1 .0 .now) m)
   spawn-panned : (κs : _) (a : _) (r : _) (s : _) → fn-spawn-panned.Post κs a r s → (m : Memory)
-      → Contract (call.spawnLoose (spawnOf (a .1 .1 .1 .1 .1 .0) (a .1 .1 .1 .1 .1 .1 .0) (a .1 .1 .1 .1 .1 .1 .1 .0))) (lentSpawn (a .0) (a .1 .0 .now) (a .1 .1 .0 .now) (a .1 .1 .1 .0 .now) (a .1 .1 .1 .1 .0 .now) m) (call.spawned (r .answer)) (lentSpawn (r .state) (s .1 .0 .now) (s .1 .1 .0 .now) (s .1 .1 .1 .0 .now) (s .1 .1 .1 .1 .0 .now) m)
+      → Contract (call.spawnLoose (spawnOf (a .1 .1 .1 .1 .1 .0) (a .1 .1 .1 .1 .1 .1 .0) (a .1 .1 .1 .1 .1 .1 .1 .0) (a .1 .1 .1 .1 .1 .1 .1 .1 .0))) (lentSpawn (a .0) (a .1 .0 .now) (a .1 .1 .0 .now) (a .1 .1 .1 .0 .now) (a .1 .1 .1 .1 .0 .now) m) (call.spawned (r .answer)) (lentSpawn (r .state) (s .1 .0 .now) (s .1 .1 .0 .now) (s .1 .1 .1 .0 .now) (s .1 .1 .1 .1 .0 .now) m)
   spawn-managed : (κs : _) (a : _) (r : _) (s : _) → fn-spawn-managed.Post κs a r s → (m : Memory)
-      → Contract (call.spawnManaged (spawnOf (a .1 .1 .1 .1 .1 .0) (a .1 .1 .1 .1 .1 .1 .0) middle)) (lentSpawn (a .0) (a .1 .0 .now) (a .1 .1 .0 .now) (a .1 .1 .1 .0 .now) (a .1 .1 .1 .1 .0 .now) m) (call.spawned (r .answer)) (lentSpawn (r .state) (s .1 .0 .now) (s .1 .1 .0 .now) (s .1 .1 .1 .0 .now) (s .1 .1 .1 .1 .0 .now) m)
+      → Contract (call.spawnManaged (spawnOf (a .1 .1 .1 .1 .1 .0) (a .1 .1 .1 .1 .1 .1 .0) middle (a .1 .1 .1 .1 .1 .1 .1 .0))) (lentSpawn (a .0) (a .1 .0 .now) (a .1 .1 .0 .now) (a .1 .1 .1 .0 .now) (a .1 .1 .1 .1 .0 .now) m) (call.spawned (r .answer)) (lentSpawn (r .state) (s .1 .0 .now) (s .1 .1 .0 .now) (s .1 .1 .1 .0 .now) (s .1 .1 .1 .1 .0 .now) m)
   spawn : (κs : _) (a : _) (r : _) (s : _) → fn-spawn.Post κs a r s → (m : Memory)
-      → Contract (call.spawnLoose (spawnOf (a .1 .1 .1 .1 .1 .0) (a .1 .1 .1 .1 .1 .1 .0) middle)) (lentSpawn (a .0) (a .1 .0 .now) (a .1 .1 .0 .now) (a .1 .1 .1 .0 .now) (a .1 .1 .1 .1 .0 .now) m) (call.spawned (r .answer)) (lentSpawn (r .state) (s .1 .0 .now) (s .1 .1 .0 .now) (s .1 .1 .1 .0 .now) (s .1 .1 .1 .1 .0 .now) m)
+      → Contract (call.spawnLoose (spawnOf (a .1 .1 .1 .1 .1 .0) (a .1 .1 .1 .1 .1 .1 .0) middle (a .1 .1 .1 .1 .1 .1 .1 .0))) (lentSpawn (a .0) (a .1 .0 .now) (a .1 .1 .0 .now) (a .1 .1 .1 .0 .now) (a .1 .1 .1 .1 .0 .now) m) (call.spawned (r .answer)) (lentSpawn (r .state) (s .1 .0 .now) (s .1 .1 .0 .now) (s .1 .1 .1 .0 .now) (s .1 .1 .1 .1 .0 .now) m)
   -- free and clearing
   free-voice : (κs : _) (a : _) (r : _) (s : _) → fn-free-voice.Post κs a r s → (m : Memory)
       → Contract (call.free (a .1 .1 .1 .1 .0)) (lentVoices (a .0) (a .1 .0 .now) (a .1 .1 .0 .now) (a .1 .1 .1 .0 .now) m) call.done (lentVoices r (s .1 .0 .now) (s .1 .1 .0 .now) (s .1 .1 .1 .0 .now) m)

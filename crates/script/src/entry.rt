@@ -40,10 +40,10 @@ const FORMS: [Form; 35] = [
     Form::Fixed(8),
     Form::Fixed(4),
     Form::Definition,
+    Form::Fixed(13),
+    Form::Fixed(13),
     Form::Fixed(9),
     Form::Fixed(9),
-    Form::Fixed(5),
-    Form::Fixed(5),
     Form::Fixed(8),
     Form::Fixed(0),
     Form::Named {

@@ -20,7 +20,7 @@ pub enum VoiceState {
 
 // A live voice. Its definition's nodes have the ids from `first` on; the pan's constant and the pan node follow them where
 // it is panned; a fade has an id of its own. `port` is the port given at its spawn, `sequence` the noise sequence from
-// which the seeds of its nodes follow.
+// which the seeds of its nodes follow, `rank` 0 to 7: a voice of a higher rank than the new voice's does not give way to it.
 pub struct Voice {
     pub id: VoiceId,
     pub birth: u64,
@@ -31,6 +31,7 @@ pub struct Voice {
     pub output: NodeId,
     pub panned: bool,
     pub sequence: u32,
+    pub rank: u32,
     pub state: VoiceState,
     pub params: Params,
     pub plan: DonePlan,

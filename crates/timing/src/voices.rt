@@ -52,6 +52,7 @@ pub extern "C" fn piecrag_spawn_managed(
         steals,
         chain(size),
         NodeId(0),
+        0,
     );
     spawned(state, r)
 }
@@ -75,6 +76,7 @@ pub extern "C" fn piecrag_spawn_panned(
         chain(size),
         NodeId(0),
         0.5,
+        0,
     );
     spawned(state, r)
 }

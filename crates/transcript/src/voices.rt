@@ -46,6 +46,7 @@ fn record_words(v: Voice) {
     flag_word(v.panned);
     and_number(v.port as u64);
     and_number(v.sequence as u64);
+    and_number(v.rank as u64);
     let state = v.state;
     state_words(state);
 }

@@ -42,13 +42,15 @@ fn level_at(s: &[u8], at: usize) -> Level {
     }
 }
 
-// The tracked voices that count for a new voice on `bus`: of n rows, each a voice id, its bus and its level.
+// The tracked voices that count for a new voice on `bus`: of n rows, each a voice id, its bus and its level. All ranks are 0, as in
+// all runs against the Rust.
 fn candidates_at(s: &[u8], at: usize, n: usize, scope: BudgetScope, bus: NodeId) -> Candidates
     requires { ⌜ n ≤ 64 ⌝ }
 {
     let nobody = Candidate {
         voice: VoiceId(0),
         level: Level::Unknown,
+        rank: 0,
     };
     let mut rows = [nobody; 64];
     let mut count: usize = 0;
@@ -61,7 +63,11 @@ fn candidates_at(s: &[u8], at: usize, n: usize, scope: BudgetScope, bus: NodeId)
         from = after(from, 17);
         i += 1;
         if counts_for(scope, theirs, bus) {
-            rows[count] = Candidate { voice, level };
+            rows[count] = Candidate {
+                voice,
+                level,
+                rank: 0,
+            };
             count += 1;
         }
     }
@@ -75,7 +81,7 @@ pub fn victim(s: &[u8], at: usize) -> usize {
         return usize::MAX;
     }
     let t = candidates_at(s, after(at, 5), n, BudgetScope::Global, NodeId(0));
-    match pick_victim(t, policy_of(byte_at(s, at))) {
+    match pick_victim(t, policy_of(byte_at(s, at)), 0) {
         Victim::Nobody => text(b"-"),
         Victim::Goes { place, voice } => {
             number(place as u64);
@@ -96,7 +102,7 @@ pub fn admission(s: &[u8], at: usize) -> usize {
     let bus = NodeId(word_at(s, after(at, 7)));
     let t = candidates_at(s, after(at, 15), n, scope, bus);
     let budget = budget_of(byte_at(s, at), word_at(s, after(at, 1)) as usize);
-    match request_in(budget, policy_of(byte_at(s, after(at, 5))), t) {
+    match request_in(budget, policy_of(byte_at(s, after(at, 5))), 0, t) {
         Admission::Admit => text(b"admit"),
         Admission::Reject => text(b"reject"),
         Admission::Steal { place: _, voice } => {

@@ -17,23 +17,23 @@ use Rattle.voice.specs.declared.policy.Admission.the-variants as admissi
 use Rattle.voice.specs.Policy.{victim, atBudget, decides, admits, nobody, admissionNumber, rejectNumber}
 
 -- the answer, and its number
-abbrev pub Admitted : Budget → StealPolicy → List Candidate → Admission → Type 0
-Admitted b p l r = (r ≡ admits b p l) × (admissionNumber r ≡ rejectNumber b p l)
+abbrev pub Admitted : Budget → StealPolicy → ℕ → List Candidate → Admission → Type 0
+Admitted b p r l a = (a ≡ admits b p r l) × (admissionNumber a ≡ rejectNumber b p r l)
 
-admitted : (b : Budget) (p : StealPolicy) (l : List Candidate) (r : Admission) → r ≡ admits b p l → Admitted b p l r
-admitted b p l r e = (e, ap admissionNumber e ∙ go (atBudget b (length l)) (victim p l))
+admitted : (b : Budget) (p : StealPolicy) (r : ℕ) (l : List Candidate) (a : Admission) → a ≡ admits b p r l → Admitted b p r l a
+admitted b p r l a e = (e, ap admissionNumber e ∙ go (atBudget b (length l)) (victim p r l))
   where
     go : (at : Bool) (v : Victim) → admissionNumber (decides at v) ≡ cond (at && nobody v) (some 11) none
     go false v = refl
     go true Nobody = refl
     go true (Goes place voice) = refl
 
-module _ (b : Budget) (p : StealPolicy) (l : List Candidate) (most : ℕ) (is : b ≡ AtMost most) where
-  pub below-budget : length l < most → Admitted b p l admission.Admit
+module _ (b : Budget) (p : StealPolicy) (r : ℕ) (l : List Candidate) (most : ℕ) (is : b ≡ AtMost most) where
+  pub below-budget : length l < most → Admitted b p r l admission.Admit
   below-budget h =
-      admitted b p l admission.Admit (sym (ap (λ z. admits z p l) is ∙ ap (λ t. decides t (victim p l)) (lt-leb most (length l) h)))
+      admitted b p r l admission.Admit (sym (ap (λ z. admits z p r l) is ∙ ap (λ t. decides t (victim p r l)) (lt-leb most (length l) h)))
 
-  pub at-budget : (v : Victim) → most ≤ length l → victim p l ≡ v → Admitted b p l (decides true v)
+  pub at-budget : (v : Victim) → most ≤ length l → victim p r l ≡ v → Admitted b p r l (decides true v)
   at-budget v h e =
-      admitted b p l (decides true v)
-      (sym (ap (λ z. admits z p l) is ∙ ap (λ t. decides t (victim p l)) (le-leb most (length l) h) ∙ ap (decides true) e))
+      admitted b p r l (decides true v)
+      (sym (ap (λ z. admits z p r l) is ∙ ap (λ t. decides t (victim p r l)) (le-leb most (length l) h) ∙ ap (decides true) e))

@@ -56,7 +56,7 @@ table =
 -- the candidates with these levels; their voices are counted from 1
 abbrev pub numbered : ℕ → List Level → List Candidate
 numbered v [] = []
-numbered v (x ∷ l) = record { voice = record { 0 = v }; level = x } ∷ numbered (suc v) l
+numbered v (x ∷ l) = record { voice = record { 0 = v }; level = x; rank = 0 } ∷ numbered (suc v) l
 
 -- the voice that goes stands at its place
 abbrev pub goes : Victim → ℕ → Bool
@@ -65,7 +65,7 @@ goes (Goes place voice) n = eqb (voice .0) n && eqb (suc place) n
 
 abbrev pub right : List Row → Bool
 right [] = true
-right (x ∷ l) = goes (victim (x .rule) (numbered 1 (x .levels))) (x .voice) && right l
+right (x ∷ l) = goes (victim (x .rule) 0 (numbered 1 (x .levels))) (x .voice) && right l
 
 pub examples : right table ≡ true
 unfolding lt eq le

@@ -7,3 +7,4 @@ pub mod Ring
 pub mod Records
 pub mod FloatOrder
 pub mod Quietest
+pub mod Ranks

@@ -19,7 +19,7 @@ use Rattle.voice.specs.declared.policy.Held.{Held}
 use Rattle.voice.specs.declared.policy.Held.the-variants as held
 use Rattle.voice.specs.declared.policy.Victim.{Victim}
 use Rattle.voice.specs.declared.policy.Victim.the-variants.{Goes}
-use Rattle.voice.specs.Policy.{oldest, takes, take?, passed, walk, tookOr, victim}
+use Rattle.voice.specs.Policy.{oldest, takes, take?, passed, walk, tookOr, policyVictim}
 use Rattle.voice.specs.Quietest.{Unheard, nanOr, nanFirst, LastLowest, QuietestGoes, none-known, nan-stays, last-lowest}
 use Rattle.voice.proofs.FloatOrder.{lt-le, le-refl, le-left, le-right, not-le, lt-not-le, lt-le-trans}
 use Rattle.voice.proofs.Walk.{pass-known}
@@ -119,7 +119,7 @@ module _ (before : List Candidate) (c : Candidate) (after : List Candidate) wher
       walk-takes (l .least) (l .known) (above-takes (l .least) (walk held.Nothing 0 before) above) (λ e y i k. not-taken (l .least) y (l .later e y i k))
 
 -- Nobody but the victim is whom the words name.
-pub only-quietest : {l : List Candidate} {v : Victim} → QuietestGoes l v → victim policy.Quietest l ≡ v
+pub only-quietest : {l : List Candidate} {v : Victim} → QuietestGoes l v → policyVictim policy.Quietest l ≡ v
 only-quietest (none-known {l} u) = ap (λ h. tookOr h (oldest l)) (walk-unheard held.Nothing 0 l u)
 only-quietest (nan-stays before c after u known) = ap (λ h. tookOr h (oldest (before ++ (c ∷ after)))) (walk-nan before c after u known)
 only-quietest (last-lowest before c after n l) = ap (λ h. tookOr h (oldest (before ++ (c ∷ after)))) (walk-lowest before c after n l)
@@ -249,7 +249,7 @@ named l (a-number n e x i k m) = go (lowest l)
         (v, subst (λ a. QuietestGoes a v) (sym (w .split)) (last-lowest (w .before) (w .c) (w .after) (subst (λ a. nanFirst a ≡ false) (w .split) n) (w .is)))
 
 -- The victim is whom the words name.
-pub quietest-goes : (l : List Candidate) → QuietestGoes l (victim policy.Quietest l)
+pub quietest-goes : (l : List Candidate) → QuietestGoes l (policyVictim policy.Quietest l)
 quietest-goes l =
     let one = named l (first l) in
     subst (λ v. QuietestGoes l v) (sym (only-quietest (one .1))) (one .1)
@@ -281,6 +281,6 @@ later-higher (last-lowest b d a j g) before c after w x p q k n e y i f m =
     subst (λ z. lt z y ≡ true) is (g .later e y (subst (λ z. In e z) (sym (s .1)) i) f m)
 
 -- A voice after which comes one that is as quiet, or quieter, does not go.
-pub younger-goes : (before : List Candidate) (c : Candidate) (after : List Candidate) (e : Candidate) (x y : Float) (w : VoiceId) → c .level ≡ Known x → In e after → e .level ≡ Known y → le y x ≡ true → victim policy.Quietest (before ++ (c ∷ after)) ≡ Goes (length before) w → ⊥
+pub younger-goes : (before : List Candidate) (c : Candidate) (after : List Candidate) (e : Candidate) (x y : Float) (w : VoiceId) → c .level ≡ Known x → In e after → e .level ≡ Known y → le y x ≡ true → policyVictim policy.Quietest (before ++ (c ∷ after)) ≡ Goes (length before) w → ⊥
 younger-goes before c after e x y w k i f h q =
     lt-not-le x y (later-higher (quietest-goes (before ++ (c ∷ after))) before c after w x refl q k (le-right y x h) e y i f (le-left y x h)) h

@@ -1,4 +1,4 @@
--- What follows of a victim, for the layers above: it is one of the candidates, at its place, and where the policy steals there
+-- What follows of the policy's victim, for the layers above: it is one of the candidates, at its place, and where the policy steals there
 -- is one as soon as there is a candidate.
 use Prim.Native.Nat.{ℕ, suc, _+_, _<_}
 use native.Mathlib.Omega.{arith}
@@ -17,7 +17,7 @@ use Rattle.voice.specs.declared.policy.Held.{Held}
 use Rattle.voice.specs.declared.policy.Held.the-variants as held
 use Rattle.voice.specs.declared.policy.Victim.{Victim}
 use Rattle.voice.specs.declared.policy.Victim.the-variants.{Nobody, Goes}
-use Rattle.voice.specs.Policy.{oldest, lastFrom, newest, takes, take?, passed, walk, tookOr, victim, nobody}
+use Rattle.voice.specs.Policy.{oldest, lastFrom, newest, takes, take?, passed, walk, tookOr, policyVictim, nobody}
 
 -- the last of a list that has one, by its place
 pub last-from : (d : Candidate) (p : ℕ) (c : Candidate) (l : List Candidate) → lastFrom p (c ∷ l) ≡ Goes (p + length l) (getD (c ∷ l) (length l) d .voice)
@@ -66,14 +66,14 @@ module _ (d : Candidate) where
   took-one l held.Nothing v g o = o
   took-one l (held.Taken i w x) v g o = g
 
-  pub victim-one : (p : StealPolicy) (l : List Candidate) → OneOf l (victim p l)
+  pub victim-one : (p : StealPolicy) (l : List Candidate) → OneOf l (policyVictim p l)
   victim-one policy.Reject l = tt
   victim-one policy.Oldest l = oldest-one l
   victim-one policy.Newest l = newest-one l
   victim-one policy.Quietest l = took-one l (walk held.Nothing 0 l) (oldest l) (walk-one [] l held.Nothing tt) (oldest-one l)
 
 -- where the policy steals and there is a candidate, there is a victim
-pub victim-some : (p : StealPolicy) (c : Candidate) (l : List Candidate) → p ≢ policy.Reject → nobody (victim p (c ∷ l)) ≡ false
+pub victim-some : (p : StealPolicy) (c : Candidate) (l : List Candidate) → p ≢ policy.Reject → nobody (policyVictim p (c ∷ l)) ≡ false
 victim-some policy.Reject c l h = absurd (h refl)
 victim-some policy.Oldest c l h = refl
 victim-some policy.Newest c l h = ap nobody (last-from c 0 c l)
@@ -83,7 +83,7 @@ victim-some policy.Quietest c l h = go (walk held.Nothing 0 (c ∷ l))
     go held.Nothing = refl
     go (held.Taken i v x) = refl
 
-pub victim-none : (p : StealPolicy) → victim p [] ≡ Nobody
+pub victim-none : (p : StealPolicy) → policyVictim p [] ≡ Nobody
 victim-none policy.Reject = refl
 victim-none policy.Oldest = refl
 victim-none policy.Newest = refl

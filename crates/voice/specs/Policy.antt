@@ -1,14 +1,15 @@
 -- Victim and admission: "Tracked voices stand in order of admission. At budget (all, or those of the bus under `PerGroup`)
 -- `pick_victim` decides: `Reject` none; `Oldest` first; `Newest` last; `Quietest` walks in order, takes the first known
 -- level", and then, by Paper 5, "a level equal to the lowest so far takes its place. A NaN met first stays, and no known level
--- still means the oldest."
-use Prim.Native.Nat.{ℕ, suc}
+-- still means the oldest." And by Paper 13 all this is asked of the candidates of the lowest rank alone.
+use Prim.Native.Nat.{ℕ, suc, min}
 use mathlib.Core.List.{List, [], _∷_}
 use mathlib.Core.Option.{Option, none, some}
 use mathlib.Core.Bool.{Bool, true, false, _&&_, cond}
 use lib.ListN.{length}
 use lib.Dec.{leb, eqb}
 use lib.Ieee.{Float, le}
+use Rattle.lists.specs.Filter.{filter}
 use Rattle.lists.specs.Table.{rowsOf}
 use Rattle.node.specs.Refusal.{numberOf}
 use Rattle.node.specs.declared.record.NodeId.{NodeId}
@@ -79,11 +80,26 @@ tookOr (held.Taken place voice level) v = Goes place voice
 abbrev pub quietest : List Candidate → Victim
 quietest l = tookOr (walk held.Nothing 0 l) (oldest l)
 
-abbrev pub victim : StealPolicy → List Candidate → Victim
-victim policy.Reject l = Nobody
-victim policy.Oldest l = oldest l
-victim policy.Newest l = newest l
-victim policy.Quietest l = quietest l
+abbrev pub policyVictim : StealPolicy → List Candidate → Victim
+policyVictim policy.Reject l = Nobody
+policyVictim policy.Oldest l = oldest l
+policyVictim policy.Newest l = newest l
+policyVictim policy.Quietest l = quietest l
+
+-- ---- ranks. Paper 13: "The victim comes from the lowest rank among candidates, then by policy, and never outranks the newcomer."
+
+-- the lowest of r and the ranks of the candidates
+abbrev pub lowest : ℕ → List Candidate → ℕ
+lowest r [] = r
+lowest r (c ∷ l) = lowest (min r (c .rank)) l
+
+-- The candidates of the lowest rank, for a newcomer of rank r. Where all of them outrank it, the lowest is r itself, and nobody has it.
+abbrev pub ofLowest : ℕ → List Candidate → List Candidate
+ofLowest r l = filter (λ c. eqb (c .rank) (lowest r l)) l
+
+-- the candidate that gives way to a newcomer of rank r, or nobody. Its place is the one among the candidates of its rank
+abbrev pub victim : StealPolicy → ℕ → List Candidate → Victim
+victim p r l = policyVictim p (ofLowest r l)
 
 -- ---- admission
 
@@ -103,10 +119,10 @@ decides false v = admission.Admit
 decides true Nobody = admission.Reject
 decides true (Goes place voice) = admission.Steal place voice
 
--- What a newVoice meets; the candidates are the tracked voices that count for it. "Without a budget nobody is tracked": it
--- is admitted, and the caller does not track it.
-abbrev pub admits : Budget → StealPolicy → List Candidate → Admission
-admits b p l = decides (atBudget b (length l)) (victim p l)
+-- What a newVoice of rank r meets; the candidates are the tracked voices that count for it. "Without a budget nobody is tracked": it
+-- is admitted, and the caller does not track it. All candidates count for the budget, whatever their rank.
+abbrev pub admits : Budget → StealPolicy → ℕ → List Candidate → Admission
+admits b p r l = decides (atBudget b (length l)) (victim p r l)
 
 -- the number that an admission stands for, or none: 11 "admission rejects"
 abbrev pub admissionNumber : Admission → Option ℕ
@@ -118,6 +134,6 @@ abbrev pub nobody : Victim → Bool
 nobody Nobody = true
 nobody (Goes place voice) = false
 
--- 11 where it is at budget and the policy gives nobody up
-abbrev pub rejectNumber : Budget → StealPolicy → List Candidate → Option ℕ
-rejectNumber b p l = cond (atBudget b (length l) && nobody (victim p l)) (some 11) none
+-- 11 where it is at budget and nobody gives way: the policy steals nobody, or, by Paper 13, "all candidates outrank it"
+abbrev pub rejectNumber : Budget → StealPolicy → ℕ → List Candidate → Option ℕ
+rejectNumber b p r l = cond (atBudget b (length l) && nobody (victim p r l)) (some 11) none

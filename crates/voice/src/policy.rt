@@ -3,7 +3,9 @@ use node::record::VoiceId;
 ghost use mathlib.Core.Path.{_≡_};
 ghost use mathlib.Core.List.{[]};
 ghost use Prim.Native.Nat.{min};
-ghost use Rattle.voice.specs.Policy.{candidatesOf, oldest, newest, takes, passed, walk, quietest, victim, counts, admits, admissionNumber, rejectNumber};
+ghost use lib.Dec.{eqb};
+ghost use Rattle.lists.specs.Filter.{filter};
+ghost use Rattle.voice.specs.Policy.{candidatesOf, oldest, newest, takes, passed, walk, quietest, policyVictim, lowest, victim, counts, admits, admissionNumber, rejectNumber};
 
 // What to do at budget.
 pub enum StealPolicy {
@@ -25,10 +27,11 @@ pub enum Level {
     Known(f32),
 }
 
-// A voice that may have to go.
+// A voice that may have to go, with its level and its rank.
 pub struct Candidate {
     pub voice: VoiceId,
     pub level: Level,
+    pub rank: u32,
 }
 
 // The candidates, in order of admission: the first `count` rows; a count above the capacity is the capacity.
@@ -47,7 +50,7 @@ pub enum Held {
     },
 }
 
-// Who goes: its place among the candidates, and its id.
+// Who goes: its place among the candidates of its rank, and its id.
 pub enum Victim {
     Nobody,
     Goes { place: usize, voice: VoiceId },
@@ -73,6 +76,7 @@ pub fn no_candidates() -> Candidates
     let c = Candidate {
         voice: VoiceId(0),
         level: Level::Unknown,
+        rank: 0,
     };
     Candidates {
         rows: [c; 64],
@@ -184,9 +188,9 @@ fn pick_quietest(t: Candidates) -> Victim
     }
 }
 
-// The candidate that the policy gives up, whatever the budget.
-pub fn pick_victim(t: Candidates, policy: StealPolicy) -> Victim
-    ensures { λ r. ⌜ r ≡ victim policy (candidatesOf t) ⌝ }
+// The candidate that the policy gives up, whatever the ranks.
+fn policy_victim(t: Candidates, policy: StealPolicy) -> Victim
+    ensures { λ r. ⌜ r ≡ policyVictim policy (candidatesOf t) ⌝ }
 {
     match policy {
         StealPolicy::Reject => Victim::Nobody,
@@ -194,6 +198,59 @@ pub fn pick_victim(t: Candidates, policy: StealPolicy) -> Victim
         StealPolicy::Newest => pick_newest(t),
         StealPolicy::Quietest => pick_quietest(t),
     }
+}
+
+fn lower(a: u32, b: u32) -> u32
+    ensures { λ r. ⌜ r ≡ min a b ⌝ }
+{
+    if b < a { b } else { a }
+}
+
+// The lowest of `rank` and the ranks of the candidates.
+fn lowest_rank(t: Candidates, rank: u32) -> u32
+    ensures { λ r. ⌜ r ≡ lowest rank (candidatesOf t) ⌝ }
+{
+    let n = at_most_64(t.count);
+    let mut k = rank;
+    let mut i: usize = 0;
+    while i < n {
+        let c = t.rows[i];
+        k = lower(k, c.rank);
+        i += 1;
+    }
+    k
+}
+
+// The candidates of the rank `k`, in order of admission.
+fn of_rank(t: Candidates, k: u32) -> Candidates
+    ensures { λ r. ⌜ candidatesOf r ≡ filter (λ c. eqb (c .rank) k) (candidatesOf t) ⌝ }
+{
+    let n = at_most_64(t.count);
+    let mut out = no_candidates();
+    let mut kept: usize = 0;
+    let mut i: usize = 0;
+    while i < n {
+        let c = t.rows[i];
+        if c.rank == k {
+            out.rows[kept] = c;
+            kept += 1;
+            i += 1;
+        } else {
+            i += 1;
+        }
+    }
+    out.count = kept;
+    out
+}
+
+// The candidate that gives way to a new voice of rank `rank`, whatever the budget: the policy's victim among those of the
+// lowest rank; nobody, if that rank is above the new voice's.
+pub fn pick_victim(t: Candidates, policy: StealPolicy, rank: u32) -> Victim
+    ensures { λ r. ⌜ r ≡ victim policy rank (candidatesOf t) ⌝ }
+{
+    let k = lowest_rank(t, rank);
+    let low = of_rank(t, k);
+    policy_victim(low, policy)
 }
 
 // Whether a tracked voice of the bus `theirs` counts for a new voice on `bus`.
@@ -206,11 +263,11 @@ pub fn counts_for(scope: BudgetScope, theirs: NodeId, bus: NodeId) -> bool
     }
 }
 
-// What a new voice meets. The candidates are the tracked voices that count for it.
-pub fn request_in(budget: Budget, policy: StealPolicy, t: Candidates) -> Admission
+// What a new voice of rank `rank` meets. The candidates are the tracked voices that count for it.
+pub fn request_in(budget: Budget, policy: StealPolicy, rank: u32, t: Candidates) -> Admission
     ensures { λ r. ⌜
-        (r ≡ admits budget policy (candidatesOf t))
-        × (admissionNumber r ≡ rejectNumber budget policy (candidatesOf t))
+        (r ≡ admits budget policy rank (candidatesOf t))
+        × (admissionNumber r ≡ rejectNumber budget policy rank (candidatesOf t))
         ⌝ }
 {
     let Budget::AtMost(most) = budget else {
@@ -219,7 +276,7 @@ pub fn request_in(budget: Budget, policy: StealPolicy, t: Candidates) -> Admissi
     if at_most_64(t.count) < most {
         return Admission::Admit;
     }
-    let v = pick_victim(t, policy);
+    let v = pick_victim(t, policy, rank);
     match v {
         Victim::Nobody => Admission::Reject,
         Victim::Goes { place, voice } => Admission::Steal {

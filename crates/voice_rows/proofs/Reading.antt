@@ -22,6 +22,7 @@ pub record VoiceRow (r : List ℕ) (v : Voice) : Type 0 where
   pub output : node (getD r 8 0) ≡ v .output
   pub panned : isSet (getD r 9 0) ≡ v .panned
   pub sequence : getD r 10 0 ≡ v .sequence
+  pub rank : getD r 22 0 ≡ v .rank
   pub state : stateAt r 11 ≡ v .state
   pub held : longAt r 19 ≡ v .params .count
   pub rows : paramsIn r ≡ v .params .rows
@@ -29,13 +30,13 @@ pub record VoiceRow (r : List ℕ) (v : Voice) : Type 0 where
   pub last : getD r 21 0 % 256 ≡ v .plan .output
 
 module _ (r : List ℕ) where
-  word : (k : ℕ) → k < 22 → getD r k 0 ≡ getD (take 22 r) k 0
-  word k h = sym (getD-take 22 r k 0 h)
+  word : (k : ℕ) → k < 23 → getD r k 0 ≡ getD (take 23 r) k 0
+  word k h = sym (getD-take 23 r k 0 h)
 
-  long : (k : ℕ) → k + 1 < 22 → longAt r k ≡ longAt (take 22 r) k
+  long : (k : ℕ) → k + 1 < 23 → longAt r k ≡ longAt (take 23 r) k
   long k h =
-      let below : k < 22 = omega arith in
-      ap (λ x. longFrom x (getD r (k + 1) 0)) (word k below) ∙ ap (longFrom (getD (take 22 r) k 0)) (word (k + 1) h)
+      let below : k < 23 = omega arith in
+      ap (λ x. longFrom x (getD r (k + 1) 0)) (word k below) ∙ ap (longFrom (getD (take 23 r) k 0)) (word (k + 1) h)
 
   row : VoiceRow r (voiceOf r)
   unfolding voiceOf headed
@@ -50,7 +51,8 @@ module _ (r : List ℕ) where
         output = ap node (word 8 (omega arith));
         panned = ap isSet (word 9 (omega arith));
         sequence = word 10 (omega arith);
-        state = state-local r (take 22 r) 11 11 (λ j b. word (11 + j) (omega arith));
+        rank = word 22 (omega arith);
+        state = state-local r (take 23 r) 11 11 (λ j b. word (11 + j) (omega arith));
         held = long 19 (omega arith);
         rows = refl;
         steps = refl;
@@ -58,5 +60,5 @@ module _ (r : List ℕ) where
       }
 
 -- the voice in row i
-pub voice-row : (c : List ℕ) (i : ℕ) → VoiceRow (rowAt 142 i c) (getD (voicesIn c) i (voiceOf []))
-voice-row c i = rw (row-is 142 voiceOf c i) (row (rowAt 142 i c))
+pub voice-row : (c : List ℕ) (i : ℕ) → VoiceRow (rowAt 143 i c) (getD (voicesIn c) i (voiceOf []))
+voice-row c i = rw (row-is 143 voiceOf c i) (row (rowAt 143 i c))

@@ -58,16 +58,16 @@ pub fade-same : (f g : Fade) → f .node ≡ g .node → f .start ≡ g .start �
 unfolding fade
 fade-same f g a b c d = let same : fade (f .node) (f .start) (f .position) (f .number) ≡ fade (g .node) (g .start) (g .position) (g .number) = cc in same
 
-made : VoiceId → ℕ → NodeId → ℕ → NodeId → ℕ → NodeId → Bool → ℕ → VoiceState → Params → DonePlan → Voice
-made a b c d e f g h i j k l =
-    record { id = a; birth = b; bus = c; port = d; first = e; count = f; output = g; panned = h; sequence = i; state = j; params = k; plan = l }
+made : VoiceId → ℕ → NodeId → ℕ → NodeId → ℕ → NodeId → Bool → ℕ → ℕ → VoiceState → Params → DonePlan → Voice
+made a b c d e f g h i m j k l =
+    record { id = a; birth = b; bus = c; port = d; first = e; count = f; output = g; panned = h; sequence = i; rank = m; state = j; params = k; plan = l }
 
 pub voice-same : (v w : Voice) → v .id ≡ w .id → v .birth ≡ w .birth → v .bus ≡ w .bus → v .port ≡ w .port → v .first ≡ w .first → v .count ≡ w .count
-    → v .output ≡ w .output → v .panned ≡ w .panned → v .sequence ≡ w .sequence → v .state ≡ w .state → v .params ≡ w .params → v .plan ≡ w .plan → v ≡ w
+    → v .output ≡ w .output → v .panned ≡ w .panned → v .sequence ≡ w .sequence → v .rank ≡ w .rank → v .state ≡ w .state → v .params ≡ w .params → v .plan ≡ w .plan → v ≡ w
 unfolding made
-voice-same v w a b c d e f g h i j k l =
-    let same : made (v .id) (v .birth) (v .bus) (v .port) (v .first) (v .count) (v .output) (v .panned) (v .sequence) (v .state) (v .params) (v .plan)
-    ≡ made (w .id) (w .birth) (w .bus) (w .port) (w .first) (w .count) (w .output) (w .panned) (w .sequence) (w .state) (w .params) (w .plan) = cc in
+voice-same v w a b c d e f g h i m j k l =
+    let same : made (v .id) (v .birth) (v .bus) (v .port) (v .first) (v .count) (v .output) (v .panned) (v .sequence) (v .rank) (v .state) (v .params) (v .plan)
+    ≡ made (w .id) (w .birth) (w .bus) (w .port) (w .first) (w .count) (w .output) (w .panned) (w .sequence) (w .rank) (w .state) (w .params) (w .plan) = cc in
     same
 
 -- ---- a parameter is read from six words, a step from three

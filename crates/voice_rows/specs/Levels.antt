@@ -17,7 +17,7 @@ abbrev pub levelAt : List Node → ℕ → Voice → Level
 levelAt ns clock v = cond (ltb (v .birth) clock) (nodeLevel (nodeAt ns (v .output))) Unknown
 
 abbrev pub candidateAt : List Node → ℕ → Voice → Candidate
-candidateAt ns clock v = record { voice = v .id; level = levelAt ns clock v }
+candidateAt ns clock v = record { voice = v .id; level = levelAt ns clock v; rank = v .rank }
 
 abbrev pub candidatesAt : List Node → ℕ → (Voice → Bool) → List Voice → List Candidate
 candidatesAt ns clock q vs = map (candidateAt ns clock) (filter q vs)

@@ -1,6 +1,6 @@
--- A voice in 142 words, and the voices that a list of words is. Any words stand for some voice. The first 22 words are id 2,
+-- A voice in 143 words, and the voices that a list of words is. Any words stand for some voice. The first 23 words are id 2,
 -- birth 2, bus, port, first node, how many nodes, output, whether it is panned, noise sequence; state, fade's node, start 2, position 2,
--- record number 2; how many parameters 2, the plan's output. Then come 8 parameters of 6 words and the plan's 24 steps of 3 words.
+-- record number 2; how many parameters 2, the plan's output, rank. Then come 8 parameters of 6 words and the plan's 24 steps of 3 words.
 use Prim.Native.Nat.{ℕ, zero, suc, _+_, _*_, _/_, _%_}
 use mathlib.Core.Path.{_≡_}
 use mathlib.Core.Bool.{cond}
@@ -42,10 +42,10 @@ each f k zero = []
 each f k (suc n) = f k ∷ each f (suc k) n
 
 abbrev pub paramsIn : List ℕ → List Param
-paramsIn ws = each (λ k. paramAt ws (22 + k * 6)) 0 8
+paramsIn ws = each (λ k. paramAt ws (23 + k * 6)) 0 8
 
 abbrev pub stepsIn : List ℕ → List DoneStep
-stepsIn ws = each (λ k. stepAt ws (70 + k * 3)) 0 24
+stepsIn ws = each (λ k. stepAt ws (71 + k * 3)) 0 24
 
 -- the voice of the first words, with these parameters and steps
 unfoldable pub headed : List ℕ → List Param → List DoneStep → Voice
@@ -60,25 +60,26 @@ headed ws ps steps =
       output = node (getD ws 8 0);
       panned = isSet (getD ws 9 0);
       sequence = getD ws 10 0;
+      rank = getD ws 22 0;
       state = stateAt ws 11;
       params = record { rows = ps; count = longAt ws 19 };
       plan = record { steps = steps; output = getD ws 21 0 % 256 };
     }
 
 unfoldable pub voiceOf : List ℕ → Voice
-voiceOf ws = headed (take 22 ws) (paramsIn ws) (stepsIn ws)
+voiceOf ws = headed (take 23 ws) (paramsIn ws) (stepsIn ws)
 
 -- the voices that the words have room for
 abbrev pub voicesIn : List ℕ → List Voice
-voicesIn c = rows 142 voiceOf c
+voicesIn c = rows 143 voiceOf c
 
 -- words that stand for the first part of a voice, and for all of it
 pub record Heads (v : Voice) (ws : List ℕ) : Type 0 where
-  pub long : length ws ≡ 22
+  pub long : length ws ≡ 23
   pub back : headed ws (v .params .rows) (v .plan .steps) ≡ v
 
 pub record Stands (v : Voice) (ws : List ℕ) : Type 0 where
-  pub long : length ws ≡ 142
+  pub long : length ws ≡ 143
   pub back : voiceOf ws ≡ v
 
 -- some words among others that stand for a state, a parameter, a step

@@ -24,7 +24,7 @@ ghost use Rattle.voice_rows.specs.Earlier.{Earlier};
 pub fn begin_fade(t: &mut [u32], count: usize, w: VoiceId, f: Fade)
     ensures { λ _. ⌜ take count (voicesIn (now (t .exit))) ≡ map (beginFade w f) (take count (voicesIn (now (t .entry)))) ⌝ }
 {
-    let n = at_most(count, t.len() / 142);
+    let n = at_most(count, t.len() / 143);
     let mut i: usize = 0;
     while i < n {
         if id_at(t, i).0 == w.0 {
@@ -75,7 +75,7 @@ fn moved_state(s: VoiceState, block: u64) -> VoiceState
 pub fn move_fades(t: &mut [u32], count: usize, block: u64)
     ensures { λ _. ⌜ take count (voicesIn (now (t .exit))) ≡ map (moved (further block)) (take count (voicesIn (now (t .entry)))) ⌝ }
 {
-    let n = at_most(count, t.len() / 142);
+    let n = at_most(count, t.len() / 143);
     let mut i: usize = 0;
     while i < n {
         let s = state_at(t, i);
@@ -159,7 +159,7 @@ fn earlier_row(t: &[u32], best: FoundRow, i: usize, bus: NodeId) -> FoundRow
 pub fn earliest_fade(t: &[u32], count: usize, bus: NodeId) -> FoundRow
     ensures { λ r. ⌜ FoundAt r count (voicesIn (now (t .entry))) (earliest (fadesOn bus) (take count (voicesIn (now (t .entry))))) ⌝ }
 {
-    let n = at_most(count, t.len() / 142);
+    let n = at_most(count, t.len() / 143);
     let mut best = FoundRow {
         found: false,
         row: 0,

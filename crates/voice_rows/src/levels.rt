@@ -4,6 +4,7 @@ use crate::row::birth_at;
 use crate::row::bus_at;
 use crate::row::id_at;
 use crate::row::output_at;
+use crate::row::rank_at;
 use crate::row::state_at;
 use node::record::NodeId;
 use store::voices::VoiceState;
@@ -66,13 +67,17 @@ pub fn is_counted(t: &[u32], i: usize, scope: BudgetScope, bus: NodeId) -> bool
     }
 }
 
-// The voice in row `i` as one that may have to go, with its level.
+// The voice in row `i` as one that may have to go, with its level and its rank.
 fn candidate_at(t: &[u32], i: usize, nodes: &[u32], n: usize, clock: u64) -> Candidate
     ensures { λ r. ⌜ r ≡ candidateAt (take n (nodesIn (now (nodes .entry)))) clock (getD (voicesIn (now (t .entry))) i (voiceOf [])) ⌝ }
 {
     let voice = id_at(t, i);
     let level = level_at(t, i, nodes, n, clock);
-    Candidate { voice, level }
+    Candidate {
+        voice,
+        level,
+        rank: rank_at(t, i),
+    }
 }
 
 fn candidates_in(
@@ -84,7 +89,7 @@ fn candidates_in(
     scope: BudgetScope,
     bus: NodeId,
 ) -> Candidates
-    requires { ⌜ length (now t) ≡ 9088 ⌝ }
+    requires { ⌜ length (now t) ≡ 9152 ⌝ }
     ensures { λ r. ⌜ candidatesOf r ≡ candidatesAt (take n (nodesIn (now (nodes .entry)))) clock (counted scope bus) (take count (voicesIn (now (t .entry)))) ⌝ }
 {
     let m = at_most(count, 64);
@@ -104,7 +109,7 @@ fn candidates_in(
     out
 }
 
-// The tracked voices that count for a new voice on `bus`, in order of admission, each with its level.
+// The tracked voices that count for a new voice on `bus`, in order of admission, each with its level and its rank.
 pub fn candidates(
     t: &VoiceTable,
     count: usize,

@@ -1,4 +1,4 @@
-// The live voices in words that the host lends: 64 rows of 142 words, in order of admission.
+// The live voices in words that the host lends: 64 rows of 143 words, in order of admission.
 pub mod fade;
 pub mod feeding;
 pub mod levels;

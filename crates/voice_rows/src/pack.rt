@@ -77,7 +77,7 @@ fn step_words(s: DoneStep) -> [u32; 3]
 }
 
 // The words of a voice before its parameters.
-fn head_words(v: Voice) -> [u32; 22]
+fn head_words(v: Voice) -> [u32; 23]
     ensures { λ r. ⌜ Heads v r ⌝ }
 {
     let state = v.state;
@@ -108,39 +108,40 @@ fn head_words(v: Voice) -> [u32; 22]
         low_word(held),
         high_word(held),
         plan.output as u32,
+        v.rank,
     ]
 }
 
-// The eight parameters stand from word 22 on.
+// The eight parameters stand from word 23 on.
 fn fill_params(t: &mut [u32], p: Params)
-    requires { ⌜ length (now t) ≡ 142 ⌝ }
-    ensures { λ _. ⌜ Filled 22 6 8 paramAt (now (t .entry)) (now (t .exit)) (p .rows) ⌝ }
+    requires { ⌜ length (now t) ≡ 143 ⌝ }
+    ensures { λ _. ⌜ Filled 23 6 8 paramAt (now (t .entry)) (now (t .exit)) (p .rows) ⌝ }
 {
     let mut k: usize = 0;
     while k < 8 {
         let x = p.rows[k];
         let ws = param_words(x);
-        put_words(t, 22 + k * 6, &ws);
+        put_words(t, 23 + k * 6, &ws);
         k += 1;
     }
 }
 
-// The plan's steps stand from word 70 on.
+// The plan's steps stand from word 71 on.
 fn fill_steps(t: &mut [u32], p: DonePlan)
-    requires { ⌜ length (now t) ≡ 142 ⌝ }
-    ensures { λ _. ⌜ Filled 70 3 24 stepAt (now (t .entry)) (now (t .exit)) (p .steps) ⌝ }
+    requires { ⌜ length (now t) ≡ 143 ⌝ }
+    ensures { λ _. ⌜ Filled 71 3 24 stepAt (now (t .entry)) (now (t .exit)) (p .steps) ⌝ }
 {
     let mut k: usize = 0;
     while k < 24 {
         let x = p.steps[k];
         let ws = step_words(x);
-        put_words(t, 70 + k * 3, &ws);
+        put_words(t, 71 + k * 3, &ws);
         k += 1;
     }
 }
 
 fn fill(t: &mut [u32], v: Voice)
-    requires { ⌜ length (now t) ≡ 142 ⌝ }
+    requires { ⌜ length (now t) ≡ 143 ⌝ }
     ensures { λ _. ⌜ Stands v (now (t .exit)) ⌝ }
 {
     let ws = head_words(v);
@@ -152,10 +153,10 @@ fn fill(t: &mut [u32], v: Voice)
 }
 
 // The words of a voice.
-pub fn voice_words(v: Voice) -> [u32; 142]
+pub fn voice_words(v: Voice) -> [u32; 143]
     ensures { λ r. ⌜ Stands v r ⌝ }
 {
-    let mut ws = [0u32; 142];
+    let mut ws = [0u32; 143];
     fill(&mut ws, v);
     ws
 }

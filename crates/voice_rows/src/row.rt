@@ -33,82 +33,88 @@ ghost use Rattle.synthdef.specs.Plan.{planSilent};
 ghost use Rattle.model.specs.Voice.{withState};
 ghost use Rattle.voice_rows.specs.Rows.{fadeAt, paramAt, stepAt, voiceOf, voicesIn};
 
-// "64 voices", a row of 142 words each.
-pub const VOICE_WORDS: usize = 9088;
+// "64 voices", a row of 143 words each.
+pub const VOICE_WORDS: usize = 9152;
 
 pub type VoiceTable = [u32; VOICE_WORDS];
 
 pub fn id_at(t: &[u32], i: usize) -> VoiceId
     ensures { λ r. ⌜ r ≡ getD (voicesIn (now (t .entry))) i (voiceOf []) .id ⌝ }
 {
-    VoiceId(long_at(t, 142, i, 0))
+    VoiceId(long_at(t, 143, i, 0))
 }
 
 pub fn birth_at(t: &[u32], i: usize) -> u64
     ensures { λ r. ⌜ r ≡ getD (voicesIn (now (t .entry))) i (voiceOf []) .birth ⌝ }
 {
-    long_at(t, 142, i, 2)
+    long_at(t, 143, i, 2)
 }
 
 pub fn bus_at(t: &[u32], i: usize) -> NodeId
     ensures { λ r. ⌜ r ≡ getD (voicesIn (now (t .entry))) i (voiceOf []) .bus ⌝ }
 {
-    NodeId(word_at(t, 142, i, 4))
+    NodeId(word_at(t, 143, i, 4))
 }
 
 pub fn port_at(t: &[u32], i: usize) -> u32
     ensures { λ r. ⌜ r ≡ getD (voicesIn (now (t .entry))) i (voiceOf []) .port ⌝ }
 {
-    word_at(t, 142, i, 5)
+    word_at(t, 143, i, 5)
 }
 
 pub fn first_at(t: &[u32], i: usize) -> NodeId
     ensures { λ r. ⌜ r ≡ getD (voicesIn (now (t .entry))) i (voiceOf []) .first ⌝ }
 {
-    NodeId(word_at(t, 142, i, 6))
+    NodeId(word_at(t, 143, i, 6))
 }
 
 pub fn count_at(t: &[u32], i: usize) -> u32
     ensures { λ r. ⌜ r ≡ getD (voicesIn (now (t .entry))) i (voiceOf []) .count ⌝ }
 {
-    word_at(t, 142, i, 7)
+    word_at(t, 143, i, 7)
 }
 
 pub fn output_at(t: &[u32], i: usize) -> NodeId
     ensures { λ r. ⌜ r ≡ getD (voicesIn (now (t .entry))) i (voiceOf []) .output ⌝ }
 {
-    NodeId(word_at(t, 142, i, 8))
+    NodeId(word_at(t, 143, i, 8))
 }
 
 pub fn panned_at(t: &[u32], i: usize) -> bool
     ensures { λ r. ⌜ r ≡ getD (voicesIn (now (t .entry))) i (voiceOf []) .panned ⌝ }
 {
-    flag_at(t, 142, i, 9)
+    flag_at(t, 143, i, 9)
 }
 
 pub fn sequence_at(t: &[u32], i: usize) -> u32
     ensures { λ r. ⌜ r ≡ getD (voicesIn (now (t .entry))) i (voiceOf []) .sequence ⌝ }
 {
-    word_at(t, 142, i, 10)
+    word_at(t, 143, i, 10)
+}
+
+pub fn rank_at(t: &[u32], i: usize) -> u32
+    ensures { λ r. ⌜ r ≡ getD (voicesIn (now (t .entry))) i (voiceOf []) .rank ⌝ }
+{
+    word_at(t, 143, i, 22)
 }
 
 // The fade that the words of a state would be one of.
 fn fade_at(t: &[u32], i: usize) -> Fade
-    ensures { λ r. ⌜ r ≡ fadeAt (rowAt 142 i (now (t .entry))) 11 ⌝ }
+    ensures { λ r. ⌜ r ≡ fadeAt (rowAt 143 i (now (t .entry))) 11 ⌝ }
 {
-    let node = NodeId(word_at(t, 142, i, 12));
+    let node = NodeId(word_at(t, 143, i, 12));
     Fade {
         node,
-        start: long_at(t, 142, i, 13),
-        position: long_at(t, 142, i, 15),
-        number: long_at(t, 142, i, 17),
+        start: long_at(t, 143, i, 13),
+        position: long_at(t, 143, i, 15),
+        number: long_at(t, 143, i, 17),
     }
 }
 
 pub fn state_at(t: &[u32], i: usize) -> VoiceState
     ensures { λ r. ⌜ r ≡ getD (voicesIn (now (t .entry))) i (voiceOf []) .state ⌝ }
 {
-    let which = word_at(t, 142, i, 11);
+    let which = word_at(t, 143, i, 11);
     if which == 1 {
         return VoiceState::Tracked;
     }
@@ -123,7 +129,7 @@ pub fn put_state(t: &mut [u32], i: usize, s: VoiceState)
     ensures { λ _. ⌜ voicesIn (now (t .exit)) ≡ set (voicesIn (now (t .entry))) i (withState s (getD (voicesIn (now (t .entry))) i (voiceOf []))) ⌝ }
 {
     let ws = state_words(s);
-    put_fields(t, 142, i, 11, &ws);
+    put_fields(t, 143, i, 11, &ws);
 }
 
 // Row `i` is the voice `v`; past the end nothing is stored.
@@ -131,7 +137,7 @@ pub fn put_voice(t: &mut [u32], i: usize, v: Voice)
     ensures { λ _. ⌜ voicesIn (now (t .exit)) ≡ set (voicesIn (now (t .entry))) i v ⌝ }
 {
     let ws = voice_words(v);
-    put_row(t, 142, i, &ws);
+    put_row(t, 143, i, &ws);
 }
 
 fn byte(x: u32) -> u8
@@ -143,13 +149,13 @@ fn byte(x: u32) -> u8
 // The parameter `k` of the voice in row `i`.
 fn param_at(t: &[u32], i: usize, k: usize) -> Param
     requires { ⌜ k < 8 ⌝ }
-    ensures { λ r. ⌜ r ≡ paramAt (rowAt 142 i (now (t .entry))) (22 + k * 6) ⌝ }
+    ensures { λ r. ⌜ r ≡ paramAt (rowAt 143 i (now (t .entry))) (23 + k * 6) ⌝ }
 {
-    let a = 22 + k * 6;
-    let name = name_at(t, 142, i, a as u16);
+    let a = 23 + k * 6;
+    let name = name_at(t, 143, i, a as u16);
     Param {
         name,
-        node: byte(word_at(t, 142, i, a + 5)),
+        node: byte(word_at(t, 143, i, a + 5)),
     }
 }
 
@@ -166,7 +172,7 @@ pub fn params_at(t: &[u32], i: usize) -> Params
     }
     Params {
         rows,
-        count: long_at(t, 142, i, 19) as usize,
+        count: long_at(t, 143, i, 19) as usize,
     }
 }
 
@@ -189,11 +195,11 @@ fn eight(a: u32, b: u32) -> [u8; 8]
 // The step `k` of the done plan of the voice in row `i`.
 fn step_at(t: &[u32], i: usize, k: usize) -> DoneStep
     requires { ⌜ k < 24 ⌝ }
-    ensures { λ r. ⌜ r ≡ stepAt (rowAt 142 i (now (t .entry))) (70 + k * 3) ⌝ }
+    ensures { λ r. ⌜ r ≡ stepAt (rowAt 143 i (now (t .entry))) (71 + k * 3) ⌝ }
 {
-    let a = word_at(t, 142, i, 70 + k * 3);
-    let b = word_at(t, 142, i, 70 + k * 3 + 1);
-    let rule = word_at(t, 142, i, 70 + k * 3 + 2);
+    let a = word_at(t, 143, i, 71 + k * 3);
+    let b = word_at(t, 143, i, 71 + k * 3 + 1);
+    let rule = word_at(t, 143, i, 71 + k * 3 + 2);
     let sources = eight(a, b);
     DoneStep {
         all: is_set(rule / 256),
@@ -215,7 +221,7 @@ pub fn plan_at(t: &[u32], i: usize) -> DonePlan
     }
     DonePlan {
         steps,
-        output: byte(word_at(t, 142, i, 21)),
+        output: byte(word_at(t, 143, i, 21)),
     }
 }
 
@@ -256,6 +262,7 @@ pub fn voice_at(t: &[u32], i: usize) -> Voice
         output,
         panned: panned_at(t, i),
         sequence: sequence_at(t, i),
+        rank: rank_at(t, i),
         state,
         params,
         plan,

@@ -28,7 +28,7 @@ pub struct FoundRow {
 pub fn find_voice(t: &[u32], count: usize, w: VoiceId) -> FoundRow
     ensures { λ r. ⌜ FoundAt r count (voicesIn (now (t .entry))) (find (isVoice w) (take count (voicesIn (now (t .entry))))) ⌝ }
 {
-    let n = at_most(count, t.len() / 142);
+    let n = at_most(count, t.len() / 143);
     let mut i: usize = 0;
     while i < n {
         if id_at(t, i).0 == w.0 {
@@ -46,7 +46,7 @@ pub fn find_voice(t: &[u32], count: usize, w: VoiceId) -> FoundRow
 }
 
 fn push_in(t: &mut [u32], count: usize, v: Voice) -> usize
-    requires { ⌜ length (now t) ≡ 9088 ⌝ }
+    requires { ⌜ length (now t) ≡ 9152 ⌝ }
     ensures { λ r. ⌜ Holds (voicesIn (now (t .exit))) r (pushedVoice (take count (voicesIn (now (t .entry)))) v) ⌝ }
 {
     let n = at_most(count, 64);
@@ -68,14 +68,14 @@ pub fn push_voice(t: &mut VoiceTable, count: usize, v: Voice) -> usize
 pub fn remove_voices(t: &mut [u32], count: usize, ids: &[u64]) -> usize
     ensures { λ r. ⌜ Holds (voicesIn (now (t .exit))) r (filter (λ v. not (isAnyOf (now (ids .entry)) v)) (take count (voicesIn (now (t .entry))))) ⌝ }
 {
-    let n = at_most(count, t.len() / 142);
+    let n = at_most(count, t.len() / 143);
     let mut w: usize = 0;
     let mut i: usize = 0;
     while i < n {
         if is_listed(ids, id_at(t, i).0) {
             i += 1;
         } else {
-            move_row(t, 142, i, w);
+            move_row(t, 143, i, w);
             i += 1;
             w += 1;
         }

@@ -79,14 +79,15 @@ impl Writer {
         self.spawn_on(slot, bus, managed);
     }
 
-    /// A spawn by one of the two calls that there are for it. Answers the voice.
+    /// A spawn by one of the two calls that there are for it, of rank 0 or of one that is refused. Answers the voice.
     pub fn spawn_on(&mut self, slot: u8, bus: u32, managed: bool) -> Option<u64> {
         let pan = values::pan(&mut self.rng);
+        let rank = if self.rng.once_in(100) { *self.rng.pick(&[8, 9, 255, 256, u32::MAX]) } else { 0 };
         let call = match (managed, self.rng.once_in(4)) {
-            (true, false) => Call::SpawnManagedPanned { slot, bus, pan },
-            (true, true) => Call::SpawnManaged { slot, bus },
-            (false, false) => Call::SpawnPanned { slot, bus, pan },
-            (false, true) => Call::Spawn { slot, bus },
+            (true, false) => Call::SpawnManagedPanned { slot, bus, pan, rank },
+            (true, true) => Call::SpawnManaged { slot, bus, rank },
+            (false, false) => Call::SpawnPanned { slot, bus, pan, rank },
+            (false, true) => Call::Spawn { slot, bus, rank },
         };
         self.put(call).of("voice")
     }

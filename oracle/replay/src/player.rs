@@ -4,7 +4,7 @@ use microsynth::node::NodeId;
 use microsynth::scheduler::VoiceId;
 use microsynth::voice::{BudgetScope, StealPolicy};
 use scripted::definition::Definition;
-use scripted::limits::Refusal;
+use scripted::limits::{Refusal, check};
 
 use crate::script::{self, Call};
 use crate::spawn::Spawn;
@@ -75,10 +75,10 @@ impl Player {
             Call::Disconnect { to, port } => done(store.disconnect(id(to), port as usize)),
             Call::SetSink { node } => done(store.set_sink(id(node))),
             Call::Keep { slot, ref definition } => Ok(self.keep(slot, definition)),
-            Call::SpawnManagedPanned { slot, bus, pan } => self.spawn(slot, true, bus, Some(pan)),
-            Call::SpawnPanned { slot, bus, pan } => self.spawn(slot, false, bus, Some(pan)),
-            Call::SpawnManaged { slot, bus } => self.spawn(slot, true, bus, None),
-            Call::Spawn { slot, bus } => self.spawn(slot, false, bus, None),
+            Call::SpawnManagedPanned { slot, bus, pan, rank } => self.spawn(slot, true, bus, Some(pan), rank),
+            Call::SpawnPanned { slot, bus, pan, rank } => self.spawn(slot, false, bus, Some(pan), rank),
+            Call::SpawnManaged { slot, bus, rank } => self.spawn(slot, true, bus, None, rank),
+            Call::Spawn { slot, bus, rank } => self.spawn(slot, false, bus, None, rank),
             Call::Free { voice } => {
                 store.engine.free_voice(VoiceId(voice));
                 done(Ok(()))
@@ -118,7 +118,10 @@ impl Player {
         "kept".to_string()
     }
 
-    fn spawn(&mut self, slot: u8, is_managed: bool, bus: u32, pan: Option<f32>) -> Answer {
+    /// The Rust knows no ranks: 26 is given here, before all else, and every voice has the rank 0.
+    fn spawn(&mut self, slot: u8, is_managed: bool, bus: u32, pan: Option<f32>, rank: u32) -> Answer {
+        check(rank <= 7, 26)?;
+        assert_eq!(rank, 0, "runs against the Rust give every voice rank 0");
         let definition = self.slots[usize::from(slot % 16)].as_ref().map_err(|&number| number)?;
         let voice = self.store.spawn(definition, &Spawn { is_managed, bus: NodeId::numbered(bus), pan })?;
         Ok(format!("voice {}", voice.0))

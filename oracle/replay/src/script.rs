@@ -196,10 +196,10 @@ entries! {
     6 Disconnect { to: u32, port: u32 }
     7 SetSink { node: u32 }
     8 Keep { slot: u8, definition: Definition }
-    9 SpawnManagedPanned { slot: u8, bus: u32, pan: f32 }
-    10 SpawnPanned { slot: u8, bus: u32, pan: f32 }
-    11 SpawnManaged { slot: u8, bus: u32 }
-    12 Spawn { slot: u8, bus: u32 }
+    9 SpawnManagedPanned { slot: u8, bus: u32, pan: f32, rank: u32 }
+    10 SpawnPanned { slot: u8, bus: u32, pan: f32, rank: u32 }
+    11 SpawnManaged { slot: u8, bus: u32, rank: u32 }
+    12 Spawn { slot: u8, bus: u32, rank: u32 }
     13 Free { voice: u64 }
     14 Clear {}
     15 Value { voice: u64, name: Name, value: f32 }

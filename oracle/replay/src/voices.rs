@@ -33,6 +33,8 @@ impl Store {
             voice.pan.is_some().into(),
             birth.port as u64,
             birth.sequence.into(),
+            // its rank, which the Rust does not know
+            0,
         ];
         let fade = voice.fade.map(|(node, start, number)| {
             let position = self.graph().fade_position(node);

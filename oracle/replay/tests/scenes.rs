@@ -72,7 +72,7 @@ fn a_spawn_on_a_bus_that_the_host_has_taken() {
 
 #[test]
 fn admission_rejects_with_a_budget_of_nothing() {
-    let calls = [made(8000.0, 16, 0), host(1, 0), tone(), SPAWN, Call::Spawn { slot: 0, bus: 0 }, SPAWN];
+    let calls = [made(8000.0, 16, 0), host(1, 0), tone(), SPAWN, Call::Spawn { slot: 0, bus: 0, rank: 0 }, SPAWN];
     assert_eq!(lines(&calls)[3..], ["refused 11", "voice 1", "refused 11"]);
 }
 
@@ -105,7 +105,7 @@ fn the_last_edge_to_a_port_counts() {
     let (own, other) = (EdgeRow { from: 0, to: 0, port: 0 }, EdgeRow { from: 1, to: 0, port: 0 });
     let mut calls =
         vec![host(2, 0), Call::SetSink { node: 0 }, keep(3, &[other.clone(), own.clone()]), keep(20, &[own, other])];
-    calls.extend([3, 4].map(|slot| Call::Spawn { slot, bus: 0 }));
+    calls.extend([3, 4].map(|slot| Call::Spawn { slot, bus: 0, rank: 0 }));
     // Silence passes through the port that is named `level`, also where it is named `in` and `amp` too.
     let samples = Repeated { count: 64, sample: 0.0 };
     calls.extend([PREPARE, RENDER, Call::ReportRepeated { node: 2, channels: 1, done: 1, samples }, Call::Clear {}]);

@@ -44,8 +44,8 @@ returns c =
     let ready = lentAll (prepared .result .state) nodes edges (prepared .last .1 .1 .1 .0) voices (a .events .now) steals in
     let end =
     modelOf (lentAll (rendered .result .state) (rendered .last .1 .0) (rendered .last .1 .1 .0) (rendered .last .1 .1 .1 .0) (rendered .last .1 .1 .1 .1 .0) (rendered .last .1 .1 .1 .1 .1 .0) steals) in
-    let one = spawned .ensures .0 s ∙ ap (λ d. step (call.spawnManaged (spawnOf d (id 0) middle)) (modelOf s)) (def .ensures) in
-    and-then (call.spawnManaged (spawnOf tone (id 0) (float 0))) (call.prepare ∷ call.render ∷ []) (modelOf s) (modelOf more) end (ap (λ x. x .model) one)
+    let one = spawned .ensures .0 s ∙ ap (λ d. step (call.spawnManaged (spawnOf d (id 0) middle 0)) (modelOf s)) (def .ensures) in
+    and-then (call.spawnManaged (spawnOf tone (id 0) (float 0) 0)) (call.prepare ∷ call.render ∷ []) (modelOf s) (modelOf more) end (ap (λ x. x .model) one)
     (and-then call.prepare (call.render ∷ []) (modelOf more) (modelOf ready) end (ap (λ x. x .model) (prepared .ensures .0 more))
     (and-then call.render [] (modelOf ready) end end (ap (λ x. x .model) (rendered .ensures .0 ready)) refl))
 

@@ -99,6 +99,7 @@ pub const PROFILES: &[(&str, &[&str])] = &[
             "a node of 8 ports",
             "a port given twice",
             "two parameters of one name",
+            "refused: a rank above 7",
             "refused: no node",
             "refused: more than 24 nodes",
             "refused: more than 48 edges",

@@ -19,10 +19,10 @@ pub struct Spawn<'a> {
 impl<'a> Spawn<'a> {
     pub fn of(call: &Call, slots: &'a [Definition]) -> Option<Spawn<'a>> {
         let (slot, bus, pan, is_managed) = match call {
-            Call::SpawnManagedPanned { slot, bus, pan } => (slot, bus, *pan, true),
-            Call::SpawnPanned { slot, bus, pan } => (slot, bus, *pan, false),
-            Call::SpawnManaged { slot, bus } => (slot, bus, 0.0, true),
-            Call::Spawn { slot, bus } => (slot, bus, 0.0, false),
+            Call::SpawnManagedPanned { slot, bus, pan, .. } => (slot, bus, *pan, true),
+            Call::SpawnPanned { slot, bus, pan, .. } => (slot, bus, *pan, false),
+            Call::SpawnManaged { slot, bus, .. } => (slot, bus, 0.0, true),
+            Call::Spawn { slot, bus, .. } => (slot, bus, 0.0, false),
             _ => return None,
         };
         Some(Spawn { def: &slots[usize::from(*slot) % 16], bus: NodeId::numbered(*bus), pan, is_managed })
@@ -33,6 +33,7 @@ impl Reach {
     pub fn note_spawn(&mut self, seen: &Seen, spawn: &Spawn) {
         match seen.answer.of("refused") {
             Some(9) => self.hit(refused_definition(spawn.def)),
+            Some(26) => self.hit("refused: a rank above 7"),
             Some(7) => self.note_headroom(seen, spawn),
             Some(8) => self.hit("voice ids used up"),
             Some(11 | 12) => self.note_managed(seen, spawn),

@@ -39,7 +39,7 @@ fn departure_1_no_bus() {
         ("01-bus-without-ports", 1, "refused 10", "voice -"),
     ];
     for (name, bus, store, rust) in cases {
-        let spawn = departs(Call::SpawnManaged { slot: 0, bus }, store, rust);
+        let spawn = departs(Call::SpawnManaged { slot: 0, bus, rank: 0 }, store, rust);
         let steals = departs(Call::Steals {}, "steals 0", "steals 1 0 - faded");
         let engine = compare(name, one_voice().into_iter().chain([spawn, steals]));
         assert!(engine.voice_rows().next().is_some_and(|voice| voice.fade.is_some()), "voice 1 fades");
@@ -145,7 +145,7 @@ fn departure_5_budget() {
 
 #[test]
 fn departure_6_no_port() {
-    let unmanaged = Call::Spawn { slot: 0, bus: 0 };
+    let unmanaged = Call::Spawn { slot: 0, bus: 0, rank: 0 };
     let rejecting = Call::Make { rate: 8000.0, block: 16, budgeted: 1, budget: 1, policy: 0, scope: 0 };
     let rows = [
         same(rejecting, "made"),
@@ -273,7 +273,7 @@ fn departure_19_own_nodes() {
         same(host(2, 0), "node 0"),
         same(Call::SetSink { node: 0 }, "done"),
         same(tone(), "kept"),
-        same(Call::SpawnManagedPanned { slot: 0, bus: 0, pan: 0.5 }, "voice 1"),
+        same(Call::SpawnManagedPanned { slot: 0, bus: 0, pan: 0.5, rank: 0 }, "voice 1"),
         same(SPAWN, "voice 2"),
         same(PREPARE, "done"),
     ];

@@ -72,7 +72,7 @@ fn departure_7_edges() {
         departs(Call::Connect { from: 17, to: 16, port: 0 }, "refused 7", "done"),
         same(Call::Connect { from: 17, to: 0, port: 0 }, "done"),
         same(tone(), "kept"),
-        departs(Call::Spawn { slot: 0, bus: 16 }, "refused 7", "voice 1"),
+        departs(Call::Spawn { slot: 0, bus: 16, rank: 0 }, "refused 7", "voice 1"),
     ]);
     assert_eq!(compare("07-edges", rows).graph().all_edges().len(), 1026);
 }
@@ -88,7 +88,7 @@ fn departure_7_voices() {
     ];
     rows.extend((1..=64).map(|id| same(SPAWN, &format!("voice {id}"))));
     rows.extend([
-        departs(Call::SpawnManaged { slot: 0, bus: 1 }, "refused 7", "voice 65"),
+        departs(Call::SpawnManaged { slot: 0, bus: 1, rank: 0 }, "refused 7", "voice 65"),
         departs(Call::Steals {}, "steals 0", "steals 1 0 - faded"),
     ]);
     assert_eq!(compare("07-voices", rows).voice_rows().count(), 65);
@@ -207,7 +207,7 @@ fn departure_13_mark_of_an_old_record() {
         same(tone(), "kept"),
         same(SPAWN, "voice 1"),
     ];
-    rows.extend((2..=66).map(|id| same(Call::SpawnManaged { slot: 0, bus: 1 }, &format!("voice {id}"))));
+    rows.extend((2..=66).map(|id| same(Call::SpawnManaged { slot: 0, bus: 1, rank: 0 }, &format!("voice {id}"))));
     let first_faded = steals(65, 0, 1) + &steals(0, 63, 1)["steals 0".len()..];
     rows.extend([
         departs(Call::Steals {}, &steals(65, 63, 1), &first_faded),

@@ -55,13 +55,13 @@ impl Unguarded {
                 self.slots.insert(slot, definition);
                 "kept".to_string()
             }
-            Call::SpawnManaged { slot, bus } => {
+            Call::SpawnManaged { slot, bus, .. } => {
                 voice_line(engine.spawn_voice_on_bus_managed(&self.slots[&slot], id(bus)))
             }
-            Call::SpawnManagedPanned { slot, bus, pan } => {
+            Call::SpawnManagedPanned { slot, bus, pan, .. } => {
                 voice_line(engine.spawn_voice_on_bus_panned_managed(&self.slots[&slot], id(bus), pan))
             }
-            Call::Spawn { slot, bus } => voice_line(engine.spawn_voice_on_bus(&self.slots[&slot], id(bus))),
+            Call::Spawn { slot, bus, .. } => voice_line(engine.spawn_voice_on_bus(&self.slots[&slot], id(bus))),
             Call::Render {} => if engine.render().is_some() { "sounding" } else { "silent" }.to_string(),
             _ => return None,
         })

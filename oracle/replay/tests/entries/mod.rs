@@ -37,7 +37,7 @@ pub fn tone() -> Call {
     Call::Keep { slot: 0, definition: Definition { nodes: vec![node], edges: vec![], params, output: 0 } }
 }
 
-pub const SPAWN: Call = Call::SpawnManaged { slot: 0, bus: 0 };
+pub const SPAWN: Call = Call::SpawnManaged { slot: 0, bus: 0, rank: 0 };
 pub const PREPARE: Call = Call::Prepare {};
 pub const RENDER: Call = Call::Render {};
 

@@ -13,7 +13,7 @@ pick-victim-requires c κs = search needs
 returns : tie.Need-returns
 returns c =
     let a = c .before .before .before .before .args in
-    c .pick-victim .ensures ∙ ap (victim (a .s .config .policy)) (c .before .candidates .ensures)
+    c .pick-victim .ensures ∙ ap (victim (a .s .config .policy) (a .rank)) (c .before .candidates .ensures)
 
 pub bus-victim-spec : {M : Type 1} → statement M
 bus-victim-spec = tie.close (tie.spec candidates-requires pick-victim-requires returns)

@@ -26,13 +26,13 @@ returns c =
     let v = getD (voicesIn (a .voices .now)) (next .result .row) (voiceOf []) in
     λ m.
     let old = modelOf (lentSpawn (a .s) (a .nodes .now) (a .edges .now) (a .voices .now) (a .steals .now) m) in
-    tries-one (a .bus) old (next .result) (voicesIn (a .voices .now)) (next .ensures .is) (c .before .before .before .before .before .before .before .before .if1 .taken) _ (c .cut-voice .ensures m ∙ ap (λ k. cutOff v k old) (c .before .before .before .before .before .state-at .ensures))
+    tries-one (a .bus) (a .rank) old (next .result) (voicesIn (a .voices .now)) (next .ensures .is) (c .before .before .before .before .before .before .before .before .if1 .taken) _ (c .cut-voice .ensures m ∙ ap (λ k. cutOff v k old) (c .before .before .before .before .before .state-at .ensures))
 
 returns-2 : tie.Need-returns-2
 returns-2 c =
     let a = c .before .before .before .before .args in
     let next = c .before .next-out in
-    λ m. tries-none (a .bus) (modelOf (lentSpawn (a .s) (a .nodes .now) (a .edges .now) (a .voices .now) (a .steals .now) m)) (next .result) (voicesIn (a .voices .now)) (next .ensures .is) (c .if1 .left)
+    λ m. tries-none (a .bus) (a .rank) (modelOf (lentSpawn (a .s) (a .nodes .now) (a .edges .now) (a .voices .now) (a .steals .now) m)) (next .result) (voicesIn (a .voices .now)) (next .ensures .is) (c .if1 .left)
 
 pub remove-next-spec : {M : Type 1} → statement M
 remove-next-spec =

@@ -65,7 +65,7 @@ loop-again c =
     let s = l .before .before .before .before in
     let i = l .loop .i in
     let rows = voicesIn (s .args .t .now) in
-    let within : i < length rows = omega (arith, rows-long 142 voiceOf (s .args .t .now), l .before .at-most .ensures, c .before .before .before .before .loop-test .taken) in
+    let within : i < length rows = omega (arith, rows-long 143 voiceOf (s .args .t .now), l .before .at-most .ensures, c .before .before .before .before .loop-test .taken) in
     let more : 70 * i + 70 ≤ 70 * (i + 1) = omega arith in
     (search needs, widened more (lines-more (s .args .clock) (portNow (take (s .args .wired) (edgesIn (s .args .edges .now)))) i rows (voiceOf []) within) (then (l .loop .inv .1) (c .before .before .put-line .ensures)))
 
@@ -86,7 +86,7 @@ returns c =
     let all : l .loop .i ≡ n .result = omega arith in
     let few : 70 * l .loop .i ≤ 4480 = omega arith in
     let port = portNow (take (s .args .wired) (edgesIn (s .args .edges .now))) in
-    widened few (ap (λ k. lines (s .args .clock) port (take k (voicesIn (s .args .t .now)))) all ∙ ap (lines (s .args .clock) port) (take-count 142 voiceOf (s .args .t .now) (s .args .count) (n .result) (n .ensures))) (l .loop .inv .1)
+    widened few (ap (λ k. lines (s .args .clock) port (take k (voicesIn (s .args .t .now)))) all ∙ ap (lines (s .args .clock) port) (take-count 143 voiceOf (s .args .t .now) (s .args .count) (n .result) (n .ensures))) (l .loop .inv .1)
 
 pub put-lines-spec : {M : Type 1} → statement M
 put-lines-spec =

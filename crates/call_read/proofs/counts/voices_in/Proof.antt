@@ -10,7 +10,7 @@ at-most-requires c κs = search needs
 returns : tie.Need-returns
 returns c =
     let a = c .before .before .args in
-    holds-count 142 voiceOf (a .t .now) (a .count) (c .at-most .result) (c .at-most .ensures)
+    holds-count 143 voiceOf (a .t .now) (a .count) (c .at-most .result) (c .at-most .ensures)
 
 pub voices-in-spec : {M : Type 1} → statement M
 voices-in-spec = tie.close (tie.spec at-most-requires returns)

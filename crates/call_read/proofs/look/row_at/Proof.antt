@@ -14,7 +14,7 @@ returns : tie.Need-returns
 returns c =
     let a = c .before .before .before .args in
     let n = c .before .at-most in
-    at-place 142 voiceOf (a .t .now) (a .count) (n .result) (a .i) (c .voice-at .result) (n .ensures) (c .voice-at .ensures)
+    at-place 143 voiceOf (a .t .now) (a .count) (n .result) (a .i) (c .voice-at .result) (n .ensures) (c .voice-at .ensures)
 
 pub row-at-spec : {M : Type 1} → statement M
 row-at-spec = tie.close (tie.spec at-most-requires voice-at-requires returns)

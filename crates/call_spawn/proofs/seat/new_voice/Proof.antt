@@ -27,8 +27,8 @@ cast-count c = search needs
 done-plan-requires : tie.Need-done-plan-requires
 done-plan-requires c κs = search needs
 
-cast-t15 : tie.Need-cast-t15
-cast-t15 c = search needs
+cast-t16 : tie.Need-cast-t16
+cast-t16 c = search needs
 
 id-after-requires : tie.Need-id-after-requires
 id-after-requires c κs = search needs
@@ -36,8 +36,8 @@ id-after-requires c κs = search needs
 pans-requires : tie.Need-pans-requires
 pans-requires c κs = search needs
 
-add-t16 : tie.Need-add-t16
-add-t16 c = search needs
+add-t17 : tie.Need-add-t17
+add-t17 c = search needs
 
 returns : tie.Need-returns
 returns c =
@@ -49,7 +49,7 @@ returns c =
     let out : a .def .output < n = allowed-within (a .def) (s .pre .within) .output in
     let id-fits = s .pre .ids in
     let reach : min (a .s .next + a .def .output) 4294967295 ≡ a .s .next + a .def .output = omega arith in
-    λ m. made-same (sharedOf (lentState (a .s) m)) (a .def) (a .state) (a .bus) (a .port) (c .before .before .before .before .before .before .at-most .result) n (c .before .before .id-after .result) (id (a .s .next + a .def .output)) (c .before .before .before .before .done-plan .result) (planOf (a .def)) (c .before .pans .result) (pans (a .pan))
+    λ m. made-same (sharedOf (lentState (a .s) m)) (a .def) (a .rank) (a .state) (a .bus) (a .port) (c .before .before .before .before .before .before .at-most .result) n (c .before .before .id-after .result) (id (a .s .next + a .def .output)) (c .before .before .before .before .done-plan .result) (planOf (a .def)) (c .before .pans .result) (pans (a .pan))
     small (c .before .before .id-after .ensures ∙ ap id reach) (c .before .before .before .before .done-plan .ensures) (c .before .pans .ensures)
 
 pub new-voice-spec : {M : Type 1} → statement M
@@ -59,8 +59,8 @@ new-voice-spec =
     at-most-requires
     cast-count
     done-plan-requires
-    cast-t15
+    cast-t16
     id-after-requires
     pans-requires
-    add-t16
+    add-t17
     returns)

@@ -48,7 +48,7 @@ returns : tie.Need-returns
 returns c =
     let s = c .before .before .before .before .before .before .before .before .before .before .before .before in
     let a = s .args in
-    let x = spawnOf (a .def) (a .bus) (a .pan) in
+    let x = spawnOf (a .def) (a .bus) (a .pan) (a .rank) in
     let grown = c .before .before .before .before .before .before .add-voice in
     let seat = c .before .before .before .before .push-voice in
     let left = c .with-numbers .ensures ∙ ap (λ (k : State). numbered k (a .s .spawned + 1) (c .before .before .next-sequence .result)) (c .before .before .before .with-voices .ensures) in

@@ -24,7 +24,7 @@ seat-voice-requires c κs =
     λ m.
     let old = modelOf (lentSpawn (a .s) (a .nodes .now) (a .edges .now) (a .voices .now) (a .steals .now) m) in
     head-apart (a .def) (room .result .state) (room .last .1 .0) (room .last .1 .1 .0) (room .last .1 .1 .1 .0) (room .last .1 .1 .1 .1 .0) m
-    (subst (Headroom (a .def)) (sym (room .ensures m .is)) (headroom-reclaimed (a .def) (a .bus) (a .fuel) old (c .before .before .before .before .before .before .before .before .before .before .before .before .pre m)))
+    (subst (Headroom (a .def)) (sym (room .ensures m .is)) (headroom-reclaimed (a .def) (a .bus) (a .rank) (a .fuel) old (c .before .before .before .before .before .before .before .before .before .before .before .before .pre m)))
 
 enum-told : tie.Need-enum-told
 enum-told c = search needs
@@ -36,7 +36,7 @@ returns : tie.Need-returns
 returns c =
     let a = c .before .before .before .before .before .before .before .before .before .before .before .before .before .args in
     let room = c .before .before .before .before .before .before .before .before .make-room in
-    let x = spawnOf (a .def) (a .bus) (a .pan) in
+    let x = spawnOf (a .def) (a .bus) (a .pan) (a .rank) in
     λ m.
     let old = lentSpawn (a .s) (a .nodes .now) (a .edges .now) (a .voices .now) (a .steals .now) m in
     let left = lentSpawn (room .result .state) (room .last .1 .0) (room .last .1 .1 .0) (room .last .1 .1 .1 .0) (room .last .1 .1 .1 .1 .0) m in
@@ -46,7 +46,7 @@ returns-2 : tie.Need-returns-2
 returns-2 c =
     let a = c .before .before .before .before .before .before .before .before .before .args in
     let room = c .before .before .before .before .make-room in
-    let x = spawnOf (a .def) (a .bus) (a .pan) in
+    let x = spawnOf (a .def) (a .bus) (a .pan) (a .rank) in
     λ m.
     let old = lentSpawn (a .s) (a .nodes .now) (a .edges .now) (a .voices .now) (a .steals .now) m in
     let left = lentSpawn (room .result .state) (room .last .1 .0) (room .last .1 .1 .0) (room .last .1 .1 .1 .0) (room .last .1 .1 .1 .1 .0) m in

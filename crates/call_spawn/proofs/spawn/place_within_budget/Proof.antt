@@ -22,7 +22,7 @@ place-requires c κs =
 returns : tie.Need-returns
 returns c =
     let a = c .before .before .before .before .before .before .before .before .before .args in
-    let x = spawnOf (a .def) (a .bus) (a .pan) in
+    let x = spawnOf (a .def) (a .bus) (a .pan) (a .rank) in
     λ m.
     let old = modelOf (lentSpawn (a .s) (a .nodes .now) (a .edges .now) (a .voices .now) (a .steals .now) m) in
     c .place .ensures m

@@ -34,16 +34,16 @@ place-requires c κs =
     let a = c .before .before .before .before .before .before .before .before .before .before .args in
     λ m.
     let old = lentSpawn (a .s) (a .nodes .now) (a .edges .now) (a .voices .now) (a .steals .now) m in
-    let passed = answer-done (spawnRefusal (sharedOf old) (modelOf old .voices) (a .def) (a .bus)) (sym (c .before .before .before .before .before .before .spawn-refusal .ensures old) ∙ c .before .before .before .before .enum-told .given .1) in
-    roomy-head (a .def) (modelOf old) (roomy (modelOf old) (a .def) (a .bus) passed)
+    let passed = answer-done (spawnRefusal (sharedOf old) (modelOf old .voices) (a .def) (a .bus) (a .rank)) (sym (c .before .before .before .before .before .before .spawn-refusal .ensures old) ∙ c .before .before .before .before .enum-told .given .1) in
+    roomy-head (a .def) (modelOf old) (roomy (modelOf old) (a .def) (a .bus) (a .rank) passed)
 
 returns : tie.Need-returns
 returns c =
     let a = c .before .before .before .before .before .before .before .before .args in
-    let x = spawnOf (a .def) (a .bus) (a .pan) in (
+    let x = spawnOf (a .def) (a .bus) (a .pan) (a .rank) in (
       λ m.
           let old = lentSpawn (a .s) (a .nodes .now) (a .edges .now) (a .voices .now) (a .steals .now) m in
-          let is = answer-some (spawnRefusal (sharedOf old) (modelOf old .voices) (a .def) (a .bus)) _ (sym (c .before .before .before .before .spawn-refusal .ensures old) ∙ c .before .before .test .given .1) in
+          let is = answer-some (spawnRefusal (sharedOf old) (modelOf old .voices) (a .def) (a .bus) (a .rank)) _ (sym (c .before .before .before .before .spawn-refusal .ensures old) ∙ c .before .before .test .given .1) in
           ap stepOf (refused-in _ (c .refuse .result .answer) old _ (c .refuse .ensures .1) (ap (λ k. lentSpawn k (a .nodes .now) (a .edges .now) (a .voices .now) (a .steals .now) m) (c .refuse .ensures .0)) ∙ loose-not x (modelOf old) _ is),
       λ m e. ap (λ k. lentSpawn k (a .nodes .now) (a .edges .now) (a .voices .now) (a .steals .now) m) (c .refuse .ensures .0),
     )
@@ -51,10 +51,10 @@ returns c =
 returns-2 : tie.Need-returns-2
 returns-2 c =
     let a = c .before .before .before .before .before .before .before .before .before .before .before .args in
-    let x = spawnOf (a .def) (a .bus) (a .pan) in (
+    let x = spawnOf (a .def) (a .bus) (a .pan) (a .rank) in (
       λ m.
           let old = lentSpawn (a .s) (a .nodes .now) (a .edges .now) (a .voices .now) (a .steals .now) m in
-          let passed = answer-done (spawnRefusal (sharedOf old) (modelOf old .voices) (a .def) (a .bus)) (sym (c .before .before .before .before .before .before .before .spawn-refusal .ensures old) ∙ c .before .before .before .before .before .enum-told .given .1) in
+          let passed = answer-done (spawnRefusal (sharedOf old) (modelOf old .voices) (a .def) (a .bus) (a .rank)) (sym (c .before .before .before .before .before .before .before .spawn-refusal .ensures old) ∙ c .before .before .before .before .before .enum-told .given .1) in
           ap stepOf (c .place .ensures m ∙ loose-on x (modelOf old) passed),
       λ m e.
           let old = lentSpawn (a .s) (a .nodes .now) (a .edges .now) (a .voices .now) (a .steals .now) m in

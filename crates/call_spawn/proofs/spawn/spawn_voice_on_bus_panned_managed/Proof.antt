@@ -34,25 +34,25 @@ request-requires c κs =
     let a = c .before .before .before .before .before .before .before .before .before .before .args in
     λ m.
     let old = lentSpawn (a .s) (a .nodes .now) (a .edges .now) (a .voices .now) (a .steals .now) m in
-    let passed = answer-done (spawnRefusal (sharedOf old) (modelOf old .voices) (a .def) (a .bus)) (sym (c .before .before .before .before .before .before .spawn-refusal .ensures old) ∙ c .before .before .before .before .enum-told .given .1) in
-    roomy-fade (a .def) (modelOf old) (roomy (modelOf old) (a .def) (a .bus) passed)
+    let passed = answer-done (spawnRefusal (sharedOf old) (modelOf old .voices) (a .def) (a .bus) (a .rank)) (sym (c .before .before .before .before .before .before .spawn-refusal .ensures old) ∙ c .before .before .before .before .enum-told .given .1) in
+    roomy-fade (a .def) (modelOf old) (roomy (modelOf old) (a .def) (a .bus) (a .rank) passed)
 
 place-within-budget-requires : tie.Need-place-within-budget-requires
 place-within-budget-requires c κs =
     let a = c .before .before .before .before .before .before .before .before .before .before .before .before .before .before .before .before .before .args in
     λ m.
     let old = lentSpawn (a .s) (a .nodes .now) (a .edges .now) (a .voices .now) (a .steals .now) m in
-    let passed = answer-done (spawnRefusal (sharedOf old) (modelOf old .voices) (a .def) (a .bus)) (sym (c .before .before .before .before .before .before .before .before .before .before .before .before .before .spawn-refusal .ensures old) ∙ c .before .before .before .before .before .before .before .before .before .before .before .enum-told .given .1) in
-    c .before .before .before .before .before .before .request .ensures .0 m .room (c .before .before .before .before .if1 .taken) (a .def) (roomy (modelOf old) (a .def) (a .bus) passed)
+    let passed = answer-done (spawnRefusal (sharedOf old) (modelOf old .voices) (a .def) (a .bus) (a .rank)) (sym (c .before .before .before .before .before .before .before .before .before .before .before .before .before .spawn-refusal .ensures old) ∙ c .before .before .before .before .before .before .before .before .before .before .before .enum-told .given .1) in
+    c .before .before .before .before .before .before .request .ensures .0 m .room (c .before .before .before .before .if1 .taken) (a .def) (roomy (modelOf old) (a .def) (a .bus) (a .rank) passed)
 
 returns : tie.Need-returns
 returns c =
     let a = c .before .before .before .before .before .before .before .before .before .before .before .before .before .before .before .before .before .before .args in
-    let x = spawnOf (a .def) (a .bus) (a .pan) in
+    let x = spawnOf (a .def) (a .bus) (a .pan) (a .rank) in
     let met = c .before .before .before .before .before .before .before .request in (
       λ m.
           let old = lentSpawn (a .s) (a .nodes .now) (a .edges .now) (a .voices .now) (a .steals .now) m in
-          let passed = answer-done (spawnRefusal (sharedOf old) (modelOf old .voices) (a .def) (a .bus)) (sym (c .before .before .before .before .before .before .before .before .before .before .before .before .before .before .spawn-refusal .ensures old) ∙ c .before .before .before .before .before .before .before .before .before .before .before .before .enum-told .given .1) in
+          let passed = answer-done (spawnRefusal (sharedOf old) (modelOf old .voices) (a .def) (a .bus) (a .rank)) (sym (c .before .before .before .before .before .before .before .before .before .before .before .before .before .before .spawn-refusal .ensures old) ∙ c .before .before .before .before .before .before .before .before .before .before .before .before .enum-told .given .1) in
           ap stepOf (c .place-within-budget .ensures m ∙ sym (met .ensures .0 m .goes-on (c .before .before .before .before .before .if1 .taken) x) ∙ managed-on x (modelOf old) passed),
       λ m e.
           let left = modelOf (lentSpawn (met .result .state) (met .last .1 .0) (met .last .1 .1 .0) (met .last .1 .1 .1 .0) (met .last .1 .1 .1 .1 .0) m) in
@@ -65,10 +65,10 @@ refuse-requires-2 c κs = search needs
 returns-2 : tie.Need-returns-2
 returns-2 c =
     let a = c .before .before .before .before .before .before .before .before .args in
-    let x = spawnOf (a .def) (a .bus) (a .pan) in (
+    let x = spawnOf (a .def) (a .bus) (a .pan) (a .rank) in (
       λ m.
           let old = lentSpawn (a .s) (a .nodes .now) (a .edges .now) (a .voices .now) (a .steals .now) m in
-          let is = answer-some (spawnRefusal (sharedOf old) (modelOf old .voices) (a .def) (a .bus)) _ (sym (c .before .before .before .before .spawn-refusal .ensures old) ∙ c .before .before .test .given .1) in
+          let is = answer-some (spawnRefusal (sharedOf old) (modelOf old .voices) (a .def) (a .bus) (a .rank)) _ (sym (c .before .before .before .before .spawn-refusal .ensures old) ∙ c .before .before .test .given .1) in
           ap stepOf (refused-in _ (c .refuse .result .answer) old _ (c .refuse .ensures .1) (ap (λ k. lentSpawn k (a .nodes .now) (a .edges .now) (a .voices .now) (a .steals .now) m) (c .refuse .ensures .0)) ∙ managed-not x (modelOf old) _ is),
       λ m e. ap (λ k. lentSpawn k (a .nodes .now) (a .edges .now) (a .voices .now) (a .steals .now) m) (c .refuse .ensures .0),
     )
@@ -76,11 +76,11 @@ returns-2 c =
 returns-3 : tie.Need-returns-3
 returns-3 c =
     let a = c .before .before .before .before .before .before .before .before .before .before .before .before .before .before .args in
-    let x = spawnOf (a .def) (a .bus) (a .pan) in
+    let x = spawnOf (a .def) (a .bus) (a .pan) (a .rank) in
     let met = c .before .before .before .request in (
       λ m.
           let old = lentSpawn (a .s) (a .nodes .now) (a .edges .now) (a .voices .now) (a .steals .now) m in
-          let passed = answer-done (spawnRefusal (sharedOf old) (modelOf old .voices) (a .def) (a .bus)) (sym (c .before .before .before .before .before .before .before .before .before .before .spawn-refusal .ensures old) ∙ c .before .before .before .before .before .before .before .before .enum-told .given .1) in
+          let passed = answer-done (spawnRefusal (sharedOf old) (modelOf old .voices) (a .def) (a .bus) (a .rank)) (sym (c .before .before .before .before .before .before .before .before .before .before .spawn-refusal .ensures old) ∙ c .before .before .before .before .before .before .before .before .enum-told .given .1) in
           let very = ap (λ k. lentSpawn k (met .last .1 .0) (met .last .1 .1 .0) (met .last .1 .1 .1 .0) (met .last .1 .1 .1 .1 .0) m) (c .refuse2 .ensures .0) ∙ met .ensures .1 m (c .before .if1 .left) in
           ap stepOf (refused-in Rejected (c .refuse2 .result .answer) old _ (c .refuse2 .ensures .1) very ∙ sym (ap (λ k. admitted k x (modelOf old)) (met .ensures .0 m .rejects (c .before .if1 .left))) ∙ managed-on x (modelOf old) passed),
       λ m e. ap (λ k. lentSpawn k (met .last .1 .0) (met .last .1 .1 .0) (met .last .1 .1 .1 .0) (met .last .1 .1 .1 .1 .0) m) (c .refuse2 .ensures .0) ∙ met .ensures .1 m (c .before .if1 .left),

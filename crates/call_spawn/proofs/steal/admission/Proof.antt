@@ -13,7 +13,7 @@ request-in-requires c κs = search needs
 returns : tie.Need-returns
 returns c =
     let a = c .before .before .before .before .args in
-    λ m. c .request-in .ensures .0 ∙ ap (admits (a .s .config .budget) (a .s .config .policy)) (c .before .candidates .ensures)
+    λ m. c .request-in .ensures .0 ∙ ap (admits (a .s .config .budget) (a .s .config .policy) (a .rank)) (c .before .candidates .ensures)
 
 pub admission-spec : {M : Type 1} → statement M
 admission-spec = tie.close (tie.spec candidates-requires request-in-requires returns)

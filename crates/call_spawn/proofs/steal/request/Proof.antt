@@ -39,7 +39,7 @@ returns c =
     let found = sym (seen .ensures .is) ∙ ap (λ b. cond b (some v) none) (c .before .before .before .before .before .if1 .taken) in (
       λ m.
           let old = lentSpawn (a .s) (a .nodes .now) (a .edges .now) (a .voices .now) (a .steals .now) m in
-          meets-steal (a .bus) (modelOf old) (c .before .before .before .before .before .before .before .before .before .before .before .before .admission .result) (c .before .before .before .before .before .before .before .before .before .before .before .before .admission .ensures old) _ _ (c .before .before .before .before .before .before .before .before .before .before .a .given .1) v found _ (c .steal-voice .ensures m),
+          meets-steal (a .bus) (a .rank) (modelOf old) (c .before .before .before .before .before .before .before .before .before .before .before .before .admission .result) (c .before .before .before .before .before .before .before .before .before .before .before .before .admission .ensures old) _ _ (c .before .before .before .before .before .before .before .before .before .before .a .given .1) v found _ (c .steal-voice .ensures m),
       λ m t. kept-none (sym t),
     )
 
@@ -48,7 +48,7 @@ returns-2 c =
     let a = c .before .before .before .before .before .args in (
       λ m.
           let old = lentSpawn (a .s) (a .nodes .now) (a .edges .now) (a .voices .now) (a .steals .now) m in
-          meets-admit (a .bus) (modelOf old) (c .before .before .admission .result) (c .before .before .admission .ensures old) (c .enum-told .given .1),
+          meets-admit (a .bus) (a .rank) (modelOf old) (c .before .before .admission .result) (c .before .before .admission .ensures old) (c .enum-told .given .1),
       λ m t. refl,
     )
 
@@ -57,7 +57,7 @@ returns-3 c =
     let a = c .before .before .before .before .before .args in (
       λ m.
           let old = lentSpawn (a .s) (a .nodes .now) (a .edges .now) (a .voices .now) (a .steals .now) m in
-          meets-reject (a .bus) (modelOf old) (c .before .before .admission .result) (c .before .before .admission .ensures old) (c .enum-told2 .given .1),
+          meets-reject (a .bus) (a .rank) (modelOf old) (c .before .before .admission .result) (c .before .before .admission .ensures old) (c .enum-told2 .given .1),
       λ m t. refl,
     )
 
@@ -69,7 +69,7 @@ returns-4 c =
     let lost = sym (seen .ensures .is) ∙ ap (λ b. cond b (some v) none) (c .if1 .left) in (
       λ m.
           let old = lentSpawn (a .s) (a .nodes .now) (a .edges .now) (a .voices .now) (a .steals .now) m in
-          meets-nobody (a .bus) (modelOf old) (c .before .before .before .before .before .before .before .admission .result) (c .before .before .before .before .before .before .before .admission .ensures old) _ _ (c .before .before .before .before .before .a .given .1) lost,
+          meets-nobody (a .bus) (a .rank) (modelOf old) (c .before .before .before .before .before .before .before .admission .result) (c .before .before .before .before .before .before .before .admission .ensures old) _ _ (c .before .before .before .before .before .a .given .1) lost,
       λ m t. refl,
     )
 

@@ -1,14 +1,13 @@
 use Prim.Native.Nat.{_≤_, _<_, _-_}
+use native.Mathlib.Omega.{arith}
 use mathlib.Core.Path.{_≡_, refl, sym, ap, _∙_}
 use mathlib.Core.List.{_++_}
 use mathlib.Core.Bool.{true}
-use native.Mathlib.Omega.{arith}
-use lib.ListN.{length, take, getD, set}
+use lib.ListN.{length, take, getD, set, replicate}
+use lib.Seq.{take-length}
 use borrow.Author.Needs.{needs, fits-under}
 use borrow.Author.Tests.{not-true, not-false}
-use lib.Seq.{take-length}
 use mir.Syntax.{w8}
-use lib.ListN.{replicate}
 use Rattle.lists.proofs.Table.{filled-more}
 use Rattle.node.specs.Name.{nameLength}
 use Rattle.node.proofs.NameLaws.{name-long}

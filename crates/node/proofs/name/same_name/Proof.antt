@@ -1,11 +1,10 @@
 use Prim.Native.Nat.{ℕ, _≤_}
+use native.Mathlib.Omega.{arith}
 use mathlib.Core.Path.{_≡_, sym, _∙_}
 use mathlib.Core.Bool.{true}
-use native.Mathlib.Omega.{arith}
-use lib.ListN.{length}
+use lib.ListN.{length, length-take}
 use borrow.Author.Needs.{needs, length-unmapped}
 use borrow.Author.Tests.{not-true, not-false}
-use lib.ListN.{length-take}
 use Rattle.node.specs.Name.{named}
 use Rattle.node.proofs.NameLaws.{name-long, same-is}
 use Rattle.node.proofs.name.same_name.Statement.{statement}

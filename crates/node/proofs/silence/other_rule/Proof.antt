@@ -1,13 +1,13 @@
 use Prim.Native.Nat.{_≤_, _<_, _-_}
-use mathlib.Core.Path.{_≡_, refl, sym, ap, _∙_}
 use native.Mathlib.Omega.{arith}
+use mathlib.Core.Path.{_≡_, refl, sym, ap, _∙_}
 use lib.ListN.{drop}
 use borrow.Author.Needs.{needs}
+use Rattle.lists.proofs.Table.{lookup-hit, lookup-next}
 use Rattle.node.specs.Name.{sameName}
 use Rattle.node.specs.declared.silence.KindRule.{KindRule}
 use Rattle.node.specs.declared.silence.SilenceRule.the-variants.{Own}
 use Rattle.node.specs.Silence.{ruleIn, rules}
-use Rattle.lists.proofs.Table.{lookup-hit, lookup-next}
 use Rattle.node.proofs.silence.other_rule.Statement.{statement}
 use Rattle.node.proofs.silence.other_rule.Tie as tie
 

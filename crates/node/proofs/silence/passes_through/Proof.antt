@@ -1,13 +1,13 @@
 use Prim.Native.Nat.{_≤_, _<_, _-_}
+use native.Mathlib.Omega.{arith}
 use mathlib.Core.Path.{_≡_, refl, sym, ap, _∙_}
 use mathlib.Core.Bool.{true, false}
-use native.Mathlib.Omega.{arith}
 use lib.ListN.{drop}
 use borrow.Author.Needs.{needs}
+use Rattle.lists.proofs.Table.{lookup-hit, lookup-next}
 use Rattle.node.specs.Name.{sameName}
 use Rattle.node.specs.declared.name.Name.{Name}
 use Rattle.node.specs.Silence.{isAmong, silencePassThrough}
-use Rattle.lists.proofs.Table.{lookup-hit, lookup-next}
 use Rattle.node.proofs.silence.passes_through.Statement.{statement}
 use Rattle.node.proofs.silence.passes_through.Tie as tie
 

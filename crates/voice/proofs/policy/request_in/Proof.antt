@@ -11,7 +11,7 @@ use Rattle.voice.proofs.policy.request_in.Tie as tie
 -- how many candidates there are
 held : (c : tie.Start) → length (candidatesOf (c .args .t)) ≡ min (c .args .t .count) 64
 held c =
-    let long : length (c .args .t .rows) ≡ 64 = simp length-map at (c .good .1 .1 .0 .1 .1 .0 .1 .0 .1) in
+    let long : length (c .args .t .rows) ≡ 64 = simp length-map at (c .good .1 .1 .1 .0 .1 .1 .0 .1 .0 .1) in
     simp length-take (omega arith)
 
 enum-known-budget : tie.Need-enum-known-budget
@@ -32,7 +32,7 @@ returns-2 c =
     let h = held s in
     let n = c .before .at-most-64 .ensures in
     let less : length (candidatesOf (s .args .t)) < c .before .before .before .budget .given .0 .0 = omega arith in
-    below-budget (s .args .budget) (s .args .policy) (candidatesOf (s .args .t)) _ (c .before .before .before .budget .given .1) less
+    below-budget (s .args .budget) (s .args .policy) (s .args .rank) (candidatesOf (s .args .t)) _ (c .before .before .before .budget .given .1) less
 
 pick-victim-requires : tie.Need-pick-victim-requires
 pick-victim-requires c κs = search needs
@@ -50,7 +50,7 @@ returns-3 c =
     let h = held s in
     let n = c .before .before .before .before .at-most-64 .ensures in
     let full : c .before .before .before .before .before .before .budget .given .0 .0 ≤ length l = omega (arith, c .before .before .before .if1 .left) in
-    at-budget (s .args .budget) (s .args .policy) l _ (c .before .before .before .before .before .before .budget .given .1) _ full (sym (c .before .before .pick-victim .ensures) ∙ c .enum-told2 .given .1)
+    at-budget (s .args .budget) (s .args .policy) (s .args .rank) l _ (c .before .before .before .before .before .before .budget .given .1) _ full (sym (c .before .before .pick-victim .ensures) ∙ c .enum-told2 .given .1)
 
 returns-4 : tie.Need-returns-4
 returns-4 c =
@@ -59,7 +59,7 @@ returns-4 c =
     let h = held s in
     let n = c .before .before .before .before .before .at-most-64 .ensures in
     let full : c .before .before .before .before .before .before .before .budget .given .0 .0 ≤ length l = omega (arith, c .before .before .before .before .if1 .left) in
-    at-budget (s .args .budget) (s .args .policy) l _ (c .before .before .before .before .before .before .before .budget .given .1) _ full (sym (c .before .before .before .pick-victim .ensures) ∙ c .before .v .given .1)
+    at-budget (s .args .budget) (s .args .policy) (s .args .rank) l _ (c .before .before .before .before .before .before .before .budget .given .1) _ full (sym (c .before .before .before .pick-victim .ensures) ∙ c .before .v .given .1)
 
 pub request-in-spec : {M : Type 1} → statement M
 request-in-spec =

@@ -18,7 +18,7 @@ abbrev number : VoiceId → ℕ
 number v = v .0
 
 abbrev Inv-loop : tie.InvT-loop
-Inv-loop t₀ count w f n i₀ t i = ChangingIn 142 voiceOf (beginFade w f) t₀ t n i
+Inv-loop t₀ count w f n i₀ t i = ChangingIn 143 voiceOf (beginFade w f) t₀ t n i
 
 abbrev μ-loop : tie.MeasureT-loop
 μ-loop t₀ count w f n i₀ t i = n - i
@@ -27,7 +27,7 @@ at-most-requires : tie.Need-at-most-requires Inv-loop μ-loop
 at-most-requires c κs = search needs
 
 loop-holds : tie.Need-loop-holds Inv-loop μ-loop
-loop-holds c = let s = c .before .before .args in change-start 142 voiceOf (beginFade (s .w) (s .f)) (s .t .now) (c .at-most .result)
+loop-holds c = let s = c .before .before .args in change-start 143 voiceOf (beginFade (s .w) (s .f)) (s .t .now) (c .at-most .result)
 
 id-at-requires : tie.Need-id-at-requires Inv-loop μ-loop
 id-at-requires c κs = search needs
@@ -46,10 +46,10 @@ loop-again c =
     let s = c .before .before .before .before .before .before .before .before .before .before .before .before .before .args in
     let l = c .before .before .before .before .before .before .before .before .before .before .loop in
     let n = c .before .before .before .before .before .before .before .before .before .before .before .at-most .result in
-    let fits : n ≤ length (s .t .now) / 142 = omega (arith, c .before .before .before .before .before .before .before .before .before .before .before .at-most .ensures) in
+    let fits : n ≤ length (s .t .now) / 143 = omega (arith, c .before .before .before .before .before .before .before .before .before .before .before .at-most .ensures) in
     let x = getD (voicesIn (l .t)) (l .i) (voiceOf []) in
     let test = eq-eqb (x .id .0) (s .w .0) (sym (ap number (c .before .before .before .before .before .before .before .id-at .ensures)) ∙ c .before .before .before .before .if1 .taken) in
-    change-row 142 voiceOf (beginFade (s .w) (s .f)) (s .t .now) (l .t) n (l .i) fits (c .before .before .before .before .before .before .before .before .before .loop-test .taken) (l .inv) (c .before .before .put-state .last .0) (c .before .t .given)
+    change-row 143 voiceOf (beginFade (s .w) (s .f)) (s .t .now) (l .t) n (l .i) fits (c .before .before .before .before .before .before .before .before .before .loop-test .taken) (l .inv) (c .before .before .put-state .last .0) (c .before .t .given)
     (c .before .before .put-state .ensures ∙ sym (ap (λ b. set (voicesIn (l .t)) (l .i) (cond b (withState (Fading (s .f)) x) x)) test))
 
 add-i-2 : tie.Need-add-i-2 Inv-loop μ-loop
@@ -63,10 +63,10 @@ loop-again-2 c =
     let s = c .before .before .before .before .before .before .before .before .before .args in
     let l = c .before .before .before .before .before .before .loop in
     let n = c .before .before .before .before .before .before .before .at-most .result in
-    let fits : n ≤ length (s .t .now) / 142 = omega (arith, c .before .before .before .before .before .before .before .at-most .ensures) in
+    let fits : n ≤ length (s .t .now) / 143 = omega (arith, c .before .before .before .before .before .before .before .at-most .ensures) in
     let x = getD (voicesIn (l .t)) (l .i) (voiceOf []) in
     let test = ne-eqb (x .id .0) (s .w .0) (λ q. c .if1 .left (ap number (c .before .before .before .id-at .ensures) ∙ q)) in
-    change-none 142 voiceOf (beginFade (s .w) (s .f)) (s .t .now) (l .t) n (l .i) fits (c .before .before .before .before .before .loop-test .taken) (l .inv) (ap (λ b. cond b (withState (Fading (s .f)) x) x) test)
+    change-none 143 voiceOf (beginFade (s .w) (s .f)) (s .t .now) (l .t) n (l .i) fits (c .before .before .before .before .before .loop-test .taken) (l .inv) (ap (λ b. cond b (withState (Fading (s .f)) x) x) test)
 
 same-length : tie.Need-same-length Inv-loop μ-loop
 same-length c = search needs
@@ -75,7 +75,7 @@ returns : tie.Need-returns Inv-loop μ-loop
 returns c =
     let s = c .before .before .before .before .args in
     let l = c .before .loop in
-    change-done 142 voiceOf (beginFade (s .w) (s .f)) (s .t .now) (l .t) (s .count) (c .before .before .at-most .result) (l .i) (c .before .before .at-most .ensures) (c .loop-test .left) (l .inv)
+    change-done 143 voiceOf (beginFade (s .w) (s .f)) (s .t .now) (l .t) (s .count) (c .before .before .at-most .result) (l .i) (c .before .before .at-most .ensures) (c .loop-test .left) (l .inv)
 
 pub begin-fade-spec : {M : Type 1} → statement M
 begin-fade-spec =

@@ -56,7 +56,7 @@ loop-again c =
     let n = c .before .before .before .at-most .result in
     let q = fadesOn (s .bus) in
     let v = getD vs (l .i - 1) (voiceOf []) in
-    let top : n ≤ length vs = omega (arith, c .before .before .before .at-most .ensures, rows-long 142 voiceOf (s .t .now)) in
+    let top : n ≤ length vs = omega (arith, c .before .before .before .at-most .ensures, rows-long 143 voiceOf (s .t .now)) in
     let below : l .i - 1 < n = omega (arith, l .inv .0, c .before .loop-test .taken) in
     let back : l .i - 1 + 1 ≡ l .i = omega (arith, c .before .loop-test .taken) in (
       omega (arith, l .inv .0),
@@ -73,9 +73,9 @@ returns c =
     let l = c .before .loop in
     let n = c .before .before .at-most .result in
     let none-left : l .i ≡ 0 = omega (arith, c .loop-test .left) in
-    let size : length (take (s .count) vs) ≡ min (s .count) (length (s .t .now) / 142) = length-take (s .count) vs ∙ ap (min (s .count)) (rows-long 142 voiceOf (s .t .now)) in
+    let size : length (take (s .count) vs) ≡ min (s .count) (length (s .t .now) / 143) = length-take (s .count) vs ∙ ap (min (s .count)) (rows-long 143 voiceOf (s .t .now)) in
     record {
-      is = l .inv .1 ∙ ap (λ k. earliest (fadesOn (s .bus)) (drop k (take n vs))) none-left ∙ ap (earliest (fadesOn (s .bus))) (take-count 142 voiceOf (s .t .now) (s .count) n (c .before .before .at-most .ensures));
+      is = l .inv .1 ∙ ap (λ k. earliest (fadesOn (s .bus)) (drop k (take n vs))) none-left ∙ ap (earliest (fadesOn (s .bus))) (take-count 143 voiceOf (s .t .now) (s .count) n (c .before .before .at-most .ensures));
       within = λ p. omega (arith, size, c .before .before .at-most .ensures, l .inv .2 p);
     }
 

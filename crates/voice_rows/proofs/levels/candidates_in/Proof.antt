@@ -15,8 +15,8 @@ use Rattle.voice_rows.specs.Rows.{voiceOf, voicesIn}
 use Rattle.voice_rows.proofs.levels.candidates_in.Statement.{statement}
 use Rattle.voice_rows.proofs.levels.candidates_in.Tie as tie
 
-room : (t : List ℕ) → length t ≡ 9088 → length (voicesIn t) ≡ 64
-room t h = rows-long 142 voiceOf t ∙ ap (λ k. k / 142) h
+room : (t : List ℕ) → length t ≡ 9152 → length (voicesIn t) ≡ 64
+room t h = rows-long 143 voiceOf t ∙ ap (λ k. k / 143) h
 
 abbrev Inv-loop : tie.InvT-loop
 Inv-loop t count nodes n clock scope bus m out₀ kept₀ i₀ out kept i =
@@ -100,11 +100,11 @@ returns c =
     let m = c .before .before .before .at-most .result in
     let over : at .i ≡ m = omega (arith, at .inv .0, c .loop-test .left) in
     let small : min (at .kept) 64 ≡ at .kept = omega (arith, at .inv .1, at .inv .0, c .before .before .before .at-most .ensures) in
-    let e : m ≡ min (a .count) (length t / 142) = c .before .before .before .at-most .ensures ∙ ap (min (a .count)) (sym (ap (λ k. k / 142) (s .pre))) in
+    let e : m ≡ min (a .count) (length t / 143) = c .before .before .before .at-most .ensures ∙ ap (min (a .count)) (sym (ap (λ k. k / 143) (s .pre))) in
     ap (λ k. take k (at .out .rows)) small
     ∙ at .inv .3
     ∙ ap (λ k. candidatesAt (take (a .n) (nodesIn (a .nodes .now))) (a .clock) (counted (a .scope) (a .bus)) (take k (voicesIn t))) over
-    ∙ ap (candidatesAt (take (a .n) (nodesIn (a .nodes .now))) (a .clock) (counted (a .scope) (a .bus))) (take-count 142 voiceOf t (a .count) m e)
+    ∙ ap (candidatesAt (take (a .n) (nodesIn (a .nodes .now))) (a .clock) (counted (a .scope) (a .bus))) (take-count 143 voiceOf t (a .count) m e)
 
 pub candidates-in-spec : {M : Type 1} → statement M
 candidates-in-spec =

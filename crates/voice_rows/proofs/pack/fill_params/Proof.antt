@@ -11,7 +11,7 @@ use Rattle.voice_rows.proofs.pack.fill_params.Statement.{statement}
 use Rattle.voice_rows.proofs.pack.fill_params.Tie as tie
 
 abbrev Inv-loop : tie.InvT-loop
-Inv-loop t₀ p k₀ t k = Filling 22 6 8 paramAt noParam t₀ t (p .rows) k
+Inv-loop t₀ p k₀ t k = Filling 23 6 8 paramAt noParam t₀ t (p .rows) k
 
 abbrev μ-loop : tie.MeasureT-loop
 μ-loop t₀ p k₀ t k = 8 - k
@@ -20,7 +20,7 @@ rows-long : (c : tie.Start Inv-loop μ-loop) → length (c .args .t2 .rows) ≡ 
 rows-long c = simp length-map at (c .good .1 .0 .1 .1 .0 .1 .0 .1)
 
 loop-holds : tie.Need-loop-holds Inv-loop μ-loop
-loop-holds c = let s = c .before .args in fill-start 22 6 8 paramAt noParam (s .t .now) (s .t2 .rows)
+loop-holds c = let s = c .before .args in fill-start 23 6 8 paramAt noParam (s .t .now) (s .t2 .rows)
 
 mul-x : tie.Need-mul-x Inv-loop μ-loop
 mul-x c = search needs
@@ -55,9 +55,9 @@ loop-again c =
     let l = c .before .before .before .before .before .before .before .before .loop in
     let ws = c .before .before .before .before .before .param-words in
     let less = c .before .before .before .before .before .before .before .loop-test .taken in
-    let room : 22 + 8 * 6 ≤ length (s .args .t .now) = omega (arith, s .pre) in
+    let room : 23 + 8 * 6 ≤ length (s .args .t .now) = omega (arith, s .pre) in
     let inside : l .k < length (s .args .t2 .rows) = omega (arith, less, rows-long s) in
-    fill-more 22 6 8 paramAt noParam (s .args .t .now) (s .args .t2 .rows) (l .t) (l .k) less room (l .inv) (ws .result) (c .before .before .put-words .last .0) (ws .ensures .long) param-local
+    fill-more 23 6 8 paramAt noParam (s .args .t .now) (s .args .t2 .rows) (l .t) (l .k) less room (l .inv) (ws .result) (c .before .before .put-words .last .0) (ws .ensures .long) param-local
     (ws .ensures .back ∙ any-default (s .args .t2 .rows) (l .k) _ noParam inside) (c .before .before .put-words .ensures)
 
 same-length : tie.Need-same-length Inv-loop μ-loop
@@ -67,7 +67,7 @@ returns : tie.Need-returns Inv-loop μ-loop
 returns c =
     let s = c .before .before .before in
     let l = c .before .loop in
-    fill-done 22 6 8 paramAt noParam (s .args .t .now) (s .args .t2 .rows) (l .t) (l .k) (c .loop-test .left) (rows-long s) (l .inv)
+    fill-done 23 6 8 paramAt noParam (s .args .t .now) (s .args .t2 .rows) (l .t) (l .k) (c .loop-test .left) (rows-long s) (l .inv)
 
 pub fill-params-spec : {M : Type 1} → statement M
 fill-params-spec =

@@ -11,7 +11,7 @@ use Rattle.voice_rows.proofs.pack.fill_steps.Statement.{statement}
 use Rattle.voice_rows.proofs.pack.fill_steps.Tie as tie
 
 abbrev Inv-loop : tie.InvT-loop
-Inv-loop t₀ p k₀ t k = Filling 70 3 24 stepAt noStep t₀ t (p .steps) k
+Inv-loop t₀ p k₀ t k = Filling 71 3 24 stepAt noStep t₀ t (p .steps) k
 
 abbrev μ-loop : tie.MeasureT-loop
 μ-loop t₀ p k₀ t k = 24 - k
@@ -20,7 +20,7 @@ rows-long : (c : tie.Start Inv-loop μ-loop) → length (c .args .t2 .steps) ≡
 rows-long c = simp length-map at (c .good .1 .0 .1 .1 .0 .1 .0 .1)
 
 loop-holds : tie.Need-loop-holds Inv-loop μ-loop
-loop-holds c = let s = c .before .args in fill-start 70 3 24 stepAt noStep (s .t .now) (s .t2 .steps)
+loop-holds c = let s = c .before .args in fill-start 71 3 24 stepAt noStep (s .t .now) (s .t2 .steps)
 
 mul-x : tie.Need-mul-x Inv-loop μ-loop
 mul-x c = search needs
@@ -55,9 +55,9 @@ loop-again c =
     let l = c .before .before .before .before .before .before .before .before .loop in
     let ws = c .before .before .before .before .before .step-words in
     let less = c .before .before .before .before .before .before .before .loop-test .taken in
-    let room : 70 + 24 * 3 ≤ length (s .args .t .now) = omega (arith, s .pre) in
+    let room : 71 + 24 * 3 ≤ length (s .args .t .now) = omega (arith, s .pre) in
     let inside : l .k < length (s .args .t2 .steps) = omega (arith, less, rows-long s) in
-    fill-more 70 3 24 stepAt noStep (s .args .t .now) (s .args .t2 .steps) (l .t) (l .k) less room (l .inv) (ws .result) (c .before .before .put-words .last .0) (ws .ensures .long) step-local
+    fill-more 71 3 24 stepAt noStep (s .args .t .now) (s .args .t2 .steps) (l .t) (l .k) less room (l .inv) (ws .result) (c .before .before .put-words .last .0) (ws .ensures .long) step-local
     (ws .ensures .back ∙ any-default (s .args .t2 .steps) (l .k) _ noStep inside) (c .before .before .put-words .ensures)
 
 same-length : tie.Need-same-length Inv-loop μ-loop
@@ -67,7 +67,7 @@ returns : tie.Need-returns Inv-loop μ-loop
 returns c =
     let s = c .before .before .before in
     let l = c .before .loop in
-    fill-done 70 3 24 stepAt noStep (s .args .t .now) (s .args .t2 .steps) (l .t) (l .k) (c .loop-test .left) (rows-long s) (l .inv)
+    fill-done 71 3 24 stepAt noStep (s .args .t .now) (s .args .t2 .steps) (l .t) (l .k) (c .loop-test .left) (rows-long s) (l .inv)
 
 pub fill-steps-spec : {M : Type 1} → statement M
 fill-steps-spec =

@@ -74,7 +74,7 @@ returns c =
     record {
       long = refl;
       back =
-          voice-same _ v (ap voice id) birth refl refl refl refl refl (c .before .before .before .flag-word .ensures) refl (c .before .before .before .before .before .before .before .before .before .before .state-words .ensures .back)
+          voice-same _ v (ap voice id) birth refl refl refl refl refl (c .before .before .before .flag-word .ensures) refl refl (c .before .before .before .before .before .before .before .before .before .before .state-words .ensures .back)
           (ap (λ (n : ℕ). record { rows = v .params .rows; count = n }) held)
           (ap (λ (n : ℕ). record { steps = v .plan .steps; output = n }) output);
     }

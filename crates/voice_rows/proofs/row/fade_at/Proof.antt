@@ -19,7 +19,7 @@ long-at-requires-3 : tie.Need-long-at-requires-3
 long-at-requires-3 c κs = search needs
 
 returns : tie.Need-returns
-returns c = let s = c .before .before .before .before .before .args in fade-same _ (fadeAt (rowAt 142 (s .i) (s .t .now)) 11) (ap node (c .before .before .before .word-at .ensures)) (c .before .before .long-at .ensures) (c .before .long-at2 .ensures) (c .long-at3 .ensures)
+returns c = let s = c .before .before .before .before .before .args in fade-same _ (fadeAt (rowAt 143 (s .i) (s .t .now)) 11) (ap node (c .before .before .before .word-at .ensures)) (c .before .before .long-at .ensures) (c .before .long-at2 .ensures) (c .long-at3 .ensures)
 
 pub fade-at-spec : {M : Type 1} → statement M
 fade-at-spec =

@@ -31,7 +31,7 @@ byte-requires c κs = search needs
 returns : tie.Need-returns
 returns c =
     let s = c .before .before .before .before .args in
-    param-same _ (paramAt (rowAt 142 (s .i) (s .t .now)) (22 + s .k * 6)) (c .before .before .name-at .ensures) (c .byte .ensures ∙ ap (λ x. x % 256) (c .before .word-at .ensures))
+    param-same _ (paramAt (rowAt 143 (s .i) (s .t .now)) (23 + s .k * 6)) (c .before .before .name-at .ensures) (c .byte .ensures ∙ ap (λ x. x % 256) (c .before .word-at .ensures))
 
 pub param-at-spec : {M : Type 1} → statement M
 param-at-spec =

@@ -12,7 +12,7 @@ use Rattle.voice_rows.proofs.row.params_at.Statement.{statement}
 use Rattle.voice_rows.proofs.row.params_at.Tie as tie
 
 abbrev Inv-loop : tie.InvT-loop
-Inv-loop t i rows₀ k₀ rows k = Copying 8 (paramsIn (rowAt 142 i t)) rows k
+Inv-loop t i rows₀ k₀ rows k = Copying 8 (paramsIn (rowAt 143 i t)) rows k
 
 abbrev μ-loop : tie.MeasureT-loop
 μ-loop t i rows₀ k₀ rows k = 8 - k
@@ -23,8 +23,8 @@ param-at-requires c κs = search needs
 loop-holds : tie.Need-loop-holds Inv-loop μ-loop
 loop-holds c =
     let s = c .before .before .args in
-    let r = rowAt 142 (s .i) (s .t .now) in
-    copy-start noParam 8 (paramsIn r) _ (each-long (λ k. paramAt r (22 + k * 6)) 0 8) refl
+    let r = rowAt 143 (s .i) (s .t .now) in
+    copy-start noParam 8 (paramsIn r) _ (each-long (λ k. paramAt r (23 + k * 6)) 0 8) refl
 
 param-at-requires-2 : tie.Need-param-at-requires-2 Inv-loop μ-loop
 param-at-requires-2 c κs = search needs
@@ -45,9 +45,9 @@ loop-again : tie.Need-loop-again Inv-loop μ-loop
 loop-again c =
     let s = c .before .before .before .before .before .args in
     let l = c .before .before .loop in
-    let r = rowAt 142 (s .i) (s .t .now) in
+    let r = rowAt 143 (s .i) (s .t .now) in
     let less = c .before .loop-test .taken in
-    copy-more noParam 8 (paramsIn r) (l .rows) (l .k) (c .param-at2 .result) less (c .param-at2 .ensures ∙ sym (each-at (λ k. paramAt r (22 + k * 6)) 8 (l .k) noParam less)) (l .inv)
+    copy-more noParam 8 (paramsIn r) (l .rows) (l .k) (c .param-at2 .result) less (c .param-at2 .ensures ∙ sym (each-at (λ k. paramAt r (23 + k * 6)) 8 (l .k) noParam less)) (l .inv)
 
 long-at-requires : tie.Need-long-at-requires Inv-loop μ-loop
 long-at-requires c κs = search needs

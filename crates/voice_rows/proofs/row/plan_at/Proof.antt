@@ -12,7 +12,7 @@ use Rattle.voice_rows.proofs.row.plan_at.Statement.{statement}
 use Rattle.voice_rows.proofs.row.plan_at.Tie as tie
 
 abbrev Inv-loop : tie.InvT-loop
-Inv-loop t i steps₀ k₀ steps k = Copying 24 (stepsIn (rowAt 142 i t)) steps k
+Inv-loop t i steps₀ k₀ steps k = Copying 24 (stepsIn (rowAt 143 i t)) steps k
 
 abbrev μ-loop : tie.MeasureT-loop
 μ-loop t i steps₀ k₀ steps k = 24 - k
@@ -23,8 +23,8 @@ step-at-requires c κs = search needs
 loop-holds : tie.Need-loop-holds Inv-loop μ-loop
 loop-holds c =
     let s = c .before .before .args in
-    let r = rowAt 142 (s .i) (s .t .now) in
-    copy-start noStep 24 (stepsIn r) _ (each-long (λ k. stepAt r (70 + k * 3)) 0 24) refl
+    let r = rowAt 143 (s .i) (s .t .now) in
+    copy-start noStep 24 (stepsIn r) _ (each-long (λ k. stepAt r (71 + k * 3)) 0 24) refl
 
 step-at-requires-2 : tie.Need-step-at-requires-2 Inv-loop μ-loop
 step-at-requires-2 c κs = search needs
@@ -45,9 +45,9 @@ loop-again : tie.Need-loop-again Inv-loop μ-loop
 loop-again c =
     let s = c .before .before .before .before .before .args in
     let l = c .before .before .loop in
-    let r = rowAt 142 (s .i) (s .t .now) in
+    let r = rowAt 143 (s .i) (s .t .now) in
     let less = c .before .loop-test .taken in
-    copy-more noStep 24 (stepsIn r) (l .steps) (l .k) (c .step-at2 .result) less (c .step-at2 .ensures ∙ sym (each-at (λ k. stepAt r (70 + k * 3)) 24 (l .k) noStep less)) (l .inv)
+    copy-more noStep 24 (stepsIn r) (l .steps) (l .k) (c .step-at2 .result) less (c .step-at2 .ensures ∙ sym (each-at (λ k. stepAt r (71 + k * 3)) 24 (l .k) noStep less)) (l .inv)
 
 word-at-requires : tie.Need-word-at-requires Inv-loop μ-loop
 word-at-requires c κs = search needs

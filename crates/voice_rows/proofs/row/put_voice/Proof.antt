@@ -23,7 +23,7 @@ returns c =
     let s = c .before .before .before .before .before .before .before .args in
     let ws = c .before .before .before .before .before .voice-words in
     ap voicesIn (c .before .before .put-row .ensures)
-    ∙ put-is 142 voiceOf (s .t .now) (ws .result) (s .i) (ws .ensures .long)
+    ∙ put-is 143 voiceOf (s .t .now) (ws .result) (s .i) (ws .ensures .long)
     ∙ ap (set (voicesIn (s .t .now)) (s .i)) (ws .ensures .back)
 
 pub put-voice-spec : {M : Type 1} → statement M

@@ -55,10 +55,10 @@ byte-requires c κs = search needs
 returns : tie.Need-returns
 returns c =
     let s = c .before .before .before .before .before .before .before .args in
-    let r = rowAt 142 (s .i) (s .t .now) in
+    let r = rowAt 143 (s .i) (s .t .now) in
     let rule = c .before .before .before .word-at3 .ensures in
-    step-same _ (stepAt r (70 + s .k * 3)) (c .before .is-set .ensures ∙ ap (λ x. isSet (x / 256)) rule) (c .byte .ensures ∙ ap (λ x. x % 256) rule)
-    (c .before .before .eight .ensures ∙ ap (λ x. four x ++ four (c .before .before .before .before .word-at2 .result)) (c .before .before .before .before .before .word-at .ensures) ∙ ap (λ x. four (getD r (70 + s .k * 3) 0) ++ four x) (c .before .before .before .before .word-at2 .ensures))
+    step-same _ (stepAt r (71 + s .k * 3)) (c .before .is-set .ensures ∙ ap (λ x. isSet (x / 256)) rule) (c .byte .ensures ∙ ap (λ x. x % 256) rule)
+    (c .before .before .eight .ensures ∙ ap (λ x. four x ++ four (c .before .before .before .before .word-at2 .result)) (c .before .before .before .before .before .word-at .ensures) ∙ ap (λ x. four (getD r (71 + s .k * 3) 0) ++ four x) (c .before .before .before .before .word-at2 .ensures))
 
 pub step-at-spec : {M : Type 1} → statement M
 step-at-spec =

@@ -42,11 +42,14 @@ panned-at-requires c κs = search needs
 sequence-at-requires : tie.Need-sequence-at-requires
 sequence-at-requires c κs = search needs
 
+rank-at-requires : tie.Need-rank-at-requires
+rank-at-requires c κs = search needs
+
 returns : tie.Need-returns
 returns c =
-    let s = c .before .before .before .before .before .before .before .before .before .before .before .before .before .args in
-    voice-same _ (getD (voicesIn (s .t .now)) (s .i) (voiceOf [])) (c .before .before .before .before .before .before .before .before .before .before .before .id-at .ensures) (c .before .before .before .before .birth-at .ensures) (c .before .before .before .before .before .before .before .before .before .before .bus-at .ensures) (c .before .before .before .port-at .ensures) (c .before .before .before .before .before .before .before .before .before .first-at .ensures) (c .before .before .count-at .ensures)
-    (c .before .before .before .before .before .before .before .before .output-at .ensures) (c .before .panned-at .ensures) (c .sequence-at .ensures) (c .before .before .before .before .before .before .before .state-at .ensures) (c .before .before .before .before .before .before .params-at .ensures) (c .before .before .before .before .before .plan-at .ensures)
+    let s = c .before .before .before .before .before .before .before .before .before .before .before .before .before .before .args in
+    voice-same _ (getD (voicesIn (s .t .now)) (s .i) (voiceOf [])) (c .before .before .before .before .before .before .before .before .before .before .before .before .id-at .ensures) (c .before .before .before .before .before .birth-at .ensures) (c .before .before .before .before .before .before .before .before .before .before .before .bus-at .ensures) (c .before .before .before .before .port-at .ensures) (c .before .before .before .before .before .before .before .before .before .before .first-at .ensures) (c .before .before .before .count-at .ensures)
+    (c .before .before .before .before .before .before .before .before .before .output-at .ensures) (c .before .before .panned-at .ensures) (c .before .sequence-at .ensures) (c .rank-at .ensures) (c .before .before .before .before .before .before .before .before .state-at .ensures) (c .before .before .before .before .before .before .before .params-at .ensures) (c .before .before .before .before .before .before .plan-at .ensures)
 
 pub voice-at-spec : {M : Type 1} → statement M
 voice-at-spec =
@@ -64,4 +67,5 @@ voice-at-spec =
     count-at-requires
     panned-at-requires
     sequence-at-requires
+    rank-at-requires
     returns)

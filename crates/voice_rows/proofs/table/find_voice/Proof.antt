@@ -17,7 +17,7 @@ abbrev number : VoiceId → ℕ
 number v = v .0
 
 abbrev Inv-loop : tie.InvT-loop
-Inv-loop t count w n i₀ i = (n ≡ min count (length t / 142)) × SeekingIn 142 voiceOf (isVoice w) t count n i
+Inv-loop t count w n i₀ i = (n ≡ min count (length t / 143)) × SeekingIn 143 voiceOf (isVoice w) t count n i
 
 abbrev μ-loop : tie.MeasureT-loop
 μ-loop t count w n i₀ i = n - i
@@ -26,7 +26,7 @@ at-most-requires : tie.Need-at-most-requires Inv-loop μ-loop
 at-most-requires c κs = search needs
 
 loop-holds : tie.Need-loop-holds Inv-loop μ-loop
-loop-holds c = let s = c .before .before .args in (c .at-most .ensures, seek-start 142 voiceOf (isVoice (s .w)) (s .t .now) (s .count) (c .at-most .result) (c .at-most .ensures))
+loop-holds c = let s = c .before .before .args in (c .at-most .ensures, seek-start 143 voiceOf (isVoice (s .w)) (s .t .now) (s .count) (c .at-most .result) (c .at-most .ensures))
 
 id-at-requires : tie.Need-id-at-requires Inv-loop μ-loop
 id-at-requires c κs = search needs
@@ -37,9 +37,9 @@ returns c =
     let l = c .before .before .before .before .before .loop in
     let n = c .before .before .before .before .before .before .at-most .result in
     let test = eq-eqb _ _ (sym (ap number (c .before .before .before .id-at .ensures)) ∙ c .if1 .taken) in
-    let size : length (take (s .count) (voicesIn (s .t .now))) ≡ min (s .count) (length (s .t .now) / 142) = length-take (s .count) (voicesIn (s .t .now)) ∙ ap (min (s .count)) (rows-long 142 voiceOf (s .t .now)) in
+    let size : length (take (s .count) (voicesIn (s .t .now))) ≡ min (s .count) (length (s .t .now) / 143) = length-take (s .count) (voicesIn (s .t .now)) ∙ ap (min (s .count)) (rows-long 143 voiceOf (s .t .now)) in
     record {
-      is = seek-hit 142 voiceOf (isVoice (s .w)) (s .t .now) (s .count) n (l .inv .0) (l .i) (c .before .before .before .before .loop-test .taken) (l .inv .1) test;
+      is = seek-hit 143 voiceOf (isVoice (s .w)) (s .t .now) (s .count) n (l .inv .0) (l .i) (c .before .before .before .before .loop-test .taken) (l .inv .1) test;
       within = λ p. omega (arith, size, l .inv .0, c .before .before .before .before .loop-test .taken);
     }
 
@@ -54,14 +54,14 @@ loop-again c =
     let s = c .before .before .before .before .before .before .before .before .args in
     let l = c .before .before .before .before .before .loop in
     let test = ne-eqb _ _ (λ q. c .if1 .left (ap number (c .before .before .before .id-at .ensures) ∙ q)) in
-    (l .inv .0, seek-next 142 voiceOf (isVoice (s .w)) (s .t .now) (s .count) (c .before .before .before .before .before .before .at-most .result) (l .inv .0) (l .i) (c .before .before .before .before .loop-test .taken) (l .inv .1) test)
+    (l .inv .0, seek-next 143 voiceOf (isVoice (s .w)) (s .t .now) (s .count) (c .before .before .before .before .before .before .at-most .result) (l .inv .0) (l .i) (c .before .before .before .before .loop-test .taken) (l .inv .1) test)
 
 returns-2 : tie.Need-returns-2 Inv-loop μ-loop
 returns-2 c =
     let s = c .before .before .before .before .args in
     let l = c .before .loop in
     record {
-      is = seek-none 142 voiceOf (isVoice (s .w)) (s .t .now) (s .count) (c .before .before .at-most .result) (l .inv .0) (l .i) (c .loop-test .left) (l .inv .1);
+      is = seek-none 143 voiceOf (isVoice (s .w)) (s .t .now) (s .count) (c .before .before .at-most .result) (l .inv .0) (l .i) (c .loop-test .left) (l .inv .1);
       within = λ p. absurd (false≢true p);
     }
 

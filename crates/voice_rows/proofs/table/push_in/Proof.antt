@@ -12,8 +12,8 @@ use Rattle.voice_rows.specs.Rows.{voiceOf, voicesIn}
 use Rattle.voice_rows.proofs.table.push_in.Statement.{statement}
 use Rattle.voice_rows.proofs.table.push_in.Tie as tie
 
-room : (t : List ℕ) → length t ≡ 9088 → length t / 142 ≡ 64
-room t h = ap (λ k. k / 142) h
+room : (t : List ℕ) → length t ≡ 9152 → length t / 143 ≡ 64
+room t h = ap (λ k. k / 143) h
 
 at-most-requires : tie.Need-at-most-requires
 at-most-requires c κs = search needs
@@ -35,11 +35,11 @@ returns c =
     let l = take (s .args .count) (voicesIn old) in
     let n = c .before .before .before .before .before .at-most .result in
     let r = room old (s .pre) in
-    let e : n ≡ min (s .args .count) (length old / 142) = c .before .before .before .before .before .at-most .ensures ∙ ap (min (s .args .count)) (sym r) in
-    let less : n < length old / 142 = omega (arith, r, c .before .before .before .before .if1 .taken) in
-    let fits : n + 1 ≤ length new / 142 = omega (arith, r, c .before .before .before .before .if1 .taken, ap (λ k. k / 142) (c .before .t .given)) in
-    holds-rows 142 voiceOf new (n + 1) _ fits
-    (words-push 142 voiceOf old new (s .args .count) n (s .args .v) e less (c .before .before .put-voice .ensures) ∙ ap (λ k. cond (ltb (length l) k) (l ++ (s .args .v ∷ [])) l) r)
+    let e : n ≡ min (s .args .count) (length old / 143) = c .before .before .before .before .before .at-most .ensures ∙ ap (min (s .args .count)) (sym r) in
+    let less : n < length old / 143 = omega (arith, r, c .before .before .before .before .if1 .taken) in
+    let fits : n + 1 ≤ length new / 143 = omega (arith, r, c .before .before .before .before .if1 .taken, ap (λ k. k / 143) (c .before .t .given)) in
+    holds-rows 143 voiceOf new (n + 1) _ fits
+    (words-push 143 voiceOf old new (s .args .count) n (s .args .v) e less (c .before .before .put-voice .ensures) ∙ ap (λ k. cond (ltb (length l) k) (l ++ (s .args .v ∷ [])) l) r)
 
 returns-2 : tie.Need-returns-2
 returns-2 c =
@@ -48,11 +48,11 @@ returns-2 c =
     let l = take (s .args .count) (voicesIn old) in
     let n = c .before .at-most .result in
     let r = room old (s .pre) in
-    let e : n ≡ min (s .args .count) (length old / 142) = c .before .at-most .ensures ∙ ap (min (s .args .count)) (sym r) in
-    let full : length old / 142 ≤ n = omega (arith, r, c .if1 .left) in
-    let fits : n ≤ length old / 142 = omega (arith, e) in
-    holds-rows 142 voiceOf old n _ fits
-    (words-full 142 voiceOf old old (s .args .count) n (s .args .v) e full ∙ ap (λ k. cond (ltb (length l) k) (l ++ (s .args .v ∷ [])) l) r)
+    let e : n ≡ min (s .args .count) (length old / 143) = c .before .at-most .ensures ∙ ap (min (s .args .count)) (sym r) in
+    let full : length old / 143 ≤ n = omega (arith, r, c .if1 .left) in
+    let fits : n ≤ length old / 143 = omega (arith, e) in
+    holds-rows 143 voiceOf old n _ fits
+    (words-full 143 voiceOf old old (s .args .count) n (s .args .v) e full ∙ ap (λ k. cond (ltb (length l) k) (l ++ (s .args .v ∷ [])) l) r)
 
 pub push-in-spec : {M : Type 1} → statement M
 push-in-spec =

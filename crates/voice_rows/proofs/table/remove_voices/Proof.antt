@@ -22,7 +22,7 @@ abbrev stays : List ℕ → Voice → Bool
 stays ids v = not (isAnyOf ids v)
 
 abbrev Inv-loop : tie.InvT-loop
-Inv-loop t₀ count ids n w₀ i₀ t w i = ClosingIn 142 voiceOf (stays ids) t₀ t n i w
+Inv-loop t₀ count ids n w₀ i₀ t w i = ClosingIn 143 voiceOf (stays ids) t₀ t n i w
 
 abbrev μ-loop : tie.MeasureT-loop
 μ-loop t₀ count ids n w₀ i₀ t w i = n - i
@@ -31,7 +31,7 @@ at-most-requires : tie.Need-at-most-requires Inv-loop μ-loop
 at-most-requires c κs = search needs
 
 loop-holds : tie.Need-loop-holds Inv-loop μ-loop
-loop-holds c = let s = c .before .before .before .args in words-start 142 voiceOf (stays (s .ids .now)) (s .t .now) (c .at-most .result)
+loop-holds c = let s = c .before .before .before .args in words-start 143 voiceOf (stays (s .ids .now)) (s .t .now) (c .at-most .result)
 
 id-at-requires : tie.Need-id-at-requires Inv-loop μ-loop
 id-at-requires c κs = search needs
@@ -50,8 +50,8 @@ loop-again c =
     let s = c .before .before .before .before .before .before .before .before .before .args in
     let l = c .before .before .before .before .before .loop in
     let n = c .before .before .before .before .before .before .at-most .result in
-    let fits : n ≤ length (s .t .now) / 142 = omega (arith, c .before .before .before .before .before .before .at-most .ensures) in
-    words-drop 142 voiceOf (stays (s .ids .now)) (s .t .now) (l .t) n (l .i) (l .w) fits (c .before .before .before .before .loop-test .taken) (l .inv)
+    let fits : n ≤ length (s .t .now) / 143 = omega (arith, c .before .before .before .before .before .before .at-most .ensures) in
+    words-drop 143 voiceOf (stays (s .ids .now)) (s .t .now) (l .t) n (l .i) (l .w) fits (c .before .before .before .before .loop-test .taken) (l .inv)
     (ap not (ap (among (s .ids .now)) (sym (c .before .before .id-at .ensures)) ∙ sym (c .before .is-listed .ensures) ∙ c .if1 .taken))
 
 move-row-requires : tie.Need-move-row-requires Inv-loop μ-loop
@@ -71,8 +71,8 @@ loop-again-2 c =
     let s = c .before .before .before .before .before .before .before .before .before .before .before .before .before .args in
     let l = c .before .before .before .before .before .before .before .before .before .loop in
     let n = c .before .before .before .before .before .before .before .before .before .before .at-most .result in
-    let fits : n ≤ length (s .t .now) / 142 = omega (arith, c .before .before .before .before .before .before .before .before .before .before .at-most .ensures) in
-    words-keep 142 voiceOf (stays (s .ids .now)) (s .t .now) (l .t) n (l .i) (l .w) fits (c .before .before .before .before .before .before .before .before .loop-test .taken) (l .inv) (c .before .before .move-row .last .0) (c .before .before .move-row .ensures)
+    let fits : n ≤ length (s .t .now) / 143 = omega (arith, c .before .before .before .before .before .before .before .before .before .before .at-most .ensures) in
+    words-keep 143 voiceOf (stays (s .ids .now)) (s .t .now) (l .t) n (l .i) (l .w) fits (c .before .before .before .before .before .before .before .before .loop-test .taken) (l .inv) (c .before .before .move-row .last .0) (c .before .before .move-row .ensures)
     (ap not (ap (among (s .ids .now)) (sym (c .before .before .before .before .before .before .id-at .ensures)) ∙ sym (c .before .before .before .before .before .is-listed .ensures) ∙ c .before .before .before .before .if1 .left))
 
 same-length : tie.Need-same-length Inv-loop μ-loop
@@ -83,9 +83,9 @@ returns c =
     let s = c .before .before .before .before .before .args in
     let l = c .before .loop in
     let n = c .before .before .at-most .result in
-    let fits : l .w ≤ length (l .t) / 142 = omega (arith, c .before .before .at-most .ensures, l .inv .0, l .inv .2 .low, ap (λ k. k / 142) (l .inv .1)) in
-    holds-rows 142 voiceOf (l .t) (l .w) _ fits
-    (words-done 142 voiceOf (stays (s .ids .now)) (s .t .now) (l .t) (s .count) n (l .i) (l .w) (c .before .before .at-most .ensures) (c .loop-test .left) (l .inv))
+    let fits : l .w ≤ length (l .t) / 143 = omega (arith, c .before .before .at-most .ensures, l .inv .0, l .inv .2 .low, ap (λ k. k / 143) (l .inv .1)) in
+    holds-rows 143 voiceOf (l .t) (l .w) _ fits
+    (words-done 143 voiceOf (stays (s .ids .now)) (s .t .now) (l .t) (s .count) n (l .i) (l .w) (c .before .before .at-most .ensures) (c .loop-test .left) (l .inv))
 
 pub remove-voices-spec : {M : Type 1} → statement M
 remove-voices-spec =
