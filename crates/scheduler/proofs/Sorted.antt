@@ -13,7 +13,8 @@ use Rattle.lists.specs.Member.{In}
 use Rattle.lists.specs.Filter.{put?, filter}
 use Rattle.lists.proofs.Filter.{in-filter, filter-all, filter-none}
 use Rattle.scheduler.specs.declared.event.Event.{Event}
-use Rattle.scheduler.specs.Queue.{later, before?, inserted, full, queueAfter, due, takenBefore, leftAfter}
+use Rattle.scheduler.specs.Replace.{replaces, thinned}
+use Rattle.scheduler.specs.Queue.{later, before?, inserted, replacing, full, queueAfter, due, takenBefore, leftAfter}
 
 -- no event is later than one that follows it
 abbrev pub Sorted : List Event → Type 0
@@ -98,16 +99,16 @@ length-inserted e (f ∷ l) = go (later e f) (length-inserted e l)
     go false ih = ap suc ih
 
 pub queue-fits : (e : Event) (l : List Event) → length l ≤ 256 → length (queueAfter e l) ≤ 256
-queue-fits e l h = go (full l) refl
+queue-fits e l h = go (full (thinned e l)) refl
   where
-    go : (b : Bool) → full l ≡ b → length (cond b l (inserted e l)) ≤ 256
+    go : (b : Bool) → full (thinned e l) ≡ b → length (cond b l (replacing e l)) ≤ 256
     go true t = h
-    go false t = omega (arith, length-inserted e l, leb-false 256 (length l) t)
+    go false t = omega (arith, length-inserted e (thinned e l), leb-false 256 (length (thinned e l)) t)
 
 -- scheduling keeps the queue ordered, taken or refused
 pub queue-sorted : (e : Event) (l : List Event) → Sorted l → Sorted (queueAfter e l)
-queue-sorted e l s = go (full l)
+queue-sorted e l s = go (full (thinned e l))
   where
-    go : (b : Bool) → Sorted (cond b l (inserted e l))
+    go : (b : Bool) → Sorted (cond b l (replacing e l))
     go true = s
-    go false = inserted-sorted e l s
+    go false = inserted-sorted e (thinned e l) (keep-sorted (λ f. not (replaces e f)) l s)
