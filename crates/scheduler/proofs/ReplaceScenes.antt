@@ -2,14 +2,17 @@
 use Prim.Native.Nat.{ℕ}
 use mathlib.Core.Path.{_≡_, refl}
 use mathlib.Core.List.{List, [], _∷_}
+use lib.ListN.{replicate}
 use lib.Ieee.{Float}
 use Rattle.node.specs.Name.{nameOf}
 use Rattle.node.specs.declared.order.Action.{Action}
 use Rattle.node.specs.declared.order.Action.the-variants as action
 use Rattle.node.specs.declared.order.GlideShape.the-variants.{Linear}
 use Rattle.node.specs.declared.order.GlideSpace.the-variants.{Raw}
-use Rattle.scheduler.specs.Queue.{replacing}
+use Rattle.node.specs.declared.refusal.Refusal.the-variants.{TableFull}
+use Rattle.scheduler.specs.Queue.{replacing, queueAfter, answerTo}
 use Rattle.scheduler.specs.declared.event.Event.{Event}
+use Rattle.scheduler.specs.declared.queue.ScheduleAnswer.the-variants.{Taken, Refused}
 
 module _ (x y z : Float) where
   abbrev at : ℕ → ℕ → List ℕ → Action → Event
@@ -62,3 +65,24 @@ module _ (x y z : Float) where
   -- a free is no value. Refuses: a free that is replaced.
   frees : queue (at 4 1 cut action.Free ∷ at 4 1 cut action.Free ∷ at 4 1 cut (value x) ∷ []) ≡ at 4 1 cut action.Free ∷ at 4 1 cut action.Free ∷ at 4 1 cut (value x) ∷ []
   frees = refl
+
+  -- a name of 16 bytes is one, a name of 17 none, and another name is another. Refuses: 16 bytes left out; names of any length.
+  abbrev long : ℕ → List ℕ
+  long n = replicate n 97
+
+  by-name :
+      (queue (at 4 1 (long 16) (value x) ∷ at 4 1 (long 16) (value y) ∷ []) ≡ at 4 1 (long 16) (value y) ∷ [])
+      × (queue (at 4 1 (long 17) (value x) ∷ at 4 1 (long 17) (value y) ∷ []) ≡ at 4 1 (long 17) (value x) ∷ at 4 1 (long 17) (value y) ∷ [])
+      × (queue (at 4 1 (long 3) (value x) ∷ at 4 1 (long 4) (value y) ∷ []) ≡ at 4 1 (long 3) (value x) ∷ at 4 1 (long 4) (value y) ∷ [])
+  by-name = (refl, refl, refl)
+
+  -- "Freed queue places count before refusal 7", and on 7 the very queue stays. Refuses: 7 before room is made.
+  abbrev crowd : List Event
+  crowd = at 4 1 cut (value x) ∷ replicate 255 (at 4 1 cut action.Free)
+
+  room-made :
+      (answerTo (at 4 1 cut (value y)) crowd ≡ Taken)
+      × (queueAfter (at 4 1 cut (value y)) crowd ≡ replacing (at 4 1 cut (value y)) crowd)
+      × (answerTo (at 4 1 gate (value y)) crowd ≡ Refused TableFull)
+      × (queueAfter (at 4 1 gate (value y)) crowd ≡ crowd)
+  room-made = (refl, refl, refl, refl)
