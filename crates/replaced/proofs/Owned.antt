@@ -11,7 +11,6 @@ use lib.ListN.{length}
 use lib.Dec.{ltb}
 use borrow.Author.Tests.{ltb-true}
 use Rattle.node.specs.declared.name.Name.{Name}
-use Rattle.node.specs.declared.record.NodeId.{NodeId}
 use Rattle.node.specs.declared.record.VoiceId.{VoiceId}
 use Rattle.node.specs.declared.refusal.Refusal.the-variants.{NoPort}
 use Rattle.synthdef.specs.declared.def.Param.{Param}

@@ -17,6 +17,7 @@ use Rattle.node.specs.declared.order.LastOrder.{LastOrder}
 use Rattle.node.specs.declared.order.LastOrder.the-variants as LastOrder
 use Rattle.node.specs.declared.refusal.Refusal.the-variants.{TableFull}
 use Rattle.scheduler.specs.declared.event.Event.{Event}
+use Rattle.store.specs.declared.answer.Rendered.the-variants as Rendered
 use Rattle.voice.specs.declared.policy.StealPolicy.the-variants.{Oldest}
 use Rattle.synthdef.specs.declared.def.Param.{Param}
 use Rattle.synthdef.specs.declared.def.SynthDef.{SynthDef}
@@ -38,7 +39,8 @@ use Rattle.model.specs.Model.{Model}
 use Rattle.model.specs.Make.{newModel}
 use Rattle.model.specs.Render.{applyEvents}
 use Rattle.model.specs.Call.{Call, done, refused, event}
-use Rattle.model.specs.Scene.{upTo, plain, float, voice, host, sink, timedFree, after, asked, further, voices}
+use Rattle.model.specs.Scene.{upTo, plain, float, voice, host, sink, timedFree, render, told, after, asked, further, voices}
+use Rattle.model.specs.Spawn.{spawnOf}
 use Rattle.replaced.specs.Kept.{withQueue, keptRun}
 
 -- ---- a swell: node 1 takes values and glides and is `cut`, `bend` and `gate`; node 2 takes values only and is `rate`
@@ -70,7 +72,7 @@ abbrev gate : ℕ → String → ℕ → Call
 gate t s n = call.schedule t (voice 1) (bytes s) (Action.Gate (float n))
 
 abbrev before : List Call
-before = host 2 ∷ sink 0 ∷ call.spawnManaged swell (id 0) (float 0) ∷ call.prepare ∷ []
+before = host 2 ∷ sink 0 ∷ call.spawnManaged (spawnOf swell (id 0) (float 0)) ∷ call.prepare ∷ []
 
 abbrev start : Model
 start = after (upTo 2 Oldest) before
@@ -99,25 +101,25 @@ gli n = Action.Glide (float n) (float 1) Linear Raw
 in-order :
     (pending (a (at 4 "cut" 1 ∷ to 4 "cut" 3 ∷ at 4 "cut" 5 ∷ [])) ≡ gli 3 ∷ val 5 ∷ [])
     × (pending (b (at 4 "cut" 1 ∷ to 4 "cut" 3 ∷ at 4 "cut" 5 ∷ [])) ≡ val 1 ∷ gli 3 ∷ val 5 ∷ [])
-    × (last 1 (a (at 4 "cut" 1 ∷ to 4 "cut" 3 ∷ at 4 "cut" 5 ∷ call.render ∷ [])) ≡ some (value 5))
-    × (last 1 (b (at 4 "cut" 1 ∷ to 4 "cut" 3 ∷ at 4 "cut" 5 ∷ call.render ∷ [])) ≡ some (value 5))
+    × (last 1 (a (at 4 "cut" 1 ∷ to 4 "cut" 3 ∷ at 4 "cut" 5 ∷ render ∷ [])) ≡ some (value 5))
+    × (last 1 (b (at 4 "cut" 1 ∷ to 4 "cut" 3 ∷ at 4 "cut" 5 ∷ render ∷ [])) ≡ some (value 5))
 unfolding eq prepare processingOrder lacking lacks any liveIds liveNodes risingFrom whole order walk released fed among count-up
 in-order = (refl, refl, refl, refl)
 
 -- A glide replaces a glide, and no value: `rate` takes values only, so that the value stays its last order. Refuses: the sort ignored.
 by-sort :
     (pending (a (at 4 "rate" 1 ∷ to 4 "rate" 3 ∷ [])) ≡ val 1 ∷ gli 3 ∷ [])
-    × (last 2 (a (at 4 "rate" 1 ∷ to 4 "rate" 3 ∷ call.render ∷ [])) ≡ some (value 1))
+    × (last 2 (a (at 4 "rate" 1 ∷ to 4 "rate" 3 ∷ render ∷ [])) ≡ some (value 1))
     × (pending (a (to 4 "cut" 1 ∷ at 4 "cut" 3 ∷ to 4 "cut" 5 ∷ [])) ≡ val 3 ∷ gli 5 ∷ [])
-    × (last 1 (a (to 4 "cut" 1 ∷ at 4 "cut" 3 ∷ to 4 "cut" 5 ∷ call.render ∷ [])) ≡ some (glide 5))
+    × (last 1 (a (to 4 "cut" 1 ∷ at 4 "cut" 3 ∷ to 4 "cut" 5 ∷ render ∷ [])) ≡ some (glide 5))
 unfolding eq prepare processingOrder lacking lacks any liveIds liveNodes risingFrom whole order walk released fed among count-up
 by-sort = (refl, refl, refl, refl)
 
 -- The block is 16: the first render takes the value at 4, the second the one at 20. Refuses: the time ignored.
 by-time :
     (pending (a (at 4 "cut" 1 ∷ at 20 "cut" 3 ∷ [])) ≡ val 1 ∷ val 3 ∷ [])
-    × (last 1 (a (at 4 "cut" 1 ∷ at 20 "cut" 3 ∷ call.render ∷ [])) ≡ some (value 1))
-    × (last 1 (a (at 4 "cut" 1 ∷ at 20 "cut" 3 ∷ call.render ∷ call.render ∷ [])) ≡ some (value 3))
+    × (last 1 (a (at 4 "cut" 1 ∷ at 20 "cut" 3 ∷ render ∷ [])) ≡ some (value 1))
+    × (last 1 (a (at 4 "cut" 1 ∷ at 20 "cut" 3 ∷ render ∷ render ∷ [])) ≡ some (value 3))
 unfolding eq prepare processingOrder lacking lacks any liveIds liveNodes risingFrom whole order walk released fed among count-up
 by-time = (refl, refl, refl)
 
@@ -129,7 +131,7 @@ gates :
     × (pending (a (gate 4 "" 1 ∷ gate 4 "ratexxxxxxxxxxxxx" 3 ∷ [])) ≡ Action.Gate (float 3) ∷ [])
     × (pending (a (gate 4 "rate" 1 ∷ at 4 "rate" 3 ∷ [])) ≡ Action.Gate (float 1) ∷ val 3 ∷ [])
     × (pending (a (gate 4 "rate" 1 ∷ to 4 "gate" 3 ∷ [])) ≡ Action.Gate (float 1) ∷ gli 3 ∷ [])
-    × (last 1 (a (gate 4 "rate" 1 ∷ at 4 "gate" 3 ∷ call.render ∷ [])) ≡ some (value 3))
+    × (last 1 (a (gate 4 "rate" 1 ∷ at 4 "gate" 3 ∷ render ∷ [])) ≡ some (value 3))
 unfolding eq prepare processingOrder lacking lacks any liveIds liveNodes risingFrom whole order walk released fed among count-up
 gates = (refl, refl, refl, refl, refl, refl)
 
@@ -148,9 +150,9 @@ apart = (refl, refl, refl, refl, refl)
 free-between :
     (pending (a (at 4 "cut" 1 ∷ timedFree 4 1 ∷ at 4 "cut" 3 ∷ [])) ≡ Action.Free ∷ val 3 ∷ [])
     × (pending (b (at 4 "cut" 1 ∷ timedFree 4 1 ∷ at 4 "cut" 3 ∷ [])) ≡ val 1 ∷ Action.Free ∷ val 3 ∷ [])
-    × (voices (a (at 4 "cut" 1 ∷ timedFree 4 1 ∷ at 4 "cut" 3 ∷ call.render ∷ [])) ≡ [])
-    × (voices (b (at 4 "cut" 1 ∷ timedFree 4 1 ∷ at 4 "cut" 3 ∷ call.render ∷ [])) ≡ [])
-    × (last 1 (b (at 4 "cut" 1 ∷ timedFree 4 1 ∷ at 4 "cut" 3 ∷ call.render ∷ [])) ≡ none)
+    × (voices (a (at 4 "cut" 1 ∷ timedFree 4 1 ∷ at 4 "cut" 3 ∷ render ∷ [])) ≡ [])
+    × (voices (b (at 4 "cut" 1 ∷ timedFree 4 1 ∷ at 4 "cut" 3 ∷ render ∷ [])) ≡ [])
+    × (last 1 (b (at 4 "cut" 1 ∷ timedFree 4 1 ∷ at 4 "cut" 3 ∷ render ∷ [])) ≡ none)
 unfolding eq prepare processingOrder lacking lacks any liveIds liveNodes risingFrom whole order walk released fed among count-up
 free-between = (refl, refl, refl, refl, refl)
 
@@ -158,18 +160,26 @@ free-between = (refl, refl, refl, refl, refl)
 -- which `bend` would go from the queue; replaced in place.
 aliases :
     (pending (a (at 4 "cut" 1 ∷ at 4 "bend" 3 ∷ at 4 "cut" 5 ∷ [])) ≡ val 3 ∷ val 5 ∷ [])
-    × (last 1 (a (at 4 "cut" 1 ∷ at 4 "bend" 3 ∷ at 4 "cut" 5 ∷ call.render ∷ [])) ≡ some (value 5))
-    × (last 1 (a (at 4 "bend" 1 ∷ at 4 "cut" 3 ∷ call.render ∷ [])) ≡ some (value 3))
-    × (last 1 (b (at 4 "cut" 1 ∷ at 4 "bend" 3 ∷ at 4 "cut" 5 ∷ call.render ∷ [])) ≡ some (value 5))
+    × (last 1 (a (at 4 "cut" 1 ∷ at 4 "bend" 3 ∷ at 4 "cut" 5 ∷ render ∷ [])) ≡ some (value 5))
+    × (last 1 (a (at 4 "bend" 1 ∷ at 4 "cut" 3 ∷ render ∷ [])) ≡ some (value 3))
+    × (last 1 (b (at 4 "cut" 1 ∷ at 4 "bend" 3 ∷ at 4 "cut" 5 ∷ render ∷ [])) ≡ some (value 5))
 unfolding eq prepare processingOrder lacking lacks any liveIds liveNodes risingFrom whole order walk released fed among count-up
 aliases = (refl, refl, refl, refl)
 
 -- A voice that is not let in yet: the replacing is by number, and the voice that comes has the later value.
 not-yet :
     (pending (a (call.schedule 20 (voice 2) (bytes "cut") (val 1) ∷ call.schedule 20 (voice 2) (bytes "cut") (val 3) ∷ [])) ≡ val 3 ∷ [])
-    × (last 3 (a (call.schedule 20 (voice 2) (bytes "cut") (val 1) ∷ call.schedule 20 (voice 2) (bytes "cut") (val 3) ∷ call.spawnManaged swell (id 0) (float 0) ∷ call.render ∷ call.render ∷ [])) ≡ some (value 3))
+    × (last 3 (a (call.schedule 20 (voice 2) (bytes "cut") (val 1) ∷ call.schedule 20 (voice 2) (bytes "cut") (val 3) ∷ call.spawnManaged (spawnOf swell (id 0) (float 0)) ∷ render ∷ render ∷ [])) ≡ some (value 3))
 unfolding eq prepare processingOrder lacking lacks any liveIds liveNodes risingFrom whole order walk released fed among count-up
 not-yet = (refl, refl)
+
+-- ---- "Render answers of Paper 1 list only the events left": the first value for `cut` has no entry; the one for `none`, which is no
+-- parameter, and the second for `cut` have theirs. Refuses: an entry for every event that was accepted; a count of them.
+lists :
+    (asked (at 4 "cut" 1 ∷ at 4 "none" 3 ∷ at 4 "cut" 5 ∷ render ∷ []) start ≡ done ∷ done ∷ done ∷ told Rendered.Sounding (2 ∷ 0 ∷ []) 254 ∷ [])
+    × (keptRun (at 4 "cut" 1 ∷ at 4 "none" 3 ∷ at 4 "cut" 5 ∷ render ∷ []) start start .answers ≡ done ∷ done ∷ done ∷ told Rendered.Sounding (0 ∷ 2 ∷ 0 ∷ []) 253 ∷ [])
+unfolding eq prepare processingOrder lacking lacks any liveIds liveNodes risingFrom whole order walk released fed among count-up
+lists = (refl, refl)
 
 -- ---- "Freed queue places count before refusal 7": 256 pending, a value for one of them is taken, another is refused and the very
 -- queue stays; B goes on beyond 256. Refuses: 7 before room is made; a refused event that has thinned the queue.

@@ -18,7 +18,6 @@ use Rattle.order.specs.declared.Readiness.the-variants.{Ready, Refused}
 use Rattle.scheduler.specs.declared.event.Event.{Event}
 use Rattle.voice.specs.declared.policy.Admission.{Admission}
 use Rattle.voice.specs.declared.policy.Admission.the-variants as admission
-use Rattle.synthdef.specs.declared.def.SynthDef.{SynthDef}
 use Rattle.store.specs.declared.voices.Voice.{Voice}
 use Rattle.store.specs.declared.voices.VoiceState.{VoiceState}
 use Rattle.store.specs.declared.voices.VoiceState.the-variants.{Tracked, Fading, Loose}
@@ -39,7 +38,7 @@ use Rattle.model.specs.Voice.{isVoice, id, feeder, levelOr}
 use Rattle.model.specs.Refuse.{spawnRefusal, reportRefusal}
 use Rattle.model.specs.Spawn.{Spawn, nextOut, tries, stateUnder, reclaimLog}
 use Rattle.model.specs.Model.{Model, SpawnResult, withoutVoice, cutOff, stolen, stealVoice, portFree, instantiateOr, place, placeWithinBudget, stealThen, admitted, admissionOn, freed, free, refused}
-use Rattle.model.specs.Order.{Ordered, takes, withNode, stays, orderNode, orderParam, orderVoice, order, reportNode}
+use Rattle.model.specs.Order.{Ordered, takes, withNode, stays, orderNode, orderParam, orderVoice, order, reportNode, freeOutcome}
 use Rattle.node.specs.Node.{withLast}
 use Rattle.model.specs.Clear.{withoutVoices, endedVoices, silentVoices, clear}
 use Rattle.model.specs.Render.{prepareOutcome, readyShared, prepareShared, isFree, applyEvent, applyEvents, answerAfter, blockOf, preparedIf, Heard, render}
@@ -220,7 +219,7 @@ module _ (q : List Event) where
       ap spawnStep (landed-still (spawnRefusal (m .shared) (m .voices) (spawn .def) (spawn .bus)) m _ _ (admitted-still (admissionOn (spawn .bus) m) spawn m))
   still-step (call.spawnLoose spawn) r h m =
       ap spawnStep (landed-still (spawnRefusal (m .shared) (m .voices) (spawn .def) (spawn .bus)) m _ _ (place-still 0 spawn Loose m))
-  still-step (call.free w) r h m = ap (λ k. record { answer = call.done; model = k }) (freed-still (find (isVoice w) (m .voices)) m)
+  still-step (call.free w) r h m = ap (λ k. record { answer = call.ordered (freeOutcome (find (isVoice w) (m .voices))); model = k }) (freed-still (find (isVoice w) (m .voices)) m)
   still-step call.clear r h m = clear-still m
   still-step (call.order w name o) r h m =
       ap (λ (r : Ordered). record { answer = call.ordered (r .outcome); model = record { shared = r .shared; voices = m .voices } }) (voice-still (find (isVoice w) (m .voices)) (nameOf name) o (m .shared))
@@ -230,5 +229,5 @@ module _ (q : List Event) where
       (ap (λ d. record { answer = call.done; model = record { shared = d; voices = m .voices } }) (report-still (nodeAt (m .shared .graph .nodes) k) samples flag (m .shared)))
   still-step call.prepare r h m =
       ap (λ d. record { answer = call.readyAnswer (prepareOutcome (m .shared) .answer); model = record { shared = d; voices = m .voices } }) (prepare-still (m .shared))
-  still-step call.render r h m = absurd (true≢false r)
+  still-step (call.render out) r h m = absurd (true≢false r)
   still-step (call.ask x) r h m = ap (λ a. record { answer = a; model = withQueue q m }) (asks-still x m)

@@ -1,5 +1,5 @@
 -- Paper 9's theorem: for every list of calls from a newly made store, and so after each call of it.
-use mathlib.Core.Path.{_≡_, refl, sym, ap, _∙_, subst}
+use mathlib.Core.Path.{_≡_, sym, ap, _∙_}
 use mathlib.Core.List.{List, []}
 use mathlib.Core.Option.{some}
 use Rattle.model.specs.Model.{Model}

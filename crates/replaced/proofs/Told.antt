@@ -70,7 +70,7 @@ happened-set e k o m = ap (cond (isFree (e .action)) (freeOutcome (find (isVoice
 
 outcomes-set : (k : ℕ) (o : LastOrder) (q : List Event) (m : Model) → Good m → outcomes q (setAt k o m) ≡ outcomes q m
 outcomes-set k o [] m g = refl
-outcomes-set k o (f ∷ q) m g = ap (λ z. z ∷ outcomes q (applyEvent f (setAt k o m))) (happened-set f k o m) ∙ ap (λ z. outcomeNumber (outcomeOf f m) ∷ z) (go (isFree (f .action)) refl (outcomes-set k o q))
+outcomes-set k o (f ∷ q) m g = ap (λ z. outcomeNumber z ∷ outcomes q (applyEvent f (setAt k o m))) (happened-set f k o m) ∙ ap (λ z. outcomeNumber (outcomeOf f m) ∷ z) (go (isFree (f .action)) refl (outcomes-set k o q))
   where
     u : LastOrder
     u = orderOf (f .action)
@@ -107,7 +107,7 @@ outcomes-lasts [] m g = refl
 outcomes-lasts (e ∷ q) m g = go (overtaken e q) refl (outcomes-lasts q)
   where
     go : (b : Bool) → overtaken e q ≡ b → ((n : Model) → Good n → outcomes (lasts q) n ≡ leftOf q (outcomes q n))
-        → outcomes (put? (not b) e (lasts q)) m ≡ put? (not b) (outcomeOf e m) (leftOf q (outcomes q (applyEvent e m)))
+        → outcomes (put? (not b) e (lasts q)) m ≡ put? (not b) (outcomeNumber (outcomeOf e m)) (leftOf q (outcomes q (applyEvent e m)))
     go false t ih = ap (λ z. outcomeNumber (outcomeOf e m) ∷ z) (ih (applyEvent e m) (good-happen e m g))
     go true t ih = ih m g ∙ ap (leftOf q) (sym (outcomes-drop e q m g (true-overtaken e q t)))
 
@@ -115,7 +115,7 @@ outcomes-lasts (e ∷ q) m g = go (overtaken e q) refl (outcomes-lasts q)
 outcomes-still : (l q : List Event) (m : Model) → outcomes q (withQueue l m) ≡ outcomes q m
 outcomes-still l [] m = refl
 outcomes-still l (e ∷ q) m =
-    ap (λ (r : Ordered). cond (isFree (e .action)) (freeOutcome (find (isVoice (e .voice)) (m .voices))) (r .outcome) ∷ outcomes q (applyEvent e (withQueue l m))) (voice-still l (find (isVoice (e .voice)) (m .voices)) (paramOrder e .name) (paramOrder e .order) (m .shared))
+    ap (λ (r : Ordered). outcomeNumber (cond (isFree (e .action)) (freeOutcome (find (isVoice (e .voice)) (m .voices))) (r .outcome)) ∷ outcomes q (applyEvent e (withQueue l m))) (voice-still l (find (isVoice (e .voice)) (m .voices)) (paramOrder e .name) (paramOrder e .order) (m .shared))
     ∙ ap (λ z. outcomeNumber (outcomeOf e m) ∷ z) (ap (outcomes q) (happen-still l e m) ∙ outcomes-still l q (applyEvent e m))
 
 -- ---- of every store that calls made: what the next render tells
@@ -137,7 +137,6 @@ told a b g t = subst (λ (z : Model). outcomes (due (a .shared)) (rested a) ≡ 
         ∙ ap (λ z. outcomes z a) (thinned-lasts q p (thinned-taken d (a .shared .events) (t .queue) (t .thin)) (single-keep (queue.due d) (a .shared .events) (t .single)))
         ∙ outcomes-lasts q a g
         ∙ ap (leftOf q) (sym (outcomes-still (leftAfter d (t .queue)) q a))
-
 
 -- ---- one entry for each event
 outcomes-long : (q : List Event) (m : Model) → length (outcomes q m) ≡ length q

@@ -3,18 +3,16 @@ use Prim.Native.Nat.{ℕ}
 use mathlib.Core.Path.{_≡_, refl, sym, ap, _∙_, subst}
 use mathlib.Core.Logic.{_⊎_, inl, inr}
 use mathlib.Core.List.{List, [], _∷_}
-use lib.ListN.{length}
 use mathlib.Core.Option.{Option, none, some}
-use mathlib.Core.Bool.{Bool, true, false, not, true≢false}
+use mathlib.Core.Bool.{false, not, true≢false}
+use lib.ListN.{length}
 use Rattle.node.specs.declared.order.Action.{Action}
 use Rattle.node.specs.declared.record.VoiceId.{VoiceId}
 use Rattle.node.specs.declared.refusal.Refusal.{Refusal}
-use Rattle.node.specs.declared.refusal.Refusal.the-variants.{ClockEnd, TableFull}
+use Rattle.node.specs.declared.refusal.Refusal.the-variants.{TableFull}
 use Rattle.scheduler.specs.declared.event.Event.{Event}
-use Rattle.store.specs.declared.answer.Rendered.the-variants as Rendered
 use Rattle.model.specs.Call as call
 use Rattle.ledger.specs.Call as ledger
-use Rattle.lists.proofs.Member.{none-some}
 use Rattle.graph.specs.Refuse.{when}
 use Rattle.scheduler.specs.Queue.{full, inserted, due, takenBefore, leftAfter, replacing}
 use Rattle.scheduler.proofs.Sorted.{Sorted, inserted-sorted, keep-sorted}
@@ -32,7 +30,7 @@ use Rattle.ledger.proofs.Made.{made}
 use Rattle.replaced.specs.Kept.{withQueue, scheduled, isRender, keptUnless, keptBy, keptStep, keptRun}
 use Rattle.replaced.proofs.Thin.{Thinned, thinned-taken, thinned-left, thinned-schedule}
 use Rattle.replaced.proofs.Happen.{Good, thinned-happens, thinned-free}
-use Rattle.replaced.proofs.Lasts.{Single, single-keep, single-replacing, thinned-lasts, thinned-sorted}
+use Rattle.replaced.proofs.Lasts.{Single, single-keep, single-replacing, thinned-sorted}
 use Rattle.replaced.proofs.Still.{happens-still, prepared-still, heardQ, still-step}
 use Rattle.replaced.proofs.Owned.{FitsOf, fits-step, good-of}
 

@@ -9,7 +9,7 @@ use mathlib.Core.Option.{Option, none, some}
 use mathlib.Core.Bool.{Bool, true, false, _&&_, not, cond, false≢true}
 use lib.Dec.{eqb, leb}
 use lib.ListN.{length}
-use borrow.Author.Tests.{eqb-true, eq-eqb, ne-eqb, ltb-true, leb-true, leb-false, le-leb, lt-leb}
+use borrow.Author.Tests.{eqb-true, eq-eqb, ne-eqb, ltb-true, leb-true, leb-false, lt-leb}
 use Rattle.lists.specs.Member.{In}
 use Rattle.lists.specs.Filter.{put?, filter}
 use Rattle.lists.specs.Find.{or?}
@@ -19,12 +19,11 @@ use Rattle.node.specs.Name.{named, text, sameName}
 use Rattle.node.specs.declared.name.Name.{Name}
 use Rattle.node.specs.declared.order.Action.{Action}
 use Rattle.node.specs.declared.order.Action.the-variants as action
-use Rattle.node.specs.declared.record.VoiceId.{VoiceId}
 use Rattle.node.specs.declared.refusal.Refusal.the-variants.{TableFull}
-use Rattle.node.proofs.NameLaws.{Same, same-to, same-from}
+use Rattle.node.proofs.NameLaws.{same-to, same-from}
 use Rattle.scheduler.specs.Event.{gateName, paramOf}
 use Rattle.scheduler.specs.Replace.{sameSort, replaces, thinned}
-use Rattle.scheduler.specs.Queue.{later, inserted, replacing, full, answerTo}
+use Rattle.scheduler.specs.Queue.{later, replacing, full, answerTo}
 use Rattle.scheduler.specs.declared.event.Event.{Event}
 use Rattle.scheduler.specs.declared.queue.ScheduleAnswer.the-variants.{Taken, Refused}
 use Rattle.scheduler.proofs.Sorted.{Sorted, keep-sorted, inserted-place}
