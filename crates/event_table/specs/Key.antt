@@ -1,7 +1,6 @@
 -- What of a new event decides which rows it replaces, and the comparison of names in words.
 use Prim.Native.Nat.{ℕ}
 use mathlib.Core.Path.{_≡_}
-use mathlib.Core.List.{_++_}
 use mathlib.Core.Bool.{Bool}
 use lib.ListN.{take}
 use Rattle.node.specs.Name.{sameBytes, sameName}
@@ -17,9 +16,6 @@ pub record KeyOf (e : Event) (k : Key) : Type 0 where
   pub value : k .value ≡ isValue (e .action)
   pub glide : k .glide ≡ isGlide (e .action)
   pub gate : k .gate ≡ sameName (paramOf (e .action) (e .name)) gateName
-  -- the name of its parameter
-  pub bytes : four (k .a) ++ four (k .b) ++ four (k .c) ++ four (k .d) ≡ paramOf (e .action) (e .name) .bytes
-  pub len : k .len ≡ paramOf (e .action) (e .name) .len
 
 -- the first n bytes of two words are the same; a word has four
 abbrev pub sameFour : ℕ → ℕ → ℕ → Bool

@@ -1,6 +1,7 @@
 // The queue of pending events: the first `count` rows of its table, by time, equal times in the order in which they came. A
 // count above the room is the room. What a deadline takes is read row by row first (`is_due`, `event_at`), and removed then.
 use crate::replace::key_of;
+use crate::replace::param_words;
 use crate::replace::remove_replaced;
 use crate::replace::row_replaced;
 use crate::row::EventTable;
@@ -74,14 +75,15 @@ fn schedule_in(t: &mut [u32], count: usize, e: Event) -> Scheduled
     ensures { λ r. ⌜ Queued count e (now (t .entry)) r (now (t .exit)) ⌝ }
 {
     let k = key_of(e);
-    let p = row_replaced(t, count, k);
+    let ws = param_words(e);
+    let p = row_replaced(t, count, k, &ws);
     if takes_none(count, p) {
         return Scheduled {
             count,
             answer: ScheduleAnswer::Refused(Refusal::TableFull),
         };
     }
-    let left = remove_replaced(t, count, p, k);
+    let left = remove_replaced(t, count, p, k, &ws);
     insert(t, left, e);
     Scheduled {
         count: left + 1,

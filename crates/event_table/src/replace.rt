@@ -11,34 +11,31 @@ use words::fields::long_at;
 use words::fields::name_words;
 use words::table::at_most;
 use words::table::move_row;
+use words::table::wide;
+use words::table::word;
 use words::table::word_at;
 ghost use mathlib.Core.Path.{_≡_};
-ghost use mathlib.Core.Bool.{true, _&&_};
+ghost use mathlib.Core.Bool.{_&&_};
 ghost use mathlib.Core.List.{[]};
 ghost use Prim.Native.Nat.{_-_};
 ghost use lib.ListN.{take, getD};
-ghost use Rattle.node.specs.Name.{sameBytes, sameName};
+ghost use Rattle.node.specs.Name.{sameName};
 ghost use Rattle.scheduler.specs.Event.{paramOf};
 ghost use Rattle.scheduler.specs.Replace.{isValue, isGlide, sameSort, replaces, thinned};
 ghost use Rattle.scheduler.specs.declared.event.Event.{Event};
-ghost use Rattle.words.specs.Fields.{four, nameAt};
+ghost use Rattle.words.specs.Fields.{nameAt};
 ghost use Rattle.words.specs.Rows.{rowAt};
 ghost use Rattle.words.specs.Place.{placeOf, Holds};
 ghost use Rattle.event_table.specs.Rows.{actionAt, eventOf, eventsIn};
 ghost use Rattle.event_table.specs.Key.{KeyOf, sameFour};
 
-// What of a new event decides whom it replaces. `gate` says that its parameter is `gate`; `a` to `d` are the bytes of its name.
+// What of a new event decides whom it replaces, beside its parameter's name in words. `gate` says that the parameter is `gate`.
 pub(crate) struct Key {
     time: u64,
     voice: u64,
     value: bool,
     glide: bool,
     gate: bool,
-    a: u32,
-    b: u32,
-    c: u32,
-    d: u32,
-    len: u8,
 }
 
 fn is_value(a: Action) -> bool
@@ -79,19 +76,22 @@ pub(crate) fn key_of(e: Event) -> Key
     let action = e.action;
     let asked = param_order(e);
     let name = asked.name;
-    let ws = name_words(name);
     Key {
         time: e.time,
         voice: e.voice.0,
         value: is_value(action),
         glide: is_glide(action),
         gate: same_name(name, gate_name()),
-        a: ws[0],
-        b: ws[1],
-        c: ws[2],
-        d: ws[3],
-        len: name.len,
     }
+}
+
+// The name of the parameter that an event is for, in words.
+pub(crate) fn param_words(e: Event) -> [u32; 5]
+    ensures { λ r. ⌜ nameAt r 0 ≡ paramOf (e .action) (e .name) ⌝ }
+{
+    let asked = param_order(e);
+    let name = asked.name;
+    name_words(name)
 }
 
 // Whether the first `n` bytes of two words are the same; a word has four.
@@ -120,52 +120,53 @@ fn after(n: usize, k: usize) -> usize
     if n < k { 0 } else { n - k }
 }
 
-// Whether the first `n` bytes of the name in row `i` are the key's.
-fn same_text(t: &[u32], i: usize, k: Key, n: usize) -> bool
-    ensures { λ r. ⌜ r ≡ (sameFour n (k .a) (getD (rowAt 15 i (now (t .entry))) 4 0) && (sameFour (n - 4) (k .b) (getD (rowAt 15 i (now (t .entry))) 5 0) && (sameFour (n - 8) (k .c) (getD (rowAt 15 i (now (t .entry))) 6 0) && sameFour (n - 12) (k .d) (getD (rowAt 15 i (now (t .entry))) 7 0)))) ⌝ }
+// Whether the first `n` bytes of the name in row `i` are those of the name in the words `ws`.
+fn same_text(t: &[u32], i: usize, ws: &[u32], n: usize) -> bool
+    ensures { λ r. ⌜ r ≡ (sameFour n (getD (now (ws .entry)) 0 0) (getD (rowAt 15 i (now (t .entry))) 4 0) && (sameFour (n - 4) (getD (now (ws .entry)) 1 0) (getD (rowAt 15 i (now (t .entry))) 5 0) && (sameFour (n - 8) (getD (now (ws .entry)) 2 0) (getD (rowAt 15 i (now (t .entry))) 6 0) && sameFour (n - 12) (getD (now (ws .entry)) 3 0) (getD (rowAt 15 i (now (t .entry))) 7 0)))) ⌝ }
 {
-    if !same_four(k.a, word_at(t, 15, i, 4), n) {
+    if !same_four(word(ws, 0), word_at(t, 15, i, 4), n) {
         return false;
     }
-    if !same_four(k.b, word_at(t, 15, i, 5), after(n, 4)) {
+    if !same_four(word(ws, 1), word_at(t, 15, i, 5), after(n, 4)) {
         return false;
     }
-    if !same_four(k.c, word_at(t, 15, i, 6), after(n, 8)) {
+    if !same_four(word(ws, 2), word_at(t, 15, i, 6), after(n, 8)) {
         return false;
     }
-    same_four(k.d, word_at(t, 15, i, 7), after(n, 12))
+    same_four(word(ws, 3), word_at(t, 15, i, 7), after(n, 12))
 }
 
-// Whether the name in row `i` is the key's.
-fn same_called(t: &[u32], i: usize, k: Key) -> bool
-    ensures { λ r. ⌜ ((e : Event) → KeyOf e k → r ≡ sameName (paramOf (e .action) (e .name)) (nameAt (rowAt 15 i (now (t .entry))) 4)) ⌝ }
+// Whether the name in row `i` is the one in the words `ws`.
+fn same_called(t: &[u32], i: usize, ws: &[u32]) -> bool
+    ensures { λ r. ⌜ r ≡ sameName (nameAt (now (ws .entry)) 0) (nameAt (rowAt 15 i (now (t .entry))) 4) ⌝ }
 {
-    let n = k.len as usize;
+    let len = word(ws, 4) % 256;
+    let n = wide(len);
     if !name_length(n) {
         return false;
     }
-    if word_at(t, 15, i, 8) % 256 != k.len as u32 {
+    if word_at(t, 15, i, 8) % 256 != len {
         return false;
     }
-    same_text(t, i, k, n)
+    same_text(t, i, ws, n)
 }
 
 // Whether the event in row `i` is of the key's sort and for its parameter.
-fn same_order(t: &[u32], i: usize, k: Key) -> bool
-    ensures { λ r. ⌜ ((e : Event) → KeyOf e k → r ≡ (sameSort (e .action) (actionAt (rowAt 15 i (now (t .entry))) 9) && sameName (paramOf (e .action) (e .name)) (paramOf (actionAt (rowAt 15 i (now (t .entry))) 9) (nameAt (rowAt 15 i (now (t .entry))) 4)))) ⌝ }
+fn same_order(t: &[u32], i: usize, k: Key, ws: &[u32]) -> bool
+    ensures { λ r. ⌜ ((e : Event) → KeyOf e k → nameAt (now (ws .entry)) 0 ≡ paramOf (e .action) (e .name) → r ≡ (sameSort (e .action) (actionAt (rowAt 15 i (now (t .entry))) 9) && sameName (paramOf (e .action) (e .name)) (paramOf (actionAt (rowAt 15 i (now (t .entry))) 9) (nameAt (rowAt 15 i (now (t .entry))) 4)))) ⌝ }
 {
     let which = word_at(t, 15, i, 9);
     if which == 1 {
         if !k.value {
             return false;
         }
-        return same_called(t, i, k);
+        return same_called(t, i, ws);
     }
     if which == 2 {
         if !k.glide {
             return false;
         }
-        return same_called(t, i, k);
+        return same_called(t, i, ws);
     }
     if which == 3 {
         if !k.value {
@@ -177,8 +178,8 @@ fn same_order(t: &[u32], i: usize, k: Key) -> bool
 }
 
 // Whether the event in row `i` is one that the key's replaces.
-fn is_replaced(t: &[u32], i: usize, k: Key) -> bool
-    ensures { λ r. ⌜ ((e : Event) → KeyOf e k → r ≡ replaces e (getD (eventsIn (now (t .entry))) i (eventOf []))) ⌝ }
+fn is_replaced(t: &[u32], i: usize, k: Key, ws: &[u32]) -> bool
+    ensures { λ r. ⌜ ((e : Event) → KeyOf e k → nameAt (now (ws .entry)) 0 ≡ paramOf (e .action) (e .name) → r ≡ replaces e (getD (eventsIn (now (t .entry))) i (eventOf []))) ⌝ }
 {
     if time_at(t, i) != k.time {
         return false;
@@ -186,17 +187,17 @@ fn is_replaced(t: &[u32], i: usize, k: Key) -> bool
     if long_at(t, 15, i, 2) != k.voice {
         return false;
     }
-    same_order(t, i, k)
+    same_order(t, i, k, ws)
 }
 
 // The row of the first event among the first `count` that is replaced; behind them where none is.
-pub(crate) fn row_replaced(t: &[u32], count: usize, k: Key) -> usize
-    ensures { λ r. ⌜ ((e : Event) → KeyOf e k → r ≡ placeOf (replaces e) (take count (eventsIn (now (t .entry))))) ⌝ }
+pub(crate) fn row_replaced(t: &[u32], count: usize, k: Key, ws: &[u32]) -> usize
+    ensures { λ r. ⌜ ((e : Event) → KeyOf e k → nameAt (now (ws .entry)) 0 ≡ paramOf (e .action) (e .name) → r ≡ placeOf (replaces e) (take count (eventsIn (now (t .entry))))) ⌝ }
 {
     let n = at_most(count, t.len() / 15);
     let mut i: usize = 0;
     while i < n {
-        if is_replaced(t, i, k) {
+        if is_replaced(t, i, k, ws) {
             return i;
         }
         i += 1;
@@ -205,14 +206,20 @@ pub(crate) fn row_replaced(t: &[u32], count: usize, k: Key) -> usize
 }
 
 // If `p` is the row of the first that is replaced: removes those that are, in one pass that closes the gaps. How many are left.
-pub(crate) fn remove_replaced(t: &mut [u32], count: usize, p: usize, k: Key) -> usize
-    ensures { λ r. ⌜ ((e : Event) → KeyOf e k → p ≡ placeOf (replaces e) (take count (eventsIn (now (t .entry)))) → Holds (eventsIn (now (t .exit))) r (thinned e (take count (eventsIn (now (t .entry)))))) ⌝ }
+pub(crate) fn remove_replaced(
+    t: &mut [u32],
+    count: usize,
+    p: usize,
+    k: Key,
+    ws: &[u32],
+) -> usize
+    ensures { λ r. ⌜ ((e : Event) → KeyOf e k → nameAt (now (ws .entry)) 0 ≡ paramOf (e .action) (e .name) → p ≡ placeOf (replaces e) (take count (eventsIn (now (t .entry)))) → Holds (eventsIn (now (t .exit))) r (thinned e (take count (eventsIn (now (t .entry)))))) ⌝ }
 {
     let n = at_most(count, t.len() / 15);
     let mut w = p;
     let mut i = p;
     while i < n {
-        if is_replaced(t, i, k) {
+        if is_replaced(t, i, k, ws) {
             i += 1;
         } else {
             move_row(t, 15, i, w);

@@ -15,8 +15,8 @@ time-at-requires c κs = search needs
 returns : tie.Need-returns
 unfolding eventOf
 returns c =
-    let s = c .before .before .before .before .args in
-    λ e k. off _ _ (ne-eqb _ _ (λ z. c .if1 .taken (c .before .before .time-at .ensures ∙ sym z ∙ sym (k .time))))
+    let s = c .before .before .before .before .before .args in
+    λ e k name. off _ _ (ne-eqb _ _ (λ z. c .if1 .taken (c .before .before .time-at .ensures ∙ sym z ∙ sym (k .time))))
 
 long-at-requires : tie.Need-long-at-requires
 long-at-requires c κs = search needs
@@ -24,8 +24,8 @@ long-at-requires c κs = search needs
 returns-2 : tie.Need-returns-2
 unfolding eventOf
 returns-2 c =
-    let s = c .before .before .before .before .before .before .before .args in
-    λ e k.
+    let s = c .before .before .before .before .before .before .before .before .args in
+    λ e k name.
       (off _ _ (ne-eqb _ _ (λ z. c .if2 .taken (c .before .before .long-at .ensures ∙ sym z ∙ sym (k .voice))))
       ∙ on _ _ (eq-eqb _ _ (sym (k .time) ∙ sym (c .before .before .before .if1 .left) ∙ c .before .before .before .before .before .time-at .ensures ∙ ap (λ (x : Event). x .time) (row-is 15 eventOf (s .t .now) (s .i)))))
       ∙ sym (ap (replaces e) (row-is 15 eventOf (s .t .now) (s .i)))
@@ -36,9 +36,9 @@ same-order-requires c κs = search needs
 returns-3 : tie.Need-returns-3
 unfolding eventOf
 returns-3 c =
-    let s = c .before .before .before .before .before .before .before .before .args in
-    λ e k.
-      (c .same-order .ensures e k
+    let s = c .before .before .before .before .before .before .before .before .before .args in
+    λ e k name.
+      (c .same-order .ensures e k name
       ∙ on _ _ (eq-eqb _ _ (sym (k .voice) ∙ sym (c .before .if2 .left) ∙ c .before .before .before .long-at .ensures))
       ∙ on _ _ (eq-eqb _ _ (sym (k .time) ∙ sym (c .before .before .before .before .if1 .left) ∙ c .before .before .before .before .before .before .time-at .ensures ∙ ap (λ (x : Event). x .time) (row-is 15 eventOf (s .t .now) (s .i)))))
       ∙ sym (ap (replaces e) (row-is 15 eventOf (s .t .now) (s .i)))

@@ -1,7 +1,6 @@
 use mathlib.Core.Path.{refl, ap, _∙_}
 use borrow.Author.Needs.{needs}
 use Rattle.node.specs.Name.{sameName}
-use Rattle.node.specs.declared.name.Name.{Name}
 use Rattle.scheduler.specs.Event.{gateName}
 use Rattle.scheduler.specs.declared.event.ParamOrder.{ParamOrder}
 use Rattle.event_table.proofs.replace.key_of.Statement.{statement}
@@ -9,9 +8,6 @@ use Rattle.event_table.proofs.replace.key_of.Tie as tie
 
 param-order-requires : tie.Need-param-order-requires
 param-order-requires c κs = search needs
-
-name-words-requires : tie.Need-name-words-requires
-name-words-requires c κs = search needs
 
 is-value-requires : tie.Need-is-value-requires
 is-value-requires c κs = search needs
@@ -25,29 +21,15 @@ gate-name-requires c κs = search needs
 same-name-requires : tie.Need-same-name-requires
 same-name-requires c κs = search needs
 
-array-read-t13 : tie.Need-array-read-t13
-array-read-t13 c = search needs
-
-array-read-t16 : tie.Need-array-read-t16
-array-read-t16 c = search needs
-
-array-read-t19 : tie.Need-array-read-t19
-array-read-t19 c = search needs
-
-array-read-t22 : tie.Need-array-read-t22
-array-read-t22 c = search needs
-
 returns : tie.Need-returns
 returns c =
-    let o = c .before .before .before .before .before .before .param-order in
+    let o = c .before .before .before .before .before .param-order in
     record {
       time = refl;
       voice = refl;
       value = c .before .before .before .is-value .ensures;
       glide = c .before .before .is-glide .ensures;
       gate = c .same-name .ensures ∙ ap (sameName (o .result .name)) (c .before .gate-name .ensures) ∙ ap (λ (p : ParamOrder). sameName (p .name) gateName) (o .ensures);
-      bytes = ap (λ (n : Name). n .bytes) (c .before .before .before .before .name-words .ensures) ∙ ap (λ (p : ParamOrder). p .name .bytes) (o .ensures);
-      len = ap (λ (p : ParamOrder). p .name .len) (o .ensures);
     }
 
 pub key-of-spec : {M : Type 1} → statement M
@@ -55,13 +37,8 @@ key-of-spec =
     tie.close
     (tie.spec
     param-order-requires
-    name-words-requires
     is-value-requires
     is-glide-requires
     gate-name-requires
     same-name-requires
-    array-read-t13
-    array-read-t16
-    array-read-t19
-    array-read-t22
     returns)
