@@ -23,10 +23,10 @@ use Rattle.node.specs.declared.refusal.Refusal.the-variants.{TableFull}
 use Rattle.node.proofs.NameLaws.{same-to, same-from}
 use Rattle.scheduler.specs.Event.{gateName, paramOf}
 use Rattle.scheduler.specs.Replace.{sameSort, replaces, thinned}
-use Rattle.scheduler.specs.Queue.{later, replacing, full, answerTo}
+use Rattle.scheduler.specs.Queue.{later, replacing, full, queueAfter, answerTo}
 use Rattle.scheduler.specs.declared.event.Event.{Event}
 use Rattle.scheduler.specs.declared.queue.ScheduleAnswer.the-variants.{Taken, Refused}
-use Rattle.scheduler.proofs.Sorted.{Sorted, keep-sorted, inserted-place}
+use Rattle.scheduler.proofs.Sorted.{Sorted, keep-sorted, inserted-sorted, inserted-place, length-inserted}
 
 -- ---- what an event orders: a value or a glide, for the parameter of these bytes; nothing where it is a free or has no name
 pub data Sort : Type 0 where
@@ -140,6 +140,22 @@ replacing-place e l s =
         let k : e .time < f .time = ltb-true _ _ h in
         let off : eqb (e .time) (f .time) ≡ false = ne-eqb (e .time) (f .time) (λ z. omega (arith, z, k)) in
         rw (h, off)
+
+-- the queue never grows beyond its table
+pub queue-fits : (e : Event) (l : List Event) → length l ≤ 256 → length (queueAfter e l) ≤ 256
+queue-fits e l h = go (full (thinned e l)) refl
+  where
+    go : (b : Bool) → full (thinned e l) ≡ b → length (cond b l (replacing e l)) ≤ 256
+    go true t = h
+    go false t = omega (arith, length-inserted e (thinned e l), leb-false 256 (length (thinned e l)) t)
+
+-- scheduling keeps the queue ordered, taken or refused
+pub queue-sorted : (e : Event) (l : List Event) → Sorted l → Sorted (queueAfter e l)
+queue-sorted e l s = go (full (thinned e l))
+  where
+    go : (b : Bool) → Sorted (cond b l (replacing e l))
+    go true = s
+    go false = inserted-sorted e (thinned e l) (keep-sorted (λ f. not (replaces e f)) l s)
 
 -- ---- "Freed queue places count before refusal 7": a queue of up to 256 takes an event exactly if it has a place left, or an event
 -- that the new one replaces
