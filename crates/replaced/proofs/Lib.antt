@@ -3,7 +3,7 @@ pub mod Happen
 pub mod Lasts
 pub mod Still
 pub mod Owned
-pub mod Twin
+pub mod Related
 pub mod Told
 pub mod Theorem
 pub mod Scenes

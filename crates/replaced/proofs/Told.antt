@@ -38,7 +38,7 @@ use Rattle.replaced.proofs.Thin.{Superseded, thinned-taken}
 use Rattle.replaced.proofs.Happen.{Good, setAt, put, atNodes, aim, look-set, touched, touched-takes, set-again, set-swap, gone-set, good-set, good-gone, good-happen, aim-set, happen-put, superseded-free}
 use Rattle.replaced.proofs.Lasts.{true-overtaken, single-keep, thinned-lasts}
 use Rattle.replaced.proofs.Still.{voice-still, happen-still}
-use Rattle.replaced.proofs.Twin.{Twin, heard-same}
+use Rattle.replaced.proofs.Related.{Related, heard-same}
 
 -- ---- an outcome does not depend on last orders
 happened-set : (e : Event) (k : ℕ) (o : LastOrder) (m : Model) → outcomeOf e (setAt k o m) ≡ outcomeOf e m
@@ -119,7 +119,7 @@ outcomes-still l (e ∷ q) m =
     ∙ ap (λ z. outcomeNumber (outcomeOf e m) ∷ z) (ap (outcomes q) (happen-still l e m) ∙ outcomes-still l q (applyEvent e m))
 
 -- ---- of every store that calls made: what the next render tells
-told : (a b : Model) → Good a → Twin a b → outcomes (due (a .shared)) (rested a) ≡ leftOf (due (b .shared)) (outcomes (due (b .shared)) (rested b))
+told : (a b : Model) → Good a → Related a b → outcomes (due (a .shared)) (rested a) ≡ leftOf (due (b .shared)) (outcomes (due (b .shared)) (rested b))
 told a b g t = subst (λ (z : Model). outcomes (due (a .shared)) (rested a) ≡ leftOf (due (z .shared)) (outcomes (due (z .shared)) (rested z))) (sym (t .is)) here
   where
     d : ℕ
@@ -144,7 +144,7 @@ outcomes-long [] m = refl
 outcomes-long (e ∷ q) m = ap suc (outcomes-long q (applyEvent e m))
 
 -- ---- a render that is refused, or not
-module _ (a b : Model) (g : Good a) (t : Twin a b) (out : List ℕ) where
+module _ (a b : Model) (g : Good a) (t : Related a b) (out : List ℕ) where
   -- what the two answer
   pub record Told (o : Option Refusal) : Type 0 where
     pub says : Rendered

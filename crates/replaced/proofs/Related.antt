@@ -35,7 +35,7 @@ use Rattle.replaced.proofs.Still.{happens-still, prepared-still, heardQ
 use Rattle.replaced.proofs.Owned.{FitsOf, fits-step, good-of}
 
 -- ---- what goes on from call to call
-pub record Twin (a b : Model) : Type 0 where
+pub record Related (a b : Model) : Type 0 where
   pub queue : List Event
   pub is : b ≡ withQueue queue a
   pub thin : Thinned (a .shared .events) queue
@@ -72,18 +72,18 @@ view (call.ask q) = inr (inr (refl, refl))
 
 -- ---- one call
 pub record Stepped (x : Call) (a b : Model) : Type 0 where
-  pub twin : Twin (step x a .model) (keptStep x a b .model)
+  pub related : Related (step x a .model) (keptStep x a b .model)
   pub answer : isRender x ≡ false → step x a .answer ≡ keptStep x a b .answer
 
 module _ (a : Model) (g : Good a) (q : List Event) (h : Thinned (a .shared .events) q) (s : Sorted q) (i : Single (a .shared .events)) where
   abbrev b : Model
   b = withQueue q a
 
-  twin : Twin a b
-  twin = record { queue = q; is = refl; thin = h; order = s; single = i }
+  related : Related a b
+  related = record { queue = q; is = refl; thin = h; order = s; single = i }
 
   schedules : (t : ℕ) (w : VoiceId) (name : List ℕ) (c : Action) → Stepped (call.schedule t w name c) a b
-  schedules t w name c = let r = go (scheduleRefusal e (a .shared .events)) in record { twin = r .0; answer = λ z. r .1 }
+  schedules t w name c = let r = go (scheduleRefusal e (a .shared .events)) in record { related = r .0; answer = λ z. r .1 }
     where
       e : Event
       e = event t w name c
@@ -91,18 +91,18 @@ module _ (a : Model) (g : Good a) (q : List Event) (h : Thinned (a .shared .even
       mine : Option Refusal → Step
       mine o = unless o a (sharedStep a (withEvents (replacing e (a .shared .events)) (a .shared)) call.done)
 
-      go : (o : Option Refusal) → Twin (mine o .model) (keptUnless o e b .model) × (mine o .answer ≡ keptUnless o e b .answer)
-      go (some r) = (twin, refl)
+      go : (o : Option Refusal) → Related (mine o .model) (keptUnless o e b .model) × (mine o .answer ≡ keptUnless o e b .answer)
+      go (some r) = (related, refl)
       go none = (
         record { queue = inserted e q; is = refl; thin = thinned-schedule e q (a .shared .events) s h; order = inserted-sorted e q s; single = single-replacing e (a .shared .events) (thinned-sorted q (a .shared .events) s h) i },
         refl,
       )
 
   -- a render that is not refused
-  pub renders-both : Twin (render a .model) (render b .model) × (render a .answer ≡ render b .answer)
+  pub renders-both : Related (render a .model) (render b .model) × (render a .answer ≡ render b .answer)
   renders-both = (
-    subst (λ (z : Heard). Twin (z .model) (at q .model)) (sym mine)
-        (subst (λ (z : Heard). Twin (heardQ (leftAfter d p) both .model) (z .model)) (sym theirs)
+    subst (λ (z : Heard). Related (z .model) (at q .model)) (sym mine)
+        (subst (λ (z : Heard). Related (heardQ (leftAfter d p) both .model) (z .model)) (sym theirs)
         (record { queue = leftAfter d q; is = refl; thin = thinned-left d p q h; order = keep-sorted (λ e. not (due d e)) q s; single = single-keep (λ e. not (due d e)) p i })),
     ap (λ (z : Heard). z .answer) mine ∙ sym (ap (λ (z : Heard). z .answer) theirs),
   )
@@ -132,16 +132,16 @@ module _ (a : Model) (g : Good a) (q : List Event) (h : Thinned (a .shared .even
           ∙ prepared-still (leftAfter d q) (anyFree (takenBefore d p)) (applyEvents (takenBefore d p) a)
 
   renders : (out : List ℕ) → Stepped (call.render out) a b
-  renders out = record { twin = go (renderRefusal (a .shared) (length out)); answer = λ z. absurd (true≢false z) }
+  renders out = record { related = go (renderRefusal (a .shared) (length out)); answer = λ z. absurd (true≢false z) }
     where
-      go : (o : Option Refusal) → Twin (renderStep o out a .model) (renderStep o out b .model)
-      go (some r) = twin
+      go : (o : Option Refusal) → Related (renderStep o out a .model) (renderStep o out b .model)
+      go (some r) = related
       go none = renders-both .0
 
   others : (x : Call) → isRender x ≡ false → scheduled x ≡ none → Stepped x a b
   others x r z =
       record {
-        twin = subst (λ o. Twin (step x a .model) (keptBy o x a b .model)) (sym z)
+        related = subst (λ o. Related (step x a .model) (keptBy o x a b .model)) (sym z)
             (record { queue = q; is = ap (λ (t : Step). t .model) (still-step q x r z a); thin = subst (λ l. Thinned l q) (sym stay) h; order = s; single = subst Single (sym stay) i });
         answer = λ y. sym (ap (λ o. keptBy o x a b .answer) z ∙ ap (λ (t : Step). t .answer) (still-step q x r z a));
       }
@@ -157,26 +157,26 @@ module _ (a : Model) (g : Good a) (q : List Event) (h : Thinned (a .shared .even
       go (inr (inl e)) = subst (λ y. Stepped y a b) (sym (e .1)) (renders (e .0))
       go (inr (inr r)) = others x (r .0) (r .1)
 
-pub twin-step : (x : Call) (a b : Model) → Good a → Twin a b → Stepped x a b
-twin-step x a b g t = subst (λ z. Stepped x a z) (sym (t .is)) (stepped a g (t .queue) (t .thin) (t .order) (t .single) x)
+pub related-step : (x : Call) (a b : Model) → Good a → Related a b → Stepped x a b
+related-step x a b g t = subst (λ z. Stepped x a z) (sym (t .is)) (stepped a g (t .queue) (t .thin) (t .order) (t .single) x)
 
 -- ---- every list of calls, along the ledger, which knows that the stores are good
-pub twin-run : (xs : List Call) (l : Ledger) → Kept l → OwnNodes l → FitsOf l → (b : Model) → Twin (modelOf l) b
-    → Twin (run xs (modelOf l) .model) (keptRun xs (modelOf l) b .model) × Good (run xs (modelOf l) .model)
-twin-run [] l k o f b t = (t, good-of l k o f)
-twin-run (x ∷ xs) l k o f b t =
+pub related-run : (xs : List Call) (l : Ledger) → Kept l → OwnNodes l → FitsOf l → (b : Model) → Related (modelOf l) b
+    → Related (run xs (modelOf l) .model) (keptRun xs (modelOf l) b .model) × Good (run xs (modelOf l) .model)
+related-run [] l k o f b t = (t, good-of l k o f)
+related-run (x ∷ xs) l k o f b t =
     let n = ledger.step x l .ledger in
     let a : step x (modelOf l) .model ≡ modelOf n = step-agrees x l k .model in
-    let r = twin-step x (modelOf l) b (good-of l k o f) t .twin in
+    let r = related-step x (modelOf l) b (good-of l k o f) t .related in
     let c = keptStep x (modelOf l) b .model in
-    subst (λ m. Twin (run xs m .model) (keptRun xs m c .model) × Good (run xs m .model)) (sym a)
-    (twin-run xs n (kept-step x l k) (own-run (x ∷ []) l o) (fits-step x l (ids-of l (k .sound)) f) c (subst (λ m. Twin m c) a r))
+    subst (λ m. Related (run xs m .model) (keptRun xs m c .model) × Good (run xs m .model)) (sym a)
+    (related-run xs n (kept-step x l k) (own-run (x ∷ []) l o) (fits-step x l (ids-of l (k .sound)) f) c (subst (λ m. Related m c) a r))
 
-pub twins : (k : Making) (m : Model) → make k ≡ some m → (xs : List Call) → Twin (run xs m .model) (keptRun xs m m .model) × Good (run xs m .model)
-twins k m accepted xs =
+pub related-runs : (k : Making) (m : Model) → make k ≡ some m → (xs : List Call) → Related (run xs m .model) (keptRun xs m m .model) × Good (run xs m .model)
+related-runs k m accepted xs =
     let z = made k m accepted in
-    subst (λ m. Twin (run xs m .model) (keptRun xs m m .model) × Good (run xs m .model)) (sym (z .new))
-    (twin-run xs (newLedger (configOf k)) (kept-new (configOf k) (z .length)) (own-new (configOf k)) (λ v i. absurd i) (newModel (configOf k)) (record { queue = []; is = refl; thin = refl; order = tt; single = tt }))
+    subst (λ m. Related (run xs m .model) (keptRun xs m m .model) × Good (run xs m .model)) (sym (z .new))
+    (related-run xs (newLedger (configOf k)) (kept-new (configOf k) (z .length)) (own-new (configOf k)) (λ v i. absurd i) (newModel (configOf k)) (record { queue = []; is = refl; thin = refl; order = tt; single = tt }))
 
 -- ---- "for a queue that would have held them": where B's queue has a place left, B's `schedule` is that of a store that replaces nothing
 abbrev pub plainSchedule : Event → Model → Step
@@ -185,5 +185,5 @@ plainSchedule e b = unless (when (full (b .shared .events)) TableFull none) b (s
 pub held : (e : Event) (b : Model) → full (b .shared .events) ≡ false → plainSchedule e b ≡ keptUnless none e b
 held e b h = ap (λ z. unless (when z TableFull none) b (sharedStep b (withEvents (inserted e (b .shared .events)) (b .shared)) call.done)) h
 
-pub heard-same : (a b : Model) → Good a → Twin a b → render a .answer ≡ render b .answer
+pub heard-same : (a b : Model) → Good a → Related a b → render a .answer ≡ render b .answer
 heard-same a b g t = subst (λ (z : Model). render a .answer ≡ render z .answer) (sym (t .is)) (renders-both a g (t .queue) (t .thin) (t .order) (t .single) .1)
