@@ -1,3 +1,5 @@
-// The pending events in words that the host lends: an event's row, and the queue of up to 256 rows by time.
+// The pending events in words that the host lends: an event's row, which rows a new event replaces, and the queue of up to 256 rows by
+// time.
 pub mod queue;
+mod replace;
 pub mod row;

@@ -1,5 +1,9 @@
 // The queue of pending events: the first `count` rows of its table, by time, equal times in the order in which they came. A
 // count above the room is the room. What a deadline takes is read row by row first (`is_due`, `event_at`), and removed then.
+use crate::replace::key_of;
+use crate::replace::param_words;
+use crate::replace::remove_replaced;
+use crate::replace::row_replaced;
 use crate::row::EventTable;
 use crate::row::put_event;
 use crate::row::time_at;
@@ -11,7 +15,9 @@ use words::table::move_row;
 use words::table::open_row;
 ghost use mathlib.Core.Path.{_≡_};
 ghost use mathlib.Core.List.{List, []};
+ghost use mathlib.Core.Bool.{_&&_};
 ghost use Prim.Native.Nat.{ℕ, _+_, _<_};
+ghost use lib.Dec.{leb};
 ghost use lib.ListN.{length, take, getD};
 ghost use Rattle.scheduler.specs.Queue.{Place, inserted, full, due, takenBefore, leftAfter};
 ghost use Rattle.words.specs.Place.{Holds};
@@ -22,13 +28,6 @@ ghost use Rattle.event_table.specs.Queue.{Queued};
 pub struct Scheduled {
     pub count: usize,
     pub answer: ScheduleAnswer,
-}
-
-// Whether a queue of `count` events takes no more.
-pub fn is_full(count: usize) -> bool
-    ensures { λ r. ⌜ ((c : List ℕ) → length c ≡ 3840 → r ≡ full (take count (eventsIn c))) ⌝ }
-{
-    256 <= count
 }
 
 // Whether the event in row `i` is due: its time is strictly below the deadline.
@@ -64,24 +63,36 @@ fn insert(t: &mut [u32], n: usize, e: Event)
     put_event(t, p, e);
 }
 
+// Whether a queue of `count` events takes none, where `p` is the row of the first that is replaced: a place that is freed counts.
+fn takes_none(count: usize, p: usize) -> bool
+    ensures { λ r. ⌜ r ≡ (leb 256 count && leb 256 p) ⌝ }
+{
+    256 <= count && 256 <= p
+}
+
 fn schedule_in(t: &mut [u32], count: usize, e: Event) -> Scheduled
     requires { ⌜ length (now t) ≡ 3840 ⌝ }
     ensures { λ r. ⌜ Queued count e (now (t .entry)) r (now (t .exit)) ⌝ }
 {
-    if is_full(count) {
+    let k = key_of(e);
+    let ws = param_words(e);
+    let p = row_replaced(t, count, k, &ws);
+    if takes_none(count, p) {
         return Scheduled {
             count,
             answer: ScheduleAnswer::Refused(Refusal::TableFull),
         };
     }
-    insert(t, count, e);
+    let left = remove_replaced(t, count, p, k, &ws);
+    insert(t, left, e);
     Scheduled {
-        count: count + 1,
+        count: left + 1,
         answer: ScheduleAnswer::Taken,
     }
 }
 
-// Schedules an event: it is taken, or refused where the queue is full, and then words and count are the very ones.
+// Schedules an event: those that it replaces go, and it is taken; or it is refused where the queue has no place for it, and then words
+// and count are the very ones.
 pub fn schedule(t: &mut EventTable, count: usize, e: Event) -> Scheduled
     ensures { λ r. ⌜ Queued count e (now (t .entry)) r (now (t .exit)) ⌝ }
 {

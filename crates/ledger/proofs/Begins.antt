@@ -30,7 +30,7 @@ use Rattle.model.specs.Refuse.{spawnRefusal, reportRefusal}
 use Rattle.model.specs.Spawn.{newVoice, stateUnder, tries, fadeOf, Spawn}
 use Rattle.model.specs.Order.{order}
 use Rattle.model.specs.Render.{prepareOutcome, prepareShared, isFree, anyFree, heard, answerAfter, isSounding, due, renderRefusal}
-use Rattle.model.specs.Call.{Call, Answer, scheduleRefusal, readyAnswer}
+use Rattle.model.specs.Call.{Call, Answer, event, scheduleRefusal, readyAnswer}
 use Rattle.model.specs.Call as call
 use Rattle.ledger.specs.Ledger.{Ledger, SpawnResult, portFree, portHeld, withoutVoice, stolen, stealVoice, instantiateOr, place, placeWithinBudget, admitted, admissionOn, freed, free}
 use Rattle.ledger.specs.Ledger as ledger
@@ -165,7 +165,7 @@ module _ (v : Voice) (f : Fade) (ph : v .state ≡ Fading f) where
       let m = withoutVoices (endedVoices l) l in
       old l _ _ refl (goneAll-sub (endedVoices l) l v (goneAll-sub (silentVoices m) m v i))
   comes (call.order w name o) l d i = old l _ _ refl i
-  comes (call.schedule t w name a) l d i = guarded (scheduleRefusal (l .shared .events)) _ l _ i (λ j. old l _ _ refl j)
+  comes (call.schedule t w name a) l d i = guarded (scheduleRefusal (event t w name a) (l .shared .events)) _ l _ i (λ j. old l _ _ refl j)
   comes (call.report k channels samples flag) l d i = guarded (reportRefusal (l .shared) (l .voices) k channels (length samples)) _ l _ i (λ j. old l _ _ refl j)
   comes call.prepare l d i = go (prepareOutcome (l .shared) .answer)
     where

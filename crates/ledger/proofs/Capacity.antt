@@ -28,6 +28,7 @@ use Rattle.graph.specs.View.{GraphView}
 use Rattle.graph.specs.Node.{isNode, ownedBy, nodeAt, ofVoice, portsOf, hostNode, withId}
 use Rattle.graph.specs.Change as change
 use Rattle.graph.specs.Refuse.{dead, badKind, addRefusal, connectRefusal}
+use Rattle.scheduler.specs.Replace.{thinned}
 use Rattle.scheduler.specs.Queue.{later, before?, inserted, due}
 use Rattle.scheduler.specs.declared.event.Event.{Event}
 use Rattle.synthdef.specs.Tables.{nodeRows, edgeRows}
@@ -270,8 +271,8 @@ room-steady =
       goes = λ l w r. room-gone 0 0 0 l w r;
       node = λ l k x n e s r. record { nodes = rw (length-map (l .shared .graph .nodes) (λ m. cond (isNode (n .id) m) n m)) (r .nodes); edges = r .edges; voices = r .voices; events = r .events };
       schedule = λ l e h r.
-          let lt : length (l .shared .events) < 256 = leb-false _ _ h in
-          record { nodes = r .nodes; edges = r .edges; voices = r .voices; events = omega (arith, lt, length-inserted e (l .shared .events)) };
+          let lt : length (thinned e (l .shared .events)) < 256 = leb-false _ _ h in
+          record { nodes = r .nodes; edges = r .edges; voices = r .voices; events = omega (arith, lt, length-inserted e (thinned e (l .shared .events))) };
       rest = λ l r.
           record { nodes = r .nodes; edges = r .edges; voices = r .voices; events = omega (arith, r .events, length-filter (λ e. not (due (deadline (l .shared)) e)) (l .shared .events)) };
       prepare = λ l e r. record { nodes = r .nodes; edges = r .edges; voices = r .voices; events = r .events };

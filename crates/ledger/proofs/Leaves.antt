@@ -42,7 +42,7 @@ use Rattle.model.specs.Clear.{isSilent}
 use Rattle.model.specs.Render.{prepareOutcome, prepareShared, isFree, anyFree, heard, answerAfter, isSounding, deadline, due, renderRefusal}
 use Rattle.model.specs.Written.{written}
 use Rattle.model.specs.Page.{page}
-use Rattle.model.specs.Call.{Call, scheduleRefusal, readyAnswer, Question, answerTo, blockAnswer, wholeAnswer}
+use Rattle.model.specs.Call.{Call, event, scheduleRefusal, readyAnswer, Question, answerTo, blockAnswer, wholeAnswer}
 use Rattle.model.specs.Block.{fades, sums, wholeFadeRefusal, wholeSumRefusal}
 use Rattle.model.specs.Call as call
 use Rattle.order.specs.declared.Readiness.{Readiness}
@@ -298,7 +298,7 @@ module _ (v : Voice) (f : Fade) (ph : v .state ≡ Fading f) where
   leaves (call.free w) l r q i = ⊎-elim (λ j. inl (still (free w l .voices) j)) (λ e. inr (subst (λ z. Why l (free w l) v f (call.free z)) (sym e) freed)) (leaves-free w l i)
   leaves call.clear l r q i = leaves-clear l q i
   leaves (call.order w name o) l r q i = inl (still (l .voices) i)
-  leaves (call.schedule t w name a) l r q i = guarded (scheduleRefusal (l .shared .events)) _ l _ i (λ e. inl (still (l .voices) i))
+  leaves (call.schedule t w name a) l r q i = guarded (scheduleRefusal (event t w name a) (l .shared .events)) _ l _ i (λ e. inl (still (l .voices) i))
   leaves (call.report k channels samples flag) l r q i = guarded (reportRefusal (l .shared) (l .voices) k channels (length samples)) _ l _ i (λ e. inl (still (l .voices) i))
   leaves call.prepare l r q i = inl (ready-still l (prepareOutcome (l .shared) .answer) i)
   leaves (call.render out) l r q i = leaves-render out l i

@@ -46,7 +46,7 @@ use Rattle.model.specs.Refuse.{spawnRefusal, reportRefusal}
 use Rattle.model.specs.Spawn.{newVoice, stateUnder, tries, fadeOf, Spawn}
 use Rattle.model.specs.Order.{withNode, withLast, takes, order, orderVoice, orderParam, orderNode, stays, reportNode}
 use Rattle.model.specs.Render.{prepareOutcome, readyShared, isFree, anyFree, isSounding, due, clockEnds, renderRefusal}
-use Rattle.model.specs.Call.{Call, scheduleRefusal}
+use Rattle.model.specs.Call.{Call, event, scheduleRefusal}
 use Rattle.model.specs.Call as call
 use Rattle.ledger.specs.Ledger.{Ledger, SpawnResult, portHeld, withoutVoice, stolen, stealVoice, placeWithinBudget, place, admitted, admissionOn, freed, free}
 use Rattle.ledger.specs.Ledger as ledger
@@ -172,7 +172,7 @@ clock-step x l u h = go x
         let faded = withoutVoices (endedVoices l) l in
         same (still-all (silentVoices faded) faded .0 ∙ still-all (endedVoices l) l .0)
     go (call.order w name o) = same (still-order (find (isVoice w) (l .voices)) (nameOf name) o (l .shared) .0)
-    go (call.schedule t w name a) = same (still-unless (scheduleRefusal (l .shared .events)) l _ refl)
+    go (call.schedule t w name a) = same (still-unless (scheduleRefusal (event t w name a) (l .shared .events)) l _ refl)
     go (call.report k channels samples flag) =
         same (still-unless (reportRefusal (l .shared) (l .voices) k channels (length samples)) l _ (still-report (nodeAt (l .shared .graph .nodes) k) samples flag (l .shared)))
     go call.prepare = same (still-ready (prepareOutcome (l .shared) .answer) (prepareOutcome (l .shared) .order) (l .shared) .0)

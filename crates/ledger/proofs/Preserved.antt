@@ -23,7 +23,8 @@ use Rattle.graph.specs.Refuse.{addRefusal, hostRefusal, disconnectRefusal, conn
 use Rattle.order.specs.declared.Readiness.{Readiness}
 use Rattle.order.specs.declared.Readiness.the-variants.{Ready, Refused}
 use Rattle.scheduler.specs.Event.{paramOrder}
-use Rattle.scheduler.specs.Queue.{full, inserted}
+use Rattle.scheduler.specs.Replace.{thinned}
+use Rattle.scheduler.specs.Queue.{full, replacing}
 use Rattle.scheduler.specs.declared.event.Event.{Event}
 use Rattle.node.specs.declared.order.LastOrder.{LastOrder}
 use Rattle.node.specs.declared.name.Name.{Name}
@@ -96,7 +97,7 @@ pub record Preserves (P : Ledger → Type 0) : Type 0 where
   pub goes : (l : Ledger) (w : VoiceId) → P l → P (withoutVoice w l)
   -- the record x of a live node becomes n
   pub node : (l : Ledger) (k : NodeId) (x n : Node) → nodeAt (l .shared .graph .nodes) k ≡ some x → Alike x n → P l → P (atShared l (withNode n (l .shared)))
-  pub schedule : (l : Ledger) (e : Event) → full (l .shared .events) ≡ false → P l → P (atShared l (withEvents (inserted e (l .shared .events)) (l .shared)))
+  pub schedule : (l : Ledger) (e : Event) → full (thinned e (l .shared .events)) ≡ false → P l → P (atShared l (withEvents (replacing e (l .shared .events)) (l .shared)))
   pub rest : (l : Ledger) → P l → P (rested l)
   pub prepare : (l : Ledger) → prepareOutcome (l .shared) .answer ≡ Ready → P l → P (atShared l (readyShared Ready (prepareOutcome (l .shared) .order) (l .shared)))
   pub block : (l : Ledger) (a : Rendered) → P l → P (blockOf a l .ledger)
@@ -209,7 +210,7 @@ module _ (P : Ledger → Type 0) where
         goneAll-kept (silentVoices faded) faded (goneAll-kept (endedVoices l) l p)
     step-kept (call.order w name o) l m p = order-kept (find (isVoice w) (l .voices)) (nameOf name) o l p
     step-kept (call.schedule t w name a) l m p =
-        unless-kept (scheduleRefusal (l .shared .events)) l _ p (λ e. k .schedule l (event t w name a) (when-none (full (l .shared .events)) TableFull none e .0) p)
+        unless-kept (scheduleRefusal (event t w name a) (l .shared .events)) l _ p (λ e. k .schedule l (event t w name a) (when-none (full (thinned (event t w name a) (l .shared .events))) TableFull none e .0) p)
     step-kept (call.report j channels samples flag) l m p =
         unless-kept (reportRefusal (l .shared) (l .voices) j channels (length samples)) l _ p (λ e. report-kept j (nodeAt (l .shared .graph .nodes) j) samples flag l refl p)
     step-kept call.prepare l m p = ready-kept l p

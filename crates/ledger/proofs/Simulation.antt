@@ -32,7 +32,7 @@ use Rattle.model.specs.Order.{order, reportNode}
 use Rattle.model.specs.Render.{prepareOutcome, due, renderRefusal}
 use Rattle.model.specs.Written.{written}
 use Rattle.model.specs.Page.{header, portNow, line, lines}
-use Rattle.model.specs.Call.{Call, Question, scheduleRefusal, pageAnswer, answerTo}
+use Rattle.model.specs.Call.{Call, Question, event, scheduleRefusal, pageAnswer, answerTo}
 use Rattle.model.specs.Call as call
 use Rattle.ledger.specs.Ledger.{Ledger, newLedger, portHeld}
 use Rattle.ledger.specs.Render.{rested}
@@ -172,7 +172,7 @@ step-agrees (call.spawnLoose x) l h =
 step-agrees (call.free w) l h = let r = free-agrees w l (h .sound) in record { answer = ap call.ordered (freed-same w l); model = r .model; sound = r .sound }
 step-agrees call.clear l h = let r = clear-agrees l (h .length) (h .sound) in record { answer = ap call.removed (r .removed); model = r .model; sound = r .sound }
 step-agrees (call.order w name o) l h = order-agrees l (h .sound) w name o
-step-agrees (call.schedule t w name a) l h = guarded l (h .sound) (scheduleRefusal (l .shared .events)) _ _ (λ e. record { answer = refl; model = refl; sound = h .sound })
+step-agrees (call.schedule t w name a) l h = guarded l (h .sound) (scheduleRefusal (event t w name a) (l .shared .events)) _ _ (λ e. record { answer = refl; model = refl; sound = h .sound })
 step-agrees (call.report k channels samples flag) l h = report-agrees l (h .sound) k channels samples flag
 step-agrees call.prepare l h =
     let r = ready-desk l (h .sound) (prepareOutcome (l .shared) .answer) (prepareOutcome (l .shared) .order) in

@@ -11,7 +11,7 @@ use Rattle.graph.specs.View.{GraphView}
 use Rattle.graph.specs.Node.{nodeAt, hostNode}
 use Rattle.graph.specs.Change as change
 use Rattle.graph.specs.Refuse.{addRefusal, hostRefusal, disconnectRefusal, connectRefusal}
-use Rattle.scheduler.specs.Queue.{inserted}
+use Rattle.scheduler.specs.Queue.{replacing}
 use Rattle.store.specs.declared.answer.Rendered.the-variants as Rendered
 use Rattle.store.specs.declared.voices.Voice.{Voice}
 use Rattle.model.specs.SharedState.{SharedState, withEvents}
@@ -92,7 +92,7 @@ step (call.order w name o) l =
     let r = param.order w (nameOf name) o (l .voices) (l .shared) in
     sharedStep l (r .shared) (call.ordered (r .outcome))
 step (call.schedule t w name a) l =
-    unless (scheduleRefusal (l .shared .events)) l (sharedStep l (withEvents (inserted (event t w name a) (l .shared .events)) (l .shared)) call.done)
+    unless (scheduleRefusal (event t w name a) (l .shared .events)) l (sharedStep l (withEvents (replacing (event t w name a) (l .shared .events)) (l .shared)) call.done)
 step (call.report k channels samples flag) l =
     unless (reportRefusal (l .shared) (l .voices) k channels (length samples)) l
     (sharedStep l (reportNode (nodeAt (l .shared .graph .nodes) k) samples flag (l .shared)) call.done)

@@ -36,7 +36,7 @@ use Rattle.model.specs.Spawn.{tries, stateUnder, nextOut, Spawn}
 use Rattle.model.specs.Model.{Model, cutOff, stealVoice, portFree, instantiateOr, place, stealThen, admitted, admissionOn, SpawnResult}
 use Rattle.model.specs.Model as store
 use Rattle.model.specs.Render.{prepareOutcome, prepareShared, readyShared, heard, answerAfter, preparedIf, anyFree, due, rested, applyEvents, renderRefusal}
-use Rattle.model.specs.Call.{Call, Answer, Step, unless, step, renderStep, readyAnswer, scheduleRefusal}
+use Rattle.model.specs.Call.{Call, Answer, Step, unless, step, renderStep, readyAnswer, event, scheduleRefusal}
 use Rattle.model.specs.Call as call
 
 -- ---- the refusal that an answer is. A render whose prepare failed "is not refused"
@@ -245,7 +245,7 @@ refused-leaves (call.spawnLoose x) m r h = same-left r m _ (loose-left x m r h)
 refused-leaves (call.free w) m r h = absurd (none-some h)
 refused-leaves call.clear m r h = absurd (none-some h)
 refused-leaves (call.order w name o) m r h = absurd (none-some h)
-refused-leaves (call.schedule t w name a) m r h = same-left r m _ (unless-left (scheduleRefusal (m .shared .events)) m _ r refl h)
+refused-leaves (call.schedule t w name a) m r h = same-left r m _ (unless-left (scheduleRefusal (event t w name a) (m .shared .events)) m _ r refl h)
 refused-leaves (call.report k channels samples flag) m r h =
     same-left r m _ (unless-left (reportRefusal (m .shared) (m .voices) k channels (length samples)) m _ r refl h)
 refused-leaves call.prepare m r h =

@@ -25,7 +25,8 @@ use Rattle.graph.specs.Change as change
 use Rattle.graph.specs.Refuse.{addRefusal, hostRefusal, disconnectRefusal, connectRefusal, when}
 use Rattle.order.specs.declared.Readiness.{Readiness}
 use Rattle.order.specs.declared.Readiness.the-variants as Readiness
-use Rattle.scheduler.specs.Queue.{full, inserted}
+use Rattle.scheduler.specs.Replace.{thinned}
+use Rattle.scheduler.specs.Queue.{full, replacing}
 use Rattle.scheduler.specs.declared.event.Event.{Event}
 use Rattle.voice.specs.Steals.{StealLog}
 use Rattle.voice.specs.declared.policy.Level.{Level}
@@ -160,9 +161,9 @@ positionIn (some v) = positionOf (v .state)
 abbrev pub event : ℕ → VoiceId → List ℕ → Action → Event
 event t w name a = record { time = t; voice = w; name = nameOf name; action = a }
 
--- 7 "event table full"
-abbrev pub scheduleRefusal : List Event → Option Refusal
-scheduleRefusal q = when (full q) TableFull none
+-- 7 "event table full"; 02, Paper 9: "Freed queue places count before refusal 7"
+abbrev pub scheduleRefusal : Event → List Event → Option Refusal
+scheduleRefusal e q = when (full (thinned e q)) TableFull none
 
 -- 17 "lent buffer too short"; else the text stands in the buffer and "later bytes stay"
 abbrev pub pageAnswer : List ℕ → List ℕ → Answer
@@ -238,7 +239,7 @@ step (order w name o) m =
     let r = param.order w (nameOf name) o (m .voices) (m .shared) in
     sharedStep m (r .shared) (ordered (r .outcome))
 step (schedule t w name a) m =
-    unless (scheduleRefusal (m .shared .events)) m (sharedStep m (withEvents (inserted (event t w name a) (m .shared .events)) (m .shared)) done)
+    unless (scheduleRefusal (event t w name a) (m .shared .events)) m (sharedStep m (withEvents (replacing (event t w name a) (m .shared .events)) (m .shared)) done)
 step (report k channels samples flag) m =
     unless (reportRefusal (m .shared) (m .voices) k channels (length samples)) m
     (sharedStep m (reportNode (nodeAt (m .shared .graph .nodes) k) samples flag (m .shared)) done)

@@ -12,6 +12,7 @@ use Rattle.model.specs.Call.{Call, Answer, Ran, run}
 use Rattle.model.specs.Call as call
 use Rattle.model.specs.Numbers.{numberIn}
 use Rattle.ledger.proofs.Claim.{claim}
+use Rattle.replaced.proofs.Theorem.{replaced-same}
 use Rattle.memory.specs.View.{Memory, modelOf}
 use Rattle.memory.specs.Lent.{lentState}
 use Rattle.memory.specs.Called.{Called, Kept}
@@ -125,4 +126,4 @@ refines κs a r s p m accepted tables last cs said ran =
     let k = making (a .0) (a .1 .0) (a .1 .1 .0) (a .1 .1 .1 .0) (a .1 .1 .1 .1 .0) (a .1 .1 .1 .1 .1 .0) in
     let is = run-is ran ∙ ap (run cs) (made-new k m (r .answer) (lentState (r .state) tables) (p .0 tables) accepted) in
     let holds = claim k m accepted cs in
-    record { ran = is; claimed = holds; numbers = ap (map numberIn) (ap (λ (x : Ran). x .answers) is ∙ holds .answers) }
+    record { ran = is; claimed = holds; replaced = replaced-same k m accepted cs; numbers = ap (map numberIn) (ap (λ (x : Ran). x .answers) is ∙ holds .answers) }

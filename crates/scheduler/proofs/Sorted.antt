@@ -5,15 +5,15 @@ use native.Mathlib.Omega.{arith}
 use mathlib.Core.Path.{_≡_, refl, ap}
 use mathlib.Core.Logic.{_⊎_, inl, inr, ⊎-elim}
 use mathlib.Core.List.{List, [], _∷_, _++_}
-use mathlib.Core.Bool.{Bool, true, false, not, cond}
+use mathlib.Core.Bool.{Bool, true, false, not}
 use lib.ListN.{length}
 use lib.Dec.{ltb}
-use borrow.Author.Tests.{ltb-true, ltb-false, lt-ltb, le-ltb, leb-false}
+use borrow.Author.Tests.{ltb-true, ltb-false, lt-ltb, le-ltb}
 use Rattle.lists.specs.Member.{In}
 use Rattle.lists.specs.Filter.{put?, filter}
 use Rattle.lists.proofs.Filter.{in-filter, filter-all, filter-none}
 use Rattle.scheduler.specs.declared.event.Event.{Event}
-use Rattle.scheduler.specs.Queue.{later, before?, inserted, full, queueAfter, due, takenBefore, leftAfter}
+use Rattle.scheduler.specs.Queue.{later, before?, inserted, due, takenBefore, leftAfter}
 
 -- no event is later than one that follows it
 abbrev pub Sorted : List Event → Type 0
@@ -88,7 +88,7 @@ drained-prefix deadline (e ∷ l) s = go (due deadline e) refl (drained-prefix d
 pub never-due : (deadline : ℕ) (e : Event) → deadline ≤ 18446744073709551615 → e .time ≡ 18446744073709551615 → due deadline e ≡ false
 never-due deadline e h k = let l : deadline ≤ e .time = omega arith in le-ltb _ _ l
 
--- the queue grows by one, and never beyond its table
+-- the queue grows by one
 pub length-inserted : (e : Event) (l : List Event) → length (inserted e l) ≡ suc (length l)
 length-inserted e [] = refl
 length-inserted e (f ∷ l) = go (later e f) (length-inserted e l)
@@ -96,18 +96,3 @@ length-inserted e (f ∷ l) = go (later e f) (length-inserted e l)
     go : (b : Bool) → length (inserted e l) ≡ suc (length l) → length (before? b e f l (inserted e l)) ≡ suc (suc (length l))
     go true ih = refl
     go false ih = ap suc ih
-
-pub queue-fits : (e : Event) (l : List Event) → length l ≤ 256 → length (queueAfter e l) ≤ 256
-queue-fits e l h = go (full l) refl
-  where
-    go : (b : Bool) → full l ≡ b → length (cond b l (inserted e l)) ≤ 256
-    go true t = h
-    go false t = omega (arith, length-inserted e l, leb-false 256 (length l) t)
-
--- scheduling keeps the queue ordered, taken or refused
-pub queue-sorted : (e : Event) (l : List Event) → Sorted l → Sorted (queueAfter e l)
-queue-sorted e l s = go (full l)
-  where
-    go : (b : Bool) → Sorted (cond b l (inserted e l))
-    go true = s
-    go false = inserted-sorted e l s

@@ -10,6 +10,7 @@ use lib.Dec.{leb, ltb}
 use Rattle.lists.specs.Filter.{filter}
 use Rattle.node.specs.Refusal.{numberOf}
 use Rattle.node.specs.declared.refusal.Refusal.the-variants.{TableFull}
+use Rattle.scheduler.specs.Replace.{thinned}
 use Rattle.scheduler.specs.declared.event.Event.{Event}
 use Rattle.scheduler.specs.declared.queue.ScheduleAnswer.{ScheduleAnswer}
 use Rattle.scheduler.specs.declared.queue.ScheduleAnswer.the-variants.{Taken, Refused}
@@ -36,24 +37,30 @@ pub record Place (l : List Event) (e : Event) (p : ℕ) : Type 0 where
   pub within : p ≤ length l
   pub splits : inserted e l ≡ take p l ++ (e ∷ drop p l)
 
+-- 02, Paper 9: "The new event takes its own place at the end of its time": those that it replaces go, and it is put behind what is left
+-- of its time
+abbrev pub replacing : Event → List Event → List Event
+replacing e l = inserted e (thinned e l)
+
 -- "256 pending events"
 abbrev pub full : List Event → Bool
 full l = leb 256 (length l)
 
--- "Scheduling an event gives 7 or nothing": 7 where the event table is full, and the queue stays as it was
+-- "Scheduling an event gives 7 or nothing": 7 where the event table is full, and the queue stays as it was. 02, Paper 9: "Freed queue
+-- places count before refusal 7."
 abbrev pub queueAfter : Event → List Event → List Event
-queueAfter e l = cond (full l) l (inserted e l)
+queueAfter e l = cond (full (thinned e l)) l (replacing e l)
 
-abbrev pub answerTo : List Event → ScheduleAnswer
-answerTo l = cond (full l) (Refused TableFull) Taken
+abbrev pub answerTo : Event → List Event → ScheduleAnswer
+answerTo e l = cond (full (thinned e l)) (Refused TableFull) Taken
 
 -- the number that an answer stands for, or none
 abbrev pub answerNumber : ScheduleAnswer → Option ℕ
 answerNumber Taken = none
 answerNumber (Refused r) = some (numberOf r)
 
-abbrev pub scheduleNumber : List Event → Option ℕ
-scheduleNumber l = cond (full l) (some 7) none
+abbrev pub scheduleNumber : Event → List Event → Option ℕ
+scheduleNumber e l = cond (full (thinned e l)) (some 7) none
 
 -- ---- taking what is due
 

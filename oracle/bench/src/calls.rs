@@ -57,6 +57,12 @@ pub const LINES: &[Line] = &[
     line("schedule", "the 256th, before all others", 1_000, room_for_an_event, |s| {
         piecrag_schedule(&mut s.state, &mut s.events, 0, 1, 1)
     }),
+    line("schedule", "in the place of the first of 256", 1_000, || full_events(Kind::Value), |s| {
+        piecrag_schedule(&mut s.state, &mut s.events, 0, 1, 0)
+    }),
+    line("schedule", "refused, 256 and none of them replaced", 1_000, || full_events(Kind::Value), |s| {
+        piecrag_schedule(&mut s.state, &mut s.events, 0, 99, 0)
+    }),
     aimed(line("spawn", "with a steal, 63 voices", 500, one_port_left, spawn_7), 0.1),
     aimed(line("spawn", "the quietest of 63 is stolen", 500, || full_budget(QUIETEST, 64), spawn_7), 0.1),
     aimed(line("spawn", "a steal, 24 nodes, 48 edges, 19 voices", 500, full_budget_of_largest, |s| spawn(s, 24)), 0.1),

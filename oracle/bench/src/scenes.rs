@@ -153,7 +153,8 @@ pub fn full_budget_of_largest() -> Box<Store> {
     s
 }
 
-/// Full voices, and 256 events that are due: for the voices 1 to 64 by turns, or, if they are frees, for the voices 1 to 256.
+/// Full voices, and 256 events that are due: for the voices 1 to 64 by turns, each time at the next sample, so that none replaces
+/// another; or, if they are frees, for the voices 1 to 256.
 pub fn full_events(kind: Kind) -> Box<Store> {
     let mut s = full_voices();
     for i in 0..256 {
@@ -161,7 +162,7 @@ pub fn full_events(kind: Kind) -> Box<Store> {
             Kind::Free => i + 1,
             _ => i % 64 + 1,
         };
-        done(piecrag_schedule(&mut s.state, &mut s.events, 1, voice, kind as u32));
+        done(piecrag_schedule(&mut s.state, &mut s.events, i / 64, voice, kind as u32));
     }
     s
 }
@@ -169,8 +170,8 @@ pub fn full_events(kind: Kind) -> Box<Store> {
 /// Full voices, and 255 events.
 pub fn room_for_an_event() -> Box<Store> {
     let mut s = full_voices();
-    for _ in 0..255 {
-        done(piecrag_schedule(&mut s.state, &mut s.events, 1, 1, 0));
+    for i in 0..255 {
+        done(piecrag_schedule(&mut s.state, &mut s.events, 1 + i / 64, i % 64 + 1, 0));
     }
     s
 }

@@ -185,10 +185,16 @@ pub fn many_events(writer: &mut Writer) {
         writer.spawn_on(slot, bus, false);
     }
     let (clock, block) = (writer.clock(), writer.block());
-    for _ in 0..limits::EVENTS + 3 {
+    for _ in 0..4 * limits::EVENTS {
+        if writer.pending().count() == limits::EVENTS {
+            break;
+        }
         let time = clock + writer.rng.below(8 * block) as u64;
         let (voice, name) = (writer.rng.within(1, 5) as u64, values::param(&mut writer.rng));
         let (action, glide) = (*writer.rng.pick(&[0, 0, 0, 1, 1, 1, 2, 2, 3]), values::glide(&mut writer.rng));
         writer.put(Call::Schedule { time, voice, action, name, glide });
+    }
+    for _ in 0..24 {
+        writer.event();
     }
 }

@@ -1,6 +1,8 @@
 //! The moves that scenes are mixed from: a call with random arguments, or a few that belong together.
 
+use microsynth::scheduler::{Event, EventAction};
 use replay::script::{Call, Length};
+use scripted::name;
 
 use crate::values;
 use crate::writer::Writer;
@@ -160,17 +162,46 @@ impl Writer {
         self.put(call);
     }
 
-    fn event(&mut self) {
+    /// An event: every other time one that is like one that waits.
+    pub fn event(&mut self) {
+        let waiting: Vec<Event> = self.pending().cloned().collect();
+        if !waiting.is_empty() && self.rng.flag() {
+            let like = self.rng.pick(&waiting).clone();
+            return self.event_like(&like);
+        }
         let (time, voice) = (self.some_time(), self.some_voice());
         let action = *self.rng.pick(&[0, 0, 1, 1, 2, 2, 3, 255]);
         let (name, glide) = (values::param(&mut self.rng), values::glide(&mut self.rng));
         self.put(Call::Schedule { time, voice, action, name, glide });
     }
 
+    /// An event that replaces this one, or nearly does: another time, voice, sort or name, or no name at all.
+    fn event_like(&mut self, old: &Event) {
+        let (mut voice, mut action, mut name) = match &old.action {
+            EventAction::SetParam { voice, param, .. } => (voice.0, 0, name::bytes(param)),
+            EventAction::SetParamGlide { voice, param, .. } => (voice.0, 1, name::bytes(param)),
+            EventAction::SetGate { voice, .. } => (voice.0, 2, values::param(&mut self.rng)),
+            EventAction::FreeSynth { voice } => (voice.0, *self.rng.pick(&[0, 1, 3]), values::param(&mut self.rng)),
+        };
+        let mut time = old.time;
+        match self.rng.below(14) {
+            0 => time = self.some_time(),
+            1 => voice = self.some_voice(),
+            2 => action = 1 - action.min(1),
+            3 => name = values::param(&mut self.rng),
+            4 if action == 2 => (action, name) = (0, b"gate".to_vec()),
+            4 | 5 if name == b"gate" => action = 2,
+            5 => (action, name) = (3, vec![]),
+            _ => {}
+        }
+        let glide = values::glide(&mut self.rng);
+        self.put(Call::Schedule { time, voice, action, name, glide });
+    }
+
     /// A time: past, around the next deadline, that of an event which waits, the last of all, or any.
     fn some_time(&mut self) -> u64 {
         let (clock, block) = (self.clock(), self.block() as u64);
-        let waiting: Vec<u64> = self.engine().scheduler().pending().iter().map(|event| event.time).collect();
+        let waiting: Vec<u64> = self.pending().map(|event| event.time).collect();
         match self.rng.below(12) {
             0 => u64::MAX - self.rng.below(2) as u64,
             1 => self.rng.bits(),

@@ -1,6 +1,7 @@
 //! What scripts reach, counted while they are played on the Rust.
 
 mod before;
+mod events;
 mod rows;
 mod spawns;
 
@@ -11,6 +12,7 @@ use microsynth::engine::Engine;
 use microsynth::graph::Edge;
 use microsynth::node::NodeId;
 use microsynth::scheduler::EventAction;
+use replay::orders::event_of;
 use replay::script::Call;
 use scripted::limits;
 
@@ -150,14 +152,16 @@ impl Reach {
             return self.hit("256 events: event refused");
         }
         let clock = seen.before.clock;
-        let equal = seen.engine.scheduler().pending().iter().filter(|event| event.time == time).count();
+        let equal = seen.before.waiting.iter().filter(|event| event.time == time).count();
         self.hit_if("in the past", time < clock);
         self.hit_if("at the clock", time == clock);
         self.hit_if("at the deadline", Some(time) == clock.checked_add(seen.engine.context().block_size as u64));
         self.hit_if("at 2^64 - 1", time == u64::MAX);
-        self.hit_if("at the time of another", equal > 1);
+        self.hit_if("at the time of another", equal > 0);
         self.hit_if("for a voice not yet let in", voice >= seen.engine.scheduler().next_voice().0);
         self.hit_if("with a name of 0 or more than 16 bytes", action < 2 && !limits::is_name(name));
+        let new = event_of(seen.call).expect("the call schedules an event");
+        self.note_replacing(&new, &seen.before.waiting, seen.engine.scheduler().len());
     }
 
     fn note_clearing(&mut self, seen: &Seen) {

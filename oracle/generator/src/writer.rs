@@ -5,7 +5,7 @@ use std::collections::HashMap;
 
 use microsynth::engine::{Engine, VoiceRow};
 use microsynth::node::NodeId;
-use microsynth::scheduler::EventAction;
+use microsynth::scheduler::{Event, EventAction};
 use replay::player::Player;
 use replay::script::{Call, Definition, Length, Repeated};
 use seeded::rng::Rng;
@@ -122,7 +122,7 @@ impl Writer {
         call.encode(&mut self.script);
         let sort = self.script[start];
         self.calls += 1;
-        let before = Before::of(self.engine(), &call);
+        let before = Before::of(self.player.store(), &call);
         let lines = self.player.play(&call, upcoming);
         self.answered += lines.len();
         let answer = Answer(lines);
@@ -141,7 +141,7 @@ impl Writer {
 
     pub fn state(&mut self) {
         self.put(Call::State {});
-        let rows = self.engine().graph().all_edges().len() + self.engine().scheduler().pending().len();
+        let rows = self.engine().graph().all_edges().len() + self.pending().count();
         self.state_at = self.calls + self.rng.within(15, 35) + rows / 4;
     }
 
@@ -180,6 +180,11 @@ impl Writer {
 
     pub fn engine(&self) -> &Engine {
         self.player.store().engine()
+    }
+
+    /// The events that wait.
+    pub fn pending(&self) -> impl Iterator<Item = &Event> {
+        self.player.store().pending()
     }
 
     pub fn clock(&self) -> u64 {
@@ -238,7 +243,7 @@ impl Writer {
             return false;
         };
         let graph = self.engine().graph();
-        let mut due = self.engine().scheduler().pending().iter().take_while(|event| event.time < deadline);
+        let mut due = self.pending().take_while(|event| event.time < deadline);
         !graph.is_dirty()
             && graph.sink_node().is_some()
             && !due.any(|event| matches!(event.action, EventAction::FreeSynth { .. }))

@@ -2,7 +2,7 @@
 
 mod definition;
 mod host;
-mod orders;
+pub mod orders;
 pub mod player;
 mod reading;
 mod render;

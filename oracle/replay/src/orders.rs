@@ -58,6 +58,12 @@ fn action_of(action: u8, voice: VoiceId, param: String, glide: &Glide) -> EventA
     }
 }
 
+/// The event that an entry schedules, if it is such an entry.
+pub fn event_of(call: &Call) -> Option<Event> {
+    let Call::Schedule { time, voice, action, ref name, ref glide } = *call else { return None };
+    Some(Event { time, action: action_of(action, VoiceId(voice), name::text(name), glide) })
+}
+
 impl Store {
     pub(crate) fn value(&mut self, voice: u64, param: &[u8], value: f32) -> bool {
         self.engine.set_voice_param(VoiceId(voice), &name::text(param), value)
@@ -69,17 +75,11 @@ impl Store {
         self.engine.set_voice_param_glide(VoiceId(voice), &param, glide.target, glide.seconds, shape, space)
     }
 
-    pub(crate) fn schedule(
-        &mut self,
-        time: u64,
-        voice: u64,
-        action: u8,
-        param: &[u8],
-        glide: &Glide,
-    ) -> Result<(), Refusal> {
-        check(self.engine.scheduler().len() < limits::EVENTS, 7)?;
-        let action = action_of(action, VoiceId(voice), name::text(param), glide);
-        self.engine.scheduler_mut().schedule(Event { time, action });
+    /// What the store accepts the Rust is given too; it keeps it.
+    pub(crate) fn schedule(&mut self, call: &Call) -> Result<(), Refusal> {
+        let event = event_of(call).expect("the entry schedules an event");
+        self.queue.schedule(&event)?;
+        self.engine.scheduler_mut().schedule(event);
         Ok(())
     }
 

@@ -86,9 +86,7 @@ impl Player {
             Call::Clear {} => Ok(format!("removed {}", store.engine.free_done_synths())),
             Call::Value { voice, ref name, value } => Ok(yes_or_no(store.value(voice, name, value))),
             Call::SetGlide { voice, ref name, ref glide } => Ok(yes_or_no(store.glide(voice, name, glide))),
-            Call::Schedule { time, voice, action, ref name, ref glide } => {
-                done(store.schedule(time, voice, action, name, glide))
-            }
+            Call::Schedule { .. } => done(store.schedule(call)),
             Call::Report { .. } | Call::ReportRepeated { .. } => done(store.report(call)),
             Call::Prepare {} => done(store.prepare()),
             Call::Render {} => store.render(upcoming).map(|rendered| rendered.to_string()),

@@ -115,7 +115,7 @@ impl Store {
         lines.extend(self.node_lines());
         lines.extend(self.engine.voice_rows().map(|voice| self.voice_line(&voice)));
         lines.push(row("tracked", self.tracked().iter().map(|voice| voice.0)));
-        lines.extend(self.engine.scheduler().pending().iter().map(event_line));
+        lines.extend(self.pending().map(event_line));
         lines.push(self.steals_line());
         lines.extend(self.records().map(|record| format!("steal {record}")));
         lines.push(row("next", [self.graph().nodes_given(), self.voices_given(), self.engine.noise_sequence().into()]));

@@ -42,6 +42,8 @@ impl Store {
     pub(crate) fn render(&mut self, upcoming: &[Call]) -> Result<Rendered, Refusal> {
         let deadline = self.engine.sample_offset().checked_add(self.block() as u64).ok_or(15)?;
         self.foresee(upcoming);
+        assert_eq!(self.engine.scheduler().len(), self.queue.kept(), "the Rust keeps what was accepted");
+        self.queue.take_before(deadline);
         match self.failing_prepare(deadline) {
             Some(number) => {
                 self.render_unprepared(deadline, number);

@@ -5,11 +5,12 @@ use std::collections::HashMap;
 use microsynth::engine::{Engine, EngineConfig, VoiceRow};
 use microsynth::graph::AudioGraph;
 use microsynth::node::NodeId;
-use microsynth::scheduler::VoiceId;
+use microsynth::scheduler::{Event, VoiceId};
 use microsynth::table;
 use microsynth::voice::{BudgetScope, StealPolicy, VoiceAllocator};
 use scripted::generator::{Handle, Log};
 use scripted::limits::{self, Refusal, check};
+use scripted::queue::Queue;
 
 /// The lines of an entry, or a refusal.
 pub(crate) type Answer = Result<String, Refusal>;
@@ -43,6 +44,8 @@ pub struct Store {
     pub(crate) parts: HashMap<NodeId, Part>,
     pub(crate) births: HashMap<VoiceId, Birth>,
     pub(crate) log: Log,
+    /// The pending events, of which the Rust keeps also those that were replaced.
+    pub(crate) queue: Queue,
 }
 
 impl Store {
@@ -57,12 +60,17 @@ impl Store {
         if let Some((budget, policy, scope)) = config.budget {
             engine.set_voice_allocator(VoiceAllocator::new(budget as usize, policy).with_scope(scope));
         }
-        Ok(Store { engine, parts: HashMap::new(), births: HashMap::new(), log: Log::default() })
+        Ok(Store { engine, parts: HashMap::new(), births: HashMap::new(), log: Log::default(), queue: Queue::default() })
     }
 
     /// The engine, to be looked at.
     pub fn engine(&self) -> &Engine {
         &self.engine
+    }
+
+    /// The events that wait.
+    pub fn pending(&self) -> impl Iterator<Item = &Event> {
+        self.queue.left()
     }
 
     pub(crate) fn graph(&self) -> &AudioGraph {

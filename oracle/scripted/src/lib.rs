@@ -6,4 +6,5 @@ pub mod generator;
 pub mod graph;
 pub mod limits;
 pub mod name;
+pub mod queue;
 pub mod words;

@@ -3,6 +3,7 @@
 use microsynth::curve::{GlideShape, GlideSpace};
 use microsynth::scheduler::{Event, EventAction, Scheduler, VoiceId};
 use scripted::limits;
+use scripted::queue::Queue;
 use scripted::words::{self, hex32};
 use seeded::floats::Profile;
 use seeded::rng::Rng;
@@ -34,26 +35,28 @@ fn time(rng: &mut Rng) -> u64 {
     }
 }
 
-/// A history in the making: each call is written, made on the Rust, and its answer written.
+/// A history in the making: each call is written, made on the Rust, and its answer written. The Rust keeps what Paper 9 replaces.
 struct History {
     calls: usize,
     vector: Vector,
-    queue: Scheduler,
+    kept: Scheduler,
+    queue: Queue,
 }
 
 impl History {
     fn new() -> History {
-        History { calls: 0, vector: Vector::default(), queue: Scheduler::new() }
+        History { calls: 0, vector: Vector::default(), kept: Scheduler::new(), queue: Queue::default() }
     }
 
     fn schedule(&mut self, rng: &mut Rng, time: u64) {
         self.calls += 1;
         let event = any_event(rng, time, &mut self.vector);
-        if self.queue.len() < limits::EVENTS {
-            self.queue.schedule(event);
-            self.vector.line("done");
-        } else {
-            self.vector.line("refused 7");
+        match self.queue.schedule(&event) {
+            Ok(()) => {
+                self.kept.schedule(event);
+                self.vector.line("done");
+            }
+            Err(number) => self.vector.line(format_args!("refused {number}")),
         }
     }
 
@@ -61,12 +64,15 @@ impl History {
         self.calls += 1;
         self.vector.u8(TAKE);
         self.vector.u64(deadline);
-        let taken = self.queue.drain_before(deadline);
+        let left: Vec<bool> = self.queue.take_before(deadline).iter().map(|taken| taken.is_left).collect();
+        let taken = self.kept.drain_before(deadline);
+        assert_eq!(taken.len(), left.len(), "the Rust takes what was accepted");
+        let taken: Vec<&Event> = taken.iter().zip(left).filter_map(|(event, left)| left.then_some(event)).collect();
         events(&mut self.vector, "taken", &taken);
     }
 
     fn finish(mut self) -> Vector {
-        events(&mut self.vector, "waiting", self.queue.pending());
+        events(&mut self.vector, "waiting", &self.queue.left().collect::<Vec<_>>());
         let mut vector = Vector::new(HISTORY);
         vector.u32(self.calls);
         vector.append(self.vector);
@@ -118,7 +124,13 @@ fn any_history(rng: &mut Rng, calls: usize) -> Vector {
 fn any_event(rng: &mut Rng, time: u64, vector: &mut Vector) -> Event {
     let voice = VoiceId(rng.below(5) as u64);
     let length = if rng.once_in(10) { *rng.pick(&[0, 16, 17, 40]) } else { rng.within(1, 5) };
-    let name: Vec<u8> = (0..length).map(|_| *rng.pick(b"abgt")).collect();
+    // Often one of few, so that events replace each other.
+    let name: Vec<u8> = match rng.below(8) {
+        0..=2 => b"gate".to_vec(),
+        3 => vec![b'a'; length],
+        4 => b"abgtabgt"[..length.min(8)].to_vec(),
+        _ => (0..length).map(|_| *rng.pick(b"abgt")).collect(),
+    };
     let (first, second) = (Profile::Mixed.sample(rng), Profile::Mixed.sample(rng));
     let tension = Profile::Mixed.sample(rng);
     let (sort, shape, space) = (rng.below(4), rng.below(4), rng.below(2));
@@ -152,7 +164,7 @@ fn any_event(rng: &mut Rng, time: u64, vector: &mut Vector) -> Event {
 }
 
 /// How many events there are, and a line for each.
-fn events(vector: &mut Vector, word: &str, events: &[Event]) {
+fn events(vector: &mut Vector, word: &str, events: &[&Event]) {
     vector.line(format_args!("{word} {}", events.len()));
     for event in events {
         let (voice, action) = described(&event.action);

@@ -2,9 +2,10 @@
 
 use microsynth::engine::Engine;
 use microsynth::node::NodeId;
-use microsynth::scheduler::{EventAction, VoiceId};
+use microsynth::scheduler::{Event, EventAction, VoiceId};
 use microsynth::ugens::steal_fade_samples;
 use replay::script::Call;
+use replay::store::Store;
 
 use crate::writer::fed_port;
 
@@ -43,10 +44,13 @@ pub struct Before {
     pub done: Vec<NodeId>,
     /// The events that a render takes.
     pub due: Vec<EventAction>,
+    /// The events that wait, where one more is scheduled.
+    pub waiting: Vec<Event>,
 }
 
 impl Before {
-    pub fn of(engine: &Engine, call: &Call) -> Before {
+    pub fn of(store: &Store, call: &Call) -> Before {
+        let engine = store.engine();
         let graph = engine.graph();
         let live = graph.live_nodes();
         Before {
@@ -60,7 +64,8 @@ impl Before {
             voices: voices(engine),
             tracked: engine.voice_allocator().map_or(vec![], |allocator| allocator.active_voices().to_vec()),
             done: live.into_iter().filter(|&id| graph.node_is_done(id)).collect(),
-            due: if matches!(call, Call::Render {}) { due(engine) } else { vec![] },
+            due: if matches!(call, Call::Render {}) { due(store) } else { vec![] },
+            waiting: if matches!(call, Call::Schedule { .. }) { store.pending().cloned().collect() } else { vec![] },
         }
     }
 
@@ -74,9 +79,10 @@ impl Before {
     }
 }
 
-fn due(engine: &Engine) -> Vec<EventAction> {
+fn due(store: &Store) -> Vec<EventAction> {
+    let engine = store.engine();
     let deadline = engine.sample_offset().saturating_add(engine.context().block_size as u64);
-    let due = engine.scheduler().pending().iter().take_while(|event| event.time < deadline);
+    let due = store.pending().take_while(|event| event.time < deadline);
     due.map(|event| event.action.clone()).collect()
 }
 

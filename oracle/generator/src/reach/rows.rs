@@ -141,6 +141,25 @@ pub const PROFILES: &[(&str, &[&str])] = &[
         ],
     ),
     (
+        "Events that replace others, or do not",
+        &[
+            "a value replaces a value",
+            "a glide replaces a glide",
+            "a gate replaces a gate",
+            "a gate replaces a value for `gate`",
+            "a value for `gate` replaces a gate",
+            "replaces one with others of its time behind it",
+            "replaces one with a free of the voice behind it",
+            "leaves one of another time",
+            "leaves one of another voice",
+            "leaves one of the other sort",
+            "leaves one of another parameter",
+            "leaves one of the same name of 0 or more than 16 bytes",
+            "256 events: a place is freed",
+            "more than 256 kept by the Rust",
+        ],
+    ),
+    (
         "Events taken",
         &[
             "value or glide",

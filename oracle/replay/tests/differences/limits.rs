@@ -6,7 +6,7 @@ use std::panic::{AssertUnwindSafe, catch_unwind};
 use replay::script::{Call, Definition, Length, ParamRow, Samples};
 
 use crate::engines;
-use crate::entries::{PREPARE, RENDER, SPAWN, free_at, host, made, page_scene, script, tone, transcript};
+use crate::entries::{PREPARE, RENDER, SPAWN, free_at, host, made, page_scene, script, tone, transcript, value_at};
 use crate::rows::{Row, alone, compare, departs, same};
 
 fn making(rate: f32, block: u32, budget: u32, number: u8) -> Row {
@@ -195,6 +195,15 @@ fn departure_13_events() {
     let mut rows: Vec<Row> = (0..256).map(|time| same(free_at(time, 1), "done")).collect();
     rows.push(departs(free_at(256, 1), "refused 7", "done"));
     assert_eq!(compare("13-events", rows).scheduler().len(), 257);
+}
+
+/// A value in the place of a pending one: the queue of 256 stays as long as it is, and has no place left. There it grows.
+#[test]
+fn departure_22_replaced_event() {
+    let mut rows: Vec<Row> = (0..255).map(|time| same(free_at(time, 1), "done")).collect();
+    rows.extend([0.25, 0.5].map(|value| same(value_at(300, 1, value), "done")));
+    rows.push(departs(free_at(256, 1), "refused 7", "done"));
+    assert_eq!(compare("22-replaced-event", rows).scheduler().len(), 258);
 }
 
 /// Voice 1 fades on its own bus while 64 more are stolen on the other; then its port is reclaimed.

@@ -5,9 +5,10 @@ use std::panic::{AssertUnwindSafe, catch_unwind};
 
 use microsynth::engine::{Engine, EngineConfig};
 use microsynth::node::NodeId;
-use microsynth::scheduler::{Event, EventAction, VoiceId};
+use microsynth::scheduler::VoiceId;
 use microsynth::synthdef::SynthDef;
 use microsynth::voice::VoiceAllocator;
+use replay::orders::event_of;
 use replay::player::{policy_of, scope_of};
 use replay::script::Call;
 use scripted::definition::{Definition, Made};
@@ -76,9 +77,8 @@ impl Unguarded {
             Call::Disconnect { to, port } => engine.graph_mut().disconnect(id(to), port as usize),
             Call::SetSink { node } => engine.graph_mut().set_sink(id(node)),
             Call::Free { voice } => engine.free_voice(VoiceId(voice)),
-            Call::Schedule { time, voice, action: 3, .. } => {
-                let action = EventAction::FreeSynth { voice: VoiceId(voice) };
-                engine.scheduler_mut().schedule(Event { time, action });
+            Call::Schedule { .. } => {
+                engine.scheduler_mut().schedule(event_of(call).expect("the entry schedules an event"));
             }
             Call::Prepare {} => engine.prepare(),
             _ => return false,

@@ -46,6 +46,12 @@ pub fn free_at(time: u64, voice: u64) -> Call {
     Call::Schedule { time, voice, action: 3, name: vec![], glide }
 }
 
+/// A value for the parameter `freq`.
+pub fn value_at(time: u64, voice: u64, value: f32) -> Call {
+    let glide = Glide { target: value, seconds: 0.0, shape: 0, curve: 0.0, space: 0 };
+    Call::Schedule { time, voice, action: 0, name: b"freq".to_vec(), glide }
+}
+
 /// The scene of the program `voices`.
 pub fn page_scene() -> Vec<Call> {
     let mut calls = vec![made(8000.0, 16, 2), host(3, 0), Call::SetSink { node: 0 }, tone()];

@@ -1,0 +1,9 @@
+pub mod Thin
+pub mod Happen
+pub mod Lasts
+pub mod Still
+pub mod Owned
+pub mod Related
+pub mod Told
+pub mod Theorem
+pub mod Scenes
