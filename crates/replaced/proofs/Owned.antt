@@ -105,7 +105,7 @@ fits-steady =
       connect = λ l a b p e f. f;
       disconnect = λ l b p e f. f;
       setSink = λ l k f. f;
-      loose = λ l spawn e f. one l spawn (spawn-allowed (l .shared) (l .voices) (spawn .def) (spawn .bus) e .definition) f (portFree (spawn .bus) l);
+      loose = λ l spawn e f. one l spawn (spawn-allowed (l .shared) (l .voices) (spawn .def) (spawn .bus) (spawn .rank) e .definition) f (portFree (spawn .bus) l);
       goes = λ l w f. fits-keep (λ x. not (isVoice w x)) (l .voices) f;
       node = λ l k x n e s f. f;
       schedule = λ l e h f. f;
@@ -126,7 +126,7 @@ pub fits-step : (x : Call) (l : Ledger) → IdsOf l → FitsOf l → FitsOf (ste
 fits-step x l u f =
     kept-step (λ m. IdsOf m × FitsOf m) (both-steady ids-steady fits-steady)
     (λ m spawn e h.
-    let a = spawn-allowed (m .shared) (m .voices) (spawn .def) (spawn .bus) e .definition in
+    let a = spawn-allowed (m .shared) (m .voices) (spawn .def) (spawn .bus) (spawn .rank) e .definition in
     managed-kept spawn (λ r. IdsOf (r .ledger) × FitsOf (r .ledger)) m (h .0) (λ z. h) (λ z. (ids-settle spawn m (h .0), fits-settle spawn m a (h .1)))
     (λ p w z v i t. (ids-settle spawn (stealVoice v m) (ids-steal v m (h .0)), fits-settle spawn (stealVoice v m) a (fits-steal v m (h .1)))))
     x l (u, f) .1

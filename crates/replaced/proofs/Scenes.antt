@@ -72,7 +72,7 @@ abbrev gate : ℕ → String → ℕ → Call
 gate t s n = call.schedule t (voice 1) (bytes s) (Action.Gate (float n))
 
 abbrev before : List Call
-before = host 2 ∷ sink 0 ∷ call.spawnManaged (spawnOf swell (id 0) (float 0)) ∷ call.prepare ∷ []
+before = host 2 ∷ sink 0 ∷ call.spawnManaged (spawnOf swell (id 0) (float 0) 0) ∷ call.prepare ∷ []
 
 abbrev start : Model
 start = after (upTo 2 Oldest) before
@@ -169,7 +169,7 @@ aliases = (refl, refl, refl, refl)
 -- A voice that is not let in yet: the replacing is by number, and the voice that comes has the later value.
 not-yet :
     (pending (a (call.schedule 20 (voice 2) (bytes "cut") (val 1) ∷ call.schedule 20 (voice 2) (bytes "cut") (val 3) ∷ [])) ≡ val 3 ∷ [])
-    × (last 3 (a (call.schedule 20 (voice 2) (bytes "cut") (val 1) ∷ call.schedule 20 (voice 2) (bytes "cut") (val 3) ∷ call.spawnManaged (spawnOf swell (id 0) (float 0)) ∷ render ∷ render ∷ [])) ≡ some (value 3))
+    × (last 3 (a (call.schedule 20 (voice 2) (bytes "cut") (val 1) ∷ call.schedule 20 (voice 2) (bytes "cut") (val 3) ∷ call.spawnManaged (spawnOf swell (id 0) (float 0) 0) ∷ render ∷ render ∷ [])) ≡ some (value 3))
 unfolding eq prepare processingOrder lacking lacks any liveIds liveNodes risingFrom whole order walk released fed among count-up
 not-yet = (refl, refl)
 

@@ -99,7 +99,7 @@ module _ (q : List Event) where
       go : (o : Option ℕ) → instantiateOr o none spawn s (withQueue q m) (refused NoPort) ≡ landedQ (instantiateOr o none spawn s m (refused NoPort))
       go none = refl
       go (some p) = refl
-  place-still (suc n) spawn s m = go (portFree (spawn .bus) m) (nextOut (m .shared) (spawn .bus) (m .voices)) (place-still n spawn s)
+  place-still (suc n) spawn s m = go (portFree (spawn .bus) m) (nextOut (m .shared) (spawn .bus) (spawn .rank) (m .voices)) (place-still n spawn s)
     where
       go : (o : Option ℕ) (u : Option Voice) → ((k : Model) → place n spawn s (withQueue q k) ≡ landedQ (place n spawn s k))
           → instantiateOr o u spawn s (withQueue q m) (λ k. place n spawn s k) ≡ landedQ (instantiateOr o u spawn s m (λ k. place n spawn s k))
@@ -216,9 +216,9 @@ module _ (q : List Event) where
   still-step (call.disconnect b p) r h m = unless-still (disconnectRefusal (m .shared .graph) b p) m _ _ refl
   still-step (call.setSink k) r h m = unless-still (hostRefusal (m .shared .graph) k) m _ _ refl
   still-step (call.spawnManaged spawn) r h m =
-      ap spawnStep (landed-still (spawnRefusal (m .shared) (m .voices) (spawn .def) (spawn .bus)) m _ _ (admitted-still (admissionOn (spawn .bus) m) spawn m))
+      ap spawnStep (landed-still (spawnRefusal (m .shared) (m .voices) (spawn .def) (spawn .bus) (spawn .rank)) m _ _ (admitted-still (admissionOn (spawn .bus) (spawn .rank) m) spawn m))
   still-step (call.spawnLoose spawn) r h m =
-      ap spawnStep (landed-still (spawnRefusal (m .shared) (m .voices) (spawn .def) (spawn .bus)) m _ _ (place-still 0 spawn Loose m))
+      ap spawnStep (landed-still (spawnRefusal (m .shared) (m .voices) (spawn .def) (spawn .bus) (spawn .rank)) m _ _ (place-still 0 spawn Loose m))
   still-step (call.free w) r h m = ap (λ k. record { answer = call.ordered (freeOutcome (find (isVoice w) (m .voices))); model = k }) (freed-still (find (isVoice w) (m .voices)) m)
   still-step call.clear r h m = clear-still m
   still-step (call.order w name o) r h m =
