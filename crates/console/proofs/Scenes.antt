@@ -22,7 +22,7 @@ use Rattle.console.specs.Console.{Console, ConsoleCall, on, wish, turn, 
 
 -- wishes that can be told apart: for the bus n
 abbrev w : ℕ → Wish
-w n = record { managed = false; def = toneDef; bus = id n; pan = nan }
+w n = record { managed = false; def = toneDef; bus = id n; pan = nan; rank = 0 }
 
 -- ---- tight: (k + 1) × m is reached, for m = 1, 2, 3 and 8 and k = 0, 2. The wish w 9 stands last at keyboard m - 1, with k before it;
 -- that keyboard was served last, and each other has k + 1 wishes. One turn fewer does not serve it.
@@ -60,10 +60,10 @@ abbrev heard : List ConsoleCall → List ConsoleAnswer
 heard xs = consoleRun xs console .answers
 
 abbrev pedal : Wish
-pedal = record { managed = true; def = toneDef; bus = id 0; pan = inf false }
+pedal = record { managed = true; def = toneDef; bus = id 0; pan = inf false; rank = 0 }
 
 abbrev strange : Wish
-strange = record { managed = false; def = toneDef; bus = id 77; pan = inf false }
+strange = record { managed = false; def = toneDef; bus = id 77; pan = inf false; rank = 0 }
 
 -- "at first from keyboard 0", then "the next ... after the last served"; a spawn refused by the store counts as served; an empty turn
 -- says so, and changes nothing: the next after it is keyboard 1, not 0 or 2. Wishes are not tested.

@@ -7,4 +7,5 @@ pub struct Wish {
     pub def: SynthDef,
     pub bus: NodeId,
     pub pan: f32,
+    pub rank: u32,
 }
