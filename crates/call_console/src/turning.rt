@@ -51,10 +51,11 @@ fn serve(
     let def = w.def;
     let bus = w.bus;
     let pan = w.pan;
+    let rank = w.rank;
     if w.managed {
-        return spawn_voice_on_bus_panned_managed(s, nodes, edges, voices, steals, def, bus, pan);
+        return spawn_voice_on_bus_panned_managed(s, nodes, edges, voices, steals, def, bus, pan, rank);
     }
-    spawn_voice_on_bus_panned(s, nodes, edges, voices, steals, def, bus, pan)
+    spawn_voice_on_bus_panned(s, nodes, edges, voices, steals, def, bus, pan, rank)
 }
 
 // A turn: the oldest wish of the next keyboard, going round, that has one is served. A spawn that the store refuses is served too.

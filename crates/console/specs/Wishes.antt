@@ -14,7 +14,7 @@ use Rattle.console.specs.declared.refusal.KeyboardRefusal.the-variants.{
 
 -- "wishes for either spawn": the spawn's arguments, and the call that a wish is for. Nothing of them is tested at the wish.
 abbrev pub spawnIn : Wish → Spawn
-spawnIn w = spawnOf (w .def) (w .bus) (w .pan)
+spawnIn w = spawnOf (w .def) (w .bus) (w .pan) (w .rank)
 
 abbrev pub callOf : Wish → Call
 callOf w = cond (w .managed) (call.spawnManaged (spawnIn w)) (call.spawnLoose (spawnIn w))
