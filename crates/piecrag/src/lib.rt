@@ -46,6 +46,26 @@ pub use call_spawn::spawn::spawn_voice_on_bus_managed;
 pub use call_spawn::spawn::spawn_voice_on_bus_panned;
 pub use call_spawn::spawn::spawn_voice_on_bus_panned_managed;
 
+// ---- the console: keyboards whose wishes for spawns wait in a table of their own, and turns that serve them
+pub use call_console::making::ConsoleMade;
+pub use call_console::making::MakeAnswer;
+pub use call_console::making::make_console;
+pub use call_console::queues::Queue;
+pub use call_console::queues::WishState;
+pub use call_console::queues::keyboard_count;
+pub use call_console::queues::waiting_count;
+pub use call_console::turning::TurnAnswer;
+pub use call_console::turning::TurnResult;
+pub use call_console::turning::turn;
+pub use call_console::wishing::WishAnswer;
+pub use call_console::wishing::WishResult;
+pub use call_console::wishing::wish;
+pub use console::refusal::KeyboardRefusal;
+pub use console::refusal::keyboard_refusal_number;
+pub use console::wish::Wish;
+pub use wish_rows::row::WISH_WORDS;
+pub use wish_rows::row::WishTable;
+
 // ---- what a block needs besides: fade output and bus sum
 pub use mixing::bus_sum;
 pub use mixing::fade_output;

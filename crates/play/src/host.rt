@@ -1,13 +1,11 @@
-// Making, the counters and the host's calls.
+// The counters and the host's calls.
 use codec::field::after;
 use codec::field::byte_at;
-use codec::field::float;
 use codec::field::long_at;
 use codec::field::word_at;
 use codec::word::text;
 use memory::parts::with_clock;
 use memory::parts::with_numbers;
-use piecrag::Answer;
 use piecrag::EdgeTable;
 use piecrag::HostResult;
 use piecrag::NodeId;
@@ -16,17 +14,12 @@ use piecrag::State;
 use piecrag::add_node;
 use piecrag::connect;
 use piecrag::disconnect;
-use piecrag::make;
 use piecrag::remove_node;
 use piecrag::set_sink;
-use script::config::budget_of;
-use script::config::policy_of;
-use script::config::scope_of;
 use script::name::name_at;
 use script::name::name_end;
 use transcript::answer::answer_line;
 use transcript::answer::given_line;
-use transcript::answer::made_line;
 
 pub(crate) fn id_at(s: &[u8], at: usize) -> NodeId {
     NodeId(word_at(s, at))
@@ -37,22 +30,6 @@ pub(crate) fn told(r: HostResult) -> State {
     let answer = r.answer;
     answer_line(answer);
     r.state
-}
-
-// A refused making leaves the store before. A new store stands in the same tables, whatever its forerunner left there.
-pub(crate) fn made(s: &[u8], at: usize, table: bool, state: State) -> State {
-    let rate = float(word_at(s, at));
-    let block = word_at(s, after(at, 4)) as usize;
-    let budget = budget_of(byte_at(s, after(at, 8)), word_at(s, after(at, 9)) as usize);
-    let policy = policy_of(byte_at(s, after(at, 13)));
-    let scope = scope_of(byte_at(s, after(at, 14)));
-    let r = make(rate, block, budget, policy, scope, table);
-    let answer = r.answer;
-    made_line(answer);
-    match answer {
-        Answer::Done => r.state,
-        Answer::Refused(_) => state,
-    }
 }
 
 // The clock, the voice ids given out, and the noise sequence.
@@ -102,7 +79,6 @@ pub(crate) fn play_host(
     edges: &mut EdgeTable,
 ) -> State {
     match sort {
-        1 => made(s, from, false, state),
         2 => set(s, from, state),
         3 => add(s, from, state, nodes),
         4 => told(remove_node(state, nodes, edges, id_at(s, from))),

@@ -1,7 +1,6 @@
 // A script's store, in six lent tables.
 use crate::blocks::play_block;
 use crate::blocks::play_report;
-use crate::host::made;
 use crate::host::play_host;
 use crate::spawns::play_spawn;
 use crate::tell::tell;
@@ -63,13 +62,10 @@ fn play_call(
     if sort < 20 {
         return play_report(s, from, sort, state, nodes, voices);
     }
-    if sort < 22 {
-        return play_block(sort, state, nodes, edges, order, voices, events);
-    }
-    made(s, from, true, state)
+    play_block(sort, state, nodes, edges, order, voices, events)
 }
 
-// The entry at `at`, which is whole and keeps no definition, on the store of this state and these tables: the state after it. A
+// The entry at `at`, which is whole, keeps no definition, makes no store and is none of the console's, on the store of this state and these tables: the state after it. A
 // spawn is of the definition `def`.
 pub fn play(
     s: &[u8],

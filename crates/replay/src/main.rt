@@ -16,10 +16,15 @@ use piecrag::NodeTable;
 use piecrag::ORDER_WORDS;
 use piecrag::OrderTable;
 use piecrag::STEAL_WORDS;
-use piecrag::State;
 use piecrag::StealTable;
 use piecrag::VOICE_WORDS;
 use piecrag::VoiceTable;
+use piecrag::WISH_WORDS;
+use piecrag::WishTable;
+use play::keyboards::Console;
+use play::keyboards::is_console;
+use play::keyboards::no_keyboards;
+use play::keyboards::play_console;
 use play::player::first_state;
 use play::player::play;
 use play::slots::Slots;
@@ -31,7 +36,7 @@ use script::entry::entry_end;
 
 // What was played of a window: the position after the last entry, and how many there were.
 struct Played {
-    state: State,
+    console: Console,
     slots: Slots,
     at: usize,
     count: usize,
@@ -40,7 +45,7 @@ struct Played {
 // Between two windows. The first `held` bytes of the window were read and not played; the first of them has the position
 // `base` in the script; `count` entries were played.
 struct Run {
-    state: State,
+    console: Console,
     slots: Slots,
     held: usize,
     base: usize,
@@ -66,8 +71,9 @@ fn play_whole(
     voices: &mut VoiceTable,
     events: &mut EventTable,
     steals: &mut StealTable,
+    wishes: &mut WishTable,
 ) -> Played {
-    let mut state = run.state;
+    let mut console = run.console;
     let mut slots = run.slots;
     let mut at: usize = 0;
     let mut count: usize = 0;
@@ -83,22 +89,32 @@ fn play_whole(
             slots = keep(s, here, slots);
         } else {
             let def = slot_at(s, here, slots);
-            state = play(
-                s,
-                here,
-                state,
-                def,
-                nodes,
-                edges,
-                order,
-                voices,
-                events,
-                steals,
-            );
+            if is_console(s, here) {
+                console = play_console(s, here, console, def, nodes, edges, voices, steals, wishes);
+            } else {
+                let before = console.state;
+                let waiting = console.wishes;
+                let state = play(
+                    s,
+                    here,
+                    before,
+                    def,
+                    nodes,
+                    edges,
+                    order,
+                    voices,
+                    events,
+                    steals,
+                );
+                console = Console {
+                    state,
+                    wishes: waiting,
+                };
+            }
         }
     }
     Played {
-        state,
+        console,
         slots,
         at,
         count,
@@ -116,6 +132,7 @@ fn play_held(
     voices: &mut VoiceTable,
     events: &mut EventTable,
     steals: &mut StealTable,
+    wishes: &mut WishTable,
 ) -> Played {
     let m = at_most(n, window.len());
     play_whole(
@@ -127,6 +144,7 @@ fn play_held(
         voices,
         events,
         steals,
+        wishes,
     )
 }
 
@@ -161,7 +179,7 @@ fn last_line(word: &[u8], n: usize) {
 // not whole then is malformed, and so is one that a window cannot hold.
 fn next_run(window: &mut [u8], n: usize, run: Run, r: Played) -> Run {
     let at = r.at;
-    let state = r.state;
+    let console = r.console;
     let slots = r.slots;
     let count = after(run.count, r.count);
     let base = after(run.base, at);
@@ -176,7 +194,7 @@ fn next_run(window: &mut [u8], n: usize, run: Run, r: Played) -> Run {
         }
     }
     Run {
-        state,
+        console,
         slots,
         held,
         base,
@@ -195,9 +213,21 @@ fn play_window(
     voices: &mut VoiceTable,
     events: &mut EventTable,
     steals: &mut StealTable,
+    wishes: &mut WishTable,
 ) -> Run {
     let n = fill(window, run.held);
-    let r = play_held(window, n, run, nodes, edges, order, voices, events, steals);
+    let r = play_held(
+        window,
+        n,
+        run,
+        nodes,
+        edges,
+        order,
+        voices,
+        events,
+        steals,
+        wishes,
+    );
     next_run(window, n, run, r)
 }
 
@@ -209,11 +239,17 @@ fn play_all(
     voices: &mut VoiceTable,
     events: &mut EventTable,
     steals: &mut StealTable,
+    wishes: &mut WishTable,
 ) {
     let state = first_state();
+    let waiting = no_keyboards();
+    let console = Console {
+        state,
+        wishes: waiting,
+    };
     let slots = no_slots();
     let mut run = Run {
-        state,
+        console,
         slots,
         held: 0,
         base: 0,
@@ -222,7 +258,17 @@ fn play_all(
     };
     let mut left = usize::MAX;
     while 0 < left {
-        run = play_window(window, run, nodes, edges, order, voices, events, steals);
+        run = play_window(
+            window,
+            run,
+            nodes,
+            edges,
+            order,
+            voices,
+            events,
+            steals,
+            wishes,
+        );
         if run.ended {
             return;
         }
@@ -230,7 +276,7 @@ fn play_all(
     }
 }
 
-// The store's six tables, and the window, are lent all the way down.
+// The store's six tables, that of the wishes, and the window, are lent all the way down.
 fn main() {
     let mut window = window_room();
     let mut nodes = [0u32; NODE_WORDS];
@@ -239,6 +285,7 @@ fn main() {
     let mut voices = [0u32; VOICE_WORDS];
     let mut events = [0u32; EVENT_WORDS];
     let mut steals = [0u32; STEAL_WORDS];
+    let mut wishes = [0u32; WISH_WORDS];
     play_all(
         &mut window,
         &mut nodes,
@@ -247,5 +294,6 @@ fn main() {
         &mut voices,
         &mut events,
         &mut steals,
+        &mut wishes,
     );
 }

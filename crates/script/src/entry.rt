@@ -27,7 +27,7 @@ enum Form {
 }
 
 // By rising sort, from 0 on.
-const FORMS: [Form; 35] = [
+const FORMS: [Form; 51] = [
     Form::Malformed,
     Form::Fixed(15),
     Form::Fixed(20),
@@ -75,13 +75,29 @@ const FORMS: [Form; 35] = [
     Form::Buffer,
     Form::Fixed(0),
     Form::Fixed(15),
+    Form::Malformed,
+    Form::Malformed,
+    Form::Malformed,
+    Form::Malformed,
+    Form::Malformed,
+    Form::Malformed,
+    Form::Malformed,
+    Form::Malformed,
+    Form::Malformed,
+    Form::Malformed,
+    Form::Malformed,
+    Form::Malformed,
+    Form::Fixed(20),
+    Form::Fixed(18),
+    Form::Fixed(0),
+    Form::Fixed(0),
 ];
 
 fn form_of(sort: u8) -> Form
     ensures { λ r. ⌜ r ≡ formOf sort ⌝ }
 {
     let n = sort as usize;
-    if n < 35 {
+    if n < 51 {
         return FORMS[n];
     }
     Form::Malformed

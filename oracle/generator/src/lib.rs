@@ -3,6 +3,7 @@
 mod aims;
 mod choices;
 mod crowds;
+mod keyboards;
 mod moves;
 pub mod reach;
 mod reports;

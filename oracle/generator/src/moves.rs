@@ -39,6 +39,13 @@ pub enum Move {
     Cycle,
     Refusals,
     Page,
+    Wish,
+    Turn,
+    /// Some wishes, and turns.
+    Rush,
+    /// More wishes than a keyboard holds.
+    Crowd,
+    Waiting,
 }
 
 impl Writer {
@@ -71,6 +78,11 @@ impl Writer {
             Move::Cycle => self.cycle(),
             Move::Refusals => self.refusals(),
             Move::Page => self.page(),
+            Move::Wish => self.wish(),
+            Move::Turn => self.turn(),
+            Move::Rush => self.rush(),
+            Move::Crowd => self.fill_keyboard(),
+            Move::Waiting => drop(self.put(Call::Waiting {})),
         }
     }
 

@@ -2,6 +2,7 @@
 
 mod before;
 mod events;
+mod keyboards;
 mod rows;
 mod spawns;
 
@@ -19,6 +20,7 @@ use scripted::limits;
 pub use before::Before;
 pub use spawns::Spawn;
 
+use self::keyboards::Keyboards;
 use crate::writer::Answer;
 
 /// How often each row was reached.
@@ -32,6 +34,7 @@ pub struct Reach {
     answers: BTreeMap<(u8, u64), usize>,
     /// The refusals in a row just now.
     row: usize,
+    keyboards: Keyboards,
 }
 
 /// A call, what it answered, and the store before and after it.
@@ -112,6 +115,9 @@ impl Reach {
             Call::Level { voice } => self.note_level(seen, *voice),
             Call::Order {} => self.note_order(seen),
             Call::Page { length } => self.note_page(seen, length.0),
+            Call::MakeConsole { block, keyboards, .. } => self.note_console(seen, *block, *keyboards),
+            Call::Wish { keyboard, managed, .. } => self.note_wish(seen, *keyboard, *managed != 0),
+            Call::Turn {} => self.note_turn(seen),
             _ => {}
         }
     }
@@ -311,7 +317,7 @@ impl fmt::Display for Reach {
             }
         }
         writeln!(f, "\n| Entry | Times | Refused |\n|---|---|---|")?;
-        for (sort, entry) in (1..).zip(rows::ENTRIES) {
+        for (sort, entry) in (1..).zip(rows::ENTRIES).filter(|(_, entry)| !entry.is_empty()) {
             let answers = self.answers.range((sort, 0)..=(sort, u64::MAX));
             let times: usize = answers.clone().map(|(_, count)| count).sum();
             let refused = answers.filter(|((_, number), _)| *number > 0);

@@ -5,6 +5,7 @@ use seeded::rng::Rng;
 
 use crate::aims::refused_making;
 use crate::crowds::{big_console, edges_brink, full_graph, many_events, many_voices, nodes_brink};
+use crate::keyboards::make_console;
 use crate::moves::Move::{self, *};
 use crate::script::Script;
 use crate::values::{self, Config};
@@ -114,7 +115,26 @@ const CROSSING: Weights = &[(Spawn, 10), (Sound, 10), (Read, 2)];
 
 const FADING: Weights = &[(Spawn, 6), (Sound, 12), (Clear, 12), (Read, 6), (Render, 1)];
 
-pub const SCENES: [Scene; 17] = [
+const KEYBOARDS: Weights = &[
+    (Wish, 40),
+    (Turn, 40),
+    (Rush, 6),
+    (Crowd, 2),
+    (Waiting, 6),
+    (Sound, 16),
+    (Spawn, 6),
+    (Clear, 4),
+    (Free, 3),
+    (Keep, 5),
+    (Order, 4),
+    (Event, 3),
+    (Read, 5),
+    (TakePort, 2),
+    (RemoveBus, 1),
+    (Squeeze, 1),
+];
+
+pub const SCENES: [Scene; 18] = [
     Scene { begin: mixed, weights: MIXED, likely: 20 },
     Scene { begin: stealing, weights: STEALING, likely: 12 },
     Scene { begin: listening, weights: LISTENING, likely: 8 },
@@ -132,6 +152,7 @@ pub const SCENES: [Scene; 17] = [
     Scene { begin: edges_brink, weights: MIXED, likely: 2 },
     Scene { begin: many_voices, weights: STEALING, likely: 2 },
     Scene { begin: many_events, weights: TIMING, likely: 2 },
+    Scene { begin: keyboards, weights: KEYBOARDS, likely: 12 },
 ];
 
 impl Scene {
@@ -219,6 +240,11 @@ pub fn make(writer: &mut Writer, config: Config) {
 /// A store with a few definitions kept anew, buses and a sink.
 fn furnish(writer: &mut Writer, config: Config) {
     make(writer, config);
+    dress(writer);
+}
+
+/// A few definitions kept anew, buses and a sink.
+fn dress(writer: &mut Writer) {
     for _ in 0..writer.rng.below(4) {
         writer.keep();
     }
@@ -227,6 +253,13 @@ fn furnish(writer: &mut Writer, config: Config) {
     }
     let sink = writer.some_node(12);
     writer.put(Call::SetSink { node: sink });
+}
+
+/// A store with keyboards.
+fn keyboards(writer: &mut Writer) {
+    let config = Config::random(&mut writer.rng);
+    make_console(writer, config);
+    dress(writer);
 }
 
 pub fn mixed(writer: &mut Writer) {

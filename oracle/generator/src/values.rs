@@ -89,6 +89,18 @@ impl Config {
             Call::Make { rate, block, budgeted, budget, policy, scope }
         }
     }
+
+    /// The same with keyboards.
+    pub fn console(self, rng: &mut Rng, keyboards: u32) -> Call {
+        let table = if self.has_table { yes(rng) } else { 0 };
+        match self.call(rng) {
+            Call::Make { rate, block, budgeted, budget, policy, scope }
+            | Call::MakeWithTable { rate, block, budgeted, budget, policy, scope } => {
+                Call::MakeConsole { rate, block, budgeted, budget, policy, scope, table, keyboards }
+            }
+            other => other,
+        }
+    }
 }
 
 /// A sample rate: often one whose fade is a few blocks long, or whose length is half way between two numbers.

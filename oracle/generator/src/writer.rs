@@ -1,7 +1,7 @@
 //! A script in the making: each call is written and also played on the Rust, so that the next one can be aimed. Only
 //! the script is compared.
 
-use std::collections::HashMap;
+use std::collections::{HashMap, VecDeque};
 
 use microsynth::engine::{Engine, VoiceRow};
 use microsynth::node::NodeId;
@@ -42,6 +42,15 @@ impl Answer {
         self.words().nth(1)?.parse().ok()
     }
 
+    /// The voice that a turn let in.
+    pub fn served_voice(&self) -> Option<u64> {
+        let words: Vec<&str> = self.words().collect();
+        match words[..] {
+            ["served", _, "voice", id] => id.parse().ok(),
+            _ => None,
+        }
+    }
+
     /// The number after this word.
     pub fn of(&self, word: &str) -> Option<u64> {
         self.number().filter(|_| self.is(word))
@@ -56,6 +65,8 @@ pub struct Writer {
     /// One report in so many has the done flag.
     pub done_once_in: usize,
     pub slots: Vec<Definition>,
+    /// The definitions of the wishes that wait, by keyboard.
+    pub wishes: Vec<VecDeque<Definition>>,
     player: Player,
     script: Vec<u8>,
     calls: usize,
@@ -75,6 +86,7 @@ impl Writer {
             hosts: vec![],
             done_once_in: 8,
             slots: vec![empty; 16],
+            wishes: vec![],
             player: Player::default(),
             script: vec![],
             calls: 0,
@@ -147,9 +159,19 @@ impl Writer {
 
     fn learn(&mut self, call: &Call, answer: &Answer) {
         match call {
-            Call::Make { .. } | Call::MakeWithTable { .. } if answer.is("made") => {
-                self.hosts.clear();
-                self.channels.clear();
+            Call::Make { .. } | Call::MakeWithTable { .. } if answer.is("made") => self.learn_store(0),
+            Call::MakeConsole { keyboards, .. } if answer.is("made") => self.learn_store(*keyboards as usize),
+            Call::Wish { slot, keyboard, .. } if answer.is("waits") => {
+                let definition = self.slots[usize::from(*slot) % 16].clone();
+                self.wishes[*keyboard as usize].push_back(definition);
+            }
+            Call::Turn {} => {
+                if let Some(keyboard) = answer.of("served") {
+                    let definition = self.wishes[keyboard as usize].pop_front().expect("a wish that is served waited");
+                    if let Some(id) = answer.served_voice() {
+                        self.learn_voice(id, &definition);
+                    }
+                }
             }
             Call::AddNode { ports, channels, .. } => {
                 if let Some(id) = answer.of("node") {
@@ -164,16 +186,24 @@ impl Writer {
             | Call::SpawnManaged { slot, .. }
             | Call::Spawn { slot, .. } => {
                 if let Some(id) = answer.of("voice") {
-                    self.learn_voice(id, usize::from(*slot) % 16);
+                    let definition = self.slots[usize::from(*slot) % 16].clone();
+                    self.learn_voice(id, &definition);
                 }
             }
             _ => {}
         }
     }
 
-    fn learn_voice(&mut self, id: u64, slot: usize) {
+    /// A new store with so many keyboards.
+    fn learn_store(&mut self, keyboards: usize) {
+        self.hosts.clear();
+        self.channels.clear();
+        self.wishes = vec![VecDeque::new(); keyboards];
+    }
+
+    fn learn_voice(&mut self, id: u64, definition: &Definition) {
         let row = self.player.store().engine().voice_rows().find(|row| row.id.0 == id).expect("the voice was let in");
-        for (node, made) in row.synth.node_ids().iter().zip(&self.slots[slot].nodes) {
+        for (node, made) in row.synth.node_ids().iter().zip(&definition.nodes) {
             self.channels.insert(node.index() as u32, made.channels);
         }
     }

@@ -10,3 +10,4 @@ pub mod script;
 mod spawn;
 pub mod store;
 mod voices;
+mod wishes;

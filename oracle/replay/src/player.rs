@@ -9,11 +9,13 @@ use scripted::limits::{Refusal, check};
 use crate::script::{self, Call};
 use crate::spawn::Spawn;
 use crate::store::{Answer, Config, Store};
+use crate::wishes::{Wish, Wishes};
 
 pub struct Player {
     store: Store,
     /// The definitions that were kept; 9 where one is outside the limits.
     slots: [Result<Definition, Refusal>; 16],
+    wishes: Wishes,
 }
 
 impl Default for Player {
@@ -21,7 +23,7 @@ impl Default for Player {
     fn default() -> Player {
         let config = Config { rate: 48_000.0, block: 64, budget: None, has_table: false };
         let store = Store::make(&config).expect("it is within the limits");
-        Player { store, slots: [const { Err(9) }; 16] }
+        Player { store, slots: [const { Err(9) }; 16], wishes: Wishes::default() }
     }
 }
 
@@ -62,7 +64,7 @@ impl Player {
     fn answer(&mut self, call: &Call, upcoming: &[Call]) -> Answer {
         let (store, id) = (&mut self.store, NodeId::numbered);
         match *call {
-            Call::Make { .. } | Call::MakeWithTable { .. } => self.make(call),
+            Call::Make { .. } | Call::MakeWithTable { .. } | Call::MakeConsole { .. } => self.make(call),
             Call::SetCounters { clock, voices, noise } => {
                 store.set_counters(clock, voices, noise);
                 Ok("set".to_string())
@@ -79,6 +81,11 @@ impl Player {
             Call::SpawnPanned { slot, bus, pan, rank } => self.spawn(slot, false, bus, Some(pan), rank),
             Call::SpawnManaged { slot, bus, rank } => self.spawn(slot, true, bus, None, rank),
             Call::Spawn { slot, bus, rank } => self.spawn(slot, false, bus, None, rank),
+            Call::Wish { slot, keyboard, managed, bus, pan, rank } => {
+                self.wish(slot, keyboard, managed != 0, bus, pan, rank)
+            }
+            Call::Turn {} => Ok(self.turn()),
+            Call::Waiting {} => Ok(self.wishes.line()),
             Call::Free { voice } => {
                 store.engine.free_voice(VoiceId(voice));
                 done(Ok(()))
@@ -94,19 +101,26 @@ impl Player {
         }
     }
 
-    /// The old store stays where a new one is refused.
+    /// The old store stays where a new one is refused. One that is made without keyboards has none.
     fn make(&mut self, call: &Call) -> Answer {
-        let (rate, block, budgeted, budget, policy, scope, has_table) = match *call {
+        let (rate, block, budgeted, budget, policy, scope, has_table, keyboards) = match *call {
             Call::Make { rate, block, budgeted, budget, policy, scope } => {
-                (rate, block, budgeted, budget, policy, scope, false)
+                (rate, block, budgeted, budget, policy, scope, false, None)
             }
             Call::MakeWithTable { rate, block, budgeted, budget, policy, scope } => {
-                (rate, block, budgeted, budget, policy, scope, true)
+                (rate, block, budgeted, budget, policy, scope, true, None)
+            }
+            Call::MakeConsole { rate, block, budgeted, budget, policy, scope, table, keyboards } => {
+                (rate, block, budgeted, budget, policy, scope, table != 0, Some(keyboards))
             }
             _ => unreachable!("{call:?} makes no store"),
         };
         let budget = (budgeted != 0).then_some((budget, policy_of(policy), scope_of(scope)));
-        self.store = Store::make(&Config { rate, block, budget, has_table })?;
+        let config = Config { rate, block, budget, has_table };
+        config.check()?;
+        let wishes = keyboards.map_or(Ok(Wishes::default()), Wishes::at)?;
+        self.store = Store::make(&config)?;
+        self.wishes = wishes;
         Ok("made".to_string())
     }
 
@@ -114,6 +128,26 @@ impl Player {
         let definition = Definition::from(rows);
         self.slots[usize::from(slot % 16)] = definition.instance().map(|_| definition);
         "kept".to_string()
+    }
+
+    /// Nothing of the spawn is tested; the definition is the slot's at the wish. A wish with a rank above 7 waits for its 26.
+    fn wish(&mut self, slot: u8, keyboard: u32, is_managed: bool, bus: u32, pan: f32, rank: u32) -> Answer {
+        let definition = check(rank <= 7, 26).and(self.slots[usize::from(slot % 16)].clone());
+        assert!(rank == 0 || rank > 7, "runs against the Rust give every voice rank 0");
+        let how = Spawn { is_managed, bus: NodeId::numbered(bus), pan: Some(pan) };
+        self.wishes.add(keyboard, Wish { definition, how })?;
+        Ok("waits".to_string())
+    }
+
+    fn turn(&mut self) -> String {
+        let Some((keyboard, wish)) = self.wishes.take() else {
+            return "empty".to_string();
+        };
+        let spawned = wish.definition.and_then(|definition| self.store.spawn(&definition, &wish.how));
+        match spawned {
+            Ok(voice) => format!("served {keyboard} voice {}", voice.0),
+            Err(number) => format!("served {keyboard} refused {number}"),
+        }
     }
 
     /// The Rust knows no ranks: 26 is given here, before all else, and every voice has the rank 0.

@@ -55,7 +55,7 @@ impl Store {
 
     /// The generators write in a render what the script reports of them afterwards, up to the next render or making.
     fn foresee(&mut self, upcoming: &[Call]) {
-        let is_next = |call: &Call| matches!(call, Call::Render {} | Call::Make { .. } | Call::MakeWithTable { .. });
+        let is_next = |call: &Call| matches!(call, Call::Render {} | Call::Make { .. } | Call::MakeWithTable { .. } | Call::MakeConsole { .. });
         let end = upcoming.iter().position(is_next).unwrap_or(upcoming.len());
         // The first report of a node is the last to be set.
         for report in upcoming[..end].iter().rev().filter_map(report_of) {

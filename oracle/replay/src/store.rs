@@ -39,6 +39,16 @@ pub struct Config {
     pub has_table: bool,
 }
 
+impl Config {
+    /// 1, 2, 3 or 20.
+    pub(crate) fn check(&self) -> Result<(), Refusal> {
+        limits::whole_rate(self.rate)?;
+        check((1..=128).contains(&self.block), 2)?;
+        check(self.budget.is_none_or(|(budget, ..)| budget as usize <= limits::BUDGET), 3)?;
+        check(!self.has_table || self.rate == table::RATE, 20)
+    }
+}
+
 pub struct Store {
     pub(crate) engine: Engine,
     pub(crate) parts: HashMap<NodeId, Part>,
@@ -51,10 +61,7 @@ pub struct Store {
 impl Store {
     /// A new store; 1, 2, 3 or 20.
     pub fn make(config: &Config) -> Result<Store, Refusal> {
-        limits::whole_rate(config.rate)?;
-        check((1..=128).contains(&config.block), 2)?;
-        check(config.budget.is_none_or(|(budget, ..)| budget as usize <= limits::BUDGET), 3)?;
-        check(!config.has_table || config.rate == table::RATE, 20)?;
+        config.check()?;
         table::choose(config.has_table);
         let mut engine = Engine::new(EngineConfig { sample_rate: config.rate, block_size: config.block as usize });
         if let Some((budget, policy, scope)) = config.budget {

@@ -1,7 +1,7 @@
 //! What is counted, by profile.
 
-/// The entries of a script by their sort, from 1 on.
-pub const ENTRIES: [&str; 34] = [
+/// The entries of a script by their sort, from 1 on; "" for a sort that there is not.
+pub const ENTRIES: [&str; 50] = [
     "make a store",
     "set the counters",
     "add a host node",
@@ -36,6 +36,22 @@ pub const ENTRIES: [&str; 34] = [
     "page",
     "state",
     "make a store with the fade table",
+    "",
+    "",
+    "",
+    "",
+    "",
+    "",
+    "",
+    "",
+    "",
+    "",
+    "",
+    "",
+    "make a store with keyboards",
+    "wish",
+    "turn",
+    "what waits",
 ];
 
 /// How a script ends that is malformed.
@@ -223,6 +239,28 @@ pub const PROFILES: &[(&str, &[&str])] = &[
     (
         "Counters",
         &["noise sequence wraps", "last voice id given out", "voice ids used up", "render refused at the clock's end"],
+    ),
+    (
+        "Keyboards",
+        &[
+            "making with 1 keyboard",
+            "making with 2 to 7 keyboards",
+            "making with 8 keyboards",
+            "making refused for its keyboards",
+            "making refused, and its keyboards too",
+            "wish of an unmanaged spawn",
+            "wish of a managed spawn",
+            "sixteenth wish of a keyboard",
+            "seventeenth wish refused",
+            "wish of a keyboard that there is not",
+            "turn that finds no wish",
+            "turn that serves the next keyboard",
+            "turn that passes over keyboards without a wish",
+            "turn that goes round past the last keyboard",
+            "turn that serves the same keyboard again",
+            "turn whose spawn is refused",
+            "turn that lets a voice in",
+        ],
     ),
     ("Refusals in rows", &["ten in a row", "twenty in a row"]),
     ("Malformed ends of scripts", &MALFORMED),

@@ -1,0 +1,4 @@
+pub mod Refusal
+pub mod Wishes
+pub mod Console
+pub mod Claim
