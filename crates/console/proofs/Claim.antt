@@ -32,7 +32,7 @@ one-to-eight m h = go (ltb 0 m) refl (leb m 8) refl h
     go true e true f h = (ltb-true _ _ e, leb-true _ _ f)
 
 -- what an accepted making is
-record Accepted (k : Making) (m : ℕ) (c : Console) : Type 0 where
+pub record Accepted (k : Making) (m : ℕ) (c : Console) : Type 0 where
   pub store : make k ≡ some (c .model)
   pub wishes : c .wishes ≡ newWishes m
   pub range : (0 < m) × (m ≤ 8)
@@ -47,7 +47,7 @@ isMade (made c) = 1
 isMade (refusedBy r) = 0
 isMade (refusedFor r) = 0
 
-accepted : (k : Making) (m : ℕ) (c : Console) → makeConsole k m ≡ made c → Accepted k m c
+pub accepted : (k : Making) (m : ℕ) (c : Console) → makeConsole k m ≡ made c → Accepted k m c
 unfolding pick isMade
 accepted k m c e = go (refusalOf k) refl (keyboardsRefusal m) refl e
   where

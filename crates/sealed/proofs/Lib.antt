@@ -1,0 +1,10 @@
+pub mod Accepts
+pub mod Counting
+pub mod Live
+pub mod Open
+pub mod Within
+pub mod Landing
+pub mod Never
+pub mod Theorem
+pub mod Scenes
+pub mod Boards

@@ -1,0 +1,5 @@
+pub mod Refusal
+pub mod Seal
+pub mod Sealed
+pub mod Board
+pub mod Claim
