@@ -1,5 +1,6 @@
 // A script's store, in six lent tables.
 use crate::blocks::play_block;
+use crate::blocks::play_lent;
 use crate::blocks::play_report;
 use crate::host::made;
 use crate::host::play_host;
@@ -65,6 +66,9 @@ fn play_call(
     }
     if sort < 22 {
         return play_block(sort, state, nodes, edges, order, voices, events);
+    }
+    if sort == 35 {
+        return play_lent(s, from, state, nodes, edges, order, voices, events);
     }
     made(s, from, true, state)
 }

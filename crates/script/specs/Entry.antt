@@ -17,7 +17,7 @@ forms =
     ∷ Definition ∷ Fixed 9 ∷ Fixed 9 ∷ Fixed 5 ∷ Fixed 5 ∷ Fixed 8 ∷ Fixed 0 ∷ Named 8 4
     ∷ Named 8 14 ∷ Named 17 14 ∷ Samples ∷ Repeated ∷ Fixed 0 ∷ Fixed 0 ∷ Fixed 8 ∷ Fixed 8
     ∷ Fixed 8 ∷ Fixed 4 ∷ Fixed 0 ∷ Fixed 0 ∷ Fixed 0 ∷ Fixed 0 ∷ Fixed 4 ∷ Fixed 0
-    ∷ Buffer ∷ Fixed 0 ∷ Fixed 15 ∷ []
+    ∷ Buffer ∷ Fixed 0 ∷ Fixed 15 ∷ Fixed 5 ∷ []
 
 abbrev pub formOf : ℕ → Form
 formOf sort = getD forms sort Malformed

@@ -27,7 +27,7 @@ enum Form {
 }
 
 // By rising sort, from 0 on.
-const FORMS: [Form; 35] = [
+const FORMS: [Form; 36] = [
     Form::Malformed,
     Form::Fixed(15),
     Form::Fixed(20),
@@ -75,13 +75,14 @@ const FORMS: [Form; 35] = [
     Form::Buffer,
     Form::Fixed(0),
     Form::Fixed(15),
+    Form::Fixed(5),
 ];
 
 fn form_of(sort: u8) -> Form
     ensures { λ r. ⌜ r ≡ formOf sort ⌝ }
 {
     let n = sort as usize;
-    if n < 35 {
+    if n < 36 {
         return FORMS[n];
     }
     Form::Malformed

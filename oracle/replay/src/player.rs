@@ -6,9 +6,18 @@ use microsynth::voice::{BudgetScope, StealPolicy};
 use scripted::definition::Definition;
 use scripted::limits::Refusal;
 
+use crate::render::list_digits;
 use crate::script::{self, Call};
 use crate::spawn::Spawn;
 use crate::store::{Answer, Config, Store};
+
+/// How many entries the list of a render needs.
+pub const LIST: usize = 256;
+
+/// The length of the list that an entry lends.
+pub fn list_length(said: u32) -> usize {
+    said.min(4096) as usize
+}
 
 pub struct Player {
     store: Store,
@@ -44,8 +53,8 @@ fn done(result: Result<(), Refusal>) -> Answer {
     result.map(|()| "done".to_string())
 }
 
-fn yes_or_no(answer: bool) -> String {
-    if answer { "yes".to_string() } else { "no".to_string() }
+fn outcome(number: u8) -> String {
+    format!("outcome {number}")
 }
 
 impl Player {
@@ -79,19 +88,21 @@ impl Player {
             Call::SpawnPanned { slot, bus, pan } => self.spawn(slot, false, bus, Some(pan)),
             Call::SpawnManaged { slot, bus } => self.spawn(slot, true, bus, None),
             Call::Spawn { slot, bus } => self.spawn(slot, false, bus, None),
-            Call::Free { voice } => {
-                store.engine.free_voice(VoiceId(voice));
-                done(Ok(()))
-            }
+            Call::Free { voice } => Ok(outcome(store.free(VoiceId(voice)))),
             Call::Clear {} => Ok(format!("removed {}", store.engine.free_done_synths())),
-            Call::Value { voice, ref name, value } => Ok(yes_or_no(store.value(voice, name, value))),
-            Call::SetGlide { voice, ref name, ref glide } => Ok(yes_or_no(store.glide(voice, name, glide))),
+            Call::Value { voice, ref name, value } => Ok(outcome(store.value(voice, name, value))),
+            Call::SetGlide { voice, ref name, ref glide } => Ok(outcome(store.glide(voice, name, glide))),
             Call::Schedule { time, voice, action, ref name, ref glide } => {
                 done(store.schedule(time, voice, action, name, glide))
             }
             Call::Report { .. } | Call::ReportRepeated { .. } => done(store.report(call)),
             Call::Prepare {} => done(store.prepare()),
-            Call::Render {} => store.render(upcoming).map(|rendered| rendered.to_string()),
+            Call::Render {} => store.render(&mut [255; LIST], upcoming),
+            Call::RenderLent { length, old } => {
+                let mut list = vec![old; list_length(length)];
+                let line = store.render(&mut list, upcoming).unwrap_or_else(|number| format!("refused {number}"));
+                Ok(format!("{line}\nlist{}", list_digits(&list)))
+            }
             _ => store.read(call),
         }
     }

@@ -222,6 +222,7 @@ entries! {
     32 Page { length: Length }
     33 State {}
     34 MakeWithTable { rate: f32, block: u32, budgeted: u8, budget: u32, policy: u8, scope: u8 }
+    35 RenderLent { length: u32, old: u8 }
 }
 
 /// The entry that begins at `at`, and where the next one begins; or `at` where there is no whole entry.

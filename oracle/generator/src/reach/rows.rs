@@ -1,7 +1,7 @@
 //! What is counted, by profile.
 
 /// The entries of a script by their sort, from 1 on.
-pub const ENTRIES: [&str; 34] = [
+pub const ENTRIES: [&str; 35] = [
     "make a store",
     "set the counters",
     "add a host node",
@@ -36,6 +36,7 @@ pub const ENTRIES: [&str; 34] = [
     "page",
     "state",
     "make a store with the fade table",
+    "render with a lent list",
 ];
 
 /// How a script ends that is malformed.
@@ -148,6 +149,27 @@ pub const PROFILES: &[(&str, &[&str])] = &[
             "free of a voice",
             "free of no voice",
             "ten and more in one render",
+        ],
+    ),
+    (
+        "Outcomes",
+        &[
+            "event applied",
+            "event: no such voice",
+            "event: no such parameter",
+            "event: node takes none of that sort",
+            "event for a voice freed earlier in its render",
+            "value or glide applied",
+            "value or glide: no such voice",
+            "value or glide: no such parameter",
+            "value or glide: node takes none of that sort",
+            "free applied",
+            "free: no such voice",
+            "outcomes though the prepare fails",
+            "more than 256 entries lent",
+            "events due, and fewer than 256 entries lent",
+            "no event due, and fewer than 256 entries lent",
+            "fewer than 256 entries lent at the clock's end",
         ],
     ),
     (
