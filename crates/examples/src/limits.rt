@@ -87,9 +87,10 @@ pub fn clearing(
     steals: &mut StealTable,
 ) {
     let s = played(nodes, edges, order, voices, events, steals);
-    let first = render(s, nodes, edges, order, voices, events);
+    let mut list = [0u8; 256];
+    let first = render(s, nodes, edges, order, voices, events, &mut list);
     let t = first.state;
-    let second = render(t, nodes, edges, order, voices, events);
+    let second = render(t, nodes, edges, order, voices, events, &mut list);
     let u = second.state;
     let cleared = free_done_synths(u, nodes, edges, voices);
     text(b"cleared ");

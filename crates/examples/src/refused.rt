@@ -341,7 +341,8 @@ fn late(
     let last = with_clock(s, 18446744073709551600);
     let mut was = io::buffer();
     let n = show::page_of(last, edges, voices, &mut was);
-    let rendering = render(last, nodes, edges, order, voices, events);
+    let mut list = [0u8; 256];
+    let rendering = render(last, nodes, edges, order, voices, events, &mut list);
     let a = rendering.answer;
     show::rendered(a);
     let t = rendering.state;
@@ -378,6 +379,28 @@ fn short_buffer(s: State, edges: &EdgeTable, voices: &VoiceTable) {
     }
 }
 
+// 17 for a render
+fn short_list(
+    s: State,
+    nodes: &mut NodeTable,
+    edges: &mut EdgeTable,
+    order: &mut OrderTable,
+    voices: &mut VoiceTable,
+    events: &mut EventTable,
+) {
+    let mut list = [7u8; 255];
+    let was = [7u8; 255];
+    let rendering = render(s, nodes, edges, order, voices, events, &mut list);
+    let a = rendering.answer;
+    show::rendered(a);
+    text(b" rendering with a list of 255 entries");
+    if check::same(&list, &was) {
+        text(b", same list\n");
+    } else {
+        text(b", another list\n");
+    }
+}
+
 // All refusals but making's. An example that is refused leaves the scene's store for the next one; where one has changed it on the way
 // to its refusal, the scene is played anew.
 pub fn all(
@@ -404,4 +427,5 @@ pub fn all(
     late(e, nodes, edges, order, voices, events);
     short_block(e, nodes, edges, voices);
     short_buffer(e, edges, voices);
+    short_list(e, nodes, edges, order, voices, events);
 }

@@ -34,7 +34,7 @@ abbrev pub opening : List Call
 opening = host 3 ∷ sink 0 ∷ []
 
 abbrev pub turn : List Call
-turn = call.spawnManaged (spawnOf tone (id 0) (float 0) 0) ∷ call.prepare ∷ call.render ∷ []
+turn = call.spawnManaged (spawnOf tone (id 0) (float 0) 0) ∷ call.prepare ∷ call.render (replicate 256 0) ∷ []
 
 abbrev pub sceneCalls : List Call
 sceneCalls = opening ++ (turn ++ (turn ++ turn))

@@ -132,7 +132,8 @@ pub fn turn(
     let more = spawning.state;
     let served = prepare(more, nodes, edges, order);
     let ready = served.state;
-    let rendering = render(ready, nodes, edges, order, voices, events);
+    let mut outcomes = [0u8; 256];
+    let rendering = render(ready, nodes, edges, order, voices, events, &mut outcomes);
     rendering.state
 }
 

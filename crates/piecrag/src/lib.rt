@@ -34,7 +34,9 @@ pub use memory::state::HostResult;
 // ---- voices
 pub use call_clear::clear::Cleared;
 pub use call_clear::clear::free_done_synths;
+pub use call_free::free::Freed;
 pub use call_free::free::free_voice;
+pub use call_param::number::outcome_number;
 pub use call_param::param::set_voice_param;
 pub use call_param::param::set_voice_param_glide;
 pub use call_render::render::Rendering;

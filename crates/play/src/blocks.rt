@@ -6,6 +6,7 @@ use crate::host::told;
 use codec::field::after;
 use codec::field::at_most;
 use codec::field::byte_at;
+use codec::field::bytes_at;
 use codec::field::float;
 use codec::field::floats_at;
 use codec::field::word_at;
@@ -18,6 +19,7 @@ use piecrag::VoiceTable;
 use piecrag::prepare;
 use piecrag::report;
 use transcript::answer::answer_line;
+use transcript::answer::list_line;
 use transcript::answer::rendered_line;
 
 // 512 samples: those that stand from `at` on, or the one that stands there again and again.
@@ -50,7 +52,9 @@ fn reported(
     answer_line(report(state, nodes, voices, node, channels, &samples[..n], done));
 }
 
+// A render that is lent this list. The line shows the entries that it has written.
 fn render(
+    list: &mut [u8],
     state: State,
     nodes: &mut NodeTable,
     edges: &mut EdgeTable,
@@ -58,10 +62,48 @@ fn render(
     voices: &mut VoiceTable,
     events: &mut EventTable,
 ) -> State {
-    let r = piecrag::render(state, nodes, edges, order, voices, events);
+    let r = piecrag::render(state, nodes, edges, order, voices, events, list);
     let answer = r.answer;
-    rendered_line(answer);
+    rendered_line(answer, bytes_at(list, 0, r.taken));
     r.state
+}
+
+// The same, and the whole list on a line of its own.
+fn render_shown(
+    list: &mut [u8],
+    state: State,
+    nodes: &mut NodeTable,
+    edges: &mut EdgeTable,
+    order: &mut OrderTable,
+    voices: &mut VoiceTable,
+    events: &mut EventTable,
+) -> State {
+    let after = render(list, state, nodes, edges, order, voices, events);
+    list_line(list);
+    after
+}
+
+// Room for the longest list that a script lends, each entry the same.
+fn list_room(old: u8) -> [u8; 4096]
+    ensures { λ r. ⌜ 4096 ≡ length r ⌝ }
+{
+    [old; 4096]
+}
+
+// The length of the list, at most 4,096, and what each entry holds before the render.
+pub(crate) fn play_lent(
+    s: &[u8],
+    from: usize,
+    state: State,
+    nodes: &mut NodeTable,
+    edges: &mut EdgeTable,
+    order: &mut OrderTable,
+    voices: &mut VoiceTable,
+    events: &mut EventTable,
+) -> State {
+    let n = at_most(word_at(s, from) as usize, 4096);
+    let mut room = list_room(byte_at(s, after(from, 4)));
+    render_shown(&mut room[..n], state, nodes, edges, order, voices, events)
 }
 
 // A report changes no state.
@@ -88,6 +130,9 @@ pub(crate) fn play_block(
 ) -> State {
     match sort {
         20 => told(prepare(state, nodes, edges, order)),
-        _ => render(state, nodes, edges, order, voices, events),
+        _ => {
+            let mut list = [255u8; 256];
+            render(&mut list, state, nodes, edges, order, voices, events)
+        }
     }
 }

@@ -1,5 +1,6 @@
 // A script's store, in six lent tables.
 use crate::blocks::play_block;
+use crate::blocks::play_lent;
 use crate::blocks::play_report;
 use crate::host::play_host;
 use crate::spawns::play_spawn;
@@ -62,7 +63,10 @@ fn play_call(
     if sort < 20 {
         return play_report(s, from, sort, state, nodes, voices);
     }
-    play_block(sort, state, nodes, edges, order, voices, events)
+    if sort < 22 {
+        return play_block(sort, state, nodes, edges, order, voices, events);
+    }
+    play_lent(s, from, state, nodes, edges, order, voices, events)
 }
 
 // The entry at `at`, which is whole, keeps no definition, makes no store and is none of the console's, on the store of this state and these tables: the state after it. A

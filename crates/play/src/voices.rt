@@ -5,7 +5,6 @@ use codec::field::byte_at;
 use codec::field::float;
 use codec::field::long_at;
 use codec::field::word_at;
-use codec::word::text;
 use piecrag::EdgeTable;
 use piecrag::EventTable;
 use piecrag::NodeTable;
@@ -36,8 +35,10 @@ fn free(
     edges: &mut EdgeTable,
     voices: &mut VoiceTable,
 ) -> State {
-    text(b"done\n");
-    free_voice(state, nodes, edges, voices, voice_at(s, at))
+    let r = free_voice(state, nodes, edges, voices, voice_at(s, at));
+    let outcome = r.outcome;
+    outcome_line(outcome);
+    r.state
 }
 
 fn clear(

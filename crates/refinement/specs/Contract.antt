@@ -81,7 +81,7 @@ pub data Contract : Call → Memory → Answer → Memory → Type 1 where
       → Contract (call.spawnLoose (spawnOf (a .1 .1 .1 .1 .1 .0) (a .1 .1 .1 .1 .1 .1 .0) middle (a .1 .1 .1 .1 .1 .1 .1 .0))) (lentSpawn (a .0) (a .1 .0 .now) (a .1 .1 .0 .now) (a .1 .1 .1 .0 .now) (a .1 .1 .1 .1 .0 .now) m) (call.spawned (r .answer)) (lentSpawn (r .state) (s .1 .0 .now) (s .1 .1 .0 .now) (s .1 .1 .1 .0 .now) (s .1 .1 .1 .1 .0 .now) m)
   -- free and clearing
   free-voice : (κs : _) (a : _) (r : _) (s : _) → fn-free-voice.Post κs a r s → (m : Memory)
-      → Contract (call.free (a .1 .1 .1 .1 .0)) (lentVoices (a .0) (a .1 .0 .now) (a .1 .1 .0 .now) (a .1 .1 .1 .0 .now) m) call.done (lentVoices r (s .1 .0 .now) (s .1 .1 .0 .now) (s .1 .1 .1 .0 .now) m)
+      → Contract (call.free (a .1 .1 .1 .1 .0)) (lentVoices (a .0) (a .1 .0 .now) (a .1 .1 .0 .now) (a .1 .1 .1 .0 .now) m) (call.ordered (r .outcome)) (lentVoices (r .state) (s .1 .0 .now) (s .1 .1 .0 .now) (s .1 .1 .1 .0 .now) m)
   free-done : (κs : _) (a : _) (r : _) (s : _) → fn-free-done.Post κs a r s → (m : Memory)
       → Contract call.clear (lentVoices (a .0) (a .1 .0 .now) (a .1 .1 .0 .now) (a .1 .1 .1 .0 .now) m) (call.removed (r .removed)) (lentVoices (r .state) (s .1 .0 .now) (s .1 .1 .0 .now) (s .1 .1 .1 .0 .now) m)
   -- values and glides, events, reports
@@ -97,7 +97,7 @@ pub data Contract : Call → Memory → Answer → Memory → Type 1 where
   prepare : (κs : _) (a : _) (r : _) (s : _) → fn-prepare.Post κs a r s → (m : Memory)
       → Contract call.prepare (lentOrder (a .0) (a .1 .0 .now) (a .1 .1 .0 .now) (a .1 .1 .1 .0 .now) m) (answered (r .answer)) (lentOrder (r .state) (a .1 .0 .now) (a .1 .1 .0 .now) (s .1 .1 .1 .0 .now) m)
   render : (κs : _) (a : _) (r : _) (s : _) → fn-render.Post κs a r s → (m : Memory)
-      → Contract call.render (lentRender (a .0) (a .1 .0 .now) (a .1 .1 .0 .now) (a .1 .1 .1 .0 .now) (a .1 .1 .1 .1 .0 .now) (a .1 .1 .1 .1 .1 .0 .now) m) (call.rendered (r .answer)) (lentRender (r .state) (s .1 .0 .now) (s .1 .1 .0 .now) (s .1 .1 .1 .0 .now) (s .1 .1 .1 .1 .0 .now) (s .1 .1 .1 .1 .1 .0 .now) m)
+      → Contract (call.render (a .1 .1 .1 .1 .1 .1 .0 .now)) (lentRender (a .0) (a .1 .0 .now) (a .1 .1 .0 .now) (a .1 .1 .1 .0 .now) (a .1 .1 .1 .1 .0 .now) (a .1 .1 .1 .1 .1 .0 .now) m) (call.rendered (r .answer) (r .taken) (s .1 .1 .1 .1 .1 .1 .0 .now)) (lentRender (r .state) (s .1 .0 .now) (s .1 .1 .0 .now) (s .1 .1 .1 .0 .now) (s .1 .1 .1 .1 .0 .now) (s .1 .1 .1 .1 .1 .0 .now) m)
   -- the questions, which leave the very store
   voice-level : (κs : _) (a : _) (r : _) (s : _) → fn-voice-level.Post κs a r s → (m : Memory)
       → Contract (call.ask (call.level (a .1 .1 .1 .0))) (lentParams (a .0) (a .1 .0 .now) (a .1 .1 .0 .now) m) (call.known r) (lentParams (a .0) (a .1 .0 .now) (a .1 .1 .0 .now) m)

@@ -17,7 +17,7 @@ forms =
     ∷ Definition ∷ Fixed 13 ∷ Fixed 13 ∷ Fixed 9 ∷ Fixed 9 ∷ Fixed 8 ∷ Fixed 0 ∷ Named 8 4
     ∷ Named 8 14 ∷ Named 17 14 ∷ Samples ∷ Repeated ∷ Fixed 0 ∷ Fixed 0 ∷ Fixed 8 ∷ Fixed 8
     ∷ Fixed 8 ∷ Fixed 4 ∷ Fixed 0 ∷ Fixed 0 ∷ Fixed 0 ∷ Fixed 0 ∷ Fixed 4 ∷ Fixed 0
-    ∷ Buffer ∷ Fixed 0 ∷ Fixed 15 ∷ Malformed ∷ Malformed ∷ Malformed ∷ Malformed ∷ Malformed
+    ∷ Buffer ∷ Fixed 0 ∷ Fixed 15 ∷ Fixed 5 ∷ Malformed ∷ Malformed ∷ Malformed ∷ Malformed
     ∷ Malformed ∷ Malformed ∷ Malformed ∷ Malformed ∷ Malformed ∷ Malformed ∷ Malformed ∷ Fixed 20
     ∷ Fixed 18 ∷ Fixed 0 ∷ Fixed 0 ∷ []
 

@@ -75,7 +75,7 @@ const FORMS: [Form; 51] = [
     Form::Buffer,
     Form::Fixed(0),
     Form::Fixed(15),
-    Form::Malformed,
+    Form::Fixed(5),
     Form::Malformed,
     Form::Malformed,
     Form::Malformed,

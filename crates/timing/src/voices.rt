@@ -21,6 +21,7 @@ use piecrag::VoiceId;
 use piecrag::VoiceTable;
 use piecrag::free_done_synths;
 use piecrag::free_voice;
+use piecrag::outcome_number;
 use piecrag::render;
 use piecrag::report;
 use piecrag::set_voice_param;
@@ -89,9 +90,10 @@ pub extern "C" fn piecrag_free_voice(
     voices: &mut VoiceTable,
     w: u64,
 ) -> u32 {
-    let s = free_voice(state_in(state), nodes, edges, voices, VoiceId(w));
-    put_state(state, s);
-    0
+    let r = free_voice(state_in(state), nodes, edges, voices, VoiceId(w));
+    let outcome = r.outcome;
+    put_state(state, r.state);
+    outcome_number(outcome) as u32
 }
 
 #[no_mangle]
@@ -167,7 +169,16 @@ pub extern "C" fn piecrag_render(
     voices: &mut VoiceTable,
     events: &mut EventTable,
 ) -> u32 {
-    let r = render(state_in(state), nodes, edges, order, voices, events);
+    let mut list = [0u8; 256];
+    let r = render(
+        state_in(state),
+        nodes,
+        edges,
+        order,
+        voices,
+        events,
+        &mut list,
+    );
     let answer = r.answer;
     put_state(state, r.state);
     render_number(answer)

@@ -4,6 +4,7 @@ use crate::line_words::level_word;
 use codec::field::bytes_at;
 use codec::word::and_number;
 use codec::word::end_line;
+use codec::word::hex_bytes;
 use codec::word::text;
 use piecrag::AddAnswer;
 use piecrag::Answer;
@@ -13,6 +14,7 @@ use piecrag::Position;
 use piecrag::Refusal;
 use piecrag::Rendered;
 use piecrag::Spawned;
+use piecrag::outcome_number;
 use piecrag::refusal_number;
 
 pub fn refused_line(refusal: Refusal) {
@@ -57,26 +59,52 @@ pub fn spawned_line(answer: Spawned) {
     }
 }
 
+// What became of a value, a glide or a free.
 pub fn outcome_line(outcome: Outcome) {
-    match outcome {
-        Outcome::Applied => text(b"yes\n"),
-        Outcome::NoVoice => text(b"no\n"),
-        Outcome::NoParameter => text(b"no\n"),
-        Outcome::NotTaken => text(b"no\n"),
-    }
+    text(b"outcome");
+    and_number(outcome_number(outcome) as u64);
+    end_line();
 }
 
-pub fn rendered_line(answer: Rendered) {
+// The entries of a list, if there are any.
+fn entries(list: &[u8]) {
+    if list.len() != 0 {
+        text(b" ");
+        hex_bytes(list);
+    }
+    end_line();
+}
+
+// How many events a render took, and what became of each.
+fn taken_words(outcomes: &[u8]) {
+    text(b" took");
+    and_number(outcomes.len() as u64);
+    entries(outcomes);
+}
+
+pub fn rendered_line(answer: Rendered, outcomes: &[u8]) {
     match answer {
-        Rendered::Sounding => text(b"sounding\n"),
-        Rendered::Silent => text(b"silent\n"),
+        Rendered::Sounding => {
+            text(b"sounding");
+            taken_words(outcomes);
+        }
+        Rendered::Silent => {
+            text(b"silent");
+            taken_words(outcomes);
+        }
         Rendered::Unprepared(refusal) => {
             text(b"silent");
             and_number(refusal_number(refusal) as u64);
-            end_line();
+            taken_words(outcomes);
         }
         Rendered::Refused(refusal) => refused_line(refusal),
     }
+}
+
+// The whole of a lent list.
+pub fn list_line(list: &[u8]) {
+    text(b"list");
+    entries(list);
 }
 
 pub fn removed_line(removed: usize) {

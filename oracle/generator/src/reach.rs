@@ -14,6 +14,7 @@ use microsynth::graph::Edge;
 use microsynth::node::NodeId;
 use microsynth::scheduler::EventAction;
 use replay::orders::event_of;
+use replay::player::{LIST, list_length};
 use replay::script::Call;
 use scripted::limits;
 
@@ -22,6 +23,16 @@ pub use spawns::Spawn;
 
 use self::keyboards::Keyboards;
 use crate::writer::Answer;
+
+/// The rows of a value or a glide, and of an event, by outcome.
+const ORDERED: [&str; 4] = [
+    "value or glide applied",
+    "value or glide: no such voice",
+    "value or glide: no such parameter",
+    "value or glide: node takes none of that sort",
+];
+const HAPPENED: [&str; 4] =
+    ["event applied", "event: no such voice", "event: no such parameter", "event: node takes none of that sort"];
 
 /// How often each row was reached.
 #[derive(Default)]
@@ -110,6 +121,14 @@ impl Reach {
             Call::Schedule { time, voice, action, name, .. } => self.note_event(seen, *time, *voice, *action, name),
             Call::Clear {} => self.note_clearing(seen),
             Call::Render {} => self.note_render(seen),
+            Call::RenderLent { length, .. } => self.note_lent(seen, list_length(*length)),
+            Call::Value { .. } | Call::SetGlide { .. } => {
+                let number = seen.answer.of("outcome").expect("an outcome");
+                self.hit(ORDERED[number as usize]);
+            }
+            Call::Free { .. } => {
+                self.hit(if seen.answer.of("outcome") == Some(0) { "free applied" } else { "free: no such voice" });
+            }
             Call::Report { done, samples, .. } => self.note_report(seen, *done, &samples.0),
             Call::ReportRepeated { done, samples, .. } => self.note_report(seen, *done, &[samples.sample]),
             Call::Level { voice } => self.note_level(seen, *voice),
@@ -187,7 +206,44 @@ impl Reach {
         self.hit_if("none, though a node of some voice is done", none && seen.before.voices.iter().any(done));
     }
 
+    /// A render with a list of this length.
+    fn note_lent(&mut self, seen: &Seen, length: usize) {
+        self.hit_if("more than 256 entries lent", length > LIST && !seen.answer.is("refused"));
+        if length >= LIST {
+            return self.note_render(seen);
+        }
+        self.hit(match seen.answer.of("refused") {
+            Some(15) => "fewer than 256 entries lent at the clock's end",
+            _ if seen.before.due.is_empty() => "no event due, and fewer than 256 entries lent",
+            _ => "events due, and fewer than 256 entries lent",
+        });
+    }
+
+    /// The outcomes in a render's line.
+    fn note_outcomes(&mut self, seen: &Seen) {
+        let outcomes: Vec<usize> = seen.answer.outcomes().collect();
+        for &outcome in &outcomes {
+            self.hit(HAPPENED[outcome]);
+        }
+        self.hit_if("outcomes though the prepare fails", seen.answer.of("silent").is_some() && !outcomes.is_empty());
+        let mut freed = vec![];
+        for (action, outcome) in seen.before.due.iter().zip(outcomes) {
+            match action {
+                EventAction::FreeSynth { voice } if outcome == 0 => freed.push(*voice),
+                EventAction::SetParam { voice, .. }
+                | EventAction::SetGate { voice, .. }
+                | EventAction::SetParamGlide { voice, .. }
+                | EventAction::FreeSynth { voice } => {
+                    self.hit_if("event for a voice freed earlier in its render", freed.contains(voice));
+                }
+            }
+        }
+    }
+
     fn note_render(&mut self, seen: &Seen) {
+        if !seen.answer.is("refused") {
+            self.note_outcomes(seen);
+        }
         if seen.answer.is("refused") {
             return self.hit("render refused at the clock's end");
         }

@@ -12,10 +12,24 @@ impl Writer {
     /// A render; where it is sure to sound, reports follow it.
     pub fn render(&mut self) {
         let reports = if self.will_sound() { self.planned_reports() } else { vec![] };
-        self.put_before(Call::Render {}, &reports);
+        if self.rng.once_in(24) {
+            self.put_lent(&[0, 1, 100, 254, 255, 255], &[]);
+        }
+        if self.rng.once_in(4) {
+            self.put_lent(&[256, 256, 257, 300, 512, 4353], &reports);
+        } else {
+            self.put_before(Call::Render {}, &reports);
+        }
         for report in reports {
             self.put(report);
         }
+    }
+
+    /// A render with a list of one of these lengths, and something in it.
+    fn put_lent(&mut self, lengths: &[u32], reports: &[Call]) {
+        let length = *self.rng.pick(lengths);
+        let old = *self.rng.pick(&[0, 1, 2, 3, 7, 255]);
+        self.put_before(Call::RenderLent { length, old }, reports);
     }
 
     pub fn sound(&mut self) {

@@ -51,6 +51,12 @@ impl Answer {
         }
     }
 
+    /// The outcomes of the events that a render took: the digits behind `took` and their count.
+    pub fn outcomes(&self) -> impl Iterator<Item = usize> {
+        let digits = self.words().skip_while(|&word| word != "took").nth(2).unwrap_or_default();
+        digits.as_bytes().chunks(2).map(|pair| usize::from(pair[1] - b'0'))
+    }
+
     /// The number after this word.
     pub fn of(&self, word: &str) -> Option<u64> {
         self.number().filter(|_| self.is(word))
@@ -106,7 +112,7 @@ impl Writer {
         let start = self.script.len();
         let how = self.rng.below(4);
         match how {
-            0 => self.script.push(*self.rng.pick(&[0, 34, 255])),
+            0 => self.script.push(*self.rng.pick(&[0, 36, 255])),
             1 => Call::Page { length: Length(4097) }.encode(&mut self.script),
             2 => {
                 let samples = Repeated { count: 513, sample: 0.0 };

@@ -25,6 +25,7 @@ include!(concat!(env!("OUT_DIR"), "/modules.rs"));
 /// Whether this is the Rust as it was published, without the changes of `oracle/changes`.
 pub const IS_PUBLISHED: bool = matches!(env!("MICROSYNTH_CHANGES").as_bytes(), b"0");
 
+pub mod outcomes;
 pub mod routing;
 pub mod table;
 pub mod tuning;

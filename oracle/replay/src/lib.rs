@@ -3,6 +3,7 @@
 mod definition;
 mod host;
 pub mod orders;
+mod outcomes;
 pub mod player;
 mod reading;
 mod render;

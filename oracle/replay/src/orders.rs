@@ -6,6 +6,7 @@ use microsynth::scheduler::{Event, EventAction, VoiceId};
 use scripted::limits::{self, Refusal, check};
 use scripted::name;
 
+use crate::outcomes;
 use crate::script::{Call, Glide};
 use crate::store::Store;
 
@@ -65,14 +66,18 @@ pub fn event_of(call: &Call) -> Option<Event> {
 }
 
 impl Store {
-    pub(crate) fn value(&mut self, voice: u64, param: &[u8], value: f32) -> bool {
-        self.engine.set_voice_param(VoiceId(voice), &name::text(param), value)
+    pub(crate) fn value(&mut self, voice: u64, param: &[u8], value: f32) -> u8 {
+        let (voice, param) = (VoiceId(voice), name::text(param));
+        let missing = self.missing(voice, &param);
+        outcomes::number(missing, self.engine.set_voice_param(voice, &param, value))
     }
 
-    pub(crate) fn glide(&mut self, voice: u64, param: &[u8], glide: &Glide) -> bool {
+    pub(crate) fn glide(&mut self, voice: u64, param: &[u8], glide: &Glide) -> u8 {
         let (shape, space) = (shape_of(glide), space_of(glide));
-        let param = name::text(param);
-        self.engine.set_voice_param_glide(VoiceId(voice), &param, glide.target, glide.seconds, shape, space)
+        let (voice, param) = (VoiceId(voice), name::text(param));
+        let missing = self.missing(voice, &param);
+        let said = self.engine.set_voice_param_glide(voice, &param, glide.target, glide.seconds, shape, space);
+        outcomes::number(missing, said)
     }
 
     /// What the store accepts the Rust is given too; it keeps it.

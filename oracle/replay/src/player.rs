@@ -6,10 +6,19 @@ use microsynth::voice::{BudgetScope, StealPolicy};
 use scripted::definition::Definition;
 use scripted::limits::{Refusal, check};
 
+use crate::render::list_digits;
 use crate::script::{self, Call};
 use crate::spawn::Spawn;
 use crate::store::{Answer, Config, Store};
 use crate::wishes::{Wish, Wishes};
+
+/// How many entries the list of a render needs.
+pub const LIST: usize = 256;
+
+/// The length of the list that an entry lends.
+pub fn list_length(said: u32) -> usize {
+    said.min(4096) as usize
+}
 
 pub struct Player {
     store: Store,
@@ -46,8 +55,8 @@ fn done(result: Result<(), Refusal>) -> Answer {
     result.map(|()| "done".to_string())
 }
 
-fn yes_or_no(answer: bool) -> String {
-    if answer { "yes".to_string() } else { "no".to_string() }
+fn outcome(number: u8) -> String {
+    format!("outcome {number}")
 }
 
 impl Player {
@@ -86,17 +95,19 @@ impl Player {
             }
             Call::Turn {} => Ok(self.turn()),
             Call::Waiting {} => Ok(self.wishes.line()),
-            Call::Free { voice } => {
-                store.engine.free_voice(VoiceId(voice));
-                done(Ok(()))
-            }
+            Call::Free { voice } => Ok(outcome(store.free(VoiceId(voice)))),
             Call::Clear {} => Ok(format!("removed {}", store.engine.free_done_synths())),
-            Call::Value { voice, ref name, value } => Ok(yes_or_no(store.value(voice, name, value))),
-            Call::SetGlide { voice, ref name, ref glide } => Ok(yes_or_no(store.glide(voice, name, glide))),
+            Call::Value { voice, ref name, value } => Ok(outcome(store.value(voice, name, value))),
+            Call::SetGlide { voice, ref name, ref glide } => Ok(outcome(store.glide(voice, name, glide))),
             Call::Schedule { .. } => done(store.schedule(call)),
             Call::Report { .. } | Call::ReportRepeated { .. } => done(store.report(call)),
             Call::Prepare {} => done(store.prepare()),
-            Call::Render {} => store.render(upcoming).map(|rendered| rendered.to_string()),
+            Call::Render {} => store.render(&mut [255; LIST], upcoming),
+            Call::RenderLent { length, old } => {
+                let mut list = vec![old; list_length(length)];
+                let line = store.render(&mut list, upcoming).unwrap_or_else(|number| format!("refused {number}"));
+                Ok(format!("{line}\nlist{}", list_digits(&list)))
+            }
             _ => store.read(call),
         }
     }

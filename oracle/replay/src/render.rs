@@ -9,8 +9,10 @@ use scripted::graph;
 use scripted::limits::{self, Refusal};
 
 use crate::orders::report_of;
+use crate::outcomes::outcomes;
+use crate::player::{LIST, list_length};
 use crate::script::Call;
-use crate::store::{Store, nodes_of};
+use crate::store::{Answer, Store, nodes_of};
 
 /// What a render answers: a block or none, and the number of the prepare in it that failed.
 pub(crate) enum Rendered {
@@ -29,6 +31,12 @@ impl fmt::Display for Rendered {
     }
 }
 
+/// The entries of a list in hexadecimal, a space before them if there are any.
+pub(crate) fn list_digits(list: &[u8]) -> String {
+    let digits: String = list.iter().map(|entry| format!("{entry:02x}")).collect();
+    if digits.is_empty() { digits } else { format!(" {digits}") }
+}
+
 impl Store {
     /// Prepares where the Rust would neither panic, which is 13, nor leave a node out, which is 14.
     pub(crate) fn prepare(&mut self) -> Result<(), Refusal> {
@@ -38,24 +46,35 @@ impl Store {
         Ok(())
     }
 
-    /// Renders. `upcoming` is what the script has next.
-    pub(crate) fn render(&mut self, upcoming: &[Call]) -> Result<Rendered, Refusal> {
+    /// Renders, and writes what became of the events into the list. `upcoming` is what the script has next.
+    pub(crate) fn render(&mut self, list: &mut [u8], upcoming: &[Call]) -> Answer {
         let deadline = self.engine.sample_offset().checked_add(self.block() as u64).ok_or(15)?;
+        limits::check(list.len() >= LIST, 17)?;
         self.foresee(upcoming);
         assert_eq!(self.engine.scheduler().len(), self.queue.kept(), "the Rust keeps what was accepted");
-        self.queue.take_before(deadline);
-        match self.failing_prepare(deadline) {
+        let taken = self.queue.take_before(deadline);
+        let foretold = self.foretell(deadline);
+        let rendered = match self.failing_prepare(deadline) {
             Some(number) => {
                 self.render_unprepared(deadline, number);
-                Ok(Rendered::Unprepared(number))
+                Rendered::Unprepared(number)
             }
-            None => Ok(self.render_whole()),
-        }
+            None => self.render_whole(),
+        };
+        // The list shows only the events that no later one has replaced.
+        let outcomes = taken.iter().zip(outcomes(&foretold)).filter(|(event, _)| event.is_left);
+        let outcomes: Vec<u8> = outcomes.map(|(_, number)| number).collect();
+        list[..outcomes.len()].copy_from_slice(&outcomes);
+        Ok(format!("{rendered} took {}{}", outcomes.len(), list_digits(&outcomes)))
     }
 
     /// The generators write in a render what the script reports of them afterwards, up to the next render or making.
     fn foresee(&mut self, upcoming: &[Call]) {
-        let is_next = |call: &Call| matches!(call, Call::Render {} | Call::Make { .. } | Call::MakeWithTable { .. } | Call::MakeConsole { .. });
+        let is_next = |call: &Call| match *call {
+            Call::Render {} | Call::Make { .. } | Call::MakeWithTable { .. } | Call::MakeConsole { .. } => true,
+            Call::RenderLent { length, .. } => list_length(length) >= LIST,
+            _ => false,
+        };
         let end = upcoming.iter().position(is_next).unwrap_or(upcoming.len());
         // The first report of a node is the last to be set.
         for report in upcoming[..end].iter().rev().filter_map(report_of) {

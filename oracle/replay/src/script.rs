@@ -222,6 +222,7 @@ entries! {
     32 Page { length: Length }
     33 State {}
     34 MakeWithTable { rate: f32, block: u32, budgeted: u8, budget: u32, policy: u8, scope: u8 }
+    35 RenderLent { length: u32, old: u8 }
     47 MakeConsole { rate: f32, block: u32, budgeted: u8, budget: u32, policy: u8, scope: u8, table: u8, keyboards: u32 }
     48 Wish { slot: u8, keyboard: u32, managed: u8, bus: u32, pan: f32, rank: u32 }
     49 Turn {}

@@ -1,5 +1,6 @@
 use mathlib.Core.Path.{refl, ap, _∙_}
 use mathlib.Core.List.{[], _∷_}
+use lib.ListN.{replicate}
 use borrow.Author.Needs.{needs}
 use Rattle.model.specs.Voice.{id}
 use Rattle.model.specs.Call.{step}
@@ -45,9 +46,9 @@ returns c =
     let end =
     modelOf (lentAll (rendered .result .state) (rendered .last .1 .0) (rendered .last .1 .1 .0) (rendered .last .1 .1 .1 .0) (rendered .last .1 .1 .1 .1 .0) (rendered .last .1 .1 .1 .1 .1 .0) steals) in
     let one = spawned .ensures .0 s ∙ ap (λ d. step (call.spawnManaged (spawnOf d (id 0) middle 0)) (modelOf s)) (def .ensures) in
-    and-then (call.spawnManaged (spawnOf tone (id 0) (float 0) 0)) (call.prepare ∷ call.render ∷ []) (modelOf s) (modelOf more) end (ap (λ x. x .model) one)
-    (and-then call.prepare (call.render ∷ []) (modelOf more) (modelOf ready) end (ap (λ x. x .model) (prepared .ensures .0 more))
-    (and-then call.render [] (modelOf ready) end end (ap (λ x. x .model) (rendered .ensures .0 ready)) refl))
+    and-then (call.spawnManaged (spawnOf tone (id 0) (float 0) 0)) (call.prepare ∷ call.render (replicate 256 0) ∷ []) (modelOf s) (modelOf more) end (ap (λ x. x .model) one)
+    (and-then call.prepare (call.render (replicate 256 0) ∷ []) (modelOf more) (modelOf ready) end (ap (λ x. x .model) (prepared .ensures .0 more))
+    (and-then (call.render (replicate 256 0)) [] (modelOf ready) end end (ap (λ x. x .model) (rendered .ensures .0 ready)) refl))
 
 pub turn-spec : {M : Type 1} → statement M
 turn-spec =

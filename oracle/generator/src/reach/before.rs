@@ -64,7 +64,7 @@ impl Before {
             voices: voices(engine),
             tracked: engine.voice_allocator().map_or(vec![], |allocator| allocator.active_voices().to_vec()),
             done: live.into_iter().filter(|&id| graph.node_is_done(id)).collect(),
-            due: if matches!(call, Call::Render {}) { due(store) } else { vec![] },
+            due: if matches!(call, Call::Render {} | Call::RenderLent { .. }) { due(store) } else { vec![] },
             waiting: if matches!(call, Call::Schedule { .. }) { store.pending().cloned().collect() } else { vec![] },
         }
     }
