@@ -166,11 +166,21 @@ fn spawn(
     steals: &mut StealTable,
     def: SynthDef,
     bus: u32,
+    rank: u32,
     what: &[u8],
 ) -> State {
     let mut was = io::buffer();
     let n = show::page_of(s, edges, voices, &mut was);
-    let spawning = spawn_voice_on_bus_managed(s, nodes, edges, voices, steals, def, NodeId(bus), 0);
+    let spawning = spawn_voice_on_bus_managed(
+        s,
+        nodes,
+        edges,
+        voices,
+        steals,
+        def,
+        NodeId(bus),
+        rank,
+    );
     let a = spawning.answer;
     show::spawned(a);
     let t = spawning.state;
@@ -178,7 +188,7 @@ fn spawn(
     t
 }
 
-// 9, 10, 11: on the scene's store; with a bus without ports beside the scene's, node 5; on a new store with a budget of 0
+// 26, before 9; 9, 10, 11: on the scene's store; with a bus without ports beside the scene's, node 5; on a new store with a budget of 0
 fn spawns(
     s: State,
     nodes: &mut NodeTable,
@@ -194,6 +204,18 @@ fn spawns(
         steals,
         of_nodes(1, 1),
         0,
+        8,
+        b"spawning with rank 8 a definition that sounds through a node that it has not",
+    );
+    spawn(
+        s,
+        nodes,
+        edges,
+        voices,
+        steals,
+        of_nodes(1, 1),
+        0,
+        7,
         b"spawning a definition that sounds through a node that it has not",
     );
     let granted = add_node(s, nodes, b"Bus", 0, 0, false, false);
@@ -206,6 +228,7 @@ fn spawns(
         steals,
         tone(),
         5,
+        0,
         b"spawning on a bus without ports",
     );
     let nobody = with_bus(nodes, Budget::AtMost(0), 3);
@@ -216,6 +239,7 @@ fn spawns(
         voices,
         steals,
         tone(),
+        0,
         0,
         b"spawning under a budget of 0",
     );
@@ -243,6 +267,7 @@ fn no_port(
         voices,
         steals,
         tone(),
+        0,
         0,
         b"spawning where the host holds every port",
     );
