@@ -20,8 +20,8 @@ extern "C" {
 #endif
 
 /* ---- sizes, in words of 32 bits */
-#define PIECRAG_STATE_WORDS 33
-#define PIECRAG_NODE_WORDS 10752
+#define PIECRAG_STATE_WORDS 32
+#define PIECRAG_NODE_WORDS 11264
 #define PIECRAG_EDGE_WORDS 3072
 #define PIECRAG_ORDER_WORDS 512
 #define PIECRAG_EVENT_WORDS 3840

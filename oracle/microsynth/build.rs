@@ -97,5 +97,10 @@ fn main() {
     list += "}\n";
     println!("cargo::rerun-if-changed=accessors");
     println!("cargo::rustc-env=MICROSYNTH_CHANGES={}", changes.len());
+    // what a change adds is there for the accessors
+    println!("cargo::rustc-check-cfg=cfg(changed)");
+    if !changes.is_empty() {
+        println!("cargo::rustc-cfg=changed");
+    }
     fs::write(out.join("modules.rs"), list).expect("the build folder can be written");
 }

@@ -106,9 +106,9 @@ module _ (c : List ℕ) (n first count : ℕ) where
   abbrev ns : List Node
   ns = take n (nodesIn c)
 
-  pub flags-start : (top : ℕ) → top ≡ min n (length c / 21) → FlagsFrom c n first count top (replicate 24 false)
+  pub flags-start : (top : ℕ) → top ≡ min n (length c / 22) → FlagsFrom c n first count top (replicate 24 false)
   flags-start top e =
-      let long : length ns ≡ top = counted 21 nodeOf c n top e in
+      let long : length ns ≡ top = counted 22 nodeOf c n top e in
       let past : length ns ≤ top = omega arith in
       record { within = omega arith; are = rw (drop-of-length-le ns past) (none-yet first count) }
 

@@ -31,7 +31,7 @@ fn done_flags(nodes: &[u32], n: usize, first: u32, count: u32) -> [bool; 24]
 {
     let m = at_most(wide(count), 24);
     let mut flags = [false; 24];
-    let mut i = at_most(n, nodes.len() / 21);
+    let mut i = at_most(n, nodes.len() / 22);
     while 0 < i {
         i -= 1;
         let p = place_from(first, id_at(nodes, i).0);
@@ -46,7 +46,7 @@ fn done_flags(nodes: &[u32], n: usize, first: u32, count: u32) -> [bool; 24]
 pub fn has_done(nodes: &[u32], n: usize) -> bool
     ensures { λ r. ⌜ r ≡ anyDone (take n (nodesIn (now (nodes .entry)))) ⌝ }
 {
-    let m = at_most(n, nodes.len() / 21);
+    let m = at_most(n, nodes.len() / 22);
     let mut i: usize = 0;
     while i < m {
         if done_at(nodes, i) {

@@ -32,7 +32,6 @@ blank c =
       next = 0;
       clock = 0;
       spawned = 0;
-      sequence = 0;
       stolen = 0;
       place = 0;
     }
@@ -41,7 +40,7 @@ blank c =
 abbrev holding : Config → List StealRecord → Model
 holding c l =
     record {
-      shared = record { config = c; graph = newGraph; events = []; steals = record { count = 0; newest = l }; clock = 0; spawned = 0; sequence = 0 };
+      shared = record { config = c; graph = newGraph; events = []; steals = record { count = 0; newest = l }; clock = 0; spawned = 0 };
       voices = [];
     }
 

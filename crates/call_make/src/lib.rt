@@ -108,7 +108,6 @@ fn new_state(config: Config) -> State
         next: 0,
         clock: 0,
         spawned: 0,
-        sequence: 0,
         stolen: 0,
         place: 0,
     }

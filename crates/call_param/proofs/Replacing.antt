@@ -22,7 +22,7 @@ use Rattle.model.specs.Voice.{id}
 use Rattle.call_param.specs.Left.{isLeft, replacedLeft}
 use Rattle.call_param.proofs.Copying.{place-set, map-set}
 
-module _ (l c : List ℕ) (count k n p : ℕ) (e : n ≡ min count (length c / 21)) (at : p ≡ placeOf (isLeft l (id k)) (take count (nodesIn c))) where
+module _ (l c : List ℕ) (count k n p : ℕ) (e : n ≡ min count (length c / 22)) (at : p ≡ placeOf (isLeft l (id k)) (take count (nodesIn c))) where
   abbrev q : Node → Bool
   q = isLeft l (id k)
 
@@ -33,14 +33,14 @@ module _ (l c : List ℕ) (count k n p : ℕ) (e : n ≡ min count (length c / 2
   node = getD (nodesIn c) p (nodeOf [])
 
   many : n ≡ length ns
-  many = sym (counted 21 nodeOf c count n e)
+  many = sym (counted 22 nodeOf c count n e)
 
   pub first-lost : n ≤ p → find q ns ≡ none
-  first-lost h = lost-in 21 nodeOf q c count p n at many h
+  first-lost h = lost-in 22 nodeOf q c count p n at many h
 
   module _ (h : p < n) where
     pub first-found : find q ns ≡ some node
-    first-found = found-in 21 nodeOf q c count p n at many h
+    first-found = found-in 22 nodeOf q c count p n at many h
 
     its-id : k ≡ node .id .0
     its-id = sym (eqb-true (node .id .0) k (and-right (not (ownedByAny l node)) (eqb (node .id .0) k) (find-in q ns node first-found .1)))
@@ -63,7 +63,7 @@ module _ (l c : List ℕ) (count k n p : ℕ) (e : n ≡ min count (length c / 2
       -- and takes the place of those behind it
       pub all-replaced : (last : List ℕ) → take count (nodesIn last) ≡ map (λ x. cond (q x) (getD (nodesIn put) p (nodeOf [])) x) (take count (nodesIn put)) → take count (nodesIn last) ≡ replacedLeft l ns new
       all-replaced last copied =
-          let room : p < length (nodesIn c) = omega (arith, rows-long 21 nodeOf c) in
+          let room : p < length (nodesIn c) = omega (arith, rows-long 22 nodeOf c) in
           let there : getD (nodesIn put) p (nodeOf []) ≡ new = ap (λ r. getD r p (nodeOf [])) stored ∙ getD-set-same (nodesIn c) p new (nodeOf []) room in
           let first : cond (q new) new new ≡ cond (q (getD ns p (nodeOf []))) new (getD ns p (nodeOf [])) =
           either (q new) ∙ sym (ap (λ b. cond b new node) (find-in q ns node first-found .1)) ∙ ap (λ x. cond (q x) new x) (sym read) in

@@ -51,7 +51,7 @@ pub replies-same : (old new : List ℕ) (count : ℕ) (o : Outcome) (r u : Reply
 replies-same old new count o r u e h = subst (Replies old new count o) e h
 
 -- ---- the node
-module _ (l c : List ℕ) (count k : ℕ) (o : LastOrder) (n p : ℕ) (e : n ≡ min count (length c / 21)) (at : p ≡ placeOf (isLeft l (id k)) (take count (nodesIn c))) where
+module _ (l c : List ℕ) (count k : ℕ) (o : LastOrder) (n p : ℕ) (e : n ≡ min count (length c / 22)) (at : p ≡ placeOf (isLeft l (id k)) (take count (nodesIn c))) where
   abbrev ns : List Node
   ns = take count (nodesIn c)
 

@@ -24,7 +24,7 @@ pub(crate) fn order_node(
 ) -> Outcome
     ensures { λ r. ⌜ Replies (now (t .entry)) (now (t .exit)) count r (replyNode (now (freed .entry)) (find (isLeft (now (freed .entry)) (id k)) (take count (nodesIn (now (t .entry))))) o (take count (nodesIn (now (t .entry))))) ⌝ }
 {
-    let n = at_most(count, t.len() / 21);
+    let n = at_most(count, t.len() / 22);
     let p = row_left(t, count, k, freed);
     if n <= p {
         return Outcome::NotTaken;

@@ -14,13 +14,13 @@ pub(crate) fn takes_at(t: &[u32], i: usize, o: LastOrder) -> bool
 {
     match o {
         LastOrder::Nothing => false,
-        LastOrder::Value(_) => flag_at(t, 21, i, 11),
+        LastOrder::Value(_) => flag_at(t, 22, i, 11),
         LastOrder::Glide {
             target: _,
             seconds: _,
             shape: _,
             space: _,
-        } => flag_at(t, 21, i, 12),
+        } => flag_at(t, 22, i, 12),
     }
 }
 
@@ -29,5 +29,5 @@ pub(crate) fn put_last(t: &mut [u32], i: usize, o: LastOrder)
     ensures { λ _. ⌜ nodesIn (now (t .exit)) ≡ set (nodesIn (now (t .entry))) i (withLast o (getD (nodesIn (now (t .entry))) i (nodeOf []))) ⌝ }
 {
     let ws = last_words(o);
-    put_fields(t, 21, i, 15, &ws);
+    put_fields(t, 22, i, 15, &ws);
 }

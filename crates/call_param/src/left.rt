@@ -28,7 +28,7 @@ fn is_left(t: &[u32], i: usize, k: u64, freed: &[u64]) -> bool
 pub fn row_left(t: &[u32], count: usize, k: u64, freed: &[u64]) -> usize
     ensures { λ r. ⌜ r ≡ placeOf (isLeft (now (freed .entry)) (id k)) (take count (nodesIn (now (t .entry)))) ⌝ }
 {
-    let n = at_most(count, t.len() / 21);
+    let n = at_most(count, t.len() / 22);
     let mut i: usize = 0;
     while i < n {
         if is_left(t, i, k, freed) {
@@ -43,11 +43,11 @@ pub fn row_left(t: &[u32], count: usize, k: u64, freed: &[u64]) -> usize
 pub fn copy_on(t: &mut [u32], count: usize, p: usize, k: u64, freed: &[u64])
     ensures { λ _. ⌜ (p ≡ placeOf (isLeft (now (freed .entry)) (id k)) (take count (nodesIn (now (t .entry)))) → take count (nodesIn (now (t .exit))) ≡ map (λ x. cond (isLeft (now (freed .entry)) (id k) x) (getD (nodesIn (now (t .entry))) p (nodeOf [])) x) (take count (nodesIn (now (t .entry))))) ⌝ }
 {
-    let n = at_most(count, t.len() / 21);
+    let n = at_most(count, t.len() / 22);
     let mut i = p;
     while i < n {
         if is_left(t, i, k, freed) {
-            move_row(t, 21, p, i);
+            move_row(t, 22, p, i);
             i += 1;
         } else {
             i += 1;

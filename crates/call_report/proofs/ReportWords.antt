@@ -18,24 +18,24 @@ use Rattle.words.specs.Rows.{fieldsPut}
 use Rattle.words.proofs.Within.{put-past, fields-is}
 use Rattle.graph_rows.specs.Node.{nodeOf, nodesIn}
 
-report-set : (r : List ℕ) (a b : ℕ) (done : Bool) (level : Float) → length r ≡ 21 → isSet a ≡ done → floatFrom b ≡ level → nodeOf (sets r 13 (a ∷ b ∷ [])) ≡ reported level done (nodeOf r)
+report-set : (r : List ℕ) (a b : ℕ) (done : Bool) (level : Float) → length r ≡ 22 → isSet a ≡ done → floatFrom b ≡ level → nodeOf (sets r 13 (a ∷ b ∷ [])) ≡ reported level done (nodeOf r)
 unfolding nodeOf
 report-set r a b done level h d e =
-    ap (λ l. nodeOf (sets l 13 (a ∷ b ∷ []))) (sym (spelled 21 r h))
-    ∙ ap (λ x. reported (floatFrom b) x (nodeOf (spell 0 21 r))) d
-    ∙ ap (λ x. reported x done (nodeOf (spell 0 21 r))) e
-    ∙ ap (λ l. reported level done (nodeOf l)) (spelled 21 r h)
+    ap (λ l. nodeOf (sets l 13 (a ∷ b ∷ []))) (sym (spelled 22 r h))
+    ∙ ap (λ x. reported (floatFrom b) x (nodeOf (spell 0 22 r))) d
+    ∙ ap (λ x. reported x done (nodeOf (spell 0 22 r))) e
+    ∙ ap (λ l. reported level done (nodeOf l)) (spelled 22 r h)
 
 -- past the end nothing is stored
 pub report-put : (c : List ℕ) (a b i : ℕ) (done : Bool) (level : Float) → isSet a ≡ done → floatFrom b ≡ level
-    → nodesIn (fieldsPut 21 i 13 (a ∷ b ∷ []) c) ≡ set (nodesIn c) i (reported level done (getD (nodesIn c) i (nodeOf [])))
-report-put c a b i done level d e = go (ltb i (length c / 21)) refl
+    → nodesIn (fieldsPut 22 i 13 (a ∷ b ∷ []) c) ≡ set (nodesIn c) i (reported level done (getD (nodesIn c) i (nodeOf [])))
+report-put c a b i done level d e = go (ltb i (length c / 22)) refl
   where
-    go : (t : Bool) → ltb i (length c / 21) ≡ t → nodesIn (fieldsPut 21 i 13 (a ∷ b ∷ []) c) ≡ set (nodesIn c) i (reported level done (getD (nodesIn c) i (nodeOf [])))
+    go : (t : Bool) → ltb i (length c / 22) ≡ t → nodesIn (fieldsPut 22 i 13 (a ∷ b ∷ []) c) ≡ set (nodesIn c) i (reported level done (getD (nodesIn c) i (nodeOf [])))
     go true t =
-        let inside : i < length c / 21 = ltb-true i (length c / 21) t in
-        fields-is 21 nodeOf c (a ∷ b ∷ []) i 13 (omega arith) (omega arith)
-        ∙ ap (set (nodesIn c) i) (report-set (rowAt 21 i c) a b done level (at-long 21 i c inside) d e ∙ ap (reported level done) (sym (row-is 21 nodeOf c i)))
+        let inside : i < length c / 22 = ltb-true i (length c / 22) t in
+        fields-is 22 nodeOf c (a ∷ b ∷ []) i 13 (omega arith) (omega arith)
+        ∙ ap (set (nodesIn c) i) (report-set (rowAt 22 i c) a b done level (at-long 22 i c inside) d e ∙ ap (reported level done) (sym (row-is 22 nodeOf c i)))
     go false t =
-        let past : length c / 21 ≤ i = ltb-false i (length c / 21) t in
-        ap nodesIn (sym (put-past 21 i 13 (a ∷ b ∷ []) c past)) ∙ rows-kept 21 nodeOf c i (reported level done (getD (nodesIn c) i (nodeOf []))) past
+        let past : length c / 22 ≤ i = ltb-false i (length c / 22) t in
+        ap nodesIn (sym (put-past 22 i 13 (a ∷ b ∷ []) c past)) ∙ rows-kept 22 nodeOf c i (reported level done (getD (nodesIn c) i (nodeOf []))) past

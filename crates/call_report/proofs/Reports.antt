@@ -145,8 +145,8 @@ module _ (s : State) (ns voices : List ℕ) (k : NodeId) (channels : ℕ) (sampl
   seen = go (ltb p n) refl
     where
       go : (b : Bool) → ltb p n ≡ b → rowOr b p (nodesIn ns) ≡ nodeAt all k
-      go true e = sym (found-in 21 nodeOf (isNode k) ns (s .nodes) p n at many (ltb-true p n e))
-      go false e = sym (lost-in 21 nodeOf (isNode k) ns (s .nodes) p n at many (ltb-false p n e))
+      go true e = sym (found-in 22 nodeOf (isNode k) ns (s .nodes) p n at many (ltb-true p n e))
+      go false e = sym (lost-in 22 nodeOf (isNode k) ns (s .nodes) p n at many (ltb-false p n e))
 
   abbrev refusal : Option Refusal
   refusal = tested (take (s .voices) (voicesIn voices)) (nodeAt all k) (s .config .block) channels (length samples)
@@ -171,7 +171,7 @@ module _ (s : State) (ns voices : List ℕ) (k : NodeId) (channels : ℕ) (sampl
     pub reports-done : t ≡ Answer.Done → (new : List ℕ) (level : Float) → level ≡ levelOf samples → take (s .nodes) (nodesIn new) ≡ replaced all (reported level flag its)
         → Called (call.report k channels samples flag) old done (lentParams s new voices m)
     reports-done e new level is left =
-        let there : nodeAt all k ≡ some its = found-in 21 nodeOf (isNode k) ns (s .nodes) p n at many (live-there e) in
+        let there : nodeAt all k ≡ some its = found-in 22 nodeOf (isNode k) ns (s .nodes) p n at many (live-there e) in
         serves (call.report k channels samples flag) old refusal reporting refl done (lentParams s new voices m) (answer-done refusal (sym told-whole ∙ e))
         (ap (λ l. sharedStep (modelOf old) (withGraph (withNodes (graphOf old) l) (sharedOf old)) done) (left ∙ ap (λ x. replaced all (reported x flag its)) is)
         ∙ ap (λ o. sharedStep (modelOf old) (reportNode o samples flag (sharedOf old)) done) (sym there))

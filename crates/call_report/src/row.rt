@@ -12,5 +12,5 @@ pub(crate) fn put_report(t: &mut [u32], i: usize, done: bool, level: f32)
     ensures { λ _. ⌜ nodesIn (now (t .exit)) ≡ set (nodesIn (now (t .entry))) i (reported level done (getD (nodesIn (now (t .entry))) i (nodeOf []))) ⌝ }
 {
     let ws = [flag_word(done), float_word(level)];
-    put_fields(t, 21, i, 13, &ws);
+    put_fields(t, 22, i, 13, &ws);
 }

@@ -1,7 +1,9 @@
 use crate::spawn::Spawning;
 use graph_rows::edge_row::EdgeTable;
 use graph_rows::node_row::NodeTable;
-use memory::parts::with_numbers;
+use graph_tables::noise::noise_of;
+use graph_tables::noise::raise_noise;
+use memory::parts::with_spawned;
 use memory::parts::with_voices;
 use memory::state::State;
 use node::record::NodeId;
@@ -17,11 +19,11 @@ use voice_rows::row::VoiceTable;
 use voice_rows::table::push_voice;
 use words::table::at_most;
 ghost use mathlib.Core.Path.{_≡_};
-ghost use Prim.Native.Nat.{_+_, _%_};
+ghost use Prim.Native.Nat.{_+_};
 ghost use Rattle.model.specs.Spawn.{pans, spawnOf, newVoice};
 ghost use Rattle.model.specs.Model.{instantiate};
 ghost use Rattle.memory.specs.View.{Memory, sharedOf, modelOf};
-ghost use Rattle.memory.specs.Lent.{lentState, lentVoices};
+ghost use Rattle.memory.specs.Lent.{lentNodes, lentVoices};
 ghost use Rattle.call_spawn.specs.Room.{Headroom, resultOf, NewIds};
 
 // Whether a pan position asks for a pan node.
@@ -31,16 +33,10 @@ fn pans(pan: f32) -> bool
     !(pan == 0.0)
 }
 
-// The sequence wraps after 2^32 - 1.
-fn next_sequence(n: u32) -> u32
-    ensures { λ r. ⌜ r ≡ (n + 1) % 4294967296 ⌝ }
-{
-    ((n as u64 + 1) % 4294967296) as u32
-}
-
-// The record of the new voice.
+// The record of the new voice, which gets the noise sequence of its bus.
 fn new_voice(
     s: State,
+    nodes: &NodeTable,
     def: SynthDef,
     pan: f32,
     rank: u32,
@@ -49,7 +45,7 @@ fn new_voice(
     port: u32,
 ) -> Voice
     requires { ⌜ NewIds def (s .next) (s .spawned) ⌝ }
-    ensures { λ r. ⌜ ((m : Memory) → r ≡ newVoice (spawnOf def bus pan rank) state port (sharedOf (lentState s m))) ⌝ }
+    ensures { λ r. ⌜ ((m : Memory) → r ≡ newVoice (spawnOf def bus pan rank) state port (sharedOf (lentNodes s (now (nodes .entry)) m))) ⌝ }
 {
     let ns = def.nodes;
     let count = at_most(ns.count, 24) as u32;
@@ -58,6 +54,7 @@ fn new_voice(
     let first = NodeId(s.next as u32);
     let output = id_after(first, def.output);
     let panned = pans(pan);
+    let sequence = noise_of(nodes, s.nodes, bus);
     Voice {
         id: VoiceId(s.spawned + 1),
         birth: s.clock,
@@ -67,7 +64,7 @@ fn new_voice(
         count,
         output,
         panned,
-        sequence: s.sequence,
+        sequence,
         rank,
         state,
         params,
@@ -91,14 +88,14 @@ pub(crate) fn seat_voice(
     requires { ⌜ ((m : Memory) → Headroom def (modelOf (lentVoices s (now nodes) (now edges) (now voices) m))) ⌝ }
     ensures { λ r. ⌜ ((m : Memory) → resultOf (r .answer) (lentVoices (r .state) (now (nodes .exit)) (now (edges .exit)) (now (voices .exit)) m) ≡ instantiate (spawnOf def bus pan rank) state port (modelOf (lentVoices s (now (nodes .entry)) (now (edges .entry)) (now (voices .entry)) m))) ⌝ }
 {
-    let v = new_voice(s, def, pan, rank, state, bus, port);
+    let v = new_voice(s, nodes, def, pan, rank, state, bus, port);
+    raise_noise(nodes, s.nodes, bus);
     let id = VoiceId(s.spawned + 1);
     let panned = pans(pan);
     let grown = add_voice(s, nodes, edges, id, def, panned, bus, port);
     let count = push_voice(voices, grown.voices, v);
     let seated = with_voices(grown, count);
-    let sequence = next_sequence(s.sequence);
-    let told = with_numbers(seated, s.spawned + 1, sequence);
+    let told = with_spawned(seated, s.spawned + 1);
     Spawning {
         state: told,
         answer: Spawned::Voice(id),

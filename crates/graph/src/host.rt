@@ -22,5 +22,6 @@ pub fn host_node(kind: &[u8], ports: u32, required: u64, values: bool, glides: b
         done: false,
         level: 0.0,
         last: LastOrder::Nothing,
+        noise: 0,
     }
 }

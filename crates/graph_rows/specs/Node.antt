@@ -1,4 +1,4 @@
--- A node in 21 words, and the node table that a list of words is: "a node becomes a record: kind name (up to 16 bytes), ports,
+-- A node in 22 words, and the node table that a list of words is: "a node becomes a record: kind name (up to 16 bytes), ports,
 -- required ports, whether it takes values or glides, done flag, level, last order".
 use Prim.Native.Nat.{ℕ}
 use mathlib.Core.Path.{_≡_}
@@ -11,7 +11,7 @@ use Rattle.words.specs.Rows.{rows}
 use Rattle.words.specs.Fields.{isSet, floatFrom, longAt, nameAt, lastAt}
 use Rattle.graph_rows.specs.declared.node_row.Brief.{Brief}
 
--- id, owner, kind, ports, required ports, three flags, level, last order
+-- id, owner, kind, ports, required ports, three flags, level, last order, noise sequence
 unfoldable pub nodeOf : List ℕ → Node
 nodeOf ws =
     record {
@@ -25,15 +25,16 @@ nodeOf ws =
       done = isSet (getD ws 13 0);
       level = floatFrom (getD ws 14 0);
       last = lastAt ws 15;
+      noise = getD ws 21 0;
     }
 
 -- the nodes that the words have room for
 abbrev pub nodesIn : List ℕ → List Node
-nodesIn c = rows 21 nodeOf c
+nodesIn c = rows 22 nodeOf c
 
 -- words that stand for a node
 pub record Stands (n : Node) (ws : List ℕ) : Type 0 where
-  pub long : length ws ≡ 21
+  pub long : length ws ≡ 22
   pub back : nodeOf ws ≡ n
 
 -- what wiring and the spawns read of a node that was looked for

@@ -19,10 +19,10 @@ ghost use Rattle.graph.specs.Tables.{foundNodeOf};
 ghost use Rattle.graph_rows.specs.Node.{nodesIn, briefOf};
 
 // How many nodes live.
-fn count_in(t: &[u32], count: usize) -> usize
+pub(crate) fn count_in(t: &[u32], count: usize) -> usize
     ensures { λ r. ⌜ r ≡ length (take count (nodesIn (now (t .entry)))) ⌝ }
 {
-    at_most(count, t.len() / 21)
+    at_most(count, t.len() / 22)
 }
 
 pub fn node_count(nodes: &NodeTable, count: usize) -> usize
@@ -32,10 +32,10 @@ pub fn node_count(nodes: &NodeTable, count: usize) -> usize
 }
 
 // The row of the first node of this id among the first `count`; behind them where none has it.
-fn row_in(t: &[u32], count: usize, id: NodeId) -> usize
+pub(crate) fn row_in(t: &[u32], count: usize, id: NodeId) -> usize
     ensures { λ r. ⌜ r ≡ placeOf (isNode id) (take count (nodesIn (now (t .entry)))) ⌝ }
 {
-    let n = at_most(count, t.len() / 21);
+    let n = at_most(count, t.len() / 22);
     let mut i: usize = 0;
     while i < n {
         if id_at(t, i).0 == id.0 {
@@ -85,9 +85,9 @@ pub fn node_of(nodes: &NodeTable, count: usize, id: NodeId) -> FoundNode
 
 // One node more behind the first `count`, if there is a place: how many there are.
 fn append_in(t: &mut [u32], count: usize, n: Node) -> usize
-    ensures { λ r. ⌜ Holds (nodesIn (now (t .exit))) r (pushed (length (now (t .entry)) / 21) (take count (nodesIn (now (t .entry)))) n) ⌝ }
+    ensures { λ r. ⌜ Holds (nodesIn (now (t .exit))) r (pushed (length (now (t .entry)) / 22) (take count (nodesIn (now (t .entry)))) n) ⌝ }
 {
-    let room = t.len() / 21;
+    let room = t.len() / 22;
     let k = at_most(count, room);
     if k < room {
         put_node(t, k, n);
@@ -106,7 +106,7 @@ pub fn append_node(nodes: &mut NodeTable, count: usize, n: Node) -> usize
 fn replace_in(t: &mut [u32], count: usize, n: Node)
     ensures { λ _. ⌜ take count (nodesIn (now (t .exit))) ≡ replaced (take count (nodesIn (now (t .entry)))) n ⌝ }
 {
-    let m = at_most(count, t.len() / 21);
+    let m = at_most(count, t.len() / 22);
     let mut i: usize = 0;
     while i < m {
         if id_at(t, i).0 == n.id.0 {

@@ -56,10 +56,10 @@ fn is_leaving(t: &[u32], i: usize, who: Leaving, voices: &[u64]) -> bool
 
 // The nodes are removed, in one pass that closes the gaps; their ids are stored in `gone`, which has a word for each node.
 fn part(t: &mut [u32], count: usize, who: Leaving, voices: &[u64], gone: &mut [u32]) -> Parted
-    requires { ⌜ (length (now t) ≡ 10752) × (length (now gone) ≡ 512) ⌝ }
+    requires { ⌜ (length (now t) ≡ 11264) × (length (now gone) ≡ 512) ⌝ }
     ensures { λ r. ⌜ Parts (now (t .entry)) (now (t .exit)) (now (gone .exit)) count (leaves who (now (voices .entry))) r ⌝ }
 {
-    let n = at_most(count, t.len() / 21);
+    let n = at_most(count, t.len() / 22);
     let mut k: usize = 0;
     let mut g: usize = 0;
     let mut i: usize = 0;
@@ -69,7 +69,7 @@ fn part(t: &mut [u32], count: usize, who: Leaving, voices: &[u64], gone: &mut [u
             g += 1;
             i += 1;
         } else {
-            move_row(t, 21, i, k);
+            move_row(t, 22, i, k);
             i += 1;
             k += 1;
         }
@@ -185,7 +185,7 @@ fn remove(
     who: Leaving,
     voices: &[u64],
 ) -> Left
-    requires { ⌜ length (now nodes) ≡ 10752 ⌝ }
+    requires { ⌜ length (now nodes) ≡ 11264 ⌝ }
     ensures { λ r. ⌜ Removed (now (nodes .entry)) (now (edges .entry)) (now (nodes .exit)) (now (edges .exit)) n m (sinkOf sink) (leaves who (now (voices .entry))) r ⌝ }
 {
     let mut gone = [0u32; 512];

@@ -25,7 +25,7 @@ use Rattle.node.specs.declared.refusal.Refusal.the-variants.{UnknownNode, Voice
 use Rattle.edges.specs.Wiring.{endsAt, taken, dropAt, wired, noPlace, touches}
 use Rattle.edges.specs.Ports.{feeds}
 use Rattle.graph.specs.View.{GraphView}
-use Rattle.graph.specs.Node.{isNode, ownedBy, nodeAt, ofVoice, portsOf, hostNode, withId}
+use Rattle.graph.specs.Node.{isNode, ownedBy, nodeAt, ofVoice, portsOf, hostNode, withId, raiseNoise}
 use Rattle.graph.specs.Change as change
 use Rattle.graph.specs.Refuse.{dead, badKind, addRefusal, connectRefusal}
 use Rattle.scheduler.specs.Replace.{thinned}
@@ -40,7 +40,7 @@ use Rattle.store.specs.declared.voices.VoiceState.{VoiceState}
 use Rattle.store.specs.declared.voices.VoiceState.the-variants.{Tracked, Loose}
 use Rattle.model.specs.Voice.{id, isVoice, isTracked, feeder, beginFade, moved, counted}
 use Rattle.model.specs.Refuse.{spawnRefusal}
-use Rattle.model.specs.Spawn.{pans, Wire, voiceNodes, voiceWires, voiceOut, defWire, wire, appendAll, wireAll, newVoice, nextVoice, stateUnder, tries, fadeNode, fadeOf, Spawn}
+use Rattle.model.specs.Spawn.{pans, Wire, voiceNodes, voiceWires, voiceOut, defWire, wire, appendAll, wireAll, newVoice, nextVoice, stateUnder, tries, fadeNode, fadeOf, Spawn, raised}
 use Rattle.model.specs.Render.{isSounding, deadline}
 use Rattle.model.specs.Call.{Call}
 use Rattle.ledger.specs.Ledger as ledger
@@ -154,14 +154,14 @@ room-cut n e k l v s r = let g = room-gone n e k l (v .id) r in record { nodes =
 room-land : (spawn : Spawn) (s : VoiceState) (p : ℕ) (l : Ledger) → Room (spawn .def .nodes .count + 2) (spawn .def .edges .count + 3) 1 l → Room 0 0 0 (instantiate spawn s p l .ledger)
 room-land spawn s p l r =
     record {
-      nodes = omega (arith, r .nodes, ap length (wired-nodes (g .next) ws g₁), grown-nodes xs g, nodes-few (nextVoice (l .shared)) (spawn .def) (pans (spawn .pan)));
+      nodes = omega (arith, r .nodes, length-map (l .shared .graph .nodes) (raiseNoise (spawn .bus)), ap length (wired-nodes (g .next) ws g₁), grown-nodes xs g, nodes-few (nextVoice (l .shared)) (spawn .def) (pans (spawn .pan)));
       edges = omega (arith, r .edges, length-wired (wireAll (g .next) g₁ ws .edges) (change.edge (id (g .next + voiceOut (spawn .def) (pans (spawn .pan)))) (spawn .bus) p), wired-edges (g .next) ws g₁, ap length (grown-edges xs g), wires-few (spawn .def) (pans (spawn .pan)));
       voices = omega (arith, r .voices, length-snoc (l .voices) (newVoice spawn s p (l .shared)));
       events = r .events;
     }
   where
     g : GraphView
-    g = l .shared .graph
+    g = raised (spawn .bus) (l .shared .graph)
 
     xs : List Node
     xs = voiceNodes (nextVoice (l .shared)) (spawn .def) (pans (spawn .pan))

@@ -4,6 +4,7 @@ pub mod EdgeInvariant
 pub mod EndInvariant
 pub mod Held
 pub mod Invariant
+pub mod Raised
 pub mod Fading
 pub mod Instantiation
 pub mod NewVoice

@@ -20,7 +20,7 @@ use Rattle.node.specs.declared.record.VoiceId.{VoiceId}
 use Rattle.node.specs.declared.record.Node.{Node}
 use Rattle.node.specs.declared.refusal.Refusal.the-variants.{NoPort}
 use Rattle.graph.specs.View.{GraphView}
-use Rattle.graph.specs.Node.{isNode, ownedBy, nodeAt, hostNode, withId, replaced}
+use Rattle.graph.specs.Node.{isNode, ownedBy, nodeAt, hostNode, withId, replaced, noiseRaised}
 use Rattle.graph.specs.Change as change
 use Rattle.rank.specs.Order.{upto}
 use Rattle.synthdef.specs.Tables.{nodeRows}
@@ -31,10 +31,11 @@ use Rattle.store.specs.declared.voices.VoiceState.{VoiceState}
 use Rattle.store.specs.declared.voices.VoiceState.the-variants.{Tracked, Fading, Loose}
 use Rattle.store.specs.declared.voices.Fade.{Fade}
 use Rattle.model.specs.Voice.{id, isVoice, withState, beginFade, moved}
-use Rattle.model.specs.Spawn.{Wire, voiceNodes, voiceWires, appendAll, wireAll, newVoice, nextVoice, stateUnder, tries, fadeNode, fadeOf, Spawn, pans}
+use Rattle.model.specs.Spawn.{Wire, voiceNodes, voiceWires, appendAll, wireAll, newVoice, nextVoice, stateUnder, tries, fadeNode, fadeOf, Spawn, pans, raised}
 use Rattle.model.specs.Clear.{doneFlag, isSilent}
 use Rattle.model.specs.Render.{isSounding}
 use Rattle.model.specs.Call.{Call}
+use Rattle.ledger.proofs.Raised.{in-raised}
 use Rattle.ledger.specs.Ledger.{Ledger, newLedger, portFree, portHeld, withoutVoice, cutOff, stolen, stealVoice, instantiate, instantiateOr, placeWithinBudget, refused}
 use Rattle.ledger.specs.Clear.{ended, withoutVoices, endedVoices}
 use Rattle.ledger.specs.Render.{oneMore, countedIf}
@@ -60,7 +61,7 @@ pub record Mine (ns : List Node) (next : ℕ) (vs : List Voice) : Type 0 where
   pub output : (v : Voice) → In v vs → Place v
 
 -- ---- moves
-mine-less : {ns : List Node} {next : ℕ} {vs : List Voice} (t : Node → Bool) (u : Voice → Bool) → Mine ns next vs → Mine (filter t ns) next (filter u vs)
+pub mine-less : {ns : List Node} {next : ℕ} {vs : List Voice} (t : Node → Bool) (u : Voice → Bool) → Mine ns next vs → Mine (filter t ns) next (filter u vs)
 mine-less {ns} {next} {vs} t u m =
     record {
       below = λ x i. m .below x (in-filter t ns x i .0);
@@ -69,11 +70,11 @@ mine-less {ns} {next} {vs} t u m =
       output = λ v i. m .output v (in-filter u vs v i .0);
     }
 
-mine-nodes : {ns : List Node} {next : ℕ} {vs : List Voice} (t : Node → Bool) → Mine ns next vs → Mine (filter t ns) next vs
+pub mine-nodes : {ns : List Node} {next : ℕ} {vs : List Voice} (t : Node → Bool) → Mine ns next vs → Mine (filter t ns) next vs
 mine-nodes {ns} {next} {vs} t m =
     record { below = λ x i. m .below x (in-filter t ns x i .0); places = m .places; owned = λ v i x j. m .owned v i x (in-filter t ns x j .0); output = m .output }
 
-mine-append : {ns : List Node} {next : ℕ} {vs : List Voice} (n : Node) → Mine ns next vs → Mine (ns ++ (withId next n ∷ [])) (next + 1) vs
+pub mine-append : {ns : List Node} {next : ℕ} {vs : List Voice} (n : Node) → Mine ns next vs → Mine (ns ++ (withId next n ∷ [])) (next + 1) vs
 mine-append {ns} {next} {vs} n m =
     record {
       below = λ x i. ⊎-elim (λ j. omega (arith, m .below x j)) (λ e. let z : x .id .0 ≡ next = ap (λ (y : Node). y .id .0) e in omega arith) (in-snoc ns (withId next n) x i);
@@ -82,7 +83,7 @@ mine-append {ns} {next} {vs} n m =
       output = m .output;
     }
 
-mine-map : {ns : List Node} {next : ℕ} {vs : List Voice} (f : Voice → Voice) → ((v : Voice) → f v .first ≡ v .first) → ((v : Voice) → f v .count ≡ v .count) → ((v : Voice) → f v .id ≡ v .id) → ((v : Voice) → f v .output ≡ v .output) → Mine ns next vs → Mine ns next (map f vs)
+pub mine-map : {ns : List Node} {next : ℕ} {vs : List Voice} (f : Voice → Voice) → ((v : Voice) → f v .first ≡ v .first) → ((v : Voice) → f v .count ≡ v .count) → ((v : Voice) → f v .id ≡ v .id) → ((v : Voice) → f v .output ≡ v .output) → Mine ns next vs → Mine ns next (map f vs)
 mine-map {ns} {next} {vs} f a b c d m =
     record {
       below = m .below;
@@ -95,7 +96,7 @@ mine-map {ns} {next} {vs} f a b c d m =
           (record { at = p .at; below = rw (b (r .0)) (p .below); is = d (r .0) ∙ p .is ∙ ap (λ (k : NodeId). id (k .0 + p .at)) (sym (a (r .0))) });
     }
 
-mine-replaced : {ns : List Node} {next : ℕ} {vs : List Voice} (k : NodeId) (x n : Node) → nodeAt ns k ≡ some x → n .id ≡ x .id → n .owner ≡ x .owner → Mine ns next vs → Mine (replaced ns n) next vs
+pub mine-replaced : {ns : List Node} {next : ℕ} {vs : List Voice} (k : NodeId) (x n : Node) → nodeAt ns k ≡ some x → n .id ≡ x .id → n .owner ≡ x .owner → Mine ns next vs → Mine (replaced ns n) next vs
 mine-replaced {ns} {next} {vs} k x n e i o m =
     record {
       below = λ y j. let r = was y j in let z = r .2 .0 in omega (arith, z, m .below (r .0) (r .1));
@@ -112,12 +113,12 @@ mine-replaced {ns} {next} {vs} k x n e i o m =
         go z q false s = (z, q, (ap (λ (w : Node). w .id .0) s, ap (λ (w : Node). w .owner .0) s))
 
 -- ---- a new voice's nodes
-grown-next : (xs : List Node) (g : GraphView) → appendAll g xs .next ≡ g .next + length xs
+pub grown-next : (xs : List Node) (g : GraphView) → appendAll g xs .next ≡ g .next + length xs
 grown-next [] g = omega arith
 grown-next (x ∷ xs) g = grown-next xs (change.append g x) ∙ omega arith
 
 -- an old node, or one of the new ones, under a new id
-in-grown : (xs : List Node) (g : GraphView) (x : Node) → In x (appendAll g xs .nodes)
+pub in-grown : (xs : List Node) (g : GraphView) (x : Node) → In x (appendAll g xs .nodes)
     → In x (g .nodes) ⊎ ((y : Node) × In y xs × (x .owner .0 ≡ y .owner .0) × (g .next ≤ x .id .0) × (x .id .0 < g .next + length xs))
 in-grown [] g x i = inl i
 in-grown (n ∷ xs) g x i =
@@ -125,20 +126,32 @@ in-grown (n ∷ xs) g x i =
     (λ j. ⊎-elim inl (λ e. let z : x .id .0 ≡ g .next = ap (λ (y : Node). y .id .0) e in inr (n, inl refl, ap (λ (y : Node). y .owner .0) e, omega arith, omega arith)) (in-snoc (g .nodes) (withId (g .next) n) x j))
     (λ r. let a = r .3 in let b = r .4 in inr (r .0, inr (r .1), r .2, omega arith, omega arith)) (in-grown xs (change.append g n) x i)
 
-wires-same : (base : ℕ) (ws : List Wire) (g : GraphView) → (wireAll base g ws .nodes ≡ g .nodes) × (wireAll base g ws .next ≡ g .next)
+pub wires-same : (base : ℕ) (ws : List Wire) (g : GraphView) → (wireAll base g ws .nodes ≡ g .nodes) × (wireAll base g ws .next ≡ g .next)
 wires-same base [] g = (refl, refl)
 wires-same base (w ∷ ws) g = wires-same base ws (change.connect g (id (base + w .from)) (id (base + w .to)) (w .port))
+
+mine-raised : {ns : List Node} {next : ℕ} {vs : List Voice} (bus : NodeId) → Mine ns next vs → Mine (noiseRaised bus ns) next vs
+mine-raised {ns} {next} {vs} bus m =
+    record {
+      below = λ x i. let r = in-raised bus ns x i in let e = r .2 .0 in omega (arith, e, m .below (r .0) (r .1));
+      places = m .places;
+      owned = λ v q x i a b. let r = in-raised bus ns x i in let e = r .2 .0 in let h : v .first .0 ≤ r .0 .id .0 = omega arith in let g : r .0 .id .0 < v .first .0 + v .count = omega arith in r .2 .1 ∙ m .owned v q (r .0) (r .1) h g;
+      output = m .output;
+    }
 
 abbrev pub MineOf : Ledger → Type 0
 MineOf l = Mine (l .shared .graph .nodes) (l .shared .graph .next) (l .voices)
 
-mine-land : (spawn : Spawn) → spawn .def .output < length (nodeRows (spawn .def .nodes)) → (s : VoiceState) (p : ℕ) (l : Ledger) → MineOf l → MineOf (instantiate spawn s p l .ledger)
-mine-land spawn sings s p l m =
+pub mine-land : (spawn : Spawn) → spawn .def .output < length (nodeRows (spawn .def .nodes)) → (s : VoiceState) (p : ℕ) (l : Ledger) → MineOf l → MineOf (instantiate spawn s p l .ledger)
+mine-land spawn sings s p l m₀ =
     subst (λ ns. Mine ns (instantiate spawn s p l .ledger .shared .graph .next) (l .voices ++ (v ∷ []))) (sym (same .0))
     (subst (λ k. Mine (appendAll g xs .nodes) k (l .voices ++ (v ∷ []))) (sym (same .1 ∙ grown-next xs g)) all)
   where
     g : GraphView
-    g = l .shared .graph
+    g = raised (spawn .bus) (l .shared .graph)
+
+    m : Mine (g .nodes) (g .next) (l .voices)
+    m = mine-raised (spawn .bus) m₀
 
     v : Voice
     v = newVoice spawn s p (l .shared)
@@ -173,7 +186,7 @@ mine-land spawn sings s p l m =
         }
 
 -- ---- every call
-begin-same : {A : Type 0} (get : Voice → A) → ((s : VoiceState) (v : Voice) → get (withState s v) ≡ get v) → (w : VoiceId) (f : Fade) (v : Voice) → get (beginFade w f v) ≡ get v
+pub begin-same : {A : Type 0} (get : Voice → A) → ((s : VoiceState) (v : Voice) → get (withState s v) ≡ get v) → (w : VoiceId) (f : Fade) (v : Voice) → get (beginFade w f v) ≡ get v
 begin-same get e w f v = go (isVoice w v)
   where
     go : (b : Bool) → get (cond b (withState (Fading f) v) v) ≡ get v
@@ -195,7 +208,7 @@ mine-steal v l m = go (portHeld v l)
         mine-map (beginFade (v .id) f) (begin-same (λ (x : Voice). x .first) (λ s v. refl) (v .id) f) (begin-same (λ (x : Voice). x .count) (λ s v. refl) (v .id) f) (begin-same (λ (x : Voice). x .id) (λ s v. refl) (v .id) f) (begin-same (λ (x : Voice). x .output) (λ s v. refl) (v .id) f)
         (mine-append (fadeNode (v .id)) m)
 
-mine-settle : (spawn : Spawn) → spawn .def .output < length (nodeRows (spawn .def .nodes)) → (l : Ledger) → MineOf l → MineOf (placeWithinBudget spawn l .ledger)
+pub mine-settle : (spawn : Spawn) → spawn .def .output < length (nodeRows (spawn .def .nodes)) → (l : Ledger) → MineOf l → MineOf (placeWithinBudget spawn l .ledger)
 mine-settle spawn sings l m =
     place-kept spawn (stateUnder (l .shared .config .budget)) (λ n z. MineOf z) (λ r. MineOf (r .ledger)) (λ n z p e q. mine-land spawn sings _ p z q) (λ z e q. q) (λ n z e f q. q)
     (λ n z v e f q. mine-cut v (v .state) z q) (tries (l .shared .config .budget) (l .voices)) l m
@@ -203,7 +216,7 @@ mine-settle spawn sings l m =
 abbrev pub OwnNodes : Ledger → Type 0
 OwnNodes l = IdsOf l × MineOf l
 
-own-steady : Preserves OwnNodes
+pub own-steady : Preserves OwnNodes
 own-steady =
     record {
       addNode = λ l kind ports required values glides e q. (q .0, mine-append (hostNode kind ports required values glides) (q .1));

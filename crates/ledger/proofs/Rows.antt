@@ -17,10 +17,11 @@ use Rattle.lists.proofs.Rising.{rises-filter, rises-snoc, rises-map}
 use Rattle.node.specs.declared.record.NodeId.{NodeId}
 use Rattle.node.specs.declared.record.Node.{Node}
 use Rattle.graph.specs.View.{GraphView}
-use Rattle.graph.specs.Node.{isNode, ownedBy, nodeAt, hostNode, withId, replaced}
+use Rattle.graph.specs.Node.{isNode, ownedBy, nodeAt, hostNode, withId, replaced, raiseNoise, noiseRaised}
 use Rattle.graph.specs.Change as change
 use Rattle.model.specs.Voice.{id}
-use Rattle.model.specs.Spawn.{Wire, voiceNodes, voiceWires, appendAll, wireAll, nextVoice, fadeNode, pans}
+use Rattle.ledger.proofs.Raised.{raise-id, in-raised}
+use Rattle.model.specs.Spawn.{Wire, voiceNodes, voiceWires, appendAll, wireAll, nextVoice, fadeNode, pans, raised}
 use Rattle.model.specs.Call.{Call}
 use Rattle.ledger.specs.Ledger.{Ledger, admissionOn}
 use Rattle.ledger.specs.Call.{run}
@@ -30,7 +31,8 @@ use Rattle.ledger.proofs.Spawning.{Spawning, place-keeps, managed-keeps
 module _ (N : List Node → ℕ → Type 0)
     (more : (ns : List Node) (next : ℕ) (n : Node) → N ns next → N (ns ++ (withId next n ∷ [])) (next + 1))
     (fewer : (ns : List Node) (next : ℕ) (t : Node → Bool) → N ns next → N (filter t ns) next)
-    (other : (ns : List Node) (next : ℕ) (k : NodeId) (x n : Node) → nodeAt ns k ≡ some x → Alike x n → N ns next → N (replaced ns n) next) where
+    (other : (ns : List Node) (next : ℕ) (k : NodeId) (x n : Node) → nodeAt ns k ≡ some x → Alike x n → N ns next → N (replaced ns n) next)
+    (raise : (ns : List Node) (next : ℕ) (bus : NodeId) → N ns next → N (noiseRaised bus ns) next) where
   abbrev pub NodesOf : Ledger → Type 0
   NodesOf l = N (l .shared .graph .nodes) (l .shared .graph .next)
 
@@ -49,7 +51,8 @@ module _ (N : List Node → ℕ → Type 0)
         fades = λ l v p h. more (l .shared .graph .nodes) (l .shared .graph .next) (fadeNode (v .id)) h;
         lands = λ l spawn s p h.
             let xs = voiceNodes (nextVoice (l .shared)) (spawn .def) (pans (spawn .pan)) in
-            wire-all (l .shared .graph .next) (voiceWires (spawn .def) (pans (spawn .pan))) (appendAll (l .shared .graph) xs) (append-all xs (l .shared .graph) h);
+            wire-all (l .shared .graph .next) (voiceWires (spawn .def) (pans (spawn .pan))) (appendAll (raised (spawn .bus) (l .shared .graph)) xs)
+            (append-all xs (raised (spawn .bus) (l .shared .graph)) (raise (l .shared .graph .nodes) (l .shared .graph .next) (spawn .bus) h));
       }
 
   pub nodes-steady : Preserves NodesOf
@@ -105,11 +108,18 @@ rows-other ns next n r =
           omega (arith, z, r .below (q .0) (q .1));
     }
 
+pub rows-raised : (bus : NodeId) (ns : List Node) (next : ℕ) → Rows ns next → Rows (noiseRaised bus ns) next
+rows-raised bus ns next r =
+    record {
+      rises = rises-map (λ (x : Node). x .id .0) (raiseNoise bus) (raise-id bus) 0 ns (r .rises);
+      below = λ y i. let q = in-raised bus ns y i in omega (arith, q .2 .0, r .below (q .0) (q .1));
+    }
+
 abbrev pub RowsOf : Ledger → Type 0
 RowsOf l = Rows (l .shared .graph .nodes) (l .shared .graph .next)
 
 pub rows-steady : Preserves RowsOf
-rows-steady = nodes-steady Rows rows-more rows-fewer (λ ns next k x n e s r. rows-other ns next n r)
+rows-steady = nodes-steady Rows rows-more rows-fewer (λ ns next k x n e s r. rows-other ns next n r) (λ ns next bus r. rows-raised bus ns next r)
 
 pub rows-spawning : Spawning RowsOf
-rows-spawning = nodes-spawning Rows rows-more rows-fewer (λ ns next k x n e s r. rows-other ns next n r)
+rows-spawning = nodes-spawning Rows rows-more rows-fewer (λ ns next k x n e s r. rows-other ns next n r) (λ ns next bus r. rows-raised bus ns next r)

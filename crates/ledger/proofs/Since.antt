@@ -12,7 +12,7 @@ use Rattle.lists.proofs.Member.{in-snoc, in-map, in-of-map, map-append, map-sam
 use Rattle.lists.specs.Filter.{filter}
 use Rattle.lists.proofs.Filter.{in-filter}
 use Rattle.node.specs.declared.record.Node.{Node}
-use Rattle.graph.specs.Node.{isNode, withId, replaced}
+use Rattle.graph.specs.Node.{isNode, withId, replaced, raiseNoise, noiseRaised}
 use Rattle.store.specs.declared.voices.Voice.{Voice}
 use Rattle.store.specs.declared.config.Config.{Config}
 use Rattle.model.specs.Call.{Call}
@@ -21,6 +21,7 @@ use Rattle.ledger.specs.Call.{run}
 use Rattle.ledger.specs.Claim.{ledgerAfter, nodeIds, voiceIds, NeverReturns}
 use Rattle.ledger.proofs.History.{run-append}
 use Rattle.ledger.proofs.Rows.{nodes-run, replaced-id}
+use Rattle.ledger.proofs.Raised.{raise-id}
 use Rattle.ledger.proofs.Voices.{voices-run}
 
 -- `next` is above each of the ids
@@ -66,6 +67,9 @@ module _ (ids₀ : List ℕ) (next₀ : ℕ) where
       (λ ns next t s. since-fewer ids₀ next₀ (nodeIds ns) (nodeIds (filter t ns)) next (in-kept (λ (x : Node). x .id .0) t ns) s)
       (λ ns next k x n e a s.
       let same : nodeIds (replaced ns n) ≡ nodeIds ns = map-map (λ (x : Node). x .id .0) (λ m. cond (isNode (n .id) m) n m) ns ∙ map-same _ (λ (x : Node). x .id .0) ns (λ m i. replaced-id n m) in
+      subst (λ ids. Since ids₀ next₀ ids next) (sym same) s)
+      (λ ns next bus s.
+      let same : nodeIds (noiseRaised bus ns) ≡ nodeIds ns = map-map (λ (x : Node). x .id .0) (raiseNoise bus) ns ∙ map-same _ (λ (x : Node). x .id .0) ns (λ m i. raise-id bus m) in
       subst (λ ids. Since ids₀ next₀ ids next) (sym same) s)
 
   voices-since : (xs : List Call) (l : Ledger) → Since ids₀ next₀ (voiceIds (l .voices)) (l .shared .spawned + 1)

@@ -31,7 +31,7 @@ use Rattle.store.specs.declared.voices.VoiceState.the-variants.{Tracked, Loose}
 use Rattle.model.specs.SharedState.{withSteals}
 use Rattle.model.specs.Voice.{isVoice, isTracked, feeder, counted, movedState, beginFade}
 use Rattle.model.specs.Refuse.{spawnRefusal}
-use Rattle.model.specs.Spawn.{fadeNode, fadeOf, newVoice, nextOut, reclaimLog, stateUnder, tries, Spawn, pans}
+use Rattle.model.specs.Spawn.{fadeNode, fadeOf, newVoice, nextOut, reclaimLog, stateUnder, tries, Spawn, pans, raised}
 use Rattle.model.specs.Model.{Model}
 use Rattle.model.specs.Model as model
 use Rattle.ledger.specs.Holder.{isHeld}
@@ -46,6 +46,7 @@ use Rattle.ledger.proofs.Owner.{portsAt, live-below, owner-old, owner-t
 use Rattle.ledger.proofs.EdgeInvariant.{above}
 use Rattle.ledger.proofs.EndInvariant.{still-end}
 use Rattle.ledger.proofs.Invariant.{Invariant, HostAt, sound-gone}
+use Rattle.ledger.proofs.Raised.{sound-raised, owner-raised, ports-raised}
 use Rattle.ledger.proofs.Fading.{sound-fade}
 use Rattle.ledger.proofs.NewVoice.{feeder-out, sound-newcomer}
 use Rattle.ledger.proofs.Port.{lowest-some, free-same, feeds-held}
@@ -135,7 +136,8 @@ module _ (spawn : Spawn) (ok : allowed (spawn .def) ≡ true) (t : VoiceState) (
         answer = refl;
         model = ap (λ vs. record { shared = ledger.instantiate spawn t p l .ledger .shared; voices = vs })
             (ap (λ v. map (stored l) (l .voices) ++ (v ∷ [])) same ∙ sym (map-append (stored l) (l .voices) (newVoice spawn t p (l .shared) ∷ [])));
-        sound = sound-newcomer (spawn .def) ok (pans (spawn .pan)) bus p (l .shared .spawned) (l .shared .graph) (l .voices) (l .holders) s live range (newVoice spawn t p (l .shared)) refl refl (feeder-out spawn t p (l .shared)) (still-end t still (newVoice spawn t p (l .shared)));
+        sound = sound-newcomer (spawn .def) ok (pans (spawn .pan)) bus p (l .shared .spawned) (raised bus (l .shared .graph)) (l .voices) (l .holders) (sound-raised bus s)
+            (owner-raised bus (l .shared .graph .nodes) (bus .0) ∙ live) (subst (λ n. p < n) (sym (ports-raised bus (l .shared .graph .nodes) (bus .0))) range) (newVoice spawn t p (l .shared)) refl refl (feeder-out spawn t p (l .shared)) (still-end t still (newVoice spawn t p (l .shared)));
       }
     where
       same : newVoice spawn t p (l .shared) ≡ stored l (newVoice spawn t p (l .shared))

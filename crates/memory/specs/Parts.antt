@@ -19,7 +19,6 @@ graphed s nodes edges sink next =
       next = next;
       clock = s .clock;
       spawned = s .spawned;
-      sequence = s .sequence;
       stolen = s .stolen;
       place = s .place;
     }
@@ -39,7 +38,6 @@ ordered s order =
       next = s .next;
       clock = s .clock;
       spawned = s .spawned;
-      sequence = s .sequence;
       stolen = s .stolen;
       place = s .place;
     }
@@ -59,7 +57,6 @@ queued s events =
       next = s .next;
       clock = s .clock;
       spawned = s .spawned;
-      sequence = s .sequence;
       stolen = s .stolen;
       place = s .place;
     }
@@ -79,7 +76,6 @@ voiced s voices =
       next = s .next;
       clock = s .clock;
       spawned = s .spawned;
-      sequence = s .sequence;
       stolen = s .stolen;
       place = s .place;
     }
@@ -99,14 +95,13 @@ clocked s clock =
       next = s .next;
       clock = clock;
       spawned = s .spawned;
-      sequence = s .sequence;
       stolen = s .stolen;
       place = s .place;
     }
 
--- so many voice ids given out, and the next noise sequence
-abbrev pub numbered : State → ℕ → ℕ → State
-numbered s spawned sequence =
+-- so many voice ids given out
+abbrev pub numbered : State → ℕ → State
+numbered s spawned =
     record {
       config = s .config;
       nodes = s .nodes;
@@ -119,7 +114,6 @@ numbered s spawned sequence =
       next = s .next;
       clock = s .clock;
       spawned = spawned;
-      sequence = sequence;
       stolen = s .stolen;
       place = s .place;
     }
@@ -139,7 +133,6 @@ logged s stolen place =
       next = s .next;
       clock = s .clock;
       spawned = s .spawned;
-      sequence = s .sequence;
       stolen = stolen;
       place = place;
     }

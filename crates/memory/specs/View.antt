@@ -45,7 +45,6 @@ sharedOf m =
       steals = logIn (m .steals) (m .state .stolen) (m .state .place);
       clock = m .state .clock;
       spawned = m .state .spawned;
-      sequence = m .state .sequence;
     }
 
 abbrev pub modelOf : Memory → Model

@@ -20,7 +20,6 @@ pub fn with_graph(s: State, nodes: usize, edges: usize, sink: Sink, next: u64) -
         next,
         clock: s.clock,
         spawned: s.spawned,
-        sequence: s.sequence,
         stolen: s.stolen,
         place: s.place,
     }
@@ -63,13 +62,12 @@ pub fn with_clock(s: State, clock: u64) -> State
     out
 }
 
-// The state with so many voice ids given out, and this noise sequence.
-pub fn with_numbers(s: State, spawned: u64, sequence: u32) -> State
-    ensures { λ r. ⌜ r ≡ numbered s spawned sequence ⌝ }
+// The state with so many voice ids given out.
+pub fn with_spawned(s: State, spawned: u64) -> State
+    ensures { λ r. ⌜ r ≡ numbered s spawned ⌝ }
 {
     let mut out = s;
     out.spawned = spawned;
-    out.sequence = sequence;
     out
 }
 

@@ -4,7 +4,7 @@ use graph::state::Sink;
 use store::config::Config;
 
 // What is no table: what making fixed, how many rows each table holds, the sink, whether the graph is prepared, the next node id, the
-// clock, the voice ids given out, the noise sequence, and of the ring of steal records the total and the next place.
+// clock, the voice ids given out, and of the ring of steal records the total and the next place.
 pub struct State {
     pub config: Config,
     pub nodes: usize,
@@ -17,7 +17,6 @@ pub struct State {
     pub next: u64,
     pub clock: u64,
     pub spawned: u64,
-    pub sequence: u32,
     pub stolen: u64,
     pub place: usize,
 }

@@ -97,7 +97,6 @@ nodeless m =
         steals = d .steals;
         clock = d .clock;
         spawned = d .spawned;
-        sequence = d .sequence;
       };
       voices = m .voices;
     }

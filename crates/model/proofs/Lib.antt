@@ -1,6 +1,7 @@
 pub mod PageScene
 pub mod SoundingScenes
 pub mod SpawnScenes
+pub mod NoiseScenes
 pub mod PolicyScenes
 pub mod ReclaimScenes
 pub mod RankScenes

@@ -13,7 +13,7 @@ use Rattle.store.specs.declared.config.Config.{Config}
 use Rattle.model.specs.Model.{Model}
 use Rattle.model.specs.Make.{make}
 
--- "a new store is unprepared"; nothing is in it, no id is given out, the clock and the noise sequence are 0
+-- "a new store is unprepared"; nothing is in it, no id is given out, the clock is 0
 abbrev empty : Config → Model
 empty c =
     record {
@@ -24,7 +24,6 @@ empty c =
         steals = record { count = 0; newest = [] };
         clock = 0;
         spawned = 0;
-        sequence = 0;
       };
       voices = [];
     }

@@ -1,4 +1,4 @@
--- Scenes of what a spawn creates: nodes and edges in their order, pan, ids and the noise sequence.
+-- Scenes of what a spawn creates: nodes and edges in their order, pan, ids and the noise sequence of its bus.
 use Prim.Native.Nat.{ℕ}
 use Prim.Native.String.{String}
 use mathlib.Core.Path.{_≡_, refl}
@@ -18,6 +18,7 @@ use Rattle.order.specs.Live.{risingFrom, liveNodes, liveIds, processingOrder}
 use Rattle.order.specs.Required.{any, lacks, lacking}
 use Rattle.order.specs.Prepare.{prepare}
 use Rattle.edges.specs.declared.ports.Source.the-variants.{From, Nothing}
+use Rattle.graph.specs.Node.{nodeAt, noiseOf}
 use Rattle.voice.specs.Steals.{recordOf}
 use Rattle.voice.specs.declared.policy.Level.the-variants.{Unknown}
 use Rattle.voice.specs.declared.policy.StealPolicy.the-variants.{Oldest, Reject}
@@ -26,12 +27,10 @@ use Rattle.synthdef.specs.declared.def.SynthDef.{SynthDef}
 use Rattle.store.specs.declared.voices.VoiceState.the-variants.{Tracked, Loose}
 use Rattle.model.specs.Voice.{id}
 use Rattle.model.specs.Model.{Model}
-use Rattle.model.specs.Make.{newModel}
 use Rattle.model.specs.Call.{fed, stolen, found}
 use Rattle.model.specs.Call as call
 use Rattle.model.specs.Scene.{upTo, plain, toneDef, host, wire, spawn, spawnLoose, free, voice, notSpawned, after, asked, further, edge, seen, voices, fading, defEdge}
 use Rattle.model.specs.Spawn.{spawnOf}
-use Rattle.model.specs.SharedState.{withSequence}
 
 -- ---- a definition of three nodes. Its edges: 0 to port 0 of 2, 1 to port 1 of 2, 1 to port 0 of 2, which counts
 abbrev mix : DefNode
@@ -117,14 +116,14 @@ ports :
 unfolding eq whole order walk released rank.fed among count-up
 ports = refl
 
--- ---- ids and the noise sequence move only when a port is found; ids never return, node ids neither.
+-- ---- voice ids given out, the noise sequence of bus 0, the next node id. Ids and sequence move only when a port is found; ids never return, node ids neither.
 pub record Counters : Type 0 where
   pub spawned : ℕ
   pub sequence : ℕ
   pub next : ℕ
 
 abbrev counters : Model → Counters
-counters m = record { spawned = m .shared .spawned; sequence = m .shared .sequence; next = m .shared .graph .next }
+counters m = record { spawned = m .shared .spawned; sequence = noiseOf (nodeAt (m .shared .graph .nodes) (id 0)); next = m .shared .graph .next }
 
 abbrev at : ℕ → ℕ → ℕ → Counters
 at w q k = record { spawned = w; sequence = q; next = k }
@@ -152,11 +151,3 @@ moved :
     × (further (spawn 1 ∷ []) (further (call.prepare ∷ []) twelve) .shared .graph .prepared ≡ false)
 unfolding eq prepare processingOrder lacking lacks any liveIds liveNodes risingFrom whole order walk released rank.fed among count-up
 moved = (refl, refl, refl, refl, refl, refl)
-
--- ---- the noise sequence wraps after 2^32 - 1, and a voice keeps the one that it was given
-abbrev late : Model
-late = record { shared = withSequence 4294967295 (newModel (upTo 9 Oldest) .shared); voices = [] }
-
-wraps : map (λ v. v .sequence) (further (host 2 ∷ spawn 0 ∷ spawn 0 ∷ []) late .voices) ≡ 4294967295 ∷ 0 ∷ []
-unfolding eq whole order walk released rank.fed among count-up
-wraps = refl

@@ -12,6 +12,7 @@ use Rattle.level.specs.Root.{rootOf, sqrt}
 use Rattle.level.specs.Narrow.{narrow}
 use Rattle.level.specs.Level.{squares, levelOf}
 use Rattle.node.specs.Name.{nameOf}
+use Rattle.node.specs.Node.{withNoise}
 use Rattle.node.specs.Silence.{name, bytes, silencePassThrough, rules}
 use Rattle.node.specs.declared.order.Action.the-variants as Action
 use Rattle.node.specs.declared.order.LastOrder.{LastOrder}
@@ -76,11 +77,11 @@ abbrev graph : List Node → List Edge → Option NodeId → Bool → List ℕ �
 graph nodes edges out prepared order next =
     record { nodes = nodes; edges = edges; sink = out; prepared = prepared; order = map id order; next = next }
 
--- graph, events, records, clock, voices; made as above, with one voice id and one number of the noise sequence for each spawn
+-- graph, events, records, clock, voices; made as above, with one voice id for each spawn
 abbrev store : GraphView → List Event → StealLog → ℕ → ℕ → List Voice → Model
 store g pending book time spawns vs =
     record {
-      shared = record { config = made; graph = g; events = pending; steals = book; clock = time; spawned = spawns; sequence = spawns };
+      shared = record { config = made; graph = g; events = pending; steals = book; clock = time; spawned = spawns };
       voices = vs;
     }
 
@@ -92,7 +93,6 @@ pub record Same (m n : Model) : Type 0 where
   pub steals : m .shared .steals ≡ n .shared .steals
   pub clock : m .shared .clock ≡ n .shared .clock
   pub spawned : m .shared .spawned ≡ n .shared .spawned
-  pub sequence : m .shared .sequence ≡ n .shared .sequence
   pub voices : m .voices ≡ n .voices
 
 -- a node: id, voice, kind, ports, required ports, takes values, takes glides; then what calls change: done, level, last order
@@ -109,18 +109,19 @@ node k w kind ports required values glides done level last =
       done = done;
       level = float level;
       last = last;
+      noise = 0;
     }
 
 -- before any call changes it
 abbrev new : ℕ → ℕ → String → ℕ → ℕ → Bool → Bool → Node
 new k w kind ports required values glides = node k w kind ports required values glides false 0 LastOrder.Nothing
 
--- the host's nodes: `Fx`, the sink, whose port 1 is required and fed by the bus; and the bus, of 4 ports
+-- the host's nodes: `Fx`, the sink, whose port 1 is required and fed by the bus; and the bus, of 4 ports, with the next number of its noise sequence
 abbrev pub fx : Node
 fx = new 0 0 "Fx" 2 2 false true
 
-abbrev bus : Node
-bus = new 1 0 "Bus" 4 0 true false
+abbrev bus : ℕ → Node
+bus noise = withNoise noise (new 1 0 "Bus" 4 0 true false)
 
 -- voice 1, panned. Its `Key` is given; its `Mul` has reported 3, its `Lfo` has a glide
 abbrev voice1 : Node → List Node
@@ -206,7 +207,7 @@ calls =
 abbrev opened : Model
 opened =
     store
-    (graph (fx ∷ bus ∷ voice1 key1 ++ (voice2 LastOrder.Nothing ++ (tone 10 3 ∷ []))) (edge 1 0 1 ∷ edges1 ++ (edge 6 1 0 ∷ edges2 ++ (edge 10 1 2 ∷ [])))
+    (graph (fx ∷ bus 3 ∷ voice1 key1 ++ (voice2 LastOrder.Nothing ++ (tone 10 3 ∷ []))) (edge 1 0 1 ∷ edges1 ++ (edge 6 1 0 ∷ edges2 ++ (edge 10 1 2 ∷ [])))
     (some (id 0)) true (2 ∷ 3 ∷ 5 ∷ 7 ∷ 8 ∷ 10 ∷ 4 ∷ 9 ∷ 6 ∷ 1 ∷ 0 ∷ []) 11)
     (valueAt ∷ freeAt ∷ []) (record { count = 0; newest = [] }) 2 3 (v1 Tracked ∷ v2 ∷ v3 ∷ [])
 
@@ -215,11 +216,11 @@ opened =
 -- a constant or a pan node that takes orders; a call that resets another's part of the store.
 opens : Same (after made calls) opened
 unfolding eq levelOf squares rootOf sqrt narrow add mul div ofInt ofBits silencePassThrough rules prepare processingOrder lacking lacks any liveIds liveNodes risingFrom whole order walk released fed among count-up settled
-opens = record { config = refl; graph = refl; events = refl; steals = refl; clock = refl; spawned = refl; sequence = refl; voices = refl }
+opens = record { config = refl; graph = refl; events = refl; steals = refl; clock = refl; spawned = refl; voices = refl }
 
 -- ---- A spawn steals voice 1, whose fade is node 11, and lands as voice 4. The record has the clock and the level.
 abbrev nodes : Node → LastOrder → List Node
-nodes key cut = fx ∷ bus ∷ voice1 key ++ (voice2 cut ++ (tone 10 3 ∷ fade1 ∷ tone 12 4 ∷ []))
+nodes key cut = fx ∷ bus 4 ∷ voice1 key ++ (voice2 cut ++ (tone 10 3 ∷ fade1 ∷ tone 12 4 ∷ []))
 
 abbrev pub edges : List Edge
 edges = edge 1 0 1 ∷ edges1 ++ (edges2 ++ (edge 10 1 2 ∷ edge 6 11 0 ∷ edge 11 1 0 ∷ edge 12 1 3 ∷ []))
@@ -239,7 +240,7 @@ stole =
 -- order of the last prepare, the events or the clock.
 steals : Same (further (spawn 1 ∷ []) opened) stole
 unfolding eq levelOf squares rootOf sqrt narrow add mul div ofInt ofBits silencePassThrough rules prepare processingOrder lacking lacks any liveIds liveNodes risingFrom whole order walk released fed among count-up settled
-steals = record { config = refl; graph = refl; events = refl; steals = refl; clock = refl; spawned = refl; sequence = refl; voices = refl }
+steals = record { config = refl; graph = refl; events = refl; steals = refl; clock = refl; spawned = refl; voices = refl }
 
 -- ---- Prepared, and a render that sounds: the fade has moved, the event at 3 is not taken. The next render takes it.
 abbrev sounded : Node → LastOrder → List Event → ℕ → ℕ → Model
@@ -254,27 +255,27 @@ heard key = sounded key LastOrder.Nothing (valueAt ∷ freeAt ∷ []) 3 1
 -- render that drops the events it does not take, or keeps the one it takes; an event that unprepares.
 renders : Same (further (call.prepare ∷ render ∷ []) stole) (heard key1)
 unfolding eq levelOf squares rootOf sqrt narrow add mul div ofInt ofBits silencePassThrough rules prepare processingOrder lacking lacks any liveIds liveNodes risingFrom whole order walk released fed among count-up settled
-renders = record { config = refl; graph = refl; events = refl; steals = refl; clock = refl; spawned = refl; sequence = refl; voices = refl }
+renders = record { config = refl; graph = refl; events = refl; steals = refl; clock = refl; spawned = refl; voices = refl }
 
 happens : Same (further (render ∷ []) (heard key1)) (sounded key1 (value 9) (freeAt ∷ []) 4 2)
 unfolding eq levelOf squares rootOf sqrt narrow add mul div ofInt ofBits silencePassThrough rules prepare processingOrder lacking lacks any liveIds liveNodes risingFrom whole order walk released fed among count-up settled
-happens = record { config = refl; graph = refl; events = refl; steals = refl; clock = refl; spawned = refl; sequence = refl; voices = refl }
+happens = record { config = refl; graph = refl; events = refl; steals = refl; clock = refl; spawned = refl; voices = refl }
 
 -- ---- A report of voice 1's `Key`, which is done, with a sample 5; then a value for it, although its voice fades and it is done; then a report that it is not done.
 -- Refuses: a report that erases the last order, unprepares, or loses another field of the node or of the graph.
 reports : Same (further (call.report (id 2) 1 (float 5 ∷ []) true ∷ []) (heard key1)) (heard (key true 5 (value 7)))
 unfolding eq levelOf squares rootOf sqrt narrow add mul div ofInt ofBits silencePassThrough rules prepare processingOrder lacking lacks any liveIds liveNodes risingFrom whole order walk released fed among count-up settled
-reports = record { config = refl; graph = refl; events = refl; steals = refl; clock = refl; spawned = refl; sequence = refl; voices = refl }
+reports = record { config = refl; graph = refl; events = refl; steals = refl; clock = refl; spawned = refl; voices = refl }
 
 -- Refuses: a fading voice, or a done node, that takes no orders; a value that clears the done flag or the level, or unprepares.
 orders : Same (further (set 1 "cut" (value 9) ∷ []) (heard (key true 5 (value 7)))) (heard (key true 5 (value 9)))
 unfolding eq levelOf squares rootOf sqrt narrow add mul div ofInt ofBits silencePassThrough rules prepare processingOrder lacking lacks any liveIds liveNodes risingFrom whole order walk released fed among count-up settled
-orders = record { config = refl; graph = refl; events = refl; steals = refl; clock = refl; spawned = refl; sequence = refl; voices = refl }
+orders = record { config = refl; graph = refl; events = refl; steals = refl; clock = refl; spawned = refl; voices = refl }
 
 -- Refuses: a later report that cannot clear the done flag; the highest report.
 reports-again : Same (further (sounds 2 1 ∷ []) (heard (key true 5 (value 9)))) (heard (key false 1 (value 9)))
 unfolding eq levelOf squares rootOf sqrt narrow add mul div ofInt ofBits silencePassThrough rules prepare processingOrder lacking lacks any liveIds liveNodes risingFrom whole order walk released fed among count-up settled
-reports-again = record { config = refl; graph = refl; events = refl; steals = refl; clock = refl; spawned = refl; sequence = refl; voices = refl }
+reports-again = record { config = refl; graph = refl; events = refl; steals = refl; clock = refl; spawned = refl; voices = refl }
 
 -- ---- A clearing removes voice 1, which is silent through its `Key`; a free removes voice 2.
 abbrev withoutVoice : List Node → List Edge → List Voice → Model
@@ -283,16 +284,16 @@ withoutVoice ns es vs = store (graph ns es (some (id 0)) false (2 ∷ 3 ∷ 5 �
 -- Refuses: one that takes more or less than the voice's nodes with their edges; one that takes its record, the order or the events.
 clears :
     Same (further (call.clear ∷ []) (heard (key true 5 (value 7))))
-    (withoutVoice (fx ∷ bus ∷ voice2 LastOrder.Nothing ++ (tone 10 3 ∷ tone 12 4 ∷ [])) (edge 1 0 1 ∷ edges2 ++ (edge 10 1 2 ∷ edge 12 1 3 ∷ [])) (v2 ∷ v3 ∷ v4 ∷ []))
+    (withoutVoice (fx ∷ bus 4 ∷ voice2 LastOrder.Nothing ++ (tone 10 3 ∷ tone 12 4 ∷ [])) (edge 1 0 1 ∷ edges2 ++ (edge 10 1 2 ∷ edge 12 1 3 ∷ [])) (v2 ∷ v3 ∷ v4 ∷ []))
 unfolding eq levelOf squares rootOf sqrt narrow add mul div ofInt ofBits silencePassThrough rules prepare processingOrder lacking lacks any liveIds liveNodes risingFrom whole order walk released fed among count-up settled
-clears = record { config = refl; graph = refl; events = refl; steals = refl; clock = refl; spawned = refl; sequence = refl; voices = refl }
+clears = record { config = refl; graph = refl; events = refl; steals = refl; clock = refl; spawned = refl; voices = refl }
 
 frees :
     Same (further (free 2 ∷ []) (heard key1))
-    (withoutVoice (fx ∷ bus ∷ voice1 key1 ++ (tone 10 3 ∷ fade1 ∷ tone 12 4 ∷ []))
+    (withoutVoice (fx ∷ bus 4 ∷ voice1 key1 ++ (tone 10 3 ∷ fade1 ∷ tone 12 4 ∷ []))
     (edge 1 0 1 ∷ edges1 ++ (edge 10 1 2 ∷ edge 6 11 0 ∷ edge 11 1 0 ∷ edge 12 1 3 ∷ [])) (v1 (fades 1) ∷ v3 ∷ v4 ∷ []))
 unfolding eq levelOf squares rootOf sqrt narrow add mul div ofInt ofBits silencePassThrough rules prepare processingOrder lacking lacks any liveIds liveNodes risingFrom whole order walk released fed among count-up settled
-frees = record { config = refl; graph = refl; events = refl; steals = refl; clock = refl; spawned = refl; sequence = refl; voices = refl }
+frees = record { config = refl; graph = refl; events = refl; steals = refl; clock = refl; spawned = refl; voices = refl }
 
 -- ---- The host's calls, one after the other: a node more; its edge, which takes voice 3's port; another sink; voice 4's port without its edge; `Fx` removed, with its
 -- edge; an event more. Refuses: one that loses an order, an event, a record, a voice, or a sink that is another node.
@@ -302,8 +303,8 @@ hosts :
     (call.addNode (bytes "Out") 1 1 true true ∷ wire 13 1 2 ∷ sink 1 ∷ call.disconnect (id 1) 3 ∷ call.removeNode (id 0)
     ∷ call.schedule 5 (voice 4) (bytes "cut") (Action.Gate (float 1)) ∷ []) (heard key1))
     (store
-    (graph (bus ∷ voice1 key1 ++ (voice2 LastOrder.Nothing ++ (tone 10 3 ∷ fade1 ∷ tone 12 4 ∷ new 13 0 "Out" 1 1 true true ∷ [])))
+    (graph (bus 4 ∷ voice1 key1 ++ (voice2 LastOrder.Nothing ++ (tone 10 3 ∷ fade1 ∷ tone 12 4 ∷ new 13 0 "Out" 1 1 true true ∷ [])))
     (edges1 ++ (edges2 ++ (edge 6 11 0 ∷ edge 11 1 0 ∷ edge 13 1 2 ∷ []))) (some (id 1)) false (2 ∷ 3 ∷ 5 ∷ 7 ∷ 8 ∷ 10 ∷ 12 ∷ 4 ∷ 9 ∷ 6 ∷ 11 ∷ 1 ∷ 0 ∷ []) 14)
     (valueAt ∷ record { time = 5; voice = voice 4; name = name "cut"; action = Action.Gate (float 1) } ∷ freeAt ∷ []) one 3 4 (v1 (fades 1) ∷ v2 ∷ v3 ∷ v4 ∷ []))
 unfolding eq levelOf squares rootOf sqrt narrow add mul div ofInt ofBits silencePassThrough rules prepare processingOrder lacking lacks any liveIds liveNodes risingFrom whole order walk released fed among count-up settled
-hosts = record { config = refl; graph = refl; events = refl; steals = refl; clock = refl; spawned = refl; sequence = refl; voices = refl }
+hosts = record { config = refl; graph = refl; events = refl; steals = refl; clock = refl; spawned = refl; voices = refl }

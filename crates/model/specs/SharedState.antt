@@ -1,7 +1,7 @@
 -- What the store has besides its voices: what making fixed, the graph, the pending events, the steal records, the clock, the
--- voice ids given out and the noise sequence. The ledger has the same, since 01 says of the ledger: "From these the rules above
+-- voice ids given out. The ledger has the same, since 01 says of the ledger: "From these the rules above
 -- give its nodes, edges, ids, clock, events, reports and steal records".
-use Prim.Native.Nat.{ℕ, _+_, _%_}
+use Prim.Native.Nat.{ℕ, _+_}
 use mathlib.Core.List.{List, []}
 use mathlib.Core.Bool.{Bool, _&&_}
 use Rattle.lists.specs.Find.{isSome}
@@ -18,7 +18,6 @@ pub record SharedState : Type 0 where
   pub steals : StealLog
   pub clock : ℕ
   pub spawned : ℕ
-  pub sequence : ℕ
 
 -- "Fade length L"
 abbrev pub lengthL : SharedState → ℕ
@@ -34,40 +33,35 @@ newShared c =
       steals = record { count = 0; newest = [] };
       clock = 0;
       spawned = 0;
-      sequence = 0;
     }
 
 -- ---- one part changed
 abbrev pub withGraph : GraphView → SharedState → SharedState
 withGraph g d =
-    record { config = d .config; graph = g; events = d .events; steals = d .steals; clock = d .clock; spawned = d .spawned; sequence = d .sequence }
+    record { config = d .config; graph = g; events = d .events; steals = d .steals; clock = d .clock; spawned = d .spawned }
 
 abbrev pub withEvents : List Event → SharedState → SharedState
 withEvents q d =
-    record { config = d .config; graph = d .graph; events = q; steals = d .steals; clock = d .clock; spawned = d .spawned; sequence = d .sequence }
+    record { config = d .config; graph = d .graph; events = q; steals = d .steals; clock = d .clock; spawned = d .spawned }
 
 abbrev pub withSteals : StealLog → SharedState → SharedState
 withSteals b d =
-    record { config = d .config; graph = d .graph; events = d .events; steals = b; clock = d .clock; spawned = d .spawned; sequence = d .sequence }
+    record { config = d .config; graph = d .graph; events = d .events; steals = b; clock = d .clock; spawned = d .spawned }
 
 abbrev pub withClock : ℕ → SharedState → SharedState
 withClock c d =
-    record { config = d .config; graph = d .graph; events = d .events; steals = d .steals; clock = c; spawned = d .spawned; sequence = d .sequence }
+    record { config = d .config; graph = d .graph; events = d .events; steals = d .steals; clock = c; spawned = d .spawned }
 
 abbrev pub withConfig : Config → SharedState → SharedState
 withConfig c d =
-    record { config = c; graph = d .graph; events = d .events; steals = d .steals; clock = d .clock; spawned = d .spawned; sequence = d .sequence }
+    record { config = c; graph = d .graph; events = d .events; steals = d .steals; clock = d .clock; spawned = d .spawned }
 
--- so many voice ids given out; the next noise sequence
+-- so many voice ids given out
 abbrev pub withSpawned : ℕ → SharedState → SharedState
 withSpawned n d =
-    record { config = d .config; graph = d .graph; events = d .events; steals = d .steals; clock = d .clock; spawned = n; sequence = d .sequence }
+    record { config = d .config; graph = d .graph; events = d .events; steals = d .steals; clock = d .clock; spawned = n }
 
-abbrev pub withSequence : ℕ → SharedState → SharedState
-withSequence n d =
-    record { config = d .config; graph = d .graph; events = d .events; steals = d .steals; clock = d .clock; spawned = d .spawned; sequence = n }
-
--- "Id and noise sequence move only when a port is found"; the sequence wraps after 2^32 - 1
+-- "Id and noise sequence move only when a port is found": one voice id more is given out; the noise sequence is the bus's (02, Paper 6)
 abbrev pub oneMoreVoice : SharedState → SharedState
 oneMoreVoice d =
     record {
@@ -77,7 +71,6 @@ oneMoreVoice d =
       steals = d .steals;
       clock = d .clock;
       spawned = d .spawned + 1;
-      sequence = (d .sequence + 1) % 4294967296;
     }
 
 -- "a sounding render, that is a prepared graph with a sink"

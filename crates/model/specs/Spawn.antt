@@ -15,7 +15,8 @@ use Rattle.node.specs.declared.record.NodeId.{NodeId}
 use Rattle.node.specs.declared.record.VoiceId.{VoiceId}
 use Rattle.node.specs.declared.record.Node.{Node}
 use Rattle.graph.specs.View.{GraphView}
-use Rattle.graph.specs.Change.{append, connect}
+use Rattle.graph.specs.Node.{nodeAt, noiseOf, noiseRaised}
+use Rattle.graph.specs.Change.{append, connect, withNodes}
 use Rattle.voice.specs.Policy.{victim}
 use Rattle.voice.specs.declared.policy.Victim.{Victim}
 use Rattle.voice.specs.declared.policy.Victim.the-variants.{Nobody, Goes}
@@ -108,11 +109,15 @@ abbrev pub instantiateGraph : VoiceId → SynthDef → Bool → NodeId → ℕ �
 instantiateGraph w def pan bus p g =
     connect (wireAll (g .next) (appendAll g (voiceNodes w def pan)) (voiceWires def pan)) (id (g .next + voiceOut def pan)) bus p
 
+-- "each rank has its own noise": the bus counts one voice more
+abbrev pub raised : NodeId → GraphView → GraphView
+raised bus g = withNodes g (noiseRaised bus (g .nodes))
+
 abbrev pub nextVoice : SharedState → VoiceId
 nextVoice d = record { 0 = d .spawned + 1 }
 
 abbrev pub instantiateShared : Spawn → ℕ → SharedState → SharedState
-instantiateShared x p d = oneMoreVoice (withGraph (instantiateGraph (nextVoice d) (x .def) (pans (x .pan)) (x .bus) p (d .graph)) d)
+instantiateShared x p d = oneMoreVoice (withGraph (instantiateGraph (nextVoice d) (x .def) (pans (x .pan)) (x .bus) p (raised (x .bus) (d .graph))) d)
 
 abbrev pub newVoice : Spawn → VoiceState → ℕ → SharedState → Voice
 newVoice x s p d =
@@ -125,7 +130,7 @@ newVoice x s p d =
       count = length (nodeRows (x .def .nodes));
       output = id (d .graph .next + x .def .output);
       panned = pans (x .pan);
-      sequence = d .sequence;
+      sequence = noiseOf (nodeAt (d .graph .nodes) (x .bus));
       rank = x .rank;
       state = s;
       params = x .def .params;

@@ -9,7 +9,7 @@ use Rattle.node.specs.declared.record.NodeId.{NodeId}
 use Rattle.node.specs.declared.record.VoiceId.{VoiceId}
 use Rattle.node.specs.declared.record.Node.{Node}
 
--- the done flag "is clear in a new node", "before any report" the level is 0, and no order was taken
+-- the done flag "is clear in a new node", "before any report" the level is 0, no order was taken, and the noise sequence of a bus is counted "from 0"
 abbrev pub newNode : NodeId → VoiceId → Name → ℕ → ℕ → Bool → Bool → Node
 newNode id owner kind ports required values glides =
     record {
@@ -23,6 +23,7 @@ newNode id owner kind ports required values glides =
       done = false;
       level = ofBits binary32 0;
       last = LastOrder.Nothing;
+      noise = 0;
     }
 
 abbrev pub withId : ℕ → Node → Node
@@ -38,6 +39,7 @@ withId k n =
       done = n .done;
       level = n .level;
       last = n .last;
+      noise = n .noise;
     }
 
 abbrev pub withOwner : VoiceId → Node → Node
@@ -53,6 +55,7 @@ withOwner w n =
       done = n .done;
       level = n .level;
       last = n .last;
+      noise = n .noise;
     }
 
 -- a value or a glide becomes the last order
@@ -69,6 +72,7 @@ withLast o n =
       done = n .done;
       level = n .level;
       last = o;
+      noise = n .noise;
     }
 
 -- a report: the level of its block, and the done flag
@@ -85,4 +89,22 @@ reported level done n =
       done = done;
       level = level;
       last = n .last;
+      noise = n .noise;
+    }
+
+-- the next number of the noise sequence is k
+abbrev pub withNoise : ℕ → Node → Node
+withNoise k n =
+    record {
+      id = n .id;
+      owner = n .owner;
+      kind = n .kind;
+      ports = n .ports;
+      required = n .required;
+      «takes_values» = n .«takes_values»;
+      «takes_glides» = n .«takes_glides»;
+      done = n .done;
+      level = n .level;
+      last = n .last;
+      noise = k;
     }

@@ -8,7 +8,7 @@ pub struct VoiceId(pub u64);
 
 // A live node, as scope lists it: kind name, ports, required ports (bit p for port p), whether it takes values or
 // glides, done flag, level of the last reported block, last order; with its id and the voice that owns it. Voice ids
-// start at 1: owner 0 is the host.
+// start at 1: owner 0 is the host. A bus counts here the noise sequence of its voices (02, Paper 6): 0 in a new node.
 pub struct Node {
     pub id: NodeId,
     pub owner: VoiceId,
@@ -20,6 +20,7 @@ pub struct Node {
     pub done: bool,
     pub level: f32,
     pub last: LastOrder,
+    pub noise: u32,
 }
 
 // An edge of the graph: the output of `from` feeds the port `port` of `to`.

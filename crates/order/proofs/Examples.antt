@@ -28,6 +28,7 @@ node i ports required = record {
   done = false;
   level = fin false 0 (pos 0);
   last = Nothing;
+  noise = 0;
 }
 
 -- an edge by its source, its target and the port

@@ -37,10 +37,10 @@ pub struct Prepared {
 
 // The ids of the rows up to the first that does not rise are stored in `ids`: how many there are.
 fn live_ids(nodes: &[u32], count: usize, ids: &mut [u32]) -> usize
-    requires { ⌜ (length (now nodes) ≡ 10752) × (length (now ids) ≡ 512) ⌝ }
+    requires { ⌜ (length (now nodes) ≡ 11264) × (length (now ids) ≡ 512) ⌝ }
     ensures { λ r. ⌜ Lived (now (ids .exit)) r (take count (nodesIn (now (nodes .entry)))) ⌝ }
 {
-    let n = at_most(count, nodes.len() / 21);
+    let n = at_most(count, nodes.len() / 22);
     let mut least: usize = 0;
     let mut i: usize = 0;
     while i < n {
@@ -232,7 +232,7 @@ fn named(ids: &[u32], rows: &[usize], k: usize, order: &mut [u32])
 // Prepare's two tests and the order: 13 where a required port of a live node is unconnected, else 14 where there is a cycle
 // among live nodes, else the processing order.
 fn prepare_in(nodes: &[u32], n: usize, edges: &[u32], m: usize, order: &mut [u32]) -> Prepared
-    requires { ⌜ (length (now nodes) ≡ 10752) × (length (now edges) ≡ 3072) × (length (now order) ≡ 512) ⌝ }
+    requires { ⌜ (length (now nodes) ≡ 11264) × (length (now edges) ≡ 3072) × (length (now order) ≡ 512) ⌝ }
     ensures { λ r. ⌜ Prepares (take n (nodesIn (now (nodes .entry)))) (take m (edgesIn (now (edges .entry)))) (now (order .entry)) (now (order .exit)) r ⌝ }
 {
     let mut ids = [0u32; 512];

@@ -4,8 +4,11 @@ use codec::field::byte_at;
 use codec::field::long_at;
 use codec::field::word_at;
 use codec::word::text;
+use graph_rows::node_row::owner_at;
+use graph_rows::node_row::put_noise;
+use graph_tables::lookup::node_count;
 use memory::parts::with_clock;
-use memory::parts::with_numbers;
+use memory::parts::with_spawned;
 use piecrag::EdgeTable;
 use piecrag::HostResult;
 use piecrag::NodeId;
@@ -32,11 +35,28 @@ pub(crate) fn told(r: HostResult) -> State {
     r.state
 }
 
-// The clock, the voice ids given out, and the noise sequence.
-fn set(s: &[u8], at: usize, state: State) -> State {
+// The noise sequence of the node in row `i`, if it is one of the host's.
+fn set_noise_at(nodes: &mut NodeTable, i: usize, noise: u32) {
+    if owner_at(nodes, i).0 == 0 {
+        put_noise(nodes, i, noise);
+    }
+}
+
+fn set_noise(nodes: &mut NodeTable, count: usize, noise: u32) {
+    let n = node_count(nodes, count);
+    let mut i: usize = 0;
+    while i < n {
+        set_noise_at(nodes, i, noise);
+        i += 1;
+    }
+}
+
+// The clock, the voice ids given out, and the noise sequence of every node of the host.
+fn set(s: &[u8], at: usize, state: State, nodes: &mut NodeTable) -> State {
     let timed = with_clock(state, long_at(s, at));
+    set_noise(nodes, state.nodes, word_at(s, after(at, 16)));
     text(b"set\n");
-    with_numbers(timed, long_at(s, after(at, 8)), word_at(s, after(at, 16)))
+    with_spawned(timed, long_at(s, after(at, 8)))
 }
 
 // A kind name, ports, required ports and what the node takes. Its channels are the generator's.
@@ -79,7 +99,7 @@ pub(crate) fn play_host(
     edges: &mut EdgeTable,
 ) -> State {
     match sort {
-        2 => set(s, from, state),
+        2 => set(s, from, state, nodes),
         3 => add(s, from, state, nodes),
         4 => told(remove_node(state, nodes, edges, id_at(s, from))),
         5 => join(s, from, state, nodes, edges),

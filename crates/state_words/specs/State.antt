@@ -1,4 +1,4 @@
--- The state in 33 words, for a host that holds words only. Any words stand for a state, and what was written is read back.
+-- The state in 32 words, for a host that holds words only. Any words stand for a state, and what was written is read back.
 use Prim.Native.Nat.{ℕ, _+_, _*_, _/_, _%_}
 use native.Mathlib.Omega.{arith}
 use mathlib.Core.Path.{_≡_, refl, ap, _∙_}
@@ -64,7 +64,7 @@ flagOf false = 0
 abbrev pub stateIn : List ℕ → State
 stateIn w =
     record {
-      config = record { rate = getD w 0 0; block = longAt w 1; budget = budgetIn (getD w 3 0) (longAt w 4); policy = policyIn (getD w 6 0); scope = scopeIn (getD w 7 0); table = isSet (getD w 32 0) };
+      config = record { rate = getD w 0 0; block = longAt w 1; budget = budgetIn (getD w 3 0) (longAt w 4); policy = policyIn (getD w 6 0); scope = scopeIn (getD w 7 0); table = isSet (getD w 31 0) };
       nodes = longAt w 8;
       edges = longAt w 10;
       order = longAt w 12;
@@ -75,9 +75,8 @@ stateIn w =
       next = longAt w 21;
       clock = longAt w 23;
       spawned = longAt w 25;
-      sequence = getD w 27 0;
-      stolen = longAt w 28;
-      place = longAt w 30;
+      stolen = longAt w 27;
+      place = longAt w 29;
     }
 
 abbrev lo : ℕ → ℕ
@@ -95,7 +94,7 @@ wordsOf s =
     ∷ lo (s .voices) ∷ hi (s .voices) ∷ lo (s .events) ∷ hi (s .events)
     ∷ sinkTag (s .sink) ∷ sinkId (s .sink) ∷ flagOf (s .prepared)
     ∷ lo (s .next) ∷ hi (s .next) ∷ lo (s .clock) ∷ hi (s .clock) ∷ lo (s .spawned) ∷ hi (s .spawned)
-    ∷ s .sequence ∷ lo (s .stolen) ∷ hi (s .stolen) ∷ lo (s .place) ∷ hi (s .place) ∷ flagOf (s .config .table) ∷ []
+    ∷ lo (s .stolen) ∷ hi (s .stolen) ∷ lo (s .place) ∷ hi (s .place) ∷ flagOf (s .config .table) ∷ []
 
 pub halves : (x : ℕ) → longFrom (lo x) (hi x) ≡ x
 halves x = omega arith
@@ -148,7 +147,7 @@ pub cons-eq : {x y : ℕ} {l m : List ℕ} → x ≡ y → l ≡ m → x ∷ l �
 cons-eq {y = y} {l = l} a b = ap (λ k. k ∷ l) a ∙ ap (λ k. y ∷ k) b
 
 -- the words one by one
-pub words-same : (s : State) (x1 x2 x3 x4 x5 x6 x7 x8 x9 x10 x11 x12 x13 x14 x15 x16 x17 x18 x19 x20 x21 x22 x23 x24 x25 x26 x28 x29 x30 x31 x32 : ℕ)
+pub words-same : (s : State) (x1 x2 x3 x4 x5 x6 x7 x8 x9 x10 x11 x12 x13 x14 x15 x16 x17 x18 x19 x20 x21 x22 x23 x24 x25 x26 x27 x28 x29 x30 x31 : ℕ)
     → x1 ≡ lo (s .config .block)
     → x2 ≡ hi (s .config .block)
     → x3 ≡ budgetTag (s .config .budget)
@@ -175,13 +174,13 @@ pub words-same : (s : State) (x1 x2 x3 x4 x5 x6 x7 x8 x9 x10 x11 x12 x13 x14 x15
     → x24 ≡ hi (s .clock)
     → x25 ≡ lo (s .spawned)
     → x26 ≡ hi (s .spawned)
-    → x28 ≡ lo (s .stolen)
-    → x29 ≡ hi (s .stolen)
-    → x30 ≡ lo (s .place)
-    → x31 ≡ hi (s .place)
-    → x32 ≡ flagOf (s .config .table)
-    → s .config .rate ∷ x1 ∷ x2 ∷ x3 ∷ x4 ∷ x5 ∷ x6 ∷ x7 ∷ x8 ∷ x9 ∷ x10 ∷ x11 ∷ x12 ∷ x13 ∷ x14 ∷ x15 ∷ x16 ∷ x17 ∷ x18 ∷ x19 ∷ x20 ∷ x21 ∷ x22 ∷ x23 ∷ x24 ∷ x25 ∷ x26 ∷ s .sequence ∷ x28 ∷ x29 ∷ x30 ∷ x31 ∷ x32 ∷ [] ≡ wordsOf s
-words-same s x1 x2 x3 x4 x5 x6 x7 x8 x9 x10 x11 x12 x13 x14 x15 x16 x17 x18 x19 x20 x21 x22 x23 x24 x25 x26 x28 x29 x30 x31 x32 h1 h2 h3 h4 h5 h6 h7 h8 h9 h10 h11 h12 h13 h14 h15 h16 h17 h18 h19 h20 h21 h22 h23 h24 h25 h26 h28 h29 h30 h31 h32 = cons-eq refl (cons-eq h1 (cons-eq h2 (cons-eq h3 (cons-eq h4 (cons-eq h5 (cons-eq h6 (cons-eq h7 (cons-eq h8 (cons-eq h9 (cons-eq h10 (cons-eq h11 (cons-eq h12 (cons-eq h13 (cons-eq h14 (cons-eq h15 (cons-eq h16 (cons-eq h17 (cons-eq h18 (cons-eq h19 (cons-eq h20 (cons-eq h21 (cons-eq h22 (cons-eq h23 (cons-eq h24 (cons-eq h25 (cons-eq h26 (cons-eq refl (cons-eq h28 (cons-eq h29 (cons-eq h30 (cons-eq h31 (cons-eq h32 refl))))))))))))))))))))))))))))))))
+    → x27 ≡ lo (s .stolen)
+    → x28 ≡ hi (s .stolen)
+    → x29 ≡ lo (s .place)
+    → x30 ≡ hi (s .place)
+    → x31 ≡ flagOf (s .config .table)
+    → s .config .rate ∷ x1 ∷ x2 ∷ x3 ∷ x4 ∷ x5 ∷ x6 ∷ x7 ∷ x8 ∷ x9 ∷ x10 ∷ x11 ∷ x12 ∷ x13 ∷ x14 ∷ x15 ∷ x16 ∷ x17 ∷ x18 ∷ x19 ∷ x20 ∷ x21 ∷ x22 ∷ x23 ∷ x24 ∷ x25 ∷ x26 ∷ x27 ∷ x28 ∷ x29 ∷ x30 ∷ x31 ∷ [] ≡ wordsOf s
+words-same s x1 x2 x3 x4 x5 x6 x7 x8 x9 x10 x11 x12 x13 x14 x15 x16 x17 x18 x19 x20 x21 x22 x23 x24 x25 x26 x27 x28 x29 x30 x31 h1 h2 h3 h4 h5 h6 h7 h8 h9 h10 h11 h12 h13 h14 h15 h16 h17 h18 h19 h20 h21 h22 h23 h24 h25 h26 h27 h28 h29 h30 h31 = cons-eq refl (cons-eq h1 (cons-eq h2 (cons-eq h3 (cons-eq h4 (cons-eq h5 (cons-eq h6 (cons-eq h7 (cons-eq h8 (cons-eq h9 (cons-eq h10 (cons-eq h11 (cons-eq h12 (cons-eq h13 (cons-eq h14 (cons-eq h15 (cons-eq h16 (cons-eq h17 (cons-eq h18 (cons-eq h19 (cons-eq h20 (cons-eq h21 (cons-eq h22 (cons-eq h23 (cons-eq h24 (cons-eq h25 (cons-eq h26 (cons-eq h27 (cons-eq h28 (cons-eq h29 (cons-eq h30 (cons-eq h31 refl)))))))))))))))))))))))))))))))
 
 pub config-same : (c : Config) (block : ℕ) (budget : Budget) (policy : StealPolicy) (scope : BudgetScope)
     → block ≡ c .block → budget ≡ c .budget → policy ≡ c .policy → scope ≡ c .scope
@@ -191,5 +190,5 @@ config-same c block budget policy scope a b p g = rw (a, b, p, g) refl
 pub state-same : (s : State) (config : Config) (nodes edges order voices events : ℕ) (sink : Sink) (next clock spawned stolen place : ℕ)
     → config ≡ s .config → nodes ≡ s .nodes → edges ≡ s .edges → order ≡ s .order → voices ≡ s .voices → events ≡ s .events → sink ≡ s .sink
     → next ≡ s .next → clock ≡ s .clock → spawned ≡ s .spawned → stolen ≡ s .stolen → place ≡ s .place
-    → _≡_ {A = State} (record { config = config; nodes = nodes; edges = edges; order = order; voices = voices; events = events; sink = sink; prepared = s .prepared; next = next; clock = clock; spawned = spawned; sequence = s .sequence; stolen = stolen; place = place }) s
+    → _≡_ {A = State} (record { config = config; nodes = nodes; edges = edges; order = order; voices = voices; events = events; sink = sink; prepared = s .prepared; next = next; clock = clock; spawned = spawned; stolen = stolen; place = place }) s
 state-same s config nodes edges order voices events sink next clock spawned stolen place a b d e f g h i j k l m = rw (a, b, d, e, f, g, h, i, j, k, l, m) refl

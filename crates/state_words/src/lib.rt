@@ -1,4 +1,4 @@
-// The state in 33 lent words, for a host that holds words only. Any words stand for a state.
+// The state in 32 lent words, for a host that holds words only. Any words stand for a state.
 ghost use mathlib.Core.Path.{_≡_};
 ghost use Prim.Native.Nat.{_/_, _%_, _<_};
 ghost use Rattle.words.specs.Fields.{longFrom, longAt};
@@ -11,7 +11,7 @@ use voice::policy::Budget;
 use voice::policy::BudgetScope;
 use voice::policy::StealPolicy;
 
-pub const STATE_WORDS: usize = 33;
+pub const STATE_WORDS: usize = 32;
 
 pub type StateWords = [u32; STATE_WORDS];
 
@@ -157,14 +157,14 @@ fn flag(b: bool) -> u32
 
 // Two words as one number.
 fn long_at(w: &StateWords, k: usize) -> u64
-    requires { ⌜ k < 31 ⌝ }
+    requires { ⌜ k < 30 ⌝ }
     ensures { λ r. ⌜ r ≡ longAt (now (w .entry)) k ⌝ }
 {
     joined(w[k], w[k + 1])
 }
 
 fn size_at(w: &StateWords, k: usize) -> usize
-    requires { ⌜ k < 31 ⌝ }
+    requires { ⌜ k < 30 ⌝ }
     ensures { λ r. ⌜ r ≡ longAt (now (w .entry)) k ⌝ }
 {
     sized(w[k], w[k + 1])
@@ -182,7 +182,7 @@ pub fn config_in(w: &StateWords) -> Config
         budget,
         policy,
         scope,
-        table: w[32] != 0,
+        table: w[31] != 0,
     }
 }
 
@@ -204,9 +204,8 @@ pub fn state_in(w: &StateWords) -> State
         next: long_at(w, 21),
         clock: long_at(w, 23),
         spawned: long_at(w, 25),
-        sequence: w[27],
-        stolen: long_at(w, 28),
-        place: size_at(w, 30),
+        stolen: long_at(w, 27),
+        place: size_at(w, 29),
     }
 }
 
@@ -248,7 +247,6 @@ fn state_words(s: State) -> StateWords
         high(s.clock),
         low(s.spawned),
         high(s.spawned),
-        s.sequence,
         low(s.stolen),
         high(s.stolen),
         low_of(s.place),

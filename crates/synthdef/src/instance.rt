@@ -36,6 +36,7 @@ pub fn live_node(n: DefNode, id: NodeId, owner: VoiceId) -> Node
         done: false,
         level: 0.0,
         last: LastOrder::Nothing,
+        noise: 0,
     }
 }
 

@@ -144,9 +144,8 @@ pub fn state_in(w: &StateWords) -> State {
         next: joined(w[15], w[16]),
         clock: joined(w[17], w[18]),
         spawned: joined(w[19], w[20]),
-        sequence: w[21],
-        stolen: joined(w[22], w[23]),
-        place: long(w[24]),
+        stolen: joined(w[21], w[22]),
+        place: long(w[23]),
     }
 }
 
@@ -178,7 +177,6 @@ fn state_words(s: State) -> StateWords {
         high(s.clock),
         low(s.spawned),
         high(s.spawned),
-        s.sequence,
         low(s.stolen),
         high(s.stolen),
         short(s.place),

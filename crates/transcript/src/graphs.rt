@@ -138,6 +138,7 @@ fn node_line(node: Node) {
     and_sample(node.level);
     let last = node.last;
     order_words(last);
+    and_number(node.noise as u64);
     end_line();
 }
 

@@ -33,12 +33,11 @@ fn graph_lines(s: State, nodes: &NodeTable, edges: &EdgeTable, order: &OrderTabl
     node_lines(s, nodes);
 }
 
-// The next node id, 2^32 where none is left; how many voice ids were given out; and the noise sequence.
+// The next node id, 2^32 where none is left, and how many voice ids were given out.
 fn next_line(s: State) {
     text(b"next");
     and_number(s.next);
     and_number(s.spawned);
-    and_number(s.sequence as u64);
     end_line();
 }
 

@@ -23,6 +23,7 @@ fn plain_node(id: NodeId, owner: VoiceId, kind: Name, ports: u32, required: u64)
         done: false,
         level: 0.0,
         last: LastOrder::Nothing,
+        noise: 0,
     }
 }
 

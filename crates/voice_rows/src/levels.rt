@@ -30,11 +30,11 @@ ghost use Rattle.voice_rows.specs.Rows.{voiceOf, voicesIn};
 fn node_level(nodes: &[u32], n: usize, id: NodeId) -> Level
     ensures { λ r. ⌜ r ≡ nodeLevel (nodeAt (take n (nodesIn (now (nodes .entry)))) id) ⌝ }
 {
-    let m = at_most(n, nodes.len() / 21);
+    let m = at_most(n, nodes.len() / 22);
     let mut i: usize = 0;
     while i < m {
         if graph_rows::node_row::id_at(nodes, i).0 == id.0 {
-            return Level::Known(float_at(nodes, 21, i, 14));
+            return Level::Known(float_at(nodes, 22, i, 14));
         }
         i += 1;
     }

@@ -2,7 +2,7 @@
 //! crate `timing` exports; `crates/timing/src` says what each makes. Each answers a number.
 
 pub type State = [u32; 25];
-pub type Nodes = [u32; 10752];
+pub type Nodes = [u32; 11264];
 pub type Edges = [u32; 3072];
 pub type Order = [u32; 512];
 pub type Voices = [u32; 9088];

@@ -26,12 +26,24 @@ impl Engine {
         })
     }
 
-    /// The noise sequence that the next voice gets.
-    pub fn noise_sequence(&self) -> u32 {
-        self.noise_spawn_seq
+    /// The noise sequence that the next voice of this bus gets. The Rust as it was published has one for all.
+    pub fn noise_sequence(&self, bus: NodeId) -> u32 {
+        #[cfg(changed)]
+        let sequence = self.noise_of_bus.get(&bus.index()).copied().unwrap_or(0);
+        #[cfg(not(changed))]
+        let sequence = (bus, self.noise_spawn_seq).1;
+        sequence
     }
 
-    /// Sets the noise sequence that the next voice gets.
+    /// Sets the noise sequence that the next voice of this bus gets.
+    pub fn set_noise_sequence_of(&mut self, bus: NodeId, sequence: u32) {
+        #[cfg(changed)]
+        self.noise_of_bus.insert(bus.index(), sequence);
+        #[cfg(not(changed))]
+        (self.noise_spawn_seq = (bus, sequence).1);
+    }
+
+    /// Sets the noise sequence that the next voice on no bus gets.
     pub fn set_noise_sequence(&mut self, sequence: u32) {
         self.noise_spawn_seq = sequence;
     }

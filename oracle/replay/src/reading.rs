@@ -118,7 +118,7 @@ impl Store {
         lines.extend(self.pending().map(event_line));
         lines.push(self.steals_line());
         lines.extend(self.records().map(|record| format!("steal {record}")));
-        lines.push(row("next", [self.graph().nodes_given(), self.voices_given(), self.engine.noise_sequence().into()]));
+        lines.push(row("next", [self.graph().nodes_given(), self.voices_given()]));
         lines.push("end".to_string());
         lines.join("\n")
     }
@@ -138,7 +138,9 @@ impl Store {
         let (kind, ports) = (name_word(&name::bytes(spec.name)), spec.inputs.len());
         assert_eq!(owner == 0, self.parts.get(&id).is_some_and(|part| part.is_hosts), "the owner of {}", id.index());
         let told = self.told(id);
-        format!("node {} {owner} {kind} {ports} {required} {told}", id.index())
+        // a bus counts the noise sequence of its voices; nothing spawns on a voice's node
+        let noise = if owner == 0 { self.engine.noise_sequence(id) } else { 0 };
+        format!("node {} {owner} {kind} {ports} {required} {told} {noise}", id.index())
     }
 
     /// What a node takes, its done flag, its level and its last order. A fade, a pan and its constant take no order and

@@ -24,7 +24,7 @@ impl Store {
     pub(crate) fn spawn(&mut self, def: &Definition, how: &Spawn) -> Result<VoiceId, Refusal> {
         self.spawn_refusal(def, how.bus)?;
         let is_rejected = how.is_managed && self.rejects(how.bus);
-        let sequence = self.engine.noise_sequence();
+        let sequence = self.engine.noise_sequence(how.bus);
         let made = Made::default();
         match self.pass_on(def, how, &made) {
             Some(voice) => {

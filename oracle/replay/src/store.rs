@@ -93,12 +93,21 @@ impl Store {
         self.engine.scheduler().next_voice().0.wrapping_sub(1)
     }
 
-    /// Sets the counters, but for that of the node ids, which the Rust has no way to move.
+    /// The live nodes of the host.
+    fn host_ids(&self) -> Vec<NodeId> {
+        let is_hosts = |id: &NodeId| self.parts.get(id).is_some_and(|part| part.is_hosts);
+        self.graph().live_nodes().into_iter().filter(is_hosts).collect()
+    }
+
+    /// Sets the counters, the noise sequence of every live node of the host among them, but for that of the node ids, which the
+    /// Rust has no way to move.
     pub(crate) fn set_counters(&mut self, clock: u64, voices: u64, noise: u32) {
         assert!(voices >= self.voices_given(), "two voices of one id: the voice ids given out go back");
         self.engine.set_sample_offset(clock);
         self.engine.scheduler_mut().set_next_voice(VoiceId(voices.wrapping_add(1)));
-        self.engine.set_noise_sequence(noise);
+        for bus in self.host_ids() {
+            self.engine.set_noise_sequence_of(bus, noise);
+        }
     }
 
     pub(crate) fn tracked(&self) -> &[VoiceId] {

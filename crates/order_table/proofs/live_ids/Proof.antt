@@ -42,7 +42,7 @@ returns c =
     let n = c .before .before .before .before .before .at-most in
     let w = c .before .wide in
     let rows = nodesIn (s .args .nodes .now) in
-    let long : length rows ≡ 512 = rows-long 21 nodeOf (s .args .nodes .now) ∙ ap (λ k. k / 21) (s .pre .0) in
+    let long : length rows ≡ 512 = rows-long 22 nodeOf (s .args .nodes .now) ∙ ap (λ k. k / 22) (s .pre .0) in
     let few : n .result ≤ 512 = omega (arith, n .ensures, s .pre .0) in
     let hi : l .i < n .result = c .before .before .before .loop-test .taken in
     let hn : n .result ≤ length rows = omega arith in
@@ -52,7 +52,7 @@ returns c =
     record {
       long = l .inv .1;
       few = omega arith;
-      is = passed-stop (take (n .result) rows) (l .ids) (l .least) (l .i) (l .inv .3) x dr (omega (arith, c .if1 .taken)) ∙ ap liveIds (take-count 21 nodeOf (s .args .nodes .now) (s .args .count) (n .result) (n .ensures));
+      is = passed-stop (take (n .result) rows) (l .ids) (l .least) (l .i) (l .inv .3) x dr (omega (arith, c .if1 .taken)) ∙ ap liveIds (take-count 22 nodeOf (s .args .nodes .now) (s .args .count) (n .result) (n .ensures));
     }
 
 mul-ids : tie.Need-mul-ids Inv-loop μ-loop
@@ -77,7 +77,7 @@ loop-again c =
     let n = c .before .before .before .before .before .at-most in
     let w = c .before .wide in
     let rows = nodesIn (s .args .nodes .now) in
-    let long : length rows ≡ 512 = rows-long 21 nodeOf (s .args .nodes .now) ∙ ap (λ k. k / 21) (s .pre .0) in
+    let long : length rows ≡ 512 = rows-long 22 nodeOf (s .args .nodes .now) ∙ ap (λ k. k / 22) (s .pre .0) in
     let few : n .result ≤ 512 = omega (arith, n .ensures, s .pre .0) in
     let hi : l .i < n .result = c .before .before .before .loop-test .taken in
     let hn : n .result ≤ length rows = omega arith in
@@ -106,7 +106,7 @@ returns-2 c =
     record {
       long = l .inv .1;
       few = omega arith;
-      is = passed-end (take (n .result) rows) (l .ids) (l .least) (l .i) (l .inv .3) (no-row rows (n .result) (l .i) (c .loop-test .left)) ∙ ap liveIds (take-count 21 nodeOf (s .args .nodes .now) (s .args .count) (n .result) (n .ensures));
+      is = passed-end (take (n .result) rows) (l .ids) (l .least) (l .i) (l .inv .3) (no-row rows (n .result) (l .i) (c .loop-test .left)) ∙ ap liveIds (take-count 22 nodeOf (s .args .nodes .now) (s .args .count) (n .result) (n .ensures));
     }
 
 pub live-ids-spec : {M : Type 1} → statement M

@@ -49,7 +49,7 @@ abbrev to : tie.After-ends → List ℕ
 to e = e .ends .last .1 .1 .1 .1 .1 .0
 
 nodes-long : (s : tie.Start) → length (nodesIn (s .args .nodes .now)) ≡ 512
-nodes-long s = rows-long 21 nodeOf (s .args .nodes .now) ∙ ap (λ k. k / 21) (s .pre .0)
+nodes-long s = rows-long 22 nodeOf (s .args .nodes .now) ∙ ap (λ k. k / 22) (s .pre .0)
 
 edges-long : (s : tie.Start) → length (edgesIn (s .args .edges .now)) ≡ 1024
 edges-long s = rows-long 3 edgeOf (s .args .edges .now) ∙ ap (λ k. k / 3) (s .pre .1)

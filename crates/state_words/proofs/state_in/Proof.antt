@@ -69,10 +69,6 @@ long-at-requires-2 c κs = search needs
 long-at-requires-3 : tie.Need-long-at-requires-3
 long-at-requires-3 c κs = search needs
 
--- src/lib.rt:202:19
-element-copy-out-t9 : tie.Need-element-copy-out-t9
-element-copy-out-t9 c = search needs
-
 -- src/lib.rt:203:17
 long-at-requires-4 : tie.Need-long-at-requires-4
 long-at-requires-4 c κs = search needs
@@ -84,18 +80,18 @@ size-at-requires-6 c κs = search needs
 -- src/lib.rt:185:1
 returns : tie.Need-returns
 returns c =
-    let w = c .before .before .before .before .before .before .before .before .before .before .before .before .before .before .before .before .args .w .now in
+    let w = c .before .before .before .before .before .before .before .before .before .before .before .before .before .before .before .args .w .now in
     state-same (stateIn w) _ _ _ _ _ _ _ _ _ _ _ _
-    (c .before .before .before .before .before .before .before .before .before .before .before .before .before .before .before .config-in .ensures)
-    (c .before .before .before .before .before .before .before .before .before .before .before .size-at .ensures)
-    (c .before .before .before .before .before .before .before .before .before .before .size-at2 .ensures)
-    (c .before .before .before .before .before .before .before .before .before .size-at3 .ensures)
-    (c .before .before .before .before .before .before .before .before .size-at4 .ensures)
-    (c .before .before .before .before .before .before .before .size-at5 .ensures)
-    (c .before .before .before .before .before .before .before .before .before .before .before .before .sink-in .ensures)
-    (c .before .before .before .before .before .long-at .ensures)
-    (c .before .before .before .before .long-at2 .ensures)
-    (c .before .before .before .long-at3 .ensures)
+    (c .before .before .before .before .before .before .before .before .before .before .before .before .before .before .config-in .ensures)
+    (c .before .before .before .before .before .before .before .before .before .before .size-at .ensures)
+    (c .before .before .before .before .before .before .before .before .before .size-at2 .ensures)
+    (c .before .before .before .before .before .before .before .before .size-at3 .ensures)
+    (c .before .before .before .before .before .before .before .size-at4 .ensures)
+    (c .before .before .before .before .before .before .size-at5 .ensures)
+    (c .before .before .before .before .before .before .before .before .before .before .before .sink-in .ensures)
+    (c .before .before .before .before .long-at .ensures)
+    (c .before .before .before .long-at2 .ensures)
+    (c .before .before .long-at3 .ensures)
     (c .before .long-at4 .ensures)
     (c .size-at6 .ensures)
 
@@ -116,7 +112,6 @@ state-in-spec =
     long-at-requires
     long-at-requires-2
     long-at-requires-3
-    element-copy-out-t9
     long-at-requires-4
     size-at-requires-6
     returns)

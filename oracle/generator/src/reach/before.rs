@@ -33,6 +33,7 @@ pub struct Fade {
 
 pub struct Before {
     pub clock: u64,
+    /// The noise sequence of the bus, where a voice is spawned; else 0.
     pub noise: u32,
     pub prepared: bool,
     pub sink: Option<NodeId>,
@@ -48,6 +49,17 @@ pub struct Before {
     pub waiting: Vec<Event>,
 }
 
+/// The bus of a spawn.
+fn bus_of(call: &Call) -> Option<NodeId> {
+    match call {
+        Call::SpawnManagedPanned { bus, .. }
+        | Call::SpawnPanned { bus, .. }
+        | Call::SpawnManaged { bus, .. }
+        | Call::Spawn { bus, .. } => Some(NodeId::numbered(*bus)),
+        _ => None,
+    }
+}
+
 impl Before {
     pub fn of(store: &Store, call: &Call) -> Before {
         let engine = store.engine();
@@ -55,7 +67,7 @@ impl Before {
         let live = graph.live_nodes();
         Before {
             clock: engine.sample_offset(),
-            noise: engine.noise_sequence(),
+            noise: bus_of(call).map_or(0, |bus| engine.noise_sequence(bus)),
             prepared: !graph.is_dirty(),
             sink: graph.sink_node(),
             steals: engine.steals().len(),

@@ -14,7 +14,7 @@ abbrev is-done : Node → Bool
 is-done x = x .done
 
 abbrev Inv-loop : tie.InvT-loop
-Inv-loop nodes n m i₀ i = (m ≡ min n (length nodes / 21)) × SeekingIn 21 nodeOf is-done nodes n m i
+Inv-loop nodes n m i₀ i = (m ≡ min n (length nodes / 22)) × SeekingIn 22 nodeOf is-done nodes n m i
 
 abbrev μ-loop : tie.MeasureT-loop
 μ-loop nodes n m i₀ i = m - i
@@ -23,7 +23,7 @@ at-most-requires : tie.Need-at-most-requires Inv-loop μ-loop
 at-most-requires c κs = search needs
 
 loop-holds : tie.Need-loop-holds Inv-loop μ-loop
-loop-holds c = let s = c .before .before .args in (c .at-most .ensures, seek-start 21 nodeOf is-done (s .nodes .now) (s .n) (c .at-most .result) (c .at-most .ensures))
+loop-holds c = let s = c .before .before .args in (c .at-most .ensures, seek-start 22 nodeOf is-done (s .nodes .now) (s .n) (c .at-most .result) (c .at-most .ensures))
 
 done-at-requires : tie.Need-done-at-requires Inv-loop μ-loop
 done-at-requires c κs = search needs
@@ -32,7 +32,7 @@ returns : tie.Need-returns Inv-loop μ-loop
 returns c =
     let s = c .before .before .before .before .before .before .args in
     let l = c .before .before .before .loop in
-    ap isSome (seek-hit 21 nodeOf is-done (s .nodes .now) (s .n) (c .before .before .before .before .at-most .result) (l .inv .0) (l .i) (c .before .before .loop-test .taken) (l .inv .1) (sym (c .before .done-at .ensures) ∙ c .if1 .taken))
+    ap isSome (seek-hit 22 nodeOf is-done (s .nodes .now) (s .n) (c .before .before .before .before .at-most .result) (l .inv .0) (l .i) (c .before .before .loop-test .taken) (l .inv .1) (sym (c .before .done-at .ensures) ∙ c .if1 .taken))
 
 add-i : tie.Need-add-i Inv-loop μ-loop
 add-i c = search needs
@@ -44,13 +44,13 @@ loop-again : tie.Need-loop-again Inv-loop μ-loop
 loop-again c =
     let s = c .before .before .before .before .before .before .args in
     let l = c .before .before .before .loop in
-    (l .inv .0, seek-next 21 nodeOf is-done (s .nodes .now) (s .n) (c .before .before .before .before .at-most .result) (l .inv .0) (l .i) (c .before .before .loop-test .taken) (l .inv .1) (sym (c .before .done-at .ensures) ∙ c .if1 .left))
+    (l .inv .0, seek-next 22 nodeOf is-done (s .nodes .now) (s .n) (c .before .before .before .before .at-most .result) (l .inv .0) (l .i) (c .before .before .loop-test .taken) (l .inv .1) (sym (c .before .done-at .ensures) ∙ c .if1 .left))
 
 returns-2 : tie.Need-returns-2 Inv-loop μ-loop
 returns-2 c =
     let s = c .before .before .before .before .args in
     let l = c .before .loop in
-    ap isSome (seek-none 21 nodeOf is-done (s .nodes .now) (s .n) (c .before .before .at-most .result) (l .inv .0) (l .i) (c .loop-test .left) (l .inv .1))
+    ap isSome (seek-none 22 nodeOf is-done (s .nodes .now) (s .n) (c .before .before .at-most .result) (l .inv .0) (l .i) (c .loop-test .left) (l .inv .1))
 
 pub has-done-spec : {M : Type 1} → statement M
 has-done-spec =

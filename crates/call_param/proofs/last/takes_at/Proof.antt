@@ -33,13 +33,13 @@ returns-2 : tie.Need-returns-2
 unfolding nodeOf
 returns-2 c =
     let s = c .before .before .before .before .args in
-    c .flag-at .ensures ∙ sym (ap (λ o. takes o (getD (nodesIn (s .t .now)) (s .i) (nodeOf []))) (c .before .enum-told2 .given .1) ∙ ap (λ (x : Node). x .«takes_values») (row-is 21 nodeOf (s .t .now) (s .i)))
+    c .flag-at .ensures ∙ sym (ap (λ o. takes o (getD (nodesIn (s .t .now)) (s .i) (nodeOf []))) (c .before .enum-told2 .given .1) ∙ ap (λ (x : Node). x .«takes_values») (row-is 22 nodeOf (s .t .now) (s .i)))
 
 returns-3 : tie.Need-returns-3
 unfolding nodeOf
 returns-3 c =
     let s = c .before .before .before .before .args in
-    c .flag-at2 .ensures ∙ sym (ap (λ o. takes o (getD (nodesIn (s .t .now)) (s .i) (nodeOf []))) (c .before .enum-told3 .given .1) ∙ ap (λ (x : Node). x .«takes_glides») (row-is 21 nodeOf (s .t .now) (s .i)))
+    c .flag-at2 .ensures ∙ sym (ap (λ o. takes o (getD (nodesIn (s .t .now)) (s .i) (nodeOf []))) (c .before .enum-told3 .given .1) ∙ ap (λ (x : Node). x .«takes_glides») (row-is 22 nodeOf (s .t .now) (s .i)))
 
 pub takes-at-spec : {M : Type 1} → statement M
 takes-at-spec =

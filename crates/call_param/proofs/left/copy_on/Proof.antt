@@ -15,7 +15,7 @@ use Rattle.call_param.proofs.left.copy_on.Statement.{statement}
 use Rattle.call_param.proofs.left.copy_on.Tie as tie
 
 abbrev Inv-loop : tie.InvT-loop
-Inv-loop t₀ count p k freed n i₀ t i = (length t ≡ length t₀) × (p ≡ placeOf (isLeft freed (id k)) (take count (nodesIn t₀)) → CopyingOn 21 nodeOf (isLeft freed (id k)) (getD (nodesIn t₀) p (nodeOf [])) t₀ n p t i)
+Inv-loop t₀ count p k freed n i₀ t i = (length t ≡ length t₀) × (p ≡ placeOf (isLeft freed (id k)) (take count (nodesIn t₀)) → CopyingOn 22 nodeOf (isLeft freed (id k)) (getD (nodesIn t₀) p (nodeOf [])) t₀ n p t i)
 
 abbrev μ-loop : tie.MeasureT-loop
 μ-loop t₀ count p k freed n i₀ t i = n - i
@@ -26,7 +26,7 @@ at-most-requires c κs = search needs
 loop-holds : tie.Need-loop-holds Inv-loop μ-loop
 loop-holds c =
     let s = c .before .before .before .args in
-    (refl, λ h. copying-start 21 nodeOf (isLeft (s .freed .now) (id (s .k))) (getD (nodesIn (s .t .now)) (s .p) (nodeOf [])) (s .t .now) (c .at-most .result) (s .p) (s .count) (c .at-most .ensures) h refl)
+    (refl, λ h. copying-start 22 nodeOf (isLeft (s .freed .now) (id (s .k))) (getD (nodesIn (s .t .now)) (s .p) (nodeOf [])) (s .t .now) (c .at-most .result) (s .p) (s .count) (c .at-most .ensures) h refl)
 
 is-left-requires : tie.Need-is-left-requires Inv-loop μ-loop
 is-left-requires c κs = search needs
@@ -45,8 +45,8 @@ loop-again c =
     let s = c .before .before .before .before .before .before .before .before .before .before .before .before .args in
     let l = c .before .before .before .before .before .before .before .before .loop in
     let m = c .before .before .before .before .before .before .before .before .before .at-most in
-    let fits : m .result ≤ length (s .t .now) / 21 = omega (arith, m .ensures) in
-    (c .before .t .given ∙ l .inv .0, λ h. copying-row 21 nodeOf (isLeft (s .freed .now) (id (s .k))) (getD (nodesIn (s .t .now)) (s .p) (nodeOf [])) (s .t .now) (m .result) (s .p) fits (l .t) (l .i) (c .before .before .before .before .before .before .before .loop-test .taken) (l .inv .1 h) (c .before .before .move-row .last .0) (c .before .before .move-row .ensures) (sym (c .before .before .before .before .before .is-left .ensures) ∙ c .before .before .before .before .if1 .taken))
+    let fits : m .result ≤ length (s .t .now) / 22 = omega (arith, m .ensures) in
+    (c .before .t .given ∙ l .inv .0, λ h. copying-row 22 nodeOf (isLeft (s .freed .now) (id (s .k))) (getD (nodesIn (s .t .now)) (s .p) (nodeOf [])) (s .t .now) (m .result) (s .p) fits (l .t) (l .i) (c .before .before .before .before .before .before .before .loop-test .taken) (l .inv .1 h) (c .before .before .move-row .last .0) (c .before .before .move-row .ensures) (sym (c .before .before .before .before .before .is-left .ensures) ∙ c .before .before .before .before .if1 .taken))
 
 add-i-2 : tie.Need-add-i-2 Inv-loop μ-loop
 add-i-2 c = search needs
@@ -59,8 +59,8 @@ loop-again-2 c =
     let s = c .before .before .before .before .before .before .before .before .args in
     let l = c .before .before .before .before .loop in
     let m = c .before .before .before .before .before .at-most in
-    let fits : m .result ≤ length (s .t .now) / 21 = omega (arith, m .ensures) in
-    (l .inv .0, λ h. copying-none 21 nodeOf (isLeft (s .freed .now) (id (s .k))) (getD (nodesIn (s .t .now)) (s .p) (nodeOf [])) (s .t .now) (m .result) (s .p) fits (l .t) (l .i) (c .before .before .before .loop-test .taken) (l .inv .1 h) (sym (c .before .is-left .ensures) ∙ c .if1 .left))
+    let fits : m .result ≤ length (s .t .now) / 22 = omega (arith, m .ensures) in
+    (l .inv .0, λ h. copying-none 22 nodeOf (isLeft (s .freed .now) (id (s .k))) (getD (nodesIn (s .t .now)) (s .p) (nodeOf [])) (s .t .now) (m .result) (s .p) fits (l .t) (l .i) (c .before .before .before .loop-test .taken) (l .inv .1 h) (sym (c .before .is-left .ensures) ∙ c .if1 .left))
 
 same-length : tie.Need-same-length Inv-loop μ-loop
 same-length c = search needs
@@ -70,7 +70,7 @@ returns c =
     let s = c .before .before .before .before .before .args in
     let l = c .before .loop in
     let m = c .before .before .at-most in
-    λ h. change-done 21 nodeOf (λ x. cond (isLeft (s .freed .now) (id (s .k)) x) (getD (nodesIn (s .t .now)) (s .p) (nodeOf [])) x) (s .t .now) (l .t) (s .count) (m .result) (l .i) (m .ensures) (c .loop-test .left) (l .inv .1 h .2)
+    λ h. change-done 22 nodeOf (λ x. cond (isLeft (s .freed .now) (id (s .k)) x) (getD (nodesIn (s .t .now)) (s .p) (nodeOf [])) x) (s .t .now) (l .t) (s .count) (m .result) (l .i) (m .ensures) (c .loop-test .left) (l .inv .1 h .2)
 
 pub copy-on-spec : {M : Type 1} → statement M
 copy-on-spec =

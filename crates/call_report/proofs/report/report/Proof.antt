@@ -71,7 +71,7 @@ returns-2 c =
     let told = c .before .before .before .before .before .before .enum-told .given .1 in
     let low = live-there (s .s) (s .nodes .now) (s .voices .now) (s .node) (s .channels) (s .samples .now) (s .done) (p .result) (n .result) (p .ensures) (n .ensures) (t .result) (t .ensures) told in
     let new = reported (level .result) (s .done) (getD (nodesIn (s .nodes .now)) (p .result) (nodeOf [])) in
-    let many = n .ensures ∙ counted 21 nodeOf (s .nodes .now) (s .s .nodes) (min (s .s .nodes) (length (s .nodes .now) / 21)) refl in
+    let many = n .ensures ∙ counted 22 nodeOf (s .nodes .now) (s .s .nodes) (min (s .s .nodes) (length (s .nodes .now) / 22)) refl in
     let first = still-first [] (s .nodes .now) (s .s .nodes) (s .node .0) (n .result) (p .result) many (p .ensures) low new refl refl (put .last .0) (put .ensures) in
     let all = all-replaced [] (s .nodes .now) (s .s .nodes) (s .node .0) (n .result) (p .result) many (p .ensures) low new refl refl (put .last .0) (put .ensures) (copied .last .0) (copied .ensures first) in
     (λ m. reports-done (s .s) (s .nodes .now) (s .voices .now) (s .node) (s .channels) (s .samples .now) (s .done) (p .result) (n .result) (p .ensures) (n .ensures) (t .result) (t .ensures) m told (copied .last .0) (level .result) (level .ensures) all, λ m e. absurd (let z : _≡_ {A = ℕ} 0 1 = cc in omega arith))

@@ -10,7 +10,7 @@ flag-at-requires c κs = search needs
 
 returns : tie.Need-returns
 unfolding nodeOf
-returns c = c .flag-at .ensures ∙ sym (ap (λ n. n .done) (row-is 21 nodeOf (c .before .before .args .t .now) (c .before .before .args .i)))
+returns c = c .flag-at .ensures ∙ sym (ap (λ n. n .done) (row-is 22 nodeOf (c .before .before .args .t .now) (c .before .before .args .i)))
 
 pub done-at-spec : {M : Type 1} → statement M
 done-at-spec = tie.close (tie.spec flag-at-requires returns)

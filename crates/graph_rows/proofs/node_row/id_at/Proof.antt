@@ -11,7 +11,7 @@ word-at-requires c κs = search needs
 
 returns : tie.Need-returns
 unfolding nodeOf
-returns c = ap node (c .word-at .ensures) ∙ sym (ap (λ n. n .id) (row-is 21 nodeOf (c .before .before .args .t .now) (c .before .before .args .i)))
+returns c = ap node (c .word-at .ensures) ∙ sym (ap (λ n. n .id) (row-is 22 nodeOf (c .before .before .args .t .now) (c .before .before .args .i)))
 
 pub id-at-spec : {M : Type 1} → statement M
 id-at-spec = tie.close (tie.spec word-at-requires returns)

@@ -37,13 +37,17 @@ flag-at-requires-3 c κs = search needs
 float-at-requires : tie.Need-float-at-requires
 float-at-requires c κs = search needs
 
+word-at-requires-3 : tie.Need-word-at-requires-3
+word-at-requires-3 c κs = search needs
+
 returns : tie.Need-returns
 unfolding nodeOf
 returns c =
-    let s = c .before .before .before .before .before .before .before .before .before .before .before in
-    node-same _ (nodeOf (rowAt 21 (s .args .i) (s .args .t .now))) (ap node (c .before .before .before .before .before .before .before .before .before .word-at .ensures)) (ap voice (c .before .before .before .before .before .before .before .before .long-at .ensures)) (c .before .before .before .before .before .before .before .name-at .ensures) (c .before .before .before .before .before .word-at2 .ensures) (c .before .before .before .before .long-at2 .ensures)
-    (c .before .before .before .flag-at .ensures) (c .before .before .flag-at2 .ensures) (c .before .flag-at3 .ensures) (c .float-at .ensures) (c .before .before .before .before .before .before .last-at .ensures)
-    ∙ sym (row-is 21 nodeOf (s .args .t .now) (s .args .i))
+    let d = c .before in
+    let s = d .before .before .before .before .before .before .before .before .before .before .before in
+    node-same _ (nodeOf (rowAt 22 (s .args .i) (s .args .t .now))) (ap node (d .before .before .before .before .before .before .before .before .before .word-at .ensures)) (ap voice (d .before .before .before .before .before .before .before .before .long-at .ensures)) (d .before .before .before .before .before .before .before .name-at .ensures) (d .before .before .before .before .before .word-at2 .ensures) (d .before .before .before .before .long-at2 .ensures)
+    (d .before .before .before .flag-at .ensures) (d .before .before .flag-at2 .ensures) (d .before .flag-at3 .ensures) (d .float-at .ensures) (d .before .before .before .before .before .before .last-at .ensures) (c .word-at3 .ensures)
+    ∙ sym (row-is 22 nodeOf (s .args .t .now) (s .args .i))
 
 pub node-at-spec : {M : Type 1} → statement M
 node-at-spec =
@@ -59,4 +63,5 @@ node-at-spec =
     flag-at-requires-2
     flag-at-requires-3
     float-at-requires
+    word-at-requires-3
     returns)

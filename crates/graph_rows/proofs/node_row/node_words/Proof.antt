@@ -78,7 +78,7 @@ returns c =
     record {
       long = refl;
       back =
-          node-same _ n refl (ap voice owner) (c .before .before .before .before .before .before .before .before .before .name-words .ensures) refl required (c .before .before .before .flag-word .ensures) (c .before .before .flag-word2 .ensures) (c .before .flag-word3 .ensures) (c .float-word .ensures) (c .before .before .before .before .before .before .before .before .last-words .ensures);
+          node-same _ n refl (ap voice owner) (c .before .before .before .before .before .before .before .before .before .name-words .ensures) refl required (c .before .before .before .flag-word .ensures) (c .before .before .flag-word2 .ensures) (c .before .flag-word3 .ensures) (c .float-word .ensures) (c .before .before .before .before .before .before .before .before .last-words .ensures) refl;
     }
 
 pub node-words-spec : {M : Type 1} → statement M

@@ -11,7 +11,7 @@ long-at-requires c κs = search needs
 
 returns : tie.Need-returns
 unfolding nodeOf
-returns c = ap voice (c .long-at .ensures) ∙ sym (ap (λ n. n .owner) (row-is 21 nodeOf (c .before .before .args .t .now) (c .before .before .args .i)))
+returns c = ap voice (c .long-at .ensures) ∙ sym (ap (λ n. n .owner) (row-is 22 nodeOf (c .before .before .args .t .now) (c .before .before .args .i)))
 
 pub owner-at-spec : {M : Type 1} → statement M
 owner-at-spec = tie.close (tie.spec long-at-requires returns)

@@ -10,7 +10,7 @@ word-at-requires c κs = search needs
 
 returns : tie.Need-returns
 unfolding nodeOf
-returns c = c .word-at .ensures ∙ sym (ap (λ n. n .ports) (row-is 21 nodeOf (c .before .before .args .t .now) (c .before .before .args .i)))
+returns c = c .word-at .ensures ∙ sym (ap (λ n. n .ports) (row-is 22 nodeOf (c .before .before .args .t .now) (c .before .before .args .i)))
 
 pub ports-at-spec : {M : Type 1} → statement M
 ports-at-spec = tie.close (tie.spec word-at-requires returns)

@@ -22,7 +22,7 @@ returns : tie.Need-returns
 returns c =
     let s = c .before .before .before .before .before .before .before in
     let ws = c .before .before .before .before .before .node-words in
-    ap nodesIn (c .before .before .put-row .ensures) ∙ put-is 21 nodeOf (s .args .t .now) (ws .result) (s .args .i) (ws .ensures .long) ∙ ap (set (nodesIn (s .args .t .now)) (s .args .i)) (ws .ensures .back)
+    ap nodesIn (c .before .before .put-row .ensures) ∙ put-is 22 nodeOf (s .args .t .now) (ws .result) (s .args .i) (ws .ensures .long) ∙ ap (set (nodesIn (s .args .t .now)) (s .args .i)) (ws .ensures .back)
 
 pub put-node-spec : {M : Type 1} → statement M
 put-node-spec =

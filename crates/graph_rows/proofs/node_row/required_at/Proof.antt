@@ -10,7 +10,7 @@ long-at-requires c κs = search needs
 
 returns : tie.Need-returns
 unfolding nodeOf
-returns c = c .long-at .ensures ∙ sym (ap (λ n. n .required) (row-is 21 nodeOf (c .before .before .args .t .now) (c .before .before .args .i)))
+returns c = c .long-at .ensures ∙ sym (ap (λ n. n .required) (row-is 22 nodeOf (c .before .before .args .t .now) (c .before .before .args .i)))
 
 pub required-at-spec : {M : Type 1} → statement M
 required-at-spec = tie.close (tie.spec long-at-requires returns)

@@ -43,10 +43,10 @@ returns c =
     let k = c .before .before .before .before .before .at-most in
     let old = s .args .t .now in
     let l = take (s .args .count) (nodesIn old) in
-    let held : Holds (nodesIn old) (k .result) l = holds-count 21 nodeOf old (s .args .count) (k .result) (k .ensures) in
-    let room : length l < length old / 21 = omega (arith, held .many, c .before .before .before .before .if1 .taken) in
-    subst (Holds (nodesIn (c .before .before .put-node .last .0)) (k .result + 1)) (sym (pushed-on (length old / 21) l (s .args .n) room))
-    (pushed-more 21 nodeOf old (c .before .before .put-node .last .0) (k .result) l (s .args .n) (c .before .before .before .before .if1 .taken) held (c .before .before .put-node .ensures))
+    let held : Holds (nodesIn old) (k .result) l = holds-count 22 nodeOf old (s .args .count) (k .result) (k .ensures) in
+    let room : length l < length old / 22 = omega (arith, held .many, c .before .before .before .before .if1 .taken) in
+    subst (Holds (nodesIn (c .before .before .put-node .last .0)) (k .result + 1)) (sym (pushed-on (length old / 22) l (s .args .n) room))
+    (pushed-more 22 nodeOf old (c .before .before .put-node .last .0) (k .result) l (s .args .n) (c .before .before .before .before .if1 .taken) held (c .before .before .put-node .ensures))
 
 returns-2 : tie.Need-returns-2
 returns-2 c =
@@ -54,9 +54,9 @@ returns-2 c =
     let k = c .before .at-most in
     let old = s .args .t .now in
     let l = take (s .args .count) (nodesIn old) in
-    let held : Holds (nodesIn old) (k .result) l = holds-count 21 nodeOf old (s .args .count) (k .result) (k .ensures) in
-    let full : length old / 21 ≤ length l = omega (arith, held .many, c .if1 .left) in
-    subst (Holds (nodesIn old) (k .result)) (sym (pushed-off (length old / 21) l (s .args .n) full)) held
+    let held : Holds (nodesIn old) (k .result) l = holds-count 22 nodeOf old (s .args .count) (k .result) (k .ensures) in
+    let full : length old / 22 ≤ length l = omega (arith, held .many, c .if1 .left) in
+    subst (Holds (nodesIn old) (k .result)) (sym (pushed-off (length old / 22) l (s .args .n) full)) held
 
 pub append-in-spec : {M : Type 1} → statement M
 append-in-spec =

@@ -30,8 +30,8 @@ append-in-requires c κs = search needs
 returns : tie.Need-returns
 returns c =
     let s = c .before .before in
-    let long : length (s .args .nodes .now) ≡ 10752 = search needs in
-    let room : length (s .args .nodes .now) / 21 ≡ 512 = omega arith in
+    let long : length (s .args .nodes .now) ≡ 11264 = search needs in
+    let room : length (s .args .nodes .now) / 22 ≡ 512 = omega arith in
     subst (λ limit. Holds (nodesIn (c .append-in .last .0)) (c .append-in .result) (pushed limit (take (s .args .count) (nodesIn (s .args .nodes .now))) (s .args .n))) room (c .append-in .ensures)
 
 pub append-node-spec : {M : Type 1} → statement M

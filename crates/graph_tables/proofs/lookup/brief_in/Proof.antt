@@ -40,12 +40,12 @@ brief-at-requires c κs = search needs
 returns : tie.Need-returns
 returns c =
     let s = c .before .before .before .before .before in
-    c .brief-at .ensures ∙ sym (ap briefOf (found-in 21 nodeOf (isNode (s .args .id)) (s .args .t .now) (s .args .count) (c .before .before .before .row-in .result) (c .before .before .count-in .result) (c .before .before .before .row-in .ensures) (c .before .before .count-in .ensures) (c .before .if1 .taken)))
+    c .brief-at .ensures ∙ sym (ap briefOf (found-in 22 nodeOf (isNode (s .args .id)) (s .args .t .now) (s .args .count) (c .before .before .before .row-in .result) (c .before .before .count-in .result) (c .before .before .before .row-in .ensures) (c .before .before .count-in .ensures) (c .before .if1 .taken)))
 
 returns-2 : tie.Need-returns-2
 returns-2 c =
     let s = c .before .before .before .before in
-    sym (ap briefOf (lost-in 21 nodeOf (isNode (s .args .id)) (s .args .t .now) (s .args .count) (c .before .before .row-in .result) (c .before .count-in .result) (c .before .before .row-in .ensures) (c .before .count-in .ensures) (c .if1 .left)))
+    sym (ap briefOf (lost-in 22 nodeOf (isNode (s .args .id)) (s .args .t .now) (s .args .count) (c .before .before .row-in .result) (c .before .count-in .result) (c .before .before .row-in .ensures) (c .before .count-in .ensures) (c .if1 .left)))
 
 pub brief-in-spec : {M : Type 1} → statement M
 brief-in-spec =

@@ -28,7 +28,7 @@ at-most-requires : tie.Need-at-most-requires
 at-most-requires c κs = search needs
 
 returns : tie.Need-returns
-returns c = let s = c .before .before in c .at-most .ensures ∙ sym (counted 21 nodeOf (s .args .t .now) (s .args .count) _ refl)
+returns c = let s = c .before .before in c .at-most .ensures ∙ sym (counted 22 nodeOf (s .args .t .now) (s .args .count) _ refl)
 
 pub count-in-spec : {M : Type 1} → statement M
 count-in-spec = tie.close (tie.spec at-most-requires returns)

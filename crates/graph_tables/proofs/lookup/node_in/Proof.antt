@@ -43,8 +43,8 @@ node-at-requires c κs = search needs
 
 look : (l : List ℕ) (count : ℕ) (id : NodeId) (r n : ℕ) → r ≡ placeOf (isNode id) (take count (nodesIn l)) → n ≡ length (take count (nodesIn l)) → (b : Bool) → ltb r n ≡ b
     → or? b (getD (nodesIn l) r (nodeOf [])) none ≡ find (isNode id) (take count (nodesIn l))
-look l count id r n at many true p = sym (found-in 21 nodeOf (isNode id) l count r n at many (ltb-true r n p))
-look l count id r n at many false p = sym (lost-in 21 nodeOf (isNode id) l count r n at many (ltb-false r n p))
+look l count id r n at many true p = sym (found-in 22 nodeOf (isNode id) l count r n at many (ltb-true r n p))
+look l count id r n at many false p = sym (lost-in 22 nodeOf (isNode id) l count r n at many (ltb-false r n p))
 
 returns : tie.Need-returns
 returns c =

@@ -27,7 +27,7 @@ use Rattle.graph_rows.proofs.node_row.put_node.Reads as put-node-reads
 use Rattle.words.proofs.table.at_most.Reads as at-most-reads
 
 abbrev Inv-loop : tie.InvT-loop
-Inv-loop t₀ count n m i₀ t i = ChangingIn 21 nodeOf (λ x. cond (isNode (n .id) x) n x) t₀ t m i
+Inv-loop t₀ count n m i₀ t i = ChangingIn 22 nodeOf (λ x. cond (isNode (n .id) x) n x) t₀ t m i
 
 abbrev μ-loop : tie.MeasureT-loop
 μ-loop t₀ count n m i₀ t i = m - i
@@ -36,7 +36,7 @@ at-most-requires : tie.Need-at-most-requires Inv-loop μ-loop
 at-most-requires c κs = search needs
 
 loop-holds : tie.Need-loop-holds Inv-loop μ-loop
-loop-holds c = let s = c .before .before in change-start 21 nodeOf (λ x. cond (isNode (s .args .n .id) x) (s .args .n) x) (s .args .t .now) (c .at-most .result)
+loop-holds c = let s = c .before .before in change-start 22 nodeOf (λ x. cond (isNode (s .args .n .id) x) (s .args .n) x) (s .args .t .now) (c .at-most .result)
 
 id-at-requires : tie.Need-id-at-requires Inv-loop μ-loop
 id-at-requires c κs = search needs
@@ -57,9 +57,9 @@ loop-again c =
     let l = c .before .before .before .before .before .before .before .before .before .before .loop in
     let put = c .before .before .put-node in
     let long : length (put .last .0) ≡ length (l .t) = search needs in
-    let fits : m .result ≤ length (s .args .t .now) / 21 = omega (arith, m .ensures) in
+    let fits : m .result ≤ length (s .args .t .now) / 22 = omega (arith, m .ensures) in
     let test : isNode (s .args .n .id) (getD (nodesIn (l .t)) (l .i) (nodeOf [])) ≡ true = eq-eqb _ _ (sym (ap (λ k. k .0) (c .before .before .before .before .before .before .before .id-at .ensures)) ∙ c .before .before .before .before .if1 .taken) in
-    change-row 21 nodeOf (λ x. cond (isNode (s .args .n .id) x) (s .args .n) x) (s .args .t .now) (l .t) (m .result) (l .i) fits (c .before .before .before .before .before .before .before .before .before .loop-test .taken) (l .inv) (put .last .0) long (put .ensures ∙ ap (set (nodesIn (l .t)) (l .i)) (sym (ap (λ b. cond b (s .args .n) (getD (nodesIn (l .t)) (l .i) (nodeOf []))) test)))
+    change-row 22 nodeOf (λ x. cond (isNode (s .args .n .id) x) (s .args .n) x) (s .args .t .now) (l .t) (m .result) (l .i) fits (c .before .before .before .before .before .before .before .before .before .loop-test .taken) (l .inv) (put .last .0) long (put .ensures ∙ ap (set (nodesIn (l .t)) (l .i)) (sym (ap (λ b. cond b (s .args .n) (getD (nodesIn (l .t)) (l .i) (nodeOf []))) test)))
 
 add-i-2 : tie.Need-add-i-2 Inv-loop μ-loop
 add-i-2 c = search needs
@@ -72,9 +72,9 @@ loop-again-2 c =
     let s = c .before .before .before .before .before .before .before .before .before in
     let m = c .before .before .before .before .before .before .before .at-most in
     let l = c .before .before .before .before .before .before .loop in
-    let fits : m .result ≤ length (s .args .t .now) / 21 = omega (arith, m .ensures) in
+    let fits : m .result ≤ length (s .args .t .now) / 22 = omega (arith, m .ensures) in
     let test : isNode (s .args .n .id) (getD (nodesIn (l .t)) (l .i) (nodeOf [])) ≡ false = ne-eqb _ _ (λ q. c .if1 .left (ap (λ k. k .0) (c .before .before .before .id-at .ensures) ∙ q)) in
-    change-none 21 nodeOf (λ x. cond (isNode (s .args .n .id) x) (s .args .n) x) (s .args .t .now) (l .t) (m .result) (l .i) fits (c .before .before .before .before .before .loop-test .taken) (l .inv) (ap (λ b. cond b (s .args .n) (getD (nodesIn (l .t)) (l .i) (nodeOf []))) test)
+    change-none 22 nodeOf (λ x. cond (isNode (s .args .n .id) x) (s .args .n) x) (s .args .t .now) (l .t) (m .result) (l .i) fits (c .before .before .before .before .before .loop-test .taken) (l .inv) (ap (λ b. cond b (s .args .n) (getD (nodesIn (l .t)) (l .i) (nodeOf []))) test)
 
 same-length : tie.Need-same-length Inv-loop μ-loop
 same-length c = search needs
@@ -84,7 +84,7 @@ returns c =
     let s = c .before .before .before .before in
     let m = c .before .before .at-most in
     let l = c .before .loop in
-    change-done 21 nodeOf (λ x. cond (isNode (s .args .n .id) x) (s .args .n) x) (s .args .t .now) (l .t) (s .args .count) (m .result) (l .i) (m .ensures) (c .loop-test .left) (l .inv)
+    change-done 22 nodeOf (λ x. cond (isNode (s .args .n .id) x) (s .args .n) x) (s .args .t .now) (l .t) (s .args .count) (m .result) (l .i) (m .ensures) (c .loop-test .left) (l .inv)
 
 pub replace-in-spec : {M : Type 1} → statement M
 replace-in-spec =

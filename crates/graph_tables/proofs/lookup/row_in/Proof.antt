@@ -26,7 +26,7 @@ use Rattle.graph_rows.proofs.node_row.id_at.Reads as id-at-reads
 use Rattle.words.proofs.table.at_most.Reads as at-most-reads
 
 abbrev Inv-loop : tie.InvT-loop
-Inv-loop t count id n i₀ i = PlacingIn 21 nodeOf (isNode id) t count n i
+Inv-loop t count id n i₀ i = PlacingIn 22 nodeOf (isNode id) t count n i
 
 abbrev μ-loop : tie.MeasureT-loop
 μ-loop t count id n i₀ i = n - i
@@ -35,7 +35,7 @@ at-most-requires : tie.Need-at-most-requires Inv-loop μ-loop
 at-most-requires c κs = search needs
 
 loop-holds : tie.Need-loop-holds Inv-loop μ-loop
-loop-holds c = let s = c .before .before in placing-start 21 nodeOf (isNode (s .args .id)) (s .args .t .now) (s .args .count) (c .at-most .result)
+loop-holds c = let s = c .before .before in placing-start 22 nodeOf (isNode (s .args .id)) (s .args .t .now) (s .args .count) (c .at-most .result)
 
 id-at-requires : tie.Need-id-at-requires Inv-loop μ-loop
 id-at-requires c κs = search needs
@@ -45,7 +45,7 @@ returns c =
     let s = c .before .before .before .before .before .before .before .before in
     let m = c .before .before .before .before .before .before .at-most in
     let l = c .before .before .before .before .before .loop in
-    placing-hit 21 nodeOf (isNode (s .args .id)) (s .args .t .now) (s .args .count) (m .result) (m .ensures) (l .i) (c .before .before .before .before .loop-test .taken) (l .inv) (eq-eqb _ _ (sym (ap (λ k. k .0) (c .before .before .before .id-at .ensures)) ∙ c .if1 .taken))
+    placing-hit 22 nodeOf (isNode (s .args .id)) (s .args .t .now) (s .args .count) (m .result) (m .ensures) (l .i) (c .before .before .before .before .loop-test .taken) (l .inv) (eq-eqb _ _ (sym (ap (λ k. k .0) (c .before .before .before .id-at .ensures)) ∙ c .if1 .taken))
 
 add-i : tie.Need-add-i Inv-loop μ-loop
 add-i c = search needs
@@ -58,14 +58,14 @@ loop-again c =
     let s = c .before .before .before .before .before .before .before .before in
     let m = c .before .before .before .before .before .before .at-most in
     let l = c .before .before .before .before .before .loop in
-    placing-next 21 nodeOf (isNode (s .args .id)) (s .args .t .now) (s .args .count) (m .result) (m .ensures) (l .i) (c .before .before .before .before .loop-test .taken) (l .inv) (ne-eqb _ _ (λ q. c .if1 .left (ap (λ k. k .0) (c .before .before .before .id-at .ensures) ∙ q)))
+    placing-next 22 nodeOf (isNode (s .args .id)) (s .args .t .now) (s .args .count) (m .result) (m .ensures) (l .i) (c .before .before .before .before .loop-test .taken) (l .inv) (ne-eqb _ _ (λ q. c .if1 .left (ap (λ k. k .0) (c .before .before .before .id-at .ensures) ∙ q)))
 
 returns-2 : tie.Need-returns-2 Inv-loop μ-loop
 returns-2 c =
     let s = c .before .before .before .before in
     let m = c .before .before .at-most in
     let l = c .before .loop in
-    placing-none 21 nodeOf (isNode (s .args .id)) (s .args .t .now) (s .args .count) (m .result) (m .ensures) (l .i) (c .loop-test .left) (l .inv)
+    placing-none 22 nodeOf (isNode (s .args .id)) (s .args .t .now) (s .args .count) (m .result) (m .ensures) (l .i) (c .loop-test .left) (l .inv)
 
 pub row-in-spec : {M : Type 1} → statement M
 row-in-spec =

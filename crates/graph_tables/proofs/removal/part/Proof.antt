@@ -32,7 +32,7 @@ use Rattle.words.proofs.table.at_most.Reads as at-most-reads
 use Rattle.words.proofs.table.move_row.Reads as move-row-reads
 
 abbrev Inv-loop : tie.InvT-loop
-Inv-loop t₀ count who voices gone₀ n k₀ g₀ i₀ t gone k g i = ClosingIn 21 nodeOf (λ x. not (leaves who voices x)) t₀ t n i k × Gathering (leaves who voices) (λ x. x .id .0) 512 (nodesIn t₀) gone i g
+Inv-loop t₀ count who voices gone₀ n k₀ g₀ i₀ t gone k g i = ClosingIn 22 nodeOf (λ x. not (leaves who voices x)) t₀ t n i k × Gathering (leaves who voices) (λ x. x .id .0) 512 (nodesIn t₀) gone i g
 
 abbrev μ-loop : tie.MeasureT-loop
 μ-loop t₀ count who voices gone₀ n k₀ g₀ i₀ t gone k g i = n - i
@@ -44,7 +44,7 @@ loop-holds : tie.Need-loop-holds Inv-loop μ-loop
 loop-holds c =
     let s = c .before .before .before .before in
     let q = leaves (s .args .who) (s .args .voices .now) in
-    (words-start 21 nodeOf (λ x. not (q x)) (s .args .t .now) (c .at-most .result), gathering-start (nodeOf []) q (λ x. x .id .0) 512 (nodesIn (s .args .t .now)) (s .args .gone .now) (s .pre .1))
+    (words-start 22 nodeOf (λ x. not (q x)) (s .args .t .now) (c .at-most .result), gathering-start (nodeOf []) q (λ x. x .id .0) 512 (nodesIn (s .args .t .now)) (s .args .gone .now) (s .pre .1))
 
 is-leaving-requires : tie.Need-is-leaving-requires Inv-loop μ-loop
 is-leaving-requires c κs = search needs
@@ -74,13 +74,13 @@ loop-again c =
     let l = c .before .before .before .before .before .before .loop in
     let q = leaves (s .args .who) (s .args .voices .now) in
     let old = s .args .t .now in
-    let fits : m .result ≤ length old / 21 = omega (arith, m .ensures) in
+    let fits : m .result ≤ length old / 22 = omega (arith, m .ensures) in
     let more : l .i < m .result = c .before .before .before .before .before .loop-test .taken in
-    let inside : l .i < length (nodesIn old) = omega (arith, rows-long 21 nodeOf old) in
-    let same = words-row 21 nodeOf (λ x. not (q x)) old (l .t) (m .result) (l .i) (l .k) (l .inv .0) in
+    let inside : l .i < length (nodesIn old) = omega (arith, rows-long 22 nodeOf old) in
+    let same = words-row 22 nodeOf (λ x. not (q x)) old (l .t) (m .result) (l .i) (l .k) (l .inv .0) in
     let test = sym (c .before .before .before .is-leaving .ensures) ∙ c .before .before .if1 .taken in
     let room : l .g < 512 = omega (arith, l .inv .1 .low, m .ensures, s .pre .0) in (
-      words-drop 21 nodeOf (λ x. not (q x)) old (l .t) (m .result) (l .i) (l .k) fits more (l .inv .0) (ap not test),
+      words-drop 22 nodeOf (λ x. not (q x)) old (l .t) (m .result) (l .i) (l .k) fits more (l .inv .0) (ap not test),
       rw (c .id-at .ensures, same) (gathering-take (nodeOf []) q (λ x. x .id .0) 512 (nodesIn old) (l .gone) (l .i) (l .g) inside (l .inv .1) room (sym (ap q same) ∙ test)),
     )
 
@@ -103,13 +103,13 @@ loop-again-2 c =
     let l = c .before .before .before .before .before .before .before .before .loop in
     let q = leaves (s .args .who) (s .args .voices .now) in
     let old = s .args .t .now in
-    let fits : m .result ≤ length old / 21 = omega (arith, m .ensures) in
+    let fits : m .result ≤ length old / 22 = omega (arith, m .ensures) in
     let more : l .i < m .result = c .before .before .before .before .before .before .before .loop-test .taken in
-    let inside : l .i < length (nodesIn old) = omega (arith, rows-long 21 nodeOf old) in
-    let same = words-row 21 nodeOf (λ x. not (q x)) old (l .t) (m .result) (l .i) (l .k) (l .inv .0) in
+    let inside : l .i < length (nodesIn old) = omega (arith, rows-long 22 nodeOf old) in
+    let same = words-row 22 nodeOf (λ x. not (q x)) old (l .t) (m .result) (l .i) (l .k) (l .inv .0) in
     let moved = c .before .before .move-row in
     let test = sym (c .before .before .before .before .before .is-leaving .ensures) ∙ c .before .before .before .before .if1 .left in (
-      words-keep 21 nodeOf (λ x. not (q x)) old (l .t) (m .result) (l .i) (l .k) fits more (l .inv .0) (moved .last .0) (moved .ensures) (ap not test),
+      words-keep 22 nodeOf (λ x. not (q x)) old (l .t) (m .result) (l .i) (l .k) fits more (l .inv .0) (moved .last .0) (moved .ensures) (ap not test),
       gathering-pass (nodeOf []) q (λ x. x .id .0) 512 (nodesIn old) (l .gone) (l .i) (l .g) inside (l .inv .1) (sym (ap q same) ∙ test),
     )
 
@@ -128,8 +128,8 @@ returns c =
     let old = s .args .t .now in
     let all : l .i ≡ m .result = omega (arith, l .inv .0 .0, c .loop-test .left) in
     record {
-      stay = closed 21 nodeOf old (l .t) (λ x. not (q x)) (s .args .count) (m .result) (l .i) (l .k) (m .ensures) (c .loop-test .left) (l .inv .0);
-      leave = l .inv .1 .front ∙ ap (λ k. idsOf q (take k (nodesIn old))) all ∙ ap (idsOf q) (take-count 21 nodeOf old (s .args .count) (m .result) (m .ensures));
+      stay = closed 22 nodeOf old (l .t) (λ x. not (q x)) (s .args .count) (m .result) (l .i) (l .k) (m .ensures) (c .loop-test .left) (l .inv .0);
+      leave = l .inv .1 .front ∙ ap (λ k. idsOf q (take k (nodesIn old))) all ∙ ap (idsOf q) (take-count 22 nodeOf old (s .args .count) (m .result) (m .ensures));
       fits = omega (arith, l .inv .1 .low, m .ensures, s .pre .0, all);
       long = l .inv .1 .long;
     }

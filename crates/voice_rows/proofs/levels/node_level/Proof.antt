@@ -18,7 +18,7 @@ abbrev number : NodeId → ℕ
 number k = k .0
 
 abbrev Inv-loop : tie.InvT-loop
-Inv-loop nodes n id m i₀ i = (m ≡ min n (length nodes / 21)) × SeekingIn 21 nodeOf (isNode id) nodes n m i
+Inv-loop nodes n id m i₀ i = (m ≡ min n (length nodes / 22)) × SeekingIn 22 nodeOf (isNode id) nodes n m i
 
 abbrev μ-loop : tie.MeasureT-loop
 μ-loop nodes n id m i₀ i = m - i
@@ -27,7 +27,7 @@ at-most-requires : tie.Need-at-most-requires Inv-loop μ-loop
 at-most-requires c κs = search needs
 
 loop-holds : tie.Need-loop-holds Inv-loop μ-loop
-loop-holds c = let s = c .before .before .args in (c .at-most .ensures, seek-start 21 nodeOf (isNode (s .id)) (s .nodes .now) (s .n) (c .at-most .result) (c .at-most .ensures))
+loop-holds c = let s = c .before .before .args in (c .at-most .ensures, seek-start 22 nodeOf (isNode (s .id)) (s .nodes .now) (s .n) (c .at-most .result) (c .at-most .ensures))
 
 id-at-requires : tie.Need-id-at-requires Inv-loop μ-loop
 id-at-requires c κs = search needs
@@ -41,8 +41,8 @@ returns c =
     let s = c .before .before .before .before .before .before .before .before .before .args in
     let l = c .before .before .before .before .before .before .loop in
     let test = eq-eqb _ _ (sym (ap number (c .before .before .before .before .id-at .ensures)) ∙ c .before .if1 .taken) in
-    ap Known (c .float-at .ensures ∙ sym (ap (λ (x : Node). x .level) (row-is 21 nodeOf (s .nodes .now) (l .i))))
-    ∙ ap nodeLevel (seek-hit 21 nodeOf (isNode (s .id)) (s .nodes .now) (s .n) (c .before .before .before .before .before .before .before .at-most .result) (l .inv .0) (l .i) (c .before .before .before .before .before .loop-test .taken) (l .inv .1) test)
+    ap Known (c .float-at .ensures ∙ sym (ap (λ (x : Node). x .level) (row-is 22 nodeOf (s .nodes .now) (l .i))))
+    ∙ ap nodeLevel (seek-hit 22 nodeOf (isNode (s .id)) (s .nodes .now) (s .n) (c .before .before .before .before .before .before .before .at-most .result) (l .inv .0) (l .i) (c .before .before .before .before .before .loop-test .taken) (l .inv .1) test)
 
 add-i : tie.Need-add-i Inv-loop μ-loop
 add-i c = search needs
@@ -55,13 +55,13 @@ loop-again c =
     let s = c .before .before .before .before .before .before .before .before .args in
     let l = c .before .before .before .before .before .loop in
     let test = ne-eqb _ _ (λ q. c .if1 .left (ap number (c .before .before .before .id-at .ensures) ∙ q)) in
-    (l .inv .0, seek-next 21 nodeOf (isNode (s .id)) (s .nodes .now) (s .n) (c .before .before .before .before .before .before .at-most .result) (l .inv .0) (l .i) (c .before .before .before .before .loop-test .taken) (l .inv .1) test)
+    (l .inv .0, seek-next 22 nodeOf (isNode (s .id)) (s .nodes .now) (s .n) (c .before .before .before .before .before .before .at-most .result) (l .inv .0) (l .i) (c .before .before .before .before .loop-test .taken) (l .inv .1) test)
 
 returns-2 : tie.Need-returns-2 Inv-loop μ-loop
 returns-2 c =
     let s = c .before .before .before .before .args in
     let l = c .before .loop in
-    ap nodeLevel (seek-none 21 nodeOf (isNode (s .id)) (s .nodes .now) (s .n) (c .before .before .at-most .result) (l .inv .0) (l .i) (c .loop-test .left) (l .inv .1))
+    ap nodeLevel (seek-none 22 nodeOf (isNode (s .id)) (s .nodes .now) (s .n) (c .before .before .at-most .result) (l .inv .0) (l .i) (c .loop-test .left) (l .inv .1))
 
 pub node-level-spec : {M : Type 1} → statement M
 node-level-spec =
