@@ -1,0 +1,4 @@
+pub mod Story
+pub mod Agree
+pub mod Isolated
+pub mod Store
