@@ -59,7 +59,7 @@ module _ (bus : NodeId) where
       let r = in-map (raiseNoise bus) ns x i in
       (r .0, r .1, (ap (λ (z : Node). z .id .0) (r .2) ∙ raise-id (r .0), ap (λ (z : Node). z .owner .0) (r .2) ∙ raise-same (λ (x : Node). x .owner .0) (λ k n. refl) (r .0)))
 
-  listed-raised : {ns : List Node} {nx nv : ℕ} → Listed ns nx nv → Listed (noiseRaised bus ns) nx nv
+  pub listed-raised : {ns : List Node} {nx nv : ℕ} → Listed ns nx nv → Listed (noiseRaised bus ns) nx nv
   listed-raised {ns} l =
       record {
         rises = rises-map (λ (x : Node). x .id .0) (raiseNoise bus) raise-id 0 ns (l .rises);

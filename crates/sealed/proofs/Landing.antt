@@ -22,14 +22,15 @@ use Rattle.lists.proofs.Count.{count-filter, count-filter-lt, count-snoc, count
 use Rattle.edges.specs.Wiring.{endsAt, dropAt, wired}
 use Rattle.edges.specs.Ports.{feeds}
 use Rattle.graph.specs.View.{GraphView}
-use Rattle.graph.specs.Node.{ownedBy, nodeAt, portsOf}
+use Rattle.graph.specs.Node.{ownedBy, nodeAt, portsOf, raiseNoise, noiseRaised}
 use Rattle.node.specs.Node.{withId}
 use Rattle.synthdef.specs.Tables.{nodeRows, edgeRows}
 use Rattle.synthdef.specs.Limits.{allowed}
 use Rattle.model.specs.Voice.{id, isVoice, isTracked, feeder, withState, beginFade, counted}
-use Rattle.model.specs.Spawn.{Spawn, pans, Wire, wire, defWire, voiceNodes, voiceWires, voiceOut, appendAll, wireAll, newVoice, nextVoice, stateUnder, tries, fadeNode, fadeOf}
+use Rattle.model.specs.Spawn.{Spawn, pans, Wire, wire, defWire, voiceNodes, voiceWires, voiceOut, appendAll, wireAll, raised, newVoice, nextVoice, stateUnder, tries, fadeNode, fadeOf}
 use Rattle.ledger.specs.Holder.{Holder, Holders, nobody, host, voice, isHeld, byVoice, hold}
-use Rattle.ledger.specs.Ledger.{Ledger, portFree, portHeld, cutOff, stolen, stealVoice, instantiate, placeWithinBudget, admitted, admissionOn}
+use Rattle.ledger.proofs.Raised.{raise-same, owner-raised, ports-raised, listed-raised, sound-raised}
+use Rattle.ledger.specs.Ledger.{Ledger, lowestPort, portFree, portHeld, cutOff, stolen, stealVoice, instantiate, placeWithinBudget, admitted, admissionOn}
 use Rattle.ledger.proofs.Preserved.{place-kept}
 use Rattle.ledger.proofs.Managed.{managed-kept}
 use Rattle.ledger.proofs.Victim.{nextOut-in}
@@ -44,7 +45,7 @@ use Rattle.ledger.proofs.Spawns.{InvariantOf, ids-of, cut-off}
 use Rattle.sealed.proofs.Counting.{count-weaker}
 use Rattle.sealed.specs.declared.profile.Profile.{Profile}
 use Rattle.sealed.proofs.Live.{wired-nodes}
-use Rattle.sealed.proofs.Within.{ownedN, isOwner, fromOwner, fades, Within, WithinL, within-gone'}
+use Rattle.sealed.proofs.Within.{ownedN, isOwner, fromOwner, fades, Within, WithinL, within-gone', count-mapped}
 use Rattle.node.specs.declared.record.NodeId.{NodeId}
 use Rattle.node.specs.declared.record.VoiceId.{VoiceId}
 use Rattle.node.specs.declared.record.Node.{Node}
@@ -155,11 +156,33 @@ free-holds b q k h v p free mine = go (ℕ-discrete p q)
     go (yes e) = absurd (false≢true (sym free ∙ ap (λ n. isHeld (h (b .0) n)) (sym e) ∙ held (h (b .0) p) mine))
     go (no e) = rw (eq-eqb (b .0) (b .0) refl, ne-eqb p q e) mine
 
+-- the bus counts one voice more: nodes and edges are the same owners'
+within-raised : {s : Profile} {ns : List Node} {es : List Edge} {nx nv : ℕ} {vs : List Voice} {h : Holders} (bus : NodeId) → Within s ns es nx nv vs h → Within s (noiseRaised bus ns) es nx nv vs h
+within-raised {s} {ns} {es} bus r =
+    record {
+      listed = listed-raised bus (r .listed);
+      positive = r .positive;
+      bus = owner-raised bus ns (s .bus .0) ∙ r .bus;
+      ports = ports-raised bus ns (s .bus .0) ∙ r .ports;
+      on = r .on;
+      holds = r .holds;
+      hosts = same 0 ∙ r .hosts;
+      nodes = λ v i. omega (arith, r .nodes v i, same (v .id .0));
+      wires = omega (arith, r .wires, less 0);
+      edges = λ v i. omega (arith, r .edges v i, less (v .id .0));
+    }
+  where
+    same : (j : ℕ) → count (ownedN j) (noiseRaised bus ns) ≡ count (ownedN j) ns
+    same j = count-mapped (ownedN j) (raiseNoise bus) ns (λ x i. ap (λ n. eqb n j) (raise-same bus (λ (y : Node). y .owner .0) (λ k n. refl) x))
+
+    less : (j : ℕ) → count (fromOwner (noiseRaised bus ns) j) es ≤ count (fromOwner ns j) es
+    less j = count-weaker (fromOwner (noiseRaised bus ns) j) (fromOwner ns j) es (λ d q t. sym (ap (λ u. isOwner u j) (owner-raised bus ns (d .from .0))) ∙ t)
+
 -- a spawn, on the sealed bus
 abbrev pub onBus : NodeId → Spawn → Spawn
 onBus b x = record { def = x .def; bus = b; pan = x .pan; rank = x .rank }
 
-module _ (s : Profile) (y : Spawn) (ok : allowed (y .def) ≡ true) (small : y .def .nodes .count ≤ s .«def_nodes») (few : y .def .edges .count ≤ s .«def_edges») (t : VoiceState) (l : Ledger) (sound : InvariantOf l) (r : WithinL s l)
+module _ (s : Profile) (y : Spawn) (ok : allowed (y .def) ≡ true) (small : y .def .nodes .count ≤ s .«def_nodes») (few : y .def .edges .count ≤ s .«def_edges») (t : VoiceState) (l : Ledger) (sound₀ : InvariantOf l) (r₀ : WithinL s l)
     (p : ℕ) (free : portFree (s .bus) l ≡ some p) where
   abbrev x : Spawn
   x = onBus (s .bus) y
@@ -171,10 +194,16 @@ module _ (s : Profile) (y : Spawn) (ok : allowed (y .def) ≡ true) (small : y .
   pan = pans (y .pan)
 
   abbrev g : GraphView
-  g = l .shared .graph
+  g = raised (s .bus) (l .shared .graph)
 
   abbrev nv : ℕ
   nv = l .shared .spawned
+
+  sound : Invariant (g .nodes) (g .edges) (g .next) nv (l .voices) (l .holders)
+  sound = sound-raised (s .bus) sound₀
+
+  r : Within s (g .nodes) (g .edges) (g .next) nv (l .voices) (l .holders)
+  r = within-raised (s .bus) r₀
 
   abbrev k : VoiceId
   k = nextVoice (l .shared)
@@ -213,7 +242,8 @@ module _ (s : Profile) (y : Spawn) (ok : allowed (y .def) ≡ true) (small : y .
   v = newVoice x t p (l .shared)
 
   lowest : (0 ≤ p) × (p < 0 + portsAt (g .nodes) (s .bus .0)) × (not (isHeld (l .holders (s .bus .0) p)) ≡ true)
-  lowest = lowest-some (portsAt (g .nodes) (s .bus .0)) (λ p. not (isHeld (l .holders (s .bus .0) p))) 0 p free
+  lowest = lowest-some (portsAt (g .nodes) (s .bus .0)) (λ p. not (isHeld (l .holders (s .bus .0) p))) 0 p
+      (ap (λ n. lowestPort n (λ p. not (isHeld (l .holders (s .bus .0) p))) 0) (ports-raised (s .bus) (l .shared .graph .nodes) (s .bus .0)) ∙ free)
 
   -- nodes of an owner
   nodes-old : (j : ℕ) → j ≤ nv → count (ownedN j) ns' ≡ count (ownedN j) (g .nodes)

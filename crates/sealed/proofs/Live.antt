@@ -13,10 +13,11 @@ use Rattle.lists.proofs.Find.{find-in}
 use Rattle.lists.specs.Filter.{filter}
 use Rattle.lists.proofs.Filter.{in-filter, filter-in}
 use Rattle.graph.specs.View.{GraphView}
-use Rattle.graph.specs.Node.{isNode, ownedBy, nodeAt, hostNode, replaced}
+use Rattle.graph.specs.Node.{isNode, ownedBy, nodeAt, hostNode, replaced, noiseRaised}
+use Rattle.ledger.proofs.Raised.{in-raised}
 use Rattle.node.specs.Node.{withId}
 use Rattle.model.specs.Voice.{id, isVoice, beginFade, moved}
-use Rattle.model.specs.Spawn.{Spawn, pans, Wire, voiceNodes, voiceWires, appendAll, wireAll, newVoice, nextVoice, stateUnder, tries, fadeNode, fadeOf}
+use Rattle.model.specs.Spawn.{Spawn, pans, Wire, voiceNodes, voiceWires, appendAll, wireAll, newVoice, nextVoice, stateUnder, tries, fadeNode, fadeOf, raised}
 use Rattle.model.specs.Render.{isSounding}
 use Rattle.model.specs.Call.{Call}
 use Rattle.ledger.specs.Ledger.{Ledger, newLedger, portFree, portHeld, withoutVoice, cutOff, stolen, stealVoice, instantiate, instantiateOr, placeWithinBudget, refused}
@@ -85,14 +86,18 @@ pub wired-nodes : (base : ℕ) (ws : List Wire) (g : GraphView) → wireAll base
 wired-nodes base [] g = refl
 wired-nodes base (w ∷ ws) g = wired-nodes base ws (change.connect g (id (base + w .from)) (id (base + w .to)) (w .port))
 
+-- a bus counts one voice more
+live-raised : (bus : NodeId) (ns : List Node) (vs : List Voice) → Live ns vs → Live (noiseRaised bus ns) vs
+live-raised bus ns vs h x i = let r = in-raised bus ns x i in ⊎-elim (λ a. inl (r .2 .1 ∙ a)) (λ q. inr (q .0, q .1, q .2 ∙ sym (r .2 .1))) (h (r .0) (r .1))
+
 pub live-land : (x : Spawn) (s : VoiceState) (p : ℕ) (l : Ledger) → LiveOf l → LiveOf (instantiate x s p l .ledger)
 live-land x s p l h n i =
-    ⊎-elim (λ j. more-voices (l .voices) (l .voices ++ (v ∷ [])) (λ u k. (u, in-left (l .voices) (v ∷ []) u k, refl)) n (h n j))
+    ⊎-elim (λ j. more-voices (l .voices) (l .voices ++ (v ∷ [])) (λ u k. (u, in-left (l .voices) (v ∷ []) u k, refl)) n (live-raised (x .bus) (l .shared .graph .nodes) (l .voices) h n j))
     (λ r. inr (v, in-right (l .voices) (v ∷ []) v (inl refl), sym (r .2 ∙ nodes-owned (nextVoice (l .shared)) (x .def) (pans (x .pan)) (r .0) (r .1))))
     (in-grown xs g n (subst (λ ns. In n ns) (wired-nodes (g .next) (voiceWires (x .def) (pans (x .pan))) (appendAll g xs)) i))
   where
     g : GraphView
-    g = l .shared .graph
+    g = raised (x .bus) (l .shared .graph)
 
     v : Voice
     v = newVoice x s p (l .shared)

@@ -85,7 +85,7 @@ count-kept {A} q t (x ∷ l) h = go (q x) refl (t x) refl (count-kept q t l h)
     go false e true f ih = rw e ih
     go false e false f ih = ih
 
-count-mapped : {A : Type 0} (q : A → Bool) (f : A → A) (l : List A) → ((x : A) → In x l → q (f x) ≡ q x) → count q (map f l) ≡ count q l
+pub count-mapped : {A : Type 0} (q : A → Bool) (f : A → A) (l : List A) → ((x : A) → In x l → q (f x) ≡ q x) → count q (map f l) ≡ count q l
 count-mapped q f [] h = refl
 count-mapped q f (x ∷ l) h = rw (h x (inl refl), count-mapped q f l (λ y i. h y (inr i)))
 
