@@ -1,12 +1,11 @@
 -- Which refusal the tests give, as they came out.
-use mathlib.Core.Path.{_≡_, refl, sym, ap, _∙_}
-use mathlib.Core.Bool.{Bool, true, false, _&&_, cond}
+use mathlib.Core.Path.{_≡_, sym, ap, _∙_}
+use mathlib.Core.Bool.{Bool, true, false, _&&_}
 use mathlib.Core.List.{List}
 use mathlib.Core.Option.{Option, none, some}
 use lib.IntN.{ℤ}
 use Rattle.node.specs.declared.refusal.Refusal.{Refusal}
 use Rattle.node.specs.declared.refusal.Refusal.the-variants.{LentBlock, OutOfRange}
-use Rattle.bus.specs.declared.Written.{Written}
 use Rattle.whole_bus.specs.Block.{refusalOf, answerOf, leftBy}
 
 -- the sizes do not fit

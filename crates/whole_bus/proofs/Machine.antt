@@ -1,24 +1,20 @@
 -- The machine's words for signed numbers: a local holds bits, and what is computed is read back from them. Where each result fits its width, that is the number itself.
 --     the faded sample, step by step, as `faded_sample` works it out
-use Prim.Native.Nat.{ℕ, _+_, _*_, _^_, _≤_, _<_}
-use native.Mathlib.Nat.{mul-le-mul-left, lt-of-le-of-lt}
+use Prim.Native.Nat.{ℕ, _+_, _*_, _/_, _^_, _≤_, _<_}
+use native.Mathlib.Nat.{add-mul, mul-le-mul-left, mul-le-mul-right, le-trans, le-of-lt}
 use native.Mathlib.Omega.{arith}
-use mathlib.Core.Path.{_≡_, refl, sym, ap, _∙_, subst}
-use mathlib.Core.Bool.{Bool, true, false}
+use mathlib.Core.Path.{_≡_, sym, ap, _∙_, subst}
 use lib.Dec.{T, leb→le}
-use lib.IntN.{ℤ, pos, _+ℤ_, _*ℤ_}
-use lib.Signed.{mag, shrZ}
+use lib.IntN.{ℤ, pos, natAbs, negℤ, _+ℤ_, _-ℤ_, _*ℤ_}
+use lib.Signed.{nonNeg}
 use mir.Syntax.{w32, w64}
-use mir.Val.{SFits, toZ, ofZ}
+use mir.Val.{Fits, SFits, toZ, ofZ}
 use mir.ValLaws.{toZ-ofZ, toZ-pos}
-use Rattle.whole_bus.specs.Sample.{isSample, full, isGain, half, fadedSample}
-use Rattle.whole_bus.proofs.Whole.{over, under, mag-below, mag-is, add-within, over-times, under-times}
-use Rattle.whole_bus.proofs.Rounding.{sample-is, faded-range}
+use Rattle.whole_bus.specs.Sample.{isSample, full, isGain, half, Nearest, fadedSample}
+use Rattle.whole_bus.proofs.Whole.{over, under, le-of, lt-of, mag-below, add-is, add-within, negative, over-times, under-times, raised, raised-is, raised-counts, difference}
+use Rattle.whole_bus.proofs.Rounding.{sample-is, faded-nearest, nearest-only, faded-range}
 
--- a number within a bound fits every width that holds the bound
-pub fits : (z : ℤ) → over z < 2 ^ 63 → under z ≤ 2 ^ 63 → SFits w64 z
-fits z o u = record { sfits = mag-below z (2 ^ 63) o u }
-
+-- a number within the bounds of 32 bits fits them
 pub fits-32 : (z : ℤ) → over z < 2 ^ 31 → under z ≤ 2 ^ 31 → SFits w32 z
 fits-32 z o u = record { sfits = mag-below z (2 ^ 31) o u }
 
@@ -26,77 +22,115 @@ fits-32 z o u = record { sfits = mag-below z (2 ^ 31) o u }
 pub added-read : (a x : ℤ) → SFits w32 a → SFits w32 x → toZ w32 (ofZ w32 a) +ℤ toZ w32 (ofZ w32 x) ≡ a +ℤ x
 added-read a x f g = ap (λ (z : ℤ). z +ℤ toZ w32 (ofZ w32 x)) (toZ-ofZ w32 a f) ∙ ap (λ (z : ℤ). a +ℤ z) (toZ-ofZ w32 x g)
 
--- what `faded_sample` reads back: the sample, the product, the product and half a step, the quotient
-abbrev sampleRead : ℤ → ℤ
-sampleRead x = toZ w64 (ofZ w64 (toZ w32 (ofZ w32 x)))
+-- two numbers without a sign that fit 31 bits, and the second taken off the first
+pub small-fits : (a : ℕ) → a < 2 ^ 31 → SFits w32 (pos a)
+small-fits a h = record { sfits = h }
 
-abbrev productRead : ℤ → ℕ → ℤ
-productRead x g = toZ w64 (ofZ w64 (sampleRead x *ℤ toZ w64 g))
+less-is : (a b : ℕ) → a < 2 ^ 31 → b < 2 ^ 31 → toZ w32 a -ℤ toZ w32 b ≡ pos a -ℤ pos b
+less-is a b h k = ap (λ (z : ℤ). z -ℤ toZ w32 b) (toZ-pos w32 a h) ∙ ap (λ (z : ℤ). pos a -ℤ z) (toZ-pos w32 b k)
 
-abbrev sumRead : ℤ → ℕ → ℤ
-sumRead x g = toZ w64 (ofZ w64 (productRead x g +ℤ pos half))
+pub less-fits : (a b : ℕ) → a < 2 ^ 31 → b < 2 ^ 31 → SFits w32 (toZ w32 a -ℤ toZ w32 b)
+unfolding over under
+less-fits a b h k =
+    let w = add-within (pos a) (negℤ (pos b)) in
+    let n = negative b in
+    subst (SFits w32) (sym (less-is a b h k)) (fits-32 (pos a -ℤ pos b) (omega (arith, n .0, n .1)) (omega (arith, n .0, n .1)))
 
-abbrev quotientRead : ℤ → ℕ → ℤ
-quotientRead x g = toZ w64 (ofZ w64 (shrZ (sumRead x g) full))
+pub less-read : (a b : ℕ) → a < 2 ^ 31 → b < 2 ^ 31 → toZ w32 (ofZ w32 (toZ w32 a -ℤ toZ w32 b)) ≡ pos a -ℤ pos b
+less-read a b h k = toZ-ofZ w32 _ (less-fits a b h k) ∙ less-is a b h k
+
+-- what `faded_sample` works with: the sample raised by full gain, and the quotient, from which the gain is to be taken off
+abbrev lifted : ℤ → ℕ
+lifted x = raised full x
+
+abbrev quotient : ℤ → ℕ → ℕ
+quotient x g = (lifted x * g + half) / full
+
+-- the quotient less the gain lies next to the exact product, as the faded sample does
+pub lifted-nearest : (x : ℤ) (g : ℕ) → under x ≤ full → Nearest x g (pos (quotient x g) -ℤ pos g)
+unfolding over under
+lifted-nearest x g u =
+    let r = pos (quotient x g) -ℤ pos g in
+    let z = x *ℤ pos g in
+    let a = z +ℤ pos half in
+    let lift : lifted x * g + under x * g ≡ over x * g + full * g =
+    sym (add-mul (lifted x) (under x) g) ∙ ap (λ (n : ℕ). n * g) (raised-counts full x u) ∙ add-mul (over x) full g in
+    let both = go (lifted x * g) (over x * g) (under x * g) g (over r) (under r) (over z) (under z) (over a) (under a) _ _ _ _ lift (difference (quotient x g) g)
+    (over-times x g) (under-times x g) (add-is z (pos half)) (add-is (r *ℤ pos full) (pos half)) (over-times r full) (under-times r full) in
+    record { above = record { le = le-of (r *ℤ pos full) a (both .0) }; below = record { lt = lt-of z (r *ℤ pos full +ℤ pos half) (both .1) } }
+  where
+    go : (l ox ux g or ur oz uz oa ua op up os us : ℕ) → l + ux ≡ ox + full * g → or + g ≡ (l + half) / full + ur → oz ≡ ox → uz ≡ ux
+        → oa + uz + 0 ≡ oz + half + ua → os + up + 0 ≡ op + half + us → op ≡ or * full → up ≡ ur * full
+        → (op + ua ≤ oa + up) × (oz + us < os + uz)
+    go l ox ux g or ur oz uz oa ua op up os us a b c d e f h i = (omega arith, omega arith)
 
 module _ (x : ℤ) (g : ℕ) (inside : T (isSample x)) (gain : T (isGain g)) where
+  low : under x ≤ full
+  low = let w = sample-is x inside in omega arith
+
+  small : g ≤ full
+  small = leb→le g full gain
+
   narrow : SFits w32 x
   narrow = let w = sample-is x inside in fits-32 x (omega arith) (omega arith)
 
-  pub wide : SFits w64 x
-  wide = let w = sample-is x inside in fits x (omega arith) (omega arith)
+  -- the raised sample, which needs 25 bits
+  lifted-small : lifted x < 2 ^ 25
+  lifted-small = let w = sample-is x inside in let n = raised-counts full x low in omega arith
 
-  read-x : sampleRead x ≡ x
-  read-x = ap (λ (z : ℤ). toZ w64 (ofZ w64 z)) (toZ-ofZ w32 x narrow) ∙ toZ-ofZ w64 x wide
+  sum-is : toZ w32 (ofZ w32 x) +ℤ pos full ≡ pos (lifted x)
+  sum-is = ap (λ (z : ℤ). z +ℤ pos full) (toZ-ofZ w32 x narrow) ∙ raised-is full x low
 
-  read-g : toZ w64 g ≡ pos g
-  read-g = toZ-pos w64 g (let s = leb→le g full gain in omega arith)
+  pub lifted-fits : SFits w32 (toZ w32 (ofZ w32 x) +ℤ pos full)
+  lifted-fits = subst (SFits w32) (sym sum-is) (record { sfits = omega (arith, lifted-small) })
 
-  bounds : (over (x *ℤ pos g) < 2 ^ 47) × (under (x *ℤ pos g) ≤ 2 ^ 47)
-  bounds =
-      let w = sample-is x inside in
-      let s = leb→le g full gain in
-      let most : over x * g ≤ over x * full = mul-le-mul-left (over x) s in
-      let least : under x * g ≤ under x * full = mul-le-mul-left (under x) s in
-      (omega (arith, over-times x g), omega (arith, under-times x g))
+  read-lifted : toZ w32 (ofZ w32 (toZ w32 (ofZ w32 x) +ℤ pos full)) ≡ pos (lifted x)
+  read-lifted = toZ-ofZ w32 _ lifted-fits ∙ sum-is
 
-  product : SFits w64 (x *ℤ pos g)
-  product = fits (x *ℤ pos g) (omega (arith, bounds .0)) (omega (arith, bounds .1))
+  -- as a number without a sign
+  abbrev liftedRead : ℕ
+  liftedRead = natAbs (toZ w32 (ofZ w32 (toZ w32 (ofZ w32 x) +ℤ pos full)))
 
-  with-half : SFits w64 (x *ℤ pos g +ℤ pos half)
-  unfolding over under
-  with-half =
-      let w = add-within (x *ℤ pos g) (pos half) in
-      fits (x *ℤ pos g +ℤ pos half) (omega (arith, bounds .0)) (omega (arith, bounds .1))
+  pub unsigned : T (nonNeg (toZ w32 (ofZ w32 (toZ w32 (ofZ w32 x) +ℤ pos full)))) × Fits w32 liftedRead
+  unsigned = subst (λ (z : ℤ). T (nonNeg z) × Fits w32 (natAbs z)) (sym read-lifted) (tt, record { fits = omega (arith, lifted-small) })
 
-  read-product : productRead x g ≡ x *ℤ pos g
-  read-product = ap (λ (z : ℤ). toZ w64 (ofZ w64 z)) (ap (λ (z : ℤ). z *ℤ toZ w64 g) read-x ∙ ap (λ (z : ℤ). x *ℤ z) read-g) ∙ toZ-ofZ w64 (x *ℤ pos g) product
+  lifted-read : liftedRead ≡ lifted x
+  lifted-read = ap natAbs read-lifted
 
-  read-sum : sumRead x g ≡ x *ℤ pos g +ℤ pos half
-  read-sum = ap (λ (z : ℤ). toZ w64 (ofZ w64 (z +ℤ pos half))) read-product ∙ toZ-ofZ w64 (x *ℤ pos g +ℤ pos half) with-half
+  pub widened : Fits w64 liftedRead
+  widened = subst (Fits w64) (sym lifted-read) (record { fits = omega (arith, lifted-small) })
+
+  product : lifted x * g ≤ 2 ^ 25 * full
+  product = le-trans (mul-le-mul-left (lifted x) small) (mul-le-mul-right full (le-of-lt lifted-small))
+
+  pub product-fits : Fits w64 (liftedRead * g)
+  product-fits = subst (λ (n : ℕ). Fits w64 (n * g)) (sym lifted-read) (record { fits = omega (arith, product) })
+
+  pub sum-fits : Fits w64 (liftedRead * g + half)
+  sum-fits = subst (λ (n : ℕ). Fits w64 (n * g + half)) (sym lifted-read) (record { fits = omega (arith, product) })
+
+  quotient-small : quotient x g < 2 ^ 31
+  quotient-small = omega (arith, product)
+
+  pub narrowed : SFits w32 (pos ((liftedRead * g + half) / full))
+  narrowed = subst (λ (n : ℕ). SFits w32 (pos ((n * g + half) / full))) (sym lifted-read) (record { sfits = quotient-small })
+
+  pub gain-fits : SFits w32 (pos g)
+  gain-fits = record { sfits = let s = small in omega arith }
+
+  -- the difference is the faded sample
+  difference-is : toZ w32 ((liftedRead * g + half) / full) -ℤ toZ w32 g ≡ fadedSample x g
+  difference-is =
+      ap (λ (n : ℕ). toZ w32 ((n * g + half) / full) -ℤ toZ w32 g) lifted-read
+      ∙ ap (λ (z : ℤ). z -ℤ toZ w32 g) (toZ-pos w32 (quotient x g) quotient-small)
+      ∙ ap (λ (z : ℤ). pos (quotient x g) -ℤ z) (toZ-pos w32 g (let s = small in omega arith))
+      ∙ nearest-only x g _ _ (lifted-nearest x g low) (faded-nearest x g)
 
   ends : SFits w32 (fadedSample x g)
   ends = let w = sample-is (fadedSample x g) (faded-range x g inside gain) in fits-32 (fadedSample x g) (omega arith) (omega arith)
 
-  long-ends : SFits w64 (fadedSample x g)
-  long-ends = let w = sample-is (fadedSample x g) (faded-range x g inside gain) in fits (fadedSample x g) (omega arith) (omega arith)
+  pub difference-fits : SFits w32 (toZ w32 ((liftedRead * g + half) / full) -ℤ toZ w32 g)
+  difference-fits = subst (SFits w32) (sym difference-is) ends
 
-  read-shift : quotientRead x g ≡ fadedSample x g
-  unfolding fadedSample
-  read-shift = ap (λ (z : ℤ). toZ w64 (ofZ w64 (shrZ z full))) read-sum ∙ toZ-ofZ w64 (fadedSample x g) long-ends
-
-  -- what the needs of `faded_sample` ask, in their order: the sample is widened, the product and the sum fit, the quotient is narrowed, and that is the faded sample
-  pub widened : SFits w64 (toZ w32 (ofZ w32 x))
-  widened = subst (SFits w64) (sym (toZ-ofZ w32 x narrow)) wide
-
-  pub product-fits : SFits w64 (sampleRead x *ℤ toZ w64 g)
-  product-fits = subst (SFits w64) (sym (ap (λ (z : ℤ). z *ℤ toZ w64 g) read-x ∙ ap (λ (z : ℤ). x *ℤ z) read-g)) product
-
-  pub sum-fits : SFits w64 (productRead x g +ℤ pos half)
-  sum-fits = subst (SFits w64) (sym (ap (λ (z : ℤ). z +ℤ pos half) read-product)) with-half
-
-  pub narrowed : SFits w32 (quotientRead x g)
-  narrowed = subst (SFits w32) (sym read-shift) ends
-
-  pub read-faded : toZ w32 (ofZ w32 (quotientRead x g)) ≡ fadedSample x g
-  read-faded = ap (λ (z : ℤ). toZ w32 (ofZ w32 z)) read-shift ∙ toZ-ofZ w32 (fadedSample x g) ends
+  pub read-faded : toZ w32 (ofZ w32 (toZ w32 ((liftedRead * g + half) / full) -ℤ toZ w32 g)) ≡ fadedSample x g
+  read-faded = toZ-ofZ w32 _ difference-fits ∙ difference-is

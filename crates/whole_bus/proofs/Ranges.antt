@@ -1,29 +1,30 @@
 -- The tests of the ranges.
---     above-is, full-is       what `above_lowest` and `below_full` give is below 2^24 for a sample and a gain, and for no other number
+--     above-is                `above_lowest` gives how far a number lies above the lowest sample
+--     above-tells, full-is    what `above_lowest` and `below_full` give is below 2^24 for a sample and a gain, and for no other number
 --     Collected               the bits of the numbers before i are collected, and with the test of the rest they make the test of all
 --     every-at, every-part    what holds of all holds of each, and of each of a part
-use Prim.Native.Nat.{ℕ, zero, suc, _+_, _-_, _*_, _/_, _%_, _^_, _≤_, _<_}
-use native.Mathlib.Nat.{le-of-suc-le-suc}
+use Prim.Native.Nat.{ℕ, zero, suc, _+_, _-_, _/_, _%_, _^_, _≤_, _<_}
 use native.Mathlib.Numerals.{add-one}
 use native.Mathlib.Omega.{arith}
 use mathlib.Core.Path.{_≡_, refl, sym, ap, _∙_, subst}
-use mathlib.Core.Bool.{Bool, true, false, _&&_, cond}
+use mathlib.Core.Bool.{Bool, true, false, _&&_}
 use mathlib.Core.List.{List, [], _∷_}
-use lib.Bits.{bitOr, bitAnd, or-lt, or-add-and, and-le-l, and-le-r}
+use lib.Bits.{bitOr, or-lt, or-add-and, and-le-l, and-le-r}
 use lib.Dec.{T, leb, ltb}
-use lib.IntN.{ℤ, pos, negsuc, natAbs, subℕ, _+ℤ_}
+use lib.IntN.{ℤ, pos, negsuc, natAbs, _+ℤ_}
 use lib.Ieee.Fits.{and-l, and-r, and-i}
 use lib.ListN.{length, getD, take, drop, drop-of-length-le}
 use lib.Seq.{drop-cons}
 use lib.Signed.{nonNeg, mag}
+use borrow.Author.Needs.{zero≤}
+use borrow.Author.Tests.{lt-ltb, le-ltb, leb-true, leb-false, ltb-true, ltb-false}
 use mir.Syntax.{w32, w64}
 use mir.Val.{Fits, SFits, toZ, ofZ}
 use mir.ValLaws.{toZ-ofZ}
-use borrow.Author.Needs.{zero≤}
-use borrow.Author.Tests.{lt-ltb, le-ltb, leb-true, leb-false, ltb-true, ltb-false}
-use Rattle.bus.specs.Fade.{gainAt}
 use Rattle.whole_bus.specs.Sample.{isSample, isGain, full}
 use Rattle.whole_bus.specs.Block.{every}
+use Rattle.whole_bus.specs.Raised.{aboveLowest}
+use Rattle.whole_bus.proofs.Whole.{mag-is, raised, raised-is}
 
 -- two tests that agree
 agree : (a b c d : ℕ) → (c ≤ d → a < b) → (d < c → b ≤ a) → ltb a b ≡ leb c d
@@ -33,7 +34,7 @@ agree a b c d under over = go (leb c d) refl
     go true e = lt-ltb a b (under (leb-true c d e))
     go false e = le-ltb a b (over (leb-false c d e))
 
-and-true : (b : Bool) → b ≡ b && true
+pub and-true : (b : Bool) → b ≡ b && true
 and-true true = refl
 and-true false = refl
 
@@ -48,15 +49,6 @@ full-is g = agree (g - g / 16777216) 16777216 g full (λ h. omega arith) (λ h. 
 abbrev raisedRead : ℤ → ℤ
 raisedRead x = toZ w64 (ofZ w64 (toZ w64 (ofZ w64 (toZ w32 (ofZ w32 x))) +ℤ pos 2147483648))
 
--- x and 2^31 are a number without a sign
-abbrev raised : ℤ → ℕ
-raised (pos a) = a + 2147483648
-raised (negsuc a) = 2147483648 - suc a
-
-raised-is : (x : ℤ) → mag x < 2 ^ 31 → x +ℤ pos 2147483648 ≡ pos (raised x)
-raised-is (pos a) h = refl
-raised-is (negsuc a) h = let e : ltb 2147483648 (suc a) ≡ false = le-ltb 2147483648 (suc a) h in simp e
-
 module _ (x : ℤ) (f : SFits w32 x) where
   within : mag x < 2 ^ 31
   within = f .sfits
@@ -67,31 +59,41 @@ module _ (x : ℤ) (f : SFits w32 x) where
   read-x : toZ w64 (ofZ w64 (toZ w32 (ofZ w32 x))) ≡ x
   read-x = toZ-ofZ w64 (toZ w32 (ofZ w32 x)) widened ∙ toZ-ofZ w32 x f
 
-  small : raised x < 2 ^ 32
+  small : raised 2147483648 x < 2 ^ 32
   small = below x within
     where
-      below : (x : ℤ) → mag x < 2 ^ 31 → raised x < 2 ^ 32
+      below : (x : ℤ) → mag x < 2 ^ 31 → raised 2147483648 x < 2 ^ 32
       below (pos a) h = omega arith
       below (negsuc a) h = omega arith
 
-  sum-is : toZ w64 (ofZ w64 (toZ w32 (ofZ w32 x))) +ℤ pos 2147483648 ≡ pos (raised x)
-  sum-is = ap (λ (z : ℤ). z +ℤ pos 2147483648) read-x ∙ raised-is x within
+  sum-is : toZ w64 (ofZ w64 (toZ w32 (ofZ w32 x))) +ℤ pos 2147483648 ≡ pos (raised 2147483648 x)
+  sum-is = ap (λ (z : ℤ). z +ℤ pos 2147483648) read-x ∙ raised-is 2147483648 x (mag-is x (2 ^ 31) within .1)
 
   pub sum-fits : SFits w64 (toZ w64 (ofZ w64 (toZ w32 (ofZ w32 x))) +ℤ pos 2147483648)
   sum-fits = subst (SFits w64) (sym sum-is) (record { sfits = omega (arith, small) })
 
-  read-raised : raisedRead x ≡ pos (raised x)
+  read-raised : raisedRead x ≡ pos (raised 2147483648 x)
   read-raised = toZ-ofZ w64 _ sum-fits ∙ sum-is
 
   pub unsigned : T (nonNeg (raisedRead x)) × Fits w32 (natAbs (raisedRead x))
   unsigned = subst (λ (z : ℤ). T (nonNeg z) × Fits w32 (natAbs z)) (sym read-raised) (tt, record { fits = small })
 
-  pub above-is : (r : ℕ) → r < 2 ^ 32 → (r + 2139095040) % 2 ^ 32 ≡ natAbs (raisedRead x) → ltb r 16777216 ≡ isSample x
+  pub above-is : (r : ℕ) → r < 2 ^ 32 → (r + 2139095040) % 2 ^ 32 ≡ natAbs (raisedRead x) → r ≡ aboveLowest x
+  unfolding aboveLowest
   above-is r h e = by-sign x within (e ∙ ap natAbs read-raised)
     where
-      by-sign : (x : ℤ) → mag x < 2 ^ 31 → (r + 2139095040) % 2 ^ 32 ≡ raised x → ltb r 16777216 ≡ isSample x
-      by-sign (pos a) w e = agree r 16777216 a 8388607 (λ l. omega arith) (λ l. omega arith)
-      by-sign (negsuc a) w e = agree r 16777216 a 8388607 (λ l. omega arith) (λ l. omega arith) ∙ and-true (leb a 8388607)
+      by-sign : (x : ℤ) → mag x < 2 ^ 31 → (r + 2139095040) % 2 ^ 32 ≡ raised 2147483648 x → r ≡ aboveLowest x
+      by-sign (pos a) w e = omega arith
+      by-sign (negsuc a) w e = omega arith
+
+  -- it is below 2^24 for a sample, and for no other number
+  pub above-tells : ltb (aboveLowest x) 16777216 ≡ isSample x
+  unfolding aboveLowest
+  above-tells = by-sign x within
+    where
+      by-sign : (x : ℤ) → mag x < 2 ^ 31 → ltb (aboveLowest x) 16777216 ≡ isSample x
+      by-sign (pos a) w = agree ((a + 8388608) % 4294967296) 16777216 a 8388607 (λ l. omega arith) (λ l. omega arith)
+      by-sign (negsuc a) w = agree ((4303355904 - suc a) % 4294967296) 16777216 a 8388607 (λ l. omega arith) (λ l. omega arith) ∙ and-true (leb a 8388607)
 
 -- ---- all of them
 
@@ -101,13 +103,13 @@ every-at f [] d t e i = t
 every-at f (x ∷ xs) d t e zero = and-l (f x) (every f xs) e
 every-at f (x ∷ xs) d t e (suc i) = every-at f xs d t (and-r (f x) (every f xs) e) i
 
-every-drop : {A : Type 0} (f : A → Bool) (k : ℕ) (xs : List A) → T (every f xs) → T (every f (drop k xs))
+pub every-drop : {A : Type 0} (f : A → Bool) (k : ℕ) (xs : List A) → T (every f xs) → T (every f (drop k xs))
 unfolding every
 every-drop f zero xs e = e
 every-drop f (suc k) [] e = e
 every-drop f (suc k) (x ∷ xs) e = every-drop f k xs (and-r (f x) (every f xs) e)
 
-every-take : {A : Type 0} (f : A → Bool) (k : ℕ) (xs : List A) → T (every f xs) → T (every f (take k xs))
+pub every-take : {A : Type 0} (f : A → Bool) (k : ℕ) (xs : List A) → T (every f xs) → T (every f (take k xs))
 unfolding every
 every-take f zero xs e = tt
 every-take f (suc k) [] e = e
@@ -116,18 +118,19 @@ every-take f (suc k) (x ∷ xs) e = and-i (f x) (every f (take k xs)) (and-l (f 
 pub every-part : {A : Type 0} (f : A → Bool) (j k : ℕ) (xs : List A) → T (every f xs) → T (every f (take j (drop k xs)))
 every-part f j k xs e = every-take f j (drop k xs) (every-drop f k xs e)
 
--- so the gain that goes with a sample is a gain
-pub gain-range : (gains : List ℕ) (len position i : ℕ) → T (every isGain gains) → T (isGain (gainAt 0 gains len position i))
-gain-range gains len position i e = go (ltb (position + i) len)
-  where
-    go : (b : Bool) → T (isGain (cond b (getD gains (position + i) 0) 0))
-    go true = every-at isGain gains 0 tt e (position + i)
-    go false = tt
+-- those from k on: the one at k, and those after it
+pub every-next : {A : Type 0} (f : A → Bool) (xs : List A) (k : ℕ) (d : A) → k < length xs → every f (drop k xs) ≡ f (getD xs k d) && every f (drop (k + 1) xs)
+unfolding every
+every-next f xs k d h = ap (every f) (drop-cons xs k d h ∙ ap (λ (j : ℕ). getD xs k d ∷ drop j xs) (sym (add-one k)))
+
+pub every-none : {A : Type 0} (f : A → Bool) (xs : List A) (k : ℕ) → length xs ≤ k → every f (drop k xs) ≡ true
+unfolding every
+every-none f xs k h = ap (every f) (drop-of-length-le xs h)
 
 -- ---- the loop over them
 
 -- the bits of two numbers are below 2^24 if both are
-either : (a b : ℕ) → ltb (bitOr a b) 16777216 ≡ ltb a 16777216 && ltb b 16777216
+pub either : (a b : ℕ) → ltb (bitOr a b) 16777216 ≡ ltb a 16777216 && ltb b 16777216
 either a b = go (ltb a 16777216) refl (ltb b 16777216) refl
   where
     go : (s : Bool) → ltb a 16777216 ≡ s → (t : Bool) → ltb b 16777216 ≡ t → ltb (bitOr a b) 16777216 ≡ s && t
@@ -144,14 +147,13 @@ module _ {A : Type 0} (f : A → Bool) (xs : List A) where
   collect-none = record { within = zero≤; tells = refl }
 
   pub collect-more : (bits i r : ℕ) (d : A) → Collected f xs bits i → i < length xs → ltb r 16777216 ≡ f (getD xs i d) → Collected f xs (bitOr bits r) (i + 1)
-  unfolding every
   collect-more bits i r d q h e =
       record {
         within = omega arith;
         tells =
             ap (λ (b : Bool). b && every f (drop (i + 1) xs)) (either bits r ∙ ap (λ (b : Bool). ltb bits 16777216 && b) e)
             ∙ together (ltb bits 16777216) (f (getD xs i d)) (every f (drop (i + 1) xs))
-            ∙ ap (λ (l : List A). ltb bits 16777216 && every f l) (sym (drop-cons xs i d h ∙ ap (λ (j : ℕ). getD xs i d ∷ drop j xs) (sym (add-one i))))
+            ∙ ap (λ (b : Bool). ltb bits 16777216 && b) (sym (every-next f xs i d h))
             ∙ q .tells;
       }
     where
@@ -160,5 +162,4 @@ module _ {A : Type 0} (f : A → Bool) (xs : List A) where
       together false b c = refl
 
   pub collect-all : (bits i : ℕ) → Collected f xs bits i → length xs ≤ i → ltb bits 16777216 ≡ every f xs
-  unfolding every
-  collect-all bits i q h = and-true (ltb bits 16777216) ∙ ap (λ (l : List A). ltb bits 16777216 && every f l) (sym (drop-of-length-le xs h)) ∙ q .tells
+  collect-all bits i q h = and-true (ltb bits 16777216) ∙ ap (λ (b : Bool). ltb bits 16777216 && b) (sym (every-none f xs i h)) ∙ q .tells

@@ -3,17 +3,17 @@
 --     faded-full, faded-silent      full gain changes nothing, and gain 0 leaves silence
 --     faded-range                   a faded sample is a sample
 --     clipped-range, clipped-same, clipped-low, clipped-high   a clipped number is a sample; it is the number itself, or else the end of the range on its side
-use Prim.Native.Nat.{ℕ, zero, suc, _+_, _*_, _/_, _≤_, _<_}
-use native.Mathlib.Nat.{mul-le-mul-left, mul-le-mul-right, mul-zero, le-trans}
+use Prim.Native.Nat.{ℕ, _+_, _*_, _≤_, _<_}
+use native.Mathlib.Nat.{mul-le-mul-left}
 use native.Mathlib.Omega.{arith}
 use mathlib.Core.Path.{_≡_, refl, sym, ap, _∙_, subst}
-use mathlib.Core.Bool.{Bool, true, false, not, _&&_, cond}
-use lib.Dec.{T, leb, leb→le}
+use mathlib.Core.Bool.{Bool, true, false, not, cond}
+use lib.Dec.{T, leb→le}
 use lib.IntN.{ℤ, pos, negsuc, _+ℤ_, _*ℤ_, *ℤ-zero}
-use lib.Signed.{mag, leZ, ltZ, shrZ, ltZ-no}
+use lib.Signed.{leZ, ltZ, shrZ, ltZ-no}
 use lib.Ieee.Fits.{and-l, and-r, and-i}
 use Rattle.whole_bus.specs.Sample.{lowest, highest, isSample, full, isGain, half, Nearest, fadedSample, clipped}
-use Rattle.whole_bus.proofs.Whole.{over, under, same, le-of, le-is, lt-of, lt-is, mag-below, mag-is, add-is, over-times, under-times}
+use Rattle.whole_bus.proofs.Whole.{over, under, same, le-of, le-is, lt-of, lt-is, add-is, over-times, under-times}
 
 -- ---- rounded down
 

@@ -1,10 +1,10 @@
 -- 02: "Both forms share the rule for which gain goes with which sample, shown for either." `gainAt` of crate `bus` is that rule, in any sort of number.
 --     float-rule, whole-rule   sample i of channel c of the output, in floats and in whole numbers: the same input sample, under the gain that the rule gives
 --     same-gain                with gains that are made of whole ones, as the fade table's are, the rule picks the gain that is made of the one it picks there
-use Prim.Native.Nat.{ℕ, zero, suc, _+_, _*_, _%_, _<_}
+use Prim.Native.Nat.{ℕ, _+_, _%_, _<_}
 use mathlib.Core.Path.{_≡_, refl}
 use mathlib.Core.Bool.{Bool, true, false, cond}
-use mathlib.Core.List.{List, [], _∷_, map}
+use mathlib.Core.List.{List, map}
 use lib.Dec.{ltb}
 use lib.IntN.{ℤ, pos}
 use lib.ListN.{getD, List·getD-map}

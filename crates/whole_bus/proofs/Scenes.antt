@@ -2,7 +2,7 @@
 use mathlib.Core.Path.{_≡_, refl}
 use mathlib.Core.List.{[], _∷_}
 use mathlib.Core.Option.{none, some}
-use lib.IntN.{ℤ, pos, negsuc}
+use lib.IntN.{pos, negsuc}
 use Rattle.node.specs.declared.refusal.Refusal.the-variants.{LentBlock, OutOfRange}
 use Rattle.bus.specs.Block.{each, blockOf}
 use Rattle.bus.specs.Sum.{channels, everyIsChannels, summedBy, sumFits}

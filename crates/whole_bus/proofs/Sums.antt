@@ -1,5 +1,5 @@
 -- The sum of a bus in whole numbers: after k inputs no sum is further from 0 than k times 2^23, so that 64 of them fit 32 bits.
-use Prim.Native.Nat.{ℕ, zero, suc, _+_, _*_, _^_, _≤_, _<_}
+use Prim.Native.Nat.{ℕ, _+_, _*_, _≤_, _<_}
 use native.Mathlib.Omega.{arith}
 use mathlib.Core.Path.{_≡_, refl, sym, ap, _∙_, subst}
 use mathlib.Core.Bool.{Bool, true, false}
@@ -7,9 +7,9 @@ use mathlib.Core.List.{List}
 use lib.Dec.{T, ltb}
 use lib.IntN.{ℤ, pos, _+ℤ_}
 use lib.ListN.{length, getD, List·getD-eq-default}
+use borrow.Author.Tests.{ltb-true, ltb-false}
 use mir.Syntax.{w32}
 use mir.Val.{SFits}
-use borrow.Author.Tests.{ltb-true, ltb-false}
 use Rattle.bus.specs.Block.{each}
 use Rattle.bus.proofs.Blocks.{length-each, each-at, each-same}
 use Rattle.whole_bus.specs.Sample.{isSample, half, clipped}

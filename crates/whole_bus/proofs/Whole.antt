@@ -1,13 +1,14 @@
 -- Whole numbers with their signs, by two numbers without: z is over z less under z, of which one is 0. So what is asked of their sums, products and orders is
 -- asked of numbers that `omega` reads.
-use Prim.Native.Nat.{ℕ, zero, suc, _+_, _*_, _-_, _/_, _≤_, _<_}
+use Prim.Native.Nat.{ℕ, zero, suc, _+_, _*_, _-_, _≤_, _<_}
 use native.Mathlib.Nat.{zero-mul}
 use native.Mathlib.Omega.{arith}
 use mathlib.Core.Path.{_≡_, refl, sym, ap, subst}
 use mathlib.Core.Bool.{Bool, true, false, not, cond}
-use lib.Dec.{T, leb, ltb, leb→le, le→leb, ltb→lt, lt→ltb, nltb→le}
-use lib.IntN.{ℤ, pos, negsuc, negℤ, subℕ, _+ℤ_, _*ℤ_}
-use lib.Signed.{mag, leZ, ltZ, shrZ, _≤ℤ_, _<ℤ_}
+use lib.Dec.{T, ltb, leb→le, le→leb, ltb→lt, lt→ltb, nltb→le}
+use lib.IntN.{ℤ, pos, negsuc, negℤ, subℕ, _+ℤ_, _-ℤ_, _*ℤ_}
+use lib.Signed.{mag, leZ, ltZ}
+use borrow.Author.Tests.{le-ltb}
 
 unfoldable pub over : ℤ → ℕ
 over (pos n) = n
@@ -101,7 +102,7 @@ add-within (negsuc a) (negsuc b) = (omega arith, omega arith)
 
 -- ---- products with a number that has no sign
 
-negative : (n : ℕ) → (over (negℤ (pos n)) ≡ 0) × (under (negℤ (pos n)) ≡ n)
+pub negative : (n : ℕ) → (over (negℤ (pos n)) ≡ 0) × (under (negℤ (pos n)) ≡ n)
 unfolding over under
 negative zero = (refl, refl)
 negative (suc n) = (refl, refl)
@@ -115,3 +116,24 @@ pub under-times : (z : ℤ) (g : ℕ) → under (z *ℤ pos g) ≡ under z * g
 unfolding under
 under-times (pos a) g = sym (zero-mul g)
 under-times (negsuc a) g = negative (suc a * g) .1
+
+-- ---- raised by a number without a sign, so that none is left
+
+abbrev pub raised : ℕ → ℤ → ℕ
+raised n (pos a) = a + n
+raised n (negsuc a) = n - suc a
+
+pub raised-is : (n : ℕ) (z : ℤ) → under z ≤ n → z +ℤ pos n ≡ pos (raised n z)
+unfolding under
+raised-is n (pos a) h = refl
+raised-is n (negsuc a) h = let e : ltb n (suc a) ≡ false = le-ltb n (suc a) h in simp e
+
+pub raised-counts : (n : ℕ) (z : ℤ) → under z ≤ n → raised n z + under z ≡ over z + n
+unfolding over under
+raised-counts n (pos a) h = omega arith
+raised-counts n (negsuc a) h = omega arith
+
+-- a difference of numbers without a sign
+pub difference : (a b : ℕ) → over (pos a -ℤ pos b) + b ≡ a + under (pos a -ℤ pos b)
+unfolding over under
+difference a b = let s = add-is (pos a) (negℤ (pos b)) in let n = negative b in omega (arith, n .0, n .1)

@@ -63,12 +63,17 @@ fn compare(repetitions: usize) {
     println!("{:82}{ratio:8.3}{:7.2}  {}", "port search of the store, 64 ports to 1 port", 1.5, kept(ratio, 1.5));
 }
 
+/// Both forms take turns, so that what else the machine does falls on either.
 fn compare_forms(repetitions: usize) {
     println!("\n{:54}{:>8}{:>10}{:>10}{:>8}{:>7}", "a block", "rounds", "floats µs", "whole µs", "ratio", "goal");
     for (name, rounds, floats, whole) in FORMS {
-        let (refused, first) = repeated(repetitions, || floats(rounds));
-        let (also, second) = repeated(repetitions, || whole(rounds));
-        assert_eq!((refused, also), (0, 0), "no round is refused");
+        let turn = |_| {
+            let ((refused, first), (also, second)) = (floats(rounds), whole(rounds));
+            assert_eq!((refused, also), (0, 0), "no round is refused");
+            (first, second)
+        };
+        let (first, second): (Vec<f64>, Vec<f64>) = (0..repetitions).map(turn).unzip();
+        let (first, second) = (median(first), median(second));
         let ratio = second / first;
         println!("{name:54}{rounds:8}{first:10.3}{second:10.3}{ratio:8.3}{:7.2}  {}", 1.0, kept(ratio, 1.0));
     }

@@ -4,10 +4,10 @@ use mathlib.Core.Path.{_≡_, sym, ap, _∙_, subst}
 use mathlib.Core.List.{List}
 use lib.IntN.{ℤ, pos, _+ℤ_}
 use lib.ListN.{length, getD}
+use borrow.Author.Needs.{needs}
 use mir.Syntax.{w32}
 use mir.Val.{SFits, toZ, ofZ}
 use mir.ValLaws.{toZ-ofZ}
-use borrow.Author.Needs.{needs}
 use Rattle.bus.proofs.Blocks.{Filling, fill-none, fill-next, fill-more, fill-all}
 use Rattle.whole_bus.proofs.Machine.{added-read}
 use Rattle.whole_bus.proofs.add_channel.Statement.{statement}

@@ -1,7 +1,7 @@
 -- `whole_bus::add_channels` meets its contract: the inputs before k are added, those after it make the sum whole, and no sum is too large for 32 bits.
 use Prim.Native.Nat.{_+_, _*_, _-_, _%_, _≤_, _<_}
-use mathlib.Core.Path.{_≡_}
 use native.Mathlib.Omega.{arith}
+use mathlib.Core.Path.{_≡_}
 use lib.ListN.{length, getD, take, drop}
 use lib.IntN.{pos, _+ℤ_}
 use borrow.Author.Needs.{needs}

@@ -1,5 +1,5 @@
 -- `whole_bus::clear` meets its contract: the samples up to i are 0, and the rest is as it was.
-use Prim.Native.Nat.{ℕ, _-_}
+use Prim.Native.Nat.{_-_}
 use mathlib.Core.Path.{refl}
 use lib.IntN.{pos}
 use lib.ListN.{length}

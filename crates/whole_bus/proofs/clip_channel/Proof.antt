@@ -4,9 +4,9 @@ use mathlib.Core.Path.{ap, _∙_}
 use mathlib.Core.List.{List}
 use lib.IntN.{ℤ, pos}
 use lib.ListN.{length, getD}
+use borrow.Author.Needs.{needs}
 use mir.Syntax.{w32}
 use mir.ValLaws.{toZ-ofZ}
-use borrow.Author.Needs.{needs}
 use Rattle.bus.proofs.Blocks.{Filling, fill-none, fill-next, fill-more, fill-all}
 use Rattle.whole_bus.specs.Sample.{clipped}
 use Rattle.whole_bus.proofs.clip_channel.Statement.{statement}

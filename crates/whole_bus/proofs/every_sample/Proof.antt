@@ -1,13 +1,16 @@
 -- `whole_bus::every_sample` meets its contract: the bits of the numbers before i are collected.
-use Prim.Native.Nat.{_-_}
+use Prim.Native.Nat.{ℕ, _-_}
 use mathlib.Core.Path.{ap, _∙_}
+use lib.Dec.{ltb}
 use lib.IntN.{pos}
 use lib.ListN.{length, getD}
-use mir.Syntax.{w32}
-use mir.ValLaws.{toZ-ofZ}
 use borrow.Author.Needs.{needs}
+use mir.Syntax.{w32}
+use mir.Val.{SFits}
+use mir.ValLaws.{toZ-ofZ}
 use Rattle.whole_bus.specs.Sample.{isSample}
-use Rattle.whole_bus.proofs.Ranges.{Collected, collect-none, collect-more, collect-all}
+use Rattle.whole_bus.specs.Raised.{aboveLowest}
+use Rattle.whole_bus.proofs.Ranges.{above-tells, Collected, collect-none, collect-more, collect-all}
 use Rattle.whole_bus.proofs.every_sample.Statement.{statement}
 use Rattle.whole_bus.proofs.every_sample.Tie as tie
 
@@ -39,8 +42,9 @@ loop-again : tie.Need-loop-again Inv-loop μ-loop
 loop-again c =
     let o = c .before .before .before in
     let x = getD (o .before .args .xs .now) (o .loop .i) (pos 0) in
-    let read = toZ-ofZ w32 x (record { sfits = c .before .above-lowest-arg .given }) in
-    collect-more isSample _ _ _ _ (pos 0) (o .loop .inv) (c .before .before .loop-test .taken) (c .above-lowest .ensures ∙ ap isSample read)
+    let fits : SFits w32 x = record { sfits = c .before .above-lowest-arg .given } in
+    let told = c .above-lowest .ensures ∙ ap aboveLowest (toZ-ofZ w32 x fits) in
+    collect-more isSample _ _ _ _ (pos 0) (o .loop .inv) (c .before .before .loop-test .taken) (ap (λ (r : ℕ). ltb r 16777216) told ∙ above-tells x fits)
 
 returns : tie.Need-returns Inv-loop μ-loop
 returns c = collect-all isSample _ _ _ (c .before .loop .inv) (c .loop-test .left)

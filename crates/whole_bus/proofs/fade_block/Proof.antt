@@ -1,8 +1,8 @@
 -- `whole_bus::fade_block` meets its contract: the channels before c are written, and the rest is as it was.
 use Prim.Native.Nat.{_+_, _*_, _-_, _%_, _≤_}
-use mathlib.Core.Path.{_≡_}
 use native.Mathlib.Nat.{mod-lt}
 use native.Mathlib.Omega.{arith}
+use mathlib.Core.Path.{_≡_}
 use lib.ListN.{length}
 use lib.IntN.{pos}
 use borrow.Author.Needs.{needs}

@@ -1,95 +1,130 @@
--- `whole_bus::fade_channel` meets its contract: the samples up to i are faded, and the rest is as it was.
-use Prim.Native.Nat.{ℕ, _-_, _≤_}
-use mathlib.Core.Path.{_≡_, sym, ap, _∙_, subst}
-use mathlib.Core.List.{List}
-use lib.Dec.{T}
-use lib.IntN.{ℤ, pos}
-use lib.ListN.{length, getD}
-use mir.Syntax.{w32}
-use mir.ValLaws.{toZ-ofZ}
+-- `whole_bus::fade_channel` meets its contract: the samples that the gains reach are faded, and silence is written after them.
+use Prim.Native.Nat.{_+_, _-_, _≤_}
+use native.Mathlib.Omega.{arith}
+use mathlib.Core.Path.{_≡_, sym, _∙_}
+use lib.ListN.{length}
 use borrow.Author.Needs.{needs}
-use Rattle.bus.proofs.Blocks.{Filling, fill-none, fill-more, fill-all}
-use Rattle.whole_bus.specs.Sample.{isSample, isGain, fadedSample}
-use Rattle.whole_bus.specs.Block.{every, fadedAt}
-use Rattle.whole_bus.proofs.Ranges.{every-at, gain-range}
+use Rattle.bus.proofs.Blocks.{length-part}
+use Rattle.whole_bus.specs.Sample.{isSample, isGain}
+use Rattle.whole_bus.proofs.Fading.{faded-parts}
+use Rattle.whole_bus.proofs.Ranges.{every-part}
 use Rattle.whole_bus.proofs.fade_channel.Statement.{statement}
 use Rattle.whole_bus.proofs.fade_channel.Tie as tie
 
--- sample i of the channel
-abbrev fadedTo : List ℤ → List ℕ → ℕ → ℕ → ℕ → ℤ
-fadedTo source gains len position i = fadedAt gains len position i (getD source i (pos 0))
+at-most-requires : tie.Need-at-most-requires
+at-most-requires c κs = search needs
 
-abbrev Inv-loop : tie.InvT-loop
-Inv-loop source gains len position out₀ i₀ out i = Filling (fadedTo source gains len position) out₀ out i × (length source ≡ length out₀) × (len ≤ length gains) × T (every isSample source) × T (every isGain gains)
+sub-at-most : tie.Need-sub-at-most
+sub-at-most c = search needs
 
-abbrev μ-loop : tie.MeasureT-loop
-μ-loop source gains len position out₀ i₀ out i = length out₀ - i
+at-most-requires-2 : tie.Need-at-most-requires-2
+at-most-requires-2 c κs = search needs
 
-loop-holds : tie.Need-loop-holds Inv-loop μ-loop
-loop-holds c = let p = c .before .pre in (fill-none _ _, p .0, p .1, p .2, p .3)
+add-last : tie.Need-add-last
+add-last c = search needs
 
-mul-x : tie.Need-mul-x Inv-loop μ-loop
-mul-x c = search needs
+sub-fade-held : tie.Need-sub-fade-held
+sub-fade-held c = search needs
 
-shared-slice-copy-out-x : tie.Need-shared-slice-copy-out-x Inv-loop μ-loop
-shared-slice-copy-out-x c = search needs
+part-fade-held-start : tie.Need-part-fade-held-start
+part-fade-held-start c = search needs
 
-gain-at-requires : tie.Need-gain-at-requires Inv-loop μ-loop
-gain-at-requires c κs = search needs
+part-fade-held-end : tie.Need-part-fade-held-end
+part-fade-held-end c = search needs
 
-faded-sample-requires : tie.Need-faded-sample-requires Inv-loop μ-loop
-faded-sample-requires c κs =
-    let loop = c .before .before .before .loop in
-    let a = c .before .before .before .before .before .args in
-    let x = getD (a .source .now) (loop .i) (pos 0) in
-    let read = toZ-ofZ w32 x (record { sfits = c .before .x .given }) in
-    (subst (λ (z : ℤ). T (isSample z)) (sym read) (every-at isSample (a .source .now) (pos 0) tt (loop .inv .3) (loop .i)), subst (λ (g : ℕ). T (isGain g)) (sym (c .gain-at .ensures)) (gain-range (a .gains .now) (a .len) (a .position) (loop .i) (loop .inv .4)))
+mul-fade-held : tie.Need-mul-fade-held
+mul-fade-held c = search needs
 
-mul-y : tie.Need-mul-y Inv-loop μ-loop
-mul-y c = search needs
+sub-fade-held-2 : tie.Need-sub-fade-held-2
+sub-fade-held-2 c = search needs
 
-slice-set-from-y : tie.Need-slice-set-from-y Inv-loop μ-loop
-slice-set-from-y c = search needs
+part-fade-held-start-2 : tie.Need-part-fade-held-start-2
+part-fade-held-start-2 c = search needs
 
-add-i : tie.Need-add-i Inv-loop μ-loop
-add-i c = search needs
+part-fade-held-end-2 : tie.Need-part-fade-held-end-2
+part-fade-held-end-2 c = search needs
 
-loop-less : tie.Need-loop-less Inv-loop μ-loop
-loop-less c = search needs
+sub-fade-held-3 : tie.Need-sub-fade-held-3
+sub-fade-held-3 c = search needs
 
-loop-again : tie.Need-loop-again Inv-loop μ-loop
-loop-again c =
-    let loop = c .before .before .before .before .loop in
-    let a = c .before .before .before .before .before .before .args in
-    let x = getD (a .source .now) (loop .i) (pos 0) in
-    let read = toZ-ofZ w32 x (record { sfits = c .before .before .x .given }) in
-    let y = c .faded-sample .result in
-    let stored = toZ-ofZ w32 y (record { sfits = c .faded-sample .ok }) in
-    let g = c .before .gain-at .result in
-    let value = stored ∙ c .faded-sample .ensures ∙ ap (λ (z : ℤ). fadedSample z g) read ∙ ap (fadedSample x) (c .before .gain-at .ensures) in
-    (fill-more _ _ _ _ _ (loop .inv .0) (c .before .before .before .loop-test .taken) value, loop .inv .1, loop .inv .2, loop .inv .3, loop .inv .4)
+part-fade-held-start-3 : tie.Need-part-fade-held-start-3
+part-fade-held-start-3 c = search needs
 
-same-length : tie.Need-same-length Inv-loop μ-loop
+part-fade-held-end-3 : tie.Need-part-fade-held-end-3
+part-fade-held-end-3 c = search needs
+
+fade-held-requires : tie.Need-fade-held-requires
+fade-held-requires c κs =
+    let o = c .before .before .before .before .before .before in
+    let first = c .before .before .before .before .at-most .result in
+    let n = c .before .before .before .at-most2 .result in
+    let within : 0 + n ≤ length (o .args .out .now) = omega arith in
+    let read : 0 + n ≤ length (o .args .source .now) = omega arith in
+    let gained : first + n ≤ length (o .args .gains .now) = omega arith in
+    let j : n - 0 ≡ n = omega arith in
+    let k : first + n - first ≡ n = omega arith in
+    let written = length-part (n - 0) 0 n (o .args .out .now) j within in (
+      length-part (n - 0) 0 n (o .args .source .now) j read ∙ sym written,
+      length-part (first + n - first) first n (o .args .gains .now) k gained ∙ sym written,
+      every-part isSample (n - 0) 0 (o .args .source .now) (o .pre .2),
+      every-part isGain (first + n - first) first (o .args .gains .now) (o .pre .3),
+    )
+
+mul-clear : tie.Need-mul-clear
+mul-clear c = search needs
+
+sub-clear : tie.Need-sub-clear
+sub-clear c = search needs
+
+part-clear-start : tie.Need-part-clear-start
+part-clear-start c = search needs
+
+part-clear-end : tie.Need-part-clear-end
+part-clear-end c = search needs
+
+clear-requires : tie.Need-clear-requires
+clear-requires c κs = search needs
+
+same-length : tie.Need-same-length
 same-length c = search needs
 
-returns : tie.Need-returns Inv-loop μ-loop
-returns c = fill-all _ _ _ _ (c .before .loop .inv .0) (c .loop-test .left)
+returns : tie.Need-returns
+returns c =
+    let o = c .before .before .before .before .before .before .before .before .before .before .before in
+    let p = c .before .before .before .before .before .before .before .before .before in
+    let q = c .before .before .before .before .before .before .before .before in
+    let first = p .at-most .result in
+    let n = q .at-most2 .result in
+    let out = o .args .out .now in
+    let within : 0 + n ≤ length out = omega arith in
+    let j : n - 0 ≡ n = omega arith in
+    let k : first + n - first ≡ n = omega arith in
+    faded-parts (o .args .source .now) (o .args .gains .now) out (o .args .len) (o .args .position) first n (o .pre .1) (p .at-most .ensures) (q .at-most2 .ensures) _ _
+    (n - 0) (first + n - first) _ j k (length-part (n - 0) 0 n out j within) (c .before .before .before .before .fade-held .ensures) (c .before .clear .ensures)
 
 pub fade-channel-spec : {M : Type 1} → statement M
 fade-channel-spec =
     tie.close
     (tie.spec
-    Inv-loop
-    μ-loop
-    loop-holds
-    mul-x
-    shared-slice-copy-out-x
-    gain-at-requires
-    faded-sample-requires
-    mul-y
-    slice-set-from-y
-    add-i
-    loop-less
-    loop-again
+    at-most-requires
+    sub-at-most
+    at-most-requires-2
+    add-last
+    sub-fade-held
+    part-fade-held-start
+    part-fade-held-end
+    mul-fade-held
+    sub-fade-held-2
+    part-fade-held-start-2
+    part-fade-held-end-2
+    sub-fade-held-3
+    part-fade-held-start-3
+    part-fade-held-end-3
+    fade-held-requires
+    mul-clear
+    sub-clear
+    part-clear-start
+    part-clear-end
+    clear-requires
     same-length
     returns)

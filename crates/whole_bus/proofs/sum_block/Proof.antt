@@ -1,7 +1,7 @@
 -- `whole_bus::sum_block` meets its contract: the channels before c are written, and the rest is as it was.
 use Prim.Native.Nat.{_+_, _*_, _-_, _≤_}
-use mathlib.Core.Path.{_≡_}
 use native.Mathlib.Omega.{arith}
+use mathlib.Core.Path.{_≡_}
 use lib.ListN.{length}
 use borrow.Author.Needs.{needs}
 use Rattle.bus.proofs.Blocks.{room, Laying, lay-none, lay-more, lay-all}
