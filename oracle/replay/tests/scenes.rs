@@ -19,7 +19,7 @@ fn the_page_and_the_clearing_after_it() {
     calls.extend([Call::Page { length: Length(58) }, Call::Page { length: Length(59) }, Call::Order {}]);
     calls.extend([RENDER, Call::Clear {}, RENDER, Call::Clear {}]);
     let shown = ["refused 17", "page 59", "voice age port state", "1 48 0 fading", "2 32 1 held", "3 16 2 held"];
-    let after = ["order 1 2 4 3 0", "sounding", "removed 0", "sounding", "removed 1"];
+    let after = ["order 1 2 4 3 0", "sounding took 0", "removed 0", "sounding took 0", "removed 1"];
     assert_eq!(lines(&calls)[before..], [&shown[..], &after].concat());
 }
 
@@ -29,7 +29,7 @@ fn a_level_is_that_of_the_block_reported_after_the_render() {
     let block = [[1.0; 16], [7.0; 16]].concat();
     let report = |samples| Call::Report { node: 2, channels: 2, done: 1, samples: Samples(samples) };
     calls.extend([RENDER, report(vec![1.0]), report(block), Call::Level { voice: 2 }, Call::Level { voice: 4 }]);
-    assert_eq!(lines(&calls)[13..], ["sounding", "refused 16", "done", "level 40a00000", "level -"]);
+    assert_eq!(lines(&calls)[13..], ["sounding took 0", "refused 16", "done", "level 40a00000", "level -"]);
 }
 
 #[test]
@@ -55,9 +55,9 @@ fn a_render_whose_prepare_fails_applies_its_events_and_moves_the_clock() {
         Call::Position { voice: 1 },
     ]);
     calls.extend([Call::RemoveNode { node: 5 }, free_at(0, 9), RENDER, Call::Position { voice: 1 }, Call::Order {}]);
-    let required = ["node 5", "refused 13", "done", "silent 13", "voices 1 3", "clock 64", "order 1 2 4 3 0"];
-    let cycle = ["done", "refused 14", "done", "silent 14", "position 16"];
-    let healed = ["done", "done", "sounding", "position 32", "order 1 4 3 0"];
+    let required = ["node 5", "refused 13", "done", "silent 13 took 1 00", "voices 1 3", "clock 64", "order 1 2 4 3 0"];
+    let cycle = ["done", "refused 14", "done", "silent 14 took 1 01", "position 16"];
+    let healed = ["done", "done", "sounding took 1 01", "position 32", "order 1 4 3 0"];
     assert_eq!(lines(&calls)[13..], [&required[..], &cycle, &healed].concat());
 }
 
@@ -81,7 +81,7 @@ fn the_last_voice_id_and_the_last_sample() {
     let counters = Call::SetCounters { clock: u64::MAX - 64, voices: u64::MAX - 1, noise: u32::MAX };
     let calls = [host(2, 0), tone(), counters, SPAWN, SPAWN, RENDER, RENDER, Call::State {}];
     let lines = lines(&calls);
-    assert_eq!(lines[2..7], ["set", "voice 18446744073709551615", "refused 8", "silent", "refused 15"]);
+    assert_eq!(lines[2..7], ["set", "voice 18446744073709551615", "refused 8", "silent took 0", "refused 15"]);
     assert_eq!(lines[lines.len() - 2..], ["next 2 18446744073709551615 0", "end"]);
 }
 
@@ -109,7 +109,7 @@ fn the_last_edge_to_a_port_counts() {
     // Silence passes through the port that is named `level`, also where it is named `in` and `amp` too.
     let samples = Repeated { count: 64, sample: 0.0 };
     calls.extend([PREPARE, RENDER, Call::ReportRepeated { node: 2, channels: 1, done: 1, samples }, Call::Clear {}]);
-    assert_eq!(lines(&calls)[4..], ["refused 9", "voice 1", "done", "sounding", "done", "removed 1"]);
+    assert_eq!(lines(&calls)[4..], ["refused 9", "voice 1", "done", "sounding took 0", "done", "removed 1"]);
 }
 
 #[test]

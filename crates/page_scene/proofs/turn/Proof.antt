@@ -23,13 +23,16 @@ spawn-voice-on-bus-managed-requires c κs = search needs
 prepare-requires : tie.Need-prepare-requires
 prepare-requires c κs = search needs
 
+slice-aggregate-render : tie.Need-slice-aggregate-render
+slice-aggregate-render c = search needs
+
 render-requires : tie.Need-render-requires
 render-requires c κs = search needs
 
 returns : tie.Need-returns
 returns c =
-    let third = c .before in
-    let second = third .before .before .before .before .before .before .before in
+    let third = c .before .before in
+    let second = third .before .before .before .before .before .before .before .before in
     let first = second .before .before .before .before .before in
     let spawned = first .spawn-voice-on-bus-managed in
     let prepared = second .prepare in
@@ -57,5 +60,6 @@ turn-spec =
     tone-requires
     spawn-voice-on-bus-managed-requires
     prepare-requires
+    slice-aggregate-render
     render-requires
     returns)

@@ -87,7 +87,7 @@ fn departure_15_nan() {
         same(host(1, 0), "node 0"),
         same(tone(), "kept"),
         same(Call::Spawn { slot: 0, bus: 0, rank: 0 }, "voice 1"),
-        alone(Call::Value { voice: 1, name: b"freq".to_vec(), value }, "yes"),
+        alone(Call::Value { voice: 1, name: b"freq".to_vec(), value }, "outcome 0"),
         alone(Call::State {}, state),
     ];
     compare("15-nan", rows);

@@ -55,9 +55,9 @@ fn departure_2_cycle() {
         same(Call::Connect { from: 1, to: 1, port: 0 }, "done"),
         departs(PREPARE, "refused 14", "done"),
         departs(Call::Order {}, "order", "order 0"),
-        departs(RENDER, "silent", "sounding"),
+        departs(RENDER, "silent took 0", "sounding"),
         same(free_at(0, 9), "done"),
-        departs(RENDER, "silent 14", "sounding"),
+        departs(RENDER, "silent 14 took 1 01", "sounding"),
         same(Call::Clock {}, "clock 128"),
     ];
     compare("02-cycle", rows);
@@ -72,7 +72,7 @@ fn departure_3_required_port() {
         departs(PREPARE, "refused 13", "panics"),
         departs(Call::Order {}, "order 0", "order 0 1"),
         same(free_at(0, 9), "done"),
-        departs(RENDER, "silent 13", "panics"),
+        departs(RENDER, "silent 13 took 1 01", "panics"),
         departs(Call::Clock {}, "clock 64", "clock 0"),
         // A cycle besides: 13 comes first.
         same(host(1, 0), "node 2"),
@@ -154,7 +154,7 @@ fn departure_6_no_port() {
         same(unmanaged.clone(), "voice 1"),
         departs(unmanaged, "refused 12", "voice -"),
         departs(SPAWN, "refused 12", "voice -"),
-        same(Call::Free { voice: 1 }, "done"),
+        departs(Call::Free { voice: 1 }, "outcome 0", "done"),
         same(SPAWN, "voice 2"),
         departs(SPAWN, "refused 11", "voice -"),
     ];
@@ -168,7 +168,7 @@ fn departure_11_unknown_nodes() {
         departs(Call::RemoveNode { node: 9 }, "refused 4", "done"),
         departs(Call::SetSink { node: 7 }, "refused 4", "done"),
         same(PREPARE, "done"),
-        departs(RENDER, "silent", "panics"),
+        departs(RENDER, "silent took 0", "panics"),
         departs(Call::Connect { from: 7, to: 9, port: 0 }, "refused 4", "done"),
         departs(Call::Edges {}, "edges", "edges 7 9 0"),
         departs(PREPARE, "done", "panics"),
@@ -277,7 +277,7 @@ fn departure_19_own_nodes() {
         same(SPAWN, "voice 2"),
         same(PREPARE, "done"),
     ];
-    rows.extend([RENDER; 3].map(|render| same(render, "sounding")));
+    rows.extend([RENDER; 3].map(|render| departs(render, "sounding took 0", "sounding")));
     rows.push(alone(Call::State {}, state));
     let mut engine = compare("19-own-nodes", rows);
     let (constant, fade) = (NodeId::numbered(2), NodeId::numbered(4));

@@ -1,9 +1,9 @@
 //! Departure 20 and on: what the papers change, on the Rust with that change (`oracle/changes`) and as it was published.
 
-use replay::script::{Call, Repeated};
+use replay::script::{Call, Glide, Repeated};
 
-use crate::entries::{PREPARE, RENDER, SPAWN, host, tone};
-use crate::rows::{Row, alone, changed, compare, same};
+use crate::entries::{PREPARE, RENDER, SPAWN, free_at, host, tone};
+use crate::rows::{Row, alone, changed, compare, departs, same};
 
 /// Under `Quietest`, so many voices on a bus of so many ports; each then has its level, the voices' nodes being 1 and on.
 fn voices_with_levels(budget: u32, ports: u32, levels: &[f32]) -> Vec<Row> {
@@ -15,7 +15,7 @@ fn voices_with_levels(budget: u32, ports: u32, levels: &[f32]) -> Vec<Row> {
         same(tone(), "kept"),
     ];
     rows.extend((1..=levels.len()).map(|voice| same(SPAWN, &format!("voice {voice}"))));
-    rows.extend([same(PREPARE, "done"), same(RENDER, "sounding")]);
+    rows.extend([same(PREPARE, "done"), departs(RENDER, "sounding took 0", "sounding")]);
     rows.extend((1..).zip(levels).map(|(node, &sample)| {
         let samples = Repeated { count: 32, sample };
         alone(Call::ReportRepeated { node, channels: 2, done: 0, samples }, "done")
@@ -39,4 +39,29 @@ fn departure_20_equal_levels() {
 fn departure_20_equal_levels_reclaimed() {
     let goes = [same(SPAWN, "voice 3"), changed(Call::Voices {}, "voices 1 3", "voices 2 3")];
     compare("20-equal-levels-reclaimed", voices_with_levels(9, 2, &[1.0, 1.0]).into_iter().chain(goes));
+}
+
+/// Where the Rust says no, the store says which no it is; a render hands on what became of its events, at the moment when each happens.
+#[test]
+fn departure_22_outcomes() {
+    let glide = Glide { target: 1.0, seconds: 0.0, shape: 1, curve: 0.0, space: 0 };
+    let value = |voice, name: &[u8]| Call::Value { voice, name: name.to_vec(), value: 1.0 };
+    let timed = || Call::Schedule { time: 0, voice: 1, action: 0, name: b"freq".to_vec(), glide: glide.clone() };
+    let lent = |length| Call::RenderLent { length, old: 7 };
+    let rows = [
+        same(host(1, 0), "node 0"),
+        same(tone(), "kept"),
+        same(Call::Spawn { slot: 0, bus: 0 }, "voice 1"),
+        alone(value(1, b"freq"), "outcome 0"),
+        alone(value(2, b"freq"), "outcome 1"),
+        alone(value(1, b"none"), "outcome 2"),
+        alone(Call::SetGlide { voice: 1, name: b"freq".to_vec(), glide: glide.clone() }, "outcome 3"),
+        alone(timed(), "done"),
+        alone(free_at(0, 1), "done"),
+        alone(timed(), "done"),
+        alone(lent(255), &format!("refused 17\nlist {}", "07".repeat(255))),
+        alone(lent(258), &format!("silent took 3 000001\nlist 000001{}", "07".repeat(255))),
+        departs(Call::Free { voice: 1 }, "outcome 1", "done"),
+    ];
+    compare("22-outcomes", rows);
 }
