@@ -26,7 +26,7 @@ impl Script {
 
 /// How many short scenes the sample is chosen from, and how long it may become with its transcript.
 const CANDIDATES: usize = 1600;
-const SAMPLE_SIZE: usize = 440_000;
+const SAMPLE_SIZE: usize = 560_000;
 
 /// The script that is recorded: the big console, then one after the other the scene that adds the most for its length to
 /// what is reached, until each row is reached once, then until it is twice, and so on.
