@@ -56,12 +56,7 @@ pub extern "C" fn piecrag_make(
     let among = scope_in(scope);
     let made = piecrag::make(rate, block, most, way, among, table != 0);
     let answer = made.answer;
-    settle(
-        state,
-        made.state,
-        answer_kept(answer),
-        answer_code(answer),
-    )
+    settle(state, made.state, answer_kept(answer), answer_code(answer))
 }
 
 // A node of the host; `node` becomes its id.

@@ -1,6 +1,6 @@
 // How many rows of a table count, an edge, what feeds a port, and the clock.
-use crate::cell::put_found_edge;
 use crate::cell::flag;
+use crate::cell::put_found_edge;
 use crate::cell::source_cell;
 use crate::cell::source_flag;
 use edges::ports::Source;
@@ -30,11 +30,7 @@ pub type EdgeRecord = [u32; EDGE_RECORD_WORDS];
 
 // The voices in voice order: the first `count` rows of the table.
 #[no_mangle]
-pub extern "C" fn piecrag_voices(
-    state: &StateWords,
-    voices: &VoiceTable,
-    count: &mut usize,
-) -> u32
+pub extern "C" fn piecrag_voices(state: &StateWords, voices: &VoiceTable, count: &mut usize) -> u32
     ensures { λ k. ⌜ ((m : Memory) → Tells call.all (call.ask call.voices) (lentVoiceTable (stateIn (now (state .entry))) (now (voices .entry)) m) k (λ vs. Holds (voicesIn (now (voices .entry))) (now (count .exit)) vs)) ⌝ }
 {
     let s = state_in(state);

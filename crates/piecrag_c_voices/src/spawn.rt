@@ -90,15 +90,7 @@ pub extern "C" fn piecrag_spawn_voice_on_bus_managed(
     }
     let s = state_in(state);
     let def = b.def;
-    let r = piecrag::spawn_voice_on_bus_managed(
-        s,
-        nodes,
-        edges,
-        voices,
-        steals,
-        def,
-        NodeId(bus),
-    );
+    let r = piecrag::spawn_voice_on_bus_managed(s, nodes, edges, voices, steals, def, NodeId(bus));
     let answer = r.answer;
     *voice = voice_cell(answer, *voice);
     settle(state, r.state, spawn_kept(answer), spawn_code(answer))
@@ -162,15 +154,7 @@ pub extern "C" fn piecrag_spawn_voice_on_bus(
     }
     let s = state_in(state);
     let def = b.def;
-    let r = piecrag::spawn_voice_on_bus(
-        s,
-        nodes,
-        edges,
-        voices,
-        steals,
-        def,
-        NodeId(bus),
-    );
+    let r = piecrag::spawn_voice_on_bus(s, nodes, edges, voices, steals, def, NodeId(bus));
     let answer = r.answer;
     *voice = voice_cell(answer, *voice);
     settle(state, r.state, spawn_kept(answer), spawn_code(answer))
