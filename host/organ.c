@@ -369,16 +369,15 @@ static struct node look(uint32_t id)
     return n;
 }
 
-/* the last order of a node moves x: a value at once, a glide by so much for each sample */
+/* the last order of a node moves x: a value at once, a glide by a part of the way at each sample */
 static float moved(const struct node *n, float x)
 {
-    float target = from_bits(n->row[PIECRAG_NODE_TARGET]), step;
+    float target = from_bits(n->row[PIECRAG_NODE_TARGET]);
     if (n->row[PIECRAG_NODE_LAST] == 1)
         return target;
-    if (n->row[PIECRAG_NODE_LAST] != 2)
-        return x;
-    step = 100.0f / (from_bits(n->row[PIECRAG_NODE_SECONDS]) * RATE);
-    return x + step < target ? x + step : target;
+    if (n->row[PIECRAG_NODE_LAST] == 2)
+        return x + (target - x) / (from_bits(n->row[PIECRAG_NODE_SECONDS]) * RATE);
+    return x;
 }
 
 /* an arch for half a period, so that every machine computes the same samples */
@@ -524,6 +523,14 @@ static const struct key score[] = {
 };
 #define KEYS (sizeof score / sizeof score[0])
 
+static uint32_t first_node(uint64_t voice)
+{
+    uint32_t row[PIECRAG_VOICE_RECORD_WORDS], found = 0;
+    piecrag_voice(state, voices, voice, &found, row);
+    check(found && row[PIECRAG_VOICE_FIRST] < IDS, "a new voice is there");
+    return row[PIECRAG_VOICE_FIRST];
+}
+
 /* a key goes down: a voice, its pitch, an open gate, a timed release, and a timed free in case it is still there then */
 static int press(const struct key *k, const uint32_t *buses)
 {
@@ -532,6 +539,7 @@ static int press(const struct key *k, const uint32_t *buses)
         return 0;
     pans[voice % IDS] = k->pan;
     set_value(voice, "freq", k->freq);
+    pitch[first_node(voice)] = k->freq;
     if (k->stop == PRINCIPAL)
         set_value(voice, "octave", 2.0f * k->freq);
     if (k->stop == FLUTE && k->pan != 0.0f)
@@ -677,9 +685,8 @@ static void play(const uint32_t *buses, uint32_t sink)
     int changed = 1;
     for (b = 0; b < BLOCKS; b++) {
         for (; next < KEYS && score[next].block == b; next++) {
-            int went = press(&score[next], buses);
-            refused += !went;
-            changed |= went;
+            refused += !press(&score[next], buses);
+            changed = 1;
         }
         if (changed)
             prepare();
