@@ -1,7 +1,9 @@
 /* Random calls through the C interface: random arguments, random and damaged books, random and damaged stores. Every call returns,
  * with an answer that its comment in piecrag.h names; no byte beside a lent block changes; the deepest stack is told on standard error.
  *
- *   robust [COUNT [SEED]] */
+ *   robust [COUNT [SEED [plain]]]
+ *
+ * With `plain` the calls are made on the program's own stack, which valgrind understands, and none is measured. */
 #define _POSIX_C_SOURCE 200809L
 #include <pthread.h>
 #include <stdio.h>
@@ -435,8 +437,10 @@ int main(int argc, char **argv)
         seed = strtoull(argv[2], 0, 10) * 2 + 1;
     arenas = malloc((size_t)ARENA * BLOCKS);
     lay_out();
-    own = deepest(0);
-    all = deepest(count);
+    own = argc > 3 ? 0 : deepest(0);
+    all = argc > 3 ? 0 : deepest(count);
+    if (argc > 3)
+        work(0);
     if (failed) {
         printf("%s\n", why);
         return 1;
@@ -449,6 +453,7 @@ int main(int argc, char **argv)
         if (n)
             printf("answer %u: %lu\n", k, n);
     }
-    fprintf(stderr, "deepest stack: %lu bytes, beside %lu of the thread's own\n", (unsigned long)(all - own), (unsigned long)own);
+    if (argc <= 3)
+        fprintf(stderr, "deepest stack: %lu bytes, beside %lu of the thread's own\n", (unsigned long)(all - own), (unsigned long)own);
     return all - own > 65536;
 }
