@@ -182,8 +182,9 @@ fn play_turn(
 // How many wishes wait at each keyboard, and the keyboard after the last served.
 fn waiting_line(w: WishState) {
     text(b"waiting");
+    let many = keyboard_count(w);
     let mut q: usize = 0;
-    while q < keyboard_count(w) {
+    while q < many {
         and_number(waiting_count(w, q) as u64);
         q += 1;
     }
