@@ -1,13 +1,18 @@
-/* piecrag.h: the voice store for a host in C or C++. So far: making, the host's nodes and edges, prepare, and events of two sorts.
+/* piecrag.h: the voice store of an organ tone module, for a host in C or C++.
  *
- * The store is memory of the host: words of 32 bits, in parts whose sizes stand below. The library holds nothing, allocates nothing
- * and keeps no pointer after a call. Any words may stand in the store before piecrag_make.
+ * Memory. The store is words of 32 bits that the host owns: the state and six tables, whose sizes stand below. The library has no
+ * memory of its own, allocates nothing and keeps no pointer. Any words may stand in the store before piecrag_make. Between calls the
+ * host may copy the parts, save them and read the rows that are described here; only the calls may write them.
  *
- * Parts that are lent to one call must not overlap. A pointer must be aligned for its type and must not be null, that of a
- * byte string of length 0 included. Each call's comment says what it answers:
+ * Arguments. Parts, cells and blocks that are lent to one call must not overlap. A pointer must be aligned for its type and must not be
+ * null, that of a byte string or a block of length 0 included. What a call only reads is const. Any number is accepted for any
+ * argument: what is out of range is refused, or stands for what the call's comment says. A flag is 0 or not 0; a cell that is a flag
+ * becomes 0 or 1. A name is 1 to 16 bytes, without a zero at its end; other lengths name nothing.
  *
- *   0               done
- *   another number  refused, for the reason of that number: not a word of the store, and no cell, was changed
+ * Answers. Each call answers a number: 0 done, or one of those below. "Refused" lists the numbers in the order in which they are
+ * tested; the first that holds is answered. A refused call changes no word of state, tables, cells and blocks, with one exception:
+ * after 12 the steals and reclaims that were made stand. Two answers are no refusals: 1 to 3 of a value, a glide or a free say why
+ * nothing was done; 13 or 14 of piecrag_render say that the block was rendered, silent.
  */
 #ifndef PIECRAG_H
 #define PIECRAG_H
@@ -19,12 +24,19 @@
 extern "C" {
 #endif
 
-/* ---- sizes, in words of 32 bits */
+/* ---- the parts of the store, in words of 32 bits */
 #define PIECRAG_STATE_WORDS 32
 #define PIECRAG_NODE_WORDS 11264
 #define PIECRAG_EDGE_WORDS 3072
 #define PIECRAG_ORDER_WORDS 512
+#define PIECRAG_VOICE_WORDS 9152
 #define PIECRAG_EVENT_WORDS 3840
+#define PIECRAG_STEAL_WORDS 320
+
+/* ---- records, in words: a row of the table of that name */
+#define PIECRAG_VOICE_RECORD_WORDS 143
+#define PIECRAG_NODE_RECORD_WORDS 22
+#define PIECRAG_EDGE_RECORD_WORDS 3
 
 /* ---- limits */
 #define PIECRAG_MAX_RATE 384000
@@ -32,9 +44,16 @@ extern "C" {
 #define PIECRAG_MAX_BUDGET 64
 #define PIECRAG_MAX_NODES 512
 #define PIECRAG_MAX_EDGES 1024
+#define PIECRAG_MAX_VOICES 64
 #define PIECRAG_MAX_EVENTS 256
+#define PIECRAG_MAX_STEALS 64      /* of how many steals the record is held */
 #define PIECRAG_MAX_PORTS 64
 #define PIECRAG_MAX_NAME 16
+#define PIECRAG_MAX_CHANNELS 2
+#define PIECRAG_MAX_RANK 7
+#define PIECRAG_MAX_PAGE 4501      /* bytes of the longest page */
+#define PIECRAG_FADE_TABLE_RATE 48000
+#define PIECRAG_WHOLE_GAIN 16777216 /* 2^24: full gain in whole numbers */
 
 /* ---- answers */
 #define PIECRAG_DONE 0
@@ -46,57 +65,266 @@ extern "C" {
 #define PIECRAG_PORT_OR_KIND 6
 #define PIECRAG_TABLE_FULL 7
 #define PIECRAG_IDS_USED_UP 8
+#define PIECRAG_DEFINITION_LIMITS 9
+#define PIECRAG_BUS_WITHOUT_PORTS 10
+#define PIECRAG_REJECTED 11
+#define PIECRAG_NO_PORT 12
 #define PIECRAG_REQUIRED_PORT 13
 #define PIECRAG_CYCLE 14
+#define PIECRAG_CLOCK_END 15
+#define PIECRAG_LENT_BLOCK 16
+#define PIECRAG_SHORT_BUFFER 17
+#define PIECRAG_MALFORMED_BOOK 18
 #define PIECRAG_TABLE_RATE 20
+#define PIECRAG_OUT_OF_RANGE 21
+#define PIECRAG_NO_WIDTH 22
+#define PIECRAG_SAMPLES_FALL 23
+#define PIECRAG_RANK_TOO_HIGH 26
 
-/* ---- arguments */
-#define PIECRAG_REJECT 0   /* policies: what happens to a new voice at budget. Any other number is REJECT */
+/* ---- why a value, a glide or a free was not applied: the answer of such a call, and the entries of a render's list */
+#define PIECRAG_APPLIED 0
+#define PIECRAG_NO_VOICE 1
+#define PIECRAG_NO_PARAMETER 2
+#define PIECRAG_NOT_TAKEN 3
+
+/* ---- arguments that are numbers */
+#define PIECRAG_REJECT 0   /* policies: which voice gives way at budget. Any other number is REJECT */
 #define PIECRAG_OLDEST 1
 #define PIECRAG_NEWEST 2
 #define PIECRAG_QUIETEST 3
 #define PIECRAG_GLOBAL 0   /* scopes: which voices a budget counts. Any other number is PER_GROUP */
 #define PIECRAG_PER_GROUP 1
+#define PIECRAG_HOLD 0     /* shapes of a glide. Any other number is EXPONENTIAL, which alone looks at `curve` */
+#define PIECRAG_LINEAR 1
+#define PIECRAG_SINE 2
+#define PIECRAG_EXPONENTIAL 3
+#define PIECRAG_RAW 0      /* what a glide moves evenly in. Any other number is PITCH */
+#define PIECRAG_PITCH 1
 
-/* ---- the calls. Bytes go as pointer and length. A flag is 0 or not 0. */
+/* ---- words of a voice's record. A number of 64 bits has its low word first */
+#define PIECRAG_VOICE_ID 0        /* 64 bits */
+#define PIECRAG_VOICE_BIRTH 2     /* 64 bits: the clock at its spawn */
+#define PIECRAG_VOICE_BUS 4       /* node id */
+#define PIECRAG_VOICE_PORT 5      /* the port of the bus that it was given at its spawn */
+#define PIECRAG_VOICE_FIRST 6     /* its definition's nodes have the ids from this one on, */
+#define PIECRAG_VOICE_COUNT 7     /* so many of them; if it is panned, a constant and the pan node follow */
+#define PIECRAG_VOICE_OUTPUT 8    /* node id */
+#define PIECRAG_VOICE_PANNED 9    /* flag */
+#define PIECRAG_VOICE_SEQUENCE 10 /* noise sequence */
+#define PIECRAG_VOICE_STATE 11    /* one of the states below */
+#define PIECRAG_VOICE_FADE 12     /* if it fades: the fade's node, */
+#define PIECRAG_VOICE_START 13    /* 64 bits: the clock at the steal, */
+#define PIECRAG_VOICE_POSITION 15 /* 64 bits: how far it has come, in samples, */
+#define PIECRAG_VOICE_STEAL 17    /* 64 bits: the number of its steal record */
+#define PIECRAG_VOICE_RANK 22
+#define PIECRAG_TRACKED 1         /* states: counted by the budget; fading; any other number: loose */
+#define PIECRAG_FADING 2
+
+/* ---- words of a node's record */
+#define PIECRAG_NODE_ID 0
+#define PIECRAG_NODE_OWNER 1    /* 64 bits: the voice, 0 for the host */
+#define PIECRAG_NODE_KIND 3     /* four words of four bytes each, low byte first; then the length of the name */
+#define PIECRAG_NODE_PORTS 8
+#define PIECRAG_NODE_REQUIRED 9 /* 64 bits: bit p for port p */
+#define PIECRAG_NODE_VALUES 11  /* flags: whether it takes values, glides; whether it is done */
+#define PIECRAG_NODE_GLIDES 12
+#define PIECRAG_NODE_DONE 13
+#define PIECRAG_NODE_LEVEL 14   /* a float's bits: the level of the last reported block */
+#define PIECRAG_NODE_LAST 15    /* the last order: 0 none, 1 a value, 2 a glide; then floats' bits: value or target, */
+#define PIECRAG_NODE_TARGET 16
+#define PIECRAG_NODE_SECONDS 17 /* and of a glide its seconds, shape, curve and space */
+#define PIECRAG_NODE_SHAPE 18
+#define PIECRAG_NODE_CURVE 19
+#define PIECRAG_NODE_SPACE 20
+
+/* ---- words of an edge's record */
+#define PIECRAG_EDGE_FROM 0
+#define PIECRAG_EDGE_TO 1
+#define PIECRAG_EDGE_PORT 2
+
+/* ==== making, the host's nodes and edges, prepare, events */
 
 /* A new store. rate: hertz; block: samples of a block; limited: 0 for no budget, else `budget` voices may be tracked; policy, scope:
- * above; table: not 0 if fades take their gains from the fade table, which is for 48,000 Hz. Nothing is read or stored in the tables.
- * Refused: 1 rate not a whole number from 1 to 384,000; 2 block not 1 to 128; 3 budget above 64; 20 table at another rate. */
+ * above; table: not 0 if fades take their gains from the fade table. Nothing is read or stored in the tables.
+ * Refused: 1 rate not a whole number from 1 to 384,000; 2 block not 1 to 128; 3 budget above 64; 20 table at a rate other than 48,000. */
 uint32_t piecrag_make(uint32_t *state, float rate, size_t block, uint32_t limited, size_t budget, uint32_t policy, uint32_t scope,
                       uint32_t table);
 
-/* A node of the host. kind: a name of 1 to 16 bytes; ports: up to 64; required: bit p set if port p must be connected; values,
- * glides: flags, whether it takes them. *node becomes its id, and stays as it was where the call is refused.
+/* A node of the host. kind: a name; ports: up to 64; required: bit p set if port p must be connected; values, glides: flags, whether
+ * it takes them. *node becomes its id.
  * Refused: 6 kind or ports; 7 512 nodes; 8 node ids used up. */
 uint32_t piecrag_add_node(uint32_t *state, uint32_t *nodes, const uint8_t *kind, size_t kind_length, uint32_t ports,
                           uint64_t required, uint32_t values, uint32_t glides, uint32_t *node);
 
-/* A node of the host is removed, with its edges; if it was the sink there is none then. Refused: 4 unknown node; 5 a voice's node. */
+/* A node of the host is removed, with its edges; if it was the sink there is none then.
+ * Refused: 4 unknown node; 5 a voice's node. */
 uint32_t piecrag_remove_node(uint32_t *state, uint32_t *nodes, uint32_t *edges, uint32_t node);
 
-/* The output of `from` feeds the port `port` of `to`, in the place of what fed it. Refused: 4 unknown node; 5 a voice's node; 6 no
- * such port; 7 1,024 edges. */
+/* The output of `from` feeds the port `port` of `to`, in the place of what fed it.
+ * Refused: 4 unknown node; 5 a voice's node; 6 no such port; 7 1,024 edges. */
 uint32_t piecrag_connect(uint32_t *state, const uint32_t *nodes, uint32_t *edges, uint32_t from, uint32_t to, uint32_t port);
 
-/* Nothing feeds the port any more. Refused: 4 unknown node; 5 a voice's node; 6 no such port. */
+/* Nothing feeds the port any more.
+ * Refused: 4 unknown node; 5 a voice's node; 6 no such port. */
 uint32_t piecrag_disconnect(uint32_t *state, const uint32_t *nodes, uint32_t *edges, uint32_t to, uint32_t port);
 
-/* The host hears this node. Refused: 4 unknown node; 5 a voice's node. */
+/* The host hears this node.
+ * Refused: 4 unknown node; 5 a voice's node. */
 uint32_t piecrag_set_sink(uint32_t *state, const uint32_t *nodes, uint32_t node);
 
-/* The processing order is worked out: needed before a render whenever nodes, edges or sink have changed. The ids stand in `order`.
+/* The processing order is worked out: a render is silent until this has been done after the last change of nodes, edges or sink. The
+ * ids stand in `order`; piecrag_processing_order tells how many they are.
  * Refused: 13 a required port is not connected; 14 a cycle. */
 uint32_t piecrag_prepare(uint32_t *state, const uint32_t *nodes, const uint32_t *edges, uint32_t *order);
 
-/* An event for a voice at the sample `time`: a value for the parameter `name`. A name that is not 1 to 16 bytes names nothing; an
- * unknown voice is found out when the event is due. Refused: 7 256 events are pending. */
+/* An event: at the sample `time` the parameter `name` of the voice gets a value. It is applied by the render whose block has that
+ * sample, or by the next one if the sample is past. An unknown voice, a name that is no parameter: nothing happens when it is due.
+ * Refused: 7 256 events are pending. */
 uint32_t piecrag_schedule_value(uint32_t *state, uint32_t *events, uint64_t time, uint64_t voice, const uint8_t *name,
                                 size_t name_length, float value);
+
+/* The same for a glide to `target` within `seconds`; shape, curve, space: above. Refused: 7. */
+uint32_t piecrag_schedule_glide(uint32_t *state, uint32_t *events, uint64_t time, uint64_t voice, const uint8_t *name,
+                                size_t name_length, float target, float seconds, uint32_t shape, float curve, uint32_t space);
+
+/* The same for a value of the parameter `gate`. The name is held, and does nothing. Refused: 7. */
+uint32_t piecrag_schedule_gate(uint32_t *state, uint32_t *events, uint64_t time, uint64_t voice, const uint8_t *name,
+                               size_t name_length, float value);
 
 /* The voice is freed at the sample `time`: a timed release. The name is held, and does nothing. Refused: 7. */
 uint32_t piecrag_schedule_free(uint32_t *state, uint32_t *events, uint64_t time, uint64_t voice, const uint8_t *name,
                                size_t name_length);
+
+/* ==== voices */
+
+/* A managed spawn: a new voice of the definition that the bytes of the book hold, on the lowest free port of the node `bus`, panned
+ * unless pan is 0. At budget a voice is stolen for it; for want of a port fades, then voices of the bus, are reclaimed; of voices those
+ * of the lowest rank first, and none whose rank is above the new one's, 0 to 7. *voice becomes its id.
+ * Refused: 18 the book is malformed; 26 rank above 7; 9 its definition is outside the limits; 4, 5 unknown node, a voice's node; 10 bus without ports;
+ * 7 no headroom for its nodes, edges or the voice; 8 ids used up; 11 at budget, and nobody may go; 12 no port, nothing left to reclaim. */
+uint32_t piecrag_spawn_voice_on_bus_panned_managed(uint32_t *state, uint32_t *nodes, uint32_t *edges, uint32_t *voices,
+                                                   uint32_t *steals, const uint8_t *book, size_t book_length, uint32_t bus, float pan,
+                                                   uint32_t rank, uint64_t *voice);
+
+/* The same with pan 0. */
+uint32_t piecrag_spawn_voice_on_bus_managed(uint32_t *state, uint32_t *nodes, uint32_t *edges, uint32_t *voices, uint32_t *steals,
+                                            const uint8_t *book, size_t book_length, uint32_t bus, uint32_t rank, uint64_t *voice);
+
+/* An unmanaged spawn: the new voice is loose, no budget counts it and nobody goes for it.
+ * Refused: 18, 26, 9, 4, 5, 10, 7, 8 as above; 12 no free port. */
+uint32_t piecrag_spawn_voice_on_bus_panned(uint32_t *state, uint32_t *nodes, uint32_t *edges, uint32_t *voices, uint32_t *steals,
+                                           const uint8_t *book, size_t book_length, uint32_t bus, float pan, uint32_t rank,
+                                           uint64_t *voice);
+
+/* The same with pan 0. */
+uint32_t piecrag_spawn_voice_on_bus(uint32_t *state, uint32_t *nodes, uint32_t *edges, uint32_t *voices, uint32_t *steals,
+                                    const uint8_t *book, size_t book_length, uint32_t bus, uint32_t rank, uint64_t *voice);
+
+/* The voice goes, with its nodes and edges. Answers 0, or 1 no such voice; then nothing happens. */
+uint32_t piecrag_free_voice(uint32_t *state, uint32_t *nodes, uint32_t *edges, uint32_t *voices, uint64_t voice);
+
+/* Clearing: the voices whose fade has ended go, then those whose output is silent by the done flags that were reported. *removed
+ * becomes how many they were. Never refused. */
+uint32_t piecrag_free_done_synths(uint32_t *state, uint32_t *nodes, uint32_t *edges, uint32_t *voices, size_t *removed);
+
+/* A value for a parameter of a voice, now: it becomes the last order of the parameter's node.
+ * Answers 0 applied, or the first that is true of 1 no such voice, 2 no such parameter, 3 its node takes no values; then nothing changes. */
+uint32_t piecrag_set_voice_param(const uint32_t *state, uint32_t *nodes, const uint32_t *voices, uint64_t voice, const uint8_t *name,
+                                 size_t name_length, float value);
+
+/* The same for a glide to `target` within `seconds`; shape, curve, space: above. Answers 0, 1, 2, or 3 its node takes no glides. */
+uint32_t piecrag_set_voice_param_glide(const uint32_t *state, uint32_t *nodes, const uint32_t *voices, uint64_t voice,
+                                       const uint8_t *name, size_t name_length, float target, float seconds, uint32_t shape,
+                                       float curve, uint32_t space);
+
+/* The block that a node's generator has written, channel after channel, and whether it is done.
+ * Refused: 4 unknown node, or a voice's fade, pan or constant node; 16 channels not 1 or 2, or samples not channels times block. */
+uint32_t piecrag_report(const uint32_t *state, uint32_t *nodes, const uint32_t *voices, uint32_t node, size_t channels,
+                        const float *samples, size_t samples_length, uint32_t done);
+
+/* A block: the events that are due are applied in order, then fades move and the clock advances by a block. *sounding becomes 1 if
+ * the graph is prepared and has a sink, else 0: then fades do not move. *taken becomes how many events were due; entry i of `outcomes`
+ * tells what became of the i-th: 0 applied, 1 no such voice, 2 no such parameter, 3 its node takes none of that sort; a free answers 0
+ * or 1. Later entries stay. A free among the events prepares; if the last such prepare fails, the answer is its 13 or 14 and the block
+ * is silent, but all the rest was done.
+ * Refused: 15 the clock would pass 2^64 - 1; 17 outcomes has fewer than 256 entries. */
+uint32_t piecrag_render(uint32_t *state, uint32_t *nodes, uint32_t *edges, uint32_t *order, uint32_t *voices, uint32_t *events,
+                        uint8_t *outcomes, size_t outcomes_length, uint32_t *sounding, size_t *taken);
+
+/* ==== reading. These change nothing but the lent cells and blocks; where there is nothing to tell, a cell stays as it was */
+
+/* The level of a voice: *known becomes 1 and *level its level; 0 for an unknown or newborn voice or a dead output. */
+uint32_t piecrag_voice_level(const uint32_t *state, const uint32_t *nodes, const uint32_t *voices, uint64_t voice, uint32_t *known,
+                             float *level);
+
+/* The position of a voice's fade, in samples: *fading becomes 1; 0 if it has no fade. */
+uint32_t piecrag_fade_position(const uint32_t *state, const uint32_t *voices, uint64_t voice, uint32_t *fading, uint64_t *position);
+
+/* The record of a voice: *found becomes 1 and row the PIECRAG_VOICE_RECORD_WORDS words described above; 0 if there is none. */
+uint32_t piecrag_voice(const uint32_t *state, const uint32_t *voices, uint64_t voice, uint32_t *found, uint32_t *row);
+
+/* The same of the voice at a place in voice order, from 0. */
+uint32_t piecrag_voice_at(const uint32_t *state, const uint32_t *voices, size_t place, uint32_t *found, uint32_t *row);
+
+/* The record of a node: *found becomes 1 and row the PIECRAG_NODE_RECORD_WORDS words described above; 0 if there is none. */
+uint32_t piecrag_node_record(const uint32_t *state, const uint32_t *nodes, uint32_t node, uint32_t *found, uint32_t *row);
+
+/* *count becomes how many voices there are: in voice order they are the first rows of `voices`. */
+uint32_t piecrag_voices(const uint32_t *state, const uint32_t *voices, size_t *count);
+
+/* *count becomes how many edges there are: in their order they are the first rows of `edges`. */
+uint32_t piecrag_edges(const uint32_t *state, const uint32_t *edges, size_t *count);
+
+/* *count becomes how many nodes the processing order of the last good prepare has: their ids are the first words of `order`. */
+uint32_t piecrag_processing_order(const uint32_t *state, const uint32_t *order, size_t *count);
+
+/* The edge at a place in their order, from 0: *found becomes 1 and row its PIECRAG_EDGE_RECORD_WORDS words; 0 if there is none. */
+uint32_t piecrag_edge_at(const uint32_t *state, const uint32_t *edges, size_t place, uint32_t *found, uint32_t *row);
+
+/* What feeds a port of a node: *fed becomes 1 and *from the id of the source; 0 if nothing does. */
+uint32_t piecrag_source(const uint32_t *state, const uint32_t *edges, uint32_t node, uint32_t port, uint32_t *fed, uint32_t *from);
+
+/* *clock becomes the number of samples rendered so far. */
+uint32_t piecrag_clock(const uint32_t *state, uint64_t *clock);
+
+/* *total becomes how many steals there were, *held of how many the record is held: the newest, at most 64. */
+uint32_t piecrag_steals(const uint32_t *state, const uint32_t *steals, uint64_t *total, size_t *held);
+
+/* The record at a place of those that are held, oldest first, from 0: *found becomes 1, *sample the clock at the steal, *known whether
+ * the victim's level was known, *level that level (it says nothing unless known), *cut whether the victim was cut; *found 0 if there
+ * is none. */
+uint32_t piecrag_steal_at(const uint32_t *state, const uint32_t *steals, size_t place, uint32_t *found, uint64_t *sample,
+                          uint32_t *known, float *level, uint32_t *cut);
+
+/* The busiest stretch of `width` consecutive samples among the records that are held: *count becomes how many records are in it,
+ * *sample the sample of the first of them; without records *count becomes 0 and *sample stays.
+ * Refused: 22 width is 0; 23 samples fall somewhere, which no calls bring about. */
+uint32_t piecrag_busiest_steals(const uint32_t *state, const uint32_t *steals, uint64_t width, size_t *count, uint64_t *sample);
+
+/* The page: a line for each voice with its id, age, port and state. *length becomes how many bytes of `out` it took; later bytes stay.
+ * Refused: 17 out is too short. */
+uint32_t piecrag_page(const uint32_t *state, const uint32_t *edges, const uint32_t *voices, uint8_t *out, size_t out_length,
+                      size_t *length);
+
+/* ==== blocks of sound, by the store's rules. Channel after channel; output channel c reads channel c modulo the input's count */
+
+/* The output of a fade whose position before the render was `position`. ins, outs: channels. gains: the fade length or more, unless
+ * the store was made with the fade table, then they are not looked at.
+ * Refused: 16 channels not 1 or 2, a block not channels times block samples, or too few gains. */
+uint32_t piecrag_fade_output(const uint32_t *state, const float *input, size_t input_length, size_t ins, const float *gains,
+                             size_t gains_length, uint64_t position, float *out, size_t out_length, size_t outs);
+
+/* The sum of a bus. inputs: the blocks of its fed ports one after the other; counts: the channels of each.
+ * Refused: 16 channels not 1 or 2, a block of another length, or more than 64 inputs. */
+uint32_t piecrag_bus_sum(const uint32_t *state, const float *inputs, size_t inputs_length, const size_t *counts, size_t counts_length,
+                         float *out, size_t out_length, size_t outs);
+
+/* The same two for samples from -2^23 to 2^23 - 1 and gains from 0 to 2^24; the sum is clipped to that range.
+ * Refused: 16 as above; 21 a sample or a lent gain outside its range. */
+uint32_t piecrag_whole_fade_output(const uint32_t *state, const int32_t *input, size_t input_length, size_t ins, const uint32_t *gains,
+                                   size_t gains_length, uint64_t position, int32_t *out, size_t out_length, size_t outs);
+uint32_t piecrag_whole_bus_sum(const uint32_t *state, const int32_t *inputs, size_t inputs_length, const size_t *counts,
+                               size_t counts_length, int32_t *out, size_t out_length, size_t outs);
 
 #ifdef __cplusplus
 }

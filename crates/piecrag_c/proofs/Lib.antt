@@ -1,1 +1,1 @@
-pub mod Exporting
+pub mod Making

@@ -1,8 +1,12 @@
 // Making, and the host's calls: nodes, edges, the sink, prepare and scheduling.
-use crate::answer::add_code;
-use crate::answer::answer_code;
-use crate::answer::node_cell;
-use crate::answer::settle;
+use c_answer::answer::add_code;
+use c_answer::answer::add_kept;
+use c_answer::answer::answer_code;
+use c_answer::answer::answer_kept;
+use c_answer::answer::node_cell;
+use c_answer::answer::settle;
+use c_answer::argument::shape_in;
+use c_answer::argument::space_in;
 use node::order::Action;
 use node::record::NodeId;
 use node::record::VoiceId;
@@ -25,9 +29,11 @@ ghost use Rattle.model.specs.Make.{newModel, configOf, refusalOf};
 ghost use Rattle.call_make.specs.Made.{making};
 ghost use Rattle.memory.specs.View.{Memory, modelOf};
 ghost use Rattle.memory.specs.Lent.{lentState, lentNodes, lentGraph, lentOrder, lentEvents};
-ghost use Rattle.memory.specs.Called.{answered};
+ghost use Rattle.memory.specs.Called.{answered, granted, keeps};
 ghost use Rattle.state_words.specs.State.{stateIn, budgetIn, policyIn, scopeIn};
-ghost use Rattle.piecrag_c.specs.Exported.{Exported, Gives, code, keptCode};
+ghost use Rattle.model.specs.Numbers.{numberIn};
+ghost use Rattle.c_answer.specs.Exported.{Exported, Tells, code, nodeCell};
+ghost use Rattle.c_answer.specs.Argument.{shapeIn, spaceIn};
 
 // A new store, whatever stands in the words of its tables.
 #[no_mangle]
@@ -42,15 +48,15 @@ pub extern "C" fn piecrag_make(
     table: u32,
 ) -> u32
     ensures answer { λ k. ⌜ k ≡ code (answered (answerOf (refusalOf (making rate block (budgetIn limited budget) (policyIn policy) (scopeIn scope) (isSet table))))) ⌝ }
-    ensures model { λ k. ⌜ (keptCode k ≡ false → (m : Memory) → modelOf (lentState (stateIn (now (state .exit))) m) ≡ newModel (configOf (making rate block (budgetIn limited budget) (policyIn policy) (scopeIn scope) (isSet table)))) ⌝ }
-    ensures same { λ k. ⌜ (keptCode k ≡ true → now (state .exit) ≡ now (state .entry)) ⌝ }
+    ensures model { λ k. ⌜ (keeps (numberIn (answered (answerOf (refusalOf (making rate block (budgetIn limited budget) (policyIn policy) (scopeIn scope) (isSet table)))))) ≡ false → (m : Memory) → modelOf (lentState (stateIn (now (state .exit))) m) ≡ newModel (configOf (making rate block (budgetIn limited budget) (policyIn policy) (scopeIn scope) (isSet table)))) ⌝ }
+    ensures same { λ k. ⌜ (keeps (numberIn (answered (answerOf (refusalOf (making rate block (budgetIn limited budget) (policyIn policy) (scopeIn scope) (isSet table)))))) ≡ true → now (state .exit) ≡ now (state .entry)) ⌝ }
 {
     let most = budget_in(limited, budget);
     let way = policy_in(policy);
     let among = scope_in(scope);
     let made = piecrag::make(rate, block, most, way, among, table != 0);
     let answer = made.answer;
-    settle(state, made.state, answer_code(answer))
+    settle(state, made.state, answer_kept(answer), answer_code(answer))
 }
 
 // A node of the host; `node` becomes its id.
@@ -66,13 +72,13 @@ pub extern "C" fn piecrag_add_node(
     node: &mut u32,
 ) -> u32
     ensures is { λ k. ⌜ ((m : Memory) → Exported (call.addNode (now (kind .entry)) ports required (isSet values) (isSet glides)) (lentNodes (stateIn (now (state .entry))) (now (nodes .entry)) m) (now (state .entry)) k (lentNodes (stateIn (now (state .exit))) (now (nodes .exit)) m) (now (state .exit))) ⌝ }
-    ensures cell { λ k. ⌜ ((m : Memory) → Gives (call.addNode (now (kind .entry)) ports required (isSet values) (isSet glides)) (lentNodes (stateIn (now (state .entry))) (now (nodes .entry)) m) (now (node .entry)) (now (node .exit))) ⌝ }
+    ensures cell { λ k. ⌜ ((m : Memory) → Tells granted (call.addNode (now (kind .entry)) ports required (isSet values) (isSet glides)) (lentNodes (stateIn (now (state .entry))) (now (nodes .entry)) m) k (λ a. now (node .exit) ≡ nodeCell a (now (node .entry)))) ⌝ }
 {
     let s = state_in(state);
     let r = piecrag::add_node(s, nodes, kind, ports, required, values != 0, glides != 0);
     let given = r.given;
     *node = node_cell(given, *node);
-    settle(state, r.state, add_code(given))
+    settle(state, r.state, add_kept(given), add_code(given))
 }
 
 #[no_mangle]
@@ -87,7 +93,7 @@ pub extern "C" fn piecrag_remove_node(
     let s = state_in(state);
     let r = piecrag::remove_node(s, nodes, edges, NodeId(node));
     let answer = r.answer;
-    settle(state, r.state, answer_code(answer))
+    settle(state, r.state, answer_kept(answer), answer_code(answer))
 }
 
 #[no_mangle]
@@ -104,7 +110,7 @@ pub extern "C" fn piecrag_connect(
     let s = state_in(state);
     let r = piecrag::connect(s, nodes, edges, NodeId(from), NodeId(to), port);
     let answer = r.answer;
-    settle(state, r.state, answer_code(answer))
+    settle(state, r.state, answer_kept(answer), answer_code(answer))
 }
 
 #[no_mangle]
@@ -120,7 +126,7 @@ pub extern "C" fn piecrag_disconnect(
     let s = state_in(state);
     let r = piecrag::disconnect(s, nodes, edges, NodeId(to), port);
     let answer = r.answer;
-    settle(state, r.state, answer_code(answer))
+    settle(state, r.state, answer_kept(answer), answer_code(answer))
 }
 
 #[no_mangle]
@@ -130,7 +136,7 @@ pub extern "C" fn piecrag_set_sink(state: &mut StateWords, nodes: &NodeTable, no
     let s = state_in(state);
     let r = piecrag::set_sink(s, nodes, NodeId(node));
     let answer = r.answer;
-    settle(state, r.state, answer_code(answer))
+    settle(state, r.state, answer_kept(answer), answer_code(answer))
 }
 
 #[no_mangle]
@@ -145,7 +151,7 @@ pub extern "C" fn piecrag_prepare(
     let s = state_in(state);
     let r = piecrag::prepare(s, nodes, edges, order);
     let answer = r.answer;
-    settle(state, r.state, answer_code(answer))
+    settle(state, r.state, answer_kept(answer), answer_code(answer))
 }
 
 // A value for a parameter of a voice, at the sample `time`.
@@ -163,7 +169,55 @@ pub extern "C" fn piecrag_schedule_value(
     let s = state_in(state);
     let r = piecrag::schedule(s, events, time, VoiceId(voice), name, Action::Value(value));
     let answer = r.answer;
-    settle(state, r.state, answer_code(answer))
+    settle(state, r.state, answer_kept(answer), answer_code(answer))
+}
+
+// A glide for a parameter of a voice, at the sample `time`.
+#[no_mangle]
+pub extern "C" fn piecrag_schedule_glide(
+    state: &mut StateWords,
+    events: &mut EventTable,
+    time: u64,
+    voice: u64,
+    name: &[u8],
+    target: f32,
+    seconds: f32,
+    shape: u32,
+    curve: f32,
+    space: u32,
+) -> u32
+    ensures { λ k. ⌜ ((m : Memory) → Exported (call.schedule time (record { 0 = voice }) (now (name .entry)) (action.Glide target seconds (shapeIn shape curve) (spaceIn space))) (lentEvents (stateIn (now (state .entry))) (now (events .entry)) m) (now (state .entry)) k (lentEvents (stateIn (now (state .exit))) (now (events .exit)) m) (now (state .exit))) ⌝ }
+{
+    let s = state_in(state);
+    let way = shape_in(shape, curve);
+    let unit = space_in(space);
+    let a = Action::Glide {
+        target,
+        seconds,
+        shape: way,
+        space: unit,
+    };
+    let r = piecrag::schedule(s, events, time, VoiceId(voice), name, a);
+    let answer = r.answer;
+    settle(state, r.state, answer_kept(answer), answer_code(answer))
+}
+
+// A value for the parameter `gate` of a voice, at the sample `time`.
+#[no_mangle]
+pub extern "C" fn piecrag_schedule_gate(
+    state: &mut StateWords,
+    events: &mut EventTable,
+    time: u64,
+    voice: u64,
+    name: &[u8],
+    value: f32,
+) -> u32
+    ensures { λ k. ⌜ ((m : Memory) → Exported (call.schedule time (record { 0 = voice }) (now (name .entry)) (action.Gate value)) (lentEvents (stateIn (now (state .entry))) (now (events .entry)) m) (now (state .entry)) k (lentEvents (stateIn (now (state .exit))) (now (events .exit)) m) (now (state .exit))) ⌝ }
+{
+    let s = state_in(state);
+    let r = piecrag::schedule(s, events, time, VoiceId(voice), name, Action::Gate(value));
+    let answer = r.answer;
+    settle(state, r.state, answer_kept(answer), answer_code(answer))
 }
 
 // The voice is freed at the sample `time`.
@@ -180,5 +234,5 @@ pub extern "C" fn piecrag_schedule_free(
     let s = state_in(state);
     let r = piecrag::schedule(s, events, time, VoiceId(voice), name, Action::Free);
     let answer = r.answer;
-    settle(state, r.state, answer_code(answer))
+    settle(state, r.state, answer_kept(answer), answer_code(answer))
 }

@@ -6,6 +6,7 @@
 
 use std::fs;
 use std::path::Path;
+use std::process;
 
 use generator::reach::Reach;
 use generator::{scenes, script, shrink};
@@ -19,11 +20,11 @@ fn main() {
     let (reach, prints) = match words[..] {
         ["shrink", script, program] => return shrink(Path::new(script), Path::new(program)),
         ["scripts", seed, calls, folder, ref rest @ ..] => {
-            (scripts(number(seed), number(calls) as usize, Path::new(folder)), rest == ["--reach"])
+            (scripts(number(seed), count(calls), Path::new(folder)), rest == ["--reach"])
         }
         ["sample", seed, file, ref rest @ ..] => (sample(number(seed), Path::new(file)), rest == ["--reach"]),
-        _ => panic!(
-            "usage: generator scripts SEED CALLS FOLDER [--reach] | sample SEED FILE [--reach] | shrink SCRIPT PROGRAM"
+        _ => refuse(
+            "usage: generator scripts SEED CALLS FOLDER [--reach] | sample SEED FILE [--reach] | shrink SCRIPT PROGRAM",
         ),
     };
     println!("{} scripts, {} calls, {} of them states", reach.scripts, reach.calls, reach.states);
@@ -34,8 +35,10 @@ fn main() {
 
 /// Writes the short script in place of the long one, and prints its calls.
 fn shrink(path: &Path, program: &Path) {
-    let script = fs::read(path).unwrap_or_else(|e| panic!("{}: {e}", path.display()));
-    assert!(shrink::differs(&script, program), "the answers do not differ");
+    let script = fs::read(path).unwrap_or_else(|e| refuse(&format!("{}: {e}", path.display())));
+    if !shrink::differs(&script, program) {
+        refuse("the answers do not differ");
+    }
     let calls = shrink::shrink(&script, program);
     write(path, &shrink::bytes_of(&calls));
     for call in calls {
@@ -43,16 +46,30 @@ fn shrink(path: &Path, program: &Path) {
     }
 }
 
+/// Says what is wrong with the arguments, and ends.
+fn refuse(why: &str) -> ! {
+    eprintln!("{why}");
+    process::exit(2)
+}
+
 fn number(word: &str) -> u64 {
-    word.parse().unwrap_or_else(|_| panic!("{word} is not a number"))
+    word.parse().unwrap_or_else(|_| refuse(&format!("'{word}' is not a whole number from 0 to 2^64 - 1")))
+}
+
+/// How many calls are asked for.
+fn count(word: &str) -> usize {
+    match number(word) {
+        0 => refuse("of 0 calls there is no script: ask for 1 or more"),
+        calls => calls as usize,
+    }
 }
 
 fn write(path: &Path, script: &[u8]) {
-    fs::write(path, script).unwrap_or_else(|e| panic!("{}: {e}", path.display()));
+    fs::write(path, script).unwrap_or_else(|e| refuse(&format!("{}: {e}", path.display())));
 }
 
 fn scripts(seed: u64, calls: usize, folder: &Path) -> Reach {
-    fs::create_dir_all(folder).unwrap_or_else(|e| panic!("{}: {e}", folder.display()));
+    fs::create_dir_all(folder).unwrap_or_else(|e| refuse(&format!("{}: {e}", folder.display())));
     let mut reach = Reach::default();
     while reach.calls < calls {
         let number = reach.scripts;

@@ -12,6 +12,7 @@ mod synthdef;
 mod voice;
 
 use std::path::Path;
+use std::process;
 
 use book::Book;
 use seeded::rng::Rng;
@@ -37,12 +38,18 @@ const LEAVES: [Leaf; 6] = [
     leaf("synthdef", synthdef::book, 8000, 200),
 ];
 
+/// Says what is wrong with the arguments, and ends.
+fn refuse(why: &str) -> ! {
+    eprintln!("{why}");
+    process::exit(2)
+}
+
 fn main() {
     let words: Vec<String> = std::env::args().skip(1).collect();
     let [how, seed, folder, names @ ..] = &words[..] else {
-        panic!("usage: vectors all|sample SEED FOLDER [LEAF..]");
+        refuse("usage: vectors all|sample SEED FOLDER [LEAF..]");
     };
-    let seed: u64 = seed.parse().expect("the seed is a number");
+    let seed = seed.parse().unwrap_or_else(|_| refuse(&format!("'{seed}' is not a whole number from 0 to 2^64 - 1")));
     let is_sample = how == "sample";
     let mut book = Book::default();
     for leaf in LEAVES.iter().filter(|leaf| names.is_empty() || names.iter().any(|n| n == leaf.name)) {

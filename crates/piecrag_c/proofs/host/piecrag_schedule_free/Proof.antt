@@ -3,11 +3,11 @@ use mathlib.Core.Path.{_≡_, refl, sym, ap, _∙_}
 use mathlib.Core.List.{List}
 use mathlib.Core.Bool.{Bool, true, false}
 use borrow.Author.Needs.{needs}
-use Rattle.node.specs.declared.order.Action.the-variants as action
 use Rattle.model.specs.Call as call
 use Rattle.memory.specs.Lent.{lentEvents}
 use Rattle.memory.specs.Called.{answered}
-use Rattle.piecrag_c.proofs.Exporting.{exported}
+use Rattle.c_answer.proofs.Exporting.{exported}
+use Rattle.node.specs.declared.order.Action.the-variants as action
 use Rattle.piecrag_c.proofs.host.piecrag_schedule_free.Statement.{statement}
 use Rattle.piecrag_c.proofs.host.piecrag_schedule_free.Tie as tie
 
@@ -17,6 +17,9 @@ state-in-requires c κs = search needs
 schedule-requires : tie.Need-schedule-requires
 schedule-requires c κs = search needs
 
+answer-kept-requires : tie.Need-answer-kept-requires
+answer-kept-requires c κs = search needs
+
 answer-code-requires : tie.Need-answer-code-requires
 answer-code-requires c κs = search needs
 
@@ -25,11 +28,12 @@ settle-requires c κs = search needs
 
 returns : tie.Need-returns
 returns c =
-    let a = c .before .before .before .before .before .before .before .before .args in
-    let r = c .before .before .before .schedule in
-    let read = c .before .before .before .before .before .state-in in
+    let a = c .before .before .before .before .before .before .before .before .before .args in
+    let r = c .before .before .before .before .schedule in
+    let read = c .before .before .before .before .before .before .state-in in
     λ m.
-    exported (call.schedule (a .time) (record { 0 = a .voice }) (a .name .now) action.Free) (λ s. lentEvents s (a .events .now) m) (λ s. lentEvents s (r .last .1 .0) m) (a .state .now) (c .settle .last .0) (read .result) (r .result .state) (answered (r .result .answer)) (c .before .answer-code .result) (c .settle .result) (λ s. refl) (λ s. refl) (read .ensures) (r .ensures .0 m) (r .ensures .1 m) (c .before .answer-code .ensures) (c .settle .ensures)
+    exported (call.schedule (a .time) (record { 0 = a .voice }) (a .name .now) (action.Free)) (call.schedule (a .time) (record { 0 = a .voice }) (a .name .now) (action.Free)) (λ s. lentEvents s (a .events .now) m) (λ s. lentEvents s (r .last .1 .0) m) (a .state .now) (read .result) (r .result .state) (answered (r .result .answer)) (refl) (read .ensures) (r .ensures .0 m)
+    (λ s. refl) (λ s. refl) (c .before .before .answer-kept .result) (c .before .answer-code .result) (c .settle .result) (c .settle .last .0) (r .ensures .1 m) (c .before .before .answer-kept .ensures) (c .before .answer-code .ensures) (c .settle .ensures)
 
 pub piecrag-schedule-free-spec : {M : Type 1} → statement M
-piecrag-schedule-free-spec = tie.close (tie.spec state-in-requires schedule-requires answer-code-requires settle-requires returns)
+piecrag-schedule-free-spec = tie.close (tie.spec state-in-requires schedule-requires answer-kept-requires answer-code-requires settle-requires returns)

@@ -1,0 +1,63 @@
+use Prim.Native.Nat.{ℕ}
+use mathlib.Core.Path.{_≡_, refl, sym, ap, _∙_}
+use mathlib.Core.List.{List}
+use mathlib.Core.Bool.{Bool, true, false}
+use lib.Dec.{eqb}
+use mathlib.Core.Bool.{not}
+use borrow.Author.Tests.{eq-eqb, ne-eqb}
+use Rattle.model.specs.Call as call
+use Rattle.model.specs.Numbers.{number, numberIn, renderSays}
+use Rattle.memory.specs.Called.{answered, granted, keeps}
+use Rattle.c_answer.specs.Exported.{code, renderCode}
+use borrow.Author.Needs.{needs}
+use Rattle.c_answer.proofs.answer.render_code.Statement.{statement}
+use Rattle.c_answer.proofs.answer.render_code.Tie as tie
+
+enum-told : tie.Need-enum-told
+enum-told c = search needs
+
+enum-told-2 : tie.Need-enum-told-2
+enum-told-2 c = search needs
+
+enum-known-a : tie.Need-enum-known-a
+enum-known-a c = search needs
+
+number-of-requires : tie.Need-number-of-requires
+number-of-requires c κs = search needs
+
+enum-known-a-2 : tie.Need-enum-known-a-2
+enum-known-a-2 c = search needs
+
+number-of-requires-2 : tie.Need-number-of-requires-2
+number-of-requires-2 c κs = search needs
+
+returns : tie.Need-returns
+returns c = search needs
+
+returns-2 : tie.Need-returns-2
+returns-2 c = search needs
+
+returns-3 : tie.Need-returns-3
+returns-3 c =
+    let e = c .before .before .a .given .1 in
+    c .number-of .ensures ∙ sym (ap (λ a. renderCode a) e)
+
+returns-4 : tie.Need-returns-4
+returns-4 c =
+    let e = c .before .before .a2 .given .1 in
+    c .number-of2 .ensures ∙ sym (ap (λ a. renderCode a) e)
+
+pub render-code-spec : {M : Type 1} → statement M
+render-code-spec =
+    tie.close
+    (tie.spec
+    enum-told
+    enum-told-2
+    enum-known-a
+    number-of-requires
+    enum-known-a-2
+    number-of-requires-2
+    returns
+    returns-2
+    returns-3
+    returns-4)
