@@ -17,6 +17,7 @@ use piecrag::ORDER_WORDS;
 use piecrag::OrderTable;
 use piecrag::STEAL_WORDS;
 use piecrag::StealTable;
+use piecrag::SynthDef;
 use piecrag::VOICE_WORDS;
 use piecrag::VoiceTable;
 use piecrag::WISH_WORDS;
@@ -61,6 +62,32 @@ fn window_room() -> [u8; 262144]
     [0; 262144]
 }
 
+// The entry at `at`, which is whole and keeps no definition, on the console.
+fn play_entry(
+    s: &[u8],
+    at: usize,
+    console: Console,
+    def: SynthDef,
+    nodes: &mut NodeTable,
+    edges: &mut EdgeTable,
+    order: &mut OrderTable,
+    voices: &mut VoiceTable,
+    events: &mut EventTable,
+    steals: &mut StealTable,
+    wishes: &mut WishTable,
+) -> Console {
+    if is_console(s, at) {
+        return play_console(s, at, console, def, nodes, edges, voices, steals, wishes);
+    }
+    let before = console.state;
+    let waiting = console.wishes;
+    let state = play(s, at, before, def, nodes, edges, order, voices, events, steals);
+    Console {
+        state,
+        wishes: waiting,
+    }
+}
+
 // Plays the entries that stand in `s` whole. An entry has a byte at least, so there are no more of them than bytes.
 fn play_whole(
     s: &[u8],
@@ -89,28 +116,9 @@ fn play_whole(
             slots = keep(s, here, slots);
         } else {
             let def = slot_at(s, here, slots);
-            if is_console(s, here) {
-                console = play_console(s, here, console, def, nodes, edges, voices, steals, wishes);
-            } else {
-                let before = console.state;
-                let waiting = console.wishes;
-                let state = play(
-                    s,
-                    here,
-                    before,
-                    def,
-                    nodes,
-                    edges,
-                    order,
-                    voices,
-                    events,
-                    steals,
-                );
-                console = Console {
-                    state,
-                    wishes: waiting,
-                };
-            }
+            console = play_entry(
+                s, here, console, def, nodes, edges, order, voices, events, steals, wishes,
+            );
         }
     }
     Played {
