@@ -1,5 +1,6 @@
 // Makings, and the console's calls: wishes, turns, and what waits.
 use crate::host::id_at;
+use crate::player::play;
 use codec::field::after;
 use codec::field::byte_at;
 use codec::field::float;
@@ -12,10 +13,12 @@ use piecrag::Budget;
 use piecrag::BudgetScope;
 use piecrag::ConsoleMade;
 use piecrag::EdgeTable;
+use piecrag::EventTable;
 use piecrag::KeyboardRefusal;
 use piecrag::Made;
 use piecrag::MakeAnswer;
 use piecrag::NodeTable;
+use piecrag::OrderTable;
 use piecrag::Queue;
 use piecrag::State;
 use piecrag::StealPolicy;
@@ -269,5 +272,31 @@ pub fn play_console(
             waiting_line(waiting);
             console
         }
+    }
+}
+
+// The entry at `at`, which is whole and keeps no definition, on the console.
+pub fn play_entry(
+    s: &[u8],
+    at: usize,
+    console: Console,
+    def: SynthDef,
+    nodes: &mut NodeTable,
+    edges: &mut EdgeTable,
+    order: &mut OrderTable,
+    voices: &mut VoiceTable,
+    events: &mut EventTable,
+    steals: &mut StealTable,
+    wishes: &mut WishTable,
+) -> Console {
+    if is_console(s, at) {
+        return play_console(s, at, console, def, nodes, edges, voices, steals, wishes);
+    }
+    let before = console.state;
+    let waiting = console.wishes;
+    let state = play(s, at, before, def, nodes, edges, order, voices, events, steals);
+    Console {
+        state,
+        wishes: waiting,
     }
 }

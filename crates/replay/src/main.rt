@@ -17,17 +17,14 @@ use piecrag::ORDER_WORDS;
 use piecrag::OrderTable;
 use piecrag::STEAL_WORDS;
 use piecrag::StealTable;
-use piecrag::SynthDef;
 use piecrag::VOICE_WORDS;
 use piecrag::VoiceTable;
 use piecrag::WISH_WORDS;
 use piecrag::WishTable;
 use play::keyboards::Console;
-use play::keyboards::is_console;
 use play::keyboards::no_keyboards;
-use play::keyboards::play_console;
+use play::keyboards::play_entry;
 use play::player::first_state;
-use play::player::play;
 use play::slots::Slots;
 use play::slots::is_kept;
 use play::slots::keep;
@@ -60,32 +57,6 @@ fn window_room() -> [u8; 262144]
     ensures { λ r. ⌜ 262144 ≡ length r ⌝ }
 {
     [0; 262144]
-}
-
-// The entry at `at`, which is whole and keeps no definition, on the console.
-fn play_entry(
-    s: &[u8],
-    at: usize,
-    console: Console,
-    def: SynthDef,
-    nodes: &mut NodeTable,
-    edges: &mut EdgeTable,
-    order: &mut OrderTable,
-    voices: &mut VoiceTable,
-    events: &mut EventTable,
-    steals: &mut StealTable,
-    wishes: &mut WishTable,
-) -> Console {
-    if is_console(s, at) {
-        return play_console(s, at, console, def, nodes, edges, voices, steals, wishes);
-    }
-    let before = console.state;
-    let waiting = console.wishes;
-    let state = play(s, at, before, def, nodes, edges, order, voices, events, steals);
-    Console {
-        state,
-        wishes: waiting,
-    }
 }
 
 // Plays the entries that stand in `s` whole. An entry has a byte at least, so there are no more of them than bytes.
