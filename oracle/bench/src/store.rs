@@ -5,7 +5,7 @@ pub type State = [u32; 24];
 pub type Nodes = [u32; 11264];
 pub type Edges = [u32; 3072];
 pub type Order = [u32; 512];
-pub type Voices = [u32; 9088];
+pub type Voices = [u32; 9152];
 pub type Events = [u32; 3840];
 pub type Steals = [u32; 320];
 
