@@ -32,7 +32,7 @@ fn bus(budget: usize, policy: u32, ports: u32) -> Box<Store> {
         nodes: [ANY; 11264],
         edges: [ANY; 3072],
         order: [ANY; 512],
-        voices: [ANY; 9088],
+        voices: [ANY; 9152],
         events: [ANY; 3840],
         steals: [ANY; 320],
     });
