@@ -82,7 +82,7 @@ fn is_stated(bus: Brief, nodes: usize, edges: usize, voices: usize, p: Profile) 
 fn count_in(t: &[u32], count: usize) -> usize
     ensures { λ r. ⌜ r ≡ length (take count (voicesIn (now (t .entry)))) ⌝ }
 {
-    at_most(count, t.len() / 142)
+    at_most(count, t.len() / 143)
 }
 
 // Whether sealing by the profile is accepted, as far as the store decides it.

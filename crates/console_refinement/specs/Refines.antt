@@ -1,5 +1,6 @@
 -- The console that code makes is the one that Paper 11's claim speaks of.
 use Prim.Native.Nat.{ℕ}
+use mathlib.Core.Path.{_≡_}
 use mathlib.Core.List.{List}
 use Rattle.model.specs.Make.{Making}
 use Rattle.console.specs.Console.{Console, ConsoleCall, ConsoleAnswer, ConsoleRan, consoleRun}

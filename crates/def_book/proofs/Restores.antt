@@ -19,7 +19,7 @@ use Rattle.synthdef.specs.declared.def.DefEdge.{DefEdge}
 use Rattle.synthdef.specs.declared.def.Param.{Param}
 use Rattle.def_book.specs.Held.{held}
 use Rattle.def_book.specs.Bytes.{Row, node, edge, param, long, nameBytes, sortsOf, nodeBytes, edgeBytes, paramBytes, rowBytes, joined}
-use Rattle.def_book.specs.Rows.{isRecord, nameAt, nameFits, isNode, isParam, nodeAt, paramAt, rowAt, follow, rowsAfter, rows, size, more, gather, asNode, asParam}
+use Rattle.def_book.specs.Rows.{isRecord, nameAt, nameFits, isNode, isParam, nodeCalled, nodeAt, paramAt, rowAt, follow, rowsAfter, rows, size, more, gather, asNode, asParam}
 use Rattle.def_book.specs.Read.{cleanName, cleanNode, cleanParam}
 use Rattle.def_book.proofs.Held.{length-held, held-again, rest-zero, held-clean}
 use Rattle.def_book.proofs.Walk.{Front, a-node, an-edge, a-param, no-row, front, as-node, as-param, rows-nil, rows-some}
@@ -212,16 +212,7 @@ name-clean s h =
 front-clean : (s : List ℕ) (o : Option Row) → Front s o → mapO cleanRow o ≡ o
 front-clean s o (a-node e) =
     let name = name-clean s (and-left (nameFits (nameAt s)) _ (and-right (isRecord 2 27 s) _ e)) in
-    ap (λ (m : Name). some (node (record {
-      kind = m;
-      ports = getD s 21 0;
-      required = getD s 22 0;
-      «takes_values» = eqb (getD s 23 0 % 2) 1;
-      «takes_glides» = leb 2 (getD s 23 0);
-      «in_port» = getD s 24 0;
-      «level_port» = getD s 25 0;
-      «amp_port» = getD s 26 0;
-    }))) name
+    ap (λ (m : Name). some (node (nodeCalled m s))) name
 front-clean s o (an-edge n e) = refl
 front-clean s o (a-param n f e) =
     let name = name-clean s (and-right (isRecord 4 22 s) _ e) in

@@ -47,10 +47,10 @@ abbrev pub isParam : List ℕ → Bool
 isParam s = isRecord 4 22 s && nameFits (nameAt s)
 
 -- "sorts taken as 1 for values plus 2 for glides"
-abbrev pub nodeAt : List ℕ → DefNode
-nodeAt s =
+abbrev pub nodeCalled : Name → List ℕ → DefNode
+nodeCalled name s =
     record {
-      kind = nameAt s;
+      kind = name;
       ports = getD s 21 0;
       required = getD s 22 0;
       «takes_values» = eqb (getD s 23 0 % 2) 1;
@@ -59,6 +59,9 @@ nodeAt s =
       «level_port» = getD s 25 0;
       «amp_port» = getD s 26 0;
     }
+
+abbrev pub nodeAt : List ℕ → DefNode
+nodeAt s = nodeCalled (nameAt s) s
 
 abbrev pub edgeAt : List ℕ → DefEdge
 edgeAt s = record { from = getD s 4 0; to = getD s 5 0; port = getD s 6 0 }

@@ -1,5 +1,6 @@
 // Makings, and the console's calls: wishes, turns, and what waits.
 use crate::host::id_at;
+use crate::player::play;
 use codec::field::after;
 use codec::field::byte_at;
 use codec::field::float;
@@ -8,12 +9,19 @@ use codec::word::and_number;
 use codec::word::end_line;
 use codec::word::text;
 use piecrag::Answer;
+use piecrag::Budget;
+use piecrag::BudgetScope;
+use piecrag::ConsoleMade;
 use piecrag::EdgeTable;
+use piecrag::EventTable;
 use piecrag::KeyboardRefusal;
+use piecrag::Made;
 use piecrag::MakeAnswer;
 use piecrag::NodeTable;
+use piecrag::OrderTable;
 use piecrag::Queue;
 use piecrag::State;
+use piecrag::StealPolicy;
 use piecrag::StealTable;
 use piecrag::SynthDef;
 use piecrag::TurnAnswer;
@@ -65,14 +73,31 @@ fn keyboard_line(refusal: KeyboardRefusal) {
     end_line();
 }
 
-// A refused making leaves the console before. A new store stands in the same tables, whatever its forerunner left there.
-fn make_store(s: &[u8], at: usize, table: bool, console: Console) -> Console {
-    let rate = float(word_at(s, at));
-    let block = word_at(s, after(at, 4)) as usize;
+// What every making says first.
+struct Asked {
+    rate: f32,
+    block: usize,
+    budget: Budget,
+    policy: StealPolicy,
+    scope: BudgetScope,
+}
+
+fn asked_at(s: &[u8], at: usize) -> Asked {
     let budget = budget_of(byte_at(s, after(at, 8)), word_at(s, after(at, 9)) as usize);
     let policy = policy_of(byte_at(s, after(at, 13)));
     let scope = scope_of(byte_at(s, after(at, 14)));
-    let r = make(rate, block, budget, policy, scope, table);
+    Asked {
+        rate: float(word_at(s, at)),
+        block: word_at(s, after(at, 4)) as usize,
+        budget,
+        policy,
+        scope,
+    }
+}
+
+// The store that was made, or where it was refused the console before. A new store stands in the same tables, whatever its
+// forerunner left there.
+fn after_making(r: Made, console: Console) -> Console {
     let answer = r.answer;
     made_line(answer);
     match answer {
@@ -85,16 +110,16 @@ fn make_store(s: &[u8], at: usize, table: bool, console: Console) -> Console {
     }
 }
 
+fn make_store(s: &[u8], at: usize, table: bool, console: Console) -> Console {
+    let a = asked_at(s, at);
+    let budget = a.budget;
+    let policy = a.policy;
+    let scope = a.scope;
+    after_making(make(a.rate, a.block, budget, policy, scope, table), console)
+}
+
 // The same with keyboards.
-fn make_with_keyboards(s: &[u8], at: usize, console: Console) -> Console {
-    let rate = float(word_at(s, at));
-    let block = word_at(s, after(at, 4)) as usize;
-    let budget = budget_of(byte_at(s, after(at, 8)), word_at(s, after(at, 9)) as usize);
-    let policy = policy_of(byte_at(s, after(at, 13)));
-    let scope = scope_of(byte_at(s, after(at, 14)));
-    let table = byte_at(s, after(at, 15)) != 0;
-    let keyboards = word_at(s, after(at, 16)) as usize;
-    let r = make_console(rate, block, budget, policy, scope, table, keyboards);
+fn after_console(r: ConsoleMade, console: Console) -> Console {
     let answer = r.answer;
     match answer {
         MakeAnswer::Done => {
@@ -114,7 +139,38 @@ fn make_with_keyboards(s: &[u8], at: usize, console: Console) -> Console {
     }
 }
 
+fn make_with_keyboards(s: &[u8], at: usize, console: Console) -> Console {
+    let a = asked_at(s, at);
+    let budget = a.budget;
+    let policy = a.policy;
+    let scope = a.scope;
+    let table = byte_at(s, after(at, 15)) != 0;
+    let keyboards = word_at(s, after(at, 16)) as usize;
+    after_console(
+        make_console(a.rate, a.block, budget, policy, scope, table, keyboards),
+        console,
+    )
+}
+
 // A slot, whose definition is `def`, a keyboard, whether the spawn is managed, a bus, a pan and a rank.
+fn wish_at(s: &[u8], at: usize, def: SynthDef) -> Wish {
+    let bus = id_at(s, after(at, 6));
+    Wish {
+        managed: byte_at(s, after(at, 5)) != 0,
+        def,
+        bus,
+        pan: float(word_at(s, after(at, 10))),
+        rank: word_at(s, after(at, 14)),
+    }
+}
+
+fn wish_line(answer: WishAnswer) {
+    match answer {
+        WishAnswer::Accepted => text(b"waits\n"),
+        WishAnswer::Refused(refusal) => keyboard_line(refusal),
+    }
+}
+
 fn play_wish(
     s: &[u8],
     at: usize,
@@ -122,22 +178,11 @@ fn play_wish(
     def: SynthDef,
     wishes: &mut WishTable,
 ) -> Console {
-    let keyboard = word_at(s, after(at, 1)) as usize;
-    let bus = id_at(s, after(at, 6));
-    let w = Wish {
-        managed: byte_at(s, after(at, 5)) != 0,
-        def,
-        bus,
-        pan: float(word_at(s, after(at, 10))),
-        rank: word_at(s, after(at, 14)),
-    };
     let before = console.wishes;
-    let r = wish(before, wishes, keyboard, w);
+    let keyboard = word_at(s, after(at, 1)) as usize;
+    let r = wish(before, wishes, keyboard, wish_at(s, at, def));
     let answer = r.answer;
-    match answer {
-        WishAnswer::Accepted => text(b"waits\n"),
-        WishAnswer::Refused(refusal) => keyboard_line(refusal),
-    }
+    wish_line(answer);
     let state = console.state;
     let left = r.wishes;
     Console {
@@ -179,14 +224,24 @@ fn play_turn(
     }
 }
 
+// How many wishes wait at keyboard `q`, if there is one.
+fn and_waiting(w: WishState, q: usize) {
+    if q < keyboard_count(w) {
+        and_number(waiting_count(w, q) as u64);
+    }
+}
+
 // How many wishes wait at each keyboard, and the keyboard after the last served.
 fn waiting_line(w: WishState) {
     text(b"waiting");
-    let mut q: usize = 0;
-    while q < keyboard_count(w) {
-        and_number(waiting_count(w, q) as u64);
-        q += 1;
-    }
+    and_waiting(w, 0);
+    and_waiting(w, 1);
+    and_waiting(w, 2);
+    and_waiting(w, 3);
+    and_waiting(w, 4);
+    and_waiting(w, 5);
+    and_waiting(w, 6);
+    and_waiting(w, 7);
     text(b" next");
     and_number(w.next as u64);
     end_line();
@@ -217,5 +272,31 @@ pub fn play_console(
             waiting_line(waiting);
             console
         }
+    }
+}
+
+// The entry at `at`, which is whole and keeps no definition, on the console.
+pub fn play_entry(
+    s: &[u8],
+    at: usize,
+    console: Console,
+    def: SynthDef,
+    nodes: &mut NodeTable,
+    edges: &mut EdgeTable,
+    order: &mut OrderTable,
+    voices: &mut VoiceTable,
+    events: &mut EventTable,
+    steals: &mut StealTable,
+    wishes: &mut WishTable,
+) -> Console {
+    if is_console(s, at) {
+        return play_console(s, at, console, def, nodes, edges, voices, steals, wishes);
+    }
+    let before = console.state;
+    let waiting = console.wishes;
+    let state = play(s, at, before, def, nodes, edges, order, voices, events, steals);
+    Console {
+        state,
+        wishes: waiting,
     }
 }

@@ -22,11 +22,9 @@ use piecrag::VoiceTable;
 use piecrag::WISH_WORDS;
 use piecrag::WishTable;
 use play::keyboards::Console;
-use play::keyboards::is_console;
 use play::keyboards::no_keyboards;
-use play::keyboards::play_console;
+use play::keyboards::play_entry;
 use play::player::first_state;
-use play::player::play;
 use play::slots::Slots;
 use play::slots::is_kept;
 use play::slots::keep;
@@ -89,28 +87,9 @@ fn play_whole(
             slots = keep(s, here, slots);
         } else {
             let def = slot_at(s, here, slots);
-            if is_console(s, here) {
-                console = play_console(s, here, console, def, nodes, edges, voices, steals, wishes);
-            } else {
-                let before = console.state;
-                let waiting = console.wishes;
-                let state = play(
-                    s,
-                    here,
-                    before,
-                    def,
-                    nodes,
-                    edges,
-                    order,
-                    voices,
-                    events,
-                    steals,
-                );
-                console = Console {
-                    state,
-                    wishes: waiting,
-                };
-            }
+            console = play_entry(
+                s, here, console, def, nodes, edges, order, voices, events, steals, wishes,
+            );
         }
     }
     Played {

@@ -17,8 +17,12 @@ use piecrag::STEAL_WORDS;
 use piecrag::StealTable;
 use piecrag::VOICE_WORDS;
 use piecrag::VoiceTable;
+use piecrag::WISH_WORDS;
+use piecrag::WishTable;
+use play::keyboards::Console;
+use play::keyboards::no_keyboards;
+use play::keyboards::play_entry;
 use play::player::first_state;
-use play::player::play;
 use script::entry::entry_end;
 
 // Plays the entries that stand in `s` whole. An entry has a byte at least, so there are no more of them than bytes.
@@ -30,8 +34,14 @@ fn play_all(
     voices: &mut VoiceTable,
     events: &mut EventTable,
     steals: &mut StealTable,
+    wishes: &mut WishTable,
 ) -> usize {
-    let mut state = first_state();
+    let state = first_state();
+    let waiting = no_keyboards();
+    let mut console = Console {
+        state,
+        wishes: waiting,
+    };
     let mut at: usize = 0;
     let mut count: usize = 0;
     while count < s.len() {
@@ -42,10 +52,10 @@ fn play_all(
         let here = at;
         at = end;
         count += 1;
-        state = play(
+        console = play_entry(
             s,
             here,
-            state,
+            console,
             tone(),
             nodes,
             edges,
@@ -53,6 +63,7 @@ fn play_all(
             voices,
             events,
             steals,
+            wishes,
         );
     }
     count
@@ -67,6 +78,7 @@ fn main() {
     let mut voices = [0u32; VOICE_WORDS];
     let mut events = [0u32; EVENT_WORDS];
     let mut steals = [0u32; STEAL_WORDS];
+    let mut wishes = [0u32; WISH_WORDS];
     let played = play_all(
         &space[..n],
         &mut nodes,
@@ -75,6 +87,7 @@ fn main() {
         &mut voices,
         &mut events,
         &mut steals,
+        &mut wishes,
     );
     text(b"played ");
     number(played as u64);

@@ -7,7 +7,7 @@ use piecrag::Sink;
 use piecrag::State;
 use piecrag::StealPolicy;
 
-pub const STATE_SIZE: usize = 25;
+pub const STATE_SIZE: usize = 24;
 
 pub type StateWords = [u32; STATE_SIZE];
 

@@ -21,7 +21,6 @@ use piecrag::VoiceId;
 use piecrag::VoiceTable;
 use piecrag::free_done_synths;
 use piecrag::free_voice;
-use piecrag::outcome_number;
 use piecrag::render;
 use piecrag::report;
 use piecrag::set_voice_param;
@@ -93,7 +92,7 @@ pub extern "C" fn piecrag_free_voice(
     let r = free_voice(state_in(state), nodes, edges, voices, VoiceId(w));
     let outcome = r.outcome;
     put_state(state, r.state);
-    outcome_number(outcome) as u32
+    outcome_number(outcome)
 }
 
 #[no_mangle]

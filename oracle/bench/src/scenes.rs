@@ -28,11 +28,11 @@ fn done(answer: u32) {
 fn bus(budget: usize, policy: u32, ports: u32) -> Box<Store> {
     const ANY: u32 = 0xeeee_eeee;
     let mut s = Box::new(Store {
-        state: [ANY; 25],
+        state: [ANY; 24],
         nodes: [ANY; 11264],
         edges: [ANY; 3072],
         order: [ANY; 512],
-        voices: [ANY; 9088],
+        voices: [ANY; 9152],
         events: [ANY; 3840],
         steals: [ANY; 320],
     });

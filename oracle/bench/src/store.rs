@@ -1,11 +1,11 @@
 //! A store in memory that this program lends: the state and the six tables in 32-bit words. The calls are those that the
 //! crate `timing` exports; `crates/timing/src` says what each makes. Each answers a number.
 
-pub type State = [u32; 25];
+pub type State = [u32; 24];
 pub type Nodes = [u32; 11264];
 pub type Edges = [u32; 3072];
 pub type Order = [u32; 512];
-pub type Voices = [u32; 9088];
+pub type Voices = [u32; 9152];
 pub type Events = [u32; 3840];
 pub type Steals = [u32; 320];
 

@@ -6,15 +6,18 @@ use Rattle.replay.proofs.play_all.Statement.{statement}
 use Rattle.replay.proofs.play_all.Tie as tie
 
 abbrev Inv-loop : tie.InvT-loop
-Inv-loop window₀ nodes₀ edges₀ order₀ voices₀ events₀ steals₀ run₀ left₀ window nodes edges order voices events steals run left =
+Inv-loop window₀ nodes₀ edges₀ order₀ voices₀ events₀ steals₀ wishes₀ run₀ left₀ window nodes edges order voices events steals wishes run left =
     length window ≡ length window₀
 
 abbrev μ-loop : tie.MeasureT-loop
-μ-loop window₀ nodes₀ edges₀ order₀ voices₀ events₀ steals₀ run₀ left₀ window nodes edges order voices events steals run left =
+μ-loop window₀ nodes₀ edges₀ order₀ voices₀ events₀ steals₀ wishes₀ run₀ left₀ window nodes edges order voices events steals wishes run left =
     left
 
 first-state-requires : tie.Need-first-state-requires Inv-loop μ-loop
 first-state-requires c κs = search needs
+
+no-keyboards-requires : tie.Need-no-keyboards-requires Inv-loop μ-loop
+no-keyboards-requires c κs = search needs
 
 no-slots-requires : tie.Need-no-slots-requires Inv-loop μ-loop
 no-slots-requires c κs = search needs
@@ -53,6 +56,7 @@ play-all-spec =
     Inv-loop
     μ-loop
     first-state-requires
+    no-keyboards-requires
     no-slots-requires
     loop-holds
     play-window-requires

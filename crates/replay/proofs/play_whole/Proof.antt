@@ -7,11 +7,11 @@ use Rattle.replay.proofs.play_whole.Statement.{statement}
 use Rattle.replay.proofs.play_whole.Tie as tie
 
 abbrev Inv-loop : tie.InvT-loop
-Inv-loop s nodes₀ edges₀ order₀ voices₀ events₀ steals₀ state₀ slots₀ at₀ count₀ nodes edges order voices events steals state slots at count =
+Inv-loop s nodes₀ edges₀ order₀ voices₀ events₀ steals₀ wishes₀ console₀ slots₀ at₀ count₀ nodes edges order voices events steals wishes console slots at count =
     Unit {0}
 
 abbrev μ-loop : tie.MeasureT-loop
-μ-loop s nodes₀ edges₀ order₀ voices₀ events₀ steals₀ state₀ slots₀ at₀ count₀ nodes edges order voices events steals state slots at count =
+μ-loop s nodes₀ edges₀ order₀ voices₀ events₀ steals₀ wishes₀ console₀ slots₀ at₀ count₀ nodes edges order voices events steals wishes console slots at count =
     length s - count
 
 loop-holds : tie.Need-loop-holds Inv-loop μ-loop
@@ -38,12 +38,12 @@ loop-again c = tt
 slot-at-requires : tie.Need-slot-at-requires Inv-loop μ-loop
 slot-at-requires c κs = search needs
 
-play-requires : tie.Need-play-requires Inv-loop μ-loop
-play-requires c κs = search needs
+play-entry-requires : tie.Need-play-entry-requires Inv-loop μ-loop
+play-entry-requires c κs = search needs
 
 loop-less-2 : tie.Need-loop-less-2 Inv-loop μ-loop
 loop-less-2 c =
-    let turn = c .before .before .before .before .before .before .before .before .before .before .before .before .before in
+    let turn = c .before .before .before .before .before .before .before .before .before .before .before .before .before .before in
     omega (arith, turn .loop-test .taken)
 
 loop-again-2 : tie.Need-loop-again-2 Inv-loop μ-loop
@@ -69,7 +69,7 @@ play-whole-spec =
     loop-less
     loop-again
     slot-at-requires
-    play-requires
+    play-entry-requires
     loop-less-2
     loop-again-2
     returns

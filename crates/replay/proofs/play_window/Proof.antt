@@ -16,7 +16,7 @@ next-run-requires c κs = search needs
 same-length : tie.Need-same-length
 same-length c =
     let next = c .before .before .next-run in
-    let fill = c .before .before .before .before .before .before .before .before .before .before .before .before .before .before .fill in
+    let fill = c .before .before .before .before .before .before .before .before .before .before .before .before .before .before .before .fill in
     next .kept .0 ∙ fill .kept .0
 
 returns : tie.Need-returns

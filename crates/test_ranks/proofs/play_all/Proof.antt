@@ -7,13 +7,16 @@ use Rattle.test_ranks.proofs.play_all.Statement.{statement}
 use Rattle.test_ranks.proofs.play_all.Tie as tie
 
 abbrev Inv-loop : tie.InvT-loop
-Inv-loop s nodes₀ edges₀ order₀ voices₀ events₀ steals₀ state₀ at₀ count₀ nodes edges order voices events steals state at count = Unit {0}
+Inv-loop s nodes₀ edges₀ order₀ voices₀ events₀ steals₀ wishes₀ console₀ at₀ count₀ nodes edges order voices events steals wishes console at count = Unit {0}
 
 abbrev μ-loop : tie.MeasureT-loop
-μ-loop s nodes₀ edges₀ order₀ voices₀ events₀ steals₀ state₀ at₀ count₀ nodes edges order voices events steals state at count = length s - count
+μ-loop s nodes₀ edges₀ order₀ voices₀ events₀ steals₀ wishes₀ console₀ at₀ count₀ nodes edges order voices events steals wishes console at count = length s - count
 
 first-state-requires : tie.Need-first-state-requires Inv-loop μ-loop
 first-state-requires c κs = search needs
+
+no-keyboards-requires : tie.Need-no-keyboards-requires Inv-loop μ-loop
+no-keyboards-requires c κs = search needs
 
 loop-holds : tie.Need-loop-holds Inv-loop μ-loop
 loop-holds c = tt
@@ -27,8 +30,8 @@ add-count c = search needs
 tone-requires : tie.Need-tone-requires Inv-loop μ-loop
 tone-requires c κs = search needs
 
-play-requires : tie.Need-play-requires Inv-loop μ-loop
-play-requires c κs = search needs
+play-entry-requires : tie.Need-play-entry-requires Inv-loop μ-loop
+play-entry-requires c κs = search needs
 
 loop-less : tie.Need-loop-less Inv-loop μ-loop
 loop-less c = search needs
@@ -49,11 +52,12 @@ play-all-spec =
     Inv-loop
     μ-loop
     first-state-requires
+    no-keyboards-requires
     loop-holds
     entry-end-requires
     add-count
     tone-requires
-    play-requires
+    play-entry-requires
     loop-less
     loop-again
     returns

@@ -80,9 +80,9 @@ fn departure_14_level_of_no_samples() {
 #[test]
 fn departure_15_nan() {
     let value = f32::from_bits(0x7fc1_2345);
-    let state = "state\nclock 0\nprepared 0\nsink -\nedges 1 0 0\norder\nnode 0 0 427573 1 0 0 0 00000000 -\n\
-        node 1 1 546f6e65 0 0 1 0 00000000 value 7fc00000\nvoice 1 0 0 1 1 1 0 0 0 0 loose 0 -\ntracked\nsteals 0\n\
-        next 2 1 1\nend";
+    let state = "state\nclock 0\nprepared 0\nsink -\nedges 1 0 0\norder\nnode 0 0 427573 1 0 0 0 00000000 - 1\n\
+        node 1 1 546f6e65 0 0 1 0 00000000 value 7fc00000 0\nvoice 1 0 0 1 1 1 0 0 0 0 loose 0 -\ntracked\nsteals 0\n\
+        next 2 1\nend";
     let rows = [
         same(host(1, 0), "node 0"),
         same(tone(), "kept"),

@@ -263,11 +263,11 @@ fn departure_12_plan() {
 #[test]
 fn departure_19_own_nodes() {
     let state = "state\nclock 48\nprepared 1\nsink 0\nedges 1 3 0 2 3 1 3 4 0 4 0 0 5 0 1\norder 1 2 5 3 4 0\n\
-        node 0 0 427573 2 0 0 0 00000000 -\nnode 1 1 546f6e65 0 0 1 0 00000000 -\n\
-        node 2 1 436f6e7374 0 0 0 0 00000000 -\nnode 3 1 50616e32 2 1 0 0 00000000 -\n\
-        node 4 1 537465616c46616465 1 1 0 0 00000000 -\nnode 5 2 546f6e65 0 0 1 0 00000000 -\n\
+        node 0 0 427573 2 0 0 0 00000000 - 2\nnode 1 1 546f6e65 0 0 1 0 00000000 - 0\n\
+        node 2 1 436f6e7374 0 0 0 0 00000000 - 0\nnode 3 1 50616e32 2 1 0 0 00000000 - 0\n\
+        node 4 1 537465616c46616465 1 1 0 0 00000000 - 0\nnode 5 2 546f6e65 0 0 1 0 00000000 - 0\n\
         voice 1 0 0 1 1 1 1 0 0 0 fading 4 0 48 0 0 00000000\nvoice 2 0 0 5 1 5 0 1 1 0 held 1 00000000\n\
-        tracked 2\nsteals 1\nsteal 0 - faded\nnext 6 2 2\nend";
+        tracked 2\nsteals 1\nsteal 0 - faded\nnext 6 2\nend";
     let mut rows = vec![
         same(made(8000.0, 16, 1), "made"),
         same(host(2, 0), "node 0"),

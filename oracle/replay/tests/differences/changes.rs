@@ -46,19 +46,20 @@ fn departure_20_equal_levels_reclaimed() {
 fn departure_22_outcomes() {
     let glide = Glide { target: 1.0, seconds: 0.0, shape: 1, curve: 0.0, space: 0 };
     let value = |voice, name: &[u8]| Call::Value { voice, name: name.to_vec(), value: 1.0 };
-    let timed = || Call::Schedule { time: 0, voice: 1, action: 0, name: b"freq".to_vec(), glide: glide.clone() };
+    // at other times: of two values for one time the later would replace the earlier
+    let timed = |time| Call::Schedule { time, voice: 1, action: 0, name: b"freq".to_vec(), glide: glide.clone() };
     let lent = |length| Call::RenderLent { length, old: 7 };
     let rows = [
         same(host(1, 0), "node 0"),
         same(tone(), "kept"),
-        same(Call::Spawn { slot: 0, bus: 0 }, "voice 1"),
+        same(Call::Spawn { slot: 0, bus: 0, rank: 0 }, "voice 1"),
         alone(value(1, b"freq"), "outcome 0"),
         alone(value(2, b"freq"), "outcome 1"),
         alone(value(1, b"none"), "outcome 2"),
         alone(Call::SetGlide { voice: 1, name: b"freq".to_vec(), glide: glide.clone() }, "outcome 3"),
-        alone(timed(), "done"),
+        alone(timed(0), "done"),
         alone(free_at(0, 1), "done"),
-        alone(timed(), "done"),
+        alone(timed(1), "done"),
         alone(lent(255), &format!("refused 17\nlist {}", "07".repeat(255))),
         alone(lent(258), &format!("silent took 3 000001\nlist 000001{}", "07".repeat(255))),
         departs(Call::Free { voice: 1 }, "outcome 1", "done"),

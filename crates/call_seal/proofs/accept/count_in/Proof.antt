@@ -10,7 +10,7 @@ at-most-requires c κs = search needs
 
 returns : tie.Need-returns
 returns c =
-    c .at-most .ensures ∙ sym (counted 142 voiceOf (c .before .before .args .t .now) (c .before .before .args .count) _ refl)
+    c .at-most .ensures ∙ sym (counted 143 voiceOf (c .before .before .args .t .now) (c .before .before .args .count) _ refl)
 
 pub count-in-spec : {M : Type 1} → statement M
 count-in-spec = tie.close (tie.spec at-most-requires returns)
