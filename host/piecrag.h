@@ -136,6 +136,7 @@ extern "C" {
 #define PIECRAG_NODE_SHAPE 18
 #define PIECRAG_NODE_CURVE 19
 #define PIECRAG_NODE_SPACE 20
+#define PIECRAG_NODE_NOISE 21   /* the noise sequence that the next voice on this bus gets */
 
 /* ---- words of an edge's record */
 #define PIECRAG_EDGE_FROM 0
@@ -178,8 +179,9 @@ uint32_t piecrag_set_sink(uint32_t *state, const uint32_t *nodes, uint32_t node)
 uint32_t piecrag_prepare(uint32_t *state, const uint32_t *nodes, const uint32_t *edges, uint32_t *order);
 
 /* An event: at the sample `time` the parameter `name` of the voice gets a value. It is applied by the render whose block has that
- * sample, or by the next one if the sample is past. An unknown voice, a name that is no parameter: nothing happens when it is due.
- * Refused: 7 256 events are pending. */
+ * sample, or by the next one if the sample is past. An unknown voice, a name that is no parameter: nothing happens when it is due. A
+ * pending value for the same voice, parameter and time is replaced; a glide replaces a glide, a gate is a value for `gate`.
+ * Refused: 7 256 events are pending, and none of them is replaced. */
 uint32_t piecrag_schedule_value(uint32_t *state, uint32_t *events, uint64_t time, uint64_t voice, const uint8_t *name,
                                 size_t name_length, float value);
 
@@ -200,8 +202,9 @@ uint32_t piecrag_schedule_free(uint32_t *state, uint32_t *events, uint64_t time,
 /* A managed spawn: a new voice of the definition that the bytes of the book hold, on the lowest free port of the node `bus`, panned
  * unless pan is 0. At budget a voice is stolen for it; for want of a port fades, then voices of the bus, are reclaimed; of voices those
  * of the lowest rank first, and none whose rank is above the new one's, 0 to 7. *voice becomes its id.
- * Refused: 18 the book is malformed; 26 rank above 7; 9 its definition is outside the limits; 4, 5 unknown node, a voice's node; 10 bus without ports;
- * 7 no headroom for its nodes, edges or the voice; 8 ids used up; 11 at budget, and nobody may go; 12 no port, nothing left to reclaim. */
+ * Refused: 18 the book is malformed; 26 rank above 7; 9 its definition is outside the limits; 4, 5 unknown node, a voice's node; 10 bus
+ * without ports; 7 no headroom for its nodes, edges or the voice; 8 ids used up; 11 at budget, and nobody may go; 12 no port, nothing
+ * left to reclaim. */
 uint32_t piecrag_spawn_voice_on_bus_panned_managed(uint32_t *state, uint32_t *nodes, uint32_t *edges, uint32_t *voices,
                                                    uint32_t *steals, const uint8_t *book, size_t book_length, uint32_t bus, float pan,
                                                    uint32_t rank, uint64_t *voice);

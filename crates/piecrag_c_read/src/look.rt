@@ -24,7 +24,7 @@ ghost use Rattle.piecrag_c_read.specs.Cells.{someFlag, someCell, rowCell
 
 pub const VOICE_RECORD_WORDS: usize = 143;
 
-pub const NODE_RECORD_WORDS: usize = 21;
+pub const NODE_RECORD_WORDS: usize = 22;
 
 pub type VoiceRecord = [u32; VOICE_RECORD_WORDS];
 
