@@ -82,7 +82,7 @@ fn the_last_voice_id_and_the_last_sample() {
     let calls = [host(2, 0), tone(), counters, SPAWN, SPAWN, RENDER, RENDER, Call::State {}];
     let lines = lines(&calls);
     assert_eq!(lines[2..7], ["set", "voice 18446744073709551615", "refused 8", "silent took 0", "refused 15"]);
-    assert_eq!(lines[lines.len() - 2..], ["next 2 18446744073709551615 0", "end"]);
+    assert_eq!(lines[lines.len() - 2..], ["next 2 18446744073709551615", "end"]);
 }
 
 /// Definitions at a limit of the table: a cycle of counted edges is refused, one that a later edge undoes is not.

@@ -43,7 +43,7 @@ fn departure_20_equal_levels_reclaimed() {
 
 /// Where the Rust says no, the store says which no it is; a render hands on what became of its events, at the moment when each happens.
 #[test]
-fn departure_22_outcomes() {
+fn departure_24_outcomes() {
     let glide = Glide { target: 1.0, seconds: 0.0, shape: 1, curve: 0.0, space: 0 };
     let value = |voice, name: &[u8]| Call::Value { voice, name: name.to_vec(), value: 1.0 };
     // at other times: of two values for one time the later would replace the earlier
@@ -58,11 +58,11 @@ fn departure_22_outcomes() {
         alone(value(1, b"none"), "outcome 2"),
         alone(Call::SetGlide { voice: 1, name: b"freq".to_vec(), glide: glide.clone() }, "outcome 3"),
         alone(timed(0), "done"),
-        alone(free_at(0, 1), "done"),
-        alone(timed(1), "done"),
+        alone(free_at(1, 1), "done"),
+        alone(timed(2), "done"),
         alone(lent(255), &format!("refused 17\nlist {}", "07".repeat(255))),
         alone(lent(258), &format!("silent took 3 000001\nlist 000001{}", "07".repeat(255))),
         departs(Call::Free { voice: 1 }, "outcome 1", "done"),
     ];
-    compare("22-outcomes", rows);
+    compare("24-outcomes", rows);
 }
