@@ -3,7 +3,7 @@
 //! of its name, and writes the list of modules that `src/lib.rs` includes.
 //!
 //! MICROSYNTH_SOURCES names another folder with the sources' `src/`. With MICROSYNTH_UNCHANGED in the environment no change
-//! is made.
+//! is made. With MICROSYNTH_CHANGED the sources have the changes already.
 
 use std::env;
 use std::fmt::Write;
@@ -37,6 +37,12 @@ fn changes() -> Vec<PathBuf> {
     let mut patches: Vec<PathBuf> = files.map(|file| file.expect("oracle/changes can be read").path()).collect();
     patches.sort();
     patches
+}
+
+/// Whether the sources that are named have the changes already, as the copies of `oracle/power` do.
+fn is_changed() -> bool {
+    println!("cargo::rerun-if-env-changed=MICROSYNTH_CHANGED");
+    env::var_os("MICROSYNTH_CHANGED").is_some()
 }
 
 fn read(path: &Path) -> String {
@@ -84,7 +90,7 @@ fn main() {
     let ugens = UGENS.map(|name| format!("ugens/{name}"));
     let modules: Vec<String> = ROOT.iter().map(|name| name.to_string()).chain(ugens.clone()).collect();
     let copied = out.join("copy");
-    copy(&modules, &changes, &copied);
+    copy(&modules, if is_changed() { &[] } else { &changes }, &copied);
     let mut list = String::new();
     for name in ROOT {
         list += &module(&copied, &out, name, name);
