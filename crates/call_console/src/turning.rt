@@ -53,7 +53,17 @@ fn serve(
     let pan = w.pan;
     let rank = w.rank;
     if w.managed {
-        return spawn_voice_on_bus_panned_managed(s, nodes, edges, voices, steals, def, bus, pan, rank);
+        return spawn_voice_on_bus_panned_managed(
+            s,
+            nodes,
+            edges,
+            voices,
+            steals,
+            def,
+            bus,
+            pan,
+            rank,
+        );
     }
     spawn_voice_on_bus_panned(s, nodes, edges, voices, steals, def, bus, pan, rank)
 }

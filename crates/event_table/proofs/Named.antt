@@ -72,18 +72,18 @@ module _ (x y : ℕ) where
   same-3 =
       same-is (eqb (x % 16777216) (y % 16777216)) (x % 256 ∷ x / 256 % 256 ∷ x / 65536 % 256 ∷ []) (y % 256 ∷ y / 256 % 256 ∷ y / 65536 % 256 ∷ [])
       (λ e.
-        let h : x % 16777216 ≡ y % 16777216 = eqb-true _ _ e in
-        let m : x % 65536 ≡ y % 65536 = low-16 x ∙ ap (λ k. k % 65536) h ∙ sym (low-16 y) in
-        rw (first-of m, second-of m, third-of h))
+      let h : x % 16777216 ≡ y % 16777216 = eqb-true _ _ e in
+      let m : x % 65536 ≡ y % 65536 = low-16 x ∙ ap (λ k. k % 65536) h ∙ sym (low-16 y) in
+      rw (first-of m, second-of m, third-of h))
       (λ e. eq-eqb (x % 16777216) (y % 16777216) (all-of (both-of (ap (λ l. getD l 0 0) e) (ap (λ l. getD l 1 0) e)) (ap (λ l. getD l 2 0) e)))
 
   pub same-4 : x < 4294967296 → y < 4294967296 → eqb x y ≡ sameBytes (four x) (four y)
   same-4 hx hy =
       same-is (eqb x y) (four x) (four y) (λ e. ap four (eqb-true _ _ e))
       (λ e.
-        let n : x % 16777216 ≡ y % 16777216 = all-of (both-of (ap (λ l. getD l 0 0) e) (ap (λ l. getD l 1 0) e)) (ap (λ l. getD l 2 0) e) in
-        let f : x / 16777216 ≡ y / 16777216 = sym (four-th x hx) ∙ ap (λ l. getD l 3 0) e ∙ four-th y hy in
-        eq-eqb x y (join-24 x y n f))
+      let n : x % 16777216 ≡ y % 16777216 = all-of (both-of (ap (λ l. getD l 0 0) e) (ap (λ l. getD l 1 0) e)) (ap (λ l. getD l 2 0) e) in
+      let f : x / 16777216 ≡ y / 16777216 = sym (four-th x hx) ∙ ap (λ l. getD l 3 0) e ∙ four-th y hy in
+      eq-eqb x y (join-24 x y n f))
 
 -- ---- word by word
 and-assoc : (a b c : Bool) → (a && (b && c)) ≡ ((a && b) && c)

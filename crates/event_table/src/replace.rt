@@ -206,13 +206,7 @@ pub(crate) fn row_replaced(t: &[u32], count: usize, k: Key, ws: &[u32]) -> usize
 }
 
 // If `p` is the row of the first that is replaced: removes those that are, in one pass that closes the gaps. How many are left.
-pub(crate) fn remove_replaced(
-    t: &mut [u32],
-    count: usize,
-    p: usize,
-    k: Key,
-    ws: &[u32],
-) -> usize
+pub(crate) fn remove_replaced(t: &mut [u32], count: usize, p: usize, k: Key, ws: &[u32]) -> usize
     ensures { λ r. ⌜ ((e : Event) → KeyOf e k → nameAt (now (ws .entry)) 0 ≡ paramOf (e .action) (e .name) → p ≡ placeOf (replaces e) (take count (eventsIn (now (t .entry)))) → Holds (eventsIn (now (t .exit))) r (thinned e (take count (eventsIn (now (t .entry)))))) ⌝ }
 {
     let n = at_most(count, t.len() / 15);

@@ -320,10 +320,11 @@ module _ (m : Matching) (nodes : OneToOne (m .nodes)) (voices : OneToOne (m .voi
     says-freed : (v w : VoiceId) → SameVoice m v w → onIt b₁ (voiceOf v k) ≡ true → onIt b₂ (voiceOf w l) ≡ true → Says (call.free v) (call.free w)
     says-freed v w e h g =
         let a = on-bus b₁ (voiceOf v k) h in
-        let c = on-bus b₂ (voiceOf w l) g in
-        (story.freed (a .0 .sequence),
-        ap (onBus b₁ (λ x. story.freed (x .sequence))) (a .1) ∙ ap (λ d. if? d (story.freed (a .0 .sequence))) (a .2),
-        ap (onBus b₂ (λ x. story.freed (x .sequence))) (c .1) ∙ ap₂ (λ d n. if? d (story.freed n)) (c .2) (sym (same-found v w e (a .0) (c .0) (a .1) (c .1) (a .2))))
+        let c = on-bus b₂ (voiceOf w l) g in (
+          story.freed (a .0 .sequence),
+          ap (onBus b₁ (λ x. story.freed (x .sequence))) (a .1) ∙ ap (λ d. if? d (story.freed (a .0 .sequence))) (a .2),
+          ap (onBus b₂ (λ x. story.freed (x .sequence))) (c .1) ∙ ap₂ (λ d n. if? d (story.freed n)) (c .2) (sym (same-found v w e (a .0) (c .0) (a .1) (c .1) (a .2))),
+        )
 
     says-reported : (a c : NodeId) (channels : ℕ) (samples : List Float) (flag : Bool) → SameNode m a c
         → isCallOf b₁ (call.report a channels samples flag) k ≡ true → isCallOf b₂ (call.report c channels samples flag) l ≡ true → Says (call.report a channels samples flag) (call.report c channels samples flag)
@@ -351,10 +352,11 @@ module _ (m : Matching) (nodes : OneToOne (m .nodes)) (voices : OneToOne (m .voi
         let one : w ≡ u .0 = unique (t .tidy₂ .own .0) w (u .0) j (u .1) who in
         let first : w .first .0 ≡ u .0 .first .0 = ap (λ (q : Voice). q .first .0) one in
         let place : c .0 - w .first .0 ≡ a .0 - v .first .0 = omega arith in
-        let number : w .sequence ≡ v .sequence = ap (λ (q : Voice). q .sequence) one ∙ sym (u .3) in
-        (story.reported (v .sequence) (a .0 - v .first .0) samples flag,
-        heard b₁ k a channels samples flag h (x .node) (x .at) v (x .owner) (x .on),
-        heard b₂ l c channels samples flag g (y .node) (y .at) w (y .owner) (y .on) ∙ ap₂ (λ s i. some (story.reported s i samples flag)) number place)
+        let number : w .sequence ≡ v .sequence = ap (λ (q : Voice). q .sequence) one ∙ sym (u .3) in (
+          story.reported (v .sequence) (a .0 - v .first .0) samples flag,
+          heard b₁ k a channels samples flag h (x .node) (x .at) v (x .owner) (x .on),
+          heard b₂ l c channels samples flag g (y .node) (y .at) w (y .owner) (y .on) ∙ ap₂ (λ s i. some (story.reported s i samples flag)) number place,
+        )
       where
         heard : (b : NodeId) (l : Ledger) (k : NodeId) (channels : ℕ) (samples : List Float) (flag : Bool) → isCallOf b (call.report k channels samples flag) l ≡ true
             → (x : Node) → nodeAt (l .shared .graph .nodes) k ≡ some x → (v : Voice) → voiceOf (x .owner) l ≡ some v → isOn b v ≡ true
@@ -454,26 +456,34 @@ module _ (m : Matching) (nodes : OneToOne (m .nodes)) (voices : OneToOne (m .voi
         let one = numbered b₁ (k .voices) (t .tidy₁ .own .0) (due (k .shared)) (rested k) (λ v i. i) in
         let two = numbered b₂ (l .voices) (t .tidy₂ .own .0) (due (l .shared)) (rested l) (λ v i. i) in
         let same = numbers-same (freedByEvents b₁ (due (k .shared)) (rested k)) (freedByEvents b₂ (due (l .shared)) (rested l)) e
-        (freed-on b₁ (k .voices) (t .tidy₁ .own .0) (due (k .shared)) (rested k) (λ v i. i)) (freed-on b₂ (l .voices) (t .tidy₂ .own .0) (due (l .shared)) (rested l) (λ v i. i)) in
-        (story.rendered (timedFrees b₁ (due (k .shared)) (rested k)) (isSounding (render k .answer)), ap (λ q. ifDone q (some (story.rendered (timedFrees b₁ (due (k .shared)) (rested k)) (isSounding (render k .answer))))) (taken-none (renderRefusal (k .shared) (length o)) h),
-        ap (λ q. ifDone q (some (story.rendered (timedFrees b₂ (due (l .shared)) (rested l)) (isSounding (render l .answer))))) (taken-none (renderRefusal (l .shared) (length p)) g) ∙ ap₂ (λ ns c. some (story.rendered ns c)) (two ∙ sym same ∙ sym one) (sym s))
+        (freed-on b₁ (k .voices) (t .tidy₁ .own .0) (due (k .shared)) (rested k) (λ v i. i)) (freed-on b₂ (l .voices) (t .tidy₂ .own .0) (due (l .shared)) (rested l) (λ v i. i)) in (
+          story.rendered (timedFrees b₁ (due (k .shared)) (rested k)) (isSounding (render k .answer)),
+          ap (λ q. ifDone q (some (story.rendered (timedFrees b₁ (due (k .shared)) (rested k)) (isSounding (render k .answer))))) (taken-none (renderRefusal (k .shared) (length o)) h),
+          ap (λ q. ifDone q (some (story.rendered (timedFrees b₂ (due (l .shared)) (rested l)) (isSounding (render l .answer))))) (taken-none (renderRefusal (l .shared) (length p)) g) ∙ ap₂ (λ ns c. some (story.rendered ns c)) (two ∙ sym same ∙ sym one) (sym s),
+        )
 
     -- ---- every call
     pub says : (x y : Call) → Equal m b₁ b₂ x k y l → isCallOf b₁ x k ≡ true → isCallOf b₂ y l ≡ true → Says x y
-    says _ _ (agree.added {kind = kind} {ports = ports} {required = required}) h g =
-        (story.opened ports, its-own b₁ k (addRefusal (k .shared .graph) kind ports required) (eqb (k .shared .graph .next) (b₁ .0)) (story.opened ports) h,
-        its-own b₂ l (addRefusal (l .shared .graph) kind ports required) (eqb (l .shared .graph .next) (b₂ .0)) (story.opened ports) g)
+    says _ _ (agree.added {kind = kind} {ports = ports} {required = required}) h g = (
+      story.opened ports,
+      its-own b₁ k (addRefusal (k .shared .graph) kind ports required) (eqb (k .shared .graph .next) (b₁ .0)) (story.opened ports) h,
+      its-own b₂ l (addRefusal (l .shared .graph) kind ports required) (eqb (l .shared .graph .next) (b₂ .0)) (story.opened ports) g,
+    )
     says _ _ (agree.removed {a = a} {b = c} e) h g = says-removed a c e h g
     says _ _ (agree.connected {a = a} {b = c} {c = i} {d = j} {p = p} e f) h g =
         (story.plugged p, its-own b₁ k (connectRefusal (k .shared .graph) a i p) (isBus b₁ i) (story.plugged p) h, its-own b₂ l (connectRefusal (l .shared .graph) c j p) (isBus b₂ j) (story.plugged p) g)
     says _ _ (agree.disconnected {a = a} {b = c} {p = p} e) h g =
         (story.unplugged p, its-own b₁ k (disconnectRefusal (k .shared .graph) a p) (isBus b₁ a) (story.unplugged p) h, its-own b₂ l (disconnectRefusal (l .shared .graph) c p) (isBus b₂ c) (story.unplugged p) g)
-    says _ _ (agree.managed {x = x} {y = y} e a) h g =
-        (story.managed (x .def) (pans (x .pan)) (x .rank), ap (λ c. if? c (story.managed (x .def) (pans (x .pan)) (x .rank))) h,
-        ap (λ c. if? c (story.managed (y .def) (pans (y .pan)) (y .rank))) g ∙ sym (ap₂ (λ d p. some (story.managed d (pans p) (x .rank))) (e .def) (e .pan) ∙ ap (λ r. some (story.managed (y .def) (pans (y .pan)) r)) (e .rank)))
-    says _ _ (agree.loose {x = x} {y = y} e a) h g =
-        (story.loose (x .def) (pans (x .pan)) (x .rank), ap (λ c. if? c (story.loose (x .def) (pans (x .pan)) (x .rank))) h,
-        ap (λ c. if? c (story.loose (y .def) (pans (y .pan)) (y .rank))) g ∙ sym (ap₂ (λ d p. some (story.loose d (pans p) (x .rank))) (e .def) (e .pan) ∙ ap (λ r. some (story.loose (y .def) (pans (y .pan)) r)) (e .rank)))
+    says _ _ (agree.managed {x = x} {y = y} e a) h g = (
+      story.managed (x .def) (pans (x .pan)) (x .rank),
+      ap (λ c. if? c (story.managed (x .def) (pans (x .pan)) (x .rank))) h,
+      ap (λ c. if? c (story.managed (y .def) (pans (y .pan)) (y .rank))) g ∙ sym (ap₂ (λ d p. some (story.managed d (pans p) (x .rank))) (e .def) (e .pan) ∙ ap (λ r. some (story.managed (y .def) (pans (y .pan)) r)) (e .rank)),
+    )
+    says _ _ (agree.loose {x = x} {y = y} e a) h g = (
+      story.loose (x .def) (pans (x .pan)) (x .rank),
+      ap (λ c. if? c (story.loose (x .def) (pans (x .pan)) (x .rank))) h,
+      ap (λ c. if? c (story.loose (y .def) (pans (y .pan)) (y .rank))) g ∙ sym (ap₂ (λ d p. some (story.loose d (pans p) (x .rank))) (e .def) (e .pan) ∙ ap (λ r. some (story.loose (y .def) (pans (y .pan)) r)) (e .rank)),
+    )
     says _ _ (agree.freed {v = v} {w = w} e) h g = says-freed v w e h g
     says _ _ (agree.reported {a = a} {b = c} {channels = channels} {samples = samples} {flag = flag} e) h g = says-reported a c channels samples flag e h g
     says _ _ agree.cleared h g = (story.cleared, refl, refl)
@@ -486,9 +496,10 @@ module _ (m : Matching) (nodes : OneToOne (m .nodes)) (voices : OneToOne (m .voi
       where
         kin-pairs : (v w : Voice) → Kin (k .voices) v → Kin (l .voices) w → isOn b₁ v ≡ true → isOn b₂ w ≡ true → v .sequence ≡ w .sequence → Paired v w
         kin-pairs v w x y on off e =
-            let r = t .paired (x .was) (y .was) (x .member) (y .member) (ap (λ (z : NodeId). eqb (z .0) (b₁ .0)) (sym (x .bus)) ∙ on) (ap (λ (z : NodeId). eqb (z .0) (b₂ .0)) (sym (y .bus)) ∙ off) (sym (x .number) ∙ e ∙ y .number) in
-            (subst (λ a. SameVoice m a (w .id)) (sym (x .id)) (subst (SameVoice m (x .was .id)) (sym (y .id)) (r .0)),
-            λ n h. subst (λ (a : NodeId). SameNode m (id (a .0 + n)) (id (w .first .0 + n))) (sym (x .first)) (subst (λ (a : NodeId). SameNode m (id (x .was .first .0 + n)) (id (a .0 + n))) (sym (y .first)) (r .1 n (subst (λ c. n < c) (x .count) h))))
+            let r = t .paired (x .was) (y .was) (x .member) (y .member) (ap (λ (z : NodeId). eqb (z .0) (b₁ .0)) (sym (x .bus)) ∙ on) (ap (λ (z : NodeId). eqb (z .0) (b₂ .0)) (sym (y .bus)) ∙ off) (sym (x .number) ∙ e ∙ y .number) in (
+              subst (λ a. SameVoice m a (w .id)) (sym (x .id)) (subst (SameVoice m (x .was .id)) (sym (y .id)) (r .0)),
+              λ n h. subst (λ (a : NodeId). SameNode m (id (a .0 + n)) (id (w .first .0 + n))) (sym (x .first)) (subst (λ (a : NodeId). SameNode m (id (x .was .first .0 + n)) (id (a .0 + n))) (sym (y .first)) (r .1 n (subst (λ c. n < c) (x .count) h))),
+            )
 
     old-hosts : {k' l' : Ledger} → Stays b₁ k k' → Stays b₂ l l' → (p : ℕ) (a c : NodeId) → k' .holders (b₁ .0) p ≡ holder.host a → l' .holders (b₂ .0) p ≡ holder.host c → SameNode m a c
     old-hosts p q n a c e f = t .hosts n a c (p .hosts n a e) (q .hosts n c f)
@@ -591,9 +602,10 @@ module _ (m : Matching) (nodes : OneToOne (m .nodes)) (voices : OneToOne (m .voi
         where
           old : Kin (k .voices) v → Kin (l .voices) w → Paired v w
           old c d =
-              let r = t .paired (c .was) (d .was) (c .member) (d .member) (ap (λ (z : NodeId). eqb (z .0) (b₁ .0)) (sym (c .bus)) ∙ at) (ap (λ (z : NodeId). eqb (z .0) (b₂ .0)) (sym (d .bus)) ∙ of) (sym (c .number) ∙ e ∙ d .number) in
-              (subst (λ z. SameVoice m z (w .id)) (sym (c .id)) (subst (SameVoice m (c .was .id)) (sym (d .id)) (r .0)),
-              λ n h. subst (λ (z : NodeId). SameNode m (id (z .0 + n)) (id (w .first .0 + n))) (sym (c .first)) (subst (λ (z : NodeId). SameNode m (id (c .was .first .0 + n)) (id (z .0 + n))) (sym (d .first)) (r .1 n (subst (λ z. n < z) (c .count) h))))
+              let r = t .paired (c .was) (d .was) (c .member) (d .member) (ap (λ (z : NodeId). eqb (z .0) (b₁ .0)) (sym (c .bus)) ∙ at) (ap (λ (z : NodeId). eqb (z .0) (b₂ .0)) (sym (d .bus)) ∙ of) (sym (c .number) ∙ e ∙ d .number) in (
+                subst (λ z. SameVoice m z (w .id)) (sym (c .id)) (subst (SameVoice m (c .was .id)) (sym (d .id)) (r .0)),
+                λ n h. subst (λ (z : NodeId). SameNode m (id (z .0 + n)) (id (w .first .0 + n))) (sym (c .first)) (subst (λ (z : NodeId). SameNode m (id (c .was .first .0 + n)) (id (z .0 + n))) (sym (d .first)) (r .1 n (subst (λ z. n < z) (c .count) h))),
+              )
 
           old-new : Kin (k .voices) v → New l y r₂ w → ⊥
           old-new c d =

@@ -108,14 +108,14 @@ length-counted (e ∷ es) = go (not (edges.taken e es)) (length-counted es)
 rows-few : {A : Type 0} (capacity count : ℕ) (l : List A) → length (take (min count capacity) l) ≤ count
 rows-few capacity count l = omega (arith, length-take (min count capacity) l, min-le-left (min count capacity) (length l), min-le-left count capacity)
 
-nodes-few : (w : VoiceId) (def : SynthDef) (pan : Bool) → length (voiceNodes w def pan) ≤ def .nodes .count + 2
+pub nodes-few : (w : VoiceId) (def : SynthDef) (pan : Bool) → length (voiceNodes w def pan) ≤ def .nodes .count + 2
 nodes-few w def pan = go pan (nodes-count w def pan)
   where
     go : (b : Bool) → length (voiceNodes w def pan) ≡ length (nodeRows (def .nodes)) + cond b 2 0 → length (voiceNodes w def pan) ≤ def .nodes .count + 2
     go true e = omega (arith, e, rows-few 24 (def .nodes .count) (def .nodes .rows))
     go false e = omega (arith, e, rows-few 24 (def .nodes .count) (def .nodes .rows))
 
-wires-few : (def : SynthDef) (pan : Bool) → length (voiceWires def pan) ≤ def .edges .count + 2
+pub wires-few : (def : SynthDef) (pan : Bool) → length (voiceWires def pan) ≤ def .edges .count + 2
 wires-few def pan = go pan
   where
     n : ℕ

@@ -294,7 +294,18 @@ pub fn play_entry(
     }
     let before = console.state;
     let waiting = console.wishes;
-    let state = play(s, at, before, def, nodes, edges, order, voices, events, steals);
+    let state = play(
+        s,
+        at,
+        before,
+        def,
+        nodes,
+        edges,
+        order,
+        voices,
+        events,
+        steals,
+    );
     Console {
         state,
         wishes: waiting,

@@ -88,7 +88,17 @@ fn play_whole(
         } else {
             let def = slot_at(s, here, slots);
             console = play_entry(
-                s, here, console, def, nodes, edges, order, voices, events, steals, wishes,
+                s,
+                here,
+                console,
+                def,
+                nodes,
+                edges,
+                order,
+                voices,
+                events,
+                steals,
+                wishes,
             );
         }
     }

@@ -58,8 +58,7 @@ pub record Alike (e f : Event) : Type 0 where
 -- ---- exactly such events are replaced
 under-to : (s : Sort) (m n : Name) → sameName m n ≡ true → (k : Ordered) × (under s m ≡ some k) × (under s n ≡ some k)
 under-to s m n h =
-    let r = same-to m n h in
-    (
+    let r = same-to m n h in (
       record { sort = s; parameter = text m },
       ap (λ b. or? b (record { sort = s; parameter = text m }) none) (r .first),
       ap (λ b. or? b (record { sort = s; parameter = text n }) none) (r .second) ∙ ap (λ t. some (record { sort = s; parameter = t })) (sym (r .string)),

@@ -1,13 +1,12 @@
 -- "Sealing accepts exactly if": the test says yes exactly where the plain conjunction holds.
-use Prim.Native.Nat.{ℕ}
 use mathlib.Core.Path.{_≡_, refl, sym, ap, _∙_}
 use mathlib.Core.Logic.{_↔_}
 use mathlib.Core.List.{List, [], _∷_}
 use mathlib.Core.Option.{Option, none, some}
-use mathlib.Core.Bool.{Bool, true, false, _&&_, true≢false}
-use borrow.Author.Tests.{eqb-true, eq-eqb, leb-true, le-leb}
+use mathlib.Core.Bool.{true, true≢false}
 use lib.Dec.{eqb, leb}
 use lib.ListN.{length}
+use borrow.Author.Tests.{eqb-true, eq-eqb, leb-true, le-leb}
 use Rattle.lists.proofs.Member.{and-left, and-right, both}
 use Rattle.node.specs.declared.record.Node.{Node}
 use Rattle.graph.specs.Node.{nodeAt, portsOf}

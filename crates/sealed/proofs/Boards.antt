@@ -1,13 +1,13 @@
 -- Every list of a board's calls: its console part is the console's run on the calls let through, and a sealed board keeps the seal's promise.
 use Prim.Native.Nat.{ℕ, zero, suc}
 use native.Mathlib.Omega.{arith}
-use mathlib.Core.Path.{_≡_, refl, sym, ap, ap₂, _∙_, subst}
+use mathlib.Core.Path.{_≡_, refl, sym, ap, _∙_, subst}
 use mathlib.Core.Logic.{_⊎_, inl, inr, ⊎-elim}
 use mathlib.Core.List.{List, [], _∷_, _++_}
 use mathlib.Core.Option.{Option, none, some}
-use mathlib.Core.Bool.{Bool, true, false, not, cond, _&&_, false≢true, true≢false}
-use borrow.Author.Tests.{not-true, not-false}
+use mathlib.Core.Bool.{Bool, true, false, not, cond, false≢true}
 use lib.ListN.{getD, set}
+use borrow.Author.Tests.{not-false}
 use Rattle.lists.specs.Member.{In}
 use Rattle.lists.proofs.Member.{and-left, and-right, both, in-snoc}
 use Rattle.node.specs.declared.refusal.Refusal.the-variants.{TableFull}
@@ -21,7 +21,7 @@ use Rattle.console.specs.declared.wish.Wish.{Wish}
 use Rattle.console.specs.declared.refusal.KeyboardRefusal.{KeyboardRefusal}
 use Rattle.console.specs.Wishes.{Wishes, keyboards, waitingAt, spawnIn, callOf, wishRefusal, added, Picked, picked, oldestOr, search, rest, takenFrom}
 use Rattle.console.specs.Wishes as wishes
-use Rattle.console.specs.Console.{Console, ConsoleCall, ConsoleStep, wished, turned, consoleStep, consoleRun, makeConsole}
+use Rattle.console.specs.Console.{Console, ConsoleCall, wished, turned, consoleStep, makeConsole}
 use Rattle.console.specs.Console as console
 use Rattle.console.proofs.Claim.{console-claim, accepted}
 use Rattle.sealed.specs.declared.profile.Profile.{Profile}
@@ -30,7 +30,7 @@ use Rattle.sealed.specs.declared.profile.Seal.the-variants.{Unsealed, Se
 use Rattle.sealed.specs.declared.refusal.SealRefusal.the-variants.{NotAccepted, Closed}
 use Rattle.sealed.specs.Seal.{accepts, within, shuts, allOpen}
 use Rattle.sealed.specs.Sealed.{Promise}
-use Rattle.sealed.specs.Board.{Board, BoardCall, on, seal, BoardAnswer, given, sealed, refused, BoardStep, openWish, closes, closed, noneAt, noneWaits, sealable, refuses, passes, sealing, boardStep, BoardRan, boardRun, newBoard, through, consoleCalls, consoleAnswer, consoleAnswers}
+use Rattle.sealed.specs.Board.{Board, BoardCall, on, seal, given, sealed, BoardStep, openWish, closed, noneAt, noneWaits, sealable, refuses, passes, sealing, boardStep, BoardRan, boardRun, newBoard, consoleCalls}
 use Rattle.sealed.specs.Claim.{ConsoleRun, SealedBoard, BoardClaim}
 use Rattle.sealed.proofs.Theorem as theorem
 

@@ -2,21 +2,21 @@
 use Prim.Native.Nat.{ℕ, zero, suc, _+_, _*_, _≤_, _<_}
 use native.Mathlib.Omega.{arith}
 use native.Mathlib.Decide.{ℕ-discrete}
-use native.Mathlib.Nat.{suc-mul, zero-mul}
-use mathlib.Core.Path.{_≡_, refl, sym, ap, _∙_, subst}
+use native.Mathlib.Nat.{suc-mul}
+use mathlib.Core.Path.{_≡_, refl, sym, ap, _∙_}
 use mathlib.Core.Logic.{_⊎_, inl, inr, ⊎-elim}
-use mathlib.Core.List.{List, [], _∷_, _++_, map}
+use mathlib.Core.List.{List, [], _∷_}
 use mathlib.Core.Option.{Option, none, some}
-use mathlib.Core.Bool.{Bool, true, false, not, cond, false≢true}
-use borrow.Author.Tests.{eqb-true, eq-eqb, not-true}
+use mathlib.Core.Bool.{Bool, true, false, not, false≢true}
 use lib.ListN.{length}
+use borrow.Author.Tests.{eqb-true, eq-eqb, not-true}
 use Rattle.lists.specs.Member.{In}
 use Rattle.lists.specs.Filter.{filter, put?}
-use Rattle.lists.proofs.Filter.{in-filter, filter-in}
+use Rattle.lists.proofs.Filter.{in-filter}
 use Rattle.lists.specs.Find.{find}
 use Rattle.lists.proofs.Find.{find-in, find-none}
 use Rattle.lists.specs.Count.{more, count}
-use Rattle.lists.proofs.Count.{count-all, count-filter, count-length}
+use Rattle.lists.proofs.Count.{count-all, count-filter}
 use Rattle.model.specs.Voice.{isVoice}
 use Rattle.ledger.specs.Holder.{Holder, nobody, host, voice, byVoice}
 use Rattle.ledger.proofs.Ids.{Ids, one-gone, ids-keep}

@@ -1,20 +1,19 @@
 -- The invariant of a sealed ledger through a managed spawn: the victim's fade, reclaims, and the newcomer's landing.
-use Prim.Native.Nat.{ℕ, suc, _+_, _≤_, _<_, min}
+use Prim.Native.Nat.{ℕ, suc, _+_, _≤_, _<_}
 use native.Mathlib.Omega.{arith}
 use native.Mathlib.Decide.{ℕ-discrete}
-use native.Mathlib.Nat.{zero-add, min-le-left}
+use native.Mathlib.Nat.{zero-add}
 use mathlib.Core.Path.{_≡_, refl, sym, ap, _∙_, subst}
-use mathlib.Core.Logic.{_⊎_, inl, inr, ⊎-elim}
+use mathlib.Core.Logic.{inl, inr, ⊎-elim}
 use mathlib.Core.List.{List, [], _∷_, _++_, map}
 use mathlib.Core.Option.{Option, none, some}
-use mathlib.Core.Bool.{Bool, true, false, not, cond, _&&_, false≢true, true≢false}
-use borrow.Author.Tests.{eqb-true, eq-eqb, ne-eqb, not-true}
+use mathlib.Core.Bool.{Bool, true, false, not, cond, _&&_, false≢true}
 use lib.Dec.{eqb}
-use lib.ListN.{length, length-append, length-map, length-take, take}
+use lib.ListN.{length}
+use borrow.Author.Tests.{eqb-true, eq-eqb, ne-eqb, not-true}
 use Rattle.lists.specs.Member.{In}
-use Rattle.lists.proofs.Member.{some-inj, none-some, and-left, and-right, in-snoc, in-map, in-left}
-use Rattle.lists.specs.Filter.{filter, put?}
-use Rattle.lists.proofs.Filter.{in-filter, filter-in}
+use Rattle.lists.proofs.Member.{and-left, and-right, in-snoc, in-map, in-left}
+use Rattle.lists.proofs.Filter.{filter-in}
 use Rattle.lists.specs.Find.{find, mapO}
 use Rattle.lists.proofs.Find.{find-in}
 use Rattle.lists.specs.Count.{more, count}
@@ -22,75 +21,42 @@ use Rattle.lists.proofs.Count.{count-filter, count-filter-lt, count-snoc, count
 use Rattle.edges.specs.Wiring.{endsAt, dropAt, wired}
 use Rattle.edges.specs.Ports.{feeds}
 use Rattle.graph.specs.View.{GraphView}
-use Rattle.graph.specs.Node.{ownedBy, nodeAt, portsOf, raiseNoise, noiseRaised}
+use Rattle.graph.specs.Node.{portsOf, raiseNoise, noiseRaised}
 use Rattle.node.specs.Node.{withId}
-use Rattle.synthdef.specs.Tables.{nodeRows, edgeRows}
+use Rattle.synthdef.specs.Tables.{nodeRows}
 use Rattle.synthdef.specs.Limits.{allowed}
-use Rattle.model.specs.Voice.{id, isVoice, isTracked, feeder, withState, beginFade, counted}
-use Rattle.model.specs.Spawn.{Spawn, pans, Wire, wire, defWire, voiceNodes, voiceWires, voiceOut, appendAll, wireAll, raised, newVoice, nextVoice, stateUnder, tries, fadeNode, fadeOf}
+use Rattle.model.specs.Voice.{id, isVoice, isTracked, feeder, withState, beginFade}
+use Rattle.model.specs.Spawn.{Spawn, pans, Wire, voiceNodes, voiceWires, voiceOut, appendAll, wireAll, raised, newVoice, nextVoice, stateUnder, tries, fadeNode, fadeOf}
 use Rattle.ledger.specs.Holder.{Holder, Holders, nobody, host, voice, isHeld, byVoice, hold}
 use Rattle.ledger.proofs.Raised.{raise-same, owner-raised, ports-raised, listed-raised, sound-raised}
-use Rattle.ledger.specs.Ledger.{Ledger, lowestPort, portFree, portHeld, cutOff, stolen, stealVoice, instantiate, placeWithinBudget, admitted, admissionOn}
+use Rattle.ledger.specs.Ledger.{Ledger, lowestPort, portFree, cutOff, stolen, stealVoice, instantiate, placeWithinBudget, admitted, admissionOn}
 use Rattle.ledger.proofs.Preserved.{place-kept}
-use Rattle.ledger.proofs.Managed.{managed-kept}
+use Rattle.ledger.proofs.Managed.{managed-kept, begin-id}
+use Rattle.ledger.proofs.Capacity.{nodes-few, wires-few}
 use Rattle.ledger.proofs.Victim.{nextOut-in}
 use Rattle.ledger.specs.Claim.{ownerAt}
 use Rattle.ledger.proofs.Owner.{portsAt, live-below, look-old, owner-old, owner-new, listed-append}
-use Rattle.ledger.proofs.EdgeInvariant.{above, ends-at}
-use Rattle.ledger.proofs.Invariant.{Invariant, HostAt, sound-more, ends-below}
+use Rattle.ledger.proofs.Invariant.{Invariant, sound-more, ends-below}
 use Rattle.ledger.proofs.Instantiation.{Planted, planted-all, planted-wires}
-use Rattle.ledger.proofs.NewVoice.{out-in, wires-in, nodes-owned, nodes-count, feeder-out, sound-newcomer}
+use Rattle.ledger.proofs.NewVoice.{out-in, wires-in, nodes-owned, nodes-count}
 use Rattle.ledger.proofs.Port.{lowest-some, feeds-held}
 use Rattle.ledger.proofs.Spawns.{InvariantOf, ids-of, cut-off}
-use Rattle.sealed.proofs.Counting.{count-weaker}
-use Rattle.sealed.specs.declared.profile.Profile.{Profile}
-use Rattle.sealed.proofs.Live.{wired-nodes}
-use Rattle.sealed.proofs.Within.{ownedN, isOwner, fromOwner, fades, Within, WithinL, within-gone', count-mapped}
 use Rattle.node.specs.declared.record.NodeId.{NodeId}
 use Rattle.node.specs.declared.record.VoiceId.{VoiceId}
 use Rattle.node.specs.declared.record.Node.{Node}
 use Rattle.node.specs.declared.record.Edge.{Edge}
 use Rattle.graph.specs.Change as change
 use Rattle.synthdef.specs.Edges as edges
-use Rattle.synthdef.specs.declared.def.DefEdge.{DefEdge}
 use Rattle.synthdef.specs.declared.def.SynthDef.{SynthDef}
 use Rattle.store.specs.declared.voices.Voice.{Voice}
 use Rattle.store.specs.declared.voices.VoiceState.{VoiceState}
 use Rattle.store.specs.declared.voices.VoiceState.the-variants.{Tracked, Fading, Loose}
 use Rattle.store.specs.declared.voices.Fade.{Fade}
 use Rattle.ledger.proofs.Spawns as spawns
-
--- ---- how many nodes and wires a voice has
-rows-few : {A : Type 0} (capacity count : ℕ) (l : List A) → length (take (min count capacity) l) ≤ count
-rows-few capacity count l = omega (arith, length-take (min count capacity) l, min-le-left (min count capacity) (length l), min-le-left count capacity)
-
-length-counted : (es : List DefEdge) → length (edges.counted es) ≤ length es
-length-counted [] = omega arith
-length-counted (e ∷ es) = go (not (edges.taken e es)) (length-counted es)
-  where
-    go : (b : Bool) → length (edges.counted es) ≤ length es → length (put? b e (edges.counted es)) ≤ suc (length es)
-    go true h = omega arith
-    go false h = omega arith
-
-nodes-few : (w : VoiceId) (def : SynthDef) (pan : Bool) → length (voiceNodes w def pan) ≤ def .nodes .count + 2
-nodes-few w def pan = go pan (nodes-count w def pan)
-  where
-    go : (b : Bool) → length (voiceNodes w def pan) ≡ length (nodeRows (def .nodes)) + cond b 2 0 → length (voiceNodes w def pan) ≤ def .nodes .count + 2
-    go true e = omega (arith, e, rows-few 24 (def .nodes .count) (def .nodes .rows))
-    go false e = omega (arith, e, rows-few 24 (def .nodes .count) (def .nodes .rows))
-
-wires-few : (def : SynthDef) (pan : Bool) → length (voiceWires def pan) ≤ def .edges .count + 2
-wires-few def pan = go pan
-  where
-    n : ℕ
-    n = length (nodeRows (def .nodes))
-
-    own : length (map defWire (edges.counted (edgeRows (def .edges)))) ≤ def .edges .count
-    own = omega (arith, length-map (edges.counted (edgeRows (def .edges))) defWire, length-counted (edgeRows (def .edges)), rows-few 48 (def .edges .count) (def .edges .rows))
-
-    go : (b : Bool) → length (map defWire (edges.counted (edgeRows (def .edges))) ++ cond b (wire (def .output) (n + 1) 0 ∷ wire n (n + 1) 1 ∷ []) []) ≤ def .edges .count + 2
-    go true = omega (arith, own, length-append (map defWire (edges.counted (edgeRows (def .edges)))) (wire (def .output) (n + 1) 0 ∷ wire n (n + 1) 1 ∷ []))
-    go false = omega (arith, own, length-append (map defWire (edges.counted (edgeRows (def .edges)))) [])
+use Rattle.sealed.specs.declared.profile.Profile.{Profile}
+use Rattle.sealed.proofs.Counting.{count-weaker}
+use Rattle.sealed.proofs.Live.{wired-nodes}
+use Rattle.sealed.proofs.Within.{ownedN, isOwner, fromOwner, fades, Within, WithinL, within-gone', count-mapped}
 
 -- ---- counts after nodes came and edges were put
 more-le : (b : Bool) (n : ℕ) → more b n ≤ suc n
@@ -318,13 +284,6 @@ module _ (s : Profile) (y : Spawn) (ok : allowed (y .def) ≡ true) (small : y .
           (p, lt, rw (eq-eqb (s .bus .0) (s .bus .0) refl, eq-eqb p p refl) (eq-eqb (nv + 1) (nv + 1) refl))
 
 -- ---- the victim fades: its node and one edge more; the edge to the bus takes the place of its feeder's
-begin-id : (w : VoiceId) (f : Fade) (u : Voice) → beginFade w f u .id ≡ u .id
-begin-id w f u = go (isVoice w u)
-  where
-    go : (b : Bool) → cond b (withState (Fading f) u) u .id ≡ u .id
-    go true = refl
-    go false = refl
-
 begin-bus : (w : VoiceId) (f : Fade) (u : Voice) → beginFade w f u .bus ≡ u .bus
 begin-bus w f u = go (isVoice w u)
   where

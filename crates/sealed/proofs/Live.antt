@@ -5,8 +5,8 @@ use mathlib.Core.Logic.{_⊎_, inl, inr, ⊎-elim}
 use mathlib.Core.List.{List, [], _∷_, _++_, map}
 use mathlib.Core.Option.{Option, none, some}
 use mathlib.Core.Bool.{Bool, true, false, not, cond}
-use borrow.Author.Tests.{ne-eqb, eq-eqb, not-true}
 use lib.Dec.{eqb}
+use borrow.Author.Tests.{not-true}
 use Rattle.lists.specs.Member.{In}
 use Rattle.lists.proofs.Member.{in-snoc, in-left, in-right, in-map, in-of-map}
 use Rattle.lists.proofs.Find.{find-in}
@@ -20,7 +20,7 @@ use Rattle.model.specs.Voice.{id, isVoice, beginFade, moved}
 use Rattle.model.specs.Spawn.{Spawn, pans, Wire, voiceNodes, voiceWires, appendAll, wireAll, newVoice, nextVoice, stateUnder, tries, fadeNode, fadeOf, raised}
 use Rattle.model.specs.Render.{isSounding}
 use Rattle.model.specs.Call.{Call}
-use Rattle.ledger.specs.Ledger.{Ledger, newLedger, portFree, portHeld, withoutVoice, cutOff, stolen, stealVoice, instantiate, instantiateOr, placeWithinBudget, refused}
+use Rattle.ledger.specs.Ledger.{Ledger, newLedger, portFree, portHeld, cutOff, stolen, stealVoice, instantiate, instantiateOr, placeWithinBudget, refused}
 use Rattle.ledger.specs.Render.{oneMore, countedIf}
 use Rattle.ledger.specs.Call.{step}
 use Rattle.ledger.proofs.Preserved.{place-kept, Preserves, kept-step}
@@ -35,7 +35,6 @@ use Rattle.store.specs.declared.config.Config.{Config}
 use Rattle.store.specs.declared.voices.Voice.{Voice}
 use Rattle.store.specs.declared.voices.VoiceState.{VoiceState}
 use Rattle.store.specs.declared.voices.VoiceState.the-variants.{Tracked, Loose}
-use Rattle.store.specs.declared.voices.Fade.{Fade}
 
 abbrev pub Owned : List Voice → Node → Type 0
 Owned vs x = (x .owner .0 ≡ 0) ⊎ ((v : Voice) × In v vs × (v .id .0 ≡ x .owner .0))

@@ -6,19 +6,17 @@ use mathlib.Core.Path.{_≡_, refl, sym, ap, _∙_, subst}
 use mathlib.Core.Logic.{_⊎_, inl, inr, ⊎-elim}
 use mathlib.Core.List.{List, [], _∷_}
 use mathlib.Core.Option.{Option, none, some}
-use mathlib.Core.Bool.{Bool, true, false, not, cond, _&&_, _||_, false≢true, true≢false}
-use borrow.Author.Tests.{eqb-true, eq-eqb, ne-eqb, leb-true, le-ltb, lt-leb, not-false, not-true}
+use mathlib.Core.Bool.{Bool, true, false, not, cond, false≢true}
 use lib.Dec.{eqb, leb, ltb}
-use lib.Ieee.{Float}
 use lib.ListN.{length}
+use borrow.Author.Tests.{eqb-true, eq-eqb, ne-eqb, leb-true, le-ltb, lt-leb, not-false, not-true}
 use Rattle.lists.specs.Member.{In}
-use Rattle.lists.proofs.Member.{and-left, and-right, both, some-inj, none-some}
+use Rattle.lists.proofs.Member.{and-left, and-right, none-some}
 use Rattle.lists.specs.Find.{find}
 use Rattle.lists.proofs.Find.{find-in}
 use Rattle.lists.specs.Count.{count}
 use Rattle.lists.proofs.Count.{count-length}
 use Rattle.edges.specs.Wiring.{endsAt}
-use Rattle.graph.specs.View.{GraphView}
 use Rattle.graph.specs.Node.{isNode, nodeAt, portsOf, ofVoice}
 use Rattle.graph.specs.Refuse.{when, dead, hostTest, hostRefusal}
 use Rattle.synthdef.specs.Limits.{allowed}
@@ -26,45 +24,39 @@ use Rattle.model.specs.SharedState.{SharedState}
 use Rattle.model.specs.Voice.{id}
 use Rattle.model.specs.Refuse.{orElse, rankLimit, noHeadroom, noIds, spawnRefusal}
 use Rattle.model.specs.Spawn.{Spawn, stateUnder, tries}
-use Rattle.model.specs.Model.{Model}
-use Rattle.model.specs.Make.{Making, configOf, make}
-use Rattle.model.specs.Call.{Call, Answer}
-use Rattle.ledger.specs.Ledger.{Ledger, newLedger, SpawnResult, placeWithinBudget, stealVoice, admitted, admissionOn, refused}
+use Rattle.model.specs.Call.{Call}
+use Rattle.ledger.specs.Ledger.{Ledger, SpawnResult, placeWithinBudget, stealVoice, admitted, admissionOn}
 use Rattle.ledger.specs.Call.{step, run}
 use Rattle.ledger.proofs.Allowed.{spawn-allowed}
 use Rattle.ledger.proofs.Preserved.{place-kept, landed-kept}
-use Rattle.ledger.proofs.Managed.{managed-kept, config-step}
-use Rattle.ledger.specs.Claim.{ownerAt, ownerOf, holderOf, sourceHolds, heldBy, isHost, Stealing, spawnAnswer}
-use Rattle.ledger.proofs.Owner.{portsAt, owner-some}
+use Rattle.ledger.proofs.Managed.{managed-kept}
+use Rattle.ledger.specs.Claim.{ownerAt, ownerOf, holderOf, sourceHolds, heldBy, isHost}
+use Rattle.ledger.proofs.Owner.{owner-some}
 use Rattle.ledger.specs.Holder.{nobody, byVoice}
 use Rattle.ledger.proofs.EdgeInvariant.{Out, edge-at}
 use Rattle.ledger.proofs.Spawns.{InvariantOf, ids-of}
-use Rattle.ledger.proofs.Simulation.{Kept, kept-step, kept-new}
-use Rattle.ledger.proofs.SpawnFailure.{spawn-answer}
-use Rattle.ledger.proofs.Made.{made}
-use Rattle.sealed.proofs.Counting.{count-weaker, covered, ports-enough}
-use Rattle.sealed.specs.Seal.{mostPorts, nodesFor, edgesFor, Fits, accepts, within, shuts, allOpen}
-use Rattle.sealed.specs.declared.profile.Profile.{Profile}
-use Rattle.sealed.proofs.Accepts.{accepts-fits}
-use Rattle.sealed.proofs.Live.{Owned, Live, LiveOf, LiveNodes, live-step, live-new}
-use Rattle.sealed.proofs.Open.{open-kept}
-use Rattle.sealed.proofs.Within.{ownedN, isOwner, fromOwner, fades, Within, WithinL, within-gentle}
-use Rattle.sealed.proofs.Landing.{onBus, within-admitted}
+use Rattle.ledger.proofs.Simulation.{Kept, kept-step}
 use Rattle.node.specs.declared.record.NodeId.{NodeId}
 use Rattle.node.specs.declared.record.Node.{Node}
 use Rattle.node.specs.declared.record.Edge.{Edge}
 use Rattle.node.specs.declared.refusal.Refusal.{Refusal}
-use Rattle.node.specs.declared.refusal.Refusal.the-variants.{UnknownNode, VoiceNode, TableFull, IdsUsedUp, DefinitionLimits, BusWithoutPorts, Rejected, NoPort, RankTooHigh}
-use Rattle.voice.specs.declared.policy.Budget.the-variants.{AtMost}
+use Rattle.node.specs.declared.refusal.Refusal.the-variants.{UnknownNode, VoiceNode, TableFull, IdsUsedUp, DefinitionLimits, BusWithoutPorts, RankTooHigh}
 use Rattle.synthdef.specs.declared.def.SynthDef.{SynthDef}
 use Rattle.store.specs.declared.answer.Spawned.{Spawned}
 use Rattle.store.specs.declared.answer.Spawned.the-variants as Spawned
-use Rattle.store.specs.declared.config.Config.{Config}
 use Rattle.store.specs.declared.voices.Voice.{Voice}
 use Rattle.store.specs.declared.voices.VoiceState.{VoiceState}
 use Rattle.store.specs.declared.voices.VoiceState.the-variants.{Tracked, Fading, Loose}
 use Rattle.model.specs.Call as call
 use Rattle.ledger.specs.Ledger as ledger
+use Rattle.sealed.specs.Seal.{mostPorts, nodesFor, edgesFor, Fits, accepts, within, shuts, allOpen}
+use Rattle.sealed.specs.declared.profile.Profile.{Profile}
+use Rattle.sealed.proofs.Counting.{covered, ports-enough}
+use Rattle.sealed.proofs.Accepts.{accepts-fits}
+use Rattle.sealed.proofs.Live.{LiveOf, LiveNodes, live-step}
+use Rattle.sealed.proofs.Open.{open-kept}
+use Rattle.sealed.proofs.Within.{ownedN, isOwner, fromOwner, fades, WithinL, within-gentle}
+use Rattle.sealed.proofs.Landing.{onBus, within-admitted}
 
 -- what sealing tested of the numbers
 pub record Room (s : Profile) : Type 0 where

@@ -1,7 +1,7 @@
 -- What the calls that a seal leaves open do, move by move: `Preserves` without the host's moves and the unmanaged spawn, and with the
 -- ports of a node whose record changes. A managed spawn is given.
 use Prim.Native.Nat.{ℕ, _+_, _<_}
-use mathlib.Core.Path.{_≡_, refl, sym, _∙_}
+use mathlib.Core.Path.{_≡_, refl}
 use mathlib.Core.Logic.{inl, inr}
 use mathlib.Core.List.{List, [], _∷_}
 use mathlib.Core.Option.{Option, none, some}
@@ -19,7 +19,7 @@ use Rattle.scheduler.specs.Event.{paramOrder}
 use Rattle.scheduler.specs.Queue.{replacing}
 use Rattle.synthdef.specs.Tables.{paramRows}
 use Rattle.synthdef.specs.Params.{paramNode}
-use Rattle.model.specs.SharedState.{SharedState, withEvents, sounding}
+use Rattle.model.specs.SharedState.{withEvents, sounding}
 use Rattle.model.specs.Voice.{isVoice, id}
 use Rattle.model.specs.Refuse.{reportRefusal}
 use Rattle.model.specs.Spawn.{Spawn}
@@ -32,13 +32,10 @@ use Rattle.model.specs.Clear.{isSilent}
 use Rattle.ledger.specs.Clear.{ended, withoutVoices, endedVoices, silentVoices}
 use Rattle.ledger.specs.Render.{applyEvent, applyEvents, blockOf, preparedIf, rested}
 use Rattle.ledger.specs.Call.{Step, unless, step, renderStep}
-use Rattle.sealed.specs.Seal.{shuts}
-use Rattle.sealed.specs.declared.profile.Profile.{Profile}
 use Rattle.node.specs.declared.record.NodeId.{NodeId}
 use Rattle.node.specs.declared.record.VoiceId.{VoiceId}
 use Rattle.node.specs.declared.record.Node.{Node}
 use Rattle.node.specs.declared.refusal.Refusal.{Refusal}
-use Rattle.node.specs.declared.refusal.Refusal.the-variants.{ClockEnd}
 use Rattle.order.specs.declared.Readiness.{Readiness}
 use Rattle.order.specs.declared.Readiness.the-variants.{Ready, Refused}
 use Rattle.scheduler.specs.declared.event.Event.{Event}
@@ -50,6 +47,8 @@ use Rattle.store.specs.declared.answer.Outcome.the-variants.{Applied, NotTaken}
 use Rattle.store.specs.declared.voices.Voice.{Voice}
 use Rattle.model.specs.Call as call
 use Rattle.ledger.specs.Ledger as ledger
+use Rattle.sealed.specs.Seal.{shuts}
+use Rattle.sealed.specs.declared.profile.Profile.{Profile}
 
 pub record Gentle (P : Ledger → Type 0) : Type 0 where
   pub positive : (l : Ledger) → P l → (v : Voice) → In v (l .voices) → 0 < v .id .0

@@ -23,7 +23,7 @@ use Rattle.model.specs.Call as call
 use Rattle.model.specs.Scene.{upTo, tones, plain, host, spawned, notSpawned}
 use Rattle.ledger.specs.Claim.{after}
 use Rattle.sealed.specs.declared.profile.Profile.{Profile}
-use Rattle.sealed.specs.Seal.{accepts, within, shuts, allOpen}
+use Rattle.sealed.specs.Seal.{accepts, shuts}
 
 abbrev profile : ℕ → ℕ → ℕ → ℕ → ℕ → Profile
 profile p h g d e = record { bus = id 0; ports = p; «host_nodes» = h; «host_edges» = g; «def_nodes» = d; «def_edges» = e }

@@ -1,13 +1,11 @@
 -- The promise of the seal, of every store that making gives, for every list of calls before the seal and every list that it let through.
-use Prim.Native.Nat.{ℕ, suc, _≤_, _<_}
-use native.Mathlib.Omega.{arith}
+use Prim.Native.Nat.{ℕ, _≤_}
 use mathlib.Core.Path.{_≡_, refl, sym, ap, _∙_, subst}
 use mathlib.Core.List.{List, [], _∷_, _++_, map}
 use mathlib.Core.Option.{Option, some}
-use mathlib.Core.Bool.{true, false, false≢true}
-use borrow.Author.Tests.{eqb-true, eq-eqb}
-use lib.Dec.{eqb}
+use mathlib.Core.Bool.{true, false≢true}
 use lib.ListN.{length, length-map}
+use borrow.Author.Tests.{eqb-true, eq-eqb}
 use Rattle.lists.specs.Member.{In}
 use Rattle.lists.proofs.Member.{in-map}
 use Rattle.node.specs.declared.record.VoiceId.{VoiceId}
@@ -16,7 +14,7 @@ use Rattle.bus.specs.Fade.{fadeLength}
 use Rattle.store.specs.declared.config.Config.{Config}
 use Rattle.store.specs.declared.voices.Voice.{Voice}
 use Rattle.model.specs.Model.{Model}
-use Rattle.model.specs.Make.{Making, configOf, make, newModel}
+use Rattle.model.specs.Make.{Making, configOf, make}
 use Rattle.model.specs.Refuse.{spawnRefusal, noIds}
 use Rattle.model.specs.Spawn.{Spawn}
 use Rattle.model.specs.Call.{Call}
@@ -30,7 +28,7 @@ use Rattle.ledger.proofs.History.{run-append}
 use Rattle.ledger.proofs.Made.{made}
 use Rattle.ledger.proofs.Store.{shown, storeOf, store-step, store-after, kept-after, config-after, refusal-same}
 use Rattle.sealed.specs.declared.profile.Profile.{Profile}
-use Rattle.sealed.specs.Seal.{nobodyIn, accepts, within, allOpen}
+use Rattle.sealed.specs.Seal.{nobodyIn, accepts, allOpen}
 use Rattle.sealed.specs.Sealed.{Promise, SealedRun}
 use Rattle.sealed.proofs.Live.{live-step, live-new, LiveNodes}
 use Rattle.sealed.proofs.Never.{Sealed, sealed-start, sealed-run, spawn-never-full, not-refused, voices-few, one-port}

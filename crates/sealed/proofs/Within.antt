@@ -3,23 +3,22 @@
 -- Kept here by what is not a spawn.
 use Prim.Native.Nat.{ℕ, suc, _+_, _≤_, _<_}
 use native.Mathlib.Omega.{arith}
-use mathlib.Core.Path.{_≡_, refl, sym, ap, _∙_, subst}
-use mathlib.Core.Logic.{_⊎_, inl, inr, ⊎-elim}
-use mathlib.Core.List.{List, [], _∷_, _++_, map}
+use mathlib.Core.Path.{_≡_, refl, sym, ap, _∙_}
+use mathlib.Core.Logic.{inl, inr}
+use mathlib.Core.List.{List, [], _∷_, map}
 use mathlib.Core.Option.{Option, none, some}
 use mathlib.Core.Bool.{Bool, true, false, not, cond, false≢true}
-use borrow.Author.Tests.{eqb-true, eq-eqb, ne-eqb, not-true}
 use lib.Dec.{eqb}
-use lib.ListN.{length}
+use borrow.Author.Tests.{eqb-true, eq-eqb, ne-eqb, not-true}
 use Rattle.lists.specs.Member.{In}
-use Rattle.lists.proofs.Member.{some-inj, none-some, in-map}
+use Rattle.lists.proofs.Member.{some-inj, in-map}
 use Rattle.lists.specs.Filter.{filter, put?}
 use Rattle.lists.proofs.Filter.{in-filter}
 use Rattle.lists.proofs.Find.{find-in}
 use Rattle.lists.specs.Count.{more, count}
 use Rattle.lists.proofs.Count.{count-filter}
 use Rattle.edges.specs.Wiring.{among, touches, dropTouching}
-use Rattle.graph.specs.Node.{isNode, ownedBy, nodeAt, portsOf, replaced}
+use Rattle.graph.specs.Node.{isNode, ownedBy, nodeAt, replaced}
 use Rattle.graph.specs.Change.{idsOf}
 use Rattle.model.specs.Voice.{id, isVoice, movedState, moved}
 use Rattle.model.specs.Render.{isSounding}
@@ -27,10 +26,7 @@ use Rattle.ledger.specs.Holder.{Holder, Holders, nobody, host, voice, byVoice, 
 use Rattle.ledger.specs.Ledger.{Ledger, withoutVoice}
 use Rattle.ledger.specs.Render.{oneMore, countedIf}
 use Rattle.ledger.specs.Claim.{ownerAt}
-use Rattle.ledger.proofs.Owner.{portsAt, Listed, once, owner-thin, look-thin, ports-thin, listed-thin, dead-voice, owner-replaced, ports-replaced, listed-replaced}
-use Rattle.sealed.proofs.Counting.{count-weaker}
-use Rattle.sealed.specs.declared.profile.Profile.{Profile}
-use Rattle.sealed.proofs.Open.{Gentle}
+use Rattle.ledger.proofs.Owner.{portsAt, Listed, once, owner-thin, ports-thin, listed-thin, dead-voice, owner-replaced, ports-replaced, listed-replaced}
 use Rattle.node.specs.declared.record.NodeId.{NodeId}
 use Rattle.node.specs.declared.record.VoiceId.{VoiceId}
 use Rattle.node.specs.declared.record.Node.{Node}
@@ -38,7 +34,9 @@ use Rattle.node.specs.declared.record.Edge.{Edge}
 use Rattle.store.specs.declared.voices.Voice.{Voice}
 use Rattle.store.specs.declared.voices.VoiceState.{VoiceState}
 use Rattle.store.specs.declared.voices.VoiceState.the-variants.{Tracked, Fading, Loose}
-use Rattle.store.specs.declared.answer.Rendered.{Rendered}
+use Rattle.sealed.specs.declared.profile.Profile.{Profile}
+use Rattle.sealed.proofs.Counting.{count-weaker}
+use Rattle.sealed.proofs.Open.{Gentle}
 
 abbrev pub ownedN : ℕ → Node → Bool
 ownedN k x = eqb (x .owner .0) k

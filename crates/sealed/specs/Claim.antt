@@ -11,7 +11,6 @@ use Rattle.console.specs.Console.{Console, ConsoleCall, consoleRun}
 use Rattle.console.specs.Console as console
 use Rattle.console.specs.Claim.{ConsoleClaim}
 use Rattle.sealed.specs.declared.profile.Profile.{Profile}
-use Rattle.sealed.specs.declared.profile.Seal.{Seal}
 use Rattle.sealed.specs.declared.profile.Seal.the-variants.{Sealed}
 use Rattle.sealed.specs.declared.refusal.SealRefusal.the-variants.{Closed}
 use Rattle.sealed.specs.Sealed.{Promise}

@@ -26,9 +26,9 @@ unfolding eventOf
 returns-2 c =
     let s = c .before .before .before .before .before .before .before .before .args in
     λ e k name.
-      (off _ _ (ne-eqb _ _ (λ z. c .if2 .taken (c .before .before .long-at .ensures ∙ sym z ∙ sym (k .voice))))
-      ∙ on _ _ (eq-eqb _ _ (sym (k .time) ∙ sym (c .before .before .before .if1 .left) ∙ c .before .before .before .before .before .time-at .ensures ∙ ap (λ (x : Event). x .time) (row-is 15 eventOf (s .t .now) (s .i)))))
-      ∙ sym (ap (replaces e) (row-is 15 eventOf (s .t .now) (s .i)))
+    (off _ _ (ne-eqb _ _ (λ z. c .if2 .taken (c .before .before .long-at .ensures ∙ sym z ∙ sym (k .voice))))
+    ∙ on _ _ (eq-eqb _ _ (sym (k .time) ∙ sym (c .before .before .before .if1 .left) ∙ c .before .before .before .before .before .time-at .ensures ∙ ap (λ (x : Event). x .time) (row-is 15 eventOf (s .t .now) (s .i)))))
+    ∙ sym (ap (replaces e) (row-is 15 eventOf (s .t .now) (s .i)))
 
 same-order-requires : tie.Need-same-order-requires
 same-order-requires c κs = search needs
@@ -38,10 +38,10 @@ unfolding eventOf
 returns-3 c =
     let s = c .before .before .before .before .before .before .before .before .before .args in
     λ e k name.
-      (c .same-order .ensures e k name
-      ∙ on _ _ (eq-eqb _ _ (sym (k .voice) ∙ sym (c .before .if2 .left) ∙ c .before .before .before .long-at .ensures))
-      ∙ on _ _ (eq-eqb _ _ (sym (k .time) ∙ sym (c .before .before .before .before .if1 .left) ∙ c .before .before .before .before .before .before .time-at .ensures ∙ ap (λ (x : Event). x .time) (row-is 15 eventOf (s .t .now) (s .i)))))
-      ∙ sym (ap (replaces e) (row-is 15 eventOf (s .t .now) (s .i)))
+    (c .same-order .ensures e k name
+    ∙ on _ _ (eq-eqb _ _ (sym (k .voice) ∙ sym (c .before .if2 .left) ∙ c .before .before .before .long-at .ensures))
+    ∙ on _ _ (eq-eqb _ _ (sym (k .time) ∙ sym (c .before .before .before .before .if1 .left) ∙ c .before .before .before .before .before .before .time-at .ensures ∙ ap (λ (x : Event). x .time) (row-is 15 eventOf (s .t .now) (s .i)))))
+    ∙ sym (ap (replaces e) (row-is 15 eventOf (s .t .now) (s .i)))
 
 pub is-replaced-spec : {M : Type 1} → statement M
 is-replaced-spec =
