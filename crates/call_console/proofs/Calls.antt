@@ -27,7 +27,7 @@ use Rattle.call_console.specs.declared.queues.Keyboard.{Keyboard}
 use Rattle.call_console.specs.declared.queues.Keyboard.the-variants.{At, Nothing}
 use Rattle.call_console.specs.declared.wishing.WishAnswer.{WishAnswer}
 use Rattle.call_console.specs.declared.wishing.WishAnswer.the-variants as WishAnswer
-use Rattle.call_console.specs.Queues.{noQueue, placeIn, wishesOf, Room, Waits, WaitsAt, pickedAt}
+use Rattle.call_console.specs.Queues.{noQueue, placeIn, wishesOf, Capacity, Waits, WaitsAt, pickedAt}
 use Rattle.call_console.specs.Called.{memory, consoleOf, Called, Kept, wishAnswer, madeOf, judged}
 use Rattle.call_console.proofs.Rings.{many-is, waits-is, waits-none, queue-long, oldest-is}
 
@@ -78,7 +78,7 @@ taken-up ws q h k =
     ap (λ b. cond b (some OutOfRange) (cond (leb 16 (length (waitingAt q ws))) (some Full) none)) (lt-leb (keyboards ws) q h)
     ∙ ap (λ b. cond b (some Full) none) (lt-leb 16 (length (waitingAt q ws)) k)
 
-pub room-is : (s : WishState) (q : ℕ) (c : List ℕ) → q < keyboards (wishesOf s c) → length (waitingAt q (wishesOf s c)) < 16 → Room s q
+pub room-is : (s : WishState) (q : ℕ) (c : List ℕ) → q < keyboards (wishesOf s c) → length (waitingAt q (wishesOf s c)) < 16 → Capacity s q
 room-is s q c h k =
     let inside : q < min (s .keyboards) 8 = subst (λ n. q < n) (many-is s c) h in
     let e : length (waitingAt q (wishesOf s c)) ≡ min (getD (s .queues) q noQueue .count) 16 = ap length (waits-is s c q inside) ∙ queue-long (wishesIn c) q (getD (s .queues) q noQueue) in

@@ -18,7 +18,7 @@ use Rattle.console.specs.Wishes.{keyboards, waitingAt, added, rest, after, take
 use Rattle.wish_rows.specs.Rows.{wishOf, wishesIn}
 use Rattle.call_console.specs.declared.queues.Queue.{Queue}
 use Rattle.call_console.specs.declared.queues.WishState.{WishState}
-use Rattle.call_console.specs.Queues.{noQueue, placeIn, queueOf, wishesOf, Room, Waits}
+use Rattle.call_console.specs.Queues.{noQueue, placeIn, queueOf, wishesOf, Capacity, Waits}
 
 -- ---- each
 module _ {A : Type 0} where
@@ -102,7 +102,7 @@ queue-beside rows q p j u v w n =
 abbrev pub withQueue : WishState → ℕ → Queue → ℕ → WishState
 withQueue s q u n = record { keyboards = s .keyboards; next = n; queues = set (s .queues) q u }
 
-pub added-is : (s : WishState) (c e : List ℕ) (q : ℕ) (w : Wish) → Room s q → length (s .queues) ≡ 8 → length (wishesIn c) ≡ 128
+pub added-is : (s : WishState) (c e : List ℕ) (q : ℕ) (w : Wish) → Capacity s q → length (s .queues) ≡ 8 → length (wishesIn c) ≡ 128
     → wishesIn e ≡ set (wishesIn c) (placeIn q (getD (s .queues) q noQueue) (getD (s .queues) q noQueue .count)) w
     → wishesOf (withQueue s q (record { start = getD (s .queues) q noQueue .start; count = getD (s .queues) q noQueue .count + 1 }) (s .next)) e ≡ added q w (wishesOf s c)
 added-is s c e q w r eight long put =

@@ -29,7 +29,7 @@ wishesOf s c = record { waits = each (λ q. queueOf (wishesIn c) q (getD (s .que
 
 -- ---- what is known of a keyboard between a test and what is then done
 -- it has room for a wish
-pub record Room (s : WishState) (q : ℕ) : Type 0 where
+pub record Capacity (s : WishState) (q : ℕ) : Type 0 where
   pub inside : q < min (s .keyboards) 8
   pub spare : getD (s .queues) q noQueue .count < 16
 

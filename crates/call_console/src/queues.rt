@@ -9,7 +9,7 @@ ghost use Prim.Native.Nat.{ℕ, _+_, _*_, _%_, _<_, _≤_, min};
 ghost use lib.ListN.{length, getD};
 ghost use Rattle.wish_rows.specs.Rows.{wishOf, wishesIn};
 ghost use Rattle.console.specs.Wishes.{keyboards, waitingAt, after, added, picked, takenFrom, newWishes};
-ghost use Rattle.call_console.specs.Queues.{noQueue, placeIn, wishesOf, pickedAt, Room, Waits, WaitsAt};
+ghost use Rattle.call_console.specs.Queues.{noQueue, placeIn, wishesOf, pickedAt, Capacity, Waits, WaitsAt};
 
 // A keyboard's wishes are `count` of its 16 rows, from its row `start` on, going round. A count above 16 is 16.
 pub struct Queue {
@@ -95,7 +95,7 @@ pub fn next_keyboard(s: WishState) -> Keyboard
 
 // The wish `w` waits behind those of keyboard `q`.
 pub(crate) fn add_wish(s: WishState, t: &mut [u32], q: usize, w: Wish) -> WishState
-    requires { ⌜ (length (now t) ≡ 31104) × Room s q ⌝ }
+    requires { ⌜ (length (now t) ≡ 31104) × Capacity s q ⌝ }
     ensures { λ r. ⌜ wishesOf r (now (t .exit)) ≡ added q w (wishesOf s (now (t .entry))) ⌝ }
 {
     let queue = s.queues[q];

@@ -4,9 +4,9 @@ use mathlib.Core.Path.{_≡_, sym, ap, subst, _∙_}
 use mathlib.Core.List.{List}
 use lib.ListN.{take}
 use Rattle.node.specs.declared.refusal.Refusal.{Refusal}
-use Rattle.order.specs.declared.Readiness.{Readiness}
-use Rattle.order.specs.declared.Readiness.the-variants as Readiness
-use Rattle.order.specs.Prepare as order
+use Rattle.prepare.specs.declared.Readiness.{Readiness}
+use Rattle.prepare.specs.declared.Readiness.the-variants as Readiness
+use Rattle.prepare.specs.Prepare as order
 use Rattle.graph.specs.View.{preparedBy}
 use Rattle.graph_rows.specs.Node.{nodesIn}
 use Rattle.graph_rows.specs.Edge.{edgesIn}

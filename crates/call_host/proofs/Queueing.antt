@@ -6,7 +6,7 @@ use mathlib.Core.List.{List}
 use mathlib.Core.Bool.{Bool, true, false, cond}
 use mathlib.Core.Option.{none}
 use lib.ListN.{take}
-use Rattle.node.specs.declared.order.Action.{Action}
+use Rattle.node.specs.declared.order.EventAction.{EventAction}
 use Rattle.node.specs.declared.record.VoiceId.{VoiceId}
 use Rattle.node.specs.declared.refusal.Refusal.{Refusal}
 use Rattle.node.specs.declared.refusal.Refusal.the-variants.{TableFull}
@@ -26,7 +26,7 @@ use Rattle.memory.specs.Lent.{lentEvents}
 use Rattle.memory.specs.Called.{Called}
 use Rattle.memory.specs.Parts.{queued}
 
-module _ (s : State) (old new : List ℕ) (time : ℕ) (voice : VoiceId) (name : List ℕ) (action : Action) (r : Scheduled)
+module _ (s : State) (old new : List ℕ) (time : ℕ) (voice : VoiceId) (name : List ℕ) (action : EventAction) (r : Scheduled)
     (h : Queued (s .events) (event time voice name action) old r new) where
   -- refused: the queue had no place, freed ones counted
   full-refused : (x : Refusal) → r .answer ≡ queue.Refused x → (full (thinned (event time voice name action) (take (s .events) (eventsIn old))) ≡ true) × (x ≡ TableFull)

@@ -4,7 +4,7 @@ use memory::parts::with_events;
 use memory::state::HostResult;
 use memory::state::State;
 use node::name::name_of;
-use node::order::Action;
+use node::order::EventAction;
 use node::record::VoiceId;
 use scheduler::event::Event;
 use scheduler::queue::ScheduleAnswer;
@@ -21,7 +21,7 @@ pub fn schedule(
     time: u64,
     voice: VoiceId,
     name: &[u8],
-    action: Action,
+    action: EventAction,
 ) -> HostResult
     ensures is { λ r. ⌜ ((m : Memory) → Called (schedule time voice (now (name .entry)) action) (lentEvents s (now (events .entry)) m) (answered (r .answer)) (lentEvents (r .state) (now (events .exit)) m)) ⌝ }
     ensures same { λ r. ⌜ ((m : Memory) → Kept (answered (r .answer)) (lentEvents s (now (events .entry)) m) (lentEvents (r .state) (now (events .exit)) m)) ⌝ }

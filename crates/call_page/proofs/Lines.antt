@@ -4,7 +4,7 @@ use native.Mathlib.Numerals.{add-one}
 use mathlib.Core.Path.{_≡_, refl, sym, ap, _∙_}
 use mathlib.Core.List.{List, [], _∷_, _++_, append-assoc, append-nil}
 use mathlib.Core.Option.{Option, none}
-use mathlib.Core.Bool.{true, false}
+use mathlib.Core.Bool.{Bool}
 use lib.ListN.{length, take, getD}
 use lib.Seq.{take-suc}
 use Rattle.node.specs.Silence.{bytes}
@@ -21,16 +21,17 @@ use Rattle.graph_tables.specs.declared.ports.Feeding.{Feeding}
 use Rattle.store.specs.declared.voices.Voice.{Voice}
 use Rattle.store.specs.declared.voices.VoiceState.{VoiceState}
 
--- the edge that was looked for, and the text of its port
-module _ (es : List Edge) (v : Voice) (from : ℕ) (bus : NodeId) (fed : Feeding) (e : from ≡ endOf v .0) (f : bus ≡ v .bus) (h : feedingOf fed ≡ find (feeds (node from) bus) es) where
-  port-is : mapO (λ (e : Edge). e .port) (feedingOf fed) ≡ portNow es v
-  port-is = ap (mapO (λ (e : Edge). e .port)) (h ∙ ap (λ k. find (feeds (node k) bus) es) e ∙ ap (λ k. find (feeds (endOf v) k) es) f)
+-- the port of an edge that was looked for, if it was found
+abbrev pub portFound : Feeding → Option ℕ
+portFound fed = mapO (λ (e : Edge). e .port) (feedingOf fed)
 
-  pub port-found : fed .found ≡ true → decimal (fed .edge .port) ++ bytes " " ≡ portText (portNow es v) ++ bytes " "
-  port-found t = ap (λ o. portText o ++ bytes " ") (sym (ap (λ b. mapO (λ (e : Edge). e .port) (or? b (fed .edge) none)) t) ∙ port-is)
+-- looked for from the end of a voice to its bus, it is the port that the voice feeds
+pub port-is : (es : List Edge) (v : Voice) (from : ℕ) (bus : NodeId) (fed : Feeding) → from ≡ endOf v .0 → bus ≡ v .bus → feedingOf fed ≡ find (feeds (node from) bus) es → portFound fed ≡ portNow es v
+port-is es v from bus fed e f h = ap (mapO (λ (e : Edge). e .port)) (h ∙ ap (λ k. find (feeds (node k) bus) es) e ∙ ap (λ k. find (feeds (endOf v) k) es) f)
 
-  pub port-none : fed .found ≡ false → bytes "- " ≡ portText (portNow es v) ++ bytes " "
-  port-none t = ap (λ o. portText o ++ bytes " ") (sym (ap (λ b. mapO (λ (e : Edge). e .port) (or? b (fed .edge) none)) t) ∙ port-is)
+-- and the text of that port
+pub port-text : (fed : Feeding) (o : Option ℕ) → portFound fed ≡ o → (b : Bool) → fed .found ≡ b → portText (mapO (λ (e : Edge). e .port) (or? b (fed .edge) none)) ++ bytes " " ≡ portText o ++ bytes " "
+port-text fed o e b t = ap (λ p. portText p ++ bytes " ") (sym (ap (λ b. mapO (λ (e : Edge). e .port) (or? b (fed .edge) none)) t) ∙ e)
 
 -- a voice's line, field by field
 regrouped : (s a b c d : List ℕ) → (((a ++ s) ++ (b ++ s)) ++ (c ++ s)) ++ d ≡ a ++ (s ++ (b ++ (s ++ (c ++ (s ++ d)))))

@@ -12,7 +12,7 @@ use borrow.Author.Tests.{ltb-true, ltb-false, leb-true, leb-false}
 use Rattle.words.specs.Rows.{rows}
 use Rattle.words.specs.Place.{Holds}
 use Rattle.words.proofs.Place.{counted}
-use Rattle.order.specs.Live.{asId}
+use Rattle.prepare.specs.Live.{asId}
 use Rattle.order_table.specs.Prepares.{idsIn}
 
 elem-at : {A : Type 0} (d : A) (l : List A) (i : ℕ) → i < length l → getElem? l i ≡ some (getD l i d)

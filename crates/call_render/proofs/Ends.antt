@@ -9,8 +9,8 @@ use Rattle.node.specs.declared.name.Name.{Name}
 use Rattle.node.specs.declared.order.LastOrder.{LastOrder}
 use Rattle.node.specs.declared.record.Node.{Node}
 use Rattle.node.specs.declared.record.NodeId.{NodeId}
-use Rattle.order.specs.declared.Readiness.{Readiness}
-use Rattle.order.specs.declared.Readiness.the-variants as Readiness
+use Rattle.prepare.specs.declared.Readiness.{Readiness}
+use Rattle.prepare.specs.declared.Readiness.the-variants as Readiness
 use Rattle.graph.specs.Node.{nodeAt}
 use Rattle.scheduler.specs.Event.{paramOrder}
 use Rattle.scheduler.specs.declared.event.Event.{Event}

@@ -11,9 +11,9 @@ use borrow.Author.Tests.{lt-ltb, le-ltb}
 use Rattle.lists.specs.Find.{isSome}
 use Rattle.node.specs.declared.refusal.Refusal.{Refusal}
 use Rattle.node.specs.declared.refusal.Refusal.the-variants.{ClockEnd, ShortBuffer}
-use Rattle.order.specs.declared.Readiness.{Readiness}
-use Rattle.order.specs.declared.Readiness.the-variants as Readiness
-use Rattle.order.specs.Prepare as order
+use Rattle.prepare.specs.declared.Readiness.{Readiness}
+use Rattle.prepare.specs.declared.Readiness.the-variants as Readiness
+use Rattle.prepare.specs.Prepare as order
 use Rattle.graph.specs.Tables.{sinkOf}
 use Rattle.scheduler.specs.Queue.{takenBefore}
 use Rattle.store.specs.declared.answer.Rendered.{Rendered}

@@ -4,7 +4,7 @@ use call_param::param::order_voice;
 use edges::table::is_listed;
 use graph_rows::node_row::NodeTable;
 use memory::state::State;
-use node::order::Action;
+use node::order::EventAction;
 use node::record::VoiceId;
 use scheduler::event::Event;
 use scheduler::event::param_order;
@@ -19,19 +19,19 @@ ghost use Rattle.graph_rows.specs.Node.{nodesIn};
 ghost use Rattle.voice_rows.specs.Rows.{voicesIn};
 ghost use Rattle.call_render.specs.Happened.{Noted, Happens};
 
-pub(crate) fn is_free(a: Action) -> bool
+pub(crate) fn is_free(a: EventAction) -> bool
     ensures { λ r. ⌜ r ≡ isFree a ⌝ }
 {
     match a {
-        Action::Value(_) => false,
-        Action::Glide {
+        EventAction::Value(_) => false,
+        EventAction::Glide {
             target: _,
             seconds: _,
             shape: _,
             space: _,
         } => false,
-        Action::Gate(_) => false,
-        Action::Free => true,
+        EventAction::Gate(_) => false,
+        EventAction::Free => true,
     }
 }
 

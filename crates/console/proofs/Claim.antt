@@ -16,7 +16,7 @@ use Rattle.ledger.proofs.Claim.{claim}
 use Rattle.console.specs.declared.refusal.KeyboardRefusal.{KeyboardRefusal}
 use Rattle.console.specs.declared.refusal.KeyboardRefusal.the-variants.{OutOfRange}
 use Rattle.console.specs.Wishes.{keyboardsRefusal, newWishes}
-use Rattle.console.specs.Console.{Console, ConsoleCall, ConsoleMade, made, refusedBy, refusedFor, consoleRun, wishesRun, storeCalls, servedOf, withKeyboards, madeUnless, makeConsole}
+use Rattle.console.specs.Console.{Console, ConsoleCall, made, consoleRun, wishesRun, storeCalls, servedOf, withKeyboards, madeUnless, makeConsole}
 use Rattle.console.specs.Claim.{StoreRun, ConsoleClaim, servesOf}
 use Rattle.console.proofs.Plain.{store-run, answers-served}
 use Rattle.console.proofs.Fifo.{in-order, at-most-16, new-16}
@@ -37,31 +37,17 @@ pub record Accepted (k : Making) (m : ℕ) (c : Console) : Type 0 where
   pub wishes : c .wishes ≡ newWishes m
   pub range : (0 < m) × (m ≤ 8)
 
-pick : Console → ConsoleMade → Console
-pick d (made c) = c
-pick d (refusedBy r) = d
-pick d (refusedFor r) = d
-
-isMade : ConsoleMade → ℕ
-isMade (made c) = 1
-isMade (refusedBy r) = 0
-isMade (refusedFor r) = 0
-
 pub accepted : (k : Making) (m : ℕ) (c : Console) → makeConsole k m ≡ made c → Accepted k m c
-unfolding pick isMade
 accepted k m c e = go (refusalOf k) refl (keyboardsRefusal m) refl e
   where
     new : Console
     new = record { model = newModel (configOf k); wishes = newWishes m }
 
-    not-made : (x : ConsoleMade) → isMade x ≡ 0 → x ≡ made c → Prim.⊥
-    not-made x z e = let f : _≡_ {A = ℕ} 1 0 = sym (ap isMade e) ∙ z in omega (arith, f)
-
     go : (a : Option Refusal) → refusalOf k ≡ a → (b : Option KeyboardRefusal) → keyboardsRefusal m ≡ b → madeUnless a (withKeyboards b new) ≡ made c → Accepted k m c
-    go (some r) p b q e = absurd (not-made _ refl e)
-    go none p (some r) q e = absurd (not-made _ refl e)
+    go (some r) p b q e = let z : _≡_ {A = ℕ} 0 1 = cc in absurd (omega arith)
+    go none p (some r) q e = let z : _≡_ {A = ℕ} 0 1 = cc in absurd (omega arith)
     go none p none q e =
-        let z : new ≡ c = ap (pick new) e in
+        let z : new ≡ c = cc in
         record { store = ap (λ o. model.madeUnless o (newModel (configOf k))) p ∙ ap (λ (x : Console). some (x .model)) z; wishes = ap (λ (x : Console). x .wishes) (sym z); range = one-to-eight m q }
 
 pub console-claim : (k : Making) (m : ℕ) (c : Console) → makeConsole k m ≡ made c → (xs : List ConsoleCall) → ConsoleClaim k m c xs

@@ -8,7 +8,7 @@ use Rattle.model.specs.Call.{Step}
 use Rattle.memory.specs.View.{Memory}
 use Rattle.memory.specs.Lent.{lentState}
 use Rattle.refinement.proofs.Refined as store
-use Rattle.console.specs.Console.{Console, ConsoleCall, ConsoleAnswer, plain, ConsoleStep, ConsoleRan, consoleRun, ConsoleMade, made, refusedBy, refusedFor, makeConsole}
+use Rattle.console.specs.Console.{Console, ConsoleCall, ConsoleAnswer, plain, ConsoleStep, ConsoleRan, consoleRun, ConsoleMade, made, makeConsole}
 use Rattle.console.proofs.Claim.{console-claim}
 use Rattle.call_make.specs.Made.{making}
 use Rattle.call_console.specs.declared.making.MakeAnswer.{MakeAnswer}
@@ -39,24 +39,10 @@ run-is ends = refl
 run-is (calls {xs = xs} {a = a} e r) = ap (after a) (run-is r) ∙ ap (λ (s : ConsoleStep). after (s .answer) (consoleRun xs (s .console))) (called e)
 
 -- the console of an accepted making is the theory's, whatever stands in the tables
-pick : Console → ConsoleMade → Console
-pick d (made c) = c
-pick d (refusedBy r) = d
-pick d (refusedFor r) = d
-
-isMade : ConsoleMade → ℕ
-isMade (made c) = 1
-isMade (refusedBy r) = 0
-isMade (refusedFor r) = 0
-
 made-new : (o : ConsoleMade) (c d : Console) (a : MakeAnswer) → madeOf a d ≡ o → o ≡ made c → d ≡ c
-unfolding pick isMade
-made-new o c d a e f = go a (e ∙ f)
-  where
-    go : (a : MakeAnswer) → madeOf a d ≡ made c → d ≡ c
-    go MakeAnswer.Done h = ap (pick d) h
-    go (MakeAnswer.Refused r) h = let z : _≡_ {A = ℕ} 0 1 = ap isMade h in absurd (omega (arith, z))
-    go (MakeAnswer.Keyboards r) h = let z : _≡_ {A = ℕ} 0 1 = ap isMade h in absurd (omega (arith, z))
+made-new o c d MakeAnswer.Done e f = cc
+made-new o c d (MakeAnswer.Refused r) e f = let z : _≡_ {A = ℕ} 0 1 = cc in absurd (omega arith)
+made-new o c d (MakeAnswer.Keyboards r) e f = let z : _≡_ {A = ℕ} 0 1 = cc in absurd (omega arith)
 
 -- the refinement, from the contract of `make_console`
 pub refines : (κs : _) (a : _) (r : _) (s : _) → fn-make-console.Post κs a r s

@@ -5,7 +5,7 @@ use mathlib.Core.Bool.{Bool, true, false, _&&_, _||_, not, false≢true}
 use borrow.Author.Tests.{eq-eqb, ne-eqb}
 use Rattle.node.specs.Name.{sameName}
 use Rattle.node.specs.declared.name.Name.{Name}
-use Rattle.node.specs.declared.order.Action.{Action}
+use Rattle.node.specs.declared.order.EventAction.{EventAction}
 use Rattle.scheduler.specs.Event.{gateName, paramOf}
 use Rattle.scheduler.specs.Replace.{isValue, isGlide, sameSort}
 use Rattle.event_table.specs.Rows.{actionFrom}
@@ -26,8 +26,8 @@ no-false true h = refl
 no-false false h = absurd (false≢true (sym h))
 
 -- ---- the row's action by its first word: 1 a value, 2 a glide, 3 a gate, else a free
-module _ (a : Action) (mine : Name) (which x s sh e sp : ℕ) (name : Name) where
-  abbrev theirs : Action
+module _ (a : EventAction) (mine : Name) (which x s sh e sp : ℕ) (name : Name) where
+  abbrev theirs : EventAction
   theirs = actionFrom which x s sh e sp
 
   abbrev told : Bool

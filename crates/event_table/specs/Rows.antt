@@ -5,20 +5,20 @@ use mathlib.Core.Bool.{cond}
 use mathlib.Core.List.{List}
 use lib.Dec.{eqb}
 use lib.ListN.{length, getD}
-use Rattle.node.specs.declared.order.Action.{Action}
-use Rattle.node.specs.declared.order.Action.the-variants as action
+use Rattle.node.specs.declared.order.EventAction.{EventAction}
+use Rattle.node.specs.declared.order.EventAction.the-variants as action
 use Rattle.scheduler.specs.declared.event.Event.{Event}
 use Rattle.words.specs.Rows.{rows}
 use Rattle.words.specs.Fields.{floatFrom, shapeFrom, spaceFrom, longAt, nameAt}
 
 -- an action in six words: which, the target or value, the seconds, the shape and its exponent, the space
-abbrev pub actionFrom : ℕ → ℕ → ℕ → ℕ → ℕ → ℕ → Action
+abbrev pub actionFrom : ℕ → ℕ → ℕ → ℕ → ℕ → ℕ → EventAction
 actionFrom which x s sh e sp =
     cond (eqb which 1) (action.Value (floatFrom x))
     (cond (eqb which 2) (action.Glide (floatFrom x) (floatFrom s) (shapeFrom sh e) (spaceFrom sp))
     (cond (eqb which 3) (action.Gate (floatFrom x)) action.Free))
 
-abbrev pub actionAt : List ℕ → ℕ → Action
+abbrev pub actionAt : List ℕ → ℕ → EventAction
 actionAt ws k = actionFrom (getD ws k 0) (getD ws (k + 1) 0) (getD ws (k + 2) 0) (getD ws (k + 3) 0) (getD ws (k + 4) 0) (getD ws (k + 5) 0)
 
 -- time, voice, name, action

@@ -3,7 +3,7 @@
 use crate::row::time_at;
 use node::name::name_length;
 use node::name::same_name;
-use node::order::Action;
+use node::order::EventAction;
 use scheduler::event::Event;
 use scheduler::event::gate_name;
 use scheduler::event::param_order;
@@ -38,35 +38,35 @@ pub(crate) struct Key {
     gate: bool,
 }
 
-fn is_value(a: Action) -> bool
+fn is_value(a: EventAction) -> bool
     ensures { λ r. ⌜ r ≡ isValue a ⌝ }
 {
     match a {
-        Action::Value(_) => true,
-        Action::Glide {
+        EventAction::Value(_) => true,
+        EventAction::Glide {
             target: _,
             seconds: _,
             shape: _,
             space: _,
         } => false,
-        Action::Gate(_) => true,
-        Action::Free => false,
+        EventAction::Gate(_) => true,
+        EventAction::Free => false,
     }
 }
 
-fn is_glide(a: Action) -> bool
+fn is_glide(a: EventAction) -> bool
     ensures { λ r. ⌜ r ≡ isGlide a ⌝ }
 {
     match a {
-        Action::Value(_) => false,
-        Action::Glide {
+        EventAction::Value(_) => false,
+        EventAction::Glide {
             target: _,
             seconds: _,
             shape: _,
             space: _,
         } => true,
-        Action::Gate(_) => false,
-        Action::Free => false,
+        EventAction::Gate(_) => false,
+        EventAction::Free => false,
     }
 }
 

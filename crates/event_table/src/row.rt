@@ -1,5 +1,5 @@
 // An event in 15 words: time 2, voice 2, name 5, action 6.
-use node::order::Action;
+use node::order::EventAction;
 use node::record::VoiceId;
 use scheduler::event::Event;
 use words::fields::float_from;
@@ -31,13 +31,13 @@ pub const EVENT_WORDS: usize = 3840;
 pub type EventTable = [u32; EVENT_WORDS];
 
 // An action in six words: which, the target or value, the seconds, the shape and its exponent, the space.
-fn action_words(a: Action) -> [u32; 6]
+fn action_words(a: EventAction) -> [u32; 6]
     ensures { λ r. ⌜ actionFrom (getD r 0 0) (getD r 1 0) (getD r 2 0) (getD r 3 0) (getD r 4 0) (getD r 5 0) ≡ a ⌝ }
 {
     match a {
-        Action::Free => [0, 0, 0, 0, 0, 0],
-        Action::Value(x) => [1, float_word(x), 0, 0, 0, 0],
-        Action::Glide {
+        EventAction::Free => [0, 0, 0, 0, 0, 0],
+        EventAction::Value(x) => [1, float_word(x), 0, 0, 0, 0],
+        EventAction::Glide {
             target,
             seconds,
             shape,
@@ -53,18 +53,18 @@ fn action_words(a: Action) -> [u32; 6]
                 space_word(space),
             ]
         }
-        Action::Gate(x) => [3, float_word(x), 0, 0, 0, 0],
+        EventAction::Gate(x) => [3, float_word(x), 0, 0, 0, 0],
     }
 }
 
-fn action_from(which: u32, x: u32, seconds: u32, shape: u32, e: u32, space: u32) -> Action
+fn action_from(which: u32, x: u32, seconds: u32, shape: u32, e: u32, space: u32) -> EventAction
     ensures { λ r. ⌜ r ≡ actionFrom which x seconds shape e space ⌝ }
 {
     if which == 1 {
-        return Action::Value(float_from(x));
+        return EventAction::Value(float_from(x));
     }
     if which == 2 {
-        return Action::Glide {
+        return EventAction::Glide {
             target: float_from(x),
             seconds: float_from(seconds),
             shape: shape_from(shape, e),
@@ -72,9 +72,9 @@ fn action_from(which: u32, x: u32, seconds: u32, shape: u32, e: u32, space: u32)
         };
     }
     if which == 3 {
-        return Action::Gate(float_from(x));
+        return EventAction::Gate(float_from(x));
     }
-    Action::Free
+    EventAction::Free
 }
 
 // The words of an event.
@@ -105,7 +105,7 @@ fn event_words(e: Event) -> [u32; 15]
 }
 
 // The action of the event in row `i`.
-fn action_at(t: &[u32], i: usize) -> Action
+fn action_at(t: &[u32], i: usize) -> EventAction
     ensures { λ r. ⌜ r ≡ actionAt (rowAt 15 i (now (t .entry))) 9 ⌝ }
 {
     let which = word_at(t, 15, i, 9);

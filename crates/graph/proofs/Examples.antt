@@ -12,10 +12,10 @@ use Rattle.node.specs.declared.record.Edge.{Edge}
 use Rattle.node.specs.declared.refusal.Refusal.{Refusal}
 use Rattle.edges.specs.Ports.{freePort, portFrom, sourceAt}
 use Rattle.rank.specs.Order.{among, fed, released, walk, order, whole, count-up}
-use Rattle.order.specs.Live.{risingFrom, liveNodes, liveIds, processingOrder}
-use Rattle.order.specs.Required.{any, lacks, lacking}
-use Rattle.order.specs.Prepare.{Outcome, refused, prepare}
-use Rattle.order.specs.declared.Readiness.the-variants.{Ready}
+use Rattle.prepare.specs.Live.{risingFrom, liveNodes, liveIds, processingOrder}
+use Rattle.prepare.specs.Required.{any, lacks, lacking}
+use Rattle.prepare.specs.Prepare.{Outcome, refused, prepare}
+use Rattle.prepare.specs.declared.Readiness.the-variants.{Ready}
 use Rattle.node.specs.declared.refusal.Refusal.the-variants.{Cycle}
 use Rattle.node.specs.Node.{withOwner}
 use Rattle.graph.specs.View.{GraphView, newGraph}

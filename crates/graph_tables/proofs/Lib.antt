@@ -1,3 +1,4 @@
+pub mod Backwards
 pub mod Brief
 pub mod Edges
 pub mod Fed

@@ -16,25 +16,25 @@ use Rattle.synthdef.specs.declared.def.SynthDef.{SynthDef}
 use Rattle.model.specs.Refuse.{rankLimit}
 use Rattle.isolation.specs.Story.{Entry, opened, closed, plugged, unplugged, lost, managed, freed, reported, cleared, rendered, Phase, held, fading}
 use Rattle.isolation.specs.Story as story
-use Rattle.isolation.proofs.Bus.{Own, Room, Bus, levelNow, isNumber, portFree, portHeld, nextOut, withoutVoice, steal, tries, admissionOn, follow}
+use Rattle.isolation.proofs.Bus.{Own, BusPorts, Bus, levelNow, isNumber, portFree, portHeld, nextOut, withoutVoice, steal, tries, admissionOn, follow}
 
 pub data Act : Type 0 where
   wrote : ℕ → StealRecord → Act
   cut : ℕ → Act
 
-pub record Kept : Type 0 where
+pub record HeldRecord : Type 0 where
   pub voice : ℕ
   pub what : StealRecord
 
-abbrev pub cutIf : ℕ → Kept → Kept
+abbrev pub cutIf : ℕ → HeldRecord → HeldRecord
 cutIf s k = record { voice = k .voice; what = cond (eqb (k .voice) s) (cutOf (k .what)) (k .what) }
 
-abbrev pub apply : List Act → List Kept → List Kept
+abbrev pub apply : List Act → List HeldRecord → List HeldRecord
 apply [] ks = ks
 apply (wrote s r ∷ ts) ks = apply ts (ks ++ (record { voice = s; what = r } ∷ []))
 apply (cut s ∷ ts) ks = apply ts (map (cutIf s) ks)
 
-pub apply-append : (ts bs : List Act) (ks : List Kept) → apply (ts ++ bs) ks ≡ apply bs (apply ts ks)
+pub apply-append : (ts bs : List Act) (ks : List HeldRecord) → apply (ts ++ bs) ks ≡ apply bs (apply ts ks)
 apply-append [] bs ks = refl
 apply-append (wrote s r ∷ ts) bs ks = apply-append ts bs (ks ++ (record { voice = s; what = r } ∷ []))
 apply-append (cut s ∷ ts) bs ks = apply-append ts bs (map (cutIf s) ks)
@@ -77,7 +77,7 @@ abbrev pub logPorts : ℕ → List Act → List Act
 logPorts zero ts = []
 logPorts (suc n) ts = ts
 
-abbrev pub logBus : Option Room → List Act → List Act
+abbrev pub logBus : Option BusPorts → List Act → List Act
 logBus none ts = []
 logBus (some x) ts = logPorts (x .ports) ts
 
@@ -94,6 +94,6 @@ log (reported s i samples flag) m = []
 log cleared m = []
 log (rendered ss b) m = []
 
-abbrev pub recordsOf : List Entry → Bus → List Kept → List Kept
+abbrev pub recordsOf : List Entry → Bus → List HeldRecord → List HeldRecord
 recordsOf [] m ks = ks
 recordsOf (e ∷ es) m ks = recordsOf es (follow e m .bus) (apply (log e m) ks)

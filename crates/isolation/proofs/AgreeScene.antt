@@ -13,9 +13,9 @@ use Rattle.node.specs.Silence.{silencePassThrough, rules}
 use Rattle.node.specs.declared.record.NodeId.{NodeId}
 use Rattle.node.specs.declared.record.VoiceId.{VoiceId}
 use Rattle.rank.specs.Order.{among, fed, released, walk, order, whole, count-up}
-use Rattle.order.specs.Live.{risingFrom, liveNodes, liveIds, processingOrder}
-use Rattle.order.specs.Required.{any, lacks, lacking}
-use Rattle.order.specs.Prepare.{prepare}
+use Rattle.prepare.specs.Live.{risingFrom, liveNodes, liveIds, processingOrder}
+use Rattle.prepare.specs.Required.{any, lacks, lacking}
+use Rattle.prepare.specs.Prepare.{prepare}
 use Rattle.voice.specs.declared.policy.Budget.the-variants.{AtMost}
 use Rattle.voice.specs.declared.policy.BudgetScope.the-variants as BudgetScope
 use Rattle.voice.specs.declared.policy.StealPolicy.the-variants.{Oldest}
@@ -31,13 +31,13 @@ use Rattle.ledger.specs.Render as ledger
 use Rattle.ledger.specs.Call.{run}
 use Rattle.isolation.specs.Agree.{Pair, Matching, OneToOne, SameNode, Agree, ends, first, second, both, added, managed, rendered, Arrive, letIn, EachVoice, freedByEvents, Agreement}
 
-abbrev made : Config
+abbrev pub made : Config
 made = config (AtMost 2) Oldest BudgetScope.PerGroup
 
 abbrev node : ℕ → ℕ → Pair NodeId
 node a b = record { one = id a; two = id b }
 
-abbrev ids : Matching
+abbrev pub ids : Matching
 ids = record { nodes = node 1 0 ∷ node 3 1 ∷ []; voices = record { one = voice 2; two = voice 1 } ∷ [] }
 
 abbrev played : List Call
@@ -47,10 +47,10 @@ abbrev alone : List Call
 alone = host 2 ∷ timedFree 5 1 ∷ spawn 0 ∷ render ∷ []
 
 -- the one node of the voice
-one-node : (i : ℕ) → i < 1 → SameNode ids (id (3 + i)) (id (1 + i))
+pub one-node : (i : ℕ) → i < 1 → SameNode ids (id (3 + i)) (id (1 + i))
 one-node i h = let z : i ≡ 0 = omega arith in subst (λ j. SameNode ids (id (3 + j)) (id (1 + j))) (sym z) (inr (inl refl))
 
-abbrev spawnOn : ℕ → Spawn
+abbrev pub spawnOn : ℕ → Spawn
 spawnOn b = spawnOf toneDef (id b) (float 0) 0
 
 -- before the spawn on the bus, and before the render

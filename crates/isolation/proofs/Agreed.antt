@@ -57,7 +57,7 @@ use Rattle.isolation.specs.Story as story
 use Rattle.isolation.specs.Isolated.{Covered, fullIn, AgreedStories}
 use Rattle.isolation.specs.Agree.{Pair, Matching, SameNode, SameVoice, OneToOne, accepted, onIt, feeds, isCallOf, freedByEvents, EachVoice, letIn, Arrive, SameSpawn, Equal, Agree, Agreement}
 use Rattle.isolation.specs.Agree as agree
-use Rattle.isolation.proofs.Bus.{Own, Seat, empty, mine, Room, Bus, portCount, follow}
+use Rattle.isolation.proofs.Bus.{Own, Seat, empty, mine, BusPorts, Bus, portCount, follow}
 use Rattle.isolation.proofs.Bus as bus
 use Rattle.isolation.proofs.Part.{seatFor, seatOf, hostPorts, ownOf, portsNow, busOf, Tidy, ports-at}
 use Rattle.isolation.proofs.Logged.{noise-of}
@@ -271,6 +271,18 @@ within l t b k channels n h =
             let c : x .id .0 < g .first .0 + g .count = ltb-true _ _ (and-right (leb (g .first .0) (x .id .0)) _ inside) in
             record { node = x; at = e; who = g; owner = f; on = i; low = omega arith; high = omega arith }
 
+-- ---- ids under a matching
+abbrev pair : {A : Type 0} → A → A → Pair A
+pair a c = record { one = a; two = c }
+
+-- whether two nodes are one
+pub matched-by : (m : Matching) → OneToOne (m .nodes) → (a c x y : NodeId) → SameNode m a c → SameNode m x y → eqb (x .0) (a .0) ≡ eqb (y .0) (c .0)
+matched-by m nodes a c x y e f = go (eqb (x .0) (a .0)) refl
+  where
+    go : (d : Bool) → eqb (x .0) (a .0) ≡ d → d ≡ eqb (y .0) (c .0)
+    go true h = sym (eq-eqb _ _ (ap (λ (q : NodeId). q .0) (nodes .forth (pair x y) (pair a c) f e (ap (λ n. record { 0 = n }) (eqb-true _ _ h)))))
+    go false h = sym (ne-eqb _ _ (λ z. eqb-false _ _ h (ap (λ (q : NodeId). q .0) (nodes .back (pair x y) (pair a c) f e (ap (λ n. record { 0 = n }) z)))))
+
 -- ---- twins
 module _ (m : Matching) (nodes : OneToOne (m .nodes)) (voices : OneToOne (m .voices)) (b₁ b₂ : NodeId) (buses : SameNode m b₁ b₂) where
   abbrev Paired : Voice → Voice → Type 0
@@ -287,9 +299,6 @@ module _ (m : Matching) (nodes : OneToOne (m .nodes)) (voices : OneToOne (m .voi
 
   is-voice : (w : VoiceId) (l : Ledger) (v : Voice) → voiceOf w l ≡ some v → v .id ≡ w
   is-voice w l v e = same-id (v .id) w (eqb-true _ _ (find-in (isVoice w) (l .voices) v e .1))
-
-  abbrev pair : {A : Type 0} → A → A → Pair A
-  pair a c = record { one = a; two = c }
 
   module _ (k l : Ledger) (t : Twins k l) where
     -- each voice of the bus has a twin
@@ -368,13 +377,6 @@ module _ (m : Matching) (nodes : OneToOne (m .nodes)) (voices : OneToOne (m .voi
             ∙ ap (λ c. if? c (story.reported (v .sequence) (k .0 - v .first .0) samples flag)) on
 
     -- ---- its sources
-    matched-by : (a c x y : NodeId) → SameNode m a c → SameNode m x y → eqb (x .0) (a .0) ≡ eqb (y .0) (c .0)
-    matched-by a c x y e f = go (eqb (x .0) (a .0)) refl
-      where
-        go : (d : Bool) → eqb (x .0) (a .0) ≡ d → d ≡ eqb (y .0) (c .0)
-        go true h = sym (eq-eqb _ _ (ap (λ (q : NodeId). q .0) (nodes .forth (pair x y) (pair a c) f e (ap (λ n. record { 0 = n }) (eqb-true _ _ h)))))
-        go false h = sym (ne-eqb _ _ (λ z. eqb-false _ _ h (ap (λ (q : NodeId). q .0) (nodes .back (pair x y) (pair a c) f e (ap (λ n. record { 0 = n }) z)))))
-
     same-seat : (p : ℕ) → p < portCount (portsNow b₁ (k .shared .graph .nodes)) → seatOf (k .voices) (k .holders (b₁ .0) p) ≡ seatOf (l .voices) (l .holders (b₂ .0) p)
     same-seat p h =
         let q : p < portCount (portsNow b₂ (l .shared .graph .nodes)) = subst (λ (z : Bus). p < portCount (z .ports)) (t .same) h in
@@ -392,7 +394,7 @@ module _ (m : Matching) (nodes : OneToOne (m .nodes)) (voices : OneToOne (m .voi
         go nobody f (holder.host j) g s = let z : _≡_ {A = ℕ} 0 1 = cc in absurd (omega arith)
         go nobody f (voice w) g s = refl
         go (holder.host i) f nobody g s = let z : _≡_ {A = ℕ} 0 1 = cc in absurd (omega arith)
-        go (holder.host i) f (holder.host j) g s = matched-by a c i j e (t .hosts p i j f g)
+        go (holder.host i) f (holder.host j) g s = matched-by m nodes a c i j e (t .hosts p i j f g)
         go (holder.host i) f (voice w) g s = absurd (host-mine (s ∙ voice-seat l (t .tidy₂) (b₂ .0) p w g .1))
           where
             host-mine : {s : ℕ} → bus.host ≡ mine s → ⊥
@@ -417,7 +419,7 @@ module _ (m : Matching) (nodes : OneToOne (m .nodes)) (voices : OneToOne (m .voi
         let one = done-some b₁ k (hostRefusal (k .shared .graph) a) (cond (isBus b₁ a) (some story.closed) (lostIf (heldBy b₁ a k))) (isBus b₁ a || feeds b₁ a k) h in
         let two = done-some b₂ l (hostRefusal (l .shared .graph) c) (cond (isBus b₂ c) (some story.closed) (lostIf (heldBy b₂ c l))) (isBus b₂ c || feeds b₂ c l) g in
         let same : cond (isBus b₂ c) (some story.closed) (lostIf (heldBy b₂ c l)) ≡ cond (isBus b₁ a) (some story.closed) (lostIf (heldBy b₁ a k)) =
-        ap₂ (λ d ps. cond d (some story.closed) (lostIf ps)) (sym (matched-by b₁ b₂ a c buses e)) (sym (same-held a c e)) in
+        ap₂ (λ d ps. cond d (some story.closed) (lostIf ps)) (sym (matched-by m nodes b₁ b₂ a c buses e)) (sym (same-held a c e)) in
         let r = told (isBus b₁ a) (and-right (accepted (hostRefusal (k .shared .graph) a)) _ h) in
         (r .0, one ∙ r .1, two ∙ same ∙ r .1)
       where
@@ -578,7 +580,7 @@ module _ (m : Matching) (nodes : OneToOne (m .nodes)) (voices : OneToOne (m .voi
     arrived-is r u v i e = ap (λ a. agree.arrived a (r .ledger)) e ∙ once (u .own .0) (v .id) v i (eq-eqb (v .id .0) (v .id .0) refl)
 
     -- an old voice's number is below that of a new one
-    below-new : (l : Ledger) → Tidy l → (b : NodeId) (u : Voice) → In u (l .voices) → isOn b u ≡ true → (r : Room) → portsNow b (l .shared .graph .nodes) ≡ some r → u .sequence ≡ r .noise → ⊥
+    below-new : (l : Ledger) → Tidy l → (b : NodeId) (u : Voice) → In u (l .voices) → isOn b u ≡ true → (r : BusPorts) → portsNow b (l .shared .graph .nodes) ≡ some r → u .sequence ≡ r .noise → ⊥
     below-new l d b u i on r e f =
         let n = is-node (nodeAt (l .shared .graph .nodes) b) r e in
         let is : u .bus ≡ b = ap (λ n. record { 0 = n }) (eqb-true _ _ on) in

@@ -30,17 +30,17 @@ use Rattle.ledger.proofs.Ids.{unique}
 use Rattle.ledger.specs.Claim.{Newest, heldRecord, cutFound}
 use Rattle.ledger.proofs.StealLog.{held-pushed, held-new, held-marked, held-unmarked, count-pushed}
 use Rattle.ledger.proofs.Records.{RecordedOf, steal-small, begun, fade-inj, not-fading}
-use Rattle.isolation.proofs.Bus.{Room}
+use Rattle.isolation.proofs.Bus.{BusPorts}
 use Rattle.isolation.proofs.Part.{portsNow, Tidy}
 use Rattle.isolation.proofs.Fade.{map-comp}
-use Rattle.isolation.proofs.Acts.{Kept, cutIf}
+use Rattle.isolation.proofs.Acts.{HeldRecord, cutIf}
 
 pub record Item : Type 0 where
   pub at : ℕ
   pub voice : ℕ
   pub what : StealRecord
 
-abbrev pub strip : Item → Kept
+abbrev pub strip : Item → HeldRecord
 strip x = record { voice = x .voice; what = x .what }
 
 abbrev pub cutItem : ℕ → Item → Item
@@ -59,7 +59,7 @@ pub record Books (b : NodeId) (ts : List Item) (book : StealLog) (U : ℕ → Ty
   pub numbered : (x : Item) → In x ts → U (x .voice)
 
 -- the bus was added, and its noise sequence is above the number, while it lives
-abbrev pub UnderR : Option Room → ℕ → Type 0
+abbrev pub UnderR : Option BusPorts → ℕ → Type 0
 UnderR none s = Unit {0}
 UnderR (some r) s = s < r .noise
 

@@ -57,7 +57,7 @@ pub data Seat : Type 0 where
   mine : ℕ → Seat
 
 -- its ports and its noise sequence
-pub record Room : Type 0 where
+pub record BusPorts : Type 0 where
   pub ports : ℕ
   pub noise : ℕ
 
@@ -65,7 +65,7 @@ pub record Bus : Type 0 where
   pub config : Config
   pub clock : ℕ
   -- while it is a node of the host
-  pub ports : Option Room
+  pub ports : Option BusPorts
   pub seats : ℕ → Seat
   pub voices : List Own
 
@@ -115,15 +115,15 @@ byNumber s empty = false
 byNumber s host = false
 byNumber s (mine t) = eqb t s
 
-abbrev pub portCount : Option Room → ℕ
+abbrev pub portCount : Option BusPorts → ℕ
 portCount none = 0
 portCount (some r) = r .ports
 
-abbrev pub noiseIn : Option Room → ℕ
+abbrev pub noiseIn : Option BusPorts → ℕ
 noiseIn none = 0
 noiseIn (some r) = r .noise
 
-abbrev pub counted : Room → Room
+abbrev pub counted : BusPorts → BusPorts
 counted r = record { ports = r .ports; noise = (r .noise + 1) % 4294967296 }
 
 abbrev pub portFree : Bus → Option ℕ
@@ -249,7 +249,7 @@ abbrev pub noPorts : ℕ → Bus → SpawnResult → SpawnResult
 noPorts zero m r = turned BusWithoutPorts m
 noPorts (suc n) m r = r
 
-abbrev pub noBus : Option Room → Bus → SpawnResult → SpawnResult
+abbrev pub noBus : Option BusPorts → Bus → SpawnResult → SpawnResult
 noBus none m r = turned UnknownNode m
 noBus (some x) m r = noPorts (x .ports) m r
 
@@ -305,7 +305,7 @@ report i samples flag v =
       flags = λ j. cond (eqb j i) flag (v .flags j);
     }
 
-abbrev pub atPorts : Option Room → (ℕ → Seat) → Bus → Bus
+abbrev pub atPorts : Option BusPorts → (ℕ → Seat) → Bus → Bus
 atPorts o h m = record { config = m .config; clock = m .clock; ports = o; seats = h; voices = m .voices }
 
 abbrev pub quiet : Bus → SpawnResult

@@ -35,8 +35,8 @@ use Rattle.model.specs.Voice.{isVoice, isOn}
 use Rattle.model.specs.Refuse.{reportRefusal, reports, ofDefinition}
 use Rattle.model.specs.Spawn.{pans, Spawn}
 use Rattle.model.specs.Order.{reportNode, freeOutcome}
-use Rattle.order.specs.declared.Readiness.{Readiness}
-use Rattle.order.specs.declared.Readiness.the-variants as Readiness
+use Rattle.prepare.specs.declared.Readiness.{Readiness}
+use Rattle.prepare.specs.declared.Readiness.the-variants as Readiness
 use Rattle.model.specs.Render.{prepareOutcome, prepareShared, answerAfter, heard, anyFree, isSounding, due, renderRefusal}
 use Rattle.model.proofs.Refused.{refusalIn, notRendered}
 use Rattle.model.specs.Call.{Call, Answer, event, scheduleRefusal}

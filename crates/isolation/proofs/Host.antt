@@ -40,7 +40,7 @@ use Rattle.ledger.proofs.Nodes.{Mine}
 use Rattle.ledger.proofs.Nodes.{own-steady}
 use Rattle.ledger.proofs.Upto.{up-in, in-up}
 use Rattle.isolation.specs.Story.{heldBy, portsAt}
-use Rattle.isolation.proofs.Bus.{Own, Seat, empty, mine, Room, Bus, portCount, seat, atPorts}
+use Rattle.isolation.proofs.Bus.{Own, Seat, empty, mine, BusPorts, Bus, portCount, seat, atPorts}
 use Rattle.isolation.proofs.Bus as bus
 use Rattle.isolation.proofs.Part.{seatOf, hostPorts, ownOf, portsNow, seatsFor, ownVoices, bus-of, busOf, Seated, Tidy, Same, own-same, ports-at}
 use Rattle.isolation.proofs.Grown.{old-node, new-node, once-one, same-nodes}

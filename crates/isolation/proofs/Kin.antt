@@ -56,7 +56,7 @@ use Rattle.ledger.proofs.Victim.{nextOut-in}
 use Rattle.ledger.specs.Claim.{mayGo}
 use Rattle.isolation.specs.Story.{isBus}
 use Rattle.isolation.specs.Agree.{accepted}
-use Rattle.isolation.proofs.Bus.{Room}
+use Rattle.isolation.proofs.Bus.{BusPorts}
 use Rattle.isolation.proofs.Part.{portsNow, Tidy}
 use Rattle.isolation.proofs.Others.{Meets, meets, Away, away-cut, away-steal}
 use Rattle.isolation.proofs.Logged.{noise-of}
@@ -151,7 +151,7 @@ less-free w l = less-freed (find (isVoice w) (l .voices)) l
 pub record New (l₀ : Ledger) (spawn : Spawn) (r : SpawnResult) (v : Voice) : Type 0 where
   pub named : r .answer ≡ Spawned.Voice (v .id)
   pub bus : v .bus ≡ spawn .bus
-  pub room : Room
+  pub room : BusPorts
   pub ports : portsNow (spawn .bus) (l₀ .shared .graph .nodes) ≡ some room
   pub number : v .sequence ≡ room .noise
 
@@ -162,7 +162,7 @@ pub record Landed (l₀ : Ledger) (spawn : Spawn) (r : SpawnResult) : Type 0 whe
 nobody-new : (l₀ : Ledger) (spawn : Spawn) (r : SpawnResult) → Less (l₀ .voices) (l₀ .holders) (r .ledger) → Landed l₀ spawn r
 nobody-new l₀ spawn r k = record { kin = λ v i. inl (k .kin v i); hosts = k .hosts }
 
-module _ (spawn : Spawn) (l₀ : Ledger) (ok : allowed (spawn .def) ≡ true) (m : Room) (here : portsNow (spawn .bus) (l₀ .shared .graph .nodes) ≡ some m) where
+module _ (spawn : Spawn) (l₀ : Ledger) (ok : allowed (spawn .def) ≡ true) (m : BusPorts) (here : portsNow (spawn .bus) (l₀ .shared .graph .nodes) ≡ some m) where
   abbrev Going : Ledger → Type 0
   Going l = Away spawn l₀ ok m l × Less (l₀ .voices) (l₀ .holders) l
 

@@ -48,7 +48,7 @@ use Rattle.ledger.proofs.Raised.{raise-same, look-raised, in-raised}
 use Rattle.ledger.proofs.Nodes.{OwnNodes}
 use Rattle.ledger.proofs.Nodes.{mine-land, grown-next, in-grown, wires-same}
 use Rattle.isolation.specs.Story.{phaseOf}
-use Rattle.isolation.proofs.Bus.{Own, Seat, empty, mine, Room, Bus, portCount, seat}
+use Rattle.isolation.proofs.Bus.{Own, Seat, empty, mine, BusPorts, Bus, portCount, seat}
 use Rattle.isolation.proofs.Bus as bus
 use Rattle.isolation.proofs.Part.{seatFor, seatOf, roomOf, hostPorts, ownOf, flagAt, portsNow, seatsFor, ownVoices, bus-of, busOf, Seated, Tidy, own-same}
 use Rattle.isolation.proofs.Grown.{old-nodes, ports-all, once-all, new-nodes, same-nodes}
@@ -157,7 +157,7 @@ module _ (l : Ledger) (t : Tidy l) (spawn : Spawn) (ok : allowed (spawn .def) �
           at true = refl
           at false = refl
 
-  count-same : (o : Option Room) → portCount (mapO bus.counted o) ≡ portCount o
+  count-same : (o : Option BusPorts) → portCount (mapO bus.counted o) ≡ portCount o
   count-same none = refl
   count-same (some r) = refl
 

@@ -56,7 +56,7 @@ use Rattle.ledger.proofs.Records.{RecordedOf, recorded-cut, recorded-steal, tra
 use Rattle.isolation.specs.Story.{phaseOf}
 use Rattle.isolation.specs.Story as story
 use Rattle.isolation.specs.Isolated.{fullIn}
-use Rattle.isolation.proofs.Bus.{Own, Room, Bus, isNumber}
+use Rattle.isolation.proofs.Bus.{Own, BusPorts, Bus, isNumber}
 use Rattle.isolation.proofs.Bus as bus
 use Rattle.isolation.proofs.Part.{hostPorts, ownOf, portsNow, ownVoices, busOf, Tidy}
 use Rattle.lists.proofs.Member.{none-some, some-inj}
@@ -109,12 +109,12 @@ log-enough r (suc n) (suc j) m h g = go (bus.portFree m) (bus.nextOut r m) refl 
         ap (λ z. goes (v .phase) (m .clock) v ++ z) (ih (bus.withoutVoice (v .number) m) (omega arith) (omega arith))
 
 -- ---- the noise sequence through a landing
-pub noise-of : (o : Option Node) (m : Room) → hostPorts o ≡ some m → noiseOf o ≡ m .noise
+pub noise-of : (o : Option Node) (m : BusPorts) → hostPorts o ≡ some m → noiseOf o ≡ m .noise
 noise-of none m h = absurd (none-some h)
 noise-of (some x) m h = at (eqb (x .owner .0) 0) h
   where
     at : (c : Bool) → cond c (some (roomOf x)) none ≡ some m → x .noise ≡ m .noise
-    at true e = ap (λ (r : Room). r .noise) (some-inj e)
+    at true e = ap (λ (r : BusPorts). r .noise) (some-inj e)
     at false e = absurd (none-some e)
 
 module _ (l : Ledger) (t : Tidy l) (spawn : Spawn) (ok : allowed (spawn .def) ≡ true) (s : VoiceState) (p : ℕ) where
@@ -139,7 +139,7 @@ module _ (l : Ledger) (t : Tidy l) (spawn : Spawn) (ok : allowed (spawn .def) �
           at false h = tt
 
 -- ---- on its own bus
-module _ (spawn : Spawn) (ok : allowed (spawn .def) ≡ true) (m : Room) where
+module _ (spawn : Spawn) (ok : allowed (spawn .def) ≡ true) (m : BusPorts) where
   land-logs : (l : Ledger) → Tidy l → l .shared .graph .next + 2 ≤ 4294967296 → portsNow (spawn .bus) (l .shared .graph .nodes) ≡ some m → (ts : List Item) → BooksOf (spawn .bus) ts l → (s : VoiceState) → ((f : Fade) → s ≡ Fading f → ⊥) → (p : ℕ)
       → Logs (spawn .bus) l ts (instantiate spawn s p l .ledger) []
   land-logs l t room ports ts z s calm p =
@@ -243,7 +243,7 @@ module _ (l : Ledger) (t : Tidy l) (r : RecordedOf l) (per : l .shared .config .
 
 -- ---- on another bus
 module _ (b : NodeId) (spawn : Spawn) (off : eqb (spawn .bus .0) (b .0) ≡ false) (ts : List Item) where
-  module _ (l₀ : Ledger) (ok : allowed (spawn .def) ≡ true) (m : Room) where
+  module _ (l₀ : Ledger) (ok : allowed (spawn .def) ≡ true) (m : BusPorts) where
     abbrev Stands : Ledger → Type 0
     Stands l = Away spawn l₀ ok m l × RecordedOf l × BooksOf b ts l
 

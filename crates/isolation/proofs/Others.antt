@@ -38,7 +38,7 @@ use Rattle.ledger.proofs.Victim.{nextOut-in}
 use Rattle.ledger.specs.Claim.{mayGo}
 use Rattle.ledger.proofs.Preserved.{place-kept, landed-kept}
 use Rattle.ledger.proofs.Managed.{managed-kept}
-use Rattle.isolation.proofs.Bus.{portCount, Room, Bus}
+use Rattle.isolation.proofs.Bus.{portCount, BusPorts, Bus}
 use Rattle.isolation.proofs.Part.{roomOf, hostPorts, portsNow, busOf, Tidy}
 use Rattle.isolation.proofs.Gone.{gone-off, gone-on, ports-stay, tidy-gone}
 use Rattle.isolation.proofs.Fade.{fade-off, tidy-fade}
@@ -63,7 +63,7 @@ module _ (l : Ledger) (t : Tidy l) (g : Voice) (i : In g (l .voices)) (s : Voice
   cut-off b off = gone-off marked (tidy-steals l (reclaimLog g s (l .shared)) t) g i b off
 
 -- ---- a bus is a node of the host
-pub is-host : (o : Option Node) (m : Room) → hostPorts o ≡ some m → (n : Node) → o ≡ some n → n .owner .0 ≡ 0
+pub is-host : (o : Option Node) (m : BusPorts) → hostPorts o ≡ some m → (n : Node) → o ≡ some n → n .owner .0 ≡ 0
 is-host none m h n e = absurd (none-some h)
 is-host (some x) m h n e = ap (λ (z : Node). z .owner .0) (sym (some-inj e)) ∙ go (eqb (x .owner .0) 0) refl h
   where
@@ -71,11 +71,11 @@ is-host (some x) m h n e = ap (λ (z : Node). z .owner .0) (sym (some-inj e)) �
     go true f q = eqb-true _ _ f
     go false f q = absurd (none-some q)
 
-pub is-node : (o : Option Node) (m : Room) → hostPorts o ≡ some m → (n : Node) × (o ≡ some n)
+pub is-node : (o : Option Node) (m : BusPorts) → hostPorts o ≡ some m → (n : Node) × (o ≡ some n)
 is-node none m h = absurd (none-some h)
 is-node (some x) m h = (x, refl)
 
-pub is-below : (l : Ledger) → Tidy l → (k : NodeId) (m : Room) → portsNow k (l .shared .graph .nodes) ≡ some m → k .0 < l .shared .graph .next
+pub is-below : (l : Ledger) → Tidy l → (k : NodeId) (m : BusPorts) → portsNow k (l .shared .graph .nodes) ≡ some m → k .0 < l .shared .graph .next
 is-below l t k m h = go (nodeAt (l .shared .graph .nodes) k) refl h
   where
     go : (o : Option Node) → nodeAt (l .shared .graph .nodes) k ≡ o → hostPorts o ≡ some m → k .0 < l .shared .graph .next
@@ -85,7 +85,7 @@ is-below l t k m h = go (nodeAt (l .shared .graph .nodes) k) refl h
 -- ---- what the table leaves: an allowed definition, a bus of the host, and ids
 pub record Meets (d : SharedState) (spawn : Spawn) : Type 0 where
   pub ok : allowed (spawn .def) ≡ true
-  pub ports : Room
+  pub ports : BusPorts
   pub bus : portsNow (spawn .bus) (d .graph .nodes) ≡ some ports
   pub room : d .graph .next + 3 ≤ 4294967296
 
@@ -113,7 +113,7 @@ meets d vs spawn h =
     }
 
 -- ---- a spawn on the bus k, from the ledger l₀
-module _ (spawn : Spawn) (l₀ : Ledger) (ok : allowed (spawn .def) ≡ true) (m : Room) where
+module _ (spawn : Spawn) (l₀ : Ledger) (ok : allowed (spawn .def) ≡ true) (m : BusPorts) where
   pub record Away (l : Ledger) : Type 0 where
     pub tidy : Tidy l
     pub room : l .shared .graph .next + 2 ≤ 4294967296

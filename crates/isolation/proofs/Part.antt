@@ -34,7 +34,7 @@ use Rattle.ledger.specs.Ledger as ledger
 use Rattle.ledger.proofs.Ids.{unique, once, above, same-id}
 use Rattle.ledger.proofs.Nodes.{OwnNodes, node-stays}
 use Rattle.isolation.specs.Story.{phaseOf, portsIf}
-use Rattle.isolation.proofs.Bus.{Own, Seat, empty, mine, Room, Bus, byNumber, isNumber, portCount, leave}
+use Rattle.isolation.proofs.Bus.{Own, Seat, empty, mine, BusPorts, Bus, byNumber, isNumber, portCount, leave}
 use Rattle.isolation.proofs.Bus as bus
 
 -- ---- the part
@@ -47,10 +47,10 @@ seatOf vs nobody = empty
 seatOf vs (holder.host k) = bus.host
 seatOf vs (voice w) = seatFor (find (isVoice w) vs)
 
-abbrev pub roomOf : Node → Room
+abbrev pub roomOf : Node → BusPorts
 roomOf n = record { ports = n .ports; noise = n .noise }
 
-abbrev pub hostPorts : Option Node → Option Room
+abbrev pub hostPorts : Option Node → Option BusPorts
 hostPorts none = none
 hostPorts (some n) = cond (eqb (n .owner .0) 0) (some (roomOf n)) none
 
@@ -72,16 +72,16 @@ ownOf ns v =
       flags = flagAt ns v;
     }
 
-abbrev pub portsNow : NodeId → List Node → Option Room
+abbrev pub portsNow : NodeId → List Node → Option BusPorts
 portsNow b ns = hostPorts (nodeAt ns b)
 
-abbrev pub seatsFor : NodeId → Option Room → List Voice → Holders → ℕ → Seat
+abbrev pub seatsFor : NodeId → Option BusPorts → List Voice → Holders → ℕ → Seat
 seatsFor b o vs h p = cond (ltb p (portCount o)) (seatOf vs (h (b .0) p)) empty
 
 abbrev pub ownVoices : NodeId → List Node → List Voice → List Own
 ownVoices b ns vs = map (ownOf ns) (filter (isOn b) vs)
 
-abbrev pub bus-of : Config → ℕ → Option Room → (ℕ → Seat) → List Own → Bus
+abbrev pub bus-of : Config → ℕ → Option BusPorts → (ℕ → Seat) → List Own → Bus
 bus-of c t o h vs = record { config = c; clock = t; ports = o; seats = h; voices = vs }
 
 abbrev pub busOf : NodeId → Ledger → Bus

@@ -17,9 +17,9 @@ use lib.Ieee.{eq}
 use Rattle.synthdef.specs.Plan.{settled}
 use Rattle.node.specs.Silence.{silencePassThrough, rules}
 use Rattle.rank.specs.Order.{among, fed, released, walk, order, whole, count-up}
-use Rattle.order.specs.Live.{risingFrom, liveNodes, liveIds, processingOrder}
-use Rattle.order.specs.Required.{any, lacks, lacking}
-use Rattle.order.specs.Prepare.{prepare}
+use Rattle.prepare.specs.Live.{risingFrom, liveNodes, liveIds, processingOrder}
+use Rattle.prepare.specs.Required.{any, lacks, lacking}
+use Rattle.prepare.specs.Prepare.{prepare}
 use Rattle.voice.specs.declared.policy.Budget.the-variants.{AtMost}
 use Rattle.voice.specs.declared.policy.BudgetScope.{BudgetScope}
 use Rattle.voice.specs.declared.policy.BudgetScope.the-variants as BudgetScope
@@ -84,11 +84,11 @@ unfolding alone eq silencePassThrough rules prepare processingOrder lacking lack
 written-alone = refl
 
 -- neither meets 7 or 8
-every : List Answer → Bool
+unfoldable pub every : List Answer → Bool
 every [] = true
 every (a ∷ l) = not (fullIn (refusalIn a)) && every l
 
-covered : (l : List Answer) → every l ≡ true → (a : Answer) → In a l → fullIn (refusalIn a) ≡ false
+pub covered : (l : List Answer) → every l ≡ true → (a : Answer) → In a l → fullIn (refusalIn a) ≡ false
 unfolding every
 covered [] h a i = absurd i
 covered (x ∷ l) h a (inl p) = ap (λ z. fullIn (refusalIn z)) p ∙ not-true _ (and-left _ _ h)

@@ -44,7 +44,7 @@ use Rattle.ledger.specs.Claim.{mayGo}
 use Rattle.isolation.specs.Story.{Phase, phaseOf, shown}
 use Rattle.isolation.specs.Story as story
 use Rattle.isolation.specs.Isolated.{fullIn}
-use Rattle.isolation.proofs.Bus.{Own, Room, Bus, portCount, isNumber}
+use Rattle.isolation.proofs.Bus.{Own, BusPorts, Bus, portCount, isNumber}
 use Rattle.isolation.proofs.Bus as bus
 use Rattle.isolation.proofs.Part.{hostPorts, ownOf, portsNow, ownVoices, busOf, Tidy}
 use Rattle.isolation.proofs.Gone.{gone-on}
@@ -62,7 +62,7 @@ pub cut-on : (l : Ledger) → Tidy l → (g : Voice) → In g (l .voices) → (s
 cut-on l t g i s k on = gone-on _ (tidy-steals l (reclaimLog g s (l .shared)) t) g i k on
 
 -- ---- the search for a port
-module _ (spawn : Spawn) (ok : allowed (spawn .def) ≡ true) (m : Room) where
+module _ (spawn : Spawn) (ok : allowed (spawn .def) ≡ true) (m : BusPorts) where
   lands : (l : Ledger) → Tidy l → portsNow (spawn .bus) (l .shared .graph .nodes) ≡ some m → (s : VoiceState) (p : ℕ) → portFree (spawn .bus) l ≡ some p → landedOf (spawn .bus) (instantiate spawn s p l) ≡ bus.instantiate (spawn .def) (spawn .rank) (phaseOf s) p (busOf (spawn .bus) l)
   lands l t ports s p e =
       ap (λ b. record { answer = none; bus = b })

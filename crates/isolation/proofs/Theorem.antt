@@ -46,14 +46,14 @@ use Rattle.isolation.proofs.Agreed.{agreed}
 use Rattle.isolation.proofs.Bus.{Bus, follow, newBus}
 use Rattle.isolation.proofs.Bus as bus
 use Rattle.isolation.proofs.Part.{busOf, Tidy}
-use Rattle.isolation.proofs.Acts.{Kept, apply, log, recordsOf}
+use Rattle.isolation.proofs.Acts.{HeldRecord, apply, log, recordsOf}
 use Rattle.isolation.proofs.Books.{Item, strip, Books, BooksOf}
 use Rattle.isolation.proofs.Written.{Logs, to-self}
 use Rattle.isolation.proofs.Logged.{managed-logs, other-logs, other-calls}
 use Rattle.isolation.proofs.Follows.{Follow, Goes, goes, tidy-new, bus-new, tales, ends}
 
 -- ---- one call
-abbrev written? : Option Entry → Bus → List Kept → List Kept
+abbrev written? : Option Entry → Bus → List HeldRecord → List HeldRecord
 written? none m ks = ks
 written? (some e) m ks = apply (log e m) ks
 
@@ -67,7 +67,7 @@ record Stepped (b : NodeId) (x : Call) (l : Ledger) (ts : List Item) : Type 0 wh
   ats : map At items ≡ map At ts ++ cond (isSome (entry b x l)) (from-to (l .shared .steals .count) (step x l .ledger .shared .steals .count)) []
 
 -- calls that are no managed spawn write nothing
-module _ (m : Bus) (ks : List Kept) where
+module _ (m : Bus) (ks : List HeldRecord) where
   if-quiet : (c : Bool) (e : Entry) → log e m ≡ [] → written? (if? c e) m ks ≡ ks
   if-quiet true e h = ap (λ ts. apply ts ks) h
   if-quiet false e h = refl
@@ -226,7 +226,7 @@ isolated c per b₁ b₂ xs₁ xs₂ k₁ k₂ e =
         let d : y .0 .what ≡ s₂ = r₂ .books .same (y .0) (nth-in j (r₂ .items) (y .0) (y .1)) s₂ (ap (heldRecord (run xs₂ (newLedger c) .ledger .shared .steals)) (y .2) ∙ h₂) in
         let both : some (strip (x .0)) ≡ some (strip (y .0)) =
         ap (mapO strip) (sym (x .1)) ∙ sym (nth-map strip j (r₁ .items)) ∙ ap (nth j) same ∙ nth-map strip j (r₂ .items) ∙ ap (mapO strip) (y .1) in
-        sym a ∙ ap (λ (k : Kept). k .what) (some-inj both) ∙ d
+        sym a ∙ ap (λ (k : HeldRecord). k .what) (some-inj both) ∙ d
 
 -- ---- and of what agrees up to a matching of ids
 pub isolated-up-to-ids : IsolatedUpToIds

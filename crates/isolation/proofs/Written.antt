@@ -59,7 +59,7 @@ use Rattle.isolation.proofs.Relabel.{renamedA, admits-rename}
 use Rattle.isolation.proofs.Decide.{free-same, held-same, find-number, numberOr, number, candidates-same, next-same}
 use Rattle.isolation.proofs.Others.{tidy-cut, cut-ports, is-host, Meets, meets, Away, away-cut, away-steal, elsewhere}
 use Rattle.isolation.proofs.Spawned.{cut-on, steal-same, admission-same}
-use Rattle.isolation.proofs.Acts.{Act, wrote, cut, Kept, cutIf, apply, apply-append, goes, writes, logOr, logPlace, logSettle, logStolen, logThen, logAdmitted, logBus, log}
+use Rattle.isolation.proofs.Acts.{Act, wrote, cut, HeldRecord, cutIf, apply, apply-append, goes, writes, logOr, logPlace, logSettle, logStolen, logThen, logAdmitted, logBus, log}
 use Rattle.isolation.proofs.Books.{Item, strip, cutItem, Books, UnderR, UnderOn, BooksOf, Old, was-self, books-next, books-land, books-pushed, same-own, once-own, apart-own, below-own, numbered-own, books-marked, books-cut}
 
 -- ---- the numbers from m to below n

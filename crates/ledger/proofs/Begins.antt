@@ -15,8 +15,8 @@ use Rattle.lists.specs.Count.{more}
 use Rattle.node.specs.declared.refusal.Refusal.{Refusal}
 use Rattle.node.specs.declared.refusal.Refusal.the-variants.{Rejected, NoPort}
 use Rattle.graph.specs.Refuse.{addRefusal, hostRefusal, disconnectRefusal, connectRefusal}
-use Rattle.order.specs.declared.Readiness.{Readiness}
-use Rattle.order.specs.declared.Readiness.the-variants.{Ready, Refused}
+use Rattle.prepare.specs.declared.Readiness.{Readiness}
+use Rattle.prepare.specs.declared.Readiness.the-variants.{Ready, Refused}
 use Rattle.scheduler.specs.Event.{paramOrder}
 use Rattle.scheduler.specs.declared.event.Event.{Event}
 use Rattle.store.specs.declared.answer.Rendered.the-variants as Rendered

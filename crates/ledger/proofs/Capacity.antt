@@ -48,7 +48,7 @@ use Rattle.ledger.specs.Ledger.{Ledger, portFree, portHeld, cutOff, stol
 use Rattle.ledger.specs.Render.{oneMore, countedIf}
 use Rattle.ledger.specs.Call.{step, run}
 use Rattle.ledger.specs.Claim.{ownerAt}
-use Rattle.ledger.proofs.Words.{Room}
+use Rattle.ledger.proofs.Words.{Headroom}
 use Rattle.ledger.proofs.Allowed.{when-none, spawn-allowed}
 use Rattle.ledger.proofs.Preserved.{place-kept, Preserves, step-kept, landed-kept}
 use Rattle.ledger.proofs.Managed.{managed-kept}
@@ -57,7 +57,7 @@ use Rattle.ledger.proofs.Fading.{fed-edge}
 use Rattle.ledger.proofs.Port.{feeds-held}
 use Rattle.ledger.proofs.NewVoice.{nodes-count}
 use Rattle.ledger.proofs.Spawns.{InvariantOf, ids-of}
-use Rattle.ledger.proofs.Simulation.{Kept, kept-step}
+use Rattle.ledger.proofs.Simulation.{RunInvariant, kept-step}
 
 -- ---- lengths
 length-snoc : {A : Type 0} (l : List A) (x : A) → length (l ++ (x ∷ [])) ≡ length l + 1
@@ -136,10 +136,10 @@ length-inserted e (f ∷ q) = go (later e f) (length-inserted e q)
     go true h = omega arith
     go false h = omega arith
 
-room-less : (n e v : ℕ) (l : Ledger) → Room n e v l → Room 0 0 0 l
+room-less : (n e v : ℕ) (l : Ledger) → Headroom n e v l → Headroom 0 0 0 l
 room-less n e v l r = record { nodes = omega (arith, r .nodes); edges = omega (arith, r .edges); voices = omega (arith, r .voices); events = r .events }
 
-room-gone : (n e v : ℕ) (l : Ledger) (w : VoiceId) → Room n e v l → Room n e v (ledger.withoutVoice w l)
+room-gone : (n e v : ℕ) (l : Ledger) (w : VoiceId) → Headroom n e v l → Headroom n e v (ledger.withoutVoice w l)
 room-gone n e v l w r =
     record {
       nodes = omega (arith, r .nodes, length-filter (λ x. not (ownedBy w x)) (l .shared .graph .nodes));
@@ -148,10 +148,10 @@ room-gone n e v l w r =
       events = r .events;
     }
 
-room-cut : (n e k : ℕ) (l : Ledger) (v : Voice) (s : VoiceState) → Room n e k l → Room n e k (cutOff v s l)
+room-cut : (n e k : ℕ) (l : Ledger) (v : Voice) (s : VoiceState) → Headroom n e k l → Headroom n e k (cutOff v s l)
 room-cut n e k l v s r = let g = room-gone n e k l (v .id) r in record { nodes = g .nodes; edges = g .edges; voices = g .voices; events = g .events }
 
-room-land : (spawn : Spawn) (s : VoiceState) (p : ℕ) (l : Ledger) → Room (spawn .def .nodes .count + 2) (spawn .def .edges .count + 3) 1 l → Room 0 0 0 (instantiate spawn s p l .ledger)
+room-land : (spawn : Spawn) (s : VoiceState) (p : ℕ) (l : Ledger) → Headroom (spawn .def .nodes .count + 2) (spawn .def .edges .count + 3) 1 l → Headroom 0 0 0 (instantiate spawn s p l .ledger)
 room-land spawn s p l r =
     record {
       nodes = omega (arith, r .nodes, length-map (l .shared .graph .nodes) (raiseNoise (spawn .bus)), ap length (wired-nodes (g .next) ws g₁), grown-nodes xs g, nodes-few (nextVoice (l .shared)) (spawn .def) (pans (spawn .pan)));
@@ -172,9 +172,9 @@ room-land spawn s p l r =
     g₁ : GraphView
     g₁ = appendAll g xs
 
-room-settle : (spawn : Spawn) (l : Ledger) → Room (spawn .def .nodes .count + 2) (spawn .def .edges .count + 3) 1 l → Room 0 0 0 (placeWithinBudget spawn l .ledger)
+room-settle : (spawn : Spawn) (l : Ledger) → Headroom (spawn .def .nodes .count + 2) (spawn .def .edges .count + 3) 1 l → Headroom 0 0 0 (placeWithinBudget spawn l .ledger)
 room-settle spawn l r =
-    place-kept spawn (stateUnder (l .shared .config .budget)) (λ n m. Room (spawn .def .nodes .count + 2) (spawn .def .edges .count + 3) 1 m) (λ z. Room 0 0 0 (z .ledger))
+    place-kept spawn (stateUnder (l .shared .config .budget)) (λ n m. Headroom (spawn .def .nodes .count + 2) (spawn .def .edges .count + 3) 1 m) (λ z. Headroom 0 0 0 (z .ledger))
     (λ n m p e q. room-land spawn _ p m q) (λ m e q. room-less _ _ _ m q) (λ n m e f q. room-less _ _ _ m q) (λ n m v e f q. room-cut _ _ _ m v (v .state) q)
     (tries (l .shared .config .budget) (l .voices)) l r
 
@@ -190,7 +190,7 @@ held-edge l s v i t p h = go (find (feeds (feeder v) (v .bus)) (l .shared .graph
         let t : d .to .0 ≡ v .bus .0 = eqb-true _ _ (and-right (eqb (d .from .0) (feeder v .0)) _ (r .1)) in
         ap (λ n. taken (l .shared .graph .edges) (v .bus) n) (sym (some-inj q)) ∙ ap isSome (fed-edge s v i d (r .0) f t)
 
-room-steal : (n e : ℕ) (l : Ledger) → InvariantOf l → (v : Voice) → In v (l .voices) → isTracked (v .state) ≡ true → Room (n + 1) (e + 1) 1 l → Room n e 1 (stealVoice v l)
+room-steal : (n e : ℕ) (l : Ledger) → InvariantOf l → (v : Voice) → In v (l .voices) → isTracked (v .state) ≡ true → Headroom (n + 1) (e + 1) 1 l → Headroom n e 1 (stealVoice v l)
 room-steal n e l s v i t r = go (portHeld v l) refl
   where
     g : GraphView
@@ -206,7 +206,7 @@ room-steal n e l s v i t r = go (portHeld v l) refl
         two true o h = refl
         two false o h = h
 
-    go : (o : Option ℕ) → portHeld v l ≡ o → Room n e 1 (stolen v o l)
+    go : (o : Option ℕ) → portHeld v l ≡ o → Headroom n e 1 (stolen v o l)
     go none h = let q = room-cut (n + 1) (e + 1) 1 l v Tracked r in record { nodes = omega (arith, q .nodes); edges = omega (arith, q .edges); voices = q .voices; events = q .events }
     go (some p) h =
         record {
@@ -218,14 +218,14 @@ room-steal n e l s v i t r = go (portHeld v l) refl
 
 -- ---- every call
 abbrev pub RoomOf : Ledger → Type 0
-RoomOf l = Room 0 0 0 l
+RoomOf l = Headroom 0 0 0 l
 
-room-spawn : (def : SynthDef) (bus : NodeId) (rank : ℕ) (l : Ledger) → RoomOf l → spawnRefusal (l .shared) (l .voices) def bus rank ≡ none → Room (def .nodes .count + 2 + 1) (def .edges .count + 3 + 1) 1 l
+room-spawn : (def : SynthDef) (bus : NodeId) (rank : ℕ) (l : Ledger) → RoomOf l → spawnRefusal (l .shared) (l .voices) def bus rank ≡ none → Headroom (def .nodes .count + 2 + 1) (def .edges .count + 3 + 1) 1 l
 room-spawn def bus rank l r e =
     let a = spawn-allowed (l .shared) (l .voices) def bus rank e in
     record { nodes = omega (arith, a .nodes); edges = omega (arith, a .edges); voices = omega (arith, a .voices); events = r .events }
 
-room-spare : (n e v : ℕ) (l : Ledger) → Room (n + 1) (e + 1) v l → Room n e v l
+room-spare : (n e v : ℕ) (l : Ledger) → Headroom (n + 1) (e + 1) v l → Headroom n e v l
 room-spare n e v l r = record { nodes = omega (arith, r .nodes); edges = omega (arith, r .edges); voices = r .voices; events = r .events }
 
 free-node : (g : GraphView) (kind : List ℕ) (ports required : ℕ) → addRefusal g kind ports required ≡ none → length (g .nodes) < 512
@@ -279,7 +279,7 @@ room-steady =
       block = λ l a r. record { nodes = r .nodes; edges = r .edges; voices = rw (counted-length (isSounding a) (l .voices)) (r .voices); events = r .events };
     }
   where
-    one : (l : Ledger) (spawn : Spawn) → Room (spawn .def .nodes .count + 2) (spawn .def .edges .count + 3) 1 l → (o : Option ℕ) → RoomOf (instantiateOr o none spawn Loose l (refused NoPort) .ledger)
+    one : (l : Ledger) (spawn : Spawn) → Headroom (spawn .def .nodes .count + 2) (spawn .def .edges .count + 3) 1 l → (o : Option ℕ) → RoomOf (instantiateOr o none spawn Loose l (refused NoPort) .ledger)
     one l spawn r none = room-less _ _ _ l r
     one l spawn r (some p) = room-land spawn Loose p l r
 
@@ -296,6 +296,6 @@ room-step x l s r = step-kept RoomOf room-steady x l (λ spawn q. managed spawn)
         managed-kept spawn (λ z. RoomOf (z .ledger)) l (ids-of l s) (λ h. r) (λ h. room-settle spawn l (room-spare _ _ _ l a))
         (λ p w h v i t. room-settle spawn (stealVoice v l) (room-steal ((spawn .def) .nodes .count + 2) ((spawn .def) .edges .count + 3) l s v i (and-left (isTracked (v .state)) _ t) a)))
 
-pub room-run : (xs : List Call) (l : Ledger) → Kept l → RoomOf l → RoomOf (run xs l .ledger)
+pub room-run : (xs : List Call) (l : Ledger) → RunInvariant l → RoomOf l → RoomOf (run xs l .ledger)
 room-run [] l h r = r
 room-run (x ∷ xs) l h r = room-run xs (step x l .ledger) (kept-step x l h) (room-step x l (h .sound) r)

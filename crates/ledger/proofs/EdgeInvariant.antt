@@ -46,13 +46,13 @@ pub record Sung (own : Owners) (next given : ℕ) (v : Voice) : Type 0 where
 abbrev pub Out : Owners → ℕ → Edge → Type 0
 Out own i e = (own (e .to .0) ≡ some 0) × (own (e .from .0) ≡ some i)
 
-abbrev pub Fed : Owners → Voice → Edge → Type 0
-Fed own v e = Out own (v .id .0) e → v .bus .0 ≡ e .to .0
+abbrev pub FeedsBus : Owners → Voice → Edge → Type 0
+FeedsBus own v e = Out own (v .id .0) e → v .bus .0 ≡ e .to .0
 
 pub record Voiced (own : Owners) (next given : ℕ) (es : List Edge) (vs : List Voice) : Type 0 where
   pub rises : RisesFrom (λ (v : Voice). v .id .0) 1 vs
   pub sung : (v : Voice) → In v vs → Sung own next given v
-  pub fed : (v : Voice) → In v vs → (e : Edge) → In e es → Fed own v e
+  pub fed : (v : Voice) → In v vs → (e : Edge) → In e es → FeedsBus own v e
   -- it feeds at most one port
   pub one : (v : Voice) → In v vs → (e d : Edge) → In e es → In d es → Out own (v .id .0) e → Out own (v .id .0) d → e .port ≡ d .port
 
@@ -118,14 +118,14 @@ module _ (e : Edge) (es : List Edge) where
         ends = λ d i. ⊎-elim (λ j. w .ends d (j .0)) (λ s. subst (Ends own ports) (sym s) g) (in-put d i);
       }
 
-  pub voiced-put : {own : Owners} {nx nv : ℕ} {vs : List Voice} → Voiced own nx nv es vs → ((v : Voice) → In v vs → Fed own v e)
+  pub voiced-put : {own : Owners} {nx nv : ℕ} {vs : List Voice} → Voiced own nx nv es vs → ((v : Voice) → In v vs → FeedsBus own v e)
       → ((v : Voice) → In v vs → (d : Edge) → In d es → away d ≡ true → Out own (v .id .0) e → Out own (v .id .0) d → ⊥)
       → Voiced own nx nv (wired es e) vs
   voiced-put {own} {nx} {nv} {vs} g f other =
       record {
         rises = g .rises;
         sung = g .sung;
-        fed = λ v i d j. ⊎-elim (λ k. g .fed v i d (k .0)) (λ s. subst (Fed own v) (sym s) (f v i)) (in-put d j);
+        fed = λ v i d j. ⊎-elim (λ k. g .fed v i d (k .0)) (λ s. subst (FeedsBus own v) (sym s) (f v i)) (in-put d j);
         one = λ v i d u a b. two v i d u (in-put d a) (in-put u b);
       }
     where
@@ -172,7 +172,7 @@ voiced-map {own} {nx} {nv} {es} {vs} f fi ff fb g =
     record {
       rises = rises-map (λ (v : Voice). v .id .0) f fi 1 vs (g .rises);
       sung = λ v i. let r = in-map f vs v i in subst (Sung own nx nv) (sym (r .2)) (sung' (r .0) (g .sung (r .0) (r .1)));
-      fed = λ v i e j. let r = in-map f vs v i in subst (λ u. Fed own u e) (sym (r .2)) (fed' (r .0) e (g .fed (r .0) (r .1) e j));
+      fed = λ v i e j. let r = in-map f vs v i in subst (λ u. FeedsBus own u e) (sym (r .2)) (fed' (r .0) e (g .fed (r .0) (r .1) e j));
       one = λ v i e d a b x y.
           let r = in-map f vs v i in
           let same : v .id .0 ≡ r .0 .id .0 = ap (λ (z : Voice). z .id .0) (r .2) ∙ fi (r .0) in
@@ -188,7 +188,7 @@ voiced-map {own} {nx} {nv} {es} {vs} f fi ff fb g =
           hosted = λ k h. s .hosted k (sym (ap own (fb v)) ∙ h);
         }
 
-    fed' : (v : Voice) (e : Edge) → Fed own v e → Fed own (f v) e
+    fed' : (v : Voice) (e : Edge) → FeedsBus own v e → FeedsBus own (f v) e
     fed' v e h o = fb v ∙ h (o .0, o .1 ∙ ap some (fi v))
 
 -- ---- a voice more

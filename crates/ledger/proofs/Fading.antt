@@ -25,7 +25,7 @@ use Rattle.model.specs.Spawn.{fadeNode}
 use Rattle.ledger.specs.Holder.{Holder, Holders, voice, hold}
 use Rattle.ledger.specs.Claim.{ownerAt, holderAt, sourceHolds}
 use Rattle.ledger.proofs.Owner.{portsAt, owner-new}
-use Rattle.ledger.proofs.EdgeInvariant.{EdgeInvariant, Voiced, Out, Fed, above, at-ends, in-put, wired-put, voiced-put, voiced-map}
+use Rattle.ledger.proofs.EdgeInvariant.{EdgeInvariant, Voiced, Out, FeedsBus, above, at-ends, in-put, wired-put, voiced-put, voiced-map}
 use Rattle.ledger.proofs.EndInvariant.{EndInvariant}
 use Rattle.ledger.proofs.Held.{holder-voice, hold-put, hold-put-off}
 use Rattle.ledger.proofs.Invariant.{Invariant, HostAt, sound-append}
@@ -118,7 +118,7 @@ module _ {ns : List Node} {es : List Edge} {nx nv : ℕ} {vs : List Voice} {h : 
       voiced-map (beginFade (v .id) f) (λ u. begin-id u (isVoice (v .id) u)) (λ u. begin-feeder u (isVoice (v .id) u)) (λ u. begin-bus u (isVoice (v .id) u))
       voiced₂
 
-  fed₂ : (u : Voice) → In u vs₁ → Fed (ownerAt ns₁) u e₂
+  fed₂ : (u : Voice) → In u vs₁ → FeedsBus (ownerAt ns₁) u e₂
   fed₂ u k o =
       let r = in-map (beginFade (v .id) f) vs u k in
       let same : v .id .0 ≡ u .id .0 = some-inj (sym at-fade ∙ o .1) in

@@ -19,7 +19,7 @@ use Rattle.lists.proofs.Count.{count-map}
 use Rattle.node.specs.declared.record.NodeId.{NodeId}
 use Rattle.node.specs.declared.record.Node.{Node}
 use Rattle.node.specs.declared.record.Edge.{Edge}
-use Rattle.order.specs.Prepare as graph
+use Rattle.prepare.specs.Prepare as graph
 use Rattle.edges.specs.Ports.{portFrom}
 use Rattle.graph.specs.Node.{isNode, nodeAt, hostNode, withId}
 use Rattle.bus.specs.Fade.{fadeLength}
@@ -54,7 +54,7 @@ use Rattle.ledger.proofs.Arrives.{ArrivesAt, managed-comes, loose-comes
 use Rattle.ledger.proofs.Words as words
 use Rattle.ledger.proofs.Ids.{unique}
 use Rattle.ledger.proofs.Abstraction.{counted-same, under-same, find-stored}
-use Rattle.ledger.proofs.Simulation.{Kept, kept-step}
+use Rattle.ledger.proofs.Simulation.{RunInvariant, kept-step}
 use Rattle.ledger.proofs.Capacity.{RoomOf}
 use Rattle.ledger.proofs.Nodes.{OwnNodes}
 use Rattle.ledger.proofs.Records.{RecordedOf}
@@ -71,7 +71,7 @@ use Rattle.ledger.proofs.Store.{shown, storeOf, store-step, Was, was, t
 
 -- what is known of the ledger l after a list of calls from making with c
 pub record Known (c : Config) (l : Ledger) : Type 0 where
-  pub kept : Kept l
+  pub kept : RunInvariant l
   pub is : l .shared .config ≡ c
   pub recorded : RecordedOf l
   pub nodes : OwnNodes l

@@ -24,7 +24,7 @@ use Rattle.model.specs.Spawn.{Wire, appendAll, wireAll}
 use Rattle.ledger.specs.Holder.{Holders, voice, hold}
 use Rattle.ledger.specs.Claim.{ownerAt, Owners, holderAt, sourceHolds}
 use Rattle.ledger.proofs.Owner.{portsAt, look-old, owner-old, owner-new}
-use Rattle.ledger.proofs.EdgeInvariant.{Voiced, Out, Fed, in-put, wired-put, voiced-put, voiced-snoc}
+use Rattle.ledger.proofs.EdgeInvariant.{Voiced, Out, FeedsBus, in-put, wired-put, voiced-put, voiced-snoc}
 use Rattle.ledger.proofs.EndInvariant.{end-put, end-snoc}
 use Rattle.ledger.proofs.Held.{holder-voice, hold-put, hold-put-off}
 use Rattle.ledger.proofs.Invariant.{Invariant, HostAt, sound-append, ends-below}
@@ -143,7 +143,7 @@ module _ {ns : List Node} {base k : ℕ} {vs : List Voice} {h : Holders} where
         src : sourceHolds (own (base + out)) (id (base + out)) ≡ voice (record { 0 = k })
         src = rw (r .mine out lo) (holder-voice k (id (base + out)) pos)
 
-        fed₁ : (u : Voice) → In u (vs ++ (v ∷ [])) → Fed own u e₁
+        fed₁ : (u : Voice) → In u (vs ++ (v ∷ [])) → FeedsBus own u e₁
         fed₁ u i o =
             let q : k ≡ u .id .0 = some-inj (sym (r .mine out lo) ∙ o .1) in
             ⊎-elim (λ j. absurd (omega (arith, older u j, q)))

@@ -45,8 +45,8 @@ use Rattle.model.specs.Page.{page}
 use Rattle.model.specs.Call.{Call, event, scheduleRefusal, readyAnswer, Question, answerTo, blockAnswer, wholeAnswer}
 use Rattle.model.specs.Block.{fades, sums, wholeFadeRefusal, wholeSumRefusal}
 use Rattle.model.specs.Call as call
-use Rattle.order.specs.declared.Readiness.{Readiness}
-use Rattle.order.specs.declared.Readiness.the-variants.{Ready, Refused}
+use Rattle.prepare.specs.declared.Readiness.{Readiness}
+use Rattle.prepare.specs.declared.Readiness.the-variants.{Ready, Refused}
 use Rattle.model.specs.Model.{Model}
 use Rattle.ledger.specs.Ledger.{Ledger, SpawnResult, portFree, portHeld, withoutVoice, cutOff, stolen, stealVoice, instantiateOr, place, placeWithinBudget, refused, admitted, admissionOn, free}
 use Rattle.ledger.specs.Ledger as ledger

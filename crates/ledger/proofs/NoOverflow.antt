@@ -25,8 +25,8 @@ use Rattle.node.specs.declared.refusal.Refusal.{Refusal}
 use Rattle.node.specs.declared.refusal.Refusal.the-variants.{ClockEnd}
 use Rattle.graph.specs.Node.{nodeAt}
 use Rattle.graph.specs.Refuse.{addRefusal, hostRefusal, disconnectRefusal, connectRefusal}
-use Rattle.order.specs.declared.Readiness.{Readiness}
-use Rattle.order.specs.declared.Readiness.the-variants.{Ready, Refused}
+use Rattle.prepare.specs.declared.Readiness.{Readiness}
+use Rattle.prepare.specs.declared.Readiness.the-variants.{Ready, Refused}
 use Rattle.scheduler.specs.Event.{paramOrder}
 use Rattle.scheduler.specs.declared.event.Event.{Event}
 use Rattle.synthdef.specs.Tables.{paramRows}

@@ -20,8 +20,8 @@ use Rattle.node.specs.Name.{nameOf}
 use Rattle.graph.specs.Node.{nodeAt, hostNode}
 use Rattle.graph.specs.Change as change
 use Rattle.graph.specs.Refuse.{addRefusal, hostRefusal, disconnectRefusal, connectRefusal}
-use Rattle.order.specs.declared.Readiness.{Readiness}
-use Rattle.order.specs.declared.Readiness.the-variants.{Ready, Refused}
+use Rattle.prepare.specs.declared.Readiness.{Readiness}
+use Rattle.prepare.specs.declared.Readiness.the-variants.{Ready, Refused}
 use Rattle.scheduler.specs.Event.{paramOrder}
 use Rattle.scheduler.specs.Replace.{thinned}
 use Rattle.scheduler.specs.Queue.{full, replacing}
@@ -53,7 +53,7 @@ use Rattle.ledger.specs.Clear.{withoutVoices, endedVoices, silentVoices,
 use Rattle.ledger.specs.Render.{applyEvent, applyEvents, oneMore, countedIf, blockOf, preparedIf, rested, render}
 use Rattle.ledger.specs.Call.{Step, unless, step, renderStep, run}
 use Rattle.ledger.specs.Claim.{isManaged}
-use Rattle.ledger.proofs.Allowed.{when-none, spawn-allowed}
+use Rattle.ledger.proofs.Allowed.{when-none, Allowed, spawn-allowed}
 pub use Rattle.ledger.specs.Ledger.{atShared, atGraph}
 
 -- ---- the port search: what holds of it while n tries are left, and what of its outcome
@@ -237,32 +237,37 @@ Calm F l = F (l .shared .config) (l .shared .steals) (l .shared .spawned) (l .vo
 
 module _ (F : Config → StealLog → ℕ → List Voice → Type 0)
     (goes : (c : Config) (b : StealLog) (n : ℕ) (vs : List Voice) (w : VoiceId) → F c b n vs → F c b n (filter (λ v. not (isVoice w v)) vs))
-    (counts : (c : Config) (b : StealLog) (n : ℕ) (vs : List Voice) → F c b n vs → F c b n (map (moved oneMore) vs))
-    (lands : (c : Config) (b : StealLog) (n : ℕ) (vs : List Voice) (v : Voice) → v .id .0 ≡ n + 1 → v .state ≡ Loose → n < 18446744073709551615 → v .rank ≤ 7 → F c b n vs → F c b (n + 1) (vs ++ (v ∷ []))) where
-  pub calm : Preserves (Calm F)
-  calm =
-      record {
-        addNode = λ l kind ports required values glides e f. f;
-        removeNode = λ l k e f. f;
-        connect = λ l a b p e f. f;
-        disconnect = λ l b p e f. f;
-        setSink = λ l k f. f;
-        loose = λ l spawn e f. one l spawn e f (portFree (spawn .bus) l);
-        goes = λ l w f. goes (l .shared .config) (l .shared .steals) (l .shared .spawned) (l .voices) w f;
-        node = λ l k x n e s f. f;
-        schedule = λ l e h f. f;
-        rest = λ l f. f;
-        prepare = λ l e f. f;
-        block = λ l a f. sounds l (isSounding a) f;
-      }
-    where
-      one : (l : Ledger) (spawn : Spawn) → spawnRefusal (l .shared) (l .voices) (spawn .def) (spawn .bus) (spawn .rank) ≡ none → Calm F l
-          → (o : Option ℕ) → Calm F (instantiateOr o none spawn Loose l (refused NoPort) .ledger)
-      one l spawn e f none = f
-      one l spawn e f (some p) =
-          let allow = spawn-allowed (l .shared) (l .voices) (spawn .def) (spawn .bus) (spawn .rank) e in
-          lands (l .shared .config) (l .shared .steals) (l .shared .spawned) (l .voices) (newVoice spawn Loose p (l .shared)) refl refl (allow .ids-left) (allow .rank-low) f
+    (counts : (c : Config) (b : StealLog) (n : ℕ) (vs : List Voice) → F c b n vs → F c b n (map (moved oneMore) vs)) where
+  -- given what the voice of an accepted spawn does to it
+  module _ (lands : (l : Ledger) (spawn : Spawn) (p : ℕ) → Allowed (l .shared) (l .voices) (spawn .def) (spawn .bus) (spawn .rank) → Calm F l
+      → F (l .shared .config) (l .shared .steals) (l .shared .spawned + 1) (l .voices ++ (newVoice spawn Loose p (l .shared) ∷ []))) where
+    pub calm-spawn : Preserves (Calm F)
+    calm-spawn =
+        record {
+          addNode = λ l kind ports required values glides e f. f;
+          removeNode = λ l k e f. f;
+          connect = λ l a b p e f. f;
+          disconnect = λ l b p e f. f;
+          setSink = λ l k f. f;
+          loose = λ l spawn e f. one l spawn e f (portFree (spawn .bus) l);
+          goes = λ l w f. goes (l .shared .config) (l .shared .steals) (l .shared .spawned) (l .voices) w f;
+          node = λ l k x n e s f. f;
+          schedule = λ l e h f. f;
+          rest = λ l f. f;
+          prepare = λ l e f. f;
+          block = λ l a f. sounds l (isSounding a) f;
+        }
+      where
+        one : (l : Ledger) (spawn : Spawn) → spawnRefusal (l .shared) (l .voices) (spawn .def) (spawn .bus) (spawn .rank) ≡ none → Calm F l
+            → (o : Option ℕ) → Calm F (instantiateOr o none spawn Loose l (refused NoPort) .ledger)
+        one l spawn e f none = f
+        one l spawn e f (some p) = lands l spawn p (spawn-allowed (l .shared) (l .voices) (spawn .def) (spawn .bus) (spawn .rank) e) f
 
-      sounds : (l : Ledger) (b : Bool) → Calm F l → F (l .shared .config) (l .shared .steals) (l .shared .spawned) (countedIf b (l .voices))
-      sounds l true f = counts (l .shared .config) (l .shared .steals) (l .shared .spawned) (l .voices) f
-      sounds l false f = f
+        sounds : (l : Ledger) (b : Bool) → Calm F l → F (l .shared .config) (l .shared .steals) (l .shared .spawned) (countedIf b (l .voices))
+        sounds l true f = counts (l .shared .config) (l .shared .steals) (l .shared .spawned) (l .voices) f
+        sounds l false f = f
+
+  -- where it asks of that voice only that it is loose, of the next id and of a rank that is allowed
+  module _ (lands : (c : Config) (b : StealLog) (n : ℕ) (vs : List Voice) (v : Voice) → v .id .0 ≡ n + 1 → v .state ≡ Loose → n < 18446744073709551615 → v .rank ≤ 7 → F c b n vs → F c b (n + 1) (vs ++ (v ∷ []))) where
+    pub calm : Preserves (Calm F)
+    calm = calm-spawn (λ l spawn p allow f. lands (l .shared .config) (l .shared .steals) (l .shared .spawned) (l .voices) (newVoice spawn Loose p (l .shared)) refl refl (allow .ids-left) (allow .rank-low) f)

@@ -22,13 +22,13 @@ use Rattle.node.specs.declared.record.Edge.{Edge}
 use Rattle.node.specs.declared.refusal.Refusal.{Refusal}
 use Rattle.rank.specs.Order.{order}
 use Rattle.rank.specs.Cycle.{Sorted}
-use Rattle.order.specs.Live as live
-use Rattle.order.specs.Live.{idOf, arcOf, liveIds, liveNodes, processingOrder, live-all}
-use Rattle.order.specs.Required.{any, lacks, lacking}
-use Rattle.order.specs.Prepare as graph
-use Rattle.order.proofs.Theorems.{number, ready-sorted}
-use Rattle.order.specs.declared.Readiness.{Readiness}
-use Rattle.order.specs.declared.Readiness.the-variants.{Ready, Refused}
+use Rattle.prepare.specs.Live as live
+use Rattle.prepare.specs.Live.{idOf, arcOf, liveIds, liveNodes, processingOrder, live-all}
+use Rattle.prepare.specs.Required.{any, lacks, lacking}
+use Rattle.prepare.specs.Prepare as graph
+use Rattle.prepare.proofs.Theorems.{number, ready-sorted}
+use Rattle.prepare.specs.declared.Readiness.{Readiness}
+use Rattle.prepare.specs.declared.Readiness.the-variants.{Ready, Refused}
 use Rattle.graph.specs.View.{GraphView}
 use Rattle.graph.specs.Node.{isNode, nodeAt, replaced}
 use Rattle.scheduler.specs.declared.event.Event.{Event}

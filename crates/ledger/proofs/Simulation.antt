@@ -153,13 +153,13 @@ module _ (l : Ledger) (s : InvariantOf l) where
       }
 
 -- what every run keeps of a ledger: it is sound, and its numbers are within 64 bits
-pub record Kept (l : Ledger) : Type 0 where
+pub record RunInvariant (l : Ledger) : Type 0 where
   pub sound : InvariantOf l
   pub length : lengthL (l .shared) ≤ 18446744073709551615
   pub clock : l .shared .clock ≤ 18446744073709551615
   pub timely : NoOverflow l
 
-pub step-agrees : (x : Call) (l : Ledger) → Kept l → Agrees (call.step x (modelOf l)) (ledger.step x l)
+pub step-agrees : (x : Call) (l : Ledger) → RunInvariant l → Agrees (call.step x (modelOf l)) (ledger.step x l)
 step-agrees (call.addNode kind ports required values glides) l h = add-agrees l (h .sound) kind ports required values glides
 step-agrees (call.removeNode k) l h = remove-agrees l (h .sound) k
 step-agrees (call.connect a b p) l h = connect-agrees l (h .sound) a b p
@@ -181,7 +181,7 @@ step-agrees (call.render out) l h = rendered-agrees l (h .sound) (renderRefusal 
 step-agrees (call.ask q) l h =
     reads-agrees l (h .sound) _ _ (asks-agree l (h .sound) q ∙ ap (λ vs. answerTo (λ v. portHeld v l) q (record { shared = l .shared; voices = vs })) (stored-shown l (h .timely) (h .clock)))
 
-pub kept-step : (x : Call) (l : Ledger) → Kept l → Kept (ledger.step x l .ledger)
+pub kept-step : (x : Call) (l : Ledger) → RunInvariant l → RunInvariant (ledger.step x l .ledger)
 kept-step x l h =
     let u = ids-of l (h .sound) in
     record {
@@ -195,9 +195,9 @@ kept-step x l h =
 pub record Runs (r : call.Ran) (t : ledger.Ran) : Type 0 where
   pub answers : r .answers ≡ t .answers
   pub model : r .model ≡ modelOf (t .ledger)
-  pub kept : Kept (t .ledger)
+  pub kept : RunInvariant (t .ledger)
 
-pub runs : (xs : List Call) (l : Ledger) → Kept l → Runs (call.run xs (modelOf l)) (ledger.run xs l)
+pub runs : (xs : List Call) (l : Ledger) → RunInvariant l → Runs (call.run xs (modelOf l)) (ledger.run xs l)
 runs [] l h = record { answers = refl; model = refl; kept = h }
 runs (x ∷ xs) l h =
     let a = step-agrees x l h in
@@ -205,5 +205,5 @@ runs (x ∷ xs) l h =
     subst (λ m. Runs (record { answers = call.step x (modelOf l) .answer ∷ call.run xs m .answers; model = call.run xs m .model }) (ledger.run (x ∷ xs) l)) (sym (a .model))
     (record { answers = ap₂ _∷_ (a .answer) (r .answers); model = r .model; kept = r .kept })
 
-pub kept-new : (c : Config) → fadeLength (c .rate) ≤ 18446744073709551615 → Kept (newLedger c)
+pub kept-new : (c : Config) → fadeLength (c .rate) ≤ 18446744073709551615 → RunInvariant (newLedger c)
 kept-new c h = record { sound = sound-new; length = h; clock = omega arith; timely = λ v i. absurd i }

@@ -4,7 +4,7 @@ use native.Mathlib.Omega.{arith}
 use native.Mathlib.Nat.{min-eq-left}
 use native.Mathlib.Decide.{ℕ-discrete}
 use mathlib.Core.Path.{_≡_, refl, ap, _∙_}
-use mathlib.Core.Logic.{_⊎_, inl, inr, ⊎-elim}
+use mathlib.Core.Logic.{_⊎_, inl, inr}
 use mathlib.Core.List.{List, [], _∷_, _++_}
 use mathlib.Core.Bool.{Bool, true, false, cond}
 use lib.Dec.{leb}
@@ -48,6 +48,10 @@ length-cut j [] = refl
 length-cut zero (r ∷ l) = refl
 length-cut (suc j) (r ∷ l) = ap suc (length-cut j l)
 
+-- what is the (k - m)th after the first d, where m is d past f, is the (k - f)th of all
+stood : (d f m k : ℕ) → m ≡ f + d → m ≤ k → d + (k - m) ≡ k - f
+stood d f m k e h = omega arith
+
 -- ---- one record more
 module _ (b : StealLog) (r : StealRecord) (small : b .count < 18446744073709551615) where
   pub count-pushed : pushed b r .count ≡ b .count + 1
@@ -69,86 +73,49 @@ module _ (b : StealLog) (r : StealRecord) (small : b .count < 184467440737095516
   long : length (b .newest ++ (r ∷ [])) ≡ length (b .newest) + 1
   long = length-append (b .newest) (r ∷ [])
 
-  first : firstHeld (pushed b r) ≡ b .count + 1 - ((length (b .newest) + 1) - (length (b .newest) + 1 - 64))
-  first = ap (λ n. n - length (pushed b r .newest)) count-pushed ∙ ap (λ n. b .count + 1 - n) length-pushed
+  -- by the numbers: the records that are held are some of all; one goes where there would be 65; the others stand where they stood
+  within : Newest b → length (b .newest) ≤ b .count
+  within (inl w) = omega (arith, w .0, w .1)
+  within (inr w) = omega (arith, w .0)
+
+  first : Newest b → firstHeld (pushed b r) ≡ firstHeld b + (length (b .newest) + 1 - 64)
+  first w = let h = within w in ap (λ n. n - length (pushed b r .newest)) count-pushed ∙ ap (λ n. b .count + 1 - n) length-pushed ∙ omega arith
+
+  too-many : Newest b → (k : ℕ) → k < firstHeld (pushed b r) → k + 64 < pushed b r .count
+  too-many (inl w) k h = rw count-pushed (let e = first (inl w) in let l = w .0 in let m = w .1 in omega arith)
+  too-many (inr w) k h = let e = first (inr w) in let l = w .0 in let m = w .1 in absurd (omega arith)
 
   -- where a record stands among the old ones and the new one
-  at : (n m k : ℕ) → firstHeld (pushed b r) ≡ m → length (b .newest ++ (r ∷ [])) - 64 ≡ n → m ≤ k → heldRecord (pushed b r) k ≡ foundAt (n + (k - m)) (b .newest ++ (r ∷ []))
-  at n m k e d le = rw (e, le-leb m k le) (ap (λ z. foundAt (k - m) (drop z (b .newest ++ (r ∷ [])))) d ∙ found-drop n (k - m) (b .newest ++ (r ∷ [])))
+  at : Newest b → (k : ℕ) → firstHeld (pushed b r) ≤ k → heldRecord (pushed b r) k ≡ foundAt (k - firstHeld b) (b .newest ++ (r ∷ []))
+  at w k le =
+      let i = k - firstHeld (pushed b r) in
+      rw (le-leb (firstHeld (pushed b r)) k le)
+      (ap (λ n. foundAt i (drop (n - 64) (b .newest ++ (r ∷ [])))) long
+      ∙ found-drop (length (b .newest) + 1 - 64) i (b .newest ++ (r ∷ []))
+      ∙ ap (λ z. foundAt z (b .newest ++ (r ∷ []))) (stood (length (b .newest) + 1 - 64) (firstHeld b) (firstHeld (pushed b r)) k (first w) le))
 
   -- a record that was there stays as it was, or is no longer one of the newest 64
   pub held-pushed : Newest b → (k : ℕ) → k < b .count → (heldRecord (pushed b r) k ≡ heldRecord b k) ⊎ ((heldRecord (pushed b r) k ≡ found.Nothing) × (k + 64 < pushed b r .count))
-  held-pushed w k h = ⊎-elim full few w
+  held-pushed w k h = go (leb (firstHeld (pushed b r)) k) refl
     where
-      same : (n m : ℕ) → firstHeld (pushed b r) ≡ m → length (b .newest ++ (r ∷ [])) - 64 ≡ n → m ≤ k → n + (k - m) ≡ k - firstHeld b → k - firstHeld b < length (b .newest) → firstHeld b ≤ k
-          → heldRecord (pushed b r) k ≡ heldRecord b k
-      same n m e d le i lt old =
-          at n m k e d le ∙ ap (λ z. foundAt z (b .newest ++ (r ∷ []))) i ∙ found-left (k - firstHeld b) (b .newest) (r ∷ []) lt ∙ rw (le-leb (firstHeld b) k old)
-
-      withoutVoice : (m : ℕ) → firstHeld (pushed b r) ≡ m → k < m → heldRecord (pushed b r) k ≡ found.Nothing
-      withoutVoice m e lt = rw (e, lt-leb m k lt)
-
-      full : (length (b .newest) ≡ 64) × (64 ≤ b .count) → (heldRecord (pushed b r) k ≡ heldRecord b k) ⊎ ((heldRecord (pushed b r) k ≡ found.Nothing) × (k + 64 < pushed b r .count))
-      full v = go (leb (b .count - 63) k) refl
-        where
-          e : firstHeld (pushed b r) ≡ b .count - 63
-          e = let l = v .0 in first ∙ omega arith
-
-          d : length (b .newest ++ (r ∷ [])) - 64 ≡ 1
-          d = let l = v .0 in let m = long in omega arith
-
-          go : (t : Bool) → leb (b .count - 63) k ≡ t → (heldRecord (pushed b r) k ≡ heldRecord b k) ⊎ ((heldRecord (pushed b r) k ≡ found.Nothing) × (k + 64 < pushed b r .count))
-          go true q =
-              let l = v .0 in
-              let g = v .1 in
-              let le : b .count - 63 ≤ k = leb-true _ _ q in
-              let i : 1 + (k - (b .count - 63)) ≡ k - firstHeld b = omega arith in
-              let lt : k - firstHeld b < length (b .newest) = omega arith in
-              let old : firstHeld b ≤ k = omega arith in
-              inl (same 1 (b .count - 63) e d le i lt old)
-          go false q =
-              let g = v .1 in
-              let lt : k < b .count - 63 = leb-false _ _ q in
-              inr (withoutVoice (b .count - 63) e lt, rw count-pushed (omega arith))
-
-      few : (length (b .newest) ≡ b .count) × (b .count < 64) → (heldRecord (pushed b r) k ≡ heldRecord b k) ⊎ ((heldRecord (pushed b r) k ≡ found.Nothing) × (k + 64 < pushed b r .count))
-      few v =
-          let l = v .0 in
-          let g = v .1 in
-          let m = long in
-          let e : firstHeld (pushed b r) ≡ 0 = first ∙ omega arith in
-          let d : length (b .newest ++ (r ∷ [])) - 64 ≡ 0 = omega arith in
-          let le : 0 ≤ k = omega arith in
-          let i : 0 + (k - 0) ≡ k - firstHeld b = omega arith in
-          let lt : k - firstHeld b < length (b .newest) = omega arith in
+      go : (t : Bool) → leb (firstHeld (pushed b r)) k ≡ t → (heldRecord (pushed b r) k ≡ heldRecord b k) ⊎ ((heldRecord (pushed b r) k ≡ found.Nothing) × (k + 64 < pushed b r .count))
+      go true q =
+          let le : firstHeld (pushed b r) ≤ k = leb-true _ _ q in
+          let e = first w in
+          let l = within w in
           let old : firstHeld b ≤ k = omega arith in
-          inl (same 0 0 e d le i lt old)
+          let lt : k - firstHeld b < length (b .newest) = omega arith in
+          inl (at w k le ∙ found-left (k - firstHeld b) (b .newest) (r ∷ []) lt ∙ rw (le-leb (firstHeld b) k old))
+      go false q = let lt : k < firstHeld (pushed b r) = leb-false _ _ q in inr (rw (lt-leb (firstHeld (pushed b r)) k lt), too-many w k lt)
 
   -- the new one has the next number
   pub held-new : Newest b → heldRecord (pushed b r) (b .count) ≡ found.Record r
-  held-new w = ⊎-elim full few w
-    where
-      full : (length (b .newest) ≡ 64) × (64 ≤ b .count) → heldRecord (pushed b r) (b .count) ≡ found.Record r
-      full v =
-          let l = v .0 in
-          let g = v .1 in
-          let m = long in
-          let e : firstHeld (pushed b r) ≡ b .count - 63 = first ∙ omega arith in
-          let d : length (b .newest ++ (r ∷ [])) - 64 ≡ 1 = omega arith in
-          let le : b .count - 63 ≤ b .count = omega arith in
-          let i : 1 + (b .count - (b .count - 63)) ≡ length (b .newest) = omega arith in
-          at 1 (b .count - 63) (b .count) e d le ∙ ap (λ z. foundAt z (b .newest ++ (r ∷ []))) i ∙ found-last (b .newest) r
-
-      few : (length (b .newest) ≡ b .count) × (b .count < 64) → heldRecord (pushed b r) (b .count) ≡ found.Record r
-      few v =
-          let l = v .0 in
-          let g = v .1 in
-          let m = long in
-          let e : firstHeld (pushed b r) ≡ 0 = first ∙ omega arith in
-          let d : length (b .newest ++ (r ∷ [])) - 64 ≡ 0 = omega arith in
-          let le : 0 ≤ b .count = omega arith in
-          let i : 0 + (b .count - 0) ≡ length (b .newest) = omega arith in
-          at 0 0 (b .count) e d le ∙ ap (λ z. foundAt z (b .newest ++ (r ∷ []))) i ∙ found-last (b .newest) r
+  held-new w =
+      let e = first w in
+      let l = within w in
+      let last : firstHeld (pushed b r) ≤ b .count = omega arith in
+      let i : b .count - firstHeld b ≡ length (b .newest) = omega arith in
+      at w (b .count) last ∙ ap (λ z. foundAt z (b .newest ++ (r ∷ []))) i ∙ found-last (b .newest) r
 
 -- ---- a mark
 module _ (b : StealLog) (j : ℕ) where

@@ -55,7 +55,7 @@ use Rattle.ledger.proofs.Abstraction.{modelOf, tracked-same, fading-sam
 use Rattle.ledger.proofs.NoOverflow.{stored-shown}
 use Rattle.ledger.proofs.Spawns.{InvariantOf, ids-of}
 use Rattle.ledger.proofs.Managed.{config-step, config-run, ids-new}
-use Rattle.ledger.proofs.Simulation.{Kept, step-agrees, kept-step, kept-new, runs}
+use Rattle.ledger.proofs.Simulation.{RunInvariant, step-agrees, kept-step, kept-new, runs}
 use Rattle.ledger.proofs.Port.{feeds-held}
 use Rattle.ledger.proofs.Losses.{LossesOf, Apart, records-same}
 use Rattle.ledger.proofs.SpawnFailure.{every-same}
@@ -68,19 +68,19 @@ abbrev pub storeOf : Config → Ledger → Model
 storeOf c l = record { shared = l .shared; voices = map (shown c) (l .voices) }
 
 module _ (c : Config) where
-  model-store : (l : Ledger) → Kept l → l .shared .config ≡ c → modelOf l ≡ storeOf c l
+  model-store : (l : Ledger) → RunInvariant l → l .shared .config ≡ c → modelOf l ≡ storeOf c l
   model-store l k is =
       ap (λ vs. record { shared = l .shared; voices = vs }) (stored-shown l (k .timely) (k .clock)) ∙ ap (λ (z : Config). storeOf z l) is
 
   -- a call on it
-  pub store-step : (x : Call) (l : Ledger) → Kept l → l .shared .config ≡ c → call.step x (storeOf c l) ≡ record { answer = step x l .answer; model = storeOf c (step x l .ledger) }
+  pub store-step : (x : Call) (l : Ledger) → RunInvariant l → l .shared .config ≡ c → call.step x (storeOf c l) ≡ record { answer = step x l .answer; model = storeOf c (step x l .ledger) }
   store-step x l k is =
       let a = step-agrees x l k in
       ap (call.step x) (sym (model-store l k is))
       ∙ ap₂ (λ b m. record { answer = b; model = m }) (a .answer) (a .model ∙ model-store (step x l .ledger) (kept-step x l k) (config-step x l (ids-of l (k .sound)) ∙ is))
 
   module _ (fits : fadeLength (c .rate) ≤ 18446744073709551615) where
-    pub kept-after : (xs : List Call) → Kept (ledgerAfter c xs)
+    pub kept-after : (xs : List Call) → RunInvariant (ledgerAfter c xs)
     kept-after xs = runs xs (newLedger c) (kept-new c fits) .kept
 
     pub config-after : (xs : List Call) → ledgerAfter c xs .shared .config ≡ c

@@ -76,7 +76,7 @@ abbrev pub spawnAnswer : NodeId → ℕ → Ledger → Spawned
 spawnAnswer bus r l = answerWhen (outranked (l .shared .config) bus r (l .voices)) (blocked bus r l) (nextVoice (l .shared))
 
 -- what they hold, with places left for so many nodes, edges and voices
-pub record Room (n e v : ℕ) (l : Ledger) : Type 0 where
+pub record Headroom (n e v : ℕ) (l : Ledger) : Type 0 where
   pub nodes : length (l .shared .graph .nodes) + n ≤ 512
   pub edges : length (l .shared .graph .edges) + e ≤ 1024
   pub voices : length (l .voices) + v ≤ 64

@@ -33,7 +33,7 @@ use Rattle.whole_bus.specs.Sample.{isSample}
 use Rattle.whole_bus.specs.Block as whole
 use Rattle.rank.specs.Order.{upto}
 use Rattle.rank.specs.Cycle.{Distinct, Sorted}
-use Rattle.order.specs.Live.{arcOf}
+use Rattle.prepare.specs.Live.{arcOf}
 use Rattle.edges.specs.Wiring.{endsAt}
 use Rattle.edges.specs.Ports.{portFrom}
 use Rattle.graph.specs.View.{GraphView}
@@ -382,7 +382,7 @@ pub record Arrives (x : Spawn) (state : VoiceState) (w : VoiceId) (s s' : Model)
 
 -- ---- the tables
 -- "512 live nodes, 1,024 edges, 64 voices, 256 pending events"
-pub record Room (s : Model) : Type 0 where
+pub record Capacity (s : Model) : Type 0 where
   pub nodes : length (s .shared .graph .nodes) ≤ 512
   pub edges : length (s .shared .graph .edges) ≤ 1024
   pub voices : length (s .voices) ≤ 64
@@ -456,7 +456,7 @@ pub record Holds (c : Config) (s : Model) : Type 0 where
   -- ---- 02, Paper 4. The page's port column, of every voice: tracked, fading or loose.
   pub shows : (v : Voice) → In v (s .voices) → Shows s v
   -- ---- The tables hold it: 512 nodes, 1,024 edges, 64 voices, 256 events, and the newest 64 records.
-  pub room : Room s
+  pub room : Capacity s
   -- ---- 02, Paper 13: "Each voice's record gains a rank 0 to 7"
   pub ranks : (v : Voice) → In v (s .voices) → v .rank ≤ 7
   pub records : Newest (s .shared .steals)

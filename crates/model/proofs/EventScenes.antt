@@ -9,8 +9,8 @@ use lib.ListN.{replicate, length}
 use lib.Ieee.{eq}
 use Rattle.lists.specs.Find.{mapO}
 use Rattle.node.specs.Silence.{bytes}
-use Rattle.node.specs.declared.order.Action.{Action}
-use Rattle.node.specs.declared.order.Action.the-variants as Action
+use Rattle.node.specs.declared.order.EventAction.{EventAction}
+use Rattle.node.specs.declared.order.EventAction.the-variants as EventAction
 use Rattle.node.specs.declared.order.GlideShape.the-variants.{Linear}
 use Rattle.node.specs.declared.order.GlideSpace.the-variants.{Raw}
 use Rattle.node.specs.declared.order.LastOrder.{LastOrder}
@@ -18,9 +18,9 @@ use Rattle.node.specs.declared.order.LastOrder.the-variants as LastOrder
 use Rattle.node.specs.declared.refusal.Refusal.the-variants.{TableFull, Cycle, ClockEnd, RequiredPort}
 use Rattle.graph.specs.Node.{nodeAt}
 use Rattle.rank.specs.Order.{among, fed, released, walk, order, whole, count-up}
-use Rattle.order.specs.Live.{risingFrom, liveNodes, liveIds, processingOrder}
-use Rattle.order.specs.Required.{any, lacks, lacking}
-use Rattle.order.specs.Prepare.{prepare}
+use Rattle.prepare.specs.Live.{risingFrom, liveNodes, liveIds, processingOrder}
+use Rattle.prepare.specs.Required.{any, lacks, lacking}
+use Rattle.prepare.specs.Prepare.{prepare}
 use Rattle.voice.specs.declared.policy.StealPolicy.the-variants.{Oldest}
 use Rattle.voice.specs.Steals.{recordOf}
 use Rattle.voice.specs.declared.policy.Level.the-variants.{Unknown}
@@ -51,7 +51,7 @@ abbrev set : String → LastOrder → Call
 set s o = call.order (voice 1) (bytes s) o
 
 abbrev at : ℕ → String → ℕ → Call
-at t s n = call.schedule t (voice 1) (bytes s) (Action.Value (float n))
+at t s n = call.schedule t (voice 1) (bytes s) (EventAction.Value (float n))
 
 -- the last orders of the voice's two nodes, 1 and 2
 abbrev last : ℕ → Model → Option LastOrder
@@ -90,9 +90,9 @@ deadline = (refl, refl, refl, refl)
 by-time :
     (last 1 (key (at 9 "cut" 3 ∷ at 4 "cut" 5 ∷ render ∷ [])) ≡ some (value 3))
     × (last 1 (key (at 4 "cut" 3 ∷ at 4 "cut" 5 ∷ render ∷ [])) ≡ some (value 5))
-    × (last 1 (key (call.schedule 4 (voice 1) (bytes "rate") (Action.Gate (float 7)) ∷ render ∷ [])) ≡ some (value 7))
-    × (last 1 (key (call.schedule 4 (voice 1) [] (Action.Value (float 7)) ∷ render ∷ [])) ≡ some LastOrder.Nothing)
-    × (last 2 (key (call.schedule 4 (voice 1) (bytes "rate") (Action.Glide (float 7) (float 1) Linear Raw) ∷ render ∷ [])) ≡ some (glide 7 1))
+    × (last 1 (key (call.schedule 4 (voice 1) (bytes "rate") (EventAction.Gate (float 7)) ∷ render ∷ [])) ≡ some (value 7))
+    × (last 1 (key (call.schedule 4 (voice 1) [] (EventAction.Value (float 7)) ∷ render ∷ [])) ≡ some LastOrder.Nothing)
+    × (last 2 (key (call.schedule 4 (voice 1) (bytes "rate") (EventAction.Glide (float 7) (float 1) Linear Raw) ∷ render ∷ [])) ≡ some (glide 7 1))
 unfolding eq prepare processingOrder lacking lacks any liveIds liveNodes risingFrom whole order walk released fed among count-up
 by-time = (refl, refl, refl, refl, refl)
 

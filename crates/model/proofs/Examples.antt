@@ -13,12 +13,12 @@ use Rattle.level.specs.Root.{rootOf, sqrt}
 use Rattle.level.specs.Narrow.{narrow}
 use Rattle.level.specs.Level.{squares, levelOf}
 use Rattle.node.specs.Silence.{silencePassThrough, rules}
-use Rattle.node.specs.declared.order.Action.the-variants as Action
+use Rattle.node.specs.declared.order.EventAction.the-variants as EventAction
 use Rattle.node.specs.declared.record.NodeId.{NodeId}
 use Rattle.rank.specs.Order.{among, fed, released, walk, order, whole, count-up}
-use Rattle.order.specs.Live.{risingFrom, liveNodes, liveIds, processingOrder}
-use Rattle.order.specs.Required.{any, lacks, lacking}
-use Rattle.order.specs.Prepare.{prepare}
+use Rattle.prepare.specs.Live.{risingFrom, liveNodes, liveIds, processingOrder}
+use Rattle.prepare.specs.Required.{any, lacks, lacking}
+use Rattle.prepare.specs.Prepare.{prepare}
 use Rattle.scheduler.specs.Queue.{takenBefore}
 use Rattle.voice.proofs.Examples.{numbered}
 use Rattle.voice.specs.Policy.{victim}
@@ -89,7 +89,7 @@ given (rate r l) = rate r (fadeLength r)
 given (level xs y) = level xs (levelOf xs)
 given (seed s n x) = seed s n (seedOf s n)
 given (quietest xs v) = quietest xs (victim Quietest 0 (numbered 1 (map Known xs)))
-given (taken t deadline n) = taken t deadline (length (takenBefore deadline (event t (voice 1) [] Action.Free ∷ [])))
+given (taken t deadline n) = taken t deadline (length (takenBefore deadline (event t (voice 1) [] EventAction.Free ∷ [])))
 given (third-prepare l) = third-prepare (map (λ (k : NodeId). k .0) (page .model .shared .graph .order))
 given (prints t) = prints (paper.page (page .model .shared .clock) (paper.portNow (page .model .shared .graph .edges)) (page .model .voices))
 given (cleared a l) = cleared (asked (call.clear ∷ []) (further twoMore (page .model))) (ids (further (call.clear ∷ []) (further twoMore (page .model))))

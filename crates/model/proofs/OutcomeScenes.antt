@@ -8,15 +8,15 @@ use lib.ListN.{replicate}
 use lib.Ieee.{eq}
 use Rattle.node.specs.Silence.{bytes}
 use Rattle.node.specs.Refusal.{numberOf}
-use Rattle.node.specs.declared.order.Action.{Action}
-use Rattle.node.specs.declared.order.Action.the-variants as Action
+use Rattle.node.specs.declared.order.EventAction.{EventAction}
+use Rattle.node.specs.declared.order.EventAction.the-variants as EventAction
 use Rattle.node.specs.declared.order.GlideShape.the-variants.{Linear}
 use Rattle.node.specs.declared.order.GlideSpace.the-variants.{Raw}
 use Rattle.node.specs.declared.refusal.Refusal.the-variants.{Cycle, ClockEnd, ShortBuffer}
 use Rattle.rank.specs.Order.{among, fed, released, walk, order, whole, count-up}
-use Rattle.order.specs.Live.{risingFrom, liveNodes, liveIds, processingOrder}
-use Rattle.order.specs.Required.{any, lacks, lacking}
-use Rattle.order.specs.Prepare.{prepare}
+use Rattle.prepare.specs.Live.{risingFrom, liveNodes, liveIds, processingOrder}
+use Rattle.prepare.specs.Required.{any, lacks, lacking}
+use Rattle.prepare.specs.Prepare.{prepare}
 use Rattle.voice.specs.declared.policy.StealPolicy.the-variants.{Oldest}
 use Rattle.synthdef.specs.declared.def.SynthDef.{SynthDef}
 use Rattle.store.specs.declared.answer.Outcome.the-variants.{Applied, NoVoice, NoParameter, NotTaken}
@@ -44,14 +44,14 @@ abbrev key : List Call → Model
 key calls = after (upTo 2 Oldest) (host 2 ∷ sink 0 ∷ call.spawnManaged (spawnOf keyDef (id 0) (float 0) 0) ∷ call.prepare ∷ calls)
 
 -- an event for a voice
-abbrev at : ℕ → ℕ → String → Action → Call
+abbrev at : ℕ → ℕ → String → EventAction → Call
 at t w s a = call.schedule t (voice w) (bytes s) a
 
-abbrev to : ℕ → Action
-to n = Action.Value (float n)
+abbrev to : ℕ → EventAction
+to n = EventAction.Value (float n)
 
-abbrev gliding : Action
-gliding = Action.Glide (float 1) (float 1) Linear Raw
+abbrev gliding : EventAction
+gliding = EventAction.Glide (float 1) (float 1) Linear Raw
 
 -- a render that is lent a list of so many entries, each 7
 abbrev lent : ℕ → Call

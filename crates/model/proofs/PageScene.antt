@@ -9,9 +9,9 @@ use Rattle.synthdef.specs.Plan.{settled}
 use Rattle.node.specs.Silence.{silencePassThrough, rules}
 use Rattle.node.specs.declared.record.NodeId.{NodeId}
 use Rattle.rank.specs.Order.{among, fed, released, walk, order, whole, count-up}
-use Rattle.order.specs.Live.{risingFrom, liveNodes, liveIds, processingOrder}
-use Rattle.order.specs.Required.{any, lacks, lacking}
-use Rattle.order.specs.Prepare.{prepare}
+use Rattle.prepare.specs.Live.{risingFrom, liveNodes, liveIds, processingOrder}
+use Rattle.prepare.specs.Required.{any, lacks, lacking}
+use Rattle.prepare.specs.Prepare.{prepare}
 use Rattle.voice.specs.Steals.{recordOf}
 use Rattle.voice.specs.declared.policy.Level.the-variants.{Known}
 use Rattle.store.specs.declared.voices.VoiceState.the-variants.{Tracked}

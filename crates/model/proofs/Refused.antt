@@ -16,8 +16,8 @@ use Rattle.node.specs.declared.refusal.Refusal.{Refusal}
 use Rattle.node.specs.declared.refusal.Refusal.the-variants.{NoPort, Rejected, DefinitionLimits, UnknownNode, VoiceNode, BusWithoutPorts, TableFull, IdsUsedUp, RankTooHigh}
 use Rattle.graph.specs.Node.{nodeAt, portsOf, ofVoice}
 use Rattle.graph.specs.Refuse.{when, dead, addRefusal, hostRefusal, disconnectRefusal, connectRefusal}
-use Rattle.order.specs.declared.Readiness.{Readiness}
-use Rattle.order.specs.declared.Readiness.the-variants as Readiness
+use Rattle.prepare.specs.declared.Readiness.{Readiness}
+use Rattle.prepare.specs.declared.Readiness.the-variants as Readiness
 use Rattle.voice.specs.declared.policy.Admission.{Admission}
 use Rattle.voice.specs.declared.policy.Admission.the-variants as admission
 use Rattle.synthdef.specs.Limits.{allowed}

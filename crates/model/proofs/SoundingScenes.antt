@@ -8,9 +8,9 @@ use lib.Ieee.{eq}
 use Rattle.node.specs.Silence.{bytes}
 use Rattle.node.specs.declared.refusal.Refusal.the-variants.{NoPort, PortOrKind, RequiredPort, Cycle}
 use Rattle.rank.specs.Order.{among, fed, released, walk, order, whole, count-up}
-use Rattle.order.specs.Live.{risingFrom, liveNodes, liveIds, processingOrder}
-use Rattle.order.specs.Required.{any, lacks, lacking}
-use Rattle.order.specs.Prepare.{prepare}
+use Rattle.prepare.specs.Live.{risingFrom, liveNodes, liveIds, processingOrder}
+use Rattle.prepare.specs.Required.{any, lacks, lacking}
+use Rattle.prepare.specs.Prepare.{prepare}
 use Rattle.voice.specs.declared.policy.StealPolicy.the-variants.{Oldest}
 use Rattle.store.specs.declared.answer.Outcome.the-variants.{NoVoice}
 use Rattle.model.specs.Voice.{id}

@@ -14,9 +14,9 @@ use Rattle.node.specs.declared.name.Name.{Name}
 use Rattle.node.specs.declared.refusal.Refusal.the-variants.{NoPort}
 use Rattle.rank.specs.Order as rank
 use Rattle.rank.specs.Order.{among, released, walk, order, whole, count-up}
-use Rattle.order.specs.Live.{risingFrom, liveNodes, liveIds, processingOrder}
-use Rattle.order.specs.Required.{any, lacks, lacking}
-use Rattle.order.specs.Prepare.{prepare}
+use Rattle.prepare.specs.Live.{risingFrom, liveNodes, liveIds, processingOrder}
+use Rattle.prepare.specs.Required.{any, lacks, lacking}
+use Rattle.prepare.specs.Prepare.{prepare}
 use Rattle.edges.specs.declared.ports.Source.the-variants.{From, Nothing}
 use Rattle.graph.specs.Node.{nodeAt, noiseOf}
 use Rattle.voice.specs.Steals.{recordOf}

@@ -14,16 +14,16 @@ use Rattle.level.specs.Level.{squares, levelOf}
 use Rattle.node.specs.Name.{nameOf}
 use Rattle.node.specs.Node.{withNoise}
 use Rattle.node.specs.Silence.{name, bytes, silencePassThrough, rules}
-use Rattle.node.specs.declared.order.Action.the-variants as Action
+use Rattle.node.specs.declared.order.EventAction.the-variants as EventAction
 use Rattle.node.specs.declared.order.LastOrder.{LastOrder}
 use Rattle.node.specs.declared.order.LastOrder.the-variants as LastOrder
 use Rattle.node.specs.declared.record.Edge.{Edge}
 use Rattle.node.specs.declared.record.Node.{Node}
 use Rattle.node.specs.declared.record.NodeId.{NodeId}
 use Rattle.rank.specs.Order.{among, fed, released, walk, order, whole, count-up}
-use Rattle.order.specs.Live.{risingFrom, liveNodes, liveIds, processingOrder}
-use Rattle.order.specs.Required.{any, lacks, lacking}
-use Rattle.order.specs.Prepare.{prepare}
+use Rattle.prepare.specs.Live.{risingFrom, liveNodes, liveIds, processingOrder}
+use Rattle.prepare.specs.Required.{any, lacks, lacking}
+use Rattle.prepare.specs.Prepare.{prepare}
 use Rattle.graph.specs.View.{GraphView}
 use Rattle.scheduler.specs.declared.event.Event.{Event}
 use Rattle.voice.specs.Steals.{StealLog, recordOf}
@@ -183,10 +183,10 @@ abbrev pub v4 : Voice
 v4 = spawned toneDef 4 3 0 2 3 12 1 12 false Tracked
 
 abbrev valueAt : Event
-valueAt = record { time = 3; voice = voice 2; name = name "cut"; action = Action.Value (float 9) }
+valueAt = record { time = 3; voice = voice 2; name = name "cut"; action = EventAction.Value (float 9) }
 
 abbrev freeAt : Event
-freeAt = record { time = 9; voice = voice 3; name = nameOf []; action = Action.Free }
+freeAt = record { time = 9; voice = voice 3; name = nameOf []; action = EventAction.Free }
 
 -- ---- the calls: host nodes and wiring, a silent render, three spawns, orders, events; prepare, a sounding render, a report
 abbrev spawnKey : Call
@@ -201,7 +201,7 @@ set w s o = call.order (voice w) (bytes s) o
 abbrev calls : List Call
 calls =
     call.addNode (bytes "Fx") 2 2 false true ∷ call.addNode (bytes "Bus") 4 0 true false ∷ wire 1 0 1 ∷ sink 0 ∷ render ∷ spawnKey ∷ spawnKeyLoose ∷ spawn 1
-    ∷ set 1 "cut" (value 7) ∷ set 1 "rate" (glide 3 5) ∷ call.schedule 9 (voice 3) [] Action.Free ∷ call.schedule 3 (voice 2) (bytes "cut") (Action.Value (float 9))
+    ∷ set 1 "cut" (value 7) ∷ set 1 "rate" (glide 3 5) ∷ call.schedule 9 (voice 3) [] EventAction.Free ∷ call.schedule 3 (voice 2) (bytes "cut") (EventAction.Value (float 9))
     ∷ call.prepare ∷ render ∷ sounds 4 3 ∷ []
 
 abbrev opened : Model
@@ -301,10 +301,10 @@ hosts :
     Same
     (further
     (call.addNode (bytes "Out") 1 1 true true ∷ wire 13 1 2 ∷ sink 1 ∷ call.disconnect (id 1) 3 ∷ call.removeNode (id 0)
-    ∷ call.schedule 5 (voice 4) (bytes "cut") (Action.Gate (float 1)) ∷ []) (heard key1))
+    ∷ call.schedule 5 (voice 4) (bytes "cut") (EventAction.Gate (float 1)) ∷ []) (heard key1))
     (store
     (graph (bus 4 ∷ voice1 key1 ++ (voice2 LastOrder.Nothing ++ (tone 10 3 ∷ fade1 ∷ tone 12 4 ∷ new 13 0 "Out" 1 1 true true ∷ [])))
     (edges1 ++ (edges2 ++ (edge 6 11 0 ∷ edge 11 1 0 ∷ edge 13 1 2 ∷ []))) (some (id 1)) false (2 ∷ 3 ∷ 5 ∷ 7 ∷ 8 ∷ 10 ∷ 12 ∷ 4 ∷ 9 ∷ 6 ∷ 11 ∷ 1 ∷ 0 ∷ []) 14)
-    (valueAt ∷ record { time = 5; voice = voice 4; name = name "cut"; action = Action.Gate (float 1) } ∷ freeAt ∷ []) one 3 4 (v1 (fades 1) ∷ v2 ∷ v3 ∷ v4 ∷ []))
+    (valueAt ∷ record { time = 5; voice = voice 4; name = name "cut"; action = EventAction.Gate (float 1) } ∷ freeAt ∷ []) one 3 4 (v1 (fades 1) ∷ v2 ∷ v3 ∷ v4 ∷ []))
 unfolding eq levelOf squares rootOf sqrt narrow add mul div ofInt ofBits silencePassThrough rules prepare processingOrder lacking lacks any liveIds liveNodes risingFrom whole order walk released fed among count-up settled
 hosts = record { config = refl; graph = refl; events = refl; steals = refl; clock = refl; spawned = refl; voices = refl }

@@ -10,7 +10,7 @@ use lib.IntN.{ℤ}
 use lib.Ieee.{Float}
 use Rattle.lists.specs.Find.{find}
 use Rattle.node.specs.Name.{nameOf}
-use Rattle.node.specs.declared.order.Action.{Action}
+use Rattle.node.specs.declared.order.EventAction.{EventAction}
 use Rattle.node.specs.declared.order.LastOrder.{LastOrder}
 use Rattle.node.specs.declared.record.Node.{Node}
 use Rattle.node.specs.declared.record.NodeId.{NodeId}
@@ -23,8 +23,8 @@ use Rattle.graph.specs.View.{GraphView}
 use Rattle.graph.specs.Node.{nodeAt, hostNode}
 use Rattle.graph.specs.Change as change
 use Rattle.graph.specs.Refuse.{addRefusal, hostRefusal, disconnectRefusal, connectRefusal, when}
-use Rattle.order.specs.declared.Readiness.{Readiness}
-use Rattle.order.specs.declared.Readiness.the-variants as Readiness
+use Rattle.prepare.specs.declared.Readiness.{Readiness}
+use Rattle.prepare.specs.declared.Readiness.the-variants as Readiness
 use Rattle.scheduler.specs.Replace.{thinned}
 use Rattle.scheduler.specs.Queue.{full, replacing}
 use Rattle.scheduler.specs.declared.event.Event.{Event}
@@ -94,7 +94,7 @@ pub data Call : Type 0 where
   clear : Call
   -- a value or a glide
   order : VoiceId → List ℕ → LastOrder → Call
-  schedule : ℕ → VoiceId → List ℕ → Action → Call
+  schedule : ℕ → VoiceId → List ℕ → EventAction → Call
   report : NodeId → ℕ → List Float → Bool → Call
   prepare : Call
   -- what became of its events goes into a lent list, which holds these entries
@@ -158,7 +158,7 @@ abbrev pub positionIn : Option Voice → Option ℕ
 positionIn none = none
 positionIn (some v) = positionOf (v .state)
 
-abbrev pub event : ℕ → VoiceId → List ℕ → Action → Event
+abbrev pub event : ℕ → VoiceId → List ℕ → EventAction → Event
 event t w name a = record { time = t; voice = w; name = nameOf name; action = a }
 
 -- 7 "event table full"; 02, Paper 9: "Freed queue places count before refusal 7"

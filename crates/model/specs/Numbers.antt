@@ -8,8 +8,8 @@ use Rattle.node.specs.Refusal.{Said, refused, gives, numberOf}
 use Rattle.node.specs.declared.record.NodeId.{NodeId}
 use Rattle.node.specs.declared.record.VoiceId.{VoiceId}
 use Rattle.node.specs.declared.refusal.Refusal.the-variants.{Rejected}
-use Rattle.order.specs.declared.Readiness.{Readiness}
-use Rattle.order.specs.declared.Readiness.the-variants as readiness
+use Rattle.prepare.specs.declared.Readiness.{Readiness}
+use Rattle.prepare.specs.declared.Readiness.the-variants as readiness
 use Rattle.graph.specs.declared.state.Answer as graph
 use Rattle.graph.specs.declared.state.Answer.the-variants as answer
 use Rattle.graph.specs.declared.state.AddAnswer.{AddAnswer}

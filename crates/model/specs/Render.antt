@@ -5,14 +5,14 @@ use mathlib.Core.Option.{Option, none}
 use mathlib.Core.Bool.{Bool, true, false, _||_, cond}
 use lib.Dec.{ltb}
 use Rattle.lists.specs.Find.{find}
-use Rattle.node.specs.declared.order.Action.{Action}
-use Rattle.node.specs.declared.order.Action.the-variants as Action
+use Rattle.node.specs.declared.order.EventAction.{EventAction}
+use Rattle.node.specs.declared.order.EventAction.the-variants as EventAction
 use Rattle.node.specs.declared.record.NodeId.{NodeId}
 use Rattle.node.specs.declared.refusal.Refusal.{Refusal}
 use Rattle.node.specs.declared.refusal.Refusal.the-variants.{ClockEnd, ShortBuffer}
-use Rattle.order.specs.Prepare as graph
-use Rattle.order.specs.declared.Readiness.{Readiness}
-use Rattle.order.specs.declared.Readiness.the-variants.{Ready, Refused}
+use Rattle.prepare.specs.Prepare as graph
+use Rattle.prepare.specs.declared.Readiness.{Readiness}
+use Rattle.prepare.specs.declared.Readiness.the-variants.{Ready, Refused}
 use Rattle.scheduler.specs.Event.{paramOrder}
 use Rattle.scheduler.specs.Queue.{takenBefore, leftAfter}
 use Rattle.scheduler.specs.declared.event.Event.{Event}
@@ -39,11 +39,11 @@ abbrev pub prepareShared : SharedState → SharedState
 prepareShared d = readyShared (prepareOutcome d .answer) (prepareOutcome d .order) d
 
 -- ---- events: "a free, known or not, prepares inside the render"
-abbrev pub isFree : Action → Bool
-isFree (Action.Value x) = false
-isFree (Action.Glide target seconds shape space) = false
-isFree (Action.Gate x) = false
-isFree Action.Free = true
+abbrev pub isFree : EventAction → Bool
+isFree (EventAction.Value x) = false
+isFree (EventAction.Glide target seconds shape space) = false
+isFree (EventAction.Gate x) = false
+isFree EventAction.Free = true
 
 abbrev pub anyFree : List Event → Bool
 anyFree [] = false

@@ -8,7 +8,7 @@ use lib.IntN.{pos}
 use lib.Ieee.{Float, inf, fin}
 use lib.ListN.{replicate, length}
 use Rattle.node.specs.Silence.{name, bytes}
-use Rattle.node.specs.declared.order.Action.the-variants as Action
+use Rattle.node.specs.declared.order.EventAction.the-variants as EventAction
 use Rattle.node.specs.declared.order.GlideShape.the-variants.{Linear}
 use Rattle.node.specs.declared.order.GlideSpace.the-variants.{Raw}
 use Rattle.node.specs.declared.order.LastOrder.{LastOrder}
@@ -151,7 +151,7 @@ abbrev pub render : Call
 render = call.render (replicate 256 7)
 
 abbrev pub timedFree : ℕ → ℕ → Call
-timedFree t w = call.schedule t (voice w) [] Action.Free
+timedFree t w = call.schedule t (voice w) [] EventAction.Free
 
 -- ---- answers
 abbrev pub spawned : ℕ → Answer

@@ -9,6 +9,23 @@ use Rattle.node.specs.declared.record.NodeId.{NodeId}
 use Rattle.node.specs.declared.record.VoiceId.{VoiceId}
 use Rattle.node.specs.declared.record.Node.{Node}
 
+-- a node of which only these parts ever change: the rest is that of n
+abbrev pub changed : NodeId → VoiceId → Bool → Float → LastOrder → ℕ → Node → Node
+changed id owner done level last noise n =
+    record {
+      id = id;
+      owner = owner;
+      kind = n .kind;
+      ports = n .ports;
+      required = n .required;
+      «takes_values» = n .«takes_values»;
+      «takes_glides» = n .«takes_glides»;
+      done = done;
+      level = level;
+      last = last;
+      noise = noise;
+    }
+
 -- the done flag "is clear in a new node", "before any report" the level is 0, no order was taken, and the noise sequence of a bus is counted "from 0"
 abbrev pub newNode : NodeId → VoiceId → Name → ℕ → ℕ → Bool → Bool → Node
 newNode id owner kind ports required values glides =
@@ -27,84 +44,19 @@ newNode id owner kind ports required values glides =
     }
 
 abbrev pub withId : ℕ → Node → Node
-withId k n =
-    record {
-      id = record { 0 = k };
-      owner = n .owner;
-      kind = n .kind;
-      ports = n .ports;
-      required = n .required;
-      «takes_values» = n .«takes_values»;
-      «takes_glides» = n .«takes_glides»;
-      done = n .done;
-      level = n .level;
-      last = n .last;
-      noise = n .noise;
-    }
+withId k n = changed (record { 0 = k }) (n .owner) (n .done) (n .level) (n .last) (n .noise) n
 
 abbrev pub withOwner : VoiceId → Node → Node
-withOwner w n =
-    record {
-      id = n .id;
-      owner = w;
-      kind = n .kind;
-      ports = n .ports;
-      required = n .required;
-      «takes_values» = n .«takes_values»;
-      «takes_glides» = n .«takes_glides»;
-      done = n .done;
-      level = n .level;
-      last = n .last;
-      noise = n .noise;
-    }
+withOwner w n = changed (n .id) w (n .done) (n .level) (n .last) (n .noise) n
 
 -- a value or a glide becomes the last order
 abbrev pub withLast : LastOrder → Node → Node
-withLast o n =
-    record {
-      id = n .id;
-      owner = n .owner;
-      kind = n .kind;
-      ports = n .ports;
-      required = n .required;
-      «takes_values» = n .«takes_values»;
-      «takes_glides» = n .«takes_glides»;
-      done = n .done;
-      level = n .level;
-      last = o;
-      noise = n .noise;
-    }
+withLast o n = changed (n .id) (n .owner) (n .done) (n .level) o (n .noise) n
 
 -- a report: the level of its block, and the done flag
 abbrev pub reported : Float → Bool → Node → Node
-reported level done n =
-    record {
-      id = n .id;
-      owner = n .owner;
-      kind = n .kind;
-      ports = n .ports;
-      required = n .required;
-      «takes_values» = n .«takes_values»;
-      «takes_glides» = n .«takes_glides»;
-      done = done;
-      level = level;
-      last = n .last;
-      noise = n .noise;
-    }
+reported level done n = changed (n .id) (n .owner) done level (n .last) (n .noise) n
 
 -- the next number of the noise sequence is k
 abbrev pub withNoise : ℕ → Node → Node
-withNoise k n =
-    record {
-      id = n .id;
-      owner = n .owner;
-      kind = n .kind;
-      ports = n .ports;
-      required = n .required;
-      «takes_values» = n .«takes_values»;
-      «takes_glides» = n .«takes_glides»;
-      done = n .done;
-      level = n .level;
-      last = n .last;
-      noise = k;
-    }
+withNoise k n = changed (n .id) (n .owner) (n .done) (n .level) (n .last) k n

@@ -27,7 +27,7 @@ pub enum LastOrder {
 }
 
 // What an event does to its voice. The parameter's name stands beside it: an enum holds no array.
-pub enum Action {
+pub enum EventAction {
     Value(f32),
     Glide {
         target: f32,

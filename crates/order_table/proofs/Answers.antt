@@ -17,13 +17,13 @@ use Rattle.rank.specs.Parts.{Ranked}
 use Rattle.rank.specs.declared.Ranking.{Ranking}
 use Rattle.graph_rows.specs.Node.{nodesIn}
 use Rattle.graph_rows.specs.Edge.{edgeOf, edgesIn}
-use Rattle.order.specs.declared.Readiness.the-variants.{Ready, Refused}
-use Rattle.order.specs.Live.{liveIds, arcOf, asId, processingOrder}
-use Rattle.order.specs.Required.{lacking}
-use Rattle.order.specs.Prepare.{prepare}
-use Rattle.order.specs.Parts.{Lived, Ends, RowsIn, rowsLack}
-use Rattle.order.proofs.Graph.{many-live, rows-in, whole-is, ordered, many-ordered, lacking-is}
-use Rattle.order.proofs.Rises.{live-few}
+use Rattle.prepare.specs.declared.Readiness.the-variants.{Ready, Refused}
+use Rattle.prepare.specs.Live.{liveIds, arcOf, asId, processingOrder}
+use Rattle.prepare.specs.Required.{lacking}
+use Rattle.prepare.specs.Prepare.{prepare}
+use Rattle.prepare.specs.Parts.{Lived, Ends, RowsIn, rowsLack}
+use Rattle.prepare.proofs.Graph.{many-live, rows-in, whole-is, ordered, many-ordered, lacking-is}
+use Rattle.prepare.proofs.Rises.{live-few}
 use Rattle.order_table.specs.Prepares.{idsIn, Prepares, Lacks}
 
 module _ (nodes : List Node) (edges : List Edge) (old : List ℕ) where

@@ -10,8 +10,8 @@ use lib.ListN.{length, getD, set, replicate, length-append, length-map}
 use lib.Seq.{getD-append-add, set-append-left}
 use borrow.Author.Tests.{eq-eqb}
 use Rattle.rank.specs.Order.{count-up, upto}
-use Rattle.order.specs.Required.{any, bit}
-use Rattle.order.specs.Parts.{portsLack}
+use Rattle.prepare.specs.Required.{any, bit}
+use Rattle.prepare.specs.Parts.{portsLack}
 use Rattle.order_table.specs.Masks.{portsIn, maskLacks, WithPort}
 
 -- ---- one mask

@@ -4,7 +4,7 @@ use mathlib.Core.Path.{_≡_}
 use mathlib.Core.List.{List, [], _∷_, _++_, map}
 use mathlib.Core.Bool.{Bool, true, not, _&&_}
 use Rattle.rank.specs.Order.{upto}
-use Rattle.order.specs.Required.{any, bit}
+use Rattle.prepare.specs.Required.{any, bit}
 
 -- the flags of all ports of the rows, 64 to a row
 unfoldable pub portsIn : List ℕ → List Bool

@@ -1,4 +1,4 @@
--- What prepare promises on the lent tables. What its parts compute stands in crate order (specs/Parts).
+-- What prepare promises on the lent tables. What its parts compute stands in crate prepare (specs/Parts).
 use Prim.Native.Nat.{ℕ}
 use mathlib.Core.Path.{_≡_}
 use mathlib.Core.List.{List, map}
@@ -8,10 +8,10 @@ use Rattle.node.specs.declared.record.NodeId.{NodeId}
 use Rattle.node.specs.declared.record.Edge.{Edge}
 use Rattle.node.specs.declared.refusal.Refusal.{Refusal}
 use Rattle.words.specs.Place.{Holds}
-use Rattle.order.specs.declared.Readiness.the-variants.{Refused}
-use Rattle.order.specs.Live.{asId}
-use Rattle.order.specs.Prepare.{prepare}
-use Rattle.order.specs.Parts.{Plugged, rowsLack}
+use Rattle.prepare.specs.declared.Readiness.the-variants.{Refused}
+use Rattle.prepare.specs.Live.{asId}
+use Rattle.prepare.specs.Prepare.{prepare}
+use Rattle.prepare.specs.Parts.{Plugged, rowsLack}
 use Rattle.order_table.specs.declared.Prepared.{Prepared}
 
 -- the node ids in the order table

@@ -9,9 +9,9 @@ use Rattle.node.specs.Name.{nameOf}
 use Rattle.synthdef.specs.Plan.{settled}
 use Rattle.synthdef.specs.declared.def.SynthDef.{SynthDef}
 use Rattle.rank.specs.Order.{among, fed, released, walk, order, whole, count-up}
-use Rattle.order.specs.Live.{risingFrom, liveNodes, liveIds, processingOrder}
-use Rattle.order.specs.Required.{any, lacks, lacking}
-use Rattle.order.specs.Prepare.{prepare}
+use Rattle.prepare.specs.Live.{risingFrom, liveNodes, liveIds, processingOrder}
+use Rattle.prepare.specs.Required.{any, lacks, lacking}
+use Rattle.prepare.specs.Prepare.{prepare}
 use Rattle.model.specs.Voice.{id}
 use Rattle.model.specs.Make.{newModel}
 use Rattle.model.specs.Call.{Call, Ran, run}

@@ -4,7 +4,7 @@ use mathlib.Core.List.{List, [], _∷_}
 use mathlib.Core.Bool.{false}
 use lib.ListN.{replicate}
 use Rattle.node.specs.Silence.{bytes}
-use Rattle.node.specs.declared.order.Action.the-variants as Action
+use Rattle.node.specs.declared.order.EventAction.the-variants as EventAction
 use Rattle.graph.specs.View.{GraphView}
 use Rattle.synthdef.specs.declared.def.SynthDef.{SynthDef}
 use Rattle.model.specs.SharedState.{withGraph, withClock}
@@ -27,7 +27,7 @@ feeder node port = call.addNode (bytes "Oscillator") 0 0 false false ∷ wire no
 
 -- a free of voice 1 at 1000, scheduled so many times
 abbrev pub timed : Call
-timed = call.schedule 1000 (voice 1) [] Action.Free
+timed = call.schedule 1000 (voice 1) [] EventAction.Free
 
 unfoldable pub waiting : ℕ → List Call
 waiting n = replicate n timed

@@ -1,9 +1,9 @@
 // The other stores that the examples' calls meet.
 use crate::tone;
-use piecrag::Action;
 use piecrag::Budget;
 use piecrag::BudgetScope;
 use piecrag::EdgeTable;
+use piecrag::EventAction;
 use piecrag::EventTable;
 use piecrag::NodeId;
 use piecrag::NodeTable;
@@ -82,7 +82,7 @@ pub fn with_events(s: State, events: &mut EventTable, count: usize) -> State
     let mut t = s;
     let mut i: usize = 0;
     while i < count {
-        let served = schedule(t, events, 1000, VoiceId(1), b"", Action::Free);
+        let served = schedule(t, events, 1000, VoiceId(1), b"", EventAction::Free);
         t = served.state;
         i += 1;
     }

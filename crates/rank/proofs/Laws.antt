@@ -1,5 +1,5 @@
 -- The laws by which the proofs of this crate go.
-use Prim.Native.Nat.{ℕ, zero, suc, _+_, _-_, _≤_, _<_, min}
+use Prim.Native.Nat.{ℕ, zero, suc, _+_, _≤_, _<_, min}
 use native.Mathlib.Omega.{arith}
 use native.Mathlib.Nat.{not-suc-le-zero, add-zero, zero-add, le-refl}
 use native.Mathlib.Numerals.{add-one}
@@ -14,7 +14,7 @@ use lib.Seq.{getD-take, length-take-le, getD-set-same, getD-set-other, ext-getD,
 use Rattle.lists.specs.Count.{more}
 use Rattle.lists.proofs.Table.{left-row}
 use Rattle.rank.specs.Order.{Arc, arc, arcs}
-use Rattle.rank.specs.Parts.{indeg, degs, ready, start}
+use Rattle.rank.specs.Parts.{indeg, degs, ready}
 use Rattle.rank.specs.Parts.{find, none, fromAt}
 
 -- ---- arcs given by their sources and their targets
@@ -130,7 +130,7 @@ module _ (es : List Arc) (i : ℕ) (e : Arc) (dr : drop i es ≡ e ∷ drop (i +
   find-past v o = rw (dr, ne-eqb (e .from) v o, add-one)
 
   module _ (first next : List ℕ) (n : ℕ) (fr : fromAt es i ≡ e .from) (inv : Chain first next n es (i + 1)) where
-    pub chain-skip : n ≤ e .from → Chain first next n es i
+    chain-skip : n ≤ e .from → Chain first next n es i
     chain-skip h = (
       inv .0,
       inv .1,
@@ -142,7 +142,7 @@ module _ (es : List Arc) (i : ℕ) (e : Arc) (dr : drop i es ≡ e ∷ drop (i +
         go j le lt f (yes s) = let q : fromAt es i < n = rw s at f in absurd (omega arith)
         go j le lt f (no o) = inv .3 j (omega arith) lt f
 
-    pub chain-link : e .from < n → n ≤ 512 → i < 1024 → Chain (set first (e .from) i) (set next i (getD first (e .from) 0)) n es i
+    chain-link : e .from < n → n ≤ 512 → i < 1024 → Chain (set first (e .from) i) (set next i (getD first (e .from) 0)) n es i
     chain-link h hn hi = (
       length-set first (e .from) i ∙ inv .0,
       length-set next i (getD first (e .from) 0) ∙ inv .1,
@@ -163,6 +163,17 @@ module _ (es : List Arc) (i : ℕ) (e : Arc) (dr : drop i es ≡ e ∷ drop (i +
             let q : i < length next = omega arith in
             rw (s, getD-set-same next i (getD first (e .from) 0) 0 q, fr) (inv .2 (e .from) h)
         go₂ j le lt f (no o) = getD-set-other next i j (getD first (e .from) 0) 0 o ∙ inv .3 j (omega arith) lt f
+
+-- of the first m arcs from fs to ts, the arc at i before those that are linked
+module _ (fs ts : List ℕ) (m : ℕ) (hf : m ≤ length fs) (ht : m ≤ length ts) (i : ℕ) (h : i < m) (first next : List ℕ) (n : ℕ) (inv : Chain first next n (take m (arcs fs ts)) (i + 1)) where
+  from-at : fromAt (take m (arcs fs ts)) i ≡ getD fs i 0
+  from-at = ap (λ (x : Arc). x .from) (arc-at fs ts m hf ht i h)
+
+  pub arc-skip : n ≤ getD fs i 0 → Chain first next n (take m (arcs fs ts)) i
+  arc-skip = chain-skip (take m (arcs fs ts)) i (arc (getD fs i 0) (getD ts i 0)) (next-arc fs ts m hf ht i h) first next n from-at inv
+
+  pub arc-link : getD fs i 0 < n → n ≤ 512 → i < 1024 → Chain (set first (getD fs i 0) i) (set next i (getD first (getD fs i 0) 0)) n (take m (arcs fs ts)) i
+  arc-link = chain-link (take m (arcs fs ts)) i (arc (getD fs i 0) (getD ts i 0)) (next-arc fs ts m hf ht i h) first next n from-at inv
 
 pub chain-start : (n m : ℕ) (rows : List Arc) → n ≤ 512 → m ≤ length rows → Chain (replicate 512 m) (replicate 1024 m) n (take m rows) m
 unfolding find

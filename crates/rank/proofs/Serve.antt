@@ -14,10 +14,11 @@ use lib.ListN.{length, take, drop, getD, set, length-set, List·getD-eq-default}
 use lib.Seq.{getD-take, length-take-le, getD-set-same, getD-set-other, drop-drop, drop-nil, take-suc-set, take-set-lt, set-getD}
 use Rattle.lists.specs.Count.{more}
 use Rattle.lists.specs.Filter.{put?}
-use Rattle.rank.specs.Order.{Arc}
+use Rattle.rank.specs.Order.{Arc, arc, arcs}
 use Rattle.rank.specs.Parts.{ready, St, fall, pickSt, serve, run, orderRows, start}
 use Rattle.rank.specs.declared.Queue.{Queue}
 use Rattle.rank.specs.Parts.{find, fromAt, Degrees, Ready, Linked}
+use Rattle.rank.proofs.Laws.{many-arcs, arc-at, next-arc}
 
 -- ---- how many counts are 0
 unfoldable pub zeros : List ℕ → ℕ
@@ -256,22 +257,27 @@ module _ (n : ℕ) (counts : List ℕ) (o : Queue) (es : List Arc) (hn : n ≤ 5
   unfolding orderRows start
   run-start = rw (sub-zero, r .is, d .is)
 
--- the next edge of v
-module _ (v e n : ℕ) (es : List Arc) (first next : List ℕ) (lk : Linked first next n es) (vn : v < n) (le : e < length es)
-    (r : Arc) (dr : drop e es ≡ r ∷ drop (e + 1) es) (fr : fromAt es e ≡ r .from) (f : find v (drop e es) e ≡ e) where
-  pub next-is : getD next e 0 ≡ find v (drop (e + 1) es) (e + 1)
+-- the next arc of v, among the first m from fs to ts
+module _ (fs ts : List ℕ) (m : ℕ) (hf : m ≤ length fs) (ht : m ≤ length ts) (v e n : ℕ) (first next : List ℕ) (lk : Linked first next n (take m (arcs fs ts)))
+    (vn : v < n) (he : e < m) (f : find v (drop e (take m (arcs fs ts))) e ≡ e) where
+  next-is : getD next e 0 ≡ find v (drop (e + 1) (take m (arcs fs ts))) (e + 1)
   next-is =
-      let w : fromAt es e ≡ v = fr ∙ its-own v es e r dr f in
+      let es = take m (arcs fs ts) in
+      let le : e < length es = rw (many-arcs fs ts m hf ht) he in
+      let fr : fromAt es e ≡ getD fs e 0 = ap (λ (x : Arc). x .from) (arc-at fs ts m hf ht e he) in
+      let w : fromAt es e ≡ v = fr ∙ its-own v es e (arc (getD fs e 0) (getD ts e 0)) (next-arc fs ts m hf ht e he) f in
       lk .nexts e le (rw w vn) ∙ ap (λ (k : ℕ). find k (drop (e + 1) es) (e + 1)) w
 
   pub next-more : e < getD next e 0
-  next-more = omega (arith, next-is, find-ge v (drop (e + 1) es) (e + 1))
+  next-more = omega (arith, next-is, find-ge v (drop (e + 1) (take m (arcs fs ts))) (e + 1))
 
-  pub next-found : find v (drop (getD next e 0) es) (getD next e 0) ≡ getD next e 0
-  next-found = rw next-is (find-again v es (e + 1))
+  pub next-found : find v (drop (getD next e 0) (take m (arcs fs ts))) (getD next e 0) ≡ getD next e 0
+  next-found = rw next-is (find-again v (take m (arcs fs ts)) (e + 1))
 
-  pub next-serve : (s s' : St) → s' ≡ fall (r .to) s → serve v (drop (getD next e 0) es) s' ≡ serve v (drop e es) s
-  next-serve s s' q = rw (next-is, q) (sym (serve-one v es e r dr f s ∙ serve-skip v es (e + 1) (fall (r .to) s)))
+  pub next-serve : (s s' : St) → s' ≡ fall (getD ts e 0) s → serve v (drop (getD next e 0) (take m (arcs fs ts))) s' ≡ serve v (drop e (take m (arcs fs ts))) s
+  next-serve s s' q =
+      let es = take m (arcs fs ts) in
+      rw (next-is, q) (sym (serve-one v es e (arc (getD fs e 0) (getD ts e 0)) (next-arc fs ts m hf ht e he) f s ∙ serve-skip v es (e + 1) (fall (getD ts e 0) s)))
 
 -- the next of the queue
 pub next-run : (n h : ℕ) (es : List Arc) (s s' : St) → h < length (s .queue) → h < n → s' ≡ serve (getD (s .queue) h 0) es s

@@ -38,7 +38,7 @@ use Rattle.call_param.proofs.param.set_voice_param.Reads as fn-set-param
 use Rattle.call_param.proofs.param.set_voice_param_glide.Reads as fn-set-param-glide
 use Rattle.call_host.proofs.schedule.schedule.Reads as fn-schedule
 use Rattle.call_report.proofs.report.report.Reads as fn-report
-use Rattle.call_host.proofs.prepare.prepare.Reads as fn-prepare
+use Rattle.call_host.proofs.preparing.prepare.Reads as fn-prepare
 use Rattle.call_render.proofs.render.render.Reads as fn-render
 use Rattle.call_read.proofs.look.voice_level.Reads as fn-voice-level
 use Rattle.call_read.proofs.look.fade_position.Reads as fn-fade-position

@@ -10,8 +10,8 @@ use mathlib.Core.Bool.{Bool, true, false, _&&_, _||_, not, cond, false≢true, t
 use lib.Dec.{eqb}
 use borrow.Author.Tests.{eqb-true, eqb-false, eq-eqb, ne-eqb, not-true}
 use Rattle.node.specs.declared.name.Name.{Name}
-use Rattle.node.specs.declared.order.Action.{Action}
-use Rattle.node.specs.declared.order.Action.the-variants as action
+use Rattle.node.specs.declared.order.EventAction.{EventAction}
+use Rattle.node.specs.declared.order.EventAction.the-variants as action
 use Rattle.node.specs.declared.order.LastOrder.{LastOrder}
 use Rattle.node.specs.declared.order.LastOrder.the-variants as order
 use Rattle.node.specs.declared.record.NodeId.{NodeId}
@@ -33,7 +33,8 @@ use Rattle.node.specs.Name.{named, text, sameBytes, sameName}
 use Rattle.edges.specs.Wiring.{among, dropTouching}
 use Rattle.graph.specs.Node.{isNode, ownedBy, nodeAt, replaced}
 use Rattle.scheduler.specs.Event.{orderOf, paramOf, paramOrder}
-use Rattle.scheduler.specs.Replace.{replaces, sameSort}
+use Rattle.scheduler.specs.Replace.{sameSort}
+use Rattle.scheduler.proofs.ReplaceLaws.{Tested, tested}
 use Rattle.synthdef.specs.Tables.{paramRows}
 use Rattle.synthdef.specs.Params.{called, paramNode}
 use Rattle.model.specs.SharedState.{withGraph}
@@ -265,7 +266,7 @@ same-called a b h x =
 same-param : (ps : List Param) (a b : Name) → sameName a b ≡ true → paramNode ps a ≡ paramNode ps b
 same-param ps a b h = ap (mapO (λ p. p .node)) (find-same (called a) (called b) ps (λ p i. same-called a b h (p .name)))
 
-same-takes : (a b : Action) → sameSort a b ≡ true → (n : Node) → takes (orderOf a) n ≡ takes (orderOf b) n
+same-takes : (a b : EventAction) → sameSort a b ≡ true → (n : Node) → takes (orderOf a) n ≡ takes (orderOf b) n
 same-takes (action.Value x) (action.Value y) h n = refl
 same-takes (action.Value x) (action.Glide t s c r) h n = absurd (false≢true h)
 same-takes (action.Value x) (action.Gate y) h n = refl
@@ -280,7 +281,7 @@ same-takes (action.Gate x) (action.Gate y) h n = refl
 same-takes (action.Gate x) action.Free h n = absurd (false≢true h)
 same-takes action.Free b h n = absurd (false≢true h)
 
-no-free : (a b : Action) → sameSort a b ≡ true → (isFree a ≡ false) × (isFree b ≡ false)
+no-free : (a b : EventAction) → sameSort a b ≡ true → (isFree a ≡ false) × (isFree b ≡ false)
 no-free (action.Value x) (action.Value y) h = (refl, refl)
 no-free (action.Value x) (action.Glide t s c r) h = (refl, refl)
 no-free (action.Value x) (action.Gate y) h = (refl, refl)
@@ -295,23 +296,7 @@ no-free (action.Gate x) (action.Gate y) h = (refl, refl)
 no-free (action.Gate x) action.Free h = absurd (false≢true h)
 no-free action.Free b h = absurd (false≢true h)
 
-pub record Alike (e f : Event) : Type 0 where
-  pub time : e .time ≡ f .time
-  pub voice : e .voice .0 ≡ f .voice .0
-  pub sort : sameSort (e .action) (f .action) ≡ true
-  pub name : sameName (paramOf (e .action) (e .name)) (paramOf (f .action) (f .name)) ≡ true
-
-pub alike : (e f : Event) → replaces e f ≡ true → Alike e f
-alike e f h =
-    let a = eqb (e .time) (f .time) in
-    let b = eqb (e .voice .0) (f .voice .0) in
-    let c = sameSort (e .action) (f .action) in
-    let d = sameName (paramOf (e .action) (e .name)) (paramOf (f .action) (f .name)) in
-    let r₁ = and-right a (b && (c && d)) h in
-    let r₂ = and-right b (c && d) r₁ in
-    record { time = eqb-true _ _ (and-left a (b && (c && d)) h); voice = eqb-true _ _ (and-left b (c && d) r₁); sort = and-left c d r₂; name = and-right c d r₂ }
-
-aim-same : (f e : Event) (m : Model) → Alike f e → aim f m ≡ aim e m
+aim-same : (f e : Event) (m : Model) → Tested f e → aim f m ≡ aim e m
 aim-same f e m l =
     ap (λ w. aimVoice (find (λ v. eqb (v .id .0) w) (m .voices)) (paramOf (f .action) (f .name)) (orderOf (f .action)) ns) (l .voice)
     ∙ voice (find (isVoice (e .voice)) (m .voices))
@@ -437,7 +422,7 @@ module _ (e : Event) (o : LastOrder) (k : ℕ) where
   again : (q : List Event) (m : Model) → Good m → aim e m ≡ some k → Superseded e q → applyEvents q (setAt k o m) ≡ applyEvents q m
   again [] m g h s = absurd s
   again (f ∷ q) m g h (inl r) =
-      let l = alike f e r in
+      let l = tested f e r in
       let free = no-free (f .action) (e .action) (l .sort) .0 in
       let a : aim f m ≡ some k = aim-same f e m l ∙ h in
       let u = orderOf (f .action) in
@@ -485,7 +470,7 @@ module _ (e : Event) (o : LastOrder) (k : ℕ) where
 
 pub superseded-free : (e : Event) (q : List Event) → Superseded e q → isFree (e .action) ≡ false
 superseded-free e [] s = absurd s
-superseded-free e (f ∷ q) (inl r) = no-free (f .action) (e .action) (alike f e r .sort) .1
+superseded-free e (f ∷ q) (inl r) = no-free (f .action) (e .action) (tested f e r .sort) .1
 superseded-free e (f ∷ q) (inr s) = superseded-free e q s
 
 pub drop-same : (e : Event) (q : List Event) (m : Model) → Good m → Superseded e q → applyEvents q (applyEvent e m) ≡ applyEvents q m

@@ -6,24 +6,24 @@ use mathlib.Core.Path.{_≡_, refl, sym, ap, _∙_, subst}
 use mathlib.Core.Logic.{_⊎_, inl, inr, ⊎-elim}
 use mathlib.Core.List.{List, [], _∷_}
 use mathlib.Core.Bool.{Bool, true, false, _||_, not, false≢true}
-use borrow.Author.Tests.{eq-eqb, ltb-true, not-true}
-use Rattle.node.specs.declared.order.Action.{Action}
-use Rattle.node.specs.declared.order.Action.the-variants as action
+use borrow.Author.Tests.{ltb-true, not-true}
+use Rattle.node.specs.declared.order.EventAction.{EventAction}
+use Rattle.node.specs.declared.order.EventAction.the-variants as action
 use Rattle.scheduler.specs.declared.event.Event.{Event}
 use Rattle.lists.specs.Member.{In}
-use Rattle.lists.proofs.Member.{both}
 use Rattle.lists.specs.Filter.{put?, filter}
 use Rattle.lists.proofs.Filter.{in-filter}
 use Rattle.scheduler.specs.Event.{paramOf}
 use Rattle.scheduler.specs.Queue.{later, before?, inserted, replacing}
 use Rattle.scheduler.proofs.Sorted.{Sorted, keep-sorted}
 use Rattle.scheduler.specs.Replace.{replaces, sameSort, thinned}
+use Rattle.scheduler.proofs.ReplaceLaws.{tested, tests-pass}
 use Rattle.replaced.specs.Kept.{overtaken, lasts}
 use Rattle.replaced.proofs.Thin.{Superseded, Thinned, same-time, in-thinned}
-use Rattle.replaced.proofs.Happen.{Alike, alike, same-called}
+use Rattle.replaced.proofs.Happen.{same-called}
 
 -- ---- who replaces one that replaces a third replaces the third
-same-sort : (c a b : Action) → sameSort a b ≡ true → sameSort c a ≡ sameSort c b
+same-sort : (c a b : EventAction) → sameSort a b ≡ true → sameSort c a ≡ sameSort c b
 same-sort c (action.Value x) (action.Value y) h = refl
 same-sort c (action.Value x) (action.Glide t s u r) h = absurd (false≢true h)
 same-sort c (action.Value x) (action.Gate y) h = refl
@@ -38,16 +38,11 @@ same-sort c (action.Gate x) (action.Gate y) h = refl
 same-sort c (action.Gate x) action.Free h = absurd (false≢true h)
 same-sort c action.Free b h = absurd (false≢true h)
 
--- the four together are the rule: the paper's words, whatever the shape of `replaces`
-pub alike-replaces : (e f : Event) → Alike e f → replaces e f ≡ true
-alike-replaces e f l =
-    both _ _ (eq-eqb _ _ (l .time)) (both _ _ (eq-eqb _ _ (l .voice)) (both _ _ (l .sort) (l .name)))
-
 replaces-trans : (g f e : Event) → replaces g f ≡ true → replaces f e ≡ true → replaces g e ≡ true
 replaces-trans g f e h k =
-    let a = alike g f h in
-    let b = alike f e k in
-    alike-replaces g e
+    let a = tested g f h in
+    let b = tested f e k in
+    tests-pass g e
     (record {
       time = a .time ∙ b .time;
       voice = a .voice ∙ b .voice;

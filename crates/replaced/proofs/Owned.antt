@@ -12,7 +12,6 @@ use lib.Dec.{ltb}
 use borrow.Author.Tests.{ltb-true}
 use Rattle.node.specs.declared.name.Name.{Name}
 use Rattle.node.specs.declared.record.VoiceId.{VoiceId}
-use Rattle.node.specs.declared.refusal.Refusal.the-variants.{NoPort}
 use Rattle.synthdef.specs.declared.def.Param.{Param}
 use Rattle.synthdef.specs.declared.def.SynthDef.{SynthDef}
 use Rattle.store.specs.declared.voices.Voice.{Voice}
@@ -32,18 +31,17 @@ use Rattle.synthdef.specs.Params.{called, paramNode}
 use Rattle.synthdef.specs.Limits.{countsAllowed, nodeAllowed, edgeAllowed, paramAllowed, allowed}
 use Rattle.model.specs.Voice.{id, isVoice, withState, beginFade, moved}
 use Rattle.model.specs.Spawn.{Spawn, newVoice, stateUnder, tries, fadeOf}
-use Rattle.model.specs.Render.{isSounding}
 use Rattle.model.specs.Call.{Call}
-use Rattle.ledger.specs.Ledger.{Ledger, portFree, portHeld, stolen, stealVoice, instantiateOr, placeWithinBudget, refused}
-use Rattle.ledger.specs.Render.{oneMore, countedIf}
+use Rattle.ledger.specs.Ledger.{Ledger, portHeld, stolen, stealVoice, placeWithinBudget}
+use Rattle.ledger.specs.Render.{oneMore}
 use Rattle.ledger.specs.Call.{step}
 use Rattle.ledger.proofs.Allowed.{spawn-allowed}
-use Rattle.ledger.proofs.Preserved.{place-kept, Preserves, both-steady, kept-step}
+use Rattle.ledger.proofs.Preserved.{place-kept, Preserves, calm-spawn, both-steady, kept-step}
 use Rattle.ledger.proofs.Managed.{IdsOf, managed-kept, ids-steady, ids-settle, ids-steal}
 use Rattle.ledger.proofs.Owner.{once}
 use Rattle.ledger.proofs.Abstraction.{modelOf, stored}
 use Rattle.ledger.proofs.Nodes.{OwnNodes}
-use Rattle.ledger.proofs.Simulation.{Kept}
+use Rattle.ledger.proofs.Simulation.{RunInvariant}
 use Rattle.replaced.proofs.Happen.{Good}
 
 -- ---- parameters name nodes of their definition
@@ -99,28 +97,8 @@ fits-settle spawn l h f =
 
 fits-steady : Preserves FitsOf
 fits-steady =
-    record {
-      addNode = λ l kind ports required values glides e f. f;
-      removeNode = λ l k e f. f;
-      connect = λ l a b p e f. f;
-      disconnect = λ l b p e f. f;
-      setSink = λ l k f. f;
-      loose = λ l spawn e f. one l spawn (spawn-allowed (l .shared) (l .voices) (spawn .def) (spawn .bus) (spawn .rank) e .definition) f (portFree (spawn .bus) l);
-      goes = λ l w f. fits-keep (λ x. not (isVoice w x)) (l .voices) f;
-      node = λ l k x n e s f. f;
-      schedule = λ l e h f. f;
-      rest = λ l f. f;
-      prepare = λ l o f. f;
-      block = λ l a f. sounds l (isSounding a) f;
-    }
-  where
-    one : (l : Ledger) (spawn : Spawn) → allowed (spawn .def) ≡ true → FitsOf l → (o : Option ℕ) → FitsOf (instantiateOr o none spawn Loose l (refused NoPort) .ledger)
-    one l spawn h f none = f
-    one l spawn h f (some p) = fits-snoc (l .voices) (newVoice spawn Loose p (l .shared)) (allowed-fits (spawn .def) h) f
-
-    sounds : (l : Ledger) (b : Bool) → FitsOf l → FitsAll (countedIf b (l .voices))
-    sounds l true f = fits-map (moved oneMore) (λ v. (refl, refl)) (l .voices) f
-    sounds l false f = f
+    calm-spawn (λ c b n vs. FitsAll vs) (λ c b n vs w f. fits-keep (λ x. not (isVoice w x)) vs f) (λ c b n vs f. fits-map (moved oneMore) (λ v. (refl, refl)) vs f)
+    (λ l spawn p allow f. fits-snoc (l .voices) (newVoice spawn Loose p (l .shared)) (allowed-fits (spawn .def) (allow .definition)) f)
 
 pub fits-step : (x : Call) (l : Ledger) → IdsOf l → FitsOf l → FitsOf (step x l .ledger)
 fits-step x l u f =
@@ -139,7 +117,7 @@ param-fits v f name i h = go (find (called name) (paramRows (v .params))) refl h
     go none e z = absurd (none-some z)
     go (some p) e z = subst (λ n. n < v .count) (some-inj z) (f p (find-in (called name) (paramRows (v .params)) p e .0))
 
-pub good-of : (l : Ledger) → Kept l → OwnNodes l → FitsOf l → Good (modelOf l)
+pub good-of : (l : Ledger) → RunInvariant l → OwnNodes l → FitsOf l → Good (modelOf l)
 good-of l k q f =
     record {
       once = λ j. once (k .sound .listed) (id j);

@@ -6,7 +6,7 @@ use mathlib.Core.List.{List, [], _∷_}
 use mathlib.Core.Option.{Option, none, some}
 use mathlib.Core.Bool.{false, not, true≢false}
 use lib.ListN.{length}
-use Rattle.node.specs.declared.order.Action.{Action}
+use Rattle.node.specs.declared.order.EventAction.{EventAction}
 use Rattle.node.specs.declared.record.VoiceId.{VoiceId}
 use Rattle.node.specs.declared.refusal.Refusal.{Refusal}
 use Rattle.node.specs.declared.refusal.Refusal.the-variants.{TableFull}
@@ -25,7 +25,7 @@ use Rattle.ledger.specs.Ledger.{Ledger, newLedger}
 use Rattle.ledger.proofs.Abstraction.{modelOf}
 use Rattle.ledger.proofs.Spawns.{ids-of}
 use Rattle.ledger.proofs.Nodes.{OwnNodes, own-run, own-new}
-use Rattle.ledger.proofs.Simulation.{Kept, step-agrees, kept-step, kept-new}
+use Rattle.ledger.proofs.Simulation.{RunInvariant, step-agrees, kept-step, kept-new}
 use Rattle.ledger.proofs.Made.{made}
 use Rattle.replaced.specs.Kept.{withQueue, scheduled, isRender, keptUnless, keptBy, keptStep, keptRun}
 use Rattle.replaced.proofs.Thin.{Thinned, thinned-taken, thinned-left, thinned-schedule}
@@ -47,7 +47,7 @@ pub record Schedules (x : Call) : Type 0 where
   pub time : ℕ
   pub voice : VoiceId
   pub name : List ℕ
-  pub action : Action
+  pub action : EventAction
   pub is : x ≡ call.schedule time voice name action
 
 abbrev View : Call → Type 0
@@ -82,7 +82,7 @@ module _ (a : Model) (g : Good a) (q : List Event) (h : Thinned (a .shared .even
   related : Related a b
   related = record { queue = q; is = refl; thin = h; order = s; single = i }
 
-  schedules : (t : ℕ) (w : VoiceId) (name : List ℕ) (c : Action) → Stepped (call.schedule t w name c) a b
+  schedules : (t : ℕ) (w : VoiceId) (name : List ℕ) (c : EventAction) → Stepped (call.schedule t w name c) a b
   schedules t w name c = let r = go (scheduleRefusal e (a .shared .events)) in record { related = r .0; answer = λ z. r .1 }
     where
       e : Event
@@ -161,7 +161,7 @@ pub related-step : (x : Call) (a b : Model) → Good a → Related a b → Stepp
 related-step x a b g t = subst (λ z. Stepped x a z) (sym (t .is)) (stepped a g (t .queue) (t .thin) (t .order) (t .single) x)
 
 -- ---- every list of calls, along the ledger, which knows that the stores are good
-pub related-run : (xs : List Call) (l : Ledger) → Kept l → OwnNodes l → FitsOf l → (b : Model) → Related (modelOf l) b
+pub related-run : (xs : List Call) (l : Ledger) → RunInvariant l → OwnNodes l → FitsOf l → (b : Model) → Related (modelOf l) b
     → Related (run xs (modelOf l) .model) (keptRun xs (modelOf l) b .model) × Good (run xs (modelOf l) .model)
 related-run [] l k o f b t = (t, good-of l k o f)
 related-run (x ∷ xs) l k o f b t =

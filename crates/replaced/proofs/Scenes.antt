@@ -9,8 +9,8 @@ use mathlib.Core.Bool.{Bool, true, false, _&&_, not, cond}
 use lib.ListN.{replicate, length}
 use lib.Dec.{eqb}
 use lib.Ieee.{eq}
-use Rattle.node.specs.declared.order.Action.{Action}
-use Rattle.node.specs.declared.order.Action.the-variants as Action
+use Rattle.node.specs.declared.order.EventAction.{EventAction}
+use Rattle.node.specs.declared.order.EventAction.the-variants as EventAction
 use Rattle.node.specs.declared.order.GlideShape.the-variants.{Linear}
 use Rattle.node.specs.declared.order.GlideSpace.the-variants.{Raw}
 use Rattle.node.specs.declared.order.LastOrder.{LastOrder}
@@ -28,9 +28,9 @@ use Rattle.node.specs.Name.{sameName}
 use Rattle.node.specs.Silence.{name, bytes}
 use Rattle.graph.specs.Node.{nodeAt}
 use Rattle.rank.specs.Order.{among, fed, released, walk, order, whole, count-up}
-use Rattle.order.specs.Live.{risingFrom, liveNodes, liveIds, processingOrder}
-use Rattle.order.specs.Required.{any, lacks, lacking}
-use Rattle.order.specs.Prepare.{prepare}
+use Rattle.prepare.specs.Live.{risingFrom, liveNodes, liveIds, processingOrder}
+use Rattle.prepare.specs.Required.{any, lacks, lacking}
+use Rattle.prepare.specs.Prepare.{prepare}
 use Rattle.scheduler.specs.Event.{paramOf}
 use Rattle.scheduler.specs.Queue.{inserted, replacing}
 use Rattle.scheduler.specs.Replace.{replaces, sameSort}
@@ -63,13 +63,13 @@ abbrev glide : ℕ → LastOrder
 glide n = LastOrder.Glide (float n) (float 1) Linear Raw
 
 abbrev at : ℕ → String → ℕ → Call
-at t s n = call.schedule t (voice 1) (bytes s) (Action.Value (float n))
+at t s n = call.schedule t (voice 1) (bytes s) (EventAction.Value (float n))
 
 abbrev to : ℕ → String → ℕ → Call
-to t s n = call.schedule t (voice 1) (bytes s) (Action.Glide (float n) (float 1) Linear Raw)
+to t s n = call.schedule t (voice 1) (bytes s) (EventAction.Glide (float n) (float 1) Linear Raw)
 
 abbrev gate : ℕ → String → ℕ → Call
-gate t s n = call.schedule t (voice 1) (bytes s) (Action.Gate (float n))
+gate t s n = call.schedule t (voice 1) (bytes s) (EventAction.Gate (float n))
 
 abbrev before : List Call
 before = host 2 ∷ sink 0 ∷ call.spawnManaged (spawnOf swell (id 0) (float 0) 0) ∷ call.prepare ∷ []
@@ -87,14 +87,14 @@ b calls = keptRun calls start start .model
 abbrev last : ℕ → Model → Option LastOrder
 last k m = mapO (λ n. n .last) (nodeAt (m .shared .graph .nodes) (id k))
 
-abbrev pending : Model → List Action
+abbrev pending : Model → List EventAction
 pending m = map (λ (e : Event). e .action) (m .shared .events)
 
-abbrev val : ℕ → Action
-val n = Action.Value (float n)
+abbrev val : ℕ → EventAction
+val n = EventAction.Value (float n)
 
-abbrev gli : ℕ → Action
-gli n = Action.Glide (float n) (float 1) Linear Raw
+abbrev gli : ℕ → EventAction
+gli n = EventAction.Glide (float n) (float 1) Linear Raw
 
 -- ---- value, glide, value at one time: the first value goes and the last stands behind the glide. Refuses: replaced in place, which
 -- leaves the glide last.
@@ -127,10 +127,10 @@ by-time = (refl, refl, refl)
 -- sort of its own.
 gates :
     (pending (a (gate 4 "rate" 1 ∷ at 4 "gate" 3 ∷ [])) ≡ val 3 ∷ [])
-    × (pending (a (at 4 "gate" 1 ∷ gate 4 "" 3 ∷ [])) ≡ Action.Gate (float 3) ∷ [])
-    × (pending (a (gate 4 "" 1 ∷ gate 4 "ratexxxxxxxxxxxxx" 3 ∷ [])) ≡ Action.Gate (float 3) ∷ [])
-    × (pending (a (gate 4 "rate" 1 ∷ at 4 "rate" 3 ∷ [])) ≡ Action.Gate (float 1) ∷ val 3 ∷ [])
-    × (pending (a (gate 4 "rate" 1 ∷ to 4 "gate" 3 ∷ [])) ≡ Action.Gate (float 1) ∷ gli 3 ∷ [])
+    × (pending (a (at 4 "gate" 1 ∷ gate 4 "" 3 ∷ [])) ≡ EventAction.Gate (float 3) ∷ [])
+    × (pending (a (gate 4 "" 1 ∷ gate 4 "ratexxxxxxxxxxxxx" 3 ∷ [])) ≡ EventAction.Gate (float 3) ∷ [])
+    × (pending (a (gate 4 "rate" 1 ∷ at 4 "rate" 3 ∷ [])) ≡ EventAction.Gate (float 1) ∷ val 3 ∷ [])
+    × (pending (a (gate 4 "rate" 1 ∷ to 4 "gate" 3 ∷ [])) ≡ EventAction.Gate (float 1) ∷ gli 3 ∷ [])
     × (last 1 (a (gate 4 "rate" 1 ∷ at 4 "gate" 3 ∷ render ∷ [])) ≡ some (value 3))
 unfolding eq prepare processingOrder lacking lacks any liveIds liveNodes risingFrom whole order walk released fed among count-up
 gates = (refl, refl, refl, refl, refl, refl)
@@ -141,15 +141,15 @@ apart :
     (pending (a (at 4 "" 1 ∷ at 4 "" 3 ∷ [])) ≡ val 1 ∷ val 3 ∷ [])
     × (pending (a (at 4 "ratexxxxxxxxxxxxx" 1 ∷ at 4 "ratexxxxxxxxxxxxx" 3 ∷ [])) ≡ val 1 ∷ val 3 ∷ [])
     × (pending (a (at 4 "ratexxxxxxxxxxxx" 1 ∷ at 4 "ratexxxxxxxxxxxx" 3 ∷ [])) ≡ val 3 ∷ [])
-    × (pending (a (timedFree 4 1 ∷ timedFree 4 1 ∷ [])) ≡ Action.Free ∷ Action.Free ∷ [])
+    × (pending (a (timedFree 4 1 ∷ timedFree 4 1 ∷ [])) ≡ EventAction.Free ∷ EventAction.Free ∷ [])
     × (pending (a (at 4 "cut" 1 ∷ call.schedule 4 (voice 2) (bytes "cut") (val 3) ∷ [])) ≡ val 1 ∷ val 3 ∷ [])
 unfolding eq prepare processingOrder lacking lacks any liveIds liveNodes risingFrom whole order walk released fed among count-up
 apart = (refl, refl, refl, refl, refl)
 
 -- ---- A free between: the value before it is replaced all the same, the one after it finds no voice, and both machines have none.
 free-between :
-    (pending (a (at 4 "cut" 1 ∷ timedFree 4 1 ∷ at 4 "cut" 3 ∷ [])) ≡ Action.Free ∷ val 3 ∷ [])
-    × (pending (b (at 4 "cut" 1 ∷ timedFree 4 1 ∷ at 4 "cut" 3 ∷ [])) ≡ val 1 ∷ Action.Free ∷ val 3 ∷ [])
+    (pending (a (at 4 "cut" 1 ∷ timedFree 4 1 ∷ at 4 "cut" 3 ∷ [])) ≡ EventAction.Free ∷ val 3 ∷ [])
+    × (pending (b (at 4 "cut" 1 ∷ timedFree 4 1 ∷ at 4 "cut" 3 ∷ [])) ≡ val 1 ∷ EventAction.Free ∷ val 3 ∷ [])
     × (voices (a (at 4 "cut" 1 ∷ timedFree 4 1 ∷ at 4 "cut" 3 ∷ render ∷ [])) ≡ [])
     × (voices (b (at 4 "cut" 1 ∷ timedFree 4 1 ∷ at 4 "cut" 3 ∷ render ∷ [])) ≡ [])
     × (last 1 (b (at 4 "cut" 1 ∷ timedFree 4 1 ∷ at 4 "cut" 3 ∷ render ∷ [])) ≡ none)
@@ -184,7 +184,7 @@ lists = (refl, refl)
 -- ---- "Freed queue places count before refusal 7": 256 pending, a value for one of them is taken, another is refused and the very
 -- queue stays; B goes on beyond 256. Refuses: 7 before room is made; a refused event that has thinned the queue.
 abbrev many : Model
-many = withQueue (event 40 (voice 1) (bytes "cut") (val 1) ∷ replicate 255 (event 40 (voice 9) [] Action.Free)) (newModel (upTo 2 Oldest))
+many = withQueue (event 40 (voice 1) (bytes "cut") (val 1) ∷ replicate 255 (event 40 (voice 9) [] EventAction.Free)) (newModel (upTo 2 Oldest))
 
 room : asked (at 40 "cut" 3 ∷ at 40 "rate" 3 ∷ []) many ≡ done ∷ refused TableFull ∷ []
 room = refl
@@ -221,7 +221,7 @@ abbrev queueBy : (Event → List Event → List Event) → List Event → List E
 queueBy rule [] l = l
 queueBy rule (e ∷ es) l = queueBy rule es (rule e l)
 
-abbrev ev : ℕ → String → Action → Event
+abbrev ev : ℕ → String → EventAction → Event
 ev t s c = event t (voice 1) (bytes s) c
 
 abbrev taken : (Event → List Event → List Event) → List Event → Model

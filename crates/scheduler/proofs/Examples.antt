@@ -4,7 +4,7 @@ use mathlib.Core.Path.{_≡_, refl}
 use mathlib.Core.List.{List, [], _∷_}
 use mathlib.Core.Bool.{Bool, true, false, _&&_, Bool·beq}
 use Rattle.node.specs.declared.name.Name.{Name}
-use Rattle.node.specs.declared.order.Action.{Action}
+use Rattle.node.specs.declared.order.EventAction.{EventAction}
 use Rattle.node.specs.declared.record.VoiceId.{VoiceId}
 use Rattle.scheduler.specs.declared.event.Event.{Event}
 use Rattle.scheduler.specs.Queue.{takenBefore}
@@ -22,7 +22,7 @@ some? (e ∷ l) = true
 abbrev pub table : List Row
 table = record { time = 64; deadline = 64; taken = false } ∷ record { time = 63; deadline = 64; taken = true } ∷ []
 
-module _ (voice : VoiceId) (name : Name) (action : Action) where
+module _ (voice : VoiceId) (name : Name) (action : EventAction) where
   abbrev pub right : List Row → Bool
   right [] = true
   right (x ∷ l) =

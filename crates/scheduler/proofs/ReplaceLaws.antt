@@ -17,8 +17,8 @@ use Rattle.lists.proofs.Member.{some-inj, none-some, and-left, and-right, both}
 use Rattle.lists.proofs.Filter.{length-filter, filter-same, filter-filter}
 use Rattle.node.specs.Name.{named, text, sameName}
 use Rattle.node.specs.declared.name.Name.{Name}
-use Rattle.node.specs.declared.order.Action.{Action}
-use Rattle.node.specs.declared.order.Action.the-variants as action
+use Rattle.node.specs.declared.order.EventAction.{EventAction}
+use Rattle.node.specs.declared.order.EventAction.the-variants as action
 use Rattle.node.specs.declared.refusal.Refusal.the-variants.{TableFull}
 use Rattle.node.proofs.NameLaws.{same-to, same-from}
 use Rattle.scheduler.specs.Event.{gateName, paramOf}
@@ -41,7 +41,7 @@ abbrev pub under : Sort → Name → Option Ordered
 under s n = or? (named n) (record { sort = s; parameter = text n }) none
 
 -- "A gate counts as a value for `gate`"
-abbrev pub ordered : Action → Name → Option Ordered
+abbrev pub ordered : EventAction → Name → Option Ordered
 ordered (action.Value x) n = under value n
 ordered (action.Glide target seconds shape space) n = under glide n
 ordered (action.Gate x) n = some (record { sort = value; parameter = 103 ∷ 97 ∷ 116 ∷ 101 ∷ [] })
@@ -78,7 +78,7 @@ value-glide : value ≡ glide → ⊥
 value-glide e = let z : _≡_ {A = ℕ} 0 1 = cc in absurd (omega arith)
 
 module _ (m n : Name) where
-  alike-to : (a b : Action) → sameSort a b ≡ true → sameName (paramOf a m) (paramOf b n) ≡ true → (k : Ordered) × (ordered a m ≡ some k) × (ordered b n ≡ some k)
+  alike-to : (a b : EventAction) → sameSort a b ≡ true → sameName (paramOf a m) (paramOf b n) ≡ true → (k : Ordered) × (ordered a m ≡ some k) × (ordered b n ≡ some k)
   alike-to (action.Value x) (action.Value y) s h = under-to value m n h
   alike-to (action.Value x) (action.Glide t u v w) s h = absurd (false≢true s)
   alike-to (action.Value x) (action.Gate y) s h = under-to value m gateName h
@@ -93,7 +93,7 @@ module _ (m n : Name) where
   alike-to (action.Gate x) action.Free s h = absurd (false≢true s)
   alike-to action.Free b s h = absurd (false≢true s)
 
-  alike-from : (a b : Action) (k : Ordered) → ordered a m ≡ some k → ordered b n ≡ some k → (sameSort a b ≡ true) × (sameName (paramOf a m) (paramOf b n) ≡ true)
+  alike-from : (a b : EventAction) (k : Ordered) → ordered a m ≡ some k → ordered b n ≡ some k → (sameSort a b ≡ true) × (sameName (paramOf a m) (paramOf b n) ≡ true)
   alike-from (action.Value x) (action.Value y) k p q = (refl, under-from value value m n k p q .1)
   alike-from (action.Value x) (action.Glide t u v w) k p q = absurd (value-glide (under-from value glide m n k p q .0))
   alike-from (action.Value x) (action.Gate y) k p q = (refl, under-from value value m gateName k p q .1)
@@ -108,21 +108,37 @@ module _ (m n : Name) where
   alike-from (action.Gate x) action.Free k p q = absurd (none-some q)
   alike-from action.Free b k p q = absurd (none-some p)
 
-pub replaces-to : (e f : Event) → replaces e f ≡ true → Alike e f
-replaces-to e f h =
+-- the four tests of `replaces`, one by one
+pub record Tested (e f : Event) : Type 0 where
+  pub time : e .time ≡ f .time
+  pub voice : e .voice .0 ≡ f .voice .0
+  pub sort : sameSort (e .action) (f .action) ≡ true
+  pub name : sameName (paramOf (e .action) (e .name)) (paramOf (f .action) (f .name)) ≡ true
+
+pub tested : (e f : Event) → replaces e f ≡ true → Tested e f
+tested e f h =
     let a = eqb (e .time) (f .time) in
     let b = eqb (e .voice .0) (f .voice .0) in
     let c = sameSort (e .action) (f .action) in
     let d = sameName (paramOf (e .action) (e .name)) (paramOf (f .action) (f .name)) in
     let r₁ = and-right a (b && (c && d)) h in
     let r₂ = and-right b (c && d) r₁ in
-    let k = alike-to (e .name) (f .name) (e .action) (f .action) (and-left c d r₂) (and-right c d r₂) in
-    record { time = eqb-true _ _ (and-left a (b && (c && d)) h); voice = eqb-true _ _ (and-left b (c && d) r₁); what = k .0; mine = k .1; theirs = k .2 }
+    record { time = eqb-true _ _ (and-left a (b && (c && d)) h); voice = eqb-true _ _ (and-left b (c && d) r₁); sort = and-left c d r₂; name = and-right c d r₂ }
+
+-- the four together are the rule
+pub tests-pass : (e f : Event) → Tested e f → replaces e f ≡ true
+tests-pass e f t = both _ _ (eq-eqb _ _ (t .time)) (both _ _ (eq-eqb _ _ (t .voice)) (both _ _ (t .sort) (t .name)))
+
+pub replaces-to : (e f : Event) → replaces e f ≡ true → Alike e f
+replaces-to e f h =
+    let t = tested e f h in
+    let k = alike-to (e .name) (f .name) (e .action) (f .action) (t .sort) (t .name) in
+    record { time = t .time; voice = t .voice; what = k .0; mine = k .1; theirs = k .2 }
 
 pub replaces-from : (e f : Event) → Alike e f → replaces e f ≡ true
 replaces-from e f l =
     let k = alike-from (e .name) (f .name) (e .action) (f .action) (l .what) (l .mine) (l .theirs) in
-    both _ _ (eq-eqb _ _ (l .time)) (both _ _ (eq-eqb _ _ (l .voice)) (both _ _ (k .0) (k .1)))
+    tests-pass e f (record { time = l .time; voice = l .voice; sort = k .0; name = k .1 })
 
 -- ---- "The new event takes its own place at the end of its time": in an ordered queue what is not later and not replaced stands before it,
 -- in its order, and all that is later behind it
@@ -178,23 +194,23 @@ less-thinned e (g ∷ l) h = go (replaces e g) refl h (less-thinned e l)
     go true p k ih = (g, inl refl, p)
     go false p k ih = let r = ih (omega arith) in (r .0, inr (r .1), r .2)
 
-abbrev pub Room : Event → List Event → Type 0
-Room e l = (length l < 256) ⊎ ((f : Event) × In f l × (replaces e f ≡ true))
+abbrev pub Accepted : Event → List Event → Type 0
+Accepted e l = (length l < 256) ⊎ ((f : Event) × In f l × (replaces e f ≡ true))
 
 taken-refused : Taken ≡ Refused TableFull → ⊥
 taken-refused e = let z : _≡_ {A = ℕ} 0 1 = cc in absurd (omega arith)
 
 module _ (e : Event) (l : List Event) (h : length l ≤ 256) where
-  pub room-taken : Room e l → answerTo e l ≡ Taken
+  pub room-taken : Accepted e l → answerTo e l ≡ Taken
   room-taken r =
       let all : length (thinned e l) ≤ length l = length-filter (λ f. not (replaces e f)) l in
       let less : length (thinned e l) < 256 = ⊎-elim (λ k. omega (arith, k, all)) (λ k. omega (arith, h, thinned-less e l (k .0) (k .1) (k .2))) r in
       ap (λ b. cond b (Refused TableFull) Taken) (lt-leb 256 (length (thinned e l)) less)
 
-  pub taken-room : answerTo e l ≡ Taken → Room e l
+  pub taken-room : answerTo e l ≡ Taken → Accepted e l
   taken-room t = go (full (thinned e l)) refl t (leb 256 (length l)) refl
     where
-      go : (b : Bool) → full (thinned e l) ≡ b → cond b (Refused TableFull) Taken ≡ Taken → (c : Bool) → leb 256 (length l) ≡ c → Room e l
+      go : (b : Bool) → full (thinned e l) ≡ b → cond b (Refused TableFull) Taken ≡ Taken → (c : Bool) → leb 256 (length l) ≡ c → Accepted e l
       go true p q c r = absurd (taken-refused (sym q))
       go false p q false r = inl (leb-false 256 (length l) r)
       go false p q true r = inr (less-thinned e l (omega (arith, leb-false 256 (length (thinned e l)) p, leb-true 256 (length l) r)))

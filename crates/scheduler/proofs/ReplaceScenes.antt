@@ -5,8 +5,8 @@ use mathlib.Core.List.{List, [], _∷_}
 use lib.ListN.{replicate}
 use lib.Ieee.{Float}
 use Rattle.node.specs.Name.{nameOf}
-use Rattle.node.specs.declared.order.Action.{Action}
-use Rattle.node.specs.declared.order.Action.the-variants as action
+use Rattle.node.specs.declared.order.EventAction.{EventAction}
+use Rattle.node.specs.declared.order.EventAction.the-variants as action
 use Rattle.node.specs.declared.order.GlideShape.the-variants.{Linear}
 use Rattle.node.specs.declared.order.GlideSpace.the-variants.{Raw}
 use Rattle.node.specs.declared.refusal.Refusal.the-variants.{TableFull}
@@ -15,7 +15,7 @@ use Rattle.scheduler.specs.declared.event.Event.{Event}
 use Rattle.scheduler.specs.declared.queue.ScheduleAnswer.the-variants.{Taken, Refused}
 
 module _ (x y z : Float) where
-  abbrev at : ℕ → ℕ → List ℕ → Action → Event
+  abbrev at : ℕ → ℕ → List ℕ → EventAction → Event
   at t w name a = record { time = t; voice = record { 0 = w }; name = nameOf name; action = a }
 
   abbrev cut : List ℕ
@@ -24,10 +24,10 @@ module _ (x y z : Float) where
   abbrev gate : List ℕ
   gate = 103 ∷ 97 ∷ 116 ∷ 101 ∷ []
 
-  abbrev value : Float → Action
+  abbrev value : Float → EventAction
   value u = action.Value u
 
-  abbrev glide : Float → Action
+  abbrev glide : Float → EventAction
   glide u = action.Glide u u Linear Raw
 
   -- one after the other

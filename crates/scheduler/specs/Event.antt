@@ -3,8 +3,8 @@
 use mathlib.Core.List.{[], _∷_}
 use Rattle.node.specs.Name.{nameOf}
 use Rattle.node.specs.declared.name.Name.{Name}
-use Rattle.node.specs.declared.order.Action.{Action}
-use Rattle.node.specs.declared.order.Action.the-variants as action
+use Rattle.node.specs.declared.order.EventAction.{EventAction}
+use Rattle.node.specs.declared.order.EventAction.the-variants as action
 use Rattle.node.specs.declared.order.LastOrder.{LastOrder}
 use Rattle.node.specs.declared.order.LastOrder.the-variants as order
 use Rattle.scheduler.specs.declared.event.Event.{Event}
@@ -15,14 +15,14 @@ abbrev pub gateName : Name
 gateName = nameOf (103 ∷ 97 ∷ 116 ∷ 101 ∷ [])
 
 -- the order that an action becomes at its node: a gate is a value; a free is no order
-abbrev pub orderOf : Action → LastOrder
+abbrev pub orderOf : EventAction → LastOrder
 orderOf (action.Value x) = order.Value x
 orderOf (action.Glide target seconds shape space) = order.Glide target seconds shape space
 orderOf (action.Gate x) = order.Value x
 orderOf action.Free = order.Nothing
 
 -- the parameter that an action is for: a gate's is `gate`, whatever name stands beside it
-abbrev pub paramOf : Action → Name → Name
+abbrev pub paramOf : EventAction → Name → Name
 paramOf (action.Value x) name = name
 paramOf (action.Glide target seconds shape space) name = name
 paramOf (action.Gate x) name = gateName

@@ -5,26 +5,26 @@ use mathlib.Core.Bool.{Bool, true, false, _&&_, _||_, not}
 use lib.Dec.{eqb}
 use Rattle.lists.specs.Filter.{filter}
 use Rattle.node.specs.Name.{sameName}
-use Rattle.node.specs.declared.order.Action.{Action}
-use Rattle.node.specs.declared.order.Action.the-variants as action
+use Rattle.node.specs.declared.order.EventAction.{EventAction}
+use Rattle.node.specs.declared.order.EventAction.the-variants as action
 use Rattle.scheduler.specs.Event.{paramOf}
 use Rattle.scheduler.specs.declared.event.Event.{Event}
 
 -- a value, or a gate, which counts as one
-abbrev pub isValue : Action → Bool
+abbrev pub isValue : EventAction → Bool
 isValue (action.Value x) = true
 isValue (action.Glide target seconds shape space) = false
 isValue (action.Gate x) = true
 isValue action.Free = false
 
-abbrev pub isGlide : Action → Bool
+abbrev pub isGlide : EventAction → Bool
 isGlide (action.Value x) = false
 isGlide (action.Glide target seconds shape space) = true
 isGlide (action.Gate x) = false
 isGlide action.Free = false
 
 -- a free is of no sort: it replaces none, and none replaces it
-abbrev pub sameSort : Action → Action → Bool
+abbrev pub sameSort : EventAction → EventAction → Bool
 sameSort a b = (isValue a && isValue b) || (isGlide a && isGlide b)
 
 -- The new event e takes the place of the pending event f. `sameName` is false of a name that is not 1 to 16 bytes; a gate's parameter is

@@ -1,5 +1,5 @@
 use node::name::Name;
-use node::order::Action;
+use node::order::EventAction;
 use node::order::LastOrder;
 use node::record::VoiceId;
 ghost use mathlib.Core.Path.{_≡_};
@@ -11,7 +11,7 @@ pub struct Event {
     pub time: u64,
     pub voice: VoiceId,
     pub name: Name,
-    pub action: Action,
+    pub action: EventAction,
 }
 
 // What an event orders: `order` for the parameter `name`. `Nothing` is no order: the event is a free.
@@ -37,11 +37,11 @@ pub fn param_order(e: Event) -> ParamOrder
     let action = e.action;
     let name = e.name;
     match action {
-        Action::Value(x) => ParamOrder {
+        EventAction::Value(x) => ParamOrder {
             name: name,
             order: LastOrder::Value(x),
         },
-        Action::Glide {
+        EventAction::Glide {
             target,
             seconds,
             shape,
@@ -55,11 +55,11 @@ pub fn param_order(e: Event) -> ParamOrder
                 space: space,
             },
         },
-        Action::Gate(x) => ParamOrder {
+        EventAction::Gate(x) => ParamOrder {
             name: gate_name(),
             order: LastOrder::Value(x),
         },
-        Action::Free => ParamOrder {
+        EventAction::Free => ParamOrder {
             name: name,
             order: LastOrder::Nothing,
         },

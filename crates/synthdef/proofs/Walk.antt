@@ -32,17 +32,23 @@ module _ {A : Type 0} (room count : ℕ) (rows : List A) (m : ℕ) (e : m ≡ mi
       pub any-miss : q (getD rows i d) ≡ false → any q (drop (i + 1) (rowsOf room count rows)) ≡ any q (drop i (rowsOf room count rows))
       any-miss p = sym (ap (any q) next-row ∙ rw p)
 
-      pub every-hit : q (getD rows i d) ≡ false → every q (drop i (rowsOf room count rows)) ≡ false
-      every-hit p = ap (every q) next-row ∙ rw p
-
-      pub every-miss : q (getD rows i d) ≡ true → every q (drop (i + 1) (rowsOf room count rows)) ≡ every q (drop i (rowsOf room count rows))
-      every-miss p = sym (ap (every q) next-row ∙ rw p)
-
       pub find-hit : q (getD rows i d) ≡ true → find q (drop i (rowsOf room count rows)) ≡ some (getD rows i d)
       find-hit p = ap (find q) next-row ∙ rw p
 
       pub find-miss : q (getD rows i d) ≡ false → find q (drop (i + 1) (rowsOf room count rows)) ≡ find q (drop i (rowsOf room count rows))
       find-miss p = sym (ap (find q) next-row ∙ rw p)
+
+-- A loop that tests all rows: those from i on pass exactly if all do. It ends at a row that fails, and where none is left.
+module _ {A : Type 0} (room count : ℕ) (rows : List A) (m : ℕ) (e : m ≡ min count room) (q : A → Bool) (i : ℕ) (inv : every q (drop i (rowsOf room count rows)) ≡ every q (rowsOf room count rows)) where
+  module _ (long : length rows ≡ room) (h : i < m) (d : A) where
+    pub every-hit : q (getD rows i d) ≡ false → false ≡ every q (rowsOf room count rows)
+    every-hit p = sym (ap (every q) (next-row room count rows m e i long h d) ∙ rw p) ∙ inv
+
+    pub every-miss : q (getD rows i d) ≡ true → every q (drop (i + 1) (rowsOf room count rows)) ≡ every q (rowsOf room count rows)
+    every-miss p = sym (ap (every q) (next-row room count rows m e i long h d) ∙ rw p) ∙ inv
+
+  pub every-walked : m ≤ i → true ≡ every q (rowsOf room count rows)
+  every-walked h = sym (ap (every q) (walked room count rows m e i h)) ∙ inv
 
 -- an array that is filled from the front: w rows so far, and d past them
 pub record Filled {A : Type 0} (d : A) (room : ℕ) (rows : List A) (w : ℕ) : Type 0 where

@@ -293,7 +293,7 @@ fn prepare(
     edges: &EdgeTable,
     order: &mut OrderTable,
 ) -> Played {
-    let r = call_host::prepare::prepare(g, nodes, edges, order);
+    let r = call_host::preparing::prepare(g, nodes, edges, order);
     let state = r.state;
     let answer = r.answer;
     match answer {

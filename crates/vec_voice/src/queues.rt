@@ -19,7 +19,7 @@ use event_table::row::event_at;
 use node::name::Name;
 use node::name::is_named;
 use node::name::name_of;
-use node::order::Action;
+use node::order::EventAction;
 use node::order::GlideShape;
 use node::order::GlideSpace;
 use node::record::VoiceId;
@@ -97,12 +97,12 @@ fn event_line(e: Event) {
     let name = e.name;
     let action = e.action;
     match action {
-        Action::Value(x) => {
+        EventAction::Value(x) => {
             text(b" value ");
             name_word(name);
             and_sample(x);
         }
-        Action::Glide {
+        EventAction::Glide {
             target,
             seconds,
             shape,
@@ -115,11 +115,11 @@ fn event_line(e: Event) {
             shape_words(shape);
             space_word(space);
         }
-        Action::Gate(x) => {
+        EventAction::Gate(x) => {
             text(b" gate");
             and_sample(x);
         }
-        Action::Free => text(b" free"),
+        EventAction::Free => text(b" free"),
     }
     end_line();
 }

@@ -1,7 +1,7 @@
 -- Paper 13: "The victim comes from the lowest rank among candidates, then by policy, and never outranks the newcomer." Said of any list of
 -- candidates and not of the walk that finds the lowest: `low-in` and `in-low` name who is asked, `victim-lowest` what is true of the victim, and
 -- `outranked-nobody` and `nobody-outranked` when there is none.
-use Prim.Native.Nat.{ℕ, zero, suc, _+_, _≤_, _<_, min}
+use Prim.Native.Nat.{ℕ, zero, suc, _≤_, _<_, min}
 use native.Mathlib.Omega.{arith}
 use mathlib.Core.Path.{_≡_, refl, sym, ap, _∙_}
 use mathlib.Core.Logic.{_⊎_, _≢_, inl, inr}
@@ -10,11 +10,10 @@ use mathlib.Core.Bool.{Bool, true, false, _&&_, false≢true}
 use lib.Dec.{eqb, leb}
 use lib.IntN.{pos}
 use lib.Ieee.{fin, lt, eq, le}
-use lib.ListN.{length, take, drop, getD}
+use lib.ListN.{length, getD}
 use borrow.Author.Tests.{eq-eqb, eqb-true, leb-true, leb-false}
 use Rattle.lists.specs.Member.{In}
 use Rattle.lists.proofs.Filter.{in-filter, filter-in, filter-none}
-use Rattle.lists.proofs.Table.{left-row}
 use Rattle.voice.specs.declared.policy.StealPolicy.{StealPolicy}
 use Rattle.voice.specs.declared.policy.StealPolicy.the-variants as policy
 use Rattle.voice.specs.declared.policy.Level.the-variants.{Known}
@@ -23,11 +22,6 @@ use Rattle.voice.specs.declared.policy.Victim.{Victim}
 use Rattle.voice.specs.declared.policy.Victim.the-variants.{Nobody, Goes}
 use Rattle.voice.specs.Policy.{policyVictim, lowest, ofLowest, victim, nobody}
 use Rattle.voice.proofs.Victims.{OneOf, victim-one, victim-some, victim-none}
-
--- one candidate of the walk
-pub lowest-row : (d : Candidate) (rows : List Candidate) (k i : ℕ) → i < k → k ≤ length rows → (r : ℕ)
-    → lowest r (drop i (take k rows)) ≡ lowest (min r (getD rows i d .rank)) (drop (i + 1) (take k rows))
-lowest-row d rows k i h t r = ap (lowest r) (left-row d rows k i h t)
 
 -- ---- the lowest rank
 -- it is not above r

@@ -6,8 +6,8 @@ use lib.ListN.{length, take, drop, length-set}
 use lib.Seq.{length-take-le}
 use borrow.Author.Needs.{needs}
 use Rattle.lists.proofs.Table.{left-row}
-use Rattle.order.specs.Parts.{sourceRow, targetRow}
-use Rattle.order.proofs.Mapped.{Mapped, map-next, map-done, no-row}
+use Rattle.prepare.specs.Parts.{sourceRow, targetRow}
+use Rattle.prepare.proofs.Mapped.{Mapped, map-next, map-done, no-row}
 use Rattle.graph_rows.specs.Edge.{edgeOf, edgesIn}
 use Rattle.order_table.proofs.ends.Statement.{statement}
 use Rattle.order_table.proofs.ends.Tie as tie

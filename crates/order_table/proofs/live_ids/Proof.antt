@@ -1,15 +1,16 @@
-use Prim.Native.Nat.{_/_, _≤_, _<_, _-_}
+use Prim.Native.Nat.{ℕ, _+_, _/_, _≤_, _<_, _-_}
 use native.Mathlib.Omega.{arith}
 use mathlib.Core.Path.{_≡_, ap, _∙_}
-use mathlib.Core.List.{[]}
-use lib.ListN.{length, take, getD, length-set}
+use mathlib.Core.List.{List, [], _∷_}
+use lib.ListN.{length, take, drop, getD, length-set}
 use borrow.Author.Needs.{needs}
 use Rattle.lists.proofs.Table.{left-row}
 use Rattle.words.proofs.Rows.{rows-long}
 use Rattle.words.proofs.InWords.{take-count}
-use Rattle.order.specs.Live.{idOf, liveIds}
-use Rattle.order.proofs.Rises.{Passed, passed-start, passed-more, passed-stop, passed-end}
-use Rattle.order.proofs.Mapped.{no-row}
+use Rattle.node.specs.declared.record.Node.{Node}
+use Rattle.prepare.specs.Live.{idOf, liveIds}
+use Rattle.prepare.proofs.Rises.{Passed, passed-start, passed-more, passed-stop, passed-end}
+use Rattle.prepare.proofs.Mapped.{no-row}
 use Rattle.graph_rows.specs.Node.{nodeOf, nodesIn}
 use Rattle.order_table.proofs.live_ids.Statement.{statement}
 use Rattle.order_table.proofs.live_ids.Tie as tie
@@ -19,6 +20,32 @@ Inv-loop nodes count ids₀ n least₀ i₀ ids least i = (i ≤ n) × (length i
 
 abbrev μ-loop : tie.MeasureT-loop
 μ-loop nodes count ids₀ n least₀ i₀ ids least i = n - i
+
+-- the rows, and how many of them the loop looks at
+abbrev rows-of : tie.At-loop Inv-loop μ-loop → List Node
+rows-of k = nodesIn (k .before .before .before .before .args .nodes .now)
+
+abbrev count-of : tie.At-loop Inv-loop μ-loop → ℕ
+count-of k = k .before .at-most .result
+
+few : (k : tie.At-loop Inv-loop μ-loop) → count-of k ≤ 512
+few k = omega (arith, k .before .at-most .ensures, k .before .before .before .before .pre .0)
+
+-- their live ids are those of the first `count` rows
+counted : (k : tie.At-loop Inv-loop μ-loop) → liveIds (take (count-of k) (rows-of k)) ≡ liveIds (take (k .before .before .before .before .args .count) (rows-of k))
+counted k = let a = k .before .before .before .before .args in ap liveIds (take-count 22 nodeOf (a .nodes .now) (a .count) (count-of k) (k .before .at-most .ensures))
+
+-- the row that is looked at: its id is what was read, and it is the first of those that are left
+row : (c : tie.After-wide Inv-loop μ-loop) →
+    let k = c .before .before .before in
+    let x = getD (rows-of k) (k .loop .i) (nodeOf []) in
+    (c .before .id-at .result .0 ≡ idOf x) × (drop (k .loop .i) (take (count-of k) (rows-of k)) ≡ x ∷ drop (k .loop .i + 1) (take (count-of k) (rows-of k)))
+row c =
+    let k = c .before .before .before in
+    let s = k .before .before .before .before in
+    let long : length (rows-of k) ≡ 512 = rows-long 22 nodeOf (s .args .nodes .now) ∙ ap (λ n. n / 22) (s .pre .0) in
+    let inside : count-of k ≤ length (rows-of k) = omega (arith, few k) in
+    (ap (λ i. i .0) (c .before .id-at .ensures), left-row (nodeOf []) (rows-of k) (count-of k) (k .loop .i) (c .before .before .loop-test .taken) inside)
 
 at-most-requires : tie.Need-at-most-requires Inv-loop μ-loop
 at-most-requires c κs = search needs
@@ -37,23 +64,11 @@ same-length c = search needs
 
 returns : tie.Need-returns Inv-loop μ-loop
 returns c =
-    let s = c .before .before .before .before .before .before .before .before in
-    let l = c .before .before .before .before .loop in
-    let n = c .before .before .before .before .before .at-most in
-    let w = c .before .wide in
-    let rows = nodesIn (s .args .nodes .now) in
-    let long : length rows ≡ 512 = rows-long 22 nodeOf (s .args .nodes .now) ∙ ap (λ k. k / 22) (s .pre .0) in
-    let few : n .result ≤ 512 = omega (arith, n .ensures, s .pre .0) in
-    let hi : l .i < n .result = c .before .before .before .loop-test .taken in
-    let hn : n .result ≤ length rows = omega arith in
-    let x = getD rows (l .i) (nodeOf []) in
-    let id : w .result ≡ idOf x = w .ensures ∙ ap (λ k. k .0) (c .before .before .id-at .ensures) in
-    let dr = left-row (nodeOf []) rows (n .result) (l .i) hi hn in
-    record {
-      long = l .inv .1;
-      few = omega arith;
-      is = passed-stop (take (n .result) rows) (l .ids) (l .least) (l .i) (l .inv .3) x dr (omega (arith, c .if1 .taken)) ∙ ap liveIds (take-count 22 nodeOf (s .args .nodes .now) (s .args .count) (n .result) (n .ensures));
-    }
+    let k = c .before .before .before .before in
+    let l = k .loop in
+    let x = row (c .before) in
+    let id = c .before .wide .ensures ∙ x .0 in
+    record { long = l .inv .1; few = omega (arith, few k); is = passed-stop (take (count-of k) (rows-of k)) (l .ids) (l .least) (l .i) (l .inv .3) _ (x .1) (omega (arith, id, c .if1 .taken)) ∙ counted k }
 
 mul-ids : tie.Need-mul-ids Inv-loop μ-loop
 mul-ids c = search needs
@@ -72,25 +87,16 @@ loop-less c = search needs
 
 loop-again : tie.Need-loop-again Inv-loop μ-loop
 loop-again c =
-    let s = c .before .before .before .before .before .before .before .before in
-    let l = c .before .before .before .before .loop in
-    let n = c .before .before .before .before .before .at-most in
-    let w = c .before .wide in
-    let rows = nodesIn (s .args .nodes .now) in
-    let long : length rows ≡ 512 = rows-long 22 nodeOf (s .args .nodes .now) ∙ ap (λ k. k / 22) (s .pre .0) in
-    let few : n .result ≤ 512 = omega (arith, n .ensures, s .pre .0) in
-    let hi : l .i < n .result = c .before .before .before .loop-test .taken in
-    let hn : n .result ≤ length rows = omega arith in
-    let x = getD rows (l .i) (nodeOf []) in
-    let id : w .result ≡ idOf x = w .ensures ∙ ap (λ k. k .0) (c .before .before .id-at .ensures) in
-    let dr = left-row (nodeOf []) rows (n .result) (l .i) hi hn in
-    let hk : l .i < length (l .ids) = omega (arith, l .inv .1) in
-    let fit : w .result < 4294967296 = search needs in
-    let same : c .before .before .id-at .result .0 ≡ idOf x = ap (λ k. k .0) (c .before .before .id-at .ensures) in (
+    let k = c .before .before .before .before in
+    let l = k .loop in
+    let x = row (c .before) in
+    let id = c .before .wide .ensures ∙ x .0 in
+    let room : l .i < length (l .ids) = omega (arith, l .inv .1, few k) in
+    let fit : c .before .wide .result < 4294967296 = search needs in (
       omega arith,
       length-set (l .ids) (l .i) _ ∙ l .inv .1,
       omega (arith, fit),
-      rw (id, same) (passed-more (take (n .result) rows) (l .ids) (l .least) (l .i) (l .inv .3) x dr (omega (arith, c .if1 .left)) hk),
+      rw (id, x .0) (passed-more _ (l .ids) (l .least) (l .i) (l .inv .3) _ (x .1) (omega (arith, id, c .if1 .left)) room),
     )
 
 same-length-2 : tie.Need-same-length-2 Inv-loop μ-loop
@@ -98,16 +104,10 @@ same-length-2 c = search needs
 
 returns-2 : tie.Need-returns-2 Inv-loop μ-loop
 returns-2 c =
-    let s = c .before .before .before .before .before in
-    let l = c .before .loop in
-    let n = c .before .before .at-most in
-    let rows = nodesIn (s .args .nodes .now) in
-    let few : n .result ≤ 512 = omega (arith, n .ensures, s .pre .0) in
-    record {
-      long = l .inv .1;
-      few = omega arith;
-      is = passed-end (take (n .result) rows) (l .ids) (l .least) (l .i) (l .inv .3) (no-row rows (n .result) (l .i) (c .loop-test .left)) ∙ ap liveIds (take-count 22 nodeOf (s .args .nodes .now) (s .args .count) (n .result) (n .ensures));
-    }
+    let k = c .before in
+    let l = k .loop in
+    let over = no-row (rows-of k) (count-of k) (l .i) (c .loop-test .left) in
+    record { long = l .inv .1; few = omega (arith, few k); is = passed-end _ (l .ids) (l .least) (l .i) (l .inv .3) over ∙ counted k }
 
 pub live-ids-spec : {M : Type 1} → statement M
 live-ids-spec =

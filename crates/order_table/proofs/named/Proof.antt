@@ -4,7 +4,7 @@ use mathlib.Core.Path.{_≡_, refl, ap, _∙_}
 use lib.ListN.{length, take, getD, length-set}
 use borrow.Author.Needs.{needs}
 use Rattle.lists.proofs.Table.{left-row}
-use Rattle.order.proofs.Mapped.{Mapped, map-next, map-done, no-row}
+use Rattle.prepare.proofs.Mapped.{Mapped, map-next, map-done, no-row}
 use Rattle.order_table.proofs.named.Statement.{statement}
 use Rattle.order_table.proofs.named.Tie as tie
 

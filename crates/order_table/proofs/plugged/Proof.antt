@@ -7,9 +7,9 @@ use mathlib.Core.Logic.{⊎-elim}
 use lib.ListN.{length, take, drop, getD, set, length-set, length-replicate}
 use borrow.Author.Needs.{needs}
 use Rattle.lists.proofs.Table.{left-row, left-cons}
-use Rattle.order.specs.Parts.{plugs}
-use Rattle.order.proofs.Mapped.{no-row}
-use Rattle.order.proofs.Ports.{Flags, flags-start, flags-done, flag-from, flag-to, flag-port, flag-set}
+use Rattle.prepare.specs.Parts.{plugs}
+use Rattle.prepare.proofs.Mapped.{no-row}
+use Rattle.prepare.proofs.Ports.{Flags, flags-start, flags-done, flag-from, flag-to, flag-port, flag-set}
 use Rattle.graph_rows.specs.Edge.{edgeOf, edgesIn}
 use Rattle.order_table.specs.Masks.{portsIn}
 use Rattle.order_table.proofs.Masks.{ports-long, port-set, no-ports}

@@ -6,8 +6,8 @@ use mathlib.Core.Bool.{Bool, true, false, not, _&&_, _||_}
 use mathlib.Core.Logic.{⊎-elim}
 use lib.Dec.{eqb}
 use borrow.Author.Needs.{needs}
-use Rattle.order.specs.Required.{any, bit}
-use Rattle.order.proofs.Ports.{any-next, any-end, half, lack-on, lack-fed, lack-off}
+use Rattle.prepare.specs.Required.{any, bit}
+use Rattle.prepare.proofs.Ports.{any-next, any-end, half, lack-on, lack-fed, lack-off}
 use Rattle.rank.specs.Order.{count-up, upto}
 use Rattle.order_table.specs.Masks.{maskLacks}
 use Rattle.order_table.proofs.Masks.{none-left}

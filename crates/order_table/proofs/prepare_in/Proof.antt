@@ -11,9 +11,9 @@ use Rattle.words.proofs.Rows.{rows-long}
 use Rattle.rank.specs.Order.{whole, upto, arcs}
 use Rattle.rank.specs.Parts.{Ranked}
 use Rattle.rank.specs.declared.Ranking.{Ranking}
-use Rattle.order.specs.Live.{liveIds, arcOf}
-use Rattle.order.specs.Required.{lacking}
-use Rattle.order.proofs.Graph.{ids-rise}
+use Rattle.prepare.specs.Live.{liveIds, arcOf}
+use Rattle.prepare.specs.Required.{lacking}
+use Rattle.prepare.proofs.Graph.{ids-rise}
 use Rattle.graph_rows.specs.Node.{nodeOf, nodesIn}
 use Rattle.graph_rows.specs.Edge.{edgeOf, edgesIn}
 use Rattle.order_table.specs.Prepares.{Lacks}

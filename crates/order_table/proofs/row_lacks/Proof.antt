@@ -6,9 +6,9 @@ use mathlib.Core.Bool.{_||_}
 use lib.ListN.{length, take, drop, getD}
 use borrow.Author.Needs.{needs}
 use Rattle.lists.proofs.Table.{left-row}
-use Rattle.order.specs.Parts.{portsLack, rowsLack}
-use Rattle.order.proofs.Mapped.{no-row}
-use Rattle.order.proofs.Ports.{rows-next}
+use Rattle.prepare.specs.Parts.{portsLack, rowsLack}
+use Rattle.prepare.proofs.Mapped.{no-row}
+use Rattle.prepare.proofs.Ports.{rows-next}
 use Rattle.graph_rows.specs.Node.{nodeOf, nodesIn}
 use Rattle.order_table.specs.Masks.{portsIn}
 use Rattle.order_table.proofs.Masks.{mask-lacks}

@@ -2,7 +2,7 @@ use Prim.Native.Nat.{_+_, _/_, _≤_, _<_, _-_}
 use native.Mathlib.Omega.{arith}
 use lib.ListN.{length}
 use borrow.Author.Needs.{needs}
-use Rattle.order.proofs.Find.{guessed, Halved, halve-up, halve-down, halved-at, halved-other, halved-past}
+use Rattle.prepare.proofs.Find.{guessed, Halved, halve-up, halve-down, halved-at, halved-other, halved-past}
 use Rattle.order_table.proofs.row_of.Statement.{statement}
 use Rattle.order_table.proofs.row_of.Tie as tie
 

@@ -1,11 +1,10 @@
-use Prim.Native.Nat.{ℕ, _+_, _≤_, _<_, _-_}
+use Prim.Native.Nat.{ℕ, _+_, _≤_, _-_}
 use native.Mathlib.Omega.{arith}
 use mathlib.Core.Path.{_≡_, sym, ap, subst, _∙_}
-use lib.ListN.{length, take, getD, length-replicate}
+use lib.ListN.{length, take, length-replicate}
 use borrow.Author.Needs.{needs}
-use Rattle.rank.specs.Order.{arcs, Arc, arc}
-use Rattle.rank.specs.Parts.{fromAt}
-use Rattle.rank.proofs.Laws.{enough, next-arc, arc-at, Chain, chain-start, chain-skip, chain-link}
+use Rattle.rank.specs.Order.{arcs}
+use Rattle.rank.proofs.Laws.{enough, Chain, chain-start, arc-skip, arc-link}
 use Rattle.rank.proofs.linked.Statement.{statement}
 use Rattle.rank.proofs.linked.Tie as tie
 
@@ -14,6 +13,17 @@ Inv-loop from to n m first₀ next₀ i₀ first next i = (i ≤ m) × Chain fir
 
 abbrev μ-loop : tie.MeasureT-loop
 μ-loop from to n m first₀ next₀ i₀ first next i = i
+
+-- the arcs that are linked stand behind the one that is looked at
+left : (c : tie.In-loop Inv-loop μ-loop) →
+    let l = c .before .loop in
+    let a = c .before .before .args in
+    Chain (l .first) (l .next) (a .n) (take (a .m) (arcs (a .from .now) (a .to .now))) (l .i - 1 + 1)
+left c =
+    let l = c .before .loop in
+    let a = c .before .before .args in
+    let back : l .i ≡ l .i - 1 + 1 = omega arith in
+    subst (Chain (l .first) (l .next) (a .n) (take (a .m) (arcs (a .from .now) (a .to .now)))) back (l .inv .1)
 
 loop-holds : tie.Need-loop-holds Inv-loop μ-loop
 loop-holds c = (omega arith, rw (c .pre .0 .2, c .pre .0 .3) (chain-start _ _ _ (c .pre .0 .0) (enough _ _ _ (c .pre .1 .0) (c .pre .1 .1))))
@@ -50,32 +60,22 @@ loop-less c = search needs
 
 loop-again : tie.Need-loop-again Inv-loop μ-loop
 loop-again c =
-    let a = c .before .before .before .before .before .args in
-    let l = c .before .before .before .before .loop in
-    let p = c .before .before .before .before .before .pre in
-    let i = l .i - 1 in
-    let es = take (a .m) (arcs (a .from .now) (a .to .now)) in
-    let hi : i < a .m = omega arith in
-    let q : l .i ≡ i + 1 = omega arith in
-    let inv : Chain (l .first) (l .next) (a .n) es (i + 1) = subst (Chain (l .first) (l .next) (a .n) es) q (l .inv .1) in
-    let fr : fromAt es i ≡ getD (a .from .now) i 0 = ap (λ (x : Arc). x .from) (arc-at (a .from .now) (a .to .now) (a .m) (p .1 .0) (p .1 .1) i hi) in
-    (omega arith, chain-link es i (arc (getD (a .from .now) i 0) (getD (a .to .now) i 0)) (next-arc (a .from .now) (a .to .now) (a .m) (p .1 .0) (p .1 .1) i hi) (l .first) (l .next) (a .n) fr inv (c .before .if1 .taken) (p .0 .0) (omega arith))
+    let k = c .before .before .before in
+    let l = k .before .loop in
+    let a = k .before .before .args in
+    let p = k .before .before .pre in
+    (omega arith, arc-link (a .from .now) (a .to .now) (a .m) (p .1 .0) (p .1 .1) (l .i - 1) (omega arith) (l .first) (l .next) (a .n) (left k) (c .before .if1 .taken) (p .0 .0) (omega arith))
 
 loop-less-2 : tie.Need-loop-less-2 Inv-loop μ-loop
 loop-less-2 c = search needs
 
 loop-again-2 : tie.Need-loop-again-2 Inv-loop μ-loop
 loop-again-2 c =
-    let a = c .before .before .before .before .args in
-    let l = c .before .before .before .loop in
-    let p = c .before .before .before .before .pre in
-    let i = l .i - 1 in
-    let es = take (a .m) (arcs (a .from .now) (a .to .now)) in
-    let hi : i < a .m = omega arith in
-    let q : l .i ≡ i + 1 = omega arith in
-    let inv : Chain (l .first) (l .next) (a .n) es (i + 1) = subst (Chain (l .first) (l .next) (a .n) es) q (l .inv .1) in
-    let fr : fromAt es i ≡ getD (a .from .now) i 0 = ap (λ (x : Arc). x .from) (arc-at (a .from .now) (a .to .now) (a .m) (p .1 .0) (p .1 .1) i hi) in
-    (omega arith, chain-skip es i (arc (getD (a .from .now) i 0) (getD (a .to .now) i 0)) (next-arc (a .from .now) (a .to .now) (a .m) (p .1 .0) (p .1 .1) i hi) (l .first) (l .next) (a .n) fr inv (c .if1 .left))
+    let k = c .before .before in
+    let l = k .before .loop in
+    let a = k .before .before .args in
+    let p = k .before .before .pre in
+    (omega arith, arc-skip (a .from .now) (a .to .now) (a .m) (p .1 .0) (p .1 .1) (l .i - 1) (omega arith) (l .first) (l .next) (a .n) (left k) (c .if1 .left))
 
 same-length : tie.Need-same-length Inv-loop μ-loop
 same-length c = c .before .loop .inv .1 .0 ∙ sym (ap length (c .before .before .pre .0 .2) ∙ length-replicate {A = ℕ} 512 (c .before .before .args .m))

@@ -8,9 +8,9 @@ use mathlib.Core.Logic.{⊎-elim}
 use lib.ListN.{length, take, drop, getD}
 use lib.Seq.{getD-take, length-take-le}
 use borrow.Author.Needs.{needs}
-use Rattle.rank.specs.Order.{Arc, arc, arcs}
-use Rattle.rank.specs.Parts.{orderRows, run, serve, Linked, fromAt, find}
-use Rattle.rank.proofs.Laws.{no-row, next-arc, arc-at, many-arcs}
+use Rattle.rank.specs.Order.{Arc, arcs}
+use Rattle.rank.specs.Parts.{orderRows, run, serve, Linked, find}
+use Rattle.rank.proofs.Laws.{no-row}
 use Rattle.rank.proofs.Serve.{Held, Fell, st, held-start, run-start, next-more, next-found, next-serve, next-run, first-found, first-serve, serve-none, room, fell-past, fell-none, fell-more, fell-one, run-done}
 use Rattle.rank.proofs.queued.Statement.{statement}
 use Rattle.rank.proofs.queued.Tie as tie
@@ -146,30 +146,26 @@ array-read-e-2 c = search needs
 
 loop2-less : tie.Need-loop2-less Inv-loop2 μ-loop2 Inv-loop μ-loop
 loop2-less c =
-    let q = c .before .before .before .before .before .before in
-    let l = c .before .before .before .loop2 in
+    let k = c .before .before in
+    let q = k .before .before .before .before in
+    let l = k .before .loop2 in
     let a = begin q .args in
     let p = begin q .pre .1 in
-    let he : l .e < a .m = c .before .before .loop2-test .taken in
-    let le : l .e < length (edges-of q) = rw (many-arcs (a .from .now) (a .to .now) (a .m) (p .0) (p .1)) he in
-    let dr = next-arc (a .from .now) (a .to .now) (a .m) (p .0) (p .1) (l .e) he in
-    let fr : fromAt (edges-of q) (l .e) ≡ getD (a .from .now) (l .e) 0 = ap (λ (x : Arc). x .from) (arc-at (a .from .now) (a .to .now) (a .m) (p .0) (p .1) (l .e) he) in
-    omega (arith, next-more _ (l .e) (a .n) (edges-of q) _ _ (links q) (served (c .before .before .before .before)) le (arc (getD (a .from .now) (l .e) 0) (getD (a .to .now) (l .e) 0)) dr fr (l .inv .2))
+    omega (arith, next-more (a .from .now) (a .to .now) (a .m) (p .0) (p .1) _ (l .e) (a .n) _ _ (links q) (served (k .before .before)) (k .loop2-test .taken) (l .inv .2))
 
 loop2-again : tie.Need-loop2-again Inv-loop2 μ-loop2 Inv-loop μ-loop
 loop2-again c =
-    let q = c .before .before .before .before .before .before in
-    let l = c .before .before .before .loop2 in
+    let k = c .before .before in
+    let q = k .before .before .before .before in
+    let l = k .before .loop2 in
     let a = begin q .args in
     let p = begin q .pre .1 in
-    let he : l .e < a .m = c .before .before .loop2-test .taken in
-    let le : l .e < length (edges-of q) = rw (many-arcs (a .from .now) (a .to .now) (a .m) (p .0) (p .1)) he in
-    let dr = next-arc (a .from .now) (a .to .now) (a .m) (p .0) (p .1) (l .e) he in
-    let fr : fromAt (edges-of q) (l .e) ≡ getD (a .from .now) (l .e) 0 = ap (λ (x : Arc). x .from) (arc-at (a .from .now) (a .to .now) (a .m) (p .0) (p .1) (l .e) he) in
-    let r = arc (getD (a .from .now) (l .e) 0) (getD (a .to .now) (l .e) 0) in
-    let v = served (c .before .before .before .before) in
-    let f = fell c in
-    (f .held, omega (arith, f .more), next-found _ (l .e) (a .n) (edges-of q) _ _ (links q) v le r dr fr (l .inv .2), next-serve _ (l .e) (a .n) (edges-of q) _ _ (links q) v le r dr fr (l .inv .2) _ _ (f .is) ∙ l .inv .3)
+    let f = fell c in (
+      f .held,
+      omega (arith, f .more),
+      next-found (a .from .now) (a .to .now) (a .m) (p .0) (p .1) _ (l .e) (a .n) _ _ (links q) (served (k .before .before)) (k .loop2-test .taken) (l .inv .2),
+      next-serve (a .from .now) (a .to .now) (a .m) (p .0) (p .1) _ (l .e) (a .n) _ _ (links q) (served (k .before .before)) (k .loop2-test .taken) (l .inv .2) _ _ (f .is) ∙ l .inv .3,
+    )
 
 add-head : tie.Need-add-head Inv-loop2 μ-loop2 Inv-loop μ-loop
 add-head c = search needs

@@ -1,10 +1,48 @@
+use Prim.Native.Nat.{_<_}
 use native.Mathlib.Omega.{arith}
-use mathlib.Core.Path.{sym, ap, _∙_}
+use mathlib.Core.Path.{_≡_, sym, ap, _∙_}
+use mathlib.Core.List.{List}
+use mathlib.Core.Bool.{false}
+use lib.ListN.{take}
 use borrow.Author.Needs.{needs}
-use Rattle.scheduler.specs.Queue.{inserted}
+use Rattle.scheduler.specs.Replace.{replaces, thinned}
+use Rattle.scheduler.specs.Queue.{inserted, full}
+use Rattle.scheduler.specs.declared.event.Event.{Event}
+use Rattle.words.specs.Place.{placeOf, Holds}
+use Rattle.event_table.specs.Rows.{eventsIn}
 use Rattle.event_table.proofs.Scheduling.{takes-none, left-less, queue-full, queue-taken}
 use Rattle.event_table.proofs.queue.schedule_in.Statement.{statement}
 use Rattle.event_table.proofs.queue.schedule_in.Tie as tie
+
+-- the event and the queue that scheduling began with
+abbrev begin : tie.After-row-replaced → tie.Start
+begin c = c .before .before .before .before .before .before
+
+abbrev queue-of : tie.After-row-replaced → List Event
+queue-of c = take (begin c .args .count) (eventsIn (begin c .args .t .now))
+
+-- the row that was looked for is the first that the event replaces
+found : (c : tie.After-row-replaced) → c .row-replaced .result ≡ placeOf (replaces (begin c .args .e)) (queue-of c)
+found c = c .row-replaced .ensures (begin c .args .e) (c .before .before .before .before .key-of .ensures) (c .before .before .before .param-words .ensures)
+
+-- the queue takes none where it is full without what the event replaces
+refuses : (c : tie.After-takes-none) → c .takes-none .result ≡ full (thinned (begin (c .before) .args .e) (queue-of (c .before)))
+refuses c = let s = begin (c .before) in c .takes-none .ensures ∙ takes-none (s .args .count) (s .args .e) (s .args .t .now) (s .pre) (c .before .row-replaced .result) (found (c .before))
+
+-- otherwise that is what is left, and it has a place
+abbrev looked : tie.After-remove-replaced → tie.After-row-replaced
+looked c = c .before .before .before .before .before
+
+room : (c : tie.After-remove-replaced) → full (thinned (begin (looked c) .args .e) (queue-of (looked c))) ≡ false
+room c = sym (refuses (c .before .before .before .before)) ∙ c .before .before .before .if1 .left
+
+left : (c : tie.After-remove-replaced) → Holds (eventsIn (c .remove-replaced .last .0)) (c .remove-replaced .result) (thinned (begin (looked c) .args .e) (queue-of (looked c)))
+left c =
+    let r = looked c in
+    c .remove-replaced .ensures (begin r .args .e) (r .before .before .before .before .key-of .ensures) (r .before .before .before .param-words .ensures) (found r)
+
+less : (c : tie.After-remove-replaced) → c .remove-replaced .result < 256
+less c = let s = begin (looked c) in left-less (s .args .count) (s .args .e) (s .args .t .now) (c .remove-replaced .result) (room c) (left c .many)
 
 key-of-requires : tie.Need-key-of-requires
 key-of-requires c κs = search needs
@@ -25,13 +63,7 @@ same-length : tie.Need-same-length
 same-length c = search needs
 
 returns : tie.Need-returns
-returns c =
-    let s = c .before .before .before .before .before .before .before .before in
-    let k = c .before .before .before .before .before .before .key-of .ensures in
-    let name = c .before .before .before .before .before .param-words .ensures in
-    let at = c .before .before .row-replaced .ensures (s .args .e) k name in
-    let none = takes-none (s .args .count) (s .args .e) (s .args .t .now) (s .pre) (c .before .before .row-replaced .result) at in
-    queue-full (s .args .count) (s .args .e) (s .args .t .now) (sym none ∙ sym (c .before .takes-none .ensures) ∙ c .if1 .taken)
+returns c = let s = begin (c .before .before) in queue-full (s .args .count) (s .args .e) (s .args .t .now) (sym (refuses (c .before)) ∙ c .if1 .taken)
 
 slice-aggregate-remove-replaced : tie.Need-slice-aggregate-remove-replaced
 slice-aggregate-remove-replaced c = search needs
@@ -40,43 +72,20 @@ remove-replaced-requires : tie.Need-remove-replaced-requires
 remove-replaced-requires c κs = search needs
 
 insert-requires : tie.Need-insert-requires
-insert-requires c κs =
-    let s = c .before .before .before .before .before .before .before .before .before .before .before .before .before .before in
-    let k = c .before .before .before .before .before .before .before .before .before .before .before .before .key-of .ensures in
-    let name = c .before .before .before .before .before .before .before .before .before .before .before .param-words .ensures in
-    let at = c .before .before .before .before .before .before .before .before .row-replaced .ensures (s .args .e) k name in
-    let none = takes-none (s .args .count) (s .args .e) (s .args .t .now) (s .pre) (c .before .before .before .before .before .before .before .before .row-replaced .result) at in
-    let r = c .before .before .before .remove-replaced in
-    let held = r .ensures (s .args .e) k name at in
-    let room = sym none ∙ sym (c .before .before .before .before .before .before .before .takes-none .ensures) ∙ c .before .before .before .before .before .before .if1 .left in
-    (search needs, left-less (s .args .count) (s .args .e) (s .args .t .now) (r .result) room (held .many))
+insert-requires c κs = (search needs, less (c .before .before .before))
 
 add-t23 : tie.Need-add-t23
-add-t23 c =
-    let s = c .before .before .before .before .before .before .before .before .before .before .before .before .before .before .before .before .before in
-    let k = c .before .before .before .before .before .before .before .before .before .before .before .before .before .before .before .key-of .ensures in
-    let name = c .before .before .before .before .before .before .before .before .before .before .before .before .before .before .param-words .ensures in
-    let at = c .before .before .before .before .before .before .before .before .before .before .before .row-replaced .ensures (s .args .e) k name in
-    let none = takes-none (s .args .count) (s .args .e) (s .args .t .now) (s .pre) (c .before .before .before .before .before .before .before .before .before .before .before .row-replaced .result) at in
-    let r = c .before .before .before .before .before .before .remove-replaced in
-    let held = r .ensures (s .args .e) k name at in
-    let room = sym none ∙ sym (c .before .before .before .before .before .before .before .before .before .before .takes-none .ensures) ∙ c .before .before .before .before .before .before .before .before .before .if1 .left in
-    omega (arith, left-less (s .args .count) (s .args .e) (s .args .t .now) (r .result) room (held .many))
+add-t23 c = omega (arith, less (c .before .before .before .before .before .before))
 
 same-length-2 : tie.Need-same-length-2
 same-length-2 c = search needs
 
 returns-2 : tie.Need-returns-2
 returns-2 c =
-    let s = c .before .before .before .before .before .before .before .before .before .before .before .before .before .before .before .before .before in
-    let k = c .before .before .before .before .before .before .before .before .before .before .before .before .before .before .before .key-of .ensures in
-    let name = c .before .before .before .before .before .before .before .before .before .before .before .before .before .before .param-words .ensures in
-    let at = c .before .before .before .before .before .before .before .before .before .before .before .row-replaced .ensures (s .args .e) k name in
-    let none = takes-none (s .args .count) (s .args .e) (s .args .t .now) (s .pre) (c .before .before .before .before .before .before .before .before .before .before .before .row-replaced .result) at in
-    let r = c .before .before .before .before .before .before .remove-replaced in
-    let held = r .ensures (s .args .e) k name at in
-    let room = sym none ∙ sym (c .before .before .before .before .before .before .before .before .before .before .takes-none .ensures) ∙ c .before .before .before .before .before .before .before .before .before .if1 .left in
-    queue-taken (s .args .count) (s .args .e) (s .args .t .now) (c .before .before .insert .last .0) (r .result) room (held .many) (c .before .before .insert .ensures ∙ ap (inserted (s .args .e)) (held .is))
+    let i = c .before .before .insert in
+    let r = c .before .before .before .before .before .before in
+    let s = begin (looked r) in
+    queue-taken (s .args .count) (s .args .e) (s .args .t .now) (i .last .0) (r .remove-replaced .result) (room r) (left r .many) (i .ensures ∙ ap (inserted (s .args .e)) (left r .is))
 
 pub schedule-in-spec : {M : Type 1} → statement M
 schedule-in-spec =

@@ -1,6 +1,6 @@
 use mathlib.Core.Path.{sym, ap, _∙_}
 use borrow.Author.Needs.{needs}
-use Rattle.node.specs.declared.order.Action.the-variants as action
+use Rattle.node.specs.declared.order.EventAction.the-variants as action
 use Rattle.event_table.proofs.row.action_words.Statement.{statement}
 use Rattle.event_table.proofs.row.action_words.Tie as tie
 

@@ -1,16 +1,14 @@
-use Prim.Native.Nat.{_-_, _≤_, _<_, min}
+use Prim.Native.Nat.{_-_, _≤_, min}
 use mathlib.Core.Path.{_≡_, sym, ap, _∙_, subst}
-use mathlib.Core.List.{[], _∷_}
+use mathlib.Core.List.{[]}
 use mathlib.Core.Bool.{true, false}
 use native.Mathlib.Omega.{arith}
-use lib.ListN.{length, take, drop, getD, set, replicate, length-take, drop-of-length-le}
+use lib.ListN.{take, drop, getD, set, replicate}
 use borrow.Author.Needs.{needs}
-use Rattle.words.proofs.Rows.{rows-long}
-use Rattle.words.proofs.InWords.{take-count}
-use Rattle.edges.proofs.Search.{row-before}
 use Rattle.node.specs.declared.record.NodeId.{NodeId}
 use Rattle.graph_rows.specs.Edge.{edgeOf, edgesIn}
 use Rattle.graph_tables.specs.Fed.{FedPorts}
+use Rattle.graph_tables.proofs.Backwards.{Precedes, none-passed, next-edge, all-passed}
 use Rattle.graph_tables.proofs.Fed.{fed-start, fed-pass, fed-mark}
 use Rattle.graph_tables.proofs.ports.fed_in.Statement.{statement}
 use Rattle.graph_tables.proofs.ports.fed_in.Tie as tie
@@ -22,29 +20,16 @@ abbrev μ-loop : tie.MeasureT-loop
 μ-loop t count node fed₀ i₀ fed i = i
 
 -- the row that is looked at stands before those that were passed
-row : (c : tie.In-loop Inv-loop μ-loop) →
-    let l = c .before .loop in
-    let m = c .before .before .at-most .result in
-    let rows = edgesIn (c .before .before .before .before .args .t .now) in
-    drop (l .i - 1) (take m rows) ≡ getD rows (l .i - 1) (edgeOf []) ∷ drop (l .i) (take m rows)
-row c =
-    let l = c .before .loop in
-    let m = c .before .before .at-most in
-    let t = c .before .before .before .before .args .t .now in
-    let some-left : 0 < l .i = c .loop-test .taken in
-    let inside : m .result ≤ length (edgesIn t) = omega (arith, m .ensures, rows-long 3 edgeOf t) in
-    row-before (edgesIn t) (m .result) (l .i) (edgeOf []) some-left (l .inv .0) inside
+row : (c : tie.In-loop Inv-loop μ-loop) → let t = c .before .before .before .before .args .t .now in Precedes t (c .before .before .at-most .result) (c .before .loop .i) (getD (edgesIn t) (c .before .loop .i - 1) (edgeOf []))
+row c = let s = c .before .before .before .before .args in next-edge (s .t .now) (s .count) _ (c .before .before .at-most .ensures) (c .before .loop .i) (c .loop-test .taken) (c .before .loop .inv .0)
 
 at-most-requires : tie.Need-at-most-requires Inv-loop μ-loop
 at-most-requires c κs = search needs
 
 loop-holds : tie.Need-loop-holds Inv-loop μ-loop
 loop-holds c =
-    let s = c .before .before in
-    let m = c .at-most in
-    let rows = edgesIn (s .args .t .now) in
-    let none-left : length (take (m .result) rows) ≤ m .result = omega (arith, length-take (m .result) rows) in
-    (omega arith, subst (λ es. FedPorts (replicate 65 false) es (s .args .node)) (sym (drop-of-length-le (take (m .result) rows) none-left)) (fed-start (s .args .node)))
+    let s = c .before .before .args in
+    (omega arith, subst (λ es. FedPorts (replicate 65 false) es (s .node)) (sym (none-passed (s .t .now) (s .count) _ (c .at-most .ensures))) (fed-start (s .node)))
 
 sub-i : tie.Need-sub-i Inv-loop μ-loop
 sub-i c = search needs
@@ -89,12 +74,9 @@ loop-again-2 c =
 
 returns : tie.Need-returns Inv-loop μ-loop
 returns c =
-    let s = c .before .before .before .before in
-    let m = c .before .before .at-most in
+    let s = c .before .before .before .before .args in
     let l = c .before .loop in
-    let rows = edgesIn (s .args .t .now) in
-    let first : l .i ≡ 0 = omega arith in
-    subst (λ es. FedPorts (l .fed) es (s .args .node)) (take-count 3 edgeOf (s .args .t .now) (s .args .count) (m .result) (m .ensures)) (subst (λ i. FedPorts (l .fed) (drop i (take (m .result) rows)) (s .args .node)) first (l .inv .1))
+    subst (λ es. FedPorts (l .fed) es (s .node)) (all-passed (s .t .now) (s .count) _ (c .before .before .at-most .ensures) (l .i) (omega arith)) (l .inv .1)
 
 pub fed-in-spec : {M : Type 1} → statement M
 fed-in-spec =

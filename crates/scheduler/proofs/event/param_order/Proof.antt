@@ -1,13 +1,13 @@
 use mathlib.Core.Path.{_≡_, sym, ap}
 use borrow.Author.Needs.{needs}
-use Rattle.node.specs.declared.order.Action.{Action}
+use Rattle.node.specs.declared.order.EventAction.{EventAction}
 use Rattle.scheduler.specs.declared.event.Event.{Event}
 use Rattle.scheduler.specs.Event.{paramOf, orderOf, paramOrder}
 use Rattle.scheduler.proofs.event.param_order.Statement.{statement}
 use Rattle.scheduler.proofs.event.param_order.Tie as tie
 
 -- what an event stands for, once its action is known
-stands : (e : Event) {a : Action} → e .action ≡ a → paramOrder e ≡ record { name = paramOf a (e .name); order = orderOf a }
+stands : (e : Event) {a : EventAction} → e .action ≡ a → paramOrder e ≡ record { name = paramOf a (e .name); order = orderOf a }
 stands e p = ap (λ a. record { name = paramOf a (e .name); order = orderOf a }) p
 
 enum-known-action : tie.Need-enum-known-action

@@ -1,13 +1,13 @@
 -- `synthdef::limits::nodes_allowed` meets its contract. Invariant: the nodes from i on are all allowed exactly if all are.
 use Prim.Native.Nat.{_-_}
-use mathlib.Core.Path.{_≡_, refl, sym, ap, _∙_}
+use mathlib.Core.Path.{_≡_, refl, sym, _∙_}
 use lib.ListN.{length, drop, length-map}
 use borrow.Author.Needs.{needs}
 use borrow.Author.Tests.{not-true, not-false}
 use Rattle.synthdef.specs.Rows.{every}
 use Rattle.synthdef.specs.Tables.{nodeRows, noNode}
 use Rattle.synthdef.specs.Limits.{nodeAllowed}
-use Rattle.synthdef.proofs.Walk.{walked, every-hit, every-miss}
+use Rattle.synthdef.proofs.Walk.{every-hit, every-miss, every-walked}
 use Rattle.synthdef.proofs.limits.nodes_allowed.Statement.{statement}
 use Rattle.synthdef.proofs.limits.nodes_allowed.Tie as tie
 
@@ -39,10 +39,7 @@ returns : tie.Need-returns Inv-loop μ-loop
 returns c =
     let l = c .before .before .before .before in
     let s = l .before .before in
-    sym
-    (sym (l .loop .inv)
-    ∙ every-hit 24 (s .args .t1 .count) (s .args .t1 .rows) (l .before .at-most .result) (l .before .at-most .ensures) (l .loop .i) (long s) (search needs) noNode nodeAllowed
-    (sym (c .before .node-allowed .ensures) ∙ not-true _ (c .if1 .taken)))
+    every-hit 24 (s .args .t1 .count) (s .args .t1 .rows) (l .before .at-most .result) (l .before .at-most .ensures) nodeAllowed (l .loop .i) (l .loop .inv) (long s) (search needs) noNode (sym (c .before .node-allowed .ensures) ∙ not-true _ (c .if1 .taken))
 
 add-i : tie.Need-add-i Inv-loop μ-loop
 add-i c = search needs
@@ -54,16 +51,13 @@ loop-again : tie.Need-loop-again Inv-loop μ-loop
 loop-again c =
     let l = c .before .before .before .before in
     let s = l .before .before in
-    every-miss 24 (s .args .t1 .count) (s .args .t1 .rows) (l .before .at-most .result) (l .before .at-most .ensures) (l .loop .i) (long s) (search needs) noNode nodeAllowed
-    (sym (c .before .node-allowed .ensures) ∙ not-false _ (c .if1 .left))
-    ∙ l .loop .inv
+    every-miss 24 (s .args .t1 .count) (s .args .t1 .rows) (l .before .at-most .result) (l .before .at-most .ensures) nodeAllowed (l .loop .i) (l .loop .inv) (long s) (search needs) noNode (sym (c .before .node-allowed .ensures) ∙ not-false _ (c .if1 .left))
 
 returns-2 : tie.Need-returns-2 Inv-loop μ-loop
 returns-2 c =
     let l = c .before in
     let s = l .before .before in
-    sym
-    (sym (l .loop .inv) ∙ ap (every nodeAllowed) (walked 24 (s .args .t1 .count) (s .args .t1 .rows) (l .before .at-most .result) (l .before .at-most .ensures) (l .loop .i) (search needs)))
+    every-walked 24 (s .args .t1 .count) (s .args .t1 .rows) (l .before .at-most .result) (l .before .at-most .ensures) nodeAllowed (l .loop .i) (l .loop .inv) (search needs)
 
 pub nodes-allowed-spec : {M : Type 1} → statement M
 nodes-allowed-spec =

@@ -1,11 +1,10 @@
-use Prim.Native.Nat.{_+_, _≤_, _<_, _-_}
+use Prim.Native.Nat.{_+_, _≤_, _-_}
 use native.Mathlib.Omega.{arith}
 use mathlib.Core.Path.{_≡_, refl, sym, ap, _∙_}
-use mathlib.Core.List.{[]}
-use lib.ListN.{length, take, drop, length-map, length-take, drop-of-length-le}
+use lib.ListN.{length, take, drop, length-map}
 use borrow.Author.Needs.{needs}
 use Rattle.voice.specs.Policy.{lowest}
-use Rattle.voice.proofs.Ranks.{lowest-row}
+use Rattle.voice.proofs.Walk.{none-left, lowest-row}
 use Rattle.voice.proofs.policy.lowest_rank.Statement.{statement}
 use Rattle.voice.proofs.policy.lowest_rank.Tie as tie
 
@@ -43,14 +42,10 @@ loop-again : tie.Need-loop-again Inv-loop μ-loop
 loop-again c =
     let s = c .before .before .before .before .before in
     let l = c .before .before .before .loop in
-    let rows = s .args .t1 .rows in
-    let n = c .before .before .before .before .at-most-64 .result in
-    let k = rows-long s in
-    let below : l .i < n = omega arith in
-    let fit : n ≤ length rows = omega arith in (
+    let n = c .before .before .before .before .at-most-64 in (
       omega arith,
-      ap (λ h. lowest h (drop (l .i + 1) (take n rows))) (c .lower .ensures)
-          ∙ sym (lowest-row _ rows n (l .i) below fit (l .k))
+      ap (λ h. lowest h (drop (l .i + 1) (take (n .result) (s .args .t1 .rows)))) (c .lower .ensures)
+          ∙ sym (lowest-row (s .args .t1 .rows) (s .args .t1 .count) (n .result) (l .i) (rows-long s) (n .ensures) _ (c .before .before .loop-test .taken) (l .k))
           ∙ l .inv .1,
     )
 
@@ -58,12 +53,8 @@ returns : tie.Need-returns Inv-loop μ-loop
 returns c =
     let s = c .before .before .before in
     let l = c .before .loop in
-    let rows = s .args .t1 .rows in
-    let n = c .before .before .at-most-64 .result in
-    let k = rows-long s in
-    let short : length (take n rows) ≤ l .i = simp length-take (omega arith) in
-    let none : drop (l .i) (take n rows) ≡ [] = drop-of-length-le (take n rows) short in
-    sym (ap (lowest (l .k)) none) ∙ l .inv .1 ∙ ap (λ m. lowest (s .args .rank) (take m rows)) (c .before .before .at-most-64 .ensures)
+    let n = c .before .before .at-most-64 in
+    sym (ap (lowest (l .k)) (none-left (s .args .t1 .rows) (n .result) (l .i) (c .loop-test .left))) ∙ l .inv .1 ∙ ap (λ m. lowest (s .args .rank) (take m (s .args .t1 .rows))) (n .ensures)
 
 pub lowest-rank-spec : {M : Type 1} → statement M
 lowest-rank-spec =

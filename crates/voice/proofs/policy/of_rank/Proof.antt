@@ -1,9 +1,8 @@
 use Prim.Native.Nat.{_≤_, _<_, _-_, min}
 use native.Mathlib.Omega.{arith}
 use mathlib.Core.Path.{_≡_, refl, ap, _∙_}
-use mathlib.Core.Bool.{true, false}
 use lib.Dec.{eqb}
-use lib.ListN.{length, take, getD, length-map, length-set}
+use lib.ListN.{length, take, length-map, length-set}
 use borrow.Author.Needs.{needs}
 use borrow.Author.Tests.{eq-eqb, ne-eqb}
 use Rattle.lists.specs.Filter.{filter}
@@ -20,6 +19,10 @@ abbrev μ-loop : tie.MeasureT-loop
 
 rows-long : (c : tie.Start Inv-loop μ-loop) → length (c .args .t1 .rows) ≡ 64
 rows-long c = simp length-map at (c .good .0 .1 .1 .0 .1 .0 .1)
+
+-- the row that is looked at is one
+inside : (c : tie.In-loop Inv-loop μ-loop) → c .before .loop .i < length (c .before .before .before .before .args .t1 .rows)
+inside c = omega (arith, rows-long (c .before .before .before .before), c .before .before .before .at-most-64 .ensures, c .loop-test .taken)
 
 at-most-64-requires : tie.Need-at-most-64-requires Inv-loop μ-loop
 at-most-64-requires c κs = search needs
@@ -53,18 +56,14 @@ loop-less c = search needs
 
 loop-again : tie.Need-loop-again Inv-loop μ-loop
 loop-again c =
-    let s = c .before .before .before .before .before .before .before in
-    let rows = s .args .t1 .rows in
-    let at = c .before .before .before .before .loop in
-    let long = rows-long s in
-    let n = c .before .before .before .before .before .before .at-most-64 .ensures in
-    let below : at .i < length rows = omega (arith, long, n, c .before .before .before .loop-test .taken) in
-    let fits : at .kept < length (at .out .rows) = omega (arith, long, n, at .inv .1, at .inv .2, c .before .before .before .loop-test .taken) in
-    let on : eqb (getD rows (at .i) _ .rank) (s .args .k) ≡ true = eq-eqb _ _ (c .if1 .taken) in (
+    let k = c .before .before .before in
+    let s = k .before .before .before .before in
+    let at = k .before .loop in
+    let fits : at .kept < length (at .out .rows) = omega (arith, inside k, rows-long s, at .inv .1, at .inv .2) in (
       omega arith,
       omega (arith, at .inv .1),
       simp length-set (at .inv .2),
-      filter-row _ (λ (x : Candidate). eqb (x .rank) (s .args .k)) rows (at .out .rows) (at .i) (at .kept) below fits (at .inv .3) on,
+      filter-row _ (λ (x : Candidate). eqb (x .rank) (s .args .k)) (s .args .t1 .rows) (at .out .rows) (at .i) (at .kept) (inside k) fits (at .inv .3) (eq-eqb _ _ (c .if1 .taken)),
     )
 
 add-i-2 : tie.Need-add-i-2 Inv-loop μ-loop
@@ -75,17 +74,13 @@ loop-less-2 c = search needs
 
 loop-again-2 : tie.Need-loop-again-2 Inv-loop μ-loop
 loop-again-2 c =
-    let s = c .before .before .before .before .before .before .before in
-    let rows = s .args .t1 .rows in
-    let at = c .before .before .before .before .loop in
-    let long = rows-long s in
-    let n = c .before .before .before .before .before .before .at-most-64 .ensures in
-    let below : at .i < length rows = omega (arith, long, n, c .before .before .before .loop-test .taken) in
-    let off : eqb (getD rows (at .i) _ .rank) (s .args .k) ≡ false = ne-eqb _ _ (c .if1 .left) in (
+    let k = c .before .before .before in
+    let s = k .before .before .before .before in
+    let at = k .before .loop in (
       omega arith,
       omega (arith, at .inv .1),
       at .inv .2,
-      drop-row _ (λ (x : Candidate). eqb (x .rank) (s .args .k)) rows (at .out .rows) (at .i) (at .kept) below (at .inv .3) off,
+      drop-row _ (λ (x : Candidate). eqb (x .rank) (s .args .k)) (s .args .t1 .rows) (at .out .rows) (at .i) (at .kept) (inside k) (at .inv .3) (ne-eqb _ _ (c .if1 .left)),
     )
 
 returns : tie.Need-returns Inv-loop μ-loop

@@ -1,12 +1,11 @@
-use Prim.Native.Nat.{_+_, _≤_, _<_, _-_}
+use Prim.Native.Nat.{_+_, _≤_, _-_}
 use native.Mathlib.Omega.{arith}
 use mathlib.Core.Path.{_≡_, refl, sym, ap, _∙_}
-use mathlib.Core.List.{[]}
-use lib.ListN.{length, take, drop, length-map, length-take, drop-of-length-le}
+use lib.ListN.{length, take, drop, length-map}
 use borrow.Author.Needs.{needs}
 use Rattle.voice.specs.Policy.{walk}
 use Rattle.voice.specs.declared.policy.Held.the-variants as held
-use Rattle.voice.proofs.Walk.{walk-row}
+use Rattle.voice.proofs.Walk.{none-left, walk-row}
 use Rattle.voice.proofs.policy.walk_levels.Statement.{statement}
 use Rattle.voice.proofs.policy.walk_levels.Tie as tie
 
@@ -44,14 +43,10 @@ loop-again : tie.Need-loop-again Inv-loop μ-loop
 loop-again c =
     let s = c .before .before .before .before .before in
     let l = c .before .before .before .loop in
-    let rows = s .args .t1 .rows in
-    let n = c .before .before .before .before .at-most-64 .result in
-    let k = rows-long s in
-    let below : l .i < n = omega arith in
-    let fit : n ≤ length rows = omega arith in (
+    let n = c .before .before .before .before .at-most-64 in (
       omega arith,
-      ap (λ h. walk h (l .i + 1) (drop (l .i + 1) (take n rows))) (c .pass-candidate .ensures)
-          ∙ sym (walk-row _ rows n (l .i) below fit (l .h))
+      ap (λ h. walk h (l .i + 1) (drop (l .i + 1) (take (n .result) (s .args .t1 .rows)))) (c .pass-candidate .ensures)
+          ∙ sym (walk-row (s .args .t1 .rows) (s .args .t1 .count) (n .result) (l .i) (rows-long s) (n .ensures) _ (c .before .before .loop-test .taken) (l .h))
           ∙ l .inv .1,
     )
 
@@ -59,12 +54,8 @@ returns : tie.Need-returns Inv-loop μ-loop
 returns c =
     let s = c .before .before .before in
     let l = c .before .loop in
-    let rows = s .args .t1 .rows in
-    let n = c .before .before .at-most-64 .result in
-    let k = rows-long s in
-    let short : length (take n rows) ≤ l .i = simp length-take (omega arith) in
-    let none : drop (l .i) (take n rows) ≡ [] = drop-of-length-le (take n rows) short in
-    sym (ap (walk (l .h) (l .i)) none) ∙ l .inv .1 ∙ ap (λ m. walk held.Nothing 0 (take m rows)) (c .before .before .at-most-64 .ensures)
+    let n = c .before .before .at-most-64 in
+    sym (ap (walk (l .h) (l .i)) (none-left (s .args .t1 .rows) (n .result) (l .i) (c .loop-test .left))) ∙ l .inv .1 ∙ ap (λ m. walk held.Nothing 0 (take m (s .args .t1 .rows))) (n .ensures)
 
 pub walk-levels-spec : {M : Type 1} → statement M
 walk-levels-spec =

@@ -10,10 +10,10 @@ use Rattle.node.specs.declared.record.Edge.{Edge}
 use Rattle.node.specs.declared.order.LastOrder.the-variants.{Nothing}
 use Rattle.node.specs.declared.refusal.Refusal.the-variants.{RequiredPort, Cycle}
 use Rattle.rank.specs.Order.{among, fed, released, walk, order, whole, count-up}
-use Rattle.order.specs.declared.Readiness.the-variants.{Ready}
-use Rattle.order.specs.Live.{risingFrom, liveNodes, liveIds, asId, processingOrder}
-use Rattle.order.specs.Required.{any, lacks, lacking}
-use Rattle.order.specs.Prepare.{Outcome, refused, prepare}
+use Rattle.prepare.specs.declared.Readiness.the-variants.{Ready}
+use Rattle.prepare.specs.Live.{risingFrom, liveNodes, liveIds, asId, processingOrder}
+use Rattle.prepare.specs.Required.{any, lacks, lacking}
+use Rattle.prepare.specs.Prepare.{Outcome, refused, prepare}
 
 -- a node by its id, its ports and the mask of those it requires
 unfoldable pub node : ℕ → ℕ → ℕ → Node

@@ -8,10 +8,10 @@ use Rattle.node.specs.declared.record.Edge.{Edge}
 use Rattle.node.specs.declared.refusal.Refusal.{Refusal}
 use Rattle.node.specs.declared.refusal.Refusal.the-variants.{RequiredPort, Cycle}
 use Rattle.rank.specs.Order.{whole}
-use Rattle.order.specs.declared.Readiness.{Readiness}
-use Rattle.order.specs.declared.Readiness.the-variants.{Ready, Refused}
-use Rattle.order.specs.Live.{liveIds, arcOf, processingOrder}
-use Rattle.order.specs.Required.{lacking}
+use Rattle.prepare.specs.declared.Readiness.{Readiness}
+use Rattle.prepare.specs.declared.Readiness.the-variants.{Ready, Refused}
+use Rattle.prepare.specs.Live.{liveIds, arcOf, processingOrder}
+use Rattle.prepare.specs.Required.{lacking}
 
 pub record Outcome : Type 0 where
   pub answer : Readiness

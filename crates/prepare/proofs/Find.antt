@@ -10,7 +10,7 @@ use lib.ListN.{length, take, getD}
 use lib.Seq.{getD-take, length-take-le}
 use borrow.Author.Tests.{eq-eqb, ne-eqb}
 use Rattle.rank.specs.Names.{rowOf}
-use Rattle.order.specs.Parts.{Rising}
+use Rattle.prepare.specs.Parts.{Rising}
 
 row-here : (l : List ℕ) (x k : ℕ) → k < length l → ((j : ℕ) → j < k → getD l j 0 ≢ x) → getD l k 0 ≡ x → k ≡ rowOf l x
 unfolding rowOf

@@ -13,12 +13,12 @@ use Rattle.node.specs.declared.refusal.Refusal.the-variants.{RequiredPort, Cycl
 use Rattle.rank.specs.Order.{Arc, order, whole}
 use Rattle.rank.specs.Cycle.{Cyclic, Acyclic, Sorted}
 use Rattle.rank.proofs.Theorems.{short-cyclic, cyclic-short, whole-sorted, whole-acyclic}
-use Rattle.order.specs.declared.Readiness.{Readiness}
-use Rattle.order.specs.declared.Readiness.the-variants.{Ready, Refused}
-use Rattle.order.specs.Live.{liveIds, arcOf, asId, processingOrder}
-use Rattle.order.specs.Required.{lacking}
-use Rattle.order.specs.Prepare.{Outcome, refused, prepare}
-use Rattle.order.proofs.Rises.{live-distinct}
+use Rattle.prepare.specs.declared.Readiness.{Readiness}
+use Rattle.prepare.specs.declared.Readiness.the-variants.{Ready, Refused}
+use Rattle.prepare.specs.Live.{liveIds, arcOf, asId, processingOrder}
+use Rattle.prepare.specs.Required.{lacking}
+use Rattle.prepare.specs.Prepare.{Outcome, refused, prepare}
+use Rattle.prepare.proofs.Rises.{live-distinct}
 
 -- the id's number
 abbrev pub number : NodeId → ℕ

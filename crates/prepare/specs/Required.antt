@@ -6,7 +6,7 @@ use lib.Dec.{eqb}
 use Rattle.node.specs.declared.record.Node.{Node}
 use Rattle.node.specs.declared.record.Edge.{Edge}
 use Rattle.rank.specs.Order.{among, upto}
-use Rattle.order.specs.Live.{liveNodes, liveIds, idOf}
+use Rattle.prepare.specs.Live.{liveNodes, liveIds, idOf}
 
 unfoldable pub any : {A : Type 0} → (A → Bool) → List A → Bool
 any q [] = false

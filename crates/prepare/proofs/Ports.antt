@@ -14,8 +14,8 @@ use borrow.Author.Tests.{eq-eqb, ne-eqb, lt-ltb, le-ltb}
 use Rattle.node.specs.declared.record.Node.{Node}
 use Rattle.node.specs.declared.record.Edge.{Edge}
 use Rattle.rank.specs.Order.{count-up}
-use Rattle.order.specs.Required.{any, bit}
-use Rattle.order.specs.Parts.{plugs, portsLack, rowsLack}
+use Rattle.prepare.specs.Required.{any, bit}
+use Rattle.prepare.specs.Parts.{plugs, portsLack, rowsLack}
 
 -- ---- which ports are fed: the flags, with what the edges that are left feed, are what all feed
 abbrev pub Flags : List Bool → ℕ → List ℕ → List ℕ → List Edge → (ℕ → ℕ → Bool) → Type 0

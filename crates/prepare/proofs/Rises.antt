@@ -16,8 +16,8 @@ use Rattle.node.specs.declared.record.Node.{Node}
 use Rattle.rank.specs.Order.{among}
 use Rattle.rank.specs.Cycle.{Distinct}
 use Rattle.rank.proofs.Sound.{bool-false, among-in, in-at}
-use Rattle.order.specs.Live.{risingFrom, liveNodes, liveIds, idOf}
-use Rattle.order.specs.Parts.{Rising}
+use Rattle.prepare.specs.Live.{risingFrom, liveNodes, liveIds, idOf}
+use Rattle.prepare.specs.Parts.{Rising}
 
 -- ---- the loop: the ids so far, and the live ones of what is left
 abbrev pub Passed : List Node → List ℕ → ℕ → ℕ → Type 0

@@ -10,8 +10,8 @@ use Rattle.node.specs.declared.record.Edge.{Edge}
 use Rattle.rank.specs.Order.{upto}
 use Rattle.rank.specs.Names.{rowOf}
 use Rattle.rank.specs.declared.Ranking.{Ranking}
-use Rattle.order.specs.Live.{liveIds}
-use Rattle.order.specs.Required.{any, bit}
+use Rattle.prepare.specs.Live.{liveIds}
+use Rattle.prepare.specs.Required.{any, bit}
 
 -- the ids of the live nodes are the first `count` of these
 pub record Lived (ids : List ℕ) (count : ℕ) (nodes : List Node) : Type 0 where

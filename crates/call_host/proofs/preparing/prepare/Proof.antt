@@ -1,8 +1,8 @@
 use borrow.Author.Needs.{needs}
 use Rattle.memory.proofs.Steps.{kept-none}
 use Rattle.call_host.proofs.Ordering.{prepares-not, prepares-kept, prepares}
-use Rattle.call_host.proofs.prepare.prepare.Statement.{statement}
-use Rattle.call_host.proofs.prepare.prepare.Tie as tie
+use Rattle.call_host.proofs.preparing.prepare.Statement.{statement}
+use Rattle.call_host.proofs.preparing.prepare.Tie as tie
 
 prepare-requires : tie.Need-prepare-requires
 prepare-requires c κs = search needs

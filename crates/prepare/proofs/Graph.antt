@@ -22,10 +22,10 @@ use Rattle.rank.proofs.Sound.{at-in}
 use Rattle.rank.proofs.Counts.{length-upto}
 use Rattle.rank.proofs.Names.{row-live, row-back, row-of-row, order-named, whole-named}
 use Rattle.rank.proofs.Theorems.{distinct-upto, order-only, order-few}
-use Rattle.order.specs.Live.{liveNodes, liveIds, idOf, arcOf, asId, processingOrder}
-use Rattle.order.specs.Required.{any, connected, bit, lacks, lacking}
-use Rattle.order.specs.Parts.{Lived, Rising, sourceRow, targetRow, Ends, plugs, Plugged, portsLack, rowsLack, RowsIn}
-use Rattle.order.proofs.Rises.{live-first, live-rising, live-distinct}
+use Rattle.prepare.specs.Live.{liveNodes, liveIds, idOf, arcOf, asId, processingOrder}
+use Rattle.prepare.specs.Required.{any, connected, bit, lacks, lacking}
+use Rattle.prepare.specs.Parts.{Lived, Rising, sourceRow, targetRow, Ends, plugs, Plugged, portsLack, rowsLack, RowsIn}
+use Rattle.prepare.proofs.Rises.{live-first, live-rising, live-distinct}
 
 any-below : (q s : ℕ → Bool) (k i : ℕ) → ((p : ℕ) → p < i + k → q p ≡ s p) → any q (count-up k i) ≡ any s (count-up k i)
 unfolding any count-up
