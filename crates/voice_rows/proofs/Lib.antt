@@ -4,3 +4,4 @@ pub mod Words
 pub mod Reading
 pub mod Earliest
 pub mod Picked
+pub mod First

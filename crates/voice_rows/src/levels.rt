@@ -22,7 +22,7 @@ ghost use lib.ListN.{length, take, getD};
 ghost use Rattle.voice.specs.Policy.{candidatesOf};
 ghost use Rattle.graph.specs.Node.{nodeAt};
 ghost use Rattle.model.specs.Voice.{isTracked, counted, nodeLevel};
-ghost use Rattle.voice_rows.specs.Levels.{levelAt, candidateAt, candidatesAt};
+ghost use Rattle.voice_rows.specs.Levels.{LeftMax, levelAt, candidateAt, candidatesAt};
 ghost use Rattle.graph_rows.specs.Node.{nodesIn};
 ghost use Rattle.voice_rows.specs.Rows.{voiceOf, voicesIn};
 
@@ -41,15 +41,58 @@ fn node_level(nodes: &[u32], n: usize, id: NodeId) -> Level
     Level::Unknown
 }
 
-// The level of the voice in row `i`: none until the clock passes its birth, and none where its output does not live.
-pub fn level_at(t: &[u32], i: usize, nodes: &[u32], n: usize, clock: u64) -> Level
+// On from row `from` of the nodes while their ids rise and are below `id`: the row that is reached. Every row before it has a lower id.
+fn advance(nodes: &[u32], n: usize, from: usize, id: NodeId) -> usize
+    requires { ⌜ LeftMax (now nodes) from ⌝ }
+    ensures { λ r. ⌜ LeftMax (now (nodes .entry)) r ⌝ }
+{
+    let m = at_most(n, nodes.len() / 22);
+    let mut here = graph_rows::node_row::id_at(nodes, from).0;
+    let mut i = from;
+    while i < m {
+        if id.0 <= here {
+            return i;
+        }
+        let next = graph_rows::node_row::id_at(nodes, i + 1).0;
+        if next <= here {
+            return i;
+        }
+        here = next;
+        i += 1;
+    }
+    i
+}
+
+// The level of the node `id` among the first `n` nodes, read from row `row` if it stands there.
+fn node_level_near(nodes: &[u32], n: usize, id: NodeId, row: usize) -> Level
+    requires { ⌜ LeftMax (now nodes) row ⌝ }
+    ensures { λ r. ⌜ r ≡ nodeLevel (nodeAt (take n (nodesIn (now (nodes .entry)))) id) ⌝ }
+{
+    if row < at_most(n, nodes.len() / 22) {
+        if graph_rows::node_row::id_at(nodes, row).0 == id.0 {
+            return Level::Known(float_at(nodes, 22, row, 14));
+        }
+    }
+    node_level(nodes, n, id)
+}
+
+// The level of the voice in row `i`, whose output is looked for in row `row` of the nodes first.
+fn level_near(t: &[u32], i: usize, nodes: &[u32], n: usize, clock: u64, row: usize) -> Level
+    requires { ⌜ LeftMax (now nodes) row ⌝ }
     ensures { λ r. ⌜ r ≡ levelAt (take n (nodesIn (now (nodes .entry)))) clock (getD (voicesIn (now (t .entry))) i (voiceOf [])) ⌝ }
 {
     if birth_at(t, i) < clock {
         let output = output_at(t, i);
-        return node_level(nodes, n, output);
+        return node_level_near(nodes, n, output, row);
     }
     Level::Unknown
+}
+
+// The level of the voice in row `i`: none until the clock passes its birth, and none where its output does not live.
+pub fn level_at(t: &[u32], i: usize, nodes: &[u32], n: usize, clock: u64) -> Level
+    ensures { λ r. ⌜ r ≡ levelAt (take n (nodesIn (now (nodes .entry)))) clock (getD (voicesIn (now (t .entry))) i (voiceOf [])) ⌝ }
+{
+    level_near(t, i, nodes, n, clock, 0)
 }
 
 // Whether the voice in row `i` is tracked and counts for a new voice on `bus`.
@@ -67,12 +110,13 @@ pub fn is_counted(t: &[u32], i: usize, scope: BudgetScope, bus: NodeId) -> bool
     }
 }
 
-// The voice in row `i` as one that may have to go, with its level and its rank.
-fn candidate_at(t: &[u32], i: usize, nodes: &[u32], n: usize, clock: u64) -> Candidate
+// The voice in row `i` as one that may have to go, with its level and its rank; its output is looked for in row `row` of the nodes first.
+fn candidate_at(t: &[u32], i: usize, nodes: &[u32], n: usize, clock: u64, row: usize) -> Candidate
+    requires { ⌜ LeftMax (now nodes) row ⌝ }
     ensures { λ r. ⌜ r ≡ candidateAt (take n (nodesIn (now (nodes .entry)))) clock (getD (voicesIn (now (t .entry))) i (voiceOf [])) ⌝ }
 {
     let voice = id_at(t, i);
-    let level = level_at(t, i, nodes, n, clock);
+    let level = level_near(t, i, nodes, n, clock, row);
     Candidate {
         voice,
         level,
@@ -80,6 +124,8 @@ fn candidate_at(t: &[u32], i: usize, nodes: &[u32], n: usize, clock: u64) -> Can
     }
 }
 
+// One walk over the nodes serves all voices: in a store that calls made, the ids of the nodes rise from row to row, and those of the
+// outputs from voice to voice. For an output that is not at the row reached, all nodes are looked at.
 fn candidates_in(
     t: &[u32],
     count: usize,
@@ -95,10 +141,12 @@ fn candidates_in(
     let m = at_most(count, 64);
     let mut out = no_candidates();
     let mut kept: usize = 0;
+    let mut row: usize = 0;
     let mut i: usize = 0;
     while i < m {
         if is_counted(t, i, scope, bus) {
-            out.rows[kept] = candidate_at(t, i, nodes, n, clock);
+            row = advance(nodes, n, row, output_at(t, i));
+            out.rows[kept] = candidate_at(t, i, nodes, n, clock, row);
             kept += 1;
             i += 1;
         } else {

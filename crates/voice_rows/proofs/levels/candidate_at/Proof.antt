@@ -17,14 +17,14 @@ same v w l m j k p q r = let e : made v l j ≡ made w m k = cc in e
 id-at-requires : tie.Need-id-at-requires
 id-at-requires c κs = search needs
 
-level-at-requires : tie.Need-level-at-requires
-level-at-requires c κs = search needs
+level-near-requires : tie.Need-level-near-requires
+level-near-requires c κs = search needs
 
 rank-at-requires : tie.Need-rank-at-requires
 rank-at-requires c κs = search needs
 
 returns : tie.Need-returns
-returns c = same _ _ _ _ _ _ (c .before .before .id-at .ensures) (c .before .level-at .ensures) (c .rank-at .ensures)
+returns c = same _ _ _ _ _ _ (c .before .before .id-at .ensures) (c .before .level-near .ensures) (c .rank-at .ensures)
 
 pub candidate-at-spec : {M : Type 1} → statement M
-candidate-at-spec = tie.close (tie.spec id-at-requires level-at-requires rank-at-requires returns)
+candidate-at-spec = tie.close (tie.spec id-at-requires level-near-requires rank-at-requires returns)

@@ -6,7 +6,8 @@ use mathlib.Core.Bool.{true, false}
 use lib.ListN.{length-map, length-set, length, take, getD}
 use borrow.Author.Needs.{needs}
 use Rattle.model.specs.Voice.{counted}
-use Rattle.voice_rows.specs.Levels.{candidateAt, candidatesAt}
+use Rattle.voice_rows.specs.Levels.{LeftMax, candidateAt, candidatesAt}
+use Rattle.voice_rows.proofs.First.{leftmax-start}
 use Rattle.voice_rows.proofs.Picked.{picked-on, picked-off}
 use Rattle.words.proofs.InWords.{take-count}
 use Rattle.words.proofs.Rows.{rows-long}
@@ -19,11 +20,11 @@ room : (t : List ℕ) → length t ≡ 9152 → length (voicesIn t) ≡ 64
 room t h = rows-long 143 voiceOf t ∙ ap (λ k. k / 143) h
 
 abbrev Inv-loop : tie.InvT-loop
-Inv-loop t count nodes n clock scope bus m out₀ kept₀ i₀ out kept i =
-    (i ≤ m) × (kept ≤ i) × (length (out .rows) ≡ 64) × (take kept (out .rows) ≡ candidatesAt (take n (nodesIn nodes)) clock (counted scope bus) (take i (voicesIn t)))
+Inv-loop t count nodes n clock scope bus m out₀ kept₀ row₀ i₀ out kept row i =
+    (i ≤ m) × (kept ≤ i) × (length (out .rows) ≡ 64) × (take kept (out .rows) ≡ candidatesAt (take n (nodesIn nodes)) clock (counted scope bus) (take i (voicesIn t))) × LeftMax nodes row
 
 abbrev μ-loop : tie.MeasureT-loop
-μ-loop t count nodes n clock scope bus m out₀ kept₀ i₀ out kept i = m - i
+μ-loop t count nodes n clock scope bus m out₀ kept₀ row₀ i₀ out kept row i = m - i
 
 at-most-requires : tie.Need-at-most-requires Inv-loop μ-loop
 at-most-requires c κs = search needs
@@ -32,16 +33,22 @@ no-candidates-requires : tie.Need-no-candidates-requires Inv-loop μ-loop
 no-candidates-requires c κs = search needs
 
 loop-holds : tie.Need-loop-holds Inv-loop μ-loop
-loop-holds c = (search needs, search needs, simp length-map at (c .no-candidates .ok .1 .1 .0 .1 .0 .1), refl)
+loop-holds c = (search needs, search needs, simp length-map at (c .no-candidates .ok .1 .1 .0 .1 .0 .1), refl, leftmax-start (c .before .before .before .before .args .nodes .now))
 
 is-counted-requires : tie.Need-is-counted-requires Inv-loop μ-loop
 is-counted-requires c κs = search needs
 
-candidate-at-requires : tie.Need-candidate-at-requires Inv-loop μ-loop
-candidate-at-requires c κs = search needs
+output-at-requires : tie.Need-output-at-requires Inv-loop μ-loop
+output-at-requires c κs = search needs
 
-mul-t16 : tie.Need-mul-t16 Inv-loop μ-loop
-mul-t16 c = search needs
+advance-requires : tie.Need-advance-requires Inv-loop μ-loop
+advance-requires c κs = c .before .before .before .before .loop .inv .4
+
+candidate-at-requires : tie.Need-candidate-at-requires Inv-loop μ-loop
+candidate-at-requires c κs = c .advance .ensures
+
+mul-t18 : tie.Need-mul-t18 Inv-loop μ-loop
+mul-t18 c = search needs
 
 element-set-from-out : tie.Need-element-set-from-out Inv-loop μ-loop
 element-set-from-out c = search needs
@@ -57,18 +64,19 @@ loop-less c = search needs
 
 loop-again : tie.Need-loop-again Inv-loop μ-loop
 loop-again c =
-    let s = c .before .before .before .before .before .before .before .before .before in
+    let s = c .before .before .before .before .before .before .before .before .before .before .before in
     let a = s .args in
     let vs = voicesIn (a .t .now) in
-    let at = c .before .before .before .before .loop in
-    let m = c .before .before .before .before .before .before .at-most .result in
-    let below : at .i < length vs = omega (arith, room (a .t .now) (s .pre), c .before .before .before .before .before .before .at-most .ensures, c .before .before .before .loop-test .taken) in
-    let fits : at .kept < length (at .out .rows) = omega (arith, at .inv .1, at .inv .2, c .before .before .before .before .before .before .at-most .ensures, c .before .before .before .loop-test .taken) in
-    let on : counted (a .scope) (a .bus) (getD vs (at .i) (voiceOf [])) ≡ true = sym (c .before .before .is-counted .ensures) ∙ c .before .if1 .taken in (
+    let at = c .before .before .before .before .before .before .loop in
+    let m = c .before .before .before .before .before .before .before .before .at-most .result in
+    let below : at .i < length vs = omega (arith, room (a .t .now) (s .pre), c .before .before .before .before .before .before .before .before .at-most .ensures, c .before .before .before .before .before .loop-test .taken) in
+    let fits : at .kept < length (at .out .rows) = omega (arith, at .inv .1, at .inv .2, c .before .before .before .before .before .before .before .before .at-most .ensures, c .before .before .before .before .before .loop-test .taken) in
+    let on : counted (a .scope) (a .bus) (getD vs (at .i) (voiceOf [])) ≡ true = sym (c .before .before .before .before .is-counted .ensures) ∙ c .before .before .before .if1 .taken in (
       omega arith,
       omega (arith, at .inv .1),
       simp length-set (at .inv .2),
       picked-on (voiceOf []) (candidateAt (take (a .n) (nodesIn (a .nodes .now))) (a .clock)) (counted (a .scope) (a .bus)) vs (at .out .rows) (c .candidate-at .result) (at .i) (at .kept) below fits (at .inv .3) on (c .candidate-at .ensures),
+      c .before .advance .ensures,
     )
 
 add-i-2 : tie.Need-add-i-2 Inv-loop μ-loop
@@ -89,6 +97,7 @@ loop-again-2 c =
       omega (arith, at .inv .1),
       at .inv .2,
       picked-off (voiceOf []) (candidateAt (take (a .n) (nodesIn (a .nodes .now))) (a .clock)) (counted (a .scope) (a .bus)) vs (at .out .rows) (at .i) (at .kept) below (at .inv .3) off,
+      at .inv .4,
     )
 
 returns : tie.Need-returns Inv-loop μ-loop
@@ -116,8 +125,10 @@ candidates-in-spec =
     no-candidates-requires
     loop-holds
     is-counted-requires
+    output-at-requires
+    advance-requires
     candidate-at-requires
-    mul-t16
+    mul-t18
     element-set-from-out
     add-kept
     add-i
