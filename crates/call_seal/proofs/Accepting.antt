@@ -1,14 +1,14 @@
 -- What sealing tests, by what is read of the tables, is what 02 asks.
-use Prim.Native.Nat.{ℕ, zero, suc, _+_, _*_, _≤_, _<_}
+use Prim.Native.Nat.{ℕ, suc, _+_, _*_, _≤_, _<_}
 use native.Mathlib.Omega.{arith}
-use native.Mathlib.Nat.{mul-le-mul-right, mul-le-mul-left}
-use mathlib.Core.Path.{_≡_, refl, sym, ap, _∙_}
+use native.Mathlib.Nat.{mul-le-mul-right}
+use mathlib.Core.Path.{_≡_, refl, sym, _∙_}
 use mathlib.Core.List.{List, [], _∷_}
 use mathlib.Core.Option.{Option, none, some}
 use mathlib.Core.Bool.{Bool, true, false, _&&_}
-use borrow.Author.Tests.{lt-leb, ne-eqb}
 use lib.Dec.{eqb, leb}
 use lib.ListN.{length}
+use borrow.Author.Tests.{lt-leb, ne-eqb}
 use Rattle.node.specs.declared.record.Node.{Node}
 use Rattle.graph.specs.Node.{nodeAt, portsOf}
 use Rattle.graph_rows.specs.declared.node_row.Brief.{Brief}

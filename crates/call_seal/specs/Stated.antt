@@ -1,5 +1,5 @@
 -- What sealing asks of the store, by what is read of its tables: the bus in short, and how many nodes, edges and voices there are.
-use Prim.Native.Nat.{ℕ, _+_, _*_}
+use Prim.Native.Nat.{ℕ}
 use mathlib.Core.Bool.{Bool, _&&_}
 use lib.Dec.{eqb, leb}
 use Rattle.graph_rows.specs.declared.node_row.Brief.{Brief}

@@ -26,7 +26,7 @@ pub use call_host::host::connect;
 pub use call_host::host::disconnect;
 pub use call_host::host::remove_node;
 pub use call_host::host::set_sink;
-pub use call_host::prepare::prepare;
+pub use call_host::preparing::prepare;
 pub use call_host::schedule::schedule;
 pub use memory::state::AddResult;
 pub use memory::state::HostResult;
@@ -68,6 +68,33 @@ pub use console::wish::Wish;
 pub use wish_rows::row::WISH_WORDS;
 pub use wish_rows::row::WishTable;
 
+// ---- the seal: sealing the board of one console, and the calls that a seal may close. What is not here no seal closes
+pub use call_seal::host::BoardAdded;
+pub use call_seal::host::BoardAnswer;
+pub use call_seal::host::BoardHost;
+pub use call_seal::host::BoardNode;
+pub use call_seal::host::add_node as board_add_node;
+pub use call_seal::host::connect as board_connect;
+pub use call_seal::host::disconnect as board_disconnect;
+pub use call_seal::host::remove_node as board_remove_node;
+pub use call_seal::host::set_sink as board_set_sink;
+pub use call_seal::sealing::SealAnswer;
+pub use call_seal::sealing::SealResult;
+pub use call_seal::sealing::seal;
+pub use call_seal::spawn::BoardSpawn;
+pub use call_seal::spawn::BoardSpawned;
+pub use call_seal::spawn::spawn_voice_on_bus as board_spawn_voice_on_bus;
+pub use call_seal::spawn::spawn_voice_on_bus_managed as board_spawn_voice_on_bus_managed;
+pub use call_seal::spawn::spawn_voice_on_bus_panned as board_spawn_voice_on_bus_panned;
+pub use call_seal::spawn::spawn_voice_on_bus_panned_managed as board_spawn_voice_on_bus_panned_managed;
+pub use call_seal::wishing::BoardWish;
+pub use call_seal::wishing::BoardWished;
+pub use call_seal::wishing::wish as board_wish;
+pub use sealed::profile::Profile;
+pub use sealed::profile::Seal;
+pub use sealed::refusal::SealRefusal;
+pub use sealed::refusal::seal_refusal_number;
+
 // ---- what a block needs besides: fade output and bus sum
 pub use mixing::bus_sum;
 pub use mixing::fade_output;
@@ -97,7 +124,7 @@ pub use call_read::records::steals;
 // ---- arguments
 pub use node::name::Name;
 pub use node::name::name_of;
-pub use node::order::Action;
+pub use node::order::EventAction;
 pub use node::order::GlideShape;
 pub use node::order::GlideSpace;
 pub use node::record::NodeId;

@@ -3,13 +3,13 @@ use Prim.Native.Nat.{ℕ, zero, suc}
 use native.Mathlib.Omega.{arith}
 use mathlib.Core.Path.{_≡_, refl, sym, ap, _∙_, subst}
 use mathlib.Core.Logic.{_⊎_, inl, inr, ⊎-elim}
-use mathlib.Core.List.{List, [], _∷_, _++_}
+use mathlib.Core.List.{List, [], _∷_, _++_, append-assoc}
 use mathlib.Core.Option.{Option, none, some}
 use mathlib.Core.Bool.{Bool, true, false, not, cond, false≢true}
 use lib.ListN.{getD, set}
 use borrow.Author.Tests.{not-false}
 use Rattle.lists.specs.Member.{In}
-use Rattle.lists.proofs.Member.{and-left, and-right, both, in-snoc}
+use Rattle.lists.proofs.Member.{some-inj, none-some, and-left, and-right, both, in-snoc}
 use Rattle.node.specs.declared.refusal.Refusal.the-variants.{TableFull}
 use Rattle.store.specs.declared.answer.Spawned.the-variants as Spawned
 use Rattle.model.specs.Model.{Model}
@@ -67,7 +67,7 @@ console-run (seal s ∷ xs) b = go (b .seal) (console-run xs)
     go (Sealed t) ih = let r = ih b in record { console = r .console; answers = r .answers }
 
 -- ---- what waits
-abbrev AllOpen : Profile → Wishes → Type 0
+abbrev pub AllOpen : Profile → Wishes → Type 0
 AllOpen s ws = (q : ℕ) (w : Wish) → In w (waitingAt q ws) → openWish s w ≡ true
 
 -- a list put in the place of another
@@ -98,25 +98,23 @@ open-taken s q ws h n u i = ⊎-elim (λ j. h q u (in-rest (waitingAt q ws) j)) 
     in-rest (w ∷ l) j = inr j
 
 open-picked : (s : Profile) (ws : Wishes) → AllOpen s ws → (n q : ℕ) (p : Picked) → search n ws q ≡ some p → openWish s (p .wish) ≡ true
-open-picked s ws h zero q p e = absurd (none-is e)
-  where
-    none-is : _≡_ {A = Option Picked} none (some p) → ⊥
-    none-is e = let z : _≡_ {A = ℕ} 0 1 = cc in omega arith
+open-picked s ws h zero q p e = absurd (none-some e)
 open-picked s ws h (suc n) q p e = go (waitingAt q ws) refl (open-picked s ws h n (wishes.after (keyboards ws) q) p) e
   where
-    some-is : (a b : Picked) → some a ≡ some b → a ≡ b
-    some-is a b e = cc
-
     go : (l : List Wish) → waitingAt q ws ≡ l → (search n ws (wishes.after (keyboards ws) q) ≡ some p → openWish s (p .wish) ≡ true)
         → oldestOr l q (search n ws (wishes.after (keyboards ws) q)) ≡ some p → openWish s (p .wish) ≡ true
     go [] f ih e = ih e
     go (w ∷ l) f ih e =
-        let z : record { keyboard = q; wish = w } ≡ p = some-is _ _ e in
+        let z : record { keyboard = q; wish = w } ≡ p = some-inj e in
         ap (λ (x : Picked). openWish s (x .wish)) (sym z) ∙ h q w (subst (λ l. In w l) (sym f) (inl refl))
 
 -- the spawn of an open wish is an open call
 open-call : (s : Profile) (w : Wish) → openWish s w ≡ true → (callOf w ≡ call.spawnManaged (spawnIn w)) × (within s (spawnIn w) ≡ true)
 open-call s w h = (ap (λ b. cond b (call.spawnManaged (spawnIn w)) (call.spawnLoose (spawnIn w))) (and-left (w .managed) _ h), and-right (w .managed) _ h)
+
+-- and so the one that a turn serves
+pub turn-open : (s : Profile) (ws : Wishes) → AllOpen s ws → (p : Picked) → picked ws ≡ some p → (callOf (p .wish) ≡ call.spawnManaged (spawnIn (p .wish))) × (within s (spawnIn (p .wish)) ≡ true)
+turn-open s ws h p e = open-call s (p .wish) (open-picked s ws h (keyboards ws) (ws .next) p e)
 
 -- ---- the store part: m is the store that making gave
 run-append : (xs ys : List Call) (m : Model) → after m (xs ++ ys) ≡ after (after m xs) ys
@@ -127,12 +125,8 @@ open-append : (s : Profile) (xs : List Call) (x : Call) → allOpen s xs ≡ tru
 open-append s [] x h o = both _ _ (ap not o) refl
 open-append s (y ∷ xs) x h o = both _ _ (and-left (not (shuts s y)) _ h) (open-append s xs x (and-right (not (shuts s y)) _ h) o)
 
-append-append : (xs ys zs : List Call) → (xs ++ ys) ++ zs ≡ xs ++ (ys ++ zs)
-append-append [] ys zs = refl
-append-append (x ∷ xs) ys zs = ap (λ l. x ∷ l) (append-append xs ys zs)
-
 -- some calls made the store
-record Made (m n : Model) : Type 0 where
+pub record Made (m n : Model) : Type 0 where
   pub calls : List Call
   pub is : n ≡ after m calls
 
@@ -140,7 +134,7 @@ made-step : (m n : Model) (x : Call) → Made m n → Made m (step x n .model)
 made-step m n x d = record { calls = d .calls ++ (x ∷ []); is = ap (λ z. step x z .model) (d .is) ∙ sym (run-append (d .calls) (x ∷ []) m) }
 
 -- some calls made a store that the seal fits, and then open ones this store
-record MadeSealed (s : Profile) (m n : Model) : Type 0 where
+pub record MadeSealed (s : Profile) (m n : Model) : Type 0 where
   pub before : List Call
   pub later : List Call
   pub is : n ≡ after m (before ++ later)
@@ -152,12 +146,12 @@ sealed-step s m n x o d =
     record {
       before = d .before;
       later = d .later ++ (x ∷ []);
-      is = ap (λ z. step x z .model) (d .is) ∙ sym (run-append (d .before ++ d .later) (x ∷ []) m) ∙ ap (after m) (append-append (d .before) (d .later) (x ∷ []));
+      is = ap (λ z. step x z .model) (d .is) ∙ sym (run-append (d .before ++ d .later) (x ∷ []) m) ∙ ap (after m) (append-assoc (d .before) (d .later) (x ∷ []));
       fits = d .fits;
       opens = open-append s (d .later) x (d .opens) o;
     }
 
-abbrev History : Model → Seal → Console → Type 0
+abbrev pub History : Model → Seal → Console → Type 0
 History m Unsealed k = Made m (k .model)
 History m (Sealed s) k = MadeSealed s m (k .model) × AllOpen s (k .wishes)
 
@@ -185,10 +179,10 @@ history-open m (Sealed s) console.turn k o h = go (picked (k .wishes)) refl
     go : (p : Option Picked) → picked (k .wishes) ≡ p → History m (Sealed s) (turned p k .console)
     go none e = h
     go (some p) e =
-        let z = open-call s (p .wish) (open-picked s (k .wishes) (h .1) (keyboards (k .wishes)) (k .wishes .next) p e) in
+        let z = turn-open s (k .wishes) (h .1) p e in
         (sealed-step s m (k .model) (callOf (p .wish)) (ap (shuts s) (z .0) ∙ ap not (z .1)) (h .0), open-taken s (p .keyboard) (k .wishes) (h .1))
 
-history-step : (m : Model) (x : BoardCall) (b : Board) → History m (b .seal) (b .console) → History m (boardStep x b .board .seal) (boardStep x b .board .console)
+pub history-step : (m : Model) (x : BoardCall) (b : Board) → History m (b .seal) (b .console) → History m (boardStep x b .board .seal) (boardStep x b .board .console)
 history-step m (on c) b h = go (closed (b .seal) c) refl
   where
     go : (t : Bool) → closed (b .seal) c ≡ t
@@ -254,7 +248,7 @@ sealed-board k m made s b is h₀ =
     turn : (o : Option Picked) → picked (b .console .wishes) ≡ o → (q : ℕ) → turned o (b .console) .answer ≡ console.served q (call.spawned (Spawned.Refused TableFull)) → ⊥
     turn none e q z = let y : _≡_ {A = ℕ} 0 1 = cc in omega arith
     turn (some p) e q z =
-        let w = open-call s (p .wish) (open-picked s (b .console .wishes) (h .1) (keyboards (b .console .wishes)) (b .console .wishes .next) p e) in
+        let w = turn-open s (b .console .wishes) (h .1) p e in
         promise .never (spawnIn (p .wish)) (w .1) (sym (ap (λ c. step c (b .console .model) .answer) (w .0)) ∙ served-inj (p .keyboard) q _ _ z)
 
 pub board-claim : (k : Making) (n : ℕ) (c : Console) → makeConsole k n ≡ console.made c → (xs : List BoardCall) → BoardClaim k n c xs

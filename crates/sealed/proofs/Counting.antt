@@ -12,11 +12,11 @@ use lib.ListN.{length}
 use borrow.Author.Tests.{eqb-true, eq-eqb, not-true}
 use Rattle.lists.specs.Member.{In}
 use Rattle.lists.specs.Filter.{filter, put?}
-use Rattle.lists.proofs.Filter.{in-filter}
+use Rattle.lists.proofs.Filter.{in-filter, filter-all}
 use Rattle.lists.specs.Find.{find}
 use Rattle.lists.proofs.Find.{find-in, find-none}
 use Rattle.lists.specs.Count.{more, count}
-use Rattle.lists.proofs.Count.{count-all, count-filter}
+use Rattle.lists.proofs.Count.{count-all, count-filter, count-is-length}
 use Rattle.model.specs.Voice.{isVoice}
 use Rattle.ledger.specs.Holder.{Holder, nobody, host, voice, byVoice}
 use Rattle.ledger.proofs.Ids.{Ids, one-gone, ids-keep}
@@ -42,15 +42,11 @@ module _ {A : Type 0} where
       go true h = omega arith
       go false h = omega arith
 
-  every-counts : (q : A → Bool) (l : List A) → ((x : A) → In x l → q x ≡ true) → length l ≤ count q l
-  every-counts q [] h = omega arith
-  every-counts q (x ∷ l) h = rw (h x (inl refl)) (omega (arith, every-counts q l (λ y i. h y (inr i))))
-
 -- each row passes q, or the test of one of vs, and each of these passes at most m
 pub covered : {A B : Type 0} (q : A → Bool) (t : B → A → Bool) (m : ℕ) (vs : List B) (l : List A) → ((x : A) → In x l → (q x ≡ true) ⊎ ((v : B) × In v vs × (t v x ≡ true)))
     → ((v : B) → In v vs → count (t v) l ≤ m) → length l ≤ count q l + length vs * m
 covered {A} {B} q t m [] l h few =
-    let e = every-counts q l (λ x i. ⊎-elim (λ p. p) (λ r. absurd (r .1)) (h x i)) in
+    let e = count-is-length q l ∙ ap length (filter-all q l (λ x i. ⊎-elim (λ p. p) (λ r. absurd (r .1)) (h x i))) in
     omega (arith, e)
 covered {A} {B} q t m (v ∷ vs) l h few =
     let l' = filter (λ x. not (t v x)) l in

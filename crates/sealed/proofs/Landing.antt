@@ -33,6 +33,7 @@ use Rattle.ledger.specs.Ledger.{Ledger, lowestPort, portFree, cutOff, stolen, s
 use Rattle.ledger.proofs.Preserved.{place-kept}
 use Rattle.ledger.proofs.Managed.{managed-kept, begin-id}
 use Rattle.ledger.proofs.Capacity.{nodes-few, wires-few}
+use Rattle.ledger.proofs.Nodes.{wires-same, begin-same}
 use Rattle.ledger.proofs.Victim.{nextOut-in}
 use Rattle.ledger.specs.Claim.{ownerAt}
 use Rattle.ledger.proofs.Owner.{portsAt, live-below, look-old, owner-old, owner-new, listed-append}
@@ -55,8 +56,7 @@ use Rattle.store.specs.declared.voices.Fade.{Fade}
 use Rattle.ledger.proofs.Spawns as spawns
 use Rattle.sealed.specs.declared.profile.Profile.{Profile}
 use Rattle.sealed.proofs.Counting.{count-weaker}
-use Rattle.sealed.proofs.Live.{wired-nodes}
-use Rattle.sealed.proofs.Within.{ownedN, isOwner, fromOwner, fades, Within, WithinL, within-gone', count-mapped}
+use Rattle.sealed.proofs.Within.{ownedN, isOwner, fromOwner, fades, Within, WithinL, within-gone, count-mapped}
 
 -- ---- counts after nodes came and edges were put
 more-le : (b : Bool) (n : ℕ) → more b n ≤ suc n
@@ -214,13 +214,13 @@ module _ (s : Profile) (y : Spawn) (ok : allowed (y .def) ≡ true) (small : y .
   -- nodes of an owner
   nodes-old : (j : ℕ) → j ≤ nv → count (ownedN j) ns' ≡ count (ownedN j) (g .nodes)
   nodes-old j le =
-      ap (count (ownedN j)) (wired-nodes (g .next) ws (appendAll g xs))
+      ap (count (ownedN j)) (wires-same (g .next) ws (appendAll g xs) .0)
       ∙ grown-off j xs g (λ x i. let o = nodes-owned k def pan x i in ne-eqb (x .owner .0) j (λ q. omega (arith, o)))
 
   nodes-new : count (ownedN (nv + 1)) ns' ≤ def .nodes .count + 2
   nodes-new =
       let z : count (ownedN (nv + 1)) (g .nodes) ≡ 0 = count-none (ownedN (nv + 1)) (g .nodes) (λ x i. let b = sound .listed .below x i .1 in ne-eqb (x .owner .0) (nv + 1) (λ q. omega arith)) in
-      omega (arith, ap (count (ownedN (nv + 1))) (wired-nodes (g .next) ws (appendAll g xs)), grown-on (nv + 1) xs g, z, nodes-few k def pan)
+      omega (arith, ap (count (ownedN (nv + 1))) (wires-same (g .next) ws (appendAll g xs) .0), grown-on (nv + 1) xs g, z, nodes-few k def pan)
 
   -- edges from an owner's nodes
   still : (j : ℕ) → count (fromOwner ns' j) (g .edges) ≤ count (fromOwner (g .nodes) j) (g .edges)
@@ -284,13 +284,6 @@ module _ (s : Profile) (y : Spawn) (ok : allowed (y .def) ≡ true) (small : y .
           (p, lt, rw (eq-eqb (s .bus .0) (s .bus .0) refl, eq-eqb p p refl) (eq-eqb (nv + 1) (nv + 1) refl))
 
 -- ---- the victim fades: its node and one edge more; the edge to the bus takes the place of its feeder's
-begin-bus : (w : VoiceId) (f : Fade) (u : Voice) → beginFade w f u .bus ≡ u .bus
-begin-bus w f u = go (isVoice w u)
-  where
-    go : (b : Bool) → cond b (withState (Fading f) u) u .bus ≡ u .bus
-    go true = refl
-    go false = refl
-
 tracked-fades : (t : VoiceState) → isTracked t ≡ true → fades t ≡ 0
 tracked-fades Tracked h = refl
 tracked-fades (Fading f) h = absurd (false≢true h)
@@ -390,7 +383,7 @@ module _ (s : Profile) (l : Ledger) (sound : InvariantOf l) (r : WithinL s l) (v
         positive = λ u m. let z = back u m in rw (z .2, begin-id (v .id) fd (z .0)) (r .positive (z .0) (z .1));
         bus = old-owner (s .bus .0) bus-below ∙ r .bus;
         ports = ap portsOf (look-old (sound .listed) x₁ (s .bus .0) bus-below) ∙ r .ports;
-        on = λ u m. let z = back u m in rw (z .2, begin-bus (v .id) fd (z .0)) (r .on (z .0) (z .1));
+        on = λ u m. let z = back u m in rw (z .2, begin-same (λ (x : Voice). x .bus) (λ t x. refl) (v .id) fd (z .0)) (r .on (z .0) (z .1));
         holds = λ u m. let z = back u m in rw (z .2, begin-id (v .id) fd (z .0)) (r .holds (z .0) (z .1));
         hosts = nodes-other 0 not-host ∙ r .hosts;
         nodes = λ u m. let z = back u m in rw (z .2) (subst (λ (w : VoiceId). count (ownedN (w .0)) n₁ ≤ s .«def_nodes» + 2 + fades (beginFade (v .id) fd (z .0) .state)) (sym (begin-id (v .id) fd (z .0))) (nodes-of (z .0) (z .1) (isVoice (v .id) (z .0)) refl));
@@ -402,9 +395,7 @@ module _ (s : Profile) (l : Ledger) (sound : InvariantOf l) (r : WithinL s l) (v
       back u m = in-map (beginFade (v .id) fd) (l .voices) u m
 
 within-cut : (s : Profile) (l : Ledger) (v : Voice) (t : VoiceState) → 0 < v .id .0 → WithinL s l → WithinL s (cutOff v t l)
-within-cut s l v t pos r =
-    let q = within-gone' s l (v .id) pos r in
-    record { listed = q .listed; positive = q .positive; bus = q .bus; ports = q .ports; on = q .on; holds = q .holds; hosts = q .hosts; nodes = q .nodes; wires = q .wires; edges = q .edges }
+within-cut s l v t pos r = within-gone r (v .id) pos
 
 within-steal : (s : Profile) (l : Ledger) → InvariantOf l → WithinL s l → (v : Voice) → In v (l .voices) → isTracked (v .state) ≡ true → WithinL s (stealVoice v l)
 within-steal s l sound r v i tr = subst (λ o. WithinL s (stolen v o l)) (feeds-held sound v i tr) (go (find (feeds (feeder v) (v .bus)) (l .shared .graph .edges)) refl)

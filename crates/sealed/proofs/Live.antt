@@ -1,5 +1,5 @@
 -- Every live node is the host's or a live voice's, after every list of calls.
-use Prim.Native.Nat.{ℕ, _+_}
+use Prim.Native.Nat.{ℕ}
 use mathlib.Core.Path.{_≡_, refl, sym, ap, _∙_, subst}
 use mathlib.Core.Logic.{_⊎_, inl, inr, ⊎-elim}
 use mathlib.Core.List.{List, [], _∷_, _++_, map}
@@ -17,7 +17,7 @@ use Rattle.graph.specs.Node.{isNode, ownedBy, nodeAt, hostNode, replaced, noise
 use Rattle.ledger.proofs.Raised.{in-raised}
 use Rattle.node.specs.Node.{withId}
 use Rattle.model.specs.Voice.{id, isVoice, beginFade, moved}
-use Rattle.model.specs.Spawn.{Spawn, pans, Wire, voiceNodes, voiceWires, appendAll, wireAll, newVoice, nextVoice, stateUnder, tries, fadeNode, fadeOf, raised}
+use Rattle.model.specs.Spawn.{Spawn, pans, voiceNodes, voiceWires, appendAll, newVoice, nextVoice, stateUnder, tries, fadeNode, fadeOf, raised}
 use Rattle.model.specs.Render.{isSounding}
 use Rattle.model.specs.Call.{Call}
 use Rattle.ledger.specs.Ledger.{Ledger, newLedger, portFree, portHeld, cutOff, stolen, stealVoice, instantiate, instantiateOr, placeWithinBudget, refused}
@@ -26,11 +26,11 @@ use Rattle.ledger.specs.Call.{step}
 use Rattle.ledger.proofs.Preserved.{place-kept, Preserves, kept-step}
 use Rattle.ledger.proofs.Managed.{IdsOf, managed-kept, begin-id, ids-new, ids-steady, ids-settle, ids-steal}
 use Rattle.ledger.proofs.NewVoice.{nodes-owned}
+use Rattle.ledger.proofs.Nodes.{in-grown, wires-same}
 use Rattle.node.specs.declared.record.NodeId.{NodeId}
 use Rattle.node.specs.declared.record.VoiceId.{VoiceId}
 use Rattle.node.specs.declared.record.Node.{Node}
 use Rattle.node.specs.declared.refusal.Refusal.the-variants.{NoPort}
-use Rattle.graph.specs.Change as change
 use Rattle.store.specs.declared.config.Config.{Config}
 use Rattle.store.specs.declared.voices.Voice.{Voice}
 use Rattle.store.specs.declared.voices.VoiceState.{VoiceState}
@@ -74,17 +74,6 @@ live-replaced ns vs k x n e o h y i = let r = in-map (λ m. cond (isNode (n .id)
     go z j false q = same z j (sym (ap (λ (w : Node). w .owner .0) q))
 
 -- ---- a newcomer's nodes
-pub in-grown : (xs : List Node) (g : GraphView) (x : Node) → In x (appendAll g xs .nodes) → In x (g .nodes) ⊎ ((y : Node) × In y xs × (x .owner .0 ≡ y .owner .0))
-in-grown [] g x i = inl i
-in-grown (n ∷ xs) g x i =
-    ⊎-elim
-    (λ j. ⊎-elim inl (λ e. inr (n, inl refl, ap (λ (y : Node). y .owner .0) e)) (in-snoc (g .nodes) (withId (g .next) n) x j))
-    (λ r. inr (r .0, inr (r .1), r .2)) (in-grown xs (change.append g n) x i)
-
-pub wired-nodes : (base : ℕ) (ws : List Wire) (g : GraphView) → wireAll base g ws .nodes ≡ g .nodes
-wired-nodes base [] g = refl
-wired-nodes base (w ∷ ws) g = wired-nodes base ws (change.connect g (id (base + w .from)) (id (base + w .to)) (w .port))
-
 -- a bus counts one voice more
 live-raised : (bus : NodeId) (ns : List Node) (vs : List Voice) → Live ns vs → Live (noiseRaised bus ns) vs
 live-raised bus ns vs h x i = let r = in-raised bus ns x i in ⊎-elim (λ a. inl (r .2 .1 ∙ a)) (λ q. inr (q .0, q .1, q .2 ∙ sym (r .2 .1))) (h (r .0) (r .1))
@@ -93,7 +82,7 @@ pub live-land : (x : Spawn) (s : VoiceState) (p : ℕ) (l : Ledger) → LiveOf l
 live-land x s p l h n i =
     ⊎-elim (λ j. more-voices (l .voices) (l .voices ++ (v ∷ [])) (λ u k. (u, in-left (l .voices) (v ∷ []) u k, refl)) n (live-raised (x .bus) (l .shared .graph .nodes) (l .voices) h n j))
     (λ r. inr (v, in-right (l .voices) (v ∷ []) v (inl refl), sym (r .2 ∙ nodes-owned (nextVoice (l .shared)) (x .def) (pans (x .pan)) (r .0) (r .1))))
-    (in-grown xs g n (subst (λ ns. In n ns) (wired-nodes (g .next) (voiceWires (x .def) (pans (x .pan))) (appendAll g xs)) i))
+    (in-grown xs g n (subst (λ ns. In n ns) (wires-same (g .next) (voiceWires (x .def) (pans (x .pan))) (appendAll g xs) .0) i))
   where
     g : GraphView
     g = raised (x .bus) (l .shared .graph)

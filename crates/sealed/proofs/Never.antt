@@ -35,7 +35,7 @@ use Rattle.ledger.proofs.Owner.{owner-some}
 use Rattle.ledger.specs.Holder.{nobody, byVoice}
 use Rattle.ledger.proofs.EdgeInvariant.{Out, edge-at}
 use Rattle.ledger.proofs.Spawns.{InvariantOf, ids-of}
-use Rattle.ledger.proofs.Simulation.{Kept, kept-step}
+use Rattle.ledger.proofs.Simulation.{RunInvariant, kept-step}
 use Rattle.node.specs.declared.record.NodeId.{NodeId}
 use Rattle.node.specs.declared.record.Node.{Node}
 use Rattle.node.specs.declared.record.Edge.{Edge}
@@ -59,7 +59,7 @@ use Rattle.sealed.proofs.Within.{ownedN, isOwner, fromOwner, fades, Wit
 use Rattle.sealed.proofs.Landing.{onBus, within-admitted}
 
 -- what sealing tested of the numbers
-pub record Room (s : Profile) : Type 0 where
+pub record NumbersFit (s : Profile) : Type 0 where
   pub most : s .ports ≤ mostPorts
   pub nodes : nodesFor s ≤ 512
   pub edges : edgesFor s ≤ 1024
@@ -99,7 +99,7 @@ module _ (s : Profile) (l : Ledger) (sound : InvariantOf l) (live : LiveOf l) (r
           (λ z. inr (z .0, z .1, ap (λ u. isOwner u (z .0 .id .0)) (g .from) ∙ eq-eqb _ _ (sym (o .2) ∙ sym (z .2)))) (live (o .0) (n .0))
 
   -- "hence P + 1": the newcomer's headroom is asked while P voices may still live
-  pub headroom : Room s → (def : SynthDef) → def .nodes .count ≤ s .«def_nodes» → def .edges .count ≤ s .«def_edges» → noHeadroom (l .shared) (l .voices) def ≡ false
+  pub headroom : NumbersFit s → (def : SynthDef) → def .nodes .count ≤ s .«def_nodes» → def .edges .count ≤ s .«def_edges» → noHeadroom (l .shared) (l .voices) def ≡ false
   headroom m def small few =
       let a : length (l .shared .graph .nodes) + def .nodes .count + 3 ≤ 512 = omega (arith, m .nodes, nodes-few, small, add-mul (s .ports) 1 (s .«def_nodes» + 3), one-times (s .«def_nodes» + 3)) in
       let b : length (l .shared .graph .edges) + def .edges .count + 4 ≤ 1024 = omega (arith, m .edges, edges-few, few, add-mul (s .ports) 1 (s .«def_edges» + 4), one-times (s .«def_edges» + 4)) in
@@ -162,10 +162,10 @@ spawn-fine x l sound h e = go (spawnRefusal (l .shared) (l .voices) (x .def) (x 
 
 -- ---- a ledger sealed by s: after an accepted sealing, and after every list of open calls since
 pub record Sealed (s : Profile) (l : Ledger) : Type 0 where
-  pub kept : Kept l
+  pub kept : RunInvariant l
   pub live : LiveNodes l
   pub least : 2 ≤ s .ports
-  pub room : Room s
+  pub room : NumbersFit s
   pub inside : WithinL s l
 
 -- a store that the seal fits has the invariant
@@ -193,7 +193,7 @@ fits-within s l sound live f =
     every : (ns : List Node) → ((x : Node) → In x ns → In x (l .shared .graph .nodes)) → length ns ≤ count (ownedN 0) ns
     every ns sub = omega (arith, covered (ownedN 0) (λ (v : Voice). ownedN 0) 0 [] ns (λ x i. inl (⊎-elim (λ p. eq-eqb _ _ p) (λ z. absurd (nobody (z .0) (z .1))) (live x (sub x i)))) (λ v i. absurd i))
 
-pub sealed-start : (s : Profile) (l : Ledger) → Kept l → LiveNodes l → accepts s (l .shared) (l .voices) ≡ true → Sealed s l
+pub sealed-start : (s : Profile) (l : Ledger) → RunInvariant l → LiveNodes l → accepts s (l .shared) (l .voices) ≡ true → Sealed s l
 sealed-start s l kept live a =
     let f = accepts-fits s (l .shared) (l .voices) a in
     record { kept = kept; live = live; least = f .least; room = record { most = f .most; nodes = f .nodes; edges = f .edges }; inside = fits-within s l (kept .sound) (live .1) f }

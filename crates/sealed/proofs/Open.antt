@@ -36,8 +36,8 @@ use Rattle.node.specs.declared.record.NodeId.{NodeId}
 use Rattle.node.specs.declared.record.VoiceId.{VoiceId}
 use Rattle.node.specs.declared.record.Node.{Node}
 use Rattle.node.specs.declared.refusal.Refusal.{Refusal}
-use Rattle.order.specs.declared.Readiness.{Readiness}
-use Rattle.order.specs.declared.Readiness.the-variants.{Ready, Refused}
+use Rattle.prepare.specs.declared.Readiness.{Readiness}
+use Rattle.prepare.specs.declared.Readiness.the-variants.{Ready, Refused}
 use Rattle.scheduler.specs.declared.event.Event.{Event}
 use Rattle.node.specs.declared.order.LastOrder.{LastOrder}
 use Rattle.node.specs.declared.name.Name.{Name}

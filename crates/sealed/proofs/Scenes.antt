@@ -1,5 +1,5 @@
 -- Scenes of the sealed profile: closed lists of calls that compute to their literal outcome, each with the wrong rule that it refuses.
-use Prim.Native.Nat.{ℕ, _+_, _*_}
+use Prim.Native.Nat.{ℕ, zero, suc, _+_, _*_}
 use mathlib.Core.Path.{_≡_, refl}
 use mathlib.Core.List.{List, [], _∷_, _++_, map}
 use mathlib.Core.Option.{Option, none, some}
@@ -9,18 +9,24 @@ use lib.ListN.{length, replicate}
 use lib.Ieee.{nan, eq}
 use Rattle.lists.specs.Find.{find}
 use Rattle.rank.specs.Order as rank
-use Rattle.rank.specs.Order.{among, released, walk, order, whole, count-up}
+use Rattle.rank.specs.Order.{among, released, walk, order, whole, count-up, upto}
+use Rattle.node.specs.Silence.{name}
+use Rattle.node.specs.declared.record.Edge.{Edge}
 use Rattle.node.specs.declared.refusal.Refusal.the-variants.{TableFull}
+use Rattle.graph.specs.View.{withEdges}
 use Rattle.voice.specs.declared.policy.StealPolicy.the-variants.{Oldest}
+use Rattle.synthdef.specs.declared.def.DefNode.{DefNode}
+use Rattle.synthdef.specs.declared.def.DefEdge.{DefEdge}
 use Rattle.synthdef.specs.declared.def.SynthDef.{SynthDef}
 use Rattle.store.specs.declared.voices.Voice.{Voice}
+use Rattle.model.specs.SharedState.{withGraph}
 use Rattle.model.specs.Voice.{id, isVoice}
 use Rattle.model.specs.Spawn.{Spawn, spawnOf}
 use Rattle.model.specs.Model.{Model, stealVoice}
 use Rattle.model.specs.Make.{newModel}
 use Rattle.model.specs.Call.{Call, step}
 use Rattle.model.specs.Call as call
-use Rattle.model.specs.Scene.{upTo, tones, plain, host, spawned, notSpawned}
+use Rattle.model.specs.Scene.{upTo, tones, plain, defEdge, host, edge, spawned, notSpawned}
 use Rattle.ledger.specs.Claim.{after}
 use Rattle.sealed.specs.declared.profile.Profile.{Profile}
 use Rattle.sealed.specs.Seal.{accepts, shuts}
@@ -105,6 +111,62 @@ fits-exactly :
     × (length (store (tight ++ replicate 3 (sings 24)) .shared .graph .nodes) ≡ 484) × (step (sings 24) (store (tight ++ replicate 3 (sings 24))) .answer ≡ spawned 4)
 unfolding eq whole order walk released rank.fed among count-up
 fits-exactly = (refl, refl, refl, refl)
+
+-- ---- Both sums met at once: 431 host nodes, the first a bus of 2 ports, 868 host edges, and definitions of 24 nodes and 48 edges. 431 + 3 × 27 is 512
+-- and 868 + 3 × 52 is 1,024; one node or one edge more does not fit. After 2 spawns one voice fades, which is 431 + 2 × 27 - 1 nodes and
+-- 868 + 2 × 52 - 1 edges, and the next spawn still finds room. The host's edges are put in at once, which is cheaper than 868 calls.
+abbrev joint : DefNode
+joint =
+    record {
+      kind = name "Mix";
+      ports = 8;
+      required = 0;
+      «takes_values» = false;
+      «takes_glides» = false;
+      «in_port» = 255;
+      «level_port» = 255;
+      «amp_port» = 255;
+    }
+
+-- eight edges to the node k
+abbrev feeds : ℕ → List DefEdge
+feeds k = map (λ p. defEdge p k p) (0 ∷ 1 ∷ 2 ∷ 3 ∷ 4 ∷ 5 ∷ 6 ∷ 7 ∷ [])
+
+abbrev woven : SynthDef
+woven =
+    record {
+      nodes = record { rows = replicate 18 (plain "Tone" false false) ++ replicate 6 joint; count = 24 };
+      edges = record { rows = feeds 18 ++ (feeds 19 ++ (feeds 20 ++ (feeds 21 ++ (feeds 22 ++ feeds 23)))); count = 48 };
+      params = record { rows = []; count = 0 };
+      output = 23;
+    }
+
+abbrev weaves : Call
+weaves = call.spawnManaged (spawnOf woven (id 0) nan 0)
+
+-- node 15 feeds 62 ports each of the n nodes from k on
+abbrev wires : ℕ → ℕ → List Edge
+wires zero k = []
+wires (suc n) k = map (λ p. edge 15 k p) (upto 62) ++ wires n (suc k)
+
+abbrev put : List Edge → Model → Model
+put es m = record { shared = withGraph (withEdges (m .shared .graph) es) (m .shared); voices = m .voices }
+
+abbrev wide : Model
+wide = put (wires 14 1) (store (host 2 ∷ replicate 14 (host 62) ++ replicate 416 (host 0)))
+
+abbrev fitting : Profile → Bool
+fitting s = accepts s (wide .shared) (wide .voices)
+
+both-met : (fitting (profile 2 431 868 24 48) ≡ true) × (fitting (profile 2 431 868 25 48) ≡ false) × (fitting (profile 2 431 868 24 49) ≡ false)
+unfolding count-up
+both-met = (refl, refl, refl)
+
+both-reached :
+    let m = after wide (weaves ∷ weaves ∷ []) in
+    (length (m .shared .graph .nodes) ≡ 484) × (length (m .shared .graph .edges) ≡ 971) × (step weaves m .answer ≡ spawned 3)
+unfolding eq whole order walk released rank.fed among count-up
+both-reached = (refl, refl, refl)
 
 -- ---- What is closed: host calls, unmanaged spawns, another bus, larger definitions. E is for the edges given: two to one port, of which one
 -- counts, are more than 1. Refuses: a host call left open, counted edges for E.

@@ -23,7 +23,7 @@ use Rattle.graph.specs.Change.{idsOf}
 use Rattle.model.specs.Voice.{id, isVoice, movedState, moved}
 use Rattle.model.specs.Render.{isSounding}
 use Rattle.ledger.specs.Holder.{Holder, Holders, nobody, host, voice, byVoice, dropVoice}
-use Rattle.ledger.specs.Ledger.{Ledger, withoutVoice}
+use Rattle.ledger.specs.Ledger.{Ledger}
 use Rattle.ledger.specs.Render.{oneMore, countedIf}
 use Rattle.ledger.specs.Claim.{ownerAt}
 use Rattle.ledger.proofs.Owner.{portsAt, Listed, once, owner-thin, ports-thin, listed-thin, dead-voice, owner-replaced, ports-replaced, listed-replaced}
@@ -101,7 +101,7 @@ thin-owner true o k h = absurd (false≢true h)
 thin-owner false o k h = h
 
 module _ {s : Profile} {ns : List Node} {es : List Edge} {nx nv : ℕ} {vs : List Voice} {h : Holders} (r : Within s ns es nx nv vs h) where
-  within-gone : (w : VoiceId) → 0 < w .0 → Within s (filter (λ x. not (ownedBy w x)) ns) (dropTouching es (idsOf (ownedBy w) ns)) nx nv (filter (λ v. not (isVoice w v)) vs) (dropVoice w h)
+  pub within-gone : (w : VoiceId) → 0 < w .0 → Within s (filter (λ x. not (ownedBy w x)) ns) (dropTouching es (idsOf (ownedBy w) ns)) nx nv (filter (λ v. not (isVoice w v)) vs) (dropVoice w h)
   within-gone w pos =
       record {
         listed = listed-thin (r .listed) (ownedBy w);
@@ -204,6 +204,3 @@ within-gentle s =
     counts : (l : Ledger) (b : Bool) → WithinL s l → Within s (l .shared .graph .nodes) (l .shared .graph .edges) (l .shared .graph .next) (l .shared .spawned) (countedIf b (l .voices)) (l .holders)
     counts l true r = within-map r (moved oneMore) (λ v. refl) (λ v. refl) (λ v. moved-fades oneMore (v .state))
     counts l false r = r
-
-pub within-gone' : (s : Profile) (l : Ledger) (w : VoiceId) → 0 < w .0 → WithinL s l → WithinL s (withoutVoice w l)
-within-gone' s l w pos r = within-gone r w pos

@@ -1,6 +1,6 @@
 use mathlib.Core.Path.{sym, _∙_}
-use borrow.Author.Needs.{needs}
 use lib.ListN.{take}
+use borrow.Author.Needs.{needs}
 use Rattle.voice_rows.specs.Rows.{voicesIn}
 use Rattle.memory.specs.View.{sharedOf}
 use Rattle.memory.specs.Lent.{lentVoices}

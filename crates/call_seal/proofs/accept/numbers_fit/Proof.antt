@@ -1,5 +1,5 @@
-use native.Mathlib.Omega.{arith}
 use Prim.Native.Nat.{_≤_, _<_}
+use native.Mathlib.Omega.{arith}
 use mathlib.Core.Path.{sym, _∙_}
 use borrow.Author.Needs.{needs}
 use borrow.Author.Tests.{lt-leb, le-leb}
