@@ -1,8 +1,8 @@
-// Reports, prepare and render.
+// Reports and renders.
 ghost use mathlib.Core.Path.{_≡_};
+ghost use Prim.Native.Nat.{_≤_};
 ghost use lib.ListN.{length};
 use crate::host::id_at;
-use crate::host::told;
 use codec::field::after;
 use codec::field::at_most;
 use codec::field::byte_at;
@@ -10,13 +10,15 @@ use codec::field::bytes_at;
 use codec::field::float;
 use codec::field::floats_at;
 use codec::field::word_at;
+use codec::output::Output;
 use piecrag::EdgeTable;
 use piecrag::EventTable;
 use piecrag::NodeTable;
 use piecrag::OrderTable;
+use piecrag::Rendered;
 use piecrag::State;
 use piecrag::VoiceTable;
-use piecrag::prepare;
+use piecrag::render;
 use piecrag::report;
 use transcript::answer::answer_line;
 use transcript::answer::list_line;
@@ -36,51 +38,44 @@ fn samples_at(s: &[u8], at: usize, repeated: bool) -> [f32; 512]
 
 // A node, its channels, its done flag and how many samples, which follow. An entry that counts more than 512 is malformed, and
 // not played.
-fn reported(
+pub(crate) fn play_report(
+    out: &mut Output,
     s: &[u8],
     at: usize,
-    repeated: bool,
     state: State,
     nodes: &mut NodeTable,
     voices: &VoiceTable,
 ) {
-    let node = id_at(s, at);
-    let channels = byte_at(s, after(at, 4)) as usize;
-    let done = byte_at(s, after(at, 5)) != 0;
-    let n = at_most(word_at(s, after(at, 6)) as usize, 512);
-    let samples = samples_at(s, after(at, 10), repeated);
-    answer_line(report(state, nodes, voices, node, channels, &samples[..n], done));
+    let node = id_at(s, after(at, 1));
+    let channels = byte_at(s, after(at, 5)) as usize;
+    let done = byte_at(s, after(at, 6)) != 0;
+    let n = at_most(word_at(s, after(at, 7)) as usize, 512);
+    let samples = samples_at(s, after(at, 11), byte_at(s, at) == 19);
+    answer_line(
+        out,
+        report(state, nodes, voices, node, channels, &samples[..n], done),
+    );
 }
 
-// A render that is lent this list. The line shows the entries that it has written.
-fn render(
-    list: &mut [u8],
-    state: State,
-    nodes: &mut NodeTable,
-    edges: &mut EdgeTable,
-    order: &mut OrderTable,
-    voices: &mut VoiceTable,
-    events: &mut EventTable,
-) -> State {
-    let r = piecrag::render(state, nodes, edges, order, voices, events, list);
-    let answer = r.answer;
-    rendered_line(answer, bytes_at(list, 0, r.taken));
-    r.state
+// How long a list the entry lends, and what each of its entries holds before: 256 and 255 where it does not say.
+struct Lent {
+    count: usize,
+    old: u8,
 }
 
-// The same, and the whole list on a line of its own.
-fn render_shown(
-    list: &mut [u8],
-    state: State,
-    nodes: &mut NodeTable,
-    edges: &mut EdgeTable,
-    order: &mut OrderTable,
-    voices: &mut VoiceTable,
-    events: &mut EventTable,
-) -> State {
-    let after = render(list, state, nodes, edges, order, voices, events);
-    list_line(list);
-    after
+fn lent_at(s: &[u8], at: usize) -> Lent
+    ensures { λ r. ⌜ r .count ≤ 4096 ⌝ }
+{
+    if byte_at(s, at) == 21 {
+        return Lent {
+            count: 256,
+            old: 255,
+        };
+    }
+    Lent {
+        count: at_most(word_at(s, after(at, 1)) as usize, 4096),
+        old: byte_at(s, after(at, 5)),
+    }
 }
 
 // Room for the longest list that a script lends, each entry the same.
@@ -90,49 +85,38 @@ fn list_room(old: u8) -> [u8; 4096]
     [old; 4096]
 }
 
-// The length of the list, at most 4,096, and what each entry holds before the render.
-pub(crate) fn play_lent(
-    s: &[u8],
-    from: usize,
-    state: State,
-    nodes: &mut NodeTable,
-    edges: &mut EdgeTable,
-    order: &mut OrderTable,
-    voices: &mut VoiceTable,
-    events: &mut EventTable,
-) -> State {
-    let n = at_most(word_at(s, from) as usize, 4096);
-    let mut room = list_room(byte_at(s, after(from, 4)));
-    render_shown(&mut room[..n], state, nodes, edges, order, voices, events)
-}
-
-// A report changes no state.
-pub(crate) fn play_report(
-    s: &[u8],
-    from: usize,
-    sort: u8,
-    state: State,
-    nodes: &mut NodeTable,
-    voices: &VoiceTable,
-) -> State {
-    reported(s, from, sort == 19, state, nodes, voices);
-    state
-}
-
-pub(crate) fn play_block(
-    sort: u8,
-    state: State,
-    nodes: &mut NodeTable,
-    edges: &mut EdgeTable,
-    order: &mut OrderTable,
-    voices: &mut VoiceTable,
-    events: &mut EventTable,
-) -> State {
-    match sort {
-        20 => told(prepare(state, nodes, edges, order)),
-        _ => {
-            let mut list = [255u8; 256];
-            render(&mut list, state, nodes, edges, order, voices, events)
-        }
+// The line of a render shows the entries that it has written. Of a list that the script describes, the first `n` of the room, all stand
+// on a line of their own.
+fn shown(
+    out: &mut Output,
+    described: bool,
+    answer: Rendered,
+    taken: usize,
+    room: &[u8; 4096],
+    n: usize,
+) {
+    rendered_line(out, answer, bytes_at(room, 0, taken));
+    if described {
+        list_line(out, bytes_at(room, 0, n));
     }
+}
+
+pub(crate) fn play_render(
+    out: &mut Output,
+    s: &[u8],
+    at: usize,
+    state: State,
+    nodes: &mut NodeTable,
+    edges: &mut EdgeTable,
+    order: &mut OrderTable,
+    voices: &mut VoiceTable,
+    events: &mut EventTable,
+) -> State {
+    let lent = lent_at(s, at);
+    let n = lent.count;
+    let mut room = list_room(lent.old);
+    let r = render(state, nodes, edges, order, voices, events, &mut room[..n]);
+    let answer = r.answer;
+    shown(out, byte_at(s, at) == 35, answer, r.taken, &room, n);
+    r.state
 }

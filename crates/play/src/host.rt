@@ -1,24 +1,30 @@
 // The counters and the host's calls.
+use crate::seals::closed_line;
 use codec::field::after;
 use codec::field::byte_at;
 use codec::field::long_at;
 use codec::field::word_at;
-use codec::word::text;
+use codec::output::Output;
+use codec::output::text;
 use graph_rows::node_row::owner_at;
 use graph_rows::node_row::put_noise;
 use graph_tables::lookup::node_count;
 use memory::parts::with_clock;
 use memory::parts::with_spawned;
+use piecrag::BoardAnswer;
+use piecrag::BoardHost;
+use piecrag::BoardNode;
 use piecrag::EdgeTable;
 use piecrag::HostResult;
 use piecrag::NodeId;
 use piecrag::NodeTable;
+use piecrag::Seal;
 use piecrag::State;
-use piecrag::add_node;
-use piecrag::connect;
-use piecrag::disconnect;
-use piecrag::remove_node;
-use piecrag::set_sink;
+use piecrag::board_add_node;
+use piecrag::board_connect;
+use piecrag::board_disconnect;
+use piecrag::board_remove_node;
+use piecrag::board_set_sink;
 use script::name::name_at;
 use script::name::name_end;
 use transcript::answer::answer_line;
@@ -29,9 +35,19 @@ pub(crate) fn id_at(s: &[u8], at: usize) -> NodeId {
 }
 
 // The state that a call left; its answer is written.
-pub(crate) fn told(r: HostResult) -> State {
+pub(crate) fn told(out: &mut Output, r: HostResult) -> State {
     let answer = r.answer;
-    answer_line(answer);
+    answer_line(out, answer);
+    r.state
+}
+
+// The same of a call that a seal may close.
+fn host_told(out: &mut Output, r: BoardHost) -> State {
+    let answer = r.answer;
+    match answer {
+        BoardAnswer::Closed => closed_line(out),
+        BoardAnswer::Given(given) => answer_line(out, given),
+    }
     r.state
 }
 
@@ -51,21 +67,42 @@ fn set_noise(nodes: &mut NodeTable, count: usize, noise: u32) {
     }
 }
 
-// The clock, the voice ids given out, and the noise sequence of every node of the host.
-fn set(s: &[u8], at: usize, state: State, nodes: &mut NodeTable) -> State {
+// The next node id that an entry says: it moves forwards alone, and no further than past the last id.
+fn moved_on(next: u64, said: u64) -> u64 {
+    if said < next {
+        return next;
+    }
+    if 0x1_0000_0000 < said {
+        return 0x1_0000_0000;
+    }
+    said
+}
+
+// The clock, the voice ids given out, the noise sequence of every node of the host, and the next node id.
+fn set(out: &mut Output, s: &[u8], at: usize, state: State, nodes: &mut NodeTable) -> State {
     let timed = with_clock(state, long_at(s, at));
     set_noise(nodes, state.nodes, word_at(s, after(at, 16)));
-    text(b"set\n");
-    with_spawned(timed, long_at(s, after(at, 8)))
+    text(out, b"set\n");
+    let mut counted = with_spawned(timed, long_at(s, after(at, 8)));
+    counted.next = moved_on(state.next, long_at(s, after(at, 20)));
+    counted
 }
 
 // A kind name, ports, required ports and what the node takes. Its channels are the generator's.
-fn add(s: &[u8], at: usize, state: State, nodes: &mut NodeTable) -> State {
+fn add(
+    out: &mut Output,
+    s: &[u8],
+    at: usize,
+    seal: Seal,
+    state: State,
+    nodes: &mut NodeTable,
+) -> State {
     let rest = name_end(s, at);
     let ports = word_at(s, rest);
     let required = long_at(s, after(rest, 4));
     let takes = byte_at(s, after(rest, 12));
-    let r = add_node(
+    let r = board_add_node(
+        seal,
         state,
         nodes,
         name_at(s, at),
@@ -74,36 +111,51 @@ fn add(s: &[u8], at: usize, state: State, nodes: &mut NodeTable) -> State {
         takes % 2 == 1,
         takes / 2 % 2 == 1,
     );
-    let given = r.given;
-    given_line(given);
+    let answer = r.answer;
+    match answer {
+        BoardNode::Closed => closed_line(out),
+        BoardNode::Given(given) => given_line(out, given),
+    }
     r.state
 }
 
-fn join(s: &[u8], at: usize, state: State, nodes: &NodeTable, edges: &mut EdgeTable) -> State {
+fn join(
+    out: &mut Output,
+    s: &[u8],
+    at: usize,
+    seal: Seal,
+    state: State,
+    nodes: &NodeTable,
+    edges: &mut EdgeTable,
+) -> State {
     let from = id_at(s, at);
     let to = id_at(s, after(at, 4));
-    told(connect(state, nodes, edges, from, to, word_at(s, after(at, 8))))
+    let port = word_at(s, after(at, 8));
+    host_told(
+        out,
+        board_connect(seal, state, nodes, edges, from, to, port),
+    )
 }
 
-fn part(s: &[u8], at: usize, state: State, nodes: &NodeTable, edges: &mut EdgeTable) -> State {
-    let to = id_at(s, at);
-    told(disconnect(state, nodes, edges, to, word_at(s, after(at, 4))))
-}
-
+// The counters, or a call on the host's nodes.
 pub(crate) fn play_host(
+    out: &mut Output,
     s: &[u8],
-    from: usize,
-    sort: u8,
+    at: usize,
+    seal: Seal,
     state: State,
     nodes: &mut NodeTable,
     edges: &mut EdgeTable,
 ) -> State {
-    match sort {
-        2 => set(s, from, state, nodes),
-        3 => add(s, from, state, nodes),
-        4 => told(remove_node(state, nodes, edges, id_at(s, from))),
-        5 => join(s, from, state, nodes, edges),
-        6 => part(s, from, state, nodes, edges),
-        _ => told(set_sink(state, nodes, id_at(s, from))),
+    let from = after(at, 1);
+    let id = id_at(s, from);
+    let port = word_at(s, after(from, 4));
+    match byte_at(s, at) {
+        2 => set(out, s, from, state, nodes),
+        3 => add(out, s, from, seal, state, nodes),
+        4 => host_told(out, board_remove_node(seal, state, nodes, edges, id)),
+        5 => join(out, s, from, seal, state, nodes, edges),
+        6 => host_told(out, board_disconnect(seal, state, nodes, edges, id, port)),
+        _ => host_told(out, board_set_sink(seal, state, nodes, id)),
     }
 }

@@ -1,25 +1,26 @@
 // Makings, and the console's calls: wishes, turns, and what waits.
 use crate::host::id_at;
-use crate::player::play;
+use crate::seals::closed_line;
 use codec::field::after;
 use codec::field::byte_at;
 use codec::field::float;
 use codec::field::word_at;
-use codec::word::and_number;
-use codec::word::end_line;
-use codec::word::text;
+use codec::output::Output;
+use codec::output::and_number;
+use codec::output::end_line;
+use codec::output::text;
 use piecrag::Answer;
+use piecrag::BoardWished;
 use piecrag::Budget;
 use piecrag::BudgetScope;
 use piecrag::ConsoleMade;
 use piecrag::EdgeTable;
-use piecrag::EventTable;
 use piecrag::KeyboardRefusal;
 use piecrag::Made;
 use piecrag::MakeAnswer;
 use piecrag::NodeTable;
-use piecrag::OrderTable;
 use piecrag::Queue;
+use piecrag::Seal;
 use piecrag::State;
 use piecrag::StealPolicy;
 use piecrag::StealTable;
@@ -30,13 +31,13 @@ use piecrag::Wish;
 use piecrag::WishAnswer;
 use piecrag::WishState;
 use piecrag::WishTable;
+use piecrag::board_wish;
 use piecrag::keyboard_count;
 use piecrag::keyboard_refusal_number;
 use piecrag::make;
 use piecrag::make_console;
 use piecrag::turn;
 use piecrag::waiting_count;
-use piecrag::wish;
 use script::config::budget_of;
 use script::config::policy_of;
 use script::config::scope_of;
@@ -44,10 +45,11 @@ use transcript::answer::made_line;
 use transcript::answer::refused_line;
 use transcript::answer::spawned_line;
 
-// The script's store, with the wishes that wait for it.
-pub struct Console {
+// The script's store, with the wishes that wait for it and its seal.
+pub struct Board {
     pub state: State,
     pub wishes: WishState,
+    pub seal: Seal,
 }
 
 // A store that was made without keyboards: a wish is refused, and a turn is empty.
@@ -61,16 +63,10 @@ pub fn no_keyboards() -> WishState {
     }
 }
 
-// Whether the entry at `at` makes a store, or is one of the console's.
-pub fn is_console(s: &[u8], at: usize) -> bool {
-    let sort = byte_at(s, at);
-    sort == 1 || sort == 34 || 46 < sort
-}
-
-fn keyboard_line(refusal: KeyboardRefusal) {
-    text(b"refused");
-    and_number(keyboard_refusal_number(refusal) as u64);
-    end_line();
+fn keyboard_line(out: &mut Output, refusal: KeyboardRefusal) {
+    text(out, b"refused");
+    and_number(out, keyboard_refusal_number(refusal) as u64);
+    end_line(out);
 }
 
 // What every making says first.
@@ -95,61 +91,65 @@ fn asked_at(s: &[u8], at: usize) -> Asked {
     }
 }
 
-// The store that was made, or where it was refused the console before. A new store stands in the same tables, whatever its
-// forerunner left there.
-fn after_making(r: Made, console: Console) -> Console {
+// The store that was made, or where it was refused the board before. A new store stands in the same tables, whatever its
+// forerunner left there, and is not sealed.
+fn after_making(out: &mut Output, r: Made, board: Board) -> Board {
     let answer = r.answer;
-    made_line(answer);
+    made_line(out, answer);
     match answer {
         Answer::Done => {
             let state = r.state;
             let wishes = no_keyboards();
-            Console { state, wishes }
+            Board {
+                state,
+                wishes,
+                seal: Seal::Unsealed,
+            }
         }
-        Answer::Refused(_) => console,
+        Answer::Refused(_) => board,
     }
-}
-
-fn make_store(s: &[u8], at: usize, table: bool, console: Console) -> Console {
-    let a = asked_at(s, at);
-    let budget = a.budget;
-    let policy = a.policy;
-    let scope = a.scope;
-    after_making(make(a.rate, a.block, budget, policy, scope, table), console)
 }
 
 // The same with keyboards.
-fn after_console(r: ConsoleMade, console: Console) -> Console {
+fn after_console(out: &mut Output, r: ConsoleMade, board: Board) -> Board {
     let answer = r.answer;
     match answer {
         MakeAnswer::Done => {
-            text(b"made\n");
+            text(out, b"made\n");
             let state = r.state;
             let wishes = r.wishes;
-            Console { state, wishes }
+            Board {
+                state,
+                wishes,
+                seal: Seal::Unsealed,
+            }
         }
         MakeAnswer::Refused(refusal) => {
-            refused_line(refusal);
-            console
+            refused_line(out, refusal);
+            board
         }
         MakeAnswer::Keyboards(refusal) => {
-            keyboard_line(refusal);
-            console
+            keyboard_line(out, refusal);
+            board
         }
     }
 }
 
-fn make_with_keyboards(s: &[u8], at: usize, console: Console) -> Console {
-    let a = asked_at(s, at);
+// A store without the fade table, with it, or one with keyboards.
+pub(crate) fn play_making(out: &mut Output, s: &[u8], at: usize, board: Board) -> Board {
+    let a = asked_at(s, after(at, 1));
     let budget = a.budget;
     let policy = a.policy;
     let scope = a.scope;
-    let table = byte_at(s, after(at, 15)) != 0;
-    let keyboards = word_at(s, after(at, 16)) as usize;
-    after_console(
-        make_console(a.rate, a.block, budget, policy, scope, table, keyboards),
-        console,
-    )
+    let sort = byte_at(s, at);
+    if sort != 47 {
+        let made = make(a.rate, a.block, budget, policy, scope, sort == 34);
+        return after_making(out, made, board);
+    }
+    let table = byte_at(s, after(at, 16)) != 0;
+    let keyboards = word_at(s, after(at, 17)) as usize;
+    let made = make_console(a.rate, a.block, budget, policy, scope, table, keyboards);
+    after_console(out, made, board)
 }
 
 // A slot, whose definition is `def`, a keyboard, whether the spawn is managed, a bus, a pan and a rank.
@@ -164,150 +164,104 @@ fn wish_at(s: &[u8], at: usize, def: SynthDef) -> Wish {
     }
 }
 
-fn wish_line(answer: WishAnswer) {
+fn given_line(out: &mut Output, answer: WishAnswer) {
     match answer {
-        WishAnswer::Accepted => text(b"waits\n"),
-        WishAnswer::Refused(refusal) => keyboard_line(refusal),
+        WishAnswer::Accepted => text(out, b"waits\n"),
+        WishAnswer::Refused(refusal) => keyboard_line(out, refusal),
     }
 }
 
-fn play_wish(
+fn wish_line(out: &mut Output, answer: BoardWished) {
+    match answer {
+        BoardWished::Closed => closed_line(out),
+        BoardWished::Given(given) => given_line(out, given),
+    }
+}
+
+pub(crate) fn play_wish(
+    out: &mut Output,
     s: &[u8],
     at: usize,
-    console: Console,
     def: SynthDef,
+    board: Board,
     wishes: &mut WishTable,
-) -> Console {
-    let before = console.wishes;
-    let keyboard = word_at(s, after(at, 1)) as usize;
-    let r = wish(before, wishes, keyboard, wish_at(s, at, def));
+) -> Board {
+    let before = board.wishes;
+    let seal = board.seal;
+    let keyboard = word_at(s, after(at, 2)) as usize;
+    let r = board_wish(
+        seal,
+        before,
+        wishes,
+        keyboard,
+        wish_at(s, after(at, 1), def),
+    );
     let answer = r.answer;
-    wish_line(answer);
-    let state = console.state;
+    wish_line(out, answer);
+    let state = board.state;
     let left = r.wishes;
-    Console {
+    Board {
         state,
         wishes: left,
+        seal,
     }
 }
 
-fn turn_line(answer: TurnAnswer) {
+fn turn_line(out: &mut Output, answer: TurnAnswer) {
     match answer {
-        TurnAnswer::Empty => text(b"empty\n"),
+        TurnAnswer::Empty => text(out, b"empty\n"),
         TurnAnswer::Served { keyboard, answer } => {
-            text(b"served");
-            and_number(keyboard as u64);
-            text(b" ");
-            spawned_line(answer);
+            text(out, b"served");
+            and_number(out, keyboard as u64);
+            text(out, b" ");
+            spawned_line(out, answer);
         }
     }
 }
 
-fn play_turn(
-    console: Console,
+pub(crate) fn play_turn(
+    out: &mut Output,
+    board: Board,
     nodes: &mut NodeTable,
     edges: &mut EdgeTable,
     voices: &mut VoiceTable,
     steals: &mut StealTable,
     wishes: &WishTable,
-) -> Console {
-    let state = console.state;
-    let before = console.wishes;
-    let r = turn(state, nodes, edges, voices, steals, before, wishes);
+) -> Board {
+    let before = board.state;
+    let waiting = board.wishes;
+    let r = turn(before, nodes, edges, voices, steals, waiting, wishes);
     let answer = r.answer;
-    turn_line(answer);
-    let left = r.state;
-    let waiting = r.wishes;
-    Console {
-        state: left,
-        wishes: waiting,
+    turn_line(out, answer);
+    let state = r.state;
+    let left = r.wishes;
+    let seal = board.seal;
+    Board {
+        state,
+        wishes: left,
+        seal,
     }
 }
 
 // How many wishes wait at keyboard `q`, if there is one.
-fn and_waiting(w: WishState, q: usize) {
+fn and_waiting(out: &mut Output, w: WishState, q: usize) {
     if q < keyboard_count(w) {
-        and_number(waiting_count(w, q) as u64);
+        and_number(out, waiting_count(w, q) as u64);
     }
 }
 
 // How many wishes wait at each keyboard, and the keyboard after the last served.
-fn waiting_line(w: WishState) {
-    text(b"waiting");
-    and_waiting(w, 0);
-    and_waiting(w, 1);
-    and_waiting(w, 2);
-    and_waiting(w, 3);
-    and_waiting(w, 4);
-    and_waiting(w, 5);
-    and_waiting(w, 6);
-    and_waiting(w, 7);
-    text(b" next");
-    and_number(w.next as u64);
-    end_line();
-}
-
-// The entry at `at`, which makes a store or is one of the console's: the console after it. A wish is of the definition `def`.
-pub fn play_console(
-    s: &[u8],
-    at: usize,
-    console: Console,
-    def: SynthDef,
-    nodes: &mut NodeTable,
-    edges: &mut EdgeTable,
-    voices: &mut VoiceTable,
-    steals: &mut StealTable,
-    wishes: &mut WishTable,
-) -> Console {
-    let sort = byte_at(s, at);
-    let from = after(at, 1);
-    match sort {
-        1 => make_store(s, from, false, console),
-        34 => make_store(s, from, true, console),
-        47 => make_with_keyboards(s, from, console),
-        48 => play_wish(s, from, console, def, wishes),
-        49 => play_turn(console, nodes, edges, voices, steals, wishes),
-        _ => {
-            let waiting = console.wishes;
-            waiting_line(waiting);
-            console
-        }
-    }
-}
-
-// The entry at `at`, which is whole and keeps no definition, on the console.
-pub fn play_entry(
-    s: &[u8],
-    at: usize,
-    console: Console,
-    def: SynthDef,
-    nodes: &mut NodeTable,
-    edges: &mut EdgeTable,
-    order: &mut OrderTable,
-    voices: &mut VoiceTable,
-    events: &mut EventTable,
-    steals: &mut StealTable,
-    wishes: &mut WishTable,
-) -> Console {
-    if is_console(s, at) {
-        return play_console(s, at, console, def, nodes, edges, voices, steals, wishes);
-    }
-    let before = console.state;
-    let waiting = console.wishes;
-    let state = play(
-        s,
-        at,
-        before,
-        def,
-        nodes,
-        edges,
-        order,
-        voices,
-        events,
-        steals,
-    );
-    Console {
-        state,
-        wishes: waiting,
-    }
+pub(crate) fn waiting_line(out: &mut Output, w: WishState) {
+    text(out, b"waiting");
+    and_waiting(out, w, 0);
+    and_waiting(out, w, 1);
+    and_waiting(out, w, 2);
+    and_waiting(out, w, 3);
+    and_waiting(out, w, 4);
+    and_waiting(out, w, 5);
+    and_waiting(out, w, 6);
+    and_waiting(out, w, 7);
+    text(out, b" next");
+    and_number(out, w.next as u64);
+    end_line(out);
 }

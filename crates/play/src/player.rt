@@ -1,30 +1,42 @@
-// A script's store, in six lent tables.
-use crate::blocks::play_block;
-use crate::blocks::play_lent;
+// An entry of a script on its store, in seven lent tables.
+use crate::blocks::play_render;
 use crate::blocks::play_report;
 use crate::host::play_host;
+use crate::host::told;
+use crate::keyboards::Board;
+use crate::keyboards::no_keyboards;
+use crate::keyboards::play_making;
+use crate::keyboards::play_turn;
+use crate::keyboards::play_wish;
+use crate::keyboards::waiting_line;
+use crate::seals::play_seal;
 use crate::spawns::play_spawn;
-use crate::tell::tell;
+use crate::tell::tell_table;
+use crate::tell::tell_voice;
 use crate::voices::play_event;
 use crate::voices::play_order;
 use crate::voices::play_removal;
-use codec::field::after;
 use codec::field::byte_at;
+use codec::output::Output;
 use piecrag::Budget;
 use piecrag::BudgetScope;
 use piecrag::EdgeTable;
 use piecrag::EventTable;
 use piecrag::NodeTable;
 use piecrag::OrderTable;
+use piecrag::Seal;
 use piecrag::State;
 use piecrag::StealPolicy;
 use piecrag::StealTable;
 use piecrag::SynthDef;
 use piecrag::VoiceTable;
+use piecrag::WishTable;
 use piecrag::make;
+use piecrag::prepare;
+use transcript::state::state_lines;
 
-// Entries before the first making are played on a store of 48,000 Hz, block 64, no budget.
-pub fn first_state() -> State {
+// Entries before the first making are played on a store of 48,000 Hz, block 64, no budget, without keyboards.
+pub(crate) fn first_board() -> Board {
     let r = make(
         48000.0,
         64,
@@ -33,75 +45,67 @@ pub fn first_state() -> State {
         BudgetScope::Global,
         false,
     );
-    r.state
+    let state = r.state;
+    let wishes = no_keyboards();
+    Board {
+        state,
+        wishes,
+        seal: Seal::Unsealed,
+    }
 }
 
-// An entry that neither spawns nor only reads, by its sort.
-fn play_call(
-    s: &[u8],
-    from: usize,
-    sort: u8,
-    state: State,
-    nodes: &mut NodeTable,
-    edges: &mut EdgeTable,
-    order: &mut OrderTable,
-    voices: &mut VoiceTable,
-    events: &mut EventTable,
-) -> State {
-    if sort < 8 {
-        return play_host(s, from, sort, state, nodes, edges);
+// The board with another state of its store.
+fn on_store(board: Board, state: State) -> Board {
+    let wishes = board.wishes;
+    let seal = board.seal;
+    Board {
+        state,
+        wishes,
+        seal,
     }
-    if sort < 15 {
-        return play_removal(s, from, sort, state, nodes, edges, voices);
-    }
-    if sort < 17 {
-        return play_order(s, from, sort, state, nodes, voices);
-    }
-    if sort < 18 {
-        return play_event(s, from, state, events);
-    }
-    if sort < 20 {
-        return play_report(s, from, sort, state, nodes, voices);
-    }
-    if sort < 22 {
-        return play_block(sort, state, nodes, edges, order, voices, events);
-    }
-    play_lent(s, from, state, nodes, edges, order, voices, events)
 }
 
-// The entry at `at`, which is whole, keeps no definition, makes no store and is none of the console's, on the store of this state and these tables: the state after it. A
-// spawn is of the definition `def`.
-pub fn play(
+// The entry at `at`, which is whole and keeps no definition: the board after it. A spawn and a wish are of the definition `def`.
+pub(crate) fn play_entry(
+    out: &mut Output,
     s: &[u8],
     at: usize,
-    state: State,
     def: SynthDef,
+    board: Board,
     nodes: &mut NodeTable,
     edges: &mut EdgeTable,
     order: &mut OrderTable,
     voices: &mut VoiceTable,
     events: &mut EventTable,
     steals: &mut StealTable,
-) -> State {
-    let sort = byte_at(s, at);
-    let from = after(at, 1);
-    if 8 < sort && sort < 13 {
-        return play_spawn(s, from, sort, state, nodes, edges, voices, steals, def);
+    wishes: &mut WishTable,
+) -> Board {
+    let state = board.state;
+    let waiting = board.wishes;
+    let seal = board.seal;
+    match byte_at(s, at) {
+        1 | 34 | 47 => return play_making(out, s, at, board),
+        2..=7 => return on_store(board, play_host(out, s, at, seal, state, nodes, edges)),
+        9..=12 => {
+            let after = play_spawn(out, s, at, def, seal, state, nodes, edges, voices, steals);
+            return on_store(board, after);
+        }
+        13 | 14 => return on_store(board, play_removal(out, s, at, state, nodes, edges, voices)),
+        15 | 16 => play_order(out, s, at, state, nodes, voices),
+        17 => return on_store(board, play_event(out, s, at, state, events)),
+        18 | 19 => play_report(out, s, at, state, nodes, voices),
+        20 => return on_store(board, told(out, prepare(state, nodes, edges, order))),
+        21 | 35 => {
+            let after = play_render(out, s, at, state, nodes, edges, order, voices, events);
+            return on_store(board, after);
+        }
+        22..=25 => tell_voice(out, s, at, state, nodes, voices),
+        26..=32 => tell_table(out, s, at, state, edges, order, voices, steals),
+        33 => state_lines(out, state, nodes, edges, order, voices, events, steals),
+        48 => return play_wish(out, s, at, def, board, wishes),
+        49 => return play_turn(out, board, nodes, edges, voices, steals, wishes),
+        52 => return play_seal(out, s, at, board, nodes, edges, voices),
+        _ => waiting_line(out, waiting),
     }
-    if 21 < sort && sort < 34 {
-        tell(
-            s,
-            from,
-            sort,
-            state,
-            nodes,
-            edges,
-            order,
-            voices,
-            events,
-            steals,
-        );
-        return state;
-    }
-    play_call(s, from, sort, state, nodes, edges, order, voices, events)
+    board
 }

@@ -1,52 +1,52 @@
 // The four spawns.
 use crate::host::id_at;
+use crate::seals::closed_line;
 use codec::field::after;
+use codec::field::byte_at;
 use codec::field::float;
 use codec::field::word_at;
+use codec::output::Output;
+use piecrag::BoardSpawned;
 use piecrag::EdgeTable;
 use piecrag::NodeTable;
-use piecrag::Spawning;
+use piecrag::Seal;
 use piecrag::State;
 use piecrag::StealTable;
 use piecrag::SynthDef;
 use piecrag::VoiceTable;
-use piecrag::spawn_voice_on_bus;
-use piecrag::spawn_voice_on_bus_managed;
-use piecrag::spawn_voice_on_bus_panned;
-use piecrag::spawn_voice_on_bus_panned_managed;
+use piecrag::board_spawn_voice_on_bus;
+use piecrag::board_spawn_voice_on_bus_managed;
+use piecrag::board_spawn_voice_on_bus_panned;
+use piecrag::board_spawn_voice_on_bus_panned_managed;
 use transcript::answer::spawned_line;
 
-fn spawned(r: Spawning) -> State {
-    let answer = r.answer;
-    spawned_line(answer);
-    r.state
-}
-
 // The rank stands last.
-fn rank_at(s: &[u8], from: usize, sort: u8) -> u32 {
-    if sort < 11 {
-        return word_at(s, after(from, 9));
+fn rank_at(s: &[u8], at: usize) -> u32 {
+    if byte_at(s, at) < 11 {
+        return word_at(s, after(at, 10));
     }
-    word_at(s, after(from, 5))
+    word_at(s, after(at, 6))
 }
 
 // A slot, whose definition is `def`, a bus and, but for the calls with pan 0, a pan; then a rank.
 pub(crate) fn play_spawn(
+    out: &mut Output,
     s: &[u8],
-    from: usize,
-    sort: u8,
+    at: usize,
+    def: SynthDef,
+    seal: Seal,
     state: State,
     nodes: &mut NodeTable,
     edges: &mut EdgeTable,
     voices: &mut VoiceTable,
     steals: &mut StealTable,
-    def: SynthDef,
 ) -> State {
-    let bus = id_at(s, after(from, 1));
-    let pan = float(word_at(s, after(from, 5)));
-    let rank = rank_at(s, from, sort);
-    match sort {
-        9 => spawned(spawn_voice_on_bus_panned_managed(
+    let bus = id_at(s, after(at, 2));
+    let pan = float(word_at(s, after(at, 6)));
+    let rank = rank_at(s, at);
+    let r = match byte_at(s, at) {
+        9 => board_spawn_voice_on_bus_panned_managed(
+            seal,
             state,
             nodes,
             edges,
@@ -56,8 +56,9 @@ pub(crate) fn play_spawn(
             bus,
             pan,
             rank,
-        )),
-        10 => spawned(spawn_voice_on_bus_panned(
+        ),
+        10 => board_spawn_voice_on_bus_panned(
+            seal,
             state,
             nodes,
             edges,
@@ -67,8 +68,9 @@ pub(crate) fn play_spawn(
             bus,
             pan,
             rank,
-        )),
-        11 => spawned(spawn_voice_on_bus_managed(
+        ),
+        11 => board_spawn_voice_on_bus_managed(
+            seal,
             state,
             nodes,
             edges,
@@ -77,7 +79,13 @@ pub(crate) fn play_spawn(
             def,
             bus,
             rank,
-        )),
-        _ => spawned(spawn_voice_on_bus(state, nodes, edges, voices, steals, def, bus, rank)),
+        ),
+        _ => board_spawn_voice_on_bus(seal, state, nodes, edges, voices, steals, def, bus, rank),
+    };
+    let answer = r.answer;
+    match answer {
+        BoardSpawned::Closed => closed_line(out),
+        BoardSpawned::Given(given) => spawned_line(out, given),
     }
+    r.state
 }

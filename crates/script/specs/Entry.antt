@@ -13,13 +13,13 @@ use Rattle.script.specs.declared.entry.Form.the-variants.{Malformed, Fix
 -- by rising sort, from 0 on, a row for eight sorts
 abbrev pub forms : List Form
 forms =
-    Malformed ∷ Fixed 15 ∷ Fixed 20 ∷ Named 0 14 ∷ Fixed 4 ∷ Fixed 12 ∷ Fixed 8 ∷ Fixed 4
+    Malformed ∷ Fixed 15 ∷ Fixed 28 ∷ Named 0 14 ∷ Fixed 4 ∷ Fixed 12 ∷ Fixed 8 ∷ Fixed 4
     ∷ Definition ∷ Fixed 13 ∷ Fixed 13 ∷ Fixed 9 ∷ Fixed 9 ∷ Fixed 8 ∷ Fixed 0 ∷ Named 8 4
     ∷ Named 8 14 ∷ Named 17 14 ∷ Samples ∷ Repeated ∷ Fixed 0 ∷ Fixed 0 ∷ Fixed 8 ∷ Fixed 8
     ∷ Fixed 8 ∷ Fixed 4 ∷ Fixed 0 ∷ Fixed 0 ∷ Fixed 0 ∷ Fixed 0 ∷ Fixed 4 ∷ Fixed 0
     ∷ Buffer ∷ Fixed 0 ∷ Fixed 15 ∷ Fixed 5 ∷ Malformed ∷ Malformed ∷ Malformed ∷ Malformed
     ∷ Malformed ∷ Malformed ∷ Malformed ∷ Malformed ∷ Malformed ∷ Malformed ∷ Malformed ∷ Fixed 20
-    ∷ Fixed 18 ∷ Fixed 0 ∷ Fixed 0 ∷ []
+    ∷ Fixed 18 ∷ Fixed 0 ∷ Fixed 0 ∷ Malformed ∷ Fixed 44 ∷ []
 
 abbrev pub formOf : ℕ → Form
 formOf sort = getD forms sort Malformed

@@ -10,8 +10,8 @@ use Rattle.node.specs.declared.order.GlideShape.{GlideShape}
 use Rattle.node.specs.declared.order.GlideShape.the-variants.{Hold, Linear, Sine, Exponential}
 use Rattle.node.specs.declared.order.GlideSpace.{GlideSpace}
 use Rattle.node.specs.declared.order.GlideSpace.the-variants.{Raw, Pitch}
-use Rattle.node.specs.declared.order.Action.{Action}
-use Rattle.node.specs.declared.order.Action.the-variants as action
+use Rattle.node.specs.declared.order.EventAction.{EventAction}
+use Rattle.node.specs.declared.order.EventAction.the-variants as action
 use Rattle.script.specs.declared.glide.Glide.{Glide}
 
 abbrev pub floatAt : List ℕ → ℕ → Float
@@ -33,7 +33,7 @@ glideAt s at =
     }
 
 -- "u8 action (0 value, 1 glide, 2 gate, anything else free) ..; a value and a gate take their float from the glide's target"
-abbrev pub actionOf : ℕ → Glide → Action
+abbrev pub actionOf : ℕ → Glide → EventAction
 actionOf n g =
     cond (eqb n 0) (action.Value (g .target))
     (cond (eqb n 1) (action.Glide (g .target) (g .seconds) (g .shape) (g .space))

@@ -27,10 +27,10 @@ enum Form {
 }
 
 // By rising sort, from 0 on.
-const FORMS: [Form; 51] = [
+const FORMS: [Form; 53] = [
     Form::Malformed,
     Form::Fixed(15),
-    Form::Fixed(20),
+    Form::Fixed(28),
     Form::Named {
         before: 0,
         behind: 14,
@@ -91,13 +91,15 @@ const FORMS: [Form; 51] = [
     Form::Fixed(18),
     Form::Fixed(0),
     Form::Fixed(0),
+    Form::Malformed,
+    Form::Fixed(44),
 ];
 
 fn form_of(sort: u8) -> Form
     ensures { λ r. ⌜ r ≡ formOf sort ⌝ }
 {
     let n = sort as usize;
-    if n < 51 {
+    if n < 53 {
         return FORMS[n];
     }
     Form::Malformed

@@ -5,7 +5,7 @@ use codec::field::after;
 use codec::field::byte_at;
 use codec::field::float;
 use codec::field::word_at;
-use node::order::Action;
+use node::order::EventAction;
 use node::order::GlideShape;
 use node::order::GlideSpace;
 
@@ -55,20 +55,20 @@ pub fn glide_at(s: &[u8], at: usize) -> Glide
 }
 
 // The action of a number. A value and a gate take their float from the glide's target.
-pub fn action_of(n: u8, glide: Glide) -> Action
+pub fn action_of(n: u8, glide: Glide) -> EventAction
     ensures { λ r. ⌜ r ≡ actionOf n glide ⌝ }
 {
     let shape = glide.shape;
     let space = glide.space;
     match n {
-        0 => Action::Value(glide.target),
-        1 => Action::Glide {
+        0 => EventAction::Value(glide.target),
+        1 => EventAction::Glide {
             target: glide.target,
             seconds: glide.seconds,
             shape,
             space,
         },
-        2 => Action::Gate(glide.target),
-        _ => Action::Free,
+        2 => EventAction::Gate(glide.target),
+        _ => EventAction::Free,
     }
 }

@@ -2,10 +2,11 @@
 use crate::line_words::id_word;
 use crate::line_words::level_word;
 use codec::field::bytes_at;
-use codec::word::and_number;
-use codec::word::end_line;
-use codec::word::hex_bytes;
-use codec::word::text;
+use codec::output::Output;
+use codec::output::and_number;
+use codec::output::end_line;
+use codec::output::hex_bytes;
+use codec::output::text;
 use piecrag::AddAnswer;
 use piecrag::Answer;
 use piecrag::Level;
@@ -17,129 +18,129 @@ use piecrag::Spawned;
 use piecrag::outcome_number;
 use piecrag::refusal_number;
 
-pub fn refused_line(refusal: Refusal) {
-    text(b"refused");
-    and_number(refusal_number(refusal) as u64);
-    end_line();
+pub fn refused_line(out: &mut Output, refusal: Refusal) {
+    text(out, b"refused");
+    and_number(out, refusal_number(refusal) as u64);
+    end_line(out);
 }
 
-pub fn made_line(answer: Answer) {
+pub fn made_line(out: &mut Output, answer: Answer) {
     match answer {
-        Answer::Done => text(b"made\n"),
-        Answer::Refused(refusal) => refused_line(refusal),
+        Answer::Done => text(out, b"made\n"),
+        Answer::Refused(refusal) => refused_line(out, refusal),
     }
 }
 
-pub fn answer_line(answer: Answer) {
+pub fn answer_line(out: &mut Output, answer: Answer) {
     match answer {
-        Answer::Done => text(b"done\n"),
-        Answer::Refused(refusal) => refused_line(refusal),
+        Answer::Done => text(out, b"done\n"),
+        Answer::Refused(refusal) => refused_line(out, refusal),
     }
 }
 
-pub fn given_line(given: AddAnswer) {
+pub fn given_line(out: &mut Output, given: AddAnswer) {
     match given {
         AddAnswer::Id(id) => {
-            text(b"node");
-            id_word(id);
-            end_line();
+            text(out, b"node");
+            id_word(out, id);
+            end_line(out);
         }
-        AddAnswer::Refused(refusal) => refused_line(refusal),
+        AddAnswer::Refused(refusal) => refused_line(out, refusal),
     }
 }
 
-pub fn spawned_line(answer: Spawned) {
+pub fn spawned_line(out: &mut Output, answer: Spawned) {
     match answer {
         Spawned::Voice(id) => {
-            text(b"voice");
-            and_number(id.0);
-            end_line();
+            text(out, b"voice");
+            and_number(out, id.0);
+            end_line(out);
         }
-        Spawned::Refused(refusal) => refused_line(refusal),
+        Spawned::Refused(refusal) => refused_line(out, refusal),
     }
 }
 
 // What became of a value, a glide or a free.
-pub fn outcome_line(outcome: Outcome) {
-    text(b"outcome");
-    and_number(outcome_number(outcome) as u64);
-    end_line();
+pub fn outcome_line(out: &mut Output, outcome: Outcome) {
+    text(out, b"outcome");
+    and_number(out, outcome_number(outcome) as u64);
+    end_line(out);
 }
 
 // The entries of a list, if there are any.
-fn entries(list: &[u8]) {
+fn entries(out: &mut Output, list: &[u8]) {
     if list.len() != 0 {
-        text(b" ");
-        hex_bytes(list);
+        text(out, b" ");
+        hex_bytes(out, list);
     }
-    end_line();
+    end_line(out);
 }
 
 // How many events a render took, and what became of each.
-fn taken_words(outcomes: &[u8]) {
-    text(b" took");
-    and_number(outcomes.len() as u64);
-    entries(outcomes);
+fn taken_words(out: &mut Output, outcomes: &[u8]) {
+    text(out, b" took");
+    and_number(out, outcomes.len() as u64);
+    entries(out, outcomes);
 }
 
-pub fn rendered_line(answer: Rendered, outcomes: &[u8]) {
+pub fn rendered_line(out: &mut Output, answer: Rendered, outcomes: &[u8]) {
     match answer {
         Rendered::Sounding => {
-            text(b"sounding");
-            taken_words(outcomes);
+            text(out, b"sounding");
+            taken_words(out, outcomes);
         }
         Rendered::Silent => {
-            text(b"silent");
-            taken_words(outcomes);
+            text(out, b"silent");
+            taken_words(out, outcomes);
         }
         Rendered::Unprepared(refusal) => {
-            text(b"silent");
-            and_number(refusal_number(refusal) as u64);
-            taken_words(outcomes);
+            text(out, b"silent");
+            and_number(out, refusal_number(refusal) as u64);
+            taken_words(out, outcomes);
         }
-        Rendered::Refused(refusal) => refused_line(refusal),
+        Rendered::Refused(refusal) => refused_line(out, refusal),
     }
 }
 
 // The whole of a lent list.
-pub fn list_line(list: &[u8]) {
-    text(b"list");
-    entries(list);
+pub fn list_line(out: &mut Output, list: &[u8]) {
+    text(out, b"list");
+    entries(out, list);
 }
 
-pub fn removed_line(removed: usize) {
-    text(b"removed");
-    and_number(removed as u64);
-    end_line();
+pub fn removed_line(out: &mut Output, removed: usize) {
+    text(out, b"removed");
+    and_number(out, removed as u64);
+    end_line(out);
 }
 
-pub fn level_line(level: Level) {
-    text(b"level");
-    level_word(level);
-    end_line();
+pub fn level_line(out: &mut Output, level: Level) {
+    text(out, b"level");
+    level_word(out, level);
+    end_line(out);
 }
 
-pub fn position_line(position: Position) {
+pub fn position_line(out: &mut Output, position: Position) {
     match position {
         Position::At(sample) => {
-            text(b"position");
-            and_number(sample);
-            end_line();
+            text(out, b"position");
+            and_number(out, sample);
+            end_line(out);
         }
-        Position::Nothing => text(b"position -\n"),
+        Position::Nothing => text(out, b"position -\n"),
     }
 }
 
-// The length of a page, and the page, which stands at the start of `out`.
-pub fn page_lines(length: usize, out: &[u8]) {
-    text(b"page");
-    and_number(length as u64);
-    end_line();
-    text(bytes_at(out, 0, length));
+// The length of a page, and the page, which stands at the start of `page`.
+pub fn page_lines(out: &mut Output, length: usize, page: &[u8]) {
+    text(out, b"page");
+    and_number(out, length as u64);
+    end_line(out);
+    text(out, bytes_at(page, 0, length));
 }
 
-pub fn clock_line(clock: u64) {
-    text(b"clock");
-    and_number(clock);
-    end_line();
+pub fn clock_line(out: &mut Output, clock: u64) {
+    text(out, b"clock");
+    and_number(out, clock);
+    end_line(out);
 }

@@ -1,8 +1,9 @@
 // The words of more than one line. Each has a space before it.
-use codec::word::and_number;
-use codec::word::and_sample;
-use codec::word::hex_bytes;
-use codec::word::text;
+use codec::output::Output;
+use codec::output::and_number;
+use codec::output::and_sample;
+use codec::output::hex_bytes;
+use codec::output::text;
 use node::name::is_named;
 use piecrag::GlideShape;
 use piecrag::GlideSpace;
@@ -10,58 +11,64 @@ use piecrag::Level;
 use piecrag::Name;
 use piecrag::NodeId;
 
-pub fn id_word(id: NodeId) {
-    and_number(id.0 as u64);
+pub fn id_word(out: &mut Output, id: NodeId) {
+    and_number(out, id.0 as u64);
 }
 
-pub fn flag_word(yes: bool) {
+pub fn flag_word(out: &mut Output, yes: bool) {
     if yes {
-        text(b" 1");
+        text(out, b" 1");
     } else {
-        text(b" 0");
+        text(out, b" 0");
     }
 }
 
-pub fn level_word(level: Level) {
+pub fn level_word(out: &mut Output, level: Level) {
     match level {
-        Level::Unknown => text(b" -"),
-        Level::Known(x) => and_sample(x),
+        Level::Unknown => text(out, b" -"),
+        Level::Known(x) => and_sample(out, x),
     }
 }
 
-pub fn name_word(name: Name) {
+pub fn name_word(out: &mut Output, name: Name) {
     if !is_named(name) {
-        text(b" -");
+        text(out, b" -");
         return;
     }
     let n = name.len as usize;
     let bytes = name.bytes;
-    text(b" ");
-    hex_bytes(&bytes[..n]);
+    text(out, b" ");
+    hex_bytes(out, &bytes[..n]);
 }
 
-fn shape_words(shape: GlideShape) {
+fn shape_words(out: &mut Output, shape: GlideShape) {
     match shape {
-        GlideShape::Hold => text(b" hold"),
-        GlideShape::Linear => text(b" linear"),
-        GlideShape::Sine => text(b" sine"),
+        GlideShape::Hold => text(out, b" hold"),
+        GlideShape::Linear => text(out, b" linear"),
+        GlideShape::Sine => text(out, b" sine"),
         GlideShape::Exponential(curve) => {
-            text(b" exponential");
-            and_sample(curve);
+            text(out, b" exponential");
+            and_sample(out, curve);
         }
     }
 }
 
-fn space_word(space: GlideSpace) {
+fn space_word(out: &mut Output, space: GlideSpace) {
     match space {
-        GlideSpace::Raw => text(b" raw"),
-        GlideSpace::Pitch => text(b" pitch"),
+        GlideSpace::Raw => text(out, b" raw"),
+        GlideSpace::Pitch => text(out, b" pitch"),
     }
 }
 
-pub fn glide_words(target: f32, seconds: f32, shape: GlideShape, space: GlideSpace) {
-    and_sample(target);
-    and_sample(seconds);
-    shape_words(shape);
-    space_word(space);
+pub fn glide_words(
+    out: &mut Output,
+    target: f32,
+    seconds: f32,
+    shape: GlideShape,
+    space: GlideSpace,
+) {
+    and_sample(out, target);
+    and_sample(out, seconds);
+    shape_words(out, shape);
+    space_word(out, space);
 }

@@ -2,52 +2,53 @@
 use crate::line_words::glide_words;
 use crate::line_words::name_word;
 use codec::field::at_most;
-use codec::word::and_number;
-use codec::word::and_sample;
-use codec::word::end_line;
-use codec::word::text;
+use codec::output::Output;
+use codec::output::and_number;
+use codec::output::and_sample;
+use codec::output::end_line;
+use codec::output::text;
 use event_table::row::event_at;
-use piecrag::Action;
+use piecrag::EventAction;
 use piecrag::EventTable;
 use piecrag::State;
 use scheduler::event::Event;
 
-fn event_line(e: Event) {
-    text(b"event");
-    and_number(e.time);
-    and_number(e.voice.0);
+fn event_line(out: &mut Output, e: Event) {
+    text(out, b"event");
+    and_number(out, e.time);
+    and_number(out, e.voice.0);
     let name = e.name;
     let action = e.action;
     match action {
-        Action::Value(x) => {
-            text(b" value");
-            name_word(name);
-            and_sample(x);
+        EventAction::Value(x) => {
+            text(out, b" value");
+            name_word(out, name);
+            and_sample(out, x);
         }
-        Action::Glide {
+        EventAction::Glide {
             target,
             seconds,
             shape,
             space,
         } => {
-            text(b" glide");
-            name_word(name);
-            glide_words(target, seconds, shape, space);
+            text(out, b" glide");
+            name_word(out, name);
+            glide_words(out, target, seconds, shape, space);
         }
-        Action::Gate(x) => {
-            text(b" gate");
-            and_sample(x);
+        EventAction::Gate(x) => {
+            text(out, b" gate");
+            and_sample(out, x);
         }
-        Action::Free => text(b" free"),
+        EventAction::Free => text(out, b" free"),
     }
-    end_line();
+    end_line(out);
 }
 
-pub fn event_lines(s: State, events: &EventTable) {
+pub fn event_lines(out: &mut Output, s: State, events: &EventTable) {
     let n = at_most(s.events, 256);
     let mut i: usize = 0;
     while i < n {
-        event_line(event_at(events, i));
+        event_line(out, event_at(events, i));
         i += 1;
     }
 }

@@ -1,8 +1,9 @@
 // Steal records.
 use crate::line_words::level_word;
-use codec::word::and_number;
-use codec::word::end_line;
-use codec::word::text;
+use codec::output::Output;
+use codec::output::and_number;
+use codec::output::end_line;
+use codec::output::text;
 use piecrag::StealFound;
 use piecrag::StealRecord;
 use piecrag::Steals;
@@ -10,54 +11,54 @@ use voice::steals::held_steals;
 use voice::steals::record_level;
 use voice::steals::steal_at;
 
-fn record_words(r: StealRecord) {
-    and_number(r.sample);
-    level_word(record_level(r));
+fn record_words(out: &mut Output, r: StealRecord) {
+    and_number(out, r.sample);
+    level_word(out, record_level(r));
     if r.cut {
-        text(b" cut");
+        text(out, b" cut");
     } else {
-        text(b" faded");
+        text(out, b" faded");
     }
 }
 
-fn found_words(found: StealFound) {
+fn found_words(out: &mut Output, found: StealFound) {
     match found {
-        StealFound::Nothing => text(b""),
-        StealFound::Record(r) => record_words(r),
+        StealFound::Nothing => text(out, b""),
+        StealFound::Record(r) => record_words(out, r),
     }
 }
 
-fn steal_words(steals: Steals) {
+fn steal_words(out: &mut Output, steals: Steals) {
     let n = held_steals(steals);
     for i in 0..n {
-        found_words(steal_at(steals, i));
+        found_words(out, steal_at(steals, i));
     }
 }
 
-fn count_words(steals: Steals) {
-    text(b"steals");
-    and_number(steals.total);
+fn count_words(out: &mut Output, steals: Steals) {
+    text(out, b"steals");
+    and_number(out, steals.total);
 }
 
 // The count, and all records, in one line.
-pub fn steals_line(steals: Steals) {
-    count_words(steals);
-    steal_words(steals);
-    end_line();
+pub fn steals_line(out: &mut Output, steals: Steals) {
+    count_words(out, steals);
+    steal_words(out, steals);
+    end_line(out);
 }
 
-fn steal_line(found: StealFound) {
-    text(b"steal");
-    found_words(found);
-    end_line();
+fn steal_line(out: &mut Output, found: StealFound) {
+    text(out, b"steal");
+    found_words(out, found);
+    end_line(out);
 }
 
 // The count, and then a line for each record.
-pub fn steal_lines(steals: Steals) {
-    count_words(steals);
-    end_line();
+pub fn steal_lines(out: &mut Output, steals: Steals) {
+    count_words(out, steals);
+    end_line(out);
     let n = held_steals(steals);
     for i in 0..n {
-        steal_line(steal_at(steals, i));
+        steal_line(out, steal_at(steals, i));
     }
 }

@@ -1,5 +1,6 @@
 //! Moves that aim at what random calls seldom reach.
 
+use microsynth::node::unknown_number;
 use replay::script::Call;
 use seeded::rng::Rng;
 
@@ -44,7 +45,7 @@ impl Writer {
     /// Removes a bus, most often one that has voices, and most often puts another in its place.
     pub fn remove_bus(&mut self) {
         let held: Vec<u32> =
-            self.engine().voice_rows().filter_map(|row| row.bus).map(|bus| bus.index() as u32).collect();
+            self.engine().voice_rows().filter_map(|row| row.bus).map(|bus| bus.number() as u32).collect();
         let held: Vec<u32> = held.into_iter().filter(|bus| self.hosts.iter().any(|host| host.id == *bus)).collect();
         let bus = if held.is_empty() { self.some_bus().map(|bus| bus.id) } else { Some(*self.rng.pick(&held)) };
         if let Some(node) = bus {
@@ -142,7 +143,7 @@ impl Writer {
 
     /// A call that is refused, whatever the store.
     fn refused(&mut self) {
-        let unknown = u32::MAX - self.rng.below(3) as u32;
+        let unknown = unknown_number() - self.rng.below(3) as u32;
         let live = self.some_host().map_or(unknown, |host| host.id);
         let helper = self.some_helper_node().unwrap_or(unknown);
         let call = match self.rng.below(16) {
@@ -188,7 +189,7 @@ impl Writer {
     fn host_edges(&self) -> Vec<(u32, u32, u32)> {
         let is_host = |id: u32| self.hosts.iter().any(|host| host.id == id);
         let edges = self.engine().graph().all_edges().iter();
-        let edges = edges.map(|edge| (edge.from.index() as u32, edge.to.index() as u32, edge.to_input as u32));
+        let edges = edges.map(|edge| (edge.from.number() as u32, edge.to.number() as u32, edge.to_input as u32));
         edges.filter(|&(from, to, _)| is_host(from) && is_host(to)).collect()
     }
 
@@ -200,14 +201,14 @@ impl Writer {
             let fed: Vec<usize> = graph.used_input_slots(id).collect();
             let inputs = graph.node_spec(id).expect("the node lives").inputs;
             let missing = inputs.iter().enumerate().filter(|(port, input)| input.required && !fed.contains(port));
-            unfed.extend(missing.map(|(port, _)| (id.index() as u32, port as u32)));
+            unfed.extend(missing.map(|(port, _)| (id.number() as u32, port as u32)));
         }
         unfed
     }
 
     /// The voice that a node belongs to.
     fn owner(&self, node: u32) -> Option<u64> {
-        let owns = |ids: &[microsynth::node::NodeId]| ids.iter().any(|id| id.index() as u32 == node);
+        let owns = |ids: &[microsynth::node::NodeId]| ids.iter().any(|id| id.number() as u32 == node);
         self.engine().voice_rows().find(|row| owns(row.synth.node_ids())).map(|row| row.id.0)
     }
 }

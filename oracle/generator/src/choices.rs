@@ -1,6 +1,7 @@
 //! Whom a call names: voices and nodes, most often ones that live, now and then one that does not or is not the host's.
 
 use microsynth::engine::VoiceRow;
+use microsynth::node::unknown_number;
 
 use crate::writer::{Host, Writer};
 
@@ -20,7 +21,7 @@ impl Writer {
     /// A node that is unknown or dead, or just some number.
     fn some_stranger(&mut self) -> u32 {
         match self.rng.below(3) {
-            0 => u32::MAX,
+            0 => unknown_number(),
             1 => self.rng.below(600) as u32,
             _ => self.rng.word(),
         }
@@ -59,8 +60,13 @@ impl Writer {
         chosen.unwrap_or_else(|| self.some_stranger())
     }
 
-    /// Where a voice is to go: most often a bus.
+    /// Where a voice is to go: most often a bus, and on a sealed board the one that it names.
     pub fn some_target(&mut self) -> u32 {
+        if let Some(seal) = self.seal
+            && !self.rng.once_in(8)
+        {
+            return seal.bus;
+        }
         match (self.rng.once_in(16), self.some_bus()) {
             (false, Some(bus)) => bus.id,
             _ => self.some_node(2),
@@ -89,12 +95,12 @@ impl Writer {
 pub fn helpers_of(row: &VoiceRow) -> Vec<u32> {
     let pan = row.pan.into_iter().flat_map(|(pan, constant)| [pan, constant]);
     let fade = row.fade.map(|(fade, _, _)| fade);
-    pan.chain(fade).map(|id| id.index() as u32).collect()
+    pan.chain(fade).map(|id| id.number() as u32).collect()
 }
 
 /// All nodes of a voice.
 fn nodes_of(row: &VoiceRow) -> Vec<u32> {
-    let mut nodes: Vec<u32> = row.synth.node_ids().iter().map(|id| id.index() as u32).collect();
+    let mut nodes: Vec<u32> = row.synth.node_ids().iter().map(|id| id.number() as u32).collect();
     nodes.extend(helpers_of(row));
     nodes
 }

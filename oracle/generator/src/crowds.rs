@@ -53,7 +53,7 @@ impl Writer {
     }
 
     /// Connects free ports of the host nodes that follow this one until there are so many edges.
-    fn fill_edges(&mut self, from: u32, edges: usize) {
+    pub fn fill_edges(&mut self, from: u32, edges: usize) {
         let ports = self
             .hosts
             .iter()

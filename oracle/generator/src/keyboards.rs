@@ -26,6 +26,17 @@ impl Writer {
         let slot = self.some_slot();
         let bus = self.some_target();
         let managed = if self.rng.once_in(4) { 0 } else { values::yes(&mut self.rng) };
+        self.put_wish(slot, keyboard, managed, bus);
+    }
+
+    /// A wish for this spawn, of some keyboard.
+    pub fn wish_for(&mut self, slot: u8, bus: u32, is_managed: bool) {
+        let keyboard = self.some_keyboard();
+        let managed = if is_managed { values::yes(&mut self.rng) } else { 0 };
+        self.put_wish(slot, keyboard, managed, bus);
+    }
+
+    pub fn put_wish(&mut self, slot: u8, keyboard: u32, managed: u8, bus: u32) {
         let pan = values::pan(&mut self.rng);
         let rank = if self.rng.once_in(20) { *self.rng.pick(&[8, 9, 255, u32::MAX]) } else { 0 };
         self.put(Call::Wish { slot, keyboard, managed, bus, pan, rank });

@@ -9,6 +9,7 @@ pub mod reach;
 mod reports;
 pub mod scenes;
 pub mod script;
+mod seals;
 pub mod shrink;
 mod values;
 mod writer;

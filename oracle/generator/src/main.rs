@@ -1,6 +1,7 @@
 //! Writes call scripts.
 //!
-//! `generator scripts SEED CALLS FOLDER` writes scripts of some thousand calls each, about so many calls in all;
+//! `generator scripts SEED CALLS FOLDER` writes scripts of some thousand calls each, about so many calls in all, and with
+//! every third of them one of sealed boards;
 //! `generator sample SEED FILE` writes the one script that is recorded. With `--reach` at the end it also prints what
 //! they reach. `generator shrink SCRIPT PROGRAM` cuts a script that the program answers otherwise than the Rust.
 
@@ -13,6 +14,9 @@ use generator::{scenes, script, shrink};
 
 /// About how many calls a script has.
 const SCRIPT_CALLS: usize = 3000;
+
+/// One script of sealed boards goes with so many others.
+const SEALED_ONCE_IN: usize = 3;
 
 fn main() {
     let words: Vec<String> = std::env::args().skip(1).collect();
@@ -28,8 +32,16 @@ fn main() {
         ),
     };
     println!("{} scripts, {} calls, {} of them states", reach.scripts, reach.calls, reach.states);
+    let Reach { sealed_calls, open_spawns, open_turns, .. } = reach;
+    let sevens = reach.sevens();
+    println!(
+        "{sealed_calls} calls on sealed boards; {open_spawns} open spawns and {open_turns} turns, {sevens} refused with 7"
+    );
     if prints {
         println!("{reach}");
+    }
+    if sevens > 0 {
+        refuse("a spawn on a sealed board met refusal 7");
     }
 }
 
@@ -70,12 +82,20 @@ fn write(path: &Path, script: &[u8]) {
 
 fn scripts(seed: u64, calls: usize, folder: &Path) -> Reach {
     fs::create_dir_all(folder).unwrap_or_else(|e| refuse(&format!("{}: {e}", folder.display())));
-    let mut reach = Reach::default();
-    while reach.calls < calls {
-        let number = reach.scripts;
+    let (mut reach, mut mixed) = (Reach::default(), 0);
+    for number in 0.. {
+        if mixed >= calls {
+            break;
+        }
         let script = scenes::script(seed, number, SCRIPT_CALLS.min(calls));
+        mixed += script.reach.calls;
         write(&folder.join(format!("{number:04}.script")), &script.bytes);
         reach.add(script.reach);
+        if number % SEALED_ONCE_IN == 0 {
+            let sealed = scenes::sealed_script(seed, number / SEALED_ONCE_IN, SCRIPT_CALLS.min(calls));
+            write(&folder.join(format!("sealed-{number:04}.script")), &sealed.bytes);
+            reach.add(sealed.reach);
+        }
     }
     reach
 }

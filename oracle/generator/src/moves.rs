@@ -46,6 +46,12 @@ pub enum Move {
     /// More wishes than a keyboard holds.
     Crowd,
     Waiting,
+    /// A sealing, which may be accepted.
+    Seal,
+    /// A spawn of a definition around what the seal leaves open, or a wish for one.
+    Near,
+    /// Spawns that fill a sealed board.
+    Flood,
 }
 
 impl Writer {
@@ -83,6 +89,9 @@ impl Writer {
             Move::Rush => self.rush(),
             Move::Crowd => self.fill_keyboard(),
             Move::Waiting => drop(self.put(Call::Waiting {})),
+            Move::Seal => self.seal(),
+            Move::Near => self.near(),
+            Move::Flood => self.flood(),
         }
     }
 
@@ -145,7 +154,7 @@ impl Writer {
     /// Disconnects a port that is fed, or just some port.
     fn disconnect(&mut self) {
         let edges = self.engine().graph().all_edges();
-        let fed: Vec<(u32, u32)> = edges.iter().map(|edge| (edge.to.index() as u32, edge.to_input as u32)).collect();
+        let fed: Vec<(u32, u32)> = edges.iter().map(|edge| (edge.to.number() as u32, edge.to_input as u32)).collect();
         let (to, port) = match (self.rng.below(3), self.some_bus()) {
             (0, _) if !fed.is_empty() => *self.rng.pick(&fed),
             (1, Some(bus)) => (bus.id, self.some_port(bus.ports)),

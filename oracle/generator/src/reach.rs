@@ -4,6 +4,7 @@ mod before;
 mod events;
 mod keyboards;
 mod rows;
+mod seals;
 mod spawns;
 
 use std::collections::BTreeMap;
@@ -15,13 +16,15 @@ use microsynth::node::NodeId;
 use microsynth::scheduler::EventAction;
 use replay::orders::event_of;
 use replay::player::{LIST, list_length};
-use replay::script::Call;
+use replay::script::{Call, Definition};
+use replay::seal::Profile;
 use scripted::limits;
 
 pub use before::Before;
 pub use spawns::Spawn;
 
 use self::keyboards::Keyboards;
+use self::seals::{NEVER, Seals};
 use crate::writer::Answer;
 
 /// The rows of a value or a glide, and of an event, by outcome.
@@ -46,6 +49,11 @@ pub struct Reach {
     /// The refusals in a row just now.
     row: usize,
     keyboards: Keyboards,
+    seals: Seals,
+    /// The calls on sealed boards, and of these the spawns that the seal left open and the turns that served a wish.
+    pub sealed_calls: usize,
+    pub open_spawns: usize,
+    pub open_turns: usize,
 }
 
 /// A call, what it answered, and the store before and after it.
@@ -75,6 +83,9 @@ impl Reach {
         self.scripts += other.scripts;
         self.calls += other.calls;
         self.states += other.states;
+        self.sealed_calls += other.sealed_calls;
+        self.open_spawns += other.open_spawns;
+        self.open_turns += other.open_turns;
         for (row, count) in other.counts {
             *self.counts.entry(row).or_default() += count;
         }
@@ -96,9 +107,16 @@ impl Reach {
         rows.filter(|row| !self.counts.contains_key(row)).collect()
     }
 
-    pub fn note(&mut self, seen: &Seen) {
+    /// How often a spawn that a seal left open, or a turn on a sealed board, was refused with 7. It must be 0.
+    pub fn sevens(&self) -> usize {
+        NEVER.iter().filter_map(|row| self.counts.get(row)).sum()
+    }
+
+    /// Notes a call; the slots are as they were before it.
+    pub fn note(&mut self, seen: &Seen, slots: &[Definition]) {
         self.calls += 1;
         self.note_answer(seen);
+        self.note_board(seen, slots);
         if let Some(spawn) = &seen.spawn {
             self.note_spawn(seen, spawn);
         }
@@ -116,6 +134,8 @@ impl Reach {
             }
             Call::AddNode { .. } => {
                 self.hit_if("512 nodes: node refused", seen.answer.of("refused") == Some(7));
+                self.hit_if("node ids used up: node refused", seen.answer.of("refused") == Some(8));
+                self.hit_if("last node id given out", seen.answer.of("node") == Some(u32::MAX.into()));
             }
             Call::Connect { to, port, .. } => self.note_connect(seen, (*to, *port)),
             Call::Schedule { time, voice, action, name, .. } => self.note_event(seen, *time, *voice, *action, name),
@@ -134,7 +154,16 @@ impl Reach {
             Call::Level { voice } => self.note_level(seen, *voice),
             Call::Order {} => self.note_order(seen),
             Call::Page { length } => self.note_page(seen, length.0),
+            Call::Make { .. } | Call::MakeWithTable { .. } if seen.answer.is("made") => {
+                self.keyboards = Keyboards::default();
+                self.note_made();
+            }
             Call::MakeConsole { block, keyboards, .. } => self.note_console(seen, *block, *keyboards),
+            Call::Seal { bus, ports, nodes, edges, def_nodes, def_edges } => {
+                let (bus, ports, nodes, edges) = (*bus, *ports, *nodes, *edges);
+                let profile = Profile { bus, ports, nodes, edges, def_nodes: *def_nodes, def_edges: *def_edges };
+                self.note_sealing(seen, profile);
+            }
             Call::Wish { keyboard, managed, .. } => self.note_wish(seen, *keyboard, *managed != 0),
             Call::Turn {} => self.note_turn(seen),
             _ => {}
@@ -286,7 +315,7 @@ impl Reach {
             return;
         }
         let edges = seen.engine.graph().all_edges();
-        let is_link = |edge: &Edge| edge.to.index() == edge.from.index() + 1;
+        let is_link = |edge: &Edge| edge.to.number() == edge.from.number() + 1;
         let twice = |pair: &[Edge]| pair[0].from == pair[1].from && pair[0].to == pair[1].to;
         self.hit_if("512 nodes and 1,024 edges: order read", edges.len() == limits::EDGES);
         let is_chain = edges.len() + 1 == limits::NODES && edges.iter().all(is_link);
@@ -371,6 +400,9 @@ impl fmt::Display for Reach {
             for row in *rows {
                 writeln!(f, "| {profile} | {row} | {} |", self.counts.get(row).unwrap_or(&0))?;
             }
+        }
+        for row in NEVER {
+            writeln!(f, "| Never | {row} | {} |", self.counts.get(row).unwrap_or(&0))?;
         }
         writeln!(f, "\n| Entry | Times | Refused |\n|---|---|---|")?;
         for (sort, entry) in (1..).zip(rows::ENTRIES).filter(|(_, entry)| !entry.is_empty()) {

@@ -1,6 +1,6 @@
 //! Renders and the reports that go with them: a report repeats what the generator wrote in the last sounding render.
 
-use microsynth::node::NodeId;
+use microsynth::node::{NodeId, unknown_number};
 use microsynth::scheduler::VoiceId;
 use replay::script::{Call, Repeated, Samples};
 use seeded::floats::{self, Profile};
@@ -100,7 +100,7 @@ impl Writer {
     /// The nodes of a voice's definition.
     fn nodes_of(&self, voice: u64) -> Vec<u32> {
         let synth = self.engine().voice_synth(VoiceId(voice));
-        synth.map_or(vec![], |synth| synth.node_ids().iter().map(|id| id.index() as u32).collect())
+        synth.map_or(vec![], |synth| synth.node_ids().iter().map(|id| id.number() as u32).collect())
     }
 
     /// Sets the done flags of some nodes of a voice, seldom its output's, and clears the others, so that its kinds
@@ -146,8 +146,8 @@ impl Writer {
     /// A report that is refused: of a node that has none, or of a wrong number of channels or of samples.
     pub fn report_refused(&mut self) {
         let block = self.block();
-        let live = self.some_host().map_or(u32::MAX, |host| host.id);
-        let helper = self.some_helper_node().unwrap_or(u32::MAX);
+        let live = self.some_host().map_or(unknown_number(), |host| host.id);
+        let helper = self.some_helper_node().unwrap_or(unknown_number());
         let dead = self.some_node(1);
         let is_dead = !self.reportable().contains(&dead);
         // A node that lived at the last render would write what is reported of it there (`foresee` of the player), though the

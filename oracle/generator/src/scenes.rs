@@ -8,6 +8,7 @@ use crate::crowds::{big_console, edges_brink, full_graph, many_events, many_voic
 use crate::keyboards::make_console;
 use crate::moves::Move::{self, *};
 use crate::script::Script;
+use crate::seals::{any_board, exact_board, last_board, late_board, small_board};
 use crate::values::{self, Config};
 use crate::writer::Writer;
 
@@ -134,7 +135,41 @@ const KEYBOARDS: Weights = &[
     (Squeeze, 1),
 ];
 
-pub const SCENES: [Scene; 18] = [
+const SEALED: Weights = &[
+    (Spawn, 60),
+    (Near, 20),
+    (Flood, 1),
+    (Seal, 4),
+    (Wish, 14),
+    (Turn, 16),
+    (Rush, 1),
+    (Crowd, 1),
+    (Waiting, 2),
+    (Sound, 18),
+    (Render, 4),
+    (Prepare, 3),
+    (Clear, 8),
+    (Free, 6),
+    (Order, 8),
+    (Event, 8),
+    (Read, 8),
+    (Page, 1),
+    (Hush, 2),
+    (ReportAgain, 3),
+    (ReportRefused, 1),
+    (Add, 3),
+    (Remove, 3),
+    (Connect, 3),
+    (Disconnect, 3),
+    (Sink, 3),
+    (Keep, 2),
+    (Limits, 4),
+    (TakePort, 1),
+    (RemoveBus, 1),
+    (Refusals, 1),
+];
+
+pub const SCENES: [Scene; 19] = [
     Scene { begin: mixed, weights: MIXED, likely: 20 },
     Scene { begin: stealing, weights: STEALING, likely: 12 },
     Scene { begin: listening, weights: LISTENING, likely: 8 },
@@ -146,6 +181,7 @@ pub const SCENES: [Scene; 18] = [
     Scene { begin: long_fades, weights: STEALING, likely: 3 },
     Scene { begin: last_samples, weights: MIXED, likely: 3 },
     Scene { begin: last_voices, weights: STEALING, likely: 3 },
+    Scene { begin: last_nodes, weights: MIXED, likely: 3 },
     Scene { begin: full_graph, weights: MIXED, likely: 2 },
     Scene { begin: big_console, weights: WIRING, likely: 1 },
     Scene { begin: nodes_brink, weights: MIXED, likely: 2 },
@@ -153,6 +189,15 @@ pub const SCENES: [Scene; 18] = [
     Scene { begin: many_voices, weights: STEALING, likely: 2 },
     Scene { begin: many_events, weights: TIMING, likely: 2 },
     Scene { begin: keyboards, weights: KEYBOARDS, likely: 12 },
+];
+
+/// The scenes of boards that are sealed, which stand in scripts of their own.
+pub const BOARDS: [Scene; 5] = [
+    Scene { begin: any_board, weights: SEALED, likely: 6 },
+    Scene { begin: small_board, weights: SEALED, likely: 3 },
+    Scene { begin: exact_board, weights: SEALED, likely: 2 },
+    Scene { begin: late_board, weights: SEALED, likely: 2 },
+    Scene { begin: last_board, weights: SEALED, likely: 1 },
 ];
 
 impl Scene {
@@ -171,10 +216,22 @@ impl Scene {
 
 /// The script with this number of a seed, of about so many calls.
 pub fn script(seed: u64, number: usize, calls: usize) -> Script {
-    let mut writer = Writer::new(Rng::new(seed, &format!("script {number}")));
+    let writer = Writer::new(Rng::new(seed, &format!("script {number}")));
+    row_of_scenes(writer, calls, |_| &SCENES)
+}
+
+/// A script of sealed boards, with another store between them now and then, which no seal closes.
+pub fn sealed_script(seed: u64, number: usize, calls: usize) -> Script {
+    let writer = Writer::new(Rng::new(seed, &format!("sealed script {number}")));
+    row_of_scenes(writer, calls, |rng| if rng.once_in(10) { &SCENES } else { &BOARDS })
+}
+
+/// A row of about so many calls, each scene from those that are chosen then.
+fn row_of_scenes(mut writer: Writer, calls: usize, choose: impl Fn(&mut Rng) -> &'static [Scene]) -> Script {
     keep_all(&mut writer);
     while writer.calls() < calls {
-        let scene = writer.rng.weighted(&SCENES, |scene| scene.likely);
+        let scenes = choose(&mut writer.rng);
+        let scene = writer.rng.weighted(scenes, |scene| scene.likely);
         let length = writer.rng.within(FEWEST, MOST);
         scene.play(&mut writer, length);
     }
@@ -186,9 +243,18 @@ pub fn script(seed: u64, number: usize, calls: usize) -> Script {
 
 /// A short scene by itself: the scenes of rising numbers take turns.
 pub fn short(seed: u64, number: usize) -> Script {
-    let mut writer = Writer::new(Rng::new(seed, &format!("scene {number}")));
+    short_of(seed, &format!("scene {number}"), &SCENES[number % SCENES.len()])
+}
+
+/// The same of a sealed board.
+pub fn short_board(seed: u64, number: usize) -> Script {
+    short_of(seed, &format!("board {number}"), &BOARDS[number % BOARDS.len()])
+}
+
+fn short_of(seed: u64, name: &str, scene: &Scene) -> Script {
+    let mut writer = Writer::new(Rng::new(seed, name));
     keep_small(&mut writer);
-    SCENES[number % SCENES.len()].play(&mut writer, FEWEST);
+    scene.play(&mut writer, FEWEST);
     writer.finish()
 }
 
@@ -253,6 +319,16 @@ fn dress(writer: &mut Writer) {
     }
     let sink = writer.some_node(12);
     writer.put(Call::SetSink { node: sink });
+}
+
+impl Writer {
+    /// Some moves of a store with keyboards.
+    pub fn live_first(&mut self) {
+        for _ in 0..self.rng.within(5, 25) {
+            let (which, _) = *self.rng.weighted(KEYBOARDS, |(_, weight)| *weight);
+            self.make_move(which);
+        }
+    }
 }
 
 /// A store with keyboards.
@@ -349,7 +425,7 @@ fn last_samples(writer: &mut Writer) {
     mixed(writer);
     let last = writer.block() * writer.rng.within(0, 30) + writer.rng.below(3);
     let (voices, noise) = (writer.voice_ids(), u32::MAX - writer.rng.below(6) as u32);
-    writer.put(Call::SetCounters { clock: u64::MAX - last as u64, voices, noise });
+    writer.put(Call::SetCounters { clock: u64::MAX - last as u64, voices, noise, node: 0 });
 }
 
 /// The voice ids and the noise sequence near their ends.
@@ -357,5 +433,20 @@ fn last_voices(writer: &mut Writer) {
     stealing(writer);
     let voices = u64::MAX - writer.rng.below(40) as u64;
     let (clock, noise) = (writer.clock() + writer.rng.below(1000) as u64, u32::MAX - writer.rng.below(6) as u32);
-    writer.put(Call::SetCounters { clock, voices, noise });
+    writer.put(Call::SetCounters { clock, voices, noise, node: 0 });
+}
+
+/// The node ids near their end, before the store has a node.
+fn last_nodes(writer: &mut Writer) {
+    let config = Config::random(&mut writer.rng);
+    make(writer, config);
+    let left = *writer.rng.pick(&[2, 5, 9, 20, 60, 120]) + writer.rng.below(6) as u64;
+    leave_nodes(writer, left);
+    dress(writer);
+}
+
+/// Sets the next node id so that so many are left.
+pub fn leave_nodes(writer: &mut Writer, left: u64) {
+    let (clock, voices) = (writer.clock(), writer.voice_ids());
+    writer.put(Call::SetCounters { clock, voices, noise: 0, node: (1 << 32) - left });
 }

@@ -24,14 +24,18 @@ impl Script {
     }
 }
 
-/// How many short scenes the sample is chosen from, and how long it may become with its transcript.
+/// How many short scenes and how many of sealed boards the sample is chosen from, and how long it may become with its
+/// transcript.
 const CANDIDATES: usize = 1600;
+const BOARDS: usize = 400;
 const SAMPLE_SIZE: usize = 560_000;
 
 /// The script that is recorded: the big console, then one after the other the scene that adds the most for its length to
 /// what is reached, until each row is reached once, then until it is twice, and so on.
 pub fn sample(seed: u64) -> Script {
-    let mut candidates: Vec<Script> = (0..CANDIDATES).map(|number| scenes::short(seed, number)).collect();
+    let scenes = (0..CANDIDATES).map(|number| scenes::short(seed, number));
+    let boards = (0..BOARDS).map(|number| scenes::short_board(seed, number));
+    let mut candidates: Vec<Script> = scenes.chain(boards).collect();
     let mut sample = scenes::console();
     for wanted in [1, 2, 4, 8, 16] {
         loop {

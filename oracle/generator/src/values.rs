@@ -186,11 +186,26 @@ pub fn tone() -> Definition {
 
 /// A definition with all the nodes and all the edges that one may have, each edge to a port of its own.
 pub fn largest() -> Definition {
+    sized(24, 48)
+}
+
+/// A definition of so many nodes and edges. Each edge has a port of its own as long as there are enough: eight of each node behind the
+/// first.
+pub fn sized(nodes: usize, edges: usize) -> Definition {
     let mut def = tone();
     let node = NodeRow { ports: 8, ..def.nodes[0].clone() };
-    def.nodes = vec![node; 24];
-    let edge = |n: u8| EdgeRow { from: n / 8, to: n / 8 + 1, port: n % 8 };
-    def.edges = (0..48).map(edge).collect();
+    def.nodes = vec![node; nodes];
+    let places = 8 * nodes.saturating_sub(1).max(1);
+    let edge = |n: usize| EdgeRow { from: (n % places / 8) as u8, to: (n % places / 8 + 1) as u8, port: (n % 8) as u8 };
+    def.edges = (0..edges).map(edge).collect();
+    def
+}
+
+/// The same with so many edges more, which are given to a port that has one: they do not count.
+pub fn doubled(nodes: usize, edges: usize, more: usize) -> Definition {
+    let mut def = sized(nodes, edges);
+    let first = def.edges.first().cloned();
+    def.edges.extend(first.into_iter().cycle().take(more));
     def
 }
 

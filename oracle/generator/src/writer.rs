@@ -8,6 +8,7 @@ use microsynth::node::NodeId;
 use microsynth::scheduler::{Event, EventAction};
 use replay::player::Player;
 use replay::script::{Call, Definition, Length, Repeated};
+use replay::seal::Profile;
 use seeded::rng::Rng;
 
 use crate::reach::{Before, Reach, Seen, Spawn};
@@ -51,6 +52,15 @@ impl Answer {
         }
     }
 
+    /// The number that the spawn of a turn was refused with.
+    pub fn served_refusal(&self) -> Option<u64> {
+        let words: Vec<&str> = self.words().collect();
+        match words[..] {
+            ["served", _, "refused", number] => number.parse().ok(),
+            _ => None,
+        }
+    }
+
     /// The outcomes of the events that a render took: the digits behind `took` and their count.
     pub fn outcomes(&self) -> impl Iterator<Item = usize> {
         let digits = self.words().skip_while(|&word| word != "took").nth(2).unwrap_or_default();
@@ -73,6 +83,8 @@ pub struct Writer {
     pub slots: Vec<Definition>,
     /// The definitions of the wishes that wait, by keyboard.
     pub wishes: Vec<VecDeque<Definition>>,
+    /// By what the store is sealed, if it is.
+    pub seal: Option<Profile>,
     player: Player,
     script: Vec<u8>,
     calls: usize,
@@ -93,6 +105,7 @@ impl Writer {
             done_once_in: 8,
             slots: vec![empty; 16],
             wishes: vec![],
+            seal: None,
             player: Player::default(),
             script: vec![],
             calls: 0,
@@ -119,7 +132,7 @@ impl Writer {
                 Call::ReportRepeated { node: 0, channels: 1, done: 0, samples }.encode(&mut self.script);
             }
             _ => {
-                Call::SetCounters { clock: 0, voices: 0, noise: 0 }.encode(&mut self.script);
+                Call::SetCounters { clock: 0, voices: 0, noise: 0, node: 0 }.encode(&mut self.script);
                 self.script.truncate(self.rng.within(start + 1, self.script.len() - 1));
             }
         }
@@ -145,7 +158,7 @@ impl Writer {
         self.answered += lines.len();
         let answer = Answer(lines);
         let (engine, spawn) = (self.player.store().engine(), Spawn::of(&call, &self.slots));
-        self.reach.note(&Seen { sort, before: &before, call: &call, answer: &answer, engine, spawn });
+        self.reach.note(&Seen { sort, before: &before, call: &call, answer: &answer, engine, spawn }, &self.slots);
         self.learn(&call, &answer);
         answer
     }
@@ -170,6 +183,10 @@ impl Writer {
             Call::Wish { slot, keyboard, .. } if answer.is("waits") => {
                 let definition = self.slots[usize::from(*slot) % 16].clone();
                 self.wishes[*keyboard as usize].push_back(definition);
+            }
+            Call::Seal { bus, ports, nodes, edges, def_nodes, def_edges } if answer.is("sealed") => {
+                let (bus, ports, nodes, edges) = (*bus, *ports, *nodes, *edges);
+                self.seal = Some(Profile { bus, ports, nodes, edges, def_nodes: *def_nodes, def_edges: *def_edges });
             }
             Call::Turn {} => {
                 if let Some(keyboard) = answer.of("served") {
@@ -205,12 +222,13 @@ impl Writer {
         self.hosts.clear();
         self.channels.clear();
         self.wishes = vec![VecDeque::new(); keyboards];
+        self.seal = None;
     }
 
     fn learn_voice(&mut self, id: u64, definition: &Definition) {
         let row = self.player.store().engine().voice_rows().find(|row| row.id.0 == id).expect("the voice was let in");
         for (node, made) in row.synth.node_ids().iter().zip(&definition.nodes) {
-            self.channels.insert(node.index() as u32, made.channels);
+            self.channels.insert(node.number() as u32, made.channels);
         }
     }
 
@@ -252,7 +270,7 @@ impl Writer {
     /// The nodes that take a report.
     pub fn reportable(&self) -> Vec<u32> {
         let voices = self.engine().voice_rows().flat_map(|row| row.synth.node_ids().to_vec());
-        self.hosts.iter().map(|host| host.id).chain(voices.map(|id| id.index() as u32)).collect()
+        self.hosts.iter().map(|host| host.id).chain(voices.map(|id| id.number() as u32)).collect()
     }
 
     /// Whether a node of this id takes a report, or did before it was removed.
@@ -299,5 +317,5 @@ pub fn feeder(row: &VoiceRow) -> NodeId {
 pub fn fed_port(engine: &Engine, row: &VoiceRow) -> Option<(u32, u32)> {
     let bus = row.bus?;
     let port = engine.graph().input_slot_from(feeder(row), bus)?;
-    Some((bus.index() as u32, port as u32))
+    Some((bus.number() as u32, port as u32))
 }

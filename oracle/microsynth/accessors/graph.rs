@@ -34,9 +34,14 @@ impl AudioGraph {
         given.filter(|(_, slot)| slot.is_some()).map(|(id, _)| NodeId(id as u32)).collect()
     }
 
-    /// The number of node ids given out.
-    pub fn nodes_given(&self) -> u64 {
-        self.nodes.len() as u64
+    /// The next node id, 2^32 where none is left.
+    pub fn next_number(&self) -> u64 {
+        u64::from(crate::node::first_number()) + self.nodes.len() as u64
+    }
+
+    /// Whether no node was added yet.
+    pub fn is_new(&self) -> bool {
+        self.nodes.is_empty()
     }
 
     /// Puts an edge behind the others, and leaves those that stand at its port: `connect` takes them away.

@@ -43,7 +43,7 @@ impl Store {
 
     /// Keeps the way to a node's generator, which from now on signs with its id.
     pub(crate) fn keep_part(&mut self, id: NodeId, part: Part) {
-        part.handle.state().mark = id.index() as u32;
+        part.handle.state().mark = id.number() as u32;
         self.parts.insert(id, part);
     }
 

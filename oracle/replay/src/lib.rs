@@ -8,6 +8,7 @@ pub mod player;
 mod reading;
 mod render;
 pub mod script;
+pub mod seal;
 mod spawn;
 pub mod store;
 mod voices;

@@ -95,7 +95,7 @@ impl Store {
         let part = self.parts.get(&report.node).ok_or(4)?;
         limits::lent_block(report.channels, self.block(), report.samples.len())?;
         let is_same = self.written(report.node).eq(report.samples.iter().map(|x| x.to_bits()));
-        assert!(is_same, "the report of node {} is not what its generator wrote", report.node.index());
+        assert!(is_same, "the report of node {} is not what its generator wrote", report.node.number());
         part.handle.state().done = report.is_done;
         Ok(())
     }

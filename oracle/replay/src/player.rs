@@ -8,6 +8,7 @@ use scripted::limits::{Refusal, check};
 
 use crate::render::list_digits;
 use crate::script::{self, Call};
+use crate::seal::Profile;
 use crate::spawn::Spawn;
 use crate::store::{Answer, Config, Store};
 use crate::wishes::{Wish, Wishes};
@@ -20,11 +21,20 @@ pub fn list_length(said: u32) -> usize {
     said.min(4096) as usize
 }
 
+/// A definition that was kept, or the 9 that it is refused with; and how many nodes and edges were given for it.
+#[derive(Clone)]
+pub(crate) struct Kept {
+    pub nodes: u64,
+    pub edges: u64,
+    pub definition: Result<Definition, Refusal>,
+}
+
 pub struct Player {
     store: Store,
-    /// The definitions that were kept; 9 where one is outside the limits.
-    slots: [Result<Definition, Refusal>; 16],
+    slots: [Kept; 16],
     wishes: Wishes,
+    /// By what the store is sealed, if it is.
+    seal: Option<Profile>,
 }
 
 impl Default for Player {
@@ -32,7 +42,8 @@ impl Default for Player {
     fn default() -> Player {
         let config = Config { rate: 48_000.0, block: 64, budget: None, has_table: false };
         let store = Store::make(&config).expect("it is within the limits");
-        Player { store, slots: [const { Err(9) }; 16], wishes: Wishes::default() }
+        let slots = [const { Kept { nodes: 0, edges: 0, definition: Err(9) } }; 16];
+        Player { store, slots, wishes: Wishes::default(), seal: None }
     }
 }
 
@@ -71,15 +82,16 @@ impl Player {
     }
 
     fn answer(&mut self, call: &Call, upcoming: &[Call]) -> Answer {
+        check(!self.seal.is_some_and(|seal| self.closes(&seal, call)), 28)?;
         let (store, id) = (&mut self.store, NodeId::numbered);
         match *call {
             Call::Make { .. } | Call::MakeWithTable { .. } | Call::MakeConsole { .. } => self.make(call),
-            Call::SetCounters { clock, voices, noise } => {
-                store.set_counters(clock, voices, noise);
+            Call::SetCounters { clock, voices, noise, node } => {
+                store.set_counters(clock, voices, noise, node);
                 Ok("set".to_string())
             }
             Call::AddNode { ref kind, ports, required, takes, channels } => {
-                store.add_node(kind, ports, required, takes, channels).map(|id| format!("node {}", id.index()))
+                store.add_node(kind, ports, required, takes, channels).map(|id| format!("node {}", id.number()))
             }
             Call::RemoveNode { node } => done(store.remove_node(id(node))),
             Call::Connect { from, to, port } => done(store.connect(id(from), id(to), port as usize)),
@@ -95,6 +107,9 @@ impl Player {
             }
             Call::Turn {} => Ok(self.turn()),
             Call::Waiting {} => Ok(self.wishes.line()),
+            Call::Seal { bus, ports, nodes, edges, def_nodes, def_edges } => {
+                self.seal_by(Profile { bus, ports, nodes, edges, def_nodes, def_edges })
+            }
             Call::Free { voice } => Ok(outcome(store.free(VoiceId(voice)))),
             Call::Clear {} => Ok(format!("removed {}", store.engine.free_done_synths())),
             Call::Value { voice, ref name, value } => Ok(outcome(store.value(voice, name, value))),
@@ -112,7 +127,33 @@ impl Player {
         }
     }
 
-    /// The old store stays where a new one is refused. One that is made without keyboards has none.
+    /// Whether the call is not among those that "are open" behind the seal.
+    fn closes(&self, seal: &Profile, call: &Call) -> bool {
+        let is_open = |slot: u8, bus: u32| seal.opens(bus, &self.slots[usize::from(slot % 16)]);
+        match *call {
+            Call::AddNode { .. }
+            | Call::RemoveNode { .. }
+            | Call::Connect { .. }
+            | Call::Disconnect { .. }
+            | Call::SetSink { .. }
+            | Call::SpawnPanned { .. }
+            | Call::Spawn { .. }
+            | Call::Seal { .. } => true,
+            Call::SpawnManagedPanned { slot, bus, .. } | Call::SpawnManaged { slot, bus, .. } => !is_open(slot, bus),
+            Call::Wish { slot, managed, bus, .. } => managed == 0 || !is_open(slot, bus),
+            _ => false,
+        }
+    }
+
+    /// "Sealing accepts exactly if"; else 27.
+    fn seal_by(&mut self, profile: Profile) -> Answer {
+        let is_room = profile.has_ports() && profile.has_nodes() && profile.has_edges();
+        check(is_room && self.store.is_stated(&profile) && self.wishes.is_empty(), 27)?;
+        self.seal = Some(profile);
+        Ok("sealed".to_string())
+    }
+
+    /// The old store stays where a new one is refused. A new one has no seal. One that is made without keyboards has none.
     fn make(&mut self, call: &Call) -> Answer {
         let (rate, block, budgeted, budget, policy, scope, has_table, keyboards) = match *call {
             Call::Make { rate, block, budgeted, budget, policy, scope } => {
@@ -132,18 +173,21 @@ impl Player {
         let wishes = keyboards.map_or(Ok(Wishes::default()), Wishes::at)?;
         self.store = Store::make(&config)?;
         self.wishes = wishes;
+        self.seal = None;
         Ok("made".to_string())
     }
 
     fn keep(&mut self, slot: u8, rows: &script::Definition) -> String {
         let definition = Definition::from(rows);
-        self.slots[usize::from(slot % 16)] = definition.instance().map(|_| definition);
+        let (nodes, edges) = (rows.nodes.len() as u64, rows.edges.len() as u64);
+        let definition = definition.instance().map(|_| definition);
+        self.slots[usize::from(slot % 16)] = Kept { nodes, edges, definition };
         "kept".to_string()
     }
 
     /// Nothing of the spawn is tested; the definition is the slot's at the wish. A wish with a rank above 7 waits for its 26.
     fn wish(&mut self, slot: u8, keyboard: u32, is_managed: bool, bus: u32, pan: f32, rank: u32) -> Answer {
-        let definition = check(rank <= 7, 26).and(self.slots[usize::from(slot % 16)].clone());
+        let definition = check(rank <= 7, 26).and(self.slots[usize::from(slot % 16)].definition.clone());
         assert!(rank == 0 || rank > 7, "runs against the Rust give every voice rank 0");
         let how = Spawn { is_managed, bus: NodeId::numbered(bus), pan: Some(pan) };
         self.wishes.add(keyboard, Wish { definition, how })?;
@@ -165,7 +209,7 @@ impl Player {
     fn spawn(&mut self, slot: u8, is_managed: bool, bus: u32, pan: Option<f32>, rank: u32) -> Answer {
         check(rank <= 7, 26)?;
         assert_eq!(rank, 0, "runs against the Rust give every voice rank 0");
-        let definition = self.slots[usize::from(slot % 16)].as_ref().map_err(|&number| number)?;
+        let definition = self.slots[usize::from(slot % 16)].definition.as_ref().map_err(|&number| number)?;
         let voice = self.store.spawn(definition, &Spawn { is_managed, bus: NodeId::numbered(bus), pan })?;
         Ok(format!("voice {}", voice.0))
     }

@@ -19,7 +19,7 @@ fn name_word(name: &[u8]) -> String {
 }
 
 fn ids(ids: &[NodeId]) -> impl Iterator<Item = usize> {
-    ids.iter().map(|id| id.index())
+    ids.iter().map(|id| id.number())
 }
 
 fn order_words(order: Option<&Order>) -> String {
@@ -88,7 +88,7 @@ impl Store {
 
     fn edges_line(&self) -> String {
         let edges = self.graph().all_edges().iter();
-        row("edges", edges.flat_map(|edge| [edge.from.index(), edge.to.index(), edge.to_input]))
+        row("edges", edges.flat_map(|edge| [edge.from.number(), edge.to.number(), edge.to_input]))
     }
 
     fn order_line(&self) -> String {
@@ -97,7 +97,7 @@ impl Store {
 
     fn sources_line(&self, node: NodeId) -> String {
         let feeding = self.graph().all_edges().iter().filter(|edge| edge.to == node);
-        let mut sources: Vec<(usize, usize)> = feeding.map(|edge| (edge.to_input, edge.from.index())).collect();
+        let mut sources: Vec<(usize, usize)> = feeding.map(|edge| (edge.to_input, edge.from.number())).collect();
         sources.sort();
         row("sources", sources.into_iter().flat_map(|(port, source)| [port, source]))
     }
@@ -110,7 +110,7 @@ impl Store {
     fn state(&mut self) -> String {
         let mut lines = vec!["state".to_string(), self.clock_line()];
         lines.push(format!("prepared {}", u8::from(!self.graph().is_dirty())));
-        lines.push(format!("sink {}", or_dash(self.graph().sink_node().map(NodeId::index))));
+        lines.push(format!("sink {}", or_dash(self.graph().sink_node().map(NodeId::number))));
         lines.extend([self.edges_line(), self.order_line()]);
         lines.extend(self.node_lines());
         lines.extend(self.engine.voice_rows().map(|voice| self.voice_line(&voice)));
@@ -118,7 +118,7 @@ impl Store {
         lines.extend(self.pending().map(event_line));
         lines.push(self.steals_line());
         lines.extend(self.records().map(|record| format!("steal {record}")));
-        lines.push(row("next", [self.graph().nodes_given(), self.voices_given()]));
+        lines.push(row("next", [self.graph().next_number(), self.voices_given()]));
         lines.push("end".to_string());
         lines.join("\n")
     }
@@ -136,11 +136,11 @@ impl Store {
         let spec = self.graph().node_spec(id).expect("the node is live");
         let required: u64 = spec.inputs.iter().enumerate().map(|(p, port)| u64::from(port.required) << p).sum();
         let (kind, ports) = (name_word(&name::bytes(spec.name)), spec.inputs.len());
-        assert_eq!(owner == 0, self.parts.get(&id).is_some_and(|part| part.is_hosts), "the owner of {}", id.index());
+        assert_eq!(owner == 0, self.parts.get(&id).is_some_and(|part| part.is_hosts), "the owner of {}", id.number());
         let told = self.told(id);
         // a bus counts the noise sequence of its voices; nothing spawns on a voice's node
         let noise = if owner == 0 { self.engine.noise_sequence(id) } else { 0 };
-        format!("node {} {owner} {kind} {ports} {required} {told} {noise}", id.index())
+        format!("node {} {owner} {kind} {ports} {required} {told} {noise}", id.number())
     }
 
     /// What a node takes, its done flag, its level and its last order. A fade, a pan and its constant take no order and

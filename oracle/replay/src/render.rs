@@ -136,13 +136,13 @@ impl Store {
             for edge in graph.all_edges().iter().filter(|edge| edge.to == id) {
                 said[edge.to_input] = Some(edge.from);
             }
-            assert_eq!(graph.resolved_sources(id), said, "the sources of node {}", id.index());
+            assert_eq!(graph.resolved_sources(id), said, "the sources of node {}", id.number());
         }
     }
 
     /// Every generator must have been processed once, in the order of the last prepare, if the render sounded; else none.
     fn check_log(&self, is_sounding: bool) {
         let order = self.graph().processing_order().iter().filter(|id| is_sounding && self.parts.contains_key(id));
-        assert!(order.map(|id| id.index() as u32).eq(self.log.take()), "the order in which nodes are processed");
+        assert!(order.map(|id| id.number() as u32).eq(self.log.take()), "the order in which nodes are processed");
     }
 }

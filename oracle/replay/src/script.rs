@@ -189,7 +189,7 @@ macro_rules! entries {
 
 entries! {
     1 Make { rate: f32, block: u32, budgeted: u8, budget: u32, policy: u8, scope: u8 }
-    2 SetCounters { clock: u64, voices: u64, noise: u32 }
+    2 SetCounters { clock: u64, voices: u64, noise: u32, node: u64 }
     3 AddNode { kind: Name, ports: u32, required: u64, takes: u8, channels: u8 }
     4 RemoveNode { node: u32 }
     5 Connect { from: u32, to: u32, port: u32 }
@@ -227,6 +227,7 @@ entries! {
     48 Wish { slot: u8, keyboard: u32, managed: u8, bus: u32, pan: f32, rank: u32 }
     49 Turn {}
     50 Waiting {}
+    52 Seal { bus: u32, ports: u64, nodes: u64, edges: u64, def_nodes: u64, def_edges: u64 }
 }
 
 /// The entry that begins at `at`, and where the next one begins; or `at` where there is no whole entry.

@@ -60,7 +60,7 @@ impl Store {
             && self.graph().all_edges().len() + edges + 4 <= limits::EDGES
             && self.engine.voice_rows().count() < limits::VOICES;
         check(has_headroom, 7)?;
-        let has_ids = self.graph().nodes_given() + nodes as u64 + 3 <= limits::NODE_IDS
+        let has_ids = self.graph().next_number() + nodes as u64 + 3 <= limits::NODE_IDS
             && self.voices_given() < limits::VOICE_IDS;
         check(has_ids, 8)
     }

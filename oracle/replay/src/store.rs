@@ -4,7 +4,7 @@ use std::collections::HashMap;
 
 use microsynth::engine::{Engine, EngineConfig, VoiceRow};
 use microsynth::graph::AudioGraph;
-use microsynth::node::NodeId;
+use microsynth::node::{self, NodeId};
 use microsynth::scheduler::{Event, VoiceId};
 use microsynth::table;
 use microsynth::voice::{BudgetScope, StealPolicy, VoiceAllocator};
@@ -63,6 +63,7 @@ impl Store {
     pub fn make(config: &Config) -> Result<Store, Refusal> {
         config.check()?;
         table::choose(config.has_table);
+        node::count_from(0);
         let mut engine = Engine::new(EngineConfig { sample_rate: config.rate, block_size: config.block as usize });
         if let Some((budget, policy, scope)) = config.budget {
             engine.set_voice_allocator(VoiceAllocator::new(budget as usize, policy).with_scope(scope));
@@ -99,10 +100,14 @@ impl Store {
         self.graph().live_nodes().into_iter().filter(is_hosts).collect()
     }
 
-    /// Sets the counters, the noise sequence of every live node of the host among them, but for that of the node ids, which the
-    /// Rust has no way to move.
-    pub(crate) fn set_counters(&mut self, clock: u64, voices: u64, noise: u32) {
+    /// Sets the counters, the noise sequence of every live node of the host among them. The next node id moves forwards alone; the Rust's
+    /// nodes are the rows of a table, so that it can move before the first node is added.
+    pub(crate) fn set_counters(&mut self, clock: u64, voices: u64, noise: u32, node: u64) {
         assert!(voices >= self.voices_given(), "two voices of one id: the voice ids given out go back");
+        if node > self.graph().next_number() {
+            assert!(self.graph().is_new(), "the node ids move after the first node");
+            node::count_from(u32::try_from(node).expect("a node id is left"));
+        }
         self.engine.set_sample_offset(clock);
         self.engine.scheduler_mut().set_next_voice(VoiceId(voices.wrapping_add(1)));
         for bus in self.host_ids() {

@@ -21,15 +21,15 @@ impl Store {
     pub(crate) fn voice_record(&self, voice: &VoiceRow<'_>) -> String {
         let birth = &self.births[&voice.id];
         let ids = voice.synth.node_ids();
-        let first = ids[0].index();
-        assert!(ids.iter().map(|id| id.index()).eq(first..first + ids.len()), "a voice's nodes have ids in a row");
+        let first = ids[0].number();
+        assert!(ids.iter().map(|id| id.number()).eq(first..first + ids.len()), "a voice's nodes have ids in a row");
         let numbers = [
             voice.id.0,
             voice.born,
-            bus_of(voice).index() as u64,
+            bus_of(voice).number() as u64,
             first as u64,
             ids.len() as u64,
-            voice.synth.output_node().index() as u64,
+            voice.synth.output_node().number() as u64,
             voice.pan.is_some().into(),
             birth.port as u64,
             birth.sequence.into(),
@@ -38,7 +38,7 @@ impl Store {
         ];
         let fade = voice.fade.map(|(node, start, number)| {
             let position = self.graph().fade_position(node);
-            row("", [node.index() as u64, start, position, number as u64])
+            row("", [node.number() as u64, start, position, number as u64])
         });
         format!("{} {}{}", row("voice", numbers), self.state_word(voice), fade.unwrap_or_default())
     }

@@ -40,6 +40,11 @@ impl Wishes {
         Ok(())
     }
 
+    /// Whether no wish waits.
+    pub fn is_empty(&self) -> bool {
+        self.queues.iter().all(VecDeque::is_empty)
+    }
+
     /// The keyboards in the order in which a turn looks at them.
     fn round(&self) -> impl Iterator<Item = usize> + use<> {
         let first = self.last.map_or(0, |last| last + 1);

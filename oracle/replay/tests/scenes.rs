@@ -78,11 +78,44 @@ fn admission_rejects_with_a_budget_of_nothing() {
 
 #[test]
 fn the_last_voice_id_and_the_last_sample() {
-    let counters = Call::SetCounters { clock: u64::MAX - 64, voices: u64::MAX - 1, noise: u32::MAX };
+    let counters = Call::SetCounters { clock: u64::MAX - 64, voices: u64::MAX - 1, noise: u32::MAX, node: 0 };
     let calls = [host(2, 0), tone(), counters, SPAWN, SPAWN, RENDER, RENDER, Call::State {}];
     let lines = lines(&calls);
     assert_eq!(lines[2..7], ["set", "voice 18446744073709551615", "refused 8", "silent took 0", "refused 15"]);
     assert_eq!(lines[lines.len() - 2..], ["next 2 18446744073709551615", "end"]);
+}
+
+/// A spawn of one node needs four ids, though it takes one; host nodes take the ids that are left. A making that is refused leaves the
+/// numbers as they are, and the next store counts from 0 again.
+#[test]
+fn the_last_node_ids() {
+    let bus = u32::MAX - 5;
+    let spawn = Call::Spawn { slot: 0, bus, rank: 0 };
+    let calls = [
+        Call::SetCounters { clock: 0, voices: 0, noise: 0, node: bus.into() },
+        host(2, 0),
+        tone(),
+        spawn.clone(),
+        spawn.clone(),
+        spawn,
+        host(0, 0),
+        host(0, 0),
+        host(0, 0),
+        host(0, 0),
+        made(8000.0, 0, 1),
+        Call::Connect { from: u32::MAX, to: bus, port: 1 },
+        Call::Sources { node: bus },
+        Call::State {},
+        made(8000.0, 16, 1),
+        host(0, 0),
+    ];
+    let lines = lines(&calls);
+    let begun = ["set", "node 4294967290", "kept", "voice 1", "voice 2", "refused 8"];
+    assert_eq!(lines[..6], begun);
+    let added = ["node 4294967293", "node 4294967294", "node 4294967295", "refused 8", "refused 2", "done"];
+    assert_eq!(lines[6..12], added);
+    assert_eq!(lines[12], "sources 0 4294967291 1 4294967295");
+    assert_eq!(lines[lines.len() - 4..], ["next 4294967296 2", "end", "made", "node 0"]);
 }
 
 /// Definitions at a limit of the table: a cycle of counted edges is refused, one that a later edge undoes is not.
@@ -138,4 +171,48 @@ fn entries_are_read_as_they_were_written() {
         at = next;
     }
     assert_eq!(again, bytes);
+}
+
+fn seal(bus: u32, ports: u64, nodes: u64, edges: u64, def_nodes: u64, def_edges: u64) -> Call {
+    Call::Seal { bus, ports, nodes, edges, def_nodes, def_edges }
+}
+
+/// Of one bus of 2 ports D is at most 167, since 1 + 3 × 170 is 511, and E at most 337, since 3 × 341 is 1,023.
+#[test]
+fn sealing_accepts_what_fits_and_is_there() {
+    let wrong = [
+        seal(0, 3, 1, 0, 1, 0),
+        seal(0, 2, 2, 0, 1, 0),
+        seal(0, 2, 1, 1, 1, 0),
+        seal(1, 2, 1, 0, 1, 0),
+        seal(0, 2, 1, 0, 168, 0),
+        seal(0, 2, 1, 0, 1, 338),
+        seal(0, 2, 1, 0, u64::MAX, 0),
+        seal(0, 2, 1, 0, 0, u64::MAX),
+        seal(0, u64::MAX, u64::MAX, u64::MAX, u64::MAX, u64::MAX),
+    ];
+    let right = seal(0, 2, 1, 0, 167, 337);
+    let calls = [&[host(2, 0)], &wrong[..], &[right.clone(), right]].concat();
+    assert_eq!(lines(&calls)[1..], [&["refused 27"; 9][..], &["sealed", "refused 28"]].concat());
+    for ports in [1, 2, 31, 32] {
+        let answer = if (2..=31).contains(&ports) { "sealed" } else { "refused 27" };
+        assert_eq!(lines(&[host(ports, 0), seal(0, ports.into(), 1, 0, 0, 0)])[1], answer);
+    }
+}
+
+/// 28 comes first, also where there is no such node, rank, definition or keyboard; a new store is open.
+#[test]
+fn a_seal_closes_and_leaves_open() {
+    let mut calls = vec![made(8000.0, 16, 1), host(2, 0), tone(), seal(0, 2, 1, 0, 1, 0)];
+    calls.extend([host(65, 0), Call::RemoveNode { node: 9 }, Call::Connect { from: 9, to: 9, port: 9 }]);
+    calls.extend([Call::Disconnect { to: 9, port: 0 }, Call::SetSink { node: 9 }]);
+    calls.extend([Call::Spawn { slot: 0, bus: 0, rank: 0 }, Call::SpawnManaged { slot: 0, bus: 1, rank: 9 }]);
+    calls.push(Call::Wish { slot: 0, keyboard: 9, managed: 0, bus: 0, pan: 0.0, rank: 0 });
+    assert_eq!(lines(&calls)[3..], [&["sealed"][..], &["refused 28"; 8]].concat());
+    let before = calls.len();
+    calls.push(Call::Wish { slot: 0, keyboard: 9, managed: 1, bus: 0, pan: 0.0, rank: 0 });
+    calls.extend([Call::SpawnManaged { slot: 0, bus: 0, rank: 9 }, SPAWN, SPAWN, SPAWN, Call::Voices {}]);
+    calls.extend([made(8000.0, 16, 1), host(2, 0), Call::Spawn { slot: 0, bus: 0, rank: 0 }]);
+    let open = ["refused 24", "refused 26", "voice 1", "voice 2", "voice 3", "voices 2 3"];
+    assert_eq!(lines(&calls)[before..], [&open[..], &["made", "node 0", "voice 1"]].concat());
 }

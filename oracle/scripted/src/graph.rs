@@ -23,7 +23,7 @@ pub fn host_add(graph: &AudioGraph, name: &[u8], ports: usize, required: u64) ->
     let named = limits::is_name(name) && ports <= limits::HOST_PORTS;
     check(named && (ports == 64 || required >> ports == 0), 6)?;
     check(graph.live_nodes().len() < limits::NODES, 7)?;
-    check(graph.nodes_given() < limits::NODE_IDS, 8)
+    check(graph.next_number() < limits::NODE_IDS, 8)
 }
 
 /// Whether a live node has this port; else 6.

@@ -9,10 +9,27 @@ pub struct Keyboards {
     last: Option<usize>,
 }
 
+impl Keyboards {
+    /// Whether a wish waits.
+    pub fn is_waiting(&self) -> bool {
+        self.waiting.iter().any(|&waiting| waiting > 0)
+    }
+
+    pub fn has(&self, keyboard: u32) -> bool {
+        (keyboard as usize) < self.waiting.len()
+    }
+
+    /// Whether a keyboard that there is has no place for another wish.
+    pub fn is_full(&self, keyboard: u32) -> bool {
+        self.waiting.get(keyboard as usize) == Some(&16)
+    }
+}
+
 impl Reach {
     pub fn note_console(&mut self, seen: &Seen, block: u32, keyboards: u32) {
         if seen.answer.is("made") {
             self.keyboards = Keyboards { waiting: vec![0; keyboards as usize], last: None };
+            self.note_made();
             return self.hit(match keyboards {
                 1 => "making with 1 keyboard",
                 8 => "making with 8 keyboards",
@@ -26,6 +43,8 @@ impl Reach {
     pub fn note_wish(&mut self, seen: &Seen, keyboard: u32, is_managed: bool) {
         match seen.answer.of("refused") {
             Some(24) => return self.hit("wish of a keyboard that there is not"),
+            // closed by a seal, which is counted by itself
+            Some(28) => return,
             Some(_) => return self.hit("seventeenth wish refused"),
             None => {}
         }

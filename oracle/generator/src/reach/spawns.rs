@@ -35,7 +35,8 @@ impl Reach {
             Some(9) => self.hit(refused_definition(spawn.def)),
             Some(26) => self.hit("refused: a rank above 7"),
             Some(7) => self.note_headroom(seen, spawn),
-            Some(8) => self.hit("voice ids used up"),
+            Some(8) if seen.engine.scheduler().next_voice().0 == 0 => self.hit("voice ids used up"),
+            Some(8) => self.hit("node ids used up: spawn refused"),
             Some(11 | 12) => self.note_managed(seen, spawn),
             Some(_) => {}
             None => {
@@ -227,7 +228,7 @@ fn refused_definition(def: &Definition) -> &'static str {
 }
 
 /// Whether a definition has every node and port that it names.
-fn has_all(def: &Definition) -> bool {
+pub(super) fn has_all(def: &Definition) -> bool {
     let ports = |node: u8| def.nodes.get(usize::from(node)).map_or(0, |node| node.ports);
     let is_node = |node: u8| usize::from(node) < def.nodes.len();
     let has_ports = def.nodes.iter().all(|node| {

@@ -41,6 +41,21 @@ fn departure_20_equal_levels_reclaimed() {
     compare("20-equal-levels-reclaimed", voices_with_levels(9, 2, &[1.0, 1.0]).into_iter().chain(goes));
 }
 
+/// Two buses, a spawn on each: here each bus counts from 0, there both count together.
+#[test]
+fn departure_20a_noise_of_each_bus() {
+    let rows = [
+        same(host(1, 0), "node 0"),
+        same(host(1, 0), "node 1"),
+        same(tone(), "kept"),
+        same(Call::Spawn { slot: 0, bus: 0, rank: 0 }, "voice 1"),
+        same(Call::Spawn { slot: 0, bus: 1, rank: 0 }, "voice 2"),
+        alone(Call::Voice { voice: 1 }, "voice 1 0 0 2 1 2 0 0 0 0 loose"),
+        changed(Call::Voice { voice: 2 }, "voice 2 0 1 3 1 3 0 0 0 0 loose", "voice 2 0 1 3 1 3 0 0 1 0 loose"),
+    ];
+    compare("20a-noise-of-each-bus", rows);
+}
+
 /// Where the Rust says no, the store says which no it is; a render hands on what became of its events, at the moment when each happens.
 #[test]
 fn departure_24_outcomes() {

@@ -129,7 +129,7 @@ fn departure_7_voice_ids() {
     let rows = [
         same(host(2, 0), "node 0"),
         same(tone(), "kept"),
-        same(Call::SetCounters { clock: 0, voices: u64::MAX - 1, noise: 0 }, "set"),
+        same(Call::SetCounters { clock: 0, voices: u64::MAX - 1, noise: 0, node: 0 }, "set"),
         same(SPAWN, "voice 18446744073709551615"),
         departs(SPAWN, "refused 8", "voice 0"),
     ];
@@ -139,7 +139,7 @@ fn departure_7_voice_ids() {
 #[test]
 fn departure_7_clock() {
     let rows = [
-        same(Call::SetCounters { clock: u64::MAX - 127, voices: 0, noise: 0 }, "set"),
+        same(Call::SetCounters { clock: u64::MAX - 127, voices: 0, noise: 0, node: 0 }, "set"),
         departs(RENDER, "silent took 0", "silent"),
         departs(RENDER, "refused 15", "silent"),
         departs(Call::Clock {}, "clock 18446744073709551552", "clock 0"),

@@ -6,12 +6,6 @@ use Rattle.codec.proofs.Part.{counted}
 use Rattle.play.proofs.tell.lent_page.Statement.{statement}
 use Rattle.play.proofs.tell.lent_page.Tie as tie
 
-word-at-requires : tie.Need-word-at-requires
-word-at-requires c κs = search needs
-
-cast-at-most : tie.Need-cast-at-most
-cast-at-most c = search needs
-
 at-most-requires : tie.Need-at-most-requires
 at-most-requires c κs = search needs
 
@@ -23,9 +17,9 @@ array-borrow-prefix-room c = search needs
 
 slice-aggregate-paged : tie.Need-slice-aggregate-paged
 slice-aggregate-paged c =
-    let most = c .before .before .at-most in
+    let most = c .before .before .before .at-most in
     let few : most .result ≤ 4096 = omega (arith, most .ensures) in
-    counted (most .result) 4096 (c .before .buffer .result) (c .before .buffer .ensures) few
+    counted (most .result) 4096 (c .before .before .buffer .result) (c .before .before .buffer .ensures) few
 
 paged-requires : tie.Need-paged-requires
 paged-requires c κs = search needs
@@ -37,8 +31,6 @@ pub lent-page-spec : {M : Type 1} → statement M
 lent-page-spec =
     tie.close
     (tie.spec
-    word-at-requires
-    cast-at-most
     at-most-requires
     buffer-requires
     array-borrow-prefix-room

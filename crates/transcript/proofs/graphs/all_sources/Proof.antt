@@ -5,10 +5,10 @@ use Rattle.transcript.proofs.graphs.all_sources.Statement.{statement}
 use Rattle.transcript.proofs.graphs.all_sources.Tie as tie
 
 abbrev Inv-loop : tie.InvT-loop
-Inv-loop sources i₀ i = i ≤ 64
+Inv-loop out₀ sources i₀ out i = i ≤ 64
 
 abbrev μ-loop : tie.MeasureT-loop
-μ-loop sources i₀ i = 64 - i
+μ-loop out₀ sources i₀ out i = 64 - i
 
 loop-holds : tie.Need-loop-holds Inv-loop μ-loop
 loop-holds c = search needs

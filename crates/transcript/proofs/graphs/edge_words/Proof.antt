@@ -5,10 +5,10 @@ use Rattle.transcript.proofs.graphs.edge_words.Statement.{statement}
 use Rattle.transcript.proofs.graphs.edge_words.Tie as tie
 
 abbrev Inv-loop : tie.InvT-loop
-Inv-loop s edges n i₀ i = i ≤ n
+Inv-loop out₀ s edges n i₀ out i = i ≤ n
 
 abbrev μ-loop : tie.MeasureT-loop
-μ-loop s edges n i₀ i = n - i
+μ-loop out₀ s edges n i₀ out i = n - i
 
 edges-requires : tie.Need-edges-requires Inv-loop μ-loop
 edges-requires c κs = search needs

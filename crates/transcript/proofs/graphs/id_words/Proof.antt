@@ -5,10 +5,10 @@ use Rattle.transcript.proofs.graphs.id_words.Statement.{statement}
 use Rattle.transcript.proofs.graphs.id_words.Tie as tie
 
 abbrev Inv-loop : tie.InvT-loop
-Inv-loop ids count n i₀ i = i ≤ n
+Inv-loop out₀ ids count n i₀ out i = i ≤ n
 
 abbrev μ-loop : tie.MeasureT-loop
-μ-loop ids count n i₀ i = n - i
+μ-loop out₀ ids count n i₀ out i = n - i
 
 at-most-requires : tie.Need-at-most-requires Inv-loop μ-loop
 at-most-requires c κs = search needs
@@ -16,11 +16,11 @@ at-most-requires c κs = search needs
 loop-holds : tie.Need-loop-holds Inv-loop μ-loop
 loop-holds c = search needs
 
-mul-t8 : tie.Need-mul-t8 Inv-loop μ-loop
-mul-t8 c = search needs
+mul-id : tie.Need-mul-id Inv-loop μ-loop
+mul-id c = search needs
 
-shared-slice-read-t10 : tie.Need-shared-slice-read-t10 Inv-loop μ-loop
-shared-slice-read-t10 c = search needs
+shared-slice-read-id : tie.Need-shared-slice-read-id Inv-loop μ-loop
+shared-slice-read-id c = search needs
 
 id-word-requires : tie.Need-id-word-requires Inv-loop μ-loop
 id-word-requires c κs = search needs
@@ -45,8 +45,8 @@ id-words-spec =
     μ-loop
     at-most-requires
     loop-holds
-    mul-t8
-    shared-slice-read-t10
+    mul-id
+    shared-slice-read-id
     id-word-requires
     add-i
     loop-less

@@ -5,10 +5,10 @@ use Rattle.transcript.proofs.graphs.node_lines.Statement.{statement}
 use Rattle.transcript.proofs.graphs.node_lines.Tie as tie
 
 abbrev Inv-loop : tie.InvT-loop
-Inv-loop nodes n i₀ i = i ≤ n
+Inv-loop out₀ nodes n i₀ out i = i ≤ n
 
 abbrev μ-loop : tie.MeasureT-loop
-μ-loop nodes n i₀ i = n - i
+μ-loop out₀ nodes n i₀ out i = n - i
 
 node-count-requires : tie.Need-node-count-requires Inv-loop μ-loop
 node-count-requires c κs = search needs

@@ -14,7 +14,7 @@ within : (c : tie.Else1) → let name = c .before .before .args .name in (name .
 within c =
     let start = c .before .before in
     let named = sym (c .before .is-named .ensures) ∙ not-false (c .before .is-named .result) (c .if1 .left) in
-    (name-long (start .args .name .len) named .1, length-unmapped ℕ (start .args .name .bytes) 16 (start .good .0 .1 .1 .0 .1 .0 .1))
+    (name-long (start .args .name .len) named .1, length-unmapped ℕ (start .args .name .bytes) 16 (start .good .1 .0 .1 .1 .0 .1 .0 .1))
 
 is-named-requires : tie.Need-is-named-requires
 is-named-requires c κs = search needs
@@ -38,10 +38,10 @@ text-requires-2 : tie.Need-text-requires-2
 text-requires-2 c κs = search needs
 
 array-share-prefix-bytes : tie.Need-array-share-prefix-bytes
-array-share-prefix-bytes c = omega (arith, within (c .before .before .before .before))
+array-share-prefix-bytes c = omega (arith, within (c .before .before .before .before .before .before))
 
 slice-aggregate-hex-bytes : tie.Need-slice-aggregate-hex-bytes
-slice-aggregate-hex-bytes c = simp length-take (omega (arith, within (c .before .before .before .before .before)))
+slice-aggregate-hex-bytes c = simp length-take (omega (arith, within (c .before .before .before .before .before .before .before)))
 
 hex-bytes-requires : tie.Need-hex-bytes-requires
 hex-bytes-requires c κs = search needs

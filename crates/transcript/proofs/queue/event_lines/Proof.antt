@@ -5,10 +5,10 @@ use Rattle.transcript.proofs.queue.event_lines.Statement.{statement}
 use Rattle.transcript.proofs.queue.event_lines.Tie as tie
 
 abbrev Inv-loop : tie.InvT-loop
-Inv-loop events n i₀ i = i ≤ n
+Inv-loop out₀ events n i₀ out i = i ≤ n
 
 abbrev μ-loop : tie.MeasureT-loop
-μ-loop events n i₀ i = n - i
+μ-loop out₀ events n i₀ out i = n - i
 
 at-most-requires : tie.Need-at-most-requires Inv-loop μ-loop
 at-most-requires c κs = search needs

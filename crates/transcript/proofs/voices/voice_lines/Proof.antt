@@ -5,10 +5,10 @@ use Rattle.transcript.proofs.voices.voice_lines.Statement.{statement}
 use Rattle.transcript.proofs.voices.voice_lines.Tie as tie
 
 abbrev Inv-loop : tie.InvT-loop
-Inv-loop s nodes edges voices n i₀ i = i ≤ n
+Inv-loop out₀ s nodes edges voices n i₀ out i = i ≤ n
 
 abbrev μ-loop : tie.MeasureT-loop
-μ-loop s nodes edges voices n i₀ i = n - i
+μ-loop out₀ s nodes edges voices n i₀ out i = n - i
 
 voices-requires : tie.Need-voices-requires Inv-loop μ-loop
 voices-requires c κs = search needs
