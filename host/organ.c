@@ -1,5 +1,6 @@
 /* A small console on the voice store: two manuals and a pedal on a bus each, three stops, and a short score with more keys than the
- * budget of a bus. The store decides who sounds on which port, who gives way and who is gone; the tone generators are this program's.
+ * budget of a bus. The keys of the manuals are wishes, and each block takes one turn; the pedal's spawn at once. The store decides who
+ * sounds on which port, who gives way and who is gone; the tone generators are this program's.
  *
  *   organ WAV SCRIPT TOLD
  *
@@ -18,7 +19,8 @@
 #define IDS 4096 /* more node ids than the score gives out */
 
 static uint32_t state[PIECRAG_STATE_WORDS], nodes[PIECRAG_NODE_WORDS], edges[PIECRAG_EDGE_WORDS], order[PIECRAG_ORDER_WORDS],
-    voices[PIECRAG_VOICE_WORDS], events[PIECRAG_EVENT_WORDS], steals[PIECRAG_STEAL_WORDS];
+    voices[PIECRAG_VOICE_WORDS], events[PIECRAG_EVENT_WORDS], steals[PIECRAG_STEAL_WORDS], waiting[PIECRAG_WAITING_WORDS],
+    wishes[PIECRAG_WISH_WORDS];
 
 static void check(int fine, const char *what)
 {
@@ -182,16 +184,20 @@ static void keep(int slot)
 }
 
 /* ---- the calls */
+enum { GREAT, SWELL, KEYBOARDS, PEDAL = KEYBOARDS, MANUALS };
+
 static void make(void)
 {
-    uint32_t k = piecrag_make(state, RATE, BLOCK, 1, BUDGET, PIECRAG_QUIETEST, PIECRAG_PER_GROUP, 1);
-    entry(34);
+    uint32_t k = piecrag_make_console(state, waiting, RATE, BLOCK, 1, BUDGET, PIECRAG_QUIETEST, PIECRAG_PER_GROUP, 1, KEYBOARDS);
+    entry(47);
     put(bits(RATE), 4);
     put(BLOCK, 4);
     put(1, 1);
     put(BUDGET, 4);
     put(PIECRAG_QUIETEST, 1);
     put(PIECRAG_PER_GROUP, 1);
+    put(1, 1);
+    put(KEYBOARDS, 4);
     check(answer(k, "made") == 0, "making");
 }
 
@@ -232,6 +238,14 @@ static void prepare(void)
     check(answer(piecrag_prepare(state, nodes, edges, order), "done") == 0, "prepare");
 }
 
+static void say_spawned(uint32_t k, uint64_t voice)
+{
+    if (k)
+        say("refused %u\n", (unsigned)k);
+    else
+        say("voice %llu\n", (unsigned long long)voice);
+}
+
 static uint32_t spawn(int stop, uint32_t bus, float pan, uint32_t rank, uint64_t *voice)
 {
     const struct stop *s = &stops[stop];
@@ -244,11 +258,35 @@ static uint32_t spawn(int stop, uint32_t bus, float pan, uint32_t rank, uint64_t
     if (pan != 0.0f)
         put(bits(pan), 4);
     put(rank, 4);
-    if (k)
-        say("refused %u\n", (unsigned)k);
-    else
-        say("voice %llu\n", (unsigned long long)*voice);
+    say_spawned(k, *voice);
     return k;
+}
+
+static void wish(size_t keyboard, int stop, uint32_t bus, float pan)
+{
+    const struct stop *s = &stops[stop];
+    entry(48);
+    put((uint64_t)stop, 1);
+    put(keyboard, 4);
+    put(1, 1);
+    put(bus, 4);
+    put(bits(pan), 4);
+    put(0, 4);
+    check(answer(piecrag_wish(waiting, wishes, keyboard, 1, s->book, s->length, bus, pan, 0), "waits") == 0, "a wish");
+}
+
+/* whether a wish waited; then its keyboard, and the new voice, or 0 where the store refused one */
+static int turn(size_t *keyboard, uint64_t *voice)
+{
+    uint32_t k = piecrag_turn(state, nodes, edges, voices, steals, waiting, wishes, keyboard, voice);
+    entry(49);
+    if (k == PIECRAG_TURN_EMPTY) {
+        say("empty\n");
+        return 0;
+    }
+    say("served %lu ", (unsigned long)*keyboard);
+    say_spawned(k, *voice);
+    return 1;
 }
 
 static void set_value(uint64_t voice, const char *name, float x)
@@ -517,7 +555,6 @@ static void generators(void)
 
 /* ---- the score */
 struct key { unsigned block; int manual, stop; float freq; unsigned held; float pan; };
-enum { GREAT, SWELL, PEDAL, MANUALS };
 static const struct key score[] = {
     {0, PEDAL, BOURDON, 65.4f, 40000, 0.0f},
     {0, GREAT, PRINCIPAL, 261.6f, 20000, 0.0f},   {0, GREAT, PRINCIPAL, 329.6f, 30000, 0.0f},
@@ -543,12 +580,10 @@ static uint32_t first_node(uint64_t voice)
     return row[PIECRAG_VOICE_FIRST];
 }
 
-/* a key goes down: a voice, its pitch, an open gate, a timed release, and a timed free in case it is still there then */
-static int press(const struct key *k, const uint32_t *buses)
+/* the new voice of a key: its pitch, an open gate, a timed release, and a timed free in case it is still there then */
+static void begin(const struct key *k, uint64_t voice)
 {
-    uint64_t voice = 0, now = clock_now();
-    if (spawn(k->stop, buses[k->manual], k->pan, k->manual == PEDAL ? 1 : 0, &voice))
-        return 0;
+    uint64_t now = clock_now();
     pans[voice % IDS] = k->pan;
     set_value(voice, "freq", k->freq);
     pitch[first_node(voice)] = k->freq;
@@ -559,6 +594,40 @@ static int press(const struct key *k, const uint32_t *buses)
     set_value(voice, "gate", 1.0f);
     schedule_gate(now + k->held, voice, 0.0f);
     schedule_free(now + k->held + RATE / 4, voice);
+}
+
+/* the keys whose wishes wait, by their keyboard, oldest first; how many were pressed, and how many served */
+static const struct key *down[KEYBOARDS][KEYS];
+static unsigned pressed[KEYBOARDS], served[KEYBOARDS], refused;
+
+/* a key goes down: on the pedal a voice at once, on a manual a wish; whether a voice was asked for */
+static int press(const struct key *k, const uint32_t *buses)
+{
+    uint64_t voice = 0;
+    if (k->manual != PEDAL) {
+        wish((size_t)k->manual, k->stop, buses[k->manual], k->pan);
+        down[k->manual][pressed[k->manual]++] = k;
+        return 0;
+    }
+    if (spawn(k->stop, buses[PEDAL], k->pan, 1, &voice))
+        refused++;
+    else
+        begin(k, voice);
+    return 1;
+}
+
+/* one turn of the manuals; whether a wish was served */
+static int take_turn(void)
+{
+    size_t keyboard = KEYBOARDS;
+    uint64_t voice = 0;
+    if (!turn(&keyboard, &voice))
+        return 0;
+    if (voice)
+        begin(down[keyboard][served[keyboard]], voice);
+    else
+        refused++;
+    served[keyboard]++;
     return 1;
 }
 
@@ -599,6 +668,23 @@ static void wav_block(const float *block)
             wav_put((uint32_t)y & 0xFFFF, 2);
             sum = sum * 31 + ((uint32_t)y & 0xFFFF);
         }
+}
+
+/* ---- what waits */
+static void tell_waiting(void)
+{
+    size_t keyboards = 0, count = 0, q;
+    entry(50);
+    say("waiting");
+    printf("waiting:");
+    piecrag_keyboard_count(waiting, &keyboards);
+    for (q = 0; q < keyboards; q++) {
+        piecrag_waiting_count(waiting, q, &count);
+        say(" %lu", (unsigned long)count);
+        printf(" %lu", (unsigned long)count);
+    }
+    say(" next %u\n", (unsigned)waiting[PIECRAG_WAITING_NEXT]);
+    printf("\n");
 }
 
 /* ---- the last words: what can be read, and the same in the script */
@@ -692,14 +778,14 @@ static uint32_t wire(uint32_t *buses)
 
 static void play(const uint32_t *buses, uint32_t sink)
 {
-    unsigned b, next = 0, refused = 0;
+    unsigned b, next = 0, late_keys = 0;
     size_t removed = 0, gone;
     int changed = 1;
     for (b = 0; b < BLOCKS; b++) {
-        for (; next < KEYS && score[next].block == b; next++) {
-            refused += !press(&score[next], buses);
-            changed = 1;
-        }
+        for (; next < KEYS && score[next].block == b; next++)
+            changed |= press(&score[next], buses);
+        changed |= take_turn();
+        late_keys += served[GREAT] < pressed[GREAT] || served[SWELL] < pressed[SWELL];
         if (changed)
             prepare();
         check(render() == 1, "every block sounds");
@@ -708,11 +794,13 @@ static void play(const uint32_t *buses, uint32_t sink)
         gone = clearing();
         removed += gone;
         changed = gone > 0;
-        if (b == 102 || b == 153 || b == 330)
+        if (b == 102 || b == 153 || b == 330) {
             page(b == 102 ? "a fifth and a sixth key on the great" : b == 153 ? "eight keys on the swell" : "after the releases");
+            tell_waiting();
+        }
     }
-    printf("keys: %lu, refused %u; voices cleared: %lu; events whose voice was gone: %u\n", (unsigned long)KEYS, refused,
-           (unsigned long)removed, late);
+    printf("keys: %lu, refused %u; blocks after which a key waited: %u; voices cleared: %lu; events whose voice was gone: %u\n",
+           (unsigned long)KEYS, refused, late_keys, (unsigned long)removed, late);
 }
 
 int main(int argc, char **argv)

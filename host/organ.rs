@@ -7,7 +7,11 @@ type Words<const N: usize> = [u32; N];
 
 #[rustfmt::skip]
 extern "C" {
-    fn piecrag_make(s: *mut u32, rate: f32, block: usize, limited: u32, budget: usize, policy: u32, scope: u32, table: u32) -> c_uint;
+    fn piecrag_make_console(s: *mut u32, q: *mut u32, rate: f32, block: usize, limited: u32, budget: usize, policy: u32, scope: u32, table: u32, keyboards: usize) -> c_uint;
+    fn piecrag_wish(q: *mut u32, w: *mut u32, keyboard: usize, managed: u32, book: *const u8, len: usize, bus: u32, pan: f32, rank: u32) -> c_uint;
+    fn piecrag_turn(s: *mut u32, n: *mut u32, e: *mut u32, v: *mut u32, l: *mut u32, q: *mut u32, w: *const u32, keyboard: &mut usize, voice: &mut u64) -> c_uint;
+    fn piecrag_keyboard_count(q: *const u32, count: &mut usize) -> c_uint;
+    fn piecrag_waiting_count(q: *const u32, keyboard: usize, count: &mut usize) -> c_uint;
     fn piecrag_add_node(s: *mut u32, n: *mut u32, kind: *const u8, len: usize, ports: u32, required: u64, values: u32, glides: u32, node: &mut u32) -> c_uint;
     fn piecrag_connect(s: *mut u32, n: *const u32, e: *mut u32, from: u32, to: u32, port: u32) -> c_uint;
     fn piecrag_set_sink(s: *mut u32, n: *const u32, node: u32) -> c_uint;
@@ -33,13 +37,15 @@ extern "C" {
 
 /// The memory of a store; the sizes are those of piecrag.h.
 struct Store {
-    state: Words<33>,
-    nodes: Words<10752>,
+    state: Words<32>,
+    nodes: Words<11264>,
     edges: Words<3072>,
     order: Words<512>,
     voices: Words<9152>,
     events: Words<3840>,
     steals: Words<320>,
+    waiting: Words<12>,
+    wishes: Words<31104>,
 }
 
 type Answer<T> = Result<T, u32>;
@@ -51,10 +57,31 @@ fn answer<T>(k: u32, x: T) -> Answer<T> {
 #[rustfmt::skip]
 impl Store {
     fn new() -> Box<Store> {
-        Box::new(Store { state: [0; 33], nodes: [0; 10752], edges: [0; 3072], order: [0; 512], voices: [0; 9152], events: [0; 3840], steals: [0; 320] })
+        Box::new(Store { state: [0; _], nodes: [0; _], edges: [0; _], order: [0; _], voices: [0; _], events: [0; _], steals: [0; _], waiting: [0; _], wishes: [0; _] })
     }
-    fn make(&mut self, rate: f32, block: usize, limited: u32, budget: usize, policy: u32, scope: u32, table: u32) -> Answer<()> {
-        answer(unsafe { piecrag_make(self.state.as_mut_ptr(), rate, block, limited, budget, policy, scope, table) }, ())
+    fn make(&mut self, rate: f32, block: usize, limited: u32, budget: usize, policy: u32, scope: u32, table: u32, keyboards: usize) -> Answer<()> {
+        answer(unsafe { piecrag_make_console(self.state.as_mut_ptr(), self.waiting.as_mut_ptr(), rate, block, limited, budget, policy, scope, table, keyboards) }, ())
+    }
+    fn wish(&mut self, keyboard: usize, managed: u32, book: &[u8], bus: u32, pan: f32, rank: u32) -> Answer<()> {
+        answer(unsafe { piecrag_wish(self.waiting.as_mut_ptr(), self.wishes.as_mut_ptr(), keyboard, managed, book.as_ptr(), book.len(), bus, pan, rank) }, ())
+    }
+    /// The keyboard served, and what its spawn was answered.
+    fn turn(&mut self) -> Option<(usize, Answer<u64>)> {
+        let (mut keyboard, mut voice) = (0, 0);
+        let (s, n, e, v) = (self.state.as_mut_ptr(), self.nodes.as_mut_ptr(), self.edges.as_mut_ptr(), self.voices.as_mut_ptr());
+        let k = unsafe { piecrag_turn(s, n, e, v, self.steals.as_mut_ptr(), self.waiting.as_mut_ptr(), self.wishes.as_ptr(), &mut keyboard, &mut voice) };
+        (k != TURN_EMPTY).then_some((keyboard, answer(k, voice)))
+    }
+    /// How many wishes wait at each keyboard.
+    fn waiting(&self) -> Vec<usize> {
+        let mut n = 0;
+        unsafe { piecrag_keyboard_count(self.waiting.as_ptr(), &mut n) };
+        let one = |q| {
+            let mut count = 0;
+            unsafe { piecrag_waiting_count(self.waiting.as_ptr(), q, &mut count) };
+            count
+        };
+        (0..n).map(one).collect()
     }
     fn add_node(&mut self, kind: &[u8], ports: u32, required: u64, takes: u32) -> Answer<u32> {
         let mut id = 0;
@@ -152,6 +179,10 @@ impl Store {
 /// Words of a row of the voice table.
 const VOICE: usize = 143;
 
+/// What a turn answers if no wish waited, and the word that has the keyboard after the last served.
+const TURN_EMPTY: u32 = 256;
+const WAITING_NEXT: usize = 2;
+
 struct Glide { target: f32, seconds: f32, shape: u32, curve: f32, space: u32 }
 
 /// The fields of a script.
@@ -213,9 +244,10 @@ fn list<T: ToString>(head: &str, all: impl IntoIterator<Item = T>) -> String {
 /// One entry of the script: its call, and the line that `replay` writes for it.
 fn play(s: &mut Script, store: &mut Store, books: &mut [Vec<u8>]) -> String {
     match s.u8() {
-        34 => {
+        47 => {
             let (rate, block, limited, budget) = (s.f32(), s.u32() as usize, s.u8() as u32, s.u32() as usize);
-            line(store.make(rate, block, limited, budget, s.u8() as u32, s.u8() as u32, 1), |()| "made".into())
+            let (policy, scope, table) = (s.u8() as u32, s.u8() as u32, s.u8() as u32);
+            line(store.make(rate, block, limited, budget, policy, scope, table, s.u32() as usize), |()| "made".into())
         }
         3 => {
             let (kind, ports, required, takes) = (s.name(), s.u32(), s.u64(), s.u8() as u32);
@@ -263,6 +295,12 @@ fn play(s: &mut Script, store: &mut Store, books: &mut [Vec<u8>]) -> String {
         29 => list("order", store.order()),
         31 => format!("clock {}", store.clock()),
         32 => line(store.page(s.u32() as usize), |p| format!("page {}\n{}", p.len(), p.trim_end())),
+        48 => {
+            let (slot, keyboard, managed, bus) = (s.u8() as usize, s.u32() as usize, s.u8() as u32, s.u32());
+            line(store.wish(keyboard, managed, &books[slot], bus, s.f32(), s.u32()), |()| "waits".into())
+        }
+        49 => store.turn().map_or("empty".into(), |(q, a)| format!("served {q} {}", line(a, |v| format!("voice {v}")))),
+        50 => list("waiting", store.waiting()) + &format!(" next {}", store.waiting[WAITING_NEXT]),
         sort => panic!("the organ makes no entry of sort {sort}"),
     }
 }

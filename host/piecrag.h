@@ -1,8 +1,9 @@
 /* piecrag.h: the voice store of an organ tone module, for a host in C or C++.
  *
- * Memory. The store is words of 32 bits that the host owns: the state and six tables, whose sizes stand below. The library has no
- * memory of its own, allocates nothing and keeps no pointer. Any words may stand in the store before piecrag_make. Between calls the
- * host may copy the parts, save them and read the rows that are described here; only the calls may write them.
+ * Memory. The store is words of 32 bits that the host owns: the state and six tables, whose sizes stand below; a console with keyboards
+ * has two parts more, `waiting` and `wishes`. The library has no memory of its own, allocates nothing and keeps no pointer. Any words
+ * may stand in the store before piecrag_make or piecrag_make_console. Between calls the host may copy the parts, save them and read
+ * the rows that are described here; only the calls may write them.
  *
  * Arguments. Parts, cells and blocks that are lent to one call must not overlap. A pointer must be aligned for its type and must not be
  * null, that of a byte string or a block of length 0 included. What a call only reads is const. Any number is accepted for any
@@ -11,8 +12,9 @@
  *
  * Answers. Each call answers a number: 0 done, or one of those below. "Refused" lists the numbers in the order in which they are
  * tested; the first that holds is answered. A refused call changes no word of state, tables, cells and blocks, with one exception:
- * after 12 the steals and reclaims that were made stand. Two answers are no refusals: 1 to 3 of a value, a glide or a free say why
- * nothing was done; 13 or 14 of piecrag_render say that the block was rendered, silent.
+ * after 12 the steals and reclaims that were made stand. Some answers are no refusals of the call: 1 to 3 of a value, a glide or a free
+ * say why nothing was done; 13 or 14 of piecrag_render say that the block was rendered, silent; piecrag_turn answers what the spawn that
+ * it served was answered, or PIECRAG_TURN_EMPTY.
  */
 #ifndef PIECRAG_H
 #define PIECRAG_H
@@ -32,6 +34,9 @@ extern "C" {
 #define PIECRAG_VOICE_WORDS 9152
 #define PIECRAG_EVENT_WORDS 3840
 #define PIECRAG_STEAL_WORDS 320
+#define PIECRAG_WAITING_WORDS 12   /* these two only for a console with keyboards */
+#define PIECRAG_WISH_WORDS 31104
+#define PIECRAG_SEAL_WORDS 12      /* only for a board that may be sealed */
 
 /* ---- records, in words: a row of the table of that name */
 #define PIECRAG_VOICE_RECORD_WORDS 143
@@ -51,6 +56,8 @@ extern "C" {
 #define PIECRAG_MAX_NAME 16
 #define PIECRAG_MAX_CHANNELS 2
 #define PIECRAG_MAX_RANK 7
+#define PIECRAG_MAX_KEYBOARDS 8
+#define PIECRAG_MAX_WISHES 16      /* that wait at one keyboard */
 #define PIECRAG_MAX_PAGE 4501      /* bytes of the longest page */
 #define PIECRAG_FADE_TABLE_RATE 48000
 #define PIECRAG_WHOLE_GAIN 16777216 /* 2^24: full gain in whole numbers */
@@ -79,7 +86,12 @@ extern "C" {
 #define PIECRAG_OUT_OF_RANGE 21
 #define PIECRAG_NO_WIDTH 22
 #define PIECRAG_SAMPLES_FALL 23
+#define PIECRAG_KEYBOARD 24
+#define PIECRAG_WISHES_FULL 25
 #define PIECRAG_RANK_TOO_HIGH 26
+#define PIECRAG_NOT_ACCEPTED 27
+#define PIECRAG_CLOSED 28
+#define PIECRAG_TURN_EMPTY 256     /* of piecrag_turn alone: no wish waited. Refusals are below 256 */
 
 /* ---- why a value, a glide or a free was not applied: the answer of such a call, and the entries of a render's list */
 #define PIECRAG_APPLIED 0
@@ -142,6 +154,10 @@ extern "C" {
 #define PIECRAG_EDGE_FROM 0
 #define PIECRAG_EDGE_TO 1
 #define PIECRAG_EDGE_PORT 2
+
+/* ---- words of `waiting` */
+#define PIECRAG_WAITING_KEYBOARDS 0 /* 64 bits: how many keyboards there are */
+#define PIECRAG_WAITING_NEXT 2      /* 64 bits: the keyboard after the last served, at first 0 */
 
 /* ==== making, the host's nodes and edges, prepare, events */
 
@@ -253,6 +269,85 @@ uint32_t piecrag_report(const uint32_t *state, uint32_t *nodes, const uint32_t *
  * Refused: 15 the clock would pass 2^64 - 1; 17 outcomes has fewer than 256 entries. */
 uint32_t piecrag_render(uint32_t *state, uint32_t *nodes, uint32_t *edges, uint32_t *order, uint32_t *voices, uint32_t *events,
                         uint8_t *outcomes, size_t outcomes_length, uint32_t *sounding, size_t *taken);
+
+/* ==== keyboards: wishes for spawns wait, and turns serve them one by one, so that no keyboard waits for ever */
+
+/* A new store with so many keyboards, at which nothing waits. The other arguments as of piecrag_make. Nothing is read or stored in the
+ * tables.
+ * Refused: 1, 2, 3, 20 as piecrag_make; 24 keyboards not 1 to 8. */
+uint32_t piecrag_make_console(uint32_t *state, uint32_t *waiting, float rate, size_t block, uint32_t limited, size_t budget,
+                              uint32_t policy, uint32_t scope, uint32_t table, size_t keyboards);
+
+/* A wish of a keyboard, from 0: a managed spawn, or an unmanaged one if `managed` is 0, of the definition that the bytes of the book
+ * hold. It waits for its turn. The book is read and held whole; of bus, pan, rank and the definition nothing is tested before the turn.
+ * Refused: 18 the book is malformed; 24 no such keyboard; 25 16 wishes of that keyboard wait. */
+uint32_t piecrag_wish(uint32_t *waiting, uint32_t *wishes, size_t keyboard, uint32_t managed, const uint8_t *book, size_t book_length,
+                      uint32_t bus, float pan, uint32_t rank);
+
+/* A turn: the oldest wish of the next keyboard, going round after the last served, that has one. With m keyboards a wish with k before
+ * it on its own keyboard is served within (k + 1) times m turns. *keyboard becomes the keyboard served.
+ * Answers 0, and *voice becomes the id of the new voice; or what the spawn was refused by: 26, 9, 4, 5, 10, 7, 8, 11, 12. The wish is
+ * served then too and waits no more; of the store nothing changes, but that after 12 the steals and reclaims stand.
+ * PIECRAG_TURN_EMPTY if no wish waited: then nothing changes, and no cell. Never refused itself. */
+uint32_t piecrag_turn(uint32_t *state, uint32_t *nodes, uint32_t *edges, uint32_t *voices, uint32_t *steals, uint32_t *waiting,
+                      const uint32_t *wishes, size_t *keyboard, uint64_t *voice);
+
+/* *count becomes how many keyboards there are. */
+uint32_t piecrag_keyboard_count(const uint32_t *waiting, size_t *count);
+
+/* *count becomes how many wishes wait at a keyboard; 0 where there is no such keyboard. */
+uint32_t piecrag_waiting_count(const uint32_t *waiting, size_t keyboard, size_t *count);
+
+/* The keyboard that the next turn serves: *found becomes 1 and *keyboard that keyboard; *found 0 if no wish waits. */
+uint32_t piecrag_next_keyboard(const uint32_t *waiting, uint32_t *found, size_t *keyboard);
+
+/* ==== the seal of the smallest board
+ *
+ * `seal` is words that are all 0 before the first call on a new store: no seal. A board that may be sealed is called by the forms below
+ * in the place of those without `board`, which know nothing of the seal: to that the host must keep. What has no such form is open on
+ * every board: turns, values, glides, events, frees, reports, prepares, renders, clearing, reading and blocks of sound. On a sealed board
+ * no spawn and no turn answers 7. */
+
+/* The board is sealed by what its builder states: its one bus and how many ports it has, how many nodes and edges of the host there are,
+ * and the nodes and edges of the largest definition. A store without keyboards lends a `waiting` of zeros. Nothing but the seal changes.
+ * Refused: 28 it is sealed; 27 not accepted, unless ports is 2 to 31; host_nodes + (ports + 1) * (def_nodes + 3) is at most 512;
+ * host_edges + (ports + 1) * (def_edges + 4) is at most 1,024; bus is a node of the host with so many ports; the store has so many nodes
+ * and edges, no voice and no waiting wish. */
+uint32_t piecrag_seal(uint32_t *seal, const uint32_t *state, const uint32_t *nodes, const uint32_t *edges, const uint32_t *voices,
+                      const uint32_t *waiting, uint32_t bus, uint64_t ports, uint64_t host_nodes, uint64_t host_edges,
+                      uint64_t def_nodes, uint64_t def_edges);
+
+/* The host's nodes, edges and sink, as the calls without `board`. Refused: 28 the board is sealed; then as those. */
+uint32_t piecrag_board_add_node(const uint32_t *seal, uint32_t *state, uint32_t *nodes, const uint8_t *kind, size_t kind_length,
+                                uint32_t ports, uint64_t required, uint32_t values, uint32_t glides, uint32_t *node);
+uint32_t piecrag_board_remove_node(const uint32_t *seal, uint32_t *state, uint32_t *nodes, uint32_t *edges, uint32_t node);
+uint32_t piecrag_board_connect(const uint32_t *seal, uint32_t *state, const uint32_t *nodes, uint32_t *edges, uint32_t from, uint32_t to,
+                               uint32_t port);
+uint32_t piecrag_board_disconnect(const uint32_t *seal, uint32_t *state, const uint32_t *nodes, uint32_t *edges, uint32_t to,
+                                  uint32_t port);
+uint32_t piecrag_board_set_sink(const uint32_t *seal, uint32_t *state, const uint32_t *nodes, uint32_t node);
+
+/* Managed spawns, as the calls without `board`. The book is read before the board is asked.
+ * Refused: 18 the book is malformed; 28 the board is sealed, and this is not its bus or the definition has more nodes or edges than was
+ * stated; then as those. */
+uint32_t piecrag_board_spawn_voice_on_bus_panned_managed(const uint32_t *seal, uint32_t *state, uint32_t *nodes, uint32_t *edges,
+                                                         uint32_t *voices, uint32_t *steals, const uint8_t *book, size_t book_length,
+                                                         uint32_t bus, float pan, uint32_t rank, uint64_t *voice);
+uint32_t piecrag_board_spawn_voice_on_bus_managed(const uint32_t *seal, uint32_t *state, uint32_t *nodes, uint32_t *edges,
+                                                  uint32_t *voices, uint32_t *steals, const uint8_t *book, size_t book_length,
+                                                  uint32_t bus, uint32_t rank, uint64_t *voice);
+
+/* Unmanaged spawns. Refused: 18 the book is malformed; 28 the board is sealed; then as the calls without `board`. */
+uint32_t piecrag_board_spawn_voice_on_bus_panned(const uint32_t *seal, uint32_t *state, uint32_t *nodes, uint32_t *edges,
+                                                 uint32_t *voices, uint32_t *steals, const uint8_t *book, size_t book_length,
+                                                 uint32_t bus, float pan, uint32_t rank, uint64_t *voice);
+uint32_t piecrag_board_spawn_voice_on_bus(const uint32_t *seal, uint32_t *state, uint32_t *nodes, uint32_t *edges, uint32_t *voices,
+                                          uint32_t *steals, const uint8_t *book, size_t book_length, uint32_t bus, uint32_t rank,
+                                          uint64_t *voice);
+
+/* A wish. Refused: 18 the book is malformed; 28 the board is sealed, and the spawn that it is for is closed; then as piecrag_wish. */
+uint32_t piecrag_board_wish(const uint32_t *seal, uint32_t *waiting, uint32_t *wishes, size_t keyboard, uint32_t managed,
+                            const uint8_t *book, size_t book_length, uint32_t bus, float pan, uint32_t rank);
 
 /* ==== reading. These change nothing but the lent cells and blocks; where there is nothing to tell, a cell stays as it was */
 

@@ -86,9 +86,10 @@ static void *filled(size_t bytes)
 }
 
 /* ---- the store: its parts stand in one run, canaries between them */
-enum { STATE, NODES, EDGES, ORDER, VOICES, EVENTS, STEALS, PARTS };
-static const size_t words[PARTS] = {PIECRAG_STATE_WORDS, PIECRAG_NODE_WORDS, PIECRAG_EDGE_WORDS, PIECRAG_ORDER_WORDS,
-                                    PIECRAG_VOICE_WORDS, PIECRAG_EVENT_WORDS, PIECRAG_STEAL_WORDS};
+enum { STATE, NODES, EDGES, ORDER, VOICES, EVENTS, STEALS, WAITING, WISHES, SEAL, PARTS };
+static const size_t words[PARTS] = {PIECRAG_STATE_WORDS, PIECRAG_NODE_WORDS, PIECRAG_EDGE_WORDS, PIECRAG_ORDER_WORDS, PIECRAG_VOICE_WORDS,
+                                    PIECRAG_EVENT_WORDS, PIECRAG_STEAL_WORDS, PIECRAG_WAITING_WORDS, PIECRAG_WISH_WORDS,
+                                    PIECRAG_SEAL_WORDS};
 static struct block part[PARTS];
 static uint32_t *at[PARTS];
 
@@ -196,6 +197,9 @@ static void small_samples(int32_t *x, size_t n)
 #define V at[VOICES]
 #define W at[EVENTS]
 #define L at[STEALS]
+#define Q at[WAITING]
+#define H at[WISHES]
+#define X at[SEAL]
 
 static uint32_t host_call(uint32_t which)
 {
@@ -308,15 +312,75 @@ static uint32_t mix_call(uint32_t which)
     return piecrag_whole_bus_sum(S, x, n, c, counts, (int32_t *)(void *)out, m, outs);
 }
 
-#define CALLS 40
+static size_t keyboard(void)
+{
+    return any() % 8 ? any() % 9 : wide();
+}
+
+static uint32_t console_call(uint32_t which)
+{
+    size_t n;
+    const uint8_t *b = book(&n);
+    switch (which) {
+    case 40: return piecrag_make_console(S, Q, any() % 3 ? 48000.0f : real(), any() % 3 ? 128 : number(), any() % 3, any() % 3 ? any() % 9 : number(), number(), number(), any() % 2, keyboard());
+    case 41: return piecrag_wish(Q, H, keyboard(), any() % 4, b, n, number(), real(), any() % 9);
+    case 42: return piecrag_turn(S, N, E, V, L, Q, H, filled(8), filled(8));
+    case 43: return piecrag_keyboard_count(Q, filled(8));
+    case 44: return piecrag_waiting_count(Q, keyboard(), filled(8));
+    default: return piecrag_next_keyboard(Q, filled(4), filled(8));
+    }
+}
+
+/* what the builder of a board states: the first row of its nodes for the bus, and what else is there, or any numbers */
+static uint32_t seal(void)
+{
+    size_t n;
+    piecrag_edges(S, E, &n);
+    if (any() % 2)
+        return piecrag_seal(X, S, N, E, V, Q, number(), wide(), wide(), wide(), wide(), wide());
+    return piecrag_seal(X, S, N, E, V, Q, N[PIECRAG_NODE_ID], N[PIECRAG_NODE_PORTS], 4, n, any() % 6, any() % 6);
+}
+
+static uint32_t board_call(uint32_t which)
+{
+    size_t n;
+    const uint8_t *b = which < 52 ? name(&n) : book(&n);
+    uint32_t bus = any() % 2 ? number() : N[PIECRAG_NODE_ID];
+    switch (which) {
+    case 46: return seal();
+    case 47: return piecrag_board_add_node(X, S, N, b, n, number(), any() % 4 ? 0 : wide(), any() % 2, any() % 2, filled(4));
+    case 48: return piecrag_board_remove_node(X, S, N, E, number());
+    case 49: return piecrag_board_connect(X, S, N, E, number(), number(), number());
+    case 50: return piecrag_board_disconnect(X, S, N, E, number(), number());
+    case 51: return piecrag_board_set_sink(X, S, N, number());
+    case 52: return piecrag_board_spawn_voice_on_bus_panned_managed(X, S, N, E, V, L, b, n, bus, real(), any() % 9, filled(8));
+    case 53: return piecrag_board_spawn_voice_on_bus_managed(X, S, N, E, V, L, b, n, bus, any() % 9, filled(8));
+    case 54: return piecrag_board_spawn_voice_on_bus_panned(X, S, N, E, V, L, b, n, bus, real(), any() % 9, filled(8));
+    case 55: return piecrag_board_spawn_voice_on_bus(X, S, N, E, V, L, b, n, bus, any() % 9, filled(8));
+    default: return piecrag_board_wish(X, Q, H, keyboard(), any() % 4, b, n, bus, real(), any() % 9);
+    }
+}
+
+#define CALLS 57
 static uint32_t call(uint32_t which)
 {
     used = 0;
-    return which < 11 ? host_call(which) : which < 21 ? voice_call(which) : which < 36 ? read_call(which) : mix_call(which);
+    if (which < 21)
+        return which < 11 ? host_call(which) : voice_call(which);
+    if (which < 40)
+        return which < 36 ? read_call(which) : mix_call(which);
+    return which < 46 ? console_call(which) : board_call(which);
 }
 
-/* what a call may answer, bit by bit */
+/* what a call may answer, bit by bit; an empty turn has the last bit */
 #define BIT(n) (UINT32_C(1) << (n))
+#define EMPTY 31
+
+static uint32_t bit_of(uint32_t k)
+{
+    return k == PIECRAG_TURN_EMPTY ? EMPTY : k < EMPTY ? k : 32;
+}
+
 static uint32_t allowed(uint32_t which)
 {
     const uint32_t spawn = BIT(0) | BIT(18) | BIT(9) | BIT(4) | BIT(5) | BIT(10) | BIT(7) | BIT(8) | BIT(12) | BIT(26);
@@ -338,18 +402,30 @@ static uint32_t allowed(uint32_t which)
     case 35: return BIT(0) | BIT(17);
     case 36: case 37: return BIT(0) | BIT(16);
     case 38: case 39: return BIT(0) | BIT(16) | BIT(21);
+    case 40: return BIT(0) | BIT(1) | BIT(2) | BIT(3) | BIT(20) | BIT(24);
+    case 41: return BIT(0) | BIT(18) | BIT(24) | BIT(25);
+    case 42: return (spawn & ~BIT(18)) | BIT(11) | BIT(EMPTY);
+    case 46: return BIT(0) | BIT(27) | BIT(28);
+    case 47: case 48: case 49: case 50: return allowed(which - 46) | BIT(28);
+    case 51: return allowed(5) | BIT(28);
+    case 52: case 53: return spawn | BIT(11) | BIT(28);
+    case 54: case 55: return spawn | BIT(28);
+    case 56: return allowed(41) | BIT(28);
     default: return BIT(0);
     }
 }
 
-/* a store as calls make it: a bus that is heard, and whatever follows */
+/* a store as calls make it, with some keyboards: a bus that is heard, and whatever follows */
 static void console(void)
 {
     uint32_t id, i;
-    piecrag_make(S, 48000.0f, 128, any() % 2, any() % 9, any() % 4, any() % 2, any() % 2);
+    piecrag_make_console(S, Q, 48000.0f, 128, any() % 2, any() % 9, any() % 4, any() % 2, any() % 2, 1 + any() % 8);
     for (i = 0; i < 4; i++)
         piecrag_add_node(S, N, (const uint8_t *)"Bus", 3, 1 + any() % 9, 0, 0, 0, &id);
     piecrag_set_sink(S, N, 0);
+    memset(X, 0, PIECRAG_SEAL_WORDS * 4);
+    if (any() % 2)
+        seal();
 }
 
 static unsigned long count = 1000000, told[CALLS][32], failed;
@@ -371,7 +447,7 @@ static void refresh(unsigned long i)
         console();
     for (n = r == 2 ? 40 : 0; n; n--) {
         int p = (int)(any() % PARTS);
-        at[p][any() % (any() % 2 ? words[p] : words[p] / 16)] = number();
+        at[p][any() % (any() % 2 ? words[p] : (words[p] + 15) / 16)] = number();
     }
 }
 
@@ -379,7 +455,7 @@ static void refresh(unsigned long i)
 static uint32_t chosen(void)
 {
     uint32_t which = any() % CALLS;
-    return which == 0 && any() % 20 ? 11 + any() % 2 : which;
+    return which == 0 && any() % 20 ? 11 + any() % 2 : which == 40 && any() % 20 ? 41 : which;
 }
 
 static void *work(void *unused)
@@ -391,10 +467,10 @@ static void *work(void *unused)
         if (i % 1000 == 0)
             refresh(i);
         k = call(which);
-        if (k > 31 || !(allowed(which) >> k & 1))
+        if (bit_of(k) > 31 || !(allowed(which) >> bit_of(k) & 1))
             fail(i, which, k, "an answer that it may not give");
         else
-            told[which][k]++;
+            told[which][bit_of(k)]++;
         for (p = 0; p < PARTS; p++)
             if (spilled(&part[p]))
                 fail(i, which, k, "wrote beside a part of the store");
@@ -454,7 +530,7 @@ int main(int argc, char **argv)
         for (which = 0; which < CALLS; which++)
             n += told[which][k];
         if (n)
-            printf("answer %u: %lu\n", k, n);
+            printf("answer %u: %lu\n", k == EMPTY ? PIECRAG_TURN_EMPTY : k, n);
     }
     if (argc <= 3)
         fprintf(stderr, "deepest stack: %lu bytes, beside %lu of the thread's own\n", (unsigned long)(all - own), (unsigned long)own);

@@ -1,1 +1,3 @@
 pub mod Exporting
+pub mod Books
+pub mod Consoles

@@ -7,7 +7,7 @@ use c_answer::answer::node_cell;
 use c_answer::answer::settle;
 use c_answer::argument::shape_in;
 use c_answer::argument::space_in;
-use node::order::Action;
+use node::order::EventAction;
 use node::record::NodeId;
 use node::record::VoiceId;
 use piecrag::EdgeTable;
@@ -23,7 +23,7 @@ ghost use mathlib.Core.Path.{_≡_};
 ghost use mathlib.Core.Bool.{true, false};
 ghost use Rattle.graph.specs.Tables.{answerOf};
 ghost use Rattle.words.specs.Fields.{isSet};
-ghost use Rattle.node.specs.declared.order.Action.the-variants as action;
+ghost use Rattle.node.specs.declared.order.EventAction.the-variants as action;
 ghost use Rattle.model.specs.Call as call;
 ghost use Rattle.model.specs.Make.{newModel, configOf, refusalOf};
 ghost use Rattle.call_make.specs.Made.{making};
@@ -167,7 +167,14 @@ pub extern "C" fn piecrag_schedule_value(
     ensures { λ k. ⌜ ((m : Memory) → Exported (call.schedule time (record { 0 = voice }) (now (name .entry)) (action.Value value)) (lentEvents (stateIn (now (state .entry))) (now (events .entry)) m) (now (state .entry)) k (lentEvents (stateIn (now (state .exit))) (now (events .exit)) m) (now (state .exit))) ⌝ }
 {
     let s = state_in(state);
-    let r = piecrag::schedule(s, events, time, VoiceId(voice), name, Action::Value(value));
+    let r = piecrag::schedule(
+        s,
+        events,
+        time,
+        VoiceId(voice),
+        name,
+        EventAction::Value(value),
+    );
     let answer = r.answer;
     settle(state, r.state, answer_kept(answer), answer_code(answer))
 }
@@ -191,7 +198,7 @@ pub extern "C" fn piecrag_schedule_glide(
     let s = state_in(state);
     let way = shape_in(shape, curve);
     let unit = space_in(space);
-    let a = Action::Glide {
+    let a = EventAction::Glide {
         target,
         seconds,
         shape: way,
@@ -215,7 +222,14 @@ pub extern "C" fn piecrag_schedule_gate(
     ensures { λ k. ⌜ ((m : Memory) → Exported (call.schedule time (record { 0 = voice }) (now (name .entry)) (action.Gate value)) (lentEvents (stateIn (now (state .entry))) (now (events .entry)) m) (now (state .entry)) k (lentEvents (stateIn (now (state .exit))) (now (events .exit)) m) (now (state .exit))) ⌝ }
 {
     let s = state_in(state);
-    let r = piecrag::schedule(s, events, time, VoiceId(voice), name, Action::Gate(value));
+    let r = piecrag::schedule(
+        s,
+        events,
+        time,
+        VoiceId(voice),
+        name,
+        EventAction::Gate(value),
+    );
     let answer = r.answer;
     settle(state, r.state, answer_kept(answer), answer_code(answer))
 }
@@ -232,7 +246,7 @@ pub extern "C" fn piecrag_schedule_free(
     ensures { λ k. ⌜ ((m : Memory) → Exported (call.schedule time (record { 0 = voice }) (now (name .entry)) action.Free) (lentEvents (stateIn (now (state .entry))) (now (events .entry)) m) (now (state .entry)) k (lentEvents (stateIn (now (state .exit))) (now (events .exit)) m) (now (state .exit))) ⌝ }
 {
     let s = state_in(state);
-    let r = piecrag::schedule(s, events, time, VoiceId(voice), name, Action::Free);
+    let r = piecrag::schedule(s, events, time, VoiceId(voice), name, EventAction::Free);
     let answer = r.answer;
     settle(state, r.state, answer_kept(answer), answer_code(answer))
 }

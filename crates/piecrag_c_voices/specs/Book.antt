@@ -1,24 +1,16 @@
--- A spawn from a book. 02, Paper 2: "18 malformed record"; "A definition beyond 01's limits keeps refusal 9, after 18". A book that is
--- not malformed gives the spawn its definition; one beyond the limits gives the blank one, which the spawn refuses by 9 where it tests
--- for that.
+-- A spawn from a book.
 use Prim.Native.Nat.{ℕ}
 use mathlib.Core.Path.{_≡_}
 use mathlib.Core.List.{List}
-use mathlib.Core.Bool.{Bool, true, false}
 use Rattle.synthdef.specs.declared.def.SynthDef.{SynthDef}
-use Rattle.def_book.specs.Read.{Read, gives, malformed, limits, defIn}
+use Rattle.def_book.specs.Read.{Read}
 use Rattle.model.specs.Call.{Call, spawned}
 use Rattle.memory.specs.View.{Memory}
 use Rattle.c_answer.specs.Exported.{Exported, Tells, voiceCell}
+use Rattle.c_answer.specs.Book.{FromBook}
 
-abbrev pub isMalformed : Read → Bool
-isMalformed (gives d) = false
-isMalformed (malformed at) = true
-isMalformed limits = false
-
--- The book b gives the call c its definition. From the store m with its state in the words w the export answers k and leaves n and v;
+-- The book b gives the spawn c its definition. From the store m with its state in the words w the export answers k and leaves n and v;
 -- the cell held `old` and holds `new`.
-pub record FromBook (b : Read) (c : SynthDef → Call) (m : Memory) (w : List ℕ) (old : ℕ) (k : ℕ) (n : Memory) (v : List ℕ) (new : ℕ) : Type 0 where
-  pub refused : isMalformed b ≡ true → (k ≡ 18) × (n ≡ m) × (v ≡ w) × (new ≡ old)
-  pub leaves : isMalformed b ≡ false → Exported (c (defIn b)) m w k n v
-  pub gives : isMalformed b ≡ false → Tells spawned (c (defIn b)) m k (λ a. new ≡ voiceCell a old)
+abbrev pub SpawnFromBook : Read → (SynthDef → Call) → Memory → List ℕ → ℕ → ℕ → Memory → List ℕ → ℕ → Type 0
+SpawnFromBook b c m w old k n v new =
+    FromBook b k ((n ≡ m) × (v ≡ w) × (new ≡ old)) (λ d. Exported (c d) m w k n v × Tells spawned (c d) m k (λ a. new ≡ voiceCell a old))

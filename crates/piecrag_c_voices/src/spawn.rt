@@ -3,7 +3,8 @@ use c_answer::answer::settle;
 use c_answer::answer::spawn_code;
 use c_answer::answer::spawn_kept;
 use c_answer::answer::voice_cell;
-use def_book::answer::ReadAnswer;
+use c_answer::from_book::MALFORMED_BOOK;
+use c_answer::from_book::is_malformed;
 use def_book::read::read_book;
 use node::record::NodeId;
 use piecrag::EdgeTable;
@@ -13,24 +14,13 @@ use piecrag::VoiceTable;
 use state_words::StateWords;
 use state_words::state_in;
 ghost use mathlib.Core.Path.{_≡_};
-ghost use Rattle.synthdef.specs.declared.def.SynthDef.{SynthDef};
-ghost use Rattle.def_book.specs.Read.{readBook, readOf};
+ghost use Rattle.def_book.specs.Read.{readBook};
 ghost use Rattle.model.specs.Call as call;
 ghost use Rattle.model.specs.Spawn.{spawnOf, middle};
 ghost use Rattle.memory.specs.View.{Memory};
 ghost use Rattle.memory.specs.Lent.{lentSpawn};
 ghost use Rattle.state_words.specs.State.{stateIn};
-ghost use Rattle.piecrag_c_voices.specs.Book.{isMalformed, FromBook};
-
-fn is_malformed(a: ReadAnswer) -> bool
-    ensures { λ r. ⌜ ((d : SynthDef) → r ≡ isMalformed (readOf a d)) ⌝ }
-{
-    match a {
-        ReadAnswer::Definition => false,
-        ReadAnswer::Malformed(_) => true,
-        ReadAnswer::Limits => false,
-    }
-}
+ghost use Rattle.piecrag_c_voices.specs.Book.{SpawnFromBook};
 
 // A managed spawn; `voice` becomes the id of the new voice.
 #[no_mangle]
@@ -46,12 +36,12 @@ pub extern "C" fn piecrag_spawn_voice_on_bus_panned_managed(
     rank: u32,
     voice: &mut u64,
 ) -> u32
-    ensures { λ k. ⌜ ((m : Memory) → FromBook (readBook (now (book .entry))) (λ d. call.spawnManaged (spawnOf d (record { 0 = bus }) pan rank)) (lentSpawn (stateIn (now (state .entry))) (now (nodes .entry)) (now (edges .entry)) (now (voices .entry)) (now (steals .entry)) m) (now (state .entry)) (now (voice .entry)) k (lentSpawn (stateIn (now (state .exit))) (now (nodes .exit)) (now (edges .exit)) (now (voices .exit)) (now (steals .exit)) m) (now (state .exit)) (now (voice .exit))) ⌝ }
+    ensures { λ k. ⌜ ((m : Memory) → SpawnFromBook (readBook (now (book .entry))) (λ d. call.spawnManaged (spawnOf d (record { 0 = bus }) pan rank)) (lentSpawn (stateIn (now (state .entry))) (now (nodes .entry)) (now (edges .entry)) (now (voices .entry)) (now (steals .entry)) m) (now (state .entry)) (now (voice .entry)) k (lentSpawn (stateIn (now (state .exit))) (now (nodes .exit)) (now (edges .exit)) (now (voices .exit)) (now (steals .exit)) m) (now (state .exit)) (now (voice .exit))) ⌝ }
 {
     let b = read_book(book);
     let read = b.answer;
     if is_malformed(read) {
-        return 18;
+        return MALFORMED_BOOK;
     }
     let s = state_in(state);
     let def = b.def;
@@ -84,28 +74,20 @@ pub extern "C" fn piecrag_spawn_voice_on_bus_managed(
     rank: u32,
     voice: &mut u64,
 ) -> u32
-    ensures { λ k. ⌜ ((m : Memory) → FromBook (readBook (now (book .entry))) (λ d. call.spawnManaged (spawnOf d (record { 0 = bus }) middle rank)) (lentSpawn (stateIn (now (state .entry))) (now (nodes .entry)) (now (edges .entry)) (now (voices .entry)) (now (steals .entry)) m) (now (state .entry)) (now (voice .entry)) k (lentSpawn (stateIn (now (state .exit))) (now (nodes .exit)) (now (edges .exit)) (now (voices .exit)) (now (steals .exit)) m) (now (state .exit)) (now (voice .exit))) ⌝ }
+    ensures { λ k. ⌜ ((m : Memory) → SpawnFromBook (readBook (now (book .entry))) (λ d. call.spawnManaged (spawnOf d (record { 0 = bus }) middle rank)) (lentSpawn (stateIn (now (state .entry))) (now (nodes .entry)) (now (edges .entry)) (now (voices .entry)) (now (steals .entry)) m) (now (state .entry)) (now (voice .entry)) k (lentSpawn (stateIn (now (state .exit))) (now (nodes .exit)) (now (edges .exit)) (now (voices .exit)) (now (steals .exit)) m) (now (state .exit)) (now (voice .exit))) ⌝ }
 {
-    let b = read_book(book);
-    let read = b.answer;
-    if is_malformed(read) {
-        return 18;
-    }
-    let s = state_in(state);
-    let def = b.def;
-    let r = piecrag::spawn_voice_on_bus_managed(
-        s,
+    piecrag_spawn_voice_on_bus_panned_managed(
+        state,
         nodes,
         edges,
         voices,
         steals,
-        def,
-        NodeId(bus),
+        book,
+        bus,
+        0.0,
         rank,
-    );
-    let answer = r.answer;
-    *voice = voice_cell(answer, *voice);
-    settle(state, r.state, spawn_kept(answer), spawn_code(answer))
+        voice,
+    )
 }
 
 // An unmanaged spawn: the new voice is loose.
@@ -122,12 +104,12 @@ pub extern "C" fn piecrag_spawn_voice_on_bus_panned(
     rank: u32,
     voice: &mut u64,
 ) -> u32
-    ensures { λ k. ⌜ ((m : Memory) → FromBook (readBook (now (book .entry))) (λ d. call.spawnLoose (spawnOf d (record { 0 = bus }) pan rank)) (lentSpawn (stateIn (now (state .entry))) (now (nodes .entry)) (now (edges .entry)) (now (voices .entry)) (now (steals .entry)) m) (now (state .entry)) (now (voice .entry)) k (lentSpawn (stateIn (now (state .exit))) (now (nodes .exit)) (now (edges .exit)) (now (voices .exit)) (now (steals .exit)) m) (now (state .exit)) (now (voice .exit))) ⌝ }
+    ensures { λ k. ⌜ ((m : Memory) → SpawnFromBook (readBook (now (book .entry))) (λ d. call.spawnLoose (spawnOf d (record { 0 = bus }) pan rank)) (lentSpawn (stateIn (now (state .entry))) (now (nodes .entry)) (now (edges .entry)) (now (voices .entry)) (now (steals .entry)) m) (now (state .entry)) (now (voice .entry)) k (lentSpawn (stateIn (now (state .exit))) (now (nodes .exit)) (now (edges .exit)) (now (voices .exit)) (now (steals .exit)) m) (now (state .exit)) (now (voice .exit))) ⌝ }
 {
     let b = read_book(book);
     let read = b.answer;
     if is_malformed(read) {
-        return 18;
+        return MALFORMED_BOOK;
     }
     let s = state_in(state);
     let def = b.def;
@@ -160,17 +142,18 @@ pub extern "C" fn piecrag_spawn_voice_on_bus(
     rank: u32,
     voice: &mut u64,
 ) -> u32
-    ensures { λ k. ⌜ ((m : Memory) → FromBook (readBook (now (book .entry))) (λ d. call.spawnLoose (spawnOf d (record { 0 = bus }) middle rank)) (lentSpawn (stateIn (now (state .entry))) (now (nodes .entry)) (now (edges .entry)) (now (voices .entry)) (now (steals .entry)) m) (now (state .entry)) (now (voice .entry)) k (lentSpawn (stateIn (now (state .exit))) (now (nodes .exit)) (now (edges .exit)) (now (voices .exit)) (now (steals .exit)) m) (now (state .exit)) (now (voice .exit))) ⌝ }
+    ensures { λ k. ⌜ ((m : Memory) → SpawnFromBook (readBook (now (book .entry))) (λ d. call.spawnLoose (spawnOf d (record { 0 = bus }) middle rank)) (lentSpawn (stateIn (now (state .entry))) (now (nodes .entry)) (now (edges .entry)) (now (voices .entry)) (now (steals .entry)) m) (now (state .entry)) (now (voice .entry)) k (lentSpawn (stateIn (now (state .exit))) (now (nodes .exit)) (now (edges .exit)) (now (voices .exit)) (now (steals .exit)) m) (now (state .exit)) (now (voice .exit))) ⌝ }
 {
-    let b = read_book(book);
-    let read = b.answer;
-    if is_malformed(read) {
-        return 18;
-    }
-    let s = state_in(state);
-    let def = b.def;
-    let r = piecrag::spawn_voice_on_bus(s, nodes, edges, voices, steals, def, NodeId(bus), rank);
-    let answer = r.answer;
-    *voice = voice_cell(answer, *voice);
-    settle(state, r.state, spawn_kept(answer), spawn_code(answer))
+    piecrag_spawn_voice_on_bus_panned(
+        state,
+        nodes,
+        edges,
+        voices,
+        steals,
+        book,
+        bus,
+        0.0,
+        rank,
+        voice,
+    )
 }

@@ -21,7 +21,7 @@ fn joined(lo: u32, hi: u32) -> u64
     (lo as u64) + (hi as u64) * 4294967296
 }
 
-fn sized(lo: u32, hi: u32) -> usize
+pub fn sized(lo: u32, hi: u32) -> usize
     ensures { λ r. ⌜ r ≡ longFrom lo hi ⌝ }
 {
     (lo as usize) + (hi as usize) * 4294967296
@@ -39,13 +39,13 @@ fn high(x: u64) -> u32
     (x / 4294967296) as u32
 }
 
-fn low_of(x: usize) -> u32
+pub fn low_of(x: usize) -> u32
     ensures { λ r. ⌜ r ≡ x % 4294967296 ⌝ }
 {
     (x % 4294967296) as u32
 }
 
-fn high_of(x: usize) -> u32
+pub fn high_of(x: usize) -> u32
     ensures { λ r. ⌜ r ≡ x / 4294967296 ⌝ }
 {
     (x / 4294967296) as u32

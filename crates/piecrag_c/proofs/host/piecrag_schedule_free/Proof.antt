@@ -7,7 +7,7 @@ use Rattle.model.specs.Call as call
 use Rattle.memory.specs.Lent.{lentEvents}
 use Rattle.memory.specs.Called.{answered}
 use Rattle.c_answer.proofs.Exporting.{exported}
-use Rattle.node.specs.declared.order.Action.the-variants as action
+use Rattle.node.specs.declared.order.EventAction.the-variants as action
 use Rattle.piecrag_c.proofs.host.piecrag_schedule_free.Statement.{statement}
 use Rattle.piecrag_c.proofs.host.piecrag_schedule_free.Tie as tie
 

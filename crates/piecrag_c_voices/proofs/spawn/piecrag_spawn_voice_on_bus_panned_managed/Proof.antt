@@ -10,7 +10,7 @@ use Rattle.memory.specs.Lent.{lentSpawn}
 use Rattle.state_words.specs.State.{stateIn}
 use Rattle.c_answer.specs.Exported.{voiceCell}
 use Rattle.c_answer.proofs.Exporting.{exported, tells}
-use Rattle.piecrag_c_voices.specs.Book.{isMalformed}
+use Rattle.c_answer.specs.Book.{isMalformed}
 use Rattle.piecrag_c_voices.proofs.Booked.{unread, booked}
 use Rattle.piecrag_c_voices.proofs.spawn.piecrag_spawn_voice_on_bus_panned_managed.Statement.{statement}
 use Rattle.piecrag_c_voices.proofs.spawn.piecrag_spawn_voice_on_bus_panned_managed.Tie as tie

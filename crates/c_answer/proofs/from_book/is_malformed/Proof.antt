@@ -4,9 +4,9 @@ use mathlib.Core.List.{List}
 use mathlib.Core.Bool.{Bool, true, false}
 use borrow.Author.Needs.{needs}
 use Rattle.def_book.specs.Read.{readOf}
-use Rattle.piecrag_c_voices.specs.Book.{isMalformed}
-use Rattle.piecrag_c_voices.proofs.spawn.is_malformed.Statement.{statement}
-use Rattle.piecrag_c_voices.proofs.spawn.is_malformed.Tie as tie
+use Rattle.c_answer.specs.Book.{isMalformed}
+use Rattle.c_answer.proofs.from_book.is_malformed.Statement.{statement}
+use Rattle.c_answer.proofs.from_book.is_malformed.Tie as tie
 
 enum-told : tie.Need-enum-told
 enum-told c = search needs

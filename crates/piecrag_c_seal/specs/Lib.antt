@@ -1,0 +1,3 @@
+pub mod Board
+pub mod Book
+pub mod Stated
