@@ -1,5 +1,7 @@
 //! Times the store's calls, some beside the Rust's, and measures their stack: `bench [REPETITIONS]`, a median of so many.
 
+mod book;
+mod c;
 mod calls;
 mod forms;
 mod rust;

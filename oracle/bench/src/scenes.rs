@@ -1,7 +1,9 @@
 //! Stores to make calls on, at 48 kHz with blocks of 128 samples. Node 0 is the sink, and the bus of the voices. A call that
 //! builds a scene must be done.
 
-use crate::store::*;
+use crate::book::{OF_6, OF_7, OF_8, OF_24};
+use crate::c;
+use crate::store::{Store, make};
 use crate::time::{lap, median, timed};
 
 pub const OLDEST: u32 = 1;
@@ -24,11 +26,11 @@ fn done(answer: u32) {
     assert_eq!(answer, 0, "a call that builds a scene is refused");
 }
 
-/// A store with node 0, in memory that is not empty.
-fn bus(budget: usize, policy: u32, ports: u32) -> Box<Store> {
+/// A new store, in memory that is not empty.
+fn new(budget: usize, policy: u32, table: u32) -> Box<Store> {
     const ANY: u32 = 0xeeee_eeee;
     let mut s = Box::new(Store {
-        state: [ANY; 24],
+        state: [ANY; 32],
         nodes: [ANY; 11264],
         edges: [ANY; 3072],
         order: [ANY; 512],
@@ -36,67 +38,58 @@ fn bus(budget: usize, policy: u32, ports: u32) -> Box<Store> {
         events: [ANY; 3840],
         steals: [ANY; 320],
     });
-    done(piecrag_make(&mut s.state, budget, policy));
-    done(piecrag_add_node(&mut s.state, &mut s.nodes, ports));
-    done(piecrag_set_sink(&mut s.state, &s.nodes, 0));
+    done(make(&mut s.state, budget, policy, table));
+    s
+}
+
+/// A store for fades and sums; with the fade table where `table` is not 0.
+pub fn mixer(table: u32) -> Box<Store> {
+    new(64, OLDEST, table)
+}
+
+/// A store with node 0.
+fn bus(budget: usize, policy: u32, ports: u32) -> Box<Store> {
+    let mut s = new(budget, policy, 0);
+    done(s.add_node(ports));
+    done(s.set_sink(0));
     s
 }
 
 fn more_nodes(s: &mut Store, n: u32, ports: u32) {
     for _ in 0..n {
-        done(piecrag_add_node(&mut s.state, &mut s.nodes, ports));
+        done(s.add_node(ports));
     }
-}
-
-pub fn connect(s: &mut Store, from: u32, to: u32, port: u32) -> u32 {
-    piecrag_connect(&mut s.state, &s.nodes, &mut s.edges, from, to, port)
 }
 
 /// `n` edges from node 1: 64 of them to node 2, 64 to node 3, and so on.
 fn more_edges(s: &mut Store, n: u32) {
     for i in 0..n {
-        done(connect(s, 1, 2 + i / 64, i % 64));
+        done(s.connect(1, 2 + i / 64, i % 64));
     }
 }
 
 /// Node 1 takes the ports of node 0 from `first` to `end`.
 fn take_ports(s: &mut Store, first: u32, end: u32) {
     for port in first..end {
-        done(connect(s, 1, 0, port));
+        done(s.connect(1, 0, port));
     }
 }
 
-pub fn spawn(s: &mut Store, size: u32) -> u32 {
-    piecrag_spawn_managed(&mut s.state, &mut s.nodes, &mut s.edges, &mut s.voices, &mut s.steals, size)
-}
-
-fn more_voices(s: &mut Store, size: u32, n: u32) {
+fn more_voices(s: &mut Store, book: &[u8], n: u32) {
     for id in 1..=n {
-        assert_eq!(spawn(s, size), id, "a voice of the scene is refused");
+        assert_eq!(s.spawn(book), id, "a voice of the scene is refused");
     }
-}
-
-pub fn prepare(s: &mut Store) -> u32 {
-    piecrag_prepare(&mut s.state, &s.nodes, &s.edges, &mut s.order)
-}
-
-pub fn render(s: &mut Store) -> u32 {
-    piecrag_render(&mut s.state, &mut s.nodes, &mut s.edges, &mut s.order, &mut s.voices, &mut s.events)
-}
-
-pub fn clear(s: &mut Store) -> u32 {
-    piecrag_free_done_synths(&mut s.state, &mut s.nodes, &mut s.edges, &mut s.voices)
 }
 
 fn sounded(s: &mut Store) {
-    done(prepare(s));
-    assert_eq!(render(s), 1, "the scene sounds");
+    done(s.prepare());
+    assert_eq!(s.render(), 1, "the scene sounds");
 }
 
 /// The nodes below `end` report a block, and that they are done. A node that a fade added reports nothing: its report is refused.
 fn all_done(s: &mut Store, end: u32) {
     for node in 0..end {
-        piecrag_report(&s.state, &mut s.nodes, &s.voices, node, &[0.25; 128]);
+        s.report(node, &[0.25; 128]);
     }
 }
 
@@ -105,7 +98,7 @@ fn held(voices: u32, policy: u32) -> Box<Store> {
     let mut s = bus(voices as usize, policy, 64);
     more_nodes(&mut s, 60, 64);
     more_edges(&mut s, 560);
-    more_voices(&mut s, 7, voices);
+    more_voices(&mut s, &OF_7, voices);
     sounded(&mut s);
     s
 }
@@ -135,7 +128,7 @@ pub fn all_faded() -> Box<Store> {
     let mut s = bus(1, OLDEST, 64);
     more_nodes(&mut s, 50, 64);
     more_edges(&mut s, 500);
-    more_voices(&mut s, 6, 64);
+    more_voices(&mut s, &OF_6, 64);
     sounded(&mut s);
     sounded(&mut s);
     all_done(&mut s, 498);
@@ -147,7 +140,7 @@ pub fn full_budget_of_largest() -> Box<Store> {
     let mut s = bus(19, QUIETEST, 64);
     more_nodes(&mut s, 28, 64);
     more_edges(&mut s, 41);
-    more_voices(&mut s, 24, 19);
+    more_voices(&mut s, &OF_24, 19);
     sounded(&mut s);
     all_done(&mut s, 485);
     s
@@ -162,7 +155,7 @@ pub fn full_events(kind: Kind) -> Box<Store> {
             Kind::Free => i + 1,
             _ => i % 64 + 1,
         };
-        done(piecrag_schedule(&mut s.state, &mut s.events, i / 64, voice, kind as u32));
+        done(s.schedule(i / 64, voice, kind));
     }
     s
 }
@@ -171,7 +164,7 @@ pub fn full_events(kind: Kind) -> Box<Store> {
 pub fn room_for_an_event() -> Box<Store> {
     let mut s = full_voices();
     for i in 0..255 {
-        done(piecrag_schedule(&mut s.state, &mut s.events, 1 + i / 64, i % 64 + 1, 0));
+        done(s.schedule(1 + i / 64, i % 64 + 1, Kind::Value));
     }
     s
 }
@@ -191,7 +184,7 @@ fn put_edge(s: &mut Store, i: u32) {
         511..1021 => (i - 511, 2),
         _ => (i - 1021, 3),
     };
-    done(connect(s, from, from + step, step - 1));
+    done(s.connect(from, from + step, step - 1));
 }
 
 /// 512 nodes of 8 ports and 1,024 edges.
@@ -215,7 +208,7 @@ pub fn prepares(rounds: u32) -> (u32, f64) {
     let (mut sum, mut times) = (0, Vec::new());
     for i in 0..rounds {
         put_edge(&mut s, i % 1024);
-        let (answer, time) = lap(|| prepare(&mut s));
+        let (answer, time) = lap(|| s.prepare());
         times.push(time);
         sum = add(sum, answer);
     }
@@ -225,13 +218,13 @@ pub fn prepares(rounds: u32) -> (u32, f64) {
 /// Notes of an 8-node definition at budget 32 on a bus of 64 ports: each a managed spawn, a prepare, a render and a clearing.
 pub fn notes(rounds: u32) -> (u32, f64) {
     let mut s = bus(32, OLDEST, 64);
-    more_voices(&mut s, 8, 32);
+    more_voices(&mut s, &OF_8, 32);
     let (sum, time) = timed(rounds, || {
         (0..rounds).fold(0, |sum, _| {
-            let id = spawn(&mut s, 8);
-            done(prepare(&mut s));
-            let sounding = render(&mut s);
-            let removed = clear(&mut s);
+            let id = s.spawn(&OF_8);
+            done(s.prepare());
+            let sounding = s.render();
+            let removed = s.clear();
             add(add(add(sum, id), sounding), removed)
         })
     });
@@ -244,6 +237,6 @@ pub fn ports(ports: u32, rounds: u32) -> (u32, f64) {
     more_nodes(&mut s, 60, 64);
     more_edges(&mut s, 1024 - ports);
     take_ports(&mut s, 0, ports);
-    let count = s.edge_count();
-    timed(rounds, || (0..rounds).fold(0, |sum, _| add(sum, piecrag_free_port(&s.edges, count, 0, ports))))
+    let count = s.edge_count() as usize;
+    timed(rounds, || (0..rounds).fold(0, |sum, _| add(sum, c::piecrag_free_port(&s.edges, count, 0, ports))))
 }

@@ -1,7 +1,10 @@
-//! A store in memory that this program lends: the state and the six tables in 32-bit words. The calls are those that the
-//! crate `timing` exports; `crates/timing/src` says what each makes. Each answers a number.
+//! A store in memory that this program lends: the state and the six tables in 32-bit words. The calls are those of the library for C
+//! (host/piecrag.h); each function here lends what its call asks for, and answers one number.
 
-pub type State = [u32; 24];
+use crate::c;
+use crate::scenes::Kind;
+
+pub type State = [u32; 32];
 pub type Nodes = [u32; 11264];
 pub type Edges = [u32; 3072];
 pub type Order = [u32; 512];
@@ -20,129 +23,359 @@ pub struct Store {
     pub steals: Steals,
 }
 
+
+const NAME: &[u8] = b"amp";
+const LINEAR: u32 = 1;
+const RAW: u32 = 0;
+
+/// The number of a refusal, so that it differs from every id and count.
+fn or_refusal(answer: u32, told: u32) -> u32 {
+    if answer == 0 { told } else { 65_536 + answer }
+}
+
+/// At 48 kHz with blocks of 128 samples and a budget; with the fade table where `table` is not 0.
+pub fn make(state: &mut State, budget: usize, policy: u32, table: u32) -> u32 {
+    c::piecrag_make(state, 48_000.0, 128, 1, budget, policy, 0, table)
+}
+
 impl Store {
-    /// How many edges count.
-    pub fn edge_count(&self) -> usize {
-        self.state[8] as usize
+    pub fn add_node(&mut self, ports: u32) -> u32 {
+        let (kind, mut node) = (b"Host", 0);
+        // SAFETY: the name is lent with its length.
+        unsafe {
+            c::piecrag_add_node(
+                &mut self.state,
+                &mut self.nodes,
+                kind.as_ptr(),
+                kind.len(),
+                ports,
+                0,
+                0,
+                0,
+                &mut node,
+            )
+        }
+    }
+
+    pub fn remove_node(&mut self, node: u32) -> u32 {
+        c::piecrag_remove_node(&mut self.state, &mut self.nodes, &mut self.edges, node)
+    }
+
+    pub fn connect(&mut self, from: u32, to: u32, port: u32) -> u32 {
+        c::piecrag_connect(&mut self.state, &self.nodes, &mut self.edges, from, to, port)
+    }
+
+    pub fn disconnect(&mut self, to: u32, port: u32) -> u32 {
+        c::piecrag_disconnect(&mut self.state, &self.nodes, &mut self.edges, to, port)
+    }
+
+    pub fn set_sink(&mut self, node: u32) -> u32 {
+        c::piecrag_set_sink(&mut self.state, &self.nodes, node)
+    }
+
+    pub fn prepare(&mut self) -> u32 {
+        c::piecrag_prepare(&mut self.state, &self.nodes, &self.edges, &mut self.order)
+    }
+
+    /// An event for the parameter `amp`.
+    pub fn schedule(&mut self, time: u64, voice: u64, kind: Kind) -> u32 {
+        let (state, events, name, length) = (&mut self.state, &mut self.events, NAME.as_ptr(), NAME.len());
+        // SAFETY: the name is lent with its length.
+        unsafe {
+            match kind {
+                Kind::Value => c::piecrag_schedule_value(state, events, time, voice, name, length, 0.5),
+                Kind::Glide => {
+                    c::piecrag_schedule_glide(state, events, time, voice, name, length, 0.5, 0.25, LINEAR, 0.0, RAW)
+                }
+                Kind::Free => c::piecrag_schedule_free(state, events, time, voice, name, length),
+            }
+        }
+    }
+
+    /// A managed spawn of the book on node 0: the id of the new voice, or a refusal.
+    pub fn spawn(&mut self, book: &[u8]) -> u32 {
+        let mut voice = 0;
+        // SAFETY: the book is lent with its length.
+        let answer = unsafe {
+            c::piecrag_spawn_voice_on_bus_managed(
+                &mut self.state,
+                &mut self.nodes,
+                &mut self.edges,
+                &mut self.voices,
+                &mut self.steals,
+                book.as_ptr(),
+                book.len(),
+                0,
+                0,
+                &mut voice,
+            )
+        };
+        or_refusal(answer, voice as u32)
+    }
+
+    /// The same, panned, and not managed.
+    pub fn spawn_panned(&mut self, book: &[u8]) -> u32 {
+        let mut voice = 0;
+        // SAFETY: the book is lent with its length.
+        let answer = unsafe {
+            c::piecrag_spawn_voice_on_bus_panned(
+                &mut self.state,
+                &mut self.nodes,
+                &mut self.edges,
+                &mut self.voices,
+                &mut self.steals,
+                book.as_ptr(),
+                book.len(),
+                0,
+                0.5,
+                0,
+                &mut voice,
+            )
+        };
+        or_refusal(answer, voice as u32)
+    }
+
+    pub fn free_voice(&mut self, voice: u64) -> u32 {
+        c::piecrag_free_voice(&mut self.state, &mut self.nodes, &mut self.edges, &mut self.voices, voice)
+    }
+
+    /// How many voices the clearing removed.
+    pub fn clear(&mut self) -> u32 {
+        let mut removed = 0;
+        let answer = c::piecrag_free_done_synths(
+            &mut self.state,
+            &mut self.nodes,
+            &mut self.edges,
+            &mut self.voices,
+            &mut removed,
+        );
+        or_refusal(answer, removed as u32)
+    }
+
+    pub fn set_voice_param(&mut self, voice: u64, value: f32) -> u32 {
+        // SAFETY: the name is lent with its length.
+        unsafe {
+            c::piecrag_set_voice_param(
+                &self.state,
+                &mut self.nodes,
+                &self.voices,
+                voice,
+                NAME.as_ptr(),
+                NAME.len(),
+                value,
+            )
+        }
+    }
+
+    pub fn set_voice_param_glide(&mut self, voice: u64, target: f32) -> u32 {
+        // SAFETY: the name is lent with its length.
+        unsafe {
+            c::piecrag_set_voice_param_glide(
+                &self.state,
+                &mut self.nodes,
+                &self.voices,
+                voice,
+                NAME.as_ptr(),
+                NAME.len(),
+                target,
+                0.25,
+                LINEAR,
+                0.0,
+                RAW,
+            )
+        }
+    }
+
+    /// A block of one channel, and that the node is done.
+    pub fn report(&mut self, node: u32, samples: &[f32; 128]) -> u32 {
+        // SAFETY: the samples are lent with their count.
+        unsafe { c::piecrag_report(&self.state, &mut self.nodes, &self.voices, node, 1, samples.as_ptr(), 128, 1) }
+    }
+
+    /// 1 if the block sounds.
+    pub fn render(&mut self) -> u32 {
+        let (mut outcomes, mut sounding, mut taken) = ([0; 256], 0, 0);
+        // SAFETY: the list is lent with its length.
+        let answer = unsafe {
+            c::piecrag_render(
+                &mut self.state,
+                &mut self.nodes,
+                &mut self.edges,
+                &mut self.order,
+                &mut self.voices,
+                &mut self.events,
+                outcomes.as_mut_ptr(),
+                outcomes.len(),
+                &mut sounding,
+                &mut taken,
+            )
+        };
+        or_refusal(answer, sounding)
+    }
+
+    pub fn clock(&self) -> u32 {
+        let mut clock = 0;
+        or_refusal(c::piecrag_clock(&self.state, &mut clock), clock as u32)
+    }
+
+    pub fn voice_count(&self) -> u32 {
+        let mut count = 0;
+        or_refusal(c::piecrag_voices(&self.state, &self.voices, &mut count), count as u32)
+    }
+
+    pub fn edge_count(&self) -> u32 {
+        let mut count = 0;
+        or_refusal(c::piecrag_edges(&self.state, &self.edges, &mut count), count as u32)
+    }
+
+    pub fn order_length(&self) -> u32 {
+        let mut count = 0;
+        or_refusal(c::piecrag_processing_order(&self.state, &self.order, &mut count), count as u32)
     }
 
     /// The processing order.
     pub fn ordered(&self) -> &[u32] {
-        &self.order[..self.state[9] as usize]
+        &self.order[..self.order_length() as usize]
     }
-}
 
-unsafe extern "C" {
-    pub safe fn piecrag_fade_floats(
-        input: &[f32; 256],
-        gains: &[f32; 240],
+    pub fn edge_at(&self, place: usize) -> u32 {
+        let (mut found, mut row) = (0, [0; 3]);
+        or_refusal(c::piecrag_edge_at(&self.state, &self.edges, place, &mut found, &mut row), found)
+    }
+
+    pub fn voice_level(&self, voice: u64) -> u32 {
+        let (mut known, mut level) = (0, 0.0);
+        or_refusal(
+            c::piecrag_voice_level(&self.state, &self.nodes, &self.voices, voice, &mut known, &mut level),
+            known,
+        )
+    }
+
+    pub fn fade_position(&self, voice: u64) -> u32 {
+        let (mut fading, mut position) = (0, 0);
+        or_refusal(
+            c::piecrag_fade_position(&self.state, &self.voices, voice, &mut fading, &mut position),
+            fading,
+        )
+    }
+
+    pub fn voice(&self, voice: u64) -> u32 {
+        let (mut found, mut row) = (0, [0; 143]);
+        or_refusal(c::piecrag_voice(&self.state, &self.voices, voice, &mut found, &mut row), found)
+    }
+
+    pub fn voice_at(&self, place: usize) -> u32 {
+        let (mut found, mut row) = (0, [0; 143]);
+        or_refusal(c::piecrag_voice_at(&self.state, &self.voices, place, &mut found, &mut row), found)
+    }
+
+    pub fn node_record(&self, node: u32) -> u32 {
+        let (mut found, mut row) = (0, [0; 22]);
+        or_refusal(c::piecrag_node_record(&self.state, &self.nodes, node, &mut found, &mut row), found)
+    }
+
+    /// Of how many steals the record is held.
+    pub fn steals(&self) -> u32 {
+        let (mut total, mut held) = (0, 0);
+        or_refusal(c::piecrag_steals(&self.state, &self.steals, &mut total, &mut held), held as u32)
+    }
+
+    /// What feeds the port.
+    pub fn source(&self, node: u32, port: u32) -> u32 {
+        let (mut fed, mut from) = (0, 0);
+        or_refusal(c::piecrag_source(&self.state, &self.edges, node, port, &mut fed, &mut from), from)
+    }
+
+    /// How long the page is.
+    pub fn page(&self, out: &mut [u8]) -> u32 {
+        let mut length = 0;
+        // SAFETY: the buffer is lent with its length.
+        let answer = unsafe {
+            c::piecrag_page(&self.state, &self.edges, &self.voices, out.as_mut_ptr(), out.len(), &mut length)
+        };
+        or_refusal(answer, length as u32)
+    }
+
+    /// A block in a fade, of so many channels in and out.
+    pub fn fade_output(&self, channels: usize, input: &[f32], gains: &[f32], position: u64, out: &mut [f32]) -> u32 {
+        let state = &self.state;
+        // SAFETY: each block is lent with its length.
+        unsafe {
+            c::piecrag_fade_output(
+                state,
+                input.as_ptr(),
+                input.len(),
+                channels,
+                gains.as_ptr(),
+                gains.len(),
+                position,
+                out.as_mut_ptr(),
+                out.len(),
+                channels,
+            )
+        }
+    }
+
+    /// The same in whole numbers.
+    pub fn whole_fade_output(
+        &self,
+        channels: usize,
+        input: &[i32],
+        gains: &[u32],
         position: u64,
-        out: &mut [f32; 256],
-        table: u32,
-    ) -> u32;
-    pub safe fn piecrag_fade_whole(
-        input: &[i32; 256],
-        gains: &[u32; 240],
-        position: u64,
-        out: &mut [i32; 256],
-        table: u32,
-    ) -> u32;
-    pub safe fn piecrag_sum_floats(inputs: &[f32; 16384], counts: &[usize; 64], out: &mut [f32; 256]) -> u32;
-    pub safe fn piecrag_sum_whole(inputs: &[i32; 16384], counts: &[usize; 64], out: &mut [i32; 256]) -> u32;
-    pub safe fn piecrag_make(state: &mut State, budget: usize, policy: u32) -> u32;
-    pub safe fn piecrag_add_node(state: &mut State, nodes: &mut Nodes, ports: u32) -> u32;
-    pub safe fn piecrag_remove_node(state: &mut State, nodes: &mut Nodes, edges: &mut Edges, node: u32) -> u32;
-    pub safe fn piecrag_connect(
-        state: &mut State,
-        nodes: &Nodes,
-        edges: &mut Edges,
-        from: u32,
-        to: u32,
-        port: u32,
-    ) -> u32;
-    pub safe fn piecrag_disconnect(state: &mut State, nodes: &Nodes, edges: &mut Edges, to: u32, port: u32) -> u32;
-    pub safe fn piecrag_set_sink(state: &mut State, nodes: &Nodes, node: u32) -> u32;
-    pub safe fn piecrag_prepare(state: &mut State, nodes: &Nodes, edges: &Edges, order: &mut Order) -> u32;
-    pub safe fn piecrag_schedule(state: &mut State, events: &mut Events, time: u64, voice: u64, kind: u32) -> u32;
-    pub safe fn piecrag_spawn_managed(
-        state: &mut State,
-        nodes: &mut Nodes,
-        edges: &mut Edges,
-        voices: &mut Voices,
-        steals: &mut Steals,
-        size: u32,
-    ) -> u32;
-    pub safe fn piecrag_spawn_panned(
-        state: &mut State,
-        nodes: &mut Nodes,
-        edges: &mut Edges,
-        voices: &mut Voices,
-        steals: &mut Steals,
-        size: u32,
-    ) -> u32;
-    pub safe fn piecrag_free_voice(
-        state: &mut State,
-        nodes: &mut Nodes,
-        edges: &mut Edges,
-        voices: &mut Voices,
-        voice: u64,
-    ) -> u32;
-    pub safe fn piecrag_free_done_synths(
-        state: &mut State,
-        nodes: &mut Nodes,
-        edges: &mut Edges,
-        voices: &mut Voices,
-    ) -> u32;
-    pub safe fn piecrag_set_voice_param(
-        state: &State,
-        nodes: &mut Nodes,
-        voices: &Voices,
-        voice: u64,
-        value: f32,
-    ) -> u32;
-    pub safe fn piecrag_set_voice_param_glide(
-        state: &State,
-        nodes: &mut Nodes,
-        voices: &Voices,
-        voice: u64,
-        target: f32,
-    ) -> u32;
-    pub safe fn piecrag_report(
-        state: &State,
-        nodes: &mut Nodes,
-        voices: &Voices,
-        node: u32,
-        samples: &[f32; 128],
-    ) -> u32;
-    pub safe fn piecrag_render(
-        state: &mut State,
-        nodes: &mut Nodes,
-        edges: &mut Edges,
-        order: &mut Order,
-        voices: &mut Voices,
-        events: &mut Events,
-    ) -> u32;
-    pub safe fn piecrag_clock(state: &State) -> u32;
-    pub safe fn piecrag_voices(state: &State, voices: &Voices) -> u32;
-    pub safe fn piecrag_edges(state: &State, edges: &Edges) -> u32;
-    pub safe fn piecrag_processing_order(state: &State, order: &Order) -> u32;
-    pub safe fn piecrag_edge_at(state: &State, edges: &Edges, i: usize) -> u32;
-    pub safe fn piecrag_voice_level(state: &State, nodes: &Nodes, voices: &Voices, voice: u64) -> u32;
-    pub safe fn piecrag_fade_position(state: &State, voices: &Voices, voice: u64) -> u32;
-    pub safe fn piecrag_voice(state: &State, voices: &Voices, voice: u64) -> u32;
-    pub safe fn piecrag_voice_at(state: &State, voices: &Voices, i: usize) -> u32;
-    pub safe fn piecrag_node_record(state: &State, nodes: &Nodes, node: u32) -> u32;
-    pub safe fn piecrag_steals(state: &State, steals: &Steals) -> u32;
-    pub safe fn piecrag_sources(state: &State, edges: &Edges, node: u32) -> u32;
-    pub safe fn piecrag_page(state: &State, edges: &Edges, voices: &Voices, out: &mut [u8; 4501]) -> u32;
-    pub safe fn piecrag_fade_output(
-        state: &State,
-        input: &[f32; 128],
-        gains: &[f32; 240],
-        position: u64,
-        out: &mut [f32; 128],
-    ) -> u32;
-    pub safe fn piecrag_bus_sum(state: &State, inputs: &[f32; 8192], counts: &[usize; 64], out: &mut [f32; 128])
-    -> u32;
-    pub safe fn piecrag_free_port(edges: &Edges, count: usize, node: u32, ports: u32) -> u32;
+        out: &mut [i32],
+    ) -> u32 {
+        let state = &self.state;
+        // SAFETY: each block is lent with its length.
+        unsafe {
+            c::piecrag_whole_fade_output(
+                state,
+                input.as_ptr(),
+                input.len(),
+                channels,
+                gains.as_ptr(),
+                gains.len(),
+                position,
+                out.as_mut_ptr(),
+                out.len(),
+                channels,
+            )
+        }
+    }
+
+    /// The sum of a bus, of so many channels.
+    pub fn bus_sum(&self, channels: usize, inputs: &[f32], counts: &[usize], out: &mut [f32]) -> u32 {
+        let state = &self.state;
+        // SAFETY: each block is lent with its length.
+        unsafe {
+            c::piecrag_bus_sum(
+                state,
+                inputs.as_ptr(),
+                inputs.len(),
+                counts.as_ptr(),
+                counts.len(),
+                out.as_mut_ptr(),
+                out.len(),
+                channels,
+            )
+        }
+    }
+
+    /// The same in whole numbers.
+    pub fn whole_bus_sum(&self, channels: usize, inputs: &[i32], counts: &[usize], out: &mut [i32]) -> u32 {
+        let state = &self.state;
+        // SAFETY: each block is lent with its length.
+        unsafe {
+            c::piecrag_whole_bus_sum(
+                state,
+                inputs.as_ptr(),
+                inputs.len(),
+                counts.as_ptr(),
+                counts.len(),
+                out.as_mut_ptr(),
+                out.len(),
+                channels,
+            )
+        }
+    }
 }
