@@ -22,6 +22,9 @@ static uint32_t state[PIECRAG_STATE_WORDS], nodes[PIECRAG_NODE_WORDS], edges[PIE
     voices[PIECRAG_VOICE_WORDS], events[PIECRAG_EVENT_WORDS], steals[PIECRAG_STEAL_WORDS], waiting[PIECRAG_WAITING_WORDS],
     wishes[PIECRAG_WISH_WORDS];
 
+/* all 0: this board is never sealed */
+static const uint32_t seal[PIECRAG_SEAL_WORDS];
+
 static void check(int fine, const char *what)
 {
     if (fine)
@@ -204,7 +207,7 @@ static void make(void)
 static uint32_t add_node(const char *kind, uint32_t ports, uint64_t required)
 {
     uint32_t id = 0;
-    uint32_t k = piecrag_add_node(state, nodes, (const uint8_t *)kind, strlen(kind), ports, required, 0, 0, &id);
+    uint32_t k = piecrag_add_node(seal, state, nodes, (const uint8_t *)kind, strlen(kind), ports, required, 0, 0, &id);
     entry(3);
     put_name(kind);
     put(ports, 4);
@@ -222,14 +225,14 @@ static void join(uint32_t from, uint32_t to, uint32_t port)
     put(from, 4);
     put(to, 4);
     put(port, 4);
-    check(answer(piecrag_connect(state, nodes, edges, from, to, port), "done") == 0, "connecting");
+    check(answer(piecrag_connect(seal, state, nodes, edges, from, to, port), "done") == 0, "connecting");
 }
 
 static void set_sink(uint32_t node)
 {
     entry(7);
     put(node, 4);
-    check(answer(piecrag_set_sink(state, nodes, node), "done") == 0, "the sink");
+    check(answer(piecrag_set_sink(seal, state, nodes, node), "done") == 0, "the sink");
 }
 
 static void prepare(void)
@@ -249,9 +252,7 @@ static void say_spawned(uint32_t k, uint64_t voice)
 static uint32_t spawn(int stop, uint32_t bus, float pan, uint32_t rank, uint64_t *voice)
 {
     const struct stop *s = &stops[stop];
-    uint32_t k = pan == 0.0f
-        ? piecrag_spawn_voice_on_bus_managed(state, nodes, edges, voices, steals, s->book, s->length, bus, rank, voice)
-        : piecrag_spawn_voice_on_bus_panned_managed(state, nodes, edges, voices, steals, s->book, s->length, bus, pan, rank, voice);
+    uint32_t k = piecrag_spawn(seal, state, nodes, edges, voices, steals, 1, s->book, s->length, bus, pan, rank, voice);
     entry(pan == 0.0f ? 11 : 9);
     put((uint64_t)stop, 1);
     put(bus, 4);
@@ -272,7 +273,7 @@ static void wish(size_t keyboard, int stop, uint32_t bus, float pan)
     put(bus, 4);
     put(bits(pan), 4);
     put(0, 4);
-    check(answer(piecrag_wish(waiting, wishes, keyboard, 1, s->book, s->length, bus, pan, 0), "waits") == 0, "a wish");
+    check(answer(piecrag_wish(seal, waiting, wishes, keyboard, 1, s->book, s->length, bus, pan, 0), "waits") == 0, "a wish");
 }
 
 /* whether a wish waited; then its keyboard, and the new voice, or 0 where the store refused one */

@@ -8,16 +8,15 @@ type Words<const N: usize> = [u32; N];
 #[rustfmt::skip]
 extern "C" {
     fn piecrag_make_console(s: *mut u32, q: *mut u32, rate: f32, block: usize, limited: u32, budget: usize, policy: u32, scope: u32, table: u32, keyboards: usize) -> c_uint;
-    fn piecrag_wish(q: *mut u32, w: *mut u32, keyboard: usize, managed: u32, book: *const u8, len: usize, bus: u32, pan: f32, rank: u32) -> c_uint;
+    fn piecrag_wish(x: *const u32, q: *mut u32, w: *mut u32, keyboard: usize, managed: u32, book: *const u8, len: usize, bus: u32, pan: f32, rank: u32) -> c_uint;
     fn piecrag_turn(s: *mut u32, n: *mut u32, e: *mut u32, v: *mut u32, l: *mut u32, q: *mut u32, w: *const u32, keyboard: &mut usize, voice: &mut u64) -> c_uint;
     fn piecrag_keyboard_count(q: *const u32, count: &mut usize) -> c_uint;
     fn piecrag_waiting_count(q: *const u32, keyboard: usize, count: &mut usize) -> c_uint;
-    fn piecrag_add_node(s: *mut u32, n: *mut u32, kind: *const u8, len: usize, ports: u32, required: u64, values: u32, glides: u32, node: &mut u32) -> c_uint;
-    fn piecrag_connect(s: *mut u32, n: *const u32, e: *mut u32, from: u32, to: u32, port: u32) -> c_uint;
-    fn piecrag_set_sink(s: *mut u32, n: *const u32, node: u32) -> c_uint;
+    fn piecrag_add_node(x: *const u32, s: *mut u32, n: *mut u32, kind: *const u8, len: usize, ports: u32, required: u64, values: u32, glides: u32, node: &mut u32) -> c_uint;
+    fn piecrag_connect(x: *const u32, s: *mut u32, n: *const u32, e: *mut u32, from: u32, to: u32, port: u32) -> c_uint;
+    fn piecrag_set_sink(x: *const u32, s: *mut u32, n: *const u32, node: u32) -> c_uint;
     fn piecrag_prepare(s: *mut u32, n: *const u32, e: *const u32, o: *mut u32) -> c_uint;
-    fn piecrag_spawn_voice_on_bus_panned_managed(s: *mut u32, n: *mut u32, e: *mut u32, v: *mut u32, l: *mut u32, book: *const u8, len: usize, bus: u32, pan: f32, rank: u32, voice: &mut u64) -> c_uint;
-    fn piecrag_spawn_voice_on_bus_managed(s: *mut u32, n: *mut u32, e: *mut u32, v: *mut u32, l: *mut u32, book: *const u8, len: usize, bus: u32, rank: u32, voice: &mut u64) -> c_uint;
+    fn piecrag_spawn(x: *const u32, s: *mut u32, n: *mut u32, e: *mut u32, v: *mut u32, l: *mut u32, managed: u32, book: *const u8, len: usize, bus: u32, pan: f32, rank: u32, voice: &mut u64) -> c_uint;
     fn piecrag_set_voice_param(s: *const u32, n: *mut u32, v: *const u32, voice: u64, name: *const u8, len: usize, value: f32) -> c_uint;
     fn piecrag_set_voice_param_glide(s: *const u32, n: *mut u32, v: *const u32, voice: u64, name: *const u8, len: usize, target: f32, seconds: f32, shape: u32, curve: f32, space: u32) -> c_uint;
     fn piecrag_schedule_gate(s: *mut u32, w: *mut u32, time: u64, voice: u64, name: *const u8, len: usize, value: f32) -> c_uint;
@@ -35,7 +34,7 @@ extern "C" {
     fn piecrag_steal_at(s: *const u32, l: *const u32, place: usize, found: &mut u32, sample: &mut u64, known: &mut u32, level: &mut f32, cut: &mut u32) -> c_uint;
 }
 
-/// The memory of a store; the sizes are those of piecrag.h.
+/// The memory of a store; the sizes are those of piecrag.h. The seal's words stay 0: the organ is never sealed.
 struct Store {
     state: Words<32>,
     nodes: Words<11264>,
@@ -46,6 +45,7 @@ struct Store {
     steals: Words<320>,
     waiting: Words<12>,
     wishes: Words<31104>,
+    seal: Words<12>,
 }
 
 type Answer<T> = Result<T, u32>;
@@ -57,13 +57,13 @@ fn answer<T>(k: u32, x: T) -> Answer<T> {
 #[rustfmt::skip]
 impl Store {
     fn new() -> Box<Store> {
-        Box::new(Store { state: [0; _], nodes: [0; _], edges: [0; _], order: [0; _], voices: [0; _], events: [0; _], steals: [0; _], waiting: [0; _], wishes: [0; _] })
+        Box::new(Store { state: [0; _], nodes: [0; _], edges: [0; _], order: [0; _], voices: [0; _], events: [0; _], steals: [0; _], waiting: [0; _], wishes: [0; _], seal: [0; _] })
     }
     fn make(&mut self, rate: f32, block: usize, limited: u32, budget: usize, policy: u32, scope: u32, table: u32, keyboards: usize) -> Answer<()> {
         answer(unsafe { piecrag_make_console(self.state.as_mut_ptr(), self.waiting.as_mut_ptr(), rate, block, limited, budget, policy, scope, table, keyboards) }, ())
     }
     fn wish(&mut self, keyboard: usize, managed: u32, book: &[u8], bus: u32, pan: f32, rank: u32) -> Answer<()> {
-        answer(unsafe { piecrag_wish(self.waiting.as_mut_ptr(), self.wishes.as_mut_ptr(), keyboard, managed, book.as_ptr(), book.len(), bus, pan, rank) }, ())
+        answer(unsafe { piecrag_wish(self.seal.as_ptr(), self.waiting.as_mut_ptr(), self.wishes.as_mut_ptr(), keyboard, managed, book.as_ptr(), book.len(), bus, pan, rank) }, ())
     }
     /// The keyboard served, and what its spawn was answered.
     fn turn(&mut self) -> Option<(usize, Answer<u64>)> {
@@ -85,25 +85,23 @@ impl Store {
     }
     fn add_node(&mut self, kind: &[u8], ports: u32, required: u64, takes: u32) -> Answer<u32> {
         let mut id = 0;
-        let k = unsafe { piecrag_add_node(self.state.as_mut_ptr(), self.nodes.as_mut_ptr(), kind.as_ptr(), kind.len(), ports, required, takes & 1, takes & 2, &mut id) };
+        let k = unsafe { piecrag_add_node(self.seal.as_ptr(), self.state.as_mut_ptr(), self.nodes.as_mut_ptr(), kind.as_ptr(), kind.len(), ports, required, takes & 1, takes & 2, &mut id) };
         answer(k, id)
     }
     fn connect(&mut self, from: u32, to: u32, port: u32) -> Answer<()> {
-        answer(unsafe { piecrag_connect(self.state.as_mut_ptr(), self.nodes.as_ptr(), self.edges.as_mut_ptr(), from, to, port) }, ())
+        answer(unsafe { piecrag_connect(self.seal.as_ptr(), self.state.as_mut_ptr(), self.nodes.as_ptr(), self.edges.as_mut_ptr(), from, to, port) }, ())
     }
     fn set_sink(&mut self, node: u32) -> Answer<()> {
-        answer(unsafe { piecrag_set_sink(self.state.as_mut_ptr(), self.nodes.as_ptr(), node) }, ())
+        answer(unsafe { piecrag_set_sink(self.seal.as_ptr(), self.state.as_mut_ptr(), self.nodes.as_ptr(), node) }, ())
     }
     fn prepare(&mut self) -> Answer<()> {
         answer(unsafe { piecrag_prepare(self.state.as_mut_ptr(), self.nodes.as_ptr(), self.edges.as_ptr(), self.order.as_mut_ptr()) }, ())
     }
-    fn spawn(&mut self, book: &[u8], bus: u32, pan: Option<f32>, rank: u32) -> Answer<u64> {
+    /// A managed spawn.
+    fn spawn(&mut self, book: &[u8], bus: u32, pan: f32, rank: u32) -> Answer<u64> {
         let (mut id, s, n, e) = (0, self.state.as_mut_ptr(), self.nodes.as_mut_ptr(), self.edges.as_mut_ptr());
         let (v, l) = (self.voices.as_mut_ptr(), self.steals.as_mut_ptr());
-        let k = match pan {
-            Some(p) => unsafe { piecrag_spawn_voice_on_bus_panned_managed(s, n, e, v, l, book.as_ptr(), book.len(), bus, p, rank, &mut id) },
-            None => unsafe { piecrag_spawn_voice_on_bus_managed(s, n, e, v, l, book.as_ptr(), book.len(), bus, rank, &mut id) },
-        };
+        let k = unsafe { piecrag_spawn(self.seal.as_ptr(), s, n, e, v, l, 1, book.as_ptr(), book.len(), bus, pan, rank, &mut id) };
         answer(k, id)
     }
     fn set_param(&mut self, voice: u64, name: &[u8], x: f32) -> u32 {
@@ -263,7 +261,7 @@ fn play(s: &mut Script, store: &mut Store, books: &mut [Vec<u8>]) -> String {
         }
         sort @ (9 | 11) => {
             let (slot, bus) = (s.u8() as usize, s.u32());
-            let pan = (sort == 9).then(|| s.f32());
+            let pan = if sort == 9 { s.f32() } else { 0.0 };
             line(store.spawn(&books[slot], bus, pan, s.u32()), |v| format!("voice {v}"))
         }
         14 => format!("removed {}", store.clear()),

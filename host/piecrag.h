@@ -1,9 +1,10 @@
 /* piecrag.h: the voice store of an organ tone module, for a host in C or C++.
  *
- * Memory. The store is words of 32 bits that the host owns: the state and six tables, whose sizes stand below; a console with keyboards
- * has two parts more, `waiting` and `wishes`. The library has no memory of its own, allocates nothing and keeps no pointer. Any words
- * may stand in the store before piecrag_make or piecrag_make_console. Between calls the host may copy the parts, save them and read
- * the rows that are described here; only the calls may write them.
+ * Memory. The store is words of 32 bits that the host owns: the state, the seal and six tables, whose sizes stand below; a console with
+ * keyboards has two parts more, `waiting` and `wishes`. The library has no memory of its own, allocates nothing and keeps no pointer. Any
+ * words may stand in the store before piecrag_make or piecrag_make_console, but those of the seal are all 0 before the first call on a
+ * new store: no seal. Between calls the host may copy the parts, save them and read the rows that are described here; only the calls may
+ * write them.
  *
  * Arguments. Parts, cells and blocks that are lent to one call must not overlap. A pointer must be aligned for its type and must not be
  * null, that of a byte string or a block of length 0 included. What a call only reads is const. Any number is accepted for any
@@ -34,9 +35,9 @@ extern "C" {
 #define PIECRAG_VOICE_WORDS 9152
 #define PIECRAG_EVENT_WORDS 3840
 #define PIECRAG_STEAL_WORDS 320
+#define PIECRAG_SEAL_WORDS 12      /* all 0: no seal */
 #define PIECRAG_WAITING_WORDS 12   /* these two only for a console with keyboards */
 #define PIECRAG_WISH_WORDS 31104
-#define PIECRAG_SEAL_WORDS 12      /* only for a board that may be sealed */
 
 /* ---- records, in words: a row of the table of that name */
 #define PIECRAG_VOICE_RECORD_WORDS 143
@@ -159,7 +160,7 @@ extern "C" {
 #define PIECRAG_WAITING_KEYBOARDS 0 /* 64 bits: how many keyboards there are */
 #define PIECRAG_WAITING_NEXT 2      /* 64 bits: the keyboard after the last served, at first 0 */
 
-/* ==== making, the host's nodes and edges, prepare, events */
+/* ==== making */
 
 /* A new store. rate: hertz; block: samples of a block; limited: 0 for no budget, else `budget` voices may be tracked; policy, scope:
  * above; table: not 0 if fades take their gains from the fade table. Nothing is read or stored in the tables.
@@ -167,27 +168,63 @@ extern "C" {
 uint32_t piecrag_make(uint32_t *state, float rate, size_t block, uint32_t limited, size_t budget, uint32_t policy, uint32_t scope,
                       uint32_t table);
 
+/* ==== the calls that a seal may close: the host's nodes and edges, the spawn, the wish; and sealing
+ *
+ * Each takes the seal's words first and is refused by 28, before all else, where the board is sealed and the seal closes the call. Every
+ * other call is open on every board: turns, values, glides, events, frees, reports, prepares, renders, clearing, reading and blocks of
+ * sound. On a sealed board no spawn and no turn answers 7. */
+
 /* A node of the host. kind: a name; ports: up to 64; required: bit p set if port p must be connected; values, glides: flags, whether
  * it takes them. *node becomes its id.
- * Refused: 6 kind or ports; 7 512 nodes; 8 node ids used up. */
-uint32_t piecrag_add_node(uint32_t *state, uint32_t *nodes, const uint8_t *kind, size_t kind_length, uint32_t ports,
-                          uint64_t required, uint32_t values, uint32_t glides, uint32_t *node);
+ * Refused: 28 the board is sealed; 6 kind or ports; 7 512 nodes; 8 node ids used up. */
+uint32_t piecrag_add_node(const uint32_t *seal, uint32_t *state, uint32_t *nodes, const uint8_t *kind, size_t kind_length,
+                          uint32_t ports, uint64_t required, uint32_t values, uint32_t glides, uint32_t *node);
 
 /* A node of the host is removed, with its edges; if it was the sink there is none then.
- * Refused: 4 unknown node; 5 a voice's node. */
-uint32_t piecrag_remove_node(uint32_t *state, uint32_t *nodes, uint32_t *edges, uint32_t node);
+ * Refused: 28 the board is sealed; 4 unknown node; 5 a voice's node. */
+uint32_t piecrag_remove_node(const uint32_t *seal, uint32_t *state, uint32_t *nodes, uint32_t *edges, uint32_t node);
 
 /* The output of `from` feeds the port `port` of `to`, in the place of what fed it.
- * Refused: 4 unknown node; 5 a voice's node; 6 no such port; 7 1,024 edges. */
-uint32_t piecrag_connect(uint32_t *state, const uint32_t *nodes, uint32_t *edges, uint32_t from, uint32_t to, uint32_t port);
+ * Refused: 28 the board is sealed; 4 unknown node; 5 a voice's node; 6 no such port; 7 1,024 edges. */
+uint32_t piecrag_connect(const uint32_t *seal, uint32_t *state, const uint32_t *nodes, uint32_t *edges, uint32_t from, uint32_t to,
+                         uint32_t port);
 
 /* Nothing feeds the port any more.
- * Refused: 4 unknown node; 5 a voice's node; 6 no such port. */
-uint32_t piecrag_disconnect(uint32_t *state, const uint32_t *nodes, uint32_t *edges, uint32_t to, uint32_t port);
+ * Refused: 28 the board is sealed; 4 unknown node; 5 a voice's node; 6 no such port. */
+uint32_t piecrag_disconnect(const uint32_t *seal, uint32_t *state, const uint32_t *nodes, uint32_t *edges, uint32_t to, uint32_t port);
 
 /* The host hears this node.
- * Refused: 4 unknown node; 5 a voice's node. */
-uint32_t piecrag_set_sink(uint32_t *state, const uint32_t *nodes, uint32_t node);
+ * Refused: 28 the board is sealed; 4 unknown node; 5 a voice's node. */
+uint32_t piecrag_set_sink(const uint32_t *seal, uint32_t *state, const uint32_t *nodes, uint32_t node);
+
+/* A spawn: a new voice of the definition that the bytes of the book hold, on the lowest free port of the node `bus`, panned unless pan is
+ * 0. If `managed` is not 0, then at budget a voice is stolen for it, and for want of a port fades, then voices of the bus, are reclaimed;
+ * of voices those of the lowest rank first, and none whose rank is above the new one's, 0 to 7. If `managed` is 0 the new voice is loose:
+ * no budget counts it and nobody goes for it. *voice becomes its id.
+ * Refused: 28 the board is sealed, and the spawn is unmanaged or not on its bus, whatever the bytes hold; 18 the book is malformed; 28 the
+ * board is sealed, and the definition has more nodes or edges than was stated; 26 rank above 7; 9 its definition is outside the limits;
+ * 4, 5 unknown node, a voice's node; 10 bus without ports; 7 no headroom for its nodes, edges or the voice; 8 ids used up; 11 managed, at
+ * budget, and nobody may go; 12 no port, nothing left to reclaim; of an unmanaged one: no free port. */
+uint32_t piecrag_spawn(const uint32_t *seal, uint32_t *state, uint32_t *nodes, uint32_t *edges, uint32_t *voices, uint32_t *steals,
+                       uint32_t managed, const uint8_t *book, size_t book_length, uint32_t bus, float pan, uint32_t rank,
+                       uint64_t *voice);
+
+/* A wish of a keyboard, from 0, for a spawn with these arguments. It waits for its turn. The book is read and held whole; of bus, pan,
+ * rank and the definition nothing but what a seal asks is tested before the turn.
+ * Refused: 28, 18 and again 28 as piecrag_spawn; 24 no such keyboard; 25 16 wishes of that keyboard wait. */
+uint32_t piecrag_wish(const uint32_t *seal, uint32_t *waiting, uint32_t *wishes, size_t keyboard, uint32_t managed, const uint8_t *book,
+                      size_t book_length, uint32_t bus, float pan, uint32_t rank);
+
+/* The board is sealed by what its builder states: its one bus and how many ports it has, how many nodes and edges of the host there are,
+ * and the nodes and edges of the largest definition. A store without keyboards lends a `waiting` of zeros. Nothing but the seal changes.
+ * Refused: 28 it is sealed; 27 not accepted, unless ports is 2 to 31; host_nodes + (ports + 1) * (def_nodes + 3) is at most 512;
+ * host_edges + (ports + 1) * (def_edges + 4) is at most 1,024; bus is a node of the host with so many ports; the store has so many nodes
+ * and edges, no voice and no waiting wish. */
+uint32_t piecrag_seal(uint32_t *seal, const uint32_t *state, const uint32_t *nodes, const uint32_t *edges, const uint32_t *voices,
+                      const uint32_t *waiting, uint32_t bus, uint64_t ports, uint64_t host_nodes, uint64_t host_edges,
+                      uint64_t def_nodes, uint64_t def_edges);
+
+/* ==== prepare and events */
 
 /* The processing order is worked out: a render is silent until this has been done after the last change of nodes, edges or sink. The
  * ids stand in `order`; piecrag_processing_order tells how many they are.
@@ -214,30 +251,6 @@ uint32_t piecrag_schedule_free(uint32_t *state, uint32_t *events, uint64_t time,
                                size_t name_length);
 
 /* ==== voices */
-
-/* A managed spawn: a new voice of the definition that the bytes of the book hold, on the lowest free port of the node `bus`, panned
- * unless pan is 0. At budget a voice is stolen for it; for want of a port fades, then voices of the bus, are reclaimed; of voices those
- * of the lowest rank first, and none whose rank is above the new one's, 0 to 7. *voice becomes its id.
- * Refused: 18 the book is malformed; 26 rank above 7; 9 its definition is outside the limits; 4, 5 unknown node, a voice's node; 10 bus
- * without ports; 7 no headroom for its nodes, edges or the voice; 8 ids used up; 11 at budget, and nobody may go; 12 no port, nothing
- * left to reclaim. */
-uint32_t piecrag_spawn_voice_on_bus_panned_managed(uint32_t *state, uint32_t *nodes, uint32_t *edges, uint32_t *voices,
-                                                   uint32_t *steals, const uint8_t *book, size_t book_length, uint32_t bus, float pan,
-                                                   uint32_t rank, uint64_t *voice);
-
-/* The same with pan 0. */
-uint32_t piecrag_spawn_voice_on_bus_managed(uint32_t *state, uint32_t *nodes, uint32_t *edges, uint32_t *voices, uint32_t *steals,
-                                            const uint8_t *book, size_t book_length, uint32_t bus, uint32_t rank, uint64_t *voice);
-
-/* An unmanaged spawn: the new voice is loose, no budget counts it and nobody goes for it.
- * Refused: 18, 26, 9, 4, 5, 10, 7, 8 as above; 12 no free port. */
-uint32_t piecrag_spawn_voice_on_bus_panned(uint32_t *state, uint32_t *nodes, uint32_t *edges, uint32_t *voices, uint32_t *steals,
-                                           const uint8_t *book, size_t book_length, uint32_t bus, float pan, uint32_t rank,
-                                           uint64_t *voice);
-
-/* The same with pan 0. */
-uint32_t piecrag_spawn_voice_on_bus(uint32_t *state, uint32_t *nodes, uint32_t *edges, uint32_t *voices, uint32_t *steals,
-                                    const uint8_t *book, size_t book_length, uint32_t bus, uint32_t rank, uint64_t *voice);
 
 /* The voice goes, with its nodes and edges. Answers 0, or 1 no such voice; then nothing happens. */
 uint32_t piecrag_free_voice(uint32_t *state, uint32_t *nodes, uint32_t *edges, uint32_t *voices, uint64_t voice);
@@ -278,12 +291,6 @@ uint32_t piecrag_render(uint32_t *state, uint32_t *nodes, uint32_t *edges, uint3
 uint32_t piecrag_make_console(uint32_t *state, uint32_t *waiting, float rate, size_t block, uint32_t limited, size_t budget,
                               uint32_t policy, uint32_t scope, uint32_t table, size_t keyboards);
 
-/* A wish of a keyboard, from 0: a managed spawn, or an unmanaged one if `managed` is 0, of the definition that the bytes of the book
- * hold. It waits for its turn. The book is read and held whole; of bus, pan, rank and the definition nothing is tested before the turn.
- * Refused: 18 the book is malformed; 24 no such keyboard; 25 16 wishes of that keyboard wait. */
-uint32_t piecrag_wish(uint32_t *waiting, uint32_t *wishes, size_t keyboard, uint32_t managed, const uint8_t *book, size_t book_length,
-                      uint32_t bus, float pan, uint32_t rank);
-
 /* A turn: the oldest wish of the next keyboard, going round after the last served, that has one. With m keyboards a wish with k before
  * it on its own keyboard is served within (k + 1) times m turns. *keyboard becomes the keyboard served.
  * Answers 0, and *voice becomes the id of the new voice; or what the spawn was refused by: 26, 9, 4, 5, 10, 7, 8, 11, 12. The wish is
@@ -300,54 +307,6 @@ uint32_t piecrag_waiting_count(const uint32_t *waiting, size_t keyboard, size_t 
 
 /* The keyboard that the next turn serves: *found becomes 1 and *keyboard that keyboard; *found 0 if no wish waits. */
 uint32_t piecrag_next_keyboard(const uint32_t *waiting, uint32_t *found, size_t *keyboard);
-
-/* ==== the seal of the smallest board
- *
- * `seal` is words that are all 0 before the first call on a new store: no seal. A board that may be sealed is called by the forms below
- * in the place of those without `board`, which know nothing of the seal: to that the host must keep. What has no such form is open on
- * every board: turns, values, glides, events, frees, reports, prepares, renders, clearing, reading and blocks of sound. On a sealed board
- * no spawn and no turn answers 7. */
-
-/* The board is sealed by what its builder states: its one bus and how many ports it has, how many nodes and edges of the host there are,
- * and the nodes and edges of the largest definition. A store without keyboards lends a `waiting` of zeros. Nothing but the seal changes.
- * Refused: 28 it is sealed; 27 not accepted, unless ports is 2 to 31; host_nodes + (ports + 1) * (def_nodes + 3) is at most 512;
- * host_edges + (ports + 1) * (def_edges + 4) is at most 1,024; bus is a node of the host with so many ports; the store has so many nodes
- * and edges, no voice and no waiting wish. */
-uint32_t piecrag_seal(uint32_t *seal, const uint32_t *state, const uint32_t *nodes, const uint32_t *edges, const uint32_t *voices,
-                      const uint32_t *waiting, uint32_t bus, uint64_t ports, uint64_t host_nodes, uint64_t host_edges,
-                      uint64_t def_nodes, uint64_t def_edges);
-
-/* The host's nodes, edges and sink, as the calls without `board`. Refused: 28 the board is sealed; then as those. */
-uint32_t piecrag_board_add_node(const uint32_t *seal, uint32_t *state, uint32_t *nodes, const uint8_t *kind, size_t kind_length,
-                                uint32_t ports, uint64_t required, uint32_t values, uint32_t glides, uint32_t *node);
-uint32_t piecrag_board_remove_node(const uint32_t *seal, uint32_t *state, uint32_t *nodes, uint32_t *edges, uint32_t node);
-uint32_t piecrag_board_connect(const uint32_t *seal, uint32_t *state, const uint32_t *nodes, uint32_t *edges, uint32_t from, uint32_t to,
-                               uint32_t port);
-uint32_t piecrag_board_disconnect(const uint32_t *seal, uint32_t *state, const uint32_t *nodes, uint32_t *edges, uint32_t to,
-                                  uint32_t port);
-uint32_t piecrag_board_set_sink(const uint32_t *seal, uint32_t *state, const uint32_t *nodes, uint32_t node);
-
-/* Managed spawns, as the calls without `board`. The book is read before the board is asked.
- * Refused: 18 the book is malformed; 28 the board is sealed, and this is not its bus or the definition has more nodes or edges than was
- * stated; then as those. */
-uint32_t piecrag_board_spawn_voice_on_bus_panned_managed(const uint32_t *seal, uint32_t *state, uint32_t *nodes, uint32_t *edges,
-                                                         uint32_t *voices, uint32_t *steals, const uint8_t *book, size_t book_length,
-                                                         uint32_t bus, float pan, uint32_t rank, uint64_t *voice);
-uint32_t piecrag_board_spawn_voice_on_bus_managed(const uint32_t *seal, uint32_t *state, uint32_t *nodes, uint32_t *edges,
-                                                  uint32_t *voices, uint32_t *steals, const uint8_t *book, size_t book_length,
-                                                  uint32_t bus, uint32_t rank, uint64_t *voice);
-
-/* Unmanaged spawns. Refused: 18 the book is malformed; 28 the board is sealed; then as the calls without `board`. */
-uint32_t piecrag_board_spawn_voice_on_bus_panned(const uint32_t *seal, uint32_t *state, uint32_t *nodes, uint32_t *edges,
-                                                 uint32_t *voices, uint32_t *steals, const uint8_t *book, size_t book_length,
-                                                 uint32_t bus, float pan, uint32_t rank, uint64_t *voice);
-uint32_t piecrag_board_spawn_voice_on_bus(const uint32_t *seal, uint32_t *state, uint32_t *nodes, uint32_t *edges, uint32_t *voices,
-                                          uint32_t *steals, const uint8_t *book, size_t book_length, uint32_t bus, uint32_t rank,
-                                          uint64_t *voice);
-
-/* A wish. Refused: 18 the book is malformed; 28 the board is sealed, and the spawn that it is for is closed; then as piecrag_wish. */
-uint32_t piecrag_board_wish(const uint32_t *seal, uint32_t *waiting, uint32_t *wishes, size_t keyboard, uint32_t managed,
-                            const uint8_t *book, size_t book_length, uint32_t bus, float pan, uint32_t rank);
 
 /* ==== reading. These change nothing but the lent cells and blocks; where there is nothing to tell, a cell stays as it was */
 

@@ -112,6 +112,8 @@ static void random_words(void)
     for (p = 0; p < PARTS; p++)
         for (i = 0; i < words[p]; i++)
             at[p][i] = number();
+    if (any() % 4)
+        memset(at[SEAL], 0, part[SEAL].bytes);
 }
 
 /* ---- books: a good one, one with a few bytes changed, or any bytes */
@@ -201,21 +203,19 @@ static void small_samples(int32_t *x, size_t n)
 #define H at[WISHES]
 #define X at[SEAL]
 
+/* 44 calls, of which the spawn has two sorts */
+enum { MANAGED = 42, UNMANAGED, WISH, CALLS };
+
 static uint32_t host_call(uint32_t which)
 {
     size_t n;
     const uint8_t *b = name(&n);
     switch (which) {
     case 0: return piecrag_make(S, any() % 3 ? 48000.0f : real(), any() % 3 ? 128 : number(), any() % 3, any() % 3 ? any() % 9 : number(), number(), number(), any() % 2);
-    case 1: return piecrag_add_node(S, N, b, n, number(), any() % 4 ? 0 : wide(), any() % 2, any() % 2, filled(4));
-    case 2: return piecrag_remove_node(S, N, E, number());
-    case 3: return piecrag_connect(S, N, E, number(), number(), number());
-    case 4: return piecrag_disconnect(S, N, E, number(), number());
-    case 5: return piecrag_set_sink(S, N, number());
-    case 6: return piecrag_prepare(S, N, E, O);
-    case 7: return piecrag_schedule_value(S, W, wide(), wide(), b, n, real());
-    case 8: return piecrag_schedule_glide(S, W, wide(), wide(), b, n, real(), real(), number(), real(), number());
-    case 9: return piecrag_schedule_gate(S, W, wide(), wide(), b, n, real());
+    case 1: return piecrag_prepare(S, N, E, O);
+    case 2: return piecrag_schedule_value(S, W, wide(), wide(), b, n, real());
+    case 3: return piecrag_schedule_glide(S, W, wide(), wide(), b, n, real(), real(), number(), real(), number());
+    case 4: return piecrag_schedule_gate(S, W, wide(), wide(), b, n, real());
     default: return piecrag_schedule_free(S, W, wide(), wide(), b, n);
     }
 }
@@ -223,17 +223,13 @@ static uint32_t host_call(uint32_t which)
 static uint32_t voice_call(uint32_t which)
 {
     size_t n, m, channels;
-    const uint8_t *b = which < 15 ? book(&n) : name(&n);
+    const uint8_t *b = name(&n);
     switch (which) {
-    case 11: return piecrag_spawn_voice_on_bus_panned_managed(S, N, E, V, L, b, n, number(), real(), any() % 9, filled(8));
-    case 12: return piecrag_spawn_voice_on_bus_managed(S, N, E, V, L, b, n, number(), any() % 9, filled(8));
-    case 13: return piecrag_spawn_voice_on_bus_panned(S, N, E, V, L, b, n, number(), real(), any() % 9, filled(8));
-    case 14: return piecrag_spawn_voice_on_bus(S, N, E, V, L, b, n, number(), any() % 9, filled(8));
-    case 15: return piecrag_free_voice(S, N, E, V, wide());
-    case 16: return piecrag_free_done_synths(S, N, E, V, filled(8));
-    case 17: return piecrag_set_voice_param(S, N, V, wide(), b, n, real());
-    case 18: return piecrag_set_voice_param_glide(S, N, V, wide(), b, n, real(), real(), number(), real(), number());
-    case 19: {
+    case 6: return piecrag_free_voice(S, N, E, V, wide());
+    case 7: return piecrag_free_done_synths(S, N, E, V, filled(8));
+    case 8: return piecrag_set_voice_param(S, N, V, wide(), b, n, real());
+    case 9: return piecrag_set_voice_param_glide(S, N, V, wide(), b, n, real(), real(), number(), real(), number());
+    case 10: {
         const float *x = samples(&m, &channels, 2);
         return piecrag_report(S, N, V, number(), channels, x, m, any() % 2);
     }
@@ -247,20 +243,20 @@ static uint32_t read_call(uint32_t which)
 {
     size_t n;
     switch (which) {
-    case 21: return piecrag_voice_level(S, N, V, wide(), filled(4), filled(4));
-    case 22: return piecrag_fade_position(S, V, wide(), filled(4), filled(8));
-    case 23: return piecrag_voice(S, V, wide(), filled(4), filled(PIECRAG_VOICE_RECORD_WORDS * 4));
-    case 24: return piecrag_voice_at(S, V, wide(), filled(4), filled(PIECRAG_VOICE_RECORD_WORDS * 4));
-    case 25: return piecrag_node_record(S, N, number(), filled(4), filled(PIECRAG_NODE_RECORD_WORDS * 4));
-    case 26: return piecrag_voices(S, V, filled(8));
-    case 27: return piecrag_edges(S, E, filled(8));
-    case 28: return piecrag_processing_order(S, O, filled(8));
-    case 29: return piecrag_edge_at(S, E, wide(), filled(4), filled(PIECRAG_EDGE_RECORD_WORDS * 4));
-    case 30: return piecrag_source(S, E, number(), number(), filled(4), filled(4));
-    case 31: return piecrag_clock(S, filled(8));
-    case 32: return piecrag_steals(S, L, filled(8), filled(8));
-    case 33: return piecrag_steal_at(S, L, number(), filled(4), filled(8), filled(4), filled(4), filled(4));
-    case 34: return piecrag_busiest_steals(S, L, wide(), filled(8), filled(8));
+    case 12: return piecrag_voice_level(S, N, V, wide(), filled(4), filled(4));
+    case 13: return piecrag_fade_position(S, V, wide(), filled(4), filled(8));
+    case 14: return piecrag_voice(S, V, wide(), filled(4), filled(PIECRAG_VOICE_RECORD_WORDS * 4));
+    case 15: return piecrag_voice_at(S, V, wide(), filled(4), filled(PIECRAG_VOICE_RECORD_WORDS * 4));
+    case 16: return piecrag_node_record(S, N, number(), filled(4), filled(PIECRAG_NODE_RECORD_WORDS * 4));
+    case 17: return piecrag_voices(S, V, filled(8));
+    case 18: return piecrag_edges(S, E, filled(8));
+    case 19: return piecrag_processing_order(S, O, filled(8));
+    case 20: return piecrag_edge_at(S, E, wide(), filled(4), filled(PIECRAG_EDGE_RECORD_WORDS * 4));
+    case 21: return piecrag_source(S, E, number(), number(), filled(4), filled(4));
+    case 22: return piecrag_clock(S, filled(8));
+    case 23: return piecrag_steals(S, L, filled(8), filled(8));
+    case 24: return piecrag_steal_at(S, L, number(), filled(4), filled(8), filled(4), filled(4), filled(4));
+    case 25: return piecrag_busiest_steals(S, L, wide(), filled(8), filled(8));
     default:
         n = any() % 2 ? any() % 5000 : any() % 300;
         return piecrag_page(S, E, V, filled(n), n, filled(8));
@@ -290,15 +286,15 @@ static uint32_t mix_call(uint32_t which)
     size_t *c;
     int32_t *x;
     uint32_t *gains;
-    if (which == 36) {
+    if (which == 27) {
         const float *in = samples(&n, &ins, 2);
         return piecrag_fade_output(S, in, n, ins, filled(g * 4), g, wide(), out, m, outs);
     }
-    if (which == 37) {
+    if (which == 28) {
         c = inputs(&counts, &n);
         return piecrag_bus_sum(S, filled(n * 4), n, c, counts, out, m, outs);
     }
-    if (which == 38) {
+    if (which == 29) {
         x = (int32_t *)(void *)samples(&n, &ins, 2);
         small_samples(x, n);
         gains = filled(g * 4);
@@ -319,14 +315,11 @@ static size_t keyboard(void)
 
 static uint32_t console_call(uint32_t which)
 {
-    size_t n;
-    const uint8_t *b = book(&n);
     switch (which) {
-    case 40: return piecrag_make_console(S, Q, any() % 3 ? 48000.0f : real(), any() % 3 ? 128 : number(), any() % 3, any() % 3 ? any() % 9 : number(), number(), number(), any() % 2, keyboard());
-    case 41: return piecrag_wish(Q, H, keyboard(), any() % 4, b, n, number(), real(), any() % 9);
-    case 42: return piecrag_turn(S, N, E, V, L, Q, H, filled(8), filled(8));
-    case 43: return piecrag_keyboard_count(Q, filled(8));
-    case 44: return piecrag_waiting_count(Q, keyboard(), filled(8));
+    case 31: return piecrag_make_console(S, Q, any() % 3 ? 48000.0f : real(), any() % 3 ? 128 : number(), any() % 3, any() % 3 ? any() % 9 : number(), number(), number(), any() % 2, keyboard());
+    case 32: return piecrag_turn(S, N, E, V, L, Q, H, filled(8), filled(8));
+    case 33: return piecrag_keyboard_count(Q, filled(8));
+    case 34: return piecrag_waiting_count(Q, keyboard(), filled(8));
     default: return piecrag_next_keyboard(Q, filled(4), filled(8));
     }
 }
@@ -341,35 +334,33 @@ static uint32_t seal(void)
     return piecrag_seal(X, S, N, E, V, Q, N[PIECRAG_NODE_ID], N[PIECRAG_NODE_PORTS], 4, n, any() % 6, any() % 6);
 }
 
+/* the calls that a seal may close; the spawn is of two sorts */
 static uint32_t board_call(uint32_t which)
 {
     size_t n;
-    const uint8_t *b = which < 52 ? name(&n) : book(&n);
+    const uint8_t *b = which < 42 ? name(&n) : book(&n);
     uint32_t bus = any() % 2 ? number() : N[PIECRAG_NODE_ID];
     switch (which) {
-    case 46: return seal();
-    case 47: return piecrag_board_add_node(X, S, N, b, n, number(), any() % 4 ? 0 : wide(), any() % 2, any() % 2, filled(4));
-    case 48: return piecrag_board_remove_node(X, S, N, E, number());
-    case 49: return piecrag_board_connect(X, S, N, E, number(), number(), number());
-    case 50: return piecrag_board_disconnect(X, S, N, E, number(), number());
-    case 51: return piecrag_board_set_sink(X, S, N, number());
-    case 52: return piecrag_board_spawn_voice_on_bus_panned_managed(X, S, N, E, V, L, b, n, bus, real(), any() % 9, filled(8));
-    case 53: return piecrag_board_spawn_voice_on_bus_managed(X, S, N, E, V, L, b, n, bus, any() % 9, filled(8));
-    case 54: return piecrag_board_spawn_voice_on_bus_panned(X, S, N, E, V, L, b, n, bus, real(), any() % 9, filled(8));
-    case 55: return piecrag_board_spawn_voice_on_bus(X, S, N, E, V, L, b, n, bus, any() % 9, filled(8));
-    default: return piecrag_board_wish(X, Q, H, keyboard(), any() % 4, b, n, bus, real(), any() % 9);
+    case 36: return seal();
+    case 37: return piecrag_add_node(X, S, N, b, n, number(), any() % 4 ? 0 : wide(), any() % 2, any() % 2, filled(4));
+    case 38: return piecrag_remove_node(X, S, N, E, number());
+    case 39: return piecrag_connect(X, S, N, E, number(), number(), number());
+    case 40: return piecrag_disconnect(X, S, N, E, number(), number());
+    case 41: return piecrag_set_sink(X, S, N, number());
+    case MANAGED: return piecrag_spawn(X, S, N, E, V, L, 1 + any() % 3, b, n, bus, real(), any() % 9, filled(8));
+    case UNMANAGED: return piecrag_spawn(X, S, N, E, V, L, 0, b, n, bus, real(), any() % 9, filled(8));
+    default: return piecrag_wish(X, Q, H, keyboard(), any() % 4, b, n, bus, real(), any() % 9);
     }
 }
 
-#define CALLS 57
 static uint32_t call(uint32_t which)
 {
     used = 0;
-    if (which < 21)
-        return which < 11 ? host_call(which) : voice_call(which);
-    if (which < 40)
-        return which < 36 ? read_call(which) : mix_call(which);
-    return which < 46 ? console_call(which) : board_call(which);
+    if (which < 12)
+        return which < 6 ? host_call(which) : voice_call(which);
+    if (which < 31)
+        return which < 27 ? read_call(which) : mix_call(which);
+    return which < 36 ? console_call(which) : board_call(which);
 }
 
 /* what a call may answer, bit by bit; an empty turn has the last bit */
@@ -383,34 +374,29 @@ static uint32_t bit_of(uint32_t k)
 
 static uint32_t allowed(uint32_t which)
 {
-    const uint32_t spawn = BIT(0) | BIT(18) | BIT(9) | BIT(4) | BIT(5) | BIT(10) | BIT(7) | BIT(8) | BIT(12) | BIT(26);
+    const uint32_t spawn = BIT(0) | BIT(28) | BIT(18) | BIT(9) | BIT(4) | BIT(5) | BIT(10) | BIT(7) | BIT(8) | BIT(12) | BIT(26);
     switch (which) {
     case 0: return BIT(0) | BIT(1) | BIT(2) | BIT(3) | BIT(20);
-    case 1: return BIT(0) | BIT(6) | BIT(7) | BIT(8);
-    case 2: case 5: return BIT(0) | BIT(4) | BIT(5);
-    case 3: return BIT(0) | BIT(4) | BIT(5) | BIT(6) | BIT(7);
-    case 4: return BIT(0) | BIT(4) | BIT(5) | BIT(6);
-    case 6: return BIT(0) | BIT(13) | BIT(14);
-    case 7: case 8: case 9: case 10: return BIT(0) | BIT(7);
-    case 11: case 12: return spawn | BIT(11);
-    case 13: case 14: return spawn;
-    case 15: return BIT(0) | BIT(1);
-    case 17: case 18: return BIT(0) | BIT(1) | BIT(2) | BIT(3);
-    case 19: return BIT(0) | BIT(4) | BIT(16);
-    case 20: return BIT(0) | BIT(13) | BIT(14) | BIT(15) | BIT(17);
-    case 34: return BIT(0) | BIT(22) | BIT(23);
-    case 35: return BIT(0) | BIT(17);
-    case 36: case 37: return BIT(0) | BIT(16);
-    case 38: case 39: return BIT(0) | BIT(16) | BIT(21);
-    case 40: return BIT(0) | BIT(1) | BIT(2) | BIT(3) | BIT(20) | BIT(24);
-    case 41: return BIT(0) | BIT(18) | BIT(24) | BIT(25);
-    case 42: return (spawn & ~BIT(18)) | BIT(11) | BIT(EMPTY);
-    case 46: return BIT(0) | BIT(27) | BIT(28);
-    case 47: case 48: case 49: case 50: return allowed(which - 46) | BIT(28);
-    case 51: return allowed(5) | BIT(28);
-    case 52: case 53: return spawn | BIT(11) | BIT(28);
-    case 54: case 55: return spawn | BIT(28);
-    case 56: return allowed(41) | BIT(28);
+    case 1: return BIT(0) | BIT(13) | BIT(14);
+    case 2: case 3: case 4: case 5: return BIT(0) | BIT(7);
+    case 6: return BIT(0) | BIT(1);
+    case 8: case 9: return BIT(0) | BIT(1) | BIT(2) | BIT(3);
+    case 10: return BIT(0) | BIT(4) | BIT(16);
+    case 11: return BIT(0) | BIT(13) | BIT(14) | BIT(15) | BIT(17);
+    case 25: return BIT(0) | BIT(22) | BIT(23);
+    case 26: return BIT(0) | BIT(17);
+    case 27: case 28: return BIT(0) | BIT(16);
+    case 29: case 30: return BIT(0) | BIT(16) | BIT(21);
+    case 31: return BIT(0) | BIT(1) | BIT(2) | BIT(3) | BIT(20) | BIT(24);
+    case 32: return (spawn & ~(BIT(18) | BIT(28))) | BIT(11) | BIT(EMPTY);
+    case 36: return BIT(0) | BIT(27) | BIT(28);
+    case 37: return BIT(0) | BIT(28) | BIT(6) | BIT(7) | BIT(8);
+    case 38: case 41: return BIT(0) | BIT(28) | BIT(4) | BIT(5);
+    case 39: return BIT(0) | BIT(28) | BIT(4) | BIT(5) | BIT(6) | BIT(7);
+    case 40: return BIT(0) | BIT(28) | BIT(4) | BIT(5) | BIT(6);
+    case MANAGED: return spawn | BIT(11);
+    case UNMANAGED: return spawn;
+    case WISH: return BIT(0) | BIT(28) | BIT(18) | BIT(24) | BIT(25);
     default: return BIT(0);
     }
 }
@@ -419,12 +405,12 @@ static uint32_t allowed(uint32_t which)
 static void console(void)
 {
     uint32_t id, i;
+    memset(X, 0, PIECRAG_SEAL_WORDS * 4);
     piecrag_make_console(S, Q, 48000.0f, 128, any() % 2, any() % 9, any() % 4, any() % 2, any() % 2, 1 + any() % 8);
     for (i = 0; i < 4; i++)
-        piecrag_add_node(S, N, (const uint8_t *)"Bus", 3, 1 + any() % 9, 0, 0, 0, &id);
-    piecrag_set_sink(S, N, 0);
-    memset(X, 0, PIECRAG_SEAL_WORDS * 4);
-    if (any() % 2)
+        piecrag_add_node(X, S, N, (const uint8_t *)"Bus", 3, 1 + any() % 9, 0, 0, 0, &id);
+    piecrag_set_sink(X, S, N, 0);
+    if (any() % 4 == 0)
         seal();
 }
 
@@ -451,11 +437,13 @@ static void refresh(unsigned long i)
     }
 }
 
-/* making is rare: it empties the store */
+/* making is rare: it empties the store; so is sealing: it closes the board. Spawns are frequent */
 static uint32_t chosen(void)
 {
-    uint32_t which = any() % CALLS;
-    return which == 0 && any() % 20 ? 11 + any() % 2 : which == 40 && any() % 20 ? 41 : which;
+    uint32_t which = any() % (CALLS + 6);
+    if (which >= CALLS || ((which == 0 || which == 36) && any() % 20))
+        return any() % 2 ? MANAGED : UNMANAGED;
+    return which == 31 && any() % 20 ? WISH : which;
 }
 
 static void *work(void *unused)

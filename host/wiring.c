@@ -6,9 +6,12 @@
 static uint32_t state[PIECRAG_STATE_WORDS], nodes[PIECRAG_NODE_WORDS], edges[PIECRAG_EDGE_WORDS], order[PIECRAG_ORDER_WORDS],
     events[PIECRAG_EVENT_WORDS];
 
+/* all 0: the console is never sealed */
+static const uint32_t seal[PIECRAG_SEAL_WORDS];
+
 static uint32_t add(const char *kind, uint32_t ports, uint64_t required)
 {
-    uint32_t id = 99, k = piecrag_add_node(state, nodes, (const uint8_t *)kind, strlen(kind), ports, required, 0, 0, &id);
+    uint32_t id = 99, k = piecrag_add_node(seal, state, nodes, (const uint8_t *)kind, strlen(kind), ports, required, 0, 0, &id);
     printf("add %s with %u ports: %u, node %u\n", kind, (unsigned)ports, (unsigned)k, (unsigned)id);
     return id;
 }
@@ -40,16 +43,16 @@ int main(void)
     mixer = add("Mixer", 3, 7);
     add("", 1, 0);
     add("Wide", 65, 0);
-    tell("great to mixer", piecrag_connect(state, nodes, edges, great, mixer, 0));
-    tell("swell to mixer", piecrag_connect(state, nodes, edges, swell, mixer, 1));
+    tell("great to mixer", piecrag_connect(seal, state, nodes, edges, great, mixer, 0));
+    tell("swell to mixer", piecrag_connect(seal, state, nodes, edges, swell, mixer, 1));
     tell("prepare without the pedal", piecrag_prepare(state, nodes, edges, order));
-    tell("pedal to port 3", piecrag_connect(state, nodes, edges, pedal, mixer, 3));
-    tell("pedal to mixer", piecrag_connect(state, nodes, edges, pedal, mixer, 2));
-    tell("mixer to great", piecrag_connect(state, nodes, edges, mixer, great, 0));
+    tell("pedal to port 3", piecrag_connect(seal, state, nodes, edges, pedal, mixer, 3));
+    tell("pedal to mixer", piecrag_connect(seal, state, nodes, edges, pedal, mixer, 2));
+    tell("mixer to great", piecrag_connect(seal, state, nodes, edges, mixer, great, 0));
     tell("prepare with a cycle", piecrag_prepare(state, nodes, edges, order));
-    tell("great without it", piecrag_disconnect(state, nodes, edges, great, 0));
-    tell("sink", piecrag_set_sink(state, nodes, mixer));
-    tell("sink at an unknown node", piecrag_set_sink(state, nodes, 77));
+    tell("great without it", piecrag_disconnect(seal, state, nodes, edges, great, 0));
+    tell("sink", piecrag_set_sink(seal, state, nodes, mixer));
+    tell("sink at an unknown node", piecrag_set_sink(seal, state, nodes, 77));
     tell("prepare", piecrag_prepare(state, nodes, edges, order));
     for (i = 0; i < 4; i++)
         printf("order %u: node %u\n", (unsigned)i, (unsigned)order[i]);
@@ -57,8 +60,8 @@ int main(void)
     for (i = 0; i < 256 && k == 0; i++)
         k = piecrag_schedule_free(state, events, 48000 - i, i, name, 4);
     printf("releases taken: %u, then %u\n", (unsigned)(i - 1), (unsigned)k);
-    tell("remove the pedal", piecrag_remove_node(state, nodes, edges, pedal));
-    tell("remove it again", piecrag_remove_node(state, nodes, edges, pedal));
+    tell("remove the pedal", piecrag_remove_node(seal, state, nodes, edges, pedal));
+    tell("remove it again", piecrag_remove_node(seal, state, nodes, edges, pedal));
     tell("prepare without it", piecrag_prepare(state, nodes, edges, order));
     return 0;
 }

@@ -4,10 +4,10 @@ use Prim.Native.Nat.{ℕ}
 use mathlib.Core.Path.{_≡_}
 use mathlib.Core.List.{List, [], _∷_}
 use mathlib.Core.Bool.{false}
-use Rattle.model.specs.Spawn.{spawnOf, middle}
 use Rattle.model.specs.Call as call
 use Rattle.memory.specs.View.{Memory}
 use Rattle.memory.specs.Lent.{lentNodes, lentGraph, lentVoices, lentSpawn}
+use Rattle.console.specs.Wishes.{callOf}
 use Rattle.console.specs.Console.{ConsoleCall, ConsoleAnswer}
 use Rattle.console.specs.Console as console
 use Rattle.call_console.specs.declared.queues.WishState.{WishState}
@@ -24,10 +24,7 @@ use Rattle.call_seal.proofs.host.remove_node.Reads as fn-remove-node
 use Rattle.call_seal.proofs.host.connect.Reads as fn-connect
 use Rattle.call_seal.proofs.host.disconnect.Reads as fn-disconnect
 use Rattle.call_seal.proofs.host.set_sink.Reads as fn-set-sink
-use Rattle.call_seal.proofs.spawn.spawn_voice_on_bus_panned_managed.Reads as fn-spawn-panned-managed
-use Rattle.call_seal.proofs.spawn.spawn_voice_on_bus_panned.Reads as fn-spawn-panned
-use Rattle.call_seal.proofs.spawn.spawn_voice_on_bus_managed.Reads as fn-spawn-managed
-use Rattle.call_seal.proofs.spawn.spawn_voice_on_bus.Reads as fn-spawn
+use Rattle.call_seal.proofs.spawn.spawn.Reads as fn-spawn
 use Rattle.call_seal.proofs.wishing.wish.Reads as fn-wish
 
 -- this call on this board answers so and leaves that board
@@ -43,15 +40,9 @@ pub data Contract : BoardCall → BoardMemory → BoardAnswer → BoardMemory �
       → Contract (onStore (call.disconnect (a .1 .1 .1 .1 .0) (a .1 .1 .1 .1 .1 .0))) (board (lentGraph (a .1 .0) (a .1 .1 .0 .now) (a .1 .1 .1 .0 .now) m) w words (a .0)) (hostAnswer (r .answer)) (board (lentGraph (r .state) (a .1 .1 .0 .now) (s .1 .1 .1 .0 .now) m) w words (a .0))
   set-sink : (κs : _) (a : _) (r : _) (s : _) → fn-set-sink.Post κs a r s → (m : Memory) (w : WishState) (words : List ℕ)
       → Contract (onStore (call.setSink (a .1 .1 .1 .0))) (board (lentNodes (a .1 .0) (a .1 .1 .0 .now) m) w words (a .0)) (hostAnswer (r .answer)) (board (lentNodes (r .state) (a .1 .1 .0 .now) m) w words (a .0))
-  -- the spawns; those in the middle have pan 0
-  spawn-panned-managed : (κs : _) (a : _) (r : _) (s : _) → fn-spawn-panned-managed.Post κs a r s → (m : Memory) (w : WishState) (words : List ℕ)
-      → Contract (onStore (call.spawnManaged (spawnOf (a .1 .1 .1 .1 .1 .1 .0) (a .1 .1 .1 .1 .1 .1 .1 .0) (a .1 .1 .1 .1 .1 .1 .1 .1 .0) (a .1 .1 .1 .1 .1 .1 .1 .1 .1 .0)))) (board (lentSpawn (a .1 .0) (a .1 .1 .0 .now) (a .1 .1 .1 .0 .now) (a .1 .1 .1 .1 .0 .now) (a .1 .1 .1 .1 .1 .0 .now) m) w words (a .0)) (spawnAnswer (r .answer)) (board (lentSpawn (r .state) (s .1 .1 .0 .now) (s .1 .1 .1 .0 .now) (s .1 .1 .1 .1 .0 .now) (s .1 .1 .1 .1 .1 .0 .now) m) w words (a .0))
-  spawn-panned : (κs : _) (a : _) (r : _) (s : _) → fn-spawn-panned.Post κs a r s → (m : Memory) (w : WishState) (words : List ℕ)
-      → Contract (onStore (call.spawnLoose (spawnOf (a .1 .1 .1 .1 .1 .1 .0) (a .1 .1 .1 .1 .1 .1 .1 .0) (a .1 .1 .1 .1 .1 .1 .1 .1 .0) (a .1 .1 .1 .1 .1 .1 .1 .1 .1 .0)))) (board (lentSpawn (a .1 .0) (a .1 .1 .0 .now) (a .1 .1 .1 .0 .now) (a .1 .1 .1 .1 .0 .now) (a .1 .1 .1 .1 .1 .0 .now) m) w words (a .0)) (spawnAnswer (r .answer)) (board (lentSpawn (r .state) (s .1 .1 .0 .now) (s .1 .1 .1 .0 .now) (s .1 .1 .1 .1 .0 .now) (s .1 .1 .1 .1 .1 .0 .now) m) w words (a .0))
-  spawn-managed : (κs : _) (a : _) (r : _) (s : _) → fn-spawn-managed.Post κs a r s → (m : Memory) (w : WishState) (words : List ℕ)
-      → Contract (onStore (call.spawnManaged (spawnOf (a .1 .1 .1 .1 .1 .1 .0) (a .1 .1 .1 .1 .1 .1 .1 .0) middle (a .1 .1 .1 .1 .1 .1 .1 .1 .0)))) (board (lentSpawn (a .1 .0) (a .1 .1 .0 .now) (a .1 .1 .1 .0 .now) (a .1 .1 .1 .1 .0 .now) (a .1 .1 .1 .1 .1 .0 .now) m) w words (a .0)) (spawnAnswer (r .answer)) (board (lentSpawn (r .state) (s .1 .1 .0 .now) (s .1 .1 .1 .0 .now) (s .1 .1 .1 .1 .0 .now) (s .1 .1 .1 .1 .1 .0 .now) m) w words (a .0))
+  -- the spawn of any wish. The four spawns of 01 are the wishes that are managed or not, with a pan or with pan 0
   spawn : (κs : _) (a : _) (r : _) (s : _) → fn-spawn.Post κs a r s → (m : Memory) (w : WishState) (words : List ℕ)
-      → Contract (onStore (call.spawnLoose (spawnOf (a .1 .1 .1 .1 .1 .1 .0) (a .1 .1 .1 .1 .1 .1 .1 .0) middle (a .1 .1 .1 .1 .1 .1 .1 .1 .0)))) (board (lentSpawn (a .1 .0) (a .1 .1 .0 .now) (a .1 .1 .1 .0 .now) (a .1 .1 .1 .1 .0 .now) (a .1 .1 .1 .1 .1 .0 .now) m) w words (a .0)) (spawnAnswer (r .answer)) (board (lentSpawn (r .state) (s .1 .1 .0 .now) (s .1 .1 .1 .0 .now) (s .1 .1 .1 .1 .0 .now) (s .1 .1 .1 .1 .1 .0 .now) m) w words (a .0))
+      → Contract (onStore (callOf (a .1 .1 .1 .1 .1 .1 .0))) (board (lentSpawn (a .1 .0) (a .1 .1 .0 .now) (a .1 .1 .1 .0 .now) (a .1 .1 .1 .1 .0 .now) (a .1 .1 .1 .1 .1 .0 .now) m) w words (a .0)) (spawnAnswer (r .answer)) (board (lentSpawn (r .state) (s .1 .1 .0 .now) (s .1 .1 .1 .0 .now) (s .1 .1 .1 .1 .0 .now) (s .1 .1 .1 .1 .1 .0 .now) m) w words (a .0))
   -- a wish, and sealing
   wish : (κs : _) (a : _) (r : _) (s : _) → fn-wish.Post κs a r s → (m : Memory)
       → Contract (on (console.wish (a .1 .1 .1 .0) (a .1 .1 .1 .1 .0))) (board m (a .1 .0) (a .1 .1 .0 .now) (a .0)) (wishedAnswer (r .answer)) (board m (r .wishes) (s .1 .1 .0 .now) (a .0))

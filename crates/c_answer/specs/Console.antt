@@ -4,10 +4,7 @@ use Prim.Native.Nat.{ℕ}
 use mathlib.Core.Path.{_≡_}
 use mathlib.Core.List.{List}
 use mathlib.Core.Bool.{Bool, true, false}
-use lib.Ieee.{Float}
 use Rattle.node.specs.Refusal.{numberOf}
-use Rattle.synthdef.specs.declared.def.SynthDef.{SynthDef}
-use Rattle.console.specs.declared.wish.Wish.{Wish}
 use Rattle.console.specs.Refusal as keyboard
 use Rattle.model.specs.Numbers.{numberIn}
 use Rattle.console.specs.Console.{ConsoleCall, ConsoleAnswer, plain, accepted, refused, served, empty, consoleStep, ConsoleMade, made, refusedBy, refusedFor}
@@ -49,10 +46,6 @@ waitingKept accepted = false
 waitingKept (refused r) = true
 waitingKept (served q a) = false
 waitingKept empty = true
-
--- a wish by its numbers and the definition of its book
-abbrev pub wishFor : Bool → ℕ → Float → ℕ → SynthDef → Wish
-wishFor managed bus pan rank d = record { managed = managed; def = d; bus = record { 0 = bus }; pan = pan; rank = rank }
 
 -- ---- the contract of an export
 abbrev pub saidTo : ConsoleCall → ConsoleMemory → ConsoleAnswer

@@ -1,6 +1,4 @@
-// What the exports for a host in C share: answers as numbers and cells, arguments that are numbers, definitions that are books, and when
-// the state is written back.
+// What the exports for a host in C share: answers as numbers and cells, arguments that are numbers, and when the state is written back.
 pub mod answer;
 pub mod argument;
-pub mod from_book;
 pub mod keyboards;

@@ -3,10 +3,7 @@ use crate::queues::WishState;
 use crate::queues::drop_oldest;
 use crate::queues::next_keyboard;
 use crate::queues::oldest_wish;
-use call_spawn::spawn::Spawning;
-use call_spawn::spawn::spawn_voice_on_bus_panned;
-use call_spawn::spawn::spawn_voice_on_bus_panned_managed;
-use console::wish::Wish;
+use crate::serving::serve;
 use graph_rows::edge_row::EdgeTable;
 use graph_rows::node_row::NodeTable;
 use memory::state::State;
@@ -15,12 +12,9 @@ use store::answer::Spawned;
 use voice_rows::row::VoiceTable;
 use wish_rows::row::WishTable;
 ghost use mathlib.Core.Path.{_≡_};
-ghost use Rattle.model.specs.Call.{spawned};
-ghost use Rattle.console.specs.Wishes.{callOf};
 ghost use Rattle.console.specs.Console.{turn};
 ghost use Rattle.memory.specs.View.{Memory};
 ghost use Rattle.memory.specs.Lent.{lentSpawn};
-ghost use Rattle.memory.specs.Called as store;
 ghost use Rattle.call_console.specs.Called.{memory, turnAnswer, Called, Kept};
 
 // What a turn is answered: that no wish waited, or the keyboard that it served and the spawn's answer.
@@ -34,38 +28,6 @@ pub struct TurnResult {
     pub state: State,
     pub wishes: WishState,
     pub answer: TurnAnswer,
-}
-
-// The spawn that a wish is for.
-fn serve(
-    s: State,
-    nodes: &mut NodeTable,
-    edges: &mut EdgeTable,
-    voices: &mut VoiceTable,
-    steals: &mut StealTable,
-    w: Wish,
-) -> Spawning
-    ensures is { λ r. ⌜ ((m : Memory) → store.Called (callOf w) (lentSpawn s (now (nodes .entry)) (now (edges .entry)) (now (voices .entry)) (now (steals .entry)) m) (spawned (r .answer)) (lentSpawn (r .state) (now (nodes .exit)) (now (edges .exit)) (now (voices .exit)) (now (steals .exit)) m)) ⌝ }
-    ensures same { λ r. ⌜ ((m : Memory) → store.Kept (spawned (r .answer)) (lentSpawn s (now (nodes .entry)) (now (edges .entry)) (now (voices .entry)) (now (steals .entry)) m) (lentSpawn (r .state) (now (nodes .exit)) (now (edges .exit)) (now (voices .exit)) (now (steals .exit)) m)) ⌝ }
-{
-    let def = w.def;
-    let bus = w.bus;
-    let pan = w.pan;
-    let rank = w.rank;
-    if w.managed {
-        return spawn_voice_on_bus_panned_managed(
-            s,
-            nodes,
-            edges,
-            voices,
-            steals,
-            def,
-            bus,
-            pan,
-            rank,
-        );
-    }
-    spawn_voice_on_bus_panned(s, nodes, edges, voices, steals, def, bus, pan, rank)
 }
 
 // A turn: the oldest wish of the next keyboard, going round, that has one is served. A spawn that the store refuses is served too.

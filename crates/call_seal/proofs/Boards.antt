@@ -4,16 +4,16 @@ use native.Mathlib.Omega.{arith}
 use mathlib.Core.Path.{_≡_, refl, sym, ap, _∙_}
 use mathlib.Core.List.{List, [], _∷_}
 use mathlib.Core.Bool.{Bool, true, false, not, cond, _&&_, false≢true}
-use lib.Dec.{leb, ltb}
+use lib.Dec.{eqb, leb, ltb}
 use lib.ListN.{length, getD, drop, drop-of-length-le}
-use borrow.Author.Tests.{leb-true, leb-false, le-ltb, lt-ltb}
-use Rattle.model.specs.Spawn.{Spawn}
+use borrow.Author.Tests.{leb-true, leb-false, le-leb, le-ltb, lt-ltb}
+use Rattle.node.specs.declared.record.NodeId.{NodeId}
 use Rattle.model.specs.Call.{Call, Answer, Step}
 use Rattle.model.specs.Call as call
 use Rattle.memory.specs.View.{Memory}
 use Rattle.memory.specs.Called as store
 use Rattle.console.specs.declared.wish.Wish.{Wish}
-use Rattle.console.specs.Wishes.{spawnIn}
+use Rattle.console.specs.Wishes.{spawnIn, callOf}
 use Rattle.console.specs.Console.{ConsoleCall, ConsoleAnswer, ConsoleStep, plain, consoleStep}
 use Rattle.console.specs.Console as console
 use Rattle.call_console.specs.declared.queues.WishState.{WishState}
@@ -25,7 +25,7 @@ use Rattle.sealed.specs.declared.profile.Seal.the-variants.{Unsealed, Sealed}
 use Rattle.sealed.specs.declared.refusal.SealRefusal.the-variants.{NotAccepted, Closed}
 use Rattle.sealed.specs.Seal.{within, shuts}
 use Rattle.sealed.specs.Board.{BoardAnswer, on, seal, given, sealed, refused, closed, noneWaits, sealable, refuses, passes}
-use Rattle.call_seal.specs.Board.{sealedBy, board, boardOf, onStore, BoardCalled, BoardKept, isSealed, shutsSpawn, shutsWish}
+use Rattle.call_seal.specs.Board.{sealedBy, board, boardOf, onStore, BoardCalled, BoardKept, isSealed, shutsSpawn}
 
 -- ---- the calls
 pub shut : (x : Seal) (c : ConsoleCall) (m : ConsoleMemory) → closed x c ≡ true → BoardCalled (on c) (sealedBy m x) (refused Closed) (sealedBy m x)
@@ -62,21 +62,38 @@ pub every-seal : (x : Seal) (c : Call) (b : Bool) → ((s : Profile) → shuts s
 every-seal Unsealed c b h e = sym e
 every-seal (Sealed s) c b h e = h s ∙ sym e
 
-pub spawn-closed : (x : Seal) (p : Spawn) (b : Bool) → b ≡ shutsSpawn x (p .bus) (p .def .nodes .count) (p .def .edges .count) → closed x (console.on (call.spawnManaged p)) ≡ b
-spawn-closed Unsealed p b e = sym e
-spawn-closed (Sealed s) p b e = sym e
+-- a spawn and a wish for it: the seal closes both by one test
+pub spawn-closed : (x : Seal) (w : Wish) (b : Bool) → b ≡ shutsSpawn x (w .managed) (w .bus) (w .def .nodes .count) (w .def .edges .count) → closed x (console.on (callOf w)) ≡ b
+spawn-closed x w b e = same x ∙ sym e
+  where
+    go : (s : Profile) (t : Bool) → shuts s (cond t (call.spawnManaged (spawnIn w)) (call.spawnLoose (spawnIn w))) ≡ not (t && within s (spawnIn w))
+    go s true = refl
+    go s false = refl
 
-pub wish-closed : (x : Seal) (q : ℕ) (w : Wish) (b : Bool) → b ≡ shutsWish x (w .managed) (w .bus) (w .def .nodes .count) (w .def .edges .count) → closed x (console.wish q w) ≡ b
-wish-closed Unsealed q w b e = go (w .managed) ∙ sym e
+    same : (y : Seal) → closed y (console.on (callOf w)) ≡ shutsSpawn y (w .managed) (w .bus) (w .def .nodes .count) (w .def .edges .count)
+    same Unsealed = none (w .managed)
+      where
+        none : (t : Bool) → closed Unsealed (console.on (cond t (call.spawnManaged (spawnIn w)) (call.spawnLoose (spawnIn w)))) ≡ false
+        none true = refl
+        none false = refl
+    same (Sealed s) = go s (w .managed)
+
+pub wish-closed : (x : Seal) (q : ℕ) (w : Wish) (b : Bool) → b ≡ shutsSpawn x (w .managed) (w .bus) (w .def .nodes .count) (w .def .edges .count) → closed x (console.wish q w) ≡ b
+wish-closed Unsealed q w b e = sym e
+wish-closed (Sealed s) q w b e = sym e
+
+-- what a seal closes with no node and no edge, it closes with every definition
+pub shut-anyway : (x : Seal) (managed : Bool) (bus : NodeId) (nodes edges : ℕ) → shutsSpawn x managed bus 0 0 ≡ true → shutsSpawn x managed bus nodes edges ≡ true
+shut-anyway Unsealed managed bus nodes edges e = e
+shut-anyway (Sealed s) managed bus nodes edges e = go managed (eqb (bus .0) (s .bus .0)) e
   where
-    go : (t : Bool) → false ≡ cond t false false
-    go true = refl
-    go false = refl
-wish-closed (Sealed s) q w b e = go (w .managed) ∙ sym e
-  where
-    go : (t : Bool) → not (t && within s (spawnIn w)) ≡ cond t (not (within s (spawnIn w))) true
-    go true = refl
-    go false = refl
+    go : (t u : Bool) → not (t && (u && (leb 0 (s .«def_nodes») && leb 0 (s .«def_edges»)))) ≡ true → not (t && (u && (leb nodes (s .«def_nodes») && leb edges (s .«def_edges»)))) ≡ true
+    go false u h = refl
+    go true false h = refl
+    go true true h =
+        let d : 0 ≤ s .«def_nodes» = omega arith in
+        let f : 0 ≤ s .«def_edges» = omega arith in
+        absurd (false≢true (sym (ap (λ i. not (i && leb 0 (s .«def_edges»))) (le-leb 0 (s .«def_nodes») d) ∙ ap (λ i. not i) (le-leb 0 (s .«def_edges») f)) ∙ h))
 
 -- "not at most" is "more than"
 pub not-leb : (a b : ℕ) → ltb b a ≡ not (leb a b)

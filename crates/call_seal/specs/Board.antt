@@ -2,7 +2,7 @@
 use Prim.Native.Nat.{ℕ}
 use mathlib.Core.Path.{_≡_}
 use mathlib.Core.List.{List}
-use mathlib.Core.Bool.{Bool, true, false, not, cond, _&&_}
+use mathlib.Core.Bool.{Bool, true, false, not, _&&_}
 use lib.Dec.{eqb, leb}
 use Rattle.node.specs.declared.record.NodeId.{NodeId}
 use Rattle.model.specs.Call.{Call, spawned}
@@ -83,13 +83,10 @@ abbrev pub isSealed : Seal → Bool
 isSealed Unsealed = false
 isSealed (Sealed s) = true
 
--- "managed spawns on that bus within D and E": of so many nodes and edges as given
-abbrev pub leavesOut : Profile → NodeId → ℕ → ℕ → Bool
-leavesOut s bus nodes edges = not (eqb (bus .0) (s .bus .0) && (leb nodes (s .«def_nodes») && leb edges (s .«def_edges»)))
+-- "managed spawns on that bus within D and E", and "wishes for them": of so many nodes and edges as given
+abbrev pub leavesOut : Profile → Bool → NodeId → ℕ → ℕ → Bool
+leavesOut s managed bus nodes edges = not (managed && (eqb (bus .0) (s .bus .0) && (leb nodes (s .«def_nodes») && leb edges (s .«def_edges»))))
 
-abbrev pub shutsSpawn : Seal → NodeId → ℕ → ℕ → Bool
-shutsSpawn Unsealed bus nodes edges = false
-shutsSpawn (Sealed s) bus nodes edges = leavesOut s bus nodes edges
-
-abbrev pub shutsWish : Seal → Bool → NodeId → ℕ → ℕ → Bool
-shutsWish x managed bus nodes edges = cond managed (shutsSpawn x bus nodes edges) (isSealed x)
+abbrev pub shutsSpawn : Seal → Bool → NodeId → ℕ → ℕ → Bool
+shutsSpawn Unsealed managed bus nodes edges = false
+shutsSpawn (Sealed s) managed bus nodes edges = leavesOut s managed bus nodes edges

@@ -1,4 +1,4 @@
-use crate::closing::shuts_wish;
+use crate::closing::shuts_spawn;
 use call_console::queues::WishState;
 use call_console::wishing::WishAnswer;
 use console::wish::Wish;
@@ -27,7 +27,7 @@ pub fn wish(x: Seal, w: WishState, wishes: &mut WishTable, keyboard: usize, wish
     ensures same { λ r. ⌜ ((m : Memory) → BoardKept (wishedAnswer (r .answer)) (board m w (now (wishes .entry)) x) (board m (r .wishes) (now (wishes .exit)) x)) ⌝ }
 {
     let bus = wish.bus;
-    if shuts_wish(
+    if shuts_spawn(
         x,
         wish.managed,
         bus,

@@ -1,14 +1,10 @@
-// Making, and the host's calls: nodes, edges, the sink, prepare and scheduling.
-use c_answer::answer::add_code;
-use c_answer::answer::add_kept;
+// Making, prepare and scheduling.
 use c_answer::answer::answer_code;
 use c_answer::answer::answer_kept;
-use c_answer::answer::node_cell;
 use c_answer::answer::settle;
 use c_answer::argument::shape_in;
 use c_answer::argument::space_in;
 use node::order::EventAction;
-use node::record::NodeId;
 use node::record::VoiceId;
 use piecrag::EdgeTable;
 use piecrag::EventTable;
@@ -28,11 +24,11 @@ ghost use Rattle.model.specs.Call as call;
 ghost use Rattle.model.specs.Make.{newModel, configOf, refusalOf};
 ghost use Rattle.call_make.specs.Made.{making};
 ghost use Rattle.memory.specs.View.{Memory, modelOf};
-ghost use Rattle.memory.specs.Lent.{lentState, lentNodes, lentGraph, lentOrder, lentEvents};
-ghost use Rattle.memory.specs.Called.{answered, granted, keeps};
+ghost use Rattle.memory.specs.Lent.{lentState, lentOrder, lentEvents};
+ghost use Rattle.memory.specs.Called.{answered, keeps};
 ghost use Rattle.state_words.specs.State.{stateIn, budgetIn, policyIn, scopeIn};
 ghost use Rattle.model.specs.Numbers.{numberIn};
-ghost use Rattle.c_answer.specs.Exported.{Exported, Tells, code, nodeCell};
+ghost use Rattle.c_answer.specs.Exported.{Exported, code};
 ghost use Rattle.c_answer.specs.Argument.{shapeIn, spaceIn};
 
 // A new store, whatever stands in the words of its tables.
@@ -57,86 +53,6 @@ pub extern "C" fn piecrag_make(
     let made = piecrag::make(rate, block, most, way, among, table != 0);
     let answer = made.answer;
     settle(state, made.state, answer_kept(answer), answer_code(answer))
-}
-
-// A node of the host; `node` becomes its id.
-#[no_mangle]
-pub extern "C" fn piecrag_add_node(
-    state: &mut StateWords,
-    nodes: &mut NodeTable,
-    kind: &[u8],
-    ports: u32,
-    required: u64,
-    values: u32,
-    glides: u32,
-    node: &mut u32,
-) -> u32
-    ensures is { λ k. ⌜ ((m : Memory) → Exported (call.addNode (now (kind .entry)) ports required (isSet values) (isSet glides)) (lentNodes (stateIn (now (state .entry))) (now (nodes .entry)) m) (now (state .entry)) k (lentNodes (stateIn (now (state .exit))) (now (nodes .exit)) m) (now (state .exit))) ⌝ }
-    ensures cell { λ k. ⌜ ((m : Memory) → Tells granted (call.addNode (now (kind .entry)) ports required (isSet values) (isSet glides)) (lentNodes (stateIn (now (state .entry))) (now (nodes .entry)) m) k (λ a. now (node .exit) ≡ nodeCell a (now (node .entry)))) ⌝ }
-{
-    let s = state_in(state);
-    let r = piecrag::add_node(s, nodes, kind, ports, required, values != 0, glides != 0);
-    let given = r.given;
-    *node = node_cell(given, *node);
-    settle(state, r.state, add_kept(given), add_code(given))
-}
-
-#[no_mangle]
-pub extern "C" fn piecrag_remove_node(
-    state: &mut StateWords,
-    nodes: &mut NodeTable,
-    edges: &mut EdgeTable,
-    node: u32,
-) -> u32
-    ensures { λ k. ⌜ ((m : Memory) → Exported (call.removeNode (record { 0 = node })) (lentGraph (stateIn (now (state .entry))) (now (nodes .entry)) (now (edges .entry)) m) (now (state .entry)) k (lentGraph (stateIn (now (state .exit))) (now (nodes .exit)) (now (edges .exit)) m) (now (state .exit))) ⌝ }
-{
-    let s = state_in(state);
-    let r = piecrag::remove_node(s, nodes, edges, NodeId(node));
-    let answer = r.answer;
-    settle(state, r.state, answer_kept(answer), answer_code(answer))
-}
-
-#[no_mangle]
-pub extern "C" fn piecrag_connect(
-    state: &mut StateWords,
-    nodes: &NodeTable,
-    edges: &mut EdgeTable,
-    from: u32,
-    to: u32,
-    port: u32,
-) -> u32
-    ensures { λ k. ⌜ ((m : Memory) → Exported (call.connect (record { 0 = from }) (record { 0 = to }) port) (lentGraph (stateIn (now (state .entry))) (now (nodes .entry)) (now (edges .entry)) m) (now (state .entry)) k (lentGraph (stateIn (now (state .exit))) (now (nodes .entry)) (now (edges .exit)) m) (now (state .exit))) ⌝ }
-{
-    let s = state_in(state);
-    let r = piecrag::connect(s, nodes, edges, NodeId(from), NodeId(to), port);
-    let answer = r.answer;
-    settle(state, r.state, answer_kept(answer), answer_code(answer))
-}
-
-#[no_mangle]
-pub extern "C" fn piecrag_disconnect(
-    state: &mut StateWords,
-    nodes: &NodeTable,
-    edges: &mut EdgeTable,
-    to: u32,
-    port: u32,
-) -> u32
-    ensures { λ k. ⌜ ((m : Memory) → Exported (call.disconnect (record { 0 = to }) port) (lentGraph (stateIn (now (state .entry))) (now (nodes .entry)) (now (edges .entry)) m) (now (state .entry)) k (lentGraph (stateIn (now (state .exit))) (now (nodes .entry)) (now (edges .exit)) m) (now (state .exit))) ⌝ }
-{
-    let s = state_in(state);
-    let r = piecrag::disconnect(s, nodes, edges, NodeId(to), port);
-    let answer = r.answer;
-    settle(state, r.state, answer_kept(answer), answer_code(answer))
-}
-
-#[no_mangle]
-pub extern "C" fn piecrag_set_sink(state: &mut StateWords, nodes: &NodeTable, node: u32) -> u32
-    ensures { λ k. ⌜ ((m : Memory) → Exported (call.setSink (record { 0 = node })) (lentNodes (stateIn (now (state .entry))) (now (nodes .entry)) m) (now (state .entry)) k (lentNodes (stateIn (now (state .exit))) (now (nodes .entry)) m) (now (state .exit))) ⌝ }
-{
-    let s = state_in(state);
-    let r = piecrag::set_sink(s, nodes, NodeId(node));
-    let answer = r.answer;
-    settle(state, r.state, answer_kept(answer), answer_code(answer))
 }
 
 #[no_mangle]

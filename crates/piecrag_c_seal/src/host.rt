@@ -1,4 +1,4 @@
-// The host's nodes, wiring and sink on a board: every seal closes them.
+// The host's nodes, edges and sink: every seal closes them.
 use crate::numbers::added_cell;
 use crate::numbers::added_code;
 use crate::numbers::added_kept;
@@ -27,7 +27,7 @@ ghost use Rattle.piecrag_c_seal.specs.Board.{BoardExported, BoardTells, 
 
 // A node of the host; `node` becomes its id.
 #[no_mangle]
-pub extern "C" fn piecrag_board_add_node(
+pub extern "C" fn piecrag_add_node(
     seal: &SealWords,
     state: &mut StateWords,
     nodes: &mut NodeTable,
@@ -50,7 +50,7 @@ pub extern "C" fn piecrag_board_add_node(
 }
 
 #[no_mangle]
-pub extern "C" fn piecrag_board_remove_node(
+pub extern "C" fn piecrag_remove_node(
     seal: &SealWords,
     state: &mut StateWords,
     nodes: &mut NodeTable,
@@ -67,7 +67,7 @@ pub extern "C" fn piecrag_board_remove_node(
 }
 
 #[no_mangle]
-pub extern "C" fn piecrag_board_connect(
+pub extern "C" fn piecrag_connect(
     seal: &SealWords,
     state: &mut StateWords,
     nodes: &NodeTable,
@@ -86,7 +86,7 @@ pub extern "C" fn piecrag_board_connect(
 }
 
 #[no_mangle]
-pub extern "C" fn piecrag_board_disconnect(
+pub extern "C" fn piecrag_disconnect(
     seal: &SealWords,
     state: &mut StateWords,
     nodes: &NodeTable,
@@ -104,7 +104,7 @@ pub extern "C" fn piecrag_board_disconnect(
 }
 
 #[no_mangle]
-pub extern "C" fn piecrag_board_set_sink(
+pub extern "C" fn piecrag_set_sink(
     seal: &SealWords,
     state: &mut StateWords,
     nodes: &NodeTable,

@@ -1,8 +1,8 @@
-// A wish on a board: the seal leaves open wishes for the spawns that it leaves open.
+// A wish for a spawn, with the definition of a book. A seal leaves open wishes for the spawns that it leaves open.
+use crate::from_book::MALFORMED_BOOK;
+use crate::from_book::refuses_book;
 use crate::numbers::wished_code;
 use crate::numbers::wished_kept;
-use c_answer::from_book::MALFORMED_BOOK;
-use c_answer::from_book::is_malformed;
 use c_answer::keyboards::settle_waiting;
 use def_book::read::read_book;
 use node::record::NodeId;
@@ -15,12 +15,11 @@ use wish_state_words::waiting_in;
 ghost use Rattle.words.specs.Fields.{isSet};
 ghost use Rattle.def_book.specs.Read.{readBook};
 ghost use Rattle.memory.specs.View.{Memory};
-ghost use Rattle.c_answer.specs.Console.{wishFor};
-ghost use Rattle.piecrag_c_seal.specs.Book.{BoardWishFromBook};
+ghost use Rattle.piecrag_c_seal.specs.Book.{WishFromBook};
 
 // A keyboard's wish for a spawn, which waits for its turn.
 #[no_mangle]
-pub extern "C" fn piecrag_board_wish(
+pub extern "C" fn piecrag_wish(
     seal: &SealWords,
     waiting: &mut WaitingWords,
     wishes: &mut WishTable,
@@ -31,14 +30,14 @@ pub extern "C" fn piecrag_board_wish(
     pan: f32,
     rank: u32,
 ) -> u32
-    ensures { λ k. ⌜ ((m : Memory) → BoardWishFromBook (readBook (now (book .entry))) keyboard (wishFor (isSet managed) bus pan rank) m (now (seal .entry)) (now (waiting .entry)) (now (wishes .entry)) k (now (waiting .exit)) (now (wishes .exit))) ⌝ }
+    ensures { λ k. ⌜ ((m : Memory) → WishFromBook (readBook (now (book .entry))) keyboard (isSet managed) (record { 0 = bus }) pan rank m (now (seal .entry)) (now (waiting .entry)) (now (wishes .entry)) k (now (waiting .exit)) (now (wishes .exit))) ⌝ }
 {
+    let x = seal_in(seal);
     let b = read_book(book);
     let read = b.answer;
-    if is_malformed(read) {
+    if refuses_book(x, managed != 0, NodeId(bus), read) {
         return MALFORMED_BOOK;
     }
-    let x = seal_in(seal);
     let s = waiting_in(waiting);
     let def = b.def;
     let wish = Wish {

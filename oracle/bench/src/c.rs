@@ -1,6 +1,6 @@
 //! The calls of the library for C that are timed, as host/piecrag.h declares them.
 
-use crate::store::{Edges, Events, Nodes, Order, State, Steals, Voices};
+use crate::store::{Edges, Events, Nodes, Order, Seal, State, Steals, Voices};
 
 unsafe extern "C" {
     pub safe fn piecrag_make(
@@ -14,6 +14,7 @@ unsafe extern "C" {
         table: u32,
     ) -> u32;
     pub fn piecrag_add_node(
+        seal: &Seal,
         state: &mut State,
         nodes: &mut Nodes,
         kind: *const u8,
@@ -24,8 +25,15 @@ unsafe extern "C" {
         glides: u32,
         node: &mut u32,
     ) -> u32;
-    pub safe fn piecrag_remove_node(state: &mut State, nodes: &mut Nodes, edges: &mut Edges, node: u32) -> u32;
+    pub safe fn piecrag_remove_node(
+        seal: &Seal,
+        state: &mut State,
+        nodes: &mut Nodes,
+        edges: &mut Edges,
+        node: u32,
+    ) -> u32;
     pub safe fn piecrag_connect(
+        seal: &Seal,
         state: &mut State,
         nodes: &Nodes,
         edges: &mut Edges,
@@ -33,8 +41,15 @@ unsafe extern "C" {
         to: u32,
         port: u32,
     ) -> u32;
-    pub safe fn piecrag_disconnect(state: &mut State, nodes: &Nodes, edges: &mut Edges, to: u32, port: u32) -> u32;
-    pub safe fn piecrag_set_sink(state: &mut State, nodes: &Nodes, node: u32) -> u32;
+    pub safe fn piecrag_disconnect(
+        seal: &Seal,
+        state: &mut State,
+        nodes: &Nodes,
+        edges: &mut Edges,
+        to: u32,
+        port: u32,
+    ) -> u32;
+    pub safe fn piecrag_set_sink(seal: &Seal, state: &mut State, nodes: &Nodes, node: u32) -> u32;
     pub safe fn piecrag_prepare(state: &mut State, nodes: &Nodes, edges: &Edges, order: &mut Order) -> u32;
     pub fn piecrag_schedule_value(
         state: &mut State,
@@ -66,24 +81,14 @@ unsafe extern "C" {
         name: *const u8,
         name_length: usize,
     ) -> u32;
-    pub fn piecrag_spawn_voice_on_bus_managed(
+    pub fn piecrag_spawn(
+        seal: &Seal,
         state: &mut State,
         nodes: &mut Nodes,
         edges: &mut Edges,
         voices: &mut Voices,
         steals: &mut Steals,
-        book: *const u8,
-        book_length: usize,
-        bus: u32,
-        rank: u32,
-        voice: &mut u64,
-    ) -> u32;
-    pub fn piecrag_spawn_voice_on_bus_panned(
-        state: &mut State,
-        nodes: &mut Nodes,
-        edges: &mut Edges,
-        voices: &mut Voices,
-        steals: &mut Steals,
+        managed: u32,
         book: *const u8,
         book_length: usize,
         bus: u32,

@@ -11,6 +11,7 @@ pub type Order = [u32; 512];
 pub type Voices = [u32; 9152];
 pub type Events = [u32; 3840];
 pub type Steals = [u32; 320];
+pub type Seal = [u32; 12];
 
 #[derive(Clone)]
 pub struct Store {
@@ -25,6 +26,8 @@ pub struct Store {
 
 
 const NAME: &[u8] = b"amp";
+/// No board here is sealed.
+const UNSEALED: Seal = [0; 12];
 const LINEAR: u32 = 1;
 const RAW: u32 = 0;
 
@@ -44,6 +47,7 @@ impl Store {
         // SAFETY: the name is lent with its length.
         unsafe {
             c::piecrag_add_node(
+                &UNSEALED,
                 &mut self.state,
                 &mut self.nodes,
                 kind.as_ptr(),
@@ -58,19 +62,19 @@ impl Store {
     }
 
     pub fn remove_node(&mut self, node: u32) -> u32 {
-        c::piecrag_remove_node(&mut self.state, &mut self.nodes, &mut self.edges, node)
+        c::piecrag_remove_node(&UNSEALED, &mut self.state, &mut self.nodes, &mut self.edges, node)
     }
 
     pub fn connect(&mut self, from: u32, to: u32, port: u32) -> u32 {
-        c::piecrag_connect(&mut self.state, &self.nodes, &mut self.edges, from, to, port)
+        c::piecrag_connect(&UNSEALED, &mut self.state, &self.nodes, &mut self.edges, from, to, port)
     }
 
     pub fn disconnect(&mut self, to: u32, port: u32) -> u32 {
-        c::piecrag_disconnect(&mut self.state, &self.nodes, &mut self.edges, to, port)
+        c::piecrag_disconnect(&UNSEALED, &mut self.state, &self.nodes, &mut self.edges, to, port)
     }
 
     pub fn set_sink(&mut self, node: u32) -> u32 {
-        c::piecrag_set_sink(&mut self.state, &self.nodes, node)
+        c::piecrag_set_sink(&UNSEALED, &mut self.state, &self.nodes, node)
     }
 
     pub fn prepare(&mut self) -> u32 {
@@ -92,20 +96,22 @@ impl Store {
         }
     }
 
-    /// A managed spawn of the book on node 0: the id of the new voice, or a refusal.
-    pub fn spawn(&mut self, book: &[u8]) -> u32 {
+    fn spawn_on_bus(&mut self, managed: u32, book: &[u8], pan: f32) -> u32 {
         let mut voice = 0;
         // SAFETY: the book is lent with its length.
         let answer = unsafe {
-            c::piecrag_spawn_voice_on_bus_managed(
+            c::piecrag_spawn(
+                &UNSEALED,
                 &mut self.state,
                 &mut self.nodes,
                 &mut self.edges,
                 &mut self.voices,
                 &mut self.steals,
+                managed,
                 book.as_ptr(),
                 book.len(),
                 0,
+                pan,
                 0,
                 &mut voice,
             )
@@ -113,26 +119,14 @@ impl Store {
         or_refusal(answer, voice as u32)
     }
 
+    /// A managed spawn of the book on node 0: the id of the new voice, or a refusal.
+    pub fn spawn(&mut self, book: &[u8]) -> u32 {
+        self.spawn_on_bus(1, book, 0.0)
+    }
+
     /// The same, panned, and not managed.
     pub fn spawn_panned(&mut self, book: &[u8]) -> u32 {
-        let mut voice = 0;
-        // SAFETY: the book is lent with its length.
-        let answer = unsafe {
-            c::piecrag_spawn_voice_on_bus_panned(
-                &mut self.state,
-                &mut self.nodes,
-                &mut self.edges,
-                &mut self.voices,
-                &mut self.steals,
-                book.as_ptr(),
-                book.len(),
-                0,
-                0.5,
-                0,
-                &mut voice,
-            )
-        };
-        or_refusal(answer, voice as u32)
+        self.spawn_on_bus(0, book, 0.5)
     }
 
     pub fn free_voice(&mut self, voice: u64) -> u32 {

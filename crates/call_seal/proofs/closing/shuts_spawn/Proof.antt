@@ -20,7 +20,7 @@ returns c = search needs
 returns-2 : tie.Need-returns-2
 returns-2 c =
     let a = c .before .before .before .before .args in
-    c .leaves-out .ensures ∙ sym (ap (λ (x : Seal). shutsSpawn x (a .bus) (a .nodes) (a .edges)) (c .before .before .x .given .1))
+    c .leaves-out .ensures ∙ sym (ap (λ (x : Seal). shutsSpawn x (a .managed) (a .bus) (a .nodes) (a .edges)) (c .before .before .x .given .1))
 
 pub shuts-spawn-spec : {M : Type 1} → statement M
 shuts-spawn-spec = tie.close (tie.spec enum-told enum-known-x leaves-out-requires returns returns-2)
