@@ -129,11 +129,11 @@ fn answer(m: Mode, s: &[u8]) {
     }
 }
 
-// Answers what stands in a file or comes from standard input. An input that fills the room may go on behind it.
+// Answers what stands in a file or comes from standard input, if it is not too long. The room holds more than is taken.
 fn answer_from(m: Mode, fd: i32) {
     let mut space = input_room();
     let n = io::read_full(fd, &mut space);
-    if n == 393216 {
+    if n > 393215 {
         text(b"longer than 393215 bytes\n");
         return;
     }

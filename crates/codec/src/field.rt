@@ -1,7 +1,7 @@
 // Fields of a lent input, little-endian. A byte past the input's end is 0, so that every field can be asked for; whether the input
 // was long enough is seen by the position after its last field.
 ghost use mathlib.Core.Path.{_≡_};
-ghost use Prim.Native.Nat.{min};
+ghost use Prim.Native.Nat.{min, _≤_};
 ghost use lib.ListN.{length};
 ghost use lib.Ieee.{binary32, binary64, ofBits};
 ghost use Rattle.codec.specs.Field.{moved, little, run, fields};
@@ -106,11 +106,38 @@ pub fn words_at(s: &[u8], at: usize, out: &mut [usize])
     }
 }
 
-// Room for a whole input, and for the fields that a program lends. Each `ensures` gives the length, which lending a part asks for.
-pub fn input_room() -> [u8; 393216]
-    ensures { λ r. ⌜ 393216 ≡ length r ⌝ }
+// Where a run of lent numbers stands: how many, the first of them, and the end.
+pub struct Lent {
+    pub count: usize,
+    pub from: usize,
+    pub end: usize,
+}
+
+// A count, and that many fields of four bytes. A count of more than 2,048 has its end past the input.
+pub fn lent_at(s: &[u8], at: usize) -> Lent
+    ensures { λ r. ⌜ r .count ≤ 2048 ⌝ }
 {
-    [0; 393216]
+    let count = word_at(s, at) as usize;
+    let from = after(at, 4);
+    if count > 2048 {
+        return Lent {
+            count: 0,
+            from,
+            end: usize::MAX,
+        };
+    }
+    Lent {
+        count,
+        from,
+        end: after(from, 4 * count),
+    }
+}
+
+// Room for a whole input, and for the fields that a program lends. Each `ensures` gives the length, which lending a part asks for.
+pub fn input_room() -> [u8; 786432]
+    ensures { λ r. ⌜ 786432 ≡ length r ⌝ }
+{
+    [0; 786432]
 }
 
 pub fn float_room() -> [f32; 2048]

@@ -1,4 +1,5 @@
 // "Block 128 accepted, 129 refused; 24 nodes accepted, 25 refused. Two more renders and a clearing call: it removes voice 1 and answers 1."
+use crate::refused::making;
 use crate::show;
 use codec::word::number;
 use codec::word::text;
@@ -6,34 +7,22 @@ use page_scene::opened;
 use page_scene::played;
 use page_scene::stores::of_nodes;
 use piecrag::Budget;
-use piecrag::BudgetScope;
 use piecrag::EdgeTable;
 use piecrag::EventTable;
 use piecrag::NodeId;
 use piecrag::NodeTable;
 use piecrag::OrderTable;
-use piecrag::StealPolicy;
 use piecrag::StealTable;
 use piecrag::VoiceTable;
 use piecrag::free_done_synths;
-use piecrag::make;
 use piecrag::render;
 use piecrag::spawn_voice_on_bus_managed;
 
 fn block(n: usize) {
-    let made = make(
-        48000.0,
-        n,
-        Budget::Unlimited,
-        StealPolicy::Oldest,
-        BudgetScope::Global,
-        false,
-    );
     text(b"block ");
     number(n as u64);
     text(b" ");
-    let a = made.answer;
-    show::answer(a);
+    making(48000.0, n, Budget::Unlimited, false);
     text(b"\n");
 }
 
@@ -50,21 +39,11 @@ fn definition(
     steals: &mut StealTable,
 ) {
     let s = opened(nodes);
-    let spawning = spawn_voice_on_bus_managed(
-        s,
-        nodes,
-        edges,
-        voices,
-        steals,
-        of_nodes(n, 0),
-        NodeId(0),
-        0,
-    );
+    let def = of_nodes(n, 0);
     text(b"nodes ");
     number(n as u64);
     text(b" ");
-    let a = spawning.answer;
-    show::spawned(a);
+    show::spawned(spawn_voice_on_bus_managed(s, nodes, edges, voices, steals, def, NodeId(0), 0));
     text(b"\n");
 }
 

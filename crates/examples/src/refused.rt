@@ -35,399 +35,195 @@ use piecrag::schedule;
 use piecrag::spawn_voice_on_bus;
 use piecrag::spawn_voice_on_bus_managed;
 
-fn making(rate: f32, block: usize, budget: Budget, table: bool, what: &[u8]) {
-    let made = make(
-        rate,
-        block,
-        budget,
-        StealPolicy::Oldest,
-        BudgetScope::Global,
-        table,
-    );
+// A making of a store, and what it answers.
+pub fn making(rate: f32, block: usize, budget: Budget, table: bool) {
+    let policy = StealPolicy::Oldest;
+    let made = make(rate, block, budget, policy, BudgetScope::Global, table);
     let a = made.answer;
     show::answer(a);
-    text(what);
 }
 
 // 1, 2, 3, 20
 pub fn makings() {
-    making(
-        44100.5,
-        128,
-        Budget::Unlimited,
-        false,
-        b" making, rate 44100.5\n",
-    );
-    making(48000.0, 0, Budget::Unlimited, false, b" making, block 0\n");
-    making(
-        48000.0,
-        128,
-        Budget::AtMost(65),
-        false,
-        b" making, budget 65\n",
-    );
-    making(
-        44100.0,
-        128,
-        Budget::Unlimited,
-        true,
-        b" making, fade table at 44100\n",
-    );
+    making(44100.5, 128, Budget::Unlimited, false);
+    text(b" making, rate 44100.5\n");
+    making(48000.0, 0, Budget::Unlimited, false);
+    text(b" making, block 0\n");
+    making(48000.0, 128, Budget::AtMost(65), false);
+    text(b" making, budget 65\n");
+    making(44100.0, 128, Budget::Unlimited, true);
+    text(b" making, fade table at 44100\n");
 }
 
-fn wiring(
-    s: State,
-    nodes: &NodeTable,
-    edges: &mut EdgeTable,
-    voices: &VoiceTable,
-    from: u32,
-    to: u32,
-    port: u32,
-    what: &[u8],
-) {
-    let mut was = io::buffer();
-    let n = show::page_of(s, edges, voices, &mut was);
-    let served = connect(s, nodes, edges, NodeId(from), NodeId(to), port);
-    let a = served.answer;
-    show::answer(a);
-    let t = served.state;
-    show::call(what, &was[..n], t, edges, voices);
+// The other examples, each by the number that it is refused with, in the order of their lines. Of the two of 12 the second is an unmanaged spawn.
+const UNMANAGED: u8 = 112;
+
+const EXAMPLES: [u8; 15] = [4, 5, 6, 7, 8, 26, 9, 10, 11, 12, UNMANAGED, 13, 14, 15, 16];
+
+fn name(e: u8) {
+    match e {
+        4 => text(b" connecting an unknown node"),
+        5 => text(b" connecting to a node of a voice"),
+        6 => text(b" connecting to port 3 of 3"),
+        7 => text(b" scheduling event 257"),
+        8 => text(b" adding a node after the last id"),
+        26 => text(
+            b" spawning with rank 8 a definition that sounds through a node that it has not",
+        ),
+        9 => text(b" spawning a definition that sounds through a node that it has not"),
+        10 => text(b" spawning on a bus without ports"),
+        11 => text(b" spawning under a budget of 0"),
+        12 => text(b" spawning where the host holds every port"),
+        UNMANAGED => text(b" spawning unmanaged where voices hold every port"),
+        13 => text(b" preparing with a required port unconnected"),
+        14 => text(b" preparing with a bus that feeds itself"),
+        15 => text(b" rendering at clock 2^64 - 16"),
+        _ => text(b" reporting 15 samples of a block of 16"),
+    }
 }
 
-// 4, 5, 6, on the scene's store, which each of them leaves as it is
-fn wirings(s: State, nodes: &NodeTable, edges: &mut EdgeTable, voices: &VoiceTable) {
-    wiring(
-        s,
-        nodes,
-        edges,
-        voices,
-        99,
-        0,
-        0,
-        b"connecting an unknown node",
-    );
-    wiring(
-        s,
-        nodes,
-        edges,
-        voices,
-        0,
-        1,
-        0,
-        b"connecting to a node of a voice",
-    );
-    wiring(
-        s,
-        nodes,
-        edges,
-        voices,
-        0,
-        0,
-        3,
-        b"connecting to port 3 of 3",
-    );
+// The scene's store with another node, node 5.
+fn with_node(s: State, nodes: &mut NodeTable, kind: &[u8], ports: u32, required: u64) -> State {
+    let r = add_node(s, nodes, kind, ports, required, false, false);
+    r.state
 }
 
-// 7
-fn full(s: State, edges: &EdgeTable, voices: &VoiceTable, events: &mut EventTable) {
-    let filled = with_events(s, events, 256);
-    let mut was = io::buffer();
-    let n = show::page_of(filled, edges, voices, &mut was);
-    let served = schedule(filled, events, 1000, VoiceId(1), b"", EventAction::Free);
-    let a = served.answer;
-    show::answer(a);
-    let t = served.state;
-    show::call(b"scheduling event 257", &was[..n], t, edges, voices);
+fn with_cycle(s: State, nodes: &NodeTable, edges: &mut EdgeTable) -> State {
+    let r = connect(s, nodes, edges, NodeId(0), NodeId(0), 0);
+    r.state
 }
 
-// 8
-fn last_id(s: State, nodes: &mut NodeTable, edges: &EdgeTable, voices: &VoiceTable) {
-    let last = with_next(s, 4294967296);
-    let mut was = io::buffer();
-    let n = show::page_of(last, edges, voices, &mut was);
-    let granted = add_node(last, nodes, b"Bus", 1, 0, false, false);
-    let a = granted.given;
-    show::given(a);
-    let t = granted.state;
-    show::call(
-        b"adding a node after the last id",
-        &was[..n],
-        t,
-        edges,
-        voices,
-    );
-}
-
-fn spawn(
-    s: State,
+// The store that the call meets: the scene's, or that with one thing more; for 11 a new one, and for 12 one whose host has taken the ports of both voices.
+fn met(
+    e: u8,
     nodes: &mut NodeTable,
     edges: &mut EdgeTable,
+    order: &mut OrderTable,
     voices: &mut VoiceTable,
+    events: &mut EventTable,
     steals: &mut StealTable,
-    def: SynthDef,
-    bus: u32,
-    rank: u32,
-    what: &[u8],
 ) -> State {
-    let mut was = io::buffer();
-    let n = show::page_of(s, edges, voices, &mut was);
-    let spawning = spawn_voice_on_bus_managed(
-        s,
-        nodes,
-        edges,
-        voices,
-        steals,
-        def,
-        NodeId(bus),
-        rank,
-    );
-    let a = spawning.answer;
-    show::spawned(a);
-    let t = spawning.state;
-    show::call(what, &was[..n], t, edges, voices);
-    t
+    let s = played(nodes, edges, order, voices, events, steals);
+    match e {
+        7 => with_events(s, events, 256),
+        8 => with_next(s, 4294967296),
+        10 => with_node(s, nodes, b"Bus", 0, 0),
+        11 => with_bus(nodes, Budget::AtMost(0), 3),
+        12 => {
+            let empty = with_bus(nodes, Budget::AtMost(2), 2);
+            let one = turn(empty, nodes, edges, order, voices, events, steals);
+            let two = turn(one, nodes, edges, order, voices, events, steals);
+            let fed = with_feeder(two, nodes, edges, 3, 0);
+            with_feeder(fed, nodes, edges, 4, 1)
+        }
+        13 => with_node(s, nodes, b"Gain", 1, 1),
+        14 => with_cycle(s, nodes, edges),
+        15 => with_clock(s, 18446744073709551600),
+        _ => s,
+    }
 }
 
-// 26, before 9; 9, 10, 11: on the scene's store; with a bus without ports beside the scene's, node 5; on a new store with a budget of 0
-fn spawns(
-    s: State,
-    nodes: &mut NodeTable,
-    edges: &mut EdgeTable,
-    voices: &mut VoiceTable,
-    steals: &mut StealTable,
-) {
-    spawn(
-        s,
-        nodes,
-        edges,
-        voices,
-        steals,
-        of_nodes(1, 1),
-        0,
-        8,
-        b"spawning with rank 8 a definition that sounds through a node that it has not",
-    );
-    spawn(
-        s,
-        nodes,
-        edges,
-        voices,
-        steals,
-        of_nodes(1, 1),
-        0,
-        7,
-        b"spawning a definition that sounds through a node that it has not",
-    );
-    let granted = add_node(s, nodes, b"Bus", 0, 0, false, false);
-    let without_ports = granted.state;
-    spawn(
-        without_ports,
-        nodes,
-        edges,
-        voices,
-        steals,
-        tone(),
-        5,
-        0,
-        b"spawning on a bus without ports",
-    );
-    let nobody = with_bus(nodes, Budget::AtMost(0), 3);
-    spawn(
-        nobody,
-        nodes,
-        edges,
-        voices,
-        steals,
-        tone(),
-        0,
-        0,
-        b"spawning under a budget of 0",
-    );
+// What is spawned, where, and with which rank.
+fn def_of(e: u8) -> SynthDef {
+    match e {
+        9 | 26 => of_nodes(1, 1),
+        _ => tone(),
+    }
 }
 
-// 12 with nothing left to reclaim: the page shows that both voices were removed.
-fn no_port(
-    nodes: &mut NodeTable,
-    edges: &mut EdgeTable,
-    order: &mut OrderTable,
-    voices: &mut VoiceTable,
-    events: &mut EventTable,
-    steals: &mut StealTable,
-) {
-    let empty = with_bus(nodes, Budget::AtMost(2), 2);
-    let one = turn(empty, nodes, edges, order, voices, events, steals);
-    let two = turn(one, nodes, edges, order, voices, events, steals);
-    let fed = with_feeder(two, nodes, edges, 3, 0);
-    let s = with_feeder(fed, nodes, edges, 4, 1);
-    show::whole_page(s, edges, voices);
-    let t = spawn(
-        s,
-        nodes,
-        edges,
-        voices,
-        steals,
-        tone(),
-        0,
-        0,
-        b"spawning where the host holds every port",
-    );
-    show::whole_page(t, edges, voices);
+fn bus_of(e: u8) -> NodeId {
+    match e {
+        10 => NodeId(5),
+        _ => NodeId(0),
+    }
 }
 
-// 12 by a loose spawn, which steals nobody: nothing changes.
-fn no_loose_port(
-    s: State,
-    nodes: &mut NodeTable,
-    edges: &mut EdgeTable,
-    voices: &mut VoiceTable,
-    steals: &mut StealTable,
-) {
-    let mut was = io::buffer();
-    let n = show::page_of(s, edges, voices, &mut was);
-    let spawning = spawn_voice_on_bus(s, nodes, edges, voices, steals, tone(), NodeId(0), 0);
-    let a = spawning.answer;
-    show::spawned(a);
-    let t = spawning.state;
-    show::call(
-        b"spawning unmanaged where voices hold every port",
-        &was[..n],
-        t,
-        edges,
-        voices,
-    );
+fn rank_of(e: u8) -> u32 {
+    match e {
+        26 => 8,
+        9 => 7,
+        _ => 0,
+    }
 }
 
-fn preparing(
-    s: State,
-    nodes: &NodeTable,
-    edges: &EdgeTable,
-    order: &mut OrderTable,
-    voices: &VoiceTable,
-    what: &[u8],
-) {
-    let mut was = io::buffer();
-    let n = show::page_of(s, edges, voices, &mut was);
-    let served = prepare(s, nodes, edges, order);
-    let a = served.answer;
-    show::answer(a);
-    let t = served.state;
-    show::call(what, &was[..n], t, edges, voices);
-}
-
-// 13: a node is added to the scene's store whose required port nothing feeds
-fn lacking(
-    s: State,
-    nodes: &mut NodeTable,
-    edges: &EdgeTable,
-    order: &mut OrderTable,
-    voices: &VoiceTable,
-) {
-    let granted = add_node(s, nodes, b"Gain", 1, 1, false, false);
-    let with_required = granted.state;
-    preparing(
-        with_required,
-        nodes,
-        edges,
-        order,
-        voices,
-        b"preparing with a required port unconnected",
-    );
-}
-
-// 14: the bus of the scene's store feeds itself
-fn cyclic(
-    s: State,
-    nodes: &NodeTable,
-    edges: &mut EdgeTable,
-    order: &mut OrderTable,
-    voices: &VoiceTable,
-) {
-    let served = connect(s, nodes, edges, NodeId(0), NodeId(0), 0);
-    let with_cycle = served.state;
-    preparing(
-        with_cycle,
-        nodes,
-        edges,
-        order,
-        voices,
-        b"preparing with a bus that feeds itself",
-    );
-}
-
-// 15: a clock from which the block of 16 ends past 2^64 - 1
-fn late(
-    s: State,
-    nodes: &mut NodeTable,
-    edges: &mut EdgeTable,
-    order: &mut OrderTable,
-    voices: &mut VoiceTable,
-    events: &mut EventTable,
-) {
-    let last = with_clock(s, 18446744073709551600);
-    let mut was = io::buffer();
-    let n = show::page_of(last, edges, voices, &mut was);
-    let mut list = [0u8; 256];
-    let rendering = render(last, nodes, edges, order, voices, events, &mut list);
-    let a = rendering.answer;
-    show::rendered(a);
-    let t = rendering.state;
-    show::call(b"rendering at clock 2^64 - 16", &was[..n], t, edges, voices);
-}
-
-// 16
-fn short_block(s: State, nodes: &mut NodeTable, edges: &EdgeTable, voices: &VoiceTable) {
-    let mut was = io::buffer();
-    let n = show::page_of(s, edges, voices, &mut was);
+fn short_block(s: State, nodes: &mut NodeTable, voices: &VoiceTable) -> State {
     let samples = [0.0f32; 15];
-    let a = report(s, nodes, voices, NodeId(0), 1, &samples, false);
-    show::answer(a);
-    show::call(
-        b"reporting 15 samples of a block of 16",
-        &was[..n],
-        s,
-        edges,
-        voices,
-    );
+    show::answer(report(s, nodes, voices, NodeId(0), 1, &samples, false));
+    s
 }
 
-// 17
+// Makes the call, and writes what it answers.
+fn called(
+    e: u8,
+    s: State,
+    nodes: &mut NodeTable,
+    edges: &mut EdgeTable,
+    order: &mut OrderTable,
+    voices: &mut VoiceTable,
+    events: &mut EventTable,
+    steals: &mut StealTable,
+) -> State {
+    let def = def_of(e);
+    let bus = bus_of(e);
+    let rank = rank_of(e);
+    match e {
+        4 => show::host(connect(s, nodes, edges, NodeId(99), NodeId(0), 0)),
+        5 => show::host(connect(s, nodes, edges, NodeId(0), NodeId(1), 0)),
+        6 => show::host(connect(s, nodes, edges, NodeId(0), NodeId(0), 3)),
+        7 => show::host(schedule(s, events, 1000, VoiceId(1), b"", EventAction::Free)),
+        8 => show::added(add_node(s, nodes, b"Bus", 1, 0, false, false)),
+        13 | 14 => show::host(prepare(s, nodes, edges, order)),
+        15 => {
+            let mut list = [0u8; 256];
+            show::rendered(render(s, nodes, edges, order, voices, events, &mut list))
+        }
+        16 => short_block(s, nodes, voices),
+        UNMANAGED => {
+            let r = spawn_voice_on_bus(s, nodes, edges, voices, steals, def, bus, rank);
+            show::spawned(r)
+        }
+        _ => {
+            let r = spawn_voice_on_bus_managed(s, nodes, edges, voices, steals, def, bus, rank);
+            show::spawned(r)
+        }
+    }
+}
+
+// 12 with nothing left to reclaim: the pages show that both voices were removed.
+fn whole_page(e: u8, s: State, edges: &EdgeTable, voices: &VoiceTable) {
+    match e {
+        12 => show::whole_page(s, edges, voices),
+        _ => text(b""),
+    }
+}
+
+// The call on its store: what it answers, and whether the page is the same after it.
+fn example(
+    e: u8,
+    nodes: &mut NodeTable,
+    edges: &mut EdgeTable,
+    order: &mut OrderTable,
+    voices: &mut VoiceTable,
+    events: &mut EventTable,
+    steals: &mut StealTable,
+) {
+    let s = met(e, nodes, edges, order, voices, events, steals);
+    whole_page(e, s, edges, voices);
+    let was = show::page_of(s, edges, voices);
+    let t = called(e, s, nodes, edges, order, voices, events, steals);
+    name(e);
+    show::compared(&was, &show::page_of(t, edges, voices), b"page\n");
+    whole_page(e, t, edges, voices);
+}
+
 fn short_buffer(s: State, edges: &EdgeTable, voices: &VoiceTable) {
     let mut out = [7u8; 58];
-    let was = [7u8; 58];
-    let a = page(s, edges, voices, &mut out);
-    show::paged(a);
+    show::paged(page(s, edges, voices, &mut out));
     text(b" the page, of 59 bytes, in a buffer of 58");
-    if check::same(&out, &was) {
-        text(b", same buffer\n");
-    } else {
-        text(b", another buffer\n");
-    }
+    show::compared(&[7u8; 58], &out, b"buffer\n");
 }
 
-// 17 for a render
-fn short_list(
-    s: State,
-    nodes: &mut NodeTable,
-    edges: &mut EdgeTable,
-    order: &mut OrderTable,
-    voices: &mut VoiceTable,
-    events: &mut EventTable,
-) {
-    let mut list = [7u8; 255];
-    let was = [7u8; 255];
-    let rendering = render(s, nodes, edges, order, voices, events, &mut list);
-    let a = rendering.answer;
-    show::rendered(a);
-    text(b" rendering with a list of 255 entries");
-    if check::same(&list, &was) {
-        text(b", same list\n");
-    } else {
-        text(b", another list\n");
-    }
-}
-
-// All refusals but making's. An example that is refused leaves the scene's store for the next one; where one has changed it on the way
-// to its refusal, the scene is played anew.
+// All refusals but making's; 17 last, for the page and for a render.
 pub fn all(
     nodes: &mut NodeTable,
     edges: &mut EdgeTable,
@@ -436,21 +232,16 @@ pub fn all(
     events: &mut EventTable,
     steals: &mut StealTable,
 ) {
-    let a = played(nodes, edges, order, voices, events, steals);
-    wirings(a, nodes, edges, voices);
-    full(a, edges, voices, events);
-    let b = played(nodes, edges, order, voices, events, steals);
-    last_id(b, nodes, edges, voices);
-    spawns(b, nodes, edges, voices, steals);
-    no_port(nodes, edges, order, voices, events, steals);
-    let c = played(nodes, edges, order, voices, events, steals);
-    no_loose_port(c, nodes, edges, voices, steals);
-    lacking(c, nodes, edges, order, voices);
-    let d = played(nodes, edges, order, voices, events, steals);
-    cyclic(d, nodes, edges, order, voices);
-    let e = played(nodes, edges, order, voices, events, steals);
-    late(e, nodes, edges, order, voices, events);
-    short_block(e, nodes, edges, voices);
-    short_buffer(e, edges, voices);
-    short_list(e, nodes, edges, order, voices, events);
+    let mut i: usize = 0;
+    while i < 15 {
+        let e = EXAMPLES[i];
+        example(e, nodes, edges, order, voices, events, steals);
+        i += 1;
+    }
+    let s = played(nodes, edges, order, voices, events, steals);
+    short_buffer(s, edges, voices);
+    let mut list = [7u8; 255];
+    show::rendered(render(s, nodes, edges, order, voices, events, &mut list));
+    text(b" rendering with a list of 255 entries");
+    show::compared(&[7u8; 255], &list, b"list\n");
 }

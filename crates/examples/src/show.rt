@@ -2,18 +2,21 @@
 use codec::word::number;
 use codec::word::text;
 use piecrag::AddAnswer;
+use piecrag::AddResult;
 use piecrag::Answer;
 use piecrag::EdgeTable;
+use piecrag::HostResult;
 use piecrag::Paged;
 use piecrag::Refusal;
 use piecrag::Rendered;
+use piecrag::Rendering;
 use piecrag::Spawned;
+use piecrag::Spawning;
 use piecrag::State;
 use piecrag::VoiceTable;
 use piecrag::page;
 use piecrag::page_length;
 use piecrag::refusal_number;
-ghost use Rattle.io.specs.Counts.{Counts};
 
 fn refused(r: Refusal) {
     text(b"refused ");
@@ -27,29 +30,6 @@ pub fn answer(a: Answer) {
     }
 }
 
-pub fn given(g: AddAnswer) {
-    match g {
-        AddAnswer::Id(_) => text(b"accepted"),
-        AddAnswer::Refused(r) => refused(r),
-    }
-}
-
-pub fn spawned(a: Spawned) {
-    match a {
-        Spawned::Voice(_) => text(b"accepted"),
-        Spawned::Refused(r) => refused(r),
-    }
-}
-
-pub fn rendered(a: Rendered) {
-    match a {
-        Rendered::Sounding => text(b"sounding"),
-        Rendered::Silent => text(b"silent"),
-        Rendered::Unprepared(r) => refused(r),
-        Rendered::Refused(r) => refused(r),
-    }
-}
-
 pub fn paged(a: Paged) {
     match a {
         Paged::Length(_) => text(b"accepted"),
@@ -57,34 +37,63 @@ pub fn paged(a: Paged) {
     }
 }
 
-// The page is put into `out`: how many bytes of it count.
-pub fn page_of(s: State, edges: &EdgeTable, voices: &VoiceTable, out: &mut [u8]) -> usize
-    ensures { λ r. ⌜ Counts r (now (out .exit)) ⌝ }
-{
-    let a = page(s, edges, voices, out);
-    page_length(a, out)
+// Each writes what the call answered, and gives the state after it.
+pub fn host(r: HostResult) -> State {
+    let a = r.answer;
+    answer(a);
+    r.state
 }
 
-// The page itself.
+pub fn added(r: AddResult) -> State {
+    let a = r.given;
+    match a {
+        AddAnswer::Id(_) => text(b"accepted"),
+        AddAnswer::Refused(refusal) => refused(refusal),
+    }
+    r.state
+}
+
+pub fn spawned(r: Spawning) -> State {
+    let a = r.answer;
+    match a {
+        Spawned::Voice(_) => text(b"accepted"),
+        Spawned::Refused(refusal) => refused(refusal),
+    }
+    r.state
+}
+
+pub fn rendered(r: Rendering) -> State {
+    let a = r.answer;
+    match a {
+        Rendered::Sounding => text(b"sounding"),
+        Rendered::Silent => text(b"silent"),
+        Rendered::Unprepared(refusal) => refused(refusal),
+        Rendered::Refused(refusal) => refused(refusal),
+    }
+    r.state
+}
+
+// The page, and zeros behind it.
+pub fn page_of(s: State, edges: &EdgeTable, voices: &VoiceTable) -> [u8; 4096] {
+    let mut out = io::buffer();
+    page(s, edges, voices, &mut out);
+    out
+}
+
+// The page itself, on standard output.
 pub fn whole_page(s: State, edges: &EdgeTable, voices: &VoiceTable) {
     let mut out = io::buffer();
-    let n = page_of(s, edges, voices, &mut out);
+    let a = page(s, edges, voices, &mut out);
+    let n = page_length(a, &out);
     text(&out[..n]);
 }
 
-fn same_page(was: &[u8], s: State, edges: &EdgeTable, voices: &VoiceTable) -> bool {
-    let mut out = io::buffer();
-    let n = page_of(s, edges, voices, &mut out);
-    check::same(was, &out[..n])
-}
-
-// The name of the call that was made, and whether the page is what it was before the call.
-pub fn call(what: &[u8], was: &[u8], s: State, edges: &EdgeTable, voices: &VoiceTable) {
-    text(b" ");
-    text(what);
-    if same_page(was, s, edges, voices) {
-        text(b", same page\n");
+// The end of an example's line: whether these bytes are what they were before the call.
+pub fn compared(was: &[u8], are: &[u8], what: &[u8]) {
+    if check::same(was, are) {
+        text(b", same ");
     } else {
-        text(b", another page\n");
+        text(b", another ");
     }
+    text(what);
 }

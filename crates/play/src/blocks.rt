@@ -11,6 +11,7 @@ use codec::field::float;
 use codec::field::floats_at;
 use codec::field::word_at;
 use codec::output::Output;
+use piecrag::Answer;
 use piecrag::EdgeTable;
 use piecrag::EventTable;
 use piecrag::NodeTable;
@@ -20,7 +21,6 @@ use piecrag::State;
 use piecrag::VoiceTable;
 use piecrag::render;
 use piecrag::report;
-use transcript::answer::answer_line;
 use transcript::answer::list_line;
 use transcript::answer::rendered_line;
 
@@ -38,23 +38,19 @@ fn samples_at(s: &[u8], at: usize, repeated: bool) -> [f32; 512]
 
 // A node, its channels, its done flag and how many samples, which follow. An entry that counts more than 512 is malformed, and
 // not played.
-pub(crate) fn play_report(
-    out: &mut Output,
+pub(crate) fn reported(
     s: &[u8],
     at: usize,
     state: State,
     nodes: &mut NodeTable,
     voices: &VoiceTable,
-) {
+) -> Answer {
     let node = id_at(s, after(at, 1));
     let channels = byte_at(s, after(at, 5)) as usize;
     let done = byte_at(s, after(at, 6)) != 0;
     let n = at_most(word_at(s, after(at, 7)) as usize, 512);
     let samples = samples_at(s, after(at, 11), byte_at(s, at) == 19);
-    answer_line(
-        out,
-        report(state, nodes, voices, node, channels, &samples[..n], done),
-    );
+    report(state, nodes, voices, node, channels, &samples[..n], done)
 }
 
 // How long a list the entry lends, and what each of its entries holds before: 256 and 255 where it does not say.

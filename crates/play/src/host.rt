@@ -11,6 +11,7 @@ use graph_rows::node_row::put_noise;
 use graph_tables::lookup::node_count;
 use memory::parts::with_clock;
 use memory::parts::with_spawned;
+use piecrag::BoardAdded;
 use piecrag::BoardAnswer;
 use piecrag::BoardHost;
 use piecrag::BoardNode;
@@ -89,28 +90,18 @@ fn set(out: &mut Output, s: &[u8], at: usize, state: State, nodes: &mut NodeTabl
 }
 
 // A kind name, ports, required ports and what the node takes. Its channels are the generator's.
-fn add(
-    out: &mut Output,
-    s: &[u8],
-    at: usize,
-    seal: Seal,
-    state: State,
-    nodes: &mut NodeTable,
-) -> State {
+fn add(s: &[u8], at: usize, seal: Seal, state: State, nodes: &mut NodeTable) -> BoardAdded {
+    let kind = name_at(s, at);
     let rest = name_end(s, at);
     let ports = word_at(s, rest);
     let required = long_at(s, after(rest, 4));
     let takes = byte_at(s, after(rest, 12));
-    let r = board_add_node(
-        seal,
-        state,
-        nodes,
-        name_at(s, at),
-        ports,
-        required,
-        takes % 2 == 1,
-        takes / 2 % 2 == 1,
-    );
+    let values = takes % 2 == 1;
+    let glides = takes / 2 % 2 == 1;
+    board_add_node(seal, state, nodes, kind, ports, required, values, glides)
+}
+
+fn add_told(out: &mut Output, r: BoardAdded) -> State {
     let answer = r.answer;
     match answer {
         BoardNode::Closed => closed_line(out),
@@ -119,25 +110,7 @@ fn add(
     r.state
 }
 
-fn join(
-    out: &mut Output,
-    s: &[u8],
-    at: usize,
-    seal: Seal,
-    state: State,
-    nodes: &NodeTable,
-    edges: &mut EdgeTable,
-) -> State {
-    let from = id_at(s, at);
-    let to = id_at(s, after(at, 4));
-    let port = word_at(s, after(at, 8));
-    host_told(
-        out,
-        board_connect(seal, state, nodes, edges, from, to, port),
-    )
-}
-
-// The counters, or a call on the host's nodes.
+// The counters, or a call on the host's nodes: one node, or two, and a port.
 pub(crate) fn play_host(
     out: &mut Output,
     s: &[u8],
@@ -149,12 +122,14 @@ pub(crate) fn play_host(
 ) -> State {
     let from = after(at, 1);
     let id = id_at(s, from);
+    let to = id_at(s, after(from, 4));
     let port = word_at(s, after(from, 4));
+    let third = word_at(s, after(from, 8));
     match byte_at(s, at) {
         2 => set(out, s, from, state, nodes),
-        3 => add(out, s, from, seal, state, nodes),
+        3 => add_told(out, add(s, from, seal, state, nodes)),
         4 => host_told(out, board_remove_node(seal, state, nodes, edges, id)),
-        5 => join(out, s, from, seal, state, nodes, edges),
+        5 => host_told(out, board_connect(seal, state, nodes, edges, id, to, third)),
         6 => host_told(out, board_disconnect(seal, state, nodes, edges, id, port)),
         _ => host_told(out, board_set_sink(seal, state, nodes, id)),
     }

@@ -63,6 +63,15 @@ pub fn no_keyboards() -> WishState {
     }
 }
 
+// The board of a new store, which is not sealed.
+pub fn new_board(state: State, wishes: WishState) -> Board {
+    Board {
+        state,
+        wishes,
+        seal: Seal::Unsealed,
+    }
+}
+
 fn keyboard_line(out: &mut Output, refusal: KeyboardRefusal) {
     text(out, b"refused");
     and_number(out, keyboard_refusal_number(refusal) as u64);
@@ -92,20 +101,12 @@ fn asked_at(s: &[u8], at: usize) -> Asked {
 }
 
 // The store that was made, or where it was refused the board before. A new store stands in the same tables, whatever its
-// forerunner left there, and is not sealed.
+// forerunner left there.
 fn after_making(out: &mut Output, r: Made, board: Board) -> Board {
     let answer = r.answer;
     made_line(out, answer);
     match answer {
-        Answer::Done => {
-            let state = r.state;
-            let wishes = no_keyboards();
-            Board {
-                state,
-                wishes,
-                seal: Seal::Unsealed,
-            }
-        }
+        Answer::Done => new_board(r.state, no_keyboards()),
         Answer::Refused(_) => board,
     }
 }
@@ -116,13 +117,7 @@ fn after_console(out: &mut Output, r: ConsoleMade, board: Board) -> Board {
     match answer {
         MakeAnswer::Done => {
             text(out, b"made\n");
-            let state = r.state;
-            let wishes = r.wishes;
-            Board {
-                state,
-                wishes,
-                seal: Seal::Unsealed,
-            }
+            new_board(r.state, r.wishes)
         }
         MakeAnswer::Refused(refusal) => {
             refused_line(out, refusal);

@@ -1,9 +1,9 @@
 // An entry of a script on its store, in seven lent tables.
 use crate::blocks::play_render;
-use crate::blocks::play_report;
 use crate::host::play_host;
 use crate::host::told;
 use crate::keyboards::Board;
+use crate::keyboards::new_board;
 use crate::keyboards::no_keyboards;
 use crate::keyboards::play_making;
 use crate::keyboards::play_turn;
@@ -24,7 +24,6 @@ use piecrag::EdgeTable;
 use piecrag::EventTable;
 use piecrag::NodeTable;
 use piecrag::OrderTable;
-use piecrag::Seal;
 use piecrag::State;
 use piecrag::StealPolicy;
 use piecrag::StealTable;
@@ -37,21 +36,10 @@ use transcript::state::state_lines;
 
 // Entries before the first making are played on a store of 48,000 Hz, block 64, no budget, without keyboards.
 pub(crate) fn first_board() -> Board {
-    let r = make(
-        48000.0,
-        64,
-        Budget::Unlimited,
-        StealPolicy::Reject,
-        BudgetScope::Global,
-        false,
-    );
-    let state = r.state;
-    let wishes = no_keyboards();
-    Board {
-        state,
-        wishes,
-        seal: Seal::Unsealed,
-    }
+    let policy = StealPolicy::Reject;
+    let scope = BudgetScope::Global;
+    let r = make(48000.0, 64, Budget::Unlimited, policy, scope, false);
+    new_board(r.state, no_keyboards())
 }
 
 // The board with another state of its store.
@@ -91,9 +79,8 @@ pub(crate) fn play_entry(
             return on_store(board, after);
         }
         13 | 14 => return on_store(board, play_removal(out, s, at, state, nodes, edges, voices)),
-        15 | 16 => play_order(out, s, at, state, nodes, voices),
+        15 | 16 | 18 | 19 => play_order(out, s, at, state, nodes, voices),
         17 => return on_store(board, play_event(out, s, at, state, events)),
-        18 | 19 => play_report(out, s, at, state, nodes, voices),
         20 => return on_store(board, told(out, prepare(state, nodes, edges, order))),
         21 | 35 => {
             let after = play_render(out, s, at, state, nodes, edges, order, voices, events);

@@ -1,9 +1,9 @@
 // A script from standard input, and its transcript.
 use crate::player::first_board;
 use crate::player::play_entry;
-use crate::slots::Slots;
 use crate::slots::is_kept;
 use crate::slots::keep;
+use crate::slots::no_slots;
 use crate::slots::slot_at;
 use crate::window::end_at;
 use crate::window::fill;
@@ -123,8 +123,8 @@ fn end_run(out: &mut Output, run: Run) {
     }
 }
 
-// Plays the script on standard input on newly made stores, and writes the transcript. The slots hold these definitions at first.
-pub fn play_input(first: Slots) {
+// Plays the script on standard input on newly made stores, and writes the transcript.
+pub fn play_input() {
     let mut window = window_room();
     let mut out = output_room();
     let mut nodes = [0u32; NODE_WORDS];
@@ -135,7 +135,7 @@ pub fn play_input(first: Slots) {
     let mut steals = [0u32; STEAL_WORDS];
     let mut wishes = [0u32; WISH_WORDS];
     let mut board = first_board();
-    let mut slots = first;
+    let mut slots = no_slots();
     let mut run = first_run();
     let mut left = usize::MAX;
     while 0 < left {

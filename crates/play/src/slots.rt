@@ -6,20 +6,15 @@ use codec::output::text;
 use piecrag::SynthDef;
 use script::def::def_at;
 
-pub struct Slots {
-    pub rows: [SynthDef; 16],
-}
-
-// Each slot holds this definition.
-pub fn all_slots(def: SynthDef) -> Slots {
-    Slots { rows: [def; 16] }
+pub(crate) struct Slots {
+    rows: [SynthDef; 16],
 }
 
 // A slot that was never kept holds a definition without nodes.
-pub fn no_slots() -> Slots {
+pub(crate) fn no_slots() -> Slots {
     let r = def_at(b"", 0);
     let none = r.def;
-    all_slots(none)
+    Slots { rows: [none; 16] }
 }
 
 // Whether the entry at `at` keeps a definition.

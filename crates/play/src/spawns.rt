@@ -14,10 +14,8 @@ use piecrag::State;
 use piecrag::StealTable;
 use piecrag::SynthDef;
 use piecrag::VoiceTable;
-use piecrag::board_spawn_voice_on_bus;
-use piecrag::board_spawn_voice_on_bus_managed;
-use piecrag::board_spawn_voice_on_bus_panned;
-use piecrag::board_spawn_voice_on_bus_panned_managed;
+use piecrag::Wish;
+use piecrag::board_spawn;
 use transcript::answer::spawned_line;
 
 // The rank stands last.
@@ -26,6 +24,22 @@ fn rank_at(s: &[u8], at: usize) -> u32 {
         return word_at(s, after(at, 10));
     }
     word_at(s, after(at, 6))
+}
+
+// The entries 9 and 10 have a pan; of 11 and 12 it is 0.
+fn pan_at(s: &[u8], at: usize) -> f32 {
+    if byte_at(s, at) < 11 {
+        return float(word_at(s, after(at, 6)));
+    }
+    0.0
+}
+
+// The spawns of the entries 9 and 11 are managed.
+fn is_managed(sort: u8) -> bool {
+    match sort {
+        9 | 11 => true,
+        _ => false,
+    }
 }
 
 // A slot, whose definition is `def`, a bus and, but for the calls with pan 0, a pan; then a rank.
@@ -41,47 +55,14 @@ pub(crate) fn play_spawn(
     voices: &mut VoiceTable,
     steals: &mut StealTable,
 ) -> State {
-    let bus = id_at(s, after(at, 2));
-    let pan = float(word_at(s, after(at, 6)));
-    let rank = rank_at(s, at);
-    let r = match byte_at(s, at) {
-        9 => board_spawn_voice_on_bus_panned_managed(
-            seal,
-            state,
-            nodes,
-            edges,
-            voices,
-            steals,
-            def,
-            bus,
-            pan,
-            rank,
-        ),
-        10 => board_spawn_voice_on_bus_panned(
-            seal,
-            state,
-            nodes,
-            edges,
-            voices,
-            steals,
-            def,
-            bus,
-            pan,
-            rank,
-        ),
-        11 => board_spawn_voice_on_bus_managed(
-            seal,
-            state,
-            nodes,
-            edges,
-            voices,
-            steals,
-            def,
-            bus,
-            rank,
-        ),
-        _ => board_spawn_voice_on_bus(seal, state, nodes, edges, voices, steals, def, bus, rank),
+    let w = Wish {
+        managed: is_managed(byte_at(s, at)),
+        def,
+        bus: id_at(s, after(at, 2)),
+        pan: pan_at(s, at),
+        rank: rank_at(s, at),
     };
+    let r = board_spawn(seal, state, nodes, edges, voices, steals, w);
     let answer = r.answer;
     match answer {
         BoardSpawned::Closed => closed_line(out),

@@ -1,4 +1,5 @@
-// Frees, clearing, values, glides and events.
+// Frees, clearing, values, glides, reports and events.
+use crate::blocks::reported;
 use crate::host::told;
 use codec::field::after;
 use codec::field::byte_at;
@@ -22,6 +23,7 @@ use script::glide::action_of;
 use script::glide::glide_at;
 use script::name::name_at;
 use script::name::name_end;
+use transcript::answer::answer_line;
 use transcript::answer::outcome_line;
 use transcript::answer::removed_line;
 
@@ -59,23 +61,16 @@ fn value(s: &[u8], at: usize, state: State, nodes: &mut NodeTable, voices: &Voic
 fn glide(s: &[u8], at: usize, state: State, nodes: &mut NodeTable, voices: &VoiceTable) -> Outcome {
     let name = after(at, 8);
     let g = glide_at(s, name_end(s, name));
-    let voice = voice_at(s, at);
+    let id = voice_at(s, at);
+    let x = g.target;
+    let secs = g.seconds;
     let shape = g.shape;
     let space = g.space;
-    set_voice_param_glide(
-        state,
-        nodes,
-        voices,
-        voice,
-        name_at(s, name),
-        g.target,
-        g.seconds,
-        shape,
-        space,
-    )
+    let param = name_at(s, name);
+    set_voice_param_glide(state, nodes, voices, id, param, x, secs, shape, space)
 }
 
-// A value or a glide. The state stays as it is.
+// A value, a glide or a report. The state stays as it is.
 pub(crate) fn play_order(
     out: &mut Output,
     s: &[u8],
@@ -85,10 +80,10 @@ pub(crate) fn play_order(
     voices: &VoiceTable,
 ) {
     let from = after(at, 1);
-    if byte_at(s, at) == 15 {
-        outcome_line(out, value(s, from, state, nodes, voices));
-    } else {
-        outcome_line(out, glide(s, from, state, nodes, voices));
+    match byte_at(s, at) {
+        15 => outcome_line(out, value(s, from, state, nodes, voices)),
+        16 => outcome_line(out, glide(s, from, state, nodes, voices)),
+        _ => answer_line(out, reported(s, at, state, nodes, voices)),
     }
 }
 

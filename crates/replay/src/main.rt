@@ -1,7 +1,6 @@
 // Plays a script from standard input on a newly made store, and writes the transcript. docs/REPLAY.md describes both.
 use play::run::play_input;
-use play::slots::no_slots;
 
 fn main() {
-    play_input(no_slots());
+    play_input();
 }

@@ -21,14 +21,14 @@ struct ReadNodes {
     end: usize,
 }
 
-pub struct ReadEdges {
-    pub edges: DefEdges,
-    pub end: usize,
+struct ReadEdges {
+    edges: DefEdges,
+    end: usize,
 }
 
-pub struct ReadParams {
-    pub params: Params,
-    pub end: usize,
+struct ReadParams {
+    params: Params,
+    end: usize,
 }
 
 pub struct ReadDef {
@@ -107,7 +107,7 @@ fn edge_end(s: &[u8], at: usize) -> usize
     after(at, 3)
 }
 
-pub fn edges_at(s: &[u8], at: usize) -> ReadEdges
+fn edges_at(s: &[u8], at: usize) -> ReadEdges
     ensures { λ r. ⌜ Table 48 edgeAt edgeEnd (now (s .entry)) at (edgeRows (r .edges)) (r .edges .count) (r .end) ⌝ }
 {
     let count = byte_at(s, at) as usize;
@@ -135,7 +135,7 @@ fn param_end(s: &[u8], at: usize) -> usize
     after(name_end(s, at), 1)
 }
 
-pub fn params_at(s: &[u8], at: usize) -> ReadParams
+fn params_at(s: &[u8], at: usize) -> ReadParams
     ensures { λ r. ⌜ Table 8 paramAt paramEnd (now (s .entry)) at (paramRows (r .params)) (r .params .count) (r .end) ⌝ }
 {
     let count = byte_at(s, at) as usize;

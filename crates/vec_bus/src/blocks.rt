@@ -1,11 +1,11 @@
 // Sample rates, fade lengths, noise seeds, fade output and bus sums.
-ghost use Prim.Native.Nat.{_≤_};
 use bus::SampleRate;
 use bus::Written;
 use codec::field::after;
 use codec::field::float;
 use codec::field::float_room;
 use codec::field::floats_at;
+use codec::field::lent_at;
 use codec::field::long_at;
 use codec::field::word_at;
 use codec::field::word_room;
@@ -16,6 +16,7 @@ use codec::word::end_line;
 use codec::word::number;
 use codec::word::text;
 use libc::STDOUT_FILENO;
+use node::refusal::refusal_number;
 use store::config::Config;
 use voice::policy::Budget;
 use voice::policy::BudgetScope;
@@ -61,33 +62,6 @@ pub fn seed(s: &[u8], at: usize) -> usize {
     after(at, 12)
 }
 
-// Where a run of lent samples stands: how many, the first of them, and the end.
-struct Lent {
-    count: usize,
-    from: usize,
-    end: usize,
-}
-
-// A count, and that many fields of four bytes. A count of more than 2,048 has its end past the input.
-fn lent_at(s: &[u8], at: usize) -> Lent
-    ensures { λ r. ⌜ r .count ≤ 2048 ⌝ }
-{
-    let count = word_at(s, at) as usize;
-    let from = after(at, 4);
-    if count > 2048 {
-        return Lent {
-            count: 0,
-            from,
-            end: usize::MAX,
-        };
-    }
-    Lent {
-        count,
-        from,
-        end: after(from, 4 * count),
-    }
-}
-
 // Fills `out` with the run at `at`, and gives the position after it.
 fn filled(s: &[u8], at: usize, out: &mut [f32]) -> usize {
     let run = lent_at(s, at);
@@ -95,17 +69,25 @@ fn filled(s: &[u8], at: usize, out: &mut [f32]) -> usize {
     run.end
 }
 
-fn block_line(written: Written, out: &[f32]) {
+// The first words of a block's line, before its samples.
+pub fn written_words(written: Written) {
     match written {
         Written::Done => text(b"block"),
-        Written::Refused(_) => text(b"refused 16"),
+        Written::Refused(r) => {
+            text(b"refused");
+            and_number(refusal_number(r) as u64);
+        }
     }
+}
+
+fn block_line(written: Written, out: &[f32]) {
+    written_words(written);
     and_samples(out);
     end_line();
 }
 
 // What making fixes, as far as fades and sums depend on it.
-fn config(rate: u32, block: usize, table: bool) -> Config {
+pub fn config(rate: u32, block: usize, table: bool) -> Config {
     Config {
         rate,
         block,
@@ -116,8 +98,27 @@ fn config(rate: u32, block: usize, table: bool) -> Config {
     }
 }
 
-// The channel counts of input and output, the block size, the position and the length; then the gains, the input, and what the
-// output holds before. Of sorts 16 and 17, the calls of a store, 17 with the fade table, the rate stands in the length's place.
+// What stands before the runs of a fade: the channel counts of input and output, the block size, the position and the length, or the rate.
+pub struct Head {
+    pub ins: usize,
+    pub outs: usize,
+    pub size: usize,
+    pub position: u64,
+    pub length: u32,
+}
+
+pub fn head_at(s: &[u8], at: usize) -> Head {
+    Head {
+        ins: word_at(s, at) as usize,
+        outs: word_at(s, after(at, 4)) as usize,
+        size: word_at(s, after(at, 8)) as usize,
+        position: long_at(s, after(at, 12)),
+        length: word_at(s, after(at, 20)),
+    }
+}
+
+// The head of the fade; then the gains, the input, and what the output holds before. Of sorts 16 and 17, the calls of a store, 17 with
+// the fade table, the rate stands in the length's place.
 pub fn fade(s: &[u8], at: usize, sort: u8) -> usize {
     let gains = lent_at(s, after(at, 24));
     let input = lent_at(s, gains.end);
@@ -133,26 +134,27 @@ pub fn fade(s: &[u8], at: usize, sort: u8) -> usize {
 }
 
 fn fade_line(s: &[u8], at: usize, sort: u8, gains: &mut [f32], input: &mut [f32], out: &mut [f32]) {
-    let ins = word_at(s, at) as usize;
-    let outs = word_at(s, after(at, 4)) as usize;
-    let size = word_at(s, after(at, 8)) as usize;
-    let position = long_at(s, after(at, 12));
-    let length = word_at(s, after(at, 20));
+    let f = head_at(s, at);
     let first = filled(s, after(at, 24), gains);
     let second = filled(s, first, input);
     filled(s, second, out);
     if sort == 14 {
-        block_line(
-            bus::fade_output(input, ins, gains, length, position, size, out, outs),
+        let written = bus::fade_output(
+            input,
+            f.ins,
+            gains,
+            f.length,
+            f.position,
+            f.size,
             out,
+            f.outs,
         );
+        block_line(written, out);
         return;
     }
-    let made = config(length, size, sort == 17);
-    block_line(
-        mixing::fade_output(made, input, ins, gains, position, out, outs),
-        out,
-    );
+    let made = config(f.length, f.size, sort == 17);
+    let written = mixing::fade_output(made, input, f.ins, gains, f.position, out, f.outs);
+    block_line(written, out);
 }
 
 // The output's channel count and the block size; then the channel count of each input, the inputs, and what the output holds before. Sort 18

@@ -8,7 +8,6 @@ use call_make::make;
 use codec::field::after;
 use codec::field::at_most;
 use codec::field::byte_at;
-use codec::field::bytes_at;
 use codec::field::long_at;
 use codec::field::word_at;
 use codec::word::and_number;
@@ -46,6 +45,8 @@ use node::refusal::Refusal;
 use node::refusal::refusal_number;
 use order_table::ORDER_WORDS;
 use order_table::OrderTable;
+use script::name::name_at;
+use script::name::name_end;
 use voice::policy::Budget;
 use voice::policy::BudgetScope;
 use voice::policy::StealPolicy;
@@ -94,21 +95,14 @@ fn served(r: HostResult, end: usize) -> Played {
 
 // A kind name, ports, required ports and what the node takes.
 fn add(s: &[u8], at: usize, g: State, nodes: &mut NodeTable) -> Played {
-    let len = byte_at(s, at) as usize;
-    let kind = bytes_at(s, after(at, 1), len);
-    let rest = after(after(at, 1), len);
+    let kind = name_at(s, at);
+    let rest = name_end(s, at);
     let ports = word_at(s, rest);
     let required = long_at(s, after(rest, 4));
     let takes = byte_at(s, after(rest, 12));
-    let r = add_node(
-        g,
-        nodes,
-        kind,
-        ports,
-        required,
-        takes % 2 == 1,
-        takes / 2 % 2 == 1,
-    );
+    let values = takes % 2 == 1;
+    let glides = takes / 2 % 2 == 1;
+    let r = add_node(g, nodes, kind, ports, required, values, glides);
     let given = r.given;
     given_line(given);
     let state = r.state;
@@ -377,14 +371,8 @@ fn clear_voice(
 ) -> Played {
     text(b"done\n");
     let sink = g.sink;
-    let left = remove_voice(
-        nodes,
-        g.nodes,
-        edges,
-        g.edges,
-        sink,
-        VoiceId(long_at(s, at)),
-    );
+    let voice = VoiceId(long_at(s, at));
+    let left = remove_voice(nodes, g.nodes, edges, g.edges, sink, voice);
     let heard = left.sink;
     Played {
         state: with_graph(g, left.nodes, left.edges, heard, g.next),
@@ -442,14 +430,9 @@ fn play(
 
 // The state of a new store, of which the vectors use the graph alone.
 fn new_state() -> State {
-    let r = make(
-        48000.0,
-        64,
-        Budget::Unlimited,
-        StealPolicy::Reject,
-        BudgetScope::Global,
-        false,
-    );
+    let policy = StealPolicy::Reject;
+    let scope = BudgetScope::Global;
+    let r = make(48000.0, 64, Budget::Unlimited, policy, scope, false);
     r.state
 }
 

@@ -8,14 +8,10 @@ use codec::word::and_number;
 use codec::word::end_line;
 use codec::word::text;
 use node::name::name_of;
-use script::def::edges_at;
-use script::def::params_at;
+use script::def::def_at;
 use script::name::name_at;
 use script::name::name_end;
 use synthdef::def::DefEdges;
-use synthdef::def::DefNode;
-use synthdef::def::DefNodes;
-use synthdef::def::SynthDef;
 use synthdef::edges::counted_edges;
 use synthdef::limits::allowed;
 use synthdef::params::ParamNode;
@@ -23,71 +19,6 @@ use synthdef::params::param_node;
 use synthdef::plan::DonePlan;
 use synthdef::plan::done_plan;
 use synthdef::silent::plan_silent;
-
-// The nodes that were read, and the position after them. A count above the table's capacity is kept; its rows are read and left out.
-struct ReadNodes {
-    nodes: DefNodes,
-    end: usize,
-}
-
-struct ReadDef {
-    def: SynthDef,
-    end: usize,
-}
-
-// A kind name, ports, required ports, what the node takes, and its ports by name.
-fn node_at(s: &[u8], at: usize) -> DefNode {
-    let rest = name_end(s, at);
-    let takes = byte_at(s, after(rest, 2));
-    DefNode {
-        kind: name_of(name_at(s, at)),
-        ports: byte_at(s, rest),
-        required: byte_at(s, after(rest, 1)),
-        takes_values: takes % 2 == 1,
-        takes_glides: takes / 2 % 2 == 1,
-        in_port: byte_at(s, after(rest, 3)),
-        level_port: byte_at(s, after(rest, 4)),
-        amp_port: byte_at(s, after(rest, 5)),
-    }
-}
-
-fn nodes_at(s: &[u8], at: usize) -> ReadNodes {
-    let count = byte_at(s, at) as usize;
-    let mut rows = [node_at(b"", 0); 24];
-    let mut end = after(at, 1);
-    let mut i: usize = 0;
-    while i < count {
-        let node = node_at(s, end);
-        end = after(name_end(s, end), 6);
-        let place = i;
-        i += 1;
-        if place < 24 {
-            rows[place] = node;
-        }
-    }
-    ReadNodes {
-        nodes: DefNodes { rows, count },
-        end,
-    }
-}
-
-fn def_at(s: &[u8], at: usize) -> ReadDef {
-    let n = nodes_at(s, at);
-    let e = edges_at(s, n.end);
-    let p = params_at(s, e.end);
-    let nodes = n.nodes;
-    let edges = e.edges;
-    let params = p.params;
-    ReadDef {
-        def: SynthDef {
-            nodes,
-            edges,
-            params,
-            output: byte_at(s, p.end),
-        },
-        end: after(p.end, 1),
-    }
-}
 
 fn edge_words(es: DefEdges) {
     let n = at_most(es.count, 48);

@@ -2,7 +2,6 @@
 use codec::field::after;
 use codec::field::at_most;
 use codec::field::byte_at;
-use codec::field::bytes_at;
 use codec::field::long_at;
 use codec::field::word_at;
 use codec::word::and_number;
@@ -28,6 +27,8 @@ use scheduler::event::Event;
 use scheduler::queue::ScheduleAnswer;
 use script::glide::action_of;
 use script::glide::glide_at;
+use script::name::name_at;
+use script::name::name_end;
 
 // How many events wait after a call, and the position after the call.
 struct Played {
@@ -37,13 +38,12 @@ struct Played {
 
 // Schedules the event at `at`: time, voice, name and action.
 fn scheduled(s: &[u8], at: usize, queue: &mut EventTable, count: usize) -> Played {
-    let len = byte_at(s, after(at, 16)) as usize;
-    let from = after(at, 17);
-    let end = after(from, len);
+    let name = after(at, 16);
+    let end = name_end(s, name);
     let event = Event {
         time: long_at(s, at),
         voice: VoiceId(long_at(s, after(at, 8))),
-        name: name_of(bytes_at(s, from, len)),
+        name: name_of(name_at(s, name)),
         action: action_of(byte_at(s, end), glide_at(s, after(end, 1))),
     };
     let r = schedule(queue, count, event);

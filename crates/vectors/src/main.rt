@@ -34,6 +34,8 @@ fn answer(s: &[u8], at: usize) -> usize {
         42 => victims::admission(s, from),
         43 => victims::steals(s, from),
         51 => definition(s, from),
+        61 | 62 => vec_whole::blocks::fade(s, from, sort),
+        63 => vec_whole::blocks::sum(s, from),
         _ => usize::MAX,
     }
 }

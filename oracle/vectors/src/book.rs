@@ -92,7 +92,7 @@ struct File {
     answer: String,
 }
 
-/// A file that holds this many bytes of input is not added to. The program reads 384 KiB at most, and no vector has more
+/// A file that holds this many bytes of input is not added to. The program reads 768 KiB at most, and no vector has more
 /// than 64 KiB.
 const FULL: usize = 320 * 1024;
 

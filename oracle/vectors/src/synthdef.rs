@@ -39,6 +39,7 @@ fn put(vector: &mut Vector, def: &Definition) {
         vector.u8(byte(Some(node.ports.len())));
         vector.u8(node.required as u8);
         vector.u8(u8::from(node.takes_values) + 2 * u8::from(node.takes_glides));
+        vector.u8(byte(Some(node.channels)));
         for port in node.named {
             vector.u8(byte(port));
         }

@@ -23,6 +23,9 @@ output-room-requires c κs = search needs
 first-board-requires : tie.Need-first-board-requires Inv-loop μ-loop
 first-board-requires c κs = search needs
 
+no-slots-requires : tie.Need-no-slots-requires Inv-loop μ-loop
+no-slots-requires c κs = search needs
+
 first-run-requires : tie.Need-first-run-requires Inv-loop μ-loop
 first-run-requires c κs = search needs
 
@@ -96,6 +99,7 @@ play-input-spec =
     window-room-requires
     output-room-requires
     first-board-requires
+    no-slots-requires
     first-run-requires
     loop-holds
     sub-left
