@@ -15,8 +15,8 @@ use Rattle.busiest.specs.declared.stretch.Scan.{Scan}
 use Rattle.busiest.specs.Stretch.{within, fallsFrom, falls, largest, firstOf, Answer, refused, gives, busiest, BusiestStretch}
 use Rattle.busiest.specs.Scan.{begun, grown, moved, advanced, scanFrom, scanned, concluded}
 use Rattle.busiest.proofs.Rises.{Rises, falls-not, falls-to, falls-from, rises-take}
-use Rattle.busiest.proofs.Seen.{Seen, seen-none, seen-grown, seen-kept}
-use Rattle.busiest.proofs.Theorem.{some-inside, seen-stretch, seen-largest, seen-first}
+use Rattle.busiest.proofs.SoFar.{SoFar, so-far-none, so-far-grown, so-far-kept}
+use Rattle.busiest.proofs.Theorem.{some-inside, so-far-stretch, so-far-largest, so-far-first}
 
 -- ---- one record more
 
@@ -82,7 +82,7 @@ module _ (xs : List ℕ) where
   module _ (w : ℕ) (wide : 0 < w) (rises : Rises 0 xs) where
     -- what is known of the first i records, and where `head` stands
     abbrev Known : ℕ → Scan → Type 0
-    Known i s = (s .width ≡ w) × (s .head + s .most ≡ i) × Seen w (take i xs) (s .most) (s .first)
+    Known i s = (s .width ≡ w) × (s .head + s .most ≡ i) × SoFar w (take i xs) (s .most) (s .first)
 
     known-next : (i : ℕ) (s : Scan) → i < length xs → Known i s → Known (i + 1) (advanced s (getD xs (s .head) 0) (getD xs i 0))
     known-next i s less known =
@@ -116,11 +116,11 @@ module _ (xs : List ℕ) where
         test : (b : Bool) → within (s .width) x y ≡ b → within w (getD (p ++ (y ∷ [])) (length p - s .most) 0) y ≡ b
         test b e = ap (λ a. within w a y) head ∙ ap (λ v. within v x y) (sym (known .0)) ∙ e
 
-        go : (b : Bool) → within (s .width) x y ≡ b → Seen w (take (i + 1) xs) (cond b (grown s x y) (moved s y) .most) (cond b (grown s x y) (moved s y) .first)
+        go : (b : Bool) → within (s .width) x y ≡ b → SoFar w (take (i + 1) xs) (cond b (grown s x y) (moved s y) .most) (cond b (grown s x y) (moved s y) .first)
         go true e =
-            let g = seen-grown w (s .most) (s .first) p y wide up (known .2) (test true e) in
+            let g = so-far-grown w (s .most) (s .first) p y wide up (known .2) (test true e) in
             rw row (rw head at g)
-        go false e = rw row (seen-kept w (s .most) (s .first) p y wide up (known .2) (test false e))
+        go false e = rw row (so-far-kept w (s .most) (s .first) p y wide up (known .2) (test false e))
 
     known-all : (k i : ℕ) (s : Scan) → i + k ≡ length xs → Known i s → Known (length xs) (scanFrom k xs i s)
     known-all zero i s e known = let over : i ≡ length xs = omega arith in rw over at known
@@ -129,10 +129,10 @@ module _ (xs : List ℕ) where
         let on : i + 1 + k ≡ length xs = omega arith in
         known-all k (i + 1) (advanced s (getD xs (s .head) 0) (getD xs i 0)) on (known-next i s less known)
 
-    pub seen-all : Seen w xs (scanned w xs .most) (scanned w xs .first)
-    seen-all =
+    pub so-far-all : SoFar w xs (scanned w xs .most) (scanned w xs .first)
+    so-far-all =
         let z = scanned w xs in
-        let all : Known (length xs) z = known-all (length xs) 0 (begun w) (omega arith) (refl, refl, seen-none w 0) in
+        let all : Known (length xs) z = known-all (length xs) 0 (begun w) (omega arith) (refl, refl, so-far-none w 0) in
         let whole : take (length xs) xs ≡ xs = take-all (length xs) xs (omega arith) in
         rw whole at (all .2)
 
@@ -171,14 +171,14 @@ empty-run w wide = let e : eqb w 0 ≡ false = ne-eqb w 0 (λ z. omega arith) in
 pub found : (w : ℕ) (xs : List ℕ) → 0 < w → falls xs ≡ false → 0 < length xs → (n : ℕ) × (x : ℕ) × (busiest w xs ≡ gives n (some x)) × BusiestStretch w xs n x
 found w xs wide f records =
     let rises = falls-not 0 xs f in
-    let seen = seen-all xs w wide rises in
+    let so-far = so-far-all xs w wide rises in
     let n = scanned w xs .most in
     let x = scanned w xs .first in
     let e : eqb w 0 ≡ false = ne-eqb w 0 (λ z. omega arith) in
     let gave : busiest w xs ≡ gives (largest w xs xs) (firstOf w xs) = rw (e, f) in
     let which : gives (largest w xs xs) (firstOf w xs) ≡ gives n (some x) =
-    ap (λ m. gives m (firstOf w xs)) (seen-largest w xs n x wide rises records seen) ∙ ap (gives n) (seen-first w xs n x wide rises records seen) in
-    (n, x, gave ∙ which, seen-stretch w xs n x wide rises records seen)
+    ap (λ m. gives m (firstOf w xs)) (so-far-largest w xs n x wide rises records so-far) ∙ ap (gives n) (so-far-first w xs n x wide rises records so-far) in
+    (n, x, gave ∙ which, so-far-stretch w xs n x wide rises records so-far)
 
 -- ---- the walk's answer is the definition's
 
@@ -199,11 +199,11 @@ concluded-busiest w xs =
     last wide f (x ∷ l) e =
         let records : 0 < length xs = (let c : length xs ≡ suc (length l) = ap length e in omega arith) in
         let rises = falls-not 0 xs f in
-        let seen = seen-all xs w wide rises in
-        let positive = some-inside w xs (z .most) (z .first) wide rises records seen in
+        let so-far = so-far-all xs w wide rises in
+        let positive = some-inside w xs (z .most) (z .first) wide rises records so-far in
         let off : eqb (z .most) 0 ≡ false = ne-eqb (z .most) 0 (λ q. omega arith) in
         ap (λ b. cond b (gives 0 none) (gives (z .most) (some (z .first)))) off
-        ∙ sym (ap (λ m. gives m (firstOf w xs)) (seen-largest w xs (z .most) (z .first) wide rises records seen) ∙ ap (gives (z .most)) (seen-first w xs (z .most) (z .first) wide rises records seen))
+        ∙ sym (ap (λ m. gives m (firstOf w xs)) (so-far-largest w xs (z .most) (z .first) wide rises records so-far) ∙ ap (gives (z .most)) (so-far-first w xs (z .most) (z .first) wide rises records so-far))
 
     go : (a : Bool) → eqb w 0 ≡ a → (b : Bool) → falls xs ≡ b → cond a (refused 22) (cond b (refused 23) rest) ≡ cond a (refused 22) (cond b (refused 23) (gives (largest w xs xs) (firstOf w xs)))
     go true e b f = refl

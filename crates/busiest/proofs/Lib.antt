@@ -1,6 +1,6 @@
 pub mod Examples
 pub mod Rises
-pub mod Seen
+pub mod SoFar
 pub mod Theorem
 pub mod Found
 pub mod Rows

@@ -17,7 +17,7 @@ use Rattle.lists.proofs.Find.{find-in, find-none}
 use Rattle.lists.proofs.Count.{count-none}
 use Rattle.busiest.specs.Stretch.{within, inside, largest, firstOf, BusiestStretch}
 use Rattle.busiest.proofs.Rises.{Rises, count-le, count-some, find-least}
-use Rattle.busiest.proofs.Seen.{within-from, within-to, within-on, Seen}
+use Rattle.busiest.proofs.SoFar.{within-from, within-to, within-on, SoFar}
 
 -- it names one number and one sample
 pub only : (w : ℕ) (xs : List ℕ) (n x m y : ℕ) → BusiestStretch w xs n x → BusiestStretch w xs m y → (n ≡ m) × (x ≡ y)
@@ -54,19 +54,19 @@ module _ (q : ℕ → Bool) where
 
 -- ---- what the walk knows at the end is that
 
-module _ (w : ℕ) (xs : List ℕ) (n x : ℕ) (wide : 0 < w) (rises : Rises 0 xs) (some-record : 0 < length xs) (seen : Seen w xs n x) where
+module _ (w : ℕ) (xs : List ℕ) (n x : ℕ) (wide : 0 < w) (rises : Rises 0 xs) (some-record : 0 < length xs) (so-far : SoFar w xs n x) where
   self : (a : ℕ) → within w a a ≡ true
   self a = within-on w a a (omega arith) (omega arith)
 
   met : In x xs
-  met = seen .met some-record
+  met = so-far .met some-record
 
   pub some-inside : 0 < n
-  some-inside = let c = count-some (within w x) xs x met (self x) in let e = seen .as-many in omega arith
+  some-inside = let c = count-some (within w x) xs x met (self x) in let e = so-far .as-many in omega arith
 
   -- a record whose own stretch holds n is not before x
   not-before : (r : ℕ) → In r xs → inside w r xs ≡ n → x ≤ r
-  not-before r i e = let f : r < x → ⊥ = (λ less. let c = seen .earlier r i less in omega arith) in omega (arith, f)
+  not-before r i e = let f : r < x → ⊥ = (λ less. let c = so-far .earlier r i less in omega arith) in omega (arith, f)
 
   -- the first record of the earliest stretch
   first-is : (a : ℕ) → inside w a xs ≡ n → a ≤ x → (o : Option ℕ) → find (within w a) xs ≡ o → o ≡ some x
@@ -83,21 +83,21 @@ module _ (w : ℕ) (xs : List ℕ) (n x : ℕ) (wide : 0 < w) (rises : Rises 0 x
       let hi = within-to w a z t in
       within-on w r z lo (omega arith)) in
       let more = count-le (within w a) (within w r) xs holds in
-      let most = seen .no-more r in
+      let most = so-far .no-more r in
       let late = not-before r (i .0) (omega arith) in
       let on : within w a x ≡ true = within-on w a x le (omega arith) in
       let early = find-least (within w a) 0 xs rises x met on r f in
       let same : r ≡ x = omega arith in
       ap some same
 
-  pub seen-stretch : BusiestStretch w xs n x
-  seen-stretch =
-      let l = least (λ a. eqb (inside w a xs) n) x (eq-eqb (inside w x xs) n (seen .as-many)) in
+  pub so-far-stretch : BusiestStretch w xs n x
+  so-far-stretch =
+      let l = least (λ a. eqb (inside w a xs) n) x (eq-eqb (inside w x xs) n (so-far .as-many)) in
       let holds = eqb-true (inside w (l .0) xs) n (l .1) in
-      let low = l .2 x (eq-eqb (inside w x xs) n (seen .as-many)) in
+      let low = l .2 x (eq-eqb (inside w x xs) n (so-far .as-many)) in
       record {
         start = l .0;
-        no-more = seen .no-more;
+        no-more = so-far .no-more;
         as-many = holds;
         earliest = λ a e. l .2 a (eq-eqb (inside w a xs) n e);
         first = first-is (l .0) holds low (find (within w (l .0)) xs) refl;
@@ -107,24 +107,24 @@ module _ (w : ℕ) (xs : List ℕ) (n x : ℕ) (wide : 0 < w) (rises : Rises 0 x
 
   largest-most : (l : List ℕ) → largest w xs l ≤ n
   largest-most [] = omega arith
-  largest-most (a ∷ l) = let h = seen .no-more a in let k = largest-most l in omega arith
+  largest-most (a ∷ l) = let h = so-far .no-more a in let k = largest-most l in omega arith
 
   largest-least : (l : List ℕ) (a : ℕ) → In a l → inside w a xs ≤ largest w xs l
   largest-least [] a i = absurd i
   largest-least (b ∷ l) a (inl p) = let e : inside w a xs ≡ inside w b xs = ap (λ c. inside w c xs) p in omega arith
   largest-least (b ∷ l) a (inr i) = let k = largest-least l a i in omega arith
 
-  pub seen-largest : largest w xs xs ≡ n
-  seen-largest = let h = largest-most xs in let k = largest-least xs x met in let e = seen .as-many in omega arith
+  pub so-far-largest : largest w xs xs ≡ n
+  so-far-largest = let h = largest-most xs in let k = largest-least xs x met in let e = so-far .as-many in omega arith
 
-  pub seen-first : firstOf w xs ≡ some x
-  seen-first = ap (λ m. find (λ a. eqb (inside w a xs) m) xs) seen-largest ∙ go (find q xs) refl
+  pub so-far-first : firstOf w xs ≡ some x
+  so-far-first = ap (λ m. find (λ a. eqb (inside w a xs) m) xs) so-far-largest ∙ go (find q xs) refl
     where
       q : ℕ → Bool
       q a = eqb (inside w a xs) n
 
       on : q x ≡ true
-      on = eq-eqb (inside w x xs) n (seen .as-many)
+      on = eq-eqb (inside w x xs) n (so-far .as-many)
 
       go : (o : Option ℕ) → find q xs ≡ o → o ≡ some x
       go none e = absurd (false≢true (sym (find-none q xs x e met) ∙ on))

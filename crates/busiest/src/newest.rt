@@ -1,10 +1,12 @@
 use crate::stretch::Busiest;
 use crate::stretch::busiest_stretch;
+use voice::policy::Level;
 use voice::steals::StealFound;
 use voice::steals::StealRecord;
 use voice::steals::Steals;
 use voice::steals::held_steals;
 use voice::steals::steal_at;
+use voice::steals::steal_record;
 ghost use mathlib.Core.Path.{_≡_};
 ghost use Prim.Native.Nat.{_≤_};
 ghost use lib.ListN.{take};
@@ -33,12 +35,7 @@ pub fn newest_records(s: Steals) -> Newest
     ensures { λ r. ⌜ r ≡ newestOf (logOf s .newest) ⌝ }
 {
     let n = held_steals(s);
-    let none = StealRecord {
-        sample: 0,
-        level: 0.0,
-        known: false,
-        cut: false,
-    };
+    let none = steal_record(0, Level::Unknown, false);
     let mut rows = [none; 64];
     let mut i: usize = 0;
     while i < n {

@@ -19,7 +19,7 @@ use Rattle.memory.specs.View.{Memory, modelOf, sharedOf, graphOf}
 use Rattle.memory.specs.Lent.{lentVoices}
 use Rattle.memory.specs.Parts.{graphed, voiced}
 use Rattle.call_free.specs.Forgotten.{withoutIds}
-use Rattle.call_free.proofs.Together.{remade-same, some-gone}
+use Rattle.call_free.proofs.Together.{remade-same, some-removed}
 
 module _ (s : State) (ns es vs ids : List ℕ) (l : Left) (count : ℕ) where
   abbrev left : State
@@ -36,4 +36,4 @@ module _ (s : State) (ns es vs ids : List ℕ) (l : Left) (count : ℕ) where
       ∙ remade-same (sharedOf old) _ _ _ _
       (same-view (graphOf (lentVoices left ns' es' vs' m)) (without (ownedByAny ids) (graphOf old)) (graph .nodes .is) (graph .edges .is) (graph .sink) refl refl refl)
       (rows .is)
-      ∙ some-gone ids (modelOf old) some
+      ∙ some-removed ids (modelOf old) some

@@ -48,14 +48,14 @@ module _ (k : ℕ) (m : Model) where
       (filter-filter (λ v. not (isAnyOf ids v)) (λ v. not (isVoice first v)) (m .voices)
       ∙ filter-same _ _ (m .voices) (λ v i. neither (isVoice first v) (isAnyOf ids v) ∙ ap not (sym (listed-more k (v .id .0) ids))))
 
-gone-together : (k : ℕ) (ids : List ℕ) (m : Model) → withoutIds (k ∷ ids) m ≡ together (k ∷ ids) m
-gone-together k [] m = one k m
-gone-together k (j ∷ ids) m = gone-together j ids (withoutVoice (record { 0 = k }) m) ∙ then k m (j ∷ ids)
+removed-together : (k : ℕ) (ids : List ℕ) (m : Model) → withoutIds (k ∷ ids) m ≡ together (k ∷ ids) m
+removed-together k [] m = one k m
+removed-together k (j ∷ ids) m = removed-together j ids (withoutVoice (record { 0 = k }) m) ∙ then k m (j ∷ ids)
 
-pub none-gone : (ids : List ℕ) (m : Model) → length ids ≡ 0 → m ≡ withoutIds ids m
-none-gone [] m e = refl
-none-gone (k ∷ ids) m e = absurd (omega arith)
+pub none-removed : (ids : List ℕ) (m : Model) → length ids ≡ 0 → m ≡ withoutIds ids m
+none-removed [] m e = refl
+none-removed (k ∷ ids) m e = absurd (omega arith)
 
-pub some-gone : (ids : List ℕ) (m : Model) → (length ids ≡ 0 → ⊥) → together ids m ≡ withoutIds ids m
-some-gone [] m h = absurd (h refl)
-some-gone (k ∷ ids) m h = sym (gone-together k ids m)
+pub some-removed : (ids : List ℕ) (m : Model) → (length ids ≡ 0 → ⊥) → together ids m ≡ withoutIds ids m
+some-removed [] m h = absurd (h refl)
+some-removed (k ∷ ids) m h = sym (removed-together k ids m)

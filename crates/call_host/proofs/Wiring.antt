@@ -33,7 +33,7 @@ use Rattle.memory.specs.declared.state.State.{State}
 use Rattle.memory.specs.View.{Memory, graphOf, modelOf}
 use Rattle.memory.specs.Lent.{lentGraph}
 use Rattle.memory.specs.Called.{Called}
-use Rattle.memory.proofs.Steps.{refuses, serves}
+use Rattle.memory.proofs.Contracts.{refuses, serves}
 use Rattle.memory.specs.Parts.{graphed}
 
 -- a call that changes the graph: refused, or done with the graph that the model leaves

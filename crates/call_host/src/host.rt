@@ -19,6 +19,7 @@ use memory::state::State;
 use node::record::Edge;
 use node::record::NodeId;
 use node::refusal::Refusal;
+ghost use mathlib.Core.Path.{_≡_};
 ghost use Rattle.model.specs.Call.{addNode, removeNode, connect, disconnect, setSink};
 ghost use Rattle.memory.specs.View.{Memory};
 ghost use Rattle.memory.specs.Lent.{lentNodes, lentGraph};
@@ -68,6 +69,16 @@ pub fn add_node(
     }
 }
 
+// A call that is refused leaves the state as it is.
+fn refuse(s: State, why: Refusal) -> HostResult
+    ensures { λ r. ⌜ (r .state ≡ s) × (r .answer ≡ Answer.Refused why) ⌝ }
+{
+    HostResult {
+        state: s,
+        answer: Answer::Refused(why),
+    }
+}
+
 // The host removes one of its nodes, with its edges.
 pub fn remove_node(
     s: State,
@@ -80,10 +91,7 @@ pub fn remove_node(
 {
     let test = host_answer(s, nodes, node);
     match test {
-        Answer::Refused(r) => HostResult {
-            state: s,
-            answer: Answer::Refused(r),
-        },
+        Answer::Refused(why) => refuse(s, why),
         Answer::Done => {
             let sink = s.sink;
             let left = graph_tables::removal::remove_node(
@@ -118,10 +126,7 @@ pub fn connect(
 {
     let test = wire_answer(s, nodes, edges, from, to, port);
     match test {
-        Answer::Refused(r) => HostResult {
-            state: s,
-            answer: Answer::Refused(r),
-        },
+        Answer::Refused(why) => refuse(s, why),
         Answer::Done => {
             let n = put_edge(edges, s.edges, Edge { from, to, port });
             let sink = s.sink;
@@ -147,10 +152,7 @@ pub fn disconnect(
 {
     let test = port_answer(s, nodes, to, port);
     match test {
-        Answer::Refused(r) => HostResult {
-            state: s,
-            answer: Answer::Refused(r),
-        },
+        Answer::Refused(why) => refuse(s, why),
         Answer::Done => {
             let n = drop_port(edges, s.edges, to, port);
             let sink = s.sink;
@@ -170,10 +172,7 @@ pub fn set_sink(s: State, nodes: &NodeTable, node: NodeId) -> HostResult
 {
     let test = host_answer(s, nodes, node);
     match test {
-        Answer::Refused(r) => HostResult {
-            state: s,
-            answer: Answer::Refused(r),
-        },
+        Answer::Refused(why) => refuse(s, why),
         Answer::Done => {
             let state = with_graph(s, s.nodes, s.edges, Sink::Node(node), s.next);
             HostResult {

@@ -16,7 +16,7 @@ use Rattle.node.specs.declared.record.NodeId.{NodeId}
 use Rattle.node.specs.declared.record.VoiceId.{VoiceId}
 use Rattle.node.specs.declared.record.Edge.{Edge}
 use Rattle.edges.specs.Ports.{feeds}
-use Rattle.graph_tables.specs.Fed.{node, feedingOf}
+use Rattle.graph_tables.specs.FedPorts.{node, feedingOf}
 use Rattle.graph_tables.specs.declared.ports.Feeding.{Feeding}
 use Rattle.store.specs.declared.voices.Voice.{Voice}
 use Rattle.store.specs.declared.voices.VoiceState.{VoiceState}

@@ -3,48 +3,25 @@ use Prim.Native.Nat.{ℕ, suc, _+_, _-_, _≤_, _<_}
 use native.Mathlib.Numerals.{add-one}
 use native.Mathlib.Omega.{arith}
 use mathlib.Core.Path.{_≡_, sym, ap, _∙_}
-use mathlib.Core.List.{List, [], _∷_, _++_, append-assoc, append-nil}
-use lib.ListN.{length, take, drop, set, length-append, length-drop}
-use lib.Seq.{drop-cons, set-append-seam, take-append-seam, drop-append-seam, drop-drop, take-length, drop-length}
+use mathlib.Core.List.{List, [], _∷_, _++_, append-assoc}
+use lib.ListN.{length, take, drop, set, length-append}
+use lib.Seq.{drop-cons, set-append-seam, take-append-seam}
 use borrow.Rule.Slice.PartMut.{midOf, putMid}
-use Rattle.model.specs.Written.{written}
+use Rattle.lists.proofs.Written.{written-then, written-copy, written-long}
 use Rattle.call_page.specs.Paged.{Put}
-
--- what is left of a list after its front, and the list with something else there
-module _ (a rest : List ℕ) where
-  left : length (a ++ rest) - length a ≡ length rest
-  left = omega (arith, length-append a rest)
-
-  mid-is : midOf (length a) (length (a ++ rest) - length a) (a ++ rest) ≡ rest
-  mid-is = rw (left, drop-append-seam) (take-length rest)
-
-  put-is : (z : List ℕ) → putMid (length a) (length (a ++ rest) - length a) (a ++ rest) z ≡ a ++ z
-  put-is z = rw (left, take-append-seam, drop-append-seam, drop-length) (ap (_++_ a) (append-nil z))
-
-written-both : (a b x : List ℕ) → a ++ written b (drop (length a) x) ≡ written (a ++ b) x
-written-both a b x = rw (length-append, drop-drop) (sym (append-assoc a b _))
 
 -- a text, and another in what is left
 pub then : {m n : ℕ} {a b x y z : List ℕ} {p q : ℕ} → Put m a x y p → Put n b (midOf p (length y - p) y) z q → Put (m + n) (a ++ b) x (putMid p (length y - p) y z) (p + q)
-then {a = a} {b} {x} {y} {z} {p} {q} e f =
-    let rest = drop (length a) x in
-    let mid : midOf p (length y - p) y ≡ rest = rw (e .placed, e .long) (mid-is a rest) in
-    let laid : z ≡ written b rest = f .placed ∙ ap (written b) mid in
+then {a = a} {b} {x} e f =
     record {
-      placed = rw (e .placed, e .long) (put-is a rest z ∙ ap (_++_ a) laid ∙ written-both a b x);
+      placed = written-then a b x (e .placed) (e .long) (f .placed);
       long = omega (arith, e .long, f .long, length-append a b);
       fits = omega (arith, e .fits, f .fits);
     }
 
 -- a text that was copied
 pub copied : (m : ℕ) (s text x y : List ℕ) (r : ℕ) → s ≡ text → r ≡ length s → y ≡ take (length s) s ++ drop (length s) x → r ≤ m → Put m text x y r
-copied m s text x y r t e f h =
-    rw (← t)
-    record {
-      placed = f ∙ ap (λ (l : List ℕ). l ++ drop (length s) x) (take-length s);
-      long = e;
-      fits = h;
-    }
+copied m s text x y r t e f h = rw (← t) record { placed = written-copy s x f; long = e; fits = h }
 
 -- and one byte after a text
 pub and-byte : {m : ℕ} {a x y : List ℕ} {p : ℕ} (b : ℕ) → Put m a x y p → m < length x → Put (m + 1) (a ++ (b ∷ [])) x (set y p b) (p + 1)
@@ -63,8 +40,7 @@ widened h t e = rw (← t) (record { placed = e .placed; long = e .long; fits = 
 
 -- the buffer keeps its length
 pub same-long : {m : ℕ} {a x y : List ℕ} {r : ℕ} → Put m a x y r → m ≤ length x → length y ≡ length x
-same-long {m} {a} {x} {y} e h =
-    ap length (e .placed) ∙ length-append a (drop (length a) x) ∙ omega (arith, length-drop (length a) x, e .long, e .fits)
+same-long {m} {a} {x} e h = ap length (e .placed) ∙ written-long a x (omega (arith, e .long, e .fits))
 
 -- the text stands where it was put
 pub taken : {m : ℕ} {a x y : List ℕ} {r : ℕ} → Put m a x y r → take r y ≡ a

@@ -7,7 +7,7 @@ use lib.Dec.{leb}
 use lib.ListN.{length}
 use Rattle.store.specs.declared.answer.Paged.{Paged}
 use Rattle.store.specs.declared.answer.Paged.the-variants.{Length, Refused}
-use Rattle.model.specs.Written.{written}
+use Rattle.lists.specs.Written.{written}
 use Rattle.model.specs.Call as call
 
 -- "answers the length, or 17", with what the buffer holds then

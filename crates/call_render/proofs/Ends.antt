@@ -24,11 +24,11 @@ use Rattle.model.specs.Render.{isFree, applyEvent, applyEvents, deadline, ready
 use Rattle.model.specs.Voice.{isVoice, id}
 use Rattle.call_render.specs.Blocks.{readied, blockTo}
 
-happen-free : (e : Event) (m : Model) → isFree (e .action) ≡ true → free (e .voice) m ≡ applyEvent e m
-happen-free e m h = rw h
+event-free : (e : Event) (m : Model) → isFree (e .action) ≡ true → free (e .voice) m ≡ applyEvent e m
+event-free e m h = rw h
 
-happen-order : (e : Event) (m : Model) → isFree (e .action) ≡ false → record { shared = order (e .voice) (paramOrder e .name) (paramOrder e .order) (m .voices) (m .shared) .shared; voices = m .voices } ≡ applyEvent e m
-happen-order e m h = rw h
+event-order : (e : Event) (m : Model) → isFree (e .action) ≡ false → record { shared = order (e .voice) (paramOrder e .name) (paramOrder e .order) (m .voices) (m .shared) .shared; voices = m .voices } ≡ applyEvent e m
+event-order e m h = rw h
 
 freed-ends : (o : Option Voice) (m : Model) → deadline (freed o m .shared) ≡ deadline (m .shared)
 freed-ends none m = refl
@@ -50,16 +50,16 @@ order-ends : (x : Option Voice) (name : Name) (o : LastOrder) (d : SharedState) 
 order-ends none name o d = refl
 order-ends (some v) name o d = param-ends (paramNode (paramRows (v .params)) name) v o d
 
-happen-ends : (e : Event) (m : Model) → deadline (applyEvent e m .shared) ≡ deadline (m .shared)
-happen-ends e m = go (isFree (e .action)) refl
+event-ends : (e : Event) (m : Model) → deadline (applyEvent e m .shared) ≡ deadline (m .shared)
+event-ends e m = go (isFree (e .action)) refl
   where
     go : (b : Bool) → isFree (e .action) ≡ b → deadline (applyEvent e m .shared) ≡ deadline (m .shared)
-    go true h = ap (λ (k : Model). deadline (k .shared)) (sym (happen-free e m h)) ∙ freed-ends (find (isVoice (e .voice)) (m .voices)) m
-    go false h = ap (λ (k : Model). deadline (k .shared)) (sym (happen-order e m h)) ∙ order-ends (find (isVoice (e .voice)) (m .voices)) (paramOrder e .name) (paramOrder e .order) (m .shared)
+    go true h = ap (λ (k : Model). deadline (k .shared)) (sym (event-free e m h)) ∙ freed-ends (find (isVoice (e .voice)) (m .voices)) m
+    go false h = ap (λ (k : Model). deadline (k .shared)) (sym (event-order e m h)) ∙ order-ends (find (isVoice (e .voice)) (m .voices)) (paramOrder e .name) (paramOrder e .order) (m .shared)
 
 pub all-ends : (l : List Event) (m : Model) → deadline (applyEvents l m .shared) ≡ deadline (m .shared)
 all-ends [] m = refl
-all-ends (e ∷ l) m = all-ends l (applyEvent e m) ∙ happen-ends e m
+all-ends (e ∷ l) m = all-ends l (applyEvent e m) ∙ event-ends e m
 
 ready-ends : (r : Readiness) (l : List NodeId) (d : SharedState) → deadline (readyShared r l d) ≡ deadline d
 ready-ends Readiness.Ready l d = refl

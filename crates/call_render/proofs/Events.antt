@@ -26,7 +26,7 @@ use Rattle.store.specs.declared.voices.Voice.{Voice}
 use Rattle.model.specs.SharedState.{SharedState, withEvents}
 use Rattle.model.specs.Model.{Model, freed}
 use Rattle.model.specs.Order.{order, outcomeNumber, freeOutcome}
-use Rattle.model.specs.Written.{written}
+use Rattle.lists.specs.Written.{written}
 use Rattle.model.proofs.Outcomes.{count-is}
 use Rattle.model.specs.Render.{isFree, anyFree, applyEvent, applyEvents, outcomes}
 use Rattle.model.specs.Voice.{isVoice}
@@ -41,8 +41,8 @@ use Rattle.call_param.specs.Left.{Reply, isKnown, orderLeft}
 use Rattle.call_param.specs.Replies.{Replies}
 use Rattle.call_param.proofs.Whole.{freed-unknown, others-known}
 use Rattle.call_free.specs.Forgotten.{withoutIds}
-use Rattle.call_render.specs.Happened.{scene, noted, Noted, Happens, Left, Handed}
-use Rattle.call_render.proofs.Gone.{way-order, way-free, say-order, say-free}
+use Rattle.call_render.specs.Applying.{scene, noted, Noted, EventApplied, Left, Handed}
+use Rattle.call_render.proofs.Freed.{way-order, way-free, say-order, say-free}
 
 -- ---- a voice is noted
 module _ (vs : List Voice) (w : VoiceId) (old : List ℕ) (count : ℕ) where
@@ -73,8 +73,8 @@ module _ (vs : List Voice) (w : VoiceId) (old : List ℕ) (count : ℕ) where
 
 -- ---- one event
 module _ (vs : List Voice) (e : Event) (ns : List Node) (old : List ℕ) (count : ℕ) where
-  pub happens-free : isFree (e .action) ≡ true → (new : List ℕ) (r : ℕ) (o : Outcome) → Noted vs (e .voice) old count new r o → Happens vs e ns old count ns new r o
-  happens-free t new r o h =
+  pub applied-free : isFree (e .action) ≡ true → (new : List ℕ) (r : ℕ) (o : Outcome) → Noted vs (e .voice) old count new r o → EventApplied vs e ns old count ns new r o
+  applied-free t new r o h =
       record {
         is = λ d. ap (λ z. withoutIds z (scene d ns vs)) (h .is) ∙ way-free (take count old) d ns vs (e .voice) ∙ rw t;
         told = λ d. h .told ∙ say-free (take count old) d ns vs (e .voice) ∙ rw t;
@@ -82,9 +82,9 @@ module _ (vs : List Voice) (e : Event) (ns : List Node) (old : List ℕ) (count 
         long = h .long;
       }
 
-  pub happens-order : isFree (e .action) ≡ false → (p : ParamOrder) → p ≡ paramOrder e → (words new : List ℕ) (live : ℕ) (o : Outcome) → ns ≡ take live (nodesIn words)
-      → Replies words new live o (orderLeft (take count old) (e .voice) (p .name) (p .order) vs ns) → Happens vs e ns old count (take live (nodesIn new)) old count o
-  happens-order t p is words new live o same h =
+  pub applied-order : isFree (e .action) ≡ false → (p : ParamOrder) → p ≡ paramOrder e → (words new : List ℕ) (live : ℕ) (o : Outcome) → ns ≡ take live (nodesIn words)
+      → Replies words new live o (orderLeft (take count old) (e .voice) (p .name) (p .order) vs ns) → EventApplied vs e ns old count (take live (nodesIn new)) old count o
+  applied-order t p is words new live o same h =
       record {
         is = λ d.
             ap (λ (z : Reply). withoutIds (take count old) (scene d (z .nodes) vs)) (h .is)
@@ -114,7 +114,7 @@ module _ (deadline : ℕ) (rows : List Event) (n : ℕ) (vs : List Voice) (start
 
   -- `lent` is the list before the first event, `list` what it holds now
   module _ (lent : List ℕ) where
-    pub record Going (ns : List Node) (freed list : List ℕ) (count taken i : ℕ) : Type 0 where
+    pub record EventsApplied (ns : List Node) (freed list : List ℕ) (count taken i : ℕ) : Type 0 where
       pub passed : i ≤ n
       pub few : count ≤ i
       pub took : taken ≤ i
@@ -125,11 +125,11 @@ module _ (deadline : ℕ) (rows : List Event) (n : ℕ) (vs : List Voice) (start
       pub many : taken + length (rest i) ≡ length (rest 0)
       pub later : drop taken list ≡ drop taken lent
 
-    pub going-start : (freed : List ℕ) → length freed ≡ 256 → Going start freed lent 0 0 0
-    going-start freed h =
+    pub events-start : (freed : List ℕ) → length freed ≡ 256 → EventsApplied start freed lent 0 0 0
+    events-start freed h =
         record { passed = omega arith; few = omega arith; took = omega arith; long = h; wide = refl; left = λ d. refl; told = λ d. refl; many = omega arith; later = refl }
 
-    module _ (d : Event) (ns : List Node) (freed list : List ℕ) (count taken i : ℕ) (g : Going ns freed list count taken i) (below : i < n) (top : n ≤ length rows) where
+    module _ (d : Event) (ns : List Node) (freed list : List ℕ) (count taken i : ℕ) (g : EventsApplied ns freed list count taken i) (below : i < n) (top : n ≤ length rows) where
       abbrev e : Event
       e = getD rows i d
 
@@ -139,7 +139,7 @@ module _ (deadline : ℕ) (rows : List Event) (n : ℕ) (vs : List Voice) (start
       abbrev at : SharedState → Model
       at x = withoutIds (take count freed) (scene x ns vs)
 
-      module _ (t : due deadline e ≡ true) (new-ns : List Node) (new : List ℕ) (r : ℕ) (o : Outcome) (h : Happens vs e ns freed count new-ns new r o) (number : ℕ) (said : number ≡ outcomeNumber o) (room : taken < length list) where
+      module _ (t : due deadline e ≡ true) (new-ns : List Node) (new : List ℕ) (r : ℕ) (o : Outcome) (h : EventApplied vs e ns freed count new-ns new r o) (number : ℕ) (said : number ≡ outcomeNumber o) (room : taken < length list) where
         told-on : (x : SharedState) → take (taken + 1) (set list taken number) ++ outcomes (rest (i + 1)) (withoutIds (take r new) (scene x new-ns vs)) ≡ outcomes (rest 0) (scene x start vs)
         told-on x =
             ap₂ (λ a m. a ++ outcomes (rest (i + 1)) m) (append-row list taken number room) (h .is x)
@@ -153,8 +153,8 @@ module _ (deadline : ℕ) (rows : List Event) (n : ℕ) (vs : List Voice) (start
             let past : taken < taken + 1 = omega arith in
             drop-set-lt (taken + 1) list taken number past ∙ sym (drop-drop 1 taken list) ∙ ap (drop 1) (g .later) ∙ drop-drop 1 taken lent
 
-        pub going-on : Going new-ns new (set list taken number) r (taken + 1) (i + 1)
-        going-on =
+        pub events-on : EventsApplied new-ns new (set list taken number) r (taken + 1) (i + 1)
+        events-on =
             let more : length (rest i) ≡ suc (length (rest (i + 1))) = ap length (split true t) in
             record {
               passed = omega arith;
@@ -168,8 +168,8 @@ module _ (deadline : ℕ) (rows : List Event) (n : ℕ) (vs : List Voice) (start
               later = later-on;
             }
 
-      pub going-off : due deadline e ≡ false → Going ns freed list count taken (i + 1)
-      going-off t =
+      pub events-off : due deadline e ≡ false → EventsApplied ns freed list count taken (i + 1)
+      events-off t =
           record {
             passed = omega arith;
             few = omega (arith, g .few);
@@ -182,7 +182,7 @@ module _ (deadline : ℕ) (rows : List Event) (n : ℕ) (vs : List Voice) (start
             later = g .later;
           }
 
-    module _ (ns : List Node) (freed list : List ℕ) (count taken i : ℕ) (g : Going ns freed list count taken i) (h : n ≤ i) (top : n ≤ length rows) (room : n ≤ 256) (wide : 256 ≤ length lent) where
+    module _ (ns : List Node) (freed list : List ℕ) (count taken i : ℕ) (g : EventsApplied ns freed list count taken i) (h : n ≤ i) (top : n ≤ length rows) (room : n ≤ 256) (wide : 256 ≤ length lent) where
       many-done : taken ≡ length (rest 0)
       many-done = let none : length (rest i) ≡ 0 = ap length (over i h top) in omega (arith, none, g .many)
 
@@ -194,8 +194,8 @@ module _ (deadline : ℕ) (rows : List Event) (n : ℕ) (vs : List Voice) (start
           let long : length os ≡ taken = count-is (rest 0) (scene d start vs) ∙ sym many-done in
           sym (take-append-drop taken list) ∙ ap₂ _++_ first (g .later) ∙ ap (λ k. os ++ drop k lent) (sym long)
 
-      pub going-done : (all : List Event) → take n rows ≡ all → Left start vs (takenBefore deadline all) ns freed lent list count taken
-      going-done all is =
+      pub events-done : (all : List Event) → take n rows ≡ all → Left start vs (takenBefore deadline all) ns freed lent list count taken
+      events-done all is =
           record {
             is = λ d. ap (λ z. applyEvents (takenBefore deadline z) (scene d start vs)) (sym is) ∙ sym (g .left d) ∙ ap (λ z. applyEvents z (withoutIds (take count freed) (scene d ns vs))) (over i h top);
             told = λ d. told-done d ∙ ap (λ z. written (outcomes (takenBefore deadline z) (scene d start vs)) lent) is;
@@ -230,8 +230,8 @@ module _ (s : State) (ns es vs ev : List ℕ) (deadline : ℕ) (ns1 freed lent l
     (ev1 : List ℕ) (k : ℕ) (removed : Holds (eventsIn ev1) k (leftAfter deadline (take (s .events) (eventsIn ev))))
     (u : State) (counted : u ≡ queued s k) (after : State) (ns2 es2 vs2 : List ℕ)
     (forgot : (m : Memory) → modelOf (lentVoices after ns2 es2 vs2 m) ≡ withoutIds (take r freed) (modelOf (lentVoices u ns1 es vs m))) where
-  pub all-happen : (m : Memory) → Handed deadline (modelOf (lentRender s ns es (m .order) vs ev m)) (modelOf (lentRender after ns2 es2 (m .order) vs2 ev1 m)) lent list taken
-  all-happen m =
+  pub all-applied : (m : Memory) → Handed deadline (modelOf (lentRender s ns es (m .order) vs ev m)) (modelOf (lentRender after ns2 es2 (m .order) vs2 ev1 m)) lent list taken
+  all-applied m =
       let old = modelOf (lentRender s ns es (m .order) vs ev m) in
       let queue : List Event → SharedState = λ q. withEvents q (old .shared) in
       record {

@@ -1,4 +1,4 @@
-pub mod Gone
+pub mod Freed
 pub mod Events
 pub mod Ends
 pub mod Whole

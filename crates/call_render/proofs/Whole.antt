@@ -21,7 +21,7 @@ use Rattle.store.specs.declared.answer.Rendered.the-variants as Rendered
 use Rattle.model.specs.SharedState.{SharedState, sounding, withClock}
 use Rattle.model.specs.Model.{Model}
 use Rattle.model.specs.Render.{Heard, heard, answerAfter, prepareOutcome, prepareShared, readyShared, anyFree, applyEvents, deadline, preparedIf, isSounding, movedIf, outcomes, renderRefusal}
-use Rattle.model.specs.Written.{written}
+use Rattle.lists.specs.Written.{written}
 use Rattle.graph.specs.Refuse.{when}
 use Rattle.model.specs.Render as model
 use Rattle.model.specs.Call.{Step, step, renderStep, rendered}
@@ -38,7 +38,7 @@ use Rattle.memory.specs.Lent.{lentOrder, lentVoiceTable}
 use Rattle.memory.specs.Called.{Called, Kept, keeps}
 use Rattle.memory.specs.Parts.{ordered, clocked}
 use Rattle.call_render.specs.declared.block.Block.{Block}
-use Rattle.call_render.specs.Happened.{resting, Handed}
+use Rattle.call_render.specs.Applying.{resting, Handed}
 use Rattle.call_render.specs.Blocks.{heardIn, readied, blockTo}
 use Rattle.call_render.proofs.Ends.{all-ends, block-is}
 
@@ -129,11 +129,11 @@ readied-kept false m = heard-kept (sounding (m .shared))
 module _ (old mid then last : Memory) (b : Bool) (ready out : Block) (lent list : List ℕ) (taken end : ℕ) (is-end : end ≡ old .state .clock + old .state .config .block) (fits : end ≤ 18446744073709551615)
     (long : 256 ≤ length lent)
     (frees : b ≡ anyFree (takenBefore end (sharedOf old .events)))
-    (happened : Handed end (modelOf old) (modelOf mid) lent list taken)
+    (handed-on : Handed end (modelOf old) (modelOf mid) lent list taken)
     (readying : heardIn ready then ≡ readied b (modelOf mid))
     (block : heardIn out last ≡ blockTo end (ready .answer) (modelOf then)) where
   ends : end ≡ deadline (modelOf mid .shared)
-  ends = is-end ∙ sym (ap (λ (k : Model). deadline (k .shared)) (happened .is) ∙ all-ends (takenBefore end (sharedOf old .events)) _)
+  ends = is-end ∙ sym (ap (λ (k : Model). deadline (k .shared)) (handed-on .is) ∙ all-ends (takenBefore end (sharedOf old .events)) _)
 
   over : heardIn out last ≡ blockTo end (readied b (modelOf mid) .answer) (readied b (modelOf mid) .model)
   over = block ∙ ap (λ (h : Heard). blockTo end (h .answer) (h .model)) readying
@@ -143,7 +143,7 @@ module _ (old mid then last : Memory) (b : Bool) (ready out : Block) (lent list 
       over
       ∙ block-is b (modelOf mid) end ends
       ∙ ap (λ x. preparedIf x (modelOf mid)) frees
-      ∙ ap (preparedIf (anyFree (takenBefore end (sharedOf old .events)))) (happened .is)
+      ∙ ap (preparedIf (anyFree (takenBefore end (sharedOf old .events)))) (handed-on .is)
       ∙ ap (λ x. preparedIf (anyFree (takenBefore x (sharedOf old .events))) (applyEvents (takenBefore x (sharedOf old .events)) (resting x (modelOf old)))) is-end
 
   -- what is heard, with the count of the events and the list
@@ -156,7 +156,7 @@ module _ (old mid then last : Memory) (b : Bool) (ready out : Block) (lent list 
   pub render-done : Called (call.render lent) old (rendered (out .answer) taken list) last
   render-done =
       ap (λ h. handed h taken list) whole
-      ∙ ap₂ (handed (model.render (modelOf old))) (happened .many) (happened .told)
+      ∙ ap₂ (handed (model.render (modelOf old))) (handed-on .many) (handed-on .told)
       ∙ ap handedBy is-end
       ∙ taken-on old lent (subst (λ x. x ≤ 18446744073709551615) is-end fits) long
 

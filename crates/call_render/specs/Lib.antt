@@ -1,2 +1,2 @@
-pub mod Happened
+pub mod Applying
 pub mod Blocks

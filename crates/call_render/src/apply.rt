@@ -17,21 +17,14 @@ ghost use lib.ListN.{length, take};
 ghost use Rattle.model.specs.Render.{isFree};
 ghost use Rattle.graph_rows.specs.Node.{nodesIn};
 ghost use Rattle.voice_rows.specs.Rows.{voicesIn};
-ghost use Rattle.call_render.specs.Happened.{Noted, Happens};
+ghost use Rattle.call_render.specs.Applying.{Noted, EventApplied};
 
 pub(crate) fn is_free(a: EventAction) -> bool
     ensures { λ r. ⌜ r ≡ isFree a ⌝ }
 {
     match a {
-        EventAction::Value(_) => false,
-        EventAction::Glide {
-            target: _,
-            seconds: _,
-            shape: _,
-            space: _,
-        } => false,
-        EventAction::Gate(_) => false,
         EventAction::Free => true,
+        _ => false,
     }
 }
 
@@ -76,7 +69,7 @@ pub(crate) fn apply_event(
     count: usize,
 ) -> EventResult
     requires { ⌜ count < length (now freed) ⌝ }
-    ensures { λ r. ⌜ Happens (take (s .voices) (voicesIn (now (voices .entry)))) e (take (s .nodes) (nodesIn (now (nodes .entry)))) (now (freed .entry)) count (take (s .nodes) (nodesIn (now (nodes .exit)))) (now (freed .exit)) (r .count) (r .outcome) ⌝ }
+    ensures { λ r. ⌜ EventApplied (take (s .voices) (voicesIn (now (voices .entry)))) e (take (s .nodes) (nodesIn (now (nodes .entry)))) (now (freed .entry)) count (take (s .nodes) (nodesIn (now (nodes .exit)))) (now (freed .exit)) (r .count) (r .outcome) ⌝ }
 {
     let w = e.voice;
     let action = e.action;

@@ -23,7 +23,7 @@ ghost use Rattle.graph_rows.specs.Node.{nodesIn};
 ghost use Rattle.voice_rows.specs.Rows.{voicesIn};
 ghost use Rattle.memory.specs.View.{Memory, modelOf};
 ghost use Rattle.memory.specs.Lent.{lentRender};
-ghost use Rattle.call_render.specs.Happened.{Left, Handed};
+ghost use Rattle.call_render.specs.Applying.{Left, Handed};
 
 // Whether any of the due events is a free, of a known voice or not.
 pub(crate) fn any_free(t: &[u32], count: usize, deadline: u64) -> bool

@@ -39,7 +39,7 @@ use Rattle.voice_rows.specs.Found.{FoundAt}
 use Rattle.voice_rows.specs.declared.table.FoundRow.{FoundRow}
 use Rattle.memory.specs.declared.state.State.{State}
 use Rattle.memory.specs.View.{Memory, modelOf, sharedOf, graphOf}
-use Rattle.memory.proofs.Steps.{refuses, serves}
+use Rattle.memory.proofs.Contracts.{refuses, serves}
 use Rattle.memory.specs.Lent.{lentParams}
 use Rattle.memory.specs.Called.{Called}
 use Rattle.call_report.specs.Tested.{rowOr, tested}

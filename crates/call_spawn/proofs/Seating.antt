@@ -72,5 +72,5 @@ module _ (x : Spawn) (s : VoiceState) (p : ℕ) (m : Model) (room : Headroom (x 
       ap (λ l. seated l (d .spawned + 1) grown) (is-vs ∙ ap (λ k. pushedVoice (k .voices) v) all ∙ seat ∙ ap (λ k. m .voices ++ (k ∷ [])) is-v)
       ∙ ap (λ k. seated (m .voices ++ (newVoice x s p d ∷ [])) (d .spawned + 1) k) all
 
-abbrev pub landedIn : Spawned → Model → SpawnResult
-landedIn a m = record { answer = a; model = m }
+abbrev pub spawnedIn : Spawned → Model → SpawnResult
+spawnedIn a m = record { answer = a; model = m }

@@ -73,11 +73,11 @@ fn place(
     edges: &mut EdgeTable,
     voices: &mut VoiceTable,
     steals: &mut StealTable,
+    bus: NodeId,
     def: SynthDef,
     pan: f32,
     rank: u32,
     state: VoiceState,
-    bus: NodeId,
     fuel: usize,
 ) -> Spawning
     requires { ⌜ ((m : Memory) → Headroom def (modelOf (lentSpawn s (now nodes) (now edges) (now voices) (now steals) m))) ⌝ }
@@ -99,31 +99,19 @@ fn place_within_budget(
     edges: &mut EdgeTable,
     voices: &mut VoiceTable,
     steals: &mut StealTable,
+    bus: NodeId,
     def: SynthDef,
     pan: f32,
     rank: u32,
-    bus: NodeId,
 ) -> Spawning
     requires { ⌜ ((m : Memory) → Headroom def (modelOf (lentSpawn s (now nodes) (now edges) (now voices) (now steals) m))) ⌝ }
     ensures { λ r. ⌜ ((m : Memory) → resultOf (r .answer) (lentSpawn (r .state) (now (nodes .exit)) (now (edges .exit)) (now (voices .exit)) (now (steals .exit)) m) ≡ placeWithinBudget (spawnOf def bus pan rank) (modelOf (lentSpawn s (now (nodes .entry)) (now (edges .entry)) (now (voices .entry)) (now (steals .entry)) m))) ⌝ }
 {
     let config = s.config;
     let budget = config.budget;
-    let state = state_under(budget);
-    let fuel = most_removed(s, voices);
-    place(
-        s,
-        nodes,
-        edges,
-        voices,
-        steals,
-        def,
-        pan,
-        rank,
-        state,
-        bus,
-        fuel,
-    )
+    let how = state_under(budget);
+    let n = most_removed(s, voices);
+    place(s, nodes, edges, voices, steals, bus, def, pan, rank, how, n)
 }
 
 // A managed spawn: the refusals; admission, with a victim if it asks for one; then the lowest port without an edge.
@@ -148,7 +136,7 @@ pub fn spawn_voice_on_bus_panned_managed(
             let met = request(s, nodes, edges, voices, steals, bus, rank);
             let left = met.state;
             if met.admitted {
-                return place_within_budget(left, nodes, edges, voices, steals, def, pan, rank, bus);
+                return place_within_budget(left, nodes, edges, voices, steals, bus, def, pan, rank);
             }
             refuse(left, Refusal::Rejected)
         }
@@ -171,21 +159,10 @@ pub fn spawn_voice_on_bus_panned(
     ensures same { λ r. ⌜ ((m : Memory) → Kept (spawned (r .answer)) (lentSpawn s (now (nodes .entry)) (now (edges .entry)) (now (voices .entry)) (now (steals .entry)) m) (lentSpawn (r .state) (now (nodes .exit)) (now (edges .exit)) (now (voices .exit)) (now (steals .exit)) m)) ⌝ }
 {
     let test = spawn_refusal(s, nodes, edges, voices, def, bus, rank);
+    let how = VoiceState::Loose;
     match test {
         Answer::Refused(why) => refuse(s, why),
-        Answer::Done => place(
-            s,
-            nodes,
-            edges,
-            voices,
-            steals,
-            def,
-            pan,
-            rank,
-            VoiceState::Loose,
-            bus,
-            0,
-        ),
+        Answer::Done => place(s, nodes, edges, voices, steals, bus, def, pan, rank, how, 0),
     }
 }
 

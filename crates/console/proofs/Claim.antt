@@ -20,7 +20,7 @@ use Rattle.console.specs.Console.{Console, ConsoleCall, made, consoleRun
 use Rattle.console.specs.Claim.{StoreRun, ConsoleClaim, servesOf}
 use Rattle.console.proofs.Plain.{store-run, answers-served}
 use Rattle.console.proofs.Fifo.{in-order, at-most-16, new-16}
-use Rattle.console.proofs.Fair.{run-going, new-going, within}
+use Rattle.console.proofs.Fair.{run-invariant, new-invariant, within}
 
 -- "From 1 to 8 keyboards"
 one-to-eight : (m : ℕ) → keyboardsRefusal m ≡ none → (0 < m) × (m ≤ 8)
@@ -53,7 +53,7 @@ accepted k m c e = go (refusalOf k) refl (keyboardsRefusal m) refl e
 pub console-claim : (k : Making) (m : ℕ) (c : Console) → makeConsole k m ≡ made c → (xs : List ConsoleCall) → ConsoleClaim k m c xs
 console-claim k m c e xs =
     let a = accepted k m c e in
-    let g = run-going xs m (newWishes m) (new-going m (a .range .0)) in
+    let g = run-invariant xs m (newWishes m) (new-invariant m (a .range .0)) in
     record {
       positive = a .range .0;
       eight = a .range .1;

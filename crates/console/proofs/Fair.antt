@@ -20,36 +20,36 @@ use Rattle.console.proofs.Fifo.{in-order, picked-in, added-at, taken-at
 use Rattle.console.proofs.Round.{round, round-add, after-below, way, found}
 
 -- what every list of calls keeps: the keyboards, and that the next one is one of them
-pub record Going (m : ℕ) (ws : Wishes) : Type 0 where
+pub record WishInvariant (m : ℕ) (ws : Wishes) : Type 0 where
   pub many : keyboards ws ≡ m
   pub next : ws .next < m
 
-taken-going : (m : ℕ) (ws : Wishes) → Going m ws → (q : ℕ) → Going m (takenFrom q ws)
-taken-going m ws g q =
+taken-invariant : (m : ℕ) (ws : Wishes) → WishInvariant m ws → (q : ℕ) → WishInvariant m (takenFrom q ws)
+taken-invariant m ws g q =
     record {
       many = length-set (ws .waits) q (rest (waitingAt q ws)) ∙ g .many;
       next = subst (λ n. after n q < m) (sym (g .many)) (after-below m q (let i = g .next in omega (arith, i)));
     }
 
-step-going : (x : ConsoleCall) (m : ℕ) (ws : Wishes) → Going m ws → Going m (wishesAfter x ws)
-step-going (on c) m ws g = g
-step-going (wish q w) m ws g = go (wishRefusal ws q)
+step-invariant : (x : ConsoleCall) (m : ℕ) (ws : Wishes) → WishInvariant m ws → WishInvariant m (wishesAfter x ws)
+step-invariant (on c) m ws g = g
+step-invariant (wish q w) m ws g = go (wishRefusal ws q)
   where
-    go : (o : Option KeyboardRefusal) → Going m (addedUnless o q w ws)
+    go : (o : Option KeyboardRefusal) → WishInvariant m (addedUnless o q w ws)
     go none = record { many = length-set (ws .waits) q (waitingAt q ws ++ (w ∷ [])) ∙ g .many; next = g .next }
     go (some d) = g
-step-going turn m ws g = go (picked ws)
+step-invariant turn m ws g = go (picked ws)
   where
-    go : (o : Option Picked) → Going m (takenBy o ws)
+    go : (o : Option Picked) → WishInvariant m (takenBy o ws)
     go none = g
-    go (some p) = taken-going m ws g (p .keyboard)
+    go (some p) = taken-invariant m ws g (p .keyboard)
 
-pub run-going : (xs : List ConsoleCall) (m : ℕ) (ws : Wishes) → Going m ws → Going m (wishesRun xs ws)
-run-going [] m ws g = g
-run-going (x ∷ xs) m ws g = run-going xs m (wishesAfter x ws) (step-going x m ws g)
+pub run-invariant : (xs : List ConsoleCall) (m : ℕ) (ws : Wishes) → WishInvariant m ws → WishInvariant m (wishesRun xs ws)
+run-invariant [] m ws g = g
+run-invariant (x ∷ xs) m ws g = run-invariant xs m (wishesAfter x ws) (step-invariant x m ws g)
 
-pub new-going : (m : ℕ) → 0 < m → Going m (newWishes m)
-new-going m h = record { many = length-replicate m []; next = h }
+pub new-invariant : (m : ℕ) → 0 < m → WishInvariant m (newWishes m)
+new-invariant m h = record { many = length-replicate m []; next = h }
 
 -- a wish that is accepted takes nobody's place
 longer : (p : ℕ) (w : Wish) (ws : Wishes) (q k : ℕ) (o : Option KeyboardRefusal) → wishRefusal ws p ≡ o → k < length (waitingAt q ws) → k < length (waitingAt q (addedUnless o p w ws))
@@ -75,18 +75,18 @@ one-less [] k h = omega arith
 one-less (w ∷ l) k h = omega arith
 
 -- k before it, and d steps from the next keyboard to its own: fewer than k × m + d + 1 turns do not go by without it
-counted : (xs : List ConsoleCall) (m : ℕ) (ws : Wishes) → Going m ws → (q : ℕ) → q < m → (k : ℕ) → k < length (waitingAt q ws)
+counted : (xs : List ConsoleCall) (m : ℕ) (ws : Wishes) → WishInvariant m ws → (q : ℕ) → q < m → (k : ℕ) → k < length (waitingAt q ws)
     → (d : ℕ) → d < m → round m d (ws .next) ≡ q → k * m + d < turns xs → k < length (servedOf q xs ws)
 counted [] m ws g q hq k h d hd r t = absurd (omega arith)
 counted (on c ∷ xs) m ws g q hq k h d hd r t = counted xs m ws g q hq k h d hd r t
 counted (wish p w ∷ xs) m ws g q hq k h d hd r t =
-    counted xs m (wishesAfter (wish p w) ws) (step-going (wish p w) m ws g) q hq k (longer p w ws q k (wishRefusal ws p) refl h) d hd (ap (round m d) (same-next p w ws (wishRefusal ws p)) ∙ r) t
+    counted xs m (wishesAfter (wish p w) ws) (step-invariant (wish p w) m ws g) q hq k (longer p w ws q k (wishRefusal ws p) refl h) d hd (ap (round m d) (same-next p w ws (wishRefusal ws p)) ∙ r) t
 counted (turn ∷ xs) m ws g q hq k h d hd r t =
     let c = first (waitingAt q ws) k h in
     let f = found (keyboards ws) d ws (ws .next) q (subst (λ n. d < n) (sym (g .many)) hd) (ap (λ n. round n d (ws .next)) (g .many) ∙ r) (c .0) (c .1) (c .2) in
     subst (λ o. k < length (servedBy q o ++ servedOf q xs (takenBy o ws))) (sym (f .is))
     (go (f .pick) (picked-in ws (f .pick) (f .is)) (f .steps) (f .within) (ap (λ n. round n (f .steps) (ws .next)) (sym (g .many)) ∙ f .leads) (eqb q (f .pick .keyboard)) refl
-    (counted xs m (takenFrom (f .pick .keyboard) ws) (taken-going m ws g (f .pick .keyboard)) q hq))
+    (counted xs m (takenFrom (f .pick .keyboard) ws) (taken-invariant m ws g (f .pick .keyboard)) q hq))
   where
     Next : Wishes → ℕ → Type 0
     Next us j = j < length (waitingAt q us) → (e : ℕ) → e < m → round m e (us .next) ≡ q → j * m + e < turns xs → j < length (servedOf q xs us)
@@ -137,7 +137,7 @@ place-in (x ∷ l) zero w e = omega arith
 place-in (x ∷ l) (suc k) w e = let i = place-in l k w e in omega (arith, i)
 
 -- A wish w of keyboard q with k before it is the (k + 1)th that the list serves of that keyboard, if the list has (k + 1) × m turns.
-pub within : (xs : List ConsoleCall) (m : ℕ) (ws : Wishes) → Going m ws → (q k : ℕ) (w : Wish) → getElem? (waitingAt q ws) k ≡ some w
+pub within : (xs : List ConsoleCall) (m : ℕ) (ws : Wishes) → WishInvariant m ws → (q k : ℕ) (w : Wish) → getElem? (waitingAt q ws) k ≡ some w
     → (k + 1) * m ≤ turns xs → getElem? (servedOf q xs ws) k ≡ some w
 within xs m ws g q k w e t =
     let i = place-in (waitingAt q ws) k w e in

@@ -12,43 +12,25 @@ use lib.Seq.{take-all, take-nil, take-suc, take-append-seam, drop-append-seam, d
 use borrow.Author.Tests.{leb-true, leb-false}
 use borrow.Rule.Slice.PartMut.{midOf, putMid}
 use Rattle.lists.proofs.Member.{map-append}
+use Rattle.lists.proofs.Written.{written-then, written-copy, written-long}
 use Rattle.def_book.specs.Held.{held}
 use Rattle.def_book.specs.Bytes.{joined}
-use Rattle.def_book.specs.Write.{written}
 use Rattle.def_book.specs.Put.{Put}
-
--- what is left of a list after its front, and the list with something else there
-module _ (a rest : List ℕ) where
-  left : length (a ++ rest) - length a ≡ length rest
-  left = omega (arith, length-append a rest)
-
-  mid-is : midOf (length a) (length (a ++ rest) - length a) (a ++ rest) ≡ rest
-  mid-is = rw (left, drop-append-seam) (take-length rest)
-
-  put-is : (z : List ℕ) → putMid (length a) (length (a ++ rest) - length a) (a ++ rest) z ≡ a ++ z
-  put-is z = rw (left, take-append-seam, drop-append-seam, drop-length) (ap (_++_ a) (append-nil z))
-
-written-both : (a b x : List ℕ) → a ++ written b (drop (length a) x) ≡ written (a ++ b) x
-written-both a b x = rw (length-append, drop-drop) (sym (append-assoc a b _))
 
 -- a text, and another in what is left
 pub then : {a b x y z : List ℕ} {p q : ℕ} → Put a x y p → Put b (midOf p (length y - p) y) z q → Put (a ++ b) x (putMid p (length y - p) y z) (p + q)
-then {a = a} {b} {x} {y} {z} {p} {q} e f =
-    let rest = drop (length a) x in
-    let mid : midOf p (length y - p) y ≡ rest = rw (e .placed, e .long) (mid-is a rest) in
-    let laid : z ≡ written b rest = f .placed ∙ ap (written b) mid in
-    record { placed = rw (e .placed, e .long) (put-is a rest z ∙ ap (_++_ a) laid ∙ written-both a b x); long = omega (arith, e .long, f .long, length-append a b) }
+then {a = a} {b} {x} e f = record { placed = written-then a b x (e .placed) (e .long) (f .placed); long = omega (arith, e .long, f .long, length-append a b) }
 
 -- a text that was copied
 pub copied : (s text x y : List ℕ) (r : ℕ) → s ≡ text → r ≡ length s → y ≡ take (length s) s ++ drop (length s) x → Put text x y r
-copied s text x y r t e f = rw (← t) record { placed = f ∙ ap (λ (l : List ℕ). l ++ drop (length s) x) (take-length s); long = e }
+copied s text x y r t e f = rw (← t) record { placed = written-copy s x f; long = e }
 
 pub same-text : {a b x y : List ℕ} {r : ℕ} → a ≡ b → Put a x y r → Put b x y r
 same-text t e = rw (← t) (record { placed = e .placed; long = e .long })
 
 -- the buffer keeps its length
 pub same-long : {a x y : List ℕ} {r : ℕ} → Put a x y r → length a ≤ length x → length y ≡ length x
-same-long {a} {x} {y} e h = ap length (e .placed) ∙ length-append a (drop (length a) x) ∙ omega (arith, length-drop (length a) x)
+same-long {a} {x} e h = ap length (e .placed) ∙ written-long a x h
 
 -- the room behind p bytes
 pub room-behind : (y : List ℕ) (p : ℕ) → length (take (length y - p) (drop p y)) ≡ length y - p

@@ -12,6 +12,7 @@ use lib.ListN.{length, take, drop, getD, length-map, take-append-drop, List·get
 use lib.Seq.{length-take-le, take-append-seam, getD-take, drop-at}
 use borrow.Author.Tests.{le-leb, eq-eqb, eqb-true}
 use Rattle.lists.proofs.Member.{and-left, and-right, both, map-append}
+use Rattle.lists.specs.Written.{written}
 use Rattle.node.specs.Name.{named, text}
 use Rattle.node.specs.declared.name.Name.{Name}
 use Rattle.def_book.specs.Held.{held}
@@ -25,7 +26,7 @@ use Rattle.synthdef.specs.declared.def.SynthDef.{SynthDef}
 use Rattle.def_book.specs.Bytes.{Row, node, edge, param, rowBytes, joined, rowsIn, bookOf}
 use Rattle.def_book.specs.Rows.{isHeading, rows, size, gather, asNode, asEdge, asParam, nodesOf, edgesOf, paramsOf}
 use Rattle.def_book.specs.Read.{Read, gives, malformed, limits, readNumber, blankNode, blankParam, defOf, within, readRows, readBook, cleanName, cleanNode, cleanParam, canonical, Restored}
-use Rattle.def_book.specs.Write.{written, writeBook}
+use Rattle.def_book.specs.Write.{writeBook}
 use Rattle.def_book.specs.WellFormed.{WellFormed}
 use Rattle.def_book.proofs.Held.{take-held, rows-held}
 use Rattle.def_book.proofs.Runs.{record-cut, record-goes-on, read-all, cut, cut-all}

@@ -5,15 +5,19 @@ use native.Mathlib.Omega.{arith}
 use mathlib.Core.Path.{_≡_, refl, sym, ap, _∙_}
 use mathlib.Core.List.{List, [], _∷_, _++_, map, append-assoc}
 use mathlib.Core.Bool.{true, false, cond}
-use lib.ListN.{length, length-append, length-take}
+use lib.ListN.{length, length-append, length-take, length-map}
 use lib.Dec.{leb}
 use borrow.Author.Tests.{le-leb, lt-leb}
 use Rattle.lists.proofs.Member.{map-append}
+use Rattle.lists.specs.Written.{written}
 use Rattle.synthdef.specs.Limits.{allowed}
 use Rattle.synthdef.specs.Tables.{nodeRows, edgeRows, paramRows}
+use Rattle.synthdef.specs.declared.def.DefNode.{DefNode}
+use Rattle.synthdef.specs.declared.def.DefEdge.{DefEdge}
+use Rattle.synthdef.specs.declared.def.Param.{Param}
 use Rattle.synthdef.specs.declared.def.SynthDef.{SynthDef}
 use Rattle.def_book.specs.Bytes.{node, edge, param, headingBytes, nodeBytes, edgeBytes, paramBytes, rowBytes, joined, rowsIn, bookOf}
-use Rattle.def_book.specs.Write.{length-of, refused, written, bookLength, writeAnswer, writeBook}
+use Rattle.def_book.specs.Write.{length-of, refused, bookLength, writeAnswer, writeBook}
 use Rattle.def_book.specs.Put.{Put}
 use Rattle.def_book.proofs.Restores.{row-long}
 use Rattle.def_book.proofs.Puts.{joined-append, take-long}
@@ -27,6 +31,10 @@ pub record Long (d : SynthDef) : Type 0 where
   pub nodes : length (d .nodes .rows) ≡ 24
   pub edges : length (d .edges .rows) ≡ 48
   pub params : length (d .params .rows) ≡ 8
+
+-- as a parameter's lengths are given: of its rows, told one by one
+pub long-told : {A B C : Type 0} (f : DefNode → A) (g : DefEdge → B) (h : Param → C) (d : SynthDef) → length (map f (d .nodes .rows)) ≡ 24 → length (map g (d .edges .rows)) ≡ 48 → length (map h (d .params .rows)) ≡ 8 → Long d
+long-told f g h d a b c = record { nodes = simp length-map at a; edges = simp length-map at b; params = simp length-map at c }
 
 module _ (d : SynthDef) where
   abbrev pub nodePart : List ℕ

@@ -3,13 +3,13 @@
 use Prim.Native.Nat.{ℕ, _+_}
 use mathlib.Core.Path.{_≡_}
 use mathlib.Core.List.{List, [], map}
-use mathlib.Core.Bool.{false, cond}
+use mathlib.Core.Bool.{cond}
 use lib.Dec.{eqb}
 use lib.ListN.{length, drop, getD, replicate}
 use Rattle.node.specs.Name.{text}
 use Rattle.node.specs.declared.name.Name.{Name}
 use Rattle.synthdef.specs.Limits.{allowed}
-use Rattle.synthdef.specs.Tables.{nodeRows, edgeRows, paramRows, noEdge}
+use Rattle.synthdef.specs.Tables.{nodeRows, edgeRows, paramRows, noEdge, bareNode}
 use Rattle.synthdef.specs.declared.def.DefNode.{DefNode}
 use Rattle.synthdef.specs.declared.def.DefNodes.{DefNodes}
 use Rattle.synthdef.specs.declared.def.DefEdge.{DefEdge}
@@ -40,17 +40,7 @@ abbrev pub blankName : Name
 blankName = record { bytes = replicate 16 0; len = 0 }
 
 abbrev pub blankNode : DefNode
-blankNode =
-    record {
-      kind = blankName;
-      ports = 0;
-      required = 0;
-      «takes_values» = false;
-      «takes_glides» = false;
-      «in_port» = 0;
-      «level_port» = 0;
-      «amp_port» = 0;
-    }
+blankNode = bareNode blankName
 
 abbrev pub blankParam : Param
 blankParam = record { name = blankName; node = 0 }

@@ -1,10 +1,11 @@
 -- Writing a book: "A writer puts nodes, edges, parameters and answers the length; later bytes stay." "A definition beyond 01's limits keeps
 -- refusal 9, .. before 19"; "19 writer's buffer too short". On a refusal every byte stays.
 use Prim.Native.Nat.{ℕ, _+_, _*_, min}
-use mathlib.Core.List.{List, _++_}
+use mathlib.Core.List.{List}
 use mathlib.Core.Bool.{cond}
 use lib.Dec.{leb}
-use lib.ListN.{length, drop}
+use lib.ListN.{length}
+use Rattle.lists.specs.Written.{written}
 use Rattle.synthdef.specs.Limits.{allowed}
 use Rattle.synthdef.specs.declared.def.SynthDef.{SynthDef}
 use Rattle.def_book.specs.Bytes.{bookOf}
@@ -26,10 +27,6 @@ abbrev pub wroteOf : WriteAnswer → Wrote
 wroteOf (answer.Length n) = length-of n
 wroteOf answer.Limits = refused 9
 wroteOf answer.ShortBuffer = refused 19
-
--- a text at the start of a lent buffer: the bytes after it stay
-abbrev pub written : List ℕ → List ℕ → List ℕ
-written text out = text ++ drop (length text) out
 
 -- the length of a book: a heading, and the records of each sort
 abbrev pub bookLength : ℕ → ℕ → ℕ → ℕ

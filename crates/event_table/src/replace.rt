@@ -43,14 +43,8 @@ fn is_value(a: EventAction) -> bool
 {
     match a {
         EventAction::Value(_) => true,
-        EventAction::Glide {
-            target: _,
-            seconds: _,
-            shape: _,
-            space: _,
-        } => false,
         EventAction::Gate(_) => true,
-        EventAction::Free => false,
+        _ => false,
     }
 }
 
@@ -58,15 +52,13 @@ fn is_glide(a: EventAction) -> bool
     ensures { λ r. ⌜ r ≡ isGlide a ⌝ }
 {
     match a {
-        EventAction::Value(_) => false,
         EventAction::Glide {
             target: _,
             seconds: _,
             shape: _,
             space: _,
         } => true,
-        EventAction::Gate(_) => false,
-        EventAction::Free => false,
+        _ => false,
     }
 }
 

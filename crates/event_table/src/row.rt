@@ -4,15 +4,14 @@ use node::record::VoiceId;
 use scheduler::event::Event;
 use words::fields::float_from;
 use words::fields::float_word;
+use words::fields::glide_words;
 use words::fields::high_word;
 use words::fields::long_at;
 use words::fields::low_word;
 use words::fields::name_at;
 use words::fields::name_words;
 use words::fields::shape_from;
-use words::fields::shape_words;
 use words::fields::space_from;
-use words::fields::space_word;
 use words::table::put_row;
 use words::table::word_at;
 ghost use mathlib.Core.Path.{_≡_};
@@ -42,17 +41,7 @@ fn action_words(a: EventAction) -> [u32; 6]
             seconds,
             shape,
             space,
-        } => {
-            let s = shape_words(shape);
-            [
-                2,
-                float_word(target),
-                float_word(seconds),
-                s[0],
-                s[1],
-                space_word(space),
-            ]
-        }
+        } => glide_words(target, seconds, shape, space),
         EventAction::Gate(x) => [3, float_word(x), 0, 0, 0, 0],
     }
 }

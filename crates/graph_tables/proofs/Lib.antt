@@ -1,6 +1,6 @@
 pub mod Backwards
 pub mod Brief
 pub mod Edges
-pub mod Fed
+pub mod FedPorts
 pub mod Marks
 pub mod Voices

@@ -1,3 +1,3 @@
 pub mod Brief
-pub mod Fed
+pub mod FedPorts
 pub mod Removal

@@ -28,11 +28,11 @@ leaves (Leaving.Node k) voices n = isNode k n
 leaves Leaving.Voices voices n = ownedByAny voices n
 
 -- of the first n nodes of the words ns: those that stay, and the ids of those that go
-pub record Parts (ns new gone : List ℕ) (n : ℕ) (goes : Node → Bool) (r : Parted) : Type 0 where
+pub record Parts (ns new removed : List ℕ) (n : ℕ) (goes : Node → Bool) (r : Parted) : Type 0 where
   pub stay : Holds (nodesIn new) (r .stay) (filter (λ x. not (goes x)) (take n (nodesIn ns)))
-  pub leave : take (r .gone) gone ≡ idsOf goes (take n (nodesIn ns))
-  pub fits : r .gone ≤ 512
-  pub long : length gone ≡ 512
+  pub leave : take (r .removed) removed ≡ idsOf goes (take n (nodesIn ns))
+  pub fits : r .removed ≤ 512
+  pub long : length removed ≡ 512
 
 -- the first n nodes of ns and the first m edges of es, with a sink: what is left of them when these nodes go
 pub record Removed (ns es new-ns new-es : List ℕ) (n m : ℕ) (heard : Option NodeId) (goes : Node → Bool) (r : Left) : Type 0 where

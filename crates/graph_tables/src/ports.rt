@@ -16,7 +16,7 @@ ghost use Rattle.node.specs.declared.record.Edge.{Edge};
 ghost use Rattle.lists.specs.Find.{find};
 ghost use Rattle.edges.specs.Ports.{portOf, freePort, feeds, sources};
 ghost use Rattle.graph_rows.specs.Edge.{edgeOf, edgesIn};
-ghost use Rattle.graph_tables.specs.Fed.{FedPorts, node, feedingOf};
+ghost use Rattle.graph_tables.specs.FedPorts.{FedPorts, node, feedingOf};
 
 // The node at which the edge in row `i` ends.
 fn to_at(t: &[u32], i: usize) -> NodeId

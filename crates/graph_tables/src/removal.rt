@@ -41,7 +41,7 @@ pub struct Left {
 // How many nodes are left, and of how many that are not the id was stored.
 struct Parted {
     stay: usize,
-    gone: usize,
+    removed: usize,
 }
 
 // Whether the node in row `i` is removed; `voices` are the voices, if it is by voices.
@@ -54,10 +54,10 @@ fn is_leaving(t: &[u32], i: usize, who: Leaving, voices: &[u64]) -> bool
     }
 }
 
-// The nodes are removed, in one pass that closes the gaps; their ids are stored in `gone`, which has a word for each node.
-fn part(t: &mut [u32], count: usize, who: Leaving, voices: &[u64], gone: &mut [u32]) -> Parted
-    requires { ⌜ (length (now t) ≡ 11264) × (length (now gone) ≡ 512) ⌝ }
-    ensures { λ r. ⌜ Parts (now (t .entry)) (now (t .exit)) (now (gone .exit)) count (leaves who (now (voices .entry))) r ⌝ }
+// The nodes are removed, in one pass that closes the gaps; their ids are stored in `removed`, which has a word for each node.
+fn part(t: &mut [u32], count: usize, who: Leaving, voices: &[u64], removed: &mut [u32]) -> Parted
+    requires { ⌜ (length (now t) ≡ 11264) × (length (now removed) ≡ 512) ⌝ }
+    ensures { λ r. ⌜ Parts (now (t .entry)) (now (t .exit)) (now (removed .exit)) count (leaves who (now (voices .entry))) r ⌝ }
 {
     let n = at_most(count, t.len() / 22);
     let mut k: usize = 0;
@@ -65,7 +65,7 @@ fn part(t: &mut [u32], count: usize, who: Leaving, voices: &[u64], gone: &mut [u
     let mut i: usize = 0;
     while i < n {
         if is_leaving(t, i, who, voices) {
-            gone[g] = id_at(t, i).0;
+            removed[g] = id_at(t, i).0;
             g += 1;
             i += 1;
         } else {
@@ -74,7 +74,10 @@ fn part(t: &mut [u32], count: usize, who: Leaving, voices: &[u64], gone: &mut [u
             k += 1;
         }
     }
-    Parted { stay: k, gone: g }
+    Parted {
+        stay: k,
+        removed: g,
+    }
 }
 
 // For each remainder of an id a place in `ids`, from 1 on, where an id of this remainder stands; 0 where there is none.
@@ -107,7 +110,7 @@ fn is_any(ids: &[u32], x: u32) -> bool
 }
 
 // Whether `x` is one of `ids`: mostly the mark of its remainder says so or not.
-fn is_gone(ids: &[u32], marks: &[u32], x: u32) -> bool
+fn is_removed(ids: &[u32], marks: &[u32], x: u32) -> bool
     requires { ⌜ Marked (now marks) (now ids) ⌝ }
     ensures { λ r. ⌜ r ≡ listed (now (ids .entry)) x ⌝ }
 {
@@ -128,7 +131,7 @@ fn touches_any(ids: &[u32], marks: &[u32], e: Edge) -> bool
     requires { ⌜ Marked (now marks) (now ids) ⌝ }
     ensures { λ r. ⌜ r ≡ touches (now (ids .entry)) e ⌝ }
 {
-    is_gone(ids, marks, e.from.0) || is_gone(ids, marks, e.to.0)
+    is_removed(ids, marks, e.from.0) || is_removed(ids, marks, e.to.0)
 }
 
 // The edges that start or end at one of `ids` are removed, in one pass that closes the gaps: how many are left.
@@ -188,11 +191,11 @@ fn remove(
     requires { ⌜ length (now nodes) ≡ 11264 ⌝ }
     ensures { λ r. ⌜ Removed (now (nodes .entry)) (now (edges .entry)) (now (nodes .exit)) (now (edges .exit)) n m (sinkOf sink) (leaves who (now (voices .entry))) r ⌝ }
 {
-    let mut gone = [0u32; 512];
-    let parted = part(nodes, n, who, voices, &mut gone);
-    let k = parted.gone;
-    let left = drop_touching(edges, m, &gone[..k]);
-    let heard = keep_sink(sink, &gone[..k]);
+    let mut removed = [0u32; 512];
+    let parted = part(nodes, n, who, voices, &mut removed);
+    let k = parted.removed;
+    let left = drop_touching(edges, m, &removed[..k]);
+    let heard = keep_sink(sink, &removed[..k]);
     Left {
         nodes: parted.stay,
         edges: left,

@@ -1,7 +1,7 @@
 -- What a managed spawn on the bus by itself writes into the steal records: a record for each voice stolen, a mark for each fade reclaimed.
 -- Records are called by the number of the voice that was stolen: no voice is stolen twice.
-use Prim.Native.Nat.{ℕ, zero, suc, _+_}
-use mathlib.Core.Path.{_≡_, refl, sym, ap, _∙_}
+use Prim.Native.Nat.{ℕ, zero, suc}
+use mathlib.Core.Path.{_≡_, refl}
 use mathlib.Core.List.{List, [], _∷_, _++_, map}
 use mathlib.Core.Option.{Option, none, some}
 use mathlib.Core.Bool.{Bool, true, false, cond}
@@ -12,7 +12,6 @@ use Rattle.voice.specs.declared.steals.StealRecord.{StealRecord}
 use Rattle.voice.specs.declared.policy.Admission.{Admission}
 use Rattle.voice.specs.declared.policy.Admission.the-variants as admission
 use Rattle.synthdef.specs.Limits.{allowed}
-use Rattle.synthdef.specs.declared.def.SynthDef.{SynthDef}
 use Rattle.model.specs.Refuse.{rankLimit}
 use Rattle.isolation.specs.Story.{Entry, opened, closed, plugged, unplugged, lost, managed, freed, reported, cleared, rendered, Phase, held, fading}
 use Rattle.isolation.specs.Story as story

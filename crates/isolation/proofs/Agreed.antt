@@ -7,12 +7,12 @@ use mathlib.Core.Logic.{_⊎_, inl, inr, ⊎-elim}
 use mathlib.Core.List.{List, [], _∷_, map}
 use mathlib.Core.Option.{Option, none, some}
 use mathlib.Core.Bool.{Bool, true, false, not, cond, _&&_, _||_, true≢false, false≢true}
-use borrow.Author.Tests.{eqb-true, eqb-false, eq-eqb, ne-eqb, leb-true, ltb-true, lt-ltb, not-false}
 use lib.Dec.{eqb, leb, ltb}
 use lib.Ieee.{Float}
 use lib.ListN.{length}
+use borrow.Author.Tests.{eqb-true, eqb-false, eq-eqb, ne-eqb, leb-true, ltb-true, lt-ltb, not-false}
 use Rattle.lists.specs.Member.{In}
-use Rattle.lists.proofs.Member.{in-map, in-of-map, and-left, and-right, some-inj, none-some}
+use Rattle.lists.proofs.Member.{in-map, in-of-map, and-left, and-right}
 use Rattle.lists.specs.Filter.{filter}
 use Rattle.lists.proofs.Filter.{in-filter, filter-in, filter-same}
 use Rattle.lists.specs.Find.{find, isSome}
@@ -29,7 +29,6 @@ use Rattle.graph.specs.Refuse.{addRefusal, hostRefusal, disconnectRefusal, conn
 use Rattle.scheduler.specs.declared.event.Event.{Event}
 use Rattle.scheduler.specs.Event.{paramOrder}
 use Rattle.voice.specs.declared.policy.BudgetScope.the-variants.{PerGroup}
-use Rattle.synthdef.specs.declared.def.SynthDef.{SynthDef}
 use Rattle.store.specs.declared.answer.Spawned.{Spawned}
 use Rattle.store.specs.declared.answer.Spawned.the-variants as Spawned
 use Rattle.store.specs.declared.config.Config.{Config}
@@ -44,9 +43,9 @@ use Rattle.model.specs.Call as call
 use Rattle.model.proofs.Refused.{refusalIn}
 use Rattle.ledger.specs.Holder.{Holder, nobody, voice, byHost, hold}
 use Rattle.ledger.specs.Holder as holder
-use Rattle.ledger.specs.Ledger.{Ledger, SpawnResult, newLedger, atShared, withoutVoice, freed, free, spawnManaged, spawnLoose}
-use Rattle.ledger.specs.Render.{applyEvent, rested, render}
-use Rattle.ledger.specs.Call.{Step, step, run, graphStep}
+use Rattle.ledger.specs.Ledger.{Ledger, SpawnResult, atShared, freed, free, spawnManaged, spawnLoose}
+use Rattle.ledger.specs.Render.{rested, render}
+use Rattle.ledger.specs.Call.{step, graphStep}
 use Rattle.ledger.specs.Call as steps
 use Rattle.ledger.proofs.Ids.{Ids, once, unique, above, same-id}
 use Rattle.ledger.proofs.Allowed.{when-none}
@@ -55,15 +54,15 @@ use Rattle.ledger.proofs.Managed.{config-step}
 use Rattle.isolation.specs.Story.{Entry, ifDone, if?, isBus, portsAt, heldBy, lostIf, onBus, voiceOf, ownerVoice, meets, timedFrees, entry, write, story}
 use Rattle.isolation.specs.Story as story
 use Rattle.isolation.specs.Isolated.{Covered, fullIn, AgreedStories}
-use Rattle.isolation.specs.Agree.{Pair, Matching, SameNode, SameVoice, OneToOne, accepted, onIt, feeds, isCallOf, freedByEvents, EachVoice, letIn, Arrive, SameSpawn, Equal, Agree, Agreement}
+use Rattle.isolation.specs.Agree.{Pair, Matching, SameNode, SameVoice, OneToOne, accepted, onIt, feeds, isCallOf, freedByEvents, EachVoice, letIn, Arrive, Equal, Agree}
 use Rattle.isolation.specs.Agree as agree
-use Rattle.isolation.proofs.Bus.{Own, Seat, empty, mine, BusPorts, Bus, portCount, follow}
+use Rattle.isolation.proofs.Bus.{Own, empty, mine, BusPorts, Bus, portCount, follow}
 use Rattle.isolation.proofs.Bus as bus
-use Rattle.isolation.proofs.Part.{seatFor, seatOf, hostPorts, ownOf, portsNow, busOf, Tidy, ports-at}
+use Rattle.isolation.proofs.Part.{seatFor, seatOf, ownOf, portsNow, busOf, Tidy, ports-at}
 use Rattle.isolation.proofs.Logged.{noise-of}
 use Rattle.isolation.proofs.Others.{is-node}
 use Rattle.isolation.proofs.Follows.{Follow, Goes, goes, tidy-new, bus-new}
-use Rattle.isolation.proofs.Kin.{Kin, kin-self, Landed, New, managed-landed, loose-landed, Stays, Brings, stays}
+use Rattle.isolation.proofs.Kin.{Kin, kin-self, AfterSpawn, New, managed-spawned, loose-spawned, Stays, Brings, stays}
 
 -- ---- tests
 and-false : (a b : Bool) → (a && b) ≡ false → (a ≡ false) ⊎ (b ≡ false)
@@ -589,7 +588,7 @@ module _ (m : Matching) (nodes : OneToOne (m .nodes)) (voices : OneToOne (m .voi
         let o : n .0 .noise ≡ r .noise = ap (λ q. noiseOf q) (sym (n .1)) ∙ w in
         omega arith
 
-    module _ (x y : Spawn) (on : isBus b₁ (x .bus) ≡ true) (off : isBus b₂ (y .bus) ≡ true) (r₁ r₂ : SpawnResult) (u₁ : Tidy (r₁ .ledger)) (u₂ : Tidy (r₂ .ledger)) (p : Landed k x r₁) (q : Landed l y r₂) (a : Arrive m (letIn r₁) (letIn r₂)) where
+    module _ (x y : Spawn) (on : isBus b₁ (x .bus) ≡ true) (off : isBus b₂ (y .bus) ≡ true) (r₁ r₂ : SpawnResult) (u₁ : Tidy (r₁ .ledger)) (u₂ : Tidy (r₂ .ledger)) (p : AfterSpawn k x r₁) (q : AfterSpawn l y r₂) (a : Arrive m (letIn r₁) (letIn r₂)) where
       is₁ : x .bus ≡ b₁
       is₁ = ap (λ n. record { 0 = n }) (eqb-true _ _ on)
 
@@ -654,14 +653,14 @@ module _ (m : Matching) (nodes : OneToOne (m .nodes)) (voices : OneToOne (m .voi
         same-voices l a i p (some r) v x = x
     both-go _ _ (agree.disconnected {a = a} {b = o} {p = p} e) h g c d s = quiet-twins (call.disconnect a p) (call.disconnect o p) c d s tt tt
     both-go _ _ (agree.managed {x = x} {y = y} e a) h g c d s =
-        let p = managed-landed k (t .tidy₁) x (t .per₁) in
-        let q = managed-landed l (t .tidy₂) y (t .per₂) in
+        let p = managed-spawned k (t .tidy₁) x (t .per₁) in
+        let q = managed-spawned l (t .tidy₂) y (t .per₂) in
         both-twins (call.spawnManaged x) (call.spawnManaged y) c d s
         (spawn-pairs x y h g (spawnManaged x k) (spawnManaged y l) (go₁ (call.spawnManaged x) (call.spawnManaged y) c d s .tidy) (go₂ (call.spawnManaged x) (call.spawnManaged y) c d s .tidy) p q a)
         (λ n f i u z. t .hosts n f i (p .hosts (b₁ .0) n f u) (q .hosts (b₂ .0) n i z))
     both-go _ _ (agree.loose {x = x} {y = y} e a) h g c d s =
-        let p = loose-landed k (t .tidy₁) x in
-        let q = loose-landed l (t .tidy₂) y in
+        let p = loose-spawned k (t .tidy₁) x in
+        let q = loose-spawned l (t .tidy₂) y in
         both-twins (call.spawnLoose x) (call.spawnLoose y) c d s
         (spawn-pairs x y h g (spawnLoose x k) (spawnLoose y l) (go₁ (call.spawnLoose x) (call.spawnLoose y) c d s .tidy) (go₂ (call.spawnLoose x) (call.spawnLoose y) c d s .tidy) p q a)
         (λ n f i u z. t .hosts n f i (p .hosts (b₁ .0) n f u) (q .hosts (b₂ .0) n i z))

@@ -8,11 +8,10 @@ use lib.Dec.{eqb, leb, ltb}
 use lib.ListN.{length}
 use lib.Ieee.{Float, ofBits, binary32}
 use Rattle.lists.specs.Filter.{filter}
-use Rattle.lists.specs.Find.{find, or?, isSome, mapO}
+use Rattle.lists.specs.Find.{find, or?, mapO}
 use Rattle.level.specs.Level.{levelOf}
 use Rattle.bus.specs.Fade.{fadeLength}
 use Rattle.rank.specs.Order.{upto}
-use Rattle.node.specs.declared.record.VoiceId.{VoiceId}
 use Rattle.node.specs.declared.refusal.Refusal.{Refusal}
 use Rattle.node.specs.declared.refusal.Refusal.the-variants.{UnknownNode, DefinitionLimits, BusWithoutPorts, Rejected, NoPort, RankTooHigh}
 use Rattle.node.specs.Refusal.{numberOf}

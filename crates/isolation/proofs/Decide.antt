@@ -1,42 +1,38 @@
 -- What a spawn asks is answered by the bus's part: free and held ports, the admission, and who is reclaimed next.
-use Prim.Native.Nat.{ℕ, zero, suc, _+_, _≤_, _<_}
+use Prim.Native.Nat.{ℕ}
 use native.Mathlib.Omega.{arith}
-use mathlib.Core.Path.{_≡_, refl, sym, ap, ap₂, _∙_, subst}
-use mathlib.Core.Logic.{inl, inr, ⊎-elim}
+use mathlib.Core.Path.{_≡_, refl, sym, ap, ap₂, _∙_}
 use mathlib.Core.List.{List, [], _∷_, map}
 use mathlib.Core.Option.{Option, none, some}
-use mathlib.Core.Bool.{Bool, true, false, not, cond, _&&_, true≢false, false≢true}
+use mathlib.Core.Bool.{Bool, true, false, not, cond, _&&_}
+use lib.Dec.{eqb}
 use borrow.Author.Tests.{eqb-true, eqb-false, eq-eqb, ne-eqb, lt-ltb}
-use lib.Dec.{eqb, ltb, leb}
 use Rattle.lists.specs.Member.{In}
-use Rattle.lists.proofs.Member.{map-same, and-left, and-right, some-inj, none-some}
+use Rattle.lists.proofs.Member.{map-same, and-right}
 use Rattle.lists.specs.Filter.{filter, put?}
-use Rattle.lists.proofs.Filter.{filter-filter, filter-same, filter-map, in-filter, filter-in}
+use Rattle.lists.proofs.Filter.{filter-filter, filter-map, in-filter, filter-in}
 use Rattle.lists.specs.Find.{find, or?, mapO}
-use Rattle.lists.proofs.Find.{find-map, find-in}
+use Rattle.lists.proofs.Find.{find-map}
 use Rattle.node.specs.declared.record.NodeId.{NodeId}
 use Rattle.node.specs.declared.record.VoiceId.{VoiceId}
 use Rattle.node.specs.declared.record.Node.{Node}
 use Rattle.graph.specs.Node.{nodeAt, portsOf}
-use Rattle.voice.specs.Policy.{victim, admits}
+use Rattle.voice.specs.Policy.{victim}
 use Rattle.voice.specs.declared.policy.Candidate.{Candidate}
 use Rattle.voice.specs.declared.policy.Victim.{Victim}
 use Rattle.voice.specs.declared.policy.Victim.the-variants.{Nobody, Goes}
-use Rattle.voice.specs.declared.policy.Admission.{Admission}
 use Rattle.store.specs.declared.voices.Voice.{Voice}
 use Rattle.store.specs.declared.voices.VoiceState.{VoiceState}
 use Rattle.store.specs.declared.voices.VoiceState.the-variants.{Tracked, Fading, Loose}
 use Rattle.model.specs.Voice.{isVoice, isOn, isTracked, isFading, startOf, candidate, candidates, trackedOn, fadesOn}
 use Rattle.model.specs.Spawn.{voiceOf, noLater, earlier, earliest, elseVictim, nextOut}
-use Rattle.ledger.specs.Holder.{Holder, isHeld, byVoice}
-use Rattle.ledger.specs.Holder.{nobody}
-use Rattle.ledger.specs.Holder.{voice}
+use Rattle.ledger.specs.Holder.{Holder, isHeld, byVoice, nobody, voice}
 use Rattle.ledger.specs.Holder as holder
 use Rattle.ledger.specs.Ledger.{Ledger, lowestPort, portFree, portHeld}
 use Rattle.ledger.proofs.Ids.{once, unique}
 use Rattle.ledger.proofs.Victim.{victim-voice}
-use Rattle.isolation.specs.Story.{Phase, phaseOf}
-use Rattle.isolation.proofs.Bus.{Own, Seat, empty, Bus, isTaken, byNumber, isNumber, portCount}
+use Rattle.isolation.specs.Story.{phaseOf}
+use Rattle.isolation.proofs.Bus.{Own, empty, isTaken, byNumber, isNumber, portCount}
 use Rattle.isolation.proofs.Bus as bus
 use Rattle.isolation.proofs.Part.{seatFor, seatOf, hostPorts, ownOf, portsNow, ownVoices, busOf, Tidy, find-one}
 use Rattle.isolation.proofs.Fade.{map-comp}

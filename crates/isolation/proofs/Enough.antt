@@ -1,19 +1,18 @@
 -- On the bus by itself, more reclaims than there are voices change nothing.
-use Prim.Native.Nat.{ℕ, zero, suc, _+_, _≤_, _<_}
+use Prim.Native.Nat.{ℕ, zero, suc, _≤_, _<_}
 use native.Mathlib.Omega.{arith}
 use mathlib.Core.Path.{_≡_, refl, sym, ap, _∙_}
 use mathlib.Core.Logic.{inl, inr}
-use mathlib.Core.List.{List, [], _∷_, map}
+use mathlib.Core.List.{List, [], _∷_}
 use mathlib.Core.Option.{Option, none, some}
-use mathlib.Core.Bool.{Bool, true, false, not, _&&_, true≢false}
-use borrow.Author.Tests.{eq-eqb}
-use lib.Dec.{eqb}
+use mathlib.Core.Bool.{Bool, true, false, not, _&&_}
 use lib.ListN.{length}
+use borrow.Author.Tests.{eq-eqb}
 use Rattle.lists.specs.Member.{In}
 use Rattle.lists.proofs.Member.{some-inj, none-some}
 use Rattle.lists.specs.Filter.{filter, put?}
 use Rattle.lists.proofs.Filter.{length-filter}
-use Rattle.lists.specs.Find.{find, or?}
+use Rattle.lists.specs.Find.{or?}
 use Rattle.lists.proofs.Find.{find-in}
 use Rattle.node.specs.declared.refusal.Refusal.the-variants.{NoPort}
 use Rattle.voice.specs.Policy.{victim}
@@ -21,7 +20,7 @@ use Rattle.voice.specs.declared.policy.Victim.{Victim}
 use Rattle.voice.specs.declared.policy.Victim.the-variants.{Nobody, Goes}
 use Rattle.synthdef.specs.declared.def.SynthDef.{SynthDef}
 use Rattle.isolation.specs.Story.{Phase}
-use Rattle.isolation.proofs.Bus.{Own, Bus, SpawnResult, isNumber, fades, noLater, earlier, earliest, voiceOf, elseVictim, candidates, nextOut, portFree, withoutVoice, turned, instantiateOr, place}
+use Rattle.isolation.proofs.Bus.{Own, Bus, isNumber, fades, noLater, earlier, earliest, voiceOf, elseVictim, candidates, nextOut, portFree, withoutVoice, turned, instantiateOr, place}
 
 pub filter-less : {A : Type 0} (t : A → Bool) (l : List A) (v : A) → In v l → t v ≡ false → length (filter t l) < length l
 filter-less t [] v i h = absurd i

@@ -1,42 +1,37 @@
 -- A victim fades: another bus is as it was, and its own bus has it fading.
-use Prim.Native.Nat.{ℕ, zero, suc, _+_, _-_, _≤_, _<_}
+use Prim.Native.Nat.{ℕ, _+_, _≤_, _<_}
 use native.Mathlib.Omega.{arith}
 use mathlib.Core.Path.{_≡_, refl, sym, ap, ap₂, _∙_, subst, fun-ext}
-use mathlib.Core.Logic.{inl, inr, ⊎-elim}
+use mathlib.Core.Logic.{⊎-elim}
 use mathlib.Core.List.{List, [], _∷_, _++_, map}
 use mathlib.Core.Option.{Option, none, some}
-use mathlib.Core.Bool.{Bool, true, false, not, cond, _&&_, true≢false, false≢true}
-use borrow.Author.Tests.{eqb-true, eqb-false, eq-eqb, ne-eqb, ltb-true, not-true}
+use mathlib.Core.Bool.{Bool, true, false, cond, true≢false}
 use lib.Dec.{eqb, ltb}
+use borrow.Author.Tests.{eqb-true, eqb-false, eq-eqb, ne-eqb}
 use Rattle.lists.specs.Member.{In}
-use Rattle.lists.proofs.Member.{in-map, in-of-map, in-snoc, map-same, some-inj, none-some}
+use Rattle.lists.proofs.Member.{in-map, in-of-map, in-snoc, map-same}
 use Rattle.lists.specs.Filter.{filter}
 use Rattle.lists.proofs.Filter.{filter-map, in-filter}
 use Rattle.lists.specs.Find.{find, mapO}
 use Rattle.lists.proofs.Find.{find-map}
 use Rattle.node.specs.declared.record.NodeId.{NodeId}
-use Rattle.node.specs.declared.record.VoiceId.{VoiceId}
 use Rattle.node.specs.declared.record.Node.{Node}
-use Rattle.graph.specs.Node.{isNode, nodeAt}
+use Rattle.graph.specs.Node.{nodeAt}
 use Rattle.node.specs.Node.{withId}
 use Rattle.store.specs.declared.voices.Voice.{Voice}
 use Rattle.store.specs.declared.voices.VoiceState.{VoiceState}
-use Rattle.store.specs.declared.voices.VoiceState.the-variants.{Tracked, Fading, Loose}
-use Rattle.store.specs.declared.voices.Fade.{Fade}
+use Rattle.store.specs.declared.voices.VoiceState.the-variants.{Fading}
 use Rattle.model.specs.Voice.{id, isVoice, isOn, withState, beginFade}
 use Rattle.model.specs.Spawn.{fadeNode, fadeOf}
-use Rattle.ledger.specs.Holder.{Holders, Holder}
-use Rattle.ledger.specs.Holder.{nobody}
-use Rattle.ledger.specs.Holder.{voice}
+use Rattle.ledger.specs.Holder.{Holder, nobody, voice}
 use Rattle.ledger.specs.Holder as holder
 use Rattle.ledger.specs.Ledger.{Ledger, fade}
 use Rattle.ledger.proofs.Ids.{unique, above, ids-map}
 use Rattle.ledger.proofs.Managed.{begin-id}
-use Rattle.ledger.proofs.Nodes.{OwnNodes}
 use Rattle.ledger.proofs.Nodes.{begin-same, mine-map, mine-append}
-use Rattle.isolation.proofs.Bus.{Own, Seat, empty, mine, Bus, isNumber, portCount, begin, atVoices, withPhase}
 use Rattle.isolation.specs.Story.{fading}
-use Rattle.isolation.proofs.Part.{seatFor, seatOf, ownOf, portsNow, seatsFor, ownVoices, bus-of, busOf, Seated, Tidy, own-same}
+use Rattle.isolation.proofs.Bus.{Own, empty, mine, portCount, begin, atVoices, withPhase}
+use Rattle.isolation.proofs.Part.{seatFor, seatOf, ownOf, portsNow, seatsFor, ownVoices, bus-of, busOf, Tidy, own-same}
 use Rattle.isolation.proofs.Grown.{old-node, ports-one, once-one, same-nodes}
 
 pub map-comp : {A B C : Type 0} (f : B → C) (g : A → B) (l : List A) → map f (map g l) ≡ map (λ x. f (g x)) l

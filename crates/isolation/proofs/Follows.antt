@@ -1,34 +1,30 @@
 -- Every call: a bus follows its own entry, and is as it was where the call is none of its own. So its story decides its tale.
-use Prim.Native.Nat.{ℕ, zero, suc, _+_, _-_, _≤_, _<_}
+use Prim.Native.Nat.{ℕ, _+_, _-_, _≤_, _<_}
 use native.Mathlib.Omega.{arith}
-use mathlib.Core.Path.{_≡_, refl, sym, ap, ap₂, _∙_, subst, fun-ext}
+use mathlib.Core.Path.{_≡_, refl, sym, ap, ap₂, _∙_, subst}
 use mathlib.Core.Logic.{inl, inr}
-use mathlib.Core.List.{List, [], _∷_, _++_, map}
+use mathlib.Core.List.{List, [], _∷_, map}
 use mathlib.Core.Option.{Option, none, some}
-use mathlib.Core.Bool.{Bool, true, false, not, cond, _&&_, _||_, true≢false, false≢true}
-use borrow.Author.Tests.{eqb-true, eqb-false, eq-eqb, ne-eqb, ltb-true, leb-true, leb-false, not-false}
+use mathlib.Core.Bool.{Bool, true, false, not, cond, _&&_, _||_, true≢false}
 use lib.Dec.{eqb, ltb, leb}
 use lib.Ieee.{Float}
 use lib.ListN.{length}
+use borrow.Author.Tests.{eqb-true, eq-eqb, ne-eqb, ltb-true, leb-true, leb-false, not-false}
 use Rattle.lists.specs.Member.{In}
-use Rattle.lists.proofs.Member.{map-same, and-left, and-right, none-some, some-inj}
-use Rattle.lists.specs.Filter.{filter}
+use Rattle.lists.proofs.Member.{map-same, and-left, and-right}
 use Rattle.lists.proofs.Filter.{in-filter}
-use Rattle.lists.specs.Find.{find}
 use Rattle.lists.proofs.Find.{find-in, find-none}
 use Rattle.node.specs.Name.{nameOf}
 use Rattle.node.specs.declared.record.NodeId.{NodeId}
 use Rattle.node.specs.declared.record.VoiceId.{VoiceId}
 use Rattle.node.specs.declared.record.Node.{Node}
 use Rattle.node.specs.declared.refusal.Refusal.{Refusal}
-use Rattle.node.specs.declared.refusal.Refusal.the-variants.{UnknownNode, VoiceNode, PortOrKind, ClockEnd}
+use Rattle.node.specs.declared.refusal.Refusal.the-variants.{UnknownNode, VoiceNode, PortOrKind}
 use Rattle.graph.specs.Node.{isNode, nodeAt, portsOf, ofVoice, hostNode}
 use Rattle.graph.specs.Change as change
 use Rattle.graph.specs.Refuse.{dead, addRefusal, hostRefusal, disconnectRefusal, connectRefusal}
 use Rattle.scheduler.specs.Queue.{replacing}
 use Rattle.voice.specs.declared.policy.BudgetScope.the-variants.{PerGroup}
-use Rattle.synthdef.specs.declared.def.SynthDef.{SynthDef}
-use Rattle.store.specs.declared.answer.Rendered.the-variants as Rendered
 use Rattle.store.specs.declared.config.Config.{Config}
 use Rattle.store.specs.declared.voices.Voice.{Voice}
 use Rattle.model.specs.Voice.{isVoice, isOn}
@@ -41,32 +37,28 @@ use Rattle.model.specs.Render.{prepareOutcome, prepareShared, answerAfter, hear
 use Rattle.model.proofs.Refused.{refusalIn, notRendered}
 use Rattle.model.specs.Call.{Call, Answer, event, scheduleRefusal}
 use Rattle.model.specs.Call as call
-use Rattle.model.specs.SharedState.{SharedState, withGraph}
-use Rattle.model.specs.SharedState.{sounding}
-use Rattle.ledger.specs.Ledger.{atGraph}
+use Rattle.model.specs.SharedState.{SharedState, withGraph, sounding}
+use Rattle.ledger.specs.Ledger.{atGraph, Ledger, newLedger, freed, spawnManaged, spawnLoose}
 use Rattle.scheduler.specs.declared.event.Event.{Event}
-use Rattle.ledger.specs.Holder.{Holder, hold, dropNode}
-use Rattle.ledger.specs.Holder.{nobody}
-use Rattle.ledger.specs.Holder.{voice}
+use Rattle.ledger.specs.Holder.{hold, dropNode, nobody, voice}
 use Rattle.ledger.specs.Holder as holder
-use Rattle.ledger.specs.Ledger.{Ledger, newLedger, freed, spawnManaged, spawnLoose}
 use Rattle.ledger.specs.Render.{Heard, applyEvents, preparedIf, rested}
 use Rattle.ledger.specs.Call.{Step, step, run, unless, sharedStep, renderStep}
-use Rattle.ledger.proofs.Ids.{unique, above, once}
-use Rattle.ledger.proofs.Allowed.{when-none, or-false, host-at}
+use Rattle.ledger.proofs.Ids.{unique, above}
+use Rattle.ledger.proofs.Allowed.{when-none, or-false}
 use Rattle.ledger.proofs.Managed.{config-step}
 use Rattle.ledger.proofs.Nodes.{own-new}
-use Rattle.isolation.specs.Story.{Entry, rendered, ifDone, if?, isBus, heldBy, lostIf, onBus, voiceOf, ownerVoice, timedFrees, entry, story, Told, Seen, told, seen, tell, write, tale, shown, voicesOn}
+use Rattle.isolation.specs.Story.{Entry, rendered, ifDone, if?, isBus, heldBy, lostIf, onBus, voiceOf, ownerVoice, timedFrees, entry, story, Told, BusVoice, told, busVoice, tell, write, tale, shown, voicesOn}
 use Rattle.isolation.specs.Story as story
 use Rattle.isolation.specs.Isolated.{fullIn, Covered}
-use Rattle.isolation.proofs.Bus.{Own, Bus, Seat, empty, portCount, follow, newBus, quiet, levelNow}
+use Rattle.isolation.proofs.Bus.{Own, Bus, empty, portCount, follow, newBus, quiet, levelNow}
 use Rattle.isolation.proofs.Bus as bus
 use Rattle.isolation.proofs.Fade.{map-comp}
-use Rattle.isolation.proofs.Part.{roomOf, hostPorts, ownOf, portsNow, ownVoices, bus-of, busOf, Tidy}
-use Rattle.isolation.proofs.Gone.{gone-off, gone-on}
-use Rattle.isolation.proofs.Decide.{ports-are, held-same}
-use Rattle.isolation.proofs.Others.{managed-apart, loose-apart, is-host, is-below}
-use Rattle.isolation.proofs.Spawned.{landedOf, managed-same, loose-same}
+use Rattle.isolation.proofs.Part.{roomOf, hostPorts, ownOf, portsNow, bus-of, busOf, Tidy}
+use Rattle.isolation.proofs.Removed.{removed-off, removed-on}
+use Rattle.isolation.proofs.Decide.{held-same}
+use Rattle.isolation.proofs.Others.{managed-apart, loose-apart, is-below}
+use Rattle.isolation.proofs.Spawned.{spawnedOf, managed-same, loose-same}
 use Rattle.isolation.proofs.Host.{add-other, add-own, tidy-add, remove-own, remove-other, remove-off, tidy-remove, wire-other, wire-own, tidy-wire, no-ports}
 use Rattle.isolation.proofs.Replaced.{order-still, tidy-report, report-off, report-on}
 use Rattle.isolation.proofs.Time.{tidy-freed, tidy-clear, clear-same, tidy-shared, tidy-events, taken, blocked}
@@ -171,7 +163,7 @@ module _ (l : Ledger) (t : Tidy l) (b : NodeId) where
   managed-goes per spawn covered = let a = managed-apart l t spawn per in record { tidy = a .tidy; follows = go (isBus b (spawn .bus)) refl }
     where
       go : (c : Bool) → isBus b (spawn .bus) ≡ c → Follow (if? c (story.managed (spawn .def) (pans (spawn .pan)) (spawn .rank))) (step (call.spawnManaged spawn) l .answer) (busOf b (step (call.spawnManaged spawn) l .ledger)) (busOf b l)
-      go true c = subst (λ (z : NodeId). landedOf z (spawnManaged spawn l) ≡ follow (story.managed (spawn .def) (pans (spawn .pan)) (spawn .rank)) (busOf z l)) (same-bus (spawn .bus) b c) (managed-same l t spawn per covered)
+      go true c = subst (λ (z : NodeId). spawnedOf z (spawnManaged spawn l) ≡ follow (story.managed (spawn .def) (pans (spawn .pan)) (spawn .rank)) (busOf z l)) (same-bus (spawn .bus) b c) (managed-same l t spawn per covered)
       go false c = managed-apart l t spawn per .others b c
 
   loose-goes : (spawn : Spawn) → fullIn (refusalIn (step (call.spawnLoose spawn) l .answer)) ≡ false
@@ -179,7 +171,7 @@ module _ (l : Ledger) (t : Tidy l) (b : NodeId) where
   loose-goes spawn covered = record { tidy = loose-apart l t spawn .tidy; follows = go (isBus b (spawn .bus)) refl }
     where
       go : (c : Bool) → isBus b (spawn .bus) ≡ c → Follow (if? c (story.loose (spawn .def) (pans (spawn .pan)) (spawn .rank))) (step (call.spawnLoose spawn) l .answer) (busOf b (step (call.spawnLoose spawn) l .ledger)) (busOf b l)
-      go true c = subst (λ (z : NodeId). landedOf z (spawnLoose spawn l) ≡ follow (story.loose (spawn .def) (pans (spawn .pan)) (spawn .rank)) (busOf z l)) (same-bus (spawn .bus) b c) (loose-same l t spawn covered)
+      go true c = subst (λ (z : NodeId). spawnedOf z (spawnLoose spawn l) ≡ follow (story.loose (spawn .def) (pans (spawn .pan)) (spawn .rank)) (busOf z l)) (same-bus (spawn .bus) b c) (loose-same l t spawn covered)
       go false c = loose-apart l t spawn .others b c
 
   free-goes : (w : VoiceId) → Goes b (entry b (call.free w) l) (step (call.free w) l) l
@@ -190,8 +182,8 @@ module _ (l : Ledger) (t : Tidy l) (b : NodeId) where
       go (some v) e = at (isOn b v) refl
         where
           at : (c : Bool) → isOn b v ≡ c → Follow (if? c (story.freed (v .sequence))) (call.ordered (freeOutcome (some v))) (busOf b (freed (some v) l)) (busOf b l)
-          at true c = ap quiet (gone-on l t v (find-in (isVoice w) (l .voices) v e .0) b c)
-          at false c = gone-off l t v (find-in (isVoice w) (l .voices) v e .0) b c
+          at true c = ap quiet (removed-on l t v (find-in (isVoice w) (l .voices) v e .0) b c)
+          at false c = removed-off l t v (find-in (isVoice w) (l .voices) v e .0) b c
 
   report-goes : (k : NodeId) (channels : ℕ) (samples : List Float) (flag : Bool) → Goes b (entry b (call.report k channels samples flag) l) (step (call.report k channels samples flag) l) l
   report-goes k channels samples flag =
@@ -283,11 +275,11 @@ goes (call.render out) l t per c b = render-goes l t b out
 goes (call.ask q) l t per c b = nothing-of-it l t b _
 
 -- ---- the tale by the story
-abbrev pub seenIn : Bus → Own → Seen
-seenIn m v = record { number = v .number; rank = v .rank; birth = v .birth; port = v .port; holds = bus.portHeld (v .number) m; phase = v .phase; level = levelNow (m .clock) v }
+abbrev pub busVoiceIn : Bus → Own → BusVoice
+busVoiceIn m v = record { number = v .number; rank = v .rank; birth = v .birth; port = v .port; holds = bus.portHeld (v .number) m; phase = v .phase; level = levelNow (m .clock) v }
 
 abbrev pub toldOf : bus.SpawnResult → Told
-toldOf r = record { answer = r .answer; voices = map (seenIn (r .bus)) (r .bus .voices) }
+toldOf r = record { answer = r .answer; voices = map (busVoiceIn (r .bus)) (r .bus .voices) }
 
 abbrev pub taleOf : List Entry → Bus → List Told
 taleOf [] m = []
@@ -296,10 +288,10 @@ taleOf (e ∷ es) m = toldOf (follow e m) ∷ taleOf es (follow e m .bus)
 told-same : (b : NodeId) (a : Answer) (l : Ledger) → Tidy l → told b a l ≡ toldOf (record { answer = shown (refusalIn a); bus = busOf b l })
 told-same b a l t =
     ap (λ vs. record { answer = shown (refusalIn a); voices = vs })
-    (map-same (seen l) (λ v. seenIn (busOf b l) (ownOf (l .shared .graph .nodes) v)) (voicesOn b l) (λ v i.
+    (map-same (busVoice l) (λ v. busVoiceIn (busOf b l) (ownOf (l .shared .graph .nodes) v)) (voicesOn b l) (λ v i.
     let r = in-filter (isOn b) (l .voices) v i in
     ap (λ h. record { number = v .sequence; rank = v .rank; birth = v .birth; port = v .port; holds = h; phase = story.phaseOf (v .state); level = levelNow (l .shared .clock) (ownOf (l .shared .graph .nodes) v) }) (held-same l t b v (r .0) (r .1)))
-    ∙ sym (map-comp (seenIn (busOf b l)) (ownOf (l .shared .graph .nodes)) (voicesOn b l)))
+    ∙ sym (map-comp (busVoiceIn (busOf b l)) (ownOf (l .shared .graph .nodes)) (voicesOn b l)))
 
 pub tale-same : (b : NodeId) (xs : List Call) (l : Ledger) → Tidy l → l .shared .config .scope ≡ PerGroup → Covered xs l → tale b xs l ≡ taleOf (story b xs l) (busOf b l)
 tale-same b [] l t per c = refl
@@ -362,7 +354,7 @@ bus-run b (x ∷ xs) l t per c =
 
 pub ends : (c : Config) → c .scope ≡ PerGroup → (b₁ b₂ : NodeId) (xs₁ xs₂ : List Call) → Covered xs₁ (newLedger c) → Covered xs₂ (newLedger c)
     → story b₁ xs₁ (newLedger c) ≡ story b₂ xs₂ (newLedger c)
-    → map (seen (run xs₁ (newLedger c) .ledger)) (voicesOn b₁ (run xs₁ (newLedger c) .ledger)) ≡ map (seen (run xs₂ (newLedger c) .ledger)) (voicesOn b₂ (run xs₂ (newLedger c) .ledger))
+    → map (busVoice (run xs₁ (newLedger c) .ledger)) (voicesOn b₁ (run xs₁ (newLedger c) .ledger)) ≡ map (busVoice (run xs₂ (newLedger c) .ledger)) (voicesOn b₂ (run xs₂ (newLedger c) .ledger))
 ends c per b₁ b₂ xs₁ xs₂ k₁ k₂ e =
     let r = bus-run b₁ xs₁ (newLedger c) (tidy-new c) per k₁ in
     let s = bus-run b₂ xs₂ (newLedger c) (tidy-new c) per k₂ in

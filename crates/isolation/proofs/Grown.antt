@@ -1,28 +1,24 @@
 -- Nodes are appended: the old ones stay, the host's ports stay where the new ones are a voice's, and the new ones are found.
-use Prim.Native.Nat.{ℕ, zero, suc, _+_, _-_, _≤_, _<_}
+use Prim.Native.Nat.{ℕ, zero, suc, _+_, _≤_, _<_}
 use native.Mathlib.Omega.{arith}
-use mathlib.Core.Path.{_≡_, refl, sym, ap, ap₂, _∙_, subst, fun-ext}
+use mathlib.Core.Path.{_≡_, refl, ap, _∙_, subst}
 use mathlib.Core.Logic.{inl, inr, ⊎-elim}
-use mathlib.Core.List.{List, [], _∷_, _++_, map}
+use mathlib.Core.List.{List, [], _∷_, _++_}
 use mathlib.Core.Option.{Option, none, some}
-use mathlib.Core.Bool.{Bool, true, false, not, cond, _&&_, true≢false, false≢true}
-use borrow.Author.Tests.{eqb-true, eqb-false, eq-eqb, ne-eqb, ltb-true, not-true}
-use lib.Dec.{eqb, ltb}
+use mathlib.Core.Bool.{Bool, true, false}
 use lib.ListN.{length}
 use lib.Ieee.{Float}
+use borrow.Author.Tests.{eqb-true, eq-eqb, ne-eqb}
 use Rattle.lists.specs.Member.{In}
-use Rattle.lists.proofs.Member.{in-map, in-snoc, map-same, some-inj, none-some}
-use Rattle.lists.specs.Filter.{filter}
-use Rattle.lists.specs.Find.{find, or?, Once}
-use Rattle.lists.proofs.Find.{find-in, none-find, find-snoc-off, find-snoc-some, find-snoc-none, once-snoc}
+use Rattle.lists.proofs.Member.{in-snoc}
+use Rattle.lists.specs.Find.{or?, Once}
+use Rattle.lists.proofs.Find.{none-find, find-snoc-off, find-snoc-some, find-snoc-none, once-snoc}
 use Rattle.node.specs.declared.record.NodeId.{NodeId}
-use Rattle.node.specs.declared.record.VoiceId.{VoiceId}
 use Rattle.node.specs.declared.record.Node.{Node}
 use Rattle.graph.specs.View.{GraphView}
-use Rattle.graph.specs.Node.{isNode, ownedBy, nodeAt, portsOf}
+use Rattle.graph.specs.Node.{isNode, nodeAt}
 use Rattle.node.specs.Node.{withId}
 use Rattle.graph.specs.Change as change
-use Rattle.voice.specs.declared.policy.Level.{Level}
 use Rattle.voice.specs.declared.policy.Level.the-variants.{Known}
 use Rattle.store.specs.declared.voices.Voice.{Voice}
 use Rattle.model.specs.Voice.{id, nodeLevel}

@@ -1,15 +1,15 @@
 -- The host's calls: a node is added or removed, a port is connected or disconnected. What is no entry leaves the bus as it was.
-use Prim.Native.Nat.{ℕ, zero, suc, _+_, _-_, _≤_, _<_}
+use Prim.Native.Nat.{ℕ, _+_, _≤_, _<_}
 use native.Mathlib.Omega.{arith}
 use mathlib.Core.Path.{_≡_, refl, sym, ap, ap₂, _∙_, subst, fun-ext}
-use mathlib.Core.Logic.{inl, inr, ⊎-elim}
-use mathlib.Core.List.{List, [], _∷_, _++_, map}
+use mathlib.Core.Logic.{⊎-elim}
+use mathlib.Core.List.{List, [], _∷_, _++_}
 use mathlib.Core.Option.{Option, none, some}
-use mathlib.Core.Bool.{Bool, true, false, not, cond, _&&_, _||_, true≢false, false≢true}
-use borrow.Author.Tests.{eqb-true, eqb-false, eq-eqb, ne-eqb, ltb-true, lt-ltb, le-ltb, leb-false}
-use lib.Dec.{eqb, ltb, leb}
+use mathlib.Core.Bool.{Bool, true, false, not, cond, _&&_, true≢false, false≢true}
+use lib.Dec.{eqb, ltb}
+use borrow.Author.Tests.{eqb-true, eqb-false, eq-eqb, ne-eqb, ltb-true, lt-ltb, le-ltb}
 use Rattle.lists.specs.Member.{In}
-use Rattle.lists.proofs.Member.{in-snoc, map-same, none-some, some-inj}
+use Rattle.lists.proofs.Member.{in-snoc, map-same}
 use Rattle.lists.specs.Filter.{filter}
 use Rattle.lists.proofs.Filter.{in-filter, filter-in}
 use Rattle.lists.specs.Find.{find, isSome, Once}
@@ -18,34 +18,26 @@ use Rattle.rank.specs.Order.{upto}
 use Rattle.node.specs.declared.record.NodeId.{NodeId}
 use Rattle.node.specs.declared.record.VoiceId.{VoiceId}
 use Rattle.node.specs.declared.record.Node.{Node}
-use Rattle.node.specs.declared.refusal.Refusal.the-variants.{UnknownNode, VoiceNode, PortOrKind}
 use Rattle.edges.specs.Wiring.{listed}
 use Rattle.graph.specs.View.{GraphView}
-use Rattle.graph.specs.Node.{isNode, nodeAt, portsOf, ofVoice, hostNode}
+use Rattle.graph.specs.Node.{isNode, nodeAt, hostNode}
 use Rattle.node.specs.Node.{withId}
 use Rattle.graph.specs.Change as change
-use Rattle.graph.specs.Refuse.{dead, addRefusal, hostRefusal, disconnectRefusal, connectRefusal}
+use Rattle.graph.specs.Refuse.{addRefusal, hostRefusal}
 use Rattle.store.specs.declared.voices.Voice.{Voice}
 use Rattle.model.specs.Voice.{id, isOn, nodeLevel}
 use Rattle.model.specs.Clear.{doneFlag}
-use Rattle.ledger.specs.Holder.{Holders, Holder, byHost, hold, dropNode}
-use Rattle.ledger.specs.Holder.{nobody}
-use Rattle.ledger.specs.Holder.{voice}
-use Rattle.ledger.specs.Holder as holder
-use Rattle.ledger.specs.Ledger.{Ledger}
+use Rattle.ledger.specs.Holder.{Holder, byHost, hold, dropNode, nobody, voice}
+use Rattle.ledger.specs.Ledger.{Ledger, atGraph}
 use Rattle.ledger.proofs.Ids.{above}
-use Rattle.ledger.proofs.Allowed.{when-none, or-false, host-at}
-use Rattle.ledger.specs.Ledger.{atGraph}
-use Rattle.ledger.proofs.Nodes.{Mine}
-use Rattle.ledger.proofs.Nodes.{own-steady}
-use Rattle.ledger.proofs.Upto.{up-in, in-up}
+use Rattle.ledger.proofs.Allowed.{host-at}
+use Rattle.ledger.proofs.Nodes.{Mine, own-preserved}
+use Rattle.ledger.proofs.Upto.{in-up}
 use Rattle.isolation.specs.Story.{heldBy, portsAt}
-use Rattle.isolation.proofs.Bus.{Own, Seat, empty, mine, BusPorts, Bus, portCount, seat, atPorts}
+use Rattle.isolation.proofs.Bus.{Seat, empty, portCount, seat, atPorts}
 use Rattle.isolation.proofs.Bus as bus
-use Rattle.isolation.proofs.Part.{seatOf, hostPorts, ownOf, portsNow, seatsFor, ownVoices, bus-of, busOf, Seated, Tidy, Same, own-same, ports-at}
+use Rattle.isolation.proofs.Part.{seatOf, hostPorts, ownOf, portsNow, seatsFor, ownVoices, bus-of, busOf, Tidy, own-same, ports-at}
 use Rattle.isolation.proofs.Grown.{old-node, new-node, once-one, same-nodes}
-use Rattle.isolation.proofs.Decide.{ports-are}
-use Rattle.isolation.proofs.Others.{is-host}
 
 -- a mask of no ports
 pub no-ports : (x : ℕ → Seat) → _≡_ {A = ℕ → Seat} (λ p. cond (ltb p 0) (x p) empty) (λ p. empty)
@@ -96,7 +88,7 @@ module _ (l : Ledger) (t : Tidy l) (kind : List ℕ) (ports required : ℕ) (val
   pub tidy-add : Tidy added
   tidy-add =
       record {
-        own = own-steady .addNode l kind ports required values glides e (t .own);
+        own = own-preserved .addNode l kind ports required values glides e (t .own);
         rows = once-one ns next x (t .own .1 .below) (t .rows);
         outs = t .outs;
         seated = t .seated;
@@ -215,7 +207,7 @@ module _ (l : Ledger) (t : Tidy l) (k : NodeId) (e : hostRefusal (l .shared .gra
   pub tidy-remove : Tidy removed
   tidy-remove =
       record {
-        own = own-steady .removeNode l k e (t .own);
+        own = own-preserved .removeNode l k e (t .own);
         rows = λ j. once-filter (isNode j) (λ x. not (isNode k x)) ms (t .rows j);
         outs = t .outs;
         seated = λ n p w q. t .seated n p w (was n p w (eqb n (k .0)) (l .holders n p) q);

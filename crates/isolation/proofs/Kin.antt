@@ -1,23 +1,21 @@
 -- What a call leaves of the voices and of the host's holders: no voice is there that was not there before, but the one that a spawn lets in, and no
 -- host node holds a port that it did not hold, but by being connected.
-use Prim.Native.Nat.{ℕ, zero, suc, _+_, _≤_}
+use Prim.Native.Nat.{ℕ}
 use native.Mathlib.Omega.{arith}
 use mathlib.Core.Path.{_≡_, refl, sym, ap, _∙_, subst}
 use mathlib.Core.Logic.{_⊎_, inl, inr, ⊎-elim}
-use mathlib.Core.List.{List, [], _∷_, _++_, map}
+use mathlib.Core.List.{List, [], _∷_, map}
 use mathlib.Core.Option.{Option, none, some}
 use mathlib.Core.Bool.{Bool, true, false, not, cond, _&&_, true≢false}
-use borrow.Author.Tests.{eqb-true, eqb-false}
 use lib.Dec.{eqb}
 use lib.ListN.{length}
+use borrow.Author.Tests.{eqb-true, eqb-false}
 use Rattle.lists.specs.Member.{In}
 use Rattle.lists.proofs.Member.{in-map, in-snoc, and-right}
-use Rattle.lists.specs.Filter.{filter}
 use Rattle.lists.proofs.Filter.{in-filter}
 use Rattle.lists.specs.Find.{find}
 use Rattle.node.specs.declared.record.NodeId.{NodeId}
 use Rattle.node.specs.declared.record.VoiceId.{VoiceId}
-use Rattle.node.specs.declared.record.Node.{Node}
 use Rattle.node.specs.declared.refusal.Refusal.{Refusal}
 use Rattle.graph.specs.Node.{nodeAt}
 use Rattle.graph.specs.Change as change
@@ -36,17 +34,17 @@ use Rattle.store.specs.declared.voices.VoiceState.the-variants.{Tracked, Loose}
 use Rattle.model.specs.SharedState.{sounding, withSteals}
 use Rattle.model.specs.Voice.{isVoice, isOn, isTracked, beginFade, moved, counted}
 use Rattle.model.specs.Refuse.{reportRefusal, spawnRefusal}
-use Rattle.model.specs.Order.{order, reportNode}
+use Rattle.model.specs.Order.{order}
 use Rattle.model.specs.Render.{prepareOutcome, prepareShared, isFree, anyFree, isSounding, heard, answerAfter, due, renderRefusal}
 use Rattle.model.specs.Spawn.{Spawn, reclaimLog, fadeOf, newVoice, nextVoice, stateUnder, tries}
 use Rattle.model.specs.Call.{Call, event, scheduleRefusal}
 use Rattle.model.specs.Call as call
-use Rattle.ledger.specs.Holder.{Holders, Holder, nobody, voice, byVoice, byHost, hold, dropVoice, dropNode}
+use Rattle.ledger.specs.Holder.{Holders, Holder, nobody, voice, byVoice, byHost, hold}
 use Rattle.ledger.specs.Holder as holder
-use Rattle.ledger.specs.Ledger.{Ledger, SpawnResult, atShared, withoutVoice, cutOff, fade, stolen, stealVoice, portHeld, instantiate, place, placeWithinBudget, admitted, admissionOn, refused, freed, free, spawnManaged, spawnLoose}
+use Rattle.ledger.specs.Ledger.{Ledger, SpawnResult, atShared, withoutVoice, cutOff, fade, stolen, stealVoice, portHeld, instantiate, place, placeWithinBudget, admitted, admissionOn, freed, free, spawnManaged, spawnLoose}
 use Rattle.ledger.specs.Ledger as ledger
 use Rattle.ledger.specs.Clear.{withoutVoices, endedVoices, silentVoices}
-use Rattle.ledger.specs.Render.{applyEvent, applyEvents, oneMore, countedIf, blockOf, preparedIf, rested, render}
+use Rattle.ledger.specs.Render.{applyEvents, oneMore, countedIf, blockOf, preparedIf, rested, render}
 use Rattle.ledger.specs.Call.{Step, step, graphStep, renderStep}
 use Rattle.ledger.specs.Call as steps
 use Rattle.ledger.proofs.Nodes.{begin-same}
@@ -94,8 +92,8 @@ no-host : (c : Bool) (x : Holder) (a : NodeId) → cond c nobody x ≡ holder.ho
 no-host true x a e = let z : _≡_ {A = ℕ} 0 1 = cc in absurd (omega arith)
 no-host false x a e = e
 
-less-gone : (w : VoiceId) (l : Ledger) → Less (l .voices) (l .holders) (withoutVoice w l)
-less-gone w l =
+less-removed : (w : VoiceId) (l : Ledger) → Less (l .voices) (l .holders) (withoutVoice w l)
+less-removed w l =
     record {
       kin = λ v i. kin-self (l .voices) v (in-filter (λ x. not (isVoice w x)) (l .voices) v i .0);
       hosts = λ n p a e. no-host (byVoice w (l .holders n p)) (l .holders n p) a e;
@@ -103,11 +101,11 @@ less-gone w l =
 
 less-freed : (o : Option Voice) (l : Ledger) → Less (l .voices) (l .holders) (freed o l)
 less-freed none l = less-self l
-less-freed (some v) l = less-gone (v .id) l
+less-freed (some v) l = less-removed (v .id) l
 
 less-all : (gs : List Voice) (l : Ledger) → Less (l .voices) (l .holders) (withoutVoices gs l)
 less-all [] l = less-self l
-less-all (g ∷ gs) l = less-then (less-gone (g .id) l) (less-all gs (withoutVoice (g .id) l))
+less-all (g ∷ gs) l = less-then (less-removed (g .id) l) (less-all gs (withoutVoice (g .id) l))
 
 less-events : (q : List Event) (l : Ledger) → Less (l .voices) (l .holders) (applyEvents q l)
 less-events [] l = less-self l
@@ -155,19 +153,19 @@ pub record New (l₀ : Ledger) (spawn : Spawn) (r : SpawnResult) (v : Voice) : T
   pub ports : portsNow (spawn .bus) (l₀ .shared .graph .nodes) ≡ some room
   pub number : v .sequence ≡ room .noise
 
-pub record Landed (l₀ : Ledger) (spawn : Spawn) (r : SpawnResult) : Type 0 where
+pub record AfterSpawn (l₀ : Ledger) (spawn : Spawn) (r : SpawnResult) : Type 0 where
   pub kin : (v : Voice) → In v (r .ledger .voices) → Kin (l₀ .voices) v ⊎ New l₀ spawn r v
   pub hosts : (n p : ℕ) (a : NodeId) → r .ledger .holders n p ≡ holder.host a → l₀ .holders n p ≡ holder.host a
 
-nobody-new : (l₀ : Ledger) (spawn : Spawn) (r : SpawnResult) → Less (l₀ .voices) (l₀ .holders) (r .ledger) → Landed l₀ spawn r
+nobody-new : (l₀ : Ledger) (spawn : Spawn) (r : SpawnResult) → Less (l₀ .voices) (l₀ .holders) (r .ledger) → AfterSpawn l₀ spawn r
 nobody-new l₀ spawn r k = record { kin = λ v i. inl (k .kin v i); hosts = k .hosts }
 
 module _ (spawn : Spawn) (l₀ : Ledger) (ok : allowed (spawn .def) ≡ true) (m : BusPorts) (here : portsNow (spawn .bus) (l₀ .shared .graph .nodes) ≡ some m) where
-  abbrev Going : Ledger → Type 0
-  Going l = Away spawn l₀ ok m l × Less (l₀ .voices) (l₀ .holders) l
+  abbrev Fewer : Ledger → Type 0
+  Fewer l = Away spawn l₀ ok m l × Less (l₀ .voices) (l₀ .holders) l
 
-  lands : (s : VoiceState) (p : ℕ) (l : Ledger) → Going l → Landed l₀ spawn (instantiate spawn s p l)
-  lands s p l q =
+  instantiates : (s : VoiceState) (p : ℕ) (l : Ledger) → Fewer l → AfterSpawn l₀ spawn (instantiate spawn s p l)
+  instantiates s p l q =
       record {
         kin = λ v i. ⊎-elim (λ j. inl (q .1 .kin v j)) (λ e. inr (record {
           named = ap (λ (x : Voice). Spawned.Voice (x .id)) (sym e);
@@ -183,18 +181,18 @@ module _ (spawn : Spawn) (l₀ : Ledger) (ok : allowed (spawn .def) ≡ true) (m
       was true x a e = let z : _≡_ {A = ℕ} 0 1 = cc in absurd (omega arith)
       was false x a e = e
 
-  cuts : (l : Ledger) → Going l → (v : Voice) → In v (l .voices) → isOn (spawn .bus) v ≡ true → (s : VoiceState) → Going (cutOff v s l)
-  cuts l q v i on s = (away-cut spawn l₀ ok m l (q .0) v i on s, less-then (q .1) (less-gone (v .id) (atShared l (withSteals (reclaimLog v s (l .shared)) (l .shared)))))
+  cuts : (l : Ledger) → Fewer l → (v : Voice) → In v (l .voices) → isOn (spawn .bus) v ≡ true → (s : VoiceState) → Fewer (cutOff v s l)
+  cuts l q v i on s = (away-cut spawn l₀ ok m l (q .0) v i on s, less-then (q .1) (less-removed (v .id) (atShared l (withSteals (reclaimLog v s (l .shared)) (l .shared)))))
 
-  placed : (s : VoiceState) (n : ℕ) (l : Ledger) → Going l → Landed l₀ spawn (place n spawn s l)
+  placed : (s : VoiceState) (n : ℕ) (l : Ledger) → Fewer l → AfterSpawn l₀ spawn (place n spawn s l)
   placed s =
-      place-kept spawn s (λ n l. Going l) (Landed l₀ spawn) (λ n l p e q. lands s p l q) (λ l e q. nobody-new l₀ spawn _ (q .1)) (λ n l e f q. nobody-new l₀ spawn _ (q .1))
+      place-kept spawn s (λ n l. Fewer l) (AfterSpawn l₀ spawn) (λ n l p e q. instantiates s p l q) (λ l e q. nobody-new l₀ spawn _ (q .1)) (λ n l e f q. nobody-new l₀ spawn _ (q .1))
       (λ n l v e f q. let r = nextOut-in (q .0 .tidy .own .0) (l .shared) (spawn .bus) (spawn .rank) v f in cuts l q v (r .0) (and-right (mayGo (spawn .rank) v) _ (r .1)) (v .state))
 
-  pub settled : (l : Ledger) → Going l → Landed l₀ spawn (placeWithinBudget spawn l)
-  settled l q = placed (stateUnder (l .shared .config .budget)) (tries (l .shared .config .budget) (l .voices)) l q
+  pub budgeted : (l : Ledger) → Fewer l → AfterSpawn l₀ spawn (placeWithinBudget spawn l)
+  budgeted l q = placed (stateUnder (l .shared .config .budget)) (tries (l .shared .config .budget) (l .voices)) l q
 
-  pub loosely : (l : Ledger) → Going l → Landed l₀ spawn (place 0 spawn Loose l)
+  pub loosely : (l : Ledger) → Fewer l → AfterSpawn l₀ spawn (place 0 spawn Loose l)
   loosely l q = placed Loose 0 l q
 
 less-fade : (g : Voice) (p : ℕ) (l : Ledger) → Less (l .voices) (l .holders) (fade g p l)
@@ -217,31 +215,31 @@ less-fade g p l = record { kin = kin; hosts = λ n q a e. e }
         }
 
 less-steal : (g : Voice) (o : Option ℕ) (l : Ledger) → Less (l .voices) (l .holders) (stolen g o l)
-less-steal g none l = less-gone (g .id) (atShared l (withSteals (reclaimLog g Tracked (l .shared)) (l .shared)))
+less-steal g none l = less-removed (g .id) (atShared l (withSteals (reclaimLog g Tracked (l .shared)) (l .shared)))
 less-steal g (some p) l = less-fade g p l
 
 module _ (l : Ledger) (t : Tidy l) (spawn : Spawn) where
-  begins : (x : Meets (l .shared) spawn) → Going spawn l (x .ok) (x .ports) (x .bus) l
+  begins : (x : Meets (l .shared) spawn) → Fewer spawn l (x .ok) (x .ports) (x .bus) l
   begins x = let h = x .room in (record { tidy = t; room = omega arith; ports = x .bus; others = λ b off. refl }, less-self l)
 
-  pub managed-landed : l .shared .config .scope ≡ PerGroup → Landed l spawn (spawnManaged spawn l)
-  managed-landed per = go (spawnRefusal (l .shared) (l .voices) (spawn .def) (spawn .bus) (spawn .rank)) refl
+  pub managed-spawned : l .shared .config .scope ≡ PerGroup → AfterSpawn l spawn (spawnManaged spawn l)
+  managed-spawned per = go (spawnRefusal (l .shared) (l .voices) (spawn .def) (spawn .bus) (spawn .rank)) refl
     where
-      works : Meets (l .shared) spawn → Landed l spawn (admitted (admissionOn (spawn .bus) (spawn .rank) l) spawn l)
+      works : Meets (l .shared) spawn → AfterSpawn l spawn (admitted (admissionOn (spawn .bus) (spawn .rank) l) spawn l)
       works x =
-          managed-kept spawn (Landed l spawn) l (t .own .0) (λ h. nobody-new l spawn _ (less-self l)) (λ h. settled spawn l (x .ok) (x .ports) (x .bus) l (begins x))
+          managed-kept spawn (AfterSpawn l spawn) l (t .own .0) (λ h. nobody-new l spawn _ (less-self l)) (λ h. budgeted spawn l (x .ok) (x .ports) (x .bus) l (begins x))
           (λ p w h g i c.
           let on : isOn (spawn .bus) g ≡ true = and-right (isTracked (g .state)) _ (subst (λ z. counted z (spawn .bus) g ≡ true) per c) in
-          settled spawn l (x .ok) (x .ports) (x .bus) (stealVoice g l) (away-steal spawn l (x .ok) (x .ports) l t (x .room) (x .bus) (λ b off. refl) g i on (portHeld g l), less-steal g (portHeld g l) l))
+          budgeted spawn l (x .ok) (x .ports) (x .bus) (stealVoice g l) (away-steal spawn l (x .ok) (x .ports) l t (x .room) (x .bus) (λ b off. refl) g i on (portHeld g l), less-steal g (portHeld g l) l))
 
-      go : (o : Option Refusal) → spawnRefusal (l .shared) (l .voices) (spawn .def) (spawn .bus) (spawn .rank) ≡ o → Landed l spawn (ledger.unless o l (admitted (admissionOn (spawn .bus) (spawn .rank) l) spawn l))
+      go : (o : Option Refusal) → spawnRefusal (l .shared) (l .voices) (spawn .def) (spawn .bus) (spawn .rank) ≡ o → AfterSpawn l spawn (ledger.unless o l (admitted (admissionOn (spawn .bus) (spawn .rank) l) spawn l))
       go (some r) e = nobody-new l spawn _ (less-self l)
       go none e = works (meets (l .shared) (l .voices) spawn e)
 
-  pub loose-landed : Landed l spawn (spawnLoose spawn l)
-  loose-landed = go (spawnRefusal (l .shared) (l .voices) (spawn .def) (spawn .bus) (spawn .rank)) refl
+  pub loose-spawned : AfterSpawn l spawn (spawnLoose spawn l)
+  loose-spawned = go (spawnRefusal (l .shared) (l .voices) (spawn .def) (spawn .bus) (spawn .rank)) refl
     where
-      go : (o : Option Refusal) → spawnRefusal (l .shared) (l .voices) (spawn .def) (spawn .bus) (spawn .rank) ≡ o → Landed l spawn (ledger.unless o l (place 0 spawn Loose l))
+      go : (o : Option Refusal) → spawnRefusal (l .shared) (l .voices) (spawn .def) (spawn .bus) (spawn .rank) ≡ o → AfterSpawn l spawn (ledger.unless o l (place 0 spawn Loose l))
       go (some r) e = nobody-new l spawn _ (less-self l)
       go none e = let x = meets (l .shared) (l .voices) spawn e in loosely spawn l (x .ok) (x .ports) (x .bus) l (begins x)
 
@@ -279,7 +277,7 @@ module _ (b : NodeId) (l : Ledger) where
   alike : (l' : Ledger) → l' .voices ≡ l .voices → ((p : ℕ) (a : NodeId) → l' .holders (b .0) p ≡ holder.host a → l .holders (b .0) p ≡ holder.host a) → Stays b l l'
   alike l' e h = record { kin = λ v i on. kin-self (l .voices) v (subst (In v) e i); hosts = h }
 
-  elsewhere : (spawn : Spawn) → isBus b (spawn .bus) ≡ false → (r : SpawnResult) → Landed l spawn r → Stays b l (r .ledger)
+  elsewhere : (spawn : Spawn) → isBus b (spawn .bus) ≡ false → (r : SpawnResult) → AfterSpawn l spawn r → Stays b l (r .ledger)
   elsewhere spawn off r k =
       record {
         kin = λ v i on. ⊎-elim (λ q. q) (λ n. absurd (true≢false (sym on ∙ ap (λ (z : NodeId). eqb (z .0) (b .0)) (n .bus) ∙ off))) (k .kin v i);
@@ -301,8 +299,8 @@ module _ (b : NodeId) (l : Ledger) where
       go none h = alike _ refl (λ r j e. other h r j (eqb (b .0) (k .0)) refl e)
   stays t per (call.disconnect k p) q = either (disconnectRefusal (l .shared .graph) k p) _ (alike _ refl (λ r a e. no-host (eqb (b .0) (k .0) && eqb r p) (l .holders (b .0) r) a e))
   stays t per (call.setSink k) q = either (hostRefusal (l .shared .graph) k) _ (alike _ refl (λ p a e. e))
-  stays t per (call.spawnManaged x) q = elsewhere x q (spawnManaged x l) (managed-landed l t x per)
-  stays t per (call.spawnLoose x) q = elsewhere x q (spawnLoose x l) (loose-landed l t x)
+  stays t per (call.spawnManaged x) q = elsewhere x q (spawnManaged x l) (managed-spawned l t x per)
+  stays t per (call.spawnLoose x) q = elsewhere x q (spawnLoose x l) (loose-spawned l t x)
   stays t per (call.free w) q = less-stays (less-free w l)
   stays t per call.clear q = less-stays (less-clear l)
   stays t per (call.order w name o) q = alike _ refl (λ p a e. e)

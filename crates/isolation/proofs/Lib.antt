@@ -1,9 +1,9 @@
 pub mod Bus
 pub mod Part
-pub mod Gone
+pub mod Removed
 pub mod Grown
 pub mod Fade
-pub mod Land
+pub mod Instantiated
 pub mod Others
 pub mod Relabel
 pub mod Decide
@@ -15,7 +15,7 @@ pub mod Time
 pub mod Follows
 pub mod Acts
 pub mod Queue
-pub mod Books
+pub mod BusRecords
 pub mod Written
 pub mod Logged
 pub mod Kin

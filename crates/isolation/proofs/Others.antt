@@ -1,49 +1,44 @@
 -- Spawns on a bus leave every other bus as it was: under `PerGroup` a managed spawn steals and reclaims on its own bus alone.
-use Prim.Native.Nat.{ℕ, zero, suc, _+_, _≤_, _<_}
+use Prim.Native.Nat.{ℕ, _+_, _≤_, _<_}
 use native.Mathlib.Omega.{arith}
 use mathlib.Core.Path.{_≡_, refl, sym, ap, _∙_, subst}
-use mathlib.Core.Logic.{inl, inr, ⊎-elim}
-use mathlib.Core.List.{List, [], _∷_}
+use mathlib.Core.List.{List}
 use mathlib.Core.Option.{Option, none, some}
-use mathlib.Core.Bool.{Bool, true, false, not, cond, _&&_, _||_, true≢false, false≢true}
-use borrow.Author.Tests.{eqb-true, eqb-false, eq-eqb, ne-eqb, ltb-false}
+use mathlib.Core.Bool.{Bool, true, false, not, cond}
 use lib.Dec.{eqb, ltb, leb}
-use lib.ListN.{length}
+use borrow.Author.Tests.{eqb-true, eq-eqb, ltb-false}
 use Rattle.lists.specs.Member.{In}
 use Rattle.lists.proofs.Member.{and-right, none-some, some-inj}
 use Rattle.lists.proofs.Find.{find-in}
 use Rattle.node.specs.declared.record.NodeId.{NodeId}
-use Rattle.node.specs.declared.record.VoiceId.{VoiceId}
 use Rattle.node.specs.declared.record.Node.{Node}
 use Rattle.node.specs.declared.refusal.Refusal.{Refusal}
 use Rattle.node.specs.declared.refusal.Refusal.the-variants.{DefinitionLimits, RankTooHigh, BusWithoutPorts, TableFull, IdsUsedUp}
 use Rattle.graph.specs.Node.{nodeAt, isNode, portsOf, idLimit}
-use Rattle.graph.specs.Refuse.{when, hostRefusal}
+use Rattle.graph.specs.Refuse.{hostRefusal}
 use Rattle.voice.specs.Steals.{StealLog}
-use Rattle.voice.specs.declared.policy.BudgetScope.{BudgetScope}
 use Rattle.voice.specs.declared.policy.BudgetScope.the-variants.{PerGroup}
 use Rattle.synthdef.specs.Limits.{allowed}
-use Rattle.synthdef.specs.declared.def.SynthDef.{SynthDef}
 use Rattle.store.specs.declared.voices.Voice.{Voice}
 use Rattle.store.specs.declared.voices.VoiceState.{VoiceState}
-use Rattle.store.specs.declared.voices.VoiceState.the-variants.{Tracked, Fading, Loose}
+use Rattle.store.specs.declared.voices.VoiceState.the-variants.{Tracked, Loose}
 use Rattle.model.specs.SharedState.{SharedState, withSteals}
 use Rattle.model.specs.Voice.{isOn, isTracked, counted}
 use Rattle.model.specs.Refuse.{rankLimit, spawnRefusal, orElse, noHeadroom, noIds, voiceIdLimit}
-use Rattle.model.specs.Spawn.{stateUnder, tries, reclaimLog, Spawn, pans}
-use Rattle.ledger.specs.Ledger.{Ledger, SpawnResult, withoutVoice, cutOff, fade, stolen, stealVoice, portHeld, portFree, instantiate, place, placeWithinBudget, admitted, admissionOn, spawnManaged, spawnLoose}
+use Rattle.model.specs.Spawn.{stateUnder, tries, reclaimLog, Spawn}
+use Rattle.ledger.specs.Ledger.{Ledger, SpawnResult, cutOff, stolen, stealVoice, portHeld, instantiate, place, placeWithinBudget, admitted, admissionOn, spawnManaged, spawnLoose}
 use Rattle.ledger.specs.Ledger as ledger
-use Rattle.ledger.proofs.Allowed.{when-none, or-false, spawn-allowed, host-at}
+use Rattle.ledger.proofs.Allowed.{when-none, or-false, spawn-allowed}
 use Rattle.ledger.proofs.Victim.{nextOut-in}
 use Rattle.ledger.specs.Claim.{mayGo}
-use Rattle.ledger.proofs.Preserved.{place-kept, landed-kept}
+use Rattle.ledger.proofs.Preserved.{place-kept}
 use Rattle.ledger.proofs.Managed.{managed-kept}
-use Rattle.isolation.proofs.Bus.{portCount, BusPorts, Bus}
+use Rattle.isolation.proofs.Bus.{BusPorts}
 use Rattle.isolation.proofs.Part.{roomOf, hostPorts, portsNow, busOf, Tidy}
-use Rattle.isolation.proofs.Gone.{gone-off, gone-on, ports-stay, tidy-gone}
+use Rattle.isolation.proofs.Removed.{removed-off, ports-stay, tidy-removed}
 use Rattle.isolation.proofs.Fade.{fade-off, tidy-fade}
 use Rattle.isolation.proofs.Fade as fading
-use Rattle.isolation.proofs.Land.{land-off, tidy-land}
+use Rattle.isolation.proofs.Instantiated.{instantiate-off, tidy-instantiate}
 
 -- ---- the steal records belong to no bus's part
 pub tidy-steals : (l : Ledger) (x : StealLog) → Tidy l → Tidy (record { shared = withSteals x (l .shared); holders = l .holders; voices = l .voices })
@@ -54,13 +49,13 @@ module _ (l : Ledger) (t : Tidy l) (g : Voice) (i : In g (l .voices)) (s : Voice
   marked = record { shared = withSteals (reclaimLog g s (l .shared)) (l .shared); holders = l .holders; voices = l .voices }
 
   pub tidy-cut : Tidy (cutOff g s l)
-  tidy-cut = tidy-gone marked (tidy-steals l (reclaimLog g s (l .shared)) t) g i
+  tidy-cut = tidy-removed marked (tidy-steals l (reclaimLog g s (l .shared)) t) g i
 
   pub cut-ports : (b : NodeId) → portsNow b (cutOff g s l .shared .graph .nodes) ≡ portsNow b (l .shared .graph .nodes)
   cut-ports b = ports-stay marked (tidy-steals l (reclaimLog g s (l .shared)) t) g i b
 
   pub cut-off : (b : NodeId) → isOn b g ≡ false → busOf b (cutOff g s l) ≡ busOf b l
-  cut-off b off = gone-off marked (tidy-steals l (reclaimLog g s (l .shared)) t) g i b off
+  cut-off b off = removed-off marked (tidy-steals l (reclaimLog g s (l .shared)) t) g i b off
 
 -- ---- a bus is a node of the host
 pub is-host : (o : Option Node) (m : BusPorts) → hostPorts o ≡ some m → (n : Node) → o ≡ some n → n .owner .0 ≡ 0
@@ -127,11 +122,11 @@ module _ (spawn : Spawn) (l₀ : Ledger) (ok : allowed (spawn .def) ≡ true) (m
   stays : (l : Ledger) → Away l → (r : Refusal) → Done (ledger.refused r l)
   stays l a r = record { tidy = a .tidy; others = a .others }
 
-  pub away-land : (l : Ledger) → Away l → (s : VoiceState) (p : ℕ) → Done (instantiate spawn s p l)
-  away-land l a s p =
+  pub away-instantiate : (l : Ledger) → Away l → (s : VoiceState) (p : ℕ) → Done (instantiate spawn s p l)
+  away-instantiate l a s p =
       record {
-        tidy = let n = is-node (nodeAt (l .shared .graph .nodes) (spawn .bus)) m (a .ports) in tidy-land l (a .tidy) spawn ok s p (a .room) (n .0) (n .1) (is-host (nodeAt (l .shared .graph .nodes) (spawn .bus)) m (a .ports) (n .0) (n .1));
-        others = λ b off. land-off l (a .tidy) spawn ok s p b off ∙ a .others b off;
+        tidy = let n = is-node (nodeAt (l .shared .graph .nodes) (spawn .bus)) m (a .ports) in tidy-instantiate l (a .tidy) spawn ok s p (a .room) (n .0) (n .1) (is-host (nodeAt (l .shared .graph .nodes) (spawn .bus)) m (a .ports) (n .0) (n .1));
+        others = λ b off. instantiate-off l (a .tidy) spawn ok s p b off ∙ a .others b off;
       }
 
   pub elsewhere : (g : Voice) → isOn (spawn .bus) g ≡ true → (b : NodeId) → eqb (spawn .bus .0) (b .0) ≡ false → isOn b g ≡ false
@@ -148,11 +143,11 @@ module _ (spawn : Spawn) (l₀ : Ledger) (ok : allowed (spawn .def) ≡ true) (m
 
   pub away-place : (s : VoiceState) (fuel : ℕ) (l : Ledger) → Away l → Done (place fuel spawn s l)
   away-place s =
-      place-kept spawn s (λ n l. Away l) Done (λ n l p e a. away-land l a s p) (λ l e a. stays l a _) (λ n l e f a. stays l a _)
+      place-kept spawn s (λ n l. Away l) Done (λ n l p e a. away-instantiate l a s p) (λ l e a. stays l a _) (λ n l e f a. stays l a _)
       (λ n l v e f a. let r = nextOut-in (a .tidy .own .0) (l .shared) (spawn .bus) (spawn .rank) v f in away-cut l a v (r .0) (and-right (mayGo (spawn .rank) v) _ (r .1)) (v .state))
 
-  pub away-settle : (l : Ledger) → Away l → Done (placeWithinBudget spawn l)
-  away-settle l a = away-place (stateUnder (l .shared .config .budget)) (tries (l .shared .config .budget) (l .voices)) l a
+  pub away-budgeted : (l : Ledger) → Away l → Done (placeWithinBudget spawn l)
+  away-budgeted l a = away-place (stateUnder (l .shared .config .budget)) (tries (l .shared .config .budget) (l .voices)) l a
 
   pub away-steal : (l : Ledger) → Tidy l → l .shared .graph .next + 3 ≤ 4294967296 → portsNow (spawn .bus) (l .shared .graph .nodes) ≡ some m → ((b : NodeId) → eqb (spawn .bus .0) (b .0) ≡ false → busOf b l ≡ busOf b l₀)
       → (g : Voice) → In g (l .voices) → isOn (spawn .bus) g ≡ true → (o : Option ℕ) → Away (stolen g o l)
@@ -180,8 +175,8 @@ module _ (l : Ledger) (t : Tidy l) (spawn : Spawn) where
       works : Meets (l .shared) spawn → Apart (spawn .bus) l (admitted (admissionOn (spawn .bus) (spawn .rank) l) spawn l)
       works x =
           managed-kept spawn (Apart (spawn .bus) l) l (t .own .0) (λ h. record { tidy = t; others = λ b off. refl })
-          (λ h. out (away-settle spawn l (x .ok) (x .ports) l (begins x)))
-          (λ p w h g i c. out (away-settle spawn l (x .ok) (x .ports) (stealVoice g l)
+          (λ h. out (away-budgeted spawn l (x .ok) (x .ports) l (begins x)))
+          (λ p w h g i c. out (away-budgeted spawn l (x .ok) (x .ports) (stealVoice g l)
           (away-steal spawn l (x .ok) (x .ports) l t (x .room) (x .bus) (λ b off. refl) g i (and-right (isTracked (g .state)) _ (subst (λ z. counted z (spawn .bus) g ≡ true) per c)) (portHeld g l))))
         where
           out : {r : SpawnResult} → Done spawn l (x .ok) (x .ports) r → Apart (spawn .bus) l r

@@ -1,40 +1,32 @@
 -- The part of a ledger that belongs to one bus, as the bus by itself has it; and what every run keeps, that it can be told apart.
-use Prim.Native.Nat.{ℕ, zero, suc, _+_, _-_, _≤_, _<_}
+use Prim.Native.Nat.{ℕ, _+_, _-_, _≤_, _<_}
 use native.Mathlib.Omega.{arith}
-use mathlib.Core.Path.{_≡_, refl, sym, ap, ap₂, _∙_, subst, fun-ext}
-use mathlib.Core.Logic.{inl, inr, ⊎-elim}
-use mathlib.Core.List.{List, [], _∷_, _++_, map}
+use mathlib.Core.Path.{_≡_, refl, sym, ap, ap₂, _∙_, fun-ext}
+use mathlib.Core.List.{List, map}
 use mathlib.Core.Option.{Option, none, some}
-use mathlib.Core.Bool.{Bool, true, false, not, cond, _&&_, true≢false, false≢true}
-use borrow.Author.Tests.{eqb-true, eqb-false, eq-eqb, ne-eqb, ltb-true, not-true}
+use mathlib.Core.Bool.{Bool, true, false, cond, _&&_, true≢false}
 use lib.Dec.{eqb, ltb}
+use borrow.Author.Tests.{ltb-true}
 use Rattle.lists.specs.Member.{In}
-use Rattle.lists.proofs.Member.{in-map, in-snoc, map-same, some-inj, none-some}
-use Rattle.lists.specs.Filter.{filter, put?}
-use Rattle.lists.proofs.Filter.{filter-same, filter-filter, filter-map, in-filter, filter-in}
-use Rattle.lists.specs.Find.{find, or?, filterO, mapO, Once}
-use Rattle.lists.proofs.Find.{find-in, find-none, none-find, find-filter, find-filter-same, find-filter-some, find-map}
+use Rattle.lists.specs.Filter.{filter}
+use Rattle.lists.proofs.Filter.{filter-same, filter-filter}
+use Rattle.lists.specs.Find.{find, Once}
+use Rattle.lists.proofs.Find.{find-in, find-none}
 use Rattle.node.specs.declared.record.NodeId.{NodeId}
 use Rattle.node.specs.declared.record.VoiceId.{VoiceId}
 use Rattle.node.specs.declared.record.Node.{Node}
-use Rattle.graph.specs.Node.{isNode, ownedBy, nodeAt, portsOf}
+use Rattle.graph.specs.Node.{isNode, nodeAt}
 use Rattle.voice.specs.declared.policy.Level.{Level}
 use Rattle.store.specs.declared.config.Config.{Config}
 use Rattle.store.specs.declared.voices.Voice.{Voice}
-use Rattle.store.specs.declared.voices.VoiceState.{VoiceState}
-use Rattle.store.specs.declared.voices.VoiceState.the-variants.{Tracked, Fading, Loose}
 use Rattle.model.specs.Voice.{id, isVoice, isOn, nodeLevel}
 use Rattle.model.specs.Clear.{doneFlag}
-use Rattle.ledger.specs.Holder.{Holders, Holder, byVoice, dropVoice}
-use Rattle.ledger.specs.Holder.{nobody}
-use Rattle.ledger.specs.Holder.{voice}
+use Rattle.ledger.specs.Holder.{Holders, Holder, nobody, voice}
 use Rattle.ledger.specs.Holder as holder
 use Rattle.ledger.specs.Ledger.{Ledger}
-use Rattle.ledger.specs.Ledger as ledger
-use Rattle.ledger.proofs.Ids.{unique, once, above, same-id}
-use Rattle.ledger.proofs.Nodes.{OwnNodes, node-stays}
+use Rattle.ledger.proofs.Nodes.{OwnNodes}
 use Rattle.isolation.specs.Story.{phaseOf, portsIf}
-use Rattle.isolation.proofs.Bus.{Own, Seat, empty, mine, BusPorts, Bus, byNumber, isNumber, portCount, leave}
+use Rattle.isolation.proofs.Bus.{Own, Seat, empty, mine, BusPorts, Bus, portCount}
 use Rattle.isolation.proofs.Bus as bus
 
 -- ---- the part

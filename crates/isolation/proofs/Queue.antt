@@ -1,10 +1,10 @@
 -- "An event is a call of the bus whose voice it meets when taken, even if it was scheduled before that voice was let in." A story has an event
 -- where it is taken. Whoever would rather have it where it was scheduled asks more: the pending events of a bus stand in the queue as if no
 -- others had been scheduled, so agreement in the order of scheduling gives agreement in the order of taking.
-use Prim.Native.Nat.{ℕ, _≤_, _<_}
+use Prim.Native.Nat.{ℕ, _<_}
 use native.Mathlib.Omega.{arith}
 use mathlib.Core.Path.{_≡_, refl, sym, ap, _∙_}
-use mathlib.Core.Logic.{inl, inr, ⊎-elim}
+use mathlib.Core.Logic.{inl, ⊎-elim}
 use mathlib.Core.List.{List, [], _∷_}
 use mathlib.Core.Bool.{Bool, true, false, cond}
 use borrow.Author.Tests.{ltb-true, lt-ltb}
@@ -12,8 +12,8 @@ use Rattle.lists.specs.Member.{In}
 use Rattle.lists.specs.Filter.{filter, put?}
 use Rattle.lists.proofs.Filter.{in-filter}
 use Rattle.scheduler.specs.declared.event.Event.{Event}
-use Rattle.scheduler.specs.Queue.{later, before?, inserted, due, takenBefore, leftAfter}
-use Rattle.scheduler.proofs.Sorted.{Sorted, inserted-sorted}
+use Rattle.scheduler.specs.Queue.{later, before?, inserted, due, takenBefore}
+use Rattle.scheduler.proofs.Sorted.{Sorted}
 use Rattle.isolation.proofs.Part.{filter-swap}
 
 first : (e : Event) (q : List Event) → ((f : Event) → In f q → later e f ≡ true) → inserted e q ≡ e ∷ q

@@ -1,15 +1,15 @@
 -- The victim is chosen by place and level: other names for the candidates give the other name of the same candidate.
-use Prim.Native.Nat.{ℕ, zero, suc, _+_, _≤_, _<_, min}
+use Prim.Native.Nat.{ℕ, zero, suc, _+_, _<_, min}
 use native.Mathlib.Omega.{arith}
-use mathlib.Core.Path.{_≡_, refl, sym, ap, _∙_}
+use mathlib.Core.Path.{_≡_, refl, ap, _∙_}
 use mathlib.Core.List.{List, [], _∷_, map}
-use mathlib.Core.Option.{Option, none, some}
+use mathlib.Core.Option.{some}
 use mathlib.Core.Bool.{Bool, true, false, cond}
 use lib.ListN.{length, length-map}
 use lib.Ieee.{Float}
+use lib.Dec.{eqb}
 use Rattle.lists.proofs.Member.{none-some, some-inj}
 use Rattle.node.specs.declared.record.VoiceId.{VoiceId}
-use lib.Dec.{eqb}
 use Rattle.lists.specs.Filter.{filter}
 use Rattle.lists.proofs.Filter.{filter-map}
 use Rattle.voice.specs.Policy.{oldest, lastFrom, takes, take?, passed, walk, tookOr, policyVictim, lowest, ofLowest, victim, atBudget, decides, admits}

@@ -1,19 +1,19 @@
 -- A node's record is replaced: a value or a glide leaves every bus as it was, and a report is the bus's whose voice has the node.
-use Prim.Native.Nat.{ℕ, zero, suc, _+_, _-_, _≤_, _<_}
+use Prim.Native.Nat.{ℕ, _+_, _-_, _≤_, _<_}
 use native.Mathlib.Omega.{arith}
 use mathlib.Core.Path.{_≡_, refl, sym, ap, ap₂, _∙_, subst, fun-ext}
-use mathlib.Core.List.{List, [], _∷_, _++_, map}
+use mathlib.Core.List.{List, map}
 use mathlib.Core.Option.{Option, none, some}
-use mathlib.Core.Bool.{Bool, true, false, not, cond, _&&_, _||_, true≢false, false≢true}
-use borrow.Author.Tests.{eqb-true, eqb-false, eq-eqb, ne-eqb, ltb-true, ltb-false, lt-ltb, le-ltb, leb-true}
-use lib.Dec.{eqb, ltb, leb}
+use mathlib.Core.Bool.{Bool, true, false, cond}
+use lib.Dec.{eqb, ltb}
 use lib.Ieee.{Float}
+use borrow.Author.Tests.{eqb-true, eqb-false, eq-eqb, ne-eqb, lt-ltb}
 use Rattle.level.specs.Level.{levelOf}
 use Rattle.lists.specs.Member.{In}
-use Rattle.lists.proofs.Member.{in-map, map-same, none-some, some-inj, and-left, and-right}
+use Rattle.lists.proofs.Member.{in-map, map-same, some-inj}
 use Rattle.lists.specs.Filter.{filter}
 use Rattle.lists.proofs.Filter.{in-filter}
-use Rattle.lists.specs.Find.{find, mapO, Once}
+use Rattle.lists.specs.Find.{mapO, Once}
 use Rattle.lists.proofs.Find.{find-in, find-map}
 use Rattle.node.specs.declared.name.Name.{Name}
 use Rattle.node.specs.declared.order.LastOrder.{LastOrder}
@@ -27,17 +27,16 @@ use Rattle.synthdef.specs.Tables.{paramRows}
 use Rattle.synthdef.specs.Params.{paramNode}
 use Rattle.store.specs.declared.voices.Voice.{Voice}
 use Rattle.store.specs.declared.answer.Outcome.the-variants.{Applied, NotTaken}
-use Rattle.model.specs.Voice.{id, isVoice, isOn, nodeLevel}
+use Rattle.model.specs.Voice.{id, isOn, nodeLevel}
 use Rattle.model.specs.Clear.{doneFlag}
-use Rattle.model.specs.Order.{withNode, withReport, takes, stays, order, orderNode, orderParam, orderVoice}
+use Rattle.model.specs.Order.{withNode, withReport, takes, stays, orderNode, orderParam, orderVoice}
 use Rattle.node.specs.Node.{withLast}
-use Rattle.ledger.specs.Ledger.{Ledger}
-use Rattle.ledger.proofs.Ids.{above, unique}
-use Rattle.ledger.specs.Ledger.{atShared}
-use Rattle.ledger.proofs.Nodes.{own-steady}
+use Rattle.ledger.specs.Ledger.{Ledger, atShared}
+use Rattle.ledger.proofs.Ids.{unique}
+use Rattle.ledger.proofs.Nodes.{own-preserved}
 use Rattle.ledger.proofs.Preserved.{Alike}
 use Rattle.isolation.specs.Story.{phaseOf}
-use Rattle.isolation.proofs.Bus.{Own, Bus, isNumber, atVoices, report}
+use Rattle.isolation.proofs.Bus.{Own, isNumber, atVoices, report}
 use Rattle.isolation.proofs.Fade.{map-comp}
 use Rattle.isolation.proofs.Part.{roomOf, hostPorts, flagAt, ownOf, portsNow, seatsFor, ownVoices, bus-of, busOf, Tidy, own-same}
 
@@ -109,7 +108,7 @@ module _ (l : Ledger) (t : Tidy l) (j : NodeId) (x y : Node) (found : nodeAt (l 
   pub tidy-replaced : Tidy after
   tidy-replaced =
       record {
-        own = own-steady .node l j x y found alike (t .own);
+        own = own-preserved .node l j x y found alike (t .own);
         rows = rows;
         outs = t .outs;
         seated = t .seated;

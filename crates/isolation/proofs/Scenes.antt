@@ -5,15 +5,13 @@ use Prim.Native.Nat.{ℕ}
 use mathlib.Core.Path.{_≡_, refl, sym, ap, _∙_}
 use mathlib.Core.Logic.{inl, inr}
 use mathlib.Core.List.{List, [], _∷_, map}
-use mathlib.Core.Option.{Option, none, some}
 use mathlib.Core.Bool.{Bool, true, false, not, _&&_}
-use borrow.Author.Tests.{not-true}
 use lib.ListN.{length, drop}
+use lib.Ieee.{eq}
+use borrow.Author.Tests.{not-true}
 use Rattle.lists.specs.Filter.{filter}
 use Rattle.lists.specs.Member.{In}
 use Rattle.lists.proofs.Member.{and-left, and-right}
-use Rattle.node.specs.declared.record.NodeId.{NodeId}
-use lib.Ieee.{eq}
 use Rattle.synthdef.specs.Plan.{settled}
 use Rattle.node.specs.Silence.{silencePassThrough, rules}
 use Rattle.rank.specs.Order.{among, fed, released, walk, order, whole, count-up}
@@ -32,8 +30,8 @@ use Rattle.model.specs.Call.{Call, Answer}
 use Rattle.model.specs.Call as call
 use Rattle.ledger.specs.Ledger.{newLedger}
 use Rattle.ledger.specs.Call.{run}
-use Rattle.isolation.specs.Story.{Entry, opened, plugged, lost, managed, cleared, rendered, story, Phase, held, fading, Told, Seen, tale, allVictims, written, isHeld}
-use Rattle.isolation.specs.Isolated.{fullIn, Covered, Isolation}
+use Rattle.isolation.specs.Story.{Entry, opened, plugged, lost, managed, cleared, rendered, story, Phase, held, fading, Told, BusVoice, tale, allVictims, written, isHeld}
+use Rattle.isolation.specs.Isolated.{fullIn, Isolation}
 use Rattle.isolation.proofs.Theorem.{isolated}
 
 abbrev c : BudgetScope → Config
@@ -63,7 +61,7 @@ story-alone = refl
 
 -- numbers of the bus's voices after each entry
 numbers : List Told → List (List ℕ)
-numbers ts = map (λ (t : Told). map (λ (v : Seen). v .number) (t .voices)) ts
+numbers ts = map (λ (t : Told). map (λ (v : BusVoice). v .number) (t .voices)) ts
 
 tale-alone : numbers (tale (id 1) alone (newLedger (c BudgetScope.PerGroup))) ≡ [] ∷ (0 ∷ []) ∷ (0 ∷ []) ∷ (0 ∷ 1 ∷ []) ∷ (1 ∷ []) ∷ (1 ∷ 2 ∷ []) ∷ (2 ∷ 3 ∷ []) ∷ (2 ∷ 3 ∷ []) ∷ []
 unfolding alone numbers eq silencePassThrough rules prepare processingOrder lacking lacks any liveIds liveNodes risingFrom whole order walk released fed among count-up settled
@@ -109,7 +107,7 @@ both = isolated (c BudgetScope.PerGroup) refl (id 0) (id 1) busy alone (covered 
 -- under `Global` it does not: the story is the same, and the other bus's voices count, so that more voices of the bus fade
 -- how many are held after each entry
 helds : List Told → List ℕ
-helds ts = map (λ (t : Told). length (filter (λ (v : Seen). isHeld (v .phase)) (t .voices))) ts
+helds ts = map (λ (t : Told). length (filter (λ (v : BusVoice). isHeld (v .phase)) (t .voices))) ts
 
 global-story : story (id 0) busy (newLedger (c BudgetScope.Global)) ≡ its
 unfolding busy its eq silencePassThrough rules prepare processingOrder lacking lacks any liveIds liveNodes risingFrom whole order walk released fed among count-up settled
@@ -132,7 +130,7 @@ pub kept : List Call
 kept = host 2 ∷ host 0 ∷ wire 1 0 0 ∷ spawn 0 ∷ []
 
 ports : List Told → List (List ℕ)
-ports ts = map (λ (t : Told). map (λ (v : Seen). v .port) (t .voices)) ts
+ports ts = map (λ (t : Told). map (λ (v : BusVoice). v .port) (t .voices)) ts
 
 removal :
     (story (id 0) sourced (newLedger (c BudgetScope.PerGroup)) ≡ opened 2 ∷ plugged 0 ∷ lost (0 ∷ []) ∷ managed toneDef false 0 ∷ [])
@@ -150,7 +148,7 @@ pub unheard : List Call
 unheard = host 3 ∷ sink 0 ∷ spawn 0 ∷ spawn 0 ∷ spawn 0 ∷ render ∷ []
 
 phases : List Told → List (List Phase)
-phases ts = map (λ (t : Told). map (λ (v : Seen). v .phase) (t .voices)) ts
+phases ts = map (λ (t : Told). map (λ (v : BusVoice). v .phase) (t .voices)) ts
 
 sounds :
     (story (id 0) heard (newLedger (c BudgetScope.PerGroup)) ≡ opened 3 ∷ managed toneDef false 0 ∷ managed toneDef false 0 ∷ managed toneDef false 0 ∷ rendered [] true ∷ [])
@@ -161,16 +159,16 @@ unfolding heard unheard phases eq silencePassThrough rules prepare processingOrd
 sounds = (refl, refl, refl, refl)
 
 -- An event frees the bus's voice at its render, or comes too late. Refuses a story without the frees that meet its voices.
-pub timely : List Call
-timely = host 2 ∷ timedFree 15 1 ∷ spawn 0 ∷ render ∷ []
+pub no-overflow : List Call
+no-overflow = host 2 ∷ timedFree 15 1 ∷ spawn 0 ∷ render ∷ []
 
 pub late : List Call
 late = host 2 ∷ timedFree 16 1 ∷ spawn 0 ∷ render ∷ []
 
 frees :
-    (story (id 0) timely (newLedger (c BudgetScope.PerGroup)) ≡ opened 2 ∷ managed toneDef false 0 ∷ rendered (0 ∷ []) false ∷ [])
+    (story (id 0) no-overflow (newLedger (c BudgetScope.PerGroup)) ≡ opened 2 ∷ managed toneDef false 0 ∷ rendered (0 ∷ []) false ∷ [])
     × (story (id 0) late (newLedger (c BudgetScope.PerGroup)) ≡ opened 2 ∷ managed toneDef false 0 ∷ rendered [] false ∷ [])
-    × (numbers (tale (id 0) timely (newLedger (c BudgetScope.PerGroup))) ≡ [] ∷ (0 ∷ []) ∷ [] ∷ [])
+    × (numbers (tale (id 0) no-overflow (newLedger (c BudgetScope.PerGroup))) ≡ [] ∷ (0 ∷ []) ∷ [] ∷ [])
     × (numbers (tale (id 0) late (newLedger (c BudgetScope.PerGroup))) ≡ [] ∷ (0 ∷ []) ∷ (0 ∷ []) ∷ [])
-unfolding timely late numbers eq silencePassThrough rules prepare processingOrder lacking lacks any liveIds liveNodes risingFrom whole order walk released fed among count-up settled
+unfolding no-overflow late numbers eq silencePassThrough rules prepare processingOrder lacking lacks any liveIds liveNodes risingFrom whole order walk released fed among count-up settled
 frees = (refl, refl, refl, refl)

@@ -1,15 +1,13 @@
 -- Paper 6's theorem, proved: `isolated`.
-use Prim.Native.Nat.{ℕ, zero, suc, _+_, _≤_, _<_}
-use native.Mathlib.Omega.{arith}
+use Prim.Native.Nat.{ℕ, zero, suc}
 use mathlib.Core.Path.{_≡_, refl, sym, ap, ap₂, _∙_, subst}
 use mathlib.Core.Logic.{inl, inr}
 use mathlib.Core.List.{List, [], _∷_, _++_, map, append-assoc, append-nil}
 use mathlib.Core.Option.{Option, none, some}
-use mathlib.Core.Bool.{Bool, true, false, not, cond, true≢false}
-use borrow.Author.Tests.{eqb-true}
+use mathlib.Core.Bool.{Bool, true, false, cond, true≢false}
 use lib.Dec.{eqb}
-use lib.Ieee.{Float}
 use lib.ListN.{length, length-map}
+use borrow.Author.Tests.{eqb-true}
 use Rattle.lists.specs.Member.{In}
 use Rattle.lists.proofs.Member.{some-inj, none-some}
 use Rattle.lists.specs.Find.{isSome, mapO}
@@ -21,36 +19,34 @@ use Rattle.voice.specs.Steals.{StealLog}
 use Rattle.voice.specs.declared.policy.BudgetScope.the-variants.{PerGroup}
 use Rattle.voice.specs.declared.steals.StealRecord.{StealRecord}
 use Rattle.voice.specs.declared.steals.StealFound.the-variants as found
-use Rattle.synthdef.specs.declared.def.SynthDef.{SynthDef}
 use Rattle.store.specs.declared.config.Config.{Config}
 use Rattle.store.specs.declared.voices.Voice.{Voice}
 use Rattle.model.specs.Refuse.{reportRefusal}
 use Rattle.model.specs.Spawn.{pans, Spawn}
 use Rattle.model.specs.Render.{renderRefusal}
-use Rattle.ledger.specs.Render.{rested, render}
+use Rattle.ledger.specs.Render.{render}
 use Rattle.model.specs.Voice.{isOn}
 use Rattle.model.proofs.Refused.{refusalIn}
 use Rattle.model.specs.Call.{Call}
 use Rattle.model.specs.Call as call
 use Rattle.ledger.specs.Ledger.{Ledger, newLedger, spawnManaged}
 use Rattle.ledger.specs.Call.{step, run}
-use Rattle.ledger.specs.Claim.{isManaged}
+use Rattle.ledger.specs.Claim.{isManaged, heldRecord}
 use Rattle.ledger.proofs.Managed.{config-step}
-use Rattle.ledger.proofs.Marks.{book-stays}
-use Rattle.ledger.specs.Claim.{heldRecord}
+use Rattle.ledger.proofs.Marks.{log-stays}
 use Rattle.ledger.proofs.Records.{RecordedOf, recorded-step, recorded-new}
-use Rattle.isolation.specs.Story.{Entry, ifDone, if?, isBus, lostIf, heldBy, onBus, voiceOf, ownerVoice, timedFrees, entry, write, story, allVictims, written, from-to, nth}
+use Rattle.isolation.specs.Story.{Entry, ifDone, if?, isBus, lostIf, heldBy, onBus, voiceOf, ownerVoice, entry, write, story, allVictims, written, from-to, nth}
 use Rattle.isolation.specs.Story as story
 use Rattle.isolation.specs.Isolated.{Covered, Isolated, IsolatedUpToIds, fullIn}
 use Rattle.isolation.proofs.Agreed.{agreed}
-use Rattle.isolation.proofs.Bus.{Bus, follow, newBus}
+use Rattle.isolation.proofs.Bus.{Bus}
 use Rattle.isolation.proofs.Bus as bus
 use Rattle.isolation.proofs.Part.{busOf, Tidy}
 use Rattle.isolation.proofs.Acts.{HeldRecord, apply, log, recordsOf}
-use Rattle.isolation.proofs.Books.{Item, strip, Books, BooksOf}
+use Rattle.isolation.proofs.BusRecords.{Item, strip, BusRecordsOf}
 use Rattle.isolation.proofs.Written.{Logs, to-self}
 use Rattle.isolation.proofs.Logged.{managed-logs, other-logs, other-calls}
-use Rattle.isolation.proofs.Follows.{Follow, Goes, goes, tidy-new, bus-new, tales, ends}
+use Rattle.isolation.proofs.Follows.{Follow, goes, tidy-new, bus-new, tales, ends}
 
 -- ---- one call
 abbrev written? : Option Entry → Bus → List HeldRecord → List HeldRecord
@@ -62,7 +58,7 @@ At x = x .at
 
 record Stepped (b : NodeId) (x : Call) (l : Ledger) (ts : List Item) : Type 0 where
   items : List Item
-  books : BooksOf b items (step x l .ledger)
+  logged : BusRecordsOf b items (step x l .ledger)
   strips : map strip items ≡ written? (entry b x l) (busOf b l) (map strip ts)
   ats : map At items ≡ map At ts ++ cond (isSome (entry b x l)) (from-to (l .shared .steals .count) (step x l .ledger .shared .steals .count)) []
 
@@ -103,25 +99,25 @@ module _ (m : Bus) (ks : List HeldRecord) where
   quiet b (call.render out) l h = done-quiet (renderRefusal (l .shared) (length out)) _ refl
   quiet b (call.ask q) l h = refl
 
-stepped-quiet : (b : NodeId) (x : Call) → isManaged x ≡ false → (l : Ledger) (ts : List Item) → Tidy l → l .shared .config .scope ≡ PerGroup → fullIn (refusalIn (step x l .answer)) ≡ false → BooksOf b ts l → Stepped b x l ts
+stepped-quiet : (b : NodeId) (x : Call) → isManaged x ≡ false → (l : Ledger) (ts : List Item) → Tidy l → l .shared .config .scope ≡ PerGroup → fullIn (refusalIn (step x l .answer)) ≡ false → BusRecordsOf b ts l → Stepped b x l ts
 stepped-quiet b x h l ts t per c z =
     record {
       items = ts;
-      books = other-calls b ts x h l t per c z;
+      logged = other-calls b ts x h l t per c z;
       strips = sym (quiet (busOf b l) (map strip ts) b x l h);
       ats = sym (ap (λ w. map At ts ++ w) (nil (isSome (entry b x l))) ∙ append-nil (map At ts));
     }
   where
     nil : (c : Bool) → cond c (from-to (l .shared .steals .count) (step x l .ledger .shared .steals .count)) [] ≡ []
-    nil true = to-self (l .shared .steals .count) (step x l .ledger .shared .steals .count) (ap (λ (y : StealLog). y .count) (book-stays x h l))
+    nil true = to-self (l .shared .steals .count) (step x l .ledger .shared .steals .count) (ap (λ (y : StealLog). y .count) (log-stays x h l))
     nil false = refl
 
 stepped-managed : (b : NodeId) (spawn : Spawn) (l : Ledger) (ts : List Item) → Tidy l → RecordedOf l → l .shared .config .scope ≡ PerGroup → fullIn (refusalIn (step (call.spawnManaged spawn) l .answer)) ≡ false
-    → BooksOf b ts l → Stepped b (call.spawnManaged spawn) l ts
-stepped-managed b spawn l ts t r per c z = let o = out (isBus b (spawn .bus)) refl in record { items = o .0; books = o .1; strips = o .2; ats = o .3 }
+    → BusRecordsOf b ts l → Stepped b (call.spawnManaged spawn) l ts
+stepped-managed b spawn l ts t r per c z = let o = out (isBus b (spawn .bus)) refl in record { items = o .0; logged = o .1; strips = o .2; ats = o .3 }
   where
     Out : Bool → Type 0
-    Out y = (items : List Item) × BooksOf b items (spawnManaged spawn l .ledger) × (map strip items ≡ written? (if? y (story.managed (spawn .def) (pans (spawn .pan)) (spawn .rank))) (busOf b l) (map strip ts))
+    Out y = (items : List Item) × BusRecordsOf b items (spawnManaged spawn l .ledger) × (map strip items ≡ written? (if? y (story.managed (spawn .def) (pans (spawn .pan)) (spawn .rank))) (busOf b l) (map strip ts))
         × (map At items ≡ map At ts ++ cond (isSome (if? y (story.managed (spawn .def) (pans (spawn .pan)) (spawn .rank)))) (from-to (l .shared .steals .count) (spawnManaged spawn l .ledger .shared .steals .count)) [])
 
     out : (y : Bool) → isBus b (spawn .bus) ≡ y → Out y
@@ -129,10 +125,10 @@ stepped-managed b spawn l ts t r per c z = let o = out (isBus b (spawn .bus)) re
     out true e =
         let is : spawn .bus ≡ b = ap (λ n. record { 0 = n }) (eqb-true _ _ e) in
         let g = subst (λ (y : NodeId). Logs y l ts (spawnManaged spawn l .ledger) (log (story.managed (spawn .def) (pans (spawn .pan)) (spawn .rank)) (busOf y l))) is
-        (managed-logs l t r per spawn ts (subst (λ (y : NodeId). BooksOf y ts l) (sym is) z) c) in
-        (g .items, g .books, g .strips, g .ats)
+        (managed-logs l t r per spawn ts (subst (λ (y : NodeId). BusRecordsOf y ts l) (sym is) z) c) in
+        (g .items, g .logged, g .strips, g .ats)
 
-stepped : (b : NodeId) (x : Call) (l : Ledger) (ts : List Item) → Tidy l → RecordedOf l → l .shared .config .scope ≡ PerGroup → fullIn (refusalIn (step x l .answer)) ≡ false → BooksOf b ts l → Stepped b x l ts
+stepped : (b : NodeId) (x : Call) (l : Ledger) (ts : List Item) → Tidy l → RecordedOf l → l .shared .config .scope ≡ PerGroup → fullIn (refusalIn (step x l .answer)) ≡ false → BusRecordsOf b ts l → Stepped b x l ts
 stepped b (call.spawnManaged spawn) l ts t r per c z = stepped-managed b spawn l ts t r per c z
 stepped b (call.addNode kind ports required values glides) l ts t r per c z = stepped-quiet b (call.addNode kind ports required values glides) refl l ts t per c z
 stepped b (call.removeNode k) l ts t r per c z = stepped-quiet b (call.removeNode k) refl l ts t per c z
@@ -152,20 +148,20 @@ stepped b (call.ask q) l ts t r per c z = stepped-quiet b (call.ask q) refl l ts
 -- ---- a list of calls
 record Recs (b : NodeId) (xs : List Call) (l : Ledger) (ts : List Item) : Type 0 where
   items : List Item
-  books : BooksOf b items (run xs l .ledger)
+  logged : BusRecordsOf b items (run xs l .ledger)
   strips : map strip items ≡ recordsOf (story b xs l) (busOf b l) (map strip ts)
   ats : map At items ≡ map At ts ++ written b xs l
 
-recs : (b : NodeId) (xs : List Call) (l : Ledger) (ts : List Item) → Tidy l → RecordedOf l → l .shared .config .scope ≡ PerGroup → Covered xs l → BooksOf b ts l → Recs b xs l ts
-recs b [] l ts t r per c z = record { items = ts; books = z; strips = refl; ats = sym (append-nil (map At ts)) }
+recs : (b : NodeId) (xs : List Call) (l : Ledger) (ts : List Item) → Tidy l → RecordedOf l → l .shared .config .scope ≡ PerGroup → Covered xs l → BusRecordsOf b ts l → Recs b xs l ts
+recs b [] l ts t r per c z = record { items = ts; logged = z; strips = refl; ats = sym (append-nil (map At ts)) }
 recs b (x ∷ xs) l ts t r per c z =
     let covered = c (step x l .answer) (inl refl) in
     let g = goes x l t per covered b in
     let s = stepped b x l ts t r per covered z in
-    let n = recs b xs (step x l .ledger) (s .items) (g .tidy) (recorded-step x l r) (ap (λ (y : Config). y .scope) (config-step x l (t .own .0)) ∙ per) (λ a i. c a (inr i)) (s .books) in
+    let n = recs b xs (step x l .ledger) (s .items) (g .tidy) (recorded-step x l r) (ap (λ (y : Config). y .scope) (config-step x l (t .own .0)) ∙ per) (λ a i. c a (inr i)) (s .logged) in
     record {
       items = n .items;
-      books = n .books;
+      logged = n .logged;
       strips = n .strips ∙ ap (recordsOf (story b xs (step x l .ledger)) (busOf b (step x l .ledger))) (s .strips) ∙ go (entry b x l) (g .follows);
       ats = n .ats ∙ ap (λ w. w ++ written b xs (step x l .ledger)) (s .ats) ∙ append-assoc (map At ts) (cond (isSome (entry b x l)) (from-to (l .shared .steals .count) (step x l .ledger .shared .steals .count)) []) (written b xs (step x l .ledger));
     }
@@ -204,7 +200,7 @@ isolated c per b₁ b₂ xs₁ xs₂ k₁ k₂ e =
       records = records;
     }
   where
-    none-yet : (b : NodeId) → BooksOf b [] (newLedger c)
+    none-yet : (b : NodeId) → BusRecordsOf b [] (newLedger c)
     none-yet b =
         record { same = λ x i. absurd i; tags = λ v i. absurd i; foreign = λ v i. absurd i; once = λ x y i. absurd i; apart = λ x y i. absurd i; unlisted = λ v i. absurd i; below = λ x i. absurd i; numbered = λ x i. absurd i }
 
@@ -222,8 +218,8 @@ isolated c per b₁ b₂ xs₁ xs₂ k₁ k₂ e =
     records j n₁ n₂ s₁ s₂ w₁ w₂ h₁ h₂ =
         let x = mapO-some At (nth j (r₁ .items)) n₁ (sym (nth-map At j (r₁ .items)) ∙ ap (nth j) (r₁ .ats) ∙ w₁) in
         let y = mapO-some At (nth j (r₂ .items)) n₂ (sym (nth-map At j (r₂ .items)) ∙ ap (nth j) (r₂ .ats) ∙ w₂) in
-        let a : x .0 .what ≡ s₁ = r₁ .books .same (x .0) (nth-in j (r₁ .items) (x .0) (x .1)) s₁ (ap (heldRecord (run xs₁ (newLedger c) .ledger .shared .steals)) (x .2) ∙ h₁) in
-        let d : y .0 .what ≡ s₂ = r₂ .books .same (y .0) (nth-in j (r₂ .items) (y .0) (y .1)) s₂ (ap (heldRecord (run xs₂ (newLedger c) .ledger .shared .steals)) (y .2) ∙ h₂) in
+        let a : x .0 .what ≡ s₁ = r₁ .logged .same (x .0) (nth-in j (r₁ .items) (x .0) (x .1)) s₁ (ap (heldRecord (run xs₁ (newLedger c) .ledger .shared .steals)) (x .2) ∙ h₁) in
+        let d : y .0 .what ≡ s₂ = r₂ .logged .same (y .0) (nth-in j (r₂ .items) (y .0) (y .1)) s₂ (ap (heldRecord (run xs₂ (newLedger c) .ledger .shared .steals)) (y .2) ∙ h₂) in
         let both : some (strip (x .0)) ≡ some (strip (y .0)) =
         ap (mapO strip) (sym (x .1)) ∙ sym (nth-map strip j (r₁ .items)) ∙ ap (nth j) same ∙ nth-map strip j (r₂ .items) ∙ ap (mapO strip) (y .1) in
         sym a ∙ ap (λ (k : HeldRecord). k .what) (some-inj both) ∙ d

@@ -1,18 +1,18 @@
 -- Frees, clearing calls and renders.
-use Prim.Native.Nat.{ℕ, zero, suc, _+_, _*_, _≤_, _<_, min}
+use Prim.Native.Nat.{ℕ, suc, _+_, _≤_, _<_, min}
 use native.Mathlib.Omega.{arith}
 use native.Mathlib.Nat.{min-le-left}
 use mathlib.Core.Path.{_≡_, refl, sym, ap, ap₂, _∙_, subst, fun-ext}
 use mathlib.Core.Logic.{inl, inr}
-use mathlib.Core.List.{List, [], _∷_, _++_, map}
+use mathlib.Core.List.{List, [], _∷_, map}
 use mathlib.Core.Option.{Option, none, some}
-use mathlib.Core.Bool.{Bool, true, false, not, cond, _&&_, true≢false}
-use borrow.Author.Tests.{eqb-true, eq-eqb, ne-eqb, lt-ltb}
-use lib.Dec.{eqb, ltb}
+use mathlib.Core.Bool.{Bool, true, false, not, cond}
+use lib.Dec.{ltb}
+use borrow.Author.Tests.{ne-eqb, lt-ltb}
 use Rattle.lists.specs.Member.{In}
 use Rattle.lists.proofs.Member.{in-map, in-of-map, map-same}
 use Rattle.lists.specs.Filter.{filter, put?}
-use Rattle.lists.proofs.Filter.{in-filter, filter-in, filter-map, filter-same}
+use Rattle.lists.proofs.Filter.{in-filter, filter-in, filter-map}
 use Rattle.lists.specs.Find.{find, mapO}
 use Rattle.lists.proofs.Find.{find-in, find-map}
 use Rattle.lists.specs.Rising.{RisesFrom}
@@ -31,28 +31,24 @@ use Rattle.store.specs.declared.answer.Rendered.{Rendered}
 use Rattle.store.specs.declared.voices.Voice.{Voice}
 use Rattle.store.specs.declared.voices.VoiceState.{VoiceState}
 use Rattle.store.specs.declared.voices.VoiceState.the-variants.{Tracked, Fading, Loose}
-use Rattle.model.specs.SharedState.{SharedState, withEvents}
-use Rattle.model.specs.SharedState.{sounding}
-use Rattle.model.specs.Voice.{id, isVoice, isOn, withState, movedState, moved}
+use Rattle.model.specs.SharedState.{SharedState, withEvents, sounding}
+use Rattle.model.specs.Voice.{id, isVoice, isOn, movedState, moved}
 use Rattle.model.specs.Order.{order}
 use Rattle.model.specs.Clear.{doneFlag, isSilent}
-use Rattle.model.specs.Render.{prepareOutcome, prepareShared, readyShared, isFree, anyFree, heard, answerAfter, isSounding, due}
-use Rattle.ledger.specs.Holder.{Holder}
-use Rattle.ledger.specs.Holder.{nobody}
-use Rattle.ledger.specs.Holder.{voice}
+use Rattle.model.specs.Render.{prepareOutcome, prepareShared, readyShared, isFree, heard, answerAfter, isSounding}
+use Rattle.ledger.specs.Holder.{Holder, nobody, voice}
 use Rattle.ledger.specs.Holder as holder
-use Rattle.ledger.specs.Ledger.{Ledger, withoutVoice, freed, free}
+use Rattle.ledger.specs.Ledger.{Ledger, withoutVoice, freed, free, atShared}
 use Rattle.ledger.specs.Clear.{ended, withoutVoices, endedVoices, silentVoices, clear}
-use Rattle.ledger.specs.Render.{applyEvent, applyEvents, oneMore, countedIf, blockOf, preparedIf, rested}
-use Rattle.ledger.specs.Ledger.{atShared}
-use Rattle.ledger.proofs.Nodes.{own-steady}
+use Rattle.ledger.specs.Render.{applyEvents, oneMore, countedIf, blockOf, preparedIf}
+use Rattle.ledger.proofs.Nodes.{own-preserved}
 use Rattle.ledger.proofs.Upto.{up-in}
 use Rattle.isolation.specs.Story.{phaseOf, voiceOf, meets, timedFrees}
-use Rattle.isolation.proofs.Bus.{Own, Seat, empty, mine, Bus, portCount}
+use Rattle.isolation.proofs.Bus.{Own, empty, Bus, portCount}
 use Rattle.isolation.proofs.Bus as bus
 use Rattle.isolation.proofs.Fade.{map-comp}
 use Rattle.isolation.proofs.Part.{seatFor, seatOf, flagAt, ownOf, portsNow, seatsFor, ownVoices, bus-of, busOf, Seated, Tidy, filter-swap}
-use Rattle.isolation.proofs.Gone.{gone-off, gone-on, tidy-gone}
+use Rattle.isolation.proofs.Removed.{removed-off, removed-on, tidy-removed}
 use Rattle.isolation.proofs.Replaced.{Unmoved, order-still}
 
 -- ---- one voice, by a free
@@ -61,7 +57,7 @@ numbers b o = meets b o []
 
 pub tidy-freed : (l : Ledger) → Tidy l → (o : Option Voice) (w : VoiceId) → voiceOf w l ≡ o → Tidy (freed o l)
 tidy-freed l t none w e = t
-tidy-freed l t (some v) w e = tidy-gone l t v (find-in (isVoice w) (l .voices) v e .0)
+tidy-freed l t (some v) w e = tidy-removed l t v (find-in (isVoice w) (l .voices) v e .0)
 
 pub freed-same : (l : Ledger) → Tidy l → (o : Option Voice) (w : VoiceId) → voiceOf w l ≡ o → (b : NodeId) (rest : List ℕ) → bus.freeAll rest (busOf b (freed o l)) ≡ bus.freeAll (meets b o rest) (busOf b l)
 freed-same l t none w e b rest = refl
@@ -71,8 +67,8 @@ freed-same l t (some v) w e b rest = go (isOn b v) refl
     i = find-in (isVoice w) (l .voices) v e .0
 
     go : (c : Bool) → isOn b v ≡ c → bus.freeAll rest (busOf b (withoutVoice (v .id) l)) ≡ bus.freeAll (cond c (v .sequence ∷ rest) rest) (busOf b l)
-    go true on = ap (bus.freeAll rest) (gone-on l t v i b on)
-    go false off = ap (bus.freeAll rest) (gone-off l t v i b off)
+    go true on = ap (bus.freeAll rest) (removed-on l t v i b on)
+    go false off = ap (bus.freeAll rest) (removed-off l t v i b off)
 
 -- ---- many, by a clearing call
 abbrev Ranked : ℕ → List Voice → Type 0
@@ -85,17 +81,17 @@ stay-in l g gs n r sub v i =
 
 tidy-all : (gs : List Voice) (n : ℕ) (l : Ledger) → Tidy l → Ranked n gs → ((v : Voice) → In v gs → In v (l .voices)) → Tidy (withoutVoices gs l)
 tidy-all [] n l t r sub = t
-tidy-all (g ∷ gs) n l t r sub = tidy-all gs (suc (g .id .0)) (withoutVoice (g .id) l) (tidy-gone l t g (sub g (inl refl))) (r .1) (stay-in l g gs n r sub)
+tidy-all (g ∷ gs) n l t r sub = tidy-all gs (suc (g .id .0)) (withoutVoice (g .id) l) (tidy-removed l t g (sub g (inl refl))) (r .1) (stay-in l g gs n r sub)
 
 all-same : (b : NodeId) (ns : List Node) (gs : List Voice) (n : ℕ) (l : Ledger) → Tidy l → Ranked n gs → ((v : Voice) → In v gs → In v (l .voices))
     → busOf b (withoutVoices gs l) ≡ bus.withoutVoices (map (ownOf ns) (filter (isOn b) gs)) (busOf b l)
 all-same b ns [] n l t r sub = refl
 all-same b ns (g ∷ gs) n l t r sub =
-    all-same b ns gs (suc (g .id .0)) (withoutVoice (g .id) l) (tidy-gone l t g (sub g (inl refl))) (r .1) (stay-in l g gs n r sub) ∙ go (isOn b g) refl
+    all-same b ns gs (suc (g .id .0)) (withoutVoice (g .id) l) (tidy-removed l t g (sub g (inl refl))) (r .1) (stay-in l g gs n r sub) ∙ go (isOn b g) refl
   where
     go : (c : Bool) → isOn b g ≡ c → bus.withoutVoices (map (ownOf ns) (filter (isOn b) gs)) (busOf b (withoutVoice (g .id) l)) ≡ bus.withoutVoices (map (ownOf ns) (put? c g (filter (isOn b) gs))) (busOf b l)
-    go true on = ap (bus.withoutVoices (map (ownOf ns) (filter (isOn b) gs))) (gone-on l t g (sub g (inl refl)) b on)
-    go false off = ap (bus.withoutVoices (map (ownOf ns) (filter (isOn b) gs))) (gone-off l t g (sub g (inl refl)) b off)
+    go true on = ap (bus.withoutVoices (map (ownOf ns) (filter (isOn b) gs))) (removed-on l t g (sub g (inl refl)) b on)
+    go false off = ap (bus.withoutVoices (map (ownOf ns) (filter (isOn b) gs))) (removed-off l t g (sub g (inl refl)) b off)
 
 ended-same : (d : SharedState) (s : VoiceState) → bus.ended (d .config) (phaseOf s) ≡ ended d s
 ended-same d Tracked = refl
@@ -208,7 +204,7 @@ module _ (l : Ledger) (t : Tidy l) (a : Rendered) where
 
   pub tidy-block : Tidy (blockOf a l .ledger)
   tidy-block = record {
-    own = own-steady .block l a (t .own);
+    own = own-preserved .block l a (t .own);
     rows = t .rows;
     outs = parts (isSounding a) .0;
     seated = parts (isSounding a) .1;
@@ -246,11 +242,11 @@ module _ (l : Ledger) (t : Tidy l) (a : Rendered) where
       )
 
 -- prepared inside the render, or not
-pub record Blocked (c : Bool) (l : Ledger) : Type 0 where
+pub record PreparedBlock (c : Bool) (l : Ledger) : Type 0 where
   pub tidy : Tidy (preparedIf c l .ledger)
   pub same : (b : NodeId) → busOf b (preparedIf c l .ledger) ≡ bus.block (isSounding (preparedIf c l .answer)) (busOf b l)
 
-pub blocked : (c : Bool) (l : Ledger) → Tidy l → Blocked c l
+pub blocked : (c : Bool) (l : Ledger) → Tidy l → PreparedBlock c l
 blocked false l t = record { tidy = tidy-block l t (heard (sounding (l .shared))); same = block-same l t (heard (sounding (l .shared))) }
 blocked true l t =
     let u = tidy-shared l t (prepareOutcome (l .shared) .answer) (prepareOutcome (l .shared) .order) in

@@ -2,65 +2,41 @@
 -- writes.
 use Prim.Native.Nat.{ℕ, zero, suc, _+_, _-_, _≤_, _<_}
 use native.Mathlib.Omega.{arith}
-use mathlib.Core.Path.{_≡_, refl, sym, ap, ap₂, _∙_, subst}
-use mathlib.Core.Logic.{_⊎_, inl, inr, ⊎-elim}
+use mathlib.Core.Path.{_≡_, refl, sym, ap, _∙_, subst}
+use mathlib.Core.Logic.{inl, ⊎-elim}
 use mathlib.Core.List.{List, [], _∷_, _++_, map, append-assoc, append-nil}
 use mathlib.Core.Option.{Option, none, some}
-use mathlib.Core.Bool.{Bool, true, false, not, cond, _&&_, true≢false, false≢true}
-use borrow.Author.Tests.{eqb-true, eqb-false, eq-eqb, ne-eqb, not-true}
+use mathlib.Core.Bool.{Bool, true, false, not, cond, true≢false}
 use lib.Dec.{eqb}
-use lib.ListN.{length, length-map}
+use borrow.Author.Tests.{eqb-true, eqb-false, not-true}
 use Rattle.lists.specs.Member.{In}
-use Rattle.lists.proofs.Member.{in-map, in-of-map, in-snoc, in-left, in-right, map-append, and-left, and-right}
+use Rattle.lists.proofs.Member.{in-snoc, in-left, in-right, map-append}
 use Rattle.lists.specs.Filter.{filter}
-use Rattle.lists.proofs.Filter.{in-filter, length-filter}
-use Rattle.lists.specs.Find.{find, mapO}
+use Rattle.lists.proofs.Filter.{in-filter}
 use Rattle.rank.specs.Order.{count-up}
 use Rattle.node.specs.declared.record.NodeId.{NodeId}
-use Rattle.node.specs.declared.record.VoiceId.{VoiceId}
 use Rattle.node.specs.declared.record.Node.{Node}
-use Rattle.node.specs.declared.refusal.Refusal.{Refusal}
-use Rattle.node.specs.declared.refusal.Refusal.the-variants.{DefinitionLimits, VoiceNode, BusWithoutPorts, TableFull, IdsUsedUp, NoPort}
-use Rattle.graph.specs.Node.{nodeAt, portsOf}
-use Rattle.graph.specs.Refuse.{when, hostTest}
-use Rattle.voice.specs.Steals.{StealLog, pushed, marked, recordOf}
+use Rattle.graph.specs.Node.{nodeAt}
+use Rattle.voice.specs.Steals.{StealLog, pushed, recordOf}
 use Rattle.voice.specs.declared.steals.StealRecord.{StealRecord}
-use Rattle.voice.specs.declared.policy.BudgetScope.the-variants.{PerGroup}
-use Rattle.voice.specs.declared.policy.Budget.{Budget}
-use Rattle.voice.specs.declared.policy.Budget.the-variants.{Unlimited, AtMost}
-use Rattle.voice.specs.declared.policy.Admission.{Admission}
-use Rattle.voice.specs.declared.policy.Admission.the-variants as admission
-use Rattle.synthdef.specs.Limits.{allowed}
-use Rattle.synthdef.specs.declared.def.SynthDef.{SynthDef}
 use Rattle.store.specs.declared.voices.Voice.{Voice}
 use Rattle.store.specs.declared.voices.VoiceState.{VoiceState}
 use Rattle.store.specs.declared.voices.VoiceState.the-variants.{Tracked, Fading, Loose}
 use Rattle.store.specs.declared.voices.Fade.{Fade}
-use Rattle.model.specs.Voice.{isVoice, isOn, isTracked, withState, beginFade, voiceLevel, candidates, counted, trackedOn}
-use Rattle.model.specs.Refuse.{spawnRefusal, orElse, noHeadroom, noIds}
-use Rattle.model.specs.Spawn.{fadeOf, stateUnder, tries, nextOut, newVoice}
-use Rattle.ledger.specs.Ledger.{Ledger, SpawnResult, cutOff, fade, stolen, stealVoice, portHeld, portFree, instantiate, instantiateOr, place, placeWithinBudget, stealThen, admitted, admissionOn, refused, spawnManaged}
-use Rattle.ledger.specs.Ledger as ledger
-use Rattle.ledger.proofs.Ids.{unique}
-use Rattle.ledger.proofs.Victim.{nextOut-in, steal-voice}
-use Rattle.ledger.proofs.Preserved.{place-kept}
-use Rattle.ledger.proofs.Managed.{managed-kept}
+use Rattle.model.specs.Voice.{isVoice, isOn, voiceLevel}
+use Rattle.model.specs.Spawn.{fadeOf}
+use Rattle.ledger.specs.Ledger.{Ledger, cutOff, fade}
 use Rattle.ledger.proofs.StealLog.{count-pushed}
-use Rattle.ledger.proofs.Records.{RecordedOf, steal-small, begun, fade-inj, recorded-cut, recorded-steal, tracked-state, under-fading}
+use Rattle.ledger.proofs.Records.{RecordedOf, steal-small, begun, fade-inj}
 use Rattle.isolation.specs.Story.{phaseOf, from-to}
-use Rattle.isolation.specs.Story as story
-use Rattle.isolation.proofs.Bus.{Own, Bus, isNumber}
 use Rattle.isolation.proofs.Bus as bus
-use Rattle.isolation.proofs.Part.{hostPorts, ownOf, portsNow, ownVoices, busOf, Tidy}
+use Rattle.isolation.proofs.Part.{hostPorts, ownOf, Tidy, roomOf}
 use Rattle.isolation.proofs.Fade.{map-comp}
 use Rattle.isolation.proofs.Fade as fading
-use Rattle.isolation.proofs.Part.{roomOf}
-use Rattle.isolation.proofs.Relabel.{renamedA, admits-rename}
-use Rattle.isolation.proofs.Decide.{free-same, held-same, find-number, numberOr, number, candidates-same, next-same}
-use Rattle.isolation.proofs.Others.{tidy-cut, cut-ports, is-host, Meets, meets, Away, away-cut, away-steal, elsewhere}
-use Rattle.isolation.proofs.Spawned.{cut-on, steal-same, admission-same}
-use Rattle.isolation.proofs.Acts.{Act, wrote, cut, HeldRecord, cutIf, apply, apply-append, goes, writes, logOr, logPlace, logSettle, logStolen, logThen, logAdmitted, logBus, log}
-use Rattle.isolation.proofs.Books.{Item, strip, cutItem, Books, UnderR, UnderOn, BooksOf, Old, was-self, books-next, books-land, books-pushed, same-own, once-own, apart-own, below-own, numbered-own, books-marked, books-cut}
+use Rattle.isolation.proofs.Decide.{number}
+use Rattle.isolation.proofs.Others.{cut-ports}
+use Rattle.isolation.proofs.Acts.{Act, cutIf, apply, apply-append, goes, writes}
+use Rattle.isolation.proofs.BusRecords.{Item, strip, cutItem, UnderR, UnderOn, BusRecordsOf, Old, was-self, records-next, records-pushed, same-own, once-own, apart-own, below-own, numbered-own, records-marked, records-cut}
 
 -- ---- the numbers from m to below n
 up-join : (x y i : ℕ) → count-up (x + y) i ≡ count-up x i ++ count-up y (i + x)
@@ -88,7 +64,7 @@ to-one m n e = let a : n - m ≡ suc zero = omega arith in ap (λ k. count-up k 
 -- ---- what happened to the items from the ledger l to m
 pub record Logs (b : NodeId) (l : Ledger) (ts : List Item) (m : Ledger) (acts : List Act) : Type 0 where
   pub items : List Item
-  pub books : BooksOf b items m
+  pub logged : BusRecordsOf b items m
   pub strips : map strip items ≡ apply acts (map strip ts)
   pub ats : map (λ (x : Item). x .at) items ≡ map (λ (x : Item). x .at) ts ++ from-to (l .shared .steals .count) (m .shared .steals .count)
   pub up : l .shared .steals .count ≤ m .shared .steals .count
@@ -96,14 +72,14 @@ pub record Logs (b : NodeId) (l : Ledger) (ts : List Item) (m : Ledger) (acts : 
 abbrev At : Item → ℕ
 At x = x .at
 
-pub logs-none : (b : NodeId) (l : Ledger) (ts : List Item) (m : Ledger) → BooksOf b ts m → m .shared .steals .count ≡ l .shared .steals .count → Logs b l ts m []
-logs-none b l ts m k e = record { items = ts; books = k; strips = refl; ats = sym (ap (λ z. map At ts ++ z) (to-self (l .shared .steals .count) (m .shared .steals .count) e) ∙ append-nil (map At ts)); up = omega arith }
+pub logs-none : (b : NodeId) (l : Ledger) (ts : List Item) (m : Ledger) → BusRecordsOf b ts m → m .shared .steals .count ≡ l .shared .steals .count → Logs b l ts m []
+logs-none b l ts m k e = record { items = ts; logged = k; strips = refl; ats = sym (ap (λ z. map At ts ++ z) (to-self (l .shared .steals .count) (m .shared .steals .count) e) ∙ append-nil (map At ts)); up = omega arith }
 
 pub logs-then : {b : NodeId} {l : Ledger} {ts : List Item} {m n : Ledger} {acts more : List Act} → (p : Logs b l ts m acts) → Logs b m (p .items) n more → Logs b l ts n (acts ++ more)
 logs-then {b} {l} {ts} {m} {n} {acts} {more} p q =
     record {
       items = q .items;
-      books = q .books;
+      logged = q .logged;
       strips = q .strips ∙ ap (apply more) (p .strips) ∙ sym (apply-append acts more (map strip ts));
       ats = q .ats ∙ ap (λ z. z ++ from-to (m .shared .steals .count) (n .shared .steals .count)) (p .ats)
           ∙ append-assoc (map At ts) (from-to (l .shared .steals .count) (m .shared .steals .count)) (from-to (m .shared .steals .count) (n .shared .steals .count))
@@ -132,15 +108,15 @@ module _ (l : Ledger) (t : Tidy l) (r : RecordedOf l) (g : Voice) (i : In g (l .
   up-fade b p s h = (let z = h .0 in omega arith, subst (λ o. UnderR o s) (sym (fading.ports-stay l t g i p b)) (h .1))
 
   -- ---- of another bus
-  module _ (b : NodeId) (off : isOn b g ≡ false) (ts : List Item) (k : BooksOf b ts l) where
-    pub other-cut : (s : VoiceState) → g .state ≡ s → BooksOf b ts (cutOff g s l)
-    other-cut Tracked e = books-next (books-pushed k (rec true) (r .newest) (steal-small r g i e)) (UnderOn b (cutOff g Tracked l)) others (up-cut b Tracked) stays
-    other-cut (Fading f) e = books-next (books-marked k (f .number) (k .foreign g i off f e)) (UnderOn b (cutOff g (Fading f) l)) others (up-cut b (Fading f)) stays
-    other-cut Loose e = books-next k (UnderOn b (cutOff g Loose l)) others (up-cut b Loose) stays
+  module _ (b : NodeId) (off : isOn b g ≡ false) (ts : List Item) (k : BusRecordsOf b ts l) where
+    pub other-cut : (s : VoiceState) → g .state ≡ s → BusRecordsOf b ts (cutOff g s l)
+    other-cut Tracked e = records-next (records-pushed k (rec true) (r .newest) (steal-small r g i e)) (UnderOn b (cutOff g Tracked l)) others (up-cut b Tracked) stays
+    other-cut (Fading f) e = records-next (records-marked k (f .number) (k .foreign g i off f e)) (UnderOn b (cutOff g (Fading f) l)) others (up-cut b (Fading f)) stays
+    other-cut Loose e = records-next k (UnderOn b (cutOff g Loose l)) others (up-cut b Loose) stays
 
-    pub other-fade : g .state ≡ Tracked → (p : ℕ) → BooksOf b ts (fade g p l)
+    pub other-fade : g .state ≡ Tracked → (p : ℕ) → BusRecordsOf b ts (fade g p l)
     other-fade e p =
-        let z = books-pushed k (rec false) (r .newest) (steal-small r g i e) in
+        let z = records-pushed k (rec false) (r .newest) (steal-small r g i e) in
         record {
           same = z .same;
           tags = λ v j on f h. ⊎-elim (λ q. absurd (true≢false (sym on ∙ ap (isOn b) q ∙ off))) (λ q. k .tags v (q .0) on f h) (begun (r .ids) g i (fadeOf (l .shared)) v j);
@@ -153,7 +129,7 @@ module _ (l : Ledger) (t : Tidy l) (r : RecordedOf l) (g : Voice) (i : In g (l .
         }
 
   -- ---- of its own bus
-  module _ (b : NodeId) (on : isOn b g ≡ true) (ts : List Item) (k : BooksOf b ts l) where
+  module _ (b : NodeId) (on : isOn b g ≡ true) (ts : List Item) (k : BusRecordsOf b ts l) where
     under : UnderOn b l (g .sequence)
     under = (subst (λ n. n < l .shared .graph .next) (eqb-true _ _ on) (t .hosted g i .0), go (nodeAt (l .shared .graph .nodes) b) refl)
       where
@@ -174,12 +150,12 @@ module _ (l : Ledger) (t : Tidy l) (r : RecordedOf l) (g : Voice) (i : In g (l .
     abbrev item : Bool → Item
     item c = record { at = l .shared .steals .count; voice = g .sequence; what = rec c }
 
-    written : (c : Bool) (m : Ledger) → g .state ≡ Tracked → m .shared .steals ≡ pushed (l .shared .steals) (rec c) → BooksOf b (ts ++ (item c ∷ [])) m → Logs b l ts m (writes c (l .shared .clock) (ownOf (l .shared .graph .nodes) g) ∷ [])
+    written : (c : Bool) (m : Ledger) → g .state ≡ Tracked → m .shared .steals ≡ pushed (l .shared .steals) (rec c) → BusRecordsOf b (ts ++ (item c ∷ [])) m → Logs b l ts m (writes c (l .shared .clock) (ownOf (l .shared .graph .nodes) g) ∷ [])
     written c m e s z =
         let n : m .shared .steals .count ≡ l .shared .steals .count + 1 = ap (λ (y : StealLog). y .count) s ∙ count-pushed (l .shared .steals) (rec c) (steal-small r g i e) in
         record {
           items = ts ++ (item c ∷ []);
-          books = z;
+          logged = z;
           strips = map-append strip ts (item c ∷ []);
           ats = map-append At ts (item c ∷ []) ∙ ap (λ y. map At ts ++ y) (sym (to-one (l .shared .steals .count) (m .shared .steals .count) n));
           up = omega arith;
@@ -233,9 +209,9 @@ module _ (l : Ledger) (t : Tidy l) (r : RecordedOf l) (g : Voice) (i : In g (l .
     own-cut (Fading f) e =
         record {
           items = map (cutItem (g .sequence)) ts;
-          books = books-next (books-cut k g i on f e) (UnderOn b (cutOff g (Fading f) l)) others (up-cut b (Fading f)) stays;
+          logged = records-next (records-cut k g i on f e) (UnderOn b (cutOff g (Fading f) l)) others (up-cut b (Fading f)) stays;
           strips = map-comp strip (cutItem (g .sequence)) ts ∙ sym (map-comp (cutIf (g .sequence)) strip ts);
           ats = map-comp At (cutItem (g .sequence)) ts ∙ sym (ap (λ z. map At ts ++ z) (to-self (l .shared .steals .count) (l .shared .steals .count) refl) ∙ append-nil (map At ts));
           up = omega arith;
         }
-    own-cut Loose e = logs-none b l ts (cutOff g Loose l) (books-next k (UnderOn b (cutOff g Loose l)) others (up-cut b Loose) stays) refl
+    own-cut Loose e = logs-none b l ts (cutOff g Loose l) (records-next k (UnderOn b (cutOff g Loose l)) others (up-cut b Loose) stays) refl

@@ -5,13 +5,13 @@ use Prim.Native.Nat.{ℕ}
 use mathlib.Core.Path.{_≡_}
 use mathlib.Core.List.{List, [], map}
 use mathlib.Core.Option.{Option, none, some}
-use mathlib.Core.Bool.{Bool, true, false, _||_}
+use mathlib.Core.Bool.{Bool, false, _||_}
 use lib.ListN.{length}
+use lib.Dec.{eqb}
 use Rattle.lists.specs.Member.{In}
 use Rattle.node.specs.declared.record.NodeId.{NodeId}
 use Rattle.node.specs.declared.refusal.Refusal.{Refusal}
 use Rattle.node.specs.Refusal.{numberOf}
-use lib.Dec.{eqb}
 use Rattle.voice.specs.declared.policy.BudgetScope.the-variants.{PerGroup}
 use Rattle.voice.specs.declared.steals.StealRecord.{StealRecord}
 use Rattle.voice.specs.declared.steals.StealFound.the-variants as found
@@ -20,10 +20,9 @@ use Rattle.model.proofs.Refused.{refusalIn}
 use Rattle.model.specs.Call.{Call, Answer}
 use Rattle.ledger.specs.Ledger.{Ledger, newLedger}
 use Rattle.ledger.specs.Call.{run}
-use Rattle.ledger.specs.Claim.{ledgerAfter}
-use Rattle.ledger.specs.Claim.{heldRecord}
+use Rattle.ledger.specs.Claim.{ledgerAfter, heldRecord}
 use Rattle.isolation.specs.Agree.{Matching, Agreement}
-use Rattle.isolation.specs.Story.{story, tale, seen, voicesOn, allVictims, written, nth}
+use Rattle.isolation.specs.Story.{story, tale, busVoice, voicesOn, allVictims, written, nth}
 
 -- "Histories that meet refusal 7 or 8 are not covered."
 abbrev pub isFull : Refusal → Bool
@@ -40,7 +39,7 @@ pub record Isolation (c : Config) (b₁ b₂ : NodeId) (xs₁ xs₂ : List Call)
   -- entry by entry: the answer, and the voices of the bus with numbers (seeds), ports given and held, fades and levels
   pub told : tale b₁ xs₁ (newLedger c) ≡ tale b₂ xs₂ (newLedger c)
   -- and the voices of the bus when both histories have ended
-  pub now : map (seen (ledgerAfter c xs₁)) (voicesOn b₁ (ledgerAfter c xs₁)) ≡ map (seen (ledgerAfter c xs₂)) (voicesOn b₂ (ledgerAfter c xs₂))
+  pub now : map (busVoice (ledgerAfter c xs₁)) (voicesOn b₁ (ledgerAfter c xs₁)) ≡ map (busVoice (ledgerAfter c xs₂)) (voicesOn b₂ (ledgerAfter c xs₂))
   -- so, at each entry, the same victims by their places
   pub victims : allVictims [] (tale b₁ xs₁ (newLedger c)) ≡ allVictims [] (tale b₂ xs₂ (newLedger c))
   -- as many steals; and the j-th record of the bus, where it is still held in both, is the same: sample, level and cut mark

@@ -3,7 +3,7 @@
 use Prim.Native.Nat.{ℕ}
 use mathlib.Core.Path.{_≡_}
 use mathlib.Core.List.{List, map}
-use mathlib.Core.Option.{Option, some}
+use mathlib.Core.Option.{some}
 use Rattle.lists.specs.Filter.{filter}
 use Rattle.node.specs.declared.record.NodeId.{NodeId}
 use Rattle.voice.specs.declared.policy.BudgetScope.the-variants.{PerGroup}
@@ -18,12 +18,12 @@ use Rattle.model.specs.Make.{Making, configOf, make}
 use Rattle.model.specs.Call.{Call}
 use Rattle.ledger.specs.Ledger.{newLedger}
 use Rattle.ledger.specs.Claim.{after, heldRecord}
-use Rattle.isolation.specs.Story.{Phase, phaseOf, story, written, nth}
+use Rattle.isolation.specs.Story.{Phase, phaseOf, written, nth}
 use Rattle.isolation.specs.Isolated.{Covered}
 use Rattle.isolation.specs.Agree.{Matching, Agreement}
 
 -- a voice of the store: number (from which the seeds of its nodes follow), rank, birth, port given, fade with its start and its position in samples, level
-pub record Shown : Type 0 where
+pub record StoreVoice : Type 0 where
   pub number : ℕ
   pub rank : ℕ
   pub birth : ℕ
@@ -31,12 +31,12 @@ pub record Shown : Type 0 where
   pub phase : Phase
   pub level : Level
 
-abbrev pub showOn : SharedState → Voice → Shown
-showOn d v = record { number = v .sequence; rank = v .rank; birth = v .birth; port = v .port; phase = phaseOf (v .state); level = voiceLevel d v }
+abbrev pub storeVoice : SharedState → Voice → StoreVoice
+storeVoice d v = record { number = v .sequence; rank = v .rank; birth = v .birth; port = v .port; phase = phaseOf (v .state); level = voiceLevel d v }
 
 -- the voices of the bus, in their order
-abbrev pub storeVoices : NodeId → Model → List Shown
-storeVoices b m = map (showOn (m .shared)) (filter (isOn b) (m .voices))
+abbrev pub storeVoices : NodeId → Model → List StoreVoice
+storeVoices b m = map (storeVoice (m .shared)) (filter (isOn b) (m .voices))
 
 pub record StoreIsolation (k : Making) (m : Model) (b₁ b₂ : NodeId) (xs₁ xs₂ : List Call) : Type 0 where
   pub voices : storeVoices b₁ (after m xs₁) ≡ storeVoices b₂ (after m xs₂)

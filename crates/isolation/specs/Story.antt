@@ -1,15 +1,13 @@
 -- Paper 6: what belongs to one bus. Its story: the calls of a history that are its own, in their order, without voice ids, node ids
 -- and record numbers. Its tale: what these calls gave it. `Isolation` of `Isolated` says that the story decides the tale.
 -- Voices are called by their noise sequence, which Paper 6 counts "for each bus, from 0": it is the voice's number on its bus.
-use Prim.Native.Nat.{ℕ, zero, suc, _+_, _-_}
-use mathlib.Core.Path.{_≡_}
+use Prim.Native.Nat.{ℕ, zero, suc, _-_}
 use mathlib.Core.List.{List, [], _∷_, _++_, map}
 use mathlib.Core.Option.{Option, none, some}
 use mathlib.Core.Bool.{Bool, true, false, cond, not, _&&_}
 use lib.Dec.{eqb}
 use lib.ListN.{length}
 use lib.Ieee.{Float}
-use Rattle.lists.specs.Member.{In}
 use Rattle.lists.specs.Filter.{filter, put?}
 use Rattle.lists.specs.Find.{find, isSome}
 use Rattle.rank.specs.Order.{upto, count-up}
@@ -21,9 +19,7 @@ use Rattle.node.specs.Refusal.{numberOf}
 use Rattle.graph.specs.Node.{nodeAt}
 use Rattle.graph.specs.Refuse.{addRefusal, hostRefusal, disconnectRefusal, connectRefusal}
 use Rattle.scheduler.specs.declared.event.Event.{Event}
-use Rattle.voice.specs.Steals.{StealLog}
 use Rattle.voice.specs.declared.policy.Level.{Level}
-use Rattle.voice.specs.declared.steals.StealRecord.{StealRecord}
 use Rattle.synthdef.specs.declared.def.SynthDef.{SynthDef}
 use Rattle.store.specs.declared.voices.Voice.{Voice}
 use Rattle.store.specs.declared.voices.VoiceState.{VoiceState}
@@ -157,8 +153,8 @@ phaseOf Tracked = held
 phaseOf (Fading f) = fading (f .start) (f .position)
 phaseOf Loose = loose
 
--- "victims by place among its own voices, ports, fades, seeds": who has gone or fades now, is seen by the numbers before and after
-pub record Seen : Type 0 where
+-- "victims by place among its own voices, ports, fades, seeds": who was removed or fades now, is seen by the numbers before and after
+pub record BusVoice : Type 0 where
   pub number : ℕ
   pub rank : ℕ
   pub birth : ℕ
@@ -167,18 +163,18 @@ pub record Seen : Type 0 where
   pub phase : Phase
   pub level : Level
 
-abbrev pub seen : Ledger → Voice → Seen
-seen l v = record { number = v .sequence; rank = v .rank; birth = v .birth; port = v .port; holds = portHeld v l; phase = phaseOf (v .state); level = voiceLevel (l .shared) v }
+abbrev pub busVoice : Ledger → Voice → BusVoice
+busVoice l v = record { number = v .sequence; rank = v .rank; birth = v .birth; port = v .port; holds = portHeld v l; phase = phaseOf (v .state); level = voiceLevel (l .shared) v }
 
 abbrev pub voicesOn : NodeId → Ledger → List Voice
 voicesOn b l = filter (isOn b) (l .voices)
 
 pub record Told : Type 0 where
   pub answer : Option ℕ
-  pub voices : List Seen
+  pub voices : List BusVoice
 
 abbrev pub told : NodeId → Answer → Ledger → Told
-told b a l = record { answer = shown (refusalIn a); voices = map (seen l) (voicesOn b l) }
+told b a l = record { answer = shown (refusalIn a); voices = map (busVoice l) (voicesOn b l) }
 
 abbrev pub tell : Option Entry → Told → List Told → List Told
 tell none t ts = ts
@@ -194,12 +190,12 @@ isHeld held = true
 isHeld (fading start count) = false
 isHeld loose = false
 
-abbrev pub victims : ℕ → List Seen → List Seen → List ℕ
+abbrev pub victims : ℕ → List BusVoice → List BusVoice → List ℕ
 victims place [] after = []
 victims place (v ∷ vs) after =
-    put? (isHeld (v .phase) && not (isSome (find (λ (w : Seen). eqb (w .number) (v .number) && isHeld (w .phase)) after))) place (victims (suc place) vs after)
+    put? (isHeld (v .phase) && not (isSome (find (λ (w : BusVoice). eqb (w .number) (v .number) && isHeld (w .phase)) after))) place (victims (suc place) vs after)
 
-abbrev pub allVictims : List Seen → List Told → List (List ℕ)
+abbrev pub allVictims : List BusVoice → List Told → List (List ℕ)
 allVictims before [] = []
 allVictims before (t ∷ ts) = victims 0 before (t .voices) ∷ allVictims (t .voices) ts
 

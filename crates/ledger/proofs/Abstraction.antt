@@ -62,10 +62,10 @@ module _ (more : ℕ → ℕ) where
   start-same (Fading f) = refl
   start-same Loose = refl
 
-  pub book-same : (v : Voice) (t : VoiceState) (d : SharedState) → reclaimLog (moved more v) (movedState more t) d ≡ reclaimLog v t d
-  book-same v Tracked d = refl
-  book-same v (Fading f) d = refl
-  book-same v Loose d = refl
+  pub log-same : (v : Voice) (t : VoiceState) (d : SharedState) → reclaimLog (moved more v) (movedState more t) d ≡ reclaimLog v t d
+  log-same v Tracked d = refl
+  log-same v (Fading f) d = refl
+  log-same v Loose d = refl
 
   pub counted-same : (s : BudgetScope) (bus : NodeId) (v : Voice) → counted s bus (moved more v) ≡ counted s bus v
   counted-same s bus v = ap (λ b. b && counts s (v .bus) bus) (tracked-same (v .state))

@@ -70,23 +70,23 @@ managed-comes x l = go (spawnRefusal (l .shared) (l .voices) (x .def) (x .bus) (
     s : VoiceState
     s = stateUnder (l .shared .config .budget)
 
-    settles : (z : Ledger) → z .shared .config ≡ l .shared .config → z .shared .clock ≡ l .shared .clock → z .shared .spawned ≡ l .shared .spawned → Comes x s l (placeWithinBudget x z)
-    settles z c a b = subst (λ y. Comes x s l (place (tries (z .shared .config .budget) (z .voices)) x y z)) (ap (λ (k : Config). stateUnder (k .budget)) (sym c))
+    budgeted : (z : Ledger) → z .shared .config ≡ l .shared .config → z .shared .clock ≡ l .shared .clock → z .shared .spawned ≡ l .shared .spawned → Comes x s l (placeWithinBudget x z)
+    budgeted z c a b = subst (λ y. Comes x s l (place (tries (z .shared .config .budget) (z .voices)) x y z)) (ap (λ (k : Config). stateUnder (k .budget)) (sym c))
         (place-comes x s l (tries (z .shared .config .budget) (z .voices)) z a b)
 
     steals : (v : Voice) → Comes x s l (placeWithinBudget x (stealVoice v l))
     steals v = at (portHeld v l)
       where
         at : (o : Option ℕ) → Comes x s l (placeWithinBudget x (stolen v o l))
-        at none = settles (stolen v none l) refl refl refl
-        at (some p) = settles (stolen v (some p) l) refl refl refl
+        at none = budgeted (stolen v none l) refl refl refl
+        at (some p) = budgeted (stolen v (some p) l) refl refl refl
 
     victims : (o : Option Voice) → Comes x s l (stealThen o x l)
-    victims none = settles l refl refl refl
+    victims none = budgeted l refl refl refl
     victims (some v) = steals v
 
     admits : (a : Admission) → Comes x s l (admitted a x l)
-    admits admission.Admit = settles l refl refl refl
+    admits admission.Admit = budgeted l refl refl refl
     admits admission.Reject = refused-comes x s l _ l
     admits (admission.Steal p w) = victims (find (isVoice w) (l .voices))
 

@@ -50,24 +50,24 @@ pub data From (l : Ledger) (a : Answer) (v : Voice) (f : Fade) : Call → Type 0
   began : (spawn : Spawn) → In (withState Tracked v) (l .voices) → f ≡ fadeOf (l .shared) → From l a v f (call.spawnManaged spawn)
 
 -- ---- what goes leaves the others as they were
-goneAll-sub : (gs : List Voice) (m : Ledger) (v : Voice) → In v (withoutVoices gs m .voices) → In v (m .voices)
-goneAll-sub [] m v i = i
-goneAll-sub (g ∷ gs) m v i = in-filter (λ x. not (isVoice (g .id) x)) (m .voices) v (goneAll-sub gs (withoutVoice (g .id) m) v i) .0
+removedAll-sub : (gs : List Voice) (m : Ledger) (v : Voice) → In v (withoutVoices gs m .voices) → In v (m .voices)
+removedAll-sub [] m v i = i
+removedAll-sub (g ∷ gs) m v i = in-filter (λ x. not (isVoice (g .id) x)) (m .voices) v (removedAll-sub gs (withoutVoice (g .id) m) v i) .0
 
 freed-sub : (o : Option Voice) (m : Ledger) (v : Voice) → In v (freed o m .voices) → In v (m .voices)
 freed-sub none m v i = i
 freed-sub (some w) m v i = in-filter (λ x. not (isVoice (w .id) x)) (m .voices) v i .0
 
-happen-sub : (e : Event) (m : Ledger) (v : Voice) → In v (applyEvent e m .voices) → In v (m .voices)
-happen-sub e m v i = go (isFree (e .action)) i
+applied-sub : (e : Event) (m : Ledger) (v : Voice) → In v (applyEvent e m .voices) → In v (m .voices)
+applied-sub e m v i = go (isFree (e .action)) i
   where
     go : (b : Bool) → In v (cond b (free (e .voice) m) (atShared m (order (e .voice) (paramOrder e .name) (paramOrder e .order) (m .voices) (m .shared) .shared)) .voices) → In v (m .voices)
     go true i = freed-sub (find (isVoice (e .voice)) (m .voices)) m v i
     go false i = i
 
-happenAll-sub : (q : List Event) (m : Ledger) (v : Voice) → In v (applyEvents q m .voices) → In v (m .voices)
-happenAll-sub [] m v i = i
-happenAll-sub (e ∷ q) m v i = happen-sub e m v (happenAll-sub q (applyEvent e m) v i)
+appliedAll-sub : (q : List Event) (m : Ledger) (v : Voice) → In v (applyEvents q m .voices) → In v (m .voices)
+appliedAll-sub [] m v i = i
+appliedAll-sub (e ∷ q) m v i = applied-sub e m v (appliedAll-sub q (applyEvent e m) v i)
 
 module _ (v : Voice) (f : Fade) (ph : v .state ≡ Fading f) where
   itself : (vs : List Voice) → In v vs → In (withState (Fading f) v) vs
@@ -102,16 +102,16 @@ module _ (v : Voice) (f : Fade) (ph : v .state ≡ Fading f) where
 
       go : (o : Option Refusal) → In v (renderStep o out l .ledger .voices) → From l (renderStep o out l .answer) v f (call.render out)
       go (some r) i = old l (call.render out) (call.rendered (Rendered.Refused r) 0 out) refl i
-      go none i = from-block (anyFree q) l (applyEvents q (rested l)) (happenAll-sub q (rested l)) i out _ _
+      go none i = from-block (anyFree q) l (applyEvents q (rested l)) (appliedAll-sub q (rested l)) i out _ _
 
   -- ---- the spawns
-  not-newcomer : (s : VoiceState) → ((g : Fade) → s ≡ Fading g → ⊥) → (vs : List Voice) (n : Voice) → n .state ≡ s → In v (vs ++ (n ∷ [])) → In v vs
-  not-newcomer s h vs n e i = ⊎-elim (λ j. j) (λ z. absurd (h f (sym e ∙ ap (λ (x : Voice). x .state) (sym z) ∙ ph))) (in-snoc vs n v i)
+  not-new-voice : (s : VoiceState) → ((g : Fade) → s ≡ Fading g → ⊥) → (vs : List Voice) (n : Voice) → n .state ≡ s → In v (vs ++ (n ∷ [])) → In v vs
+  not-new-voice s h vs n e i = ⊎-elim (λ j. j) (λ z. absurd (h f (sym e ∙ ap (λ (x : Voice). x .state) (sym z) ∙ ph))) (in-snoc vs n v i)
 
-  from-settle : (spawn : Spawn) (m : Ledger) → In v (placeWithinBudget spawn m .ledger .voices) → In v (m .voices)
-  from-settle spawn m =
+  from-budgeted : (spawn : Spawn) (m : Ledger) → In v (placeWithinBudget spawn m .ledger .voices) → In v (m .voices)
+  from-budgeted spawn m =
       place-kept spawn (stateUnder (m .shared .config .budget)) (λ n z. In v (z .voices) → In v (m .voices)) (λ r. In v (r .ledger .voices) → In v (m .voices))
-      (λ n z p e q i. q (not-newcomer (stateUnder (m .shared .config .budget)) (under-fading (m .shared .config .budget)) (z .voices) (newVoice spawn _ p (z .shared)) refl i)) (λ z e q. q) (λ n z e g q. q)
+      (λ n z p e q i. q (not-new-voice (stateUnder (m .shared .config .budget)) (under-fading (m .shared .config .budget)) (z .voices) (newVoice spawn _ p (z .shared)) refl i)) (λ z e q. q) (λ n z e g q. q)
       (λ n z w e g q i. q (in-filter (λ x. not (isVoice (w .id) x)) (z .voices) v i .0)) (tries (m .shared .config .budget) (m .voices)) m (λ i. i)
 
   from-steal : (l : Ledger) → IdsOf l → (w : Voice) → In w (l .voices) → isTracked (w .state) ≡ true → In v (stealVoice w l .voices) → In v (l .voices) ⊎ (In (withState Tracked v) (l .voices) × (f ≡ fadeOf (l .shared)))
@@ -139,9 +139,9 @@ module _ (v : Voice) (f : Fade) (ph : v .state ≡ Fading f) where
       go : (o : Option Refusal) → R (ledger.unless o l (admitted (admissionOn (spawn .bus) (spawn .rank) l) spawn l))
       go (some n) = keeps (ledger.refused n l)
       go none =
-          managed-kept spawn R l d (λ h i. keeps (ledger.refused Rejected l) i) (λ h i. keeps (placeWithinBudget spawn l) (from-settle spawn l i))
+          managed-kept spawn R l d (λ h i. keeps (ledger.refused Rejected l) i) (λ h i. keeps (placeWithinBudget spawn l) (from-budgeted spawn l i))
           (λ p w h u j t i.
-          ⊎-elim (λ k. keeps (placeWithinBudget spawn (stealVoice u l)) k) (λ z. began spawn (z .0) (z .1)) (from-steal l d u j (and-left (tracks u) _ t) (from-settle spawn (stealVoice u l) i)))
+          ⊎-elim (λ k. keeps (placeWithinBudget spawn (stealVoice u l)) k) (λ z. began spawn (z .0) (z .1)) (from-steal l d u j (and-left (tracks u) _ t) (from-budgeted spawn (stealVoice u l) i)))
 
   pub comes : (x : Call) (l : Ledger) → IdsOf l → In v (step x l .ledger .voices) → From l (step x l .answer) v f x
   comes (call.addNode kind ports required values glides) l d i = guarded (addRefusal (l .shared .graph) kind ports required) _ l _ i (λ j. old l _ _ refl j)
@@ -154,7 +154,7 @@ module _ (v : Voice) (f : Fade) (ph : v .state ≡ Fading f) where
     where
       two : (o : Option ℕ) → In v (instantiateOr o none spawn Loose l (ledger.refused NoPort) .ledger .voices) → In v (l .voices)
       two none i = i
-      two (some p) i = not-newcomer Loose loose-fading (l .voices) (newVoice spawn Loose p (l .shared)) refl i
+      two (some p) i = not-new-voice Loose loose-fading (l .voices) (newVoice spawn Loose p (l .shared)) refl i
 
       go : (o : Option Refusal) → In v (ledger.unless o l (place 0 spawn Loose l) .ledger .voices)
           → From l (call.spawned (ledger.unless o l (place 0 spawn Loose l) .answer)) v f (call.spawnLoose spawn)
@@ -163,7 +163,7 @@ module _ (v : Voice) (f : Fade) (ph : v .state ≡ Fading f) where
   comes (call.free w) l d i = old l _ _ refl (freed-sub (find (isVoice w) (l .voices)) l v i)
   comes call.clear l d i =
       let m = withoutVoices (endedVoices l) l in
-      old l _ _ refl (goneAll-sub (endedVoices l) l v (goneAll-sub (silentVoices m) m v i))
+      old l _ _ refl (removedAll-sub (endedVoices l) l v (removedAll-sub (silentVoices m) m v i))
   comes (call.order w name o) l d i = old l _ _ refl i
   comes (call.schedule t w name a) l d i = guarded (scheduleRefusal (event t w name a) (l .shared .events)) _ l _ i (λ j. old l _ _ refl j)
   comes (call.report k channels samples flag) l d i = guarded (reportRefusal (l .shared) (l .voices) k channels (length samples)) _ l _ i (λ j. old l _ _ refl j)

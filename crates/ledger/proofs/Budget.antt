@@ -41,24 +41,24 @@ use Rattle.ledger.specs.Ledger as ledger
 use Rattle.ledger.specs.Call.{step, run}
 use Rattle.ledger.specs.Claim.{noSteals}
 use Rattle.ledger.proofs.Words.{AllLoose}
-use Rattle.ledger.proofs.Ids.{Ids, ids-keep, ids-map, ids-snoc, notVoice-self}
+use Rattle.ledger.proofs.Ids.{Ids, ids-filter, ids-map, ids-snoc, notVoice-self}
 use Rattle.ledger.proofs.Victim.{admit-below}
-use Rattle.ledger.proofs.Preserved.{place-kept, Preserves, Calm, calm, kept-run}
+use Rattle.ledger.proofs.Preserved.{place-kept, Preserves, VoicesOnly, voices-only, kept-run}
 use Rattle.ledger.proofs.Managed.{IdsOf, managed-kept, ids-steal, ids-cut, ids-new, config-steal, config-run}
 
 -- ---- no more than k of the voices that a bus's newVoice counts
 abbrev Few : BudgetScope → ℕ → List Voice → Type 0
 Few sc k vs = (bus : NodeId) → count (counted sc bus) vs ≤ k
 
-few-keep : (sc : BudgetScope) (k : ℕ) (t : Voice → Bool) (vs : List Voice) → Few sc k vs → Few sc k (filter t vs)
-few-keep sc k t vs f bus = omega (arith, count-filter (counted sc bus) t vs, f bus)
+few-filter : (sc : BudgetScope) (k : ℕ) (t : Voice → Bool) (vs : List Voice) → Few sc k vs → Few sc k (filter t vs)
+few-filter sc k t vs f bus = omega (arith, count-filter (counted sc bus) t vs, f bus)
 
 few-map : (sc : BudgetScope) (k : ℕ) (g : Voice → Voice) → ((bus : NodeId) (v : Voice) → counted sc bus (g v) ≡ true → counted sc bus v ≡ true) → (vs : List Voice) → Few sc k vs → Few sc k (map g vs)
 few-map sc k g h vs f bus = omega (arith, count-change (counted sc bus) g (h bus) vs, f bus)
 
 -- a newVoice on the bus, for whom there is room if it is tracked
-few-land : (sc : BudgetScope) (k : ℕ) (bus : NodeId) (v : Voice) → v .bus ≡ bus → (vs : List Voice) → Few sc k vs → (isTracked (v .state) ≡ true → count (counted sc bus) vs < k) → Few sc k (vs ++ (v ∷ []))
-few-land sc k bus v e vs f room b = rw (count-snoc (counted sc b) vs v) (go (isTracked (v .state)) refl)
+few-instantiate : (sc : BudgetScope) (k : ℕ) (bus : NodeId) (v : Voice) → v .bus ≡ bus → (vs : List Voice) → Few sc k vs → (isTracked (v .state) ≡ true → count (counted sc bus) vs < k) → Few sc k (vs ++ (v ∷ []))
+few-instantiate sc k bus v e vs f room b = rw (count-snoc (counted sc b) vs v) (go (isTracked (v .state)) refl)
   where
     at : (sc : BudgetScope) → Few sc k vs → count (counted sc bus) vs < k → more (counts sc (v .bus) b) (count (counted sc b) vs) ≤ k
     at Global f r = r
@@ -99,24 +99,24 @@ WithinOf l = IdsOf l × Within (l .shared .config) (l .voices)
 at-most : {a b : ℕ} → AtMost a ≡ AtMost b → a ≡ b
 at-most e = cc
 
-within-steady : Preserves WithinOf
-within-steady =
-    calm (λ c b n vs. Ids n vs × Within c vs)
-    (λ c b n vs w u. (ids-keep (λ x. not (isVoice w x)) (u .0), λ k e. few-keep (c .scope) k (λ x. not (isVoice w x)) vs (u .1 k e)))
+within-preserved : Preserves WithinOf
+within-preserved =
+    voices-only (λ c b n vs. Ids n vs × Within c vs)
+    (λ c b n vs w u. (ids-filter (λ x. not (isVoice w x)) (u .0), λ k e. few-filter (c .scope) k (λ x. not (isVoice w x)) vs (u .1 k e)))
     (λ c b n vs u. (ids-map (moved oneMore) (λ v. refl) (u .0), λ k e. few-map (c .scope) k (moved oneMore) (moved-counted (c .scope)) vs (u .1 k e)))
-    (λ c b n vs v e s h k u. (ids-snoc v e (u .0), λ k f. few-land (c .scope) k (v .bus) v refl vs (u .1 k f) (λ t. absurd (false≢true (sym (ap isTracked s) ∙ t)))))
+    (λ c b n vs v e s h k u. (ids-snoc v e (u .0), λ k f. few-instantiate (c .scope) k (v .bus) v refl vs (u .1 k f) (λ t. absurd (false≢true (sym (ap isTracked s) ∙ t)))))
 
 -- room for one more tracked voice on the bus
 abbrev Spare : NodeId → Ledger → Type 0
 Spare bus l = (k : ℕ) → l .shared .config .budget ≡ AtMost k → count (counted (l .shared .config .scope) bus) (l .voices) < k
 
-within-settle : (spawn : Spawn) (l : Ledger) → WithinOf l → Spare (spawn .bus) l → WithinOf (placeWithinBudget spawn l .ledger)
-within-settle spawn l u r =
+within-budgeted : (spawn : Spawn) (l : Ledger) → WithinOf l → Spare (spawn .bus) l → WithinOf (placeWithinBudget spawn l .ledger)
+within-budgeted spawn l u r =
     place-kept spawn (stateUnder (l .shared .config .budget)) (λ n l. WithinOf l × Spare (spawn .bus) l) (λ r. WithinOf (r .ledger))
-    (λ n l p e q. (ids-snoc (newVoice spawn _ p (l .shared)) refl (q .0 .0), λ k f. few-land (l .shared .config .scope) k (spawn .bus) (newVoice spawn _ p (l .shared)) refl (l .voices) (q .0 .1 k f) (λ t. q .1 k f)))
+    (λ n l p e q. (ids-snoc (newVoice spawn _ p (l .shared)) refl (q .0 .0), λ k f. few-instantiate (l .shared .config .scope) k (spawn .bus) (newVoice spawn _ p (l .shared)) refl (l .voices) (q .0 .1 k f) (λ t. q .1 k f)))
     (λ l e q. q .0) (λ n l e f q. q .0)
     (λ n l v e f q. (
-      (ids-cut v (v .state) l (q .0 .0), λ k f. few-keep (l .shared .config .scope) k (λ x. not (isVoice (v .id) x)) (l .voices) (q .0 .1 k f)),
+      (ids-cut v (v .state) l (q .0 .0), λ k f. few-filter (l .shared .config .scope) k (λ x. not (isVoice (v .id) x)) (l .voices) (q .0 .1 k f)),
       λ k f. let s = q .1 k f in omega (arith, s, count-filter (counted (l .shared .config .scope) (spawn .bus)) (λ x. not (isVoice (v .id) x)) (l .voices)),
     ))
     (tries (l .shared .config .budget) (l .voices)) l (u, r)
@@ -136,7 +136,7 @@ within-steal : (v : Voice) (l : Ledger) → WithinOf l → WithinOf (stealVoice 
 within-steal v l u = (ids-steal v l (u .0), go (portHeld v l))
   where
     go : (o : Option ℕ) → Within (stolen v o l .shared .config) (stolen v o l .voices)
-    go none k e = few-keep (l .shared .config .scope) k (λ x. not (isVoice (v .id) x)) (l .voices) (u .1 k e)
+    go none k e = few-filter (l .shared .config .scope) k (λ x. not (isVoice (v .id) x)) (l .voices) (u .1 k e)
     go (some p) k e = few-map (l .shared .config .scope) k (beginFade (v .id) (fadeOf (l .shared))) (begin-counted (l .shared .config .scope) (v .id) (fadeOf (l .shared))) (l .voices) (u .1 k e)
 
 spare-steal : (bus : NodeId) (v : Voice) (l : Ledger) → WithinOf l → In v (l .voices) → counted (l .shared .config .scope) bus v ≡ true → Spare bus (stealVoice v l)
@@ -148,12 +148,12 @@ spare-steal bus v l u i t k e =
 within-managed : (l : Ledger) (spawn : Spawn) → WithinOf l → WithinOf (admitted (admissionOn (spawn .bus) (spawn .rank) l) spawn l .ledger)
 within-managed l spawn u =
     managed-kept spawn (λ r. WithinOf (r .ledger)) l (u .0) (λ h. u)
-    (λ h. within-settle spawn l u (λ k e. admit-below (u .0) (l .shared) (counted (l .shared .config .scope) (spawn .bus)) k (l .shared .config .policy) (spawn .rank)
+    (λ h. within-budgeted spawn l u (λ k e. admit-below (u .0) (l .shared) (counted (l .shared .config .scope) (spawn .bus)) k (l .shared .config .policy) (spawn .rank)
     (subst (λ b. admits b (l .shared .config .policy) (spawn .rank) (candidates (l .shared) (counted (l .shared .config .scope) (spawn .bus)) (l .voices)) ≡ admission.Admit) e h)))
-    (λ p w h v i t. within-settle spawn (stealVoice v l) (within-steal v l u) (spare-steal (spawn .bus) v l u i t))
+    (λ p w h v i t. within-budgeted spawn (stealVoice v l) (within-steal v l u) (spare-steal (spawn .bus) v l u i t))
 
 within-run : (xs : List Call) (l : Ledger) → WithinOf l → WithinOf (run xs l .ledger)
-within-run = kept-run WithinOf within-steady (λ l spawn e u. within-managed l spawn u)
+within-run = kept-run WithinOf within-preserved (λ l spawn e u. within-managed l spawn u)
 
 -- after every list, from a new store: of the voices that a newVoice on any bus would count, at most the budget
 pub within-budget : (c : Config) (k : ℕ) → c .budget ≡ AtMost k → (xs : List Call) (bus : NodeId) → count (counted (c .scope) bus) (run xs (newLedger c) .ledger .voices) ≤ k
@@ -168,9 +168,9 @@ Free c b n vs = (c .budget ≡ Unlimited) × ((v : Voice) → In v vs → v .sta
 loose-snoc : (vs : List Voice) (v : Voice) → v .state ≡ Loose → ((x : Voice) → In x vs → x .state ≡ Loose) → (x : Voice) → In x (vs ++ (v ∷ [])) → x .state ≡ Loose
 loose-snoc vs v s f x i = ⊎-elim (λ j. f x j) (λ z. ap (λ (y : Voice). y .state) z ∙ s) (in-snoc vs v x i)
 
-free-steady : Preserves (Calm Free)
-free-steady =
-    calm Free
+free-preserved : Preserves (VoicesOnly Free)
+free-preserved =
+    voices-only Free
     (λ c b n vs w u. (u .0, λ v i. u .1 v (in-filter (λ x. not (isVoice w x)) vs v i .0), u .2))
     (λ c b n vs u. (u .0, λ v i. let r = in-map (moved oneMore) vs v i in ap (λ (x : Voice). x .state) (r .2) ∙ ap (movedState oneMore) (u .1 (r .0) (r .1)), u .2))
     (λ c b n vs v q s h k u. (u .0, loose-snoc vs v s (u .1), u .2))
@@ -182,17 +182,17 @@ module _ (spawn : Spawn) (l : Ledger) (e : l .shared .config .budget ≡ Unlimit
       ap (λ b. admitted (admits b (l .shared .config .policy) (spawn .rank) (candidates (l .shared) (counted (l .shared .config .scope) (spawn .bus)) (l .voices))) spawn l) e
       ∙ ap (λ b. place (tries b (l .voices)) spawn (stateUnder b) l) e
 
-free-managed : (l : Ledger) (spawn : Spawn) → Calm Free l → Calm Free (admitted (admissionOn (spawn .bus) (spawn .rank) l) spawn l .ledger)
-free-managed l spawn u = subst (λ r. Calm Free (r .ledger)) (sym (unlimited-spawn spawn l (u .0))) (go (portFree (spawn .bus) l))
+free-managed : (l : Ledger) (spawn : Spawn) → VoicesOnly Free l → VoicesOnly Free (admitted (admissionOn (spawn .bus) (spawn .rank) l) spawn l .ledger)
+free-managed l spawn u = subst (λ r. VoicesOnly Free (r .ledger)) (sym (unlimited-spawn spawn l (u .0))) (go (portFree (spawn .bus) l))
   where
-    go : (o : Option ℕ) → Calm Free (instantiateOr o none spawn Loose l (refused NoPort) .ledger)
+    go : (o : Option ℕ) → VoicesOnly Free (instantiateOr o none spawn Loose l (refused NoPort) .ledger)
     go none = u
     go (some p) = (u .0, loose-snoc (l .voices) (newVoice spawn Loose p (l .shared)) refl (u .1), u .2)
 
 pub without-budget : (c : Config) → c .budget ≡ Unlimited → (xs : List Call) → AllLoose (run xs (newLedger c) .ledger)
 without-budget c e xs =
-    let r = kept-run (Calm Free) free-steady (λ l spawn h u. free-managed l spawn u) xs (newLedger c) (e, λ v i. absurd i, refl) in
-    record { voices = r .1; book = r .2 }
+    let r = kept-run (VoicesOnly Free) free-preserved (λ l spawn h u. free-managed l spawn u) xs (newLedger c) (e, λ v i. absurd i, refl) in
+    record { voices = r .1; log = r .2 }
 
 -- nobody is reclaimed: a managed spawn takes no voice away
 pub nobody-reclaimed : (c : Config) → c .budget ≡ Unlimited → (xs : List Call) (spawn : Spawn) (v : Voice)

@@ -50,7 +50,7 @@ use Rattle.ledger.specs.Call.{step, run}
 use Rattle.ledger.specs.Claim.{ownerAt}
 use Rattle.ledger.proofs.Words.{Headroom}
 use Rattle.ledger.proofs.Allowed.{when-none, spawn-allowed}
-use Rattle.ledger.proofs.Preserved.{place-kept, Preserves, step-kept, landed-kept}
+use Rattle.ledger.proofs.Preserved.{place-kept, Preserves, step-kept, unless-spawn-kept}
 use Rattle.ledger.proofs.Managed.{managed-kept}
 use Rattle.ledger.proofs.EdgeInvariant.{edge-put}
 use Rattle.ledger.proofs.Fading.{fed-edge}
@@ -139,8 +139,8 @@ length-inserted e (f ∷ q) = go (later e f) (length-inserted e q)
 room-less : (n e v : ℕ) (l : Ledger) → Headroom n e v l → Headroom 0 0 0 l
 room-less n e v l r = record { nodes = omega (arith, r .nodes); edges = omega (arith, r .edges); voices = omega (arith, r .voices); events = r .events }
 
-room-gone : (n e v : ℕ) (l : Ledger) (w : VoiceId) → Headroom n e v l → Headroom n e v (ledger.withoutVoice w l)
-room-gone n e v l w r =
+room-removed : (n e v : ℕ) (l : Ledger) (w : VoiceId) → Headroom n e v l → Headroom n e v (ledger.withoutVoice w l)
+room-removed n e v l w r =
     record {
       nodes = omega (arith, r .nodes, length-filter (λ x. not (ownedBy w x)) (l .shared .graph .nodes));
       edges = omega (arith, r .edges, length-filter (λ d. not (touches (change.idsOf (ownedBy w) (l .shared .graph .nodes)) d)) (l .shared .graph .edges));
@@ -149,10 +149,10 @@ room-gone n e v l w r =
     }
 
 room-cut : (n e k : ℕ) (l : Ledger) (v : Voice) (s : VoiceState) → Headroom n e k l → Headroom n e k (cutOff v s l)
-room-cut n e k l v s r = let g = room-gone n e k l (v .id) r in record { nodes = g .nodes; edges = g .edges; voices = g .voices; events = g .events }
+room-cut n e k l v s r = let g = room-removed n e k l (v .id) r in record { nodes = g .nodes; edges = g .edges; voices = g .voices; events = g .events }
 
-room-land : (spawn : Spawn) (s : VoiceState) (p : ℕ) (l : Ledger) → Headroom (spawn .def .nodes .count + 2) (spawn .def .edges .count + 3) 1 l → Headroom 0 0 0 (instantiate spawn s p l .ledger)
-room-land spawn s p l r =
+room-instantiate : (spawn : Spawn) (s : VoiceState) (p : ℕ) (l : Ledger) → Headroom (spawn .def .nodes .count + 2) (spawn .def .edges .count + 3) 1 l → Headroom 0 0 0 (instantiate spawn s p l .ledger)
+room-instantiate spawn s p l r =
     record {
       nodes = omega (arith, r .nodes, length-map (l .shared .graph .nodes) (raiseNoise (spawn .bus)), ap length (wired-nodes (g .next) ws g₁), grown-nodes xs g, nodes-few (nextVoice (l .shared)) (spawn .def) (pans (spawn .pan)));
       edges = omega (arith, r .edges, length-wired (wireAll (g .next) g₁ ws .edges) (change.edge (id (g .next + voiceOut (spawn .def) (pans (spawn .pan)))) (spawn .bus) p), wired-edges (g .next) ws g₁, ap length (grown-edges xs g), wires-few (spawn .def) (pans (spawn .pan)));
@@ -172,10 +172,10 @@ room-land spawn s p l r =
     g₁ : GraphView
     g₁ = appendAll g xs
 
-room-settle : (spawn : Spawn) (l : Ledger) → Headroom (spawn .def .nodes .count + 2) (spawn .def .edges .count + 3) 1 l → Headroom 0 0 0 (placeWithinBudget spawn l .ledger)
-room-settle spawn l r =
+room-budgeted : (spawn : Spawn) (l : Ledger) → Headroom (spawn .def .nodes .count + 2) (spawn .def .edges .count + 3) 1 l → Headroom 0 0 0 (placeWithinBudget spawn l .ledger)
+room-budgeted spawn l r =
     place-kept spawn (stateUnder (l .shared .config .budget)) (λ n m. Headroom (spawn .def .nodes .count + 2) (spawn .def .edges .count + 3) 1 m) (λ z. Headroom 0 0 0 (z .ledger))
-    (λ n m p e q. room-land spawn _ p m q) (λ m e q. room-less _ _ _ m q) (λ n m e f q. room-less _ _ _ m q) (λ n m v e f q. room-cut _ _ _ m v (v .state) q)
+    (λ n m p e q. room-instantiate spawn _ p m q) (λ m e q. room-less _ _ _ m q) (λ n m e f q. room-less _ _ _ m q) (λ n m v e f q. room-cut _ _ _ m v (v .state) q)
     (tries (l .shared .config .budget) (l .voices)) l r
 
 -- a fade takes one node and one edge: its edge to the bus replaces the feeder's
@@ -248,8 +248,8 @@ free-edge g a b p le e =
         let lt : length (g .edges) < 1024 = leb-false _ _ (off (leb 1024 (length (g .edges))) h) in
         omega (arith, lt, length-wired (g .edges) (change.edge a b p))
 
-room-steady : Preserves RoomOf
-room-steady =
+room-preserved : Preserves RoomOf
+room-preserved =
     record {
       addNode = λ l kind ports required values glides e r.
           let h = free-node (l .shared .graph) kind ports required e in
@@ -268,7 +268,7 @@ room-steady =
           record { nodes = r .nodes; edges = omega (arith, r .edges, length-filter (λ d. not (endsAt b p d)) (l .shared .graph .edges)); voices = r .voices; events = r .events };
       setSink = λ l k r. record { nodes = r .nodes; edges = r .edges; voices = r .voices; events = r .events };
       loose = λ l spawn e r. one l spawn (room-spare _ _ _ l (room-spawn (spawn .def) (spawn .bus) (spawn .rank) l r e)) (portFree (spawn .bus) l);
-      goes = λ l w r. room-gone 0 0 0 l w r;
+      goes = λ l w r. room-removed 0 0 0 l w r;
       node = λ l k x n e s r. record { nodes = rw (length-map (l .shared .graph .nodes) (λ m. cond (isNode (n .id) m) n m)) (r .nodes); edges = r .edges; voices = r .voices; events = r .events };
       schedule = λ l e h r.
           let lt : length (thinned e (l .shared .events)) < 256 = leb-false _ _ h in
@@ -281,20 +281,20 @@ room-steady =
   where
     one : (l : Ledger) (spawn : Spawn) → Headroom (spawn .def .nodes .count + 2) (spawn .def .edges .count + 3) 1 l → (o : Option ℕ) → RoomOf (instantiateOr o none spawn Loose l (refused NoPort) .ledger)
     one l spawn r none = room-less _ _ _ l r
-    one l spawn r (some p) = room-land spawn Loose p l r
+    one l spawn r (some p) = room-instantiate spawn Loose p l r
 
     counted-length : (b : Bool) (vs : List Voice) → length (countedIf b vs) ≡ length vs
     counted-length true vs = length-map vs (moved oneMore)
     counted-length false vs = refl
 
 room-step : (x : Call) (l : Ledger) → InvariantOf l → RoomOf l → RoomOf (step x l .ledger)
-room-step x l s r = step-kept RoomOf room-steady x l (λ spawn q. managed spawn) r
+room-step x l s r = step-kept RoomOf room-preserved x l (λ spawn q. managed spawn) r
   where
     managed : (spawn : Spawn) → RoomOf (ledger.spawnManaged spawn l .ledger)
-    managed spawn = landed-kept RoomOf (spawnRefusal (l .shared) (l .voices) (spawn .def) (spawn .bus) (spawn .rank)) l (admitted (admissionOn (spawn .bus) (spawn .rank) l) spawn l) r (λ e.
+    managed spawn = unless-spawn-kept RoomOf (spawnRefusal (l .shared) (l .voices) (spawn .def) (spawn .bus) (spawn .rank)) l (admitted (admissionOn (spawn .bus) (spawn .rank) l) spawn l) r (λ e.
         let a = room-spawn (spawn .def) (spawn .bus) (spawn .rank) l r e in
-        managed-kept spawn (λ z. RoomOf (z .ledger)) l (ids-of l s) (λ h. r) (λ h. room-settle spawn l (room-spare _ _ _ l a))
-        (λ p w h v i t. room-settle spawn (stealVoice v l) (room-steal ((spawn .def) .nodes .count + 2) ((spawn .def) .edges .count + 3) l s v i (and-left (isTracked (v .state)) _ t) a)))
+        managed-kept spawn (λ z. RoomOf (z .ledger)) l (ids-of l s) (λ h. r) (λ h. room-budgeted spawn l (room-spare _ _ _ l a))
+        (λ p w h v i t. room-budgeted spawn (stealVoice v l) (room-steal ((spawn .def) .nodes .count + 2) ((spawn .def) .edges .count + 3) l s v i (and-left (isTracked (v .state)) _ t) a)))
 
 pub room-run : (xs : List Call) (l : Ledger) → RunInvariant l → RoomOf l → RoomOf (run xs l .ledger)
 room-run [] l h r = r

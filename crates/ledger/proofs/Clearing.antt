@@ -22,16 +22,16 @@ use Rattle.ledger.specs.Clear.{ended, withoutVoices, endedVoices, silent
 use Rattle.ledger.specs.Call.{step}
 use Rattle.ledger.specs.Claim.{roundedUp}
 use Rattle.ledger.proofs.Nodes.{OwnNodes, silent-first}
-use Rattle.ledger.proofs.Ids.{Ids, Rising, other-below, other-above, ids-keep}
+use Rattle.ledger.proofs.Ids.{Ids, Rising, other-below, other-above, ids-filter}
 
 -- ---- voices that go one by one
 abbrev dropAll : List Voice → List Voice → List Voice
 dropAll [] vs = vs
 dropAll (g ∷ gs) vs = dropAll gs (filter (λ v. not (isVoice (g .id) v)) vs)
 
-goneAll-drops : (gs : List Voice) (l : Ledger) → withoutVoices gs l .voices ≡ dropAll gs (l .voices)
-goneAll-drops [] l = refl
-goneAll-drops (g ∷ gs) l = goneAll-drops gs (withoutVoice (g .id) l)
+removedAll-drops : (gs : List Voice) (l : Ledger) → withoutVoices gs l .voices ≡ dropAll gs (l .voices)
+removedAll-drops [] l = refl
+removedAll-drops (g ∷ gs) l = removedAll-drops gs (withoutVoice (g .id) l)
 
 drop-front : (gs : List Voice) (x : Voice) (vs : List Voice) → ((g : Voice) → In g gs → isVoice (g .id) x ≡ false) → dropAll gs (x ∷ vs) ≡ x ∷ dropAll gs vs
 drop-front [] x vs h = refl
@@ -57,8 +57,8 @@ drop-kept t n (x ∷ vs) r = go (t x) refl (drop-kept t (x .id .0) vs (r .1))
     go true e ih = ap (dropAll (filter t vs)) whole ∙ ih
     go false e ih = drop-front (filter t vs) x vs (λ g i. other-below n x vs r g (in-filter t vs g i .0)) ∙ ap (λ z. x ∷ z) ih
 
-gone-voices : {n : ℕ} (t : Voice → Bool) (l : Ledger) → Ids n (l .voices) → withoutVoices (filter t (l .voices)) l .voices ≡ filter (λ v. not (t v)) (l .voices)
-gone-voices t l d = goneAll-drops (filter t (l .voices)) l ∙ drop-kept t 0 (l .voices) (d .rising)
+removed-voices : {n : ℕ} (t : Voice → Bool) (l : Ledger) → Ids n (l .voices) → withoutVoices (filter t (l .voices)) l .voices ≡ filter (λ v. not (t v)) (l .voices)
+removed-voices t l d = removedAll-drops (filter t (l .voices)) l ∙ drop-kept t 0 (l .voices) (d .rising)
 
 split-length : (t : Voice → Bool) (vs : List Voice) → length vs ≡ length (filter (λ v. not (t v)) vs) + length (filter t vs)
 split-length t [] = refl
@@ -75,11 +75,11 @@ module _ {n : ℕ} (l : Ledger) (d : Ids n (l .voices)) where
   unended = filter (λ v. not (ended (l .shared) (v .state))) (l .voices)
 
   pub faded-voices : withoutVoices (endedVoices l) l .voices ≡ unended
-  faded-voices = gone-voices (λ v. ended (l .shared) (v .state)) l d
+  faded-voices = removed-voices (λ v. ended (l .shared) (v .state)) l d
 
   pub cleared-voices : OwnNodes l → step call.clear l .ledger .voices ≡ filter (λ v. not (isSilent (l .shared .graph .nodes) v)) unended
   cleared-voices q =
-      gone-voices (isSilent (m .shared .graph .nodes)) m (subst (Ids n) (sym faded-voices) (ids-keep (λ v. not (ended (l .shared) (v .state))) d))
+      removed-voices (isSilent (m .shared .graph .nodes)) m (subst (Ids n) (sym faded-voices) (ids-filter (λ v. not (ended (l .shared) (v .state))) d))
       ∙ ap (filter (λ v. not (isSilent (m .shared .graph .nodes) v))) faded-voices
       ∙ filter-same (λ v. not (isSilent (m .shared .graph .nodes) v)) (λ v. not (isSilent (l .shared .graph .nodes) v)) unended (λ v i.
       let j = in-filter (λ v. not (ended (l .shared) (v .state))) (l .voices) v i in
@@ -95,7 +95,7 @@ module _ {n : ℕ} (l : Ledger) (d : Ids n (l .voices)) where
       let a = split-length (λ v. ended (l .shared) (v .state)) (l .voices) in
       let b = split-length t (m .voices) in
       let c = ap length faded-voices in
-      let f = ap length (gone-voices t m (subst (Ids n) (sym faded-voices) (ids-keep (λ v. not (ended (l .shared) (v .state))) d))) in
+      let f = ap length (removed-voices t m (subst (Ids n) (sym faded-voices) (ids-filter (λ v. not (ended (l .shared) (v .state))) d))) in
       let g : length (endedVoices l) + length (silentVoices m) ≡ k = removed-inj e in
       omega arith
     where

@@ -58,8 +58,8 @@ use Rattle.ledger.proofs.Simulation.{RunInvariant, kept-step}
 use Rattle.ledger.proofs.Capacity.{RoomOf}
 use Rattle.ledger.proofs.Nodes.{OwnNodes}
 use Rattle.ledger.proofs.Records.{RecordedOf}
-use Rattle.ledger.proofs.Marks.{fate-voices, book-stays, marks, tallies}
-use Rattle.ledger.proofs.Gone.{leaves-gone}
+use Rattle.ledger.proofs.Marks.{fate-voices, log-stays, marks, tallies}
+use Rattle.ledger.proofs.FadeEnds.{leaves-removed}
 use Rattle.ledger.proofs.Clearing.{cleared-voices, cleared-count}
 use Rattle.ledger.proofs.SpawnFailure.{spawn-answer}
 use Rattle.ledger.proofs.Owner.{owner-some}
@@ -138,7 +138,7 @@ module _ (c : Config) (l : Ledger) (known : Known c l) where
       subst (λ g. Next x a vs s v g) (sym (w .moves)) (subst (λ u. Next x a vs s u (movedFade (λ n. n * c .block) (w .fade))) (sym (w .is))
       (⊎-elim (λ h. inl (goes-shown c l is (w .voice) (w .fade) a (step x l .ledger .voices) h))
       (λ h. inr (find-stored (λ n. n * c .block) (w .voice .id) (step x l .ledger .voices) ∙ ap (mapO (shown c)) (h .0), why-shown c l is (w .voice) (w .fade) (step x l .ledger) x (h .1)))
-      (leaves-gone (w .voice) (w .fade) (w .state) x l r q (w .member))))
+      (leaves-removed (w .voice) (w .fade) (w .state) x l r q (w .member))))
     where
       w : Was c (l .voices) v f
       w = was c (l .voices) v i f e
@@ -174,7 +174,7 @@ module _ (c : Config) (l : Ledger) (known : Known c l) where
       ap₂ (λ a d. record { answer = call.readyAnswer a; model = record { shared = d; voices = map (shown c) (l .voices) } })
       (ap (λ (o : graph.Outcome). o .answer) (known .ready .holds p)) (prepared-same (l .shared) (known .ready) p)
 
-  -- ---- newcomers
+  -- ---- new voices
   arrives-shown : (x : Call) (y : Spawn) (state : VoiceState) → movedState (λ n. n * c .block) state ≡ state → (w : VoiceId) → ArrivesAt (y .bus) (y .rank) state w l (step x l .ledger)
       → Arrives y state w (storeOf c l) (storeOf c (step x l .ledger))
   arrives-shown x y state same w a =
@@ -245,7 +245,7 @@ module _ (c : Config) (l : Ledger) (known : Known c l) where
         removed = λ n. next call.clear (λ t. t .answer ≡ call.removed n → length (map (shown c) (l .voices)) ≡ length (t .model .voices) + n) (λ e.
             length-map (l .voices) (shown c) ∙ cleared-count l (r .ids) n e ∙ ap (λ z. z + n) (sym (length-map (step call.clear l .ledger .voices) (shown c))));
         leaves = λ x v i f e. next x (λ t. Next x (t .answer) (t .model .voices) (t .model) v f) (goes x v i f e);
-        quiet = λ x h. next x (λ t. t .model .shared .steals ≡ l .shared .steals) (book-stays x h l);
+        quiet = λ x h. next x (λ t. t .model .shared .steals ≡ l .shared .steals) (log-stays x h l);
         marks = λ x n h. next (call.spawnManaged x) (λ t. Fate (l .shared .steals) (t .model .shared .steals) (Reclaimed (map (shown c) (l .voices)) (t .model .voices) (x .bus) n) n)
             (fate-voices (reclaimed-shown c (l .voices) (step (call.spawnManaged x) l .ledger .voices) (x .bus) n) (marks x l r n h));
         writes = λ n b x a. next (call.spawnManaged x) (λ t. t .answer ≡ call.spawned a → t .model .shared .steals .count + count tracks (t .model .voices) ≡ more (isLet a) (l .shared .steals .count + count tracks (map (shown c) (l .voices)))) (λ e.
@@ -260,7 +260,7 @@ module _ (c : Config) (l : Ledger) (known : Known c l) where
             let a = known .loose b in
             record {
               voices = λ v i. let w = in-map (shown c) (l .voices) v i in ap (λ (x : Voice). x .state) (w .2) ∙ ap (movedState (λ n. n * c .block)) (a .voices (w .0) (w .1));
-              book = a .book;
+              log = a .log;
             };
         stay = λ b x v i. next (call.spawnManaged x) (λ t. In v (t .model .voices)) (
             let w = in-map (shown c) (l .voices) v i in

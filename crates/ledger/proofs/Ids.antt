@@ -35,8 +35,8 @@ once {n} {vs} d w = rises-once (λ (v : Voice). v .id .0) 1 vs (d .rising) (w .0
 pub above : {n : ℕ} {vs : List Voice} → Ids n vs → (v : Voice) → In v vs → 0 < v .id .0
 above {n} {vs} d v i = rising-above 0 vs (d .rising) v i
 
-pub ids-keep : {n : ℕ} {vs : List Voice} (t : Voice → Bool) → Ids n vs → Ids n (filter t vs)
-ids-keep {n} {vs} t d = record { rising = rises-filter (λ (v : Voice). v .id .0) t 1 vs (d .rising); below = λ v i. d .below v (in-filter t vs v i .0) }
+pub ids-filter : {n : ℕ} {vs : List Voice} (t : Voice → Bool) → Ids n vs → Ids n (filter t vs)
+ids-filter {n} {vs} t d = record { rising = rises-filter (λ (v : Voice). v .id .0) t 1 vs (d .rising); below = λ v i. d .below v (in-filter t vs v i .0) }
 
 pub ids-map : {n : ℕ} {vs : List Voice} (f : Voice → Voice) → ((v : Voice) → f v .id ≡ v .id) → Ids n vs → Ids n (map f vs)
 ids-map {n} {vs} f e d = record { rising = rises-map (λ (v : Voice). v .id .0) f (λ v. ap (λ (w : VoiceId). w .0) (e v)) 1 vs (d .rising); below = λ v i. let r = in-map f vs v i in rw (r .2, e (r .0)) (d .below (r .0) (r .1)) }
@@ -65,16 +65,16 @@ other-below n x vs r v i = ne-eqb (x .id .0) (v .id .0) (λ e. omega (arith, e, 
 pub other-above : (n : ℕ) (vs : List Voice) → Rising n vs → (w : VoiceId) → w .0 ≤ n → (u : Voice) → In u vs → isVoice w u ≡ false
 other-above n vs r w h u i = ne-eqb (u .id .0) (w .0) (λ e. omega (arith, e, rising-above n vs r u i))
 
-count-gone : (q : Voice → Bool) (n : ℕ) (vs : List Voice) → Rising n vs → (v : Voice) → In v vs → count q vs ≡ more (q v) (count q (filter (λ x. not (isVoice (v .id) x)) vs))
-count-gone q n [] r v i = absurd i
-count-gone q n (x ∷ vs) r v (inl p) =
+count-removed : (q : Voice → Bool) (n : ℕ) (vs : List Voice) → Rising n vs → (v : Voice) → In v vs → count q vs ≡ more (q v) (count q (filter (λ x. not (isVoice (v .id) x)) vs))
+count-removed q n [] r v i = absurd i
+count-removed q n (x ∷ vs) r v (inl p) =
     let a : filter (λ y. not (isVoice (v .id) y)) vs ≡ vs = filter-all (λ y. not (isVoice (v .id) y)) vs (λ u j. ap not (other-above (x .id .0) vs (r .1) (v .id) (ap-le p) u j)) in
     let b : isVoice (v .id) x ≡ true = eq-eqb (x .id .0) (v .id .0) (ap (λ (y : Voice). y .id .0) (sym p)) in
     rw (b, a) (ap (λ z. more (q z) (count q vs)) (sym p))
   where
     ap-le : v ≡ x → v .id .0 ≤ x .id .0
     ap-le e = let z : v .id .0 ≡ x .id .0 = ap (λ (y : Voice). y .id .0) e in omega arith
-count-gone q n (x ∷ vs) r v (inr i) = rw (other-below n x vs r v i, count-gone q (x .id .0) vs (r .1) v i) (swap (q x) (q v))
+count-removed q n (x ∷ vs) r v (inr i) = rw (other-below n x vs r v i, count-removed q (x .id .0) vs (r .1) v i) (swap (q x) (q v))
   where
     swap : (a b : Bool) → more a (more b (count q (filter (λ y. not (isVoice (v .id) y)) vs))) ≡ more b (more a (count q (filter (λ y. not (isVoice (v .id) y)) vs)))
     swap true true = refl
@@ -82,8 +82,8 @@ count-gone q n (x ∷ vs) r v (inr i) = rw (other-below n x vs r v i, count-gone
     swap false true = refl
     swap false false = refl
 
-pub one-gone : {n : ℕ} {vs : List Voice} → Ids n vs → (q : Voice → Bool) (v : Voice) → In v vs → count q vs ≡ more (q v) (count q (filter (λ x. not (isVoice (v .id) x)) vs))
-one-gone {n} {vs} d q v i = count-gone q 0 vs (d .rising) v i
+pub one-removed : {n : ℕ} {vs : List Voice} → Ids n vs → (q : Voice → Bool) (v : Voice) → In v vs → count q vs ≡ more (q v) (count q (filter (λ x. not (isVoice (v .id) x)) vs))
+one-removed {n} {vs} d q v i = count-removed q 0 vs (d .rising) v i
 
 -- a change of the voices that leaves all but v
 map-rest : (f : Voice → Voice) (w : VoiceId) → ((u : Voice) → isVoice w u ≡ false → f u ≡ u) → (n : ℕ) (vs : List Voice) → Rising n vs → w .0 ≤ n → map f vs ≡ vs

@@ -1,4 +1,4 @@
--- A newVoice lands: its nodes come under the next ids, its wires join only them, and its feeder takes the port found.
+-- A new voice is instantiated: its nodes come under the next ids, its wires join only them, and its feeder takes the port found.
 use Prim.Native.Nat.{ℕ, _+_, _≤_, _<_}
 use native.Mathlib.Omega.{arith}
 use mathlib.Core.Path.{_≡_, refl, sym, ap, _∙_, subst}
@@ -128,8 +128,8 @@ module _ {ns : List Node} {base k : ℕ} {vs : List Voice} {h : Holders} where
         })
         (λ u i. omega (arith, older u i)) (omega arith) (λ e i o. r .off e i (o .0, o .1 ∙ ap some vi))
 
-    pub sound-land : Invariant (g .nodes) (wired (g .edges) e₁) (g .next) k (vs ++ (v ∷ [])) (hold bus p (voice (record { 0 = k })) h)
-    sound-land =
+    pub sound-instantiate : Invariant (g .nodes) (wired (g .edges) e₁) (g .next) k (vs ++ (v ∷ [])) (hold bus p (voice (record { 0 = k })) h)
+    sound-instantiate =
         record {
           listed = r .sound .listed;
           wired = wired-put e₁ (g .edges) (r .sound .wired) (record { a = k; b = 0; from = r .mine out lo; to = at-bus; range = λ z. subst (λ n. p < n) (sym (r .old (bus .0) bl .1)) range });

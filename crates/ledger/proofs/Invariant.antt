@@ -1,4 +1,4 @@
--- A sound ledger: its nodes are listed, its edges and voices filter the invariant, each voice feeds the host from the end of its chain, and its holders are those that the edges give.
+-- A sound ledger: its nodes are listed, its edges and voices keep the invariant, each voice feeds the host from the end of its chain, and its holders are those that the edges give.
 -- Each change of the graph keeps it.
 use Prim.Native.Nat.{ℕ, _+_, _≤_, _<_}
 use native.Mathlib.Omega.{arith}
@@ -92,7 +92,7 @@ module _ {ns : List Node} {es : List Edge} {nx nv : ℕ} {vs : List Voice} {h : 
         held = λ n p. s .held n p ∙ sym (hold-same (s .wired) (ownerAt (replaced ns y)) (λ d j. (same (d .from .0), same (d .to .0))) n p);
       }
 
-  -- ---- nodes go, with their edges; the voices that stay filter their feeders
+  -- ---- nodes go, with their edges; the voices that stay keep their feeders
   module _ (goes : Node → Bool) (vs' : List Voice) where
     abbrev ns₂ : List Node
     ns₂ = filter (λ x. not (goes x)) ns
@@ -141,9 +141,9 @@ module _ {ns : List Node} {es : List Edge} {nx nv : ℕ} {vs : List Voice} {h : 
   abbrev others : VoiceId → Voice → Bool
   others w v = not (isVoice w v)
 
-  pub sound-gone : (w : VoiceId) → 0 < w .0
+  pub sound-voice-removed : (w : VoiceId) → 0 < w .0
       → Invariant (filter (λ x. not (ownedBy w x)) ns) (dropTouching es (idsOf (ownedBy w) ns)) nx nv (filter (λ v. not (isVoice w v)) vs) (dropVoice w h)
-  sound-gone w pos =
+  sound-voice-removed w pos =
       record {
         listed = listed-thin (s .listed) (ownedBy w);
         wired = wired₂ (ownedBy w) (filter (others w) vs);

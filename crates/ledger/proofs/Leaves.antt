@@ -40,7 +40,7 @@ use Rattle.model.specs.Spawn.{newVoice, stateUnder, tries, fadeOf, Spawn}
 use Rattle.model.specs.Order.{order}
 use Rattle.model.specs.Clear.{isSilent}
 use Rattle.model.specs.Render.{prepareOutcome, prepareShared, isFree, anyFree, heard, answerAfter, isSounding, deadline, due, renderRefusal}
-use Rattle.model.specs.Written.{written}
+use Rattle.lists.specs.Written.{written}
 use Rattle.model.specs.Page.{page}
 use Rattle.model.specs.Call.{Call, event, scheduleRefusal, readyAnswer, Question, answerTo, blockAnswer, wholeAnswer}
 use Rattle.model.specs.Block.{fades, sums, wholeFadeRefusal, wholeSumRefusal}
@@ -59,8 +59,8 @@ use Rattle.ledger.proofs.Words.{GoesOn, Why, freed, timed, ended, silen
 use Rattle.ledger.proofs.Ids.{unique, same-id}
 use Rattle.ledger.proofs.Victim.{nextOut-in}
 use Rattle.ledger.proofs.StealLog.{held-pushed, held-marked, held-unmarked, cut-cut, count-pushed}
-use Rattle.ledger.proofs.Preserved.{place-kept, goneAll-kept, atShared}
-use Rattle.ledger.proofs.Managed.{IdsOf, managed-kept, ids-steady}
+use Rattle.ledger.proofs.Preserved.{place-kept, open-moves, removals-kept, atShared}
+use Rattle.ledger.proofs.Managed.{managed-kept, ids-preserved}
 use Rattle.ledger.proofs.Nodes.{OwnNodes, silent-first}
 use Rattle.ledger.proofs.Clearing.{faded-voices}
 use Rattle.ledger.proofs.Records.{RecordedOf, not-fading, steal-small, recorded-cut, recorded-steal, begin-other}
@@ -133,8 +133,8 @@ module _ (v : Voice) (f : Fade) (ph : v .state ≡ Fading f) where
   still vs i = subst (λ z. In z vs) (sym same-voice) i
 
   -- one voice goes: it is this one or another
-  stays-keep : (w : VoiceId) (vs : List Voice) → In v vs → In v (filter (λ x. not (isVoice w x)) vs) ⊎ (v .id .0 ≡ w .0)
-  stays-keep w vs i = go (ℕ-discrete (v .id .0) (w .0))
+  stays-filter : (w : VoiceId) (vs : List Voice) → In v vs → In v (filter (λ x. not (isVoice w x)) vs) ⊎ (v .id .0 ≡ w .0)
+  stays-filter w vs i = go (ℕ-discrete (v .id .0) (w .0))
     where
       go : Dec (v .id .0 ≡ w .0) → In v (filter (λ x. not (isVoice w x)) vs) ⊎ (v .id .0 ≡ w .0)
       go (yes e) = inr e
@@ -147,7 +147,7 @@ module _ (v : Voice) (f : Fade) (ph : v .state ≡ Fading f) where
 
     here-cut : (w : Voice) (m : Ledger) → RecordedOf m → In w (m .voices) → isOn (spawn .bus) w ≡ true → Here m → Here (cutOff w (w .state) m)
     here-cut w m r j o (inr z) = inr (z .0, cut-cutOff (f .number) w (w .state) m r j refl (z .1))
-    here-cut w m r j o (inl i) = ⊎-elim inl this (stays-keep (w .id) (m .voices) i)
+    here-cut w m r j o (inl i) = ⊎-elim inl this (stays-filter (w .id) (m .voices) i)
       where
         this : v .id .0 ≡ w .id .0 → Here (cutOff w (w .state) m)
         this e =
@@ -156,8 +156,8 @@ module _ (v : Voice) (f : Fade) (ph : v .state ≡ Fading f) where
             let n = r .numbers v i f ph in
             inr (ap (isOn (spawn .bus)) z ∙ o, subst (λ s. CutIn (f .number) (cutOff w s m .shared .steals)) (sym h) (n, ap cutIfHeld (held-marked (m .shared .steals) (f .number)) ∙ cut-cut (heldRecord (m .shared .steals) (f .number))))
 
-    here-settle : (m : Ledger) → RecordedOf m → Here m → Here (placeWithinBudget spawn m .ledger)
-    here-settle m r h =
+    here-budgeted : (m : Ledger) → RecordedOf m → Here m → Here (placeWithinBudget spawn m .ledger)
+    here-budgeted m r h =
         place-kept spawn (stateUnder (m .shared .config .budget)) (λ n m. RecordedOf m × Here m) (λ r. Here (r .ledger))
         (λ n m p e q. ⊎-elim (λ i. inl (in-left (m .voices) (newVoice spawn _ p (m .shared) ∷ []) v i)) inr (q .1)) (λ m e q. q .1) (λ n m e g q. q .1)
         (λ n m w e g q. let i = nextOut-in (q .0 .ids) (m .shared) (spawn .bus) (spawn .rank) w g in (recorded-cut w (w .state) m (q .0) (i .0) refl, here-cut w m (q .0) (i .0) (and-right (mayGo (spawn .rank) w) (isOn (spawn .bus) w) (i .1)) (q .1)))
@@ -179,13 +179,13 @@ module _ (v : Voice) (f : Fade) (ph : v .state ≡ Fading f) where
 
     here-managed : (m : Ledger) → RecordedOf m → In v (m .voices) → Here (admitted (admissionOn (spawn .bus) (spawn .rank) m) spawn m .ledger)
     here-managed m r i =
-        managed-kept spawn (λ z. Here (z .ledger)) m (r .ids) (λ a. inl i) (λ a. here-settle m r (inl i))
-        (λ p w a u j t. let z = and-left (tracks u) _ t in here-settle (stealVoice u m) (recorded-steal u m r j z) (inl (here-steal u m r i j z)))
+        managed-kept spawn (λ z. Here (z .ledger)) m (r .ids) (λ a. inl i) (λ a. here-budgeted m r (inl i))
+        (λ p w a u j t. let z = and-left (tracks u) _ t in here-budgeted (stealVoice u m) (recorded-steal u m r j z) (inl (here-steal u m r i j z)))
 
   -- ---- frees and clearings
   leaves-freed : (o : Option Voice) (m : Ledger) → In v (m .voices) → In v (ledger.freed o m .voices) ⊎ ((w : Voice) × (o ≡ some w) × (v .id .0 ≡ w .id .0))
   leaves-freed none m i = inl i
-  leaves-freed (some w) m i = ⊎-elim inl (λ e. inr (w, refl, e)) (stays-keep (w .id) (m .voices) i)
+  leaves-freed (some w) m i = ⊎-elim inl (λ e. inr (w, refl, e)) (stays-filter (w .id) (m .voices) i)
 
   leaves-free : (w : VoiceId) (m : Ledger) → In v (m .voices) → In v (free w m .voices) ⊎ (w ≡ v .id)
   leaves-free w m i =
@@ -194,8 +194,8 @@ module _ (v : Voice) (f : Fade) (ph : v .state ≡ Fading f) where
   abbrev TimedBy : List Event → Type 0
   TimedBy q = (e : Event) × In e q × (isFree (e .action) ≡ true) × (e .voice ≡ v .id)
 
-  leaves-happen : (e : Event) (m : Ledger) → In v (m .voices) → In v (applyEvent e m .voices) ⊎ ((isFree (e .action) ≡ true) × (e .voice ≡ v .id))
-  leaves-happen e m i = go (isFree (e .action)) refl
+  leaves-applied : (e : Event) (m : Ledger) → In v (m .voices) → In v (applyEvent e m .voices) ⊎ ((isFree (e .action) ≡ true) × (e .voice ≡ v .id))
+  leaves-applied e m i = go (isFree (e .action)) refl
     where
       go : (b : Bool) → isFree (e .action) ≡ b
           → In v (cond b (free (e .voice) m) (atShared m (order (e .voice) (paramOrder e .name) (paramOrder e .order) (m .voices) (m .shared) .shared)) .voices) ⊎ ((isFree (e .action) ≡ true) × (e .voice ≡ v .id))
@@ -205,12 +205,12 @@ module _ (v : Voice) (f : Fade) (ph : v .state ≡ Fading f) where
   leaves-events : (q : List Event) (m : Ledger) → In v (m .voices) → In v (applyEvents q m .voices) ⊎ TimedBy q
   leaves-events [] m i = inl i
   leaves-events (e ∷ q) m i =
-      ⊎-elim (λ j. ⊎-elim inl (λ z. inr (z .0, inr (z .1), z .2, z .3)) (leaves-events q (applyEvent e m) j)) (λ z. inr (e, inl refl, z .0, z .1)) (leaves-happen e m i)
+      ⊎-elim (λ j. ⊎-elim inl (λ z. inr (z .0, inr (z .1), z .2, z .3)) (leaves-events q (applyEvent e m) j)) (λ z. inr (e, inl refl, z .0, z .1)) (leaves-applied e m i)
 
   leaves-all : (gs : List Voice) (m : Ledger) → In v (m .voices) → In v (withoutVoices gs m .voices) ⊎ ((g : Voice) × In g gs × (v .id .0 ≡ g .id .0))
   leaves-all [] m i = inl i
   leaves-all (g ∷ gs) m i =
-      ⊎-elim (λ j. ⊎-elim inl (λ z. inr (z .0, inr (z .1), z .2)) (leaves-all gs (withoutVoice (g .id) m) j)) (λ z. inr (g, inl refl, z)) (stays-keep (g .id) (m .voices) i)
+      ⊎-elim (λ j. ⊎-elim inl (λ z. inr (z .0, inr (z .1), z .2)) (leaves-all gs (withoutVoice (g .id) m) j)) (λ z. inr (g, inl refl, z)) (stays-filter (g .id) (m .voices) i)
 
   -- ---- a block
   counts : (b : Bool) (vs : List Voice) → In v vs → In (withState (Fading (movedFade (more b) f)) v) (countedIf b vs)
@@ -249,7 +249,7 @@ module _ (v : Voice) (f : Fade) (ph : v .state ≡ Fading f) where
       last : In v (m .voices) → (g : Voice) × In g (silentVoices m) × (v .id .0 ≡ g .id .0) → Next l v f call.clear (step call.clear l)
       last k z =
           let j = in-filter (isSilent (m .shared .graph .nodes)) (m .voices) (z .0) (z .1) in
-          let e : v ≡ z .0 = unique (goneAll-kept IdsOf ids-steady (endedVoices l) l (q .0)) v (z .0) k (j .0) (z .2) in
+          let e : v ≡ z .0 = unique (removals-kept (open-moves ids-preserved) (endedVoices l) (λ u i. tt) l (q .0)) v (z .0) k (j .0) (z .2) in
           inr (silent (sym (silent-first l q v i (unended k)) ∙ ap (isSilent (m .shared .graph .nodes)) e ∙ j .1))
 
       second : In v (m .voices) → Next l v f call.clear (step call.clear l)

@@ -37,7 +37,7 @@ pub mod Rows
 pub mod Ready
 pub mod Voices
 pub mod Since
-pub mod Gone
+pub mod FadeEnds
 pub mod Losses
 pub mod Arrives
 pub mod Ranks

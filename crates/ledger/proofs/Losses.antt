@@ -1,6 +1,6 @@
 -- What the records of a managed spawn hold: "a victim is untracked, faded, or freed if it cannot fade, and recorded"; "else free the
 -- policy's victim among tracked voices of that bus with a cut record". Each voice that was tracked and is not any more has its record, with
--- the clock, the level that it had before anything changed, and a cut mark exactly if it is withoutVoice.
+-- the clock, the level that it had before anything changed, and a cut mark exactly if it is removed.
 use Prim.Native.Nat.{ℕ, suc, _+_, _≤_, _<_}
 use native.Mathlib.Omega.{arith}
 use native.Mathlib.Decide.{ℕ-discrete}
@@ -52,7 +52,7 @@ use Rattle.ledger.proofs.StealLog.{held-pushed, held-new, held-marked, 
 use Rattle.ledger.proofs.Nodes.{MineOf, OwnNodes, mine-cut, mine-steal, node-stays}
 use Rattle.ledger.proofs.Managed.{begin-id}
 use Rattle.ledger.proofs.Records.{RecordedOf, tracked-state, fade-inj, recorded-cut, recorded-steal, steal-small, begun, begin-other}
-use Rattle.ledger.proofs.Marks.{tallyOf, tally-cut, tally-steal, gone-self}
+use Rattle.ledger.proofs.Marks.{tallyOf, tally-cut, tally-steal, removed-self}
 
 -- ---- laws of these
 pub records-same : (r r' : Voice → StealRecord) (b b' : StealLog) (k : ℕ) (vs : List Voice) → ((v : Voice) → In v vs → r v ≡ r' v) → ((j : ℕ) → k ≤ j → j < k + length vs → heldRecord b' j ≡ heldRecord b j)
@@ -177,8 +177,8 @@ module _ (bus : NodeId) (rank : ℕ) (l₀ : Ledger) (r₀ : RecordedOf l₀) (q
   loss-other : (w : VoiceId) (vs : List Voice) (g : Voice) → (g .id .0 ≡ w .0 → ⊥) → lossOf (l₀ .shared) vs g ≡ lossOf (l₀ .shared) (filter (λ x. not (isVoice w x)) vs) g
   loss-other w vs g off = ap (λ x. recordOf (l₀ .shared .clock) (voiceLevel (l₀ .shared) g) (not (isSome x))) (sym (other-found w vs g off))
 
-  loss-gone : (vs : List Voice) (g : Voice) → find (isVoice (g .id)) vs ≡ none → recordOf (l₀ .shared .clock) (voiceLevel (l₀ .shared) g) true ≡ lossOf (l₀ .shared) vs g
-  loss-gone vs g e = ap (λ x. recordOf (l₀ .shared .clock) (voiceLevel (l₀ .shared) g) (not (isSome x))) (sym e)
+  loss-removed : (vs : List Voice) (g : Voice) → find (isVoice (g .id)) vs ≡ none → recordOf (l₀ .shared .clock) (voiceLevel (l₀ .shared) g) true ≡ lossOf (l₀ .shared) vs g
+  loss-removed vs g e = ap (λ x. recordOf (l₀ .shared .clock) (voiceLevel (l₀ .shared) g) (not (isSome x))) (sym e)
 
   -- at most 64 records are written, so that all are held
   held-still : (z : Ledger) → Losing z → (r : StealRecord) → z .shared .steals .count < 18446744073709551615 → (j : ℕ) → k₀ ≤ j → j < z .shared .steals .count
@@ -254,7 +254,7 @@ module _ (bus : NodeId) (rank : ℕ) (l₀ : Ledger) (r₀ : RecordedOf l₀) (q
         small = steal-small (h .recorded) v i t
 
         what : rec ≡ lossOf (l₀ .shared) rest v
-        what = ap (λ c. recordOf c (voiceLevel (z .shared) v) true) (h .clock) ∙ ap (λ x. recordOf (l₀ .shared .clock) x true) (level-same z h v i) ∙ loss-gone rest v (gone-self (v .id) (z .voices))
+        what = ap (λ c. recordOf c (voiceLevel (z .shared) v) true) (h .clock) ∙ ap (λ x. recordOf (l₀ .shared .clock) x true) (level-same z h v i) ∙ loss-removed rest v (removed-self (v .id) (z .voices))
 
     -- a fade goes, and its record is marked: an older one, or that of the victim of this very spawn
     losing-mark : (f : Fade) → v .state ≡ Fading f → Heads o (h .lost) → Losing (cutOff v (Fading f) z)
@@ -307,11 +307,11 @@ module _ (bus : NodeId) (rank : ℕ) (l₀ : Ledger) (r₀ : RecordedOf l₀) (q
             number = ap (λ (x : Fade). x .number) (fade-inj (sym t ∙ ap (λ (x : Voice). x .state) (s .4)))
 
             absent : find (isVoice (g .id)) rest ≡ none
-            absent = ap (λ n. find (λ (x : Voice). eqb (x .id .0) n) rest) (sym same) ∙ gone-self (v .id) (z .voices)
+            absent = ap (λ n. find (λ (x : Voice). eqb (x .id .0) n) rest) (sym same) ∙ removed-self (v .id) (z .voices)
 
             first : (q : List Voice) × (h .lost ≡ g ∷ q) → Marked (h .lost)
             first q = subst Marked (sym (q .1)) (
-              ap (λ j. heldRecord (marked b j) k₀) number ∙ held-marked b k₀ ∙ ap cutFound (recs .0) ∙ ap found.Record (cut-record (l₀ .shared .clock) (voiceLevel (l₀ .shared) g) _ ∙ loss-gone rest g absent),
+              ap (λ j. heldRecord (marked b j) k₀) number ∙ held-marked b k₀ ∙ ap cutFound (recs .0) ∙ ap found.Record (cut-record (l₀ .shared .clock) (voiceLevel (l₀ .shared) g) _ ∙ loss-removed rest g absent),
               records-same (lossOf (l₀ .shared) (z .voices)) (lossOf (l₀ .shared) rest) b (marked b (f .number)) (suc k₀) (q .0)
                   (λ u j. loss-other (v .id) (z .voices) u (λ e. ap' .0 u j (e ∙ same)))
                   (λ j lo hi. held-unmarked b (f .number) j (λ e. omega (arith, e, number, lo))) (recs .1),
@@ -482,8 +482,8 @@ module _ (bus : NodeId) (rank : ℕ) (l₀ : Ledger) (r₀ : RecordedOf l₀) (q
               let g : s .0 ≡ v = unique (r₀ .ids) (s .0) v (h .were (s .0) j .0) (h .were v i .0) (ap (λ (x : Voice). x .id .0) (sym (s .4)) ∙ same) in
               (s .4 ∙ ap (withState (Fading (fadeOf (l₀ .shared)))) g, (s .1, ap (λ x. portHeld x l₀) (sym g) ∙ s .3))
 
-  losing-lands : Least → (z : Ledger) (h : Losing z) → Heads o (h .lost) → (spawn : Spawn) → spawn .rank ≡ rank → (s : VoiceState) (p : ℕ) → LossesOf bus rank o l₀ (instantiate spawn s p z .ledger)
-  losing-lands least z h heads spawn same-rank s p =
+  losing-instantiates : Least → (z : Ledger) (h : Losing z) → Heads o (h .lost) → (spawn : Spawn) → spawn .rank ≡ rank → (s : VoiceState) (p : ℕ) → LossesOf bus rank o l₀ (instantiate spawn s p z .ledger)
+  losing-instantiates least z h heads spawn same-rank s p =
       let e = losing-ends least z h heads in
       record {
         lost = e .lost;
@@ -511,10 +511,10 @@ module _ (bus : NodeId) (rank : ℕ) (l₀ : Ledger) (r₀ : RecordedOf l₀) (q
       same : (v : Voice) → In v (l₀ .voices) → find (isVoice (v .id)) (z .voices ++ (n ∷ [])) ≡ find (isVoice (v .id)) (z .voices)
       same v i = find-snoc-off (isVoice (v .id)) (z .voices) n (ne-eqb (n .id .0) (v .id .0) (newer v i))
 
-  losing-settle : Least → (spawn : Spawn) → spawn .bus ≡ bus → spawn .rank ≡ rank → (z : Ledger) (h : Losing z) → Heads o (h .lost) → LossesOf bus rank o l₀ (placeWithinBudget spawn z .ledger)
-  losing-settle least spawn on high z h heads =
+  losing-budgeted : Least → (spawn : Spawn) → spawn .bus ≡ bus → spawn .rank ≡ rank → (z : Ledger) (h : Losing z) → Heads o (h .lost) → LossesOf bus rank o l₀ (placeWithinBudget spawn z .ledger)
+  losing-budgeted least spawn on high z h heads =
       place-kept spawn (stateUnder (z .shared .config .budget)) (λ n z. (h : Losing z) × Heads o (h .lost)) (λ r. LossesOf bus rank o l₀ (r .ledger))
-      (λ n z p e q. losing-lands least z (q .0) (q .1) spawn high _ p) (λ z e q. losing-ends least z (q .0) (q .1)) (λ n z e f q. losing-ends least z (q .0) (q .1))
+      (λ n z p e q. losing-instantiates least z (q .0) (q .1) spawn high _ p) (λ z e q. losing-ends least z (q .0) (q .1)) (λ n z e f q. losing-ends least z (q .0) (q .1))
       (λ n z v e f q. let r = nextOut-in (q .0 .recorded .ids) (z .shared) bus rank v (ap₂ (λ b k. nextOut (z .shared) b k (z .voices)) (sym on) (sym high) ∙ f) in losing-cut z (q .0) (q .1) v (r .0) (r .1) (r .2) (v .state) refl)
       (tries (z .shared .config .budget) (z .voices)) z (h, heads)
 
@@ -534,13 +534,13 @@ losses x l r q = go (spawnRefusal (l .shared) (l .voices) (x .def) (x .bus) (x .
     on-bus PerGroup b u h = h
 
     admits : length (l .voices) < 64 → (a : Admission) → admissionOn bus (x .rank) l ≡ a → LossesOf bus (x .rank) (victimIn none a (l .voices)) l (admitted a x l .ledger)
-    admits few admission.Admit e = losing-settle bus (x .rank) l r q few none (λ v u n. absurd (none-some n)) x refl refl l (losing-start bus (x .rank) l r q few none) tt
+    admits few admission.Admit e = losing-budgeted bus (x .rank) l r q few none (λ v u n. absurd (none-some n)) x refl refl l (losing-start bus (x .rank) l r q few none) tt
     admits few admission.Reject e = nothing-lost bus (x .rank) l
     admits few (admission.Steal p w) e =
         let s = steal-voice (r .ids) (l .shared) (counted (l .shared .config .scope) bus) (l .shared .config .budget) (l .shared .config .policy) (x .rank) p w e in
         let z = losing-steal bus (x .rank) l r q few (some (s .0)) (s .0) (s .1) (tracked-state (s .0 .state) (and-left (isTracked (s .0 .state)) _ (s .2))) refl (s .4) (λ u i t. s .5 u i (on-bus (l .shared .config .scope) bus u t)) in
         subst (λ o. LossesOf bus (x .rank) o l (stealThen o x l .ledger)) (sym (s .3))
-        (losing-settle bus (x .rank) l r q few (some (s .0)) (λ v u n i t. subst (λ (y : Voice). y .rank ≤ u .rank) (some-inj n) (s .5 u i t)) x refl refl (stealVoice (s .0) l) (z .0) (z .1))
+        (losing-budgeted bus (x .rank) l r q few (some (s .0)) (λ v u n i t. subst (λ (y : Voice). y .rank ≤ u .rank) (some-inj n) (s .5 u i t)) x refl refl (stealVoice (s .0) l) (z .0) (z .1))
 
     go : (o : Option Refusal) → spawnRefusal (l .shared) (l .voices) (x .def) bus (x .rank) ≡ o
         → LossesOf bus (x .rank) (victimIn o (admissionOn bus (x .rank) l) (l .voices)) l (unless o l (admitted (admissionOn bus (x .rank) l) x l) .ledger)

@@ -1,4 +1,4 @@
--- A managed spawn taken apart: rejected, admitted, or let in after a steal; and that voices filter distinct ids through every list.
+-- A managed spawn taken apart: rejected, admitted, or let in after a steal; and that voices keep distinct ids through every list.
 use Prim.Native.Nat.{ℕ, _≤_}
 use mathlib.Core.Path.{_≡_, refl, sym, _∙_, subst}
 use mathlib.Core.List.{List, [], _∷_}
@@ -20,9 +20,9 @@ use Rattle.model.specs.Call.{Call}
 use Rattle.ledger.specs.Ledger.{Ledger, newLedger, SpawnResult, portHeld, cutOff, stolen, stealVoice, placeWithinBudget, stealThen, refused, admitted, admissionOn}
 use Rattle.ledger.specs.Render.{oneMore}
 use Rattle.ledger.specs.Call.{step, run}
-use Rattle.ledger.proofs.Ids.{Ids, ids-keep, ids-map, ids-snoc}
+use Rattle.ledger.proofs.Ids.{Ids, ids-filter, ids-map, ids-snoc}
 use Rattle.ledger.proofs.Victim.{steal-voice}
-use Rattle.ledger.proofs.Preserved.{place-kept, Preserves, calm, kept-step}
+use Rattle.ledger.proofs.Preserved.{place-kept, Preserves, voices-only, kept-step}
 
 abbrev pub IdsOf : Ledger → Type 0
 IdsOf l = Ids (l .shared .spawned) (l .voices)
@@ -60,25 +60,25 @@ pub ids-steal : (v : Voice) (l : Ledger) → IdsOf l → IdsOf (stealVoice v l)
 ids-steal v l u = go (portHeld v l)
   where
     go : (o : Option ℕ) → IdsOf (stolen v o l)
-    go none = ids-keep (λ x. not (isVoice (v .id) x)) u
+    go none = ids-filter (λ x. not (isVoice (v .id) x)) u
     go (some p) = ids-map (beginFade (v .id) (fadeOf (l .shared))) (begin-id (v .id) (fadeOf (l .shared))) u
 
 pub ids-cut : (v : Voice) (s : VoiceState) (l : Ledger) → IdsOf l → IdsOf (cutOff v s l)
-ids-cut v s l u = ids-keep (λ x. not (isVoice (v .id) x)) u
+ids-cut v s l u = ids-filter (λ x. not (isVoice (v .id) x)) u
 
-pub ids-settle : (spawn : Spawn) (l : Ledger) → IdsOf l → IdsOf (placeWithinBudget spawn l .ledger)
-ids-settle spawn l u =
+pub ids-budgeted : (spawn : Spawn) (l : Ledger) → IdsOf l → IdsOf (placeWithinBudget spawn l .ledger)
+ids-budgeted spawn l u =
     place-kept spawn (stateUnder (l .shared .config .budget)) (λ n l. IdsOf l) (λ r. IdsOf (r .ledger))
     (λ n l p e u. ids-snoc (newVoice spawn _ p (l .shared)) refl u) (λ l e u. u) (λ n l e f u. u) (λ n l v e f u. ids-cut v (v .state) l u)
     (tries (l .shared .config .budget) (l .voices)) l u
 
-pub ids-steady : Preserves IdsOf
-ids-steady =
-    calm (λ c b n vs. Ids n vs) (λ c b n vs w u. ids-keep (λ x. not (isVoice w x)) u) (λ c b n vs u. ids-map (moved oneMore) (λ v. refl) u) (λ c b n vs v e s h k u. ids-snoc v e u)
+pub ids-preserved : Preserves IdsOf
+ids-preserved =
+    voices-only (λ c b n vs. Ids n vs) (λ c b n vs w u. ids-filter (λ x. not (isVoice w x)) u) (λ c b n vs u. ids-map (moved oneMore) (λ v. refl) u) (λ c b n vs v e s h k u. ids-snoc v e u)
 
 pub ids-step : (x : Call) (l : Ledger) → IdsOf l → IdsOf (step x l .ledger)
-ids-step = kept-step IdsOf ids-steady (λ l spawn e u.
-    managed-kept spawn (λ r. IdsOf (r .ledger)) l u (λ h. u) (λ h. ids-settle spawn l u) (λ p w h v i t. ids-settle spawn (stealVoice v l) (ids-steal v l u)))
+ids-step = kept-step IdsOf ids-preserved (λ l spawn e u.
+    managed-kept spawn (λ r. IdsOf (r .ledger)) l u (λ h. u) (λ h. ids-budgeted spawn l u) (λ p w h v i t. ids-budgeted spawn (stealVoice v l) (ids-steal v l u)))
 
 pub ids-run : (xs : List Call) (l : Ledger) → IdsOf l → IdsOf (run xs l .ledger)
 ids-run [] l u = u
@@ -88,8 +88,8 @@ pub ids-new : (c : Config) → IdsOf (newLedger c)
 ids-new c = record { rising = tt; below = λ v i. absurd i }
 
 -- ---- what making fixed stays
-pub config-settle : (c : Config) (spawn : Spawn) (l : Ledger) → l .shared .config ≡ c → placeWithinBudget spawn l .ledger .shared .config ≡ c
-config-settle c spawn l e =
+pub config-budgeted : (c : Config) (spawn : Spawn) (l : Ledger) → l .shared .config ≡ c → placeWithinBudget spawn l .ledger .shared .config ≡ c
+config-budgeted c spawn l e =
     place-kept spawn (stateUnder (l .shared .config .budget)) (λ n l. l .shared .config ≡ c) (λ r. r .ledger .shared .config ≡ c) (λ n l p h e. e) (λ l h e. e) (λ n l h f e. e) (λ n l v h f e. e)
     (tries (l .shared .config .budget) (l .voices)) l e
 
@@ -103,11 +103,11 @@ config-steal v l = go (portHeld v l)
 pub config-step : (x : Call) (l : Ledger) → IdsOf l → step x l .ledger .shared .config ≡ l .shared .config
 config-step x l u =
     kept-step (λ m. IdsOf m × (m .shared .config ≡ l .shared .config))
-    (calm (λ c b n vs. Ids n vs × (c ≡ l .shared .config)) (λ c b n vs w u. (ids-keep (λ x. not (isVoice w x)) (u .0), u .1)) (λ c b n vs u. (ids-map (moved oneMore) (λ v. refl) (u .0), u .1)) (λ c b n vs v e s h k u. (ids-snoc v e (u .0), u .1)))
+    (voices-only (λ c b n vs. Ids n vs × (c ≡ l .shared .config)) (λ c b n vs w u. (ids-filter (λ x. not (isVoice w x)) (u .0), u .1)) (λ c b n vs u. (ids-map (moved oneMore) (λ v. refl) (u .0), u .1)) (λ c b n vs v e s h k u. (ids-snoc v e (u .0), u .1)))
     (λ m spawn e u.
     managed-kept spawn (λ r. IdsOf (r .ledger) × (r .ledger .shared .config ≡ l .shared .config)) m (u .0) (λ h. u)
-    (λ h. (ids-settle spawn m (u .0), config-settle (l .shared .config) spawn m (u .1)))
-    (λ p w h v i t. (ids-settle spawn (stealVoice v m) (ids-steal v m (u .0)), config-settle (l .shared .config) spawn (stealVoice v m) (config-steal v m ∙ u .1))))
+    (λ h. (ids-budgeted spawn m (u .0), config-budgeted (l .shared .config) spawn m (u .1)))
+    (λ p w h v i t. (ids-budgeted spawn (stealVoice v m) (ids-steal v m (u .0)), config-budgeted (l .shared .config) spawn (stealVoice v m) (config-steal v m ∙ u .1))))
     x l (u, refl) .1
 
 pub config-run : (xs : List Call) (l : Ledger) → IdsOf l → run xs l .ledger .shared .config ≡ l .shared .config

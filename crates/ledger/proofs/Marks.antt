@@ -41,17 +41,17 @@ use Rattle.ledger.specs.Ledger as ledger
 use Rattle.ledger.specs.Call.{step}
 use Rattle.ledger.specs.Claim.{mayGo, heldRecord, cutFound, Newest, isManaged, tracks, Reclaimed, Fate, same, older, struck, isLet}
 use Rattle.ledger.proofs.Allowed.{spawn-allowed}
-use Rattle.ledger.proofs.Ids.{Ids, one-gone, one-changed}
+use Rattle.ledger.proofs.Ids.{Ids, one-removed, one-changed}
 use Rattle.ledger.proofs.Victim.{nextOut-in}
 use Rattle.ledger.proofs.StealLog.{count-pushed, held-pushed, held-marked, held-unmarked, cut-twice}
-use Rattle.ledger.proofs.Preserved.{place-kept, calm, steady-step}
+use Rattle.ledger.proofs.Preserved.{place-kept, voices-only, unmanaged-step}
 use Rattle.ledger.proofs.Managed.{managed-kept, config-steal}
 use Rattle.ledger.proofs.Records.{RecordedOf, tracked-state, fade-inj, steal-small, recorded-cut, recorded-steal, spawned-steal, begun, begin-other, begin-self}
 
 -- ---- every call but a managed spawn
-pub book-stays : (x : Call) → isManaged x ≡ false → (l : Ledger) → step x l .ledger .shared .steals ≡ l .shared .steals
-book-stays x h l =
-    steady-step (λ m. m .shared .steals ≡ l .shared .steals) (calm (λ c b n vs. b ≡ l .shared .steals) (λ c b n vs w e. e) (λ c b n vs e. e) (λ c b n vs v q s k j e. e)) x h l refl
+pub log-stays : (x : Call) → isManaged x ≡ false → (l : Ledger) → step x l .ledger .shared .steals ≡ l .shared .steals
+log-stays x h l =
+    unmanaged-step (λ m. m .shared .steals ≡ l .shared .steals) (voices-only (λ c b n vs. b ≡ l .shared .steals) (λ c b n vs w e. e) (λ c b n vs e. e) (λ c b n vs v q s k j e. e)) x h l refl
 
 module _ {b₀ : StealLog} {R : Type 0} {k : ℕ} where
   pub fate-voices : {b : StealLog} {S : Type 0} → (R → S) → Fate b₀ b R k → Fate b₀ b S k
@@ -80,11 +80,11 @@ module _ {b₀ : StealLog} {R : Type 0} {k : ℕ} where
   fate-marked b r (older q m) = older (held-marked b k ∙ ap cutFound q) m
   fate-marked b r (struck q x) = struck (held-marked b k ∙ ap cutFound q ∙ cut-twice (heldRecord b₀ k)) r
 
-gone-keep : (w : VoiceId) (t : Voice → Bool) (vs : List Voice) → find (isVoice w) vs ≡ none → find (isVoice w) (filter t vs) ≡ none
-gone-keep w t vs h = none-find (isVoice w) (filter t vs) (λ x i. find-none (isVoice w) vs x h (in-filter t vs x i .0))
+removed-filter : (w : VoiceId) (t : Voice → Bool) (vs : List Voice) → find (isVoice w) vs ≡ none → find (isVoice w) (filter t vs) ≡ none
+removed-filter w t vs h = none-find (isVoice w) (filter t vs) (λ x i. find-none (isVoice w) vs x h (in-filter t vs x i .0))
 
-pub gone-self : (w : VoiceId) (vs : List Voice) → find (isVoice w) (filter (λ x. not (isVoice w x)) vs) ≡ none
-gone-self w vs = none-find (isVoice w) (filter (λ x. not (isVoice w x)) vs) (λ x i. not-true (isVoice w x) (in-filter (λ x. not (isVoice w x)) vs x i .1))
+pub removed-self : (w : VoiceId) (vs : List Voice) → find (isVoice w) (filter (λ x. not (isVoice w x)) vs) ≡ none
+removed-self w vs = none-find (isVoice w) (filter (λ x. not (isVoice w x)) vs) (λ x i. not-true (isVoice w x) (in-filter (λ x. not (isVoice w x)) vs x i .1))
 
 module _ (spawn : Spawn) (l₀ : Ledger) (d₀ : Ids (l₀ .shared .spawned) (l₀ .voices)) where
   -- what holds during the port search, after l₀
@@ -96,19 +96,19 @@ module _ (spawn : Spawn) (l₀ : Ledger) (d₀ : Ids (l₀ .shared .spawned) (l�
     from : (v : Voice) → In v (m .voices) → (f : Fade) → v .state ≡ Fading f → In v (l₀ .voices) ⊎ (f .number ≡ l₀ .shared .steals .count)
     fate : (k : ℕ) → k < l₀ .shared .steals .count → Fate (l₀ .shared .steals) (m .shared .steals) (Reclaimed (l₀ .voices) (m .voices) (spawn .bus) k) k
 
-  reclaimed-keep : (t : Voice → Bool) (vs : List Voice) (k : ℕ) → Reclaimed (l₀ .voices) vs (spawn .bus) k → Reclaimed (l₀ .voices) (filter t vs) (spawn .bus) k
-  reclaimed-keep t vs k r =
-      record { voice = r .voice; fade = r .fade; member = r .member; state = r .state; number = r .number; on = r .on; withoutVoice = gone-keep (r .voice .id) t vs (r .withoutVoice) }
+  reclaimed-filter : (t : Voice → Bool) (vs : List Voice) (k : ℕ) → Reclaimed (l₀ .voices) vs (spawn .bus) k → Reclaimed (l₀ .voices) (filter t vs) (spawn .bus) k
+  reclaimed-filter t vs k r =
+      record { voice = r .voice; fade = r .fade; member = r .member; state = r .state; number = r .number; on = r .on; withoutVoice = removed-filter (r .voice .id) t vs (r .withoutVoice) }
 
   fates-cut : (m : Ledger) → During m → (v : Voice) → In v (m .voices) → isOn (spawn .bus) v ≡ true → (s : VoiceState) → v .state ≡ s → (k : ℕ) → k < l₀ .shared .steals .count
       → Fate (l₀ .shared .steals) (cutOff v s m .shared .steals) (Reclaimed (l₀ .voices) (cutOff v s m .voices) (spawn .bus) k) k
   fates-cut m q v i o Tracked e k lt =
       fate-pushed (m .shared .steals) (recordOf (m .shared .clock) (voiceLevel (m .shared) v) true) (steal-small (q .recorded) v i e) (q .recorded .newest) (let g = q .grown in omega arith)
-      (fate-voices (reclaimed-keep (λ x. not (isVoice (v .id) x)) (m .voices) k) (q .fate k lt))
+      (fate-voices (reclaimed-filter (λ x. not (isVoice (v .id) x)) (m .voices) k) (q .fate k lt))
   fates-cut m q v i o (Fading f) e k lt = go (ℕ-discrete k (f .number))
     where
       old : Fate (l₀ .shared .steals) (m .shared .steals) (Reclaimed (l₀ .voices) (filter (λ x. not (isVoice (v .id) x)) (m .voices)) (spawn .bus) k) k
-      old = fate-voices (reclaimed-keep (λ x. not (isVoice (v .id) x)) (m .voices) k) (q .fate k lt)
+      old = fate-voices (reclaimed-filter (λ x. not (isVoice (v .id) x)) (m .voices) k) (q .fate k lt)
 
       this : k ≡ f .number → Reclaimed (l₀ .voices) (filter (λ x. not (isVoice (v .id) x)) (m .voices)) (spawn .bus) k
       this h =
@@ -119,13 +119,13 @@ module _ (spawn : Spawn) (l₀ : Ledger) (d₀ : Ids (l₀ .shared .spawned) (l�
             state = e;
             number = sym h;
             on = o;
-            withoutVoice = gone-self (v .id) (m .voices);
+            withoutVoice = removed-self (v .id) (m .voices);
           }
 
       go : Dec (k ≡ f .number) → Fate (l₀ .shared .steals) (marked (m .shared .steals) (f .number)) (Reclaimed (l₀ .voices) (filter (λ x. not (isVoice (v .id) x)) (m .voices)) (spawn .bus) k) k
       go (yes h) = subst (λ j. Fate (l₀ .shared .steals) (marked (m .shared .steals) j) (Reclaimed (l₀ .voices) (filter (λ x. not (isVoice (v .id) x)) (m .voices)) (spawn .bus) k) k) h (fate-marked (m .shared .steals) (this h) old)
       go (no h) = fate-unmarked (m .shared .steals) (f .number) h old
-  fates-cut m q v i o Loose e k lt = fate-voices (reclaimed-keep (λ x. not (isVoice (v .id) x)) (m .voices) k) (q .fate k lt)
+  fates-cut m q v i o Loose e k lt = fate-voices (reclaimed-filter (λ x. not (isVoice (v .id) x)) (m .voices) k) (q .fate k lt)
 
   grown-cut : (m : Ledger) → During m → (v : Voice) → In v (m .voices) → (s : VoiceState) → v .state ≡ s → l₀ .shared .steals .count ≤ cutOff v s m .shared .steals .count
   grown-cut m q v i Tracked e =
@@ -147,8 +147,8 @@ module _ (spawn : Spawn) (l₀ : Ledger) (d₀ : Ids (l₀ .shared .spawned) (l�
       }
 
   -- the newVoice is none of those that went
-  reclaimed-land : (m : Ledger) → During m → (n : Voice) → n .id .0 ≡ m .shared .spawned + 1 → (k : ℕ) → Reclaimed (l₀ .voices) (m .voices) (spawn .bus) k → Reclaimed (l₀ .voices) (m .voices ++ (n ∷ [])) (spawn .bus) k
-  reclaimed-land m q n e k r =
+  reclaimed-instantiate : (m : Ledger) → During m → (n : Voice) → n .id .0 ≡ m .shared .spawned + 1 → (k : ℕ) → Reclaimed (l₀ .voices) (m .voices) (spawn .bus) k → Reclaimed (l₀ .voices) (m .voices ++ (n ∷ [])) (spawn .bus) k
+  reclaimed-instantiate m q n e k r =
       record {
         voice = r .voice;
         fade = r .fade;
@@ -159,12 +159,12 @@ module _ (spawn : Spawn) (l₀ : Ledger) (d₀ : Ids (l₀ .shared .spawned) (l�
         withoutVoice = find-snoc-off (isVoice (r .voice .id)) (m .voices) n (ne-eqb (n .id .0) (r .voice .id .0) (λ z. omega (arith, z, e, q .ids, d₀ .below (r .voice) (r .member)))) ∙ r .withoutVoice;
       }
 
-  fates-settle : (m : Ledger) → During m → (k : ℕ) → k < l₀ .shared .steals .count
+  fates-budgeted : (m : Ledger) → During m → (k : ℕ) → k < l₀ .shared .steals .count
       → Fate (l₀ .shared .steals) (placeWithinBudget spawn m .ledger .shared .steals) (Reclaimed (l₀ .voices) (placeWithinBudget spawn m .ledger .voices) (spawn .bus) k) k
-  fates-settle m q k lt =
+  fates-budgeted m q k lt =
       place-kept spawn (stateUnder (m .shared .config .budget)) (λ n m. During m)
       (λ r. Fate (l₀ .shared .steals) (r .ledger .shared .steals) (Reclaimed (l₀ .voices) (r .ledger .voices) (spawn .bus) k) k)
-      (λ n m p e q. fate-voices (reclaimed-land m q (newVoice spawn _ p (m .shared)) refl k) (q .fate k lt)) (λ m e q. q .fate k lt) (λ n m e f q. q .fate k lt)
+      (λ n m p e q. fate-voices (reclaimed-instantiate m q (newVoice spawn _ p (m .shared)) refl k) (q .fate k lt)) (λ m e q. q .fate k lt) (λ n m e f q. q .fate k lt)
       (λ n m v e f q. let r = nextOut-in (q .recorded .ids) (m .shared) (spawn .bus) (spawn .rank) v f in during-cut m q v (r .0) (and-right (mayGo (spawn .rank) v) (isOn (spawn .bus) v) (r .1)) (v .state) refl)
       (tries (m .shared .config .budget) (m .voices)) m q
 
@@ -216,22 +216,22 @@ marks spawn l r k lt = go (spawnRefusal (l .shared) (l .voices) (spawn .def) (sp
     go (some n) e = same refl
     go none e =
         let h : l .shared .spawned < 18446744073709551615 = spawn-allowed (l .shared) (l .voices) (spawn .def) (spawn .bus) (spawn .rank) e .ids-left in
-        managed-kept spawn R l (r .ids) (λ a. same refl) (λ a. fates-settle spawn l (r .ids) l (during-new spawn l (r .ids) r h) k lt)
-        (λ p w a v i t. fates-settle spawn l (r .ids) (stealVoice v l) (during-steal spawn l (r .ids) r h v i (and-left (tracks v) _ t)) k lt)
+        managed-kept spawn R l (r .ids) (λ a. same refl) (λ a. fates-budgeted spawn l (r .ids) l (during-new spawn l (r .ids) r h) k lt)
+        (λ p w a v i t. fates-budgeted spawn l (r .ids) (stealVoice v l) (during-steal spawn l (r .ids) r h v i (and-left (tracks v) _ t)) k lt)
 
 abbrev pub tallyOf : Ledger → ℕ
 tallyOf l = l .shared .steals .count + count tracks (l .voices)
 
 pub tally-cut : (v : Voice) (s : VoiceState) (m : Ledger) → RecordedOf m → In v (m .voices) → v .state ≡ s → tallyOf (cutOff v s m) ≡ tallyOf m
 tally-cut v Tracked m r i e =
-    let one = one-gone (r .ids) tracks v i ∙ ap (λ s. more (isTracked s) (count tracks (filter (λ x. not (isVoice (v .id) x)) (m .voices)))) e in
+    let one = one-removed (r .ids) tracks v i ∙ ap (λ s. more (isTracked s) (count tracks (filter (λ x. not (isVoice (v .id) x)) (m .voices)))) e in
     let c = count-pushed (m .shared .steals) (recordOf (m .shared .clock) (voiceLevel (m .shared) v) true) (steal-small r v i e) in
     omega arith
 tally-cut v (Fading f) m r i e =
-    let one = one-gone (r .ids) tracks v i ∙ ap (λ s. more (isTracked s) (count tracks (filter (λ x. not (isVoice (v .id) x)) (m .voices)))) e in
+    let one = one-removed (r .ids) tracks v i ∙ ap (λ s. more (isTracked s) (count tracks (filter (λ x. not (isVoice (v .id) x)) (m .voices)))) e in
     omega arith
 tally-cut v Loose m r i e =
-    let one = one-gone (r .ids) tracks v i ∙ ap (λ s. more (isTracked s) (count tracks (filter (λ x. not (isVoice (v .id) x)) (m .voices)))) e in
+    let one = one-removed (r .ids) tracks v i ∙ ap (λ s. more (isTracked s) (count tracks (filter (λ x. not (isVoice (v .id) x)) (m .voices)))) e in
     omega arith
 
 pub tally-steal : (v : Voice) (m : Ledger) → RecordedOf m → In v (m .voices) → isTracked (v .state) ≡ true → tallyOf (stealVoice v m) ≡ tallyOf m
@@ -252,15 +252,15 @@ module _ (spawn : Spawn) (n : ℕ) where
   abbrev Tallies : ℕ → SpawnResult → Type 0
   Tallies t r = tallyOf (r .ledger) ≡ more (isLet (r .answer)) t
 
-  tally-settle : (m : Ledger) → m .shared .config .budget ≡ AtMost n → RecordedOf m → Tallies (tallyOf m) (placeWithinBudget spawn m)
-  tally-settle m b r =
+  tally-budgeted : (m : Ledger) → m .shared .config .budget ≡ AtMost n → RecordedOf m → Tallies (tallyOf m) (placeWithinBudget spawn m)
+  tally-budgeted m b r =
       place-kept spawn (stateUnder (m .shared .config .budget)) (λ k z. RecordedOf z × (tallyOf z ≡ tallyOf m)) (Tallies (tallyOf m))
-      (λ k z p e q. lands z p (q .1)) (λ z e q. q .1) (λ k z e f q. q .1)
+      (λ k z p e q. instantiates z p (q .1)) (λ z e q. q .1) (λ k z e f q. q .1)
       (λ k z v e f q. let i = nextOut-in (q .0 .ids) (z .shared) (spawn .bus) (spawn .rank) v f .0 in (recorded-cut v (v .state) z (q .0) i refl, tally-cut v (v .state) z (q .0) i refl ∙ q .1))
       (tries (m .shared .config .budget) (m .voices)) m (r, refl)
     where
-      lands : (z : Ledger) (p : ℕ) → tallyOf z ≡ tallyOf m → z .shared .steals .count + count tracks (z .voices ++ (newVoice spawn (stateUnder (m .shared .config .budget)) p (z .shared) ∷ [])) ≡ suc (tallyOf m)
-      lands z p e =
+      instantiates : (z : Ledger) (p : ℕ) → tallyOf z ≡ tallyOf m → z .shared .steals .count + count tracks (z .voices ++ (newVoice spawn (stateUnder (m .shared .config .budget)) p (z .shared) ∷ [])) ≡ suc (tallyOf m)
+      instantiates z p e =
           let c = count-snoc tracks (z .voices) (newVoice spawn (stateUnder (m .shared .config .budget)) p (z .shared)) ∙ ap (λ b. more (isTracked (stateUnder b)) (count tracks (z .voices))) b in
           omega arith
 
@@ -274,10 +274,10 @@ tallies spawn n l b r a e = all ∙ ap (λ x. more (isLet x) (tallyOf l)) (spawn
     go : (o : Option Refusal) → Tallies spawn n (tallyOf l) (unless o l (admitted (admissionOn (spawn .bus) (spawn .rank) l) spawn l))
     go (some k) = refl
     go none =
-        managed-kept spawn (Tallies spawn n (tallyOf l)) l (r .ids) (λ h. refl) (λ h. tally-settle spawn n l b r)
+        managed-kept spawn (Tallies spawn n (tallyOf l)) l (r .ids) (λ h. refl) (λ h. tally-budgeted spawn n l b r)
         (λ p w h v i t.
         let z = and-left (tracks v) _ t in
-        tally-settle spawn n (stealVoice v l) (ap (λ (c : Config). c .budget) (config-steal v l) ∙ b) (recorded-steal v l r i z)
+        tally-budgeted spawn n (stealVoice v l) (ap (λ (c : Config). c .budget) (config-steal v l) ∙ b) (recorded-steal v l r i z)
         ∙ ap (more (isLet (placeWithinBudget spawn (stealVoice v l) .answer))) (tally-steal v l r i z))
 
     all : Tallies spawn n (tallyOf l) (ledger.spawnManaged spawn l)

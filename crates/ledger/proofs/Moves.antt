@@ -48,9 +48,9 @@ use Rattle.ledger.specs.Render as ledgerRender
 use Rattle.ledger.proofs.Preserved.{atShared}
 use Rattle.ledger.proofs.EdgeInvariant.{above, voiced-map}
 use Rattle.ledger.proofs.EndInvariant.{moved-end, end-map}
-use Rattle.ledger.proofs.Invariant.{Invariant, sound-gone, sound-replaced}
+use Rattle.ledger.proofs.Invariant.{Invariant, sound-voice-removed, sound-replaced}
 use Rattle.ledger.proofs.Abstraction.{modelOf, reached, stored, find-stored, moved-stored, ended-stored}
-use Rattle.ledger.proofs.Spawns.{InvariantOf, Left, model-gone}
+use Rattle.ledger.proofs.Spawns.{InvariantOf, Left, model-removed}
 
 -- ---- frees, called and timed
 pub free-agrees : (w : VoiceId) (l : Ledger) → InvariantOf l → Left (model.free w (modelOf l)) (ledger.free w l)
@@ -59,14 +59,14 @@ free-agrees w l s =
   where
     go : (o : Option Voice) → find (isVoice w) (l .voices) ≡ o → Left (model.freed (mapO (stored l) o) (modelOf l)) (ledger.freed o l)
     go none e = record { model = refl; sound = s }
-    go (some v) e = record { model = model-gone (v .id) l; sound = sound-gone s (v .id) (above (s .voiced) v (find-in (isVoice w) (l .voices) v e .0)) }
+    go (some v) e = record { model = model-removed (v .id) l; sound = sound-voice-removed s (v .id) (above (s .voiced) v (find-in (isVoice w) (l .voices) v e .0)) }
 
 -- ---- clearing
-gone-all : (gs : List Voice) (l : Ledger) → ((v : Voice) → In v gs → 0 < v .id .0) → InvariantOf l → Left (modelClear.withoutVoices (map (stored l) gs) (modelOf l)) (ledgerClear.withoutVoices gs l)
-gone-all [] l pos s = record { model = refl; sound = s }
-gone-all (v ∷ gs) l pos s =
-    subst (λ m. Left (modelClear.withoutVoices (map (stored l) gs) m) (ledgerClear.withoutVoices gs (ledger.withoutVoice (v .id) l))) (sym (model-gone (v .id) l))
-    (gone-all gs (ledger.withoutVoice (v .id) l) (λ u i. pos u (inr i)) (sound-gone s (v .id) (pos v (inl refl))))
+removed-all : (gs : List Voice) (l : Ledger) → ((v : Voice) → In v gs → 0 < v .id .0) → InvariantOf l → Left (modelClear.withoutVoices (map (stored l) gs) (modelOf l)) (ledgerClear.withoutVoices gs l)
+removed-all [] l pos s = record { model = refl; sound = s }
+removed-all (v ∷ gs) l pos s =
+    subst (λ m. Left (modelClear.withoutVoices (map (stored l) gs) m) (ledgerClear.withoutVoices gs (ledger.withoutVoice (v .id) l))) (sym (model-removed (v .id) l))
+    (removed-all gs (ledger.withoutVoice (v .id) l) (λ u i. pos u (inr i)) (sound-voice-removed s (v .id) (pos v (inl refl))))
 
 kept-above : (t : Voice → Bool) (l : Ledger) → InvariantOf l → (v : Voice) → In v (filter t (l .voices)) → 0 < v .id .0
 kept-above t l s v i = above (s .voiced) v (in-filter t (l .voices) v i .0)
@@ -74,11 +74,11 @@ kept-above t l s v i = above (s .voiced) v (in-filter t (l .voices) v i .0)
 silent-stored : (l : Ledger) → modelClear.silentVoices (modelOf l) ≡ map (stored l) (ledgerClear.silentVoices l)
 silent-stored l = filter-map (stored l) (isSilent (l .shared .graph .nodes)) (isSilent (l .shared .graph .nodes)) (λ v. refl) (l .voices)
 
--- the silent ones, once the ended fades are withoutVoice
+-- the silent ones, once the ended fades are removed
 silent-agrees : (l : Ledger) → InvariantOf l → Left (modelClear.withoutVoices (modelClear.silentVoices (modelOf l)) (modelOf l)) (ledgerClear.withoutVoices (ledgerClear.silentVoices l) l)
 silent-agrees l s =
     subst (λ gs. Left (modelClear.withoutVoices gs (modelOf l)) (ledgerClear.withoutVoices (ledgerClear.silentVoices l) l)) (sym (silent-stored l))
-    (gone-all (ledgerClear.silentVoices l) l (kept-above (isSilent (l .shared .graph .nodes)) l s) s)
+    (removed-all (ledgerClear.silentVoices l) l (kept-above (isSilent (l .shared .graph .nodes)) l s) s)
 
 pub record Clears (c : modelClear.Cleared) (t : ledgerClear.Cleared) : Type 0 where
   pub removed : c .removed ≡ t .removed
@@ -104,7 +104,7 @@ clear-agrees l fits s =
 
     go : (gs : List Voice) → ((v : Voice) → In v gs → 0 < v .id .0) → Clears (cleared (map (stored l) gs) (modelOf l)) (told gs)
     go gs pos =
-        let z = gone-all gs l pos s in
+        let z = removed-all gs l pos s in
         let faded = ledgerClear.withoutVoices gs l in
         let y = silent-agrees faded (z .sound) in
         subst (λ m. Clears (record { removed = length (map (stored l) gs) + length (modelClear.silentVoices m); model = modelClear.withoutVoices (modelClear.silentVoices m) m }) (told gs)) (sym (z .model))
@@ -115,52 +115,52 @@ clear-agrees l fits s =
         })
 
 -- ---- what changes the shared alone
-abbrev pub AtDesk : Ledger → SharedState → Type 0
-AtDesk l d = Left (record { shared = d; voices = map (stored l) (l .voices) }) (atShared l d)
+abbrev pub SharedLeft : Ledger → SharedState → Type 0
+SharedLeft l d = Left (record { shared = d; voices = map (stored l) (l .voices) }) (atShared l d)
 
 module _ (l : Ledger) (s : InvariantOf l) where
-  pub same-desk : AtDesk l (l .shared)
-  same-desk = record { model = refl; sound = s }
+  pub same-shared : SharedLeft l (l .shared)
+  same-shared = record { model = refl; sound = s }
 
-  replaced-desk : (y x : Node) (k : NodeId) → nodeAt (l .shared .graph .nodes) k ≡ some x → y .id .0 ≡ x .id .0 → y .owner .0 ≡ x .owner .0 → y .ports ≡ x .ports → AtDesk l (withNode y (l .shared))
-  replaced-desk y x k e i o p = record { model = refl; sound = sound-replaced s y x k e i o p }
+  replaced-shared : (y x : Node) (k : NodeId) → nodeAt (l .shared .graph .nodes) k ≡ some x → y .id .0 ≡ x .id .0 → y .owner .0 ≡ x .owner .0 → y .ports ≡ x .ports → SharedLeft l (withNode y (l .shared))
+  replaced-shared y x k e i o p = record { model = refl; sound = sound-replaced s y x k e i o p }
 
   -- a value or a glide
-  order-node : (x : LastOrder) (k : NodeId) → AtDesk l (orderNode (nodeAt (l .shared .graph .nodes) k) x (l .shared) .shared)
+  order-node : (x : LastOrder) (k : NodeId) → SharedLeft l (orderNode (nodeAt (l .shared .graph .nodes) k) x (l .shared) .shared)
   order-node x k = go (nodeAt (l .shared .graph .nodes) k) refl
     where
       at : (n : Node) → nodeAt (l .shared .graph .nodes) k ≡ some n → (b : Bool)
-          → AtDesk l (cond b (record { outcome = Applied; shared = withNode (withLast x n) (l .shared) }) (stays NotTaken (l .shared)) .shared)
-      at n e true = replaced-desk (withLast x n) n k e refl refl refl
-      at n e false = same-desk
+          → SharedLeft l (cond b (record { outcome = Applied; shared = withNode (withLast x n) (l .shared) }) (stays NotTaken (l .shared)) .shared)
+      at n e true = replaced-shared (withLast x n) n k e refl refl refl
+      at n e false = same-shared
 
-      go : (o : Option Node) → nodeAt (l .shared .graph .nodes) k ≡ o → AtDesk l (orderNode o x (l .shared) .shared)
-      go none e = same-desk
+      go : (o : Option Node) → nodeAt (l .shared .graph .nodes) k ≡ o → SharedLeft l (orderNode o x (l .shared) .shared)
+      go none e = same-shared
       go (some n) e = at n e (takes x n)
 
-  order-param : (o : Option ℕ) (v : Voice) (x : LastOrder) → AtDesk l (orderParam o v x (l .shared) .shared)
-  order-param none v x = same-desk
+  order-param : (o : Option ℕ) (v : Voice) (x : LastOrder) → SharedLeft l (orderParam o v x (l .shared) .shared)
+  order-param none v x = same-shared
   order-param (some i) v x = order-node x (id (v .first .0 + i))
 
-  order-voice : (o : Option Voice) (name : Name) (x : LastOrder) → AtDesk l (orderVoice o name x (l .shared) .shared)
-  order-voice none name x = same-desk
+  order-voice : (o : Option Voice) (name : Name) (x : LastOrder) → SharedLeft l (orderVoice o name x (l .shared) .shared)
+  order-voice none name x = same-shared
   order-voice (some v) name x = order-param (paramNode (paramRows (v .params)) name) v x
 
-  pub order-desk : (w : VoiceId) (name : Name) (x : LastOrder) → AtDesk l (order w name x (l .voices) (l .shared) .shared)
-  order-desk w name x = order-voice (find (isVoice w) (l .voices)) name x
+  pub order-shared : (w : VoiceId) (name : Name) (x : LastOrder) → SharedLeft l (order w name x (l .voices) (l .shared) .shared)
+  order-shared w name x = order-voice (find (isVoice w) (l .voices)) name x
 
   -- a report
-  pub report-desk : (k : NodeId) (samples : List Float) (flag : Bool) → AtDesk l (reportNode (nodeAt (l .shared .graph .nodes) k) samples flag (l .shared))
-  report-desk k samples flag = go (nodeAt (l .shared .graph .nodes) k) refl
+  pub report-shared : (k : NodeId) (samples : List Float) (flag : Bool) → SharedLeft l (reportNode (nodeAt (l .shared .graph .nodes) k) samples flag (l .shared))
+  report-shared k samples flag = go (nodeAt (l .shared .graph .nodes) k) refl
     where
-      go : (o : Option Node) → nodeAt (l .shared .graph .nodes) k ≡ o → AtDesk l (reportNode o samples flag (l .shared))
-      go none e = same-desk
-      go (some n) e = replaced-desk (withReport samples flag n) n k e refl refl refl
+      go : (o : Option Node) → nodeAt (l .shared .graph .nodes) k ≡ o → SharedLeft l (reportNode o samples flag (l .shared))
+      go none e = same-shared
+      go (some n) e = replaced-shared (withReport samples flag n) n k e refl refl refl
 
   -- prepare
-  pub ready-desk : (r : Readiness) (o : List NodeId) → AtDesk l (readyShared r o (l .shared))
-  ready-desk Ready o = record { model = refl; sound = s }
-  ready-desk (Refused r) o = same-desk
+  pub ready-shared : (r : Readiness) (o : List NodeId) → SharedLeft l (readyShared r o (l .shared))
+  ready-shared Ready o = record { model = refl; sound = s }
+  ready-shared (Refused r) o = same-shared
 
 -- ---- what the voices are asked for does not depend on positions
 module _ (more : ℕ → ℕ) (vs : List Voice) (d : SharedState) where
@@ -187,8 +187,8 @@ module _ (more : ℕ → ℕ) (vs : List Voice) (d : SharedState) where
   refusal-same k channels samples = rw (reports-same (nodeAt (d .graph .nodes) k))
 
 -- ---- render: the events
-pub happen-agrees : (e : Event) (l : Ledger) → InvariantOf l → Left (modelRender.applyEvent e (modelOf l)) (ledgerRender.applyEvent e l)
-happen-agrees e l s = go (isFree (e .action))
+pub applied-agrees : (e : Event) (l : Ledger) → InvariantOf l → Left (modelRender.applyEvent e (modelOf l)) (ledgerRender.applyEvent e l)
+applied-agrees e l s = go (isFree (e .action))
   where
     go : (b : Bool)
         → Left (cond b (model.free (e .voice) (modelOf l)) (record { shared = order (e .voice) (paramOrder e .name) (paramOrder e .order) (map (stored l) (l .voices)) (l .shared) .shared; voices = map (stored l) (l .voices) }))
@@ -197,13 +197,13 @@ happen-agrees e l s = go (isFree (e .action))
     go false =
         subst (λ r. Left (record { shared = r .shared; voices = map (stored l) (l .voices) }) (atShared l (order (e .voice) (paramOrder e .name) (paramOrder e .order) (l .voices) (l .shared) .shared)))
         (sym (order-same (reached (l .shared .config .block)) (l .voices) (l .shared) (e .voice) (paramOrder e .name) (paramOrder e .order)))
-        (order-desk l s (e .voice) (paramOrder e .name) (paramOrder e .order))
+        (order-shared l s (e .voice) (paramOrder e .name) (paramOrder e .order))
 
-happenAll-agrees : (q : List Event) (l : Ledger) → InvariantOf l → Left (modelRender.applyEvents q (modelOf l)) (ledgerRender.applyEvents q l)
-happenAll-agrees [] l s = record { model = refl; sound = s }
-happenAll-agrees (e ∷ q) l s =
-    let r = happen-agrees e l s in
-    subst (λ m. Left (modelRender.applyEvents q m) (ledgerRender.applyEvents q (ledgerRender.applyEvent e l))) (sym (r .model)) (happenAll-agrees q (ledgerRender.applyEvent e l) (r .sound))
+appliedAll-agrees : (q : List Event) (l : Ledger) → InvariantOf l → Left (modelRender.applyEvents q (modelOf l)) (ledgerRender.applyEvents q l)
+appliedAll-agrees [] l s = record { model = refl; sound = s }
+appliedAll-agrees (e ∷ q) l s =
+    let r = applied-agrees e l s in
+    subst (λ m. Left (modelRender.applyEvents q m) (ledgerRender.applyEvents q (ledgerRender.applyEvent e l))) (sym (r .model)) (appliedAll-agrees q (ledgerRender.applyEvent e l) (r .sound))
 
 -- the block
 pub record Heards (h : modelRender.Heard) (t : ledgerRender.Heard) : Type 0 where
@@ -237,13 +237,13 @@ block-agrees a l s =
 prepared-agrees : (b : Bool) (l : Ledger) → InvariantOf l → Heards (modelRender.preparedIf b (modelOf l)) (ledgerRender.preparedIf b l)
 prepared-agrees true l s =
     let a = answerAfter (prepareOutcome (l .shared) .answer) (prepareShared (l .shared)) in
-    let r = ready-desk l s (prepareOutcome (l .shared) .answer) (prepareOutcome (l .shared) .order) in
+    let r = ready-shared l s (prepareOutcome (l .shared) .answer) (prepareOutcome (l .shared) .order) in
     subst (λ m. Heards (modelRender.blockOf a m) (ledgerRender.preparedIf true l)) (sym (r .model)) (block-agrees a (atShared l (prepareShared (l .shared))) (r .sound))
 prepared-agrees false l s = block-agrees (heard (sounding (l .shared))) l s
 
 pub render-agrees : (l : Ledger) → InvariantOf l → Heards (modelRender.render (modelOf l)) (ledgerRender.render l)
 render-agrees l s =
-    let r = happenAll-agrees (due (l .shared)) (ledgerRender.rested l) s in
+    let r = appliedAll-agrees (due (l .shared)) (ledgerRender.rested l) s in
     subst (λ m. Heards (modelRender.preparedIf (anyFree (due (l .shared))) m) (ledgerRender.preparedIf (anyFree (due (l .shared))) (ledgerRender.applyEvents (due (l .shared)) (ledgerRender.rested l)))) (sym (r .model))
     (prepared-agrees (anyFree (due (l .shared))) (ledgerRender.applyEvents (due (l .shared)) (ledgerRender.rested l)) (r .sound))
 
@@ -263,5 +263,5 @@ outcome-agrees e l =
 pub outcomes-agree : (q : List Event) (l : Ledger) → InvariantOf l → modelRender.outcomes q (modelOf l) ≡ ledgerRender.outcomes q l
 outcomes-agree [] l s = refl
 outcomes-agree (e ∷ q) l s =
-    let r = happen-agrees e l s in
+    let r = applied-agrees e l s in
     ap₂ (λ o rest. outcomeNumber o ∷ rest) (outcome-agrees e l) (ap (modelRender.outcomes q) (r .model) ∙ outcomes-agree q (ledgerRender.applyEvent e l) (r .sound))

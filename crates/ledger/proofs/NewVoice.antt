@@ -32,7 +32,7 @@ use Rattle.model.specs.Spawn.{Wire, wire, defNode, defWire, constNode, panNode,
 use Rattle.ledger.specs.Holder.{Holders, voice, hold}
 use Rattle.ledger.proofs.Owner.{portsAt, live-below}
 use Rattle.ledger.proofs.Invariant.{Invariant, HostAt, sound-more}
-use Rattle.ledger.proofs.Instantiation.{Planted, planted-all, planted-wires, sound-land}
+use Rattle.ledger.proofs.Instantiation.{Planted, planted-all, planted-wires, sound-instantiate}
 
 abbrev rows : SynthDef → ℕ
 rows def = length (nodeRows (def .nodes))
@@ -129,7 +129,7 @@ module _ (def : SynthDef) (ok : allowed def ≡ true) (pan : Bool) (bus : NodeId
       planted-wires (omega arith) (voiceWires def pan) (wires-in def ok pan)
       (subst (λ n. Planted (g .nodes) (g .next) (nv + 1) n vs h (appendAll g (voiceNodes k def pan))) (zero-add (length (voiceNodes k def pan)) ∙ nodes-count k def pan) (planted-all (voiceNodes k def pan) (nodes-owned k def pan) planted))
 
-  pub sound-newcomer : (v : Voice) → v .id .0 ≡ nv + 1 → v .bus .0 ≡ bus .0 → feeder v .0 ≡ g .next + voiceOut def pan → endOf v ≡ feeder v
+  pub sound-new-voice : (v : Voice) → v .id .0 ≡ nv + 1 → v .bus .0 ≡ bus .0 → feeder v .0 ≡ g .next + voiceOut def pan → endOf v ≡ feeder v
       → Invariant (instantiateGraph k def pan bus p g .nodes) (instantiateGraph k def pan bus p g .edges) (instantiateGraph k def pan bus p g .next) (nv + 1) (vs ++ (v ∷ [])) (hold bus p (voice k) h)
-  sound-newcomer v vi vb vf ve =
-      sound-land all-planted (omega arith) (λ u i. omega (arith, s .voiced .sung u i .named)) bus live (live-below (s .listed) (bus .0) 0 live .0) (voiceOut def pan) p (out-in def ok pan) range v vi vb vf ve
+  sound-new-voice v vi vb vf ve =
+      sound-instantiate all-planted (omega arith) (λ u i. omega (arith, s .voiced .sung u i .named)) bus live (live-below (s .listed) (bus .0) 0 live .0) (voiceOut def pan) p (out-in def ok pan) range v vi vb vf ve

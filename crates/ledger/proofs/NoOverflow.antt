@@ -54,9 +54,9 @@ use Rattle.ledger.specs.Clear.{withoutVoices, endedVoices, silentVoices}
 use Rattle.ledger.specs.Render.{oneMore, applyEvent, applyEvents, countedIf, blockOf, preparedIf, rested, render}
 use Rattle.ledger.specs.Call.{Step, unless, step, renderStep, position, shown}
 use Rattle.ledger.proofs.Allowed.{when-none}
-use Rattle.ledger.proofs.Preserved.{atShared, place-kept, Preserves, kept-step, both-steady}
+use Rattle.ledger.proofs.Preserved.{atShared, place-kept, Preserves, kept-step, both-preserved}
 use Rattle.ledger.proofs.Abstraction.{reached, stored}
-use Rattle.ledger.proofs.Managed.{IdsOf, ids-steal, ids-settle, ids-steady, managed-kept}
+use Rattle.ledger.proofs.Managed.{IdsOf, ids-steal, ids-budgeted, ids-preserved, managed-kept}
 
 -- ---- the clock moves in a render only
 abbrev Still : SharedState → Ledger → Type 0
@@ -95,8 +95,8 @@ still-ready : (r : Readiness) (o : List NodeId) (d : SharedState) → (readyShar
 still-ready Ready o d = (refl, refl)
 still-ready (Refused r) o d = (refl, refl)
 
-still-happen : (e : Event) (l : Ledger) → Still (l .shared) (applyEvent e l)
-still-happen e l = go (isFree (e .action))
+still-applied : (e : Event) (l : Ledger) → Still (l .shared) (applyEvent e l)
+still-applied e l = go (isFree (e .action))
   where
     go : (b : Bool) → Still (l .shared) (cond b (free (e .voice) l) (atShared l (order (e .voice) (paramOrder e .name) (paramOrder e .order) (l .voices) (l .shared) .shared)))
     go true = still-freed (find (isVoice (e .voice)) (l .voices)) l
@@ -105,7 +105,7 @@ still-happen e l = go (isFree (e .action))
 still-events : (q : List Event) (l : Ledger) → Still (l .shared) (applyEvents q l)
 still-events [] l = (refl, refl)
 still-events (e ∷ q) l =
-    let a = still-happen e l in
+    let a = still-applied e l in
     let b = still-events q (applyEvent e l) in
     (b .0 ∙ a .0, b .1 ∙ a .1)
 
@@ -126,17 +126,17 @@ still-place : (k : ℕ) (spawn : Spawn) (t : VoiceState) (c : ℕ) (l : Ledger) 
 still-place k spawn t c l e =
     place-kept spawn t (λ n l. l .shared .clock ≡ c) (λ r. r .ledger .shared .clock ≡ c) (λ n l p h e. e) (λ l h e. e) (λ n l h f e. e) (λ n l v h f e. e) k l e
 
-still-settle : (spawn : Spawn) (c : ℕ) (l : Ledger) → l .shared .clock ≡ c → placeWithinBudget spawn l .ledger .shared .clock ≡ c
-still-settle spawn c l e = still-place (tries (l .shared .config .budget) (l .voices)) spawn (stateUnder (l .shared .config .budget)) c l e
+still-budgeted : (spawn : Spawn) (c : ℕ) (l : Ledger) → l .shared .clock ≡ c → placeWithinBudget spawn l .ledger .shared .clock ≡ c
+still-budgeted spawn c l e = still-place (tries (l .shared .config .budget) (l .voices)) spawn (stateUnder (l .shared .config .budget)) c l e
 
 still-managed : (spawn : Spawn) (l : Ledger) → IdsOf l → admitted (admissionOn (spawn .bus) (spawn .rank) l) spawn l .ledger .shared .clock ≡ l .shared .clock
 still-managed spawn l u =
-    managed-kept spawn (λ r. r .ledger .shared .clock ≡ l .shared .clock) l u (λ h. refl) (λ h. still-settle spawn (l .shared .clock) l refl)
-    (λ p w h v i t. still-settle spawn (l .shared .clock) (stealVoice v l) (still-steal v l))
+    managed-kept spawn (λ r. r .ledger .shared .clock ≡ l .shared .clock) l u (λ h. refl) (λ h. still-budgeted spawn (l .shared .clock) l refl)
+    (λ p w h v i t. still-budgeted spawn (l .shared .clock) (stealVoice v l) (still-steal v l))
 
-still-landed : (o : Option Refusal) (l : Ledger) (r : SpawnResult) → r .ledger .shared .clock ≡ l .shared .clock → ledger.unless o l r .ledger .shared .clock ≡ l .shared .clock
-still-landed none l r e = e
-still-landed (some n) l r e = refl
+still-spawned : (o : Option Refusal) (l : Ledger) (r : SpawnResult) → r .ledger .shared .clock ≡ l .shared .clock → ledger.unless o l r .ledger .shared .clock ≡ l .shared .clock
+still-spawned none l r e = e
+still-spawned (some n) l r e = refl
 
 still-unless : (o : Option Refusal) (l : Ledger) (s : Step) → s .ledger .shared .clock ≡ l .shared .clock → unless o l s .ledger .shared .clock ≡ l .shared .clock
 still-unless none l s e = e
@@ -164,9 +164,9 @@ clock-step x l u h = go x
     go (call.disconnect b p) = same (still-unless (disconnectRefusal (l .shared .graph) b p) l _ refl)
     go (call.setSink k) = same (still-unless (hostRefusal (l .shared .graph) k) l _ refl)
     go (call.spawnManaged spawn) =
-        same (still-landed (spawnRefusal (l .shared) (l .voices) (spawn .def) (spawn .bus) (spawn .rank)) l (admitted (admissionOn (spawn .bus) (spawn .rank) l) spawn l) (still-managed spawn l u))
+        same (still-spawned (spawnRefusal (l .shared) (l .voices) (spawn .def) (spawn .bus) (spawn .rank)) l (admitted (admissionOn (spawn .bus) (spawn .rank) l) spawn l) (still-managed spawn l u))
     go (call.spawnLoose spawn) =
-        same (still-landed (spawnRefusal (l .shared) (l .voices) (spawn .def) (spawn .bus) (spawn .rank)) l (place 0 spawn Loose l) (still-place 0 spawn Loose (l .shared .clock) l refl))
+        same (still-spawned (spawnRefusal (l .shared) (l .voices) (spawn .def) (spawn .bus) (spawn .rank)) l (place 0 spawn Loose l) (still-place 0 spawn Loose (l .shared .clock) l refl))
     go (call.free w) = same (still-freed (find (isVoice w) (l .voices)) l .0)
     go call.clear =
         let faded = withoutVoices (endedVoices l) l in
@@ -188,28 +188,28 @@ Within block clock Loose = Unit {0}
 abbrev pub NoOverflow : Ledger → Type 0
 NoOverflow l = (v : Voice) → In v (l .voices) → Within (l .shared .config .block) (l .shared .clock) (v .state)
 
-timely-gone : (w : VoiceId) (l : Ledger) → NoOverflow l → NoOverflow (withoutVoice w l)
-timely-gone w l h v i = h v (in-filter (λ v. not (isVoice w v)) (l .voices) v i .0)
+no-overflow-removed : (w : VoiceId) (l : Ledger) → NoOverflow l → NoOverflow (withoutVoice w l)
+no-overflow-removed w l h v i = h v (in-filter (λ v. not (isVoice w v)) (l .voices) v i .0)
 
-timely-land : (spawn : Spawn) (t : VoiceState) → ((block clock : ℕ) → Within block clock t) → (p : ℕ) (l : Ledger) → NoOverflow l → NoOverflow (ledger.instantiate spawn t p l .ledger)
-timely-land spawn t new p l h v i =
+no-overflow-instantiate : (spawn : Spawn) (t : VoiceState) → ((block clock : ℕ) → Within block clock t) → (p : ℕ) (l : Ledger) → NoOverflow l → NoOverflow (ledger.instantiate spawn t p l .ledger)
+no-overflow-instantiate spawn t new p l h v i =
     ⊎-elim (h v) (λ q. subst (λ (u : Voice). Within (l .shared .config .block) (l .shared .clock) (u .state)) (sym q) (new (l .shared .config .block) (l .shared .clock)))
     (in-snoc (l .voices) (newVoice spawn t p (l .shared)) v i)
 
-timely-place : (k : ℕ) (spawn : Spawn) (t : VoiceState) → ((block clock : ℕ) → Within block clock t) → (l : Ledger) → NoOverflow l → NoOverflow (place k spawn t l .ledger)
-timely-place k spawn t new l h =
-    place-kept spawn t (λ n l. NoOverflow l) (λ r. NoOverflow (r .ledger)) (λ n l p e h. timely-land spawn t new p l h) (λ l e h. h) (λ n l e f h. h)
+no-overflow-place : (k : ℕ) (spawn : Spawn) (t : VoiceState) → ((block clock : ℕ) → Within block clock t) → (l : Ledger) → NoOverflow l → NoOverflow (place k spawn t l .ledger)
+no-overflow-place k spawn t new l h =
+    place-kept spawn t (λ n l. NoOverflow l) (λ r. NoOverflow (r .ledger)) (λ n l p e h. no-overflow-instantiate spawn t new p l h) (λ l e h. h) (λ n l e f h. h)
     (λ n l v e f h. λ u i. h u (in-filter (λ u. not (isVoice (v .id) u)) (l .voices) u i .0)) k l h
 
-timely-settle : (spawn : Spawn) (l : Ledger) → NoOverflow l → NoOverflow (placeWithinBudget spawn l .ledger)
-timely-settle spawn l h = timely-place (tries (l .shared .config .budget) (l .voices)) spawn (stateUnder (l .shared .config .budget)) (new (l .shared .config .budget)) l h
+no-overflow-budgeted : (spawn : Spawn) (l : Ledger) → NoOverflow l → NoOverflow (placeWithinBudget spawn l .ledger)
+no-overflow-budgeted spawn l h = no-overflow-place (tries (l .shared .config .budget) (l .voices)) spawn (stateUnder (l .shared .config .budget)) (new (l .shared .config .budget)) l h
   where
     new : (b : Budget) (block clock : ℕ) → Within block clock (stateUnder b)
     new Unlimited block clock = tt
     new (AtMost n) block clock = tt
 
-timely-steal : (v : Voice) (l : Ledger) → NoOverflow l → NoOverflow (stealVoice v l)
-timely-steal v l h = go (portHeld v l)
+no-overflow-steal : (v : Voice) (l : Ledger) → NoOverflow l → NoOverflow (stealVoice v l)
+no-overflow-steal v l h = go (portHeld v l)
   where
     begins : (u : Voice) (b : Bool) → Within (l .shared .config .block) (l .shared .clock) (u .state) → Within (l .shared .config .block) (l .shared .clock) (cond b (withState (Fading (fadeOf (l .shared))) u) u .state)
     begins u true w = omega (arith, zero-mul (l .shared .config .block))
@@ -222,8 +222,8 @@ timely-steal v l h = go (portHeld v l)
         subst (λ (z : Voice). Within (l .shared .config .block) (l .shared .clock) (z .state)) (sym (r .2)) (begins (r .0) (isVoice (v .id) (r .0)) (h (r .0) (r .1)))
 
 -- each block of a render makes room for one count more
-timely-block : (a : Rendered) (l : Ledger) → NoOverflow l → NoOverflow (blockOf a l .ledger)
-timely-block a l h = go (isSounding a)
+no-overflow-block : (a : Rendered) (l : Ledger) → NoOverflow l → NoOverflow (blockOf a l .ledger)
+no-overflow-block a l h = go (isSounding a)
   where
     longer : (t : VoiceState) → Within (l .shared .config .block) (l .shared .clock) t → Within (l .shared .config .block) (l .shared .clock + l .shared .config .block) t
     longer Tracked w = tt
@@ -241,30 +241,30 @@ timely-block a l h = go (isSounding a)
         subst (λ (z : Voice). Within (l .shared .config .block) (l .shared .clock + l .shared .config .block) (z .state)) (sym (r .2)) (counts (r .0 .state) (h (r .0) (r .1)))
     go false v i = longer (v .state) (h v i)
 
-timely-steady : Preserves NoOverflow
-timely-steady =
+no-overflow-preserved : Preserves NoOverflow
+no-overflow-preserved =
     record {
       addNode = λ l kind ports required values glides e h. h;
       removeNode = λ l k e h. h;
       connect = λ l a b p e h. h;
       disconnect = λ l b p e h. h;
       setSink = λ l k h. h;
-      loose = λ l spawn e h. timely-place 0 spawn Loose (λ block clock. tt) l h;
-      goes = λ l w h. timely-gone w l h;
+      loose = λ l spawn e h. no-overflow-place 0 spawn Loose (λ block clock. tt) l h;
+      goes = λ l w h. no-overflow-removed w l h;
       node = λ l k x n e s h. h;
       schedule = λ l e f h. h;
       rest = λ l h. h;
       prepare = λ l e h. h;
-      block = λ l a h. timely-block a l h;
+      block = λ l a h. no-overflow-block a l h;
     }
 
-pub timely-step : (x : Call) (l : Ledger) → IdsOf l → NoOverflow l → NoOverflow (step x l .ledger)
-timely-step x l u h =
-    kept-step (λ l. IdsOf l × NoOverflow l) (both-steady ids-steady timely-steady)
+pub no-overflow-step : (x : Call) (l : Ledger) → IdsOf l → NoOverflow l → NoOverflow (step x l .ledger)
+no-overflow-step x l u h =
+    kept-step (λ l. IdsOf l × NoOverflow l) (both-preserved ids-preserved no-overflow-preserved)
     (λ l spawn e k.
     managed-kept spawn (λ r. IdsOf (r .ledger) × NoOverflow (r .ledger)) l (k .0) (λ h. k)
-    (λ h. (ids-settle spawn l (k .0), timely-settle spawn l (k .1)))
-    (λ p w h v i t. (ids-settle spawn (stealVoice v l) (ids-steal v l (k .0)), timely-settle spawn (stealVoice v l) (timely-steal v l (k .1)))))
+    (λ h. (ids-budgeted spawn l (k .0), no-overflow-budgeted spawn l (k .1)))
+    (λ p w h v i t. (ids-budgeted spawn (stealVoice v l) (ids-steal v l (k .0)), no-overflow-budgeted spawn (stealVoice v l) (no-overflow-steal v l (k .1)))))
     x l (u, h) .1
 
 -- ---- so the store's number is exactly count × block

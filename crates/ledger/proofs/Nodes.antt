@@ -35,15 +35,15 @@ use Rattle.model.specs.Spawn.{Wire, voiceNodes, voiceWires, appendAll, wireAll,
 use Rattle.model.specs.Clear.{doneFlag, isSilent}
 use Rattle.model.specs.Render.{isSounding}
 use Rattle.model.specs.Call.{Call}
-use Rattle.ledger.proofs.Raised.{in-raised}
 use Rattle.ledger.specs.Ledger.{Ledger, newLedger, portFree, portHeld, withoutVoice, cutOff, stolen, stealVoice, instantiate, instantiateOr, placeWithinBudget, refused}
 use Rattle.ledger.specs.Clear.{ended, withoutVoices, endedVoices}
 use Rattle.ledger.specs.Render.{oneMore, countedIf}
 use Rattle.ledger.specs.Call.{run}
+use Rattle.ledger.proofs.Raised.{in-raised}
 use Rattle.ledger.proofs.Upto.{up-in}
 use Rattle.ledger.proofs.Ids.{unique}
 use Rattle.ledger.proofs.Preserved.{place-kept, Preserves, kept-run}
-use Rattle.ledger.proofs.Managed.{IdsOf, managed-kept, ids-steady, ids-settle, ids-steal}
+use Rattle.ledger.proofs.Managed.{IdsOf, managed-kept, ids-preserved, ids-budgeted, ids-steal}
 use Rattle.ledger.proofs.NewVoice.{nodes-owned, nodes-count, output-in}
 use Rattle.ledger.proofs.Allowed.{spawn-allowed}
 
@@ -142,8 +142,8 @@ mine-raised {ns} {next} {vs} bus m =
 abbrev pub MineOf : Ledger → Type 0
 MineOf l = Mine (l .shared .graph .nodes) (l .shared .graph .next) (l .voices)
 
-pub mine-land : (spawn : Spawn) → spawn .def .output < length (nodeRows (spawn .def .nodes)) → (s : VoiceState) (p : ℕ) (l : Ledger) → MineOf l → MineOf (instantiate spawn s p l .ledger)
-mine-land spawn sings s p l m₀ =
+pub mine-instantiate : (spawn : Spawn) → spawn .def .output < length (nodeRows (spawn .def .nodes)) → (s : VoiceState) (p : ℕ) (l : Ledger) → MineOf l → MineOf (instantiate spawn s p l .ledger)
+mine-instantiate spawn sings s p l m₀ =
     subst (λ ns. Mine ns (instantiate spawn s p l .ledger .shared .graph .next) (l .voices ++ (v ∷ []))) (sym (same .0))
     (subst (λ k. Mine (appendAll g xs .nodes) k (l .voices ++ (v ∷ []))) (sym (same .1 ∙ grown-next xs g)) all)
   where
@@ -208,44 +208,44 @@ mine-steal v l m = go (portHeld v l)
         mine-map (beginFade (v .id) f) (begin-same (λ (x : Voice). x .first) (λ s v. refl) (v .id) f) (begin-same (λ (x : Voice). x .count) (λ s v. refl) (v .id) f) (begin-same (λ (x : Voice). x .id) (λ s v. refl) (v .id) f) (begin-same (λ (x : Voice). x .output) (λ s v. refl) (v .id) f)
         (mine-append (fadeNode (v .id)) m)
 
-pub mine-settle : (spawn : Spawn) → spawn .def .output < length (nodeRows (spawn .def .nodes)) → (l : Ledger) → MineOf l → MineOf (placeWithinBudget spawn l .ledger)
-mine-settle spawn sings l m =
-    place-kept spawn (stateUnder (l .shared .config .budget)) (λ n z. MineOf z) (λ r. MineOf (r .ledger)) (λ n z p e q. mine-land spawn sings _ p z q) (λ z e q. q) (λ n z e f q. q)
+pub mine-budgeted : (spawn : Spawn) → spawn .def .output < length (nodeRows (spawn .def .nodes)) → (l : Ledger) → MineOf l → MineOf (placeWithinBudget spawn l .ledger)
+mine-budgeted spawn sings l m =
+    place-kept spawn (stateUnder (l .shared .config .budget)) (λ n z. MineOf z) (λ r. MineOf (r .ledger)) (λ n z p e q. mine-instantiate spawn sings _ p z q) (λ z e q. q) (λ n z e f q. q)
     (λ n z v e f q. mine-cut v (v .state) z q) (tries (l .shared .config .budget) (l .voices)) l m
 
 abbrev pub OwnNodes : Ledger → Type 0
 OwnNodes l = IdsOf l × MineOf l
 
-pub own-steady : Preserves OwnNodes
-own-steady =
+pub own-preserved : Preserves OwnNodes
+own-preserved =
     record {
       addNode = λ l kind ports required values glides e q. (q .0, mine-append (hostNode kind ports required values glides) (q .1));
       removeNode = λ l k e q. (q .0, mine-nodes (λ x. not (isNode k x)) (q .1));
       connect = λ l a b p e q. q;
       disconnect = λ l b p e q. q;
       setSink = λ l k q. q;
-      loose = λ l spawn e q. (ids-steady .loose l spawn e (q .0), lands l spawn (output-in (spawn .def) (spawn-allowed (l .shared) (l .voices) (spawn .def) (spawn .bus) (spawn .rank) e .definition)) (q .1) (portFree (spawn .bus) l));
-      goes = λ l w q. (ids-steady .goes l w (q .0), mine-less (λ x. not (ownedBy w x)) (λ x. not (isVoice w x)) (q .1));
+      loose = λ l spawn e q. (ids-preserved .loose l spawn e (q .0), instantiates l spawn (output-in (spawn .def) (spawn-allowed (l .shared) (l .voices) (spawn .def) (spawn .bus) (spawn .rank) e .definition)) (q .1) (portFree (spawn .bus) l));
+      goes = λ l w q. (ids-preserved .goes l w (q .0), mine-less (λ x. not (ownedBy w x)) (λ x. not (isVoice w x)) (q .1));
       node = λ l k x n e s q. (q .0, mine-replaced k x n e (s .id) (s .owner) (q .1));
       schedule = λ l e h q. q;
       rest = λ l q. q;
       prepare = λ l e q. q;
-      block = λ l a q. (ids-steady .block l a (q .0), counts l (isSounding a) (q .1));
+      block = λ l a q. (ids-preserved .block l a (q .0), counts l (isSounding a) (q .1));
     }
   where
-    lands : (l : Ledger) (spawn : Spawn) → spawn .def .output < length (nodeRows (spawn .def .nodes)) → MineOf l → (o : Option ℕ) → MineOf (instantiateOr o none spawn Loose l (refused NoPort) .ledger)
-    lands l spawn sings m none = m
-    lands l spawn sings m (some p) = mine-land spawn sings Loose p l m
+    instantiates : (l : Ledger) (spawn : Spawn) → spawn .def .output < length (nodeRows (spawn .def .nodes)) → MineOf l → (o : Option ℕ) → MineOf (instantiateOr o none spawn Loose l (refused NoPort) .ledger)
+    instantiates l spawn sings m none = m
+    instantiates l spawn sings m (some p) = mine-instantiate spawn sings Loose p l m
 
     counts : (l : Ledger) (b : Bool) → MineOf l → Mine (l .shared .graph .nodes) (l .shared .graph .next) (countedIf b (l .voices))
     counts l true m = mine-map (moved oneMore) (λ v. refl) (λ v. refl) (λ v. refl) (λ v. refl) m
     counts l false m = m
 
 pub own-run : (xs : List Call) (l : Ledger) → OwnNodes l → OwnNodes (run xs l .ledger)
-own-run = kept-run OwnNodes own-steady (λ l spawn e q.
+own-run = kept-run OwnNodes own-preserved (λ l spawn e q.
     let sings = output-in (spawn .def) (spawn-allowed (l .shared) (l .voices) (spawn .def) (spawn .bus) (spawn .rank) e .definition) in
-    managed-kept spawn (λ r. OwnNodes (r .ledger)) l (q .0) (λ h. q) (λ h. (ids-settle spawn l (q .0), mine-settle spawn sings l (q .1)))
-    (λ p w h v i t. (ids-settle spawn (stealVoice v l) (ids-steal v l (q .0)), mine-settle spawn sings (stealVoice v l) (mine-steal v l (q .1)))))
+    managed-kept spawn (λ r. OwnNodes (r .ledger)) l (q .0) (λ h. q) (λ h. (ids-budgeted spawn l (q .0), mine-budgeted spawn sings l (q .1)))
+    (λ p w h v i t. (ids-budgeted spawn (stealVoice v l) (ids-steal v l (q .0)), mine-budgeted spawn sings (stealVoice v l) (mine-steal v l (q .1)))))
 
 pub own-new : (c : Config) → OwnNodes (newLedger c)
 own-new c = (record { rising = tt; below = λ v i. absurd i }, record { below = λ x i. absurd i; places = λ v i. absurd i; owned = λ v i. absurd i; output = λ v i. absurd i })
@@ -281,7 +281,7 @@ pub silent-same : (gs : List Voice) (l : Ledger) → OwnNodes l → (v : Voice) 
 silent-same [] l q v i other = refl
 silent-same (g ∷ gs) l q v i other =
     let off : v .id .0 ≡ g .id .0 → ⊥ = other g (inl refl) in
-    silent-same gs (withoutVoice (g .id) l) (own-steady .goes l (g .id) q) v (filter-in (λ x. not (isVoice (g .id) x)) (l .voices) v i (ap not (ne-eqb (v .id .0) (g .id .0) off))) (λ u j. other u (inr j))
+    silent-same gs (withoutVoice (g .id) l) (own-preserved .goes l (g .id) q) v (filter-in (λ x. not (isVoice (g .id) x)) (l .voices) v i (ap not (ne-eqb (v .id .0) (g .id .0) off))) (λ u j. other u (inr j))
     ∙ silent-stays l q v i (g .id) off
 
 -- the voices whose fade has ended are others than one whose fade has not

@@ -24,7 +24,7 @@ use Rattle.ledger.specs.Ledger.{Ledger, newLedger, portHeld, stolen, ste
 use Rattle.ledger.specs.Render.{oneMore}
 use Rattle.ledger.specs.Call.{run}
 use Rattle.ledger.proofs.Allowed.{spawn-allowed}
-use Rattle.ledger.proofs.Preserved.{place-kept, Preserves, calm, kept-run}
+use Rattle.ledger.proofs.Preserved.{place-kept, Preserves, voices-only, kept-run}
 
 abbrev Ranked : List Voice → Type 0
 Ranked vs = (v : Voice) → In v vs → v .rank ≤ 7
@@ -40,9 +40,9 @@ ranked-map f same vs h v i =
 ranked-snoc : (vs : List Voice) (n : Voice) → n .rank ≤ 7 → Ranked vs → Ranked (vs ++ (n ∷ []))
 ranked-snoc vs n low h v i = ⊎-elim (h v) (λ e. subst (λ (x : Voice). x .rank ≤ 7) (sym e) low) (in-snoc vs n v i)
 
-ranked-steady : Preserves (λ l. Ranked (l .voices))
-ranked-steady =
-    calm (λ c b n vs. Ranked vs) (λ c b n vs w h. ranked-filter (λ x. not (isVoice w x)) vs h) (λ c b n vs h. ranked-map (moved oneMore) (λ v. refl) vs h) (λ c b n vs v e s lt low h. ranked-snoc vs v low h)
+ranked-preserved : Preserves (λ l. Ranked (l .voices))
+ranked-preserved =
+    voices-only (λ c b n vs. Ranked vs) (λ c b n vs w h. ranked-filter (λ x. not (isVoice w x)) vs h) (λ c b n vs h. ranked-map (moved oneMore) (λ v. refl) vs h) (λ c b n vs v e s lt low h. ranked-snoc vs v low h)
 
 begin-rank : (w : VoiceId) (f : Fade) (v : Voice) → beginFade w f v .rank ≡ v .rank
 begin-rank w f v = go (isVoice w v)
@@ -52,8 +52,8 @@ begin-rank w f v = go (isVoice w v)
     go false = refl
 
 module _ (x : Spawn) (low : x .rank ≤ 7) where
-  ranked-settle : (l : Ledger) → Ranked (l .voices) → Ranked (placeWithinBudget x l .ledger .voices)
-  ranked-settle l h =
+  ranked-budgeted : (l : Ledger) → Ranked (l .voices) → Ranked (placeWithinBudget x l .ledger .voices)
+  ranked-budgeted l h =
       place-kept x (stateUnder (l .shared .config .budget)) (λ n l. Ranked (l .voices)) (λ r. Ranked (r .ledger .voices))
       (λ n l p e h. ranked-snoc (l .voices) (newVoice x _ p (l .shared)) low h) (λ l e h. h) (λ n l e f h. h) (λ n l v e f h. ranked-filter (λ y. not (isVoice (v .id) y)) (l .voices) h)
       (tries (l .shared .config .budget) (l .voices)) l h
@@ -66,16 +66,16 @@ module _ (x : Spawn) (low : x .rank ≤ 7) where
       go (some p) = ranked-map (beginFade (v .id) (fadeOf (l .shared))) (begin-rank (v .id) (fadeOf (l .shared))) (l .voices) h
 
   ranked-admitted : (a : Admission) (l : Ledger) → Ranked (l .voices) → Ranked (admitted a x l .ledger .voices)
-  ranked-admitted admission.Admit l h = ranked-settle l h
+  ranked-admitted admission.Admit l h = ranked-budgeted l h
   ranked-admitted admission.Reject l h = h
   ranked-admitted (admission.Steal p w) l h = go (find (isVoice w) (l .voices))
     where
       go : (o : Option Voice) → Ranked (stealThen o x l .ledger .voices)
-      go none = ranked-settle l h
-      go (some v) = ranked-settle (stealVoice v l) (ranked-steal v l h)
+      go none = ranked-budgeted l h
+      go (some v) = ranked-budgeted (stealVoice v l) (ranked-steal v l h)
 
 pub ranks-after : (c : Config) (xs : List Call) (v : Voice) → In v (run xs (newLedger c) .ledger .voices) → v .rank ≤ 7
 ranks-after c xs =
-    kept-run (λ l. Ranked (l .voices)) ranked-steady
+    kept-run (λ l. Ranked (l .voices)) ranked-preserved
     (λ l x e h. ranked-admitted x (spawn-allowed (l .shared) (l .voices) (x .def) (x .bus) (x .rank) e .rank-low) (admissionOn (x .bus) (x .rank) l) l h)
     xs (newLedger c) (λ v i. absurd i)

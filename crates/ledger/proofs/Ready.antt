@@ -41,9 +41,9 @@ use Rattle.ledger.specs.Ledger.{Ledger, newLedger, admissionOn}
 use Rattle.ledger.specs.Render.{applyEvents, preparedIf, rested, render}
 use Rattle.ledger.specs.Call.{step, renderStep, run}
 use Rattle.ledger.specs.Claim.{isSounded}
-use Rattle.ledger.proofs.Preserved.{Preserves, Alike, kept-run, happenAll-kept}
+use Rattle.ledger.proofs.Preserved.{Preserves, Alike, open-moves, events-kept, kept-run}
 use Rattle.ledger.proofs.Spawning.{Spawning, place-keeps, managed-keeps}
-use Rattle.ledger.proofs.Rows.{Rows, rows-other, rows-steady, rows-spawning, replaced-id}
+use Rattle.ledger.proofs.Rows.{Rows, rows-other, rows-preserved, rows-spawning, replaced-id}
 
 -- ---- prepare reads of a node its id, its ports and which of them it requires
 lacks-alike : (ids : List ℕ) (es : List Edge) (x n : Node) → Alike x n → lacks ids es n ≡ lacks ids es x
@@ -124,22 +124,22 @@ ready-spawning =
     record {
       cuts = λ l v s h. record { rows = rows-spawning .cuts l v s (h .rows); holds = unprepared };
       fades = λ l v p h. record { rows = rows-spawning .fades l v p (h .rows); holds = unprepared };
-      lands = λ l spawn s p h. record { rows = rows-spawning .lands l spawn s p (h .rows); holds = unprepared };
+      instantiates = λ l spawn s p h. record { rows = rows-spawning .instantiates l spawn s p (h .rows); holds = unprepared };
     }
 
-ready-steady : Preserves ReadyOf
-ready-steady =
+ready-preserved : Preserves ReadyOf
+ready-preserved =
     record {
-      addNode = λ l kind ports required values glides e h. record { rows = rows-steady .addNode l kind ports required values glides e (h .rows); holds = unprepared };
-      removeNode = λ l k e h. record { rows = rows-steady .removeNode l k e (h .rows); holds = unprepared };
+      addNode = λ l kind ports required values glides e h. record { rows = rows-preserved .addNode l kind ports required values glides e (h .rows); holds = unprepared };
+      removeNode = λ l k e h. record { rows = rows-preserved .removeNode l k e (h .rows); holds = unprepared };
       connect = λ l a b p e h. record { rows = h .rows; holds = unprepared };
       disconnect = λ l b p e h. record { rows = h .rows; holds = unprepared };
       setSink = λ l k h. record { rows = h .rows; holds = unprepared };
       loose = λ l spawn e h. place-keeps ReadyOf ready-spawning spawn 0 _ l h;
-      goes = λ l w h. record { rows = rows-steady .goes l w (h .rows); holds = unprepared };
+      goes = λ l w h. record { rows = rows-preserved .goes l w (h .rows); holds = unprepared };
       node = λ l k x n e s h.
           record {
-            rows = rows-steady .node l k x n e s (h .rows);
+            rows = rows-preserved .node l k x n e s (h .rows);
             holds = λ p. prepare-same (l .shared .graph .nodes) (l .shared .graph .next) (h .rows) k x n e s (l .shared .graph .edges) ∙ h .holds p;
           };
       schedule = λ l e f h. h;
@@ -149,7 +149,7 @@ ready-steady =
     }
 
 pub ready-run : (xs : List Call) (l : Ledger) → ReadyOf l → ReadyOf (run xs l .ledger)
-ready-run = kept-run ReadyOf ready-steady (λ l spawn e h. managed-keeps ReadyOf ready-spawning spawn (admissionOn (spawn .bus) (spawn .rank) l) l h)
+ready-run = kept-run ReadyOf ready-preserved (λ l spawn e h. managed-keeps ReadyOf ready-spawning spawn (admissionOn (spawn .bus) (spawn .rank) l) l h)
 
 pub ready-new : (c : Config) → ReadyOf (newLedger c)
 ready-new c = record { rows = record { rises = tt; below = λ x i. absurd i }; holds = unprepared }
@@ -197,7 +197,7 @@ block-sounds false l h = heard-is (sounding (l .shared))
 pub render-sounds : (out : List ℕ) (l : Ledger) → ReadyOf l → renderRefusal (l .shared) (length out) ≡ none
     → isSounded (step (call.render out) l .answer) ≡ sounding (step (call.render out) l .ledger .shared)
 render-sounds out l h e =
-    ap (λ o. isSounded (renderStep o out l .answer)) e ∙ block-sounds (anyFree q) (applyEvents q (rested l)) (happenAll-kept ReadyOf ready-steady q (rested l) h)
+    ap (λ o. isSounded (renderStep o out l .answer)) e ∙ block-sounds (anyFree q) (applyEvents q (rested l)) (events-kept (open-moves ready-preserved) q (rested l) h)
     ∙ ap (λ o. sounding (renderStep o out l .ledger .shared)) (sym e)
   where
     q : List Event

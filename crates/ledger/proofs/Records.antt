@@ -32,10 +32,10 @@ use Rattle.ledger.specs.Render.{oneMore}
 use Rattle.ledger.specs.Call.{step, run}
 use Rattle.ledger.specs.Claim.{Newest, tracks}
 use Rattle.ledger.proofs.Allowed.{spawn-allowed}
-use Rattle.ledger.proofs.Ids.{Ids, ids-keep, ids-map, ids-snoc, unique, one-gone, one-changed}
+use Rattle.ledger.proofs.Ids.{Ids, ids-filter, ids-map, ids-snoc, unique, one-removed, one-changed}
 use Rattle.ledger.proofs.Victim.{nextOut-in}
 use Rattle.ledger.proofs.StealLog.{count-pushed, newest-pushed, newest-marked}
-use Rattle.ledger.proofs.Preserved.{place-kept, Preserves, calm, kept-step}
+use Rattle.ledger.proofs.Preserved.{place-kept, Preserves, voices-only, kept-step}
 use Rattle.ledger.proofs.Managed.{managed-kept, begin-id}
 
 -- every fade has the number of a record that was written, and no two have one
@@ -80,24 +80,24 @@ moved-fading (Fading g) f e = (g, refl, sym (fade-inj e))
 moved-fading Loose f e = absurd (loose-fading f e)
 
 -- ---- moves of the voices
-numbers-keep : (k : ℕ) (t : Voice → Bool) (vs : List Voice) → Numbers k vs → Numbers k (filter t vs)
-numbers-keep k t vs h v i = h v (in-filter t vs v i .0)
+numbers-filter : (k : ℕ) (t : Voice → Bool) (vs : List Voice) → Numbers k vs → Numbers k (filter t vs)
+numbers-filter k t vs h v i = h v (in-filter t vs v i .0)
 
-own-keep : (t : Voice → Bool) (vs : List Voice) → Own vs → Own (filter t vs)
-own-keep t vs h u v i j = h u v (in-filter t vs u i .0) (in-filter t vs v j .0)
+own-filter : (t : Voice → Bool) (vs : List Voice) → Own vs → Own (filter t vs)
+own-filter t vs h u v i j = h u v (in-filter t vs u i .0) (in-filter t vs v j .0)
 
 numbers-more : (k m : ℕ) (vs : List Voice) → k ≤ m → Numbers k vs → Numbers m vs
 numbers-more k m vs le h v i f e = omega (arith, le, h v i f e)
 
-recorded-gone : (b : StealLog) (n : ℕ) (vs : List Voice) (w : VoiceId) → Recorded b n vs → Recorded b n (filter (λ x. not (isVoice w x)) vs)
-recorded-gone b n vs w r =
+recorded-removed : (b : StealLog) (n : ℕ) (vs : List Voice) (w : VoiceId) → Recorded b n vs → Recorded b n (filter (λ x. not (isVoice w x)) vs)
+recorded-removed b n vs w r =
     record {
-      ids = ids-keep (λ x. not (isVoice w x)) (r .ids);
+      ids = ids-filter (λ x. not (isVoice w x)) (r .ids);
       newest = r .newest;
       tally = omega (arith, r .tally, count-filter tracks (λ x. not (isVoice w x)) vs);
       most = r .most;
-      numbers = numbers-keep (b .count) (λ x. not (isVoice w x)) vs (r .numbers);
-      own = own-keep (λ x. not (isVoice w x)) vs (r .own);
+      numbers = numbers-filter (b .count) (λ x. not (isVoice w x)) vs (r .numbers);
+      own = own-filter (λ x. not (isVoice w x)) vs (r .own);
     }
 
 moved-tracks : (v : Voice) → tracks (moved oneMore v) ≡ tracks v
@@ -138,8 +138,8 @@ recorded-moved b n vs r =
           p .is ∙ ap (moved oneMore) (r .own (p .voice) (q .voice) (p .member) (q .member) (p .fade) (q .fade) (p .state) (q .state) (sym (p .number) ∙ s ∙ q .number)) ∙ sym (q .is);
     }
 
-recorded-lands : (b : StealLog) (n : ℕ) (vs : List Voice) (v : Voice) → v .id .0 ≡ n + 1 → ((f : Fade) → v .state ≡ Fading f → ⊥) → n < 18446744073709551615 → Recorded b n vs → Recorded b (n + 1) (vs ++ (v ∷ []))
-recorded-lands b n vs v e s h r =
+recorded-instantiates : (b : StealLog) (n : ℕ) (vs : List Voice) (v : Voice) → v .id .0 ≡ n + 1 → ((f : Fade) → v .state ≡ Fading f → ⊥) → n < 18446744073709551615 → Recorded b n vs → Recorded b (n + 1) (vs ++ (v ∷ []))
+recorded-instantiates b n vs v e s h r =
     record {
       ids = ids-snoc v e (r .ids);
       newest = r .newest;
@@ -172,7 +172,7 @@ begun {n} {vs} d v i f u j = let q = in-map (beginFade (v .id) f) vs u j in go (
 -- a tracked voice has an id that no record has yet
 pub steal-small : {b : StealLog} {n : ℕ} {vs : List Voice} → Recorded b n vs → (v : Voice) → In v vs → v .state ≡ Tracked → b .count < 18446744073709551615
 steal-small {b} {n} {vs} r v i t =
-    let one = one-gone (r .ids) tracks v i ∙ ap (λ s. more (isTracked s) (count tracks (filter (λ x. not (isVoice (v .id) x)) vs))) t in
+    let one = one-removed (r .ids) tracks v i ∙ ap (λ s. more (isTracked s) (count tracks (filter (λ x. not (isVoice (v .id) x)) vs))) t in
     let k = r .tally in
     let m = r .most in
     omega arith
@@ -222,24 +222,24 @@ pub recorded-cut : (v : Voice) (s : VoiceState) (l : Ledger) → RecordedOf l �
 recorded-cut v Tracked l r i t =
     let b = l .shared .steals in
     let rec = recordOf (l .shared .clock) (voiceLevel (l .shared) v) true in
-    let one = one-gone (r .ids) tracks v i in
+    let one = one-removed (r .ids) tracks v i in
     let fewer : count tracks (l .voices) ≡ suc (count tracks (filter (λ x. not (isVoice (v .id) x)) (l .voices))) = one ∙ ap (λ s. more (isTracked s) (count tracks (filter (λ x. not (isVoice (v .id) x)) (l .voices)))) t in
     let k = r .tally in
     let m = r .most in
     let small : b .count < 18446744073709551615 = omega arith in
     let c = count-pushed b rec small in
     record {
-      ids = ids-keep (λ x. not (isVoice (v .id) x)) (r .ids);
+      ids = ids-filter (λ x. not (isVoice (v .id) x)) (r .ids);
       newest = newest-pushed b rec small (r .newest);
       tally = omega arith;
       most = r .most;
-      numbers = numbers-more (b .count) (pushed b rec .count) (filter (λ x. not (isVoice (v .id) x)) (l .voices)) (omega arith) (numbers-keep (b .count) (λ x. not (isVoice (v .id) x)) (l .voices) (r .numbers));
-      own = own-keep (λ x. not (isVoice (v .id) x)) (l .voices) (r .own);
+      numbers = numbers-more (b .count) (pushed b rec .count) (filter (λ x. not (isVoice (v .id) x)) (l .voices)) (omega arith) (numbers-filter (b .count) (λ x. not (isVoice (v .id) x)) (l .voices) (r .numbers));
+      own = own-filter (λ x. not (isVoice (v .id) x)) (l .voices) (r .own);
     }
 recorded-cut v (Fading f) l r i t =
-    let g = recorded-gone (l .shared .steals) (l .shared .spawned) (l .voices) (v .id) r in
+    let g = recorded-removed (l .shared .steals) (l .shared .spawned) (l .voices) (v .id) r in
     record { ids = g .ids; newest = newest-marked (l .shared .steals) (f .number) (r .newest); tally = g .tally; most = g .most; numbers = g .numbers; own = g .own }
-recorded-cut v Loose l r i t = recorded-gone (l .shared .steals) (l .shared .spawned) (l .voices) (v .id) r
+recorded-cut v Loose l r i t = recorded-removed (l .shared .steals) (l .shared .spawned) (l .voices) (v .id) r
 
 pub recorded-steal : (v : Voice) (l : Ledger) → RecordedOf l → In v (l .voices) → isTracked (v .state) ≡ true → RecordedOf (stealVoice v l)
 recorded-steal v l r i t = go (portHeld v l)
@@ -253,10 +253,10 @@ pub under-fading : (b : Budget) (f : Fade) → stateUnder b ≡ Fading f → ⊥
 under-fading Unlimited f e = loose-fading f e
 under-fading (AtMost k) f e = tracked-fading f e
 
-recorded-settle : (spawn : Spawn) (l : Ledger) → RecordedOf l → l .shared .spawned < 18446744073709551615 → RecordedOf (placeWithinBudget spawn l .ledger)
-recorded-settle spawn l r h =
+recorded-budgeted : (spawn : Spawn) (l : Ledger) → RecordedOf l → l .shared .spawned < 18446744073709551615 → RecordedOf (placeWithinBudget spawn l .ledger)
+recorded-budgeted spawn l r h =
     place-kept spawn (stateUnder (l .shared .config .budget)) (λ n m. RecordedOf m × (m .shared .spawned < 18446744073709551615)) (λ r. RecordedOf (r .ledger))
-    (λ n m p e q. recorded-lands (m .shared .steals) (m .shared .spawned) (m .voices) (newVoice spawn _ p (m .shared)) refl (under-fading (l .shared .config .budget)) (q .1) (q .0))
+    (λ n m p e q. recorded-instantiates (m .shared .steals) (m .shared .spawned) (m .voices) (newVoice spawn _ p (m .shared)) refl (under-fading (l .shared .config .budget)) (q .1) (q .0))
     (λ m e q. q .0) (λ n m e f q. q .0)
     (λ n m v e f q. (recorded-cut v (v .state) m (q .0) (nextOut-in (q .0 .ids) (m .shared) (spawn .bus) (spawn .rank) v f .0) refl, q .1))
     (tries (l .shared .config .budget) (l .voices)) l (r, h)
@@ -268,18 +268,18 @@ spawned-steal v l = go (portHeld v l)
     go none = refl
     go (some p) = refl
 
-recorded-steady : Preserves RecordedOf
-recorded-steady =
-    calm (λ c b n vs. Recorded b n vs) (λ c b n vs w r. recorded-gone b n vs w r) (λ c b n vs r. recorded-moved b n vs r)
-    (λ c b n vs v e s h k r. recorded-lands b n vs v e (λ f q. loose-fading f (sym s ∙ q)) h r)
+recorded-preserved : Preserves RecordedOf
+recorded-preserved =
+    voices-only (λ c b n vs. Recorded b n vs) (λ c b n vs w r. recorded-removed b n vs w r) (λ c b n vs r. recorded-moved b n vs r)
+    (λ c b n vs v e s h k r. recorded-instantiates b n vs v e (λ f q. loose-fading f (sym s ∙ q)) h r)
 
 pub recorded-step : (x : Call) (l : Ledger) → RecordedOf l → RecordedOf (step x l .ledger)
 recorded-step =
-    kept-step RecordedOf recorded-steady
+    kept-step RecordedOf recorded-preserved
     (λ l spawn e r.
     let h : l .shared .spawned < 18446744073709551615 = spawn-allowed (l .shared) (l .voices) (spawn .def) (spawn .bus) (spawn .rank) e .ids-left in
-    managed-kept spawn (λ z. RecordedOf (z .ledger)) l (r .ids) (λ a. r) (λ a. recorded-settle spawn l r h)
-    (λ p w a v i t. recorded-settle spawn (stealVoice v l) (recorded-steal v l r i (and-left (tracks v) _ t)) (rw (spawned-steal v l) h)))
+    managed-kept spawn (λ z. RecordedOf (z .ledger)) l (r .ids) (λ a. r) (λ a. recorded-budgeted spawn l r h)
+    (λ p w a v i t. recorded-budgeted spawn (stealVoice v l) (recorded-steal v l r i (and-left (tracks v) _ t)) (rw (spawned-steal v l) h)))
 
 pub recorded-run : (xs : List Call) (l : Ledger) → RecordedOf l → RecordedOf (run xs l .ledger)
 recorded-run [] l r = r

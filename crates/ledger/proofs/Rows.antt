@@ -20,11 +20,11 @@ use Rattle.graph.specs.View.{GraphView}
 use Rattle.graph.specs.Node.{isNode, ownedBy, nodeAt, hostNode, withId, replaced, raiseNoise, noiseRaised}
 use Rattle.graph.specs.Change as change
 use Rattle.model.specs.Voice.{id}
-use Rattle.ledger.proofs.Raised.{raise-id, in-raised}
 use Rattle.model.specs.Spawn.{Wire, voiceNodes, voiceWires, appendAll, wireAll, nextVoice, fadeNode, pans, raised}
 use Rattle.model.specs.Call.{Call}
 use Rattle.ledger.specs.Ledger.{Ledger, admissionOn}
 use Rattle.ledger.specs.Call.{run}
+use Rattle.ledger.proofs.Raised.{raise-id, in-raised}
 use Rattle.ledger.proofs.Preserved.{Preserves, Alike, kept-run}
 use Rattle.ledger.proofs.Spawning.{Spawning, place-keeps, managed-keeps}
 
@@ -49,14 +49,14 @@ module _ (N : List Node → ℕ → Type 0)
       record {
         cuts = λ l v s h. fewer (l .shared .graph .nodes) (l .shared .graph .next) (λ x. not (ownedBy (v .id) x)) h;
         fades = λ l v p h. more (l .shared .graph .nodes) (l .shared .graph .next) (fadeNode (v .id)) h;
-        lands = λ l spawn s p h.
+        instantiates = λ l spawn s p h.
             let xs = voiceNodes (nextVoice (l .shared)) (spawn .def) (pans (spawn .pan)) in
             wire-all (l .shared .graph .next) (voiceWires (spawn .def) (pans (spawn .pan))) (appendAll (raised (spawn .bus) (l .shared .graph)) xs)
             (append-all xs (raised (spawn .bus) (l .shared .graph)) (raise (l .shared .graph .nodes) (l .shared .graph .next) (spawn .bus) h));
       }
 
-  pub nodes-steady : Preserves NodesOf
-  nodes-steady =
+  pub nodes-preserved : Preserves NodesOf
+  nodes-preserved =
       record {
         addNode = λ l kind ports required values glides e h. more (l .shared .graph .nodes) (l .shared .graph .next) (hostNode kind ports required values glides) h;
         removeNode = λ l k e h. fewer (l .shared .graph .nodes) (l .shared .graph .next) (λ x. not (isNode k x)) h;
@@ -73,7 +73,7 @@ module _ (N : List Node → ℕ → Type 0)
       }
 
   pub nodes-run : (xs : List Call) (l : Ledger) → NodesOf l → NodesOf (run xs l .ledger)
-  nodes-run = kept-run NodesOf nodes-steady (λ l spawn e h. managed-keeps NodesOf nodes-spawning spawn (admissionOn (spawn .bus) (spawn .rank) l) l h)
+  nodes-run = kept-run NodesOf nodes-preserved (λ l spawn e h. managed-keeps NodesOf nodes-spawning spawn (admissionOn (spawn .bus) (spawn .rank) l) l h)
 
 -- ---- by rising id, all below the next
 pub record Rows (ns : List Node) (next : ℕ) : Type 0 where
@@ -118,8 +118,8 @@ rows-raised bus ns next r =
 abbrev pub RowsOf : Ledger → Type 0
 RowsOf l = Rows (l .shared .graph .nodes) (l .shared .graph .next)
 
-pub rows-steady : Preserves RowsOf
-rows-steady = nodes-steady Rows rows-more rows-fewer (λ ns next k x n e s r. rows-other ns next n r) (λ ns next bus r. rows-raised bus ns next r)
+pub rows-preserved : Preserves RowsOf
+rows-preserved = nodes-preserved Rows rows-more rows-fewer (λ ns next k x n e s r. rows-other ns next n r) (λ ns next bus r. rows-raised bus ns next r)
 
 pub rows-spawning : Spawning RowsOf
 rows-spawning = nodes-spawning Rows rows-more rows-fewer (λ ns next k x n e s r. rows-other ns next n r) (λ ns next bus r. rows-raised bus ns next r)

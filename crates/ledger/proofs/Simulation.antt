@@ -30,7 +30,7 @@ use Rattle.model.specs.SharedState.{lengthL}
 use Rattle.model.specs.Refuse.{reportRefusal}
 use Rattle.model.specs.Order.{order, reportNode}
 use Rattle.model.specs.Render.{prepareOutcome, due, renderRefusal}
-use Rattle.model.specs.Written.{written}
+use Rattle.lists.specs.Written.{written}
 use Rattle.model.specs.Page.{header, portNow, line, lines}
 use Rattle.model.specs.Call.{Call, Question, event, scheduleRefusal, pageAnswer, answerTo}
 use Rattle.model.specs.Call as call
@@ -45,9 +45,9 @@ use Rattle.ledger.proofs.Invariant.{HostAt, sound-append, sound-removed
 use Rattle.ledger.proofs.EndInvariant.{moved-end}
 use Rattle.ledger.proofs.Port.{end-held}
 use Rattle.ledger.proofs.Abstraction.{modelOf, reached, stored}
-use Rattle.ledger.proofs.NoOverflow.{NoOverflow, clock-step, timely-step, stored-shown}
+use Rattle.ledger.proofs.NoOverflow.{NoOverflow, clock-step, no-overflow-step, stored-shown}
 use Rattle.ledger.proofs.Spawns.{InvariantOf, host-owned, ids-of, managed-agrees, loose-agrees}
-use Rattle.ledger.proofs.Moves.{free-agrees, clear-agrees, order-desk, report-desk, ready-desk, order-same, refusal-same, render-agrees, freed-same, outcomes-agree}
+use Rattle.ledger.proofs.Moves.{free-agrees, clear-agrees, order-shared, report-shared, ready-shared, order-same, refusal-same, render-agrees, freed-same, outcomes-agree}
 
 pub record Agrees (r : call.Step) (t : ledger.Step) : Type 0 where
   pub answer : r .answer ≡ t .answer
@@ -103,14 +103,14 @@ module _ (l : Ledger) (s : InvariantOf l) where
 
   order-agrees : (w : VoiceId) (name : List ℕ) (o : LastOrder) → Same (call.order w name o)
   order-agrees w name o =
-      let r = order-desk l s w (nameOf name) o in
+      let r = order-shared l s w (nameOf name) o in
       subst (λ z. Agrees (call.sharedStep (modelOf l) (z .shared) (call.ordered (z .outcome))) (ledger.step (call.order w name o) l))
       (sym (order-same (reached (l .shared .config .block)) (l .voices) (l .shared) w (nameOf name) o)) (record { answer = refl; model = r .model; sound = r .sound })
 
   report-agrees : (k : NodeId) (channels : ℕ) (samples : List Float) (flag : Bool) → Same (call.report k channels samples flag)
   report-agrees k channels samples flag =
       subst (λ o. Agrees (call.unless o (modelOf l) (call.sharedStep (modelOf l) (reportNode (nodeAt (l .shared .graph .nodes) k) samples flag (l .shared)) call.done)) (ledger.step (call.report k channels samples flag) l)) (sym (refusal-same (reached (l .shared .config .block)) (l .voices) (l .shared) k channels (length samples)))
-      (guarded (reportRefusal (l .shared) (l .voices) k channels (length samples)) _ _ (λ e. let r = report-desk l s k samples flag in record { answer = refl; model = r .model; sound = r .sound }))
+      (guarded (reportRefusal (l .shared) (l .voices) k channels (length samples)) _ _ (λ e. let r = report-shared l s k samples flag in record { answer = refl; model = r .model; sound = r .sound }))
 
   reads-agrees : (a b : call.Answer) → a ≡ b → Agrees (call.reads (modelOf l) a) (ledger.reads l b)
   reads-agrees a b e = record { answer = e; model = refl; sound = s }
@@ -157,7 +157,7 @@ pub record RunInvariant (l : Ledger) : Type 0 where
   pub sound : InvariantOf l
   pub length : lengthL (l .shared) ≤ 18446744073709551615
   pub clock : l .shared .clock ≤ 18446744073709551615
-  pub timely : NoOverflow l
+  pub no-overflow : NoOverflow l
 
 pub step-agrees : (x : Call) (l : Ledger) → RunInvariant l → Agrees (call.step x (modelOf l)) (ledger.step x l)
 step-agrees (call.addNode kind ports required values glides) l h = add-agrees l (h .sound) kind ports required values glides
@@ -175,11 +175,11 @@ step-agrees (call.order w name o) l h = order-agrees l (h .sound) w name o
 step-agrees (call.schedule t w name a) l h = guarded l (h .sound) (scheduleRefusal (event t w name a) (l .shared .events)) _ _ (λ e. record { answer = refl; model = refl; sound = h .sound })
 step-agrees (call.report k channels samples flag) l h = report-agrees l (h .sound) k channels samples flag
 step-agrees call.prepare l h =
-    let r = ready-desk l (h .sound) (prepareOutcome (l .shared) .answer) (prepareOutcome (l .shared) .order) in
+    let r = ready-shared l (h .sound) (prepareOutcome (l .shared) .answer) (prepareOutcome (l .shared) .order) in
     record { answer = refl; model = r .model; sound = r .sound }
 step-agrees (call.render out) l h = rendered-agrees l (h .sound) (renderRefusal (l .shared) (length out)) out
 step-agrees (call.ask q) l h =
-    reads-agrees l (h .sound) _ _ (asks-agree l (h .sound) q ∙ ap (λ vs. answerTo (λ v. portHeld v l) q (record { shared = l .shared; voices = vs })) (stored-shown l (h .timely) (h .clock)))
+    reads-agrees l (h .sound) _ _ (asks-agree l (h .sound) q ∙ ap (λ vs. answerTo (λ v. portHeld v l) q (record { shared = l .shared; voices = vs })) (stored-shown l (h .no-overflow) (h .clock)))
 
 pub kept-step : (x : Call) (l : Ledger) → RunInvariant l → RunInvariant (ledger.step x l .ledger)
 kept-step x l h =
@@ -188,7 +188,7 @@ kept-step x l h =
       sound = step-agrees x l h .sound;
       length = subst (λ (c : Config). fadeLength (c .rate) ≤ 18446744073709551615) (sym (config-step x l u)) (h .length);
       clock = clock-step x l u (h .clock);
-      timely = timely-step x l u (h .timely);
+      no-overflow = no-overflow-step x l u (h .no-overflow);
     }
 
 -- ---- every list of calls
@@ -206,4 +206,4 @@ runs (x ∷ xs) l h =
     (record { answers = ap₂ _∷_ (a .answer) (r .answers); model = r .model; kept = r .kept })
 
 pub kept-new : (c : Config) → fadeLength (c .rate) ≤ 18446744073709551615 → RunInvariant (newLedger c)
-kept-new c h = record { sound = sound-new; length = h; clock = omega arith; timely = λ v i. absurd i }
+kept-new c h = record { sound = sound-new; length = h; clock = omega arith; no-overflow = λ v i. absurd i }

@@ -129,11 +129,11 @@ held-own l s v i n p w h e = go (ownerAt ns n) refl (find (endsAt (id n) p) es) 
     go (some k) o oe f q = at k o (eqb k 0) refl oe f q
 
 -- ---- a voice that goes, or begins to fade, leaves it as it was
-node-gone : (ns : List Node) (bus : NodeId) (w : VoiceId) → 0 < w .0 → (h : HostAt ns bus) → nodeAt (filter (λ n. not (ownedBy w n)) ns) bus ≡ some (h .0)
-node-gone ns bus w pos h = find-filter-some (isNode bus) (λ n. not (ownedBy w n)) ns (h .0) (h .1) (ap not (ne-eqb (h .0 .owner .0) (w .0) (λ e. let z = h .2 in omega arith)))
+node-removed : (ns : List Node) (bus : NodeId) (w : VoiceId) → 0 < w .0 → (h : HostAt ns bus) → nodeAt (filter (λ n. not (ownedBy w n)) ns) bus ≡ some (h .0)
+node-removed ns bus w pos h = find-filter-some (isNode bus) (λ n. not (ownedBy w n)) ns (h .0) (h .1) (ap not (ne-eqb (h .0 .owner .0) (w .0) (λ e. let z = h .2 in omega arith)))
 
-host-gone : (ns : List Node) (bus : NodeId) (w : VoiceId) → 0 < w .0 → HostAt ns bus → HostAt (filter (λ n. not (ownedBy w n)) ns) bus
-host-gone ns bus w pos h = (h .0, node-gone ns bus w pos h, h .2)
+host-removed : (ns : List Node) (bus : NodeId) (w : VoiceId) → 0 < w .0 → HostAt ns bus → HostAt (filter (λ n. not (ownedBy w n)) ns) bus
+host-removed ns bus w pos h = (h .0, node-removed ns bus w pos h, h .2)
 
 ports-host : (ns : List Node) (bus : NodeId) (h : HostAt ns bus) (ms : List Node) → nodeAt ms bus ≡ some (h .0) → portsOf (nodeAt ms bus) ≡ portsOf (nodeAt ns bus)
 ports-host ns bus h ms e = ap portsOf (e ∙ sym (h .1))
@@ -142,7 +142,7 @@ module _ (bus : NodeId) (rank : ℕ) (l : Ledger) (d : IdsOf l) (hb : HostAt (l 
   blocked-cut : (s : VoiceState) → ((p : ℕ) (w : VoiceId) → l .holders (bus .0) p ≡ voice w → w .0 ≡ v .id .0 → mayGoOn bus rank v ≡ true) → blocked bus rank (cutOff v s l) ≡ blocked bus rank l
   blocked-cut s own =
       ap (λ k. every (λ p. byOther bus rank (cutOff v s l .voices) (cutOff v s l .holders (bus .0) p)) (upto k))
-      (ports-host (l .shared .graph .nodes) bus hb (cutOff v s l .shared .graph .nodes) (node-gone (l .shared .graph .nodes) bus (v .id) (above d v i) hb))
+      (ports-host (l .shared .graph .nodes) bus hb (cutOff v s l .shared .graph .nodes) (node-removed (l .shared .graph .nodes) bus (v .id) (above d v i) hb))
       ∙ every-same (λ p. byOther bus rank (cutOff v s l .voices) (cutOff v s l .holders (bus .0) p)) (λ p. byOther bus rank (l .voices) (l .holders (bus .0) p)) (upto (portsOf (nodeAt (l .shared .graph .nodes) bus))) (λ p. at p (l .holders (bus .0) p) refl)
     where
       t : Voice → Bool
@@ -218,7 +218,7 @@ module _ (bus : NodeId) (rank : ℕ) (l : Ledger) (d : IdsOf l) (hb : HostAt (l 
   host-steal = go (portHeld v l)
     where
       go : (o : Option ℕ) → HostAt (stolen v o l .shared .graph .nodes) bus
-      go none = host-gone (l .shared .graph .nodes) bus (v .id) (above d v i) hb
+      go none = host-removed (l .shared .graph .nodes) bus (v .id) (above d v i) hb
       go (some p) = (hb .0, find-snoc-some (isNode bus) (l .shared .graph .nodes) _ (hb .0) (hb .1), hb .2)
 
 -- ---- the port search
@@ -248,7 +248,7 @@ module _ (spawn : Spawn) (b : Bool) (given : VoiceId) where
       let le = q .enough in
       record {
         ids = ids-cut v (v .state) m (q .ids);
-        at = host-gone (m .shared .graph .nodes) (spawn .bus) (v .id) (above (q .ids) v (r .0)) (q .at);
+        at = host-removed (m .shared .graph .nodes) (spawn .bus) (v .id) (above (q .ids) v (r .0)) (q .at);
         steals = q .steals;
         next = q .next;
         enough = omega arith;
@@ -313,9 +313,9 @@ spawn-answer spawn l s k b t h = ap call.spawned (ap (λ o. unless o l (admitted
         → admits (AtMost (suc k)) (l .shared .config .policy) (spawn .rank) (candidates (l .shared) (counted (l .shared .config .scope) (spawn .bus)) (l .voices)) ≡ a
     admits-is a e = subst (λ x. admits x (l .shared .config .policy) (spawn .rank) (candidates (l .shared) (counted (l .shared .config .scope) (spawn .bus)) (l .voices)) ≡ a) b e
 
-    settles : outranked (l .shared .config) (spawn .bus) (spawn .rank) (l .voices) ≡ false → (m : Ledger) → m .shared .config ≡ l .shared .config → IdsOf m → HostAt (m .shared .graph .nodes) (spawn .bus)
+    budgeted : outranked (l .shared .config) (spawn .bus) (spawn .rank) (l .voices) ≡ false → (m : Ledger) → m .shared .config ≡ l .shared .config → IdsOf m → HostAt (m .shared .graph .nodes) (spawn .bus)
         → nextVoice (m .shared) ≡ nextVoice (l .shared) → blocked (spawn .bus) (spawn .rank) m ≡ blocked (spawn .bus) (spawn .rank) l → R (placeWithinBudget spawn m)
-    settles low m c d at next e =
+    budgeted low m c d at next e =
         let u : m .shared .config .budget ≡ AtMost (suc k) = ap (λ (x : Config). x .budget) c ∙ b in
         let n : tries (m .shared .config .budget) (m .voices) ≡ length (m .voices) = ap (λ x. tries x (m .voices)) u in
         answers spawn (blocked (spawn .bus) (spawn .rank) l) (nextVoice (l .shared)) (tries (m .shared .config .budget) (m .voices)) (stateUnder (m .shared .config .budget)) m
@@ -331,9 +331,9 @@ spawn-answer spawn l s k b t h = ap call.spawned (ap (λ o. unless o l (admitted
     all =
         managed-ranked spawn R l ids
         (λ e. ap (λ x. answerWhen x (blocked (spawn .bus) (spawn .rank) l) (nextVoice (l .shared))) (sym (rejected e)))
-        (λ e. settles (below-outranked (l .shared .config) (spawn .bus) (spawn .rank) (suc k) b (l .voices)
+        (λ e. budgeted (below-outranked (l .shared .config) (spawn .bus) (spawn .rank) (suc k) b (l .voices)
         (admit-below ids (l .shared) (counted (l .shared .config .scope) (spawn .bus)) (suc k) (l .shared .config .policy) (spawn .rank) (admits-is admission.Admit e))) l refl ids hb refl refl)
         (λ p w e v i x low.
         let tr = and-left (isTracked (v .state)) _ x in
-        settles (spare-outranked (l .shared .config) (spawn .bus) (spawn .rank) (suc k) b (l .voices) v i x low) (stealVoice v l) (config-steal v l) (ids-steal v l ids) (host-steal (spawn .bus) (spawn .rank) l ids hb v i)
+        budgeted (spare-outranked (l .shared .config) (spawn .bus) (spawn .rank) (suc k) b (l .voices) v i x low) (stealVoice v l) (config-steal v l) (ids-steal v l ids) (host-steal (spawn .bus) (spawn .rank) l ids hb v i)
         (ap (λ n. record { 0 = n + 1 }) (spawned-steal v l)) (blocked-steal (spawn .bus) (spawn .rank) l ids hb v i s tr low))

@@ -45,12 +45,12 @@ use Rattle.ledger.proofs.Victim.{steal-voice, nextOut-in}
 use Rattle.ledger.proofs.Owner.{portsAt, live-below, owner-old, owner-thin, dead-voice}
 use Rattle.ledger.proofs.EdgeInvariant.{above}
 use Rattle.ledger.proofs.EndInvariant.{still-end}
-use Rattle.ledger.proofs.Invariant.{Invariant, HostAt, sound-gone}
+use Rattle.ledger.proofs.Invariant.{Invariant, HostAt, sound-voice-removed}
 use Rattle.ledger.proofs.Raised.{sound-raised, owner-raised, ports-raised}
 use Rattle.ledger.proofs.Fading.{sound-fade}
-use Rattle.ledger.proofs.NewVoice.{feeder-out, sound-newcomer}
+use Rattle.ledger.proofs.NewVoice.{feeder-out, sound-new-voice}
 use Rattle.ledger.proofs.Port.{lowest-some, free-same, feeds-held}
-use Rattle.ledger.proofs.Abstraction.{modelOf, reached, stored, book-same, admits-same, find-stored, nextOut-same, tries-same, under-same, begin-stored}
+use Rattle.ledger.proofs.Abstraction.{modelOf, reached, stored, log-same, admits-same, find-stored, nextOut-same, tries-same, under-same, begin-stored}
 
 abbrev pub InvariantOf : Ledger → Type 0
 InvariantOf l = Invariant (l .shared .graph .nodes) (l .shared .graph .edges) (l .shared .graph .next) (l .shared .spawned) (l .voices) (l .holders)
@@ -69,14 +69,14 @@ pub record Lands (r : model.SpawnResult) (t : ledger.SpawnResult) : Type 0 where
   pub sound : InvariantOf (t .ledger)
 
 -- ---- a voice goes
-pub model-gone : (w : VoiceId) (l : Ledger) → model.withoutVoice w (modelOf l) ≡ modelOf (ledger.withoutVoice w l)
-model-gone w l =
+pub model-removed : (w : VoiceId) (l : Ledger) → model.withoutVoice w (modelOf l) ≡ modelOf (ledger.withoutVoice w l)
+model-removed w l =
     ap (λ vs. record { shared = ledger.withoutVoice w l .shared; voices = vs }) (filter-map (stored l) (λ v. not (isVoice w v)) (λ v. not (isVoice w v)) (λ v. refl) (l .voices))
 
 model-cut : (v : Voice) (t : VoiceState) (l : Ledger) → model.cutOff (stored l v) (movedState (reached (l .shared .config .block)) t) (modelOf l) ≡ modelOf (ledger.cutOff v t l)
 model-cut v t l =
-    ap (λ b. model.withoutVoice (v .id) (record { shared = withSteals b (l .shared); voices = map (stored l) (l .voices) })) (book-same (reached (l .shared .config .block)) v t (l .shared))
-    ∙ model-gone (v .id) (record { shared = withSteals (reclaimLog v t (l .shared)) (l .shared); holders = l .holders; voices = l .voices })
+    ap (λ b. model.withoutVoice (v .id) (record { shared = withSteals b (l .shared); voices = map (stored l) (l .voices) })) (log-same (reached (l .shared .config .block)) v t (l .shared))
+    ∙ model-removed (v .id) (record { shared = withSteals (reclaimLog v t (l .shared)) (l .shared); holders = l .holders; voices = l .voices })
 
 model-fade : (v : Voice) (p : ℕ) (l : Ledger) → model.fade (stored l v) p (modelOf l) ≡ modelOf (ledger.fade v p l)
 model-fade v p l =
@@ -96,7 +96,7 @@ module _ (l : Ledger) (s : InvariantOf l) where
       let pos = above (s .voiced) v i in
       record {
         model = model-cut v t l;
-        sound = sound-gone s (v .id) pos;
+        sound = sound-voice-removed s (v .id) pos;
         hosts = λ n h. owner-thin (s .listed) (ownedBy (v .id)) n ∙ rw (dead-voice (s .listed) (v .id) n 0 h, ne-eqb 0 (v .id .0) (λ q. omega (arith, pos))) h;
       }
 
@@ -129,14 +129,14 @@ module _ (spawn : Spawn) (ok : allowed (spawn .def) ≡ true) (t : VoiceState) (
   abbrev bus : NodeId
   bus = spawn .bus
 
-  land-agrees : (p : ℕ) (l : Ledger) → InvariantOf l → HostAt (l .shared .graph .nodes) (bus .0) → p < portsAt (l .shared .graph .nodes) (bus .0)
+  instantiate-agrees : (p : ℕ) (l : Ledger) → InvariantOf l → HostAt (l .shared .graph .nodes) (bus .0) → p < portsAt (l .shared .graph .nodes) (bus .0)
       → Lands (model.instantiate spawn t p (modelOf l)) (ledger.instantiate spawn t p l)
-  land-agrees p l s live range =
+  instantiate-agrees p l s live range =
       record {
         answer = refl;
         model = ap (λ vs. record { shared = ledger.instantiate spawn t p l .ledger .shared; voices = vs })
             (ap (λ v. map (stored l) (l .voices) ++ (v ∷ [])) same ∙ sym (map-append (stored l) (l .voices) (newVoice spawn t p (l .shared) ∷ [])));
-        sound = sound-newcomer (spawn .def) ok (pans (spawn .pan)) bus p (l .shared .spawned) (raised bus (l .shared .graph)) (l .voices) (l .holders) (sound-raised bus s)
+        sound = sound-new-voice (spawn .def) ok (pans (spawn .pan)) bus p (l .shared .spawned) (raised bus (l .shared .graph)) (l .voices) (l .holders) (sound-raised bus s)
             (owner-raised bus (l .shared .graph .nodes) (bus .0) ∙ live) (subst (λ n. p < n) (sym (ports-raised bus (l .shared .graph .nodes) (bus .0))) range) (newVoice spawn t p (l .shared)) refl refl (feeder-out spawn t p (l .shared)) (still-end t still (newVoice spawn t p (l .shared)));
       }
     where
@@ -154,7 +154,7 @@ module _ (spawn : Spawn) (ok : allowed (spawn .def) ≡ true) (t : VoiceState) (
     where
       go : (o : Option ℕ) → ledger.portFree bus l ≡ o
           → Lands (model.instantiateOr o none spawn t (modelOf l) (model.refused NoPort)) (ledger.instantiateOr o none spawn t l (ledger.refused NoPort))
-      go (some p) e = land-agrees p l s live (free-below p l e)
+      go (some p) e = instantiate-agrees p l s live (free-below p l e)
       go none e = refused-agrees NoPort l s
   place-agrees (suc k) l s live =
       subst (λ o. Lands (model.instantiateOr o (nextOut (l .shared) bus (spawn .rank) (map (stored l) (l .voices))) spawn t (modelOf l) (λ m. model.place k spawn t m)) (ledger.place (suc k) spawn t l))
@@ -166,7 +166,7 @@ module _ (spawn : Spawn) (ok : allowed (spawn .def) ≡ true) (t : VoiceState) (
       go : (o : Option ℕ) → ledger.portFree bus l ≡ o → (u : Option Voice) → nextOut (l .shared) bus (spawn .rank) (l .voices) ≡ u
           → ((l : Ledger) → InvariantOf l → HostAt (l .shared .graph .nodes) (bus .0) → Lands (model.place k spawn t (modelOf l)) (ledger.place k spawn t l))
           → Lands (model.instantiateOr o (mapO (stored l) u) spawn t (modelOf l) (λ m. model.place k spawn t m)) (ledger.instantiateOr o u spawn t l (λ l. ledger.place k spawn t l))
-      go (some p) e u f ih = land-agrees p l s live (free-below p l e)
+      go (some p) e u f ih = instantiate-agrees p l s live (free-below p l e)
       go none e none f ih = refused-agrees NoPort l s
       go none e (some v) f ih =
           let z = cut-off l s v (v .state) (nextOut-in (ids-of l s) (l .shared) bus (spawn .rank) v f .0) in
@@ -174,19 +174,19 @@ module _ (spawn : Spawn) (ok : allowed (spawn .def) ≡ true) (t : VoiceState) (
 
 -- ---- admission
 module _ (spawn : Spawn) (ok : allowed (spawn .def) ≡ true) where
-  settle-agrees : (l : Ledger) → InvariantOf l → HostAt (l .shared .graph .nodes) (spawn .bus .0) → Lands (model.placeWithinBudget spawn (modelOf l)) (ledger.placeWithinBudget spawn l)
-  settle-agrees l s live =
+  budgeted-agrees : (l : Ledger) → InvariantOf l → HostAt (l .shared .graph .nodes) (spawn .bus .0) → Lands (model.placeWithinBudget spawn (modelOf l)) (ledger.placeWithinBudget spawn l)
+  budgeted-agrees l s live =
       subst (λ k. Lands (model.place k spawn (stateUnder (l .shared .config .budget)) (modelOf l)) (ledger.placeWithinBudget spawn l))
       (sym (tries-same (reached (l .shared .config .block)) (l .shared .config .budget) (l .voices)))
       (place-agrees spawn ok (stateUnder (l .shared .config .budget)) (λ more. under-same more (l .shared .config .budget)) (tries (l .shared .config .budget) (l .voices)) l s live)
 
   steal-agrees : (l : Ledger) → InvariantOf l → HostAt (l .shared .graph .nodes) (spawn .bus .0) → (o : Option Voice) → ((v : Voice) → o ≡ some v → In v (l .voices) × (isTracked (v .state) ≡ true))
       → Lands (model.stealThen (mapO (stored l) o) spawn (modelOf l)) (ledger.stealThen o spawn l)
-  steal-agrees l s live none who = settle-agrees l s live
+  steal-agrees l s live none who = budgeted-agrees l s live
   steal-agrees l s live (some v) who =
       let r = who v refl in
       let z = stolen l s v (r .0) (r .1) in
-      subst (λ m. Lands (model.placeWithinBudget spawn m) (ledger.placeWithinBudget spawn (ledger.stealVoice v l))) (sym (z .model)) (settle-agrees (ledger.stealVoice v l) (z .sound) (z .hosts (spawn .bus .0) live))
+      subst (λ m. Lands (model.placeWithinBudget spawn m) (ledger.placeWithinBudget spawn (ledger.stealVoice v l))) (sym (z .model)) (budgeted-agrees (ledger.stealVoice v l) (z .sound) (z .hosts (spawn .bus .0) live))
 
   admitted-agrees : (l : Ledger) → InvariantOf l → HostAt (l .shared .graph .nodes) (spawn .bus .0)
       → Lands (model.admitted (model.admissionOn (spawn .bus) (spawn .rank) (modelOf l)) spawn (modelOf l)) (ledger.admitted (ledger.admissionOn (spawn .bus) (spawn .rank) l) spawn l)
@@ -195,7 +195,7 @@ module _ (spawn : Spawn) (ok : allowed (spawn .def) ≡ true) where
       (sym (admits-same (reached (l .shared .config .block)) (l .shared) (spawn .bus) (spawn .rank) (l .voices))) (go (ledger.admissionOn (spawn .bus) (spawn .rank) l) refl)
     where
       go : (a : Admission) → ledger.admissionOn (spawn .bus) (spawn .rank) l ≡ a → Lands (model.admitted a spawn (modelOf l)) (ledger.admitted a spawn l)
-      go admission.Admit e = settle-agrees l s live
+      go admission.Admit e = budgeted-agrees l s live
       go admission.Reject e = refused-agrees Rejected l s
       go (admission.Steal place w) e =
           let r = steal-voice (ids-of l s) (l .shared) (counted (l .shared .config .scope) (spawn .bus)) (l .shared .config .budget) (l .shared .config .policy) (spawn .rank) place w e in

@@ -20,7 +20,7 @@ use Rattle.node.specs.declared.refusal.Refusal.{Refusal}
 use Rattle.bus.specs.Fade.{fadeLength}
 use Rattle.rank.specs.Order.{among, upto}
 use Rattle.rank.specs.Cycle.{Distinct}
-use Rattle.rank.proofs.Sound.{among-in, bool-false}
+use Rattle.rank.proofs.Invariant.{among-in, bool-false}
 use Rattle.edges.specs.Ports.{portFrom}
 use Rattle.graph.specs.Node.{nodeAt, portsOf}
 use Rattle.voice.specs.Steals.{recordOf}
@@ -70,7 +70,7 @@ storeOf c l = record { shared = l .shared; voices = map (shown c) (l .voices) }
 module _ (c : Config) where
   model-store : (l : Ledger) → RunInvariant l → l .shared .config ≡ c → modelOf l ≡ storeOf c l
   model-store l k is =
-      ap (λ vs. record { shared = l .shared; voices = vs }) (stored-shown l (k .timely) (k .clock)) ∙ ap (λ (z : Config). storeOf z l) is
+      ap (λ vs. record { shared = l .shared; voices = vs }) (stored-shown l (k .no-overflow) (k .clock)) ∙ ap (λ (z : Config). storeOf z l) is
 
   -- a call on it
   pub store-step : (x : Call) (l : Ledger) → RunInvariant l → l .shared .config ≡ c → call.step x (storeOf c l) ≡ record { answer = step x l .answer; model = storeOf c (step x l .ledger) }

@@ -1,5 +1,5 @@
 -- What is true of the voices and of how many voice ids were given out after every list of calls, shown by three moves: voices go, voices
--- change and filter their ids, a newVoice takes the next id.
+-- change and keep their ids, a new voice takes the next id.
 use Prim.Native.Nat.{ℕ, _+_}
 use mathlib.Core.Path.{_≡_, refl}
 use mathlib.Core.List.{List, [], _∷_, _++_, map}
@@ -12,7 +12,7 @@ use Rattle.model.specs.Call.{Call}
 use Rattle.ledger.specs.Ledger.{Ledger, admissionOn}
 use Rattle.ledger.specs.Render.{oneMore}
 use Rattle.ledger.specs.Call.{run}
-use Rattle.ledger.proofs.Preserved.{Preserves, calm, kept-run}
+use Rattle.ledger.proofs.Preserved.{Preserves, voices-only, kept-run}
 use Rattle.ledger.proofs.Managed.{begin-id}
 use Rattle.ledger.proofs.Spawning.{Spawning, managed-keeps}
 
@@ -28,12 +28,12 @@ module _ (F : ℕ → List Voice → Type 0)
       record {
         cuts = λ l v s h. fewer (l .shared .spawned) (l .voices) (λ x. not (isVoice (v .id) x)) h;
         fades = λ l v p h. same (l .shared .spawned) (l .voices) (beginFade (v .id) (fadeOf (l .shared))) (begin-id (v .id) (fadeOf (l .shared))) h;
-        lands = λ l spawn s p h. more (l .shared .spawned) (l .voices) (newVoice spawn s p (l .shared)) refl h;
+        instantiates = λ l spawn s p h. more (l .shared .spawned) (l .voices) (newVoice spawn s p (l .shared)) refl h;
       }
 
-  pub voices-steady : Preserves VoicesOf
-  voices-steady =
-      calm (λ c b n vs. F n vs) (λ c b n vs w h. fewer n vs (λ x. not (isVoice w x)) h) (λ c b n vs h. same n vs (moved oneMore) (λ v. refl) h) (λ c b n vs v e s lt k h. more n vs v e h)
+  pub voices-preserved : Preserves VoicesOf
+  voices-preserved =
+      voices-only (λ c b n vs. F n vs) (λ c b n vs w h. fewer n vs (λ x. not (isVoice w x)) h) (λ c b n vs h. same n vs (moved oneMore) (λ v. refl) h) (λ c b n vs v e s lt k h. more n vs v e h)
 
   pub voices-run : (xs : List Call) (l : Ledger) → VoicesOf l → VoicesOf (run xs l .ledger)
-  voices-run = kept-run VoicesOf voices-steady (λ l spawn e h. managed-keeps VoicesOf voices-spawning spawn (admissionOn (spawn .bus) (spawn .rank) l) l h)
+  voices-run = kept-run VoicesOf voices-preserved (λ l spawn e h. managed-keeps VoicesOf voices-spawning spawn (admissionOn (spawn .bus) (spawn .rank) l) l h)

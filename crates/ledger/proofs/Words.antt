@@ -65,7 +65,7 @@ pub data Why (l l' : Ledger) (v : Voice) (f : Fade) : Call → Type 0 where
 -- nobody is tracked or fading, and nothing was recorded
 pub record AllLoose (l : Ledger) : Type 0 where
   pub voices : (v : Voice) → In v (l .voices) → v .state ≡ Loose
-  pub book : l .shared .steals ≡ noSteals
+  pub log : l .shared .steals ≡ noSteals
 
 -- every port of the bus is held so
 abbrev pub blocked : NodeId → ℕ → Ledger → Bool

@@ -20,7 +20,7 @@ use Rattle.model.specs.Refuse.{reportRefusal}
 use Rattle.model.specs.Order.{reportNode}
 use Rattle.model.specs.Order as param
 use Rattle.model.specs.Render.{prepareOutcome, prepareShared, due, renderRefusal}
-use Rattle.model.specs.Written.{written}
+use Rattle.lists.specs.Written.{written}
 use Rattle.model.specs.Model.{Model}
 use Rattle.model.specs.Call.{Call, Answer, readyAnswer, answerTo, event, scheduleRefusal}
 use Rattle.model.specs.Call as call

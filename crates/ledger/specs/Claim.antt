@@ -277,7 +277,7 @@ Heads none vs = Unit {0}
 Heads (some g) vs = (rest : List Voice) × (vs ≡ g ∷ rest)
 
 -- what is recorded of the voice v, which was one of the tracked voices beside the shared d, when vs' are the voices after the call: the
--- clock, the level that it had before the call, and a cut mark exactly if it is withoutVoice
+-- clock, the level that it had before the call, and a cut mark exactly if it is removed
 abbrev pub lossOf : SharedState → List Voice → Voice → StealRecord
 lossOf d vs' v = recordOf (d .clock) (voiceLevel d v) (not (isSome (find (isVoice (v .id)) vs')))
 
@@ -303,7 +303,7 @@ pub record Losses (x : Spawn) (s s' : Model) : Type 0 where
   pub below : (v : Voice) → In v lost → v .rank ≤ x .rank
   pub least : (v u : Voice) → victimOf x s ≡ some v → In u (s .voices) → counted (s .shared .config .scope) (x .bus) u ≡ true → v .rank ≤ u .rank
   pub lowest : (v u : Voice) → In v lost → In u (s' .voices) → u .state ≡ Tracked → isOn (x .bus) u ≡ true → v .rank ≤ u .rank
-  -- one that is still there fades, from now on, and fed a port of its bus. So one that cannot fade is withoutVoice
+  -- one that is still there fades, from now on, and fed a port of its bus. So one that cannot fade is removed
   pub fades : (v u : Voice) → In v lost → find (isVoice (v .id)) (s' .voices) ≡ some u
       → (u ≡ withState (Fading (fadeOf (s .shared))) v) × (isSome (portFrom (s .shared .graph .edges) (feeder v) (v .bus)) ≡ true)
   -- there are so many more records, and these are the voices'
@@ -318,7 +318,7 @@ noSteals = record { count = 0; newest = [] }
 -- nobody is tracked or fading, and nothing was recorded
 pub record AllLoose (s : Model) : Type 0 where
   pub voices : (v : Voice) → In v (s .voices) → v .state ≡ Loose
-  pub book : s .shared .steals ≡ noSteals
+  pub log : s .shared .steals ≡ noSteals
 
 -- ---- when a managed spawn finds a port
 -- a policy that steals
@@ -412,7 +412,7 @@ pub record Holds (c : Config) (s : Model) : Type 0 where
   pub clears : call.step call.clear s .model .voices
       ≡ filter (λ v. not (isSilent (s .shared .graph .nodes) v)) (filter (λ v. not (clearing.ended (fadeLength (c .rate)) (v .state))) (s .voices))
   pub removed : (n : ℕ) → call.step call.clear s .answer ≡ call.removed n → length (s .voices) ≡ length (call.step call.clear s .model .voices) + n
-  -- ---- 3. At the next call x a fading voice goes on, a block further after a sounding render and else the same; or it is withoutVoice, for one of
+  -- ---- 3. At the next call x a fading voice goes on, a block further after a sounding render and else the same; or it is removed, for one of
   -- the reasons of `Why`: a free, called or timed, its end or its silence at a clearing, or a reclaim, which marks its record.
   pub leaves : (x : Call) (v : Voice) → In v (s .voices) → (f : Fade) → v .state ≡ Fading f
       → GoesOn (c .block) v f (call.step x s .answer) (call.step x s .model .voices) ⊎ ((find (isVoice (v .id)) (call.step x s .model .voices) ≡ none) × Why s (call.step x s .model) v f x)
@@ -425,7 +425,7 @@ pub record Holds (c : Config) (s : Model) : Type 0 where
   pub writes : (n : ℕ) → c .budget ≡ AtMost n → (x : Spawn) (a : Spawned) → call.step (call.spawnManaged x) s .answer ≡ call.spawned a
       → call.step (call.spawnManaged x) s .model .shared .steals .count + count tracks (call.step (call.spawnManaged x) s .model .voices)
       ≡ more (isLet a) (s .shared .steals .count + count tracks (s .voices))
-  -- What these records hold: the clock, the level of the voice before anything of the call changed, and a cut mark exactly if it is withoutVoice.
+  -- What these records hold: the clock, the level of the voice before anything of the call changed, and a cut mark exactly if it is removed.
   pub losses : (x : Spawn) → Losses x s (call.step (call.spawnManaged x) s .model)
   -- Each fade has a record of its own: its number was written, and no other fade has it.
   pub numbers : (v : Voice) → In v (s .voices) → (f : Fade) → v .state ≡ Fading f → f .number < s .shared .steals .count

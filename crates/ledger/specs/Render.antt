@@ -24,7 +24,7 @@ abbrev pub applyEvents : List Event → Ledger → Ledger
 applyEvents [] l = l
 applyEvents (e ∷ q) l = applyEvents q (applyEvent e l)
 
--- 02, Paper 1: what became of an event, by the ledger's voices at the moment when it happens, and of each of them
+-- 02, Paper 1: what became of an event, by the ledger's voices at the moment when it is applied, and of each of them
 abbrev pub outcomeOf : Event → Ledger → Outcome
 outcomeOf e l =
     cond (isFree (e .action)) (freeOutcome (find (isVoice (e .voice)) (l .voices)))

@@ -4,3 +4,4 @@ pub mod Filter
 pub mod Member
 pub mod Rising
 pub mod Table
+pub mod Written

@@ -34,7 +34,7 @@ use Rattle.model.specs.Call.{Call, done, refused, ordered, time}
 use Rattle.model.specs.Call as call
 use Rattle.model.specs.Scene.{upTo, plain, float, voice, host, sink, wire, spawn, free, timedFree, sounding, silent, told, after, asked, further, seen, voices, fading, param, value, glide, render}
 use Rattle.model.specs.Spawn.{spawnOf}
-use Rattle.model.specs.SharedState.{withClock}
+use Rattle.model.specs.SharedState.{withClock, withEvents}
 
 -- ---- a definition of two nodes, the output takes values, the other one glides. `cut` is the first's, and again the second's;
 -- `gate` is the first's
@@ -96,7 +96,7 @@ by-time :
 unfolding eq prepare processingOrder lacking lacks any liveIds liveNodes risingFrom whole order walk released fed among count-up
 by-time = (refl, refl, refl, refl, refl)
 
--- A free before a value of the same time: the voice is withoutVoice, the value does nothing, and none of the two is left. The free prepares
+-- A free before a value of the same time: the voice is removed, the value does nothing, and none of the two is left. The free prepares
 -- inside the render, which sounds. A value does not prepare. Refuses: frees after the values; a free that leaves it unprepared.
 free-first :
     (asked (timedFree 4 1 ∷ at 4 "cut" 3 ∷ render ∷ []) (key []) ≡ done ∷ done ∷ told Rendered.Sounding (0 ∷ 1 ∷ []) 254 ∷ [])
@@ -154,9 +154,12 @@ not-yet : voices (after (upTo 2 Oldest) (host 2 ∷ timedFree 20 1 ∷ spawn 0 �
 unfolding eq prepare processingOrder lacking lacks any liveIds liveNodes risingFrom whole order walk released fed among count-up
 not-yet = refl
 
--- ---- 256 pending events, and one more: 7; a render that takes one makes place. Refuses: 255; a place that is not given back.
+-- ---- 256 pending events, and one more: 7; a render that takes one makes place. Refuses: 255; a place that is not given back. The first 255
+-- are put into the queue, since to schedule each of them takes the checker long.
 abbrev full : Model
-full = after (upTo 2 Oldest) (timedFree 4 9 ∷ replicate 254 (timedFree 40 9))
+full =
+    let m = after (upTo 2 Oldest) [] in
+    record { shared = withEvents (call.event 4 (voice 9) [] EventAction.Free ∷ replicate 254 (call.event 40 (voice 9) [] EventAction.Free)) (m .shared); voices = m .voices }
 
 table-full :
     asked (timedFree 40 9 ∷ timedFree 40 9 ∷ render ∷ timedFree 40 9 ∷ timedFree 40 9 ∷ []) full

@@ -29,7 +29,7 @@ use Rattle.model.specs.Scene.{small, toneDef, float, voice, host, spawn,
 use Rattle.model.specs.Spawn.{spawnOf}
 
 -- Voice 1 is born at 1. Reported before the clock has passed its birth, its level is none all the same; without a report it is 0 once the
--- clock has moved, by a silent render alone; then that of the last report; a voice that is withoutVoice, or never was, has none.
+-- clock has moved, by a silent render alone; then that of the last report; a voice that was removed, or never was, has none.
 -- Refuses: a level from the birth on; none before the first report; the highest report; a level that outlives its voice.
 abbrev lone : Model
 lone = after (small 1 Oldest) (host 1 ∷ render ∷ [])
@@ -50,7 +50,7 @@ unfolding eq levelOf squares rootOf sqrt narrow add mul div ofInt ofBits whole o
 stereo = refl
 
 -- The level is that of the output node, of a panned voice too; a report of the bus changes no voice. The constant, the pan and
--- the fade node of a voice take no report, also with a wrong block; a host node does; an unknown node and a withoutVoice one do not.
+-- the fade node of a voice take no report, also with a wrong block; a host node does; an unknown node and a removed one do not.
 -- Voice 1: node 1, constant 2, pan 3; then its fade 4, and voice 2 with node 5. Refuses: 16 before 4; the pan node's level.
 abbrev panned : Model
 panned = after (small 1 Oldest) (host 2 ∷ call.spawnManaged (spawnOf toneDef (id 0) nan 0) ∷ render ∷ [])

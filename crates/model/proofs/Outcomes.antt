@@ -26,7 +26,7 @@ use Rattle.model.specs.SharedState.{SharedState}
 use Rattle.model.specs.Voice.{isVoice, id}
 use Rattle.model.specs.Model.{Model}
 use Rattle.model.specs.Order.{takes, order, orderNode, orderParam, orderVoice, outcomeNumber, freeOutcome}
-use Rattle.model.specs.Written.{written}
+use Rattle.lists.specs.Written.{written}
 use Rattle.model.specs.Render.{applyEvent, applyEvents, outcomeOf, outcomes}
 
 -- ---- "Setting a value or glide shall answer 0 applied, or the first that is true of 1 no such voice, 2 no such parameter, 3 node takes none of
@@ -162,7 +162,7 @@ free-zero w vs = (go (find (isVoice w) vs) refl, back (find (isVoice w) vs) refl
     back (some u) e h = refl
 
 -- ---- "Render also answers how many events it took and hands this on for each, in event order": so many entries, and each is the outcome of its
--- event at the moment when it happens, after those before it
+-- event at the moment when it is applied, after those before it
 pub count-is : (q : List Event) (m : Model) → length (outcomes q m) ≡ length q
 count-is [] m = refl
 count-is (e ∷ q) m = ap suc (count-is q (applyEvent e m))

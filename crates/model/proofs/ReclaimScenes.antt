@@ -40,7 +40,7 @@ own-fade :
 unfolding eq whole order walk released fed among count-up
 own-fade = (refl, refl, refl)
 
--- ---- Two ports, budget 2, `Oldest`; two spawns; the host takes both ports; a spawn gives 12, both voices withoutVoice, two cut records.
+-- ---- Two ports, budget 2, `Oldest`; two spawns; the host takes both ports; a spawn gives 12, both voices are removed, with two cut records.
 -- Refuses: a reclaim that asks for a port; a search that stops at the first voice that frees none.
 abbrev taken : Model
 taken = after (upTo 2 Oldest) (host 2 ∷ host 0 ∷ spawn 0 ∷ spawn 0 ∷ wire 1 0 0 ∷ wire 1 0 1 ∷ [])

@@ -49,7 +49,7 @@ use Rattle.model.specs.Order.{reportNode}
 use Rattle.model.specs.Order as param
 use Rattle.model.specs.Clear as clearing
 use Rattle.model.specs.Page as paper
-use Rattle.model.specs.Written.{written}
+use Rattle.lists.specs.Written.{written}
 use Rattle.model.specs.Block.{fades, fadeBlock, sums, sumBlock, wholeFadeRefusal, wholeFadeBlock, wholeSumRefusal, wholeSumBlock}
 use Rattle.model.specs.Render.{prepareOutcome, prepareShared, due, rested, outcomes, renderRefusal}
 use Rattle.model.specs.Render as rendering

@@ -7,7 +7,6 @@ pub mod Order
 pub mod Clear
 pub mod Render
 pub mod Decimal
-pub mod Written
 pub mod Page
 pub mod Block
 pub mod Call

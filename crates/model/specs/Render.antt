@@ -59,7 +59,7 @@ abbrev pub applyEvents : List Event → Model → Model
 applyEvents [] m = m
 applyEvents (e ∷ l) m = applyEvents l (applyEvent e m)
 
--- 02, Paper 1: what became of an event, at the moment when it happens
+-- 02, Paper 1: what became of an event, at the moment when it is applied
 abbrev pub outcomeOf : Event → Model → Outcome
 outcomeOf e m =
     cond (isFree (e .action)) (freeOutcome (find (isVoice (e .voice)) (m .voices)))

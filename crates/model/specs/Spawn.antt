@@ -191,6 +191,6 @@ abbrev pub elseVictim : Option Voice → Option Voice → Option Voice
 elseVictim none o = o
 elseVictim (some v) o = some v
 
--- who goes for a port of the bus, for a newcomer of rank r. 02, Paper 13: "Fades are reclaimed regardless of rank."
+-- who goes for a port of the bus, for a new voice of rank r. 02, Paper 13: "Fades are reclaimed regardless of rank."
 abbrev pub nextOut : SharedState → NodeId → ℕ → List Voice → Option Voice
 nextOut d bus r vs = elseVictim (earliest (fadesOn bus) vs) (voiceOf (victim (d .config .policy) r (candidates d (trackedOn bus) vs)) vs)

@@ -18,7 +18,7 @@ use Rattle.rank.specs.Names.{rowOf, rowArc}
 use Rattle.rank.specs.Parts.{Ranked}
 use Rattle.rank.specs.declared.Ranking.{Ranking}
 use Rattle.rank.proofs.Cycle.{upto-in}
-use Rattle.rank.proofs.Sound.{at-in}
+use Rattle.rank.proofs.Invariant.{at-in}
 use Rattle.rank.proofs.Counts.{length-upto}
 use Rattle.rank.proofs.Names.{row-live, row-back, row-of-row, order-named, whole-named}
 use Rattle.rank.proofs.Theorems.{distinct-upto, order-only, order-few}

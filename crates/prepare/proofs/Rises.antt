@@ -15,7 +15,7 @@ use Rattle.lists.proofs.Table.{append-row}
 use Rattle.node.specs.declared.record.Node.{Node}
 use Rattle.rank.specs.Order.{among}
 use Rattle.rank.specs.Cycle.{Distinct}
-use Rattle.rank.proofs.Sound.{bool-false, among-in, in-at}
+use Rattle.rank.proofs.Invariant.{bool-false, among-in, in-at}
 use Rattle.prepare.specs.Live.{risingFrom, liveNodes, liveIds, idOf}
 use Rattle.prepare.specs.Parts.{Rising}
 

@@ -21,7 +21,7 @@ use Rattle.rank.specs.Parts.{indeg, degs, ready, St, app, fall, pickSt, 
 use Rattle.rank.proofs.Laws.{length-arcs}
 use Rattle.rank.proofs.Serve.{zeros-le, run-step, run-done, fall-zero}
 use Rattle.rank.proofs.Cycle.{in-upto, upto-in, among-snoc, opens, opens-none, fall-count, fall-long, Good, good-next, good-start}
-use Rattle.rank.proofs.Sound.{bool-false, among-in, in-among, Ok, Sound, sound-next, sound-start}
+use Rattle.rank.proofs.Invariant.{bool-false, among-in, in-among, Ok, Invariant, invariant-next, invariant-start}
 
 -- ---- how many arcs go to v
 abbrev pub into : ℕ → List Arc → ℕ
@@ -197,7 +197,7 @@ module _ (n : ℕ) (es : List Arc) where
       stops zero = refl
       stops (suc k) = refl
 
-  module _ (h : ℕ) (s : St) (l : h < length (s .queue)) (g : Good n es h s) (d : Sound n es h s) where
+  module _ (h : ℕ) (s : St) (l : h < length (s .queue)) (g : Good n es h s) (d : Invariant n es h s) where
     abbrev w : ℕ
     w = getD (s .queue) h 0
 
@@ -232,13 +232,13 @@ module _ (n : ℕ) (es : List Arc) where
         rw (drop-cons (s .queue) h 0 l, own-left n w (a .0) q (a .1) es, others-left n w (a .0) q (a .1) es) in
         run-step k es h s l ∙ ih ∙ after ∙ sym now
 
-  walked : (k h : ℕ) (s : St) → h + k ≡ n → Good n es h s → Sound n es h s → Walked k h s
+  walked : (k h : ℕ) (s : St) → h + k ≡ n → Good n es h s → Invariant n es h s → Walked k h s
   walked zero h s e g d = walked-out zero h s (omega (arith, few h s g))
   walked (suc k) h s e g d = go (decLt h (length (s .queue))) (walked k (suc h) (serve (getD (s .queue) h 0) es s) (omega arith))
     where
-      go : Dec (h < length (s .queue)) → (Good n es (suc h) (serve (getD (s .queue) h 0) es s) → Sound n es (suc h) (serve (getD (s .queue) h 0) es s) → Walked k (suc h) (serve (getD (s .queue) h 0) es s))
+      go : Dec (h < length (s .queue)) → (Good n es (suc h) (serve (getD (s .queue) h 0) es s) → Invariant n es (suc h) (serve (getD (s .queue) h 0) es s) → Walked k (suc h) (serve (getD (s .queue) h 0) es s))
           → Walked (suc k) h s
-      go (yes l) ih = walked-one h s l g d k (ih (good-next n es h s l g) (sound-next n es h s l d))
+      go (yes l) ih = walked-one h s l g d k (ih (good-next n es h s l g) (invariant-next n es h s l d))
       go (no o) ih = walked-out (suc k) h s (omega arith)
 
   -- ---- and where it begins
@@ -253,7 +253,7 @@ module _ (n : ℕ) (es : List Arc) where
   pub rows-order : orderRows n es ≡ order (upto n) es
   unfolding orderRows order start
   rows-order =
-      walked n 0 (start n es) (zero-add n) (good-start n es) (sound-start n es)
+      walked n 0 (start n es) (zero-add n) (good-start n es) (invariant-start n es)
       ∙ ap (λ (z : List ℕ). walk n z (left n [] es)) (ready-first n 0 (omega arith))
       ∙ sym (rw (length-upto n, live-left n es))
 

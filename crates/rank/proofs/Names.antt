@@ -19,7 +19,7 @@ use Rattle.rank.specs.Order.{Arc, arc, among, fed, live, own, others, re
 use Rattle.rank.specs.Cycle.{Distinct}
 use Rattle.rank.specs.Names.{rowOf, rowArc}
 use Rattle.rank.proofs.Cycle.{upto-in}
-use Rattle.rank.proofs.Sound.{among-in, in-among, at-in}
+use Rattle.rank.proofs.Invariant.{among-in, in-among, at-in}
 use Rattle.rank.proofs.Counts.{among-upto, length-upto}
 
 keep-map-in : {A B : Type 0} (f : A → B) (q : B → Bool) (r : A → Bool) (l : List A) → ((x : A) → In x l → q (f x) ≡ r x) → filter q (map f l) ≡ map f (filter r l)

@@ -16,7 +16,7 @@ use Rattle.rank.specs.Cycle.{Walk, step, then, Cyclic, Acyclic, Distinct
 use Rattle.rank.specs.Names.{rowOf, rowArc}
 use Rattle.rank.specs.Parts.{orderRows}
 use Rattle.rank.proofs.Cycle.{in-upto, upto-in, count-in, short-rows, rows-few}
-use Rattle.rank.proofs.Sound.{bool-false, among-in, in-among, at-in, rows-only, rows-sorted}
+use Rattle.rank.proofs.Invariant.{bool-false, among-in, in-among, at-in, rows-only, rows-sorted}
 use Rattle.rank.proofs.Counts.{rows-order, length-upto}
 use Rattle.rank.proofs.Names.{row-in, row-back, rows-apart, order-named, whole-named}
 

@@ -18,7 +18,7 @@ use Rattle.memory.specs.Lent.{lentState}
 use Rattle.memory.specs.Called.{Called, Kept}
 use Rattle.memory.specs.Called as memory
 use Rattle.memory.proofs.Run as lent
-use Rattle.memory.proofs.Steps.{kept-none}
+use Rattle.memory.proofs.Contracts.{kept-none}
 use Rattle.call_make.specs.Made.{making, ifDone}
 use Rattle.call_make.proofs.make.Reads as fn-make
 use Rattle.refinement.specs.Contract.{Contract, Runs, ends, calls}

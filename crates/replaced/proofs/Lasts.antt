@@ -20,7 +20,7 @@ use Rattle.scheduler.specs.Replace.{replaces, sameSort, thinned}
 use Rattle.scheduler.proofs.ReplaceLaws.{tested, tests-pass}
 use Rattle.replaced.specs.Kept.{overtaken, lasts}
 use Rattle.replaced.proofs.Thin.{Superseded, Thinned, same-time, in-thinned}
-use Rattle.replaced.proofs.Happen.{same-called}
+use Rattle.replaced.proofs.Applied.{same-called}
 
 -- ---- who replaces one that replaces a third replaces the third
 same-sort : (c a b : EventAction) → sameSort a b ≡ true → sameSort c a ≡ sameSort c b
@@ -77,9 +77,9 @@ in-superseded e [] f i r = absurd i
 in-superseded e (g ∷ p) f (inl z) r = inl (subst (λ x. replaces x e ≡ true) z r)
 in-superseded e (g ∷ p) f (inr i) r = inr (in-superseded e p f i r)
 
-pub single-keep : (t : Event → Bool) (p : List Event) → Single p → Single (filter t p)
-single-keep t [] s = tt
-single-keep t (e ∷ p) s = go (t e) (single-keep t p (s .1))
+pub single-filter : (t : Event → Bool) (p : List Event) → Single p → Single (filter t p)
+single-filter t [] s = tt
+single-filter t (e ∷ p) s = go (t e) (single-filter t p (s .1))
   where
     go : (b : Bool) → Single (filter t p) → Single (put? b e (filter t p))
     go true ih = (λ z. let r = superseded-in e (filter t p) z in s .0 (in-superseded e p (r .0) (in-filter t p (r .0) (r .1) .0) (r .2)), ih)
@@ -116,7 +116,7 @@ single-inserted n (f ∷ l) s h d = go (later n f) refl (single-inserted n l (s 
 
 pub single-replacing : (n : Event) (p : List Event) → Sorted p → Single p → Single (replacing n p)
 single-replacing n p s d =
-    single-inserted n (thinned n p) (keep-sorted (λ f. not (replaces n f)) p s) (λ f i. not-true _ (in-filter (λ f. not (replaces n f)) p f i .1)) (single-keep (λ f. not (replaces n f)) p d)
+    single-inserted n (thinned n p) (keep-sorted (λ f. not (replaces n f)) p s) (λ f i. not-true _ (in-filter (λ f. not (replaces n f)) p f i .1)) (single-filter (λ f. not (replaces n f)) p d)
 
 -- ---- so it is what is left of B's
 overtaken-true : (e : Event) (q : List Event) → Superseded e q → overtaken e q ≡ true

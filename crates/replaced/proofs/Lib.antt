@@ -1,5 +1,5 @@
 pub mod Thin
-pub mod Happen
+pub mod Applied
 pub mod Lasts
 pub mod Still
 pub mod Owned

@@ -1,4 +1,4 @@
--- What `Happen` needs of a store holds after every list of calls: the node of a voice's parameter is one of its definition's nodes
+-- What `Applied` needs of a store holds after every list of calls: the node of a voice's parameter is one of its definition's nodes
 -- (`Fits`), so it is the voice's own, by the ledger's `OwnNodes`; and ids of nodes are distinct, by the ledger's `Listed`.
 use Prim.Native.Nat.{ℕ, _+_, _≤_, _<_}
 use native.Mathlib.Omega.{arith}
@@ -36,13 +36,13 @@ use Rattle.ledger.specs.Ledger.{Ledger, portHeld, stolen, stealVoice, placeWith
 use Rattle.ledger.specs.Render.{oneMore}
 use Rattle.ledger.specs.Call.{step}
 use Rattle.ledger.proofs.Allowed.{spawn-allowed}
-use Rattle.ledger.proofs.Preserved.{place-kept, Preserves, calm-spawn, both-steady, kept-step}
-use Rattle.ledger.proofs.Managed.{IdsOf, managed-kept, ids-steady, ids-settle, ids-steal}
+use Rattle.ledger.proofs.Preserved.{place-kept, Preserves, voices-only-spawn, both-preserved, kept-step}
+use Rattle.ledger.proofs.Managed.{IdsOf, managed-kept, ids-preserved, ids-budgeted, ids-steal}
 use Rattle.ledger.proofs.Owner.{once}
 use Rattle.ledger.proofs.Abstraction.{modelOf, stored}
 use Rattle.ledger.proofs.Nodes.{OwnNodes}
 use Rattle.ledger.proofs.Simulation.{RunInvariant}
-use Rattle.replaced.proofs.Happen.{Good}
+use Rattle.replaced.proofs.Applied.{Good}
 
 -- ---- parameters name nodes of their definition
 abbrev pub Fits : Voice → Type 0
@@ -63,8 +63,8 @@ allowed-fits d h p i =
     let e : every (paramAllowed n) (paramRows (d .params)) ≡ true = and-left (every (paramAllowed n) (paramRows (d .params))) _ h₃ in
     ltb-true _ _ (and-right (named (p .name)) (ltb (p .node) n) (every-in (paramAllowed n) (paramRows (d .params)) p e i))
 
-fits-keep : (t : Voice → Bool) (vs : List Voice) → FitsAll vs → FitsAll (filter t vs)
-fits-keep t vs f v i = f v (in-filter t vs v i .0)
+fits-filter : (t : Voice → Bool) (vs : List Voice) → FitsAll vs → FitsAll (filter t vs)
+fits-filter t vs f v i = f v (in-filter t vs v i .0)
 
 fits-map : (g : Voice → Voice) → ((v : Voice) → (g v .params ≡ v .params) × (g v .count ≡ v .count)) → (vs : List Voice) → FitsAll vs → FitsAll (map g vs)
 fits-map g same vs f v i =
@@ -86,27 +86,27 @@ fits-steal : (v : Voice) (l : Ledger) → FitsOf l → FitsOf (stealVoice v l)
 fits-steal v l f = go (portHeld v l)
   where
     go : (o : Option ℕ) → FitsOf (stolen v o l)
-    go none = fits-keep (λ x. not (isVoice (v .id) x)) (l .voices) f
+    go none = fits-filter (λ x. not (isVoice (v .id) x)) (l .voices) f
     go (some p) = fits-map (beginFade (v .id) (fadeOf (l .shared))) (fits-begin (v .id) (fadeOf (l .shared))) (l .voices) f
 
-fits-settle : (spawn : Spawn) (l : Ledger) → allowed (spawn .def) ≡ true → FitsOf l → FitsOf (placeWithinBudget spawn l .ledger)
-fits-settle spawn l h f =
+fits-budgeted : (spawn : Spawn) (l : Ledger) → allowed (spawn .def) ≡ true → FitsOf l → FitsOf (placeWithinBudget spawn l .ledger)
+fits-budgeted spawn l h f =
     place-kept spawn (stateUnder (l .shared .config .budget)) (λ n l. FitsOf l) (λ r. FitsOf (r .ledger))
     (λ n l p e f. fits-snoc (l .voices) (newVoice spawn _ p (l .shared)) (allowed-fits (spawn .def) h) f) (λ l e f. f) (λ n l e g f. f)
-    (λ n l v e g f. fits-keep (λ x. not (isVoice (v .id) x)) (l .voices) f) (tries (l .shared .config .budget) (l .voices)) l f
+    (λ n l v e g f. fits-filter (λ x. not (isVoice (v .id) x)) (l .voices) f) (tries (l .shared .config .budget) (l .voices)) l f
 
-fits-steady : Preserves FitsOf
-fits-steady =
-    calm-spawn (λ c b n vs. FitsAll vs) (λ c b n vs w f. fits-keep (λ x. not (isVoice w x)) vs f) (λ c b n vs f. fits-map (moved oneMore) (λ v. (refl, refl)) vs f)
+fits-preserved : Preserves FitsOf
+fits-preserved =
+    voices-only-spawn (λ c b n vs. FitsAll vs) (λ c b n vs w f. fits-filter (λ x. not (isVoice w x)) vs f) (λ c b n vs f. fits-map (moved oneMore) (λ v. (refl, refl)) vs f)
     (λ l spawn p allow f. fits-snoc (l .voices) (newVoice spawn Loose p (l .shared)) (allowed-fits (spawn .def) (allow .definition)) f)
 
 pub fits-step : (x : Call) (l : Ledger) → IdsOf l → FitsOf l → FitsOf (step x l .ledger)
 fits-step x l u f =
-    kept-step (λ m. IdsOf m × FitsOf m) (both-steady ids-steady fits-steady)
+    kept-step (λ m. IdsOf m × FitsOf m) (both-preserved ids-preserved fits-preserved)
     (λ m spawn e h.
     let a = spawn-allowed (m .shared) (m .voices) (spawn .def) (spawn .bus) (spawn .rank) e .definition in
-    managed-kept spawn (λ r. IdsOf (r .ledger) × FitsOf (r .ledger)) m (h .0) (λ z. h) (λ z. (ids-settle spawn m (h .0), fits-settle spawn m a (h .1)))
-    (λ p w z v i t. (ids-settle spawn (stealVoice v m) (ids-steal v m (h .0)), fits-settle spawn (stealVoice v m) a (fits-steal v m (h .1)))))
+    managed-kept spawn (λ r. IdsOf (r .ledger) × FitsOf (r .ledger)) m (h .0) (λ z. h) (λ z. (ids-budgeted spawn m (h .0), fits-budgeted spawn m a (h .1)))
+    (λ p w z v i t. (ids-budgeted spawn (stealVoice v m) (ids-steal v m (h .0)), fits-budgeted spawn (stealVoice v m) a (fits-steal v m (h .1)))))
     x l (u, f) .1
 
 -- ---- so a store that calls made is good

@@ -29,9 +29,9 @@ use Rattle.ledger.proofs.Simulation.{RunInvariant, step-agrees, kept-step, kept
 use Rattle.ledger.proofs.Made.{made}
 use Rattle.replaced.specs.Kept.{withQueue, scheduled, isRender, keptUnless, keptBy, keptStep, keptRun}
 use Rattle.replaced.proofs.Thin.{Thinned, thinned-taken, thinned-left, thinned-schedule}
-use Rattle.replaced.proofs.Happen.{Good, thinned-happens, thinned-free}
-use Rattle.replaced.proofs.Lasts.{Single, single-keep, single-replacing, thinned-sorted}
-use Rattle.replaced.proofs.Still.{happens-still, prepared-still, heardQ, still-step}
+use Rattle.replaced.proofs.Applied.{Good, thinned-applies, thinned-free}
+use Rattle.replaced.proofs.Lasts.{Single, single-filter, single-replacing, thinned-sorted}
+use Rattle.replaced.proofs.Still.{applies-still, prepared-still, heardQ, still-step}
 use Rattle.replaced.proofs.Owned.{FitsOf, fits-step, good-of}
 
 -- ---- what goes on from call to call
@@ -103,7 +103,7 @@ module _ (a : Model) (g : Good a) (q : List Event) (h : Thinned (a .shared .even
   renders-both = (
     subst (λ (z : Heard). Related (z .model) (at q .model)) (sym mine)
         (subst (λ (z : Heard). Related (heardQ (leftAfter d p) both .model) (z .model)) (sym theirs)
-        (record { queue = leftAfter d q; is = refl; thin = thinned-left d p q h; order = keep-sorted (λ e. not (due d e)) q s; single = single-keep (λ e. not (due d e)) p i })),
+        (record { queue = leftAfter d q; is = refl; thin = thinned-left d p q h; order = keep-sorted (λ e. not (due d e)) q s; single = single-filter (λ e. not (due d e)) p i })),
     ap (λ (z : Heard). z .answer) mine ∙ sym (ap (λ (z : Heard). z .answer) theirs),
   )
     where
@@ -120,7 +120,7 @@ module _ (a : Model) (g : Good a) (q : List Event) (h : Thinned (a .shared .even
       both = preparedIf (anyFree (takenBefore d p)) (applyEvents (takenBefore d p) a)
 
       mine : at p ≡ heardQ (leftAfter d p) both
-      mine = ap (preparedIf (anyFree (takenBefore d p))) (happens-still (leftAfter d p) (takenBefore d p) a) ∙ prepared-still (leftAfter d p) (anyFree (takenBefore d p)) (applyEvents (takenBefore d p) a)
+      mine = ap (preparedIf (anyFree (takenBefore d p))) (applies-still (leftAfter d p) (takenBefore d p) a) ∙ prepared-still (leftAfter d p) (anyFree (takenBefore d p)) (applyEvents (takenBefore d p) a)
 
       less : Thinned (takenBefore d p) (takenBefore d q)
       less = thinned-taken d p q h
@@ -128,7 +128,7 @@ module _ (a : Model) (g : Good a) (q : List Event) (h : Thinned (a .shared .even
       theirs : at q ≡ heardQ (leftAfter d q) both
       theirs =
           ap (λ z. preparedIf z (applyEvents (takenBefore d q) (withQueue (leftAfter d q) a))) (thinned-free (takenBefore d q) (takenBefore d p) less)
-          ∙ ap (preparedIf (anyFree (takenBefore d p))) (happens-still (leftAfter d q) (takenBefore d q) a ∙ ap (withQueue (leftAfter d q)) (thinned-happens (takenBefore d q) (takenBefore d p) a g less))
+          ∙ ap (preparedIf (anyFree (takenBefore d p))) (applies-still (leftAfter d q) (takenBefore d q) a ∙ ap (withQueue (leftAfter d q)) (thinned-applies (takenBefore d q) (takenBefore d p) a g less))
           ∙ prepared-still (leftAfter d q) (anyFree (takenBefore d p)) (applyEvents (takenBefore d p) a)
 
   renders : (out : List ℕ) → Stepped (call.render out) a b

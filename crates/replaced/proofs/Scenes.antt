@@ -241,7 +241,7 @@ sort-ignored-differs :
 unfolding eq prepare processingOrder lacking lacks any liveIds liveNodes risingFrom whole order walk released fed among count-up
 sort-ignored-differs = (refl, refl, refl)
 
--- the value at 4 is withoutVoice when the first render comes
+-- the value at 4 is removed when the first render comes
 time-ignored-differs :
     (length (queueBy timeIgnored (ev 4 "cut" (val 1) ∷ ev 20 "cut" (val 3) ∷ []) []) ≡ 1)
     × (length (queueBy replacing (ev 4 "cut" (val 1) ∷ ev 20 "cut" (val 3) ∷ []) []) ≡ 2)

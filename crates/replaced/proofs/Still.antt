@@ -51,8 +51,8 @@ module _ (q : List Event) where
   abbrev pub queued : Step → Step
   queued s = record { answer = s .answer; model = withQueue q (s .model) }
 
-  abbrev landedQ : SpawnResult → SpawnResult
-  landedQ r = record { answer = r .answer; model = withQueue q (r .model) }
+  abbrev spawnedQ : SpawnResult → SpawnResult
+  spawnedQ r = record { answer = r .answer; model = withQueue q (r .model) }
 
   abbrev spawnStep : SpawnResult → Step
   spawnStep r = record { answer = call.spawned (r .answer); model = r .model }
@@ -85,62 +85,62 @@ module _ (q : List Event) where
   unless-still (some r) m s t h = refl
 
   -- ---- spawns
-  book-still : (v : Voice) (s : VoiceState) (d : SharedState) → reclaimLog v s (withEvents q d) ≡ reclaimLog v s d
-  book-still v Tracked d = refl
-  book-still v (Fading f) d = refl
-  book-still v Loose d = refl
+  log-still : (v : Voice) (s : VoiceState) (d : SharedState) → reclaimLog v s (withEvents q d) ≡ reclaimLog v s d
+  log-still v Tracked d = refl
+  log-still v (Fading f) d = refl
+  log-still v Loose d = refl
 
   cut-still : (v : Voice) (s : VoiceState) (m : Model) → cutOff v s (withQueue q m) ≡ withQueue q (cutOff v s m)
-  cut-still v s m = ap (λ b. withoutVoice (v .id) (withQueue q (record { shared = withSteals b (m .shared); voices = m .voices }))) (book-still v s (m .shared))
+  cut-still v s m = ap (λ b. withoutVoice (v .id) (withQueue q (record { shared = withSteals b (m .shared); voices = m .voices }))) (log-still v s (m .shared))
 
-  place-still : (n : ℕ) (spawn : Spawn) (s : VoiceState) (m : Model) → place n spawn s (withQueue q m) ≡ landedQ (place n spawn s m)
+  place-still : (n : ℕ) (spawn : Spawn) (s : VoiceState) (m : Model) → place n spawn s (withQueue q m) ≡ spawnedQ (place n spawn s m)
   place-still zero spawn s m = go (portFree (spawn .bus) m)
     where
-      go : (o : Option ℕ) → instantiateOr o none spawn s (withQueue q m) (refused NoPort) ≡ landedQ (instantiateOr o none spawn s m (refused NoPort))
+      go : (o : Option ℕ) → instantiateOr o none spawn s (withQueue q m) (refused NoPort) ≡ spawnedQ (instantiateOr o none spawn s m (refused NoPort))
       go none = refl
       go (some p) = refl
   place-still (suc n) spawn s m = go (portFree (spawn .bus) m) (nextOut (m .shared) (spawn .bus) (spawn .rank) (m .voices)) (place-still n spawn s)
     where
-      go : (o : Option ℕ) (u : Option Voice) → ((k : Model) → place n spawn s (withQueue q k) ≡ landedQ (place n spawn s k))
-          → instantiateOr o u spawn s (withQueue q m) (λ k. place n spawn s k) ≡ landedQ (instantiateOr o u spawn s m (λ k. place n spawn s k))
+      go : (o : Option ℕ) (u : Option Voice) → ((k : Model) → place n spawn s (withQueue q k) ≡ spawnedQ (place n spawn s k))
+          → instantiateOr o u spawn s (withQueue q m) (λ k. place n spawn s k) ≡ spawnedQ (instantiateOr o u spawn s m (λ k. place n spawn s k))
       go (some p) u ih = refl
       go none none ih = refl
       go none (some v) ih = ap (place n spawn s) (cut-still v (v .state) m) ∙ ih (cutOff v (v .state) m)
 
-  budget-still : (spawn : Spawn) (m : Model) → placeWithinBudget spawn (withQueue q m) ≡ landedQ (placeWithinBudget spawn m)
+  budget-still : (spawn : Spawn) (m : Model) → placeWithinBudget spawn (withQueue q m) ≡ spawnedQ (placeWithinBudget spawn m)
   budget-still spawn m = place-still (tries (m .shared .config .budget) (m .voices)) spawn (stateUnder (m .shared .config .budget)) m
 
   stolen-still : (v : Voice) (o : Option ℕ) (m : Model) → stolen v o (withQueue q m) ≡ withQueue q (stolen v o m)
   stolen-still v none m = refl
   stolen-still v (some p) m = refl
 
-  steal-still : (o : Option Voice) (spawn : Spawn) (m : Model) → stealThen o spawn (withQueue q m) ≡ landedQ (stealThen o spawn m)
+  steal-still : (o : Option Voice) (spawn : Spawn) (m : Model) → stealThen o spawn (withQueue q m) ≡ spawnedQ (stealThen o spawn m)
   steal-still none spawn m = budget-still spawn m
   steal-still (some v) spawn m =
       ap (placeWithinBudget spawn) (stolen-still v (portFrom (m .shared .graph .edges) (feeder v) (v .bus)) m) ∙ budget-still spawn (stealVoice v m)
 
-  admitted-still : (a : Admission) (spawn : Spawn) (m : Model) → admitted a spawn (withQueue q m) ≡ landedQ (admitted a spawn m)
+  admitted-still : (a : Admission) (spawn : Spawn) (m : Model) → admitted a spawn (withQueue q m) ≡ spawnedQ (admitted a spawn m)
   admitted-still admission.Admit spawn m = budget-still spawn m
   admitted-still admission.Reject spawn m = refl
   admitted-still (admission.Steal p w) spawn m = steal-still (find (isVoice w) (m .voices)) spawn m
 
-  landed-still : (o : Option Refusal) (m : Model) (r t : SpawnResult) → t ≡ landedQ r → store.unless o (withQueue q m) t ≡ landedQ (store.unless o m r)
-  landed-still none m r t h = h
-  landed-still (some n) m r t h = refl
+  spawned-still : (o : Option Refusal) (m : Model) (r t : SpawnResult) → t ≡ spawnedQ r → store.unless o (withQueue q m) t ≡ spawnedQ (store.unless o m r)
+  spawned-still none m r t h = h
+  spawned-still (some n) m r t h = refl
 
   -- ---- frees and clearing
   freed-still : (o : Option Voice) (m : Model) → freed o (withQueue q m) ≡ withQueue q (freed o m)
   freed-still none m = refl
   freed-still (some v) m = refl
 
-  goneAll-still : (vs : List Voice) (m : Model) → withoutVoices vs (withQueue q m) ≡ withQueue q (withoutVoices vs m)
-  goneAll-still [] m = refl
-  goneAll-still (v ∷ vs) m = goneAll-still vs (withoutVoice (v .id) m)
+  removedAll-still : (vs : List Voice) (m : Model) → withoutVoices vs (withQueue q m) ≡ withQueue q (withoutVoices vs m)
+  removedAll-still [] m = refl
+  removedAll-still (v ∷ vs) m = removedAll-still vs (withoutVoice (v .id) m)
 
   clear-still : (m : Model) → step call.clear (withQueue q m) ≡ queued (step call.clear m)
   clear-still m =
-      ap (λ z. after (length (endedVoices m)) z) (goneAll-still (endedVoices m) m)
-      ∙ ap (λ z. record { answer = call.removed (length (endedVoices m) + length (silentVoices (withoutVoices (endedVoices m) m))); model = z }) (goneAll-still (silentVoices (withoutVoices (endedVoices m) m)) (withoutVoices (endedVoices m) m))
+      ap (λ z. after (length (endedVoices m)) z) (removedAll-still (endedVoices m) m)
+      ∙ ap (λ z. record { answer = call.removed (length (endedVoices m) + length (silentVoices (withoutVoices (endedVoices m) m))); model = z }) (removedAll-still (silentVoices (withoutVoices (endedVoices m) m)) (withoutVoices (endedVoices m) m))
     where
       after : ℕ → Model → Step
       after n k = record { answer = call.removed (n + length (silentVoices k)); model = withoutVoices (silentVoices k) k }
@@ -178,17 +178,17 @@ module _ (q : List Event) where
   prepare-still d = ready-still (prepareOutcome d .answer) (prepareOutcome d .order) d
 
   -- ---- events that applyEvent
-  pub happen-still : (e : Event) (m : Model) → applyEvent e (withQueue q m) ≡ withQueue q (applyEvent e m)
-  happen-still e m = go (isFree (e .action))
+  pub applied-still : (e : Event) (m : Model) → applyEvent e (withQueue q m) ≡ withQueue q (applyEvent e m)
+  applied-still e m = go (isFree (e .action))
     where
       go : (b : Bool) → cond b (free (e .voice) (withQueue q m)) (record { shared = order (e .voice) (paramOrder e .name) (paramOrder e .order) (m .voices) (withEvents q (m .shared)) .shared; voices = m .voices })
           ≡ withQueue q (cond b (free (e .voice) m) (record { shared = order (e .voice) (paramOrder e .name) (paramOrder e .order) (m .voices) (m .shared) .shared; voices = m .voices }))
       go true = freed-still (find (isVoice (e .voice)) (m .voices)) m
       go false = ap (λ (r : Ordered). record { shared = r .shared; voices = m .voices }) (voice-still (find (isVoice (e .voice)) (m .voices)) (paramOrder e .name) (paramOrder e .order) (m .shared))
 
-  pub happens-still : (l : List Event) (m : Model) → applyEvents l (withQueue q m) ≡ withQueue q (applyEvents l m)
-  happens-still [] m = refl
-  happens-still (e ∷ l) m = ap (applyEvents l) (happen-still e m) ∙ happens-still l (applyEvent e m)
+  pub applies-still : (l : List Event) (m : Model) → applyEvents l (withQueue q m) ≡ withQueue q (applyEvents l m)
+  applies-still [] m = refl
+  applies-still (e ∷ l) m = ap (applyEvents l) (applied-still e m) ∙ applies-still l (applyEvent e m)
 
   abbrev pub heardQ : Heard → Heard
   heardQ h = record { answer = h .answer; model = withQueue q (h .model) }
@@ -216,9 +216,9 @@ module _ (q : List Event) where
   still-step (call.disconnect b p) r h m = unless-still (disconnectRefusal (m .shared .graph) b p) m _ _ refl
   still-step (call.setSink k) r h m = unless-still (hostRefusal (m .shared .graph) k) m _ _ refl
   still-step (call.spawnManaged spawn) r h m =
-      ap spawnStep (landed-still (spawnRefusal (m .shared) (m .voices) (spawn .def) (spawn .bus) (spawn .rank)) m _ _ (admitted-still (admissionOn (spawn .bus) (spawn .rank) m) spawn m))
+      ap spawnStep (spawned-still (spawnRefusal (m .shared) (m .voices) (spawn .def) (spawn .bus) (spawn .rank)) m _ _ (admitted-still (admissionOn (spawn .bus) (spawn .rank) m) spawn m))
   still-step (call.spawnLoose spawn) r h m =
-      ap spawnStep (landed-still (spawnRefusal (m .shared) (m .voices) (spawn .def) (spawn .bus) (spawn .rank)) m _ _ (place-still 0 spawn Loose m))
+      ap spawnStep (spawned-still (spawnRefusal (m .shared) (m .voices) (spawn .def) (spawn .bus) (spawn .rank)) m _ _ (place-still 0 spawn Loose m))
   still-step (call.free w) r h m = ap (λ k. record { answer = call.ordered (freeOutcome (find (isVoice w) (m .voices))); model = k }) (freed-still (find (isVoice w) (m .voices)) m)
   still-step call.clear r h m = clear-still m
   still-step (call.order w name o) r h m =

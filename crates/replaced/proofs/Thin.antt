@@ -31,39 +31,39 @@ same-time e f h = eqb-true _ _ (and-left (eqb (e .time) (f .time)) _ h)
 
 -- ---- what a test of the time keeps
 module _ (t : ℕ → Bool) where
-  abbrev timely : Event → Bool
-  timely e = t (e .time)
+  abbrev no-overflow : Event → Bool
+  no-overflow e = t (e .time)
 
-  superseded-keep : (e : Event) (q : List Event) → t (e .time) ≡ true → Superseded e q → Superseded e (filter timely q)
-  superseded-keep e [] h s = s
-  superseded-keep e (f ∷ q) h (inl r) =
+  superseded-filter : (e : Event) (q : List Event) → t (e .time) ≡ true → Superseded e q → Superseded e (filter no-overflow q)
+  superseded-filter e [] h s = s
+  superseded-filter e (f ∷ q) h (inl r) =
       let k : t (f .time) ≡ true = ap t (same-time f e r) ∙ h in
       rw k (inl r)
-  superseded-keep e (f ∷ q) h (inr s) = go (t (f .time)) (superseded-keep e q h s)
+  superseded-filter e (f ∷ q) h (inr s) = go (t (f .time)) (superseded-filter e q h s)
     where
-      go : (b : Bool) → Superseded e (filter timely q) → Superseded e (put? b f (filter timely q))
+      go : (b : Bool) → Superseded e (filter no-overflow q) → Superseded e (put? b f (filter no-overflow q))
       go true i = inr i
       go false i = i
 
-  pub thinned-keep : (q p : List Event) → Thinned p q → Thinned (filter timely p) (filter timely q)
-  thinned-keep [] p h = ap (filter timely) h
-  thinned-keep (e ∷ q) p (inl h) =
-      subst (λ z. Thinned (filter timely z) (filter timely (e ∷ q))) (sym (h .1)) (go (t (e .time)) (thinned-keep q (h .0) (h .2)))
+  pub thinned-filter : (q p : List Event) → Thinned p q → Thinned (filter no-overflow p) (filter no-overflow q)
+  thinned-filter [] p h = ap (filter no-overflow) h
+  thinned-filter (e ∷ q) p (inl h) =
+      subst (λ z. Thinned (filter no-overflow z) (filter no-overflow (e ∷ q))) (sym (h .1)) (go (t (e .time)) (thinned-filter q (h .0) (h .2)))
     where
-      go : (b : Bool) → Thinned (filter timely (h .0)) (filter timely q) → Thinned (put? b e (filter timely (h .0))) (put? b e (filter timely q))
-      go true i = inl (filter timely (h .0), refl, i)
+      go : (b : Bool) → Thinned (filter no-overflow (h .0)) (filter no-overflow q) → Thinned (put? b e (filter no-overflow (h .0))) (put? b e (filter no-overflow q))
+      go true i = inl (filter no-overflow (h .0), refl, i)
       go false i = i
-  thinned-keep (e ∷ q) p (inr h) = go (t (e .time)) refl (thinned-keep q p (h .1))
+  thinned-filter (e ∷ q) p (inr h) = go (t (e .time)) refl (thinned-filter q p (h .1))
     where
-      go : (b : Bool) → t (e .time) ≡ b → Thinned (filter timely p) (filter timely q) → Thinned (filter timely p) (put? b e (filter timely q))
-      go true k i = inr (superseded-keep e q k (h .0), i)
+      go : (b : Bool) → t (e .time) ≡ b → Thinned (filter no-overflow p) (filter no-overflow q) → Thinned (filter no-overflow p) (put? b e (filter no-overflow q))
+      go true k i = inr (superseded-filter e q k (h .0), i)
       go false k i = i
 
 pub thinned-taken : (deadline : ℕ) (p q : List Event) → Thinned p q → Thinned (takenBefore deadline p) (takenBefore deadline q)
-thinned-taken deadline p q h = thinned-keep (λ t. ltb t deadline) q p h
+thinned-taken deadline p q h = thinned-filter (λ t. ltb t deadline) q p h
 
 pub thinned-left : (deadline : ℕ) (p q : List Event) → Thinned p q → Thinned (leftAfter deadline p) (leftAfter deadline q)
-thinned-left deadline p q h = thinned-keep (λ t. not (ltb t deadline)) q p h
+thinned-left deadline p q h = thinned-filter (λ t. not (ltb t deadline)) q p h
 
 -- ---- a new event
 pub in-thinned : (q p : List Event) → Thinned p q → (x : Event) → In x p → In x q

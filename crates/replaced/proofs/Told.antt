@@ -26,7 +26,7 @@ use Rattle.store.specs.declared.answer.Rendered.the-variants as Rendered
 use Rattle.store.specs.declared.voices.Voice.{Voice}
 use Rattle.model.specs.Voice.{isVoice, id}
 use Rattle.model.specs.Model.{Model, withoutVoice, freed}
-use Rattle.model.specs.Written.{written}
+use Rattle.lists.specs.Written.{written}
 use Rattle.model.specs.Order.{Ordered, takes, withNode, stays, orderVoice, orderParam, orderNode, outcomeNumber, freeOutcome}
 use Rattle.node.specs.Node.{withLast}
 use Rattle.model.specs.Render.{isFree, applyEvent, due, deadline, rested, render, outcomeOf, outcomes, renderRefusal}
@@ -35,14 +35,14 @@ use Rattle.model.specs.Call as call
 use Rattle.replaced.specs.Kept.{withQueue, overtaken, lasts}
 use Rattle.replaced.specs.Replaced.{takenBy, toldBy, leftOf, ToldAlike}
 use Rattle.replaced.proofs.Thin.{Superseded, thinned-taken}
-use Rattle.replaced.proofs.Happen.{Good, setAt, put, atNodes, aim, look-set, touched, touched-takes, set-again, set-swap, gone-set, good-set, good-gone, good-happen, aim-set, happen-put, superseded-free}
-use Rattle.replaced.proofs.Lasts.{true-overtaken, single-keep, thinned-lasts}
-use Rattle.replaced.proofs.Still.{voice-still, happen-still}
+use Rattle.replaced.proofs.Applied.{Good, setAt, put, atNodes, aim, look-set, touched, touched-takes, set-again, set-swap, removed-set, good-set, good-removed, good-applied, aim-set, applied-put, superseded-free}
+use Rattle.replaced.proofs.Lasts.{true-overtaken, single-filter, thinned-lasts}
+use Rattle.replaced.proofs.Still.{voice-still, applied-still}
 use Rattle.replaced.proofs.Related.{Related, heard-same}
 
 -- ---- an outcome does not depend on last orders
-happened-set : (e : Event) (k : ℕ) (o : LastOrder) (m : Model) → outcomeOf e (setAt k o m) ≡ outcomeOf e m
-happened-set e k o m = ap (cond (isFree (e .action)) (freeOutcome (find (isVoice (e .voice)) (m .voices)))) (voice (find (isVoice (e .voice)) (m .voices)))
+applied-set : (e : Event) (k : ℕ) (o : LastOrder) (m : Model) → outcomeOf e (setAt k o m) ≡ outcomeOf e m
+applied-set e k o m = ap (cond (isFree (e .action)) (freeOutcome (find (isVoice (e .voice)) (m .voices)))) (voice (find (isVoice (e .voice)) (m .voices)))
   where
     u : LastOrder
     u = orderOf (e .action)
@@ -70,7 +70,7 @@ happened-set e k o m = ap (cond (isFree (e .action)) (freeOutcome (find (isVoice
 
 outcomes-set : (k : ℕ) (o : LastOrder) (q : List Event) (m : Model) → Good m → outcomes q (setAt k o m) ≡ outcomes q m
 outcomes-set k o [] m g = refl
-outcomes-set k o (f ∷ q) m g = ap (λ z. outcomeNumber z ∷ outcomes q (applyEvent f (setAt k o m))) (happened-set f k o m) ∙ ap (λ z. outcomeNumber (outcomeOf f m) ∷ z) (go (isFree (f .action)) refl (outcomes-set k o q))
+outcomes-set k o (f ∷ q) m g = ap (λ z. outcomeNumber z ∷ outcomes q (applyEvent f (setAt k o m))) (applied-set f k o m) ∙ ap (λ z. outcomeNumber (outcomeOf f m) ∷ z) (go (isFree (f .action)) refl (outcomes-set k o q))
   where
     u : LastOrder
     u = orderOf (f .action)
@@ -86,17 +86,17 @@ outcomes-set k o (f ∷ q) m g = ap (λ z. outcomeNumber z ∷ outcomes q (apply
 
     freeing : (t : Option Voice) → ((n : Model) → Good n → outcomes q (setAt k o n) ≡ outcomes q n) → outcomes q (freed t (setAt k o m)) ≡ outcomes q (freed t m)
     freeing none ih = ih m g
-    freeing (some v) ih = ap (outcomes q) (gone-set k o (v .id) m) ∙ ih (withoutVoice (v .id) m) (good-gone (v .id) m g)
+    freeing (some v) ih = ap (outcomes q) (removed-set k o (v .id) m) ∙ ih (withoutVoice (v .id) m) (good-removed (v .id) m g)
 
     go : (b : Bool) → isFree (f .action) ≡ b → ((n : Model) → Good n → outcomes q (setAt k o n) ≡ outcomes q n) → outcomes q (applyEvent f (setAt k o m)) ≡ outcomes q (applyEvent f m)
     go false b ih =
-        ap (outcomes q) (happen-put f (setAt k o m) (good-set k o m g) b ∙ ap (λ z. put z u (setAt k o m)) (aim-set f k o m))
-        ∙ each (aim f m) ih ∙ ap (outcomes q) (sym (happen-put f m g b))
+        ap (outcomes q) (applied-put f (setAt k o m) (good-set k o m g) b ∙ ap (λ z. put z u (setAt k o m)) (aim-set f k o m))
+        ∙ each (aim f m) ih ∙ ap (outcomes q) (sym (applied-put f m g b))
     go true b ih = rw b (freeing (find (isVoice (f .voice)) (m .voices)) ih)
 
 -- ---- so the list of what is left is the list, less the entries of what is not
 outcomes-drop : (e : Event) (q : List Event) (m : Model) → Good m → Superseded e q → outcomes q (applyEvent e m) ≡ outcomes q m
-outcomes-drop e q m g s = ap (outcomes q) (happen-put e m g (superseded-free e q s)) ∙ go (aim e m)
+outcomes-drop e q m g s = ap (outcomes q) (applied-put e m g (superseded-free e q s)) ∙ go (aim e m)
   where
     go : (t : Option ℕ) → outcomes q (put t (orderOf (e .action)) m) ≡ outcomes q m
     go none = refl
@@ -108,7 +108,7 @@ outcomes-lasts (e ∷ q) m g = go (overtaken e q) refl (outcomes-lasts q)
   where
     go : (b : Bool) → overtaken e q ≡ b → ((n : Model) → Good n → outcomes (lasts q) n ≡ leftOf q (outcomes q n))
         → outcomes (put? (not b) e (lasts q)) m ≡ put? (not b) (outcomeNumber (outcomeOf e m)) (leftOf q (outcomes q (applyEvent e m)))
-    go false t ih = ap (λ z. outcomeNumber (outcomeOf e m) ∷ z) (ih (applyEvent e m) (good-happen e m g))
+    go false t ih = ap (λ z. outcomeNumber (outcomeOf e m) ∷ z) (ih (applyEvent e m) (good-applied e m g))
     go true t ih = ih m g ∙ ap (leftOf q) (sym (outcomes-drop e q m g (true-overtaken e q t)))
 
 -- the pending events are not looked at
@@ -116,7 +116,7 @@ outcomes-still : (l q : List Event) (m : Model) → outcomes q (withQueue l m) �
 outcomes-still l [] m = refl
 outcomes-still l (e ∷ q) m =
     ap (λ (r : Ordered). outcomeNumber (cond (isFree (e .action)) (freeOutcome (find (isVoice (e .voice)) (m .voices))) (r .outcome)) ∷ outcomes q (applyEvent e (withQueue l m))) (voice-still l (find (isVoice (e .voice)) (m .voices)) (paramOrder e .name) (paramOrder e .order) (m .shared))
-    ∙ ap (λ z. outcomeNumber (outcomeOf e m) ∷ z) (ap (outcomes q) (happen-still l e m) ∙ outcomes-still l q (applyEvent e m))
+    ∙ ap (λ z. outcomeNumber (outcomeOf e m) ∷ z) (ap (outcomes q) (applied-still l e m) ∙ outcomes-still l q (applyEvent e m))
 
 -- ---- of every store that calls made: what the next render tells
 told : (a b : Model) → Good a → Related a b → outcomes (due (a .shared)) (rested a) ≡ leftOf (due (b .shared)) (outcomes (due (b .shared)) (rested b))
@@ -134,7 +134,7 @@ told a b g t = subst (λ (z : Model). outcomes (due (a .shared)) (rested a) ≡ 
     here : outcomes p (withQueue (leftAfter d (a .shared .events)) a) ≡ leftOf q (outcomes q (withQueue (leftAfter d (t .queue)) a))
     here =
         outcomes-still (leftAfter d (a .shared .events)) p a
-        ∙ ap (λ z. outcomes z a) (thinned-lasts q p (thinned-taken d (a .shared .events) (t .queue) (t .thin)) (single-keep (queue.due d) (a .shared .events) (t .single)))
+        ∙ ap (λ z. outcomes z a) (thinned-lasts q p (thinned-taken d (a .shared .events) (t .queue) (t .thin)) (single-filter (queue.due d) (a .shared .events) (t .single)))
         ∙ outcomes-lasts q a g
         ∙ ap (leftOf q) (sym (outcomes-still (leftAfter d (t .queue)) q a))
 

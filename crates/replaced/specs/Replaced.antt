@@ -12,7 +12,7 @@ use Rattle.node.specs.declared.refusal.Refusal.{Refusal}
 use Rattle.scheduler.specs.declared.event.Event.{Event}
 use Rattle.store.specs.declared.answer.Rendered.{Rendered}
 use Rattle.model.specs.Model.{Model}
-use Rattle.model.specs.Written.{written}
+use Rattle.lists.specs.Written.{written}
 use Rattle.model.specs.Render.{due, rested, outcomes, renderRefusal}
 use Rattle.model.specs.Call.{Call, step, run}
 use Rattle.model.specs.Call as call

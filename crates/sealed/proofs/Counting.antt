@@ -19,7 +19,7 @@ use Rattle.lists.specs.Count.{more, count}
 use Rattle.lists.proofs.Count.{count-all, count-filter, count-is-length}
 use Rattle.model.specs.Voice.{isVoice}
 use Rattle.ledger.specs.Holder.{Holder, nobody, host, voice, byVoice}
-use Rattle.ledger.proofs.Ids.{Ids, one-gone, ids-keep}
+use Rattle.ledger.proofs.Ids.{Ids, one-removed, ids-filter}
 use Rattle.store.specs.declared.voices.Voice.{Voice}
 
 module _ {A : Type 0} where
@@ -88,8 +88,8 @@ ports-enough h (suc n) given vs d at = go (find (λ v. byVoice (v .id) (h n)) vs
     go (some u) e ih =
         let f = find-in (λ v. byVoice (v .id) (h n)) vs u e in
         let vs' = filter (λ x. not (isVoice (u .id) x)) vs in
-        let c : count (λ x. true) vs ≡ suc (count (λ x. true) vs') = one-gone d (λ x. true) u (f .0) in
-        let z = ih vs' (ids-keep (λ x. not (isVoice (u .id) x)) d) (λ v i.
+        let c : count (λ x. true) vs ≡ suc (count (λ x. true) vs') = one-removed d (λ x. true) u (f .0) in
+        let z = ih vs' (ids-filter (λ x. not (isVoice (u .id) x)) d) (λ v i.
         let k = in-filter (λ x. not (isVoice (u .id) x)) vs v i in
         let r = at v (k .0) in
         below v (r .0) (r .1) (r .2) (λ b. false≢true (sym (not-true _ (k .1)) ∙ eq-eqb (v .id .0) (u .id .0) (same-holder (h n) v u b (f .1))))) in

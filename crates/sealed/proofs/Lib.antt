@@ -3,7 +3,7 @@ pub mod Counting
 pub mod Live
 pub mod Open
 pub mod Within
-pub mod Landing
+pub mod Spawning
 pub mod Never
 pub mod Theorem
 pub mod Scenes

@@ -24,7 +24,7 @@ use Rattle.ledger.specs.Ledger.{Ledger, newLedger, portFree, portHeld, cutOff, 
 use Rattle.ledger.specs.Render.{oneMore, countedIf}
 use Rattle.ledger.specs.Call.{step}
 use Rattle.ledger.proofs.Preserved.{place-kept, Preserves, kept-step}
-use Rattle.ledger.proofs.Managed.{IdsOf, managed-kept, begin-id, ids-new, ids-steady, ids-settle, ids-steal}
+use Rattle.ledger.proofs.Managed.{IdsOf, managed-kept, begin-id, ids-new, ids-preserved, ids-budgeted, ids-steal}
 use Rattle.ledger.proofs.NewVoice.{nodes-owned}
 use Rattle.ledger.proofs.Nodes.{in-grown, wires-same}
 use Rattle.node.specs.declared.record.NodeId.{NodeId}
@@ -51,8 +51,8 @@ more-voices vs vs' f x (inl p) = inl p
 more-voices vs vs' f x (inr r) = let u = f (r .0) (r .1) in inr (u .0, u .1, u .2 ∙ r .2)
 
 -- a voice goes with its nodes
-pub live-gone : (w : VoiceId) (ns : List Node) (vs : List Voice) → Live ns vs → Live (filter (λ x. not (ownedBy w x)) ns) (filter (λ v. not (isVoice w v)) vs)
-live-gone w ns vs h x i = let r = in-filter (λ x. not (ownedBy w x)) ns x i in go (h x (r .0)) (not-true _ (r .1))
+pub live-removed : (w : VoiceId) (ns : List Node) (vs : List Voice) → Live ns vs → Live (filter (λ x. not (ownedBy w x)) ns) (filter (λ v. not (isVoice w v)) vs)
+live-removed w ns vs h x i = let r = in-filter (λ x. not (ownedBy w x)) ns x i in go (h x (r .0)) (not-true _ (r .1))
   where
     go : Owned vs x → ownedBy w x ≡ false → Owned (filter (λ v. not (isVoice w v)) vs) x
     go (inl p) o = inl p
@@ -73,13 +73,13 @@ live-replaced ns vs k x n e o h y i = let r = in-map (λ m. cond (isNode (n .id)
     go z j true q = same x (find-in (isNode k) ns x e .0) (sym (ap (λ (w : Node). w .owner .0) q ∙ ap (λ (w : VoiceId). w .0) o))
     go z j false q = same z j (sym (ap (λ (w : Node). w .owner .0) q))
 
--- ---- a newcomer's nodes
+-- ---- a new voice's nodes
 -- a bus counts one voice more
 live-raised : (bus : NodeId) (ns : List Node) (vs : List Voice) → Live ns vs → Live (noiseRaised bus ns) vs
 live-raised bus ns vs h x i = let r = in-raised bus ns x i in ⊎-elim (λ a. inl (r .2 .1 ∙ a)) (λ q. inr (q .0, q .1, q .2 ∙ sym (r .2 .1))) (h (r .0) (r .1))
 
-pub live-land : (x : Spawn) (s : VoiceState) (p : ℕ) (l : Ledger) → LiveOf l → LiveOf (instantiate x s p l .ledger)
-live-land x s p l h n i =
+pub live-instantiate : (x : Spawn) (s : VoiceState) (p : ℕ) (l : Ledger) → LiveOf l → LiveOf (instantiate x s p l .ledger)
+live-instantiate x s p l h n i =
     ⊎-elim (λ j. more-voices (l .voices) (l .voices ++ (v ∷ [])) (λ u k. (u, in-left (l .voices) (v ∷ []) u k, refl)) n (live-raised (x .bus) (l .shared .graph .nodes) (l .voices) h n j))
     (λ r. inr (v, in-right (l .voices) (v ∷ []) v (inl refl), sym (r .2 ∙ nodes-owned (nextVoice (l .shared)) (x .def) (pans (x .pan)) (r .0) (r .1))))
     (in-grown xs g n (subst (λ ns. In n ns) (wires-same (g .next) (voiceWires (x .def) (pans (x .pan))) (appendAll g xs) .0) i))
@@ -94,7 +94,7 @@ live-land x s p l h n i =
     xs = voiceNodes (nextVoice (l .shared)) (x .def) (pans (x .pan))
 
 pub live-cut : (v : Voice) (s : VoiceState) (l : Ledger) → LiveOf l → LiveOf (cutOff v s l)
-live-cut v s l h = live-gone (v .id) (l .shared .graph .nodes) (l .voices) h
+live-cut v s l h = live-removed (v .id) (l .shared .graph .nodes) (l .voices) h
 
 live-map : (f : Voice → Voice) → ((v : Voice) → f v .id ≡ v .id) → (vs : List Voice) (x : Node) → Owned vs x → Owned (map f vs) x
 live-map f e vs x o = more-voices vs (map f vs) (λ v i. (f v, in-of-map f vs v i, ap (λ (w : VoiceId). w .0) (e v))) x o
@@ -112,16 +112,16 @@ live-steal v l iv h = go (portHeld v l)
         (λ e. inr (f v, in-of-map f (l .voices) v iv, ap (λ (w : VoiceId). w .0) (begin-id (v .id) (fadeOf (l .shared)) v) ∙ sym (ap (λ (y : Node). y .owner .0) e)))
         (in-snoc (l .shared .graph .nodes) (withId (l .shared .graph .next) (fadeNode (v .id))) x i)
 
-live-settle : (x : Spawn) (l : Ledger) → LiveOf l → LiveOf (placeWithinBudget x l .ledger)
-live-settle x l m =
-    place-kept x (stateUnder (l .shared .config .budget)) (λ n z. LiveOf z) (λ r. LiveOf (r .ledger)) (λ n z p e q. live-land x _ p z q) (λ z e q. q) (λ n z e f q. q)
+live-budgeted : (x : Spawn) (l : Ledger) → LiveOf l → LiveOf (placeWithinBudget x l .ledger)
+live-budgeted x l m =
+    place-kept x (stateUnder (l .shared .config .budget)) (λ n z. LiveOf z) (λ r. LiveOf (r .ledger)) (λ n z p e q. live-instantiate x _ p z q) (λ z e q. q) (λ n z e f q. q)
     (λ n z v e f q. live-cut v (v .state) z q) (tries (l .shared .config .budget) (l .voices)) l m
 
 abbrev pub LiveNodes : Ledger → Type 0
 LiveNodes l = IdsOf l × LiveOf l
 
-live-steady : Preserves LiveNodes
-live-steady =
+live-preserved : Preserves LiveNodes
+live-preserved =
     record {
       addNode = λ l kind ports required values glides e q.
           (q .0, λ x i. ⊎-elim (q .1 x) (λ p. inl (ap (λ (y : Node). y .owner .0) p)) (in-snoc (l .shared .graph .nodes) (withId (l .shared .graph .next) (hostNode kind ports required values glides)) x i));
@@ -129,27 +129,27 @@ live-steady =
       connect = λ l a b p e q. q;
       disconnect = λ l b p e q. q;
       setSink = λ l k q. q;
-      loose = λ l x e q. (ids-steady .loose l x e (q .0), lands l x (q .1) (portFree (x .bus) l));
-      goes = λ l w q. (ids-steady .goes l w (q .0), live-gone w (l .shared .graph .nodes) (l .voices) (q .1));
+      loose = λ l x e q. (ids-preserved .loose l x e (q .0), instantiates l x (q .1) (portFree (x .bus) l));
+      goes = λ l w q. (ids-preserved .goes l w (q .0), live-removed w (l .shared .graph .nodes) (l .voices) (q .1));
       node = λ l k x n e a q. (q .0, live-replaced (l .shared .graph .nodes) (l .voices) k x n e (a .owner) (q .1));
       schedule = λ l e h q. q;
       rest = λ l q. q;
       prepare = λ l o q. q;
-      block = λ l a q. (ids-steady .block l a (q .0), counts l (isSounding a) (q .1));
+      block = λ l a q. (ids-preserved .block l a (q .0), counts l (isSounding a) (q .1));
     }
   where
-    lands : (l : Ledger) (x : Spawn) → LiveOf l → (o : Option ℕ) → LiveOf (instantiateOr o none x Loose l (refused NoPort) .ledger)
-    lands l x m none = m
-    lands l x m (some p) = live-land x Loose p l m
+    instantiates : (l : Ledger) (x : Spawn) → LiveOf l → (o : Option ℕ) → LiveOf (instantiateOr o none x Loose l (refused NoPort) .ledger)
+    instantiates l x m none = m
+    instantiates l x m (some p) = live-instantiate x Loose p l m
 
     counts : (l : Ledger) (b : Bool) → LiveOf l → Live (l .shared .graph .nodes) (countedIf b (l .voices))
     counts l true m = λ x i. live-map (moved oneMore) (λ v. refl) (l .voices) x (m x i)
     counts l false m = m
 
 pub live-step : (x : Call) (l : Ledger) → LiveNodes l → LiveNodes (step x l .ledger)
-live-step = kept-step LiveNodes live-steady (λ l x e q.
-    managed-kept x (λ r. LiveNodes (r .ledger)) l (q .0) (λ h. q) (λ h. (ids-settle x l (q .0), live-settle x l (q .1)))
-    (λ p w h v i t. (ids-settle x (stealVoice v l) (ids-steal v l (q .0)), live-settle x (stealVoice v l) (live-steal v l i (q .1)))))
+live-step = kept-step LiveNodes live-preserved (λ l x e q.
+    managed-kept x (λ r. LiveNodes (r .ledger)) l (q .0) (λ h. q) (λ h. (ids-budgeted x l (q .0), live-budgeted x l (q .1)))
+    (λ p w h v i t. (ids-budgeted x (stealVoice v l) (ids-steal v l (q .0)), live-budgeted x (stealVoice v l) (live-steal v l i (q .1)))))
 
 pub live-new : (c : Config) → LiveNodes (newLedger c)
 live-new c = (ids-new c, λ x i. absurd i)

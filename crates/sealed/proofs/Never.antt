@@ -28,7 +28,7 @@ use Rattle.model.specs.Call.{Call}
 use Rattle.ledger.specs.Ledger.{Ledger, SpawnResult, placeWithinBudget, stealVoice, admitted, admissionOn}
 use Rattle.ledger.specs.Call.{step, run}
 use Rattle.ledger.proofs.Allowed.{spawn-allowed}
-use Rattle.ledger.proofs.Preserved.{place-kept, landed-kept}
+use Rattle.ledger.proofs.Preserved.{place-kept, unless-spawn-kept}
 use Rattle.ledger.proofs.Managed.{managed-kept}
 use Rattle.ledger.specs.Claim.{ownerAt, ownerOf, holderOf, sourceHolds, heldBy, isHost}
 use Rattle.ledger.proofs.Owner.{owner-some}
@@ -55,8 +55,8 @@ use Rattle.sealed.proofs.Counting.{covered, ports-enough}
 use Rattle.sealed.proofs.Accepts.{accepts-fits}
 use Rattle.sealed.proofs.Live.{LiveOf, LiveNodes, live-step}
 use Rattle.sealed.proofs.Open.{open-kept}
-use Rattle.sealed.proofs.Within.{ownedN, isOwner, fromOwner, fades, WithinL, within-gentle}
-use Rattle.sealed.proofs.Landing.{onBus, within-admitted}
+use Rattle.sealed.proofs.Within.{ownedN, isOwner, fromOwner, fades, WithinL, within-moves}
+use Rattle.sealed.proofs.Spawning.{onBus, within-admitted}
 
 -- what sealing tested of the numbers
 pub record NumbersFit (s : Profile) : Type 0 where
@@ -98,7 +98,7 @@ module _ (s : Profile) (l : Ledger) (sound : InvariantOf l) (live : LiveOf l) (r
           ⊎-elim (λ p. inl (ap (λ u. isOwner u 0) (g .from) ∙ eq-eqb _ _ (sym (o .2) ∙ p)))
           (λ z. inr (z .0, z .1, ap (λ u. isOwner u (z .0 .id .0)) (g .from) ∙ eq-eqb _ _ (sym (o .2) ∙ sym (z .2)))) (live (o .0) (n .0))
 
-  -- "hence P + 1": the newcomer's headroom is asked while P voices may still live
+  -- "hence P + 1": the new voice's headroom is asked while P voices may still live
   pub headroom : NumbersFit s → (def : SynthDef) → def .nodes .count ≤ s .«def_nodes» → def .edges .count ≤ s .«def_edges» → noHeadroom (l .shared) (l .voices) def ≡ false
   headroom m def small few =
       let a : length (l .shared .graph .nodes) + def .nodes .count + 3 ≤ 512 = omega (arith, m .nodes, nodes-few, small, add-mul (s .ports) 1 (s .«def_nodes» + 3), one-times (s .«def_nodes» + 3)) in
@@ -135,9 +135,9 @@ refusal7 d vs def bus rank h =
 Fine : SpawnResult → Type 0
 Fine r = r .answer ≡ Spawned.Refused TableFull → ⊥
 
-fine-settle : (x : Spawn) (l : Ledger) → Fine (placeWithinBudget x l)
+fine-budgeted : (x : Spawn) (l : Ledger) → Fine (placeWithinBudget x l)
 unfolding Fine
-fine-settle x l =
+fine-budgeted x l =
     place-kept x (stateUnder (l .shared .config .budget)) (λ n m. Unit {0}) Fine (λ n m p e q z. let y : _≡_ {A = ℕ} 0 1 = cc in omega arith) (λ m e q z. let y : _≡_ {A = ℕ} 0 1 = cc in omega arith)
     (λ n m e f q z. let y : _≡_ {A = ℕ} 0 1 = cc in omega arith) (λ n m v e f q. tt) (tries (l .shared .config .budget) (l .voices)) l tt
 
@@ -150,8 +150,8 @@ spawn-fine x l sound h e = go (spawnRefusal (l .shared) (l .voices) (x .def) (x 
   where
     all : Fine (admitted (admissionOn (x .bus) (x .rank) l) x l)
     all =
-        managed-kept x Fine l (ids-of l sound) (λ h z. let y : _≡_ {A = ℕ} 0 1 = cc in omega arith) (λ h. fine-settle x l)
-        (λ p w h v i t. fine-settle x (stealVoice v l))
+        managed-kept x Fine l (ids-of l sound) (λ h z. let y : _≡_ {A = ℕ} 0 1 = cc in omega arith) (λ h. fine-budgeted x l)
+        (λ p w h v i t. fine-budgeted x (stealVoice v l))
 
     refused-inj : (a b : Refusal) → Spawned.Refused a ≡ Spawned.Refused b → a ≡ b
     refused-inj a b e = cc
@@ -215,13 +215,13 @@ opens s x w =
 
 -- an open call keeps the invariant
 open-within : (s : Profile) (x : Call) (l : Ledger) → InvariantOf l → shuts s x ≡ false → WithinL s l → WithinL s (step x l .ledger)
-open-within s x l sound h r = open-kept (WithinL s) (within-gentle s) s x l h managed r
+open-within s x l sound h r = open-kept (WithinL s) (within-moves s) s x l h managed r
   where
     managed : (y : Spawn) → x ≡ call.spawnManaged y → WithinL s (ledger.spawnManaged y l .ledger)
     managed y e =
         let o = opens s y (not-false _ (sym (ap (shuts s) e) ∙ h)) in
         subst (λ y. WithinL s (ledger.spawnManaged y l .ledger)) (sym (o .at))
-        (landed-kept (WithinL s) (spawnRefusal (l .shared) (l .voices) (y .def) (s .bus) (y .rank)) l (admitted (admissionOn (s .bus) (y .rank) l) (onBus (s .bus) y) l) r (λ e.
+        (unless-spawn-kept (WithinL s) (spawnRefusal (l .shared) (l .voices) (y .def) (s .bus) (y .rank)) l (admitted (admissionOn (s .bus) (y .rank) l) (onBus (s .bus) y) l) r (λ e.
         within-admitted s y (spawn-allowed (l .shared) (l .voices) (y .def) (s .bus) (y .rank) e .definition) (o .small) (o .few) l sound r))
 
 pub sealed-step : (s : Profile) (x : Call) (l : Ledger) → shuts s x ≡ false → Sealed s l → Sealed s (step x l .ledger)

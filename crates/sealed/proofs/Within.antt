@@ -34,9 +34,10 @@ use Rattle.node.specs.declared.record.Edge.{Edge}
 use Rattle.store.specs.declared.voices.Voice.{Voice}
 use Rattle.store.specs.declared.voices.VoiceState.{VoiceState}
 use Rattle.store.specs.declared.voices.VoiceState.the-variants.{Tracked, Fading, Loose}
+use Rattle.ledger.proofs.Preserved.{OpenMoves}
 use Rattle.sealed.specs.declared.profile.Profile.{Profile}
 use Rattle.sealed.proofs.Counting.{count-weaker}
-use Rattle.sealed.proofs.Open.{Gentle}
+use Rattle.sealed.proofs.Open.{Positive}
 
 abbrev pub ownedN : ℕ → Node → Bool
 ownedN k x = eqb (x .owner .0) k
@@ -101,8 +102,8 @@ thin-owner true o k h = absurd (false≢true h)
 thin-owner false o k h = h
 
 module _ {s : Profile} {ns : List Node} {es : List Edge} {nx nv : ℕ} {vs : List Voice} {h : Holders} (r : Within s ns es nx nv vs h) where
-  pub within-gone : (w : VoiceId) → 0 < w .0 → Within s (filter (λ x. not (ownedBy w x)) ns) (dropTouching es (idsOf (ownedBy w) ns)) nx nv (filter (λ v. not (isVoice w v)) vs) (dropVoice w h)
-  within-gone w pos =
+  pub within-removed : (w : VoiceId) → 0 < w .0 → Within s (filter (λ x. not (ownedBy w x)) ns) (dropTouching es (idsOf (ownedBy w) ns)) nx nv (filter (λ v. not (isVoice w v)) vs) (dropVoice w h)
+  within-removed w pos =
       record {
         listed = listed-thin (r .listed) (ownedBy w);
         positive = λ v i. r .positive v (old v i);
@@ -186,13 +187,13 @@ moved-fades more Tracked = refl
 moved-fades more (Fading f) = refl
 moved-fades more Loose = refl
 
-pub within-gentle : (s : Profile) → Gentle (WithinL s)
-within-gentle s =
+pub within-moves : (s : Profile) → OpenMoves Positive (WithinL s)
+within-moves s =
     record {
-      positive = λ l r. r .positive;
-      goes = λ l w pos r. within-gone r w pos;
-      node = λ l k x n e i o p r. within-replaced r n x k e (ap (λ (z : NodeId). z .0) i) (ap (λ (z : VoiceId). z .0) o) p;
-      schedule = λ l e r. again l r;
+      known = λ l r. r .positive;
+      goes = λ l w pos r. within-removed r w pos;
+      node = λ l k x n e a r. within-replaced r n x k e (ap (λ (z : NodeId). z .0) (a .id)) (ap (λ (z : VoiceId). z .0) (a .owner)) (a .ports);
+      schedule = λ l e f r. again l r;
       rest = λ l r. again l r;
       prepare = λ l o r. again l r;
       block = λ l a r. counts l (isSounding a) r;

@@ -1,14 +1,14 @@
 -- Two records with the same fields are the same record; the table has room for 64.
-use native.Mathlib.Omega.{arith}
 use Prim.Native.Nat.{ℕ, _-_, _/_, _%_, min}
+use native.Mathlib.Omega.{arith}
 use mathlib.Core.Path.{_≡_, ap, _∙_}
 use mathlib.Core.Bool.{Bool}
 use mathlib.Core.List.{List, []}
 use lib.Ieee.{Float}
 use lib.ListN.{length, drop}
 use Rattle.voice.specs.declared.steals.StealRecord.{StealRecord}
-use Rattle.voice.specs.Steals.{noBook, turned}
-use Rattle.voice.proofs.Records.{book-long}
+use Rattle.voice.specs.Steals.{emptyLog, turned}
+use Rattle.voice.proofs.Records.{log-long}
 use Rattle.lists.proofs.Table.{left-none}
 use Rattle.words.proofs.Rows.{rows-long}
 use Rattle.steal_log.specs.Rows.{stealOf, recordsIn, stealsIn, logIn}
@@ -25,10 +25,10 @@ room c long = rows-long 5 stealOf c ∙ ap (λ k. k / 5) long
 
 -- as many are held as there were, and at most 64
 pub held-is : (c : List ℕ) (total next : ℕ) → length c ≡ 320 → length (logIn c total next .newest) ≡ min total 64
-held-is c total next long = book-long (stealsIn c total next) (room c long)
+held-is c total next long = log-long (stealsIn c total next) (room c long)
 
 -- words that a new store is lent, whatever they are, hold no steals
-pub none-held : (c : List ℕ) (next : ℕ) → logIn c 0 next ≡ noBook
+pub none-held : (c : List ℕ) (next : ℕ) → logIn c 0 next ≡ emptyLog
 none-held c next =
     let l = turned (next % 64) (recordsIn c) in
     let all : length l - 0 ≡ length l = omega arith in

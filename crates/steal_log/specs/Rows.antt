@@ -1,5 +1,5 @@
 -- A steal record in five words, the ring that a list of words is with the total and the next place of the store's state, and
--- the book that it stands for: "`steals` becomes a running count and the newest 64 records (sample, level or none, cut mark)."
+-- the log that it stands for: "`steals` becomes a running count and the newest 64 records (sample, level or none, cut mark)."
 use Prim.Native.Nat.{ℕ}
 use mathlib.Core.Path.{_≡_}
 use mathlib.Core.List.{List}

@@ -1,12 +1,14 @@
 // The steal records in words that the host lends: 64 rows of five words. The count of all steals and the next place of the ring
 // stand in the store's state. The words are decoded into `Steals`, the struct of 64 records with the total and the next place,
 // changed there, and written back, by the calls that touch them and no others.
+use voice::policy::Level;
 use voice::steals::StealFound;
 use voice::steals::StealRecord;
 use voice::steals::Steals;
 use voice::steals::mark_cut;
 use voice::steals::push_steal;
 use voice::steals::steal_at;
+use voice::steals::steal_record;
 use words::fields::flag_at;
 use words::fields::flag_word;
 use words::fields::float_at;
@@ -71,12 +73,7 @@ fn read_all(t: &[u32], total: u64, next: usize) -> Steals
     requires { ⌜ length (now t) ≡ 320 ⌝ }
     ensures { λ r. ⌜ r ≡ stealsIn (now (t .entry)) total next ⌝ }
 {
-    let none = StealRecord {
-        sample: 0,
-        level: 0.0,
-        known: false,
-        cut: false,
-    };
+    let none = steal_record(0, Level::Unknown, false);
     let mut rows = [none; 64];
     let mut i: usize = 0;
     while i < 64 {

@@ -33,10 +33,11 @@ edgeTable l = record { rows = l ++ replicate (48 - length l) noEdge; count = len
 abbrev pub noName : Name
 noName = record { bytes = []; len = 0 }
 
-abbrev pub noNode : DefNode
-noNode =
+-- a node of that kind, and nothing else of it
+abbrev pub bareNode : Name → DefNode
+bareNode kind =
     record {
-      kind = noName;
+      kind = kind;
       ports = 0;
       required = 0;
       «takes_values» = false;
@@ -45,6 +46,9 @@ noNode =
       «level_port» = 0;
       «amp_port» = 0;
     }
+
+abbrev pub noNode : DefNode
+noNode = bareNode noName
 
 abbrev pub noParam : Param
 noParam = record { name = noName; node = 0 }

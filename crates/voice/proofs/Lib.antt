@@ -1,5 +1,5 @@
 pub mod Victims
-pub mod Books
+pub mod Logs
 pub mod Examples
 pub mod Walk
 pub mod Admission

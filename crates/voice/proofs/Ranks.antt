@@ -40,7 +40,7 @@ pub lowest-greatest : (r : ℕ) (l : List Candidate) (k : ℕ) → k ≤ r → (
 lowest-greatest r [] k h f = h
 lowest-greatest r (c ∷ l) k h f = let z = f c (inl refl) in let m : k ≤ min r (c .rank) = omega arith in lowest-greatest (min r (c .rank)) l k m (λ e i. f e (inr i))
 
--- ---- who is asked: the candidates that do not outrank the newcomer and that no candidate is below of
+-- ---- who is asked: the candidates that do not outrank the new voice and that no candidate is below of
 pub low-in : (r : ℕ) (l : List Candidate) (c : Candidate) → In c (ofLowest r l) → In c l × (c .rank ≤ r) × ((e : Candidate) → In e l → c .rank ≤ e .rank)
 low-in r l c i =
     let z = in-filter (λ (x : Candidate). eqb (x .rank) (lowest r l)) l c i in
@@ -55,7 +55,7 @@ in-low r l c i h f =
     let k : c .rank ≡ lowest r l = omega arith in
     filter-in (λ (x : Candidate). eqb (x .rank) (lowest r l)) l c i (eq-eqb _ _ k)
 
--- ---- nobody, where all candidates outrank the newcomer
+-- ---- nobody, where all candidates outrank the new voice
 pub low-none : (r : ℕ) (l : List Candidate) → ((c : Candidate) → In c l → r < c .rank) → ofLowest r l ≡ []
 low-none r l f = filter-none (λ (x : Candidate). eqb (x .rank) (lowest r l)) l (λ c i. go c (f c i) (eqb (c .rank) (lowest r l)) refl)
   where
@@ -66,7 +66,7 @@ low-none r l f = filter-none (λ (x : Candidate). eqb (x .rank) (lowest r l)) l 
 pub outranked-nobody : (p : StealPolicy) (r : ℕ) (l : List Candidate) → ((c : Candidate) → In c l → r < c .rank) → victim p r l ≡ Nobody
 outranked-nobody p r l f = ap (λ z. policyVictim p z) (low-none r l f) ∙ victim-none p
 
--- the lowest rank is the newcomer's, or somebody has it
+-- the lowest rank is the new voice's, or somebody has it
 lowest-had : (r : ℕ) (l : List Candidate) → (lowest r l ≡ r) ⊎ ((c : Candidate) × In c l × (c .rank ≡ lowest r l))
 lowest-had r [] = inl refl
 lowest-had r (c ∷ l) = go (leb r (c .rank)) refl (lowest-had (min r (c .rank)) l)
@@ -104,7 +104,7 @@ in-at [] i d h = absurd (omega arith)
 in-at (c ∷ l) zero d h = inl refl
 in-at (c ∷ l) (suc i) d h = let k : i < length l = omega arith in inr (in-at l i d k)
 
--- ---- the victim: one of the candidates, of a rank that is not above the newcomer's nor above any candidate's
+-- ---- the victim: one of the candidates, of a rank that is not above the new voice's nor above any candidate's
 abbrev pub Lowest : ℕ → List Candidate → Victim → Type 0
 Lowest r l Nobody = Unit
 Lowest r l (Goes place v) = (c : Candidate) × In c l × (c .voice ≡ v) × (c .rank ≤ r) × ((e : Candidate) → In e l → c .rank ≤ e .rank)
@@ -119,12 +119,12 @@ victim-lowest d p r l = go (victim p r l) (victim-one d p (ofLowest r l))
         let z = low-in r l c (in-at (ofLowest r l) i d (o .0)) in
         (c, z .0, o .1, z .1, z .2)
 
--- ---- closed: a policy, the newcomer's rank, the candidates in order of admission, and the voice that goes, counted from 1; 0 for nobody.
--- The rows refuse: the highest rank first; the policy among all that do not outrank the newcomer; an equal rank protected; the lowest rank
--- taken though it outranks the newcomer; a rank above the newcomer's taken for the lowest.
+-- ---- closed: a policy, the new voice's rank, the candidates in order of admission, and the voice that goes, counted from 1; 0 for nobody.
+-- The rows refuse: the highest rank first; the policy among all that do not outrank the new voice; an equal rank protected; the lowest rank
+-- taken though it outranks the new voice; a rank above the new voice's taken for the lowest.
 pub record Row : Type 0 where
   pub rule : StealPolicy
-  pub newcomer : ℕ
+  pub new-rank : ℕ
   pub candidates : List Candidate
   pub voice : ℕ
 
@@ -138,18 +138,18 @@ five = one 1 2 0 ∷ one 2 1 4 ∷ one 3 3 9 ∷ one 4 1 5 ∷ one 5 2 1 ∷ []
 
 abbrev pub table : List Row
 table =
-    record { rule = policy.Oldest; newcomer = 7; candidates = five; voice = 2 } ∷
-    record { rule = policy.Newest; newcomer = 7; candidates = five; voice = 4 } ∷
-    record { rule = policy.Quietest; newcomer = 7; candidates = five; voice = 2 } ∷
-    record { rule = policy.Reject; newcomer = 7; candidates = five; voice = 0 } ∷
-    record { rule = policy.Oldest; newcomer = 2; candidates = five; voice = 2 } ∷
-    record { rule = policy.Oldest; newcomer = 1; candidates = five; voice = 2 } ∷
-    record { rule = policy.Oldest; newcomer = 0; candidates = five; voice = 0 } ∷
-    record { rule = policy.Newest; newcomer = 0; candidates = five; voice = 0 } ∷
-    record { rule = policy.Quietest; newcomer = 0; candidates = five; voice = 0 } ∷
-    record { rule = policy.Oldest; newcomer = 3; candidates = one 1 4 0 ∷ one 2 5 0 ∷ []; voice = 0 } ∷
-    record { rule = policy.Quietest; newcomer = 4; candidates = one 1 4 9 ∷ one 2 5 0 ∷ []; voice = 1 } ∷
-    record { rule = policy.Oldest; newcomer = 7; candidates = []; voice = 0 } ∷
+    record { rule = policy.Oldest; new-rank = 7; candidates = five; voice = 2 } ∷
+    record { rule = policy.Newest; new-rank = 7; candidates = five; voice = 4 } ∷
+    record { rule = policy.Quietest; new-rank = 7; candidates = five; voice = 2 } ∷
+    record { rule = policy.Reject; new-rank = 7; candidates = five; voice = 0 } ∷
+    record { rule = policy.Oldest; new-rank = 2; candidates = five; voice = 2 } ∷
+    record { rule = policy.Oldest; new-rank = 1; candidates = five; voice = 2 } ∷
+    record { rule = policy.Oldest; new-rank = 0; candidates = five; voice = 0 } ∷
+    record { rule = policy.Newest; new-rank = 0; candidates = five; voice = 0 } ∷
+    record { rule = policy.Quietest; new-rank = 0; candidates = five; voice = 0 } ∷
+    record { rule = policy.Oldest; new-rank = 3; candidates = one 1 4 0 ∷ one 2 5 0 ∷ []; voice = 0 } ∷
+    record { rule = policy.Quietest; new-rank = 4; candidates = one 1 4 9 ∷ one 2 5 0 ∷ []; voice = 1 } ∷
+    record { rule = policy.Oldest; new-rank = 7; candidates = []; voice = 0 } ∷
     []
 
 abbrev pub goes : Victim → ℕ → Bool
@@ -158,7 +158,7 @@ goes (Goes place voice) n = eqb (voice .0) n
 
 abbrev pub right : List Row → Bool
 right [] = true
-right (x ∷ l) = goes (victim (x .rule) (x .newcomer) (x .candidates)) (x .voice) && right l
+right (x ∷ l) = goes (victim (x .rule) (x .new-rank) (x .candidates)) (x .voice) && right l
 
 pub examples : right table ≡ true
 unfolding lt eq le

@@ -1,4 +1,4 @@
--- What each call on the ring of steal records makes of the book that the ring stands for.
+-- What each call on the ring of steal records makes of the log that the ring stands for.
 use Prim.Native.Nat.{ℕ, zero, suc, _+_, _-_, _%_, _≤_, _<_, min}
 use native.Mathlib.Omega.{arith}
 use mathlib.Core.Path.{_≡_, refl, sym, ap, _∙_}
@@ -44,8 +44,8 @@ module _ (s : Steals) (long : length (s .rows) ≡ 64) where
   whole = turned-long (s .rows) 64 (s .next % 64) long below
 
   -- as many are held as there were, and at most 64
-  pub book-long : length (logOf s .newest) ≡ min (s .total) 64
-  book-long = let h : min (s .total) 64 ≤ 64 = omega arith in last-long (turned (s .next % 64) (s .rows)) 64 whole (min (s .total) 64) h
+  pub log-long : length (logOf s .newest) ≡ min (s .total) 64
+  log-long = let h : min (s .total) 64 ≤ 64 = omega arith in last-long (turned (s .next % 64) (s .rows)) 64 whole (min (s .total) 64) h
 
   -- one more: the newest 64 of those that were held and this one
   push-newest : (r : StealRecord) (t q : ℕ) → t ≡ min (s .total + 1) 18446744073709551615 → q ≡ (s .next % 64 + 1) % 64
@@ -60,9 +60,9 @@ module _ (s : Steals) (long : length (s .rows) ≡ 64) where
       ∙ ap (λ m. lastOf m (drop 1 (turned (s .next % 64) (s .rows)) ++ (r ∷ []))) size
       ∙ last-push (turned (s .next % 64) (s .rows)) 64 whole (min (s .total) 64) r some most
 
-  pub book-push : (r : StealRecord) (t : ℕ) → t ≡ min (s .total + 1) 18446744073709551615
+  pub log-push : (r : StealRecord) (t : ℕ) → t ≡ min (s .total + 1) 18446744073709551615
       → logOf (record { rows = set (s .rows) (s .next % 64) r; total = t; next = (s .next % 64 + 1) % 64 }) ≡ pushed (logOf s) r
-  book-push r t e =
+  log-push r t e =
       ap (λ l. record { count = t; newest = l }) (push-newest r t ((s .next % 64 + 1) % 64) e refl)
       ∙ ap (λ n. record { count = n; newest = lastOf 64 (logOf s .newest ++ (r ∷ [])) }) e
 
@@ -72,7 +72,7 @@ module _ (s : Steals) (long : length (s .rows) ≡ 64) where
   mark-late k h =
       let l = logOf s .newest in
       let first = s .total - length l in
-      let b = book-long in
+      let b = log-long in
       let le : first ≤ k = omega arith in
       let over : length l ≤ k - first = omega arith in
       ap (λ n. record { count = s .total; newest = n }) (sym (ap (λ t. cond t (cutAt (k - first) l) l) (le-leb first k le) ∙ cut-out (k - first) l over))
@@ -81,7 +81,7 @@ module _ (s : Steals) (long : length (s .rows) ≡ 64) where
   mark-early k h =
       let l = logOf s .newest in
       let first = s .total - length l in
-      let b = book-long in
+      let b = log-long in
       let lt : k < first = omega arith in
       ap (λ n. record { count = s .total; newest = n }) (sym (ap (λ t. cond t (cutAt (k - first) l) l) (lt-leb first k lt)))
 
@@ -114,7 +114,7 @@ module _ (s : Steals) (long : length (s .rows) ≡ 64) where
   mark-held d k q h near at =
       let l = logOf s .newest in
       let first = s .total - length l in
-      let b = book-long in
+      let b = log-long in
       let age = s .total - k in
       let held : age ≤ min (s .total) 64 = omega arith in
       let new : 0 < age = omega arith in
@@ -130,12 +130,12 @@ module _ (s : Steals) (long : length (s .rows) ≡ 64) where
   -- ---- a reading
 
   pub read-none : (i : ℕ) → min (s .total) 64 ≤ i → found.Nothing ≡ foundAt i (logOf s .newest)
-  read-none i h = let b = book-long in let over : length (logOf s .newest) ≤ i = omega arith in sym (found-out i (logOf s .newest) over)
+  read-none i h = let b = log-long in let over : length (logOf s .newest) ≤ i = omega arith in sym (found-out i (logOf s .newest) over)
 
   pub read-held : (d : StealRecord) (i q : ℕ) → i < min (s .total) 64 → q ≡ (s .next % 64 + (64 - (min (s .total) 64 - i))) % 64
       → found.Record (getD (s .rows) q d) ≡ foundAt i (logOf s .newest)
   read-held d i q h at =
-      let b = book-long in
+      let b = log-long in
       let inside : i < length (logOf s .newest) = omega arith in
       let held : min (s .total) 64 - i ≤ min (s .total) 64 = omega arith in
       let new : 0 < min (s .total) 64 - i = omega arith in

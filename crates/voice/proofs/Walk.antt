@@ -1,11 +1,11 @@
 -- The laws by which the walk over the candidates goes, and the last of a list by its place.
-use Prim.Native.Nat.{ℕ, _+_, _-_, _≤_, _<_, min}
+use Prim.Native.Nat.{ℕ, suc, _+_, _-_, _≤_, _<_, min}
 use native.Mathlib.Omega.{arith}
 use native.Mathlib.Numerals.{add-one}
 use mathlib.Core.Path.{_≡_, sym, ap, _∙_}
-use mathlib.Core.List.{List, [], _∷_}
+use mathlib.Core.List.{List, [], _∷_, map}
 use mathlib.Core.Bool.{Bool}
-use lib.ListN.{length, take, drop, getD, length-take, drop-of-length-le}
+use lib.ListN.{length, take, drop, getD, length-take, length-map, drop-of-length-le}
 use lib.Ieee.{Float}
 use lib.Seq.{length-take-le, getD-take}
 use Rattle.lists.proofs.Table.{left-row}
@@ -22,20 +22,31 @@ use Rattle.voice.proofs.Victims.{last-from}
 pub pass-known : (g : Held) (p : ℕ) (c : Candidate) (l : Level) (x : Float) (b : Bool) → l ≡ Known x → takes g x ≡ b → passed g p c l ≡ take? b (held.Taken p (c .voice) x) g
 pass-known g p c l x b e t = ap (passed g p c) e ∙ ap (λ z. take? z (held.Taken p (c .voice) x) g) t
 
--- ---- a loop over n of the 64 rows, in which the rows from i on are left
-pub none-left : (rows : List Candidate) (n i : ℕ) → n ≤ i → drop i (take n rows) ≡ []
-none-left rows n i h = let short : length (take n rows) ≤ i = simp length-take (omega arith) in drop-of-length-le (take n rows) short
+-- ---- a loop over n of the 64 rows that carries h: what is left from row i on, gone through from h, gives what all of them give
+module _ {H R : Type 0} (through : H → ℕ → List Candidate → R) where
+  abbrev pub Carries : List Candidate → ℕ → R → H → ℕ → Type 0
+  Carries rows n all h i = (i ≤ n) × (through h i (drop i (take n rows)) ≡ all)
 
--- one candidate of the walk, and of the search for the lowest rank
-module _ (rows : List Candidate) (count n i : ℕ) (long : length rows ≡ 64) (e : n ≡ min count 64) (d : Candidate) (h : i < n) where
-  next-left : drop i (take n rows) ≡ getD rows i d ∷ drop (i + 1) (take n rows)
-  next-left = left-row d rows n i h (omega arith)
+  -- one row; the lengths are as a parameter's are given
+  module _ (step : H → ℕ → Candidate → H) (law : (h : H) (i : ℕ) (c : Candidate) (l : List Candidate) → through h i (c ∷ l) ≡ through (step h i c) (suc i) l) where
+    pub carry-row : {B : Type 0} (f : Candidate → B) (rows : List Candidate) (count n : ℕ) {all : R} {h h' : H} {i : ℕ} (d : Candidate) → length (map f rows) ≡ 64 → n ≡ min count 64 → i < n
+        → h' ≡ step h i (getD rows i d) → Carries rows n all h i → Carries rows n all h' (i + 1)
+    carry-row f rows count n {all} {h} {h'} {i} d told e less same inv =
+        let long : length rows ≡ 64 = simp length-map at told in
+        let row : drop i (take n rows) ≡ getD rows i d ∷ drop (i + 1) (take n rows) = left-row d rows n i less (omega arith) in (
+          omega arith,
+          ap (λ g. through g (i + 1) (drop (i + 1) (take n rows))) same
+              ∙ ap (λ k. through (step h i (getD rows i d)) k (drop (i + 1) (take n rows))) (add-one i)
+              ∙ sym (law h i (getD rows i d) (drop (i + 1) (take n rows)))
+              ∙ sym (ap (through h i) row)
+              ∙ inv .1,
+        )
 
-  pub walk-row : (g : Held) → walk g i (drop i (take n rows)) ≡ walk (passed g i (getD rows i d) (getD rows i d .level)) (i + 1) (drop (i + 1) (take n rows))
-  walk-row g = ap (walk g i) next-left ∙ ap (λ k. walk (passed g i (getD rows i d) (getD rows i d .level)) k (drop (i + 1) (take n rows))) (sym (add-one i))
-
-  pub lowest-row : (r : ℕ) → lowest r (drop i (take n rows)) ≡ lowest (min r (getD rows i d .rank)) (drop (i + 1) (take n rows))
-  lowest-row r = ap (lowest r) next-left
+  -- none is left
+  pub carry-done : (rows : List Candidate) (n : ℕ) {all : R} {h : H} {i : ℕ} → n ≤ i → Carries rows n all h i → through h i [] ≡ all
+  carry-done rows n {all} {h} {i} past inv =
+      let short : length (take n rows) ≤ i = simp length-take (omega arith) in
+      sym (ap (through h i) (drop-of-length-le (take n rows) short)) ∙ inv .1
 
 -- the first of the rows
 pub oldest-row : (d : Candidate) (rows : List Candidate) (k : ℕ) → 0 < k → k ≤ length rows → oldest (take k rows) ≡ Goes 0 (getD rows 0 d .voice)

@@ -93,11 +93,11 @@ abbrev pub lowest : ℕ → List Candidate → ℕ
 lowest r [] = r
 lowest r (c ∷ l) = lowest (min r (c .rank)) l
 
--- The candidates of the lowest rank, for a newcomer of rank r. Where all of them outrank it, the lowest is r itself, and nobody has it.
+-- The candidates of the lowest rank, for a new voice of rank r. Where all of them outrank it, the lowest is r itself, and nobody has it.
 abbrev pub ofLowest : ℕ → List Candidate → List Candidate
 ofLowest r l = filter (λ c. eqb (c .rank) (lowest r l)) l
 
--- the candidate that gives way to a newcomer of rank r, or nobody. Its place is the one among the candidates of its rank
+-- the candidate that gives way to a new voice of rank r, or nobody. Its place is the one among the candidates of its rank
 abbrev pub victim : StealPolicy → ℕ → List Candidate → Victim
 victim p r l = policyVictim p (ofLowest r l)
 

@@ -36,8 +36,8 @@ pub record StealLog : Type 0 where
   pub count : ℕ
   pub newest : List StealRecord
 
-abbrev pub noBook : StealLog
-noBook = record { count = 0; newest = [] }
+abbrev pub emptyLog : StealLog
+emptyLog = record { count = 0; newest = [] }
 
 -- the last n of a list
 abbrev pub lastOf : {A : Type 0} → ℕ → List A → List A
@@ -73,6 +73,6 @@ abbrev pub turned : {A : Type 0} → ℕ → List A → List A
 turned p rows = drop p rows ++ take p rows
 
 -- What a ring stands for: of its records, oldest first, the last `total`, of which at most 64. Every value of the struct
--- stands for some book.
+-- stands for some log.
 abbrev pub logOf : Steals → StealLog
 logOf s = record { count = s .total; newest = lastOf (min (s .total) 64) (turned (s .next % 64) (s .rows)) }

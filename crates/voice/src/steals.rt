@@ -3,7 +3,7 @@ use crate::policy::at_most_64;
 ghost use mathlib.Core.Path.{_≡_};
 ghost use Prim.Native.Nat.{_+_, _-_, _%_, _≤_, min};
 ghost use lib.ListN.{length};
-ghost use Rattle.voice.specs.Steals.{recordOf, recordLevel, noBook, logOf, pushed, marked, foundAt};
+ghost use Rattle.voice.specs.Steals.{recordOf, recordLevel, emptyLog, logOf, pushed, marked, foundAt};
 
 // One steal: the clock at it, the victim's level if it was known, and whether the victim was cut instead of faded. `level`
 // says nothing unless `known`.
@@ -60,14 +60,9 @@ pub fn record_level(r: StealRecord) -> Level
 
 // No steals yet.
 pub fn no_steals() -> Steals
-    ensures { λ r. ⌜ logOf r ≡ noBook ⌝ }
+    ensures { λ r. ⌜ logOf r ≡ emptyLog ⌝ }
 {
-    let r = StealRecord {
-        sample: 0,
-        level: 0.0,
-        known: false,
-        cut: false,
-    };
+    let r = steal_record(0, Level::Unknown, false);
     Steals {
         rows: [r; 64],
         total: 0,

@@ -18,7 +18,7 @@ use Rattle.store.specs.declared.voices.Fade.{Fade}
 use Rattle.store.specs.declared.voices.Voice.{Voice}
 use Rattle.store.specs.declared.voices.VoiceState.{VoiceState}
 use Rattle.store.specs.declared.voices.VoiceState.the-variants.{Tracked, Fading, Loose}
-use Rattle.words.specs.Fields.{isSet, four, nameFrom, longFrom}
+use Rattle.words.specs.Fields.{isSet, four, nameFrom, nameAt, longFrom}
 use Rattle.words.proofs.Words.{spell, spelled}
 use Rattle.voice_rows.specs.Rows.{node, stateAt, paramAt, stepAt}
 use Rattle.voice_rows.proofs.Filling.{Local}
@@ -70,29 +70,34 @@ voice-same v w a b c d e f g h i m j k l =
     ≡ made (w .id) (w .birth) (w .bus) (w .port) (w .first) (w .count) (w .output) (w .panned) (w .sequence) (w .rank) (w .state) (w .params) (w .plan) = cc in
     same
 
--- ---- a parameter is read from six words, a step from three
-paramFrom : ℕ → ℕ → ℕ → ℕ → ℕ → ℕ → Param
-paramFrom a b c d e n = record { name = nameFrom a b c d e; node = n % 256 }
+-- ---- a name is read from five words, a parameter from six, a step from three
+nameOf : ℕ → ℕ → ℕ → ℕ → ℕ → Name
+nameOf a b c d e = nameFrom a b c d e
 
 stepFrom : ℕ → ℕ → ℕ → DoneStep
 stepFrom a b r = record { all = isSet (r / 256); count = r % 256; sources = four a ++ four b }
 
 module _ (w : ℕ) (c e : List ℕ) (a b : ℕ) (h : (j : ℕ) → j < w → getD c (a + j) 0 ≡ getD e (b + j) 0) where
-  first : 0 < w → getD c a 0 ≡ getD e b 0
+  pub first : 0 < w → getD c a 0 ≡ getD e b 0
   first pos = ap (λ k. getD c k 0) (sym (add-zero a)) ∙ h 0 pos ∙ ap (λ k. getD e k 0) (add-zero b)
 
-pub param-local : Local 6 paramAt
-unfolding paramFrom
-param-local c e a b h =
-    let e0 : getD c a 0 ≡ getD e b 0 = first 6 c e a b h (omega arith) in
+pub name-local : Local 5 nameAt
+unfolding nameOf
+name-local c e a b h =
+    let e0 : getD c a 0 ≡ getD e b 0 = first 5 c e a b h (omega arith) in
     let e1 : getD c (a + 1) 0 ≡ getD e (b + 1) 0 = h 1 (omega arith) in
     let e2 : getD c (a + 2) 0 ≡ getD e (b + 2) 0 = h 2 (omega arith) in
     let e3 : getD c (a + 3) 0 ≡ getD e (b + 3) 0 = h 3 (omega arith) in
     let e4 : getD c (a + 4) 0 ≡ getD e (b + 4) 0 = h 4 (omega arith) in
-    let e5 : getD c (a + 5) 0 ≡ getD e (b + 5) 0 = h 5 (omega arith) in
-    let same : paramFrom (getD c a 0) (getD c (a + 1) 0) (getD c (a + 2) 0) (getD c (a + 3) 0) (getD c (a + 4) 0) (getD c (a + 5) 0)
-    ≡ paramFrom (getD e b 0) (getD e (b + 1) 0) (getD e (b + 2) 0) (getD e (b + 3) 0) (getD e (b + 4) 0) (getD e (b + 5) 0) = cc in
+    let same : nameOf (getD c a 0) (getD c (a + 1) 0) (getD c (a + 2) 0) (getD c (a + 3) 0) (getD c (a + 4) 0)
+    ≡ nameOf (getD e b 0) (getD e (b + 1) 0) (getD e (b + 2) 0) (getD e (b + 3) 0) (getD e (b + 4) 0) = cc in
     same
+
+pub param-local : Local 6 paramAt
+param-local c e a b h =
+    let name : nameAt c a ≡ nameAt e b = name-local c e a b (λ j l. h j (omega arith)) in
+    let last : getD c (a + 5) 0 ≡ getD e (b + 5) 0 = h 5 (omega arith) in
+    param-same (paramAt c a) (paramAt e b) name (ap (λ x. x % 256) last)
 
 pub step-local : Local 3 stepAt
 unfolding stepFrom

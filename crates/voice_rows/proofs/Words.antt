@@ -15,10 +15,9 @@ use Rattle.synthdef.specs.declared.plan.DoneStep.{DoneStep}
 use Rattle.store.specs.declared.voices.Voice.{Voice}
 use Rattle.store.specs.declared.voices.VoiceState.{VoiceState}
 use Rattle.model.specs.Voice.{withState}
-use Rattle.words.specs.Rows.{rowAt}
+use Rattle.words.specs.Rows.{rowAt, fieldsPut}
 use Rattle.words.proofs.Words.{spell, spelled}
 use Rattle.words.proofs.Rows.{row-is, rows-kept, at-long}
-use Rattle.words.specs.Rows.{fieldsPut}
 use Rattle.words.proofs.Within.{sets-out, take-sets, put-past, fields-is}
 use Rattle.voice_rows.specs.Rows.{stateAt, paramAt, stepAt, paramsIn, stepsIn, headed, voiceOf, voicesIn, Heads, Stands, Spells}
 use Rattle.voice_rows.specs.Filled.{Filled}

@@ -14,18 +14,19 @@ use synthdef::params::param_node;
 use synthdef::plan::DonePlan;
 use synthdef::plan::DoneStep;
 use synthdef::silent::plan_silent;
+use words::fields::eight_bytes;
 use words::fields::flag_at;
 use words::fields::is_set;
 use words::fields::long_at;
+use words::fields::low_byte;
 use words::fields::name_at;
 use words::table::put_fields;
 use words::table::put_row;
 use words::table::word_at;
 ghost use mathlib.Core.Path.{_≡_};
-ghost use mathlib.Core.List.{[], _++_};
-ghost use Prim.Native.Nat.{_+_, _*_, _/_, _%_, _<_};
+ghost use mathlib.Core.List.{[]};
+ghost use Prim.Native.Nat.{_+_, _*_, _<_};
 ghost use lib.ListN.{getD, set};
-ghost use Rattle.words.specs.Fields.{four};
 ghost use Rattle.words.specs.Rows.{rowAt};
 ghost use Rattle.synthdef.specs.Tables.{paramRows};
 ghost use Rattle.synthdef.specs.Params.{paramNode, asParamNode};
@@ -140,12 +141,6 @@ pub fn put_voice(t: &mut [u32], i: usize, v: Voice)
     put_row(t, 143, i, &ws);
 }
 
-fn byte(x: u32) -> u8
-    ensures { λ r. ⌜ r ≡ x % 256 ⌝ }
-{
-    (x % 256) as u8
-}
-
 // The parameter `k` of the voice in row `i`.
 fn param_at(t: &[u32], i: usize, k: usize) -> Param
     requires { ⌜ k < 8 ⌝ }
@@ -155,7 +150,7 @@ fn param_at(t: &[u32], i: usize, k: usize) -> Param
     let name = name_at(t, 143, i, a as u16);
     Param {
         name,
-        node: byte(word_at(t, 143, i, a + 5)),
+        node: low_byte(word_at(t, 143, i, a + 5)),
     }
 }
 
@@ -176,22 +171,6 @@ pub fn params_at(t: &[u32], i: usize) -> Params
     }
 }
 
-// Eight bytes of two words.
-fn eight(a: u32, b: u32) -> [u8; 8]
-    ensures { λ r. ⌜ r ≡ four a ++ four b ⌝ }
-{
-    [
-        byte(a),
-        byte(a / 256),
-        byte(a / 65536),
-        byte(a / 16777216),
-        byte(b),
-        byte(b / 256),
-        byte(b / 65536),
-        byte(b / 16777216),
-    ]
-}
-
 // The step `k` of the done plan of the voice in row `i`.
 fn step_at(t: &[u32], i: usize, k: usize) -> DoneStep
     requires { ⌜ k < 24 ⌝ }
@@ -200,10 +179,10 @@ fn step_at(t: &[u32], i: usize, k: usize) -> DoneStep
     let a = word_at(t, 143, i, 71 + k * 3);
     let b = word_at(t, 143, i, 71 + k * 3 + 1);
     let rule = word_at(t, 143, i, 71 + k * 3 + 2);
-    let sources = eight(a, b);
+    let sources = eight_bytes(a, b);
     DoneStep {
         all: is_set(rule / 256),
-        count: byte(rule),
+        count: low_byte(rule),
         sources,
     }
 }
@@ -221,7 +200,7 @@ pub fn plan_at(t: &[u32], i: usize) -> DonePlan
     }
     DonePlan {
         steps,
-        output: byte(word_at(t, 143, i, 21)),
+        output: low_byte(word_at(t, 143, i, 21)),
     }
 }
 

@@ -1,8 +1,7 @@
 -- Two records with the same fields are the same; a record read from the same words is the same; and the bytes of a word.
-use Prim.Native.Nat.{ℕ, _+_, _/_, _%_, _<_}
+use Prim.Native.Nat.{ℕ, _+_, _/_, _%_}
 use native.Mathlib.Omega.{arith}
-use native.Mathlib.Nat.{add-zero}
-use mathlib.Core.Path.{_≡_, sym, ap, _∙_}
+use mathlib.Core.Path.{_≡_, ap, _∙_}
 use mathlib.Core.Bool.{Bool}
 use mathlib.Core.List.{List, [], _∷_}
 use lib.ListN.{getD}
@@ -11,13 +10,13 @@ use Rattle.node.specs.declared.name.Name.{Name}
 use Rattle.node.specs.declared.record.NodeId.{NodeId}
 use Rattle.synthdef.specs.declared.def.DefNode.{DefNode}
 use Rattle.synthdef.specs.declared.def.DefEdge.{DefEdge}
-use Rattle.synthdef.specs.declared.def.Param.{Param}
 use Rattle.synthdef.specs.declared.def.DefNodes.{DefNodes}
 use Rattle.synthdef.specs.declared.def.DefEdges.{DefEdges}
 use Rattle.synthdef.specs.declared.def.Params.{Params}
 use Rattle.synthdef.specs.declared.def.SynthDef.{SynthDef}
-use Rattle.words.specs.Fields.{isSet, four, nameFrom}
+use Rattle.words.specs.Fields.{isSet, four, nameFrom, nameAt}
 use Rattle.voice_rows.proofs.Filling.{Local}
+use Rattle.voice_rows.proofs.Records.{param-same, first, name-local}
 use Rattle.console.specs.declared.wish.Wish.{Wish}
 use Rattle.wish_rows.specs.Rows.{defNodeAt, defEdgeAt, paramAt}
 
@@ -67,13 +66,6 @@ pub edge-same : (m n : DefEdge) → m .from ≡ n .from → m .to ≡ n .to → 
 unfolding edge
 edge-same m n a b c = let same : edge (m .from) (m .to) (m .port) ≡ edge (n .from) (n .to) (n .port) = cc in same
 
-param : Name → ℕ → Param
-param a b = record { name = a; node = b }
-
-pub param-same : (m n : Param) → m .name ≡ n .name → m .node ≡ n .node → m ≡ n
-unfolding param
-param-same m n a b = let same : param (m .name) (m .node) ≡ param (n .name) (n .node) = cc in same
-
 nodes : List DefNode → ℕ → DefNodes
 nodes l k = record { rows = l; count = k }
 
@@ -87,13 +79,6 @@ edges l k = record { rows = l; count = k }
 pub edges-same : (m n : DefEdges) → m .rows ≡ n .rows → m .count ≡ n .count → m ≡ n
 unfolding edges
 edges-same m n a b = let same : edges (m .rows) (m .count) ≡ edges (n .rows) (n .count) = cc in same
-
-params : List Param → ℕ → Params
-params l k = record { rows = l; count = k }
-
-pub params-same : (m n : Params) → m .rows ≡ n .rows → m .count ≡ n .count → m ≡ n
-unfolding params
-params-same m n a b = let same : params (m .rows) (m .count) ≡ params (n .rows) (n .count) = cc in same
 
 def : DefNodes → DefEdges → Params → ℕ → SynthDef
 def a b c d = record { nodes = a; edges = b; params = c; output = d }
@@ -110,32 +95,16 @@ unfolding wish
 wish-same m n a b c d e = let same : wish (m .managed) (m .def) (m .bus) (m .pan) (m .rank) ≡ wish (n .managed) (n .def) (n .bus) (n .pan) (n .rank) = cc in same
 
 -- ---- a node is read from six words, an edge from one, a parameter from five
-nodeFrom : ℕ → ℕ → ℕ → ℕ → ℕ → ℕ → DefNode
-nodeFrom a b c d x y =
-    node (nameFrom a b c d x) (x / 256 % 256) (x / 65536 % 256) (isSet (x / 16777216 % 256)) (isSet (y / 16777216 % 256)) (y % 256) (y / 256 % 256) (y / 65536 % 256)
-
 edgeFrom : ℕ → DefEdge
 edgeFrom x = edge (x % 256) (x / 256 % 256) (x / 65536 % 256)
 
-paramFrom : ℕ → ℕ → ℕ → ℕ → ℕ → Param
-paramFrom a b c d x = param (nameFrom a b c d x) (x / 256 % 256)
-
-module _ (w : ℕ) (c e : List ℕ) (a b : ℕ) (h : (j : ℕ) → j < w → getD c (a + j) 0 ≡ getD e (b + j) 0) where
-  first : 0 < w → getD c a 0 ≡ getD e b 0
-  first pos = ap (λ k. getD c k 0) (sym (add-zero a)) ∙ h 0 pos ∙ ap (λ k. getD e k 0) (add-zero b)
-
 pub node-local : Local 6 defNodeAt
-unfolding nodeFrom node
 node-local c e a b h =
-    let e0 : getD c a 0 ≡ getD e b 0 = first 6 c e a b h (omega arith) in
-    let e1 : getD c (a + 1) 0 ≡ getD e (b + 1) 0 = h 1 (omega arith) in
-    let e2 : getD c (a + 2) 0 ≡ getD e (b + 2) 0 = h 2 (omega arith) in
-    let e3 : getD c (a + 3) 0 ≡ getD e (b + 3) 0 = h 3 (omega arith) in
-    let e4 : getD c (a + 4) 0 ≡ getD e (b + 4) 0 = h 4 (omega arith) in
-    let e5 : getD c (a + 5) 0 ≡ getD e (b + 5) 0 = h 5 (omega arith) in
-    let same : nodeFrom (getD c a 0) (getD c (a + 1) 0) (getD c (a + 2) 0) (getD c (a + 3) 0) (getD c (a + 4) 0) (getD c (a + 5) 0)
-    ≡ nodeFrom (getD e b 0) (getD e (b + 1) 0) (getD e (b + 2) 0) (getD e (b + 3) 0) (getD e (b + 4) 0) (getD e (b + 5) 0) = cc in
-    same
+    let kind : nameAt c a ≡ nameAt e b = name-local c e a b (λ j l. h j (omega arith)) in
+    let x : getD c (a + 4) 0 ≡ getD e (b + 4) 0 = h 4 (omega arith) in
+    let y : getD c (a + 5) 0 ≡ getD e (b + 5) 0 = h 5 (omega arith) in
+    node-same (defNodeAt c a) (defNodeAt e b) kind (ap (λ k. k / 256 % 256) x) (ap (λ k. k / 65536 % 256) x) (ap (λ k. isSet (k / 16777216 % 256)) x)
+    (ap (λ k. isSet (k / 16777216 % 256)) y) (ap (λ k. k % 256) y) (ap (λ k. k / 256 % 256) y) (ap (λ k. k / 65536 % 256) y)
 
 pub edge-local : Local 1 defEdgeAt
 unfolding edgeFrom edge
@@ -145,13 +114,6 @@ edge-local c e a b h =
     same
 
 pub param-local : Local 5 paramAt
-unfolding paramFrom param
 param-local c e a b h =
-    let e0 : getD c a 0 ≡ getD e b 0 = first 5 c e a b h (omega arith) in
-    let e1 : getD c (a + 1) 0 ≡ getD e (b + 1) 0 = h 1 (omega arith) in
-    let e2 : getD c (a + 2) 0 ≡ getD e (b + 2) 0 = h 2 (omega arith) in
-    let e3 : getD c (a + 3) 0 ≡ getD e (b + 3) 0 = h 3 (omega arith) in
-    let e4 : getD c (a + 4) 0 ≡ getD e (b + 4) 0 = h 4 (omega arith) in
-    let same : paramFrom (getD c a 0) (getD c (a + 1) 0) (getD c (a + 2) 0) (getD c (a + 3) 0) (getD c (a + 4) 0)
-    ≡ paramFrom (getD e b 0) (getD e (b + 1) 0) (getD e (b + 2) 0) (getD e (b + 3) 0) (getD e (b + 4) 0) = cc in
-    same
+    let last : getD c (a + 4) 0 ≡ getD e (b + 4) 0 = h 4 (omega arith) in
+    param-same (paramAt c a) (paramAt e b) (name-local c e a b h) (ap (λ x. x / 256 % 256) last)

@@ -13,12 +13,13 @@ use words::fields::flag_at;
 use words::fields::float_at;
 use words::fields::is_set;
 use words::fields::long_at;
+use words::fields::low_byte;
 use words::fields::name_at;
 use words::table::put_row;
 use words::table::word_at;
 ghost use mathlib.Core.Path.{_≡_};
 ghost use mathlib.Core.List.{[]};
-ghost use Prim.Native.Nat.{_+_, _*_, _/_, _%_, _<_};
+ghost use Prim.Native.Nat.{_+_, _*_, _<_};
 ghost use lib.ListN.{getD, set};
 ghost use Rattle.words.specs.Rows.{rowAt};
 ghost use Rattle.wish_rows.specs.Rows.{defNodeAt, defEdgeAt, paramAt, wishOf, wishesIn};
@@ -27,13 +28,6 @@ ghost use Rattle.wish_rows.specs.Rows.{defNodeAt, defEdgeAt, paramAt, wi
 pub const WISH_WORDS: usize = 31104;
 
 pub type WishTable = [u32; WISH_WORDS];
-
-// The low byte of a word.
-fn low_byte(x: u32) -> u8
-    ensures { λ r. ⌜ r ≡ x % 256 ⌝ }
-{
-    (x % 256) as u8
-}
 
 // The node `k` of the definition in row `i`.
 fn node_at(t: &[u32], i: usize, k: usize) -> DefNode

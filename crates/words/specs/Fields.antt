@@ -1,5 +1,6 @@
 -- What the words of a row stand for, field by field: any words stand for something, so a row of any words is a record.
 use Prim.Native.Nat.{ℕ, _+_, _*_, _/_, _%_}
+use mathlib.Core.Path.{_≡_}
 use mathlib.Core.List.{List, [], _∷_, _++_}
 use mathlib.Core.Bool.{Bool, not, cond}
 use lib.Dec.{eqb}
@@ -43,6 +44,14 @@ spaceFrom which = cond (eqb which 1) space.Pitch space.Raw
 -- a node's newest order in six words: which, the target or value, the seconds, the shape, the space
 abbrev pub lastFrom : ℕ → ℕ → ℕ → ℕ → ℕ → ℕ → LastOrder
 lastFrom which x s sh e sp = cond (eqb which 1) (order.Value (floatFrom x)) (cond (eqb which 2) (order.Glide (floatFrom x) (floatFrom s) (shapeFrom sh e) (spaceFrom sp)) order.Nothing)
+
+-- six words that stand for a glide, in an order of a node and in the action of an event: the first is 2
+pub record Glides (target seconds : Float) (shape : GlideShape) (space : GlideSpace) (ws : List ℕ) : Type 0 where
+  pub which : getD ws 0 0 ≡ 2
+  pub target-is : floatFrom (getD ws 1 0) ≡ target
+  pub seconds-are : floatFrom (getD ws 2 0) ≡ seconds
+  pub shape-is : shapeFrom (getD ws 3 0) (getD ws 4 0) ≡ shape
+  pub space-is : spaceFrom (getD ws 5 0) ≡ space
 
 -- the fields of several words in a row: from word k on
 abbrev pub longAt : List ℕ → ℕ → ℕ

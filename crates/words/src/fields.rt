@@ -6,9 +6,9 @@ use node::order::GlideSpace;
 use node::order::LastOrder;
 ghost use mathlib.Core.Path.{_≡_};
 ghost use Prim.Native.Nat.{_/_, _%_};
-ghost use mathlib.Core.List.{[], _∷_};
+ghost use mathlib.Core.List.{[], _∷_, _++_};
 ghost use lib.ListN.{getD};
-ghost use Rattle.words.specs.Fields.{longFrom, isSet, floatFrom, four, nameFrom, shapeFrom, spaceFrom, lastFrom, longAt, nameAt, lastAt};
+ghost use Rattle.words.specs.Fields.{longFrom, isSet, floatFrom, four, nameFrom, shapeFrom, spaceFrom, lastFrom, Glides, longAt, nameAt, lastAt};
 ghost use Rattle.words.specs.Rows.{rowAt};
 
 pub fn low_word(x: u64) -> u32
@@ -81,36 +81,55 @@ pub fn name_words(n: Name) -> [u32; 5]
     ]
 }
 
-fn byte(x: u32) -> u8
+// The low byte of a word.
+pub fn low_byte(x: u32) -> u8
     ensures { λ r. ⌜ r ≡ x % 256 ⌝ }
 {
     (x % 256) as u8
 }
 
+// Eight bytes of two words.
+pub fn eight_bytes(a: u32, b: u32) -> [u8; 8]
+    ensures { λ r. ⌜ r ≡ four a ++ four b ⌝ }
+{
+    [
+        low_byte(a),
+        low_byte(a / 256),
+        low_byte(a / 65536),
+        low_byte(a / 16777216),
+        low_byte(b),
+        low_byte(b / 256),
+        low_byte(b / 65536),
+        low_byte(b / 16777216),
+    ]
+}
+
 pub fn name_from(a: u32, b: u32, c: u32, d: u32, len: u32) -> Name
     ensures { λ r. ⌜ r ≡ nameFrom a b c d len ⌝ }
 {
+    let x = eight_bytes(a, b);
+    let y = eight_bytes(c, d);
     let bytes = [
-        byte(a),
-        byte(a / 256),
-        byte(a / 65536),
-        byte(a / 16777216),
-        byte(b),
-        byte(b / 256),
-        byte(b / 65536),
-        byte(b / 16777216),
-        byte(c),
-        byte(c / 256),
-        byte(c / 65536),
-        byte(c / 16777216),
-        byte(d),
-        byte(d / 256),
-        byte(d / 65536),
-        byte(d / 16777216),
+        x[0],
+        x[1],
+        x[2],
+        x[3],
+        x[4],
+        x[5],
+        x[6],
+        x[7],
+        y[0],
+        y[1],
+        y[2],
+        y[3],
+        y[4],
+        y[5],
+        y[6],
+        y[7],
     ];
     Name {
         bytes,
-        len: byte(len),
+        len: low_byte(len),
     }
 }
 
@@ -159,6 +178,21 @@ pub fn space_from(which: u32) -> GlideSpace
     GlideSpace::Raw
 }
 
+// An order that is a glide in six words, the first of them 2.
+pub fn glide_words(target: f32, seconds: f32, shape: GlideShape, space: GlideSpace) -> [u32; 6]
+    ensures { λ r. ⌜ Glides target seconds shape space r ⌝ }
+{
+    let s = shape_words(shape);
+    [
+        2,
+        float_word(target),
+        float_word(seconds),
+        s[0],
+        s[1],
+        space_word(space),
+    ]
+}
+
 // A node's newest order in six words.
 pub fn last_words(l: LastOrder) -> [u32; 6]
     ensures { λ r. ⌜ lastFrom (getD r 0 0) (getD r 1 0) (getD r 2 0) (getD r 3 0) (getD r 4 0) (getD r 5 0) ≡ l ⌝ }
@@ -171,17 +205,7 @@ pub fn last_words(l: LastOrder) -> [u32; 6]
             seconds,
             shape,
             space,
-        } => {
-            let s = shape_words(shape);
-            [
-                2,
-                float_word(target),
-                float_word(seconds),
-                s[0],
-                s[1],
-                space_word(space),
-            ]
-        }
+        } => glide_words(target, seconds, shape, space),
     }
 }
 

@@ -14,8 +14,11 @@ Inv-loop t total next rows₀ i₀ rows i = Copying 64 (recordsIn t) rows i
 abbrev μ-loop : tie.MeasureT-loop
 μ-loop t total next rows₀ i₀ rows i = 64 - i
 
+steal-record-requires : tie.Need-steal-record-requires Inv-loop μ-loop
+steal-record-requires c κs = search needs
+
 loop-holds : tie.Need-loop-holds Inv-loop μ-loop
-loop-holds c = let s = c .before in copy-start (stealOf []) 64 (recordsIn (s .args .t .now)) _ (room (s .args .t .now) (s .pre)) refl
+loop-holds c = let s = c .before .before in copy-start (stealOf []) 64 (recordsIn (s .args .t .now)) _ (room (s .args .t .now) (s .pre)) refl
 
 record-at-requires : tie.Need-record-at-requires Inv-loop μ-loop
 record-at-requires c κs = search needs
@@ -34,13 +37,13 @@ loop-less c = search needs
 
 loop-again : tie.Need-loop-again Inv-loop μ-loop
 loop-again c =
-    let s = c .before .before .before .before in
+    let s = c .before .before .before .before .before in
     let l = c .before .before .loop in
     copy-more (stealOf []) 64 (recordsIn (s .args .t .now)) (l .rows) (l .i) (c .record-at .result) (c .before .loop-test .taken) (c .record-at .ensures) (l .inv)
 
 returns : tie.Need-returns Inv-loop μ-loop
 returns c =
-    let s = c .before .before .before in
+    let s = c .before .before .before .before in
     let l = c .before .loop in
     let same : l .rows ≡ recordsIn (s .args .t .now) = copy-done (stealOf []) 64 (recordsIn (s .args .t .now)) (l .rows) (l .i) (c .loop-test .left) (l .inv) in
     ap (λ rows. record { rows = rows; total = s .args .total; next = s .args .next }) same
@@ -51,6 +54,7 @@ read-all-spec =
     (tie.spec
     Inv-loop
     μ-loop
+    steal-record-requires
     loop-holds
     record-at-requires
     mul-rows

@@ -30,8 +30,8 @@ returns c =
     let s = a .s in
     let v = getD (voicesIn (a .voices .now)) (a .row) (voiceOf []) in
     let ring = c .before .log-steal in
-    let book = logIn (a .steals .now) (s .stolen) (s .place) in
-    let is = ring .ensures ∙ ap (pushed book) (c .before .before .steal-record .ensures ∙ ap (λ l. recordOf (s .clock) l (a .cut)) (c .before .before .before .before .level-at .ensures)) in
+    let log = logIn (a .steals .now) (s .stolen) (s .place) in
+    let is = ring .ensures ∙ ap (pushed log) (c .before .before .steal-record .ensures ∙ ap (λ l. recordOf (s .clock) l (a .cut)) (c .before .before .before .before .level-at .ensures)) in
     λ m. relogged s (a .nodes .now) (a .voices .now) (a .steals .now) (ring .last .0) (ring .result .total) (ring .result .next) (recorded v (a .cut) (sharedOf (lentSpawn s (a .nodes .now) (m .edges) (a .voices .now) (a .steals .now) m))) (c .with-steals .result) (c .with-steals .ensures) is m
 
 pub record-steal-spec : {M : Type 1} → statement M

@@ -3,7 +3,7 @@ use mathlib.Core.Path.{_≡_, ap, _∙_}
 use lib.ListN.{length, take, length-map}
 use borrow.Author.Needs.{needs}
 use Rattle.voice.specs.Steals.{logOf}
-use Rattle.voice.proofs.Records.{book-long}
+use Rattle.voice.proofs.Records.{log-long}
 use Rattle.busiest.specs.declared.newest.Newest.{Newest}
 use Rattle.busiest.specs.Stretch.{samples, busiest}
 use Rattle.busiest.proofs.Rows.{newest-run}
@@ -19,7 +19,7 @@ newest-records-requires c κs = search needs
 busiest-rows-requires : tie.Need-busiest-rows-requires
 busiest-rows-requires c κs =
     let start = c .before .before in
-    let long = book-long (start .args .s) (rows-long start) in
+    let long = log-long (start .args .s) (rows-long start) in
     let held : c .before .newest-records .result .count ≡ length (logOf (start .args .s) .newest) = ap (λ (r : Newest). r .count) (c .before .newest-records .ensures) in
     omega arith
 

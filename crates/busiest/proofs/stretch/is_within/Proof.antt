@@ -1,7 +1,7 @@
 use Prim.Native.Nat.{_≤_, _<_}
 use native.Mathlib.Omega.{arith}
 use mathlib.Core.Path.{sym}
-use Rattle.busiest.proofs.Seen.{within-by, within-before}
+use Rattle.busiest.proofs.SoFar.{within-by, within-before}
 use Rattle.busiest.proofs.stretch.is_within.Statement.{statement}
 use Rattle.busiest.proofs.stretch.is_within.Tie as tie
 

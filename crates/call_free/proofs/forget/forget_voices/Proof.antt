@@ -1,7 +1,7 @@
 use borrow.Author.Needs.{needs}
 use Rattle.memory.specs.View.{modelOf}
 use Rattle.memory.specs.Lent.{lentVoices}
-use Rattle.call_free.proofs.Together.{none-gone}
+use Rattle.call_free.proofs.Together.{none-removed}
 use Rattle.call_free.proofs.Forgets.{forgets}
 use Rattle.call_free.proofs.forget.forget_voices.Statement.{statement}
 use Rattle.call_free.proofs.forget.forget_voices.Tie as tie
@@ -9,7 +9,7 @@ use Rattle.call_free.proofs.forget.forget_voices.Tie as tie
 returns : tie.Need-returns
 returns c =
     let a = c .before .before .args in
-    λ m. none-gone (a .ids .now) (modelOf (lentVoices (a .s) (a .nodes .now) (a .edges .now) (a .voices .now) m)) (c .if1 .taken)
+    λ m. none-removed (a .ids .now) (modelOf (lentVoices (a .s) (a .nodes .now) (a .edges .now) (a .voices .now) m)) (c .if1 .taken)
 
 remove-voices-requires : tie.Need-remove-voices-requires
 remove-voices-requires c κs = search needs

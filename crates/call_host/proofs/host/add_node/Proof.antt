@@ -5,7 +5,7 @@ use lib.ListN.{length, take}
 use borrow.Author.Needs.{needs}
 use Rattle.graph.specs.Node.{withId}
 use Rattle.graph_rows.specs.Node.{nodesIn}
-use Rattle.memory.proofs.Steps.{kept-none}
+use Rattle.memory.proofs.Contracts.{kept-none}
 use Rattle.call_host.proofs.Wiring.{bad-kind, table-full, ids-used, adds}
 use Rattle.call_host.proofs.host.add_node.Statement.{statement}
 use Rattle.call_host.proofs.host.add_node.Tie as tie

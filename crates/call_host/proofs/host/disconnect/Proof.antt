@@ -1,6 +1,8 @@
-use mathlib.Core.Path.{refl}
+use mathlib.Core.Path.{ap}
 use borrow.Author.Needs.{needs}
-use Rattle.memory.proofs.Steps.{kept-none}
+use Rattle.model.specs.Call as call
+use Rattle.memory.specs.Lent.{lentGraph}
+use Rattle.memory.proofs.Contracts.{kept-none, refused-back}
 use Rattle.call_host.proofs.Wiring.{disconnects-not, disconnects}
 use Rattle.call_host.proofs.host.disconnect.Statement.{statement}
 use Rattle.call_host.proofs.host.disconnect.Tie as tie
@@ -10,6 +12,9 @@ port-answer-requires c κs = search needs
 
 enum-known-test : tie.Need-enum-known-test
 enum-known-test c = search needs
+
+refuse-requires : tie.Need-refuse-requires
+refuse-requires c κs = search needs
 
 enum-told : tie.Need-enum-told
 enum-told c = search needs
@@ -22,9 +27,9 @@ with-graph-requires c κs = search needs
 
 returns : tie.Need-returns
 returns c =
-    let s = c .before .before .before .before in
-    let t = c .before .before .before .port-answer in
-    (λ m. disconnects-not (s .args .s) (s .args .nodes .now) (s .args .edges .now) (s .args .to) (s .args .port) (t .result) (t .ensures) m _ (c .before .test .given .1), λ m e. refl)
+    let s = c .before .before .before .before .before in
+    let t = c .before .before .before .before .port-answer in
+    (λ m. refused-back (call.disconnect (s .args .to) (s .args .port)) (λ k. lentGraph k (s .args .nodes .now) (s .args .edges .now) m) (s .args .s) (c .refuse .result) _ (c .refuse .ensures) (disconnects-not (s .args .s) (s .args .nodes .now) (s .args .edges .now) (s .args .to) (s .args .port) (t .result) (t .ensures) m _ (c .before .before .test .given .1)), λ m e. ap (λ k. lentGraph k (s .args .nodes .now) (s .args .edges .now) m) (c .refuse .ensures .0))
 
 returns-2 : tie.Need-returns-2
 returns-2 c =
@@ -39,6 +44,7 @@ disconnect-spec =
     (tie.spec
     port-answer-requires
     enum-known-test
+    refuse-requires
     enum-told
     drop-port-requires
     with-graph-requires

@@ -1,6 +1,8 @@
-use mathlib.Core.Path.{refl}
+use mathlib.Core.Path.{ap}
 use borrow.Author.Needs.{needs}
-use Rattle.memory.proofs.Steps.{kept-none}
+use Rattle.model.specs.Call as call
+use Rattle.memory.specs.Lent.{lentNodes}
+use Rattle.memory.proofs.Contracts.{kept-none, refused-back}
 use Rattle.call_host.proofs.Wiring.{sinks-not, sinks}
 use Rattle.call_host.proofs.host.set_sink.Statement.{statement}
 use Rattle.call_host.proofs.host.set_sink.Tie as tie
@@ -11,6 +13,9 @@ host-answer-requires c κs = search needs
 enum-known-test : tie.Need-enum-known-test
 enum-known-test c = search needs
 
+refuse-requires : tie.Need-refuse-requires
+refuse-requires c κs = search needs
+
 enum-told : tie.Need-enum-told
 enum-told c = search needs
 
@@ -19,9 +24,9 @@ with-graph-requires c κs = search needs
 
 returns : tie.Need-returns
 returns c =
-    let s = c .before .before .before .before in
-    let t = c .before .before .before .host-answer in
-    (λ m. sinks-not (s .args .s) (s .args .nodes .now) (m .edges) (s .args .node) (t .result) (t .ensures) m _ (c .before .test .given .1), λ m e. refl)
+    let s = c .before .before .before .before .before in
+    let t = c .before .before .before .before .host-answer in
+    (λ m. refused-back (call.setSink (s .args .node)) (λ k. lentNodes k (s .args .nodes .now) m) (s .args .s) (c .refuse .result) _ (c .refuse .ensures) (sinks-not (s .args .s) (s .args .nodes .now) (m .edges) (s .args .node) (t .result) (t .ensures) m _ (c .before .before .test .given .1)), λ m e. ap (λ k. lentNodes k (s .args .nodes .now) m) (c .refuse .ensures .0))
 
 returns-2 : tie.Need-returns-2
 returns-2 c =
@@ -32,4 +37,4 @@ returns-2 c =
 pub set-sink-spec : {M : Type 1} → statement M
 set-sink-spec =
     tie.close
-    (tie.spec host-answer-requires enum-known-test enum-told with-graph-requires returns returns-2)
+    (tie.spec host-answer-requires enum-known-test refuse-requires enum-told with-graph-requires returns returns-2)

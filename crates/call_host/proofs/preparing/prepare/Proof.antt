@@ -1,5 +1,5 @@
 use borrow.Author.Needs.{needs}
-use Rattle.memory.proofs.Steps.{kept-none}
+use Rattle.memory.proofs.Contracts.{kept-none}
 use Rattle.call_host.proofs.Ordering.{prepares-not, prepares-kept, prepares}
 use Rattle.call_host.proofs.preparing.prepare.Statement.{statement}
 use Rattle.call_host.proofs.preparing.prepare.Tie as tie

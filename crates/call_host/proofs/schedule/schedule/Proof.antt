@@ -2,7 +2,7 @@ use mathlib.Core.Path.{subst}
 use borrow.Author.Needs.{needs}
 use Rattle.node.specs.declared.name.Name.{Name}
 use Rattle.event_table.specs.Queue.{Queued}
-use Rattle.memory.proofs.Steps.{kept-none}
+use Rattle.memory.proofs.Contracts.{kept-none}
 use Rattle.call_host.proofs.Queueing.{schedules-not, schedules-kept, schedules}
 use Rattle.call_host.proofs.schedule.schedule.Statement.{statement}
 use Rattle.call_host.proofs.schedule.schedule.Tie as tie

@@ -6,7 +6,7 @@ use lib.ListN.{length, take}
 use borrow.Author.Needs.{needs}
 use Rattle.voice_rows.specs.Rows.{voicesIn}
 use Rattle.graph_rows.specs.Node.{nodesIn}
-use Rattle.call_render.proofs.Events.{happens-free, happens-order}
+use Rattle.call_render.proofs.Events.{applied-free, applied-order}
 use Rattle.call_render.proofs.apply.apply_event.Statement.{statement}
 use Rattle.call_render.proofs.apply.apply_event.Tie as tie
 
@@ -22,7 +22,7 @@ same-length c = search needs
 returns : tie.Need-returns
 returns c =
     let s = c .before .before .before .before .before .before .before .before .before .args in
-    happens-free (take (s .s .voices) (voicesIn (s .voices .now))) (s .e) (take (s .s .nodes) (nodesIn (s .nodes .now))) (s .freed .now) (s .count) (sym (c .before .before .before .before .before .before .is-free .ensures) ∙ c .before .before .before .before .before .if1 .taken) (c .before .before .note .last .1 .1 .0) (c .before .before .note .result .count) (c .before .before .note .result .outcome) (c .before .before .note .ensures)
+    applied-free (take (s .s .voices) (voicesIn (s .voices .now))) (s .e) (take (s .s .nodes) (nodesIn (s .nodes .now))) (s .freed .now) (s .count) (sym (c .before .before .before .before .before .before .is-free .ensures) ∙ c .before .before .before .before .before .if1 .taken) (c .before .before .note .last .1 .1 .0) (c .before .before .note .result .count) (c .before .before .note .result .outcome) (c .before .before .note .ensures)
 
 param-order-requires : tie.Need-param-order-requires
 param-order-requires c κs = search needs
@@ -46,7 +46,7 @@ returns-2 : tie.Need-returns-2
 returns-2 c =
     let s = c .before .before .before .before .before .before .before .before .before .args in
     let r = c .order-voice in
-    happens-order (take (s .s .voices) (voicesIn (s .voices .now))) (s .e) (take (s .s .nodes) (nodesIn (s .nodes .now))) (s .freed .now) (s .count) (sym (c .before .before .before .before .before .before .is-free .ensures) ∙ c .before .before .before .before .before .if1 .left) (c .before .before .before .before .param-order .result) (c .before .before .before .before .param-order .ensures) (s .nodes .now) (r .last .1 .0) (s .s .nodes) (r .result) refl (r .ensures)
+    applied-order (take (s .s .voices) (voicesIn (s .voices .now))) (s .e) (take (s .s .nodes) (nodesIn (s .nodes .now))) (s .freed .now) (s .count) (sym (c .before .before .before .before .before .before .is-free .ensures) ∙ c .before .before .before .before .before .if1 .left) (c .before .before .before .before .param-order .result) (c .before .before .before .before .param-order .ensures) (s .nodes .now) (r .last .1 .0) (s .s .nodes) (r .result) refl (r .ensures)
 
 pub apply-event-spec : {M : Type 1} → statement M
 apply-event-spec =

@@ -10,14 +10,14 @@ use Rattle.graph_rows.specs.Node.{nodesIn}
 use Rattle.event_table.specs.Rows.{eventOf, eventsIn}
 use Rattle.words.proofs.Rows.{rows-long}
 use Rattle.words.proofs.InWords.{take-count}
-use Rattle.call_render.specs.Happened.{Happens}
-use Rattle.call_render.proofs.Events.{Going, going-start, going-on, going-off, going-done}
+use Rattle.call_render.specs.Applying.{EventApplied}
+use Rattle.call_render.proofs.Events.{EventsApplied, events-start, events-on, events-off, events-done}
 use Rattle.call_render.proofs.due.apply_due.Statement.{statement}
 use Rattle.call_render.proofs.due.apply_due.Tie as tie
 
 abbrev Inv-loop : tie.InvT-loop
 Inv-loop s nodes₀ voices t deadline freed₀ out₀ n count₀ taken₀ i₀ nodes freed out count taken i =
-    Going deadline (eventsIn t) n (take (s .voices) (voicesIn voices)) (take (s .nodes) (nodesIn nodes₀)) out₀ (take (s .nodes) (nodesIn nodes)) freed out count taken i
+    EventsApplied deadline (eventsIn t) n (take (s .voices) (voicesIn voices)) (take (s .nodes) (nodesIn nodes₀)) out₀ (take (s .nodes) (nodesIn nodes)) freed out count taken i
 
 abbrev μ-loop : tie.MeasureT-loop
 μ-loop s nodes₀ voices t deadline freed₀ out₀ n count₀ taken₀ i₀ nodes freed out count taken i = n - i
@@ -28,7 +28,7 @@ at-most-requires c κs = search needs
 loop-holds : tie.Need-loop-holds Inv-loop μ-loop
 loop-holds c =
     let s = c .before .before .before .before .args in
-    going-start (s .deadline) (eventsIn (s .t .now)) (c .at-most .result) (take (s .s .voices) (voicesIn (s .voices .now))) (take (s .s .nodes) (nodesIn (s .nodes .now))) (s .out .now) (s .freed .now) (c .before .before .before .before .pre .1)
+    events-start (s .deadline) (eventsIn (s .t .now)) (c .at-most .result) (take (s .s .voices) (voicesIn (s .voices .now))) (take (s .s .nodes) (nodesIn (s .nodes .now))) (s .out .now) (s .freed .now) (c .before .before .before .before .pre .1)
 
 is-due-requires : tie.Need-is-due-requires Inv-loop μ-loop
 is-due-requires c κs = search needs
@@ -81,9 +81,9 @@ loop-again c =
     let room : l .taken < length (l .out) = omega (arith, l .inv .took, l .inv .wide, n .ensures, below, c .before .before .before .before .before .before .before .before .before .before .before .before .before .before .before .pre .0, c .before .before .before .before .before .before .before .before .before .before .before .before .before .before .before .pre .2) in
     let h = c .before .before .before .apply-event in
     let new = take (s .s .nodes) (nodesIn (h .last .1 .0)) in
-    let happens = subst (λ (e : Event). Happens vs e ns (l .freed) (l .count) new (h .last .1 .1 .1 .1 .0) (h .result .count) (h .result .outcome)) (c .before .before .before .before .before .before .event-at .ensures) (h .ensures) in
-    going-on (s .deadline) (eventsIn (s .t .now)) (n .result) vs (take (s .s .nodes) (nodesIn (s .nodes .now))) (s .out .now) (eventOf []) ns (l .freed) (l .out) (l .count) (l .taken) (l .i) (l .inv) below top
-    (sym (c .before .before .before .before .before .before .before .before .is-due .ensures) ∙ c .before .before .before .before .before .before .before .if1 .taken) new (h .last .1 .1 .1 .1 .0) (h .result .count) (h .result .outcome) happens (c .outcome-number .result) (c .outcome-number .ensures) room
+    let applied = subst (λ (e : Event). EventApplied vs e ns (l .freed) (l .count) new (h .last .1 .1 .1 .1 .0) (h .result .count) (h .result .outcome)) (c .before .before .before .before .before .before .event-at .ensures) (h .ensures) in
+    events-on (s .deadline) (eventsIn (s .t .now)) (n .result) vs (take (s .s .nodes) (nodesIn (s .nodes .now))) (s .out .now) (eventOf []) ns (l .freed) (l .out) (l .count) (l .taken) (l .i) (l .inv) below top
+    (sym (c .before .before .before .before .before .before .before .before .is-due .ensures) ∙ c .before .before .before .before .before .before .before .if1 .taken) new (h .last .1 .1 .1 .1 .0) (h .result .count) (h .result .outcome) applied (c .outcome-number .result) (c .outcome-number .ensures) room
 
 add-i-2 : tie.Need-add-i-2 Inv-loop μ-loop
 add-i-2 c = search needs
@@ -97,7 +97,7 @@ loop-again-2 c =
     let l = c .before .before .before .loop in
     let n = c .before .before .before .before .at-most in
     let top : n .result ≤ length (eventsIn (s .t .now)) = omega (arith, n .ensures, rows-long 15 eventOf (s .t .now)) in
-    going-off (s .deadline) (eventsIn (s .t .now)) (n .result) (take (s .s .voices) (voicesIn (s .voices .now))) (take (s .s .nodes) (nodesIn (s .nodes .now))) (s .out .now) (eventOf []) (take (s .s .nodes) (nodesIn (l .nodes))) (l .freed) (l .out) (l .count) (l .taken) (l .i) (l .inv) (c .before .before .loop-test .taken) top (sym (c .before .is-due .ensures) ∙ c .if1 .left)
+    events-off (s .deadline) (eventsIn (s .t .now)) (n .result) (take (s .s .voices) (voicesIn (s .voices .now))) (take (s .s .nodes) (nodesIn (s .nodes .now))) (s .out .now) (eventOf []) (take (s .s .nodes) (nodesIn (l .nodes))) (l .freed) (l .out) (l .count) (l .taken) (l .i) (l .inv) (c .before .before .loop-test .taken) top (sym (c .before .is-due .ensures) ∙ c .if1 .left)
 
 same-length : tie.Need-same-length Inv-loop μ-loop
 same-length c = search needs
@@ -112,7 +112,7 @@ returns c =
     let n = c .before .before .at-most in
     let top : n .result ≤ length (eventsIn (s .t .now)) = omega (arith, n .ensures, rows-long 15 eventOf (s .t .now)) in
     let room : n .result ≤ 256 = omega (arith, n .ensures, c .before .before .before .before .before .before .pre .0) in
-    going-done (s .deadline) (eventsIn (s .t .now)) (n .result) (take (s .s .voices) (voicesIn (s .voices .now))) (take (s .s .nodes) (nodesIn (s .nodes .now))) (s .out .now) (take (s .s .nodes) (nodesIn (l .nodes))) (l .freed) (l .out) (l .count) (l .taken) (l .i) (l .inv) (c .loop-test .left) top room (c .before .before .before .before .before .before .pre .2) (take (s .s .events) (eventsIn (s .t .now))) (take-count 15 eventOf (s .t .now) (s .s .events) (n .result) (n .ensures))
+    events-done (s .deadline) (eventsIn (s .t .now)) (n .result) (take (s .s .voices) (voicesIn (s .voices .now))) (take (s .s .nodes) (nodesIn (s .nodes .now))) (s .out .now) (take (s .s .nodes) (nodesIn (l .nodes))) (l .freed) (l .out) (l .count) (l .taken) (l .i) (l .inv) (c .loop-test .left) top room (c .before .before .before .before .before .before .pre .2) (take (s .s .events) (eventsIn (s .t .now))) (take-count 15 eventOf (s .t .now) (s .s .events) (n .result) (n .ensures))
 
 pub apply-due-spec : {M : Type 1} → statement M
 apply-due-spec =

@@ -4,7 +4,7 @@ use mathlib.Core.Path.{sym}
 use lib.Seq.{length-take-le}
 use lib.ListN.{length}
 use borrow.Author.Needs.{needs}
-use Rattle.call_render.proofs.Events.{all-happen}
+use Rattle.call_render.proofs.Events.{all-applied}
 use Rattle.call_render.proofs.due.apply_events.Statement.{statement}
 use Rattle.call_render.proofs.due.apply_events.Tie as tie
 
@@ -42,7 +42,7 @@ returns c =
     let e = c .before .before .before .before .before .before .remove-due in
     let u = c .before .before .before .before .before .with-events in
     let f = c .forget-voices in
-    all-happen (s .s) (s .nodes .now) (s .edges .now) (s .voices .now) (s .events .now) (s .deadline) (h .last .1 .0) (h .last .1 .1 .1 .1 .1 .0) (s .out .now) (h .last .1 .1 .1 .1 .1 .1 .0) (h .result .freed) (h .result .taken) (h .ensures) (e .last .0) (e .result) (e .ensures) (u .result) (u .ensures) (f .result) (f .last .1 .0) (f .last .1 .1 .0) (f .last .1 .1 .1 .0) (f .ensures)
+    all-applied (s .s) (s .nodes .now) (s .edges .now) (s .voices .now) (s .events .now) (s .deadline) (h .last .1 .0) (h .last .1 .1 .1 .1 .1 .0) (s .out .now) (h .last .1 .1 .1 .1 .1 .1 .0) (h .result .freed) (h .result .taken) (h .ensures) (e .last .0) (e .result) (e .ensures) (u .result) (u .ensures) (f .result) (f .last .1 .0) (f .last .1 .1 .0) (f .last .1 .1 .1 .0) (f .ensures)
 
 pub apply-events-spec : {M : Type 1} → statement M
 apply-events-spec =

@@ -11,7 +11,7 @@ use Rattle.memory.specs.View.{modelOf, sharedOf}
 use Rattle.memory.specs.Lent.{lentVoices}
 use Rattle.memory.specs.Parts.{numbered}
 use Rattle.call_spawn.proofs.Rooms.{blank}
-use Rattle.call_spawn.proofs.Seating.{seats, landedIn}
+use Rattle.call_spawn.proofs.Seating.{seats, spawnedIn}
 use Rattle.call_spawn.proofs.seat.seat_voice.Statement.{statement}
 use Rattle.call_spawn.proofs.seat.seat_voice.Tie as tie
 
@@ -60,7 +60,7 @@ returns c =
     λ m.
     let old = lentVoices (a .s) (a .nodes .now) (a .edges .now) (a .voices .now) m in
     let more = lentVoices (grown .result) (grown .last .1 .0) (grown .last .1 .1 .0) (a .voices .now) m in
-    ap (landedIn (Spawned.Voice (nextVoice (sharedOf old))))
+    ap (spawnedIn (Spawned.Voice (nextVoice (sharedOf old))))
     (ap (λ (k : State). modelOf (lentVoices k (grown .last .1 .0) (grown .last .1 .1 .0) (seat .last .0) m)) left
     ∙ seats x (a .state) (a .port) (modelOf old) (s .pre m) (take (a .s .nodes) (nodesIn (counted .last .0))) (counted .ensures) (modelOf more) (pan .result) (pan .ensures) (grown .ensures old) (new .result) (new .ensures old) _ (seat .ensures .is))
 

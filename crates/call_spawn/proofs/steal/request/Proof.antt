@@ -5,7 +5,7 @@ use mathlib.Core.Bool.{cond}
 use lib.ListN.{getD}
 use borrow.Author.Needs.{needs}
 use Rattle.voice_rows.specs.Rows.{voiceOf, voicesIn}
-use Rattle.memory.proofs.Steps.{kept-none}
+use Rattle.memory.proofs.Contracts.{kept-none}
 use Rattle.memory.specs.View.{modelOf}
 use Rattle.memory.specs.Lent.{lentSpawn}
 use Rattle.call_spawn.proofs.Stealing.{meets-admit, meets-reject, meets-steal, meets-nobody}

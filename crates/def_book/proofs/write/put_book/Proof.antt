@@ -2,21 +2,15 @@
 use Prim.Native.Nat.{_*_, min}
 use native.Mathlib.Omega.{arith}
 use mathlib.Core.Path.{_≡_, ap, _∙_}
-use lib.ListN.{length-map}
 use borrow.Author.Needs.{needs}
 use Rattle.def_book.specs.Bytes.{headingBytes}
 use Rattle.def_book.proofs.Puts.{then, same-text, room-behind}
-use Rattle.def_book.proofs.Writing.{Long, node-count, nodes-long, edges-long, params-long, book-parts}
+use Rattle.def_book.proofs.Writing.{Long, long-told, node-count, nodes-long, edges-long, params-long, book-parts}
 use Rattle.def_book.proofs.write.put_book.Statement.{statement}
 use Rattle.def_book.proofs.write.put_book.Tie as tie
 
 long : (c : tie.Start) → Long (c .args .d)
-long c =
-    record {
-      nodes = simp length-map at (c .good .0 .1 .1 .0 .1 .1 .0 .1 .0 .1);
-      edges = simp length-map at (c .good .0 .1 .1 .1 .0 .1 .1 .0 .1 .0 .1);
-      params = simp length-map at (c .good .0 .1 .1 .1 .1 .0 .1 .1 .0 .1 .0 .1);
-    }
+long c = long-told _ _ _ (c .args .d) (c .good .0 .1 .1 .0 .1 .1 .0 .1 .0 .1) (c .good .0 .1 .1 .1 .0 .1 .1 .0 .1 .0 .1) (c .good .0 .1 .1 .1 .1 .0 .1 .1 .0 .1 .0 .1)
 
 -- what each part took
 nodes-took : (c : tie.After-put-nodes) → c .put-nodes .result ≡ 27 * min (c .before .before .before .before .before .before .before .before .before .before .before .args .d .nodes .count) 24

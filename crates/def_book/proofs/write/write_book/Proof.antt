@@ -2,21 +2,16 @@
 use Prim.Native.Nat.{_≤_, _<_}
 use native.Mathlib.Omega.{arith}
 use mathlib.Core.Path.{sym, _∙_}
-use lib.ListN.{length, length-map}
+use lib.ListN.{length}
 use borrow.Author.Needs.{needs}
 use borrow.Author.Tests.{not-true, not-false}
 use Rattle.def_book.specs.Bytes.{bookOf}
-use Rattle.def_book.proofs.Writing.{Long, book-long, beyond, too-short, put-whole}
+use Rattle.def_book.proofs.Writing.{Long, long-told, book-long, beyond, too-short, put-whole}
 use Rattle.def_book.proofs.write.write_book.Statement.{statement}
 use Rattle.def_book.proofs.write.write_book.Tie as tie
 
 long : (c : tie.Start) → Long (c .args .d)
-long c =
-    record {
-      nodes = simp length-map at (c .good .0 .1 .1 .0 .1 .1 .0 .1 .0 .1);
-      edges = simp length-map at (c .good .0 .1 .1 .1 .0 .1 .1 .0 .1 .0 .1);
-      params = simp length-map at (c .good .0 .1 .1 .1 .1 .0 .1 .1 .0 .1 .0 .1);
-    }
+long c = long-told _ _ _ (c .args .d) (c .good .0 .1 .1 .0 .1 .1 .0 .1 .0 .1) (c .good .0 .1 .1 .1 .0 .1 .1 .0 .1 .0 .1) (c .good .0 .1 .1 .1 .1 .0 .1 .1 .0 .1 .0 .1)
 
 allowed-requires : tie.Need-allowed-requires
 allowed-requires c κs = search needs

@@ -16,29 +16,14 @@ float-word-requires c κs = search needs
 enum-known-a-2 : tie.Need-enum-known-a-2
 enum-known-a-2 c = search needs
 
-shape-words-requires : tie.Need-shape-words-requires
-shape-words-requires c κs = search needs
-
-float-word-requires-2 : tie.Need-float-word-requires-2
-float-word-requires-2 c κs = search needs
-
-float-word-requires-3 : tie.Need-float-word-requires-3
-float-word-requires-3 c κs = search needs
-
-array-read-t16 : tie.Need-array-read-t16
-array-read-t16 c = search needs
-
-array-read-t19 : tie.Need-array-read-t19
-array-read-t19 c = search needs
-
-space-word-requires : tie.Need-space-word-requires
-space-word-requires c κs = search needs
+glide-words-requires : tie.Need-glide-words-requires
+glide-words-requires c κs = search needs
 
 enum-known-a-3 : tie.Need-enum-known-a-3
 enum-known-a-3 c = search needs
 
-float-word-requires-4 : tie.Need-float-word-requires-4
-float-word-requires-4 c κs = search needs
+float-word-requires-2 : tie.Need-float-word-requires-2
+float-word-requires-2 c κs = search needs
 
 returns : tie.Need-returns
 returns c = search needs
@@ -47,10 +32,10 @@ returns-2 : tie.Need-returns-2
 returns-2 c = ap action.Value (c .float-word .ensures) ∙ sym (c .before .before .a .given .1)
 
 returns-3 : tie.Need-returns-3
-returns-3 c = simp (c .before .before .float-word2 .ensures, c .before .float-word3 .ensures, c .before .before .before .shape-words .ensures, c .space-word .ensures) (sym (c .before .before .before .before .before .a2 .given .1))
+returns-3 c = let g = c .glide-words .ensures in simp (g .which, g .target-is, g .seconds-are, g .shape-is, g .space-is) (sym (c .before .before .a2 .given .1))
 
 returns-4 : tie.Need-returns-4
-returns-4 c = ap action.Gate (c .float-word4 .ensures) ∙ sym (c .before .before .a3 .given .1)
+returns-4 c = ap action.Gate (c .float-word2 .ensures) ∙ sym (c .before .before .a3 .given .1)
 
 pub action-words-spec : {M : Type 1} → statement M
 action-words-spec =
@@ -60,14 +45,9 @@ action-words-spec =
     enum-known-a
     float-word-requires
     enum-known-a-2
-    shape-words-requires
-    float-word-requires-2
-    float-word-requires-3
-    array-read-t16
-    array-read-t19
-    space-word-requires
+    glide-words-requires
     enum-known-a-3
-    float-word-requires-4
+    float-word-requires-2
     returns
     returns-2
     returns-3

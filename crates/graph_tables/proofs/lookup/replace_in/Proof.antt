@@ -1,30 +1,16 @@
-use Prim.Native.Nat.{ℕ, zero, suc, _+_, _*_, _/_, _≤_, _<_, _-_, min}
-use mathlib.Core.Path.{_≡_, refl, sym, ap, _∙_, subst}
-use mathlib.Core.List.{List, [], _∷_, _++_}
-use mathlib.Core.Bool.{Bool, true, false, not, cond, _&&_}
-use mathlib.Core.Logic.{⊎-elim, inl, inr}
+use Prim.Native.Nat.{_/_, _≤_, _-_}
 use native.Mathlib.Omega.{arith}
-use native.Mathlib.Numerals.{add-one}
-use lib.ListN.{length, take, drop, getD, set}
+use mathlib.Core.Path.{_≡_, sym, ap, _∙_}
+use mathlib.Core.List.{[]}
+use mathlib.Core.Bool.{true, false, cond}
+use lib.ListN.{length, getD, set}
 use borrow.Author.Needs.{needs}
-use borrow.Author.Tests.{lt-ltb, le-ltb, eq-eqb, ne-eqb, eqb-true, eqb-false, ltb-true, ltb-false}
-use Rattle.words.specs.Rows.{rows}
-use Rattle.words.proofs.Rows.{rows-long, row-is, at-word}
-use Rattle.words.proofs.Place.{counted, holds-count, pushed-more, PlacingIn, placing-start, placing-hit, placing-next, placing-none}
+use borrow.Author.Tests.{eq-eqb, ne-eqb}
 use Rattle.words.proofs.InWords.{ChangingIn, change-start, change-row, change-none, change-done}
-use Rattle.edges.proofs.Loops.{pushed-on, pushed-off}
-use Rattle.edges.specs.Wiring.{pushed, endsAt}
-use Rattle.words.specs.Place.{Holds, placeOf}
-use Rattle.graph.specs.Node.{isNode, nodeAt, replaced}
-use Rattle.graph_rows.specs.Node.{nodeOf, nodesIn, briefOf}
-use Rattle.graph_rows.specs.Edge.{edgeOf, edgesIn}
+use Rattle.graph.specs.Node.{isNode}
+use Rattle.graph_rows.specs.Node.{nodeOf, nodesIn}
 use Rattle.graph_tables.proofs.lookup.replace_in.Statement.{statement}
 use Rattle.graph_tables.proofs.lookup.replace_in.Tie as tie
-use Rattle.graph_tables.proofs.lookup.replace_in.Reads as reads
-use Rattle.graph_tables.proofs.lookup.replace_in.Lts as lts
-use Rattle.graph_rows.proofs.node_row.id_at.Reads as id-at-reads
-use Rattle.graph_rows.proofs.node_row.put_node.Reads as put-node-reads
-use Rattle.words.proofs.table.at_most.Reads as at-most-reads
 
 abbrev Inv-loop : tie.InvT-loop
 Inv-loop t₀ count n m i₀ t i = ChangingIn 22 nodeOf (λ x. cond (isNode (n .id) x) n x) t₀ t m i

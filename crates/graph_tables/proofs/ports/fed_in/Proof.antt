@@ -1,15 +1,15 @@
 use Prim.Native.Nat.{_-_, _≤_, min}
+use native.Mathlib.Omega.{arith}
 use mathlib.Core.Path.{_≡_, sym, ap, _∙_, subst}
 use mathlib.Core.List.{[]}
 use mathlib.Core.Bool.{true, false}
-use native.Mathlib.Omega.{arith}
 use lib.ListN.{take, drop, getD, set, replicate}
 use borrow.Author.Needs.{needs}
 use Rattle.node.specs.declared.record.NodeId.{NodeId}
 use Rattle.graph_rows.specs.Edge.{edgeOf, edgesIn}
-use Rattle.graph_tables.specs.Fed.{FedPorts}
+use Rattle.graph_tables.specs.FedPorts.{FedPorts}
 use Rattle.graph_tables.proofs.Backwards.{Precedes, none-passed, next-edge, all-passed}
-use Rattle.graph_tables.proofs.Fed.{fed-start, fed-pass, fed-mark}
+use Rattle.graph_tables.proofs.FedPorts.{fed-start, fed-pass, fed-mark}
 use Rattle.graph_tables.proofs.ports.fed_in.Statement.{statement}
 use Rattle.graph_tables.proofs.ports.fed_in.Tie as tie
 

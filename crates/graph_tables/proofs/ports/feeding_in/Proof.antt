@@ -6,7 +6,7 @@ use Rattle.words.proofs.InWords.{SeekingIn, seek-start, seek-hit, seek-next, se
 use Rattle.edges.specs.Wiring.{taken}
 use Rattle.edges.specs.Ports.{feeds}
 use Rattle.graph_rows.specs.Edge.{edgeOf}
-use Rattle.graph_tables.specs.Fed.{node}
+use Rattle.graph_tables.specs.FedPorts.{node}
 use Rattle.graph_tables.proofs.ports.feeding_in.Statement.{statement}
 use Rattle.graph_tables.proofs.ports.feeding_in.Tie as tie
 

@@ -1,17 +1,17 @@
 use Prim.Native.Nat.{_≤_, _<_, _-_}
+use native.Mathlib.Omega.{arith}
+use native.Mathlib.Nat.{sub-zero}
 use mathlib.Core.Path.{_≡_, sym, ap, _∙_}
 use mathlib.Core.List.{List}
 use mathlib.Core.Bool.{true, false}
-use native.Mathlib.Omega.{arith}
 use borrow.Author.Needs.{needs}
+use borrow.Author.Tests.{not-true, not-false}
 use Rattle.edges.specs.Wiring.{taken}
 use Rattle.edges.specs.Ports.{portOf, lowest}
 use Rattle.edges.proofs.Search.{lowest-found, lowest-pass, lowest-none}
-use Rattle.graph_tables.specs.Fed.{FedPorts}
-use native.Mathlib.Nat.{sub-zero}
-use borrow.Author.Tests.{not-true, not-false}
 use Rattle.node.specs.declared.record.NodeId.{NodeId}
 use Rattle.node.specs.declared.record.Edge.{Edge}
+use Rattle.graph_tables.specs.FedPorts.{FedPorts}
 use Rattle.graph_tables.proofs.ports.first_unfed.Statement.{statement}
 use Rattle.graph_tables.proofs.ports.first_unfed.Tie as tie
 

@@ -1,30 +1,17 @@
-use Prim.Native.Nat.{ℕ, zero, suc, _+_, _*_, _/_, _≤_, _<_, _-_, min}
-use mathlib.Core.Path.{_≡_, refl, sym, ap, _∙_, subst}
-use mathlib.Core.List.{List, [], _∷_, _++_}
-use mathlib.Core.Bool.{Bool, true, false, not, cond, _&&_}
-use mathlib.Core.Logic.{⊎-elim, inl, inr}
+use Prim.Native.Nat.{_≤_, _<_, _-_}
 use native.Mathlib.Omega.{arith}
-use native.Mathlib.Numerals.{add-one}
-use lib.ListN.{length, take, drop, getD, set}
-use borrow.Author.Needs.{needs}
-use borrow.Author.Tests.{lt-ltb, le-ltb, eq-eqb, ne-eqb, eqb-true, eqb-false, ltb-true, ltb-false}
-use mathlib.Core.Option.{none, some}
-use Rattle.lists.specs.Find.{find, isSome, mapO}
-use Rattle.words.proofs.Rows.{rows-long, row-is}
-use Rattle.words.proofs.InWords.{SeekingIn, seek-start, seek-hit, seek-next, seek-none, take-count}
-use Rattle.edges.specs.Wiring.{endsAt, taken}
-use Rattle.edges.specs.Ports.{portOf, lowest, feeds, sources, sourceAt, sourceOf}
-use Rattle.edges.proofs.Search.{Says, says-hit, says-port, says-node, says-all, row-before, lowest-found, lowest-pass, lowest-none}
-use Rattle.graph_rows.specs.Edge.{edgeOf, edgesIn}
-use lib.Dec.{eqb}
 use native.Mathlib.Nat.{sub-zero}
-use lib.ListN.{length-take, drop-of-length-le, getD-replicate}
+use mathlib.Core.Path.{_≡_, refl, sym, ap, _∙_}
+use lib.ListN.{take}
+use borrow.Author.Needs.{needs}
+use Rattle.lists.specs.Find.{isSome}
+use Rattle.words.proofs.InWords.{SeekingIn, seek-start, seek-hit, seek-next, seek-none}
+use Rattle.edges.specs.Wiring.{endsAt, taken}
+use Rattle.edges.specs.Ports.{portOf, lowest}
+use Rattle.edges.proofs.Search.{lowest-found, lowest-pass, lowest-none}
+use Rattle.graph_rows.specs.Edge.{edgeOf, edgesIn}
 use Rattle.graph_tables.proofs.ports.lowest_port.Statement.{statement}
 use Rattle.graph_tables.proofs.ports.lowest_port.Tie as tie
-use Rattle.graph_tables.proofs.ports.lowest_port.Reads as reads
-use Rattle.graph_tables.proofs.ports.lowest_port.Lts as lts
-use Rattle.graph_tables.proofs.wiring.ends_at.Reads as ends-at-reads
-use Rattle.words.proofs.table.at_most.Reads as at-most-reads
 
 abbrev Inv-loop : tie.InvT-loop
 Inv-loop t count node ports n p₀ i₀ p i = (p ≡ p₀) × SeekingIn 3 edgeOf (endsAt node p) t count n i × (lowest (ports - p) (take count (edgesIn t)) node p ≡ lowest ports (take count (edgesIn t)) node 0)

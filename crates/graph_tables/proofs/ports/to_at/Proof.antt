@@ -3,7 +3,7 @@ use borrow.Author.Needs.{needs}
 use Rattle.node.specs.declared.record.Edge.{Edge}
 use Rattle.words.proofs.Rows.{row-is}
 use Rattle.graph_rows.specs.Edge.{edgeOf}
-use Rattle.graph_tables.specs.Fed.{node}
+use Rattle.graph_tables.specs.FedPorts.{node}
 use Rattle.graph_tables.proofs.ports.to_at.Statement.{statement}
 use Rattle.graph_tables.proofs.ports.to_at.Tie as tie
 

@@ -1,32 +1,15 @@
-use Prim.Native.Nat.{ℕ, zero, suc, _+_, _*_, _/_, _≤_, _<_, _-_, min}
-use mathlib.Core.Path.{_≡_, refl, sym, ap, _∙_, subst}
-use mathlib.Core.List.{List, [], _∷_, _++_}
-use mathlib.Core.Bool.{Bool, true, false, not, cond, _&&_}
-use mathlib.Core.Logic.{⊎-elim, inl, inr}
+use Prim.Native.Nat.{_≤_, _-_}
 use native.Mathlib.Omega.{arith}
-use native.Mathlib.Numerals.{add-one}
-use lib.ListN.{length, take, drop, getD, set}
-use borrow.Author.Needs.{needs}
-use borrow.Author.Tests.{lt-ltb, le-ltb, eq-eqb, ne-eqb, eqb-true, eqb-false, ltb-true, ltb-false}
+use mathlib.Core.Path.{_≡_, sym, ap, _∙_}
+use lib.ListN.{length, take, drop}
 use lib.Dec.{eqb}
 use lib.Seq.{take-all}
-use lib.ListN.{length-set, getD-replicate}
-use Rattle.lists.specs.Find.{find, isSome, filterO, or?}
+use borrow.Author.Needs.{needs}
+use borrow.Author.Tests.{eq-eqb, ne-eqb}
+use Rattle.lists.specs.Find.{find, isSome}
 use Rattle.lists.proofs.Table.{find-hit, find-next, find-over}
-use Rattle.words.proofs.Rows.{rows-long}
-use Rattle.words.proofs.Place.{closed}
-use Rattle.words.proofs.InPlace.{Gathering, gathering-start, gathering-take, gathering-pass}
-use Rattle.words.proofs.InWords.{ClosingIn, words-start, words-row, words-keep, words-drop, take-count}
-use Rattle.edges.specs.Wiring.{touches, listed, among}
-use Rattle.graph.specs.Change.{idsOf}
-use Rattle.graph_rows.specs.Node.{nodeOf, nodesIn}
-use Rattle.graph_rows.specs.Edge.{edgeOf, edgesIn}
-use Rattle.graph_tables.specs.Removal.{leaves}
-use Rattle.graph_tables.proofs.Marks.{MarkedTo, marks-more, marks-done, unmarked, listed-at}
 use Rattle.graph_tables.proofs.removal.is_any.Statement.{statement}
 use Rattle.graph_tables.proofs.removal.is_any.Tie as tie
-use Rattle.graph_tables.proofs.removal.is_any.Reads as reads
-use Rattle.graph_tables.proofs.removal.is_any.Lts as lts
 
 abbrev Inv-loop : tie.InvT-loop
 Inv-loop ids x i₀ i = (i ≤ length ids) × (find (λ k. eqb k x) (drop i (take (length ids) ids)) ≡ find (λ k. eqb k x) ids)

@@ -1,41 +1,25 @@
-use Prim.Native.Nat.{ℕ, zero, suc, _+_, _*_, _/_, _≤_, _<_, _-_, min}
-use mathlib.Core.Path.{_≡_, refl, sym, ap, _∙_, subst}
-use mathlib.Core.List.{List, [], _∷_, _++_}
-use mathlib.Core.Bool.{Bool, true, false, not, cond, _&&_}
-use mathlib.Core.Logic.{⊎-elim, inl, inr}
+use Prim.Native.Nat.{_/_, _≤_, _<_, _-_}
 use native.Mathlib.Omega.{arith}
-use native.Mathlib.Numerals.{add-one}
-use lib.ListN.{length, take, drop, getD, set}
+use mathlib.Core.Path.{_≡_, sym, ap, _∙_}
+use mathlib.Core.List.{[]}
+use mathlib.Core.Bool.{not}
+use lib.ListN.{length, take}
 use borrow.Author.Needs.{needs}
-use borrow.Author.Tests.{lt-ltb, le-ltb, eq-eqb, ne-eqb, eqb-true, eqb-false, ltb-true, ltb-false}
-use lib.Dec.{eqb}
-use lib.ListN.{length-set, getD-replicate}
-use Rattle.lists.specs.Find.{find, isSome, filterO, or?}
-use Rattle.lists.proofs.Table.{left-cons}
 use Rattle.words.proofs.Rows.{rows-long}
 use Rattle.words.proofs.Place.{closed}
 use Rattle.words.proofs.InPlace.{Gathering, gathering-start, gathering-take, gathering-pass}
 use Rattle.words.proofs.InWords.{ClosingIn, words-start, words-row, words-keep, words-drop, take-count}
-use Rattle.edges.specs.Wiring.{touches, listed, among}
 use Rattle.graph.specs.Change.{idsOf}
 use Rattle.graph_rows.specs.Node.{nodeOf, nodesIn}
-use Rattle.graph_rows.specs.Edge.{edgeOf, edgesIn}
 use Rattle.graph_tables.specs.Removal.{leaves}
-use Rattle.graph_tables.proofs.Marks.{MarkedTo, marks-more, marks-done, unmarked, listed-at}
 use Rattle.graph_tables.proofs.removal.part.Statement.{statement}
 use Rattle.graph_tables.proofs.removal.part.Tie as tie
-use Rattle.graph_tables.proofs.removal.part.Reads as reads
-use Rattle.graph_tables.proofs.removal.part.Lts as lts
-use Rattle.graph_rows.proofs.node_row.id_at.Reads as id-at-reads
-use Rattle.graph_tables.proofs.removal.is_leaving.Reads as is-leaving-reads
-use Rattle.words.proofs.table.at_most.Reads as at-most-reads
-use Rattle.words.proofs.table.move_row.Reads as move-row-reads
 
 abbrev Inv-loop : tie.InvT-loop
-Inv-loop t₀ count who voices gone₀ n k₀ g₀ i₀ t gone k g i = ClosingIn 22 nodeOf (λ x. not (leaves who voices x)) t₀ t n i k × Gathering (leaves who voices) (λ x. x .id .0) 512 (nodesIn t₀) gone i g
+Inv-loop t₀ count who voices removed₀ n k₀ g₀ i₀ t removed k g i = ClosingIn 22 nodeOf (λ x. not (leaves who voices x)) t₀ t n i k × Gathering (leaves who voices) (λ x. x .id .0) 512 (nodesIn t₀) removed i g
 
 abbrev μ-loop : tie.MeasureT-loop
-μ-loop t₀ count who voices gone₀ n k₀ g₀ i₀ t gone k g i = n - i
+μ-loop t₀ count who voices removed₀ n k₀ g₀ i₀ t removed k g i = n - i
 
 at-most-requires : tie.Need-at-most-requires Inv-loop μ-loop
 at-most-requires c κs = search needs
@@ -44,7 +28,7 @@ loop-holds : tie.Need-loop-holds Inv-loop μ-loop
 loop-holds c =
     let s = c .before .before .before .before in
     let q = leaves (s .args .who) (s .args .voices .now) in
-    (words-start 22 nodeOf (λ x. not (q x)) (s .args .t .now) (c .at-most .result), gathering-start (nodeOf []) q (λ x. x .id .0) 512 (nodesIn (s .args .t .now)) (s .args .gone .now) (s .pre .1))
+    (words-start 22 nodeOf (λ x. not (q x)) (s .args .t .now) (c .at-most .result), gathering-start (nodeOf []) q (λ x. x .id .0) 512 (nodesIn (s .args .t .now)) (s .args .removed .now) (s .pre .1))
 
 is-leaving-requires : tie.Need-is-leaving-requires Inv-loop μ-loop
 is-leaving-requires c κs = search needs
@@ -52,11 +36,11 @@ is-leaving-requires c κs = search needs
 id-at-requires : tie.Need-id-at-requires Inv-loop μ-loop
 id-at-requires c κs = search needs
 
-mul-gone : tie.Need-mul-gone Inv-loop μ-loop
-mul-gone c = search needs
+mul-removed : tie.Need-mul-removed Inv-loop μ-loop
+mul-removed c = search needs
 
-slice-write-gone : tie.Need-slice-write-gone Inv-loop μ-loop
-slice-write-gone c = search needs
+slice-write-removed : tie.Need-slice-write-removed Inv-loop μ-loop
+slice-write-removed c = search needs
 
 add-g : tie.Need-add-g Inv-loop μ-loop
 add-g c = search needs
@@ -81,7 +65,7 @@ loop-again c =
     let test = sym (c .before .before .before .is-leaving .ensures) ∙ c .before .before .if1 .taken in
     let room : l .g < 512 = omega (arith, l .inv .1 .low, m .ensures, s .pre .0) in (
       words-drop 22 nodeOf (λ x. not (q x)) old (l .t) (m .result) (l .i) (l .k) fits more (l .inv .0) (ap not test),
-      rw (c .id-at .ensures, same) (gathering-take (nodeOf []) q (λ x. x .id .0) 512 (nodesIn old) (l .gone) (l .i) (l .g) inside (l .inv .1) room (sym (ap q same) ∙ test)),
+      rw (c .id-at .ensures, same) (gathering-take (nodeOf []) q (λ x. x .id .0) 512 (nodesIn old) (l .removed) (l .i) (l .g) inside (l .inv .1) room (sym (ap q same) ∙ test)),
     )
 
 move-row-requires : tie.Need-move-row-requires Inv-loop μ-loop
@@ -110,7 +94,7 @@ loop-again-2 c =
     let moved = c .before .before .move-row in
     let test = sym (c .before .before .before .before .before .is-leaving .ensures) ∙ c .before .before .before .before .if1 .left in (
       words-keep 22 nodeOf (λ x. not (q x)) old (l .t) (m .result) (l .i) (l .k) fits more (l .inv .0) (moved .last .0) (moved .ensures) (ap not test),
-      gathering-pass (nodeOf []) q (λ x. x .id .0) 512 (nodesIn old) (l .gone) (l .i) (l .g) inside (l .inv .1) (sym (ap q same) ∙ test),
+      gathering-pass (nodeOf []) q (λ x. x .id .0) 512 (nodesIn old) (l .removed) (l .i) (l .g) inside (l .inv .1) (sym (ap q same) ∙ test),
     )
 
 same-length : tie.Need-same-length Inv-loop μ-loop
@@ -144,8 +128,8 @@ part-spec =
     loop-holds
     is-leaving-requires
     id-at-requires
-    mul-gone
-    slice-write-gone
+    mul-removed
+    slice-write-removed
     add-g
     add-i
     loop-less

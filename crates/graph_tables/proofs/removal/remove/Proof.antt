@@ -1,15 +1,10 @@
-use Prim.Native.Nat.{ℕ, zero, suc, _+_, _*_, _/_, _≤_, _<_, _-_, min}
-use mathlib.Core.Path.{_≡_, refl, sym, ap, _∙_, subst}
-use mathlib.Core.List.{List, [], _∷_, _++_}
-use mathlib.Core.Bool.{Bool, true, false, not, cond, _&&_}
-use mathlib.Core.Logic.{⊎-elim, inl, inr}
+use Prim.Native.Nat.{_≤_}
 use native.Mathlib.Omega.{arith}
-use native.Mathlib.Numerals.{add-one}
-use lib.ListN.{length, take, drop, getD, set}
-use borrow.Author.Needs.{needs}
-use borrow.Author.Tests.{lt-ltb, le-ltb, eq-eqb, ne-eqb, eqb-true, eqb-false, ltb-true, ltb-false}
-use lib.ListN.{length-take}
+use mathlib.Core.Path.{sym, ap, _∙_, subst}
+use mathlib.Core.Bool.{not}
+use lib.ListN.{length, take, length-take}
 use lib.Seq.{length-take-le}
+use borrow.Author.Needs.{needs}
 use Rattle.lists.specs.Find.{filterO}
 use Rattle.words.specs.Place.{Holds}
 use Rattle.edges.specs.Wiring.{among, dropTouching}
@@ -17,11 +12,6 @@ use Rattle.graph.specs.Tables.{sinkOf}
 use Rattle.graph_rows.specs.Edge.{edgesIn}
 use Rattle.graph_tables.proofs.removal.remove.Statement.{statement}
 use Rattle.graph_tables.proofs.removal.remove.Tie as tie
-use Rattle.graph_tables.proofs.removal.remove.Reads as reads
-use Rattle.graph_tables.proofs.removal.remove.Lts as lts
-use Rattle.graph_tables.proofs.removal.drop_touching.Reads as drop-touching-reads
-use Rattle.graph_tables.proofs.removal.keep_sink.Reads as keep-sink-reads
-use Rattle.graph_tables.proofs.removal.part.Reads as part-reads
 
 slice-aggregate-part : tie.Need-slice-aggregate-part
 slice-aggregate-part c = search needs
@@ -29,28 +19,28 @@ slice-aggregate-part c = search needs
 part-requires : tie.Need-part-requires
 part-requires c κs = search needs
 
-array-share-prefix-gone : tie.Need-array-share-prefix-gone
-array-share-prefix-gone c = search needs
+array-share-prefix-removed : tie.Need-array-share-prefix-removed
+array-share-prefix-removed c = search needs
 
 slice-aggregate-drop-touching : tie.Need-slice-aggregate-drop-touching
 slice-aggregate-drop-touching c =
     let r = c .before .before .before .before .before .part in
-    let inside : r .result .gone ≤ length (r .last .1 .1 .1 .1 .0) = omega (arith, r .ensures .fits, r .ensures .long) in
-    sym (length-take-le (r .result .gone) (r .last .1 .1 .1 .1 .0) inside)
+    let inside : r .result .removed ≤ length (r .last .1 .1 .1 .1 .0) = omega (arith, r .ensures .fits, r .ensures .long) in
+    sym (length-take-le (r .result .removed) (r .last .1 .1 .1 .1 .0) inside)
 
 drop-touching-requires : tie.Need-drop-touching-requires
 drop-touching-requires c κs =
     let r = c .before .before .before .before .before .part in
-    omega (arith, r .ensures .fits, length-take (r .result .gone) (r .last .1 .1 .1 .1 .0))
+    omega (arith, r .ensures .fits, length-take (r .result .removed) (r .last .1 .1 .1 .1 .0))
 
-array-share-prefix-gone-2 : tie.Need-array-share-prefix-gone-2
-array-share-prefix-gone-2 c = search needs
+array-share-prefix-removed-2 : tie.Need-array-share-prefix-removed-2
+array-share-prefix-removed-2 c = search needs
 
 slice-aggregate-keep-sink : tie.Need-slice-aggregate-keep-sink
 slice-aggregate-keep-sink c =
     let r = c .before .before .before .before .before .before .before .before .before .part in
-    let inside : r .result .gone ≤ length (r .last .1 .1 .1 .1 .0) = omega (arith, r .ensures .fits, r .ensures .long) in
-    sym (length-take-le (r .result .gone) (r .last .1 .1 .1 .1 .0) inside)
+    let inside : r .result .removed ≤ length (r .last .1 .1 .1 .1 .0) = omega (arith, r .ensures .fits, r .ensures .long) in
+    sym (length-take-le (r .result .removed) (r .last .1 .1 .1 .1 .0) inside)
 
 keep-sink-requires : tie.Need-keep-sink-requires
 keep-sink-requires c κs = search needs
@@ -79,10 +69,10 @@ remove-spec =
     (tie.spec
     slice-aggregate-part
     part-requires
-    array-share-prefix-gone
+    array-share-prefix-removed
     slice-aggregate-drop-touching
     drop-touching-requires
-    array-share-prefix-gone-2
+    array-share-prefix-removed-2
     slice-aggregate-keep-sink
     keep-sink-requires
     same-length

@@ -1,21 +1,18 @@
-use Prim.Native.Nat.{_+_, _≤_, _-_}
+use Prim.Native.Nat.{_-_, min}
 use native.Mathlib.Omega.{arith}
-use mathlib.Core.Path.{_≡_, refl, sym, ap, _∙_}
-use lib.ListN.{length, take, drop, length-map}
+use mathlib.Core.Path.{refl, ap, _∙_}
+use lib.ListN.{take}
 use borrow.Author.Needs.{needs}
 use Rattle.voice.specs.Policy.{lowest}
-use Rattle.voice.proofs.Walk.{none-left, lowest-row}
+use Rattle.voice.proofs.Walk.{Carries, carry-row, carry-done}
 use Rattle.voice.proofs.policy.lowest_rank.Statement.{statement}
 use Rattle.voice.proofs.policy.lowest_rank.Tie as tie
 
 abbrev Inv-loop : tie.InvT-loop
-Inv-loop rank t n k₀ i₀ k i = (i ≤ n) × (lowest k (drop i (take n (t .rows))) ≡ lowest rank (take n (t .rows)))
+Inv-loop rank t n k₀ i₀ k i = Carries (λ r j l. lowest r l) (t .rows) n (lowest rank (take n (t .rows))) k i
 
 abbrev μ-loop : tie.MeasureT-loop
 μ-loop rank t n k₀ i₀ k i = n - i
-
-rows-long : (c : tie.Start Inv-loop μ-loop) → length (c .args .t1 .rows) ≡ 64
-rows-long c = simp length-map at (c .good .0 .1 .1 .0 .1 .0 .1)
 
 at-most-64-requires : tie.Need-at-most-64-requires Inv-loop μ-loop
 at-most-64-requires c κs = search needs
@@ -42,19 +39,14 @@ loop-again : tie.Need-loop-again Inv-loop μ-loop
 loop-again c =
     let s = c .before .before .before .before .before in
     let l = c .before .before .before .loop in
-    let n = c .before .before .before .before .at-most-64 in (
-      omega arith,
-      ap (λ h. lowest h (drop (l .i + 1) (take (n .result) (s .args .t1 .rows)))) (c .lower .ensures)
-          ∙ sym (lowest-row (s .args .t1 .rows) (s .args .t1 .count) (n .result) (l .i) (rows-long s) (n .ensures) _ (c .before .before .loop-test .taken) (l .k))
-          ∙ l .inv .1,
-    )
+    let n = c .before .before .before .before .at-most-64 in
+    carry-row (λ r j l. lowest r l) (λ r j c. min r (c .rank)) (λ r j c l. refl) _ (s .args .t1 .rows) (s .args .t1 .count) (n .result) _ (s .good .0 .1 .1 .0 .1 .0 .1) (n .ensures) (c .before .before .loop-test .taken) (c .lower .ensures) (l .inv)
 
 returns : tie.Need-returns Inv-loop μ-loop
 returns c =
     let s = c .before .before .before in
-    let l = c .before .loop in
     let n = c .before .before .at-most-64 in
-    sym (ap (lowest (l .k)) (none-left (s .args .t1 .rows) (n .result) (l .i) (c .loop-test .left))) ∙ l .inv .1 ∙ ap (λ m. lowest (s .args .rank) (take m (s .args .t1 .rows))) (n .ensures)
+    carry-done (λ r j l. lowest r l) (s .args .t1 .rows) (n .result) (c .loop-test .left) (c .before .loop .inv) ∙ ap (λ m. lowest (s .args .rank) (take m (s .args .t1 .rows))) (n .ensures)
 
 pub lowest-rank-spec : {M : Type 1} → statement M
 lowest-rank-spec =

@@ -1,22 +1,19 @@
-use Prim.Native.Nat.{_+_, _≤_, _-_}
+use Prim.Native.Nat.{_-_}
 use native.Mathlib.Omega.{arith}
-use mathlib.Core.Path.{_≡_, refl, sym, ap, _∙_}
-use lib.ListN.{length, take, drop, length-map}
+use mathlib.Core.Path.{refl, ap, _∙_}
+use lib.ListN.{take}
 use borrow.Author.Needs.{needs}
-use Rattle.voice.specs.Policy.{walk}
+use Rattle.voice.specs.Policy.{passed, walk}
 use Rattle.voice.specs.declared.policy.Held.the-variants as held
-use Rattle.voice.proofs.Walk.{none-left, walk-row}
+use Rattle.voice.proofs.Walk.{Carries, carry-row, carry-done}
 use Rattle.voice.proofs.policy.walk_levels.Statement.{statement}
 use Rattle.voice.proofs.policy.walk_levels.Tie as tie
 
 abbrev Inv-loop : tie.InvT-loop
-Inv-loop t n h₀ i₀ h i = (i ≤ n) × (walk h i (drop i (take n (t .rows))) ≡ walk held.Nothing 0 (take n (t .rows)))
+Inv-loop t n h₀ i₀ h i = Carries walk (t .rows) n (walk held.Nothing 0 (take n (t .rows))) h i
 
 abbrev μ-loop : tie.MeasureT-loop
 μ-loop t n h₀ i₀ h i = n - i
-
-rows-long : (c : tie.Start Inv-loop μ-loop) → length (c .args .t1 .rows) ≡ 64
-rows-long c = simp length-map at (c .good .0 .1 .1 .0 .1 .0 .1)
 
 at-most-64-requires : tie.Need-at-most-64-requires Inv-loop μ-loop
 at-most-64-requires c κs = search needs
@@ -43,19 +40,14 @@ loop-again : tie.Need-loop-again Inv-loop μ-loop
 loop-again c =
     let s = c .before .before .before .before .before in
     let l = c .before .before .before .loop in
-    let n = c .before .before .before .before .at-most-64 in (
-      omega arith,
-      ap (λ h. walk h (l .i + 1) (drop (l .i + 1) (take (n .result) (s .args .t1 .rows)))) (c .pass-candidate .ensures)
-          ∙ sym (walk-row (s .args .t1 .rows) (s .args .t1 .count) (n .result) (l .i) (rows-long s) (n .ensures) _ (c .before .before .loop-test .taken) (l .h))
-          ∙ l .inv .1,
-    )
+    let n = c .before .before .before .before .at-most-64 in
+    carry-row walk (λ h j c. passed h j c (c .level)) (λ h j c l. refl) _ (s .args .t1 .rows) (s .args .t1 .count) (n .result) _ (s .good .0 .1 .1 .0 .1 .0 .1) (n .ensures) (c .before .before .loop-test .taken) (c .pass-candidate .ensures) (l .inv)
 
 returns : tie.Need-returns Inv-loop μ-loop
 returns c =
     let s = c .before .before .before in
-    let l = c .before .loop in
     let n = c .before .before .at-most-64 in
-    sym (ap (walk (l .h) (l .i)) (none-left (s .args .t1 .rows) (n .result) (l .i) (c .loop-test .left))) ∙ l .inv .1 ∙ ap (λ m. walk held.Nothing 0 (take m (s .args .t1 .rows))) (n .ensures)
+    carry-done walk (s .args .t1 .rows) (n .result) (c .loop-test .left) (c .before .loop .inv) ∙ ap (λ m. walk held.Nothing 0 (take m (s .args .t1 .rows))) (n .ensures)
 
 pub walk-levels-spec : {M : Type 1} → statement M
 walk-levels-spec =

@@ -1,7 +1,7 @@
 use mathlib.Core.Path.{_≡_, sym, _∙_}
 use lib.ListN.{length, length-map}
 use borrow.Author.Needs.{needs}
-use Rattle.voice.proofs.Records.{book-long}
+use Rattle.voice.proofs.Records.{log-long}
 use Rattle.voice.proofs.steals.held_steals.Statement.{statement}
 use Rattle.voice.proofs.steals.held_steals.Tie as tie
 
@@ -12,7 +12,7 @@ at-most-64-requires : tie.Need-at-most-64-requires
 at-most-64-requires c κs = search needs
 
 returns : tie.Need-returns
-returns c = c .at-most-64 .ensures ∙ sym (book-long (c .before .args .s) (rows-long (c .before)))
+returns c = c .at-most-64 .ensures ∙ sym (log-long (c .before .args .s) (rows-long (c .before)))
 
 pub held-steals-spec : {M : Type 1} → statement M
 held-steals-spec = tie.close (tie.spec at-most-64-requires returns)

@@ -1,7 +1,7 @@
 use mathlib.Core.Path.{_≡_}
 use lib.ListN.{length, length-map}
 use borrow.Author.Needs.{needs}
-use Rattle.voice.proofs.Records.{book-push}
+use Rattle.voice.proofs.Records.{log-push}
 use Rattle.voice.proofs.steals.push_steal.Statement.{statement}
 use Rattle.voice.proofs.steals.push_steal.Tie as tie
 
@@ -21,7 +21,7 @@ add-t5 : tie.Need-add-t5
 add-t5 c = search needs
 
 returns : tie.Need-returns
-returns c = let s = c .before .before .before in book-push (s .args .s) (rows-long s) (s .args .r) _ (c .one-more .ensures)
+returns c = let s = c .before .before .before in log-push (s .args .s) (rows-long s) (s .args .r) _ (c .one-more .ensures)
 
 pub push-steal-spec : {M : Type 1} → statement M
 push-steal-spec =

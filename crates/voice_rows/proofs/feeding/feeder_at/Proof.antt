@@ -5,8 +5,8 @@ use mathlib.Core.Bool.{cond}
 use lib.ListN.{getD}
 use borrow.Author.Needs.{needs}
 use Rattle.node.specs.declared.record.NodeId.{NodeId}
-use Rattle.voice_rows.specs.Rows.{voiceOf, voicesIn}
 use Rattle.model.specs.Voice.{id}
+use Rattle.voice_rows.specs.Rows.{voiceOf, voicesIn}
 use Rattle.voice_rows.proofs.feeding.feeder_at.Statement.{statement}
 use Rattle.voice_rows.proofs.feeding.feeder_at.Tie as tie
 

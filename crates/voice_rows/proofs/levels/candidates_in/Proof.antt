@@ -6,13 +6,13 @@ use mathlib.Core.Bool.{true, false}
 use lib.ListN.{length-map, length-set, length, take, getD}
 use borrow.Author.Needs.{needs}
 use Rattle.model.specs.Voice.{counted}
-use Rattle.voice_rows.specs.Levels.{LeftMax, candidateAt, candidatesAt}
-use Rattle.voice_rows.proofs.First.{leftmax-start}
-use Rattle.voice_rows.proofs.Picked.{picked-on, picked-off}
 use Rattle.words.proofs.InWords.{take-count}
 use Rattle.words.proofs.Rows.{rows-long}
 use Rattle.graph_rows.specs.Node.{nodesIn}
+use Rattle.voice_rows.specs.Levels.{LeftMax, candidateAt, candidatesAt}
 use Rattle.voice_rows.specs.Rows.{voiceOf, voicesIn}
+use Rattle.voice_rows.proofs.First.{leftmax-start}
+use Rattle.voice_rows.proofs.Picked.{picked-on, picked-off}
 use Rattle.voice_rows.proofs.levels.candidates_in.Statement.{statement}
 use Rattle.voice_rows.proofs.levels.candidates_in.Tie as tie
 

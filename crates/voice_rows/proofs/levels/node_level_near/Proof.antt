@@ -1,5 +1,5 @@
 use Prim.Native.Nat.{ℕ}
-use mathlib.Core.Path.{_≡_, sym, ap, _∙_}
+use mathlib.Core.Path.{sym, ap, _∙_}
 use borrow.Author.Needs.{needs}
 use Rattle.node.specs.declared.record.NodeId.{NodeId}
 use Rattle.node.specs.declared.record.Node.{Node}

@@ -25,13 +25,13 @@ add-word-at c = search needs
 word-at-requires : tie.Need-word-at-requires
 word-at-requires c κs = search needs
 
-byte-requires : tie.Need-byte-requires
-byte-requires c κs = search needs
+low-byte-requires : tie.Need-low-byte-requires
+low-byte-requires c κs = search needs
 
 returns : tie.Need-returns
 returns c =
     let s = c .before .before .before .before .args in
-    param-same _ (paramAt (rowAt 143 (s .i) (s .t .now)) (23 + s .k * 6)) (c .before .before .name-at .ensures) (c .byte .ensures ∙ ap (λ x. x % 256) (c .before .word-at .ensures))
+    param-same _ (paramAt (rowAt 143 (s .i) (s .t .now)) (23 + s .k * 6)) (c .before .before .name-at .ensures) (c .low-byte .ensures ∙ ap (λ x. x % 256) (c .before .word-at .ensures))
 
 pub param-at-spec : {M : Type 1} → statement M
 param-at-spec =
@@ -43,5 +43,5 @@ param-at-spec =
     name-at-requires
     add-word-at
     word-at-requires
-    byte-requires
+    low-byte-requires
     returns)

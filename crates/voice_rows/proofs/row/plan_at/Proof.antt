@@ -52,15 +52,15 @@ loop-again c =
 word-at-requires : tie.Need-word-at-requires Inv-loop μ-loop
 word-at-requires c κs = search needs
 
-byte-requires : tie.Need-byte-requires Inv-loop μ-loop
-byte-requires c κs = search needs
+low-byte-requires : tie.Need-low-byte-requires Inv-loop μ-loop
+low-byte-requires c κs = search needs
 
 returns : tie.Need-returns Inv-loop μ-loop
 returns c =
     let s = c .before .before .before .before .before .before .args in
     let l = c .before .before .before .loop in
     let v = voice-row (s .t .now) (s .i) in
-    plan-same _ _ (copy-done noStep 24 _ (l .steps) (l .k) (c .before .before .loop-test .left) (l .inv) ∙ v .steps) (c .byte .ensures ∙ ap (λ x. x % 256) (c .before .word-at .ensures) ∙ v .last)
+    plan-same _ _ (copy-done noStep 24 _ (l .steps) (l .k) (c .before .before .loop-test .left) (l .inv) ∙ v .steps) (c .low-byte .ensures ∙ ap (λ x. x % 256) (c .before .word-at .ensures) ∙ v .last)
 
 pub plan-at-spec : {M : Type 1} → statement M
 plan-at-spec =
@@ -77,5 +77,5 @@ plan-at-spec =
     loop-less
     loop-again
     word-at-requires
-    byte-requires
+    low-byte-requires
     returns)

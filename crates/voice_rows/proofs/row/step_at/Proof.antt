@@ -43,22 +43,22 @@ add-word-at-5 c = search needs
 word-at-requires-3 : tie.Need-word-at-requires-3
 word-at-requires-3 c κs = search needs
 
-eight-requires : tie.Need-eight-requires
-eight-requires c κs = search needs
+eight-bytes-requires : tie.Need-eight-bytes-requires
+eight-bytes-requires c κs = search needs
 
 is-set-requires : tie.Need-is-set-requires
 is-set-requires c κs = search needs
 
-byte-requires : tie.Need-byte-requires
-byte-requires c κs = search needs
+low-byte-requires : tie.Need-low-byte-requires
+low-byte-requires c κs = search needs
 
 returns : tie.Need-returns
 returns c =
     let s = c .before .before .before .before .before .before .before .args in
     let r = rowAt 143 (s .i) (s .t .now) in
     let rule = c .before .before .before .word-at3 .ensures in
-    step-same _ (stepAt r (71 + s .k * 3)) (c .before .is-set .ensures ∙ ap (λ x. isSet (x / 256)) rule) (c .byte .ensures ∙ ap (λ x. x % 256) rule)
-    (c .before .before .eight .ensures ∙ ap (λ x. four x ++ four (c .before .before .before .before .word-at2 .result)) (c .before .before .before .before .before .word-at .ensures) ∙ ap (λ x. four (getD r (71 + s .k * 3) 0) ++ four x) (c .before .before .before .before .word-at2 .ensures))
+    step-same _ (stepAt r (71 + s .k * 3)) (c .before .is-set .ensures ∙ ap (λ x. isSet (x / 256)) rule) (c .low-byte .ensures ∙ ap (λ x. x % 256) rule)
+    (c .before .before .eight-bytes .ensures ∙ ap (λ x. four x ++ four (c .before .before .before .before .word-at2 .result)) (c .before .before .before .before .before .word-at .ensures) ∙ ap (λ x. four (getD r (71 + s .k * 3) 0) ++ four x) (c .before .before .before .before .word-at2 .ensures))
 
 pub step-at-spec : {M : Type 1} → statement M
 step-at-spec =
@@ -75,7 +75,7 @@ step-at-spec =
     add-word-at-4
     add-word-at-5
     word-at-requires-3
-    eight-requires
+    eight-bytes-requires
     is-set-requires
-    byte-requires
+    low-byte-requires
     returns)

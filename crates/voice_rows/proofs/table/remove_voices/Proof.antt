@@ -8,9 +8,9 @@ use borrow.Author.Needs.{needs}
 use Rattle.node.specs.declared.record.VoiceId.{VoiceId}
 use Rattle.edges.specs.Wiring.{listed}
 use Rattle.store.specs.declared.voices.Voice.{Voice}
-use Rattle.voice_rows.specs.Listed.{isAnyOf}
 use Rattle.words.proofs.InWords.{ClosingIn, words-start, words-keep, words-drop, words-done}
 use Rattle.words.proofs.Place.{holds-rows}
+use Rattle.voice_rows.specs.Listed.{isAnyOf}
 use Rattle.voice_rows.specs.Rows.{voiceOf}
 use Rattle.voice_rows.proofs.table.remove_voices.Statement.{statement}
 use Rattle.voice_rows.proofs.table.remove_voices.Tie as tie

@@ -3,8 +3,9 @@ use native.Mathlib.Omega.{arith}
 use mathlib.Core.Path.{_≡_, refl}
 use borrow.Author.Needs.{needs}
 use Rattle.words.proofs.Within.{long-back}
+use Rattle.voice_rows.proofs.Records.{params-same}
 use Rattle.wish_rows.specs.Rows.{headed}
-use Rattle.wish_rows.proofs.Records.{nodes-same, edges-same, params-same, def-same, wish-same}
+use Rattle.wish_rows.proofs.Records.{nodes-same, edges-same, def-same, wish-same}
 use Rattle.wish_rows.proofs.pack.head_words.Statement.{statement}
 use Rattle.wish_rows.proofs.pack.head_words.Tie as tie
 

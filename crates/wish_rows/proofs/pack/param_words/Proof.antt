@@ -1,6 +1,7 @@
 use mathlib.Core.Path.{refl}
 use borrow.Author.Needs.{needs}
-use Rattle.wish_rows.proofs.Records.{param-same, bytes-of, name-shared}
+use Rattle.voice_rows.proofs.Records.{param-same}
+use Rattle.wish_rows.proofs.Records.{bytes-of, name-shared}
 use Rattle.wish_rows.proofs.pack.param_words.Statement.{statement}
 use Rattle.wish_rows.proofs.pack.param_words.Tie as tie
 

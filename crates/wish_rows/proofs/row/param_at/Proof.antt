@@ -2,8 +2,8 @@ use Prim.Native.Nat.{_+_, _*_, _/_, _%_}
 use mathlib.Core.Path.{ap, _∙_}
 use borrow.Author.Needs.{needs}
 use Rattle.words.specs.Rows.{rowAt}
+use Rattle.voice_rows.proofs.Records.{param-same}
 use Rattle.wish_rows.specs.Rows.{paramAt}
-use Rattle.wish_rows.proofs.Records.{param-same}
 use Rattle.wish_rows.proofs.row.param_at.Statement.{statement}
 use Rattle.wish_rows.proofs.row.param_at.Tie as tie
 

@@ -5,9 +5,9 @@ use Rattle.words.specs.Rows.{rowAt}
 use Rattle.words.proofs.Copying.{Copying, copy-start, copy-more, copy-done}
 use Rattle.synthdef.specs.Tables.{noParam}
 use Rattle.voice_rows.proofs.Filling.{each-long, each-at}
+use Rattle.voice_rows.proofs.Records.{params-same}
 use Rattle.wish_rows.specs.Rows.{paramAt, paramsIn}
 use Rattle.wish_rows.proofs.Words.{wish-row}
-use Rattle.wish_rows.proofs.Records.{params-same}
 use Rattle.wish_rows.proofs.row.params_at.Statement.{statement}
 use Rattle.wish_rows.proofs.row.params_at.Tie as tie
 

@@ -16,23 +16,8 @@ float-word-requires c κs = search needs
 enum-known-l-2 : tie.Need-enum-known-l-2
 enum-known-l-2 c = search needs
 
-shape-words-requires : tie.Need-shape-words-requires
-shape-words-requires c κs = search needs
-
-float-word-requires-2 : tie.Need-float-word-requires-2
-float-word-requires-2 c κs = search needs
-
-float-word-requires-3 : tie.Need-float-word-requires-3
-float-word-requires-3 c κs = search needs
-
-array-read-t15 : tie.Need-array-read-t15
-array-read-t15 c = search needs
-
-array-read-t18 : tie.Need-array-read-t18
-array-read-t18 c = search needs
-
-space-word-requires : tie.Need-space-word-requires
-space-word-requires c κs = search needs
+glide-words-requires : tie.Need-glide-words-requires
+glide-words-requires c κs = search needs
 
 returns : tie.Need-returns
 returns c = search needs
@@ -41,7 +26,7 @@ returns-2 : tie.Need-returns-2
 returns-2 c = ap order.Value (c .float-word .ensures) ∙ sym (c .before .before .l .given .1)
 
 returns-3 : tie.Need-returns-3
-returns-3 c = simp (c .before .before .float-word2 .ensures, c .before .float-word3 .ensures, c .before .before .before .shape-words .ensures, c .space-word .ensures) (sym (c .before .before .before .before .before .l2 .given .1))
+returns-3 c = let g = c .glide-words .ensures in simp (g .which, g .target-is, g .seconds-are, g .shape-is, g .space-is) (sym (c .before .before .l2 .given .1))
 
 pub last-words-spec : {M : Type 1} → statement M
 last-words-spec =
@@ -51,12 +36,7 @@ last-words-spec =
     enum-known-l
     float-word-requires
     enum-known-l-2
-    shape-words-requires
-    float-word-requires-2
-    float-word-requires-3
-    array-read-t15
-    array-read-t18
-    space-word-requires
+    glide-words-requires
     returns
     returns-2
     returns-3)

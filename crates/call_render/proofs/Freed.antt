@@ -33,7 +33,7 @@ use Rattle.model.specs.Order.{takes, withLast, withNode, stays, orderNode, orde
 use Rattle.model.specs.Voice.{isVoice, id}
 use Rattle.call_param.specs.Left.{isLeft, isKnown, reply, replacedLeft, replyNode, replyParam, replyVoice, orderLeft}
 use Rattle.call_free.specs.Forgotten.{withoutIds}
-use Rattle.call_render.specs.Happened.{scene, noted}
+use Rattle.call_render.specs.Applying.{scene, noted}
 
 -- what is found among those that pass a test passes both
 find-and : {A : Type 0} (q t : A → Bool) (l : List A) → find q (filter t l) ≡ find (λ x. t x && q x) l
@@ -55,23 +55,23 @@ abbrev voice : ℕ → VoiceId
 voice w = record { 0 = w }
 
 -- ---- what is left of the nodes and of the voices
-pub gone-nodes : (l : List ℕ) (m : Model) → withoutIds l m .shared .graph .nodes ≡ filter (λ n. not (ownedByAny l n)) (m .shared .graph .nodes)
-gone-nodes [] m = sym (filter-all (λ n. not (ownedByAny [] n)) (m .shared .graph .nodes) (λ x i. refl))
-gone-nodes (w ∷ l) m =
-    gone-nodes l (withoutVoice (voice w) m)
+pub removed-nodes : (l : List ℕ) (m : Model) → withoutIds l m .shared .graph .nodes ≡ filter (λ n. not (ownedByAny l n)) (m .shared .graph .nodes)
+removed-nodes [] m = sym (filter-all (λ n. not (ownedByAny [] n)) (m .shared .graph .nodes) (λ x i. refl))
+removed-nodes (w ∷ l) m =
+    removed-nodes l (withoutVoice (voice w) m)
     ∙ filter-filter (λ n. not (ownedByAny l n)) (λ n. not (ownedBy (voice w) n)) (m .shared .graph .nodes)
     ∙ filter-same _ _ (m .shared .graph .nodes) (λ n i. neither (ownedBy (voice w) n) (ownedByAny l n) ∙ ap not (sym (listed-more w (n .owner .0) l)))
 
-pub gone-voices : (l : List ℕ) (m : Model) → withoutIds l m .voices ≡ filter (λ v. not (listed l (v .id .0))) (m .voices)
-gone-voices [] m = sym (filter-all (λ v. not (listed [] (v .id .0))) (m .voices) (λ x i. refl))
-gone-voices (w ∷ l) m =
-    gone-voices l (withoutVoice (voice w) m)
+pub removed-voices : (l : List ℕ) (m : Model) → withoutIds l m .voices ≡ filter (λ v. not (listed l (v .id .0))) (m .voices)
+removed-voices [] m = sym (filter-all (λ v. not (listed [] (v .id .0))) (m .voices) (λ x i. refl))
+removed-voices (w ∷ l) m =
+    removed-voices l (withoutVoice (voice w) m)
     ∙ filter-filter (λ v. not (listed l (v .id .0))) (λ v. not (isVoice (voice w) v)) (m .voices)
     ∙ filter-same _ _ (m .voices) (λ v i. neither (isVoice (voice w) v) (listed l (v .id .0)) ∙ ap not (sym (listed-more w (v .id .0) l)))
 
-gone-more : (l : List ℕ) (w : ℕ) (m : Model) → withoutIds (l ++ (w ∷ [])) m ≡ withoutVoice (voice w) (withoutIds l m)
-gone-more [] w m = refl
-gone-more (x ∷ l) w m = gone-more l w (withoutVoice (voice x) m)
+removed-more : (l : List ℕ) (w : ℕ) (m : Model) → withoutIds (l ++ (w ∷ [])) m ≡ withoutVoice (voice w) (withoutIds l m)
+removed-more [] w m = refl
+removed-more (x ∷ l) w m = removed-more l w (withoutVoice (voice x) m)
 
 -- ---- other records of the nodes
 abbrev mapped : (Node → Node) → Model → Model
@@ -101,15 +101,15 @@ map-kept f g e (x ∷ l) = rw (e x) (ap (λ z. g x ∷ z) (map-kept f g e l))
 
 -- the ids stay, and whether one of these voices owns a node: the same nodes are removed with them
 module _ (f : Node → Node) (ids : (n : Node) → f n .id .0 ≡ n .id .0) where
-  gone-mapped : (w : VoiceId) → ((n : Node) → ownedBy w (f n) ≡ ownedBy w n) → (m : Model) → withoutVoice w (mapped f m) ≡ mapped f (withoutVoice w m)
-  gone-mapped w own m =
+  removed-mapped : (w : VoiceId) → ((n : Node) → ownedBy w (f n) ≡ ownedBy w n) → (m : Model) → withoutVoice w (mapped f m) ≡ mapped f (withoutVoice w m)
+  removed-mapped w own m =
       let ns = m .shared .graph .nodes in
       ap (λ x. without w m x (idsOf (ownedBy w) (map f ns))) (filter-map f (λ n. not (ownedBy w n)) (λ n. not (ownedBy w n)) (λ n. ap not (own n)) ns)
       ∙ ap (without w m (map f (filter (λ n. not (ownedBy w n)) ns))) (ap (map idOf) (filter-map f (ownedBy w) (ownedBy w) own ns) ∙ map-kept f idOf ids (filter (ownedBy w) ns))
 
   all-mapped : (l : List ℕ) → ((w : ℕ) → In w l → (n : Node) → ownedBy (voice w) (f n) ≡ ownedBy (voice w) n) → (m : Model) → withoutIds l (mapped f m) ≡ mapped f (withoutIds l m)
   all-mapped [] own m = refl
-  all-mapped (w ∷ l) own m = ap (withoutIds l) (gone-mapped (voice w) (own w (inl refl)) m) ∙ all-mapped l (λ v i. own v (inr i)) (withoutVoice (voice w) m)
+  all-mapped (w ∷ l) own m = ap (withoutIds l) (removed-mapped (voice w) (own w (inl refl)) m) ∙ all-mapped l (λ v i. own v (inr i)) (withoutVoice (voice w) m)
 
 -- ---- an order gives the node that it finds, and those of its id, another record
 module _ (l : List ℕ) (ns : List Node) (k : ℕ) (o : LastOrder) (n : Node) (found : find (isLeft l (id k)) ns ≡ some n) where
@@ -145,10 +145,10 @@ module _ (l : List ℕ) (ns : List Node) (k : ℕ) (o : LastOrder) (n : Node) (f
       map-same f (λ x. cond (isNode (new .id) x) new x) (filter (λ x. not (ownedByAny l x)) ns)
       (λ x i. ap (λ b. cond (b && isNode (new .id) x) new x) (in-filter (λ x. not (ownedByAny l x)) ns x i .1))
 
-  pub order-gone : (d : SharedState) (vs : List Voice) → withoutIds l (scene d (replacedLeft l ns new) vs) ≡ record { shared = withNode new (withoutIds l (scene d ns vs) .shared); voices = withoutIds l (scene d ns vs) .voices }
-  order-gone d vs =
+  pub order-removed : (d : SharedState) (vs : List Voice) → withoutIds l (scene d (replacedLeft l ns new) vs) ≡ record { shared = withNode new (withoutIds l (scene d ns vs) .shared); voices = withoutIds l (scene d ns vs) .voices }
+  order-removed d vs =
       let now = withoutIds l (scene d ns vs) in
-      let kept = gone-nodes l (scene d ns vs) in
+      let kept = removed-nodes l (scene d ns vs) in
       all-mapped f f-id l f-own (scene d ns vs)
       ∙ ap (λ z. record { shared = withGraph (withNodes (now .shared .graph) z) (now .shared); voices = now .voices }) (ap (map f) kept ∙ left-replaced ∙ ap (λ z. replaced z new) (sym kept))
 
@@ -158,10 +158,10 @@ module _ (l : List ℕ) (d : SharedState) (ns : List Node) (vs : List Voice) whe
   now = withoutIds l (scene d ns vs)
 
   node-left : (k : ℕ) → nodeAt (now .shared .graph .nodes) (id k) ≡ find (isLeft l (id k)) ns
-  node-left k = ap (find (isNode (id k))) (gone-nodes l (scene d ns vs)) ∙ find-and (isNode (id k)) (λ n. not (ownedByAny l n)) ns
+  node-left k = ap (find (isNode (id k))) (removed-nodes l (scene d ns vs)) ∙ find-and (isNode (id k)) (λ n. not (ownedByAny l n)) ns
 
   voice-left : (w : VoiceId) → find (isVoice w) (now .voices) ≡ find (isKnown l w) vs
-  voice-left w = ap (find (isVoice w)) (gone-voices l (scene d ns vs)) ∙ find-and (isVoice w) (λ v. not (listed l (v .id .0))) vs
+  voice-left w = ap (find (isVoice w)) (removed-voices l (scene d ns vs)) ∙ find-and (isVoice w) (λ v. not (listed l (v .id .0))) vs
 
   abbrev with : SharedState → Model
   with x = record { shared = x; voices = now .voices }
@@ -171,7 +171,7 @@ module _ (l : List ℕ) (d : SharedState) (ns : List Node) (vs : List Voice) whe
   way-node k o (some n) e = go (takes o n)
     where
       go : (b : Bool) → withoutIds l (scene d (cond b (reply Applied (replacedLeft l ns (withLast o n))) (reply NotTaken ns) .nodes) vs) ≡ with (cond b (record { outcome = Applied; shared = withNode (withLast o n) (now .shared) }) (stays NotTaken (now .shared)) .shared)
-      go true = order-gone l ns k o n e d vs
+      go true = order-removed l ns k o n e d vs
       go false = refl
 
   way-param : (v : Voice) (o : LastOrder) (p : Option ℕ) → withoutIds l (scene d (replyParam l p v o ns .nodes) vs) ≡ with (orderParam p v o (now .shared) .shared)
@@ -218,4 +218,4 @@ module _ (l : List ℕ) (d : SharedState) (ns : List Node) (vs : List Voice) whe
     where
       go : (x : Option Voice) → find (isVoice w) (now .voices) ≡ x → withoutIds (noted x l (w .0)) (scene d ns vs) ≡ freed x now
       go none e = refl
-      go (some v) e = gone-more l (w .0) (scene d ns vs) ∙ ap (λ z. withoutVoice (voice z) now) (sym (eqb-true (v .id .0) (w .0) (find-in (isVoice w) (now .voices) v e .1)))
+      go (some v) e = removed-more l (w .0) (scene d ns vs) ∙ ap (λ z. withoutVoice (voice z) now) (sym (eqb-true (v .id .0) (w .0) (find-in (isVoice w) (now .voices) v e .1)))

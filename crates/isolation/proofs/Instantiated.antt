@@ -1,16 +1,16 @@
--- A newcomer lands: another bus is as it was, and its own bus has one voice more, with the next number.
-use Prim.Native.Nat.{ℕ, zero, suc, _+_, _-_, _%_, _≤_, _<_}
+-- A new voice is instantiated: another bus is as it was, and its own bus has one voice more, with the next number.
+use Prim.Native.Nat.{ℕ, _+_, _-_, _%_, _≤_, _<_}
 use native.Mathlib.Omega.{arith}
 use native.Mathlib.Nat.{mod-eq-of-lt}
 use mathlib.Core.Path.{_≡_, refl, sym, ap, ap₂, _∙_, subst, fun-ext}
 use mathlib.Core.Logic.{inl, inr, ⊎-elim}
 use mathlib.Core.List.{List, [], _∷_, _++_, map}
 use mathlib.Core.Option.{Option, none, some}
-use mathlib.Core.Bool.{Bool, true, false, not, cond, _&&_, true≢false, false≢true}
-use borrow.Author.Tests.{eqb-true, eqb-false, eq-eqb, ne-eqb, ltb-true, lt-ltb, not-true}
+use mathlib.Core.Bool.{Bool, true, false, cond, _&&_, true≢false}
 use lib.Dec.{eqb, ltb}
 use lib.ListN.{length}
 use lib.Ieee.{ofBits, binary32}
+use borrow.Author.Tests.{eqb-true, eqb-false, eq-eqb, ne-eqb, ltb-true, lt-ltb}
 use Rattle.lists.specs.Member.{In}
 use Rattle.lists.proofs.Member.{in-map, in-snoc, in-left, in-right, in-append, map-same, map-append, some-inj, none-some}
 use Rattle.lists.specs.Filter.{filter}
@@ -21,8 +21,8 @@ use Rattle.node.specs.declared.record.NodeId.{NodeId}
 use Rattle.node.specs.declared.record.VoiceId.{VoiceId}
 use Rattle.node.specs.declared.record.Node.{Node}
 use Rattle.graph.specs.View.{GraphView}
-use Rattle.graph.specs.Node.{isNode, nodeAt}
-use Rattle.node.specs.Node.{withId}
+use Rattle.graph.specs.Node.{isNode, nodeAt, noiseOf, raiseNoise}
+use Rattle.node.specs.Node.{withId, withNoise}
 use Rattle.voice.specs.declared.policy.Level.{Level}
 use Rattle.voice.specs.declared.policy.Level.the-variants.{Known}
 use Rattle.synthdef.specs.Limits.{allowed}
@@ -32,26 +32,20 @@ use Rattle.store.specs.declared.voices.Voice.{Voice}
 use Rattle.store.specs.declared.voices.VoiceState.{VoiceState}
 use Rattle.model.specs.Voice.{id, isVoice, isOn, nodeLevel}
 use Rattle.model.specs.Clear.{doneFlag}
-use Rattle.model.specs.Spawn.{voiceNodes, voiceWires, defNode, constNode, panNode, appendAll, wireAll, newVoice, nextVoice, Spawn, pans}
-use Rattle.ledger.specs.Holder.{Holders, Holder, hold}
-use Rattle.ledger.specs.Holder.{nobody}
-use Rattle.ledger.specs.Holder.{voice}
+use Rattle.model.specs.Spawn.{voiceNodes, voiceWires, defNode, constNode, panNode, appendAll, newVoice, nextVoice, Spawn, pans, raised}
+use Rattle.ledger.specs.Holder.{Holder, nobody, voice}
 use Rattle.ledger.specs.Holder as holder
 use Rattle.ledger.specs.Ledger.{Ledger, instantiate}
 use Rattle.ledger.proofs.Ids.{once, ids-snoc}
 use Rattle.ledger.proofs.NewVoice.{nodes-owned, nodes-count, output-in}
 use Rattle.graph.specs.Change as change
-use Rattle.graph.specs.Node.{noiseOf, raiseNoise}
-use Rattle.node.specs.Node.{withNoise}
-use Rattle.model.specs.Spawn.{raised}
 use Rattle.ledger.proofs.Raised.{raise-same, look-raised, in-raised}
-use Rattle.ledger.proofs.Nodes.{OwnNodes}
-use Rattle.ledger.proofs.Nodes.{mine-land, grown-next, in-grown, wires-same}
+use Rattle.ledger.proofs.Nodes.{mine-instantiate, grown-next, wires-same}
 use Rattle.isolation.specs.Story.{phaseOf}
-use Rattle.isolation.proofs.Bus.{Own, Seat, empty, mine, BusPorts, Bus, portCount, seat}
+use Rattle.isolation.proofs.Bus.{Own, empty, mine, BusPorts, portCount, seat}
 use Rattle.isolation.proofs.Bus as bus
 use Rattle.isolation.proofs.Part.{seatFor, seatOf, roomOf, hostPorts, ownOf, flagAt, portsNow, seatsFor, ownVoices, bus-of, busOf, Seated, Tidy, own-same}
-use Rattle.isolation.proofs.Grown.{old-nodes, ports-all, once-all, new-nodes, same-nodes}
+use Rattle.isolation.proofs.Grown.{old-nodes, ports-all, once-all, new-nodes}
 
 -- a voice's new nodes: level 0, not done
 new-quiet : (k : VoiceId) (def : SynthDef) (pan : Bool) (x : Node) → In x (voiceNodes k def pan) → (x .level ≡ ofBits binary32 0) × (x .done ≡ false)
@@ -182,8 +176,8 @@ module _ (l : Ledger) (t : Tidy l) (spawn : Spawn) (ok : allowed (spawn .def) �
       ap seatFor (find-snoc-some (isVoice w) vs new (s .who) f ∙ sym f)
 
   -- ---- another bus
-  pub land-off : (b : NodeId) → eqb (spawn .bus .0) (b .0) ≡ false → busOf b after ≡ busOf b l
-  land-off b off =
+  pub instantiate-off : (b : NodeId) → eqb (spawn .bus .0) (b .0) ≡ false → busOf b after ≡ busOf b l
+  instantiate-off b off =
       ap (λ o. bus-of (l .shared .config) (l .shared .clock) o (seatsFor b o (vs ++ (new ∷ [])) (after .holders)) (ownVoices b ns' (vs ++ (new ∷ [])))) (ports-stay b off)
       ∙ ap₂ (λ h ws. bus-of (l .shared .config) (l .shared .clock) (portsNow b ns) h ws) (fun-ext seats) voices
     where
@@ -225,8 +219,8 @@ module _ (l : Ledger) (t : Tidy l) (spawn : Spawn) (ok : allowed (spawn .def) �
       out : next + (spawn .def) .output - next ≡ (spawn .def) .output
       out = omega arith
 
-  pub land-on : p < portCount (portsNow (spawn .bus) ns) → busOf (spawn .bus) after ≡ bus.instantiate (spawn .def) (spawn .rank) (phaseOf st) p (busOf (spawn .bus) l) .bus
-  land-on range =
+  pub instantiate-on : p < portCount (portsNow (spawn .bus) ns) → busOf (spawn .bus) after ≡ bus.instantiate (spawn .def) (spawn .rank) (phaseOf st) p (busOf (spawn .bus) l) .bus
+  instantiate-on range =
       ap (λ o. bus-of (l .shared .config) (l .shared .clock) o (seatsFor (spawn .bus) o (vs ++ (new ∷ [])) (after .holders)) (ownVoices (spawn .bus) ns' (vs ++ (new ∷ [])))) ports-on
       ∙ ap₂ (λ h ws. bus-of (l .shared .config) (l .shared .clock) (mapO bus.counted (portsNow (spawn .bus) ns)) h ws) (fun-ext seats) voices
     where
@@ -269,10 +263,10 @@ module _ (l : Ledger) (t : Tidy l) (spawn : Spawn) (ok : allowed (spawn .def) �
       go none f q = absurd (none-some q)
       go (some x) f q = (x, f, sym (some-inj q))
 
-  pub tidy-land : next + 2 ≤ 4294967296 → (host : Node) → nodeAt ns (spawn .bus) ≡ some host → host .owner .0 ≡ 0 → Tidy after
-  tidy-land room host found hosts₀ =
+  pub tidy-instantiate : next + 2 ≤ 4294967296 → (host : Node) → nodeAt ns (spawn .bus) ≡ some host → host .owner .0 ≡ 0 → Tidy after
+  tidy-instantiate room host found hosts₀ =
       record {
-        own = (ids-snoc new refl (t .own .0), mine-land spawn (output-in (spawn .def) ok) st p l (t .own .1));
+        own = (ids-snoc new refl (t .own .0), mine-instantiate spawn (output-in (spawn .def) ok) st p l (t .own .1));
         rows = subst (λ z. (j : NodeId) → Once (isNode j) z) (sym is) (once-all xs g below rows₁);
         outs = λ v j. ⊎-elim (t .outs v) (λ e. subst Out (sym e) (omega arith, let o = output-in (spawn .def) ok in omega arith)) (in-snoc vs new v j);
         seated = seated;

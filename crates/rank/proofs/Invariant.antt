@@ -164,15 +164,15 @@ module _ (n : ℕ) (es : List Arc) (q : List ℕ) (k w : ℕ) where
       go (no o) = rw (ne-eqb (e .from) w o) (mid-skip e rest s o m)
 
 -- ---- the state after h rows
-pub record Sound (n : ℕ) (es : List Arc) (h : ℕ) (s : St) : Type 0 where
+pub record Invariant (n : ℕ) (es : List Arc) (h : ℕ) (s : St) : Type 0 where
   pub long : length (s .counts) ≡ n
   pub least : (v : ℕ) → v < n → opens n (take h (s .queue)) es v ≤ getD (s .counts) v 0
   pub zero-in : (v : ℕ) → among v (s .queue) ≡ true → getD (s .counts) v 0 ≡ 0
   pub ok : Ok n es (s .queue)
 
-pub sound-next : (n : ℕ) (es : List Arc) (h : ℕ) (s : St) → h < length (s .queue) → Sound n es h s → Sound n es (suc h) (serve (getD (s .queue) h 0) es s)
+pub invariant-next : (n : ℕ) (es : List Arc) (h : ℕ) (s : St) → h < length (s .queue) → Invariant n es h s → Invariant n es (suc h) (serve (getD (s .queue) h 0) es s)
 unfolding Ok Begins cnt
-sound-next n es h s l g =
+invariant-next n es h s l g =
     let w = getD (s .queue) h 0 in
     let a = g .ok h l in
     let m = mid-serve n es (take h (s .queue) ++ (w ∷ [])) (suc h) w es s
@@ -185,16 +185,16 @@ sound-next n es h s l g =
     }) in
     record { long = m .long; least = λ v lt. rw (m .begins .1) (omega (arith, m .least v lt)); zero-in = m .zero-in; ok = m .ok }
 
-sound-past : (n : ℕ) (es : List Arc) (k h : ℕ) (s : St) → Sound n es h s → (s' : St) × (run k es h s ≡ s' .queue) × Ok n es (s' .queue)
-sound-past n es zero h s g = (s, run-zero, g .ok)
+invariant-past : (n : ℕ) (es : List Arc) (k h : ℕ) (s : St) → Invariant n es h s → (s' : St) × (run k es h s ≡ s' .queue) × Ok n es (s' .queue)
+invariant-past n es zero h s g = (s, run-zero, g .ok)
   where
     run-zero : run zero es h s ≡ s .queue
     run-zero = zero-run es h s
-sound-past n es (suc k) h s g = go (decLt h (length (s .queue))) (sound-past n es k (suc h) (serve (getD (s .queue) h 0) es s))
+invariant-past n es (suc k) h s g = go (decLt h (length (s .queue))) (invariant-past n es k (suc h) (serve (getD (s .queue) h 0) es s))
   where
-    go : Dec (h < length (s .queue)) → (Sound n es (suc h) (serve (getD (s .queue) h 0) es s) → (s' : St) × (run k es (suc h) (serve (getD (s .queue) h 0) es s) ≡ s' .queue) × Ok n es (s' .queue))
+    go : Dec (h < length (s .queue)) → (Invariant n es (suc h) (serve (getD (s .queue) h 0) es s) → (s' : St) × (run k es (suc h) (serve (getD (s .queue) h 0) es s) ≡ s' .queue) × Ok n es (s' .queue))
         → (s' : St) × (run (suc k) es h s ≡ s' .queue) × Ok n es (s' .queue)
-    go (yes l) ih = let r = ih (sound-next n es h s l g) in (r .0, run-step k es h s l ∙ r .1, r .2)
+    go (yes l) ih = let r = ih (invariant-next n es h s l g) in (r .0, run-step k es h s l ∙ r .1, r .2)
     go (no o) ih = let l : length (s .queue) ≤ h = omega arith in (s, run-done (suc k) es h s l, g .ok)
 
 -- ---- the start
@@ -242,9 +242,9 @@ among-at [] j h = absurd (not-suc-le-zero h)
 among-at (y ∷ q) zero h = rw (eq-eqb y y refl)
 among-at (y ∷ q) (suc j) h = rw (among-at q j (omega arith), or-true (eqb (getD q j 0) y))
 
-pub sound-start : (n : ℕ) (es : List Arc) → Sound n es 0 (start n es)
+pub invariant-start : (n : ℕ) (es : List Arc) → Invariant n es 0 (start n es)
 unfolding start Ok among
-sound-start n es =
+invariant-start n es =
     record {
       long = length-degs n es n 0;
       least = λ v lt. rw (opens-none n es v, at v lt) (le-refl (indeg n es v));
@@ -317,7 +317,7 @@ before-at (y ∷ q) (suc j) x l h = go (ℕ-discrete x y) (before-at q j x (omeg
 module _ (n : ℕ) (es : List Arc) where
   rows-ok : Ok n es (orderRows n es)
   unfolding orderRows
-  rows-ok = let b = sound-past n es n 0 (start n es) (sound-start n es) in subst (Ok n es) (sym (b .1)) (b .2)
+  rows-ok = let b = invariant-past n es n 0 (start n es) (invariant-start n es) in subst (Ok n es) (sym (b .1)) (b .2)
 
   pub rows-only : (x : ℕ) → In x (orderRows n es) → In x (upto n)
   unfolding Ok

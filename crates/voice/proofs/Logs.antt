@@ -1,4 +1,4 @@
--- What every book of a run keeps, for the layers above: it holds as many records as there were steals, and at most 64.
+-- What every log of a run keeps, for the layers above: it holds as many records as there were steals, and at most 64.
 use Prim.Native.Nat.{ℕ, zero, suc, _-_, min}
 use native.Mathlib.Omega.{arith}
 use mathlib.Core.Path.{_≡_, refl, ap, _∙_}
@@ -9,7 +9,7 @@ use lib.Dec.{leb}
 use Rattle.voice.specs.declared.policy.Level.{Level}
 use Rattle.voice.specs.declared.policy.Level.the-variants.{Unknown, Known}
 use Rattle.voice.specs.declared.steals.StealRecord.{StealRecord}
-use Rattle.voice.specs.Steals.{StealLog, noBook, pushed, cutAt, marked, recordOf, recordLevel}
+use Rattle.voice.specs.Steals.{StealLog, emptyLog, pushed, cutAt, marked, recordOf, recordLevel}
 
 -- a record keeps the level that it was made with
 pub level-kept : (sample : ℕ) (x : Level) (cut : Bool) → recordLevel (recordOf sample x cut) ≡ x
@@ -19,7 +19,7 @@ level-kept sample (Known x) cut = refl
 abbrev pub Whole : StealLog → Type 0
 Whole b = length (b .newest) ≡ min (b .count) 64
 
-pub whole-none : Whole noBook
+pub whole-none : Whole emptyLog
 whole-none = refl
 
 pub whole-pushed : (b : StealLog) (r : StealRecord) → Whole b → Whole (pushed b r)

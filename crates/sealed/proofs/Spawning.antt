@@ -1,4 +1,4 @@
--- The invariant of a sealed ledger through a managed spawn: the victim's fade, reclaims, and the newcomer's landing.
+-- The invariant of a sealed ledger through a managed spawn: the victim's fade, reclaims, and the new voice's instantiation.
 use Prim.Native.Nat.{ℕ, suc, _+_, _≤_, _<_}
 use native.Mathlib.Omega.{arith}
 use native.Mathlib.Decide.{ℕ-discrete}
@@ -56,7 +56,7 @@ use Rattle.store.specs.declared.voices.Fade.{Fade}
 use Rattle.ledger.proofs.Spawns as spawns
 use Rattle.sealed.specs.declared.profile.Profile.{Profile}
 use Rattle.sealed.proofs.Counting.{count-weaker}
-use Rattle.sealed.proofs.Within.{ownedN, isOwner, fromOwner, fades, Within, WithinL, within-gone, count-mapped}
+use Rattle.sealed.proofs.Within.{ownedN, isOwner, fromOwner, fades, Within, WithinL, within-removed, count-mapped}
 
 -- ---- counts after nodes came and edges were put
 more-le : (b : Bool) (n : ℕ) → more b n ≤ suc n
@@ -250,8 +250,8 @@ module _ (s : Profile) (y : Spawn) (ok : allowed (y .def) ≡ true) (small : y .
       none-yet n none e = refl
       none-yet n (some m) e = let b = live-below (sound .listed) n m e .1 in ne-eqb m (nv + 1) (λ q. omega arith)
 
-  pub within-land : WithinL s (instantiate x t p l .ledger)
-  within-land =
+  pub within-instantiate : WithinL s (instantiate x t p l .ledger)
+  within-instantiate =
       record {
         listed = all-planted .sound .listed;
         positive = λ u i. ⊎-elim (r .positive u) (λ q. let z : u .id .0 ≡ nv + 1 = ap (λ (x : Voice). x .id .0) q in omega arith) (in-snoc (l .voices) v u i);
@@ -395,7 +395,7 @@ module _ (s : Profile) (l : Ledger) (sound : InvariantOf l) (r : WithinL s l) (v
       back u m = in-map (beginFade (v .id) fd) (l .voices) u m
 
 within-cut : (s : Profile) (l : Ledger) (v : Voice) (t : VoiceState) → 0 < v .id .0 → WithinL s l → WithinL s (cutOff v t l)
-within-cut s l v t pos r = within-gone r (v .id) pos
+within-cut s l v t pos r = within-removed r (v .id) pos
 
 within-steal : (s : Profile) (l : Ledger) → InvariantOf l → WithinL s l → (v : Voice) → In v (l .voices) → isTracked (v .state) ≡ true → WithinL s (stealVoice v l)
 within-steal s l sound r v i tr = subst (λ o. WithinL s (stolen v o l)) (feeds-held sound v i tr) (go (find (feeds (feeder v) (v .bus)) (l .shared .graph .edges)) refl)
@@ -414,10 +414,10 @@ module _ (s : Profile) (y : Spawn) (ok : allowed (y .def) ≡ true) (small : y .
   abbrev here : Spawn
   here = onBus (s .bus) y
 
-  within-settle : (l : Ledger) → Both l → WithinL s (placeWithinBudget here l .ledger)
-  within-settle l q =
+  within-budgeted : (l : Ledger) → Both l → WithinL s (placeWithinBudget here l .ledger)
+  within-budgeted l q =
       place-kept here (stateUnder (l .shared .config .budget)) (λ n m. Both m) (λ z. WithinL s (z .ledger))
-      (λ n m p e b. within-land s y ok small few _ m (b .0) (b .1) p e) (λ m e b. b .1) (λ n m e f b. b .1)
+      (λ n m p e b. within-instantiate s y ok small few _ m (b .0) (b .1) p e) (λ m e b. b .1) (λ n m e f b. b .1)
       (λ n m v e f b.
       let i = nextOut-in (ids-of m (b .0)) (m .shared) (s .bus) (y .rank) v f .0 in
       (cut-off m (b .0) v (v .state) i .sound, within-cut s m v (v .state) (b .1 .positive v i) (b .1)))
@@ -425,7 +425,7 @@ module _ (s : Profile) (y : Spawn) (ok : allowed (y .def) ≡ true) (small : y .
 
   pub within-admitted : (l : Ledger) → InvariantOf l → WithinL s l → WithinL s (admitted (admissionOn (s .bus) (y .rank) l) here l .ledger)
   within-admitted l sound r =
-      managed-kept here (λ z. WithinL s (z .ledger)) l (ids-of l sound) (λ h. r) (λ h. within-settle l (sound, r))
+      managed-kept here (λ z. WithinL s (z .ledger)) l (ids-of l sound) (λ h. r) (λ h. within-budgeted l (sound, r))
       (λ p w h v i t.
       let tr = and-left (isTracked (v .state)) _ t in
-      within-settle (stealVoice v l) (spawns.stolen l sound v i tr .sound, within-steal s l sound r v i tr))
+      within-budgeted (stealVoice v l) (spawns.stolen l sound v i tr .sound, within-steal s l sound r v i tr))

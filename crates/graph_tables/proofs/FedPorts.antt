@@ -13,7 +13,7 @@ use Rattle.lists.specs.Find.{find, or?, isSome}
 use Rattle.node.specs.declared.record.NodeId.{NodeId}
 use Rattle.node.specs.declared.record.Edge.{Edge}
 use Rattle.edges.specs.Wiring.{endsAt, taken}
-use Rattle.graph_tables.specs.Fed.{FedPorts}
+use Rattle.graph_tables.specs.FedPorts.{FedPorts}
 
 -- no edge feeds a port
 pub fed-start : (n : NodeId) → FedPorts (replicate 65 false) [] n

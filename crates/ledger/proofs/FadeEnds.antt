@@ -1,4 +1,4 @@
--- A fading voice goes on or is withoutVoice: it becomes nothing else. For a voice that does not fade is, at every call, as it was before.
+-- A fading voice goes on or is removed: it becomes nothing else. For a voice that does not fade is, at every call, as it was before.
 use Prim.Native.Nat.{ℕ, _+_, _≤_}
 use native.Mathlib.Omega.{arith}
 use mathlib.Core.Path.{_≡_, refl, sym, ap, _∙_, subst}
@@ -27,7 +27,7 @@ use Rattle.ledger.specs.Call.{step}
 use Rattle.ledger.proofs.Words.{GoesOn, Why, beat}
 use Rattle.ledger.proofs.Ids.{unique}
 use Rattle.ledger.proofs.Abstraction.{fading-same}
-use Rattle.ledger.proofs.Preserved.{Preserves, calm, kept-step}
+use Rattle.ledger.proofs.Preserved.{Preserves, voices-only, kept-step}
 use Rattle.ledger.proofs.Spawning.{Spawning, managed-keeps}
 use Rattle.ledger.proofs.Nodes.{OwnNodes}
 use Rattle.ledger.proofs.Records.{RecordedOf, fade-inj}
@@ -40,8 +40,8 @@ module _ (n₀ : ℕ) (vs₀ : List Voice) where
     grows : n₀ ≤ n
     same : (u : Voice) → In u vs → isFading (u .state) ≡ false → u .id .0 ≤ n₀ → In u vs₀
 
-  still-keep : (n : ℕ) (vs : List Voice) (t : Voice → Bool) → Still n vs → Still n (filter t vs)
-  still-keep n vs t h = record { grows = h .grows; same = λ u i. h .same u (in-filter t vs u i .0) }
+  still-filter : (n : ℕ) (vs : List Voice) (t : Voice → Bool) → Still n vs → Still n (filter t vs)
+  still-filter n vs t h = record { grows = h .grows; same = λ u i. h .same u (in-filter t vs u i .0) }
 
   still-count : (n : ℕ) (vs : List Voice) → Still n vs → Still n (map (moved oneMore) vs)
   still-count n vs h = record { grows = h .grows; same = λ u i f le. go u (in-map (moved oneMore) vs u i) f le }
@@ -64,8 +64,8 @@ module _ (n₀ : ℕ) (vs₀ : List Voice) where
       go u x i true s e le = absurd (true≢false (ap (λ (y : Voice). isFading (y .state)) (sym s) ∙ e))
       go u x i false s e le = subst (λ y. In y vs₀) (sym s) (h .same x i (ap (λ (y : Voice). isFading (y .state)) (sym s) ∙ e) (subst (λ (y : Voice). y .id .0 ≤ n₀) s le))
 
-  still-land : (n : ℕ) (vs : List Voice) (v : Voice) → v .id .0 ≡ n + 1 → Still n vs → Still (n + 1) (vs ++ (v ∷ []))
-  still-land n vs v e h =
+  still-instantiate : (n : ℕ) (vs : List Voice) (v : Voice) → v .id .0 ≡ n + 1 → Still n vs → Still (n + 1) (vs ++ (v ∷ []))
+  still-instantiate n vs v e h =
       record {
         grows = let g = h .grows in omega arith;
         same = λ u i f le. ⊎-elim (λ j. h .same u j f le) (λ s. let z : u .id .0 ≡ v .id .0 = ap (λ (x : Voice). x .id .0) s in absurd (omega (arith, z, e, le, h .grows))) (in-snoc vs v u i);
@@ -74,21 +74,21 @@ module _ (n₀ : ℕ) (vs₀ : List Voice) where
   abbrev StillOf : Ledger → Type 0
   StillOf l = Still (l .shared .spawned) (l .voices)
 
-  still-steady : Preserves StillOf
-  still-steady = calm (λ c b n vs. Still n vs) (λ c b n vs w h. still-keep n vs (λ x. not (isVoice w x)) h) (λ c b n vs h. still-count n vs h) (λ c b n vs v e s lt k h. still-land n vs v e h)
+  still-preserved : Preserves StillOf
+  still-preserved = voices-only (λ c b n vs. Still n vs) (λ c b n vs w h. still-filter n vs (λ x. not (isVoice w x)) h) (λ c b n vs h. still-count n vs h) (λ c b n vs v e s lt k h. still-instantiate n vs v e h)
 
   still-spawning : Spawning StillOf
   still-spawning =
       record {
-        cuts = λ l v s h. still-keep (l .shared .spawned) (l .voices) (λ x. not (isVoice (v .id) x)) h;
+        cuts = λ l v s h. still-filter (l .shared .spawned) (l .voices) (λ x. not (isVoice (v .id) x)) h;
         fades = λ l v p h. still-fade (l .shared .spawned) (l .voices) (v .id) (fadeOf (l .shared)) h;
-        lands = λ l spawn s p h. still-land (l .shared .spawned) (l .voices) (newVoice spawn s p (l .shared)) refl h;
+        instantiates = λ l spawn s p h. still-instantiate (l .shared .spawned) (l .voices) (newVoice spawn s p (l .shared)) refl h;
       }
 
   still-step : (x : Call) (l : Ledger) → StillOf l → StillOf (step x l .ledger)
-  still-step = kept-step StillOf still-steady (λ l spawn e h. managed-keeps StillOf still-spawning spawn (admissionOn (spawn .bus) (spawn .rank) l) l h)
+  still-step = kept-step StillOf still-preserved (λ l spawn e h. managed-keeps StillOf still-spawning spawn (admissionOn (spawn .bus) (spawn .rank) l) l h)
 
--- ---- so a fading voice goes on, or it is withoutVoice
+-- ---- so a fading voice goes on, or it is removed
 module _ (v : Voice) (f : Fade) (ph : v .state ≡ Fading f) (x : Call) (l : Ledger) (r : RecordedOf l) (q : OwnNodes l) (i : In v (l .voices)) where
   abbrev after : List Voice
   after = step x l .ledger .voices
@@ -119,8 +119,8 @@ module _ (v : Voice) (f : Fade) (ph : v .state ≡ Fading f) (x : Call) (l : Led
   found-goes u j e Tracked h = absurd (unfading u j e Tracked h refl)
   found-goes u j e Loose h = absurd (unfading u j e Loose h refl)
 
-  pub leaves-gone : GoesOn v f (step x l .answer) after ⊎ ((find (isVoice (v .id)) after ≡ none) × Why l (step x l .ledger) v f x)
-  leaves-gone = go (find (isVoice (v .id)) after) refl
+  pub leaves-removed : GoesOn v f (step x l .answer) after ⊎ ((find (isVoice (v .id)) after ≡ none) × Why l (step x l .ledger) v f x)
+  leaves-removed = go (find (isVoice (v .id)) after) refl
     where
       go : (o : Option Voice) → find (isVoice (v .id)) after ≡ o → GoesOn v f (step x l .answer) after ⊎ ((find (isVoice (v .id)) after ≡ none) × Why l (step x l .ledger) v f x)
       go none e = ⊎-elim inl (λ w. inr (e, w)) (leaves v f ph x l r q i)

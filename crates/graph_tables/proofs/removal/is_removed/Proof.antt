@@ -1,33 +1,11 @@
-use Prim.Native.Nat.{ℕ, zero, suc, _+_, _*_, _/_, _≤_, _<_, _-_, _%_, min}
-use mathlib.Core.Path.{_≡_, refl, sym, ap, _∙_, subst}
-use mathlib.Core.List.{List, [], _∷_, _++_}
-use mathlib.Core.Bool.{Bool, true, false, not, cond, _&&_}
-use mathlib.Core.Logic.{⊎-elim, inl, inr}
+use Prim.Native.Nat.{_<_, _-_, _%_}
 use native.Mathlib.Omega.{arith}
-use native.Mathlib.Numerals.{add-one}
-use lib.ListN.{length, take, drop, getD, set}
+use mathlib.Core.Path.{_≡_, sym, ap, _∙_}
+use lib.ListN.{length, getD}
 use borrow.Author.Needs.{needs}
-use borrow.Author.Tests.{lt-ltb, le-ltb, eq-eqb, ne-eqb, eqb-true, eqb-false, ltb-true, ltb-false}
-use lib.Dec.{eqb}
-use lib.ListN.{length-set, getD-replicate}
-use Rattle.lists.specs.Find.{find, isSome, filterO, or?}
-use Rattle.lists.proofs.Table.{left-cons}
-use Rattle.words.proofs.Rows.{rows-long}
-use Rattle.words.proofs.Place.{closed}
-use Rattle.words.proofs.InPlace.{Gathering, gathering-start, gathering-take, gathering-pass}
-use Rattle.words.proofs.InWords.{ClosingIn, words-start, words-row, words-keep, words-drop, take-count}
-use Rattle.edges.specs.Wiring.{touches, listed, among}
-use Rattle.graph.specs.Change.{idsOf}
-use Rattle.graph_rows.specs.Node.{nodeOf, nodesIn}
-use Rattle.graph_rows.specs.Edge.{edgeOf, edgesIn}
-use Rattle.graph_tables.specs.Removal.{leaves}
-use Rattle.graph_tables.proofs.Marks.{MarkedTo, marks-more, marks-done, unmarked, listed-at}
-use Rattle.graph_tables.proofs.removal.is_gone.Statement.{statement}
-use Rattle.graph_tables.proofs.removal.is_gone.Tie as tie
-use Rattle.graph_tables.proofs.removal.is_gone.Reads as reads
-use Rattle.graph_tables.proofs.removal.is_gone.Lts as lts
-use Rattle.graph_tables.proofs.removal.is_any.Reads as is-any-reads
-use Rattle.words.proofs.table.wide.Reads as wide-reads
+use Rattle.graph_tables.proofs.Marks.{unmarked, listed-at}
+use Rattle.graph_tables.proofs.removal.is_removed.Statement.{statement}
+use Rattle.graph_tables.proofs.removal.is_removed.Tie as tie
 
 wide-requires : tie.Need-wide-requires
 wide-requires c κs = search needs
@@ -68,8 +46,8 @@ is-any-requires c κs = search needs
 returns-3 : tie.Need-returns-3
 returns-3 c = search needs
 
-pub is-gone-spec : {M : Type 1} → statement M
-is-gone-spec =
+pub is-removed-spec : {M : Type 1} → statement M
+is-removed-spec =
     tie.close
     (tie.spec
     wide-requires

@@ -1,6 +1,6 @@
 -- An event that a later one of its time replaces may be left out: `drop-same`. What an event other than a free does is to set the last
--- order of one node, or nothing (`happen-put`). The later one sets the same node again, unless the voice went in between, and then its
--- node is withoutVoice too. Nothing in between looks at a last order.
+-- order of one node, or nothing (`applied-put`). The later one sets the same node again, unless the voice went in between, and then its
+-- node is removed too. Nothing in between looks at a last order.
 use Prim.Native.Nat.{ℕ, _+_}
 use mathlib.Core.Path.{_≡_, refl, sym, ap, _∙_, subst}
 use mathlib.Core.Logic.{inl, inr}
@@ -159,8 +159,8 @@ good-set k o m g =
     ns : List Node
     ns = m .shared .graph .nodes
 
-pub good-gone : (w : VoiceId) (m : Model) → Good m → Good (withoutVoice w m)
-good-gone w m g =
+pub good-removed : (w : VoiceId) (m : Model) → Good m → Good (withoutVoice w m)
+good-removed w m g =
     record {
       once = λ k. once-filter (isNode (id k)) (λ x. not (ownedBy w x)) (m .shared .graph .nodes) (g .once k);
       own = λ v q name i e x j h. g .own v (in-filter (λ u. not (isVoice w u)) (m .voices) v q .0) name i e x (in-filter (λ x. not (ownedBy w x)) (m .shared .graph .nodes) x j .0) h;
@@ -205,8 +205,8 @@ module _ (m : Model) (g : Good m) (o : LastOrder) where
   order-voice none name = refl
   order-voice (some v) name = order-param (paramNode (paramRows (v .params)) name) v
 
-pub happen-put : (e : Event) (m : Model) → Good m → isFree (e .action) ≡ false → applyEvent e m ≡ put (aim e m) (orderOf (e .action)) m
-happen-put e m g h = rw h (order-voice m g (orderOf (e .action)) (find (isVoice (e .voice)) (m .voices)) (paramOf (e .action) (e .name)))
+pub applied-put : (e : Event) (m : Model) → Good m → isFree (e .action) ≡ false → applyEvent e m ≡ put (aim e m) (orderOf (e .action)) m
+applied-put e m g h = rw h (order-voice m g (orderOf (e .action)) (find (isVoice (e .voice)) (m .voices)) (paramOf (e .action) (e .name)))
 
 good-put : (u : Option ℕ) (o : LastOrder) (m : Model) → Good m → Good (put u o m)
 good-put none o m g = g
@@ -214,14 +214,14 @@ good-put (some k) o m g = good-set k o m g
 
 good-freed : (u : Option Voice) (m : Model) → Good m → Good (freed u m)
 good-freed none m g = g
-good-freed (some v) m g = good-gone (v .id) m g
+good-freed (some v) m g = good-removed (v .id) m g
 
-pub good-happen : (e : Event) (m : Model) → Good m → Good (applyEvent e m)
-good-happen e m g = go (isFree (e .action)) refl
+pub good-applied : (e : Event) (m : Model) → Good m → Good (applyEvent e m)
+good-applied e m g = go (isFree (e .action)) refl
   where
     go : (b : Bool) → isFree (e .action) ≡ b → Good (applyEvent e m)
     go true h = subst (λ b. Good (cond b (free (e .voice) m) (record { shared = param.order (e .voice) (paramOrder e .name) (paramOrder e .order) (m .voices) (m .shared) .shared; voices = m .voices }))) (sym h) (good-freed (find (isVoice (e .voice)) (m .voices)) m g)
-    go false h = subst Good (sym (happen-put e m g h)) (good-put (aim e m) (orderOf (e .action)) m g)
+    go false h = subst Good (sym (applied-put e m g h)) (good-put (aim e m) (orderOf (e .action)) m g)
 
 -- ---- the aim of an event does not depend on last orders
 taken-set : (k : ℕ) (o u : LastOrder) (x : Option Node) → taken u (mapO (touched k o) x) ≡ taken u x
@@ -338,8 +338,8 @@ module _ (k : ℕ) (o : LastOrder) (w : VoiceId) where
   ids-set : (ns : List Node) → change.idsOf (ownedBy w) (set k o ns) ≡ change.idsOf (ownedBy w) ns
   ids-set ns = ap (map (λ (n : Node). n .id .0)) (filter-map (touched k o) (ownedBy w) (ownedBy w) (touched-of k o w) ns) ∙ same-ids (filter (ownedBy w) ns)
 
-  pub gone-set : (m : Model) → withoutVoice w (setAt k o m) ≡ setAt k o (withoutVoice w m)
-  gone-set m =
+  pub removed-set : (m : Model) → withoutVoice w (setAt k o m) ≡ setAt k o (withoutVoice w m)
+  removed-set m =
       ap (λ z. cleared w z (change.idsOf (ownedBy w) (set k o (m .shared .graph .nodes))) m) (set-kept (m .shared .graph .nodes))
       ∙ ap (λ z. cleared w (set k o (filter (λ x. not (ownedBy w x)) (m .shared .graph .nodes))) z m) (ids-set (m .shared .graph .nodes))
 
@@ -348,8 +348,8 @@ module _ (k : ℕ) (o : LastOrder) (w : VoiceId) where
   set-none [] h = refl
   set-none (x ∷ ns) h = ap (λ b. cond b (withLast o x) x ∷ set k o ns) (h x (inl refl)) ∙ ap (λ z. x ∷ z) (set-none ns (λ y i. h y (inr i)))
 
-  gone-both : (m : Model) → ((x : Node) → In x (m .shared .graph .nodes) → x .id .0 ≡ k → x .owner .0 ≡ w .0) → withoutVoice w (setAt k o m) ≡ withoutVoice w m
-  gone-both m own = gone-set m ∙ ap (λ z. atNodes z (withoutVoice w m)) (set-none (filter (λ x. not (ownedBy w x)) (m .shared .graph .nodes)) (λ x i. go x i (isNode (id k) x) refl))
+  removed-both : (m : Model) → ((x : Node) → In x (m .shared .graph .nodes) → x .id .0 ≡ k → x .owner .0 ≡ w .0) → withoutVoice w (setAt k o m) ≡ withoutVoice w m
+  removed-both m own = removed-set m ∙ ap (λ z. atNodes z (withoutVoice w m)) (set-none (filter (λ x. not (ownedBy w x)) (m .shared .graph .nodes)) (λ x i. go x i (isNode (id k) x) refl))
     where
       go : (x : Node) → In x (filter (λ x. not (ownedBy w x)) (m .shared .graph .nodes)) → (b : Bool) → isNode (id k) x ≡ b → b ≡ false
       go x i false h = refl
@@ -383,8 +383,8 @@ aim-own e m g k h x i q = voice (find (isVoice (e .voice)) (m .voices)) refl h
         at v (r .0) (paramNode (paramRows (v .params)) name) refl z ∙ eqb-true _ _ (r .1)
 
 -- another voice goes
-aim-gone : (e : Event) (m : Model) → Good m → (k : ℕ) → aim e m ≡ some k → (w : VoiceId) → (e .voice .0 ≡ w .0 → ⊥) → aim e (withoutVoice w m) ≡ some k
-aim-gone e m g k h w off =
+aim-removed : (e : Event) (m : Model) → Good m → (k : ℕ) → aim e m ≡ some k → (w : VoiceId) → (e .voice .0 ≡ w .0 → ⊥) → aim e (withoutVoice w m) ≡ some k
+aim-removed e m g k h w off =
     ap (λ v. aimVoice v name o (filter (λ x. not (ownedBy w x)) ns)) (find-filter-same (isVoice (e .voice)) (λ v. not (isVoice w v)) (λ v t. ap not (ne-eqb (v .id .0) (w .0) (λ z. off (sym (eqb-true _ _ t) ∙ z)))) (m .voices))
     ∙ voice (find (isVoice (e .voice)) (m .voices)) h
   where
@@ -427,8 +427,8 @@ module _ (e : Event) (o : LastOrder) (k : ℕ) where
       let a : aim f m ≡ some k = aim-same f e m l ∙ h in
       let u = orderOf (f .action) in
       ap (applyEvents q)
-      (happen-put f (setAt k o m) (good-set k o m g) free ∙ ap (λ z. put z u (setAt k o m)) (aim-set f k o m ∙ a) ∙ ap (λ z. atNodes z m) (set-again k o u (m .shared .graph .nodes))
-      ∙ ap (λ z. put z u m) (sym a) ∙ sym (happen-put f m g free))
+      (applied-put f (setAt k o m) (good-set k o m g) free ∙ ap (λ z. put z u (setAt k o m)) (aim-set f k o m ∙ a) ∙ ap (λ z. atNodes z m) (set-again k o u (m .shared .graph .nodes))
+      ∙ ap (λ z. put z u m) (sym a) ∙ sym (applied-put f m g free))
   again (f ∷ q) m g h (inr s) = go (isFree (f .action)) refl (λ n i j. again q n i j s)
     where
       u : LastOrder
@@ -438,8 +438,8 @@ module _ (e : Event) (o : LastOrder) (k : ℕ) where
       ordered : (t : Option ℕ) → aim f m ≡ t → isFree (f .action) ≡ false → ((n : Model) → Good n → aim e n ≡ some k → applyEvents q (setAt k o n) ≡ applyEvents q n)
           → applyEvents q (applyEvent f (setAt k o m)) ≡ applyEvents q (applyEvent f m)
       ordered t a free ih =
-          ap (applyEvents q) (happen-put f (setAt k o m) (good-set k o m g) free ∙ ap (λ z. put z u (setAt k o m)) (aim-set f k o m ∙ a))
-          ∙ each t ∙ ap (applyEvents q) (ap (λ z. put z u m) (sym a) ∙ sym (happen-put f m g free))
+          ap (applyEvents q) (applied-put f (setAt k o m) (good-set k o m g) free ∙ ap (λ z. put z u (setAt k o m)) (aim-set f k o m ∙ a))
+          ∙ each t ∙ ap (applyEvents q) (ap (λ z. put z u m) (sym a) ∙ sym (applied-put f m g free))
         where
           at : (j : ℕ) (b : Bool) → eqb j k ≡ b → applyEvents q (setAt j u (setAt k o m)) ≡ applyEvents q (setAt j u m)
           at j true b =
@@ -453,15 +453,15 @@ module _ (e : Event) (o : LastOrder) (k : ℕ) where
           each none = ih m g h
           each (some j) = at j (eqb j k) refl
 
-      -- a free of the voice, and its node is withoutVoice; or of another
+      -- a free of the voice, and its node is removed; or of another
       freeing : (t : Option Voice) → ((n : Model) → Good n → aim e n ≡ some k → applyEvents q (setAt k o n) ≡ applyEvents q n)
           → applyEvents q (freed t (setAt k o m)) ≡ applyEvents q (freed t m)
       freeing none ih = ih m g h
       freeing (some v) ih = at (eqb (e .voice .0) (v .id .0)) refl
         where
           at : (b : Bool) → eqb (e .voice .0) (v .id .0) ≡ b → applyEvents q (withoutVoice (v .id) (setAt k o m)) ≡ applyEvents q (withoutVoice (v .id) m)
-          at true b = ap (applyEvents q) (gone-both k o (v .id) m (λ x i z. aim-own e m g k h x i z ∙ eqb-true _ _ b))
-          at false b = ap (applyEvents q) (gone-set k o (v .id) m) ∙ ih (withoutVoice (v .id) m) (good-gone (v .id) m g) (aim-gone e m g k h (v .id) (eqb-false _ _ b))
+          at true b = ap (applyEvents q) (removed-both k o (v .id) m (λ x i z. aim-own e m g k h x i z ∙ eqb-true _ _ b))
+          at false b = ap (applyEvents q) (removed-set k o (v .id) m) ∙ ih (withoutVoice (v .id) m) (good-removed (v .id) m g) (aim-removed e m g k h (v .id) (eqb-false _ _ b))
 
       go : (b : Bool) → isFree (f .action) ≡ b → ((n : Model) → Good n → aim e n ≡ some k → applyEvents q (setAt k o n) ≡ applyEvents q n)
           → applyEvents q (applyEvent f (setAt k o m)) ≡ applyEvents q (applyEvent f m)
@@ -474,17 +474,17 @@ superseded-free e (f ∷ q) (inl r) = no-free (f .action) (e .action) (tested f 
 superseded-free e (f ∷ q) (inr s) = superseded-free e q s
 
 pub drop-same : (e : Event) (q : List Event) (m : Model) → Good m → Superseded e q → applyEvents q (applyEvent e m) ≡ applyEvents q m
-drop-same e q m g s = ap (applyEvents q) (happen-put e m g (superseded-free e q s)) ∙ go (aim e m) refl
+drop-same e q m g s = ap (applyEvents q) (applied-put e m g (superseded-free e q s)) ∙ go (aim e m) refl
   where
     go : (t : Option ℕ) → aim e m ≡ t → applyEvents q (put t (orderOf (e .action)) m) ≡ applyEvents q m
     go none h = refl
     go (some k) h = again e (orderOf (e .action)) k q m g h s
 
 -- ---- both queues come to the same
-pub thinned-happens : (q p : List Event) (m : Model) → Good m → Thinned p q → applyEvents q m ≡ applyEvents p m
-thinned-happens [] p m g h = ap (λ z. applyEvents z m) (sym h)
-thinned-happens (e ∷ q) p m g (inl h) = thinned-happens q (h .0) (applyEvent e m) (good-happen e m g) (h .2) ∙ ap (λ z. applyEvents z m) (sym (h .1))
-thinned-happens (e ∷ q) p m g (inr h) = drop-same e q m g (h .0) ∙ thinned-happens q p m g (h .1)
+pub thinned-applies : (q p : List Event) (m : Model) → Good m → Thinned p q → applyEvents q m ≡ applyEvents p m
+thinned-applies [] p m g h = ap (λ z. applyEvents z m) (sym h)
+thinned-applies (e ∷ q) p m g (inl h) = thinned-applies q (h .0) (applyEvent e m) (good-applied e m g) (h .2) ∙ ap (λ z. applyEvents z m) (sym (h .1))
+thinned-applies (e ∷ q) p m g (inr h) = drop-same e q m g (h .0) ∙ thinned-applies q p m g (h .1)
 
 pub thinned-free : (q p : List Event) → Thinned p q → anyFree q ≡ anyFree p
 thinned-free [] p h = ap anyFree (sym h)

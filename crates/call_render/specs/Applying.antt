@@ -1,5 +1,5 @@
 -- What the due events leave: the records of the nodes, and the voices that are freed. These are noted first, and removed all together
--- at the end (proofs/Gone.antt: that is the same as each at its event).
+-- at the end (proofs/Freed.antt: that is the same as each at its event).
 use Prim.Native.Nat.{ℕ, _+_, _≤_}
 use mathlib.Core.Path.{_≡_}
 use mathlib.Core.List.{List, [], _∷_, _++_}
@@ -17,7 +17,7 @@ use Rattle.model.specs.SharedState.{SharedState, withGraph, withEvents}
 use Rattle.model.specs.Model.{Model}
 use Rattle.model.specs.Order.{freeOutcome}
 use Rattle.model.specs.Render.{applyEvent, applyEvents, outcomeOf, outcomes}
-use Rattle.model.specs.Written.{written}
+use Rattle.lists.specs.Written.{written}
 use Rattle.call_param.specs.Left.{isKnown}
 use Rattle.call_free.specs.Forgotten.{withoutIds}
 
@@ -37,7 +37,7 @@ pub record Noted (vs : List Voice) (w : VoiceId) (old : List ℕ) (count : ℕ) 
   pub long : length new ≡ length old
 
 -- one event, and what became of it, whatever else the store holds
-pub record Happens (vs : List Voice) (e : Event) (ns : List Node) (old : List ℕ) (count : ℕ) (new-ns : List Node) (new : List ℕ) (r : ℕ) (o : Outcome) : Type 0 where
+pub record EventApplied (vs : List Voice) (e : Event) (ns : List Node) (old : List ℕ) (count : ℕ) (new-ns : List Node) (new : List ℕ) (r : ℕ) (o : Outcome) : Type 0 where
   pub is : (d : SharedState) → withoutIds (take r new) (scene d new-ns vs) ≡ applyEvent e (withoutIds (take count old) (scene d ns vs))
   pub told : (d : SharedState) → o ≡ outcomeOf e (withoutIds (take count old) (scene d ns vs))
   pub more : r ≤ count + 1

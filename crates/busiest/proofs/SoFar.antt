@@ -42,17 +42,17 @@ module _ (w a x : ℕ) where
       go false e = let over = ltb-false (x - a) w e in e ∙ sym (le-ltb x (a + w) (omega arith))
 
 -- No stretch of w samples holds more than n of the records p; the one from x on holds n; none that starts at an earlier record does.
-pub record Seen (w : ℕ) (p : List ℕ) (n x : ℕ) : Type 0 where
+pub record SoFar (w : ℕ) (p : List ℕ) (n x : ℕ) : Type 0 where
   pub no-more : (a : ℕ) → inside w a p ≤ n
   pub as-many : inside w x p ≡ n
   pub earlier : (a : ℕ) → In a p → a < x → inside w a p < n
   pub met : 0 < length p → In x p
 
-pub seen-none : (w x : ℕ) → Seen w [] 0 x
-seen-none w x = record { no-more = λ a. omega arith; as-many = refl; earlier = λ a i. absurd i; met = λ h. absurd (omega arith) }
+pub so-far-none : (w x : ℕ) → SoFar w [] 0 x
+so-far-none w x = record { no-more = λ a. omega arith; as-many = refl; earlier = λ a i. absurd i; met = λ h. absurd (omega arith) }
 
 -- one record more, at the sample y
-module _ (w n x : ℕ) (p : List ℕ) (y : ℕ) (wide : 0 < w) (rises : Rises 0 (p ++ (y ∷ []))) (seen : Seen w p n x) where
+module _ (w n x : ℕ) (p : List ℕ) (y : ℕ) (wide : 0 < w) (rises : Rises 0 (p ++ (y ∷ []))) (so-far : SoFar w p n x) where
   abbrev l : List ℕ
   l = p ++ (y ∷ [])
 
@@ -64,7 +64,7 @@ module _ (w n x : ℕ) (p : List ℕ) (y : ℕ) (wide : 0 < w) (rises : Rises 0 
   long = simp length-append
 
   fits : n ≤ length p
-  fits = let c = count-length (within w x) p in let e = seen .as-many in omega arith
+  fits = let c = count-length (within w x) p in let e = so-far .as-many in omega arith
 
   least : h ≤ y
   least = let m : length p - n < length l = omega (arith, long, fits) in rises-most 0 p y rises h (in-get l (length p - n) m)
@@ -94,15 +94,15 @@ module _ (w n x : ℕ) (p : List ℕ) (y : ℕ) (wide : 0 < w) (rises : Rises 0 
       go false e = let c = before a (old (in-snoc p y a i) e) less in let m = one-more a false e in omega arith
 
   -- the stretch from h on holds y: one more
-  pub seen-grown : within w h y ≡ true → Seen w l (n + 1) h
-  seen-grown e = record { no-more = no-more; as-many = as-many; earlier = earlier-on (n + 1) h no-more as-many before; met = λ _. in-get l (length p - n) (omega (arith, long, fits)) }
+  pub so-far-grown : within w h y ≡ true → SoFar w l (n + 1) h
+  so-far-grown e = record { no-more = no-more; as-many = as-many; earlier = earlier-on (n + 1) h no-more as-many before; met = λ _. in-get l (length p - n) (omega (arith, long, fits)) }
     where
       no-more : (a : ℕ) → inside w a l ≤ n + 1
       no-more a = go (within w a y) refl
         where
           go : (b : Bool) → within w a y ≡ b → inside w a l ≤ n + 1
-          go true f = let m = one-more a true f in let c = seen .no-more a in omega arith
-          go false f = let m = one-more a false f in let c = seen .no-more a in omega arith
+          go true f = let m = one-more a true f in let c = so-far .no-more a in omega arith
+          go false f = let m = one-more a false f in let c = so-far .no-more a in omega arith
 
       all : (z : ℕ) → In z l → h ≤ z → within w h z ≡ true
       all z i k = let up = rises-most 0 p y rises z i in let to = within-to w h y e in within-on w h z k (omega arith)
@@ -111,11 +111,11 @@ module _ (w n x : ℕ) (p : List ℕ) (y : ℕ) (wide : 0 < w) (rises : Rises 0 
       as-many = let c = count-from (within w h) 0 l (length p - n) rises all in let m = no-more h in omega (arith, long, fits)
 
       before : (a : ℕ) → In a p → a < h → inside w a p < n + 1
-      before a i less = let c = seen .no-more a in omega arith
+      before a i less = let c = so-far .no-more a in omega arith
 
   -- it does not: no stretch that holds y holds more than n
-  pub seen-kept : within w h y ≡ false → Seen w l n x
-  seen-kept e = record { no-more = no-more; as-many = as-many; earlier = earlier-on n x no-more as-many (seen .earlier); met = λ _. in-left p (y ∷ []) x (seen .met some) }
+  pub so-far-kept : within w h y ≡ false → SoFar w l n x
+  so-far-kept e = record { no-more = no-more; as-many = as-many; earlier = earlier-on n x no-more as-many (so-far .earlier); met = λ _. in-left p (y ∷ []) x (so-far .met some) }
     where
       past : h + w ≤ y
       past = within-past w h y least e
@@ -130,14 +130,14 @@ module _ (w n x : ℕ) (p : List ℕ) (y : ℕ) (wide : 0 < w) (rises : Rises 0 
               let m : length p - n < length l = omega (arith, long, fits) in
               let c = count-after (within w a) 0 l (length p - n) rises m (λ z k. within-before w a z (omega arith)) in
               omega (arith, long, fits)
-          go false f = let m = one-more a false f in let c = seen .no-more a in omega arith
+          go false f = let m = one-more a false f in let c = so-far .no-more a in omega arith
 
       as-many : inside w x l ≡ n
       as-many = go (within w x y) refl
         where
           go : (b : Bool) → within w x y ≡ b → inside w x l ≡ n
-          go true f = let m = one-more x true f in let c = no-more x in let k = seen .as-many in omega arith
-          go false f = one-more x false f ∙ seen .as-many
+          go true f = let m = one-more x true f in let c = no-more x in let k = so-far .as-many in omega arith
+          go false f = one-more x false f ∙ so-far .as-many
 
       some : 0 < length p
       some = go p refl

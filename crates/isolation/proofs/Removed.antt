@@ -1,40 +1,33 @@
 -- A voice goes: another bus is as it was, and its own bus loses the voice of its number.
-use Prim.Native.Nat.{ℕ, zero, suc, _+_, _-_, _≤_, _<_}
+use Prim.Native.Nat.{ℕ, _+_, _-_, _≤_, _<_}
 use native.Mathlib.Omega.{arith}
 use mathlib.Core.Path.{_≡_, refl, sym, ap, ap₂, _∙_, subst, fun-ext}
-use mathlib.Core.Logic.{inl, inr, ⊎-elim}
-use mathlib.Core.List.{List, [], _∷_, _++_, map}
+use mathlib.Core.List.{List, map}
 use mathlib.Core.Option.{Option, none, some}
-use mathlib.Core.Bool.{Bool, true, false, not, cond, _&&_, true≢false, false≢true}
-use borrow.Author.Tests.{eqb-true, eqb-false, eq-eqb, ne-eqb, ltb-true, not-true}
+use mathlib.Core.Bool.{Bool, true, false, not, cond, _&&_, true≢false}
 use lib.Dec.{eqb, ltb}
+use borrow.Author.Tests.{eqb-true, eqb-false, eq-eqb, ne-eqb, not-true}
 use Rattle.lists.specs.Member.{In}
-use Rattle.lists.proofs.Member.{in-map, in-snoc, map-same, some-inj, none-some}
-use Rattle.lists.specs.Filter.{filter, put?}
+use Rattle.lists.proofs.Member.{map-same}
+use Rattle.lists.specs.Filter.{filter}
 use Rattle.lists.proofs.Filter.{filter-same, filter-filter, filter-map, in-filter, filter-in}
-use Rattle.lists.specs.Find.{find, or?, filterO, mapO, Once}
-use Rattle.lists.proofs.Find.{find-in, find-none, none-find, find-filter, find-filter-same, find-filter-some, find-map, once-filter}
+use Rattle.lists.specs.Find.{find, or?, filterO}
+use Rattle.lists.proofs.Find.{find-in, find-filter, find-filter-same, once-filter}
 use Rattle.node.specs.declared.record.NodeId.{NodeId}
 use Rattle.node.specs.declared.record.VoiceId.{VoiceId}
 use Rattle.node.specs.declared.record.Node.{Node}
-use Rattle.graph.specs.Node.{isNode, ownedBy, nodeAt, portsOf}
-use Rattle.voice.specs.Steals.{StealLog}
+use Rattle.graph.specs.Node.{isNode, ownedBy, nodeAt}
 use Rattle.store.specs.declared.voices.Voice.{Voice}
-use Rattle.store.specs.declared.voices.VoiceState.{VoiceState}
-use Rattle.model.specs.SharedState.{withSteals}
 use Rattle.model.specs.Voice.{id, isVoice, isOn, nodeLevel}
 use Rattle.model.specs.Clear.{doneFlag}
-use Rattle.ledger.specs.Holder.{Holders, Holder, byVoice, dropVoice}
-use Rattle.ledger.specs.Holder.{nobody}
-use Rattle.ledger.specs.Holder.{voice}
+use Rattle.ledger.specs.Holder.{Holder, byVoice, dropVoice, nobody, voice}
 use Rattle.ledger.specs.Holder as holder
-use Rattle.ledger.specs.Ledger.{Ledger, withoutVoice, cutOff}
-use Rattle.ledger.proofs.Ids.{unique, once, above, same-id, ids-keep}
-use Rattle.ledger.proofs.Nodes.{OwnNodes, node-stays}
-use Rattle.ledger.proofs.Nodes.{own-steady}
-use Rattle.isolation.proofs.Bus.{Own, Seat, empty, mine, Bus, byNumber, isNumber, portCount, leave}
+use Rattle.ledger.specs.Ledger.{Ledger, withoutVoice}
+use Rattle.ledger.proofs.Ids.{unique, once, above}
+use Rattle.ledger.proofs.Nodes.{node-stays, own-preserved}
+use Rattle.isolation.proofs.Bus.{Seat, empty, byNumber, isNumber, portCount, leave}
 use Rattle.isolation.proofs.Bus as bus
-use Rattle.isolation.proofs.Part.{seatFor, seatOf, roomOf, hostPorts, ownOf, portsNow, seatsFor, ownVoices, bus-of, busOf, Seated, Tidy, filter-swap, own-same, find-one}
+use Rattle.isolation.proofs.Part.{seatFor, seatOf, roomOf, hostPorts, ownOf, portsNow, seatsFor, ownVoices, bus-of, busOf, Seated, Tidy, filter-swap, own-same}
 
 module _ (l : Ledger) (t : Tidy l) (g : Voice) (i : In g (l .voices)) where
   abbrev ns : List Node
@@ -108,8 +101,8 @@ module _ (l : Ledger) (t : Tidy l) (g : Voice) (i : In g (l .voices)) where
             absurd (not-it (r .0) (r .1) (eq-eqb _ _ (r .2)) (r .3 ∙ eqb-true _ _ f))
         go false f = ap seatFor (found-other w f)
 
-    pub gone-off : busOf b (withoutVoice (g .id) l) ≡ busOf b l
-    gone-off =
+    pub removed-off : busOf b (withoutVoice (g .id) l) ≡ busOf b l
+    removed-off =
         ap (λ o. bus-of (l .shared .config) (l .shared .clock) o (seatsFor b o (filter other vs) (dropVoice (g .id) (l .holders))) (ownVoices b ns' (filter other vs))) (ports-stay b)
         ∙ ap₂ (λ h ws. bus-of (l .shared .config) (l .shared .clock) (portsNow b ns) h ws) (fun-ext seats) voices-off
       where
@@ -151,8 +144,8 @@ module _ (l : Ledger) (t : Tidy l) (g : Voice) (i : In g (l .voices)) where
             let q : eqb (v .sequence) s ≡ false = ne-eqb (v .sequence) s (λ z. eqb-false _ _ c (sym k ∙ ap (λ (x : Voice). x .id .0) (same-number v j (eq-eqb _ _ o) z))) in
             ap seatFor (found-other w c) ∙ rw (f, q)
 
-    pub gone-on : busOf b (withoutVoice (g .id) l) ≡ bus.withoutVoice s (busOf b l)
-    gone-on =
+    pub removed-on : busOf b (withoutVoice (g .id) l) ≡ bus.withoutVoice s (busOf b l)
+    removed-on =
         ap (λ o. bus-of (l .shared .config) (l .shared .clock) o (seatsFor b o (filter other vs) (dropVoice (g .id) (l .holders))) (ownVoices b ns' (filter other vs))) (ports-stay b)
         ∙ ap₂ (λ h ws. bus-of (l .shared .config) (l .shared .clock) (portsNow b ns) h ws) (fun-ext seats) voices-on
       where
@@ -164,10 +157,10 @@ module _ (l : Ledger) (t : Tidy l) (g : Voice) (i : In g (l .voices)) where
         seats p = masked (ltb p (portCount (portsNow b ns))) _ (seatOf vs (l .holders (b .0) p)) (seat-on p (l .holders (b .0) p) refl)
 
   -- ---- what every run keeps
-  pub tidy-gone : Tidy (withoutVoice (g .id) l)
-  tidy-gone =
+  pub tidy-removed : Tidy (withoutVoice (g .id) l)
+  tidy-removed =
       record {
-        own = own-steady .goes l (g .id) (t .own);
+        own = own-preserved .goes l (g .id) (t .own);
         rows = λ k. once-filter (isNode k) (λ x. not (ownedBy (g .id) x)) ns (t .rows k);
         outs = λ v j. t .outs v (in-filter other vs v j .0);
         seated = λ n p w e. seat n p w (l .holders n p) refl e;
