@@ -19,8 +19,7 @@ extern "C" {
     fn piecrag_spawn(x: *const u32, s: *mut u32, n: *mut u32, e: *mut u32, v: *mut u32, l: *mut u32, managed: u32, book: *const u8, len: usize, bus: u32, pan: f32, rank: u32, voice: &mut u64) -> c_uint;
     fn piecrag_set_voice_param(s: *const u32, n: *mut u32, v: *const u32, voice: u64, name: *const u8, len: usize, value: f32) -> c_uint;
     fn piecrag_set_voice_param_glide(s: *const u32, n: *mut u32, v: *const u32, voice: u64, name: *const u8, len: usize, target: f32, seconds: f32, shape: u32, curve: f32, space: u32) -> c_uint;
-    fn piecrag_schedule_gate(s: *mut u32, w: *mut u32, time: u64, voice: u64, name: *const u8, len: usize, value: f32) -> c_uint;
-    fn piecrag_schedule_free(s: *mut u32, w: *mut u32, time: u64, voice: u64, name: *const u8, len: usize) -> c_uint;
+    fn piecrag_schedule(s: *mut u32, w: *mut u32, time: u64, voice: u64, name: *const u8, len: usize, action: u32, value: f32, seconds: f32, shape: u32, curve: f32, space: u32) -> c_uint;
     fn piecrag_report(s: *const u32, n: *mut u32, v: *const u32, node: u32, channels: usize, samples: *const f32, len: usize, done: u32) -> c_uint;
     fn piecrag_render(s: *mut u32, n: *mut u32, e: *mut u32, o: *mut u32, v: *mut u32, w: *mut u32, outcomes: *mut u8, len: usize, sounding: &mut u32, taken: &mut usize) -> c_uint;
     fn piecrag_free_done_synths(s: *mut u32, n: *mut u32, e: *mut u32, v: *mut u32, removed: &mut usize) -> c_uint;
@@ -110,13 +109,9 @@ impl Store {
     fn set_glide(&mut self, voice: u64, name: &[u8], g: Glide) -> u32 {
         unsafe { piecrag_set_voice_param_glide(self.state.as_ptr(), self.nodes.as_mut_ptr(), self.voices.as_ptr(), voice, name.as_ptr(), name.len(), g.target, g.seconds, g.shape, g.curve, g.space) }
     }
-    fn schedule(&mut self, time: u64, voice: u64, name: &[u8], gate: Option<f32>) -> Answer<()> {
+    fn schedule(&mut self, time: u64, voice: u64, name: &[u8], action: u8, g: Glide) -> Answer<()> {
         let (s, w) = (self.state.as_mut_ptr(), self.events.as_mut_ptr());
-        let k = match gate {
-            Some(x) => unsafe { piecrag_schedule_gate(s, w, time, voice, name.as_ptr(), name.len(), x) },
-            None => unsafe { piecrag_schedule_free(s, w, time, voice, name.as_ptr(), name.len()) },
-        };
-        answer(k, ())
+        answer(unsafe { piecrag_schedule(s, w, time, voice, name.as_ptr(), name.len(), action as u32, g.target, g.seconds, g.shape, g.curve, g.space) }, ())
     }
     fn report(&mut self, node: u32, channels: usize, samples: &[f32], done: u32) -> Answer<()> {
         answer(unsafe { piecrag_report(self.state.as_ptr(), self.nodes.as_mut_ptr(), self.voices.as_ptr(), node, channels, samples.as_ptr(), samples.len(), done) }, ())
@@ -269,7 +264,7 @@ fn play(s: &mut Script, store: &mut Store, books: &mut [Vec<u8>]) -> String {
         16 => format!("outcome {}", store.set_glide(s.u64(), s.name(), s.glide())),
         17 => {
             let (time, voice, action, name, g) = (s.u64(), s.u64(), s.u8(), s.name(), s.glide());
-            plain(store.schedule(time, voice, name, (action == 2).then_some(g.target)))
+            plain(store.schedule(time, voice, name, action, g))
         }
         18 => {
             let (node, channels, done) = (s.u32(), s.u8() as usize, s.u8() as u32);

@@ -107,6 +107,10 @@ extern "C" {
 #define PIECRAG_QUIETEST 3
 #define PIECRAG_GLOBAL 0   /* scopes: which voices a budget counts. Any other number is PER_GROUP */
 #define PIECRAG_PER_GROUP 1
+#define PIECRAG_VALUE 0    /* actions of an event. Any other number is FREE */
+#define PIECRAG_GLIDE 1
+#define PIECRAG_GATE 2
+#define PIECRAG_FREE 3
 #define PIECRAG_HOLD 0     /* shapes of a glide. Any other number is EXPONENTIAL, which alone looks at `curve` */
 #define PIECRAG_LINEAR 1
 #define PIECRAG_SINE 2
@@ -231,24 +235,40 @@ uint32_t piecrag_seal(uint32_t *seal, const uint32_t *state, const uint32_t *nod
  * Refused: 13 a required port is not connected; 14 a cycle. */
 uint32_t piecrag_prepare(uint32_t *state, const uint32_t *nodes, const uint32_t *edges, uint32_t *order);
 
-/* An event: at the sample `time` the parameter `name` of the voice gets a value. It is applied by the render whose block has that
- * sample, or by the next one if the sample is past. An unknown voice, a name that is no parameter: nothing happens when it is due. A
- * pending value for the same voice, parameter and time is replaced; a glide replaces a glide, a gate is a value for `gate`.
+/* An event: at the sample `time` an action for the voice, of which `value` is the value, the target of the glide or the gate. A value and
+ * a glide are for the parameter `name`; a gate is a value for the parameter `gate`; a free frees the voice: a timed release. The name of a
+ * gate or a free is held, and does nothing. Only a glide looks at seconds, shape, curve and space: above. It is applied by the render whose
+ * block has that sample, or by the next one if the sample is past. An unknown voice, a name that is no parameter: nothing happens when it
+ * is due. A pending value for the same voice, parameter and time is replaced; a glide replaces a glide, a gate is a value for `gate`.
  * Refused: 7 256 events are pending, and none of them is replaced. */
-uint32_t piecrag_schedule_value(uint32_t *state, uint32_t *events, uint64_t time, uint64_t voice, const uint8_t *name,
-                                size_t name_length, float value);
+uint32_t piecrag_schedule(uint32_t *state, uint32_t *events, uint64_t time, uint64_t voice, const uint8_t *name, size_t name_length,
+                          uint32_t action, float value, float seconds, uint32_t shape, float curve, uint32_t space);
 
-/* The same for a glide to `target` within `seconds`; shape, curve, space: above. Refused: 7. */
-uint32_t piecrag_schedule_glide(uint32_t *state, uint32_t *events, uint64_t time, uint64_t voice, const uint8_t *name,
-                                size_t name_length, float target, float seconds, uint32_t shape, float curve, uint32_t space);
+/* The same with one action each, and no more arguments than it looks at. */
+static inline uint32_t piecrag_schedule_value(uint32_t *state, uint32_t *events, uint64_t time, uint64_t voice, const uint8_t *name,
+                                              size_t name_length, float value)
+{
+    return piecrag_schedule(state, events, time, voice, name, name_length, PIECRAG_VALUE, value, 0.0f, 0, 0.0f, 0);
+}
 
-/* The same for a value of the parameter `gate`. The name is held, and does nothing. Refused: 7. */
-uint32_t piecrag_schedule_gate(uint32_t *state, uint32_t *events, uint64_t time, uint64_t voice, const uint8_t *name,
-                               size_t name_length, float value);
+static inline uint32_t piecrag_schedule_glide(uint32_t *state, uint32_t *events, uint64_t time, uint64_t voice, const uint8_t *name,
+                                              size_t name_length, float target, float seconds, uint32_t shape, float curve,
+                                              uint32_t space)
+{
+    return piecrag_schedule(state, events, time, voice, name, name_length, PIECRAG_GLIDE, target, seconds, shape, curve, space);
+}
 
-/* The voice is freed at the sample `time`: a timed release. The name is held, and does nothing. Refused: 7. */
-uint32_t piecrag_schedule_free(uint32_t *state, uint32_t *events, uint64_t time, uint64_t voice, const uint8_t *name,
-                               size_t name_length);
+static inline uint32_t piecrag_schedule_gate(uint32_t *state, uint32_t *events, uint64_t time, uint64_t voice, const uint8_t *name,
+                                             size_t name_length, float value)
+{
+    return piecrag_schedule(state, events, time, voice, name, name_length, PIECRAG_GATE, value, 0.0f, 0, 0.0f, 0);
+}
+
+static inline uint32_t piecrag_schedule_free(uint32_t *state, uint32_t *events, uint64_t time, uint64_t voice, const uint8_t *name,
+                                             size_t name_length)
+{
+    return piecrag_schedule(state, events, time, voice, name, name_length, PIECRAG_FREE, 0.0f, 0.0f, 0, 0.0f, 0);
+}
 
 /* ==== voices */
 

@@ -203,7 +203,7 @@ static void small_samples(int32_t *x, size_t n)
 #define H at[WISHES]
 #define X at[SEAL]
 
-/* 44 calls, of which the spawn has two sorts */
+/* 41 calls, of which scheduling has four sorts and the spawn two */
 enum { MANAGED = 42, UNMANAGED, WISH, CALLS };
 
 static uint32_t host_call(uint32_t which)
@@ -213,10 +213,8 @@ static uint32_t host_call(uint32_t which)
     switch (which) {
     case 0: return piecrag_make(S, any() % 3 ? 48000.0f : real(), any() % 3 ? 128 : number(), any() % 3, any() % 3 ? any() % 9 : number(), number(), number(), any() % 2);
     case 1: return piecrag_prepare(S, N, E, O);
-    case 2: return piecrag_schedule_value(S, W, wide(), wide(), b, n, real());
-    case 3: return piecrag_schedule_glide(S, W, wide(), wide(), b, n, real(), real(), number(), real(), number());
-    case 4: return piecrag_schedule_gate(S, W, wide(), wide(), b, n, real());
-    default: return piecrag_schedule_free(S, W, wide(), wide(), b, n);
+    default: /* 2 to 4: a value, a glide, a gate; 5: any number that is a free */
+        return piecrag_schedule(S, W, wide(), wide(), b, n, which < 5 ? which - 2 : number() | 4, real(), real(), number(), real(), number());
     }
 }
 

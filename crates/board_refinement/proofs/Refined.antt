@@ -7,7 +7,6 @@ use mathlib.Core.Bool.{false}
 use Rattle.memory.specs.View.{Memory}
 use Rattle.memory.specs.Lent.{lentState}
 use Rattle.console.specs.Console.{Console, ConsoleCall, ConsoleRan, made, makeConsole}
-use Rattle.call_make.specs.Made.{making}
 use Rattle.call_console.specs.Called.{memory}
 use Rattle.call_console.proofs.making.make_console.Reads as fn-make-console
 use Rattle.console_refinement.specs.Contract as on-console
@@ -59,11 +58,11 @@ run-is (calls {xs = xs} {a = a} e r) = ap (after a) (run-is r) ∙ ap (λ (s : B
 
 -- the refinement, from the contract of `make_console`
 pub refines : (κs : _) (a : _) (r : _) (s : _) → fn-make-console.Post κs a r s
-    → (c : Console) → makeConsole (making (a .0) (a .1 .0) (a .1 .1 .0) (a .1 .1 .1 .0) (a .1 .1 .1 .1 .0) (a .1 .1 .1 .1 .1 .0)) (a .1 .1 .1 .1 .1 .1 .0) ≡ made c
+    → (c : Console) → makeConsole (a .0) (a .1 .0) ≡ made c
     → (tables : Memory) (words : List ℕ) (last : BoardMemory) (xs : List BoardCall) (said : List BoardAnswer) → Runs (board (lentState (r .state) tables) (r .wishes) words Unsealed) xs said last
-    → Refines (making (a .0) (a .1 .0) (a .1 .1 .0) (a .1 .1 .1 .0) (a .1 .1 .1 .1 .0) (a .1 .1 .1 .1 .1 .0)) (a .1 .1 .1 .1 .1 .1 .0) c xs said last
+    → Refines (a .0) (a .1 .0) c xs said last
 refines κs a r s p c accepted tables words last xs said ran =
-    let k = making (a .0) (a .1 .0) (a .1 .1 .0) (a .1 .1 .1 .0) (a .1 .1 .1 .1 .0) (a .1 .1 .1 .1 .1 .0) in
-    let n = a .1 .1 .1 .1 .1 .1 .0 in
+    let k = a .0 in
+    let n = a .1 .0 in
     let new = on-console-proved.refines κs a r s p c accepted tables words (memory (lentState (r .state) tables) (r .wishes) words) [] [] on-console.ends .ran in
     record { ran = run-is ran ∙ ap (λ (t : ConsoleRan). boardRun xs (newBoard (t .console))) new; claimed = board-claim k n c accepted xs }

@@ -7,7 +7,7 @@ use mathlib.Core.Bool.{false}
 use Rattle.model.specs.Call as call
 use Rattle.memory.specs.View.{Memory}
 use Rattle.memory.specs.Lent.{lentNodes, lentGraph, lentVoices, lentSpawn}
-use Rattle.console.specs.Wishes.{callOf}
+use Rattle.model.specs.Wish.{callOf}
 use Rattle.console.specs.Console.{ConsoleCall, ConsoleAnswer}
 use Rattle.console.specs.Console as console
 use Rattle.call_console.specs.declared.queues.WishState.{WishState}
@@ -31,11 +31,11 @@ use Rattle.call_seal.proofs.wishing.wish.Reads as fn-wish
 pub data Contract : BoardCall → BoardMemory → BoardAnswer → BoardMemory → Type 1 where
   -- the host's nodes and wiring
   add-node : (κs : _) (a : _) (r : _) (s : _) → fn-add-node.Post κs a r s → (m : Memory) (w : WishState) (words : List ℕ)
-      → Contract (onStore (call.addNode (a .1 .1 .1 .0 .now) (a .1 .1 .1 .1 .0) (a .1 .1 .1 .1 .1 .0) (a .1 .1 .1 .1 .1 .1 .0) (a .1 .1 .1 .1 .1 .1 .1 .0))) (board (lentNodes (a .1 .0) (a .1 .1 .0 .now) m) w words (a .0)) (nodeAnswer (r .answer)) (board (lentNodes (r .state) (s .1 .1 .0 .now) m) w words (a .0))
+      → Contract (onStore (call.addNode (a .1 .1 .1 .0 .now) (a .1 .1 .1 .1 .0 .ports) (a .1 .1 .1 .1 .0 .required) (a .1 .1 .1 .1 .0 .«takes_values») (a .1 .1 .1 .1 .0 .«takes_glides»))) (board (lentNodes (a .1 .0) (a .1 .1 .0 .now) m) w words (a .0)) (nodeAnswer (r .answer)) (board (lentNodes (r .state) (s .1 .1 .0 .now) m) w words (a .0))
   remove-node : (κs : _) (a : _) (r : _) (s : _) → fn-remove-node.Post κs a r s → (m : Memory) (w : WishState) (words : List ℕ)
       → Contract (onStore (call.removeNode (a .1 .1 .1 .1 .0))) (board (lentGraph (a .1 .0) (a .1 .1 .0 .now) (a .1 .1 .1 .0 .now) m) w words (a .0)) (hostAnswer (r .answer)) (board (lentGraph (r .state) (s .1 .1 .0 .now) (s .1 .1 .1 .0 .now) m) w words (a .0))
   connect : (κs : _) (a : _) (r : _) (s : _) → fn-connect.Post κs a r s → (m : Memory) (w : WishState) (words : List ℕ)
-      → Contract (onStore (call.connect (a .1 .1 .1 .1 .0) (a .1 .1 .1 .1 .1 .0) (a .1 .1 .1 .1 .1 .1 .0))) (board (lentGraph (a .1 .0) (a .1 .1 .0 .now) (a .1 .1 .1 .0 .now) m) w words (a .0)) (hostAnswer (r .answer)) (board (lentGraph (r .state) (a .1 .1 .0 .now) (s .1 .1 .1 .0 .now) m) w words (a .0))
+      → Contract (onStore (call.connect (a .1 .1 .1 .1 .0 .from) (a .1 .1 .1 .1 .0 .to) (a .1 .1 .1 .1 .0 .port))) (board (lentGraph (a .1 .0) (a .1 .1 .0 .now) (a .1 .1 .1 .0 .now) m) w words (a .0)) (hostAnswer (r .answer)) (board (lentGraph (r .state) (a .1 .1 .0 .now) (s .1 .1 .1 .0 .now) m) w words (a .0))
   disconnect : (κs : _) (a : _) (r : _) (s : _) → fn-disconnect.Post κs a r s → (m : Memory) (w : WishState) (words : List ℕ)
       → Contract (onStore (call.disconnect (a .1 .1 .1 .1 .0) (a .1 .1 .1 .1 .1 .0))) (board (lentGraph (a .1 .0) (a .1 .1 .0 .now) (a .1 .1 .1 .0 .now) m) w words (a .0)) (hostAnswer (r .answer)) (board (lentGraph (r .state) (a .1 .1 .0 .now) (s .1 .1 .1 .0 .now) m) w words (a .0))
   set-sink : (κs : _) (a : _) (r : _) (s : _) → fn-set-sink.Post κs a r s → (m : Memory) (w : WishState) (words : List ℕ)

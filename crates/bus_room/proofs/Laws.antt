@@ -6,7 +6,6 @@ use mathlib.Core.List.{List, []}
 use mathlib.Core.Bool.{true, false, cond}
 use mathlib.Core.Option.{Option, none, some}
 use lib.ListN.{getD}
-use Rattle.lists.specs.Find.{isSome}
 use Rattle.node.specs.declared.record.NodeId.{NodeId}
 use Rattle.node.specs.declared.record.Node.{Node}
 use Rattle.edges.specs.Ports.{portOf}
@@ -21,13 +20,12 @@ use Rattle.voice_rows.specs.Rows.{voiceOf}
 use Rattle.voice_rows.specs.Found.{foundIn, FoundAt}
 use Rattle.voice_rows.specs.declared.table.FoundRow.{FoundRow}
 use Rattle.model.specs.Spawn.{elseVictim, nextOut}
-use Rattle.model.specs.Model.{Model, portFree, cutOff}
+use Rattle.model.specs.Model.{Model, portFree}
 use Rattle.memory.specs.declared.state.State.{State}
 use Rattle.memory.specs.View.{Memory, modelOf}
 use Rattle.memory.specs.Lent.{lentSpawn}
 use Rattle.memory.specs.Parts.{logged}
-use Rattle.bus_room.specs.Reclaimed.{ifNone, leaving, goOn, reclaimed, restolen, isPort}
-use Rattle.bus_room.specs.Room.{Tries}
+use Rattle.bus_room.specs.Reclaimed.{ifNone, leaving, cutNow, goOn, reclaimed, restolen, isPort}
 
 -- the ports of a node that was looked for
 pub brief-ports : (o : Option Node) → briefOf o .ports ≡ portsOf o
@@ -40,29 +38,20 @@ pub relogged : (s : State) (ns vs ss ss' : List ℕ) (total place : ℕ) (b : St
 relogged s ns vs ss ss' total place b u left is m =
     ap (λ x. modelOf (lentSpawn x ns (m .edges) vs ss' m)) left ∙ ap (λ x. restolen x (modelOf (lentSpawn s ns (m .edges) vs ss m))) is
 
--- ---- the next voice
+-- ---- the next voice: a row that was found or not
+pub found-some : (r : FoundRow) (vs : List Voice) (o : Option Voice) → foundIn r vs ≡ o → r .found ≡ true → o ≡ some (getD vs (r .row) (voiceOf []))
+found-some r vs o is f = sym is ∙ ap (λ b. cond b (some (getD vs (r .row) (voiceOf []))) none) f
+
+pub found-none : (r : FoundRow) (vs : List Voice) (o : Option Voice) → foundIn r vs ≡ o → r .found ≡ false → o ≡ none
+found-none r vs o is f = sym is ∙ ap (λ b. cond b (some (getD vs (r .row) (voiceOf []))) none) f
+
 -- a fade that was found is it; without one the victim is
 pub fade-first : (r : FoundRow) (count : ℕ) (vs : List Voice) (o u : Option Voice) → FoundAt r count vs o → r .found ≡ true → FoundAt r count vs (elseVictim o u)
-fade-first r count vs o u h f = record { is = h .is ∙ go o (sym (h .is) ∙ ap (λ b. cond b (some (getD vs (r .row) (voiceOf []))) none) f); within = h .within }
+fade-first r count vs o u h f = record { is = h .is ∙ go o (found-some r vs o (h .is) f); within = h .within }
   where
     go : (o : Option Voice) → o ≡ some (getD vs (r .row) (voiceOf [])) → o ≡ elseVictim o u
     go none e = let z : _≡_ {A = ℕ} 0 1 = cc in absurd (omega arith)
     go (some v) e = refl
-
-pub no-fade : (r : FoundRow) (vs : List Voice) (o : Option Voice) → foundIn r vs ≡ o → r .found ≡ false → o ≡ none
-no-fade r vs o is f = sym is ∙ ap (λ b. cond b (some (getD vs (r .row) (voiceOf []))) none) f
-
--- ---- one try
-module _ (bus : NodeId) (rank : ℕ) (m : Model) (r : FoundRow) (vs : List Voice) (is : foundIn r vs ≡ nextOut (m .shared) bus rank (m .voices)) where
-  pub tries-one : r .found ≡ true → (n : Model) → n ≡ cutOff (getD vs (r .row) (voiceOf [])) (getD vs (r .row) (voiceOf []) .state) m → Tries bus rank m n true
-  tries-one f n e =
-      let o : nextOut (m .shared) bus rank (m .voices) ≡ some (getD vs (r .row) (voiceOf [])) = sym is ∙ ap (λ b. cond b (some (getD vs (r .row) (voiceOf []))) none) f in
-      record { some = ap isSome (sym o); is = e ∙ ap (λ x. goOn x m (λ j. j)) (sym o) }
-
-  pub tries-none : r .found ≡ false → Tries bus rank m m false
-  tries-none f =
-      let o : nextOut (m .shared) bus rank (m .voices) ≡ none = no-fade r vs _ is f in
-      record { some = ap isSome (sym o); is = ap (λ x. goOn x m (λ j. j)) (sym o) }
 
 -- ---- one after the other: what is left to do on what is there is what there was to do
 pub reclaim-port : (k : ℕ) (bus : NodeId) (rank : ℕ) (n : Model) (p : Port) → p ≡ portOf (portFree bus n) → isPort p ≡ true → reclaimed k bus rank n ≡ n
@@ -72,14 +61,6 @@ reclaim-port (suc k) bus rank n p e t = go (portFree bus n) (ap isPort (sym e) �
     go : (o : Option ℕ) → isPort (portOf o) ≡ true → goOn (ifNone o (nextOut (n .shared) bus rank (n .voices))) n (λ j. reclaimed k bus rank j) ≡ n
     go none h = let z : _≡_ {A = ℕ} 0 1 = cc in absurd (omega arith)
     go (some q) h = refl
-
--- nobody was there to be removed
-pub same-left : (bus : NodeId) (rank : ℕ) (n n' : Model) → Tries bus rank n n' false → n' ≡ n
-same-left bus rank n n' t = t .is ∙ go (nextOut (n .shared) bus rank (n .voices)) (t .some)
-  where
-    go : (o : Option Voice) → false ≡ isSome o → goOn o n (λ j. j) ≡ n
-    go none h = refl
-    go (some v) h = let z : _≡_ {A = ℕ} 0 1 = cc in absurd (omega arith)
 
 module _ (bus : NodeId) (rank : ℕ) (n : Model) (p : Port) (is-p : p ≡ portOf (portFree bus n)) (full : isPort p ≡ false) where
   no-port : portFree bus n ≡ none
@@ -92,21 +73,15 @@ module _ (bus : NodeId) (rank : ℕ) (n : Model) (p : Port) (is-p : p ≡ portOf
   leaves : leaving bus rank n ≡ nextOut (n .shared) bus rank (n .voices)
   leaves = ap (λ o. ifNone o (nextOut (n .shared) bus rank (n .voices))) no-port
 
-  pub reclaim-over : (k : ℕ) (n' : Model) → Tries bus rank n n' false → reclaimed k bus rank n ≡ n'
-  reclaim-over zero n' t = sym (same-left bus rank n n' t)
-  reclaim-over (suc k) n' t = ap (λ o. goOn o n (λ j. reclaimed k bus rank j)) leaves ∙ go (nextOut (n .shared) bus rank (n .voices)) (t .some) (t .is)
-    where
-      go : (o : Option Voice) → false ≡ isSome o → n' ≡ goOn o n (λ j. j) → goOn o n (λ j. reclaimed k bus rank j) ≡ n'
-      go none h e = sym e
-      go (some v) h e = let z : _≡_ {A = ℕ} 0 1 = cc in absurd (omega arith)
+  -- nobody is there to be removed
+  pub reclaim-over : (k : ℕ) → nextOut (n .shared) bus rank (n .voices) ≡ none → reclaimed k bus rank n ≡ n
+  reclaim-over zero e = refl
+  reclaim-over (suc k) e = ap (λ o. goOn o n (λ j. reclaimed k bus rank j)) (leaves ∙ e)
 
-  pub reclaim-one : (k : ℕ) (n' : Model) → 0 < k → Tries bus rank n n' true → reclaimed k bus rank n ≡ reclaimed (k - 1) bus rank n'
-  reclaim-one zero n' h t = absurd (omega arith)
-  reclaim-one (suc k) n' h t = ap (λ o. goOn o n (λ j. reclaimed k bus rank j)) leaves ∙ go (nextOut (n .shared) bus rank (n .voices)) (t .some) (t .is) ∙ ap (λ i. reclaimed i bus rank n') less
+  pub reclaim-one : (k : ℕ) (v : Voice) (n' : Model) → 0 < k → nextOut (n .shared) bus rank (n .voices) ≡ some v → n' ≡ cutNow v n
+      → reclaimed k bus rank n ≡ reclaimed (k - 1) bus rank n'
+  reclaim-one zero v n' h e is = absurd (omega arith)
+  reclaim-one (suc k) v n' h e is = ap (λ o. goOn o n (λ j. reclaimed k bus rank j)) (leaves ∙ e) ∙ ap (λ j. reclaimed k bus rank j) (sym is) ∙ ap (λ i. reclaimed i bus rank n') less
     where
       less : k ≡ suc k - 1
       less = omega arith
-
-      go : (o : Option Voice) → true ≡ isSome o → n' ≡ goOn o n (λ j. j) → goOn o n (λ j. reclaimed k bus rank j) ≡ reclaimed k bus rank n'
-      go none h e = let z : _≡_ {A = ℕ} 0 1 = cc in absurd (omega arith)
-      go (some v) h e = ap (λ j. reclaimed k bus rank j) (sym e)

@@ -14,9 +14,9 @@ use Rattle.voice.specs.Steals.{StealLog}
 use Rattle.voice.specs.declared.policy.StealPolicy.{StealPolicy}
 use Rattle.store.specs.declared.voices.Voice.{Voice}
 use Rattle.voice_rows.specs.Levels.{candidatesAt}
-use Rattle.model.specs.SharedState.{withSteals}
+use Rattle.model.specs.SharedState.{SharedState, withSteals}
 use Rattle.model.specs.Voice.{trackedOn, fadesOn}
-use Rattle.model.specs.Spawn.{voiceOf, earliest, elseVictim, nextOut}
+use Rattle.model.specs.Spawn.{voiceOf, earliest, elseVictim, nextOut, reclaimLog}
 use Rattle.model.specs.Model.{Model, portFree, cutOff}
 
 -- who is removed, where no port is free
@@ -27,9 +27,16 @@ ifNone (some p) o = none
 abbrev pub leaving : NodeId → ℕ → Model → Option Voice
 leaving bus rank m = ifNone (portFree bus m) (nextOut (m .shared) bus rank (m .voices))
 
+-- what the removal of a voice writes, by the state that it is in; and the store without it
+abbrev pub removalLog : Voice → SharedState → StealLog
+removalLog v d = reclaimLog v (v .state) d
+
+abbrev pub cutNow : Voice → Model → Model
+cutNow v m = cutOff v (v .state) m
+
 abbrev pub goOn : Option Voice → Model → (Model → Model) → Model
 goOn none m again = m
-goOn (some v) m again = again (cutOff v (v .state) m)
+goOn (some v) m again = again (cutNow v m)
 
 -- what is left after at most so many removals
 abbrev pub reclaimed : ℕ → NodeId → ℕ → Model → Model

@@ -7,19 +7,19 @@ use steal_log::StealTable;
 use steal_log::log_cut;
 use steal_log::log_steal;
 use store::voices::VoiceState;
-use voice::steals::steal_record;
+use voice_policy::steals::steal_record;
 use voice_rows::levels::level_at;
 use voice_rows::row::VoiceTable;
 use voice_rows::row::id_at;
+use voice_rows::row::state_at;
 ghost use mathlib.Core.Path.{_≡_};
 ghost use mathlib.Core.List.{[]};
 ghost use lib.ListN.{getD};
 ghost use Rattle.voice_rows.specs.Rows.{voiceOf, voicesIn};
-ghost use Rattle.model.specs.Spawn.{recorded, reclaimLog};
-ghost use Rattle.model.specs.Model.{cutOff};
+ghost use Rattle.model.specs.Spawn.{recorded};
 ghost use Rattle.memory.specs.View.{Memory, sharedOf, modelOf};
 ghost use Rattle.memory.specs.Lent.{lentSpawn};
-ghost use Rattle.bus_room.specs.Reclaimed.{restolen};
+ghost use Rattle.bus_room.specs.Reclaimed.{removalLog, cutNow, restolen};
 
 // One steal record more: of the voice in row `row` now, with its level.
 pub fn record_steal(
@@ -37,18 +37,18 @@ pub fn record_steal(
     with_steals(s, ring.total, ring.next)
 }
 
-// What the removal of the voice in row `row`, taken to be in the state `state`, leaves in the records: a tracked voice gets a cut
-// record, and the record of a fade is marked cut, if it is still held.
+// What the removal of the voice in row `row` leaves in the records: a tracked voice gets a cut record, and the record of a fade is marked
+// cut, if it is still held.
 fn record_removal(
     s: State,
     nodes: &NodeTable,
     voices: &VoiceTable,
     steals: &mut StealTable,
     row: usize,
-    state: VoiceState,
 ) -> State
-    ensures { λ r. ⌜ ((m : Memory) → modelOf (lentSpawn r (now (nodes .entry)) (m .edges) (now (voices .entry)) (now (steals .exit)) m) ≡ restolen (reclaimLog (getD (voicesIn (now (voices .entry))) row (voiceOf [])) state (sharedOf (lentSpawn s (now (nodes .entry)) (m .edges) (now (voices .entry)) (now (steals .entry)) m))) (modelOf (lentSpawn s (now (nodes .entry)) (m .edges) (now (voices .entry)) (now (steals .entry)) m))) ⌝ }
+    ensures { λ r. ⌜ ((m : Memory) → modelOf (lentSpawn r (now (nodes .entry)) (m .edges) (now (voices .entry)) (now (steals .exit)) m) ≡ restolen (removalLog (getD (voicesIn (now (voices .entry))) row (voiceOf [])) (sharedOf (lentSpawn s (now (nodes .entry)) (m .edges) (now (voices .entry)) (now (steals .entry)) m))) (modelOf (lentSpawn s (now (nodes .entry)) (m .edges) (now (voices .entry)) (now (steals .entry)) m))) ⌝ }
 {
+    let state = state_at(voices, row);
     match state {
         VoiceState::Tracked => record_steal(s, nodes, voices, steals, row, true),
         VoiceState::Fading(f) => {
@@ -59,20 +59,18 @@ fn record_removal(
     }
 }
 
-// The voice in row `row`, taken to be in the state `state`, is removed at once, and the records say so. Its level is that of the store
-// in which it lives.
-pub fn cut_voice(
+// The voice in row `row` is removed at once, and the records say so. Its level is that of the store in which it lives.
+pub(crate) fn cut_voice(
     s: State,
     nodes: &mut NodeTable,
     edges: &mut EdgeTable,
     voices: &mut VoiceTable,
     steals: &mut StealTable,
     row: usize,
-    state: VoiceState,
 ) -> State
-    ensures { λ r. ⌜ ((m : Memory) → modelOf (lentSpawn r (now (nodes .exit)) (now (edges .exit)) (now (voices .exit)) (now (steals .exit)) m) ≡ cutOff (getD (voicesIn (now (voices .entry))) row (voiceOf [])) state (modelOf (lentSpawn s (now (nodes .entry)) (now (edges .entry)) (now (voices .entry)) (now (steals .entry)) m))) ⌝ }
+    ensures { λ r. ⌜ ((m : Memory) → modelOf (lentSpawn r (now (nodes .exit)) (now (edges .exit)) (now (voices .exit)) (now (steals .exit)) m) ≡ cutNow (getD (voicesIn (now (voices .entry))) row (voiceOf [])) (modelOf (lentSpawn s (now (nodes .entry)) (now (edges .entry)) (now (voices .entry)) (now (steals .entry)) m))) ⌝ }
 {
-    let told = record_removal(s, nodes, voices, steals, row, state);
+    let told = record_removal(s, nodes, voices, steals, row);
     let w = id_at(voices, row);
     forget_voice(told, nodes, edges, voices, w)
 }

@@ -7,8 +7,9 @@ use memory::state::State;
 use node::record::NodeId;
 use voice::policy::BudgetScope;
 use voice::policy::Victim;
-use voice::policy::pick_victim;
+use voice_policy::policy::pick_victim;
 use voice_rows::fade::earliest_fade;
+use voice_rows::levels::Counting;
 use voice_rows::levels::candidates;
 use voice_rows::row::VoiceTable;
 use voice_rows::table::FoundRow;
@@ -40,15 +41,12 @@ fn bus_victim(s: State, nodes: &NodeTable, voices: &VoiceTable, bus: NodeId, ran
 {
     let config = s.config;
     let policy = config.policy;
-    let tracked = candidates(
-        voices,
-        s.voices,
-        nodes,
-        s.nodes,
-        s.clock,
-        BudgetScope::PerGroup,
+    let by = Counting {
+        scope: BudgetScope::PerGroup,
         bus,
-    );
+        clock: s.clock,
+    };
+    let tracked = candidates(voices, s.voices, nodes, s.nodes, by);
     pick_victim(tracked, policy, rank)
 }
 

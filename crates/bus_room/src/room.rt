@@ -8,19 +8,12 @@ use memory::state::State;
 use node::record::NodeId;
 use steal_log::StealTable;
 use voice_rows::row::VoiceTable;
-use voice_rows::row::state_at;
 ghost use mathlib.Core.Path.{_≡_};
 ghost use Rattle.edges.specs.declared.ports.Port.{Port};
 ghost use Rattle.memory.specs.View.{Memory, modelOf};
 ghost use Rattle.memory.specs.Lent.{lentSpawn};
 ghost use Rattle.bus_room.specs.Reclaimed.{isPort};
-ghost use Rattle.bus_room.specs.Room.{Tries, Makes};
-
-// What one try left: the state, and whether a voice was removed.
-pub struct Tried {
-    pub state: State,
-    pub removed: bool,
-}
+ghost use Rattle.bus_room.specs.Room.{Makes};
 
 // The state, and the lowest free port of the bus, if there is one.
 pub struct Room {
@@ -34,34 +27,6 @@ fn is_port(p: Port) -> bool
     match p {
         Port::At(_) => true,
         Port::Nothing => false,
-    }
-}
-
-// One voice of `bus` is removed for a new voice of rank `rank`, if there is one that may be.
-fn remove_next(
-    s: State,
-    nodes: &mut NodeTable,
-    edges: &mut EdgeTable,
-    voices: &mut VoiceTable,
-    steals: &mut StealTable,
-    bus: NodeId,
-    rank: u32,
-) -> Tried
-    ensures { λ r. ⌜ ((m : Memory) → Tries bus rank (modelOf (lentSpawn s (now (nodes .entry)) (now (edges .entry)) (now (voices .entry)) (now (steals .entry)) m)) (modelOf (lentSpawn (r .state) (now (nodes .exit)) (now (edges .exit)) (now (voices .exit)) (now (steals .exit)) m)) (r .removed)) ⌝ }
-{
-    let next = next_out(s, nodes, voices, bus, rank);
-    if next.found {
-        let row = next.row;
-        let how = state_at(voices, row);
-        let state = cut_voice(s, nodes, edges, voices, steals, row, how);
-        return Tried {
-            state,
-            removed: true,
-        };
-    }
-    Tried {
-        state: s,
-        removed: false,
     }
 }
 
@@ -86,9 +51,9 @@ pub fn make_room(
         if is_port(port) {
             left = 0;
         } else {
-            let one = remove_next(state, nodes, edges, voices, steals, bus, rank);
-            state = one.state;
-            if one.removed {
+            let next = next_out(state, nodes, voices, bus, rank);
+            if next.found {
+                state = cut_voice(state, nodes, edges, voices, steals, next.row);
                 port = bus_port(state, nodes, edges, bus);
                 left -= 1;
             } else {

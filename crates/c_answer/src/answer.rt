@@ -14,7 +14,7 @@ ghost use mathlib.Core.Option.{some};
 ghost use Rattle.node.specs.Refusal.{numberOf};
 ghost use Rattle.model.specs.Call as call;
 ghost use Rattle.model.specs.Numbers.{number, numberIn, renderSays};
-ghost use Rattle.memory.specs.Called.{answered, granted, keeps};
+ghost use Rattle.memory.specs.Called.{answered, addAnswered, keeps};
 ghost use Rattle.c_answer.specs.Exported.{code, renderCode, nodeCell, voiceCell, soundCell, takenCell, Settled};
 
 pub fn number_of(r: Refusal) -> u32
@@ -49,7 +49,7 @@ pub fn answer_kept(a: Answer) -> bool
 }
 
 pub fn add_code(a: AddAnswer) -> u32
-    ensures { λ k. ⌜ k ≡ code (granted a) ⌝ }
+    ensures { λ k. ⌜ k ≡ code (addAnswered a) ⌝ }
 {
     match a {
         AddAnswer::Id(_) => 0,
@@ -58,7 +58,7 @@ pub fn add_code(a: AddAnswer) -> u32
 }
 
 pub fn add_kept(a: AddAnswer) -> bool
-    ensures { λ b. ⌜ b ≡ keeps (numberIn (granted a)) ⌝ }
+    ensures { λ b. ⌜ b ≡ keeps (numberIn (addAnswered a)) ⌝ }
 {
     match a {
         AddAnswer::Id(_) => false,

@@ -12,14 +12,14 @@ use Rattle.graph.specs.declared.state.Answer.the-variants as Answer
 use Rattle.graph.specs.Tables.{answerOf}
 use Rattle.node.specs.declared.refusal.Refusal.{Refusal}
 use Rattle.store.specs.declared.answer.Spawned.{Spawned}
-use Rattle.model.specs.Model.{Model}
-use Rattle.model.specs.Call.{Step, step, spawned, spawnManaged, spawnLoose}
+use Rattle.model.specs.Call.{Step, step, spawned}
 use Rattle.memory.specs.View.{Memory, modelOf}
 use Rattle.memory.specs.Called as store
-use Rattle.console.specs.declared.wish.Wish.{Wish}
+use Rattle.store.specs.declared.wish.Wish.{Wish}
 use Rattle.console.specs.declared.refusal.KeyboardRefusal.{KeyboardRefusal}
 use Rattle.console.specs.declared.refusal.KeyboardRefusal.the-variants.{OutOfRange, Full}
-use Rattle.console.specs.Wishes.{spawnIn, callOf, Wishes, keyboards, waitingAt, wishRefusal, added, after, oldestOr, search, picked, takenFrom, keyboardsRefusal}
+use Rattle.model.specs.Wish.{callOf}
+use Rattle.console.specs.Wishes.{Wishes, keyboards, waitingAt, wishRefusal, added, after, oldestOr, search, picked, takenFrom, keyboardsRefusal}
 use Rattle.console.specs.Console.{Console, wish, turn, accepted, refused, served, empty, wished, turned, made, withKeyboards, madeUnless}
 use Rattle.wish_rows.specs.Rows.{wishOf, wishesIn}
 use Rattle.call_console.specs.declared.queues.WishState.{WishState}
@@ -160,10 +160,3 @@ serves m n s t c q w a waits oldest pick left called =
     ap (λ (x : Step). record { answer = served q (x .answer); console = record { model = x .model; wishes = wishesOf t c } }) called
     ∙ ap (λ (ws : Wishes). record { answer = served q (step (callOf w) (modelOf m) .answer); console = record { model = step (callOf w) (modelOf m) .model; wishes = ws } }) left
     ∙ sym (ap (λ o. turned o (consoleOf (memory m s c))) (pick ∙ oldest-is s c q waits ∙ ap (λ (x : Wish). some (record { keyboard = q; wish = x })) (sym oldest)))
-
--- the spawn that a wish is for
-pub by-managed : (w : Wish) (m : Model) (s : Step) → w .managed ≡ true → s ≡ step (spawnManaged (spawnIn w)) m → s ≡ step (callOf w) m
-by-managed w m s e is = is ∙ ap (λ b. step (cond b (spawnManaged (spawnIn w)) (spawnLoose (spawnIn w))) m) (sym e)
-
-pub by-loose : (w : Wish) (m : Model) (s : Step) → w .managed ≡ false → s ≡ step (spawnLoose (spawnIn w)) m → s ≡ step (callOf w) m
-by-loose w m s e is = is ∙ ap (λ b. step (cond b (spawnManaged (spawnIn w)) (spawnLoose (spawnIn w))) m) (sym e)

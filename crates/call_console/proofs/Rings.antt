@@ -13,7 +13,7 @@ use lib.Seq.{getD-set-same, getD-set-other}
 use borrow.Author.Tests.{eqb-true, eqb-false}
 use Rattle.voice_rows.specs.Rows.{each}
 use Rattle.voice_rows.proofs.Filling.{each-long, each-at, each-is, each-same}
-use Rattle.console.specs.declared.wish.Wish.{Wish}
+use Rattle.store.specs.declared.wish.Wish.{Wish}
 use Rattle.console.specs.Wishes.{keyboards, waitingAt, added, rest, after, takenFrom, newWishes, oldestOr}
 use Rattle.wish_rows.specs.Rows.{wishOf, wishesIn}
 use Rattle.call_console.specs.declared.queues.Queue.{Queue}

@@ -6,7 +6,7 @@ use mathlib.Core.List.{List, []}
 use mathlib.Core.Option.{Option, none, some}
 use lib.ListN.{getD}
 use Rattle.voice_rows.specs.Rows.{each}
-use Rattle.console.specs.declared.wish.Wish.{Wish}
+use Rattle.store.specs.declared.wish.Wish.{Wish}
 use Rattle.console.specs.Wishes.{Wishes, waitingAt, Picked, oldestOr}
 use Rattle.wish_rows.specs.Rows.{wishOf, wishesIn}
 use Rattle.call_console.specs.declared.queues.Queue.{Queue}

@@ -2,6 +2,5 @@
 // store stays as it is; it is not lent the wishes.
 pub mod making;
 pub mod queues;
-pub mod serving;
 pub mod turning;
 pub mod wishing;

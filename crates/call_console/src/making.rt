@@ -5,16 +5,13 @@ use console::refusal::KeyboardRefusal;
 use graph::state::Answer;
 use memory::state::State;
 use node::refusal::Refusal;
-use voice::policy::Budget;
-use voice::policy::BudgetScope;
-use voice::policy::StealPolicy;
+use store::config::Making;
 ghost use mathlib.Core.Path.{_≡_};
 ghost use mathlib.Core.List.{List};
 ghost use Prim.Native.Nat.{ℕ};
 ghost use Rattle.console.specs.Console.{makeConsole};
 ghost use Rattle.memory.specs.View.{Memory};
 ghost use Rattle.memory.specs.Lent.{lentState};
-ghost use Rattle.call_make.specs.Made.{making};
 ghost use Rattle.call_console.specs.Called.{memory, consoleOf, madeOf, Judged};
 
 // What making a console is answered: done, one of the store's refusals, or 24.
@@ -50,18 +47,10 @@ fn judge(made: Answer, keyboards: usize) -> MakeAnswer
 }
 
 // A new console: a new store, as `call_make::make` makes it, and so many keyboards at which nothing waits.
-pub fn make_console(
-    rate: f32,
-    block: usize,
-    budget: Budget,
-    policy: StealPolicy,
-    scope: BudgetScope,
-    table: bool,
-    keyboards: usize,
-) -> ConsoleMade
-    ensures { λ r. ⌜ ((m : Memory) (c : List ℕ) → madeOf (r .answer) (consoleOf (memory (lentState (r .state) m) (r .wishes) c)) ≡ makeConsole (making rate block budget policy scope table) keyboards) ⌝ }
+pub fn make_console(making: Making, keyboards: usize) -> ConsoleMade
+    ensures { λ r. ⌜ ((m : Memory) (c : List ℕ) → madeOf (r .answer) (consoleOf (memory (lentState (r .state) m) (r .wishes) c)) ≡ makeConsole making keyboards) ⌝ }
 {
-    let made = make(rate, block, budget, policy, scope, table);
+    let made = make(making);
     let state = made.state;
     let heard = made.answer;
     let answer = judge(heard, keyboards);

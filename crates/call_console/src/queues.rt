@@ -1,5 +1,5 @@
 // Which rows of the lent wishes wait, keyboard by keyboard.
-use console::wish::Wish;
+use store::wish::Wish;
 use wish_rows::row::put_wish;
 use wish_rows::row::wish_at;
 use words::table::at_most;

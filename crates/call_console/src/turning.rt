@@ -3,7 +3,7 @@ use crate::queues::WishState;
 use crate::queues::drop_oldest;
 use crate::queues::next_keyboard;
 use crate::queues::oldest_wish;
-use crate::serving::serve;
+use call_spawn::spawn::spawn_voice;
 use graph_rows::edge_row::EdgeTable;
 use graph_rows::node_row::NodeTable;
 use memory::state::State;
@@ -53,7 +53,7 @@ pub fn turn(
         Keyboard::At(keyboard) => {
             let oldest = oldest_wish(w, wishes, keyboard);
             let left = drop_oldest(w, keyboard);
-            let result = serve(s, nodes, edges, voices, steals, oldest);
+            let result = spawn_voice(s, nodes, edges, voices, steals, oldest);
             let state = result.state;
             let answer = result.answer;
             TurnResult {

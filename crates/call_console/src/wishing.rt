@@ -3,7 +3,7 @@ use crate::queues::add_wish;
 use crate::queues::keyboard_count;
 use crate::queues::waiting_count;
 use console::refusal::KeyboardRefusal;
-use console::wish::Wish;
+use store::wish::Wish;
 use wish_rows::row::WishTable;
 ghost use mathlib.Core.Path.{_≡_};
 ghost use lib.ListN.{length};

@@ -1,6 +1,7 @@
 use crate::refusals::host_answer;
 use crate::refusals::port_answer;
 use crate::refusals::wire_answer;
+use graph::host::HostNode;
 use graph::host::host_node;
 use graph::state::AddAnswer;
 use graph::state::Answer;
@@ -23,23 +24,14 @@ ghost use mathlib.Core.Path.{_≡_};
 ghost use Rattle.model.specs.Call.{addNode, removeNode, connect, disconnect, setSink};
 ghost use Rattle.memory.specs.View.{Memory};
 ghost use Rattle.memory.specs.Lent.{lentNodes, lentGraph};
-ghost use Rattle.memory.specs.Called.{Called, Kept, answered, granted};
+ghost use Rattle.memory.specs.Called.{Called, Kept, answered, addAnswered};
 
-// The host adds a node: a kind name of 1 to 16 bytes, up to 64 ports, of which bit p of `required` says that port p must be
-// connected, and whether it takes values and glides.
-pub fn add_node(
-    s: State,
-    nodes: &mut NodeTable,
-    kind: &[u8],
-    ports: u32,
-    required: u64,
-    values: bool,
-    glides: bool,
-) -> AddResult
-    ensures is { λ r. ⌜ ((m : Memory) → Called (addNode (now (kind .entry)) ports required values glides) (lentNodes s (now (nodes .entry)) m) (granted (r .given)) (lentNodes (r .state) (now (nodes .exit)) m)) ⌝ }
-    ensures same { λ r. ⌜ ((m : Memory) → Kept (granted (r .given)) (lentNodes s (now (nodes .entry)) m) (lentNodes (r .state) (now (nodes .exit)) m)) ⌝ }
+// The host adds a node, of a kind name of 1 to 16 bytes and up to 64 ports.
+pub fn add_node(s: State, nodes: &mut NodeTable, kind: &[u8], n: HostNode) -> AddResult
+    ensures is { λ r. ⌜ ((m : Memory) → Called (addNode (now (kind .entry)) (n .ports) (n .required) (n .«takes_values») (n .«takes_glides»)) (lentNodes s (now (nodes .entry)) m) (addAnswered (r .given)) (lentNodes (r .state) (now (nodes .exit)) m)) ⌝ }
+    ensures same { λ r. ⌜ ((m : Memory) → Kept (addAnswered (r .given)) (lentNodes s (now (nodes .entry)) m) (lentNodes (r .state) (now (nodes .exit)) m)) ⌝ }
 {
-    if is_bad_kind(kind, ports, required) {
+    if is_bad_kind(kind, n) {
         return AddResult {
             state: s,
             given: AddAnswer::Refused(Refusal::PortOrKind),
@@ -58,11 +50,11 @@ pub fn add_node(
         };
     }
     let id = s.next as u32;
-    let mut row = host_node(kind, ports, required, values, glides);
+    let mut row = host_node(kind, n);
     row.id.0 = id;
-    let n = append_node(nodes, s.nodes, row);
+    let count = append_node(nodes, s.nodes, row);
     let sink = s.sink;
-    let state = with_graph(s, n, s.edges, sink, s.next + 1);
+    let state = with_graph(s, count, s.edges, sink, s.next + 1);
     AddResult {
         state,
         given: AddAnswer::Id(NodeId(id)),
@@ -112,23 +104,16 @@ pub fn remove_node(
     }
 }
 
-// The output of `from` feeds the port `port` of `to`, in the place of what fed it.
-pub fn connect(
-    s: State,
-    nodes: &NodeTable,
-    edges: &mut EdgeTable,
-    from: NodeId,
-    to: NodeId,
-    port: u32,
-) -> HostResult
-    ensures is { λ r. ⌜ ((m : Memory) → Called (connect from to port) (lentGraph s (now (nodes .entry)) (now (edges .entry)) m) (answered (r .answer)) (lentGraph (r .state) (now (nodes .entry)) (now (edges .exit)) m)) ⌝ }
+// The output of `e.from` feeds the port `e.port` of `e.to`, in the place of what fed it.
+pub fn connect(s: State, nodes: &NodeTable, edges: &mut EdgeTable, e: Edge) -> HostResult
+    ensures is { λ r. ⌜ ((m : Memory) → Called (connect (e .from) (e .to) (e .port)) (lentGraph s (now (nodes .entry)) (now (edges .entry)) m) (answered (r .answer)) (lentGraph (r .state) (now (nodes .entry)) (now (edges .exit)) m)) ⌝ }
     ensures same { λ r. ⌜ ((m : Memory) → Kept (answered (r .answer)) (lentGraph s (now (nodes .entry)) (now (edges .entry)) m) (lentGraph (r .state) (now (nodes .entry)) (now (edges .exit)) m)) ⌝ }
 {
-    let test = wire_answer(s, nodes, edges, from, to, port);
+    let test = wire_answer(s, nodes, edges, e);
     match test {
         Answer::Refused(why) => refuse(s, why),
         Answer::Done => {
-            let n = put_edge(edges, s.edges, Edge { from, to, port });
+            let n = put_edge(edges, s.edges, e);
             let sink = s.sink;
             let state = with_graph(s, s.nodes, n, sink, s.next);
             HostResult {

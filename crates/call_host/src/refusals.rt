@@ -7,6 +7,7 @@ use graph_tables::tests::port_test;
 use graph_tables::tests::wire_test;
 use graph_tables::wiring::no_place;
 use memory::state::State;
+use node::record::Edge;
 use node::record::NodeId;
 ghost use mathlib.Core.Path.{_≡_};
 ghost use lib.ListN.{take};
@@ -31,22 +32,15 @@ pub fn port_answer(s: State, nodes: &NodeTable, to: NodeId, port: u32) -> Answer
     port_test(brief_of(nodes, s.nodes, to), port)
 }
 
-// Whether `from` can feed the port `port` of `to`: 4, 5, 6, 7.
-pub fn wire_answer(
-    s: State,
-    nodes: &NodeTable,
-    edges: &EdgeTable,
-    from: NodeId,
-    to: NodeId,
-    port: u32,
-) -> Answer
-    ensures { λ r. ⌜ r ≡ answerOf (wireTest (nodeAt (take (s .nodes) (nodesIn (now (nodes .entry)))) from) (nodeAt (take (s .nodes) (nodesIn (now (nodes .entry)))) to) port (noPlace (take (s .edges) (edgesIn (now (edges .entry)))) to port)) ⌝ }
+// Whether `e.from` can feed the port `e.port` of `e.to`: 4, 5, 6, 7.
+pub fn wire_answer(s: State, nodes: &NodeTable, edges: &EdgeTable, e: Edge) -> Answer
+    ensures { λ r. ⌜ r ≡ answerOf (wireTest (nodeAt (take (s .nodes) (nodesIn (now (nodes .entry)))) (e .from)) (nodeAt (take (s .nodes) (nodesIn (now (nodes .entry)))) (e .to)) (e .port) (noPlace (take (s .edges) (edgesIn (now (edges .entry)))) (e .to) (e .port))) ⌝ }
 {
-    let full = no_place(edges, s.edges, to, port);
+    let full = no_place(edges, s.edges, e.to, e.port);
     wire_test(
-        brief_of(nodes, s.nodes, from),
-        brief_of(nodes, s.nodes, to),
-        port,
+        brief_of(nodes, s.nodes, e.from),
+        brief_of(nodes, s.nodes, e.to),
+        e.port,
         full,
     )
 }

@@ -6,9 +6,8 @@ use graph::state::Sink;
 use memory::state::State;
 use node::refusal::Refusal;
 use store::config::Config;
+use store::config::Making;
 use voice::policy::Budget;
-use voice::policy::BudgetScope;
-use voice::policy::StealPolicy;
 ghost use mathlib.Core.Path.{_≡_};
 ghost use mathlib.Core.Bool.{_&&_};
 ghost use lib.Dec.{leb};
@@ -18,7 +17,7 @@ ghost use Rattle.model.specs.Refuse.{noRate, overBudget, otherRate, makeRefusal
 ghost use Rattle.model.specs.Make.{make, wholeOr0, newModel, configOf, refusalOf};
 ghost use Rattle.memory.specs.View.{Memory, modelOf};
 ghost use Rattle.memory.specs.Lent.{lentState};
-ghost use Rattle.call_make.specs.Made.{making, ifDone};
+ghost use Rattle.call_make.specs.Made.{ifDone};
 
 // The state beside the answer: of the arguments as they are, where making is refused.
 pub struct Made {
@@ -113,29 +112,24 @@ fn new_state(config: Config) -> State
     }
 }
 
-// A new store: a sample rate in hertz, the samples of a block, how many voices may be tracked, which goes, and among
-// which ones, and whether fades take their gains from the fade table.
-pub fn make(
-    rate: f32,
-    block: usize,
-    budget: Budget,
-    policy: StealPolicy,
-    scope: BudgetScope,
-    table: bool,
-) -> Made
-    ensures is { λ r. ⌜ ((m : Memory) → ifDone (r .answer) (modelOf (lentState (r .state) m)) ≡ make (making rate block budget policy scope table)) ⌝ }
-    ensures answer { λ r. ⌜ r .answer ≡ answerOf (refusalOf (making rate block budget policy scope table)) ⌝ }
-    ensures state { λ r. ⌜ ((m : Memory) → modelOf (lentState (r .state) m) ≡ newModel (configOf (making rate block budget policy scope table))) ⌝ }
+// A new store, of what the host asks for.
+pub fn make(making: Making) -> Made
+    ensures is { λ r. ⌜ ((m : Memory) → ifDone (r .answer) (modelOf (lentState (r .state) m)) ≡ make making) ⌝ }
+    ensures answer { λ r. ⌜ r .answer ≡ answerOf (refusalOf making) ⌝ }
+    ensures state { λ r. ⌜ ((m : Memory) → modelOf (lentState (r .state) m) ≡ newModel (configOf making)) ⌝ }
 {
-    let heard = sample_rate(rate);
-    let answer = make_test(heard, block, budget, table);
+    let heard = sample_rate(making.rate);
+    let budget = making.budget;
+    let policy = making.policy;
+    let scope = making.scope;
+    let answer = make_test(heard, making.block, budget, making.table);
     let config = Config {
         rate: hertz(heard),
-        block,
+        block: making.block,
         budget,
         policy,
         scope,
-        table,
+        table: making.table,
     };
     let state = new_state(config);
     Made { state, answer }

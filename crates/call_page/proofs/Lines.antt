@@ -1,4 +1,4 @@
--- The port that a voice feeds, its line, and the lines of one voice more.
+-- The port that a voice feeds, its line, and the page of one voice more.
 use Prim.Native.Nat.{ℕ, _+_, _<_}
 use native.Mathlib.Numerals.{add-one}
 use mathlib.Core.Path.{_≡_, refl, sym, ap, _∙_}
@@ -10,7 +10,7 @@ use lib.Seq.{take-suc}
 use Rattle.node.specs.Silence.{bytes}
 use Rattle.model.specs.Decimal.{decimal}
 use Rattle.model.specs.Voice.{endOf}
-use Rattle.model.specs.Page.{word, age, portNow, portText, line, lines}
+use Rattle.model.specs.Page.{word, age, portNow, portText, header, line, lines, page}
 use Rattle.lists.specs.Find.{find, or?, mapO}
 use Rattle.node.specs.declared.record.NodeId.{NodeId}
 use Rattle.node.specs.declared.record.VoiceId.{VoiceId}
@@ -46,8 +46,12 @@ module _ (clock : ℕ) (port : Voice → Option ℕ) where
   lines-both [] b = refl
   lines-both (v ∷ a) b = ap (_++_ (line clock (port v) v)) (lines-both a b) ∙ sym (append-assoc (line clock (port v) v) (lines clock port a) (lines clock port b))
 
-  pub lines-more : (i : ℕ) (rows : List Voice) (d : Voice) → i < length rows → lines clock port (take i rows) ++ line clock (port (getD rows i d)) (getD rows i d) ≡ lines clock port (take (i + 1) rows)
+  lines-more : (i : ℕ) (rows : List Voice) (d : Voice) → i < length rows → lines clock port (take i rows) ++ line clock (port (getD rows i d)) (getD rows i d) ≡ lines clock port (take (i + 1) rows)
   lines-more i rows d h =
       let v = getD rows i d in
       let one : lines clock port (v ∷ []) ≡ line clock (port v) v = append-nil (line clock (port v) v) in
       sym (ap (λ (k : ℕ). lines clock port (take k rows)) (add-one i) ∙ ap (lines clock port) (take-suc rows i d h) ∙ lines-both (take i rows) (v ∷ []) ∙ ap (_++_ (lines clock port (take i rows))) one)
+
+  pub page-more : (i : ℕ) (rows : List Voice) (d : Voice) → i < length rows → page clock port (take i rows) ++ line clock (port (getD rows i d)) (getD rows i d) ≡ page clock port (take (i + 1) rows)
+  page-more i rows d h =
+      append-assoc header (lines clock port (take i rows)) (line clock (port (getD rows i d)) (getD rows i d)) ∙ ap (_++_ header) (lines-more i rows d h)

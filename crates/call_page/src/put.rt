@@ -105,29 +105,7 @@ fn put_line(
     b + put_state(state, &mut out[b..])
 }
 
-// The lines of the first `count` voices.
-fn put_lines(
-    clock: u64,
-    edges: &EdgeTable,
-    wired: usize,
-    t: &[u32],
-    count: usize,
-    out: &mut [u8],
-) -> usize
-    requires { ⌜ (length (now t) ≡ 9152) × (4480 ≤ length (now out)) ⌝ }
-    ensures { λ r. ⌜ Put 4480 (paper.lines clock (paper.portNow (take wired (edgesIn (now (edges .entry))))) (take count (voicesIn (now (t .entry))))) (now (out .entry)) (now (out .exit)) r ⌝ }
-{
-    let n = at_most(count, t.len() / 143);
-    let mut at: usize = 0;
-    let mut i: usize = 0;
-    while i < n {
-        at += put_line(clock, edges, wired, t, i, &mut out[at..]);
-        i += 1;
-    }
-    at
-}
-
-// The header, and the lines: at most 21 + 64 x 70 bytes.
+// The header, and the lines of the first `count` voices: at most 21 + 64 x 70 bytes.
 pub(crate) fn put_page(
     clock: u64,
     edges: &EdgeTable,
@@ -139,6 +117,12 @@ pub(crate) fn put_page(
     requires { ⌜ (length (now t) ≡ 9152) × (4501 ≤ length (now out)) ⌝ }
     ensures { λ r. ⌜ Put 4501 (paper.page clock (paper.portNow (take wired (edgesIn (now (edges .entry))))) (take count (voicesIn (now (t .entry))))) (now (out .entry)) (now (out .exit)) r ⌝ }
 {
-    let k = copy(b"voice age port state\n", out);
-    k + put_lines(clock, edges, wired, t, count, &mut out[k..])
+    let n = at_most(count, t.len() / 143);
+    let mut at = copy(b"voice age port state\n", out);
+    let mut i: usize = 0;
+    while i < n {
+        at += put_line(clock, edges, wired, t, i, &mut out[at..]);
+        i += 1;
+    }
+    at
 }

@@ -15,12 +15,7 @@ pub(crate) fn takes_at(t: &[u32], i: usize, o: LastOrder) -> bool
     match o {
         LastOrder::Nothing => false,
         LastOrder::Value(_) => flag_at(t, 22, i, 11),
-        LastOrder::Glide {
-            target: _,
-            seconds: _,
-            shape: _,
-            space: _,
-        } => flag_at(t, 22, i, 12),
+        LastOrder::Glide(_) => flag_at(t, 22, i, 12),
     }
 }
 

@@ -5,8 +5,7 @@ use graph_rows::node_row::NodeTable;
 use memory::state::State;
 use node::name::Name;
 use node::name::name_of;
-use node::order::GlideShape;
-use node::order::GlideSpace;
+use node::order::Glide;
 use node::order::LastOrder;
 use node::record::VoiceId;
 use store::answer::Outcome;
@@ -59,6 +58,22 @@ pub fn order_voice(
     }
 }
 
+// An order for the parameter `name` of the voice `voice`, where no voice waits to be removed.
+fn set_order(
+    s: State,
+    nodes: &mut NodeTable,
+    voices: &VoiceTable,
+    voice: VoiceId,
+    name: &[u8],
+    o: LastOrder,
+) -> Outcome
+    ensures is { λ r. ⌜ ((m : Memory) → Called (call.order voice (now (name .entry)) o) (lentParams s (now (nodes .entry)) (now (voices .entry)) m) (ordered r) (lentParams s (now (nodes .exit)) (now (voices .entry)) m)) ⌝ }
+    ensures same { λ r. ⌜ (isYes r ≡ false → now (nodes .exit) ≡ now (nodes .entry)) ⌝ }
+{
+    let nobody = [0u64; 1];
+    order_voice(s, nodes, voices, &nobody[..0], voice, name_of(name), o)
+}
+
 // A value for the parameter `name` of the voice `voice`.
 pub fn set_voice_param(
     s: State,
@@ -71,39 +86,20 @@ pub fn set_voice_param(
     ensures is { λ r. ⌜ ((m : Memory) → Called (call.order voice (now (name .entry)) (last.Value value)) (lentParams s (now (nodes .entry)) (now (voices .entry)) m) (ordered r) (lentParams s (now (nodes .exit)) (now (voices .entry)) m)) ⌝ }
     ensures same { λ r. ⌜ (isYes r ≡ false → now (nodes .exit) ≡ now (nodes .entry)) ⌝ }
 {
-    let nobody = [0u64; 1];
-    order_voice(
-        s,
-        nodes,
-        voices,
-        &nobody[..0],
-        voice,
-        name_of(name),
-        LastOrder::Value(value),
-    )
+    set_order(s, nodes, voices, voice, name, LastOrder::Value(value))
 }
 
-// A glide to `target` within `seconds` for the parameter `name` of the voice `voice`.
+// A glide for the parameter `name` of the voice `voice`.
 pub fn set_voice_param_glide(
     s: State,
     nodes: &mut NodeTable,
     voices: &VoiceTable,
     voice: VoiceId,
     name: &[u8],
-    target: f32,
-    seconds: f32,
-    shape: GlideShape,
-    space: GlideSpace,
+    glide: Glide,
 ) -> Outcome
-    ensures is { λ r. ⌜ ((m : Memory) → Called (call.order voice (now (name .entry)) (last.Glide target seconds shape space)) (lentParams s (now (nodes .entry)) (now (voices .entry)) m) (ordered r) (lentParams s (now (nodes .exit)) (now (voices .entry)) m)) ⌝ }
+    ensures is { λ r. ⌜ ((m : Memory) → Called (call.order voice (now (name .entry)) (last.Glide glide)) (lentParams s (now (nodes .entry)) (now (voices .entry)) m) (ordered r) (lentParams s (now (nodes .exit)) (now (voices .entry)) m)) ⌝ }
     ensures same { λ r. ⌜ (isYes r ≡ false → now (nodes .exit) ≡ now (nodes .entry)) ⌝ }
 {
-    let nobody = [0u64; 1];
-    let o = LastOrder::Glide {
-        target,
-        seconds,
-        shape,
-        space,
-    };
-    order_voice(s, nodes, voices, &nobody[..0], voice, name_of(name), o)
+    set_order(s, nodes, voices, voice, name, LastOrder::Glide(glide))
 }

@@ -1,4 +1,4 @@
--- The walk over the events: those that are due applyEvent, one after the other.
+-- The walk over the events: those that are due are applied, one after the other.
 use Prim.Native.Nat.{ℕ, suc, _+_, _≤_, _<_}
 use native.Mathlib.Omega.{arith}
 use mathlib.Core.Path.{_≡_, refl, sym, ap, ap₂, _∙_}

@@ -12,8 +12,8 @@ use Rattle.model.specs.Call.{Call, Answer, Step}
 use Rattle.model.specs.Call as call
 use Rattle.memory.specs.View.{Memory}
 use Rattle.memory.specs.Called as store
-use Rattle.console.specs.declared.wish.Wish.{Wish}
-use Rattle.console.specs.Wishes.{spawnIn, callOf}
+use Rattle.store.specs.declared.wish.Wish.{Wish}
+use Rattle.model.specs.Wish.{spawnIn, callOf}
 use Rattle.console.specs.Console.{ConsoleCall, ConsoleAnswer, ConsoleStep, plain, consoleStep}
 use Rattle.console.specs.Console as console
 use Rattle.call_console.specs.declared.queues.WishState.{WishState}

@@ -7,7 +7,7 @@ use lib.Dec.{eqb, leb}
 use Rattle.node.specs.declared.record.NodeId.{NodeId}
 use Rattle.model.specs.Call.{Call, spawned}
 use Rattle.memory.specs.View.{Memory}
-use Rattle.memory.specs.Called.{answered, granted}
+use Rattle.memory.specs.Called.{answered, addAnswered}
 use Rattle.console.specs.Console.{plain}
 use Rattle.console.specs.Console as console
 use Rattle.call_console.specs.declared.queues.WishState.{WishState}
@@ -68,7 +68,7 @@ hostAnswer (BoardHost.Given a) = given (plain (answered a))
 
 abbrev pub nodeAnswer : BoardNode → BoardAnswer
 nodeAnswer BoardNode.Closed = refused Closed
-nodeAnswer (BoardNode.Given a) = given (plain (granted a))
+nodeAnswer (BoardNode.Given a) = given (plain (addAnswered a))
 
 abbrev pub spawnAnswer : BoardSpawned → BoardAnswer
 spawnAnswer BoardSpawned.Closed = refused Closed

@@ -1,10 +1,12 @@
 // The host's nodes, wiring and sink on a board: closed by every seal, before all else that these calls refuse.
 use crate::closing::is_sealed;
+use graph::host::HostNode;
 use graph::state::AddAnswer;
 use graph::state::Answer;
 use graph_rows::edge_row::EdgeTable;
 use graph_rows::node_row::NodeTable;
 use memory::state::State;
+use node::record::Edge;
 use node::record::NodeId;
 use sealed::profile::Seal;
 ghost use mathlib.Core.List.{List};
@@ -39,17 +41,8 @@ pub struct BoardAdded {
 }
 
 // The host adds a node, unless the board is sealed.
-pub fn add_node(
-    x: Seal,
-    s: State,
-    nodes: &mut NodeTable,
-    kind: &[u8],
-    ports: u32,
-    required: u64,
-    values: bool,
-    glides: bool,
-) -> BoardAdded
-    ensures is { λ r. ⌜ ((m : Memory) (w : WishState) (c : List ℕ) → BoardCalled (onStore (addNode (now (kind .entry)) ports required values glides)) (board (lentNodes s (now (nodes .entry)) m) w c x) (nodeAnswer (r .answer)) (board (lentNodes (r .state) (now (nodes .exit)) m) w c x)) ⌝ }
+pub fn add_node(x: Seal, s: State, nodes: &mut NodeTable, kind: &[u8], n: HostNode) -> BoardAdded
+    ensures is { λ r. ⌜ ((m : Memory) (w : WishState) (c : List ℕ) → BoardCalled (onStore (addNode (now (kind .entry)) (n .ports) (n .required) (n .«takes_values») (n .«takes_glides»))) (board (lentNodes s (now (nodes .entry)) m) w c x) (nodeAnswer (r .answer)) (board (lentNodes (r .state) (now (nodes .exit)) m) w c x)) ⌝ }
     ensures same { λ r. ⌜ ((m : Memory) (w : WishState) (c : List ℕ) → BoardKept (nodeAnswer (r .answer)) (board (lentNodes s (now (nodes .entry)) m) w c x) (board (lentNodes (r .state) (now (nodes .exit)) m) w c x)) ⌝ }
 {
     if is_sealed(x) {
@@ -58,7 +51,7 @@ pub fn add_node(
             answer: BoardNode::Closed,
         };
     }
-    let result = call_host::host::add_node(s, nodes, kind, ports, required, values, glides);
+    let result = call_host::host::add_node(s, nodes, kind, n);
     let state = result.state;
     let given = result.given;
     BoardAdded {
@@ -93,17 +86,9 @@ pub fn remove_node(
     }
 }
 
-// The output of `from` feeds the port `port` of `to`, unless the board is sealed.
-pub fn connect(
-    x: Seal,
-    s: State,
-    nodes: &NodeTable,
-    edges: &mut EdgeTable,
-    from: NodeId,
-    to: NodeId,
-    port: u32,
-) -> BoardHost
-    ensures is { λ r. ⌜ ((m : Memory) (w : WishState) (c : List ℕ) → BoardCalled (onStore (connect from to port)) (board (lentGraph s (now (nodes .entry)) (now (edges .entry)) m) w c x) (hostAnswer (r .answer)) (board (lentGraph (r .state) (now (nodes .entry)) (now (edges .exit)) m) w c x)) ⌝ }
+// The output of `e.from` feeds the port `e.port` of `e.to`, unless the board is sealed.
+pub fn connect(x: Seal, s: State, nodes: &NodeTable, edges: &mut EdgeTable, e: Edge) -> BoardHost
+    ensures is { λ r. ⌜ ((m : Memory) (w : WishState) (c : List ℕ) → BoardCalled (onStore (connect (e .from) (e .to) (e .port))) (board (lentGraph s (now (nodes .entry)) (now (edges .entry)) m) w c x) (hostAnswer (r .answer)) (board (lentGraph (r .state) (now (nodes .entry)) (now (edges .exit)) m) w c x)) ⌝ }
     ensures same { λ r. ⌜ ((m : Memory) (w : WishState) (c : List ℕ) → BoardKept (hostAnswer (r .answer)) (board (lentGraph s (now (nodes .entry)) (now (edges .entry)) m) w c x) (board (lentGraph (r .state) (now (nodes .entry)) (now (edges .exit)) m) w c x)) ⌝ }
 {
     if is_sealed(x) {
@@ -112,7 +97,7 @@ pub fn connect(
             answer: BoardAnswer::Closed,
         };
     }
-    let result = call_host::host::connect(s, nodes, edges, from, to, port);
+    let result = call_host::host::connect(s, nodes, edges, e);
     let state = result.state;
     let given = result.answer;
     BoardHost {

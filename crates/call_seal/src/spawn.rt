@@ -1,18 +1,18 @@
 // The spawn on a board: which of the two, and all its arguments, go together as a wish does. Every seal closes the unmanaged one, and the
 // managed one that is on another bus or larger than the profile says; before all else that a spawn refuses.
 use crate::closing::shuts_spawn;
-use call_console::serving::serve;
-use console::wish::Wish;
+use call_spawn::spawn::spawn_voice;
 use graph_rows::edge_row::EdgeTable;
 use graph_rows::node_row::NodeTable;
 use memory::state::State;
 use sealed::profile::Seal;
 use steal_log::StealTable;
 use store::answer::Spawned;
+use store::wish::Wish;
 use voice_rows::row::VoiceTable;
 ghost use mathlib.Core.List.{List};
 ghost use Prim.Native.Nat.{ℕ};
-ghost use Rattle.console.specs.Wishes.{callOf};
+ghost use Rattle.model.specs.Wish.{callOf};
 ghost use Rattle.memory.specs.View.{Memory};
 ghost use Rattle.memory.specs.Lent.{lentSpawn};
 ghost use Rattle.call_console.specs.declared.queues.WishState.{WishState};
@@ -50,7 +50,7 @@ pub fn spawn(
             answer: BoardSpawned::Closed,
         };
     }
-    let result = serve(s, nodes, edges, voices, steals, w);
+    let result = spawn_voice(s, nodes, edges, voices, steals, w);
     let state = result.state;
     let given = result.answer;
     BoardSpawn {

@@ -1,8 +1,8 @@
 use crate::closing::shuts_spawn;
 use call_console::queues::WishState;
 use call_console::wishing::WishAnswer;
-use console::wish::Wish;
 use sealed::profile::Seal;
+use store::wish::Wish;
 use wish_rows::row::WishTable;
 ghost use Rattle.memory.specs.View.{Memory};
 ghost use Rattle.console.specs.Console as console;

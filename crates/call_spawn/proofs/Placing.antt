@@ -8,15 +8,17 @@ use Rattle.node.specs.declared.refusal.Refusal.the-variants.{NoPort}
 use Rattle.edges.specs.Ports.{portOf}
 use Rattle.edges.specs.declared.ports.Port.{Port}
 use Rattle.edges.specs.declared.ports.Port.the-variants as Port
+use Rattle.voice.specs.declared.policy.Budget.{Budget}
 use Rattle.store.specs.declared.voices.Voice.{Voice}
 use Rattle.store.specs.declared.voices.VoiceState.{VoiceState}
-use Rattle.model.specs.Spawn.{Spawn, nextOut}
+use Rattle.model.specs.Spawn.{Spawn, stateUnder, tries, nextOut}
 use Rattle.model.specs.Model.{Model, SpawnResult, portFree, instantiate, instantiateOr, place, refused, cutOff}
 use Rattle.model.specs.Call.{Step, spawned}
 use Rattle.model.specs.Numbers.{numberIn}
 use Rattle.memory.specs.Called.{keeps}
 use Rattle.bus_room.specs.Reclaimed.{ifNone, goOn, reclaimed}
 use Rattle.bus_room.specs.Room.{Makes}
+use Rattle.call_spawn.specs.Room.{placeUnder}
 
 module _ (x : Spawn) (s : VoiceState) (m : Model) where
   -- a port: the new voice stands there
@@ -53,6 +55,10 @@ module _ (x : Spawn) (s : VoiceState) (fuel : ℕ) (m n : Model) (p : Port) (mad
       lost : (o : Option ℕ) → portOf o ≡ Port.Nothing → o ≡ none
       lost none h = refl
       lost (some q) h = let z : _≡_ {A = ℕ} 0 1 = cc in absurd (omega arith)
+
+-- by what the budget allows
+pub under : (b : Budget) (x : Spawn) (m : Model) (fuel : ℕ) (s : VoiceState) → fuel ≡ tries b (m .voices) → s ≡ stateUnder b → place fuel x s m ≡ placeUnder b x m
+under b x m fuel s is-fuel is-s = ap (λ n. place n x s m) is-fuel ∙ ap (λ k. place (tries b (m .voices)) x k m) is-s
 
 -- ---- past the table's refusals and admission there is a voice, or 12
 pub place-free : (fuel : ℕ) (x : Spawn) (s : VoiceState) (m : Model) → keeps (numberIn (spawned (place fuel x s m .answer))) ≡ false

@@ -8,8 +8,10 @@ use mathlib.Core.List.{List, []}
 use lib.Dec.{ltb, leb, eqb}
 use lib.ListN.{length, length-map}
 use borrow.Author.Tests.{ltb-false, leb-false, not-false}
+use Rattle.lists.specs.Find.{find}
 use Rattle.lists.proofs.Filter.{length-filter}
 use Rattle.node.specs.declared.record.NodeId.{NodeId}
+use Rattle.node.specs.declared.record.VoiceId.{VoiceId}
 use Rattle.node.specs.declared.refusal.Refusal.{Refusal}
 use Rattle.node.specs.declared.refusal.Refusal.the-variants.{DefinitionLimits, BusWithoutPorts, TableFull, IdsUsedUp, RankTooHigh}
 use Rattle.edges.specs.Ports.{portFrom}
@@ -22,7 +24,7 @@ use Rattle.synthdef.specs.declared.def.SynthDef.{SynthDef}
 use Rattle.store.specs.declared.voices.Voice.{Voice}
 use Rattle.store.specs.declared.voices.VoiceState.{VoiceState}
 use Rattle.store.specs.declared.voices.VoiceState.the-variants.{Tracked}
-use Rattle.model.specs.Voice.{feeder, beginFade}
+use Rattle.model.specs.Voice.{isVoice, feeder, beginFade}
 use Rattle.model.specs.Refuse.{orElse, rankLimit, noHeadroom, noIds, spawnRefusal}
 use Rattle.model.specs.Spawn.{fadeOf}
 use Rattle.model.specs.Model.{Model, cutOff, stolen, stealVoice}
@@ -31,7 +33,7 @@ use Rattle.memory.specs.declared.state.State.{State}
 use Rattle.memory.specs.View.{Memory, modelOf}
 use Rattle.memory.specs.Lent.{lentVoices, lentSpawn}
 use Rattle.bus_room.specs.Reclaimed.{leaving, goOn, reclaimed}
-use Rattle.call_spawn.specs.Room.{Headroom, FadeRoom, Roomy}
+use Rattle.call_spawn.specs.Room.{Headroom, FadeRoom, Roomy, stealFound, steal}
 
 -- ---- what the refusals leave
 pub answer-some : (o : Option Refusal) (r : Refusal) → answerOf o ≡ Answer.Refused r → o ≡ some r
@@ -113,7 +115,7 @@ headroom-reclaimed def bus rank (suc k) m h = go (leaving bus rank m) (headroom-
     go (some v) ih = ih (cutOff v (v .state) m) (headroom-cut def v (v .state) m h)
 
 -- a fade takes one node, one edge and one id
-pub roomy-steal : (def : SynthDef) (v : Voice) (m : Model) → Roomy def m → Headroom def (stealVoice v m)
+roomy-steal : (def : SynthDef) (v : Voice) (m : Model) → Roomy def m → Headroom def (stealVoice v m)
 roomy-steal def v m r = go (portFrom (m .shared .graph .edges) (feeder v) (v .bus)) refl
   where
     go : (o : Option ℕ) → portFrom (m .shared .graph .edges) (feeder v) (v .bus) ≡ o → Headroom def (stolen v o m)
@@ -127,6 +129,13 @@ roomy-steal def v m r = go (portFrom (m .shared .graph .edges) (feeder v) (v .bu
         let c = r .ids in
         let s = r .seats in
         record { within = r .within; places = omega arith; wires = omega arith; seats = omega arith; ids = omega arith; names = r .names }
+
+pub roomy-stolen : (def : SynthDef) (w : VoiceId) (m : Model) → Roomy def m → Headroom def (steal w m)
+roomy-stolen def w m r = go (find (isVoice w) (m .voices))
+  where
+    go : (o : Option Voice) → Headroom def (stealFound o m)
+    go none = roomy-head def m r
+    go (some v) = roomy-steal def v m r
 
 -- ---- room is a matter of the tables that are lent. Some memory around them
 abbrev pub blank : State → Memory

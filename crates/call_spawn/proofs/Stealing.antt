@@ -1,7 +1,6 @@
--- The steal of a victim, and a request to come in.
+-- The steal of a victim.
 use Prim.Native.Nat.{ℕ}
-use native.Mathlib.Omega.{arith}
-use mathlib.Core.Path.{_≡_, sym, ap, subst, _∙_}
+use mathlib.Core.Path.{_≡_, sym, ap, _∙_}
 use mathlib.Core.List.{List, map}
 use mathlib.Core.Bool.{Bool, true, false}
 use mathlib.Core.Option.{Option, none, some}
@@ -14,20 +13,16 @@ use Rattle.node.specs.declared.record.NodeId.{NodeId}
 use Rattle.node.specs.declared.record.VoiceId.{VoiceId}
 use Rattle.node.specs.declared.record.Edge.{Edge}
 use Rattle.edges.specs.Ports.{feeds}
-use Rattle.voice.specs.declared.policy.Admission.{Admission}
-use Rattle.voice.specs.declared.policy.Admission.the-variants as admission
 use Rattle.store.specs.declared.voices.Fade.{Fade}
 use Rattle.store.specs.declared.voices.Voice.{Voice}
 use Rattle.store.specs.declared.voices.VoiceState.the-variants.{Tracked}
-use Rattle.synthdef.specs.declared.def.SynthDef.{SynthDef}
 use Rattle.model.specs.Voice.{id, isVoice, feeder, beginFade}
 use Rattle.model.specs.Spawn.{recorded, fadeOf, fadeGraph}
-use Rattle.model.specs.Model.{Model, fade, cutOff, stolen, stealVoice, stealThen, placeWithinBudget, admitted, admissionOn}
+use Rattle.model.specs.Model.{Model, withoutVoice, fade, cutOff, stolen, stealVoice}
 use Rattle.voice_graph.specs.Added.{withFade, regraphed}
 use Rattle.voice_graph.proofs.Room.{fade-room}
 use Rattle.bus_room.specs.Reclaimed.{restolen}
-use Rattle.call_spawn.specs.Room.{Headroom, FadeRoom, Meets}
-use Rattle.call_spawn.proofs.Rooms.{roomy-head, roomy-steal}
+use Rattle.call_spawn.specs.Room.{FadeRoom}
 
 -- other voices
 abbrev pub revoiced : List Voice → Model → Model
@@ -46,6 +41,17 @@ module _ (v : Voice) (p : ℕ) (m told grown : Model) (room : FadeRoom m) where
       let all : grown ≡ regraphed (fadeGraph v p (m .shared .graph)) end = is-grown ∙ ap (λ k. regraphed (withFade w from bus p (k .shared .graph)) k) is-told ∙ ap (λ g. regraphed g end) graph in
       ap (λ l. revoiced l grown) (is-vs ∙ ap (λ k. map (beginFade k f) (grown .voices)) is-w ∙ ap (λ k. map (beginFade (v .id) k) (grown .voices)) is-f)
       ∙ ap (λ k. revoiced (map (beginFade (v .id) (fadeOf (m .shared))) (k .voices)) k) all
+
+-- ---- one that feeds no port: its record says that it was cut, and it goes
+pub cuts : (v : Voice) (m told : Model) → told ≡ restolen (recorded v true (m .shared)) m → (w : VoiceId) → w ≡ v .id → withoutVoice w told ≡ cutOff v Tracked m
+cuts v m told is-told w is-w = ap (λ k. withoutVoice k told) is-w ∙ ap (withoutVoice (v .id)) is-told
+
+-- the voice that was looked for
+pub found-id : (w : VoiceId) (l : List Voice) (v : Voice) → find (isVoice w) l ≡ some v → w ≡ v .id
+found-id w l v e = ap named (sym (eqb-true (v .id .0) (w .0) (find-in (isVoice w) l v e .1)))
+  where
+    named : ℕ → VoiceId
+    named k = record { 0 = k }
 
 -- ---- which of the two: the edge by which the victim feeds its bus
 module _ (v : Voice) (m : Model) (k : ℕ) (bus : NodeId) (found : Bool) (x : Edge) (at : k ≡ feeder v .0) (on : bus ≡ v .bus)
@@ -66,40 +72,3 @@ module _ (v : Voice) (m : Model) (k : ℕ) (bus : NodeId) (found : Bool) (x : Ed
 
   pub feeds-one : found ≡ true → fade v (x .port) m ≡ stealVoice v m
   feeds-one t = ap (λ (o : Option Edge). stolen v (mapO (λ (e : Edge). e .port) o) m) (sym (is-edge t))
-
--- ---- a request to come in
-module _ (bus : NodeId) (rank : ℕ) (m : Model) (a : Admission) (met : a ≡ admissionOn bus rank m) where
-  pub meets-admit : a ≡ admission.Admit → Meets bus rank m m true
-  meets-admit e =
-      record {
-        goes-on = λ t x. ap (λ k. admitted k x m) (sym met ∙ e);
-        room = λ t def r. roomy-head def m r;
-        rejects = λ t. let z : _≡_ {A = ℕ} 0 1 = cc in absurd (omega arith);
-      }
-
-  pub meets-reject : a ≡ admission.Reject → Meets bus rank m m false
-  meets-reject e =
-      record {
-        goes-on = λ t x. let z : _≡_ {A = ℕ} 0 1 = cc in absurd (omega arith);
-        room = λ t def r. let z : _≡_ {A = ℕ} 0 1 = cc in absurd (omega arith);
-        rejects = λ t. sym met ∙ e;
-      }
-
-  pub meets-steal : (place : ℕ) (w : VoiceId) → a ≡ admission.Steal place w → (v : Voice) → find (isVoice w) (m .voices) ≡ some v → (n : Model) → n ≡ stealVoice v m → Meets bus rank m n true
-  meets-steal place w e v found n is =
-      record {
-        goes-on = λ t x. ap (λ k. admitted k x m) (sym met ∙ e) ∙ ap (λ o. stealThen o x m) found ∙ ap (placeWithinBudget x) (sym is);
-        room = λ t def r. let h = roomy-steal def v m r in moved def h;
-        rejects = λ t. let z : _≡_ {A = ℕ} 0 1 = cc in absurd (omega arith);
-      }
-    where
-      moved : (def : SynthDef) → Headroom def (stealVoice v m) → Headroom def n
-      moved def h = subst (Headroom def) (sym is) h
-
-  pub meets-nobody : (place : ℕ) (w : VoiceId) → a ≡ admission.Steal place w → find (isVoice w) (m .voices) ≡ none → Meets bus rank m m true
-  meets-nobody place w e lost =
-      record {
-        goes-on = λ t x. ap (λ k. admitted k x m) (sym met ∙ e) ∙ ap (λ o. stealThen o x m) lost;
-        room = λ t def r. roomy-head def m r;
-        rejects = λ t. let z : _≡_ {A = ℕ} 0 1 = cc in absurd (omega arith);
-      }

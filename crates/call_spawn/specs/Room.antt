@@ -2,23 +2,30 @@
 -- than the one node, edge and id that headroom counts for it, and what is reclaimed only makes room.
 use Prim.Native.Nat.{ℕ, _+_, _≤_, _<_}
 use mathlib.Core.Path.{_≡_}
-use mathlib.Core.Bool.{Bool, true, false, _||_}
-use mathlib.Core.Option.{Option, none}
+use mathlib.Core.Bool.{Bool, true, cond, _||_}
+use mathlib.Core.Option.{Option, none, some}
 use lib.Dec.{eqb, leb, ltb}
 use lib.ListN.{length}
+use Rattle.lists.specs.Find.{find}
 use Rattle.node.specs.declared.record.NodeId.{NodeId}
+use Rattle.node.specs.declared.record.VoiceId.{VoiceId}
 use Rattle.node.specs.declared.refusal.Refusal.{Refusal}
 use Rattle.node.specs.declared.refusal.Refusal.the-variants.{BusWithoutPorts, TableFull, IdsUsedUp}
 use Rattle.graph.specs.Refuse.{when}
 use Rattle.graph_rows.specs.declared.node_row.Brief.{Brief}
 use Rattle.graph_tables.specs.Brief.{hostBrief}
-use Rattle.voice.specs.declared.policy.Admission.the-variants as admission
+use Rattle.voice.specs.Policy.{admits}
+use Rattle.voice.specs.declared.policy.Admission.{Admission}
+use Rattle.voice.specs.declared.policy.Budget.{Budget}
+use Rattle.voice.specs.declared.policy.Budget.the-variants.{Unlimited}
 use Rattle.store.specs.declared.answer.Spawned.{Spawned}
+use Rattle.store.specs.declared.voices.Voice.{Voice}
 use Rattle.synthdef.specs.Limits.{allowed}
 use Rattle.synthdef.specs.declared.def.SynthDef.{SynthDef}
 use Rattle.model.specs.Refuse.{orElse}
-use Rattle.model.specs.Spawn.{Spawn}
-use Rattle.model.specs.Model.{Model, SpawnResult, placeWithinBudget, admitted, admissionOn}
+use Rattle.model.specs.Voice.{isVoice, candidates, counted}
+use Rattle.model.specs.Spawn.{Spawn, stateUnder, tries}
+use Rattle.model.specs.Model.{Model, SpawnResult, place, stealVoice}
 use Rattle.memory.specs.View.{Memory, modelOf}
 
 -- ---- the refusals over what they read: of the bus 4, 5, 10; of the counts 7 and 8
@@ -63,13 +70,21 @@ pub record Roomy (def : SynthDef) (m : Model) : Type 0 where
 abbrev pub resultOf : Spawned → Memory → SpawnResult
 resultOf a n = record { answer = a; model = modelOf n }
 
--- A request to come in on the bus with this rank, from the store m: admitted, every spawn goes on with the port search in the store n, where there
--- is room for it; else admission rejects
-pub record Meets (bus : NodeId) (rank : ℕ) (m n : Model) (ok : Bool) : Type 0 where
-  pub goes-on : ok ≡ true → (x : Spawn) → admitted (admissionOn bus rank m) x m ≡ placeWithinBudget x n
-  pub room : ok ≡ true → (def : SynthDef) → Roomy def m → Headroom def n
-  pub rejects : ok ≡ false → admissionOn bus rank m ≡ admission.Reject
+-- ---- One way through for both spawns: "without a budget nobody is tracked, stolen or reclaimed", and so it is with an unmanaged spawn.
+abbrev pub budgetFor : Bool → Budget → Budget
+budgetFor managed b = cond managed b Unlimited
 
--- one that is rejected leaves the very memory
-abbrev pub Untouched : Bool → Memory → Memory → Type 0
-Untouched ok m n = ok ≡ false → n ≡ m
+-- what a new voice on the bus meets under the budget b, and how it gets its port
+abbrev pub admissionUnder : Budget → NodeId → ℕ → Model → Admission
+admissionUnder b bus rank m = admits b (m .shared .config .policy) rank (candidates (m .shared) (counted (m .shared .config .scope) bus) (m .voices))
+
+abbrev pub placeUnder : Budget → Spawn → Model → SpawnResult
+placeUnder b x m = place (tries b (m .voices)) x (stateUnder b) m
+
+-- the voice w is stolen, if it lives
+abbrev pub stealFound : Option Voice → Model → Model
+stealFound none m = m
+stealFound (some v) m = stealVoice v m
+
+abbrev pub steal : VoiceId → Model → Model
+steal w m = stealFound (find (isVoice w) (m .voices)) m

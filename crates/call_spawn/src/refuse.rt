@@ -7,9 +7,8 @@ use graph_tables::lookup::node_count;
 use graph_tables::tests::host_test;
 use graph_tables::wiring::edge_count;
 use memory::state::State;
-use node::record::NodeId;
 use node::refusal::Refusal;
-use synthdef::def::SynthDef;
+use store::wish::Wish;
 use synthdef::limits::allowed;
 use voice_rows::row::VoiceTable;
 use words::table::at_most;
@@ -129,15 +128,15 @@ pub fn spawn_refusal(
     nodes: &NodeTable,
     edges: &EdgeTable,
     voices: &VoiceTable,
-    def: SynthDef,
-    bus: NodeId,
-    rank: u32,
+    w: Wish,
 ) -> Answer
-    ensures { λ r. ⌜ ((m : Memory) → r ≡ answerOf (spawnRefusal (sharedOf (lentVoices s (now (nodes .entry)) (now (edges .entry)) (now (voices .entry)) m)) (take (s .voices) (voicesIn (now (voices .entry)))) def bus rank)) ⌝ }
+    ensures { λ r. ⌜ ((m : Memory) → r ≡ answerOf (spawnRefusal (sharedOf (lentVoices s (now (nodes .entry)) (now (edges .entry)) (now (voices .entry)) m)) (take (s .voices) (voicesIn (now (voices .entry)))) (w .def) (w .bus) (w .rank))) ⌝ }
 {
-    if 7 < rank {
+    if 7 < w.rank {
         return Answer::Refused(Refusal::RankTooHigh);
     }
+    let def = w.def;
+    let bus = w.bus;
     if !allowed(def) {
         return Answer::Refused(Refusal::DefinitionLimits);
     }

@@ -11,7 +11,7 @@ use node::record::VoiceId;
 use store::answer::Spawned;
 use store::voices::Voice;
 use store::voices::VoiceState;
-use synthdef::def::SynthDef;
+use store::wish::Wish;
 use synthdef::instance::id_after;
 use synthdef::plan::done_plan;
 use voice_graph::growth::add_voice;
@@ -20,7 +20,8 @@ use voice_rows::table::push_voice;
 use words::table::at_most;
 ghost use mathlib.Core.Path.{_≡_};
 ghost use Prim.Native.Nat.{_+_};
-ghost use Rattle.model.specs.Spawn.{pans, spawnOf, newVoice};
+ghost use Rattle.model.specs.Spawn.{pans, newVoice};
+ghost use Rattle.model.specs.Wish.{spawnIn};
 ghost use Rattle.model.specs.Model.{instantiate};
 ghost use Rattle.memory.specs.View.{Memory, sharedOf, modelOf};
 ghost use Rattle.memory.specs.Lent.{lentNodes, lentVoices};
@@ -34,26 +35,19 @@ fn pans(pan: f32) -> bool
 }
 
 // The record of the new voice, which gets the noise sequence of its bus.
-fn new_voice(
-    s: State,
-    nodes: &NodeTable,
-    def: SynthDef,
-    pan: f32,
-    rank: u32,
-    state: VoiceState,
-    bus: NodeId,
-    port: u32,
-) -> Voice
-    requires { ⌜ NewIds def (s .next) (s .spawned) ⌝ }
-    ensures { λ r. ⌜ ((m : Memory) → r ≡ newVoice (spawnOf def bus pan rank) state port (sharedOf (lentNodes s (now (nodes .entry)) m))) ⌝ }
+fn new_voice(s: State, nodes: &NodeTable, w: Wish, state: VoiceState, port: u32) -> Voice
+    requires { ⌜ NewIds (w .def) (s .next) (s .spawned) ⌝ }
+    ensures { λ r. ⌜ ((m : Memory) → r ≡ newVoice (spawnIn w) state port (sharedOf (lentNodes s (now (nodes .entry)) m))) ⌝ }
 {
+    let def = w.def;
+    let bus = w.bus;
     let ns = def.nodes;
     let count = at_most(ns.count, 24) as u32;
     let params = def.params;
     let plan = done_plan(def);
     let first = NodeId(s.next as u32);
     let output = id_after(first, def.output);
-    let panned = pans(pan);
+    let panned = pans(w.pan);
     let sequence = noise_of(nodes, s.nodes, bus);
     Voice {
         id: VoiceId(s.spawned + 1),
@@ -65,7 +59,7 @@ fn new_voice(
         output,
         panned,
         sequence,
-        rank,
+        rank: w.rank,
         state,
         params,
         plan,
@@ -78,20 +72,19 @@ pub(crate) fn seat_voice(
     nodes: &mut NodeTable,
     edges: &mut EdgeTable,
     voices: &mut VoiceTable,
-    def: SynthDef,
-    pan: f32,
-    rank: u32,
+    w: Wish,
     state: VoiceState,
-    bus: NodeId,
     port: u32,
 ) -> Spawning
-    requires { ⌜ ((m : Memory) → Headroom def (modelOf (lentVoices s (now nodes) (now edges) (now voices) m))) ⌝ }
-    ensures { λ r. ⌜ ((m : Memory) → resultOf (r .answer) (lentVoices (r .state) (now (nodes .exit)) (now (edges .exit)) (now (voices .exit)) m) ≡ instantiate (spawnOf def bus pan rank) state port (modelOf (lentVoices s (now (nodes .entry)) (now (edges .entry)) (now (voices .entry)) m))) ⌝ }
+    requires { ⌜ ((m : Memory) → Headroom (w .def) (modelOf (lentVoices s (now nodes) (now edges) (now voices) m))) ⌝ }
+    ensures { λ r. ⌜ ((m : Memory) → resultOf (r .answer) (lentVoices (r .state) (now (nodes .exit)) (now (edges .exit)) (now (voices .exit)) m) ≡ instantiate (spawnIn w) state port (modelOf (lentVoices s (now (nodes .entry)) (now (edges .entry)) (now (voices .entry)) m))) ⌝ }
 {
-    let v = new_voice(s, nodes, def, pan, rank, state, bus, port);
+    let def = w.def;
+    let bus = w.bus;
+    let v = new_voice(s, nodes, w, state, port);
     raise_noise(nodes, s.nodes, bus);
     let id = VoiceId(s.spawned + 1);
-    let panned = pans(pan);
+    let panned = pans(w.pan);
     let grown = add_voice(s, nodes, edges, id, def, panned, bus, port);
     let count = push_voice(voices, grown.voices, v);
     let seated = with_voices(grown, count);

@@ -1,139 +1,98 @@
-use bus_room::cut::cut_voice;
 use bus_room::cut::record_steal;
+use call_free::forget::forget_voice;
 use graph_rows::edge_row::EdgeTable;
 use graph_rows::node_row::NodeTable;
 use graph_tables::ports::feeding_edge;
 use memory::state::State;
 use node::record::NodeId;
+use node::record::VoiceId;
 use steal_log::StealTable;
 use store::voices::Fade;
-use store::voices::VoiceState;
 use voice::policy::Admission;
-use voice::policy::request_in;
+use voice::policy::Budget;
 use voice_graph::growth::add_fade;
+use voice_policy::policy::request_in;
 use voice_rows::fade::begin_fade;
 use voice_rows::feeding::feeder_at;
+use voice_rows::levels::Counting;
 use voice_rows::levels::candidates;
 use voice_rows::row::VoiceTable;
 use voice_rows::row::bus_at;
-use voice_rows::row::id_at;
 use voice_rows::table::find_voice;
 ghost use mathlib.Core.Path.{_≡_};
-ghost use mathlib.Core.List.{[]};
-ghost use lib.ListN.{getD};
-ghost use Rattle.model.specs.Voice.{feeder};
-ghost use Rattle.model.specs.Model.{fade, stealVoice, admissionOn};
-ghost use Rattle.voice_rows.specs.Rows.{voiceOf, voicesIn};
+ghost use Prim.Native.Nat.{_<_};
+ghost use Rattle.model.specs.Voice.{newFade};
 ghost use Rattle.memory.specs.View.{Memory, modelOf};
 ghost use Rattle.memory.specs.Lent.{lentSpawn, lentParams};
-ghost use Rattle.call_spawn.specs.Room.{FadeRoom, Meets, Untouched};
+ghost use Rattle.call_spawn.specs.Room.{FadeRoom, admissionUnder, steal};
 
-// What became of a request to come in: the state after a victim's steal, and whether it is admitted.
-pub struct Met {
-    pub state: State,
-    pub admitted: bool,
-}
-
-// The voice in row `row` fades behind the port `port` of its bus, which `from` feeds. Its level is read before anything changes.
-fn fade_voice(
-    s: State,
-    nodes: &mut NodeTable,
-    edges: &mut EdgeTable,
-    voices: &mut VoiceTable,
-    steals: &mut StealTable,
-    row: usize,
-    from: NodeId,
-    port: u32,
-) -> State
-    requires { ⌜ ((m : Memory) → FadeRoom (modelOf (lentSpawn s (now nodes) (now edges) (now voices) (now steals) m))) × (from ≡ feeder (getD (voicesIn (now voices)) row (voiceOf []))) ⌝ }
-    ensures { λ r. ⌜ ((m : Memory) → modelOf (lentSpawn r (now (nodes .exit)) (now (edges .exit)) (now (voices .exit)) (now (steals .exit)) m) ≡ fade (getD (voicesIn (now (voices .entry))) row (voiceOf [])) port (modelOf (lentSpawn s (now (nodes .entry)) (now (edges .entry)) (now (voices .entry)) (now (steals .entry)) m))) ⌝ }
+// The fade of a victim: it starts now, and its record is the next one.
+fn new_fade(s: State) -> Fade
+    requires { ⌜ s .next < 4294967296 ⌝ }
+    ensures { λ r. ⌜ r ≡ newFade (s .next) (s .clock) (s .stolen) ⌝ }
 {
-    let w = id_at(voices, row);
-    let bus = bus_at(voices, row);
-    let f = Fade {
+    Fade {
         node: NodeId(s.next as u32),
         start: s.clock,
         position: 0,
         number: s.stolen,
-    };
-    let told = record_steal(s, nodes, voices, steals, row, false);
-    let grown = add_fade(told, nodes, edges, w, from, bus, port);
+    }
+}
+
+// The voice `w` gives way: it fades behind the port of its bus that it feeds; one that feeds none is removed at once. Its level is read
+// before anything changes.
+pub(crate) fn steal_voice(
+    s: State,
+    nodes: &mut NodeTable,
+    edges: &mut EdgeTable,
+    voices: &mut VoiceTable,
+    steals: &mut StealTable,
+    w: VoiceId,
+) -> State
+    requires { ⌜ ((m : Memory) → FadeRoom (modelOf (lentSpawn s (now nodes) (now edges) (now voices) (now steals) m))) ⌝ }
+    ensures { λ r. ⌜ ((m : Memory) → modelOf (lentSpawn r (now (nodes .exit)) (now (edges .exit)) (now (voices .exit)) (now (steals .exit)) m) ≡ steal w (modelOf (lentSpawn s (now (nodes .entry)) (now (edges .entry)) (now (voices .entry)) (now (steals .entry)) m))) ⌝ }
+{
+    let looked = find_voice(voices, s.voices, w);
+    if !looked.found {
+        return s;
+    }
+    let row = looked.row;
+    let bus = bus_at(voices, row);
+    let fed = feeding_edge(edges, s.edges, feeder_at(voices, row), bus);
+    let told = record_steal(s, nodes, voices, steals, row, !fed.found);
+    if !fed.found {
+        return forget_voice(told, nodes, edges, voices, w);
+    }
+    let e = fed.edge;
+    let from = e.from;
+    let grown = add_fade(told, nodes, edges, w, from, bus, e.port);
+    let f = new_fade(s);
     begin_fade(voices, grown.voices, w, f);
     grown
 }
 
-// The victim in row `row` fades behind the port that it feeds; one that feeds none is cut.
-fn steal_voice(
+// What a new voice of rank `rank` on `bus` meets. Without a budget it is admitted, and no level is read.
+pub(crate) fn admission(
     s: State,
-    nodes: &mut NodeTable,
-    edges: &mut EdgeTable,
-    voices: &mut VoiceTable,
-    steals: &mut StealTable,
-    row: usize,
-) -> State
-    requires { ⌜ ((m : Memory) → FadeRoom (modelOf (lentSpawn s (now nodes) (now edges) (now voices) (now steals) m))) ⌝ }
-    ensures { λ r. ⌜ ((m : Memory) → modelOf (lentSpawn r (now (nodes .exit)) (now (edges .exit)) (now (voices .exit)) (now (steals .exit)) m) ≡ stealVoice (getD (voicesIn (now (voices .entry))) row (voiceOf [])) (modelOf (lentSpawn s (now (nodes .entry)) (now (edges .entry)) (now (voices .entry)) (now (steals .entry)) m))) ⌝ }
-{
-    let from = feeder_at(voices, row);
-    let bus = bus_at(voices, row);
-    let fed = feeding_edge(edges, s.edges, from, bus);
-    if fed.found {
-        let e = fed.edge;
-        let by = e.from;
-        return fade_voice(s, nodes, edges, voices, steals, row, by, e.port);
-    }
-    cut_voice(s, nodes, edges, voices, steals, row, VoiceState::Tracked)
-}
-
-// What a new voice of rank `rank` on `bus` meets.
-fn admission(s: State, nodes: &NodeTable, voices: &VoiceTable, bus: NodeId, rank: u32) -> Admission
-    ensures { λ r. ⌜ ((m : Memory) → r ≡ admissionOn bus rank (modelOf (lentParams s (now (nodes .entry)) (now (voices .entry)) m))) ⌝ }
-{
-    let config = s.config;
-    let budget = config.budget;
-    let policy = config.policy;
-    let scope = config.scope;
-    let tracked = candidates(voices, s.voices, nodes, s.nodes, s.clock, scope, bus);
-    request_in(budget, policy, rank, tracked)
-}
-
-// Whether a new voice of rank `rank` on `bus` is admitted; where a victim is asked for, it is stolen.
-pub(crate) fn request(
-    s: State,
-    nodes: &mut NodeTable,
-    edges: &mut EdgeTable,
-    voices: &mut VoiceTable,
-    steals: &mut StealTable,
+    nodes: &NodeTable,
+    voices: &VoiceTable,
+    budget: Budget,
     bus: NodeId,
     rank: u32,
-) -> Met
-    requires { ⌜ ((m : Memory) → FadeRoom (modelOf (lentSpawn s (now nodes) (now edges) (now voices) (now steals) m))) ⌝ }
-    ensures is { λ r. ⌜ ((m : Memory) → Meets bus rank (modelOf (lentSpawn s (now (nodes .entry)) (now (edges .entry)) (now (voices .entry)) (now (steals .entry)) m)) (modelOf (lentSpawn (r .state) (now (nodes .exit)) (now (edges .exit)) (now (voices .exit)) (now (steals .exit)) m)) (r .admitted)) ⌝ }
-    ensures same { λ r. ⌜ ((m : Memory) → Untouched (r .admitted) (lentSpawn s (now (nodes .entry)) (now (edges .entry)) (now (voices .entry)) (now (steals .entry)) m) (lentSpawn (r .state) (now (nodes .exit)) (now (edges .exit)) (now (voices .exit)) (now (steals .exit)) m)) ⌝ }
+) -> Admission
+    ensures { λ r. ⌜ ((m : Memory) → r ≡ admissionUnder budget bus rank (modelOf (lentParams s (now (nodes .entry)) (now (voices .entry)) m))) ⌝ }
 {
-    let a = admission(s, nodes, voices, bus, rank);
-    match a {
-        Admission::Admit => Met {
-            state: s,
-            admitted: true,
-        },
-        Admission::Reject => Met {
-            state: s,
-            admitted: false,
-        },
-        Admission::Steal { place: _, voice } => {
-            let looked = find_voice(voices, s.voices, voice);
-            if looked.found {
-                let state = steal_voice(s, nodes, edges, voices, steals, looked.row);
-                return Met {
-                    state,
-                    admitted: true,
-                };
-            }
-            Met {
-                state: s,
-                admitted: true,
-            }
-        }
-    }
+    let Budget::AtMost(_) = budget else {
+        return Admission::Admit;
+    };
+    let config = s.config;
+    let policy = config.policy;
+    let scope = config.scope;
+    let by = Counting {
+        scope,
+        bus,
+        clock: s.clock,
+    };
+    let tracked = candidates(voices, s.voices, nodes, s.nodes, by);
+    request_in(budget, policy, rank, tracked)
 }

@@ -11,7 +11,7 @@ use lib.Dec.{eqb}
 use lib.ListN.{length, length-append, length-set, length-replicate, getElem?}
 use borrow.Author.Tests.{eqb-true, eqb-false}
 use Rattle.lists.proofs.Member.{none-some}
-use Rattle.console.specs.declared.wish.Wish.{Wish}
+use Rattle.store.specs.declared.wish.Wish.{Wish}
 use Rattle.console.specs.declared.refusal.KeyboardRefusal.{KeyboardRefusal}
 use Rattle.console.specs.Wishes.{Wishes, keyboards, waitingAt, wishRefusal, after, Picked, picked, rest, takenFrom, newWishes}
 use Rattle.console.specs.Console.{ConsoleCall, on, wish, turn, addedUnless, takenBy, wishesAfter, wishesRun, servedBy, servedOf, acceptedOf, turns}

@@ -10,7 +10,7 @@ use lib.Dec.{eqb, leb}
 use lib.ListN.{length, length-append, getD, replicate}
 use borrow.Author.Tests.{eqb-true, leb-false}
 use Rattle.lists.proofs.Member.{some-inj, none-some}
-use Rattle.console.specs.declared.wish.Wish.{Wish}
+use Rattle.store.specs.declared.wish.Wish.{Wish}
 use Rattle.console.specs.declared.refusal.KeyboardRefusal.{KeyboardRefusal}
 use Rattle.console.specs.declared.refusal.KeyboardRefusal.the-variants.{OutOfRange, Full}
 use Rattle.console.specs.Wishes.{Wishes, keyboards, waitingAt, wishRefusal, added, after, Picked, oldestOr, search, picked, rest, takenFrom, newWishes}

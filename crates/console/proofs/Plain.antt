@@ -8,9 +8,10 @@ use mathlib.Core.Bool.{Bool, true, false, cond}
 use lib.Dec.{eqb}
 use lib.ListN.{length}
 use Rattle.model.specs.Call.{step}
-use Rattle.console.specs.declared.wish.Wish.{Wish}
+use Rattle.store.specs.declared.wish.Wish.{Wish}
+use Rattle.model.specs.Wish.{callOf}
 use Rattle.console.specs.declared.refusal.KeyboardRefusal.{KeyboardRefusal}
-use Rattle.console.specs.Wishes.{callOf, wishRefusal, Picked, picked}
+use Rattle.console.specs.Wishes.{wishRefusal, Picked, picked}
 use Rattle.console.specs.Console.{Console, ConsoleCall, on, wish, turn, ConsoleStep, ConsoleRan, wished, turned, consoleStep, consoleRun, addedUnless, takenBy, wishesRun, spawnBy, storeCalls, servedBy, servedOf, servesOne}
 use Rattle.console.specs.Claim.{StoreRun, servesOf}
 

@@ -8,7 +8,7 @@ use lib.Dec.{eqb}
 use lib.ListN.{length, getD, set}
 use lib.Seq.{getD-set-same, getD-set-other}
 use borrow.Author.Tests.{eqb-true, eqb-false}
-use Rattle.console.specs.declared.wish.Wish.{Wish}
+use Rattle.store.specs.declared.wish.Wish.{Wish}
 
 pub put-at : (l : List (List Wish)) (q n : ℕ) (x : List Wish) → q < length l → getD (set l q x) n [] ≡ cond (eqb n q) x (getD l n [])
 put-at l q n x h = go (eqb n q) refl

@@ -15,7 +15,7 @@ use Rattle.model.specs.Call as call
 use Rattle.node.specs.declared.refusal.Refusal.the-variants.{UnknownNode}
 use Rattle.store.specs.declared.answer.Spawned.the-variants as Spawned
 use Rattle.voice.specs.declared.policy.StealPolicy.the-variants.{Oldest}
-use Rattle.console.specs.declared.wish.Wish.{Wish}
+use Rattle.store.specs.declared.wish.Wish.{Wish}
 use Rattle.console.specs.declared.refusal.KeyboardRefusal.the-variants.{OutOfRange, Full}
 use Rattle.console.specs.Wishes.{Wishes, keyboardsRefusal, newWishes}
 use Rattle.console.specs.Console.{Console, ConsoleCall, on, wish, turn, ConsoleAnswer, plain, accepted, refused, served, empty, consoleRun, wishesRun, servedOf}

@@ -9,7 +9,7 @@ use Rattle.model.specs.Model.{Model}
 use Rattle.model.specs.Make.{Making, configOf}
 use Rattle.model.specs.Call.{Call, run}
 use Rattle.ledger.specs.Claim.{Claim}
-use Rattle.console.specs.declared.wish.Wish.{Wish}
+use Rattle.store.specs.declared.wish.Wish.{Wish}
 use Rattle.console.specs.Wishes.{Wishes, keyboards, waitingAt, newWishes}
 use Rattle.console.specs.Console.{Console, ConsoleCall, ConsoleAnswer, ConsoleRan, consoleRun, wishesRun, storeCalls, servedOf, acceptedOf, turns, storeAnswers, servesOne}
 

@@ -8,9 +8,10 @@ use Rattle.node.specs.declared.refusal.Refusal.{Refusal}
 use Rattle.model.specs.Model.{Model}
 use Rattle.model.specs.Make.{Making, configOf, refusalOf, newModel}
 use Rattle.model.specs.Call.{Call, Answer, step}
-use Rattle.console.specs.declared.wish.Wish.{Wish}
+use Rattle.store.specs.declared.wish.Wish.{Wish}
+use Rattle.model.specs.Wish.{callOf}
 use Rattle.console.specs.declared.refusal.KeyboardRefusal.{KeyboardRefusal}
-use Rattle.console.specs.Wishes.{callOf, Wishes, wishRefusal, added, Picked, picked, takenFrom, keyboardsRefusal, newWishes}
+use Rattle.console.specs.Wishes.{Wishes, wishRefusal, added, Picked, picked, takenFrom, keyboardsRefusal, newWishes}
 
 pub record Console : Type 0 where
   pub model : Model

@@ -5,19 +5,9 @@ use mathlib.Core.Option.{Option, none, some}
 use mathlib.Core.Bool.{cond}
 use lib.Dec.{leb, ltb}
 use lib.ListN.{length, getD, set, replicate}
-use Rattle.model.specs.Spawn.{Spawn, spawnOf}
-use Rattle.model.specs.Call.{Call}
-use Rattle.model.specs.Call as call
-use Rattle.console.specs.declared.wish.Wish.{Wish}
+use Rattle.store.specs.declared.wish.Wish.{Wish}
 use Rattle.console.specs.declared.refusal.KeyboardRefusal.{KeyboardRefusal}
 use Rattle.console.specs.declared.refusal.KeyboardRefusal.the-variants.{OutOfRange, Full}
-
--- "wishes for either spawn": the spawn's arguments, and the call that a wish is for. Nothing of them is tested at the wish.
-abbrev pub spawnIn : Wish → Spawn
-spawnIn w = spawnOf (w .def) (w .bus) (w .pan) (w .rank)
-
-abbrev pub callOf : Wish → Call
-callOf w = cond (w .managed) (call.spawnManaged (spawnIn w)) (call.spawnLoose (spawnIn w))
 
 -- what waits at each keyboard, the oldest first; `next` is the keyboard after the last served, "at first" 0
 pub record Wishes : Type 0 where

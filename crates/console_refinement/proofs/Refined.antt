@@ -10,7 +10,6 @@ use Rattle.memory.specs.Lent.{lentState}
 use Rattle.refinement.proofs.Refined as store
 use Rattle.console.specs.Console.{Console, ConsoleCall, ConsoleAnswer, plain, ConsoleStep, ConsoleRan, consoleRun, ConsoleMade, made, makeConsole}
 use Rattle.console.proofs.Claim.{console-claim}
-use Rattle.call_make.specs.Made.{making}
 use Rattle.call_console.specs.declared.making.MakeAnswer.{MakeAnswer}
 use Rattle.call_console.specs.declared.making.MakeAnswer.the-variants as MakeAnswer
 use Rattle.call_console.specs.Queues.{wishesOf}
@@ -46,11 +45,11 @@ made-new o c d (MakeAnswer.Keyboards r) e f = let z : _≡_ {A = ℕ} 0 1 = cc i
 
 -- the refinement, from the contract of `make_console`
 pub refines : (κs : _) (a : _) (r : _) (s : _) → fn-make-console.Post κs a r s
-    → (c : Console) → makeConsole (making (a .0) (a .1 .0) (a .1 .1 .0) (a .1 .1 .1 .0) (a .1 .1 .1 .1 .0) (a .1 .1 .1 .1 .1 .0)) (a .1 .1 .1 .1 .1 .1 .0) ≡ made c
+    → (c : Console) → makeConsole (a .0) (a .1 .0) ≡ made c
     → (tables : Memory) (words : List ℕ) (last : ConsoleMemory) (xs : List ConsoleCall) (said : List ConsoleAnswer) → Runs (memory (lentState (r .state) tables) (r .wishes) words) xs said last
-    → Refines (making (a .0) (a .1 .0) (a .1 .1 .0) (a .1 .1 .1 .0) (a .1 .1 .1 .1 .0) (a .1 .1 .1 .1 .1 .0)) (a .1 .1 .1 .1 .1 .1 .0) c xs said last
+    → Refines (a .0) (a .1 .0) c xs said last
 refines κs a r s p c accepted tables words last xs said ran =
-    let k = making (a .0) (a .1 .0) (a .1 .1 .0) (a .1 .1 .1 .0) (a .1 .1 .1 .1 .0) (a .1 .1 .1 .1 .1 .0) in
-    let n = a .1 .1 .1 .1 .1 .1 .0 in
+    let k = a .0 in
+    let n = a .1 .0 in
     let new = made-new (makeConsole k n) c (consoleOf (memory (lentState (r .state) tables) (r .wishes) words)) (r .answer) (p tables words) accepted in
     record { ran = run-is ran ∙ ap (consoleRun xs) new; claimed = console-claim k n c accepted xs }

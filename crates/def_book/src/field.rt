@@ -6,7 +6,7 @@ use synthdef::def::DefNode;
 use synthdef::def::Param;
 use synthdef::edges::wide;
 ghost use mathlib.Core.Path.{_≡_};
-ghost use Prim.Native.Nat.{_+_, _*_};
+ghost use Prim.Native.Nat.{_+_};
 ghost use lib.ListN.{drop, getD};
 ghost use Rattle.synthdef.specs.Rows.{every};
 ghost use Rattle.def_book.specs.Rows.{pairAt, isRecord, isZero, nameAt, nameFits, isHeading, isNode, isEdge, isParam, nodeAt, edgeAt, paramAt};
@@ -21,21 +21,22 @@ pub(crate) fn byte_at(s: &[u8], i: usize) -> u8
     0
 }
 
-// Two bytes as one number, the lower first.
-fn pair(low: u8, high: u8) -> usize
-    ensures { λ r. ⌜ r ≡ low + 256 * high ⌝ }
+// The two bytes at `i` as one number, the lower first.
+fn pair_at(s: &[u8], i: u8) -> usize
+    ensures { λ r. ⌜ r ≡ pairAt (now (s .entry)) i ⌝ }
 {
-    wide(low) + 256 * wide(high)
+    let at = i as usize;
+    wide(byte_at(s, at)) + 256 * wide(byte_at(s, at + 1))
 }
 
 // Whether a record of this kind and size stands here, whole.
 fn is_record(s: &[u8], kind: usize, size: usize) -> bool
     ensures { λ r. ⌜ r ≡ isRecord kind size (now (s .entry)) ⌝ }
 {
-    if pair(byte_at(s, 0), byte_at(s, 1)) != size {
+    if pair_at(s, 0) != size {
         return false;
     }
-    if pair(byte_at(s, 2), byte_at(s, 3)) != kind {
+    if pair_at(s, 2) != kind {
         return false;
     }
     size <= s.len()

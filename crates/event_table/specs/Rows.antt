@@ -9,13 +9,13 @@ use Rattle.node.specs.declared.order.EventAction.{EventAction}
 use Rattle.node.specs.declared.order.EventAction.the-variants as action
 use Rattle.scheduler.specs.declared.event.Event.{Event}
 use Rattle.words.specs.Rows.{rows}
-use Rattle.words.specs.Fields.{floatFrom, shapeFrom, spaceFrom, longAt, nameAt}
+use Rattle.words.specs.Fields.{floatFrom, glideFrom, longAt, nameAt}
 
 -- an action in six words: which, the target or value, the seconds, the shape and its exponent, the space
 abbrev pub actionFrom : ℕ → ℕ → ℕ → ℕ → ℕ → ℕ → EventAction
 actionFrom which x s sh e sp =
     cond (eqb which 1) (action.Value (floatFrom x))
-    (cond (eqb which 2) (action.Glide (floatFrom x) (floatFrom s) (shapeFrom sh e) (spaceFrom sp))
+    (cond (eqb which 2) (action.Glide (glideFrom x s sh e sp))
     (cond (eqb which 3) (action.Gate (floatFrom x)) action.Free))
 
 abbrev pub actionAt : List ℕ → ℕ → EventAction

@@ -52,12 +52,7 @@ fn is_glide(a: EventAction) -> bool
     ensures { λ r. ⌜ r ≡ isGlide a ⌝ }
 {
     match a {
-        EventAction::Glide {
-            target: _,
-            seconds: _,
-            shape: _,
-            space: _,
-        } => true,
+        EventAction::Glide(_) => true,
         _ => false,
     }
 }

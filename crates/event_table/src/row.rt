@@ -4,14 +4,13 @@ use node::record::VoiceId;
 use scheduler::event::Event;
 use words::fields::float_from;
 use words::fields::float_word;
+use words::fields::glide_from;
 use words::fields::glide_words;
 use words::fields::high_word;
 use words::fields::long_at;
 use words::fields::low_word;
 use words::fields::name_at;
 use words::fields::name_words;
-use words::fields::shape_from;
-use words::fields::space_from;
 use words::table::put_row;
 use words::table::word_at;
 ghost use mathlib.Core.Path.{_≡_};
@@ -36,12 +35,7 @@ fn action_words(a: EventAction) -> [u32; 6]
     match a {
         EventAction::Free => [0, 0, 0, 0, 0, 0],
         EventAction::Value(x) => [1, float_word(x), 0, 0, 0, 0],
-        EventAction::Glide {
-            target,
-            seconds,
-            shape,
-            space,
-        } => glide_words(target, seconds, shape, space),
+        EventAction::Glide(g) => glide_words(g),
         EventAction::Gate(x) => [3, float_word(x), 0, 0, 0, 0],
     }
 }
@@ -53,12 +47,7 @@ fn action_from(which: u32, x: u32, seconds: u32, shape: u32, e: u32, space: u32)
         return EventAction::Value(float_from(x));
     }
     if which == 2 {
-        return EventAction::Glide {
-            target: float_from(x),
-            seconds: float_from(seconds),
-            shape: shape_from(shape, e),
-            space: space_from(space),
-        };
+        return EventAction::Glide(glide_from(x, seconds, shape, e, space));
     }
     if which == 3 {
         return EventAction::Gate(float_from(x));

@@ -1,4 +1,4 @@
--- "The newVoice takes the next id and the port found, tracked under a budget": where a spawn answers a voice, that voice is there.
+-- "The newcomer takes the next id and the port found, tracked under a budget": where a spawn answers a voice, that voice is there.
 use Prim.Native.Nat.{ℕ, _+_}
 use native.Mathlib.Omega.{arith}
 use mathlib.Core.Path.{_≡_, refl, sym, ap, _∙_, subst}

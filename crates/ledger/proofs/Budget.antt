@@ -46,7 +46,7 @@ use Rattle.ledger.proofs.Victim.{admit-below}
 use Rattle.ledger.proofs.Preserved.{place-kept, Preserves, VoicesOnly, voices-only, kept-run}
 use Rattle.ledger.proofs.Managed.{IdsOf, managed-kept, ids-steal, ids-cut, ids-new, config-steal, config-run}
 
--- ---- no more than k of the voices that a bus's newVoice counts
+-- ---- no more than k of the voices that a bus's new voice counts
 abbrev Few : BudgetScope → ℕ → List Voice → Type 0
 Few sc k vs = (bus : NodeId) → count (counted sc bus) vs ≤ k
 
@@ -56,7 +56,7 @@ few-filter sc k t vs f bus = omega (arith, count-filter (counted sc bus) t vs, f
 few-map : (sc : BudgetScope) (k : ℕ) (g : Voice → Voice) → ((bus : NodeId) (v : Voice) → counted sc bus (g v) ≡ true → counted sc bus v ≡ true) → (vs : List Voice) → Few sc k vs → Few sc k (map g vs)
 few-map sc k g h vs f bus = omega (arith, count-change (counted sc bus) g (h bus) vs, f bus)
 
--- a newVoice on the bus, for whom there is room if it is tracked
+-- a new voice on the bus, for whom there is room if it is tracked
 few-instantiate : (sc : BudgetScope) (k : ℕ) (bus : NodeId) (v : Voice) → v .bus ≡ bus → (vs : List Voice) → Few sc k vs → (isTracked (v .state) ≡ true → count (counted sc bus) vs < k) → Few sc k (vs ++ (v ∷ []))
 few-instantiate sc k bus v e vs f room b = rw (count-snoc (counted sc b) vs v) (go (isTracked (v .state)) refl)
   where
@@ -155,7 +155,7 @@ within-managed l spawn u =
 within-run : (xs : List Call) (l : Ledger) → WithinOf l → WithinOf (run xs l .ledger)
 within-run = kept-run WithinOf within-preserved (λ l spawn e u. within-managed l spawn u)
 
--- after every list, from a new store: of the voices that a newVoice on any bus would count, at most the budget
+-- after every list, from a new store: of the voices that a new voice on any bus would count, at most the budget
 pub within-budget : (c : Config) (k : ℕ) → c .budget ≡ AtMost k → (xs : List Call) (bus : NodeId) → count (counted (c .scope) bus) (run xs (newLedger c) .ledger .voices) ≤ k
 within-budget c k e xs bus =
     let r = within-run xs (newLedger c) (ids-new c, λ k e bus. omega arith) in
@@ -175,7 +175,7 @@ free-preserved =
     (λ c b n vs u. (u .0, λ v i. let r = in-map (moved oneMore) vs v i in ap (λ (x : Voice). x .state) (r .2) ∙ ap (movedState oneMore) (u .1 (r .0) (r .1)), u .2))
     (λ c b n vs v q s h k u. (u .0, loose-snoc vs v s (u .1), u .2))
 
--- a managed spawn is then the port search alone, and its newVoice is loose
+-- a managed spawn is then the port search alone, and its new voice is loose
 module _ (spawn : Spawn) (l : Ledger) (e : l .shared .config .budget ≡ Unlimited) where
   pub unlimited-spawn : admitted (admissionOn (spawn .bus) (spawn .rank) l) spawn l ≡ place 0 spawn Loose l
   unlimited-spawn =

@@ -440,7 +440,7 @@ module _ (bus : NodeId) (rank : ℕ) (l₀ : Ledger) (r₀ : RecordedOf l₀) (q
       go none e = (losing-push l₀ losing-start v i t (inl is) low least, heads)
       go (some p) e = (losing-fade v i t is low least p e, heads)
 
-  -- ---- its end: no port, or a newVoice, whose id is none of theirs
+  -- ---- its end: no port, or a new voice, whose id is none of theirs
   -- the victim is of the lowest rank among those that count
   abbrev Least : Type 0
   Least = (v u : Voice) → o ≡ some v → In u (l₀ .voices) → counted (l₀ .shared .config .scope) bus u ≡ true → v .rank ≤ u .rank

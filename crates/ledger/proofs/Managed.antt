@@ -30,7 +30,7 @@ IdsOf l = Ids (l .shared .spawned) (l .voices)
 module _ (spawn : Spawn) (R : SpawnResult → Type 0) (l : Ledger) (u : IdsOf l)
     (rejects : admissionOn (spawn .bus) (spawn .rank) l ≡ admission.Reject → R (refused Rejected l))
     (admits : admissionOn (spawn .bus) (spawn .rank) l ≡ admission.Admit → R (placeWithinBudget spawn l)) where
-  -- the victim does not outrank the newVoice
+  -- the victim does not outrank the new voice
   pub managed-ranked :
       ((p : ℕ) (w : VoiceId) → admissionOn (spawn .bus) (spawn .rank) l ≡ admission.Steal p w → (v : Voice) → In v (l .voices) → counted (l .shared .config .scope) (spawn .bus) v ≡ true → v .rank ≤ spawn .rank
       → R (placeWithinBudget spawn (stealVoice v l))) → R (admitted (admissionOn (spawn .bus) (spawn .rank) l) spawn l)

@@ -146,7 +146,7 @@ module _ (spawn : Spawn) (l₀ : Ledger) (d₀ : Ids (l₀ .shared .spawned) (l�
         fate = fates-cut m q v i o s e;
       }
 
-  -- the newVoice is none of those that went
+  -- the new voice is none of those that went
   reclaimed-instantiate : (m : Ledger) → During m → (n : Voice) → n .id .0 ≡ m .shared .spawned + 1 → (k : ℕ) → Reclaimed (l₀ .voices) (m .voices) (spawn .bus) k → Reclaimed (l₀ .voices) (m .voices ++ (n ∷ [])) (spawn .bus) k
   reclaimed-instantiate m q n e k r =
       record {

@@ -1,4 +1,4 @@
--- The newVoice of an allowed definition: its nodes are its own, its wires join them, and one of them feeds the bus.
+-- The new voice of an allowed definition: its nodes are its own, its wires join them, and one of them feeds the bus.
 use Prim.Native.Nat.{ℕ, _+_, _<_}
 use native.Mathlib.Omega.{arith}
 use native.Mathlib.Nat.{zero-add}
@@ -95,7 +95,7 @@ nodes-count k def pan = length-append (map (defNode k) (nodeRows (def .nodes))) 
     go true = refl
     go false = refl
 
--- ---- the newVoice
+-- ---- the new voice
 pub feeder-out : (spawn : Spawn) (t : VoiceState) (p : ℕ) (d : SharedState) → feeder (newVoice spawn t p d) .0 ≡ d .graph .next + voiceOut (spawn .def) (pans (spawn .pan))
 feeder-out spawn t p d = go (pans (spawn .pan))
   where

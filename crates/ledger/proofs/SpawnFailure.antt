@@ -263,7 +263,7 @@ module _ (spawn : Spawn) (b : Bool) (given : VoiceId) where
       (λ n m e f q. ap (λ c. answerWhen false c given) (sym (idle-blocked (spawn .bus) (spawn .rank) m e (nextOut-none (q .ids) (m .shared) (spawn .bus) (spawn .rank) (q .steals) f)) ∙ q .is))
       (λ n m v e f q. search-cut n m v f q) n m q
 
--- ---- 11: at budget, and all that count outrank the newVoice
+-- ---- 11: at budget, and all that count outrank the new voice
 module _ (c : Config) (bus : NodeId) (rank k : ℕ) (b : c .budget ≡ AtMost k) (vs : List Voice) where
   at-budget : (n : ℕ) (t : Bool) → leb k n ≡ t → atBudget (c .budget) n ≡ t
   at-budget n t e = ap (λ x. atBudget x n) b ∙ e

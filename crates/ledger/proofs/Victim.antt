@@ -1,5 +1,5 @@
--- Who goes is one of the voices: the victim of an admission is tracked and counts for the newVoice, and the next to be
--- reclaimed is fading on the bus, or tracked there; none that is tracked outranks the newVoice, nor anybody that was asked. Where nobody is
+-- Who goes is one of the voices: the victim of an admission is tracked and counts for the new voice, and the next to be
+-- reclaimed is fading on the bus, or tracked there; none that is tracked outranks the new voice, nor anybody that was asked. Where nobody is
 -- found, all that were asked outrank it.
 use Prim.Native.Nat.{ℕ, _≤_, _<_}
 use native.Mathlib.Omega.{arith}
@@ -49,7 +49,7 @@ stealing-not t s e = subst Stealing e s
 
 -- ---- among voices
 module _ {n : ℕ} {vs : List Voice} (u : Ids n vs) (d : SharedState) (q : Voice → Bool) where
-  -- The voice that goes for a newVoice of rank r is one of those that are asked, does not outrank the newVoice, and nobody who is asked ranks below it.
+  -- The voice that goes for a new voice of rank r is one of those that are asked, does not outrank the new voice, and nobody who is asked ranks below it.
   abbrev pub Chosen : ℕ → VoiceId → Type 0
   Chosen r w = (v : Voice) × In v vs × (q v ≡ true) × (find (isVoice w) vs ≡ some v) × (v .rank ≤ r) × ((x : Voice) → In x vs → q x ≡ true → v .rank ≤ x .rank)
 
@@ -94,7 +94,7 @@ module _ {n : ℕ} {vs : List Voice} (u : Ids n vs) (d : SharedState) (q : Voice
       go true e Nobody h = let z : _≡_ {A = ℕ} 0 1 = cc in absurd (omega arith)
       go true e (Goes p w) h = let z : _≡_ {A = ℕ} 0 1 = cc in absurd (omega arith)
 
-  -- a policy that steals rejects at budget alone, and only where all that count outrank the newVoice
+  -- a policy that steals rejects at budget alone, and only where all that count outrank the new voice
   pub rejects-when : (k : ℕ) (t : StealPolicy) → Stealing t → (r : ℕ) → admits (AtMost k) t r (candidates d q vs) ≡ admission.Reject
       → (k ≤ count q vs) × ((v : Voice) → In v vs → q v ≡ true → r < v .rank)
   rejects-when k t s r h = go (leb k (length (candidates d q vs))) refl (victim t r (candidates d q vs)) refl h

@@ -256,7 +256,7 @@ pub data Fate (b b' : StealLog) (R : Type 0) (k : ℕ) : Type 0 where
 abbrev pub tracks : Voice → Bool
 tracks v = isTracked (v .state)
 
--- the newVoice is let in
+-- the new voice is let in
 abbrev pub isLet : Spawned → Bool
 isLet (Spawned.Voice w) = true
 isLet (Spawned.Refused r) = false
@@ -299,7 +299,7 @@ pub record Losses (x : Spawn) (s s' : Model) : Type 0 where
   pub first : Heads (victimOf x s) lost
   pub others : (v : Voice) → In v lost → (victimOf x s ≡ some v) ⊎ (isOn (x .bus) v ≡ true)
   -- 02, Paper 13: "The victim comes from the lowest rank among candidates, .. and never outranks the newcomer": the victim of the admission is of
-  -- the lowest rank among those that count; no tracked voice that is left on the bus, the newVoice among them, ranks below one that was lost
+  -- the lowest rank among those that count; no tracked voice that is left on the bus, the new voice among them, ranks below one that was lost
   pub below : (v : Voice) → In v lost → v .rank ≤ x .rank
   pub least : (v u : Voice) → victimOf x s ≡ some v → In u (s .voices) → counted (s .shared .config .scope) (x .bus) u ≡ true → v .rank ≤ u .rank
   pub lowest : (v u : Voice) → In v lost → In u (s' .voices) → u .state ≡ Tracked → isOn (x .bus) u ≡ true → v .rank ≤ u .rank
@@ -328,7 +328,7 @@ Stealing policy.Oldest = Unit {0}
 Stealing policy.Newest = Unit {0}
 Stealing policy.Quietest = Unit {0}
 
--- 02, Paper 13. Whether a voice may go for a newVoice of rank r: it is fading, "regardless of rank", or it is tracked and does not outrank it
+-- 02, Paper 13. Whether a voice may go for a new voice of rank r: it is fading, "regardless of rank", or it is tracked and does not outrank it
 abbrev pub mayGo : ℕ → Voice → Bool
 mayGo r v = isFading (v .state) || (isTracked (v .state) && leb (v .rank) r)
 
@@ -350,7 +350,7 @@ byOther bus r vs (voice w) = not (isSpare bus r (find (isVoice w) vs))
 abbrev pub blocked : NodeId → ℕ → Model → Bool
 blocked bus r s = every (λ p. byOther bus r (s .voices) (holderAt (s .shared .graph .nodes) (s .shared .graph .edges) (bus .0) p)) (upto (portsOf (nodeAt (s .shared .graph .nodes) bus)))
 
--- no candidate, or one that outranks the newVoice
+-- no candidate, or one that outranks the new voice
 abbrev pub stays : BudgetScope → NodeId → ℕ → Voice → Bool
 stays scope bus r v = not (counted scope bus v) || ltb r (v .rank)
 
@@ -367,7 +367,7 @@ answerWhen false false w = Spawned.Voice w
 abbrev pub spawnAnswer : NodeId → ℕ → Model → Spawned
 spawnAnswer bus r s = answerWhen (outranked (s .shared .config) bus r (s .voices)) (blocked bus r s) (nextVoice (s .shared))
 
--- "The newVoice takes the next id and the port found": after the spawn x, which made of s the store s', the voice w is there, on the bus
+-- "The newcomer takes the next id and the port found": after the spawn x, which made of s the store s', the voice w is there, on the bus
 -- and in that state, has the rank that was given, and holds its port
 pub record Arrives (x : Spawn) (state : VoiceState) (w : VoiceId) (s s' : Model) : Type 0 where
   pub newVoice : Voice
@@ -418,7 +418,7 @@ pub record Holds (c : Config) (s : Model) : Type 0 where
       → GoesOn (c .block) v f (call.step x s .answer) (call.step x s .model .voices) ⊎ ((find (isVoice (v .id)) (call.step x s .model .voices) ≡ none) × Why s (call.step x s .model) v f x)
   -- No call but a managed spawn touches the steal records. There a record that was written before stays, goes out of the newest 64, or is
   -- marked, and then the fade that has it was on this bus and went in this call; and one record is written for each voice that was
-  -- tracked and is not any more: both numbers together rise by one if the newVoice is let in, else not.
+  -- tracked and is not any more: both numbers together rise by one if the new voice is let in, else not.
   pub quiet : (x : Call) → isManaged x ≡ false → call.step x s .model .shared .steals ≡ s .shared .steals
   pub marks : (x : Spawn) (k : ℕ) → k < s .shared .steals .count
       → Fate (s .shared .steals) (call.step (call.spawnManaged x) s .model .shared .steals) (Reclaimed (s .voices) (call.step (call.spawnManaged x) s .model .voices) (x .bus) k) k

@@ -29,7 +29,7 @@ byHost k nobody = false
 byHost k (host j) = eqb (j .0) (k .0)
 byHost k (voice w) = false
 
--- "Connecting makes the source holder", and a newVoice holds the port found
+-- "Connecting makes the source holder", and a new voice holds the port found
 abbrev pub hold : NodeId → ℕ → Holder → Holders → Holders
 hold b p x h n q = cond (eqb n (b .0) && eqb q p) x (h n q)
 

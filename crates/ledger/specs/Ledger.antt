@@ -80,7 +80,7 @@ stolen v none l = cutOff v Tracked l
 abbrev pub stealVoice : Voice → Ledger → Ledger
 stealVoice v l = stolen v (portHeld v l) l
 
--- ---- "The newVoice takes the next id and the port found, tracked under a budget."
+-- ---- "The newcomer takes the next id and the port found, tracked under a budget."
 pub record SpawnResult : Type 0 where
   pub answer : Spawned
   pub ledger : Ledger
@@ -133,7 +133,7 @@ abbrev pub spawnManaged : Spawn → Ledger → SpawnResult
 spawnManaged x l =
     unless (spawnRefusal (l .shared) (l .voices) (x .def) (x .bus) (x .rank)) l (admitted (admissionOn (x .bus) (x .rank) l) x l)
 
--- "Unmanaged: the port search alone; the newVoice takes id and port likewise and is loose. No port: 12."
+-- "Unmanaged: the port search alone; the newcomer takes id and port likewise and is loose. No port: 12."
 abbrev pub spawnLoose : Spawn → Ledger → SpawnResult
 spawnLoose x l = unless (spawnRefusal (l .shared) (l .voices) (x .def) (x .bus) (x .rank)) l (place 0 x Loose l)
 

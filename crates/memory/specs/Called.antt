@@ -33,9 +33,9 @@ abbrev pub answered : graph.Answer → Answer
 answered Answer.Done = done
 answered (Answer.Refused r) = refused r
 
-abbrev pub granted : given.AddAnswer → Answer
-granted (AddAnswer.Id k) = node k
-granted (AddAnswer.Refused r) = refused r
+abbrev pub addAnswered : given.AddAnswer → Answer
+addAnswered (AddAnswer.Id k) = node k
+addAnswered (AddAnswer.Refused r) = refused r
 
 -- a list of calls on a lent store: each gets what the last left
 pub data Runs : Memory → List Call → List Answer → Memory → Type 0 where

@@ -10,27 +10,31 @@ ghost use Rattle.node.specs.declared.refusal.Refusal as refusal;
 ghost use Rattle.model.specs.Call.{fadeAnswer, sumAnswer};
 ghost use Rattle.mixing.specs.Filled.{filledOf};
 
-// A fade's output for one block: ins and outs are the channel counts of input and output, and position is what its earlier
-// blocks have passed. Where the table was chosen, the lent gains are not looked at.
+// One block of a fade: the channel counts of input and output, and what the fade's earlier blocks have passed, in samples.
+pub struct FadePart {
+    pub ins: usize,
+    pub outs: usize,
+    pub position: u64,
+}
+
+// A fade's output for one block. Where the table was chosen, the lent gains are not looked at.
 pub fn fade_output(
     config: Config,
     input: &[f32],
-    ins: usize,
     gains: &[f32],
-    position: u64,
+    p: FadePart,
     out: &mut [f32],
-    outs: usize,
 ) -> Written
-    ensures is { λ r. ⌜ filledOf r (now (out .exit)) ≡ fadeAnswer config (now (input .entry)) ins (now (gains .entry)) position (now (out .entry)) outs ⌝ }
+    ensures is { λ r. ⌜ filledOf r (now (out .exit)) ≡ fadeAnswer config (now (input .entry)) (p .ins) (now (gains .entry)) (p .position) (now (out .entry)) (p .outs) ⌝ }
     ensures same { λ r. ⌜ ((x : refusal.Refusal) → r ≡ written.Refused x → now (out .exit) ≡ now (out .entry)) ⌝ }
 {
     let len = fade_length(config.rate);
     let size = config.block;
     if config.table {
         let table = table_gains();
-        return bus::fade_output(input, ins, &table, len, position, size, out, outs);
+        return bus::fade_output(input, p.ins, &table, len, p.position, size, out, p.outs);
     }
-    bus::fade_output(input, ins, gains, len, position, size, out, outs)
+    bus::fade_output(input, p.ins, gains, len, p.position, size, out, p.outs)
 }
 
 // The sum of a bus for one block. The inputs' blocks stand one after the other, and counts has the channel count of each.

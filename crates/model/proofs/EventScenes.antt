@@ -11,8 +11,6 @@ use Rattle.lists.specs.Find.{mapO}
 use Rattle.node.specs.Silence.{bytes}
 use Rattle.node.specs.declared.order.EventAction.{EventAction}
 use Rattle.node.specs.declared.order.EventAction.the-variants as EventAction
-use Rattle.node.specs.declared.order.GlideShape.the-variants.{Linear}
-use Rattle.node.specs.declared.order.GlideSpace.the-variants.{Raw}
 use Rattle.node.specs.declared.order.LastOrder.{LastOrder}
 use Rattle.node.specs.declared.order.LastOrder.the-variants as LastOrder
 use Rattle.node.specs.declared.refusal.Refusal.the-variants.{TableFull, Cycle, ClockEnd, RequiredPort}
@@ -32,7 +30,7 @@ use Rattle.model.specs.Voice.{id}
 use Rattle.model.specs.Model.{Model}
 use Rattle.model.specs.Call.{Call, done, refused, ordered, time}
 use Rattle.model.specs.Call as call
-use Rattle.model.specs.Scene.{upTo, plain, float, voice, host, sink, wire, spawn, free, timedFree, sounding, silent, told, after, asked, further, seen, voices, fading, param, value, glide, render}
+use Rattle.model.specs.Scene.{upTo, plain, float, voice, host, sink, wire, spawn, free, timedFree, sounding, silent, told, after, asked, further, seen, voices, fading, param, value, glide, render, linear}
 use Rattle.model.specs.Spawn.{spawnOf}
 use Rattle.model.specs.SharedState.{withClock, withEvents}
 
@@ -92,7 +90,7 @@ by-time :
     × (last 1 (key (at 4 "cut" 3 ∷ at 4 "cut" 5 ∷ render ∷ [])) ≡ some (value 5))
     × (last 1 (key (call.schedule 4 (voice 1) (bytes "rate") (EventAction.Gate (float 7)) ∷ render ∷ [])) ≡ some (value 7))
     × (last 1 (key (call.schedule 4 (voice 1) [] (EventAction.Value (float 7)) ∷ render ∷ [])) ≡ some LastOrder.Nothing)
-    × (last 2 (key (call.schedule 4 (voice 1) (bytes "rate") (EventAction.Glide (float 7) (float 1) Linear Raw) ∷ render ∷ [])) ≡ some (glide 7 1))
+    × (last 2 (key (call.schedule 4 (voice 1) (bytes "rate") (EventAction.Glide (linear 7 1)) ∷ render ∷ [])) ≡ some (glide 7 1))
 unfolding eq prepare processingOrder lacking lacks any liveIds liveNodes risingFrom whole order walk released fed among count-up
 by-time = (refl, refl, refl, refl, refl)
 

@@ -68,8 +68,8 @@ next-in d bus rank vs v h = go (earliest (fadesOn bus) vs) refl h
     go (some u) p e = earliest-in (fadesOn bus) vs v (p ∙ e)
 
 -- a voice that goes leaves fewer
-gone-fewer : (vs : List Voice) (v : Voice) → In v vs → suc (length (filter (λ x. not (isVoice (v .id) x)) vs)) ≤ length vs
-gone-fewer vs v i =
+removed-fewer : (vs : List Voice) (v : Voice) → In v vs → suc (length (filter (λ x. not (isVoice (v .id) x)) vs)) ≤ length vs
+removed-fewer vs v i =
     let off : not (isVoice (v .id) v) ≡ false = ap not (eq-eqb (v .id .0) (v .id .0) refl) in
     rw (count-all (filter (λ x. not (isVoice (v .id) x)) vs), count-all vs) at (count-filter-lt (λ x. true) (λ x. not (isVoice (v .id) x)) vs v i refl off)
 
@@ -99,7 +99,7 @@ module _ (spawn : Spawn) (s : VoiceState) where
     where
       nobody : (o : Option Voice) → nextOut (m .shared) (spawn .bus) (spawn .rank) (m .voices) ≡ o → o ≡ none
       nobody none p = refl
-      nobody (some v) p = absurd (omega (arith, gone-fewer (m .voices) v (next-in (m .shared) (spawn .bus) (spawn .rank) (m .voices) v p)))
+      nobody (some v) p = absurd (omega (arith, removed-fewer (m .voices) v (next-in (m .shared) (spawn .bus) (spawn .rank) (m .voices) v p)))
 
       go : (o : Option ℕ) → notSpawned (instantiateOr o none spawn s m (store.refused NoPort) .answer) ≡ some r
           → nextOut (instantiateOr o none spawn s m (store.refused NoPort) .model .shared) (spawn .bus) (spawn .rank) (instantiateOr o none spawn s m (store.refused NoPort) .model .voices) ≡ none
@@ -116,7 +116,7 @@ module _ (spawn : Spawn) (s : VoiceState) where
       go none none p e ih = p
       go none (some v) p e ih =
           let i : In v (m .voices) = next-in (m .shared) (spawn .bus) (spawn .rank) (m .voices) v p in
-          let f : length (filter (λ x. not (isVoice (v .id) x)) (m .voices)) ≤ fuel = omega (arith, gone-fewer (m .voices) v i) in
+          let f : length (filter (λ x. not (isVoice (v .id) x)) (m .voices)) ≤ fuel = omega (arith, removed-fewer (m .voices) v i) in
           ih (cutOff v (v .state) m) f e
       go (some x) v p e ih = absurd (none-some e)
 

@@ -10,8 +10,6 @@ use Rattle.node.specs.Silence.{bytes}
 use Rattle.node.specs.Refusal.{numberOf}
 use Rattle.node.specs.declared.order.EventAction.{EventAction}
 use Rattle.node.specs.declared.order.EventAction.the-variants as EventAction
-use Rattle.node.specs.declared.order.GlideShape.the-variants.{Linear}
-use Rattle.node.specs.declared.order.GlideSpace.the-variants.{Raw}
 use Rattle.node.specs.declared.refusal.Refusal.the-variants.{Cycle, ClockEnd, ShortBuffer}
 use Rattle.rank.specs.Order.{among, fed, released, walk, order, whole, count-up}
 use Rattle.prepare.specs.Live.{risingFrom, liveNodes, liveIds, processingOrder}
@@ -28,7 +26,7 @@ use Rattle.model.specs.Order.{outcomeNumber}
 use Rattle.model.specs.Call.{Call, ordered, time}
 use Rattle.model.specs.Call as call
 use Rattle.model.specs.Spawn.{spawnOf}
-use Rattle.model.specs.Scene.{upTo, plain, param, float, value, glide, voice, host, sink, wire, free, timedFree, after, asked, told}
+use Rattle.model.specs.Scene.{upTo, plain, param, float, value, glide, voice, host, sink, wire, free, timedFree, after, asked, told, linear}
 
 -- ---- a voice of two nodes: `cut` is the first's, which takes values, and again the second's; `rate` is the second's, which takes glides
 abbrev keyDef : SynthDef
@@ -51,7 +49,7 @@ abbrev to : ℕ → EventAction
 to n = EventAction.Value (float n)
 
 abbrev gliding : EventAction
-gliding = EventAction.Glide (float 1) (float 1) Linear Raw
+gliding = EventAction.Glide (linear 1 1)
 
 -- a render that is lent a list of so many entries, each 7
 abbrev lent : ℕ → Call

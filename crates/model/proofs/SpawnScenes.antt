@@ -137,7 +137,7 @@ unmoved :
 unfolding eq whole order walk released rank.fed among count-up
 unmoved = (refl, refl, refl, refl)
 
--- 12 with a steal: voice 1 fades on bus 0, whose newVoice finds no port on bus 1, which the host holds. The fade's node id is
+-- 12 with a steal: voice 1 fades on bus 0, whose new voice finds no port on bus 1, which the host holds. The fade's node id is
 -- spent, voice id and sequence are not, and the graph is unprepared; the steal stands, its record uncut.
 abbrev twelve : Model
 twelve = after (upTo 1 Oldest) (host 1 ∷ host 1 ∷ host 0 ∷ wire 2 1 0 ∷ spawn 0 ∷ [])

@@ -218,7 +218,7 @@ opens : Same (after made calls) opened
 unfolding eq levelOf squares rootOf sqrt narrow add mul div ofInt ofBits silencePassThrough rules prepare processingOrder lacking lacks any liveIds liveNodes risingFrom whole order walk released fed among count-up settled
 opens = record { config = refl; graph = refl; events = refl; steals = refl; clock = refl; spawned = refl; voices = refl }
 
--- ---- A spawn steals voice 1, whose fade is node 11, and lands as voice 4. The record has the clock and the level.
+-- ---- A spawn steals voice 1, whose fade is node 11, and is voice 4. The record has the clock and the level.
 abbrev nodes : Node → LastOrder → List Node
 nodes key cut = fx ∷ bus 4 ∷ voice1 key ++ (voice2 cut ++ (tone 10 3 ∷ fade1 ∷ tone 12 4 ∷ []))
 

@@ -10,6 +10,7 @@ pub mod Decimal
 pub mod Page
 pub mod Block
 pub mod Call
+pub mod Wish
 pub mod Numbers
 pub mod Make
 pub mod Scene

@@ -2,28 +2,15 @@
 use Prim.Native.Nat.{ℕ}
 use mathlib.Core.List.{[]}
 use mathlib.Core.Option.{Option, none, some}
-use mathlib.Core.Bool.{Bool}
-use lib.Ieee.{Float}
 use Rattle.node.specs.declared.refusal.Refusal.{Refusal}
 use Rattle.node.specs.Refusal.{Said, refused, gives}
 use Rattle.bus.specs.Rate.{rateOf}
-use Rattle.voice.specs.declared.policy.Budget.{Budget}
-use Rattle.voice.specs.declared.policy.StealPolicy.{StealPolicy}
-use Rattle.voice.specs.declared.policy.BudgetScope.{BudgetScope}
 use Rattle.store.specs.declared.config.Config.{Config}
 use Rattle.model.specs.SharedState.{newShared}
 use Rattle.model.specs.Refuse.{makeRefusal}
 use Rattle.model.specs.Model.{Model}
-
--- making's arguments
-pub record Making : Type 0 where
-  pub rate : Float
-  pub block : ℕ
-  pub budget : Budget
-  pub policy : StealPolicy
-  pub scope : BudgetScope
-  -- 02: "Hosts may choose the table when making the store"
-  pub table : Bool
+-- making's arguments. Of `table` 02 says: "Hosts may choose the table when making the store"
+pub use Rattle.store.specs.declared.config.Making.{Making}
 
 -- the rate as a whole number; 0 where it is none, which is refused
 abbrev pub wholeOr0 : Said ℕ → ℕ

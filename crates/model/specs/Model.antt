@@ -111,7 +111,7 @@ abbrev pub spawnManaged : Spawn → Model → SpawnResult
 spawnManaged x m =
     unless (spawnRefusal (m .shared) (m .voices) (x .def) (x .bus) (x .rank)) m (admitted (admissionOn (x .bus) (x .rank) m) x m)
 
--- `spawn_voice_on_bus_panned`: "the port search alone; the newVoice ... is loose. No port: 12."
+-- `spawn_voice_on_bus_panned`: "the port search alone; the newcomer ... is loose. No port: 12."
 abbrev pub spawnLoose : Spawn → Model → SpawnResult
 spawnLoose x m = unless (spawnRefusal (m .shared) (m .voices) (x .def) (x .bus) (x .rank)) m (place 0 x Loose m)
 

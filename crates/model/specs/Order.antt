@@ -32,7 +32,7 @@ withNode n d = withGraph (withNodes (d .graph) (replaced (d .graph .nodes) n)) d
 abbrev pub takes : LastOrder → Node → Bool
 takes LastOrder.Nothing n = false
 takes (LastOrder.Value x) n = n .«takes_values»
-takes (LastOrder.Glide target seconds shape space) n = n .«takes_glides»
+takes (LastOrder.Glide g) n = n .«takes_glides»
 
 pub record Ordered : Type 0 where
   pub outcome : Outcome

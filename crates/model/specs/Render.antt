@@ -41,7 +41,7 @@ prepareShared d = readyShared (prepareOutcome d .answer) (prepareOutcome d .orde
 -- ---- events: "a free, known or not, prepares inside the render"
 abbrev pub isFree : EventAction → Bool
 isFree (EventAction.Value x) = false
-isFree (EventAction.Glide target seconds shape space) = false
+isFree (EventAction.Glide g) = false
 isFree (EventAction.Gate x) = false
 isFree EventAction.Free = true
 

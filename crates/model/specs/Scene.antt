@@ -9,6 +9,7 @@ use lib.Ieee.{Float, inf, fin}
 use lib.ListN.{replicate, length}
 use Rattle.node.specs.Silence.{name, bytes}
 use Rattle.node.specs.declared.order.EventAction.the-variants as EventAction
+use Rattle.node.specs.declared.order.Glide.{Glide}
 use Rattle.node.specs.declared.order.GlideShape.the-variants.{Linear}
 use Rattle.node.specs.declared.order.GlideSpace.the-variants.{Raw}
 use Rattle.node.specs.declared.order.LastOrder.{LastOrder}
@@ -100,8 +101,11 @@ float n = fin false n (pos 0)
 abbrev pub value : ℕ → LastOrder
 value n = LastOrder.Value (float n)
 
+abbrev pub linear : ℕ → ℕ → Glide
+linear target seconds = record { target = float target; seconds = float seconds; shape = Linear; space = Raw }
+
 abbrev pub glide : ℕ → ℕ → LastOrder
-glide target seconds = LastOrder.Glide (float target) (float seconds) Linear Raw
+glide target seconds = LastOrder.Glide (linear target seconds)
 
 -- ---- ids
 abbrev pub voice : ℕ → VoiceId

@@ -99,7 +99,7 @@ candidate d v = record { voice = v .id; level = voiceLevel d v; rank = v .rank }
 abbrev pub candidates : SharedState → (Voice → Bool) → List Voice → List Candidate
 candidates d q vs = map (candidate d) (filter q vs)
 
--- tracked, and counted for a newVoice on the bus: "all, or those of the bus under `PerGroup`"
+-- tracked, and counted for a new voice on the bus: "all, or those of the bus under `PerGroup`"
 abbrev pub counted : BudgetScope → NodeId → Voice → Bool
 counted s bus v = isTracked (v .state) && counts s (v .bus) bus
 

@@ -14,27 +14,25 @@ pub enum GlideSpace {
     Pitch,
 }
 
+// A glide to `target` within `seconds`.
+pub struct Glide {
+    pub target: f32,
+    pub seconds: f32,
+    pub shape: GlideShape,
+    pub space: GlideSpace,
+}
+
 // The newest order that a node took.
 pub enum LastOrder {
     Nothing,
     Value(f32),
-    Glide {
-        target: f32,
-        seconds: f32,
-        shape: GlideShape,
-        space: GlideSpace,
-    },
+    Glide(Glide),
 }
 
 // What an event does to its voice. The parameter's name stands beside it: an enum holds no array.
 pub enum EventAction {
     Value(f32),
-    Glide {
-        target: f32,
-        seconds: f32,
-        shape: GlideShape,
-        space: GlideSpace,
-    },
+    Glide(Glide),
     Gate(f32),
     Free,
 }

@@ -1,26 +1,27 @@
-// The scene of 01's page, played by the store's calls on tables that the caller lends, and the other stores of the examples.
-pub mod stores;
-
+// The scene of 01's page, played by the store's calls.
 use piecrag::Budget;
 use piecrag::BudgetScope;
 use piecrag::DefEdge;
 use piecrag::DefEdges;
 use piecrag::DefNode;
 use piecrag::DefNodes;
-use piecrag::EdgeTable;
-use piecrag::EventTable;
+use piecrag::EDGE_WORDS;
+use piecrag::EVENT_WORDS;
+use piecrag::HostNode;
+use piecrag::Making;
 use piecrag::NO_PORT;
+use piecrag::NODE_WORDS;
 use piecrag::NodeId;
 use piecrag::NodeTable;
-use piecrag::OrderTable;
+use piecrag::ORDER_WORDS;
 use piecrag::Paged;
 use piecrag::Param;
 use piecrag::Params;
+use piecrag::STEAL_WORDS;
 use piecrag::State;
 use piecrag::StealPolicy;
-use piecrag::StealTable;
 use piecrag::SynthDef;
-use piecrag::VoiceTable;
+use piecrag::VOICE_WORDS;
 use piecrag::add_node;
 use piecrag::make;
 use piecrag::name_of;
@@ -28,7 +29,8 @@ use piecrag::page;
 use piecrag::prepare;
 use piecrag::render;
 use piecrag::set_sink;
-use piecrag::spawn_voice_on_bus_managed;
+use piecrag::spawn_voice;
+use piecrag::voice_on_bus_managed;
 ghost use mathlib.Core.Path.{_≡_};
 ghost use mathlib.Core.Bool.{false};
 ghost use Rattle.model.specs.Call.{pageAnswer};
@@ -38,7 +40,6 @@ ghost use Rattle.memory.specs.View.{Memory, modelOf};
 ghost use Rattle.memory.specs.Lent.{lentNodes};
 ghost use Rattle.call_page.specs.Paged.{pagedOf};
 ghost use Rattle.page_scene.specs.Played as played;
-ghost use Rattle.page_scene.specs.Stores.{lentAll};
 
 // A node that has no ports and takes nothing.
 fn tone_node() -> DefNode
@@ -57,7 +58,7 @@ fn tone_node() -> DefNode
 }
 
 // A definition of one node.
-pub fn tone() -> SynthDef
+fn tone() -> SynthDef
     ensures { λ r. ⌜ r ≡ played.tone ⌝ }
 {
     let node = tone_node();
@@ -89,83 +90,61 @@ pub fn tone() -> SynthDef
 }
 
 // A new store with a bus of 3 ports, which is the sink.
-pub fn opened(nodes: &mut NodeTable) -> State
+fn opened(nodes: &mut NodeTable) -> State
     ensures { λ r. ⌜ ((m : Memory) → modelOf (lentNodes r (now (nodes .exit)) m) ≡ further played.opening (newModel pageConfig)) ⌝ }
 {
-    let made = make(
-        8000.0,
-        16,
-        Budget::AtMost(2),
-        StealPolicy::Oldest,
-        BudgetScope::Global,
-        false,
-    );
+    let making = Making {
+        rate: 8000.0,
+        block: 16,
+        budget: Budget::AtMost(2),
+        policy: StealPolicy::Oldest,
+        scope: BudgetScope::Global,
+        table: false,
+    };
+    let made = make(making);
     let empty = made.state;
-    let added = add_node(empty, nodes, b"Bus", 3, 0, false, false);
+    let bus = HostNode {
+        ports: 3,
+        required: 0,
+        takes_values: false,
+        takes_glides: false,
+    };
+    let added = add_node(empty, nodes, b"Bus", bus);
     let with_bus = added.state;
     let heard = set_sink(with_bus, nodes, NodeId(0));
     heard.state
 }
 
-// A managed spawn, a prepare and a render.
-pub fn turn(
-    s: State,
-    nodes: &mut NodeTable,
-    edges: &mut EdgeTable,
-    order: &mut OrderTable,
-    voices: &mut VoiceTable,
-    events: &mut EventTable,
-    steals: &mut StealTable,
-) -> State
-    ensures { λ r. ⌜ modelOf (lentAll r (now (nodes .exit)) (now (edges .exit)) (now (order .exit)) (now (voices .exit)) (now (events .exit)) (now (steals .exit))) ≡ further played.turn (modelOf (lentAll s (now (nodes .entry)) (now (edges .entry)) (now (order .entry)) (now (voices .entry)) (now (events .entry)) (now (steals .entry)))) ⌝ }
-{
-    let spawning = spawn_voice_on_bus_managed(
-        s,
-        nodes,
-        edges,
-        voices,
-        steals,
-        tone(),
-        NodeId(0),
-        0,
-    );
-    let more = spawning.state;
-    let served = prepare(more, nodes, edges, order);
-    let ready = served.state;
-    let mut outcomes = [0u8; 256];
-    let rendering = render(ready, nodes, edges, order, voices, events, &mut outcomes);
-    rendering.state
-}
-
-// The store after the scene.
-pub fn played(
-    nodes: &mut NodeTable,
-    edges: &mut EdgeTable,
-    order: &mut OrderTable,
-    voices: &mut VoiceTable,
-    events: &mut EventTable,
-    steals: &mut StealTable,
-) -> State
-    ensures { λ r. ⌜ modelOf (lentAll r (now (nodes .exit)) (now (edges .exit)) (now (order .exit)) (now (voices .exit)) (now (events .exit)) (now (steals .exit))) ≡ played.played .model ⌝ }
-{
-    let empty = opened(nodes);
-    let one = turn(empty, nodes, edges, order, voices, events, steals);
-    let two = turn(one, nodes, edges, order, voices, events, steals);
-    turn(two, nodes, edges, order, voices, events, steals)
-}
-
-// Its page is 01's.
-pub fn scene_page(
-    nodes: &mut NodeTable,
-    edges: &mut EdgeTable,
-    order: &mut OrderTable,
-    voices: &mut VoiceTable,
-    events: &mut EventTable,
-    steals: &mut StealTable,
-    out: &mut [u8],
-) -> Paged
+// The page after three turns, each a managed spawn, a prepare and a render, is 01's.
+pub fn scene_page(out: &mut [u8]) -> Paged
     ensures { λ r. ⌜ pagedOf r (now (out .exit)) ≡ pageAnswer printed (now (out .entry)) ⌝ }
 {
-    let s = played(nodes, edges, order, voices, events, steals);
-    page(s, edges, voices, out)
+    let mut nodes = [0u32; NODE_WORDS];
+    let mut edges = [0u32; EDGE_WORDS];
+    let mut order = [0u32; ORDER_WORDS];
+    let mut voices = [0u32; VOICE_WORDS];
+    let mut events = [0u32; EVENT_WORDS];
+    let mut steals = [0u32; STEAL_WORDS];
+    let mut s = opened(&mut nodes);
+    let mut i: usize = 0;
+    while i < 3 {
+        let w = voice_on_bus_managed(tone(), NodeId(0), 0);
+        let spawning = spawn_voice(s, &mut nodes, &mut edges, &mut voices, &mut steals, w);
+        let t = spawning.state;
+        let served = prepare(t, &nodes, &edges, &mut order);
+        let u = served.state;
+        let mut list = [0u8; 256];
+        let r = render(
+            u,
+            &mut nodes,
+            &mut edges,
+            &mut order,
+            &mut voices,
+            &mut events,
+            &mut list,
+        );
+        s = r.state;
+        i += 1;
+    }
+    page(s, &edges, &voices, out)
 }

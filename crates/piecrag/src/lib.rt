@@ -43,10 +43,12 @@ pub use call_render::render::Rendering;
 pub use call_render::render::render;
 pub use call_report::report::report;
 pub use call_spawn::spawn::Spawning;
-pub use call_spawn::spawn::spawn_voice_on_bus;
-pub use call_spawn::spawn::spawn_voice_on_bus_managed;
-pub use call_spawn::spawn::spawn_voice_on_bus_panned;
-pub use call_spawn::spawn::spawn_voice_on_bus_panned_managed;
+pub use call_spawn::spawn::spawn_voice;
+pub use call_spawn::wish::voice_on_bus;
+pub use call_spawn::wish::voice_on_bus_managed;
+pub use call_spawn::wish::voice_on_bus_panned;
+pub use call_spawn::wish::voice_on_bus_panned_managed;
+pub use store::wish::Wish;
 
 // ---- the console: keyboards whose wishes for spawns wait in a table of their own, and turns that serve them
 pub use call_console::making::ConsoleMade;
@@ -64,7 +66,6 @@ pub use call_console::wishing::WishResult;
 pub use call_console::wishing::wish;
 pub use console::refusal::KeyboardRefusal;
 pub use console::refusal::keyboard_refusal_number;
-pub use console::wish::Wish;
 pub use wish_rows::row::WISH_WORDS;
 pub use wish_rows::row::WishTable;
 
@@ -93,6 +94,7 @@ pub use sealed::refusal::SealRefusal;
 pub use sealed::refusal::seal_refusal_number;
 
 // ---- what a block needs besides: fade output and bus sum
+pub use mixing::FadePart;
 pub use mixing::bus_sum;
 pub use mixing::fade_output;
 
@@ -119,13 +121,17 @@ pub use call_read::records::sources;
 pub use call_read::records::steals;
 
 // ---- arguments
+pub use graph::host::HostNode;
 pub use node::name::Name;
 pub use node::name::name_of;
 pub use node::order::EventAction;
+pub use node::order::Glide;
 pub use node::order::GlideShape;
 pub use node::order::GlideSpace;
+pub use node::record::Edge;
 pub use node::record::NodeId;
 pub use node::record::VoiceId;
+pub use store::config::Making;
 pub use synthdef::def::DefEdge;
 pub use synthdef::def::DefEdges;
 pub use synthdef::def::DefNode;
@@ -145,7 +151,6 @@ pub use graph::state::AddAnswer;
 pub use graph::state::Answer;
 pub use graph::state::Sink;
 pub use node::order::LastOrder;
-pub use node::record::Edge;
 pub use node::record::Node;
 pub use node::refusal::Refusal;
 pub use node::refusal::refusal_number;

@@ -3,6 +3,7 @@ use crate::cell::paged_cell;
 use crate::cell::paged_code;
 use crate::cell::written_code;
 use piecrag::EdgeTable;
+use piecrag::FadePart;
 use piecrag::VoiceTable;
 use state_words::StateWords;
 use state_words::config_in;
@@ -52,7 +53,12 @@ pub extern "C" fn piecrag_fade_output(
     ensures { λ k. ⌜ ((m : Memory) → Tells (λ r. filledOf r (now (out .exit))) (call.ask (call.fadeOutput (now (input .entry)) ins (now (gains .entry)) position (now (out .entry)) outs)) (lentState (stateIn (now (state .entry))) m) k (λ r. (x : refusal.Refusal) → r ≡ written.Refused x → now (out .exit) ≡ now (out .entry))) ⌝ }
 {
     let config = config_in(state);
-    written_code(piecrag::fade_output(config, input, ins, gains, position, out, outs))
+    let part = FadePart {
+        ins,
+        outs,
+        position,
+    };
+    written_code(piecrag::fade_output(config, input, gains, part, out))
 }
 
 // The sum of a bus for one block.
@@ -84,7 +90,12 @@ pub extern "C" fn piecrag_whole_fade_output(
     ensures { λ k. ⌜ ((m : Memory) → Tells (λ r. filledWhole r (now (out .exit))) (call.ask (call.wholeFade (now (input .entry)) ins (now (gains .entry)) position (now (out .entry)) outs)) (lentState (stateIn (now (state .entry))) m) k (λ r. (x : refusal.Refusal) → r ≡ written.Refused x → now (out .exit) ≡ now (out .entry))) ⌝ }
 {
     let config = config_in(state);
-    written_code(piecrag::whole_fade_output(config, input, ins, gains, position, out, outs))
+    let part = FadePart {
+        ins,
+        outs,
+        position,
+    };
+    written_code(piecrag::whole_fade_output(config, input, gains, part, out))
 }
 
 // The sum of a bus in whole numbers.

@@ -8,7 +8,7 @@ use Rattle.node.specs.declared.record.NodeId.{NodeId}
 use Rattle.synthdef.specs.declared.def.SynthDef.{SynthDef}
 use Rattle.def_book.specs.declared.answer.ReadAnswer.{ReadAnswer}
 use Rattle.def_book.specs.Read.{Read, gives, malformed, limits, readNumber, readOf, defIn}
-use Rattle.console.specs.Wishes.{callOf}
+use Rattle.model.specs.Wish.{wishFor, callOf}
 use Rattle.console.specs.Console as console
 use Rattle.memory.specs.View.{Memory}
 use Rattle.call_console.specs.Called.{ConsoleMemory, memory}
@@ -20,7 +20,7 @@ use Rattle.wish_state_words.specs.Waiting.{waitingIn}
 use Rattle.seal_words.specs.Seal.{sealIn}
 use Rattle.c_answer.proofs.Exporting.{no}
 use Rattle.piecrag_c_seal.specs.Board.{boardCode}
-use Rattle.piecrag_c_seal.specs.Book.{isMalformed, refusesBook, FromBook, wishFor, SpawnFromBook, WishFromBook}
+use Rattle.piecrag_c_seal.specs.Book.{isMalformed, refusesBook, FromBook, SpawnFromBook, WishFromBook}
 
 number-is : (shuts : Bool) (b : Read) → (not shuts && isMalformed b) ≡ true → 18 ≡ readNumber b
 number-is true b e = no e

@@ -8,8 +8,7 @@ use lib.Ieee.{Float}
 use Rattle.node.specs.declared.record.NodeId.{NodeId}
 use Rattle.synthdef.specs.declared.def.SynthDef.{SynthDef}
 use Rattle.def_book.specs.Read.{Read, gives, malformed, limits, readNumber, defIn}
-use Rattle.console.specs.declared.wish.Wish.{Wish}
-use Rattle.console.specs.Wishes.{callOf}
+use Rattle.model.specs.Wish.{wishFor, callOf}
 use Rattle.console.specs.Console.{wish}
 use Rattle.memory.specs.View.{Memory}
 use Rattle.sealed.specs.declared.profile.Seal.{Seal}
@@ -34,10 +33,6 @@ refusesBook x managed bus b = not (shutsSpawn x managed bus 0 0) && isMalformed 
 pub record FromBook (refuses : Bool) (b : Read) (k : ℕ) (Same : Type 0) (Does : SynthDef → Type 0) : Type 0 where
   pub refused : refuses ≡ true → (k ≡ readNumber b) × Same
   pub does : refuses ≡ false → Does (defIn b)
-
--- a spawn, or a wish for it, by its numbers and the definition of its book
-abbrev pub wishFor : Bool → NodeId → Float → ℕ → SynthDef → Wish
-wishFor managed bus pan rank d = record { managed = managed; def = d; bus = bus; pan = pan; rank = rank }
 
 -- The book b gives the spawn its definition. From the board m with its state in the words w the export answers k and leaves n and v; the
 -- cell held `old` and holds `new`.

@@ -5,6 +5,8 @@ use crate::numbers::added_kept;
 use crate::numbers::host_code;
 use crate::numbers::host_kept;
 use c_answer::answer::settle;
+use graph::host::HostNode;
+use node::record::Edge;
 use node::record::NodeId;
 use piecrag::EdgeTable;
 use piecrag::NodeTable;
@@ -43,7 +45,13 @@ pub extern "C" fn piecrag_add_node(
 {
     let x = seal_in(seal);
     let s = state_in(state);
-    let r = piecrag::board_add_node(x, s, nodes, kind, ports, required, values != 0, glides != 0);
+    let n = HostNode {
+        ports,
+        required,
+        takes_values: values != 0,
+        takes_glides: glides != 0,
+    };
+    let r = piecrag::board_add_node(x, s, nodes, kind, n);
     let answer = r.answer;
     *node = added_cell(answer, *node);
     settle(state, r.state, added_kept(answer), added_code(answer))
@@ -80,7 +88,12 @@ pub extern "C" fn piecrag_connect(
 {
     let x = seal_in(seal);
     let s = state_in(state);
-    let r = piecrag::board_connect(x, s, nodes, edges, NodeId(from), NodeId(to), port);
+    let e = Edge {
+        from: NodeId(from),
+        to: NodeId(to),
+        port,
+    };
+    let r = piecrag::board_connect(x, s, nodes, edges, e);
     let answer = r.answer;
     settle(state, r.state, host_kept(answer), host_code(answer))
 }

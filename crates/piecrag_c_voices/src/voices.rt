@@ -6,8 +6,7 @@ use c_answer::answer::render_kept;
 use c_answer::answer::settle;
 use c_answer::answer::sound_cell;
 use c_answer::answer::taken_cell;
-use c_answer::argument::shape_in;
-use c_answer::argument::space_in;
+use c_answer::argument::glide_in;
 use node::record::NodeId;
 use node::record::VoiceId;
 use piecrag::EdgeTable;
@@ -27,7 +26,7 @@ ghost use Rattle.memory.specs.View.{Memory};
 ghost use Rattle.memory.specs.Lent.{lentVoices, lentParams, lentRender};
 ghost use Rattle.state_words.specs.State.{stateIn};
 ghost use Rattle.c_answer.specs.Exported.{Exported, Tells, Took, soundCell, takenCell};
-ghost use Rattle.c_answer.specs.Argument.{shapeIn, spaceIn};
+ghost use Rattle.c_answer.specs.Argument.{glideIn};
 
 // The voice goes, with its nodes and edges; an unknown one answers 1.
 #[no_mangle]
@@ -96,23 +95,12 @@ pub extern "C" fn piecrag_set_voice_param_glide(
     curve: f32,
     space: u32,
 ) -> u32
-    ensures is { λ k. ⌜ ((m : Memory) → Exported (call.order (record { 0 = voice }) (now (name .entry)) (last.Glide target seconds (shapeIn shape curve) (spaceIn space))) (lentParams (stateIn (now (state .entry))) (now (nodes .entry)) (now (voices .entry)) m) (now (state .entry)) k (lentParams (stateIn (now (state .entry))) (now (nodes .exit)) (now (voices .entry)) m) (now (state .entry))) ⌝ }
-    ensures same { λ k. ⌜ ((m : Memory) → Tells call.ordered (call.order (record { 0 = voice }) (now (name .entry)) (last.Glide target seconds (shapeIn shape curve) (spaceIn space))) (lentParams (stateIn (now (state .entry))) (now (nodes .entry)) (now (voices .entry)) m) k (λ o. isYes o ≡ false → now (nodes .exit) ≡ now (nodes .entry))) ⌝ }
+    ensures is { λ k. ⌜ ((m : Memory) → Exported (call.order (record { 0 = voice }) (now (name .entry)) (last.Glide (glideIn target seconds shape curve space))) (lentParams (stateIn (now (state .entry))) (now (nodes .entry)) (now (voices .entry)) m) (now (state .entry)) k (lentParams (stateIn (now (state .entry))) (now (nodes .exit)) (now (voices .entry)) m) (now (state .entry))) ⌝ }
+    ensures same { λ k. ⌜ ((m : Memory) → Tells call.ordered (call.order (record { 0 = voice }) (now (name .entry)) (last.Glide (glideIn target seconds shape curve space))) (lentParams (stateIn (now (state .entry))) (now (nodes .entry)) (now (voices .entry)) m) k (λ o. isYes o ≡ false → now (nodes .exit) ≡ now (nodes .entry))) ⌝ }
 {
     let s = state_in(state);
-    let way = shape_in(shape, curve);
-    let unit = space_in(space);
-    let o = piecrag::set_voice_param_glide(
-        s,
-        nodes,
-        voices,
-        VoiceId(voice),
-        name,
-        target,
-        seconds,
-        way,
-        unit,
-    );
+    let g = glide_in(target, seconds, shape, curve, space);
+    let o = piecrag::set_voice_param_glide(s, nodes, voices, VoiceId(voice), name, g);
     outcome_code(o)
 }
 

@@ -1,8 +1,8 @@
-// Reports and renders.
+// Reports, prepares and renders.
 ghost use mathlib.Core.Path.{_≡_};
-ghost use Prim.Native.Nat.{_≤_};
 ghost use lib.ListN.{length};
 use crate::host::id_at;
+use crate::host::told;
 use codec::field::after;
 use codec::field::at_most;
 use codec::field::byte_at;
@@ -19,6 +19,7 @@ use piecrag::OrderTable;
 use piecrag::Rendered;
 use piecrag::State;
 use piecrag::VoiceTable;
+use piecrag::prepare;
 use piecrag::render;
 use piecrag::report;
 use transcript::answer::list_line;
@@ -53,23 +54,34 @@ pub(crate) fn reported(
     report(state, nodes, voices, node, channels, &samples[..n], done)
 }
 
-// How long a list the entry lends, and what each of its entries holds before: 256 and 255 where it does not say.
-struct Lent {
+pub(crate) fn play_prepare(
+    out: &mut Output,
+    state: State,
+    nodes: &NodeTable,
+    edges: &EdgeTable,
+    order: &mut OrderTable,
+) -> State {
+    told(out, prepare(state, nodes, edges, order))
+}
+
+// How long a list the entry lends, and what each of its entries holds before: 256 and 255 where it does not describe it.
+pub(crate) struct Lent {
+    described: bool,
     count: usize,
     old: u8,
 }
 
-fn lent_at(s: &[u8], at: usize) -> Lent
-    ensures { λ r. ⌜ r .count ≤ 4096 ⌝ }
-{
+pub(crate) fn lent_at(s: &[u8], at: usize) -> Lent {
     if byte_at(s, at) == 21 {
         return Lent {
+            described: false,
             count: 256,
             old: 255,
         };
     }
     Lent {
-        count: at_most(word_at(s, after(at, 1)) as usize, 4096),
+        described: true,
+        count: word_at(s, after(at, 1)) as usize,
         old: byte_at(s, after(at, 5)),
     }
 }
@@ -97,10 +109,10 @@ fn shown(
     }
 }
 
+// Of the entries that a list is said to have 4,096 count.
 pub(crate) fn play_render(
     out: &mut Output,
-    s: &[u8],
-    at: usize,
+    lent: Lent,
     state: State,
     nodes: &mut NodeTable,
     edges: &mut EdgeTable,
@@ -108,11 +120,10 @@ pub(crate) fn play_render(
     voices: &mut VoiceTable,
     events: &mut EventTable,
 ) -> State {
-    let lent = lent_at(s, at);
-    let n = lent.count;
+    let n = at_most(lent.count, 4096);
     let mut room = list_room(lent.old);
     let r = render(state, nodes, edges, order, voices, events, &mut room[..n]);
     let answer = r.answer;
-    shown(out, byte_at(s, at) == 35, answer, r.taken, &room, n);
+    shown(out, lent.described, answer, r.taken, &room, n);
     r.state
 }

@@ -26,8 +26,9 @@ use piecrag::board_connect;
 use piecrag::board_disconnect;
 use piecrag::board_remove_node;
 use piecrag::board_set_sink;
+use script::host::host_node_at;
+use script::host::wire_at;
 use script::name::name_at;
-use script::name::name_end;
 use transcript::answer::answer_line;
 use transcript::answer::given_line;
 
@@ -89,16 +90,9 @@ fn set(out: &mut Output, s: &[u8], at: usize, state: State, nodes: &mut NodeTabl
     counted
 }
 
-// A kind name, ports, required ports and what the node takes. Its channels are the generator's.
+// A kind name, and what else the host says of the node.
 fn add(s: &[u8], at: usize, seal: Seal, state: State, nodes: &mut NodeTable) -> BoardAdded {
-    let kind = name_at(s, at);
-    let rest = name_end(s, at);
-    let ports = word_at(s, rest);
-    let required = long_at(s, after(rest, 4));
-    let takes = byte_at(s, after(rest, 12));
-    let values = takes % 2 == 1;
-    let glides = takes / 2 % 2 == 1;
-    board_add_node(seal, state, nodes, kind, ports, required, values, glides)
+    board_add_node(seal, state, nodes, name_at(s, at), host_node_at(s, at))
 }
 
 fn add_told(out: &mut Output, r: BoardAdded) -> State {
@@ -110,7 +104,7 @@ fn add_told(out: &mut Output, r: BoardAdded) -> State {
     r.state
 }
 
-// The counters, or a call on the host's nodes: one node, or two, and a port.
+// The counters, or a call on the host's nodes: one node, a node and a port, or an edge.
 pub(crate) fn play_host(
     out: &mut Output,
     s: &[u8],
@@ -122,14 +116,15 @@ pub(crate) fn play_host(
 ) -> State {
     let from = after(at, 1);
     let id = id_at(s, from);
-    let to = id_at(s, after(from, 4));
     let port = word_at(s, after(from, 4));
-    let third = word_at(s, after(from, 8));
     match byte_at(s, at) {
         2 => set(out, s, from, state, nodes),
         3 => add_told(out, add(s, from, seal, state, nodes)),
         4 => host_told(out, board_remove_node(seal, state, nodes, edges, id)),
-        5 => host_told(out, board_connect(seal, state, nodes, edges, id, to, third)),
+        5 => host_told(
+            out,
+            board_connect(seal, state, nodes, edges, wire_at(s, from)),
+        ),
         6 => host_told(out, board_disconnect(seal, state, nodes, edges, id, port)),
         _ => host_told(out, board_set_sink(seal, state, nodes, id)),
     }

@@ -11,18 +11,16 @@ use codec::output::end_line;
 use codec::output::text;
 use piecrag::Answer;
 use piecrag::BoardWished;
-use piecrag::Budget;
-use piecrag::BudgetScope;
 use piecrag::ConsoleMade;
 use piecrag::EdgeTable;
 use piecrag::KeyboardRefusal;
 use piecrag::Made;
 use piecrag::MakeAnswer;
+use piecrag::Making;
 use piecrag::NodeTable;
 use piecrag::Queue;
 use piecrag::Seal;
 use piecrag::State;
-use piecrag::StealPolicy;
 use piecrag::StealTable;
 use piecrag::SynthDef;
 use piecrag::TurnAnswer;
@@ -41,8 +39,10 @@ use piecrag::waiting_count;
 use script::config::budget_of;
 use script::config::policy_of;
 use script::config::scope_of;
+use script::name::name_at;
 use transcript::answer::made_line;
 use transcript::answer::refused_line;
+use transcript::answer::remark_line;
 use transcript::answer::spawned_line;
 
 // The script's store, with the wishes that wait for it and its seal.
@@ -78,25 +78,18 @@ fn keyboard_line(out: &mut Output, refusal: KeyboardRefusal) {
     end_line(out);
 }
 
-// What every making says first.
-struct Asked {
-    rate: f32,
-    block: usize,
-    budget: Budget,
-    policy: StealPolicy,
-    scope: BudgetScope,
-}
-
-fn asked_at(s: &[u8], at: usize) -> Asked {
+// What every making says first. Where `table` stands depends on the entry.
+fn making_at(s: &[u8], at: usize, table: bool) -> Making {
     let budget = budget_of(byte_at(s, after(at, 8)), word_at(s, after(at, 9)) as usize);
     let policy = policy_of(byte_at(s, after(at, 13)));
     let scope = scope_of(byte_at(s, after(at, 14)));
-    Asked {
+    Making {
         rate: float(word_at(s, at)),
         block: word_at(s, after(at, 4)) as usize,
         budget,
         policy,
         scope,
+        table,
     }
 }
 
@@ -131,19 +124,15 @@ fn after_console(out: &mut Output, r: ConsoleMade, board: Board) -> Board {
 }
 
 // A store without the fade table, with it, or one with keyboards.
-pub(crate) fn play_making(out: &mut Output, s: &[u8], at: usize, board: Board) -> Board {
-    let a = asked_at(s, after(at, 1));
-    let budget = a.budget;
-    let policy = a.policy;
-    let scope = a.scope;
+fn play_making(out: &mut Output, s: &[u8], at: usize, board: Board) -> Board {
+    let from = after(at, 1);
     let sort = byte_at(s, at);
     if sort != 47 {
-        let made = make(a.rate, a.block, budget, policy, scope, sort == 34);
-        return after_making(out, made, board);
+        return after_making(out, make(making_at(s, from, sort == 34)), board);
     }
     let table = byte_at(s, after(at, 16)) != 0;
     let keyboards = word_at(s, after(at, 17)) as usize;
-    let made = make_console(a.rate, a.block, budget, policy, scope, table, keyboards);
+    let made = make_console(making_at(s, from, table), keyboards);
     after_console(out, made, board)
 }
 
@@ -173,24 +162,17 @@ fn wish_line(out: &mut Output, answer: BoardWished) {
     }
 }
 
-pub(crate) fn play_wish(
+// The wish `w` at a keyboard.
+fn play_wish(
     out: &mut Output,
-    s: &[u8],
-    at: usize,
-    def: SynthDef,
+    keyboard: usize,
+    w: Wish,
     board: Board,
     wishes: &mut WishTable,
 ) -> Board {
     let before = board.wishes;
     let seal = board.seal;
-    let keyboard = word_at(s, after(at, 2)) as usize;
-    let r = board_wish(
-        seal,
-        before,
-        wishes,
-        keyboard,
-        wish_at(s, after(at, 1), def),
-    );
+    let r = board_wish(seal, before, wishes, keyboard, w);
     let answer = r.answer;
     wish_line(out, answer);
     let state = board.state;
@@ -246,7 +228,7 @@ fn and_waiting(out: &mut Output, w: WishState, q: usize) {
 }
 
 // How many wishes wait at each keyboard, and the keyboard after the last served.
-pub(crate) fn waiting_line(out: &mut Output, w: WishState) {
+fn waiting_line(out: &mut Output, w: WishState) {
     text(out, b"waiting");
     and_waiting(out, w, 0);
     and_waiting(out, w, 1);
@@ -259,4 +241,31 @@ pub(crate) fn waiting_line(out: &mut Output, w: WishState) {
     text(out, b" next");
     and_number(out, w.next as u64);
     end_line(out);
+}
+
+// A making, a wish, what waits, or a remark: none of them is lent a table of the store. A wish is for the definition `def`.
+pub(crate) fn play_console(
+    out: &mut Output,
+    s: &[u8],
+    at: usize,
+    def: SynthDef,
+    board: Board,
+    wishes: &mut WishTable,
+) -> Board {
+    match byte_at(s, at) {
+        48 => {
+            let keyboard = word_at(s, after(at, 2)) as usize;
+            play_wish(out, keyboard, wish_at(s, after(at, 1), def), board, wishes)
+        }
+        50 => {
+            let waiting = board.wishes;
+            waiting_line(out, waiting);
+            board
+        }
+        53 => {
+            remark_line(out, name_at(s, after(at, 1)));
+            board
+        }
+        _ => play_making(out, s, at, board),
+    }
 }

@@ -1,44 +1,37 @@
 // An entry of a script on its store, in seven lent tables.
+use crate::blocks::lent_at;
+use crate::blocks::play_prepare;
 use crate::blocks::play_render;
 use crate::host::play_host;
-use crate::host::told;
 use crate::keyboards::Board;
 use crate::keyboards::new_board;
 use crate::keyboards::no_keyboards;
-use crate::keyboards::play_making;
+use crate::keyboards::play_console;
 use crate::keyboards::play_turn;
-use crate::keyboards::play_wish;
-use crate::keyboards::waiting_line;
 use crate::seals::play_seal;
 use crate::spawns::play_spawn;
-use crate::tell::tell_table;
-use crate::tell::tell_voice;
+use crate::spawns::spawn_at;
+use crate::tell::question_at;
+use crate::tell::tell;
 use crate::voices::play_event;
-use crate::voices::play_order;
-use crate::voices::play_removal;
+use crate::voices::play_voice;
 use codec::field::byte_at;
 use codec::output::Output;
-use piecrag::Budget;
-use piecrag::BudgetScope;
 use piecrag::EdgeTable;
 use piecrag::EventTable;
 use piecrag::NodeTable;
 use piecrag::OrderTable;
 use piecrag::State;
-use piecrag::StealPolicy;
 use piecrag::StealTable;
 use piecrag::SynthDef;
 use piecrag::VoiceTable;
 use piecrag::WishTable;
 use piecrag::make;
-use piecrag::prepare;
-use transcript::state::state_lines;
+use script::config::first_making;
 
 // Entries before the first making are played on a store of 48,000 Hz, block 64, no budget, without keyboards.
 pub(crate) fn first_board() -> Board {
-    let policy = StealPolicy::Reject;
-    let scope = BudgetScope::Global;
-    let r = make(48000.0, 64, Budget::Unlimited, policy, scope, false);
+    let r = make(first_making());
     new_board(r.state, no_keyboards())
 }
 
@@ -69,30 +62,28 @@ pub(crate) fn play_entry(
     wishes: &mut WishTable,
 ) -> Board {
     let state = board.state;
-    let waiting = board.wishes;
     let seal = board.seal;
+    let mut next = state;
     match byte_at(s, at) {
-        1 | 34 | 47 => return play_making(out, s, at, board),
-        2..=7 => return on_store(board, play_host(out, s, at, seal, state, nodes, edges)),
+        2..=7 => next = play_host(out, s, at, seal, state, nodes, edges),
         9..=12 => {
-            let after = play_spawn(out, s, at, def, seal, state, nodes, edges, voices, steals);
-            return on_store(board, after);
+            let w = spawn_at(s, at, def);
+            next = play_spawn(out, w, seal, state, nodes, edges, voices, steals);
         }
-        13 | 14 => return on_store(board, play_removal(out, s, at, state, nodes, edges, voices)),
-        15 | 16 | 18 | 19 => play_order(out, s, at, state, nodes, voices),
-        17 => return on_store(board, play_event(out, s, at, state, events)),
-        20 => return on_store(board, told(out, prepare(state, nodes, edges, order))),
+        13..=16 | 18 | 19 => next = play_voice(out, s, at, state, nodes, edges, voices),
+        17 => next = play_event(out, s, at, state, events),
+        20 => next = play_prepare(out, state, nodes, edges, order),
         21 | 35 => {
-            let after = play_render(out, s, at, state, nodes, edges, order, voices, events);
-            return on_store(board, after);
+            let lent = lent_at(s, at);
+            next = play_render(out, lent, state, nodes, edges, order, voices, events);
         }
-        22..=25 => tell_voice(out, s, at, state, nodes, voices),
-        26..=32 => tell_table(out, s, at, state, edges, order, voices, steals),
-        33 => state_lines(out, state, nodes, edges, order, voices, events, steals),
-        48 => return play_wish(out, s, at, def, board, wishes),
+        22..=33 => {
+            let q = question_at(s, at);
+            tell(out, q, state, nodes, edges, order, voices, events, steals);
+        }
         49 => return play_turn(out, board, nodes, edges, voices, steals, wishes),
         52 => return play_seal(out, s, at, board, nodes, edges, voices),
-        _ => waiting_line(out, waiting),
+        _ => return play_console(out, s, at, def, board, wishes),
     }
-    board
+    on_store(board, next)
 }

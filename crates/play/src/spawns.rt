@@ -42,12 +42,27 @@ fn is_managed(sort: u8) -> bool {
     }
 }
 
+fn spawn_line(out: &mut Output, answer: BoardSpawned) {
+    match answer {
+        BoardSpawned::Closed => closed_line(out),
+        BoardSpawned::Given(given) => spawned_line(out, given),
+    }
+}
+
 // A slot, whose definition is `def`, a bus and, but for the calls with pan 0, a pan; then a rank.
+pub(crate) fn spawn_at(s: &[u8], at: usize, def: SynthDef) -> Wish {
+    Wish {
+        managed: is_managed(byte_at(s, at)),
+        def,
+        bus: id_at(s, after(at, 2)),
+        pan: pan_at(s, at),
+        rank: rank_at(s, at),
+    }
+}
+
 pub(crate) fn play_spawn(
     out: &mut Output,
-    s: &[u8],
-    at: usize,
-    def: SynthDef,
+    w: Wish,
     seal: Seal,
     state: State,
     nodes: &mut NodeTable,
@@ -55,18 +70,8 @@ pub(crate) fn play_spawn(
     voices: &mut VoiceTable,
     steals: &mut StealTable,
 ) -> State {
-    let w = Wish {
-        managed: is_managed(byte_at(s, at)),
-        def,
-        bus: id_at(s, after(at, 2)),
-        pan: pan_at(s, at),
-        rank: rank_at(s, at),
-    };
     let r = board_spawn(seal, state, nodes, edges, voices, steals, w);
     let answer = r.answer;
-    match answer {
-        BoardSpawned::Closed => closed_line(out),
-        BoardSpawned::Given(given) => spawned_line(out, given),
-    }
+    spawn_line(out, answer);
     r.state
 }

@@ -31,22 +31,28 @@ pub(crate) fn voice_at(s: &[u8], at: usize) -> VoiceId {
     VoiceId(long_at(s, at))
 }
 
-// A free, or a clearing.
-pub(crate) fn play_removal(
+// A free of the voice `id`.
+fn play_free(
     out: &mut Output,
-    s: &[u8],
-    at: usize,
+    id: VoiceId,
     state: State,
     nodes: &mut NodeTable,
     edges: &mut EdgeTable,
     voices: &mut VoiceTable,
 ) -> State {
-    if byte_at(s, at) == 13 {
-        let r = free_voice(state, nodes, edges, voices, voice_at(s, after(at, 1)));
-        let outcome = r.outcome;
-        outcome_line(out, outcome);
-        return r.state;
-    }
+    let r = free_voice(state, nodes, edges, voices, id);
+    let outcome = r.outcome;
+    outcome_line(out, outcome);
+    r.state
+}
+
+fn play_clearing(
+    out: &mut Output,
+    state: State,
+    nodes: &mut NodeTable,
+    edges: &mut EdgeTable,
+    voices: &mut VoiceTable,
+) -> State {
     let r = free_done_synths(state, nodes, edges, voices);
     removed_line(out, r.removed);
     r.state
@@ -61,17 +67,11 @@ fn value(s: &[u8], at: usize, state: State, nodes: &mut NodeTable, voices: &Voic
 fn glide(s: &[u8], at: usize, state: State, nodes: &mut NodeTable, voices: &VoiceTable) -> Outcome {
     let name = after(at, 8);
     let g = glide_at(s, name_end(s, name));
-    let id = voice_at(s, at);
-    let x = g.target;
-    let secs = g.seconds;
-    let shape = g.shape;
-    let space = g.space;
-    let param = name_at(s, name);
-    set_voice_param_glide(state, nodes, voices, id, param, x, secs, shape, space)
+    set_voice_param_glide(state, nodes, voices, voice_at(s, at), name_at(s, name), g)
 }
 
 // A value, a glide or a report. The state stays as it is.
-pub(crate) fn play_order(
+fn play_order(
     out: &mut Output,
     s: &[u8],
     at: usize,
@@ -84,6 +84,26 @@ pub(crate) fn play_order(
         15 => outcome_line(out, value(s, from, state, nodes, voices)),
         16 => outcome_line(out, glide(s, from, state, nodes, voices)),
         _ => answer_line(out, reported(s, at, state, nodes, voices)),
+    }
+}
+
+// A free, a clearing, a value, a glide or a report.
+pub(crate) fn play_voice(
+    out: &mut Output,
+    s: &[u8],
+    at: usize,
+    state: State,
+    nodes: &mut NodeTable,
+    edges: &mut EdgeTable,
+    voices: &mut VoiceTable,
+) -> State {
+    match byte_at(s, at) {
+        13 => play_free(out, voice_at(s, after(at, 1)), state, nodes, edges, voices),
+        14 => play_clearing(out, state, nodes, edges, voices),
+        _ => {
+            play_order(out, s, at, state, nodes, voices);
+            state
+        }
     }
 }
 

@@ -22,9 +22,9 @@ use Rattle.rank.proofs.Cycle.{upto-in}
 use Rattle.rank.proofs.Invariant.{among-in, in-among, at-in}
 use Rattle.rank.proofs.Counts.{among-upto, length-upto}
 
-keep-map-in : {A B : Type 0} (f : A → B) (q : B → Bool) (r : A → Bool) (l : List A) → ((x : A) → In x l → q (f x) ≡ r x) → filter q (map f l) ≡ map f (filter r l)
-keep-map-in f q r [] h = refl
-keep-map-in f q r (x ∷ l) h = rw (h x (inl refl), keep-map-in f q r l (λ y m. h y (inr m))) (go (r x))
+filter-map-in : {A B : Type 0} (f : A → B) (q : B → Bool) (r : A → Bool) (l : List A) → ((x : A) → In x l → q (f x) ≡ r x) → filter q (map f l) ≡ map f (filter r l)
+filter-map-in f q r [] h = refl
+filter-map-in f q r (x ∷ l) h = rw (h x (inl refl), filter-map-in f q r l (λ y m. h y (inr m))) (go (r x))
   where
     go : (b : Bool) → put? b (f x) (map f (filter r l)) ≡ map f (put? b x (filter r l))
     go true = refl
@@ -47,10 +47,10 @@ module _ (f : ℕ → ℕ) (n : ℕ) (apart : (a b : ℕ) → a < n → b < n �
   fed-named (e ∷ l) t h k = rw (apart (e .to) t (h e (inl refl) .1) k, fed-named l t (λ x m. h x (inr m)) k)
 
   own-named : (v : ℕ) (l : List Arc) → v < n → Between l → own (f v) (map named l) ≡ map named (own v l)
-  own-named v l k h = keep-map-in named _ _ l (λ e m. apart (e .from) v (h e m .0) k)
+  own-named v l k h = filter-map-in named _ _ l (λ e m. apart (e .from) v (h e m .0) k)
 
   others-named : (v : ℕ) (l : List Arc) → v < n → Between l → others (f v) (map named l) ≡ map named (others v l)
-  others-named v l k h = keep-map-in named _ _ l (λ e m. ap not (apart (e .from) v (h e m .0) k))
+  others-named v l k h = filter-map-in named _ _ l (λ e m. ap not (apart (e .from) v (h e m .0) k))
 
   released-named : (mine left : List Arc) → Between mine → Between left → released (map named mine) (map named left) ≡ map f (released mine left)
   unfolding released
@@ -193,7 +193,7 @@ module _ (names : List ℕ) (d : Distinct names) where
       (upto-in n (e .from) (among-in (e .from) (upto n) (and-left a b t)), upto-in n (e .to) (among-in (e .to) (upto n) (and-right a b t))) in
       let first : filter (λ v. not (fed v (map call rs))) names ≡ map name (filter (λ v. not (fed v rs)) (upto n)) =
       ap (filter (λ v. not (fed v (map call rs)))) (sym (names-of-rows [] names))
-      ∙ keep-map-in name _ _ (upto n) (λ v m. ap not (fed-named name n (rows-apart names d) rs v between (small v m))) in
+      ∙ filter-map-in name _ _ (upto n) (λ v m. ap not (fed-named name n (rows-apart names d) rs v between (small v m))) in
       rw (live-named es, first, length-upto n)
       (walk-named name n (rows-apart names d) n (filter (λ v. not (fed v rs)) (upto n)) rs (λ x m. small x (in-filter _ (upto n) x m .0)) between)
 

@@ -19,7 +19,7 @@ use Rattle.memory.specs.Called.{Called, Kept}
 use Rattle.memory.specs.Called as memory
 use Rattle.memory.proofs.Run as lent
 use Rattle.memory.proofs.Contracts.{kept-none}
-use Rattle.call_make.specs.Made.{making, ifDone}
+use Rattle.call_make.specs.Made.{ifDone}
 use Rattle.call_make.proofs.make.Reads as fn-make
 use Rattle.refinement.specs.Contract.{Contract, Runs, ends, calls}
 use Rattle.refinement.specs.Contract as contract
@@ -31,10 +31,7 @@ called (contract.remove-node κs a r s p m) = p .0 m
 called (contract.connect κs a r s p m) = p .0 m
 called (contract.disconnect κs a r s p m) = p .0 m
 called (contract.set-sink κs a r s p m) = p .0 m
-called (contract.spawn-panned-managed κs a r s p m) = p .0 m
-called (contract.spawn-panned κs a r s p m) = p .0 m
-called (contract.spawn-managed κs a r s p m) = p .0 m
-called (contract.spawn κs a r s p m) = p .0 m
+called (contract.spawn-voice κs a r s p m) = p .0 m
 called (contract.free-voice κs a r s p m) = p .0 m
 called (contract.free-done κs a r s p m) = p m
 called (contract.set-param κs a r s p m) = p .0 m
@@ -57,12 +54,12 @@ called (contract.clock κs a r s p m) = p m
 called (contract.page κs a r s p m) = p .0 m
 called (contract.fade-output κs a r s p m e) =
     ap (call.reads (modelOf m))
-    (p .0 ∙ ap (λ c. call.fadeAnswer c (a .1 .0 .now) (a .1 .1 .0) (a .1 .1 .1 .0 .now) (a .1 .1 .1 .1 .0) (a .1 .1 .1 .1 .1 .0 .now) (a .1 .1 .1 .1 .1 .1 .0)) (sym e))
+    (p .0 ∙ ap (λ c. call.fadeAnswer c (a .1 .0 .now) (a .1 .1 .1 .0 .ins) (a .1 .1 .0 .now) (a .1 .1 .1 .0 .position) (a .1 .1 .1 .1 .0 .now) (a .1 .1 .1 .0 .outs)) (sym e))
 called (contract.bus-sum κs a r s p m e) =
     ap (call.reads (modelOf m)) (p .0 ∙ ap (λ c. call.sumAnswer c (a .1 .0 .now) (a .1 .1 .0 .now) (a .1 .1 .1 .0 .now) (a .1 .1 .1 .1 .0)) (sym e))
 called (contract.whole-fade κs a r s p m e) =
     ap (call.reads (modelOf m))
-    (p .0 ∙ ap (λ c. call.wholeFadeAnswer c (a .1 .0 .now) (a .1 .1 .0) (a .1 .1 .1 .0 .now) (a .1 .1 .1 .1 .0) (a .1 .1 .1 .1 .1 .0 .now) (a .1 .1 .1 .1 .1 .1 .0)) (sym e))
+    (p .0 ∙ ap (λ c. call.wholeFadeAnswer c (a .1 .0 .now) (a .1 .1 .1 .0 .ins) (a .1 .1 .0 .now) (a .1 .1 .1 .0 .position) (a .1 .1 .1 .1 .0 .now) (a .1 .1 .1 .0 .outs)) (sym e))
 called (contract.whole-sum κs a r s p m e) =
     ap (call.reads (modelOf m)) (p .0 ∙ ap (λ c. call.wholeSumAnswer c (a .1 .0 .now) (a .1 .1 .0 .now) (a .1 .1 .1 .0 .now) (a .1 .1 .1 .1 .0)) (sym e))
 
@@ -73,10 +70,7 @@ kept (contract.remove-node κs a r s p m) = p .1 m
 kept (contract.connect κs a r s p m) = p .1 m
 kept (contract.disconnect κs a r s p m) = p .1 m
 kept (contract.set-sink κs a r s p m) = p .1 m
-kept (contract.spawn-panned-managed κs a r s p m) = p .1 m
-kept (contract.spawn-panned κs a r s p m) = p .1 m
-kept (contract.spawn-managed κs a r s p m) = p .1 m
-kept (contract.spawn κs a r s p m) = p .1 m
+kept (contract.spawn-voice κs a r s p m) = p .1 m
 kept (contract.free-voice κs a r s p m) = λ e. kept-none e
 kept (contract.free-done κs a r s p m) = λ e. kept-none e
 kept (contract.set-param κs a r s p m) = λ e. kept-none e
@@ -119,11 +113,11 @@ made-new k m a n e accepted = go a (e ∙ accepted)
 
 -- the refinement, from the contract of `make`
 pub refines : (κs : _) (a : _) (r : _) (s : _) → fn-make.Post κs a r s
-    → (m : Model) → make (making (a .0) (a .1 .0) (a .1 .1 .0) (a .1 .1 .1 .0) (a .1 .1 .1 .1 .0) (a .1 .1 .1 .1 .1 .0)) ≡ some m
+    → (m : Model) → make (a .0) ≡ some m
     → (tables last : Memory) (cs : List Call) (said : List Answer) → Runs (lentState (r .state) tables) cs said last
-    → Refines (making (a .0) (a .1 .0) (a .1 .1 .0) (a .1 .1 .1 .0) (a .1 .1 .1 .1 .0) (a .1 .1 .1 .1 .1 .0)) m cs said last
+    → Refines (a .0) m cs said last
 refines κs a r s p m accepted tables last cs said ran =
-    let k = making (a .0) (a .1 .0) (a .1 .1 .0) (a .1 .1 .1 .0) (a .1 .1 .1 .1 .0) (a .1 .1 .1 .1 .1 .0) in
+    let k = a .0 in
     let is = run-is ran ∙ ap (run cs) (made-new k m (r .answer) (lentState (r .state) tables) (p .0 tables) accepted) in
     let holds = claim k m accepted cs in
     record { ran = is; claimed = holds; replaced = replaced-same k m accepted cs; numbers = ap (map numberIn) (ap (λ (x : Ran). x .answers) is ∙ holds .answers) }

@@ -13,12 +13,12 @@ use Rattle.order_table.specs.Prepares.{idsIn}
 use Rattle.voice.specs.Steals.{logOf}
 use Rattle.voice_rows.specs.Rows.{voicesIn}
 use Rattle.model.specs.Numbers.{positionSays}
-use Rattle.model.specs.Spawn.{spawnOf, middle}
+use Rattle.model.specs.Wish.{callOf}
 use Rattle.model.specs.Call.{Call, Answer}
 use Rattle.model.specs.Call as call
 use Rattle.memory.specs.View.{Memory}
 use Rattle.memory.specs.Lent.{lentEdges, lentEvents, lentGraph, lentNodes, lentOrder, lentPage, lentParams, lentProcessing, lentRender, lentSpawn, lentState, lentSteals, lentVoiceTable, lentVoices}
-use Rattle.memory.specs.Called.{answered, granted}
+use Rattle.memory.specs.Called.{answered, addAnswered}
 use Rattle.call_read.specs.Found.{voiceFound}
 use Rattle.call_page.specs.Paged.{pagedOf}
 use Rattle.mixing.specs.Filled.{filledOf}
@@ -28,10 +28,7 @@ use Rattle.call_host.proofs.host.remove_node.Reads as fn-remove-node
 use Rattle.call_host.proofs.host.connect.Reads as fn-connect
 use Rattle.call_host.proofs.host.disconnect.Reads as fn-disconnect
 use Rattle.call_host.proofs.host.set_sink.Reads as fn-set-sink
-use Rattle.call_spawn.proofs.spawn.spawn_voice_on_bus_panned_managed.Reads as fn-spawn-panned-managed
-use Rattle.call_spawn.proofs.spawn.spawn_voice_on_bus_panned.Reads as fn-spawn-panned
-use Rattle.call_spawn.proofs.spawn.spawn_voice_on_bus_managed.Reads as fn-spawn-managed
-use Rattle.call_spawn.proofs.spawn.spawn_voice_on_bus.Reads as fn-spawn
+use Rattle.call_spawn.proofs.spawn.spawn_voice.Reads as fn-spawn-voice
 use Rattle.call_free.proofs.free.free_voice.Reads as fn-free-voice
 use Rattle.call_clear.proofs.clear.free_done_synths.Reads as fn-free-done
 use Rattle.call_param.proofs.param.set_voice_param.Reads as fn-set-param
@@ -61,24 +58,18 @@ use Rattle.whole_mixing.proofs.bus_sum.Reads as fn-whole-sum
 pub data Contract : Call → Memory → Answer → Memory → Type 1 where
   -- the host's nodes and wiring
   add-node : (κs : _) (a : _) (r : _) (s : _) → fn-add-node.Post κs a r s → (m : Memory)
-      → Contract (call.addNode (a .1 .1 .0 .now) (a .1 .1 .1 .0) (a .1 .1 .1 .1 .0) (a .1 .1 .1 .1 .1 .0) (a .1 .1 .1 .1 .1 .1 .0)) (lentNodes (a .0) (a .1 .0 .now) m) (granted (r .given)) (lentNodes (r .state) (s .1 .0 .now) m)
+      → Contract (call.addNode (a .1 .1 .0 .now) (a .1 .1 .1 .0 .ports) (a .1 .1 .1 .0 .required) (a .1 .1 .1 .0 .«takes_values») (a .1 .1 .1 .0 .«takes_glides»)) (lentNodes (a .0) (a .1 .0 .now) m) (addAnswered (r .given)) (lentNodes (r .state) (s .1 .0 .now) m)
   remove-node : (κs : _) (a : _) (r : _) (s : _) → fn-remove-node.Post κs a r s → (m : Memory)
       → Contract (call.removeNode (a .1 .1 .1 .0)) (lentGraph (a .0) (a .1 .0 .now) (a .1 .1 .0 .now) m) (answered (r .answer)) (lentGraph (r .state) (s .1 .0 .now) (s .1 .1 .0 .now) m)
   connect : (κs : _) (a : _) (r : _) (s : _) → fn-connect.Post κs a r s → (m : Memory)
-      → Contract (call.connect (a .1 .1 .1 .0) (a .1 .1 .1 .1 .0) (a .1 .1 .1 .1 .1 .0)) (lentGraph (a .0) (a .1 .0 .now) (a .1 .1 .0 .now) m) (answered (r .answer)) (lentGraph (r .state) (a .1 .0 .now) (s .1 .1 .0 .now) m)
+      → Contract (call.connect (a .1 .1 .1 .0 .from) (a .1 .1 .1 .0 .to) (a .1 .1 .1 .0 .port)) (lentGraph (a .0) (a .1 .0 .now) (a .1 .1 .0 .now) m) (answered (r .answer)) (lentGraph (r .state) (a .1 .0 .now) (s .1 .1 .0 .now) m)
   disconnect : (κs : _) (a : _) (r : _) (s : _) → fn-disconnect.Post κs a r s → (m : Memory)
       → Contract (call.disconnect (a .1 .1 .1 .0) (a .1 .1 .1 .1 .0)) (lentGraph (a .0) (a .1 .0 .now) (a .1 .1 .0 .now) m) (answered (r .answer)) (lentGraph (r .state) (a .1 .0 .now) (s .1 .1 .0 .now) m)
   set-sink : (κs : _) (a : _) (r : _) (s : _) → fn-set-sink.Post κs a r s → (m : Memory)
       → Contract (call.setSink (a .1 .1 .0)) (lentNodes (a .0) (a .1 .0 .now) m) (answered (r .answer)) (lentNodes (r .state) (a .1 .0 .now) m)
-  -- the spawns; those in the middle have pan 0
-  spawn-panned-managed : (κs : _) (a : _) (r : _) (s : _) → fn-spawn-panned-managed.Post κs a r s → (m : Memory)
-      → Contract (call.spawnManaged (spawnOf (a .1 .1 .1 .1 .1 .0) (a .1 .1 .1 .1 .1 .1 .0) (a .1 .1 .1 .1 .1 .1 .1 .0) (a .1 .1 .1 .1 .1 .1 .1 .1 .0))) (lentSpawn (a .0) (a .1 .0 .now) (a .1 .1 .0 .now) (a .1 .1 .1 .0 .now) (a .1 .1 .1 .1 .0 .now) m) (call.spawned (r .answer)) (lentSpawn (r .state) (s .1 .0 .now) (s .1 .1 .0 .now) (s .1 .1 .1 .0 .now) (s .1 .1 .1 .1 .0 .now) m)
-  spawn-panned : (κs : _) (a : _) (r : _) (s : _) → fn-spawn-panned.Post κs a r s → (m : Memory)
-      → Contract (call.spawnLoose (spawnOf (a .1 .1 .1 .1 .1 .0) (a .1 .1 .1 .1 .1 .1 .0) (a .1 .1 .1 .1 .1 .1 .1 .0) (a .1 .1 .1 .1 .1 .1 .1 .1 .0))) (lentSpawn (a .0) (a .1 .0 .now) (a .1 .1 .0 .now) (a .1 .1 .1 .0 .now) (a .1 .1 .1 .1 .0 .now) m) (call.spawned (r .answer)) (lentSpawn (r .state) (s .1 .0 .now) (s .1 .1 .0 .now) (s .1 .1 .1 .0 .now) (s .1 .1 .1 .1 .0 .now) m)
-  spawn-managed : (κs : _) (a : _) (r : _) (s : _) → fn-spawn-managed.Post κs a r s → (m : Memory)
-      → Contract (call.spawnManaged (spawnOf (a .1 .1 .1 .1 .1 .0) (a .1 .1 .1 .1 .1 .1 .0) middle (a .1 .1 .1 .1 .1 .1 .1 .0))) (lentSpawn (a .0) (a .1 .0 .now) (a .1 .1 .0 .now) (a .1 .1 .1 .0 .now) (a .1 .1 .1 .1 .0 .now) m) (call.spawned (r .answer)) (lentSpawn (r .state) (s .1 .0 .now) (s .1 .1 .0 .now) (s .1 .1 .1 .0 .now) (s .1 .1 .1 .1 .0 .now) m)
-  spawn : (κs : _) (a : _) (r : _) (s : _) → fn-spawn.Post κs a r s → (m : Memory)
-      → Contract (call.spawnLoose (spawnOf (a .1 .1 .1 .1 .1 .0) (a .1 .1 .1 .1 .1 .1 .0) middle (a .1 .1 .1 .1 .1 .1 .1 .0))) (lentSpawn (a .0) (a .1 .0 .now) (a .1 .1 .0 .now) (a .1 .1 .1 .0 .now) (a .1 .1 .1 .1 .0 .now) m) (call.spawned (r .answer)) (lentSpawn (r .state) (s .1 .0 .now) (s .1 .1 .0 .now) (s .1 .1 .1 .0 .now) (s .1 .1 .1 .1 .0 .now) m)
+  -- the spawn of any wish: the four of 01 are the wishes that are managed or not, with a pan or with pan 0
+  spawn-voice : (κs : _) (a : _) (r : _) (s : _) → fn-spawn-voice.Post κs a r s → (m : Memory)
+      → Contract (callOf (a .1 .1 .1 .1 .1 .0)) (lentSpawn (a .0) (a .1 .0 .now) (a .1 .1 .0 .now) (a .1 .1 .1 .0 .now) (a .1 .1 .1 .1 .0 .now) m) (call.spawned (r .answer)) (lentSpawn (r .state) (s .1 .0 .now) (s .1 .1 .0 .now) (s .1 .1 .1 .0 .now) (s .1 .1 .1 .1 .0 .now) m)
   -- free and clearing
   free-voice : (κs : _) (a : _) (r : _) (s : _) → fn-free-voice.Post κs a r s → (m : Memory)
       → Contract (call.free (a .1 .1 .1 .1 .0)) (lentVoices (a .0) (a .1 .0 .now) (a .1 .1 .0 .now) (a .1 .1 .1 .0 .now) m) (call.ordered (r .outcome)) (lentVoices (r .state) (s .1 .0 .now) (s .1 .1 .0 .now) (s .1 .1 .1 .0 .now) m)
@@ -88,7 +79,7 @@ pub data Contract : Call → Memory → Answer → Memory → Type 1 where
   set-param : (κs : _) (a : _) (r : _) (s : _) → fn-set-param.Post κs a r s → (m : Memory)
       → Contract (call.order (a .1 .1 .1 .0) (a .1 .1 .1 .1 .0 .now) (LastOrder.Value (a .1 .1 .1 .1 .1 .0))) (lentParams (a .0) (a .1 .0 .now) (a .1 .1 .0 .now) m) (call.ordered r) (lentParams (a .0) (s .1 .0 .now) (a .1 .1 .0 .now) m)
   set-param-glide : (κs : _) (a : _) (r : _) (s : _) → fn-set-param-glide.Post κs a r s → (m : Memory)
-      → Contract (call.order (a .1 .1 .1 .0) (a .1 .1 .1 .1 .0 .now) (LastOrder.Glide (a .1 .1 .1 .1 .1 .0) (a .1 .1 .1 .1 .1 .1 .0) (a .1 .1 .1 .1 .1 .1 .1 .0) (a .1 .1 .1 .1 .1 .1 .1 .1 .0))) (lentParams (a .0) (a .1 .0 .now) (a .1 .1 .0 .now) m) (call.ordered r) (lentParams (a .0) (s .1 .0 .now) (a .1 .1 .0 .now) m)
+      → Contract (call.order (a .1 .1 .1 .0) (a .1 .1 .1 .1 .0 .now) (LastOrder.Glide (a .1 .1 .1 .1 .1 .0))) (lentParams (a .0) (a .1 .0 .now) (a .1 .1 .0 .now) m) (call.ordered r) (lentParams (a .0) (s .1 .0 .now) (a .1 .1 .0 .now) m)
   schedule : (κs : _) (a : _) (r : _) (s : _) → fn-schedule.Post κs a r s → (m : Memory)
       → Contract (call.schedule (a .1 .1 .0) (a .1 .1 .1 .0) (a .1 .1 .1 .1 .0 .now) (a .1 .1 .1 .1 .1 .0)) (lentEvents (a .0) (a .1 .0 .now) m) (answered (r .answer)) (lentEvents (r .state) (s .1 .0 .now) m)
   report : (κs : _) (a : _) (r : _) (s : _) → fn-report.Post κs a r s → (m : Memory)
@@ -125,12 +116,12 @@ pub data Contract : Call → Memory → Answer → Memory → Type 1 where
       → Contract (call.ask (call.page (a .1 .1 .1 .0 .now))) (lentPage (a .0) (a .1 .0 .now) (a .1 .1 .0 .now) m) (pagedOf r (s .1 .1 .1 .0 .now)) (lentPage (a .0) (a .1 .0 .now) (a .1 .1 .0 .now) m)
   -- fade output and bus sum, which are given no more of the store m than what making fixed
   fade-output : (κs : _) (a : _) (r : _) (s : _) → fn-fade-output.Post κs a r s → (m : Memory) → m .state .config ≡ a .0
-      → Contract (call.ask (call.fadeOutput (a .1 .0 .now) (a .1 .1 .0) (a .1 .1 .1 .0 .now) (a .1 .1 .1 .1 .0) (a .1 .1 .1 .1 .1 .0 .now) (a .1 .1 .1 .1 .1 .1 .0))) m (filledOf r (s .1 .1 .1 .1 .1 .0 .now)) m
+      → Contract (call.ask (call.fadeOutput (a .1 .0 .now) (a .1 .1 .1 .0 .ins) (a .1 .1 .0 .now) (a .1 .1 .1 .0 .position) (a .1 .1 .1 .1 .0 .now) (a .1 .1 .1 .0 .outs))) m (filledOf r (s .1 .1 .1 .1 .0 .now)) m
   bus-sum : (κs : _) (a : _) (r : _) (s : _) → fn-bus-sum.Post κs a r s → (m : Memory) → m .state .config ≡ a .0
       → Contract (call.ask (call.busSum (a .1 .0 .now) (a .1 .1 .0 .now) (a .1 .1 .1 .0 .now) (a .1 .1 .1 .1 .0))) m (filledOf r (s .1 .1 .1 .0 .now)) m
   -- the same in whole numbers
   whole-fade : (κs : _) (a : _) (r : _) (s : _) → fn-whole-fade.Post κs a r s → (m : Memory) → m .state .config ≡ a .0
-      → Contract (call.ask (call.wholeFade (a .1 .0 .now) (a .1 .1 .0) (a .1 .1 .1 .0 .now) (a .1 .1 .1 .1 .0) (a .1 .1 .1 .1 .1 .0 .now) (a .1 .1 .1 .1 .1 .1 .0))) m (whole.filledOf r (s .1 .1 .1 .1 .1 .0 .now)) m
+      → Contract (call.ask (call.wholeFade (a .1 .0 .now) (a .1 .1 .1 .0 .ins) (a .1 .1 .0 .now) (a .1 .1 .1 .0 .position) (a .1 .1 .1 .1 .0 .now) (a .1 .1 .1 .0 .outs))) m (whole.filledOf r (s .1 .1 .1 .1 .0 .now)) m
   whole-sum : (κs : _) (a : _) (r : _) (s : _) → fn-whole-sum.Post κs a r s → (m : Memory) → m .state .config ≡ a .0
       → Contract (call.ask (call.wholeSum (a .1 .0 .now) (a .1 .1 .0 .now) (a .1 .1 .1 .0 .now) (a .1 .1 .1 .1 .0))) m (whole.filledOf r (s .1 .1 .1 .0 .now)) m
 

@@ -80,7 +80,7 @@ module _ (k : ℕ) (o : LastOrder) where
   takes-last : (u : LastOrder) (x : Node) → takes u (withLast o x) ≡ takes u x
   takes-last order.Nothing x = refl
   takes-last (order.Value y) x = refl
-  takes-last (order.Glide target seconds shape space) x = refl
+  takes-last (order.Glide g) x = refl
 
   pub touched-takes : (u : LastOrder) (x : Node) → takes u (touched k o x) ≡ takes u x
   touched-takes u x = go (isNode (id k) x)
@@ -268,30 +268,30 @@ same-param ps a b h = ap (mapO (λ p. p .node)) (find-same (called a) (called b)
 
 same-takes : (a b : EventAction) → sameSort a b ≡ true → (n : Node) → takes (orderOf a) n ≡ takes (orderOf b) n
 same-takes (action.Value x) (action.Value y) h n = refl
-same-takes (action.Value x) (action.Glide t s c r) h n = absurd (false≢true h)
+same-takes (action.Value x) (action.Glide g) h n = absurd (false≢true h)
 same-takes (action.Value x) (action.Gate y) h n = refl
 same-takes (action.Value x) action.Free h n = absurd (false≢true h)
-same-takes (action.Glide t s c r) (action.Value y) h n = absurd (false≢true h)
-same-takes (action.Glide t s c r) (action.Glide t' s' c' r') h n = refl
-same-takes (action.Glide t s c r) (action.Gate y) h n = absurd (false≢true h)
-same-takes (action.Glide t s c r) action.Free h n = absurd (false≢true h)
+same-takes (action.Glide g) (action.Value y) h n = absurd (false≢true h)
+same-takes (action.Glide g) (action.Glide g') h n = refl
+same-takes (action.Glide g) (action.Gate y) h n = absurd (false≢true h)
+same-takes (action.Glide g) action.Free h n = absurd (false≢true h)
 same-takes (action.Gate x) (action.Value y) h n = refl
-same-takes (action.Gate x) (action.Glide t s c r) h n = absurd (false≢true h)
+same-takes (action.Gate x) (action.Glide g) h n = absurd (false≢true h)
 same-takes (action.Gate x) (action.Gate y) h n = refl
 same-takes (action.Gate x) action.Free h n = absurd (false≢true h)
 same-takes action.Free b h n = absurd (false≢true h)
 
 no-free : (a b : EventAction) → sameSort a b ≡ true → (isFree a ≡ false) × (isFree b ≡ false)
 no-free (action.Value x) (action.Value y) h = (refl, refl)
-no-free (action.Value x) (action.Glide t s c r) h = (refl, refl)
+no-free (action.Value x) (action.Glide g) h = (refl, refl)
 no-free (action.Value x) (action.Gate y) h = (refl, refl)
 no-free (action.Value x) action.Free h = absurd (false≢true h)
-no-free (action.Glide t s c r) (action.Value y) h = (refl, refl)
-no-free (action.Glide t s c r) (action.Glide t' s' c' r') h = (refl, refl)
-no-free (action.Glide t s c r) (action.Gate y) h = (refl, refl)
-no-free (action.Glide t s c r) action.Free h = absurd (false≢true h)
+no-free (action.Glide g) (action.Value y) h = (refl, refl)
+no-free (action.Glide g) (action.Glide g') h = (refl, refl)
+no-free (action.Glide g) (action.Gate y) h = (refl, refl)
+no-free (action.Glide g) action.Free h = absurd (false≢true h)
 no-free (action.Gate x) (action.Value y) h = (refl, refl)
-no-free (action.Gate x) (action.Glide t s c r) h = (refl, refl)
+no-free (action.Gate x) (action.Glide g) h = (refl, refl)
 no-free (action.Gate x) (action.Gate y) h = (refl, refl)
 no-free (action.Gate x) action.Free h = absurd (false≢true h)
 no-free action.Free b h = absurd (false≢true h)

@@ -15,7 +15,7 @@ use Rattle.lists.specs.Filter.{put?, filter}
 use Rattle.lists.proofs.Filter.{in-filter}
 use Rattle.scheduler.specs.Event.{paramOf}
 use Rattle.scheduler.specs.Queue.{later, before?, inserted, replacing}
-use Rattle.scheduler.proofs.Sorted.{Sorted, keep-sorted}
+use Rattle.scheduler.proofs.Sorted.{Sorted, filter-sorted}
 use Rattle.scheduler.specs.Replace.{replaces, sameSort, thinned}
 use Rattle.scheduler.proofs.ReplaceLaws.{tested, tests-pass}
 use Rattle.replaced.specs.Kept.{overtaken, lasts}
@@ -25,15 +25,15 @@ use Rattle.replaced.proofs.Applied.{same-called}
 -- ---- who replaces one that replaces a third replaces the third
 same-sort : (c a b : EventAction) → sameSort a b ≡ true → sameSort c a ≡ sameSort c b
 same-sort c (action.Value x) (action.Value y) h = refl
-same-sort c (action.Value x) (action.Glide t s u r) h = absurd (false≢true h)
+same-sort c (action.Value x) (action.Glide g) h = absurd (false≢true h)
 same-sort c (action.Value x) (action.Gate y) h = refl
 same-sort c (action.Value x) action.Free h = absurd (false≢true h)
-same-sort c (action.Glide t s u r) (action.Value y) h = absurd (false≢true h)
-same-sort c (action.Glide t s u r) (action.Glide t' s' u' r') h = refl
-same-sort c (action.Glide t s u r) (action.Gate y) h = absurd (false≢true h)
-same-sort c (action.Glide t s u r) action.Free h = absurd (false≢true h)
+same-sort c (action.Glide g) (action.Value y) h = absurd (false≢true h)
+same-sort c (action.Glide g) (action.Glide g') h = refl
+same-sort c (action.Glide g) (action.Gate y) h = absurd (false≢true h)
+same-sort c (action.Glide g) action.Free h = absurd (false≢true h)
 same-sort c (action.Gate x) (action.Value y) h = refl
-same-sort c (action.Gate x) (action.Glide t s u r) h = absurd (false≢true h)
+same-sort c (action.Gate x) (action.Glide g) h = absurd (false≢true h)
 same-sort c (action.Gate x) (action.Gate y) h = refl
 same-sort c (action.Gate x) action.Free h = absurd (false≢true h)
 same-sort c action.Free b h = absurd (false≢true h)
@@ -116,7 +116,7 @@ single-inserted n (f ∷ l) s h d = go (later n f) refl (single-inserted n l (s 
 
 pub single-replacing : (n : Event) (p : List Event) → Sorted p → Single p → Single (replacing n p)
 single-replacing n p s d =
-    single-inserted n (thinned n p) (keep-sorted (λ f. not (replaces n f)) p s) (λ f i. not-true _ (in-filter (λ f. not (replaces n f)) p f i .1)) (single-filter (λ f. not (replaces n f)) p d)
+    single-inserted n (thinned n p) (filter-sorted (λ f. not (replaces n f)) p s) (λ f i. not-true _ (in-filter (λ f. not (replaces n f)) p f i .1)) (single-filter (λ f. not (replaces n f)) p d)
 
 -- ---- so it is what is left of B's
 overtaken-true : (e : Event) (q : List Event) → Superseded e q → overtaken e q ≡ true

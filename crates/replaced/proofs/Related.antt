@@ -15,7 +15,7 @@ use Rattle.model.specs.Call as call
 use Rattle.ledger.specs.Call as ledger
 use Rattle.graph.specs.Refuse.{when}
 use Rattle.scheduler.specs.Queue.{full, inserted, due, takenBefore, leftAfter, replacing}
-use Rattle.scheduler.proofs.Sorted.{Sorted, inserted-sorted, keep-sorted}
+use Rattle.scheduler.proofs.Sorted.{Sorted, inserted-sorted, filter-sorted}
 use Rattle.model.specs.SharedState.{withEvents}
 use Rattle.model.specs.Model.{Model}
 use Rattle.model.specs.Make.{Making, configOf, newModel, make}
@@ -103,7 +103,7 @@ module _ (a : Model) (g : Good a) (q : List Event) (h : Thinned (a .shared .even
   renders-both = (
     subst (λ (z : Heard). Related (z .model) (at q .model)) (sym mine)
         (subst (λ (z : Heard). Related (heardQ (leftAfter d p) both .model) (z .model)) (sym theirs)
-        (record { queue = leftAfter d q; is = refl; thin = thinned-left d p q h; order = keep-sorted (λ e. not (due d e)) q s; single = single-filter (λ e. not (due d e)) p i })),
+        (record { queue = leftAfter d q; is = refl; thin = thinned-left d p q h; order = filter-sorted (λ e. not (due d e)) q s; single = single-filter (λ e. not (due d e)) p i })),
     ap (λ (z : Heard). z .answer) mine ∙ sym (ap (λ (z : Heard). z .answer) theirs),
   )
     where

@@ -11,8 +11,6 @@ use lib.Dec.{eqb}
 use lib.Ieee.{eq}
 use Rattle.node.specs.declared.order.EventAction.{EventAction}
 use Rattle.node.specs.declared.order.EventAction.the-variants as EventAction
-use Rattle.node.specs.declared.order.GlideShape.the-variants.{Linear}
-use Rattle.node.specs.declared.order.GlideSpace.the-variants.{Raw}
 use Rattle.node.specs.declared.order.LastOrder.{LastOrder}
 use Rattle.node.specs.declared.order.LastOrder.the-variants as LastOrder
 use Rattle.node.specs.declared.refusal.Refusal.the-variants.{TableFull}
@@ -39,7 +37,7 @@ use Rattle.model.specs.Model.{Model}
 use Rattle.model.specs.Make.{newModel}
 use Rattle.model.specs.Render.{applyEvents}
 use Rattle.model.specs.Call.{Call, done, refused, event}
-use Rattle.model.specs.Scene.{upTo, plain, float, voice, host, sink, timedFree, render, told, after, asked, further, voices}
+use Rattle.model.specs.Scene.{upTo, plain, float, voice, host, sink, timedFree, render, told, after, asked, further, voices, linear}
 use Rattle.model.specs.Spawn.{spawnOf}
 use Rattle.replaced.specs.Kept.{withQueue, keptRun}
 
@@ -60,13 +58,13 @@ abbrev value : ℕ → LastOrder
 value n = LastOrder.Value (float n)
 
 abbrev glide : ℕ → LastOrder
-glide n = LastOrder.Glide (float n) (float 1) Linear Raw
+glide n = LastOrder.Glide (linear n 1)
 
 abbrev at : ℕ → String → ℕ → Call
 at t s n = call.schedule t (voice 1) (bytes s) (EventAction.Value (float n))
 
 abbrev to : ℕ → String → ℕ → Call
-to t s n = call.schedule t (voice 1) (bytes s) (EventAction.Glide (float n) (float 1) Linear Raw)
+to t s n = call.schedule t (voice 1) (bytes s) (EventAction.Glide (linear n 1))
 
 abbrev gate : ℕ → String → ℕ → Call
 gate t s n = call.schedule t (voice 1) (bytes s) (EventAction.Gate (float n))
@@ -94,7 +92,7 @@ abbrev val : ℕ → EventAction
 val n = EventAction.Value (float n)
 
 abbrev gli : ℕ → EventAction
-gli n = EventAction.Glide (float n) (float 1) Linear Raw
+gli n = EventAction.Glide (linear n 1)
 
 -- ---- value, glide, value at one time: the first value goes and the last stands behind the glide. Refuses: replaced in place, which
 -- leaves the glide last.

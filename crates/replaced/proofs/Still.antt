@@ -177,7 +177,7 @@ module _ (q : List Event) where
   prepare-still : (d : SharedState) → prepareShared (withEvents q d) ≡ withEvents q (prepareShared d)
   prepare-still d = ready-still (prepareOutcome d .answer) (prepareOutcome d .order) d
 
-  -- ---- events that applyEvent
+  -- ---- events that are applied
   pub applied-still : (e : Event) (m : Model) → applyEvent e (withQueue q m) ≡ withQueue q (applyEvent e m)
   applied-still e m = go (isFree (e .action))
     where

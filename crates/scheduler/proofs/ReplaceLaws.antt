@@ -26,7 +26,7 @@ use Rattle.scheduler.specs.Replace.{sameSort, replaces, thinned}
 use Rattle.scheduler.specs.Queue.{later, replacing, full, queueAfter, answerTo}
 use Rattle.scheduler.specs.declared.event.Event.{Event}
 use Rattle.scheduler.specs.declared.queue.ScheduleAnswer.the-variants.{Taken, Refused}
-use Rattle.scheduler.proofs.Sorted.{Sorted, keep-sorted, inserted-sorted, inserted-place, length-inserted}
+use Rattle.scheduler.proofs.Sorted.{Sorted, filter-sorted, inserted-sorted, inserted-place, length-inserted}
 
 -- ---- what an event orders: a value or a glide, for the parameter of these bytes; nothing where it is a free or has no name
 pub data Sort : Type 0 where
@@ -43,7 +43,7 @@ under s n = or? (named n) (record { sort = s; parameter = text n }) none
 -- "A gate counts as a value for `gate`"
 abbrev pub ordered : EventAction → Name → Option Ordered
 ordered (action.Value x) n = under value n
-ordered (action.Glide target seconds shape space) n = under glide n
+ordered (action.Glide g) n = under glide n
 ordered (action.Gate x) n = some (record { sort = value; parameter = 103 ∷ 97 ∷ 116 ∷ 101 ∷ [] })
 ordered action.Free n = none
 
@@ -80,30 +80,30 @@ value-glide e = let z : _≡_ {A = ℕ} 0 1 = cc in absurd (omega arith)
 module _ (m n : Name) where
   alike-to : (a b : EventAction) → sameSort a b ≡ true → sameName (paramOf a m) (paramOf b n) ≡ true → (k : Ordered) × (ordered a m ≡ some k) × (ordered b n ≡ some k)
   alike-to (action.Value x) (action.Value y) s h = under-to value m n h
-  alike-to (action.Value x) (action.Glide t u v w) s h = absurd (false≢true s)
+  alike-to (action.Value x) (action.Glide g) s h = absurd (false≢true s)
   alike-to (action.Value x) (action.Gate y) s h = under-to value m gateName h
   alike-to (action.Value x) action.Free s h = absurd (false≢true s)
-  alike-to (action.Glide t u v w) (action.Value y) s h = absurd (false≢true s)
-  alike-to (action.Glide t u v w) (action.Glide t' u' v' w') s h = under-to glide m n h
-  alike-to (action.Glide t u v w) (action.Gate y) s h = absurd (false≢true s)
-  alike-to (action.Glide t u v w) action.Free s h = absurd (false≢true s)
+  alike-to (action.Glide g) (action.Value y) s h = absurd (false≢true s)
+  alike-to (action.Glide g) (action.Glide g') s h = under-to glide m n h
+  alike-to (action.Glide g) (action.Gate y) s h = absurd (false≢true s)
+  alike-to (action.Glide g) action.Free s h = absurd (false≢true s)
   alike-to (action.Gate x) (action.Value y) s h = under-to value gateName n h
-  alike-to (action.Gate x) (action.Glide t u v w) s h = absurd (false≢true s)
+  alike-to (action.Gate x) (action.Glide g) s h = absurd (false≢true s)
   alike-to (action.Gate x) (action.Gate y) s h = (record { sort = value; parameter = 103 ∷ 97 ∷ 116 ∷ 101 ∷ [] }, refl, refl)
   alike-to (action.Gate x) action.Free s h = absurd (false≢true s)
   alike-to action.Free b s h = absurd (false≢true s)
 
   alike-from : (a b : EventAction) (k : Ordered) → ordered a m ≡ some k → ordered b n ≡ some k → (sameSort a b ≡ true) × (sameName (paramOf a m) (paramOf b n) ≡ true)
   alike-from (action.Value x) (action.Value y) k p q = (refl, under-from value value m n k p q .1)
-  alike-from (action.Value x) (action.Glide t u v w) k p q = absurd (value-glide (under-from value glide m n k p q .0))
+  alike-from (action.Value x) (action.Glide g) k p q = absurd (value-glide (under-from value glide m n k p q .0))
   alike-from (action.Value x) (action.Gate y) k p q = (refl, under-from value value m gateName k p q .1)
   alike-from (action.Value x) action.Free k p q = absurd (none-some q)
-  alike-from (action.Glide t u v w) (action.Value y) k p q = absurd (value-glide (sym (under-from glide value m n k p q .0)))
-  alike-from (action.Glide t u v w) (action.Glide t' u' v' w') k p q = (refl, under-from glide glide m n k p q .1)
-  alike-from (action.Glide t u v w) (action.Gate y) k p q = absurd (value-glide (sym (under-from glide value m gateName k p q .0)))
-  alike-from (action.Glide t u v w) action.Free k p q = absurd (none-some q)
+  alike-from (action.Glide g) (action.Value y) k p q = absurd (value-glide (sym (under-from glide value m n k p q .0)))
+  alike-from (action.Glide g) (action.Glide g') k p q = (refl, under-from glide glide m n k p q .1)
+  alike-from (action.Glide g) (action.Gate y) k p q = absurd (value-glide (sym (under-from glide value m gateName k p q .0)))
+  alike-from (action.Glide g) action.Free k p q = absurd (none-some q)
   alike-from (action.Gate x) (action.Value y) k p q = (refl, under-from value value gateName n k p q .1)
-  alike-from (action.Gate x) (action.Glide t u v w) k p q = absurd (value-glide (under-from value glide gateName n k p q .0))
+  alike-from (action.Gate x) (action.Glide g) k p q = absurd (value-glide (under-from value glide gateName n k p q .0))
   alike-from (action.Gate x) (action.Gate y) k p q = (refl, refl)
   alike-from (action.Gate x) action.Free k p q = absurd (none-some q)
   alike-from action.Free b k p q = absurd (none-some p)
@@ -144,7 +144,7 @@ replaces-from e f l =
 -- in its order, and all that is later behind it
 pub replacing-place : (e : Event) (l : List Event) → Sorted l → replacing e l ≡ filter (λ f. not (later e f) && not (replaces e f)) l ++ (e ∷ filter (later e) l)
 replacing-place e l s =
-    inserted-place e (thinned e l) (keep-sorted (λ f. not (replaces e f)) l s)
+    inserted-place e (thinned e l) (filter-sorted (λ f. not (replaces e f)) l s)
     ∙ ap (λ z. z ++ (e ∷ filter (later e) (thinned e l))) (filter-filter (λ f. not (later e f)) (λ f. not (replaces e f)) l)
     ∙ ap (λ z. filter (λ f. not (later e f) && not (replaces e f)) l ++ (e ∷ z)) (filter-filter (later e) (λ f. not (replaces e f)) l ∙ filter-same _ (later e) l (λ f i. go f (later e f) refl))
   where
@@ -170,7 +170,7 @@ queue-sorted e l s = go (full (thinned e l))
   where
     go : (b : Bool) → Sorted (cond b l (replacing e l))
     go true = s
-    go false = inserted-sorted e (thinned e l) (keep-sorted (λ f. not (replaces e f)) l s)
+    go false = inserted-sorted e (thinned e l) (filter-sorted (λ f. not (replaces e f)) l s)
 
 -- ---- "Freed queue places count before refusal 7": a queue of up to 256 takes an event exactly if it has a place left, or an event
 -- that the new one replaces

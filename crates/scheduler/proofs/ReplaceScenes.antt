@@ -28,7 +28,7 @@ module _ (x y z : Float) where
   value u = action.Value u
 
   abbrev glide : Float → EventAction
-  glide u = action.Glide u u Linear Raw
+  glide u = action.Glide (record { target = u; seconds = u; shape = Linear; space = Raw })
 
   -- one after the other
   abbrev all : List Event → List Event → List Event

@@ -61,9 +61,9 @@ inserted-place e (f ∷ l) s = go (later e f) refl (inserted-place e l (s .1))
     go false t ih = ap (λ z. f ∷ z) ih
 
 -- what is left out of an ordered queue leaves it ordered
-pub keep-sorted : (t : Event → Bool) (l : List Event) → Sorted l → Sorted (filter t l)
-keep-sorted t [] s = tt
-keep-sorted t (e ∷ l) s = go (t e) (keep-sorted t l (s .1))
+pub filter-sorted : (t : Event → Bool) (l : List Event) → Sorted l → Sorted (filter t l)
+filter-sorted t [] s = tt
+filter-sorted t (e ∷ l) s = go (t e) (filter-sorted t l (s .1))
   where
     go : (b : Bool) → Sorted (filter t l) → Sorted (put? b e (filter t l))
     go true ih = (λ f i. s .0 f (in-filter t l f i .0), ih)

@@ -17,14 +17,14 @@ gateName = nameOf (103 ∷ 97 ∷ 116 ∷ 101 ∷ [])
 -- the order that an action becomes at its node: a gate is a value; a free is no order
 abbrev pub orderOf : EventAction → LastOrder
 orderOf (action.Value x) = order.Value x
-orderOf (action.Glide target seconds shape space) = order.Glide target seconds shape space
+orderOf (action.Glide g) = order.Glide g
 orderOf (action.Gate x) = order.Value x
 orderOf action.Free = order.Nothing
 
 -- the parameter that an action is for: a gate's is `gate`, whatever name stands beside it
 abbrev pub paramOf : EventAction → Name → Name
 paramOf (action.Value x) name = name
-paramOf (action.Glide target seconds shape space) name = name
+paramOf (action.Glide g) name = name
 paramOf (action.Gate x) name = gateName
 paramOf action.Free name = name
 

@@ -13,13 +13,13 @@ use Rattle.scheduler.specs.declared.event.Event.{Event}
 -- a value, or a gate, which counts as one
 abbrev pub isValue : EventAction → Bool
 isValue (action.Value x) = true
-isValue (action.Glide target seconds shape space) = false
+isValue (action.Glide g) = false
 isValue (action.Gate x) = true
 isValue action.Free = false
 
 abbrev pub isGlide : EventAction → Bool
 isGlide (action.Value x) = false
-isGlide (action.Glide target seconds shape space) = true
+isGlide (action.Glide g) = true
 isGlide (action.Gate x) = false
 isGlide action.Free = false
 

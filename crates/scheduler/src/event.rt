@@ -41,19 +41,9 @@ pub fn param_order(e: Event) -> ParamOrder
             name: name,
             order: LastOrder::Value(x),
         },
-        EventAction::Glide {
-            target,
-            seconds,
-            shape,
-            space,
-        } => ParamOrder {
+        EventAction::Glide(glide) => ParamOrder {
             name: name,
-            order: LastOrder::Glide {
-                target: target,
-                seconds: seconds,
-                shape: shape,
-                space: space,
-            },
+            order: LastOrder::Glide(glide),
         },
         EventAction::Gate(x) => ParamOrder {
             name: gate_name(),

@@ -19,7 +19,7 @@ forms =
     ∷ Fixed 8 ∷ Fixed 4 ∷ Fixed 0 ∷ Fixed 0 ∷ Fixed 0 ∷ Fixed 0 ∷ Fixed 4 ∷ Fixed 0
     ∷ Buffer ∷ Fixed 0 ∷ Fixed 15 ∷ Fixed 5 ∷ Malformed ∷ Malformed ∷ Malformed ∷ Malformed
     ∷ Malformed ∷ Malformed ∷ Malformed ∷ Malformed ∷ Malformed ∷ Malformed ∷ Malformed ∷ Fixed 20
-    ∷ Fixed 18 ∷ Fixed 0 ∷ Fixed 0 ∷ Malformed ∷ Fixed 44 ∷ []
+    ∷ Fixed 18 ∷ Fixed 0 ∷ Fixed 0 ∷ Malformed ∷ Fixed 44 ∷ Named 0 0 ∷ []
 
 abbrev pub formOf : ℕ → Form
 formOf sort = getD forms sort Malformed

@@ -6,13 +6,13 @@ use mathlib.Core.Bool.{cond}
 use lib.Dec.{eqb}
 use lib.Ieee.{Float, binary32, ofBits}
 use Rattle.codec.specs.Field.{moved, little}
+use Rattle.node.specs.declared.order.Glide.{Glide}
 use Rattle.node.specs.declared.order.GlideShape.{GlideShape}
 use Rattle.node.specs.declared.order.GlideShape.the-variants.{Hold, Linear, Sine, Exponential}
 use Rattle.node.specs.declared.order.GlideSpace.{GlideSpace}
 use Rattle.node.specs.declared.order.GlideSpace.the-variants.{Raw, Pitch}
 use Rattle.node.specs.declared.order.EventAction.{EventAction}
 use Rattle.node.specs.declared.order.EventAction.the-variants as action
-use Rattle.script.specs.declared.glide.Glide.{Glide}
 
 abbrev pub floatAt : List ℕ → ℕ → Float
 floatAt s at = ofBits binary32 (little 4 s at)
@@ -36,5 +36,5 @@ glideAt s at =
 abbrev pub actionOf : ℕ → Glide → EventAction
 actionOf n g =
     cond (eqb n 0) (action.Value (g .target))
-    (cond (eqb n 1) (action.Glide (g .target) (g .seconds) (g .shape) (g .space))
+    (cond (eqb n 1) (action.Glide g)
     (cond (eqb n 2) (action.Gate (g .target)) action.Free))

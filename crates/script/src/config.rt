@@ -1,6 +1,7 @@
 // What making fixes, as numbers say it.
 ghost use mathlib.Core.Path.{_≡_};
-ghost use Rattle.script.specs.Config.{budgetOf, policyOf, scopeOf};
+ghost use Rattle.script.specs.Config.{budgetOf, policyOf, scopeOf, firstMaking};
+use store::config::Making;
 use voice::policy::Budget;
 use voice::policy::BudgetScope;
 use voice::policy::StealPolicy;
@@ -32,5 +33,19 @@ pub fn scope_of(n: u8) -> BudgetScope
     match n {
         0 => BudgetScope::Global,
         _ => BudgetScope::PerGroup,
+    }
+}
+
+// What a store is made by where nothing has said it: before the first making of a script, and for the vectors of the graph.
+pub fn first_making() -> Making
+    ensures { λ r. ⌜ r ≡ firstMaking ⌝ }
+{
+    Making {
+        rate: 48000.0,
+        block: 64,
+        budget: Budget::Unlimited,
+        policy: StealPolicy::Reject,
+        scope: BudgetScope::Global,
+        table: false,
     }
 }

@@ -27,7 +27,7 @@ enum Form {
 }
 
 // By rising sort, from 0 on.
-const FORMS: [Form; 53] = [
+const FORMS: [Form; 54] = [
     Form::Malformed,
     Form::Fixed(15),
     Form::Fixed(28),
@@ -93,13 +93,17 @@ const FORMS: [Form; 53] = [
     Form::Fixed(0),
     Form::Malformed,
     Form::Fixed(44),
+    Form::Named {
+        before: 0,
+        behind: 0,
+    },
 ];
 
 fn form_of(sort: u8) -> Form
     ensures { λ r. ⌜ r ≡ formOf sort ⌝ }
 {
     let n = sort as usize;
-    if n < 53 {
+    if n < 54 {
         return FORMS[n];
     }
     Form::Malformed

@@ -6,15 +6,9 @@ use codec::field::byte_at;
 use codec::field::float;
 use codec::field::word_at;
 use node::order::EventAction;
+use node::order::Glide;
 use node::order::GlideShape;
 use node::order::GlideSpace;
-
-pub struct Glide {
-    pub target: f32,
-    pub seconds: f32,
-    pub shape: GlideShape,
-    pub space: GlideSpace,
-}
 
 fn float_at(s: &[u8], at: usize) -> f32
     ensures { λ r. ⌜ r ≡ floatAt (now (s .entry)) at ⌝ }
@@ -58,16 +52,9 @@ pub fn glide_at(s: &[u8], at: usize) -> Glide
 pub fn action_of(n: u8, glide: Glide) -> EventAction
     ensures { λ r. ⌜ r ≡ actionOf n glide ⌝ }
 {
-    let shape = glide.shape;
-    let space = glide.space;
     match n {
         0 => EventAction::Value(glide.target),
-        1 => EventAction::Glide {
-            target: glide.target,
-            seconds: glide.seconds,
-            shape,
-            space,
-        },
+        1 => EventAction::Glide(glide),
         2 => EventAction::Gate(glide.target),
         _ => EventAction::Free,
     }

@@ -3,4 +3,5 @@ pub mod config;
 pub mod def;
 pub mod entry;
 pub mod glide;
+pub mod host;
 pub mod name;

@@ -17,9 +17,10 @@ use Rattle.model.specs.Make.{Making, configOf, make}
 use Rattle.model.specs.Call.{Call, Answer, step}
 use Rattle.model.specs.Call as call
 use Rattle.ledger.specs.Claim.{after}
-use Rattle.console.specs.declared.wish.Wish.{Wish}
+use Rattle.store.specs.declared.wish.Wish.{Wish}
 use Rattle.console.specs.declared.refusal.KeyboardRefusal.{KeyboardRefusal}
-use Rattle.console.specs.Wishes.{Wishes, keyboards, waitingAt, spawnIn, callOf, wishRefusal, added, Picked, picked, oldestOr, search, rest, takenFrom}
+use Rattle.model.specs.Wish.{spawnIn, callOf}
+use Rattle.console.specs.Wishes.{Wishes, keyboards, waitingAt, wishRefusal, added, Picked, picked, oldestOr, search, rest, takenFrom}
 use Rattle.console.specs.Wishes as wishes
 use Rattle.console.specs.Console.{Console, ConsoleCall, wished, turned, consoleStep, makeConsole}
 use Rattle.console.specs.Console as console

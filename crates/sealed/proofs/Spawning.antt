@@ -109,7 +109,7 @@ grown-edges : (xs : List Node) (g : GraphView) → appendAll g xs .edges ≡ g .
 grown-edges [] g = refl
 grown-edges (x ∷ xs) g = grown-edges xs (change.append g x)
 
--- ---- the newVoice
+-- ---- the new voice
 free-holds : (b : NodeId) (q : ℕ) (k : VoiceId) (h : Holders) (v : VoiceId) (p : ℕ) → isHeld (h (b .0) q) ≡ false → byVoice v (h (b .0) p) ≡ true → byVoice v (hold b q (voice k) h (b .0) p) ≡ true
 free-holds b q k h v p free mine = go (ℕ-discrete p q)
   where

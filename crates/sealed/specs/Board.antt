@@ -1,8 +1,8 @@
 -- A board: a console and its seal. Its calls are the console's own, and sealing.
 use mathlib.Core.List.{List, [], _∷_, _++_}
 use mathlib.Core.Bool.{Bool, true, false, not, cond, _&&_}
-use Rattle.console.specs.declared.wish.Wish.{Wish}
-use Rattle.console.specs.Wishes.{spawnIn}
+use Rattle.store.specs.declared.wish.Wish.{Wish}
+use Rattle.model.specs.Wish.{spawnIn}
 use Rattle.console.specs.Console.{Console, ConsoleCall, ConsoleAnswer, ConsoleStep, consoleStep}
 use Rattle.console.specs.Console as console
 use Rattle.sealed.specs.declared.profile.Profile.{Profile}

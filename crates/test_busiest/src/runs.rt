@@ -2,9 +2,9 @@
 use voice::policy::Level;
 use voice::steals::StealRecord;
 use voice::steals::Steals;
-use voice::steals::no_steals;
-use voice::steals::push_steal;
-use voice::steals::steal_record;
+use voice_policy::steals::no_steals;
+use voice_policy::steals::push_steal;
+use voice_policy::steals::steal_record;
 
 // The next number of a sequence that looks random.
 fn next(x: u64) -> u64 {

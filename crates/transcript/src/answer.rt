@@ -144,3 +144,26 @@ pub fn clock_line(out: &mut Output, clock: u64) {
     and_number(out, clock);
     end_line(out);
 }
+
+// A byte of a remark. One that is no printable character of ASCII is `?`, so that every remark is one line.
+fn printable(byte: u8) -> u8 {
+    if byte < 32 || 126 < byte {
+        return 63;
+    }
+    byte
+}
+
+fn remark_bytes(out: &mut Output, words: &[u8]) {
+    let mut i: usize = 0;
+    while i < words.len() {
+        let shown = [printable(words[i])];
+        text(out, &shown);
+        i += 1;
+    }
+}
+
+pub fn remark_line(out: &mut Output, words: &[u8]) {
+    text(out, b"# ");
+    remark_bytes(out, words);
+    end_line(out);
+}

@@ -102,14 +102,9 @@ fn order_words(out: &mut Output, last: LastOrder) {
             text(out, b" value");
             and_sample(out, x);
         }
-        LastOrder::Glide {
-            target,
-            seconds,
-            shape,
-            space,
-        } => {
+        LastOrder::Glide(g) => {
             text(out, b" glide");
-            glide_words(out, target, seconds, shape, space);
+            glide_words(out, g);
         }
     }
 }

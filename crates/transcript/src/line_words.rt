@@ -5,6 +5,7 @@ use codec::output::and_sample;
 use codec::output::hex_bytes;
 use codec::output::text;
 use node::name::is_named;
+use piecrag::Glide;
 use piecrag::GlideShape;
 use piecrag::GlideSpace;
 use piecrag::Level;
@@ -60,15 +61,11 @@ fn space_word(out: &mut Output, space: GlideSpace) {
     }
 }
 
-pub fn glide_words(
-    out: &mut Output,
-    target: f32,
-    seconds: f32,
-    shape: GlideShape,
-    space: GlideSpace,
-) {
-    and_sample(out, target);
-    and_sample(out, seconds);
+pub fn glide_words(out: &mut Output, g: Glide) {
+    let shape = g.shape;
+    let space = g.space;
+    and_sample(out, g.target);
+    and_sample(out, g.seconds);
     shape_words(out, shape);
     space_word(out, space);
 }

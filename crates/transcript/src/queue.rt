@@ -25,15 +25,10 @@ fn event_line(out: &mut Output, e: Event) {
             name_word(out, name);
             and_sample(out, x);
         }
-        EventAction::Glide {
-            target,
-            seconds,
-            shape,
-            space,
-        } => {
+        EventAction::Glide(g) => {
             text(out, b" glide");
             name_word(out, name);
-            glide_words(out, target, seconds, shape, space);
+            glide_words(out, g);
         }
         EventAction::Gate(x) => {
             text(out, b" gate");

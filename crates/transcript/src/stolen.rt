@@ -7,9 +7,9 @@ use codec::output::text;
 use piecrag::StealFound;
 use piecrag::StealRecord;
 use piecrag::Steals;
-use voice::steals::held_steals;
-use voice::steals::record_level;
-use voice::steals::steal_at;
+use voice_policy::steals::held_steals;
+use voice_policy::steals::record_level;
+use voice_policy::steals::steal_at;
 
 fn record_words(out: &mut Output, r: StealRecord) {
     and_number(out, r.sample);

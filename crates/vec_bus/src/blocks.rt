@@ -16,6 +16,7 @@ use codec::word::end_line;
 use codec::word::number;
 use codec::word::text;
 use libc::STDOUT_FILENO;
+use mixing::FadePart;
 use node::refusal::refusal_number;
 use store::config::Config;
 use voice::policy::Budget;
@@ -98,21 +99,22 @@ pub fn config(rate: u32, block: usize, table: bool) -> Config {
     }
 }
 
-// What stands before the runs of a fade: the channel counts of input and output, the block size, the position and the length, or the rate.
+// What stands before the runs of a fade: the channel counts of input and output with the position, the block size, and the length, or the rate.
 pub struct Head {
-    pub ins: usize,
-    pub outs: usize,
+    pub part: FadePart,
     pub size: usize,
-    pub position: u64,
     pub length: u32,
 }
 
 pub fn head_at(s: &[u8], at: usize) -> Head {
-    Head {
+    let part = FadePart {
         ins: word_at(s, at) as usize,
         outs: word_at(s, after(at, 4)) as usize,
-        size: word_at(s, after(at, 8)) as usize,
         position: long_at(s, after(at, 12)),
+    };
+    Head {
+        part,
+        size: word_at(s, after(at, 8)) as usize,
         length: word_at(s, after(at, 20)),
     }
 }
@@ -141,20 +143,19 @@ fn fade_line(s: &[u8], at: usize, sort: u8, gains: &mut [f32], input: &mut [f32]
     if sort == 14 {
         let written = bus::fade_output(
             input,
-            f.ins,
+            f.part.ins,
             gains,
             f.length,
-            f.position,
+            f.part.position,
             f.size,
             out,
-            f.outs,
+            f.part.outs,
         );
         block_line(written, out);
         return;
     }
     let made = config(f.length, f.size, sort == 17);
-    let written = mixing::fade_output(made, input, f.ins, gains, f.position, out, f.outs);
-    block_line(written, out);
+    block_line(mixing::fade_output(made, input, gains, f.part, out), out);
 }
 
 // The output's channel count and the block size; then the channel count of each input, the inputs, and what the output holds before. Sort 18

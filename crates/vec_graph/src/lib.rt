@@ -15,6 +15,7 @@ use codec::word::end_line;
 use codec::word::text;
 use edges::ports::Port;
 use edges::ports::Source;
+use graph::host::HostNode;
 use graph::host::host_node;
 use graph::state::AddAnswer;
 use graph::state::Answer;
@@ -37,7 +38,6 @@ use graph_tables::wiring::put_edge;
 use memory::parts::with_graph;
 use memory::state::HostResult;
 use memory::state::State;
-use node::record::Edge;
 use node::record::Node;
 use node::record::NodeId;
 use node::record::VoiceId;
@@ -45,11 +45,11 @@ use node::refusal::Refusal;
 use node::refusal::refusal_number;
 use order_table::ORDER_WORDS;
 use order_table::OrderTable;
+use script::config::first_making;
+use script::host::host_node_at;
+use script::host::wire_at;
 use script::name::name_at;
 use script::name::name_end;
-use voice::policy::Budget;
-use voice::policy::BudgetScope;
-use voice::policy::StealPolicy;
 
 // The state after a call, and the position after the call.
 struct Played {
@@ -93,22 +93,15 @@ fn served(r: HostResult, end: usize) -> Played {
     Played { state, end }
 }
 
-// A kind name, ports, required ports and what the node takes.
+// A kind name, and what else the host says of the node.
 fn add(s: &[u8], at: usize, g: State, nodes: &mut NodeTable) -> Played {
-    let kind = name_at(s, at);
-    let rest = name_end(s, at);
-    let ports = word_at(s, rest);
-    let required = long_at(s, after(rest, 4));
-    let takes = byte_at(s, after(rest, 12));
-    let values = takes % 2 == 1;
-    let glides = takes / 2 % 2 == 1;
-    let r = add_node(g, nodes, kind, ports, required, values, glides);
+    let r = add_node(g, nodes, name_at(s, at), host_node_at(s, at));
     let given = r.given;
     given_line(given);
     let state = r.state;
     Played {
         state,
-        end: after(rest, 13),
+        end: after(name_end(s, at), 13),
     }
 }
 
@@ -117,12 +110,7 @@ fn remove(s: &[u8], at: usize, g: State, nodes: &mut NodeTable, edges: &mut Edge
 }
 
 fn join(s: &[u8], at: usize, g: State, nodes: &NodeTable, edges: &mut EdgeTable) -> Played {
-    let from = id_at(s, at);
-    let to = id_at(s, after(at, 4));
-    served(
-        connect(g, nodes, edges, from, to, word_at(s, after(at, 8))),
-        after(at, 12),
-    )
+    served(connect(g, nodes, edges, wire_at(s, at)), after(at, 12))
 }
 
 fn part(s: &[u8], at: usize, g: State, nodes: &NodeTable, edges: &mut EdgeTable) -> Played {
@@ -298,7 +286,13 @@ fn prepare(
 }
 
 fn owned_node(id: NodeId, voice: u64, ports: u32) -> Node {
-    let mut row = host_node(b"Tone", ports, 0, false, false);
+    let plain = HostNode {
+        ports,
+        required: 0,
+        takes_values: false,
+        takes_glides: false,
+    };
+    let mut row = host_node(b"Tone", plain);
     row.id.0 = id.0;
     row.owner.0 = voice;
     row
@@ -326,14 +320,6 @@ fn add_owned(s: &[u8], at: usize, g: State, nodes: &mut NodeTable) -> Played {
     Played {
         state: with_graph(g, n, g.edges, sink, g.next + 1),
         end,
-    }
-}
-
-fn wire_at(s: &[u8], at: usize) -> Edge {
-    Edge {
-        from: id_at(s, at),
-        to: id_at(s, after(at, 4)),
-        port: word_at(s, after(at, 8)),
     }
 }
 
@@ -430,9 +416,7 @@ fn play(
 
 // The state of a new store, of which the vectors use the graph alone.
 fn new_state() -> State {
-    let policy = StealPolicy::Reject;
-    let scope = BudgetScope::Global;
-    let r = make(48000.0, 64, Budget::Unlimited, policy, scope, false);
+    let r = make(first_making());
     r.state
 }
 

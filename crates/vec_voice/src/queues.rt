@@ -102,16 +102,13 @@ fn event_line(e: Event) {
             name_word(name);
             and_sample(x);
         }
-        EventAction::Glide {
-            target,
-            seconds,
-            shape,
-            space,
-        } => {
+        EventAction::Glide(g) => {
+            let shape = g.shape;
+            let space = g.space;
             text(b" glide ");
             name_word(name);
-            and_sample(target);
-            and_sample(seconds);
+            and_sample(g.target);
+            and_sample(g.seconds);
             shape_words(shape);
             space_word(space);
         }

@@ -21,19 +21,19 @@ use voice::policy::Candidate;
 use voice::policy::Candidates;
 use voice::policy::Level;
 use voice::policy::Victim;
-use voice::policy::counts_for;
-use voice::policy::pick_victim;
-use voice::policy::request_in;
 use voice::steals::StealFound;
 use voice::steals::StealRecord;
 use voice::steals::Steals;
-use voice::steals::held_steals;
-use voice::steals::mark_cut;
-use voice::steals::no_steals;
-use voice::steals::push_steal;
-use voice::steals::record_level;
-use voice::steals::steal_at;
-use voice::steals::steal_record;
+use voice_policy::policy::counts_for;
+use voice_policy::policy::pick_victim;
+use voice_policy::policy::request_in;
+use voice_policy::steals::held_steals;
+use voice_policy::steals::mark_cut;
+use voice_policy::steals::no_steals;
+use voice_policy::steals::push_steal;
+use voice_policy::steals::record_level;
+use voice_policy::steals::steal_at;
+use voice_policy::steals::steal_record;
 
 fn level_at(s: &[u8], at: usize) -> Level {
     match byte_at(s, at) {

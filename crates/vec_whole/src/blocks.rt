@@ -43,8 +43,10 @@ fn fade_line(s: &[u8], at: usize, sort: u8, gains: &mut [u32], input: &mut [i32]
     let second = samples_at(s, first, input);
     samples_at(s, second, out);
     let made = config(f.length, f.size, sort == 62);
-    let written = whole_mixing::fade_output(made, input, f.ins, gains, f.position, out, f.outs);
-    block_line(written, out);
+    block_line(
+        whole_mixing::fade_output(made, input, gains, f.part, out),
+        out,
+    );
 }
 
 // The output's channel count and the block size; then the channel count of each input, the inputs, and what the output holds before.

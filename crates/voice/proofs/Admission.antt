@@ -1,4 +1,4 @@
--- The two ways through an admission under a budget: below it, and at it.
+-- The two ways through an admission under a budget: below it, and at it; and who counts for the budget.
 use Prim.Native.Nat.{ℕ, _≤_, _<_}
 use mathlib.Core.Path.{_≡_, refl, sym, ap, _∙_}
 use mathlib.Core.List.{List}
@@ -6,7 +6,9 @@ use mathlib.Core.Option.{none, some}
 use mathlib.Core.Bool.{Bool, true, false, _&&_, cond}
 use lib.ListN.{length}
 use borrow.Author.Tests.{le-leb, lt-leb}
+use Rattle.node.specs.declared.record.NodeId.{NodeId}
 use Rattle.voice.specs.declared.policy.StealPolicy.{StealPolicy}
+use Rattle.voice.specs.declared.policy.BudgetScope.the-variants.{Global, PerGroup}
 use Rattle.voice.specs.declared.policy.Candidate.{Candidate}
 use Rattle.voice.specs.declared.policy.Victim.{Victim}
 use Rattle.voice.specs.declared.policy.Budget.{Budget}
@@ -14,7 +16,7 @@ use Rattle.voice.specs.declared.policy.Budget.the-variants.{AtMost}
 use Rattle.voice.specs.declared.policy.Victim.the-variants.{Nobody, Goes}
 use Rattle.voice.specs.declared.policy.Admission.{Admission}
 use Rattle.voice.specs.declared.policy.Admission.the-variants as admission
-use Rattle.voice.specs.Policy.{victim, atBudget, decides, admits, nobody, admissionNumber, rejectNumber}
+use Rattle.voice.specs.Policy.{victim, counts, atBudget, decides, admits, nobody, admissionNumber, rejectNumber}
 
 -- the answer, and its number
 abbrev pub Admitted : Budget → StealPolicy → ℕ → List Candidate → Admission → Type 0
@@ -37,3 +39,13 @@ module _ (b : Budget) (p : StealPolicy) (r : ℕ) (l : List Candidate) (most : �
   at-budget v h e =
       admitted b p r l (decides true v)
       (sym (ap (λ z. admits z p r l) is ∙ ap (λ t. decides t (victim p r l)) (le-leb most (length l) h) ∙ ap (decides true) e))
+
+-- ---- "At budget (all, or those of the bus under `PerGroup`)": under `Global` a voice of another bus counts, under `PerGroup` it does not.
+abbrev node : ℕ → NodeId
+node n = record { 0 = n }
+
+pub counted :
+    (counts Global (node 1) (node 2) ≡ true)
+    × (counts PerGroup (node 1) (node 2) ≡ false)
+    × (counts PerGroup (node 2) (node 2) ≡ true)
+counted = (refl, refl, refl)

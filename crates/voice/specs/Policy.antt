@@ -103,7 +103,7 @@ victim p r l = policyVictim p (ofLowest r l)
 
 -- ---- admission
 
--- whether a tracked voice of the bus `theirs` counts for a newVoice on `bus`
+-- whether a tracked voice of the bus `theirs` counts for a new voice on `bus`
 abbrev pub counts : BudgetScope → NodeId → NodeId → Bool
 counts Global theirs bus = true
 counts PerGroup theirs bus = eqb (theirs .0) (bus .0)
@@ -119,7 +119,7 @@ decides false v = admission.Admit
 decides true Nobody = admission.Reject
 decides true (Goes place voice) = admission.Steal place voice
 
--- What a newVoice of rank r meets; the candidates are the tracked voices that count for it. "Without a budget nobody is tracked": it
+-- What a new voice of rank r meets; the candidates are the tracked voices that count for it. "Without a budget nobody is tracked": it
 -- is admitted, and the caller does not track it. All candidates count for the budget, whatever their rank.
 abbrev pub admits : Budget → StealPolicy → ℕ → List Candidate → Admission
 admits b p r l = decides (atBudget b (length l)) (victim p r l)

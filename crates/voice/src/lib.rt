@@ -1,3 +1,3 @@
-// Which voice goes when a new one wants in, from voice.rs, and the record of the steals, from engine.rs.
+// Policies, budgets, candidates and steal records: types and definitions. Crate voice_policy has the code.
 pub mod policy;
 pub mod steals;

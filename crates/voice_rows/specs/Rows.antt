@@ -3,12 +3,13 @@
 -- record number 2; how many parameters 2, the plan's output, rank. Then come 8 parameters of 6 words and the plan's 24 steps of 3 words.
 use Prim.Native.Nat.{ℕ, zero, suc, _+_, _*_, _/_, _%_}
 use mathlib.Core.Path.{_≡_}
-use mathlib.Core.Bool.{cond}
+use mathlib.Core.Bool.{Bool, false, cond}
 use mathlib.Core.List.{List, [], _∷_, _++_}
 use lib.Dec.{eqb}
 use lib.ListN.{length, take, getD}
 use Rattle.node.specs.declared.record.NodeId.{NodeId}
 use Rattle.synthdef.specs.declared.def.Param.{Param}
+use Rattle.synthdef.specs.declared.def.Params.{Params}
 use Rattle.synthdef.specs.declared.plan.DoneStep.{DoneStep}
 use Rattle.store.specs.declared.voices.Fade.{Fade}
 use Rattle.store.specs.declared.voices.Voice.{Voice}
@@ -27,9 +28,16 @@ fadeAt ws k = record { node = node (getD ws (k + 1) 0); start = longAt ws (k + 2
 abbrev pub stateAt : List ℕ → ℕ → VoiceState
 stateAt ws k = cond (eqb (getD ws k 0) 1) Tracked (cond (eqb (getD ws k 0) 2) (Fading (fadeAt ws k)) Loose)
 
--- a parameter in six words: its name, its node
+-- a parameter's name takes five words; its node has a word of its own after them, or where they are packed, the second byte of the last of them
+abbrev pub paramNodeBy : Bool → List ℕ → ℕ → ℕ
+paramNodeBy packed ws k = cond packed (getD ws (k + 4) 0 / 256 % 256) (getD ws (k + 5) 0 % 256)
+
+abbrev pub paramBy : Bool → List ℕ → ℕ → Param
+paramBy packed ws k = record { name = nameAt ws k; node = paramNodeBy packed ws k }
+
+-- a voice's, in six words
 abbrev pub paramAt : List ℕ → ℕ → Param
-paramAt ws k = record { name = nameAt ws k; node = getD ws (k + 5) 0 % 256 }
+paramAt = paramBy false
 
 -- a step of a done plan in three words: eight sources, then how many count and whether all have to be silent
 abbrev pub stepAt : List ℕ → ℕ → DoneStep
@@ -40,6 +48,10 @@ stepAt ws k =
 abbrev pub each : {A : Type 0} → (ℕ → A) → ℕ → ℕ → List A
 each f k zero = []
 each f k (suc n) = f k ∷ each f (suc k) n
+
+-- eight parameters of so many words each, from the word `first` on, and in the words from `held` on how many of them there are
+abbrev pub paramsBy : Bool → ℕ → ℕ → ℕ → List ℕ → Params
+paramsBy packed held first words ws = record { rows = each (λ k. paramBy packed ws (first + k * words)) 0 8; count = longAt ws held }
 
 abbrev pub paramsIn : List ℕ → List Param
 paramsIn ws = each (λ k. paramAt ws (23 + k * 6)) 0 8

@@ -12,8 +12,8 @@ use voice::policy::BudgetScope;
 use voice::policy::Candidate;
 use voice::policy::Candidates;
 use voice::policy::Level;
-use voice::policy::counts_for;
-use voice::policy::no_candidates;
+use voice_policy::policy::counts_for;
+use voice_policy::policy::no_candidates;
 use words::fields::float_at;
 use words::table::at_most;
 ghost use mathlib.Core.Path.{_≡_};
@@ -25,6 +25,13 @@ ghost use Rattle.model.specs.Voice.{isTracked, counted, nodeLevel};
 ghost use Rattle.voice_rows.specs.Levels.{LeftMax, levelAt, candidateAt, candidatesAt};
 ghost use Rattle.graph_rows.specs.Node.{nodesIn};
 ghost use Rattle.voice_rows.specs.Rows.{voiceOf, voicesIn};
+
+// Which voices count for a new voice: those that the scope of the budget names, for a new voice on `bus`; the clock says which of them have a level yet.
+pub struct Counting {
+    pub scope: BudgetScope,
+    pub bus: NodeId,
+    pub clock: u64,
+}
 
 // The level of the node `id` among the first `n` nodes; none if it does not live.
 fn node_level(nodes: &[u32], n: usize, id: NodeId) -> Level
@@ -126,18 +133,12 @@ fn candidate_at(t: &[u32], i: usize, nodes: &[u32], n: usize, clock: u64, row: u
 
 // One walk over the nodes serves all voices: in a store that calls made, the ids of the nodes rise from row to row, and those of the
 // outputs from voice to voice. For an output that is not at the row reached, all nodes are looked at.
-fn candidates_in(
-    t: &[u32],
-    count: usize,
-    nodes: &[u32],
-    n: usize,
-    clock: u64,
-    scope: BudgetScope,
-    bus: NodeId,
-) -> Candidates
+fn candidates_in(t: &[u32], count: usize, nodes: &[u32], n: usize, by: Counting) -> Candidates
     requires { ⌜ length (now t) ≡ 9152 ⌝ }
-    ensures { λ r. ⌜ candidatesOf r ≡ candidatesAt (take n (nodesIn (now (nodes .entry)))) clock (counted scope bus) (take count (voicesIn (now (t .entry)))) ⌝ }
+    ensures { λ r. ⌜ candidatesOf r ≡ candidatesAt (take n (nodesIn (now (nodes .entry)))) (by .clock) (counted (by .scope) (by .bus)) (take count (voicesIn (now (t .entry)))) ⌝ }
 {
+    let scope = by.scope;
+    let bus = by.bus;
     let m = at_most(count, 64);
     let mut out = no_candidates();
     let mut kept: usize = 0;
@@ -146,7 +147,7 @@ fn candidates_in(
     while i < m {
         if is_counted(t, i, scope, bus) {
             row = advance(nodes, n, row, output_at(t, i));
-            out.rows[kept] = candidate_at(t, i, nodes, n, clock, row);
+            out.rows[kept] = candidate_at(t, i, nodes, n, by.clock, row);
             kept += 1;
             i += 1;
         } else {
@@ -157,17 +158,9 @@ fn candidates_in(
     out
 }
 
-// The tracked voices that count for a new voice on `bus`, in order of admission, each with its level and its rank.
-pub fn candidates(
-    t: &VoiceTable,
-    count: usize,
-    nodes: &[u32],
-    n: usize,
-    clock: u64,
-    scope: BudgetScope,
-    bus: NodeId,
-) -> Candidates
-    ensures { λ r. ⌜ candidatesOf r ≡ candidatesAt (take n (nodesIn (now (nodes .entry)))) clock (counted scope bus) (take count (voicesIn (now (t .entry)))) ⌝ }
+// The tracked voices that count for a new voice, in order of admission, each with its level and its rank.
+pub fn candidates(t: &VoiceTable, count: usize, nodes: &[u32], n: usize, by: Counting) -> Candidates
+    ensures { λ r. ⌜ candidatesOf r ≡ candidatesAt (take n (nodesIn (now (nodes .entry)))) (by .clock) (counted (by .scope) (by .bus)) (take count (voicesIn (now (t .entry)))) ⌝ }
 {
-    candidates_in(t, count, nodes, n, clock, scope, bus)
+    candidates_in(t, count, nodes, n, by)
 }

@@ -3,5 +3,6 @@ pub mod fade;
 pub mod feeding;
 pub mod levels;
 pub mod pack;
+pub mod params;
 pub mod row;
 pub mod table;

@@ -1,13 +1,14 @@
 // A voice's row: its fields one by one, so that a loop reads what it tests; its state; the whole record.
 use crate::pack::state_words;
 use crate::pack::voice_words;
+use crate::params::ParamPlace;
+use crate::params::params_in;
 use node::name::Name;
 use node::record::NodeId;
 use node::record::VoiceId;
 use store::voices::Fade;
 use store::voices::Voice;
 use store::voices::VoiceState;
-use synthdef::def::Param;
 use synthdef::def::Params;
 use synthdef::params::ParamNode;
 use synthdef::params::param_node;
@@ -19,7 +20,6 @@ use words::fields::flag_at;
 use words::fields::is_set;
 use words::fields::long_at;
 use words::fields::low_byte;
-use words::fields::name_at;
 use words::table::put_fields;
 use words::table::put_row;
 use words::table::word_at;
@@ -32,7 +32,7 @@ ghost use Rattle.synthdef.specs.Tables.{paramRows};
 ghost use Rattle.synthdef.specs.Params.{paramNode, asParamNode};
 ghost use Rattle.synthdef.specs.Plan.{planSilent};
 ghost use Rattle.model.specs.Voice.{withState};
-ghost use Rattle.voice_rows.specs.Rows.{fadeAt, paramAt, stepAt, voiceOf, voicesIn};
+ghost use Rattle.voice_rows.specs.Rows.{fadeAt, stepAt, voiceOf, voicesIn};
 
 // "64 voices", a row of 143 words each.
 pub const VOICE_WORDS: usize = 9152;
@@ -141,34 +141,18 @@ pub fn put_voice(t: &mut [u32], i: usize, v: Voice)
     put_row(t, 143, i, &ws);
 }
 
-// The parameter `k` of the voice in row `i`.
-fn param_at(t: &[u32], i: usize, k: usize) -> Param
-    requires { ⌜ k < 8 ⌝ }
-    ensures { λ r. ⌜ r ≡ paramAt (rowAt 143 i (now (t .entry))) (23 + k * 6) ⌝ }
-{
-    let a = 23 + k * 6;
-    let name = name_at(t, 143, i, a as u16);
-    Param {
-        name,
-        node: low_byte(word_at(t, 143, i, a + 5)),
-    }
-}
-
 // The parameters of the voice in row `i`.
 pub fn params_at(t: &[u32], i: usize) -> Params
     ensures { λ r. ⌜ r ≡ getD (voicesIn (now (t .entry))) i (voiceOf []) .params ⌝ }
 {
-    let none = param_at(t, i, 0);
-    let mut rows = [none; 8];
-    let mut k: usize = 0;
-    while k < 8 {
-        rows[k] = param_at(t, i, k);
-        k += 1;
-    }
-    Params {
-        rows,
-        count: long_at(t, 143, i, 19) as usize,
-    }
+    let place = ParamPlace {
+        width: 143,
+        count: 19,
+        first: 23,
+        each: 6,
+        packed: false,
+    };
+    params_in(t, i, place)
 }
 
 // The step `k` of the done plan of the voice in row `i`.

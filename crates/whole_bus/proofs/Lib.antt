@@ -6,6 +6,7 @@ pub mod Ranges
 pub mod Raising
 pub mod Even
 pub mod Answers
+pub mod Channels
 pub mod Sums
 pub mod Rule
 pub mod Scenes

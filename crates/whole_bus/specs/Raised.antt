@@ -6,7 +6,7 @@ use mathlib.Core.List.{List}
 use lib.Dec.{T, ltb}
 use lib.IntN.{ℤ, pos, negsuc, _-ℤ_}
 use lib.ListN.{length, getD, drop}
-use Rattle.bus.specs.Block.{each, blockOf}
+use Rattle.bus.specs.Block.{each, blockOf, isChannels}
 use Rattle.bus.specs.Sum.{mostInputs, channels, everyIsChannels}
 use Rattle.whole_bus.specs.Sample.{isSample, clipped}
 use Rattle.whole_bus.specs.Block.{every, sumOf}
@@ -45,8 +45,9 @@ pub record SummedBlocks (inputs : List ℤ) (n : ℕ) (before after : List ℤ) 
 pub record Fitting (inputs : List ℤ) (counts : List ℕ) (size : ℕ) (out : List ℤ) (outs : ℕ) : Type 0 where
   pub counted : T (everyIsChannels counts)
   pub whole : length inputs ≡ channels counts * size
-  pub long : length out ≡ outs * size
   pub few : length counts ≤ mostInputs
+  pub oneOrTwo : T (isChannels outs)
+  pub long : length out ≡ outs * size
 
 -- the output is the bus's sum, or if any is no sample, as it was
 pub record Summed (inputs : List ℤ) (counts : List ℕ) (size outs : ℕ) (before after : List ℤ) (r : Bool) : Type 0 where

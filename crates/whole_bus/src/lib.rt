@@ -12,7 +12,7 @@ ghost use lib.IntN.{pos, _+ℤ_, _-ℤ_};
 ghost use lib.ListN.{length, getD};
 ghost use mir.Syntax.{w32};
 ghost use mir.Val.{SFits};
-ghost use Rattle.bus.specs.Block.{each, blockOf};
+ghost use Rattle.bus.specs.Block.{each, blockOf, isChannels};
 ghost use Rattle.bus.specs.Sum.{channels, everyIsChannels, mostInputs};
 ghost use Rattle.whole_bus.specs.Sample.{isSample, isGain, fadedSample, clipped};
 ghost use Rattle.whole_bus.specs.Raised.{aboveLowest, Added, AddedTwo, AddedAll, SummedBlocks, Fitting, Summed};
@@ -112,7 +112,7 @@ fn fade_channel(source: &[i32], gains: &[u32], len: usize, position: usize, out:
     clear(&mut out[n..size]);
 }
 
-// Channel c of the output is channel c modulo the input's count, faded.
+// Channel c of the output is channel c modulo the input's count, faded. There are one or two of each, so that a second channel reads the input's last.
 fn fade_block(
     input: &[i32],
     ins: usize,
@@ -123,21 +123,20 @@ fn fade_block(
     out: &mut [i32],
     outs: usize,
 )
-    requires { ⌜ (0 < ins) × (length (now input) ≡ ins * size) × (length (now out) ≡ outs * size) × (len ≤ length (now gains)) × T (every isSample (now input)) × T (every isGain (now gains)) ⌝ }
+    requires { ⌜ T (isChannels ins) × T (isChannels outs) × (length (now input) ≡ ins * size) × (length (now out) ≡ outs * size) × (len ≤ length (now gains)) × T (every isSample (now input)) × T (every isGain (now gains)) ⌝ }
     ensures { λ _. ⌜ now (out .exit) ≡ blockOf outs size (fadedOf (now (input .entry)) ins (now (gains .entry)) len position size) ⌝ }
 {
-    let mut c: usize = 0;
-    while c < outs {
-        let from = c % ins * size;
-        let to = c * size;
+    fade_channel(&input[0..size], gains, len, position, &mut out[0..size]);
+    if outs == 2 {
+        let from = (ins - 1) * size;
+        let end = size + size;
         fade_channel(
             &input[from..from + size],
             gains,
             len,
             position,
-            &mut out[to..to + size],
+            &mut out[size..end],
         );
-        c += 1;
     }
 }
 
@@ -233,14 +232,13 @@ fn sum_channel(inputs: &[i32], counts: &[usize], size: usize, c: usize, out: &mu
 }
 
 fn sum_block(inputs: &[i32], counts: &[usize], size: usize, out: &mut [i32], outs: usize)
-    requires { ⌜ T (everyIsChannels (now counts)) × (length (now inputs) ≡ channels (now counts) * size) × (length (now out) ≡ outs * size) × (length (now counts) ≤ mostInputs) × T (every isSample (now inputs)) ⌝ }
+    requires { ⌜ Fitting (now inputs) (now counts) size (now out) outs × T (every isSample (now inputs)) ⌝ }
     ensures { λ _. ⌜ now (out .exit) ≡ blockOf outs size (sumOf size (now (inputs .entry)) (now (counts .entry))) ⌝ }
 {
-    let mut c: usize = 0;
-    while c < outs {
-        let to = c * size;
-        sum_channel(inputs, counts, size, c, &mut out[to..to + size]);
-        c += 1;
+    sum_channel(inputs, counts, size, 0, &mut out[0..size]);
+    if outs == 2 {
+        let end = size + size;
+        sum_channel(inputs, counts, size, 1, &mut out[size..end]);
     }
 }
 

@@ -3,6 +3,7 @@
 use bus::Written;
 use bus::fade_length;
 use fade_table::table_entries;
+use mixing::FadePart;
 use store::config::Config;
 ghost use mathlib.Core.Path.{_≡_};
 ghost use Rattle.bus.specs.declared.Written.the-variants as written;
@@ -10,27 +11,24 @@ ghost use Rattle.node.specs.declared.refusal.Refusal as refusal;
 ghost use Rattle.model.specs.Call.{wholeFadeAnswer, wholeSumAnswer};
 ghost use Rattle.whole_mixing.specs.Filled.{filledOf};
 
-// A fade's output for one block: ins and outs are the channel counts of input and output, and position is what its earlier
-// blocks have passed. Where the table was chosen, the lent gains are not looked at.
+// A fade's output for one block. Where the table was chosen, the lent gains are not looked at.
 pub fn fade_output(
     config: Config,
     input: &[i32],
-    ins: usize,
     gains: &[u32],
-    position: u64,
+    p: FadePart,
     out: &mut [i32],
-    outs: usize,
 ) -> Written
-    ensures is { λ r. ⌜ filledOf r (now (out .exit)) ≡ wholeFadeAnswer config (now (input .entry)) ins (now (gains .entry)) position (now (out .entry)) outs ⌝ }
+    ensures is { λ r. ⌜ filledOf r (now (out .exit)) ≡ wholeFadeAnswer config (now (input .entry)) (p .ins) (now (gains .entry)) (p .position) (now (out .entry)) (p .outs) ⌝ }
     ensures same { λ r. ⌜ ((x : refusal.Refusal) → r ≡ written.Refused x → now (out .exit) ≡ now (out .entry)) ⌝ }
 {
     let len = fade_length(config.rate);
     let size = config.block;
     if config.table {
         let table = table_entries();
-        return whole_bus::fade_output(input, ins, &table, len, position, size, out, outs);
+        return whole_bus::fade_output(input, p.ins, &table, len, p.position, size, out, p.outs);
     }
-    whole_bus::fade_output(input, ins, gains, len, position, size, out, outs)
+    whole_bus::fade_output(input, p.ins, gains, len, p.position, size, out, p.outs)
 }
 
 // The sum of a bus for one block. The inputs' blocks stand one after the other, and counts has the channel count of each.

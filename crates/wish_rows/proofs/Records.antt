@@ -17,7 +17,7 @@ use Rattle.synthdef.specs.declared.def.SynthDef.{SynthDef}
 use Rattle.words.specs.Fields.{isSet, four, nameFrom, nameAt}
 use Rattle.voice_rows.proofs.Filling.{Local}
 use Rattle.voice_rows.proofs.Records.{param-same, first, name-local}
-use Rattle.console.specs.declared.wish.Wish.{Wish}
+use Rattle.store.specs.declared.wish.Wish.{Wish}
 use Rattle.wish_rows.specs.Rows.{defNodeAt, defEdgeAt, paramAt}
 
 -- ---- the bytes of a word

@@ -13,7 +13,7 @@ use Rattle.words.proofs.Rows.{row-is}
 use Rattle.voice_rows.specs.Rows.{each, node}
 use Rattle.voice_rows.specs.Filled.{Filled}
 use Rattle.voice_rows.proofs.Filling.{each-same, sets-in}
-use Rattle.console.specs.declared.wish.Wish.{Wish}
+use Rattle.store.specs.declared.wish.Wish.{Wish}
 use Rattle.wish_rows.specs.Rows.{defNodeAt, defEdgeAt, paramAt, nodesIn, edgesIn, paramsIn, headed, wishOf, wishesIn, Heads, Stands}
 use Rattle.wish_rows.proofs.Records.{node-local, edge-local}
 

@@ -3,6 +3,7 @@
 -- parameters 2 it has. Then come its 24 nodes of 6 words, 48 edges of one word and 8 parameters of 5 words.
 use Prim.Native.Nat.{ℕ, _+_, _*_, _/_, _%_}
 use mathlib.Core.Path.{_≡_}
+use mathlib.Core.Bool.{true}
 use mathlib.Core.List.{List}
 use lib.ListN.{length, take, getD}
 use Rattle.synthdef.specs.declared.def.DefNode.{DefNode}
@@ -10,8 +11,8 @@ use Rattle.synthdef.specs.declared.def.DefEdge.{DefEdge}
 use Rattle.synthdef.specs.declared.def.Param.{Param}
 use Rattle.words.specs.Fields.{isSet, floatFrom, longAt, nameAt}
 use Rattle.words.specs.Rows.{rows}
-use Rattle.voice_rows.specs.Rows.{each, node}
-use Rattle.console.specs.declared.wish.Wish.{Wish}
+use Rattle.voice_rows.specs.Rows.{each, node, paramBy}
+use Rattle.store.specs.declared.wish.Wish.{Wish}
 
 -- a node of a definition in six words: its kind's bytes; its kind's length, ports, required ports and whether it takes values, a byte
 -- each; its ports `in`, `level` and `amp` and whether it takes glides, a byte each
@@ -34,7 +35,7 @@ defEdgeAt ws k = record { from = getD ws k 0 % 256; to = getD ws k 0 / 256 % 256
 
 -- a parameter in five words: its name's bytes; its name's length and its node, a byte each
 abbrev pub paramAt : List ℕ → ℕ → Param
-paramAt ws k = record { name = nameAt ws k; node = getD ws (k + 4) 0 / 256 % 256 }
+paramAt = paramBy true
 
 abbrev pub nodesIn : List ℕ → List DefNode
 nodesIn ws = each (λ k. defNodeAt ws (11 + k * 6)) 0 24

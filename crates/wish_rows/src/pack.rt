@@ -1,5 +1,5 @@
 // A wish as words.
-use console::wish::Wish;
+use store::wish::Wish;
 use synthdef::def::DefEdge;
 use synthdef::def::DefEdges;
 use synthdef::def::DefNode;

@@ -1,14 +1,15 @@
 // A wish's row: read whole, and stored whole.
 use crate::pack::wish_words;
-use console::wish::Wish;
 use node::record::NodeId;
+use store::wish::Wish;
 use synthdef::def::DefEdge;
 use synthdef::def::DefEdges;
 use synthdef::def::DefNode;
 use synthdef::def::DefNodes;
-use synthdef::def::Param;
 use synthdef::def::Params;
 use synthdef::def::SynthDef;
+use voice_rows::params::ParamPlace;
+use voice_rows::params::params_in;
 use words::fields::flag_at;
 use words::fields::float_at;
 use words::fields::is_set;
@@ -22,7 +23,7 @@ ghost use mathlib.Core.List.{[]};
 ghost use Prim.Native.Nat.{_+_, _*_, _<_};
 ghost use lib.ListN.{getD, set};
 ghost use Rattle.words.specs.Rows.{rowAt};
-ghost use Rattle.wish_rows.specs.Rows.{defNodeAt, defEdgeAt, paramAt, wishOf, wishesIn};
+ghost use Rattle.wish_rows.specs.Rows.{defNodeAt, defEdgeAt, wishOf, wishesIn};
 
 // "16 waiting each" of eight keyboards, a row of 243 words each.
 pub const WISH_WORDS: usize = 31104;
@@ -63,20 +64,6 @@ fn edge_at(t: &[u32], i: usize, k: usize) -> DefEdge
     }
 }
 
-// The parameter `k` of the definition in row `i`.
-fn param_at(t: &[u32], i: usize, k: usize) -> Param
-    requires { ⌜ k < 8 ⌝ }
-    ensures { λ r. ⌜ r ≡ paramAt (rowAt 243 i (now (t .entry))) (203 + k * 5) ⌝ }
-{
-    let a = 203 + k * 5;
-    let name = name_at(t, 243, i, a as u16);
-    let x = word_at(t, 243, i, a + 4);
-    Param {
-        name,
-        node: low_byte(x / 256),
-    }
-}
-
 fn nodes_at(t: &[u32], i: usize) -> DefNodes
     ensures { λ r. ⌜ r ≡ getD (wishesIn (now (t .entry))) i (wishOf []) .def .nodes ⌝ }
 {
@@ -112,17 +99,14 @@ fn edges_at(t: &[u32], i: usize) -> DefEdges
 fn params_at(t: &[u32], i: usize) -> Params
     ensures { λ r. ⌜ r ≡ getD (wishesIn (now (t .entry))) i (wishOf []) .def .params ⌝ }
 {
-    let none = param_at(t, i, 0);
-    let mut rows = [none; 8];
-    let mut k: usize = 0;
-    while k < 8 {
-        rows[k] = param_at(t, i, k);
-        k += 1;
-    }
-    Params {
-        rows,
-        count: long_at(t, 243, i, 9) as usize,
-    }
+    let place = ParamPlace {
+        width: 243,
+        count: 9,
+        first: 203,
+        each: 5,
+        packed: true,
+    };
+    params_in(t, i, place)
 }
 
 // The definition in row `i`.

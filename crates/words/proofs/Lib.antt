@@ -8,3 +8,4 @@ pub mod Place
 pub mod Within
 pub mod Counting
 pub mod Copying
+mod Glides

@@ -7,6 +7,7 @@ use lib.Dec.{eqb}
 use lib.ListN.{getD}
 use lib.Ieee.{Float, ofBits, binary32}
 use Rattle.node.specs.declared.name.Name.{Name}
+use Rattle.node.specs.declared.order.Glide.{Glide}
 use Rattle.node.specs.declared.order.GlideShape.{GlideShape}
 use Rattle.node.specs.declared.order.GlideShape.the-variants as shape
 use Rattle.node.specs.declared.order.GlideSpace.{GlideSpace}
@@ -41,17 +42,18 @@ shapeFrom which x = cond (eqb which 1) shape.Linear (cond (eqb which 2) shape.Si
 abbrev pub spaceFrom : ℕ → GlideSpace
 spaceFrom which = cond (eqb which 1) space.Pitch space.Raw
 
+-- a glide in five words: the target, the seconds, the shape, the space
+abbrev pub glideFrom : ℕ → ℕ → ℕ → ℕ → ℕ → Glide
+glideFrom x s sh e sp = record { target = floatFrom x; seconds = floatFrom s; shape = shapeFrom sh e; space = spaceFrom sp }
+
 -- a node's newest order in six words: which, the target or value, the seconds, the shape, the space
 abbrev pub lastFrom : ℕ → ℕ → ℕ → ℕ → ℕ → ℕ → LastOrder
-lastFrom which x s sh e sp = cond (eqb which 1) (order.Value (floatFrom x)) (cond (eqb which 2) (order.Glide (floatFrom x) (floatFrom s) (shapeFrom sh e) (spaceFrom sp)) order.Nothing)
+lastFrom which x s sh e sp = cond (eqb which 1) (order.Value (floatFrom x)) (cond (eqb which 2) (order.Glide (glideFrom x s sh e sp)) order.Nothing)
 
 -- six words that stand for a glide, in an order of a node and in the action of an event: the first is 2
-pub record Glides (target seconds : Float) (shape : GlideShape) (space : GlideSpace) (ws : List ℕ) : Type 0 where
+pub record Glides (g : Glide) (ws : List ℕ) : Type 0 where
   pub which : getD ws 0 0 ≡ 2
-  pub target-is : floatFrom (getD ws 1 0) ≡ target
-  pub seconds-are : floatFrom (getD ws 2 0) ≡ seconds
-  pub shape-is : shapeFrom (getD ws 3 0) (getD ws 4 0) ≡ shape
-  pub space-is : spaceFrom (getD ws 5 0) ≡ space
+  pub back : glideFrom (getD ws 1 0) (getD ws 2 0) (getD ws 3 0) (getD ws 4 0) (getD ws 5 0) ≡ g
 
 -- the fields of several words in a row: from word k on
 abbrev pub longAt : List ℕ → ℕ → ℕ

@@ -1,6 +1,7 @@
 // The fields of a record in words, and back.
 use crate::table::word_at;
 use node::name::Name;
+use node::order::Glide;
 use node::order::GlideShape;
 use node::order::GlideSpace;
 use node::order::LastOrder;
@@ -8,7 +9,7 @@ ghost use mathlib.Core.Path.{_≡_};
 ghost use Prim.Native.Nat.{_/_, _%_};
 ghost use mathlib.Core.List.{[], _∷_, _++_};
 ghost use lib.ListN.{getD};
-ghost use Rattle.words.specs.Fields.{longFrom, isSet, floatFrom, four, nameFrom, shapeFrom, spaceFrom, lastFrom, Glides, longAt, nameAt, lastAt};
+ghost use Rattle.words.specs.Fields.{longFrom, isSet, floatFrom, four, nameFrom, shapeFrom, spaceFrom, glideFrom, lastFrom, Glides, longAt, nameAt, lastAt};
 ghost use Rattle.words.specs.Rows.{rowAt};
 
 pub fn low_word(x: u64) -> u32
@@ -134,7 +135,7 @@ pub fn name_from(a: u32, b: u32, c: u32, d: u32, len: u32) -> Name
 }
 
 // A glide's shape in two words, its space in one.
-pub fn shape_words(s: GlideShape) -> [u32; 2]
+fn shape_words(s: GlideShape) -> [u32; 2]
     ensures { λ r. ⌜ shapeFrom (getD r 0 0) (getD r 1 0) ≡ s ⌝ }
 {
     match s {
@@ -145,7 +146,7 @@ pub fn shape_words(s: GlideShape) -> [u32; 2]
     }
 }
 
-pub fn shape_from(which: u32, x: u32) -> GlideShape
+fn shape_from(which: u32, x: u32) -> GlideShape
     ensures { λ r. ⌜ r ≡ shapeFrom which x ⌝ }
 {
     if which == 1 {
@@ -160,7 +161,7 @@ pub fn shape_from(which: u32, x: u32) -> GlideShape
     GlideShape::Hold
 }
 
-pub fn space_word(s: GlideSpace) -> u32
+fn space_word(s: GlideSpace) -> u32
     ensures { λ r. ⌜ spaceFrom r ≡ s ⌝ }
 {
     match s {
@@ -169,7 +170,7 @@ pub fn space_word(s: GlideSpace) -> u32
     }
 }
 
-pub fn space_from(which: u32) -> GlideSpace
+fn space_from(which: u32) -> GlideSpace
     ensures { λ r. ⌜ r ≡ spaceFrom which ⌝ }
 {
     if which == 1 {
@@ -179,18 +180,31 @@ pub fn space_from(which: u32) -> GlideSpace
 }
 
 // An order that is a glide in six words, the first of them 2.
-pub fn glide_words(target: f32, seconds: f32, shape: GlideShape, space: GlideSpace) -> [u32; 6]
-    ensures { λ r. ⌜ Glides target seconds shape space r ⌝ }
+pub fn glide_words(g: Glide) -> [u32; 6]
+    ensures { λ r. ⌜ Glides g r ⌝ }
 {
+    let shape = g.shape;
+    let space = g.space;
     let s = shape_words(shape);
     [
         2,
-        float_word(target),
-        float_word(seconds),
+        float_word(g.target),
+        float_word(g.seconds),
         s[0],
         s[1],
         space_word(space),
     ]
+}
+
+pub fn glide_from(target: u32, seconds: u32, shape: u32, e: u32, space: u32) -> Glide
+    ensures { λ r. ⌜ r ≡ glideFrom target seconds shape e space ⌝ }
+{
+    Glide {
+        target: float_from(target),
+        seconds: float_from(seconds),
+        shape: shape_from(shape, e),
+        space: space_from(space),
+    }
 }
 
 // A node's newest order in six words.
@@ -200,12 +214,7 @@ pub fn last_words(l: LastOrder) -> [u32; 6]
     match l {
         LastOrder::Nothing => [0, 0, 0, 0, 0, 0],
         LastOrder::Value(x) => [1, float_word(x), 0, 0, 0, 0],
-        LastOrder::Glide {
-            target,
-            seconds,
-            shape,
-            space,
-        } => glide_words(target, seconds, shape, space),
+        LastOrder::Glide(g) => glide_words(g),
     }
 }
 
@@ -216,12 +225,7 @@ pub fn last_from(which: u32, x: u32, seconds: u32, shape: u32, e: u32, space: u3
         return LastOrder::Value(float_from(x));
     }
     if which == 2 {
-        return LastOrder::Glide {
-            target: float_from(x),
-            seconds: float_from(seconds),
-            shape: shape_from(shape, e),
-            space: space_from(space),
-        };
+        return LastOrder::Glide(glide_from(x, seconds, shape, e, space));
     }
     LastOrder::Nothing
 }

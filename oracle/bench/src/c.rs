@@ -51,35 +51,19 @@ unsafe extern "C" {
     ) -> u32;
     pub safe fn piecrag_set_sink(seal: &Seal, state: &mut State, nodes: &Nodes, node: u32) -> u32;
     pub safe fn piecrag_prepare(state: &mut State, nodes: &Nodes, edges: &Edges, order: &mut Order) -> u32;
-    pub fn piecrag_schedule_value(
+    pub fn piecrag_schedule(
         state: &mut State,
         events: &mut Events,
         time: u64,
         voice: u64,
         name: *const u8,
         name_length: usize,
+        action: u32,
         value: f32,
-    ) -> u32;
-    pub fn piecrag_schedule_glide(
-        state: &mut State,
-        events: &mut Events,
-        time: u64,
-        voice: u64,
-        name: *const u8,
-        name_length: usize,
-        target: f32,
         seconds: f32,
         shape: u32,
         curve: f32,
         space: u32,
-    ) -> u32;
-    pub fn piecrag_schedule_free(
-        state: &mut State,
-        events: &mut Events,
-        time: u64,
-        voice: u64,
-        name: *const u8,
-        name_length: usize,
     ) -> u32;
     pub fn piecrag_spawn(
         seal: &Seal,

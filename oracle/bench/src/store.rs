@@ -28,6 +28,9 @@ pub struct Store {
 const NAME: &[u8] = b"amp";
 /// No board here is sealed.
 const UNSEALED: Seal = [0; 12];
+const VALUE: u32 = 0;
+const GLIDE: u32 = 1;
+const FREE: u32 = 3;
 const LINEAR: u32 = 1;
 const RAW: u32 = 0;
 
@@ -84,16 +87,13 @@ impl Store {
     /// An event for the parameter `amp`.
     pub fn schedule(&mut self, time: u64, voice: u64, kind: Kind) -> u32 {
         let (state, events, name, length) = (&mut self.state, &mut self.events, NAME.as_ptr(), NAME.len());
+        let action = match kind {
+            Kind::Value => VALUE,
+            Kind::Glide => GLIDE,
+            Kind::Free => FREE,
+        };
         // SAFETY: the name is lent with its length.
-        unsafe {
-            match kind {
-                Kind::Value => c::piecrag_schedule_value(state, events, time, voice, name, length, 0.5),
-                Kind::Glide => {
-                    c::piecrag_schedule_glide(state, events, time, voice, name, length, 0.5, 0.25, LINEAR, 0.0, RAW)
-                }
-                Kind::Free => c::piecrag_schedule_free(state, events, time, voice, name, length),
-            }
-        }
+        unsafe { c::piecrag_schedule(state, events, time, voice, name, length, action, 0.5, 0.25, LINEAR, 0.0, RAW) }
     }
 
     fn spawn_on_bus(&mut self, managed: u32, book: &[u8], pan: f32) -> u32 {

@@ -70,6 +70,11 @@ fn outcome(number: u8) -> String {
     format!("outcome {number}")
 }
 
+/// The words of a remark in one line: a byte that is no printable character of ASCII is `?`.
+fn printable(words: &[u8]) -> String {
+    words.iter().map(|&byte| if (32..=126).contains(&byte) { char::from(byte) } else { '?' }).collect()
+}
+
 impl Player {
     /// The store that was made last, to be looked at.
     pub fn store(&self) -> &Store {
@@ -110,6 +115,7 @@ impl Player {
             Call::Seal { bus, ports, nodes, edges, def_nodes, def_edges } => {
                 self.seal_by(Profile { bus, ports, nodes, edges, def_nodes, def_edges })
             }
+            Call::Remark { ref words } => Ok(format!("# {}", printable(words))),
             Call::Free { voice } => Ok(outcome(store.free(VoiceId(voice)))),
             Call::Clear {} => Ok(format!("removed {}", store.engine.free_done_synths())),
             Call::Value { voice, ref name, value } => Ok(outcome(store.value(voice, name, value))),
@@ -208,8 +214,8 @@ impl Player {
     /// The Rust knows no ranks: 26 is given here, before all else, and every voice has the rank 0.
     fn spawn(&mut self, slot: u8, is_managed: bool, bus: u32, pan: Option<f32>, rank: u32) -> Answer {
         check(rank <= 7, 26)?;
-        assert_eq!(rank, 0, "runs against the Rust give every voice rank 0");
         let definition = self.slots[usize::from(slot % 16)].definition.as_ref().map_err(|&number| number)?;
+        assert_eq!(rank, 0, "runs against the Rust give every voice rank 0");
         let voice = self.store.spawn(definition, &Spawn { is_managed, bus: NodeId::numbered(bus), pan })?;
         Ok(format!("voice {}", voice.0))
     }

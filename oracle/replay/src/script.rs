@@ -228,6 +228,7 @@ entries! {
     49 Turn {}
     50 Waiting {}
     52 Seal { bus: u32, ports: u64, nodes: u64, edges: u64, def_nodes: u64, def_edges: u64 }
+    53 Remark { words: Name }
 }
 
 /// The entry that begins at `at`, and where the next one begins; or `at` where there is no whole entry.

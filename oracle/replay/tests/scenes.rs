@@ -150,9 +150,17 @@ fn nothing_of_a_malformed_entry_is_played() {
     let whole = script(&[host(1, 0), Call::Clock {}]);
     let counted = |sort: u8, fields: &[u8], count: u32| [&[sort], fields, &count.to_le_bytes(), &[0; 2052]].concat();
     let report = [0, 0, 0, 0, 1, 0];
-    for entry in
-        [vec![0], vec![34], vec![3], counted(18, &report, 513), counted(19, &report, 513), counted(32, &[], 4097)]
-    {
+    for entry in [
+        vec![0],
+        vec![34],
+        vec![3],
+        vec![53],
+        vec![53, 2, 65],
+        vec![54],
+        counted(18, &report, 513),
+        counted(19, &report, 513),
+        counted(32, &[], 4097),
+    ] {
         let bytes = [&whole[..], &entry].concat();
         assert_eq!(transcript(&bytes), format!("node 0\nclock 0\nmalformed {}\n", whole.len()));
     }
@@ -160,10 +168,22 @@ fn nothing_of_a_malformed_entry_is_played() {
     assert!(transcript(&counted(18, &report, 512)).starts_with("refused 4\n"));
 }
 
+/// A remark is one line whatever its bytes are, changes nothing, and is open on a sealed board.
+#[test]
+fn a_remark_is_a_line() {
+    let remark = |words: &[u8]| Call::Remark { words: words.to_vec() };
+    let mut calls =
+        vec![host(2, 0), remark(b"a bus ~"), remark(b""), remark(b"\0\n\x1f\x7f\xff"), remark(&[b' '; 255])];
+    calls.extend([seal(0, 2, 1, 0, 1, 0), remark(b"sealed")]);
+    let spaces = format!("# {}", " ".repeat(255));
+    assert_eq!(lines(&calls), ["node 0", "# a bus ~", "# ", "# ?????", &spaces, "sealed", "# sealed"]);
+}
+
 #[test]
 fn entries_are_read_as_they_were_written() {
     let mut bytes = script(&page_scene());
     bytes.extend(script(&[free_at(1, 2), host(64, u64::MAX), Call::Page { length: Length(4096) }]));
+    bytes.extend(script(&[Call::Remark { words: vec![255; 255] }, Call::Remark { words: vec![] }]));
     let (mut at, mut again) = (0, Vec::new());
     while at < bytes.len() {
         let (call, next) = decode(&bytes, at).expect("a whole entry");

@@ -11,7 +11,7 @@ use Rattle.model.specs.Refuse.{makeRefusal}
 use Rattle.model.specs.Make.{madeUnless, newModel, wholeOr0, configOf, refusalOf}
 use Rattle.memory.specs.View.{Memory, modelOf}
 use Rattle.memory.specs.Lent.{lentState}
-use Rattle.call_make.specs.Made.{ifDone, making}
+use Rattle.call_make.specs.Made.{ifDone}
 use Rattle.call_make.proofs.make.Statement.{statement}
 use Rattle.call_make.proofs.make.Tie as tie
 
@@ -36,11 +36,10 @@ new-state-requires c κs = search needs
 
 returns : tie.Need-returns
 returns c =
-    let a = c .before .before .before .before .args in
+    let k = c .before .before .before .before .args .making in
     let rate = c .before .before .before .sample-rate .ensures in
-    let told = c .before .before .make-test .ensures ∙ ap (λ (x : Said ℕ). answerOf (makeRefusal x (a .block) (a .budget) (a .table))) rate in
-    let whole = ap (λ n. newModel (record { rate = n; block = a .block; budget = a .budget; policy = a .policy; scope = a .scope; table = a .table })) (c .before .hertz .ensures ∙ ap wholeOr0 rate) in
-    let k = making (a .rate) (a .block) (a .budget) (a .policy) (a .scope) (a .table) in (
+    let told = c .before .before .make-test .ensures ∙ ap (λ (x : Said ℕ). answerOf (makeRefusal x (k .block) (k .budget) (k .table))) rate in
+    let whole = ap (λ n. newModel (record { rate = n; block = k .block; budget = k .budget; policy = k .policy; scope = k .scope; table = k .table })) (c .before .hertz .ensures ∙ ap wholeOr0 rate) in (
       λ m. made (c .before .before .make-test .result) (refusalOf k) (modelOf (lentState (c .new-state .result) m)) (newModel (configOf k)) told (c .new-state .ensures m ∙ whole),
       (told, λ m. c .new-state .ensures m ∙ whole),
     )

@@ -7,6 +7,7 @@ use Rattle.bus.specs.Block.{blockOf}
 use Rattle.bus.proofs.Sums.{sum-fits-says, few-inputs}
 use Rattle.whole_bus.specs.Sample.{isSample}
 use Rattle.whole_bus.specs.Block.{every, sumOf}
+use Rattle.whole_bus.proofs.Channels.{sum-channels}
 use Rattle.whole_bus.proofs.Answers.{unfit, ranged-out, accepted, refused, done}
 use Rattle.whole_bus.proofs.bus_sum.Statement.{statement}
 use Rattle.whole_bus.proofs.bus_sum.Tie as tie
@@ -18,7 +19,7 @@ sum-samples-requires : tie.Need-sum-samples-requires
 sum-samples-requires c κs =
     let fits = sym (c .before .before .sum-fits .ensures) ∙ c .before .if1 .taken in
     let fit = sum-fits-says _ _ _ _ _ fits in
-    record { counted = fit .0; whole = fit .1; long = fit .2; few = few-inputs _ _ _ _ _ fits }
+    record { counted = fit .0; whole = fit .1; few = few-inputs _ _ _ _ _ fits; oneOrTwo = sum-channels _ _ _ _ _ fits; long = fit .2 }
 
 same-length : tie.Need-same-length
 same-length c = search needs

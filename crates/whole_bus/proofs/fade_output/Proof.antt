@@ -4,9 +4,9 @@ use mathlib.Core.Bool.{_&&_}
 use lib.Dec.{T}
 use borrow.Author.Needs.{needs}
 use Rattle.node.specs.declared.refusal.Refusal.the-variants.{LentBlock, OutOfRange}
-use Rattle.bus.proofs.Fades.{fits-says}
 use Rattle.whole_bus.specs.Sample.{isSample, isGain}
 use Rattle.whole_bus.specs.Block.{every}
+use Rattle.whole_bus.proofs.Channels.{fade-sizes}
 use Rattle.whole_bus.proofs.Answers.{unfit, ranged-out, accepted, both, first-not, second-not, refused, done}
 use Rattle.whole_bus.proofs.fade_output.Statement.{statement}
 use Rattle.whole_bus.proofs.fade_output.Tie as tie
@@ -25,8 +25,8 @@ fade-block-requires c κs =
     let gains = c .before .before in
     let samples = gains .before .before in
     let sizes = samples .before .before in
-    let fit = fits-says _ _ _ _ _ _ _ (sym (sizes .fade-fits .ensures) ∙ samples .before .if1 .taken) in
-    (fit .0, fit .1, fit .2, fit .3, subst T (sym (sym (samples .every-sample .ensures) ∙ gains .before .if2 .taken)) tt, subst T (sym (sym (gains .every-gain .ensures) ∙ c .before .if3 .taken)) tt)
+    let fit = fade-sizes _ _ _ _ _ _ _ (sym (sizes .fade-fits .ensures) ∙ samples .before .if1 .taken) in
+    (fit .0, fit .1, fit .2, fit .3, fit .4, subst T (sym (sym (samples .every-sample .ensures) ∙ gains .before .if2 .taken)) tt, subst T (sym (sym (gains .every-gain .ensures) ∙ c .before .if3 .taken)) tt)
 
 same-length : tie.Need-same-length
 same-length c = search needs

@@ -1,89 +1,100 @@
--- `whole_bus::sum_block` meets its contract: the channels before c are written, and the rest is as it was.
-use Prim.Native.Nat.{_+_, _*_, _-_, _≤_}
+-- `whole_bus::sum_block` meets its contract: the first channel is written, and where there are two, the second.
+use Prim.Native.Nat.{_+_, _-_, _≤_}
+use native.Mathlib.Nat.{zero-mul, one-mul}
 use native.Mathlib.Omega.{arith}
-use mathlib.Core.Path.{_≡_}
-use lib.ListN.{length}
+use mathlib.Core.Path.{_≡_, sym}
+use mathlib.Core.List.{_++_}
+use lib.ListN.{length, take, drop}
 use borrow.Author.Needs.{needs}
-use Rattle.bus.proofs.Blocks.{room, Laying, lay-none, lay-more, lay-all}
+use Rattle.bus.proofs.Blocks.{length-part, Laying, lay-none, lay-all}
 use Rattle.whole_bus.specs.Block.{sumOf}
+use Rattle.whole_bus.proofs.Channels.{Channels, channels-of, lay-at}
 use Rattle.whole_bus.proofs.sum_block.Statement.{statement}
 use Rattle.whole_bus.proofs.sum_block.Tie as tie
 
-abbrev Inv-loop : tie.InvT-loop
-Inv-loop inputs counts size out₀ outs c₀ out c = Laying size (sumOf size inputs counts) out₀ out c × (c ≤ outs)
+-- where the channels of the output lie
+writes : (c : tie.Start) → Channels (c .args .outs) (c .args .size) (length (c .args .out .now))
+writes c = channels-of _ _ _ (c .pre .0 .oneOrTwo) (c .pre .0 .long)
 
-abbrev μ-loop : tie.MeasureT-loop
-μ-loop inputs counts size out₀ outs c₀ out c = outs - c
-
--- the channel at hand lies within the output
-writes-within : (c : tie.In-loop Inv-loop μ-loop) → c .before .loop .c * c .before .before .before .args .size + c .before .before .before .args .size ≤ length (c .before .before .before .args .out .now)
-writes-within c =
-    let o = c .before .before .before in
-    room (o .args .outs) (o .args .size) (c .before .loop .c) _ (o .pre .2) (c .loop-test .taken)
-
-loop-holds : tie.Need-loop-holds Inv-loop μ-loop
-loop-holds c = (lay-none _ _ _, search needs)
-
-mul-to : tie.Need-mul-to Inv-loop μ-loop
-mul-to c = omega (arith, writes-within c)
-
-add-sum-channel : tie.Need-add-sum-channel Inv-loop μ-loop
-add-sum-channel c = omega (arith, writes-within c)
-
-mul-sum-channel : tie.Need-mul-sum-channel Inv-loop μ-loop
-mul-sum-channel c = omega (arith, writes-within c)
-
-sub-sum-channel : tie.Need-sub-sum-channel Inv-loop μ-loop
+sub-sum-channel : tie.Need-sub-sum-channel
 sub-sum-channel c = search needs
 
-part-sum-channel-start : tie.Need-part-sum-channel-start Inv-loop μ-loop
+part-sum-channel-start : tie.Need-part-sum-channel-start
 part-sum-channel-start c = search needs
 
-part-sum-channel-end : tie.Need-part-sum-channel-end Inv-loop μ-loop
-part-sum-channel-end c = omega (arith, writes-within c)
+part-sum-channel-end : tie.Need-part-sum-channel-end
+part-sum-channel-end c = omega (arith, writes (c .before) .last)
 
-sum-channel-requires : tie.Need-sum-channel-requires Inv-loop μ-loop
+sum-channel-requires : tie.Need-sum-channel-requires
 sum-channel-requires c κs = search needs
 
-add-c : tie.Need-add-c Inv-loop μ-loop
-add-c c = search needs
+-- the first channel is written
+first : (c : tie.After-sum-channel) → Laying (c .before .before .before .args .size) (sumOf (c .before .before .before .args .size) (c .before .before .before .args .inputs .now) (c .before .before .before .args .counts .now)) (c .before .before .before .args .out .now) (take 0 (c .before .before .before .args .out .now) ++ (c .sum-channel .last .1 .1 .1 .1 .0 ++ drop (c .before .before .before .args .size - 0) (drop 0 (c .before .before .before .args .out .now)))) 1
+first c =
+    let o = c .before .before .before in
+    let a = o .args in
+    let k : a .size - 0 ≡ a .size = omega arith in
+    let fits : 0 + a .size ≤ length (a .out .now) = omega (arith, writes o .last) in
+    lay-at _ _ _ (a .out .now) 0 0 (a .size - 0) _ (lay-none _ _ _) (sym (zero-mul (a .size))) fits k (c .sum-channel .ensures)
 
-loop-less : tie.Need-loop-less Inv-loop μ-loop
-loop-less c = search needs
+add-end : tie.Need-add-end
+add-end c = omega (arith, writes (c .before .before .before .before .before) .two (c .if1 .taken))
 
-loop-again : tie.Need-loop-again Inv-loop μ-loop
-loop-again c =
-    let turn = c .before .before .before in
-    let o = turn .before .before .before .args in
-    let to = turn .before .loop .c * o .size in
-    let k : to + o .size - to ≡ o .size = omega arith in
-    (lay-more _ _ _ _ (turn .before .loop .c) _ _ (turn .before .loop .inv .0) (writes-within turn) k (c .before .sum-channel .ensures), omega arith)
+mul-sum-channel : tie.Need-mul-sum-channel
+mul-sum-channel c = omega (arith, writes (c .before .before .before .before .before) .last)
 
-same-length : tie.Need-same-length Inv-loop μ-loop
+sub-sum-channel-2 : tie.Need-sub-sum-channel-2
+sub-sum-channel-2 c = search needs
+
+part-sum-channel-start-2 : tie.Need-part-sum-channel-start-2
+part-sum-channel-start-2 c = search needs
+
+part-sum-channel-end-2 : tie.Need-part-sum-channel-end-2
+part-sum-channel-end-2 c = omega (arith, writes (c .before .before .before .before .before) .two (c .if1 .taken), first (c .before .before) .long)
+
+sum-channel-requires-2 : tie.Need-sum-channel-requires-2
+sum-channel-requires-2 c κs =
+    let o = c .before .before .before .before .before .before in
+    let a = o .args in
+    let fit = o .pre .0 in
+    let k : a .size + a .size - a .size ≡ a .size = omega arith in
+    let written : a .size + a .size ≤ length (a .out .now) = omega (arith, writes o .two (c .before .if1 .taken)) in
+    let laid = first (c .before .before .before) in
+    (fit .counted, fit .whole, length-part (a .size + a .size - a .size) (a .size) (a .size) _ k (omega (arith, laid .long)), fit .few, o .pre .1)
+
+same-length : tie.Need-same-length
 same-length c = search needs
 
-returns : tie.Need-returns Inv-loop μ-loop
+returns : tie.Need-returns
 returns c =
-    let o = c .before .before .before in
-    let done : c .before .loop .c ≡ o .args .outs = omega arith in
-    lay-all _ _ _ _ _ _ (c .before .loop .inv .0) done (o .pre .2)
+    let o = c .before .before .before .before .before .before .before .before in
+    let a = o .args in
+    let both = c .before .before .before .if1 .taken in
+    let k : a .size + a .size - a .size ≡ a .size = omega arith in
+    let fits : a .size + a .size ≤ length (a .out .now) = omega (arith, writes o .two both) in
+    lay-all _ _ _ _ _ 2 (lay-at _ _ _ _ 1 (a .size) _ _ (first (c .before .before .before .before .before)) (sym (one-mul (a .size))) fits k (c .before .sum-channel2 .ensures)) (sym both) (o .pre .0 .long)
+
+same-length-2 : tie.Need-same-length-2
+same-length-2 c = search needs
+
+returns-2 : tie.Need-returns-2
+returns-2 c = let o = c .before .before .before .before .before in lay-all _ _ _ _ _ 1 (first (c .before .before)) (writes o .one (c .if1 .left)) (o .pre .0 .long)
 
 pub sum-block-spec : {M : Type 1} → statement M
 sum-block-spec =
     tie.close
     (tie.spec
-    Inv-loop
-    μ-loop
-    loop-holds
-    mul-to
-    add-sum-channel
-    mul-sum-channel
     sub-sum-channel
     part-sum-channel-start
     part-sum-channel-end
     sum-channel-requires
-    add-c
-    loop-less
-    loop-again
+    add-end
+    mul-sum-channel
+    sub-sum-channel-2
+    part-sum-channel-start-2
+    part-sum-channel-end-2
+    sum-channel-requires-2
     same-length
-    returns)
+    returns
+    same-length-2
+    returns-2)

@@ -10,8 +10,7 @@ every-sample-requires c κs = search needs
 
 sum-block-requires : tie.Need-sum-block-requires
 sum-block-requires c κs =
-    let p = c .before .before .before .before .pre in
-    (p .counted, p .whole, p .long, p .few, subst T (sym (sym (c .before .before .every-sample .ensures) ∙ c .before .if1 .taken)) tt)
+    (c .before .before .before .before .pre, subst T (sym (sym (c .before .before .every-sample .ensures) ∙ c .before .if1 .taken)) tt)
 
 same-length : tie.Need-same-length
 same-length c = search needs

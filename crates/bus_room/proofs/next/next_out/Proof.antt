@@ -5,7 +5,7 @@ use Rattle.voice_rows.specs.Rows.{voicesIn}
 use Rattle.voice_rows.specs.Found.{FoundAt}
 use Rattle.model.specs.Spawn.{voiceOf, earliest, elseVictim}
 use Rattle.model.specs.Voice.{fadesOn}
-use Rattle.bus_room.proofs.Laws.{fade-first, no-fade}
+use Rattle.bus_room.proofs.Laws.{fade-first, found-none}
 use Rattle.bus_room.proofs.next.next_out.Statement.{statement}
 use Rattle.bus_room.proofs.next.next_out.Tie as tie
 
@@ -34,7 +34,7 @@ returns-2 c =
     let a = c .before .before .before .before .before .before .args in
     let vs = take (a .s .voices) (voicesIn (a .voices .now)) in
     let f = c .before .before .before .before .earliest-fade in
-    let no-one = no-fade (f .result) (voicesIn (a .voices .now)) _ (f .ensures .is) (c .before .before .before .if1 .left) in
+    let no-one = found-none (f .result) (voicesIn (a .voices .now)) _ (f .ensures .is) (c .before .before .before .if1 .left) in
     subst (FoundAt (f .result) (a .s .voices) (voicesIn (a .voices .now)))
     (no-one ∙ sym (ap (λ o. elseVictim o (voiceOf (c .before .before .bus-victim .result) vs)) no-one ∙ ap (λ x. voiceOf x vs) (c .enum-told .given .1)) ∙ ap (λ x. elseVictim (earliest (fadesOn (a .bus)) vs) (voiceOf x vs)) (c .before .before .bus-victim .ensures))
     (f .ensures)
@@ -44,7 +44,7 @@ returns-3 c =
     let a = c .before .before .before .before .before .before .before .before .before .args in
     let vs = take (a .s .voices) (voicesIn (a .voices .now)) in
     let f = c .before .before .before .before .before .before .before .earliest-fade in
-    let no-one = no-fade (f .result) (voicesIn (a .voices .now)) _ (f .ensures .is) (c .before .before .before .before .before .before .if1 .left) in
+    let no-one = found-none (f .result) (voicesIn (a .voices .now)) _ (f .ensures .is) (c .before .before .before .before .before .before .if1 .left) in
     subst (FoundAt (c .find-voice .result) (a .s .voices) (voicesIn (a .voices .now)))
     (sym (ap (λ o. elseVictim o (voiceOf (c .before .before .before .before .before .bus-victim .result) vs)) no-one ∙ ap (λ x. voiceOf x vs) (c .before .before .before .victim .given .1)) ∙ ap (λ x. elseVictim (earliest (fadesOn (a .bus)) vs) (voiceOf x vs)) (c .before .before .before .before .before .bus-victim .ensures))
     (c .find-voice .ensures)

@@ -1,13 +1,14 @@
 use native.Mathlib.Omega.{arith}
-use mathlib.Core.Path.{_≡_, refl, sym, ap, subst, _∙_}
+use mathlib.Core.Path.{_≡_, refl, sym, ap, _∙_}
 use borrow.Author.Needs.{needs}
 use Rattle.edges.specs.Ports.{portOf}
-use Rattle.model.specs.Model.{Model, portFree}
+use Rattle.model.specs.Spawn.{nextOut}
+use Rattle.model.specs.Model.{portFree}
 use Rattle.memory.specs.View.{Memory, modelOf}
 use Rattle.memory.specs.Lent.{lentSpawn}
+use Rattle.voice_rows.specs.Rows.{voicesIn}
 use Rattle.bus_room.specs.Reclaimed.{reclaimed}
-use Rattle.bus_room.specs.Room.{Tries}
-use Rattle.bus_room.proofs.Laws.{reclaim-port, reclaim-over, reclaim-one, same-left}
+use Rattle.bus_room.proofs.Laws.{found-some, found-none, reclaim-port, reclaim-over, reclaim-one}
 use Rattle.bus_room.proofs.room.make_room.Statement.{statement}
 use Rattle.bus_room.proofs.room.make_room.Tie as tie
 
@@ -38,8 +39,11 @@ loop-again c =
     let l = c .before .before .before .loop in
     (λ m. sym (reclaim-port (l .left) bus rank (modelOf (lentSpawn (l .state) (l .nodes) (l .edges) (l .voices) (l .steals) m)) (l .port) (l .inv .1 m) (sym (c .before .is-port .ensures) ∙ c .if1 .taken)) ∙ l .inv .0 m, l .inv .1)
 
-remove-next-requires : tie.Need-remove-next-requires Inv-loop μ-loop
-remove-next-requires c κs = search needs
+next-out-requires : tie.Need-next-out-requires Inv-loop μ-loop
+next-out-requires c κs = search needs
+
+cut-voice-requires : tie.Need-cut-voice-requires Inv-loop μ-loop
+cut-voice-requires c κs = search needs
 
 bus-port-requires-2 : tie.Need-bus-port-requires-2 Inv-loop μ-loop
 bus-port-requires-2 c κs = search needs
@@ -52,26 +56,34 @@ loop-less-2 c = search needs
 
 loop-again-2 : tie.Need-loop-again-2 Inv-loop μ-loop
 loop-again-2 c =
-    let bus = c .before .before .before .before .before .before .before .before .before .before .before .before .before .before .before .before .before .args .bus in
-    let rank = c .before .before .before .before .before .before .before .before .before .before .before .before .before .before .before .before .before .args .rank in
-    let l = c .before .before .before .before .before .before .before .before .before .before .before .before .before .loop in
-    let one = c .before .before .before .before .before .remove-next in
-    let full = sym (c .before .before .before .before .before .before .before .before .before .before .before .is-port .ensures) ∙ c .before .before .before .before .before .before .before .before .before .before .if1 .left in
-    let old : Memory → Model = λ m. modelOf (lentSpawn (l .state) (l .nodes) (l .edges) (l .voices) (l .steals) m) in
-    (λ m. sym (reclaim-one bus rank (old m) (l .port) (l .inv .1 m) full (l .left) _ (c .before .before .before .before .before .before .before .before .before .before .before .before .loop-test .taken) (subst (Tries bus rank (old m) _) (c .before .before .before .if2 .taken) (one .ensures m))) ∙ l .inv .0 m, λ m. c .bus-port2 .ensures)
+    let s = c .before .before .before .before .before .before .before .before .before .before .before .before .before .before .before .before .before .before .before in
+    let bus = s .args .bus in
+    let rank = s .args .rank in
+    let l = c .before .before .before .before .before .before .before .before .before .before .before .before .before .before .before .loop in
+    let next = c .before .before .before .before .before .before .before .before .before .next-out in
+    let full = sym (c .before .before .before .before .before .before .before .before .before .before .before .before .before .is-port .ensures) ∙ c .before .before .before .before .before .before .before .before .before .before .before .before .if1 .left in (
+      λ m.
+          let old = modelOf (lentSpawn (l .state) (l .nodes) (l .edges) (l .voices) (l .steals) m) in
+          sym (reclaim-one bus rank old (l .port) (l .inv .1 m) full (l .left) _ _ (c .before .before .before .before .before .before .before .before .before .before .before .before .before .before .loop-test .taken) (found-some (next .result) (voicesIn (l .voices)) (nextOut (old .shared) bus rank (old .voices)) (next .ensures .is) (c .before .before .before .before .before .before .before .before .if2 .taken)) (c .before .before .before .cut-voice .ensures m)) ∙ l .inv .0 m,
+      λ m. c .bus-port2 .ensures,
+    )
 
 loop-less-3 : tie.Need-loop-less-3 Inv-loop μ-loop
 loop-less-3 c = search needs
 
 loop-again-3 : tie.Need-loop-again-3 Inv-loop μ-loop
 loop-again-3 c =
-    let bus = c .before .before .before .before .before .before .before .before .before .before .before .before .before .before .args .bus in
-    let rank = c .before .before .before .before .before .before .before .before .before .before .before .before .before .before .args .rank in
-    let l = c .before .before .before .before .before .before .before .before .before .before .loop in
-    let one = c .before .before .remove-next in
-    let full = sym (c .before .before .before .before .before .before .before .before .is-port .ensures) ∙ c .before .before .before .before .before .before .before .if1 .left in
-    let old : Memory → Model = λ m. modelOf (lentSpawn (l .state) (l .nodes) (l .edges) (l .voices) (l .steals) m) in
-    (λ m. sym (reclaim-over bus rank (old m) (l .port) (l .inv .1 m) full (l .left) _ (subst (Tries bus rank (old m) _) (c .if2 .left) (one .ensures m))) ∙ l .inv .0 m, λ m. l .inv .1 m ∙ ap (λ (n : Model). portOf (portFree bus n)) (sym (same-left bus rank (old m) _ (subst (Tries bus rank (old m) _) (c .if2 .left) (one .ensures m)))))
+    let s = c .before .before .before .before .before .before .before .before .before .before .before in
+    let bus = s .args .bus in
+    let rank = s .args .rank in
+    let l = c .before .before .before .before .before .before .before .loop in
+    let next = c .before .next-out in
+    let full = sym (c .before .before .before .before .before .is-port .ensures) ∙ c .before .before .before .before .if1 .left in (
+      λ m.
+          let old = modelOf (lentSpawn (l .state) (l .nodes) (l .edges) (l .voices) (l .steals) m) in
+          sym (reclaim-over bus rank old (l .port) (l .inv .1 m) full (l .left) (found-none (next .result) (voicesIn (l .voices)) (nextOut (old .shared) bus rank (old .voices)) (next .ensures .is) (c .if2 .left))) ∙ l .inv .0 m,
+      l .inv .1,
+    )
 
 returns : tie.Need-returns Inv-loop μ-loop
 returns c =
@@ -91,7 +103,8 @@ make-room-spec =
     is-port-requires
     loop-less
     loop-again
-    remove-next-requires
+    next-out-requires
+    cut-voice-requires
     bus-port-requires-2
     sub-left
     loop-less-2

@@ -1,45 +1,18 @@
-use Prim.Native.Nat.{ℕ}
-use mathlib.Core.Path.{_≡_, refl, sym, ap, _∙_}
-use mathlib.Core.List.{List}
-use mathlib.Core.Bool.{Bool, true, false}
-use lib.Dec.{eqb}
-use mathlib.Core.Bool.{not}
-use borrow.Author.Tests.{eq-eqb, ne-eqb}
-use Rattle.model.specs.Call as call
-use Rattle.model.specs.Numbers.{numberIn}
-use Rattle.memory.specs.Called.{answered, granted, keeps}
-use Rattle.c_answer.specs.Exported.{code}
+use Rattle.c_answer.proofs.Tags.{is-0, is-1, is-2, is-other}
 use Rattle.c_answer.proofs.argument.shape_in.Statement.{statement}
 use Rattle.c_answer.proofs.argument.shape_in.Tie as tie
 
 returns : tie.Need-returns
-returns c =
-    let s = c .before in
-    let h1 : eqb (s .args .tag) 0 ≡ true = eq-eqb _ _ (c .if1 .taken) in
-    rw (h1)
+returns c = is-0 _ _ _ _ _ (c .if1 .taken)
 
 returns-2 : tie.Need-returns-2
-returns-2 c =
-    let s = c .before .before in
-    let h1 : eqb (s .args .tag) 0 ≡ false = ne-eqb _ _ (c .before .if1 .left) in
-    let h2 : eqb (s .args .tag) 1 ≡ true = eq-eqb _ _ (c .if2 .taken) in
-    rw (h1, h2)
+returns-2 c = is-1 _ _ _ _ _ (c .before .if1 .left) (c .if2 .taken)
 
 returns-3 : tie.Need-returns-3
-returns-3 c =
-    let s = c .before .before .before in
-    let h1 : eqb (s .args .tag) 0 ≡ false = ne-eqb _ _ (c .before .before .if1 .left) in
-    let h2 : eqb (s .args .tag) 1 ≡ false = ne-eqb _ _ (c .before .if2 .left) in
-    let h3 : eqb (s .args .tag) 2 ≡ true = eq-eqb _ _ (c .if3 .taken) in
-    rw (h1, h2, h3)
+returns-3 c = is-2 _ _ _ _ _ (c .before .before .if1 .left) (c .before .if2 .left) (c .if3 .taken)
 
 returns-4 : tie.Need-returns-4
-returns-4 c =
-    let s = c .before .before .before in
-    let h1 : eqb (s .args .tag) 0 ≡ false = ne-eqb _ _ (c .before .before .if1 .left) in
-    let h2 : eqb (s .args .tag) 1 ≡ false = ne-eqb _ _ (c .before .if2 .left) in
-    let h3 : eqb (s .args .tag) 2 ≡ false = ne-eqb _ _ (c .if3 .left) in
-    rw (h1, h2, h3)
+returns-4 c = is-other _ _ _ _ _ (c .before .before .if1 .left) (c .before .if2 .left) (c .if3 .left)
 
 pub shape-in-spec : {M : Type 1} → statement M
 shape-in-spec = tie.close (tie.spec returns returns-2 returns-3 returns-4)

@@ -5,7 +5,6 @@ use Rattle.console.specs.Wishes.{keyboardsRefusal, newWishes, Wishes}
 use Rattle.model.specs.Model.{Model}
 use Rattle.model.specs.Make.{newModel, configOf, refusalOf}
 use Rattle.memory.specs.Lent.{lentState}
-use Rattle.call_make.specs.Made.{making}
 use Rattle.call_console.specs.declared.making.MakeAnswer.{MakeAnswer}
 use Rattle.call_console.specs.Called.{memory, consoleOf, madeOf, judged}
 use Rattle.call_console.specs.Queues.{wishesOf}
@@ -25,7 +24,7 @@ new-wishes-requires c κs = search needs
 returns : tie.Need-returns
 returns c =
     let a = c .before .before .before .before .args in
-    let k = making (a .rate) (a .block) (a .budget) (a .policy) (a .scope) (a .table) in
+    let k = a .making in
     λ m words.
     let now = consoleOf (memory (lentState (c .before .before .before .make .result .state) m) (c .new-wishes .result) words) in
     ap (λ (x : MakeAnswer). madeOf x now) (c .before .judge .ensures ∙ ap (λ (x : graph.Answer). judged x (keyboardsRefusal (a .keyboards))) (c .before .before .before .make .ensures .1 .0))

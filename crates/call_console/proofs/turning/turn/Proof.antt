@@ -22,8 +22,8 @@ oldest-wish-requires c κs = c .before .before .before .before .next-keyboard .e
 drop-oldest-requires : tie.Need-drop-oldest-requires
 drop-oldest-requires c κs = c .before .before .before .before .before .next-keyboard .ensures .1 _ (c .before .before .before .found .given .1)
 
-serve-requires : tie.Need-serve-requires
-serve-requires c κs = search needs
+spawn-voice-requires : tie.Need-spawn-voice-requires
+spawn-voice-requires c κs = search needs
 
 returns : tie.Need-returns
 returns c =
@@ -36,7 +36,7 @@ returns-2 : tie.Need-returns-2
 returns-2 c =
     let a = c .before .before .before .before .before .before .before .before .before .before .before .before .before .args in
     let ws = wishesOf (a .w) (a .wishes .now) in
-    let got = c .before .serve in
+    let got = c .before .spawn-voice in
     let pick = c .before .before .before .before .before .before .before .before .before .before .before .before .next-keyboard .ensures .0 (a .wishes .now) ∙ ap (λ (k : Keyboard). pickedAt k ws) (c .before .before .before .before .before .before .before .before .before .before .found .given .1) in
     let waits = c .before .before .before .before .before .before .before .before .before .before .before .before .next-keyboard .ensures .1 _ (c .before .before .before .before .before .before .before .before .before .before .found .given .1) in (
       λ m.
@@ -55,6 +55,6 @@ turn-spec =
     enum-known-found
     oldest-wish-requires
     drop-oldest-requires
-    serve-requires
+    spawn-voice-requires
     returns
     returns-2)

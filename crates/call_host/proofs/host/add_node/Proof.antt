@@ -16,7 +16,7 @@ is-bad-kind-requires c κs = search needs
 returns : tie.Need-returns
 returns c =
     let s = c .before .before .before in
-    (λ m. bad-kind (s .args .s) (s .args .nodes .now) (m .edges) (s .args .kind .now) (s .args .ports) (s .args .required) (s .args .values) (s .args .glides) m (sym (c .before .is-bad-kind .ensures) ∙ c .if1 .taken), λ m e. refl)
+    (λ m. bad-kind (s .args .s) (s .args .nodes .now) (m .edges) (s .args .kind .now) (s .args .n .ports) (s .args .n .required) (s .args .n .«takes_values») (s .args .n .«takes_glides») m (sym (c .before .is-bad-kind .ensures) ∙ c .if1 .taken), λ m e. refl)
 
 node-count-requires : tie.Need-node-count-requires
 node-count-requires c κs = search needs
@@ -25,13 +25,13 @@ returns-2 : tie.Need-returns-2
 returns-2 c =
     let s = c .before .before .before .before .before .before in
     let full : 512 ≤ length (take (s .args .s .nodes) (nodesIn (s .args .nodes .now))) = omega (arith, c .before .node-count .ensures, c .if2 .taken) in
-    (λ m. table-full (s .args .s) (s .args .nodes .now) (m .edges) (s .args .kind .now) (s .args .ports) (s .args .required) (s .args .values) (s .args .glides) m (sym (c .before .before .before .before .is-bad-kind .ensures) ∙ c .before .before .before .if1 .left) full, λ m e. refl)
+    (λ m. table-full (s .args .s) (s .args .nodes .now) (m .edges) (s .args .kind .now) (s .args .n .ports) (s .args .n .required) (s .args .n .«takes_values») (s .args .n .«takes_glides») m (sym (c .before .before .before .before .is-bad-kind .ensures) ∙ c .before .before .before .if1 .left) full, λ m e. refl)
 
 returns-3 : tie.Need-returns-3
 returns-3 c =
     let s = c .before .before .before .before .before .before .before .before in
     let room : length (take (s .args .s .nodes) (nodesIn (s .args .nodes .now))) < 512 = omega (arith, c .before .before .before .node-count .ensures, c .before .before .if2 .left) in
-    (λ m. ids-used (s .args .s) (s .args .nodes .now) (m .edges) (s .args .kind .now) (s .args .ports) (s .args .required) (s .args .values) (s .args .glides) m (sym (c .before .before .before .before .before .before .is-bad-kind .ensures) ∙ c .before .before .before .before .before .if1 .left) room (c .if3 .taken), λ m e. refl)
+    (λ m. ids-used (s .args .s) (s .args .nodes .now) (m .edges) (s .args .kind .now) (s .args .n .ports) (s .args .n .required) (s .args .n .«takes_values») (s .args .n .«takes_glides») m (sym (c .before .before .before .before .before .before .is-bad-kind .ensures) ∙ c .before .before .before .before .before .if1 .left) room (c .if3 .taken), λ m e. refl)
 
 cast-id : tie.Need-cast-id
 cast-id c = search needs
@@ -53,7 +53,7 @@ returns-4 c =
     let s = c .before .before .before .before .before .before .before .before .before .before .before .before .before .before .before in
     let room : length (take (s .args .s .nodes) (nodesIn (s .args .nodes .now))) < 512 = omega (arith, c .before .before .before .before .before .before .before .before .before .before .node-count .ensures, c .before .before .before .before .before .before .before .before .before .if2 .left) in
     let n = c .before .before .append-node in (
-      λ m. adds (s .args .s) (s .args .nodes .now) (m .edges) (s .args .kind .now) (s .args .ports) (s .args .required) (s .args .values) (s .args .glides) m (sym (c .before .before .before .before .before .before .before .before .before .before .before .before .before .is-bad-kind .ensures) ∙ c .before .before .before .before .before .before .before .before .before .before .before .before .if1 .left) room (c .before .before .before .before .before .before .before .if3 .left) _ (ap (withId (s .args .s .next)) (c .before .before .before .before .before .host-node .ensures)) (n .result) (n .last .0) (n .ensures) (c .with-graph .result) (c .with-graph .ensures),
+      λ m. adds (s .args .s) (s .args .nodes .now) (m .edges) (s .args .kind .now) (s .args .n .ports) (s .args .n .required) (s .args .n .«takes_values») (s .args .n .«takes_glides») m (sym (c .before .before .before .before .before .before .before .before .before .before .before .before .before .is-bad-kind .ensures) ∙ c .before .before .before .before .before .before .before .before .before .before .before .before .if1 .left) room (c .before .before .before .before .before .before .before .if3 .left) _ (ap (withId (s .args .s .next)) (c .before .before .before .before .before .host-node .ensures)) (n .result) (n .last .0) (n .ensures) (c .with-graph .result) (c .with-graph .ensures),
       λ m e. kept-none e,
     )
 

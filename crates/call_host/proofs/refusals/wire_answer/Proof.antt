@@ -26,7 +26,7 @@ returns c =
     let f = c .before .before .before .no-place in
     let x = c .before .before .brief-of in
     let y = c .before .brief-of2 in
-    wire-told (nodeAt (take (s .args .s .nodes) (nodesIn (s .args .nodes .now))) (s .args .from)) (nodeAt (take (s .args .s .nodes) (nodesIn (s .args .nodes .now))) (s .args .to)) (s .args .port) (noPlace (take (s .args .s .edges) (edgesIn (s .args .edges .now))) (s .args .to) (s .args .port)) (x .result) (y .result) (f .result) (c .wire-test .result) (x .ensures) (y .ensures) (f .ensures) (c .wire-test .ensures)
+    wire-told (nodeAt (take (s .args .s .nodes) (nodesIn (s .args .nodes .now))) (s .args .e .from)) (nodeAt (take (s .args .s .nodes) (nodesIn (s .args .nodes .now))) (s .args .e .to)) (s .args .e .port) (noPlace (take (s .args .s .edges) (edgesIn (s .args .edges .now))) (s .args .e .to) (s .args .e .port)) (x .result) (y .result) (f .result) (c .wire-test .result) (x .ensures) (y .ensures) (f .ensures) (c .wire-test .ensures)
 
 pub wire-answer-spec : {M : Type 1} → statement M
 wire-answer-spec =

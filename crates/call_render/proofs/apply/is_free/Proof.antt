@@ -22,7 +22,7 @@ returns-2 c = go (c .before .args .a) (c .match .keys2)
   where
     go : (a : EventAction) → OneOf (0 ∷ 1 ∷ 2 ∷ []) (tagOf shape.the-type a) → false ≡ isFree a
     go (action.Value x) h = refl
-    go (action.Glide t s p u) h = refl
+    go (action.Glide g) h = refl
     go (action.Gate x) h = refl
     go action.Free h = absurd (miss (0 ∷ 1 ∷ 2 ∷ []) 3 tt h)
 

@@ -20,7 +20,7 @@ use Rattle.call_spawn.proofs.refuse.spawn_refusal.Statement.{statement}
 use Rattle.call_spawn.proofs.refuse.spawn_refusal.Tie as tie
 
 returns : tie.Need-returns
-returns c = λ m. rw (lt-ltb 7 (c .before .args .rank) (c .if1 .taken))
+returns c = λ m. rw (lt-ltb 7 (c .before .before .args .w .rank) (c .if1 .taken))
 
 allowed-requires : tie.Need-allowed-requires
 allowed-requires c κs = search needs
@@ -28,7 +28,7 @@ allowed-requires c κs = search needs
 returns-2 : tie.Need-returns-2
 returns-2 c =
     λ m.
-    rw (sym (c .before .allowed .ensures) ∙ not-true (c .before .allowed .result) (c .if2 .taken), le-ltb 7 (c .before .before .before .args .rank) (c .before .before .if1 .left))
+    rw (sym (c .before .allowed .ensures) ∙ not-true (c .before .allowed .result) (c .if2 .taken), le-ltb 7 (c .before .before .before .before .before .before .args .w .rank) (c .before .before .before .before .if1 .left))
 
 brief-of-requires : tie.Need-brief-of-requires
 brief-of-requires c κs = search needs
@@ -47,31 +47,31 @@ tables-test-requires c κs = search needs
 
 returns-3 : tie.Need-returns-3
 returns-3 c =
-    let a = c .before .before .before .before .before .before .before .args in
-    let low : a .rank ≤ 7 = c .before .before .before .before .before .before .if1 .left in
+    let a = c .before .before .before .before .before .before .before .before .before .before .args in
+    let low : a .w .rank ≤ 7 = c .before .before .before .before .before .before .before .before .if1 .left in
     let s = a .s in
     let on = sym (c .before .before .before .before .before .allowed .ensures) ∙ not-false (c .before .before .before .before .before .allowed .result) (c .before .before .before .before .if2 .left) in
-    let o = nodeAt (take (s .nodes) (nodesIn (a .nodes .now))) (a .bus) in
-    let below = roomRefusal (length (take (s .nodes) (nodesIn (a .nodes .now)))) (length (take (s .edges) (edgesIn (a .edges .now)))) (length (take (s .voices) (voicesIn (a .voices .now)))) (s .next) (s .spawned) (a .def .nodes .count) (a .def .edges .count) in
+    let o = nodeAt (take (s .nodes) (nodesIn (a .nodes .now))) (a .w .bus) in
+    let below = roomRefusal (length (take (s .nodes) (nodesIn (a .nodes .now)))) (length (take (s .edges) (edgesIn (a .edges .now)))) (length (take (s .voices) (voicesIn (a .voices .now)))) (s .next) (s .spawned) (a .w .def .nodes .count) (a .w .def .edges .count) in
     let e = c .before .before .bus-test .ensures ∙ ap (λ b. answerOf (busBrief b)) (c .before .before .before .brief-of .ensures) ∙ ap answerOf (bus-brief o) in
     let rest = e ∙ above-refused (eqb (portsOf o) 0) BusWithoutPorts below (hostTest o) (c .enum-told .given .0 .0) (sym e ∙ c .enum-told .given .1) in
     λ m.
     rest ∙ sym (ap (λ b. answerOf (when (not b) DefinitionLimits (orElse (hostTest o) (when (eqb (portsOf o) 0) BusWithoutPorts below)))) on)
-    ∙ low-rank (a .rank) (when (not (allowed (a .def))) DefinitionLimits (orElse (hostTest o) (when (eqb (portsOf o) 0) BusWithoutPorts below))) low
+    ∙ low-rank (a .w .rank) (when (not (allowed (a .w .def))) DefinitionLimits (orElse (hostTest o) (when (eqb (portsOf o) 0) BusWithoutPorts below))) low
 
 returns-4 : tie.Need-returns-4
 returns-4 c =
-    let a = c .before .before .before .before .before .before .before .before .before .before .args in
-    let low : a .rank ≤ 7 = c .before .before .before .before .before .before .before .before .before .if1 .left in
+    let a = c .before .before .before .before .before .before .before .before .before .before .before .before .before .args in
+    let low : a .w .rank ≤ 7 = c .before .before .before .before .before .before .before .before .before .before .before .if1 .left in
     let s = a .s in
     let on = sym (c .before .before .before .before .before .before .before .before .allowed .ensures) ∙ not-false (c .before .before .before .before .before .before .before .before .allowed .result) (c .before .before .before .before .before .before .before .if2 .left) in
-    let o = nodeAt (take (s .nodes) (nodesIn (a .nodes .now))) (a .bus) in
-    let below = roomRefusal (length (take (s .nodes) (nodesIn (a .nodes .now)))) (length (take (s .edges) (edgesIn (a .edges .now)))) (length (take (s .voices) (voicesIn (a .voices .now)))) (s .next) (s .spawned) (a .def .nodes .count) (a .def .edges .count) in
+    let o = nodeAt (take (s .nodes) (nodesIn (a .nodes .now))) (a .w .bus) in
+    let below = roomRefusal (length (take (s .nodes) (nodesIn (a .nodes .now)))) (length (take (s .edges) (edgesIn (a .edges .now)))) (length (take (s .voices) (voicesIn (a .voices .now)))) (s .next) (s .spawned) (a .w .def .nodes .count) (a .w .def .edges .count) in
     let e = c .before .before .before .before .before .bus-test .ensures ∙ ap (λ b. answerOf (busBrief b)) (c .before .before .before .before .before .before .brief-of .ensures) ∙ ap answerOf (bus-brief o) in
     let rest = c .tables-test .ensures ∙ above-done (eqb (portsOf o) 0) BusWithoutPorts below (hostTest o) (sym e ∙ c .before .before .before .enum-told2 .given .1) in
     λ m.
     rest ∙ sym (ap (λ b. answerOf (when (not b) DefinitionLimits (orElse (hostTest o) (when (eqb (portsOf o) 0) BusWithoutPorts below)))) on)
-    ∙ low-rank (a .rank) (when (not (allowed (a .def))) DefinitionLimits (orElse (hostTest o) (when (eqb (portsOf o) 0) BusWithoutPorts below))) low
+    ∙ low-rank (a .w .rank) (when (not (allowed (a .w .def))) DefinitionLimits (orElse (hostTest o) (when (eqb (portsOf o) 0) BusWithoutPorts below))) low
 
 pub spawn-refusal-spec : {M : Type 1} → statement M
 spawn-refusal-spec =

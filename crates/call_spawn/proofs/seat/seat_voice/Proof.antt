@@ -5,7 +5,8 @@ use lib.ListN.{take}
 use borrow.Author.Needs.{needs}
 use Rattle.store.specs.declared.answer.Spawned.the-variants as Spawned
 use Rattle.graph_rows.specs.Node.{nodesIn}
-use Rattle.model.specs.Spawn.{spawnOf, nextVoice}
+use Rattle.model.specs.Spawn.{nextVoice}
+use Rattle.model.specs.Wish.{spawnIn}
 use Rattle.memory.specs.declared.state.State.{State}
 use Rattle.memory.specs.View.{modelOf, sharedOf}
 use Rattle.memory.specs.Lent.{lentVoices}
@@ -17,7 +18,7 @@ use Rattle.call_spawn.proofs.seat.seat_voice.Tie as tie
 
 new-voice-requires : tie.Need-new-voice-requires
 new-voice-requires c κs =
-    let h = c .before .pre (blank (c .before .args .s)) in
+    let h = c .before .before .before .pre (blank (c .before .before .before .args .s)) in
     record { within = h .within; ids = h .ids; names = h .names }
 
 raise-noise-requires : tie.Need-raise-noise-requires
@@ -25,7 +26,7 @@ raise-noise-requires c κs = search needs
 
 add-with-spawned : tie.Need-add-with-spawned
 add-with-spawned c =
-    omega (arith, c .before .before .before .before .before .pre (blank (c .before .before .before .before .before .args .s)) .names)
+    omega (arith, c .before .before .before .before .before .before .before .pre (blank (c .before .before .before .before .before .before .before .args .s)) .names)
 
 pans-requires : tie.Need-pans-requires
 pans-requires c κs = search needs
@@ -41,16 +42,16 @@ with-voices-requires c κs = search needs
 
 add-with-spawned-2 : tie.Need-add-with-spawned-2
 add-with-spawned-2 c =
-    omega (arith, c .before .before .before .before .before .before .before .before .before .before .before .before .before .pre (blank (c .before .before .before .before .before .before .before .before .before .before .before .before .before .args .s)) .names)
+    omega (arith, c .before .before .before .before .before .before .before .before .before .before .before .before .before .before .before .pre (blank (c .before .before .before .before .before .before .before .before .before .before .before .before .before .before .before .args .s)) .names)
 
 with-spawned-requires : tie.Need-with-spawned-requires
 with-spawned-requires c κs = search needs
 
 returns : tie.Need-returns
 returns c =
-    let s = c .before .before .before .before .before .before .before .before .before .before .before .before .before .before in
+    let s = c .before .before .before .before .before .before .before .before .before .before .before .before .before .before .before .before in
     let a = s .args in
-    let x = spawnOf (a .def) (a .bus) (a .pan) (a .rank) in
+    let x = spawnIn (a .w) in
     let new = c .before .before .before .before .before .before .before .before .before .before .before .before .new-voice in
     let counted = c .before .before .before .before .before .before .before .before .before .before .raise-noise in
     let pan = c .before .before .before .before .before .before .before .before .pans in

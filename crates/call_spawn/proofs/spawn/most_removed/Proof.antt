@@ -17,13 +17,13 @@ voice-count-requires c κs = search needs
 
 returns : tie.Need-returns
 returns c =
-    let a = c .before .before .before .args in
-    ap (λ b. tries b (take (a .s .voices) (voicesIn (a .voices .now)))) (sym (c .enum-told .given .1))
+    let a = c .before .before .args in
+    ap (λ b. tries b (take (a .count) (voicesIn (a .voices .now)))) (sym (c .enum-told .given .1))
 
 returns-2 : tie.Need-returns-2
 returns-2 c =
-    let a = c .before .before .before .before .args in
-    c .voice-count .ensures ∙ ap (λ b. tries b (take (a .s .voices) (voicesIn (a .voices .now)))) (sym (c .before .enum-told2 .given .1))
+    let a = c .before .before .before .args in
+    c .voice-count .ensures ∙ ap (λ b. tries b (take (a .count) (voicesIn (a .voices .now)))) (sym (c .before .enum-told2 .given .1))
 
 pub most-removed-spec : {M : Type 1} → statement M
 most-removed-spec =

@@ -22,7 +22,7 @@ returns-2 c = go (c .before .args .a) (c .match .keys2)
   where
     go : (a : EventAction) → OneOf (0 ∷ 2 ∷ 3 ∷ []) (tagOf shape.the-type a) → false ≡ isGlide a
     go (action.Value x) h = refl
-    go (action.Glide t s p u) h = absurd (miss (0 ∷ 2 ∷ 3 ∷ []) 1 tt h)
+    go (action.Glide g) h = absurd (miss (0 ∷ 2 ∷ 3 ∷ []) 1 tt h)
     go (action.Gate x) h = refl
     go action.Free h = refl
 

@@ -28,7 +28,7 @@ returns-3 c = go (c .before .args .a) (c .match .keys3)
   where
     go : (a : EventAction) → OneOf (1 ∷ 3 ∷ []) (tagOf shape.the-type a) → false ≡ isValue a
     go (action.Value x) h = absurd (miss (1 ∷ 3 ∷ []) 0 tt h)
-    go (action.Glide t s p u) h = refl
+    go (action.Glide g) h = refl
     go (action.Gate x) h = absurd (miss (1 ∷ 3 ∷ []) 2 tt h)
     go action.Free h = refl
 

@@ -32,7 +32,7 @@ returns-2 : tie.Need-returns-2
 returns-2 c = ap action.Value (c .float-word .ensures) ∙ sym (c .before .before .a .given .1)
 
 returns-3 : tie.Need-returns-3
-returns-3 c = let g = c .glide-words .ensures in simp (g .which, g .target-is, g .seconds-are, g .shape-is, g .space-is) (sym (c .before .before .a2 .given .1))
+returns-3 c = let g = c .glide-words .ensures in simp (g .which) (ap action.Glide (g .back) ∙ sym (c .before .before .a2 .given .1))
 
 returns-4 : tie.Need-returns-4
 returns-4 c = ap action.Gate (c .float-word2 .ensures) ∙ sym (c .before .before .a3 .given .1)

@@ -1,8 +1,9 @@
 use mathlib.Core.Path.{_≡_, refl, ap, _∙_}
+use borrow.Author.Needs.{needs}
 use Rattle.words.specs.Fields.{isSet}
 use Rattle.synthdef.specs.declared.def.SynthDef.{SynthDef}
 use Rattle.def_book.specs.Read.{readBook, defIn}
-use Rattle.console.specs.Wishes.{callOf}
+use Rattle.model.specs.Wish.{wishFor, callOf}
 use Rattle.memory.specs.Lent.{lentSpawn}
 use Rattle.sealed.specs.Board.{BoardCall}
 use Rattle.call_seal.specs.declared.spawn.BoardSpawned.{BoardSpawned}
@@ -10,10 +11,8 @@ use Rattle.call_seal.specs.Board.{BoardMemory, board, onStore, spawnAnswer}
 use Rattle.state_words.specs.State.{stateIn}
 use Rattle.seal_words.specs.Seal.{sealIn}
 use Rattle.piecrag_c_seal.specs.Board.{bornCell}
-use Rattle.piecrag_c_seal.specs.Book.{wishFor}
 use Rattle.piecrag_c_seal.proofs.Boards.{exported, tells}
 use Rattle.piecrag_c_seal.proofs.Books.{unread, booked}
-use borrow.Author.Needs.{needs}
 use Rattle.piecrag_c_seal.proofs.spawn.piecrag_spawn.Statement.{statement}
 use Rattle.piecrag_c_seal.proofs.spawn.piecrag_spawn.Tie as tie
 

@@ -1,4 +1,5 @@
-use mathlib.Core.Path.{_≡_, refl, ap, _∙_}
+use mathlib.Core.Path.{refl, ap}
+use borrow.Author.Needs.{needs}
 use Rattle.words.specs.Fields.{isSet}
 use Rattle.synthdef.specs.declared.def.SynthDef.{SynthDef}
 use Rattle.def_book.specs.Read.{readBook, defIn}
@@ -7,10 +8,9 @@ use Rattle.sealed.specs.Board.{BoardCall, on}
 use Rattle.call_seal.specs.Board.{BoardMemory, board, wishedAnswer}
 use Rattle.wish_state_words.specs.Waiting.{waitingIn}
 use Rattle.seal_words.specs.Seal.{sealIn}
-use Rattle.piecrag_c_seal.specs.Book.{wishFor}
+use Rattle.model.specs.Wish.{wishFor}
 use Rattle.piecrag_c_seal.proofs.Boards.{exported}
 use Rattle.piecrag_c_seal.proofs.Books.{unread, booked}
-use borrow.Author.Needs.{needs}
 use Rattle.piecrag_c_seal.proofs.wishing.piecrag_wish.Statement.{statement}
 use Rattle.piecrag_c_seal.proofs.wishing.piecrag_wish.Tie as tie
 

@@ -1,11 +1,13 @@
 -- `play::blocks::play_render` is safe.
+use Prim.Native.Nat.{_≤_}
+use native.Mathlib.Omega.{arith}
 use borrow.Author.Needs.{needs}
 use Rattle.codec.proofs.Part.{counted}
 use Rattle.play.proofs.blocks.play_render.Statement.{statement}
 use Rattle.play.proofs.blocks.play_render.Tie as tie
 
-lent-at-requires : tie.Need-lent-at-requires
-lent-at-requires c κs = search needs
+at-most-requires : tie.Need-at-most-requires
+at-most-requires c κs = search needs
 
 list-room-requires : tie.Need-list-room-requires
 list-room-requires c κs = search needs
@@ -16,14 +18,12 @@ array-borrow-prefix-room c = search needs
 slice-aggregate-render : tie.Need-slice-aggregate-render
 slice-aggregate-render c =
     let room = c .before .before .before .before .before .before .list-room in
-    let lent = c .before .before .before .before .before .before .before .lent-at in
-    counted (lent .result .count) 4096 (room .result) (room .ensures) (lent .ensures)
+    let most = c .before .before .before .before .before .before .before .at-most in
+    let few : most .result ≤ 4096 = omega (arith, most .ensures) in
+    counted (most .result) 4096 (room .result) (room .ensures) few
 
 render-requires : tie.Need-render-requires
 render-requires c κs = search needs
-
-byte-at-requires : tie.Need-byte-at-requires
-byte-at-requires c κs = search needs
 
 shown-requires : tie.Need-shown-requires
 shown-requires c κs = search needs
@@ -35,11 +35,10 @@ pub play-render-spec : {M : Type 1} → statement M
 play-render-spec =
     tie.close
     (tie.spec
-    lent-at-requires
+    at-most-requires
     list-room-requires
     array-borrow-prefix-room
     slice-aggregate-render
     render-requires
-    byte-at-requires
     shown-requires
     returns)

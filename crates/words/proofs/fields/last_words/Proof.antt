@@ -26,7 +26,7 @@ returns-2 : tie.Need-returns-2
 returns-2 c = ap order.Value (c .float-word .ensures) ∙ sym (c .before .before .l .given .1)
 
 returns-3 : tie.Need-returns-3
-returns-3 c = let g = c .glide-words .ensures in simp (g .which, g .target-is, g .seconds-are, g .shape-is, g .space-is) (sym (c .before .before .l2 .given .1))
+returns-3 c = let g = c .glide-words .ensures in simp (g .which) (ap order.Glide (g .back) ∙ sym (c .before .before .l2 .given .1))
 
 pub last-words-spec : {M : Type 1} → statement M
 last-words-spec =
