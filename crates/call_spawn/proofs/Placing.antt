@@ -30,7 +30,7 @@ module _ (x : Spawn) (s : VoiceState) (m : Model) where
   place-over : portFree (x .bus) m ≡ none → place 0 x s m ≡ refused NoPort m
   place-over e = ap (λ o. instantiateOr o none x s m (refused NoPort)) e
 
--- landing after what was reclaimed
+-- the new voice after what was reclaimed
 place-reclaimed : (x : Spawn) (s : VoiceState) (k : ℕ) (m : Model) → place k x s m ≡ place 0 x s (reclaimed k (x .bus) (x .rank) m)
 place-reclaimed x s zero m = refl
 place-reclaimed x s (suc k) m = go (portFree (x .bus) m) refl (nextOut (m .shared) (x .bus) (x .rank) (m .voices)) (place-reclaimed x s k)

@@ -1,4 +1,4 @@
--- What stands between the refusals of a spawn and its landing: room for the new voice, with its pan. A fade has used up no more
+-- What stands between the refusals of a spawn and its voice: room for the new voice, with its pan. A fade has used up no more
 -- than the one node, edge and id that headroom counts for it, and what is reclaimed only makes room.
 use Prim.Native.Nat.{ℕ, _+_, _≤_, _<_}
 use mathlib.Core.Path.{_≡_}
