@@ -7,7 +7,7 @@ use lists::number::at_most;
 use synthdef::def::{DefEdge, DefEdges, DefNode, DefNodes, Param, Params, SynthDef};
 
 // A definition so far; whether a line could not be read, and how many lines were.
-#[derive(Drop)]
+#[derive(Clone, Copy)]
 pub struct Draft {
     pub def: SynthDef,
     pub bad: bool,
@@ -15,7 +15,7 @@ pub struct Draft {
 }
 
 // What a line gave, and whether it was one.
-#[derive(Drop)]
+#[derive(Clone, Copy)]
 struct Made {
     def: SynthDef,
     good: bool,

@@ -44,7 +44,7 @@ fn word_length(s: &[u8], at: usize) -> usize {
 }
 
 // A word of a line, by its place and length.
-#[derive(Drop)]
+#[derive(Clone, Copy)]
 pub struct Word {
     pub at: usize,
     pub len: usize,

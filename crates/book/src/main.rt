@@ -22,14 +22,14 @@ use show::show;
 use synthdef::def::SynthDef;
 
 // What is done with an input.
-#[derive(Drop)]
+#[derive(Clone, Copy)]
 enum Verb {
     Read,
     Write,
     Rewrite,
 }
 
-#[derive(Drop)]
+#[derive(Clone, Copy)]
 struct Mode {
     verb: Verb,
     hex: bool,

@@ -6,7 +6,7 @@ use codec::field::{after, byte_at, bytes_at};
 use node::name::{Name, name_of};
 
 // A number that was read from a line, the position behind it, and whether there was one.
-#[derive(Drop)]
+#[derive(Clone, Copy)]
 pub struct Byte {
     pub value: u8,
     pub at: usize,
@@ -14,7 +14,7 @@ pub struct Byte {
 }
 
 // A name that was read from a line, and the position behind it.
-#[derive(Drop)]
+#[derive(Clone, Copy)]
 pub struct Called {
     pub name: Name,
     pub at: usize,

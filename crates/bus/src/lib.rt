@@ -13,14 +13,14 @@ ghost use Rattle.bus.specs.Noise.{wrap, seed_of};
 use node::refusal::Refusal;
 
 // The sample rate in whole hertz.
-#[derive(Drop)]
+#[derive(Clone, Copy)]
 pub enum SampleRate {
     Hertz(u32),
     Refused(Refusal),
 }
 
 // Whether the lent output was written, whole, or left as it was.
-#[derive(Drop)]
+#[derive(Clone, Copy)]
 pub enum Written {
     Done,
     Refused(Refusal),

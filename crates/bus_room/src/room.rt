@@ -16,7 +16,7 @@ use steal_log::StealTable;
 use voice_rows::row::VoiceTable;
 
 // The state, and the lowest free port of the bus, if there is one.
-#[derive(Drop)]
+#[derive(Clone, Copy)]
 pub struct Room {
     pub state: State,
     pub port: Port,

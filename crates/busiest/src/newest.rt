@@ -9,7 +9,7 @@ use voice::steals::{StealFound, StealRecord, Steals};
 use voice_policy::steals::{held_steals, steal_at, steal_record};
 
 // A run of records in an array: the first `count` rows.
-#[derive(Drop)]
+#[derive(Clone, Copy)]
 pub struct Newest {
     pub rows: [StealRecord; 64],
     pub count: usize,

@@ -5,7 +5,7 @@ ghost use Rattle.busiest.specs.Scan.{sample_at, begun, advanced, concluded};
 use voice::steals::StealRecord;
 
 // The answer: why there is none, or how many records the busiest stretch holds and the sample of the first of them.
-#[derive(Drop)]
+#[derive(Clone, Copy)]
 pub enum Busiest {
     NoWidth,
     SamplesFall,
@@ -16,7 +16,7 @@ pub enum Busiest {
 // What is known of the records passed so far: the largest number of them inside a stretch, the sample of the first record of the
 // earliest such stretch, the sample passed last, whether samples fell. `head` is the place of the record from which a stretch
 // would have to reach to the next record to hold one more: `most` places before that one.
-#[derive(Drop)]
+#[derive(Clone, Copy)]
 struct Scan {
     width: u64,
     most: usize,

@@ -19,14 +19,14 @@ use voice_rows::fade::ended_at;
 use voice_rows::row::{VoiceTable, id_at};
 
 // The state that a clearing left, and how many voices it removed.
-#[derive(Drop)]
+#[derive(Clone, Copy)]
 pub struct Cleared {
     pub state: State,
     pub removed: usize,
 }
 
 // Ids of voices: the first `count` of `ids`.
-#[derive(Drop)]
+#[derive(Clone, Copy)]
 struct Leaving {
     ids: [u64; 64],
     count: usize,

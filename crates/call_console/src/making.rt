@@ -13,7 +13,7 @@ use node::refusal::Refusal;
 use store::config::Making;
 
 // What making a console is answered: done, one of the store's refusals, or 24.
-#[derive(Drop)]
+#[derive(Clone, Copy)]
 pub enum MakeAnswer {
     Done,
     Refused(Refusal),
@@ -21,7 +21,7 @@ pub enum MakeAnswer {
 }
 
 // The state of the store and of the wishes beside the answer: of the arguments as they are, where making is refused.
-#[derive(Drop)]
+#[derive(Clone, Copy)]
 pub struct ConsoleMade {
     pub state: State,
     pub wishes: WishState,

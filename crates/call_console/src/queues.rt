@@ -9,7 +9,7 @@ use store::wish::Wish;
 use wish_rows::row::{put_wish, wish_at};
 
 // A keyboard's wishes are `count` of its 16 rows, from its row `start` on, going round. A count above 16 is 16.
-#[derive(Drop)]
+#[derive(Clone, Copy)]
 pub struct Queue {
     pub start: u8,
     pub count: u8,
@@ -17,7 +17,7 @@ pub struct Queue {
 
 // What is no table of the wishes: how many keyboards there are, the one after the last served, and what waits at each. More than
 // eight keyboards are eight.
-#[derive(Drop)]
+#[derive(Clone, Copy)]
 pub struct WishState {
     pub keyboards: usize,
     pub next: usize,
@@ -25,7 +25,7 @@ pub struct WishState {
 }
 
 // A keyboard, or none.
-#[derive(Drop)]
+#[derive(Clone, Copy)]
 pub enum Keyboard {
     At(usize),
     Nothing,

@@ -15,14 +15,14 @@ use voice_rows::row::VoiceTable;
 use wish_rows::row::WishTable;
 
 // What a turn is answered: that no wish waited, or the keyboard that it served and the spawn's answer.
-#[derive(Drop)]
+#[derive(Clone, Copy)]
 pub enum TurnAnswer {
     Empty,
     Served { keyboard: usize, answer: Spawned },
 }
 
 // The state and the wishes that a turn left, and its answer.
-#[derive(Drop)]
+#[derive(Clone, Copy)]
 pub struct TurnResult {
     pub state: State,
     pub wishes: WishState,

@@ -9,14 +9,14 @@ use store::wish::Wish;
 use wish_rows::row::WishTable;
 
 // What a wish is answered: that it waits, or why it does not.
-#[derive(Drop)]
+#[derive(Clone, Copy)]
 pub enum WishAnswer {
     Accepted,
     Refused(KeyboardRefusal),
 }
 
 // The wishes that a wish left, and its answer.
-#[derive(Drop)]
+#[derive(Clone, Copy)]
 pub struct WishResult {
     pub wishes: WishState,
     pub answer: WishAnswer,

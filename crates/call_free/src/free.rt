@@ -18,7 +18,7 @@ use voice_rows::row::VoiceTable;
 use voice_rows::table::find_voice;
 
 // The state that a free left, and what it answers: applied, or no such voice.
-#[derive(Drop)]
+#[derive(Clone, Copy)]
 pub struct Freed {
     pub state: State,
     pub outcome: Outcome,

@@ -16,7 +16,7 @@ use store::config::{Config, Making};
 use voice::policy::Budget;
 
 // The state beside the answer: of the arguments as they are, where making is refused.
-#[derive(Drop)]
+#[derive(Clone, Copy)]
 pub struct Made {
     pub state: State,
     pub answer: Answer,

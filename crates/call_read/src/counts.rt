@@ -20,7 +20,7 @@ use order_table::OrderTable;
 use voice_rows::row::VoiceTable;
 
 // An edge, or none. Where none is found, `edge` says nothing.
-#[derive(Drop)]
+#[derive(Clone, Copy)]
 pub struct FoundEdge {
     pub found: bool,
     pub edge: Edge,

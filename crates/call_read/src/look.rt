@@ -21,7 +21,7 @@ use voice_rows::row::{VoiceTable, state_at};
 use voice_rows::table::find_voice;
 
 // A voice, or none: an enum holds no array. Where none is found, `voice` says nothing.
-#[derive(Drop)]
+#[derive(Clone, Copy)]
 pub struct FoundVoice {
     pub found: bool,
     pub voice: Voice,

@@ -16,7 +16,7 @@ use store::answer::Rendered;
 use voice_rows::row::VoiceTable;
 
 // The state that a render left, what it answers, and how many events it took.
-#[derive(Drop)]
+#[derive(Clone, Copy)]
 pub struct Rendering {
     pub state: State,
     pub answer: Rendered,

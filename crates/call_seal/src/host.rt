@@ -16,27 +16,27 @@ use node::record::{Edge, NodeId};
 use sealed::profile::Seal;
 
 // What a host call on a board is answered: that the seal closes it, or what the store gives.
-#[derive(Drop)]
+#[derive(Clone, Copy)]
 pub enum BoardAnswer {
     Closed,
     Given(Answer),
 }
 
 // The state that such a call left, and its answer.
-#[derive(Drop)]
+#[derive(Clone, Copy)]
 pub struct BoardHost {
     pub state: State,
     pub answer: BoardAnswer,
 }
 
 // The same of the call that gives a node id.
-#[derive(Drop)]
+#[derive(Clone, Copy)]
 pub enum BoardNode {
     Closed,
     Given(AddAnswer),
 }
 
-#[derive(Drop)]
+#[derive(Clone, Copy)]
 pub struct BoardAdded {
     pub state: State,
     pub answer: BoardNode,

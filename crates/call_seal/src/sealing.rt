@@ -16,14 +16,14 @@ use sealed::refusal::SealRefusal;
 use voice_rows::row::VoiceTable;
 
 // What sealing is answered.
-#[derive(Drop)]
+#[derive(Clone, Copy)]
 pub enum SealAnswer {
     Done,
     Refused(SealRefusal),
 }
 
 // The seal that sealing left, and its answer.
-#[derive(Drop)]
+#[derive(Clone, Copy)]
 pub struct SealResult {
     pub seal: Seal,
     pub answer: SealAnswer,

@@ -19,14 +19,14 @@ use store::wish::Wish;
 use voice_rows::row::VoiceTable;
 
 // What a spawn on a board is answered: that the seal closes it, or what the store gives.
-#[derive(Drop)]
+#[derive(Clone, Copy)]
 pub enum BoardSpawned {
     Closed,
     Given(Spawned),
 }
 
 // The state that a spawn left, and its answer.
-#[derive(Drop)]
+#[derive(Clone, Copy)]
 pub struct BoardSpawn {
     pub state: State,
     pub answer: BoardSpawned,

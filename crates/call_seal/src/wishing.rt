@@ -11,14 +11,14 @@ use store::wish::Wish;
 use wish_rows::row::WishTable;
 
 // What a wish on a board is answered: that the seal closes it, or what the console gives.
-#[derive(Drop)]
+#[derive(Clone, Copy)]
 pub enum BoardWished {
     Closed,
     Given(WishAnswer),
 }
 
 // The wishes that a wish left, and its answer.
-#[derive(Drop)]
+#[derive(Clone, Copy)]
 pub struct BoardWish {
     pub wishes: WishState,
     pub answer: BoardWished,

@@ -27,7 +27,7 @@ use voice_rows::row::VoiceTable;
 use voice_rows::table::voice_count;
 
 // The state that a spawn left, and what it answers.
-#[derive(Drop)]
+#[derive(Clone, Copy)]
 pub struct Spawning {
     pub state: State,
     pub answer: Spawned,

@@ -99,7 +99,7 @@ pub fn words_at(s: &[u8], at: usize, out: &mut [usize])
 }
 
 // Where a run of lent numbers stands: how many, the first of them, and the end.
-#[derive(Drop)]
+#[derive(Clone, Copy)]
 pub struct Lent {
     pub count: usize,
     pub from: usize,

@@ -2,7 +2,7 @@ ghost use Rattle.std.specs.Prelude.{◌≡◌};
 ghost use Rattle.console.specs.Refusal.{number_of};
 
 // Why a console is not made, or a wish not taken, for its keyboards' sake.
-#[derive(Drop)]
+#[derive(Clone, Copy)]
 pub enum KeyboardRefusal {
     OutOfRange,
     Full,

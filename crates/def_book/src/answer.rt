@@ -5,7 +5,7 @@ ghost use Rattle.def_book.specs.Write.{wrote_number, wrote_of};
 use synthdef::def::SynthDef;
 
 // What reading a book answers: the definition, 18 with the position in the book of what is malformed, or 9.
-#[derive(Drop)]
+#[derive(Clone, Copy)]
 pub enum ReadAnswer {
     Definition,
     Malformed(usize),
@@ -13,14 +13,14 @@ pub enum ReadAnswer {
 }
 
 // The answer, and the definition; of a refused book it is the blank one.
-#[derive(Drop)]
+#[derive(Clone, Copy)]
 pub struct BookRead {
     pub def: SynthDef,
     pub answer: ReadAnswer,
 }
 
 // What writing a book answers: the book's length, 9 or 19.
-#[derive(Drop)]
+#[derive(Clone, Copy)]
 pub enum WriteAnswer {
     Length(usize),
     Limits,

@@ -2,7 +2,7 @@
 use synthdef::def::{DefEdges, DefNodes, Params};
 
 // The three tables, and the position after the last row.
-#[derive(Drop)]
+#[derive(Clone, Copy)]
 pub struct Body {
     pub nodes: DefNodes,
     pub edges: DefEdges,

@@ -1,14 +1,14 @@
 use node::record::NodeId;
 
 // A port of a node, or none.
-#[derive(Drop)]
+#[derive(Clone, Copy)]
 pub enum Port {
     At(u32),
     Nothing,
 }
 
 // What feeds a port: a node, or nothing.
-#[derive(Drop)]
+#[derive(Clone, Copy)]
 pub enum Source {
     From(NodeId),
     Nothing,

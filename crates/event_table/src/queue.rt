@@ -15,7 +15,7 @@ use scheduler::queue::ScheduleAnswer;
 use words::table::{move_row, open_row};
 
 // What scheduling answers, and how many events there are then.
-#[derive(Drop)]
+#[derive(Clone, Copy)]
 pub struct Scheduled {
     pub count: usize,
     pub answer: ScheduleAnswer,

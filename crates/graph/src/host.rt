@@ -7,7 +7,7 @@ use node::record::{Node, NodeId, VoiceId};
 
 // What the host says of a node that it adds, beside its kind: how many ports it has, which of them must be connected (bit p
 // for port p), and whether it takes values and glides.
-#[derive(Drop)]
+#[derive(Clone, Copy)]
 pub struct HostNode {
     pub ports: u32,
     pub required: u64,

@@ -1,7 +1,7 @@
 use node::record::Node;
 
 // A row that was looked for: `node` is it, if it is `live`.
-#[derive(Drop)]
+#[derive(Clone, Copy)]
 pub struct FoundNode {
     pub live: bool,
     pub node: Node,

@@ -17,7 +17,7 @@ pub type NodeTable = [u32; NODE_WORDS];
 
 // What wiring and the spawns read of a node: whether it lives, whose it is, how many ports it has. All 0 where it does not
 // live.
-#[derive(Drop)]
+#[derive(Clone, Copy)]
 pub struct Brief {
     pub live: bool,
     pub owner: VoiceId,

@@ -136,7 +136,7 @@ pub fn free_port(edges: &EdgeTable, count: usize, node: NodeId, ports: u32) -> P
 }
 
 // An edge that was looked for: `edge` is it, if it is `found`.
-#[derive(Drop)]
+#[derive(Clone, Copy)]
 pub struct Feeding {
     pub found: bool,
     pub edge: Edge,

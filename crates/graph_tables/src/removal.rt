@@ -18,14 +18,14 @@ use node::record::{Edge, NodeId, VoiceId};
 use words::table::move_row;
 
 // Which nodes are removed: one of the host's, or those of some voices.
-#[derive(Drop)]
+#[derive(Clone, Copy)]
 pub enum Leaving {
     Node(NodeId),
     Voices,
 }
 
 // How many nodes and edges are left, and the sink, unless it is removed.
-#[derive(Drop)]
+#[derive(Clone, Copy)]
 pub struct Left {
     pub nodes: usize,
     pub edges: usize,
@@ -33,7 +33,7 @@ pub struct Left {
 }
 
 // How many nodes are left, and of how many that are not the id was stored.
-#[derive(Drop)]
+#[derive(Clone, Copy)]
 struct Parted {
     stay: usize,
     removed: usize,

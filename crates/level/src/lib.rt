@@ -78,7 +78,7 @@ pub fn narrow(x: f64) -> f32
     f32::from_bits((SIGN32 + narrow_bits(b - SIGN64)) as u32)
 }
 
-#[derive(Drop)]
+#[derive(Clone, Copy)]
 struct Digits {
     root: u64,
     rest: u64,

@@ -3,7 +3,7 @@ use store::config::Config;
 
 // What is no table: what making fixed, how many rows each table holds, the sink, whether the graph is prepared, the next node id, the
 // clock, the voice ids given out, and of the ring of steal records the total and the next place.
-#[derive(Drop)]
+#[derive(Clone, Copy)]
 pub struct State {
     pub config: Config,
     pub nodes: usize,
@@ -21,14 +21,14 @@ pub struct State {
 }
 
 // The state that a call left, and what it answers.
-#[derive(Drop)]
+#[derive(Clone, Copy)]
 pub struct HostResult {
     pub state: State,
     pub answer: Answer,
 }
 
 // The same of a call that gives a node id.
-#[derive(Drop)]
+#[derive(Clone, Copy)]
 pub struct AddResult {
     pub state: State,
     pub given: AddAnswer,

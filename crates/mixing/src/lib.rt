@@ -11,7 +11,7 @@ use fade_table::table_gains;
 use store::config::Config;
 
 // One block of a fade: the channel counts of input and output, and what the fade's earlier blocks have passed, in samples.
-#[derive(Drop)]
+#[derive(Clone, Copy)]
 pub struct FadePart {
     pub ins: usize,
     pub outs: usize,

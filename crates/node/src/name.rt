@@ -3,7 +3,7 @@ ghost use Rattle.node.specs.Name.{name_length, named, name_of, same_name};
 
 // A byte string of 1 to 16 bytes: the first `len` of `bytes`. With any other `len` it is a name that equals none, itself
 // included.
-#[derive(Drop)]
+#[derive(Clone, Copy)]
 pub struct Name {
     pub bytes: [u8; 16],
     pub len: u8,

@@ -1,7 +1,7 @@
 // What can be asked of a node: from curve.rs and the actions of scheduler.rs.
 
 // How a glide's way to its target runs over its time.
-#[derive(Drop)]
+#[derive(Clone, Copy)]
 pub enum GlideShape {
     Hold,
     Linear,
@@ -10,14 +10,14 @@ pub enum GlideShape {
 }
 
 // What a glide moves evenly in: the parameter's own unit, or pitch.
-#[derive(Drop)]
+#[derive(Clone, Copy)]
 pub enum GlideSpace {
     Raw,
     Pitch,
 }
 
 // A glide to `target` within `seconds`.
-#[derive(Drop)]
+#[derive(Clone, Copy)]
 pub struct Glide {
     pub target: f32,
     pub seconds: f32,
@@ -26,7 +26,7 @@ pub struct Glide {
 }
 
 // The newest order that a node took.
-#[derive(Drop)]
+#[derive(Clone, Copy)]
 pub enum LastOrder {
     Nothing,
     Value(f32),
@@ -34,7 +34,7 @@ pub enum LastOrder {
 }
 
 // What an event does to its voice. The parameter's name stands beside it: an enum holds no array.
-#[derive(Drop)]
+#[derive(Clone, Copy)]
 pub enum EventAction {
     Value(f32),
     Glide(Glide),

@@ -2,16 +2,16 @@ use crate::name::Name;
 use crate::order::LastOrder;
 
 // The two ids of the source. They are different types, so that a node id never serves as a voice id.
-#[derive(Drop)]
+#[derive(Clone, Copy)]
 pub struct NodeId(pub u32);
 
-#[derive(Drop)]
+#[derive(Clone, Copy)]
 pub struct VoiceId(pub u64);
 
 // A live node, as scope lists it: kind name, ports, required ports (bit p for port p), whether it takes values or
 // glides, done flag, level of the last reported block, last order; with its id and the voice that owns it. Voice ids
 // start at 1: owner 0 is the host. A bus counts here the noise sequence of its voices (02, Paper 6): 0 in a new node.
-#[derive(Drop)]
+#[derive(Clone, Copy)]
 pub struct Node {
     pub id: NodeId,
     pub owner: VoiceId,
@@ -27,7 +27,7 @@ pub struct Node {
 }
 
 // An edge of the graph: the output of `from` feeds the port `port` of `to`.
-#[derive(Drop)]
+#[derive(Clone, Copy)]
 pub struct Edge {
     pub from: NodeId,
     pub to: NodeId,

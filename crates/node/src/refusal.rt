@@ -2,7 +2,7 @@ ghost use Rattle.std.specs.Prelude.{◌≡◌};
 ghost use Rattle.node.specs.Refusal.{number_of};
 
 // Why a call was refused. One case for each number of the refusal table, in its order.
-#[derive(Drop)]
+#[derive(Clone, Copy)]
 pub enum Refusal {
     SampleRate,
     BlockSize,

@@ -4,7 +4,7 @@ ghost use Rattle.node.specs.Silence.{silence_of, passes_through, rule_in, rules}
 use crate::name::{Name, same_name};
 
 // How the silence of a node follows from its sources, by the name of its kind: the cases of `DonePlan` in synthdef.rs.
-#[derive(Drop)]
+#[derive(Clone, Copy)]
 pub enum SilenceRule {
     // its done flag alone
     Own,
@@ -21,7 +21,7 @@ pub enum SilenceRule {
 }
 
 // A kind's name and its rule.
-#[derive(Drop)]
+#[derive(Clone, Copy)]
 pub struct KindRule {
     pub name: Name,
     pub rule: SilenceRule,

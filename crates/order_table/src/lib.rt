@@ -24,7 +24,7 @@ pub const ORDER_WORDS: usize = 512;
 pub type OrderTable = [u32; ORDER_WORDS];
 
 // The answer, and how many ids the order has: none where it is refused.
-#[derive(Drop)]
+#[derive(Clone, Copy)]
 pub struct Prepared {
     pub answer: Readiness,
     pub count: usize,

@@ -11,7 +11,7 @@ use piecrag::{
 
 // How far the script is played. The first `held` bytes of the window were read, and `more` may follow them; the first has the position
 // `base` in the script. The entry that is to be played stands from `at` to `end`. There is none where the run has `ended`.
-#[derive(Drop)]
+#[derive(Clone, Copy)]
 struct Run {
     held: usize,
     more: bool,

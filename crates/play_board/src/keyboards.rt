@@ -13,7 +13,7 @@ use script::name::name_at;
 use transcript::answer::{closed_line, made_line, refused_line, remark_line, spawned_line};
 
 // The script's store, with the wishes that wait for it and its seal.
-#[derive(Drop)]
+#[derive(Clone, Copy)]
 pub struct Board {
     pub state: State,
     pub wishes: WishState,

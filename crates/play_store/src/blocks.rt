@@ -52,7 +52,7 @@ pub fn play_prepare(
 }
 
 // How long a list the entry lends, and what each of its entries holds before: 256 and 255 where it does not describe it.
-#[derive(Drop)]
+#[derive(Clone, Copy)]
 pub struct Lent {
     described: bool,
     count: usize,

@@ -14,7 +14,7 @@ use transcript::stolen::steals_line;
 use transcript::voices::{found_line, voices_line};
 
 // A reading: its sort, and what it is of, a voice or, as a word, a place, a node or the length of a buffer.
-#[derive(Drop)]
+#[derive(Clone, Copy)]
 pub struct Question {
     sort: u8,
     voice: VoiceId,

@@ -3,7 +3,7 @@
 use node::refusal::Refusal;
 
 // What a prepare answers: it is ready, or refused.
-#[derive(Drop)]
+#[derive(Clone, Copy)]
 pub enum Readiness {
     Ready,
     Refused(Refusal),

@@ -5,14 +5,14 @@ ghost use Rattle.rank.specs.Parts.{Degrees, Linked, Ready, Queued, ranking_of};
 use lists::number::at_most;
 
 // The order of nodes that are the indices 0 to n - 1: the first `count` of `rows`, and whether they are all.
-#[derive(Drop)]
+#[derive(Clone, Copy)]
 pub struct Ranking {
     pub rows: [usize; 512],
     pub count: usize,
     pub whole: bool,
 }
 
-#[derive(Drop)]
+#[derive(Clone, Copy)]
 struct Queue {
     rows: [usize; 512],
     count: usize,

@@ -7,7 +7,7 @@ use node::record::VoiceId;
 
 // An action at a sample time. A value and a glide are for the parameter `name`; a gate and a free do not look at it. A name
 // that is not 1 to 16 bytes is held, and matches no parameter.
-#[derive(Drop)]
+#[derive(Clone, Copy)]
 pub struct Event {
     pub time: u64,
     pub voice: VoiceId,
@@ -16,7 +16,7 @@ pub struct Event {
 }
 
 // What an event orders: `order` for the parameter `name`. `Nothing` is no order: the event is a free.
-#[derive(Drop)]
+#[derive(Clone, Copy)]
 pub struct ParamOrder {
     pub name: Name,
     pub order: LastOrder,

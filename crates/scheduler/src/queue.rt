@@ -1,7 +1,7 @@
 use node::refusal::Refusal;
 
 // What scheduling answers.
-#[derive(Drop)]
+#[derive(Clone, Copy)]
 pub enum ScheduleAnswer {
     Taken,
     Refused(Refusal),

@@ -9,25 +9,25 @@ use node::name::name_of;
 use synthdef::def::{DefEdge, DefEdges, DefNode, DefNodes, Param, Params, SynthDef};
 
 // A table that was read, and the position after it. A count above the table's capacity is kept; its rows are read and left out.
-#[derive(Drop)]
+#[derive(Clone, Copy)]
 struct ReadNodes {
     nodes: DefNodes,
     end: usize,
 }
 
-#[derive(Drop)]
+#[derive(Clone, Copy)]
 struct ReadEdges {
     edges: DefEdges,
     end: usize,
 }
 
-#[derive(Drop)]
+#[derive(Clone, Copy)]
 struct ReadParams {
     params: Params,
     end: usize,
 }
 
-#[derive(Drop)]
+#[derive(Clone, Copy)]
 pub struct ReadDef {
     pub def: SynthDef,
     pub end: usize,

@@ -8,7 +8,7 @@ use crate::name::name_end;
 use codec::field::{after, byte_at, word_at};
 
 // How the fields of an entry stand.
-#[derive(Drop)]
+#[derive(Clone, Copy)]
 enum Form {
     // There is no such entry.
     Malformed,

@@ -2,7 +2,7 @@ use node::record::NodeId;
 
 // What the builder of the board states: its one bus with its ports P, the host nodes H, the host edges G, and the largest
 // definition, D nodes and E edges. Numbers of any size: whether they fit is tested.
-#[derive(Drop)]
+#[derive(Clone, Copy)]
 pub struct Profile {
     pub bus: NodeId,
     pub ports: u64,
@@ -13,7 +13,7 @@ pub struct Profile {
 }
 
 // The seal of a board: none yet, or the profile by which it was sealed.
-#[derive(Drop)]
+#[derive(Clone, Copy)]
 pub enum Seal {
     Unsealed,
     Sealed(Profile),

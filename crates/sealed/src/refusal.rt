@@ -2,7 +2,7 @@ ghost use Rattle.std.specs.Prelude.{◌≡◌};
 ghost use Rattle.sealed.specs.Refusal.{number_of};
 
 // Why a board is not sealed, or a call not made on a sealed board.
-#[derive(Drop)]
+#[derive(Clone, Copy)]
 pub enum SealRefusal {
     NotAccepted,
     Closed,

@@ -18,7 +18,7 @@ pub const STEAL_WORDS: usize = 320;
 pub type StealTable = [u32; STEAL_WORDS];
 
 // What of the ring stands in the store's state.
-#[derive(Drop)]
+#[derive(Clone, Copy)]
 pub struct Ring {
     pub total: u64,
     pub next: usize,

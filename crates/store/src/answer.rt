@@ -2,14 +2,14 @@ use node::record::VoiceId;
 use node::refusal::Refusal;
 
 // What a spawn answers.
-#[derive(Drop)]
+#[derive(Clone, Copy)]
 pub enum Spawned {
     Voice(VoiceId),
     Refused(Refusal),
 }
 
 // What became of a value or a glide: applied, or the first that is true of the rest.
-#[derive(Drop)]
+#[derive(Clone, Copy)]
 pub enum Outcome {
     Applied,
     NoVoice,
@@ -18,7 +18,7 @@ pub enum Outcome {
 }
 
 // What a render answers: sounding, silent, silent after a prepare that failed, or refused.
-#[derive(Drop)]
+#[derive(Clone, Copy)]
 pub enum Rendered {
     Sounding,
     Silent,
@@ -27,14 +27,14 @@ pub enum Rendered {
 }
 
 // The position of a voice's fade, or none.
-#[derive(Drop)]
+#[derive(Clone, Copy)]
 pub enum Position {
     At(u64),
     Nothing,
 }
 
 // What the page answers: its length in bytes, or a refusal.
-#[derive(Drop)]
+#[derive(Clone, Copy)]
 pub enum Paged {
     Length(usize),
     Refused(Refusal),

@@ -1,7 +1,7 @@
 use voice::policy::{Budget, BudgetScope, StealPolicy};
 
 // What a host asks for when it makes a store: the sample rate as it says it, and the rest as in `Config`.
-#[derive(Drop)]
+#[derive(Clone, Copy)]
 pub struct Making {
     pub rate: f32,
     pub block: usize,
@@ -13,7 +13,7 @@ pub struct Making {
 
 // What making fixes: the sample rate in Hz, the samples of a block, how many voices may be tracked, which is stolen, and
 // among which ones, and whether fades take their gains from the fade table.
-#[derive(Drop)]
+#[derive(Clone, Copy)]
 pub struct Config {
     pub rate: u32,
     pub block: usize,

@@ -5,7 +5,7 @@ pub const NO_PORT: u8 = 255;
 
 // A node of a definition: kind name, ports, required ports (bit p for port p), what it takes, and its first ports named
 // `in`, `level` and `amp`, each NO_PORT where it has none.
-#[derive(Drop)]
+#[derive(Clone, Copy)]
 pub struct DefNode {
     pub kind: Name,
     pub ports: u8,
@@ -18,7 +18,7 @@ pub struct DefNode {
 }
 
 // The output of the definition's node `from` feeds the port `port` of its node `to`.
-#[derive(Drop)]
+#[derive(Clone, Copy)]
 pub struct DefEdge {
     pub from: u8,
     pub to: u8,
@@ -26,33 +26,33 @@ pub struct DefEdge {
 }
 
 // A parameter: orders by that name go to the definition's node `node`.
-#[derive(Drop)]
+#[derive(Clone, Copy)]
 pub struct Param {
     pub name: Name,
     pub node: u8,
 }
 
 // The three tables of a definition. The rows are the first `count`; a count above the capacity is the capacity.
-#[derive(Drop)]
+#[derive(Clone, Copy)]
 pub struct DefNodes {
     pub rows: [DefNode; 24],
     pub count: usize,
 }
 
-#[derive(Drop)]
+#[derive(Clone, Copy)]
 pub struct DefEdges {
     pub rows: [DefEdge; 48],
     pub count: usize,
 }
 
-#[derive(Drop)]
+#[derive(Clone, Copy)]
 pub struct Params {
     pub rows: [Param; 8],
     pub count: usize,
 }
 
 // A definition. `output` is the node that the voice sounds through.
-#[derive(Drop)]
+#[derive(Clone, Copy)]
 pub struct SynthDef {
     pub nodes: DefNodes,
     pub edges: DefEdges,

@@ -7,7 +7,7 @@ use lists::number::at_most;
 use node::name::{Name, same_name};
 
 // The node of a parameter, by its place in the definition.
-#[derive(Drop)]
+#[derive(Clone, Copy)]
 pub enum ParamNode {
     At(u8),
     Nothing,

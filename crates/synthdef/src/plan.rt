@@ -11,7 +11,7 @@ use node::silence::{SilenceRule, silence_rule};
 
 // The sources that the rule of a node reads, the first `count` of `sources`: where `all` is set, all of them have to be silent
 // for the node to be, else one.
-#[derive(Drop)]
+#[derive(Clone, Copy)]
 pub struct DoneStep {
     pub all: bool,
     pub count: u8,
@@ -19,21 +19,21 @@ pub struct DoneStep {
 }
 
 // How done nodes silence a definition's output: a step for each node by its place in the definition.
-#[derive(Drop)]
+#[derive(Clone, Copy)]
 pub struct DonePlan {
     pub steps: [DoneStep; 24],
     pub output: u8,
 }
 
 // The ports that a rule reads: `count` of them from `first` on.
-#[derive(Drop)]
+#[derive(Clone, Copy)]
 struct Span {
     first: usize,
     count: usize,
 }
 
 // What is connected to a port.
-#[derive(Drop)]
+#[derive(Clone, Copy)]
 enum Source {
     Node(u8),
     Nothing,

@@ -1,7 +1,7 @@
 // The busiest stretch as one would count it by hand: every stretch, one after the other.
 
 // Why there is none, or how many records it holds and the sample of its first.
-#[derive(Drop)]
+#[derive(Clone, Copy)]
 pub struct Counted {
     pub refused: u64,
     pub count: usize,

@@ -87,7 +87,7 @@ pub fn config(rate: u32, block: usize, table: bool) -> Config {
 }
 
 // What stands before the runs of a fade: the channel counts of input and output with the position, the block size, and the length, or the rate.
-#[derive(Drop)]
+#[derive(Clone, Copy)]
 pub struct Head {
     pub part: FadePart,
     pub size: usize,

@@ -23,7 +23,7 @@ use script::host::{host_node_at, id_at, wire_at};
 use script::name::{name_at, name_end};
 
 // The state after a call, and the position after the call.
-#[derive(Drop)]
+#[derive(Clone, Copy)]
 struct Played {
     state: State,
     end: usize,

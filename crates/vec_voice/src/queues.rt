@@ -14,7 +14,7 @@ use script::glide::{action_of, glide_at};
 use script::name::{name_at, name_end};
 
 // How many events wait after a call, and the position after the call.
-#[derive(Drop)]
+#[derive(Clone, Copy)]
 struct Played {
     count: usize,
     end: usize,

@@ -1,7 +1,7 @@
 use node::record::VoiceId;
 
 // What to do at budget.
-#[derive(Drop)]
+#[derive(Clone, Copy)]
 pub enum StealPolicy {
     Reject,
     Oldest,
@@ -10,21 +10,21 @@ pub enum StealPolicy {
 }
 
 // Which tracked voices a budget counts: all, or those of the new voice's bus.
-#[derive(Drop)]
+#[derive(Clone, Copy)]
 pub enum BudgetScope {
     Global,
     PerGroup,
 }
 
 // A voice's level, or none.
-#[derive(Drop)]
+#[derive(Clone, Copy)]
 pub enum Level {
     Unknown,
     Known(f32),
 }
 
 // A voice that may have to go, with its level and its rank.
-#[derive(Drop)]
+#[derive(Clone, Copy)]
 pub struct Candidate {
     pub voice: VoiceId,
     pub level: Level,
@@ -32,14 +32,14 @@ pub struct Candidate {
 }
 
 // The candidates, in order of admission: the first `count` rows; a count above the capacity is the capacity.
-#[derive(Drop)]
+#[derive(Clone, Copy)]
 pub struct Candidates {
     pub rows: [Candidate; 64],
     pub count: usize,
 }
 
 // What the walk of `Quietest` holds: the candidate taken so far, with its place and its level.
-#[derive(Drop)]
+#[derive(Clone, Copy)]
 pub enum Held {
     Nothing,
     Taken {
@@ -50,21 +50,21 @@ pub enum Held {
 }
 
 // Who is stolen or freed: its place among the candidates of its rank, and its id.
-#[derive(Drop)]
+#[derive(Clone, Copy)]
 pub enum Victim {
     Nobody,
     Goes { place: usize, voice: VoiceId },
 }
 
 // How many voices may be tracked at once.
-#[derive(Drop)]
+#[derive(Clone, Copy)]
 pub enum Budget {
     Unlimited,
     AtMost(usize),
 }
 
 // What a new voice meets.
-#[derive(Drop)]
+#[derive(Clone, Copy)]
 pub enum Admission {
     Admit,
     Reject,

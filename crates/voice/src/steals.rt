@@ -1,6 +1,6 @@
 // One steal: the clock at it, the victim's level if it was known, and whether the victim was cut instead of faded. `level`
 // says nothing unless `known`.
-#[derive(Drop)]
+#[derive(Clone, Copy)]
 pub struct StealRecord {
     pub sample: u64,
     pub level: f32,
@@ -9,7 +9,7 @@ pub struct StealRecord {
 }
 
 // The steals: how many there were, and the newest 64 of them in a ring. The next one goes to `next`, modulo 64.
-#[derive(Drop)]
+#[derive(Clone, Copy)]
 pub struct Steals {
     pub rows: [StealRecord; 64],
     pub total: u64,
@@ -17,7 +17,7 @@ pub struct Steals {
 }
 
 // A record that is held, or none.
-#[derive(Drop)]
+#[derive(Clone, Copy)]
 pub enum StealFound {
     Nothing,
     Record(StealRecord),

@@ -16,7 +16,7 @@ use voice_policy::policy::{counts_for, no_candidates};
 use words::fields::float_at;
 
 // Which voices count for a new voice: those that the scope of the budget names, for a new voice on `bus`; the clock says which of them have a level yet.
-#[derive(Drop)]
+#[derive(Clone, Copy)]
 pub struct Counting {
     pub scope: BudgetScope,
     pub bus: NodeId,

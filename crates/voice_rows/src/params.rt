@@ -9,7 +9,7 @@ use words::table::word_at;
 
 // Where rows of `width` words keep their parameters: how many there are in the two words from `count` on, and the parameters from `first` on, `each` words
 // each. A name takes five words; the node has a word of its own after them, or where they are `packed`, the second byte of the last of them.
-#[derive(Drop)]
+#[derive(Clone, Copy)]
 pub struct ParamPlace {
     pub width: usize,
     pub count: u8,

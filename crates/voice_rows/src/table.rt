@@ -16,7 +16,7 @@ use store::voices::Voice;
 use words::table::move_row;
 
 // A row, or none.
-#[derive(Drop)]
+#[derive(Clone, Copy)]
 pub struct FoundRow {
     pub found: bool,
     pub row: usize,
