@@ -4,7 +4,7 @@
 use Rattle.std.proofs.Common.{◌≡◌, ℕ, zero, suc, ◌+◌, ◌*◌, ◌<◌, ◌≤◌, List, [], ◌∷◌, ◌++◌, length, get_or, take, drop, set, sym, refl, ap, ◌∙◌, subst, ⊎_elim, append_assoc, append-nil, le_of_suc-le-suc, mul-le-mul_right, suc-mul, add-sub_of_le, eq-or-lt_of_le, zero-mul, add-one, arith, length-append, length-drop, length-set, length-take, get_or-drop, drop-cons, get_or-take, drop-drop, take_at, get_or-append-add, ext_get_or, drop_at}
 use lib.ListN.{get_or-append}
 use lib.Seq.{drop-length, set_at, get_or_at}
-use borrow.Author.Rules.{zero≤}
+use Prim.Native.Nat.{zero-le}
 use Rattle.bus.specs.Block.{each, block_of, sample_at}
 
 -- channel k of n lies within their samples
@@ -53,7 +53,7 @@ module _ {A : Type 0} where
 
   pub fill_none : (f : ℕ → A) (l : List A) → Filling f l l 0
   unfolding each
-  fill_none f l = record { within = zero≤; long = refl; is = refl }
+  fill_none f l = record { within = zero-le; long = refl; is = refl }
 
   -- what stands at i has not been written yet
   pub fill_next : (f : ℕ → A) (l now : List A) (i : ℕ) (d : A) → Filling f l now i → i < length now → get_or now i d ≡ get_or l i d

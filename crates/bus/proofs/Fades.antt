@@ -1,6 +1,5 @@
 -- The gain of a sample, within the fade and past its end.
 use Rattle.std.proofs.Common.{◌≡◌, ℕ, zero, suc, ◌+◌, ◌*◌, ◌%◌, ◌<◌, ◌≤◌, true, ◌&&◌, T, leb, List, [], ◌∷◌, length, get_or, take, drop, sym, refl, ap, ◌∙◌, subst, le_of_suc-le-suc, arith, leb→le, le-ltb, lt-ltb}
-use lib.Ieee.{Float, nan}
 use lib.Ieee.Fits.{and_l, and_r}
 use Rattle.bus.specs.Block.{each, holds}
 use Rattle.bus.specs.Fade.{fade_length, gain_at, faded_by, faded_of_by, fade_fits}

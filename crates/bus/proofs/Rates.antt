@@ -39,6 +39,8 @@ unfolding rate_of
 rate_taken n l h = go (of_int binary32 (pos n)) (value n (small n h))
   where
     go : (x : Float) → HasValue x false n 1 → rate_of x ≡ gives n
+    go nan v = elim v [ ]
+    go (inf _) v = elim v [ ]
     go (fin false m e) v = taken (m * up e) (down e) n (down_pos e) l h (sym (mul-one (m * up e)) ∙ v.1)
     go (fin true m e) v = let z : true ≡ false = v.0 in cc
 
@@ -92,6 +94,8 @@ unfolding lt
 above x n s = subst (λ (y : Float). lt (fin true 1 (pos 0)) y ≡ true) (sym s.same) (go (of_int binary32 (pos n)) (value n (small n s.high)))
   where
     go : (y : Float) → HasValue y false n 1 → lt (fin true 1 (pos 0)) y ≡ true
+    go nan v = elim v [ ]
+    go (inf _) v = elim v [ ]
     go (fin false m e) v =
         let p : 0 < 1 * 2 ^ 0 * down e + m * up e * 1 = omega (arith, down_pos e, one-mul (down e)) in
         lt-ltb 0 (1 * 2 ^ 0 * down e + m * up e * 1) p
@@ -102,6 +106,8 @@ unfolding lt
 under x n s = subst (λ (y : Float). lt y (fin false 1 (pos 64)) ≡ true) (sym s.same) (go (of_int binary32 (pos n)) (value n (small n s.high)))
   where
     go : (y : Float) → HasValue y false n 1 → lt y (fin false 1 (pos 64)) ≡ true
+    go nan v = elim v [ ]
+    go (inf _) v = elim v [ ]
     go (fin false m e) v =
         let h = s.high in
         let l : n < 2 ^ 64 = omega arith in
@@ -122,6 +128,8 @@ unfolding is_nan
 plain n h = go (of_int binary32 (pos n)) (value n h)
   where
     go : (y : Float) → HasValue y false n 1 → T (not (is_nan y))
+    go nan v = elim v [ ]
+    go (inf _) v = elim v [ ]
     go (fin s m e) v = tt
 
 pub exact : (n : ℕ) → n ≤ 2 ^ 24 → T (in_float binary32 (pos n))

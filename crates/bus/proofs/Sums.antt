@@ -2,7 +2,7 @@
 --     Summing     the first k inputs, which end at `at`, are added, and what is left makes the sum whole
 use Rattle.std.proofs.Common.{◌≡◌, ℕ, zero, suc, ◌+◌, ◌*◌, ◌%◌, ◌<◌, ◌≤◌, true, ◌&&◌, T, eqb, leb, List, [], ◌∷◌, length, get_or, take, drop, sym, ap, ◌∙◌, subst, add_assoc, mul-le-mul_right, mod-lt, suc-mul, add-mul, add-one, arith, eqb→eq, leb→le, drop_of_length-le, get_or-drop, drop-cons, drop-drop}
 use lib.Ieee.Fits.{and_l, and_r}
-use borrow.Author.Rules.{zero≤}
+use Prim.Native.Nat.{zero-le}
 use Rattle.bus.specs.Block.{each, sample_at, is_channels, holds}
 use Rattle.bus.specs.Sum.{most_inputs, channels, every_is_channels, summed_by, sum_fits}
 use Rattle.bus.proofs.Blocks.{length_each, each_at, each_is, part_at}
@@ -50,7 +50,7 @@ module _ {A : Type 0} (plus : A → A → A) (past start : A) (size c : ℕ) (in
       → Summing plus past start size c inputs counts out 0 0
   sum_none before out whole long e =
       record {
-        within = zero≤;
+        within = zero-le;
         left = omega arith;
         long = ap length e ∙ length_each (length before) (λ i. start) ∙ long;
         sums = λ i h.

@@ -1,5 +1,7 @@
 // The arithmetic of one voice's sound on its way to a bus: the sample rate that the store accepts, the length of a stolen
 // voice's fade, the fade's output, the sum of a bus, and the seed of a node's noise. Blocks are lent; nothing is kept.
+#![tactic(auto)]
+
 ghost use Rattle.std.specs.Prelude.{◌≡◌, ℕ, ◌+◌, ◌*◌, ◌<◌, ◌≤◌, T, length, ◌==◌, slice_index_or};
 ghost use Rattle.std.specs.Float.{binary32, nan};
 ghost use Rattle.std.specs.Float.Ieee.{add};

@@ -1,18 +1,17 @@
 -- The gains of the table.
 --     exact, exact_at  the division rounds nothing
 --     Filled           what the loop of `table_gains` has made so far
-use Prim.Native.Nat.{ℕ, zero, suc, ◌+◌, ◌-◌, ◌*◌, ◌^◌, ◌≤◌, ◌<◌}
-use mathlib.Core.Path.{◌≡◌, refl, sym, ap, ◌∙◌, subst}
+use Prim.Native.Nat.{ℕ, ◌+◌, ◌*◌, ◌^◌, ◌≤◌, ◌<◌}
+use mathlib.Core.Path.{◌≡◌, sym, ap, ◌∙◌, subst}
 use mathlib.Core.Bool.{true, false, true≢false}
 use mathlib.Core.Logic.{⊎_elim}
-use native.Mathlib.Nat.{mul-one, one-mul, mul_assoc, mul_comm, mul_right_comm, mul-pos, lt_trans, not-suc-le-zero, eq-or-lt_of_le}
+use native.Mathlib.Nat.{one-mul, mul_assoc, mul_comm, mul_right_comm, mul-pos, lt_trans, not-suc-le-zero, eq-or-lt_of_le}
 use native.Mathlib.Omega.{arith}
 use mathlib.Core.List.{List}
 use lib.ListN.{length, get_or, set, length-map, length-set, get_or-map}
 use lib.Seq.{get_or-set_same, get_or-set_other, ext_get_or}
 use lib.Pow.{pow-add, pow_pos, pow-lt, shl_lt}
-use lib.IntN.{pos}
-use lib.Ieee.{Float, fin, binary32, of_int, div, round, up, down}
+use lib.Ieee.{Float, nan, inf, fin, binary32, of_int, div, round, up, down}
 use lib.Ieee.Back.{round_whole}
 use lib.Ieee.Exact.{HasValue, round_exact}
 use lib.Ieee.Fits.{down_pos}
@@ -50,6 +49,8 @@ exact n h = go (round binary32 false n 1) (round_whole binary32 false n h)
         subst (λ (x : Float). HasValue x false n S)
         (sym (round_same binary32 false (m * up e * 1) (2 ^ 24 * down e) n (2 ^ 24) (mul-pos (pow_pos 24) (down_pos e)) (pow_pos 24) same)) (quotient n h)
     go (fin true m e) v = absurd (true≢false v.0)
+    go nan v = elim v [ ]
+    go (inf _) v = elim v [ ]
 
 -- so it is for every entry
 pub exact_at : (k : ℕ) → Exactly (gain_of (entry_of entries k)) (entry_of entries k) S

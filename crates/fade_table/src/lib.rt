@@ -1,4 +1,6 @@
 // The fade table for 48,000 Hz: the gains of a fade of 240 samples, for hosts that have no cosine.
+#![tactic(auto)]
+
 ghost use Rattle.std.specs.Prelude.{◌≡◌};
 ghost use Rattle.fade_table.specs.Table.{entries, entry_of};
 ghost use Rattle.fade_table.specs.Gain.{gain_of, gains};

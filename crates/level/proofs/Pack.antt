@@ -9,7 +9,7 @@ use lib.Dec.{T, ltb, leb, leb→le, nleb→lt, ltb→lt}
 use lib.Arith.{le→nltb}
 use lib.Pow.{pow-add, pow_pos, pow_mono, pow-lt}
 use lib.Ieee.{Float, nan, inf, fin, Format, binary32, binary64, prec, low, down, size, odd, units, round, fits, hid, top, of_bits, to_bits}
-use lib.Ieee.Digits.{size-lt, size_le}
+use lib.Ieee.Digits.{size-lt, size-le}
 use lib.Ieee.Fits.{round_is, down_pos, nearest-le, odd-fits, inf-fits}
 use lib.Ieee.Exact.{HasValue, units_val}
 use lib.Ieee.Bits.{of_bits-to_bits, cond_no}
@@ -28,7 +28,7 @@ pub pow_lt_back : (i p : ℕ) → 2 ^ i < 2 ^ p → i < p
 pow_lt_back i p h = lt_of_not-le (λ (g : p ≤ i). lt_irrefl (2 ^ i) (lt_of_lt_of_le h (pow_mono g)))
 
 size_exact : (a n : ℕ) → 2 ^ a ≤ n → n < 2 ^ suc a → size n ≡ suc a
-size_exact a n lo hi = le_antisymm (size_le n (suc a) hi) (pow_lt_back a (size n) (lt_of_le_of_lt lo (size-lt n)))
+size_exact a n lo hi = le_antisymm (size-le n (suc a) hi) (pow_lt_back a (size n) (lt_of_le_of_lt lo (size-lt n)))
 
 -- P + 1 digits above the d lowest
 pub size_above : (P n d : ℕ) → 2 ^ P * 2 ^ d ≤ n → n < 2 ^ suc P * 2 ^ d → size n ≡ suc (P + d)
@@ -53,7 +53,7 @@ full P k q lo hi =
 -- fewer digits, and none dropped
 few : (P q : ℕ) → q < 2 ^ P → num P (q * 2 ^ 0) ≡ 0 * 2 ^ P + q
 few P q h =
-    let z : size (q * 2 ^ 0) - suc P ≡ 0 = none (size (q * 2 ^ 0)) P (size_le (q * 2 ^ 0) P (subst (λ (x : ℕ). x < 2 ^ P) (sym (mul-one q)) h)) in
+    let z : size (q * 2 ^ 0) - suc P ≡ 0 = none (size (q * 2 ^ 0)) P (size-le (q * 2 ^ 0) P (subst (λ (x : ℕ). x < 2 ^ P) (sym (mul-one q)) h)) in
     ap (λ (x : ℕ). x * 2 ^ P + q * 2 ^ 0 / 2 ^ x) z ∙ ap (λ (x : ℕ). 0 * 2 ^ P + x) (div-one (q * 2 ^ 0) ∙ mul-one q)
   where
     none : (z P : ℕ) → z ≤ P → z - suc P ≡ 0
@@ -175,4 +175,4 @@ subnormal f s m e c d h hi o = units_bits f s (closest m (2 ^ d)) 0 (kept_le (pr
     none x y h = omega arith
 
     few_digits : size (m * 2 ^ 0 / 2 ^ d) ≤ prec f
-    few_digits = size_le (m * 2 ^ 0 / 2 ^ d) (prec f) (subst (λ (x : ℕ). x / 2 ^ d < 2 ^ prec f) (sym (mul-one m)) ((div-lt_iff_lt-mul (pow_pos d)).1 hi))
+    few_digits = size-le (m * 2 ^ 0 / 2 ^ d) (prec f) (subst (λ (x : ℕ). x / 2 ^ d < 2 ^ prec f) (sym (mul-one m)) ((div-lt_iff_lt-mul (pow_pos d)).1 hi))

@@ -1,5 +1,7 @@
 // The level of a block of samples: the root of the mean of their squares, each step rounded as IEEE 754 says.
 // Sums, products and quotients are the machine's f64 steps. The root and the narrowing to f32 are worked out here, from bits over whole numbers.
+#![tactic(auto)]
+
 ghost use Rattle.std.specs.Prelude.{◌≡◌, Bool, cond, ℕ, ◌+◌, ◌*◌, ◌^◌, ◌<◌, ◌≤◌, pos};
 ghost use Rattle.std.specs.Float.{binary32, binary64};
 ghost use Rattle.std.specs.Float.Ieee.{of_bits, of_int};

@@ -12,7 +12,7 @@ use lib.Dec.{T, ltb, eqb, eqb→eq}
 use lib.IntN.{ℤ, pos, negsuc, ◌+ℤ◌, ◌-ℤ◌}
 use lib.Ieee.Fits.{and_l, and_r}
 use lib.ListN.{length, get_or, take, drop, length-take, get_or-eq_default}
-use borrow.Author.Rules.{zero≤}
+use Prim.Native.Nat.{zero-le}
 use borrow.Author.Tests.{lt-ltb, le-ltb, ltb-true, ltb-false}
 use Rattle.bus.specs.Block.{each, block_of}
 use Rattle.bus.proofs.Blocks.{length_each, each_at, each_same}
@@ -35,7 +35,7 @@ above_sample x t = let w = sample_is x t in go x w.0 w.1
 
 pub raised_bound : (n size : ℕ) (xs : List ℤ) (j : ℕ) → T (every is_sample xs) → raised_sum n size xs j ≤ n * full
 unfolding raised_sum
-raised_bound zero size xs j t = zero≤
+raised_bound zero size xs j t = zero-le
 raised_bound (suc n) size xs j t =
     let a = (above_sample (get_or xs j (pos 0)) (every_at is_sample xs (pos 0) tt t j)).1 in
     let r = raised_bound n size (drop size xs) j (every_drop is_sample size xs t) in

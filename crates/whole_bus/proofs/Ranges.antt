@@ -16,7 +16,7 @@ use lib.Ieee.Fits.{and_l, and_r, and_i}
 use lib.ListN.{length, get_or, take, drop, drop_of_length-le}
 use lib.Seq.{drop-cons}
 use lib.Signed.{non_neg, mag}
-use borrow.Author.Rules.{zero≤}
+use Prim.Native.Nat.{zero-le}
 use borrow.Author.Tests.{lt-ltb, le-ltb, leb-true, leb-false, ltb-true, ltb-false}
 use mir.Syntax.{w32, w64}
 use mir.Val.{Fits, SFits, to_z, of_z}
@@ -144,7 +144,7 @@ pub record Collected {A : Type 0} (f : A → Bool) (xs : List A) (bits i : ℕ) 
 
 module _ {A : Type 0} (f : A → Bool) (xs : List A) where
   pub collect_none : Collected f xs 0 0
-  collect_none = record { within = zero≤; tells = refl }
+  collect_none = record { within = zero-le; tells = refl }
 
   pub collect_more : (bits i r : ℕ) (d : A) → Collected f xs bits i → i < length xs → ltb r 16777216 ≡ f (get_or xs i d) → Collected f xs (bit_or bits r) (i + 1)
   collect_more bits i r d q h e =

@@ -1,4 +1,6 @@
 // The fade of a stolen voice and the sum of a bus on whole numbers, for converters that take samples from -2^23 to 2^23 - 1. Blocks are lent; nothing is kept.
+#![tactic(auto)]
+
 ghost use Rattle.std.specs.Prelude.{◌≡◌, ℕ, ◌*◌, ◌<◌, ◌≤◌, min, T, length, pos, ◌+ℤ◌, ◌-ℤ◌, FitsSigned, nat_eq, nat_lt, slice_index, slice_index_or};
 ghost use Rattle.std.specs.Int.{w32};
 ghost use Rattle.bus.specs.Block.{each, block_of, is_channels};

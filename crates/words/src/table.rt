@@ -2,6 +2,9 @@ ghost use Rattle.std.specs.Prelude.{◌≡◌, ◌+◌, ◌≤◌, min, length, 
 ghost use Rattle.std.proofs.lemmas.List.Edits.{sets};
 ghost use Rattle.words.specs.Rows.{Apart, row_at, row_put, word_put, fields_put, row_moved, opened};
 
+pub use lists::number::at_most;
+pub use lists::word::wide;
+
 // The word at `i`, or 0 past the end.
 pub fn word(t: &[u32], i: usize) -> u32
     ensures { result ≡ get_or t.now i 0 }

@@ -1,0 +1,8 @@
+-- `bus::derive_noise_seed` meets its contract.
+use Rattle.bus.proofs.Digits.{seed_is}
+use Rattle.bus.proofs.derive_noise_seed.Goals as goal
+
+pub returns : goal.returns
+returns c =
+    seed_is c.args.sequence c.args.node c.wrapping_mul.result c.wrapping_mul-2.result
+    c.wrapping_mul.ensures c.wrapping_mul-2.ensures

@@ -1,0 +1,17 @@
+-- `whole_samples::add_block` meets its contract: the sums up to i have their samples, whose bits are collected, and the rest is as it was.
+use Rattle.std.proofs.Common.{◌≡◌, ℕ, ◌+◌, ◌-◌, ◌%◌, List, length, get_or, ℤ, pos}
+use Rattle.bus.proofs.Blocks.{Filling}
+use Rattle.whole_bus.specs.Sample.{is_sample}
+use Rattle.whole_bus.specs.Raised.{above_lowest}
+use Rattle.whole_bus.proofs.Ranges.{Collected}
+use Rattle.whole_samples.proofs.add_block.Given as goal
+
+-- sum i with its sample
+abbrev pub added : List ℤ → List ℕ → ℕ → ℕ
+added a sums i = (get_or sums i 0 + above_lowest (get_or a i (pos 0))) % 4294967296
+
+abbrev pub invariant-loop-i : goal.invariant-loop-i
+invariant-loop-i l = Filling (added l.a l.initial.sums) l.initial.sums l.sums l.i × Collected is_sample l.a l.bits l.i × (length l.a ≡ length l.initial.sums)
+
+abbrev pub decreases-loop-i : goal.decreases-loop-i
+decreases-loop-i l = length l.initial.sums - l.i
