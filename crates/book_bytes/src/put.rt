@@ -6,8 +6,7 @@ ghost use Rattle.def_book.specs.Held.{held};
 ghost use Rattle.def_book.specs.Bytes.{sorts_of, heading_bytes, node_bytes, edge_bytes, param_bytes, joined};
 ghost use Rattle.def_book.specs.Put.{Put};
 
-use bytes::copy;
-use lists::byte::wide;
+use lists::byte::{copy, wide};
 use lists::number::at_most;
 use node::name::Name;
 use synthdef::def::{DefEdge, DefEdges, DefNode, DefNodes, Param, Params};

@@ -4,5 +4,3 @@ pub mod SoFar
 pub mod Theorem
 pub mod Found
 pub mod Rows
-pub mod LocalArray
-pub mod LendRows

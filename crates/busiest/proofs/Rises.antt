@@ -5,7 +5,7 @@ use mathlib.Core.Path.{◌≡◌, refl, sym, ap, ◌∙◌}
 use mathlib.Core.Logic.{◌⊎◌, inl, inr, ⊎_elim}
 use mathlib.Core.List.{List, [], ◌∷◌, ◌++◌}
 use mathlib.Core.Option.{some}
-use mathlib.Core.Bool.{Bool, true, false, false≢true, ◌||◌, or_true}
+use mathlib.Core.Bool.{Bool, true, false, false≢true, ◌||◌, or-true}
 use lib.Dec.{ltb}
 use lib.ListN.{length, take, get_or}
 use borrow.Author.Tests.{ltb-true, ltb-false, lt-ltb}
@@ -72,8 +72,8 @@ falls_not a (x ∷ l) h = go (ltb x a) refl h (falls_not x l)
 pub falls_to : (a : ℕ) (l : List ℕ) (i : ℕ) → suc i < length l → get_or l (suc i) 0 < get_or l i 0 → falls_from a l ≡ true
 falls_to a [] i h f = absurd (omega arith)
 falls_to a (x ∷ []) i h f = absurd (omega arith)
-falls_to a (x ∷ y ∷ l) zero h f = rw (lt-ltb y x f) (or_true (ltb x a))
-falls_to a (x ∷ y ∷ l) (suc i) h f = let k : suc i < length (y ∷ l) = omega arith in rw (falls_to x (y ∷ l) i k f) (or_true (ltb x a))
+falls_to a (x ∷ y ∷ l) zero h f = rw (lt-ltb y x f) (or-true (ltb x a))
+falls_to a (x ∷ y ∷ l) (suc i) h f = let k : suc i < length (y ∷ l) = omega arith in rw (falls_to x (y ∷ l) i k f) (or-true (ltb x a))
 
 pub falls_from_lem : (a : ℕ) (l : List ℕ) → falls_from a l ≡ true → (get_or l 0 0 < a) ⊎ ((i : ℕ) × (suc i < length l) × (get_or l (suc i) 0 < get_or l i 0))
 falls_from_lem a [] h = absurd (false≢true h)

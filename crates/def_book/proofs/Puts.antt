@@ -8,11 +8,12 @@ use mathlib.Core.List.{List, [], ◌∷◌, ◌++◌, map, append_assoc, append-
 use mathlib.Core.Bool.{Bool, true, false}
 use lib.ListN.{length, take, drop, get_or, replicate, length-append, length-drop, length-take}
 use lib.Dec.{leb}
-use lib.Seq.{take_all, take-nil, take-suc, take-append_seam, drop-append_seam, drop-drop, take-length, drop-length}
+use lib.Seq.{take_all, take-nil, take-suc}
 use borrow.Author.Tests.{leb-true, leb-false}
 use borrow.Rule.Slice.PartMut.{mid_of, put_mid}
+use Rattle.lists.specs.Written.{written}
 use Rattle.lists.proofs.Member.{map_append}
-use Rattle.lists.proofs.Written.{written_then, written_copy, written_long}
+use Rattle.lists.proofs.Written.{written_then, written_long}
 use Rattle.def_book.specs.Held.{held}
 use Rattle.def_book.specs.Bytes.{joined}
 use Rattle.def_book.specs.Put.{Put}
@@ -22,8 +23,8 @@ pub then : {a b x y z : List ℕ} {p q : ℕ} → Put a x y p → Put b (mid_of 
 then {a = a} {b} {x} e f = record { placed = written_then a b x e.placed e.long f.placed; long = omega (arith, e.long, f.long, length-append a b) }
 
 -- a text that was copied
-pub copied : (s text x y : List ℕ) (r : ℕ) → s ≡ text → r ≡ length s → y ≡ take (length s) s ++ drop (length s) x → Put text x y r
-copied s text x y r t e f = rw (← t) record { placed = written_copy s x f; long = e }
+pub copied : (s text x y : List ℕ) (r : ℕ) → s ≡ text → r ≡ length s → y ≡ written s x → Put text x y r
+copied s text x y r t e f = rw (← t) record { placed = f; long = e }
 
 pub same_text : {a b x y : List ℕ} {r : ℕ} → a ≡ b → Put a x y r → Put b x y r
 same_text t e = rw (← t) (record { placed = e.placed; long = e.long })

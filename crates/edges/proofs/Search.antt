@@ -7,7 +7,7 @@ use native.Mathlib.Nat.{add-zero, suc-add, add-suc}
 use mathlib.Core.Path.{◌≡◌, refl, sym, ap, ◌∙◌}
 use mathlib.Core.List.{List, ◌∷◌}
 use mathlib.Core.Option.{none, some}
-use mathlib.Core.Bool.{true, false, ◌&&◌, and_false}
+use mathlib.Core.Bool.{true, false, ◌&&◌, and-false}
 use lib.Dec.{eqb}
 use lib.ListN.{length, take, drop, get_or, set, length-set}
 use lib.Seq.{get_or-set_same, get_or-set_other, ext_get_or}
@@ -17,7 +17,6 @@ use Rattle.lists.proofs.Table.{left_row}
 use Rattle.node.specs.declared.record.NodeId.{NodeId}
 use Rattle.node.specs.declared.record.Edge.{Edge}
 use Rattle.edges.specs.declared.ports.Source.{Source}
-use Rattle.edges.specs.declared.ports.Source.TheVariants as Source
 use Rattle.edges.specs.Wiring.{ends_at, taken}
 use Rattle.edges.specs.Ports.{lowest, source_at, source_of, sources_from}
 
@@ -67,7 +66,7 @@ module _ (table : List Source) (e : Edge) (es : List Edge) (n : NodeId) (all : L
   says_node o = says_skip (λ p h. ap (λ b. b && eqb e.port p) (ne_eqb e.to.0 n.0 o))
 
   pub says_port : 64 ≤ e.port → Says table all n
-  says_port o = says_skip (λ p h. ap (λ b. eqb e.to.0 n.0 && b) (ne_eqb e.port p (λ z. omega arith)) ∙ and_false (eqb e.to.0 n.0))
+  says_port o = says_skip (λ p h. ap (λ b. eqb e.to.0 n.0 && b) (ne_eqb e.port p (λ z. omega arith)) ∙ and-false (eqb e.to.0 n.0))
 
   -- one that does is the first there
   pub says_hit : e.to.0 ≡ n.0 → e.port < 64 → Says (set table e.port (Source.From e.from)) all n
@@ -84,7 +83,7 @@ module _ (table : List Source) (e : Edge) (es : List Edge) (n : NodeId) (all : L
           ∙ get_or-set_same table e.port (Source.From e.from) Source.Nothing inside
           ∙ ap (λ b. source_of (map_o (λ x. x.from) (or? b e (find (ends_at n p) es)))) (sym hit)
       go p h (no o') =
-          let off : ends_at n p e ≡ false = ap (λ b. eqb e.to.0 n.0 && b) (ne_eqb e.port p (λ z. o' (sym z))) ∙ and_false (eqb e.to.0 n.0) in
+          let off : ends_at n p e ≡ false = ap (λ b. eqb e.to.0 n.0 && b) (ne_eqb e.port p (λ z. o' (sym z))) ∙ and-false (eqb e.to.0 n.0) in
           get_or-set_other table e.port p (Source.From e.from) Source.Nothing o'
           ∙ inv.1 p h
           ∙ ap (λ b. source_of (map_o (λ x. x.from) (or? b e (find (ends_at n p) es)))) (sym off)

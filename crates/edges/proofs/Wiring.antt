@@ -4,7 +4,7 @@ use native.Mathlib.Omega.{arith}
 use mathlib.Core.Path.{◌≡◌, refl, sym, ap, ◌∙◌}
 use mathlib.Core.List.{List, [], ◌∷◌, ◌++◌}
 use mathlib.Core.Option.{Option, none, some}
-use mathlib.Core.Bool.{Bool, true, false, not, cond, ◌&&◌, and_false}
+use mathlib.Core.Bool.{Bool, true, false, not, cond, ◌&&◌, and-false}
 use lib.Dec.{leb}
 use lib.ListN.{length}
 use borrow.Author.Tests.{le-leb, lt-leb, leb-false}
@@ -42,7 +42,7 @@ place_left es n p h = go (taken es n p) refl
     go : (b : Bool) → taken es n p ≡ b → leb 1024 (length (drop_at es n p)) ≡ (leb 1024 (length es) && not b)
     go true e =
         let fewer : length (drop_at es n p) < 1024 = omega (arith, h, drop_fewer es n p e) in
-        lt-leb _ _ fewer ∙ sym (and_false (leb 1024 (length es)))
+        lt-leb _ _ fewer ∙ sym (and-false (leb 1024 (length es)))
     go false e = ap (λ l. leb 1024 (length l)) (drop_none es n p e) ∙ and_true' (leb 1024 (length es))
       where
         and_true' : (b : Bool) → b ≡ (b && true)

@@ -6,9 +6,7 @@ use Rattle.lists.specs.Find.{find, map_o}
 use Rattle.node.specs.declared.record.NodeId.{NodeId}
 use Rattle.node.specs.declared.record.Edge.{Edge}
 use Rattle.edges.specs.declared.ports.Port.{Port}
-use Rattle.edges.specs.declared.ports.Port.TheVariants as Port
 use Rattle.edges.specs.declared.ports.Source.{Source}
-use Rattle.edges.specs.declared.ports.Source.TheVariants as Source
 use Rattle.edges.specs.Wiring.{ends_at, taken}
 
 abbrev pub port_of : Option ℕ → Port

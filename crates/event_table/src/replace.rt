@@ -21,7 +21,7 @@ use words::fields::{long_at, name_words};
 use words::table::{move_row, word, word_at};
 
 // What of a new event decides whom it replaces, beside its parameter's name in words. `gate` says that the parameter is `gate`.
-#[derive(Drop)]
+#[derive(Clone, Copy)]
 pub(crate) struct Key {
     time: u64,
     voice: u64,

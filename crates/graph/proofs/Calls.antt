@@ -15,7 +15,6 @@ use Rattle.node.specs.declared.record.Edge.{Edge}
 use Rattle.node.specs.declared.refusal.Refusal.{Refusal}
 use Rattle.node.specs.declared.refusal.Refusal.TheVariants.{UnknownNode, VoiceNode, PortOrKind, TableFull, IdsUsedUp}
 use Rattle.graph.specs.declared.state.Answer.{Answer}
-use Rattle.graph.specs.declared.state.Answer.TheVariants as Answer
 use Rattle.graph.specs.View.{GraphView}
 use Rattle.graph.specs.Node.{of_voice, ports_of}
 use Rattle.graph.specs.Refuse.{when, dead, wire_test, append_refusal}

@@ -5,7 +5,7 @@ use native.Mathlib.Decide.{ℕ_discrete}
 use mathlib.Core.Path.{◌≡◌, refl, sym, ap, fun_ext, ◌∙◌}
 use mathlib.Core.List.{List, [], ◌∷◌, map}
 use mathlib.Core.Option.{Option, none, some}
-use mathlib.Core.Bool.{Bool, true, false, not, ◌&&◌, ◌||◌, or_assoc, or_false}
+use mathlib.Core.Bool.{Bool, true, false, not, ◌&&◌, ◌||◌, or_assoc, or-false}
 use lib.Dec.{eqb}
 use borrow.Author.Tests.{eq-eqb, ne_eqb}
 use Rattle.lists.specs.Filter.{put?, filter}
@@ -50,7 +50,7 @@ listed_more k x ids = go (ℕ_discrete k x)
 
 -- one number alone
 pub listed_one : (k x : ℕ) → listed (k ∷ []) x ≡ eqb x k
-listed_one k x = listed_more k x [] ∙ or_false (eqb x k)
+listed_one k x = listed_more k x [] ∙ or-false (eqb x k)
 
 module _ (q p : Node → Bool) where
   -- those that go then, of those that are left

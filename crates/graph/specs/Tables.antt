@@ -5,9 +5,7 @@ use Rattle.node.specs.declared.record.NodeId.{NodeId}
 use Rattle.node.specs.declared.record.Node.{Node}
 use Rattle.node.specs.declared.refusal.Refusal.{Refusal}
 use Rattle.graph.specs.declared.state.Sink.{Sink}
-use Rattle.graph.specs.declared.state.Sink.TheVariants as Sink
 use Rattle.graph.specs.declared.state.Answer.{Answer}
-use Rattle.graph.specs.declared.state.Answer.TheVariants as Answer
 use Rattle.graph.specs.declared.nodes.FoundNode.{FoundNode}
 
 abbrev pub sink_of : Sink → Option NodeId

@@ -10,7 +10,7 @@ use lib.Seq.{sets}
 use borrow.Author.Tests.{ltb-true, ltb-false}
 use Rattle.node.specs.Node.{with_noise}
 use Rattle.words.specs.Rows.{row_at, fields_put}
-use Rattle.words.proofs.Words.{spell, spelled}
+use Rattle.words.proofs.Words.{spelled}
 use Rattle.words.proofs.Rows.{row_is, rows_kept, at_long}
 use Rattle.words.proofs.Within.{put_past, fields_is}
 use Rattle.graph_rows.specs.Node.{node_of, nodes_in}

@@ -4,7 +4,7 @@ use native.Mathlib.Omega.{arith}
 use native.Mathlib.Decide.{ℕ_discrete}
 use mathlib.Core.Path.{◌≡◌, refl, sym, ap, ◌∙◌}
 use mathlib.Core.List.{List, [], ◌∷◌}
-use mathlib.Core.Bool.{Bool, true, false, ◌&&◌, and_false}
+use mathlib.Core.Bool.{Bool, true, false, ◌&&◌, and-false}
 use lib.Dec.{eqb}
 use lib.ListN.{length, get_or, set, replicate, length-set, get_or-replicate}
 use lib.Seq.{get_or-set_same, get_or-set_other}
@@ -42,5 +42,5 @@ module _ (fed : List Bool) (e : Edge) (es : List Edge) (n : NodeId) (all : List 
           ap (λ k. get_or (set fed k true) p false) place ∙ get_or-set_same fed p true false inside ∙ ap (λ b. is_some (or? b e (find (ends_at n p) es))) (sym hit)
       go p h (no o) =
           let other : p ≡ min e.port 64 → ⊥ = λ q. let same : p ≡ e.port = omega arith in o same in
-          let off : ends_at n p e ≡ false = ap (λ b. eqb e.to.0 n.0 && b) (ne_eqb e.port p (λ z. o (sym z))) ∙ and_false (eqb e.to.0 n.0) in
+          let off : ends_at n p e ≡ false = ap (λ b. eqb e.to.0 n.0 && b) (ne_eqb e.port p (λ z. o (sym z))) ∙ and-false (eqb e.to.0 n.0) in
           get_or-set_other fed (min e.port 64) p true false other ∙ inv.are p h ∙ ap (λ b. is_some (or? b e (find (ends_at n p) es))) (sym off)

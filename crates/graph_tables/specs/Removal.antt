@@ -14,7 +14,6 @@ use Rattle.graph.specs.Tables.{sink_of}
 use Rattle.graph_rows.specs.Node.{nodes_in}
 use Rattle.graph_rows.specs.Edge.{edges_in}
 use Rattle.graph_tables.specs.declared.removal.Leaving.{Leaving}
-use Rattle.graph_tables.specs.declared.removal.Leaving.TheVariants as Leaving
 use Rattle.graph_tables.specs.declared.removal.Parted.{Parted}
 use Rattle.graph_tables.specs.declared.removal.Left.{Left}
 

@@ -1,5 +1,7 @@
 // The processing order and prepare, from graph.rs, on the lent tables: nodes and edges are read where they stand, and the order
 // is written to a table of node ids, once nothing is refused.
+#![tactic(auto)]
+
 ghost use Rattle.std.specs.Prelude.{◌≡◌, map, ℕ, ◌≤◌, ◌<◌, ◌^◌, min, length, take, get_or, replicate};
 ghost use Rattle.rank.specs.Names.{row_of};
 ghost use Rattle.rank.specs.Order.{upto, arcs};

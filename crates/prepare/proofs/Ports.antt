@@ -6,7 +6,7 @@ use native.Mathlib.Numerals.{add-one}
 use native.Mathlib.Decide.{ℕ_discrete}
 use mathlib.Core.Path.{◌≡◌, refl, sym, ap, ◌∙◌}
 use mathlib.Core.List.{List, [], ◌∷◌}
-use mathlib.Core.Bool.{Bool, true, false, ◌&&◌, ◌||◌, not, and_false, or_true}
+use mathlib.Core.Bool.{Bool, true, false, ◌&&◌, ◌||◌, not, and-false, or-true}
 use lib.Dec.{eqb, ltb}
 use lib.ListN.{length, drop, get_or, set, length-set}
 use lib.Seq.{get_or-set_same, get_or-set_other}
@@ -31,10 +31,10 @@ module _ (flags flags' : List Bool) (n f : ℕ) (fs : List ℕ) (t : ℕ) (ts : 
   flag_from q h = same q (λ r p hr hp. rw (le-ltb f n h))
 
   pub flag_to : flags' ≡ flags → n ≤ t → Flags flags' n fs ts es all
-  flag_to q h = same q (λ r p hr hp. rw (ne_eqb t r (λ z. omega arith)) (and_false (ltb f n)))
+  flag_to q h = same q (λ r p hr hp. rw (ne_eqb t r (λ z. omega arith)) (and-false (ltb f n)))
 
   pub flag_port : flags' ≡ flags → 64 ≤ e.port → Flags flags' n fs ts es all
-  flag_port q h = same q (λ r p hr hp. rw (ne_eqb e.port p (λ z. omega arith), and_false (eqb t r)) (and_false (ltb f n)))
+  flag_port q h = same q (λ r p hr hp. rw (ne_eqb e.port p (λ z. omega arith), and-false (eqb t r)) (and-false (ltb f n)))
 
   pub flag_set : flags' ≡ set flags (t * 64 + e.port) true → f < n → t < n → e.port < 64 → n ≤ 512 → Flags flags' n fs ts es all
   unfolding plugs
@@ -47,14 +47,14 @@ module _ (flags flags' : List Bool) (n f : ℕ) (fs : List ℕ) (t : ℕ) (ts : 
           let b : e.port ≡ p = omega arith in
           let k : t * 64 + e.port < length flags = omega (arith, inv.0) in
           rw (s, get_or-set_same flags (t * 64 + e.port) true false k)
-          (sym (or_true (get_or flags (r * 64 + p) false)) ∙ (rw (lt-ltb f n hf, eq-eqb t r a, eq-eqb e.port p b) at (inv.1 r p lr lp)))
+          (sym (or-true (get_or flags (r * 64 + p) false)) ∙ (rw (lt-ltb f n hf, eq-eqb t r a, eq-eqb e.port p b) at (inv.1 r p lr lp)))
       go r p lr lp (no o) =
           let z : (eqb t r && eqb e.port p) ≡ false = off (ℕ_discrete t r) (ℕ_discrete e.port p) in
-          rw (get_or-set_other flags (t * 64 + e.port) (r * 64 + p) true false o) (rw (z, and_false (ltb f n)) at (inv.1 r p lr lp))
+          rw (get_or-set_other flags (t * 64 + e.port) (r * 64 + p) true false o) (rw (z, and-false (ltb f n)) at (inv.1 r p lr lp))
         where
           off : Dec (t ≡ r) → Dec (e.port ≡ p) → (eqb t r && eqb e.port p) ≡ false
           off (yes a) (yes b) = absurd (o (omega arith))
-          off (yes a) (no b) = rw (ne_eqb e.port p b) (and_false (eqb t r))
+          off (yes a) (no b) = rw (ne_eqb e.port p b) (and-false (eqb t r))
           off (no a) d = rw (ne_eqb t r a)
 
 or_false : (b : Bool) → (b || false) ≡ b
@@ -89,7 +89,7 @@ pub lack_on : (mask left p : ℕ) (flag : Bool) → left ≡ mask / 2 ^ p → le
 lack_on mask left p flag e h f = rw (← e, eq-eqb (left % 2) 1 h, f)
 
 pub lack_fed : (mask p : ℕ) (flag : Bool) → not flag ≡ false → (bit mask p && not flag) ≡ false
-lack_fed mask p flag f = rw f (and_false (bit mask p))
+lack_fed mask p flag f = rw f (and-false (bit mask p))
 
 pub lack_off : (mask left p : ℕ) (flag : Bool) → left ≡ mask / 2 ^ p → (left % 2 ≡ 1 → ⊥) → (bit mask p && not flag) ≡ false
 lack_off mask left p flag e o = rw (← e, ne_eqb (left % 2) 1 o)

@@ -6,7 +6,7 @@ use native.Mathlib.Decide.{ℕ_discrete, dec_lt}
 use mathlib.Core.Path.{◌≡◌, refl, sym, ap, subst, ◌∙◌}
 use mathlib.Core.Logic.{◌≢◌}
 use mathlib.Core.List.{List, [], ◌∷◌, ◌++◌, append-nil}
-use mathlib.Core.Bool.{Bool, true, false, ◌&&◌, ◌||◌, not, and_true}
+use mathlib.Core.Bool.{Bool, true, false, ◌&&◌, ◌||◌, not, and-true}
 use borrow.Author.Tests.{eq-eqb, ne_eqb, lt-ltb, le-ltb}
 use lib.Dec.{eqb, ltb}
 use lib.ListN.{length, take, drop, get_or, get_or-eq_default, drop_of_length-le}
@@ -78,18 +78,18 @@ length_upto n = length_count n 0
 
 live_left : (n : ℕ) (es : List Arc) → live (upto n) es ≡ left n [] es
 unfolding among
-live_left n es = filter_same _ _ es (λ e _. rw (among_upto n e.from, among_upto n e.to, and_true (ltb e.from n && ltb e.to n)))
+live_left n es = filter_same _ _ es (λ e _. rw (among_upto n e.from, among_upto n e.to, and-true (ltb e.from n && ltb e.to n)))
 
 module _ (n w : ℕ) (hw : w < n) (q : List ℕ) (o : among w q ≡ false) (es : List Arc) where
   own_left : own w (left n q es) ≡ mine n w es
   own_left = filter_filter _ _ es ∙ filter_same _ _ es (λ e _. go e (ℕ_discrete e.from w))
     where
       go : (e : Arc) → Dec (e.from ≡ w) → (eqb e.from w && ((ltb e.from n && ltb e.to n) && not (among e.from q))) ≡ (eqb e.from w && ltb e.to n)
-      go e (yes p) = rw (p, lt-ltb w n hw, o, and_true (ltb e.to n))
+      go e (yes p) = rw (p, lt-ltb w n hw, o, and-true (ltb e.to n))
       go e (no p) = rw (ne_eqb e.from w p)
 
   others_left : others w (left n q es) ≡ left n (q ++ (w ∷ [])) es
-  others_left = filter_filter _ _ es ∙ filter_same _ _ es (λ e _. rw (among_snoc e.from q w) (go (eqb e.from w) (ltb e.from n && ltb e.to n) (among e.from q)))
+  others_left = filter_filter _ _ es ∙ filter_same _ _ es (λ e _. step e)
     where
       go : (a b c : Bool) → (not a && (b && not c)) ≡ (b && not (c || a))
       go true true true = refl
@@ -98,6 +98,11 @@ module _ (n w : ℕ) (hw : w < n) (q : List ℕ) (o : among w q ≡ false) (es :
       go false true true = refl
       go false true false = refl
       go false false c = refl
+
+      step :
+          (e : Arc) →
+          (not (eqb e.from w) && ((ltb e.from n && ltb e.to n) && not (among e.from q))) ≡ ((ltb e.from n && ltb e.to n) && not (among e.from (q ++ (w ∷ []))))
+      step e = rw (among_snoc e.from q w) (go (eqb e.from w) (ltb e.from n && ltb e.to n) (among e.from q))
 
 opens_into : (n : ℕ) (q : List ℕ) (es : List Arc) (v : ℕ) → v < n → opens n q es v ≡ into v (left n q es)
 unfolding opens

@@ -6,7 +6,7 @@ use native.Mathlib.Decide.{ℕ_discrete, dec_lt}
 use mathlib.Core.Path.{◌≡◌, refl, sym, ap, subst, ◌∙◌}
 use mathlib.Core.Logic.{◌≢◌, inl, inr}
 use mathlib.Core.List.{List, [], ◌∷◌, ◌++◌, append-nil}
-use mathlib.Core.Bool.{Bool, true, false, ◌&&◌, ◌||◌, not, and_true, or_true, false≢true}
+use mathlib.Core.Bool.{Bool, true, false, ◌&&◌, ◌||◌, not, and-true, or-true, false≢true}
 use borrow.Author.Tests.{eq-eqb, ne_eqb, eqb-true, ltb-true}
 use lib.Dec.{eqb, ltb}
 use lib.ListN.{length, take, get_or, set, length-append, length-set, get_or-eq_default, replicate, length-replicate, get_or-replicate}
@@ -63,7 +63,7 @@ opens n q (e ∷ es) v = more ((ltb e.from n && eqb e.to v) && not (among e.from
 pub opens_none : (n : ℕ) (es : List Arc) (v : ℕ) → opens n [] es v ≡ indeg n es v
 unfolding opens indeg among
 opens_none n [] v = refl
-opens_none n (e ∷ es) v = rw (and_true (ltb e.from n && eqb e.to v), opens_none n es v)
+opens_none n (e ∷ es) v = rw (and-true (ltb e.from n && eqb e.to v), opens_none n es v)
 
 -- how many edges go from w to v
 unfoldable pub cnt : ℕ → List Arc → ℕ → ℕ
@@ -155,7 +155,7 @@ among_append x (y ∷ q) r h = go (eqb x y) h (among_append x q r)
     go false h ih = ih h
 
 pub among_last : (q : List ℕ) (t : ℕ) → among t (q ++ (t ∷ [])) ≡ true
-among_last q t = among_snoc t q t ∙ rw (eq-eqb t t refl, or_true (among t q))
+among_last q t = among_snoc t q t ∙ rw (eq-eqb t t refl, or-true (among t q))
 
 fall_last : (t : ℕ) (s : St) → get_or s.counts t 0 ≡ 1 → among t (fall t s).queue ≡ true
 unfolding fall
@@ -250,7 +250,10 @@ ready_among (c ∷ cs) v zero h z = let q : v + 0 ≡ v = omega arith in rw (eq-
 ready_among (c ∷ cs) v (suc i) h z = go (eqb c 0) (ready_among cs (suc v) i (omega arith) z)
   where
     go : (b : Bool) → among (suc v + i) (ready cs (suc v)) ≡ true → among (v + suc i) (put? b v (ready cs (suc v))) ≡ true
-    go true e = let q : v + suc i ≡ suc v + i = omega arith in rw (q, e, or_true (eqb (suc v + i) v))
+    go true e =
+        let q : v + suc i ≡ suc v + i = omega arith in
+        let f : among (v + suc i) (ready cs (suc v)) ≡ true = rw q e in
+        rw (f, or-true (eqb (v + suc i) v))
     go false e = let q : v + suc i ≡ suc v + i = omega arith in rw q e
 
 pub good_start : (n : ℕ) (es : List Arc) → Good n es 0 (start n es)

@@ -6,7 +6,7 @@ use native.Mathlib.Decide.{ℕ_discrete, dec_lt}
 use mathlib.Core.Path.{◌≡◌, refl, sym, ap, subst, ◌∙◌}
 use mathlib.Core.Logic.{◌≢◌, ◌⊎◌, inl, inr, ⊎_elim}
 use mathlib.Core.List.{List, [], ◌∷◌, ◌++◌}
-use mathlib.Core.Bool.{Bool, true, false, ◌&&◌, ◌||◌, not, or_true, or_false, false≢true}
+use mathlib.Core.Bool.{Bool, true, false, ◌&&◌, ◌||◌, not, or-true, or-false, false≢true}
 use borrow.Author.Tests.{eq-eqb, ne_eqb, lt-ltb}
 use lib.Dec.{eqb, ltb}
 use lib.ListN.{length, take, get_or, length-append, get_or-append}
@@ -136,7 +136,7 @@ module _ (n : ℕ) (es : List Arc) (q : List ℕ) (k w : ℕ) where
         where
           two : Dec (v ≡ t) → get_or (fall t s).counts v 0 ≡ 0
           two (yes z) = rw z (omega (arith, (rw (eq-eqb t t refl) at (fall_count t s t)), r.0))
-          two (no z) = omega (arith, fall_count t s v, m.zero_in v (sym (or_false (among v s.queue)) ∙ (rw (r.1, among_snoc v s.queue t, ne_eqb v t z) at h)))
+          two (no z) = omega (arith, fall_count t s v, m.zero_in v (sym (or-false (among v s.queue)) ∙ (rw (r.1, among_snoc v s.queue t, ne_eqb v t z) at h)))
 
       queue_ok : ((fall t s).queue ≡ s.queue) ⊎ ((get_or s.counts t 0 ≡ 1) × ((fall t s).queue ≡ s.queue ++ (t ∷ []))) → Ok n es (fall t s).queue
       queue_ok (inl r) = rw r m.ok
@@ -240,7 +240,7 @@ among_at : (q : List ℕ) (j : ℕ) → j < length q → among (get_or q j 0) q 
 unfolding among
 among_at [] j h = absurd (not-suc-le-zero h)
 among_at (y ∷ q) zero h = rw (eq-eqb y y refl)
-among_at (y ∷ q) (suc j) h = rw (among_at q j (omega arith), or_true (eqb (get_or q j 0) y))
+among_at (y ∷ q) (suc j) h = rw (among_at q j (omega arith), or-true (eqb (get_or q j 0) y))
 
 pub invariant_start : (n : ℕ) (es : List Arc) → Invariant n es 0 (start n es)
 unfolding start Ok among
@@ -278,7 +278,7 @@ pub in_among : (x : ℕ) (l : List ℕ) → In x l → among x l ≡ true
 unfolding among
 in_among x [] m = absurd m
 in_among x (y ∷ l) (inl p) = rw (eq-eqb x y p)
-in_among x (y ∷ l) (inr m) = rw (in_among x l m, or_true (eqb x y))
+in_among x (y ∷ l) (inr m) = rw (in_among x l m, or-true (eqb x y))
 
 pub in_at : (x : ℕ) (l : List ℕ) → In x l → (j : ℕ) × (j < length l) × (get_or l j 0 ≡ x)
 in_at x [] m = absurd m

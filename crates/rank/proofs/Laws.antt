@@ -6,7 +6,7 @@ use native.Mathlib.Numerals.{add-one}
 use native.Mathlib.Decide.{ℕ_discrete}
 use mathlib.Core.Path.{◌≡◌, refl, sym, ap, ◌∙◌}
 use mathlib.Core.List.{List, [], ◌∷◌, ◌++◌}
-use mathlib.Core.Bool.{Bool, true, false, ◌&&◌, and_false}
+use mathlib.Core.Bool.{Bool, true, false, ◌&&◌, and-false}
 use borrow.Author.Tests.{eq-eqb, ne_eqb, lt-ltb, le-ltb}
 use lib.Dec.{eqb, ltb}
 use lib.ListN.{length, take, drop, get_or, set, length-take, length-set, drop_of_length-le, replicate, length-replicate, get_or-replicate}
@@ -83,7 +83,7 @@ module _ (counts counts' : List ℕ) (n : ℕ) (e : Arc) (left es : List Arc) (i
 
   pub tally_to : counts' ≡ counts → n ≤ e.to → Tally counts' n left es
   unfolding indeg
-  tally_to q h = rw q (inv.0, λ v lt. (rw (ne_eqb e.to v (λ z. omega arith), and_false) at (inv.1 v lt)))
+  tally_to q h = rw q (inv.0, λ v lt. (rw (ne_eqb e.to v (λ z. omega arith), and-false) at (inv.1 v lt)))
 
   pub tally_hit : counts' ≡ set counts e.to (get_or counts e.to 0 + 1) → e.from < n → e.to < n → n ≤ 512 → Tally counts' n left es
   unfolding indeg
@@ -95,7 +95,7 @@ module _ (counts counts' : List ℕ) (n : ℕ) (e : Arc) (left es : List Arc) (i
           let i = rw (lt-ltb _ _ hf, eq-eqb _ _ refl) at (inv.1 e.to ht) in
           rw (s, get_or-set_same counts e.to (get_or counts e.to 0 + 1) 0 (omega arith)) (omega arith)
       go v lt (no o) =
-          rw (get_or-set_other counts e.to v (get_or counts e.to 0 + 1) 0 o) (rw (ne_eqb e.to v (λ z. o (sym z)), and_false) at (inv.1 v lt))
+          rw (get_or-set_other counts e.to v (get_or counts e.to 0 + 1) 0 o) (rw (ne_eqb e.to v (λ z. o (sym z)), and-false) at (inv.1 v lt))
 
 pub tally_done : (counts : List ℕ) (n : ℕ) (es : List Arc) → n ≤ 512 → Tally counts n [] es → take n counts ≡ degs n es n 0
 unfolding indeg

@@ -1,8 +1,10 @@
+#![tactic(auto)]
+
 ghost use Rattle.std.specs.Prelude.{◌≡◌, min, ◌≤◌, length, take, replicate};
 ghost use Rattle.rank.specs.Order.{arcs, upto, order, whole};
 ghost use Rattle.rank.specs.Parts.{Degrees, Linked, Ready, Queued, ranking_of};
 
-use lists::number::at_most;
+pub use lists::number::at_most;
 
 // The order of nodes that are the indices 0 to n - 1: the first `count` of `rows`, and whether they are all.
 #[derive(Clone, Copy)]

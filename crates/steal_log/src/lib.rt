@@ -1,6 +1,8 @@
 // The steal records in words that the host lends: 64 rows of five words. The count of all steals and the next place of the ring
 // stand in the store's state. The words are decoded into `Steals`, the struct of 64 records with the total and the next place,
 // changed there, and written back, by the calls that touch them and no others.
+#![tactic(auto)]
+
 ghost use Rattle.std.specs.Prelude.{◌≡◌, List, [], ℕ, length, get_or, set};
 ghost use Rattle.voice.specs.Steals.{pushed, marked, found_at};
 ghost use Rattle.steal_log.specs.Rows.{steal_of, records_in, steals_in, log_in, Stands};

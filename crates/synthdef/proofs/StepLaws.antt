@@ -4,7 +4,7 @@ use native.Mathlib.Omega.{arith}
 use mathlib.Core.Path.{◌≡◌, refl, ap, ◌∙◌}
 use mathlib.Core.List.{List, []}
 use mathlib.Core.Option.{Option, none, some}
-use mathlib.Core.Bool.{Bool, true, false, ◌&&◌, ◌||◌, cond, or_false}
+use mathlib.Core.Bool.{Bool, true, false, ◌&&◌, ◌||◌, cond, or-false}
 use lib.ListN.{length, replicate}
 use lib.Dec.{ltb, eqb, eqb-suc-suc}
 use borrow.Author.Tests.{ne_eqb}
@@ -97,7 +97,7 @@ module _ (es : List DefEdge) (n : DefNode) (i : ℕ) (few : n.ports ≤ 8) (s : 
   port_of r e p = go (ltb p n.ports)
     where
       go : (b : Bool) → says (step_by es r (cond b (span p 1) (span 0 0)) i) s ≡ (b && q p)
-      go true = rw e (some_of p 1 (omega arith) ∙ or_false (q p))
+      go true = rw e (some_of p 1 (omega arith) ∙ or-false (q p))
       go false = rw e
 
   all_ports : min n.ports 8 ≡ n.ports
@@ -106,7 +106,7 @@ module _ (es : List DefEdge) (n : DefNode) (i : ℕ) (few : n.ports ≤ 8) (s : 
   step_by_lem : (r : SilenceRule) → says (step_by es r (span_of r n) i) s ≡ by_rule r n q
   step_by_lem Own = refl
   step_by_lem AnyPort = rw all_ports (some_of 0 n.ports few)
-  step_by_lem FirstPort = some_of 0 1 (omega arith) ∙ or_false (q 0)
+  step_by_lem FirstPort = some_of 0 1 (omega arith) ∙ or-false (q 0)
   step_by_lem EveryPort = rw all_ports (sum_of n.ports few)
   step_by_lem LevelPort = rw all_ports (port_of LevelPort refl n.level_port)
   step_by_lem AmpPort = rw all_ports (port_of AmpPort refl n.amp_port)

@@ -3,7 +3,7 @@ ghost use Rattle.synthdef.specs.Tables.{edge_rows, edge_table};
 ghost use Rattle.synthdef.specs.Edges.{counted, taken, ends_at};
 
 use crate::def::{DefEdge, DefEdges};
-use lists::byte::wide;
+pub use lists::byte::wide;
 use lists::number::at_most;
 
 // Whether `e` ends at the port `port` of the node `node`.

@@ -1,5 +1,7 @@
 // A definition: the template of a voice, from synthdef.rs. Its limits, its counted edges, its parameters, and the done plan
 // that says when a voice built from it has fallen silent.
+#![tactic(auto)]
+
 pub mod def;
 pub mod edges;
 pub mod instance;

@@ -15,7 +15,7 @@ use Rattle.voice.specs.declared.policy.Held.TheVariants as held
 use Rattle.voice.specs.declared.policy.Level.{Level}
 use Rattle.voice.specs.declared.policy.Level.TheVariants.{Known}
 use Rattle.voice.specs.declared.policy.Victim.TheVariants.{Goes}
-use Rattle.voice.specs.Policy.{takes, take?, passed, walk, lowest, newest, oldest}
+use Rattle.voice.specs.Policy.{takes, take?, passed, newest, oldest}
 use Rattle.voice.proofs.Victims.{last_from_lem}
 
 -- a candidate whose level is known

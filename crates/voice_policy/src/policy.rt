@@ -23,6 +23,13 @@ pub fn no_candidates() -> Candidates
     }
 }
 
+// A count above the capacity is the capacity.
+pub fn at_most_64(count: usize) -> usize
+    ensures { result ≡ min count 64 }
+{
+    at_most(count, 64)
+}
+
 // Whether the walk takes a level.
 fn takes_level(h: Held, x: f32) -> bool
     ensures { result ≡ takes h x }

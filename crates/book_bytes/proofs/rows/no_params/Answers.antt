@@ -1,0 +1,8 @@
+-- `book_bytes::rows::no_params` meets its contract.
+use mathlib.Core.Path.{refl}
+use Rattle.def_book.specs.Held.{held}
+use Rattle.book_bytes.proofs.rows.no_params.Goals as goal
+
+pub returns : goal.returns
+unfolding held
+returns c = refl

@@ -1,0 +1,11 @@
+use Prim.Native.Nat.{◌-◌}
+use Rattle.words.proofs.InWords.{ChangingIn}
+use Rattle.graph.specs.Node.{raise_noise}
+use Rattle.graph_rows.specs.Node.{node_of}
+use Rattle.graph_tables.proofs.noise.raise_in.Given as goal
+
+abbrev pub invariant-loop-i : goal.invariant-loop-i
+invariant-loop-i l = ChangingIn 22 node_of (raise_noise l.bus) l.initial.t l.t l.m l.i
+
+abbrev pub decreases-loop-i : goal.decreases-loop-i
+decreases-loop-i l = l.m - l.i

@@ -1,0 +1,10 @@
+use Prim.Native.Nat.{◌-◌}
+use Rattle.words.proofs.Copying.{Copying}
+use Rattle.steal_log.specs.Rows.{records_in}
+use Rattle.steal_log.proofs.read_all.Given as goal
+
+abbrev pub invariant-loop-i : goal.invariant-loop-i
+invariant-loop-i l = Copying 64 (records_in l.t) l.rows l.i
+
+abbrev pub decreases-loop-i : goal.decreases-loop-i
+decreases-loop-i l = 64 - l.i

@@ -1,0 +1,12 @@
+use Prim.Native.Nat.{◌-◌}
+use mathlib.Core.Path.{◌≡◌}
+use lib.ListN.{length}
+use Rattle.words.proofs.Copying.{Copying}
+use Rattle.steal_log.specs.Rows.{records_in}
+use Rattle.steal_log.proofs.write_all.Given as goal
+
+abbrev pub invariant-loop-i : goal.invariant-loop-i
+invariant-loop-i l = (length l.t ≡ length l.initial.t) × Copying 64 l.s.rows (records_in l.t) l.i
+
+abbrev pub decreases-loop-i : goal.decreases-loop-i
+decreases-loop-i l = 64 - l.i
