@@ -27,7 +27,7 @@ use Rattle.ledger.specs.Call.{run}
 use Rattle.console.specs.Wishes.{new_wishes}
 use Rattle.console.specs.Console.{Console, make_console}
 use Rattle.console.specs.Console as console
-use Rattle.isolation.specs.Agree.{Matching, SameSpawn, Arrive, let_in}
+use Rattle.isolation.specs.Agree.{Matching, SameSpawn, Equal, Arrive, let_in}
 use Rattle.isolation.specs.Agree as agree
 use Rattle.isolation.proofs.Scenes.{every, covered}
 use Rattle.isolation.proofs.AgreeScene.{made, ids, one_node, spawn_on, agreement}
@@ -36,7 +36,7 @@ use Rattle.sealed.specs.declared.refusal.SealRefusal.TheVariants.{NotAccepted, C
 use Rattle.sealed.specs.Board.{Board, BoardCall, on, seal, BoardAnswer, given, sealed, refused, board_run, new_board}
 use Rattle.console_isolation.specs.Isolated.{calls_from}
 use Rattle.board_isolation.specs.Isolated.{let_through, BoardIsolation}
-use Rattle.board_isolation.specs.Agree.{Asked, sealing, passed, shut, asked, SameProfile, managed, sealings, both_passed, both_shut, first_shut, AgreeAsked, ends, first, both, BoardAgreement}
+use Rattle.board_isolation.specs.Agree.{Asked, sealing, passed, shut, asked, SameProfile, SameSpawns, managed, ledger_by, sealings, both_passed, both_shut, first_shut, AgreeAsked, ends, first, both, BoardAgreement}
 use Rattle.board_isolation.proofs.Theorem.{board_isolated}
 
 -- one keyboard
@@ -152,33 +152,87 @@ alone_answers : answers alone ≡ done (call.node (id 0)) ∷ sealed ∷ done (s
 unfolding eq whole order walk released fed among count_up settled
 alone_answers = refl
 
--- before the spawn on the bus
+-- what a call leaves
+abbrev after : Call → Ledger → Ledger
+after x k = ledger_by (passed x) k
+
+abbrev start : Ledger
+start = new_ledger made
+
+abbrev hosted : Ledger
+hosted = after (host 2) start
+
+-- before the spawn on the bus, and after it
+abbrev k₀ : Ledger
+k₀ = after (host 2) hosted
+
 abbrev k₁ : Ledger
-k₁ = (run (host 2 ∷ host 2 ∷ spawn 0 ∷ free 1 ∷ wire 1 0 0 ∷ []) (new_ledger made)).ledger
+k₁ = after (wire 1 0 0) (after (free 1) (after (spawn 0) k₀))
 
-abbrev l₁ : Ledger
-l₁ = (run (host 2 ∷ []) (new_ledger made)).ledger
+abbrev k₂ : Ledger
+k₂ = after (spawn 1) k₁
 
-let_in_lem : Arrive ids (let_in (spawn_managed (spawn_on 1) k₁)) (let_in (spawn_managed (spawn_on 0) l₁))
+abbrev l₂ : Ledger
+l₂ = after (spawn 0) hosted
+
+let_in_lem : Arrive ids (let_in (spawn_managed (spawn_on 1) k₁)) (let_in (spawn_managed (spawn_on 0) hosted))
 unfolding eq whole order walk released fed among count_up settled
 let_in_lem = (inl refl, one_node)
 
-pub sealed_agreement : BoardAgreement ids made (id 1) (id 0) (asked played new) (asked alone new)
-unfolding eq whole order walk released fed among count_up settled
-sealed_agreement =
-    record {
-      nodes = agreement.nodes;
-      voices = agreement.voices;
-      bus = agreement.bus;
-      calls = first refl (both refl refl (both_passed agree.added) (first refl (first refl (first refl (both refl refl (sealings same refl) (first refl
-          (both refl refl (both_passed (agree.managed {x = spawn_on 1} {y = spawn_on 0} {k = k₁} {l = l₁} spawns let_in_lem)) (both refl refl (both_shut (managed spawns)) ends))))))));
-    }
-  where
-    same : SameProfile ids (profile 1 2 1 1) (profile 0 1 0 1)
-    same = record { bus = inl refl; def_nodes = refl; def_edges = refl }
+same_profile : SameProfile ids (profile 1 2 1 1) (profile 0 1 0 1)
+same_profile = record { bus = inl refl; def_nodes = refl; def_edges = refl }
 
-    spawns : {d : SynthDef} → SameSpawn ids (spawn_of d (id 1) (float 0) 0) (spawn_of d (id 0) (float 0) 0)
-    spawns = record { def = refl; bus = inl refl; pan = refl; rank = refl }
+spawns : (d : SynthDef) → SameSpawn ids (spawn_of d (id 1) (float 0) 0) (spawn_of d (id 0) (float 0) 0)
+spawns d = record { def = refl; bus = inl refl; pan = refl; rank = refl }
+
+same_spawn : Equal ids (id 1) (id 0) (spawn 1) k₁ (spawn 0) hosted
+unfolding eq whole order walk released fed among count_up settled
+same_spawn = agree.managed {x = spawn_on 1} {y = spawn_on 0} {k = k₁} {l = hosted} (spawns tone_def) let_in_lem
+
+same_large : SameSpawns ids (large 1) (large 0)
+same_large = managed (spawns (tones 2 0))
+
+-- from the large spawn on, then from each call before it
+from_large : AgreeAsked ids (id 1) (id 0) (shut (large 1) ∷ []) k₂ (shut (large 0) ∷ []) l₂
+unfolding eq whole order walk released fed among count_up settled
+from_large =
+    both {x = shut (large 1)} {y = shut (large 0)} {xs = []} {ys = []} {k = k₂} {l = l₂} refl refl
+    (both_shut {x = large 1} {y = large 0} {k = k₂} {l = l₂} same_large) (ends {k = k₂} {l = l₂})
+
+from_spawn : AgreeAsked ids (id 1) (id 0) (passed (spawn 1) ∷ shut (large 1) ∷ []) k₁ (passed (spawn 0) ∷ shut (large 0) ∷ []) hosted
+unfolding eq whole order walk released fed among count_up settled
+from_spawn =
+    both {x = passed (spawn 1)} {y = passed (spawn 0)} {k = k₁} {l = hosted} refl refl
+    (both_passed {x = spawn 1} {y = spawn 0} {k = k₁} {l = hosted} same_spawn) from_large
+
+abbrev sealed_there : List Asked
+sealed_there = sealing (profile 1 2 1 1) sealed ∷ shut (spawn 0) ∷ passed (spawn 1) ∷ shut (large 1) ∷ []
+
+abbrev sealed_here : List Asked
+sealed_here = sealing (profile 0 1 0 1) sealed ∷ passed (spawn 0) ∷ shut (large 0) ∷ []
+
+from_sealing : AgreeAsked ids (id 1) (id 0) sealed_there k₁ sealed_here hosted
+unfolding eq whole order walk released fed among count_up settled
+from_sealing =
+    both {k = k₁} {l = hosted} refl refl (sealings {k = k₁} {l = hosted} same_profile refl)
+    (first {x = shut (spawn 0)} {k = k₁} {l = hosted} refl from_spawn)
+
+others : AgreeAsked ids (id 1) (id 0) (passed (spawn 0) ∷ passed (free 1) ∷ passed (wire 1 0 0) ∷ sealed_there) k₀ sealed_here hosted
+unfolding eq whole order walk released fed among count_up settled
+others =
+    first {x = passed (spawn 0)} {k = k₀} {l = hosted} refl
+    (first {x = passed (free 1)} {k = after (spawn 0) k₀} {l = hosted} refl
+    (first {x = passed (wire 1 0 0)} {k = after (free 1) (after (spawn 0) k₀)} {l = hosted} refl from_sealing))
+
+hosts : AgreeAsked ids (id 1) (id 0) (asked played new) start (asked alone new) start
+unfolding eq whole order walk released fed among count_up settled
+hosts =
+    first {x = passed (host 2)} {k = start} {l = start} refl
+    (both {x = passed (host 2)} {y = passed (host 2)} {k = hosted} {l = start} refl refl
+    (both_passed {x = host 2} {y = host 2} {k = hosted} {l = start} agree.added) others)
+
+pub sealed_agreement : BoardAgreement ids made (id 1) (id 0) (asked played new) (asked alone new)
+sealed_agreement = record { nodes = agreement.nodes; voices = agreement.voices; bus = agreement.bus; calls = hosts }
 
 -- so the theorem holds of them
 every_played : every (run (calls_from 1 (let_through played made_console)) (new_ledger made)).answers ≡ true

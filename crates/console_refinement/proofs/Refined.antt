@@ -11,7 +11,6 @@ use Rattle.refinement.proofs.Refined as store
 use Rattle.console.specs.Console.{Console, ConsoleCall, ConsoleAnswer, plain, ConsoleStep, ConsoleRan, console_run, ConsoleMade, made, make_console}
 use Rattle.console.proofs.Claim.{console_claim}
 use Rattle.call_console.specs.declared.making.MakeAnswer.{MakeAnswer}
-use Rattle.call_console.specs.declared.making.MakeAnswer.TheVariants as MakeAnswer
 use Rattle.call_console.specs.Queues.{wishes_of}
 use Rattle.call_console.specs.Called.{ConsoleMemory, memory, console_of, Called, Kept, made_of}
 use Rattle.call_console.proofs.making.make_console.Reads as fn-make-console

@@ -6,6 +6,7 @@ use mathlib.Core.Path.{◌≡◌, refl, sym, ap, ◌∙◌, subst}
 use mathlib.Core.Logic.{inl, inr}
 use mathlib.Core.List.{List, [], ◌∷◌}
 use lib.Ieee.{eq}
+use lib.ListN.{replicate}
 use Rattle.lists.specs.Member.{In}
 use Rattle.synthdef.specs.Plan.{settled}
 use Rattle.node.specs.Silence.{silence_pass_through, rules}
@@ -27,8 +28,8 @@ use Rattle.model.specs.Call.{Call}
 use Rattle.ledger.specs.Ledger.{Ledger, new_ledger, spawn_managed}
 use Rattle.ledger.specs.Render.{rested}
 use Rattle.ledger.specs.Render as ledger
-use Rattle.ledger.specs.Call.{run}
-use Rattle.isolation.specs.Agree.{Pair, Matching, OneToOne, SameNode, Agree, ends, first, second, both, added, managed, rendered, Arrive, let_in, EachVoice, freed_by_events, Agreement}
+use Rattle.ledger.specs.Call.{step}
+use Rattle.isolation.specs.Agree.{Pair, Matching, OneToOne, SameNode, Equal, Agree, ends, first, second, both, added, managed, rendered, Arrive, let_in, EachVoice, freed_by_events, Agreement}
 
 abbrev pub made : Config
 made = config (AtMost 2) Oldest BudgetScope.PerGroup
@@ -52,18 +53,35 @@ one_node i h = let z : i ≡ 0 = omega arith in subst (λ j. SameNode ids (id (3
 abbrev pub spawn_on : ℕ → Spawn
 spawn_on b = spawn_of tone_def (id b) (float 0) 0
 
+-- what a render is lent
+abbrev lent : List ℕ
+lent = replicate 256 7
+
+-- what a call leaves
+abbrev after : Call → Ledger → Ledger
+after x k = (step x k).ledger
+
+abbrev start : Ledger
+start = new_ledger made
+
+abbrev hosted : Ledger
+hosted = after (host 2) start
+
 -- before the spawn on the bus, and before the render
+abbrev k₀ : Ledger
+k₀ = after (timed_free 3 2) (after (host 2) hosted)
+
 abbrev k₁ : Ledger
-k₁ = (run (host 2 ∷ host 2 ∷ timed_free 3 2 ∷ spawn 0 ∷ []) (new_ledger made)).ledger
+k₁ = after (spawn 0) k₀
 
 abbrev l₁ : Ledger
-l₁ = (run (host 2 ∷ timed_free 5 1 ∷ []) (new_ledger made)).ledger
+l₁ = after (timed_free 5 1) hosted
 
 abbrev k₂ : Ledger
-k₂ = (run (spawn 1 ∷ spawn 0 ∷ []) k₁).ledger
+k₂ = after (spawn 0) (after (spawn 1) k₁)
 
 abbrev l₂ : Ledger
-l₂ = (run (spawn 0 ∷ []) l₁).ledger
+l₂ = after (spawn 0) l₁
 
 let_in_lem : Arrive ids (let_in (spawn_managed (spawn_on 1) k₁)) (let_in (spawn_managed (spawn_on 0) l₁))
 unfolding eq silence_pass_through rules prepare processing_order lacking lacks any live_ids live_nodes rising_from whole order walk released fed among count_up settled
@@ -77,12 +95,37 @@ silent_both : is_sounding (ledger.render k₂).answer ≡ is_sounding (ledger.re
 unfolding eq silence_pass_through rules prepare processing_order lacking lacks any live_ids live_nodes rising_from whole order walk released fed among count_up settled
 silent_both = refl
 
-agree : Agree ids (id 1) (id 0) played (new_ledger made) alone (new_ledger made)
+same_render : Equal ids (id 1) (id 0) render k₂ render l₂
 unfolding eq silence_pass_through rules prepare processing_order lacking lacks any live_ids live_nodes rising_from whole order walk released fed among count_up settled
-agree =
-    first refl (both refl refl added (first refl (second refl (first refl
-    (both refl refl (managed {x = spawn_on 1} {y = spawn_on 0} {k = k₁} {l = l₁} (record { def = refl; bus = inl refl; pan = refl; rank = refl }) let_in_lem)
-    (first refl (both refl refl (rendered {k = k₂} {l = l₂} freed_both silent_both) ends)))))))
+same_render = rendered {o = lent} {p = lent} {k = k₂} {l = l₂} freed_both silent_both
+
+same_spawn : Equal ids (id 1) (id 0) (spawn 1) k₁ (spawn 0) l₁
+unfolding eq silence_pass_through rules prepare processing_order lacking lacks any live_ids live_nodes rising_from whole order walk released fed among count_up settled
+same_spawn = managed {x = spawn_on 1} {y = spawn_on 0} {k = k₁} {l = l₁} (record { def = refl; bus = inl refl; pan = refl; rank = refl }) let_in_lem
+
+-- from the render on, then from each call before it
+from_render : Agree ids (id 1) (id 0) (render ∷ []) k₂ (render ∷ []) l₂
+unfolding eq silence_pass_through rules prepare processing_order lacking lacks any live_ids live_nodes rising_from whole order walk released fed among count_up settled
+from_render =
+    both {x = render} {y = render} {xs = []} {ys = []} {k = k₂} {l = l₂} refl refl same_render
+    (ends {k = after render k₂} {l = after render l₂})
+
+from_spawn : Agree ids (id 1) (id 0) (spawn 1 ∷ spawn 0 ∷ render ∷ []) k₁ (spawn 0 ∷ render ∷ []) l₁
+unfolding eq silence_pass_through rules prepare processing_order lacking lacks any live_ids live_nodes rising_from whole order walk released fed among count_up settled
+from_spawn =
+    both {k = k₁} {l = l₁} refl refl same_spawn
+    (first {k = after (spawn 1) k₁} {l = l₂} refl from_render)
+
+from_timed_free : Agree ids (id 1) (id 0) (timed_free 3 2 ∷ spawn 0 ∷ spawn 1 ∷ spawn 0 ∷ render ∷ []) (after (host 2) hosted) (timed_free 5 1 ∷ spawn 0 ∷ render ∷ []) hosted
+unfolding eq silence_pass_through rules prepare processing_order lacking lacks any live_ids live_nodes rising_from whole order walk released fed among count_up settled
+from_timed_free =
+    first {k = after (host 2) hosted} {l = hosted} refl
+    (second {k = k₀} {l = hosted} refl
+    (first {k = k₀} {l = l₁} refl from_spawn))
+
+agree : Agree ids (id 1) (id 0) played start alone start
+unfolding eq silence_pass_through rules prepare processing_order lacking lacks any live_ids live_nodes rising_from whole order walk released fed among count_up settled
+agree = first {k = start} {l = start} refl (both {k = hosted} {l = start} refl refl added from_timed_free)
 
 pub agreement : Agreement ids made (id 1) (id 0) played alone
 agreement = record { nodes = nodes; voices = voices; bus = inl refl; calls = agree }

@@ -30,7 +30,6 @@ use Rattle.scheduler.specs.declared.event.Event.{Event}
 use Rattle.scheduler.specs.Event.{param_order}
 use Rattle.voice.specs.declared.policy.BudgetScope.TheVariants.{PerGroup}
 use Rattle.store.specs.declared.answer.Spawned.{Spawned}
-use Rattle.store.specs.declared.answer.Spawned.TheVariants as Spawned
 use Rattle.store.specs.declared.config.Config.{Config}
 use Rattle.store.specs.declared.voices.Voice.{Voice}
 use Rattle.model.specs.Voice.{id, is_voice, is_on}

@@ -21,7 +21,7 @@ use Rattle.store.specs.declared.voices.VoiceState.{VoiceState}
 use Rattle.store.specs.declared.voices.VoiceState.TheVariants.{Tracked, Fading, Loose}
 use Rattle.store.specs.declared.voices.Fade.{Fade}
 use Rattle.model.specs.Voice.{is_on}
-use Rattle.ledger.specs.Ledger.{Ledger, fade}
+use Rattle.ledger.specs.Ledger.{Ledger}
 use Rattle.ledger.specs.Claim.{Newest, held_record, cut_found}
 use Rattle.ledger.proofs.StealLog.{held_pushed, held_new, held_marked, held_unmarked, count_pushed}
 use Rattle.isolation.proofs.Bus.{BusPorts}

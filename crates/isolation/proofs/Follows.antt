@@ -32,7 +32,6 @@ use Rattle.model.specs.Refuse.{report_refusal, reports, of_definition}
 use Rattle.model.specs.Spawn.{pans, Spawn}
 use Rattle.model.specs.Order.{report_node, free_outcome}
 use Rattle.prepare.specs.declared.Readiness.{Readiness}
-use Rattle.prepare.specs.declared.Readiness.TheVariants as Readiness
 use Rattle.model.specs.Render.{prepare_outcome, prepare_shared, answer_after, heard, any_free, is_sounding, due, render_refusal}
 use Rattle.model.proofs.Refused.{refusal_in, not_rendered}
 use Rattle.model.specs.Call.{Call, Answer, event, schedule_refusal}

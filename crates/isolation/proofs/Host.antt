@@ -35,7 +35,6 @@ use Rattle.ledger.proofs.Nodes.{Mine, own_preserved}
 use Rattle.ledger.proofs.Upto.{in_up}
 use Rattle.isolation.specs.Story.{held_by, ports_at}
 use Rattle.isolation.proofs.Bus.{Seat, empty, port_count, seat, at_ports}
-use Rattle.isolation.proofs.Bus as bus
 use Rattle.isolation.proofs.Part.{seat_of, host_ports, own_of, ports_now, seats_for, own_voices, bus_of_lem, bus_of, Tidy, own_same, ports_at_lem}
 use Rattle.isolation.proofs.Grown.{old_node, new_node, once_one, same_nodes}
 

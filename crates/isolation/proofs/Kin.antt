@@ -26,7 +26,6 @@ use Rattle.voice.specs.declared.policy.BudgetScope.TheVariants.{PerGroup}
 use Rattle.synthdef.specs.Limits.{allowed}
 use Rattle.store.specs.declared.answer.Rendered.{Rendered}
 use Rattle.store.specs.declared.answer.Spawned.{Spawned}
-use Rattle.store.specs.declared.answer.Spawned.TheVariants as Spawned
 use Rattle.store.specs.declared.voices.Fade.{Fade}
 use Rattle.store.specs.declared.voices.Voice.{Voice}
 use Rattle.store.specs.declared.voices.VoiceState.{VoiceState}

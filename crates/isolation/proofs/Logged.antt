@@ -38,7 +38,7 @@ use Rattle.model.specs.Call.{Call}
 use Rattle.ledger.specs.Ledger.{Ledger, SpawnResult, cut_off, fade, stolen, steal_voice, port_held, port_free, instantiate, instantiate_or, place, place_within_budget, steal_then, admitted, admission_on, refused, spawn_managed}
 use Rattle.ledger.specs.Ledger as ledger
 use Rattle.model.proofs.Refused.{not_spawned, refusal_in}
-use Rattle.ledger.specs.Render.{one_more, render}
+use Rattle.ledger.specs.Render.{one_more}
 use Rattle.ledger.specs.Call.{step, graph_step}
 use Rattle.ledger.specs.Call as steps
 use Rattle.graph.specs.Change as change

@@ -20,7 +20,6 @@ use Rattle.prepare.specs.Required.{any, lacks, lacking}
 use Rattle.prepare.specs.Prepare.{prepare}
 use Rattle.voice.specs.declared.policy.Budget.TheVariants.{AtMost}
 use Rattle.voice.specs.declared.policy.BudgetScope.{BudgetScope}
-use Rattle.voice.specs.declared.policy.BudgetScope.TheVariants as BudgetScope
 use Rattle.voice.specs.declared.policy.StealPolicy.TheVariants.{Oldest}
 use Rattle.store.specs.declared.config.Config.{Config}
 use Rattle.model.specs.Voice.{id}

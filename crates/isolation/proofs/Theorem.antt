@@ -24,7 +24,6 @@ use Rattle.store.specs.declared.voices.Voice.{Voice}
 use Rattle.model.specs.Refuse.{report_refusal}
 use Rattle.model.specs.Spawn.{pans, Spawn}
 use Rattle.model.specs.Render.{render_refusal}
-use Rattle.ledger.specs.Render.{render}
 use Rattle.model.specs.Voice.{is_on}
 use Rattle.model.proofs.Refused.{refusal_in}
 use Rattle.model.specs.Call.{Call}

@@ -29,11 +29,9 @@ use Rattle.ledger.specs.Ledger.{Ledger, cut_off, fade}
 use Rattle.ledger.proofs.StealLog.{count_pushed}
 use Rattle.ledger.proofs.Records.{RecordedOf, steal_small, begun, fade_inj}
 use Rattle.isolation.specs.Story.{phase_of, from_to}
-use Rattle.isolation.proofs.Bus as bus
 use Rattle.isolation.proofs.Part.{host_ports, own_of, Tidy, room_of}
 use Rattle.isolation.proofs.Fade.{map_comp}
 use Rattle.isolation.proofs.Fade as fading
-use Rattle.isolation.proofs.Decide.{number}
 use Rattle.isolation.proofs.Others.{cut_ports}
 use Rattle.isolation.proofs.Acts.{Act, cut_if, apply, apply_append, goes, writes}
 use Rattle.isolation.proofs.BusRecords.{Item, strip, cut_item, UnderR, UnderOn, BusRecordsOf, Old, was_self, records_next, records_pushed, same_own, once_own, apart_own, below_own, numbered_own, records_marked, records_cut}

@@ -4,7 +4,7 @@ use Prim.Native.Nat.{ℕ, ◌+◌, ◌*◌, ◌≤◌, min}
 use native.Mathlib.Omega.{arith}
 use native.Mathlib.Nat.{zero-mul, suc-mul}
 use mathlib.Core.Path.{◌≡◌, refl, ap, ◌∙◌}
-use mathlib.Core.List.{List, [], ◌∷◌, map, map_map}
+use mathlib.Core.List.{List, [], ◌∷◌, map, map-map}
 use mathlib.Core.Option.{Option, none, some}
 use mathlib.Core.Bool.{Bool, true, false, cond, ◌&&◌}
 use lib.Dec.{leb}
@@ -71,7 +71,7 @@ module _ (more : ℕ → ℕ) where
   counted_same s bus v = ap (λ b. b && counts s v.bus bus) (tracked_same v.state)
 
   candidates_same : (d : SharedState) (q : Voice → Bool) → ((v : Voice) → q (moved more v) ≡ q v) → (vs : List Voice) → candidates d q (map (moved more) vs) ≡ candidates d q vs
-  candidates_same d q same vs = ap (map (candidate d)) (filter_map (moved more) q q same vs) ∙ map_map (candidate d) (moved more) (filter q vs)
+  candidates_same d q same vs = ap (map (candidate d)) (filter_map (moved more) q q same vs) ∙ map-map (candidate d) (moved more) (filter q vs)
 
   -- "admission"
   pub admits_same : (d : SharedState) (bus : NodeId) (r : ℕ) (vs : List Voice)

@@ -173,4 +173,4 @@ module _ (v : Voice) (f : Fade) (ph : v.state ≡ Fading f) where
       go Ready = old l _ _ refl i
       go (Refused r) = old l _ _ refl i
   comes (call.render out) l d i = from_render out l i
-  comes (call.ask q) l d i = old l _ _ (answer_silent _ q (seen l)) i
+  comes (call.ask q) l d i = old l _ _ (answer_silent (λ x. port_held x l) q (seen l)) i

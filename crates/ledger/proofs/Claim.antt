@@ -3,14 +3,12 @@ use Prim.Native.Nat.{◌≤◌, ◌<◌, ◌*◌}
 use native.Mathlib.Omega.{arith}
 use mathlib.Core.Path.{◌≡◌, sym, ap, ◌∙◌, subst}
 use mathlib.Core.Logic.{◌↔◌}
-use mathlib.Core.List.{List, [], ◌∷◌, ◌++◌, map, map_map}
+use mathlib.Core.List.{List, [], ◌∷◌, ◌++◌, map, map-map}
 use mathlib.Core.Option.{some}
 use mathlib.Core.Bool.{true}
 use lib.Dec.{leb}
-use lib.ListN.{length}
 use Rattle.lists.specs.Member.{In}
 use Rattle.lists.proofs.Member.{in_of_map}
-use Rattle.lists.specs.Count.{count}
 use Rattle.bus.specs.Fade.{fade_length}
 use Rattle.store.specs.declared.config.Config.{Config}
 use Rattle.store.specs.declared.voices.Voice.{Voice}
@@ -90,7 +88,7 @@ module _ (c : Config) (block : 0 < c.block) (fits : fade_length c.rate ≤ 18446
   nodes_same ys = ap (λ (m : Model). node_ids m.shared.graph.nodes) (sym (store_after c fits ys))
 
   voices_same : (ys : List Call) → voice_ids (ledger_after c ys).voices ≡ voice_ids (after (new_model c) ys).voices
-  voices_same ys = sym (ap (λ (m : Model). voice_ids m.voices) (store_after c fits ys) ∙ map_map (λ (v : Voice). v.id.0) (shown c) (ledger_after c ys).voices)
+  voices_same ys = sym (ap (λ (m : Model). voice_ids m.voices) (store_after c fits ys) ∙ map-map (λ (v : Voice). v.id.0) (shown c) (ledger_after c ys).voices)
 
   from_new : (xs : List Call) → Claim c (new_model c) xs
   from_new xs =

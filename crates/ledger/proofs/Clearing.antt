@@ -18,7 +18,7 @@ use Rattle.model.specs.Voice.{is_voice}
 use Rattle.model.specs.Clear.{is_silent}
 use Rattle.model.specs.Call as call
 use Rattle.ledger.specs.Ledger.{Ledger, without_voice}
-use Rattle.ledger.specs.Clear.{ended, without_voices, ended_voices, silent_voices, clear}
+use Rattle.ledger.specs.Clear.{ended, without_voices, ended_voices, silent_voices}
 use Rattle.ledger.specs.Call.{step}
 use Rattle.ledger.specs.Claim.{rounded_up}
 use Rattle.ledger.proofs.Nodes.{OwnNodes, silent_first}

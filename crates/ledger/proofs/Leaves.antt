@@ -52,7 +52,7 @@ use Rattle.ledger.specs.Ledger.{Ledger, SpawnResult, port_free, port_held, witho
 use Rattle.ledger.specs.Ledger as ledger
 use Rattle.ledger.specs.Clear.{without_voices, ended_voices, silent_voices}
 use Rattle.ledger.specs.Clear as clearing
-use Rattle.ledger.specs.Render.{apply_event, apply_events, counted_if, prepared_if, rested, render}
+use Rattle.ledger.specs.Render.{apply_event, apply_events, counted_if, prepared_if, rested}
 use Rattle.ledger.specs.Call.{Step, unless, step, render_step, seen}
 use Rattle.ledger.specs.Claim.{may_go, held_record, cut_if_held, Newest, tracks, is_sounded}
 use Rattle.ledger.proofs.Words.{GoesOn, Why, freed, timed, ended, silent, reclaimed}
@@ -302,4 +302,4 @@ module _ (v : Voice) (f : Fade) (ph : v.state ≡ Fading f) where
   leaves (call.report k channels samples flag) l r q i = guarded (report_refusal l.shared l.voices k channels (length samples)) _ l _ i (λ e. inl (still l.voices i))
   leaves call.prepare l r q i = inl (ready_still l (prepare_outcome l.shared).answer i)
   leaves (call.render out) l r q i = leaves_render out l i
-  leaves (call.ask w) l r q i = let silent : is_sounded (step (call.ask w) l).answer ≡ false = answer_silent _ w (seen l) in inl (rw silent (still l.voices i))
+  leaves (call.ask w) l r q i = let silent : is_sounded (step (call.ask w) l).answer ≡ false = answer_silent (λ x. port_held x l) w (seen l) in inl (rw silent (still l.voices i))

@@ -18,7 +18,6 @@ use Rattle.lists.specs.Find.{find, is_some, map_o}
 use Rattle.lists.proofs.Find.{find_in, find_filter_same, find_snoc_off, find_map}
 use Rattle.lists.specs.Filter.{filter}
 use Rattle.lists.proofs.Filter.{in_filter, filter_in}
-use Rattle.lists.specs.Count.{count}
 use Rattle.lists.proofs.Count.{count_length}
 use Rattle.node.specs.declared.record.NodeId.{NodeId}
 use Rattle.node.specs.declared.record.VoiceId.{VoiceId}

@@ -14,7 +14,6 @@ use Rattle.lists.proofs.Member.{and_left, and_right, in_append, in_map}
 use Rattle.node.specs.declared.record.NodeId.{NodeId}
 use Rattle.node.specs.declared.record.VoiceId.{VoiceId}
 use Rattle.node.specs.declared.record.Node.{Node}
-use Rattle.edges.specs.Wiring.{wired}
 use Rattle.graph.specs.View.{GraphView}
 use Rattle.synthdef.specs.Tables.{node_rows, edge_rows, param_rows}
 use Rattle.synthdef.specs.Rows.{every}

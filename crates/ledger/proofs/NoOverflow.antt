@@ -33,7 +33,6 @@ use Rattle.synthdef.specs.Tables.{param_rows}
 use Rattle.synthdef.specs.Params.{param_node}
 use Rattle.store.specs.declared.answer.Outcome.TheVariants.{Applied, NotTaken}
 use Rattle.store.specs.declared.answer.Rendered.{Rendered}
-use Rattle.store.specs.declared.answer.Rendered.TheVariants as Rendered
 use Rattle.store.specs.declared.config.Config.{Config}
 use Rattle.store.specs.declared.voices.Voice.{Voice}
 use Rattle.store.specs.declared.voices.VoiceState.{VoiceState}
@@ -51,7 +50,7 @@ use Rattle.model.specs.Call as call
 use Rattle.ledger.specs.Ledger.{Ledger, SpawnResult, port_held, without_voice, stolen, steal_voice, place_within_budget, place, admitted, admission_on, freed, free}
 use Rattle.ledger.specs.Ledger as ledger
 use Rattle.ledger.specs.Clear.{without_voices, ended_voices, silent_voices}
-use Rattle.ledger.specs.Render.{one_more, apply_event, apply_events, counted_if, block_of, prepared_if, rested, render}
+use Rattle.ledger.specs.Render.{one_more, apply_event, apply_events, counted_if, block_of, prepared_if, rested}
 use Rattle.ledger.specs.Call.{Step, unless, step, render_step, position, shown}
 use Rattle.ledger.proofs.Allowed.{when_none}
 use Rattle.ledger.proofs.Preserved.{at_shared, place_kept, Preserves, kept_step_lem, both_preserved}

@@ -35,7 +35,6 @@ use Rattle.node.specs.declared.name.Name.{Name}
 use Rattle.synthdef.specs.Tables.{param_rows}
 use Rattle.synthdef.specs.Params.{param_node}
 use Rattle.store.specs.declared.answer.Rendered.{Rendered}
-use Rattle.store.specs.declared.answer.Rendered.TheVariants as Rendered
 use Rattle.store.specs.declared.answer.Outcome.TheVariants.{Applied, NotTaken}
 use Rattle.store.specs.declared.config.Config.{Config}
 use Rattle.store.specs.declared.voices.Voice.{Voice}
@@ -55,7 +54,7 @@ use Rattle.ledger.specs.Holder.{nobody, host, hold, drop_node}
 use Rattle.ledger.specs.Ledger.{Ledger, SpawnResult, port_free, without_voice, cut_off, instantiate, instantiate_or, place, refused, admitted, admission_on, freed, free}
 use Rattle.ledger.specs.Ledger as ledger
 use Rattle.ledger.specs.Clear.{ended, without_voices, ended_voices, silent_voices}
-use Rattle.ledger.specs.Render.{apply_event, apply_events, one_more, counted_if, block_of, prepared_if, rested, render}
+use Rattle.ledger.specs.Render.{apply_event, apply_events, one_more, counted_if, block_of, prepared_if, rested}
 use Rattle.ledger.specs.Call.{Step, unless, step, render_step, run}
 use Rattle.ledger.specs.Claim.{is_managed}
 use Rattle.ledger.proofs.Allowed.{when_none, Allowed, spawn_allowed}

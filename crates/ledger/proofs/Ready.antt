@@ -5,7 +5,7 @@ use Prim.Native.Nat.{ℕ, suc}
 use native.Mathlib.Omega.{arith}
 use mathlib.Core.Path.{◌≡◌, refl, sym, ap, ◌∙◌, subst}
 use mathlib.Core.Logic.{inl, inr}
-use mathlib.Core.List.{List, [], ◌∷◌, map, map_map}
+use mathlib.Core.List.{List, [], ◌∷◌, map, map-map}
 use mathlib.Core.Option.{none, some}
 use mathlib.Core.Bool.{Bool, true, false, cond, ◌&&◌, false≢true}
 use lib.ListN.{length}
@@ -20,7 +20,6 @@ use Rattle.node.specs.declared.record.NodeId.{NodeId}
 use Rattle.node.specs.declared.record.Node.{Node}
 use Rattle.node.specs.declared.record.Edge.{Edge}
 use Rattle.node.specs.declared.refusal.Refusal.{Refusal}
-use Rattle.rank.specs.Order.{order}
 use Rattle.rank.specs.Cycle.{Sorted}
 use Rattle.prepare.specs.Live as live
 use Rattle.prepare.specs.Live.{id_of, arc_of, live_ids, live_nodes, processing_order, live_all}
@@ -38,7 +37,7 @@ use Rattle.model.specs.Render.{prepare_outcome, prepare_shared, ready_shared, an
 use Rattle.model.specs.Call.{Call}
 use Rattle.model.specs.Call as call
 use Rattle.ledger.specs.Ledger.{Ledger, new_ledger, admission_on}
-use Rattle.ledger.specs.Render.{apply_events, prepared_if, rested, render}
+use Rattle.ledger.specs.Render.{apply_events, prepared_if, rested}
 use Rattle.ledger.specs.Call.{step, render_step, run}
 use Rattle.ledger.specs.Claim.{is_sounded}
 use Rattle.ledger.proofs.Preserved.{Preserves, Alike, open_moves, events_kept, kept_run}
@@ -89,7 +88,7 @@ module _ (ns : List Node) (next : ℕ) (r : Rows ns next) (k : NodeId) (x n : No
       go false e = record { id = refl; owner = refl; ports = refl; required = refl }
 
   ids_same : map id_of (replaced ns n) ≡ map id_of ns
-  ids_same = map_map id_of new ns ∙ map_same (λ m. id_of (new m)) id_of ns (λ m i. replaced_id n m)
+  ids_same = map-map id_of new ns ∙ map_same (λ m. id_of (new m)) id_of ns (λ m i. replaced_id n m)
 
   pub prepare_same : graph.prepare (replaced ns n) es ≡ graph.prepare ns es
   unfolding graph.prepare processing_order

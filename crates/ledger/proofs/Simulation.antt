@@ -28,7 +28,7 @@ use Rattle.store.specs.declared.config.Config.{Config}
 use Rattle.store.specs.declared.voices.Voice.{Voice}
 use Rattle.model.specs.SharedState.{length_l}
 use Rattle.model.specs.Refuse.{report_refusal}
-use Rattle.model.specs.Order.{order, report_node}
+use Rattle.model.specs.Order.{report_node}
 use Rattle.model.specs.Render.{prepare_outcome, due, render_refusal}
 use Rattle.lists.specs.Written.{written}
 use Rattle.model.specs.Page.{header, port_now, line, lines}

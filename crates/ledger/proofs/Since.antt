@@ -5,7 +5,7 @@ use native.Mathlib.Omega.{arith}
 use native.Mathlib.Decide.{dec_lt}
 use mathlib.Core.Path.{◌≡◌, refl, sym, ap, ◌∙◌, subst}
 use mathlib.Core.Logic.{⊎_elim}
-use mathlib.Core.List.{List, [], ◌∷◌, ◌++◌, map, map_map, append-nil}
+use mathlib.Core.List.{List, [], ◌∷◌, ◌++◌, map, map-map, append-nil}
 use mathlib.Core.Bool.{Bool, cond}
 use Rattle.lists.specs.Member.{In}
 use Rattle.lists.proofs.Member.{in_snoc, in_map, in_of_map, map_append, map_same}
@@ -66,10 +66,10 @@ module _ (ids₀ : List ℕ) (next₀ : ℕ) where
       (λ ns next n s. subst (λ ids. Since ids₀ next₀ ids (next + 1)) (sym (map_append (λ (x : Node). x.id.0) ns (with_id next n ∷ []))) (since_more ids₀ next₀ (node_ids ns) next next refl s))
       (λ ns next t s. since_fewer ids₀ next₀ (node_ids ns) (node_ids (filter t ns)) next (in_kept (λ (x : Node). x.id.0) t ns) s)
       (λ ns next k x n e a s.
-      let same : node_ids (replaced ns n) ≡ node_ids ns = map_map (λ (x : Node). x.id.0) (λ m. cond (is_node n.id m) n m) ns ∙ map_same _ (λ (x : Node). x.id.0) ns (λ m i. replaced_id n m) in
+      let same : node_ids (replaced ns n) ≡ node_ids ns = map-map (λ (x : Node). x.id.0) (λ m. cond (is_node n.id m) n m) ns ∙ map_same _ (λ (x : Node). x.id.0) ns (λ m i. replaced_id n m) in
       subst (λ ids. Since ids₀ next₀ ids next) (sym same) s)
       (λ ns next bus s.
-      let same : node_ids (noise_raised bus ns) ≡ node_ids ns = map_map (λ (x : Node). x.id.0) (raise_noise bus) ns ∙ map_same _ (λ (x : Node). x.id.0) ns (λ m i. raise_id bus m) in
+      let same : node_ids (noise_raised bus ns) ≡ node_ids ns = map-map (λ (x : Node). x.id.0) (raise_noise bus) ns ∙ map_same _ (λ (x : Node). x.id.0) ns (λ m i. raise_id bus m) in
       subst (λ ids. Since ids₀ next₀ ids next) (sym same) s)
 
   voices_since : (xs : List Call) (l : Ledger) → Since ids₀ next₀ (voice_ids l.voices) (l.shared.spawned + 1)
@@ -78,7 +78,7 @@ module _ (ids₀ : List ℕ) (next₀ : ℕ) where
       voices_run (λ n vs. Since ids₀ next₀ (voice_ids vs) (n + 1))
       (λ n vs t s. since_fewer ids₀ next₀ (voice_ids vs) (voice_ids (filter t vs)) (n + 1) (in_kept (λ (v : Voice). v.id.0) t vs) s)
       (λ n vs f e s.
-      let same : voice_ids (map f vs) ≡ voice_ids vs = map_map (λ (v : Voice). v.id.0) f vs ∙ map_same _ (λ (v : Voice). v.id.0) vs (λ v i. ap (λ w. w.0) (e v)) in
+      let same : voice_ids (map f vs) ≡ voice_ids vs = map-map (λ (v : Voice). v.id.0) f vs ∙ map_same _ (λ (v : Voice). v.id.0) vs (λ v i. ap (λ w. w.0) (e v)) in
       subst (λ ids. Since ids₀ next₀ ids (n + 1)) (sym same) s)
       (λ n vs v e s. subst (λ ids. Since ids₀ next₀ ids (n + 1 + 1)) (sym (map_append (λ (v : Voice). v.id.0) vs (v ∷ []))) (since_more ids₀ next₀ (voice_ids vs) (n + 1) v.id.0 e s))
 

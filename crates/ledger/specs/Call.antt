@@ -4,7 +4,6 @@ use Rattle.std.proofs.Math.Option.{Option, none, some}
 use Rattle.lists.specs.Find.{find}
 use Rattle.node.specs.Name.{name_of}
 use Rattle.node.specs.declared.refusal.Refusal.{Refusal}
-use Rattle.edges.specs.Ports as ports
 use Rattle.graph.specs.View.{GraphView}
 use Rattle.graph.specs.Node.{node_at, host_node}
 use Rattle.graph.specs.Change as change

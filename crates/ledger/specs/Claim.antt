@@ -46,7 +46,6 @@ use Rattle.voice.specs.declared.steals.StealFound.{StealFound}
 use Rattle.voice.specs.declared.steals.StealFound.TheVariants as found
 use Rattle.synthdef.specs.Rows.{every}
 use Rattle.store.specs.declared.answer.Spawned.{Spawned}
-use Rattle.store.specs.declared.answer.Spawned.TheVariants as Spawned
 use Rattle.store.specs.declared.config.Config.{Config}
 use Rattle.store.specs.declared.voices.Voice.{Voice}
 use Rattle.store.specs.declared.voices.VoiceState.{VoiceState}

@@ -10,9 +10,7 @@ use lib.Ieee.{eq}
 use Rattle.lists.specs.Find.{map_o}
 use Rattle.node.specs.Silence.{bytes}
 use Rattle.node.specs.declared.order.EventAction.{EventAction}
-use Rattle.node.specs.declared.order.EventAction.TheVariants as EventAction
 use Rattle.node.specs.declared.order.LastOrder.{LastOrder}
-use Rattle.node.specs.declared.order.LastOrder.TheVariants as LastOrder
 use Rattle.node.specs.declared.refusal.Refusal.TheVariants.{TableFull, Cycle, ClockEnd, RequiredPort}
 use Rattle.graph.specs.Node.{node_at}
 use Rattle.rank.specs.Order.{among, fed, released, walk, order, whole, count_up}

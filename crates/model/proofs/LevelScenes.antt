@@ -19,7 +19,6 @@ use Rattle.node.specs.Silence.{bytes, silence_pass_through, rules}
 use Rattle.synthdef.specs.Plan.{settled}
 use Rattle.synthdef.specs.declared.def.SynthDef.{SynthDef}
 use Rattle.node.specs.declared.order.LastOrder.{LastOrder}
-use Rattle.node.specs.declared.order.LastOrder.TheVariants as LastOrder
 use Rattle.store.specs.declared.answer.Outcome.TheVariants.{Applied, NotTaken}
 use Rattle.model.specs.Voice.{id}
 use Rattle.model.specs.Model.{Model}

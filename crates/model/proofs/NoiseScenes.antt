@@ -13,7 +13,7 @@ use Rattle.model.specs.SharedState.{with_graph}
 use Rattle.model.specs.Voice.{id}
 use Rattle.model.specs.Model.{Model}
 use Rattle.model.specs.Call as call
-use Rattle.model.specs.Scene.{up_to, host, wire, spawn, spawn_loose, free, after, further}
+use Rattle.model.specs.Scene.{up_to, host, spawn, spawn_loose, free, after, further}
 
 -- the noise sequences of the voices, in their order, and the next one of each node
 abbrev heard : Model → List ℕ

@@ -9,7 +9,6 @@ use lib.Ieee.{eq}
 use Rattle.node.specs.Silence.{bytes}
 use Rattle.node.specs.Refusal.{number_of}
 use Rattle.node.specs.declared.order.EventAction.{EventAction}
-use Rattle.node.specs.declared.order.EventAction.TheVariants as EventAction
 use Rattle.node.specs.declared.refusal.Refusal.TheVariants.{Cycle, ClockEnd, ShortBuffer}
 use Rattle.rank.specs.Order.{among, fed, released, walk, order, whole, count_up}
 use Rattle.prepare.specs.Live.{rising_from, live_nodes, live_ids, processing_order}

@@ -1,4 +1,4 @@
--- Scenes of stealing and reclaiming: who is removed when a bus has no free port, who fades and who cannot, and what the records say.
+-- Scenes of stealing and reclaiming: who goes when a bus has no free port, who fades and who cannot, and what the records say.
 use Prim.Native.Nat.{ℕ}
 use mathlib.Core.Path.{◌≡◌, refl}
 use mathlib.Core.List.{List, [], ◌∷◌, ◌++◌}
@@ -23,7 +23,7 @@ use Rattle.model.specs.Voice.{id}
 use Rattle.model.specs.Model.{Model}
 use Rattle.model.specs.Call.{Call}
 use Rattle.model.specs.Call as call
-use Rattle.model.specs.Scene.{config, up_to, small, float, host, sink, wire, spawn, spawn_loose, free, loud, spawned, not_spawned, after, asked, further, seen, voices, fading, render}
+use Rattle.model.specs.Scene.{config, up_to, small, float, host, sink, wire, spawn, spawn_loose, free, sounds, loud, spawned, not_spawned, after, asked, further, seen, voices, fading, render}
 
 abbrev book : ℕ → List StealRecord → StealLog
 book n l = record { count = n; newest = l }
@@ -66,22 +66,22 @@ cannot_fade :
 unfolding eq level_of squares root_of sqrt narrow add mul div of_int of_bits whole order walk released fed among count_up
 cannot_fade = (refl, refl, refl, refl)
 
--- ---- Earliest-started first, by the clock at the steal. Voice 2 is stolen at 1, being as quiet as voice 1 and younger, voice 1 at 2, when voice 3 is loud; no render
--- sounds, so that both positions are 0. The fifth spawn steals voice 3 at 2, finds no port and reclaims voice 2, whose record 0 is marked.
+-- ---- Earliest-started first, by the clock at the steal. Voice 2 is stolen at 1, voice 1 at 2; no render sounds, so that
+-- both positions are 0. The fifth spawn steals voice 3 at 2, finds no port and reclaims voice 2, whose record 0 is marked.
 -- Refuses: the first fading voice; the least or the greatest position; the latest-started.
 abbrev starts : Model
 starts =
-    after (small 2 Quietest) (host 4 ∷ spawn 0 ∷ spawn 0 ∷ render ∷ spawn 0 ∷ render ∷ loud 4 ∷ spawn 0 ∷ [])
+    after (small 2 Quietest) (host 4 ∷ spawn 0 ∷ spawn 0 ∷ render ∷ sounds 1 3 ∷ spawn 0 ∷ render ∷ loud 4 ∷ spawn 0 ∷ [])
 
 earliest_first :
     (voices starts ≡ seen 1 0 (fading 5 2 0 1) ∷ seen 2 1 (fading 3 1 0 0) ∷ seen 3 2 Tracked ∷ seen 4 3 Tracked ∷ [])
     × (voices (further (spawn 0 ∷ []) starts) ≡ seen 1 0 (fading 5 2 0 1) ∷ seen 3 2 (fading 7 2 0 2) ∷ seen 4 3 Tracked ∷ seen 5 1 Tracked ∷ [])
     × ((further (spawn 0 ∷ []) starts).shared.steals
-    ≡ book 3 (record_of 1 (Known (float 0)) true ∷ record_of 2 (Known (float 0)) false ∷ record_of 2 (Known (inf false)) false ∷ []))
+    ≡ book 3 (record_of 1 (Known (float 0)) true ∷ record_of 2 (Known (float 3)) false ∷ record_of 2 (Known (inf false)) false ∷ []))
 unfolding eq lt le level_of squares root_of sqrt narrow add mul div of_int of_bits whole order walk released fed among count_up
 earliest_first = (refl, refl, refl)
 
--- Ties by voice order: voice 2 is stolen before voice 1, at the same clock; voice 1 is reclaimed first. Refuses: ties by record number.
+-- Ties by voice order: voice 2 is stolen before voice 1, at the same clock; voice 1 goes first. Refuses: ties by record number.
 abbrev ties : Model
 ties =
     after (small 2 Quietest) (host 4 ∷ spawn 0 ∷ spawn 0 ∷ render ∷ loud 1 ∷ spawn 0 ∷ spawn 0 ∷ [])
@@ -94,7 +94,7 @@ ties_by_order :
 unfolding eq lt le level_of squares root_of sqrt narrow add mul div of_int of_bits whole order walk released fed among count_up
 ties_by_order = (refl, refl, refl)
 
--- ---- Without a fade on the bus the policy's victim among its tracked voices is freed, with a cut record; those of another bus and
+-- ---- Without a fade on the bus the policy's victim among its tracked voices goes, with a cut record; those of another bus and
 -- loose ones stay. Below budget: bus 1 has 2 ports; voice 1 is on bus 0, voice 2 is loose, voice 3 tracked.
 -- Refuses: the policy's victim among all voices; a loose victim; an uncut record; the admission's victim only.
 tracked_goes :
@@ -104,21 +104,20 @@ tracked_goes :
 unfolding eq whole order walk released fed among count_up
 tracked_goes = (refl, refl, refl)
 
--- The policy is asked here as it is at admission: voices 1 and 2 have not reported, so that both levels are 0, and the younger is freed. Refuses: of equal levels the
--- first.
-abbrev quiet : List Call → Model
-quiet reports = after (small 9 Quietest) (host 2 ∷ spawn 0 ∷ spawn 0 ∷ render ∷ reports ++ (spawn 0 ∷ []))
-
-younger_goes : voices (quiet []) ≡ seen 1 0 Tracked ∷ seen 3 1 Tracked ∷ []
+-- The policy is asked here as it is at admission: of voices 1 and 2, equally quiet, the younger goes. Refuses: of equal levels the first.
+younger_goes : voices (after (small 9 Quietest) (host 2 ∷ spawn 0 ∷ spawn 0 ∷ render ∷ sounds 1 1 ∷ sounds 2 1 ∷ spawn 0 ∷ [])) ≡ seen 1 0 Tracked ∷ seen 3 1 Tracked ∷ []
 unfolding eq lt le level_of squares root_of sqrt narrow add mul div of_int of_bits whole order walk released fed among count_up
 younger_goes = refl
 
--- And the levels decide: of two voices, one of them infinitely loud, the other one is freed, be it the second or the first, with the record of its level. Refuses: a
+-- And the levels decide: of two voices that have reported 3 and 1 the one with 1 goes, be it the second or the first, with the record of its level. Refuses: a
 -- reclaim that takes the oldest, or the newest, as if no level were known.
+abbrev quiet : ℕ → ℕ → Model
+quiet a b = after (small 9 Quietest) (host 2 ∷ spawn 0 ∷ spawn 0 ∷ render ∷ sounds 1 a ∷ sounds 2 b ∷ spawn 0 ∷ [])
+
 quietest_goes :
-    (voices (quiet (loud 1 ∷ [])) ≡ seen 1 0 Tracked ∷ seen 3 1 Tracked ∷ [])
-    × (voices (quiet (loud 2 ∷ [])) ≡ seen 2 1 Tracked ∷ seen 3 0 Tracked ∷ [])
-    × ((quiet (loud 1 ∷ [])).shared.steals ≡ book 1 (record_of 1 (Known (float 0)) true ∷ []))
+    (voices (quiet 3 1) ≡ seen 1 0 Tracked ∷ seen 3 1 Tracked ∷ [])
+    × (voices (quiet 1 3) ≡ seen 2 1 Tracked ∷ seen 3 0 Tracked ∷ [])
+    × ((quiet 3 1).shared.steals ≡ book 1 (record_of 1 (Known (float 1)) true ∷ []))
 unfolding eq lt le level_of squares root_of sqrt narrow add mul div of_int of_bits whole order walk released fed among count_up
 quietest_goes = (refl, refl, refl)
 
@@ -150,7 +149,7 @@ ended_reclaimed :
 unfolding eq prepare processing_order lacking lacks any live_ids live_nodes rising_from whole order walk released fed among count_up
 ended_reclaimed = (refl, refl, refl)
 
--- ---- nobody to reclaim: `Reject` names no victim; an unmanaged spawn reclaims nobody. Refuses: an oldest voice that is freed then.
+-- ---- nobody to reclaim: `Reject` names no victim; an unmanaged spawn reclaims nobody. Refuses: an oldest voice that goes then.
 nobody_goes :
     (asked (spawn 0 ∷ spawn_loose 0 ∷ []) (after (up_to 9 Reject) (host 1 ∷ spawn 0 ∷ [])) ≡ not_spawned NoPort ∷ not_spawned NoPort ∷ [])
     × (asked (spawn_loose 0 ∷ []) (after (up_to 1 Oldest) (host 2 ∷ spawn 0 ∷ spawn 0 ∷ [])) ≡ not_spawned NoPort ∷ [])
@@ -164,7 +163,7 @@ unfolding eq whole order walk released fed among count_up
 free_marks_none = refl
 
 -- ---- A bus that the host removes leaves its voices as they are, without a port: voice 1 fades, voice 2 is tracked and fills the
--- budget; the fade goes on counting; as a victim voice 2 is freed at once, with a cut record; no reclaim meets voice 1.
+-- budget; the fade goes on counting; as a victim voice 2 goes at once, with a cut record; no reclaim meets voice 1.
 -- Refuses: a bus that takes its voices with it; a victim that fades without a bus.
 abbrev busless : Model
 busless = after (up_to 1 Oldest) (host 2 ∷ host 1 ∷ sink 1 ∷ spawn 0 ∷ spawn 0 ∷ call.remove_node (id 0) ∷ call.prepare ∷ render ∷ [])

@@ -16,7 +16,6 @@ use Rattle.node.specs.Node.{with_noise}
 use Rattle.node.specs.Silence.{name, bytes, silence_pass_through, rules}
 use Rattle.node.specs.declared.order.EventAction.TheVariants as EventAction
 use Rattle.node.specs.declared.order.LastOrder.{LastOrder}
-use Rattle.node.specs.declared.order.LastOrder.TheVariants as LastOrder
 use Rattle.node.specs.declared.record.Edge.{Edge}
 use Rattle.node.specs.declared.record.Node.{Node}
 use Rattle.node.specs.declared.record.NodeId.{NodeId}

@@ -19,7 +19,6 @@ use Rattle.graph.specs.Node.{node_at, host_node}
 use Rattle.graph.specs.Change as change
 use Rattle.graph.specs.Refuse.{add_refusal, host_refusal, disconnect_refusal, connect_refusal, when}
 use Rattle.prepare.specs.declared.Readiness.{Readiness}
-use Rattle.prepare.specs.declared.Readiness.TheVariants as Readiness
 use Rattle.scheduler.specs.Replace.{thinned}
 use Rattle.scheduler.specs.Queue.{full, replacing}
 use Rattle.scheduler.specs.declared.event.Event.{Event}
@@ -29,7 +28,6 @@ use Rattle.store.specs.declared.config.Config.{Config}
 use Rattle.store.specs.declared.answer.Outcome.{Outcome}
 use Rattle.store.specs.declared.answer.Spawned.{Spawned}
 use Rattle.store.specs.declared.answer.Rendered.{Rendered}
-use Rattle.store.specs.declared.answer.Rendered.TheVariants as Rendered
 use Rattle.store.specs.declared.voices.Voice.{Voice}
 use Rattle.store.specs.declared.voices.VoiceState.{VoiceState}
 use Rattle.store.specs.declared.voices.VoiceState.TheVariants.{Tracked, Fading, Loose}

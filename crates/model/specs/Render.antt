@@ -3,7 +3,6 @@ use Rattle.std.specs.Prelude.{ℕ, ◌+◌, min, List, [], ◌∷◌, map, Bool,
 use Rattle.std.proofs.Math.Option.{Option, none}
 use Rattle.lists.specs.Find.{find}
 use Rattle.node.specs.declared.order.EventAction.{EventAction}
-use Rattle.node.specs.declared.order.EventAction.TheVariants as EventAction
 use Rattle.node.specs.declared.record.NodeId.{NodeId}
 use Rattle.node.specs.declared.refusal.Refusal.{Refusal}
 use Rattle.node.specs.declared.refusal.Refusal.TheVariants.{ClockEnd, ShortBuffer}
@@ -15,7 +14,6 @@ use Rattle.scheduler.specs.Queue.{taken_before, left_after}
 use Rattle.scheduler.specs.declared.event.Event.{Event}
 use Rattle.store.specs.declared.answer.Outcome.{Outcome}
 use Rattle.store.specs.declared.answer.Rendered.{Rendered}
-use Rattle.store.specs.declared.answer.Rendered.TheVariants as Rendered
 use Rattle.store.specs.declared.voices.Voice.{Voice}
 use Rattle.graph.specs.View.{prepared_by}
 use Rattle.graph.specs.Refuse.{when}

@@ -9,22 +9,18 @@ use Rattle.node.specs.declared.order.Glide.{Glide}
 use Rattle.node.specs.declared.order.GlideShape.TheVariants.{Linear}
 use Rattle.node.specs.declared.order.GlideSpace.TheVariants.{Raw}
 use Rattle.node.specs.declared.order.LastOrder.{LastOrder}
-use Rattle.node.specs.declared.order.LastOrder.TheVariants as LastOrder
 use Rattle.node.specs.declared.record.VoiceId.{VoiceId}
 use Rattle.node.specs.declared.record.Edge.{Edge}
 use Rattle.node.specs.declared.refusal.Refusal.{Refusal}
 use Rattle.voice.specs.declared.policy.Budget.{Budget}
 use Rattle.voice.specs.declared.policy.Budget.TheVariants.{AtMost}
 use Rattle.voice.specs.declared.policy.BudgetScope.{BudgetScope}
-use Rattle.voice.specs.declared.policy.BudgetScope.TheVariants as BudgetScope
 use Rattle.voice.specs.declared.policy.StealPolicy.{StealPolicy}
-use Rattle.voice.specs.declared.policy.StealPolicy.TheVariants as StealPolicy
 use Rattle.synthdef.specs.declared.def.DefNode.{DefNode}
 use Rattle.synthdef.specs.declared.def.DefEdge.{DefEdge}
 use Rattle.synthdef.specs.declared.def.Param.{Param}
 use Rattle.synthdef.specs.declared.def.SynthDef.{SynthDef}
 use Rattle.store.specs.declared.answer.Rendered.{Rendered}
-use Rattle.store.specs.declared.answer.Rendered.TheVariants as Rendered
 use Rattle.store.specs.declared.answer.Spawned.TheVariants as Spawned
 use Rattle.store.specs.declared.config.Config.{Config}
 use Rattle.store.specs.declared.voices.Voice.{Voice}

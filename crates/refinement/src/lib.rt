@@ -1,1 +1,3 @@
+#![tactic(auto)]
+
 // Statements only: see specs/Contract.antt, and proofs/Refined.antt for the theorems.

@@ -10,9 +10,7 @@ use lib.ListN.{replicate, length}
 use lib.Dec.{eqb}
 use lib.Ieee.{eq}
 use Rattle.node.specs.declared.order.EventAction.{EventAction}
-use Rattle.node.specs.declared.order.EventAction.TheVariants as EventAction
 use Rattle.node.specs.declared.order.LastOrder.{LastOrder}
-use Rattle.node.specs.declared.order.LastOrder.TheVariants as LastOrder
 use Rattle.node.specs.declared.refusal.Refusal.TheVariants.{TableFull}
 use Rattle.scheduler.specs.declared.event.Event.{Event}
 use Rattle.store.specs.declared.answer.Rendered.TheVariants as Rendered

@@ -40,8 +40,8 @@ use Rattle.model.specs.Spawn.{Spawn, next_out, tries, state_under, reclaim_log}
 use Rattle.model.specs.Model.{Model, SpawnResult, without_voice, cut_off, stolen, steal_voice, port_free, instantiate_or, place, place_within_budget, steal_then, admitted, admission_on, freed, free, refused}
 use Rattle.model.specs.Order.{Ordered, takes, with_node, stays, order_node, order_param, order_voice, order, report_node, free_outcome}
 use Rattle.node.specs.Node.{with_last}
-use Rattle.model.specs.Clear.{without_voices, ended_voices, silent_voices, clear}
-use Rattle.model.specs.Render.{prepare_outcome, ready_shared, prepare_shared, is_free, apply_event, apply_events, answer_after, block_of, prepared_if, Heard, render}
+use Rattle.model.specs.Clear.{without_voices, ended_voices, silent_voices}
+use Rattle.model.specs.Render.{prepare_outcome, ready_shared, prepare_shared, is_free, apply_event, apply_events, answer_after, block_of, prepared_if, Heard}
 use Rattle.model.specs.Call.{Call, Question, Step, step, unless, answer_to}
 use Rattle.model.specs.Page.{port_now}
 use Rattle.replaced.specs.Kept.{with_queue, scheduled, is_render}

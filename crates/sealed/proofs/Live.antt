@@ -16,7 +16,7 @@ use Rattle.graph.specs.View.{GraphView}
 use Rattle.graph.specs.Node.{is_node, owned_by, node_at, host_node, replaced, noise_raised}
 use Rattle.ledger.proofs.Raised.{in_raised}
 use Rattle.node.specs.Node.{with_id}
-use Rattle.model.specs.Voice.{id, is_voice, begin_fade, moved}
+use Rattle.model.specs.Voice.{is_voice, begin_fade, moved}
 use Rattle.model.specs.Spawn.{Spawn, pans, voice_nodes, voice_wires, append_all, new_voice, next_voice, state_under, tries, fade_node, fade_of, raised}
 use Rattle.model.specs.Render.{is_sounding}
 use Rattle.model.specs.Call.{Call}

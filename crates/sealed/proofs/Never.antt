@@ -43,7 +43,6 @@ use Rattle.node.specs.declared.refusal.Refusal.{Refusal}
 use Rattle.node.specs.declared.refusal.Refusal.TheVariants.{UnknownNode, VoiceNode, TableFull, IdsUsedUp, DefinitionLimits, BusWithoutPorts, RankTooHigh}
 use Rattle.synthdef.specs.declared.def.SynthDef.{SynthDef}
 use Rattle.store.specs.declared.answer.Spawned.{Spawned}
-use Rattle.store.specs.declared.answer.Spawned.TheVariants as Spawned
 use Rattle.store.specs.declared.voices.Voice.{Voice}
 use Rattle.store.specs.declared.voices.VoiceState.{VoiceState}
 use Rattle.store.specs.declared.voices.VoiceState.TheVariants.{Tracked, Fading, Loose}
