@@ -10,7 +10,6 @@ use Rattle.node.specs.declared.record.NodeId.{NodeId}
 use Rattle.node.specs.declared.record.Node.{Node}
 use Rattle.edges.specs.Ports.{port_of}
 use Rattle.edges.specs.declared.ports.Port.{Port}
-use Rattle.edges.specs.declared.ports.Port.TheVariants as Port
 use Rattle.graph.specs.Node.{ports_of}
 use Rattle.graph_rows.specs.Node.{brief_of}
 use Rattle.voice.specs.Steals.{StealLog}

@@ -6,7 +6,6 @@ use Rattle.std.proofs.Math.Option.{Option, none, some}
 use Rattle.node.specs.declared.record.NodeId.{NodeId}
 use Rattle.node.specs.declared.record.Node.{Node}
 use Rattle.edges.specs.declared.ports.Port.{Port}
-use Rattle.edges.specs.declared.ports.Port.TheVariants as Port
 use Rattle.voice.specs.Policy.{victim}
 use Rattle.voice.specs.Steals.{StealLog}
 use Rattle.voice.specs.declared.policy.StealPolicy.{StealPolicy}

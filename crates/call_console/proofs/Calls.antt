@@ -26,7 +26,6 @@ use Rattle.call_console.specs.declared.queues.WishState.{WishState}
 use Rattle.call_console.specs.declared.queues.Keyboard.{Keyboard}
 use Rattle.call_console.specs.declared.queues.Keyboard.TheVariants.{At, Nothing}
 use Rattle.call_console.specs.declared.wishing.WishAnswer.{WishAnswer}
-use Rattle.call_console.specs.declared.wishing.WishAnswer.TheVariants as WishAnswer
 use Rattle.call_console.specs.Queues.{no_queue, place_in, wishes_of, Capacity, Waits, WaitsAt, picked_at}
 use Rattle.call_console.specs.Called.{memory, console_of, Called, Kept, wish_answer, made_of, judged}
 use Rattle.call_console.proofs.Rings.{many_is, waits_is, waits_none, queue_long, oldest_is}

@@ -11,11 +11,8 @@ use Rattle.console.specs.Wishes.{keyboards_refusal}
 use Rattle.console.specs.Console.{Console, ConsoleCall, ConsoleAnswer, plain, accepted, refused, served, empty, ConsoleStep, console_step, ConsoleMade, made, refused_by, refused_for}
 use Rattle.call_console.specs.declared.queues.WishState.{WishState}
 use Rattle.call_console.specs.declared.wishing.WishAnswer.{WishAnswer}
-use Rattle.call_console.specs.declared.wishing.WishAnswer.TheVariants as WishAnswer
 use Rattle.call_console.specs.declared.turning.TurnAnswer.{TurnAnswer}
-use Rattle.call_console.specs.declared.turning.TurnAnswer.TheVariants as TurnAnswer
 use Rattle.call_console.specs.declared.making.MakeAnswer.{MakeAnswer}
-use Rattle.call_console.specs.declared.making.MakeAnswer.TheVariants as MakeAnswer
 use Rattle.call_console.specs.Queues.{wishes_of}
 
 -- the console: the store, the wishes' state, and their words

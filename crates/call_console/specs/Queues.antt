@@ -1,7 +1,7 @@
 -- What the lent wishes stand for: each of eight keyboards has 16 rows, and its wishes are `count` of them from its row `start` on, going
 -- round. What else stands in the rows is no part of the wishes; a count above 16 is 16, and more than eight keyboards are eight.
 use Rattle.std.specs.Prelude.{ℕ, ◌+◌, ◌*◌, ◌%◌, ◌<◌, min, ◌≡◌, List, [], get_or}
-use Rattle.std.proofs.Math.Option.{Option, none, some}
+use Rattle.std.proofs.Math.Option.{Option, none}
 use Rattle.voice_rows.specs.Rows.{each}
 use Rattle.store.specs.declared.wish.Wish.{Wish}
 use Rattle.console.specs.Wishes.{Wishes, waiting_at, Picked, oldest_or}

@@ -1,5 +1,7 @@
 // The calls of the console (02, Paper 11) on a lent store with its lent wishes: making with keyboards, a wish, a turn. A call of the
 // store stays as it is; it is not lent the wishes.
+#![tactic(auto)]
+
 pub mod making;
 pub mod queues;
 pub mod turning;

@@ -5,7 +5,6 @@ use mathlib.Core.List.{List}
 use lib.ListN.{take}
 use Rattle.node.specs.declared.refusal.Refusal.{Refusal}
 use Rattle.prepare.specs.declared.Readiness.{Readiness}
-use Rattle.prepare.specs.declared.Readiness.TheVariants as Readiness
 use Rattle.prepare.specs.Prepare as order
 use Rattle.graph.specs.View.{prepared_by}
 use Rattle.graph_rows.specs.Node.{nodes_in}

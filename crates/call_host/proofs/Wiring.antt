@@ -15,7 +15,6 @@ use Rattle.edges.proofs.Loops.{pushed_on}
 use Rattle.graph.specs.declared.state.Answer as graph
 use Rattle.graph.specs.declared.state.Answer.TheVariants as Answer
 use Rattle.graph.specs.declared.state.Sink.{Sink}
-use Rattle.graph.specs.declared.state.Sink.TheVariants as Sink
 use Rattle.graph.specs.View.{GraphView}
 use Rattle.graph.specs.Node.{is_node, node_at, host_node, with_id}
 use Rattle.graph.specs.Change.{edge}

@@ -1,4 +1,6 @@
 // Making a store in lent memory: it gives the state. Nothing is read of the tables and nothing stored in them.
+#![tactic(auto)]
+
 ghost use Rattle.std.specs.Prelude.{◌≡◌, ◌&&◌, leb};
 ghost use Rattle.bus.specs.Answer.{rated};
 ghost use Rattle.graph.specs.Tables.{answer_of};

@@ -2,12 +2,13 @@
 use Prim.Native.Nat.{ℕ, ◌+◌, ◌≤◌, ◌<◌}
 use native.Mathlib.Omega.{arith}
 use mathlib.Core.Path.{◌≡◌, refl, sym, ap, ◌∙◌}
-use mathlib.Core.List.{List, ◌++◌}
+use mathlib.Core.List.{List}
 use mathlib.Core.Bool.{Bool, true, false}
 use lib.Dec.{leb}
 use lib.ListN.{length, take, drop, length-append, length-take}
 use lib.Seq.{length-take-le}
 use borrow.Author.Tests.{le-leb, lt-leb, leb-true, leb-false}
+use Rattle.lists.specs.Written.{written}
 use Rattle.node.specs.declared.refusal.Refusal.TheVariants.{ShortBuffer}
 use Rattle.model.specs.Call.{printed, refused, page_answer}
 use Rattle.call_page.specs.Paged.{Put, all_or_none}
@@ -40,7 +41,7 @@ module _ {m n : ℕ} {page x text : List ℕ} (put : Put m page x text n) (out :
   pub room : length (take k text) ≤ length out
   room = omega (arith, long, all_in n (length out))
 
-  module _ (after : List ℕ) (e : after ≡ take (length (take k text)) (take k text) ++ drop (length (take k text)) out) where
+  module _ (after : List ℕ) (e : after ≡ written (take k text) out) where
     pub kept : length out < n → after ≡ out
     kept h =
         let none : k ≡ 0 = rw (lt-leb n (length out) h) at all in

@@ -7,7 +7,8 @@ use mathlib.Core.List.{List, [], ◌∷◌, ◌++◌, append_assoc}
 use lib.ListN.{length, take, drop, set, length-append}
 use lib.Seq.{drop-cons, set-append_seam, take-append_seam}
 use borrow.Rule.Slice.PartMut.{mid_of, put_mid}
-use Rattle.lists.proofs.Written.{written_then, written_copy, written_long}
+use Rattle.lists.specs.Written.{written}
+use Rattle.lists.proofs.Written.{written_then, written_long}
 use Rattle.call_page.specs.Paged.{Put}
 
 -- a text, and another in what is left
@@ -20,8 +21,8 @@ then {a = a} {b} {x} e f =
     }
 
 -- a text that was copied
-pub copied : (m : ℕ) (s text x y : List ℕ) (r : ℕ) → s ≡ text → r ≡ length s → y ≡ take (length s) s ++ drop (length s) x → r ≤ m → Put m text x y r
-copied m s text x y r t e f h = rw (← t) record { placed = written_copy s x f; long = e; fits = h }
+pub copied : (m : ℕ) (s text x y : List ℕ) (r : ℕ) → s ≡ text → r ≡ length s → y ≡ written s x → r ≤ m → Put m text x y r
+copied m s text x y r t e f h = rw (← t) record { placed = f; long = e; fits = h }
 
 -- and one byte after a text
 pub and_byte : {m : ℕ} {a x y : List ℕ} {p : ℕ} (b : ℕ) → Put m a x y p → m < length x → Put (m + 1) (a ++ (b ∷ [])) x (set y p b) (p + 1)

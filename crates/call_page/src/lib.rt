@@ -1,4 +1,6 @@
 // The page on a lent store: a header and a line for each voice, into a lent buffer. The edges tell which port a voice feeds now.
+#![tactic(auto)]
+
 mod put;
 
 ghost use Rattle.std.specs.Prelude.{◌≡◌, min, length};
@@ -11,8 +13,8 @@ ghost use Rattle.memory.specs.Lent.{lent_page};
 ghost use Rattle.memory.specs.Called.{Called};
 ghost use Rattle.call_page.specs.Paged.{paged_of, all_or_none, length_of};
 
-use bytes::copy;
 use graph_rows::edge_row::EdgeTable;
+use lists::byte::copy;
 use lists::number::at_most;
 use memory::state::State;
 use node::refusal::Refusal;

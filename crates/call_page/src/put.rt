@@ -8,9 +8,9 @@ ghost use Rattle.model.specs.Decimal.{decimal};
 ghost use Rattle.model.specs.Page as paper;
 ghost use Rattle.call_page.specs.Paged.{Put};
 
-use bytes::copy;
 use graph_rows::edge_row::EdgeTable;
 use graph_tables::ports::feeding_edge;
+use lists::byte::copy;
 use lists::number::at_most;
 use store::voices::VoiceState;
 use voice_rows::feeding::end_at;

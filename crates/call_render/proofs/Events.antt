@@ -25,7 +25,7 @@ use Rattle.store.specs.declared.answer.Outcome.TheVariants.{Applied, NoVoice}
 use Rattle.store.specs.declared.voices.Voice.{Voice}
 use Rattle.model.specs.SharedState.{SharedState, with_events}
 use Rattle.model.specs.Model.{Model, freed}
-use Rattle.model.specs.Order.{order, outcome_number, free_outcome}
+use Rattle.model.specs.Order.{outcome_number, free_outcome}
 use Rattle.lists.specs.Written.{written}
 use Rattle.model.proofs.Outcomes.{count_is}
 use Rattle.model.specs.Render.{is_free, any_free, apply_event, apply_events, outcomes}

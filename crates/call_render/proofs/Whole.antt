@@ -12,12 +12,10 @@ use Rattle.lists.specs.Find.{is_some}
 use Rattle.node.specs.declared.refusal.Refusal.{Refusal}
 use Rattle.node.specs.declared.refusal.Refusal.TheVariants.{ClockEnd, ShortBuffer}
 use Rattle.prepare.specs.declared.Readiness.{Readiness}
-use Rattle.prepare.specs.declared.Readiness.TheVariants as Readiness
 use Rattle.prepare.specs.Prepare as order
 use Rattle.graph.specs.Tables.{sink_of}
 use Rattle.scheduler.specs.Queue.{taken_before}
 use Rattle.store.specs.declared.answer.Rendered.{Rendered}
-use Rattle.store.specs.declared.answer.Rendered.TheVariants as Rendered
 use Rattle.model.specs.SharedState.{SharedState, sounding, with_clock}
 use Rattle.model.specs.Model.{Model}
 use Rattle.model.specs.Render.{Heard, heard, answer_after, prepare_outcome, prepare_shared, ready_shared, any_free, apply_events, deadline, prepared_if, is_sounding, moved_if, outcomes, render_refusal}

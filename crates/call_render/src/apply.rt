@@ -27,7 +27,7 @@ pub(crate) fn is_free(a: EventAction) -> bool
 }
 
 // How many voices are noted after an event, and what became of it.
-#[derive(Drop)]
+#[derive(Clone, Copy)]
 pub(crate) struct EventResult {
     pub count: usize,
     pub outcome: Outcome,

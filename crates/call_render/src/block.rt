@@ -20,7 +20,7 @@ use voice_rows::fade::move_fades;
 use voice_rows::row::VoiceTable;
 
 // The state that a part of the render left, and what the render answers.
-#[derive(Drop)]
+#[derive(Clone, Copy)]
 pub(crate) struct Block {
     pub state: State,
     pub answer: Rendered,

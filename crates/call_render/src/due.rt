@@ -43,7 +43,7 @@ pub(crate) fn any_free(t: &[u32], count: usize, deadline: u64) -> bool
 }
 
 // How many voices the due events have freed, and how many events there were.
-#[derive(Drop)]
+#[derive(Clone, Copy)]
 pub(crate) struct DueResult {
     pub freed: usize,
     pub taken: usize,
@@ -86,7 +86,7 @@ fn apply_due(
 }
 
 // The state that the due events left, and how many they were.
-#[derive(Drop)]
+#[derive(Clone, Copy)]
 pub(crate) struct EventsResult {
     pub state: State,
     pub taken: usize,

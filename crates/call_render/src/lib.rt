@@ -1,4 +1,6 @@
 // Render on a lent store: the events before clock + block, one prepare if any was a free, the fades and the clock.
+#![tactic(auto)]
+
 mod apply;
 mod block;
 mod due;

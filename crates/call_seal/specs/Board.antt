@@ -14,15 +14,11 @@ use Rattle.sealed.specs.declared.profile.Seal.TheVariants.{Unsealed, Sealed}
 use Rattle.sealed.specs.declared.refusal.SealRefusal.TheVariants.{Closed}
 use Rattle.sealed.specs.Board.{Board, BoardCall, on, BoardAnswer, given, sealed, refused, BoardStep, board_step}
 use Rattle.call_seal.specs.declared.sealing.SealAnswer.{SealAnswer}
-use Rattle.call_seal.specs.declared.sealing.SealAnswer.TheVariants as SealAnswer
 use Rattle.call_seal.specs.declared.host.BoardAnswer as host
 use Rattle.call_seal.specs.declared.host.BoardAnswer.TheVariants as BoardHost
 use Rattle.call_seal.specs.declared.host.BoardNode.{BoardNode}
-use Rattle.call_seal.specs.declared.host.BoardNode.TheVariants as BoardNode
 use Rattle.call_seal.specs.declared.spawn.BoardSpawned.{BoardSpawned}
-use Rattle.call_seal.specs.declared.spawn.BoardSpawned.TheVariants as BoardSpawned
 use Rattle.call_seal.specs.declared.wishing.BoardWished.{BoardWished}
-use Rattle.call_seal.specs.declared.wishing.BoardWished.TheVariants as BoardWished
 
 -- the board: the console, and the seal
 pub record BoardMemory : Type 0 where

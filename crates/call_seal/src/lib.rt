@@ -1,4 +1,6 @@
 // Sealing a board, and the calls that a seal may close (02, Paper 14). A call that no seal closes stays as it is: it is not lent the seal.
+#![tactic(auto)]
+
 pub mod accept;
 pub mod closing;
 pub mod host;

@@ -7,7 +7,6 @@ use mathlib.Core.Option.{Option, none, some}
 use Rattle.node.specs.declared.refusal.Refusal.TheVariants.{NoPort}
 use Rattle.edges.specs.Ports.{port_of}
 use Rattle.edges.specs.declared.ports.Port.{Port}
-use Rattle.edges.specs.declared.ports.Port.TheVariants as Port
 use Rattle.voice.specs.declared.policy.Budget.{Budget}
 use Rattle.store.specs.declared.voices.Voice.{Voice}
 use Rattle.store.specs.declared.voices.VoiceState.{VoiceState}

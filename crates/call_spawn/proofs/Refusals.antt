@@ -16,7 +16,6 @@ use Rattle.bus_room.proofs.Laws.{brief_ports}
 use Rattle.node.specs.declared.refusal.Refusal.TheVariants.{BusWithoutPorts, RankTooHigh}
 use Rattle.graph.specs.Tables.{answer_of}
 use Rattle.graph.specs.declared.state.Answer.{Answer}
-use Rattle.graph.specs.declared.state.Answer.TheVariants as Answer
 use Rattle.model.specs.Refuse.{or_else}
 use Rattle.call_spawn.specs.Room.{bus_brief}
 

@@ -12,7 +12,6 @@ use Rattle.edges.specs.Ports.{port_from}
 use Rattle.voice.specs.declared.policy.Admission.{Admission}
 use Rattle.voice.specs.declared.policy.Admission.TheVariants as admission
 use Rattle.store.specs.declared.answer.Spawned.{Spawned}
-use Rattle.store.specs.declared.answer.Spawned.TheVariants as Spawned
 use Rattle.store.specs.declared.voices.Voice.{Voice}
 use Rattle.store.specs.declared.voices.VoiceState.TheVariants.{Loose}
 use Rattle.model.specs.Refuse.{spawn_refusal}

@@ -1,5 +1,7 @@
 // The blocks of sound that a store's host works out by its rules: the output of a fade and the sum of a bus. What making fixed says how
 // many samples a block has, how long a fade is, and whether its gains are the fade table's. No table of the store is needed.
+#![tactic(auto)]
+
 ghost use Rattle.std.specs.Prelude.{◌≡◌};
 ghost use Rattle.bus.specs.declared.Written.TheVariants as written;
 ghost use Rattle.node.specs.declared.refusal.Refusal as refusal;

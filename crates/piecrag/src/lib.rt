@@ -1,5 +1,6 @@
 // The store: the calls that a host makes on memory that it lends, the tables that it lends, and the types of arguments and answers.
 // What else writes a store is no call, and is not shown here.
+#![tactic(auto)]
 
 // ---- the state, which goes by value, and the six tables with how many words each has
 pub use event_table::row::{EVENT_WORDS, EventTable};

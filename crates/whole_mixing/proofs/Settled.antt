@@ -9,7 +9,7 @@ use lib.ListN.{length}
 use Rattle.node.specs.declared.refusal.Refusal.{Refusal}
 use Rattle.bus.specs.Fade.{fade_length}
 use Rattle.bus.specs.declared.Written.{Written}
-use Rattle.bus.specs.declared.Written.TheVariants.{Done, Refused}
+use Rattle.bus.specs.declared.Written.TheVariants.{Refused}
 use Rattle.whole_bus.specs.Block.{answer_of, left_by, fade_refusal, fade_output}
 use Rattle.store.specs.declared.config.Config.{Config}
 use Rattle.model.specs.Block.{whole_gains_of}

@@ -1,5 +1,7 @@
 // Fade output and bus sum in whole numbers, as questions of a store. What making fixed says how many samples a block has, how long a fade is, and
 // whether its gains are the fade table's entries. No table of the store is needed.
+#![tactic(auto)]
+
 ghost use Rattle.std.specs.Prelude.{◌≡◌};
 ghost use Rattle.bus.specs.declared.Written.TheVariants as written;
 ghost use Rattle.node.specs.declared.refusal.Refusal as refusal;

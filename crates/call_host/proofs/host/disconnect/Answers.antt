@@ -1,0 +1,27 @@
+use mathlib.Core.Path.{ap}
+use Rattle.model.specs.Call as call
+use Rattle.memory.specs.Lent.{lent_graph}
+use Rattle.memory.proofs.Contracts.{kept_none, refused_back}
+use Rattle.call_host.proofs.Wiring.{disconnects_not, disconnects}
+use Rattle.call_host.proofs.host.disconnect.Goals as goal
+
+pub returns-in-Refused : goal.returns-in-Refused
+returns-in-Refused c =
+    let a = c.args in
+    let t = c.port_answer-test in
+    let r = c.refuse in
+    record {
+      is = λ m. refused_back (call.disconnect a.to a.port) (λ k. lent_graph k a.nodes.now a.edges.now m) a.s r.result _ r.ensures (disconnects_not a.s a.nodes.now a.edges.now a.to a.port t.result t.ensures m _ c.in-Refused.is);
+      same = λ m e. ap (λ k. lent_graph k a.nodes.now a.edges.now m) r.ensures.0;
+    }
+
+pub returns-in-Done : goal.returns-in-Done
+returns-in-Done c =
+    let a = c.args in
+    let t = c.port_answer-test in
+    let d = c.drop_port-n in
+    let u = c.with_graph-state in
+    record {
+      is = λ m. disconnects a.s a.nodes.now a.edges.now a.to a.port t.result t.ensures m c.in-Done.is d.result d.new.edges d.ensures u.result u.ensures;
+      same = λ m e. kept_none e;
+    }
