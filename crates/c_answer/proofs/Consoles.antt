@@ -10,7 +10,6 @@ use Rattle.memory.specs.declared.state.State.{State}
 use Rattle.call_console.specs.declared.queues.WishState.{WishState}
 use Rattle.call_console.specs.declared.turning.TurnAnswer.{TurnAnswer}
 use Rattle.call_console.specs.declared.making.MakeAnswer.{MakeAnswer}
-use Rattle.call_console.specs.declared.making.MakeAnswer.TheVariants as MakeAnswer
 use Rattle.call_console.specs.Called.{ConsoleMemory, memory, console_of, Called, Kept, turn_answer, made_of}
 use Rattle.state_words.specs.State.{state_in}
 use Rattle.wish_state_words.specs.Waiting.{waiting_in}

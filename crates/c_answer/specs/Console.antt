@@ -10,7 +10,6 @@ use Rattle.memory.specs.Lent.{lent_state}
 use Rattle.memory.specs.Called.{keeps}
 use Rattle.call_console.specs.declared.queues.WishState.{WishState}
 use Rattle.call_console.specs.declared.turning.TurnAnswer.{TurnAnswer}
-use Rattle.call_console.specs.declared.turning.TurnAnswer.TheVariants as TurnAnswer
 use Rattle.call_console.specs.Called.{ConsoleMemory, memory, console_of, turn_answer}
 use Rattle.state_words.specs.State.{state_in}
 use Rattle.wish_state_words.specs.Waiting.{waiting_in}

@@ -19,7 +19,7 @@ use edges::ports::Source;
 use graph_rows::edge_row::set_edge;
 use graph_rows::node_row::put_node;
 use node::record::{Edge, Node};
-use state_words::flag;
+pub use state_words::flag;
 use store::answer::{Paged, Position};
 use store::voices::Voice;
 use voice::policy::Level;

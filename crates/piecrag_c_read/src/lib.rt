@@ -1,5 +1,7 @@
 // The store's reading calls for a host in C, the page, fade output and bus sum. What is read stands in cells and records that the host
 // lends; a record has the words of a row of its table.
+#![tactic(auto)]
+
 pub mod cell;
 pub mod look;
 pub mod mix;

@@ -9,7 +9,6 @@ use Rattle.console.specs.Console.{plain, accepted, served, empty}
 use Rattle.console.specs.Console as console
 use Rattle.call_console.specs.declared.queues.WishState.{WishState}
 use Rattle.call_console.specs.declared.wishing.WishAnswer.{WishAnswer}
-use Rattle.call_console.specs.declared.wishing.WishAnswer.TheVariants as WishAnswer
 use Rattle.call_console.specs.Called.{wish_answer}
 use Rattle.sealed.specs.declared.profile.Seal.{Seal}
 use Rattle.sealed.specs.Board.{BoardCall, BoardAnswer, given, sealed, refused, BoardStep, board_step}

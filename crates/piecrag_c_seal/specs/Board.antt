@@ -7,9 +7,7 @@ use Rattle.console.specs.Console as console
 use Rattle.sealed.specs.Refusal.{number_of}
 use Rattle.sealed.specs.Board.{BoardCall, BoardAnswer, given, sealed, refused, board_step}
 use Rattle.call_seal.specs.declared.host.BoardNode.{BoardNode}
-use Rattle.call_seal.specs.declared.host.BoardNode.TheVariants as BoardNode
 use Rattle.call_seal.specs.declared.spawn.BoardSpawned.{BoardSpawned}
-use Rattle.call_seal.specs.declared.spawn.BoardSpawned.TheVariants as BoardSpawned
 use Rattle.call_seal.specs.Board.{BoardMemory, board_of}
 use Rattle.sealed.specs.declared.profile.Seal.{Seal}
 use Rattle.c_answer.specs.Exported.{node_cell, voice_cell}

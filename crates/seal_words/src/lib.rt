@@ -1,4 +1,6 @@
 // The seal of a board in 12 lent words, for a host that holds words only. Any words stand for a seal; zeros for none.
+#![tactic(auto)]
+
 ghost use Rattle.std.specs.Prelude.{◌≡◌};
 ghost use Rattle.sealed.specs.declared.profile.Seal.TheVariants.{Sealed};
 ghost use Rattle.seal_words.specs.Seal.{profile_in, seal_in};

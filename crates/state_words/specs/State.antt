@@ -1,16 +1,11 @@
 -- The state in 32 words, for a host that holds words only. Any words stand for a state, and what was written is read back.
-use Rattle.std.specs.Prelude.{ℕ, ◌+◌, ◌*◌, ◌/◌, ◌%◌, ◌≡◌, refl, List, [], ◌∷◌, Bool, true, false, cond, eqb, get_or}
+use Rattle.std.specs.Prelude.{ℕ, ◌/◌, ◌%◌, ◌≡◌, refl, List, [], ◌∷◌, Bool, true, false, cond, eqb, get_or}
 use Rattle.std.proofs.Common.{arith, ap, ◌∙◌}
 use Rattle.graph.specs.declared.state.Sink.{Sink}
-use Rattle.graph.specs.declared.state.Sink.TheVariants as Sink
 use Rattle.voice.specs.declared.policy.Budget.{Budget}
-use Rattle.voice.specs.declared.policy.Budget.TheVariants as Budget
 use Rattle.voice.specs.declared.policy.StealPolicy.{StealPolicy}
-use Rattle.voice.specs.declared.policy.StealPolicy.TheVariants as StealPolicy
 use Rattle.voice.specs.declared.policy.BudgetScope.{BudgetScope}
-use Rattle.voice.specs.declared.policy.BudgetScope.TheVariants as BudgetScope
 use Rattle.words.specs.Fields.{long_from, long_at, is_set}
-use Rattle.node.specs.declared.record.NodeId.{NodeId}
 use Rattle.memory.specs.declared.state.State.{State}
 use Rattle.store.specs.declared.config.Config.{Config}
 

@@ -1,4 +1,6 @@
 // The state in 32 lent words, for a host that holds words only. Any words stand for a state.
+#![tactic(auto)]
+
 ghost use Rattle.std.specs.Prelude.{◌≡◌, ◌/◌, ◌%◌, ◌<◌};
 ghost use Rattle.words.specs.Fields.{long_from, long_at};
 ghost use Rattle.state_words.specs.State.{state_in, words_of, budget_in, policy_in, scope_in, sink_in, budget_tag, budget_count, policy_tag, scope_tag, sink_tag, sink_id, flag_of};

@@ -1,4 +1,6 @@
 // What a console holds beside its table of wishes, in 12 lent words, for a host that holds words only. Any words stand for such a state.
+#![tactic(auto)]
+
 ghost use Rattle.std.specs.Prelude.{◌≡◌, ◌/◌, ◌%◌};
 ghost use Rattle.wish_state_words.specs.Waiting.{queue_from, waiting_in};
 

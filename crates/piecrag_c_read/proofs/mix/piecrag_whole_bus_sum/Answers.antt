@@ -1,0 +1,17 @@
+use mathlib.Core.Path.{sym, ap, ◌∙◌}
+use Rattle.model.specs.Call.{whole_sum_answer}
+use Rattle.piecrag_c_read.proofs.Reading.{whole_code}
+use Rattle.piecrag_c_read.proofs.mix.piecrag_whole_bus_sum.Goals as goal
+
+pub returns : goal.returns
+returns c =
+    let a = c.args in
+    let r = c.bus_sum in
+    let out = r.new.out in
+    λ m.
+    record {
+      value = r.result;
+      answer = sym (r.ensures.is ∙ ap (λ g. whole_sum_answer g a.inputs.now a.counts.now a.out.now a.outs) c.config_in-config.ensures);
+      number = c.written_code.ensures ∙ whole_code r.result out;
+      held = r.ensures.same;
+    }
