@@ -5,7 +5,10 @@
 //     book rewrite            reads a book, and writes the book that the writer makes of its definition
 //     book WORD .. FILE ..    the same for files: `read`, `write` and `rewrite` say what is done with the files after them, and
 //                             after `hex` books are printed in hexadecimal
+#![tactic(auto)]
+
 mod define;
+mod file;
 mod line;
 mod show;
 mod words;
@@ -16,9 +19,12 @@ use codec::field::{bytes_at, input_room};
 use codec::word::{and_number, end_line, hex_bytes, number, text};
 use def_book::answer::{ReadAnswer, WriteAnswer, read_number, write_number};
 use define::define;
-use libc::STDIN_FILENO;
+use file::{fail, open, read_full};
 use line::same_bytes;
 use show::show;
+use std::env::FillError;
+use std::io::Read;
+use std::rt::{Env, Files};
 use synthdef::def::SynthDef;
 
 // What is done with an input.
@@ -124,9 +130,9 @@ fn answer(m: Mode, s: &[u8]) {
 }
 
 // Answers what stands in a file or comes from standard input, if it is not too long. The room holds more than is taken.
-fn answer_from(m: Mode, fd: i32) {
+fn answer_from<S: Read>(m: Mode, input: &mut S) {
     let mut space = input_room();
-    let n = io::read_full(fd, &mut space);
+    let n = read_full(input, &mut space);
     if n > 393215 {
         text(b"longer than 393215 bytes\n");
         return;
@@ -134,20 +140,19 @@ fn answer_from(m: Mode, fd: i32) {
     answer(m, &space[..n]);
 }
 
-fn answer_file(m: Mode, path: &[u8]) {
-    let fd = os::open_read(path);
-    if fd < 0 {
-        os::fail(path);
-        return;
+fn answer_file<R: Files>(rt: &R, m: Mode, path: &[u8]) {
+    match open(rt, path) {
+        Ok(mut file) => {
+            text(path);
+            end_line();
+            answer_from(m, &mut file);
+        }
+        Err(error) => fail(path, error),
     }
-    text(path);
-    end_line();
-    answer_from(m, fd);
-    libc::close(fd);
 }
 
 // Takes one word of the command line: a verb, `hex`, or the name of a file, which is answered.
-fn take_word(m: Mode, word: &[u8]) -> Mode {
+fn take_word<R: Files>(rt: &R, m: Mode, word: &[u8]) -> Mode {
     let verb = m.verb;
     if same_bytes(word, b"read") {
         return Mode {
@@ -177,7 +182,7 @@ fn take_word(m: Mode, word: &[u8]) -> Mode {
             files: m.files,
         };
     }
-    answer_file(m, word);
+    answer_file(rt, m, word);
     Mode {
         verb,
         hex: m.hex,
@@ -185,30 +190,35 @@ fn take_word(m: Mode, word: &[u8]) -> Mode {
     }
 }
 
-fn take_argument(m: Mode, i: usize) -> Mode {
+// Takes the word at `i`, if there is one. A word of more than 4,096 bytes is taken as an empty one, which names no file.
+fn take_argument<R: Env + Files>(rt: &R, m: Mode, i: usize) -> Option<Mode> {
     let mut word = io::buffer();
-    let n = os::arg(i, &mut word);
-    take_word(m, &word[..n])
+    match rt.arg(i, &mut word) {
+        Ok(n) => Some(take_word(rt, m, &word[..n])),
+        Err(FillError::TooLong) => Some(take_word(rt, m, b"")),
+        Err(FillError::NotPresent) => None,
+    }
 }
 
-fn take_arguments() -> Mode {
-    let count = os::arg_count();
+// Takes the words behind the program's own name, one after the other.
+fn take_arguments<R: Env + Files>(rt: &R) -> Mode {
     let mut m = Mode {
         verb: Verb::Read,
         hex: false,
         files: false,
     };
-    let mut i: usize = 1;
-    while i < count {
-        m = take_argument(m, i);
-        i += 1;
+    for i in 1..usize::MAX {
+        match take_argument(rt, m, i) {
+            Some(next) => m = next,
+            None => return m,
+        }
     }
     m
 }
 
-fn main() {
-    let m = take_arguments();
+fn main(rt: HostRuntime) {
+    let m = take_arguments(&rt);
     if !m.files {
-        answer_from(m, STDIN_FILENO);
+        answer_from(m, &mut rt.stdin());
     }
 }

@@ -1,6 +1,6 @@
 // A definition as text: a line for the output, and one for each node, edge and parameter.
+use codec::descriptor::STDOUT;
 use codec::word::{and_number, end_line, text};
-use libc::STDOUT_FILENO;
 use lists::number::at_most;
 use node::name::Name;
 use synthdef::def::{DefEdge, DefEdges, DefNode, DefNodes, NO_PORT, Param, Params, SynthDef};
@@ -13,7 +13,7 @@ fn show_byte(b: u8) {
         return;
     }
     text(b"%");
-    io::print_hex(STDOUT_FILENO, b as u64, 2);
+    io::print_hex(STDOUT, b as u64, 2);
 }
 
 fn show_name(n: Name) {

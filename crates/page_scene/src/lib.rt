@@ -1,4 +1,6 @@
 // The scene of 01's page, played by the store's calls.
+#![tactic(auto)]
+
 ghost use Rattle.std.specs.Prelude.{◌≡◌, false};
 ghost use Rattle.model.specs.Call.{page_answer};
 ghost use Rattle.model.specs.Make.{new_model};

@@ -1,5 +1,7 @@
 // Runs the busiest stretch on runs of 0, 1, 64 and 4,096 records and on the store's ring, and compares each answer with a count over
 // every stretch, from sample 0 to the last.
+#![tactic(auto)]
+
 mod count;
 mod runs;
 mod show;
