@@ -5,6 +5,8 @@ ghost use Rattle.std.specs.Float.{binary32, binary64};
 ghost use Rattle.std.specs.Float.Ieee.{of_bits};
 ghost use Rattle.codec.specs.Field.{moved, little, run, fields};
 
+pub use lists::number::at_most;
+
 // The position n bytes after `at`. It stops at the last position of all, which no input reaches.
 pub fn after(at: usize, n: usize) -> usize
     ensures { result ≡ moved at n }

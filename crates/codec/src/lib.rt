@@ -1,5 +1,8 @@
 // What the programs that are compared with the Rust read and write: fields of a binary input that is lent whole, and the words
 // of a line of text.
+#![tactic(auto)]
+
+pub mod descriptor;
 pub mod field;
 pub mod output;
 pub mod word;

@@ -1,8 +1,8 @@
 // The words of a line, gathered in a lent buffer and written to standard output when it is full and at the end. A program that writes
 // much makes one call of the system for some thousand words.
+use crate::descriptor::STDOUT;
 use crate::field::{after, byte_at, bytes_at, pair_at};
 use crate::word::{long_pattern, pattern};
-use libc::STDOUT_FILENO;
 use lists::byte::long;
 
 // How many bytes are gathered, in two bytes; 1 where a write has failed; a byte that is not used; then the gathered bytes.
@@ -44,7 +44,7 @@ fn written(failed: bool, s: &[u8]) -> bool {
     if failed {
         return false;
     }
-    io::write_all(STDOUT_FILENO, s)
+    io::write_all(STDOUT, s)
 }
 
 fn note_failed(out: &mut [u8], done: bool) {

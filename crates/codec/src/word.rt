@@ -3,7 +3,7 @@ ghost use Rattle.std.specs.Prelude.{◌≡◌};
 ghost use Rattle.std.specs.Float.{binary32, binary64};
 ghost use Rattle.codec.specs.Pattern.{pattern_of};
 
-use libc::STDOUT_FILENO;
+use crate::descriptor::STDOUT;
 use lists::byte::long;
 
 pub fn pattern(x: f32) -> u32
@@ -25,19 +25,19 @@ pub fn long_pattern(x: f64) -> u64
 }
 
 pub fn text(s: &[u8]) {
-    io::write_all(STDOUT_FILENO, s);
+    io::write_all(STDOUT, s);
 }
 
 pub fn number(n: u64) {
-    io::print_decimal(STDOUT_FILENO, n);
+    io::print_decimal(STDOUT, n);
 }
 
 pub fn sample(x: f32) {
-    io::print_hex(STDOUT_FILENO, pattern(x) as u64, 8);
+    io::print_hex(STDOUT, pattern(x) as u64, 8);
 }
 
 pub fn long_sample(x: f64) {
-    io::print_hex(STDOUT_FILENO, long_pattern(x), 16);
+    io::print_hex(STDOUT, long_pattern(x), 16);
 }
 
 pub fn end_line() {
@@ -67,7 +67,7 @@ pub fn and_samples(xs: &[f32]) {
 pub fn hex_bytes(s: &[u8]) {
     let mut i: usize = 0;
     while i < s.len() {
-        io::print_hex(STDOUT_FILENO, long(s[i]), 2);
+        io::print_hex(STDOUT, long(s[i]), 2);
         i += 1;
     }
 }

@@ -1,10 +1,10 @@
-// A script from standard input, and its transcript.
+// A script that is read part by part, and its transcript.
 use crate::player::{first_board, play_entry};
 use crate::slots::{is_kept, keep, no_slots, slot_at};
 use crate::window::{end_at, fill, move_front, window_room};
+use codec::descriptor::STDERR;
 use codec::field::after;
 use codec::output::{Output, and_number, end_line, flush, has_failed, output_room, text};
-use libc::STDERR_FILENO;
 use piecrag::{
     EDGE_WORDS, EVENT_WORDS, NODE_WORDS, ORDER_WORDS, STEAL_WORDS, VOICE_WORDS, WISH_WORDS,
 };
@@ -59,10 +59,10 @@ fn left_behind(held: usize, at: usize) -> usize {
 }
 
 // What is left of the window moves to its front, and the script is read on.
-fn read_on(window: &mut [u8], run: Run) -> Run {
+fn read_on<S: std::io::Read>(input: &mut S, window: &mut [u8], run: Run) -> Run {
     let at = run.end;
     move_front(window, at);
-    let r = fill(window, left_behind(run.held, at));
+    let r = fill(input, window, left_behind(run.held, at));
     Run {
         held: r.held,
         more: r.more,
@@ -76,12 +76,12 @@ fn read_on(window: &mut [u8], run: Run) -> Run {
 }
 
 // The next entry. One that the window does not hold whole is looked for once more after a read.
-fn next_entry(window: &mut [u8], run: Run) -> Run {
+fn next_entry<S: std::io::Read>(input: &mut S, window: &mut [u8], run: Run) -> Run {
     let next = step(window, run);
     if !next.ended || !run.more {
         return next;
     }
-    let further = read_on(window, run);
+    let further = read_on(input, window, run);
     step(window, further)
 }
 
@@ -95,7 +95,7 @@ fn last_line(out: &mut Output, word: &[u8], n: usize) {
 fn end_run(out: &mut Output, run: Run) {
     if run.failed {
         last_line(out, b"unread", after(run.base, run.held));
-        io::write_all(STDERR_FILENO, b"the script cannot be read on\n");
+        io::write_all(STDERR, b"the script cannot be read on\n");
     } else if run.at == run.held {
         last_line(out, b"played", run.count);
     } else {
@@ -103,12 +103,12 @@ fn end_run(out: &mut Output, run: Run) {
     }
     flush(out);
     if has_failed(out) {
-        io::write_all(STDERR_FILENO, b"the transcript cannot be written\n");
+        io::write_all(STDERR, b"the transcript cannot be written\n");
     }
 }
 
-// Plays the script on standard input on newly made stores, and writes the transcript.
-pub fn play_input() {
+// Plays the script on newly made stores, and writes the transcript to standard output.
+pub fn play_input<S: std::io::Read>(input: &mut S) {
     let mut window = window_room();
     let mut out = output_room();
     let mut nodes = [0u32; NODE_WORDS];
@@ -124,7 +124,7 @@ pub fn play_input() {
     let mut left = usize::MAX;
     while 0 < left {
         left -= 1;
-        run = next_entry(&mut window, run);
+        run = next_entry(input, &mut window, run);
         if run.ended || has_failed(&out) {
             break;
         }

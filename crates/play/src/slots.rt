@@ -4,7 +4,7 @@ use codec::output::{Output, text};
 use piecrag::SynthDef;
 use script::def::def_at;
 
-#[derive(Drop)]
+#[derive(Clone, Copy)]
 pub(crate) struct Slots {
     rows: [SynthDef; 16],
 }

@@ -2,7 +2,6 @@
 ghost use Rattle.std.specs.Prelude.{◌≡◌, length};
 
 use codec::field::after;
-use libc::STDIN_FILENO;
 use lists::number::at_most;
 use script::entry::entry_end;
 
@@ -16,7 +15,7 @@ pub(crate) fn window_room() -> [u8; 262144]
 
 // How reading went on: so many bytes are held; whether more may come; whether a read failed; whether there is nothing left to read, or
 // no room for it.
-#[derive(Drop)]
+#[derive(Clone, Copy)]
 pub(crate) struct Read {
     pub held: usize,
     pub more: bool,
@@ -25,28 +24,29 @@ pub(crate) struct Read {
 }
 
 // One read behind the first `held` bytes of the window.
-fn read_on(window: &mut [u8], held: usize) -> Read {
+fn read_on<S: std::io::Read>(input: &mut S, window: &mut [u8], held: usize) -> Read {
     let n = at_most(held, window.len());
-    let got = libc::read(STDIN_FILENO, &mut window[n..]);
-    let new = io::count(got, window);
+    let got = input.read(&mut window[n..]);
+    let failed = got.is_err();
+    let new = got.unwrap_or(0);
     let sum = at_most(after(n, new), window.len());
     Read {
         held: sum,
         more: new != 0,
-        failed: got < 0,
+        failed,
         done: new == 0 || sum == window.len(),
     }
 }
 
 // Reads until the window is full, the script ends or a read fails. A read moves a byte at least, or is the last.
-pub(crate) fn fill(window: &mut [u8], held: usize) -> Read {
-    let mut r = read_on(window, held);
+pub(crate) fn fill<S: std::io::Read>(input: &mut S, window: &mut [u8], held: usize) -> Read {
+    let mut r = read_on(input, window, held);
     let mut left = window.len();
     while 0 < left {
         if r.done {
             return r;
         }
-        r = read_on(window, r.held);
+        r = read_on(input, window, r.held);
         left -= 1;
     }
     r

@@ -1,5 +1,7 @@
 // The entries of a script that the host makes on a store: counters, nodes and wiring, voices, blocks, questions. Each is played by its public
 // call, and what it answers is written.
+#![tactic(auto)]
+
 pub mod blocks;
 pub mod host;
 pub mod tell;

@@ -1,4 +1,6 @@
 // The port search of a spawn alone, for a driver in Rust that times it (oracle/bench).
+#![tactic(auto)]
+
 ghost use Rattle.std.specs.Prelude.{◌≡◌, take};
 ghost use Rattle.edges.specs.Ports.{port_of, free_port};
 ghost use Rattle.graph_rows.specs.Edge.{edges_in};

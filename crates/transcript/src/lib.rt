@@ -1,4 +1,6 @@
 // The lines of a transcript, written to standard output. docs/REPLAY.md describes them.
+#![tactic(auto)]
+
 pub mod answer;
 pub mod graphs;
 pub mod line_words;

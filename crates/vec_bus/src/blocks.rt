@@ -1,10 +1,10 @@
 // Sample rates, fade lengths, noise seeds, fade output and bus sums.
 use bus::{SampleRate, Written};
+use codec::descriptor::STDOUT;
 use codec::field::{
     after, float, float_room, floats_at, lent_at, long_at, word_at, word_room, words_at,
 };
 use codec::word::{and_number, and_samples, end_line, number, text};
-use libc::STDOUT_FILENO;
 use mixing::FadePart;
 use node::refusal::refusal_number;
 use store::config::Config;
@@ -45,7 +45,7 @@ pub fn fade_lengths(s: &[u8], at: usize) -> usize {
 
 pub fn seed(s: &[u8], at: usize) -> usize {
     let seed = bus::derive_noise_seed(word_at(s, at), long_at(s, after(at, 4)) as usize);
-    io::print_hex(STDOUT_FILENO, seed as u64, 8);
+    io::print_hex(STDOUT, seed as u64, 8);
     end_line();
     after(at, 12)
 }

@@ -1,3 +1,5 @@
 // Answers the vectors of `level` and `bus`.
+#![tactic(auto)]
+
 pub mod blocks;
 pub mod levels;

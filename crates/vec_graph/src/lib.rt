@@ -1,4 +1,6 @@
 // Answers the vectors of the graph: scripts of calls on a graph in lent tables.
+#![tactic(auto)]
+
 use call_host::host::{add_node, connect, disconnect, remove_node, set_sink};
 use call_make::make;
 use codec::field::{after, byte_at, long_at, word_at};

@@ -1,5 +1,7 @@
 // Answers the vectors of `synthdef`: whether a definition is allowed, its counted edges, which done flags silence it, and the nodes
 // of its parameters.
+#![tactic(auto)]
+
 use codec::field::{after, byte_at, word_at};
 use codec::word::{and_number, end_line, text};
 use lists::number::at_most;

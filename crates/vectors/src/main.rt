@@ -1,8 +1,10 @@
 // Answers vectors: reads them from standard input, calls the proved functions, and writes what they answer, for comparison with
 // what the Rust answers. docs/VECTORS.md describes the input and the lines.
+#![tactic(auto)]
+
+use codec::descriptor::STDIN;
 use codec::field::{after, byte_at, input_room, word_at};
 use codec::word::{end_line, number, text};
-use libc::STDIN_FILENO;
 use vec_bus::{blocks, levels};
 use vec_graph::script;
 use vec_synthdef::definition;
@@ -53,6 +55,6 @@ fn answer_all(s: &[u8]) {
 
 fn main() {
     let mut space = input_room();
-    let n = io::read_full(STDIN_FILENO, &mut space);
+    let n = io::read_full(STDIN, &mut space);
     answer_all(&space[..n]);
 }
