@@ -520,5 +520,5 @@ int main(int argc, char **argv)
     }
     if (argc <= 3)
         fprintf(stderr, "deepest stack: %lu bytes, beside %lu of the thread's own\n", (unsigned long)(all - own), (unsigned long)own);
-    return all - own > 65536;
+    return all - own > 98304;
 }

@@ -1,4 +1,4 @@
-//! Links the store's side: the static libraries that `rt staticlib` writes: those for C, and the port search.
+//! Links the store's side: the static libraries that `tools/build` writes: those for C, and the port search.
 
 use std::path::Path;
 
