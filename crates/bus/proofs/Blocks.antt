@@ -4,6 +4,8 @@
 use Rattle.std.proofs.Common.{◌≡◌, ℕ, zero, suc, ◌+◌, ◌*◌, ◌<◌, ◌≤◌, List, [], ◌∷◌, ◌++◌, length, get_or, take, drop, set, sym, refl, ap, ◌∙◌, subst, ⊎_elim, append_assoc, append-nil, le_of_suc-le-suc, mul-le-mul_right, suc-mul, add-sub_of_le, eq-or-lt_of_le, zero-mul, add-one, arith, length-append, length-drop, length-set, length-take, get_or-drop, drop-cons, get_or-take, drop-drop, take_at, get_or-append-add, ext_get_or, drop_at}
 use lib.ListN.{get_or-append}
 use lib.Seq.{drop-length, set_at, get_or_at}
+use Rattle.std.proofs.lemmas.List.{replicate-append-replicate}
+use Rattle.std.proofs.Math.ListN.{replicate}
 use Prim.Native.Nat.{zero-le}
 use Rattle.bus.specs.Block.{each, block_of, sample_at}
 
@@ -32,6 +34,21 @@ module _ {A : Type 0} where
       let front : each n f ≡ each n g = each_same n f g (λ i l. let k : i < suc n = omega arith in h i k) in
       let last : f n ≡ g n = let k : n < suc n = omega arith in h n k in
       cc
+
+  -- n times the same
+  pub each_replicate : (n : ℕ) (a : A) → each n (λ i. a) ≡ replicate n a
+  unfolding each
+  each_replicate zero a = refl
+  each_replicate (suc n) a =
+      ap (λ (l : List A). l ++ (a ∷ [])) (each_replicate n a) ∙ replicate-append-replicate n 1 a ∙ ap (λ (k : ℕ). replicate k a) (add-one n)
+
+  -- a list that is made by its places, in two parts
+  pub each_split : (n m : ℕ) (f : ℕ → A) → each (n + m) f ≡ each n f ++ each m (λ i. f (n + i))
+  unfolding each
+  each_split n zero f = let e : n + 0 ≡ n = omega arith in ap (λ (k : ℕ). each k f) e ∙ sym (append-nil (each n f))
+  each_split n (suc m) f =
+      let e : n + suc m ≡ suc (n + m) = omega arith in
+      ap (λ (k : ℕ). each k f) e ∙ ap (λ (l : List A). l ++ (f (n + m) ∷ [])) (each_split n m f) ∙ append_assoc (each n f) (each m (λ i. f (n + i))) (f (n + m) ∷ [])
 
   -- a list of n elements that are f 0, f 1, ..
   pub each_is : (n : ℕ) (f : ℕ → A) (d : A) (l : List A) → length l ≡ n → ((i : ℕ) → i < n → get_or l i d ≡ f i) → l ≡ each n f
@@ -104,6 +121,16 @@ module _ {A : Type 0} where
       let q : c * size + i < length (block_of n size f) = omega (arith, room n size c (length (block_of n size f)) (length_block n size f) p) in
       get_or-append (block_of n size f) (each size (f n)) d (c * size + i) q ∙ block_at n size f c i d p l)
       (eq-or-lt_of_le (le_of_suc-le-suc h))
+
+  -- a block by its places
+  pub block_each : (n size : ℕ) (f : ℕ → ℕ → A) (g : ℕ → A) → ((c i : ℕ) → c < n → i < size → f c i ≡ g (c * size + i)) → block_of n size f ≡ each (n * size) g
+  unfolding block_of each
+  block_each zero size f g h = ap (λ (k : ℕ). each k g) (sym (zero-mul size))
+  block_each (suc n) size f g h =
+      ap (λ (l : List A). l ++ each size (f n)) (block_each n size f g (λ c i p q. let k : c < suc n = omega arith in h c i k q))
+      ∙ ap (λ (l : List A). each (n * size) g ++ l) (let k : n < suc n = omega arith in each_same size (f n) (λ i. g (n * size + i)) (λ i q. h n i k q))
+      ∙ sym (each_split (n * size) size g)
+      ∙ ap (λ (k : ℕ). each k g) (sym (suc-mul n size))
 
   pub record Laying (size : ℕ) (f : ℕ → ℕ → A) (before now : List A) (c : ℕ) : Type 0 where
     pub long : length now ≡ length before

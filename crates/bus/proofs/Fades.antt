@@ -1,45 +1,99 @@
 -- The gain of a sample, within the fade and past its end.
-use Rattle.std.proofs.Common.{◌≡◌, ℕ, zero, suc, ◌+◌, ◌*◌, ◌%◌, ◌<◌, ◌≤◌, true, ◌&&◌, T, leb, List, [], ◌∷◌, length, get_or, take, drop, sym, refl, ap, ◌∙◌, subst, le_of_suc-le-suc, arith, leb→le, le-ltb, lt-ltb}
-use lib.Ieee.Fits.{and_l, and_r}
-use Rattle.bus.specs.Block.{each, holds}
-use Rattle.bus.specs.Fade.{fade_length, gain_at, faded_by, faded_of_by, fade_fits}
+use Rattle.std.proofs.Common.{◌≡◌, ℕ, ◌+◌, ◌*◌, ◌%◌, ◌<◌, ◌≤◌, ◌-◌, min, Bool, true, false, ltb, List, length, get_or, take, drop, ◌++◌, sym, refl, ap, ◌∙◌, subst, arith, le-ltb, lt-ltb, get_or-take, get_or-drop, length-take}
+use borrow.Author.Tests.{ltb-true, ltb-false}
+use Rattle.std.proofs.lemmas.List.{get_or_default, get_or_past}
+use Rattle.bus.specs.Block.{each}
+use Rattle.bus.specs.Fade.{fade_length, gain_at, faded_by, faded_of_by, Multiply}
 use Rattle.bus.proofs.Sizes.{held}
-use Rattle.bus.proofs.Blocks.{each_same, length_part, part_at}
+use Rattle.bus.proofs.Blocks.{each_same, each_split, length_part, part_at}
 
 -- from half a unit on, the length is the whole number nearest to rate / 200, halves up: it lies less than half a unit below, or at most half above
 pub length_nearest : (rate : ℕ) → 100 ≤ rate → (200 * fade_length rate ≤ rate + 100) × (rate < 200 * fade_length rate + 100)
 length_nearest rate h = omega arith
 
 module _ {A : Type 0} where
-  -- within a list it does not matter what stands past its end
-  within : (l : List A) (i : ℕ) (d e : A) → i < length l → get_or l i d ≡ get_or l i e
-  within [] i d e h = absurd (omega arith)
-  within (x ∷ l) zero d e h = refl
-  within (x ∷ l) (suc i) d e h = within l i d e (le_of_suc-le-suc h)
-
   pub gain_held : (none d : A) (gains : List A) (len position i : ℕ) → len ≤ length gains → position + i < len → get_or gains (position + i) d ≡ gain_at none gains len position i
   gain_held none d gains len position i g h =
       let k : position + i < length gains = omega arith in
-      simp (lt-ltb _ _ h) (within gains (position + i) d none k)
+      simp (lt-ltb _ _ h) (get_or_default gains (position + i) d none k)
 
   pub gain_over : (none : A) (gains : List A) (len position i : ℕ) → len ≤ position + i → none ≡ gain_at none gains len position i
   gain_over none gains len position i h = simp (le-ltb _ _ h)
 
--- a channel that a loop wrote, from a part of the input to a part of the output
-pub channel_is : {A B C : Type 0} (times : A → B → C) (past : A) (none : B) (input : List A) (gains : List B) (out ys : List C) (ins len position size c j k : ℕ)
-    → j ≡ size → k ≡ size → c * size + size ≤ length out
-    → ys ≡ each (length (take k (drop (c * size) out))) (λ i. faded_by times none gains len position i (get_or (take j (drop (c % ins * size) input)) i past))
-    → ys ≡ each size (faded_of_by times past none input ins gains len position size c)
-channel_is times past none input gains out ys ins len position size c j k ej ek h e =
-    e
-    ∙ ap (λ (n : ℕ). each n (λ i. faded_by times none gains len position i (get_or (take j (drop (c % ins * size) input)) i past))) (length_part k (c * size) size out ek h)
-    ∙ each_same size _ (faded_of_by times past none input ins gains len position size c) (λ i l. ap (faded_by times none gains len position i) (part_at j (c % ins * size) size input i past ej l))
+-- ---- what may be multiplied
 
--- what `fade_fits` says
-pub fits_says : (input ins gains len size out outs : ℕ) → fade_fits input ins gains len size out outs ≡ true
-    → (0 < ins) × (input ≡ ins * size) × (out ≡ outs * size) × (len ≤ gains)
-fits_says input ins gains len size out outs e =
-    let t : T (fade_fits input ins gains len size out outs) = subst T (sym e) tt in
-    let u = and_r (holds input ins size) (holds out outs size && leb len gains) t in
-    let i = held input ins size (and_l (holds input ins size) (holds out outs size && leb len gains) t) in
-    (i.0, i.1, (held out outs size (and_l (holds out outs size) (leb len gains) u)).1, leb→le len gains (and_r (holds out outs size) (leb len gains) u))
+-- read off its list
+pub may_both : {A B : Type 0} (may : A → B → Type 0) {x a : A} {y b : B} → x ≡ a → y ≡ b → may a b → may x y
+may_both {A = A} may {x = x} {a = a} {y = y} {b = b} e f h = subst (λ (z : A). may z y) (sym e) (subst (may a) (sym f) h)
+
+-- what is true of all that a list gives, also past its end, is true of all that a part of it gives
+of_part : {A : Type 0} (P : A → Type 0) (d : A) (k a : ℕ) (l : List A) → ((i : ℕ) → P (get_or l i d)) → (i : ℕ) → P (get_or (take k (drop a l)) i d)
+of_part P d k a l h i = go (ltb i k) refl
+  where
+    go : (b : Bool) → ltb i k ≡ b → P (get_or (take k (drop a l)) i d)
+    go true e = subst P (sym (get_or-take k (drop a l) i d (ltb-true i k e) ∙ get_or-drop a l i d)) (h (a + i))
+    go false e =
+        let past : length (take k (drop a l)) ≤ i = omega (arith, length-take k (drop a l), ltb-false i k e) in
+        let end : length l ≤ length l = omega arith in
+        subst P (sym (get_or_past (take k (drop a l)) i d past)) (subst P (get_or_past l (length l) d end) (h (length l)))
+
+module _ {A B : Type 0} (may : A → B → Type 0) (past : A) (none : B) (source : List A) (gains : List B) (all : Multiply may past none source gains) where
+  pub multiply_parts : (k a m b : ℕ) → Multiply may past none (take k (drop a source)) (take m (drop b gains))
+  multiply_parts k a m b i j =
+      of_part (λ x. may x (get_or (take m (drop b gains)) j none)) past k a source (λ i. of_part (may (get_or source i past)) none m b gains (all i) j) i
+
+  pub multiply_part : (k a : ℕ) → Multiply may past none (take k (drop a source)) gains
+  multiply_part k a i j = of_part (λ x. may x (get_or gains j none)) past k a source (λ i. all i j) i
+
+  -- no gain stands past the gains
+  pub multiply_none : (i : ℕ) → may (get_or source i past) none
+  multiply_none i =
+      let end : length gains ≤ length gains = omega arith in
+      subst (may (get_or source i past)) (get_or_past gains (length gains) none end) (all i (length gains))
+
+-- ---- a channel in two parts: the samples that the gains reach, and those after them
+
+module _ {A B C : Type 0} (times : A → B → C) (past : A) (none : B) (source : List A) (gains : List B) (size len position first n : ℕ)
+    (few : len ≤ length gains) (is-first : first ≡ min position len) (is-n : n ≡ min (len - first) size) where
+  abbrev at : ℕ → C
+  at i = faded_by times none gains len position i (get_or source i past)
+
+  pub faded_parts : (held after : List A) (ys zs : List C) (p q k : ℕ) → held ≡ take n source → after ≡ drop n source → p ≡ n → q + n ≡ size → k ≡ n
+      → ys ≡ each p (λ i. times (get_or held i past) (get_or (take k (drop first gains)) i none)) → zs ≡ each q (λ i. times (get_or after i past) none)
+      → ys ++ zs ≡ each size at
+  faded_parts held after ys zs p q k h a ep eq ek y z =
+      let whole : n + q ≡ size = omega arith in
+      ap (λ (l : List C). l ++ zs) (y ∙ ap (λ (m : ℕ). each m reach) ep ∙ each_same n reach at reached)
+      ∙ ap (λ (l : List C). each n at ++ l) (z ∙ each_same q beyond (λ i. at (n + i)) over)
+      ∙ sym (each_split n q at)
+      ∙ ap (λ (m : ℕ). each m at) whole
+    where
+      reach : ℕ → C
+      reach i = times (get_or held i past) (get_or (take k (drop first gains)) i none)
+
+      beyond : ℕ → C
+      beyond i = times (get_or after i past) none
+
+      reached : (i : ℕ) → i < n → times (get_or held i past) (get_or (take k (drop first gains)) i none) ≡ at i
+      reached i l =
+          let same : first ≡ position = omega arith in
+          let inside : position + i < len = omega arith in
+          ap (λ (x : A). times x (get_or (take k (drop first gains)) i none)) (ap (λ (t : List A). get_or t i past) h ∙ get_or-take n source i past l)
+          ∙ ap (times (get_or source i past)) (part_at k first n gains i none ek l ∙ ap (λ (m : ℕ). get_or gains (m + i) none) same ∙ gain_held none none gains len position i few inside)
+
+      over : (i : ℕ) → i < q → times (get_or after i past) none ≡ at (n + i)
+      over i l =
+          let out : len ≤ position + (n + i) = omega arith in
+          ap (λ (x : A). times x none) (ap (λ (t : List A). get_or t i past) a ∙ get_or-drop n source i past) ∙ ap (times (get_or source (n + i) past)) (gain_over none gains len position (n + i) out)
+
+-- ---- a channel that a loop wrote, from a part of the input to a part of the output
+
+pub channel_is : {A B C : Type 0} (times : A → B → C) (past : A) (none : B) (input : List A) (gains : List B) (out ys : List C) (ins len position size c from j k : ℕ)
+    → from ≡ c % ins * size → j ≡ size → k ≡ size → c * size + size ≤ length out
+    → ys ≡ each (length (take k (drop (c * size) out))) (λ i. faded_by times none gains len position i (get_or (take j (drop from input)) i past))
+    → ys ≡ each size (faded_of_by times past none input ins gains len position size c)
+channel_is times past none input gains out ys ins len position size c from j k place ej ek h e =
+    e
+    ∙ ap (λ (n : ℕ). each n (λ i. faded_by times none gains len position i (get_or (take j (drop from input)) i past))) (length_part k (c * size) size out ek h)
+    ∙ each_same size _ (faded_of_by times past none input ins gains len position size c)
+    (λ i l. ap (faded_by times none gains len position i) (part_at j from size input i past ej l ∙ ap (λ (n : ℕ). get_or input (n + i) past) place))

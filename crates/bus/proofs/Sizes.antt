@@ -1,6 +1,6 @@
 -- The tests of a block's channels and its length.
-use Rattle.std.proofs.Common.{◌≡◌, ℕ, ◌+◌, ◌*◌, ◌/◌, ◌%◌, ◌<◌, ◌≤◌, Bool, true, false, cond, T, eqb, sym, refl, ap, ◌∙◌, add-zero, mul_comm, div-add-mod', zero-mul, arith, eqb→eq, eq-eqb, ne_eqb, eqb-true}
-use native.Mathlib.Nat.{mul-div_cancel_left, mul-mod_right}
+use Rattle.std.proofs.Common.{◌≡◌, ℕ, zero, suc, ◌-◌, min, ◌*◌, ◌%◌, ◌<◌, ◌≤◌, Bool, true, false, T, eqb, sym, refl, ap, ◌∙◌, arith, eqb→eq, eq-eqb, ne_eqb, eqb-true}
+use native.Mathlib.Nat.{mul-mod_right}
 use lib.Ieee.Fits.{and_l, and_r}
 use Rattle.bus.specs.Block.{is_channels, holds}
 
@@ -15,16 +15,6 @@ agree a b c d there back = go (eqb c d) refl
         differ : true ≡ false → ⊥
         differ z = let y : ◌≡◌ {A = ℕ} 0 1 = cc in omega arith
 
-pub product_none : (len n size : ℕ) → n ≡ 0 → eqb len 0 ≡ eqb len (n * size)
-product_none len n size e = ap (eqb len) (sym (ap (λ (x : ℕ). x * size) e ∙ zero-mul size))
-
-pub product_is : (len n size : ℕ) → (n ≡ 0 → ⊥) → len % n ≡ 0 → eqb (len / n) size ≡ eqb len (n * size)
-product_is len n size p r =
-    let whole : len ≡ len / n * n = sym (div-add-mod' len n) ∙ ap (λ (x : ℕ). len / n * n + x) r ∙ add-zero (len / n * n) in
-    let above : 0 < n = omega arith in
-    agree (len / n) size len (n * size) (λ q. whole ∙ ap (λ (x : ℕ). x * n) q ∙ mul_comm size n)
-    (λ q. ap (λ (x : ℕ). x / n) q ∙ mul-div_cancel_left size above)
-
 pub product_not : (len n size : ℕ) → (len % n ≡ 0 → ⊥) → eqb len (n * size) ≡ false
 product_not len n size r = ne_eqb len (n * size) (λ q. r (ap (λ (x : ℕ). x % n) q ∙ mul-mod_right n size))
 
@@ -36,15 +26,16 @@ channels_are n t = go (eqb n 1) refl (eqb n 2) refl
     go false e true f = let q : n ≡ 2 = eqb-true n 2 f in omega arith
     go false e false f = absurd (simp (e, f) at t)
 
+-- which channel of the input goes to channel c of the output
+pub channel_read : (ins outs c : ℕ) → T (is_channels ins) → T (is_channels outs) → c < outs → min c (ins - 1) ≡ c % ins
+channel_read ins outs c t u h = let i = channels_are ins t in let o = channels_are outs u in let l : c < 2 = omega arith in go ins i.0 i.1 l
+  where
+    go : (n : ℕ) → 0 < n → n ≤ 2 → c < 2 → min c (n - 1) ≡ c % n
+    go zero l h k = absurd (omega arith)
+    go (suc zero) l h k = omega arith
+    go (suc (suc zero)) l h k = omega arith
+    go (suc (suc (suc n))) l h k = absurd (omega arith)
+
 -- what `holds` says
 pub held : (len n size : ℕ) → T (holds len n size) → (0 < n) × (len ≡ n * size)
 held len n size t = ((channels_are n (and_l (is_channels n) (eqb len (n * size)) t)).0, eqb→eq len (n * size) (and_r (is_channels n) (eqb len (n * size)) t))
-
--- a branch by a test that is known
-pub when_so : {X : Type 0} (b : Bool) (x y : X) → b ≡ true → x ≡ cond b x y
-when_so true x y e = refl
-when_so false x y e = let z : ◌≡◌ {A = ℕ} 0 1 = cc in absurd (omega arith)
-
-pub when_not : {X : Type 0} (b : Bool) (x y : X) → b ≡ false → y ≡ cond b x y
-when_not true x y e = let z : ◌≡◌ {A = ℕ} 0 1 = cc in absurd (omega arith)
-when_not false x y e = refl

@@ -1,6 +1,7 @@
 -- The sum of a bus, input by input: what each turn of a loop over the channel counts does.
 --     Summing     the first k inputs, which end at `at`, are added, and what is left makes the sum whole
-use Rattle.std.proofs.Common.{◌≡◌, ℕ, zero, suc, ◌+◌, ◌*◌, ◌%◌, ◌<◌, ◌≤◌, true, ◌&&◌, T, eqb, leb, List, [], ◌∷◌, length, get_or, take, drop, sym, ap, ◌∙◌, subst, add_assoc, mul-le-mul_right, mod-lt, suc-mul, add-mul, add-one, arith, eqb→eq, leb→le, drop_of_length-le, get_or-drop, drop-cons, drop-drop}
+use Rattle.std.proofs.Common.{◌≡◌, ℕ, zero, suc, ◌+◌, ◌*◌, ◌%◌, ◌<◌, ◌≤◌, Bool, true, ◌&&◌, T, eqb, leb, List, [], ◌∷◌, length, get_or, take, drop, sym, refl, ap, ◌∙◌, subst, add_assoc, mul-le-mul_right, mod-lt, suc-mul, add-mul, add-one, arith, eqb→eq, leb→le, drop_of_length-le, get_or-drop, drop-cons, drop-drop}
+use Rattle.std.specs.List.{list_all}
 use lib.Ieee.Fits.{and_l, and_r}
 use Prim.Native.Nat.{zero-le}
 use Rattle.bus.specs.Block.{each, sample_at, is_channels, holds}
@@ -13,13 +14,10 @@ use Rattle.bus.proofs.Sizes.{channels_are, held}
 next : (ns : List ℕ) (k : ℕ) → k < length ns → drop k ns ≡ get_or ns k 0 ∷ drop (k + 1) ns
 next ns k h = drop-cons ns k 0 h ∙ ap (λ (j : ℕ). get_or ns k 0 ∷ drop j ns) (sym (add-one k))
 
-pub every_next : (ns : List ℕ) (k : ℕ) → k < length ns → every_is_channels (drop k ns) ≡ is_channels (get_or ns k 0) && every_is_channels (drop (k + 1) ns)
+pub all_is_every : (ns : List ℕ) → list_all is_channels ns ≡ every_is_channels ns
 unfolding every_is_channels
-every_next ns k h = ap every_is_channels (next ns k h)
-
-pub every_none : (ns : List ℕ) (k : ℕ) → length ns ≤ k → every_is_channels (drop k ns) ≡ true
-unfolding every_is_channels
-every_none ns k h = ap every_is_channels (drop_of_length-le ns h)
+all_is_every [] = refl
+all_is_every (n ∷ ns) = ap (λ (b : Bool). is_channels n && b) (all_is_every ns)
 
 pub channels_next : (ns : List ℕ) (k : ℕ) → k < length ns → channels (drop k ns) ≡ get_or ns k 0 + channels (drop (k + 1) ns)
 unfolding channels
@@ -123,3 +121,11 @@ pub few_inputs : (inputs : ℕ) (counts : List ℕ) (size out outs : ℕ) → su
 unfolding sum_fits
 few_inputs inputs counts size out outs e =
     leb→le (length counts) most_inputs (and_l (leb (length counts) most_inputs) (every_is_channels counts && (eqb inputs (channels counts * size) && holds out outs size)) (subst T (sym e) tt))
+
+pub sum_channels : (inputs : ℕ) (counts : List ℕ) (size out outs : ℕ) → sum_fits inputs counts size out outs ≡ true → T (is_channels outs)
+unfolding sum_fits
+sum_channels inputs counts size out outs e =
+    let t : T (sum_fits inputs counts size out outs) = subst T (sym e) tt in
+    let u = and_r (leb (length counts) most_inputs) (every_is_channels counts && (eqb inputs (channels counts * size) && holds out outs size)) t in
+    let v = and_r (every_is_channels counts) (eqb inputs (channels counts * size) && holds out outs size) u in
+    and_l (is_channels outs) (eqb out (outs * size)) (and_r (eqb inputs (channels counts * size)) (holds out outs size) v)

@@ -28,6 +28,10 @@ faded_by times none gains len position i x = times x (gain_at none gains len pos
 abbrev pub faded_of_by : {A B C : Type 0} → (A → B → C) → A → B → List A → ℕ → List B → ℕ → ℕ → ℕ → ℕ → ℕ → C
 faded_of_by times past none input ins gains len position size c i = faded_by times none gains len position i (sample_at past size input (c % ins) i)
 
+-- each of these samples may be multiplied by each of these gains; past and none stand past their ends
+abbrev pub Multiply : {A B : Type 0} → (A → B → Type 0) → A → B → List A → List B → Type 0
+Multiply may past none source gains = (i j : ℕ) → may (slice_index_or source i past) (slice_index_or gains j none)
+
 -- both of floats, whose product is rounded once
 abbrev pub faded : List Float → ℕ → ℕ → ℕ → Float → Float
 faded = faded_by (mul binary32) silence

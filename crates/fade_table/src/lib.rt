@@ -38,7 +38,7 @@ const ENTRIES: [u32; 241] = [
 pub fn entry(k: usize) -> u32
     ensures { result ≡ entry_of entries k }
 {
-    if k < 241 { ENTRIES[k] } else { 0 }
+    ENTRIES.get(k).copied().unwrap_or(0)
 }
 
 // All entries, in order.
@@ -60,10 +60,8 @@ pub fn table_gains() -> [f32; 241]
     ensures { result ≡ gains }
 {
     let mut all = [0.0f32; 241];
-    let mut k: usize = 0;
-    while k < 241 {
-        all[k] = gain(k);
-        k += 1;
+    for (k, slot) in all.iter_mut().enumerate() {
+        *slot = gain(k);
     }
     all
 }

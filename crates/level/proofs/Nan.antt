@@ -1,26 +1,29 @@
--- How the code makes a NaN and tests for one, in either format.
+-- The NaN of the code and the test for one, in either format.
 use Prim.Native.Nat.{ℕ, ◌*◌, ◌%◌, ◌≤◌}
 use mathlib.Core.Path.{◌≡◌, refl, sym, ap, ◌∙◌, subst}
-use mathlib.Core.Bool.{Bool, true, false, not}
+use mathlib.Core.Bool.{Bool, true, false, not, false≢true}
 use lib.Dec.{T}
-use lib.Ieee.{Float, nan, inf, fin, Format, binary32, binary64, div, fits, hid, ones, top, of_bits, to_bits, nan_bits, ne, is_nan}
+use lib.Ieee.{Float, nan, inf, fin, Format, binary32, binary64, fits, hid, ones, top, of_bits, to_bits, nan_bits, is_nan}
 use lib.Ieee.Bits.{is_false, of_bits-to_bits, nan_bits_is, nan_bits_above}
-use lib.Ieee.Compare.{differs_from_itself, nan_differs}
 use borrow.Author.Tests.{ltb-false, le-ltb}
 
-pub zero_by_zero : (f : Format) → div f (of_bits f 0) (of_bits f 0) ≡ nan
-unfolding div of_bits
-zero_by_zero binary32 = refl
-zero_by_zero binary64 = refl
+-- the library's constant of each format
+pub nan32 : of_bits binary32 0x7fc0_0000 ≡ nan
+unfolding of_bits
+nan32 = refl
 
-pub is_nan_lem : (x : Float) → ne x x ≡ true → x ≡ nan
-is_nan_lem x d = differs_from_itself x (subst T (sym d) tt)
+pub nan64 : of_bits binary64 0x7ff8_0000_0000_0000 ≡ nan
+unfolding of_bits
+nan64 = refl
 
-pub no_nan : (x : Float) → ne x x ≡ false → T (not (is_nan x))
+pub is_nan_lem : (x : Float) → is_nan x ≡ true → x ≡ nan
 unfolding is_nan
-no_nan nan e = subst T (sym nan_differs ∙ e) tt
-no_nan (inf s) e = tt
-no_nan (fin s m d) e = tt
+is_nan_lem nan e = refl
+is_nan_lem (inf s) e = absurd (false≢true e)
+is_nan_lem (fin s m d) e = absurd (false≢true e)
+
+pub no_nan : (x : Float) → is_nan x ≡ false → T (not (is_nan x))
+no_nan x e = subst (λ (b : Bool). T (not b)) (sym e) tt
 
 -- the bits of a value that is no NaN, without the sign, and the other way round
 pub bits_le : (f : Format) (x : Float) → T (fits f x) → T (not (is_nan x)) → to_bits f x % top f ≤ ones f * hid f

@@ -70,8 +70,8 @@ fn narrow_bits(a: u64) -> u64
 pub fn narrow(x: f64) -> f32
     ensures { result ≡ thin.narrow x }
 {
-    if x != x {
-        return 0.0 / 0.0;
+    if x.is_nan() {
+        return f32::NAN;
     }
     let b = f64::to_bits(x);
     if b < SIGN64 {
@@ -145,8 +145,8 @@ fn sqrt_bits(b: u64) -> u64
 pub fn sqrt(x: f64) -> f64
     ensures { result ≡ spec.sqrt x }
 {
-    if x != x {
-        return 0.0 / 0.0;
+    if x.is_nan() {
+        return f64::NAN;
     }
     let b = f64::to_bits(x);
     if b == 0 {
@@ -155,21 +155,18 @@ pub fn sqrt(x: f64) -> f64
     if b < INFINITY64 {
         return f64::from_bits(sqrt_bits(b));
     }
-    if b == INFINITY64 {
+    if b == INFINITY64 || b == SIGN64 {
         return x;
     }
-    if b == SIGN64 {
-        return x;
-    }
-    0.0 / 0.0
+    f64::NAN
 }
 
 // A cast of a NaN is not to be had.
 fn widen(x: f32) -> f64
     ensures { result ≡ x }
 {
-    if x != x {
-        return 0.0 / 0.0;
+    if x.is_nan() {
+        return f64::NAN;
     }
     x as f64
 }
@@ -187,11 +184,9 @@ fn sum_of_squares(samples: &[f32]) -> f64
     ensures { result ≡ squares plus_zero samples.now }
 {
     let mut sum: f64 = 0.0;
-    let mut i: usize = 0;
-    while i < samples.len() {
-        let x = widen(samples[i]);
-        sum = sum + x * x;
-        i += 1;
+    for sample in samples {
+        let x = widen(*sample);
+        sum += x * x;
     }
     sum
 }

@@ -7,7 +7,7 @@ use mathlib.Core.List.{List, [], ◌∷◌, ◌++◌, map}
 use mathlib.Core.Bool.{Bool, true, false, false≢true}
 use lib.ListN.{length}
 use Rattle.lists.specs.Member.{In}
-use Rattle.lists.specs.Filter.{put?, filter}
+use Rattle.std.specs.Prelude.{cond, filter}
 use Rattle.lists.specs.Count.{more, count}
 
 module _ {A : Type 0} where
@@ -23,7 +23,7 @@ module _ {A : Type 0} where
   count_is_length q [] = refl
   count_is_length q (x ∷ l) = rw (count_is_length q l) (go (q x))
     where
-      go : (b : Bool) → more b (length (filter q l)) ≡ length (put? b x (filter q l))
+      go : (b : Bool) → more b (length (filter q l)) ≡ length (cond b (x ∷ (filter q l)) (filter q l))
       go true = refl
       go false = refl
 
@@ -39,7 +39,7 @@ module _ {A : Type 0} where
       off true h = omega arith
       off false h = h
 
-      go : (b : Bool) → count q (filter t l) ≤ count q l → count q (put? b x (filter t l)) ≤ more (q x) (count q l)
+      go : (b : Bool) → count q (filter t l) ≤ count q l → count q (cond b (x ∷ (filter t l)) (filter t l)) ≤ more (q x) (count q l)
       go true h = up (q x) h
       go false h = off (q x) h
 
@@ -51,7 +51,7 @@ module _ {A : Type 0} where
       rw (qy, ty) (omega (arith, count_filter q t l))
   count_filter_lt q t (y ∷ l) x (inr i) h k = go (t y) (q y) refl (count_filter_lt q t l x i h k)
     where
-      go : (b c : Bool) → q y ≡ c → suc (count q (filter t l)) ≤ count q l → suc (count q (put? b y (filter t l))) ≤ more c (count q l)
+      go : (b c : Bool) → q y ≡ c → suc (count q (filter t l)) ≤ count q l → suc (count q (cond b (y ∷ (filter t l)) (filter t l))) ≤ more c (count q l)
       go true true e ih = rw e (omega arith)
       go true false e ih = rw e ih
       go false true e ih = omega arith

@@ -7,20 +7,20 @@ use mathlib.Core.List.{List, [], ◌∷◌, ◌++◌, map}
 use mathlib.Core.Bool.{Bool, true, false, ◌&&◌}
 use lib.ListN.{length}
 use Rattle.lists.specs.Member.{In}
-use Rattle.lists.specs.Filter.{put?, filter}
+use Rattle.std.specs.Prelude.{cond, filter}
 
 module _ {A : Type 0} where
   pub filter_append : (t : A → Bool) (l m : List A) → filter t (l ++ m) ≡ filter t l ++ filter t m
   filter_append t [] m = refl
   filter_append t (x ∷ l) m = rw (filter_append t l m) (go (t x))
     where
-      go : (b : Bool) → put? b x (filter t l ++ filter t m) ≡ put? b x (filter t l) ++ filter t m
+      go : (b : Bool) → cond b (x ∷ (filter t l ++ filter t m)) (filter t l ++ filter t m) ≡ cond b (x ∷ (filter t l)) (filter t l) ++ filter t m
       go true = refl
       go false = refl
 
   -- one row more, by whether it passes
   pub filter_snoc_on : (t : A → Bool) (l : List A) (y : A) → t y ≡ true → filter t (l ++ (y ∷ [])) ≡ filter t l ++ (y ∷ [])
-  filter_snoc_on t l y h = filter_append t l (y ∷ []) ∙ ap (λ b. filter t l ++ put? b y []) h
+  filter_snoc_on t l y h = filter_append t l (y ∷ []) ∙ ap (λ b. filter t l ++ cond b (y ∷ []) []) h
 
   pub filter_snoc_off : (t : A → Bool) (l : List A) (y : A) → t y ≡ false → filter t (l ++ (y ∷ [])) ≡ filter t l
   filter_snoc_off t [] y h = rw h
@@ -30,7 +30,7 @@ module _ {A : Type 0} where
   length_filter t [] = omega arith
   length_filter t (x ∷ l) = go (t x) (length_filter t l)
     where
-      go : (b : Bool) → length (filter t l) ≤ length l → length (put? b x (filter t l)) ≤ length (x ∷ l)
+      go : (b : Bool) → length (filter t l) ≤ length l → length (cond b (x ∷ (filter t l)) (filter t l)) ≤ length (x ∷ l)
       go true h = omega arith
       go false h = omega arith
 
@@ -50,7 +50,7 @@ module _ {A : Type 0} where
   filter_filter t u [] = refl
   filter_filter t u (x ∷ l) = go (t x) (u x) refl refl (filter_filter t u l)
     where
-      go : (a b : Bool) → t x ≡ a → u x ≡ b → filter t (filter u l) ≡ filter (λ x. t x && u x) l → filter t (put? b x (filter u l)) ≡ put? (a && b) x (filter (λ x. t x && u x) l)
+      go : (a b : Bool) → t x ≡ a → u x ≡ b → filter t (filter u l) ≡ filter (λ x. t x && u x) l → filter t (cond b (x ∷ (filter u l)) (filter u l)) ≡ cond (a && b) (x ∷ (filter (λ x. t x && u x) l)) (filter (λ x. t x && u x) l)
       go true true e f h = rw (e, h)
       go true false e f h = h
       go false true e f h = rw (e, h)
@@ -60,7 +60,7 @@ module _ {A : Type 0} where
   in_filter t [] x a = absurd a
   in_filter t (y ∷ l) x a = go (t y) refl a (in_filter t l x)
     where
-      go : (b : Bool) → t y ≡ b → In x (put? b y (filter t l)) → (In x (filter t l) → In x l × (t x ≡ true)) → In x (y ∷ l) × (t x ≡ true)
+      go : (b : Bool) → t y ≡ b → In x (cond b (y ∷ (filter t l)) (filter t l)) → (In x (filter t l) → In x l × (t x ≡ true)) → In x (y ∷ l) × (t x ≡ true)
       go true e (inl p) ih = (inl p, ap t p ∙ e)
       go true e (inr i) ih = (inr (ih i).0, (ih i).1)
       go false e i ih = (inr (ih i).0, (ih i).1)
@@ -70,7 +70,7 @@ module _ {A : Type 0} where
   filter_in t (y ∷ l) x (inl p) h = let e : t y ≡ true = sym (ap t p) ∙ h in rw e (inl p)
   filter_in t (y ∷ l) x (inr a) h = go (t y) (filter_in t l x a h)
     where
-      go : (b : Bool) → In x (filter t l) → In x (put? b y (filter t l))
+      go : (b : Bool) → In x (filter t l) → In x (cond b (y ∷ (filter t l)) (filter t l))
       go true i = inr i
       go false i = i
 
@@ -79,6 +79,6 @@ pub filter_map : {A B : Type 0} (f : A → B) (q : B → Bool) (r : A → Bool) 
 filter_map f q r same [] = refl
 filter_map f q r same (x ∷ l) = rw (same x, filter_map f q r same l) (go (r x))
   where
-    go : (b : Bool) → put? b (f x) (map f (filter r l)) ≡ map f (put? b x (filter r l))
+    go : (b : Bool) → cond b ((f x) ∷ (map f (filter r l))) (map f (filter r l)) ≡ map f (cond b (x ∷ (filter r l)) (filter r l))
     go true = refl
     go false = refl

@@ -4,13 +4,12 @@ use native.Mathlib.Omega.{arith}
 use mathlib.Core.Path.{◌≡◌, refl, sym, ap, ◌∙◌}
 use mathlib.Core.Logic.{inl, inr}
 use mathlib.Core.List.{List, [], ◌∷◌, ◌++◌, map}
-use mathlib.Core.Option.{none, some}
+use Rattle.std.specs.Prelude.{None, Some, cond, filter, find}
 use mathlib.Core.Bool.{Bool, true, false, false≢true}
 use lib.Dec.{eqb}
 use borrow.Author.Tests.{eqb-true, ne_eqb}
 use Rattle.lists.specs.Member.{In}
-use Rattle.lists.specs.Filter.{put?, filter}
-use Rattle.lists.specs.Find.{find, or?, Once}
+use Rattle.lists.specs.Find.{Once}
 use Rattle.lists.specs.Rising.{RisesFrom}
 use Rattle.lists.proofs.Member.{none_some}
 use Rattle.lists.proofs.Find.{none_find}
@@ -29,7 +28,7 @@ module _ {A : Type 0} (f : A → ℕ) where
   rises_filter t a [] r = r
   rises_filter t a (x ∷ l) r = go (t x) (rises_filter t (suc (f x)) l r.1)
     where
-      go : (b : Bool) → RisesFrom f (suc (f x)) (filter t l) → RisesFrom f a (put? b x (filter t l))
+      go : (b : Bool) → RisesFrom f (suc (f x)) (filter t l) → RisesFrom f a (cond b (x ∷ (filter t l)) (filter t l))
       go true h = (r.0, h)
       go false h = rises_less a (suc (f x)) (filter t l) (omega (arith, r.0)) h
 
@@ -48,13 +47,13 @@ module _ {A : Type 0} (f : A → ℕ) where
   rises_once a (y ∷ l) r n x i h = go (eqb (f y) n) refl i (λ j. rises_once (suc (f y)) l r.1 n x j h)
     where
       Later : Type 0
-      Later = In x l → find (λ x. eqb (f x) n) l ≡ some x
+      Later = In x l → find (λ x. eqb (f x) n) l ≡ Some x
 
-      off : f y ≡ n → find (λ x. eqb (f x) n) l ≡ none
+      off : f y ≡ n → find (λ x. eqb (f x) n) l ≡ None
       off e = none_find (λ x. eqb (f x) n) l (λ z j. ne_eqb (f z) n (λ q. omega (arith, rises_in (suc (f y)) l z r.1 j)))
 
-      go : (b : Bool) → eqb (f y) n ≡ b → In x (y ∷ l) → Later → or? b y (find (λ x. eqb (f x) n) l) ≡ some x
-      go true e (inl p) ih = ap some (sym p)
+      go : (b : Bool) → eqb (f y) n ≡ b → In x (y ∷ l) → Later → cond b (Some y) (find (λ x. eqb (f x) n) l) ≡ Some x
+      go true e (inl p) ih = ap Some (sym p)
       go true e (inr j) ih = absurd (none_some (sym (off (eqb-true _ _ e)) ∙ ih j))
       go false e (inl p) ih = absurd (false≢true (sym e ∙ ap (λ z. eqb (f z) n) (sym p) ∙ h))
       go false e (inr j) ih = ih j

@@ -3,15 +3,12 @@ use Prim.Native.Nat.{ℕ, suc, ◌+◌, ◌-◌, ◌≤◌, ◌<◌}
 use native.Mathlib.Omega.{arith}
 use native.Mathlib.Numerals.{add-one}
 use mathlib.Core.Path.{◌≡◌, refl, sym, ap, ◌∙◌}
-use mathlib.Core.List.{List, [], ◌∷◌, ◌++◌, map, append-nil}
+use mathlib.Core.List.{List, [], ◌∷◌, ◌++◌, map}
 use mathlib.Core.Bool.{Bool, true, false}
-use mathlib.Core.Option.{none, some}
-use lib.ListN.{length, take, drop, get_or, set, replicate, length-map, drop_of_length-le}
-use lib.Seq.{take-set-lt, take_all, take-suc, drop-cons, get_or-take, take-suc-set, length-take-le, set_at, append_snoc}
-use Rattle.lists.specs.Find.{find}
-use Rattle.lists.specs.Filter.{filter}
+use Rattle.std.specs.Prelude.{None, Some, find, filter}
+use lib.ListN.{length, take, drop, get_or, set, replicate, drop_of_length-le}
+use lib.Seq.{take-suc, drop-cons, get_or-take, take-suc-set, length-take-le, set_at, append_snoc}
 use Rattle.lists.specs.Table.{lookup}
-use Rattle.lists.proofs.Member.{map_append}
 use Rattle.lists.proofs.Filter.{filter_snoc_on, filter_snoc_off}
 
 module _ {A : Type 0} (d : A) where
@@ -72,43 +69,20 @@ module _ {A R : Type 0} (d : A) (t : A → Bool) (f : A → R) (r : R) where
   pub lookup_next : (l : List A) (i : ℕ) → i < length l → t (get_or l i d) ≡ false → lookup t f r (drop (i + 1) l) ≡ lookup t f r (drop i l)
   lookup_next l i h p = sym (ap (lookup t f r) (left_cons d l i h) ∙ rw p)
 
--- A map over a table, in place: the first i rows are mapped, the others are as they were; and one row more.
-module _ {A : Type 0} (d : A) (f : A → A) where
-  pub map_row : (l : List A) (i : ℕ) → i < length l
-      → set (map f (take i l) ++ drop i l) i (f (get_or l i d)) ≡ map f (take (i + 1) l) ++ drop (i + 1) l
-  map_row l i h =
-      let front : length (map f (take i l)) ≡ i = length-map (take i l) f ∙ length-take-le i l (omega arith) in
-      ap (λ z. set (map f (take i l) ++ z) i (f (get_or l i d))) (left_cons d l i h)
-      ∙ set_at (map f (take i l)) (get_or l i d) (drop (i + 1) l) (f (get_or l i d)) i front
-      ∙ sym (append_snoc (map f (take i l)) (f (get_or l i d)) (drop (i + 1) l))
-      ∙ ap (λ z. z ++ drop (i + 1) l) (sym (ap (map f) (passed_row d l i h) ∙ map_append f (take i l) (get_or l i d ∷ [])))
-
-  -- The loop that does it: row i of the old rows, mapped, is stored at place i of the new ones.
-  pub map_next : (rows out : List A) (n i : ℕ) (x : A) → i < n → n ≤ length rows → take n out ≡ map f (take i (take n rows)) ++ drop i (take n rows) → x ≡ f (get_or rows i d)
-      → take n (set out i x) ≡ map f (take (i + 1) (take n rows)) ++ drop (i + 1) (take n rows)
-  map_next rows out n i x h t e p =
-      let long : length (take n rows) ≡ n = length-take-le n rows t in
-      let below : i < length (take n rows) = omega arith in
-      take-set-lt n out i x h
-      ∙ ap (λ z. set z i x) e
-      ∙ ap (set (map f (take i (take n rows)) ++ drop i (take n rows)) i) (p ∙ ap f (sym (get_or-take n rows i d h)))
-      ∙ map_row (take n rows) i below
-
-pub map_over : {A : Type 0} (f : A → A) (rows out : List A) (n i : ℕ) → i ≡ n → n ≤ length rows → take n out ≡ map f (take i (take n rows)) ++ drop i (take n rows) → take n out ≡ map f (take n rows)
-map_over f rows out n i e t h =
-    let long : length (take n rows) ≡ n = length-take-le n rows t in
-    let past : length (take n rows) ≤ i = omega arith in
-    h ∙ ap (λ z. map f z ++ drop i (take n rows)) (take_all i (take n rows) past) ∙ ap (λ z. map f (take n rows) ++ z) (drop_of_length-le (take n rows) past) ∙ append-nil (map f (take n rows))
+-- a lookup in a table that is read row by row
+pub lookup_map : {A B R : Type 0} (g : A → B) (t : B → Bool) (f : B → R) (r : R) (l : List A) → lookup t f r (map g l) ≡ lookup (λ x. t (g x)) (λ x. f (g x)) r l
+lookup_map g t f r [] = refl
+lookup_map g t f r (x ∷ l) = rw (lookup_map g t f r l)
 
 -- A loop that looks for the first row that passes.
 module _ {A : Type 0} (d : A) (q : A → Bool) where
-  pub find_hit : (rows : List A) (k i : ℕ) → i < k → k ≤ length rows → q (get_or rows i d) ≡ true → find q (drop i (take k rows)) ≡ some (get_or rows i d)
+  pub find_hit : (rows : List A) (k i : ℕ) → i < k → k ≤ length rows → q (get_or rows i d) ≡ true → find q (drop i (take k rows)) ≡ Some (get_or rows i d)
   find_hit rows k i h t p = ap (find q) (left_row d rows k i h t) ∙ rw p
 
   pub find_next : (rows : List A) (k i : ℕ) → i < k → k ≤ length rows → q (get_or rows i d) ≡ false → find q (drop (i + 1) (take k rows)) ≡ find q (drop i (take k rows))
   find_next rows k i h t p = sym (ap (find q) (left_row d rows k i h t) ∙ rw p)
 
-pub find_over : {A : Type 0} (q : A → Bool) (rows : List A) (k i : ℕ) → i ≡ k → k ≤ length rows → find q (drop i (take k rows)) ≡ none
+pub find_over : {A : Type 0} (q : A → Bool) (rows : List A) (k i : ℕ) → i ≡ k → k ≤ length rows → find q (drop i (take k rows)) ≡ None
 find_over q rows k i e t =
     let l : length (take k rows) ≡ k = length-take-le k rows t in
     let past : length (take k rows) ≤ i = omega arith in

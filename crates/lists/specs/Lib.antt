@@ -1,5 +1,4 @@
 pub mod Member
-pub mod Filter
 pub mod Find
 pub mod Count
 pub mod Table

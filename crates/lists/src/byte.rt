@@ -1,18 +1,6 @@
-// A byte as a number of more bits, and bytes that are copied.
+// Bytes that are copied.
 ghost use Rattle.std.specs.Prelude.{◌≡◌, ◌≤◌, length};
 ghost use Rattle.lists.specs.Written.{written};
-
-pub fn wide(x: u8) -> usize
-    ensures { result ≡ x }
-{
-    x as usize
-}
-
-pub fn long(x: u8) -> u64
-    ensures { result ≡ x }
-{
-    x as u64
-}
 
 // Puts `text` at the front of `out`, which has room for it, and says how many bytes that were.
 pub fn copy(text: &[u8], out: &mut [u8]) -> usize

@@ -1,7 +1,4 @@
-// What numbers need everywhere: a count within the room of its table, a byte or a word as a number of more bits. What lists need are
-// definitions and laws, in specs/ and proofs/.
+// What lists need everywhere: definitions and laws, in specs/ and proofs/, and a copy of bytes. Counts, widths and lookups are the library's.
 #![tactic(auto)]
 
 pub mod byte;
-pub mod number;
-pub mod word;

@@ -6,6 +6,7 @@ use mathlib.Core.Logic.{inl, inr}
 use mathlib.Core.List.{List, [], ◌∷◌}
 use mathlib.Core.Bool.{Bool, true, false, ◌&&◌, cond, false≢true}
 use lib.Dec.{leb, eqb}
+use lib.Pointwise.{pointwise}
 use borrow.Author.Tests.{leb-true, eqb-true, eq-eqb}
 use Rattle.lists.specs.Member.{In}
 use Rattle.lists.proofs.Member.{and_left, and_right}
@@ -28,6 +29,13 @@ same_equal (x ∷ s) (y ∷ t) h =
     let head : x ≡ y = eqb-true x y (and_left (eqb x y) (same_bytes s t) h) in
     let tail : s ≡ t = same_equal s t (and_right (eqb x y) (same_bytes s t) h) in
     cc
+
+-- the library's test of two byte strings
+pub same_pointwise : (s t : List ℕ) → pointwise eqb s t ≡ same_bytes s t
+same_pointwise [] [] = refl
+same_pointwise [] (y ∷ t) = refl
+same_pointwise (x ∷ s) [] = refl
+same_pointwise (x ∷ s) (y ∷ t) = ap (◌&&◌ (eqb x y)) (same_pointwise s t)
 
 -- a Bool that is true exactly when two byte strings are equal is the test
 pub same_is : (b : Bool) (s t : List ℕ) → (b ≡ true → s ≡ t) → (s ≡ t → b ≡ true) → b ≡ same_bytes s t

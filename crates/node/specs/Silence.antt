@@ -7,7 +7,6 @@ use Prim.Native.String.{String, [] as []ˢ, ◌∷◌ as ◌∷ˢ◌}
 use Rattle.lists.specs.Table.{lookup}
 use Rattle.node.specs.Name.{name_of, same_name}
 use Rattle.node.specs.declared.name.Name.{Name}
-use Rattle.node.specs.declared.silence.KindRule.{KindRule}
 use Rattle.node.specs.declared.silence.SilenceRule.{SilenceRule}
 use Rattle.node.specs.declared.silence.SilenceRule.TheVariants.{Own, AnyPort, FirstPort, EveryPort, LevelPort, AmpPort, InPort}
 
@@ -33,6 +32,11 @@ silence_pass_through =
 
 abbrev pub passes_through : Name → Bool
 passes_through n = is_among silence_pass_through n
+
+-- a kind's name and its rule
+pub record KindRule : Type 0 where
+  pub name : Name
+  pub rule : SilenceRule
 
 -- the rule of a table's first row of that name; other names have none
 abbrev pub rule_in : List KindRule → Name → SilenceRule

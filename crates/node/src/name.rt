@@ -20,7 +20,7 @@ pub fn name_length(n: usize) -> bool
 pub fn is_named(n: Name) -> bool
     ensures { result ≡ named n }
 {
-    name_length(n.len as usize)
+    name_length(usize::from(n.len))
 }
 
 // The name that stands for `text`, or one that equals none where `text` has not 1 to 16 bytes.
@@ -32,11 +32,7 @@ pub fn name_of(text: &[u8]) -> Name
     if !name_length(n) {
         return Name { bytes, len: 0 };
     }
-    let mut i = 0;
-    while i < n {
-        bytes[i] = text[i];
-        i += 1;
-    }
+    bytes[..n].copy_from_slice(text);
     Name {
         bytes,
         len: n as u8,
@@ -47,15 +43,8 @@ pub fn name_of(text: &[u8]) -> Name
 pub fn same_name(a: Name, b: Name) -> bool
     ensures { result ≡ same_name a b }
 {
-    if !is_named(a) {
+    if !is_named(a) || !is_named(b) {
         return false;
     }
-    if !is_named(b) {
-        return false;
-    }
-    let n = a.len as usize;
-    let m = b.len as usize;
-    let x = a.bytes;
-    let y = b.bytes;
-    check::same(&x[..n], &y[..m])
+    a.bytes[..usize::from(a.len)] == b.bytes[..usize::from(b.len)]
 }

@@ -33,7 +33,7 @@ pub enum LastOrder {
     Glide(Glide),
 }
 
-// What an event does to its voice. The parameter's name stands beside it: an enum holds no array.
+// What an event does to its voice. The name of its parameter stands beside it, in the event.
 #[derive(Clone, Copy)]
 pub enum EventAction {
     Value(f32),

@@ -2,10 +2,10 @@ use crate::name::Name;
 use crate::order::LastOrder;
 
 // The two ids of the source. They are different types, so that a node id never serves as a voice id.
-#[derive(Clone, Copy)]
+#[derive(Clone, Copy, PartialEq, Eq)]
 pub struct NodeId(pub u32);
 
-#[derive(Clone, Copy)]
+#[derive(Clone, Copy, PartialEq, Eq)]
 pub struct VoiceId(pub u64);
 
 // A live node, as scope lists it: kind name, ports, required ports (bit p for port p), whether it takes values or

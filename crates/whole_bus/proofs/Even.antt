@@ -7,15 +7,15 @@ use native.Mathlib.Nat.{suc-mul, zero-mul, mul_assoc, mod-eq_of_lt}
 use native.Mathlib.Omega.{arith}
 use mathlib.Core.Path.{◌≡◌, refl, sym, ap, ◌∙◌, subst}
 use mathlib.Core.Bool.{Bool, true, false, cond}
-use mathlib.Core.List.{List, [], ◌∷◌, ◌++◌}
+use mathlib.Core.List.{List, [], ◌∷◌}
 use lib.Dec.{T, ltb, eqb, eqb→eq}
 use lib.IntN.{ℤ, pos, negsuc, ◌+ℤ◌, ◌-ℤ◌}
 use lib.Ieee.Fits.{and_l, and_r}
 use lib.ListN.{length, get_or, take, drop, length-take, get_or-eq_default}
 use Prim.Native.Nat.{zero-le}
-use borrow.Author.Tests.{lt-ltb, le-ltb, ltb-true, ltb-false}
+use borrow.Author.Tests.{lt-ltb, ltb-true, ltb-false}
 use Rattle.bus.specs.Block.{each, block_of}
-use Rattle.bus.proofs.Blocks.{length_each, each_at, each_same}
+use Rattle.bus.proofs.Blocks.{length_each, each_at, each_same, block_each}
 use Rattle.bus.specs.Sum.{most_inputs, channels, summed_by}
 use Rattle.whole_bus.specs.Sample.{is_sample, half, full, clipped}
 use Rattle.whole_bus.specs.Block.{every, exact_sum, sum_of}
@@ -23,7 +23,6 @@ use Rattle.whole_bus.specs.Raised.{above_lowest, raised_sum, AddedAll, SummedBlo
 use Rattle.whole_bus.proofs.Whole.{over, under, same, add_is, difference}
 use Rattle.whole_bus.proofs.Rounding.{sample_is}
 use Rattle.whole_bus.proofs.Ranges.{every_at, every_drop, every_take}
-use Rattle.whole_bus.proofs.Fading.{each_split}
 
 above_sample : (x : ℤ) → T (is_sample x) → (above_lowest x + under x ≡ over x + half) × (above_lowest x < full)
 unfolding above_lowest over under
@@ -73,23 +72,13 @@ even_long (n ∷ ns) outs e =
     let s = suc-mul (length ns) outs in
     omega arith
 
--- a block by its places
-block_each : {A : Type 0} (n size : ℕ) (f : ℕ → ℕ → A) (g : ℕ → A) → ((c i : ℕ) → c < n → f c i ≡ g (c * size + i)) → block_of n size f ≡ each (n * size) g
-unfolding block_of each
-block_each zero size f g h = ap (λ (k : ℕ). each k g) (sym (zero-mul size))
-block_each {A} (suc n) size f g h =
-    ap (λ (l : List A). l ++ each size (f n)) (block_each n size f g (λ c i l. let k : c < suc n = omega arith in h c i k))
-    ∙ ap (λ (l : List A). each (n * size) g ++ l) (let k : n < suc n = omega arith in each_same size (f n) (λ i. g (n * size + i)) (λ i l. h n i k))
-    ∙ sym (each_split (n * size) size g)
-    ∙ ap (λ (k : ℕ). each k g) (sym (suc-mul n size))
-
 pub even_block : (counts : List ℕ) (inputs : List ℤ) (size outs : ℕ) → T (every (λ n. eqb n outs) counts) → T (every is_sample inputs)
     → block_of outs size (sum_of size inputs counts)
     ≡ each (outs * size) (λ j. clipped (pos (raised_sum (length counts) (outs * size) inputs j) -ℤ pos (length counts * 8388608)))
 unfolding over under
 even_block counts inputs size outs e t =
     block_each outs size (sum_of size inputs counts) _
-    (λ c i l.
+    (λ c i l _.
     let r = raised_sum (length counts) (outs * size) inputs (c * size + i) in
     let s = exact_sum size inputs counts c i in
     let d = pos r -ℤ pos (length counts * 8388608) in
@@ -143,9 +132,6 @@ module _ (inputs : List ℤ) (n : ℕ) (before after : List ℕ) (bits : ℕ) (w
               let l : j < length before = subst (λ (m : ℕ). j < m) (sym long) h in
               ap (λ (r : ℕ). clipped (pos r -ℤ pos (n * 8388608))) (sum_at j l ∙ ap (λ (m : ℕ). raised_sum n m inputs j) long));
         }
-
-  pub summed_none : 16777216 ≤ bits → (out : List ℤ) → SummedBlocks inputs n out out false
-  summed_none high out = record { tells = sym (le-ltb bits 16777216 high) ∙ w.tells; leaves = refl }
 
 -- ---- the ports as blocks
 

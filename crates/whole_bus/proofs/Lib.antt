@@ -1,12 +1,9 @@
 pub mod Whole
 pub mod Rounding
 pub mod Machine
-pub mod Fading
 pub mod Ranges
 pub mod Raising
 pub mod Even
-pub mod Answers
-pub mod Channels
 pub mod Sums
 pub mod Rule
 pub mod Scenes

@@ -18,14 +18,6 @@ use Rattle.whole_bus.proofs.Rounding.{sample_is, faded_nearest, nearest_only, fa
 pub fits_32 : (z : ℤ) → over z < 2 ^ 31 → under z ≤ 2 ^ 31 → SFits w32 z
 fits_32 z o u = record { sfits = mag_below z (2 ^ 31) o u }
 
--- two locals, read back and added
-pub added_read : (a x : ℤ) → SFits w32 a → SFits w32 x → to_z w32 (of_z w32 a) +ℤ to_z w32 (of_z w32 x) ≡ a +ℤ x
-added_read a x f g = ap (λ (z : ℤ). z +ℤ to_z w32 (of_z w32 x)) (to_z-of_z w32 a f) ∙ ap (λ (z : ℤ). a +ℤ z) (to_z-of_z w32 x g)
-
--- two numbers without a sign that fit 31 bits, and the second taken off the first
-pub small_fits : (a : ℕ) → a < 2 ^ 31 → SFits w32 (pos a)
-small_fits a h = record { sfits = h }
-
 less_is : (a b : ℕ) → a < 2 ^ 31 → b < 2 ^ 31 → to_z w32 a -ℤ to_z w32 b ≡ pos a -ℤ pos b
 less_is a b h k = ap (λ (z : ℤ). z -ℤ to_z w32 b) (to_z_pos w32 a h) ∙ ap (λ (z : ℤ). pos a -ℤ z) (to_z_pos w32 b k)
 
@@ -103,20 +95,11 @@ module _ (x : ℤ) (g : ℕ) (inside : T (is_sample x)) (gain : T (is_gain g)) w
   product : lifted x * g ≤ 2 ^ 25 * full
   product = le_trans (mul-le-mul_left (lifted x) small) (mul-le-mul_right full (le_of_lt lifted_small))
 
-  pub product_fits : Fits w64 (lifted_read * g)
-  product_fits = subst (λ (n : ℕ). Fits w64 (n * g)) (sym lifted_read_lem) (record { fits = omega (arith, product) })
-
   pub sum_fits : Fits w64 (lifted_read * g + half)
   sum_fits = subst (λ (n : ℕ). Fits w64 (n * g + half)) (sym lifted_read_lem) (record { fits = omega (arith, product) })
 
   quotient_small : quotient x g < 2 ^ 31
   quotient_small = omega (arith, product)
-
-  pub narrowed : SFits w32 (pos ((lifted_read * g + half) / full))
-  narrowed = subst (λ (n : ℕ). SFits w32 (pos ((n * g + half) / full))) (sym lifted_read_lem) (record { sfits = quotient_small })
-
-  pub gain_fits : SFits w32 (pos g)
-  gain_fits = record { sfits = let s = small in omega arith }
 
   -- the difference is the faded sample
   difference_is : to_z w32 ((lifted_read * g + half) / full) -ℤ to_z w32 g ≡ faded_sample x g

@@ -9,6 +9,7 @@ use native.Mathlib.Omega.{arith}
 use mathlib.Core.Path.{◌≡◌, refl, sym, ap, ◌∙◌, subst}
 use mathlib.Core.Bool.{Bool, true, false, ◌&&◌}
 use mathlib.Core.List.{List, [], ◌∷◌}
+use Rattle.std.specs.List.{list_all}
 use lib.Bits.{bit_or, or_lt, or_add_and, and_le_l, and_le_r}
 use lib.Dec.{T, leb, ltb}
 use lib.IntN.{ℤ, pos, negsuc, nat_abs, ◌+ℤ◌}
@@ -78,13 +79,23 @@ module _ (x : ℤ) (f : SFits w32 x) where
   pub unsigned : T (non_neg (raised_read x)) × Fits w32 (nat_abs (raised_read x))
   unsigned = subst (λ (z : ℤ). T (non_neg z) × Fits w32 (nat_abs z)) (sym read_raised) (tt, record { fits = small })
 
-  pub above_is : (r : ℕ) → r < 2 ^ 32 → (r + 2139095040) % 2 ^ 32 ≡ nat_abs (raised_read x) → r ≡ above_lowest x
+  above_is : (r : ℕ) → r < 2 ^ 32 → (r + 2139095040) % 2 ^ 32 ≡ nat_abs (raised_read x) → r ≡ above_lowest x
   unfolding above_lowest
   above_is r h e = by_sign x within (e ∙ ap nat_abs read_raised)
     where
       by_sign : (x : ℤ) → mag x < 2 ^ 31 → (r + 2139095040) % 2 ^ 32 ≡ raised 2147483648 x → r ≡ above_lowest x
       by_sign (pos a) w e = omega arith
       by_sign (negsuc a) w e = omega arith
+
+  -- y is x as the machine reads it, and 2139095040 is taken off by its complement
+  pub above_wraps : (y : ℤ) → y ≡ to_z w32 (of_z w32 x)
+      → (nat_abs (to_z w64 (of_z w64 (to_z w64 (of_z w64 y) +ℤ pos 2147483648))) + 2155872256) % 4294967296 ≡ above_lowest x
+  above_wraps y e =
+      let m = nat_abs (raised_read x) in
+      let small : m < 2 ^ 32 = unsigned.1.fits in
+      let r = (m + 2155872256) % 4294967296 in
+      ap (λ (z : ℤ). (nat_abs (to_z w64 (of_z w64 (to_z w64 (of_z w64 z) +ℤ pos 2147483648))) + 2155872256) % 4294967296) e
+      ∙ above_is r (omega arith) (omega arith)
 
   -- it is below 2^24 for a sample, and for no other number
   pub above_tells : ltb (above_lowest x) 16777216 ≡ is_sample x
@@ -115,9 +126,6 @@ every_take f zero xs e = tt
 every_take f (suc k) [] e = e
 every_take f (suc k) (x ∷ xs) e = and_i (f x) (every f (take k xs)) (and_l (f x) (every f xs) e) (every_take f k xs (and_r (f x) (every f xs) e))
 
-pub every_part : {A : Type 0} (f : A → Bool) (j k : ℕ) (xs : List A) → T (every f xs) → T (every f (take j (drop k xs)))
-every_part f j k xs e = every_take f j (drop k xs) (every_drop f k xs e)
-
 -- those from k on: the one at k, and those after it
 pub every_next : {A : Type 0} (f : A → Bool) (xs : List A) (k : ℕ) (d : A) → k < length xs → every f (drop k xs) ≡ f (get_or xs k d) && every f (drop (k + 1) xs)
 unfolding every
@@ -126,6 +134,11 @@ every_next f xs k d h = ap (every f) (drop-cons xs k d h ∙ ap (λ (j : ℕ). g
 pub every_none : {A : Type 0} (f : A → Bool) (xs : List A) (k : ℕ) → length xs ≤ k → every f (drop k xs) ≡ true
 unfolding every
 every_none f xs k h = ap (every f) (drop_of_length-le xs h)
+
+pub all_is_every : {A : Type 0} (f : A → Bool) (xs : List A) → list_all f xs ≡ every f xs
+unfolding every
+all_is_every f [] = refl
+all_is_every f (x ∷ xs) = ap (λ (b : Bool). f x && b) (all_is_every f xs)
 
 -- ---- the loop over them
 

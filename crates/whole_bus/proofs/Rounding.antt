@@ -6,8 +6,10 @@
 use Prim.Native.Nat.{ℕ, ◌+◌, ◌*◌, ◌≤◌, ◌<◌}
 use native.Mathlib.Nat.{mul-le-mul_left}
 use native.Mathlib.Omega.{arith}
-use mathlib.Core.Path.{◌≡◌, refl, sym, ap, ◌∙◌, subst}
+use mathlib.Core.Path.{◌≡◌, refl, sym, ap, subst}
 use mathlib.Core.Bool.{Bool, true, false, not, cond}
+use Rattle.std.specs.Int.{int_min, int_max}
+use Rattle.std.proofs.lemmas.Int.{ints, clamps}
 use lib.Dec.{T, leb→le}
 use lib.IntN.{ℤ, pos, negsuc, ◌+ℤ◌, ◌*ℤ◌, *ℤ-zero}
 use lib.Signed.{le_z, lt_z, shr_z, lt_z_no}
@@ -182,7 +184,7 @@ clipped_high z t = go (lt_z z lowest) refl (lt_z highest z) t
     go false e true h = refl
     go false e false h = absurd h
 
--- by the two tests, as they came out
-pub clipped_is : (z : ℤ) (low high : Bool) → lt_z z lowest ≡ low → lt_z highest z ≡ high → clipped z ≡ cond low lowest (cond high highest z)
+-- the machine's `clamp`
+pub clamp_is : (z : ℤ) → int_max lowest (int_min z highest) ≡ clipped z
 unfolding clipped
-clipped_is z low high e f = ap (λ (b : Bool). cond b lowest (cond (lt_z highest z) highest z)) e ∙ ap (λ (b : Bool). cond low lowest (cond b highest z)) f
+clamp_is z = grind (arith, ints, clamps)

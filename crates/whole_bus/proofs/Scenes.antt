@@ -1,7 +1,7 @@
 -- Small blocks, computed: each tells the rule from a near miss.
 use mathlib.Core.Path.{◌≡◌, refl}
 use mathlib.Core.List.{[], ◌∷◌}
-use mathlib.Core.Option.{none, some}
+use Rattle.std.specs.Prelude.{None, Some}
 use lib.IntN.{pos, negsuc}
 use Rattle.node.specs.declared.refusal.Refusal.TheVariants.{LentBlock, OutOfRange}
 use Rattle.bus.specs.Block.{each, block_of}
@@ -41,12 +41,12 @@ first = refl
 -- 21 for a gain past the fade's length, for one that this block does not use, and for a sample of a channel that no output reads; 2^24 is a gain. 16 goes before 21.
 -- Refuses: gains and samples tested only where they are used; a gain of 2^24 refused; 21 before 16.
 tested :
-    (fade_refusal (pos 0 ∷ []) 1 (full ∷ 16777217 ∷ []) 1 1 1 1 ≡ some OutOfRange)
-    × (fade_refusal (pos 0 ∷ []) 1 (16777217 ∷ full ∷ []) 2 1 1 1 ≡ some OutOfRange)
-    × (fade_refusal (pos 0 ∷ pos 8388608 ∷ []) 2 (full ∷ []) 1 1 1 1 ≡ some OutOfRange)
-    × (fade_refusal (negsuc 8388608 ∷ []) 1 (full ∷ []) 1 1 1 1 ≡ some OutOfRange)
-    × (fade_refusal (lowest ∷ []) 1 (full ∷ []) 1 1 1 1 ≡ none)
-    × (fade_refusal (pos 8388608 ∷ []) 1 (16777217 ∷ []) 2 1 1 1 ≡ some LentBlock)
+    (fade_refusal (pos 0 ∷ []) 1 (full ∷ 16777217 ∷ []) 1 1 1 1 ≡ Some OutOfRange)
+    × (fade_refusal (pos 0 ∷ []) 1 (16777217 ∷ full ∷ []) 2 1 1 1 ≡ Some OutOfRange)
+    × (fade_refusal (pos 0 ∷ pos 8388608 ∷ []) 2 (full ∷ []) 1 1 1 1 ≡ Some OutOfRange)
+    × (fade_refusal (negsuc 8388608 ∷ []) 1 (full ∷ []) 1 1 1 1 ≡ Some OutOfRange)
+    × (fade_refusal (lowest ∷ []) 1 (full ∷ []) 1 1 1 1 ≡ None)
+    × (fade_refusal (pos 8388608 ∷ []) 1 (16777217 ∷ []) 2 1 1 1 ≡ Some LentBlock)
 unfolding every
 tested = (refl, refl, refl, refl, refl, refl)
 
@@ -70,6 +70,6 @@ clips = (refl, refl, refl)
 
 -- 16 before 21; a sample that no output reads counts
 sum_tested :
-    (sum_refusal (pos 8388608 ∷ pos 0 ∷ pos 0 ∷ []) (3 ∷ []) 1 1 1 ≡ some LentBlock) × (sum_refusal (pos 0 ∷ pos 8388608 ∷ []) (2 ∷ []) 1 1 1 ≡ some OutOfRange)
+    (sum_refusal (pos 8388608 ∷ pos 0 ∷ pos 0 ∷ []) (3 ∷ []) 1 1 1 ≡ Some LentBlock) × (sum_refusal (pos 0 ∷ pos 8388608 ∷ []) (2 ∷ []) 1 1 1 ≡ Some OutOfRange)
 unfolding sum_fits channels every_is_channels every
 sum_tested = (refl, refl)

@@ -1,66 +1,66 @@
--- The sum of a bus in whole numbers: after k inputs no sum is further from 0 than k times 2^23, so that 64 of them fit 32 bits.
-use Prim.Native.Nat.{ℕ, ◌+◌, ◌*◌, ◌≤◌, ◌<◌}
+-- The sum of a bus in whole numbers: after k inputs no sum is further from 0 than k times 2^23, so that 64 of them fit 32 bits, and none wraps.
+use Prim.Native.Nat.{ℕ, ◌+◌, ◌*◌, ◌%◌, ◌≤◌, ◌<◌}
 use native.Mathlib.Omega.{arith}
 use mathlib.Core.Path.{◌≡◌, refl, sym, ap, ◌∙◌, subst}
-use mathlib.Core.Bool.{Bool, true, false}
-use mathlib.Core.List.{List}
-use lib.Dec.{T, ltb}
+use mathlib.Core.Bool.{true}
+use mathlib.Core.List.{List, [], ◌∷◌}
+use Rattle.std.specs.Int.{int_wrapping_add}
+use Rattle.std.proofs.lemmas.Int.{wrapping_add_is, int_wrap_fits}
+use lib.Dec.{T}
 use lib.IntN.{ℤ, pos, ◌+ℤ◌}
-use lib.ListN.{length, get_or, get_or-eq_default}
-use borrow.Author.Tests.{ltb-true, ltb-false}
+use lib.ListN.{length, get_or, drop}
 use mir.Syntax.{w32}
-use mir.Val.{SFits}
-use Rattle.bus.specs.Block.{each}
-use Rattle.bus.proofs.Blocks.{length_each, each_at, each_same}
+use Rattle.bus.specs.Block.{each, block_of, sample_at}
+use Rattle.bus.specs.Sum.{most_inputs, summed_by}
+use Rattle.bus.proofs.Blocks.{length_block, block_at, block_each}
 use Rattle.whole_bus.specs.Sample.{is_sample, half, clipped}
-use Rattle.whole_bus.specs.Block.{every}
+use Rattle.whole_bus.specs.Block.{every, sum_of}
+use Rattle.whole_bus.specs.Raised.{Fitting, Summed}
 use Rattle.whole_bus.proofs.Whole.{over, under, add_within}
 use Rattle.whole_bus.proofs.Rounding.{sample_is}
 use Rattle.whole_bus.proofs.Machine.{fits_32}
-use Rattle.whole_bus.proofs.Ranges.{every_at}
+use Rattle.whole_bus.proofs.Ranges.{every_at, every_drop}
 
 abbrev Within : ℕ → ℤ → Type 0
 Within k z = (over z ≤ k * half) × (under z ≤ k * half)
 
--- every sum so far lies within k times 2^23
-abbrev pub Bounded : List ℤ → ℕ → Type 0
-Bounded out k = (i : ℕ) → Within k (get_or out i (pos 0))
+-- two samples' worth that fit are added without wrapping
+add_exact : (k : ℕ) (a x : ℤ) → Within k a → k < 64 → T (is_sample x) → (int_wrapping_add w32 a x ≡ a +ℤ x) × Within (k + 1) (a +ℤ x)
+add_exact k a x w h t =
+    let s = sample_is x t in
+    let m = add_within a x in
+    let a_fits = fits_32 a (omega arith) (omega arith) in
+    let x_fits = fits_32 x (omega arith) (omega arith) in
+    let fits = fits_32 (a +ℤ x) (omega arith) (omega arith) in
+    (wrapping_add_is w32 a x a_fits x_fits ∙ int_wrap_fits w32 (a +ℤ x) fits, (omega arith, omega arith))
 
--- what is true of the values is true of each element; past the end stands 0
-each_within : (k n : ℕ) (f : ℕ → ℤ) → ((i : ℕ) → Within k (f i)) → Bounded (each n f) k
+-- so that the sum of up to 64 inputs is exact
+pub wrapped_is : (size c i k : ℕ) (a : ℤ) (xs : List ℤ) (counts : List ℕ) → Within k a → k + length counts ≤ most_inputs → T (every is_sample xs)
+    → summed_by (int_wrapping_add w32) (pos 0) a size c i xs counts ≡ summed_by ◌+ℤ◌ (pos 0) a size c i xs counts
+unfolding summed_by
+wrapped_is size c i k a xs [] w h t = refl
+wrapped_is size c i k a xs (n ∷ ns) w h t =
+    let x = sample_at (pos 0) size xs (c % n) i in
+    let few : k < 64 = omega arith in
+    let left : k + 1 + length ns ≤ most_inputs = omega arith in
+    let more = add_exact k a x w few (every_at is_sample xs (pos 0) tt t (c % n * size + i)) in
+    ap (λ (b : ℤ). summed_by (int_wrapping_add w32) (pos 0) b size c i (drop (n * size) xs) ns) more.0
+    ∙ wrapped_is size c i (k + 1) (a +ℤ x) (drop (n * size) xs) ns more.1 left (every_drop is_sample (n * size) xs t)
+
+-- the sums, clipped one by one, are the bus's sum
+pub clipped_block : (inputs : List ℤ) (counts : List ℕ) (size outs : ℕ) (before sums after : List ℤ) → Fitting inputs counts size before outs → true ≡ every is_sample inputs
+    → sums ≡ block_of outs size (λ c i. summed_by (int_wrapping_add w32) (pos 0) (pos 0) size c i inputs counts)
+    → after ≡ each (length sums) (λ j. clipped (get_or sums j (pos 0))) → Summed inputs counts size outs before after true
 unfolding over under
-each_within k n f h i = go (ltb i n) refl
-  where
-    go : (b : Bool) → ltb i n ≡ b → Within k (get_or (each n f) i (pos 0))
-    go true e = subst (Within k) (sym (each_at n i f (pos 0) (ltb-true i n e))) (h i)
-    go false e =
-        let past : length (each n f) ≤ i = subst (λ (m : ℕ). m ≤ i) (sym (length_each n f)) (ltb-false i n e) in
-        subst (Within k) (sym (get_or-eq_default (each n f) (pos 0) past)) (omega arith, omega arith)
-
-pub bounded_none : (n : ℕ) (out : List ℤ) → out ≡ each n (λ i. pos 0) → Bounded out 0
-unfolding over under
-bounded_none n out e = subst (λ (l : List ℤ). Bounded l 0) (sym e) (each_within 0 n (λ i. pos 0) (λ i. (omega arith, omega arith)))
-
-module _ (out source : List ℤ) (k : ℕ) (bounds : Bounded out k) (samples : T (every is_sample source)) where
-  sum_within : (i : ℕ) → Within (k + 1) (get_or out i (pos 0) +ℤ get_or source i (pos 0))
-  sum_within i =
-      let a = get_or out i (pos 0) in
-      let x = get_or source i (pos 0) in
-      let b = bounds i in
-      let s = sample_is x (every_at is_sample source (pos 0) tt samples i) in
-      let w = add_within a x in
-      (omega arith, omega arith)
-
-  pub bounded_more : (after : List ℤ) → after ≡ each (length out) (λ i. get_or out i (pos 0) +ℤ get_or source i (pos 0)) → Bounded after (k + 1)
-  bounded_more after e = subst (λ (l : List ℤ). Bounded l (k + 1)) (sym e) (each_within (k + 1) (length out) _ sum_within)
-
-  pub bounded_fits : k < 64 → (i : ℕ) → SFits w32 (get_or out i (pos 0) +ℤ get_or source i (pos 0))
-  bounded_fits h i = let w = sum_within i in fits_32 _ (omega arith) (omega arith)
-
--- the sums, clipped one by one
-pub clip_all : (size : ℕ) (f : ℕ → ℤ) (sums after : List ℤ) → sums ≡ each size f → after ≡ each (length sums) (λ i. clipped (get_or sums i (pos 0))) → after ≡ each size (λ i. clipped (f i))
-clip_all size f sums after s e =
-    e
-    ∙ ap (λ (l : List ℤ). each (length l) (λ i. clipped (get_or l i (pos 0)))) s
-    ∙ ap (λ (n : ℕ). each n (λ i. clipped (get_or (each size f) i (pos 0)))) (length_each size f)
-    ∙ each_same size _ _ (λ i h. ap clipped (each_at size i f (pos 0) h))
+clipped_block inputs counts size outs before sums after fit t s e =
+    let f : ℕ → ℕ → ℤ = λ c i. summed_by (int_wrapping_add w32) (pos 0) (pos 0) size c i inputs counts in
+    let few : 0 + length counts ≤ most_inputs = let h = fit.few in omega arith in
+    record {
+      tells = t;
+      leaves =
+          e
+          ∙ ap (λ (l : List ℤ). each (length l) (λ j. clipped (get_or l j (pos 0)))) s
+          ∙ ap (λ (n : ℕ). each n (λ j. clipped (get_or (block_of outs size f) j (pos 0)))) (length_block outs size f)
+          ∙ sym (block_each outs size (sum_of size inputs counts) _
+          (λ c i p q. ap clipped (sym (wrapped_is size c i 0 (pos 0) inputs counts (omega arith, omega arith) few (subst T t tt)) ∙ sym (block_at outs size f c i (pos 0) p q))));
+    }

@@ -1,14 +1,11 @@
 -- Fade output and bus sum in whole numbers: what they answer, and the output as they leave it. Definitions only. The sizes that are asked for, the rule for which
 -- gain goes with which sample and the order of the ports are those of crate `bus`.
-use Rattle.std.specs.Prelude.{ℕ, Bool, true, ◌&&◌, cond, List, [], ◌∷◌, ℤ, pos, ◌+ℤ◌, length}
-use Rattle.std.proofs.Math.Option.{Option, none, some}
+use Rattle.std.specs.Prelude.{ℕ, Bool, true, ◌&&◌, cond, List, [], ◌∷◌, ℤ, pos, ◌+ℤ◌, length, Option, None, Some, Result, Err, Ok}
 use Rattle.node.specs.declared.refusal.Refusal.{Refusal}
 use Rattle.node.specs.declared.refusal.Refusal.TheVariants.{LentBlock, OutOfRange}
 use Rattle.bus.specs.Block.{block_of}
 use Rattle.bus.specs.Fade.{faded_by, faded_of_by, fade_fits}
 use Rattle.bus.specs.Sum.{summed_by, sum_fits}
-use Rattle.bus.specs.declared.Written.{Written}
-use Rattle.bus.specs.declared.Written.TheVariants as block
 use Rattle.whole_bus.specs.Sample.{is_sample, is_gain, faded_sample, clipped}
 
 -- whether a test holds of all
@@ -18,16 +15,16 @@ every f (x ∷ xs) = f x && every f xs
 
 -- 02: "21 any input sample or lent gain outside its range, after 16": 16 where the sizes do not fit, and then 21
 abbrev pub refusal_of : Bool → Bool → Option Refusal
-refusal_of fits in_range = cond fits (cond in_range none (some OutOfRange)) (some LentBlock)
+refusal_of fits in_range = cond fits (cond in_range None (Some OutOfRange)) (Some LentBlock)
 
-abbrev pub answer_of : Option Refusal → Written
-answer_of none = block.Done
-answer_of (some r) = block.Refused r
+abbrev pub answer_of : Option Refusal → Result (Unit {0}) Refusal
+answer_of None = Ok tt
+answer_of (Some r) = Err r
 
 -- the output as it is left: whole, or where the call is refused, as it was
 abbrev pub left_by : Option Refusal → List ℤ → List ℤ → List ℤ
-left_by none new old = new
-left_by (some r) new old = old
+left_by None new old = new
+left_by (Some r) new old = old
 
 -- ---- a fade
 

@@ -11,7 +11,7 @@ use mathlib.Core.Bool.{Bool, true, false}
 use lib.ListN.{length, take, drop, get_or, set, length-set, length-map, length-take, drop_of_length-le}
 use lib.Seq.{get_or-drop, get_or-take, take-take, take-set-le, drop-set-lt, take-set-lt, get_or-set_same, lt-length-set, set_split, drop-drop}
 use Rattle.lists.proofs.Member.{map_append}
-use Rattle.lists.specs.Filter.{filter}
+use Rattle.std.specs.Prelude.{filter}
 use Rattle.lists.proofs.Filter.{filter_snoc_on, filter_snoc_off}
 use Rattle.lists.proofs.Table.{left_cons, left_row, passed_row, append_row, filter_row, drop_row}
 

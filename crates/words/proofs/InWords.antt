@@ -5,14 +5,12 @@ use native.Mathlib.Nat.{add-zero, add-suc}
 use native.Mathlib.Numerals.{add-one}
 use mathlib.Core.Path.{◌≡◌, refl, sym, ap, ◌∙◌, subst}
 use mathlib.Core.List.{List, [], ◌∷◌, ◌++◌, map}
-use mathlib.Core.Option.{none, some}
+use Rattle.std.specs.Prelude.{None, Some, filter, find}
 use mathlib.Core.Bool.{Bool, true, false, cond}
 use lib.ListN.{length, take, drop, get_or, set, length-take}
 use lib.Seq.{take_all, set-get_or}
 use lib.Dec.{leb, ltb}
 use borrow.Author.Tests.{leb-true, leb-false, lt-ltb, le-ltb}
-use Rattle.lists.specs.Filter.{filter}
-use Rattle.lists.specs.Find.{find}
 use Rattle.lists.proofs.Table.{append_row, find_hit, find_next, find_over}
 use Rattle.words.specs.Rows.{cuts, rows, row_moved, moved_up, opened}
 use Rattle.words.proofs.Rows.{rows_long, rows_move, rows_cuts, moved_long}
@@ -44,13 +42,13 @@ module _ {A : Type 0} (w : ℕ) (of : List ℕ → A) (q : A → Bool) (c : List
     pub seek_start : SeekingIn 0
     seek_start = (omega arith, ap (find q) (take_count w of c count n e))
 
-    pub seek_hit : (i : ℕ) → i < n → SeekingIn i → q (get_or (rows w of c) i (of [])) ≡ true → some (get_or (rows w of c) i (of [])) ≡ find q (take count (rows w of c))
+    pub seek_hit : (i : ℕ) → i < n → SeekingIn i → q (get_or (rows w of c) i (of [])) ≡ true → Some (get_or (rows w of c) i (of [])) ≡ find q (take count (rows w of c))
     seek_hit i h inv p = sym (find_hit (of []) q (rows w of c) n i h fits p) ∙ inv.1
 
     pub seek_next : (i : ℕ) → i < n → SeekingIn i → q (get_or (rows w of c) i (of [])) ≡ false → SeekingIn (i + 1)
     seek_next i h inv p = (omega arith, find_next (of []) q (rows w of c) n i h fits p ∙ inv.1)
 
-    pub seek_none : (i : ℕ) → n ≤ i → SeekingIn i → none ≡ find q (take count (rows w of c))
+    pub seek_none : (i : ℕ) → n ≤ i → SeekingIn i → None ≡ find q (take count (rows w of c))
     seek_none i h inv = let all : i ≡ n = omega (arith, inv.0) in sym (find_over q (rows w of c) n i all fits) ∙ inv.1
 
 -- closing gaps: row i of the words is moved to place k, if it passes

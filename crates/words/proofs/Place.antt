@@ -3,14 +3,12 @@ use Prim.Native.Nat.{ℕ, zero, suc, ◌+◌, ◌/◌, ◌≤◌, ◌<◌, min}
 use native.Mathlib.Omega.{arith}
 use mathlib.Core.Path.{◌≡◌, refl, sym, ap, ◌∙◌, subst}
 use mathlib.Core.List.{List, [], ◌∷◌, ◌++◌}
-use mathlib.Core.Option.{none, some}
+use Rattle.std.specs.Prelude.{None, Some, filter, find, is_some}
 use mathlib.Core.Bool.{Bool, true, false, not, cond}
 use lib.Dec.{ltb}
 use lib.ListN.{length, take, drop, get_or, set, length-take, length-append, drop_of_length-le}
 use lib.Seq.{get_or-take, take-take, length-take-le}
 use borrow.Author.Tests.{ltb-true, ltb-false}
-use Rattle.lists.specs.Filter.{put?, filter}
-use Rattle.lists.specs.Find.{find, or?, is_some}
 use Rattle.lists.proofs.Table.{left_cons, append_row}
 use Rattle.words.specs.Rows.{rows}
 use Rattle.words.specs.Place.{place_of, Holds}
@@ -28,22 +26,22 @@ module _ {A : Type 0} (q : A → Bool) where
       go false h = omega arith
 
   -- what is found is the row at that place
-  pub place_found : (d : A) (l : List A) → place_of q l < length l → find q l ≡ some (get_or l (place_of q l) d)
+  pub place_found : (d : A) (l : List A) → place_of q l < length l → find q l ≡ Some (get_or l (place_of q l) d)
   unfolding place_of
   place_found d [] h = absurd (omega arith)
   place_found d (x ∷ l) h = go (q x) h (place_found d l)
     where
-      go : (b : Bool) → cond b zero (suc (place_of q l)) < suc (length l) → (place_of q l < length l → find q l ≡ some (get_or l (place_of q l) d))
-          → or? b x (find q l) ≡ some (get_or (x ∷ l) (cond b zero (suc (place_of q l))) d)
+      go : (b : Bool) → cond b zero (suc (place_of q l)) < suc (length l) → (place_of q l < length l → find q l ≡ Some (get_or l (place_of q l) d))
+          → cond b (Some x) (find q l) ≡ Some (get_or (x ∷ l) (cond b zero (suc (place_of q l))) d)
       go true h ih = refl
       go false h ih = ih (omega arith)
 
-  pub place_lost : (l : List A) → length l ≤ place_of q l → find q l ≡ none
+  pub place_lost : (l : List A) → length l ≤ place_of q l → find q l ≡ None
   unfolding place_of
   place_lost [] h = refl
   place_lost (x ∷ l) h = go (q x) h (place_lost l)
     where
-      go : (b : Bool) → suc (length l) ≤ cond b zero (suc (place_of q l)) → (length l ≤ place_of q l → find q l ≡ none) → or? b x (find q l) ≡ none
+      go : (b : Bool) → suc (length l) ≤ cond b zero (suc (place_of q l)) → (length l ≤ place_of q l → find q l ≡ None) → cond b (Some x) (find q l) ≡ None
       go true h ih = absurd (omega arith)
       go false h ih = ih (omega arith)
 
@@ -56,7 +54,7 @@ module _ {A : Type 0} (q : A → Bool) where
       go : (b : Bool) → q x ≡ b → filter (λ y. not (q y)) (take (place_of q l) l) ≡ take (place_of q l) l
           → filter (λ y. not (q y)) (take (cond b zero (suc (place_of q l))) (x ∷ l)) ≡ take (cond b zero (suc (place_of q l))) (x ∷ l)
       go true e ih = refl
-      go false e ih = ap (λ b. put? (not b) x (filter (λ y. not (q y)) (take (place_of q l) l))) e ∙ ap (λ m. x ∷ m) ih
+      go false e ih = ap (λ b. cond (not b) (x ∷ (filter (λ y. not (q y)) (take (place_of q l) l))) (filter (λ y. not (q y)) (take (place_of q l) l))) e ∙ ap (λ m. x ∷ m) ih
 
   -- the loop: what is left
   module _ (d : A) (l : List A) (i : ℕ) where
@@ -145,13 +143,13 @@ holds_room w of c n l inv = omega (arith, rows_long w of c, inv.many, ap length 
 
 -- a row that was looked for by its place among the first `count`
 module _ {A : Type 0} (w : ℕ) (of : List ℕ → A) (q : A → Bool) (c : List ℕ) (count r n : ℕ) (at : r ≡ place_of q (take count (rows w of c))) (many : n ≡ length (take count (rows w of c))) where
-  pub found_in : r < n → find q (take count (rows w of c)) ≡ some (get_or (rows w of c) r (of []))
+  pub found_in : r < n → find q (take count (rows w of c)) ≡ Some (get_or (rows w of c) r (of []))
   found_in h =
       let l = take count (rows w of c) in
       let below : r < count = omega (arith, length-take count (rows w of c)) in
-      place_found q (of []) l (omega arith) ∙ ap (λ k. some (get_or l k (of []))) (sym at) ∙ ap some (get_or-take count (rows w of c) r (of []) below)
+      place_found q (of []) l (omega arith) ∙ ap (λ k. Some (get_or l k (of []))) (sym at) ∙ ap Some (get_or-take count (rows w of c) r (of []) below)
 
-  pub lost_in : n ≤ r → find q (take count (rows w of c)) ≡ none
+  pub lost_in : n ≤ r → find q (take count (rows w of c)) ≡ None
   lost_in h = place_lost q (take count (rows w of c)) (omega arith)
 
   pub some_in : ltb r n ≡ is_some (find q (take count (rows w of c)))

@@ -22,13 +22,13 @@ pub fn high_word(x: u64) -> u32
 pub fn long_from(low: u32, high: u32) -> u64
     ensures { result ≡ long_from low high }
 {
-    low as u64 + high as u64 * 4294967296
+    u64::from(low) + u64::from(high) * 4294967296
 }
 
 pub fn flag_word(b: bool) -> u32
     ensures { is_set result ≡ b }
 {
-    if b { 1 } else { 0 }
+    u32::from(b)
 }
 
 pub fn is_set(x: u32) -> bool
@@ -41,17 +41,14 @@ pub fn is_set(x: u32) -> bool
 pub fn float_word(x: f32) -> u32
     ensures { float_from result ≡ x }
 {
-    if x != x {
-        return 0x7fc0_0000;
-    }
-    f32::to_bits(x)
+    if x.is_nan() { 0x7fc0_0000 } else { x.to_bits() }
 }
 
 pub fn float_from(x: u32) -> f32
     ensures { result ≡ float_from x }
 {
     if 0x7f80_0000 < x % 0x8000_0000 {
-        return 0.0 / 0.0;
+        return f32::NAN;
     }
     f32::from_bits(x)
 }
@@ -60,7 +57,7 @@ pub fn float_from(x: u32) -> f32
 pub fn byte_word(a: u8, b: u8, c: u8, d: u8) -> u32
     ensures { four result ≡ a ∷ b ∷ c ∷ d ∷ [] }
 {
-    a as u32 + b as u32 * 256 + c as u32 * 65536 + d as u32 * 16777216
+    u32::from(a) + u32::from(b) * 256 + u32::from(c) * 65536 + u32::from(d) * 16777216
 }
 
 // A name in five words.
@@ -73,7 +70,7 @@ pub fn name_words(n: Name) -> [u32; 5]
         byte_word(b[4], b[5], b[6], b[7]),
         byte_word(b[8], b[9], b[10], b[11]),
         byte_word(b[12], b[13], b[14], b[15]),
-        n.len as u32,
+        u32::from(n.len),
     ]
 }
 
@@ -130,16 +127,12 @@ fn shape_words(s: GlideShape) -> [u32; 2]
 fn shape_from(which: u32, x: u32) -> GlideShape
     ensures { result ≡ shape_from which x }
 {
-    if which == 1 {
-        return GlideShape::Linear;
+    match which {
+        1 => GlideShape::Linear,
+        2 => GlideShape::Sine,
+        3 => GlideShape::Exponential(float_from(x)),
+        _ => GlideShape::Hold,
     }
-    if which == 2 {
-        return GlideShape::Sine;
-    }
-    if which == 3 {
-        return GlideShape::Exponential(float_from(x));
-    }
-    GlideShape::Hold
 }
 
 fn space_word(s: GlideSpace) -> u32
@@ -154,26 +147,24 @@ fn space_word(s: GlideSpace) -> u32
 fn space_from(which: u32) -> GlideSpace
     ensures { result ≡ space_from which }
 {
-    if which == 1 {
-        return GlideSpace::Pitch;
+    match which {
+        1 => GlideSpace::Pitch,
+        _ => GlideSpace::Raw,
     }
-    GlideSpace::Raw
 }
 
 // An order that is a glide in six words, the first of them 2.
 pub fn glide_words(g: Glide) -> [u32; 6]
     ensures { Glides g result }
 {
-    let shape = g.shape;
-    let space = g.space;
-    let s = shape_words(shape);
+    let s = shape_words(g.shape);
     [
         2,
         float_word(g.target),
         float_word(g.seconds),
         s[0],
         s[1],
-        space_word(space),
+        space_word(g.space),
     ]
 }
 
@@ -202,39 +193,37 @@ pub fn last_words(l: LastOrder) -> [u32; 6]
 pub fn last_from(which: u32, x: u32, seconds: u32, shape: u32, e: u32, space: u32) -> LastOrder
     ensures { result ≡ last_from which x seconds shape e space }
 {
-    if which == 1 {
-        return LastOrder::Value(float_from(x));
+    match which {
+        1 => LastOrder::Value(float_from(x)),
+        2 => LastOrder::Glide(glide_from(x, seconds, shape, e, space)),
+        _ => LastOrder::Nothing,
     }
-    if which == 2 {
-        return LastOrder::Glide(glide_from(x, seconds, shape, e, space));
-    }
-    LastOrder::Nothing
 }
 
 // The fields of row `i`, of rows of `w` words, from word `k` on; past the end every word is 0.
 pub fn long_at(t: &[u32], w: usize, i: usize, k: u16) -> u64
     ensures { result ≡ long_at (row_at w i t.now) k }
 {
-    let j = k as usize;
+    let j = usize::from(k);
     long_from(word_at(t, w, i, j), word_at(t, w, i, j + 1))
 }
 
 pub fn flag_at(t: &[u32], w: usize, i: usize, k: u16) -> bool
     ensures { result ≡ is_set (get_or (row_at w i t.now) k 0) }
 {
-    is_set(word_at(t, w, i, k as usize))
+    is_set(word_at(t, w, i, usize::from(k)))
 }
 
 pub fn float_at(t: &[u32], w: usize, i: usize, k: u16) -> f32
     ensures { result ≡ float_from (get_or (row_at w i t.now) k 0) }
 {
-    float_from(word_at(t, w, i, k as usize))
+    float_from(word_at(t, w, i, usize::from(k)))
 }
 
 pub fn name_at(t: &[u32], w: usize, i: usize, k: u16) -> Name
     ensures { result ≡ name_at (row_at w i t.now) k }
 {
-    let j = k as usize;
+    let j = usize::from(k);
     let a = word_at(t, w, i, j);
     let b = word_at(t, w, i, j + 1);
     let c = word_at(t, w, i, j + 2);
@@ -245,7 +234,7 @@ pub fn name_at(t: &[u32], w: usize, i: usize, k: u16) -> Name
 pub fn last_at(t: &[u32], w: usize, i: usize, k: u16) -> LastOrder
     ensures { result ≡ last_at (row_at w i t.now) k }
 {
-    let j = k as usize;
+    let j = usize::from(k);
     let which = word_at(t, w, i, j);
     let x = word_at(t, w, i, j + 1);
     let seconds = word_at(t, w, i, j + 2);

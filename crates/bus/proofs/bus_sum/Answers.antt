@@ -5,4 +5,4 @@ use Rattle.bus.proofs.bus_sum.Goals as goal
 
 pub sum_block-requires : goal.sum_block-requires
 sum_block-requires c =
-    sum_fits_says _ _ _ _ _ (sym c.sum_fits.ensures ∙ c.if-sum_fits.true)
+    sum_fits_says _ _ _ _ _ (sym c.sum_fits.ensures ∙ c.if-not-sum_fits.false)

@@ -3,7 +3,7 @@ use Rattle.std.proofs.Common.{◌^◌, ◌≤◌, T, sym, subst, arith}
 use lib.Ieee.{binary32, fits, of_bits, neg}
 use Rattle.bus.proofs.Rates.{plain, not_above, not_under, out_of_range, not_whole, is_whole}
 use Rattle.bus.proofs.sample_rate.Goals as goal
-use Rattle.bus.proofs.sample_rate.Goals.{Start}
+use Rattle.bus.proofs.sample_rate.Goals.{Start, else-x-via-then-x+else-x-2, else-x-via-else-x}
 
 -- a parameter is a value of its format
 held : (c : Start) → T (fits binary32 c.args.x)
@@ -28,18 +28,15 @@ pub returns-else-rate-x : goal.returns-else-rate-x
 returns-else-rate-x c =
     sym (not_whole _ _ (held (goal.at.returns-else-rate-x c).Start) c.truncating_f32_to_u64-n.ensures c.if-rate-x.false)
 
-pub returns-else-n-le384000 : goal.returns-else-n-le384000
-returns-else-n-le384000 c =
-    sym (out_of_range _ _ (held (goal.at.returns-else-n-le384000 c).Start) c.truncating_f32_to_u64-n.ensures (λ l h. omega arith))
-
 pub returns-else-n-ge1 : goal.returns-else-n-ge1
 returns-else-n-ge1 c =
-    sym (out_of_range _ _ (held (goal.at.returns-else-n-ge1 c).Start) c.truncating_f32_to_u64-n.ensures (λ l h. omega arith))
-
-pub returns-else-x-2 : goal.returns-else-x-2
-unfolding of_bits neg
-returns-else-x-2 c = sym (not_under _ (held (goal.at.returns-else-x-2 c).Start) c.if-x-2.false)
+    sym (out_of_range _ _ (held (goal.at.returns-else-n-ge1 c).Start) c.truncating_f32_to_u64-n.ensures (λ l h. omega (arith, c.else-n-ge1.either)))
 
 pub returns-else-x : goal.returns-else-x
 unfolding of_bits neg
-returns-else-x c = sym (not_above _ (held (goal.at.returns-else-x c).Start) c.if-x.false)
+returns-else-x c =
+    let fits = held (goal.at.returns-else-x c).Start in
+    elim c.else-x.branch [
+      | else-x-via-then-x+else-x-2 w ↦ sym (not_under _ fits w.if-x-2.false)
+      | else-x-via-else-x w ↦ sym (not_above _ fits w.if-x.false)
+    ]

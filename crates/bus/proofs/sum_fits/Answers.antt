@@ -1,33 +1,27 @@
 -- `bus::sum_fits` meets its contract.
-use Rattle.std.proofs.Common.{◌≡◌, ◌*◌, true, false, eqb, sym, ap, ◌∙◌, le-leb}
+use Rattle.std.proofs.Common.{◌≡◌, ◌*◌, eqb, sym, ap, ◌∙◌, le-leb}
 use borrow.Author.Tests.{lt-leb}
 use Rattle.bus.specs.Sum.{channels, sum_fits}
 use Rattle.bus.proofs.sum_fits.Goals as goal
+use Rattle.bus.proofs.sum_fits.Goals.{then-is_product, else-is_product, else-counts-le64-via-then-counts-le64+else-every_is_channels, else-counts-le64-via-else-counts-le64}
 
-pub returns-then-is_product : goal.returns-then-is_product
+pub returns-then-every_is_channels : goal.returns-then-every_is_channels
 unfolding sum_fits
-returns-then-is_product c =
-    let few = c.before.before.before.before.before.before in
-    let o = few.args in
-    let product : eqb o.inputs (channels o.counts.now * o.size) ≡ true =
-    ap (λ n. eqb o.inputs (n * o.size)) (sym c.total_channels.ensures) ∙ sym c.is_product.ensures ∙ c.if-is_product.true in
-    simp
-    (le-leb _ _ few.if-counts-le64.true, sym c.every_is_channels.ensures ∙ c.if-every_is_channels.true, product)
-    c.holds_block.ensures
+returns-then-every_is_channels c =
+    let o = c.args in
+    let few = le-leb _ _ c.if-counts-le64.true in
+    let all = sym c.every_is_channels.ensures ∙ c.if-every_is_channels.true in
+    let product : c.is_product.result ≡ eqb o.inputs (channels o.counts.now * o.size) =
+    c.is_product.ensures ∙ ap (λ n. eqb o.inputs (n * o.size)) c.total_channels.ensures in
+    elim c.if-is_product.branch [
+      | then-is_product w ↦ w.result-is ∙ simp (few, all, sym product ∙ w.if-is_product.true) w.holds_block.ensures
+      | else-is_product w ↦ w.result-is ∙ w.if-is_product.false ∙ simp (few, all, sym product ∙ w.if-is_product.false)
+    ]
 
-pub returns-else-is_product : goal.returns-else-is_product
+pub returns : goal.returns
 unfolding sum_fits
-returns-else-is_product c =
-    let few = c.before.before.before.before.before in
-    let o = few.args in
-    let product : eqb o.inputs (channels o.counts.now * o.size) ≡ false =
-    ap (λ n. eqb o.inputs (n * o.size)) (sym c.total_channels.ensures) ∙ sym c.is_product.ensures ∙ c.if-is_product.false in
-    simp (le-leb _ _ few.if-counts-le64.true, sym c.every_is_channels.ensures ∙ c.if-every_is_channels.true, product)
-
-pub returns-else-every_is_channels : goal.returns-else-every_is_channels
-unfolding sum_fits
-returns-else-every_is_channels c = simp (le-leb _ _ c.if-counts-le64.true, sym c.every_is_channels.ensures ∙ c.if-every_is_channels.false)
-
-pub returns-else-counts-le64 : goal.returns-else-counts-le64
-unfolding sum_fits
-returns-else-counts-le64 c = simp (lt-leb _ _ c.if-counts-le64.false)
+returns c =
+    elim c.else-counts-le64.branch [
+      | else-counts-le64-via-then-counts-le64+else-every_is_channels w ↦ simp (le-leb _ _ w.if-counts-le64.true, sym w.every_is_channels.ensures ∙ w.if-every_is_channels.false)
+      | else-counts-le64-via-else-counts-le64 w ↦ simp (lt-leb _ _ w.if-counts-le64.false)
+    ]

@@ -27,14 +27,13 @@ from_zero : (s : List Float) → squares (of_bits binary64 0) s ≡ squares plus
 unfolding of_bits
 from_zero s = refl
 
-pub loop-i-preserved : goal.loop-i-preserved
-loop-i-preserved c =
-    let l = c.loop-i in
+pub loop-sample-preserved : goal.loop-sample-preserved
+loop-sample-preserved c =
+    let l = c.loop-sample in
     let s = c.args.samples.now in
-    (omega arith, more s l.sum c.widen-x.result (squares plus_zero s) l.i c.loop-i-test.true c.widen-x.ensures l.invariant.1)
+    more s l.sum c.widen-x.result (squares plus_zero s) l.sample-index (omega arith) c.widen-x.ensures l.invariant
 
 pub returns : goal.returns
 returns c =
-    let l = c.loop-i in
-    let s = c.args.samples.now in
-    none s l.sum (squares plus_zero s) l.i c.loop-i-test.false l.invariant.1
+    let l = c.loop-sample in
+    none c.args.samples.now l.sum (squares plus_zero c.args.samples.now) l.sample-index c.loop-sample-test.false l.invariant

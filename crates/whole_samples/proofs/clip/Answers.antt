@@ -1,25 +1,14 @@
 -- `whole_samples::clip` meets its contract.
-use Rattle.std.proofs.Common.{true, false, ℤ, sym, refl, ap, ◌∙◌, w32}
-use lib.Signed.{lt_z}
+use Rattle.std.proofs.Common.{ℤ, ap, ◌∙◌, w32}
+use Rattle.std.specs.Int.{int_min, int_max}
 use mir.ValLaws.{to_z-of_z}
 use Rattle.whole_bus.specs.Sample.{lowest, highest}
-use Rattle.whole_bus.proofs.Rounding.{clipped_is}
+use Rattle.whole_bus.proofs.Rounding.{clamp_is}
 use Rattle.whole_samples.proofs.clip.Goals as goal
-
-pub returns-then-x-ltminus8388608 : goal.returns-then-x-ltminus8388608
-returns-then-x-ltminus8388608 c =
-    let x = c.args.x in
-    let low = ap (λ (z : ℤ). lt_z z lowest) (sym (to_z-of_z w32 x c.ranges.x)) ∙ c.if-x-ltminus8388608.true in
-    sym (clipped_is x true (lt_z highest x) low refl)
-
-pub returns-then-x-gt8388607 : goal.returns-then-x-gt8388607
-returns-then-x-gt8388607 c =
-    let x = c.args.x in
-    let read = sym (to_z-of_z w32 x c.ranges.x) in
-    sym (clipped_is x false true (ap (λ (z : ℤ). lt_z z lowest) read ∙ c.if-x-ltminus8388608.false) (ap (lt_z highest) read ∙ c.if-x-gt8388607.true))
 
 pub returns : goal.returns
 returns c =
-    let x = c.args.x in
-    let read = sym (to_z-of_z w32 x c.ranges.x) in
-    sym read ∙ sym (clipped_is x false false (ap (λ (z : ℤ). lt_z z lowest) read ∙ c.if-x-ltminus8388608.false) (ap (lt_z highest) read ∙ c.if-x-gt8388607.false))
+    to_z-of_z w32 _ (record { sfits = c.clamp.type_inv })
+    ∙ c.clamp.ensures.value
+    ∙ ap (λ (z : ℤ). int_max lowest (int_min z highest)) (to_z-of_z w32 c.args.x c.ranges.x)
+    ∙ clamp_is c.args.x

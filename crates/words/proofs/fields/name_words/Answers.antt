@@ -9,4 +9,4 @@ pub returns : goal.returns
 returns c =
     let long : length c.args.n.bytes ≡ 16 = search rules in
     let small : c.args.n.len < 256 = search rules in
-    name_back c.args.n c.byte_word.result c.byte_word-2.result c.byte_word-3.result c.byte_word-4.result long small c.byte_word.ensures c.byte_word-2.ensures c.byte_word-3.ensures c.byte_word-4.ensures
+    rw c.from.ensures (name_back c.args.n c.byte_word.result c.byte_word-2.result c.byte_word-3.result c.byte_word-4.result long small c.byte_word.ensures c.byte_word-2.ensures c.byte_word-3.ensures c.byte_word-4.ensures)

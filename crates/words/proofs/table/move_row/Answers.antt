@@ -1,37 +1,36 @@
-use Prim.Native.Nat.{◌*◌}
-use mathlib.Core.Path.{sym, ap, ◌∙◌}
+use Prim.Native.Nat.{◌+◌, ◌*◌, ◌-◌}
+use native.Mathlib.Omega.{arith}
+use mathlib.Core.Path.{◌≡◌, sym, ap, ◌∙◌}
 use mathlib.Core.Logic.{inl, inr}
-use lib.Seq.{sets}
-use lib.ListN.{length}
+use lib.Seq.{sets, paste}
+use lib.ListN.{length, drop}
 use Rattle.words.specs.Rows.{cut}
-use Rattle.words.proofs.Words.{apart, sets_self}
+use Rattle.words.proofs.Words.{sets_self, sets_within}
 use Rattle.words.proofs.Rows.{row_fits, no_room, moved_is, moved_not}
 use Rattle.words.proofs.table.move_row.Goals as goal
+use Rattle.words.proofs.table.move_row.Goals.{else-w-gt0-via-then-w-gt0+then-from-t+then-to-t+else-from-to, else-w-gt0-via-then-w-gt0+then-from-t+else-to-t, else-w-gt0-via-then-w-gt0+else-from-t, else-w-gt0-via-else-w-gt0}
 
 pub returns-then-from-to : goal.returns-then-from-to
 returns-then-from-to c =
-    sym
-    (moved_is c.args.w c.args.from c.args.to c.args.t.now c.if-from-room.true c.if-to-room.true
-    ∙ ap (λ j. sets c.args.t.now (j * c.args.w) (cut c.args.w c.args.from c.args.t.now)) (sym c.if-from-to.true)
-    ∙ sets_self c.args.w (c.args.from * c.args.w) c.args.t.now)
-
-pub move_words-requires : goal.move_words-requires
-move_words-requires c = (
-  row_fits c.args.w c.args.from c.args.t.now c.if-from-room.true,
-  row_fits c.args.w c.args.to c.args.t.now c.if-to-room.true,
-  apart c.args.w c.args.from c.args.to,
-)
-
-pub returns-else-from-to : goal.returns-else-from-to
-returns-else-from-to c =
-    c.move_words.ensures
-    ∙ sym (moved_is c.args.w c.args.from c.args.to c.args.t.now c.if-from-room.true c.if-to-room.true)
-
-pub returns-else-to-room : goal.returns-else-to-room
-returns-else-to-room c = sym (moved_not c.args.w c.args.from c.args.to c.args.t.now (inr c.if-to-room.false))
-
-pub returns-else-from-room : goal.returns-else-from-room
-returns-else-from-room c = sym (moved_not c.args.w c.args.from c.args.to c.args.t.now (inl c.if-from-room.false))
+    let s = c.args in
+    let t = s.t.now in
+    let n : s.from * s.w + s.w - s.from * s.w ≡ s.w = omega arith in
+    c.copy_within.ensures.after
+    ∙ ap (paste t (s.to * s.w) (drop (s.from * s.w) t)) n
+    ∙ sets_within t (s.from * s.w) (s.to * s.w) s.w (row_fits s.w s.from t c.if-from-t.true) (row_fits s.w s.to t c.if-to-t.true)
+    ∙ sym (moved_is s.w s.from s.to t c.if-from-t.true c.if-to-t.true)
 
 pub returns-else-w-gt0 : goal.returns-else-w-gt0
-returns-else-w-gt0 c = sym (moved_not c.args.w c.args.from c.args.to c.args.t.now (inl (no_room c.args.w c.args.from (length c.args.t.now) c.if-w-gt0.false)))
+returns-else-w-gt0 c =
+    let s = c.args in
+    let t = s.t.now in
+    sym
+    (elim c.else-w-gt0.branch [
+      | else-w-gt0-via-then-w-gt0+then-from-t+then-to-t+else-from-to w ↦
+          moved_is s.w s.from s.to t w.if-from-t.true w.if-to-t.true
+          ∙ ap (λ j. sets t (j * s.w) (cut s.w s.from t)) (sym w.if-from-to.false)
+          ∙ sets_self s.w (s.from * s.w) t
+      | else-w-gt0-via-then-w-gt0+then-from-t+else-to-t w ↦ moved_not s.w s.from s.to t (inr w.if-to-t.false)
+      | else-w-gt0-via-then-w-gt0+else-from-t w ↦ moved_not s.w s.from s.to t (inl w.if-from-t.false)
+      | else-w-gt0-via-else-w-gt0 w ↦ moved_not s.w s.from s.to t (inl (no_room s.w s.from (length t) w.if-w-gt0.false))
+    ])

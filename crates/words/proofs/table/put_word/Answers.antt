@@ -3,15 +3,17 @@ use mathlib.Core.Logic.{inl, inr}
 use lib.ListN.{length}
 use Rattle.words.proofs.Rows.{no_room, word_on, word_off}
 use Rattle.words.proofs.table.put_word.Goals as goal
+use Rattle.words.proofs.table.put_word.Goals.{else-w-gt0-via-then-w-gt0+then-i-t+else-k-w, else-w-gt0-via-then-w-gt0+else-i-t, else-w-gt0-via-else-w-gt0}
 
 pub returns-then-k-w : goal.returns-then-k-w
-returns-then-k-w c = sym (word_on c.args.w c.args.i c.args.k c.args.x c.args.t.now c.if-i-t.true c.if-k-w.true)
-
-pub returns-else-k-w : goal.returns-else-k-w
-returns-else-k-w c = sym (word_off c.args.w c.args.i c.args.k c.args.x c.args.t.now (inr c.if-k-w.false))
-
-pub returns-else-i-t : goal.returns-else-i-t
-returns-else-i-t c = sym (word_off c.args.w c.args.i c.args.k c.args.x c.args.t.now (inl c.if-i-t.false))
+returns-then-k-w c = let s = c.args in sym (word_on s.w s.i s.k s.x s.t.now c.if-i-t.true c.if-k-w.true)
 
 pub returns-else-w-gt0 : goal.returns-else-w-gt0
-returns-else-w-gt0 c = sym (word_off c.args.w c.args.i c.args.k c.args.x c.args.t.now (inl (no_room c.args.w c.args.i (length c.args.t.now) c.if-w-gt0.false)))
+returns-else-w-gt0 c =
+    let s = c.args in
+    sym
+    (elim c.else-w-gt0.branch [
+      | else-w-gt0-via-then-w-gt0+then-i-t+else-k-w w ↦ word_off s.w s.i s.k s.x s.t.now (inr w.if-k-w.false)
+      | else-w-gt0-via-then-w-gt0+else-i-t w ↦ word_off s.w s.i s.k s.x s.t.now (inl w.if-i-t.false)
+      | else-w-gt0-via-else-w-gt0 w ↦ word_off s.w s.i s.k s.x s.t.now (inl (no_room s.w s.i (length s.t.now) w.if-w-gt0.false))
+    ])

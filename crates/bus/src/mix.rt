@@ -1,0 +1,198 @@
+// Fades and sums of lent blocks in any sort of numbers: one code for samples that are floats and samples that are whole numbers.
+ghost use Rattle.std.specs.Prelude.{◌≡◌, ℕ, ◌*◌, ◌≤◌, T, length, slice_index_or};
+ghost use Rattle.std.specs.Float.{binary32, nan};
+ghost use Rattle.std.specs.Float.Ieee.{add, mul};
+ghost use Rattle.bus.specs.Block.{each, block_of, is_channels};
+ghost use Rattle.bus.specs.Fade.{silence, faded_by, faded_of_by, Multiply};
+ghost use Rattle.bus.specs.Sum.{channels, every_is_channels, summed_by};
+
+// A sort of numbers: what samples and gains are, and how they are multiplied and added.
+pub trait Numbers {
+    type Sample: Copy;
+
+    type Gain: Copy;
+
+    // What the definitions have past a block's end.
+    ghost past: { Self.Sample };
+
+    ghost silence: { Self.Sample };
+
+    ghost no_gain: { Self.Gain };
+
+    ghost times: { Self.Sample → Self.Gain → Self.Sample };
+
+    ghost plus: { Self.Sample → Self.Sample → Self.Sample };
+
+    // Which may be multiplied.
+    ghost Multiplies: { Self.Sample → Self.Gain → Type 0 };
+
+    fn silence() -> Self::Sample
+        ensures { result ≡ silence };
+
+    fn no_gain() -> Self::Gain
+        ensures { result ≡ no_gain };
+
+    fn times(x: Self::Sample, gain: Self::Gain) -> Self::Sample
+        requires { Multiplies x gain }
+        ensures { result ≡ times x gain };
+
+    fn plus(x: Self::Sample, y: Self::Sample) -> Self::Sample
+        ensures { result ≡ plus x y };
+}
+
+// Floats, whose products and sums are rounded once each.
+pub struct Floats;
+
+impl Numbers for Floats {
+    type Sample = f32;
+
+    type Gain = f32;
+
+    ghost past = { nan };
+
+    ghost silence = { silence };
+
+    ghost no_gain = { silence };
+
+    ghost times = { mul binary32 };
+
+    ghost plus = { add binary32 };
+
+    ghost Multiplies = { λ x g. Unit {0} };
+
+    fn silence() -> f32 {
+        0.0
+    }
+
+    fn no_gain() -> f32 {
+        Self::silence()
+    }
+
+    fn times(x: f32, gain: f32) -> f32 {
+        x * gain
+    }
+
+    fn plus(x: f32, y: f32) -> f32 {
+        x + y
+    }
+}
+
+// Samples under a gain each.
+fn fade_held<N: Numbers>(source: &[N::Sample], gains: &[N::Gain], out: &mut [N::Sample])
+    requires { (length source.now ≡ length out.old) × (length gains.now ≡ length out.old) × Multiply N.Multiplies N.past N.no_gain source.now gains.now }
+    ensures { out.new ≡ each (length out.old) (λ i. N.times (slice_index_or source.now i N.past) (slice_index_or gains.now i N.no_gain)) }
+{
+    for (i, y) in out.iter_mut().enumerate() {
+        *y = N::times(source[i], gains[i]);
+    }
+}
+
+// Samples that have no gain, which need not give silence: a float's NaN stays.
+fn fade_out<N: Numbers>(source: &[N::Sample], out: &mut [N::Sample])
+    requires { (length source.now ≡ length out.old) × ((i : ℕ) → N.Multiplies (slice_index_or source.now i N.past) N.no_gain) }
+    ensures { out.new ≡ each (length out.old) (λ i. N.times (slice_index_or source.now i N.past) N.no_gain) }
+{
+    for (i, y) in out.iter_mut().enumerate() {
+        *y = N::times(source[i], N::no_gain());
+    }
+}
+
+// The samples that the fade's gains reach, and those after them: two loops, so that none asks at each sample whether there is a gain.
+fn fade_channel<N: Numbers>(
+    source: &[N::Sample],
+    gains: &[N::Gain],
+    len: usize,
+    position: usize,
+    out: &mut [N::Sample],
+)
+    requires { (length source.now ≡ length out.old) × (len ≤ length gains.now) × Multiply N.Multiplies N.past N.no_gain source.now gains.now }
+    ensures { out.new ≡ each (length out.old) (λ i. faded_by N.times N.no_gain gains.now len position i (slice_index_or source.now i N.past)) }
+{
+    let first = position.min(len);
+    let n = (len - first).min(out.len());
+    let (held, after) = source.split_at(n);
+    let (front, back) = out.split_at_mut(n);
+    fade_held::<N>(held, &gains[first..first + n], front);
+    fade_out::<N>(after, back);
+}
+
+// Channel c of the output is channel c modulo the input's count, faded. There are one or two of each, so that a second channel reads the input's last.
+pub fn fade_block<N: Numbers>(
+    input: &[N::Sample],
+    ins: usize,
+    gains: &[N::Gain],
+    len: usize,
+    position: usize,
+    size: usize,
+    out: &mut [N::Sample],
+    outs: usize,
+)
+    requires sizes { T (is_channels ins) × T (is_channels outs) × (length input.now ≡ ins * size) × (length out.old ≡ outs * size) × (len ≤ length gains.now) }
+    requires ranges { Multiply N.Multiplies N.past N.no_gain input.now gains.now }
+    ensures { out.new ≡ block_of outs size (faded_of_by N.times N.past N.no_gain input.now ins gains.now len position size) }
+{
+    for c in 0..outs {
+        let from = c.min(ins - 1) * size;
+        let to = c * size;
+        fade_channel::<N>(
+            &input[from..from + size],
+            gains,
+            len,
+            position,
+            &mut out[to..to + size],
+        );
+    }
+}
+
+fn clear<N: Numbers>(out: &mut [N::Sample])
+    ensures { out.new ≡ each (length out.old) (λ i. N.silence) }
+{
+    for y in out.iter_mut() {
+        *y = N::silence();
+    }
+}
+
+fn add_channel<N: Numbers>(source: &[N::Sample], out: &mut [N::Sample])
+    requires { length source.now ≡ length out.old }
+    ensures { out.new ≡ each (length out.old) (λ i. N.plus (slice_index_or out.old i N.past) (slice_index_or source.now i N.past)) }
+{
+    for (i, y) in out.iter_mut().enumerate() {
+        *y = N::plus(*y, source[i]);
+    }
+}
+
+// Channel c of the sum: silence, and then input by input its channel c modulo its count.
+fn sum_channel<N: Numbers>(
+    inputs: &[N::Sample],
+    counts: &[usize],
+    size: usize,
+    c: usize,
+    out: &mut [N::Sample],
+)
+    requires { T (every_is_channels counts.now) × (length inputs.now ≡ channels counts.now * size) × (length out.old ≡ size) }
+    ensures { out.new ≡ each size (λ i. summed_by N.plus N.past N.silence size c i inputs.now counts.now) }
+{
+    clear::<N>(out);
+    let mut at: usize = 0;
+    for n in counts {
+        let from = at + c % *n * size;
+        add_channel::<N>(&inputs[from..from + size], out);
+        at += *n * size;
+    }
+}
+
+pub fn sum_block<N: Numbers>(
+    inputs: &[N::Sample],
+    counts: &[usize],
+    size: usize,
+    out: &mut [N::Sample],
+    outs: usize,
+)
+    requires { T (every_is_channels counts.now) × (length inputs.now ≡ channels counts.now * size) × (length out.old ≡ outs * size) }
+    ensures { out.new ≡ block_of outs size (λ c i. summed_by N.plus N.past N.silence size c i inputs.now counts.now) }
+{
+    for c in 0..outs {
+        let to = c * size;
+        sum_channel::<N>(inputs, counts, size, c, &mut out[to..to + size]);
+    }
+}
