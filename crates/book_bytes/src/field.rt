@@ -3,7 +3,6 @@ ghost use Rattle.std.specs.Prelude.{◌≡◌, ◌+◌, drop, get_or};
 ghost use Rattle.synthdef.specs.Rows.{every};
 ghost use Rattle.def_book.specs.Rows.{pair_at, is_record, is_zero, name_at, name_fits, is_heading, is_node, is_edge, is_param, node_at, edge_at, param_at};
 
-use lists::byte::wide;
 use node::name::{Name, is_named};
 use synthdef::def::{DefEdge, DefNode, Param};
 
@@ -11,41 +10,30 @@ use synthdef::def::{DefEdge, DefNode, Param};
 pub(crate) fn byte_at(s: &[u8], i: usize) -> u8
     ensures { result ≡ get_or s.now i 0 }
 {
-    if i < s.len() {
-        return s[i];
-    }
-    0
+    s.get(i).copied().unwrap_or(0)
 }
 
 // The two bytes at `i` as one number, the lower first.
 fn pair_at(s: &[u8], i: u8) -> usize
     ensures { result ≡ pair_at s.now i }
 {
-    let at = i as usize;
-    wide(byte_at(s, at)) + 256 * wide(byte_at(s, at + 1))
+    let at = usize::from(i);
+    usize::from(byte_at(s, at)) + 256 * usize::from(byte_at(s, at + 1))
 }
 
 // Whether a record of this kind and size stands here, whole.
 fn is_record(s: &[u8], kind: usize, size: usize) -> bool
     ensures { result ≡ is_record kind size s.now }
 {
-    if pair_at(s, 0) != size {
-        return false;
-    }
-    if pair_at(s, 2) != kind {
-        return false;
-    }
-    size <= s.len()
+    pair_at(s, 0) == size && pair_at(s, 2) == kind && size <= s.len()
 }
 
 fn name_at(s: &[u8]) -> Name
     ensures { result ≡ name_at s.now }
 {
     let mut bytes = [0u8; 16];
-    let mut i: usize = 0;
-    while i < 16 {
-        bytes[i] = byte_at(s, 5 + i);
-        i += 1;
+    for (i, b) in bytes.iter_mut().enumerate() {
+        *b = byte_at(s, 5 + i);
     }
     Name {
         bytes,
@@ -57,24 +45,13 @@ fn name_at(s: &[u8]) -> Name
 fn is_clear(n: Name) -> bool
     ensures { result ≡ every is_zero (drop n.len n.bytes) }
 {
-    let bytes = n.bytes;
-    let mut i = wide(n.len);
-    while i < 16 {
-        if bytes[i] != 0 {
-            return false;
-        }
-        i += 1;
-    }
-    true
+    n.bytes.iter().skip(usize::from(n.len)).all(|b| *b == 0)
 }
 
 fn name_fits(n: Name) -> bool
     ensures { result ≡ name_fits n }
 {
-    if !is_named(n) {
-        return false;
-    }
-    is_clear(n)
+    is_named(n) && is_clear(n)
 }
 
 pub(crate) fn is_heading(s: &[u8]) -> bool
@@ -86,13 +63,7 @@ pub(crate) fn is_heading(s: &[u8]) -> bool
 pub(crate) fn is_node(s: &[u8]) -> bool
     ensures { result ≡ is_node s.now }
 {
-    if !is_record(s, 2, 27) {
-        return false;
-    }
-    if !name_fits(name_at(s)) {
-        return false;
-    }
-    byte_at(s, 23) <= 3
+    is_record(s, 2, 27) && name_fits(name_at(s)) && byte_at(s, 23) <= 3
 }
 
 pub(crate) fn is_edge(s: &[u8]) -> bool
@@ -104,10 +75,7 @@ pub(crate) fn is_edge(s: &[u8]) -> bool
 pub(crate) fn is_param(s: &[u8]) -> bool
     ensures { result ≡ is_param s.now }
 {
-    if !is_record(s, 4, 22) {
-        return false;
-    }
-    name_fits(name_at(s))
+    is_record(s, 4, 22) && name_fits(name_at(s))
 }
 
 pub(crate) fn node_at(s: &[u8]) -> DefNode

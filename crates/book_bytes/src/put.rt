@@ -1,41 +1,42 @@
 // The records of a book, each put at the start of a lent part of the buffer. Each asks for its room, and answers how much it took.
-ghost use Rattle.std.specs.Prelude.{◌≡◌, map, ◌*◌, ◌≤◌, min, length};
+ghost use Rattle.std.specs.Prelude.{◌≡◌, List, ℕ, map, ◌*◌, ◌≤◌, length};
 ghost use Rattle.node.specs.Name.{text};
-ghost use Rattle.synthdef.specs.Tables.{node_rows, edge_rows, param_rows};
 ghost use Rattle.def_book.specs.Held.{held};
-ghost use Rattle.def_book.specs.Bytes.{sorts_of, heading_bytes, node_bytes, edge_bytes, param_bytes, joined};
+ghost use Rattle.def_book.specs.Bytes.{sorts_of, heading_bytes, node, edge, param, node_bytes, edge_bytes, param_bytes, joined};
 ghost use Rattle.def_book.specs.Put.{Put};
+ghost use Rattle.def_book.proofs.Restores.{row_long};
 
-use lists::byte::{copy, wide};
-use lists::number::at_most;
+use lists::byte::copy;
 use node::name::Name;
-use synthdef::def::{DefEdge, DefEdges, DefNode, DefNodes, Param, Params};
+use synthdef::def::{DefEdge, DefNode, Param};
+
+// A row of a definition, whose record has so many bytes.
+pub(crate) trait Record {
+    ghost bytes: { Self → List ℕ };
+
+    ghost size: { ℕ };
+
+    ghost sized: { (x : Self) → length (bytes x) ≡ size };
+
+    fn put(&self, out: &mut [u8]) -> usize
+        requires { size ≤ length out.old }
+        ensures { Put (bytes self.now) out.old out.new result };
+}
 
 // The 16 bytes of a name, with the unused ones at zero.
 fn clean_bytes(n: Name) -> [u8; 16]
     ensures { result ≡ held 16 0 (text n) }
 {
-    let from = n.bytes;
-    let m = at_most(wide(n.len), 16);
+    let m = usize::from(n.len).min(16);
     let mut bytes = [0u8; 16];
-    let mut i: usize = 0;
-    while i < m {
-        bytes[i] = from[i];
-        i += 1;
-    }
+    bytes[..m].copy_from_slice(&n.bytes[..m]);
     bytes
 }
 
 fn sorts_of(values: bool, glides: bool) -> u8
     ensures { result ≡ sorts_of values glides }
 {
-    if values {
-        if glides { 3 } else { 1 }
-    } else if glides {
-        2
-    } else {
-        0
-    }
+    u8::from(values) + 2 * u8::from(glides)
 }
 
 pub(crate) fn put_heading(count: u8, output: u8, out: &mut [u8]) -> usize
@@ -46,89 +47,68 @@ pub(crate) fn put_heading(count: u8, output: u8, out: &mut [u8]) -> usize
     copy(&r, out)
 }
 
-fn put_node(n: DefNode, out: &mut [u8]) -> usize
-    requires { 27 ≤ length out.old }
-    ensures { Put (node_bytes n) out.old out.new result }
-{
-    let kind = n.kind;
-    let head = [27, 0, 2, 0, kind.len];
-    let name = clean_bytes(kind);
-    let sorts = sorts_of(n.takes_values, n.takes_glides);
-    let behind = [
-        n.ports,
-        n.required,
-        sorts,
-        n.in_port,
-        n.level_port,
-        n.amp_port,
-    ];
-    let a = copy(&head, out);
-    let b = a + copy(&name, &mut out[a..]);
-    b + copy(&behind, &mut out[b..])
-}
+impl Record for DefNode {
+    ghost bytes = { node_bytes };
 
-fn put_edge(e: DefEdge, out: &mut [u8]) -> usize
-    requires { 7 ≤ length out.old }
-    ensures { Put (edge_bytes e) out.old out.new result }
-{
-    let r = [7, 0, 3, 0, e.from, e.to, e.port];
-    copy(&r, out)
-}
+    ghost size = { 27 };
 
-fn put_param(p: Param, out: &mut [u8]) -> usize
-    requires { 22 ≤ length out.old }
-    ensures { Put (param_bytes p) out.old out.new result }
-{
-    let n = p.name;
-    let head = [22, 0, 4, 0, n.len];
-    let name = clean_bytes(n);
-    let behind = [p.node];
-    let a = copy(&head, out);
-    let b = a + copy(&name, &mut out[a..]);
-    b + copy(&behind, &mut out[b..])
-}
+    ghost sized = { λ x. row_long (node x) };
 
-pub(crate) fn put_nodes(t: DefNodes, out: &mut [u8]) -> usize
-    requires { 27 * min t.count 24 ≤ length out.old }
-    ensures { Put (joined (map node_bytes (node_rows t))) out.old out.new result }
-{
-    let m = at_most(t.count, 24);
-    let mut at: usize = 0;
-    let mut i: usize = 0;
-    while i < m {
-        let n = t.rows[i];
-        at += put_node(n, &mut out[at..]);
-        i += 1;
+    fn put(&self, out: &mut [u8]) -> usize {
+        let head = [27, 0, 2, 0, self.kind.len];
+        let name = clean_bytes(self.kind);
+        let behind = [
+            self.ports,
+            self.required,
+            sorts_of(self.takes_values, self.takes_glides),
+            self.in_port,
+            self.level_port,
+            self.amp_port,
+        ];
+        let a = copy(&head, out);
+        let b = a + copy(&name, &mut out[a..]);
+        b + copy(&behind, &mut out[b..])
     }
-    at
 }
 
-pub(crate) fn put_edges(t: DefEdges, out: &mut [u8]) -> usize
-    requires { 7 * min t.count 48 ≤ length out.old }
-    ensures { Put (joined (map edge_bytes (edge_rows t))) out.old out.new result }
-{
-    let m = at_most(t.count, 48);
-    let mut at: usize = 0;
-    let mut i: usize = 0;
-    while i < m {
-        let e = t.rows[i];
-        at += put_edge(e, &mut out[at..]);
-        i += 1;
+impl Record for DefEdge {
+    ghost bytes = { edge_bytes };
+
+    ghost size = { 7 };
+
+    ghost sized = { λ x. row_long (edge x) };
+
+    fn put(&self, out: &mut [u8]) -> usize {
+        let r = [7, 0, 3, 0, self.from, self.to, self.port];
+        copy(&r, out)
     }
-    at
 }
 
-pub(crate) fn put_params(t: Params, out: &mut [u8]) -> usize
-    requires { 22 * min t.count 8 ≤ length out.old }
-    ensures { Put (joined (map param_bytes (param_rows t))) out.old out.new result }
+impl Record for Param {
+    ghost bytes = { param_bytes };
+
+    ghost size = { 22 };
+
+    ghost sized = { λ x. row_long (param x) };
+
+    fn put(&self, out: &mut [u8]) -> usize {
+        let head = [22, 0, 4, 0, self.name.len];
+        let name = clean_bytes(self.name);
+        let behind = [self.node];
+        let a = copy(&head, out);
+        let b = a + copy(&name, &mut out[a..]);
+        b + copy(&behind, &mut out[b..])
+    }
+}
+
+// The records of a table's rows, one after the other.
+pub(crate) fn put_rows<T: Record>(rows: &[T], out: &mut [u8]) -> usize
+    requires { T.size * length rows.now ≤ length out.old }
+    ensures { Put (joined (map T.bytes rows.now)) out.old out.new result }
 {
-    let m = at_most(t.count, 8);
     let mut at: usize = 0;
-    let mut i: usize = 0;
-    while i < m {
-        let p = t.rows[i];
-        at += put_param(p, &mut out[at..]);
-        i += 1;
+    for row in rows {
+        at += row.put(&mut out[at..]);
     }
     at
 }

@@ -1,8 +1,8 @@
 // The rows of a book, gathered in one walk. Rows above a table's capacity are counted and not kept.
-ghost use Rattle.std.specs.Prelude.{◌≡◌, [], ◌<◌};
+ghost use Rattle.std.specs.Prelude.{◌≡◌, ◌+◌, [], ◌<◌, set};
 ghost use Rattle.def_book.specs.Rows.{rows};
 ghost use Rattle.def_book.specs.Read.{node_table, edge_table, param_table};
-ghost use Rattle.def_book.specs.Body.{more_nodes, more_edges, more_params, body_of};
+ghost use Rattle.def_book.specs.Body.{body_of};
 
 use crate::field::{edge_at, is_edge, is_node, is_param, node_at, param_at};
 use def_book::body::Body;
@@ -61,61 +61,16 @@ pub(crate) fn no_params() -> Params
     }
 }
 
-fn more_nodes(t: DefNodes, n: DefNode) -> DefNodes
-    requires { t.count < 0xffff_ffff_ffff_ffff }
-    ensures { result ≡ more_nodes t n }
+// Stores a row at the count, and counts it; past the capacity nothing is stored.
+fn push<T: Copy>(rows: &mut [T], count: &mut usize, x: T)
+    requires { count.old < 0xffff_ffff_ffff_ffff }
+    ensures stored { rows.new ≡ set rows.old count.old x }
+    ensures counted { count.new ≡ count.old + 1 }
 {
-    let mut rows = t.rows;
-    let place = t.count;
-    if place < 24 {
-        rows[place] = n;
-        return DefNodes {
-            rows,
-            count: place + 1,
-        };
+    if *count < rows.len() {
+        rows[*count] = x;
     }
-    DefNodes {
-        rows,
-        count: place + 1,
-    }
-}
-
-fn more_edges(t: DefEdges, e: DefEdge) -> DefEdges
-    requires { t.count < 0xffff_ffff_ffff_ffff }
-    ensures { result ≡ more_edges t e }
-{
-    let mut rows = t.rows;
-    let place = t.count;
-    if place < 48 {
-        rows[place] = e;
-        return DefEdges {
-            rows,
-            count: place + 1,
-        };
-    }
-    DefEdges {
-        rows,
-        count: place + 1,
-    }
-}
-
-fn more_params(t: Params, p: Param) -> Params
-    requires { t.count < 0xffff_ffff_ffff_ffff }
-    ensures { result ≡ more_params t p }
-{
-    let mut rows = t.rows;
-    let place = t.count;
-    if place < 8 {
-        rows[place] = p;
-        return Params {
-            rows,
-            count: place + 1,
-        };
-    }
-    Params {
-        rows,
-        count: place + 1,
-    }
+    *count += 1;
 }
 
 // The rows from the front of `s` on, up to where there is none.
@@ -127,22 +82,18 @@ pub(crate) fn rows_of(s: &[u8]) -> Body
     let mut params = no_params();
     let mut at: usize = 0;
     while at < s.len() {
-        if is_node(&s[at..]) {
-            nodes = more_nodes(nodes, node_at(&s[at..]));
+        let rest = &s[at..];
+        if is_node(rest) {
+            push(&mut nodes.rows, &mut nodes.count, node_at(rest));
             at += 27;
-        } else if is_edge(&s[at..]) {
-            edges = more_edges(edges, edge_at(&s[at..]));
+        } else if is_edge(rest) {
+            push(&mut edges.rows, &mut edges.count, edge_at(rest));
             at += 7;
-        } else if is_param(&s[at..]) {
-            params = more_params(params, param_at(&s[at..]));
+        } else if is_param(rest) {
+            push(&mut params.rows, &mut params.count, param_at(rest));
             at += 22;
         } else {
-            return Body {
-                nodes,
-                edges,
-                params,
-                end: at,
-            };
+            break;
         }
     }
     Body {

@@ -4,7 +4,7 @@ use native.Mathlib.Omega.{arith}
 use mathlib.Core.Path.{◌≡◌, refl, sym, ap, ◌∙◌}
 use mathlib.Core.Logic.{◌⊎◌, inl, inr}
 use mathlib.Core.List.{List, [], ◌∷◌, ◌++◌}
-use mathlib.Core.Option.{none, some}
+use Rattle.std.specs.Prelude.{None, Some}
 use mathlib.Core.Bool.{Bool, true, false, cond, ◌||◌}
 use lib.Dec.{eqb, ltb}
 use lib.ListN.{length, take, drop, get_or}
@@ -164,11 +164,11 @@ pub samples_fall : (w : ℕ) (xs : List ℕ) → 0 < w → falls xs ≡ true →
 samples_fall w xs wide f = let e : eqb w 0 ≡ false = ne_eqb w 0 (λ z. omega arith) in rw (e, f)
 
 -- "An empty run gives 0 and no sample."
-pub empty_run : (w : ℕ) → 0 < w → busiest w [] ≡ gives 0 none
+pub empty_run : (w : ℕ) → 0 < w → busiest w [] ≡ gives 0 None
 empty_run w wide = let e : eqb w 0 ≡ false = ne_eqb w 0 (λ z. omega arith) in rw e
 
 -- any other run gives the busiest stretch
-pub found : (w : ℕ) (xs : List ℕ) → 0 < w → falls xs ≡ false → 0 < length xs → (n : ℕ) × (x : ℕ) × (busiest w xs ≡ gives n (some x)) × BusiestStretch w xs n x
+pub found : (w : ℕ) (xs : List ℕ) → 0 < w → falls xs ≡ false → 0 < length xs → (n : ℕ) × (x : ℕ) × (busiest w xs ≡ gives n (Some x)) × BusiestStretch w xs n x
 found w xs wide f records =
     let rises = falls_not 0 xs f in
     let so_far = so_far_all xs w wide rises in
@@ -176,7 +176,7 @@ found w xs wide f records =
     let x = (scanned w xs).first in
     let e : eqb w 0 ≡ false = ne_eqb w 0 (λ z. omega arith) in
     let gave : busiest w xs ≡ gives (largest w xs xs) (first_of w xs) = rw (e, f) in
-    let which : gives (largest w xs xs) (first_of w xs) ≡ gives n (some x) =
+    let which : gives (largest w xs xs) (first_of w xs) ≡ gives n (Some x) =
     ap (λ m. gives m (first_of w xs)) (so_far_largest w xs n x wide rises records so_far) ∙ ap (gives n) (so_far_first w xs n x wide rises records so_far) in
     (n, x, gave ∙ which, so_far_stretch w xs n x wide rises records so_far)
 
@@ -192,7 +192,7 @@ concluded_busiest w xs =
     z = scanned w xs
 
     rest : Answer
-    rest = cond (eqb z.most 0) (gives 0 none) (gives z.most (some z.first))
+    rest = cond (eqb z.most 0) (gives 0 None) (gives z.most (Some z.first))
 
     last : 0 < w → falls xs ≡ false → (l : List ℕ) → xs ≡ l → rest ≡ gives (largest w xs xs) (first_of w xs)
     last wide f [] e = let n : z.most ≡ 0 = ap (λ l. (scanned w l).most) e in rw n (ap (λ l. gives (largest w l l) (first_of w l)) (sym e))
@@ -202,7 +202,7 @@ concluded_busiest w xs =
         let so_far = so_far_all xs w wide rises in
         let positive = some_inside w xs z.most z.first wide rises records so_far in
         let off : eqb z.most 0 ≡ false = ne_eqb z.most 0 (λ q. omega arith) in
-        ap (λ b. cond b (gives 0 none) (gives z.most (some z.first))) off
+        ap (λ b. cond b (gives 0 None) (gives z.most (Some z.first))) off
         ∙ sym (ap (λ m. gives m (first_of w xs)) (so_far_largest w xs z.most z.first wide rises records so_far) ∙ ap (gives z.most) (so_far_first w xs z.most z.first wide rises records so_far))
 
     go : (a : Bool) → eqb w 0 ≡ a → (b : Bool) → falls xs ≡ b → cond a (refused 22) (cond b (refused 23) rest) ≡ cond a (refused 22) (cond b (refused 23) (gives (largest w xs xs) (first_of w xs)))

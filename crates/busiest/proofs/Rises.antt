@@ -4,14 +4,13 @@ use native.Mathlib.Omega.{arith}
 use mathlib.Core.Path.{◌≡◌, refl, sym, ap, ◌∙◌}
 use mathlib.Core.Logic.{◌⊎◌, inl, inr, ⊎_elim}
 use mathlib.Core.List.{List, [], ◌∷◌, ◌++◌}
-use mathlib.Core.Option.{some}
+use Rattle.std.specs.Prelude.{Some, find, cond}
 use mathlib.Core.Bool.{Bool, true, false, false≢true, ◌||◌, or-true}
 use lib.Dec.{ltb}
 use lib.ListN.{length, take, get_or}
 use borrow.Author.Tests.{ltb-true, ltb-false, lt-ltb}
 use Rattle.lists.specs.Member.{In}
 use Rattle.lists.proofs.Member.{some_inj}
-use Rattle.lists.specs.Find.{find, or?}
 use Rattle.lists.specs.Count.{count, more}
 use Rattle.lists.proofs.Count.{count_length}
 use Rattle.busiest.specs.Stretch.{falls_from}
@@ -137,7 +136,7 @@ count_from q a (x ∷ l) (suc k) r t = go (q x) (count_from q x l k r.1 (λ z i.
     go false h = omega arith
 
 -- the first that passes is the least that does
-pub find_least : (q : ℕ → Bool) (a : ℕ) (l : List ℕ) → Rises a l → (x : ℕ) → In x l → q x ≡ true → (y : ℕ) → find q l ≡ some y → y ≤ x
+pub find_least : (q : ℕ → Bool) (a : ℕ) (l : List ℕ) → Rises a l → (x : ℕ) → In x l → q x ≡ true → (y : ℕ) → find q l ≡ Some y → y ≤ x
 find_least q a [] r x i t y e = absurd i
 find_least q a (z ∷ l) r x i t y e = go (q z) refl e (λ j. find_least q z l r.1 x j t y)
   where
@@ -145,7 +144,7 @@ find_least q a (z ∷ l) r x i t y e = go (q z) refl e (λ j. find_least q z l r
     later f (inl p) = absurd (false≢true (sym f ∙ ap q (sym p) ∙ t))
     later f (inr j) = j
 
-    go : (b : Bool) → q z ≡ b → or? b z (find q l) ≡ some y → (In x l → find q l ≡ some y → y ≤ x) → y ≤ x
+    go : (b : Bool) → q z ≡ b → cond b (Some z) (find q l) ≡ Some y → (In x l → find q l ≡ Some y → y ≤ x) → y ≤ x
     go true g e ih =
         let p : z ≡ y = some_inj e in
         let h = rises_least z (z ∷ l) (omega arith, r.1) x i in

@@ -1,4 +1,5 @@
 -- The newest records as an array, row by row, and what its first rows are.
+use Rattle.std.specs.Prelude.{unwrap_or}
 use Prim.Native.Nat.{ℕ, zero, suc, ◌-◌, ◌≤◌, min}
 use native.Mathlib.Omega.{arith}
 use mathlib.Core.Path.{◌≡◌, refl, ap, ◌∙◌}
@@ -8,7 +9,7 @@ use lib.Seq.{take_all, take-append-le}
 use Rattle.lists.specs.Table.{rows_of}
 use Rattle.voice.specs.declared.steals.StealRecord.{StealRecord}
 use Rattle.voice.specs.Steals.{found_at}
-use Rattle.busiest.specs.Newest.{no_record, record_or, newest_of}
+use Rattle.busiest.specs.Newest.{no_record, newest_of}
 
 -- the run that is lent is the list of the newest records
 pub newest_run : (l : List StealRecord) → take (newest_of l).count (newest_of l).rows ≡ l
@@ -21,7 +22,7 @@ pub newest_rows : (l : List StealRecord) → length l ≤ 64 → rows_of 64 (new
 newest_rows l h = let size : min (length l) 64 ≡ length l = omega arith in ap (λ k. take k (newest_of l).rows) size ∙ newest_run l
 
 -- what is read at a place
-pub found_row : (l : List StealRecord) (i : ℕ) (d : StealRecord) → record_or (found_at i l) d ≡ get_or l i d
+pub found_row : (l : List StealRecord) (i : ℕ) (d : StealRecord) → unwrap_or (found_at i l) d ≡ get_or l i d
 found_row [] i d = refl
 found_row (r ∷ l) zero d = refl
 found_row (r ∷ l) (suc i) d = found_row l i d

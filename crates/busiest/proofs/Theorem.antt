@@ -5,14 +5,13 @@ use native.Mathlib.Omega.{arith}
 use mathlib.Core.Path.{◌≡◌, refl, sym, ap, ◌∙◌}
 use mathlib.Core.Logic.{inl, inr}
 use mathlib.Core.List.{List, [], ◌∷◌}
-use mathlib.Core.Option.{Option, none, some}
+use Rattle.std.specs.Prelude.{Option, None, Some, find}
 use mathlib.Core.Bool.{Bool, true, false, false≢true}
 use lib.Dec.{eqb}
 use lib.ListN.{length}
 use borrow.Author.Tests.{eq-eqb, eqb-true}
 use Rattle.lists.specs.Member.{In}
 use Rattle.lists.proofs.Member.{some_inj}
-use Rattle.lists.specs.Find.{find}
 use Rattle.lists.proofs.Find.{find_in, find_none}
 use Rattle.lists.proofs.Count.{count_none}
 use Rattle.busiest.specs.Stretch.{within, inside, largest, first_of, BusiestStretch}
@@ -69,12 +68,12 @@ module _ (w : ℕ) (xs : List ℕ) (n x : ℕ) (wide : 0 < w) (rises : Rises 0 x
   not_before r i e = let f : r < x → ⊥ = (λ less. let c = so_far.earlier r i less in omega arith) in omega (arith, f)
 
   -- the first record of the earliest stretch
-  first_is : (a : ℕ) → inside w a xs ≡ n → a ≤ x → (o : Option ℕ) → find (within w a) xs ≡ o → o ≡ some x
-  first_is a e le none f =
+  first_is : (a : ℕ) → inside w a xs ≡ n → a ≤ x → (o : Option ℕ) → find (within w a) xs ≡ o → o ≡ Some x
+  first_is a e le None f =
       let z = count_none (within w a) xs (λ z i. find_none (within w a) xs z f i) in
       let p = some_inside in
       absurd (omega arith)
-  first_is a e le (some r) f =
+  first_is a e le (Some r) f =
       let i = find_in (within w a) xs r f in
       let from = within_from w a r i.1 in
       let to = within_to w a r i.1 in
@@ -88,7 +87,7 @@ module _ (w : ℕ) (xs : List ℕ) (n x : ℕ) (wide : 0 < w) (rises : Rises 0 x
       let on : within w a x ≡ true = within_on w a x le (omega arith) in
       let early = find_least (within w a) 0 xs rises x met on r f in
       let same : r ≡ x = omega arith in
-      ap some same
+      ap Some same
 
   pub so_far_stretch : BusiestStretch w xs n x
   so_far_stretch =
@@ -117,7 +116,7 @@ module _ (w : ℕ) (xs : List ℕ) (n x : ℕ) (wide : 0 < w) (rises : Rises 0 x
   pub so_far_largest : largest w xs xs ≡ n
   so_far_largest = let h = largest_most xs in let k = largest_least xs x met in let e = so_far.as_many in omega arith
 
-  pub so_far_first : first_of w xs ≡ some x
+  pub so_far_first : first_of w xs ≡ Some x
   so_far_first = ap (λ m. find (λ a. eqb (inside w a xs) m) xs) so_far_largest ∙ go (find q xs) refl
     where
       q : ℕ → Bool
@@ -126,11 +125,11 @@ module _ (w : ℕ) (xs : List ℕ) (n x : ℕ) (wide : 0 < w) (rises : Rises 0 x
       on : q x ≡ true
       on = eq-eqb (inside w x xs) n so_far.as_many
 
-      go : (o : Option ℕ) → find q xs ≡ o → o ≡ some x
-      go none e = absurd (false≢true (sym (find_none q xs x e met) ∙ on))
-      go (some r) e =
+      go : (o : Option ℕ) → find q xs ≡ o → o ≡ Some x
+      go None e = absurd (false≢true (sym (find_none q xs x e met) ∙ on))
+      go (Some r) e =
           let i = find_in q xs r e in
           let late = not_before r i.0 (eqb-true (inside w r xs) n i.1) in
           let early = find_least q 0 xs rises x met on r e in
           let same : r ≡ x = omega arith in
-          ap some same
+          ap Some same

@@ -4,16 +4,10 @@ use Rattle.std.specs.Prelude.{◌-◌, List, ◌++◌, false, length, replicate}
 use Rattle.std.specs.Float.Ieee.{of_bits}
 use Rattle.std.specs.Float.{binary32}
 use Rattle.voice.specs.declared.steals.StealRecord.{StealRecord}
-use Rattle.voice.specs.declared.steals.StealFound.{StealFound}
-use Rattle.voice.specs.declared.steals.StealFound.TheVariants as found
 use Rattle.busiest.specs.declared.newest.Newest.{Newest}
 
 abbrev pub no_record : StealRecord
 no_record = record { sample = 0; level = of_bits binary32 0; known = false; cut = false }
-
-abbrev pub record_or : StealFound → StealRecord → StealRecord
-record_or found.Nothing d = d
-record_or (found.Record r) d = r
 
 abbrev pub newest_of : List StealRecord → Newest
 newest_of l = record { rows = l ++ replicate (64 - length l) no_record; count = length l }

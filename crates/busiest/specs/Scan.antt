@@ -1,13 +1,7 @@
 -- The walk over a run in one pass. That it ends at what Stretch says is shown in proofs/Found.
-use Rattle.std.specs.Prelude.{ℕ, zero, suc, ◌+◌, List, false, cond, ◌||◌, eqb, ltb, length, get_or}
-use Rattle.std.proofs.Math.Option.{none, some}
-use Rattle.voice.specs.declared.steals.StealRecord.{StealRecord}
+use Rattle.std.specs.Prelude.{ℕ, zero, suc, ◌+◌, List, false, cond, ◌||◌, eqb, ltb, length, get_or, None, Some}
 use Rattle.busiest.specs.declared.stretch.Scan.{Scan}
-use Rattle.busiest.specs.Stretch.{samples, within, Answer, refused, gives}
-
--- the sample of record i of a run
-abbrev pub sample_at : List StealRecord → ℕ → ℕ
-sample_at rs i = get_or (samples rs) i 0
+use Rattle.busiest.specs.Stretch.{within, Answer, refused, gives}
 
 abbrev pub begun : ℕ → Scan
 begun width = record { width = width; most = 0; first = 0; last = 0; head = 0; falls = false }
@@ -33,4 +27,4 @@ scanned width xs = scan_from (length xs) xs 0 (begun width)
 
 abbrev pub concluded : Scan → Answer
 concluded s =
-    cond (eqb s.width 0) (refused 22) (cond s.falls (refused 23) (cond (eqb s.most 0) (gives 0 none) (gives s.most (some s.first))))
+    cond (eqb s.width 0) (refused 22) (cond s.falls (refused 23) (cond (eqb s.most 0) (gives 0 None) (gives s.most (Some s.first))))

@@ -3,13 +3,12 @@
 -- sample. Equal samples count separately."
 -- `busiest` computes it from the stretches that start at a record. `BusiestStretch` below says it of every stretch, wherever it starts;
 -- `found` of proofs/Found shows that the answer is the one that it names.
-use Rattle.std.specs.Prelude.{ℕ, ◌+◌, ◌≤◌, max, ◌≡◌, List, [], ◌∷◌, map, Bool, false, cond, ◌&&◌, ◌||◌, eqb, leb, ltb}
-use Rattle.std.proofs.Math.Option.{Option, none, some}
+use Rattle.std.specs.Prelude.{ℕ, ◌+◌, ◌≤◌, max, ◌≡◌, List, [], ◌∷◌, map, Bool, false, cond, ◌&&◌, ◌||◌, eqb, leb, ltb, Option, None, Some, Result, Ok, Err, find}
 use Rattle.lists.specs.Count.{count}
-use Rattle.lists.specs.Find.{find}
 use Rattle.voice.specs.declared.steals.StealRecord.{StealRecord}
-use Rattle.busiest.specs.declared.stretch.Busiest.{Busiest}
-use Rattle.busiest.specs.declared.stretch.Busiest.TheVariants.{NoWidth, SamplesFall, Nothing, Found}
+use Rattle.busiest.specs.declared.stretch.Stretch.{Stretch}
+use Rattle.busiest.specs.declared.stretch.Unanswered.{Unanswered}
+use Rattle.busiest.specs.declared.stretch.Unanswered.TheVariants.{NoWidth, SamplesFall}
 
 -- a run by its samples, one for each record
 abbrev pub samples : List StealRecord → List ℕ
@@ -46,11 +45,11 @@ pub data Answer : Type 0 where
   gives : ℕ → Option ℕ → Answer
 
 -- what each case of the answer says: "New numbers: 22 W is 0; 23 samples fall somewhere in the run"
-abbrev pub said : Busiest → Answer
-said NoWidth = refused 22
-said SamplesFall = refused 23
-said Nothing = gives 0 none
-said (Found n x) = gives n (some x)
+abbrev pub said : Result (Option Stretch) Unanswered → Answer
+said (Err NoWidth) = refused 22
+said (Err SamplesFall) = refused 23
+said (Ok None) = gives 0 None
+said (Ok (Some s)) = gives s.count (Some s.sample)
 
 -- "22 W is 0; 23 samples fall somewhere in the run, checked after 22"
 abbrev pub busiest : ℕ → List ℕ → Answer
@@ -65,4 +64,4 @@ pub record BusiestStretch (width : ℕ) (xs : List ℕ) (n x : ℕ) : Type 0 whe
   pub no_more : (a : ℕ) → inside width a xs ≤ n
   pub as_many : inside width start xs ≡ n
   pub earliest : (a : ℕ) → inside width a xs ≡ n → start ≤ a
-  pub first : find (within width start) xs ≡ some x
+  pub first : find (within width start) xs ≡ Some x

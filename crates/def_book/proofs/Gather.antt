@@ -3,7 +3,7 @@ use Prim.Native.Nat.{ℕ, zero, suc, ◌+◌, ◌-◌, ◌≤◌}
 use native.Mathlib.Omega.{arith}
 use mathlib.Core.Path.{◌≡◌, refl, sym, ap, ◌∙◌}
 use mathlib.Core.List.{List, [], ◌∷◌, ◌++◌, append-nil}
-use mathlib.Core.Option.{Option, none, some}
+use Rattle.std.specs.Prelude.{Option, None, Some}
 use lib.ListN.{length, take, drop, length-append, length-drop, drop_of_length-le}
 use lib.Seq.{append_snoc, drop-drop, take_all}
 use Rattle.synthdef.specs.Tables.{no_edge}
@@ -39,8 +39,8 @@ size_after (b ∷ s) (suc k) = omega (arith, size_after s k)
 size_after (b ∷ s) zero = go (row_at (b ∷ s)) refl (size_after s)
   where
     go : (o : Option Row) → row_at (b ∷ s) ≡ o → ((k : ℕ) → size (rows_after s k) ≤ length s - k) → size (follow o (rows_after s)) ≤ suc (length s) - 0
-    go none e ih = omega arith
-    go (some r) e ih = let some_byte = row_some r in omega (arith, row_fits (b ∷ s) r e, ih (long r - 1))
+    go None e ih = omega arith
+    go (Some r) e ih = let some_byte = row_some r in omega (arith, row_fits (b ∷ s) r e, ih (long r - 1))
 
 pub size_fits : (s : List ℕ) → size (rows s) ≤ length s
 size_fits s = omega (arith, size_after s 0)
@@ -57,10 +57,10 @@ module _ {A : Type 0} (f : Row → Option A) where
   gather_snoc rs r = gather_append f rs (r ∷ [])
 
   -- a row of another sort
-  pub gather_other : (rs : List Row) (r : Row) → f r ≡ none → gather f (rs ++ (r ∷ [])) ≡ gather f rs
+  pub gather_other : (rs : List Row) (r : Row) → f r ≡ None → gather f (rs ++ (r ∷ [])) ≡ gather f rs
   gather_other rs r e = gather_snoc rs r ∙ ap (λ o. gather f rs ++ more o []) e ∙ append-nil (gather f rs)
 
-  pub gather_one : (rs : List Row) (r : Row) (x : A) → f r ≡ some x → gather f (rs ++ (r ∷ [])) ≡ gather f rs ++ (x ∷ [])
+  pub gather_one : (rs : List Row) (r : Row) (x : A) → f r ≡ Some x → gather f (rs ++ (r ∷ [])) ≡ gather f rs ++ (x ∷ [])
   gather_one rs r x e = gather_snoc rs r ∙ ap (λ o. gather f rs ++ more o []) e
 
   -- there are no more rows than bytes
@@ -70,12 +70,12 @@ module _ {A : Type 0} (f : Row → Option A) where
   gather_few (r ∷ rs) = go r (f r) (gather_few rs)
     where
       go : (r : Row) (o : Option A) → length (gather f rs) ≤ size rs → length (more o (gather f rs)) ≤ long r + size rs
-      go (node n) none h = omega arith
-      go (node n) (some x) h = omega arith
-      go (edge e) none h = omega arith
-      go (edge e) (some x) h = omega arith
-      go (param p) none h = omega arith
-      go (param p) (some x) h = omega arith
+      go (node n) None h = omega arith
+      go (node n) (Some x) h = omega arith
+      go (edge e) None h = omega arith
+      go (edge e) (Some x) h = omega arith
+      go (param p) None h = omega arith
+      go (param p) (Some x) h = omega arith
 
 one_long : {A : Type 0} (l : List A) (x : A) → length l + 1 ≡ length (l ++ (x ∷ []))
 one_long l x = sym (length-append l (x ∷ []))
@@ -114,7 +114,7 @@ module _ {s : List ℕ} {ns : DefNodes} {es : DefEdges} {ps : Params} {at : ℕ}
   pub few_params : ps.count ≤ at
   few_params = rw w.params (omega (arith, gather_few as_param w.passed, w.end))
 
-  module _ (r : Row) (here : row_at (drop at s) ≡ some r) where
+  module _ (r : Row) (here : row_at (drop at s) ≡ Some r) where
     pub row_inside : at + long r ≤ length s
     row_inside = omega (arith, row_fits (drop at s) r here, length-drop at s, w.inside)
 
@@ -127,7 +127,7 @@ module _ {s : List ℕ} {ns : DefNodes} {es : DefEdges} {ps : Params} {at : ℕ}
     ended : at + long r ≡ size (w.passed ++ (r ∷ []))
     ended = omega (arith, size_snoc w.passed r, w.end)
 
-  pub node_turn : (n : DefNode) (t : DefNodes) → row_at (drop at s) ≡ some (node n) → t ≡ more_nodes ns n → Walked s t es ps (at + 27)
+  pub node_turn : (n : DefNode) (t : DefNodes) → row_at (drop at s) ≡ Some (node n) → t ≡ more_nodes ns n → Walked s t es ps (at + 27)
   node_turn n t here e =
       record {
         passed = w.passed ++ (node n ∷ []);
@@ -139,7 +139,7 @@ module _ {s : List ℕ} {ns : DefNodes} {es : DefEdges} {ps : Params} {at : ℕ}
         inside = row_inside (node n) here;
       }
 
-  pub edge_turn : (x : DefEdge) (t : DefEdges) → row_at (drop at s) ≡ some (edge x) → t ≡ more_edges es x → Walked s ns t ps (at + 7)
+  pub edge_turn : (x : DefEdge) (t : DefEdges) → row_at (drop at s) ≡ Some (edge x) → t ≡ more_edges es x → Walked s ns t ps (at + 7)
   edge_turn x t here e =
       record {
         passed = w.passed ++ (edge x ∷ []);
@@ -151,7 +151,7 @@ module _ {s : List ℕ} {ns : DefNodes} {es : DefEdges} {ps : Params} {at : ℕ}
         inside = row_inside (edge x) here;
       }
 
-  pub param_turn : (p : Param) (t : Params) → row_at (drop at s) ≡ some (param p) → t ≡ more_params ps p → Walked s ns es t (at + 22)
+  pub param_turn : (p : Param) (t : Params) → row_at (drop at s) ≡ Some (param p) → t ≡ more_params ps p → Walked s ns es t (at + 22)
   param_turn p t here e =
       record {
         passed = w.passed ++ (param p ∷ []);
@@ -172,7 +172,7 @@ module _ {s : List ℕ} {ns : DefNodes} {es : DefEdges} {ps : Params} {at : ℕ}
       let same : gathered ≡ body_of w.passed = rw (w.nodes, w.edges, w.params, w.end) in
       same ∙ ap body_of whole
 
-  pub no_row_left : row_at (drop at s) ≡ none → gathered ≡ body_of (rows s)
+  pub no_row_left : row_at (drop at s) ≡ None → gathered ≡ body_of (rows s)
   no_row_left e = over (rows_none (drop at s) e)
 
   pub no_byte_left : length s ≤ at → gathered ≡ body_of (rows s)

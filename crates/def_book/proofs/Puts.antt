@@ -50,28 +50,18 @@ module _ {A : Type 0} (f : A → List ℕ) (n : ℕ) (size : (x : A) → length 
   pub take_long : (rows : List A) (i : ℕ) → i ≤ length rows → length (joined (map f (take i rows))) ≡ n * i
   take_long rows i h = joined_long (take i rows) ∙ ap (λ k. n * k) (length-take i rows ∙ min-eq_left h)
 
--- the loop that puts the rows of a table one by one: i of m rows are put, and take n bytes each
-module _ {A : Type 0} (f : A → List ℕ) (n : ℕ) (size : (x : A) → length (f x) ≡ n) (rows : List A) (cap count m : ℕ) (long : length rows ≡ cap) (e : m ≡ min count cap)
-    {out₀ out : List ℕ} {at i : ℕ} (room : n * min count cap ≤ length out₀) (few : i ≤ m) (put : Put (joined (map f (take i rows))) out₀ out at) where
-  taken : length (joined (map f (take i rows))) ≡ n * i
-  taken = take_long f n size rows i (omega arith)
-
-  pub at_is : at ≡ n * i
-  at_is = put.long ∙ taken
-
-  inside : (k : ℕ) → k ≤ m → n * k ≤ length out₀
-  inside k h = le_trans (mul-le-mul_left n (rw (← e) h)) room
-
-  pub kept : length out ≡ length out₀
-  kept = same_long put (omega (arith, taken, inside i few))
-
-  pub room_left : i < m → n + at ≤ length out
+-- the loop that puts rows one by one: the first i are put, and take n bytes each
+module _ {A : Type 0} (f : A → List ℕ) (n : ℕ) (size : (x : A) → length (f x) ≡ n) (rows : List A)
+    {out₀ out : List ℕ} {at i : ℕ} (room : n * length rows ≤ length out₀) (put : Put (joined (map f (take i rows))) out₀ out at) where
+  pub room_left : i < length rows → n + at ≤ length out
   room_left h =
-      let next : n * suc i ≤ length out₀ = inside (suc i) h in
-      omega (arith, kept, put.long, taken, mul-suc n i)
+      let taken : length (joined (map f (take i rows))) ≡ n * i = take_long f n size rows i (omega arith) in
+      let next : n * suc i ≤ length out₀ = le_trans (mul-le-mul_left n h) room in
+      let kept : length out ≡ length out₀ = same_long put (omega (arith, taken, next, mul-suc n i)) in
+      omega (arith, kept, put.long, taken, next, mul-suc n i)
 
-  pub all_put : m ≤ i → Put (joined (map f (take (min count cap) rows))) out₀ out at
-  all_put h = let all : i ≡ min count cap = omega arith in same_text (ap (λ k. joined (map f (take k rows))) all) put
+  pub all_put : length rows ≤ i → Put (joined (map f rows)) out₀ out at
+  all_put h = same_text (ap (λ l. joined (map f l)) (take_all i rows h)) put
 
 pub joined_append : (a b : List (List ℕ)) → joined (a ++ b) ≡ joined a ++ joined b
 unfolding joined

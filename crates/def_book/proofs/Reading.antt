@@ -1,6 +1,6 @@
 -- The reader's tests, one after the other, and what the reader answers then.
 use Prim.Native.Nat.{ℕ, ◌+◌}
-use mathlib.Core.Path.{◌≡◌, sym, ap, ◌∙◌}
+use mathlib.Core.Path.{◌≡◌, ap, ◌∙◌}
 use mathlib.Core.List.{List}
 use mathlib.Core.Bool.{Bool, true, false, cond}
 use lib.Dec.{eqb}
@@ -12,23 +12,7 @@ use Rattle.def_book.specs.Bytes.{Row}
 use Rattle.def_book.specs.Body.{body_of}
 use Rattle.def_book.specs.declared.body.Body.{Body}
 use Rattle.def_book.specs.Rows.{is_heading, rows, size, nodes_of}
-use Rattle.def_book.specs.Read.{Read, gives, malformed, limits, def_of, blank_def, read_rows, read_book, read_of, def_in}
-use Rattle.def_book.specs.declared.answer.ReadAnswer.{ReadAnswer}
-use Rattle.def_book.specs.declared.answer.ReadAnswer.TheVariants as answer
-
--- an answer and the definition beside it
-abbrev pub Answers : List ℕ → ReadAnswer → SynthDef → Type 0
-Answers s a d = (read_of a d ≡ read_book s) × (d ≡ def_in (read_book s))
-
-module _ (s : List ℕ) (a : ReadAnswer) (d : SynthDef) where
-  pub says_malformed : (k : ℕ) → read_book s ≡ malformed k → a ≡ answer.Malformed k → d ≡ blank_def → Answers s a d
-  says_malformed k e p q = (ap (λ x. read_of x d) p ∙ sym e, q ∙ sym (ap def_in e))
-
-  pub says_limits : read_book s ≡ limits → a ≡ answer.Limits → d ≡ blank_def → Answers s a d
-  says_limits e p q = (ap (λ x. read_of x d) p ∙ sym e, q ∙ sym (ap def_in e))
-
-  pub says_definition : read_book s ≡ gives d → a ≡ answer.Definition → Answers s a d
-  says_definition e p = (ap (λ x. read_of x d) p ∙ sym e, sym (ap def_in e))
+use Rattle.def_book.specs.Read.{Read, gives, malformed, limits, def_of, read_rows, read_book}
 
 -- the definition that is made of the walk's tables
 pub built : (b : Body) (rs : List Row) (o p : ℕ) → b ≡ body_of rs → o ≡ p → ◌≡◌ {A = SynthDef} (record { nodes = b.nodes; edges = b.edges; params = b.params; output = o }) (def_of p rs)

@@ -3,14 +3,13 @@ use Prim.Native.Nat.{ℕ, zero, suc, ◌+◌, ◌-◌, ◌%◌, ◌≤◌}
 use native.Mathlib.Omega.{arith}
 use mathlib.Core.Path.{◌≡◌, refl, sym, ap, ◌∙◌}
 use mathlib.Core.List.{List, [], ◌∷◌, ◌++◌, map, append_assoc}
-use mathlib.Core.Option.{Option, none, some}
+use Rattle.std.specs.Prelude.{Option, None, Some, option_map}
 use mathlib.Core.Bool.{Bool, true, false}
 use lib.Dec.{leb, eqb}
 use lib.ListN.{length, drop, get_or, length-append}
 use lib.Seq.{drop_at, get_or-append-add}
 use borrow.Author.Tests.{le-leb}
 use Rattle.lists.proofs.Member.{and_left, and_right, both, some_inj}
-use Rattle.lists.specs.Find.{map_o}
 use Rattle.node.specs.Name.{named, text}
 use Rattle.node.specs.declared.name.Name.{Name}
 use Rattle.synthdef.specs.Rows.{every}
@@ -84,10 +83,10 @@ module _ (n : DefNode) (t : List ℕ) where
       ap name_fits (name_back 27 0 2 0 n.kind behind) ∙ clean_fits n.kind h in
       both _ _ (le-leb 27 _ long) (both _ _ name sorts)
 
-  node_back : named n.kind ≡ true → row_at (node_bytes n ++ t) ≡ some (node (clean_node n))
-  node_back h = ap row_at laid ∙ as_node_lem _ (node_is h) ∙ ap (λ m. some (node m)) node_read
+  node_back : named n.kind ≡ true → row_at (node_bytes n ++ t) ≡ Some (node (clean_node n))
+  node_back h = ap row_at laid ∙ as_node_lem _ (node_is h) ∙ ap (λ m. Some (node m)) node_read
 
-edge_back : (e : DefEdge) (t : List ℕ) → row_at (edge_bytes e ++ t) ≡ some (edge e)
+edge_back : (e : DefEdge) (t : List ℕ) → row_at (edge_bytes e ++ t) ≡ Some (edge e)
 unfolding row_at
 edge_back e t = let long : 7 ≤ length (edge_bytes e ++ t) = omega arith in rw (le-leb 7 (length (edge_bytes e ++ t)) long)
 
@@ -114,8 +113,8 @@ module _ (p : Param) (t : List ℕ) where
       ap name_fits (name_back 22 0 4 0 p.name (p.node ∷ t)) ∙ clean_fits p.name h in
       both _ _ (le-leb 22 _ long) name
 
-  param_back : named p.name ≡ true → row_at (param_bytes p ++ t) ≡ some (param (clean_param p))
-  param_back h = ap row_at param_laid ∙ as_param_lem _ refl refl (param_is h) ∙ ap (λ m. some (param m)) param_read
+  param_back : named p.name ≡ true → row_at (param_bytes p ++ t) ≡ Some (param (clean_param p))
+  param_back h = ap row_at param_laid ∙ as_param_lem _ refl refl (param_is h) ∙ ap (λ m. Some (param m)) param_read
 
 -- a row whose names are names, and what a book keeps of it
 abbrev pub row_named : Row → Bool
@@ -128,7 +127,7 @@ clean_row (node n) = node (clean_node n)
 clean_row (edge e) = edge e
 clean_row (param p) = param (clean_param p)
 
-pub row_back : (r : Row) (t : List ℕ) → row_named r ≡ true → row_at (row_bytes r ++ t) ≡ some (clean_row r)
+pub row_back : (r : Row) (t : List ℕ) → row_named r ≡ true → row_at (row_bytes r ++ t) ≡ Some (clean_row r)
 row_back (node n) t h = node_back n t h
 row_back (edge e) t h = edge_back e t
 row_back (param p) t h = param_back p t h
@@ -171,34 +170,34 @@ module _ {A : Type 0} (f : Row → Option A) where
   gather_append (r ∷ a) b = ap (more (f r)) (gather_append a b) ∙ go (f r)
     where
       go : (o : Option A) → more o (gather f a ++ gather f b) ≡ more o (gather f a) ++ gather f b
-      go none = refl
-      go (some x) = refl
+      go None = refl
+      go (Some x) = refl
 
-  pub gather_all : {B : Type 0} (g : B → Row) (h : B → A) → ((x : B) → f (g x) ≡ some (h x)) → (l : List B) → gather f (map g l) ≡ map h l
+  pub gather_all : {B : Type 0} (g : B → Row) (h : B → A) → ((x : B) → f (g x) ≡ Some (h x)) → (l : List B) → gather f (map g l) ≡ map h l
   unfolding gather
   gather_all g h e [] = refl
   gather_all g h e (x ∷ l) = ap (λ o. more o (gather f (map g l))) (e x) ∙ ap (λ m. h x ∷ m) (gather_all g h e l)
 
-  pub gather_none : {B : Type 0} (g : B → Row) → ((x : B) → f (g x) ≡ none) → (l : List B) → gather f (map g l) ≡ []
+  pub gather_none : {B : Type 0} (g : B → Row) → ((x : B) → f (g x) ≡ None) → (l : List B) → gather f (map g l) ≡ []
   unfolding gather
   gather_none g e [] = refl
   gather_none g e (x ∷ l) = ap (λ o. more o (gather f (map g l))) (e x) ∙ gather_none g e l
 
-  pub gather_map : (g : Row → Row) (h : A → A) → ((r : Row) → f (g r) ≡ map_o h (f r)) → (rs : List Row) → gather f (map g rs) ≡ map h (gather f rs)
+  pub gather_map : (g : Row → Row) (h : A → A) → ((r : Row) → f (g r) ≡ option_map h (f r)) → (rs : List Row) → gather f (map g rs) ≡ map h (gather f rs)
   unfolding gather
   gather_map g h e [] = refl
-  gather_map g h e (r ∷ rs) = ap (λ o. more o (gather f (map g rs))) (e r) ∙ ap (more (map_o h (f r))) (gather_map g h e rs) ∙ go (f r)
+  gather_map g h e (r ∷ rs) = ap (λ o. more o (gather f (map g rs))) (e r) ∙ ap (more (option_map h (f r))) (gather_map g h e rs) ∙ go (f r)
     where
-      go : (o : Option A) → more (map_o h o) (map h (gather f rs)) ≡ map h (more o (gather f rs))
-      go none = refl
-      go (some x) = refl
+      go : (o : Option A) → more (option_map h o) (map h (gather f rs)) ≡ map h (more o (gather f rs))
+      go None = refl
+      go (Some x) = refl
 
-pub node_cleaned : (r : Row) → as_node (clean_row r) ≡ map_o clean_node (as_node r)
+pub node_cleaned : (r : Row) → as_node (clean_row r) ≡ option_map clean_node (as_node r)
 node_cleaned (node n) = refl
 node_cleaned (edge e) = refl
 node_cleaned (param p) = refl
 
-pub param_cleaned : (r : Row) → as_param (clean_row r) ≡ map_o clean_param (as_param r)
+pub param_cleaned : (r : Row) → as_param (clean_row r) ≡ option_map clean_param (as_param r)
 param_cleaned (node n) = refl
 param_cleaned (edge e) = refl
 param_cleaned (param p) = refl
@@ -209,14 +208,14 @@ name_clean s h =
     let zeros = and_right (named (name_at s)) _ h in
     ap (λ l. record { bytes = l; len = get_or s 4 0 }) (held_clean 16 (get_or s 4 0) (held 16 0 (drop 5 s)) (length_held 0 16 (drop 5 s)) zeros)
 
-front_clean : (s : List ℕ) (o : Option Row) → Front s o → map_o clean_row o ≡ o
+front_clean : (s : List ℕ) (o : Option Row) → Front s o → option_map clean_row o ≡ o
 front_clean s o (a_node e) =
     let name = name_clean s (and_left (name_fits (name_at s)) _ (and_right (is_record 2 27 s) _ e)) in
-    ap (λ (m : Name). some (node (node_called m s))) name
+    ap (λ (m : Name). Some (node (node_called m s))) name
 front_clean s o (an_edge n e) = refl
 front_clean s o (a_param n f e) =
     let name = name_clean s (and_right (is_record 4 22 s) _ e) in
-    ap (λ (m : Name). some (param (record { name = m; node = get_or s 21 0 }))) name
+    ap (λ (m : Name). Some (param (record { name = m; node = get_or s 21 0 }))) name
 front_clean s o (no_row n e p) = refl
 
 rows_cleaned : (s : List ℕ) (k : ℕ) → map clean_row (rows_after s k) ≡ rows_after s k
@@ -225,9 +224,9 @@ rows_cleaned [] k = refl
 rows_cleaned (b ∷ s) (suc k) = rows_cleaned s k
 rows_cleaned (b ∷ s) zero = go (row_at (b ∷ s)) (front_clean (b ∷ s) (row_at (b ∷ s)) (front (b ∷ s))) (rows_cleaned s)
   where
-    go : (o : Option Row) → map_o clean_row o ≡ o → ((k : ℕ) → map clean_row (rows_after s k) ≡ rows_after s k) → map clean_row (follow o (rows_after s)) ≡ follow o (rows_after s)
-    go none e ih = refl
-    go (some r) e ih = let same : clean_row r ≡ r = some_inj e in cc (same, ih (long r - 1))
+    go : (o : Option Row) → option_map clean_row o ≡ o → ((k : ℕ) → map clean_row (rows_after s k) ≡ rows_after s k) → map clean_row (follow o (rows_after s)) ≡ follow o (rows_after s)
+    go None e ih = refl
+    go (Some r) e ih = let same : clean_row r ≡ r = some_inj e in cc (same, ih (long r - 1))
 
 pub rows_clean : (s : List ℕ) → map clean_row (rows s) ≡ rows s
 rows_clean s = rows_cleaned s 0

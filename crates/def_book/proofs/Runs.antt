@@ -5,7 +5,7 @@ use native.Mathlib.Omega.{arith}
 use mathlib.Core.Path.{◌≡◌, refl, sym, ap, ◌∙◌}
 use mathlib.Core.Logic.{inl, inr, ⊎_elim}
 use mathlib.Core.List.{List, [], ◌∷◌, ◌++◌}
-use mathlib.Core.Option.{Option, none, some}
+use Rattle.std.specs.Prelude.{Option, None, Some, is_some}
 use mathlib.Core.Bool.{true, false, ◌&&◌}
 use lib.Dec.{leb, eqb}
 use lib.ListN.{length, take, drop, get_or, length-append, length-drop, take-append-drop, get_or-append}
@@ -13,7 +13,6 @@ use lib.Seq.{get_or-take, get_or-drop, length-take-le, drop_at}
 use borrow.Author.Tests.{le-leb, leb-true, eq-eqb, eqb-true}
 use Rattle.lists.specs.Member.{In}
 use Rattle.lists.proofs.Member.{and_left, and_right, both, some_inj, none_some}
-use Rattle.lists.specs.Find.{is_some}
 use Rattle.lists.specs.Count.{count, more as counted}
 use Rattle.node.specs.Name.{named}
 use Rattle.node.proofs.NameLaws.{name_long}
@@ -123,7 +122,7 @@ pub record Run (r : List ℕ) (x : Row) : Type 0 where
   pub is : IsRow r
   pub node_or_not : of_node r ≡ is_some (as_node x)
 
-front_cut : (s : List ℕ) (o : Option Row) → Front s o → (x : Row) → o ≡ some x → Run (take (long x) s) x
+front_cut : (s : List ℕ) (o : Option Row) → Front s o → (x : Row) → o ≡ Some x → Run (take (long x) s) x
 front_cut s o (a_node e) x p =
     let h : x ≡ node (node_at s) = some_inj (sym p) in
     let rest = and_right (is_record 2 27 s) _ e in
@@ -143,13 +142,13 @@ front_cut s o (a_param n f e) x p =
     rw h (record { is = inr (inr (record { framed = framed; named = named })); node_or_not = ap (λ k. eqb k 2) framed.says_kind })
 front_cut s o (no_row n e f) x p = absurd (none_some p)
 
-pub row_cut : (s : List ℕ) (x : Row) → row_at s ≡ some x → Run (take (long x) s) x
+pub row_cut : (s : List ℕ) (x : Row) → row_at s ≡ Some x → Run (take (long x) s) x
 row_cut s x e = front_cut s (row_at s) (front s) x e
 
 -- bytes that begin with a row, whatever goes on behind it
 pub record Begins (r t : List ℕ) : Type 0 where
   pub row : Row
-  pub read : row_at (r ++ t) ≡ some row
+  pub read : row_at (r ++ t) ≡ Some row
   pub size : long row ≡ length r
   pub node_or_not : is_some (as_node row) ≡ of_node r
 
@@ -186,8 +185,8 @@ row_goes_on r t (inr (inr p)) =
 -- ---- rows one after the other
 -- how many rows are nodes, from one row more
 length_more : {A : Type 0} (o : Option A) (l : List A) → length (more o l) ≡ counted (is_some o) (length l)
-length_more none l = refl
-length_more (some x) l = refl
+length_more None l = refl
+length_more (Some x) l = refl
 
 -- rows that stand in bytes are read, up to the end
 pub read_all : (rs : List (List ℕ)) → ((r : List ℕ) → In r rs → IsRow r) → (size (rows (joined rs)) ≡ length (joined rs)) × (length (nodes_of (rows (joined rs))) ≡ count of_node rs)
@@ -213,16 +212,16 @@ pub record Runs (xs : List Row) (s : List ℕ) : Type 0 where
   pub each : (r : List ℕ) → In r (cut xs s) → IsRow r
   pub nodes : count of_node (cut xs s) ≡ length (nodes_of xs)
 
-first_row : (s : List ℕ) (x : Row) (xs : List Row) → rows s ≡ x ∷ xs → (row_at s ≡ some x) × (rows (drop (long x) s) ≡ xs)
+first_row : (s : List ℕ) (x : Row) (xs : List Row) → rows s ≡ x ∷ xs → (row_at s ≡ Some x) × (rows (drop (long x) s) ≡ xs)
 first_row s x xs h = go (row_at s) refl
   where
-    go : (o : Option Row) → row_at s ≡ o → (row_at s ≡ some x) × (rows (drop (long x) s) ≡ xs)
-    go none e = let n = rows_none s e in let z : ◌≡◌ {A = ℕ} 0 1 = cc in absurd (omega arith)
-    go (some y) e =
+    go : (o : Option Row) → row_at s ≡ o → (row_at s ≡ Some x) × (rows (drop (long x) s) ≡ xs)
+    go None e = let n = rows_none s e in let z : ◌≡◌ {A = ℕ} 0 1 = cc in absurd (omega arith)
+    go (Some y) e =
         let m = rows_some s y e in
         let same : y ≡ x = cc in
         let left : rows (drop (long y) s) ≡ xs = cc in
-        (e ∙ ap some same, ap (λ z. rows (drop (long z) s)) (sym same) ∙ left)
+        (e ∙ ap Some same, ap (λ z. rows (drop (long z) s)) (sym same) ∙ left)
 
 empty : (s : List ℕ) → 0 ≡ length s → [] ≡ s
 empty [] h = refl

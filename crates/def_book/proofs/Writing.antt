@@ -72,6 +72,12 @@ module _ (d : SynthDef) where
     pub node_count : min d.nodes.count 24 ≡ length (node_rows d.nodes)
     node_count = sym (length-take (min d.nodes.count 24) d.nodes.rows ∙ min-eq_left (omega (arith, w.nodes)))
 
+    pub edge_count : min d.edges.count 48 ≡ length (edge_rows d.edges)
+    edge_count = sym (length-take (min d.edges.count 48) d.edges.rows ∙ min-eq_left (omega (arith, w.edges)))
+
+    pub param_count : min d.params.count 8 ≡ length (param_rows d.params)
+    param_count = sym (length-take (min d.params.count 8) d.params.rows ∙ min-eq_left (omega (arith, w.params)))
+
     pub nodes_long : length node_part ≡ 27 * min d.nodes.count 24
     nodes_long = take_long node_bytes 27 (λ n. row_long (node n)) d.nodes.rows (min d.nodes.count 24) (omega (arith, w.nodes))
 

@@ -1,6 +1,6 @@
 -- Reading a book: "A book holds one definition." What is read is the whole of the lent bytes, so that bytes behind the last record are
 -- malformed. "A definition beyond 01's limits keeps refusal 9, after 18".
-use Rattle.std.specs.Prelude.{ℕ, ◌+◌, ◌≡◌, List, [], map, cond, eqb, length, drop, get_or, replicate}
+use Rattle.std.specs.Prelude.{ℕ, ◌+◌, ◌≡◌, List, [], map, cond, eqb, length, drop, get_or, replicate, Result, Ok, Err}
 use Rattle.node.specs.Name.{text}
 use Rattle.node.specs.declared.name.Name.{Name}
 use Rattle.synthdef.specs.Limits.{allowed}
@@ -15,8 +15,8 @@ use Rattle.synthdef.specs.declared.def.SynthDef.{SynthDef}
 use Rattle.def_book.specs.Held.{held}
 use Rattle.def_book.specs.Bytes.{Row}
 use Rattle.def_book.specs.Rows.{is_heading, rows, size, nodes_of, edges_of, params_of}
-use Rattle.def_book.specs.declared.answer.ReadAnswer.{ReadAnswer}
-use Rattle.def_book.specs.declared.answer.ReadAnswer.TheVariants as answer
+use Rattle.def_book.specs.declared.answer.ReadError.{ReadError}
+use Rattle.def_book.specs.declared.answer.ReadError.TheVariants as error
 
 -- what reading gives: the definition, or a refusal: 18 with the position of what is malformed, or 9
 pub data Read : Type 0 where
@@ -74,13 +74,13 @@ unfoldable pub read_book : List ℕ → Read
 read_book s = cond (is_heading s) (read_rows (get_or s 4 0) (get_or s 5 0) (length (drop 6 s)) (rows (drop 6 s))) (malformed 0)
 
 -- ---- what the code answers
--- the answer's number and values, with the definition beside it
-abbrev pub read_of : ReadAnswer → SynthDef → Read
-read_of answer.Definition d = gives d
-read_of (answer.Malformed at) d = malformed at
-read_of answer.Limits d = limits
+-- the answer's number and values
+abbrev pub read_of : Result SynthDef ReadError → Read
+read_of (Ok d) = gives d
+read_of (Err (error.Malformed at)) = malformed at
+read_of (Err error.Limits) = limits
 
--- the definition beside the answer: of a refused book the blank one
+-- the definition that goes on from a reading: of a refused book the blank one
 abbrev pub def_in : Read → SynthDef
 def_in (gives d) = d
 def_in (malformed at) = blank_def

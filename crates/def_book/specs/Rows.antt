@@ -1,7 +1,6 @@
 -- The records of a book, read from its bytes. 18 is "malformed record (wrong length, sorts above 3, name length not 1 to 16, unused byte
 -- set), unknown kind, heading not first or repeated, or another node count than the heading's".
-use Rattle.std.specs.Prelude.{ℕ, zero, suc, ◌+◌, ◌*◌, ◌-◌, ◌%◌, List, [], ◌∷◌, Bool, ◌&&◌, cond, leb, eqb, length, drop, get_or}
-use Rattle.std.proofs.Math.Option.{Option, none, some}
+use Rattle.std.specs.Prelude.{ℕ, zero, suc, ◌+◌, ◌*◌, ◌-◌, ◌%◌, List, [], ◌∷◌, Bool, ◌&&◌, cond, leb, eqb, length, drop, get_or, Option, None, Some}
 use Rattle.node.specs.Name.{named}
 use Rattle.node.specs.declared.name.Name.{Name}
 use Rattle.synthdef.specs.Rows.{every}
@@ -67,12 +66,12 @@ param_at s = record { name = name_at s; node = get_or s 21 0 }
 
 -- the row at the front of the bytes, or none: also a heading is no row, so that a repeated one is malformed
 unfoldable pub row_at : List ℕ → Option Row
-row_at s = cond (is_node s) (some (node (node_at s))) (cond (is_edge s) (some (edge (edge_at s))) (cond (is_param s) (some (param (param_at s))) none))
+row_at s = cond (is_node s) (Some (node (node_at s))) (cond (is_edge s) (Some (edge (edge_at s))) (cond (is_param s) (Some (param (param_at s))) None))
 
 -- a row, and what comes k bytes behind its first; nothing where there is no row
 abbrev pub follow : Option Row → (ℕ → List Row) → List Row
-follow none next = []
-follow (some r) next = r ∷ next (long r - 1)
+follow None next = []
+follow (Some r) next = r ∷ next (long r - 1)
 
 -- the rows after the first k bytes, up to where there is none
 unfoldable pub rows_after : List ℕ → ℕ → List Row
@@ -90,8 +89,8 @@ size (r ∷ rs) = long r + size rs
 
 -- ---- "each sort's own order counts"
 abbrev pub more : {A : Type 0} → Option A → List A → List A
-more none l = l
-more (some x) l = x ∷ l
+more None l = l
+more (Some x) l = x ∷ l
 
 -- what the rows of one sort hold, in their order
 unfoldable pub gather : {A : Type 0} → (Row → Option A) → List Row → List A
@@ -99,19 +98,19 @@ gather f [] = []
 gather f (r ∷ rs) = more (f r) (gather f rs)
 
 abbrev pub as_node : Row → Option DefNode
-as_node (node n) = some n
-as_node (edge e) = none
-as_node (param p) = none
+as_node (node n) = Some n
+as_node (edge e) = None
+as_node (param p) = None
 
 abbrev pub as_edge : Row → Option DefEdge
-as_edge (node n) = none
-as_edge (edge e) = some e
-as_edge (param p) = none
+as_edge (node n) = None
+as_edge (edge e) = Some e
+as_edge (param p) = None
 
 abbrev pub as_param : Row → Option Param
-as_param (node n) = none
-as_param (edge e) = none
-as_param (param p) = some p
+as_param (node n) = None
+as_param (edge e) = None
+as_param (param p) = Some p
 
 abbrev pub nodes_of : List Row → List DefNode
 nodes_of rs = gather as_node rs

@@ -1,12 +1,12 @@
 -- Writing a book: "A writer puts nodes, edges, parameters and answers the length; later bytes stay." "A definition beyond 01's limits keeps
 -- refusal 9, .. before 19"; "19 writer's buffer too short". On a refusal every byte stays.
-use Rattle.std.specs.Prelude.{ℕ, ◌+◌, ◌*◌, min, List, cond, leb, length}
+use Rattle.std.specs.Prelude.{ℕ, ◌+◌, ◌*◌, min, List, cond, leb, length, Result, Ok, Err}
 use Rattle.lists.specs.Written.{written}
 use Rattle.synthdef.specs.Limits.{allowed}
 use Rattle.synthdef.specs.declared.def.SynthDef.{SynthDef}
 use Rattle.def_book.specs.Bytes.{book_of}
-use Rattle.def_book.specs.declared.answer.WriteAnswer.{WriteAnswer}
-use Rattle.def_book.specs.declared.answer.WriteAnswer.TheVariants as answer
+use Rattle.def_book.specs.declared.answer.WriteError.{WriteError}
+use Rattle.def_book.specs.declared.answer.WriteError.TheVariants as error
 
 -- what writing answers: the length, or the number of the refusal
 pub data Wrote : Type 0 where
@@ -19,10 +19,10 @@ wrote_number (length_of n) = 0
 wrote_number (refused n) = n
 
 -- "9", and "19 writer's buffer too short"
-abbrev pub wrote_of : WriteAnswer → Wrote
-wrote_of (answer.Length n) = length_of n
-wrote_of answer.Limits = refused 9
-wrote_of answer.ShortBuffer = refused 19
+abbrev pub wrote_of : Result ℕ WriteError → Wrote
+wrote_of (Ok n) = length_of n
+wrote_of (Err error.Limits) = refused 9
+wrote_of (Err error.ShortBuffer) = refused 19
 
 -- the length of a book: a heading, and the records of each sort
 abbrev pub book_length : ℕ → ℕ → ℕ → ℕ

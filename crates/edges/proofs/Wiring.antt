@@ -3,13 +3,12 @@ use Prim.Native.Nat.{ℕ, ◌≤◌, ◌<◌}
 use native.Mathlib.Omega.{arith}
 use mathlib.Core.Path.{◌≡◌, refl, sym, ap, ◌∙◌}
 use mathlib.Core.List.{List, [], ◌∷◌, ◌++◌}
-use mathlib.Core.Option.{Option, none, some}
+use Rattle.std.specs.Prelude.{Option, None, Some, find, is_some}
 use mathlib.Core.Bool.{Bool, true, false, not, cond, ◌&&◌, and-false}
 use lib.Dec.{leb}
 use lib.ListN.{length}
 use borrow.Author.Tests.{le-leb, lt-leb, leb-false}
 use Rattle.lists.proofs.Filter.{filter_all}
-use Rattle.lists.specs.Find.{find, is_some}
 use Rattle.lists.proofs.Find.{find_in, find_none}
 use Rattle.lists.proofs.Count.{count_filter_lt, count_all}
 use Rattle.node.specs.declared.record.NodeId.{NodeId}
@@ -22,8 +21,8 @@ pub drop_fewer : (es : List Edge) (n : NodeId) (p : ℕ) → taken es n p ≡ tr
 drop_fewer es n p h = go (find (ends_at n p) es) refl h
   where
     go : (o : Option Edge) → find (ends_at n p) es ≡ o → is_some o ≡ true → length (drop_at es n p) < length es
-    go none e t = absurd (let z : ◌≡◌ {A = ℕ} 0 1 = cc in omega arith)
-    go (some x) e t =
+    go None e t = absurd (let z : ◌≡◌ {A = ℕ} 0 1 = cc in omega arith)
+    go (Some x) e t =
         let i = find_in (ends_at n p) es x e in
         let fewer = count_filter_lt (λ y. true) (λ y. not (ends_at n p y)) es x i.0 refl (ap not i.1) in
         omega (arith, fewer, count_all es, count_all (drop_at es n p))
@@ -32,8 +31,8 @@ pub drop_none : (es : List Edge) (n : NodeId) (p : ℕ) → taken es n p ≡ fal
 drop_none es n p h = go (find (ends_at n p) es) refl h
   where
     go : (o : Option Edge) → find (ends_at n p) es ≡ o → is_some o ≡ false → drop_at es n p ≡ es
-    go none e t = filter_all (λ y. not (ends_at n p y)) es (λ x i. ap not (find_none (ends_at n p) es x e i))
-    go (some x) e t = absurd (let z : ◌≡◌ {A = ℕ} 0 1 = cc in omega arith)
+    go None e t = filter_all (λ y. not (ends_at n p y)) es (λ x i. ap not (find_none (ends_at n p) es x e i))
+    go (Some x) e t = absurd (let z : ◌≡◌ {A = ℕ} 0 1 = cc in omega arith)
 
 -- so there is no place exactly where none is left after dropping
 pub place_left : (es : List Edge) (n : NodeId) (p : ℕ) → length es ≤ 1024 → leb 1024 (length (drop_at es n p)) ≡ no_place es n p

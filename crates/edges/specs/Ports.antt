@@ -1,22 +1,14 @@
 -- What can be asked of the edges: "the lowest port without an edge", the port that a source feeds, and the "table of source
 -- ids" that takes the place of the pointer scratch in `AudioGraph::render`.
-use Rattle.std.specs.Prelude.{ℕ, zero, suc, List, [], ◌∷◌, Bool, cond, ◌&&◌, eqb}
-use Rattle.std.proofs.Math.Option.{Option, none, some}
-use Rattle.lists.specs.Find.{find, map_o}
+use Rattle.std.specs.Prelude.{ℕ, zero, suc, List, [], ◌∷◌, Bool, cond, ◌&&◌, eqb, Option, None, Some, find, option_map}
 use Rattle.node.specs.declared.record.NodeId.{NodeId}
 use Rattle.node.specs.declared.record.Edge.{Edge}
-use Rattle.edges.specs.declared.ports.Port.{Port}
-use Rattle.edges.specs.declared.ports.Source.{Source}
 use Rattle.edges.specs.Wiring.{ends_at, taken}
-
-abbrev pub port_of : Option ℕ → Port
-port_of none = Port.Nothing
-port_of (some p) = Port.At p
 
 -- the lowest of the k ports from p on without an edge
 abbrev pub lowest : ℕ → List Edge → NodeId → ℕ → Option ℕ
-lowest zero es n p = none
-lowest (suc k) es n p = let r = lowest k es n (suc p) in cond (taken es n p) r (some p)
+lowest zero es n p = None
+lowest (suc k) es n p = let r = lowest k es n (suc p) in cond (taken es n p) r (Some p)
 
 -- "the lowest port without an edge" of a node that has this many ports
 abbrev pub free_port : List Edge → NodeId → ℕ → Option ℕ
@@ -28,21 +20,17 @@ feeds a b e = eqb e.from.0 a.0 && eqb e.to.0 b.0
 
 -- "the port of the bus that the victim's output or pan node feeds": the first such edge, as `input_slot_from` has it
 abbrev pub port_from : List Edge → NodeId → NodeId → Option ℕ
-port_from es a b = map_o (λ e. e.port) (find (feeds a b) es)
+port_from es a b = option_map (λ e. e.port) (find (feeds a b) es)
 
 -- what feeds the port p of the node n: the first edge there, as `resolve_inputs` has it
 abbrev pub source_at : List Edge → NodeId → ℕ → Option NodeId
-source_at es n p = map_o (λ e. e.from) (find (ends_at n p) es)
-
-abbrev pub source_of : Option NodeId → Source
-source_of none = Source.Nothing
-source_of (some a) = Source.From a
+source_at es n p = option_map (λ e. e.from) (find (ends_at n p) es)
 
 -- the sources of the k ports of the node n from p on
-unfoldable pub sources_from : ℕ → List Edge → NodeId → ℕ → List Source
+unfoldable pub sources_from : ℕ → List Edge → NodeId → ℕ → List (Option NodeId)
 sources_from zero es n p = []
-sources_from (suc k) es n p = source_of (source_at es n p) ∷ sources_from k es n (suc p)
+sources_from (suc k) es n p = (source_at es n p) ∷ sources_from k es n (suc p)
 
 -- the table of source ids: port by port, the 64 that a node can have
-abbrev pub sources : List Edge → NodeId → List Source
+abbrev pub sources : List Edge → NodeId → List (Option NodeId)
 sources es n = sources_from 64 es n 0

@@ -1,8 +1,6 @@
 -- The edges of the graph as a list, in the order in which they were put: graph.rs, and "`connect` drops the edge at that
 -- port and appends".
-use Rattle.std.specs.Prelude.{ℕ, List, [], ◌∷◌, ◌++◌, Bool, not, cond, ◌&&◌, ◌||◌, eqb, leb, ltb, length}
-use Rattle.lists.specs.Filter.{filter}
-use Rattle.lists.specs.Find.{find, is_some}
+use Rattle.std.specs.Prelude.{ℕ, List, [], ◌∷◌, ◌++◌, Bool, not, cond, ◌&&◌, ◌||◌, eqb, leb, ltb, length, filter, find, is_some}
 use Rattle.node.specs.declared.record.NodeId.{NodeId}
 use Rattle.node.specs.declared.record.Edge.{Edge}
 

@@ -3,5 +3,4 @@
 // laws; the tables themselves are lent, and the functions on them stand in crate graph_tables.
 #![tactic(auto)]
 
-pub mod ports;
 pub mod table;

@@ -5,12 +5,5 @@ ghost use Rattle.edges.specs.Wiring.{listed};
 pub fn is_listed(keys: &[u64], x: u64) -> bool
     ensures { result ≡ listed keys.now x }
 {
-    let mut i: usize = 0;
-    while i < keys.len() {
-        if keys[i] == x {
-            return true;
-        }
-        i += 1;
-    }
-    false
+    keys.contains(&x)
 }

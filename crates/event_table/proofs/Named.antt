@@ -1,89 +1,16 @@
 -- Names in words: they are the same exactly if their lengths are and, word by word, the bytes that count.
-use Prim.Native.Nat.{ℕ, zero, suc, ◌+◌, ◌*◌, ◌-◌, ◌/◌, ◌%◌, ◌≤◌, ◌<◌, min}
+use Prim.Native.Nat.{ℕ, zero, suc, ◌-◌, ◌%◌, min}
 use native.Mathlib.Omega.{arith}
 use mathlib.Core.Path.{◌≡◌, refl, sym, ap, ◌∙◌}
 use mathlib.Core.List.{List, [], ◌∷◌, ◌++◌}
 use mathlib.Core.Bool.{Bool, true, false, ◌&&◌}
 use lib.Dec.{eqb}
-use lib.ListN.{length, take, get_or, length-take}
-use lib.Seq.{take_all}
-use borrow.Author.Tests.{eqb-true, eq-eqb}
+use lib.ListN.{length, take, length-take}
 use Rattle.node.specs.Name.{name_length, named, text, same_bytes, same_name}
 use Rattle.node.specs.declared.name.Name.{Name}
-use Rattle.node.proofs.NameLaws.{name_long, same_is, same_to}
+use Rattle.node.proofs.NameLaws.{name_long, same_to}
 use Rattle.words.specs.Fields.{four, name_from}
 use Rattle.event_table.specs.Key.{same_four}
-
--- ---- the first bytes of a word are those of its rest by a power of 256
-two : (x : ℕ) → x / 256 % 256 ≡ x % 65536 / 256
-two x =
-    let q : x / 256 ≡ x / 65536 * 256 + x % 65536 / 256 = omega arith in
-    rw q (omega arith)
-
-three : (x : ℕ) → x / 65536 % 256 ≡ x % 16777216 / 65536
-three x =
-    let q : x / 65536 ≡ x / 16777216 * 256 + x % 16777216 / 65536 = omega arith in
-    rw q (omega arith)
-
-four_th : (x : ℕ) → x < 4294967296 → x / 16777216 % 256 ≡ x / 16777216
-four_th x h = let q : x / 16777216 < 256 = omega arith in omega arith
-
-low_8 : (x : ℕ) → x % 256 ≡ x % 65536 % 256
-low_8 x = omega arith
-
-low_16 : (x : ℕ) → x % 65536 ≡ x % 16777216 % 65536
-low_16 x = omega arith
-
-join_8 : (u v : ℕ) → u % 256 ≡ v % 256 → u / 256 ≡ v / 256 → u ≡ v
-join_8 u v p q = omega arith
-
-join_16 : (u v : ℕ) → u % 65536 ≡ v % 65536 → u / 65536 ≡ v / 65536 → u ≡ v
-join_16 u v p q = omega arith
-
-join_24 : (u v : ℕ) → u % 16777216 ≡ v % 16777216 → u / 16777216 ≡ v / 16777216 → u ≡ v
-join_24 u v p q = omega arith
-
-module _ (x y : ℕ) where
-  first_of : x % 65536 ≡ y % 65536 → x % 256 ≡ y % 256
-  first_of h = low_8 x ∙ ap (λ k. k % 256) h ∙ sym (low_8 y)
-
-  second_of : x % 65536 ≡ y % 65536 → x / 256 % 256 ≡ y / 256 % 256
-  second_of h = two x ∙ ap (λ k. k / 256) h ∙ sym (two y)
-
-  third_of : x % 16777216 ≡ y % 16777216 → x / 65536 % 256 ≡ y / 65536 % 256
-  third_of h = three x ∙ ap (λ k. k / 65536) h ∙ sym (three y)
-
-  both_of : x % 256 ≡ y % 256 → x / 256 % 256 ≡ y / 256 % 256 → x % 65536 ≡ y % 65536
-  both_of a b = join_8 (x % 65536) (y % 65536) (sym (low_8 x) ∙ a ∙ low_8 y) (sym (two x) ∙ b ∙ two y)
-
-  all_of : x % 65536 ≡ y % 65536 → x / 65536 % 256 ≡ y / 65536 % 256 → x % 16777216 ≡ y % 16777216
-  all_of a b = join_16 (x % 16777216) (y % 16777216) (sym (low_16 x) ∙ a ∙ low_16 y) (sym (three x) ∙ b ∙ three y)
-
-  pub same_1 : eqb (x % 256) (y % 256) ≡ same_four 1 x y
-  same_1 = same_is (eqb (x % 256) (y % 256)) (x % 256 ∷ []) (y % 256 ∷ []) (λ e. ap (λ k. k ∷ []) (eqb-true _ _ e)) (λ e. eq-eqb _ _ (ap (λ l. get_or l 0 0) e))
-
-  pub same_2 : eqb (x % 65536) (y % 65536) ≡ same_four 2 x y
-  same_2 =
-      same_is (eqb (x % 65536) (y % 65536)) (x % 256 ∷ x / 256 % 256 ∷ []) (y % 256 ∷ y / 256 % 256 ∷ [])
-      (λ e. let h : x % 65536 ≡ y % 65536 = eqb-true _ _ e in rw (first_of h, second_of h))
-      (λ e. eq-eqb (x % 65536) (y % 65536) (both_of (ap (λ l. get_or l 0 0) e) (ap (λ l. get_or l 1 0) e)))
-
-  pub same_3 : eqb (x % 16777216) (y % 16777216) ≡ same_four 3 x y
-  same_3 =
-      same_is (eqb (x % 16777216) (y % 16777216)) (x % 256 ∷ x / 256 % 256 ∷ x / 65536 % 256 ∷ []) (y % 256 ∷ y / 256 % 256 ∷ y / 65536 % 256 ∷ [])
-      (λ e.
-      let h : x % 16777216 ≡ y % 16777216 = eqb-true _ _ e in
-      let m : x % 65536 ≡ y % 65536 = low_16 x ∙ ap (λ k. k % 65536) h ∙ sym (low_16 y) in
-      rw (first_of m, second_of m, third_of h))
-      (λ e. eq-eqb (x % 16777216) (y % 16777216) (all_of (both_of (ap (λ l. get_or l 0 0) e) (ap (λ l. get_or l 1 0) e)) (ap (λ l. get_or l 2 0) e)))
-
-  pub same_4 : x < 4294967296 → y < 4294967296 → eqb x y ≡ same_bytes (four x) (four y)
-  same_4 hx hy =
-      same_is (eqb x y) (four x) (four y) (λ e. ap four (eqb-true _ _ e))
-      (λ e.
-      let n : x % 16777216 ≡ y % 16777216 = all_of (both_of (ap (λ l. get_or l 0 0) e) (ap (λ l. get_or l 1 0) e)) (ap (λ l. get_or l 2 0) e) in
-      let f : x / 16777216 ≡ y / 16777216 = sym (four_th x hx) ∙ ap (λ l. get_or l 3 0) e ∙ four_th y hy in
-      eq-eqb x y (join_24 x y n f))
 
 -- ---- word by word
 and_assoc : (a b c : Bool) → (a && (b && c)) ≡ ((a && b) && c)
@@ -150,8 +77,3 @@ module _ (m : Name) (a b c d : ℕ) (is : four a ++ four b ++ four c ++ four d �
       ∙ sym (ap (λ k. same_bytes (text m) (take k (four x ++ four y ++ four z ++ four w))) e)
       ∙ sym (ap (λ r. r && same_bytes (text m) (text (name_from x y z w len))) (ap name_length e ∙ h))
       ∙ sym (ap (λ r. r && (named (name_from x y z w len) && same_bytes (text m) (text (name_from x y z w len)))) h)
-
--- all four bytes
-pub same_all : (n x y : ℕ) → 4 ≤ n → x < 4294967296 → y < 4294967296 → eqb x y ≡ same_four n x y
-same_all n x y h hx hy =
-    same_4 x y hx hy ∙ ap (λ l. same_bytes l (four y)) (sym (take_all n (four x) h)) ∙ ap (same_bytes (take n (four x))) (sym (take_all n (four y) h))

@@ -4,18 +4,16 @@ use native.Mathlib.Omega.{arith}
 use mathlib.Core.Path.{◌≡◌, refl, sym, ap, ◌∙◌}
 use mathlib.Core.List.{List, [], ◌∷◌}
 use mathlib.Core.Bool.{Bool, true, false, ◌&&◌, not, true≢false, cond}
-use mathlib.Core.Option.{none, some}
+use Rattle.std.specs.Prelude.{None, Some, filter, Err, Ok}
 use lib.Dec.{leb}
 use lib.ListN.{length, take, length-take}
 use lib.Seq.{take_all}
 use borrow.Author.Tests.{leb-true, leb-false, le-leb, lt-leb}
-use Rattle.lists.specs.Filter.{put?, filter}
 use Rattle.lists.proofs.Filter.{length_filter}
 use Rattle.node.specs.declared.refusal.Refusal.TheVariants.{TableFull}
 use Rattle.scheduler.specs.Replace.{replaces, thinned}
 use Rattle.scheduler.specs.Queue.{full, replacing}
 use Rattle.scheduler.specs.declared.event.Event.{Event}
-use Rattle.scheduler.specs.declared.queue.ScheduleAnswer.TheVariants.{Taken, Refused}
 use Rattle.words.specs.Place.{place_of}
 use Rattle.words.proofs.Place.{place_keep}
 use Rattle.event_table.specs.Rows.{events_in}
@@ -31,7 +29,7 @@ module _ {A : Type 0} (q : A → Bool) where
   fewer (x ∷ l) h = go (q x) h (fewer l)
     where
       go : (b : Bool) → cond b zero (suc (place_of q l)) < suc (length l) → (place_of q l < length l → length (filter (λ y. not (q y)) l) < length l)
-          → length (put? (not b) x (filter (λ y. not (q y)) l)) < suc (length l)
+          → length (cond (not b) (x ∷ (filter (λ y. not (q y)) l)) (filter (λ y. not (q y)) l)) < suc (length l)
       go true h ih = let k : length (filter (λ y. not (q y)) l) ≤ length l = length_filter (λ y. not (q y)) l in omega arith
       go false h ih = let k = ih (omega arith) in omega (arith, k)
 
@@ -71,24 +69,24 @@ module _ (count : ℕ) (e : Event) (old : List ℕ) where
   pub left_less : (n : ℕ) → full (thinned e (take count (events_in old))) ≡ false → n ≡ length (thinned e (take count (events_in old))) → n < 256
   left_less n h many = omega (arith, many, leb-false 256 (length (thinned e (take count (events_in old)))) h)
 
-  pub queue_full : full (thinned e (take count (events_in old))) ≡ true → Queued count e old (record { count = count; answer = Refused TableFull }) old
+  pub queue_full : full (thinned e (take count (events_in old))) ≡ true → Queued count e old (record { count = count; answer = Err TableFull }) old
   unfolding l
   queue_full h =
       record {
-        answer = sym (ap (λ b. cond b (Refused TableFull) Taken) h);
-        number = sym (ap (λ b. cond b (some 7) none) h);
+        answer = sym (ap (λ b. cond b (Err TableFull) (Ok tt)) h);
+        number = sym (ap (λ b. cond b (Some 7) None) h);
         queue = sym (ap (λ b. cond b l (replacing e l)) h);
         taken = λ p. absurd (true≢false (sym h ∙ p));
         kept = λ p. (refl, refl);
       }
 
   pub queue_taken : (new : List ℕ) (n : ℕ) → full (thinned e (take count (events_in old))) ≡ false → n ≡ length (thinned e (take count (events_in old)))
-      → take (n + 1) (events_in new) ≡ replacing e (take count (events_in old)) → Queued count e old (record { count = n + 1; answer = Taken }) new
+      → take (n + 1) (events_in new) ≡ replacing e (take count (events_in old)) → Queued count e old (record { count = n + 1; answer = Ok tt }) new
   unfolding l
   queue_taken new n h many p =
       record {
-        answer = sym (ap (λ b. cond b (Refused TableFull) Taken) h);
-        number = sym (ap (λ b. cond b (some 7) none) h);
+        answer = sym (ap (λ b. cond b (Err TableFull) (Ok tt)) h);
+        number = sym (ap (λ b. cond b (Some 7) None) h);
         queue = p ∙ sym (ap (λ b. cond b l (replacing e l)) h);
         taken = λ q. ap (λ k. k + 1) many;
         kept = λ q. absurd (true≢false (sym q ∙ h));

@@ -8,17 +8,15 @@ ghost use Rattle.event_table.specs.Queue.{Queued};
 
 use crate::replace::{key_of, param_words, remove_replaced, row_replaced};
 use crate::row::{EventTable, put_event, time_at};
-use lists::number::at_most;
 use node::refusal::Refusal;
 use scheduler::event::Event;
-use scheduler::queue::ScheduleAnswer;
 use words::table::{move_row, open_row};
 
 // What scheduling answers, and how many events there are then.
 #[derive(Clone, Copy)]
 pub struct Scheduled {
     pub count: usize,
-    pub answer: ScheduleAnswer,
+    pub answer: Result<(), Refusal>,
 }
 
 // Whether the event in row `i` is due: its time is strictly below the deadline.
@@ -33,15 +31,12 @@ fn place(t: &[u32], n: usize, e: Event) -> usize
     requires { (length t.now ≡ 3840) × (n < 256) }
     ensures { Place (take n (events_in t.now)) e result }
 {
-    let time = e.time;
-    let mut i: usize = 0;
-    while i < n {
-        if time < time_at(t, i) {
+    for i in 0..n {
+        if e.time < time_at(t, i) {
             return i;
         }
-        i += 1;
     }
-    i
+    n
 }
 
 // The event `e` at its place among the first `n`: the rows from there on move up by one.
@@ -61,8 +56,9 @@ fn takes_none(count: usize, p: usize) -> bool
     256 <= count && 256 <= p
 }
 
-fn schedule_in(t: &mut [u32], count: usize, e: Event) -> Scheduled
-    requires { length t.old ≡ 3840 }
+// Schedules an event: those that it replaces go, and it is taken; or it is refused where the queue has no place for it, and then words
+// and count are the very ones.
+pub fn schedule(t: &mut EventTable, count: usize, e: Event) -> Scheduled
     ensures { Queued count e t.old result t.new }
 {
     let k = key_of(e);
@@ -71,38 +67,26 @@ fn schedule_in(t: &mut [u32], count: usize, e: Event) -> Scheduled
     if takes_none(count, p) {
         return Scheduled {
             count,
-            answer: ScheduleAnswer::Refused(Refusal::TableFull),
+            answer: Err(Refusal::TableFull),
         };
     }
     let left = remove_replaced(t, count, p, k, &ws);
     insert(t, left, e);
     Scheduled {
         count: left + 1,
-        answer: ScheduleAnswer::Taken,
+        answer: Ok(()),
     }
-}
-
-// Schedules an event: those that it replaces go, and it is taken; or it is refused where the queue has no place for it, and then words
-// and count are the very ones.
-pub fn schedule(t: &mut EventTable, count: usize, e: Event) -> Scheduled
-    ensures { Queued count e t.old result t.new }
-{
-    schedule_in(t, count, e)
 }
 
 // How many of the first `count` events are due.
 pub fn count_due(t: &[u32], count: usize, deadline: u64) -> usize
     ensures { result ≡ length (taken_before deadline (take count (events_in t.now))) }
 {
-    let n = at_most(count, t.len() / 15);
-    let mut found: usize = 0;
-    let mut i: usize = 0;
-    while i < n {
+    let n = count.min(t.len() / 15);
+    let mut found = 0;
+    for i in 0..n {
         if is_due(t, i, deadline) {
             found += 1;
-            i += 1;
-        } else {
-            i += 1;
         }
     }
     found
@@ -112,17 +96,14 @@ pub fn count_due(t: &[u32], count: usize, deadline: u64) -> usize
 pub fn remove_due(t: &mut [u32], count: usize, deadline: u64) -> usize
     ensures { Holds (events_in t.new) result (left_after deadline (take count (events_in t.old))) }
 {
-    let n = at_most(count, t.len() / 15);
-    let mut w: usize = 0;
-    let mut i: usize = 0;
-    while i < n {
+    let n = count.min(t.len() / 15);
+    let mut w = 0;
+    for i in 0..n {
         if is_due(t, i, deadline) {
-            i += 1;
-        } else {
-            move_row(t, 15, i, w);
-            i += 1;
-            w += 1;
+            continue;
         }
+        move_row(t, 15, i, w);
+        w += 1;
     }
     w
 }

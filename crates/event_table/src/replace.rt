@@ -12,13 +12,11 @@ ghost use Rattle.event_table.specs.Rows.{action_at, event_of, events_in};
 ghost use Rattle.event_table.specs.Key.{KeyOf, same_four};
 
 use crate::row::time_at;
-use lists::number::at_most;
-use lists::word::wide;
 use node::name::{name_length, same_name};
 use node::order::EventAction;
 use scheduler::event::{Event, gate_name, param_order};
 use words::fields::{long_at, name_words};
-use words::table::{move_row, word, word_at};
+use words::table::{move_row, word_at};
 
 // What of a new event decides whom it replaces, beside its parameter's name in words. `gate` says that the parameter is `gate`.
 #[derive(Clone, Copy)]
@@ -33,34 +31,24 @@ pub(crate) struct Key {
 fn is_value(a: EventAction) -> bool
     ensures { result ≡ is_value a }
 {
-    match a {
-        EventAction::Value(_) => true,
-        EventAction::Gate(_) => true,
-        _ => false,
-    }
+    matches!(a, EventAction::Value(_) | EventAction::Gate(_))
 }
 
 fn is_glide(a: EventAction) -> bool
     ensures { result ≡ is_glide a }
 {
-    match a {
-        EventAction::Glide(_) => true,
-        _ => false,
-    }
+    matches!(a, EventAction::Glide(_))
 }
 
 pub(crate) fn key_of(e: Event) -> Key
     ensures { KeyOf e result }
 {
-    let action = e.action;
-    let asked = param_order(e);
-    let name = asked.name;
     Key {
         time: e.time,
         voice: e.voice.0,
-        value: is_value(action),
-        glide: is_glide(action),
-        gate: same_name(name, gate_name()),
+        value: is_value(e.action),
+        glide: is_glide(e.action),
+        gate: same_name(param_order(e).name, gate_name()),
     }
 }
 
@@ -68,137 +56,85 @@ pub(crate) fn key_of(e: Event) -> Key
 pub(crate) fn param_words(e: Event) -> [u32; 5]
     ensures { name_at result 0 ≡ param_of e.action e.name }
 {
-    let asked = param_order(e);
-    let name = asked.name;
-    name_words(name)
+    name_words(param_order(e).name)
 }
 
 // Whether the first `n` bytes of two words are the same; a word has four.
 fn same_four(x: u32, y: u32, n: usize) -> bool
     ensures { result ≡ same_four n x y }
 {
-    if 4 <= n {
-        return x == y;
+    match n {
+        0 => true,
+        1 => x % 256 == y % 256,
+        2 => x % 65536 == y % 65536,
+        3 => x % 16777216 == y % 16777216,
+        _ => x == y,
     }
-    if n == 3 {
-        return x % 16777216 == y % 16777216;
-    }
-    if n == 2 {
-        return x % 65536 == y % 65536;
-    }
-    if n == 1 {
-        return x % 256 == y % 256;
-    }
-    true
-}
-
-// What is left of `n` bytes after `k`.
-fn after(n: usize, k: usize) -> usize
-    ensures { result ≡ n - k }
-{
-    if n < k { 0 } else { n - k }
 }
 
 // Whether the first `n` bytes of the name in row `i` are those of the name in the words `ws`.
-fn same_text(t: &[u32], i: usize, ws: &[u32], n: usize) -> bool
+fn same_text(t: &[u32], i: usize, ws: &[u32; 5], n: usize) -> bool
     ensures { result ≡ (same_four n (get_or ws.now 0 0) (get_or (row_at 15 i t.now) 4 0) && (same_four (n - 4) (get_or ws.now 1 0) (get_or (row_at 15 i t.now) 5 0) && (same_four (n - 8) (get_or ws.now 2 0) (get_or (row_at 15 i t.now) 6 0) && same_four (n - 12) (get_or ws.now 3 0) (get_or (row_at 15 i t.now) 7 0)))) }
 {
-    if !same_four(word(ws, 0), word_at(t, 15, i, 4), n) {
-        return false;
-    }
-    if !same_four(word(ws, 1), word_at(t, 15, i, 5), after(n, 4)) {
-        return false;
-    }
-    if !same_four(word(ws, 2), word_at(t, 15, i, 6), after(n, 8)) {
-        return false;
-    }
-    same_four(word(ws, 3), word_at(t, 15, i, 7), after(n, 12))
+    same_four(ws[0], word_at(t, 15, i, 4), n)
+        && same_four(ws[1], word_at(t, 15, i, 5), n.saturating_sub(4))
+        && same_four(ws[2], word_at(t, 15, i, 6), n.saturating_sub(8))
+        && same_four(ws[3], word_at(t, 15, i, 7), n.saturating_sub(12))
 }
 
 // Whether the name in row `i` is the one in the words `ws`.
-fn same_called(t: &[u32], i: usize, ws: &[u32]) -> bool
+fn same_called(t: &[u32], i: usize, ws: &[u32; 5]) -> bool
     ensures { result ≡ same_name (name_at ws.now 0) (name_at (row_at 15 i t.now) 4) }
 {
-    let len = word(ws, 4) % 256;
-    let n = wide(len);
-    if !name_length(n) {
-        return false;
-    }
-    if word_at(t, 15, i, 8) % 256 != len {
-        return false;
-    }
-    same_text(t, i, ws, n)
+    let len = ws[4] % 256;
+    let n = len as usize;
+    name_length(n) && word_at(t, 15, i, 8) % 256 == len && same_text(t, i, ws, n)
 }
 
 // Whether the event in row `i` is of the key's sort and for its parameter.
-fn same_order(t: &[u32], i: usize, k: Key, ws: &[u32]) -> bool
+fn same_order(t: &[u32], i: usize, k: Key, ws: &[u32; 5]) -> bool
     ensures { (e : Event) → KeyOf e k → name_at ws.now 0 ≡ param_of e.action e.name → result ≡ (same_sort e.action (action_at (row_at 15 i t.now) 9) && same_name (param_of e.action e.name) (param_of (action_at (row_at 15 i t.now) 9) (name_at (row_at 15 i t.now) 4))) }
 {
-    let which = word_at(t, 15, i, 9);
-    if which == 1 {
-        if !k.value {
-            return false;
-        }
-        return same_called(t, i, ws);
+    match word_at(t, 15, i, 9) {
+        1 => k.value && same_called(t, i, ws),
+        2 => k.glide && same_called(t, i, ws),
+        3 => k.value && k.gate,
+        _ => false,
     }
-    if which == 2 {
-        if !k.glide {
-            return false;
-        }
-        return same_called(t, i, ws);
-    }
-    if which == 3 {
-        if !k.value {
-            return false;
-        }
-        return k.gate;
-    }
-    false
 }
 
 // Whether the event in row `i` is one that the key's replaces.
-fn is_replaced(t: &[u32], i: usize, k: Key, ws: &[u32]) -> bool
+fn is_replaced(t: &[u32], i: usize, k: Key, ws: &[u32; 5]) -> bool
     ensures { (e : Event) → KeyOf e k → name_at ws.now 0 ≡ param_of e.action e.name → result ≡ replaces e (get_or (events_in t.now) i (event_of [])) }
 {
-    if time_at(t, i) != k.time {
-        return false;
-    }
-    if long_at(t, 15, i, 2) != k.voice {
-        return false;
-    }
-    same_order(t, i, k, ws)
+    time_at(t, i) == k.time && long_at(t, 15, i, 2) == k.voice && same_order(t, i, k, ws)
 }
 
 // The row of the first event among the first `count` that is replaced; behind them where none is.
-pub(crate) fn row_replaced(t: &[u32], count: usize, k: Key, ws: &[u32]) -> usize
+pub(crate) fn row_replaced(t: &[u32], count: usize, k: Key, ws: &[u32; 5]) -> usize
     ensures { (e : Event) → KeyOf e k → name_at ws.now 0 ≡ param_of e.action e.name → result ≡ place_of (replaces e) (take count (events_in t.now)) }
 {
-    let n = at_most(count, t.len() / 15);
-    let mut i: usize = 0;
-    while i < n {
+    let n = count.min(t.len() / 15);
+    for i in 0..n {
         if is_replaced(t, i, k, ws) {
             return i;
         }
-        i += 1;
     }
     n
 }
 
 // If `p` is the row of the first that is replaced: removes those that are, in one pass that closes the gaps. How many are left.
-pub(crate) fn remove_replaced(t: &mut [u32], count: usize, p: usize, k: Key, ws: &[u32]) -> usize
+pub(crate) fn remove_replaced(t: &mut [u32], count: usize, p: usize, k: Key, ws: &[u32; 5]) -> usize
     ensures { (e : Event) → KeyOf e k → name_at ws.now 0 ≡ param_of e.action e.name → p ≡ place_of (replaces e) (take count (events_in t.old)) → Holds (events_in t.new) result (thinned e (take count (events_in t.old))) }
 {
-    let n = at_most(count, t.len() / 15);
+    let n = count.min(t.len() / 15);
     let mut w = p;
-    let mut i = p;
-    while i < n {
+    for i in p..n {
         if is_replaced(t, i, k, ws) {
-            i += 1;
-        } else {
-            move_row(t, 15, i, w);
-            i += 1;
-            w += 1;
+            continue;
         }
+        move_row(t, 15, i, w);
+        w += 1;
     }
     w
 }

@@ -36,26 +36,20 @@ fn action_words(a: EventAction) -> [u32; 6]
 fn action_from(which: u32, x: u32, seconds: u32, shape: u32, e: u32, space: u32) -> EventAction
     ensures { result ≡ action_from which x seconds shape e space }
 {
-    if which == 1 {
-        return EventAction::Value(float_from(x));
+    match which {
+        1 => EventAction::Value(float_from(x)),
+        2 => EventAction::Glide(glide_from(x, seconds, shape, e, space)),
+        3 => EventAction::Gate(float_from(x)),
+        _ => EventAction::Free,
     }
-    if which == 2 {
-        return EventAction::Glide(glide_from(x, seconds, shape, e, space));
-    }
-    if which == 3 {
-        return EventAction::Gate(float_from(x));
-    }
-    EventAction::Free
 }
 
 // The words of an event.
 fn event_words(e: Event) -> [u32; 15]
     ensures { Stands e result }
 {
-    let name = e.name;
-    let action = e.action;
-    let n = name_words(name);
-    let a = action_words(action);
+    let n = name_words(e.name);
+    let a = action_words(e.action);
     [
         low_word(e.time),
         high_word(e.time),
@@ -91,14 +85,11 @@ fn action_at(t: &[u32], i: usize) -> EventAction
 pub fn event_at(t: &[u32], i: usize) -> Event
     ensures { result ≡ get_or (events_in t.now) i (event_of []) }
 {
-    let name = name_at(t, 15, i, 4);
-    let action = action_at(t, i);
-    let voice = VoiceId(long_at(t, 15, i, 2));
     Event {
         time: long_at(t, 15, i, 0),
-        voice,
-        name,
-        action,
+        voice: VoiceId(long_at(t, 15, i, 2)),
+        name: name_at(t, 15, i, 4),
+        action: action_at(t, i),
     }
 }
 
@@ -113,6 +104,5 @@ pub fn time_at(t: &[u32], i: usize) -> u64
 pub fn put_event(t: &mut [u32], i: usize, e: Event)
     ensures { events_in t.new ≡ set (events_in t.old) i e }
 {
-    let ws = event_words(e);
-    put_row(t, 15, i, &ws);
+    put_row(t, 15, i, &event_words(e));
 }

@@ -2,7 +2,7 @@
 use Prim.Native.Nat.{ℕ, ◌≤◌, ◌<◌}
 use native.Mathlib.Omega.{arith}
 use mathlib.Core.Path.{◌≡◌, refl, sym, ap, ◌∙◌}
-use mathlib.Core.Option.{Option, none, some}
+use Rattle.std.specs.Prelude.{Option, None, Some, Err, Ok}
 use mathlib.Core.List.{List}
 use mathlib.Core.Bool.{Bool, true, false, ◌||◌}
 use lib.Dec.{leb}
@@ -14,22 +14,21 @@ use Rattle.node.specs.declared.record.Node.{Node}
 use Rattle.node.specs.declared.record.Edge.{Edge}
 use Rattle.node.specs.declared.refusal.Refusal.{Refusal}
 use Rattle.node.specs.declared.refusal.Refusal.TheVariants.{UnknownNode, VoiceNode, PortOrKind, TableFull, IdsUsedUp}
-use Rattle.graph.specs.declared.state.Answer.{Answer}
 use Rattle.graph.specs.View.{GraphView}
 use Rattle.graph.specs.Node.{of_voice, ports_of}
 use Rattle.graph.specs.Refuse.{when, dead, wire_test, append_refusal}
 use Rattle.graph.specs.Tables.{answer_of}
 
 -- the answer says which of the two it is
-pub answer_refused : (o : Option Refusal) (x : Refusal) → answer_of o ≡ Answer.Refused x → o ≡ some x
-answer_refused none x e = absurd (let z : ◌≡◌ {A = ℕ} 0 1 = cc in omega arith)
-answer_refused (some y) x e = let s : y ≡ x = cc in ap some s
+pub answer_refused : (o : Option Refusal) (x : Refusal) → answer_of o ≡ Err x → o ≡ Some x
+answer_refused None x e = absurd (let z : ◌≡◌ {A = ℕ} 0 1 = cc in omega arith)
+answer_refused (Some y) x e = let s : y ≡ x = cc in ap Some s
 
-pub answer_done : (o : Option Refusal) → answer_of o ≡ Answer.Done → o ≡ none
-answer_done none e = refl
-answer_done (some y) e = absurd (let z : ◌≡◌ {A = ℕ} 0 1 = cc in omega arith)
+pub answer_done : (o : Option Refusal) → answer_of o ≡ Ok tt → o ≡ None
+answer_done None e = refl
+answer_done (Some y) e = absurd (let z : ◌≡◌ {A = ℕ} 0 1 = cc in omega arith)
 
-pub when_on : (t : Bool) (r : Refusal) (rest : Option Refusal) → t ≡ true → when t r rest ≡ some r
+pub when_on : (t : Bool) (r : Refusal) (rest : Option Refusal) → t ≡ true → when t r rest ≡ Some r
 when_on t r rest e = rw e
 
 pub when_off : (t : Bool) (r : Refusal) (rest : Option Refusal) → t ≡ false → when t r rest ≡ rest
@@ -37,21 +36,21 @@ when_off t r rest e = rw e
 
 -- the refusals of appending
 module _ (v : GraphView) where
-  pub append_full : 512 ≤ length v.nodes → append_refusal v ≡ some TableFull
+  pub append_full : 512 ≤ length v.nodes → append_refusal v ≡ Some TableFull
   append_full h = when_on _ _ _ (le-leb _ _ h)
 
-  pub append_spent : length v.nodes < 512 → 4294967296 ≤ v.next → append_refusal v ≡ some IdsUsedUp
+  pub append_spent : length v.nodes < 512 → 4294967296 ≤ v.next → append_refusal v ≡ Some IdsUsedUp
   append_spent h k = when_off _ _ _ (lt-leb _ _ h) ∙ when_on _ _ _ (le-leb _ _ k)
 
-  pub append_fine : length v.nodes < 512 → v.next < 4294967296 → append_refusal v ≡ none
+  pub append_fine : length v.nodes < 512 → v.next < 4294967296 → append_refusal v ≡ None
   append_fine h k = when_off _ _ _ (lt-leb _ _ h) ∙ when_off _ _ _ (lt-leb _ _ k)
 
 -- a place is the last test of connecting
-pub wire_room : (a b : Option Node) (p : ℕ) (full : Bool) → wire_test a b p full ≡ none → full ≡ false
+pub wire_room : (a b : Option Node) (p : ℕ) (full : Bool) → wire_test a b p full ≡ None → full ≡ false
 wire_room a b p false e = refl
 wire_room a b p true e = absurd (go (dead a || dead b) (of_voice a || of_voice b) (leb (ports_of b) p) e)
   where
-    go : (x y z : Bool) → when x UnknownNode (when y VoiceNode (when z PortOrKind (some TableFull))) ≡ none → ⊥
+    go : (x y z : Bool) → when x UnknownNode (when y VoiceNode (when z PortOrKind (Some TableFull))) ≡ None → ⊥
     go true y z e = none_some (sym e)
     go false true z e = none_some (sym e)
     go false false true e = none_some (sym e)

@@ -4,13 +4,12 @@ use Prim.Native.Nat.{ℕ}
 use native.Mathlib.Decide.{ℕ_discrete}
 use mathlib.Core.Path.{◌≡◌, refl, sym, ap, fun_ext, ◌∙◌}
 use mathlib.Core.List.{List, [], ◌∷◌, map}
-use mathlib.Core.Option.{Option, none, some}
+use Rattle.std.specs.Prelude.{Option, None, Some, cond, filter, find, is_some}
 use mathlib.Core.Bool.{Bool, true, false, not, ◌&&◌, ◌||◌, or_assoc, or-false}
 use lib.Dec.{eqb}
 use borrow.Author.Tests.{eq-eqb, ne_eqb}
-use Rattle.lists.specs.Filter.{put?, filter}
 use Rattle.lists.proofs.Filter.{filter_filter, filter_same}
-use Rattle.lists.specs.Find.{or?, find, is_some, filter_o}
+use Rattle.lists.specs.Find.{filter_o}
 use Rattle.node.specs.declared.record.NodeId.{NodeId}
 use Rattle.node.specs.declared.record.Node.{Node}
 use Rattle.node.specs.declared.record.Edge.{Edge}
@@ -42,7 +41,7 @@ pub listed_more : (k x : ℕ) (ids : List ℕ) → listed (k ∷ ids) x ≡ (eqb
 listed_more k x ids = go (ℕ_discrete k x)
   where
     Found : Bool → Bool
-    Found b = is_some (or? b k (find (λ j. eqb j x) ids))
+    Found b = is_some (cond b (Some k) (find (λ j. eqb j x) ids))
 
     go : Dec (k ≡ x) → Found (eqb k x) ≡ (eqb x k || listed ids x)
     go (yes e) = ap Found (eq-eqb k x e) ∙ ap (λ b. b || listed ids x) (sym (eq-eqb x k (sym e)))
@@ -71,7 +70,7 @@ module _ (q p : Node → Bool) where
       left = filter (λ m. not (q m)) ns
 
       go : (a b : Bool) → p n ≡ b → listed (map id all) x ≡ (listed (ids_of q ns) x || listed (ids_of p left) x)
-          → listed (map id (put? (a || b) n all)) x ≡ (listed (map id (put? a n (filter q ns))) x || listed (ids_of p (put? (not a) n left)) x)
+          → listed (map id (cond (a || b) (n ∷ all) all)) x ≡ (listed (map id (cond a (n ∷ (filter q ns)) (filter q ns))) x || listed (ids_of p (cond (not a) (n ∷ left) left)) x)
       go true b e ih =
           listed_more (id n) x (map id all)
           ∙ ap (λ z. eqb x (id n) || z) ih
@@ -82,8 +81,8 @@ module _ (q p : Node → Bool) where
           ∙ ap (λ z. eqb x (id n) || z) ih
           ∙ after (listed (ids_of q ns) x) (listed (ids_of p left) x) (eqb x (id n))
           ∙ ap (λ z. listed (ids_of q ns) x || z) (sym (listed_more (id n) x (ids_of p left)))
-          ∙ ap (λ b. listed (ids_of q ns) x || listed (map id (put? b n (filter p left))) x) (sym e)
-      go false false e ih = ih ∙ ap (λ b. listed (ids_of q ns) x || listed (map id (put? b n (filter p left))) x) (sym e)
+          ∙ ap (λ b. listed (ids_of q ns) x || listed (map id (cond b (n ∷ (filter p left)) (filter p left))) x) (sym e)
+      go false false e ih = ih ∙ ap (λ b. listed (ids_of q ns) x || listed (map id (cond b (n ∷ (filter p left)) (filter p left))) x) (sym e)
 
   module _ (ns : List Node) where
     touch_together : (e : Edge) → touches (ids_of (λ n. q n || p n) ns) e ≡ (touches (ids_of q ns) e || touches (later ns) e)
@@ -93,10 +92,10 @@ module _ (q p : Node → Bool) where
         ∙ pairs (listed (ids_of q ns) e.from.0) (listed (later ns) e.from.0) (listed (ids_of q ns) e.to.0) (listed (later ns) e.to.0)
 
     sink_together : (o : Option NodeId) → filter_o (λ k. not (among (later ns) k)) (filter_o (λ k. not (among (ids_of q ns) k)) o) ≡ filter_o (λ k. not (among (ids_of (λ n. q n || p n) ns) k)) o
-    sink_together none = refl
-    sink_together (some k) = go (among (ids_of q ns) k) ∙ ap (λ b. or? (not b) k none) (sym (ids_together ns k.0))
+    sink_together None = refl
+    sink_together (Some k) = go (among (ids_of q ns) k) ∙ ap (λ b. cond (not b) (Some k) None) (sym (ids_together ns k.0))
       where
-        go : (b : Bool) → filter_o (λ j. not (among (later ns) j)) (or? (not b) k none) ≡ or? (not (b || among (later ns) k)) k none
+        go : (b : Bool) → filter_o (λ j. not (among (later ns) j)) (cond (not b) (Some k) None) ≡ cond (not (b || among (later ns) k)) (Some k) None
         go true = refl
         go false = refl
 

@@ -1,7 +1,6 @@
 -- What each call that is not refused does to the graph: "Adding, removing, connecting or disconnecting makes it
 -- unprepared", and so does setting the sink.
-use Rattle.std.specs.Prelude.{ℕ, ◌+◌, List, [], ◌∷◌, ◌++◌, map, Bool, false, not}
-use Rattle.lists.specs.Filter.{filter}
+use Rattle.std.specs.Prelude.{ℕ, ◌+◌, List, [], ◌∷◌, ◌++◌, map, Bool, false, not, filter}
 use Rattle.lists.specs.Find.{filter_o}
 use Rattle.node.specs.declared.record.NodeId.{NodeId}
 use Rattle.node.specs.declared.record.VoiceId.{VoiceId}

@@ -1,7 +1,5 @@
 -- Live nodes: who they are, whose they are, and what a new one holds.
-use Rattle.std.specs.Prelude.{ℕ, ◌+◌, ◌%◌, List, map, Bool, false, not, cond, eqb}
-use Rattle.std.proofs.Math.Option.{Option, none, some}
-use Rattle.lists.specs.Find.{find}
+use Rattle.std.specs.Prelude.{ℕ, ◌+◌, ◌%◌, List, map, Bool, false, not, cond, eqb, Option, None, Some, find}
 use Rattle.node.specs.Name.{name_of}
 use Rattle.node.specs.Node.{new_node, with_noise}
 use Rattle.edges.specs.Wiring.{listed}
@@ -34,12 +32,12 @@ node_at ns k = find (is_node k) ns
 
 -- owner 0 is the host
 abbrev pub of_voice : Option Node → Bool
-of_voice none = false
-of_voice (some n) = not (eqb n.owner.0 0)
+of_voice None = false
+of_voice (Some n) = not (eqb n.owner.0 0)
 
 abbrev pub ports_of : Option Node → ℕ
-ports_of none = 0
-ports_of (some n) = n.ports
+ports_of None = 0
+ports_of (Some n) = n.ports
 
 abbrev pub host_id : VoiceId
 host_id = record { 0 = 0 }
@@ -50,8 +48,8 @@ host_node kind ports required values glides = new_node (record { 0 = 0 }) host_i
 
 -- "Count the noise sequence for each bus, from 0, instead of one for all": the bus's node counts it; 0 where there is none
 abbrev pub noise_of : Option Node → ℕ
-noise_of none = 0
-noise_of (some n) = n.noise
+noise_of None = 0
+noise_of (Some n) = n.noise
 
 -- the sequence wraps after 2^32 - 1
 abbrev pub next_noise : ℕ → ℕ

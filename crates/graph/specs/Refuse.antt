@@ -1,8 +1,6 @@
 -- The refusals of the host's calls: the rows "host nodes, wiring, sink, disconnecting, host removal" of the refusal table,
 -- top first.
-use Rattle.std.specs.Prelude.{ℕ, ◌^◌, List, Bool, true, false, not, ◌||◌, leb, ltb, length}
-use Rattle.std.proofs.Math.Option.{Option, none, some}
-use Rattle.lists.specs.Find.{is_some}
+use Rattle.std.specs.Prelude.{ℕ, ◌^◌, List, Bool, true, false, not, ◌||◌, leb, ltb, length, Option, None, Some, is_some}
 use Rattle.node.specs.Name.{name_length}
 use Rattle.node.specs.declared.record.NodeId.{NodeId}
 use Rattle.node.specs.declared.record.Node.{Node}
@@ -14,7 +12,7 @@ use Rattle.graph.specs.Node.{node_limit, id_limit, node_at, of_voice, ports_of}
 
 -- a row of the table: refused if the test holds, else what the rows below say
 abbrev pub when : Bool → Refusal → Option Refusal → Option Refusal
-when true r rest = some r
+when true r rest = Some r
 when false r rest = rest
 
 -- 4: "unknown or dead node"
@@ -23,7 +21,7 @@ dead o = not (is_some o)
 
 -- 7, 8: a place in the node table, and an id
 abbrev pub append_refusal : GraphView → Option Refusal
-append_refusal v = when (leb node_limit (length v.nodes)) TableFull (when (leb id_limit v.next) IdsUsedUp none)
+append_refusal v = when (leb node_limit (length v.nodes)) TableFull (when (leb id_limit v.next) IdsUsedUp None)
 
 -- 6: "more than 64 ports, or kind name not 1 to 16 bytes", or a required port that is none of the node's (bit p of
 -- `required` stands for port p)
@@ -36,14 +34,14 @@ add_refusal v kind ports required = when (bad_kind kind ports required) PortOrKi
 
 -- removing a host node, setting the sink: 4, 5
 abbrev pub host_test : Option Node → Option Refusal
-host_test n = when (dead n) UnknownNode (when (of_voice n) VoiceNode none)
+host_test n = when (dead n) UnknownNode (when (of_voice n) VoiceNode None)
 
 abbrev pub host_refusal : GraphView → NodeId → Option Refusal
 host_refusal v k = host_test (node_at v.nodes k)
 
 -- disconnecting: 4, 5, and 6: "port outside the node's ports"
 abbrev pub port_test : Option Node → ℕ → Option Refusal
-port_test n p = when (dead n) UnknownNode (when (of_voice n) VoiceNode (when (leb (ports_of n) p) PortOrKind none))
+port_test n p = when (dead n) UnknownNode (when (of_voice n) VoiceNode (when (leb (ports_of n) p) PortOrKind None))
 
 abbrev pub disconnect_refusal : GraphView → NodeId → ℕ → Option Refusal
 disconnect_refusal v b p = port_test (node_at v.nodes b) p
@@ -54,7 +52,7 @@ wire_test a b p full =
     when (dead a || dead b) UnknownNode
     (when (of_voice a || of_voice b) VoiceNode
     (when (leb (ports_of b) p) PortOrKind
-    (when full TableFull none)))
+    (when full TableFull None)))
 
 abbrev pub connect_refusal : GraphView → NodeId → NodeId → ℕ → Option Refusal
 connect_refusal v a b p = wire_test (node_at v.nodes a) (node_at v.nodes b) p (no_place v.edges b p)

@@ -1,6 +1,5 @@
 -- The graph as a value of plain lists. Every call on it is a function on this record.
-use Rattle.std.specs.Prelude.{ℕ, List, [], Bool, true, false}
-use Rattle.std.proofs.Math.Option.{Option, none, some}
+use Rattle.std.specs.Prelude.{ℕ, List, [], Bool, true, false, Option, None, Some}
 use Rattle.node.specs.declared.record.NodeId.{NodeId}
 use Rattle.node.specs.declared.record.Node.{Node}
 use Rattle.node.specs.declared.record.Edge.{Edge}
@@ -17,7 +16,7 @@ pub record GraphView : Type 0 where
 
 -- "a new store is unprepared"; node ids are "32 bits from 0"
 abbrev pub new_graph : GraphView
-new_graph = record { nodes = []; edges = []; sink = none; prepared = false; order = []; next = 0 }
+new_graph = record { nodes = []; edges = []; sink = None; prepared = false; order = []; next = 0 }
 
 -- ---- one part changed. Other records of the nodes, as after a report, a value or a glide: what is prepared stays so
 abbrev pub with_nodes : GraphView → List Node → GraphView
@@ -28,7 +27,7 @@ abbrev pub with_edges : GraphView → List Edge → GraphView
 with_edges v es = record { nodes = v.nodes; edges = es; sink = v.sink; prepared = false; order = v.order; next = v.next }
 
 abbrev pub with_sink : GraphView → NodeId → GraphView
-with_sink v k = record { nodes = v.nodes; edges = v.edges; sink = some k; prepared = false; order = v.order; next = v.next }
+with_sink v k = record { nodes = v.nodes; edges = v.edges; sink = Some k; prepared = false; order = v.order; next = v.next }
 
 -- prepared, with this processing order
 abbrev pub prepared_by : GraphView → List NodeId → GraphView

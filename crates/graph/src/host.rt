@@ -19,11 +19,11 @@ pub struct HostNode {
 pub fn host_node(kind: &[u8], n: HostNode) -> Node
     ensures { result ≡ host_node kind.now n.ports n.required n.takes_values n.takes_glides }
 {
-    let name = name_of(kind);
+    let kind = name_of(kind);
     Node {
         id: NodeId(0),
         owner: VoiceId(0),
-        kind: name,
+        kind,
         ports: n.ports,
         required: n.required,
         takes_values: n.takes_values,

@@ -3,6 +3,4 @@
 #![tactic(auto)]
 
 pub mod host;
-pub mod nodes;
-pub mod state;
 pub mod tests;

@@ -8,22 +8,12 @@ use node::name::name_length;
 fn requires_beyond(ports: u32, required: u64) -> bool
     ensures { result ≡ leb (2 ^ ports) required }
 {
-    if ports < 64 {
-        required >> ports > 0
-    } else {
-        false
-    }
+    ports < 64 && required >> ports > 0
 }
 
 // Whether a host node of this kind is refused.
 pub fn is_bad_kind(kind: &[u8], n: HostNode) -> bool
     ensures { result ≡ bad_kind kind.now n.ports n.required }
 {
-    if n.ports > 64 {
-        return true;
-    }
-    if !name_length(kind.len()) {
-        return true;
-    }
-    requires_beyond(n.ports, n.required)
+    n.ports > 64 || !name_length(kind.len()) || requires_beyond(n.ports, n.required)
 }

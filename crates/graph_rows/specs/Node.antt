@@ -1,7 +1,6 @@
 -- A node in 22 words, and the node table that a list of words is: "a node becomes a record: kind name (up to 16 bytes), ports,
 -- required ports, whether it takes values or glides, done flag, level, last order".
-use Rattle.std.specs.Prelude.{ℕ, ◌≡◌, true, false, List, length, get_or}
-use Rattle.std.proofs.Math.Option.{Option, none, some}
+use Rattle.std.specs.Prelude.{ℕ, ◌≡◌, true, false, List, length, get_or, Option, option_map}
 use Rattle.node.specs.declared.record.Node.{Node}
 use Rattle.words.specs.Rows.{rows}
 use Rattle.words.specs.Fields.{is_set, float_from, long_at, name_at, last_at}
@@ -33,7 +32,10 @@ pub record Stands (n : Node) (ws : List ℕ) : Type 0 where
   pub long : length ws ≡ 22
   pub back : node_of ws ≡ n
 
--- what wiring and the spawns read of a node that was looked for
-abbrev pub brief_of : Option Node → Brief
-brief_of none = record { live = false; owner = record { 0 = 0 }; ports = 0 }
-brief_of (some n) = record { live = true; owner = n.owner; ports = n.ports }
+-- what wiring and the spawns read of a node
+abbrev pub brief : Node → Brief
+brief n = record { owner = n.owner; ports = n.ports }
+
+-- the same of a node that was looked for, if it lives
+abbrev pub brief_of : Option Node → Option Brief
+brief_of = option_map brief

@@ -13,11 +13,9 @@ pub type EdgeTable = [u32; EDGE_WORDS];
 pub fn edge_at(t: &[u32], i: usize) -> Edge
     ensures { result ≡ get_or (edges_in t.now) i (edge_of []) }
 {
-    let from = NodeId(word_at(t, 3, i, 0));
-    let to = NodeId(word_at(t, 3, i, 1));
     Edge {
-        from,
-        to,
+        from: NodeId(word_at(t, 3, i, 0)),
+        to: NodeId(word_at(t, 3, i, 1)),
         port: word_at(t, 3, i, 2),
     }
 }
@@ -26,6 +24,5 @@ pub fn edge_at(t: &[u32], i: usize) -> Edge
 pub fn set_edge(t: &mut [u32], i: usize, e: Edge)
     ensures { edges_in t.new ≡ set (edges_in t.old) i e }
 {
-    let ws = [e.from.0, e.to.0, e.port];
-    put_row(t, 3, i, &ws);
+    put_row(t, 3, i, &[e.from.0, e.to.0, e.port]);
 }

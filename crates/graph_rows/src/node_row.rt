@@ -1,7 +1,6 @@
 ghost use Rattle.std.specs.Prelude.{◌≡◌, [], get_or, set};
-ghost use Rattle.std.proofs.Math.Option.{some};
 ghost use Rattle.node.specs.Node.{with_noise};
-ghost use Rattle.graph_rows.specs.Node.{node_of, nodes_in, Stands, brief_of};
+ghost use Rattle.graph_rows.specs.Node.{node_of, nodes_in, Stands, brief};
 
 use node::record::{Node, NodeId, VoiceId};
 use words::fields::{
@@ -15,11 +14,9 @@ pub const NODE_WORDS: usize = 11264;
 
 pub type NodeTable = [u32; NODE_WORDS];
 
-// What wiring and the spawns read of a node: whether it lives, whose it is, how many ports it has. All 0 where it does not
-// live.
+// What wiring and the spawns read of a node: whose it is, how many ports it has.
 #[derive(Clone, Copy)]
 pub struct Brief {
-    pub live: bool,
     pub owner: VoiceId,
     pub ports: u32,
 }
@@ -28,10 +25,8 @@ pub struct Brief {
 pub fn node_words(n: Node) -> [u32; 22]
     ensures { Stands n result }
 {
-    let kind = n.kind;
-    let last = n.last;
-    let k = name_words(kind);
-    let l = last_words(last);
+    let k = name_words(n.kind);
+    let l = last_words(n.last);
     [
         n.id.0,
         low_word(n.owner.0),
@@ -62,22 +57,19 @@ pub fn node_words(n: Node) -> [u32; 22]
 pub fn node_at(t: &[u32], i: usize) -> Node
     ensures { result ≡ get_or (nodes_in t.now) i (node_of []) }
 {
-    let id = NodeId(word_at(t, 22, i, 0));
-    let owner = VoiceId(long_at(t, 22, i, 1));
     let kind = name_at(t, 22, i, 3);
-    let last = last_at(t, 22, i, 15);
     Node {
-        id,
-        owner,
+        id: id_at(t, i),
+        owner: owner_at(t, i),
         kind,
-        ports: word_at(t, 22, i, 8),
-        required: long_at(t, 22, i, 9),
+        ports: ports_at(t, i),
+        required: required_at(t, i),
         takes_values: flag_at(t, 22, i, 11),
         takes_glides: flag_at(t, 22, i, 12),
-        done: flag_at(t, 22, i, 13),
+        done: done_at(t, i),
         level: float_at(t, 22, i, 14),
-        last,
-        noise: word_at(t, 22, i, 21),
+        last: last_at(t, 22, i, 15),
+        noise: noise_at(t, i),
     }
 }
 
@@ -85,8 +77,7 @@ pub fn node_at(t: &[u32], i: usize) -> Node
 pub fn put_node(t: &mut [u32], i: usize, n: Node)
     ensures { nodes_in t.new ≡ set (nodes_in t.old) i n }
 {
-    let ws = node_words(n);
-    put_row(t, 22, i, &ws);
+    put_row(t, 22, i, &node_words(n));
 }
 
 // The id of the node in row `i`, the voice that owns it, its ports and which of them are required; 0 past the end.
@@ -131,18 +122,15 @@ pub fn noise_at(t: &[u32], i: usize) -> u32
 pub fn put_noise(t: &mut [u32], i: usize, k: u32)
     ensures { nodes_in t.new ≡ set (nodes_in t.old) i (with_noise k (get_or (nodes_in t.old) i (node_of []))) }
 {
-    let ws = [k];
-    put_fields(t, 22, i, 21, &ws);
+    put_fields(t, 22, i, 21, &[k]);
 }
 
 // What wiring reads of the node in row `i`.
 pub fn brief_at(t: &[u32], i: usize) -> Brief
-    ensures { result ≡ brief_of (some (get_or (nodes_in t.now) i (node_of []))) }
+    ensures { result ≡ brief (get_or (nodes_in t.now) i (node_of [])) }
 {
-    let owner = owner_at(t, i);
     Brief {
-        live: true,
-        owner,
+        owner: owner_at(t, i),
         ports: ports_at(t, i),
     }
 }

@@ -3,4 +3,4 @@ pub mod Brief
 pub mod Edges
 pub mod FedPorts
 pub mod Marks
-pub mod Voices
+pub mod Room

@@ -9,24 +9,33 @@ use lib.Dec.{eqb}
 use lib.ListN.{length, get_or, set, length-set}
 use lib.Seq.{get_or-set_same, get_or-set_other}
 use borrow.Author.Tests.{eq-eqb, ne_eqb}
-use Rattle.lists.specs.Find.{find, or?, is_some}
+use Rattle.std.specs.Prelude.{find, cond, is_some, Some, ◌||◌}
+use Rattle.std.specs.List.{list_any}
 use Rattle.edges.specs.Wiring.{listed}
 use Rattle.graph_tables.specs.Removal.{Marked}
 
 pub listed_at : (ids : List ℕ) (i x : ℕ) → i < length ids → get_or ids i 0 ≡ x → listed ids x ≡ true
 listed_at [] i x h e = absurd (omega arith)
-listed_at (y ∷ ids) zero x h e = ap (λ b. is_some (or? b y (find (λ k. eqb k x) ids))) (eq-eqb y x e)
+listed_at (y ∷ ids) zero x h e = ap (λ b. is_some (cond b (Some y) (find (λ k. eqb k x) ids))) (eq-eqb y x e)
 listed_at (y ∷ ids) (suc i) x h e = go (eqb y x) (listed_at ids i x (omega arith) e)
   where
-    go : (b : Bool) → is_some (find (λ k. eqb k x) ids) ≡ true → is_some (or? b y (find (λ k. eqb k x) ids)) ≡ true
+    go : (b : Bool) → is_some (find (λ k. eqb k x) ids) ≡ true → is_some (cond b (Some y) (find (λ k. eqb k x) ids)) ≡ true
     go true ih = refl
     go false ih = ih
 
 pub unlisted : (ids : List ℕ) (x : ℕ) → ((i : ℕ) → i < length ids → get_or ids i 0 ≡ x → ⊥) → listed ids x ≡ false
 unlisted [] x h = refl
 unlisted (y ∷ ids) x h =
-    ap (λ b. is_some (or? b y (find (λ k. eqb k x) ids))) (ne_eqb y x (λ e. h zero (omega arith) e))
+    ap (λ b. is_some (cond b (Some y) (find (λ k. eqb k x) ids))) (ne_eqb y x (λ e. h zero (omega arith) e))
     ∙ unlisted ids x (λ i l e. h (suc i) (omega arith) e)
+
+pub listed_any : (ids : List ℕ) (x : ℕ) → listed ids x ≡ list_any (λ y. eqb y x) ids
+listed_any [] x = refl
+listed_any (y ∷ ids) x = go (eqb y x) (listed_any ids x)
+  where
+    go : (b : Bool) → listed ids x ≡ list_any (λ z. eqb z x) ids → is_some (cond b (Some y) (find (λ k. eqb k x) ids)) ≡ (b || list_any (λ z. eqb z x) ids)
+    go true h = refl
+    go false h = h
 
 -- the first j ids are marked
 abbrev pub MarkedTo : List ℕ → List ℕ → ℕ → Type 0

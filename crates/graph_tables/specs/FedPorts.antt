@@ -1,11 +1,8 @@
 -- What feeds a port.
 use Rattle.std.specs.Prelude.{ℕ, ◌<◌, ◌≡◌, List, Bool, false, length, get_or}
-use Rattle.std.proofs.Math.Option.{Option, none}
-use Rattle.lists.specs.Find.{or?}
 use Rattle.node.specs.declared.record.NodeId.{NodeId}
 use Rattle.node.specs.declared.record.Edge.{Edge}
 use Rattle.edges.specs.Wiring.{taken}
-use Rattle.graph_tables.specs.declared.ports.Feeding.{Feeding}
 
 -- the flags say of each of the ports 0 to 63 of the node n whether an edge ends there; of the last flag nothing is said
 pub record FedPorts (fed : List Bool) (es : List Edge) (n : NodeId) : Type 0 where
@@ -15,7 +12,3 @@ pub record FedPorts (fed : List Bool) (es : List Edge) (n : NodeId) : Type 0 whe
 -- the node of that id
 abbrev pub node : ℕ → NodeId
 node k = record { 0 = k }
-
--- an edge that was looked for
-abbrev pub feeding_of : Feeding → Option Edge
-feeding_of f = or? f.found f.edge none

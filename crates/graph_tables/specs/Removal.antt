@@ -1,26 +1,21 @@
 -- What is left in the lent tables when nodes are removed "with their edges": what `without` of crate graph leaves of the nodes,
 -- the edges and the sink.
-use Rattle.std.specs.Prelude.{ℕ, ◌≤◌, ◌<◌, ◌%◌, ◌≡◌, List, Bool, not, length, take, get_or}
-use Rattle.std.proofs.Math.Option.{Option}
-use Rattle.lists.specs.Filter.{filter}
+use Rattle.std.specs.Prelude.{ℕ, ◌≤◌, ◌<◌, ◌%◌, ◌≡◌, List, Bool, not, length, take, get_or, Option, filter}
 use Rattle.lists.specs.Find.{filter_o}
 use Rattle.words.specs.Place.{Holds}
 use Rattle.node.specs.declared.record.Node.{Node}
 use Rattle.node.specs.declared.record.NodeId.{NodeId}
+use Rattle.node.specs.declared.record.VoiceId.{VoiceId}
 use Rattle.edges.specs.Wiring.{among, drop_touching}
-use Rattle.graph.specs.Node.{is_node, owned_by_any}
 use Rattle.graph.specs.Change.{ids_of}
-use Rattle.graph.specs.Tables.{sink_of}
 use Rattle.graph_rows.specs.Node.{nodes_in}
 use Rattle.graph_rows.specs.Edge.{edges_in}
-use Rattle.graph_tables.specs.declared.removal.Leaving.{Leaving}
 use Rattle.graph_tables.specs.declared.removal.Parted.{Parted}
 use Rattle.graph_tables.specs.declared.removal.Left.{Left}
 
--- which nodes are removed: the one of this id, or those of these voices
-abbrev pub leaves : Leaving → List ℕ → Node → Bool
-leaves (Leaving.Node k) voices n = is_node k n
-leaves Leaving.Voices voices n = owned_by_any voices n
+-- what the calls of a test return, of a node's id and owner, is whether the node goes
+abbrev pub Tells : (NodeId → VoiceId → Bool → Type 0) → (Node → Bool) → Type 0
+Tells post goes = (x : Node) (b : Bool) → post x.id x.owner b → b ≡ goes x
 
 -- of the first n nodes of the words ns: those that stay, and the ids of those that go
 pub record Parts (ns new removed : List ℕ) (n : ℕ) (goes : Node → Bool) (r : Parted) : Type 0 where
@@ -33,7 +28,7 @@ pub record Parts (ns new removed : List ℕ) (n : ℕ) (goes : Node → Bool) (r
 pub record Removed (ns es new-ns new-es : List ℕ) (n m : ℕ) (heard : Option NodeId) (goes : Node → Bool) (r : Left) : Type 0 where
   pub nodes : Holds (nodes_in new-ns) r.nodes (filter (λ x. not (goes x)) (take n (nodes_in ns)))
   pub edges : Holds (edges_in new-es) r.edges (drop_touching (take m (edges_in es)) (ids_of goes (take n (nodes_in ns))))
-  pub sink : sink_of r.sink ≡ filter_o (λ k. not (among (ids_of goes (take n (nodes_in ns))) k)) heard
+  pub sink : r.sink ≡ filter_o (λ k. not (among (ids_of goes (take n (nodes_in ns))) k)) heard
 
 -- A mark for each remainder of an id: without a mark there, an id is none of these; with one, it is looked for. Nothing here
 -- has to be believed: it is what the search by remainders needs.

@@ -1,16 +1,12 @@
-ghost use Rattle.std.specs.Prelude.{◌≡◌, List, [], ◌≤◌, min, take, get_or};
+ghost use Rattle.std.specs.Prelude.{◌≡◌, List, [], ◌≤◌, take, get_or, find};
 ghost use Rattle.node.specs.declared.record.NodeId.{NodeId};
 ghost use Rattle.node.specs.declared.record.Edge.{Edge};
-ghost use Rattle.lists.specs.Find.{find};
-ghost use Rattle.edges.specs.Ports.{port_of, free_port, feeds, sources};
+ghost use Rattle.edges.specs.Ports.{free_port, feeds, sources};
 ghost use Rattle.graph_rows.specs.Edge.{edge_of, edges_in};
-ghost use Rattle.graph_tables.specs.FedPorts.{FedPorts, node, feeding_of};
+ghost use Rattle.graph_tables.specs.FedPorts.{FedPorts, node};
 
-use crate::wiring::ends_at;
-use edges::ports::{Port, Source};
+use crate::wiring::is_taken;
 use graph_rows::edge_row::{EdgeTable, edge_at};
-use lists::number::at_most;
-use lists::word::long;
 use node::record::{Edge, NodeId};
 use words::table::word_at;
 
@@ -23,29 +19,20 @@ fn to_at(t: &[u32], i: usize) -> NodeId
 
 // The source of each of the ports 0 to 63 of `node`: one walk over the edges, from the last to the first, so that of two
 // edges at one port the first counts. Most edges end elsewhere: of these one word is read.
-fn sources_in(t: &[u32], count: usize, node: NodeId) -> [Source; 64]
-    ensures { result ≡ sources (take count (edges_in t.now)) node }
+pub fn sources_of(edges: &EdgeTable, count: usize, node: NodeId) -> [Option<NodeId>; 64]
+    ensures { result ≡ sources (take count (edges_in edges.now)) node }
 {
-    let mut table = [Source::Nothing; 64];
-    let mut i = at_most(count, t.len() / 3);
-    while i > 0 {
-        i -= 1;
-        if to_at(t, i).0 == node.0 {
-            let e = edge_at(t, i);
-            let p = e.port;
-            let from = e.from;
-            if p < 64 {
-                table[p as usize] = Source::From(from);
+    let n = count.min(edges.len() / 3);
+    let mut table = [None; 64];
+    for i in (0..n).rev() {
+        if to_at(edges, i) == node {
+            let e = edge_at(edges, i);
+            if e.port < 64 {
+                table[e.port as usize] = Some(e.from);
             }
         }
     }
     table
-}
-
-pub fn sources_of(edges: &EdgeTable, count: usize, node: NodeId) -> [Source; 64]
-    ensures { result ≡ sources (take count (edges_in edges.now)) node }
-{
-    sources_in(edges, count, node)
 }
 
 // The port at which the edge in row `i` ends.
@@ -55,119 +42,73 @@ fn port_at(t: &[u32], i: usize) -> u32
     word_at(t, 3, i, 2)
 }
 
-// The place of a port among 65 flags. The ports above 63 share the last flag, which nobody reads.
-fn flag_place(p: u32) -> usize
-    ensures { result ≡ min p 64 }
-{
-    if p < 64 { p as usize } else { 64 }
-}
-
 // Which of the ports 0 to 63 of `node` an edge feeds, a flag for each port: one walk over the edges. Most edges end elsewhere:
-// of these one word is read.
-fn fed_in(t: &[u32], count: usize, node: NodeId) -> [bool; 65]
-    ensures { FedPorts result (take count (edges_in t.now)) node }
+// of these one word is read. The ports above 63 share the last flag, which nobody reads.
+fn fed_ports(edges: &EdgeTable, count: usize, node: NodeId) -> [bool; 65]
+    ensures { FedPorts result (take count (edges_in edges.now)) node }
 {
+    let n = count.min(edges.len() / 3);
     let mut fed = [false; 65];
-    let mut i = at_most(count, t.len() / 3);
-    while i > 0 {
-        i -= 1;
-        if to_at(t, i).0 == node.0 {
-            let p = flag_place(port_at(t, i));
-            fed[p] = true;
+    for i in (0..n).rev() {
+        if to_at(edges, i) == node {
+            fed[port_at(edges, i).min(64) as usize] = true;
         }
     }
     fed
 }
 
 // The first of the ports below `ports` that nothing feeds, by the flags of the fed ports.
-fn first_unfed(fed: [bool; 65], ports: u32) -> Port
+fn first_unfed(fed: [bool; 65], ports: u32) -> Option<u32>
     requires { ports ≤ 64 }
-    ensures { (es : List Edge) (n : NodeId) → FedPorts fed es n → result ≡ port_of (free_port es n ports) }
+    ensures { (es : List Edge) (n : NodeId) → FedPorts fed es n → result ≡ free_port es n ports }
 {
-    let mut p: u32 = 0;
-    while p < ports {
-        let s = fed[p as usize];
-        if !s {
-            return Port::At(p);
+    for p in 0..ports {
+        if !fed[p as usize] {
+            return Some(p);
         }
-        p += 1;
     }
-    Port::Nothing
+    None
 }
 
 // The lowest port of `node` below `ports` without an edge: each port in turn is looked for among all the edges.
-fn lowest_port(t: &[u32], count: usize, node: NodeId, ports: u32) -> Port
-    ensures { result ≡ port_of (free_port (take count (edges_in t.now)) node ports) }
+fn lowest_port(edges: &EdgeTable, count: usize, node: NodeId, ports: u32) -> Option<u32>
+    ensures { result ≡ free_port (take count (edges_in edges.now)) node ports }
 {
-    let n = at_most(count, t.len() / 3);
-    let mut p: u32 = 0;
-    let found = 'outer: loop {
-        if p >= ports {
-            break Port::Nothing;
+    for p in 0..ports {
+        if !is_taken(edges, count, node, p) {
+            return Some(p);
         }
-        let mut i: usize = 0;
-        while i < n {
-            if ends_at(t, i, node, p) {
-                p += 1;
-                continue 'outer;
-            }
-            i += 1;
-        }
-        break Port::At(p);
-    };
-    found
+    }
+    None
 }
 
 // The lowest port of `node` below `ports` without an edge, in one walk over the edges. No node that a call makes has more
 // than 64 ports; one that has is searched port by port.
-fn free_in(t: &[u32], count: usize, node: NodeId, ports: u32) -> Port
-    ensures { result ≡ port_of (free_port (take count (edges_in t.now)) node ports) }
+pub fn free_port(edges: &EdgeTable, count: usize, node: NodeId, ports: u32) -> Option<u32>
+    ensures { result ≡ free_port (take count (edges_in edges.now)) node ports }
 {
     if 64 < ports {
-        return lowest_port(t, count, node, ports);
+        return lowest_port(edges, count, node, ports);
     }
-    first_unfed(fed_in(t, count, node), ports)
-}
-
-pub fn free_port(edges: &EdgeTable, count: usize, node: NodeId, ports: u32) -> Port
-    ensures { result ≡ port_of (free_port (take count (edges_in edges.now)) node ports) }
-{
-    free_in(edges, count, node, ports)
-}
-
-// An edge that was looked for: `edge` is it, if it is `found`.
-#[derive(Clone, Copy)]
-pub struct Feeding {
-    pub found: bool,
-    pub edge: Edge,
+    first_unfed(fed_ports(edges, count, node), ports)
 }
 
 // Whether the edge in row `i` leads from the node of the id `from` to `to`.
 fn leads(t: &[u32], i: usize, from: u64, to: NodeId) -> bool
     ensures { result ≡ feeds (node from) to (get_or (edges_in t.now) i (edge_of [])) }
 {
-    long(word_at(t, 3, i, 0)) == from && word_at(t, 3, i, 1) == to.0
+    u64::from(word_at(t, 3, i, 0)) == from && to_at(t, i) == to
 }
 
 // The first edge from the node of the id `from` to `to`. An id past the last is no node's.
-fn feeding_in(t: &[u32], count: usize, from: u64, to: NodeId) -> Feeding
-    ensures { feeding_of result ≡ find (feeds (node from) to) (take count (edges_in t.now)) }
+pub fn feeding_edge(edges: &EdgeTable, count: usize, from: u64, to: NodeId) -> Option<Edge>
+    ensures { result ≡ find (feeds (node from) to) (take count (edges_in edges.now)) }
 {
-    let n = at_most(count, t.len() / 3);
-    let mut i: usize = 0;
-    while i < n {
-        if leads(t, i, from, to) {
-            let edge = edge_at(t, i);
-            return Feeding { found: true, edge };
+    let n = count.min(edges.len() / 3);
+    for i in 0..n {
+        if leads(edges, i, from, to) {
+            return Some(edge_at(edges, i));
         }
-        i += 1;
     }
-    let edge = edge_at(t, 0);
-    Feeding { found: false, edge }
-}
-
-pub fn feeding_edge(edges: &EdgeTable, count: usize, from: u64, to: NodeId) -> Feeding
-    ensures { feeding_of result ≡ find (feeds (node from) to) (take count (edges_in edges.now)) }
-{
-    feeding_in(edges, count, from, to)
+    None
 }

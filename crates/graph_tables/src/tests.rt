@@ -1,61 +1,60 @@
-ghost use Rattle.std.specs.Prelude.{◌≡◌};
+ghost use Rattle.std.specs.Prelude.{◌≡◌, None};
+ghost use Rattle.node.specs.declared.refusal.Refusal.TheVariants.{VoiceNode};
+ghost use Rattle.graph.specs.Refuse.{when};
 ghost use Rattle.graph.specs.Tables.{answer_of};
-ghost use Rattle.graph_tables.specs.Brief.{host_brief, port_brief, wire_brief};
+ghost use Rattle.graph_tables.specs.Brief.{of_voice, host_brief, port_brief, wire_brief};
 
-use graph::state::Answer;
 use graph_rows::node_row::Brief;
+use node::record::VoiceId;
 use node::refusal::Refusal;
 
+// The node is the host's.
+fn owner_test(n: Brief) -> Result<(), Refusal>
+    ensures { result ≡ answer_of (when (of_voice n) VoiceNode None) }
+{
+    if n.owner != VoiceId(0) {
+        return Err(Refusal::VoiceNode);
+    }
+    Ok(())
+}
+
 // The node lives and is the host's.
-pub fn host_test(n: Brief) -> Answer
+pub fn host_test(n: Option<Brief>) -> Result<(), Refusal>
     ensures { result ≡ answer_of (host_brief n) }
 {
-    if !n.live {
-        return Answer::Refused(Refusal::UnknownNode);
-    }
-    if n.owner.0 != 0 {
-        return Answer::Refused(Refusal::VoiceNode);
-    }
-    Answer::Done
+    owner_test(n.ok_or(Refusal::UnknownNode)?)
 }
 
 // The node lives, is the host's and has the port.
-pub fn port_test(n: Brief, port: u32) -> Answer
+pub fn port_test(n: Option<Brief>, port: u32) -> Result<(), Refusal>
     ensures { result ≡ answer_of (port_brief n port) }
 {
-    if !n.live {
-        return Answer::Refused(Refusal::UnknownNode);
+    let node = n.ok_or(Refusal::UnknownNode)?;
+    owner_test(node)?;
+    if node.ports <= port {
+        return Err(Refusal::PortOrKind);
     }
-    if n.owner.0 != 0 {
-        return Answer::Refused(Refusal::VoiceNode);
-    }
-    if n.ports <= port {
-        return Answer::Refused(Refusal::PortOrKind);
-    }
-    Answer::Done
+    Ok(())
 }
 
 // Both nodes live and are the host's, the second has the port, and the edge a place.
-pub fn wire_test(from: Brief, to: Brief, port: u32, full: bool) -> Answer
+pub fn wire_test(
+    from: Option<Brief>,
+    to: Option<Brief>,
+    port: u32,
+    full: bool,
+) -> Result<(), Refusal>
     ensures { result ≡ answer_of (wire_brief from to port full) }
 {
-    if !from.live {
-        return Answer::Refused(Refusal::UnknownNode);
-    }
-    if !to.live {
-        return Answer::Refused(Refusal::UnknownNode);
-    }
-    if from.owner.0 != 0 {
-        return Answer::Refused(Refusal::VoiceNode);
-    }
-    if to.owner.0 != 0 {
-        return Answer::Refused(Refusal::VoiceNode);
-    }
-    if to.ports <= port {
-        return Answer::Refused(Refusal::PortOrKind);
+    let source = from.ok_or(Refusal::UnknownNode)?;
+    let fed = to.ok_or(Refusal::UnknownNode)?;
+    owner_test(source)?;
+    owner_test(fed)?;
+    if fed.ports <= port {
+        return Err(Refusal::PortOrKind);
     }
     if full {
-        return Answer::Refused(Refusal::TableFull);
+        return Err(Refusal::TableFull);
     }
-    Answer::Done
+    Ok(())
 }

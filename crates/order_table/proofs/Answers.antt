@@ -1,5 +1,6 @@
 -- Prepare's three answers, from what its tests found.
-use Prim.Native.Nat.{ℕ, zero, suc, ◌/◌, ◌≤◌, min}
+use Rattle.std.specs.Prelude.{Err, Ok}
+use Prim.Native.Nat.{ℕ, zero, suc, ◌≤◌, min}
 use native.Mathlib.Omega.{arith}
 use mathlib.Core.Path.{◌≡◌, refl, sym, ap, ◌∙◌, subst}
 use mathlib.Core.List.{List, [], ◌∷◌, map}
@@ -17,7 +18,6 @@ use Rattle.rank.specs.Parts.{Ranked}
 use Rattle.rank.specs.declared.Ranking.{Ranking}
 use Rattle.graph_rows.specs.Node.{nodes_in}
 use Rattle.graph_rows.specs.Edge.{edge_of, edges_in}
-use Rattle.prepare.specs.declared.Readiness.TheVariants.{Ready, Refused}
 use Rattle.prepare.specs.Live.{live_ids, arc_of, as_id, processing_order}
 use Rattle.prepare.specs.Required.{lacking}
 use Rattle.prepare.specs.Prepare.{prepare}
@@ -27,16 +27,16 @@ use Rattle.prepare.proofs.Rises.{live_few}
 use Rattle.order_table.specs.Prepares.{ids_in, Prepares, Lacks}
 
 module _ (nodes : List Node) (edges : List Edge) (old : List ℕ) where
-  pub refused_13 : lacking nodes edges ≡ true → Prepares nodes edges old old (record { answer = Refused RequiredPort; count = 0 })
+  pub refused_13 : lacking nodes edges ≡ true → Prepares nodes edges old old (record { answer = Err RequiredPort; count = 0 })
   unfolding prepare
   refused_13 h = record { answer = rw h; order = rw h (record { is = refl; many = refl }); kept = λ x e. refl }
 
-  pub refused_14 : lacking nodes edges ≡ false → whole (live_ids nodes) (map arc_of edges) ≡ false → Prepares nodes edges old old (record { answer = Refused Cycle; count = 0 })
+  pub refused_14 : lacking nodes edges ≡ false → whole (live_ids nodes) (map arc_of edges) ≡ false → Prepares nodes edges old old (record { answer = Err Cycle; count = 0 })
   unfolding prepare
   refused_14 h w = record { answer = rw (h, w); order = rw (h, w) (record { is = refl; many = refl }); kept = λ x e. refl }
 
   pub accepted : lacking nodes edges ≡ false → whole (live_ids nodes) (map arc_of edges) ≡ true → (new : List ℕ) (k : ℕ) → Holds (ids_in new) k (processing_order nodes edges)
-      → Prepares nodes edges old new (record { answer = Ready; count = k })
+      → Prepares nodes edges old new (record { answer = Ok tt; count = k })
   unfolding prepare
   accepted h w new k held = record {
     answer = rw (h, w);
@@ -57,9 +57,9 @@ first_of rows n k e =
     take-take k n rows (omega (arith, length-take n rows))
 
 -- ---- what the tests found, of the first n nodes and the first m edges: `count` is m, or the room
-module _ (ns es : List ℕ) (n m : ℕ) (ids : List ℕ) (live : ℕ) (lv : Lived ids live (take n (nodes_in ns))) (count : ℕ) (c : count ≡ min m (length es / 3)) (from to : List ℕ) (en : Ends from to (take live ids) (take count (edges_in es))) where
+module _ (ns es : List ℕ) (n m : ℕ) (ids : List ℕ) (live : ℕ) (lv : Lived ids live (take n (nodes_in ns))) (words : length es ≡ 3072) (count : ℕ) (c : count ≡ min m 1024) (from to : List ℕ) (en : Ends from to (take live ids) (take count (edges_in es))) where
   all_edges : take count (edges_in es) ≡ take m (edges_in es)
-  all_edges = take_count 3 edge_of es m count c
+  all_edges = take_count 3 edge_of es m count (omega arith)
 
   many_edges : length (take count (edges_in es)) ≡ count
   many_edges = length-take-le count (edges_in es) (omega (arith, rows_long 3 edge_of es))

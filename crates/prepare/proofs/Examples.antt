@@ -1,4 +1,5 @@
 -- Worked examples over the definitions, in a table that one computed check proves.
+use Rattle.std.specs.Prelude.{Ok}
 use Prim.Native.Nat.{ℕ}
 use mathlib.Core.Path.{◌≡◌, refl}
 use mathlib.Core.List.{List, [], ◌∷◌, map}
@@ -10,7 +11,6 @@ use Rattle.node.specs.declared.record.Edge.{Edge}
 use Rattle.node.specs.declared.order.LastOrder.TheVariants.{Nothing}
 use Rattle.node.specs.declared.refusal.Refusal.TheVariants.{RequiredPort, Cycle}
 use Rattle.rank.specs.Order.{among, fed, released, walk, order, whole, count_up}
-use Rattle.prepare.specs.declared.Readiness.TheVariants.{Ready}
 use Rattle.prepare.specs.Live.{rising_from, live_nodes, live_ids, as_id, processing_order}
 use Rattle.prepare.specs.Required.{any, lacks, lacking}
 use Rattle.prepare.specs.Prepare.{Outcome, refused, prepare}
@@ -36,7 +36,7 @@ unfoldable pub edge : ℕ → ℕ → ℕ → Edge
 edge a b p = record { from = record { 0 = a }; to = record { 0 = b }; port = p }
 
 abbrev ready : List ℕ → Outcome
-ready l = record { answer = Ready; order = map as_id l }
+ready l = record { answer = Ok tt; order = map as_id l }
 
 -- a graph, and what prepare makes of it
 pub record Row : Type 0 where

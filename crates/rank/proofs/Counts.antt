@@ -11,7 +11,7 @@ use borrow.Author.Tests.{eq-eqb, ne_eqb, lt-ltb, le-ltb}
 use lib.Dec.{eqb, ltb}
 use lib.ListN.{length, take, drop, get_or, get_or-eq_default, drop_of_length-le}
 use lib.Seq.{length-take-le, append_snoc, take_all, take-suc, drop-cons, take-append-le, drop-append-le}
-use Rattle.lists.specs.Filter.{put?, filter}
+use Rattle.std.specs.Prelude.{cond, filter}
 use Rattle.lists.proofs.Filter.{filter_filter, filter_same}
 use Rattle.lists.specs.Count.{more, count}
 use Rattle.lists.proofs.Count.{count_append}
@@ -48,7 +48,7 @@ count_split p t [] = refl
 count_split p t (x ∷ l) = go (t x) (p x) refl refl (count_split p t l)
   where
     go : (a b : Bool) → t x ≡ a → p x ≡ b → count p (filter t l) + count p (filter (λ x. not (t x)) l) ≡ count p l
-        → count p (put? a x (filter t l)) + count p (put? (not a) x (filter (λ x. not (t x)) l)) ≡ more b (count p l)
+        → count p (cond a (x ∷ (filter t l)) (filter t l)) + count p (cond (not a) (x ∷ (filter (λ x. not (t x)) l)) (filter (λ x. not (t x)) l)) ≡ more b (count p l)
     go true true e f h = rw f (omega arith)
     go true false e f h = rw f h
     go false true e f h = rw f (omega arith)
@@ -110,11 +110,11 @@ opens_into n q [] v h = refl
 opens_into n q (e ∷ es) v h = go (ltb e.from n) (eqb e.to v) refl (ltb e.to n) refl (among e.from q) (ℕ_discrete e.to v) (opens_into n q es v h)
   where
     go : (f t : Bool) → eqb e.to v ≡ t → (b : Bool) → ltb e.to n ≡ b → (m : Bool) → Dec (e.to ≡ v) → opens n q es v ≡ into v (left n q es)
-        → more ((f && t) && not m) (opens n q es v) ≡ into v (put? ((f && b) && not m) e (left n q es))
+        → more ((f && t) && not m) (opens n q es v) ≡ into v (cond ((f && b) && not m) (e ∷ (left n q es)) (left n q es))
     go false t et b eb m d ih = ih
     go true t et b eb m (no o) ih = let z : t ≡ false = sym et ∙ ne_eqb e.to v o in rw z (miss (b && not m))
       where
-        miss : (c : Bool) → opens n q es v ≡ into v (put? c e (left n q es))
+        miss : (c : Bool) → opens n q es v ≡ into v (cond c (e ∷ (left n q es)) (left n q es))
         miss true = rw (ne_eqb e.to v o) ih
         miss false = ih
     go true t et b eb m (yes p) ih =
@@ -123,7 +123,7 @@ opens_into n q (e ∷ es) v h = go (ltb e.from n) (eqb e.to v) refl (ltb e.to n)
         let y : b ≡ true = sym eb ∙ lt-ltb _ _ l in
         rw (z, y) (hit m)
       where
-        hit : (m : Bool) → more (not m) (opens n q es v) ≡ into v (put? (not m) e (left n q es))
+        hit : (m : Bool) → more (not m) (opens n q es v) ≡ into v (cond (not m) (e ∷ (left n q es)) (left n q es))
         hit true = ih
         hit false = rw (eq-eqb e.to v p) (ap suc ih)
 
@@ -146,9 +146,9 @@ module _ (n w : ℕ) (rest-left : List Arc) where
       Rest x = length x.counts ≡ n → ((v : ℕ) → v < n → get_or x.counts v 0 ≡ into v (mine n w es ++ rest-left)) → (serve w es x).queue ≡ x.queue ++ released (mine n w es) rest-left
 
       Goal : Bool → Bool → Type 0
-      Goal a b = (serve w es (pick_st a (fall t s) s)).queue ≡ s.queue ++ released (put? (a && b) e (mine n w es)) rest-left
+      Goal a b = (serve w es (pick_st a (fall t s) s)).queue ≡ s.queue ++ released (cond (a && b) (e ∷ (mine n w es)) (mine n w es)) rest-left
 
-      append : (b : Bool) (r : List ℕ) → app b s.queue t ++ r ≡ s.queue ++ put? b t r
+      append : (b : Bool) (r : List ℕ) → app b s.queue t ++ r ≡ s.queue ++ cond b (t ∷ r) r
       append true r = append_snoc s.queue t r
       append false r = refl
 
@@ -177,7 +177,7 @@ module _ (n w : ℕ) (rest-left : List Arc) where
           one (suc m) = let a : suc (suc m) ≢ 1 = λ z. omega arith in let b : suc m ≢ 0 = λ z. omega arith in ne_eqb (suc (suc m)) 1 a ∙ sym (ne_eqb (suc m) 0 b)
 
           last : (m : ℕ) → get_or s.counts t 0 ≡ suc m → m ≡ into t (mine n w es ++ rest-left)
-              → (fall t s).queue ++ released (mine n w es) rest-left ≡ s.queue ++ put? (not (fed t (mine n w es ++ rest-left))) t (released (mine n w es) rest-left)
+              → (fall t s).queue ++ released (mine n w es) rest-left ≡ s.queue ++ cond (not (fed t (mine n w es ++ rest-left))) (t ∷ (released (mine n w es) rest-left)) (released (mine n w es) rest-left)
           last m q r =
               ap (λ (z : List ℕ). z ++ released (mine n w es) rest-left) (fall_appends t s)
               ∙ ap (λ (b : Bool). app b s.queue t ++ released (mine n w es) rest-left) (ap (λ (x : ℕ). eqb x 1) q ∙ one m ∙ not_fed t m (mine n w es ++ rest-left) r)

@@ -12,7 +12,7 @@ use lib.Dec.{eqb, ltb}
 use lib.ListN.{length, take, get_or, set, length-append, length-set, get_or-eq_default, replicate, length-replicate, get_or-replicate}
 use lib.Seq.{get_or-set_other, take-append-le, take-suc, take_all}
 use Rattle.lists.specs.Count.{more}
-use Rattle.lists.specs.Filter.{put?}
+use Rattle.std.specs.Prelude.{cond}
 use Rattle.rank.specs.Order.{Arc, among, count_up, upto}
 use Rattle.lists.specs.Member.{In}
 use Rattle.rank.specs.Parts.{indeg, degs, ready, St, app, fall, pick_st, serve, run, start, order_rows}
@@ -249,7 +249,7 @@ ready_among [] v i h z = absurd (not-suc-le-zero h)
 ready_among (c ∷ cs) v zero h z = let q : v + 0 ≡ v = omega arith in rw (eq-eqb c 0 z, eq-eqb (v + 0) v q)
 ready_among (c ∷ cs) v (suc i) h z = go (eqb c 0) (ready_among cs (suc v) i (omega arith) z)
   where
-    go : (b : Bool) → among (suc v + i) (ready cs (suc v)) ≡ true → among (v + suc i) (put? b v (ready cs (suc v))) ≡ true
+    go : (b : Bool) → among (suc v + i) (ready cs (suc v)) ≡ true → among (v + suc i) (cond b (v ∷ (ready cs (suc v))) (ready cs (suc v))) ≡ true
     go true e =
         let q : v + suc i ≡ suc v + i = omega arith in
         let f : among (v + suc i) (ready cs (suc v)) ≡ true = rw q e in

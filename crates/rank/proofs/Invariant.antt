@@ -12,7 +12,7 @@ use lib.Dec.{eqb, ltb}
 use lib.ListN.{length, take, get_or, length-append, get_or-append}
 use lib.Seq.{take-append-le, take-suc, get_or-append_seam, take-append_seam}
 use Rattle.lists.specs.Count.{more}
-use Rattle.lists.specs.Filter.{put?}
+use Rattle.std.specs.Prelude.{cond}
 use Rattle.rank.specs.Order.{Arc, among, upto}
 use Rattle.lists.specs.Member.{In}
 use Rattle.rank.specs.Parts.{indeg, degs, ready, St, app, fall, pick_st, serve, run, start, order_rows}
@@ -203,7 +203,7 @@ unfolding ready
 ready_above [] v j h = absurd (not-suc-le-zero h)
 ready_above (c ∷ cs) v j h = go (ready_above cs (suc v)) (eqb c 0) j h
   where
-    go : ((j : ℕ) → j < length (ready cs (suc v)) → suc v ≤ get_or (ready cs (suc v)) j 0) → (b : Bool) (j : ℕ) → j < length (put? b v (ready cs (suc v))) → v ≤ get_or (put? b v (ready cs (suc v))) j 0
+    go : ((j : ℕ) → j < length (ready cs (suc v)) → suc v ≤ get_or (ready cs (suc v)) j 0) → (b : Bool) (j : ℕ) → j < length (cond b (v ∷ (ready cs (suc v))) (ready cs (suc v))) → v ≤ get_or (cond b (v ∷ (ready cs (suc v))) (ready cs (suc v))) j 0
     go ih true zero h = le_refl v
     go ih true (suc j) h = omega (arith, ih j (omega arith))
     go ih false j h = omega (arith, ih j h)
@@ -214,7 +214,7 @@ ready_fresh [] v j h = absurd (not-suc-le-zero h)
 ready_fresh (c ∷ cs) v j h = go (ready_fresh cs (suc v)) (eqb c 0) j h
   where
     go : ((j : ℕ) → j < length (ready cs (suc v)) → among (get_or (ready cs (suc v)) j 0) (take j (ready cs (suc v))) ≡ false)
-        → (b : Bool) (j : ℕ) → j < length (put? b v (ready cs (suc v))) → among (get_or (put? b v (ready cs (suc v))) j 0) (take j (put? b v (ready cs (suc v)))) ≡ false
+        → (b : Bool) (j : ℕ) → j < length (cond b (v ∷ (ready cs (suc v))) (ready cs (suc v))) → among (get_or (cond b (v ∷ (ready cs (suc v))) (ready cs (suc v))) j 0) (take j (cond b (v ∷ (ready cs (suc v))) (ready cs (suc v)))) ≡ false
     go ih true zero h = refl
     go ih true (suc j) h =
         let lt : j < length (ready cs (suc v)) = omega arith in
@@ -230,7 +230,7 @@ ready_zero (c ∷ cs) v x h = go (ready_zero cs (suc v) x) (ℕ_discrete c 0) (�
     up : (suc v ≤ x) × (get_or cs (x - suc v) 0 ≡ 0) → (v ≤ x) × (get_or (c ∷ cs) (x - v) 0 ≡ 0)
     up r = let z : x - v ≡ suc (x - suc v) = omega (arith, r.0) in (omega (arith, r.0), rw z r.1)
 
-    go : (among x (ready cs (suc v)) ≡ true → (suc v ≤ x) × (get_or cs (x - suc v) 0 ≡ 0)) → Dec (c ≡ 0) → Dec (x ≡ v) → among x (put? (eqb c 0) v (ready cs (suc v))) ≡ true
+    go : (among x (ready cs (suc v)) ≡ true → (suc v ≤ x) × (get_or cs (x - suc v) 0 ≡ 0)) → Dec (c ≡ 0) → Dec (x ≡ v) → among x (cond (eqb c 0) (v ∷ (ready cs (suc v))) (ready cs (suc v))) ≡ true
         → (v ≤ x) × (get_or (c ∷ cs) (x - v) 0 ≡ 0)
     go ih (yes e) (yes p) h = let z : x - v ≡ 0 = omega arith in (omega arith, rw z e)
     go ih (yes e) (no p) h = up (ih (rw (eq-eqb c 0 e, ne_eqb x v p) at h))

@@ -13,7 +13,7 @@ use lib.ListN.{length, get_or, length-map, length-append}
 use lib.Seq.{append_snoc, get_or-append_seam}
 use Rattle.lists.specs.Member.{In}
 use Rattle.lists.proofs.Member.{and_left, and_right, in_append, map_append}
-use Rattle.lists.specs.Filter.{put?, filter}
+use Rattle.std.specs.Prelude.{filter}
 use Rattle.lists.proofs.Filter.{in_filter}
 use Rattle.rank.specs.Order.{Arc, arc, among, fed, live, own, others, released, walk, order, whole, count_up, upto}
 use Rattle.rank.specs.Cycle.{Distinct}
@@ -26,7 +26,7 @@ filter_map_in : {A B : Type 0} (f : A → B) (q : B → Bool) (r : A → Bool) (
 filter_map_in f q r [] h = refl
 filter_map_in f q r (x ∷ l) h = rw (h x (inl refl), filter_map_in f q r l (λ y m. h y (inr m))) (go (r x))
   where
-    go : (b : Bool) → put? b (f x) (map f (filter r l)) ≡ map f (put? b x (filter r l))
+    go : (b : Bool) → cond b ((f x) ∷ (map f (filter r l))) (map f (filter r l)) ≡ map f (cond b (x ∷ (filter r l)) (filter r l))
     go true = refl
     go false = refl
 
@@ -62,7 +62,7 @@ module _ (f : ℕ → ℕ) (n : ℕ) (apart : (a b : ℕ) → a < n → b < n �
       ap (fed (f e.to)) (sym (map_append named mine left)) ∙ fed_named (mine ++ left) e.to all (h e (inl refl)).1 in
       rw (t, released_named mine left rest k) (go (not (fed e.to (mine ++ left))))
     where
-      go : (b : Bool) → put? b (f e.to) (map f (released mine left)) ≡ map f (put? b e.to (released mine left))
+      go : (b : Bool) → cond b ((f e.to) ∷ (map f (released mine left))) (map f (released mine left)) ≡ map f (cond b (e.to ∷ (released mine left)) (released mine left))
       go true = refl
       go false = refl
 
@@ -71,7 +71,7 @@ module _ (f : ℕ → ℕ) (n : ℕ) (apart : (a b : ℕ) → a < n → b < n �
   in_released [] left h x m = absurd m
   in_released (e ∷ mine) left h x m = go (not (fed e.to (mine ++ left))) m (in_released mine left (λ y i. h y (inr i)) x)
     where
-      go : (b : Bool) → In x (put? b e.to (released mine left)) → (In x (released mine left) → x < n) → x < n
+      go : (b : Bool) → In x (cond b (e.to ∷ (released mine left)) (released mine left)) → (In x (released mine left) → x < n) → x < n
       go true (inl p) ih = rw p (h e (inl refl)).1
       go true (inr i) ih = ih i
       go false i ih = ih i
@@ -171,7 +171,7 @@ module _ (names : List ℕ) (d : Distinct names) where
       (go (dec_lt (row_of names e.from) n) (dec_lt (row_of names e.to) n) (live_named es))
     where
       Same : Bool → Type 0
-      Same b = put? b e (live names es) ≡ map call (put? b (row_arc names e) (live (upto n) (map (row_arc names) es)))
+      Same b = cond b (e ∷ (live names es)) (live names es) ≡ map call (cond b ((row_arc names e) ∷ (live (upto n) (map (row_arc names) es))) (live (upto n) (map (row_arc names) es)))
 
       go : Dec (row_of names e.from < n) → Dec (row_of names e.to < n) → live names es ≡ map call (live (upto n) (map (row_arc names) es))
           → Same (ltb (row_of names e.from) n && ltb (row_of names e.to) n)

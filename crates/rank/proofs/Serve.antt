@@ -13,7 +13,6 @@ use lib.Dec.{eqb}
 use lib.ListN.{length, take, drop, get_or, set, length-set, get_or-eq_default}
 use lib.Seq.{get_or-take, length-take-le, get_or-set_same, get_or-set_other, drop-drop, drop-nil, take-suc-set, take-set-lt, set-get_or}
 use Rattle.lists.specs.Count.{more}
-use Rattle.lists.specs.Filter.{put?}
 use Rattle.rank.specs.Order.{Arc, arc, arcs}
 use Rattle.rank.specs.Parts.{ready, St, fall, pick_st, serve, run, order_rows, start}
 use Rattle.rank.specs.declared.Queue.{Queue}
@@ -60,7 +59,7 @@ unfolding ready zeros
 ready_length [] v = refl
 ready_length (c ∷ cs) v = go (eqb c 0) (ready_length cs (suc v))
   where
-    go : (b : Bool) → length (ready cs (suc v)) ≡ zeros cs → length (put? b v (ready cs (suc v))) ≡ more b (zeros cs)
+    go : (b : Bool) → length (ready cs (suc v)) ≡ zeros cs → length (cond b (v ∷ (ready cs (suc v))) (ready cs (suc v))) ≡ more b (zeros cs)
     go true e = ap suc e
     go false e = e
 
@@ -70,7 +69,7 @@ ready_below [] v j h = absurd (not-suc-le-zero h)
 ready_below (c ∷ cs) v j h = go (ready_below cs (suc v)) (eqb c 0) j h
   where
     go : ((j : ℕ) → j < length (ready cs (suc v)) → get_or (ready cs (suc v)) j 0 < suc v + length cs)
-        → (b : Bool) (j : ℕ) → j < length (put? b v (ready cs (suc v))) → get_or (put? b v (ready cs (suc v))) j 0 < v + suc (length cs)
+        → (b : Bool) (j : ℕ) → j < length (cond b (v ∷ (ready cs (suc v))) (ready cs (suc v))) → get_or (cond b (v ∷ (ready cs (suc v))) (ready cs (suc v))) j 0 < v + suc (length cs)
     go ih true zero h = omega arith
     go ih true (suc j) h = omega (arith, ih j (omega arith))
     go ih false j h = omega (arith, ih j h)

@@ -1,8 +1,7 @@
 -- The order in which nodes are processed: "live nodes without a live source by rising id; then, walking that queue, each
 -- target whose last source has been served, in edge order." Here nodes are numbers, listed as they are to be taken, and
 -- arcs are pairs of numbers: a graph's node ids with its edges, or a definition's node indices with its edges.
-use Rattle.std.specs.Prelude.{ℕ, zero, suc, List, [], ◌∷◌, ◌++◌, Bool, false, ◌&&◌, ◌||◌, not, length, eqb}
-use Rattle.lists.specs.Filter.{put?, filter}
+use Rattle.std.specs.Prelude.{ℕ, zero, suc, List, [], ◌∷◌, ◌++◌, Bool, false, ◌&&◌, ◌||◌, not, length, eqb, cond, filter}
 
 pub record Arc : Type 0 where
   pub from : ℕ
@@ -36,7 +35,7 @@ others v = filter (λ e. not (eqb e.from v))
 -- when `left` are the arcs of those that are not served yet.
 unfoldable pub released : List Arc → List Arc → List ℕ
 released [] left = []
-released (e ∷ mine) left = put? (not (fed e.to (mine ++ left))) e.to (released mine left)
+released (e ∷ mine) left = cond (not (fed e.to (mine ++ left))) (e.to ∷ (released mine left)) (released mine left)
 
 -- The queue is walked, at most k nodes of it: its first is served, and what that releases is queued. `left` are the arcs
 -- of those that are not served yet.

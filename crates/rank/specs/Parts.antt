@@ -1,7 +1,6 @@
 -- What the parts of `ranked` compute, with counts in place of the arcs that are left. Nothing here has to be believed but
 -- `ranking_of`: proofs/Counts.antt shows that the counts give the order of specs/Order.antt.
 use Rattle.std.specs.Prelude.{ℕ, zero, suc, ◌+◌, ◌-◌, ◌<◌, ◌≤◌, List, [], ◌∷◌, ◌++◌, Bool, true, false, ◌&&◌, cond, ◌≡◌, length, take, drop, get_or, set, eqb, ltb}
-use Rattle.lists.specs.Filter.{put?}
 use Rattle.lists.specs.Count.{more}
 use Rattle.lists.specs.Table.{rows_of}
 use Rattle.rank.specs.Order.{Arc, arc, order, whole}
@@ -36,7 +35,7 @@ pub record Degrees (r : List ℕ) (n : ℕ) (es : List Arc) : Type 0 where
 -- the indices, from v on, whose count is 0
 unfoldable pub ready : List ℕ → ℕ → List ℕ
 ready [] v = []
-ready (c ∷ cs) v = put? (eqb c 0) v (ready cs (suc v))
+ready (c ∷ cs) v = cond (eqb c 0) (v ∷ (ready cs (suc v))) (ready cs (suc v))
 
 pub record Ready (r : Queue) (cs : List ℕ) : Type 0 where
   pub long : length r.rows ≡ 512

@@ -4,8 +4,6 @@ ghost use Rattle.std.specs.Prelude.{◌≡◌, min, ◌≤◌, length, take, rep
 ghost use Rattle.rank.specs.Order.{arcs, upto, order, whole};
 ghost use Rattle.rank.specs.Parts.{Degrees, Linked, Ready, Queued, ranking_of};
 
-pub use lists::number::at_most;
-
 // The order of nodes that are the indices 0 to n - 1: the first `count` of `rows`, and whether they are all.
 #[derive(Clone, Copy)]
 pub struct Ranking {
@@ -27,16 +25,11 @@ fn degrees(from: &[usize], to: &[usize], n: usize, m: usize) -> [usize; 512]
     ensures { Degrees result n (take m (arcs from.now to.now)) }
 {
     let mut counts = [0usize; 512];
-    let mut i: usize = 0;
-    while i < m {
-        let f = from[i];
+    for i in 0..m {
         let t = to[i];
-        if f < n {
-            if t < n {
-                counts[t] += 1;
-            }
+        if from[i] < n && t < n {
+            counts[t] += 1;
         }
-        i += 1;
     }
     counts
 }
@@ -48,9 +41,7 @@ fn linked(from: &[usize], to: &[usize], n: usize, m: usize, first: &mut [usize],
     requires m_in_bounds { (m ≤ length from.now) × (m ≤ length to.now) }
     ensures { Linked first.new next.new n (take m (arcs from.now to.now)) }
 {
-    let mut i = m;
-    while 0 < i {
-        i -= 1;
+    for i in (0..m).rev() {
         let v = from[i];
         if v < n {
             next[i] = first[v];
@@ -66,13 +57,11 @@ fn ready(counts: &[usize], n: usize) -> Queue
 {
     let mut queue = [0usize; 512];
     let mut tail: usize = 0;
-    let mut v: usize = 0;
-    while v < n {
+    for v in 0..n {
         if counts[v] == 0 {
             queue[tail] = v;
             tail += 1;
         }
-        v += 1;
     }
     Queue {
         rows: queue,
@@ -126,14 +115,13 @@ pub fn ranked(n: usize, from: &[usize], to: &[usize]) -> Ranking
     ensures all { result.whole ≡ whole (upto (min n 512)) (take 1024 (arcs from.now to.now)) }
     ensures sized { (length result.rows ≡ 512) × (result.count ≡ length (ranking_of result)) }
 {
-    let k = at_most(n, 512);
-    let m = at_most(at_most(from.len(), to.len()), 1024);
+    let k = n.min(512);
+    let m = from.len().min(to.len()).min(1024);
     let q = queued(from, to, k, m);
     let rows = q.rows;
-    let count = q.count;
     Ranking {
-        rows: rows,
-        count: count,
-        whole: count == k,
+        rows,
+        count: q.count,
+        whole: q.count == k,
     }
 }

@@ -5,15 +5,14 @@ use native.Mathlib.Omega.{arith}
 use mathlib.Core.Path.{◌≡◌, refl, sym, ap, ◌∙◌}
 use mathlib.Core.Logic.{◌⊎◌, inl, inr, ⊎_elim}
 use mathlib.Core.List.{List, [], ◌∷◌, ◌++◌}
-use mathlib.Core.Option.{Option, none, some}
+use Rattle.node.specs.declared.refusal.Refusal.{Refusal}
+use Rattle.std.specs.Prelude.{Option, None, Some, filter, Err, Ok, Result}
 use mathlib.Core.Bool.{Bool, true, false, ◌&&◌, not, cond, false≢true}
 use lib.Dec.{eqb, leb}
 use lib.ListN.{length}
 use borrow.Author.Tests.{eqb-true, eq-eqb, ne_eqb, ltb-true, leb-true, leb-false, lt-leb}
 use Rattle.lists.specs.Member.{In}
-use Rattle.lists.specs.Filter.{put?, filter}
-use Rattle.lists.specs.Find.{or?}
-use Rattle.lists.proofs.Member.{some_inj, none_some, and_left, and_right, both}
+use Rattle.lists.proofs.Member.{ok_err, some_inj, none_some, and_left, and_right, both}
 use Rattle.lists.proofs.Filter.{length_filter, filter_same, filter_filter}
 use Rattle.node.specs.Name.{named, text, same_name}
 use Rattle.node.specs.declared.name.Name.{Name}
@@ -25,7 +24,6 @@ use Rattle.scheduler.specs.Event.{gate_name, param_of}
 use Rattle.scheduler.specs.Replace.{same_sort, replaces, thinned}
 use Rattle.scheduler.specs.Queue.{later, replacing, full, queue_after, answer_to}
 use Rattle.scheduler.specs.declared.event.Event.{Event}
-use Rattle.scheduler.specs.declared.queue.ScheduleAnswer.TheVariants.{Taken, Refused}
 use Rattle.scheduler.proofs.Sorted.{Sorted, filter_sorted, inserted_sorted, inserted_place, length_inserted}
 
 -- ---- what an event orders: a value or a glide, for the parameter of these bytes; nothing where it is a free or has no name
@@ -38,36 +36,36 @@ pub record Ordered : Type 0 where
   pub parameter : List ℕ
 
 abbrev pub under : Sort → Name → Option Ordered
-under s n = or? (named n) (record { sort = s; parameter = text n }) none
+under s n = cond (named n) (Some (record { sort = s; parameter = text n })) None
 
 -- "A gate counts as a value for `gate`"
 abbrev pub ordered : EventAction → Name → Option Ordered
 ordered (action.Value x) n = under value n
 ordered (action.Glide g) n = under glide n
-ordered (action.Gate x) n = some (record { sort = value; parameter = 103 ∷ 97 ∷ 116 ∷ 101 ∷ [] })
-ordered action.Free n = none
+ordered (action.Gate x) n = Some (record { sort = value; parameter = 103 ∷ 97 ∷ 116 ∷ 101 ∷ [] })
+ordered action.Free n = None
 
 -- "the same voice, parameter and time", and the same sort
 pub record Alike (e f : Event) : Type 0 where
   pub time : e.time ≡ f.time
   pub voice : e.voice.0 ≡ f.voice.0
   pub what : Ordered
-  pub mine : ordered e.action e.name ≡ some what
-  pub theirs : ordered f.action f.name ≡ some what
+  pub mine : ordered e.action e.name ≡ Some what
+  pub theirs : ordered f.action f.name ≡ Some what
 
 -- ---- exactly such events are replaced
-under_to : (s : Sort) (m n : Name) → same_name m n ≡ true → (k : Ordered) × (under s m ≡ some k) × (under s n ≡ some k)
+under_to : (s : Sort) (m n : Name) → same_name m n ≡ true → (k : Ordered) × (under s m ≡ Some k) × (under s n ≡ Some k)
 under_to s m n h =
     let r = same_to m n h in (
       record { sort = s; parameter = text m },
-      ap (λ b. or? b (record { sort = s; parameter = text m }) none) r.first,
-      ap (λ b. or? b (record { sort = s; parameter = text n }) none) r.second ∙ ap (λ t. some (record { sort = s; parameter = t })) (sym r.string),
+      ap (λ b. cond b (Some (record { sort = s; parameter = text m })) None) r.first,
+      ap (λ b. cond b (Some (record { sort = s; parameter = text n })) None) r.second ∙ ap (λ t. Some (record { sort = s; parameter = t })) (sym r.string),
     )
 
-under_from : (s u : Sort) (m n : Name) (k : Ordered) → under s m ≡ some k → under u n ≡ some k → (s ≡ u) × (same_name m n ≡ true)
+under_from : (s u : Sort) (m n : Name) (k : Ordered) → under s m ≡ Some k → under u n ≡ Some k → (s ≡ u) × (same_name m n ≡ true)
 under_from s u m n k = go (named m) refl (named n) refl
   where
-    go : (a : Bool) → named m ≡ a → (b : Bool) → named n ≡ b → or? a (record { sort = s; parameter = text m }) none ≡ some k → or? b (record { sort = u; parameter = text n }) none ≡ some k → (s ≡ u) × (same_name m n ≡ true)
+    go : (a : Bool) → named m ≡ a → (b : Bool) → named n ≡ b → cond a (Some (record { sort = s; parameter = text m })) None ≡ Some k → cond b (Some (record { sort = u; parameter = text n })) None ≡ Some k → (s ≡ u) × (same_name m n ≡ true)
     go true p true q x y =
         let z = some_inj (x ∙ sym y) in
         (ap (λ (o : Ordered). o.sort) z, same_from m n (record { first = p; second = q; string = ap (λ (o : Ordered). o.parameter) z }))
@@ -78,7 +76,7 @@ value_glide : value ≡ glide → ⊥
 value_glide e = let z : ◌≡◌ {A = ℕ} 0 1 = cc in absurd (omega arith)
 
 module _ (m n : Name) where
-  alike_to : (a b : EventAction) → same_sort a b ≡ true → same_name (param_of a m) (param_of b n) ≡ true → (k : Ordered) × (ordered a m ≡ some k) × (ordered b n ≡ some k)
+  alike_to : (a b : EventAction) → same_sort a b ≡ true → same_name (param_of a m) (param_of b n) ≡ true → (k : Ordered) × (ordered a m ≡ Some k) × (ordered b n ≡ Some k)
   alike_to (action.Value x) (action.Value y) s h = under_to value m n h
   alike_to (action.Value x) (action.Glide g) s h = absurd (false≢true s)
   alike_to (action.Value x) (action.Gate y) s h = under_to value m gate_name h
@@ -93,7 +91,7 @@ module _ (m n : Name) where
   alike_to (action.Gate x) action.Free s h = absurd (false≢true s)
   alike_to action.Free b s h = absurd (false≢true s)
 
-  alike_from : (a b : EventAction) (k : Ordered) → ordered a m ≡ some k → ordered b n ≡ some k → (same_sort a b ≡ true) × (same_name (param_of a m) (param_of b n) ≡ true)
+  alike_from : (a b : EventAction) (k : Ordered) → ordered a m ≡ Some k → ordered b n ≡ Some k → (same_sort a b ≡ true) × (same_name (param_of a m) (param_of b n) ≡ true)
   alike_from (action.Value x) (action.Value y) k p q = (refl, (under_from value value m n k p q).1)
   alike_from (action.Value x) (action.Glide g) k p q = absurd (value_glide (under_from value glide m n k p q).0)
   alike_from (action.Value x) (action.Gate y) k p q = (refl, (under_from value value m gate_name k p q).1)
@@ -181,7 +179,7 @@ thinned_less e (g ∷ l) f (inl p) h =
     rw off (let k : length (thinned e l) ≤ length l = length_filter (λ x. not (replaces e x)) l in omega arith)
 thinned_less e (g ∷ l) f (inr i) h = go (not (replaces e g)) (thinned_less e l f i h)
   where
-    go : (b : Bool) → length (thinned e l) < length l → length (put? b g (thinned e l)) < length (g ∷ l)
+    go : (b : Bool) → length (thinned e l) < length l → length (cond b (g ∷ (thinned e l)) (thinned e l)) < length (g ∷ l)
     go true k = omega arith
     go false k = omega arith
 
@@ -189,7 +187,7 @@ less_thinned : (e : Event) (l : List Event) → length (thinned e l) < length l 
 less_thinned e [] h = absurd (omega arith)
 less_thinned e (g ∷ l) h = go (replaces e g) refl h (less_thinned e l)
   where
-    go : (b : Bool) → replaces e g ≡ b → length (put? (not b) g (thinned e l)) < length (g ∷ l)
+    go : (b : Bool) → replaces e g ≡ b → length (cond (not b) (g ∷ (thinned e l)) (thinned e l)) < length (g ∷ l)
         → (length (thinned e l) < length l → (f : Event) × In f l × (replaces e f ≡ true)) → (f : Event) × In f (g ∷ l) × (replaces e f ≡ true)
     go true p k ih = (g, inl refl, p)
     go false p k ih = let r = ih (omega arith) in (r.0, inr r.1, r.2)
@@ -197,20 +195,17 @@ less_thinned e (g ∷ l) h = go (replaces e g) refl h (less_thinned e l)
 abbrev pub Accepted : Event → List Event → Type 0
 Accepted e l = (length l < 256) ⊎ ((f : Event) × In f l × (replaces e f ≡ true))
 
-taken_refused : Taken ≡ Refused TableFull → ⊥
-taken_refused e = let z : ◌≡◌ {A = ℕ} 0 1 = cc in absurd (omega arith)
-
 module _ (e : Event) (l : List Event) (h : length l ≤ 256) where
-  pub room_taken : Accepted e l → answer_to e l ≡ Taken
+  pub room_taken : Accepted e l → answer_to e l ≡ Ok tt
   room_taken r =
       let all : length (thinned e l) ≤ length l = length_filter (λ f. not (replaces e f)) l in
       let less : length (thinned e l) < 256 = ⊎_elim (λ k. omega (arith, k, all)) (λ k. omega (arith, h, thinned_less e l k.0 k.1 k.2)) r in
-      ap (λ b. cond b (Refused TableFull) Taken) (lt-leb 256 (length (thinned e l)) less)
+      ap (λ b. cond b (Err TableFull) (Ok tt)) (lt-leb 256 (length (thinned e l)) less)
 
-  pub taken_room : answer_to e l ≡ Taken → Accepted e l
+  pub taken_room : answer_to e l ≡ Ok tt → Accepted e l
   taken_room t = go (full (thinned e l)) refl t (leb 256 (length l)) refl
     where
-      go : (b : Bool) → full (thinned e l) ≡ b → cond b (Refused TableFull) Taken ≡ Taken → (c : Bool) → leb 256 (length l) ≡ c → Accepted e l
-      go true p q c r = absurd (taken_refused (sym q))
+      go : (b : Bool) → full (thinned e l) ≡ b → ◌≡◌ {A = Result (Unit {0}) Refusal} (cond b (Err TableFull) (Ok tt)) (Ok tt) → (c : Bool) → leb 256 (length l) ≡ c → Accepted e l
+      go true p q c r = absurd (ok_err (sym q))
       go false p q false r = inl (leb-false 256 (length l) r)
       go false p q true r = inr (less_thinned e l (omega (arith, leb-false 256 (length (thinned e l)) p, leb-true 256 (length l) r)))

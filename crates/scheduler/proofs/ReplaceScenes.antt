@@ -1,4 +1,5 @@
 -- Scenes of Paper 9's rule on the queue alone, each with the wrong rule that it refuses.
+use Rattle.std.specs.Prelude.{Err, Ok}
 use Prim.Native.Nat.{ℕ}
 use mathlib.Core.Path.{◌≡◌, refl}
 use mathlib.Core.List.{List, [], ◌∷◌}
@@ -12,7 +13,6 @@ use Rattle.node.specs.declared.order.GlideSpace.TheVariants.{Raw}
 use Rattle.node.specs.declared.refusal.Refusal.TheVariants.{TableFull}
 use Rattle.scheduler.specs.Queue.{replacing, queue_after, answer_to}
 use Rattle.scheduler.specs.declared.event.Event.{Event}
-use Rattle.scheduler.specs.declared.queue.ScheduleAnswer.TheVariants.{Taken, Refused}
 
 module _ (x y z : Float) where
   abbrev at : ℕ → ℕ → List ℕ → EventAction → Event
@@ -81,8 +81,8 @@ module _ (x y z : Float) where
   crowd = at 4 1 cut (value x) ∷ replicate 255 (at 4 1 cut action.Free)
 
   room_made :
-      (answer_to (at 4 1 cut (value y)) crowd ≡ Taken)
+      (answer_to (at 4 1 cut (value y)) crowd ≡ Ok tt)
       × (queue_after (at 4 1 cut (value y)) crowd ≡ replacing (at 4 1 cut (value y)) crowd)
-      × (answer_to (at 4 1 gate (value y)) crowd ≡ Refused TableFull)
+      × (answer_to (at 4 1 gate (value y)) crowd ≡ Err TableFull)
       × (queue_after (at 4 1 gate (value y)) crowd ≡ crowd)
   room_made = (refl, refl, refl, refl)

@@ -10,7 +10,7 @@ use lib.ListN.{length}
 use lib.Dec.{ltb}
 use borrow.Author.Tests.{ltb-true, ltb-false, lt-ltb, le-ltb}
 use Rattle.lists.specs.Member.{In}
-use Rattle.lists.specs.Filter.{put?, filter}
+use Rattle.std.specs.Prelude.{cond, filter}
 use Rattle.lists.proofs.Filter.{in_filter, filter_all, filter_none}
 use Rattle.scheduler.specs.declared.event.Event.{Event}
 use Rattle.scheduler.specs.Queue.{later, before?, inserted, due, taken_before, left_after}
@@ -52,7 +52,7 @@ inserted_place e [] s = refl
 inserted_place e (f ∷ l) s = go (later e f) refl (inserted_place e l s.1)
   where
     go : (b : Bool) → later e f ≡ b → inserted e l ≡ filter (λ f. not (later e f)) l ++ (e ∷ filter (later e) l)
-        → before? b e f l (inserted e l) ≡ put? (not b) f (filter (λ f. not (later e f)) l) ++ (e ∷ put? b f (filter (later e) l))
+        → before? b e f l (inserted e l) ≡ cond (not b) (f ∷ (filter (λ f. not (later e f)) l)) (filter (λ f. not (later e f)) l) ++ (e ∷ cond b (f ∷ (filter (later e) l)) (filter (later e) l))
     go true t ih =
         let h : e.time < f.time = ltb-true _ _ t in
         let on : (x : Event) → In x l → later e x ≡ true = (λ x i. let k : e.time < x.time = omega (arith, s.0 x i) in lt-ltb _ _ k) in
@@ -65,7 +65,7 @@ pub filter_sorted : (t : Event → Bool) (l : List Event) → Sorted l → Sorte
 filter_sorted t [] s = tt
 filter_sorted t (e ∷ l) s = go (t e) (filter_sorted t l s.1)
   where
-    go : (b : Bool) → Sorted (filter t l) → Sorted (put? b e (filter t l))
+    go : (b : Bool) → Sorted (filter t l) → Sorted (cond b (e ∷ (filter t l)) (filter t l))
     go true ih = (λ f i. s.0 f (in_filter t l f i).0, ih)
     go false ih = ih
 
@@ -75,7 +75,7 @@ drained_prefix deadline [] s = refl
 drained_prefix deadline (e ∷ l) s = go (due deadline e) refl (drained_prefix deadline l s.1)
   where
     go : (b : Bool) → ltb e.time deadline ≡ b → l ≡ taken_before deadline l ++ left_after deadline l
-        → e ∷ l ≡ put? b e (taken_before deadline l) ++ put? (not b) e (left_after deadline l)
+        → e ∷ l ≡ cond b (e ∷ (taken_before deadline l)) (taken_before deadline l) ++ cond (not b) (e ∷ (left_after deadline l)) (left_after deadline l)
     go true t ih = ap (λ z. e ∷ z) ih
     go false t ih =
         let h : deadline ≤ e.time = ltb-false _ _ t in

@@ -1,14 +1,11 @@
 -- The queue of pending events: "Events are ordered by time, equal times by insertion. `drain_before` takes times strictly
 -- below the deadline."
-use Rattle.std.specs.Prelude.{ℕ, ◌≤◌, ◌≡◌, List, [], ◌∷◌, ◌++◌, Bool, true, false, not, cond, length, take, drop, leb, ltb}
-use Rattle.std.proofs.Math.Option.{Option, none, some}
-use Rattle.lists.specs.Filter.{filter}
+use Rattle.node.specs.declared.refusal.Refusal.{Refusal}
+use Rattle.std.specs.Prelude.{ℕ, ◌≤◌, ◌≡◌, List, [], ◌∷◌, ◌++◌, Bool, true, false, not, cond, length, take, drop, leb, ltb, Option, None, Some, filter, Result, Err, Ok}
 use Rattle.node.specs.Refusal.{number_of}
 use Rattle.node.specs.declared.refusal.Refusal.TheVariants.{TableFull}
 use Rattle.scheduler.specs.Replace.{thinned}
 use Rattle.scheduler.specs.declared.event.Event.{Event}
-use Rattle.scheduler.specs.declared.queue.ScheduleAnswer.{ScheduleAnswer}
-use Rattle.scheduler.specs.declared.queue.ScheduleAnswer.TheVariants.{Taken, Refused}
 
 -- ---- scheduling
 
@@ -46,16 +43,16 @@ full l = leb 256 (length l)
 abbrev pub queue_after : Event → List Event → List Event
 queue_after e l = cond (full (thinned e l)) l (replacing e l)
 
-abbrev pub answer_to : Event → List Event → ScheduleAnswer
-answer_to e l = cond (full (thinned e l)) (Refused TableFull) Taken
+abbrev pub answer_to : Event → List Event → Result (Unit {0}) Refusal
+answer_to e l = cond (full (thinned e l)) (Err TableFull) (Ok tt)
 
 -- the number that an answer stands for, or none
-abbrev pub answer_number : ScheduleAnswer → Option ℕ
-answer_number Taken = none
-answer_number (Refused r) = some (number_of r)
+abbrev pub answer_number : Result (Unit {0}) Refusal → Option ℕ
+answer_number (Ok tt) = None
+answer_number (Err r) = Some (number_of r)
 
 abbrev pub schedule_number : Event → List Event → Option ℕ
-schedule_number e l = cond (full (thinned e l)) (some 7) none
+schedule_number e l = cond (full (thinned e l)) (Some 7) None
 
 -- ---- taking what is due
 

@@ -1,7 +1,7 @@
 ghost use Rattle.std.specs.Prelude.{◌≡◌};
 ghost use Rattle.scheduler.specs.Event.{gate_name, param_order, order_of};
 
-use node::name::Name;
+use node::name::{Name, name_of};
 use node::order::{EventAction, LastOrder};
 use node::record::VoiceId;
 
@@ -26,25 +26,21 @@ pub struct ParamOrder {
 pub fn gate_name() -> Name
     ensures { result ≡ gate_name }
 {
-    Name {
-        bytes: [b'g', b'a', b't', b'e', 0, 0, 0, 0, 0, 0, 0, 0, 0, 0, 0, 0],
-        len: 4,
-    }
+    name_of(b"gate")
 }
 
 // The order that an event gives, and the parameter that it is for.
 pub fn param_order(e: Event) -> ParamOrder
     ensures { result ≡ param_order e }
 {
-    let action = e.action;
     let name = e.name;
-    match action {
+    match e.action {
         EventAction::Value(x) => ParamOrder {
-            name: name,
+            name,
             order: LastOrder::Value(x),
         },
         EventAction::Glide(glide) => ParamOrder {
-            name: name,
+            name,
             order: LastOrder::Glide(glide),
         },
         EventAction::Gate(x) => ParamOrder {
@@ -52,7 +48,7 @@ pub fn param_order(e: Event) -> ParamOrder
             order: LastOrder::Value(x),
         },
         EventAction::Free => ParamOrder {
-            name: name,
+            name,
             order: LastOrder::Nothing,
         },
     }

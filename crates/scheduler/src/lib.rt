@@ -3,4 +3,3 @@
 #![tactic(auto)]
 
 pub mod event;
-pub mod queue;

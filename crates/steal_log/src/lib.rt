@@ -7,9 +7,7 @@ ghost use Rattle.std.specs.Prelude.{◌≡◌, List, [], ℕ, length, get_or, se
 ghost use Rattle.voice.specs.Steals.{pushed, marked, found_at};
 ghost use Rattle.steal_log.specs.Rows.{steal_of, records_in, steals_in, log_in, Stands};
 
-use lists::number::at_most;
-use voice::policy::Level;
-use voice::steals::{StealFound, StealRecord, Steals};
+use voice::steals::{StealRecord, Steals};
 use voice_policy::steals::{mark_cut, push_steal, steal_at, steal_record};
 use words::fields::{flag_at, flag_word, float_at, float_word, high_word, long_at, low_word};
 use words::table::put_row;
@@ -55,48 +53,28 @@ pub fn record_at(t: &[u32], i: usize) -> StealRecord
 fn put_record(t: &mut [u32], i: usize, r: StealRecord)
     ensures { records_in t.new ≡ set (records_in t.old) i r }
 {
-    let ws = record_words(r);
-    put_row(t, 5, i, &ws);
-}
-
-fn read_all(t: &[u32], total: u64, next: usize) -> Steals
-    requires { length t.now ≡ 320 }
-    ensures { result ≡ steals_in t.now total next }
-{
-    let none = steal_record(0, Level::Unknown, false);
-    let mut rows = [none; 64];
-    let mut i: usize = 0;
-    while i < 64 {
-        rows[i] = record_at(t, i);
-        i += 1;
-    }
-    Steals { rows, total, next }
-}
-
-fn write_all(t: &mut [u32], s: Steals)
-    requires { length t.old ≡ 320 }
-    ensures { records_in t.new ≡ s.rows }
-{
-    let mut i: usize = 0;
-    while i < 64 {
-        let r = s.rows[i];
-        put_record(t, i, r);
-        i += 1;
-    }
+    put_row(t, 5, i, &record_words(r));
 }
 
 // The records that the words stand for, with the total and the next place.
 pub fn read_steals(t: &StealTable, total: u64, next: usize) -> Steals
     ensures { result ≡ steals_in t.now total next }
 {
-    read_all(t, total, next)
+    let none = steal_record(0, None, false);
+    let mut rows = [none; 64];
+    for (i, row) in rows.iter_mut().enumerate() {
+        *row = record_at(t, i);
+    }
+    Steals { rows, total, next }
 }
 
 // Writes the records: total and next place are for the store's state.
 pub fn write_steals(t: &mut StealTable, s: Steals) -> Ring
     ensures { steals_in t.new result.total result.next ≡ s }
 {
-    write_all(t, s);
+    for (i, r) in s.rows.iter().enumerate() {
+        put_record(t, i, *r);
+    }
     Ring {
         total: s.total,
         next: s.next,
@@ -107,31 +85,28 @@ pub fn write_steals(t: &mut StealTable, s: Steals) -> Ring
 pub fn log_steal(t: &mut StealTable, total: u64, next: usize, r: StealRecord) -> Ring
     ensures { log_in t.new result.total result.next ≡ pushed (log_in t.old total next) r }
 {
-    let old = read_steals(t, total, next);
-    let new = push_steal(old, r);
-    write_steals(t, new)
+    let steals = push_steal(read_steals(t, total, next), r);
+    write_steals(t, steals)
 }
 
 // The record of that number is cut, if it is still held. Records are numbered from 0.
 pub fn log_cut(t: &mut StealTable, total: u64, next: usize, number: u64) -> Ring
     ensures { log_in t.new result.total result.next ≡ marked (log_in t.old total next) number }
 {
-    let old = read_steals(t, total, next);
-    let new = mark_cut(old, number);
-    write_steals(t, new)
+    let steals = mark_cut(read_steals(t, total, next), number);
+    write_steals(t, steals)
 }
 
 // The record at the place `i` of those that are held, oldest first.
-pub fn logged_at(t: &StealTable, total: u64, next: usize, i: usize) -> StealFound
+pub fn logged_at(t: &StealTable, total: u64, next: usize, i: usize) -> Option<StealRecord>
     ensures { result ≡ found_at i (log_in t.now total next).newest }
 {
-    let s = read_steals(t, total, next);
-    steal_at(s, i)
+    steal_at(read_steals(t, total, next), i)
 }
 
 // How many records are held, where there were `total` steals.
 pub fn held_count(total: u64) -> usize
     ensures { (c : List ℕ) (next : ℕ) → length c ≡ 320 → result ≡ length (log_in c total next).newest }
 {
-    at_most(total as usize, 64)
+    (total as usize).min(64)
 }

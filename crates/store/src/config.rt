@@ -1,11 +1,11 @@
-use voice::policy::{Budget, BudgetScope, StealPolicy};
+use voice::policy::{BudgetScope, StealPolicy};
 
 // What a host asks for when it makes a store: the sample rate as it says it, and the rest as in `Config`.
 #[derive(Clone, Copy)]
 pub struct Making {
     pub rate: f32,
     pub block: usize,
-    pub budget: Budget,
+    pub budget: Option<usize>,
     pub policy: StealPolicy,
     pub scope: BudgetScope,
     pub table: bool,
@@ -17,7 +17,7 @@ pub struct Making {
 pub struct Config {
     pub rate: u32,
     pub block: usize,
-    pub budget: Budget,
+    pub budget: Option<usize>,
     pub policy: StealPolicy,
     pub scope: BudgetScope,
     pub table: bool,

@@ -4,16 +4,15 @@ use native.Mathlib.Omega.{arith}
 use mathlib.Core.Path.{◌≡◌, refl, sym, ap, ◌∙◌}
 use mathlib.Core.Logic.{inl, inr}
 use mathlib.Core.List.{List, [], ◌∷◌, ◌++◌, append-nil, append_assoc}
-use mathlib.Core.Option.{Option, none, some}
+use Rattle.std.specs.Prelude.{Option, None, Some, cond, filter, find, option_map}
 use mathlib.Core.Bool.{Bool, true, false, not, ◌&&◌, ◌||◌, false≢true}
 use lib.ListN.{length, length-take}
 use lib.Dec.{eqb}
 use borrow.Author.Tests.{eqb-true}
 use Rattle.lists.specs.Member.{In}
 use Rattle.lists.proofs.Member.{and_left, and_right, some_inj, none_some}
-use Rattle.lists.specs.Filter.{put?, filter}
 use Rattle.lists.proofs.Filter.{filter_append, filter_all, filter_filter, filter_same}
-use Rattle.lists.specs.Find.{find, map_o, or?, Once}
+use Rattle.lists.specs.Find.{Once}
 use Rattle.lists.proofs.Find.{find_in, none_find}
 use Rattle.synthdef.specs.Rows.{any}
 use Rattle.synthdef.specs.Tables.{edge_rows, edge_table}
@@ -27,7 +26,7 @@ pub counted_in : (es : List DefEdge) (x : DefEdge) → In x (counted es) → In 
 counted_in [] x i = i
 counted_in (e ∷ es) x i = go (not (taken e es)) (counted_in es x) i
   where
-    go : (b : Bool) → (In x (counted es) → In x es) → In x (put? b e (counted es)) → In x (e ∷ es)
+    go : (b : Bool) → (In x (counted es) → In x es) → In x (cond b (e ∷ (counted es)) (counted es)) → In x (e ∷ es)
     go true ih (inl p) = inl p
     go true ih (inr j) = inr (ih j)
     go false ih j = inr (ih j)
@@ -36,7 +35,7 @@ pub length_counted : (es : List DefEdge) → length (counted es) ≤ length es
 length_counted [] = omega arith
 length_counted (e ∷ es) = go (not (taken e es)) (length_counted es)
   where
-    go : (b : Bool) → length (counted es) ≤ length es → length (put? b e (counted es)) ≤ suc (length es)
+    go : (b : Bool) → length (counted es) ≤ length es → length (cond b (e ∷ (counted es)) (counted es)) ≤ suc (length es)
     go true h = omega arith
     go false h = omega arith
 
@@ -63,7 +62,7 @@ connect_onto l (e ∷ es) =
     both_free : (m : List DefEdge) → filter (free es) (filter (away e) m) ≡ filter (free (e ∷ es)) m
     both_free m = filter_filter (free es) (away e) m ∙ filter_same _ (free (e ∷ es)) m (λ x i. de_morgan (ends_at x.to x.port e) (taken x es))
 
-    last : (b : Bool) → put? b e [] ++ counted es ≡ put? b e (counted es)
+    last : (b : Bool) → cond b (e ∷ []) [] ++ counted es ≡ cond b (e ∷ (counted es)) (counted es)
     last true = refl
     last false = refl
 
@@ -76,7 +75,7 @@ pub counted_once : (i p : ℕ) (es : List DefEdge) → Once (ends_at i p) (count
 counted_once i p [] x j h = absurd j
 counted_once i p (e ∷ es) x j h = go (taken e es) refl (λ m. counted_once i p es x m h) j
   where
-    away : any (ends_at e.to e.port) es ≡ false → ends_at i p e ≡ true → find (ends_at i p) (counted es) ≡ none
+    away : any (ends_at e.to e.port) es ≡ false → ends_at i p e ≡ true → find (ends_at i p) (counted es) ≡ None
     away f k =
         let t : e.to ≡ i = eqb-true _ _ (and_left _ _ k) in
         let q : e.port ≡ p = eqb-true _ _ (and_right (eqb e.to i) _ k) in
@@ -84,25 +83,25 @@ counted_once i p (e ∷ es) x j h = go (taken e es) refl (λ m. counted_once i p
         none_find (ends_at i p) (counted es) (λ y m. none_any (ends_at i p) es y f' (counted_in es y m))
 
     Later : Type 0
-    Later = In x (counted es) → find (ends_at i p) (counted es) ≡ some x
+    Later = In x (counted es) → find (ends_at i p) (counted es) ≡ Some x
 
-    here : taken e es ≡ false → (b : Bool) → ends_at i p e ≡ b → Later → In x (e ∷ counted es) → or? b e (find (ends_at i p) (counted es)) ≡ some x
-    here f true k ih (inl s) = ap some (sym s)
+    here : taken e es ≡ false → (b : Bool) → ends_at i p e ≡ b → Later → In x (e ∷ counted es) → cond b (Some e) (find (ends_at i p) (counted es)) ≡ Some x
+    here f true k ih (inl s) = ap Some (sym s)
     here f true k ih (inr m) = absurd (none_some (sym (away f k) ∙ ih m))
     here f false k ih (inl s) = absurd (false≢true (sym k ∙ sym (ap (ends_at i p) s) ∙ h))
     here f false k ih (inr m) = ih m
 
-    go : (b : Bool) → taken e es ≡ b → Later → In x (put? (not b) e (counted es)) → find (ends_at i p) (put? (not b) e (counted es)) ≡ some x
+    go : (b : Bool) → taken e es ≡ b → Later → In x (cond (not b) (e ∷ (counted es)) (counted es)) → find (ends_at i p) (cond (not b) (e ∷ (counted es)) (counted es)) ≡ Some x
     go true f ih m = ih m
     go false f ih m = here f (ends_at i p e) refl ih m
 
 -- the source of a port is that of a counted edge to it
-pub source_edge : (es : List DefEdge) (i p j : ℕ) → source_at es i p ≡ some j → (e : DefEdge) × In e es × (e.from ≡ j) × (e.to ≡ i)
+pub source_edge : (es : List DefEdge) (i p j : ℕ) → source_at es i p ≡ Some j → (e : DefEdge) × In e es × (e.from ≡ j) × (e.to ≡ i)
 source_edge es i p j h = go (find (ends_at i p) es) refl h
   where
-    go : (o : Option DefEdge) → find (ends_at i p) es ≡ o → map_o (λ e. e.from) o ≡ some j → (e : DefEdge) × In e es × (e.from ≡ j) × (e.to ≡ i)
-    go none e k = absurd (none_some k)
-    go (some x) e k =
+    go : (o : Option DefEdge) → find (ends_at i p) es ≡ o → option_map (λ e. e.from) o ≡ Some j → (e : DefEdge) × In e es × (e.from ≡ j) × (e.to ≡ i)
+    go None e k = absurd (none_some k)
+    go (Some x) e k =
         let f = find_in (ends_at i p) es x e in
         (x, f.0, some_inj k, eqb-true _ _ (and_left _ _ f.1))
 

@@ -1,16 +1,16 @@
 -- Passes over the steps settle: each adds silent nodes to those before, and there are 24 to add.
-use Prim.Native.Nat.{ℕ, zero, suc, ◌+◌, ◌-◌, ◌≤◌, ◌<◌}
+use Prim.Native.Nat.{ℕ, zero, suc, ◌+◌, ◌≤◌}
 use native.Mathlib.Omega.{arith}
 use mathlib.Core.Path.{◌≡◌, refl, sym, ap, ◌∙◌}
 use mathlib.Core.Logic.{◌⊎◌, inl, inr, ⊎_elim}
 use mathlib.Core.List.{List, [], ◌∷◌}
-use mathlib.Core.Bool.{Bool, true, false, ◌&&◌, ◌||◌, cond, beq, false≢true}
+use mathlib.Core.Bool.{Bool, true, false, ◌||◌, cond, false≢true}
 use lib.ListN.{length, get_or, replicate}
 use Rattle.lists.proofs.Member.{and_left, and_right, both}
 use Rattle.lists.specs.Count.{count}
 use Rattle.lists.proofs.Count.{count_length}
 use Rattle.synthdef.specs.Rows.{every, any}
-use Rattle.synthdef.specs.Plan.{step_sources, silent_in, says, pass_from, pass, passes, same_flags, settled, plan_silent}
+use Rattle.synthdef.specs.Plan.{step_sources, silent_in, says, pass_from, pass, passes, settled, plan_silent}
 use Rattle.synthdef.specs.declared.plan.DoneStep.{DoneStep}
 use Rattle.synthdef.specs.declared.plan.DonePlan.{DonePlan}
 
@@ -82,10 +82,6 @@ module _ (sts : List DoneStep) (done : List Bool) where
   stays zero s e = refl
   stays (suc k) s e = ap (passes k sts done) e ∙ stays k s e
 
-  pub next_pass : (k : ℕ) (s : List Bool) → 0 < k → passes k sts done s ≡ passes (k - 1) sts done (pass sts done s)
-  next_pass zero s h = absurd (omega arith)
-  next_pass (suc k) s h = let e : suc k - 1 ≡ k = omega arith in ap (λ m. passes m sts done (pass sts done s)) (sym e)
-
   settles : (k : ℕ) (s : List Bool) → length s ≡ length sts → Grows s (pass sts done s) → length sts ≤ silents s + k
       → pass sts done (passes k sts done s) ≡ passes k sts done s
   settles zero s l g h = ⊎_elim sym full (grown s (pass sts done s) (l ∙ sym (length_pass sts done s 0)) g)
@@ -107,19 +103,6 @@ module _ (sts : List DoneStep) (done : List Bool) where
   unfolding settled
   settled_stays l =
       settles 24 (replicate 24 false) (sym l) (λ j h. absurd (false≢true (sym (silent_none 24 j) ∙ h))) (omega arith)
-
--- flags that are told to be the same are
-pub same_same : (a b : List Bool) → length a ≡ length b → same_flags a b ≡ true → a ≡ b
-same_same [] [] l h = refl
-same_same [] (y ∷ b) l h = absurd (omega arith)
-same_same (x ∷ a) [] l h = absurd (false≢true h)
-same_same (x ∷ a) (y ∷ b) l h = go x y (same_same a b (omega arith)) h
-  where
-    go : (x y : Bool) → (same_flags a b ≡ true → a ≡ b) → (beq x y && same_flags a b) ≡ true → x ∷ a ≡ y ∷ b
-    go true true ih k = ap (λ l. true ∷ l) (ih k)
-    go true false ih k = absurd (false≢true k)
-    go false true ih k = absurd (false≢true k)
-    go false false ih k = ap (λ l. false ∷ l) (ih k)
 
 -- ---- only the flags of the nodes count: a list of them, and an array with clear flags past it, say the same
 module _ (a b : List Bool) (same : (i : ℕ) → get_or a i false ≡ get_or b i false) where

@@ -22,10 +22,6 @@ module _ {A : Type 0} where
   in_every q [] h = refl
   in_every q (y ∷ l) h = both (q y) (every q l) (h y (inl refl)) (in_every q l (λ x i. h x (inr i)))
 
-  pub any_none : (q : A → Bool) (l : List A) → ((x : A) → In x l → q x ≡ false) → any q l ≡ false
-  any_none q [] h = refl
-  any_none q (y ∷ l) h = rw (h y (inl refl)) (any_none q l (λ x i. h x (inr i)))
-
   pub none_any : (q : A → Bool) (l : List A) (x : A) → any q l ≡ false → In x l → q x ≡ false
   none_any q [] x h i = absurd i
   none_any q (y ∷ l) x h (inl p) = ap q p ∙ left (q y) h

@@ -3,7 +3,7 @@ use Prim.Native.Nat.{ℕ, zero, suc, ◌-◌, ◌≤◌, min}
 use native.Mathlib.Omega.{arith}
 use mathlib.Core.Path.{◌≡◌, refl, ap, ◌∙◌}
 use mathlib.Core.List.{List, []}
-use mathlib.Core.Option.{Option, none, some}
+use Rattle.std.specs.Prelude.{Option, None, Some}
 use mathlib.Core.Bool.{Bool, true, false, ◌&&◌, ◌||◌, cond, or-false}
 use lib.ListN.{length, replicate}
 use lib.Dec.{ltb, eqb, eqb-suc-suc}
@@ -25,8 +25,8 @@ module _ (es : List DefEdge) (i : ℕ) where
   length_sources p (suc k) = go (source_at es i p) (length_sources (suc p) k)
     where
       go : (o : Option ℕ) → length (sources_from es i (suc p) k) ≤ k → length (more o (sources_from es i (suc p) k)) ≤ suc k
-      go none h = omega arith
-      go (some j) h = omega arith
+      go None h = omega arith
+      go (Some j) h = omega arith
 
   -- f says which nodes are silent
   module _ (f : ℕ → Bool) where
@@ -40,8 +40,8 @@ module _ (es : List DefEdge) (i : ℕ) where
       where
         go : (o : Option ℕ) → any f (sources_from es i (suc p) k) ≡ any_from (suc p) k heard
             → any f (more o (sources_from es i (suc p) k)) ≡ (silent_source f o || any_from (suc p) k heard)
-        go none h = h
-        go (some j) h = ap (λ b. f j || b) h
+        go None h = h
+        go (Some j) h = ap (λ b. f j || b) h
 
     every_sources : (p k : ℕ) → (eqb (length (sources_from es i p k)) k && every f (sources_from es i p k)) ≡ every_from p k heard
     every_sources p zero = refl
@@ -55,8 +55,8 @@ module _ (es : List DefEdge) (i : ℕ) where
         go : (o : Option ℕ) → length (sources_from es i (suc p) k) ≤ k
             → (eqb (length (sources_from es i (suc p) k)) k && every f (sources_from es i (suc p) k)) ≡ every_from (suc p) k heard
             → (eqb (length (more o (sources_from es i (suc p) k))) (suc k) && every f (more o (sources_from es i (suc p) k))) ≡ (silent_source f o && every_from (suc p) k heard)
-        go none l h = rw (ne_eqb (length (sources_from es i (suc p) k)) (suc k) (λ e. omega arith))
-        go (some j) l h =
+        go None l h = rw (ne_eqb (length (sources_from es i (suc p) k)) (suc k) (λ e. omega arith))
+        go (Some j) l h =
             ap (λ b. b && (f j && every f (sources_from es i (suc p) k))) (eqb-suc-suc (length (sources_from es i (suc p) k)) k)
             ∙ swap (eqb (length (sources_from es i (suc p) k)) k) (f j) (every f (sources_from es i (suc p) k))
             ∙ ap (λ b. f j && b) h

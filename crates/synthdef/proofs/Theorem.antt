@@ -5,9 +5,9 @@ use native.Mathlib.Omega.{arith}
 use mathlib.Core.Path.{◌≡◌, refl, sym}
 use mathlib.Core.Logic.{inl, inr}
 use mathlib.Core.List.{List, [], ◌∷◌, map}
-use mathlib.Core.Option.{some}
+use Rattle.std.specs.Prelude.{Some, slice_get}
 use mathlib.Core.Bool.{Bool, true}
-use lib.ListN.{length, get_elem?, length-take}
+use lib.ListN.{length, length-take}
 use Rattle.lists.specs.Member.{In}
 use Rattle.lists.proofs.Member.{in_of_map, some_inj, none_some}
 use Rattle.rank.specs.Order.{upto, order}
@@ -37,7 +37,7 @@ pub record Answers (d : SynthDef) (done : List Bool) : Type 0 where
   pub only : (s : ℕ → Bool) → SilenceOf d done s → (i : ℕ) → i < length (node_rows d.nodes) → s i ≡ silent i
   pub plan : plan_silent (plan_of d) done ≡ silent d.output
 
-in_at : (ns : List DefNode) (i : ℕ) (n : DefNode) → get_elem? ns i ≡ some n → In n ns
+in_at : (ns : List DefNode) (i : ℕ) (n : DefNode) → slice_get ns i ≡ Some n → In n ns
 in_at [] i n h = absurd (none_some h)
 in_at (x ∷ ns) zero n h = inl (sym (some_inj h))
 in_at (x ∷ ns) (suc i) n h = inr (in_at ns i n h)

@@ -1,9 +1,6 @@
 -- Counted edges: "the last edge to a port counts". They stand in the order of their last occurrence, which is what connecting
 -- the edges one by one leaves (`connect_one_by_one` of `EdgeLaws`).
-use Rattle.std.specs.Prelude.{ℕ, List, [], ◌∷◌, ◌++◌, Bool, not, ◌&&◌, eqb}
-use Rattle.std.proofs.Math.Option.{Option}
-use Rattle.lists.specs.Filter.{put?, filter}
-use Rattle.lists.specs.Find.{find, map_o}
+use Rattle.std.specs.Prelude.{ℕ, List, [], ◌∷◌, ◌++◌, Bool, not, ◌&&◌, eqb, Option, cond, filter, find, option_map}
 use Rattle.synthdef.specs.Rows.{any}
 use Rattle.synthdef.specs.declared.def.DefEdge.{DefEdge}
 
@@ -18,11 +15,11 @@ taken e es = any (ends_at e.to e.port) es
 -- the edges that count: those to whose port no later edge goes
 abbrev pub counted : List DefEdge → List DefEdge
 counted [] = []
-counted (e ∷ es) = put? (not (taken e es)) e (counted es)
+counted (e ∷ es) = cond (not (taken e es)) (e ∷ (counted es)) (counted es)
 
 -- the source that is connected to port p of node i
 abbrev pub source_at : List DefEdge → ℕ → ℕ → Option ℕ
-source_at es i p = map_o (λ e. e.from) (find (ends_at i p) es)
+source_at es i p = option_map (λ e. e.from) (find (ends_at i p) es)
 
 -- Connecting, as the graph does: "`connect` drops the edge at that port and appends."
 abbrev pub connect : List DefEdge → DefEdge → List DefEdge

@@ -1,9 +1,7 @@
 -- The done plan: of each node the sources that its rule reads, and whether one or all of them have to be silent. A plan is evaluated
 -- on the done flags by passes over the nodes until nothing changes. That its answer meets the rule of `Silent` at every node, and that
 -- no other does, is the theorem `plan_answers` of proofs/Theorem.antt: nothing here has to be believed beside it.
-use Rattle.std.specs.Prelude.{ℕ, zero, suc, ◌-◌, min, List, [], ◌∷◌, ◌++◌, Bool, true, false, ◌&&◌, ◌||◌, cond, length, get_or, replicate, ltb, eqb}
-use Rattle.std.proofs.Math.Option.{Option, none, some}
-use Rattle.std.specs.Bool.{beq}
+use Rattle.std.specs.Prelude.{ℕ, zero, suc, ◌-◌, min, List, [], ◌∷◌, ◌++◌, Bool, true, false, ◌&&◌, ◌||◌, cond, length, get_or, replicate, ltb, eqb, Option, None, Some}
 use Rattle.lists.specs.Table.{rows_of}
 use Rattle.node.specs.Silence.{silence_of}
 use Rattle.node.specs.declared.silence.SilenceRule.{SilenceRule}
@@ -15,8 +13,6 @@ use Rattle.synthdef.specs.declared.def.DefNode.{DefNode}
 use Rattle.synthdef.specs.declared.def.DefEdge.{DefEdge}
 use Rattle.synthdef.specs.declared.def.SynthDef.{SynthDef}
 use Rattle.synthdef.specs.declared.plan.Span.{Span}
-use Rattle.synthdef.specs.declared.plan.Source.{Source}
-use Rattle.synthdef.specs.declared.plan.Source.TheVariants.{Node, Nothing}
 use Rattle.synthdef.specs.declared.plan.DoneStep.{DoneStep}
 use Rattle.synthdef.specs.declared.plan.DonePlan.{DonePlan}
 
@@ -49,15 +45,10 @@ is_every LevelPort = false
 is_every AmpPort = false
 is_every InPort = false
 
--- what is connected to a port, as the enum says it
-abbrev pub as_source : Option ℕ → Source
-as_source none = Nothing
-as_source (some j) = Node j
-
 -- the sources that are connected to the k ports from p on of node i
 abbrev pub more : Option ℕ → List ℕ → List ℕ
-more none l = l
-more (some j) l = j ∷ l
+more None l = l
+more (Some j) l = j ∷ l
 
 abbrev pub sources_from : List DefEdge → ℕ → ℕ → ℕ → List ℕ
 sources_from es i p zero = []
@@ -118,11 +109,6 @@ pass sts done s = pass_from sts done s 0
 abbrev pub passes : ℕ → List DoneStep → List Bool → List Bool → List Bool
 passes zero sts done s = s
 passes (suc k) sts done s = passes k sts done (pass sts done s)
-
-abbrev pub same_flags : List Bool → List Bool → Bool
-same_flags [] b = true
-same_flags (x ∷ a) [] = false
-same_flags (x ∷ a) (y ∷ b) = beq x y && same_flags a b
 
 -- no node is silent to begin with; each pass that changes anything adds one of the 24 rows
 unfoldable pub settled : List DoneStep → List Bool → List Bool

@@ -1,10 +1,9 @@
--- Whether every row, or some row, passes a test; and what a table holds that was filled from its front.
-use Rattle.std.specs.Prelude.{List, [], ◌∷◌, Bool, true, false, ◌&&◌, ◌||◌}
+-- Whether every row, or some row, passes a test.
+use Rattle.std.specs.Prelude.{List, Bool}
+use Rattle.std.specs.List.{list_all, list_any}
 
 abbrev pub every : {A : Type 0} → (A → Bool) → List A → Bool
-every q [] = true
-every q (x ∷ l) = q x && every q l
+every q l = list_all q l
 
 abbrev pub any : {A : Type 0} → (A → Bool) → List A → Bool
-any q [] = false
-any q (x ∷ l) = q x || any q l
+any q l = list_any q l

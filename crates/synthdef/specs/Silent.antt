@@ -2,9 +2,7 @@
 -- of port 0; `Add`, `Sub`: every port connected, at least one, all silent; `FmOp`: source of `level`; `Paf`: of `amp`; `Neg` and
 -- the 27 names in `SILENCE_PASS_THROUGH`: of `in`; other names: not."
 -- The rule speaks of the silence of other nodes, so it is an equation that an answer has to meet at every node.
-use Rattle.std.specs.Prelude.{ℕ, zero, suc, ◌≡◌, List, Bool, true, false, ◌&&◌, ◌||◌, get_or, ltb}
-use Rattle.std.proofs.Math.Option.{Option, none, some}
-use Rattle.std.proofs.Math.ListN.{get_elem?}
+use Rattle.std.specs.Prelude.{ℕ, zero, suc, ◌≡◌, List, Bool, true, false, ◌&&◌, ◌||◌, get_or, ltb, Option, None, Some, slice_get}
 use Rattle.node.specs.Silence.{silence_of}
 use Rattle.node.specs.declared.silence.SilenceRule.{SilenceRule}
 use Rattle.node.specs.declared.silence.SilenceRule.TheVariants.{Own, AnyPort, FirstPort, EveryPort, LevelPort, AmpPort, InPort}
@@ -36,8 +34,8 @@ by_rule AmpPort n q = of_port n.amp_port n q
 by_rule InPort n q = of_port n.in_port n q
 
 abbrev pub silent_source : (ℕ → Bool) → Option ℕ → Bool
-silent_source s none = false
-silent_source s (some j) = s j
+silent_source s None = false
+silent_source s (Some j) = s j
 
 -- node i, which is n, is silent by its kind name, where s says which nodes are silent and `es` are the counted edges
 abbrev pub by_kind : List DefEdge → (ℕ → Bool) → DefNode → ℕ → Bool
@@ -45,4 +43,4 @@ by_kind es s n i = by_rule (silence_of n.kind) n (λ p. silent_source s (source_
 
 -- s says which nodes are silent: at each node it is as the rule says
 abbrev pub Silence : List DefNode → List DefEdge → List Bool → (ℕ → Bool) → Type 0
-Silence ns es done s = (i : ℕ) (n : DefNode) → get_elem? ns i ≡ some n → s i ≡ (get_or done i false || by_kind es s n i)
+Silence ns es done s = (i : ℕ) (n : DefNode) → slice_get ns i ≡ Some n → s i ≡ (get_or done i false || by_kind es s n i)

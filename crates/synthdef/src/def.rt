@@ -1,3 +1,6 @@
+ghost use Rattle.std.specs.Prelude.{◌≡◌};
+ghost use Rattle.synthdef.specs.Tables.{node_rows, edge_rows, param_rows};
+
 use node::name::Name;
 
 // The port of a name that a node has not.
@@ -58,4 +61,31 @@ pub struct SynthDef {
     pub edges: DefEdges,
     pub params: Params,
     pub output: u8,
+}
+
+impl DefNodes {
+    // The rows that count.
+    pub fn as_slice(&self) -> &[DefNode]
+        ensures { result.now ≡ node_rows self.now }
+    {
+        &self.rows[..self.count.min(24)]
+    }
+}
+
+impl DefEdges {
+    // The rows that count.
+    pub fn as_slice(&self) -> &[DefEdge]
+        ensures { result.now ≡ edge_rows self.now }
+    {
+        &self.rows[..self.count.min(48)]
+    }
+}
+
+impl Params {
+    // The rows that count.
+    pub fn as_slice(&self) -> &[Param]
+        ensures { result.now ≡ param_rows self.now }
+    {
+        &self.rows[..self.count.min(8)]
+    }
 }

@@ -9,25 +9,19 @@ use node::record::{Edge, Node, NodeId, VoiceId};
 pub fn id_after(first: NodeId, place: u8) -> NodeId
     ensures { result ≡ id_after first place }
 {
-    let k = place as u32;
-    if first.0 <= 4294967295 - k {
-        NodeId(first.0 + k)
-    } else {
-        NodeId(4294967295)
-    }
+    NodeId(first.0.saturating_add(u32::from(place)))
 }
 
 // A node of a definition as a live node of a voice: its done flag clear, its level 0, and no order taken.
 pub fn live_node(n: DefNode, id: NodeId, owner: VoiceId) -> Node
     ensures { result ≡ live_node n id owner }
 {
-    let kind = n.kind;
     Node {
-        id: id,
-        owner: owner,
-        kind: kind,
-        ports: n.ports as u32,
-        required: n.required as u64,
+        id,
+        owner,
+        kind: n.kind,
+        ports: u32::from(n.ports),
+        required: u64::from(n.required),
         takes_values: n.takes_values,
         takes_glides: n.takes_glides,
         done: false,
@@ -41,11 +35,9 @@ pub fn live_node(n: DefNode, id: NodeId, owner: VoiceId) -> Node
 pub fn live_edge(e: DefEdge, first: NodeId) -> Edge
     ensures { result ≡ live_edge e first }
 {
-    let from = id_after(first, e.from);
-    let to = id_after(first, e.to);
     Edge {
-        from: from,
-        to: to,
-        port: e.port as u32,
+        from: id_after(first, e.from),
+        to: id_after(first, e.to),
+        port: u32::from(e.port),
     }
 }

@@ -1,13 +1,11 @@
 ghost use Rattle.std.specs.Prelude.{◌≡◌, ◌^◌, ◌≤◌, map};
 ghost use Rattle.synthdef.specs.Rows.{every};
-ghost use Rattle.synthdef.specs.Tables.{node_rows, edge_rows, param_rows};
+ghost use Rattle.synthdef.specs.Tables.{edge_rows};
 ghost use Rattle.synthdef.specs.Limits.{port_given, node_allowed, edge_allowed, param_allowed, counts_allowed, arc_of, allowed};
 ghost use Rattle.rank.specs.Order.{upto, whole};
 
-use crate::def::{DefEdge, DefEdges, DefNode, DefNodes, NO_PORT, Param, Params, SynthDef};
+use crate::def::{DefEdge, DefEdges, DefNode, NO_PORT, Param, SynthDef};
 use crate::edges::counted_edges;
-use lists::byte::wide;
-use lists::number::at_most;
 use node::name::is_named;
 use rank::ranked;
 
@@ -15,7 +13,7 @@ use rank::ranked;
 fn port_given(ports: u8, port: u8) -> bool
     ensures { result ≡ port_given ports port }
 {
-    if port == NO_PORT { true } else { port < ports }
+    port == NO_PORT || port < ports
 }
 
 // The value of bit `n`.
@@ -29,107 +27,49 @@ fn bit_value(n: u8) -> usize
 fn node_allowed(n: DefNode) -> bool
     ensures { result ≡ node_allowed n }
 {
-    let kind = n.kind;
-    if !is_named(kind) {
-        return false;
-    }
-    if 8 < n.ports {
-        return false;
-    }
-    if bit_value(n.ports) <= wide(n.required) {
-        return false;
-    }
-    if !port_given(n.ports, n.in_port) {
-        return false;
-    }
-    if !port_given(n.ports, n.level_port) {
-        return false;
-    }
-    port_given(n.ports, n.amp_port)
+    is_named(n.kind)
+        && n.ports <= 8
+        && usize::from(n.required) < bit_value(n.ports)
+        && port_given(n.ports, n.in_port)
+        && port_given(n.ports, n.level_port)
+        && port_given(n.ports, n.amp_port)
 }
 
-fn nodes_allowed(t: DefNodes) -> bool
-    ensures { result ≡ every node_allowed (node_rows t) }
+fn nodes_allowed(nodes: &[DefNode]) -> bool
+    ensures { result ≡ every node_allowed nodes.now }
 {
-    let m = at_most(t.count, 24);
-    let mut i = 0;
-    while i < m {
-        let n = t.rows[i];
-        if !node_allowed(n) {
-            return false;
-        }
-        i += 1;
-    }
-    true
+    nodes.iter().all(|n| node_allowed(*n))
 }
 
-fn edge_allowed(t: DefNodes, e: DefEdge) -> bool
-    ensures { result ≡ edge_allowed (node_rows t) e }
+fn edge_allowed(nodes: &[DefNode], e: DefEdge) -> bool
+    ensures { result ≡ edge_allowed nodes.now e }
 {
-    let m = at_most(t.count, 24);
-    let to = wide(e.to);
-    if m <= wide(e.from) {
-        return false;
-    }
-    if m <= to {
-        return false;
-    }
-    e.port < t.rows[to].ports
+    let to = usize::from(e.to);
+    usize::from(e.from) < nodes.len() && to < nodes.len() && e.port < nodes[to].ports
 }
 
-fn edges_allowed(t: DefNodes, es: DefEdges) -> bool
-    ensures { result ≡ every (edge_allowed (node_rows t)) (edge_rows es) }
+fn edges_allowed(nodes: &[DefNode], es: &[DefEdge]) -> bool
+    ensures { result ≡ every (edge_allowed nodes.now) es.now }
 {
-    let m = at_most(es.count, 48);
-    let mut i = 0;
-    while i < m {
-        let e = es.rows[i];
-        if !edge_allowed(t, e) {
-            return false;
-        }
-        i += 1;
-    }
-    true
+    es.iter().all(|e| edge_allowed(nodes, *e))
 }
 
 fn param_allowed(n: usize, p: Param) -> bool
     ensures { result ≡ param_allowed n p }
 {
-    let name = p.name;
-    if !is_named(name) {
-        return false;
-    }
-    wide(p.node) < n
+    is_named(p.name) && usize::from(p.node) < n
 }
 
-fn params_allowed(n: usize, ps: Params) -> bool
-    ensures { result ≡ every (param_allowed n) (param_rows ps) }
+fn params_allowed(n: usize, ps: &[Param]) -> bool
+    ensures { result ≡ every (param_allowed n) ps.now }
 {
-    let m = at_most(ps.count, 8);
-    let mut i = 0;
-    while i < m {
-        let p = ps.rows[i];
-        if !param_allowed(n, p) {
-            return false;
-        }
-        i += 1;
-    }
-    true
+    ps.iter().all(|p| param_allowed(n, *p))
 }
 
 fn counts_allowed(nodes: usize, edges: usize, params: usize) -> bool
     ensures { result ≡ counts_allowed nodes edges params }
 {
-    if nodes < 1 {
-        return false;
-    }
-    if 24 < nodes {
-        return false;
-    }
-    if 48 < edges {
-        return false;
-    }
-    params <= 8
+    1 <= nodes && nodes <= 24 && edges <= 48 && params <= 8
 }
 
 // Whether the edges `es` among `n` nodes have no cycle: their processing order has all nodes.
@@ -137,42 +77,27 @@ fn ordered(n: usize, es: DefEdges) -> bool
     requires { n ≤ 24 }
     ensures { result ≡ whole (upto n) (map arc_of (edge_rows es)) }
 {
-    let m = at_most(es.count, 48);
+    let edges = es.as_slice();
     let mut from = [0usize; 48];
     let mut to = [0usize; 48];
-    let mut i = 0;
-    while i < m {
-        let e = es.rows[i];
-        from[i] = wide(e.from);
-        to[i] = wide(e.to);
-        i += 1;
+    for (i, e) in edges.iter().enumerate() {
+        from[i] = usize::from(e.from);
+        to[i] = usize::from(e.to);
     }
-    let r = ranked(n, &from[..m], &to[..m]);
-    r.whole
+    let m = edges.len();
+    ranked(n, &from[..m], &to[..m]).whole
 }
 
 // Whether a definition is within the limits; refusal 9 where it is not.
 pub fn allowed(d: SynthDef) -> bool
     ensures { result ≡ allowed d }
 {
-    let nodes = d.nodes;
-    let edges = d.edges;
-    let params = d.params;
-    let n = at_most(nodes.count, 24);
-    if !counts_allowed(nodes.count, edges.count, params.count) {
-        return false;
-    }
-    if !nodes_allowed(nodes) {
-        return false;
-    }
-    if !edges_allowed(nodes, edges) {
-        return false;
-    }
-    if !params_allowed(n, params) {
-        return false;
-    }
-    if n <= wide(d.output) {
-        return false;
-    }
-    ordered(n, counted_edges(edges))
+    let nodes = d.nodes.as_slice();
+    let n = nodes.len();
+    counts_allowed(d.nodes.count, d.edges.count, d.params.count)
+        && nodes_allowed(nodes)
+        && edges_allowed(nodes, d.edges.as_slice())
+        && params_allowed(n, d.params.as_slice())
+        && usize::from(d.output) < n
+        && ordered(n, counted_edges(d.edges))
 }

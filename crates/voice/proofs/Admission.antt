@@ -2,7 +2,7 @@
 use Prim.Native.Nat.{ℕ, ◌≤◌, ◌<◌}
 use mathlib.Core.Path.{◌≡◌, refl, sym, ap, ◌∙◌}
 use mathlib.Core.List.{List}
-use mathlib.Core.Option.{none, some}
+use Rattle.std.specs.Prelude.{None, Some, Option}
 use mathlib.Core.Bool.{Bool, true, false, ◌&&◌, cond}
 use lib.ListN.{length}
 use borrow.Author.Tests.{le-leb, lt-leb}
@@ -10,27 +10,23 @@ use Rattle.node.specs.declared.record.NodeId.{NodeId}
 use Rattle.voice.specs.declared.policy.StealPolicy.{StealPolicy}
 use Rattle.voice.specs.declared.policy.BudgetScope.TheVariants.{Global, PerGroup}
 use Rattle.voice.specs.declared.policy.Candidate.{Candidate}
-use Rattle.voice.specs.declared.policy.Victim.{Victim}
-use Rattle.voice.specs.declared.policy.Budget.{Budget}
-use Rattle.voice.specs.declared.policy.Budget.TheVariants.{AtMost}
-use Rattle.voice.specs.declared.policy.Victim.TheVariants.{Nobody, Goes}
 use Rattle.voice.specs.declared.policy.Admission.{Admission}
 use Rattle.voice.specs.declared.policy.Admission.TheVariants as admission
-use Rattle.voice.specs.Policy.{victim, counts, at_budget, decides, admits, nobody, admission_number, reject_number}
+use Rattle.voice.specs.Policy.{Victim, victim, counts, at_budget, decides, admits, nobody, admission_number, reject_number}
 
 -- the answer, and its number
-abbrev pub Admitted : Budget → StealPolicy → ℕ → List Candidate → Admission → Type 0
+abbrev pub Admitted : Option ℕ → StealPolicy → ℕ → List Candidate → Admission → Type 0
 Admitted b p r l a = (a ≡ admits b p r l) × (admission_number a ≡ reject_number b p r l)
 
-admitted : (b : Budget) (p : StealPolicy) (r : ℕ) (l : List Candidate) (a : Admission) → a ≡ admits b p r l → Admitted b p r l a
+admitted : (b : Option ℕ) (p : StealPolicy) (r : ℕ) (l : List Candidate) (a : Admission) → a ≡ admits b p r l → Admitted b p r l a
 admitted b p r l a e = (e, ap admission_number e ∙ go (at_budget b (length l)) (victim p r l))
   where
-    go : (at : Bool) (v : Victim) → admission_number (decides at v) ≡ cond (at && nobody v) (some 11) none
+    go : (at : Bool) (v : Victim) → admission_number (decides at v) ≡ cond (at && nobody v) (Some 11) None
     go false v = refl
-    go true Nobody = refl
-    go true (Goes place voice) = refl
+    go true None = refl
+    go true (Some (place, voice)) = refl
 
-module _ (b : Budget) (p : StealPolicy) (r : ℕ) (l : List Candidate) (most : ℕ) (is : b ≡ AtMost most) where
+module _ (b : Option ℕ) (p : StealPolicy) (r : ℕ) (l : List Candidate) (most : ℕ) (is : b ≡ Some most) where
   pub below_budget : length l < most → Admitted b p r l admission.Admit
   below_budget h =
       admitted b p r l admission.Admit (sym (ap (λ z. admits z p r l) is ∙ ap (λ t. decides t (victim p r l)) (lt-leb most (length l) h)))

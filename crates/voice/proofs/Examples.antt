@@ -1,4 +1,5 @@
 -- "In 01's example with 2, 1, 1 the third voice goes" (Paper 5), and the other sentences on the walk, in the same table.
+use Rattle.std.specs.Prelude.{Option, Float, Some, None}
 use Prim.Native.Nat.{ℕ, suc}
 use mathlib.Core.Path.{◌≡◌, refl}
 use mathlib.Core.List.{List, [], ◌∷◌}
@@ -8,45 +9,41 @@ use lib.IntN.{pos}
 use lib.Ieee.{nan, inf, fin, lt, eq, le}
 use Rattle.voice.specs.declared.policy.StealPolicy.{StealPolicy}
 use Rattle.voice.specs.declared.policy.StealPolicy.TheVariants as policy
-use Rattle.voice.specs.declared.policy.Level.{Level}
-use Rattle.voice.specs.declared.policy.Level.TheVariants.{Unknown, Known}
 use Rattle.voice.specs.declared.policy.Candidate.{Candidate}
-use Rattle.voice.specs.declared.policy.Victim.{Victim}
-use Rattle.voice.specs.declared.policy.Victim.TheVariants.{Nobody, Goes}
-use Rattle.voice.specs.Policy.{victim}
+use Rattle.voice.specs.Policy.{Victim, victim}
 
 -- a policy, levels in order of admission, and the victim, counted from 1; 0 for nobody
 pub record Row : Type 0 where
   pub rule : StealPolicy
-  pub levels : List Level
+  pub levels : List (Option Float)
   pub voice : ℕ
 
-abbrev one : Level
-one = Known (fin false 1 (pos 0))
+abbrev one : Option Float
+one = Some (fin false 1 (pos 0))
 
-abbrev two : Level
-two = Known (fin false 1 (pos 1))
+abbrev two : Option Float
+two = Some (fin false 1 (pos 1))
 
-abbrev plus_zero : Level
-plus_zero = Known (fin false 0 (pos 0))
+abbrev plus_zero : Option Float
+plus_zero = Some (fin false 0 (pos 0))
 
-abbrev minus_zero : Level
-minus_zero = Known (fin true 0 (pos 0))
+abbrev minus_zero : Option Float
+minus_zero = Some (fin true 0 (pos 0))
 
 abbrev pub table : List Row
 table =
     record { rule = policy.Quietest; levels = two ∷ one ∷ one ∷ []; voice = 3 } ∷
     record { rule = policy.Quietest; levels = one ∷ one ∷ two ∷ []; voice = 2 } ∷
-    record { rule = policy.Quietest; levels = Known nan ∷ one ∷ []; voice = 1 } ∷
-    record { rule = policy.Quietest; levels = Known nan ∷ Known nan ∷ []; voice = 1 } ∷
-    record { rule = policy.Quietest; levels = two ∷ Known nan ∷ one ∷ []; voice = 3 } ∷
-    record { rule = policy.Quietest; levels = one ∷ Known nan ∷ []; voice = 1 } ∷
-    record { rule = policy.Quietest; levels = one ∷ Unknown ∷ one ∷ Unknown ∷ []; voice = 3 } ∷
-    record { rule = policy.Quietest; levels = Unknown ∷ two ∷ []; voice = 2 } ∷
-    record { rule = policy.Quietest; levels = Unknown ∷ Unknown ∷ []; voice = 1 } ∷
+    record { rule = policy.Quietest; levels = Some nan ∷ one ∷ []; voice = 1 } ∷
+    record { rule = policy.Quietest; levels = Some nan ∷ Some nan ∷ []; voice = 1 } ∷
+    record { rule = policy.Quietest; levels = two ∷ Some nan ∷ one ∷ []; voice = 3 } ∷
+    record { rule = policy.Quietest; levels = one ∷ Some nan ∷ []; voice = 1 } ∷
+    record { rule = policy.Quietest; levels = one ∷ None ∷ one ∷ None ∷ []; voice = 3 } ∷
+    record { rule = policy.Quietest; levels = None ∷ two ∷ []; voice = 2 } ∷
+    record { rule = policy.Quietest; levels = None ∷ None ∷ []; voice = 1 } ∷
     record { rule = policy.Quietest; levels = plus_zero ∷ minus_zero ∷ []; voice = 2 } ∷
     record { rule = policy.Quietest; levels = minus_zero ∷ plus_zero ∷ []; voice = 2 } ∷
-    record { rule = policy.Quietest; levels = Known (inf false) ∷ Known (inf true) ∷ []; voice = 2 } ∷
+    record { rule = policy.Quietest; levels = Some (inf false) ∷ Some (inf true) ∷ []; voice = 2 } ∷
     record { rule = policy.Quietest; levels = []; voice = 0 } ∷
     record { rule = policy.Oldest; levels = two ∷ one ∷ one ∷ []; voice = 1 } ∷
     record { rule = policy.Newest; levels = two ∷ one ∷ one ∷ []; voice = 3 } ∷
@@ -54,14 +51,14 @@ table =
     []
 
 -- the candidates with these levels; their voices are counted from 1
-abbrev pub numbered : ℕ → List Level → List Candidate
+abbrev pub numbered : ℕ → List (Option Float) → List Candidate
 numbered v [] = []
 numbered v (x ∷ l) = record { voice = record { 0 = v }; level = x; rank = 0 } ∷ numbered (suc v) l
 
 -- the victim stands at its place
 abbrev pub goes : Victim → ℕ → Bool
-goes Nobody n = eqb n 0
-goes (Goes place voice) n = eqb voice.0 n && eqb (suc place) n
+goes None n = eqb n 0
+goes (Some (place, voice)) n = eqb voice.0 n && eqb (suc place) n
 
 abbrev pub right : List Row → Bool
 right [] = true

@@ -1,4 +1,5 @@
 -- What every log of a run keeps, for the layers above: it holds as many records as there were steals, and at most 64.
+use Rattle.std.specs.Prelude.{Option, Float, Some, None}
 use Prim.Native.Nat.{ℕ, zero, suc, ◌-◌, min}
 use native.Mathlib.Omega.{arith}
 use mathlib.Core.Path.{◌≡◌, refl, ap, ◌∙◌}
@@ -6,15 +7,13 @@ use mathlib.Core.List.{List, [], ◌∷◌}
 use mathlib.Core.Bool.{Bool, true, false, cond}
 use lib.ListN.{length, length-append, length-drop}
 use lib.Dec.{leb}
-use Rattle.voice.specs.declared.policy.Level.{Level}
-use Rattle.voice.specs.declared.policy.Level.TheVariants.{Unknown, Known}
 use Rattle.voice.specs.declared.steals.StealRecord.{StealRecord}
 use Rattle.voice.specs.Steals.{StealLog, empty_log, pushed, cut_at, marked, record_of, record_level}
 
 -- a record keeps the level that it was made with
-pub level_kept : (sample : ℕ) (x : Level) (cut : Bool) → record_level (record_of sample x cut) ≡ x
-level_kept sample Unknown cut = refl
-level_kept sample (Known x) cut = refl
+pub level_kept : (sample : ℕ) (x : Option Float) (cut : Bool) → record_level (record_of sample x cut) ≡ x
+level_kept sample None cut = refl
+level_kept sample (Some x) cut = refl
 
 abbrev pub Whole : StealLog → Type 0
 Whole b = length b.newest ≡ min b.count 64

@@ -1,6 +1,7 @@
 -- Paper 13: "The victim comes from the lowest rank among candidates, then by policy, and never outranks the newcomer." Said of any list of
 -- candidates and not of the walk that finds the lowest: `low_in` and `in_low` name who is asked, `victim_lowest` what is true of the victim, and
 -- `outranked_nobody` and `nobody_outranked` when there is none.
+use Rattle.std.specs.Prelude.{Some, None}
 use Prim.Native.Nat.{ℕ, zero, suc, ◌≤◌, ◌<◌, min}
 use native.Mathlib.Omega.{arith}
 use mathlib.Core.Path.{◌≡◌, refl, sym, ap, ◌∙◌}
@@ -16,11 +17,8 @@ use Rattle.lists.specs.Member.{In}
 use Rattle.lists.proofs.Filter.{in_filter, filter_in, filter_none}
 use Rattle.voice.specs.declared.policy.StealPolicy.{StealPolicy}
 use Rattle.voice.specs.declared.policy.StealPolicy.TheVariants as policy
-use Rattle.voice.specs.declared.policy.Level.TheVariants.{Known}
 use Rattle.voice.specs.declared.policy.Candidate.{Candidate}
-use Rattle.voice.specs.declared.policy.Victim.{Victim}
-use Rattle.voice.specs.declared.policy.Victim.TheVariants.{Nobody, Goes}
-use Rattle.voice.specs.Policy.{policy_victim, lowest, of_lowest, victim, nobody}
+use Rattle.voice.specs.Policy.{Victim, policy_victim, lowest, of_lowest, victim, nobody}
 use Rattle.voice.proofs.Victims.{OneOf, victim_one, victim_some, victim_none}
 
 -- ---- the lowest rank
@@ -63,7 +61,7 @@ low_none r l f = filter_none (λ (x : Candidate). eqb x.rank (lowest r l)) l (λ
     go c h false e = refl
     go c h true e = let k = eqb-true c.rank (lowest r l) e in let b = lowest_below r l in absurd (omega arith)
 
-pub outranked_nobody : (p : StealPolicy) (r : ℕ) (l : List Candidate) → ((c : Candidate) → In c l → r < c.rank) → victim p r l ≡ Nobody
+pub outranked_nobody : (p : StealPolicy) (r : ℕ) (l : List Candidate) → ((c : Candidate) → In c l → r < c.rank) → victim p r l ≡ None
 outranked_nobody p r l f = ap (λ z. policy_victim p z) (low_none r l f) ∙ victim_none p
 
 -- the lowest rank is the new voice's, or somebody has it
@@ -88,7 +86,7 @@ low_some r l c i h = go (lowest_had r l)
     go (inr z) = (z.0, low z.0 z.1 z.2)
     go (inl e) = let a = lowest_least r l c i in let k : c.rank ≡ lowest r l = omega arith in (c, low c i k)
 
-pub nobody_outranked : (p : StealPolicy) → p ≢ policy.Reject → (r : ℕ) (l : List Candidate) → victim p r l ≡ Nobody → (c : Candidate) → In c l → r < c.rank
+pub nobody_outranked : (p : StealPolicy) → p ≢ policy.Reject → (r : ℕ) (l : List Candidate) → victim p r l ≡ None → (c : Candidate) → In c l → r < c.rank
 nobody_outranked p s r l h c i = go (leb c.rank r) refl
   where
     none : (cs : List Candidate) → nobody (policy_victim p cs) ≡ true → (e : Candidate) → In e cs → ⊥
@@ -106,15 +104,15 @@ in_at (c ∷ l) (suc i) d h = let k : i < length l = omega arith in inr (in_at l
 
 -- ---- the victim: one of the candidates, of a rank that is not above the new voice's nor above any candidate's
 abbrev pub Lowest : ℕ → List Candidate → Victim → Type 0
-Lowest r l Nobody = Unit
-Lowest r l (Goes place v) = (c : Candidate) × In c l × (c.voice ≡ v) × (c.rank ≤ r) × ((e : Candidate) → In e l → c.rank ≤ e.rank)
+Lowest r l None = Unit
+Lowest r l (Some (place, v)) = (c : Candidate) × In c l × (c.voice ≡ v) × (c.rank ≤ r) × ((e : Candidate) → In e l → c.rank ≤ e.rank)
 
 pub victim_lowest : (d : Candidate) (p : StealPolicy) (r : ℕ) (l : List Candidate) → Lowest r l (victim p r l)
 victim_lowest d p r l = go (victim p r l) (victim_one d p (of_lowest r l))
   where
     go : (v : Victim) → OneOf d (of_lowest r l) v → Lowest r l v
-    go Nobody o = tt
-    go (Goes i v) o =
+    go None o = tt
+    go (Some (i, v)) o =
         let c = get_or (of_lowest r l) i d in
         let z = low_in r l c (in_at (of_lowest r l) i d o.0) in
         (c, z.0, o.1, z.1, z.2)
@@ -130,7 +128,7 @@ pub record Row : Type 0 where
 
 -- voice v, of rank k and level 2^x
 abbrev one : ℕ → ℕ → ℕ → Candidate
-one v k x = record { voice = record { 0 = v }; level = Known (fin false 1 (pos x)); rank = k }
+one v k x = record { voice = record { 0 = v }; level = Some (fin false 1 (pos x)); rank = k }
 
 -- two of rank 2 and two of rank 1, of which the first of each is the quieter; and the loudest of rank 3
 abbrev five : List Candidate
@@ -153,8 +151,8 @@ table =
     []
 
 abbrev pub goes : Victim → ℕ → Bool
-goes Nobody n = eqb n 0
-goes (Goes place voice) n = eqb voice.0 n
+goes None n = eqb n 0
+goes (Some (place, voice)) n = eqb voice.0 n
 
 abbrev pub right : List Row → Bool
 right [] = true

@@ -1,4 +1,5 @@
 -- What each call on the ring of steal records makes of the log that the ring stands for.
+use Rattle.std.specs.Prelude.{Some, None}
 use Prim.Native.Nat.{ℕ, zero, suc, ◌+◌, ◌-◌, ◌%◌, ◌≤◌, ◌<◌, min}
 use native.Mathlib.Omega.{arith}
 use mathlib.Core.Path.{◌≡◌, refl, sym, ap, ◌∙◌}
@@ -8,7 +9,6 @@ use lib.ListN.{length, drop, get_or, set}
 use borrow.Author.Tests.{le-leb, lt-leb}
 use Rattle.voice.specs.declared.steals.StealRecord.{StealRecord}
 use Rattle.voice.specs.declared.steals.Steals.{Steals}
-use Rattle.voice.specs.declared.steals.StealFound.TheVariants as found
 use Rattle.voice.specs.Steals.{last_of, turned, log_of, pushed, marked, cut_of, cut_at, found_at}
 use Rattle.voice.proofs.Ring.{turned_long, turned_push, turned_set, turned_get, last_long, last_push, last_set, last_get}
 
@@ -24,12 +24,12 @@ cut_out i [] h = refl
 cut_out zero (r ∷ l) h = absurd (omega arith)
 cut_out (suc i) (r ∷ l) h = let k : length l ≤ i = omega arith in ap (λ z. r ∷ z) (cut_out i l k)
 
-found_in : (d : StealRecord) (i : ℕ) (l : List StealRecord) → i < length l → found_at i l ≡ found.Record (get_or l i d)
+found_in : (d : StealRecord) (i : ℕ) (l : List StealRecord) → i < length l → found_at i l ≡ Some (get_or l i d)
 found_in d i [] h = absurd (omega arith)
 found_in d zero (r ∷ l) h = refl
 found_in d (suc i) (r ∷ l) h = let k : i < length l = omega arith in found_in d i l k
 
-found_out : (i : ℕ) (l : List StealRecord) → length l ≤ i → found_at i l ≡ found.Nothing
+found_out : (i : ℕ) (l : List StealRecord) → length l ≤ i → found_at i l ≡ None
 found_out i [] h = refl
 found_out zero (r ∷ l) h = absurd (omega arith)
 found_out (suc i) (r ∷ l) h = let k : length l ≤ i = omega arith in found_out i l k
@@ -129,16 +129,16 @@ module _ (s : Steals) (long : length s.rows ≡ 64) where
 
   -- ---- a reading
 
-  pub read_none : (i : ℕ) → min s.total 64 ≤ i → found.Nothing ≡ found_at i (log_of s).newest
+  pub read_none : (i : ℕ) → min s.total 64 ≤ i → None ≡ found_at i (log_of s).newest
   read_none i h = let b = log_long in let over : length (log_of s).newest ≤ i = omega arith in sym (found_out i (log_of s).newest over)
 
   pub read_held : (d : StealRecord) (i q : ℕ) → i < min s.total 64 → q ≡ (s.next % 64 + (64 - (min s.total 64 - i))) % 64
-      → found.Record (get_or s.rows q d) ≡ found_at i (log_of s).newest
+      → Some (get_or s.rows q d) ≡ found_at i (log_of s).newest
   read_held d i q h at =
       let b = log_long in
       let inside : i < length (log_of s).newest = omega arith in
       let held : min s.total 64 - i ≤ min s.total 64 = omega arith in
       let new : 0 < min s.total 64 - i = omega arith in
       let same : min s.total 64 - (min s.total 64 - i) ≡ i = omega arith in
-      ap found.Record (sym (back_get d (min s.total 64 - i) q held new at) ∙ ap (λ j. get_or (log_of s).newest j d) same)
+      ap Some (sym (back_get d (min s.total 64 - i) q held new at) ∙ ap (λ j. get_or (log_of s).newest j d) same)
       ∙ sym (found_in d i (log_of s).newest inside)

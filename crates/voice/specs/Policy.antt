@@ -2,11 +2,10 @@
 -- `pick_victim` decides: `Reject` none; `Oldest` first; `Newest` last; `Quietest` walks in order, takes the first known
 -- level", and then, by Paper 5, "a level equal to the lowest so far takes its place. A NaN met first stays, and no known level
 -- still means the oldest." And by Paper 13 all this is asked of the candidates of the lowest rank alone.
-use Rattle.std.specs.Prelude.{ℕ, suc, min, List, [], ◌∷◌, Bool, true, false, ◌&&◌, cond, length, leb, eqb, Float}
-use Rattle.std.proofs.Math.Option.{Option, none, some}
+use Rattle.std.specs.Prelude.{ℕ, suc, min, List, [], ◌∷◌, Bool, true, false, ◌&&◌, cond, length, leb, eqb, Float, Option, None, Some, filter}
 use Rattle.std.specs.Float.Ieee.{le}
-use Rattle.lists.specs.Filter.{filter}
 use Rattle.lists.specs.Table.{rows_of}
+use Rattle.node.specs.declared.record.VoiceId.{VoiceId}
 use Rattle.node.specs.Refusal.{number_of}
 use Rattle.node.specs.declared.record.NodeId.{NodeId}
 use Rattle.node.specs.declared.refusal.Refusal.TheVariants.{Rejected}
@@ -14,16 +13,8 @@ use Rattle.voice.specs.declared.policy.StealPolicy.{StealPolicy}
 use Rattle.voice.specs.declared.policy.StealPolicy.TheVariants as policy
 use Rattle.voice.specs.declared.policy.BudgetScope.{BudgetScope}
 use Rattle.voice.specs.declared.policy.BudgetScope.TheVariants.{Global, PerGroup}
-use Rattle.voice.specs.declared.policy.Level.{Level}
-use Rattle.voice.specs.declared.policy.Level.TheVariants.{Unknown, Known}
 use Rattle.voice.specs.declared.policy.Candidate.{Candidate}
 use Rattle.voice.specs.declared.policy.Candidates.{Candidates}
-use Rattle.voice.specs.declared.policy.Held.{Held}
-use Rattle.voice.specs.declared.policy.Held.TheVariants as held
-use Rattle.voice.specs.declared.policy.Victim.{Victim}
-use Rattle.voice.specs.declared.policy.Victim.TheVariants.{Nobody, Goes}
-use Rattle.voice.specs.declared.policy.Budget.{Budget}
-use Rattle.voice.specs.declared.policy.Budget.TheVariants.{Unlimited, AtMost}
 use Rattle.voice.specs.declared.policy.Admission.{Admission}
 use Rattle.voice.specs.declared.policy.Admission.TheVariants as admission
 
@@ -33,15 +24,23 @@ candidates_of t = rows_of 64 t.count t.rows
 
 -- ---- the victim
 
+-- who is stolen or freed: its place among the candidates of its rank, and its id
+abbrev pub Victim : Type 0
+Victim = Option (ℕ × VoiceId)
+
+-- what the walk of `Quietest` holds: the place, the id and the level of the candidate taken so far
+abbrev pub Held : Type 0
+Held = Option (ℕ × VoiceId × Float)
+
 -- the first
 abbrev pub oldest : List Candidate → Victim
-oldest [] = Nobody
-oldest (c ∷ l) = Goes 0 c.voice
+oldest [] = None
+oldest (c ∷ l) = Some (0, c.voice)
 
 -- the last; the first of the list stands at the place p
 abbrev pub last_from : ℕ → List Candidate → Victim
-last_from p [] = Nobody
-last_from p (c ∷ []) = Goes p c.voice
+last_from p [] = None
+last_from p (c ∷ []) = Some (p, c.voice)
 last_from p (c ∷ d ∷ l) = last_from (suc p) (d ∷ l)
 
 abbrev pub newest : List Candidate → Victim
@@ -51,17 +50,17 @@ newest l = last_from 0 l
 -- IEEE 754's comparison: +0 and -0 are equal. Nothing is lower than a NaN or equal to it, nor is a NaN to anything, so a NaN
 -- met first stays and one met later is passed over.
 abbrev pub takes : Held → Float → Bool
-takes held.Nothing x = true
-takes (held.Taken place voice level) x = le x level
+takes None x = true
+takes (Some (place, voice, level)) x = le x level
 
 abbrev pub take? : Bool → Held → Held → Held
 take? true new old = new
 take? false new old = old
 
 -- one candidate of the walk, at the place p
-abbrev pub passed : Held → ℕ → Candidate → Level → Held
-passed h p c Unknown = h
-passed h p c (Known x) = take? (takes h x) (held.Taken p c.voice x) h
+abbrev pub passed : Held → ℕ → Candidate → Option Float → Held
+passed h p c None = h
+passed h p c (Some x) = take? (takes h x) (Some (p, c.voice, x)) h
 
 -- the walk, in order
 abbrev pub walk : Held → ℕ → List Candidate → Held
@@ -70,14 +69,14 @@ walk h p (c ∷ l) = walk (passed h p c c.level) (suc p) l
 
 -- what the walk took, or the oldest where no level is known
 abbrev pub took_or : Held → Victim → Victim
-took_or held.Nothing v = v
-took_or (held.Taken place voice level) v = Goes place voice
+took_or None v = v
+took_or (Some (place, voice, level)) v = Some (place, voice)
 
 abbrev pub quietest : List Candidate → Victim
-quietest l = took_or (walk held.Nothing 0 l) (oldest l)
+quietest l = took_or (walk None 0 l) (oldest l)
 
 abbrev pub policy_victim : StealPolicy → List Candidate → Victim
-policy_victim policy.Reject l = Nobody
+policy_victim policy.Reject l = None
 policy_victim policy.Oldest l = oldest l
 policy_victim policy.Newest l = newest l
 policy_victim policy.Quietest l = quietest l
@@ -105,31 +104,31 @@ counts Global theirs bus = true
 counts PerGroup theirs bus = eqb theirs.0 bus.0
 
 -- "At budget": there are as many as the budget allows, or more. Without a budget never; with a budget of 0 always.
-abbrev pub at_budget : Budget → ℕ → Bool
-at_budget Unlimited n = false
-at_budget (AtMost most) n = leb most n
+abbrev pub at_budget : Option ℕ → ℕ → Bool
+at_budget None n = false
+at_budget (Some most) n = leb most n
 
 -- "At budget `pick_victim` decides"
 abbrev pub decides : Bool → Victim → Admission
 decides false v = admission.Admit
-decides true Nobody = admission.Reject
-decides true (Goes place voice) = admission.Steal place voice
+decides true None = admission.Reject
+decides true (Some (place, voice)) = admission.Steal place voice
 
 -- What a new voice of rank r meets; the candidates are the tracked voices that count for it. "Without a budget nobody is tracked": it
 -- is admitted, and the caller does not track it. All candidates count for the budget, whatever their rank.
-abbrev pub admits : Budget → StealPolicy → ℕ → List Candidate → Admission
+abbrev pub admits : Option ℕ → StealPolicy → ℕ → List Candidate → Admission
 admits b p r l = decides (at_budget b (length l)) (victim p r l)
 
 -- the number that an admission stands for, or none: 11 "admission rejects"
 abbrev pub admission_number : Admission → Option ℕ
-admission_number admission.Admit = none
-admission_number admission.Reject = some (number_of Rejected)
-admission_number (admission.Steal place voice) = none
+admission_number admission.Admit = None
+admission_number admission.Reject = Some (number_of Rejected)
+admission_number (admission.Steal place voice) = None
 
 abbrev pub nobody : Victim → Bool
-nobody Nobody = true
-nobody (Goes place voice) = false
+nobody None = true
+nobody (Some (place, voice)) = false
 
 -- 11 where it is at budget and nobody gives way: the policy steals nobody, or, by Paper 13, "all candidates outrank it"
-abbrev pub reject_number : Budget → StealPolicy → ℕ → List Candidate → Option ℕ
-reject_number b p r l = cond (at_budget b (length l) && nobody (victim p r l)) (some 11) none
+abbrev pub reject_number : Option ℕ → StealPolicy → ℕ → List Candidate → Option ℕ
+reject_number b p r l = cond (at_budget b (length l) && nobody (victim p r l)) (Some 11) None

@@ -1,24 +1,20 @@
 -- The victim under `Quietest`, said of the list of candidates and not of a walk over it. Paper 5: "Between equally quiet voices the
 -- younger goes. .. Under `Quietest` a level equal to the lowest so far takes its place. A NaN met first stays, and no known level
 -- still means the oldest." That `policy_victim` is this is proved in proofs/Quietest.
-use Rattle.std.specs.Prelude.{◌≡◌, List, [], ◌∷◌, ◌++◌, Bool, true, false, length, Float}
+use Rattle.std.specs.Prelude.{◌≡◌, List, [], ◌∷◌, ◌++◌, Bool, true, false, length, Float, Option, Some, None}
 use Rattle.std.specs.Float.{nan}
 use Rattle.std.specs.Float.Ieee.{lt, le, is_nan}
 use Rattle.lists.specs.Member.{In}
-use Rattle.voice.specs.declared.policy.Level.{Level}
-use Rattle.voice.specs.declared.policy.Level.TheVariants.{Unknown, Known}
 use Rattle.voice.specs.declared.policy.Candidate.{Candidate}
-use Rattle.voice.specs.declared.policy.Victim.{Victim}
-use Rattle.voice.specs.declared.policy.Victim.TheVariants.{Goes}
-use Rattle.voice.specs.Policy.{oldest}
+use Rattle.voice.specs.Policy.{Victim, oldest}
 
 -- no level is known
 abbrev pub Unheard : List Candidate → Type 0
-Unheard l = (c : Candidate) → In c l → c.level ≡ Unknown
+Unheard l = (c : Candidate) → In c l → c.level ≡ None
 
-abbrev pub nan_or : Level → Bool → Bool
-nan_or Unknown b = b
-nan_or (Known x) b = is_nan x
+abbrev pub nan_or : Option Float → Bool → Bool
+nan_or None b = b
+nan_or (Some x) b = is_nan x
 
 -- whether the known level that is met first is a NaN
 abbrev pub nan_first : List Candidate → Bool
@@ -29,15 +25,15 @@ nan_first (c ∷ l) = nan_or c.level (nan_first l)
 -- level after it is higher.
 pub record LastLowest (before : List Candidate) (c : Candidate) (after : List Candidate) : Type 0 where
   pub least : Float
-  pub known : c.level ≡ Known least
+  pub known : c.level ≡ Some least
   pub number : is_nan least ≡ false
-  pub earlier : (e : Candidate) (x : Float) → In e before → e.level ≡ Known x → is_nan x ≡ false → le least x ≡ true
-  pub later : (e : Candidate) (x : Float) → In e after → e.level ≡ Known x → is_nan x ≡ false → lt least x ≡ true
+  pub earlier : (e : Candidate) (x : Float) → In e before → e.level ≡ Some x → is_nan x ≡ false → le least x ≡ true
+  pub later : (e : Candidate) (x : Float) → In e after → e.level ≡ Some x → is_nan x ≡ false → lt least x ≡ true
 
 pub data QuietestGoes : List Candidate → Victim → Type 0 where
   -- "no known level still means the oldest"
   none_known : {l : List Candidate} → Unheard l → QuietestGoes l (oldest l)
   -- "A NaN met first stays"
-  nan_stays : (before : List Candidate) (c : Candidate) (after : List Candidate) → Unheard before → c.level ≡ Known nan → QuietestGoes (before ++ (c ∷ after)) (Goes (length before) c.voice)
+  nan_stays : (before : List Candidate) (c : Candidate) (after : List Candidate) → Unheard before → c.level ≡ Some nan → QuietestGoes (before ++ (c ∷ after)) (Some (length before, c.voice))
   -- "a level equal to the lowest so far takes its place"
-  last_lowest : (before : List Candidate) (c : Candidate) (after : List Candidate) → nan_first (before ++ (c ∷ after)) ≡ false → LastLowest before c after → QuietestGoes (before ++ (c ∷ after)) (Goes (length before) c.voice)
+  last_lowest : (before : List Candidate) (c : Candidate) (after : List Candidate) → nan_first (before ++ (c ∷ after)) ≡ false → LastLowest before c after → QuietestGoes (before ++ (c ∷ after)) (Some (length before, c.voice))

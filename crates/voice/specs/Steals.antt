@@ -1,28 +1,24 @@
 -- The steal records: "`steals` becomes a running count and the newest 64 records (sample, level or none, cut mark)."
-use Rattle.std.specs.Prelude.{ℕ, zero, suc, ◌+◌, ◌-◌, ◌%◌, min, List, [], ◌∷◌, ◌++◌, Bool, true, false, cond, length, take, drop, leb, Float}
+use Rattle.std.specs.Prelude.{ℕ, zero, suc, ◌+◌, ◌-◌, ◌%◌, min, List, [], ◌∷◌, ◌++◌, Bool, true, false, cond, length, take, drop, leb, Float, Option, Some, None}
 use Rattle.std.specs.Float.Ieee.{of_bits}
 use Rattle.std.specs.Float.{binary32}
-use Rattle.voice.specs.declared.policy.Level.{Level}
-use Rattle.voice.specs.declared.policy.Level.TheVariants.{Unknown, Known}
 use Rattle.voice.specs.declared.steals.StealRecord.{StealRecord}
 use Rattle.voice.specs.declared.steals.Steals.{Steals}
-use Rattle.voice.specs.declared.steals.StealFound.{StealFound}
-use Rattle.voice.specs.declared.steals.StealFound.TheVariants as found
 
 -- ---- one record
 
 -- a record's level, or none
-abbrev pub level_if : Bool → Float → Level
-level_if true x = Known x
-level_if false x = Unknown
+abbrev pub level_if : Bool → Float → Option Float
+level_if true x = Some x
+level_if false x = None
 
-abbrev pub record_level : StealRecord → Level
+abbrev pub record_level : StealRecord → Option Float
 record_level r = level_if r.known r.level
 
 -- the record of a steal; where no level is known, the float is 0
-abbrev pub record_of : ℕ → Level → Bool → StealRecord
-record_of sample Unknown cut = record { sample = sample; level = of_bits binary32 0; known = false; cut = cut }
-record_of sample (Known x) cut = record { sample = sample; level = x; known = true; cut = cut }
+abbrev pub record_of : ℕ → Option Float → Bool → StealRecord
+record_of sample None cut = record { sample = sample; level = of_bits binary32 0; known = false; cut = cut }
+record_of sample (Some x) cut = record { sample = sample; level = x; known = true; cut = cut }
 
 abbrev pub cut_of : StealRecord → StealRecord
 cut_of r = record { sample = r.sample; level = r.level; known = r.known; cut = true }
@@ -58,9 +54,9 @@ marked b k =
     record { count = b.count; newest = cond (leb first k) (cut_at (k - first) b.newest) b.newest }
 
 -- the i-th of the newest, oldest first
-abbrev pub found_at : ℕ → List StealRecord → StealFound
-found_at i [] = found.Nothing
-found_at zero (r ∷ l) = found.Record r
+abbrev pub found_at : ℕ → List StealRecord → Option StealRecord
+found_at i [] = None
+found_at zero (r ∷ l) = Some r
 found_at (suc i) (r ∷ l) = found_at i l
 
 -- ---- the ring

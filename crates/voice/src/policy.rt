@@ -16,18 +16,11 @@ pub enum BudgetScope {
     PerGroup,
 }
 
-// A voice's level, or none.
-#[derive(Clone, Copy)]
-pub enum Level {
-    Unknown,
-    Known(f32),
-}
-
 // A voice that may have to go, with its level and its rank.
 #[derive(Clone, Copy)]
 pub struct Candidate {
     pub voice: VoiceId,
-    pub level: Level,
+    pub level: Option<f32>,
     pub rank: u32,
 }
 
@@ -38,30 +31,11 @@ pub struct Candidates {
     pub count: usize,
 }
 
-// What the walk of `Quietest` holds: the candidate taken so far, with its place and its level.
-#[derive(Clone, Copy)]
-pub enum Held {
-    Nothing,
-    Taken {
-        place: usize,
-        voice: VoiceId,
-        level: f32,
-    },
-}
+// What the walk of `Quietest` holds: the place, the id and the level of the candidate taken so far.
+pub type Held = Option<(usize, VoiceId, f32)>;
 
 // Who is stolen or freed: its place among the candidates of its rank, and its id.
-#[derive(Clone, Copy)]
-pub enum Victim {
-    Nobody,
-    Goes { place: usize, voice: VoiceId },
-}
-
-// How many voices may be tracked at once.
-#[derive(Clone, Copy)]
-pub enum Budget {
-    Unlimited,
-    AtMost(usize),
-}
+pub type Victim = Option<(usize, VoiceId)>;
 
 // What a new voice meets.
 #[derive(Clone, Copy)]

@@ -15,10 +15,3 @@ pub struct Steals {
     pub total: u64,
     pub next: usize,
 }
-
-// A record that is held, or none.
-#[derive(Clone, Copy)]
-pub enum StealFound {
-    Nothing,
-    Record(StealRecord),
-}

@@ -13,7 +13,7 @@ use lib.Seq.{ext_get_or, sets, length-sets, get_or-set_same}
 use borrow.Author.Tests.{eqb-true, eqb-false}
 use Rattle.words.proofs.Within.{sets_out}
 use Rattle.voice_rows.specs.Rows.{each}
-use Rattle.voice_rows.specs.Filled.{Filled}
+use Rattle.voice_rows.specs.Filled.{Filled, Local}
 
 -- ---- each
 module _ {A : Type 0} where
@@ -55,10 +55,6 @@ sets_in (x ∷ ws) c at (suc j) h b =
     ap (λ k. get_or (sets (set c at x) (suc at) ws) k 0) e ∙ sets_in ws (set c at x) (suc at) j fit (omega arith)
 
 -- ---- the loop: the first k of n records stand in the words from base on, and no other word changed
--- a record that is read from w words: from the same words it is the same
-abbrev pub Local : {A : Type 0} → ℕ → (List ℕ → ℕ → A) → Type 0
-Local w at = (c e : List ℕ) (a b : ℕ) → ((j : ℕ) → j < w → get_or c (a + j) 0 ≡ get_or e (b + j) 0) → at c a ≡ at e b
-
 pub record Filling {A : Type 0} (base w n : ℕ) (at : List ℕ → ℕ → A) (d : A) (old new : List ℕ) (xs : List A) (k : ℕ) : Type 0 where
   pub low : k ≤ n
   pub long : length new ≡ length old

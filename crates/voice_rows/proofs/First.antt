@@ -4,7 +4,7 @@ use native.Mathlib.Omega.{arith}
 use native.Mathlib.Numerals.{add-one}
 use mathlib.Core.Path.{◌≡◌, refl, subst}
 use mathlib.Core.List.{List, []}
-use mathlib.Core.Option.{some}
+use Rattle.std.specs.Prelude.{Some}
 use mathlib.Core.Bool.{Bool, true, false}
 use lib.Dec.{ltb}
 use lib.ListN.{length, take, get_or}
@@ -14,18 +14,6 @@ use Rattle.graph.specs.Node.{is_node, node_at}
 use Rattle.graph_rows.specs.Node.{node_of, nodes_in}
 use Rattle.words.proofs.InWords.{SeekingIn, seek_start, seek_next, seek_hit}
 use Rattle.voice_rows.specs.Levels.{id_in, LeftMax}
-
-pub leftmax_start : (c : List ℕ) → LeftMax c 0
-leftmax_start c j h = absurd (omega arith)
-
-pub leftmax_next : (c : List ℕ) (i : ℕ) → LeftMax c i → id_in c i < id_in c (i + 1) → LeftMax c (i + 1)
-leftmax_next c i inv up j h = go (ltb j i) refl
-  where
-    go : (b : Bool) → ltb j i ≡ b → id_in c j < id_in c (i + 1)
-    go true p = let below : id_in c j < id_in c i = inv j (ltb-true j i p) in omega arith
-    go false p =
-        let same : i ≡ j = omega (arith, ltb-false j i p) in
-        subst (λ k. id_in c k < id_in c (i + 1)) same up
 
 module _ (c : List ℕ) (count n : ℕ) (e : n ≡ min count (length c / 22)) (id : NodeId) where
   -- rows whose ids are below are passed
@@ -37,7 +25,7 @@ module _ (c : List ℕ) (count n : ℕ) (e : n ≡ min count (length c / 22)) (i
       subst (SeekingIn 22 node_of (is_node id) c count n) (add-one k)
       (seek_next 22 node_of (is_node id) c count n e k under (passed k (omega arith) (λ j b. low j (omega arith))) (ne_eqb (id_in c k) id.0 (λ q. omega (arith, lower, q))))
 
-  pub leftmax_found : (k : ℕ) → k < n → LeftMax c k → id_in c k ≡ id.0 → some (get_or (nodes_in c) k (node_of [])) ≡ node_at (take count (nodes_in c)) id
+  pub leftmax_found : (k : ℕ) → k < n → LeftMax c k → id_in c k ≡ id.0 → Some (get_or (nodes_in c) k (node_of [])) ≡ node_at (take count (nodes_in c)) id
   leftmax_found k h inv is =
       seek_hit 22 node_of (is_node id) c count n e k h
       (passed k (omega arith) (λ j b. subst (λ x. id_in c j < x) is (inv j b)))

@@ -1,7 +1,7 @@
 pub mod Filling
+pub mod Made
 pub mod Records
 pub mod Words
 pub mod Reading
-pub mod Earliest
 pub mod Picked
 pub mod First

@@ -6,7 +6,7 @@ use mathlib.Core.List.{List, [], ◌∷◌, ◌++◌, map}
 use mathlib.Core.Bool.{Bool, true, false}
 use lib.ListN.{length, take, get_or, set}
 use Rattle.lists.proofs.Member.{map_append}
-use Rattle.lists.specs.Filter.{filter}
+use Rattle.std.specs.Prelude.{filter}
 use Rattle.lists.proofs.Filter.{filter_snoc_on, filter_snoc_off}
 use Rattle.lists.proofs.Table.{append_row, passed_row}
 

@@ -21,7 +21,7 @@ use Rattle.store.specs.declared.voices.VoiceState.TheVariants.{Tracked, Fading, 
 use Rattle.words.specs.Fields.{is_set, four, name_from, name_at, long_from}
 use Rattle.words.proofs.Words.{spell, spelled}
 use Rattle.voice_rows.specs.Rows.{node, state_at, param_at, step_at}
-use Rattle.voice_rows.proofs.Filling.{Local}
+use Rattle.voice_rows.specs.Filled.{Local}
 
 param : Name → ℕ → Param
 param n k = record { name = n; node = k }
@@ -29,13 +29,6 @@ param n k = record { name = n; node = k }
 pub param_same : (p q : Param) → p.name ≡ q.name → p.node ≡ q.node → p ≡ q
 unfolding param
 param_same p q a b = let same : param p.name p.node ≡ param q.name q.node = cc in same
-
-step : Bool → ℕ → List ℕ → DoneStep
-step a k l = record { all = a; count = k; sources = l }
-
-pub step_same : (p q : DoneStep) → p.all ≡ q.all → p.count ≡ q.count → p.sources ≡ q.sources → p ≡ q
-unfolding step
-step_same p q a b c = let same : step p.all p.count p.sources ≡ step q.all q.count q.sources = cc in same
 
 params : List Param → ℕ → Params
 params l k = record { rows = l; count = k }
@@ -50,13 +43,6 @@ plan l k = record { steps = l; output = k }
 pub plan_same : (p q : DonePlan) → p.steps ≡ q.steps → p.output ≡ q.output → p ≡ q
 unfolding plan
 plan_same p q a b = let same : plan p.steps p.output ≡ plan q.steps q.output = cc in same
-
-fade : NodeId → ℕ → ℕ → ℕ → Fade
-fade n s p k = record { node = n; start = s; position = p; number = k }
-
-pub fade_same : (f g : Fade) → f.node ≡ g.node → f.start ≡ g.start → f.position ≡ g.position → f.number ≡ g.number → f ≡ g
-unfolding fade
-fade_same f g a b c d = let same : fade f.node f.start f.position f.number ≡ fade g.node g.start g.position g.number = cc in same
 
 made : VoiceId → ℕ → NodeId → ℕ → NodeId → ℕ → NodeId → Bool → ℕ → ℕ → VoiceState → Params → DonePlan → Voice
 made a b c d e f g h i m j k l =
@@ -107,10 +93,6 @@ step_local c e a b h =
     let e2 : get_or c (a + 2) 0 ≡ get_or e (b + 2) 0 = h 2 (omega arith) in
     let same : step_from (get_or c a 0) (get_or c (a + 1) 0) (get_or c (a + 2) 0) ≡ step_from (get_or e b 0) (get_or e (b + 1) 0) (get_or e (b + 2) 0) = cc in
     same
-
--- eight bytes in two words
-pub eight_back : (l : List ℕ) (a b : ℕ) → length l ≡ 8 → four a ≡ spell 0 4 l → four b ≡ spell 4 4 l → four a ++ four b ≡ l
-eight_back l a b long p q = ap (λ x. x ++ four b) p ∙ ap (λ x. spell 0 4 l ++ x) q ∙ spelled 8 l long
 
 -- a state is read from eight
 state_from : ℕ → ℕ → ℕ → ℕ → ℕ → ℕ → ℕ → ℕ → VoiceState

@@ -1,18 +1,15 @@
 -- Levels and candidates over what they read: the live nodes and the clock. The model says the same over its whole state.
-use Rattle.std.specs.Prelude.{ℕ, ◌<◌, List, [], map, Bool, cond, ltb, get_or}
-use Rattle.lists.specs.Filter.{filter}
+use Rattle.std.specs.Prelude.{ℕ, ◌<◌, List, [], map, Bool, cond, ltb, get_or, filter, Option, Float, None}
 use Rattle.node.specs.declared.record.Node.{Node}
 use Rattle.graph.specs.Node.{node_at}
-use Rattle.voice.specs.declared.policy.Level.{Level}
-use Rattle.voice.specs.declared.policy.Level.TheVariants.{Unknown}
 use Rattle.voice.specs.declared.policy.Candidate.{Candidate}
 use Rattle.store.specs.declared.voices.Voice.{Voice}
 use Rattle.model.specs.Voice.{node_level}
 use Rattle.graph_rows.specs.Node.{node_of, nodes_in}
 
 -- "none until the clock passes the birth sample, and none for an unknown voice or a dead output"
-abbrev pub level_at : List Node → ℕ → Voice → Level
-level_at ns clock v = cond (ltb v.birth clock) (node_level (node_at ns v.output)) Unknown
+abbrev pub level_at : List Node → ℕ → Voice → Option Float
+level_at ns clock v = cond (ltb v.birth clock) (node_level (node_at ns v.output)) None
 
 abbrev pub candidate_at : List Node → ℕ → Voice → Candidate
 candidate_at ns clock v = record { voice = v.id; level = level_at ns clock v; rank = v.rank }

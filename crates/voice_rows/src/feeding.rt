@@ -4,7 +4,6 @@ ghost use Rattle.model.specs.Voice.{feeder, end_of};
 ghost use Rattle.voice_rows.specs.Rows.{voice_of, voices_in};
 
 use crate::row::{count_at, first_at, output_at, panned_at, state_at};
-use lists::word::long;
 use store::voices::VoiceState;
 
 // The id of the node by which the voice in row `i` feeds its bus where it does not fade: its pan node, or its output.
@@ -12,24 +11,17 @@ pub fn feeder_at(t: &[u32], i: usize) -> u64
     ensures { result ≡ (feeder (get_or (voices_in t.now) i (voice_of []))).0 }
 {
     if panned_at(t, i) {
-        let first = first_at(t, i);
-        return long(first.0) + long(count_at(t, i)) + 1;
+        return u64::from(first_at(t, i).0) + u64::from(count_at(t, i)) + 1;
     }
-    let output = output_at(t, i);
-    long(output.0)
+    u64::from(output_at(t, i).0)
 }
 
 // The id of the node by which the voice in row `i` feeds its bus now: its fade, or what fed the bus before one.
 pub fn end_at(t: &[u32], i: usize) -> u64
     ensures { result ≡ (end_of (get_or (voices_in t.now) i (voice_of []))).0 }
 {
-    let state = state_at(t, i);
-    match state {
-        VoiceState::Tracked => feeder_at(t, i),
-        VoiceState::Fading(fade) => {
-            let node = fade.node;
-            long(node.0)
-        }
-        VoiceState::Loose => feeder_at(t, i),
+    match state_at(t, i) {
+        VoiceState::Fading(fade) => u64::from(fade.node.0),
+        VoiceState::Tracked | VoiceState::Loose => feeder_at(t, i),
     }
 }

@@ -8,10 +8,9 @@ ghost use Rattle.graph_rows.specs.Node.{nodes_in};
 ghost use Rattle.voice_rows.specs.Rows.{voice_of, voices_in};
 
 use crate::row::{VoiceTable, birth_at, bus_at, id_at, output_at, rank_at, state_at};
-use lists::number::at_most;
 use node::record::NodeId;
 use store::voices::VoiceState;
-use voice::policy::{BudgetScope, Candidate, Candidates, Level};
+use voice::policy::{BudgetScope, Candidate, Candidates};
 use voice_policy::policy::{counts_for, no_candidates};
 use words::fields::float_at;
 
@@ -24,26 +23,24 @@ pub struct Counting {
 }
 
 // The level of the node `id` among the first `n` nodes; none if it does not live.
-fn node_level(nodes: &[u32], n: usize, id: NodeId) -> Level
+fn node_level(nodes: &[u32], n: usize, id: NodeId) -> Option<f32>
     ensures { result ≡ node_level (node_at (take n (nodes_in nodes.now)) id) }
 {
-    let m = at_most(n, nodes.len() / 22);
-    let mut i: usize = 0;
-    while i < m {
-        if graph_rows::node_row::id_at(nodes, i).0 == id.0 {
-            return Level::Known(float_at(nodes, 22, i, 14));
+    for i in 0..n.min(nodes.len() / 22) {
+        if graph_rows::node_row::id_at(nodes, i) == id {
+            return Some(float_at(nodes, 22, i, 14));
         }
-        i += 1;
     }
-    Level::Unknown
+    None
 }
 
 // On from row `from` of the nodes while their ids rise and are below `id`: the row that is reached. Every row before it has a lower id.
+// The row is counted by hand, since it is the answer wherever the walk stops, also past the last one.
 fn advance(nodes: &[u32], n: usize, from: usize, id: NodeId) -> usize
     requires { LeftMax nodes.now from }
     ensures { LeftMax nodes.now result }
 {
-    let m = at_most(n, nodes.len() / 22);
+    let m = n.min(nodes.len() / 22);
     let mut here = graph_rows::node_row::id_at(nodes, from).0;
     let mut i = from;
     while i < m {
@@ -61,32 +58,30 @@ fn advance(nodes: &[u32], n: usize, from: usize, id: NodeId) -> usize
 }
 
 // The level of the node `id` among the first `n` nodes, read from row `row` if it stands there.
-fn node_level_near(nodes: &[u32], n: usize, id: NodeId, row: usize) -> Level
+fn node_level_near(nodes: &[u32], n: usize, id: NodeId, row: usize) -> Option<f32>
     requires { LeftMax nodes.now row }
     ensures { result ≡ node_level (node_at (take n (nodes_in nodes.now)) id) }
 {
-    if row < at_most(n, nodes.len() / 22) {
-        if graph_rows::node_row::id_at(nodes, row).0 == id.0 {
-            return Level::Known(float_at(nodes, 22, row, 14));
-        }
+    if row < n.min(nodes.len() / 22) && graph_rows::node_row::id_at(nodes, row) == id {
+        return Some(float_at(nodes, 22, row, 14));
     }
     node_level(nodes, n, id)
 }
 
 // The level of the voice in row `i`, whose output is looked for in row `row` of the nodes first.
-fn level_near(t: &[u32], i: usize, nodes: &[u32], n: usize, clock: u64, row: usize) -> Level
+fn level_near(t: &[u32], i: usize, nodes: &[u32], n: usize, clock: u64, row: usize) -> Option<f32>
     requires { LeftMax nodes.now row }
     ensures { result ≡ level_at (take n (nodes_in nodes.now)) clock (get_or (voices_in t.now) i (voice_of [])) }
 {
     if birth_at(t, i) < clock {
-        let output = output_at(t, i);
-        return node_level_near(nodes, n, output, row);
+        node_level_near(nodes, n, output_at(t, i), row)
+    } else {
+        None
     }
-    Level::Unknown
 }
 
 // The level of the voice in row `i`: none until the clock passes its birth, and none where its output does not live.
-pub fn level_at(t: &[u32], i: usize, nodes: &[u32], n: usize, clock: u64) -> Level
+pub fn level_at(t: &[u32], i: usize, nodes: &[u32], n: usize, clock: u64) -> Option<f32>
     ensures { result ≡ level_at (take n (nodes_in nodes.now)) clock (get_or (voices_in t.now) i (voice_of [])) }
 {
     level_near(t, i, nodes, n, clock, 0)
@@ -96,15 +91,7 @@ pub fn level_at(t: &[u32], i: usize, nodes: &[u32], n: usize, clock: u64) -> Lev
 pub fn is_counted(t: &[u32], i: usize, scope: BudgetScope, bus: NodeId) -> bool
     ensures { result ≡ counted scope bus (get_or (voices_in t.now) i (voice_of [])) }
 {
-    let s = state_at(t, i);
-    match s {
-        VoiceState::Tracked => {
-            let theirs = bus_at(t, i);
-            counts_for(scope, theirs, bus)
-        }
-        VoiceState::Fading(_) => false,
-        VoiceState::Loose => false,
-    }
+    matches!(state_at(t, i), VoiceState::Tracked) && counts_for(scope, bus_at(t, i), bus)
 }
 
 // The voice in row `i` as one that may have to go, with its level and its rank; its output is looked for in row `row` of the nodes first.
@@ -112,45 +99,27 @@ fn candidate_at(t: &[u32], i: usize, nodes: &[u32], n: usize, clock: u64, row: u
     requires { LeftMax nodes.now row }
     ensures { result ≡ candidate_at (take n (nodes_in nodes.now)) clock (get_or (voices_in t.now) i (voice_of [])) }
 {
-    let voice = id_at(t, i);
-    let level = level_near(t, i, nodes, n, clock, row);
     Candidate {
-        voice,
-        level,
+        voice: id_at(t, i),
+        level: level_near(t, i, nodes, n, clock, row),
         rank: rank_at(t, i),
     }
 }
 
+// The tracked voices that count for a new voice, in order of admission, each with its level and its rank.
 // One walk over the nodes serves all voices: in a store that calls made, the ids of the nodes rise from row to row, and those of the
 // outputs from voice to voice. For an output that is not at the row reached, all nodes are looked at.
-fn candidates_in(t: &[u32], count: usize, nodes: &[u32], n: usize, by: Counting) -> Candidates
-    requires { length t.now ≡ 9152 }
-    ensures { candidates_of result ≡ candidates_at (take n (nodes_in nodes.now)) by.clock (counted by.scope by.bus) (take count (voices_in t.now)) }
-{
-    let scope = by.scope;
-    let bus = by.bus;
-    let m = at_most(count, 64);
-    let mut out = no_candidates();
-    let mut kept: usize = 0;
-    let mut row: usize = 0;
-    let mut i: usize = 0;
-    while i < m {
-        if is_counted(t, i, scope, bus) {
-            row = advance(nodes, n, row, output_at(t, i));
-            out.rows[kept] = candidate_at(t, i, nodes, n, by.clock, row);
-            kept += 1;
-            i += 1;
-        } else {
-            i += 1;
-        }
-    }
-    out.count = kept;
-    out
-}
-
-// The tracked voices that count for a new voice, in order of admission, each with its level and its rank.
 pub fn candidates(t: &VoiceTable, count: usize, nodes: &[u32], n: usize, by: Counting) -> Candidates
     ensures { candidates_of result ≡ candidates_at (take n (nodes_in nodes.now)) by.clock (counted by.scope by.bus) (take count (voices_in t.now)) }
 {
-    candidates_in(t, count, nodes, n, by)
+    let mut out = no_candidates();
+    let mut row = 0;
+    for i in 0..count.min(64) {
+        if is_counted(t, i, by.scope, by.bus) {
+            row = advance(nodes, n, row, output_at(t, i));
+            out.rows[out.count] = candidate_at(t, i, nodes, n, by.clock, row);
+            out.count += 1;
+        }
+    }
+    out
 }

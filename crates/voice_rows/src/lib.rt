@@ -3,8 +3,8 @@
 
 pub mod fade;
 pub mod feeding;
+pub mod layout;
 pub mod levels;
 pub mod pack;
-pub mod params;
 pub mod row;
 pub mod table;

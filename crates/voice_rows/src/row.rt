@@ -1,22 +1,22 @@
 // A voice's row: its fields one by one, so that a loop reads what it tests; its state; the whole record.
-ghost use Rattle.std.specs.Prelude.{◌≡◌, [], ◌+◌, ◌*◌, ◌<◌, get_or, set};
+ghost use Rattle.std.specs.Prelude.{◌≡◌, [], get_or, set};
 ghost use Rattle.words.specs.Rows.{row_at};
 ghost use Rattle.synthdef.specs.Tables.{param_rows};
-ghost use Rattle.synthdef.specs.Params.{param_node, as_param_node};
+ghost use Rattle.synthdef.specs.Params.{param_node};
 ghost use Rattle.synthdef.specs.Plan.{plan_silent};
 ghost use Rattle.model.specs.Voice.{with_state};
-ghost use Rattle.voice_rows.specs.Rows.{fade_at, step_at, voice_of, voices_in};
+ghost use Rattle.voice_rows.specs.Rows.{fade_at, voice_of, voices_in};
 
-use crate::pack::{state_words, voice_words};
-use crate::params::{ParamPlace, params_in};
+use crate::layout::records_at;
+use crate::pack::{ParamWords, StepWords, state_words, voice_words};
 use node::name::Name;
 use node::record::{NodeId, VoiceId};
 use store::voices::{Fade, Voice, VoiceState};
 use synthdef::def::Params;
-use synthdef::params::{ParamNode, param_node};
-use synthdef::plan::{DonePlan, DoneStep};
+use synthdef::params::param_node;
+use synthdef::plan::DonePlan;
 use synthdef::silent::plan_silent;
-use words::fields::{eight_bytes, flag_at, is_set, long_at, low_byte};
+use words::fields::{flag_at, long_at, low_byte};
 use words::table::{put_fields, put_row, word_at};
 
 // "64 voices", a row of 143 words each.
@@ -88,9 +88,8 @@ pub fn rank_at(t: &[u32], i: usize) -> u32
 fn fade_at(t: &[u32], i: usize) -> Fade
     ensures { result ≡ fade_at (row_at 143 i t.now) 11 }
 {
-    let node = NodeId(word_at(t, 143, i, 12));
     Fade {
-        node,
+        node: NodeId(word_at(t, 143, i, 12)),
         start: long_at(t, 143, i, 13),
         position: long_at(t, 143, i, 15),
         number: long_at(t, 143, i, 17),
@@ -100,59 +99,34 @@ fn fade_at(t: &[u32], i: usize) -> Fade
 pub fn state_at(t: &[u32], i: usize) -> VoiceState
     ensures { result ≡ (get_or (voices_in t.now) i (voice_of [])).state }
 {
-    let which = word_at(t, 143, i, 11);
-    if which == 1 {
-        return VoiceState::Tracked;
+    match word_at(t, 143, i, 11) {
+        1 => VoiceState::Tracked,
+        2 => VoiceState::Fading(fade_at(t, i)),
+        _ => VoiceState::Loose,
     }
-    if which == 2 {
-        return VoiceState::Fading(fade_at(t, i));
-    }
-    VoiceState::Loose
 }
 
 // The voice in row `i` is in the state `s`; past the end nothing is stored.
 pub fn put_state(t: &mut [u32], i: usize, s: VoiceState)
     ensures { voices_in t.new ≡ set (voices_in t.old) i (with_state s (get_or (voices_in t.old) i (voice_of []))) }
 {
-    let ws = state_words(s);
-    put_fields(t, 143, i, 11, &ws);
+    put_fields(t, 143, i, 11, &state_words(s));
 }
 
 // Row `i` is the voice `v`; past the end nothing is stored.
 pub fn put_voice(t: &mut [u32], i: usize, v: Voice)
     ensures { voices_in t.new ≡ set (voices_in t.old) i v }
 {
-    let ws = voice_words(v);
-    put_row(t, 143, i, &ws);
+    put_row(t, 143, i, &voice_words(v));
 }
 
 // The parameters of the voice in row `i`.
 pub fn params_at(t: &[u32], i: usize) -> Params
     ensures { result ≡ (get_or (voices_in t.now) i (voice_of [])).params }
 {
-    let place = ParamPlace {
-        width: 143,
-        count: 19,
-        first: 23,
-        each: 6,
-        packed: false,
-    };
-    params_in(t, i, place)
-}
-
-// The step `k` of the done plan of the voice in row `i`.
-fn step_at(t: &[u32], i: usize, k: usize) -> DoneStep
-    requires { k < 24 }
-    ensures { result ≡ step_at (row_at 143 i t.now) (71 + k * 3) }
-{
-    let a = word_at(t, 143, i, 71 + k * 3);
-    let b = word_at(t, 143, i, 71 + k * 3 + 1);
-    let rule = word_at(t, 143, i, 71 + k * 3 + 2);
-    let sources = eight_bytes(a, b);
-    DoneStep {
-        all: is_set(rule / 256),
-        count: low_byte(rule),
-        sources,
+    Params {
+        rows: records_at::<ParamWords, 6, 8>(t, 143, i, 23),
+        count: long_at(t, 143, i, 19) as usize,
     }
 }
 
@@ -160,15 +134,8 @@ fn step_at(t: &[u32], i: usize, k: usize) -> DoneStep
 pub fn plan_at(t: &[u32], i: usize) -> DonePlan
     ensures { result ≡ (get_or (voices_in t.now) i (voice_of [])).plan }
 {
-    let none = step_at(t, i, 0);
-    let mut steps = [none; 24];
-    let mut k: usize = 0;
-    while k < 24 {
-        steps[k] = step_at(t, i, k);
-        k += 1;
-    }
     DonePlan {
-        steps,
+        steps: records_at::<StepWords, 3, 24>(t, 143, i, 71),
         output: low_byte(word_at(t, 143, i, 21)),
     }
 }
@@ -177,42 +144,33 @@ pub fn plan_at(t: &[u32], i: usize) -> DonePlan
 pub fn silent_at(t: &[u32], i: usize, done: [bool; 24]) -> bool
     ensures { result ≡ plan_silent (get_or (voices_in t.now) i (voice_of [])).plan done }
 {
-    let plan = plan_at(t, i);
-    plan_silent(plan, done)
+    plan_silent(plan_at(t, i), done)
 }
 
 // The node of the parameter of that name of the voice in row `i`, or none.
-pub fn param_node_at(t: &[u32], i: usize, name: Name) -> ParamNode
-    ensures { result ≡ as_param_node (param_node (param_rows (get_or (voices_in t.now) i (voice_of [])).params) name) }
+pub fn param_node_at(t: &[u32], i: usize, name: Name) -> Option<u8>
+    ensures { result ≡ param_node (param_rows (get_or (voices_in t.now) i (voice_of [])).params) name }
 {
-    let params = params_at(t, i);
-    param_node(params, name)
+    param_node(params_at(t, i), name)
 }
 
 // The voice in row `i`; past the end, the voice of no words.
 pub fn voice_at(t: &[u32], i: usize) -> Voice
     ensures { result ≡ get_or (voices_in t.now) i (voice_of []) }
 {
-    let id = id_at(t, i);
-    let bus = bus_at(t, i);
-    let first = first_at(t, i);
-    let output = output_at(t, i);
-    let state = state_at(t, i);
-    let params = params_at(t, i);
-    let plan = plan_at(t, i);
     Voice {
-        id,
+        id: id_at(t, i),
         birth: birth_at(t, i),
-        bus,
+        bus: bus_at(t, i),
         port: port_at(t, i),
-        first,
+        first: first_at(t, i),
         count: count_at(t, i),
-        output,
+        output: output_at(t, i),
         panned: panned_at(t, i),
         sequence: sequence_at(t, i),
         rank: rank_at(t, i),
-        state,
-        params,
-        plan,
+        state: state_at(t, i),
+        params: params_at(t, i),
+        plan: plan_at(t, i),
     }
 }

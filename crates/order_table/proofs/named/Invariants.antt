@@ -1,11 +1,7 @@
-use Prim.Native.Nat.{◌≤◌, ◌-◌}
 use mathlib.Core.Path.{◌≡◌}
 use lib.ListN.{length, take, get_or}
 use Rattle.prepare.proofs.Mapped.{Mapped}
 use Rattle.order_table.proofs.named.Given as goal
 
 abbrev pub invariant-loop-i : goal.invariant-loop-i
-invariant-loop-i l = (l.i ≤ l.k) × (length l.order ≡ 512) × Mapped (λ x. get_or l.ids x 0) l.order l.i (take l.k l.rows)
-
-abbrev pub decreases-loop-i : goal.decreases-loop-i
-decreases-loop-i l = l.k - l.i
+invariant-loop-i l = (length l.order ≡ 512) × Mapped (λ x. get_or l.ids x 0) l.order l.i (take l.k l.rows)

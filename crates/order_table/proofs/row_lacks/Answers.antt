@@ -4,7 +4,9 @@ use mathlib.Core.Path.{◌≡◌, sym, ap, ◌∙◌}
 use mathlib.Core.List.{[]}
 use mathlib.Core.Bool.{◌||◌}
 use lib.ListN.{length, take, drop, get_or}
+use borrow.Author.Rules.{rules}
 use Rattle.lists.proofs.Table.{left_row}
+use Rattle.words.proofs.Rows.{rows_long}
 use Rattle.prepare.specs.Parts.{ports_lack, rows_lack}
 use Rattle.prepare.proofs.Mapped.{no_row}
 use Rattle.prepare.proofs.Ports.{rows_next}
@@ -23,8 +25,10 @@ next c =
     let rows = nodes_in c.args.nodes.now in
     let x = get_or rows i (node_of []) in
     let masks = c.args.masks.now in
-    let low : i < length masks = omega (arith, c.requires.0, c.requires.2, c.loop-i-test.true) in
-    let dr = left_row (node_of []) rows c.args.n i c.loop-i-test.true c.requires.1 in
+    let nodes : length c.args.nodes.now ≡ 11264 = search rules in
+    let long : length masks ≡ 512 = search rules in
+    let low : i < length masks = omega (arith, c.requires, long, c.loop-i-test.true) in
+    let dr = left_row (node_of []) rows c.args.n i c.loop-i-test.true (omega (arith, c.requires, rows_long 22 node_of c.args.nodes.now)) in
     let is : c.port_lacks.result ≡ ports_lack (ports_in masks) i x.ports x.required =
     c.port_lacks.ensures
     ∙ mask_lacks_lem masks i c.ports_at.result c.required_at.result low
@@ -35,15 +39,15 @@ next c =
 pub returns-then-port_lacks : goal.returns-then-port_lacks
 returns-then-port_lacks c =
     let l = c.loop-i in
-    sym (sym l.invariant.1 ∙ next (goal.at.returns-then-port_lacks c).After-port_lacks ∙ ap (λ b. b || rows_lack (ports_in c.args.masks.now) (drop (l.i + 1) (take c.args.n (nodes_in c.args.nodes.now))) (l.i + 1)) c.if-port_lacks.true)
+    sym (sym l.invariant ∙ next (goal.at.returns-then-port_lacks c).After-port_lacks ∙ ap (λ b. b || rows_lack (ports_in c.args.masks.now) (drop (l.i + 1) (take c.args.n (nodes_in c.args.nodes.now))) (l.i + 1)) c.if-port_lacks.true)
 
 pub loop-i-preserved : goal.loop-i-preserved
 loop-i-preserved c =
     let l = c.loop-i in
-    (omega arith, sym (next (goal.at.loop-i-preserved c).After-port_lacks ∙ ap (λ b. b || rows_lack (ports_in c.args.masks.now) (drop (l.i + 1) (take c.args.n (nodes_in c.args.nodes.now))) (l.i + 1)) c.if-port_lacks.false) ∙ l.invariant.1)
+    sym (next (goal.at.loop-i-preserved c).After-port_lacks ∙ ap (λ b. b || rows_lack (ports_in c.args.masks.now) (drop (l.i + 1) (take c.args.n (nodes_in c.args.nodes.now))) (l.i + 1)) c.if-port_lacks.false) ∙ l.invariant
 
 pub returns : goal.returns
 unfolding rows_lack
 returns c =
     let l = c.loop-i in
-    sym (ap (λ z. rows_lack (ports_in c.args.masks.now) z l.i) (no_row (nodes_in c.args.nodes.now) c.args.n l.i c.loop-i-test.false)) ∙ l.invariant.1
+    sym (ap (λ z. rows_lack (ports_in c.args.masks.now) z l.i) (no_row (nodes_in c.args.nodes.now) c.args.n l.i c.loop-i-test.false)) ∙ l.invariant

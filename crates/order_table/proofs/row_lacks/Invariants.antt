@@ -1,4 +1,3 @@
-use Prim.Native.Nat.{◌≤◌, ◌-◌}
 use mathlib.Core.Path.{◌≡◌}
 use lib.ListN.{take, drop}
 use Rattle.prepare.specs.Parts.{rows_lack}
@@ -7,7 +6,4 @@ use Rattle.order_table.specs.Masks.{ports_in}
 use Rattle.order_table.proofs.row_lacks.Given as goal
 
 abbrev pub invariant-loop-i : goal.invariant-loop-i
-invariant-loop-i l = (l.i ≤ l.n) × (rows_lack (ports_in l.masks) (drop l.i (take l.n (nodes_in l.nodes))) l.i ≡ rows_lack (ports_in l.masks) (take l.n (nodes_in l.nodes)) 0)
-
-abbrev pub decreases-loop-i : goal.decreases-loop-i
-decreases-loop-i l = l.n - l.i
+invariant-loop-i l = (rows_lack (ports_in l.masks) (drop l.i (take l.n (nodes_in l.nodes))) l.i ≡ rows_lack (ports_in l.masks) (take l.n (nodes_in l.nodes)) 0)

@@ -10,6 +10,6 @@ pub returns : goal.returns
 returns c =
     let m = c.args.m in
     let es = arcs (take m c.args.from.now) (take m c.args.to.now) in
-    let few : length es ≤ 1024 = omega (arith, c.requires.0, length_arcs (take m c.args.from.now) (take m c.args.to.now), length-take m c.args.from.now) in
+    let few : length es ≤ 1024 = omega (arith, c.requires, length_arcs (take m c.args.from.now) (take m c.args.to.now), length-take m c.args.from.now) in
     let r = rw (take_all 1024 es few) at c.ranked.ensures in
     record { long = r.sized.0; is = r.is; many = r.sized.1; all = r.all }

@@ -1,11 +1,7 @@
-use Prim.Native.Nat.{◌≤◌}
 use lib.ListN.{take}
 use Rattle.rank.specs.Order.{arcs}
 use Rattle.rank.proofs.Laws.{Chain}
 use Rattle.rank.proofs.linked.Given as goal
 
 abbrev pub invariant-loop-i : goal.invariant-loop-i
-invariant-loop-i l = (l.i ≤ l.m) × Chain l.first l.next l.n (take l.m (arcs l.from l.to)) l.i
-
-abbrev pub decreases-loop-i : goal.decreases-loop-i
-decreases-loop-i l = l.i
+invariant-loop-i l = Chain l.first l.next l.n (take l.m (arcs l.from l.to)) l.i

@@ -9,9 +9,9 @@ use Rattle.rank.proofs.ranked.Goals as goal
 pub returns : goal.returns
 returns c =
     let a = c.args in
-    let k = c.at_most-k in
-    let n = c.at_most in
-    let m = c.at_most-m in
+    let k = c.min-k in
+    let n = c.min in
+    let m = c.min-m in
     let h : k.result ≤ 512 = omega arith in
     let e : m.result ≡ min (min (length a.from.now) (length a.to.now)) 1024 = m.ensures ∙ ap (λ (x : ℕ). min x 1024) n.ensures in
     let r = ranking c.queued-q.result k.result _ h c.queued-q.ensures in

@@ -17,12 +17,10 @@ loop-v-preserved c =
     let cs = s.args.counts.now in
     let hv : l.v < n = omega arith in
     let hn : n ≤ length cs = omega (arith, s.requires.0, s.requires.1) in
-    let dr = left_row 0 cs n l.v hv hn in (
-      omega arith,
-      ⊎_elim (λ w. rw (w.queue-is, w.tail-is) (fill_hit l.queue l.tail l.v (take n cs) _ dr l.invariant.1 w.if-counts-v-eq0.true (omega arith)))
-          (λ w. rw (w.queue-is, w.tail-is) (fill_miss l.queue l.tail l.v (take n cs) _ dr l.invariant.1 w.if-counts-v-eq0.false))
-          c.if-counts-v-eq0.branch-raw,
-    )
+    let dr = left_row 0 cs n l.v hv hn in
+    ⊎_elim (λ w. rw (w.queue-is, w.tail-is) (fill_hit l.queue l.tail l.v (take n cs) _ dr l.invariant w.if-counts-v-eq0.true (omega arith)))
+    (λ w. rw (w.queue-is, w.tail-is) (fill_miss l.queue l.tail l.v (take n cs) _ dr l.invariant w.if-counts-v-eq0.false))
+    c.if-counts-v-eq0.branch-raw
 
 pub returns : goal.returns
 unfolding ready
@@ -31,5 +29,5 @@ returns c =
     let l = c.loop-v in
     let n = s.args.n in
     let h : n ≤ l.v = omega arith in
-    let e = rw (no_row s.args.counts.now n l.v h) at l.invariant.1.2 in
-    record { long = l.invariant.1.0; few = simp length-take (omega (arith, s.requires.0, s.requires.1)); is = sym (append-nil _) ∙ e }
+    let e = rw (no_row s.args.counts.now n l.v h) at l.invariant.2 in
+    record { long = l.invariant.0; few = simp length-take (omega (arith, s.requires.0, s.requires.1)); is = sym (append-nil _) ∙ e }

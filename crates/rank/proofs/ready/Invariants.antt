@@ -1,10 +1,6 @@
-use Prim.Native.Nat.{◌≤◌, ◌-◌}
 use lib.ListN.{take}
 use Rattle.rank.proofs.Laws.{Filled}
 use Rattle.rank.proofs.ready.Given as goal
 
 abbrev pub invariant-loop-v : goal.invariant-loop-v
-invariant-loop-v l = (l.v ≤ l.n) × Filled l.queue l.tail l.v (take l.n l.counts)
-
-abbrev pub decreases-loop-v : goal.decreases-loop-v
-decreases-loop-v l = l.n - l.v
+invariant-loop-v l = Filled l.queue l.tail l.v (take l.n l.counts)

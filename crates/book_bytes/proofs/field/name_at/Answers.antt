@@ -1,5 +1,4 @@
 -- `book_bytes::field::name_at` meets its contract.
-use Prim.Native.Nat.{◌<◌}
 use native.Mathlib.Omega.{arith}
 use mathlib.Core.Path.{◌≡◌, ap, ◌∙◌}
 use lib.ListN.{set}
@@ -8,15 +7,12 @@ use Rattle.book_bytes.proofs.field.name_at.Goals as goal
 
 pub loop-i-preserved : goal.loop-i-preserved
 loop-i-preserved c =
-    let l = c.before.before in
-    let s = l.args.s.now in
-    let h : l.loop-i.i < 16 = omega arith in
-    (omega arith, ap (λ z. set z l.loop-i.i c.byte_at.result) l.loop-i.invariant.1 ∙ copied_more s l.loop-i.i c.byte_at.result h c.byte_at.ensures)
+    let l = c.loop-i in
+    ap (λ z. set z l.i c.byte_at.result) l.invariant ∙ copied_more c.args.s.now l.i c.byte_at.result c.loop-i-test.true c.byte_at.ensures
 
 pub returns : goal.returns
 returns c =
-    let l = c.before.before in
-    let s = l.args.s.now in
-    let all : l.loop-i.i ≡ 16 = omega arith in
-    let bytes = l.loop-i.invariant.1 ∙ copied_all s l.loop-i.i all in
+    let l = c.loop-i in
+    let all : l.i ≡ 16 = omega arith in
+    let bytes = l.invariant ∙ copied_all c.args.s.now l.i all in
     cc (bytes, c.byte_at-2.ensures)

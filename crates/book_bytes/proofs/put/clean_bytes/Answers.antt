@@ -1,17 +1,19 @@
 -- `book_bytes::put::clean_bytes` meets its contract.
 use Prim.Native.Nat.{min}
-use native.Mathlib.Omega.{arith}
-use mathlib.Core.Path.{◌≡◌, ap, ◌∙◌}
-use lib.ListN.{length}
+use mathlib.Core.List.{◌++◌}
+use mathlib.Core.Path.{◌≡◌, refl, ap, ◌∙◌}
+use lib.ListN.{length, take, drop, replicate}
+use Rattle.std.proofs.lemmas.List.{drop-replicate}
 use borrow.Author.Rules.{rules}
 use Rattle.def_book.proofs.Puts.{name_filled}
 use Rattle.book_bytes.proofs.put.clean_bytes.Goals as goal
 
 pub returns : goal.returns
 returns c =
-    let l = c.before in
-    let n = l.args.n in
+    let n = c.args.n in
+    let m = c.min-m.result in
     let long : length n.bytes ≡ 16 = search rules in
-    let all : l.loop-i.i ≡ l.at_most-m.result = omega arith in
-    let most = l.at_most-m.ensures ∙ ap (λ k. min k 16) l.wide.ensures in
-    l.loop-i.invariant.1 ∙ name_filled n.bytes n.len l.at_most-m.result l.loop-i.i long most all
+    let most : m ≡ min n.len 16 = c.min-m.ensures ∙ ap (λ k. min k 16) c.from.ensures in
+    ap (λ z. z ++ drop m (replicate 16 0)) c.copy_from_slice.ensures.after
+    ∙ ap (λ z. take m n.bytes ++ z) (drop-replicate m 16 0)
+    ∙ name_filled n.bytes n.len m m long most refl

@@ -18,8 +18,14 @@ said f s at e h = sym (ap f (part s at)) ∙ sym e ∙ h
 pub loop-at-init : goal.loop-at-init
 loop-at-init c = begun _ _ _ _ c.no_nodes-nodes.ensures c.no_edges-edges.ensures c.no_params-params.ensures
 
-pub more_nodes-nodes-requires : goal.more_nodes-nodes-requires
-more_nodes-nodes-requires c = let h = few_nodes c.loop-at.invariant in omega arith
+pub push-requires : goal.push-requires
+push-requires c = let h = few_nodes c.loop-at.invariant in omega arith
+
+pub push-requires-then-is_edge : goal.push-requires-then-is_edge
+push-requires-then-is_edge c = let h = few_edges c.loop-at.invariant in omega arith
+
+pub push-requires-then-is_param : goal.push-requires-then-is_param
+push-requires-then-is_param c = let h = few_params c.loop-at.invariant in omega arith
 
 pub loop-at-preserved-then-is_node : goal.loop-at-preserved-then-is_node
 loop-at-preserved-then-is_node c =
@@ -27,10 +33,7 @@ loop-at-preserved-then-is_node c =
     let at = c.loop-at.at in
     let here = as_node_lem (drop at s) (said is_node s at c.is_node.ensures c.if-is_node.true) in
     let read = c.node_at.ensures ∙ ap node_at (part s at) in
-    node_turn c.loop-at.invariant (node_at (drop at s)) c.more_nodes-nodes.result here (c.more_nodes-nodes.ensures ∙ ap (more_nodes c.loop-at.nodes) read)
-
-pub more_edges-edges-requires : goal.more_edges-edges-requires
-more_edges-edges-requires c = let h = few_edges c.loop-at.invariant in omega arith
+    node_turn c.loop-at.invariant (node_at (drop at s)) _ here (rw (c.push.ensures.stored, c.push.ensures.counted) (ap (more_nodes c.loop-at.nodes) read))
 
 pub loop-at-preserved-then-is_edge : goal.loop-at-preserved-then-is_edge
 loop-at-preserved-then-is_edge c =
@@ -39,10 +42,8 @@ loop-at-preserved-then-is_edge c =
     let no = said is_node s at c.is_node.ensures c.if-is_node.false in
     let here = as_edge (drop at s) no (said is_edge s at c.is_edge.ensures c.if-is_edge.true) in
     let read = c.edge_at.ensures ∙ ap edge_at (part s at) in
-    edge_turn c.loop-at.invariant (edge_at (drop at s)) c.more_edges-edges.result here (c.more_edges-edges.ensures ∙ ap (more_edges c.loop-at.edges) read)
-
-pub more_params-params-requires : goal.more_params-params-requires
-more_params-params-requires c = let h = few_params c.loop-at.invariant in omega arith
+    let p = c.push-then-is_edge.ensures in
+    edge_turn c.loop-at.invariant (edge_at (drop at s)) _ here (rw (p.stored, p.counted) (ap (more_edges c.loop-at.edges) read))
 
 pub loop-at-preserved : goal.loop-at-preserved
 loop-at-preserved c =
@@ -52,7 +53,8 @@ loop-at-preserved c =
     let nor = said is_edge s at c.is_edge.ensures c.if-is_edge.false in
     let here = as_param_lem (drop at s) no nor (said is_param s at c.is_param.ensures c.if-is_param.true) in
     let read = c.param_at.ensures ∙ ap param_at (part s at) in
-    param_turn c.loop-at.invariant (param_at (drop at s)) c.more_params-params.result here (c.more_params-params.ensures ∙ ap (more_params c.loop-at.params) read)
+    let p = c.push-then-is_param.ensures in
+    param_turn c.loop-at.invariant (param_at (drop at s)) _ here (rw (p.stored, p.counted) (ap (more_params c.loop-at.params) read))
 
 pub returns-else-is_param : goal.returns-else-is_param
 returns-else-is_param c =
@@ -62,5 +64,5 @@ returns-else-is_param c =
     let nor = said is_edge s at c.is_edge.ensures c.if-is_edge.false in
     no_row_left c.loop-at.invariant (as_none (drop at s) no nor (said is_param s at c.is_param.ensures c.if-is_param.false))
 
-pub returns : goal.returns
-returns c = no_byte_left c.loop-at.invariant c.loop-at-test.false
+pub returns-after-loop-at : goal.returns-after-loop-at
+returns-after-loop-at c = no_byte_left c.loop-at.invariant c.loop-at-test.false

@@ -20,13 +20,13 @@ returns-then-not-allowed c =
     let t = beyond c.args.d c.args.out.now (sym c.allowed.ensures ∙ c.if-not-allowed.true) in
     record { is = t.0; leaves = t.1 }
 
-pub returns-then-out-n : goal.returns-then-out-n
-returns-then-out-n c =
+pub returns-then-out-book_length : goal.returns-then-out-book_length
+returns-then-out-book_length c =
     let d = c.args.d in
     let out = c.args.out.now in
     let fits = sym c.allowed.ensures ∙ c.if-not-allowed.false in
-    let n = book_long d (long (goal.at.returns-then-out-n c).Start) in
-    let short : length out < length (book_of d) = omega (arith, c.book_length-n.ensures, n, c.if-out-n.true) in
+    let n = book_long d (long (goal.at.returns-then-out-book_length c).Start) in
+    let short : length out < length (book_of d) = omega (arith, c.book_length.ensures, n, c.if-out-book_length.true) in
     let t = too_short d out fits short in
     record { is = t.0; leaves = t.1 }
 
@@ -36,6 +36,6 @@ returns c =
     let out = c.args.out.now in
     let fits = sym c.allowed.ensures ∙ c.if-not-allowed.false in
     let n = book_long d (long (goal.at.returns c).Start) in
-    let room : length (book_of d) ≤ length out = omega (arith, c.book_length-n.ensures, n, c.if-out-n.false) in
+    let room : length (book_of d) ≤ length out = omega (arith, c.book_length.ensures, n, c.if-out-book_length.false) in
     let t = put_whole d out fits _ _ room c.put_book.ensures in
     record { is = t.0; leaves = t.1 }

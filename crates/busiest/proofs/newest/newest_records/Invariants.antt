@@ -8,7 +8,4 @@ use Rattle.busiest.proofs.newest.newest_records.Given as goal
 
 -- the first i rows are the first i records, and no other is written
 abbrev pub invariant-loop-i : goal.invariant-loop-i
-invariant-loop-i l = (l.n ≡ length (log_of l.s).newest) × (l.n ≤ 64) × (l.none ≡ no_record) × (l.i ≤ l.n) × (l.rows ≡ take l.i (log_of l.s).newest ++ replicate (64 - l.i) no_record)
-
-abbrev pub decreases-loop-i : goal.decreases-loop-i
-decreases-loop-i l = l.n - l.i
+invariant-loop-i l = (l.count ≡ length (log_of l.s).newest) × (l.count ≤ 64) × (l.none ≡ no_record) × (l.rows ≡ take l.i (log_of l.s).newest ++ replicate (64 - l.i) no_record)

@@ -1,7 +1,11 @@
 use Rattle.std.proofs.Common.{ℕ, zero, suc, ◌≡◌, ◌+◌, ◌-◌, ◌<◌, ◌≤◌, List, length, get_or, sym, ap, ◌∙◌, arith}
+use Rattle.std.specs.Prelude.{false}
+use Rattle.std.specs.Float.{nan}
+use Rattle.std.proofs.lemmas.List.{get_or-map}
+use Rattle.voice.specs.declared.steals.StealRecord.{StealRecord}
 use Rattle.busiest.specs.declared.stretch.Scan.{Scan}
 use Rattle.busiest.specs.Stretch.{samples}
-use Rattle.busiest.specs.Scan.{sample_at, advanced, scan_from, concluded}
+use Rattle.busiest.specs.Scan.{advanced, scan_from, concluded}
 use Rattle.busiest.proofs.Found.{advanced_place, concluded_busiest}
 use Rattle.busiest.proofs.stretch.busiest_stretch.Goals as goal
 
@@ -17,31 +21,38 @@ step_law xs n i s l = go (n - i) (n - (i + 1)) (omega arith)
 end_law : (xs : List ℕ) (n i : ℕ) (s : Scan) → n ≤ i → scan_from (n - i) xs i s ≡ s
 end_law xs n i s l = let h : n - i ≡ 0 = omega arith in ap (λ (k : ℕ). scan_from k xs i s) h
 
-pub loop-i-preserved : goal.loop-i-preserved
-loop-i-preserved c =
+-- the sample of a record of the run
+sample_lem : (run : List StealRecord) (i : ℕ) (d : StealRecord) → i < length run → (get_or run i d).sample ≡ get_or (samples run) i 0
+sample_lem run i d h = sym (get_or-map (λ (r : StealRecord). r.sample) run i d 0 h)
+
+pub loop-r-preserved : goal.loop-r-preserved
+loop-r-preserved c =
     let run = c.args.run.now in
-    let i = c.loop-i.i in
-    let s = c.loop-i.at in
-    let x = sample_at run s.head in
-    let y = sample_at run i in
+    let i = c.loop-r.r-index in
+    let s = c.loop-r.at in
+    let x = get_or (samples run) s.head 0 in
+    let y = get_or (samples run) i 0 in
+    let inside : i < length run = omega arith in
+    let before : s.head < length run = omega arith in
+    let d : StealRecord = record { sample = 0; level = nan; known = false; cut = false } in
     let moved : c.advance-at.result ≡ advanced s x y =
-    c.advance-at.ensures ∙ ap (λ (m : ℕ). advanced s m c.sample_at-y.result) c.sample_at-x.ensures ∙ ap (advanced s x) c.sample_at-y.ensures in
+    c.advance-at.ensures ∙ ap (λ (m : ℕ). advanced s m (get_or run i d).sample) (sample_lem run s.head d before) ∙ ap (advanced s x) (sample_lem run i d inside) in
     record {
-      within = omega arith;
       place =
           ap (λ (z : Scan). z.head + z.most) moved
           ∙ advanced_place s x y
-          ∙ ap (λ (n : ℕ). n + 1) c.loop-i.invariant.place;
+          ∙ ap (λ (n : ℕ). n + 1) c.loop-r.invariant.place;
       walked =
           ap (scan_from (length run - (i + 1)) (samples run) (i + 1)) moved
-          ∙ sym (step_law (samples run) (length run) i s c.loop-i-test.true)
-          ∙ c.loop-i.invariant.walked;
+          ∙ sym (step_law (samples run) (length run) i s inside)
+          ∙ c.loop-r.invariant.walked;
     }
 
 pub returns : goal.returns
 returns c =
     let run = c.args.run.now in
-    let s = c.loop-i.at in
+    let s = c.loop-r.at in
+    let past : length run ≤ c.loop-r.r-index = omega arith in
     c.conclude.ensures
-    ∙ ap concluded (sym (end_law (samples run) (length run) c.loop-i.i s c.loop-i-test.false) ∙ c.loop-i.invariant.walked)
+    ∙ ap concluded (sym (end_law (samples run) (length run) c.loop-r.r-index s past) ∙ c.loop-r.invariant.walked)
     ∙ concluded_busiest c.args.width (samples run)

@@ -1,4 +1,3 @@
-use Prim.Native.Nat.{◌-◌}
 use Rattle.scheduler.specs.Queue.{due}
 use Rattle.words.proofs.Counting.{CountingIn}
 use Rattle.event_table.specs.Rows.{event_of}
@@ -6,6 +5,3 @@ use Rattle.event_table.proofs.queue.count_due.Given as goal
 
 abbrev pub invariant-loop-i : goal.invariant-loop-i
 invariant-loop-i l = CountingIn 15 event_of (due l.deadline) l.t l.n l.i l.found
-
-abbrev pub decreases-loop-i : goal.decreases-loop-i
-decreases-loop-i l = l.n - l.i

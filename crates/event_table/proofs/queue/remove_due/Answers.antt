@@ -9,23 +9,23 @@ pub loop-i-preserved-then-is_due : goal.loop-i-preserved-then-is_due
 loop-i-preserved-then-is_due c =
     let s = c.args in
     let l = c.loop-i in
-    let n = c.at_most-n.result in
-    let fits : n ≤ length s.t.now / 15 = omega (arith, c.at_most-n.ensures) in
+    let n = c.min-n.result in
+    let fits : n ≤ length s.t.now / 15 = omega (arith, c.min-n.ensures) in
     words_drop 15 event_of (stays s.deadline) s.t.now l.t n l.i l.w fits c.loop-i-test.true l.invariant (ap not (sym c.is_due.ensures ∙ c.if-is_due.true))
 
 pub loop-i-preserved : goal.loop-i-preserved
 loop-i-preserved c =
     let s = c.args in
     let l = c.loop-i in
-    let n = c.at_most-n.result in
-    let fits : n ≤ length s.t.now / 15 = omega (arith, c.at_most-n.ensures) in
+    let n = c.min-n.result in
+    let fits : n ≤ length s.t.now / 15 = omega (arith, c.min-n.ensures) in
     words_keep 15 event_of (stays s.deadline) s.t.now l.t n l.i l.w fits c.loop-i-test.true l.invariant c.move_row.new.t c.move_row.ensures (ap not (sym c.is_due.ensures ∙ c.if-is_due.false))
 
 pub returns : goal.returns
 returns c =
     let s = c.args in
     let l = c.loop-i in
-    let n = c.at_most-n.result in
-    let fits : l.w ≤ length l.t / 15 = omega (arith, c.at_most-n.ensures, l.invariant.0, l.invariant.2.low, ap (λ k. k / 15) l.invariant.1) in
+    let n = c.min-n.result in
+    let fits : l.w ≤ length l.t / 15 = omega (arith, c.min-n.ensures, l.invariant.0, l.invariant.2.low, ap (λ k. k / 15) l.invariant.1) in
     holds_rows 15 event_of l.t l.w _ fits
-    (words_done 15 event_of (stays s.deadline) s.t.now l.t s.count n l.i l.w c.at_most-n.ensures c.loop-i-test.false l.invariant)
+    (words_done 15 event_of (stays s.deadline) s.t.now l.t s.count n l.i l.w c.min-n.ensures c.loop-i-test.false l.invariant)

@@ -1,4 +1,4 @@
-use Prim.Native.Nat.{ℕ, ◌-◌}
+use Prim.Native.Nat.{ℕ}
 use mathlib.Core.Bool.{Bool, not}
 use Rattle.scheduler.specs.Queue.{due}
 use Rattle.scheduler.specs.declared.event.Event.{Event}
@@ -11,6 +11,3 @@ stays deadline e = not (due deadline e)
 
 abbrev pub invariant-loop-i : goal.invariant-loop-i
 invariant-loop-i l = ClosingIn 15 event_of (stays l.deadline) l.initial.t l.t l.n l.i l.w
-
-abbrev pub decreases-loop-i : goal.decreases-loop-i
-decreases-loop-i l = l.n - l.i

@@ -12,14 +12,14 @@ loop-i-init c =
     let s = c.args in (
       omega arith,
       refl,
-      λ e k name at. close_from 15 event_of (replaces e) s.t.now s.count c.at_most-n.result c.at_most-n.ensures s.p at,
+      λ e k name at. close_from 15 event_of (replaces e) s.t.now s.count c.min-n.result c.min-n.ensures s.p at,
     )
 
 pub loop-i-preserved-then-is_replaced : goal.loop-i-preserved-then-is_replaced
 loop-i-preserved-then-is_replaced c =
     let s = c.args in
     let l = c.loop-i in
-    let n = c.at_most-n in
+    let n = c.min-n in
     let fits : n.result ≤ length s.t.now / 15 = omega (arith, n.ensures) in (
       omega (arith, l.invariant.0),
       l.invariant.1,
@@ -31,7 +31,7 @@ pub loop-i-preserved : goal.loop-i-preserved
 loop-i-preserved c =
     let s = c.args in
     let l = c.loop-i in
-    let n = c.at_most-n in
+    let n = c.min-n in
     let m = c.move_row in
     let fits : n.result ≤ length s.t.now / 15 = omega (arith, n.ensures) in (
       omega (arith, l.invariant.0),
@@ -44,5 +44,5 @@ pub returns : goal.returns
 returns c =
     let s = c.args in
     let l = c.loop-i in
-    let n = c.at_most-n in
+    let n = c.min-n in
     λ e k name at. closed 15 event_of s.t.now l.t (stays e) s.count n.result l.i l.w n.ensures c.loop-i-test.false (l.invariant.2 e k name at)

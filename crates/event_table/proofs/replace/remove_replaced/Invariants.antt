@@ -1,4 +1,4 @@
-use Prim.Native.Nat.{◌≤◌, ◌-◌}
+use Prim.Native.Nat.{◌≤◌}
 use mathlib.Core.Path.{◌≡◌}
 use mathlib.Core.Bool.{Bool, not}
 use lib.ListN.{length, take}
@@ -19,6 +19,3 @@ abbrev pub invariant-loop-i : goal.invariant-loop-i
 invariant-loop-i l =
     (l.w ≤ l.i) × (length l.t ≡ length l.initial.t)
     × ((e : Event) → KeyOf e l.k → name_at l.ws 0 ≡ param_of e.action e.name → l.p ≡ place_of (replaces e) (take l.count (events_in l.initial.t)) → ClosingIn 15 event_of (stays e) l.initial.t l.t l.n l.i l.w)
-
-abbrev pub decreases-loop-i : goal.decreases-loop-i
-decreases-loop-i l = l.n - l.i

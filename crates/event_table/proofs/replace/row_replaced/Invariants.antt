@@ -1,4 +1,3 @@
-use Prim.Native.Nat.{◌-◌}
 use mathlib.Core.Path.{◌≡◌}
 use Rattle.scheduler.specs.Event.{param_of}
 use Rattle.scheduler.specs.Replace.{replaces}
@@ -12,6 +11,3 @@ use Rattle.event_table.proofs.replace.row_replaced.Given as goal
 abbrev pub invariant-loop-i : goal.invariant-loop-i
 invariant-loop-i l =
     (e : Event) → KeyOf e l.k → name_at l.ws 0 ≡ param_of e.action e.name → PlacingIn 15 event_of (replaces e) l.t l.count l.n l.i
-
-abbrev pub decreases-loop-i : goal.decreases-loop-i
-decreases-loop-i l = l.n - l.i

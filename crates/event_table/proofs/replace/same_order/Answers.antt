@@ -1,18 +1,24 @@
-use mathlib.Core.Path.{sym, ap, ◌∙◌}
-use lib.ListN.{get_or}
+use Rattle.std.proofs.Common.{◌≡◌, sym, ap, ◌∙◌, get_or, arith}
 use Rattle.scheduler.specs.Event.{param_of}
 use Rattle.node.specs.Name.{same_name}
 use Rattle.words.specs.Rows.{row_at}
 use Rattle.words.specs.Fields.{name_at}
-use Rattle.event_table.proofs.Keys.{value_on, glide_on, no_false}
+use Rattle.event_table.proofs.Keys.{value_on, glide_on}
 use Rattle.event_table.proofs.replace.same_order.Goals as goal
 
-pub returns-then-which-eq1 : goal.returns-then-which-eq1
-returns-then-which-eq1 c =
-    let s = c.args in
-    λ e k name. c.same_called.ensures ∙ ap (λ x. same_name x (name_at (row_at 15 s.i s.t.now) 4)) name ∙ value_on e.action (param_of e.action e.name) (get_or (row_at 15 s.i s.t.now) 9 0) (get_or (row_at 15 s.i s.t.now) 10 0) (get_or (row_at 15 s.i s.t.now) 11 0) (get_or (row_at 15 s.i s.t.now) 12 0) (get_or (row_at 15 s.i s.t.now) 13 0) (get_or (row_at 15 s.i s.t.now) 14 0) (name_at (row_at 15 s.i s.t.now) 4) (sym c.word_at-which.ensures ∙ c.if-which-eq1.true) (sym k.value ∙ no_false _ c.if-not-k.false)
+pub returns-then-k : goal.returns-then-k
+returns-then-k c =
+    let row = row_at 15 c.args.i c.args.t.now in
+    λ e k name.
+    c.same_called.ensures
+    ∙ ap (λ x. same_name x (name_at row 4)) name
+    ∙ value_on e.action (param_of e.action e.name) (get_or row 9 0) (get_or row 10 0) (get_or row 11 0) (get_or row 12 0) (get_or row 13 0) (get_or row 14 0) (name_at row 4) (sym c.word_at.ensures ∙ c.in-1.is) (sym k.value ∙ c.if-k.true)
 
-pub returns-then-which-eq2 : goal.returns-then-which-eq2
-returns-then-which-eq2 c =
-    let s = c.args in
-    λ e k name. c.same_called-then-which-eq2.ensures ∙ ap (λ x. same_name x (name_at (row_at 15 s.i s.t.now) 4)) name ∙ glide_on e.action (param_of e.action e.name) (get_or (row_at 15 s.i s.t.now) 9 0) (get_or (row_at 15 s.i s.t.now) 10 0) (get_or (row_at 15 s.i s.t.now) 11 0) (get_or (row_at 15 s.i s.t.now) 12 0) (get_or (row_at 15 s.i s.t.now) 13 0) (get_or (row_at 15 s.i s.t.now) 14 0) (name_at (row_at 15 s.i s.t.now) 4) (λ z. c.if-which-eq1.false (c.word_at-which.ensures ∙ z)) (sym c.word_at-which.ensures ∙ c.if-which-eq2.true) (sym k.glide ∙ no_false _ c.if-not-k-2.false)
+pub returns-then-k-2 : goal.returns-then-k-2
+returns-then-k-2 c =
+    let row = row_at 15 c.args.i c.args.t.now in
+    let two : get_or row 9 0 ≡ 2 = sym c.word_at.ensures ∙ c.in-2.is in
+    λ e k name.
+    c.same_called-then-k-2.ensures
+    ∙ ap (λ x. same_name x (name_at row 4)) name
+    ∙ glide_on e.action (param_of e.action e.name) (get_or row 9 0) (get_or row 10 0) (get_or row 11 0) (get_or row 12 0) (get_or row 13 0) (get_or row 14 0) (name_at row 4) (λ z. omega (arith, two, z)) two (sym k.glide ∙ c.if-k-2.true)

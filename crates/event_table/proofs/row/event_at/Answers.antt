@@ -14,4 +14,4 @@ pub returns : goal.returns
 unfolding event_of
 returns c =
     let s = c.args in
-    event_same _ (event_of (row_at 15 s.i s.t.now)) c.long_at-2.ensures (ap voice c.long_at.ensures) c.name_at-name.ensures c.action_at-action.ensures ∙ sym (row_is 15 event_of s.t.now s.i)
+    event_same _ (event_of (row_at 15 s.i s.t.now)) c.long_at.ensures (ap voice c.long_at-2.ensures) c.name_at.ensures c.action_at.ensures ∙ sym (row_is 15 event_of s.t.now s.i)

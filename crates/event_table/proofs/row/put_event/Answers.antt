@@ -7,7 +7,7 @@ use Rattle.event_table.proofs.row.put_event.Goals as goal
 pub returns : goal.returns
 returns c =
     let t = c.args.t.now in
-    let ws = c.event_words-ws in
+    let ws = c.event_words in
     ap events_in c.put_row.ensures
     ∙ put_is 15 event_of t ws.result c.args.i ws.ensures.long
     ∙ ap (set (events_in t) c.args.i) ws.ensures.back

@@ -1,4 +1,4 @@
-use Prim.Native.Nat.{◌≤◌, ◌-◌}
+use Prim.Native.Nat.{◌-◌}
 use mathlib.Core.Path.{◌≡◌}
 use mathlib.Core.List.{List}
 use Rattle.edges.specs.Ports.{lowest}
@@ -8,7 +8,4 @@ use Rattle.graph_tables.specs.FedPorts.{FedPorts}
 use Rattle.graph_tables.proofs.ports.first_unfed.Given as goal
 
 abbrev pub invariant-loop-p : goal.invariant-loop-p
-invariant-loop-p l = (l.p ≤ l.ports) × ((es : List Edge) (n : NodeId) → FedPorts l.fed es n → lowest (l.ports - l.p) es n l.p ≡ lowest l.ports es n 0)
-
-abbrev pub decreases-loop-p : goal.decreases-loop-p
-decreases-loop-p l = l.ports - l.p
+invariant-loop-p l = (es : List Edge) (n : NodeId) → FedPorts l.fed es n → lowest (l.ports - l.p) es n l.p ≡ lowest l.ports es n 0

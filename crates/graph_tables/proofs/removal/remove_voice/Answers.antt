@@ -1,8 +1,6 @@
-use Rattle.graph.specs.Tables.{sink_of}
-use Rattle.graph_tables.proofs.Voices.{one_voice}
+use borrow.Author.Rules.{rules}
+use Rattle.graph.specs.Node.{owned_by}
 use Rattle.graph_tables.proofs.removal.remove_voice.Goals as goal
 
 pub returns : goal.returns
-returns c =
-    let r = c.remove in
-    one_voice c.args.voice c.args.nodes.now c.args.edges.now r.new.nodes r.new.edges c.args.n c.args.m (sink_of c.args.sink) r.result r.ensures
+returns c = c.remove.ensures (owned_by c.args.voice) (λ x b h. search rules)

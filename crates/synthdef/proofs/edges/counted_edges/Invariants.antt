@@ -1,17 +1,14 @@
 -- `synthdef::edges::counted_edges` meets its contract. Invariant: the rows so far and the counted edges of what is left are the counted edges of all; past the rows so far the array is as it began.
-use Prim.Native.Nat.{◌≤◌, ◌-◌}
+use Prim.Native.Nat.{◌≤◌}
 use mathlib.Core.Path.{◌≡◌}
 use mathlib.Core.List.{◌++◌}
 use lib.ListN.{length, take, drop}
-use Rattle.synthdef.specs.Tables.{edge_rows, no_edge}
+use Rattle.synthdef.specs.Tables.{no_edge}
 use Rattle.synthdef.specs.Edges.{counted}
 use Rattle.synthdef.proofs.Walk.{Filled}
 use Rattle.synthdef.proofs.edges.counted_edges.Given as goal
 
 abbrev pub invariant-loop-i : goal.invariant-loop-i
 invariant-loop-i l =
-    (l.i ≤ l.m) × (l.count ≤ l.i) × (length l.rows ≡ 48) × Filled no_edge 48 l.rows l.count
-    × (take l.count l.rows ++ counted (drop l.i (edge_rows l.es)) ≡ counted (edge_rows l.es))
-
-abbrev pub decreases-loop-i : goal.decreases-loop-i
-decreases-loop-i l = l.m - l.i
+    (l.count ≤ l.i) × (length l.edges ≤ 48) × (length l.rows ≡ 48) × Filled no_edge 48 l.rows l.count
+    × (take l.count l.rows ++ counted (drop l.i l.edges) ≡ counted l.edges)

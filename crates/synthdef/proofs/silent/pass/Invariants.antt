@@ -1,5 +1,4 @@
 -- `synthdef::silent::pass` meets its contract. Invariant: the flags so far and those of the steps that are left are the pass.
-use Prim.Native.Nat.{◌≤◌, ◌-◌}
 use mathlib.Core.Path.{◌≡◌}
 use mathlib.Core.List.{◌++◌}
 use lib.ListN.{length, take, drop}
@@ -8,7 +7,4 @@ use Rattle.synthdef.proofs.silent.pass.Given as goal
 
 abbrev pub invariant-loop-i : goal.invariant-loop-i
 invariant-loop-i l =
-    (l.i ≤ 24) × (length l.t ≡ 24) × (take l.i l.t ++ pass_from (drop l.i l.p.steps) l.done l.s l.i ≡ pass_from l.p.steps l.done l.s 0)
-
-abbrev pub decreases-loop-i : goal.decreases-loop-i
-decreases-loop-i l = 24 - l.i
+    (length l.st-items ≡ 24) × (length l.t ≡ 24) × (take l.i l.t ++ pass_from (drop l.i l.st-items) l.done l.s l.i ≡ pass_from l.st-items l.done l.s 0)

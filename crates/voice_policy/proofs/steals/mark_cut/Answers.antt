@@ -1,12 +1,16 @@
 use Rattle.std.proofs.Common.{◌≡◌, ◌≤◌, ◌<◌, ◌-◌, length, arith}
-use Rattle.voice.proofs.Records.{mark_late, mark_held}
+use Rattle.voice.proofs.Records.{mark_late, mark_early, mark_held}
 use Rattle.voice_policy.proofs.steals.mark_cut.Goals as goal
+use Rattle.voice_policy.proofs.steals.mark_cut.Goals.{then-s-number-via-then-s-number, then-s-number-via-else-s-number+then-s-number-gt64}
 
-pub returns-then-total-number : goal.returns-then-total-number
-returns-then-total-number c =
+pub returns-then-s-number : goal.returns-then-s-number
+returns-then-s-number c =
     let s = c.args.s in
     let long : length s.rows ≡ 64 = c.well_formed.0.1.1.0.1.0.1 in
-    mark_late s long c.args.number c.if-total-number.true
+    elim c.then-s-number.branch [
+      | then-s-number-via-then-s-number w ↦ mark_late s long c.args.number (omega arith)
+      | then-s-number-via-else-s-number+then-s-number-gt64 w ↦ mark_early s long c.args.number (omega arith)
+    ]
 
 pub returns : goal.returns
 returns c =

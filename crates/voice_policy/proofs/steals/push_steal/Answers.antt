@@ -6,4 +6,4 @@ pub returns : goal.returns
 returns c =
     let s = c.args.s in
     let long : length s.rows ≡ 64 = c.well_formed.0.1.1.0.1.0.1 in
-    log_push s long c.args.r _ c.one_more.ensures
+    log_push s long c.args.r _ (c.saturating_add.ensures)

@@ -14,5 +14,5 @@ returns c =
     let s = c.args.s in
     let long : length s.rows ≡ 64 = c.well_formed.0.1.1.0.1.0.1 in
     let held : c.args.i < min s.total 64 = omega arith in
-    let at : c.place_back-p.result ≡ (s.next % 64 + (64 - (min s.total 64 - c.args.i))) % 64 = omega arith in
+    let at : c.place_back.result ≡ (s.next % 64 + (64 - (min s.total 64 - c.args.i))) % 64 = omega arith in
     read_held s long _ c.args.i _ held at

@@ -1,4 +1,3 @@
-use Prim.Native.Nat.{◌-◌}
 use Rattle.model.specs.Voice.{moved}
 use Rattle.model.specs.Render.{further}
 use Rattle.words.proofs.InWords.{ChangingIn}
@@ -6,7 +5,4 @@ use Rattle.voice_rows.specs.Rows.{voice_of}
 use Rattle.voice_rows.proofs.fade.move_fades.Given as goal
 
 abbrev pub invariant-loop-i : goal.invariant-loop-i
-invariant-loop-i l = ChangingIn 143 voice_of (moved (further l.block)) l.initial.t l.t l.n l.i
-
-abbrev pub decreases-loop-i : goal.decreases-loop-i
-decreases-loop-i l = l.n - l.i
+invariant-loop-i l = ChangingIn 143 voice_of (moved (further l.block)) l.initial.t l.t l.i-end l.i

@@ -1,4 +1,4 @@
-use Prim.Native.Nat.{◌/◌, ◌-◌, min}
+use Prim.Native.Nat.{◌/◌, min}
 use mathlib.Core.Path.{◌≡◌}
 use lib.ListN.{length}
 use Rattle.graph.specs.Node.{is_node}
@@ -7,7 +7,4 @@ use Rattle.graph_rows.specs.Node.{node_of}
 use Rattle.voice_rows.proofs.levels.node_level.Given as goal
 
 abbrev pub invariant-loop-i : goal.invariant-loop-i
-invariant-loop-i l = (l.m ≡ min l.n (length l.nodes / 22)) × SeekingIn 22 node_of (is_node l.id) l.nodes l.n l.m l.i
-
-abbrev pub decreases-loop-i : goal.decreases-loop-i
-decreases-loop-i l = l.m - l.i
+invariant-loop-i l = (l.i-end ≡ min l.n (length l.nodes / 22)) × SeekingIn 22 node_of (is_node l.id) l.nodes l.n l.i-end l.i

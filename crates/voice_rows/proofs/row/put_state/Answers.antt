@@ -6,5 +6,5 @@ use Rattle.voice_rows.proofs.row.put_state.Goals as goal
 pub returns : goal.returns
 returns c =
     let s = c.args in
-    let ws = c.state_words-ws in
+    let ws = c.state_words in
     ap voices_in c.put_fields.ensures ∙ state_put s.t.now ws.result s.i s.s ws.ensures

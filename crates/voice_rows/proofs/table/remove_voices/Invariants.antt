@@ -1,4 +1,4 @@
-use Prim.Native.Nat.{ℕ, ◌-◌}
+use Prim.Native.Nat.{ℕ}
 use mathlib.Core.List.{List}
 use mathlib.Core.Bool.{Bool, not}
 use Rattle.store.specs.declared.voices.Voice.{Voice}
@@ -11,7 +11,4 @@ abbrev pub stays : List ℕ → Voice → Bool
 stays ids v = not (is_any_of ids v)
 
 abbrev pub invariant-loop-i : goal.invariant-loop-i
-invariant-loop-i l = ClosingIn 143 voice_of (stays l.ids) l.initial.t l.t l.n l.i l.w
-
-abbrev pub decreases-loop-i : goal.decreases-loop-i
-decreases-loop-i l = l.n - l.i
+invariant-loop-i l = ClosingIn 143 voice_of (stays l.ids) l.initial.t l.t l.i-end l.i l.w

@@ -1,0 +1,19 @@
+-- `book_bytes::put::put_param` meets its contract.
+use mathlib.Core.Path.{refl}
+use mathlib.Core.List.{[], ◌∷◌}
+use Rattle.node.specs.Name.{text}
+use Rattle.def_book.specs.Held.{held}
+use Rattle.def_book.proofs.Puts.{then, copied}
+use Rattle.book_bytes.proofs.put.ParamRecord.put.Goals as goal
+
+pub returns : goal.returns
+returns c =
+    let a = c.args.self.now in
+    let name = c.clean_bytes-name.ensures in
+    let r = c.copy-a.ensures in
+    let s = c.copy.ensures in
+    let t = c.copy-2.ensures in
+    let p = copied _ (22 ∷ 0 ∷ 4 ∷ 0 ∷ a.name.len ∷ []) _ _ _ refl r.long r.placed in
+    let q = copied _ (held 16 0 (text a.name)) _ _ _ name s.long s.placed in
+    let u = copied _ (a.node ∷ []) _ _ _ refl t.long t.placed in
+    then (then p q) u

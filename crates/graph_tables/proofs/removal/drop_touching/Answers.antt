@@ -1,0 +1,35 @@
+use Prim.Native.Nat.{◌/◌, ◌≤◌}
+use native.Mathlib.Omega.{arith}
+use mathlib.Core.Path.{sym, ap, ◌∙◌}
+use mathlib.Core.Bool.{not}
+use lib.ListN.{length}
+use Rattle.words.proofs.Place.{closed}
+use Rattle.words.proofs.InWords.{words_keep, words_drop}
+use Rattle.edges.specs.Wiring.{touches}
+use Rattle.graph_rows.specs.Edge.{edge_of}
+use borrow.Author.Rules.{rules}
+use Rattle.graph_tables.proofs.Room.{edges_counted}
+use Rattle.graph_tables.proofs.removal.drop_touching.Goals as goal
+
+pub loop-i-preserved-then-touches_any : goal.loop-i-preserved-then-touches_any
+loop-i-preserved-then-touches_any c =
+    let m = c.min-n in
+    let l = c.loop-i in
+    let fits : m.result ≤ length c.args.edges.now / 3 = omega (arith, edges_counted c.args.edges.now c.args.count m.result (search rules) m.ensures) in
+    words_drop 3 edge_of (λ e. not (touches c.args.ids.now e)) c.args.edges.now l.edges m.result l.i l.k fits c.loop-i-test.true l.invariant
+    (ap (λ e. not (touches c.args.ids.now e)) (sym c.edge_at.ensures) ∙ ap not (sym c.touches_any.ensures ∙ c.if-touches_any.true))
+
+pub loop-i-preserved : goal.loop-i-preserved
+loop-i-preserved c =
+    let m = c.min-n in
+    let l = c.loop-i in
+    let moved = c.move_row in
+    let fits : m.result ≤ length c.args.edges.now / 3 = omega (arith, edges_counted c.args.edges.now c.args.count m.result (search rules) m.ensures) in
+    words_keep 3 edge_of (λ e. not (touches c.args.ids.now e)) c.args.edges.now l.edges m.result l.i l.k fits c.loop-i-test.true l.invariant moved.new.t moved.ensures
+    (ap (λ e. not (touches c.args.ids.now e)) (sym c.edge_at.ensures) ∙ ap not (sym c.touches_any.ensures ∙ c.if-touches_any.false))
+
+pub returns : goal.returns
+returns c =
+    let m = c.min-n in
+    let l = c.loop-i in
+    closed 3 edge_of c.args.edges.now l.edges (λ e. not (touches c.args.ids.now e)) c.args.count m.result l.i l.k (edges_counted c.args.edges.now c.args.count m.result (search rules) m.ensures) (omega arith) l.invariant

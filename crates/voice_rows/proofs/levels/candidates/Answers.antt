@@ -1,0 +1,60 @@
+use Prim.Native.Nat.{ℕ, ◌/◌, ◌<◌, min}
+use native.Mathlib.Omega.{arith}
+use mathlib.Core.Path.{◌≡◌, sym, ap, ◌∙◌}
+use mathlib.Core.List.{List, []}
+use mathlib.Core.Bool.{true, false}
+use borrow.Author.Rules.{rules}
+use lib.ListN.{length-set, length, take, get_or}
+use Rattle.model.specs.Voice.{counted}
+use Rattle.words.proofs.InWords.{take_count}
+use Rattle.words.proofs.Rows.{rows_long}
+use Rattle.graph_rows.specs.Node.{nodes_in}
+use Rattle.voice_rows.specs.Levels.{candidate_at, candidates_at}
+use Rattle.voice_rows.specs.Rows.{voice_of, voices_in}
+use Rattle.voice_rows.proofs.Picked.{picked_on, picked_off}
+use Rattle.voice_rows.proofs.levels.candidates.Goals as goal
+use Rattle.voice_rows.proofs.levels.candidates.Goals.{then-is_counted, else-is_counted}
+
+room : (t : List ℕ) → length t ≡ 9152 → length (voices_in t) ≡ 64
+room t h = rows_long 143 voice_of t ∙ ap (λ k. k / 143) h
+
+pub loop-i-preserved : goal.loop-i-preserved
+loop-i-preserved c =
+    let a = c.args in
+    let vs = voices_in a.t.now in
+    let at = c.loop-i in
+    let m = c.min-i-end.result in
+    let ns = take a.n (nodes_in a.nodes.now) in
+    let q = counted a.by.scope a.by.bus in
+    let long : length a.t.now ≡ 9152 = search rules in
+    let below : at.i < length vs = omega (arith, room a.t.now long, c.min-i-end.ensures, c.loop-i-test.true) in
+    elim c.if-is_counted.branch [
+      | then-is_counted w ↦
+          let fits : at.out.count < length at.out.rows = omega (arith, at.invariant.0, at.invariant.1, c.min-i-end.ensures, c.loop-i-test.true) in
+          rw (w.out-is, w.row-is) (
+            omega (arith, at.invariant.0),
+            length-set at.out.rows at.out.count w.candidate_at.result ∙ at.invariant.1,
+            picked_on (voice_of []) (candidate_at ns a.by.clock) q vs at.out.rows w.candidate_at.result at.i at.out.count below fits at.invariant.2 (sym c.is_counted.ensures ∙ w.if-is_counted.true) w.candidate_at.ensures,
+            w.advance-row.ensures,
+          )
+      | else-is_counted w ↦
+          rw (w.out-is, w.row-is) (
+            omega (arith, at.invariant.0),
+            at.invariant.1,
+            picked_off (voice_of []) (candidate_at ns a.by.clock) q vs at.out.rows at.i at.out.count below at.invariant.2 (sym c.is_counted.ensures ∙ w.if-is_counted.false),
+            at.invariant.3,
+          )
+    ]
+
+pub returns : goal.returns
+returns c =
+    let a = c.args in
+    let t = a.t.now in
+    let at = c.loop-i in
+    let m = c.min-i-end.result in
+    let long : length t ≡ 9152 = search rules in
+    let over : at.i ≡ m = omega (arith, at.auto.i-end, c.loop-i-test.false) in
+    let small : min at.out.count 64 ≡ at.out.count = omega (arith, at.invariant.0, at.auto.i-end, c.min-i-end.ensures) in
+    let e : m ≡ min a.count (length t / 143) = c.min-i-end.ensures ∙ ap (min a.count) (sym (ap (λ k. k / 143) long)) in
+    let is = candidates_at (take a.n (nodes_in a.nodes.now)) a.by.clock (counted a.by.scope a.by.bus) in
+    ap (λ k. take k at.out.rows) small ∙ at.invariant.2 ∙ ap (λ k. is (take k (voices_in t))) over ∙ ap is (take_count 143 voice_of t a.count m e)
