@@ -2,7 +2,7 @@
 use mathlib.Core.Path.{◌≡◌, refl, ap, ◌∙◌, subst}
 use mathlib.Core.Logic.{inl, inr}
 use mathlib.Core.List.{List, [], ◌∷◌, ◌++◌, map}
-use mathlib.Core.Option.{Option, none, some}
+use Rattle.std.specs.Prelude.{Option, None, Some}
 use mathlib.Core.Bool.{Bool, true, false, not, cond}
 use Rattle.lists.specs.Member.{In}
 use Rattle.model.specs.Model.{Model}
@@ -47,9 +47,9 @@ counted m Unsealed console.turn k h d i = refl
 counted m (Sealed s) console.turn k h d i = go (picked k.wishes) refl i
   where
     go : (o : Option Picked) → picked k.wishes ≡ o → In d (spawn_by o) → shuts s d ≡ false
-    go none e i = absurd i
-    go (some p) e (inl f) = let z = turn_open s k.wishes h.1 p e in ap (shuts s) (f ∙ z.0) ∙ ap not z.1
-    go (some p) e (inr i) = absurd i
+    go None e i = absurd i
+    go (Some p) e (inl f) = let z = turn_open s k.wishes h.1 p e in ap (shuts s) (f ∙ z.0) ∙ ap not z.1
+    go (Some p) e (inr i) = absurd i
 
 -- only sealing changes the seal, and it changes nothing else
 on_seal : (c : ConsoleCall) (b : Board) → (board_step (on c) b).board.seal ≡ b.seal

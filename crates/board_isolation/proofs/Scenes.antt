@@ -1,4 +1,5 @@
 -- Closed scenes of boards, each with the wrong rule that it refuses: why sealing, with its answer, has to be a call of every bus; and two histories that do agree.
+use Rattle.std.specs.Prelude.{Some}
 use Prim.Native.Nat.{ℕ}
 use native.Mathlib.Omega.{arith}
 use mathlib.Core.Path.{◌≡◌, refl, ap}
@@ -10,7 +11,6 @@ use lib.ListN.{length}
 use lib.Ieee.{fin, eq}
 use Rattle.synthdef.specs.Plan.{settled}
 use Rattle.rank.specs.Order.{among, fed, released, walk, order, whole, count_up}
-use Rattle.voice.specs.declared.policy.Budget.TheVariants.{AtMost}
 use Rattle.voice.specs.declared.policy.BudgetScope.TheVariants as BudgetScope
 use Rattle.voice.specs.declared.policy.StealPolicy.TheVariants.{Oldest}
 use Rattle.synthdef.specs.declared.def.SynthDef.{SynthDef}
@@ -65,7 +65,7 @@ done a = given (console.plain a)
 
 -- it is one that making gives
 abbrev making : Making
-making = record { rate = fin false 125 (pos 6); block = 16; budget = AtMost 2; policy = Oldest; scope = BudgetScope.PerGroup; table = false }
+making = record { rate = fin false 125 (pos 6); block = 16; budget = Some 2; policy = Oldest; scope = BudgetScope.PerGroup; table = false }
 
 is_made : make_console making 1 ≡ console.made made_console
 unfolding rate_of

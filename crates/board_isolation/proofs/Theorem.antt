@@ -3,7 +3,7 @@
 use Prim.Native.Nat.{ℕ}
 use mathlib.Core.Path.{◌≡◌, refl, sym, ap, ap₂, ◌∙◌, subst}
 use mathlib.Core.List.{List, [], ◌∷◌}
-use mathlib.Core.Option.{Option, none, some}
+use Rattle.std.specs.Prelude.{Option, None, Some}
 use mathlib.Core.Bool.{Bool, not, cond, ◌&&◌, true≢false}
 use lib.Dec.{leb}
 use Rattle.node.specs.declared.record.NodeId.{NodeId}
@@ -86,13 +86,13 @@ module _ (m : Matching) (nodes : OneToOne m.nodes) where
         record { calls = i.calls; seals = i.seals ∙ sym (ap (tell b₂ (shut c) ys l) h) }
     alike (board.both {ys = ys} h₁ h₂ (board.sealings {s = s} {t = t} {a = a} p q) r) x y e f g =
         let i = alike r (seal_after a s x) (seal_after a t y) (same_after a s t x y p e) f (subst (λ c. Marked (seal_after c t y) ys) (sym q) g) in
-        record { calls = i.calls; seals = ap₂ (λ c l. some c ∷ l) q i.seals }
+        record { calls = i.calls; seals = ap₂ (λ c l. Some c ∷ l) q i.seals }
     alike (board.both {xs = xs} {ys = ys} {k = k} {l = l} h₁ h₂ (board.both_passed {x = c} {y = d} q) r) x y e f g =
         let i = alike r x y e f.1 g.1 in
-        record { calls = agree.both h₁ h₂ q i.calls; seals = ap (tell b₁ (passed c) xs k) h₁ ∙ ap (λ t. none ∷ t) i.seals ∙ sym (ap (tell b₂ (passed d) ys l) h₂) }
+        record { calls = agree.both h₁ h₂ q i.calls; seals = ap (tell b₁ (passed c) xs k) h₁ ∙ ap (λ t. None ∷ t) i.seals ∙ sym (ap (tell b₂ (passed d) ys l) h₂) }
     alike (board.both {xs = xs} {ys = ys} {k = k} {l = l} h₁ h₂ (board.both_shut {x = c} {y = d} q) r) x y e f g =
         let i = alike r x y e f.1 g.1 in
-        record { calls = i.calls; seals = ap (tell b₁ (shut c) xs k) h₁ ∙ ap (λ t. some (refused Closed) ∷ t) i.seals ∙ sym (ap (tell b₂ (shut d) ys l) h₂) }
+        record { calls = i.calls; seals = ap (tell b₁ (shut c) xs k) h₁ ∙ ap (λ t. Some (refused Closed) ∷ t) i.seals ∙ sym (ap (tell b₂ (shut d) ys l) h₂) }
     alike (board.both h₁ h₂ (board.first_shut {x = c} {y = d} q) r) x y e f g = absurd (true≢false (sym f.0 ∙ same_closed x y c d e q ∙ g.0))
     alike (board.both h₁ h₂ (board.second_shut {x = c} {y = d} q) r) x y e f g = absurd (true≢false (sym g.0 ∙ sym (same_closed x y c d e q) ∙ f.0))
 

@@ -1,7 +1,6 @@
 -- Paper 6's theorem for boards, with Paper 14's sentence: "for Paper 6 sealing, with its answer, is a call of every bus." Of two boards whose consoles were made alike but for their
 -- keyboards, and every two lists of calls that agree for a bus, sealings with their answers among its calls.
-use Rattle.std.specs.Prelude.{ℕ, ◌≡◌, List, [], ◌∷◌, cond}
-use Rattle.std.proofs.Math.Option.{Option, none, some}
+use Rattle.std.specs.Prelude.{ℕ, ◌≡◌, List, [], ◌∷◌, cond, Option, None, Some}
 use Rattle.node.specs.declared.record.NodeId.{NodeId}
 use Rattle.voice.specs.declared.policy.BudgetScope.TheVariants.{PerGroup}
 use Rattle.model.specs.Make.{Making, config_of}
@@ -16,9 +15,9 @@ use Rattle.board_isolation.specs.Agree.{Asked, sealing, passed, shut, asked, is_
 
 -- what the seal answers: to a sealing its answer, to a closed call 28, to one that is let through nothing
 abbrev pub seal_says : Asked → Option BoardAnswer
-seal_says (sealing s a) = some a
-seal_says (passed x) = none
-seal_says (shut x) = some (refused Closed)
+seal_says (sealing s a) = Some a
+seal_says (passed x) = None
+seal_says (shut x) = Some (refused Closed)
 
 -- to each of the bus's calls, in their order
 abbrev pub seal_tale : NodeId → List Asked → Ledger → List (Option BoardAnswer)

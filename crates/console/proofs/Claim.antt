@@ -3,7 +3,7 @@ use Prim.Native.Nat.{ℕ, ◌≤◌, ◌<◌}
 use native.Mathlib.Omega.{arith}
 use mathlib.Core.Path.{◌≡◌, refl, sym, ap, ◌∙◌, subst}
 use mathlib.Core.List.{List}
-use mathlib.Core.Option.{Option, none, some}
+use Rattle.std.specs.Prelude.{Option, None, Some}
 use mathlib.Core.Bool.{Bool, true, false, cond}
 use lib.Dec.{leb, ltb}
 use lib.ListN.{length}
@@ -23,17 +23,17 @@ use Rattle.console.proofs.Fifo.{in_order, at_most_16, new_16}
 use Rattle.console.proofs.Fair.{run_invariant, new_invariant, within}
 
 -- "From 1 to 8 keyboards"
-one_to_eight : (m : ℕ) → keyboards_refusal m ≡ none → (0 < m) × (m ≤ 8)
+one_to_eight : (m : ℕ) → keyboards_refusal m ≡ None → (0 < m) × (m ≤ 8)
 one_to_eight m h = go (ltb 0 m) refl (leb m 8) refl h
   where
-    go : (a : Bool) → ltb 0 m ≡ a → (b : Bool) → leb m 8 ≡ b → cond a (cond b none (some OutOfRange)) (some OutOfRange) ≡ none → (0 < m) × (m ≤ 8)
+    go : (a : Bool) → ltb 0 m ≡ a → (b : Bool) → leb m 8 ≡ b → cond a (cond b None (Some OutOfRange)) (Some OutOfRange) ≡ None → (0 < m) × (m ≤ 8)
     go false e b f h = absurd (none_some (sym h))
     go true e false f h = absurd (none_some (sym h))
     go true e true f h = (ltb-true _ _ e, leb-true _ _ f)
 
 -- what an accepted making is
 pub record Accepted (k : Making) (m : ℕ) (c : Console) : Type 0 where
-  pub store : make k ≡ some c.model
+  pub store : make k ≡ Some c.model
   pub wishes : c.wishes ≡ new_wishes m
   pub range : (0 < m) × (m ≤ 8)
 
@@ -44,11 +44,11 @@ accepted k m c e = go (refusal_of k) refl (keyboards_refusal m) refl e
     new = record { model = new_model (config_of k); wishes = new_wishes m }
 
     go : (a : Option Refusal) → refusal_of k ≡ a → (b : Option KeyboardRefusal) → keyboards_refusal m ≡ b → made_unless a (with_keyboards b new) ≡ made c → Accepted k m c
-    go (some r) p b q e = let z : ◌≡◌ {A = ℕ} 0 1 = cc in absurd (omega arith)
-    go none p (some r) q e = let z : ◌≡◌ {A = ℕ} 0 1 = cc in absurd (omega arith)
-    go none p none q e =
+    go (Some r) p b q e = let z : ◌≡◌ {A = ℕ} 0 1 = cc in absurd (omega arith)
+    go None p (Some r) q e = let z : ◌≡◌ {A = ℕ} 0 1 = cc in absurd (omega arith)
+    go None p None q e =
         let z : new ≡ c = cc in
-        record { store = ap (λ o. model.made_unless o (new_model (config_of k))) p ∙ ap (λ (x : Console). some x.model) z; wishes = ap (λ (x : Console). x.wishes) (sym z); range = one_to_eight m q }
+        record { store = ap (λ o. model.made_unless o (new_model (config_of k))) p ∙ ap (λ (x : Console). Some x.model) z; wishes = ap (λ (x : Console). x.wishes) (sym z); range = one_to_eight m q }
 
 pub console_claim : (k : Making) (m : ℕ) (c : Console) → make_console k m ≡ made c → (xs : List ConsoleCall) → ConsoleClaim k m c xs
 console_claim k m c e xs =

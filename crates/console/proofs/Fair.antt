@@ -5,10 +5,10 @@ use native.Mathlib.Nat.{suc-mul, eq-or-lt_of_le}
 use mathlib.Core.Path.{◌≡◌, refl, sym, ap, ◌∙◌, subst}
 use mathlib.Core.Logic.{⊎_elim}
 use mathlib.Core.List.{List, [], ◌∷◌, ◌++◌}
-use mathlib.Core.Option.{Option, none, some}
+use Rattle.std.specs.Prelude.{Option, None, Some, slice_get}
 use mathlib.Core.Bool.{Bool, true, false, cond}
 use lib.Dec.{eqb}
-use lib.ListN.{length, length-append, length-set, length-replicate, get_elem?}
+use lib.ListN.{length, length-append, length-set, length-replicate}
 use borrow.Author.Tests.{eqb-true, eqb-false}
 use Rattle.lists.proofs.Member.{none_some}
 use Rattle.store.specs.declared.wish.Wish.{Wish}
@@ -36,13 +36,13 @@ step_invariant (on c) m ws g = g
 step_invariant (wish q w) m ws g = go (wish_refusal ws q)
   where
     go : (o : Option KeyboardRefusal) → WishInvariant m (added_unless o q w ws)
-    go none = record { many = length-set ws.waits q (waiting_at q ws ++ (w ∷ [])) ∙ g.many; next = g.next }
-    go (some d) = g
+    go None = record { many = length-set ws.waits q (waiting_at q ws ++ (w ∷ [])) ∙ g.many; next = g.next }
+    go (Some d) = g
 step_invariant turn m ws g = go (picked ws)
   where
     go : (o : Option Picked) → WishInvariant m (taken_by o ws)
-    go none = g
-    go (some p) = taken_invariant m ws g p.keyboard
+    go None = g
+    go (Some p) = taken_invariant m ws g p.keyboard
 
 pub run_invariant : (xs : List ConsoleCall) (m : ℕ) (ws : Wishes) → WishInvariant m ws → WishInvariant m (wishes_run xs ws)
 run_invariant [] m ws g = g
@@ -53,8 +53,8 @@ new_invariant m h = record { many = length-replicate m []; next = h }
 
 -- a wish that is accepted takes nobody's place
 longer : (p : ℕ) (w : Wish) (ws : Wishes) (q k : ℕ) (o : Option KeyboardRefusal) → wish_refusal ws p ≡ o → k < length (waiting_at q ws) → k < length (waiting_at q (added_unless o p w ws))
-longer p w ws q k (some d) f h = h
-longer p w ws q k none f h = subst (λ l. k < length l) (sym (added_at p w ws q f)) (go (eqb q p) refl)
+longer p w ws q k (Some d) f h = h
+longer p w ws q k None f h = subst (λ l. k < length l) (sym (added_at p w ws q f)) (go (eqb q p) refl)
   where
     go : (b : Bool) → eqb q p ≡ b → k < length (cond b (waiting_at p ws ++ (w ∷ [])) (waiting_at q ws))
     go false e = h
@@ -63,8 +63,8 @@ longer p w ws q k none f h = subst (λ l. k < length l) (sym (added_at p w ws q 
         rw (length-append (waiting_at p ws) (w ∷ [])) (omega (arith, i))
 
 same_next : (p : ℕ) (w : Wish) (ws : Wishes) (o : Option KeyboardRefusal) → (added_unless o p w ws).next ≡ ws.next
-same_next p w ws none = refl
-same_next p w ws (some d) = refl
+same_next p w ws None = refl
+same_next p w ws (Some d) = refl
 
 first : (l : List Wish) (k : ℕ) → k < length l → (w : Wish) × (r : List Wish) × (l ≡ w ∷ r)
 first [] k h = absurd (omega arith)
@@ -126,19 +126,19 @@ counted (turn ∷ xs) m ws g q hq k h d hd r t =
         ⊎_elim (λ (x : s ≡ d). absurd (eqb-false q p.keyboard e (sym r ∙ ap (λ n. round m n ws.next) (sym x) ∙ a))) (other p c s i a e ih) (eq-or-lt_of_le i)
 
 -- ---- the wish itself: first in, first out
-place_left : (l s : List Wish) (k : ℕ) → k < length l → get_elem? (l ++ s) k ≡ get_elem? l k
+place_left : (l s : List Wish) (k : ℕ) → k < length l → slice_get (l ++ s) k ≡ slice_get l k
 place_left [] s k h = absurd (omega arith)
 place_left (x ∷ l) s zero h = refl
 place_left (x ∷ l) s (suc k) h = place_left l s k (omega arith)
 
-place_in : (l : List Wish) (k : ℕ) (w : Wish) → get_elem? l k ≡ some w → k < length l
+place_in : (l : List Wish) (k : ℕ) (w : Wish) → slice_get l k ≡ Some w → k < length l
 place_in [] k w e = absurd (none_some e)
 place_in (x ∷ l) zero w e = omega arith
 place_in (x ∷ l) (suc k) w e = let i = place_in l k w e in omega (arith, i)
 
 -- A wish w of keyboard q with k before it is the (k + 1)th that the list serves of that keyboard, if the list has (k + 1) × m turns.
-pub within : (xs : List ConsoleCall) (m : ℕ) (ws : Wishes) → WishInvariant m ws → (q k : ℕ) (w : Wish) → get_elem? (waiting_at q ws) k ≡ some w
-    → (k + 1) * m ≤ turns xs → get_elem? (served_of q xs ws) k ≡ some w
+pub within : (xs : List ConsoleCall) (m : ℕ) (ws : Wishes) → WishInvariant m ws → (q k : ℕ) (w : Wish) → slice_get (waiting_at q ws) k ≡ Some w
+    → (k + 1) * m ≤ turns xs → slice_get (served_of q xs ws) k ≡ Some w
 within xs m ws g q k w e t =
     let i = place_in (waiting_at q ws) k w e in
     let c = first (waiting_at q ws) k i in
@@ -149,4 +149,4 @@ within xs m ws g q k w e t =
     let a : k + 1 ≡ suc k = omega arith in
     let u : suc k * m ≤ turns xs = subst (λ n. n * m ≤ turns xs) a t in
     let s = counted xs m ws g q hq k i v.steps v.short v.leads (omega (arith, x, y, u)) in
-    sym (place_left (served_of q xs ws) (waiting_at q (wishes_run xs ws)) k s) ∙ ap (λ l. get_elem? l k) (in_order xs ws q) ∙ place_left (waiting_at q ws) (accepted_of q xs ws) k i ∙ e
+    sym (place_left (served_of q xs ws) (waiting_at q (wishes_run xs ws)) k s) ∙ ap (λ l. slice_get l k) (in_order xs ws q) ∙ place_left (waiting_at q ws) (accepted_of q xs ws) k i ∙ e

@@ -4,7 +4,7 @@ use Prim.Native.Nat.{ℕ, zero, suc, ◌≤◌, ◌<◌}
 use native.Mathlib.Omega.{arith}
 use mathlib.Core.Path.{◌≡◌, refl, sym, ap, ◌∙◌, subst}
 use mathlib.Core.List.{List, [], ◌∷◌, ◌++◌, append-nil, append_assoc}
-use mathlib.Core.Option.{Option, none, some}
+use Rattle.std.specs.Prelude.{Option, None, Some}
 use mathlib.Core.Bool.{Bool, true, false, cond}
 use lib.Dec.{eqb, leb}
 use lib.ListN.{length, length-append, get_or, replicate}
@@ -18,39 +18,39 @@ use Rattle.console.specs.Console.{ConsoleCall, on, wish, turn, added_unless, tak
 use Rattle.console.proofs.Put.{put_at, waits_in}
 
 -- an accepted wish is of one of the keyboards, which has room
-pub in_range : (ws : Wishes) (q : ℕ) → wish_refusal ws q ≡ none → q < keyboards ws
+pub in_range : (ws : Wishes) (q : ℕ) → wish_refusal ws q ≡ None → q < keyboards ws
 in_range ws q e = go (leb (keyboards ws) q) refl e
   where
-    go : (a : Bool) → leb (keyboards ws) q ≡ a → cond a (some OutOfRange) (cond (leb 16 (length (waiting_at q ws))) (some Full) none) ≡ none → q < keyboards ws
+    go : (a : Bool) → leb (keyboards ws) q ≡ a → cond a (Some OutOfRange) (cond (leb 16 (length (waiting_at q ws))) (Some Full) None) ≡ None → q < keyboards ws
     go true f e = absurd (none_some (sym e))
     go false f e = leb-false _ _ f
 
-not_full : (ws : Wishes) (q : ℕ) → wish_refusal ws q ≡ none → length (waiting_at q ws) < 16
+not_full : (ws : Wishes) (q : ℕ) → wish_refusal ws q ≡ None → length (waiting_at q ws) < 16
 not_full ws q e = go (leb (keyboards ws) q) (leb 16 (length (waiting_at q ws))) refl e
   where
-    go : (a b : Bool) → leb 16 (length (waiting_at q ws)) ≡ b → cond a (some OutOfRange) (cond b (some Full) none) ≡ none → length (waiting_at q ws) < 16
+    go : (a b : Bool) → leb 16 (length (waiting_at q ws)) ≡ b → cond a (Some OutOfRange) (cond b (Some Full) None) ≡ None → length (waiting_at q ws) < 16
     go true b f e = absurd (none_some (sym e))
     go false true f e = absurd (none_some (sym e))
     go false false f e = leb-false _ _ f
 
 -- a picked wish is its keyboard's oldest
-pub search_oldest : (n : ℕ) (ws : Wishes) (q : ℕ) (p : Picked) → search n ws q ≡ some p → waiting_at p.keyboard ws ≡ p.wish ∷ rest (waiting_at p.keyboard ws)
+pub search_oldest : (n : ℕ) (ws : Wishes) (q : ℕ) (p : Picked) → search n ws q ≡ Some p → waiting_at p.keyboard ws ≡ p.wish ∷ rest (waiting_at p.keyboard ws)
 search_oldest zero ws q p e = absurd (none_some e)
 search_oldest (suc n) ws q p e = go (waiting_at q ws) refl e (search_oldest n ws (after (keyboards ws) q) p)
   where
-    go : (l : List Wish) → waiting_at q ws ≡ l → oldest_or l q (search n ws (after (keyboards ws) q)) ≡ some p
-        → (search n ws (after (keyboards ws) q) ≡ some p → waiting_at p.keyboard ws ≡ p.wish ∷ rest (waiting_at p.keyboard ws))
+    go : (l : List Wish) → waiting_at q ws ≡ l → oldest_or l q (search n ws (after (keyboards ws) q)) ≡ Some p
+        → (search n ws (after (keyboards ws) q) ≡ Some p → waiting_at p.keyboard ws ≡ p.wish ∷ rest (waiting_at p.keyboard ws))
         → waiting_at p.keyboard ws ≡ p.wish ∷ rest (waiting_at p.keyboard ws)
     go [] f e ih = ih e
     go (w ∷ l) f e ih =
         let z : ◌≡◌ {A = Picked} (record { keyboard = q; wish = w }) p = some_inj e in
         subst (λ (p : Picked). waiting_at p.keyboard ws ≡ p.wish ∷ rest (waiting_at p.keyboard ws)) z (rw f)
 
-pub picked_in : (ws : Wishes) (p : Picked) → picked ws ≡ some p → p.keyboard < keyboards ws
+pub picked_in : (ws : Wishes) (p : Picked) → picked ws ≡ Some p → p.keyboard < keyboards ws
 picked_in ws p e = waits_in ws.waits p.keyboard p.wish _ (search_oldest (keyboards ws) ws ws.next p e)
 
 -- what waits at keyboard q after a wish, and after a turn
-pub added_at : (p : ℕ) (w : Wish) (ws : Wishes) (q : ℕ) → wish_refusal ws p ≡ none → waiting_at q (added p w ws) ≡ cond (eqb q p) (waiting_at p ws ++ (w ∷ [])) (waiting_at q ws)
+pub added_at : (p : ℕ) (w : Wish) (ws : Wishes) (q : ℕ) → wish_refusal ws p ≡ None → waiting_at q (added p w ws) ≡ cond (eqb q p) (waiting_at p ws ++ (w ∷ [])) (waiting_at q ws)
 added_at p w ws q e = put_at ws.waits p q (waiting_at p ws ++ (w ∷ [])) (in_range ws p e)
 
 pub taken_at : (p : ℕ) (ws : Wishes) (q : ℕ) → p < keyboards ws → waiting_at q (taken_from p ws) ≡ cond (eqb q p) (rest (waiting_at p ws)) (waiting_at q ws)
@@ -65,8 +65,8 @@ step_in_order (wish p w) ws q = go (wish_refusal ws p) refl
     at false e = sym (append-nil (waiting_at q ws))
 
     go : (o : Option KeyboardRefusal) → wish_refusal ws p ≡ o → waiting_at q (added_unless o p w ws) ≡ waiting_at q ws ++ accepted_unless q o p w
-    go none e = added_at p w ws q e ∙ at (eqb q p) refl
-    go (some d) e = sym (append-nil (waiting_at q ws))
+    go None e = added_at p w ws q e ∙ at (eqb q p) refl
+    go (Some d) e = sym (append-nil (waiting_at q ws))
 step_in_order turn ws q = go (picked ws) refl
   where
     at : (p : Picked) → waiting_at p.keyboard ws ≡ p.wish ∷ rest (waiting_at p.keyboard ws) → (b : Bool) → eqb q p.keyboard ≡ b
@@ -75,9 +75,9 @@ step_in_order turn ws q = go (picked ws) refl
     at p f false e = sym (append-nil (waiting_at q ws))
 
     go : (o : Option Picked) → picked ws ≡ o → served_by q o ++ waiting_at q (taken_by o ws) ≡ waiting_at q ws ++ []
-    go none e = sym (append-nil (waiting_at q ws))
-    go (some p) e =
-        ap (λ l. served_by q (some p) ++ l) (taken_at p.keyboard ws q (picked_in ws p e))
+    go None e = sym (append-nil (waiting_at q ws))
+    go (Some p) e =
+        ap (λ l. served_by q (Some p) ++ l) (taken_at p.keyboard ws q (picked_in ws p e))
         ∙ at p (search_oldest (keyboards ws) ws ws.next p e) (eqb q p.keyboard) refl
 
 pub in_order : (xs : List ConsoleCall) (ws : Wishes) (q : ℕ) → served_of q xs ws ++ waiting_at q (wishes_run xs ws) ≡ waiting_at q ws ++ accepted_of q xs ws
@@ -106,8 +106,8 @@ step_16 (wish p w) ws h q = go (wish_refusal ws p) refl
     at false k = h q
 
     go : (o : Option KeyboardRefusal) → wish_refusal ws p ≡ o → length (waiting_at q (added_unless o p w ws)) ≤ 16
-    go none e = subst (λ l. length l ≤ 16) (sym (added_at p w ws q e)) (at (eqb q p) (not_full ws p e))
-    go (some d) e = h q
+    go None e = subst (λ l. length l ≤ 16) (sym (added_at p w ws q e)) (at (eqb q p) (not_full ws p e))
+    go (Some d) e = h q
 step_16 turn ws h q = go (picked ws) refl
   where
     at : (p : ℕ) (b : Bool) → length (cond b (rest (waiting_at p ws)) (waiting_at q ws)) ≤ 16
@@ -115,8 +115,8 @@ step_16 turn ws h q = go (picked ws) refl
     at p false = h q
 
     go : (o : Option Picked) → picked ws ≡ o → length (waiting_at q (taken_by o ws)) ≤ 16
-    go none e = h q
-    go (some p) e = subst (λ l. length l ≤ 16) (sym (taken_at p.keyboard ws q (picked_in ws p e))) (at p.keyboard (eqb q p.keyboard))
+    go None e = h q
+    go (Some p) e = subst (λ l. length l ≤ 16) (sym (taken_at p.keyboard ws q (picked_in ws p e))) (at p.keyboard (eqb q p.keyboard))
 
 pub at_most_16 : (xs : List ConsoleCall) (ws : Wishes) → AtMost16 ws → AtMost16 (wishes_run xs ws)
 at_most_16 [] ws h = h

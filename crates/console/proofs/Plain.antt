@@ -3,7 +3,7 @@ use Prim.Native.Nat.{ℕ, ◌+◌}
 use native.Mathlib.Omega.{arith}
 use mathlib.Core.Path.{◌≡◌, refl, ap}
 use mathlib.Core.List.{List, [], ◌∷◌, ◌++◌}
-use mathlib.Core.Option.{Option, none, some}
+use Rattle.std.specs.Prelude.{Option, None, Some}
 use mathlib.Core.Bool.{Bool, true, false, cond}
 use lib.Dec.{eqb}
 use lib.ListN.{length}
@@ -30,15 +30,15 @@ store_run (wish q w ∷ xs) h = go (wish_refusal h.wishes q) (store_run xs)
   where
     go : (o : Option KeyboardRefusal) → ((k : Console) → PlainRun xs k)
         → StoreRun (then (wished o q w h) (console_run xs (wished o q w h).console)) (store_calls xs (added_unless o q w h.wishes)) (wishes_run xs (added_unless o q w h.wishes)) h.model
-    go none ih = let r = ih (wished none q w h).console in record { model = r.model; answers = r.answers; wishes = r.wishes }
-    go (some d) ih = let r = ih h in record { model = r.model; answers = r.answers; wishes = r.wishes }
+    go None ih = let r = ih (wished None q w h).console in record { model = r.model; answers = r.answers; wishes = r.wishes }
+    go (Some d) ih = let r = ih h in record { model = r.model; answers = r.answers; wishes = r.wishes }
 store_run (turn ∷ xs) h = go (picked h.wishes) (store_run xs)
   where
     go : (o : Option Picked) → ((k : Console) → PlainRun xs k)
         → StoreRun (then (turned o h) (console_run xs (turned o h).console)) (spawn_by o ++ store_calls xs (taken_by o h.wishes)) (wishes_run xs (taken_by o h.wishes)) h.model
-    go none ih = let r = ih h in record { model = r.model; answers = r.answers; wishes = r.wishes }
-    go (some p) ih =
-        let r = ih (turned (some p) h).console in
+    go None ih = let r = ih h in record { model = r.model; answers = r.answers; wishes = r.wishes }
+    go (Some p) ih =
+        let r = ih (turned (Some p) h).console in
         record { model = r.model; answers = ap (λ l. (step (call_of p.wish) h.model).answer ∷ l) r.answers; wishes = r.wishes }
 
 pub answers_served : (xs : List ConsoleCall) (h : Console) (q : ℕ) → serves_of q (console_run xs h).answers ≡ length (served_of q xs h.wishes)
@@ -48,8 +48,8 @@ answers_served (wish p w ∷ xs) h q = go (wish_refusal h.wishes p) (λ k. answe
   where
     go : (o : Option KeyboardRefusal) → ((k : Console) → serves_of q (console_run xs k).answers ≡ length (served_of q xs k.wishes))
         → serves_one q (wished o p w h).answer + serves_of q (console_run xs (wished o p w h).console).answers ≡ length (served_of q xs (added_unless o p w h.wishes))
-    go none ih = let e = ih (wished none p w h).console in omega (arith, e)
-    go (some d) ih = let e = ih h in omega (arith, e)
+    go None ih = let e = ih (wished None p w h).console in omega (arith, e)
+    go (Some d) ih = let e = ih h in omega (arith, e)
 answers_served (turn ∷ xs) h q = go (picked h.wishes) (λ k. answers_served xs k q)
   where
     at : (b : Bool) (w : Wish) (n : ℕ) (l : List Wish) → n ≡ length l → cond b 1 0 + n ≡ length (cond b (w ∷ []) [] ++ l)
@@ -58,5 +58,5 @@ answers_served (turn ∷ xs) h q = go (picked h.wishes) (λ k. answers_served xs
 
     go : (o : Option Picked) → ((k : Console) → serves_of q (console_run xs k).answers ≡ length (served_of q xs k.wishes))
         → serves_one q (turned o h).answer + serves_of q (console_run xs (turned o h).console).answers ≡ length (served_by q o ++ served_of q xs (taken_by o h.wishes))
-    go none ih = let e = ih h in omega (arith, e)
-    go (some p) ih = at (eqb q p.keyboard) p.wish _ _ (ih (turned (some p) h).console)
+    go None ih = let e = ih h in omega (arith, e)
+    go (Some p) ih = at (eqb q p.keyboard) p.wish _ _ (ih (turned (Some p) h).console)

@@ -4,7 +4,7 @@ use native.Mathlib.Omega.{arith}
 use native.Mathlib.Nat.{add-zero}
 use mathlib.Core.Path.{◌≡◌, refl, sym, ap, ◌∙◌}
 use mathlib.Core.List.{List, [], ◌∷◌}
-use mathlib.Core.Option.{Option, some}
+use Rattle.std.specs.Prelude.{Option, Some}
 use mathlib.Core.Bool.{Bool, true, false, cond}
 use lib.Dec.{ltb, leb}
 use borrow.Author.Tests.{lt-ltb, le-ltb, ltb-true, leb-true, leb-false}
@@ -62,7 +62,7 @@ way m p q hp hq = go (leb p q) refl
 -- a search that would come to a keyboard with a wish after d steps ends within d steps
 pub record Found (m : ℕ) (o : Option Picked) (p d : ℕ) : Type 0 where
   pub pick : Picked
-  pub is : o ≡ some pick
+  pub is : o ≡ Some pick
   pub steps : ℕ
   pub within : steps ≤ d
   pub leads : round m steps p ≡ pick.keyboard

@@ -2,9 +2,9 @@
 use Prim.Native.Nat.{ℕ, zero, suc}
 use mathlib.Core.Path.{◌≡◌, refl}
 use mathlib.Core.List.{List, [], ◌∷◌, ◌++◌}
-use mathlib.Core.Option.{Option, none, some}
+use Rattle.std.specs.Prelude.{Option, None, Some, slice_get, Err, Ok}
 use mathlib.Core.Bool.{true, false}
-use lib.ListN.{replicate, get_elem?}
+use lib.ListN.{replicate}
 use lib.Ieee.{nan, inf, eq}
 use Rattle.rank.specs.Order as rank
 use Rattle.model.specs.Voice.{id}
@@ -13,7 +13,6 @@ use Rattle.model.specs.Make.{new_model}
 use Rattle.model.specs.Call.{spawned}
 use Rattle.model.specs.Call as call
 use Rattle.node.specs.declared.refusal.Refusal.TheVariants.{UnknownNode}
-use Rattle.store.specs.declared.answer.Spawned.TheVariants as Spawned
 use Rattle.voice.specs.declared.policy.StealPolicy.TheVariants.{Oldest}
 use Rattle.store.specs.declared.wish.Wish.{Wish}
 use Rattle.console.specs.declared.refusal.KeyboardRefusal.TheVariants.{OutOfRange, Full}
@@ -38,18 +37,18 @@ tight (suc m) k = wishes_run ((wish m (w 0) ∷ turn ∷ []) ++ replicate k (wis
 
 -- the place k among those served of keyboard q, after t turns
 abbrev after : ℕ → Wishes → ℕ → ℕ → Option Wish
-after t ws q k = get_elem? (served_of q (replicate t turn) ws) k
+after t ws q k = slice_get (served_of q (replicate t turn) ws) k
 
-tight_1 : (after 0 (tight 1 0) 0 0 ≡ none) × (after 1 (tight 1 0) 0 0 ≡ some (w 9)) × (after 2 (tight 1 2) 0 2 ≡ none) × (after 3 (tight 1 2) 0 2 ≡ some (w 9))
+tight_1 : (after 0 (tight 1 0) 0 0 ≡ None) × (after 1 (tight 1 0) 0 0 ≡ Some (w 9)) × (after 2 (tight 1 2) 0 2 ≡ None) × (after 3 (tight 1 2) 0 2 ≡ Some (w 9))
 tight_1 = (refl, refl, refl, refl)
 
-tight_2 : (after 1 (tight 2 0) 1 0 ≡ none) × (after 2 (tight 2 0) 1 0 ≡ some (w 9)) × (after 5 (tight 2 2) 1 2 ≡ none) × (after 6 (tight 2 2) 1 2 ≡ some (w 9))
+tight_2 : (after 1 (tight 2 0) 1 0 ≡ None) × (after 2 (tight 2 0) 1 0 ≡ Some (w 9)) × (after 5 (tight 2 2) 1 2 ≡ None) × (after 6 (tight 2 2) 1 2 ≡ Some (w 9))
 tight_2 = (refl, refl, refl, refl)
 
-tight_3 : (after 2 (tight 3 0) 2 0 ≡ none) × (after 3 (tight 3 0) 2 0 ≡ some (w 9)) × (after 8 (tight 3 2) 2 2 ≡ none) × (after 9 (tight 3 2) 2 2 ≡ some (w 9))
+tight_3 : (after 2 (tight 3 0) 2 0 ≡ None) × (after 3 (tight 3 0) 2 0 ≡ Some (w 9)) × (after 8 (tight 3 2) 2 2 ≡ None) × (after 9 (tight 3 2) 2 2 ≡ Some (w 9))
 tight_3 = (refl, refl, refl, refl)
 
-tight_8 : (after 7 (tight 8 0) 7 0 ≡ none) × (after 8 (tight 8 0) 7 0 ≡ some (w 9)) × (after 23 (tight 8 2) 7 2 ≡ none) × (after 24 (tight 8 2) 7 2 ≡ some (w 9))
+tight_8 : (after 7 (tight 8 0) 7 0 ≡ None) × (after 8 (tight 8 0) 7 0 ≡ Some (w 9)) × (after 23 (tight 8 2) 7 2 ≡ None) × (after 24 (tight 8 2) 7 2 ≡ Some (w 9))
 tight_8 = (refl, refl, refl, refl)
 
 -- ---- a store with a bus of two ports, three keyboards
@@ -71,19 +70,19 @@ strange = record { managed = false; def = tone_def; bus = id 77; pan = inf false
 -- newest wish first.
 turns_go_round :
     heard (on (host 2) ∷ turn ∷ wish 0 strange ∷ wish 0 pedal ∷ wish 2 pedal ∷ turn ∷ turn ∷ turn ∷ turn ∷ wish 0 pedal ∷ wish 1 pedal ∷ turn ∷ [])
-    ≡ plain (call.node (id 0)) ∷ empty ∷ accepted ∷ accepted ∷ accepted ∷ served 0 (spawned (Spawned.Refused UnknownNode)) ∷ served 2 (spawned (Spawned.Voice (voice 1)))
-    ∷ served 0 (spawned (Spawned.Voice (voice 2))) ∷ empty ∷ accepted ∷ accepted ∷ served 1 (spawned (Spawned.Voice (voice 3))) ∷ []
+    ≡ plain (call.node (id 0)) ∷ empty ∷ accepted ∷ accepted ∷ accepted ∷ served 0 (spawned (Err UnknownNode)) ∷ served 2 (spawned (Ok (voice 1)))
+    ∷ served 0 (spawned (Ok (voice 2))) ∷ empty ∷ accepted ∷ accepted ∷ served 1 (spawned (Ok (voice 3))) ∷ []
 unfolding eq rank.whole rank.order rank.walk rank.released rank.among rank.count_up rank.fed
 turns_go_round = refl
 
 -- 24 before 25; 16 wait, a 17th is refused; after a turn there is room again. Refuses: seventeen wishes; keyboard 3 of 3; a table shared by all.
 refusals :
     heard (replicate 16 (wish 1 pedal) ++ (wish 1 pedal ∷ wish 3 pedal ∷ wish 0 pedal ∷ turn ∷ wish 1 pedal ∷ turn ∷ wish 1 pedal ∷ wish 1 pedal ∷ []))
-    ≡ replicate 16 accepted ++ (refused Full ∷ refused OutOfRange ∷ accepted ∷ served 0 (spawned (Spawned.Refused UnknownNode)) ∷ refused Full
-    ∷ served 1 (spawned (Spawned.Refused UnknownNode)) ∷ accepted ∷ refused Full ∷ [])
+    ≡ replicate 16 accepted ++ (refused Full ∷ refused OutOfRange ∷ accepted ∷ served 0 (spawned (Err UnknownNode)) ∷ refused Full
+    ∷ served 1 (spawned (Err UnknownNode)) ∷ accepted ∷ refused Full ∷ [])
 unfolding rank.whole rank.order rank.walk rank.released rank.among rank.count_up rank.fed
 refusals = refl
 
 -- "From 1 to 8 keyboards". Refuses: none, and nine.
-counts : (keyboards_refusal 0 ≡ some OutOfRange) × (keyboards_refusal 1 ≡ none) × (keyboards_refusal 8 ≡ none) × (keyboards_refusal 9 ≡ some OutOfRange)
+counts : (keyboards_refusal 0 ≡ Some OutOfRange) × (keyboards_refusal 1 ≡ None) × (keyboards_refusal 8 ≡ None) × (keyboards_refusal 9 ≡ Some OutOfRange)
 counts = (refl, refl, refl, refl)

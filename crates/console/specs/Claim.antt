@@ -1,8 +1,6 @@
 -- What is proved of every console that calls made and every list of calls, refused ones too: the list xs from a newly made console, then
 -- the list ys.
-use Rattle.std.specs.Prelude.{ℕ, ◌+◌, ◌*◌, ◌≤◌, ◌<◌, ◌≡◌, List, [], ◌∷◌, ◌++◌, length}
-use Rattle.std.proofs.Math.Option.{some}
-use Rattle.std.proofs.Math.ListN.{get_elem?}
+use Rattle.std.specs.Prelude.{ℕ, ◌+◌, ◌*◌, ◌≤◌, ◌<◌, ◌≡◌, List, [], ◌∷◌, ◌++◌, length, Some, slice_get}
 use Rattle.model.specs.Model.{Model}
 use Rattle.model.specs.Make.{Making, config_of}
 use Rattle.model.specs.Call.{Call, run}
@@ -27,7 +25,7 @@ pub record Fair (m : ℕ) (ws : Wishes) (ys : List ConsoleCall) : Type 0 where
   -- keyboard's wishes are served in the order accepted, none is lost and none served twice
   pub in_order : (q : ℕ) → served_of q ys ws ++ waiting_at q (wishes_run ys ws) ≡ waiting_at q ws ++ accepted_of q ys ws
   -- "With m keyboards, a wish with k before it on its own keyboard is served within (k + 1) × m turns, whatever the others send."
-  pub within : (q k : ℕ) (w : Wish) → get_elem? (waiting_at q ws) k ≡ some w → (k + 1) * m ≤ turns ys → get_elem? (served_of q ys ws) k ≡ some w
+  pub within : (q k : ℕ) (w : Wish) → slice_get (waiting_at q ws) k ≡ Some w → (k + 1) * m ≤ turns ys → slice_get (served_of q ys ws) k ≡ Some w
   -- "16 waiting each"
   pub sixteen : (q : ℕ) → length (waiting_at q ws) ≤ 16
 

@@ -1,6 +1,5 @@
 -- The console: a store and the wishes that wait for it. Its calls are the store's own, a wish, and a turn.
-use Rattle.std.specs.Prelude.{ℕ, suc, List, [], ◌∷◌, ◌++◌, cond, eqb}
-use Rattle.std.proofs.Math.Option.{Option, none, some}
+use Rattle.std.specs.Prelude.{ℕ, suc, List, [], ◌∷◌, ◌++◌, cond, eqb, Option, None, Some}
 use Rattle.node.specs.declared.refusal.Refusal.{Refusal}
 use Rattle.model.specs.Model.{Model}
 use Rattle.model.specs.Make.{Making, config_of, refusal_of, new_model}
@@ -41,13 +40,13 @@ asked c k =
     record { answer = plain s.answer; console = record { model = s.model; wishes = k.wishes } }
 
 abbrev pub wished : Option KeyboardRefusal → ℕ → Wish → Console → ConsoleStep
-wished none q w k = record { answer = accepted; console = record { model = k.model; wishes = added q w k.wishes } }
-wished (some r) q w k = record { answer = refused r; console = k }
+wished None q w k = record { answer = accepted; console = record { model = k.model; wishes = added q w k.wishes } }
+wished (Some r) q w k = record { answer = refused r; console = k }
 
 -- "a spawn refused by the store counts as served. An empty turn says so and changes nothing."
 abbrev pub turned : Option Picked → Console → ConsoleStep
-turned none k = record { answer = empty; console = k }
-turned (some p) k =
+turned None k = record { answer = empty; console = k }
+turned (Some p) k =
     let s = step (call_of p.wish) k.model in
     record { answer = served p.keyboard s.answer; console = record { model = s.model; wishes = taken_from p.keyboard k.wishes } }
 
@@ -74,24 +73,24 @@ pub data ConsoleMade : Type 0 where
   refused_for : KeyboardRefusal → ConsoleMade
 
 abbrev pub with_keyboards : Option KeyboardRefusal → Console → ConsoleMade
-with_keyboards none k = made k
-with_keyboards (some r) k = refused_for r
+with_keyboards None k = made k
+with_keyboards (Some r) k = refused_for r
 
 abbrev pub made_unless : Option Refusal → ConsoleMade → ConsoleMade
-made_unless none o = o
-made_unless (some r) o = refused_by r
+made_unless None o = o
+made_unless (Some r) o = refused_by r
 
 abbrev pub make_console : Making → ℕ → ConsoleMade
 make_console k n = made_unless (refusal_of k) (with_keyboards (keyboards_refusal n) (record { model = new_model (config_of k); wishes = new_wishes n }))
 
 -- ---- what a list of calls says of the wishes, whatever the store is: nothing here looks at a model
 abbrev pub added_unless : Option KeyboardRefusal → ℕ → Wish → Wishes → Wishes
-added_unless none q w ws = added q w ws
-added_unless (some r) q w ws = ws
+added_unless None q w ws = added q w ws
+added_unless (Some r) q w ws = ws
 
 abbrev pub taken_by : Option Picked → Wishes → Wishes
-taken_by none ws = ws
-taken_by (some p) ws = taken_from p.keyboard ws
+taken_by None ws = ws
+taken_by (Some p) ws = taken_from p.keyboard ws
 
 abbrev pub wishes_after : ConsoleCall → Wishes → Wishes
 wishes_after (on c) ws = ws
@@ -104,8 +103,8 @@ wishes_run (x ∷ xs) ws = wishes_run xs (wishes_after x ws)
 
 -- the store's calls that a list makes: "a turn counts as the spawn it serves, and a wish as no call"
 abbrev pub spawn_by : Option Picked → List Call
-spawn_by none = []
-spawn_by (some p) = call_of p.wish ∷ []
+spawn_by None = []
+spawn_by (Some p) = call_of p.wish ∷ []
 
 abbrev pub calls_of : ConsoleCall → Wishes → List Call
 calls_of (on c) ws = c ∷ []
@@ -118,8 +117,8 @@ store_calls (x ∷ xs) ws = calls_of x ws ++ store_calls xs (wishes_after x ws)
 
 -- the wishes of keyboard q that turns serve, and those that are accepted
 abbrev pub served_by : ℕ → Option Picked → List Wish
-served_by q none = []
-served_by q (some p) = cond (eqb q p.keyboard) (p.wish ∷ []) []
+served_by q None = []
+served_by q (Some p) = cond (eqb q p.keyboard) (p.wish ∷ []) []
 
 abbrev pub served_in : ℕ → ConsoleCall → Wishes → List Wish
 served_in q (on c) ws = []
@@ -127,8 +126,8 @@ served_in q (wish p w) ws = []
 served_in q turn ws = served_by q (picked ws)
 
 abbrev pub accepted_unless : ℕ → Option KeyboardRefusal → ℕ → Wish → List Wish
-accepted_unless q none p w = cond (eqb q p) (w ∷ []) []
-accepted_unless q (some r) p w = []
+accepted_unless q None p w = cond (eqb q p) (w ∷ []) []
+accepted_unless q (Some r) p w = []
 
 abbrev pub accepted_in : ℕ → ConsoleCall → Wishes → List Wish
 accepted_in q (on c) ws = []

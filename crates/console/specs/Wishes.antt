@@ -1,6 +1,5 @@
 -- Paper 11: "From 1 to 8 keyboards, their count given at making, send wishes for either spawn, 16 waiting each."
-use Rattle.std.specs.Prelude.{ℕ, zero, suc, List, [], ◌∷◌, ◌++◌, cond, leb, ltb, length, get_or, set, replicate}
-use Rattle.std.proofs.Math.Option.{Option, none, some}
+use Rattle.std.specs.Prelude.{ℕ, zero, suc, List, [], ◌∷◌, ◌++◌, cond, leb, ltb, length, get_or, set, replicate, Option, None, Some}
 use Rattle.store.specs.declared.wish.Wish.{Wish}
 use Rattle.console.specs.declared.refusal.KeyboardRefusal.{KeyboardRefusal}
 use Rattle.console.specs.declared.refusal.KeyboardRefusal.TheVariants.{OutOfRange, Full}
@@ -18,7 +17,7 @@ waiting_at q ws = get_or ws.waits q []
 
 -- "24 keyboard ... out of range", then "25 that keyboard already has 16"
 abbrev pub wish_refusal : Wishes → ℕ → Option KeyboardRefusal
-wish_refusal ws q = cond (leb (keyboards ws) q) (some OutOfRange) (cond (leb 16 (length (waiting_at q ws))) (some Full) none)
+wish_refusal ws q = cond (leb (keyboards ws) q) (Some OutOfRange) (cond (leb 16 (length (waiting_at q ws))) (Some Full) None)
 
 -- the wish waits behind those of its keyboard
 abbrev pub added : ℕ → Wish → Wishes → Wishes
@@ -35,11 +34,11 @@ pub record Picked : Type 0 where
 -- "that has one ..., its oldest wish"; else what the keyboards after it give
 abbrev pub oldest_or : List Wish → ℕ → Option Picked → Option Picked
 oldest_or [] q o = o
-oldest_or (w ∷ l) q o = some (record { keyboard = q; wish = w })
+oldest_or (w ∷ l) q o = Some (record { keyboard = q; wish = w })
 
 -- the first of n keyboards, going round from q, that has a wish
 abbrev pub search : ℕ → Wishes → ℕ → Option Picked
-search zero ws q = none
+search zero ws q = None
 search (suc n) ws q = oldest_or (waiting_at q ws) q (search n ws (after (keyboards ws) q))
 
 -- "A turn serves one wish: the next keyboard, going round, after the last served that has one (at first from keyboard 0), its oldest wish."
@@ -56,7 +55,7 @@ taken_from q ws = record { waits = set ws.waits q (rest (waiting_at q ws)); next
 
 -- "From 1 to 8 keyboards, their count given at making"; else 24
 abbrev pub keyboards_refusal : ℕ → Option KeyboardRefusal
-keyboards_refusal m = cond (ltb 0 m) (cond (leb m 8) none (some OutOfRange)) (some OutOfRange)
+keyboards_refusal m = cond (ltb 0 m) (cond (leb m 8) None (Some OutOfRange)) (Some OutOfRange)
 
 abbrev pub new_wishes : ℕ → Wishes
 new_wishes m = record { waits = replicate m []; next = 0 }

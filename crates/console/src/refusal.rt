@@ -4,16 +4,13 @@ ghost use Rattle.console.specs.Refusal.{number_of};
 // Why a console is not made, or a wish not taken, for its keyboards' sake.
 #[derive(Clone, Copy)]
 pub enum KeyboardRefusal {
-    OutOfRange,
-    Full,
+    OutOfRange = 24,
+    Full = 25,
 }
 
 // The number of such a refusal.
 pub fn keyboard_refusal_number(r: KeyboardRefusal) -> u8
     ensures { result ≡ number_of r }
 {
-    match r {
-        KeyboardRefusal::OutOfRange => 24,
-        KeyboardRefusal::Full => 25,
-    }
+    r as u8
 }

@@ -1,5 +1,6 @@
 -- Every call's contract is the theory's step, so that a run of calls on lent memory is the theory's run; the console of an accepted
 -- making is the theory's new console.
+use Rattle.std.specs.Prelude.{Result, Ok, Err}
 use Prim.Native.Nat.{ℕ}
 use native.Mathlib.Omega.{arith}
 use mathlib.Core.Path.{◌≡◌, refl, ap, ◌∙◌}
@@ -10,7 +11,8 @@ use Rattle.memory.specs.Lent.{lent_state}
 use Rattle.refinement.proofs.Refined as store
 use Rattle.console.specs.Console.{Console, ConsoleCall, ConsoleAnswer, plain, ConsoleStep, ConsoleRan, console_run, ConsoleMade, made, make_console}
 use Rattle.console.proofs.Claim.{console_claim}
-use Rattle.call_console.specs.declared.making.MakeAnswer.{MakeAnswer}
+use Rattle.call_console.specs.declared.making.MakeRefusal.{MakeRefusal}
+use Rattle.call_console.specs.declared.making.MakeRefusal.TheVariants.{Store, Keyboards}
 use Rattle.call_console.specs.Queues.{wishes_of}
 use Rattle.call_console.specs.Called.{ConsoleMemory, memory, console_of, Called, Kept, made_of}
 use Rattle.call_console.proofs.making.make_console.Reads as fn-make-console
@@ -37,10 +39,10 @@ run_is ends = refl
 run_is (calls {xs = xs} {a = a} e r) = ap (after a) (run_is r) ∙ ap (λ (s : ConsoleStep). after s.answer (console_run xs s.console)) (called e)
 
 -- the console of an accepted making is the theory's, whatever stands in the tables
-made_new : (o : ConsoleMade) (c d : Console) (a : MakeAnswer) → made_of a d ≡ o → o ≡ made c → d ≡ c
-made_new o c d MakeAnswer.Done e f = cc
-made_new o c d (MakeAnswer.Refused r) e f = let z : ◌≡◌ {A = ℕ} 0 1 = cc in absurd (omega arith)
-made_new o c d (MakeAnswer.Keyboards r) e f = let z : ◌≡◌ {A = ℕ} 0 1 = cc in absurd (omega arith)
+made_new : (o : ConsoleMade) (c d : Console) (a : Result (Unit {0}) MakeRefusal) → made_of a d ≡ o → o ≡ made c → d ≡ c
+made_new o c d (Ok tt) e f = cc
+made_new o c d (Err (Store r)) e f = let z : ◌≡◌ {A = ℕ} 0 1 = cc in absurd (omega arith)
+made_new o c d (Err (Keyboards r)) e f = let z : ◌≡◌ {A = ℕ} 0 1 = cc in absurd (omega arith)
 
 -- the refinement, from the contract of `make_console`
 pub refines : (κs : _) (a : _) (r : _) (s : _) → fn-make-console.Post κs a r s

@@ -3,10 +3,9 @@
 use Prim.Native.Nat.{ℕ, zero, suc}
 use mathlib.Core.Path.{◌≡◌, refl}
 use mathlib.Core.List.{List, [], ◌∷◌, ◌++◌, map}
-use mathlib.Core.Option.{Option, none, some}
+use Rattle.std.specs.Prelude.{Option, None, Some, find}
 use mathlib.Core.Bool.{Bool, true, false, cond}
 use lib.Dec.{eqb, ltb}
-use Rattle.lists.specs.Find.{find}
 use Rattle.voice.specs.Steals.{record_of, cut_of}
 use Rattle.voice.specs.declared.steals.StealRecord.{StealRecord}
 use Rattle.voice.specs.declared.policy.Admission.{Admission}
@@ -48,9 +47,9 @@ goes (fading start count) clock v = cut v.number ∷ []
 goes story.loose clock v = []
 
 abbrev pub log_or : Option ℕ → Option Own → Bus → (Bus → List Act) → List Act
-log_or (some p) o m again = []
-log_or none none m again = []
-log_or none (some v) m again = goes v.phase m.clock v ++ again (without_voice v.number m)
+log_or (Some p) o m again = []
+log_or None None m again = []
+log_or None (Some v) m again = goes v.phase m.clock v ++ again (without_voice v.number m)
 
 abbrev pub log_place : ℕ → ℕ → Bus → List Act
 log_place r zero m = []
@@ -60,12 +59,12 @@ abbrev pub log_settle : ℕ → Bus → List Act
 log_settle r m = log_place r (tries m.config.budget m.voices) m
 
 abbrev pub log_stolen : Option ℕ → ℕ → Own → List Act
-log_stolen (some p) clock v = writes false clock v ∷ []
-log_stolen none clock v = writes true clock v ∷ []
+log_stolen (Some p) clock v = writes false clock v ∷ []
+log_stolen None clock v = writes true clock v ∷ []
 
 abbrev pub log_then : Option Own → ℕ → Bus → List Act
-log_then none r m = log_settle r m
-log_then (some v) r m = log_stolen (port_held v.number m) m.clock v ++ log_settle r (steal v.number m)
+log_then None r m = log_settle r m
+log_then (Some v) r m = log_stolen (port_held v.number m) m.clock v ++ log_settle r (steal v.number m)
 
 abbrev pub log_admitted : Admission → ℕ → Bus → List Act
 log_admitted admission.Admit r m = log_settle r m
@@ -77,8 +76,8 @@ log_ports zero ts = []
 log_ports (suc n) ts = ts
 
 abbrev pub log_bus : Option BusPorts → List Act → List Act
-log_bus none ts = []
-log_bus (some x) ts = log_ports x.ports ts
+log_bus None ts = []
+log_bus (Some x) ts = log_ports x.ports ts
 
 abbrev pub log : Entry → Bus → List Act
 log (opened n) m = []

@@ -1,5 +1,6 @@
 -- Two closed histories that agree up to a matching of ids, so that agreement is not empty. In the first, node 1 is a second bus, and it is played before and after: the bus's voice is
 -- voice 2, its nodes are others. In the second the bus is node 0 and nobody else plays. An event frees the voice.
+use Rattle.std.specs.Prelude.{Some}
 use Prim.Native.Nat.{ℕ, ◌+◌, ◌<◌}
 use native.Mathlib.Omega.{arith}
 use mathlib.Core.Path.{◌≡◌, refl, sym, ap, ◌∙◌, subst}
@@ -16,7 +17,6 @@ use Rattle.rank.specs.Order.{among, fed, released, walk, order, whole, count_up}
 use Rattle.prepare.specs.Live.{rising_from, live_nodes, live_ids, processing_order}
 use Rattle.prepare.specs.Required.{any, lacks, lacking}
 use Rattle.prepare.specs.Prepare.{prepare}
-use Rattle.voice.specs.declared.policy.Budget.TheVariants.{AtMost}
 use Rattle.voice.specs.declared.policy.BudgetScope.TheVariants as BudgetScope
 use Rattle.voice.specs.declared.policy.StealPolicy.TheVariants.{Oldest}
 use Rattle.store.specs.declared.config.Config.{Config}
@@ -32,7 +32,7 @@ use Rattle.ledger.specs.Call.{step}
 use Rattle.isolation.specs.Agree.{Pair, Matching, OneToOne, SameNode, Equal, Agree, ends, first, second, both, added, managed, rendered, Arrive, let_in, EachVoice, freed_by_events, Agreement}
 
 abbrev pub made : Config
-made = config (AtMost 2) Oldest BudgetScope.PerGroup
+made = config (Some 2) Oldest BudgetScope.PerGroup
 
 abbrev node : ℕ → ℕ → Pair NodeId
 node a b = record { one = id a; two = id b }

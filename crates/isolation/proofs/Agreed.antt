@@ -5,7 +5,7 @@ use native.Mathlib.Omega.{arith}
 use mathlib.Core.Path.{◌≡◌, refl, sym, ap, ap₂, ◌∙◌, subst}
 use mathlib.Core.Logic.{◌⊎◌, inl, inr, ⊎_elim}
 use mathlib.Core.List.{List, [], ◌∷◌, map}
-use mathlib.Core.Option.{Option, none, some}
+use Rattle.std.specs.Prelude.{Option, None, Some, filter, find, is_some, Ok}
 use mathlib.Core.Bool.{Bool, true, false, not, cond, ◌&&◌, ◌||◌, true≢false, false≢true}
 use lib.Dec.{eqb, leb, ltb}
 use lib.Ieee.{Float}
@@ -13,9 +13,7 @@ use lib.ListN.{length}
 use borrow.Author.Tests.{eqb-true, eqb-false, eq-eqb, ne_eqb, leb-true, ltb-true, lt-ltb, not-false}
 use Rattle.lists.specs.Member.{In}
 use Rattle.lists.proofs.Member.{in_map, in_of_map, and_left, and_right}
-use Rattle.lists.specs.Filter.{filter}
 use Rattle.lists.proofs.Filter.{in_filter, filter_in, filter_same}
-use Rattle.lists.specs.Find.{find, is_some}
 use Rattle.lists.proofs.Find.{find_in, find_none}
 use Rattle.rank.specs.Order.{upto}
 use Rattle.node.specs.declared.record.NodeId.{NodeId}
@@ -29,7 +27,6 @@ use Rattle.graph.specs.Refuse.{add_refusal, host_refusal, disconnect_refusal, co
 use Rattle.scheduler.specs.declared.event.Event.{Event}
 use Rattle.scheduler.specs.Event.{param_order}
 use Rattle.voice.specs.declared.policy.BudgetScope.TheVariants.{PerGroup}
-use Rattle.store.specs.declared.answer.Spawned.{Spawned}
 use Rattle.store.specs.declared.config.Config.{Config}
 use Rattle.store.specs.declared.voices.Voice.{Voice}
 use Rattle.model.specs.Voice.{id, is_voice, is_on}
@@ -72,45 +69,45 @@ or_false : (a b : Bool) → (a || b) ≡ false → (a ≡ false) × (b ≡ false
 or_false true b e = absurd (true≢false e)
 or_false false b e = (refl, e)
 
-taken_none : (o : Option Refusal) → accepted o ≡ true → o ≡ none
-taken_none none e = refl
-taken_none (some r) e = absurd (false≢true e)
+taken_none : (o : Option Refusal) → accepted o ≡ true → o ≡ None
+taken_none None e = refl
+taken_none (Some r) e = absurd (false≢true e)
 
 -- ---- what is no call of the bus leaves no entry
 module _ (b : NodeId) (l : Ledger) where
-  done_none : (o : Option Refusal) (en : Option Entry) (c : Bool) → (accepted o && c) ≡ false → (c ≡ false → en ≡ none) → if_done o en ≡ none
-  done_none (some r) en c e f = refl
-  done_none none en c e f = f e
+  done_none : (o : Option Refusal) (en : Option Entry) (c : Bool) → (accepted o && c) ≡ false → (c ≡ false → en ≡ None) → if_done o en ≡ None
+  done_none (Some r) en c e f = refl
+  done_none None en c e f = f e
 
-  if_none : (c : Bool) (e : Entry) → c ≡ false → if? c e ≡ none
+  if_none : (c : Bool) (e : Entry) → c ≡ false → if? c e ≡ None
   if_none true e h = absurd (true≢false h)
   if_none false e h = refl
 
-  bus_none : (f : Voice → Entry) (o : Option Voice) → on_it b o ≡ false → on_bus b f o ≡ none
-  bus_none f none h = refl
-  bus_none f (some v) h = if_none (is_on b v) (f v) h
+  bus_none : (f : Voice → Entry) (o : Option Voice) → on_it b o ≡ false → on_bus b f o ≡ None
+  bus_none f None h = refl
+  bus_none f (Some v) h = if_none (is_on b v) (f v) h
 
-  held_none : (k : NodeId) → feeds b k l ≡ false → lost_if (held_by b k l) ≡ none
+  held_none : (k : NodeId) → feeds b k l ≡ false → lost_if (held_by b k l) ≡ None
   held_none k h = go (held_by b k l) refl
     where
       by : ℕ → Bool
       by p = by_host k (l.holders b.0 p)
 
       nobody_there : (o : Option ℕ) → find by (upto (ports_at b l)) ≡ o → is_some o ≡ false → (p : ℕ) → In p (upto (ports_at b l)) → by p ≡ false
-      nobody_there none e f p i = find_none by (upto (ports_at b l)) p e i
-      nobody_there (some q) e f p i = absurd (true≢false f)
+      nobody_there None e f p i = find_none by (upto (ports_at b l)) p e i
+      nobody_there (Some q) e f p i = absurd (true≢false f)
 
-      go : (ps : List ℕ) → held_by b k l ≡ ps → lost_if ps ≡ none
+      go : (ps : List ℕ) → held_by b k l ≡ ps → lost_if ps ≡ None
       go [] e = refl
       go (p ∷ ps) e =
           let r = in_filter by (upto (ports_at b l)) p (subst (In p) (sym e) (inl refl)) in
           absurd (true≢false (sym r.1 ∙ nobody_there (find by (upto (ports_at b l))) refl h p r.0))
 
-  pub no_entry : (x : Call) → is_call_of b x l ≡ false → entry b x l ≡ none
+  pub no_entry : (x : Call) → is_call_of b x l ≡ false → entry b x l ≡ None
   no_entry (call.add_node kind ports required values glides) h =
       done_none (add_refusal l.shared.graph kind ports required) _ (eqb l.shared.graph.next b.0) h (λ e. if_none (eqb l.shared.graph.next b.0) (story.opened ports) e)
   no_entry (call.remove_node k) h =
-      done_none (host_refusal l.shared.graph k) _ (is_bus b k || feeds b k l) h (λ e. let r = or_false (is_bus b k) (feeds b k l) e in ap (λ c. cond c (some story.closed) (lost_if (held_by b k l))) r.0 ∙ held_none k r.1)
+      done_none (host_refusal l.shared.graph k) _ (is_bus b k || feeds b k l) h (λ e. let r = or_false (is_bus b k) (feeds b k l) e in ap (λ c. cond c (Some story.closed) (lost_if (held_by b k l))) r.0 ∙ held_none k r.1)
   no_entry (call.connect a k p) h = done_none (connect_refusal l.shared.graph a k p) _ (is_bus b k) h (λ e. if_none (is_bus b k) (story.plugged p) e)
   no_entry (call.disconnect k p) h = done_none (disconnect_refusal l.shared.graph k p) _ (is_bus b k) h (λ e. if_none (is_bus b k) (story.unplugged p) e)
   no_entry (call.set_sink k) h = refl
@@ -125,9 +122,9 @@ module _ (b : NodeId) (l : Ledger) where
   no_entry call.prepare h = refl
   no_entry (call.render out) h = go (render_refusal l.shared (length out)) h
     where
-      go : (o : Option Refusal) → accepted o ≡ false → if_done o (some (story.rendered (timed_frees b (due l.shared) (rested l)) (is_sounding (render l).answer))) ≡ none
-      go none h = absurd (true≢false h)
-      go (some r) h = refl
+      go : (o : Option Refusal) → accepted o ≡ false → if_done o (Some (story.rendered (timed_frees b (due l.shared) (rested l)) (is_sounding (render l).answer))) ≡ None
+      go None h = absurd (true≢false h)
+      go (Some r) h = refl
   no_entry (call.ask q) h = refl
 
   -- and brings nothing to it
@@ -150,21 +147,21 @@ module _ (b : NodeId) (l : Ledger) where
 
   -- ---- what is one leaves an entry
   done_some : (o : Option Refusal) (en : Option Entry) (c : Bool) → (accepted o && c) ≡ true → if_done o en ≡ en
-  done_some none en c e = refl
-  done_some (some r) en c e = absurd (false≢true e)
+  done_some None en c e = refl
+  done_some (Some r) en c e = absurd (false≢true e)
 
-  pub its_own : (o : Option Refusal) (c : Bool) (e : Entry) → (accepted o && c) ≡ true → if_done o (if? c e) ≡ some e
+  pub its_own : (o : Option Refusal) (c : Bool) (e : Entry) → (accepted o && c) ≡ true → if_done o (if? c e) ≡ Some e
   its_own o c e h = done_some o (if? c e) c h ∙ ap (λ d. if? d e) (and_right (accepted o) c h)
 
 -- the voice of the bus that a call names
-pub on_bus_lem : (b : NodeId) (o : Option Voice) → on_it b o ≡ true → (v : Voice) × (o ≡ some v) × (is_on b v ≡ true)
-on_bus_lem b none h = absurd (false≢true h)
-on_bus_lem b (some v) h = (v, refl, h)
+pub on_bus_lem : (b : NodeId) (o : Option Voice) → on_it b o ≡ true → (v : Voice) × (o ≡ Some v) × (is_on b v ≡ true)
+on_bus_lem b None h = absurd (false≢true h)
+on_bus_lem b (Some v) h = (v, refl, h)
 
 -- ---- the events of a render: the numbers that the story has are those of the voices that the events free
 abbrev number_or : Option Voice → ℕ
-number_or none = 0
-number_or (some v) = v.sequence
+number_or None = 0
+number_or (Some v) = v.sequence
 
 abbrev number_in : List Voice → VoiceId → ℕ
 number_in vs w = number_or (find (is_voice w) vs)
@@ -173,15 +170,15 @@ module _ (b : NodeId) {n : ℕ} (vs : List Voice) (ids : Ids n vs) where
   abbrev Among : Ledger → Type 0
   Among l = (v : Voice) → In v l.voices → In v vs
 
-  found : (l : Ledger) → Among l → (w : VoiceId) (v : Voice) → voice_of w l ≡ some v → find (is_voice w) vs ≡ some v
+  found : (l : Ledger) → Among l → (w : VoiceId) (v : Voice) → voice_of w l ≡ Some v → find (is_voice w) vs ≡ Some v
   found l sub w v e = let r = find_in (is_voice w) l.voices v e in once ids w v (sub v r.0) r.1
 
   among_free : (l : Ledger) → Among l → (w : VoiceId) → Among (free w l)
   among_free l sub w = go (find (is_voice w) l.voices)
     where
       go : (o : Option Voice) → Among (freed o l)
-      go none = sub
-      go (some v) = λ u i. sub u (in_filter (λ x. not (is_voice v.id x)) l.voices u i).0
+      go None = sub
+      go (Some v) = λ u i. sub u (in_filter (λ x. not (is_voice v.id x)) l.voices u i).0
 
   -- the story's numbers, and that each freed voice is one of the bus
   pub numbered : (q : List Event) (l : Ledger) → Among l → timed_frees b q l ≡ map (number_in vs) (freed_by_events b q l)
@@ -196,8 +193,8 @@ module _ (b : NodeId) {n : ℕ} (vs : List Voice) (ids : Ids n vs) where
 
       meet : (rest : List ℕ) (more : List VoiceId) → rest ≡ map (number_in vs) more → (o : Option Voice) → voice_of e.voice l ≡ o
           → meets b o rest ≡ map (number_in vs) (cond (on_it b o) (e.voice ∷ more) more)
-      meet rest more h none f = h
-      meet rest more h (some v) f = on (is_on b v)
+      meet rest more h None f = h
+      meet rest more h (Some v) f = on (is_on b v)
         where
           on : (c : Bool) → cond c (v.sequence ∷ rest) rest ≡ map (number_in vs) (cond c (e.voice ∷ more) more)
           on true = ap₂ (λ x l. x ∷ l) (sym (ap number_or (found l sub e.voice v f))) h
@@ -209,7 +206,7 @@ module _ (b : NodeId) {n : ℕ} (vs : List Voice) (ids : Ids n vs) where
       go true ih = meet (timed_frees b q (free e.voice l)) (freed_by_events b q (free e.voice l)) (ih (free e.voice l) (among_free l sub e.voice)) (voice_of e.voice l) refl
       go false ih = ih changed sub
 
-  pub freed_on : (q : List Event) (l : Ledger) → Among l → (w : VoiceId) → In w (freed_by_events b q l) → (v : Voice) × (find (is_voice w) vs ≡ some v) × (is_on b v ≡ true)
+  pub freed_on : (q : List Event) (l : Ledger) → Among l → (w : VoiceId) → In w (freed_by_events b q l) → (v : Voice) × (find (is_voice w) vs ≡ Some v) × (is_on b v ≡ true)
   freed_on [] l sub w i = absurd i
   freed_on (e ∷ q) l sub w i = go (is_free e.action) (freed_on q) i
     where
@@ -219,27 +216,27 @@ module _ (b : NodeId) {n : ℕ} (vs : List Voice) (ids : Ids n vs) where
       after : Bool → Ledger
       after c = cond c (free e.voice l) changed
 
-      pick : (more : List VoiceId) → (In w more → (v : Voice) × (find (is_voice w) vs ≡ some v) × (is_on b v ≡ true)) → (o : Option Voice) → voice_of e.voice l ≡ o
-          → In w (cond (on_it b o) (e.voice ∷ more) more) → (v : Voice) × (find (is_voice w) vs ≡ some v) × (is_on b v ≡ true)
-      pick more ih none f i = ih i
-      pick more ih (some v) f i = on (is_on b v) refl i
+      pick : (more : List VoiceId) → (In w more → (v : Voice) × (find (is_voice w) vs ≡ Some v) × (is_on b v ≡ true)) → (o : Option Voice) → voice_of e.voice l ≡ o
+          → In w (cond (on_it b o) (e.voice ∷ more) more) → (v : Voice) × (find (is_voice w) vs ≡ Some v) × (is_on b v ≡ true)
+      pick more ih None f i = ih i
+      pick more ih (Some v) f i = on (is_on b v) refl i
         where
-          on : (c : Bool) → is_on b v ≡ c → In w (cond c (e.voice ∷ more) more) → (v : Voice) × (find (is_voice w) vs ≡ some v) × (is_on b v ≡ true)
+          on : (c : Bool) → is_on b v ≡ c → In w (cond c (e.voice ∷ more) more) → (v : Voice) × (find (is_voice w) vs ≡ Some v) × (is_on b v ≡ true)
           on true h (inl z) = (v, ap (λ x. find (is_voice x) vs) z ∙ found l sub e.voice v f, h)
           on true h (inr j) = ih j
           on false h j = ih j
 
-      go : (c : Bool) → ((l : Ledger) → Among l → (w : VoiceId) → In w (freed_by_events b q l) → (v : Voice) × (find (is_voice w) vs ≡ some v) × (is_on b v ≡ true))
-          → In w (cond (c && on_it b (voice_of e.voice l)) (e.voice ∷ freed_by_events b q (after c)) (freed_by_events b q (after c))) → (v : Voice) × (find (is_voice w) vs ≡ some v) × (is_on b v ≡ true)
+      go : (c : Bool) → ((l : Ledger) → Among l → (w : VoiceId) → In w (freed_by_events b q l) → (v : Voice) × (find (is_voice w) vs ≡ Some v) × (is_on b v ≡ true))
+          → In w (cond (c && on_it b (voice_of e.voice l)) (e.voice ∷ freed_by_events b q (after c)) (freed_by_events b q (after c))) → (v : Voice) × (find (is_voice w) vs ≡ Some v) × (is_on b v ≡ true)
       go true ih i = pick (freed_by_events b q (free e.voice l)) (ih (free e.voice l) (among_free l sub e.voice) w) (voice_of e.voice l) refl i
       go false ih i = ih changed sub w i
 
 -- ---- a report: its node is one of a definition
 pub record Within (l : Ledger) (b k : NodeId) : Type 0 where
   pub node : Node
-  pub at : node_at l.shared.graph.nodes k ≡ some node
+  pub at : node_at l.shared.graph.nodes k ≡ Some node
   pub who : Voice
-  pub owner : voice_of node.owner l ≡ some who
+  pub owner : voice_of node.owner l ≡ Some who
   pub on : is_on b who ≡ true
   pub low : who.first.0 ≤ k.0
   pub high : k.0 < who.first.0 + who.count
@@ -250,21 +247,21 @@ within l t b k channels n h =
     go (node_at l.shared.graph.nodes k) refl (not-false (reports l.voices (node_at l.shared.graph.nodes k)) (when_none (not (reports l.voices (node_at l.shared.graph.nodes k))) UnknownNode _ none_of).0)
     (and_right (accepted (report_refusal l.shared l.voices k channels n)) _ h)
   where
-    none_of : report_refusal l.shared l.voices k channels n ≡ none
+    none_of : report_refusal l.shared l.voices k channels n ≡ None
     none_of = taken_none _ (and_left _ _ h)
 
     go : (o : Option Node) → node_at l.shared.graph.nodes k ≡ o → reports l.voices o ≡ true → on_it b (owner_voice o l) ≡ true → Within l b k
-    go none e r i = absurd (false≢true i)
-    go (some x) e r i = at (voice_of x.owner l) refl r i
+    go None e r i = absurd (false≢true i)
+    go (Some x) e r i = at (voice_of x.owner l) refl r i
       where
         at : (u : Option Voice) → voice_of x.owner l ≡ u → (eqb x.owner.0 0 || of_definition x.id.0 u) ≡ true → on_it b u ≡ true → Within l b k
-        at none f r i = absurd (false≢true i)
-        at (some g) f r i =
+        at None f r i = absurd (false≢true i)
+        at (Some g) f r i =
             let j = find_in (is_voice x.owner) l.voices g f in
             let owns : x.owner.0 ≡ g.id.0 = sym (eqb-true _ _ j.1) in
             let is_k : x.id.0 ≡ k.0 = eqb-true _ _ (find_in (is_node k) l.shared.graph.nodes x e).1 in
             let inside : (leb g.first.0 x.id.0 && ltb x.id.0 (g.first.0 + g.count)) ≡ true =
-            ap (λ c. c || of_definition x.id.0 (some g)) (sym (ne_eqb x.owner.0 0 (λ z. omega (arith, z, owns, above t.own.0 g j.0)))) ∙ r in
+            ap (λ c. c || of_definition x.id.0 (Some g)) (sym (ne_eqb x.owner.0 0 (λ z. omega (arith, z, owns, above t.own.0 g j.0)))) ∙ r in
             let a : g.first.0 ≤ x.id.0 = leb-true _ _ (and_left _ _ inside) in
             let c : x.id.0 < g.first.0 + g.count = ltb-true _ _ (and_right (leb g.first.0 x.id.0) _ inside) in
             record { node = x; at = e; who = g; owner = f; on = i; low = omega arith; high = omega arith }
@@ -295,7 +292,7 @@ module _ (m : Matching) (nodes : OneToOne m.nodes) (voices : OneToOne m.voices) 
     pub paired : (v w : Voice) → In v k.voices → In w l.voices → is_on b₁ v ≡ true → is_on b₂ w ≡ true → v.sequence ≡ w.sequence → Paired v w
     pub hosts : (p : ℕ) (a c : NodeId) → k.holders b₁.0 p ≡ holder.host a → l.holders b₂.0 p ≡ holder.host c → SameNode m a c
 
-  is_voice_lem : (w : VoiceId) (l : Ledger) (v : Voice) → voice_of w l ≡ some v → v.id ≡ w
+  is_voice_lem : (w : VoiceId) (l : Ledger) (v : Voice) → voice_of w l ≡ Some v → v.id ≡ w
   is_voice_lem w l v e = same_id v.id w (eqb-true _ _ (find_in (is_voice w) l.voices v e).1)
 
   module _ (k l : Ledger) (t : Twins k l) where
@@ -315,14 +312,14 @@ module _ (m : Matching) (nodes : OneToOne m.nodes) (voices : OneToOne m.voices) 
         let z : u.0.id ≡ w.id = voices.forth (pair v.id u.0.id) (pair v.id w.id) p e refl in
         u.3 ∙ ap (λ (x : Voice). x.sequence) (unique t.tidy₂.own.0 u.0 w u.1 j (ap (λ (x : VoiceId). x.0) z))
 
-    same_found : (v w : VoiceId) → SameVoice m v w → (a c : Voice) → voice_of v k ≡ some a → voice_of w l ≡ some c → is_on b₁ a ≡ true → a.sequence ≡ c.sequence
+    same_found : (v w : VoiceId) → SameVoice m v w → (a c : Voice) → voice_of v k ≡ Some a → voice_of w l ≡ Some c → is_on b₁ a ≡ true → a.sequence ≡ c.sequence
     same_found v w e a c f g on =
         same_number a c (find_in (is_voice v) k.voices a f).0 on (find_in (is_voice w) l.voices c g).0
         (subst (λ x. SameVoice m x c.id) (sym (is_voice_lem v k a f)) (subst (SameVoice m v) (sym (is_voice_lem w l c g)) e))
 
     -- ---- the entries of one call
     abbrev Says : Call → Call → Type 0
-    Says x y = (e : Entry) × (entry b₁ x k ≡ some e) × (entry b₂ y l ≡ some e)
+    Says x y = (e : Entry) × (entry b₁ x k ≡ Some e) × (entry b₂ y l ≡ Some e)
 
     says_freed : (v w : VoiceId) → SameVoice m v w → on_it b₁ (voice_of v k) ≡ true → on_it b₂ (voice_of w l) ≡ true → Says (call.free v) (call.free w)
     says_freed v w e h g =
@@ -362,12 +359,12 @@ module _ (m : Matching) (nodes : OneToOne m.nodes) (voices : OneToOne m.voices) 
         let number : w.sequence ≡ v.sequence = ap (λ (q : Voice). q.sequence) one ∙ sym u.3 in (
           story.reported v.sequence (a.0 - v.first.0) samples flag,
           heard b₁ k a channels samples flag h x.node x.at v x.owner x.on,
-          heard b₂ l c channels samples flag g y.node y.at w y.owner y.on ∙ ap₂ (λ s i. some (story.reported s i samples flag)) number place,
+          heard b₂ l c channels samples flag g y.node y.at w y.owner y.on ∙ ap₂ (λ s i. Some (story.reported s i samples flag)) number place,
         )
       where
         heard : (b : NodeId) (l : Ledger) (k : NodeId) (channels : ℕ) (samples : List Float) (flag : Bool) → is_call_of b (call.report k channels samples flag) l ≡ true
-            → (x : Node) → node_at l.shared.graph.nodes k ≡ some x → (v : Voice) → voice_of x.owner l ≡ some v → is_on b v ≡ true
-            → entry b (call.report k channels samples flag) l ≡ some (story.reported v.sequence (k.0 - v.first.0) samples flag)
+            → (x : Node) → node_at l.shared.graph.nodes k ≡ Some x → (v : Voice) → voice_of x.owner l ≡ Some v → is_on b v ≡ true
+            → entry b (call.report k channels samples flag) l ≡ Some (story.reported v.sequence (k.0 - v.first.0) samples flag)
         heard b l k channels samples flag h x at v owner on =
             done_some b l (report_refusal l.shared l.voices k channels (length samples)) _ (on_it b (owner_voice (node_at l.shared.graph.nodes k) l)) h
             ∙ ap (λ o. on_bus b (λ v. story.reported v.sequence (k.0 - v.first.0) samples flag) (owner_voice o l)) at
@@ -414,34 +411,34 @@ module _ (m : Matching) (nodes : OneToOne m.nodes) (voices : OneToOne m.voices) 
 
     says_removed : (a c : NodeId) → SameNode m a c → is_call_of b₁ (call.remove_node a) k ≡ true → is_call_of b₂ (call.remove_node c) l ≡ true → Says (call.remove_node a) (call.remove_node c)
     says_removed a c e h g =
-        let one = done_some b₁ k (host_refusal k.shared.graph a) (cond (is_bus b₁ a) (some story.closed) (lost_if (held_by b₁ a k))) (is_bus b₁ a || feeds b₁ a k) h in
-        let two = done_some b₂ l (host_refusal l.shared.graph c) (cond (is_bus b₂ c) (some story.closed) (lost_if (held_by b₂ c l))) (is_bus b₂ c || feeds b₂ c l) g in
-        let same : cond (is_bus b₂ c) (some story.closed) (lost_if (held_by b₂ c l)) ≡ cond (is_bus b₁ a) (some story.closed) (lost_if (held_by b₁ a k)) =
-        ap₂ (λ d ps. cond d (some story.closed) (lost_if ps)) (sym (matched_by m nodes b₁ b₂ a c buses e)) (sym (same_held a c e)) in
+        let one = done_some b₁ k (host_refusal k.shared.graph a) (cond (is_bus b₁ a) (Some story.closed) (lost_if (held_by b₁ a k))) (is_bus b₁ a || feeds b₁ a k) h in
+        let two = done_some b₂ l (host_refusal l.shared.graph c) (cond (is_bus b₂ c) (Some story.closed) (lost_if (held_by b₂ c l))) (is_bus b₂ c || feeds b₂ c l) g in
+        let same : cond (is_bus b₂ c) (Some story.closed) (lost_if (held_by b₂ c l)) ≡ cond (is_bus b₁ a) (Some story.closed) (lost_if (held_by b₁ a k)) =
+        ap₂ (λ d ps. cond d (Some story.closed) (lost_if ps)) (sym (matched_by m nodes b₁ b₂ a c buses e)) (sym (same_held a c e)) in
         let r = told (is_bus b₁ a) (and_right (accepted (host_refusal k.shared.graph a)) _ h) in
         (r.0, one ∙ r.1, two ∙ same ∙ r.1)
       where
-        some_held : feeds b₁ a k ≡ true → (e : Entry) × (lost_if (held_by b₁ a k) ≡ some e)
+        some_held : feeds b₁ a k ≡ true → (e : Entry) × (lost_if (held_by b₁ a k) ≡ Some e)
         some_held f = go (held_by b₁ a k) refl
           where
             by : ℕ → Bool
             by p = by_host a (k.holders b₁.0 p)
 
             there : (o : Option ℕ) → find by (upto (ports_at b₁ k)) ≡ o → is_some o ≡ true → (p : ℕ) × In p (held_by b₁ a k)
-            there none q f = absurd (false≢true f)
-            there (some p) q f = let r = find_in by (upto (ports_at b₁ k)) p q in (p, filter_in by (upto (ports_at b₁ k)) p r.0 r.1)
+            there None q f = absurd (false≢true f)
+            there (Some p) q f = let r = find_in by (upto (ports_at b₁ k)) p q in (p, filter_in by (upto (ports_at b₁ k)) p r.0 r.1)
 
-            go : (ps : List ℕ) → held_by b₁ a k ≡ ps → (e : Entry) × (lost_if ps ≡ some e)
+            go : (ps : List ℕ) → held_by b₁ a k ≡ ps → (e : Entry) × (lost_if ps ≡ Some e)
             go [] q = absurd (let r = there (find by (upto (ports_at b₁ k))) refl f in subst (In r.0) q r.1)
             go (p ∷ ps) q = (story.lost (p ∷ ps), refl)
 
-        told : (d : Bool) → (d || feeds b₁ a k) ≡ true → (e : Entry) × (cond d (some story.closed) (lost_if (held_by b₁ a k)) ≡ some e)
+        told : (d : Bool) → (d || feeds b₁ a k) ≡ true → (e : Entry) × (cond d (Some story.closed) (lost_if (held_by b₁ a k)) ≡ Some e)
         told true f = (story.closed, refl)
         told false f = some_held f
 
     -- ---- a render
-    numbers_same : (vs ws : List VoiceId) → EachVoice m vs ws → ((v : VoiceId) → In v vs → (a : Voice) × (find (is_voice v) k.voices ≡ some a) × (is_on b₁ a ≡ true))
-        → ((w : VoiceId) → In w ws → (c : Voice) × (find (is_voice w) l.voices ≡ some c) × (is_on b₂ c ≡ true)) → map (number_in k.voices) vs ≡ map (number_in l.voices) ws
+    numbers_same : (vs ws : List VoiceId) → EachVoice m vs ws → ((v : VoiceId) → In v vs → (a : Voice) × (find (is_voice v) k.voices ≡ Some a) × (is_on b₁ a ≡ true))
+        → ((w : VoiceId) → In w ws → (c : Voice) × (find (is_voice w) l.voices ≡ Some c) × (is_on b₂ c ≡ true)) → map (number_in k.voices) vs ≡ map (number_in l.voices) ws
     numbers_same [] [] e f g = refl
     numbers_same [] (w ∷ ws) e f g = absurd e
     numbers_same (v ∷ vs) [] e f g = absurd e
@@ -458,8 +455,8 @@ module _ (m : Matching) (nodes : OneToOne m.nodes) (voices : OneToOne m.voices) 
         let same = numbers_same (freed_by_events b₁ (due k.shared) (rested k)) (freed_by_events b₂ (due l.shared) (rested l)) e
         (freed_on b₁ k.voices t.tidy₁.own.0 (due k.shared) (rested k) (λ v i. i)) (freed_on b₂ l.voices t.tidy₂.own.0 (due l.shared) (rested l) (λ v i. i)) in (
           story.rendered (timed_frees b₁ (due k.shared) (rested k)) (is_sounding (render k).answer),
-          ap (λ q. if_done q (some (story.rendered (timed_frees b₁ (due k.shared) (rested k)) (is_sounding (render k).answer)))) (taken_none (render_refusal k.shared (length o)) h),
-          ap (λ q. if_done q (some (story.rendered (timed_frees b₂ (due l.shared) (rested l)) (is_sounding (render l).answer)))) (taken_none (render_refusal l.shared (length p)) g) ∙ ap₂ (λ ns c. some (story.rendered ns c)) (two ∙ sym same ∙ sym one) (sym s),
+          ap (λ q. if_done q (Some (story.rendered (timed_frees b₁ (due k.shared) (rested k)) (is_sounding (render k).answer)))) (taken_none (render_refusal k.shared (length o)) h),
+          ap (λ q. if_done q (Some (story.rendered (timed_frees b₂ (due l.shared) (rested l)) (is_sounding (render l).answer)))) (taken_none (render_refusal l.shared (length p)) g) ∙ ap₂ (λ ns c. Some (story.rendered ns c)) (two ∙ sym same ∙ sym one) (sym s),
         )
 
     -- ---- every call
@@ -477,12 +474,12 @@ module _ (m : Matching) (nodes : OneToOne m.nodes) (voices : OneToOne m.voices) 
     says _ _ (agree.managed {x = x} {y = y} e a) h g = (
       story.managed x.def (pans x.pan) x.rank,
       ap (λ c. if? c (story.managed x.def (pans x.pan) x.rank)) h,
-      ap (λ c. if? c (story.managed y.def (pans y.pan) y.rank)) g ∙ sym (ap₂ (λ d p. some (story.managed d (pans p) x.rank)) e.def e.pan ∙ ap (λ r. some (story.managed y.def (pans y.pan) r)) e.rank),
+      ap (λ c. if? c (story.managed y.def (pans y.pan) y.rank)) g ∙ sym (ap₂ (λ d p. Some (story.managed d (pans p) x.rank)) e.def e.pan ∙ ap (λ r. Some (story.managed y.def (pans y.pan) r)) e.rank),
     )
     says _ _ (agree.loose {x = x} {y = y} e a) h g = (
       story.loose x.def (pans x.pan) x.rank,
       ap (λ c. if? c (story.loose x.def (pans x.pan) x.rank)) h,
-      ap (λ c. if? c (story.loose y.def (pans y.pan) y.rank)) g ∙ sym (ap₂ (λ d p. some (story.loose d (pans p) x.rank)) e.def e.pan ∙ ap (λ r. some (story.loose y.def (pans y.pan) r)) e.rank),
+      ap (λ c. if? c (story.loose y.def (pans y.pan) y.rank)) g ∙ sym (ap₂ (λ d p. Some (story.loose d (pans p) x.rank)) e.def e.pan ∙ ap (λ r. Some (story.loose y.def (pans y.pan) r)) e.rank),
     )
     says _ _ (agree.freed {v = v} {w = w} e) h g = says_freed v w e h g
     says _ _ (agree.reported {a = a} {b = c} {channels = channels} {samples = samples} {flag = flag} e) h g = says_reported a c channels samples flag e h g
@@ -543,7 +540,7 @@ module _ (m : Matching) (nodes : OneToOne m.nodes) (voices : OneToOne m.voices) 
         }
 
     -- ---- a call of both
-    followed : (b : NodeId) (x : Call) (l : Ledger) (e : Entry) → entry b x l ≡ some e → Goes b (entry b x l) (step x l) l → bus_of b (step x l).ledger ≡ (follow e (bus_of b l)).bus
+    followed : (b : NodeId) (x : Call) (l : Ledger) (e : Entry) → entry b x l ≡ Some e → Goes b (entry b x l) (step x l) l → bus_of b (step x l).ledger ≡ (follow e (bus_of b l)).bus
     followed b x l e f g = ap (λ (r : bus.SpawnResult). r.bus) (subst (λ o. Follow o (step x l).answer (bus_of b (step x l).ledger) (bus_of b l)) f g.follows)
 
     module _ (x y : Call) (c₁ : full_in (refusal_in (step x k).answer) ≡ false) (c₂ : full_in (refusal_in (step y l).answer) ≡ false) (s : Says x y) where
@@ -574,11 +571,11 @@ module _ (m : Matching) (nodes : OneToOne m.nodes) (voices : OneToOne m.voices) 
           both_twins (old_pairs a c) (old_hosts a c)
 
     -- the voice let in, where there is one
-    arrived_is : (r : SpawnResult) → Tidy r.ledger → (v : Voice) → In v r.ledger.voices → r.answer ≡ Spawned.Voice v.id → let_in r ≡ some v
+    arrived_is : (r : SpawnResult) → Tidy r.ledger → (v : Voice) → In v r.ledger.voices → r.answer ≡ Ok v.id → let_in r ≡ Some v
     arrived_is r u v i e = ap (λ a. agree.arrived a r.ledger) e ∙ once u.own.0 v.id v i (eq-eqb v.id.0 v.id.0 refl)
 
     -- an old voice's number is below that of a new one
-    below_new : (l : Ledger) → Tidy l → (b : NodeId) (u : Voice) → In u l.voices → is_on b u ≡ true → (r : BusPorts) → ports_now b l.shared.graph.nodes ≡ some r → u.sequence ≡ r.noise → ⊥
+    below_new : (l : Ledger) → Tidy l → (b : NodeId) (u : Voice) → In u l.voices → is_on b u ≡ true → (r : BusPorts) → ports_now b l.shared.graph.nodes ≡ Some r → u.sequence ≡ r.noise → ⊥
     below_new l d b u i on r e f =
         let n = is_node_lem (node_at l.shared.graph.nodes b) r e in
         let is : u.bus ≡ b = ap (λ n. record { 0 = n }) (eqb-true _ _ on) in
@@ -594,7 +591,7 @@ module _ (m : Matching) (nodes : OneToOne m.nodes) (voices : OneToOne m.voices) 
       is₂ : y.bus ≡ b₂
       is₂ = ap (λ n. record { 0 = n }) (eqb-true _ _ off)
 
-      room_on : (l : Ledger) (z : Spawn) (b : NodeId) → z.bus ≡ b → (r : SpawnResult) (v : Voice) (n : New l z r v) → ports_now b l.shared.graph.nodes ≡ some n.room
+      room_on : (l : Ledger) (z : Spawn) (b : NodeId) → z.bus ≡ b → (r : SpawnResult) (v : Voice) (n : New l z r v) → ports_now b l.shared.graph.nodes ≡ Some n.room
       room_on l z b e r v n = ap (λ c. ports_now c l.shared.graph.nodes) (sym e) ∙ n.ports
 
       spawn_pairs : (v w : Voice) → In v r₁.ledger.voices → In w r₂.ledger.voices → is_on b₁ v ≡ true → is_on b₂ w ≡ true → v.sequence ≡ w.sequence → Paired v w
@@ -618,7 +615,7 @@ module _ (m : Matching) (nodes : OneToOne m.nodes) (voices : OneToOne m.voices) 
               (sym (ap (λ (z : Bus). z.ports) t.same) ∙ room_on k x b₁ is₁ r₁ v c) (sym d.number ∙ sym e ∙ c.number)
 
           new : New k x r₁ v → New l y r₂ w → Paired v w
-          new c d = subst (Arrive m (some v)) (arrived_is r₂ u₂ w j d.named) (subst (λ o. Arrive m o (let_in r₂)) (arrived_is r₁ u₁ v i c.named) a)
+          new c d = subst (Arrive m (Some v)) (arrived_is r₂ u₂ w j d.named) (subst (λ o. Arrive m o (let_in r₂)) (arrived_is r₁ u₁ v i c.named) a)
 
     -- a source is connected to one port of both
     connected_hosts : (a c i j : NodeId) (p : ℕ) → SameNode m a c → (accepted (connect_refusal k.shared.graph a i p) && is_bus b₁ i) ≡ true → (accepted (connect_refusal l.shared.graph c j p) && is_bus b₂ j) ≡ true
@@ -648,8 +645,8 @@ module _ (m : Matching) (nodes : OneToOne m.nodes) (voices : OneToOne m.voices) 
         (connected_hosts a o i j p e h g)
       where
         same_voices : (l : Ledger) (a i : NodeId) (p : ℕ) (r : Option Refusal) (v : Voice) → In v (steps.unless r l (graph_step l (change.connect l.shared.graph a i p) (hold i p (holder.host a) l.holders) call.done)).ledger.voices → In v l.voices
-        same_voices l a i p none v x = x
-        same_voices l a i p (some r) v x = x
+        same_voices l a i p None v x = x
+        same_voices l a i p (Some r) v x = x
     both_go _ _ (agree.disconnected {a = a} {b = o} {p = p} e) h g c d s = quiet_twins (call.disconnect a p) (call.disconnect o p) c d s tt tt
     both_go _ _ (agree.managed {x = x} {y = y} e a) h g c d s =
         let p = managed_spawned k t.tidy₁ x t.per₁ in

@@ -2,13 +2,11 @@
 -- has to believe it: it is how the theorem is proved.
 use Prim.Native.Nat.{ℕ, zero, suc, ◌+◌, ◌*◌, ◌%◌, min}
 use mathlib.Core.List.{List, [], ◌∷◌, ◌++◌, map}
-use mathlib.Core.Option.{Option, none, some}
+use Rattle.std.specs.Prelude.{Option, None, Some, filter, find, option_map}
 use mathlib.Core.Bool.{Bool, true, false, not, cond, ◌&&◌}
 use lib.Dec.{eqb, leb, ltb}
 use lib.ListN.{length}
 use lib.Ieee.{Float, of_bits, binary32}
-use Rattle.lists.specs.Filter.{filter}
-use Rattle.lists.specs.Find.{find, or?, map_o}
 use Rattle.level.specs.Level.{level_of}
 use Rattle.bus.specs.Fade.{fade_length}
 use Rattle.rank.specs.Order.{upto}
@@ -16,16 +14,10 @@ use Rattle.node.specs.declared.refusal.Refusal.{Refusal}
 use Rattle.node.specs.declared.refusal.Refusal.TheVariants.{UnknownNode, DefinitionLimits, BusWithoutPorts, Rejected, NoPort, RankTooHigh}
 use Rattle.node.specs.Refusal.{number_of}
 use Rattle.edges.specs.Wiring.{listed}
-use Rattle.voice.specs.Policy.{victim, admits}
+use Rattle.voice.specs.Policy.{Victim, victim, admits}
 use Rattle.voice.specs.declared.policy.Admission.{Admission}
 use Rattle.voice.specs.declared.policy.Admission.TheVariants as admission
-use Rattle.voice.specs.declared.policy.Budget.{Budget}
-use Rattle.voice.specs.declared.policy.Budget.TheVariants.{Unlimited, AtMost}
 use Rattle.voice.specs.declared.policy.Candidate.{Candidate}
-use Rattle.voice.specs.declared.policy.Victim.{Victim}
-use Rattle.voice.specs.declared.policy.Victim.TheVariants.{Nobody, Goes}
-use Rattle.voice.specs.declared.policy.Level.{Level}
-use Rattle.voice.specs.declared.policy.Level.TheVariants.{Unknown, Known}
 use Rattle.synthdef.specs.Limits.{allowed}
 use Rattle.synthdef.specs.Tables.{node_rows}
 use Rattle.synthdef.specs.Plan.{plan_of, plan_silent}
@@ -47,7 +39,7 @@ pub record Own : Type 0 where
   pub output : ℕ
   pub plan : DonePlan
   pub phase : Phase
-  pub level : Level
+  pub level : Option Float
   pub flags : ℕ → Bool
 
 pub data Seat : Type 0 where
@@ -91,8 +83,8 @@ abbrev pub with_phase : Phase → Own → Own
 with_phase x v =
     record { number = v.number; rank = v.rank; birth = v.birth; port = v.port; count = v.count; output = v.output; plan = v.plan; phase = x; level = v.level; flags = v.flags }
 
-abbrev pub level_now : ℕ → Own → Level
-level_now clock v = cond (ltb v.birth clock) v.level Unknown
+abbrev pub level_now : ℕ → Own → Option Float
+level_now clock v = cond (ltb v.birth clock) v.level None
 
 abbrev pub tracks : Own → Bool
 tracks v = is_held v.phase
@@ -115,12 +107,12 @@ by_number s host = false
 by_number s (mine t) = eqb t s
 
 abbrev pub port_count : Option BusPorts → ℕ
-port_count none = 0
-port_count (some r) = r.ports
+port_count None = 0
+port_count (Some r) = r.ports
 
 abbrev pub noise_in : Option BusPorts → ℕ
-noise_in none = 0
-noise_in (some r) = r.noise
+noise_in None = 0
+noise_in (Some r) = r.noise
 
 abbrev pub counted : BusPorts → BusPorts
 counted r = record { ports = r.ports; noise = (r.noise + 1) % 4294967296 }
@@ -148,8 +140,8 @@ abbrev pub begin : ℕ → ℕ → Own → Own
 begin s clock v = cond (is_number s v) (with_phase (fading clock 0) v) v
 
 abbrev pub stolen : ℕ → Option ℕ → Bus → Bus
-stolen s (some p) m = at_voices m m.seats (map (begin s m.clock) m.voices)
-stolen s none m = without_voice s m
+stolen s (Some p) m = at_voices m m.seats (map (begin s m.clock) m.voices)
+stolen s None m = without_voice s m
 
 abbrev pub steal : ℕ → Bus → Bus
 steal s m = stolen s (port_held s m) m
@@ -165,7 +157,7 @@ new_voice def r x p m =
       output = def.output;
       plan = plan_of def;
       phase = x;
-      level = Known (of_bits binary32 0);
+      level = Some (of_bits binary32 0);
       flags = λ i. false;
     }
 
@@ -176,64 +168,64 @@ pub record SpawnResult : Type 0 where
 abbrev pub instantiate : SynthDef → ℕ → Phase → ℕ → Bus → SpawnResult
 instantiate def r x p m =
     record {
-      answer = none;
+      answer = None;
       bus = record {
         config = m.config;
         clock = m.clock;
-        ports = map_o counted m.ports;
+        ports = option_map counted m.ports;
         seats = seat p (mine (noise_in m.ports)) m.seats;
         voices = m.voices ++ (new_voice def r x p m ∷ []);
       };
     }
 
 abbrev pub turned : Refusal → Bus → SpawnResult
-turned r m = record { answer = some (number_of r); bus = m }
+turned r m = record { answer = Some (number_of r); bus = m }
 
 abbrev pub no_later : Own → Own → Bool
 no_later v u = leb (start_of v.phase) (start_of u.phase)
 
 abbrev pub earlier : Option Own → Bool → Own → Option Own
-earlier none b v = or? b v none
-earlier (some u) b v = or? (b && no_later v u) v (some u)
+earlier None b v = cond b (Some v) None
+earlier (Some u) b v = cond (b && no_later v u) (Some v) (Some u)
 
 abbrev pub earliest : List Own → Option Own
-earliest [] = none
+earliest [] = None
 earliest (v ∷ vs) = earlier (earliest vs) (fades v) v
 
 abbrev pub voice_of : Victim → List Own → Option Own
-voice_of Nobody vs = none
-voice_of (Goes place w) vs = find (is_number w.0) vs
+voice_of None vs = None
+voice_of (Some (place, w)) vs = find (is_number w.0) vs
 
 abbrev pub else_victim : Option Own → Option Own → Option Own
-else_victim none o = o
-else_victim (some v) o = some v
+else_victim None o = o
+else_victim (Some v) o = Some v
 
 abbrev pub next_out : ℕ → Bus → Option Own
 next_out r m = else_victim (earliest m.voices) (voice_of (victim m.config.policy r (candidates m.clock m.voices)) m.voices)
 
 abbrev pub instantiate_or : Option ℕ → Option Own → SynthDef → ℕ → Phase → Bus → (Bus → SpawnResult) → SpawnResult
-instantiate_or (some p) o def r x m again = instantiate def r x p m
-instantiate_or none none def r x m again = turned NoPort m
-instantiate_or none (some v) def r x m again = again (without_voice v.number m)
+instantiate_or (Some p) o def r x m again = instantiate def r x p m
+instantiate_or None None def r x m again = turned NoPort m
+instantiate_or None (Some v) def r x m again = again (without_voice v.number m)
 
 abbrev pub place : ℕ → SynthDef → ℕ → Phase → Bus → SpawnResult
-place zero def r x m = instantiate_or (port_free m) none def r x m (turned NoPort)
+place zero def r x m = instantiate_or (port_free m) None def r x m (turned NoPort)
 place (suc fuel) def r x m = instantiate_or (port_free m) (next_out r m) def r x m (λ k. place fuel def r x k)
 
-abbrev pub phase_under : Budget → Phase
-phase_under Unlimited = story.loose
-phase_under (AtMost n) = held
+abbrev pub phase_under : Option ℕ → Phase
+phase_under None = story.loose
+phase_under (Some n) = held
 
-abbrev pub tries : Budget → List Own → ℕ
-tries Unlimited vs = 0
-tries (AtMost n) vs = length vs
+abbrev pub tries : Option ℕ → List Own → ℕ
+tries None vs = 0
+tries (Some n) vs = length vs
 
 abbrev pub place_within_budget : SynthDef → ℕ → Bus → SpawnResult
 place_within_budget def r m = place (tries m.config.budget m.voices) def r (phase_under m.config.budget) m
 
 abbrev pub steal_then : Option Own → SynthDef → ℕ → Bus → SpawnResult
-steal_then none def r m = place_within_budget def r m
-steal_then (some v) def r m = place_within_budget def r (steal v.number m)
+steal_then None def r m = place_within_budget def r m
+steal_then (Some v) def r m = place_within_budget def r (steal v.number m)
 
 abbrev pub admitted : Admission → SynthDef → ℕ → Bus → SpawnResult
 admitted admission.Admit def r m = place_within_budget def r m
@@ -249,8 +241,8 @@ no_ports zero m r = turned BusWithoutPorts m
 no_ports (suc n) m r = r
 
 abbrev pub no_bus : Option BusPorts → Bus → SpawnResult → SpawnResult
-no_bus none m r = turned UnknownNode m
-no_bus (some x) m r = no_ports x.ports m r
+no_bus None m r = turned UnknownNode m
+no_bus (Some x) m r = no_ports x.ports m r
 
 abbrev pub guarded : SynthDef → ℕ → Bus → SpawnResult → SpawnResult
 guarded def n m r = cond (ltb rank_limit n) (turned RankTooHigh m) (cond (allowed def) (no_bus m.ports m r) (turned DefinitionLimits m))
@@ -300,7 +292,7 @@ report i samples flag v =
       output = v.output;
       plan = v.plan;
       phase = v.phase;
-      level = cond (eqb i v.output) (Known (level_of samples)) v.level;
+      level = cond (eqb i v.output) (Some (level_of samples)) v.level;
       flags = λ j. cond (eqb j i) flag (v.flags j);
     }
 
@@ -308,11 +300,11 @@ abbrev pub at_ports : Option BusPorts → (ℕ → Seat) → Bus → Bus
 at_ports o h m = record { config = m.config; clock = m.clock; ports = o; seats = h; voices = m.voices }
 
 abbrev pub quiet : Bus → SpawnResult
-quiet m = record { answer = none; bus = m }
+quiet m = record { answer = None; bus = m }
 
 abbrev pub follow : Entry → Bus → SpawnResult
-follow (opened n) m = quiet (at_ports (some (record { ports = n; noise = 0 })) (λ p. empty) m)
-follow closed m = quiet (at_ports none (λ p. empty) m)
+follow (opened n) m = quiet (at_ports (Some (record { ports = n; noise = 0 })) (λ p. empty) m)
+follow closed m = quiet (at_ports None (λ p. empty) m)
 follow (plugged p) m = quiet (at_ports m.ports (seat p host m.seats) m)
 follow (unplugged p) m = quiet (at_ports m.ports (seat p empty m.seats) m)
 follow (lost ps) m = quiet (at_ports m.ports (λ p. cond (listed ps p) empty (m.seats p)) m)
@@ -324,4 +316,4 @@ follow cleared m = quiet (clear m)
 follow (rendered ss b) m = quiet (block b (free_all ss m))
 
 abbrev pub new_bus : Config → Bus
-new_bus c = record { config = c; clock = 0; ports = none; seats = λ p. empty; voices = [] }
+new_bus c = record { config = c; clock = 0; ports = None; seats = λ p. empty; voices = [] }

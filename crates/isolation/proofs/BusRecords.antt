@@ -5,7 +5,7 @@ use native.Mathlib.Omega.{arith}
 use mathlib.Core.Path.{◌≡◌, refl, sym, ap, ◌∙◌, subst}
 use mathlib.Core.Logic.{◌⊎◌, ⊎_elim}
 use mathlib.Core.List.{List, [], ◌∷◌, ◌++◌, map}
-use mathlib.Core.Option.{Option, none, some}
+use Rattle.std.specs.Prelude.{Option, None, Some}
 use mathlib.Core.Bool.{Bool, true, false, cond}
 use lib.Dec.{eqb}
 use borrow.Author.Tests.{eqb-true, eqb-false}
@@ -14,8 +14,6 @@ use Rattle.lists.proofs.Member.{in_map, in_of_map, in_snoc}
 use Rattle.node.specs.declared.record.NodeId.{NodeId}
 use Rattle.voice.specs.Steals.{StealLog, pushed, marked, cut_of}
 use Rattle.voice.specs.declared.steals.StealRecord.{StealRecord}
-use Rattle.voice.specs.declared.steals.StealFound.{StealFound}
-use Rattle.voice.specs.declared.steals.StealFound.TheVariants as found
 use Rattle.store.specs.declared.voices.Voice.{Voice}
 use Rattle.store.specs.declared.voices.VoiceState.{VoiceState}
 use Rattle.store.specs.declared.voices.VoiceState.TheVariants.{Tracked, Fading, Loose}
@@ -41,7 +39,7 @@ cut_item s x = record { at = x.at; voice = x.voice; what = cond (eqb x.voice s) 
 
 -- over the log, the bus's sequence and the voices
 pub record BusRecords (b : NodeId) (ts : List Item) (log : StealLog) (U : ℕ → Type 0) (vs : List Voice) : Type 0 where
-  pub same : (x : Item) → In x ts → (r : StealRecord) → held_record log x.at ≡ found.Record r → x.what ≡ r
+  pub same : (x : Item) → In x ts → (r : StealRecord) → held_record log x.at ≡ Some r → x.what ≡ r
   -- a fade of the bus has an item of its number; a fade of another bus has none
   pub tags : (v : Voice) → In v vs → is_on b v ≡ true → (f : Fade) → v.state ≡ Fading f → (x : Item) × In x ts × (x.at ≡ f.number) × (x.voice ≡ v.sequence)
   pub foreign : (v : Voice) → In v vs → is_on b v ≡ false → (f : Fade) → v.state ≡ Fading f → (x : Item) → In x ts → x.at ≡ f.number → ⊥
@@ -53,8 +51,8 @@ pub record BusRecords (b : NodeId) (ts : List Item) (log : StealLog) (U : ℕ �
 
 -- the bus was added, and its noise sequence is above the number, while it lives
 abbrev pub UnderR : Option BusPorts → ℕ → Type 0
-UnderR none s = Unit {0}
-UnderR (some r) s = s < r.noise
+UnderR None s = Unit {0}
+UnderR (Some r) s = s < r.noise
 
 abbrev pub UnderOn : NodeId → Ledger → ℕ → Type 0
 UnderOn b l s = (b.0 < l.shared.graph.next) × UnderR (ports_now b l.shared.graph.nodes) s
@@ -62,10 +60,10 @@ UnderOn b l s = (b.0 < l.shared.graph.next) × UnderR (ports_now b l.shared.grap
 abbrev pub BusRecordsOf : NodeId → List Item → Ledger → Type 0
 BusRecordsOf b ts l = BusRecords b ts l.shared.steals (UnderOn b l) l.voices
 
-nothing_record : {r : StealRecord} → found.Nothing ≡ found.Record r → ⊥
+nothing_record : {r : StealRecord} → None ≡ Some r → ⊥
 nothing_record e = let z : ◌≡◌ {A = ℕ} 0 1 = cc in omega arith
 
-record_inj : {r s : StealRecord} → found.Record r ≡ found.Record s → r ≡ s
+record_inj : {r s : StealRecord} → Some r ≡ Some s → r ≡ s
 record_inj e = cc
 
 -- ---- voices go, or change without their fades, or come without one
@@ -120,7 +118,7 @@ module _ {b : NodeId} {ts : List Item} {log : StealLog} {U : ℕ → Type 0} {vs
 
   -- ---- a record of another bus is written, or marked
   module _ (r : StealRecord) (w : Newest log) (small : log.count < 18446744073709551615) where
-    same_pushed : (x : Item) → In x ts → (s : StealRecord) → held_record (pushed log r) x.at ≡ found.Record s → x.what ≡ s
+    same_pushed : (x : Item) → In x ts → (s : StealRecord) → held_record (pushed log r) x.at ≡ Some s → x.what ≡ s
     same_pushed x i s e = ⊎_elim (λ h. k.same x i s (sym h ∙ e)) (λ h. absurd (nothing_record (sym h.0 ∙ e))) (held_pushed log r small w x.at (k.below x i))
 
     more : (pushed log r).count ≡ log.count + 1
@@ -135,7 +133,7 @@ module _ {b : NodeId} {ts : List Item} {log : StealLog} {U : ℕ → Type 0} {vs
       abbrev new : Item
       new = record { at = log.count; voice = g.sequence; what = r }
 
-      pub same_own : (x : Item) → In x (ts ++ (new ∷ [])) → (s : StealRecord) → held_record (pushed log r) x.at ≡ found.Record s → x.what ≡ s
+      pub same_own : (x : Item) → In x (ts ++ (new ∷ [])) → (s : StealRecord) → held_record (pushed log r) x.at ≡ Some s → x.what ≡ s
       same_own x j s e =
           ⊎_elim (λ m. same_pushed x m s e)
           (λ z. ap (λ (y : Item). y.what) z ∙ record_inj (sym (held_new log r small w) ∙ ap (λ (y : Item). held_record (pushed log r) y.at) (sym z) ∙ e)) (in_snoc ts new x j)
@@ -190,11 +188,11 @@ module _ {b : NodeId} {ts : List Item} {log : StealLog} {U : ℕ → Type 0} {vs
       its : (x : Item) × In x ts × (x.at ≡ f.number) × (x.voice ≡ g.sequence)
       its = k.tags g i on f e
 
-      uncut : (o : StealFound) (s : StealRecord) → cut_found o ≡ found.Record s → (r : StealRecord) × (o ≡ found.Record r) × (cut_of r ≡ s)
-      uncut found.Nothing s h = absurd (nothing_record h)
-      uncut (found.Record r) s h = (r, refl, record_inj h)
+      uncut : (o : Option StealRecord) (s : StealRecord) → cut_found o ≡ Some s → (r : StealRecord) × (o ≡ Some r) × (cut_of r ≡ s)
+      uncut None s h = absurd (nothing_record h)
+      uncut (Some r) s h = (r, refl, record_inj h)
 
-      same' : (x : Item) → In x ts → (s : StealRecord) → held_record (marked log f.number) x.at ≡ found.Record s → (c : Bool) → eqb x.voice g.sequence ≡ c → cond c (cut_of x.what) x.what ≡ s
+      same' : (x : Item) → In x ts → (s : StealRecord) → held_record (marked log f.number) x.at ≡ Some s → (c : Bool) → eqb x.voice g.sequence ≡ c → cond c (cut_of x.what) x.what ≡ s
       same' x j s h true c =
           let z : x ≡ its.0 = k.once x its.0 j its.1 (eqb-true _ _ c ∙ sym its.3) in
           let n : x.at ≡ f.number = ap (λ (w : Item). w.at) z ∙ its.2 in

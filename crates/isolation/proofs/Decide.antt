@@ -3,24 +3,20 @@ use Prim.Native.Nat.{ℕ}
 use native.Mathlib.Omega.{arith}
 use mathlib.Core.Path.{◌≡◌, refl, sym, ap, ap₂, ◌∙◌}
 use mathlib.Core.List.{List, [], ◌∷◌, map}
-use mathlib.Core.Option.{Option, none, some}
+use Rattle.std.specs.Prelude.{Option, None, Some, filter, find, option_map}
 use mathlib.Core.Bool.{Bool, true, false, not, cond, ◌&&◌}
 use lib.Dec.{eqb}
 use borrow.Author.Tests.{eqb-true, eqb-false, eq-eqb, ne_eqb, lt-ltb}
 use Rattle.lists.specs.Member.{In}
 use Rattle.lists.proofs.Member.{map_same, and_right}
-use Rattle.lists.specs.Filter.{filter, put?}
 use Rattle.lists.proofs.Filter.{filter_filter, filter_map, in_filter, filter_in}
-use Rattle.lists.specs.Find.{find, or?, map_o}
 use Rattle.lists.proofs.Find.{find_map}
 use Rattle.node.specs.declared.record.NodeId.{NodeId}
 use Rattle.node.specs.declared.record.VoiceId.{VoiceId}
 use Rattle.node.specs.declared.record.Node.{Node}
 use Rattle.graph.specs.Node.{node_at, ports_of}
-use Rattle.voice.specs.Policy.{victim}
+use Rattle.voice.specs.Policy.{Victim, victim}
 use Rattle.voice.specs.declared.policy.Candidate.{Candidate}
-use Rattle.voice.specs.declared.policy.Victim.{Victim}
-use Rattle.voice.specs.declared.policy.Victim.TheVariants.{Nobody, Goes}
 use Rattle.store.specs.declared.voices.Voice.{Voice}
 use Rattle.store.specs.declared.voices.VoiceState.{VoiceState}
 use Rattle.store.specs.declared.voices.VoiceState.TheVariants.{Tracked, Fading, Loose}
@@ -55,9 +51,9 @@ start_same (Fading f) = refl
 start_same Loose = refl
 
 -- ---- ports
-pub ports_are : (o : Option Node) → ((n : Node) → o ≡ some n → n.owner.0 ≡ 0) → ports_of o ≡ port_count (host_ports o)
-ports_are none h = refl
-ports_are (some n) h = rw (eq-eqb n.owner.0 0 (h n refl))
+pub ports_are : (o : Option Node) → ((n : Node) → o ≡ Some n → n.owner.0 ≡ 0) → ports_of o ≡ port_count (host_ports o)
+ports_are None h = refl
+ports_are (Some n) h = rw (eq-eqb n.owner.0 0 (h n refl))
 
 taken_same : (vs : List Voice) (x : Holder) → is_taken (seat_of vs x) ≡ is_held x
 taken_same vs nobody = refl
@@ -65,8 +61,8 @@ taken_same vs (holder.host k) = refl
 taken_same vs (voice w) = go (find (is_voice w) vs)
   where
     go : (o : Option Voice) → is_taken (seat_for o) ≡ true
-    go none = refl
-    go (some v) = refl
+    go None = refl
+    go (Some v) = refl
 
 module _ (l : Ledger) (t : Tidy l) (b : NodeId) where
   abbrev ns : List Node
@@ -75,7 +71,7 @@ module _ (l : Ledger) (t : Tidy l) (b : NodeId) where
   abbrev vs : List Voice
   vs = l.voices
 
-  pub free_same : ((n : Node) → node_at ns b ≡ some n → n.owner.0 ≡ 0) → port_free b l ≡ bus.port_free (bus_of b l)
+  pub free_same : ((n : Node) → node_at ns b ≡ Some n → n.owner.0 ≡ 0) → port_free b l ≡ bus.port_free (bus_of b l)
   free_same host =
       ap (λ k. lowest_port k (λ p. not (is_held (l.holders b.0 p))) 0) (ports_are (node_at ns b) host)
       ∙ lowest_same (port_count (ports_now b ns)) (λ p. not (is_held (l.holders b.0 p))) (λ p. not (is_taken ((bus_of b l).seats p))) 0
@@ -104,15 +100,15 @@ module _ (l : Ledger) (t : Tidy l) (b : NodeId) where
           go u j o k false c = ne_eqb u.sequence v.sequence (λ z. eqb-false _ _ c (sym k ∙ ap (λ (y : Voice). y.id.0) (t.single u v j i (o ∙ sym (eqb-true _ _ on)) z)))
 
   -- ---- voices by number
-  pub find_number : (v : Voice) → In v vs → is_on b v ≡ true → find (is_number v.sequence) (own_voices b ns vs) ≡ some (own_of ns v)
+  pub find_number : (v : Voice) → In v vs → is_on b v ≡ true → find (is_number v.sequence) (own_voices b ns vs) ≡ Some (own_of ns v)
   find_number v i on =
       find_map (own_of ns) (is_number v.sequence) (λ x. eqb x.sequence v.sequence) (λ x. refl) (filter (is_on b) vs)
-      ∙ ap (map_o (own_of ns)) (find_one (λ x. eqb x.sequence v.sequence) (filter (is_on b) vs) v (filter_in (is_on b) vs v i on) (eq-eqb v.sequence v.sequence refl)
+      ∙ ap (option_map (own_of ns)) (find_one (λ x. eqb x.sequence v.sequence) (filter (is_on b) vs) v (filter_in (is_on b) vs v i on) (eq-eqb v.sequence v.sequence refl)
       (λ x j e. let r = in_filter (is_on b) vs x j in t.single x v r.0 i (eqb-true _ _ r.1 ∙ sym (eqb-true _ _ on)) (eqb-true _ _ e)))
 
   abbrev pub number_or : Option Voice → VoiceId
-  number_or none = record { 0 = 0 }
-  number_or (some v) = record { 0 = v.sequence }
+  number_or None = record { 0 = 0 }
+  number_or (Some v) = record { 0 = v.sequence }
 
   -- the number of the voice of an id
   abbrev pub number : VoiceId → VoiceId
@@ -133,22 +129,22 @@ module _ (l : Ledger) (t : Tidy l) (b : NodeId) where
       cand v = record { voice = record { 0 = v.number }; level = bus.level_now l.shared.clock v; rank = v.rank }
 
   -- ---- who is reclaimed next
-  earlier_same : (o : Option Voice) (c : Bool) (v : Voice) → map_o (own_of ns) (earlier o c v) ≡ bus.earlier (map_o (own_of ns) o) c (own_of ns v)
-  earlier_same none true v = refl
-  earlier_same none false v = refl
-  earlier_same (some u) c v = rw (start_same v.state, start_same u.state) (go (c && no_later v u))
+  earlier_same : (o : Option Voice) (c : Bool) (v : Voice) → option_map (own_of ns) (earlier o c v) ≡ bus.earlier (option_map (own_of ns) o) c (own_of ns v)
+  earlier_same None true v = refl
+  earlier_same None false v = refl
+  earlier_same (Some u) c v = rw (start_same v.state, start_same u.state) (go (c && no_later v u))
     where
-      go : (d : Bool) → map_o (own_of ns) (or? d v (some u)) ≡ or? d (own_of ns v) (some (own_of ns u))
+      go : (d : Bool) → option_map (own_of ns) (cond d (Some v) (Some u)) ≡ cond d (Some (own_of ns v)) (Some (own_of ns u))
       go true = refl
       go false = refl
 
-  earliest_same : (us : List Voice) → map_o (own_of ns) (earliest (fades_on b) us) ≡ bus.earliest (map (own_of ns) (filter (is_on b) us))
+  earliest_same : (us : List Voice) → option_map (own_of ns) (earliest (fades_on b) us) ≡ bus.earliest (map (own_of ns) (filter (is_on b) us))
   earliest_same [] = refl
   earliest_same (v ∷ us) = earlier_same (earliest (fades_on b) us) (fades_on b v) v ∙ ap (λ o. bus.earlier o (fades_on b v) (own_of ns v)) (earliest_same us) ∙ go (is_on b v)
     where
       idle : (o : Option Own) → bus.earlier o false (own_of ns v) ≡ o
-      idle none = refl
-      idle (some u) = refl
+      idle None = refl
+      idle (Some u) = refl
 
       off : (c : Bool) → (c && false) ≡ false
       off true = refl
@@ -158,24 +154,24 @@ module _ (l : Ledger) (t : Tidy l) (b : NodeId) where
       on true = refl
       on false = refl
 
-      go : (c : Bool) → bus.earlier (bus.earliest (map (own_of ns) (filter (is_on b) us))) (is_fading v.state && c) (own_of ns v) ≡ bus.earliest (map (own_of ns) (put? c v (filter (is_on b) us)))
+      go : (c : Bool) → bus.earlier (bus.earliest (map (own_of ns) (filter (is_on b) us))) (is_fading v.state && c) (own_of ns v) ≡ bus.earliest (map (own_of ns) (cond c (v ∷ (filter (is_on b) us)) (filter (is_on b) us)))
       go true = ap (λ d. bus.earlier (bus.earliest (map (own_of ns) (filter (is_on b) us))) d (own_of ns v)) (on (is_fading v.state) ∙ sym (fading_same v.state))
       go false = ap (λ d. bus.earlier (bus.earliest (map (own_of ns) (filter (is_on b) us))) d (own_of ns v)) (off (is_fading v.state)) ∙ idle (bus.earliest (map (own_of ns) (filter (is_on b) us)))
 
-  voice_same : (r : ℕ) (x : Victim) → victim l.shared.config.policy r (candidates l.shared (tracked_on b) vs) ≡ x → map_o (own_of ns) (voice_of x vs) ≡ bus.voice_of (renamed number x) (own_voices b ns vs)
-  voice_same r Nobody e = refl
-  voice_same r (Goes p w) e =
+  voice_same : (r : ℕ) (x : Victim) → victim l.shared.config.policy r (candidates l.shared (tracked_on b) vs) ≡ x → option_map (own_of ns) (voice_of x vs) ≡ bus.voice_of (renamed number x) (own_voices b ns vs)
+  voice_same r None e = refl
+  voice_same r (Some (p, w)) e =
       let z = victim_voice t.own.0 l.shared (tracked_on b) l.shared.config.policy r p w e in
       let f = z.3 in
-      ap (map_o (own_of ns)) f ∙ sym (ap (λ o. find (is_number (number_or o).0) (own_voices b ns vs)) f ∙ find_number z.0 z.1 (and_right (is_tracked z.0.state) _ z.2))
+      ap (option_map (own_of ns)) f ∙ sym (ap (λ o. find (is_number (number_or o).0) (own_voices b ns vs)) f ∙ find_number z.0 z.1 (and_right (is_tracked z.0.state) _ z.2))
 
-  pub next_same : (r : ℕ) → map_o (own_of ns) (next_out l.shared b r vs) ≡ bus.next_out r (bus_of b l)
+  pub next_same : (r : ℕ) → option_map (own_of ns) (next_out l.shared b r vs) ≡ bus.next_out r (bus_of b l)
   next_same r =
       both (earliest (fades_on b) vs) (voice_of (victim l.shared.config.policy r (candidates l.shared (tracked_on b) vs)) vs)
       ∙ ap₂ bus.else_victim (earliest_same vs)
       (voice_same r (victim l.shared.config.policy r (candidates l.shared (tracked_on b) vs)) refl
       ∙ ap (λ x. bus.voice_of x (own_voices b ns vs)) (sym (ap (victim l.shared.config.policy r) candidates_same ∙ victim_rename number l.shared.config.policy r (candidates l.shared (tracked_on b) vs))))
     where
-      both : (o u : Option Voice) → map_o (own_of ns) (else_victim o u) ≡ bus.else_victim (map_o (own_of ns) o) (map_o (own_of ns) u)
-      both none u = refl
-      both (some v) u = refl
+      both : (o u : Option Voice) → option_map (own_of ns) (else_victim o u) ≡ bus.else_victim (option_map (own_of ns) o) (option_map (own_of ns) u)
+      both None u = refl
+      both (Some v) u = refl

@@ -4,15 +4,13 @@ use native.Mathlib.Omega.{arith}
 use mathlib.Core.Path.{◌≡◌, refl, sym, ap, ap₂, ◌∙◌, subst, fun_ext}
 use mathlib.Core.Logic.{⊎_elim}
 use mathlib.Core.List.{List, [], ◌∷◌, ◌++◌, map}
-use mathlib.Core.Option.{Option, none, some}
+use Rattle.std.specs.Prelude.{Option, None, Some, filter, find, option_map}
 use mathlib.Core.Bool.{Bool, true, false, cond, true≢false}
 use lib.Dec.{eqb, ltb}
 use borrow.Author.Tests.{eqb-true, eqb-false, eq-eqb, ne_eqb}
 use Rattle.lists.specs.Member.{In}
 use Rattle.lists.proofs.Member.{in_map, in_of_map, in_snoc, map_same}
-use Rattle.lists.specs.Filter.{filter}
 use Rattle.lists.proofs.Filter.{filter_map, in_filter}
-use Rattle.lists.specs.Find.{find, map_o}
 use Rattle.lists.proofs.Find.{find_map}
 use Rattle.node.specs.declared.record.NodeId.{NodeId}
 use Rattle.node.specs.declared.record.Node.{Node}
@@ -69,9 +67,9 @@ module _ (l : Ledger) (t : Tidy l) (g : Voice) (i : In g l.voices) (port : ℕ) 
   seat_same (voice w) =
       ap seat_for (find_map bf (is_voice w) (is_voice w) (λ v. ap (λ n. eqb n w.0) (same (λ (x : Voice). x.id.0) (λ s v. refl) v)) vs) ∙ go (find (is_voice w) vs)
     where
-      go : (o : Option Voice) → seat_for (map_o bf o) ≡ seat_for o
-      go none = refl
-      go (some v) = ap mine (same (λ (x : Voice). x.sequence) (λ s v. refl) v)
+      go : (o : Option Voice) → seat_for (option_map bf o) ≡ seat_for o
+      go None = refl
+      go (Some v) = ap mine (same (λ (x : Voice). x.sequence) (λ s v. refl) v)
 
   pub ports_stay : (b : NodeId) → ports_now b ns' ≡ ports_now b ns
   ports_stay b = ports_one ns l.shared.graph.next (fade_node g.id) (above t.own.0 g i) b
@@ -134,7 +132,7 @@ module _ (l : Ledger) (t : Tidy l) (g : Voice) (i : In g l.voices) (port : ℕ) 
       Out v = (v.first.0 ≤ v.output.0) × (v.output.0 < v.first.0 + v.count)
 
       Hosted : Voice → Type 0
-      Hosted v = (v.bus.0 < l.shared.graph.next + 1) × ((n : Node) → node_at ns' v.bus ≡ some n → (n.owner.0 ≡ 0) × (v.sequence < n.noise))
+      Hosted v = (v.bus.0 < l.shared.graph.next + 1) × ((n : Node) → node_at ns' v.bus ≡ Some n → (n.owner.0 ≡ 0) × (v.sequence < n.noise))
 
       moves : (P : Voice → Type 0) → ((s : VoiceState) (v : Voice) → P v → P (with_state s v)) → (v : Voice) → P v → P (bf v)
       moves P h v p = go (is_voice g.id v)

@@ -4,7 +4,7 @@ use native.Mathlib.Omega.{arith}
 use mathlib.Core.Path.{◌≡◌, refl, sym, ap, ap₂, ◌∙◌, subst}
 use mathlib.Core.Logic.{inl, inr}
 use mathlib.Core.List.{List, [], ◌∷◌, map}
-use mathlib.Core.Option.{Option, none, some}
+use Rattle.std.specs.Prelude.{Option, None, Some, Result, Err, Ok}
 use mathlib.Core.Bool.{Bool, true, false, not, cond, ◌&&◌, ◌||◌, true≢false}
 use lib.Dec.{eqb, ltb, leb}
 use lib.Ieee.{Float}
@@ -31,7 +31,6 @@ use Rattle.model.specs.Voice.{is_voice, is_on}
 use Rattle.model.specs.Refuse.{report_refusal, reports, of_definition}
 use Rattle.model.specs.Spawn.{pans, Spawn}
 use Rattle.model.specs.Order.{report_node, free_outcome}
-use Rattle.prepare.specs.declared.Readiness.{Readiness}
 use Rattle.model.specs.Render.{prepare_outcome, prepare_shared, answer_after, heard, any_free, is_sounding, due, render_refusal}
 use Rattle.model.proofs.Refused.{refusal_in, not_rendered}
 use Rattle.model.specs.Call.{Call, Answer, event, schedule_refusal}
@@ -64,8 +63,8 @@ use Rattle.isolation.proofs.Time.{tidy_freed, tidy_clear, clear_same, tidy_share
 
 -- what becomes of the bus by a call that is no entry, or this one
 abbrev pub Follow : Option Entry → Answer → Bus → Bus → Type 0
-Follow none a m' m = m' ≡ m
-Follow (some e) a m' m = ◌≡◌ {A = bus.SpawnResult} (record { answer = shown (refusal_in a); bus = m' }) (follow e m)
+Follow None a m' m = m' ≡ m
+Follow (Some e) a m' m = ◌≡◌ {A = bus.SpawnResult} (record { answer = shown (refusal_in a); bus = m' }) (follow e m)
 
 pub record Goes (b : NodeId) (en : Option Entry) (s : Step) (l : Ledger) : Type 0 where
   pub tidy : Tidy s.ledger
@@ -80,38 +79,38 @@ wire_ports : (l : Ledger) → Tidy l → (k : NodeId) (p : ℕ) → dead (node_a
 wire_ports l t k p d v r = go (node_at l.shared.graph.nodes k) refl d v r
   where
     go : (o : Option Node) → node_at l.shared.graph.nodes k ≡ o → dead o ≡ false → of_voice o ≡ false → leb (ports_of o) p ≡ false → (k.0 < l.shared.graph.next) × (p < port_count (ports_now k l.shared.graph.nodes))
-    go none e d v r = absurd (true≢false d)
-    go (some n) e d v r =
+    go None e d v r = absurd (true≢false d)
+    go (Some n) e d v r =
         let h : eqb n.owner.0 0 ≡ true = not-false _ v in
-        let q : ports_now k l.shared.graph.nodes ≡ some (room_of n) = ap host_ports e ∙ rw h in
+        let q : ports_now k l.shared.graph.nodes ≡ Some (room_of n) = ap host_ports e ∙ rw h in
         (is_below l t k (room_of n) q, subst (λ z. p < port_count z) (sym q) (leb-false _ _ r))
 
 module _ (l : Ledger) (t : Tidy l) (b : NodeId) where
-  guarded : (o : Option Refusal) (s : Step) (en : Option Entry) → (o ≡ none → Goes b en s l) → Goes b (if_done o en) (unless o l s) l
-  guarded (some r) s en f = record { tidy = t; follows = refl }
-  guarded none s en f = f refl
+  guarded : (o : Option Refusal) (s : Step) (en : Option Entry) → (o ≡ None → Goes b en s l) → Goes b (if_done o en) (unless o l s) l
+  guarded (Some r) s en f = record { tidy = t; follows = refl }
+  guarded None s en f = f refl
 
-  nothing_of_it : (a : Answer) → Goes b none (record { answer = a; ledger = l }) l
+  nothing_of_it : (a : Answer) → Goes b None (record { answer = a; ledger = l }) l
   nothing_of_it a = record { tidy = t; follows = refl }
 
   -- a refusal, or something that is no entry
-  unseen : (o : Option Refusal) (s : Step) → Goes b none s l → Goes b none (unless o l s) l
-  unseen (some r) s g = record { tidy = t; follows = refl }
-  unseen none s g = g
+  unseen : (o : Option Refusal) (s : Step) → Goes b None s l → Goes b None (unless o l s) l
+  unseen (Some r) s g = record { tidy = t; follows = refl }
+  unseen None s g = g
 
   add_goes : (kind : List ℕ) (ports required : ℕ) (values glides : Bool) → Goes b (entry b (call.add_node kind ports required values glides) l) (step (call.add_node kind ports required values glides) l) l
   add_goes kind ports required values glides =
       guarded (add_refusal l.shared.graph kind ports required) _ (if? (eqb l.shared.graph.next b.0) (story.opened ports)) (λ e. record { tidy = tidy_add l t kind ports required values glides e; follows = go e (eqb l.shared.graph.next b.0) refl })
     where
-      go : (e : add_refusal l.shared.graph kind ports required ≡ none) (c : Bool) → eqb l.shared.graph.next b.0 ≡ c → Follow (if? c (story.opened ports)) (call.node (record { 0 = l.shared.graph.next })) (bus_of b (at_graph l (change.append l.shared.graph (host_node kind ports required values glides)) l.holders)) (bus_of b l)
+      go : (e : add_refusal l.shared.graph kind ports required ≡ None) (c : Bool) → eqb l.shared.graph.next b.0 ≡ c → Follow (if? c (story.opened ports)) (call.node (record { 0 = l.shared.graph.next })) (bus_of b (at_graph l (change.append l.shared.graph (host_node kind ports required values glides)) l.holders)) (bus_of b l)
       go e true c = ap quiet (add_own l t kind ports required values glides e b c)
       go e false c = add_other l t kind ports required values glides e b c
 
   remove_goes : (k : NodeId) → Goes b (entry b (call.remove_node k) l) (step (call.remove_node k) l) l
   remove_goes k =
-      guarded (host_refusal l.shared.graph k) _ (cond (is_bus b k) (some story.closed) (lost_if (held_by b k l))) (λ e. record { tidy = tidy_remove l t k e; follows = go e (is_bus b k) refl (held_by b k l) refl })
+      guarded (host_refusal l.shared.graph k) _ (cond (is_bus b k) (Some story.closed) (lost_if (held_by b k l))) (λ e. record { tidy = tidy_remove l t k e; follows = go e (is_bus b k) refl (held_by b k l) refl })
     where
-      go : (e : host_refusal l.shared.graph k ≡ none) (c : Bool) → is_bus b k ≡ c → (ps : List ℕ) → held_by b k l ≡ ps → Follow (cond c (some story.closed) (lost_if ps)) call.done (bus_of b (at_graph l (change.remove_node l.shared.graph k) (drop_node k l.holders))) (bus_of b l)
+      go : (e : host_refusal l.shared.graph k ≡ None) (c : Bool) → is_bus b k ≡ c → (ps : List ℕ) → held_by b k l ≡ ps → Follow (cond c (Some story.closed) (lost_if ps)) call.done (bus_of b (at_graph l (change.remove_node l.shared.graph k) (drop_node k l.holders))) (bus_of b l)
       go e true c ps h = ap quiet (remove_own l t k e b c)
       go e false c [] h = remove_off l t k e b c h
       go e false c (p ∷ ps) h = ap quiet (remove_other l t k e b c) ∙ ap (λ qs. quiet (follow (story.lost qs) (bus_of b l)).bus) h
@@ -123,7 +122,7 @@ module _ (l : Ledger) (t : Tidy l) (b : NodeId) where
       no : (w : VoiceId) → holder.host a ≡ voice w → ⊥
       no w e = let z : ◌≡◌ {A = ℕ} 0 1 = cc in omega arith
 
-      ready : connect_refusal l.shared.graph a k p ≡ none → (k.0 < l.shared.graph.next) × (p < port_count (ports_now k l.shared.graph.nodes))
+      ready : connect_refusal l.shared.graph a k p ≡ None → (k.0 < l.shared.graph.next) × (p < port_count (ports_now k l.shared.graph.nodes))
       ready h =
           let x = node_at l.shared.graph.nodes a in
           let y = node_at l.shared.graph.nodes k in
@@ -144,7 +143,7 @@ module _ (l : Ledger) (t : Tidy l) (b : NodeId) where
       no : (w : VoiceId) → nobody ≡ voice w → ⊥
       no w e = let z : ◌≡◌ {A = ℕ} 0 1 = cc in omega arith
 
-      ready : disconnect_refusal l.shared.graph k p ≡ none → (k.0 < l.shared.graph.next) × (p < port_count (ports_now k l.shared.graph.nodes))
+      ready : disconnect_refusal l.shared.graph k p ≡ None → (k.0 < l.shared.graph.next) × (p < port_count (ports_now k l.shared.graph.nodes))
       ready h =
           let y = node_at l.shared.graph.nodes k in
           let h₁ = when_none (dead y) UnknownNode _ h in
@@ -177,10 +176,10 @@ module _ (l : Ledger) (t : Tidy l) (b : NodeId) where
   free_goes w = record { tidy = tidy_freed l t (voice_of w l) w refl; follows = go (voice_of w l) refl }
     where
       go : (o : Option Voice) → voice_of w l ≡ o → Follow (on_bus b (λ v. story.freed v.sequence) o) (call.ordered (free_outcome o)) (bus_of b (freed o l)) (bus_of b l)
-      go none e = refl
-      go (some v) e = at (is_on b v) refl
+      go None e = refl
+      go (Some v) e = at (is_on b v) refl
         where
-          at : (c : Bool) → is_on b v ≡ c → Follow (if? c (story.freed v.sequence)) (call.ordered (free_outcome (some v))) (bus_of b (freed (some v) l)) (bus_of b l)
+          at : (c : Bool) → is_on b v ≡ c → Follow (if? c (story.freed v.sequence)) (call.ordered (free_outcome (Some v))) (bus_of b (freed (Some v) l)) (bus_of b l)
           at true c = ap quiet (removed_on l t v (find_in (is_voice w) l.voices v e).0 b c)
           at false c = removed_off l t v (find_in (is_voice w) l.voices v e).0 b c
 
@@ -192,15 +191,15 @@ module _ (l : Ledger) (t : Tidy l) (b : NodeId) where
       entry_of v = story.reported v.sequence (k.0 - v.first.0) samples flag
 
       go : (o : Option Node) → node_at l.shared.graph.nodes k ≡ o → reports l.voices o ≡ true → Goes b (on_bus b entry_of (owner_voice o l)) (shared_step l (report_node o samples flag l.shared) call.done) l
-      go none e h = nothing_of_it call.done
-      go (some x) e h = record { tidy = tidy_report l t k x e samples flag; follows = at (voice_of x.owner l) refl h }
+      go None e h = nothing_of_it call.done
+      go (Some x) e h = record { tidy = tidy_report l t k x e samples flag; follows = at (voice_of x.owner l) refl h }
         where
           after : Bus
-          after = bus_of b (shared_step l (report_node (some x) samples flag l.shared) call.done).ledger
+          after = bus_of b (shared_step l (report_node (Some x) samples flag l.shared) call.done).ledger
 
           at : (u : Option Voice) → voice_of x.owner l ≡ u → (eqb x.owner.0 0 || of_definition x.id.0 u) ≡ true → Follow (on_bus b entry_of u) call.done after (bus_of b l)
-          at none f h = report_off l t k x e samples flag b (λ v i on q. true≢false (sym (eq-eqb v.id.0 x.owner.0 (sym q)) ∙ find_none (is_voice x.owner) l.voices v f i))
-          at (some g) f h = on (is_on b g) refl
+          at None f h = report_off l t k x e samples flag b (λ v i on q. true≢false (sym (eq-eqb v.id.0 x.owner.0 (sym q)) ∙ find_none (is_voice x.owner) l.voices v f i))
+          at (Some g) f h = on (is_on b g) refl
             where
               i : In g l.voices
               i = (find_in (is_voice x.owner) l.voices g f).0
@@ -212,7 +211,7 @@ module _ (l : Ledger) (t : Tidy l) (b : NodeId) where
               is_k = eqb-true _ _ (find_in (is_node k) l.shared.graph.nodes x e).1
 
               inside : (leb g.first.0 x.id.0 && ltb x.id.0 (g.first.0 + g.count)) ≡ true
-              inside = ap (λ c. c || of_definition x.id.0 (some g)) (sym (ne_eqb x.owner.0 0 (λ z. omega (arith, z, owns, above t.own.0 g i)))) ∙ h
+              inside = ap (λ c. c || of_definition x.id.0 (Some g)) (sym (ne_eqb x.owner.0 0 (λ z. omega (arith, z, owns, above t.own.0 g i)))) ∙ h
 
               low : g.first.0 ≤ k.0
               low = let z = is_k in let y : g.first.0 ≤ x.id.0 = leb-true _ _ (and_left _ _ inside) in omega arith
@@ -230,24 +229,24 @@ module _ (l : Ledger) (t : Tidy l) (b : NodeId) where
       q : List Event
       q = due l.shared
 
-      heard_never : (y : Bool) → not_rendered (heard y) ≡ none
+      heard_never : (y : Bool) → not_rendered (heard y) ≡ None
       heard_never true = refl
       heard_never false = refl
 
-      after_never : (r : Readiness) (d : SharedState) → not_rendered (answer_after r d) ≡ none
-      after_never Readiness.Ready d = heard_never (sounding d)
-      after_never (Readiness.Refused r) d = refl
+      after_never : (r : Result (Unit {0}) Refusal) (d : SharedState) → not_rendered (answer_after r d) ≡ None
+      after_never (Ok tt) d = heard_never (sounding d)
+      after_never (Err r) d = refl
 
-      never : (y : Bool) (m : Ledger) → not_rendered (prepared_if y m).answer ≡ none
+      never : (y : Bool) (m : Ledger) → not_rendered (prepared_if y m).answer ≡ None
       never true m = after_never (prepare_outcome m.shared).answer (prepare_shared m.shared)
       never false m = heard_never (sounding m.shared)
 
       played : Heard
       played = prepared_if (any_free q) (apply_events q (rested l))
 
-      go : (o : Option Refusal) → Goes b (if_done o (some (rendered (timed_frees b q (rested l)) (is_sounding played.answer)))) (render_step o out l) l
-      go (some r) = record { tidy = t; follows = refl }
-      go none =
+      go : (o : Option Refusal) → Goes b (if_done o (Some (rendered (timed_frees b q (rested l)) (is_sounding played.answer)))) (render_step o out l) l
+      go (Some r) = record { tidy = t; follows = refl }
+      go None =
           let a = taken q (rested l) (tidy_events l t _) in
           let z = blocked (any_free q) (apply_events q (rested l)) a.tidy in
           record { tidy = z.tidy; follows = ap (λ o. record { answer = shown o; bus = bus_of b played.ledger }) (never (any_free q) (apply_events q (rested l))) ∙ ap quiet (z.same b ∙ ap (bus.block (is_sounding played.answer)) (a.same b)) }
@@ -304,8 +303,8 @@ tale_same b (x ∷ xs) l t per c = go (entry b x l) g.follows (tale_same b xs (s
 
     go : (en : Option Entry) → Follow en (step x l).answer (bus_of b l') (bus_of b l) → tale b xs l' ≡ tale_of (story b xs l') (bus_of b l')
         → tell en (told b (step x l).answer l') (tale b xs l') ≡ tale_of (write en (story b xs l')) (bus_of b l)
-    go none f ih = ih ∙ ap (tale_of (story b xs l')) f
-    go (some e) f ih = ap₂ ◌∷◌ (told_same b (step x l).answer l' g.tidy ∙ ap told_of f) (ih ∙ ap (λ (r : bus.SpawnResult). tale_of (story b xs l') r.bus) f)
+    go None f ih = ih ∙ ap (tale_of (story b xs l')) f
+    go (Some e) f ih = ap₂ ◌∷◌ (told_same b (step x l).answer l' g.tidy ∙ ap told_of f) (ih ∙ ap (λ (r : bus.SpawnResult). tale_of (story b xs l') r.bus) f)
 
 -- ---- from a new store
 pub tidy_new : (c : Config) → Tidy (new_ledger c)
@@ -322,7 +321,7 @@ tidy_new c =
     }
 
 pub bus_new : (b : NodeId) (c : Config) → bus_of b (new_ledger c) ≡ new_bus c
-bus_new b c = ap (λ h. bus_of_lem c 0 none h []) (no_ports (λ p. empty))
+bus_new b c = ap (λ h. bus_of_lem c 0 None h []) (no_ports (λ p. empty))
 
 -- the first part of the theorem: equal stories, equal tales
 pub tales : (c : Config) → c.scope ≡ PerGroup → (b₁ b₂ : NodeId) (xs₁ xs₂ : List Call) → Covered xs₁ (new_ledger c) → Covered xs₂ (new_ledger c)
@@ -348,8 +347,8 @@ bus_run b (x ∷ xs) l t per c =
     l' = (step x l).ledger
 
     go : (en : Option Entry) → Follow en (step x l).answer (bus_of b l') (bus_of b l) → bus_after (story b xs l') (bus_of b l') ≡ bus_after (write en (story b xs l')) (bus_of b l)
-    go none f = ap (bus_after (story b xs l')) f
-    go (some e) f = ap (λ (r : bus.SpawnResult). bus_after (story b xs l') r.bus) f
+    go None f = ap (bus_after (story b xs l')) f
+    go (Some e) f = ap (λ (r : bus.SpawnResult). bus_after (story b xs l') r.bus) f
 
 pub ends : (c : Config) → c.scope ≡ PerGroup → (b₁ b₂ : NodeId) (xs₁ xs₂ : List Call) → Covered xs₁ (new_ledger c) → Covered xs₂ (new_ledger c)
     → story b₁ xs₁ (new_ledger c) ≡ story b₂ xs₂ (new_ledger c)
@@ -358,5 +357,5 @@ ends c per b₁ b₂ xs₁ xs₂ k₁ k₂ e =
     let r = bus_run b₁ xs₁ (new_ledger c) (tidy_new c) per k₁ in
     let s = bus_run b₂ xs₂ (new_ledger c) (tidy_new c) per k₂ in
     ap (λ (t : Told). t.voices) (told_same b₁ call.done (run xs₁ (new_ledger c)).ledger r.0
-    ∙ ap (λ m. told_of (record { answer = none; bus = m })) (r.1 ∙ ap₂ bus_after e (bus_new b₁ c ∙ sym (bus_new b₂ c)) ∙ sym s.1)
+    ∙ ap (λ m. told_of (record { answer = None; bus = m })) (r.1 ∙ ap₂ bus_after e (bus_new b₁ c ∙ sym (bus_new b₂ c)) ∙ sym s.1)
     ∙ sym (told_same b₂ call.done (run xs₂ (new_ledger c)).ledger s.0))

@@ -4,15 +4,14 @@ use native.Mathlib.Omega.{arith}
 use mathlib.Core.Path.{◌≡◌, refl, sym, ap, ap₂, ◌∙◌, subst, fun_ext}
 use mathlib.Core.Logic.{⊎_elim}
 use mathlib.Core.List.{List, [], ◌∷◌, ◌++◌}
-use mathlib.Core.Option.{Option, none, some}
+use Rattle.std.specs.Prelude.{Option, None, Some, filter, find, is_some}
 use mathlib.Core.Bool.{Bool, true, false, not, cond, ◌&&◌, true≢false, false≢true}
 use lib.Dec.{eqb, ltb}
 use borrow.Author.Tests.{eqb-true, eqb-false, eq-eqb, ne_eqb, ltb-true, lt-ltb, le-ltb}
 use Rattle.lists.specs.Member.{In}
 use Rattle.lists.proofs.Member.{in_snoc, map_same}
-use Rattle.lists.specs.Filter.{filter}
 use Rattle.lists.proofs.Filter.{in_filter, filter_in}
-use Rattle.lists.specs.Find.{find, is_some, Once}
+use Rattle.lists.specs.Find.{Once}
 use Rattle.lists.proofs.Find.{find_in, find_none, none_find, find_snoc_off, find_filter_same, once_filter}
 use Rattle.rank.specs.Order.{upto}
 use Rattle.node.specs.declared.record.NodeId.{NodeId}
@@ -43,7 +42,7 @@ pub no_ports : (x : ℕ → Seat) → ◌≡◌ {A = ℕ → Seat} (λ p. cond (
 no_ports x = fun_ext (λ p. ap (λ c. cond c (x p) empty) (le-ltb p 0 (omega arith)))
 
 -- ---- a node is added
-module _ (l : Ledger) (t : Tidy l) (kind : List ℕ) (ports required : ℕ) (values glides : Bool) (e : add_refusal l.shared.graph kind ports required ≡ none) where
+module _ (l : Ledger) (t : Tidy l) (kind : List ℕ) (ports required : ℕ) (values glides : Bool) (e : add_refusal l.shared.graph kind ports required ≡ None) where
   abbrev x : Node
   x = host_node kind ports required values glides
 
@@ -68,11 +67,11 @@ module _ (l : Ledger) (t : Tidy l) (kind : List ℕ) (ports required : ℕ) (val
       ap₂ (λ o ws. bus_of_lem l.shared.config l.shared.clock o (seats_for b o l.voices l.holders) ws)
       (ap host_ports (find_snoc_off (is_node b) ns (with_id next x) off)) (voices_added b)
 
-  pub add_own : (b : NodeId) → eqb next b.0 ≡ true → bus_of b added ≡ at_ports (some (record { ports = ports; noise = 0 })) (λ p. empty) (bus_of b l)
+  pub add_own : (b : NodeId) → eqb next b.0 ≡ true → bus_of b added ≡ at_ports (Some (record { ports = ports; noise = 0 })) (λ p. empty) (bus_of b l)
   add_own b on =
       ap₂ (λ o ws. bus_of_lem l.shared.config l.shared.clock o (seats_for b o l.voices l.holders) ws)
       (ap host_ports (ap (λ k. node_at ns' k) (sym is) ∙ new_node ns next x t.own.1.below)) (voices_added b)
-      ∙ ap (λ h. bus_of_lem l.shared.config l.shared.clock (some (record { ports = ports; noise = 0 })) h (own_voices b ns l.voices)) (fun_ext free)
+      ∙ ap (λ h. bus_of_lem l.shared.config l.shared.clock (Some (record { ports = ports; noise = 0 })) h (own_voices b ns l.voices)) (fun_ext free)
     where
       is : id next ≡ b
       is = ap (λ n. record { 0 = n }) (eqb-true _ _ on)
@@ -81,7 +80,7 @@ module _ (l : Ledger) (t : Tidy l) (kind : List ℕ) (ports required : ℕ) (val
       either true = refl
       either false = refl
 
-      free : (p : ℕ) → seats_for b (some (record { ports = ports; noise = 0 })) l.voices l.holders p ≡ empty
+      free : (p : ℕ) → seats_for b (Some (record { ports = ports; noise = 0 })) l.voices l.holders p ≡ empty
       free p = ap (λ y. cond (ltb p ports) (seat_of l.voices y) empty) (t.fresh b.0 p (let z : next ≡ b.0 = eqb-true _ _ on in omega arith)) ∙ either (ltb p ports)
 
   pub tidy_add : Tidy added
@@ -98,7 +97,7 @@ module _ (l : Ledger) (t : Tidy l) (kind : List ℕ) (ports required : ℕ) (val
       }
 
 -- ---- a node is removed
-module _ (l : Ledger) (t : Tidy l) (k : NodeId) (e : host_refusal l.shared.graph k ≡ none) where
+module _ (l : Ledger) (t : Tidy l) (k : NodeId) (e : host_refusal l.shared.graph k ≡ None) where
   abbrev ms : List Node
   ms = l.shared.graph.nodes
 
@@ -111,7 +110,7 @@ module _ (l : Ledger) (t : Tidy l) (k : NodeId) (e : host_refusal l.shared.graph
   others_stay : (j : NodeId) → eqb j.0 k.0 ≡ false → node_at ms' j ≡ node_at ms j
   others_stay j off = find_filter_same (is_node j) (λ x. not (is_node k x)) (λ x h. ap not (ap (λ n. eqb n k.0) (eqb-true _ _ h) ∙ off)) ms
 
-  itself_goes : node_at ms' k ≡ none
+  itself_goes : node_at ms' k ≡ None
   itself_goes = none_find (is_node k) ms' (λ x i. not_true' (is_node k x) (in_filter (λ x. not (is_node k x)) ms x i).1)
     where
       not_true' : (c : Bool) → not c ≡ true → c ≡ false
@@ -136,11 +135,11 @@ module _ (l : Ledger) (t : Tidy l) (k : NodeId) (e : host_refusal l.shared.graph
   voices_removed : (b : NodeId) → own_voices b ms' l.voices ≡ own_voices b ms l.voices
   voices_removed b = map_same (own_of ms') (own_of ms) (filter (is_on b) l.voices) (λ v j. own_removed v (in_filter (is_on b) l.voices v j).0)
 
-  pub remove_own : (b : NodeId) → eqb k.0 b.0 ≡ true → bus_of b removed ≡ at_ports none (λ p. empty) (bus_of b l)
+  pub remove_own : (b : NodeId) → eqb k.0 b.0 ≡ true → bus_of b removed ≡ at_ports None (λ p. empty) (bus_of b l)
   remove_own b on =
       ap₂ (λ o ws. bus_of_lem l.shared.config l.shared.clock o (seats_for b o l.voices (drop_node k l.holders)) ws)
       (ap host_ports (ap (node_at ms') (sym is) ∙ itself_goes)) (voices_removed b)
-      ∙ ap (λ h. bus_of_lem l.shared.config l.shared.clock none h (own_voices b ms l.voices)) (no_ports (λ p. seat_of l.voices (drop_node k l.holders b.0 p)))
+      ∙ ap (λ h. bus_of_lem l.shared.config l.shared.clock None h (own_voices b ms l.voices)) (no_ports (λ p. seat_of l.voices (drop_node k l.holders b.0 p)))
     where
       is : k ≡ b
       is = ap (λ n. record { 0 = n }) (eqb-true _ _ on)
@@ -149,15 +148,15 @@ module _ (l : Ledger) (t : Tidy l) (k : NodeId) (e : host_refusal l.shared.graph
   listed_in ps p i = go (find (λ q. eqb q p) ps) refl
     where
       go : (o : Option ℕ) → find (λ q. eqb q p) ps ≡ o → is_some o ≡ true
-      go (some q) f = refl
-      go none f = absurd (true≢false (sym (eq-eqb p p refl) ∙ find_none (λ q. eqb q p) ps p f i))
+      go (Some q) f = refl
+      go None f = absurd (true≢false (sym (eq-eqb p p refl) ∙ find_none (λ q. eqb q p) ps p f i))
 
   in_listed : (ps : List ℕ) (p : ℕ) → listed ps p ≡ true → In p ps
   in_listed ps p h = go (find (λ q. eqb q p) ps) refl h
     where
       go : (o : Option ℕ) → find (λ q. eqb q p) ps ≡ o → is_some o ≡ true → In p ps
-      go (some q) f g = let r = find_in (λ q. eqb q p) ps q f in subst (λ n. In n ps) (eqb-true _ _ r.1) r.0
-      go none f g = absurd (false≢true g)
+      go (Some q) f g = let r = find_in (λ q. eqb q p) ps q f in subst (λ n. In n ps) (eqb-true _ _ r.1) r.0
+      go None f g = absurd (false≢true g)
 
   held_listed : (b : NodeId) (p : ℕ) → p < port_count (ports_now b ms) → listed (held_by b k l) p ≡ by_host k (l.holders b.0 p)
   held_listed b p h = go (by_host k (l.holders b.0 p)) refl
@@ -228,7 +227,7 @@ module _ (l : Ledger) (t : Tidy l) (k : NodeId) (e : host_refusal l.shared.graph
           at true q = let z : ◌≡◌ {A = ℕ} 0 1 = cc in absurd (omega arith)
           at false q = q
 
-      back : (j : NodeId) (n : Node) → node_at ms' j ≡ some n → node_at ms j ≡ some n
+      back : (j : NodeId) (n : Node) → node_at ms' j ≡ Some n → node_at ms j ≡ Some n
       back j n q = let r = find_in (is_node j) ms' n q in t.rows j n (in_filter (λ x. not (is_node k x)) ms n r.0).0 r.1
 
 -- ---- a port is connected to a host node, or disconnected: y is its holder then, a host node or nobody

@@ -5,7 +5,7 @@ use native.Mathlib.Nat.{mod-eq_of_lt}
 use mathlib.Core.Path.{◌≡◌, refl, sym, ap, ap₂, ◌∙◌, subst, fun_ext}
 use mathlib.Core.Logic.{inl, inr, ⊎_elim}
 use mathlib.Core.List.{List, [], ◌∷◌, ◌++◌, map}
-use mathlib.Core.Option.{Option, none, some}
+use Rattle.std.specs.Prelude.{Option, None, Some, filter, find, option_map, Float}
 use mathlib.Core.Bool.{Bool, true, false, cond, ◌&&◌, true≢false}
 use lib.Dec.{eqb, ltb}
 use lib.ListN.{length}
@@ -13,9 +13,8 @@ use lib.Ieee.{of_bits, binary32}
 use borrow.Author.Tests.{eqb-true, eqb-false, eq-eqb, ne_eqb, ltb-true, lt-ltb}
 use Rattle.lists.specs.Member.{In}
 use Rattle.lists.proofs.Member.{in_map, in_snoc, in_left, in_right, in_append, map_same, map_append, some_inj, none_some}
-use Rattle.lists.specs.Filter.{filter}
 use Rattle.lists.proofs.Filter.{filter_snoc_on, filter_snoc_off, in_filter}
-use Rattle.lists.specs.Find.{find, map_o, Once}
+use Rattle.lists.specs.Find.{Once}
 use Rattle.lists.proofs.Find.{find_in, find_snoc_some, find_snoc_none, none_find}
 use Rattle.node.specs.declared.record.NodeId.{NodeId}
 use Rattle.node.specs.declared.record.VoiceId.{VoiceId}
@@ -23,8 +22,6 @@ use Rattle.node.specs.declared.record.Node.{Node}
 use Rattle.graph.specs.View.{GraphView}
 use Rattle.graph.specs.Node.{is_node, node_at, noise_of, raise_noise}
 use Rattle.node.specs.Node.{with_id, with_noise}
-use Rattle.voice.specs.declared.policy.Level.{Level}
-use Rattle.voice.specs.declared.policy.Level.TheVariants.{Known}
 use Rattle.synthdef.specs.Limits.{allowed}
 use Rattle.synthdef.specs.Tables.{node_rows}
 use Rattle.synthdef.specs.declared.def.SynthDef.{SynthDef}
@@ -112,58 +109,58 @@ module _ (l : Ledger) (t : Tidy l) (spawn : Spawn) (ok : allowed spawn.def ≡ t
   below : (x : Node) → In x g.nodes → x.id.0 < next
   below x i = let r = in_raised spawn.bus ns x i in let e = r.2.0 in omega (arith, e, t.own.1.below r.0 r.1)
 
-  old : (j : ℕ) → j < next → node_at ns' (id j) ≡ map_o (raise_noise spawn.bus) (node_at ns (id j))
+  old : (j : ℕ) → j < next → node_at ns' (id j) ≡ option_map (raise_noise spawn.bus) (node_at ns (id j))
   old j h = ap (λ z. node_at z (id j)) is ∙ old_nodes xs g j h ∙ look_raised spawn.bus ns (id j)
 
-  same_level : (o : Option Node) → node_level (map_o (raise_noise spawn.bus) o) ≡ node_level o
-  same_level none = refl
-  same_level (some x) = ap Known (raise_same spawn.bus (λ (y : Node). y.level) (λ m n. refl) x)
+  same_level : (o : Option Node) → node_level (option_map (raise_noise spawn.bus) o) ≡ node_level o
+  same_level None = refl
+  same_level (Some x) = ap Some (raise_same spawn.bus (λ (y : Node). y.level) (λ m n. refl) x)
 
-  same_done : (o : Option Node) → done_flag (map_o (raise_noise spawn.bus) o) ≡ done_flag o
-  same_done none = refl
-  same_done (some x) = raise_same spawn.bus (λ (y : Node). y.done) (λ m n. refl) x
+  same_done : (o : Option Node) → done_flag (option_map (raise_noise spawn.bus) o) ≡ done_flag o
+  same_done None = refl
+  same_done (Some x) = raise_same spawn.bus (λ (y : Node). y.done) (λ m n. refl) x
 
   own_stays : (v : Voice) → In v vs → own_of ns' v ≡ own_of ns v
   own_stays v j =
       own_same ns ns' v (t.outs v j) (λ i a b. let p = t.own.1.places v j in let h : i < next = omega arith in
       (ap node_level (old i h) ∙ same_level (node_at ns (id i)), ap done_flag (old i h) ∙ same_done (node_at ns (id i))))
 
-  ports_after : (b : NodeId) → ports_now b ns' ≡ host_ports (map_o (raise_noise spawn.bus) (node_at ns b))
+  ports_after : (b : NodeId) → ports_now b ns' ≡ host_ports (option_map (raise_noise spawn.bus) (node_at ns b))
   ports_after b = ap (ports_now b) is ∙ ports_all xs g (λ x i. let e = nodes_owned (next_voice l.shared) spawn.def (pans spawn.pan) x i in omega arith) b ∙ ap host_ports (look_raised spawn.bus ns b)
 
   pub ports_stay : (b : NodeId) → eqb spawn.bus.0 b.0 ≡ false → ports_now b ns' ≡ ports_now b ns
   ports_stay b off = ports_after b ∙ go (node_at ns b) refl
     where
-      go : (o : Option Node) → node_at ns b ≡ o → host_ports (map_o (raise_noise spawn.bus) o) ≡ host_ports o
-      go none e = refl
-      go (some x) e =
+      go : (o : Option Node) → node_at ns b ≡ o → host_ports (option_map (raise_noise spawn.bus) o) ≡ host_ports o
+      go None e = refl
+      go (Some x) e =
           let z : x.id.0 ≡ b.0 = eqb-true _ _ (find_in (is_node b) ns x e).1 in
-          ap (λ c. host_ports (some (cond c (with_noise ((x.noise + 1) % 4294967296) x) x))) (ne_eqb x.id.0 spawn.bus.0 (λ q. eqb-false spawn.bus.0 b.0 off (sym q ∙ z)))
+          ap (λ c. host_ports (Some (cond c (with_noise ((x.noise + 1) % 4294967296) x) x))) (ne_eqb x.id.0 spawn.bus.0 (λ q. eqb-false spawn.bus.0 b.0 off (sym q ∙ z)))
 
-  pub ports_on : ports_now spawn.bus ns' ≡ map_o bus.counted (ports_now spawn.bus ns)
+  pub ports_on : ports_now spawn.bus ns' ≡ option_map bus.counted (ports_now spawn.bus ns)
   ports_on = ports_after spawn.bus ∙ go (node_at ns spawn.bus) refl
     where
-      go : (o : Option Node) → node_at ns spawn.bus ≡ o → host_ports (map_o (raise_noise spawn.bus) o) ≡ map_o bus.counted (host_ports o)
-      go none e = refl
-      go (some x) e = ap (λ c. host_ports (some (cond c (with_noise ((x.noise + 1) % 4294967296) x) x))) (find_in (is_node spawn.bus) ns x e).1 ∙ at (eqb x.owner.0 0)
+      go : (o : Option Node) → node_at ns spawn.bus ≡ o → host_ports (option_map (raise_noise spawn.bus) o) ≡ option_map bus.counted (host_ports o)
+      go None e = refl
+      go (Some x) e = ap (λ c. host_ports (Some (cond c (with_noise ((x.noise + 1) % 4294967296) x) x))) (find_in (is_node spawn.bus) ns x e).1 ∙ at (eqb x.owner.0 0)
         where
-          at : (c : Bool) → cond c (some (record { ports = x.ports; noise = (x.noise + 1) % 4294967296 })) none ≡ map_o bus.counted (cond c (some (room_of x)) none)
+          at : (c : Bool) → cond c (Some (record { ports = x.ports; noise = (x.noise + 1) % 4294967296 })) None ≡ option_map bus.counted (cond c (Some (room_of x)) None)
           at true = refl
           at false = refl
 
-  count_same : (o : Option BusPorts) → port_count (map_o bus.counted o) ≡ port_count o
-  count_same none = refl
-  count_same (some r) = refl
+  count_same : (o : Option BusPorts) → port_count (option_map bus.counted o) ≡ port_count o
+  count_same None = refl
+  count_same (Some r) = refl
 
   noise_is : (o : Option Node) → p < port_count (host_ports o) → noise_of o ≡ bus.noise_in (host_ports o)
-  noise_is none h = absurd (omega arith)
-  noise_is (some x) h = at (eqb x.owner.0 0) h
+  noise_is None h = absurd (omega arith)
+  noise_is (Some x) h = at (eqb x.owner.0 0) h
     where
-      at : (c : Bool) → p < port_count (cond c (some (room_of x)) none) → x.noise ≡ bus.noise_in (cond c (some (room_of x)) none)
+      at : (c : Bool) → p < port_count (cond c (Some (room_of x)) None) → x.noise ≡ bus.noise_in (cond c (Some (room_of x)) None)
       at true h = refl
       at false h = absurd (omega arith)
 
-  fresh : find (is_voice new.id) vs ≡ none
+  fresh : find (is_voice new.id) vs ≡ None
   fresh = none_find (is_voice new.id) vs (λ v i. ne_eqb v.id.0 new.id.0 (λ e. omega (arith, e, t.own.0.below v i)))
 
   -- the holders that were there
@@ -197,10 +194,10 @@ module _ (l : Ledger) (t : Tidy l) (spawn : Spawn) (ok : allowed spawn.def ≡ t
       many : length (node_rows spawn.def.nodes) ≤ length xs
       many = let e = nodes_count (next_voice l.shared) spawn.def (pans spawn.pan) in omega arith
 
-      at : (i : ℕ) → i < length (node_rows spawn.def.nodes) → (node_level (node_at ns' (id (next + i))) ≡ Known (of_bits binary32 0)) × (done_flag (node_at ns' (id (next + i))) ≡ false)
+      at : (i : ℕ) → i < length (node_rows spawn.def.nodes) → (node_level (node_at ns' (id (next + i))) ≡ Some (of_bits binary32 0)) × (done_flag (node_at ns' (id (next + i))) ≡ false)
       at i h =
           let m = many in
-          subst (λ z. (node_level (node_at z (id (next + i))) ≡ Known (of_bits binary32 0)) × (done_flag (node_at z (id (next + i))) ≡ false)) (sym is)
+          subst (λ z. (node_level (node_at z (id (next + i))) ≡ Some (of_bits binary32 0)) × (done_flag (node_at z (id (next + i))) ≡ false)) (sym is)
           (new_nodes (of_bits binary32 0) xs g below (new_quiet (next_voice l.shared) spawn.def (pans spawn.pan)) i (omega arith))
 
       flag : (i : ℕ) → flag_at ns' new i ≡ false
@@ -210,11 +207,11 @@ module _ (l : Ledger) (t : Tidy l) (spawn : Spawn) (ok : allowed spawn.def ≡ t
           go false e = refl
           go true e = (at i (ltb-true _ _ e)).1
 
-      with_nodes : Level → (ℕ → Bool) → Own
+      with_nodes : Option Float → (ℕ → Bool) → Own
       with_nodes lv fl = record { number = noise_of (node_at ns spawn.bus); rank = spawn.rank; birth = l.shared.clock; port = p; count = new.count; output = next + spawn.def.output - next; plan = new.plan; phase = phase_of st; level = lv; flags = fl }
 
       with_output : ℕ → ℕ → Own
-      with_output o number = record { number = number; rank = spawn.rank; birth = l.shared.clock; port = p; count = new.count; output = o; plan = new.plan; phase = phase_of st; level = Known (of_bits binary32 0); flags = λ i. false }
+      with_output o number = record { number = number; rank = spawn.rank; birth = l.shared.clock; port = p; count = new.count; output = o; plan = new.plan; phase = phase_of st; level = Some (of_bits binary32 0); flags = λ i. false }
 
       out : next + spawn.def.output - next ≡ spawn.def.output
       out = omega arith
@@ -222,15 +219,15 @@ module _ (l : Ledger) (t : Tidy l) (spawn : Spawn) (ok : allowed spawn.def ≡ t
   pub instantiate_on : p < port_count (ports_now spawn.bus ns) → bus_of spawn.bus after ≡ (bus.instantiate spawn.def spawn.rank (phase_of st) p (bus_of spawn.bus l)).bus
   instantiate_on range =
       ap (λ o. bus_of_lem l.shared.config l.shared.clock o (seats_for spawn.bus o (vs ++ (new ∷ [])) after.holders) (own_voices spawn.bus ns' (vs ++ (new ∷ [])))) ports_on
-      ∙ ap₂ (λ h ws. bus_of_lem l.shared.config l.shared.clock (map_o bus.counted (ports_now spawn.bus ns)) h ws) (fun_ext seats) voices
+      ∙ ap₂ (λ h ws. bus_of_lem l.shared.config l.shared.clock (option_map bus.counted (ports_now spawn.bus ns)) h ws) (fun_ext seats) voices
     where
       here : eqb spawn.bus.0 spawn.bus.0 ≡ true
       here = eq-eqb spawn.bus.0 spawn.bus.0 refl
 
-      found_new : find (is_voice new.id) (vs ++ (new ∷ [])) ≡ some new
+      found_new : find (is_voice new.id) (vs ++ (new ∷ [])) ≡ Some new
       found_new = find_snoc_none (is_voice new.id) vs new fresh ∙ rw (eq-eqb new.id.0 new.id.0 refl)
 
-      seats : (q : ℕ) → seats_for spawn.bus (map_o bus.counted (ports_now spawn.bus ns)) (vs ++ (new ∷ [])) after.holders q ≡ seat p (mine (bus.noise_in (ports_now spawn.bus ns))) (seats_for spawn.bus (ports_now spawn.bus ns) vs l.holders) q
+      seats : (q : ℕ) → seats_for spawn.bus (option_map bus.counted (ports_now spawn.bus ns)) (vs ++ (new ∷ [])) after.holders q ≡ seat p (mine (bus.noise_in (ports_now spawn.bus ns))) (seats_for spawn.bus (ports_now spawn.bus ns) vs l.holders) q
       seats q = rw (here, count_same (ports_now spawn.bus ns)) (go (eqb q p) refl)
         where
           go : (c : Bool) → eqb q p ≡ c → cond (ltb q (port_count (ports_now spawn.bus ns))) (seat_of (vs ++ (new ∷ [])) (cond c (voice (next_voice l.shared)) (l.holders spawn.bus.0 q))) empty
@@ -256,14 +253,14 @@ module _ (l : Ledger) (t : Tidy l) (spawn : Spawn) (ok : allowed spawn.def ≡ t
           (omega arith, omega arith, λ z. omega arith)
 
   -- a node of the old ones, as it is after
-  was : (b : NodeId) → b.0 < next → (n : Node) → node_at ns' b ≡ some n → (x : Node) × (node_at ns b ≡ some x) × (n ≡ raise_noise spawn.bus x)
+  was : (b : NodeId) → b.0 < next → (n : Node) → node_at ns' b ≡ Some n → (x : Node) × (node_at ns b ≡ Some x) × (n ≡ raise_noise spawn.bus x)
   was b h n e = go (node_at ns b) refl (sym (old b.0 h) ∙ e)
     where
-      go : (o : Option Node) → node_at ns b ≡ o → map_o (raise_noise spawn.bus) o ≡ some n → (x : Node) × (node_at ns b ≡ some x) × (n ≡ raise_noise spawn.bus x)
-      go none f q = absurd (none_some q)
-      go (some x) f q = (x, f, sym (some_inj q))
+      go : (o : Option Node) → node_at ns b ≡ o → option_map (raise_noise spawn.bus) o ≡ Some n → (x : Node) × (node_at ns b ≡ Some x) × (n ≡ raise_noise spawn.bus x)
+      go None f q = absurd (none_some q)
+      go (Some x) f q = (x, f, sym (some_inj q))
 
-  pub tidy_instantiate : next + 2 ≤ 4294967296 → (host : Node) → node_at ns spawn.bus ≡ some host → host.owner.0 ≡ 0 → Tidy after
+  pub tidy_instantiate : next + 2 ≤ 4294967296 → (host : Node) → node_at ns spawn.bus ≡ Some host → host.owner.0 ≡ 0 → Tidy after
   tidy_instantiate room host found hosts₀ =
       record {
         own = (ids_snoc new refl t.own.0, mine_instantiate spawn (output_in spawn.def ok) st p l t.own.1);
@@ -286,7 +283,7 @@ module _ (l : Ledger) (t : Tidy l) (spawn : Spawn) (ok : allowed spawn.def ≡ t
       Out v = (v.first.0 ≤ v.output.0) × (v.output.0 < v.first.0 + v.count)
 
       Hosted : Voice → Type 0
-      Hosted v = (v.bus.0 < after.shared.graph.next) × ((n : Node) → node_at ns' v.bus ≡ some n → (n.owner.0 ≡ 0) × (v.sequence < n.noise))
+      Hosted v = (v.bus.0 < after.shared.graph.next) × ((n : Node) → node_at ns' v.bus ≡ Some n → (n.owner.0 ≡ 0) × (v.sequence < n.noise))
 
       k_below : spawn.bus.0 < next
       k_below = let r = find_in (is_node spawn.bus) ns host found in let z : host.id.0 ≡ spawn.bus.0 = eqb-true _ _ r.1 in omega (arith, z, t.own.1.below host r.0)
@@ -298,7 +295,7 @@ module _ (l : Ledger) (t : Tidy l) (spawn : Spawn) (ok : allowed spawn.def ≡ t
       rows₁ j z i h =
           let r = in_map (raise_noise spawn.bus) ns z i in
           let q : is_node j r.0 ≡ true = ap (λ n. eqb n j.0) (sym (raise_same spawn.bus (λ (y : Node). y.id.0) (λ m n. refl) r.0) ∙ ap (λ (n : Node). n.id.0) (sym r.2)) ∙ h in
-          look_raised spawn.bus ns j ∙ ap (map_o (raise_noise spawn.bus)) (t.rows j r.0 r.1 q) ∙ ap some (sym r.2)
+          look_raised spawn.bus ns j ∙ ap (option_map (raise_noise spawn.bus)) (t.rows j r.0 r.1 q) ∙ ap Some (sym r.2)
 
       lower : (u : Voice) → In u vs → (v : Voice) → v ≡ new → u.bus.0 ≡ v.bus.0 → u.sequence ≡ v.sequence → ⊥
       lower u i v q e f =
@@ -307,7 +304,7 @@ module _ (l : Ledger) (t : Tidy l) (spawn : Spawn) (ok : allowed spawn.def ≡ t
           let h = ((t.hosted u i).1 host (ap (node_at ns) a ∙ found)).1 in
           omega arith
 
-      hosts : (b : NodeId) → b.0 < next → (s : ℕ) → ((x : Node) → node_at ns b ≡ some x → Unit {0} → (x.owner.0 ≡ 0) × (s < (raise_noise spawn.bus x).noise)) → (b.0 < after.shared.graph.next) × ((n : Node) → node_at ns' b ≡ some n → (n.owner.0 ≡ 0) × (s < n.noise))
+      hosts : (b : NodeId) → b.0 < next → (s : ℕ) → ((x : Node) → node_at ns b ≡ Some x → Unit {0} → (x.owner.0 ≡ 0) × (s < (raise_noise spawn.bus x).noise)) → (b.0 < after.shared.graph.next) × ((n : Node) → node_at ns' b ≡ Some n → (n.owner.0 ≡ 0) × (s < n.noise))
       hosts b h s f = (
         let a = next_is in omega arith,
         λ n e.

@@ -5,7 +5,7 @@ use native.Mathlib.Omega.{arith}
 use mathlib.Core.Path.{◌≡◌, refl, sym, ap, ◌∙◌, subst}
 use mathlib.Core.Logic.{◌⊎◌, inl, inr, ⊎_elim}
 use mathlib.Core.List.{List, [], ◌∷◌, map}
-use mathlib.Core.Option.{Option, none, some}
+use Rattle.std.specs.Prelude.{Option, None, Some, find, Ok}
 use mathlib.Core.Bool.{Bool, true, false, not, cond, ◌&&◌, true≢false}
 use lib.Dec.{eqb}
 use lib.ListN.{length}
@@ -13,7 +13,6 @@ use borrow.Author.Tests.{eqb-true, eqb-false}
 use Rattle.lists.specs.Member.{In}
 use Rattle.lists.proofs.Member.{in_map, in_snoc, and_right}
 use Rattle.lists.proofs.Filter.{in_filter}
-use Rattle.lists.specs.Find.{find}
 use Rattle.node.specs.declared.record.NodeId.{NodeId}
 use Rattle.node.specs.declared.record.VoiceId.{VoiceId}
 use Rattle.node.specs.declared.refusal.Refusal.{Refusal}
@@ -25,7 +24,6 @@ use Rattle.scheduler.specs.Event.{param_order}
 use Rattle.voice.specs.declared.policy.BudgetScope.TheVariants.{PerGroup}
 use Rattle.synthdef.specs.Limits.{allowed}
 use Rattle.store.specs.declared.answer.Rendered.{Rendered}
-use Rattle.store.specs.declared.answer.Spawned.{Spawned}
 use Rattle.store.specs.declared.voices.Fade.{Fade}
 use Rattle.store.specs.declared.voices.Voice.{Voice}
 use Rattle.store.specs.declared.voices.VoiceState.{VoiceState}
@@ -99,8 +97,8 @@ less_removed w l =
     }
 
 less_freed : (o : Option Voice) (l : Ledger) → Less l.voices l.holders (freed o l)
-less_freed none l = less_self l
-less_freed (some v) l = less_removed v.id l
+less_freed None l = less_self l
+less_freed (Some v) l = less_removed v.id l
 
 less_all : (gs : List Voice) (l : Ledger) → Less l.voices l.holders (without_voices gs l)
 less_all [] l = less_self l
@@ -146,10 +144,10 @@ less_free w l = less_freed (find (is_voice w) l.voices) l
 
 -- ---- a spawn: the victims go or fade, and the voice let in is the one of the answer; its number is the bus's next
 pub record New (l₀ : Ledger) (spawn : Spawn) (r : SpawnResult) (v : Voice) : Type 0 where
-  pub named : r.answer ≡ Spawned.Voice v.id
+  pub named : r.answer ≡ Ok v.id
   pub bus : v.bus ≡ spawn.bus
   pub room : BusPorts
-  pub ports : ports_now spawn.bus l₀.shared.graph.nodes ≡ some room
+  pub ports : ports_now spawn.bus l₀.shared.graph.nodes ≡ Some room
   pub number : v.sequence ≡ room.noise
 
 pub record AfterSpawn (l₀ : Ledger) (spawn : Spawn) (r : SpawnResult) : Type 0 where
@@ -159,7 +157,7 @@ pub record AfterSpawn (l₀ : Ledger) (spawn : Spawn) (r : SpawnResult) : Type 0
 nobody_new : (l₀ : Ledger) (spawn : Spawn) (r : SpawnResult) → Less l₀.voices l₀.holders r.ledger → AfterSpawn l₀ spawn r
 nobody_new l₀ spawn r k = record { kin = λ v i. inl (k.kin v i); hosts = k.hosts }
 
-module _ (spawn : Spawn) (l₀ : Ledger) (ok : allowed spawn.def ≡ true) (m : BusPorts) (here : ports_now spawn.bus l₀.shared.graph.nodes ≡ some m) where
+module _ (spawn : Spawn) (l₀ : Ledger) (ok : allowed spawn.def ≡ true) (m : BusPorts) (here : ports_now spawn.bus l₀.shared.graph.nodes ≡ Some m) where
   abbrev Fewer : Ledger → Type 0
   Fewer l = Away spawn l₀ ok m l × Less l₀.voices l₀.holders l
 
@@ -167,7 +165,7 @@ module _ (spawn : Spawn) (l₀ : Ledger) (ok : allowed spawn.def ≡ true) (m : 
   instantiates s p l q =
       record {
         kin = λ v i. ⊎_elim (λ j. inl (q.1.kin v j)) (λ e. inr (record {
-          named = ap (λ (x : Voice). Spawned.Voice x.id) (sym e);
+          named = ap (λ (x : Voice). Ok x.id) (sym e);
           bus = ap (λ (x : Voice). x.bus) e;
           room = m;
           ports = here;
@@ -214,8 +212,8 @@ less_fade g p l = record { kin = kin; hosts = λ n q a e. e }
         }
 
 less_steal : (g : Voice) (o : Option ℕ) (l : Ledger) → Less l.voices l.holders (stolen g o l)
-less_steal g none l = less_removed g.id (at_shared l (with_steals (reclaim_log g Tracked l.shared) l.shared))
-less_steal g (some p) l = less_fade g p l
+less_steal g None l = less_removed g.id (at_shared l (with_steals (reclaim_log g Tracked l.shared) l.shared))
+less_steal g (Some p) l = less_fade g p l
 
 module _ (l : Ledger) (t : Tidy l) (spawn : Spawn) where
   begins : (x : Meets l.shared spawn) → Fewer spawn l x.ok x.ports x.bus l
@@ -232,15 +230,15 @@ module _ (l : Ledger) (t : Tidy l) (spawn : Spawn) where
           budgeted spawn l x.ok x.ports x.bus (steal_voice g l) (away_steal spawn l x.ok x.ports l t x.room x.bus (λ b off. refl) g i on (port_held g l), less_steal g (port_held g l) l))
 
       go : (o : Option Refusal) → spawn_refusal l.shared l.voices spawn.def spawn.bus spawn.rank ≡ o → AfterSpawn l spawn (ledger.unless o l (admitted (admission_on spawn.bus spawn.rank l) spawn l))
-      go (some r) e = nobody_new l spawn _ (less_self l)
-      go none e = works (meets l.shared l.voices spawn e)
+      go (Some r) e = nobody_new l spawn _ (less_self l)
+      go None e = works (meets l.shared l.voices spawn e)
 
   pub loose_spawned : AfterSpawn l spawn (spawn_loose spawn l)
   loose_spawned = go (spawn_refusal l.shared l.voices spawn.def spawn.bus spawn.rank) refl
     where
       go : (o : Option Refusal) → spawn_refusal l.shared l.voices spawn.def spawn.bus spawn.rank ≡ o → AfterSpawn l spawn (ledger.unless o l (place 0 spawn Loose l))
-      go (some r) e = nobody_new l spawn _ (less_self l)
-      go none e = let x = meets l.shared l.voices spawn e in loosely spawn l x.ok x.ports x.bus l (begins x)
+      go (Some r) e = nobody_new l spawn _ (less_self l)
+      go None e = let x = meets l.shared l.voices spawn e in loosely spawn l x.ok x.ports x.bus l (begins x)
 
 -- ---- every call, seen from one bus: what is no spawn there, and connects nothing there
 pub record Stays (b : NodeId) (l l' : Ledger) : Type 0 where
@@ -270,8 +268,8 @@ module _ (b : NodeId) (l : Ledger) where
   less_stays k = record { kin = λ v i on. k.kin v i; hosts = λ p a e. k.hosts b.0 p a e }
 
   either : (o : Option Refusal) (s : Step) → Stays b l s.ledger → Stays b l (steps.unless o l s).ledger
-  either (some r) s k = less_stays (less_self l)
-  either none s k = k
+  either (Some r) s k = less_stays (less_self l)
+  either None s k = k
 
   alike : (l' : Ledger) → l'.voices ≡ l.voices → ((p : ℕ) (a : NodeId) → l'.holders b.0 p ≡ holder.host a → l.holders b.0 p ≡ holder.host a) → Stays b l l'
   alike l' e h = record { kin = λ v i on. kin_self l.voices v (subst (In v) e i); hosts = h }
@@ -294,8 +292,8 @@ module _ (b : NodeId) (l : Ledger) where
       other off r j true f e = absurd (eqb-false k.0 b.0 off (sym (eqb-true _ _ f)))
 
       go : (o : Option Refusal) → (accepted o && is_bus b k) ≡ false → Stays b l (steps.unless o l (graph_step l (change.connect l.shared.graph a k p) (hold k p (holder.host a) l.holders) call.done)).ledger
-      go (some r) h = less_stays (less_self l)
-      go none h = alike _ refl (λ r j e. other h r j (eqb b.0 k.0) refl e)
+      go (Some r) h = less_stays (less_self l)
+      go None h = alike _ refl (λ r j e. other h r j (eqb b.0 k.0) refl e)
   stays t per (call.disconnect k p) q = either (disconnect_refusal l.shared.graph k p) _ (alike _ refl (λ r a e. no_host (eqb b.0 k.0 && eqb r p) (l.holders b.0 r) a e))
   stays t per (call.set_sink k) q = either (host_refusal l.shared.graph k) _ (alike _ refl (λ p a e. e))
   stays t per (call.spawn_managed x) q = elsewhere x q (spawn_managed x l) (managed_spawned l t x per)
@@ -309,6 +307,6 @@ module _ (b : NodeId) (l : Ledger) where
   stays t per (call.render out) q = go (render_refusal l.shared (length out))
     where
       go : (o : Option Refusal) → Stays b l (render_step o out l).ledger
-      go (some r) = less_stays (less_self l)
-      go none = less_stays (less_render l)
+      go (Some r) = less_stays (less_self l)
+      go None = less_stays (less_render l)
   stays t per (call.ask x) q = less_stays (less_self l)

@@ -5,16 +5,14 @@ use native.Mathlib.Nat.{mod-eq_of_lt}
 use mathlib.Core.Path.{◌≡◌, refl, sym, ap, ap₂, ◌∙◌, subst}
 use mathlib.Core.Logic.{inl, inr, ⊎_elim}
 use mathlib.Core.List.{List, [], ◌∷◌, ◌++◌}
-use mathlib.Core.Option.{Option, none, some}
+use Rattle.std.specs.Prelude.{Option, None, Some, filter, find, option_map}
 use mathlib.Core.Bool.{Bool, true, false, not, cond, true≢false}
 use lib.Dec.{eqb, ltb}
 use lib.ListN.{length, length-map}
 use borrow.Author.Tests.{eqb-true, eq-eqb, ne_eqb}
 use Rattle.lists.specs.Member.{In}
 use Rattle.lists.proofs.Member.{in_map, in_snoc, and_left, and_right, none_some, some_inj}
-use Rattle.lists.specs.Filter.{filter}
 use Rattle.lists.proofs.Filter.{in_filter, length_filter}
-use Rattle.lists.specs.Find.{find, map_o}
 use Rattle.node.specs.declared.record.NodeId.{NodeId}
 use Rattle.node.specs.declared.record.Node.{Node}
 use Rattle.node.specs.declared.refusal.Refusal.{Refusal}
@@ -22,8 +20,6 @@ use Rattle.node.specs.declared.refusal.Refusal.TheVariants.{VoiceNode, BusWithou
 use Rattle.graph.specs.Node.{node_at, is_node, host_node, noise_of}
 use Rattle.graph.specs.Refuse.{when, add_refusal, host_refusal, disconnect_refusal, connect_refusal}
 use Rattle.voice.specs.declared.policy.BudgetScope.TheVariants.{PerGroup}
-use Rattle.voice.specs.declared.policy.Budget.{Budget}
-use Rattle.voice.specs.declared.policy.Budget.TheVariants.{Unlimited, AtMost}
 use Rattle.voice.specs.declared.policy.Admission.{Admission}
 use Rattle.voice.specs.declared.policy.Admission.TheVariants as admission
 use Rattle.synthdef.specs.Limits.{allowed}
@@ -76,9 +72,9 @@ last : (r j : ℕ) (m : Bus) → length m.voices ≤ 0 → log_place r zero m �
 last r zero m h = refl
 last r (suc j) m h = go (bus.port_free m) ∙ ap (λ u. log_or (bus.port_free m) u m (λ k. log_place r j k)) (sym (nobody_left r m h))
   where
-    go : (o : Option ℕ) → [] ≡ log_or o none m (λ k. log_place r j k)
-    go (some p) = refl
-    go none = refl
+    go : (o : Option ℕ) → [] ≡ log_or o None m (λ k. log_place r j k)
+    go (Some p) = refl
+    go None = refl
 
 log_enough : (r n j : ℕ) (m : Bus) → length m.voices ≤ n → length m.voices ≤ j → log_place r n m ≡ log_place r j m
 log_enough r zero j m h g = last r j m h
@@ -87,19 +83,19 @@ log_enough r (suc n) (suc j) m h g = go (bus.port_free m) (bus.next_out r m) ref
   where
     go : (o : Option ℕ) (u : Option Own) → bus.next_out r m ≡ u → ((m : Bus) → length m.voices ≤ n → length m.voices ≤ j → log_place r n m ≡ log_place r j m)
         → log_or o u m (λ k. log_place r n k) ≡ log_or o u m (λ k. log_place r j k)
-    go (some p) u e ih = refl
-    go none none e ih = refl
-    go none (some v) e ih =
+    go (Some p) u e ih = refl
+    go None None e ih = refl
+    go None (Some v) e ih =
         let i = next_in r m v e in
         let k = filter_less (λ y. not (is_number v.number y)) m.voices v i (ap not (eq-eqb v.number v.number refl)) in
         ap (λ z. goes v.phase m.clock v ++ z) (ih (bus.without_voice v.number m) (omega arith) (omega arith))
 
 -- ---- the noise sequence through an instantiation
-pub noise_of_lem : (o : Option Node) (m : BusPorts) → host_ports o ≡ some m → noise_of o ≡ m.noise
-noise_of_lem none m h = absurd (none_some h)
-noise_of_lem (some x) m h = at (eqb x.owner.0 0) h
+pub noise_of_lem : (o : Option Node) (m : BusPorts) → host_ports o ≡ Some m → noise_of o ≡ m.noise
+noise_of_lem None m h = absurd (none_some h)
+noise_of_lem (Some x) m h = at (eqb x.owner.0 0) h
   where
-    at : (c : Bool) → cond c (some (room_of x)) none ≡ some m → x.noise ≡ m.noise
+    at : (c : Bool) → cond c (Some (room_of x)) None ≡ Some m → x.noise ≡ m.noise
     at true e = ap (λ (r : BusPorts). r.noise) (some_inj e)
     at false e = absurd (none_some e)
 
@@ -112,11 +108,11 @@ module _ (l : Ledger) (t : Tidy l) (spawn : Spawn) (ok : allowed spawn.def ≡ t
   up_on room x h =
       (let a = instantiated.next_is l t spawn ok s p in let z = h.0 in omega arith, subst (λ o. UnderR o x) (sym (instantiated.ports_on l t spawn ok s p)) (go (node_at l.shared.graph.nodes spawn.bus) refl h.1))
     where
-      go : (o : Option Node) → node_at l.shared.graph.nodes spawn.bus ≡ o → UnderR (host_ports o) x → UnderR (map_o bus.counted (host_ports o)) x
-      go none e h = tt
-      go (some n) e h = at (eqb n.owner.0 0) h
+      go : (o : Option Node) → node_at l.shared.graph.nodes spawn.bus ≡ o → UnderR (host_ports o) x → UnderR (option_map bus.counted (host_ports o)) x
+      go None e h = tt
+      go (Some n) e h = at (eqb n.owner.0 0) h
         where
-          at : (c : Bool) → UnderR (cond c (some (room_of n)) none) x → UnderR (map_o bus.counted (cond c (some (room_of n)) none)) x
+          at : (c : Bool) → UnderR (cond c (Some (room_of n)) None) x → UnderR (option_map bus.counted (cond c (Some (room_of n)) None)) x
           at true h =
               let f = t.few n (find_in (is_node spawn.bus) l.shared.graph.nodes n e).0 in
               let z : n.noise + 1 < 4294967296 = omega arith in
@@ -126,7 +122,7 @@ module _ (l : Ledger) (t : Tidy l) (spawn : Spawn) (ok : allowed spawn.def ≡ t
 
 -- ---- on its own bus
 module _ (spawn : Spawn) (ok : allowed spawn.def ≡ true) (m : BusPorts) where
-  instantiate_logs : (l : Ledger) → Tidy l → l.shared.graph.next + 2 ≤ 4294967296 → ports_now spawn.bus l.shared.graph.nodes ≡ some m → (ts : List Item) → BusRecordsOf spawn.bus ts l → (s : VoiceState) → ((f : Fade) → s ≡ Fading f → ⊥) → (p : ℕ)
+  instantiate_logs : (l : Ledger) → Tidy l → l.shared.graph.next + 2 ≤ 4294967296 → ports_now spawn.bus l.shared.graph.nodes ≡ Some m → (ts : List Item) → BusRecordsOf spawn.bus ts l → (s : VoiceState) → ((f : Fade) → s ≡ Fading f → ⊥) → (p : ℕ)
       → Logs spawn.bus l ts (instantiate spawn s p l).ledger []
   instantiate_logs l t room ports ts z s unfaded p =
       logs_none spawn.bus l ts (instantiate spawn s p l).ledger
@@ -136,41 +132,41 @@ module _ (spawn : Spawn) (ok : allowed spawn.def ≡ true) (m : BusPorts) where
       let c : x ≡ noise_of (node_at l.shared.graph.nodes spawn.bus) = e in
       omega arith)) refl
 
-  place_logs : (s : VoiceState) → ((f : Fade) → s ≡ Fading f → ⊥) → (n : ℕ) (l : Ledger) (ts : List Item) → Tidy l → RecordedOf l → l.shared.graph.next + 2 ≤ 4294967296 → ports_now spawn.bus l.shared.graph.nodes ≡ some m → BusRecordsOf spawn.bus ts l
+  place_logs : (s : VoiceState) → ((f : Fade) → s ≡ Fading f → ⊥) → (n : ℕ) (l : Ledger) (ts : List Item) → Tidy l → RecordedOf l → l.shared.graph.next + 2 ≤ 4294967296 → ports_now spawn.bus l.shared.graph.nodes ≡ Some m → BusRecordsOf spawn.bus ts l
       → Logs spawn.bus l ts (place n spawn s l).ledger (log_place spawn.rank n (bus_of spawn.bus l))
   place_logs s unfaded zero l ts t r room ports z = go (port_free spawn.bus l)
     where
-      go : (o : Option ℕ) → Logs spawn.bus l ts (instantiate_or o none spawn s l (refused NoPort)).ledger []
-      go (some p) = instantiate_logs l t room ports ts z s unfaded p
-      go none = logs_none spawn.bus l ts l z refl
+      go : (o : Option ℕ) → Logs spawn.bus l ts (instantiate_or o None spawn s l (refused NoPort)).ledger []
+      go (Some p) = instantiate_logs l t room ports ts z s unfaded p
+      go None = logs_none spawn.bus l ts l z refl
   place_logs s unfaded (suc n) l ts t r room ports z =
       subst (λ acts. Logs spawn.bus l ts (place (suc n) spawn s l).ledger acts)
       (ap₂ (λ o u. log_or o u (bus_of spawn.bus l) (λ z. log_place spawn.rank n z)) (free_same l t spawn.bus (is_host (node_at l.shared.graph.nodes spawn.bus) m ports)) (next_same l t spawn.bus spawn.rank))
       (go (port_free spawn.bus l) (next_out l.shared spawn.bus spawn.rank l.voices) refl (place_logs s unfaded n))
     where
       go : (o : Option ℕ) (u : Option Voice) → next_out l.shared spawn.bus spawn.rank l.voices ≡ u
-          → ((l : Ledger) (ts : List Item) → Tidy l → RecordedOf l → l.shared.graph.next + 2 ≤ 4294967296 → ports_now spawn.bus l.shared.graph.nodes ≡ some m → BusRecordsOf spawn.bus ts l → Logs spawn.bus l ts (place n spawn s l).ledger (log_place spawn.rank n (bus_of spawn.bus l)))
-          → Logs spawn.bus l ts (instantiate_or o u spawn s l (λ z. place n spawn s z)).ledger (log_or o (map_o (own_of l.shared.graph.nodes) u) (bus_of spawn.bus l) (λ z. log_place spawn.rank n z))
-      go (some p) u f ih = instantiate_logs l t room ports ts z s unfaded p
-      go none none f ih = logs_none spawn.bus l ts l z refl
-      go none (some v) f ih =
+          → ((l : Ledger) (ts : List Item) → Tidy l → RecordedOf l → l.shared.graph.next + 2 ≤ 4294967296 → ports_now spawn.bus l.shared.graph.nodes ≡ Some m → BusRecordsOf spawn.bus ts l → Logs spawn.bus l ts (place n spawn s l).ledger (log_place spawn.rank n (bus_of spawn.bus l)))
+          → Logs spawn.bus l ts (instantiate_or o u spawn s l (λ z. place n spawn s z)).ledger (log_or o (option_map (own_of l.shared.graph.nodes) u) (bus_of spawn.bus l) (λ z. log_place spawn.rank n z))
+      go (Some p) u f ih = instantiate_logs l t room ports ts z s unfaded p
+      go None None f ih = logs_none spawn.bus l ts l z refl
+      go None (Some v) f ih =
           let q = next_out_in t.own.0 l.shared spawn.bus spawn.rank v f in
           let on = and_right (may_go spawn.rank v) (is_on spawn.bus v) q.1 in
           let c = own_cut l t r v q.0 spawn.bus on ts z v.state refl in
           subst (λ b. Logs spawn.bus l ts (place n spawn s (cut_off v v.state l)).ledger (goes (phase_of v.state) l.shared.clock (own_of l.shared.graph.nodes v) ++ log_place spawn.rank n b)) (cut_on l t v q.0 v.state spawn.bus on)
           (logs_then c (ih (cut_off v v.state l) c.items (tidy_cut l t v q.0 v.state) (recorded_cut v v.state l r q.0 refl) room (cut_ports l t v q.0 v.state spawn.bus ∙ ports) c.logged))
 
-  budgeted_logs : (l : Ledger) (ts : List Item) → Tidy l → RecordedOf l → l.shared.graph.next + 2 ≤ 4294967296 → ports_now spawn.bus l.shared.graph.nodes ≡ some m → BusRecordsOf spawn.bus ts l → Logs spawn.bus l ts (place_within_budget spawn l).ledger (log_settle spawn.rank (bus_of spawn.bus l))
+  budgeted_logs : (l : Ledger) (ts : List Item) → Tidy l → RecordedOf l → l.shared.graph.next + 2 ≤ 4294967296 → ports_now spawn.bus l.shared.graph.nodes ≡ Some m → BusRecordsOf spawn.bus ts l → Logs spawn.bus l ts (place_within_budget spawn l).ledger (log_settle spawn.rank (bus_of spawn.bus l))
   budgeted_logs l ts t r room ports z = go l.shared.config.budget
     where
       fewer : length (bus_of spawn.bus l).voices ≤ length l.voices
       fewer = let a = length-map (filter (is_on spawn.bus) l.voices) (own_of l.shared.graph.nodes) in let b = length_filter (is_on spawn.bus) l.voices in omega arith
 
-      go : (c : Budget) → Logs spawn.bus l ts (place (tries c l.voices) spawn (state_under c) l).ledger (log_place spawn.rank (bus.tries c (bus_of spawn.bus l).voices) (bus_of spawn.bus l))
-      go Unlimited = place_logs Loose (λ f e. loose_fading f e) 0 l ts t r room ports z
-      go (AtMost n) =
+      go : (c : Option ℕ) → Logs spawn.bus l ts (place (tries c l.voices) spawn (state_under c) l).ledger (log_place spawn.rank (bus.tries c (bus_of spawn.bus l).voices) (bus_of spawn.bus l))
+      go None = place_logs Loose (λ f e. loose_fading f e) 0 l ts t r room ports z
+      go (Some n) =
           subst (λ acts. Logs spawn.bus l ts (place (length l.voices) spawn Tracked l).ledger acts) (log_enough spawn.rank (length l.voices) (length (bus_of spawn.bus l).voices) (bus_of spawn.bus l) fewer (omega arith))
-          (place_logs Tracked (under_fading (AtMost n)) (length l.voices) l ts t r room ports z)
+          (place_logs Tracked (under_fading (Some n)) (length l.voices) l ts t r room ports z)
 
   steal_logs : (l : Ledger) (ts : List Item) → Tidy l → RecordedOf l → BusRecordsOf spawn.bus ts l → (g : Voice) → In g l.voices → is_on spawn.bus g ≡ true → g.state ≡ Tracked
       → Logs spawn.bus l ts (steal_voice g l) (log_stolen (bus.port_held g.sequence (bus_of spawn.bus l)) l.shared.clock (own_of l.shared.graph.nodes g))
@@ -178,8 +174,8 @@ module _ (spawn : Spawn) (ok : allowed spawn.def ≡ true) (m : BusPorts) where
       subst (λ o. Logs spawn.bus l ts (steal_voice g l) (log_stolen o l.shared.clock (own_of l.shared.graph.nodes g))) (held_same l t spawn.bus g i on) (go (port_held g l))
     where
       go : (o : Option ℕ) → Logs spawn.bus l ts (stolen g o l) (log_stolen o l.shared.clock (own_of l.shared.graph.nodes g))
-      go none = cut_tracked l t r g i spawn.bus on ts z e
-      go (some p) = fade_tracked l t r g i spawn.bus on ts z e p
+      go None = cut_tracked l t r g i spawn.bus on ts z e
+      go (Some p) = fade_tracked l t r g i spawn.bus on ts z e p
 
 module _ (l : Ledger) (t : Tidy l) (r : RecordedOf l) (per : l.shared.config.scope ≡ PerGroup) (spawn : Spawn) (ts : List Item) (z : BusRecordsOf spawn.bus ts l) where
   admitted_logs : Meets l.shared spawn → Logs spawn.bus l ts (admitted (admission_on spawn.bus spawn.rank l) spawn l).ledger (log_admitted (bus.admission_on spawn.rank (bus_of spawn.bus l)) spawn.rank (bus_of spawn.bus l))
@@ -200,23 +196,23 @@ module _ (l : Ledger) (t : Tidy l) (r : RecordedOf l) (per : l.shared.config.sco
           (subst (λ b. Logs spawn.bus l ts (place_within_budget spawn (steal_voice q.0 l)).ledger (log_stolen (bus.port_held q.0.sequence (bus_of spawn.bus l)) l.shared.clock (own_of l.shared.graph.nodes q.0) ++ log_settle spawn.rank b)) (steal_same l t q.0 q.1 spawn.bus on)
           (logs_then s (budgeted_logs spawn x.ok x.ports (steal_voice q.0 l) s.items a.tidy (recorded_steal q.0 l r q.1 tr) a.room a.ports s.logged))))
 
-  guard_logs : (res : SpawnResult) (acts : List Act) (y a : Bool) (n : Option Node) (h i : Bool) → (refusal_from y a n h i ≡ none → Logs spawn.bus l ts res.ledger acts) → full_in (not_spawned (ledger.unless (refusal_from y a n h i) l res).answer) ≡ false
+  guard_logs : (res : SpawnResult) (acts : List Act) (y a : Bool) (n : Option Node) (h i : Bool) → (refusal_from y a n h i ≡ None → Logs spawn.bus l ts res.ledger acts) → full_in (not_spawned (ledger.unless (refusal_from y a n h i) l res).answer) ≡ false
       → Logs spawn.bus l ts (ledger.unless (refusal_from y a n h i) l res).ledger (cond y [] (cond a (log_bus (host_ports n) acts) []))
   guard_logs res acts true a n h i f c = logs_none spawn.bus l ts l z refl
   guard_logs res acts false false n h i f c = logs_none spawn.bus l ts l z refl
-  guard_logs res acts false true none h i f c = logs_none spawn.bus l ts l z refl
-  guard_logs res acts false true (some x) h i f c = at (eqb x.owner.0 0) x.ports x.noise h i f c
+  guard_logs res acts false true None h i f c = logs_none spawn.bus l ts l z refl
+  guard_logs res acts false true (Some x) h i f c = at (eqb x.owner.0 0) x.ports x.noise h i f c
     where
-      at : (y : Bool) (p w : ℕ) (h i : Bool) → (or_else (when (not y) VoiceNode none) (when (eqb p 0) BusWithoutPorts (when h TableFull (when i IdsUsedUp none))) ≡ none → Logs spawn.bus l ts res.ledger acts)
-          → full_in (not_spawned (ledger.unless (or_else (when (not y) VoiceNode none) (when (eqb p 0) BusWithoutPorts (when h TableFull (when i IdsUsedUp none)))) l res).answer) ≡ false
-          → Logs spawn.bus l ts (ledger.unless (or_else (when (not y) VoiceNode none) (when (eqb p 0) BusWithoutPorts (when h TableFull (when i IdsUsedUp none)))) l res).ledger (log_bus (cond y (some (record { ports = p; noise = w })) none) acts)
+      at : (y : Bool) (p w : ℕ) (h i : Bool) → (or_else (when (not y) VoiceNode None) (when (eqb p 0) BusWithoutPorts (when h TableFull (when i IdsUsedUp None))) ≡ None → Logs spawn.bus l ts res.ledger acts)
+          → full_in (not_spawned (ledger.unless (or_else (when (not y) VoiceNode None) (when (eqb p 0) BusWithoutPorts (when h TableFull (when i IdsUsedUp None)))) l res).answer) ≡ false
+          → Logs spawn.bus l ts (ledger.unless (or_else (when (not y) VoiceNode None) (when (eqb p 0) BusWithoutPorts (when h TableFull (when i IdsUsedUp None)))) l res).ledger (log_bus (cond y (Some (record { ports = p; noise = w })) None) acts)
       at false p w h i f c = logs_none spawn.bus l ts l z refl
       at true zero w h i f c = logs_none spawn.bus l ts l z refl
       at true (suc p) w h i f c = inner (eqb (suc p) 0) (ne_eqb (suc p) 0 (λ e. omega (arith, e))) h i f c
         where
-          inner : (y : Bool) → y ≡ false → (h i : Bool) → (when y BusWithoutPorts (when h TableFull (when i IdsUsedUp none)) ≡ none → Logs spawn.bus l ts res.ledger acts)
-              → full_in (not_spawned (ledger.unless (when y BusWithoutPorts (when h TableFull (when i IdsUsedUp none))) l res).answer) ≡ false
-              → Logs spawn.bus l ts (ledger.unless (when y BusWithoutPorts (when h TableFull (when i IdsUsedUp none))) l res).ledger acts
+          inner : (y : Bool) → y ≡ false → (h i : Bool) → (when y BusWithoutPorts (when h TableFull (when i IdsUsedUp None)) ≡ None → Logs spawn.bus l ts res.ledger acts)
+              → full_in (not_spawned (ledger.unless (when y BusWithoutPorts (when h TableFull (when i IdsUsedUp None))) l res).answer) ≡ false
+              → Logs spawn.bus l ts (ledger.unless (when y BusWithoutPorts (when h TableFull (when i IdsUsedUp None))) l res).ledger acts
           inner true e h i f c = absurd (true≢false e)
           inner false e true i f c = absurd (true≢false c)
           inner false e false true f c = absurd (true≢false c)
@@ -264,12 +260,12 @@ module _ (b : NodeId) (spawn : Spawn) (off : eqb spawn.bus.0 b.0 ≡ false) (ts 
           stands_budgeted l x.ok x.ports (steal_voice g l) (a, recorded_steal g l r i tr, stolen_logs g i (elsewhere spawn l x.ok x.ports g on b off) (tracked_state g.state tr) (port_held g l)))
         where
           stolen_logs : (g : Voice) → In g l.voices → is_on b g ≡ false → g.state ≡ Tracked → (o : Option ℕ) → BusRecordsOf b ts (stolen g o l)
-          stolen_logs g i o e none = other_cut l t r g i b o ts z Tracked e
-          stolen_logs g i o e (some p) = other_fade l t r g i b o ts z e p
+          stolen_logs g i o e None = other_cut l t r g i b o ts z Tracked e
+          stolen_logs g i o e (Some p) = other_fade l t r g i b o ts z e p
 
       go : (o : Option Refusal) → spawn_refusal l.shared l.voices spawn.def spawn.bus spawn.rank ≡ o → BusRecordsOf b ts (ledger.unless o l (admitted (admission_on spawn.bus spawn.rank l) spawn l)).ledger
-      go (some n) e = z
-      go none e = works (meets l.shared l.voices spawn e)
+      go (Some n) e = z
+      go None e = works (meets l.shared l.voices spawn e)
 
 -- ---- every other call
 module _ (vs₀ : List Voice) where
@@ -314,9 +310,9 @@ module _ (n : ℕ) where
         block = λ l r p. p;
       }
     where
-      instantiates : (l : Ledger) (spawn : Spawn) → n < l.shared.graph.next → (o : Option ℕ) → n < (instantiate_or o none spawn Loose l (refused NoPort)).ledger.shared.graph.next
-      instantiates l spawn p none = p
-      instantiates l spawn p (some r) =
+      instantiates : (l : Ledger) (spawn : Spawn) → n < l.shared.graph.next → (o : Option ℕ) → n < (instantiate_or o None spawn Loose l (refused NoPort)).ledger.shared.graph.next
+      instantiates l spawn p None = p
+      instantiates l spawn p (Some r) =
           let e : (instantiate spawn Loose r l).ledger.shared.graph.next ≡ l.shared.graph.next + length (voice_nodes (next_voice l.shared) spawn.def (pans spawn.pan)) =
           (wires_same l.shared.graph.next (voice_wires spawn.def (pans spawn.pan)) (append_all (raised spawn.bus l.shared.graph) (voice_nodes (next_voice l.shared) spawn.def (pans spawn.pan)))).1 ∙ grown_next (voice_nodes (next_voice l.shared) spawn.def (pans spawn.pan)) (raised spawn.bus l.shared.graph) in
           omega arith
@@ -336,8 +332,8 @@ QuietE story.cleared = Unit {0}
 QuietE (story.rendered ss b) = Unit {0}
 
 abbrev Quiet : Option Entry → Type 0
-Quiet none = Unit {0}
-Quiet (some e) = QuietE e
+Quiet None = Unit {0}
+Quiet (Some e) = QuietE e
 
 removed_ports : (vs : List Own) (m : Bus) → (bus.without_voices vs m).ports ≡ m.ports
 removed_ports [] m = refl
@@ -363,22 +359,22 @@ ports_follow story.cleared q m s h =
 ports_follow (story.rendered ss b) q m s h = subst (λ o. UnderR o s) (sym (freed_ports ss m)) h
 
 up_quiet : (en : Option Entry) → Quiet en → (a : call.Answer) (m' m : Bus) → Follow en a m' m → (s : ℕ) → UnderR m.ports s → UnderR m'.ports s
-up_quiet none q a m' m f s h = subst (λ (z : Bus). UnderR z.ports s) (sym f) h
-up_quiet (some e) q a m' m f s h = subst (λ (z : bus.SpawnResult). UnderR z.bus.ports s) (sym f) (ports_follow e q m s h)
+up_quiet None q a m' m f s h = subst (λ (z : Bus). UnderR z.ports s) (sym f) h
+up_quiet (Some e) q a m' m f s h = subst (λ (z : bus.SpawnResult). UnderR z.bus.ports s) (sym f) (ports_follow e q m s h)
 
 done_quiet : (o : Option Refusal) (en : Option Entry) → Quiet en → Quiet (if_done o en)
-done_quiet none en q = q
-done_quiet (some r) en q = tt
+done_quiet None en q = q
+done_quiet (Some r) en q = tt
 
 if_quiet : (c : Bool) (e : Entry) → QuietE e → Quiet (if? c e)
 if_quiet true e q = q
 if_quiet false e q = tt
 
 bus_quiet : (b : NodeId) (f : Voice → Entry) → ((v : Voice) → QuietE (f v)) → (o : Option Voice) → Quiet (on_bus b f o)
-bus_quiet b f q none = tt
-bus_quiet b f q (some v) = if_quiet (is_on b v) (f v) (q v)
+bus_quiet b f q None = tt
+bus_quiet b f q (Some v) = if_quiet (is_on b v) (f v) (q v)
 
-lost_quiet : (c : Bool) (ps : List ℕ) → Quiet (cond c (some story.closed) (lost_if ps))
+lost_quiet : (c : Bool) (ps : List ℕ) → Quiet (cond c (Some story.closed) (lost_if ps))
 lost_quiet true ps = tt
 lost_quiet false [] = tt
 lost_quiet false (p ∷ ps) = tt
@@ -392,8 +388,8 @@ module _ (b : NodeId) (l : Ledger) (t : Tidy l) (per : l.shared.config.scope ≡
       (unmanaged_step (λ z. b.0 < z.shared.graph.next) (next_preserved b.0) (call.add_node kind ports required values glides) m l h.0, go (add_refusal l.shared.graph kind ports required))
     where
       go : (o : Option Refusal) → UnderR (ports_now b (steps.unless o l (graph_step l (change.append l.shared.graph (host_node kind ports required values glides)) l.holders (call.node (record { 0 = l.shared.graph.next })))).ledger.shared.graph.nodes) s
-      go (some r) = h.1
-      go none = subst (λ o. UnderR (host_ports o) s) (sym (find_snoc_off (is_node b) l.shared.graph.nodes (with_id l.shared.graph.next (host_node kind ports required values glides)) (ne_eqb l.shared.graph.next b.0 (λ e. omega (arith, e, h.0))))) h.1
+      go (Some r) = h.1
+      go None = subst (λ o. UnderR (host_ports o) s) (sym (find_snoc_off (is_node b) l.shared.graph.nodes (with_id l.shared.graph.next (host_node kind ports required values glides)) (ne_eqb l.shared.graph.next b.0 (λ e. omega (arith, e, h.0))))) h.1
   up (call.remove_node k) m c = generic (call.remove_node k) m c (done_quiet (host_refusal l.shared.graph k) _ (lost_quiet (is_bus b k) (held_by b k l)))
   up (call.connect a k p) m c = generic (call.connect a k p) m c (done_quiet (connect_refusal l.shared.graph a k p) _ (if_quiet (is_bus b k) (story.plugged p) tt))
   up (call.disconnect k p) m c = generic (call.disconnect k p) m c (done_quiet (disconnect_refusal l.shared.graph k p) _ (if_quiet (is_bus b k) (story.unplugged p) tt))
@@ -408,13 +404,13 @@ module _ (b : NodeId) (l : Ledger) (t : Tidy l) (per : l.shared.config.scope ≡
           let r = x.room in
           subst (λ (z : NodeId). UnderOn z (instantiate spawn Loose p l).ledger s) is (up_on l t spawn x.ok Loose p (omega arith) s (subst (λ (z : NodeId). UnderOn z l s) (sym is) h))
 
-      place₀ : Meets l.shared spawn → (o : Option ℕ) → UnderOn b (instantiate_or o none spawn Loose l (refused NoPort)).ledger s
-      place₀ x none = h
-      place₀ x (some p) = at x p (eqb spawn.bus.0 b.0) refl
+      place₀ : Meets l.shared spawn → (o : Option ℕ) → UnderOn b (instantiate_or o None spawn Loose l (refused NoPort)).ledger s
+      place₀ x None = h
+      place₀ x (Some p) = at x p (eqb spawn.bus.0 b.0) refl
 
       go : (o : Option Refusal) → spawn_refusal l.shared l.voices spawn.def spawn.bus spawn.rank ≡ o → UnderOn b (ledger.unless o l (place 0 spawn Loose l)).ledger s
-      go (some r) e = h
-      go none e = place₀ (meets l.shared l.voices spawn e) (port_free spawn.bus l)
+      go (Some r) e = h
+      go None e = place₀ (meets l.shared l.voices spawn e) (port_free spawn.bus l)
   up (call.free w) m c = generic (call.free w) m c (bus_quiet b (λ v. story.freed v.sequence) (λ v. tt) (voice_of w l))
   up call.clear m c = generic call.clear m c tt
   up (call.order w name o) m c = generic (call.order w name o) m c tt

@@ -3,7 +3,7 @@ use Prim.Native.Nat.{ℕ, ◌+◌, ◌≤◌, ◌<◌}
 use native.Mathlib.Omega.{arith}
 use mathlib.Core.Path.{◌≡◌, refl, sym, ap, ◌∙◌, subst}
 use mathlib.Core.List.{List}
-use mathlib.Core.Option.{Option, none, some}
+use Rattle.std.specs.Prelude.{Option, None, Some}
 use mathlib.Core.Bool.{Bool, true, false, not, cond}
 use lib.Dec.{eqb, ltb, leb}
 use borrow.Author.Tests.{eqb-true, eq-eqb, ltb-false}
@@ -58,37 +58,37 @@ module _ (l : Ledger) (t : Tidy l) (g : Voice) (i : In g l.voices) (s : VoiceSta
   cut_off_lem b off = removed_off marked (tidy_steals l (reclaim_log g s l.shared) t) g i b off
 
 -- ---- a bus is a node of the host
-pub is_host : (o : Option Node) (m : BusPorts) → host_ports o ≡ some m → (n : Node) → o ≡ some n → n.owner.0 ≡ 0
-is_host none m h n e = absurd (none_some h)
-is_host (some x) m h n e = ap (λ (z : Node). z.owner.0) (sym (some_inj e)) ∙ go (eqb x.owner.0 0) refl h
+pub is_host : (o : Option Node) (m : BusPorts) → host_ports o ≡ Some m → (n : Node) → o ≡ Some n → n.owner.0 ≡ 0
+is_host None m h n e = absurd (none_some h)
+is_host (Some x) m h n e = ap (λ (z : Node). z.owner.0) (sym (some_inj e)) ∙ go (eqb x.owner.0 0) refl h
   where
-    go : (c : Bool) → eqb x.owner.0 0 ≡ c → cond c (some (room_of x)) none ≡ some m → x.owner.0 ≡ 0
+    go : (c : Bool) → eqb x.owner.0 0 ≡ c → cond c (Some (room_of x)) None ≡ Some m → x.owner.0 ≡ 0
     go true f q = eqb-true _ _ f
     go false f q = absurd (none_some q)
 
-pub is_node_lem : (o : Option Node) (m : BusPorts) → host_ports o ≡ some m → (n : Node) × (o ≡ some n)
-is_node_lem none m h = absurd (none_some h)
-is_node_lem (some x) m h = (x, refl)
+pub is_node_lem : (o : Option Node) (m : BusPorts) → host_ports o ≡ Some m → (n : Node) × (o ≡ Some n)
+is_node_lem None m h = absurd (none_some h)
+is_node_lem (Some x) m h = (x, refl)
 
-pub is_below : (l : Ledger) → Tidy l → (k : NodeId) (m : BusPorts) → ports_now k l.shared.graph.nodes ≡ some m → k.0 < l.shared.graph.next
+pub is_below : (l : Ledger) → Tidy l → (k : NodeId) (m : BusPorts) → ports_now k l.shared.graph.nodes ≡ Some m → k.0 < l.shared.graph.next
 is_below l t k m h = go (node_at l.shared.graph.nodes k) refl h
   where
-    go : (o : Option Node) → node_at l.shared.graph.nodes k ≡ o → host_ports o ≡ some m → k.0 < l.shared.graph.next
-    go none e q = absurd (none_some q)
-    go (some n) e q = let r = find_in (is_node k) l.shared.graph.nodes n e in let z : n.id.0 ≡ k.0 = eqb-true _ _ r.1 in omega (arith, z, t.own.1.below n r.0)
+    go : (o : Option Node) → node_at l.shared.graph.nodes k ≡ o → host_ports o ≡ Some m → k.0 < l.shared.graph.next
+    go None e q = absurd (none_some q)
+    go (Some n) e q = let r = find_in (is_node k) l.shared.graph.nodes n e in let z : n.id.0 ≡ k.0 = eqb-true _ _ r.1 in omega (arith, z, t.own.1.below n r.0)
 
 -- ---- what the table leaves: an allowed definition, a bus of the host, and ids
 pub record Meets (d : SharedState) (spawn : Spawn) : Type 0 where
   pub ok : allowed spawn.def ≡ true
   pub ports : BusPorts
-  pub bus : ports_now spawn.bus d.graph.nodes ≡ some ports
+  pub bus : ports_now spawn.bus d.graph.nodes ≡ Some ports
   pub room : d.graph.next + 3 ≤ 4294967296
 
-or_else_none : (o r : Option Refusal) → or_else o r ≡ none → (o ≡ none) × (r ≡ none)
-or_else_none (some x) r h = absurd (none_some (sym h))
-or_else_none none r h = (refl, h)
+or_else_none : (o r : Option Refusal) → or_else o r ≡ None → (o ≡ None) × (r ≡ None)
+or_else_none (Some x) r h = absurd (none_some (sym h))
+or_else_none None r h = (refl, h)
 
-pub meets : (d : SharedState) (vs : List Voice) (spawn : Spawn) → spawn_refusal d vs spawn.def spawn.bus spawn.rank ≡ none → Meets d spawn
+pub meets : (d : SharedState) (vs : List Voice) (spawn : Spawn) → spawn_refusal d vs spawn.def spawn.bus spawn.rank ≡ None → Meets d spawn
 meets d vs spawn h =
     let a = spawn_allowed d vs spawn.def spawn.bus spawn.rank h in
     let h₀ = when_none (ltb rank_limit spawn.rank) RankTooHigh _ h in
@@ -96,7 +96,7 @@ meets d vs spawn h =
     let h₂ = or_else_none (host_refusal d.graph spawn.bus) _ h₁.1 in
     let h₃ = when_none (eqb (ports_of (node_at d.graph.nodes spawn.bus)) 0) BusWithoutPorts _ h₂.1 in
     let h₄ = when_none (no_headroom d vs spawn.def) TableFull _ h₃.1 in
-    let h₅ = when_none (no_ids d spawn.def) IdsUsedUp none h₄.1 in
+    let h₅ = when_none (no_ids d spawn.def) IdsUsedUp None h₄.1 in
     let q = or_false (ltb id_limit (d.graph.next + spawn.def.nodes.count + 3)) (leb voice_id_limit d.spawned) h₅.0 in
     let r : d.graph.next + spawn.def.nodes.count + 3 ≤ 4294967296 = ltb-false _ _ q.0 in
     let n = a.host in
@@ -112,7 +112,7 @@ module _ (spawn : Spawn) (l₀ : Ledger) (ok : allowed spawn.def ≡ true) (m : 
   pub record Away (l : Ledger) : Type 0 where
     pub tidy : Tidy l
     pub room : l.shared.graph.next + 2 ≤ 4294967296
-    pub ports : ports_now spawn.bus l.shared.graph.nodes ≡ some m
+    pub ports : ports_now spawn.bus l.shared.graph.nodes ≡ Some m
     pub others : (b : NodeId) → eqb spawn.bus.0 b.0 ≡ false → bus_of b l ≡ bus_of b l₀
 
   pub record Done (r : SpawnResult) : Type 0 where
@@ -149,10 +149,10 @@ module _ (spawn : Spawn) (l₀ : Ledger) (ok : allowed spawn.def ≡ true) (m : 
   pub away_budgeted : (l : Ledger) → Away l → Done (place_within_budget spawn l)
   away_budgeted l a = away_place (state_under l.shared.config.budget) (tries l.shared.config.budget l.voices) l a
 
-  pub away_steal : (l : Ledger) → Tidy l → l.shared.graph.next + 3 ≤ 4294967296 → ports_now spawn.bus l.shared.graph.nodes ≡ some m → ((b : NodeId) → eqb spawn.bus.0 b.0 ≡ false → bus_of b l ≡ bus_of b l₀)
+  pub away_steal : (l : Ledger) → Tidy l → l.shared.graph.next + 3 ≤ 4294967296 → ports_now spawn.bus l.shared.graph.nodes ≡ Some m → ((b : NodeId) → eqb spawn.bus.0 b.0 ≡ false → bus_of b l ≡ bus_of b l₀)
       → (g : Voice) → In g l.voices → is_on spawn.bus g ≡ true → (o : Option ℕ) → Away (stolen g o l)
-  away_steal l t room ports same g i on none = away_cut l (record { tidy = t; room = omega arith; ports = ports; others = same }) g i on Tracked
-  away_steal l t room ports same g i on (some p) =
+  away_steal l t room ports same g i on None = away_cut l (record { tidy = t; room = omega arith; ports = ports; others = same }) g i on Tracked
+  away_steal l t room ports same g i on (Some p) =
       record {
         tidy = tidy_fade l t g i p;
         room = omega arith;
@@ -183,15 +183,15 @@ module _ (l : Ledger) (t : Tidy l) (spawn : Spawn) where
           out d = record { tidy = d.tidy; others = d.others }
 
       go : (o : Option Refusal) → spawn_refusal l.shared l.voices spawn.def spawn.bus spawn.rank ≡ o → Apart spawn.bus l (ledger.unless o l (admitted (admission_on spawn.bus spawn.rank l) spawn l))
-      go (some r) e = record { tidy = t; others = λ b off. refl }
-      go none e = works (meets l.shared l.voices spawn e)
+      go (Some r) e = record { tidy = t; others = λ b off. refl }
+      go None e = works (meets l.shared l.voices spawn e)
 
   pub loose_apart : Apart spawn.bus l (spawn_loose spawn l)
   loose_apart = go (spawn_refusal l.shared l.voices spawn.def spawn.bus spawn.rank) refl
     where
       go : (o : Option Refusal) → spawn_refusal l.shared l.voices spawn.def spawn.bus spawn.rank ≡ o → Apart spawn.bus l (ledger.unless o l (place 0 spawn Loose l))
-      go (some r) e = record { tidy = t; others = λ b off. refl }
-      go none e =
+      go (Some r) e = record { tidy = t; others = λ b off. refl }
+      go None e =
           let x = meets l.shared l.voices spawn e in
           let d = away_place spawn l x.ok x.ports Loose 0 l (begins x) in
           record { tidy = d.tidy; others = d.others }

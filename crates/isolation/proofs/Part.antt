@@ -3,20 +3,18 @@ use Prim.Native.Nat.{ℕ, ◌+◌, ◌-◌, ◌≤◌, ◌<◌}
 use native.Mathlib.Omega.{arith}
 use mathlib.Core.Path.{◌≡◌, refl, sym, ap, ap₂, ◌∙◌, fun_ext}
 use mathlib.Core.List.{List, map}
-use mathlib.Core.Option.{Option, none, some}
+use Rattle.std.specs.Prelude.{Option, None, Some, filter, find, Float}
 use mathlib.Core.Bool.{Bool, true, false, cond, ◌&&◌, true≢false}
 use lib.Dec.{eqb, ltb}
 use borrow.Author.Tests.{ltb-true}
 use Rattle.lists.specs.Member.{In}
-use Rattle.lists.specs.Filter.{filter}
 use Rattle.lists.proofs.Filter.{filter_same, filter_filter}
-use Rattle.lists.specs.Find.{find, Once}
+use Rattle.lists.specs.Find.{Once}
 use Rattle.lists.proofs.Find.{find_in, find_none}
 use Rattle.node.specs.declared.record.NodeId.{NodeId}
 use Rattle.node.specs.declared.record.VoiceId.{VoiceId}
 use Rattle.node.specs.declared.record.Node.{Node}
 use Rattle.graph.specs.Node.{is_node, node_at}
-use Rattle.voice.specs.declared.policy.Level.{Level}
 use Rattle.store.specs.declared.config.Config.{Config}
 use Rattle.store.specs.declared.voices.Voice.{Voice}
 use Rattle.model.specs.Voice.{id, is_voice, is_on, node_level}
@@ -31,8 +29,8 @@ use Rattle.isolation.proofs.Bus as bus
 
 -- ---- the part
 abbrev pub seat_for : Option Voice → Seat
-seat_for none = bus.host
-seat_for (some v) = mine v.sequence
+seat_for None = bus.host
+seat_for (Some v) = mine v.sequence
 
 abbrev pub seat_of : List Voice → Holder → Seat
 seat_of vs nobody = empty
@@ -43,8 +41,8 @@ abbrev pub room_of : Node → BusPorts
 room_of n = record { ports = n.ports; noise = n.noise }
 
 abbrev pub host_ports : Option Node → Option BusPorts
-host_ports none = none
-host_ports (some n) = cond (eqb n.owner.0 0) (some (room_of n)) none
+host_ports None = None
+host_ports (Some n) = cond (eqb n.owner.0 0) (Some (room_of n)) None
 
 abbrev pub flag_at : List Node → Voice → ℕ → Bool
 flag_at ns v i = cond (ltb i v.count) (done_flag (node_at ns (id (v.first.0 + i)))) false
@@ -102,24 +100,24 @@ pub record Tidy (l : Ledger) : Type 0 where
   pub single : (u v : Voice) → In u l.voices → In v l.voices → u.bus.0 ≡ v.bus.0 → u.sequence ≡ v.sequence → u ≡ v
   pub few : (x : Node) → In x l.shared.graph.nodes → x.noise ≤ l.shared.graph.next
   -- a voice's bus was a node of the host
-  pub hosted : (v : Voice) → In v l.voices → (v.bus.0 < l.shared.graph.next) × ((n : Node) → node_at l.shared.graph.nodes v.bus ≡ some n → (n.owner.0 ≡ 0) × (v.sequence < n.noise))
+  pub hosted : (v : Voice) → In v l.voices → (v.bus.0 < l.shared.graph.next) × ((n : Node) → node_at l.shared.graph.nodes v.bus ≡ Some n → (n.owner.0 ≡ 0) × (v.sequence < n.noise))
 
 -- the ports of a bus, as the story has them
 pub ports_at_lem : (o : Option Node) → ports_if o ≡ port_count (host_ports o)
-ports_at_lem none = refl
-ports_at_lem (some n) = go (eqb n.owner.0 0)
+ports_at_lem None = refl
+ports_at_lem (Some n) = go (eqb n.owner.0 0)
   where
-    go : (c : Bool) → cond c n.ports 0 ≡ port_count (cond c (some (room_of n)) none)
+    go : (c : Bool) → cond c n.ports 0 ≡ port_count (cond c (Some (room_of n)) None)
     go true = refl
     go false = refl
 
 -- ---- lists
-pub find_one : {A : Type 0} (q : A → Bool) (l : List A) (v : A) → In v l → q v ≡ true → ((x : A) → In x l → q x ≡ true → x ≡ v) → find q l ≡ some v
+pub find_one : {A : Type 0} (q : A → Bool) (l : List A) (v : A) → In v l → q v ≡ true → ((x : A) → In x l → q x ≡ true → x ≡ v) → find q l ≡ Some v
 find_one q l v i h only = go (find q l) refl
   where
-    go : (o : Option _) → find q l ≡ o → o ≡ some v
-    go none e = absurd (true≢false (sym h ∙ find_none q l v e i))
-    go (some x) e = let r = find_in q l x e in ap some (only x r.0 r.1)
+    go : (o : Option _) → find q l ≡ o → o ≡ Some v
+    go None e = absurd (true≢false (sym h ∙ find_none q l v e i))
+    go (Some x) e = let r = find_in q l x e in ap Some (only x r.0 r.1)
 
 pub filter_swap : {A : Type 0} (t u : A → Bool) (l : List A) → filter t (filter u l) ≡ filter u (filter t l)
 filter_swap t u l = filter_filter t u l ∙ filter_same (λ x. t x && u x) (λ x. u x && t x) l (λ x i. go (t x) (u x)) ∙ sym (filter_filter u t l)
@@ -138,7 +136,7 @@ Same ns ns' v = (k : ℕ) → v.first.0 ≤ k → k < v.first.0 + v.count
 pub own_same : (ns ns' : List Node) (v : Voice) → (v.first.0 ≤ v.output.0) × (v.output.0 < v.first.0 + v.count) → Same ns ns' v → own_of ns' v ≡ own_of ns v
 own_same ns ns' v o s = ap₂ with_nodes (s v.output.0 o.0 o.1).0 (fun_ext flag)
   where
-    with_nodes : Level → (ℕ → Bool) → Own
+    with_nodes : Option Float → (ℕ → Bool) → Own
     with_nodes lv fl = record { number = v.sequence; rank = v.rank; birth = v.birth; port = v.port; count = v.count; output = v.output.0 - v.first.0; plan = v.plan; phase = phase_of v.state; level = lv; flags = fl }
 
     flag : (i : ℕ) → flag_at ns' v i ≡ flag_at ns v i

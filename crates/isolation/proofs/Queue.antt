@@ -9,7 +9,7 @@ use mathlib.Core.List.{List, [], ◌∷◌}
 use mathlib.Core.Bool.{Bool, true, false, cond}
 use borrow.Author.Tests.{ltb-true, lt-ltb}
 use Rattle.lists.specs.Member.{In}
-use Rattle.lists.specs.Filter.{filter, put?}
+use Rattle.std.specs.Prelude.{filter}
 use Rattle.lists.proofs.Filter.{in_filter}
 use Rattle.scheduler.specs.declared.event.Event.{Event}
 use Rattle.scheduler.specs.Queue.{later, before?, inserted, due, taken_before}
@@ -24,27 +24,27 @@ first e (f ∷ q) h = ap (λ c. before? c e f q (inserted e q)) (h f (inl refl))
 pub own_inserted : (P : Event → Bool) (e : Event) (q : List Event) → Sorted q → filter P (inserted e q) ≡ cond (P e) (inserted e (filter P q)) (filter P q)
 own_inserted P e [] s = go (P e)
   where
-    go : (c : Bool) → put? c e [] ≡ cond c (e ∷ []) []
+    go : (c : Bool) → cond c (e ∷ []) [] ≡ cond c (e ∷ []) []
     go true = refl
     go false = refl
 own_inserted P e (f ∷ q) s = go (later e f) refl (P e) (P f) refl (own_inserted P e q s.1)
   where
     go : (c : Bool) → later e f ≡ c → (d g : Bool) → P f ≡ g → filter P (inserted e q) ≡ cond (P e) (inserted e (filter P q)) (filter P q)
-        → filter P (before? c e f q (inserted e q)) ≡ cond (P e) (inserted e (put? (P f) f (filter P q))) (put? (P f) f (filter P q))
+        → filter P (before? c e f q (inserted e q)) ≡ cond (P e) (inserted e (cond (P f) (f ∷ (filter P q)) (filter P q))) (cond (P f) (f ∷ (filter P q)) (filter P q))
     go true t d g p ih = at (P e)
       where
-        all : (x : Event) → In x (put? (P f) f (filter P q)) → later e x ≡ true
+        all : (x : Event) → In x (cond (P f) (f ∷ (filter P q)) (filter P q)) → later e x ≡ true
         all x i =
             let h : e.time < f.time = ltb-true _ _ t in
             let r = in_filter P (f ∷ q) x i in
             ⊎_elim (λ z. ap (later e) z ∙ t) (λ j. let k : e.time < x.time = omega (arith, h, s.0 x j) in lt-ltb _ _ k) r.0
 
-        at : (c : Bool) → put? c e (put? (P f) f (filter P q)) ≡ cond c (inserted e (put? (P f) f (filter P q))) (put? (P f) f (filter P q))
-        at true = sym (first e (put? (P f) f (filter P q)) all)
+        at : (c : Bool) → cond c (e ∷ (cond (P f) (f ∷ (filter P q)) (filter P q))) (cond (P f) (f ∷ (filter P q)) (filter P q)) ≡ cond c (inserted e (cond (P f) (f ∷ (filter P q)) (filter P q))) (cond (P f) (f ∷ (filter P q)) (filter P q))
+        at true = sym (first e (cond (P f) (f ∷ (filter P q)) (filter P q)) all)
         at false = refl
-    go false t d g p ih = ap (put? (P f) f) ih ∙ at (P e) (P f)
+    go false t d g p ih = ap (λ l. cond (P f) (f ∷ l) l) ih ∙ at (P e) (P f)
       where
-        at : (c g : Bool) → put? g f (cond c (inserted e (filter P q)) (filter P q)) ≡ cond c (inserted e (put? g f (filter P q))) (put? g f (filter P q))
+        at : (c g : Bool) → cond g (f ∷ (cond c (inserted e (filter P q)) (filter P q))) (cond c (inserted e (filter P q)) (filter P q)) ≡ cond c (inserted e (cond g (f ∷ (filter P q)) (filter P q))) (cond g (f ∷ (filter P q)) (filter P q))
         at true true = sym (ap (λ b. before? b e f (filter P q) (inserted e (filter P q))) t)
         at true false = refl
         at false true = refl

@@ -3,15 +3,14 @@ use Prim.Native.Nat.{ℕ, ◌+◌, ◌-◌, ◌≤◌, ◌<◌}
 use native.Mathlib.Omega.{arith}
 use mathlib.Core.Path.{◌≡◌, refl, sym, ap, ap₂, ◌∙◌, subst, fun_ext}
 use mathlib.Core.List.{List, map}
-use mathlib.Core.Option.{Option, none, some}
+use Rattle.std.specs.Prelude.{Option, None, Some, filter, find}
 use mathlib.Core.Bool.{Bool, true, false, not, cond, ◌&&◌, true≢false}
 use lib.Dec.{eqb, ltb}
 use borrow.Author.Tests.{eqb-true, eqb-false, eq-eqb, ne_eqb, not-true}
 use Rattle.lists.specs.Member.{In}
 use Rattle.lists.proofs.Member.{map_same}
-use Rattle.lists.specs.Filter.{filter}
 use Rattle.lists.proofs.Filter.{filter_same, filter_filter, filter_map, in_filter, filter_in}
-use Rattle.lists.specs.Find.{find, or?, filter_o}
+use Rattle.lists.specs.Find.{filter_o}
 use Rattle.lists.proofs.Find.{find_in, find_filter, find_filter_same, once_filter}
 use Rattle.node.specs.declared.record.NodeId.{NodeId}
 use Rattle.node.specs.declared.record.VoiceId.{VoiceId}
@@ -57,8 +56,8 @@ module _ (l : Ledger) (t : Tidy l) (g : Voice) (i : In g l.voices) where
   pub ports_stay : (b : NodeId) → ports_now b ns' ≡ ports_now b ns
   ports_stay b = ap host_ports (find_filter (is_node b) (λ x. not (owned_by g.id x)) ns (t.rows b)) ∙ go (node_at ns b)
     where
-      at : (x : Node) (h : Bool) → eqb x.owner.0 0 ≡ h → (o : Bool) → eqb x.owner.0 g.id.0 ≡ o → host_ports (or? (not o) x none) ≡ cond h (some (room_of x)) none
-      at x h e false f = ap (λ c. cond c (some (room_of x)) none) e
+      at : (x : Node) (h : Bool) → eqb x.owner.0 0 ≡ h → (o : Bool) → eqb x.owner.0 g.id.0 ≡ o → host_ports (cond (not o) (Some x) None) ≡ cond h (Some (room_of x)) None
+      at x h e false f = ap (λ c. cond c (Some (room_of x)) None) e
       at x false e true f = refl
       at x true e true f =
           let a : x.owner.0 ≡ 0 = eqb-true _ _ e in
@@ -66,11 +65,11 @@ module _ (l : Ledger) (t : Tidy l) (g : Voice) (i : In g l.voices) where
           absurd (omega (arith, a, c, above t.own.0 g i))
 
       go : (o : Option Node) → host_ports (filter_o (λ x. not (owned_by g.id x)) o) ≡ host_ports o
-      go none = refl
-      go (some x) = at x (eqb x.owner.0 0) refl (owned_by g.id x) refl
+      go None = refl
+      go (Some x) = at x (eqb x.owner.0 0) refl (owned_by g.id x) refl
 
   -- who holds the port p of the bus b, seen by number
-  holds : (b : NodeId) (p : ℕ) (w : VoiceId) → l.holders b.0 p ≡ voice w → (v : Voice) × In v vs × (v.bus.0 ≡ b.0) × (v.id.0 ≡ w.0) × (find (is_voice w) vs ≡ some v)
+  holds : (b : NodeId) (p : ℕ) (w : VoiceId) → l.holders b.0 p ≡ voice w → (v : Voice) × In v vs × (v.bus.0 ≡ b.0) × (v.id.0 ≡ w.0) × (find (is_voice w) vs ≡ Some v)
   holds b p w e = let s = t.seated b.0 p w e in (s.who, s.lives, s.on, s.is, once t.own.0 w s.who s.lives (eq-eqb _ _ s.is))
 
   found_other : (w : VoiceId) → eqb w.0 g.id.0 ≡ false → find (is_voice w) (filter other vs) ≡ find (is_voice w) vs
@@ -137,7 +136,7 @@ module _ (l : Ledger) (t : Tidy l) (g : Voice) (i : In g l.voices) where
         let r = holds b p w e in
         go r.0 r.1 r.2 r.3 r.4 (eqb w.0 g.id.0) refl
       where
-        go : (v : Voice) → In v vs → v.bus.0 ≡ b.0 → v.id.0 ≡ w.0 → find (is_voice w) vs ≡ some v → (c : Bool) → eqb w.0 g.id.0 ≡ c
+        go : (v : Voice) → In v vs → v.bus.0 ≡ b.0 → v.id.0 ≡ w.0 → find (is_voice w) vs ≡ Some v → (c : Bool) → eqb w.0 g.id.0 ≡ c
             → seat_of (filter other vs) (cond c nobody (voice w)) ≡ cond (by_number s (seat_for (find (is_voice w) vs))) empty (seat_for (find (is_voice w) vs))
         go v j o k f true c = rw (f, ap (λ (x : Voice). x.sequence) (same_voice v j (k ∙ eqb-true _ _ c)), eq-eqb s s refl)
         go v j o k f false c =
@@ -170,7 +169,7 @@ module _ (l : Ledger) (t : Tidy l) (g : Voice) (i : In g l.voices) where
         hosted = λ v j. let r = t.hosted v (in_filter other vs v j).0 in (r.0, λ n e. r.1 n (back v.bus n e));
       }
     where
-      back : (k : NodeId) (n : Node) → node_at ns' k ≡ some n → node_at ns k ≡ some n
+      back : (k : NodeId) (n : Node) → node_at ns' k ≡ Some n → node_at ns k ≡ Some n
       back k n e = let r = find_in (is_node k) ns' n e in t.rows k n (in_filter (λ x. not (owned_by g.id x)) ns n r.0).0 r.1
 
       seat : (n p : ℕ) (w : VoiceId) (x : Holder) → l.holders n p ≡ x → cond (by_voice g.id x) nobody x ≡ voice w → Seated (filter other vs) n w

@@ -3,7 +3,7 @@ use Prim.Native.Nat.{ℕ, ◌+◌, ◌-◌, ◌≤◌, ◌<◌}
 use native.Mathlib.Omega.{arith}
 use mathlib.Core.Path.{◌≡◌, refl, sym, ap, ap₂, ◌∙◌, subst, fun_ext}
 use mathlib.Core.List.{List, map}
-use mathlib.Core.Option.{Option, none, some}
+use Rattle.std.specs.Prelude.{Option, None, Some, filter, option_map}
 use mathlib.Core.Bool.{Bool, true, false, cond}
 use lib.Dec.{eqb, ltb}
 use lib.Ieee.{Float}
@@ -11,9 +11,8 @@ use borrow.Author.Tests.{eqb-true, eqb-false, eq-eqb, ne_eqb, lt-ltb}
 use Rattle.level.specs.Level.{level_of}
 use Rattle.lists.specs.Member.{In}
 use Rattle.lists.proofs.Member.{in_map, map_same, some_inj}
-use Rattle.lists.specs.Filter.{filter}
 use Rattle.lists.proofs.Filter.{in_filter}
-use Rattle.lists.specs.Find.{map_o, Once}
+use Rattle.lists.specs.Find.{Once}
 use Rattle.lists.proofs.Find.{find_in, find_map}
 use Rattle.node.specs.declared.name.Name.{Name}
 use Rattle.node.specs.declared.order.LastOrder.{LastOrder}
@@ -21,8 +20,6 @@ use Rattle.node.specs.declared.record.NodeId.{NodeId}
 use Rattle.node.specs.declared.record.VoiceId.{VoiceId}
 use Rattle.node.specs.declared.record.Node.{Node}
 use Rattle.graph.specs.Node.{is_node, node_at, replaced}
-use Rattle.voice.specs.declared.policy.Level.{Level}
-use Rattle.voice.specs.declared.policy.Level.TheVariants.{Known}
 use Rattle.synthdef.specs.Tables.{param_rows}
 use Rattle.synthdef.specs.Params.{param_node}
 use Rattle.store.specs.declared.voices.Voice.{Voice}
@@ -40,7 +37,7 @@ use Rattle.isolation.proofs.Bus.{Own, is_number, at_voices, report}
 use Rattle.isolation.proofs.Fade.{map_comp}
 use Rattle.isolation.proofs.Part.{room_of, host_ports, flag_at, own_of, ports_now, seats_for, own_voices, bus_of_lem, bus_of, Tidy, own_same}
 
-module _ (l : Ledger) (t : Tidy l) (j : NodeId) (x y : Node) (found : node_at l.shared.graph.nodes j ≡ some x) (alike : Alike x y) (noises : y.noise ≡ x.noise) where
+module _ (l : Ledger) (t : Tidy l) (j : NodeId) (x y : Node) (found : node_at l.shared.graph.nodes j ≡ Some x) (alike : Alike x y) (noises : y.noise ≡ x.noise) where
   abbrev ns : List Node
   ns = l.shared.graph.nodes
 
@@ -60,7 +57,7 @@ module _ (l : Ledger) (t : Tidy l) (j : NodeId) (x y : Node) (found : node_at l.
       go true e = sym (eqb-true _ _ e)
       go false e = refl
 
-  look : (k : NodeId) → node_at ns' k ≡ map_o rep (node_at ns k)
+  look : (k : NodeId) → node_at ns' k ≡ option_map rep (node_at ns k)
   look k = find_map rep (is_node k) (is_node k) (λ m. ap (λ n. eqb n k.0) (same_id m)) ns
 
   is_j : y.id.0 ≡ j.0
@@ -73,21 +70,21 @@ module _ (l : Ledger) (t : Tidy l) (j : NodeId) (x y : Node) (found : node_at l.
   pub look_other : (k : NodeId) → eqb k.0 j.0 ≡ false → node_at ns' k ≡ node_at ns k
   look_other k off = look k ∙ go (node_at ns k) refl
     where
-      go : (o : Option Node) → node_at ns k ≡ o → map_o rep o ≡ o
-      go none e = refl
-      go (some m) e = ap some (at (is_node y.id m) refl)
+      go : (o : Option Node) → node_at ns k ≡ o → option_map rep o ≡ o
+      go None e = refl
+      go (Some m) e = ap Some (at (is_node y.id m) refl)
         where
           at : (c : Bool) → is_node y.id m ≡ c → cond c y m ≡ m
           at false f = refl
           at true f = absurd (eqb-false _ _ off (sym (eqb-true _ _ (find_in (is_node k) ns m e).1) ∙ eqb-true _ _ f ∙ is_j))
 
-  pub look_this : (k : NodeId) → eqb k.0 j.0 ≡ true → node_at ns' k ≡ some y
+  pub look_this : (k : NodeId) → eqb k.0 j.0 ≡ true → node_at ns' k ≡ Some y
   look_this k on =
-      ap (node_at ns') (ap (λ n. record { 0 = n }) (eqb-true _ _ on)) ∙ look j ∙ ap (map_o rep) found
-      ∙ ap (λ c. some (cond c y x)) (eq-eqb x.id.0 y.id.0 (ap (λ (z : NodeId). z.0) (sym alike.id)))
+      ap (node_at ns') (ap (λ n. record { 0 = n }) (eqb-true _ _ on)) ∙ look j ∙ ap (option_map rep) found
+      ∙ ap (λ c. Some (cond c y x)) (eq-eqb x.id.0 y.id.0 (ap (λ (z : NodeId). z.0) (sym alike.id)))
 
   -- what is the same of y and x is the same everywhere
-  pub look_same : {A : Type 0} (F : Option Node → A) → F (some y) ≡ F (some x) → (k : NodeId) → F (node_at ns' k) ≡ F (node_at ns k)
+  pub look_same : {A : Type 0} (F : Option Node → A) → F (Some y) ≡ F (Some x) → (k : NodeId) → F (node_at ns' k) ≡ F (node_at ns k)
   look_same F e k = go (eqb k.0 j.0) refl
     where
       go : (c : Bool) → eqb k.0 j.0 ≡ c → F (node_at ns' k) ≡ F (node_at ns k)
@@ -95,7 +92,7 @@ module _ (l : Ledger) (t : Tidy l) (j : NodeId) (x y : Node) (found : node_at l.
       go false c = ap F (look_other k c)
 
   ports_same : (b : NodeId) → ports_now b ns' ≡ ports_now b ns
-  ports_same b = look_same host_ports (ap (λ (o : VoiceId). cond (eqb o.0 0) (some (room_of y)) none) alike.owner ∙ ap₂ (λ p q. cond (eqb x.owner.0 0) (some (record { ports = p; noise = q })) none) alike.ports noises) b
+  ports_same b = look_same host_ports (ap (λ (o : VoiceId). cond (eqb o.0 0) (Some (room_of y)) None) alike.owner ∙ ap₂ (λ p q. cond (eqb x.owner.0 0) (Some (record { ports = p; noise = q })) None) alike.ports noises) b
 
   with_voices : (b : NodeId) (ws : List Own) → own_voices b ns' l.voices ≡ ws → bus_of b after ≡ at_voices (bus_of b l) (bus_of b l).seats ws
   with_voices b ws e = ap₂ (λ o ws. bus_of_lem l.shared.config l.shared.clock o (seats_for b o l.voices l.holders) ws) (ports_same b) e
@@ -103,7 +100,7 @@ module _ (l : Ledger) (t : Tidy l) (j : NodeId) (x y : Node) (found : node_at l.
   pub kept_level : y.level ≡ x.level → y.done ≡ x.done → (b : NodeId) → bus_of b after ≡ bus_of b l
   kept_level lv dn b =
       with_voices b (own_voices b ns l.voices) (map_same (own_of ns') (own_of ns) (filter (is_on b) l.voices) (λ v i.
-      own_same ns ns' v (t.outs v (in_filter (is_on b) l.voices v i).0) (λ k a c. (look_same node_level (ap Known lv) (id k), look_same done_flag dn (id k)))))
+      own_same ns ns' v (t.outs v (in_filter (is_on b) l.voices v i).0) (λ k a c. (look_same node_level (ap Some lv) (id k), look_same done_flag dn (id k)))))
 
   pub tidy_replaced : Tidy after
   tidy_replaced =
@@ -122,7 +119,7 @@ module _ (l : Ledger) (t : Tidy l) (j : NodeId) (x y : Node) (found : node_at l.
       rows k z i h =
           let r = in_map rep ns z i in
           let q : is_node k r.0 ≡ true = ap (λ n. eqb n k.0) (sym (same_id r.0) ∙ ap (λ (n : Node). n.id.0) (sym r.2)) ∙ h in
-          look k ∙ ap (map_o rep) (t.rows k r.0 r.1 q) ∙ ap some (sym r.2)
+          look k ∙ ap (option_map rep) (t.rows k r.0 r.1 q) ∙ ap Some (sym r.2)
 
       at_most : (m : Node) → In m ns → (c : Bool) → is_node y.id m ≡ c → (cond c y m).noise ≤ l.shared.graph.next
       at_most m i true e = let f = t.few x (find_in (is_node j) ns x found).0 in let n = noises in omega arith
@@ -131,7 +128,7 @@ module _ (l : Ledger) (t : Tidy l) (j : NodeId) (x y : Node) (found : node_at l.
       Good : Voice → Node → Type 0
       Good v n = (n.owner.0 ≡ 0) × (v.sequence < n.noise)
 
-      owner : (v : Voice) → ((n : Node) → node_at ns v.bus ≡ some n → Good v n) → (n : Node) → node_at ns' v.bus ≡ some n → Good v n
+      owner : (v : Voice) → ((n : Node) → node_at ns v.bus ≡ Some n → Good v n) → (n : Node) → node_at ns' v.bus ≡ Some n → Good v n
       owner v h n q = go (eqb v.bus.0 j.0) refl
         where
           go : (c : Bool) → eqb v.bus.0 j.0 ≡ c → Good v n
@@ -153,23 +150,23 @@ module _ (l : Ledger) (t : Tidy l) where
   still = record { tidy = t; same = λ b. refl }
 
   node_still : (j : NodeId) (o : Option Node) (z : LastOrder) → node_at l.shared.graph.nodes j ≡ o → Unmoved l (at_shared l (order_node o z l.shared).shared)
-  node_still j none z e = still
-  node_still j (some x) z e = go (takes z x)
+  node_still j None z e = still
+  node_still j (Some x) z e = go (takes z x)
     where
       go : (c : Bool) → Unmoved l (at_shared l (cond c (record { outcome = Applied; shared = with_node (with_last z x) l.shared }) (stays NotTaken l.shared)).shared)
       go true = record { tidy = tidy_replaced l t j x (with_last z x) e (record { id = refl; owner = refl; ports = refl; required = refl }) refl; same = kept_level l t j x (with_last z x) e (record { id = refl; owner = refl; ports = refl; required = refl }) refl refl refl }
       go false = still
 
   param_still : (o : Option ℕ) (v : Voice) (z : LastOrder) → Unmoved l (at_shared l (order_param o v z l.shared).shared)
-  param_still none v z = still
-  param_still (some i) v z = node_still (id (v.first.0 + i)) (node_at l.shared.graph.nodes (id (v.first.0 + i))) z refl
+  param_still None v z = still
+  param_still (Some i) v z = node_still (id (v.first.0 + i)) (node_at l.shared.graph.nodes (id (v.first.0 + i))) z refl
 
   pub order_still : (o : Option Voice) (name : Name) (z : LastOrder) → Unmoved l (at_shared l (order_voice o name z l.shared).shared)
-  order_still none name z = still
-  order_still (some v) name z = param_still (param_node (param_rows v.params) name) v z
+  order_still None name z = still
+  order_still (Some v) name z = param_still (param_node (param_rows v.params) name) v z
 
 -- ---- a report
-module _ (l : Ledger) (t : Tidy l) (j : NodeId) (x : Node) (found : node_at l.shared.graph.nodes j ≡ some x) (samples : List Float) (flag : Bool) where
+module _ (l : Ledger) (t : Tidy l) (j : NodeId) (x : Node) (found : node_at l.shared.graph.nodes j ≡ Some x) (samples : List Float) (flag : Bool) where
   abbrev y : Node
   y = with_report samples flag x
 
@@ -208,10 +205,10 @@ module _ (l : Ledger) (t : Tidy l) (j : NodeId) (x : Node) (found : node_at l.sh
     own_this : own_of ms' g ≡ report at samples flag (own_of ms g)
     own_this = ap₂ with_nodes (lv (eqb g.output.0 j.0) refl) (fun_ext fl)
       where
-        with_nodes : Level → (ℕ → Bool) → Own
+        with_nodes : Option Float → (ℕ → Bool) → Own
         with_nodes a f = record { number = g.sequence; rank = g.rank; birth = g.birth; port = g.port; count = g.count; output = g.output.0 - g.first.0; plan = g.plan; phase = phase_of g.state; level = a; flags = f }
 
-        lv : (c : Bool) → eqb g.output.0 j.0 ≡ c → node_level (node_at ms' g.output) ≡ cond (eqb at (g.output.0 - g.first.0)) (Known (level_of samples)) (node_level (node_at ms g.output))
+        lv : (c : Bool) → eqb g.output.0 j.0 ≡ c → node_level (node_at ms' g.output) ≡ cond (eqb at (g.output.0 - g.first.0)) (Some (level_of samples)) (node_level (node_at ms g.output))
         lv true c =
             let z : g.output.0 ≡ j.0 = eqb-true _ _ c in
             let q : eqb at (g.output.0 - g.first.0) ≡ true = eq-eqb at (g.output.0 - g.first.0) (omega arith) in

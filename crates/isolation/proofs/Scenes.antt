@@ -9,7 +9,7 @@ use mathlib.Core.Bool.{Bool, true, false, not, ◌&&◌}
 use lib.ListN.{length, drop}
 use lib.Ieee.{eq}
 use borrow.Author.Tests.{not-true}
-use Rattle.lists.specs.Filter.{filter}
+use Rattle.std.specs.Prelude.{filter, Some}
 use Rattle.lists.specs.Member.{In}
 use Rattle.lists.proofs.Member.{and_left, and_right}
 use Rattle.synthdef.specs.Plan.{settled}
@@ -18,7 +18,6 @@ use Rattle.rank.specs.Order.{among, fed, released, walk, order, whole, count_up}
 use Rattle.prepare.specs.Live.{rising_from, live_nodes, live_ids, processing_order}
 use Rattle.prepare.specs.Required.{any, lacks, lacking}
 use Rattle.prepare.specs.Prepare.{prepare}
-use Rattle.voice.specs.declared.policy.Budget.TheVariants.{AtMost}
 use Rattle.voice.specs.declared.policy.BudgetScope.{BudgetScope}
 use Rattle.voice.specs.declared.policy.StealPolicy.TheVariants.{Oldest}
 use Rattle.store.specs.declared.config.Config.{Config}
@@ -34,7 +33,7 @@ use Rattle.isolation.specs.Isolated.{full_in, Isolation}
 use Rattle.isolation.proofs.Theorem.{isolated}
 
 abbrev c : BudgetScope → Config
-c s = config (AtMost 2) Oldest s
+c s = config (Some 2) Oldest s
 
 pub busy : List Call
 busy =

@@ -2,16 +2,14 @@
 use Prim.Native.Nat.{ℕ, zero, suc, ◌≤◌, ◌<◌}
 use native.Mathlib.Omega.{arith}
 use mathlib.Core.Path.{◌≡◌, refl, sym, ap, ap₂, ◌∙◌, subst}
-use mathlib.Core.Option.{Option, none, some}
+use Rattle.std.specs.Prelude.{Option, None, Some, filter, find, option_map}
 use mathlib.Core.Bool.{Bool, true, false, not, cond, true≢false}
 use lib.Dec.{eqb, ltb}
 use lib.ListN.{length, length-map}
 use borrow.Author.Tests.{ne_eqb}
 use Rattle.lists.specs.Member.{In}
 use Rattle.lists.proofs.Member.{and_right}
-use Rattle.lists.specs.Filter.{filter}
 use Rattle.lists.proofs.Filter.{length_filter}
-use Rattle.lists.specs.Find.{find, map_o}
 use Rattle.node.specs.declared.record.NodeId.{NodeId}
 use Rattle.node.specs.declared.record.Node.{Node}
 use Rattle.node.specs.declared.refusal.Refusal.{Refusal}
@@ -20,8 +18,6 @@ use Rattle.graph.specs.Node.{node_at, ports_of}
 use Rattle.graph.specs.Refuse.{when, host_test}
 use Rattle.voice.specs.Policy.{admits}
 use Rattle.voice.specs.declared.policy.BudgetScope.TheVariants.{PerGroup}
-use Rattle.voice.specs.declared.policy.Budget.{Budget}
-use Rattle.voice.specs.declared.policy.Budget.TheVariants.{Unlimited, AtMost}
 use Rattle.voice.specs.declared.policy.Admission.{Admission}
 use Rattle.voice.specs.declared.policy.Admission.TheVariants as admission
 use Rattle.synthdef.specs.Limits.{allowed}
@@ -59,50 +55,50 @@ cut_on l t g i s k on = removed_on _ (tidy_steals l (reclaim_log g s l.shared) t
 
 -- ---- the search for a port
 module _ (spawn : Spawn) (ok : allowed spawn.def ≡ true) (m : BusPorts) where
-  instantiates : (l : Ledger) → Tidy l → ports_now spawn.bus l.shared.graph.nodes ≡ some m → (s : VoiceState) (p : ℕ) → port_free spawn.bus l ≡ some p → spawned_of spawn.bus (instantiate spawn s p l) ≡ bus.instantiate spawn.def spawn.rank (phase_of s) p (bus_of spawn.bus l)
+  instantiates : (l : Ledger) → Tidy l → ports_now spawn.bus l.shared.graph.nodes ≡ Some m → (s : VoiceState) (p : ℕ) → port_free spawn.bus l ≡ Some p → spawned_of spawn.bus (instantiate spawn s p l) ≡ bus.instantiate spawn.def spawn.rank (phase_of s) p (bus_of spawn.bus l)
   instantiates l t ports s p e =
-      ap (λ b. record { answer = none; bus = b })
+      ap (λ b. record { answer = None; bus = b })
       (instantiate_on l t spawn ok s p
       (subst (λ n. p < n) (ports_are (node_at l.shared.graph.nodes spawn.bus) (is_host (node_at l.shared.graph.nodes spawn.bus) m ports)) (let q = lowest_below (ports_of (node_at l.shared.graph.nodes spawn.bus)) (λ z. not (is_held (l.holders spawn.bus.0 z))) 0 p e in omega arith)))
 
-  pub place_same : (s : VoiceState) (n : ℕ) (l : Ledger) → Tidy l → ports_now spawn.bus l.shared.graph.nodes ≡ some m → spawned_of spawn.bus (place n spawn s l) ≡ bus.place n spawn.def spawn.rank (phase_of s) (bus_of spawn.bus l)
+  pub place_same : (s : VoiceState) (n : ℕ) (l : Ledger) → Tidy l → ports_now spawn.bus l.shared.graph.nodes ≡ Some m → spawned_of spawn.bus (place n spawn s l) ≡ bus.place n spawn.def spawn.rank (phase_of s) (bus_of spawn.bus l)
   place_same s zero l t ports =
-      go (port_free spawn.bus l) refl ∙ ap (λ o. bus.instantiate_or o none spawn.def spawn.rank (phase_of s) (bus_of spawn.bus l) (bus.turned NoPort)) (free_same l t spawn.bus (is_host (node_at l.shared.graph.nodes spawn.bus) m ports))
+      go (port_free spawn.bus l) refl ∙ ap (λ o. bus.instantiate_or o None spawn.def spawn.rank (phase_of s) (bus_of spawn.bus l) (bus.turned NoPort)) (free_same l t spawn.bus (is_host (node_at l.shared.graph.nodes spawn.bus) m ports))
     where
-      go : (o : Option ℕ) → port_free spawn.bus l ≡ o → spawned_of spawn.bus (instantiate_or o none spawn s l (refused NoPort)) ≡ bus.instantiate_or o none spawn.def spawn.rank (phase_of s) (bus_of spawn.bus l) (bus.turned NoPort)
-      go (some p) e = instantiates l t ports s p e
-      go none e = refl
+      go : (o : Option ℕ) → port_free spawn.bus l ≡ o → spawned_of spawn.bus (instantiate_or o None spawn s l (refused NoPort)) ≡ bus.instantiate_or o None spawn.def spawn.rank (phase_of s) (bus_of spawn.bus l) (bus.turned NoPort)
+      go (Some p) e = instantiates l t ports s p e
+      go None e = refl
   place_same s (suc n) l t ports =
       go (port_free spawn.bus l) refl (next_out l.shared spawn.bus spawn.rank l.voices) refl (place_same s n)
       ∙ ap₂ (λ o u. bus.instantiate_or o u spawn.def spawn.rank (phase_of s) (bus_of spawn.bus l) (λ z. bus.place n spawn.def spawn.rank (phase_of s) z)) (free_same l t spawn.bus (is_host (node_at l.shared.graph.nodes spawn.bus) m ports)) (next_same l t spawn.bus spawn.rank)
     where
       go : (o : Option ℕ) → port_free spawn.bus l ≡ o → (u : Option Voice) → next_out l.shared spawn.bus spawn.rank l.voices ≡ u
-          → ((l : Ledger) → Tidy l → ports_now spawn.bus l.shared.graph.nodes ≡ some m → spawned_of spawn.bus (place n spawn s l) ≡ bus.place n spawn.def spawn.rank (phase_of s) (bus_of spawn.bus l))
-          → spawned_of spawn.bus (instantiate_or o u spawn s l (λ z. place n spawn s z)) ≡ bus.instantiate_or o (map_o (own_of l.shared.graph.nodes) u) spawn.def spawn.rank (phase_of s) (bus_of spawn.bus l) (λ z. bus.place n spawn.def spawn.rank (phase_of s) z)
-      go (some p) e u f ih = instantiates l t ports s p e
-      go none e none f ih = refl
-      go none e (some v) f ih =
+          → ((l : Ledger) → Tidy l → ports_now spawn.bus l.shared.graph.nodes ≡ Some m → spawned_of spawn.bus (place n spawn s l) ≡ bus.place n spawn.def spawn.rank (phase_of s) (bus_of spawn.bus l))
+          → spawned_of spawn.bus (instantiate_or o u spawn s l (λ z. place n spawn s z)) ≡ bus.instantiate_or o (option_map (own_of l.shared.graph.nodes) u) spawn.def spawn.rank (phase_of s) (bus_of spawn.bus l) (λ z. bus.place n spawn.def spawn.rank (phase_of s) z)
+      go (Some p) e u f ih = instantiates l t ports s p e
+      go None e None f ih = refl
+      go None e (Some v) f ih =
           let r = next_out_in t.own.0 l.shared spawn.bus spawn.rank v f in
           ih (cut_off v v.state l) (tidy_cut l t v r.0 v.state) (cut_ports l t v r.0 v.state spawn.bus ∙ ports)
           ∙ ap (bus.place n spawn.def spawn.rank (phase_of s)) (cut_on l t v r.0 v.state spawn.bus (and_right (may_go spawn.rank v) _ r.1))
 
-  pub budgeted_same : (l : Ledger) → Tidy l → ports_now spawn.bus l.shared.graph.nodes ≡ some m → spawned_of spawn.bus (place_within_budget spawn l) ≡ bus.place_within_budget spawn.def spawn.rank (bus_of spawn.bus l)
+  pub budgeted_same : (l : Ledger) → Tidy l → ports_now spawn.bus l.shared.graph.nodes ≡ Some m → spawned_of spawn.bus (place_within_budget spawn l) ≡ bus.place_within_budget spawn.def spawn.rank (bus_of spawn.bus l)
   budgeted_same l t ports = go l.shared.config.budget
     where
       fewer : length (bus_of spawn.bus l).voices ≤ length l.voices
       fewer = let a = length-map (filter (is_on spawn.bus) l.voices) (own_of l.shared.graph.nodes) in let b = length_filter (is_on spawn.bus) l.voices in omega arith
 
-      go : (c : Budget) → spawned_of spawn.bus (place (tries c l.voices) spawn (state_under c) l) ≡ bus.place (bus.tries c (bus_of spawn.bus l).voices) spawn.def spawn.rank (bus.phase_under c) (bus_of spawn.bus l)
-      go Unlimited = place_same Loose 0 l t ports
-      go (AtMost n) = place_same Tracked (length l.voices) l t ports ∙ enough spawn.def spawn.rank story.held (length l.voices) (length (bus_of spawn.bus l).voices) (bus_of spawn.bus l) fewer (omega arith)
+      go : (c : Option ℕ) → spawned_of spawn.bus (place (tries c l.voices) spawn (state_under c) l) ≡ bus.place (bus.tries c (bus_of spawn.bus l).voices) spawn.def spawn.rank (bus.phase_under c) (bus_of spawn.bus l)
+      go None = place_same Loose 0 l t ports
+      go (Some n) = place_same Tracked (length l.voices) l t ports ∙ enough spawn.def spawn.rank story.held (length l.voices) (length (bus_of spawn.bus l).voices) (bus_of spawn.bus l) fewer (omega arith)
 
 -- ---- the steal
 pub steal_same : (l : Ledger) → Tidy l → (g : Voice) → In g l.voices → (k : NodeId) → is_on k g ≡ true → bus_of k (steal_voice g l) ≡ bus.steal g.sequence (bus_of k l)
 steal_same l t g i k on = go (port_held g l) ∙ ap (λ o. bus.stolen g.sequence o (bus_of k l)) (held_same l t k g i on)
   where
     go : (o : Option ℕ) → bus_of k (stolen g o l) ≡ bus.stolen g.sequence o (bus_of k l)
-    go none = cut_on l t g i Tracked k on
-    go (some p) = fade_on l t g i p k on
+    go None = cut_on l t g i Tracked k on
+    go (Some p) = fade_on l t g i p k on
 
 -- ---- admission
 module _ (l : Ledger) (t : Tidy l) (per : l.shared.config.scope ≡ PerGroup) (spawn : Spawn) (x : Meets l.shared spawn) where
@@ -130,25 +126,25 @@ module _ (l : Ledger) (t : Tidy l) (per : l.shared.config.scope ≡ PerGroup) (s
 
 -- ---- the table of refusals, where it is not 7 or 8
 abbrev pub refusal_from : Bool → Bool → Option Node → Bool → Bool → Option Refusal
-refusal_from z a n h i = when z RankTooHigh (when (not a) DefinitionLimits (or_else (host_test n) (when (eqb (ports_of n) 0) BusWithoutPorts (when h TableFull (when i IdsUsedUp none)))))
+refusal_from z a n h i = when z RankTooHigh (when (not a) DefinitionLimits (or_else (host_test n) (when (eqb (ports_of n) 0) BusWithoutPorts (when h TableFull (when i IdsUsedUp None)))))
 
 module _ (l : Ledger) (k : NodeId) (r : SpawnResult) (r' : bus.SpawnResult) where
   abbrev Goal : Option Refusal → bus.SpawnResult → Type 0
-  Goal o q = (o ≡ none → spawned_of k r ≡ r') → full_in (not_spawned (ledger.unless o l r).answer) ≡ false → spawned_of k (ledger.unless o l r) ≡ q
+  Goal o q = (o ≡ None → spawned_of k r ≡ r') → full_in (not_spawned (ledger.unless o l r).answer) ≡ false → spawned_of k (ledger.unless o l r) ≡ q
 
   guard : (z a : Bool) (n : Option Node) (h i : Bool) → Goal (refusal_from z a n h i) (cond z (bus.turned RankTooHigh (bus_of k l)) (cond a (bus.no_bus (host_ports n) (bus_of k l) r') (bus.turned DefinitionLimits (bus_of k l))))
   guard true a n h i f c = refl
   guard false false n h i f c = refl
-  guard false true none h i f c = refl
-  guard false true (some x) h i f c = at (eqb x.owner.0 0) x.ports x.noise h i f c
+  guard false true None h i f c = refl
+  guard false true (Some x) h i f c = at (eqb x.owner.0 0) x.ports x.noise h i f c
     where
       at : (z : Bool) (p y : ℕ) (h i : Bool)
-          → Goal (or_else (when (not z) VoiceNode none) (when (eqb p 0) BusWithoutPorts (when h TableFull (when i IdsUsedUp none)))) (bus.no_bus (cond z (some (record { ports = p; noise = y })) none) (bus_of k l) r')
+          → Goal (or_else (when (not z) VoiceNode None) (when (eqb p 0) BusWithoutPorts (when h TableFull (when i IdsUsedUp None)))) (bus.no_bus (cond z (Some (record { ports = p; noise = y })) None) (bus_of k l) r')
       at false p y h i f c = refl
       at true zero y h i f c = refl
       at true (suc p) y h i f c = inner (eqb (suc p) 0) (ne_eqb (suc p) 0 (λ e. omega (arith, e))) h i f c
         where
-          inner : (y : Bool) → y ≡ false → (h i : Bool) → Goal (when y BusWithoutPorts (when h TableFull (when i IdsUsedUp none))) r'
+          inner : (y : Bool) → y ≡ false → (h i : Bool) → Goal (when y BusWithoutPorts (when h TableFull (when i IdsUsedUp None))) r'
           inner true e h i f c = absurd (true≢false e)
           inner false e true i f c = absurd (true≢false c)
           inner false e false true f c = absurd (true≢false c)

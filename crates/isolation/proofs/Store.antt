@@ -3,9 +3,8 @@
 use Prim.Native.Nat.{ℕ, ◌*◌}
 use mathlib.Core.Path.{◌≡◌, refl, sym, ap, ap₂, ◌∙◌}
 use mathlib.Core.List.{List, map}
-use mathlib.Core.Option.{some}
+use Rattle.std.specs.Prelude.{Some, filter}
 use Rattle.lists.proofs.Member.{map_same}
-use Rattle.lists.specs.Filter.{filter}
 use Rattle.lists.proofs.Filter.{filter_map}
 use Rattle.node.specs.declared.record.NodeId.{NodeId}
 use Rattle.store.specs.declared.voices.Voice.{Voice}
@@ -32,7 +31,7 @@ scaled block loose = loose
 abbrev scale : ℕ → BusVoice → StoreVoice
 scale block x = record { number = x.number; rank = x.rank; birth = x.birth; port = x.port; phase = scaled block x.phase; level = x.level }
 
-from_ledger : (k : Making) (m : Model) → make k ≡ some m → (xs : List Call) (b : NodeId)
+from_ledger : (k : Making) (m : Model) → make k ≡ Some m → (xs : List Call) (b : NodeId)
     → store_voices b (after m xs) ≡ map (scale (config_of k).block) (map (bus_voice (ledger_after (config_of k) xs)) (voices_on b (ledger_after (config_of k) xs)))
 from_ledger k m made xs b =
     let a = claim k m made xs in

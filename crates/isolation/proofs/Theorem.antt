@@ -3,14 +3,13 @@ use Prim.Native.Nat.{ℕ, zero, suc}
 use mathlib.Core.Path.{◌≡◌, refl, sym, ap, ap₂, ◌∙◌, subst}
 use mathlib.Core.Logic.{inl, inr}
 use mathlib.Core.List.{List, [], ◌∷◌, ◌++◌, map, append_assoc, append-nil}
-use mathlib.Core.Option.{Option, none, some}
+use Rattle.std.specs.Prelude.{Option, None, Some, is_some, option_map}
 use mathlib.Core.Bool.{Bool, true, false, cond, true≢false}
 use lib.Dec.{eqb}
 use lib.ListN.{length, length-map}
 use borrow.Author.Tests.{eqb-true}
 use Rattle.lists.specs.Member.{In}
 use Rattle.lists.proofs.Member.{some_inj, none_some}
-use Rattle.lists.specs.Find.{is_some, map_o}
 use Rattle.node.specs.declared.record.NodeId.{NodeId}
 use Rattle.node.specs.declared.refusal.Refusal.{Refusal}
 use Rattle.graph.specs.Refuse.{add_refusal, host_refusal, disconnect_refusal, connect_refusal}
@@ -18,7 +17,6 @@ use Rattle.graph.specs.Node.{node_at}
 use Rattle.voice.specs.Steals.{StealLog}
 use Rattle.voice.specs.declared.policy.BudgetScope.TheVariants.{PerGroup}
 use Rattle.voice.specs.declared.steals.StealRecord.{StealRecord}
-use Rattle.voice.specs.declared.steals.StealFound.TheVariants as found
 use Rattle.store.specs.declared.config.Config.{Config}
 use Rattle.store.specs.declared.voices.Voice.{Voice}
 use Rattle.model.specs.Refuse.{report_refusal}
@@ -49,8 +47,8 @@ use Rattle.isolation.proofs.Follows.{Follow, goes, tidy_new, bus_new, tales, end
 
 -- ---- one call
 abbrev written? : Option Entry → Bus → List HeldRecord → List HeldRecord
-written? none m ks = ks
-written? (some e) m ks = apply (log e m) ks
+written? None m ks = ks
+written? (Some e) m ks = apply (log e m) ks
 
 abbrev At : Item → ℕ
 At x = x.at
@@ -68,14 +66,14 @@ module _ (m : Bus) (ks : List HeldRecord) where
   if_quiet false e h = refl
 
   done_quiet : (o : Option Refusal) (en : Option Entry) → written? en m ks ≡ ks → written? (if_done o en) m ks ≡ ks
-  done_quiet none en h = h
-  done_quiet (some r) en h = refl
+  done_quiet None en h = h
+  done_quiet (Some r) en h = refl
 
   bus_quiet : (b : NodeId) (f : Voice → Entry) → ((v : Voice) → log (f v) m ≡ []) → (o : Option Voice) → written? (on_bus b f o) m ks ≡ ks
-  bus_quiet b f h none = refl
-  bus_quiet b f h (some v) = if_quiet (is_on b v) (f v) (h v)
+  bus_quiet b f h None = refl
+  bus_quiet b f h (Some v) = if_quiet (is_on b v) (f v) (h v)
 
-  lost_quiet : (c : Bool) (ps : List ℕ) → written? (cond c (some story.closed) (lost_if ps)) m ks ≡ ks
+  lost_quiet : (c : Bool) (ps : List ℕ) → written? (cond c (Some story.closed) (lost_if ps)) m ks ≡ ks
   lost_quiet true ps = refl
   lost_quiet false [] = refl
   lost_quiet false (p ∷ ps) = refl
@@ -170,23 +168,23 @@ recs b (x ∷ xs) l ts t r per c z =
 
     go : (en : Option Entry) → Follow en (step x l).answer (bus_of b l') (bus_of b l)
         → records_of (story b xs l') (bus_of b l') (written? en (bus_of b l) (map strip ts)) ≡ records_of (write en (story b xs l')) (bus_of b l) (map strip ts)
-    go none f = ap (λ m. records_of (story b xs l') m (map strip ts)) f
-    go (some e) f = ap (λ (m : bus.SpawnResult). records_of (story b xs l') m.bus (apply (log e (bus_of b l)) (map strip ts))) f
+    go None f = ap (λ m. records_of (story b xs l') m (map strip ts)) f
+    go (Some e) f = ap (λ (m : bus.SpawnResult). records_of (story b xs l') m.bus (apply (log e (bus_of b l)) (map strip ts))) f
 
 -- ---- the j-th
-nth_map : {A B : Type 0} (f : A → B) (j : ℕ) (l : List A) → nth j (map f l) ≡ map_o f (nth j l)
+nth_map : {A B : Type 0} (f : A → B) (j : ℕ) (l : List A) → nth j (map f l) ≡ option_map f (nth j l)
 nth_map f j [] = refl
 nth_map f zero (x ∷ l) = refl
 nth_map f (suc j) (x ∷ l) = nth_map f j l
 
-nth_in : {A : Type 0} (j : ℕ) (l : List A) (x : A) → nth j l ≡ some x → In x l
+nth_in : {A : Type 0} (j : ℕ) (l : List A) (x : A) → nth j l ≡ Some x → In x l
 nth_in j [] x e = absurd (none_some e)
 nth_in zero (y ∷ l) x e = inl (sym (some_inj e))
 nth_in (suc j) (y ∷ l) x e = inr (nth_in j l x e)
 
-map_o_some : {A B : Type 0} (f : A → B) (o : Option A) (y : B) → map_o f o ≡ some y → (x : A) × (o ≡ some x) × (f x ≡ y)
-map_o_some f none y e = absurd (none_some e)
-map_o_some f (some x) y e = (x, refl, some_inj e)
+map_o_some : {A B : Type 0} (f : A → B) (o : Option A) (y : B) → option_map f o ≡ Some y → (x : A) × (o ≡ Some x) × (f x ≡ y)
+map_o_some f None y e = absurd (none_some e)
+map_o_some f (Some x) y e = (x, refl, some_inj e)
 
 -- ---- the theorem
 pub isolated : Isolated
@@ -212,15 +210,15 @@ isolated c per b₁ b₂ xs₁ xs₂ k₁ k₂ e =
     same : map strip r₁.items ≡ map strip r₂.items
     same = r₁.strips ∙ ap₂ (λ s m. records_of s m []) e (bus_new b₁ c ∙ sym (bus_new b₂ c)) ∙ sym r₂.strips
 
-    records : (j n₁ n₂ : ℕ) (s₁ s₂ : StealRecord) → nth j (written b₁ xs₁ (new_ledger c)) ≡ some n₁ → nth j (written b₂ xs₂ (new_ledger c)) ≡ some n₂
-        → held_record (run xs₁ (new_ledger c)).ledger.shared.steals n₁ ≡ found.Record s₁ → held_record (run xs₂ (new_ledger c)).ledger.shared.steals n₂ ≡ found.Record s₂ → s₁ ≡ s₂
+    records : (j n₁ n₂ : ℕ) (s₁ s₂ : StealRecord) → nth j (written b₁ xs₁ (new_ledger c)) ≡ Some n₁ → nth j (written b₂ xs₂ (new_ledger c)) ≡ Some n₂
+        → held_record (run xs₁ (new_ledger c)).ledger.shared.steals n₁ ≡ Some s₁ → held_record (run xs₂ (new_ledger c)).ledger.shared.steals n₂ ≡ Some s₂ → s₁ ≡ s₂
     records j n₁ n₂ s₁ s₂ w₁ w₂ h₁ h₂ =
         let x = map_o_some At (nth j r₁.items) n₁ (sym (nth_map At j r₁.items) ∙ ap (nth j) r₁.ats ∙ w₁) in
         let y = map_o_some At (nth j r₂.items) n₂ (sym (nth_map At j r₂.items) ∙ ap (nth j) r₂.ats ∙ w₂) in
         let a : x.0.what ≡ s₁ = r₁.logged.same x.0 (nth_in j r₁.items x.0 x.1) s₁ (ap (held_record (run xs₁ (new_ledger c)).ledger.shared.steals) x.2 ∙ h₁) in
         let d : y.0.what ≡ s₂ = r₂.logged.same y.0 (nth_in j r₂.items y.0 y.1) s₂ (ap (held_record (run xs₂ (new_ledger c)).ledger.shared.steals) y.2 ∙ h₂) in
-        let both : some (strip x.0) ≡ some (strip y.0) =
-        ap (map_o strip) (sym x.1) ∙ sym (nth_map strip j r₁.items) ∙ ap (nth j) same ∙ nth_map strip j r₂.items ∙ ap (map_o strip) y.1 in
+        let both : Some (strip x.0) ≡ Some (strip y.0) =
+        ap (option_map strip) (sym x.1) ∙ sym (nth_map strip j r₁.items) ∙ ap (nth j) same ∙ nth_map strip j r₂.items ∙ ap (option_map strip) y.1 in
         sym a ∙ ap (λ (k : HeldRecord). k.what) (some_inj both) ∙ d
 
 -- ---- and of what agrees up to a matching of ids

@@ -1,19 +1,18 @@
 -- Frees, clearing calls and renders.
+use Rattle.node.specs.declared.refusal.Refusal.{Refusal}
 use Prim.Native.Nat.{ℕ, suc, ◌+◌, ◌≤◌, ◌<◌, min}
 use native.Mathlib.Omega.{arith}
 use native.Mathlib.Nat.{min-le_left}
 use mathlib.Core.Path.{◌≡◌, refl, sym, ap, ap₂, ◌∙◌, subst, fun_ext}
 use mathlib.Core.Logic.{inl, inr}
 use mathlib.Core.List.{List, [], ◌∷◌, map}
-use mathlib.Core.Option.{Option, none, some}
+use Rattle.std.specs.Prelude.{Option, None, Some, filter, find, option_map, Result, Err, Ok}
 use mathlib.Core.Bool.{Bool, true, false, not, cond}
 use lib.Dec.{ltb}
 use borrow.Author.Tests.{ne_eqb, lt-ltb}
 use Rattle.lists.specs.Member.{In}
 use Rattle.lists.proofs.Member.{in_map, in_of_map, map_same}
-use Rattle.lists.specs.Filter.{filter, put?}
 use Rattle.lists.proofs.Filter.{in_filter, filter_in, filter_map}
-use Rattle.lists.specs.Find.{find, map_o}
 use Rattle.lists.proofs.Find.{find_in, find_map}
 use Rattle.lists.specs.Rising.{RisesFrom}
 use Rattle.lists.proofs.Rising.{rises_in, rises_filter}
@@ -22,8 +21,6 @@ use Rattle.node.specs.declared.record.NodeId.{NodeId}
 use Rattle.node.specs.declared.record.VoiceId.{VoiceId}
 use Rattle.node.specs.declared.record.Node.{Node}
 use Rattle.graph.specs.Node.{node_at}
-use Rattle.prepare.specs.declared.Readiness.{Readiness}
-use Rattle.prepare.specs.declared.Readiness.TheVariants.{Ready, Refused}
 use Rattle.scheduler.specs.Event.{param_order}
 use Rattle.scheduler.specs.declared.event.Event.{Event}
 use Rattle.synthdef.specs.Plan.{plan_silent}
@@ -56,12 +53,12 @@ abbrev pub numbers : NodeId → Option Voice → List ℕ
 numbers b o = meets b o []
 
 pub tidy_freed : (l : Ledger) → Tidy l → (o : Option Voice) (w : VoiceId) → voice_of w l ≡ o → Tidy (freed o l)
-tidy_freed l t none w e = t
-tidy_freed l t (some v) w e = tidy_removed l t v (find_in (is_voice w) l.voices v e).0
+tidy_freed l t None w e = t
+tidy_freed l t (Some v) w e = tidy_removed l t v (find_in (is_voice w) l.voices v e).0
 
 pub freed_same : (l : Ledger) → Tidy l → (o : Option Voice) (w : VoiceId) → voice_of w l ≡ o → (b : NodeId) (rest : List ℕ) → bus.free_all rest (bus_of b (freed o l)) ≡ bus.free_all (meets b o rest) (bus_of b l)
-freed_same l t none w e b rest = refl
-freed_same l t (some v) w e b rest = go (is_on b v) refl
+freed_same l t None w e b rest = refl
+freed_same l t (Some v) w e b rest = go (is_on b v) refl
   where
     i : In v l.voices
     i = (find_in (is_voice w) l.voices v e).0
@@ -89,7 +86,7 @@ all_same b ns [] n l t r sub = refl
 all_same b ns (g ∷ gs) n l t r sub =
     all_same b ns gs (suc g.id.0) (without_voice g.id l) (tidy_removed l t g (sub g (inl refl))) r.1 (stay_in l g gs n r sub) ∙ go (is_on b g) refl
   where
-    go : (c : Bool) → is_on b g ≡ c → bus.without_voices (map (own_of ns) (filter (is_on b) gs)) (bus_of b (without_voice g.id l)) ≡ bus.without_voices (map (own_of ns) (put? c g (filter (is_on b) gs))) (bus_of b l)
+    go : (c : Bool) → is_on b g ≡ c → bus.without_voices (map (own_of ns) (filter (is_on b) gs)) (bus_of b (without_voice g.id l)) ≡ bus.without_voices (map (own_of ns) (cond c (g ∷ (filter (is_on b) gs)) (filter (is_on b) gs))) (bus_of b l)
     go true on = ap (bus.without_voices (map (own_of ns) (filter (is_on b) gs))) (removed_on l t g (sub g (inl refl)) b on)
     go false off = ap (bus.without_voices (map (own_of ns) (filter (is_on b) gs))) (removed_off l t g (sub g (inl refl)) b off)
 
@@ -129,9 +126,9 @@ module _ (l : Ledger) (t : Tidy l) where
       ∙ ap (λ ws. bus.without_voices ws (bus_of b l)) (sym (among b l.shared.graph.nodes (λ v. bus.ended l.shared.config v.phase) (λ v. ended l.shared v.state) (λ v. ended_same l.shared v.state) l.voices)))
 
 -- ---- a render
-pub tidy_shared : (l : Ledger) → Tidy l → (r : Readiness) (o : List NodeId) → Unmoved l (at_shared l (ready_shared r o l.shared))
-tidy_shared l t Ready o = record { tidy = record { own = t.own; rows = t.rows; outs = t.outs; seated = t.seated; fresh = t.fresh; single = t.single; few = t.few; hosted = t.hosted }; same = λ b. refl }
-tidy_shared l t (Refused r) o = record { tidy = t; same = λ b. refl }
+pub tidy_shared : (l : Ledger) → Tidy l → (r : Result (Unit {0}) Refusal) (o : List NodeId) → Unmoved l (at_shared l (ready_shared r o l.shared))
+tidy_shared l t (Ok tt) o = record { tidy = record { own = t.own; rows = t.rows; outs = t.outs; seated = t.seated; fresh = t.fresh; single = t.single; few = t.few; hosted = t.hosted }; same = λ b. refl }
+tidy_shared l t (Err r) o = record { tidy = t; same = λ b. refl }
 
 pub tidy_events : (l : Ledger) → Tidy l → (q : List Event) → Tidy (at_shared l (with_events q l.shared))
 tidy_events l t q = record { own = t.own; rows = t.rows; outs = t.outs; seated = t.seated; fresh = t.fresh; single = t.single; few = t.few; hosted = t.hosted }
@@ -184,9 +181,9 @@ module _ (l : Ledger) (t : Tidy l) (a : Rendered) where
   seat_same (holder.host k) = refl
   seat_same (voice w) = ap seat_for (find_map step (is_voice w) (is_voice w) (λ v. refl) l.voices) ∙ go (find (is_voice w) l.voices)
     where
-      go : (o : Option Voice) → seat_for (map_o step o) ≡ seat_for o
-      go none = refl
-      go (some v) = refl
+      go : (o : Option Voice) → seat_for (option_map step o) ≡ seat_for o
+      go None = refl
+      go (Some v) = refl
 
   pub block_same : (b : NodeId) → bus_of b (block_of a l).ledger ≡ bus.block (is_sounding a) (bus_of b l)
   block_same b = go (is_sounding a)
@@ -224,7 +221,7 @@ module _ (l : Ledger) (t : Tidy l) (a : Rendered) where
       Single vs = (u v : Voice) → In u vs → In v vs → u.bus.0 ≡ v.bus.0 → u.sequence ≡ v.sequence → u ≡ v
 
       Hosted : List Voice → Type 0
-      Hosted vs = (v : Voice) → In v vs → (v.bus.0 < l.shared.graph.next) × ((n : Node) → node_at ns v.bus ≡ some n → (n.owner.0 ≡ 0) × (v.sequence < n.noise))
+      Hosted vs = (v : Voice) → In v vs → (v.bus.0 < l.shared.graph.next) × ((n : Node) → node_at ns v.bus ≡ Some n → (n.owner.0 ≡ 0) × (v.sequence < n.noise))
 
       over : (P : Voice → Type 0) → ((v : Voice) → P v → P (step v)) → ((v : Voice) → In v l.voices → P v) → (v : Voice) → In v (map step l.voices) → P v
       over P h f v i = let r = in_map step l.voices v i in subst P (sym r.2) (h r.0 (f r.0 r.1))
@@ -238,7 +235,7 @@ module _ (l : Ledger) (t : Tidy l) (a : Rendered) where
             let p = in_map step l.voices u i in
             let q = in_map step l.voices v j in
             p.2 ∙ ap step (t.single p.0 q.0 p.1 q.1 (sym (ap (λ (x : Voice). x.bus.0) p.2) ∙ e ∙ ap (λ (x : Voice). x.bus.0) q.2) (sym (ap (λ (x : Voice). x.sequence) p.2) ∙ f ∙ ap (λ (x : Voice). x.sequence) q.2)) ∙ sym q.2),
-        over (λ v. (v.bus.0 < l.shared.graph.next) × ((n : Node) → node_at ns v.bus ≡ some n → (n.owner.0 ≡ 0) × (v.sequence < n.noise))) (λ v h. h) t.hosted,
+        over (λ v. (v.bus.0 < l.shared.graph.next) × ((n : Node) → node_at ns v.bus ≡ Some n → (n.owner.0 ≡ 0) × (v.sequence < n.noise))) (λ v h. h) t.hosted,
       )
 
 -- prepared inside the render, or not

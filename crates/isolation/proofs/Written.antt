@@ -5,13 +5,12 @@ use native.Mathlib.Omega.{arith}
 use mathlib.Core.Path.{◌≡◌, refl, sym, ap, ◌∙◌, subst}
 use mathlib.Core.Logic.{inl, ⊎_elim}
 use mathlib.Core.List.{List, [], ◌∷◌, ◌++◌, map, append_assoc, append-nil}
-use mathlib.Core.Option.{Option, none, some}
+use Rattle.std.specs.Prelude.{Option, None, Some, filter}
 use mathlib.Core.Bool.{Bool, true, false, not, cond, true≢false}
 use lib.Dec.{eqb}
 use borrow.Author.Tests.{eqb-true, eqb-false, not-true}
 use Rattle.lists.specs.Member.{In}
 use Rattle.lists.proofs.Member.{in_snoc, in_left, in_right, map_append}
-use Rattle.lists.specs.Filter.{filter}
 use Rattle.lists.proofs.Filter.{in_filter}
 use Rattle.rank.specs.Order.{count_up}
 use Rattle.node.specs.declared.record.NodeId.{NodeId}
@@ -135,10 +134,10 @@ module _ (l : Ledger) (t : Tidy l) (r : RecordedOf l) (g : Voice) (i : In g l.vo
         is = ap (λ n. record { 0 = n }) (eqb-true _ _ on)
 
         go : (o : Option Node) → node_at l.shared.graph.nodes b ≡ o → UnderR (host_ports o) g.sequence
-        go none e = tt
-        go (some n) e = at (eqb n.owner.0 0)
+        go None e = tt
+        go (Some n) e = at (eqb n.owner.0 0)
           where
-            at : (c : Bool) → UnderR (cond c (some (room_of n)) none) g.sequence
+            at : (c : Bool) → UnderR (cond c (Some (room_of n)) None) g.sequence
             at true = ((t.hosted g i).1 n (ap (node_at l.shared.graph.nodes) is ∙ e)).1
             at false = tt
 

@@ -3,10 +3,8 @@
 -- Voice ids, node ids and record numbers may differ, and calls match up to these."
 -- Nothing here speaks of stories or of numbers of voices. Less is asked than the paper lets agree: refused calls of the host and refused reports change
 -- nothing and are left out, and so are prepares, values and glides.
-use Rattle.std.specs.Prelude.{ℕ, ◌+◌, ◌<◌, ◌≡◌, List, [], ◌∷◌, Bool, true, false, not, cond, ◌&&◌, ◌||◌, eqb, Float, length}
-use Rattle.std.proofs.Math.Option.{Option, none, some}
+use Rattle.std.specs.Prelude.{ℕ, ◌+◌, ◌<◌, ◌≡◌, List, [], ◌∷◌, Bool, true, false, not, cond, ◌&&◌, ◌||◌, eqb, Float, length, Option, None, Some, find, is_some, Result, Err, Ok}
 use Rattle.lists.specs.Member.{In}
-use Rattle.lists.specs.Find.{find, is_some}
 use Rattle.rank.specs.Order.{upto}
 use Rattle.node.specs.declared.record.NodeId.{NodeId}
 use Rattle.node.specs.declared.record.VoiceId.{VoiceId}
@@ -14,7 +12,6 @@ use Rattle.node.specs.declared.refusal.Refusal.{Refusal}
 use Rattle.graph.specs.Node.{node_at}
 use Rattle.graph.specs.Refuse.{add_refusal, host_refusal, disconnect_refusal, connect_refusal}
 use Rattle.scheduler.specs.declared.event.Event.{Event}
-use Rattle.store.specs.declared.answer.Spawned.{Spawned}
 use Rattle.store.specs.declared.config.Config.{Config}
 use Rattle.store.specs.declared.voices.Voice.{Voice}
 use Rattle.model.specs.Voice.{id, is_on}
@@ -54,8 +51,8 @@ abbrev pub accepted : Option Refusal → Bool
 accepted o = not (is_some o)
 
 abbrev pub on_it : NodeId → Option Voice → Bool
-on_it b none = false
-on_it b (some v) = is_on b v
+on_it b None = false
+on_it b (Some v) = is_on b v
 
 -- the host node k is a source of the bus: it holds one of its ports
 abbrev pub feeds : NodeId → NodeId → Ledger → Bool
@@ -98,9 +95,9 @@ EachVoice m (v ∷ vs) [] = ⊥
 EachVoice m (v ∷ vs) (w ∷ ws) = SameVoice m v w × EachVoice m vs ws
 
 -- the voice that a spawn let in, if it did
-abbrev pub arrived : Spawned → Ledger → Option Voice
-arrived (Spawned.Voice w) l = voice_of w l
-arrived (Spawned.Refused r) l = none
+abbrev pub arrived : Result VoiceId Refusal → Ledger → Option Voice
+arrived (Ok w) l = voice_of w l
+arrived (Err r) l = None
 
 abbrev pub let_in : SpawnResult → Option Voice
 let_in r = arrived r.answer r.ledger
@@ -108,9 +105,9 @@ let_in r = arrived r.answer r.ledger
 -- the matching pairs the voices that the two spawns let in, and the nodes of their definitions one by one. Whether both are let in is not asked: that is
 -- what the theorem says
 abbrev pub Arrive : Matching → Option Voice → Option Voice → Type 0
-Arrive m none o = Unit {0}
-Arrive m (some v) none = Unit {0}
-Arrive m (some v) (some w) = SameVoice m v.id w.id × ((i : ℕ) → i < v.count → SameNode m (id (v.first.0 + i)) (id (w.first.0 + i)))
+Arrive m None o = Unit {0}
+Arrive m (Some v) None = Unit {0}
+Arrive m (Some v) (Some w) = SameVoice m v.id w.id × ((i : ℕ) → i < v.count → SameNode m (id (v.first.0 + i)) (id (w.first.0 + i)))
 
 pub record SameSpawn (m : Matching) (x y : Spawn) : Type 0 where
   pub def : x.def ≡ y.def

@@ -1,15 +1,13 @@
 -- Paper 6's theorem, as a statement: "prove under `PerGroup`: two histories of stores made alike, which agree ..., give that bus the same
 -- admissions, victims by place among its own voices, ports, fades, seeds, and levels and cut marks of records still held in both.
 -- Voice ids, node ids and record numbers may differ, and calls match up to these."
-use Rattle.std.specs.Prelude.{ℕ, ◌≡◌, List, [], map, Bool, false, ◌||◌, length, eqb}
-use Rattle.std.proofs.Math.Option.{Option, none, some}
+use Rattle.std.specs.Prelude.{ℕ, ◌≡◌, List, [], map, Bool, false, ◌||◌, length, eqb, Option, None, Some}
 use Rattle.lists.specs.Member.{In}
 use Rattle.node.specs.declared.record.NodeId.{NodeId}
 use Rattle.node.specs.declared.refusal.Refusal.{Refusal}
 use Rattle.node.specs.Refusal.{number_of}
 use Rattle.voice.specs.declared.policy.BudgetScope.TheVariants.{PerGroup}
 use Rattle.voice.specs.declared.steals.StealRecord.{StealRecord}
-use Rattle.voice.specs.declared.steals.StealFound.TheVariants as found
 use Rattle.store.specs.declared.config.Config.{Config}
 use Rattle.model.proofs.Refused.{refusal_in}
 use Rattle.model.specs.Call.{Call, Answer}
@@ -24,8 +22,8 @@ abbrev pub is_full : Refusal → Bool
 is_full r = eqb (number_of r) 7 || eqb (number_of r) 8
 
 abbrev pub full_in : Option Refusal → Bool
-full_in none = false
-full_in (some r) = is_full r
+full_in None = false
+full_in (Some r) = is_full r
 
 abbrev pub Covered : List Call → Ledger → Type 0
 Covered xs l = (a : Answer) → In a (run xs l).answers → full_in (refusal_in a) ≡ false
@@ -40,8 +38,8 @@ pub record Isolation (c : Config) (b₁ b₂ : NodeId) (xs₁ xs₂ : List Call)
   -- as many steals; and the j-th record of the bus, where it is still held in both, is the same: sample, level and cut mark
   pub steals : length (written b₁ xs₁ (new_ledger c)) ≡ length (written b₂ xs₂ (new_ledger c))
   pub records : (j n₁ n₂ : ℕ) (r₁ r₂ : StealRecord)
-      → nth j (written b₁ xs₁ (new_ledger c)) ≡ some n₁ → nth j (written b₂ xs₂ (new_ledger c)) ≡ some n₂
-      → held_record (ledger_after c xs₁).shared.steals n₁ ≡ found.Record r₁ → held_record (ledger_after c xs₂).shared.steals n₂ ≡ found.Record r₂
+      → nth j (written b₁ xs₁ (new_ledger c)) ≡ Some n₁ → nth j (written b₂ xs₂ (new_ledger c)) ≡ Some n₂
+      → held_record (ledger_after c xs₁).shared.steals n₁ ≡ Some r₁ → held_record (ledger_after c xs₂).shared.steals n₂ ≡ Some r₂
       → r₁ ≡ r₂
 
 abbrev pub Isolated : Type 0

@@ -1,10 +1,7 @@
 -- Paper 6: what belongs to one bus. Its story: the calls of a history that are its own, in their order, without voice ids, node ids
 -- and record numbers. Its tale: what these calls gave it. `Isolation` of `Isolated` says that the story decides the tale.
 -- Voices are called by their noise sequence, which Paper 6 counts "for each bus, from 0": it is the voice's number on its bus.
-use Rattle.std.specs.Prelude.{ℕ, zero, suc, ◌-◌, List, [], ◌∷◌, ◌++◌, map, Bool, true, false, cond, not, ◌&&◌, eqb, length, Float}
-use Rattle.std.proofs.Math.Option.{Option, none, some}
-use Rattle.lists.specs.Filter.{filter, put?}
-use Rattle.lists.specs.Find.{find, is_some}
+use Rattle.std.specs.Prelude.{ℕ, zero, suc, ◌-◌, List, [], ◌∷◌, ◌++◌, map, Bool, true, false, cond, not, ◌&&◌, eqb, length, Float, Option, None, Some, filter, find, is_some}
 use Rattle.rank.specs.Order.{upto, count_up}
 use Rattle.node.specs.declared.record.NodeId.{NodeId}
 use Rattle.node.specs.declared.record.VoiceId.{VoiceId}
@@ -14,7 +11,6 @@ use Rattle.node.specs.Refusal.{number_of}
 use Rattle.graph.specs.Node.{node_at}
 use Rattle.graph.specs.Refuse.{add_refusal, host_refusal, disconnect_refusal, connect_refusal}
 use Rattle.scheduler.specs.declared.event.Event.{Event}
-use Rattle.voice.specs.declared.policy.Level.{Level}
 use Rattle.synthdef.specs.declared.def.SynthDef.{SynthDef}
 use Rattle.store.specs.declared.voices.Voice.{Voice}
 use Rattle.store.specs.declared.voices.VoiceState.{VoiceState}
@@ -55,19 +51,19 @@ pub data Entry : Type 0 where
 
 -- an entry unless the call is refused, or the test fails
 abbrev pub if_done : Option Refusal → Option Entry → Option Entry
-if_done none e = e
-if_done (some r) e = none
+if_done None e = e
+if_done (Some r) e = None
 
 abbrev pub if? : Bool → Entry → Option Entry
-if? b e = cond b (some e) none
+if? b e = cond b (Some e) None
 
 abbrev pub is_bus : NodeId → NodeId → Bool
 is_bus b k = eqb k.0 b.0
 
 -- a bus is a node of the host
 abbrev pub ports_if : Option Node → ℕ
-ports_if none = 0
-ports_if (some n) = cond (eqb n.owner.0 0) n.ports 0
+ports_if None = 0
+ports_if (Some n) = cond (eqb n.owner.0 0) n.ports 0
 
 abbrev pub ports_at : NodeId → Ledger → ℕ
 ports_at b l = ports_if (node_at l.shared.graph.nodes b)
@@ -77,25 +73,25 @@ abbrev pub held_by : NodeId → NodeId → Ledger → List ℕ
 held_by b k l = filter (λ p. by_host k (l.holders b.0 p)) (upto (ports_at b l))
 
 abbrev pub lost_if : List ℕ → Option Entry
-lost_if [] = none
-lost_if (p ∷ ps) = some (lost (p ∷ ps))
+lost_if [] = None
+lost_if (p ∷ ps) = Some (lost (p ∷ ps))
 
 -- the voice, if it is one of the bus
 abbrev pub on_bus : NodeId → (Voice → Entry) → Option Voice → Option Entry
-on_bus b f none = none
-on_bus b f (some v) = if? (is_on b v) (f v)
+on_bus b f None = None
+on_bus b f (Some v) = if? (is_on b v) (f v)
 
 abbrev pub voice_of : VoiceId → Ledger → Option Voice
 voice_of w l = find (is_voice w) l.voices
 
 abbrev pub owner_voice : Option Node → Ledger → Option Voice
-owner_voice none l = none
-owner_voice (some n) l = voice_of n.owner l
+owner_voice None l = None
+owner_voice (Some n) l = voice_of n.owner l
 
 -- "An event is a call of the bus whose voice it meets when taken, even if it was scheduled before that voice was let in."
 abbrev pub meets : NodeId → Option Voice → List ℕ → List ℕ
-meets b none rest = rest
-meets b (some v) rest = cond (is_on b v) (v.sequence ∷ rest) rest
+meets b None rest = rest
+meets b (Some v) rest = cond (is_on b v) (v.sequence ∷ rest) rest
 
 abbrev pub timed_frees : NodeId → List Event → Ledger → List ℕ
 timed_frees b [] l = []
@@ -106,7 +102,7 @@ timed_frees b (e ∷ q) l =
 abbrev pub entry : NodeId → Call → Ledger → Option Entry
 entry b (call.add_node kind ports required values glides) l =
     if_done (add_refusal l.shared.graph kind ports required) (if? (eqb l.shared.graph.next b.0) (opened ports))
-entry b (call.remove_node k) l = if_done (host_refusal l.shared.graph k) (cond (is_bus b k) (some closed) (lost_if (held_by b k l)))
+entry b (call.remove_node k) l = if_done (host_refusal l.shared.graph k) (cond (is_bus b k) (Some closed) (lost_if (held_by b k l)))
 entry b (call.connect a k p) l = if_done (connect_refusal l.shared.graph a k p) (if? (is_bus b k) (plugged p))
 entry b (call.disconnect k p) l = if_done (disconnect_refusal l.shared.graph k p) (if? (is_bus b k) (unplugged p))
 entry b (call.spawn_managed x) l = if? (is_bus b x.bus) (managed x.def (pans x.pan) x.rank)
@@ -115,17 +111,17 @@ entry b (call.free w) l = on_bus b (λ v. freed v.sequence) (voice_of w l)
 entry b (call.report k channels samples flag) l =
     if_done (report_refusal l.shared l.voices k channels (length samples))
     (on_bus b (λ v. reported v.sequence (k.0 - v.first.0) samples flag) (owner_voice (node_at l.shared.graph.nodes k) l))
-entry b call.clear l = some cleared
-entry b (call.render out) l = if_done (render_refusal l.shared (length out)) (some (rendered (timed_frees b (due l.shared) (rested l)) (is_sounding (render l).answer)))
-entry b (call.set_sink k) l = none
-entry b (call.order w name o) l = none
-entry b (call.schedule t w name a) l = none
-entry b call.prepare l = none
-entry b (call.ask q) l = none
+entry b call.clear l = Some cleared
+entry b (call.render out) l = if_done (render_refusal l.shared (length out)) (Some (rendered (timed_frees b (due l.shared) (rested l)) (is_sounding (render l).answer)))
+entry b (call.set_sink k) l = None
+entry b (call.order w name o) l = None
+entry b (call.schedule t w name a) l = None
+entry b call.prepare l = None
+entry b (call.ask q) l = None
 
 abbrev pub write : Option Entry → List Entry → List Entry
-write none es = es
-write (some e) es = e ∷ es
+write None es = es
+write (Some e) es = e ∷ es
 
 abbrev pub story : NodeId → List Call → Ledger → List Entry
 story b [] l = []
@@ -134,8 +130,8 @@ story b (x ∷ xs) l = write (entry b x l) (story b xs (step x l).ledger)
 -- ---- the tale: after each entry, what a spawn answered and the voices of the bus in their order
 -- "admissions": none if let in, else the number of the refusal; that the bus is no node of the host is one answer, 4 or 5
 abbrev pub shown : Option Refusal → Option ℕ
-shown none = none
-shown (some r) = some (cond (eqb (number_of r) 5) 4 (number_of r))
+shown None = None
+shown (Some r) = Some (cond (eqb (number_of r) 5) 4 (number_of r))
 
 -- "fades": since which clock, and after how many sounding renders
 pub data Phase : Type 0 where
@@ -156,7 +152,7 @@ pub record BusVoice : Type 0 where
   pub port : ℕ
   pub holds : Option ℕ
   pub phase : Phase
-  pub level : Level
+  pub level : Option Float
 
 abbrev pub bus_voice : Ledger → Voice → BusVoice
 bus_voice l v = record { number = v.sequence; rank = v.rank; birth = v.birth; port = v.port; holds = port_held v l; phase = phase_of v.state; level = voice_level l.shared v }
@@ -172,8 +168,8 @@ abbrev pub told : NodeId → Answer → Ledger → Told
 told b a l = record { answer = shown (refusal_in a); voices = map (bus_voice l) (voices_on b l) }
 
 abbrev pub tell : Option Entry → Told → List Told → List Told
-tell none t ts = ts
-tell (some e) t ts = t ∷ ts
+tell None t ts = ts
+tell (Some e) t ts = t ∷ ts
 
 abbrev pub tale : NodeId → List Call → Ledger → List Told
 tale b [] l = []
@@ -188,7 +184,7 @@ is_held loose = false
 abbrev pub victims : ℕ → List BusVoice → List BusVoice → List ℕ
 victims place [] after = []
 victims place (v ∷ vs) after =
-    put? (is_held v.phase && not (is_some (find (λ (w : BusVoice). eqb w.number v.number && is_held w.phase) after))) place (victims (suc place) vs after)
+    cond (is_held v.phase && not (is_some (find (λ (w : BusVoice). eqb w.number v.number && is_held w.phase) after))) (place ∷ (victims (suc place) vs after)) (victims (suc place) vs after)
 
 abbrev pub all_victims : List BusVoice → List Told → List (List ℕ)
 all_victims before [] = []
@@ -205,6 +201,6 @@ written b (x ∷ xs) l =
     cond (is_some (entry b x l)) (from_to l.shared.steals.count k.shared.steals.count) [] ++ written b xs k
 
 abbrev pub nth : {A : Type 0} → ℕ → List A → Option A
-nth i [] = none
-nth zero (x ∷ l) = some x
+nth i [] = None
+nth zero (x ∷ l) = Some x
 nth (suc i) (x ∷ l) = nth i l

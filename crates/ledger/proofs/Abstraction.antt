@@ -5,23 +5,17 @@ use native.Mathlib.Omega.{arith}
 use native.Mathlib.Nat.{zero-mul, suc-mul}
 use mathlib.Core.Path.{◌≡◌, refl, ap, ◌∙◌}
 use mathlib.Core.List.{List, [], ◌∷◌, map, map-map}
-use mathlib.Core.Option.{Option, none, some}
+use Rattle.std.specs.Prelude.{Option, None, Some, filter, find, option_map}
 use mathlib.Core.Bool.{Bool, true, false, cond, ◌&&◌}
 use lib.Dec.{leb}
 use lib.ListN.{length-map}
 use borrow.Author.Tests.{leb-true, leb-false, le-leb, lt-leb}
-use Rattle.lists.specs.Filter.{filter}
 use Rattle.lists.proofs.Filter.{filter_map}
-use Rattle.lists.specs.Find.{find, or?, map_o}
 use Rattle.lists.proofs.Find.{find_map}
 use Rattle.node.specs.declared.record.NodeId.{NodeId}
 use Rattle.node.specs.declared.record.VoiceId.{VoiceId}
 use Rattle.voice.specs.declared.policy.BudgetScope.{BudgetScope}
-use Rattle.voice.specs.declared.policy.Budget.{Budget}
-use Rattle.voice.specs.declared.policy.Budget.TheVariants.{Unlimited, AtMost}
-use Rattle.voice.specs.declared.policy.Victim.{Victim}
-use Rattle.voice.specs.declared.policy.Victim.TheVariants.{Nobody, Goes}
-use Rattle.voice.specs.Policy.{victim, admits, counts}
+use Rattle.voice.specs.Policy.{Victim, victim, admits, counts}
 use Rattle.store.specs.declared.voices.Voice.{Voice}
 use Rattle.store.specs.declared.voices.VoiceState.{VoiceState}
 use Rattle.store.specs.declared.voices.VoiceState.TheVariants.{Tracked, Fading, Loose}
@@ -80,46 +74,46 @@ module _ (more : ℕ → ℕ) where
   admits_same d bus r vs =
       ap (admits d.config.budget d.config.policy r) (candidates_same d (counted d.config.scope bus) (counted_same d.config.scope bus) vs)
 
-  pub find_stored : (w : VoiceId) (vs : List Voice) → find (is_voice w) (map (moved more) vs) ≡ map_o (moved more) (find (is_voice w) vs)
+  pub find_stored : (w : VoiceId) (vs : List Voice) → find (is_voice w) (map (moved more) vs) ≡ option_map (moved more) (find (is_voice w) vs)
   find_stored w vs = find_map (moved more) (is_voice w) (is_voice w) (λ v. refl) vs
 
   -- "reclaim the earliest-started fade of that bus ... else free the policy's victim among tracked voices of that bus"
-  earliest_same : (bus : NodeId) (vs : List Voice) → earliest (fades_on bus) (map (moved more) vs) ≡ map_o (moved more) (earliest (fades_on bus) vs)
+  earliest_same : (bus : NodeId) (vs : List Voice) → earliest (fades_on bus) (map (moved more) vs) ≡ option_map (moved more) (earliest (fades_on bus) vs)
   earliest_same bus [] = refl
   earliest_same bus (x ∷ vs) = rw (earliest_same bus vs, fading_same x.state) (go (earliest (fades_on bus) vs) (fades_on bus x))
     where
-      pick : (t : Bool) (y : Voice) → or? t (moved more x) (some (moved more y)) ≡ map_o (moved more) (or? t x (some y))
+      pick : (t : Bool) (y : Voice) → cond t (Some (moved more x)) (Some (moved more y)) ≡ option_map (moved more) (cond t (Some x) (Some y))
       pick true y = refl
       pick false y = refl
 
-      go : (o : Option Voice) (t : Bool) → earlier (map_o (moved more) o) t (moved more x) ≡ map_o (moved more) (earlier o t x)
-      go none true = refl
-      go none false = refl
-      go (some y) t = rw (start_same x.state, start_same y.state) (pick (t && leb (start_of x.state) (start_of y.state)) y)
+      go : (o : Option Voice) (t : Bool) → earlier (option_map (moved more) o) t (moved more x) ≡ option_map (moved more) (earlier o t x)
+      go None true = refl
+      go None false = refl
+      go (Some y) t = rw (start_same x.state, start_same y.state) (pick (t && leb (start_of x.state) (start_of y.state)) y)
 
-  voice_of_same : (u : Victim) (vs : List Voice) → voice_of u (map (moved more) vs) ≡ map_o (moved more) (voice_of u vs)
-  voice_of_same Nobody vs = refl
-  voice_of_same (Goes place w) vs = find_stored w vs
+  voice_of_same : (u : Victim) (vs : List Voice) → voice_of u (map (moved more) vs) ≡ option_map (moved more) (voice_of u vs)
+  voice_of_same None vs = refl
+  voice_of_same (Some (place, w)) vs = find_stored w vs
 
-  pub next_out_same : (d : SharedState) (bus : NodeId) (r : ℕ) (vs : List Voice) → next_out d bus r (map (moved more) vs) ≡ map_o (moved more) (next_out d bus r vs)
+  pub next_out_same : (d : SharedState) (bus : NodeId) (r : ℕ) (vs : List Voice) → next_out d bus r (map (moved more) vs) ≡ option_map (moved more) (next_out d bus r vs)
   next_out_same d bus r vs =
       ap (λ o. else_victim o (voice_of (victim d.config.policy r (candidates d (tracked_on bus) (map (moved more) vs))) (map (moved more) vs))) (earliest_same bus vs)
-      ∙ ap (λ c. else_victim (map_o (moved more) (earliest (fades_on bus) vs)) (voice_of (victim d.config.policy r c) (map (moved more) vs)))
+      ∙ ap (λ c. else_victim (option_map (moved more) (earliest (fades_on bus) vs)) (voice_of (victim d.config.policy r c) (map (moved more) vs)))
       (candidates_same d (tracked_on bus) (λ v. ap (λ b. b && is_on bus v) (tracked_same v.state)) vs)
-      ∙ ap (else_victim (map_o (moved more) (earliest (fades_on bus) vs))) (voice_of_same (victim d.config.policy r (candidates d (tracked_on bus) vs)) vs)
+      ∙ ap (else_victim (option_map (moved more) (earliest (fades_on bus) vs))) (voice_of_same (victim d.config.policy r (candidates d (tracked_on bus) vs)) vs)
       ∙ go (earliest (fades_on bus) vs) (voice_of (victim d.config.policy r (candidates d (tracked_on bus) vs)) vs)
     where
-      go : (o u : Option Voice) → else_victim (map_o (moved more) o) (map_o (moved more) u) ≡ map_o (moved more) (else_victim o u)
-      go none u = refl
-      go (some v) u = refl
+      go : (o u : Option Voice) → else_victim (option_map (moved more) o) (option_map (moved more) u) ≡ option_map (moved more) (else_victim o u)
+      go None u = refl
+      go (Some v) u = refl
 
-  pub tries_same : (b : Budget) (vs : List Voice) → tries b (map (moved more) vs) ≡ tries b vs
-  tries_same Unlimited vs = refl
-  tries_same (AtMost n) vs = length-map vs (moved more)
+  pub tries_same : (b : Option ℕ) (vs : List Voice) → tries b (map (moved more) vs) ≡ tries b vs
+  tries_same None vs = refl
+  tries_same (Some n) vs = length-map vs (moved more)
 
-  pub under_same : (b : Budget) → moved_state more (state_under b) ≡ state_under b
-  under_same Unlimited = refl
-  under_same (AtMost n) = refl
+  pub under_same : (b : Option ℕ) → moved_state more (state_under b) ≡ state_under b
+  under_same None = refl
+  under_same (Some n) = refl
 
 -- ---- positions
 module _ (block : ℕ) where

@@ -3,7 +3,7 @@ use Prim.Native.Nat.{ℕ, zero, suc, ◌+◌, ◌≤◌, ◌<◌}
 use native.Mathlib.Omega.{arith}
 use mathlib.Core.Path.{◌≡◌, refl, sym}
 use mathlib.Core.List.{List}
-use mathlib.Core.Option.{Option, none, some}
+use Rattle.std.specs.Prelude.{Option, None, Some}
 use mathlib.Core.Bool.{Bool, true, false, not, ◌||◌, true≢false}
 use lib.Dec.{eqb, ltb}
 use lib.ListN.{length}
@@ -22,13 +22,13 @@ use Rattle.store.specs.declared.voices.Voice.{Voice}
 use Rattle.model.specs.SharedState.{SharedState}
 use Rattle.model.specs.Refuse.{or_else, rank_limit, no_headroom, no_ids, spawn_refusal}
 
-pub when_none : (b : Bool) (r : Refusal) (o : Option Refusal) → when b r o ≡ none → (b ≡ false) × (o ≡ none)
+pub when_none : (b : Bool) (r : Refusal) (o : Option Refusal) → when b r o ≡ None → (b ≡ false) × (o ≡ None)
 when_none true r o h = absurd (none_some (sym h))
 when_none false r o h = (refl, h)
 
-or_else_none : (o r : Option Refusal) → or_else o r ≡ none → (o ≡ none) × (r ≡ none)
-or_else_none (some x) r h = absurd (none_some (sym h))
-or_else_none none r h = (refl, h)
+or_else_none : (o r : Option Refusal) → or_else o r ≡ None → (o ≡ None) × (r ≡ None)
+or_else_none (Some x) r h = absurd (none_some (sym h))
+or_else_none None r h = (refl, h)
 
 pub or_false : (a b : Bool) → (a || b) ≡ false → (a ≡ false) × (b ≡ false)
 or_false true b h = absurd (true≢false h)
@@ -36,14 +36,14 @@ or_false false b h = (refl, h)
 
 -- a live node of the host
 abbrev pub HostAt : List Node → NodeId → Type 0
-HostAt ns k = (n : Node) × (node_at ns k ≡ some n) × (n.owner.0 ≡ 0)
+HostAt ns k = (n : Node) × (node_at ns k ≡ Some n) × (n.owner.0 ≡ 0)
 
-pub host_at : (g : GraphView) (k : NodeId) → host_refusal g k ≡ none → HostAt g.nodes k
+pub host_at : (g : GraphView) (k : NodeId) → host_refusal g k ≡ None → HostAt g.nodes k
 host_at g k h = go (node_at g.nodes k) refl (when_none (dead (node_at g.nodes k)) UnknownNode _ h)
   where
-    go : (o : Option Node) → node_at g.nodes k ≡ o → (dead o ≡ false) × (when (of_voice o) VoiceNode none ≡ none) → HostAt g.nodes k
-    go none e r = absurd (true≢false r.0)
-    go (some n) e r = (n, e, eqb-true _ _ (not-false _ (when_none (of_voice (some n)) VoiceNode none r.1).0))
+    go : (o : Option Node) → node_at g.nodes k ≡ o → (dead o ≡ false) × (when (of_voice o) VoiceNode None ≡ None) → HostAt g.nodes k
+    go None e r = absurd (true≢false r.0)
+    go (Some n) e r = (n, e, eqb-true _ _ (not-false _ (when_none (of_voice (Some n)) VoiceNode None r.1).0))
 
 pub record Allowed (d : SharedState) (vs : List Voice) (def : SynthDef) (bus : NodeId) (rank : ℕ) : Type 0 where
   pub rank_low : rank ≤ 7
@@ -55,14 +55,14 @@ pub record Allowed (d : SharedState) (vs : List Voice) (def : SynthDef) (bus : N
   pub voices : length vs < 64
   pub ids_left : d.spawned < 18446744073709551615
 
-pub spawn_allowed : (d : SharedState) (vs : List Voice) (def : SynthDef) (bus : NodeId) (rank : ℕ) → spawn_refusal d vs def bus rank ≡ none → Allowed d vs def bus rank
+pub spawn_allowed : (d : SharedState) (vs : List Voice) (def : SynthDef) (bus : NodeId) (rank : ℕ) → spawn_refusal d vs def bus rank ≡ None → Allowed d vs def bus rank
 spawn_allowed d vs def bus rank h =
     let h₀ = when_none (ltb rank_limit rank) RankTooHigh _ h in
     let h₁ = when_none (not (allowed def)) DefinitionLimits _ h₀.1 in
     let h₂ = or_else_none (host_refusal d.graph bus) _ h₁.1 in
     let h₃ = when_none (eqb (ports_of (node_at d.graph.nodes bus)) 0) BusWithoutPorts _ h₂.1 in
     let h₄ = when_none (no_headroom d vs def) TableFull _ h₃.1 in
-    let h₅ = when_none (no_ids d def) IdsUsedUp none h₄.1 in
+    let h₅ = when_none (no_ids d def) IdsUsedUp None h₄.1 in
     let r = or_false (ltb 512 (length d.graph.nodes + def.nodes.count + 3)) _ h₄.0 in
     let s = or_false (ltb 1024 (length d.graph.edges + def.edges.count + 4)) _ r.1 in
     let t = or_false (ltb id_limit (d.graph.next + def.nodes.count + 3)) _ h₅.0 in

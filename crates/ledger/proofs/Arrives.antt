@@ -4,9 +4,8 @@ use native.Mathlib.Omega.{arith}
 use mathlib.Core.Path.{◌≡◌, refl, sym, ap, ◌∙◌, subst}
 use mathlib.Core.Logic.{inl}
 use mathlib.Core.List.{[], ◌∷◌}
-use mathlib.Core.Option.{Option, none, some}
+use Rattle.std.specs.Prelude.{Option, None, Some, find, Err, Ok}
 use borrow.Author.Tests.{eq-eqb}
-use Rattle.lists.specs.Find.{find}
 use Rattle.lists.specs.Member.{In}
 use Rattle.lists.proofs.Member.{in_right}
 use Rattle.node.specs.declared.record.NodeId.{NodeId}
@@ -14,7 +13,6 @@ use Rattle.node.specs.declared.record.VoiceId.{VoiceId}
 use Rattle.node.specs.declared.refusal.Refusal.{Refusal}
 use Rattle.voice.specs.declared.policy.Admission.{Admission}
 use Rattle.voice.specs.declared.policy.Admission.TheVariants as admission
-use Rattle.store.specs.declared.answer.Spawned.TheVariants as Spawned
 use Rattle.store.specs.declared.config.Config.{Config}
 use Rattle.store.specs.declared.voices.Voice.{Voice}
 use Rattle.store.specs.declared.voices.VoiceState.{VoiceState}
@@ -40,10 +38,10 @@ pub record ArrivesAt (bus : NodeId) (rank : ℕ) (s : VoiceState) (w : VoiceId) 
 
 module _ (spawn : Spawn) (s : VoiceState) (l : Ledger) where
   abbrev pub Comes : SpawnResult → Type 0
-  Comes r = (w : VoiceId) → r.answer ≡ Spawned.Voice w → ArrivesAt spawn.bus spawn.rank s w l r.ledger
+  Comes r = (w : VoiceId) → r.answer ≡ Ok w → ArrivesAt spawn.bus spawn.rank s w l r.ledger
 
   -- who is refused does not come
-  refused_comes : (n : Refusal) (l' : Ledger) → Comes (record { answer = Spawned.Refused n; ledger = l' })
+  refused_comes : (n : Refusal) (l' : Ledger) → Comes (record { answer = Err n; ledger = l' })
   refused_comes n l' w e = let z : ◌≡◌ {A = ℕ} 0 1 = cc in absurd (omega arith)
 
   place_comes : (n : ℕ) (z : Ledger) → z.shared.clock ≡ l.shared.clock → z.shared.spawned ≡ l.shared.spawned → Comes (place n spawn s z)
@@ -78,12 +76,12 @@ managed_comes x l = go (spawn_refusal l.shared l.voices x.def x.bus x.rank)
     steals v = at (port_held v l)
       where
         at : (o : Option ℕ) → Comes x s l (place_within_budget x (stolen v o l))
-        at none = budgeted (stolen v none l) refl refl refl
-        at (some p) = budgeted (stolen v (some p) l) refl refl refl
+        at None = budgeted (stolen v None l) refl refl refl
+        at (Some p) = budgeted (stolen v (Some p) l) refl refl refl
 
     victims : (o : Option Voice) → Comes x s l (steal_then o x l)
-    victims none = budgeted l refl refl refl
-    victims (some v) = steals v
+    victims None = budgeted l refl refl refl
+    victims (Some v) = steals v
 
     admits : (a : Admission) → Comes x s l (admitted a x l)
     admits admission.Admit = budgeted l refl refl refl
@@ -91,12 +89,12 @@ managed_comes x l = go (spawn_refusal l.shared l.voices x.def x.bus x.rank)
     admits (admission.Steal p w) = victims (find (is_voice w) l.voices)
 
     go : (o : Option Refusal) → Comes x s l (unless o l (admitted (admission_on x.bus x.rank l) x l))
-    go (some n) = refused_comes x s l n l
-    go none = admits (admission_on x.bus x.rank l)
+    go (Some n) = refused_comes x s l n l
+    go None = admits (admission_on x.bus x.rank l)
 
 pub loose_comes : (x : Spawn) (l : Ledger) → Comes x Loose l (spawn_loose x l)
 loose_comes x l = go (spawn_refusal l.shared l.voices x.def x.bus x.rank)
   where
     go : (o : Option Refusal) → Comes x Loose l (unless o l (place 0 x Loose l))
-    go (some n) = refused_comes x Loose l n l
-    go none = place_comes x Loose l 0 l refl refl
+    go (Some n) = refused_comes x Loose l n l
+    go None = place_comes x Loose l 0 l refl refl

@@ -4,19 +4,16 @@ use Prim.Native.Nat.{ℕ}
 use mathlib.Core.Path.{◌≡◌, refl, sym, ap, ◌∙◌, subst}
 use mathlib.Core.Logic.{◌⊎◌, inl, inr, ⊎_elim}
 use mathlib.Core.List.{List, [], ◌∷◌, ◌++◌}
-use mathlib.Core.Option.{Option, none, some}
+use Rattle.std.specs.Prelude.{Option, None, Some, find, Result, Err, Ok}
 use mathlib.Core.Bool.{Bool, true, false, not, cond}
 use lib.ListN.{length}
 use Rattle.lists.specs.Member.{In}
 use Rattle.lists.proofs.Member.{in_snoc, and_left}
-use Rattle.lists.specs.Find.{find}
 use Rattle.lists.proofs.Filter.{in_filter}
 use Rattle.lists.specs.Count.{more}
 use Rattle.node.specs.declared.refusal.Refusal.{Refusal}
 use Rattle.node.specs.declared.refusal.Refusal.TheVariants.{Rejected, NoPort}
 use Rattle.graph.specs.Refuse.{add_refusal, host_refusal, disconnect_refusal, connect_refusal}
-use Rattle.prepare.specs.declared.Readiness.{Readiness}
-use Rattle.prepare.specs.declared.Readiness.TheVariants.{Ready, Refused}
 use Rattle.scheduler.specs.Event.{param_order}
 use Rattle.scheduler.specs.declared.event.Event.{Event}
 use Rattle.store.specs.declared.answer.Rendered.TheVariants as Rendered
@@ -55,8 +52,8 @@ removed_all_sub [] m v i = i
 removed_all_sub (g ∷ gs) m v i = (in_filter (λ x. not (is_voice g.id x)) m.voices v (removed_all_sub gs (without_voice g.id m) v i)).0
 
 freed_sub : (o : Option Voice) (m : Ledger) (v : Voice) → In v (freed o m).voices → In v m.voices
-freed_sub none m v i = i
-freed_sub (some w) m v i = (in_filter (λ x. not (is_voice w.id x)) m.voices v i).0
+freed_sub None m v i = i
+freed_sub (Some w) m v i = (in_filter (λ x. not (is_voice w.id x)) m.voices v i).0
 
 applied_sub : (e : Event) (m : Ledger) (v : Voice) → In v (apply_event e m).voices → In v m.voices
 applied_sub e m v i = go (is_free e.action) i
@@ -77,8 +74,8 @@ module _ (v : Voice) (f : Fade) (ph : v.state ≡ Fading f) where
   old l x a h i = went_on f (itself l.voices i) (ap (λ b. moved_fade (more b) f) (sym h))
 
   guarded : (o : Option Refusal) (x : Call) (l : Ledger) (s : Step) → In v (unless o l s).ledger.voices → (In v s.ledger.voices → From l s.answer v f x) → From l (unless o l s).answer v f x
-  guarded (some r) x l s i g = old l x (call.refused r) refl i
-  guarded none x l s i g = g i
+  guarded (Some r) x l s i g = old l x (call.refused r) refl i
+  guarded None x l s i g = g i
 
   from_counted : (b : Bool) (l : Ledger) (x : Call) (vs : List Voice) → ((u : Voice) → In u vs → In u l.voices) → (a : Answer) → is_sounded a ≡ b → In v (counted_if b vs) → From l a v f x
   from_counted false l x vs sub a h i = old l x a h (sub v i)
@@ -101,8 +98,8 @@ module _ (v : Voice) (f : Fade) (ph : v.state ≡ Fading f) where
       q = due l.shared
 
       go : (o : Option Refusal) → In v (render_step o out l).ledger.voices → From l (render_step o out l).answer v f (call.render out)
-      go (some r) i = old l (call.render out) (call.rendered (Rendered.Refused r) 0 out) refl i
-      go none i = from_block (any_free q) l (apply_events q (rested l)) (applied_all_sub q (rested l)) i out _ _
+      go (Some r) i = old l (call.render out) (call.rendered (Rendered.Refused r) 0 out) refl i
+      go None i = from_block (any_free q) l (apply_events q (rested l)) (applied_all_sub q (rested l)) i out _ _
 
   -- ---- the spawns
   not_new_voice : (s : VoiceState) → ((g : Fade) → s ≡ Fading g → ⊥) → (vs : List Voice) (n : Voice) → n.state ≡ s → In v (vs ++ (n ∷ [])) → In v vs
@@ -123,8 +120,8 @@ module _ (v : Voice) (f : Fade) (ph : v.state ≡ Fading f) where
           (subst (λ z. In z l.voices) s j, fade_inj (sym ph ∙ ap (λ (x : Voice). x.state) e))
 
       go : (o : Option ℕ) → In v (stolen w o l).voices → In v l.voices ⊎ (In (with_state Tracked v) l.voices × (f ≡ fade_of l.shared))
-      go none i = inl (in_filter (λ x. not (is_voice w.id x)) l.voices v i).0
-      go (some p) i = ⊎_elim (λ e. inr (self e)) (λ z. inl z.0) (begun d w j (fade_of l.shared) v i)
+      go None i = inl (in_filter (λ x. not (is_voice w.id x)) l.voices v i).0
+      go (Some p) i = ⊎_elim (λ e. inr (self e)) (λ z. inl z.0) (begun d w j (fade_of l.shared) v i)
 
   from_managed : (spawn : Spawn) (l : Ledger) → IdsOf l → In v (step (call.spawn_managed spawn) l).ledger.voices
       → From l (step (call.spawn_managed spawn) l).answer v f (call.spawn_managed spawn)
@@ -137,8 +134,8 @@ module _ (v : Voice) (f : Fade) (ph : v.state ≡ Fading f) where
       keeps r i = old l (call.spawn_managed spawn) (call.spawned r.answer) refl i
 
       go : (o : Option Refusal) → R (ledger.unless o l (admitted (admission_on spawn.bus spawn.rank l) spawn l))
-      go (some n) = keeps (ledger.refused n l)
-      go none =
+      go (Some n) = keeps (ledger.refused n l)
+      go None =
           managed_kept spawn R l d (λ h i. keeps (ledger.refused Rejected l) i) (λ h i. keeps (place_within_budget spawn l) (from_budgeted spawn l i))
           (λ p w h u j t i.
           ⊎_elim (λ k. keeps (place_within_budget spawn (steal_voice u l)) k) (λ z. began spawn z.0 z.1) (from_steal l d u j (and_left (tracks u) _ t) (from_budgeted spawn (steal_voice u l) i)))
@@ -152,14 +149,14 @@ module _ (v : Voice) (f : Fade) (ph : v.state ≡ Fading f) where
   comes (call.spawn_managed spawn) l d i = from_managed spawn l d i
   comes (call.spawn_loose spawn) l d i = go (spawn_refusal l.shared l.voices spawn.def spawn.bus spawn.rank) i
     where
-      two : (o : Option ℕ) → In v (instantiate_or o none spawn Loose l (ledger.refused NoPort)).ledger.voices → In v l.voices
-      two none i = i
-      two (some p) i = not_new_voice Loose loose_fading l.voices (new_voice spawn Loose p l.shared) refl i
+      two : (o : Option ℕ) → In v (instantiate_or o None spawn Loose l (ledger.refused NoPort)).ledger.voices → In v l.voices
+      two None i = i
+      two (Some p) i = not_new_voice Loose loose_fading l.voices (new_voice spawn Loose p l.shared) refl i
 
       go : (o : Option Refusal) → In v (ledger.unless o l (place 0 spawn Loose l)).ledger.voices
           → From l (call.spawned (ledger.unless o l (place 0 spawn Loose l)).answer) v f (call.spawn_loose spawn)
-      go (some n) i = old l _ _ refl i
-      go none i = old l _ _ refl (two (port_free spawn.bus l) i)
+      go (Some n) i = old l _ _ refl i
+      go None i = old l _ _ refl (two (port_free spawn.bus l) i)
   comes (call.free w) l d i = old l _ _ refl (freed_sub (find (is_voice w) l.voices) l v i)
   comes call.clear l d i =
       let m = without_voices (ended_voices l) l in
@@ -169,8 +166,8 @@ module _ (v : Voice) (f : Fade) (ph : v.state ≡ Fading f) where
   comes (call.report k channels samples flag) l d i = guarded (report_refusal l.shared l.voices k channels (length samples)) _ l _ i (λ j. old l _ _ refl j)
   comes call.prepare l d i = go (prepare_outcome l.shared).answer
     where
-      go : (r : Readiness) → From l (ready_answer r) v f call.prepare
-      go Ready = old l _ _ refl i
-      go (Refused r) = old l _ _ refl i
+      go : (r : Result (Unit {0}) Refusal) → From l (ready_answer r) v f call.prepare
+      go (Ok tt) = old l _ _ refl i
+      go (Err r) = old l _ _ refl i
   comes (call.render out) l d i = from_render out l i
   comes (call.ask q) l d i = old l _ _ (answer_silent (λ x. port_held x l) q (seen l)) i

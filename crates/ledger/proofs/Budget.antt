@@ -5,13 +5,12 @@ use native.Mathlib.Omega.{arith}
 use mathlib.Core.Path.{◌≡◌, refl, sym, ap, ◌∙◌, subst}
 use mathlib.Core.Logic.{⊎_elim}
 use mathlib.Core.List.{List, [], ◌∷◌, ◌++◌, map}
-use mathlib.Core.Option.{Option, none, some}
+use Rattle.std.specs.Prelude.{Option, None, Some, filter}
 use mathlib.Core.Bool.{Bool, true, false, not, cond, ◌&&◌, false≢true}
 use lib.Dec.{eqb}
 use borrow.Author.Tests.{eq-eqb, eqb-true}
 use Rattle.lists.specs.Member.{In}
 use Rattle.lists.proofs.Member.{in_snoc, in_map, in_left}
-use Rattle.lists.specs.Filter.{filter}
 use Rattle.lists.proofs.Filter.{in_filter}
 use Rattle.lists.specs.Count.{more, count}
 use Rattle.lists.proofs.Count.{count_filter, count_filter_lt, count_snoc, count_change, count_change_lt}
@@ -23,7 +22,6 @@ use Rattle.voice.specs.Policy.{counts, admits}
 use Rattle.voice.specs.Steals.{StealLog}
 use Rattle.voice.specs.declared.policy.BudgetScope.{BudgetScope}
 use Rattle.voice.specs.declared.policy.BudgetScope.TheVariants.{Global, PerGroup}
-use Rattle.voice.specs.declared.policy.Budget.TheVariants.{Unlimited, AtMost}
 use Rattle.voice.specs.declared.policy.Admission.TheVariants as admission
 use Rattle.store.specs.declared.config.Config.{Config}
 use Rattle.store.specs.declared.voices.Voice.{Voice}
@@ -91,12 +89,12 @@ moved_counted sc bus v h = go v.state h
 
 -- ---- under a budget
 abbrev Within : Config → List Voice → Type 0
-Within c vs = (k : ℕ) → c.budget ≡ AtMost k → Few c.scope k vs
+Within c vs = (k : ℕ) → c.budget ≡ Some k → Few c.scope k vs
 
 abbrev WithinOf : Ledger → Type 0
 WithinOf l = IdsOf l × Within l.shared.config l.voices
 
-at_most : {a b : ℕ} → AtMost a ≡ AtMost b → a ≡ b
+at_most : {a b : ℕ} → Some a ≡ Some b → a ≡ b
 at_most e = cc
 
 within_preserved : Preserves WithinOf
@@ -108,7 +106,7 @@ within_preserved =
 
 -- room for one more tracked voice on the bus
 abbrev Spare : NodeId → Ledger → Type 0
-Spare bus l = (k : ℕ) → l.shared.config.budget ≡ AtMost k → count (counted l.shared.config.scope bus) l.voices < k
+Spare bus l = (k : ℕ) → l.shared.config.budget ≡ Some k → count (counted l.shared.config.scope bus) l.voices < k
 
 within_budgeted : (spawn : Spawn) (l : Ledger) → WithinOf l → Spare spawn.bus l → WithinOf (place_within_budget spawn l).ledger
 within_budgeted spawn l u r =
@@ -129,15 +127,15 @@ steal_room sc bus v l i t = go (port_held v l)
     off = rw (eq-eqb v.id.0 v.id.0 refl)
 
     go : (o : Option ℕ) → suc (count (counted sc bus) (stolen v o l).voices) ≤ count (counted sc bus) l.voices
-    go none = count_filter_lt (counted sc bus) (λ x. not (is_voice v.id x)) l.voices v i t (not_voice_self v)
-    go (some p) = count_change_lt (counted sc bus) (begin_fade v.id (fade_of l.shared)) (begin_counted sc v.id (fade_of l.shared) bus) l.voices v i t off
+    go None = count_filter_lt (counted sc bus) (λ x. not (is_voice v.id x)) l.voices v i t (not_voice_self v)
+    go (Some p) = count_change_lt (counted sc bus) (begin_fade v.id (fade_of l.shared)) (begin_counted sc v.id (fade_of l.shared) bus) l.voices v i t off
 
 within_steal : (v : Voice) (l : Ledger) → WithinOf l → WithinOf (steal_voice v l)
 within_steal v l u = (ids_steal v l u.0, go (port_held v l))
   where
     go : (o : Option ℕ) → Within (stolen v o l).shared.config (stolen v o l).voices
-    go none k e = few_filter l.shared.config.scope k (λ x. not (is_voice v.id x)) l.voices (u.1 k e)
-    go (some p) k e = few_map l.shared.config.scope k (begin_fade v.id (fade_of l.shared)) (begin_counted l.shared.config.scope v.id (fade_of l.shared)) l.voices (u.1 k e)
+    go None k e = few_filter l.shared.config.scope k (λ x. not (is_voice v.id x)) l.voices (u.1 k e)
+    go (Some p) k e = few_map l.shared.config.scope k (begin_fade v.id (fade_of l.shared)) (begin_counted l.shared.config.scope v.id (fade_of l.shared)) l.voices (u.1 k e)
 
 spare_steal : (bus : NodeId) (v : Voice) (l : Ledger) → WithinOf l → In v l.voices → counted l.shared.config.scope bus v ≡ true → Spare bus (steal_voice v l)
 spare_steal bus v l u i t k e =
@@ -156,14 +154,14 @@ within_run : (xs : List Call) (l : Ledger) → WithinOf l → WithinOf (run xs l
 within_run = kept_run WithinOf within_preserved (λ l spawn e u. within_managed l spawn u)
 
 -- after every list, from a new store: of the voices that a new voice on any bus would count, at most the budget
-pub within_budget : (c : Config) (k : ℕ) → c.budget ≡ AtMost k → (xs : List Call) (bus : NodeId) → count (counted c.scope bus) (run xs (new_ledger c)).ledger.voices ≤ k
+pub within_budget : (c : Config) (k : ℕ) → c.budget ≡ Some k → (xs : List Call) (bus : NodeId) → count (counted c.scope bus) (run xs (new_ledger c)).ledger.voices ≤ k
 within_budget c k e xs bus =
     let r = within_run xs (new_ledger c) (ids_new c, λ k e bus. omega arith) in
     let q = config_run xs (new_ledger c) (ids_new c) in
     subst (λ (x : Config). count (counted x.scope bus) (run xs (new_ledger c)).ledger.voices ≤ k) q (r.1 k (ap (λ (x : Config). x.budget) q ∙ e) bus)
 
 abbrev Free : Config → StealLog → ℕ → List Voice → Type 0
-Free c b n vs = (c.budget ≡ Unlimited) × ((v : Voice) → In v vs → v.state ≡ Loose) × (b ≡ no_steals)
+Free c b n vs = (c.budget ≡ None) × ((v : Voice) → In v vs → v.state ≡ Loose) × (b ≡ no_steals)
 
 loose_snoc : (vs : List Voice) (v : Voice) → v.state ≡ Loose → ((x : Voice) → In x vs → x.state ≡ Loose) → (x : Voice) → In x (vs ++ (v ∷ [])) → x.state ≡ Loose
 loose_snoc vs v s f x i = ⊎_elim (λ j. f x j) (λ z. ap (λ (y : Voice). y.state) z ∙ s) (in_snoc vs v x i)
@@ -176,7 +174,7 @@ free_preserved =
     (λ c b n vs v q s h k u. (u.0, loose_snoc vs v s u.1, u.2))
 
 -- a managed spawn is then the port search alone, and its new voice is loose
-module _ (spawn : Spawn) (l : Ledger) (e : l.shared.config.budget ≡ Unlimited) where
+module _ (spawn : Spawn) (l : Ledger) (e : l.shared.config.budget ≡ None) where
   pub unlimited_spawn : admitted (admission_on spawn.bus spawn.rank l) spawn l ≡ place 0 spawn Loose l
   unlimited_spawn =
       ap (λ b. admitted (admits b l.shared.config.policy spawn.rank (candidates l.shared (counted l.shared.config.scope spawn.bus) l.voices)) spawn l) e
@@ -185,30 +183,30 @@ module _ (spawn : Spawn) (l : Ledger) (e : l.shared.config.budget ≡ Unlimited)
 free_managed : (l : Ledger) (spawn : Spawn) → VoicesOnly Free l → VoicesOnly Free (admitted (admission_on spawn.bus spawn.rank l) spawn l).ledger
 free_managed l spawn u = subst (λ r. VoicesOnly Free r.ledger) (sym (unlimited_spawn spawn l u.0)) (go (port_free spawn.bus l))
   where
-    go : (o : Option ℕ) → VoicesOnly Free (instantiate_or o none spawn Loose l (refused NoPort)).ledger
-    go none = u
-    go (some p) = (u.0, loose_snoc l.voices (new_voice spawn Loose p l.shared) refl u.1, u.2)
+    go : (o : Option ℕ) → VoicesOnly Free (instantiate_or o None spawn Loose l (refused NoPort)).ledger
+    go None = u
+    go (Some p) = (u.0, loose_snoc l.voices (new_voice spawn Loose p l.shared) refl u.1, u.2)
 
-pub without_budget : (c : Config) → c.budget ≡ Unlimited → (xs : List Call) → AllLoose (run xs (new_ledger c)).ledger
+pub without_budget : (c : Config) → c.budget ≡ None → (xs : List Call) → AllLoose (run xs (new_ledger c)).ledger
 without_budget c e xs =
     let r = kept_run (VoicesOnly Free) free_preserved (λ l spawn h u. free_managed l spawn u) xs (new_ledger c) (e, λ v i. absurd i, refl) in
     record { voices = r.1; log = r.2 }
 
 -- nobody is reclaimed: a managed spawn takes no voice away
-pub nobody_reclaimed : (c : Config) → c.budget ≡ Unlimited → (xs : List Call) (spawn : Spawn) (v : Voice)
+pub nobody_reclaimed : (c : Config) → c.budget ≡ None → (xs : List Call) (spawn : Spawn) (v : Voice)
     → In v (run xs (new_ledger c)).ledger.voices → In v (step (call.spawn_managed spawn) (run xs (new_ledger c)).ledger).ledger.voices
 nobody_reclaimed c e xs spawn v i = unless (spawn_refusal l.shared l.voices spawn.def spawn.bus spawn.rank)
   where
     l : Ledger
     l = (run xs (new_ledger c)).ledger
 
-    u : l.shared.config.budget ≡ Unlimited
+    u : l.shared.config.budget ≡ None
     u = ap (λ (x : Config). x.budget) (config_run xs (new_ledger c) (ids_new c)) ∙ e
 
-    go : (o : Option ℕ) → In v (instantiate_or o none spawn Loose l (refused NoPort)).ledger.voices
-    go none = i
-    go (some p) = in_left l.voices (new_voice spawn Loose p l.shared ∷ []) v i
+    go : (o : Option ℕ) → In v (instantiate_or o None spawn Loose l (refused NoPort)).ledger.voices
+    go None = i
+    go (Some p) = in_left l.voices (new_voice spawn Loose p l.shared ∷ []) v i
 
     unless : (o : Option Refusal) → In v (ledger.unless o l (admitted (admission_on spawn.bus spawn.rank l) spawn l)).ledger.voices
-    unless (some r) = i
-    unless none = subst (λ (r : SpawnResult). In v r.ledger.voices) (sym (unlimited_spawn spawn l u)) (go (port_free spawn.bus l))
+    unless (Some r) = i
+    unless None = subst (λ (r : SpawnResult). In v r.ledger.voices) (sym (unlimited_spawn spawn l u)) (go (port_free spawn.bus l))

@@ -5,16 +5,14 @@ use native.Mathlib.Omega.{arith}
 use native.Mathlib.Nat.{min-le_left}
 use mathlib.Core.Path.{◌≡◌, refl, sym, ap, ◌∙◌}
 use mathlib.Core.List.{List, [], ◌∷◌, ◌++◌, map}
-use mathlib.Core.Option.{Option, none, some}
+use Rattle.std.specs.Prelude.{Option, None, Some, find, is_some, option_map}
 use mathlib.Core.Bool.{Bool, true, false, not, cond, ◌&&◌, ◌||◌, false≢true}
 use lib.Dec.{eqb, leb}
 use lib.ListN.{length, length-append, length-map, length-take, take}
 use borrow.Author.Tests.{eqb-true, leb-false}
 use Rattle.lists.specs.Member.{In}
 use Rattle.lists.proofs.Member.{some_inj, none_some, and_left, and_right}
-use Rattle.lists.specs.Find.{find, or?, is_some, map_o}
 use Rattle.lists.proofs.Find.{find_in}
-use Rattle.lists.specs.Filter.{put?}
 use Rattle.lists.proofs.Filter.{length_filter}
 use Rattle.lists.proofs.Count.{count_filter_lt, count_all}
 use Rattle.node.specs.declared.record.NodeId.{NodeId}
@@ -71,8 +69,8 @@ length_replaced : (es : List Edge) (e : Edge) → taken es e.to e.port ≡ true 
 length_replaced es e h = go (find (ends_at e.to e.port) es) refl h
   where
     go : (o : Option Edge) → find (ends_at e.to e.port) es ≡ o → is_some o ≡ true → length (wired es e) ≤ length es
-    go none q h = absurd (false≢true h)
-    go (some d) q h =
+    go None q h = absurd (false≢true h)
+    go (Some d) q h =
         let r = find_in (ends_at e.to e.port) es d q in
         let k = count_filter_lt (λ x. true) (λ d. not (ends_at e.to e.port d)) es d r.0 refl (ap not r.1) in
         omega (arith, k, length_snoc (drop_at es e.to e.port) e, count_all es, count_all (drop_at es e.to e.port))
@@ -101,7 +99,7 @@ length_counted : (es : List DefEdge) → length (edges.counted es) ≤ length es
 length_counted [] = omega arith
 length_counted (e ∷ es) = go (not (edges.taken e es)) (length_counted es)
   where
-    go : (b : Bool) → length (edges.counted es) ≤ length es → length (put? b e (edges.counted es)) ≤ suc (length es)
+    go : (b : Bool) → length (edges.counted es) ≤ length es → length (cond b (e ∷ (edges.counted es)) (edges.counted es)) ≤ suc (length es)
     go true h = omega arith
     go false h = omega arith
 
@@ -179,12 +177,12 @@ room_budgeted spawn l r =
     (tries l.shared.config.budget l.voices) l r
 
 -- a fade takes one node and one edge: its edge to the bus replaces the feeder's
-held_edge : (l : Ledger) → InvariantOf l → (v : Voice) → In v l.voices → is_tracked v.state ≡ true → (p : ℕ) → port_held v l ≡ some p → taken l.shared.graph.edges v.bus p ≡ true
+held_edge : (l : Ledger) → InvariantOf l → (v : Voice) → In v l.voices → is_tracked v.state ≡ true → (p : ℕ) → port_held v l ≡ Some p → taken l.shared.graph.edges v.bus p ≡ true
 held_edge l s v i t p h = go (find (feeds (feeder v) v.bus) l.shared.graph.edges) refl (feeds_held s v i t ∙ h)
   where
-    go : (o : Option Edge) → find (feeds (feeder v) v.bus) l.shared.graph.edges ≡ o → map_o (λ (e : Edge). e.port) o ≡ some p → taken l.shared.graph.edges v.bus p ≡ true
-    go none e q = absurd (none_some q)
-    go (some d) e q =
+    go : (o : Option Edge) → find (feeds (feeder v) v.bus) l.shared.graph.edges ≡ o → option_map (λ (e : Edge). e.port) o ≡ Some p → taken l.shared.graph.edges v.bus p ≡ true
+    go None e q = absurd (none_some q)
+    go (Some d) e q =
         let r = find_in (feeds (feeder v) v.bus) l.shared.graph.edges d e in
         let f = ap (owner_at l.shared.graph.nodes) (eqb-true _ _ (and_left _ _ r.1)) ∙ (s.voiced.sung v i).feeds in
         let t : d.to.0 ≡ v.bus.0 = eqb-true _ _ (and_right (eqb d.from.0 (feeder v).0) _ r.1) in
@@ -202,13 +200,13 @@ room_steal n e l s v i t r = go (port_held v l) refl
     still : (p : ℕ) → taken g.edges v.bus p ≡ true → taken (wired g.edges e₁) v.bus p ≡ true
     still p h = ap is_some (edge_put e₁ g.edges v.bus p) ∙ two (ends_at v.bus p e₁) (find (ends_at v.bus p) g.edges) h
       where
-        two : (b : Bool) (o : Option Edge) → is_some o ≡ true → is_some (or? b e₁ o) ≡ true
+        two : (b : Bool) (o : Option Edge) → is_some o ≡ true → is_some (cond b (Some e₁) o) ≡ true
         two true o h = refl
         two false o h = h
 
     go : (o : Option ℕ) → port_held v l ≡ o → Headroom n e 1 (stolen v o l)
-    go none h = let q = room_cut (n + 1) (e + 1) 1 l v Tracked r in record { nodes = omega (arith, q.nodes); edges = omega (arith, q.edges); voices = q.voices; events = q.events }
-    go (some p) h =
+    go None h = let q = room_cut (n + 1) (e + 1) 1 l v Tracked r in record { nodes = omega (arith, q.nodes); edges = omega (arith, q.edges); voices = q.voices; events = q.events }
+    go (Some p) h =
         record {
           nodes = omega (arith, r.nodes, length_snoc g.nodes (with_id g.next (fade_node v.id)));
           edges = omega (arith, r.edges, length_wired g.edges e₁, length_replaced (wired g.edges e₁) (change.edge (id g.next) v.bus p) (still p (held_edge l s v i t p h)));
@@ -220,7 +218,7 @@ room_steal n e l s v i t r = go (port_held v l) refl
 abbrev pub RoomOf : Ledger → Type 0
 RoomOf l = Headroom 0 0 0 l
 
-room_spawn : (def : SynthDef) (bus : NodeId) (rank : ℕ) (l : Ledger) → RoomOf l → spawn_refusal l.shared l.voices def bus rank ≡ none → Headroom (def.nodes.count + 2 + 1) (def.edges.count + 3 + 1) 1 l
+room_spawn : (def : SynthDef) (bus : NodeId) (rank : ℕ) (l : Ledger) → RoomOf l → spawn_refusal l.shared l.voices def bus rank ≡ None → Headroom (def.nodes.count + 2 + 1) (def.edges.count + 3 + 1) 1 l
 room_spawn def bus rank l r e =
     let a = spawn_allowed l.shared l.voices def bus rank e in
     record { nodes = omega (arith, a.nodes); edges = omega (arith, a.edges); voices = omega (arith, a.voices); events = r.events }
@@ -228,15 +226,15 @@ room_spawn def bus rank l r e =
 room_spare : (n e v : ℕ) (l : Ledger) → Headroom (n + 1) (e + 1) v l → Headroom n e v l
 room_spare n e v l r = record { nodes = omega (arith, r.nodes); edges = omega (arith, r.edges); voices = r.voices; events = r.events }
 
-free_node : (g : GraphView) (kind : List ℕ) (ports required : ℕ) → add_refusal g kind ports required ≡ none → length g.nodes < 512
+free_node : (g : GraphView) (kind : List ℕ) (ports required : ℕ) → add_refusal g kind ports required ≡ None → length g.nodes < 512
 free_node g kind ports required e = leb-false _ _ (when_none (leb 512 (length g.nodes)) TableFull _ (when_none (bad_kind kind ports required) PortOrKind _ e).1).0
 
-free_edge : (g : GraphView) (a b : NodeId) (p : ℕ) → length g.edges ≤ 1024 → connect_refusal g a b p ≡ none → length (wired g.edges (change.edge a b p)) ≤ 1024
+free_edge : (g : GraphView) (a b : NodeId) (p : ℕ) → length g.edges ≤ 1024 → connect_refusal g a b p ≡ None → length (wired g.edges (change.edge a b p)) ≤ 1024
 free_edge g a b p le e =
     let h₁ = when_none (dead (node_at g.nodes a) || dead (node_at g.nodes b)) UnknownNode _ e in
     let h₂ = when_none (of_voice (node_at g.nodes a) || of_voice (node_at g.nodes b)) VoiceNode _ h₁.1 in
     let h₃ = when_none (leb (ports_of (node_at g.nodes b)) p) PortOrKind _ h₂.1 in
-    go (taken g.edges b p) refl (when_none (no_place g.edges b p) TableFull none h₃.1).0
+    go (taken g.edges b p) refl (when_none (no_place g.edges b p) TableFull None h₃.1).0
   where
     off : (x : Bool) → (x && not false) ≡ false → x ≡ false
     off true h = h
@@ -279,9 +277,9 @@ room_preserved =
       block = λ l a r. record { nodes = r.nodes; edges = r.edges; voices = rw (counted_length (is_sounding a) l.voices) r.voices; events = r.events };
     }
   where
-    one : (l : Ledger) (spawn : Spawn) → Headroom (spawn.def.nodes.count + 2) (spawn.def.edges.count + 3) 1 l → (o : Option ℕ) → RoomOf (instantiate_or o none spawn Loose l (refused NoPort)).ledger
-    one l spawn r none = room_less _ _ _ l r
-    one l spawn r (some p) = room_instantiate spawn Loose p l r
+    one : (l : Ledger) (spawn : Spawn) → Headroom (spawn.def.nodes.count + 2) (spawn.def.edges.count + 3) 1 l → (o : Option ℕ) → RoomOf (instantiate_or o None spawn Loose l (refused NoPort)).ledger
+    one l spawn r None = room_less _ _ _ l r
+    one l spawn r (Some p) = room_instantiate spawn Loose p l r
 
     counted_length : (b : Bool) (vs : List Voice) → length (counted_if b vs) ≡ length vs
     counted_length true vs = length-map vs (moved one_more)

@@ -4,7 +4,7 @@ use native.Mathlib.Omega.{arith}
 use mathlib.Core.Path.{◌≡◌, sym, ap, ◌∙◌, subst}
 use mathlib.Core.Logic.{◌↔◌}
 use mathlib.Core.List.{List, [], ◌∷◌, ◌++◌, map, map-map}
-use mathlib.Core.Option.{some}
+use Rattle.std.specs.Prelude.{Some}
 use mathlib.Core.Bool.{true}
 use lib.Dec.{leb}
 use Rattle.lists.specs.Member.{In}
@@ -104,7 +104,7 @@ module _ (c : Config) (block : 0 < c.block) (fits : fade_length c.rate ≤ 18446
         blocks = blocks c (after (new_model c) xs) (ap (λ (m : Model). m.shared.config) (store_after c fits xs) ∙ config_after c fits xs) table;
       }
 
-pub claim : (k : Making) (m : Model) → make k ≡ some m → (xs : List Call) → Claim (config_of k) m xs
+pub claim : (k : Making) (m : Model) → make k ≡ Some m → (xs : List Call) → Claim (config_of k) m xs
 claim k m accepted xs =
     let a = made k m accepted in
     subst (λ m. Claim (config_of k) m xs) (sym a.new) (from_new (config_of k) a.block a.length a.table xs)

@@ -11,7 +11,7 @@ use lib.Dec.{leb}
 use lib.ListN.{length}
 use borrow.Author.Tests.{eq-eqb, leb-true, le-leb, not-true}
 use Rattle.lists.specs.Member.{In}
-use Rattle.lists.specs.Filter.{put?, filter}
+use Rattle.std.specs.Prelude.{cond, filter}
 use Rattle.lists.proofs.Filter.{filter_all, filter_same, in_filter}
 use Rattle.store.specs.declared.voices.Voice.{Voice}
 use Rattle.model.specs.Voice.{is_voice}
@@ -53,7 +53,7 @@ drop_kept t n (x ∷ vs) r = go (t x) refl (drop_kept t x.id.0 vs r.1)
     whole : filter (λ v. not (is_voice x.id v)) (x ∷ vs) ≡ vs
     whole = rw self rest
 
-    go : (b : Bool) → t x ≡ b → drop_all (filter t vs) vs ≡ filter (λ v. not (t v)) vs → drop_all (put? b x (filter t vs)) (x ∷ vs) ≡ put? (not b) x (filter (λ v. not (t v)) vs)
+    go : (b : Bool) → t x ≡ b → drop_all (filter t vs) vs ≡ filter (λ v. not (t v)) vs → drop_all (cond b (x ∷ (filter t vs)) (filter t vs)) (x ∷ vs) ≡ cond (not b) (x ∷ (filter (λ v. not (t v)) vs)) (filter (λ v. not (t v)) vs)
     go true e ih = ap (drop_all (filter t vs)) whole ∙ ih
     go false e ih = drop_front (filter t vs) x vs (λ g i. other_below n x vs r g (in_filter t vs g i).0) ∙ ap (λ z. x ∷ z) ih
 
@@ -64,7 +64,7 @@ split_length : (t : Voice → Bool) (vs : List Voice) → length vs ≡ length (
 split_length t [] = refl
 split_length t (x ∷ vs) = go (t x) (split_length t vs)
   where
-    go : (b : Bool) → length vs ≡ length (filter (λ v. not (t v)) vs) + length (filter t vs) → suc (length vs) ≡ length (put? (not b) x (filter (λ v. not (t v)) vs)) + length (put? b x (filter t vs))
+    go : (b : Bool) → length vs ≡ length (filter (λ v. not (t v)) vs) + length (filter t vs) → suc (length vs) ≡ length (cond (not b) (x ∷ (filter (λ v. not (t v)) vs)) (filter (λ v. not (t v)) vs)) + length (cond b (x ∷ (filter t vs)) (filter t vs))
     go true h = omega arith
     go false h = omega arith
 

@@ -6,14 +6,14 @@ use native.Mathlib.Omega.{arith}
 use mathlib.Core.Path.{◌≡◌, refl, sym, ap, ◌∙◌, subst}
 use mathlib.Core.Logic.{◌⊎◌, inl, inr, ⊎_elim}
 use mathlib.Core.List.{List, [], ◌∷◌, ◌++◌, map}
-use mathlib.Core.Option.{some}
+use Rattle.std.specs.Prelude.{Some, find, cond}
 use mathlib.Core.Bool.{Bool, true, false, not, ◌&&◌, false≢true}
 use lib.Dec.{eqb}
 use borrow.Author.Tests.{eqb-true, eq-eqb, not-true}
 use Rattle.lists.specs.Member.{In}
 use Rattle.lists.proofs.Member.{and_left, and_right, both, in_snoc, in_map}
 use Rattle.lists.proofs.Filter.{in_filter}
-use Rattle.lists.specs.Find.{find, or?, Once}
+use Rattle.lists.specs.Find.{Once}
 use Rattle.lists.proofs.Find.{find_in, none_find, find_snoc_off, find_snoc_none, find_filter_same, once_filter, once_snoc}
 use Rattle.lists.specs.Rising.{RisesFrom}
 use Rattle.lists.proofs.Rising.{rises_in, rises_snoc, rises_map}
@@ -27,8 +27,8 @@ use Rattle.ledger.specs.Claim.{Owners}
 pub record Ends (own : Owners) (ports : ℕ → ℕ) (e : Edge) : Type 0 where
   pub a : ℕ
   pub b : ℕ
-  pub from : own e.from.0 ≡ some a
-  pub to : own e.to.0 ≡ some b
+  pub from : own e.from.0 ≡ Some a
+  pub to : own e.to.0 ≡ Some b
   pub range : b ≡ 0 → e.port < ports e.to.0
 
 pub record EdgeInvariant (own : Owners) (ports : ℕ → ℕ) (es : List Edge) : Type 0 where
@@ -37,14 +37,14 @@ pub record EdgeInvariant (own : Owners) (ports : ℕ → ℕ) (es : List Edge) :
 
 -- its feeder is live and its own; its id was given out; its bus was a node, and if that still lives, it is the host's
 pub record Sung (own : Owners) (next given : ℕ) (v : Voice) : Type 0 where
-  pub feeds : own (feeder v).0 ≡ some v.id.0
+  pub feeds : own (feeder v).0 ≡ Some v.id.0
   pub named : v.id.0 ≤ given
   pub bus : v.bus.0 < next
-  pub hosted : (k : ℕ) → own v.bus.0 ≡ some k → k ≡ 0
+  pub hosted : (k : ℕ) → own v.bus.0 ≡ Some k → k ≡ 0
 
 -- the edge leads from a node of that voice to a host node
 abbrev pub Out : Owners → ℕ → Edge → Type 0
-Out own i e = (own e.to.0 ≡ some 0) × (own e.from.0 ≡ some i)
+Out own i e = (own e.to.0 ≡ Some 0) × (own e.from.0 ≡ Some i)
 
 abbrev pub FeedsBus : Owners → Voice → Edge → Type 0
 FeedsBus own v e = Out own v.id.0 e → v.bus.0 ≡ e.to.0
@@ -73,7 +73,7 @@ ends_at_lem k p e h = (eqb-true _ _ (and_left _ _ h), eqb-true _ _ (and_right (e
 pub at_ends : (k : NodeId) (p : ℕ) (e : Edge) → e.to.0 ≡ k.0 → e.port ≡ p → ends_at k p e ≡ true
 at_ends k p e a b = both _ _ (eq-eqb _ _ a) (eq-eqb _ _ b)
 
-pub edge_at_lem : (es : List Edge) (k : NodeId) (p : ℕ) (e : Edge) → find (ends_at k p) es ≡ some e → In e es × (e.to.0 ≡ k.0) × (e.port ≡ p)
+pub edge_at_lem : (es : List Edge) (k : NodeId) (p : ℕ) (e : Edge) → find (ends_at k p) es ≡ Some e → In e es × (e.to.0 ≡ k.0) × (e.port ≡ p)
 edge_at_lem es k p e h = let r = find_in (ends_at k p) es e h in let t = ends_at_lem k p e r.1 in (r.0, t.0, t.1)
 
 module _ (e : Edge) (es : List Edge) where
@@ -96,10 +96,10 @@ module _ (e : Edge) (es : List Edge) where
           let y = ends_at_lem k p d g in
           absurd (false≢true (sym h ∙ at_ends k p e (sym x.0 ∙ y.0) (sym x.1 ∙ y.1)))
 
-  pub edge_put : (k : NodeId) (p : ℕ) → find (ends_at k p) (wired es e) ≡ or? (ends_at k p e) e (find (ends_at k p) es)
+  pub edge_put : (k : NodeId) (p : ℕ) → find (ends_at k p) (wired es e) ≡ cond (ends_at k p e) (Some e) (find (ends_at k p) es)
   edge_put k p = go (ends_at k p e) refl
     where
-      go : (b : Bool) → ends_at k p e ≡ b → find (ends_at k p) (wired es e) ≡ or? b e (find (ends_at k p) es)
+      go : (b : Bool) → ends_at k p e ≡ b → find (ends_at k p) (wired es e) ≡ cond b (Some e) (find (ends_at k p) es)
       go true h =
           find_snoc_none (ends_at k p) (drop_at es e.to e.port) e (none_find (ends_at k p) (drop_at es e.to e.port) (kept_off k p h)) ∙ rw h
       go false h =
@@ -152,7 +152,7 @@ wired_move {own} {own'} {ports} {ports'} once sub same w =
 
 pub voiced_move : {own own' : Owners} {nx nx' nv nv' : ℕ} {es es' : List Edge} {vs vs' : List Voice} → nx ≤ nx' → nv ≤ nv' → RisesFrom (λ (v : Voice). v.id.0) 1 vs'
     → ((v : Voice) → In v vs' → In v vs) → ((e : Edge) → In e es' → In e es) → ((e : Edge) → In e es' → Same own own' e)
-    → ((v : Voice) → In v vs' → own' (feeder v).0 ≡ own (feeder v).0) → ((v : Voice) → In v vs' → (k : ℕ) → own' v.bus.0 ≡ some k → own v.bus.0 ≡ some k)
+    → ((v : Voice) → In v vs' → own' (feeder v).0 ≡ own (feeder v).0) → ((v : Voice) → In v vs' → (k : ℕ) → own' v.bus.0 ≡ Some k → own v.bus.0 ≡ Some k)
     → Voiced own nx nv es vs → Voiced own' nx' nv' es' vs'
 voiced_move {own} {own'} up more rises sub sube same feeds bus g =
     record {
@@ -182,14 +182,14 @@ voiced_map {own} {nx} {nv} {es} {vs} f fi ff fb g =
     sung' : (v : Voice) → Sung own nx nv v → Sung own nx nv (f v)
     sung' v s =
         record {
-          feeds = ap own (ff v) ∙ s.feeds ∙ ap some (sym (fi v));
+          feeds = ap own (ff v) ∙ s.feeds ∙ ap Some (sym (fi v));
           named = subst (λ n. n ≤ nv) (sym (fi v)) s.named;
           bus = subst (λ n. n < nx) (sym (fb v)) s.bus;
           hosted = λ k h. s.hosted k (sym (ap own (fb v)) ∙ h);
         }
 
     fed' : (v : Voice) (e : Edge) → FeedsBus own v e → FeedsBus own (f v) e
-    fed' v e h o = fb v ∙ h (o.0, o.1 ∙ ap some (fi v))
+    fed' v e h o = fb v ∙ h (o.0, o.1 ∙ ap Some (fi v))
 
 -- ---- a voice more
 pub voiced_snoc : {own : Owners} {nx nv : ℕ} {es : List Edge} {vs : List Voice} (v : Voice) → Voiced own nx nv es vs → Sung own nx nv v

@@ -5,7 +5,7 @@ use native.Mathlib.Omega.{arith}
 use mathlib.Core.Path.{◌≡◌, refl, sym, ap, ◌∙◌, subst}
 use mathlib.Core.Logic.{⊎_elim}
 use mathlib.Core.List.{List, [], ◌∷◌, ◌++◌, map}
-use mathlib.Core.Option.{some}
+use Rattle.std.specs.Prelude.{Some}
 use mathlib.Core.Bool.{true, false≢true}
 use Rattle.lists.specs.Member.{In}
 use Rattle.lists.proofs.Member.{in_snoc, in_map}
@@ -20,7 +20,7 @@ use Rattle.ledger.proofs.EdgeInvariant.{Out, Same, out_back, in_put}
 
 pub record EndInvariant (own : Owners) (es : List Edge) (vs : List Voice) : Type 0 where
   -- the end of a voice is a node of its own
-  pub owns : (v : Voice) → In v vs → own (end_of v).0 ≡ some v.id.0
+  pub owns : (v : Voice) → In v vs → own (end_of v).0 ≡ Some v.id.0
   pub leaves : (v : Voice) → In v vs → (e : Edge) → In e es → Out own v.id.0 e → (end_of v).0 ≡ e.from.0
 
 -- ---- the end of a voice, by its state
@@ -75,7 +75,7 @@ end_map {own} {es} {vs} f fi fe g =
     record {
       owns = λ v i.
           let r = in_map f vs v i in
-          subst (λ (u : Voice). own (end_of u).0 ≡ some u.id.0) (sym r.2) (ap (λ k. own k.0) (fe r.0) ∙ g.owns r.0 r.1 ∙ ap some (sym (fi r.0)));
+          subst (λ (u : Voice). own (end_of u).0 ≡ Some u.id.0) (sym r.2) (ap (λ k. own k.0) (fe r.0) ∙ g.owns r.0 r.1 ∙ ap Some (sym (fi r.0)));
       leaves = λ v i e j o.
           let r = in_map f vs v i in
           let same : v.id.0 ≡ r.0.id.0 = ap (λ (z : Voice). z.id.0) r.2 ∙ fi r.0 in
@@ -83,10 +83,10 @@ end_map {own} {es} {vs} f fi fe g =
     }
 
 -- ---- a voice more, which feeds nothing yet
-pub end_snoc : {own : Owners} {es : List Edge} {vs : List Voice} (v : Voice) → EndInvariant own es vs → own (end_of v).0 ≡ some v.id.0 → ((e : Edge) → In e es → Out own v.id.0 e → ⊥)
+pub end_snoc : {own : Owners} {es : List Edge} {vs : List Voice} (v : Voice) → EndInvariant own es vs → own (end_of v).0 ≡ Some v.id.0 → ((e : Edge) → In e es → Out own v.id.0 e → ⊥)
     → EndInvariant own es (vs ++ (v ∷ []))
 end_snoc {own} {es} {vs} v g mine off =
     record {
-      owns = λ u i. ⊎_elim (g.owns u) (λ p. subst (λ (z : Voice). own (end_of z).0 ≡ some z.id.0) (sym p) mine) (in_snoc vs v u i);
+      owns = λ u i. ⊎_elim (g.owns u) (λ p. subst (λ (z : Voice). own (end_of z).0 ≡ Some z.id.0) (sym p) mine) (in_snoc vs v u i);
       leaves = λ u i e j o. ⊎_elim (λ k. g.leaves u k e j o) (λ p. absurd (off e j (subst (λ (z : Voice). Out own z.id.0 e) p o))) (in_snoc vs v u i);
     }

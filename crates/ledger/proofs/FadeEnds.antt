@@ -4,14 +4,12 @@ use native.Mathlib.Omega.{arith}
 use mathlib.Core.Path.{◌≡◌, refl, sym, ap, ◌∙◌, subst}
 use mathlib.Core.Logic.{◌⊎◌, inl, inr, ⊎_elim}
 use mathlib.Core.List.{List, [], ◌∷◌, ◌++◌, map}
-use mathlib.Core.Option.{Option, none, some}
+use Rattle.std.specs.Prelude.{Option, None, Some, find, filter}
 use mathlib.Core.Bool.{Bool, true, false, not, cond, true≢false}
 use borrow.Author.Tests.{eqb-true}
 use Rattle.lists.specs.Member.{In}
 use Rattle.lists.proofs.Member.{in_snoc, in_map}
-use Rattle.lists.specs.Find.{find}
 use Rattle.lists.proofs.Find.{find_in}
-use Rattle.lists.specs.Filter.{filter}
 use Rattle.lists.proofs.Filter.{in_filter}
 use Rattle.node.specs.declared.record.VoiceId.{VoiceId}
 use Rattle.store.specs.declared.voices.Voice.{Voice}
@@ -119,9 +117,9 @@ module _ (v : Voice) (f : Fade) (ph : v.state ≡ Fading f) (x : Call) (l : Ledg
   found_goes u j e Tracked h = absurd (unfading u j e Tracked h refl)
   found_goes u j e Loose h = absurd (unfading u j e Loose h refl)
 
-  pub leaves_removed : GoesOn v f (step x l).answer after ⊎ ((find (is_voice v.id) after ≡ none) × Why l (step x l).ledger v f x)
+  pub leaves_removed : GoesOn v f (step x l).answer after ⊎ ((find (is_voice v.id) after ≡ None) × Why l (step x l).ledger v f x)
   leaves_removed = go (find (is_voice v.id) after) refl
     where
-      go : (o : Option Voice) → find (is_voice v.id) after ≡ o → GoesOn v f (step x l).answer after ⊎ ((find (is_voice v.id) after ≡ none) × Why l (step x l).ledger v f x)
-      go none e = ⊎_elim inl (λ w. inr (e, w)) (leaves v f ph x l r q i)
-      go (some u) e = let m = find_in (is_voice v.id) after u e in inl (found_goes u m.0 (eqb-true u.id.0 v.id.0 m.1) u.state refl)
+      go : (o : Option Voice) → find (is_voice v.id) after ≡ o → GoesOn v f (step x l).answer after ⊎ ((find (is_voice v.id) after ≡ None) × Why l (step x l).ledger v f x)
+      go None e = ⊎_elim inl (λ w. inr (e, w)) (leaves v f ph x l r q i)
+      go (Some u) e = let m = find_in (is_voice v.id) after u e in inl (found_goes u m.0 (eqb-true u.id.0 v.id.0 m.1) u.state refl)

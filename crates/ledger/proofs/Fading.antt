@@ -4,13 +4,12 @@ use native.Mathlib.Omega.{arith}
 use mathlib.Core.Path.{◌≡◌, refl, sym, ap, ◌∙◌, subst}
 use mathlib.Core.Logic.{⊎_elim}
 use mathlib.Core.List.{List, [], ◌∷◌, ◌++◌, map}
-use mathlib.Core.Option.{some}
+use Rattle.std.specs.Prelude.{Some, find}
 use mathlib.Core.Bool.{Bool, true, false, not, cond, ◌&&◌, false≢true}
 use lib.Dec.{eqb}
 use borrow.Author.Tests.{eqb-true, eq-eqb}
 use Rattle.lists.specs.Member.{In}
 use Rattle.lists.proofs.Member.{some_inj, in_map}
-use Rattle.lists.specs.Find.{find}
 use Rattle.node.specs.declared.record.NodeId.{NodeId}
 use Rattle.node.specs.declared.record.Node.{Node}
 use Rattle.node.specs.declared.record.Edge.{Edge}
@@ -41,20 +40,20 @@ hold_again g b p x e n q = go (eqb n b.0) refl (eqb q p) refl
 
 -- ---- an edge from a node of a voice to its bus
 module _ {ns : List Node} {es : List Edge} {nx nv : ℕ} {vs : List Voice} {h : Holders} (s : Invariant ns es nx nv vs h)
-    (v : Voice) (i : In v vs) (e : Edge) (j : In e es) (own : owner_at ns e.from.0 ≡ some v.id.0) (et : e.to.0 ≡ v.bus.0) where
+    (v : Voice) (i : In v vs) (e : Edge) (j : In e es) (own : owner_at ns e.from.0 ≡ Some v.id.0) (et : e.to.0 ≡ v.bus.0) where
   pub fed_host : HostAt ns v.bus.0
   fed_host =
       let g = s.wired.ends e j in
-      let t : owner_at ns v.bus.0 ≡ some g.b = sym (ap (owner_at ns) et) ∙ g.to in
-      t ∙ ap some ((s.voiced.sung v i).hosted g.b t)
+      let t : owner_at ns v.bus.0 ≡ Some g.b = sym (ap (owner_at ns) et) ∙ g.to in
+      t ∙ ap Some ((s.voiced.sung v i).hosted g.b t)
 
   pub fed_range : e.port < ports_at ns v.bus.0
   fed_range =
       let g = s.wired.ends e j in
-      let t : owner_at ns v.bus.0 ≡ some g.b = sym (ap (owner_at ns) et) ∙ g.to in
+      let t : owner_at ns v.bus.0 ≡ Some g.b = sym (ap (owner_at ns) et) ∙ g.to in
       subst (λ n. e.port < ports_at ns n) et (g.range ((s.voiced.sung v i).hosted g.b t))
 
-  pub fed_edge : find (ends_at v.bus e.port) es ≡ some e
+  pub fed_edge : find (ends_at v.bus e.port) es ≡ Some e
   fed_edge = s.wired.once v.bus e.port e j (at_ends v.bus e.port e et refl)
 
   pub fed_out : Out (owner_at ns) v.id.0 e
@@ -84,13 +83,13 @@ module _ {ns : List Node} {es : List Edge} {nx nv : ℕ} {vs : List Voice} {h : 
   sound₁ = sound_append s (fade_node v.id) (s.voiced.sung v i).named
 
   -- the edge leaves a node of the voice
-  fed : owner_at ns₁ e.from.0 ≡ some v.id.0
+  fed : owner_at ns₁ e.from.0 ≡ Some v.id.0
   fed = ap (owner_at ns₁) ef ∙ (sound₁.voiced.sung v i).feeds
 
-  at_fade : owner_at ns₁ nx ≡ some v.id.0
+  at_fade : owner_at ns₁ nx ≡ Some v.id.0
   at_fade = owner_new s.listed (fade_node v.id)
 
-  not_host : owner_at ns₁ nx ≡ some 0 → ⊥
+  not_host : owner_at ns₁ nx ≡ Some 0 → ⊥
   not_host o = let z : v.id.0 ≡ 0 = some_inj (sym at_fade ∙ o) in omega (arith, pos)
 
   wired₂ : EdgeInvariant (owner_at ns₁) (ports_at ns₁) (wired es e₁)
@@ -124,7 +123,7 @@ module _ {ns : List Node} {es : List Edge} {nx nv : ℕ} {vs : List Voice} {h : 
       let same : v.id.0 ≡ u.id.0 = some_inj (sym at_fade ∙ o.1) in
       let back : u.id.0 ≡ r.0.id.0 = ap (λ (z : Voice). z.id.0) r.2 ∙ begin_id r.0 (is_voice v.id r.0) in
       let out = fed_out sound₁ v i e j fed et in
-      let g = sound₁.voiced.fed r.0 r.1 e j (out.0, out.1 ∙ ap some (same ∙ back)) in
+      let g = sound₁.voiced.fed r.0 r.1 e j (out.0, out.1 ∙ ap Some (same ∙ back)) in
       let bus' : u.bus.0 ≡ r.0.bus.0 = ap (λ (z : Voice). z.bus.0) r.2 ∙ begin_bus r.0 (is_voice v.id r.0) in
       bus' ∙ g ∙ et
 
@@ -133,7 +132,7 @@ module _ {ns : List Node} {es : List Edge} {nx nv : ℕ} {vs : List Voice} {h : 
       → Out (owner_at ns₁) u.id.0 e₂ → Out (owner_at ns₁) u.id.0 d → ⊥
   other₂ u k d q z o r =
       let same : u.id.0 ≡ v.id.0 = sym (some_inj (sym at_fade ∙ o.1)) in
-      let rd : Out (owner_at ns₁) v.id.0 d = (r.0, r.1 ∙ ap some same) in
+      let rd : Out (owner_at ns₁) v.id.0 d = (r.0, r.1 ∙ ap Some same) in
       ⊎_elim
       (λ m.
       let pd : d.port ≡ e.port = sound₁.voiced.one v i d e m.0 j rd (fed_out sound₁ v i e j fed et) in
@@ -146,8 +145,8 @@ module _ {ns : List Node} {es : List Edge} {nx nv : ℕ} {vs : List Voice} {h : 
   abbrev begun : Bool → Voice → Voice
   begun c u = cond c (with_state (Fading f) u) u
 
-  end_owned : (u : Voice) → In u vs → (c : Bool) → is_voice v.id u ≡ c → owner_at ns₁ (end_of (begun c u)).0 ≡ some u.id.0
-  end_owned u m true q = ap (owner_at ns₁) at ∙ at_fade ∙ ap some (sym (eqb-true _ _ q))
+  end_owned : (u : Voice) → In u vs → (c : Bool) → is_voice v.id u ≡ c → owner_at ns₁ (end_of (begun c u)).0 ≡ Some u.id.0
+  end_owned u m true q = ap (owner_at ns₁) at ∙ at_fade ∙ ap Some (sym (eqb-true _ _ q))
   end_owned u m false q = sound₁.ends.owns u m
 
   end_fed : (u : Voice) → In u vs → In (begun (is_voice v.id u) u) vs₁ → (c : Bool) → is_voice v.id u ≡ c → (d : Edge) → In d (wired (wired es e₁) e₂) → Out (owner_at ns₁) u.id.0 d
@@ -158,7 +157,7 @@ module _ {ns : List Node} {es : List Edge} {nx nv : ℕ} {vs : List Voice} {h : 
       old true q z =
           let same : u.id.0 ≡ v.id.0 = eqb-true _ _ q in
           let mine : (begun (is_voice v.id u) u).id.0 ≡ u.id.0 = begin_id u (is_voice v.id u) in
-          absurd (other₂ (begun (is_voice v.id u) u) k d z.0 z.1 (fed_host sound₁ v i e j fed et, at_fade ∙ ap some (sym (mine ∙ same))) (o.0, o.1 ∙ ap some (sym mine)))
+          absurd (other₂ (begun (is_voice v.id u) u) k d z.0 z.1 (fed_host sound₁ v i e j fed et, at_fade ∙ ap Some (sym (mine ∙ same))) (o.0, o.1 ∙ ap Some (sym mine)))
       old false q z = ⊎_elim (λ y. sound₁.ends.leaves u m d y.0 o) (λ y. absurd (not_host (sym (ap (λ (w : Edge). owner_at ns₁ w.to.0) y) ∙ o.0))) (in_put e₁ es d z.0)
 
       new : (c : Bool) → is_voice v.id u ≡ c → d ≡ e₂ → (end_of (begun c u)).0 ≡ d.from.0
@@ -173,12 +172,12 @@ module _ {ns : List Node} {es : List Edge} {nx nv : ℕ} {vs : List Voice} {h : 
         owns = λ u k.
             let r = in_map (begin_fade v.id f) vs u k in
             let c = is_voice v.id r.0 in
-            subst (λ (z : Voice). owner_at ns₁ (end_of z).0 ≡ some z.id.0) (sym r.2) (end_owned r.0 r.1 c refl ∙ ap some (sym (begin_id r.0 c)));
+            subst (λ (z : Voice). owner_at ns₁ (end_of z).0 ≡ Some z.id.0) (sym r.2) (end_owned r.0 r.1 c refl ∙ ap Some (sym (begin_id r.0 c)));
         leaves = λ u k d n o.
             let r = in_map (begin_fade v.id f) vs u k in
             let c = is_voice v.id r.0 in
             let same : u.id.0 ≡ r.0.id.0 = ap (λ (z : Voice). z.id.0) r.2 ∙ begin_id r.0 c in
-            ap (λ (z : Voice). (end_of z).0) r.2 ∙ end_fed r.0 r.1 (subst (λ z. In z vs₁) r.2 k) c refl d n (o.0, o.1 ∙ ap some same);
+            ap (λ (z : Voice). (end_of z).0) r.2 ∙ end_fed r.0 r.1 (subst (λ z. In z vs₁) r.2 k) c refl d n (o.0, o.1 ∙ ap Some same);
       }
 
   pub sound_fade : Invariant ns₁ (wired (wired es e₁) e₂) (nx + 1) nv vs₁ h

@@ -4,15 +4,13 @@ use native.Mathlib.Omega.{arith}
 use mathlib.Core.Path.{◌≡◌, refl, sym, ap, ap₂, ◌∙◌, subst}
 use mathlib.Core.Logic.{◌⊎◌, ◌↔◌, ⊎_elim, inl, inr}
 use mathlib.Core.List.{List, [], ◌∷◌, ◌++◌, map}
-use mathlib.Core.Option.{Option, none, some}
+use Rattle.std.specs.Prelude.{Option, None, Some, find, option_map, filter, Result, Ok}
 use mathlib.Core.Bool.{Bool, true, false, not, true≢false}
 use lib.ListN.{length, length-map}
 use borrow.Author.Tests.{eqb-true, not-true}
 use Rattle.lists.specs.Member.{In}
 use Rattle.lists.proofs.Member.{in_map, in_of_map, in_right}
-use Rattle.lists.specs.Find.{find, map_o}
 use Rattle.lists.proofs.Find.{find_in, none_find}
-use Rattle.lists.specs.Filter.{filter}
 use Rattle.lists.proofs.Filter.{filter_map, in_filter}
 use Rattle.lists.specs.Count.{more, count}
 use Rattle.lists.proofs.Count.{count_map}
@@ -27,7 +25,6 @@ use Rattle.store.specs.declared.config.Config.{Config}
 use Rattle.store.specs.declared.voices.Voice.{Voice}
 use Rattle.store.specs.declared.voices.VoiceState.TheVariants.{Fading, Loose}
 use Rattle.store.specs.declared.voices.Fade.{Fade}
-use Rattle.voice.specs.declared.policy.Budget.TheVariants.{Unlimited, AtMost}
 use Rattle.model.specs.SharedState.{sounding}
 use Rattle.model.specs.Voice.{id, is_voice, moved_fade, moved_state, counted}
 use Rattle.model.specs.Clear.{is_silent}
@@ -41,7 +38,6 @@ use Rattle.graph.specs.Change as change
 use Rattle.graph.specs.Refuse.{add_refusal}
 use Rattle.node.specs.declared.record.VoiceId.{VoiceId}
 use Rattle.node.specs.declared.refusal.Refusal.{Refusal}
-use Rattle.store.specs.declared.answer.Spawned.{Spawned}
 use Rattle.store.specs.declared.voices.VoiceState.{VoiceState}
 use Rattle.ledger.specs.Ledger.{Ledger}
 use Rattle.ledger.specs.Clear as ledger
@@ -76,10 +72,10 @@ pub record Known (c : Config) (l : Ledger) : Type 0 where
   pub nodes : OwnNodes l
   pub room : RoomOf l
   pub ready : ReadyOf l
-  pub budget : (n : ℕ) → c.budget ≡ AtMost n → (bus : NodeId) → count (counted c.scope bus) l.voices ≤ n
-  pub loose : c.budget ≡ Unlimited → words.AllLoose l
+  pub budget : (n : ℕ) → c.budget ≡ Some n → (bus : NodeId) → count (counted c.scope bus) l.voices ≤ n
+  pub loose : c.budget ≡ None → words.AllLoose l
   pub ranks : (v : Voice) → In v l.voices → v.rank ≤ 7
-  pub stay : c.budget ≡ Unlimited → (x : Spawn) (v : Voice) → In v l.voices → In v (step (call.spawn_managed x) l).ledger.voices
+  pub stay : c.budget ≡ None → (x : Spawn) (v : Voice) → In v l.voices → In v (step (call.spawn_managed x) l).ledger.voices
 
 module _ (c : Config) (l : Ledger) (known : Known c l) where
   abbrev is : l.shared.config ≡ c
@@ -116,7 +112,7 @@ module _ (c : Config) (l : Ledger) (known : Known c l) where
       let n : a.0.id.0 ≡ b.0.id.0 = ap (λ (x : Voice). x.id.0) (sym a.2) ∙ e ∙ ap (λ (x : Voice). x.id.0) b.2 in
       a.2 ∙ ap (shown c) (unique r.ids a.0 b.0 a.1 b.1 n) ∙ sym b.2
 
-  without_voice : (v : Voice) → In v (map (shown c) l.voices) → clearing.ended (fade_length c.rate) v.state ≡ true → find (is_voice v.id) (Left (map (shown c) l.voices)) ≡ none
+  without_voice : (v : Voice) → In v (map (shown c) l.voices) → clearing.ended (fade_length c.rate) v.state ≡ true → find (is_voice v.id) (Left (map (shown c) l.voices)) ≡ None
   without_voice v i e = none_find (is_voice v.id) (Left (map (shown c) l.voices)) (λ x j. go x j (is_voice v.id x) refl)
     where
       go : (x : Voice) → In x (Left (map (shown c) l.voices)) → (b : Bool) → is_voice v.id x ≡ b → b ≡ false
@@ -130,13 +126,13 @@ module _ (c : Config) (l : Ledger) (known : Known c l) where
   -- ---- fading voices
   -- what becomes of a fading voice in the call that left the voices vs
   abbrev Next : Call → Answer → List Voice → Model → Voice → Fade → Type 0
-  Next x a vs s v f = GoesOn c.block v f a vs ⊎ ((find (is_voice v.id) vs ≡ none) × Why (store_of c l) s v f x)
+  Next x a vs s v f = GoesOn c.block v f a vs ⊎ ((find (is_voice v.id) vs ≡ None) × Why (store_of c l) s v f x)
 
   goes : (x : Call) (v : Voice) → In v (map (shown c) l.voices) → (f : Fade) → v.state ≡ Fading f → Next x (step x l).answer (map (shown c) (step x l).ledger.voices) (store_of c (step x l).ledger) v f
   goes x v i f e =
       subst (λ g. Next x a vs s v g) (sym w.moves) (subst (λ u. Next x a vs s u (moved_fade (λ n. n * c.block) w.fade)) (sym w.is)
       (⊎_elim (λ h. inl (goes_shown c l is w.voice w.fade a (step x l).ledger.voices h))
-      (λ h. inr (find_stored (λ n. n * c.block) w.voice.id (step x l).ledger.voices ∙ ap (map_o (shown c)) h.0, why_shown c l is w.voice w.fade (step x l).ledger x h.1))
+      (λ h. inr (find_stored (λ n. n * c.block) w.voice.id (step x l).ledger.voices ∙ ap (option_map (shown c)) h.0, why_shown c l is w.voice w.fade (step x l).ledger x h.1))
       (leaves_removed w.voice w.fade w.state x l r q w.member)))
     where
       w : Was c l.voices v f
@@ -159,7 +155,7 @@ module _ (c : Config) (l : Ledger) (known : Known c l) where
       a.is ∙ ap (shown c) (r.own a.voice b.voice a.member b.member a.fade b.fade a.state b.state n) ∙ sym b.is
 
   -- ---- the graph
-  live_in : (ns : List Node) (n a : ℕ) → owner_at ns n ≡ some a → In n (node_ids ns)
+  live_in : (ns : List Node) (n a : ℕ) → owner_at ns n ≡ Some a → In n (node_ids ns)
   live_in ns n a e =
       let x = owner_some (node_at ns (id n)) a e in
       let i = find_in (is_node (id n)) ns x.0 x.1 in
@@ -192,10 +188,10 @@ module _ (c : Config) (l : Ledger) (known : Known c l) where
   under_budget : state_under l.shared.config.budget ≡ state_under c.budget
   under_budget = ap (λ (z : Config). state_under z.budget) is
 
-  spawned_is : {a b : Spawned} → call.spawned a ≡ call.spawned b → a ≡ b
+  spawned_is : {a b : Result VoiceId Refusal} → call.spawned a ≡ call.spawned b → a ≡ b
   spawned_is e = cc
 
-  managed_arrives : (x : Spawn) (w : VoiceId) → (step (call.spawn_managed x) l).answer ≡ call.spawned (Spawned.Voice w) → Arrives x (state_under c.budget) w (store_of c l) (store_of c (step (call.spawn_managed x) l).ledger)
+  managed_arrives : (x : Spawn) (w : VoiceId) → (step (call.spawn_managed x) l).answer ≡ call.spawned (Ok w) → Arrives x (state_under c.budget) w (store_of c l) (store_of c (step (call.spawn_managed x) l).ledger)
   managed_arrives x w e =
       arrives_shown (call.spawn_managed x) x (state_under c.budget) (under_same (λ n. n * c.block) c.budget) w
       (subst (λ z. ArrivesAt x.bus x.rank z w l (step (call.spawn_managed x) l).ledger) under_budget (managed_comes x l w (spawned_is e)))
@@ -211,8 +207,8 @@ module _ (c : Config) (l : Ledger) (known : Known c l) where
       new = ledgerCall.graph_step l (change.append g (host_node kind ports required values glides)) l.holders (call.node (record { 0 = g.next }))
 
       go : (o : Option Refusal) → (ledgerCall.unless o l new).answer ≡ call.node k → In k.0 (node_ids (ledgerCall.unless o l new).ledger.shared.graph.nodes) × (In k.0 (node_ids g.nodes) → ⊥)
-      go (some r) e = let z : ◌≡◌ {A = ℕ} 0 1 = cc in absurd (omega arith)
-      go none e =
+      go (Some r) e = let z : ◌≡◌ {A = ℕ} 0 1 = cc in absurd (omega arith)
+      go None e =
           let n : record { 0 = g.next } ≡ k = cc in
           let m : g.next ≡ k.0 = ap (λ (j : NodeId). j.0) n in (
             subst (λ j. In j (node_ids (change.append g (host_node kind ports required values glides)).nodes)) m
@@ -232,14 +228,14 @@ module _ (c : Config) (l : Ledger) (known : Known c l) where
           let s = known.kept.sound in
           let same = sym (moved_end (λ n. n * c.block) u) in
           record {
-            feeds = λ p. subst (λ k. (port_from es k u.bus ≡ some p) ↔ In (change.edge k u.bus p) es) same (now_edge s u j p, edge_now s u j p);
-            holds = λ p. subst (λ k. (port_from es k u.bus ≡ some p) ↔ (holder_at l.shared.graph.nodes es u.bus.0 p ≡ voice u.id)) same (now_holds s u j p, holds_now s u j p);
+            feeds = λ p. subst (λ k. (port_from es k u.bus ≡ Some p) ↔ In (change.edge k u.bus p) es) same (now_edge s u j p, edge_now s u j p);
+            holds = λ p. subst (λ k. (port_from es k u.bus ≡ Some p) ↔ (holder_at l.shared.graph.nodes es u.bus.0 p ≡ voice u.id)) same (now_holds s u j p, holds_now s u j p);
           }
 
   pub holds : Holds c (store_of c l)
   holds =
       record {
-        removes = λ v i e. next call.clear (λ t. find (is_voice v.id) t.model.voices ≡ none) (ap (find (is_voice v.id)) left ∙ without_voice v i e);
+        removes = λ v i e. next call.clear (λ t. find (is_voice v.id) t.model.voices ≡ None) (ap (find (is_voice v.id)) left ∙ without_voice v i e);
         clears = next call.clear (λ t. t.model.voices ≡ Left (map (shown c) l.voices)) left;
         removed = λ n. next call.clear (λ t. t.answer ≡ call.removed n → length (map (shown c) l.voices) ≡ length t.model.voices + n) (λ e.
             length-map l.voices (shown c) ∙ cleared_count l r.ids n e ∙ ap (λ z. z + n) (sym (length-map (step call.clear l).ledger.voices (shown c))));
@@ -267,8 +263,8 @@ module _ (c : Config) (l : Ledger) (known : Known c l) where
         spawns = λ n b t x h. next (call.spawn_managed x) (λ z. z.answer ≡ call.spawned (spawn_answer x.bus x.rank (store_of c l)))
             (spawn_answer_lem x l known.kept.sound n (ap (λ (z : Config). z.budget) is ∙ b) (subst (λ (z : Config). Stealing z.policy) (sym is) t) (sym (refusal_same c l.shared l.voices x.def x.bus x.rank) ∙ h)
             ∙ ap call.spawned (sym (answer_same c x.bus x.rank l is known.kept.sound)));
-        arrives = λ x w. next (call.spawn_managed x) (λ t. t.answer ≡ call.spawned (Spawned.Voice w) → Arrives x (state_under c.budget) w (store_of c l) t.model) (managed_arrives x w);
-        arrives_loose = λ x w. next (call.spawn_loose x) (λ t. t.answer ≡ call.spawned (Spawned.Voice w) → Arrives x Loose w (store_of c l) t.model) (λ e.
+        arrives = λ x w. next (call.spawn_managed x) (λ t. t.answer ≡ call.spawned (Ok w) → Arrives x (state_under c.budget) w (store_of c l) t.model) (managed_arrives x w);
+        arrives_loose = λ x w. next (call.spawn_loose x) (λ t. t.answer ≡ call.spawned (Ok w) → Arrives x Loose w (store_of c l) t.model) (λ e.
             arrives_shown (call.spawn_loose x) x Loose refl w (loose_comes x l w (spawned_is e)));
         adds = λ kind ports required values glides k. next (call.add_node kind ports required values glides)
             (λ t. t.answer ≡ call.node k → In k.0 (node_ids t.model.shared.graph.nodes) × (In k.0 (node_ids l.shared.graph.nodes) → ⊥)) (node_added kind ports required values glides k);

@@ -9,7 +9,7 @@ use borrow.Author.Tests.{eq-eqb, ne_eqb}
 use Rattle.lists.specs.Member.{In}
 use Rattle.lists.proofs.Member.{in_snoc, in_map, some_inj}
 use Rattle.lists.specs.Find.{Once}
-use Rattle.lists.specs.Filter.{filter}
+use Rattle.std.specs.Prelude.{filter}
 use Rattle.lists.proofs.Filter.{filter_all, in_filter}
 use Rattle.lists.specs.Count.{more, count}
 use Rattle.lists.specs.Rising.{RisesFrom}

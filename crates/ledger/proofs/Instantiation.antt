@@ -4,7 +4,7 @@ use native.Mathlib.Omega.{arith}
 use mathlib.Core.Path.{◌≡◌, refl, sym, ap, ◌∙◌, subst}
 use mathlib.Core.Logic.{◌⊎◌, inl, inr, ⊎_elim}
 use mathlib.Core.List.{List, [], ◌∷◌, ◌++◌}
-use mathlib.Core.Option.{Option, some}
+use Rattle.std.specs.Prelude.{Option, Some}
 use mathlib.Core.Bool.{Bool, true, false, not}
 use lib.Dec.{ltb}
 use lib.ListN.{length}
@@ -35,7 +35,7 @@ pub record Planted (ns : List Node) (base k count : ℕ) (vs : List Voice) (h : 
   pub sound : Invariant g.nodes g.edges g.next k vs h
   pub next : g.next ≡ base + count
   pub old : (n : ℕ) → n < base → (owner_at g.nodes n ≡ owner_at ns n) × (ports_at g.nodes n ≡ ports_at ns n)
-  pub mine : (i : ℕ) → i < count → owner_at g.nodes (base + i) ≡ some k
+  pub mine : (i : ℕ) → i < count → owner_at g.nodes (base + i) ≡ Some k
   pub off : (e : Edge) → In e g.edges → Out (owner_at g.nodes) k e → ⊥
 
 module _ {ns : List Node} {base k : ℕ} {vs : List Voice} {h : Holders} where
@@ -61,11 +61,11 @@ module _ {ns : List Node} {base k : ℕ} {vs : List Voice} {h : Holders} where
           go true e = inl (ltb-true _ _ e)
           go false e = inr (ltb-false _ _ e)
 
-      at : (i : ℕ) → i < count + 1 → (i < count) ⊎ (count ≤ i) → owner_at (append g x).nodes (base + i) ≡ some k
+      at : (i : ℕ) → i < count + 1 → (i < count) ⊎ (count ≤ i) → owner_at (append g x).nodes (base + i) ≡ Some k
       at i b (inl c) = let a : base + i < g.next = omega (arith, r.next) in owner_old r.sound.listed x (base + i) a ∙ r.mine i c
       at i b (inr c) =
           let e : base + i ≡ g.next = omega (arith, r.next) in
-          ap (owner_at (append g x).nodes) e ∙ owner_new r.sound.listed x ∙ ap some o
+          ap (owner_at (append g x).nodes) e ∙ owner_new r.sound.listed x ∙ ap Some o
 
   pub planted_all : (xs : List Node) → ((x : Node) → In x xs → x.owner.0 ≡ k) → {count : ℕ} {g : GraphView} → Planted ns base k count vs h g
       → Planted ns base k (count + length xs) vs h (append_all g xs)
@@ -94,7 +94,7 @@ module _ {ns : List Node} {base k : ℕ} {vs : List Voice} {h : Holders} where
             ⊎_elim (λ j. r.off d j.0 o) (λ q. not_host mb (sym (ap (λ (y : Edge). owner_at g.nodes y.to.0) q) ∙ o.0)) (in_put e g.edges d i);
       }
     where
-      not_host : {o : Option ℕ} → o ≡ some k → o ≡ some 0 → ⊥
+      not_host : {o : Option ℕ} → o ≡ Some k → o ≡ Some 0 → ⊥
       not_host p q = let z : k ≡ 0 = some_inj (sym p ∙ q) in omega (arith, pos)
 
   pub planted_wires : {count : ℕ} → 0 < k → (ws : List Wire) → ((w : Wire) → In w ws → (w.from < count) × (w.to < count)) → {g : GraphView}
@@ -114,19 +114,19 @@ module _ {ns : List Node} {base k : ℕ} {vs : List Voice} {h : Holders} where
     abbrev own : Owners
     own = owner_at g.nodes
 
-    at_bus : own bus.0 ≡ some 0
+    at_bus : own bus.0 ≡ Some 0
     at_bus = (r.old bus.0 bl).0 ∙ live
 
     voiced₁ : Voiced own g.next k g.edges (vs ++ (v ∷ []))
     voiced₁ =
         voiced_snoc v r.sound.voiced
         (record {
-          feeds = ap own vf ∙ r.mine out lo ∙ ap some (sym vi);
+          feeds = ap own vf ∙ r.mine out lo ∙ ap Some (sym vi);
           named = omega arith;
           bus = omega (arith, r.next);
           hosted = λ n e. sym (some_inj (sym at_bus ∙ ap own (sym vb) ∙ e));
         })
-        (λ u i. omega (arith, older u i)) (omega arith) (λ e i o. r.off e i (o.0, o.1 ∙ ap some vi))
+        (λ u i. omega (arith, older u i)) (omega arith) (λ e i o. r.off e i (o.0, o.1 ∙ ap Some vi))
 
     pub sound_instantiate : Invariant g.nodes (wired g.edges e₁) g.next k (vs ++ (v ∷ [])) (hold bus p (voice (record { 0 = k })) h)
     sound_instantiate =
@@ -134,7 +134,7 @@ module _ {ns : List Node} {base k : ℕ} {vs : List Voice} {h : Holders} where
           listed = r.sound.listed;
           wired = wired_put e₁ g.edges r.sound.wired (record { a = k; b = 0; from = r.mine out lo; to = at_bus; range = λ z. subst (λ n. p < n) (sym (r.old bus.0 bl).1) range });
           voiced = voiced_put e₁ g.edges voiced₁ fed₁ other₁;
-          ends = end_put e₁ g.edges (end_snoc v r.sound.ends (ap own at_end ∙ r.mine out lo ∙ ap some (sym vi)) (λ e i o. r.off e i (o.0, o.1 ∙ ap some vi))) end₁;
+          ends = end_put e₁ g.edges (end_snoc v r.sound.ends (ap own at_end ∙ r.mine out lo ∙ ap Some (sym vi)) (λ e i o. r.off e i (o.0, o.1 ∙ ap Some vi))) end₁;
           held = λ n q.
               ap (λ x. hold bus p (voice (record { 0 = k })) (λ n q. x) n q) (r.sound.held n q)
               ∙ sym (hold_put r.sound.wired e₁ at_bus n q ∙ ap (λ x. hold bus p x (holder_at g.nodes g.edges) n q) src);
@@ -160,4 +160,4 @@ module _ {ns : List Node} {base k : ℕ} {vs : List Voice} {h : Holders} where
         other₁ : (u : Voice) → In u (vs ++ (v ∷ [])) → (d : Edge) → In d g.edges → not (ends_at bus p d) ≡ true → Out own u.id.0 e₁ → Out own u.id.0 d → ⊥
         other₁ u i d j z o x =
             let q : k ≡ u.id.0 = some_inj (sym (r.mine out lo) ∙ o.1) in
-            r.off d j (x.0, x.1 ∙ ap some (sym q))
+            r.off d j (x.0, x.1 ∙ ap Some (sym q))

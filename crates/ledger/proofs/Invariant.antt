@@ -4,12 +4,11 @@ use Prim.Native.Nat.{ℕ, ◌+◌, ◌≤◌, ◌<◌}
 use native.Mathlib.Omega.{arith}
 use mathlib.Core.Path.{◌≡◌, refl, sym, ap, ◌∙◌}
 use mathlib.Core.List.{List, [], ◌∷◌, ◌++◌}
-use mathlib.Core.Option.{none, some}
+use Rattle.std.specs.Prelude.{None, Some, filter}
 use mathlib.Core.Bool.{Bool, true, false, not, cond, ◌||◌, false≢true}
 use borrow.Author.Tests.{ne_eqb, not-true}
 use Rattle.lists.specs.Member.{In}
 use Rattle.lists.proofs.Member.{some_inj, none_some}
-use Rattle.lists.specs.Filter.{filter}
 use Rattle.lists.proofs.Filter.{in_filter}
 use Rattle.lists.proofs.Find.{once_filter}
 use Rattle.lists.specs.Rising.{RisesFrom}
@@ -39,7 +38,7 @@ pub record Invariant (ns : List Node) (es : List Edge) (next given : ℕ) (vs : 
 
 -- a live node of the host
 abbrev pub HostAt : List Node → ℕ → Type 0
-HostAt ns n = owner_at ns n ≡ some 0
+HostAt ns n = owner_at ns n ≡ Some 0
 
 module _ {ns : List Node} {es : List Edge} {nx nv : ℕ} {vs : List Voice} {h : Holders} (s : Invariant ns es nx nv vs h) where
   pub ends_below : (e : Edge) → In e es → (e.from.0 < nx) × (e.to.0 < nx)
@@ -79,7 +78,7 @@ module _ {ns : List Node} {es : List Edge} {nx nv : ℕ} {vs : List Voice} {h : 
       }
 
   -- ---- a node's record is replaced
-  pub sound_replaced : (y x : Node) (k : NodeId) → node_at ns k ≡ some x → y.id.0 ≡ x.id.0 → y.owner.0 ≡ x.owner.0 → y.ports ≡ x.ports
+  pub sound_replaced : (y x : Node) (k : NodeId) → node_at ns k ≡ Some x → y.id.0 ≡ x.id.0 → y.owner.0 ≡ x.owner.0 → y.ports ≡ x.ports
       → Invariant (replaced ns y) es nx nv vs h
   sound_replaced y x k e i o p =
       let same : (n : ℕ) → owner_at (replaced ns y) n ≡ owner_at ns n = owner_replaced s.listed y x k e i o p in
@@ -119,10 +118,10 @@ module _ {ns : List Node} {es : List Edge} {nx nv : ℕ} {vs : List Voice} {h : 
     same₂ : (e : Edge) → In e es₂ → Same (owner_at ns) (owner_at ns₂) e
     same₂ e i = let r = stays e i in (alive e.from.0 r.1, alive e.to.0 r.2)
 
-    back : (n k : ℕ) → owner_at ns₂ n ≡ some k → owner_at ns n ≡ some k
+    back : (n k : ℕ) → owner_at ns₂ n ≡ Some k → owner_at ns n ≡ Some k
     back n k e = go (dead_at n) (sym (owner_thin s.listed goes n) ∙ e)
       where
-        go : (b : Bool) → cond b none (owner_at ns n) ≡ some k → owner_at ns n ≡ some k
+        go : (b : Bool) → cond b None (owner_at ns n) ≡ Some k → owner_at ns n ≡ Some k
         go true f = absurd (none_some f)
         go false f = f
 
@@ -156,7 +155,7 @@ module _ {ns : List Node} {es : List Edge} {nx nv : ℕ} {vs : List Voice} {h : 
       }
     where
       -- a node of a voice that stays
-      safe : (v : Voice) → In v (filter (others w) vs) → (n : ℕ) → owner_at ns n ≡ some v.id.0 → among (ids_of (owned_by w) ns) (id n) ≡ false
+      safe : (v : Voice) → In v (filter (others w) vs) → (n : ℕ) → owner_at ns n ≡ Some v.id.0 → among (ids_of (owned_by w) ns) (id n) ≡ false
       safe v i n f = dead_voice s.listed w n v.id.0 f ∙ not-true _ (in_filter (others w) vs v i).1
 
   pub sound_removed : (k : NodeId) → HostAt ns k.0 → Invariant (filter (λ x. not (is_node k x)) ns) (drop_touching es (ids_of (is_node k) ns)) nx nv vs (drop_node k h)
@@ -172,7 +171,7 @@ module _ {ns : List Node} {es : List Edge} {nx nv : ℕ} {vs : List Voice} {h : 
       }
     where
       -- a node of a voice is not the host's
-      safe : (v : Voice) → In v vs → (n : ℕ) → owner_at ns n ≡ some v.id.0 → among (ids_of (is_node k) ns) (id n) ≡ false
+      safe : (v : Voice) → In v vs → (n : ℕ) → owner_at ns n ≡ Some v.id.0 → among (ids_of (is_node k) ns) (id n) ≡ false
       safe v i n f = dead_node s.listed k n v.id.0 f ∙ ne_eqb n k.0 (λ q.
           let z : v.id.0 ≡ 0 = some_inj (sym f ∙ ap (owner_at ns) q ∙ live) in
           omega (arith, above s.voiced v i))
@@ -188,7 +187,7 @@ module _ {ns : List Node} {es : List Edge} {nx nv : ℕ} {vs : List Voice} {h : 
         held = λ n q. ap (λ x. hold b p (host a) (λ n q. x) n q) (s.held n q) ∙ sym (hold_put s.wired (edge a b p) hb n q ∙ rw ha);
       }
     where
-      mine : (v : Voice) → In v vs → owner_at ns a.0 ≡ some v.id.0 → ⊥
+      mine : (v : Voice) → In v vs → owner_at ns a.0 ≡ Some v.id.0 → ⊥
       mine v i e = let z : 0 ≡ v.id.0 = some_inj (sym ha ∙ e) in omega (arith, above s.voiced v i)
 
   pub sound_disconnect : (b : NodeId) (p : ℕ) → Invariant ns (drop_at es b p) nx nv vs (hold b p nobody h)

@@ -6,7 +6,7 @@ use native.Mathlib.Decide.{ℕ_discrete}
 use mathlib.Core.Path.{◌≡◌, refl, sym, ap, ◌∙◌, subst}
 use mathlib.Core.Logic.{◌⊎◌, inl, inr, ⊎_elim}
 use mathlib.Core.List.{List, [], ◌∷◌, map}
-use mathlib.Core.Option.{Option, none, some}
+use Rattle.std.specs.Prelude.{Option, None, Some, find, filter, Result, Err, Ok}
 use mathlib.Core.Bool.{Bool, true, false, not, cond}
 use lib.IntN.{ℤ}
 use lib.Ieee.{Float}
@@ -15,9 +15,7 @@ use lib.Dec.{leb}
 use borrow.Author.Tests.{ne_eqb, eqb-true, not-true}
 use Rattle.lists.specs.Member.{In}
 use Rattle.lists.proofs.Member.{in_left, in_of_map, and_left, and_right}
-use Rattle.lists.specs.Find.{find}
 use Rattle.lists.proofs.Find.{find_in}
-use Rattle.lists.specs.Filter.{filter}
 use Rattle.lists.proofs.Filter.{in_filter, filter_in}
 use Rattle.lists.specs.Count.{more}
 use Rattle.node.specs.declared.record.VoiceId.{VoiceId}
@@ -45,8 +43,6 @@ use Rattle.model.specs.Page.{page}
 use Rattle.model.specs.Call.{Call, event, schedule_refusal, ready_answer, Question, answer_to, block_answer, whole_answer}
 use Rattle.model.specs.Block.{fades, sums, whole_fade_refusal, whole_sum_refusal}
 use Rattle.model.specs.Call as call
-use Rattle.prepare.specs.declared.Readiness.{Readiness}
-use Rattle.prepare.specs.declared.Readiness.TheVariants.{Ready, Refused}
 use Rattle.model.specs.Model.{Model}
 use Rattle.ledger.specs.Ledger.{Ledger, SpawnResult, port_free, port_held, without_voice, cut_off, stolen, steal_voice, instantiate_or, place, place_within_budget, refused, admitted, admission_on, free}
 use Rattle.ledger.specs.Ledger as ledger
@@ -70,8 +66,8 @@ block_silent true out = refl
 block_silent false out = refl
 
 whole_silent : (r : Option Refusal) (out : List ℤ) → is_sounded (whole_answer r out) ≡ false
-whole_silent none out = refl
-whole_silent (some r) out = refl
+whole_silent None out = refl
+whole_silent (Some r) out = refl
 
 -- no question is a render
 pub answer_silent : (port : Voice → Option ℕ) (q : Question) (m : Model) → is_sounded (answer_to port q m) ≡ false
@@ -174,8 +170,8 @@ module _ (v : Voice) (f : Fade) (ph : v.state ≡ Fading f) where
         off = ne_eqb v.id.0 w.id.0 other
 
         go : (o : Option ℕ) → In v (stolen w o m).voices
-        go none = filter_in (λ x. not (is_voice w.id x)) m.voices v i (ap not off)
-        go (some p) = subst (λ z. In z (map (begin_fade w.id (fade_of m.shared)) m.voices)) (begin_other w.id (fade_of m.shared) v off) (in_of_map (begin_fade w.id (fade_of m.shared)) m.voices v i)
+        go None = filter_in (λ x. not (is_voice w.id x)) m.voices v i (ap not off)
+        go (Some p) = subst (λ z. In z (map (begin_fade w.id (fade_of m.shared)) m.voices)) (begin_other w.id (fade_of m.shared) v off) (in_of_map (begin_fade w.id (fade_of m.shared)) m.voices v i)
 
     here_managed : (m : Ledger) → RecordedOf m → In v m.voices → Here (admitted (admission_on spawn.bus spawn.rank m) spawn m).ledger
     here_managed m r i =
@@ -183,9 +179,9 @@ module _ (v : Voice) (f : Fade) (ph : v.state ≡ Fading f) where
         (λ p w a u j t. let z = and_left (tracks u) _ t in here_budgeted (steal_voice u m) (recorded_steal u m r j z) (inl (here_steal u m r i j z)))
 
   -- ---- frees and clearings
-  leaves_freed : (o : Option Voice) (m : Ledger) → In v m.voices → In v (ledger.freed o m).voices ⊎ ((w : Voice) × (o ≡ some w) × (v.id.0 ≡ w.id.0))
-  leaves_freed none m i = inl i
-  leaves_freed (some w) m i = ⊎_elim inl (λ e. inr (w, refl, e)) (stays_filter w.id m.voices i)
+  leaves_freed : (o : Option Voice) (m : Ledger) → In v m.voices → In v (ledger.freed o m).voices ⊎ ((w : Voice) × (o ≡ Some w) × (v.id.0 ≡ w.id.0))
+  leaves_freed None m i = inl i
+  leaves_freed (Some w) m i = ⊎_elim inl (λ e. inr (w, refl, e)) (stays_filter w.id m.voices i)
 
   leaves_free : (w : VoiceId) (m : Ledger) → In v m.voices → In v (free w m).voices ⊎ (w ≡ v.id)
   leaves_free w m i =
@@ -223,13 +219,13 @@ module _ (v : Voice) (f : Fade) (ph : v.state ≡ Fading f) where
   blocks false m i = counts (is_sounding (heard (sounding m.shared))) m.voices i
 
   -- ---- every call
-  guarded : (o : Option Refusal) (x : Call) (l : Ledger) (s : Step) → In v l.voices → (o ≡ none → Next l v f x s) → Next l v f x (unless o l s)
-  guarded (some r) x l s i g = inl (still l.voices i)
-  guarded none x l s i g = g refl
+  guarded : (o : Option Refusal) (x : Call) (l : Ledger) (s : Step) → In v l.voices → (o ≡ None → Next l v f x s) → Next l v f x (unless o l s)
+  guarded (Some r) x l s i g = inl (still l.voices i)
+  guarded None x l s i g = g refl
 
-  leaves_loose : (o : Option ℕ) (spawn : Spawn) (l : Ledger) → In v l.voices → In v (instantiate_or o none spawn Loose l (ledger.refused NoPort)).ledger.voices
-  leaves_loose (some p) spawn l i = in_left l.voices (new_voice spawn Loose p l.shared ∷ []) v i
-  leaves_loose none spawn l i = i
+  leaves_loose : (o : Option ℕ) (spawn : Spawn) (l : Ledger) → In v l.voices → In v (instantiate_or o None spawn Loose l (ledger.refused NoPort)).ledger.voices
+  leaves_loose (Some p) spawn l i = in_left l.voices (new_voice spawn Loose p l.shared ∷ []) v i
+  leaves_loose None spawn l i = i
 
   leaves_clear : (l : Ledger) → OwnNodes l → In v l.voices → Next l v f call.clear (step call.clear l)
   leaves_clear l q i = ⊎_elim second first (leaves_all (ended_voices l) l i)
@@ -265,8 +261,8 @@ module _ (v : Voice) (f : Fade) (ph : v.state ≡ Fading f) where
       timed_by s z = let j = in_filter (queue.due (deadline l.shared)) l.shared.events z.0 z.1 in timed out z.0 j.0 j.1 z.2 z.3
 
       go : (o : Option Refusal) → Next l v f (call.render out) (render_step o out l)
-      go (some r) = inl (still l.voices i)
-      go none = ⊎_elim (λ j. inl (blocks (any_free q) (apply_events q (rested l)) j)) (λ z. inr (timed_by (render_step none out l) z)) (leaves_events q (rested l) i)
+      go (Some r) = inl (still l.voices i)
+      go None = ⊎_elim (λ j. inl (blocks (any_free q) (apply_events q (rested l)) j)) (λ z. inr (timed_by (render_step None out l) z)) (leaves_events q (rested l) i)
 
   leaves_managed : (spawn : Spawn) (l : Ledger) → RecordedOf l → In v l.voices → Next l v f (call.spawn_managed spawn) (step (call.spawn_managed spawn) l)
   leaves_managed spawn l r i = go (spawn_refusal l.shared l.voices spawn.def spawn.bus spawn.rank)
@@ -275,13 +271,13 @@ module _ (v : Voice) (f : Fade) (ph : v.state ≡ Fading f) where
       out z = record { answer = call.spawned z.answer; ledger = z.ledger }
 
       go : (o : Option Refusal) → Next l v f (call.spawn_managed spawn) (out (ledger.unless o l (admitted (admission_on spawn.bus spawn.rank l) spawn l)))
-      go (some n) = inl (still l.voices i)
-      go none =
+      go (Some n) = inl (still l.voices i)
+      go None =
           ⊎_elim (λ j. inl (still (admitted (admission_on spawn.bus spawn.rank l) spawn l).ledger.voices j)) (λ z. inr (reclaimed spawn z.0 z.1.1)) (here_managed spawn l r i)
 
-  ready_still : (l : Ledger) (a : Readiness) → In v l.voices → GoesOn v f (ready_answer a) l.voices
-  ready_still l Ready i = still l.voices i
-  ready_still l (Refused r) i = still l.voices i
+  ready_still : (l : Ledger) (a : Result (Unit {0}) Refusal) → In v l.voices → GoesOn v f (ready_answer a) l.voices
+  ready_still l (Ok tt) i = still l.voices i
+  ready_still l (Err r) i = still l.voices i
 
   pub leaves : (x : Call) (l : Ledger) → RecordedOf l → OwnNodes l → In v l.voices → GoesOn v f (step x l).answer (step x l).ledger.voices ⊎ Why l (step x l).ledger v f x
   leaves (call.add_node kind ports required values glides) l r q i = guarded (add_refusal l.shared.graph kind ports required) _ l _ i (λ e. inl (still l.voices i))
@@ -293,8 +289,8 @@ module _ (v : Voice) (f : Fade) (ph : v.state ≡ Fading f) where
   leaves (call.spawn_loose spawn) l r q i = inl (go (spawn_refusal l.shared l.voices spawn.def spawn.bus spawn.rank))
     where
       go : (o : Option Refusal) → In (with_state (Fading f) v) (ledger.unless o l (place 0 spawn Loose l)).ledger.voices
-      go (some n) = still l.voices i
-      go none = still (place 0 spawn Loose l).ledger.voices (leaves_loose (port_free spawn.bus l) spawn l i)
+      go (Some n) = still l.voices i
+      go None = still (place 0 spawn Loose l).ledger.voices (leaves_loose (port_free spawn.bus l) spawn l i)
   leaves (call.free w) l r q i = ⊎_elim (λ j. inl (still (free w l).voices j)) (λ e. inr (subst (λ z. Why l (free w l) v f (call.free z)) (sym e) freed)) (leaves_free w l i)
   leaves call.clear l r q i = leaves_clear l q i
   leaves (call.order w name o) l r q i = inl (still l.voices i)

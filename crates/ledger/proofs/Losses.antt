@@ -7,16 +7,14 @@ use native.Mathlib.Decide.{ℕ_discrete}
 use mathlib.Core.Path.{◌≡◌, refl, sym, ap, ap₂, ◌∙◌, subst}
 use mathlib.Core.Logic.{◌⊎◌, inl, inr, ⊎_elim}
 use mathlib.Core.List.{List, [], ◌∷◌, ◌++◌, map}
-use mathlib.Core.Option.{Option, none, some}
+use Rattle.std.specs.Prelude.{Option, None, Some, find, is_some, option_map, filter, Float}
 use mathlib.Core.Bool.{Bool, true, false, not, cond, ◌&&◌, ◌||◌, false≢true}
 use lib.Dec.{eqb, leb, ltb}
 use lib.ListN.{length, length-append}
 use borrow.Author.Tests.{eq-eqb, ne_eqb, eqb-true, not-true, leb-true}
 use Rattle.lists.specs.Member.{In}
 use Rattle.lists.proofs.Member.{in_snoc, in_left, in_right, in_map, in_of_map, and_left, and_right, both, some_inj, none_some}
-use Rattle.lists.specs.Find.{find, is_some, map_o}
 use Rattle.lists.proofs.Find.{find_in, find_filter_same, find_snoc_off, find_map}
-use Rattle.lists.specs.Filter.{filter}
 use Rattle.lists.proofs.Filter.{in_filter, filter_in}
 use Rattle.lists.proofs.Count.{count_length}
 use Rattle.node.specs.declared.record.NodeId.{NodeId}
@@ -28,10 +26,7 @@ use Rattle.voice.specs.declared.policy.Admission.{Admission}
 use Rattle.voice.specs.declared.policy.Admission.TheVariants as admission
 use Rattle.voice.specs.declared.policy.BudgetScope.{BudgetScope}
 use Rattle.voice.specs.declared.policy.BudgetScope.TheVariants.{Global, PerGroup}
-use Rattle.voice.specs.declared.policy.Level.{Level}
-use Rattle.voice.specs.declared.policy.Level.TheVariants.{Unknown, Known}
 use Rattle.voice.specs.declared.steals.StealRecord.{StealRecord}
-use Rattle.voice.specs.declared.steals.StealFound.TheVariants as found
 use Rattle.store.specs.declared.voices.Voice.{Voice}
 use Rattle.store.specs.declared.voices.VoiceState.{VoiceState}
 use Rattle.store.specs.declared.voices.VoiceState.TheVariants.{Tracked, Fading, Loose}
@@ -58,17 +53,17 @@ pub records_same : (r r' : Voice → StealRecord) (b b' : StealLog) (k : ℕ) (v
     → Records r b k vs → Records r' b' k vs
 records_same r r' b b' k [] h g s = tt
 records_same r r' b b' k (v ∷ vs) h g s = (
-  g k (omega arith) (omega arith) ∙ s.0 ∙ ap found.Record (h v (inl refl)),
+  g k (omega arith) (omega arith) ∙ s.0 ∙ ap Some (h v (inl refl)),
   records_same r r' b b' (suc k) vs (λ u i. h u (inr i)) (λ j a c. g j (omega arith) (omega arith)) s.1,
 )
 
-records_snoc : (r : Voice → StealRecord) (b : StealLog) (k : ℕ) (vs : List Voice) (v : Voice) → Records r b k vs → held_record b (k + length vs) ≡ found.Record (r v) → Records r b k (vs ++ (v ∷ []))
+records_snoc : (r : Voice → StealRecord) (b : StealLog) (k : ℕ) (vs : List Voice) (v : Voice) → Records r b k vs → held_record b (k + length vs) ≡ Some (r v) → Records r b k (vs ++ (v ∷ []))
 records_snoc r b k [] v s e = let z : k + 0 ≡ k = omega arith in (ap (held_record b) (sym z) ∙ e, tt)
 records_snoc r b k (u ∷ vs) v s e = let z : suc k + length vs ≡ k + suc (length vs) = omega arith in (s.0, records_snoc r b (suc k) vs v s.1 (ap (held_record b) z ∙ e))
 
-cut_record : (s : ℕ) (x : Level) (c : Bool) → cut_of (record_of s x c) ≡ record_of s x true
-cut_record s Unknown c = refl
-cut_record s (Known x) c = refl
+cut_record : (s : ℕ) (x : Option Float) (c : Bool) → cut_of (record_of s x c) ≡ record_of s x true
+cut_record s None c = refl
+cut_record s (Some x) c = refl
 
 -- no two have one id
 abbrev pub Apart : List Voice → Type 0
@@ -83,8 +78,8 @@ apart_snoc (x ∷ vs) v h a = (
 )
 
 heads_snoc : (o : Option Voice) (vs : List Voice) (v : Voice) → Heads o vs → Heads o (vs ++ (v ∷ []))
-heads_snoc none vs v h = tt
-heads_snoc (some g) vs v h = (h.0 ++ (v ∷ []), ap (λ z. z ++ (v ∷ [])) h.1)
+heads_snoc None vs v h = tt
+heads_snoc (Some g) vs v h = (h.0 ++ (v ∷ []), ap (λ z. z ++ (v ∷ [])) h.1)
 
 -- what a managed spawn on the bus, of rank r and with the victim o, made of l
 pub record LossesOf (bus : NodeId) (r : ℕ) (o : Option Voice) (l l' : Ledger) : Type 0 where
@@ -94,15 +89,15 @@ pub record LossesOf (bus : NodeId) (r : ℕ) (o : Option Voice) (l l' : Ledger) 
   pub all : (v : Voice) → In v l.voices → v.state ≡ Tracked → In v lost ⊎ In v l'.voices
   pub apart : Apart lost
   pub first : Heads o lost
-  pub others : (v : Voice) → In v lost → (o ≡ some v) ⊎ (is_on bus v ≡ true)
+  pub others : (v : Voice) → In v lost → (o ≡ Some v) ⊎ (is_on bus v ≡ true)
   pub below : (v : Voice) → In v lost → v.rank ≤ r
-  pub least : (v u : Voice) → o ≡ some v → In u l.voices → counted l.shared.config.scope bus u ≡ true → v.rank ≤ u.rank
+  pub least : (v u : Voice) → o ≡ Some v → In u l.voices → counted l.shared.config.scope bus u ≡ true → v.rank ≤ u.rank
   pub lowest : (v u : Voice) → In v lost → In u l'.voices → u.state ≡ Tracked → is_on bus u ≡ true → v.rank ≤ u.rank
-  pub fades : (v u : Voice) → In v lost → find (is_voice v.id) l'.voices ≡ some u → (u ≡ with_state (Fading (fade_of l.shared)) v) × ((p : ℕ) × (port_held v l ≡ some p))
+  pub fades : (v u : Voice) → In v lost → find (is_voice v.id) l'.voices ≡ Some u → (u ≡ with_state (Fading (fade_of l.shared)) v) × ((p : ℕ) × (port_held v l ≡ Some p))
   pub count : l'.shared.steals.count ≡ l.shared.steals.count + length lost
   pub records : Records (loss_of l.shared l'.voices) l'.shared.steals l.shared.steals.count lost
 
-nothing_lost : (bus : NodeId) (r : ℕ) (l : Ledger) → LossesOf bus r none l l
+nothing_lost : (bus : NodeId) (r : ℕ) (l : Ledger) → LossesOf bus r None l l
 nothing_lost bus r l =
     record {
       lost = [];
@@ -130,7 +125,7 @@ module _ (bus : NodeId) (rank : ℕ) (l₀ : Ledger) (r₀ : RecordedOf l₀) (q
 
   -- the victim, which fades from this spawn on
   abbrev pub Started : Voice → Type 0
-  Started v = (g : Voice) × (p : ℕ) × (o ≡ some g) × (port_held g l₀ ≡ some p) × (v ≡ with_state (Fading (fade_of l₀.shared)) g)
+  Started v = (g : Voice) × (p : ℕ) × (o ≡ Some g) × (port_held g l₀ ≡ Some p) × (v ≡ with_state (Fading (fade_of l₀.shared)) g)
 
   pub record Losing (z : Ledger) : Type 0 where
     pub recorded : RecordedOf z
@@ -145,7 +140,7 @@ module _ (bus : NodeId) (rank : ℕ) (l₀ : Ledger) (r₀ : RecordedOf l₀) (q
     pub away : (v : Voice) → In v lost → In v z.voices → ⊥
     pub all : (v : Voice) → In v l₀.voices → v.state ≡ Tracked → In v lost ⊎ In v z.voices
     pub apart : Apart lost
-    pub others : (v : Voice) → In v lost → (o ≡ some v) ⊎ (is_on bus v ≡ true)
+    pub others : (v : Voice) → In v lost → (o ≡ Some v) ⊎ (is_on bus v ≡ true)
     pub below : (v : Voice) → In v lost → v.rank ≤ rank
     pub lowest : (v u : Voice) → In v lost → In u z.voices → u.state ≡ Tracked → is_on bus u ≡ true → v.rank ≤ u.rank
     pub count : z.shared.steals.count ≡ k₀ + length lost
@@ -159,8 +154,8 @@ module _ (bus : NodeId) (rank : ℕ) (l₀ : Ledger) (r₀ : RecordedOf l₀) (q
     -- and its level is what it was: no part of the spawn changed its nodes
     level_same : voice_level z.shared v ≡ voice_level l₀.shared v
     level_same =
-        ap (λ c. cond (ltb v.birth c) (node_level (node_at z.shared.graph.nodes v.output)) Unknown) h.clock
-        ∙ ap (λ x. cond (ltb v.birth l₀.shared.clock) (node_level x) Unknown) (h.sees v i)
+        ap (λ c. cond (ltb v.birth c) (node_level (node_at z.shared.graph.nodes v.output)) None) h.clock
+        ∙ ap (λ x. cond (ltb v.birth l₀.shared.clock) (node_level x) None) (h.sees v i)
 
     -- another voice of the losses has another id
     lost_other : v.state ≡ Tracked → (g : Voice) → In g h.lost → g.id.0 ≡ v.id.0 → ⊥
@@ -176,7 +171,7 @@ module _ (bus : NodeId) (rank : ℕ) (l₀ : Ledger) (r₀ : RecordedOf l₀) (q
   loss_other : (w : VoiceId) (vs : List Voice) (g : Voice) → (g.id.0 ≡ w.0 → ⊥) → loss_of l₀.shared vs g ≡ loss_of l₀.shared (filter (λ x. not (is_voice w x)) vs) g
   loss_other w vs g off = ap (λ x. record_of l₀.shared.clock (voice_level l₀.shared g) (not (is_some x))) (sym (other_found w vs g off))
 
-  loss_removed : (vs : List Voice) (g : Voice) → find (is_voice g.id) vs ≡ none → record_of l₀.shared.clock (voice_level l₀.shared g) true ≡ loss_of l₀.shared vs g
+  loss_removed : (vs : List Voice) (g : Voice) → find (is_voice g.id) vs ≡ None → record_of l₀.shared.clock (voice_level l₀.shared g) true ≡ loss_of l₀.shared vs g
   loss_removed vs g e = ap (λ x. record_of l₀.shared.clock (voice_level l₀.shared g) (not (is_some x))) (sym e)
 
   -- at most 64 records are written, so that all are held
@@ -217,7 +212,7 @@ module _ (bus : NodeId) (rank : ℕ) (l₀ : Ledger) (r₀ : RecordedOf l₀) (q
             ⊎_elim (λ m. inl (subst (λ x. In x lost) (sym s) m)) (λ f. absurd (f (ap (λ (x : Voice). x.state) (sym s) ∙ t))) own
 
     -- a tracked voice is removed, with a cut record
-    losing_push : v.state ≡ Tracked → (o ≡ some v) ⊎ (is_on bus v ≡ true) → v.rank ≤ rank → ((u : Voice) → In u z.voices → tracked_on bus u ≡ true → v.rank ≤ u.rank) → Losing (cut_off v Tracked z)
+    losing_push : v.state ≡ Tracked → (o ≡ Some v) ⊎ (is_on bus v ≡ true) → v.rank ≤ rank → ((u : Voice) → In u z.voices → tracked_on bus u ≡ true → v.rank ≤ u.rank) → Losing (cut_off v Tracked z)
     losing_push t why low least =
         record {
           recorded = recorded_cut v Tracked z h.recorded i t;
@@ -232,7 +227,7 @@ module _ (bus : NodeId) (rank : ℕ) (l₀ : Ledger) (r₀ : RecordedOf l₀) (q
           away = λ u j k. ⊎_elim (λ m. h.away u m (in_rest u k).0) (λ e. (in_rest u k).1 (ap (λ (x : Voice). x.id.0) (sym e))) (in_snoc h.lost v u j);
           all = all_rest (h.lost ++ (v ∷ [])) (inl (in_right h.lost (v ∷ []) v (inl refl))) (λ u j. in_left h.lost (v ∷ []) u j);
           apart = apart_snoc h.lost v (lost_other z h v i t) h.apart;
-          others = λ u j. ⊎_elim (h.others u) (λ e. subst (λ x. (o ≡ some x) ⊎ (is_on bus x ≡ true)) (sym e) why) (in_snoc h.lost v u j);
+          others = λ u j. ⊎_elim (h.others u) (λ e. subst (λ x. (o ≡ Some x) ⊎ (is_on bus x ≡ true)) (sym e) why) (in_snoc h.lost v u j);
           below = λ u j. ⊎_elim (h.below u) (λ e. subst (λ (x : Voice). x.rank ≤ rank) (sym e) low) (in_snoc h.lost v u j);
           lowest = λ u y j k s on. let m = (in_rest y k).0 in ⊎_elim (λ i. h.lowest u y i m s on) (λ e. subst (λ (x : Voice). x.rank ≤ y.rank) (sym e) (least y m (both _ _ (ap is_tracked s) on))) (in_snoc h.lost v u j);
           count = let a = count_pushed b rec small in let e = h.count in let n = length-append h.lost (v ∷ []) in omega arith;
@@ -240,7 +235,7 @@ module _ (bus : NodeId) (rank : ℕ) (l₀ : Ledger) (r₀ : RecordedOf l₀) (q
               records_snoc (loss_of l₀.shared rest) (pushed b rec) k₀ h.lost v
               (records_same (loss_of l₀.shared z.voices) (loss_of l₀.shared rest) b (pushed b rec) k₀ h.lost (λ g j. loss_other v.id z.voices g (lost_other z h v i t g j))
               (λ j lo hi. held_still z h rec small j lo (let e = h.count in omega arith)) h.records)
-              (ap (held_record (pushed b rec)) (sym h.count) ∙ held_new b rec small h.recorded.newest ∙ ap found.Record what);
+              (ap (held_record (pushed b rec)) (sym h.count) ∙ held_new b rec small h.recorded.newest ∙ ap Some what);
         }
       where
         b : StealLog
@@ -305,12 +300,12 @@ module _ (bus : NodeId) (rank : ℕ) (l₀ : Ledger) (r₀ : RecordedOf l₀) (q
             number : f.number ≡ k₀
             number = ap (λ (x : Fade). x.number) (fade_inj (sym t ∙ ap (λ (x : Voice). x.state) s.4))
 
-            absent : find (is_voice g.id) rest ≡ none
+            absent : find (is_voice g.id) rest ≡ None
             absent = ap (λ n. find (λ (x : Voice). eqb x.id.0 n) rest) (sym same) ∙ removed_self v.id z.voices
 
             first : (q : List Voice) × (h.lost ≡ g ∷ q) → Marked h.lost
             first q = subst Marked (sym q.1) (
-              ap (λ j. held_record (marked b j) k₀) number ∙ held_marked b k₀ ∙ ap cut_found recs.0 ∙ ap found.Record (cut_record l₀.shared.clock (voice_level l₀.shared g) _ ∙ loss_removed rest g absent),
+              ap (λ j. held_record (marked b j) k₀) number ∙ held_marked b k₀ ∙ ap cut_found recs.0 ∙ ap Some (cut_record l₀.shared.clock (voice_level l₀.shared g) _ ∙ loss_removed rest g absent),
               records_same (loss_of l₀.shared z.voices) (loss_of l₀.shared rest) b (marked b f.number) (suc k₀) q.0
                   (λ u j. loss_other v.id z.voices u (λ e. ap'.0 u j (e ∙ same)))
                   (λ j lo hi. held_unmarked b f.number j (λ e. omega (arith, e, number, lo))) recs.1,
@@ -355,7 +350,7 @@ module _ (bus : NodeId) (rank : ℕ) (l₀ : Ledger) (r₀ : RecordedOf l₀) (q
       }
 
   -- the victim of the admission begins to fade, with a record that is not cut
-  losing_fade : (v : Voice) → In v l₀.voices → v.state ≡ Tracked → o ≡ some v → v.rank ≤ rank → ((u : Voice) → In u l₀.voices → tracked_on bus u ≡ true → v.rank ≤ u.rank) → (p : ℕ) → port_held v l₀ ≡ some p → Losing (stolen v (some p) l₀)
+  losing_fade : (v : Voice) → In v l₀.voices → v.state ≡ Tracked → o ≡ Some v → v.rank ≤ rank → ((u : Voice) → In u l₀.voices → tracked_on bus u ≡ true → v.rank ≤ u.rank) → (p : ℕ) → port_held v l₀ ≡ Some p → Losing (stolen v (Some p) l₀)
   losing_fade v i t is low least p held =
       record {
         recorded = subst (λ x. RecordedOf (stolen v x l₀)) held (recorded_steal v l₀ r₀ i (ap tracks' t));
@@ -370,11 +365,11 @@ module _ (bus : NodeId) (rank : ℕ) (l₀ : Ledger) (r₀ : RecordedOf l₀) (q
         away = λ u j. only u j (λ x. In x (map begins l₀.voices) → ⊥) without_voice;
         all = λ u j s. go u j (ℕ_discrete u.id.0 v.id.0);
         apart = (λ u j. absurd j, tt);
-        others = λ u j. only u j (λ x. (o ≡ some x) ⊎ (is_on bus x ≡ true)) (inl is);
+        others = λ u j. only u j (λ x. (o ≡ Some x) ⊎ (is_on bus x ≡ true)) (inl is);
         below = λ u j. only u j (λ x. x.rank ≤ rank) low;
         lowest = λ u y j k s on. only u j (λ x. x.rank ≤ y.rank) (⊎_elim (λ e. absurd (tracked_fades f₀ (sym s ∙ ap (λ (x : Voice). x.state) e))) (λ m. least y m.0 (both _ _ (ap is_tracked s) on)) (begun r₀.ids v i f₀ y k));
         count = count_pushed b rec small;
-        records = (held_new b rec small r₀.newest ∙ ap found.Record (ap (λ x. record_of l₀.shared.clock (voice_level l₀.shared v) (not (is_some x))) (sym there)), tt);
+        records = (held_new b rec small r₀.newest ∙ ap Some (ap (λ x. record_of l₀.shared.clock (voice_level l₀.shared v) (not (is_some x))) (sym there)), tt);
       }
     where
       tracks' : VoiceState → Bool
@@ -407,10 +402,10 @@ module _ (bus : NodeId) (rank : ℕ) (l₀ : Ledger) (r₀ : RecordedOf l₀) (q
       go u j (yes e) = inl (inl (unique r₀.ids u v j i e))
       go u j (no e) = inr (subst (λ x. In x (map begins l₀.voices)) (begin_other v.id f₀ u (ne_eqb u.id.0 v.id.0 e)) (in_of_map begins l₀.voices u j))
 
-      there : find (is_voice v.id) (map begins l₀.voices) ≡ some (begins v)
+      there : find (is_voice v.id) (map begins l₀.voices) ≡ Some (begins v)
       there =
           find_map begins (is_voice v.id) (is_voice v.id) (λ x. ap (λ (w : VoiceId). eqb w.0 v.id.0) (begin_id v.id f₀ x)) l₀.voices
-          ∙ ap (map_o begins) (once r₀.ids v.id v i (eq-eqb v.id.0 v.id.0 refl))
+          ∙ ap (option_map begins) (once r₀.ids v.id v i (eq-eqb v.id.0 v.id.0 refl))
 
       begin_output : (x : Voice) → (begins x).output ≡ x.output
       begin_output x = at (is_voice v.id x)
@@ -419,16 +414,16 @@ module _ (bus : NodeId) (rank : ℕ) (l₀ : Ledger) (r₀ : RecordedOf l₀) (q
           at true = refl
           at false = refl
 
-      sees : (x : Voice) → In x l₀.voices → (u : Voice) → u.output ≡ x.output → node_at (stolen v (some p) l₀).shared.graph.nodes u.output ≡ node_at l₀.shared.graph.nodes u.output
+      sees : (x : Voice) → In x l₀.voices → (u : Voice) → u.output ≡ x.output → node_at (stolen v (Some p) l₀).shared.graph.nodes u.output ≡ node_at l₀.shared.graph.nodes u.output
       sees x j u e =
           let q = q₀.1.output x j in
           let a = q₀.1.places x j in
           let lt = q.below in
-          subst (λ (k : NodeId). node_at (stolen v (some p) l₀).shared.graph.nodes k ≡ node_at l₀.shared.graph.nodes k) (sym (e ∙ q.is))
+          subst (λ (k : NodeId). node_at (stolen v (Some p) l₀).shared.graph.nodes k ≡ node_at l₀.shared.graph.nodes k) (sym (e ∙ q.is))
           (find_snoc_off (is_node (id (x.first.0 + q.at))) l₀.shared.graph.nodes (with_id l₀.shared.graph.next (fade_node v.id))
           (ne_eqb l₀.shared.graph.next (x.first.0 + q.at) (λ m. omega (arith, m, a, lt))))
 
-  losing_steal : (v : Voice) → In v l₀.voices → v.state ≡ Tracked → o ≡ some v → v.rank ≤ rank → ((u : Voice) → In u l₀.voices → tracked_on bus u ≡ true → v.rank ≤ u.rank) → (n : Losing (steal_voice v l₀)) × Heads o n.lost
+  losing_steal : (v : Voice) → In v l₀.voices → v.state ≡ Tracked → o ≡ Some v → v.rank ≤ rank → ((u : Voice) → In u l₀.voices → tracked_on bus u ≡ true → v.rank ≤ u.rank) → (n : Losing (steal_voice v l₀)) × Heads o n.lost
   unfolding losing_push losing_start losing_fade
   losing_steal v i t is low least = go (port_held v l₀) refl
     where
@@ -436,13 +431,13 @@ module _ (bus : NodeId) (rank : ℕ) (l₀ : Ledger) (r₀ : RecordedOf l₀) (q
       heads = subst (λ x. Heads x (v ∷ [])) (sym is) ([], refl)
 
       go : (x : Option ℕ) → port_held v l₀ ≡ x → (n : Losing (stolen v x l₀)) × Heads o n.lost
-      go none e = (losing_push l₀ losing_start v i t (inl is) low least, heads)
-      go (some p) e = (losing_fade v i t is low least p e, heads)
+      go None e = (losing_push l₀ losing_start v i t (inl is) low least, heads)
+      go (Some p) e = (losing_fade v i t is low least p e, heads)
 
   -- ---- its end: no port, or a new voice, whose id is none of theirs
   -- the victim is of the lowest rank among those that count
   abbrev Least : Type 0
-  Least = (v u : Voice) → o ≡ some v → In u l₀.voices → counted l₀.shared.config.scope bus u ≡ true → v.rank ≤ u.rank
+  Least = (v u : Voice) → o ≡ Some v → In u l₀.voices → counted l₀.shared.config.scope bus u ≡ true → v.rank ≤ u.rank
 
   losing_ends : Least → (z : Ledger) (h : Losing z) → Heads o h.lost → LossesOf bus rank o l₀ z
   losing_ends least z h heads =
@@ -462,7 +457,7 @@ module _ (bus : NodeId) (rank : ℕ) (l₀ : Ledger) (r₀ : RecordedOf l₀) (q
         records = h.records;
       }
     where
-      fades : (v u : Voice) → In v h.lost → find (is_voice v.id) z.voices ≡ some u → (u ≡ with_state (Fading (fade_of l₀.shared)) v) × ((p : ℕ) × (port_held v l₀ ≡ some p))
+      fades : (v u : Voice) → In v h.lost → find (is_voice v.id) z.voices ≡ Some u → (u ≡ with_state (Fading (fade_of l₀.shared)) v) × ((p : ℕ) × (port_held v l₀ ≡ Some p))
       fades v u i e = ⊎_elim old started (h.from u r.0)
         where
           r : In u z.voices × (is_voice v.id u ≡ true)
@@ -471,10 +466,10 @@ module _ (bus : NodeId) (rank : ℕ) (l₀ : Ledger) (r₀ : RecordedOf l₀) (q
           same : u.id.0 ≡ v.id.0
           same = eqb-true u.id.0 v.id.0 r.1
 
-          old : In u l₀.voices → (u ≡ with_state (Fading (fade_of l₀.shared)) v) × ((p : ℕ) × (port_held v l₀ ≡ some p))
+          old : In u l₀.voices → (u ≡ with_state (Fading (fade_of l₀.shared)) v) × ((p : ℕ) × (port_held v l₀ ≡ Some p))
           old j = let s : u ≡ v = unique r₀.ids u v j (h.were v i).0 same in absurd (h.away v i (subst (λ x. In x z.voices) s r.0))
 
-          started : Started u → (u ≡ with_state (Fading (fade_of l₀.shared)) v) × ((p : ℕ) × (port_held v l₀ ≡ some p))
+          started : Started u → (u ≡ with_state (Fading (fade_of l₀.shared)) v) × ((p : ℕ) × (port_held v l₀ ≡ Some p))
           started s =
               let q = subst (λ x. Heads x h.lost) s.2 heads in
               let j : In s.0 h.lost = subst (In s.0) (sym q.1) (inl refl) in
@@ -532,16 +527,16 @@ losses x l r q = go (spawn_refusal l.shared l.voices x.def x.bus x.rank) refl
     on_bus_lem Global b u h = both _ _ (and_left (is_tracked u.state) _ h) refl
     on_bus_lem PerGroup b u h = h
 
-    admits : length l.voices < 64 → (a : Admission) → admission_on bus x.rank l ≡ a → LossesOf bus x.rank (victim_in none a l.voices) l (admitted a x l).ledger
-    admits few admission.Admit e = losing_budgeted bus x.rank l r q few none (λ v u n. absurd (none_some n)) x refl refl l (losing_start bus x.rank l r q few none) tt
+    admits : length l.voices < 64 → (a : Admission) → admission_on bus x.rank l ≡ a → LossesOf bus x.rank (victim_in None a l.voices) l (admitted a x l).ledger
+    admits few admission.Admit e = losing_budgeted bus x.rank l r q few None (λ v u n. absurd (none_some n)) x refl refl l (losing_start bus x.rank l r q few None) tt
     admits few admission.Reject e = nothing_lost bus x.rank l
     admits few (admission.Steal p w) e =
         let s = steal_voice_lem r.ids l.shared (counted l.shared.config.scope bus) l.shared.config.budget l.shared.config.policy x.rank p w e in
-        let z = losing_steal bus x.rank l r q few (some s.0) s.0 s.1 (tracked_state s.0.state (and_left (is_tracked s.0.state) _ s.2)) refl s.4 (λ u i t. s.5 u i (on_bus_lem l.shared.config.scope bus u t)) in
+        let z = losing_steal bus x.rank l r q few (Some s.0) s.0 s.1 (tracked_state s.0.state (and_left (is_tracked s.0.state) _ s.2)) refl s.4 (λ u i t. s.5 u i (on_bus_lem l.shared.config.scope bus u t)) in
         subst (λ o. LossesOf bus x.rank o l (steal_then o x l).ledger) (sym s.3)
-        (losing_budgeted bus x.rank l r q few (some s.0) (λ v u n i t. subst (λ (y : Voice). y.rank ≤ u.rank) (some_inj n) (s.5 u i t)) x refl refl (steal_voice s.0 l) z.0 z.1)
+        (losing_budgeted bus x.rank l r q few (Some s.0) (λ v u n i t. subst (λ (y : Voice). y.rank ≤ u.rank) (some_inj n) (s.5 u i t)) x refl refl (steal_voice s.0 l) z.0 z.1)
 
     go : (o : Option Refusal) → spawn_refusal l.shared l.voices x.def bus x.rank ≡ o
         → LossesOf bus x.rank (victim_in o (admission_on bus x.rank l) l.voices) l (unless o l (admitted (admission_on bus x.rank l) x l)).ledger
-    go (some n) e = nothing_lost bus x.rank l
-    go none e = admits (spawn_allowed l.shared l.voices x.def bus x.rank e).voices (admission_on bus x.rank l) refl
+    go (Some n) e = nothing_lost bus x.rank l
+    go None e = admits (spawn_allowed l.shared l.voices x.def bus x.rank e).voices (admission_on bus x.rank l) refl

@@ -3,7 +3,7 @@
 use Prim.Native.Nat.{ℕ, ◌*◌, ◌/◌, ◌%◌, ◌≤◌, ◌<◌}
 use native.Mathlib.Omega.{arith}
 use mathlib.Core.Path.{◌≡◌, refl, sym, ap, ◌∙◌}
-use mathlib.Core.Option.{Option, none, some}
+use Rattle.std.specs.Prelude.{Option, None, Some}
 use mathlib.Core.Bool.{Bool, true, false, not, cond, ◌&&◌, true≢false}
 use lib.Dec.{eqb, leb}
 use lib.Ieee.{Float, nan, inf, fin, up, down}
@@ -42,14 +42,14 @@ pub record Accepted (k : Making) (m : Model) : Type 0 where
   pub block : 0 < k.block
   pub table : (config_of k).table ≡ true → (config_of k).rate ≡ table_rate
 
-pub made : (k : Making) (m : Model) → make k ≡ some m → Accepted k m
+pub made : (k : Making) (m : Model) → make k ≡ Some m → Accepted k m
 made k m h =
     let r = go (refusal_of k) h in
     let a = when_none (no_rate (rate_of k.rate)) SampleRate _ r.0 in
     let b = not-false (leb 1 k.block && leb k.block 128) (when_none (not (leb 1 k.block && leb k.block 128)) BlockSize _ a.1).0 in
     let d = when_none (not (leb 1 k.block && leb k.block 128)) BlockSize _ a.1 in
     let e = when_none (over_budget k.budget) BudgetTooLarge _ d.1 in
-    let f = when_none (k.table && other_rate (rate_of k.rate)) TableRate none e.1 in
+    let f = when_none (k.table && other_rate (rate_of k.rate)) TableRate None e.1 in
     record {
       new = r.1;
       length = short (rate_of k.rate) refl a.0;
@@ -57,9 +57,9 @@ made k m h =
       table = λ chosen. at_table (rate_of k.rate) (sym (ap (λ (t : Bool). t && other_rate (rate_of k.rate)) chosen) ∙ f.0);
     }
   where
-    go : (o : Option Refusal) → made_unless o (new_model (config_of k)) ≡ some m → (o ≡ none) × (m ≡ new_model (config_of k))
-    go none e = (refl, sym (some_inj e))
-    go (some r) e = absurd (none_some e)
+    go : (o : Option Refusal) → made_unless o (new_model (config_of k)) ≡ Some m → (o ≡ None) × (m ≡ new_model (config_of k))
+    go None e = (refl, sym (some_inj e))
+    go (Some r) e = absurd (none_some e)
 
     small : (n : ℕ) → n ≤ 384000 → fade_length n ≤ 18446744073709551615
     small n h = omega arith

@@ -2,7 +2,7 @@
 use Prim.Native.Nat.{ℕ, ◌≤◌}
 use mathlib.Core.Path.{◌≡◌, refl, sym, ◌∙◌, subst}
 use mathlib.Core.List.{List, [], ◌∷◌}
-use mathlib.Core.Option.{Option, none, some}
+use Rattle.std.specs.Prelude.{Option, None, Some}
 use mathlib.Core.Bool.{Bool, true, false, not, cond}
 use Rattle.lists.specs.Member.{In}
 use Rattle.node.specs.declared.record.VoiceId.{VoiceId}
@@ -60,8 +60,8 @@ pub ids_steal : (v : Voice) (l : Ledger) → IdsOf l → IdsOf (steal_voice v l)
 ids_steal v l u = go (port_held v l)
   where
     go : (o : Option ℕ) → IdsOf (stolen v o l)
-    go none = ids_filter (λ x. not (is_voice v.id x)) u
-    go (some p) = ids_map (begin_fade v.id (fade_of l.shared)) (begin_id v.id (fade_of l.shared)) u
+    go None = ids_filter (λ x. not (is_voice v.id x)) u
+    go (Some p) = ids_map (begin_fade v.id (fade_of l.shared)) (begin_id v.id (fade_of l.shared)) u
 
 pub ids_cut : (v : Voice) (s : VoiceState) (l : Ledger) → IdsOf l → IdsOf (cut_off v s l)
 ids_cut v s l u = ids_filter (λ x. not (is_voice v.id x)) u
@@ -97,8 +97,8 @@ pub config_steal : (v : Voice) (l : Ledger) → (steal_voice v l).shared.config 
 config_steal v l = go (port_held v l)
   where
     go : (o : Option ℕ) → (stolen v o l).shared.config ≡ l.shared.config
-    go none = refl
-    go (some p) = refl
+    go None = refl
+    go (Some p) = refl
 
 pub config_step : (x : Call) (l : Ledger) → IdsOf l → (step x l).ledger.shared.config ≡ l.shared.config
 config_step x l u =

@@ -8,14 +8,12 @@ use native.Mathlib.Decide.{ℕ_discrete}
 use mathlib.Core.Path.{◌≡◌, refl, sym, ap, ◌∙◌, subst}
 use mathlib.Core.Logic.{◌⊎◌, inl, inr, ⊎_elim}
 use mathlib.Core.List.{List, [], ◌∷◌, ◌++◌}
-use mathlib.Core.Option.{Option, none, some}
+use Rattle.std.specs.Prelude.{Option, None, Some, find, filter, Result}
 use mathlib.Core.Bool.{Bool, true, false, not}
 use borrow.Author.Tests.{ne_eqb, not-true}
 use Rattle.lists.specs.Member.{In}
 use Rattle.lists.proofs.Member.{and_left, and_right}
-use Rattle.lists.specs.Find.{find}
 use Rattle.lists.proofs.Find.{find_none, none_find, find_snoc_off}
-use Rattle.lists.specs.Filter.{filter}
 use Rattle.lists.proofs.Filter.{in_filter}
 use Rattle.lists.specs.Count.{more, count}
 use Rattle.lists.proofs.Count.{count_snoc}
@@ -23,8 +21,6 @@ use Rattle.node.specs.declared.record.VoiceId.{VoiceId}
 use Rattle.node.specs.declared.refusal.Refusal.{Refusal}
 use Rattle.voice.specs.Steals.{StealLog, pushed, marked, record_of}
 use Rattle.voice.specs.declared.steals.StealRecord.{StealRecord}
-use Rattle.voice.specs.declared.policy.Budget.TheVariants.{AtMost}
-use Rattle.store.specs.declared.answer.Spawned.{Spawned}
 use Rattle.store.specs.declared.config.Config.{Config}
 use Rattle.store.specs.declared.voices.Voice.{Voice}
 use Rattle.store.specs.declared.voices.VoiceState.{VoiceState}
@@ -79,10 +75,10 @@ module _ {b₀ : StealLog} {R : Type 0} {k : ℕ} where
   fate_marked b r (older q m) = older (held_marked b k ∙ ap cut_found q) m
   fate_marked b r (struck q x) = struck (held_marked b k ∙ ap cut_found q ∙ cut_twice (held_record b₀ k)) r
 
-removed_filter : (w : VoiceId) (t : Voice → Bool) (vs : List Voice) → find (is_voice w) vs ≡ none → find (is_voice w) (filter t vs) ≡ none
+removed_filter : (w : VoiceId) (t : Voice → Bool) (vs : List Voice) → find (is_voice w) vs ≡ None → find (is_voice w) (filter t vs) ≡ None
 removed_filter w t vs h = none_find (is_voice w) (filter t vs) (λ x i. find_none (is_voice w) vs x h (in_filter t vs x i).0)
 
-pub removed_self : (w : VoiceId) (vs : List Voice) → find (is_voice w) (filter (λ x. not (is_voice w x)) vs) ≡ none
+pub removed_self : (w : VoiceId) (vs : List Voice) → find (is_voice w) (filter (λ x. not (is_voice w x)) vs) ≡ None
 removed_self w vs = none_find (is_voice w) (filter (λ x. not (is_voice w x)) vs) (λ x i. not-true (is_voice w x) (in_filter (λ x. not (is_voice w x)) vs x i).1)
 
 module _ (spawn : Spawn) (l₀ : Ledger) (d₀ : Ids l₀.shared.spawned l₀.voices) where
@@ -196,8 +192,8 @@ module _ (spawn : Spawn) (l₀ : Ledger) (d₀ : Ids l₀.shared.spawned l₀.vo
       rest : (o : Option ℕ) → (b.count ≤ (stolen v o l₀).shared.steals.count)
           × ((u : Voice) → In u (stolen v o l₀).voices → (f : Fade) → u.state ≡ Fading f → In u l₀.voices ⊎ (f.number ≡ b.count))
           × ((k : ℕ) → k < b.count → Fate b (stolen v o l₀).shared.steals (Reclaimed l₀.voices (stolen v o l₀).voices spawn.bus k) k)
-      rest none = (grown true, λ u j f e. inl (in_filter (λ x. not (is_voice v.id x)) l₀.voices u j).0, λ k lt. fate_pushed b (rec true) small r.newest lt (same refl))
-      rest (some p) = (
+      rest None = (grown true, λ u j f e. inl (in_filter (λ x. not (is_voice v.id x)) l₀.voices u j).0, λ k lt. fate_pushed b (rec true) small r.newest lt (same refl))
+      rest (Some p) = (
         grown false,
         λ u j f e. ⊎_elim (λ z. inr (ap (λ (x : Fade). x.number) (fade_inj (sym e ∙ ap (λ (x : Voice). x.state) z)))) (λ z. inl z.0) (begun r.ids v i (fade_of l₀.shared) u j),
         λ k lt. fate_pushed b (rec false) small r.newest lt (same refl),
@@ -212,8 +208,8 @@ marks spawn l r k lt = go (spawn_refusal l.shared l.voices spawn.def spawn.bus s
     R z = Fate l.shared.steals z.ledger.shared.steals (Reclaimed l.voices z.ledger.voices spawn.bus k) k
 
     go : (o : Option Refusal) → spawn_refusal l.shared l.voices spawn.def spawn.bus spawn.rank ≡ o → R (unless o l (admitted (admission_on spawn.bus spawn.rank l) spawn l))
-    go (some n) e = same refl
-    go none e =
+    go (Some n) e = same refl
+    go None e =
         let h : l.shared.spawned < 18446744073709551615 = (spawn_allowed l.shared l.voices spawn.def spawn.bus spawn.rank e).ids_left in
         managed_kept spawn R l r.ids (λ a. same refl) (λ a. fates_budgeted spawn l r.ids l (during_new spawn l r.ids r h) k lt)
         (λ p w a v i t. fates_budgeted spawn l r.ids (steal_voice v l) (during_steal spawn l r.ids r h v i (and_left (tracks v) _ t)) k lt)
@@ -240,8 +236,8 @@ tally_steal v m r i t = go (port_held v m)
     s = tracked_state v.state t
 
     go : (o : Option ℕ) → tally_of (stolen v o m) ≡ tally_of m
-    go none = tally_cut v Tracked m r i s
-    go (some p) =
+    go None = tally_cut v Tracked m r i s
+    go (Some p) =
         let f = fade_of m.shared in
         let one = one_changed r.ids tracks (begin_fade v.id f) v (begin_other v.id f) t (ap tracks (begin_self v f)) i in
         let c = count_pushed m.shared.steals (record_of m.shared.clock (voice_level m.shared v) false) (steal_small r v i s) in
@@ -251,7 +247,7 @@ module _ (spawn : Spawn) (n : ℕ) where
   abbrev Tallies : ℕ → SpawnResult → Type 0
   Tallies t r = tally_of r.ledger ≡ more (is_let r.answer) t
 
-  tally_budgeted : (m : Ledger) → m.shared.config.budget ≡ AtMost n → RecordedOf m → Tallies (tally_of m) (place_within_budget spawn m)
+  tally_budgeted : (m : Ledger) → m.shared.config.budget ≡ Some n → RecordedOf m → Tallies (tally_of m) (place_within_budget spawn m)
   tally_budgeted m b r =
       place_kept spawn (state_under m.shared.config.budget) (λ k z. RecordedOf z × (tally_of z ≡ tally_of m)) (Tallies (tally_of m))
       (λ k z p e q. instantiates z p q.1) (λ z e q. q.1) (λ k z e f q. q.1)
@@ -263,16 +259,16 @@ module _ (spawn : Spawn) (n : ℕ) where
           let c = count_snoc tracks z.voices (new_voice spawn (state_under m.shared.config.budget) p z.shared) ∙ ap (λ b. more (is_tracked (state_under b)) (count tracks z.voices)) b in
           omega arith
 
-pub tallies : (spawn : Spawn) (n : ℕ) (l : Ledger) → l.shared.config.budget ≡ AtMost n → RecordedOf l → (a : Spawned) → (step (call.spawn_managed spawn) l).answer ≡ call.spawned a
+pub tallies : (spawn : Spawn) (n : ℕ) (l : Ledger) → l.shared.config.budget ≡ Some n → RecordedOf l → (a : Result VoiceId Refusal) → (step (call.spawn_managed spawn) l).answer ≡ call.spawned a
     → tally_of (step (call.spawn_managed spawn) l).ledger ≡ more (is_let a) (tally_of l)
 tallies spawn n l b r a e = all ∙ ap (λ x. more (is_let x) (tally_of l)) (spawned_inj e)
   where
-    spawned_inj : {x y : Spawned} → call.spawned x ≡ call.spawned y → x ≡ y
+    spawned_inj : {x y : Result VoiceId Refusal} → call.spawned x ≡ call.spawned y → x ≡ y
     spawned_inj h = cc
 
     go : (o : Option Refusal) → Tallies spawn n (tally_of l) (unless o l (admitted (admission_on spawn.bus spawn.rank l) spawn l))
-    go (some k) = refl
-    go none =
+    go (Some k) = refl
+    go None =
         managed_kept spawn (Tallies spawn n (tally_of l)) l r.ids (λ h. refl) (λ h. tally_budgeted spawn n l b r)
         (λ p w h v i t.
         let z = and_left (tracks v) _ t in

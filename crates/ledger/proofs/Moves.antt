@@ -1,18 +1,17 @@
 -- What is not a spawn: frees, clearing, values, glides, reports, prepare and render of the model and of the ledger agree.
+use Rattle.node.specs.declared.refusal.Refusal.{Refusal}
 use Prim.Native.Nat.{ℕ, ◌+◌, ◌≤◌, ◌<◌}
 use mathlib.Core.Path.{◌≡◌, refl, sym, ap, ap₂, ◌∙◌, subst}
 use mathlib.Core.Logic.{inl, inr}
 use mathlib.Core.List.{List, [], ◌∷◌, map}
-use mathlib.Core.Option.{Option, none, some}
+use Rattle.std.specs.Prelude.{Option, None, Some, filter, find, option_map, Result, Err, Ok}
 use mathlib.Core.Bool.{Bool, true, false, cond, ◌||◌}
 use lib.Dec.{eqb}
 use lib.Ieee.{Float}
 use lib.ListN.{length, length-map}
 use Rattle.lists.specs.Member.{In}
 use Rattle.lists.proofs.Member.{map_swap}
-use Rattle.lists.specs.Filter.{filter}
 use Rattle.lists.proofs.Filter.{filter_map, in_filter}
-use Rattle.lists.specs.Find.{find, map_o}
 use Rattle.lists.proofs.Find.{find_in}
 use Rattle.node.specs.declared.name.Name.{Name}
 use Rattle.node.specs.declared.order.LastOrder.{LastOrder}
@@ -20,8 +19,6 @@ use Rattle.node.specs.declared.record.NodeId.{NodeId}
 use Rattle.node.specs.declared.record.VoiceId.{VoiceId}
 use Rattle.node.specs.declared.record.Node.{Node}
 use Rattle.graph.specs.Node.{node_at}
-use Rattle.prepare.specs.declared.Readiness.{Readiness}
-use Rattle.prepare.specs.declared.Readiness.TheVariants.{Ready, Refused}
 use Rattle.scheduler.specs.Event.{param_order}
 use Rattle.scheduler.specs.declared.event.Event.{Event}
 use Rattle.synthdef.specs.Tables.{param_rows}
@@ -56,9 +53,9 @@ pub free_agrees : (w : VoiceId) (l : Ledger) → InvariantOf l → Left (model.f
 free_agrees w l s =
     subst (λ o. Left (model.freed o (model_of l)) (ledger.free w l)) (sym (find_stored (reached l.shared.config.block) w l.voices)) (go (find (is_voice w) l.voices) refl)
   where
-    go : (o : Option Voice) → find (is_voice w) l.voices ≡ o → Left (model.freed (map_o (stored l) o) (model_of l)) (ledger.freed o l)
-    go none e = record { model = refl; sound = s }
-    go (some v) e = record { model = model_removed v.id l; sound = sound_voice_removed s v.id (above s.voiced v (find_in (is_voice w) l.voices v e).0) }
+    go : (o : Option Voice) → find (is_voice w) l.voices ≡ o → Left (model.freed (option_map (stored l) o) (model_of l)) (ledger.freed o l)
+    go None e = record { model = refl; sound = s }
+    go (Some v) e = record { model = model_removed v.id l; sound = sound_voice_removed s v.id (above s.voiced v (find_in (is_voice w) l.voices v e).0) }
 
 -- ---- clearing
 removed_all : (gs : List Voice) (l : Ledger) → ((v : Voice) → In v gs → 0 < v.id.0) → InvariantOf l → Left (modelClear.without_voices (map (stored l) gs) (model_of l)) (ledgerClear.without_voices gs l)
@@ -121,29 +118,29 @@ module _ (l : Ledger) (s : InvariantOf l) where
   pub same_shared : SharedLeft l l.shared
   same_shared = record { model = refl; sound = s }
 
-  replaced_shared : (y x : Node) (k : NodeId) → node_at l.shared.graph.nodes k ≡ some x → y.id.0 ≡ x.id.0 → y.owner.0 ≡ x.owner.0 → y.ports ≡ x.ports → SharedLeft l (with_node y l.shared)
+  replaced_shared : (y x : Node) (k : NodeId) → node_at l.shared.graph.nodes k ≡ Some x → y.id.0 ≡ x.id.0 → y.owner.0 ≡ x.owner.0 → y.ports ≡ x.ports → SharedLeft l (with_node y l.shared)
   replaced_shared y x k e i o p = record { model = refl; sound = sound_replaced s y x k e i o p }
 
   -- a value or a glide
   order_node_lem : (x : LastOrder) (k : NodeId) → SharedLeft l (order_node (node_at l.shared.graph.nodes k) x l.shared).shared
   order_node_lem x k = go (node_at l.shared.graph.nodes k) refl
     where
-      at : (n : Node) → node_at l.shared.graph.nodes k ≡ some n → (b : Bool)
+      at : (n : Node) → node_at l.shared.graph.nodes k ≡ Some n → (b : Bool)
           → SharedLeft l (cond b (record { outcome = Applied; shared = with_node (with_last x n) l.shared }) (stays NotTaken l.shared)).shared
       at n e true = replaced_shared (with_last x n) n k e refl refl refl
       at n e false = same_shared
 
       go : (o : Option Node) → node_at l.shared.graph.nodes k ≡ o → SharedLeft l (order_node o x l.shared).shared
-      go none e = same_shared
-      go (some n) e = at n e (takes x n)
+      go None e = same_shared
+      go (Some n) e = at n e (takes x n)
 
   order_param_lem : (o : Option ℕ) (v : Voice) (x : LastOrder) → SharedLeft l (order_param o v x l.shared).shared
-  order_param_lem none v x = same_shared
-  order_param_lem (some i) v x = order_node_lem x (id (v.first.0 + i))
+  order_param_lem None v x = same_shared
+  order_param_lem (Some i) v x = order_node_lem x (id (v.first.0 + i))
 
   order_voice_lem : (o : Option Voice) (name : Name) (x : LastOrder) → SharedLeft l (order_voice o name x l.shared).shared
-  order_voice_lem none name x = same_shared
-  order_voice_lem (some v) name x = order_param_lem (param_node (param_rows v.params) name) v x
+  order_voice_lem None name x = same_shared
+  order_voice_lem (Some v) name x = order_param_lem (param_node (param_rows v.params) name) v x
 
   pub order_shared : (w : VoiceId) (name : Name) (x : LastOrder) → SharedLeft l (order w name x l.voices l.shared).shared
   order_shared w name x = order_voice_lem (find (is_voice w) l.voices) name x
@@ -153,13 +150,13 @@ module _ (l : Ledger) (s : InvariantOf l) where
   report_shared k samples flag = go (node_at l.shared.graph.nodes k) refl
     where
       go : (o : Option Node) → node_at l.shared.graph.nodes k ≡ o → SharedLeft l (report_node o samples flag l.shared)
-      go none e = same_shared
-      go (some n) e = replaced_shared (with_report samples flag n) n k e refl refl refl
+      go None e = same_shared
+      go (Some n) e = replaced_shared (with_report samples flag n) n k e refl refl refl
 
   -- prepare
-  pub ready_shared_lem : (r : Readiness) (o : List NodeId) → SharedLeft l (ready_shared r o l.shared)
-  ready_shared_lem Ready o = record { model = refl; sound = s }
-  ready_shared_lem (Refused r) o = same_shared
+  pub ready_shared_lem : (r : Result (Unit {0}) Refusal) (o : List NodeId) → SharedLeft l (ready_shared r o l.shared)
+  ready_shared_lem (Ok tt) o = record { model = refl; sound = s }
+  ready_shared_lem (Err r) o = same_shared
 
 -- ---- what the voices are asked for does not depend on positions
 module _ (more : ℕ → ℕ) (vs : List Voice) (d : SharedState) where
@@ -167,20 +164,20 @@ module _ (more : ℕ → ℕ) (vs : List Voice) (d : SharedState) where
   order_same w name x = ap (λ o. order_voice o name x d) (find_stored more w vs) ∙ go (find (is_voice w) vs)
     where
       param : (o : Option ℕ) (v : Voice) → order_param o (moved more v) x d ≡ order_param o v x d
-      param none v = refl
-      param (some i) v = refl
+      param None v = refl
+      param (Some i) v = refl
 
-      go : (o : Option Voice) → order_voice (map_o (moved more) o) name x d ≡ order_voice o name x d
-      go none = refl
-      go (some v) = param (param_node (param_rows v.params) name) v
+      go : (o : Option Voice) → order_voice (option_map (moved more) o) name x d ≡ order_voice o name x d
+      go None = refl
+      go (Some v) = param (param_node (param_rows v.params) name) v
 
   reports_same : (o : Option Node) → reports (map (moved more) vs) o ≡ reports vs o
-  reports_same none = refl
-  reports_same (some n) = ap (λ b. eqb n.owner.0 0 || b) (ap (of_definition n.id.0) (find_stored more n.owner vs) ∙ go (find (is_voice n.owner) vs))
+  reports_same None = refl
+  reports_same (Some n) = ap (λ b. eqb n.owner.0 0 || b) (ap (of_definition n.id.0) (find_stored more n.owner vs) ∙ go (find (is_voice n.owner) vs))
     where
-      go : (o : Option Voice) → of_definition n.id.0 (map_o (moved more) o) ≡ of_definition n.id.0 o
-      go none = refl
-      go (some v) = refl
+      go : (o : Option Voice) → of_definition n.id.0 (option_map (moved more) o) ≡ of_definition n.id.0 o
+      go None = refl
+      go (Some v) = refl
 
   pub refusal_same : (k : NodeId) (channels samples : ℕ) → report_refusal d (map (moved more) vs) k channels samples ≡ report_refusal d vs k channels samples
   refusal_same k channels samples = rw (reports_same (node_at d.graph.nodes k))
@@ -250,9 +247,9 @@ render_agrees l s =
 pub freed_same : (w : VoiceId) (l : Ledger) → free_outcome (find (is_voice w) (map (stored l) l.voices)) ≡ free_outcome (find (is_voice w) l.voices)
 freed_same w l = ap free_outcome (find_stored (reached l.shared.config.block) w l.voices) ∙ go (find (is_voice w) l.voices)
   where
-    go : (o : Option Voice) → free_outcome (map_o (stored l) o) ≡ free_outcome o
-    go none = refl
-    go (some v) = refl
+    go : (o : Option Voice) → free_outcome (option_map (stored l) o) ≡ free_outcome o
+    go None = refl
+    go (Some v) = refl
 
 outcome_agrees : (e : Event) (l : Ledger) → modelRender.outcome_of e (model_of l) ≡ ledgerRender.outcome_of e l
 outcome_agrees e l =

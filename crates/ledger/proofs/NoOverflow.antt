@@ -6,7 +6,7 @@ use native.Mathlib.Nat.{zero-mul}
 use mathlib.Core.Path.{◌≡◌, refl, sym, ap, ◌∙◌, subst}
 use mathlib.Core.Logic.{inl, inr, ⊎_elim}
 use mathlib.Core.List.{List, [], ◌∷◌, map}
-use mathlib.Core.Option.{Option, none, some}
+use Rattle.std.specs.Prelude.{Option, None, Some, find, Result, Err, Ok}
 use mathlib.Core.Bool.{Bool, true, false, not, cond}
 use lib.Ieee.{Float}
 use lib.ListN.{length}
@@ -14,7 +14,6 @@ use borrow.Author.Tests.{ltb-false}
 use Rattle.lists.specs.Member.{In}
 use Rattle.lists.proofs.Member.{in_snoc, in_map}
 use Rattle.lists.proofs.Filter.{in_filter}
-use Rattle.lists.specs.Find.{find}
 use Rattle.node.specs.Name.{name_of}
 use Rattle.node.specs.declared.name.Name.{Name}
 use Rattle.node.specs.declared.order.LastOrder.{LastOrder}
@@ -25,8 +24,6 @@ use Rattle.node.specs.declared.refusal.Refusal.{Refusal}
 use Rattle.node.specs.declared.refusal.Refusal.TheVariants.{ClockEnd}
 use Rattle.graph.specs.Node.{node_at}
 use Rattle.graph.specs.Refuse.{add_refusal, host_refusal, disconnect_refusal, connect_refusal}
-use Rattle.prepare.specs.declared.Readiness.{Readiness}
-use Rattle.prepare.specs.declared.Readiness.TheVariants.{Ready, Refused}
 use Rattle.scheduler.specs.Event.{param_order}
 use Rattle.scheduler.specs.declared.event.Event.{Event}
 use Rattle.synthdef.specs.Tables.{param_rows}
@@ -37,8 +34,6 @@ use Rattle.store.specs.declared.config.Config.{Config}
 use Rattle.store.specs.declared.voices.Voice.{Voice}
 use Rattle.store.specs.declared.voices.VoiceState.{VoiceState}
 use Rattle.store.specs.declared.voices.VoiceState.TheVariants.{Tracked, Fading, Loose}
-use Rattle.voice.specs.declared.policy.Budget.{Budget}
-use Rattle.voice.specs.declared.policy.Budget.TheVariants.{Unlimited, AtMost}
 use Rattle.model.specs.SharedState.{SharedState}
 use Rattle.model.specs.Voice.{is_voice, id, with_state, moved, moved_state, begin_fade}
 use Rattle.model.specs.Refuse.{spawn_refusal, report_refusal}
@@ -62,16 +57,16 @@ abbrev Still : SharedState → Ledger → Type 0
 Still d l = (l.shared.clock ≡ d.clock) × (l.shared.config ≡ d.config)
 
 still_freed : (o : Option Voice) (l : Ledger) → Still l.shared (freed o l)
-still_freed none l = (refl, refl)
-still_freed (some v) l = (refl, refl)
+still_freed None l = (refl, refl)
+still_freed (Some v) l = (refl, refl)
 
 still_all : (vs : List Voice) (l : Ledger) → Still l.shared (without_voices vs l)
 still_all [] l = (refl, refl)
 still_all (v ∷ vs) l = still_all vs (without_voice v.id l)
 
 still_node : (o : Option Node) (x : LastOrder) (d : SharedState) → ((order_node o x d).shared.clock ≡ d.clock) × ((order_node o x d).shared.config ≡ d.config)
-still_node none x d = (refl, refl)
-still_node (some n) x d = go (takes x n)
+still_node None x d = (refl, refl)
+still_node (Some n) x d = go (takes x n)
   where
     go : (b : Bool) → ((cond b (record { outcome = Applied; shared = with_node (with_last x n) d }) (stays NotTaken d)).shared.clock ≡ d.clock)
         × ((cond b (record { outcome = Applied; shared = with_node (with_last x n) d }) (stays NotTaken d)).shared.config ≡ d.config)
@@ -79,20 +74,20 @@ still_node (some n) x d = go (takes x n)
     go false = (refl, refl)
 
 still_param : (o : Option ℕ) (v : Voice) (x : LastOrder) (d : SharedState) → ((order_param o v x d).shared.clock ≡ d.clock) × ((order_param o v x d).shared.config ≡ d.config)
-still_param none v x d = (refl, refl)
-still_param (some i) v x d = still_node (node_at d.graph.nodes (id (v.first.0 + i))) x d
+still_param None v x d = (refl, refl)
+still_param (Some i) v x d = still_node (node_at d.graph.nodes (id (v.first.0 + i))) x d
 
 still_order : (o : Option Voice) (name : Name) (x : LastOrder) (d : SharedState) → ((order_voice o name x d).shared.clock ≡ d.clock) × ((order_voice o name x d).shared.config ≡ d.config)
-still_order none name x d = (refl, refl)
-still_order (some v) name x d = still_param (param_node (param_rows v.params) name) v x d
+still_order None name x d = (refl, refl)
+still_order (Some v) name x d = still_param (param_node (param_rows v.params) name) v x d
 
 still_report : (o : Option Node) (samples : List Float) (flag : Bool) (d : SharedState) → (report_node o samples flag d).clock ≡ d.clock
-still_report none samples flag d = refl
-still_report (some n) samples flag d = refl
+still_report None samples flag d = refl
+still_report (Some n) samples flag d = refl
 
-still_ready : (r : Readiness) (o : List NodeId) (d : SharedState) → ((ready_shared r o d).clock ≡ d.clock) × ((ready_shared r o d).config ≡ d.config)
-still_ready Ready o d = (refl, refl)
-still_ready (Refused r) o d = (refl, refl)
+still_ready : (r : Result (Unit {0}) Refusal) (o : List NodeId) (d : SharedState) → ((ready_shared r o d).clock ≡ d.clock) × ((ready_shared r o d).config ≡ d.config)
+still_ready (Ok tt) o d = (refl, refl)
+still_ready (Err r) o d = (refl, refl)
 
 still_applied : (e : Event) (l : Ledger) → Still l.shared (apply_event e l)
 still_applied e l = go (is_free e.action)
@@ -118,8 +113,8 @@ still_steal : (v : Voice) (l : Ledger) → (steal_voice v l).shared.clock ≡ l.
 still_steal v l = go (port_held v l)
   where
     go : (o : Option ℕ) → (stolen v o l).shared.clock ≡ l.shared.clock
-    go none = refl
-    go (some p) = refl
+    go None = refl
+    go (Some p) = refl
 
 still_place : (k : ℕ) (spawn : Spawn) (t : VoiceState) (c : ℕ) (l : Ledger) → l.shared.clock ≡ c → (place k spawn t l).ledger.shared.clock ≡ c
 still_place k spawn t c l e =
@@ -134,12 +129,12 @@ still_managed spawn l u =
     (λ p w h v i t. still_budgeted spawn l.shared.clock (steal_voice v l) (still_steal v l))
 
 still_spawned : (o : Option Refusal) (l : Ledger) (r : SpawnResult) → r.ledger.shared.clock ≡ l.shared.clock → (ledger.unless o l r).ledger.shared.clock ≡ l.shared.clock
-still_spawned none l r e = e
-still_spawned (some n) l r e = refl
+still_spawned None l r e = e
+still_spawned (Some n) l r e = refl
 
 still_unless : (o : Option Refusal) (l : Ledger) (s : Step) → s.ledger.shared.clock ≡ l.shared.clock → (unless o l s).ledger.shared.clock ≡ l.shared.clock
-still_unless none l s e = e
-still_unless (some n) l s e = refl
+still_unless None l s e = e
+still_unless (Some n) l s e = refl
 
 -- ---- so the clock stays within 64 bits: "15 clock + block above 2^64 - 1"
 pub clock_step : (x : Call) (l : Ledger) → IdsOf l → l.shared.clock ≤ 18446744073709551615 → (step x l).ledger.shared.clock ≤ 18446744073709551615
@@ -149,8 +144,8 @@ clock_step x l u h = go x
     same e = omega arith
 
     sounds : (out : List ℕ) (o : Option Refusal) → render_refusal l.shared (length out) ≡ o → (render_step o out l).ledger.shared.clock ≤ 18446744073709551615
-    sounds out (some r) e = h
-    sounds out none e =
+    sounds out (Some r) e = h
+    sounds out None e =
         let a = still_events (due l.shared) (rested l) in
         let b : l.shared.clock + l.shared.config.block ≤ 18446744073709551615 = ltb-false _ _ (when_none (clock_ends l.shared) ClockEnd _ e).0 in
         let c : (apply_events (due l.shared) (rested l)).shared.config.block ≡ l.shared.config.block = ap (λ (z : Config). z.block) a.1 in
@@ -203,9 +198,9 @@ no_overflow_place k spawn t new l h =
 no_overflow_budgeted : (spawn : Spawn) (l : Ledger) → NoOverflow l → NoOverflow (place_within_budget spawn l).ledger
 no_overflow_budgeted spawn l h = no_overflow_place (tries l.shared.config.budget l.voices) spawn (state_under l.shared.config.budget) (new l.shared.config.budget) l h
   where
-    new : (b : Budget) (block clock : ℕ) → Within block clock (state_under b)
-    new Unlimited block clock = tt
-    new (AtMost n) block clock = tt
+    new : (b : Option ℕ) (block clock : ℕ) → Within block clock (state_under b)
+    new None block clock = tt
+    new (Some n) block clock = tt
 
 no_overflow_steal : (v : Voice) (l : Ledger) → NoOverflow l → NoOverflow (steal_voice v l)
 no_overflow_steal v l h = go (port_held v l)
@@ -215,8 +210,8 @@ no_overflow_steal v l h = go (port_held v l)
     begins u false w = w
 
     go : (o : Option ℕ) → NoOverflow (stolen v o l)
-    go none u i = h u (in_filter (λ u. not (is_voice v.id u)) l.voices u i).0
-    go (some p) u i =
+    go None u i = h u (in_filter (λ u. not (is_voice v.id u)) l.voices u i).0
+    go (Some p) u i =
         let r = in_map (begin_fade v.id (fade_of l.shared)) l.voices u i in
         subst (λ (z : Voice). Within l.shared.config.block l.shared.clock z.state) (sym r.2) (begins r.0 (is_voice v.id r.0) (h r.0 r.1))
 

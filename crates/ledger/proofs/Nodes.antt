@@ -6,14 +6,13 @@ use native.Mathlib.Nat.{min-le_left}
 use mathlib.Core.Path.{◌≡◌, refl, sym, ap, ◌∙◌, subst}
 use mathlib.Core.Logic.{◌⊎◌, inl, inr, ⊎_elim}
 use mathlib.Core.List.{List, [], ◌∷◌, ◌++◌, map}
-use mathlib.Core.Option.{Option, none, some}
+use Rattle.std.specs.Prelude.{Option, None, Some, filter}
 use mathlib.Core.Bool.{Bool, true, false, not, cond, false≢true}
 use lib.ListN.{length}
 use borrow.Author.Tests.{eqb-true, ne_eqb}
 use Rattle.lists.specs.Member.{In}
 use Rattle.lists.proofs.Member.{in_snoc, in_map, map_same}
 use Rattle.lists.proofs.Find.{find_in, find_none, none_find, find_filter_some}
-use Rattle.lists.specs.Filter.{filter}
 use Rattle.lists.proofs.Filter.{in_filter, filter_in}
 use Rattle.node.specs.declared.record.NodeId.{NodeId}
 use Rattle.node.specs.declared.record.VoiceId.{VoiceId}
@@ -96,7 +95,7 @@ mine_map {ns} {next} {vs} f a b c d m =
           (record { at = p.at; below = rw (b r.0) p.below; is = d r.0 ∙ p.is ∙ ap (λ (k : NodeId). id (k.0 + p.at)) (sym (a r.0)) });
     }
 
-pub mine_replaced : {ns : List Node} {next : ℕ} {vs : List Voice} (k : NodeId) (x n : Node) → node_at ns k ≡ some x → n.id ≡ x.id → n.owner ≡ x.owner → Mine ns next vs → Mine (replaced ns n) next vs
+pub mine_replaced : {ns : List Node} {next : ℕ} {vs : List Voice} (k : NodeId) (x n : Node) → node_at ns k ≡ Some x → n.id ≡ x.id → n.owner ≡ x.owner → Mine ns next vs → Mine (replaced ns n) next vs
 mine_replaced {ns} {next} {vs} k x n e i o m =
     record {
       below = λ y j. let r = was y j in let z = r.2.0 in omega (arith, z, m.below r.0 r.1);
@@ -203,8 +202,8 @@ mine_steal v l m = go (port_held v l)
     f = fade_of l.shared
 
     go : (o : Option ℕ) → MineOf (stolen v o l)
-    go none = mine_cut v Tracked l m
-    go (some p) =
+    go None = mine_cut v Tracked l m
+    go (Some p) =
         mine_map (begin_fade v.id f) (begin_same (λ (x : Voice). x.first) (λ s v. refl) v.id f) (begin_same (λ (x : Voice). x.count) (λ s v. refl) v.id f) (begin_same (λ (x : Voice). x.id) (λ s v. refl) v.id f) (begin_same (λ (x : Voice). x.output) (λ s v. refl) v.id f)
         (mine_append (fade_node v.id) m)
 
@@ -233,9 +232,9 @@ own_preserved =
       block = λ l a q. (ids_preserved.block l a q.0, counts l (is_sounding a) q.1);
     }
   where
-    instantiates : (l : Ledger) (spawn : Spawn) → spawn.def.output < length (node_rows spawn.def.nodes) → MineOf l → (o : Option ℕ) → MineOf (instantiate_or o none spawn Loose l (refused NoPort)).ledger
-    instantiates l spawn sings m none = m
-    instantiates l spawn sings m (some p) = mine_instantiate spawn sings Loose p l m
+    instantiates : (l : Ledger) (spawn : Spawn) → spawn.def.output < length (node_rows spawn.def.nodes) → MineOf l → (o : Option ℕ) → MineOf (instantiate_or o None spawn Loose l (refused NoPort)).ledger
+    instantiates l spawn sings m None = m
+    instantiates l spawn sings m (Some p) = mine_instantiate spawn sings Loose p l m
 
     counts : (l : Ledger) (b : Bool) → MineOf l → Mine l.shared.graph.nodes l.shared.graph.next (counted_if b l.voices)
     counts l true m = mine_map (moved one_more) (λ v. refl) (λ v. refl) (λ v. refl) (λ v. refl) m
@@ -263,8 +262,8 @@ module _ (l : Ledger) (q : OwnNodes l) (v : Voice) (i : In v l.voices) where
       j = id (v.first.0 + k)
 
       go : (o : Option Node) → node_at ns j ≡ o → node_at (filter (λ x. not (owned_by w x)) ns) j ≡ node_at ns j
-      go none e = none_find (is_node j) (filter (λ x. not (owned_by w x)) ns) (λ x m. find_none (is_node j) ns x e (in_filter (λ x. not (owned_by w x)) ns x m).0) ∙ sym e
-      go (some x) e =
+      go None e = none_find (is_node j) (filter (λ x. not (owned_by w x)) ns) (λ x m. find_none (is_node j) ns x e (in_filter (λ x. not (owned_by w x)) ns x m).0) ∙ sym e
+      go (Some x) e =
           let r = find_in (is_node j) ns x e in
           let at : x.id.0 ≡ v.first.0 + k = eqb-true _ _ r.1 in
           let a : v.first.0 ≤ x.id.0 = omega arith in

@@ -5,13 +5,12 @@ use native.Mathlib.Omega.{arith}
 use native.Mathlib.Decide.{ℕ_discrete}
 use mathlib.Core.Path.{◌≡◌, refl, sym, ap, ◌∙◌, subst}
 use mathlib.Core.List.{List}
-use mathlib.Core.Option.{Option, none, some}
+use Rattle.std.specs.Prelude.{Option, None, Some, find, option_map}
 use mathlib.Core.Bool.{Bool, true, false, not, cond, true≢false, false≢true}
 use lib.Dec.{eqb}
 use borrow.Author.Tests.{eqb-true, eq-eqb, ne_eqb}
 use Rattle.lists.specs.Member.{In}
 use Rattle.lists.proofs.Member.{some_inj, none_some, and_left, and_right, both}
-use Rattle.lists.specs.Find.{find, map_o}
 use Rattle.lists.proofs.Find.{find_in, find_none}
 use Rattle.node.specs.declared.record.NodeId.{NodeId}
 use Rattle.node.specs.declared.record.Node.{Node}
@@ -32,25 +31,25 @@ use Rattle.ledger.proofs.Invariant.{Invariant, HostAt}
 use Rattle.ledger.proofs.Fading.{fed_host, fed_range, fed_holds, fed_out}
 
 -- ---- the lowest port that passes
-pub lowest_some : (k : ℕ) (t : ℕ → Bool) (p q : ℕ) → lowest_port k t p ≡ some q → (p ≤ q) × (q < p + k) × (t q ≡ true)
+pub lowest_some : (k : ℕ) (t : ℕ → Bool) (p q : ℕ) → lowest_port k t p ≡ Some q → (p ≤ q) × (q < p + k) × (t q ≡ true)
 lowest_some zero t p q h = absurd (none_some h)
 lowest_some (suc k) t p q h = go (t p) refl h (lowest_some k t (suc p) q)
   where
-    go : (b : Bool) → t p ≡ b → cond b (some p) (lowest_port k t (suc p)) ≡ some q → (lowest_port k t (suc p) ≡ some q → (suc p ≤ q) × (q < suc p + k) × (t q ≡ true))
+    go : (b : Bool) → t p ≡ b → cond b (Some p) (lowest_port k t (suc p)) ≡ Some q → (lowest_port k t (suc p) ≡ Some q → (suc p ≤ q) × (q < suc p + k) × (t q ≡ true))
         → (p ≤ q) × (q < p + suc k) × (t q ≡ true)
     go false e h ih = let r = ih h in (omega (arith, r.0), omega (arith, r.1), r.2)
     go true e h ih = let s : p ≡ q = some_inj h in (omega arith, omega arith, sym (ap t s) ∙ e)
 
-pub lowest_none : (k : ℕ) (t : ℕ → Bool) (p q : ℕ) → lowest_port k t p ≡ none → p ≤ q → q < p + k → t q ≡ false
+pub lowest_none : (k : ℕ) (t : ℕ → Bool) (p q : ℕ) → lowest_port k t p ≡ None → p ≤ q → q < p + k → t q ≡ false
 lowest_none zero t p q h l m = absurd (omega arith)
 lowest_none (suc k) t p q h l m = go (t p) refl h (ℕ_discrete p q) (lowest_none k t (suc p) q)
   where
-    go : (b : Bool) → t p ≡ b → cond b (some p) (lowest_port k t (suc p)) ≡ none → Dec (p ≡ q) → (lowest_port k t (suc p) ≡ none → suc p ≤ q → q < suc p + k → t q ≡ false) → t q ≡ false
+    go : (b : Bool) → t p ≡ b → cond b (Some p) (lowest_port k t (suc p)) ≡ None → Dec (p ≡ q) → (lowest_port k t (suc p) ≡ None → suc p ≤ q → q < suc p + k → t q ≡ false) → t q ≡ false
     go true e h d ih = absurd (none_some (sym h))
     go false e h (yes s) ih = sym (ap t s) ∙ e
     go false e h (no s) ih = ih h (omega arith) (omega arith)
 
-pub lowest_off : (k : ℕ) (t : ℕ → Bool) (p : ℕ) → ((q : ℕ) → t q ≡ false) → lowest_port k t p ≡ none
+pub lowest_off : (k : ℕ) (t : ℕ → Bool) (p : ℕ) → ((q : ℕ) → t q ≡ false) → lowest_port k t p ≡ None
 lowest_off zero t p h = refl
 lowest_off (suc k) t p h = rw (h p) (lowest_off k t (suc p) h)
 
@@ -59,7 +58,7 @@ lowest_same : (es : List Edge) (n : NodeId) (t : ℕ → Bool) → ((p : ℕ) �
 lowest_same es n t same zero p = refl
 lowest_same es n t same (suc k) p = rw (same p, lowest_same es n t same k (suc p)) (go (taken es n p))
   where
-    go : (b : Bool) → cond b (lowest_port k t (suc p)) (some p) ≡ cond (not b) (some p) (lowest_port k t (suc p))
+    go : (b : Bool) → cond b (lowest_port k t (suc p)) (Some p) ≡ cond (not b) (Some p) (lowest_port k t (suc p))
     go true = refl
     go false = refl
 
@@ -71,7 +70,7 @@ module _ {ns : List Node} {es : List Edge} {nx nv : ℕ} {vs : List Voice} {h : 
 
   -- ---- the port that a voice holds
   -- a node of the voice feeds one: it is that one
-  module _ (v : Voice) (i : In v vs) (e : Edge) (j : In e es) (from : owner_at ns e.from.0 ≡ some v.id.0) (et : e.to.0 ≡ v.bus.0) where
+  module _ (v : Voice) (i : In v vs) (e : Edge) (j : In e es) (from : owner_at ns e.from.0 ≡ Some v.id.0) (et : e.to.0 ≡ v.bus.0) where
     abbrev mine : ℕ → Bool
     mine p = by_voice v.id (h v.bus.0 p)
 
@@ -79,12 +78,12 @@ module _ {ns : List Node} {es : List Edge} {nx nv : ℕ} {vs : List Voice} {h : 
     here = ap (by_voice v.id) (s.held v.bus.0 e.port ∙ fed_holds s v i e j from et) ∙ eq-eqb v.id.0 v.id.0 refl
 
     src : (q : ℕ) (o : Option Edge) → find (ends_at v.bus q) es ≡ o → by_voice v.id (held_by (owner_at ns) o) ≡ true → e.port ≡ q
-    src q none k b = absurd (false≢true b)
-    src q (some d) k b =
+    src q None k b = absurd (false≢true b)
+    src q (Some d) k b =
         let r = edge_at_lem es v.bus q d k in
         let g = s.wired.ends d r.0 in
         let o : g.a ≡ v.id.0 = own g.a d.from (rw g.from at b) in
-        s.voiced.one v i e d j r.0 (fed_out s v i e j from et) (ap (owner_at ns) r.1 ∙ fed_host s v i e j from et, g.from ∙ ap some o) ∙ r.2
+        s.voiced.one v i e d j r.0 (fed_out s v i e j from et) (ap (owner_at ns) r.1 ∙ fed_host s v i e j from et, g.from ∙ ap Some o) ∙ r.2
       where
         own : (k : ℕ) (f : NodeId) → by_voice v.id (holder_of k f) ≡ true → k ≡ v.id.0
         own zero f h = absurd (false≢true h)
@@ -95,80 +94,80 @@ module _ {ns : List Node} {es : List Edge} {nx nv : ℕ} {vs : List Voice} {h : 
         let k : by_voice v.id (holder_at ns es v.bus.0 q) ≡ true = sym (ap (by_voice v.id) (s.held v.bus.0 q)) ∙ b in
         src q (find (ends_at v.bus q) es) refl (rw (fed_host s v i e j from et) at k)
 
-    pub holds_it : lowest_port (ports_at ns v.bus.0) (λ p. by_voice v.id (h v.bus.0 p)) 0 ≡ some e.port
+    pub holds_it : lowest_port (ports_at ns v.bus.0) (λ p. by_voice v.id (h v.bus.0 p)) 0 ≡ Some e.port
     holds_it = go (lowest_port (ports_at ns v.bus.0) (λ p. by_voice v.id (h v.bus.0 p)) 0) refl
       where
-        go : (o : Option ℕ) → lowest_port (ports_at ns v.bus.0) (λ p. by_voice v.id (h v.bus.0 p)) 0 ≡ o → o ≡ some e.port
-        go none k =
+        go : (o : Option ℕ) → lowest_port (ports_at ns v.bus.0) (λ p. by_voice v.id (h v.bus.0 p)) 0 ≡ o → o ≡ Some e.port
+        go None k =
             let r : e.port < ports_at ns v.bus.0 = fed_range s v i e j from et in
             let l : 0 ≤ e.port = omega arith in
             let m : e.port < 0 + ports_at ns v.bus.0 = omega arith in
             absurd (true≢false (sym here ∙ lowest_none (ports_at ns v.bus.0) (λ p. by_voice v.id (h v.bus.0 p)) 0 e.port k l m))
-        go (some q) k = ap some (sym (at q (lowest_some (ports_at ns v.bus.0) (λ p. by_voice v.id (h v.bus.0 p)) 0 q k).2))
+        go (Some q) k = ap Some (sym (at q (lowest_some (ports_at ns v.bus.0) (λ p. by_voice v.id (h v.bus.0 p)) 0 q k).2))
 
   -- its end feeds none: the voice holds none
-  pub holds_none : (v : Voice) → In v vs → find (feeds (end_of v) v.bus) es ≡ none → (q : ℕ) → by_voice v.id (h v.bus.0 q) ≡ false
+  pub holds_none : (v : Voice) → In v vs → find (feeds (end_of v) v.bus) es ≡ None → (q : ℕ) → by_voice v.id (h v.bus.0 q) ≡ false
   holds_none v i off q = ap (by_voice v.id) (s.held v.bus.0 q) ∙ go (owner_at ns v.bus.0) refl
     where
-      own : (d : Edge) → find (ends_at v.bus q) es ≡ some d → owner_at ns v.bus.0 ≡ some 0 → (k : ℕ) → owner_at ns d.from.0 ≡ some k → by_voice v.id (holder_of k d.from) ≡ false
+      own : (d : Edge) → find (ends_at v.bus q) es ≡ Some d → owner_at ns v.bus.0 ≡ Some 0 → (k : ℕ) → owner_at ns d.from.0 ≡ Some k → by_voice v.id (holder_of k d.from) ≡ false
       own d e b zero f = refl
       own d e b (suc k) f = ne_eqb (suc k) v.id.0 (λ z.
           let r = edge_at_lem es v.bus q d e in
-          let g = s.ends.leaves v i d r.0 (ap (owner_at ns) r.1 ∙ b, f ∙ ap some z) in
+          let g = s.ends.leaves v i d r.0 (ap (owner_at ns) r.1 ∙ b, f ∙ ap Some z) in
           false≢true (sym (find_none (feeds (end_of v) v.bus) es d off r.0) ∙ both _ _ (eq-eqb _ _ (sym g)) (eq-eqb _ _ r.1)))
 
-      src : owner_at ns v.bus.0 ≡ some 0 → (o : Option Edge) → find (ends_at v.bus q) es ≡ o → by_voice v.id (held_by (owner_at ns) o) ≡ false
-      src b none e = refl
-      src b (some d) e = let g = s.wired.ends d (edge_at_lem es v.bus q d e).0 in rw g.from (own d e b g.a g.from)
+      src : owner_at ns v.bus.0 ≡ Some 0 → (o : Option Edge) → find (ends_at v.bus q) es ≡ o → by_voice v.id (held_by (owner_at ns) o) ≡ false
+      src b None e = refl
+      src b (Some d) e = let g = s.wired.ends d (edge_at_lem es v.bus q d e).0 in rw g.from (own d e b g.a g.from)
 
       go : (o : Option ℕ) → owner_at ns v.bus.0 ≡ o → by_voice v.id (cond (is_host o) (held_by (owner_at ns) (find (ends_at v.bus q) es)) nobody) ≡ false
-      go none b = refl
-      go (some k) b =
+      go None b = refl
+      go (Some k) b =
           let z : k ≡ 0 = (s.voiced.sung v i).hosted k b in
-          rw z (src (b ∙ ap some z) (find (ends_at v.bus q) es) refl)
+          rw z (src (b ∙ ap Some z) (find (ends_at v.bus q) es) refl)
 
   -- "the port that the voice's output, pan node or fade feeds on its bus now" is the port that it holds: of tracked, fading and loose voices
   pub end_held : (v : Voice) → In v vs → port_from es (end_of v) v.bus ≡ lowest_port (ports_at ns v.bus.0) (λ p. by_voice v.id (h v.bus.0 p)) 0
   end_held v i = go (find (feeds (end_of v) v.bus) es) refl
     where
-      go : (o : Option Edge) → find (feeds (end_of v) v.bus) es ≡ o → map_o (λ e. e.port) o ≡ lowest_port (ports_at ns v.bus.0) (λ p. by_voice v.id (h v.bus.0 p)) 0
-      go none e = sym (lowest_off (ports_at ns v.bus.0) (λ p. by_voice v.id (h v.bus.0 p)) 0 (holds_none v i e))
-      go (some d) e =
+      go : (o : Option Edge) → find (feeds (end_of v) v.bus) es ≡ o → option_map (λ e. e.port) o ≡ lowest_port (ports_at ns v.bus.0) (λ p. by_voice v.id (h v.bus.0 p)) 0
+      go None e = sym (lowest_off (ports_at ns v.bus.0) (λ p. by_voice v.id (h v.bus.0 p)) 0 (holds_none v i e))
+      go (Some d) e =
           let r = find_in (feeds (end_of v) v.bus) es d e in
           sym (holds_it v i d r.0 (ap (owner_at ns) (eqb-true _ _ (and_left _ _ r.1)) ∙ s.ends.owns v i) (eqb-true _ _ (and_right (eqb d.from.0 (end_of v).0) _ r.1)))
 
   -- ---- an edge from the voice's end to its bus, and the port there
   module _ (v : Voice) (i : In v vs) (p : ℕ) where
-    pub now_edge : port_from es (end_of v) v.bus ≡ some p → In (edge (end_of v) v.bus p) es
+    pub now_edge : port_from es (end_of v) v.bus ≡ Some p → In (edge (end_of v) v.bus p) es
     now_edge = go (find (feeds (end_of v) v.bus) es) refl
       where
-        go : (o : Option Edge) → find (feeds (end_of v) v.bus) es ≡ o → map_o (λ e. e.port) o ≡ some p → In (edge (end_of v) v.bus p) es
-        go none e q = absurd (none_some q)
-        go (some d) e q =
+        go : (o : Option Edge) → find (feeds (end_of v) v.bus) es ≡ o → option_map (λ e. e.port) o ≡ Some p → In (edge (end_of v) v.bus p) es
+        go None e q = absurd (none_some q)
+        go (Some d) e q =
             let r = find_in (feeds (end_of v) v.bus) es d e in
             let f : d.from.0 ≡ (end_of v).0 = eqb-true _ _ (and_left _ _ r.1) in
             let t : d.to.0 ≡ v.bus.0 = eqb-true _ _ (and_right (eqb d.from.0 (end_of v).0) _ r.1) in
             let same : d ≡ edge (end_of v) v.bus p = ap (λ n. edge (id n) d.to d.port) f ∙ ap (λ n. edge (end_of v) (id n) d.port) t ∙ ap (edge (end_of v) v.bus) (some_inj q) in
             subst (λ z. In z es) same r.0
 
-    pub edge_now : In (edge (end_of v) v.bus p) es → port_from es (end_of v) v.bus ≡ some p
+    pub edge_now : In (edge (end_of v) v.bus p) es → port_from es (end_of v) v.bus ≡ Some p
     edge_now j = end_held v i ∙ holds_it v i (edge (end_of v) v.bus p) j (s.ends.owns v i) refl
 
-    pub now_holds : port_from es (end_of v) v.bus ≡ some p → holder_at ns es v.bus.0 p ≡ voice v.id
+    pub now_holds : port_from es (end_of v) v.bus ≡ Some p → holder_at ns es v.bus.0 p ≡ voice v.id
     now_holds e = fed_holds s v i (edge (end_of v) v.bus p) (now_edge e) (s.ends.owns v i) refl
 
-    pub holds_now : holder_at ns es v.bus.0 p ≡ voice v.id → port_from es (end_of v) v.bus ≡ some p
+    pub holds_now : holder_at ns es v.bus.0 p ≡ voice v.id → port_from es (end_of v) v.bus ≡ Some p
     holds_now e = go (find (feeds (end_of v) v.bus) es) refl
       where
         mine : by_voice v.id (h v.bus.0 p) ≡ true
         mine = ap (by_voice v.id) (s.held v.bus.0 p ∙ e) ∙ eq-eqb v.id.0 v.id.0 refl
 
-        go : (o : Option Edge) → find (feeds (end_of v) v.bus) es ≡ o → map_o (λ e. e.port) o ≡ some p
-        go none f = absurd (false≢true (sym (holds_none v i f p) ∙ mine))
-        go (some d) f =
+        go : (o : Option Edge) → find (feeds (end_of v) v.bus) es ≡ o → option_map (λ e. e.port) o ≡ Some p
+        go None f = absurd (false≢true (sym (holds_none v i f p) ∙ mine))
+        go (Some d) f =
             let r = find_in (feeds (end_of v) v.bus) es d f in
             let own = ap (owner_at ns) (eqb-true _ _ (and_left _ _ r.1)) ∙ s.ends.owns v i in
-            ap some (at v i d r.0 own (eqb-true _ _ (and_right (eqb d.from.0 (end_of v).0) _ r.1)) p mine)
+            ap Some (at v i d r.0 own (eqb-true _ _ (and_right (eqb d.from.0 (end_of v).0) _ r.1)) p mine)
 
   -- "A fade takes the port of the bus that the victim's output or pan node feeds at that moment": the port that it holds
   pub feeds_held : (v : Voice) → In v vs → is_tracked v.state ≡ true

@@ -6,14 +6,12 @@ use Prim.Native.Nat.{ℕ, zero, suc, ◌+◌, ◌≤◌, ◌<◌}
 use mathlib.Core.Path.{◌≡◌, refl, sym, ap, subst, ◌∙◌}
 use mathlib.Core.Logic.{inl, inr}
 use mathlib.Core.List.{List, [], ◌∷◌, ◌++◌, map}
-use mathlib.Core.Option.{Option, none, some}
+use Rattle.std.specs.Prelude.{Option, None, Some, find, filter, Result, Err, Ok}
 use mathlib.Core.Bool.{Bool, true, false, not, cond, true≢false}
 use lib.ListN.{length}
 use lib.Ieee.{Float}
-use Rattle.lists.specs.Find.{find}
 use Rattle.lists.proofs.Find.{find_in}
 use Rattle.lists.specs.Member.{In}
-use Rattle.lists.specs.Filter.{filter}
 use Rattle.lists.proofs.Filter.{in_filter}
 use Rattle.node.specs.declared.record.NodeId.{NodeId}
 use Rattle.node.specs.declared.record.VoiceId.{VoiceId}
@@ -24,8 +22,6 @@ use Rattle.node.specs.Name.{name_of}
 use Rattle.graph.specs.Node.{node_at, host_node}
 use Rattle.graph.specs.Change as change
 use Rattle.graph.specs.Refuse.{add_refusal, host_refusal, disconnect_refusal, connect_refusal}
-use Rattle.prepare.specs.declared.Readiness.{Readiness}
-use Rattle.prepare.specs.declared.Readiness.TheVariants.{Ready, Refused}
 use Rattle.scheduler.specs.Event.{param_order}
 use Rattle.scheduler.specs.Replace.{thinned}
 use Rattle.scheduler.specs.Queue.{full, replacing}
@@ -62,23 +58,23 @@ pub use Rattle.ledger.specs.Ledger.{at_shared, at_graph}
 
 -- ---- the port search: what holds of it while n tries are left, and what of its outcome
 module _ (spawn : Spawn) (s : VoiceState) (Q : ℕ → Ledger → Type 0) (R : SpawnResult → Type 0)
-    (instantiates : (n : ℕ) (l : Ledger) (p : ℕ) → port_free spawn.bus l ≡ some p → Q n l → R (instantiate spawn s p l))
-    (spent : (l : Ledger) → port_free spawn.bus l ≡ none → Q zero l → R (refused NoPort l))
-    (idle : (n : ℕ) (l : Ledger) → port_free spawn.bus l ≡ none → next_out l.shared spawn.bus spawn.rank l.voices ≡ none → Q (suc n) l → R (refused NoPort l))
-    (cuts : (n : ℕ) (l : Ledger) (v : Voice) → port_free spawn.bus l ≡ none → next_out l.shared spawn.bus spawn.rank l.voices ≡ some v → Q (suc n) l → Q n (cut_off v v.state l)) where
+    (instantiates : (n : ℕ) (l : Ledger) (p : ℕ) → port_free spawn.bus l ≡ Some p → Q n l → R (instantiate spawn s p l))
+    (spent : (l : Ledger) → port_free spawn.bus l ≡ None → Q zero l → R (refused NoPort l))
+    (idle : (n : ℕ) (l : Ledger) → port_free spawn.bus l ≡ None → next_out l.shared spawn.bus spawn.rank l.voices ≡ None → Q (suc n) l → R (refused NoPort l))
+    (cuts : (n : ℕ) (l : Ledger) (v : Voice) → port_free spawn.bus l ≡ None → next_out l.shared spawn.bus spawn.rank l.voices ≡ Some v → Q (suc n) l → Q n (cut_off v v.state l)) where
   pub place_kept : (n : ℕ) (l : Ledger) → Q n l → R (place n spawn s l)
   place_kept zero l q = go (port_free spawn.bus l) refl
     where
-      go : (o : Option ℕ) → port_free spawn.bus l ≡ o → R (instantiate_or o none spawn s l (refused NoPort))
-      go (some p) e = instantiates zero l p e q
-      go none e = spent l e q
+      go : (o : Option ℕ) → port_free spawn.bus l ≡ o → R (instantiate_or o None spawn s l (refused NoPort))
+      go (Some p) e = instantiates zero l p e q
+      go None e = spent l e q
   place_kept (suc n) l q = go (port_free spawn.bus l) refl (next_out l.shared spawn.bus spawn.rank l.voices) refl (place_kept n)
     where
       go : (o : Option ℕ) → port_free spawn.bus l ≡ o → (u : Option Voice) → next_out l.shared spawn.bus spawn.rank l.voices ≡ u
           → ((l : Ledger) → Q n l → R (place n spawn s l)) → R (instantiate_or o u spawn s l (λ k. place n spawn s k))
-      go (some p) e u f ih = instantiates (suc n) l p e q
-      go none e none f ih = idle n l e f q
-      go none e (some v) f ih = ih (cut_off v v.state l) (cuts n l v e f q)
+      go (Some p) e u f ih = instantiates (suc n) l p e q
+      go None e None f ih = idle n l e f q
+      go None e (Some v) f ih = ih (cut_off v v.state l) (cuts n l v e f q)
 
 -- ---- the moves
 -- what a report, a value and a glide leave of a node's record
@@ -89,21 +85,21 @@ pub record Alike (x n : Node) : Type 0 where
   pub required : n.required ≡ x.required
 
 pub record Preserves (P : Ledger → Type 0) : Type 0 where
-  pub add_node : (l : Ledger) (kind : List ℕ) (ports required : ℕ) (values glides : Bool) → add_refusal l.shared.graph kind ports required ≡ none → P l
+  pub add_node : (l : Ledger) (kind : List ℕ) (ports required : ℕ) (values glides : Bool) → add_refusal l.shared.graph kind ports required ≡ None → P l
       → P (at_graph l (change.append l.shared.graph (host_node kind ports required values glides)) l.holders)
-  pub remove_node : (l : Ledger) (k : NodeId) → host_refusal l.shared.graph k ≡ none → P l → P (at_graph l (change.remove_node l.shared.graph k) (drop_node k l.holders))
-  pub connect : (l : Ledger) (a b : NodeId) (p : ℕ) → connect_refusal l.shared.graph a b p ≡ none → P l
+  pub remove_node : (l : Ledger) (k : NodeId) → host_refusal l.shared.graph k ≡ None → P l → P (at_graph l (change.remove_node l.shared.graph k) (drop_node k l.holders))
+  pub connect : (l : Ledger) (a b : NodeId) (p : ℕ) → connect_refusal l.shared.graph a b p ≡ None → P l
       → P (at_graph l (change.connect l.shared.graph a b p) (hold b p (host a) l.holders))
-  pub disconnect : (l : Ledger) (b : NodeId) (p : ℕ) → disconnect_refusal l.shared.graph b p ≡ none → P l
+  pub disconnect : (l : Ledger) (b : NodeId) (p : ℕ) → disconnect_refusal l.shared.graph b p ≡ None → P l
       → P (at_graph l (change.disconnect l.shared.graph b p) (hold b p nobody l.holders))
   pub set_sink : (l : Ledger) (k : NodeId) → P l → P (at_graph l (change.set_sink l.shared.graph k) l.holders)
-  pub loose : (l : Ledger) (spawn : Spawn) → spawn_refusal l.shared l.voices spawn.def spawn.bus spawn.rank ≡ none → P l → P (place 0 spawn Loose l).ledger
+  pub loose : (l : Ledger) (spawn : Spawn) → spawn_refusal l.shared l.voices spawn.def spawn.bus spawn.rank ≡ None → P l → P (place 0 spawn Loose l).ledger
   pub goes : (l : Ledger) (w : VoiceId) → P l → P (without_voice w l)
   -- the record x of a live node becomes n
-  pub node : (l : Ledger) (k : NodeId) (x n : Node) → node_at l.shared.graph.nodes k ≡ some x → Alike x n → P l → P (at_shared l (with_node n l.shared))
+  pub node : (l : Ledger) (k : NodeId) (x n : Node) → node_at l.shared.graph.nodes k ≡ Some x → Alike x n → P l → P (at_shared l (with_node n l.shared))
   pub schedule : (l : Ledger) (e : Event) → full (thinned e l.shared.events) ≡ false → P l → P (at_shared l (with_events (replacing e l.shared.events) l.shared))
   pub rest : (l : Ledger) → P l → P (rested l)
-  pub prepare : (l : Ledger) → (prepare_outcome l.shared).answer ≡ Ready → P l → P (at_shared l (ready_shared Ready (prepare_outcome l.shared).order l.shared))
+  pub prepare : (l : Ledger) → (prepare_outcome l.shared).answer ≡ Ok tt → P l → P (at_shared l (ready_shared (Ok tt) (prepare_outcome l.shared).order l.shared))
   pub block : (l : Ledger) (a : Rendered) → P l → P (block_of a l).ledger
 
 -- two that hold of the ledger hold together
@@ -128,10 +124,10 @@ both_preserved a b =
 pub record OpenMoves (W : VoiceId → Type 0) (P : Ledger → Type 0) : Type 0 where
   pub known : (l : Ledger) → P l → (v : Voice) → In v l.voices → W v.id
   pub goes : (l : Ledger) (w : VoiceId) → W w → P l → P (without_voice w l)
-  pub node : (l : Ledger) (k : NodeId) (x n : Node) → node_at l.shared.graph.nodes k ≡ some x → Alike x n → P l → P (at_shared l (with_node n l.shared))
+  pub node : (l : Ledger) (k : NodeId) (x n : Node) → node_at l.shared.graph.nodes k ≡ Some x → Alike x n → P l → P (at_shared l (with_node n l.shared))
   pub schedule : (l : Ledger) (e : Event) → full (thinned e l.shared.events) ≡ false → P l → P (at_shared l (with_events (replacing e l.shared.events) l.shared))
   pub rest : (l : Ledger) → P l → P (rested l)
-  pub prepare : (l : Ledger) → (prepare_outcome l.shared).answer ≡ Ready → P l → P (at_shared l (ready_shared Ready (prepare_outcome l.shared).order l.shared))
+  pub prepare : (l : Ledger) → (prepare_outcome l.shared).answer ≡ Ok tt → P l → P (at_shared l (ready_shared (Ok tt) (prepare_outcome l.shared).order l.shared))
   pub block : (l : Ledger) (a : Rendered) → P l → P (block_of a l).ledger
 
 pub open_moves : {P : Ledger → Type 0} → Preserves P → OpenMoves (λ w. Unit {0}) P
@@ -147,13 +143,13 @@ open_moves k =
     }
 
 module _ (P : Ledger → Type 0) where
-  unless_kept : (o : Option Refusal) (l : Ledger) (s : Step) → P l → (o ≡ none → P s.ledger) → P (unless o l s).ledger
-  unless_kept (some r) l s p f = p
-  unless_kept none l s p f = f refl
+  unless_kept : (o : Option Refusal) (l : Ledger) (s : Step) → P l → (o ≡ None → P s.ledger) → P (unless o l s).ledger
+  unless_kept (Some r) l s p f = p
+  unless_kept None l s p f = f refl
 
-  pub unless_spawn_kept : (o : Option Refusal) (l : Ledger) (r : SpawnResult) → P l → (o ≡ none → P r.ledger) → P (ledger.unless o l r).ledger
-  unless_spawn_kept (some n) l r p f = p
-  unless_spawn_kept none l r p f = f refl
+  pub unless_spawn_kept : (o : Option Refusal) (l : Ledger) (r : SpawnResult) → P l → (o ≡ None → P r.ledger) → P (ledger.unless o l r).ledger
+  unless_spawn_kept (Some n) l r p f = p
+  unless_spawn_kept None l r p f = f refl
 
 -- each call that makes none but open moves
 module _ {W : VoiceId → Type 0} {P : Ledger → Type 0} (k : OpenMoves W P) where
@@ -161,8 +157,8 @@ module _ {W : VoiceId → Type 0} {P : Ledger → Type 0} (k : OpenMoves W P) wh
   free_kept w l p = go (find (is_voice w) l.voices) refl
     where
       go : (o : Option Voice) → find (is_voice w) l.voices ≡ o → P (freed o l)
-      go none e = p
-      go (some v) e = k.goes l v.id (k.known l p v (find_in (is_voice w) l.voices v e).0) p
+      go None e = p
+      go (Some v) e = k.goes l v.id (k.known l p v (find_in (is_voice w) l.voices v e).0) p
 
   pub removals_kept : (vs : List Voice) → ((v : Voice) → In v vs → W v.id) → (l : Ledger) → P l → P (without_voices vs l)
   removals_kept [] h l p = p
@@ -179,31 +175,31 @@ module _ {W : VoiceId → Type 0} {P : Ledger → Type 0} (k : OpenMoves W P) wh
 
   -- a value or a glide changes a node's record or nothing
   order_node_kept : (j : NodeId) (o : Option Node) (x : LastOrder) (l : Ledger) → node_at l.shared.graph.nodes j ≡ o → P l → P (at_shared l (order_node o x l.shared).shared)
-  order_node_kept j none x l e p = p
-  order_node_kept j (some n) x l e p = go (takes x n)
+  order_node_kept j None x l e p = p
+  order_node_kept j (Some n) x l e p = go (takes x n)
     where
       go : (b : Bool) → P (at_shared l (cond b (record { outcome = Applied; shared = with_node (with_last x n) l.shared }) (stays NotTaken l.shared)).shared)
       go true = k.node l j n (with_last x n) e (record { id = refl; owner = refl; ports = refl; required = refl }) p
       go false = p
 
   order_param_kept : (o : Option ℕ) (v : Voice) (x : LastOrder) (l : Ledger) → P l → P (at_shared l (order_param o v x l.shared).shared)
-  order_param_kept none v x l p = p
-  order_param_kept (some i) v x l p = order_node_kept (id (v.first.0 + i)) (node_at l.shared.graph.nodes (id (v.first.0 + i))) x l refl p
+  order_param_kept None v x l p = p
+  order_param_kept (Some i) v x l p = order_node_kept (id (v.first.0 + i)) (node_at l.shared.graph.nodes (id (v.first.0 + i))) x l refl p
 
   order_voice_kept : (o : Option Voice) (name : Name) (x : LastOrder) (l : Ledger) → P l → P (at_shared l (order_voice o name x l.shared).shared)
-  order_voice_kept none name x l p = p
-  order_voice_kept (some v) name x l p = order_param_kept (param_node (param_rows v.params) name) v x l p
+  order_voice_kept None name x l p = p
+  order_voice_kept (Some v) name x l p = order_param_kept (param_node (param_rows v.params) name) v x l p
 
   pub order_kept : (w : VoiceId) (name : Name) (x : LastOrder) (l : Ledger) → P l → P (at_shared l (order w name x l.voices l.shared).shared)
   order_kept w name x l p = order_voice_kept (find (is_voice w) l.voices) name x l p
 
   pub schedule_kept : (e : Event) (l : Ledger) (s : Step) → s.ledger ≡ at_shared l (with_events (replacing e l.shared.events) l.shared) → P l → P (unless (schedule_refusal e l.shared.events) l s).ledger
   schedule_kept e l s is p =
-      unless_kept P (schedule_refusal e l.shared.events) l s p (λ n. subst P (sym is) (k.schedule l e (when_none (full (thinned e l.shared.events)) TableFull none n).0 p))
+      unless_kept P (schedule_refusal e l.shared.events) l s p (λ n. subst P (sym is) (k.schedule l e (when_none (full (thinned e l.shared.events)) TableFull None n).0 p))
 
   report_node_kept : (j : NodeId) (o : Option Node) (samples : List Float) (flag : Bool) (l : Ledger) → node_at l.shared.graph.nodes j ≡ o → P l → P (at_shared l (report_node o samples flag l.shared))
-  report_node_kept j none samples flag l e p = p
-  report_node_kept j (some n) samples flag l e p = k.node l j n (with_report samples flag n) e (record { id = refl; owner = refl; ports = refl; required = refl }) p
+  report_node_kept j None samples flag l e p = p
+  report_node_kept j (Some n) samples flag l e p = k.node l j n (with_report samples flag n) e (record { id = refl; owner = refl; ports = refl; required = refl }) p
 
   pub report_kept : (j : NodeId) (channels : ℕ) (samples : List Float) (flag : Bool) (l : Ledger) → P l → P (step (call.report j channels samples flag) l).ledger
   report_kept j channels samples flag l p =
@@ -212,9 +208,9 @@ module _ {W : VoiceId → Type 0} {P : Ledger → Type 0} (k : OpenMoves W P) wh
   pub prepare_kept : (l : Ledger) → P l → P (at_shared l (prepare_shared l.shared))
   prepare_kept l p = go (prepare_outcome l.shared).answer refl
     where
-      go : (r : Readiness) → (prepare_outcome l.shared).answer ≡ r → P (at_shared l (ready_shared r (prepare_outcome l.shared).order l.shared))
-      go Ready e = k.prepare l e p
-      go (Refused r) e = p
+      go : (r : Result (Unit {0}) Refusal) → (prepare_outcome l.shared).answer ≡ r → P (at_shared l (ready_shared r (prepare_outcome l.shared).order l.shared))
+      go (Ok tt) e = k.prepare l e p
+      go (Err r) e = p
 
   event_kept : (e : Event) (l : Ledger) → P l → P (apply_event e l)
   event_kept e l p = go (is_free e.action)
@@ -240,8 +236,8 @@ module _ {W : VoiceId → Type 0} {P : Ledger → Type 0} (k : OpenMoves W P) wh
       q = due l.shared
 
       go : (o : Option Refusal) → P (render_step o out l).ledger
-      go (some r) = p
-      go none = block_kept (any_free q) (apply_events q (rested l)) (events_kept q (rested l) (k.rest l p))
+      go (Some r) = p
+      go None = block_kept (any_free q) (apply_events q (rested l)) (events_kept q (rested l) (k.rest l p))
 
 module _ (P : Ledger → Type 0) (k : Preserves P) where
   abbrev moves : OpenMoves (λ w. Unit {0}) P
@@ -271,7 +267,7 @@ module _ (P : Ledger → Type 0) (k : Preserves P) where
   unmanaged_step x h l p = step_kept x l (λ spawn e. absurd (true≢false (sym (ap is_managed e) ∙ h))) p
 
   -- and a managed spawn
-  module _ (m : (l : Ledger) (spawn : Spawn) → spawn_refusal l.shared l.voices spawn.def spawn.bus spawn.rank ≡ none → P l → P (admitted (admission_on spawn.bus spawn.rank l) spawn l).ledger) where
+  module _ (m : (l : Ledger) (spawn : Spawn) → spawn_refusal l.shared l.voices spawn.def spawn.bus spawn.rank ≡ None → P l → P (admitted (admission_on spawn.bus spawn.rank l) spawn l).ledger) where
     pub kept_step_lem : (x : Call) (l : Ledger) → P l → P (step x l).ledger
     kept_step_lem x l p =
         step_kept x l (λ spawn e. unless_spawn_kept P (spawn_refusal l.shared l.voices spawn.def spawn.bus spawn.rank) l (admitted (admission_on spawn.bus spawn.rank l) spawn l) p (λ r. m l spawn r p)) p
@@ -308,10 +304,10 @@ module _ (F : Config → StealLog → ℕ → List Voice → Type 0)
           block = λ l a f. sounds l (is_sounding a) f;
         }
       where
-        one : (l : Ledger) (spawn : Spawn) → spawn_refusal l.shared l.voices spawn.def spawn.bus spawn.rank ≡ none → VoicesOnly F l
-            → (o : Option ℕ) → VoicesOnly F (instantiate_or o none spawn Loose l (refused NoPort)).ledger
-        one l spawn e f none = f
-        one l spawn e f (some p) = instantiates l spawn p (spawn_allowed l.shared l.voices spawn.def spawn.bus spawn.rank e) f
+        one : (l : Ledger) (spawn : Spawn) → spawn_refusal l.shared l.voices spawn.def spawn.bus spawn.rank ≡ None → VoicesOnly F l
+            → (o : Option ℕ) → VoicesOnly F (instantiate_or o None spawn Loose l (refused NoPort)).ledger
+        one l spawn e f None = f
+        one l spawn e f (Some p) = instantiates l spawn p (spawn_allowed l.shared l.voices spawn.def spawn.bus spawn.rank e) f
 
         sounds : (l : Ledger) (b : Bool) → VoicesOnly F l → F l.shared.config l.shared.steals l.shared.spawned (counted_if b l.voices)
         sounds l true f = counts l.shared.config l.shared.steals l.shared.spawned l.voices f

@@ -3,12 +3,11 @@ use Prim.Native.Nat.{ℕ}
 use native.Mathlib.Omega.{arith}
 use mathlib.Core.Path.{◌≡◌, refl, sym, ap, ◌∙◌}
 use mathlib.Core.List.{List}
-use mathlib.Core.Option.{Option, none, some}
+use Rattle.std.specs.Prelude.{Option, None, Some, option_map}
 use mathlib.Core.Bool.{Bool, true, false, cond}
 use lib.Dec.{eqb}
 use Rattle.lists.specs.Member.{In}
 use Rattle.lists.proofs.Member.{in_map}
-use Rattle.lists.specs.Find.{map_o}
 use Rattle.lists.proofs.Find.{find_map}
 use Rattle.lists.proofs.Rising.{rises_map}
 use Rattle.node.specs.Node.{with_noise}
@@ -37,22 +36,22 @@ module _ (bus : NodeId) where
   pub raise_id : (n : Node) → (raise_noise bus n).id.0 ≡ n.id.0
   raise_id n = raise_same (λ (x : Node). x.id.0) (λ k n. refl) n
 
-  pub look_raised : (ns : List Node) (k : NodeId) → node_at (noise_raised bus ns) k ≡ map_o (raise_noise bus) (node_at ns k)
+  pub look_raised : (ns : List Node) (k : NodeId) → node_at (noise_raised bus ns) k ≡ option_map (raise_noise bus) (node_at ns k)
   look_raised ns k = find_map (raise_noise bus) (is_node k) (is_node k) (λ n. ap (λ j. eqb j k.0) (raise_id n)) ns
 
   pub owner_raised : (ns : List Node) (n : ℕ) → owner_at (noise_raised bus ns) n ≡ owner_at ns n
   owner_raised ns n = ap owner_of (look_raised ns (id n)) ∙ go (node_at ns (id n))
     where
-      go : (o : Option Node) → owner_of (map_o (raise_noise bus) o) ≡ owner_of o
-      go none = refl
-      go (some x) = ap some (raise_same (λ (x : Node). x.owner.0) (λ k n. refl) x)
+      go : (o : Option Node) → owner_of (option_map (raise_noise bus) o) ≡ owner_of o
+      go None = refl
+      go (Some x) = ap Some (raise_same (λ (x : Node). x.owner.0) (λ k n. refl) x)
 
   pub ports_raised : (ns : List Node) (n : ℕ) → ports_at (noise_raised bus ns) n ≡ ports_at ns n
   ports_raised ns n = ap ports_of (look_raised ns (id n)) ∙ go (node_at ns (id n))
     where
-      go : (o : Option Node) → ports_of (map_o (raise_noise bus) o) ≡ ports_of o
-      go none = refl
-      go (some x) = raise_same (λ (x : Node). x.ports) (λ k n. refl) x
+      go : (o : Option Node) → ports_of (option_map (raise_noise bus) o) ≡ ports_of o
+      go None = refl
+      go (Some x) = raise_same (λ (x : Node). x.ports) (λ k n. refl) x
 
   pub in_raised : (ns : List Node) (x : Node) → In x (noise_raised bus ns) → (y : Node) × In y ns × ((x.id.0 ≡ y.id.0) × (x.owner.0 ≡ y.owner.0))
   in_raised ns x i =

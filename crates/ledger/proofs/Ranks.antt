@@ -3,12 +3,10 @@ use Prim.Native.Nat.{ℕ, ◌≤◌}
 use mathlib.Core.Path.{◌≡◌, refl, sym, ap, ◌∙◌, subst}
 use mathlib.Core.Logic.{⊎_elim}
 use mathlib.Core.List.{List, [], ◌∷◌, ◌++◌, map}
-use mathlib.Core.Option.{Option, none, some}
+use Rattle.std.specs.Prelude.{Option, None, Some, find, filter}
 use mathlib.Core.Bool.{Bool, true, false, not, cond}
 use Rattle.lists.specs.Member.{In}
 use Rattle.lists.proofs.Member.{in_map, in_snoc}
-use Rattle.lists.specs.Find.{find}
-use Rattle.lists.specs.Filter.{filter}
 use Rattle.lists.proofs.Filter.{in_filter}
 use Rattle.node.specs.declared.record.VoiceId.{VoiceId}
 use Rattle.voice.specs.declared.policy.Admission.{Admission}
@@ -62,8 +60,8 @@ module _ (x : Spawn) (low : x.rank ≤ 7) where
   ranked_steal v l h = go (port_held v l)
     where
       go : (o : Option ℕ) → Ranked (stolen v o l).voices
-      go none = ranked_filter (λ y. not (is_voice v.id y)) l.voices h
-      go (some p) = ranked_map (begin_fade v.id (fade_of l.shared)) (begin_rank v.id (fade_of l.shared)) l.voices h
+      go None = ranked_filter (λ y. not (is_voice v.id y)) l.voices h
+      go (Some p) = ranked_map (begin_fade v.id (fade_of l.shared)) (begin_rank v.id (fade_of l.shared)) l.voices h
 
   ranked_admitted : (a : Admission) (l : Ledger) → Ranked l.voices → Ranked (admitted a x l).ledger.voices
   ranked_admitted admission.Admit l h = ranked_budgeted l h
@@ -71,8 +69,8 @@ module _ (x : Spawn) (low : x.rank ≤ 7) where
   ranked_admitted (admission.Steal p w) l h = go (find (is_voice w) l.voices)
     where
       go : (o : Option Voice) → Ranked (steal_then o x l).ledger.voices
-      go none = ranked_budgeted l h
-      go (some v) = ranked_budgeted (steal_voice v l) (ranked_steal v l h)
+      go None = ranked_budgeted l h
+      go (Some v) = ranked_budgeted (steal_voice v l) (ranked_steal v l h)
 
 pub ranks_after : (c : Config) (xs : List Call) (v : Voice) → In v (run xs (new_ledger c)).ledger.voices → v.rank ≤ 7
 ranks_after c xs =

@@ -6,13 +6,12 @@ use native.Mathlib.Omega.{arith}
 use mathlib.Core.Path.{◌≡◌, refl, sym, ap, ◌∙◌, subst}
 use mathlib.Core.Logic.{inl, inr}
 use mathlib.Core.List.{List, [], ◌∷◌, map, map-map}
-use mathlib.Core.Option.{none, some}
+use Rattle.std.specs.Prelude.{None, Some, is_some, Result, Err, Ok}
 use mathlib.Core.Bool.{Bool, true, false, cond, ◌&&◌, false≢true}
 use lib.ListN.{length}
 use borrow.Author.Tests.{eqb-true, eq-eqb}
 use Rattle.lists.specs.Member.{In}
 use Rattle.lists.proofs.Member.{some_inj, map_same}
-use Rattle.lists.specs.Find.{is_some}
 use Rattle.lists.proofs.Find.{find_in}
 use Rattle.lists.specs.Rising.{RisesFrom}
 use Rattle.lists.proofs.Rising.{rises_once}
@@ -26,8 +25,6 @@ use Rattle.prepare.specs.Live.{id_of, arc_of, live_ids, live_nodes, processing_o
 use Rattle.prepare.specs.Required.{any, lacks, lacking}
 use Rattle.prepare.specs.Prepare as graph
 use Rattle.prepare.proofs.Theorems.{number, ready_sorted}
-use Rattle.prepare.specs.declared.Readiness.{Readiness}
-use Rattle.prepare.specs.declared.Readiness.TheVariants.{Ready, Refused}
 use Rattle.graph.specs.View.{GraphView}
 use Rattle.graph.specs.Node.{is_node, node_at, replaced}
 use Rattle.scheduler.specs.declared.event.Event.{Event}
@@ -69,7 +66,7 @@ lacking_rows : (ns : List Node) (next : ℕ) → Rows ns next → (es : List Edg
 unfolding lacking
 lacking_rows ns next r es = rw (live_ids_lem ns next r, live_rows ns next r)
 
-module _ (ns : List Node) (next : ℕ) (r : Rows ns next) (k : NodeId) (x n : Node) (at : node_at ns k ≡ some x) (s : Alike x n) (es : List Edge) where
+module _ (ns : List Node) (next : ℕ) (r : Rows ns next) (k : NodeId) (x n : Node) (at : node_at ns k ≡ Some x) (s : Alike x n) (es : List Edge) where
   abbrev new : Node → Node
   new m = cond (is_node n.id m) n m
 
@@ -105,7 +102,7 @@ module _ (ns : List Node) (next : ℕ) (r : Rows ns next) (k : NodeId) (x n : No
 
 -- ---- prepared: prepare answers that it is, with the order that is held
 abbrev pub HoldsOrder : GraphView → Type 0
-HoldsOrder g = g.prepared ≡ true → graph.prepare g.nodes g.edges ≡ record { answer = Ready; order = g.order }
+HoldsOrder g = g.prepared ≡ true → graph.prepare g.nodes g.edges ≡ record { answer = Ok tt; order = g.order }
 
 pub record Prepares (g : GraphView) : Type 0 where
   pub rows : Rows g.nodes g.next
@@ -172,28 +169,28 @@ heard_is true = refl
 heard_is false = refl
 
 module _ (d : SharedState) (h : Prepares d.graph) where
-  failed : (r : Refusal) → (prepare_outcome d).answer ≡ Refused r → d.graph.prepared ≡ false
+  failed : (r : Refusal) → (prepare_outcome d).answer ≡ Err r → d.graph.prepared ≡ false
   failed r e = go d.graph.prepared refl
     where
       go : (b : Bool) → d.graph.prepared ≡ b → b ≡ false
       go false p = refl
       go true p =
-          let same : Ready ≡ Refused r = ap (λ (o : graph.Outcome). o.answer) (sym (h.holds p)) ∙ e in
+          let same : (Ok tt) ≡ Err r = ap (λ (o : graph.Outcome). o.answer) (sym (h.holds p)) ∙ e in
           let z : ◌≡◌ {A = ℕ} 0 1 = cc in
           absurd (omega arith)
 
   after_sounds : is_sounding (answer_after (prepare_outcome d).answer (prepare_shared d)) ≡ sounding (prepare_shared d)
   after_sounds = go (prepare_outcome d).answer refl
     where
-      go : (r : Readiness) → (prepare_outcome d).answer ≡ r → is_sounding (answer_after r (ready_shared r (prepare_outcome d).order d)) ≡ sounding (ready_shared r (prepare_outcome d).order d)
-      go Ready e = heard_is (sounding (ready_shared Ready (prepare_outcome d).order d))
-      go (Refused r) e = sym (ap (λ b. b && is_some d.graph.sink) (failed r e))
+      go : (r : Result (Unit {0}) Refusal) → (prepare_outcome d).answer ≡ r → is_sounding (answer_after r (ready_shared r (prepare_outcome d).order d)) ≡ sounding (ready_shared r (prepare_outcome d).order d)
+      go (Ok tt) e = heard_is (sounding (ready_shared (Ok tt) (prepare_outcome d).order d))
+      go (Err r) e = sym (ap (λ b. b && is_some d.graph.sink) (failed r e))
 
 block_sounds : (b : Bool) (l : Ledger) → ReadyOf l → is_sounding (prepared_if b l).answer ≡ sounding (prepared_if b l).ledger.shared
 block_sounds true l h = after_sounds l.shared h
 block_sounds false l h = heard_is (sounding l.shared)
 
-pub render_sounds : (out : List ℕ) (l : Ledger) → ReadyOf l → render_refusal l.shared (length out) ≡ none
+pub render_sounds : (out : List ℕ) (l : Ledger) → ReadyOf l → render_refusal l.shared (length out) ≡ None
     → is_sounded (step (call.render out) l).answer ≡ sounding (step (call.render out) l).ledger.shared
 render_sounds out l h e =
     ap (λ o. is_sounded (render_step o out l).answer) e ∙ block_sounds (any_free q) (apply_events q (rested l)) (events_kept (open_moves ready_preserved) q (rested l) h)

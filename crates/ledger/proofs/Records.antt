@@ -5,20 +5,17 @@ use native.Mathlib.Omega.{arith}
 use mathlib.Core.Path.{◌≡◌, refl, sym, ap, ◌∙◌, subst}
 use mathlib.Core.Logic.{◌⊎◌, inl, inr, ⊎_elim}
 use mathlib.Core.List.{List, [], ◌∷◌, ◌++◌, map}
-use mathlib.Core.Option.{Option, none, some}
+use Rattle.std.specs.Prelude.{Option, None, Some, filter}
 use mathlib.Core.Bool.{Bool, true, false, not, false≢true}
 use borrow.Author.Tests.{eq-eqb, eqb-true}
 use Rattle.lists.specs.Member.{In}
 use Rattle.lists.proofs.Member.{in_snoc, in_map, and_left}
-use Rattle.lists.specs.Filter.{filter}
 use Rattle.lists.proofs.Filter.{in_filter}
 use Rattle.lists.specs.Count.{more, count}
 use Rattle.lists.proofs.Count.{count_filter, count_snoc, count_map}
 use Rattle.node.specs.declared.record.VoiceId.{VoiceId}
 use Rattle.voice.specs.Steals.{StealLog, pushed, record_of}
 use Rattle.voice.specs.declared.steals.StealRecord.{StealRecord}
-use Rattle.voice.specs.declared.policy.Budget.{Budget}
-use Rattle.voice.specs.declared.policy.Budget.TheVariants.{Unlimited, AtMost}
 use Rattle.store.specs.declared.config.Config.{Config}
 use Rattle.store.specs.declared.voices.Voice.{Voice}
 use Rattle.store.specs.declared.voices.VoiceState.{VoiceState}
@@ -245,13 +242,13 @@ pub recorded_steal : (v : Voice) (l : Ledger) → RecordedOf l → In v l.voices
 recorded_steal v l r i t = go (port_held v l)
   where
     go : (o : Option ℕ) → RecordedOf (stolen v o l)
-    go none = recorded_cut v Tracked l r i (tracked_state v.state t)
-    go (some p) = recorded_fade v p l r i (tracked_state v.state t)
+    go None = recorded_cut v Tracked l r i (tracked_state v.state t)
+    go (Some p) = recorded_fade v p l r i (tracked_state v.state t)
 
 -- ---- every call
-pub under_fading : (b : Budget) (f : Fade) → state_under b ≡ Fading f → ⊥
-under_fading Unlimited f e = loose_fading f e
-under_fading (AtMost k) f e = tracked_fading f e
+pub under_fading : (b : Option ℕ) (f : Fade) → state_under b ≡ Fading f → ⊥
+under_fading None f e = loose_fading f e
+under_fading (Some k) f e = tracked_fading f e
 
 recorded_budgeted : (spawn : Spawn) (l : Ledger) → RecordedOf l → l.shared.spawned < 18446744073709551615 → RecordedOf (place_within_budget spawn l).ledger
 recorded_budgeted spawn l r h =
@@ -265,8 +262,8 @@ pub spawned_steal : (v : Voice) (l : Ledger) → (steal_voice v l).shared.spawne
 spawned_steal v l = go (port_held v l)
   where
     go : (o : Option ℕ) → (stolen v o l).shared.spawned ≡ l.shared.spawned
-    go none = refl
-    go (some p) = refl
+    go None = refl
+    go (Some p) = refl
 
 recorded_preserved : Preserves RecordedOf
 recorded_preserved =

@@ -5,12 +5,11 @@ use native.Mathlib.Omega.{arith}
 use mathlib.Core.Path.{◌≡◌, refl, sym, ap, ◌∙◌}
 use mathlib.Core.Logic.{⊎_elim}
 use mathlib.Core.List.{List, [], ◌∷◌, ◌++◌}
-use mathlib.Core.Option.{some}
+use Rattle.std.specs.Prelude.{Some, filter}
 use mathlib.Core.Bool.{Bool, true, false, not, cond}
 use borrow.Author.Tests.{eqb-true}
 use Rattle.lists.specs.Member.{In}
 use Rattle.lists.proofs.Member.{in_snoc, in_map}
-use Rattle.lists.specs.Filter.{filter}
 use Rattle.lists.proofs.Filter.{in_filter}
 use Rattle.lists.specs.Rising.{RisesFrom}
 use Rattle.lists.proofs.Rising.{rises_filter, rises_snoc, rises_map}
@@ -31,7 +30,7 @@ use Rattle.ledger.proofs.Spawning.{Spawning, place_keeps, managed_keeps}
 module _ (N : List Node → ℕ → Type 0)
     (more : (ns : List Node) (next : ℕ) (n : Node) → N ns next → N (ns ++ (with_id next n ∷ [])) (next + 1))
     (fewer : (ns : List Node) (next : ℕ) (t : Node → Bool) → N ns next → N (filter t ns) next)
-    (other : (ns : List Node) (next : ℕ) (k : NodeId) (x n : Node) → node_at ns k ≡ some x → Alike x n → N ns next → N (replaced ns n) next)
+    (other : (ns : List Node) (next : ℕ) (k : NodeId) (x n : Node) → node_at ns k ≡ Some x → Alike x n → N ns next → N (replaced ns n) next)
     (raise : (ns : List Node) (next : ℕ) (bus : NodeId) → N ns next → N (noise_raised bus ns) next) where
   abbrev pub NodesOf : Ledger → Type 0
   NodesOf l = N l.shared.graph.nodes l.shared.graph.next

@@ -5,7 +5,7 @@ use native.Mathlib.Omega.{arith}
 use mathlib.Core.Path.{◌≡◌, refl, sym, ap, ap₂, ◌∙◌, subst}
 use mathlib.Core.Logic.{inl, inr}
 use mathlib.Core.List.{List, [], ◌∷◌, ◌++◌, map}
-use mathlib.Core.Option.{Option, none, some}
+use Rattle.std.specs.Prelude.{Option, None, Some}
 use mathlib.Core.Bool.{Bool, false, ◌||◌, true≢false}
 use lib.Dec.{leb}
 use lib.Ieee.{Float}
@@ -55,14 +55,14 @@ pub record Agrees (r : call.Step) (t : ledger.Step) : Type 0 where
   pub sound : InvariantOf t.ledger
 
 -- ---- what the refusals leave
-host_is : (o : Option Node) → dead o ≡ false → of_voice o ≡ false → owner_of o ≡ some 0
-host_is none d v = absurd (true≢false d)
-host_is (some n) d v = ap some (eqb-true _ _ (not-false _ v))
+host_is : (o : Option Node) → dead o ≡ false → of_voice o ≡ false → owner_of o ≡ Some 0
+host_is None d v = absurd (true≢false d)
+host_is (Some n) d v = ap Some (eqb-true _ _ (not-false _ v))
 
-host_ok : (g : GraphView) (k : NodeId) → host_refusal g k ≡ none → HostAt g.nodes k.0
+host_ok : (g : GraphView) (k : NodeId) → host_refusal g k ≡ None → HostAt g.nodes k.0
 host_ok g k h = host_owned g.nodes k (host_at g k h)
 
-connect_ok : (g : GraphView) (a b : NodeId) (p : ℕ) → connect_refusal g a b p ≡ none → HostAt g.nodes a.0 × HostAt g.nodes b.0 × (p < ports_at g.nodes b.0)
+connect_ok : (g : GraphView) (a b : NodeId) (p : ℕ) → connect_refusal g a b p ≡ None → HostAt g.nodes a.0 × HostAt g.nodes b.0 × (p < ports_at g.nodes b.0)
 connect_ok g a b p h =
     let x = node_at g.nodes a in
     let y = node_at g.nodes b in
@@ -76,9 +76,9 @@ connect_ok g a b p h =
 -- ---- every call
 module _ (l : Ledger) (s : InvariantOf l) where
   -- a call that is refused leaves both as they were
-  guarded : (o : Option Refusal) (r : call.Step) (t : ledger.Step) → (o ≡ none → Agrees r t) → Agrees (call.unless o (model_of l) r) (ledger.unless o l t)
-  guarded (some n) r t f = record { answer = refl; model = refl; sound = s }
-  guarded none r t f = f refl
+  guarded : (o : Option Refusal) (r : call.Step) (t : ledger.Step) → (o ≡ None → Agrees r t) → Agrees (call.unless o (model_of l) r) (ledger.unless o l t)
+  guarded (Some n) r t f = record { answer = refl; model = refl; sound = s }
+  guarded None r t f = f refl
 
   abbrev Same : Call → Type 0
   Same x = Agrees (call.step x (model_of l)) (ledger.step x l)
@@ -143,8 +143,8 @@ module _ (l : Ledger) (s : InvariantOf l) where
 
   -- ---- 02, Paper 1: the render with its list
   rendered_agrees : (o : Option Refusal) (out : List ℕ) → Agrees (call.render_step o out (model_of l)) (ledger.render_step o out l)
-  rendered_agrees (some r) out = record { answer = refl; model = refl; sound = s }
-  rendered_agrees none out =
+  rendered_agrees (Some r) out = record { answer = refl; model = refl; sound = s }
+  rendered_agrees None out =
       let r = render_agrees l s in
       record {
         answer = ap₂ (λ a os. call.rendered a (length (due l.shared)) (written os out)) r.answer (outcomes_agree (due l.shared) (rested l) s);

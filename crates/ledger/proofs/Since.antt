@@ -9,7 +9,7 @@ use mathlib.Core.List.{List, [], ◌∷◌, ◌++◌, map, map-map, append-nil}
 use mathlib.Core.Bool.{Bool, cond}
 use Rattle.lists.specs.Member.{In}
 use Rattle.lists.proofs.Member.{in_snoc, in_map, in_of_map, map_append, map_same}
-use Rattle.lists.specs.Filter.{filter}
+use Rattle.std.specs.Prelude.{filter}
 use Rattle.lists.proofs.Filter.{in_filter}
 use Rattle.node.specs.declared.record.Node.{Node}
 use Rattle.graph.specs.Node.{is_node, with_id, replaced, raise_noise, noise_raised}

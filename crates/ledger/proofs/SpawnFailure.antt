@@ -5,16 +5,14 @@ use Prim.Native.Nat.{ℕ, zero, suc, ◌+◌, ◌≤◌, ◌<◌}
 use native.Mathlib.Omega.{arith}
 use mathlib.Core.Path.{◌≡◌, refl, sym, ap, ap₂, ◌∙◌, subst}
 use mathlib.Core.List.{List, [], ◌∷◌, map}
-use mathlib.Core.Option.{Option, none, some}
+use Rattle.std.specs.Prelude.{Option, None, Some, find, option_map, filter, Ok}
 use mathlib.Core.Bool.{Bool, true, false, not, cond, ◌&&◌, ◌||◌, false≢true}
 use lib.Dec.{eqb, leb, ltb}
 use lib.ListN.{length}
 use borrow.Author.Tests.{eq-eqb, ne_eqb, eqb-true, not-false, le-leb, lt-leb, lt-ltb, le-ltb}
 use Rattle.lists.specs.Member.{In}
 use Rattle.lists.proofs.Member.{and_left, both}
-use Rattle.lists.specs.Find.{find, map_o}
 use Rattle.lists.proofs.Find.{find_in, find_filter_same, find_filter_some, find_snoc_some, find_map}
-use Rattle.lists.specs.Filter.{filter}
 use Rattle.lists.specs.Count.{count}
 use Rattle.lists.proofs.Count.{count_filter_lt, count_all}
 use Rattle.rank.specs.Order.{upto}
@@ -26,11 +24,9 @@ use Rattle.node.specs.declared.record.Node.{Node}
 use Rattle.node.specs.declared.record.Edge.{Edge}
 use Rattle.edges.specs.Wiring.{ends_at}
 use Rattle.graph.specs.Node.{is_node, node_at, ports_of, owned_by}
-use Rattle.voice.specs.declared.policy.Budget.TheVariants.{AtMost}
 use Rattle.voice.specs.declared.policy.Admission.{Admission}
 use Rattle.voice.specs.declared.policy.Admission.TheVariants as admission
 use Rattle.voice.specs.Policy.{at_budget, admits}
-use Rattle.store.specs.declared.answer.Spawned.{Spawned}
 use Rattle.store.specs.declared.config.Config.{Config}
 use Rattle.store.specs.declared.voices.Voice.{Voice}
 use Rattle.store.specs.declared.voices.VoiceState.{VoiceState}
@@ -63,7 +59,7 @@ every_same t u (x ∷ l) h = rw (h x, every_same t u l h)
 
 module _ (bus : NodeId) (rank : ℕ) (l : Ledger) where
   -- a free port
-  free_blocked : (p : ℕ) → port_free bus l ≡ some p → blocked bus rank l ≡ false
+  free_blocked : (p : ℕ) → port_free bus l ≡ Some p → blocked bus rank l ≡ false
   free_blocked p h =
       let r = lowest_some (ports_of (node_at l.shared.graph.nodes bus)) (λ p. not (is_held (l.holders bus.0 p))) 0 p h in
       go (blocked bus rank l) refl (l.holders bus.0 p) refl r.2 (in_up (ports_of (node_at l.shared.graph.nodes bus)) 0 p r.0 r.1)
@@ -76,15 +72,15 @@ module _ (bus : NodeId) (rank : ℕ) (l : Ledger) where
       go true e (voice w) f g i = absurd (false≢true g)
 
   -- no free port, and no tracked or fading voice on the bus
-  idle_blocked : port_free bus l ≡ none → ((v : Voice) → In v l.voices → may_go_on bus rank v ≡ false) → blocked bus rank l ≡ true
+  idle_blocked : port_free bus l ≡ None → ((v : Voice) → In v l.voices → may_go_on bus rank v ≡ false) → blocked bus rank l ≡ true
   idle_blocked h f =
       in_every (λ p. by_other bus rank l.voices (l.holders bus.0 p)) (upto (ports_of (node_at l.shared.graph.nodes bus))) (λ p i.
       let r = up_in (ports_of (node_at l.shared.graph.nodes bus)) 0 p i in
       go (l.holders bus.0 p) (not-false _ (lowest_none (ports_of (node_at l.shared.graph.nodes bus)) (λ p. not (is_held (l.holders bus.0 p))) 0 p h r.0 r.1)))
     where
-      idle : (o : Option Voice) → ((v : Voice) → o ≡ some v → In v l.voices) → not (is_spare bus rank o) ≡ true
-      idle none g = refl
-      idle (some v) g = ap not (f v (g v refl))
+      idle : (o : Option Voice) → ((v : Voice) → o ≡ Some v → In v l.voices) → not (is_spare bus rank o) ≡ true
+      idle None g = refl
+      idle (Some v) g = ap not (f v (g v refl))
 
       go : (x : Holder) → is_held x ≡ true → by_other bus rank l.voices x ≡ true
       go nobody g = g
@@ -111,30 +107,30 @@ held_own l s v i n p w h e = go (owner_at ns n) refl (find (ends_at (id n) p) es
         inj : {x y : VoiceId} → voice x ≡ voice y → x ≡ y
         inj q = cc
 
-    src : owner_at ns n ≡ some 0 → (oe : Option Edge) → find (ends_at (id n) p) es ≡ oe → held_by (owner_at ns) oe ≡ voice w → v.bus.0 ≡ n
-    src o none f q = absurd (nobody_voice q)
-    src o (some d) f q =
+    src : owner_at ns n ≡ Some 0 → (oe : Option Edge) → find (ends_at (id n) p) es ≡ oe → held_by (owner_at ns) oe ≡ voice w → v.bus.0 ≡ n
+    src o None f q = absurd (nobody_voice q)
+    src o (Some d) f q =
         let r = edge_at_lem es (id n) p d f in
         let g = s.wired.ends d r.0 in
         let a : g.a ≡ v.id.0 = own g.a d.from (rw g.from at q) in
-        s.voiced.fed v i d r.0 (ap (owner_at ns) r.1 ∙ o, g.from ∙ ap some a) ∙ r.1
+        s.voiced.fed v i d r.0 (ap (owner_at ns) r.1 ∙ o, g.from ∙ ap Some a) ∙ r.1
 
-    at : (k : ℕ) → owner_at ns n ≡ some k → (b : Bool) → eqb k 0 ≡ b → (oe : Option Edge) → find (ends_at (id n) p) es ≡ oe → cond b (held_by (owner_at ns) oe) nobody ≡ voice w → v.bus.0 ≡ n
-    at k o true c oe f q = src (o ∙ ap some (eqb-true k 0 c)) oe f q
+    at : (k : ℕ) → owner_at ns n ≡ Some k → (b : Bool) → eqb k 0 ≡ b → (oe : Option Edge) → find (ends_at (id n) p) es ≡ oe → cond b (held_by (owner_at ns) oe) nobody ≡ voice w → v.bus.0 ≡ n
+    at k o true c oe f q = src (o ∙ ap Some (eqb-true k 0 c)) oe f q
     at k o false c oe f q = absurd (nobody_voice q)
 
     go : (o : Option ℕ) → owner_at ns n ≡ o → (oe : Option Edge) → find (ends_at (id n) p) es ≡ oe → cond (is_host o) (held_by (owner_at ns) oe) nobody ≡ voice w → v.bus.0 ≡ n
-    go none o oe f q = absurd (nobody_voice q)
-    go (some k) o oe f q = at k o (eqb k 0) refl oe f q
+    go None o oe f q = absurd (nobody_voice q)
+    go (Some k) o oe f q = at k o (eqb k 0) refl oe f q
 
 -- ---- a voice that is removed, or begins to fade, leaves it as it was
-node_removed : (ns : List Node) (bus : NodeId) (w : VoiceId) → 0 < w.0 → (h : HostAt ns bus) → node_at (filter (λ n. not (owned_by w n)) ns) bus ≡ some h.0
+node_removed : (ns : List Node) (bus : NodeId) (w : VoiceId) → 0 < w.0 → (h : HostAt ns bus) → node_at (filter (λ n. not (owned_by w n)) ns) bus ≡ Some h.0
 node_removed ns bus w pos h = find_filter_some (is_node bus) (λ n. not (owned_by w n)) ns h.0 h.1 (ap not (ne_eqb h.0.owner.0 w.0 (λ e. let z = h.2 in omega arith)))
 
 host_removed : (ns : List Node) (bus : NodeId) (w : VoiceId) → 0 < w.0 → HostAt ns bus → HostAt (filter (λ n. not (owned_by w n)) ns) bus
 host_removed ns bus w pos h = (h.0, node_removed ns bus w pos h, h.2)
 
-ports_host : (ns : List Node) (bus : NodeId) (h : HostAt ns bus) (ms : List Node) → node_at ms bus ≡ some h.0 → ports_of (node_at ms bus) ≡ ports_of (node_at ns bus)
+ports_host : (ns : List Node) (bus : NodeId) (h : HostAt ns bus) (ms : List Node) → node_at ms bus ≡ Some h.0 → ports_of (node_at ms bus) ≡ ports_of (node_at ns bus)
 ports_host ns bus h ms e = ap ports_of (e ∙ sym h.1)
 
 module _ (bus : NodeId) (rank : ℕ) (l : Ledger) (d : IdsOf l) (hb : HostAt l.shared.graph.nodes bus) (v : Voice) (i : In v l.voices) where
@@ -152,7 +148,7 @@ module _ (bus : NodeId) (rank : ℕ) (l : Ledger) (d : IdsOf l) (hb : HostAt l.s
 
       two : (p : ℕ) (w : VoiceId) → l.holders bus.0 p ≡ voice w → (b : Bool) → eqb w.0 v.id.0 ≡ b → by_other bus rank (filter t l.voices) (cond b nobody (voice w)) ≡ by_other bus rank l.voices (voice w)
       two p w e true q =
-          let z : find (is_voice w) l.voices ≡ some v = once d w v i (eq-eqb v.id.0 w.0 (sym (eqb-true w.0 v.id.0 q))) in
+          let z : find (is_voice w) l.voices ≡ Some v = once d w v i (eq-eqb v.id.0 w.0 (sym (eqb-true w.0 v.id.0 q))) in
           sym (ap (λ o. not (is_spare bus rank o)) z ∙ ap not (own p w e (eqb-true w.0 v.id.0 q)))
       two p w e false q = ap (λ o. not (is_spare bus rank o)) (find_filter_same (is_voice w) t (other w q) l.voices)
 
@@ -164,9 +160,9 @@ module _ (bus : NodeId) (rank : ℕ) (l : Ledger) (d : IdsOf l) (hb : HostAt l.s
           go (host k) e = refl
           go (voice w) e = two p w e (eqb w.0 v.id.0) refl
 
-  blocked_fade : is_tracked v.state ≡ true → v.rank ≤ rank → (p : ℕ) → blocked bus rank (stolen v (some p) l) ≡ blocked bus rank l
+  blocked_fade : is_tracked v.state ≡ true → v.rank ≤ rank → (p : ℕ) → blocked bus rank (stolen v (Some p) l) ≡ blocked bus rank l
   blocked_fade tr low q =
-      ap (λ k. every (λ p. by_other bus rank (map g l.voices) (l.holders bus.0 p)) (upto k)) (ports_host l.shared.graph.nodes bus hb (stolen v (some q) l).shared.graph.nodes grown)
+      ap (λ k. every (λ p. by_other bus rank (map g l.voices) (l.holders bus.0 p)) (upto k)) (ports_host l.shared.graph.nodes bus hb (stolen v (Some q) l).shared.graph.nodes grown)
       ∙ every_same (λ p. by_other bus rank (map g l.voices) (l.holders bus.0 p)) (λ p. by_other bus rank l.voices (l.holders bus.0 p)) (upto (ports_of (node_at l.shared.graph.nodes bus))) (λ p. at (l.holders bus.0 p))
     where
       f : Fade
@@ -175,7 +171,7 @@ module _ (bus : NodeId) (rank : ℕ) (l : Ledger) (d : IdsOf l) (hb : HostAt l.s
       g : Voice → Voice
       g = begin_fade v.id f
 
-      grown : node_at (stolen v (some q) l).shared.graph.nodes bus ≡ some hb.0
+      grown : node_at (stolen v (Some q) l).shared.graph.nodes bus ≡ Some hb.0
       grown = find_snoc_some (is_node bus) l.shared.graph.nodes _ hb.0 hb.1
 
       id_same : (w : VoiceId) (x : Voice) → is_voice w (g x) ≡ is_voice w x
@@ -199,9 +195,9 @@ module _ (bus : NodeId) (rank : ℕ) (l : Ledger) (d : IdsOf l) (hb : HostAt l.s
       at (host k) = refl
       at (voice w) = ap (λ o. not (is_spare bus rank o)) (find_map g (is_voice w) (is_voice w) (id_same w) l.voices) ∙ go (find (is_voice w) l.voices) (λ u e. (find_in (is_voice w) l.voices u e).0)
         where
-          go : (o : Option Voice) → ((u : Voice) → o ≡ some u → In u l.voices) → not (is_spare bus rank (map_o g o)) ≡ not (is_spare bus rank o)
-          go none h = refl
-          go (some u) h = ap not (busy_same u (h u refl))
+          go : (o : Option Voice) → ((u : Voice) → o ≡ Some u → In u l.voices) → not (is_spare bus rank (option_map g o)) ≡ not (is_spare bus rank o)
+          go None h = refl
+          go (Some u) h = ap not (busy_same u (h u refl))
 
   blocked_steal : InvariantOf l → is_tracked v.state ≡ true → v.rank ≤ rank → blocked bus rank (steal_voice v l) ≡ blocked bus rank l
   blocked_steal s tr low = go (port_held v l)
@@ -210,15 +206,15 @@ module _ (bus : NodeId) (rank : ℕ) (l : Ledger) (d : IdsOf l) (hb : HostAt l.s
       own p w e q = both (may_go rank v) (is_on bus v) (ap₂ (λ z b. is_fading z || (is_tracked z && b)) (tracked_state v.state tr) (le-leb _ _ low)) (eq-eqb v.bus.0 bus.0 (held_own l s v i bus.0 p w e (sym q)))
 
       go : (o : Option ℕ) → blocked bus rank (stolen v o l) ≡ blocked bus rank l
-      go none = blocked_cut Tracked own
-      go (some p) = blocked_fade tr low p
+      go None = blocked_cut Tracked own
+      go (Some p) = blocked_fade tr low p
 
   host_steal : HostAt (steal_voice v l).shared.graph.nodes bus
   host_steal = go (port_held v l)
     where
       go : (o : Option ℕ) → HostAt (stolen v o l).shared.graph.nodes bus
-      go none = host_removed l.shared.graph.nodes bus v.id (above d v i) hb
-      go (some p) = (hb.0, find_snoc_some (is_node bus) l.shared.graph.nodes _ hb.0 hb.1, hb.2)
+      go None = host_removed l.shared.graph.nodes bus v.id (above d v i) hb
+      go (Some p) = (hb.0, find_snoc_some (is_node bus) l.shared.graph.nodes _ hb.0 hb.1, hb.2)
 
 -- ---- the port search
 module _ (spawn : Spawn) (b : Bool) (given : VoiceId) where
@@ -238,7 +234,7 @@ module _ (spawn : Spawn) (b : Bool) (given : VoiceId) where
   none_left [] h v i = i
   none_left (x ∷ vs) h v i = omega arith
 
-  search_cut : (n : ℕ) (m : Ledger) (v : Voice) → next_out m.shared spawn.bus spawn.rank m.voices ≡ some v → Search (suc n) m → Search n (cut_off v v.state m)
+  search_cut : (n : ℕ) (m : Ledger) (v : Voice) → next_out m.shared spawn.bus spawn.rank m.voices ≡ Some v → Search (suc n) m → Search n (cut_off v v.state m)
   search_cut n m v e q =
       let r = next_out_in q.ids m.shared spawn.bus spawn.rank v e in
       let less = count_filter_lt (λ x. true) (λ x. not (is_voice v.id x)) m.voices v r.0 refl (not_voice_self v) in
@@ -257,13 +253,13 @@ module _ (spawn : Spawn) (b : Bool) (given : VoiceId) where
   answers : (n : ℕ) (s : VoiceState) (m : Ledger) → Search n m → Answers (place n spawn s m)
   answers n s m q =
       place_kept spawn s Search Answers
-      (λ n m p e q. ap Spawned.Voice q.next ∙ ap (λ c. answer_when false c given) (sym (free_blocked spawn.bus spawn.rank m p e) ∙ q.is))
+      (λ n m p e q. ap Ok q.next ∙ ap (λ c. answer_when false c given) (sym (free_blocked spawn.bus spawn.rank m p e) ∙ q.is))
       (λ m e q. ap (λ c. answer_when false c given) (sym (idle_blocked spawn.bus spawn.rank m e (λ v i. absurd (none_left m.voices q.enough v i))) ∙ q.is))
       (λ n m e f q. ap (λ c. answer_when false c given) (sym (idle_blocked spawn.bus spawn.rank m e (next_out_none q.ids m.shared spawn.bus spawn.rank q.steals f)) ∙ q.is))
       (λ n m v e f q. search_cut n m v f q) n m q
 
 -- ---- 11: at budget, and all that count outrank the new voice
-module _ (c : Config) (bus : NodeId) (rank k : ℕ) (b : c.budget ≡ AtMost k) (vs : List Voice) where
+module _ (c : Config) (bus : NodeId) (rank k : ℕ) (b : c.budget ≡ Some k) (vs : List Voice) where
   at_budget_lem : (n : ℕ) (t : Bool) → leb k n ≡ t → at_budget c.budget n ≡ t
   at_budget_lem n t e = ap (λ x. at_budget x n) b ∙ e
 
@@ -293,8 +289,8 @@ module _ (c : Config) (bus : NodeId) (rank k : ℕ) (b : c.budget ≡ AtMost k) 
       go true true e = absurd (false≢true (sym goes ∙ every_in (stays c.scope bus rank) vs v e i))
 
 -- ---- the claim
-pub spawn_answer_lem : (spawn : Spawn) (l : Ledger) → InvariantOf l → (k : ℕ) → l.shared.config.budget ≡ AtMost (suc k) → Stealing l.shared.config.policy
-    → spawn_refusal l.shared l.voices spawn.def spawn.bus spawn.rank ≡ none
+pub spawn_answer_lem : (spawn : Spawn) (l : Ledger) → InvariantOf l → (k : ℕ) → l.shared.config.budget ≡ Some (suc k) → Stealing l.shared.config.policy
+    → spawn_refusal l.shared l.voices spawn.def spawn.bus spawn.rank ≡ None
     → (step (call.spawn_managed spawn) l).answer ≡ call.spawned (spawn_answer spawn.bus spawn.rank l)
 spawn_answer_lem spawn l s k b t h = ap call.spawned (ap (λ o. (unless o l (admitted (admission_on spawn.bus spawn.rank l) spawn l)).answer) h ∙ all)
   where
@@ -309,13 +305,13 @@ spawn_answer_lem spawn l s k b t h = ap call.spawned (ap (λ o. (unless o l (adm
 
     -- under this budget
     admits_is : (a : Admission) → admission_on spawn.bus spawn.rank l ≡ a
-        → admits (AtMost (suc k)) l.shared.config.policy spawn.rank (candidates l.shared (counted l.shared.config.scope spawn.bus) l.voices) ≡ a
+        → admits (Some (suc k)) l.shared.config.policy spawn.rank (candidates l.shared (counted l.shared.config.scope spawn.bus) l.voices) ≡ a
     admits_is a e = subst (λ x. admits x l.shared.config.policy spawn.rank (candidates l.shared (counted l.shared.config.scope spawn.bus) l.voices) ≡ a) b e
 
     budgeted : outranked l.shared.config spawn.bus spawn.rank l.voices ≡ false → (m : Ledger) → m.shared.config ≡ l.shared.config → IdsOf m → HostAt m.shared.graph.nodes spawn.bus
         → next_voice m.shared ≡ next_voice l.shared → blocked spawn.bus spawn.rank m ≡ blocked spawn.bus spawn.rank l → R (place_within_budget spawn m)
     budgeted low m c d at next e =
-        let u : m.shared.config.budget ≡ AtMost (suc k) = ap (λ (x : Config). x.budget) c ∙ b in
+        let u : m.shared.config.budget ≡ Some (suc k) = ap (λ (x : Config). x.budget) c ∙ b in
         let n : tries m.shared.config.budget m.voices ≡ length m.voices = ap (λ x. tries x m.voices) u in
         answers spawn (blocked spawn.bus spawn.rank l) (next_voice l.shared) (tries m.shared.config.budget m.voices) (state_under m.shared.config.budget) m
         (record { ids = d; at = at; steals = subst (λ (x : Config). Stealing x.policy) (sym c) t; next = next; enough = omega arith; is = e })

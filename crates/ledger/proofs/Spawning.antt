@@ -1,8 +1,7 @@
 -- What both spawns keep, whoever is removed for them: what the removal of a voice with its record, the start of a fade and the instantiation of a
 -- new voice each keep.
 use Prim.Native.Nat.{ℕ}
-use mathlib.Core.Option.{Option, none, some}
-use Rattle.lists.specs.Find.{find}
+use Rattle.std.specs.Prelude.{Option, None, Some, find}
 use Rattle.voice.specs.declared.policy.Admission.{Admission}
 use Rattle.voice.specs.declared.policy.Admission.TheVariants as admission
 use Rattle.store.specs.declared.voices.Voice.{Voice}
@@ -30,8 +29,8 @@ module _ (P : Ledger → Type 0) (k : Spawning P) (spawn : Spawn) where
   steal_keeps v l q = go (port_held v l)
     where
       go : (o : Option ℕ) → P (stolen v o l)
-      go none = k.cuts l v Tracked q
-      go (some p) = k.fades l v p q
+      go None = k.cuts l v Tracked q
+      go (Some p) = k.fades l v p q
 
   pub managed_keeps : (a : Admission) (l : Ledger) → P l → P (admitted a spawn l).ledger
   managed_keeps admission.Admit l q = budgeted_keeps l q
@@ -39,5 +38,5 @@ module _ (P : Ledger → Type 0) (k : Spawning P) (spawn : Spawn) where
   managed_keeps (admission.Steal place w) l q = go (find (is_voice w) l.voices)
     where
       go : (o : Option Voice) → P (steal_then o spawn l).ledger
-      go none = budgeted_keeps l q
-      go (some v) = budgeted_keeps (steal_voice v l) (steal_keeps v l q)
+      go None = budgeted_keeps l q
+      go (Some v) = budgeted_keeps (steal_voice v l) (steal_keeps v l q)

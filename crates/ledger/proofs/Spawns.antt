@@ -3,7 +3,7 @@ use Prim.Native.Nat.{ℕ, zero, suc, ◌<◌}
 use native.Mathlib.Omega.{arith}
 use mathlib.Core.Path.{◌≡◌, refl, sym, ap, ◌∙◌, subst}
 use mathlib.Core.List.{List, [], ◌∷◌, ◌++◌, map}
-use mathlib.Core.Option.{Option, none, some}
+use Rattle.std.specs.Prelude.{Option, None, Some, find, option_map}
 use mathlib.Core.Bool.{true, not}
 use lib.Dec.{eqb}
 use lib.ListN.{length-map}
@@ -11,7 +11,6 @@ use borrow.Author.Tests.{eqb-true, ne_eqb}
 use Rattle.lists.specs.Member.{In}
 use Rattle.lists.proofs.Member.{some_inj, and_left, and_right, map_append, map_swap}
 use Rattle.lists.proofs.Filter.{filter_map}
-use Rattle.lists.specs.Find.{find, map_o}
 use Rattle.lists.proofs.Find.{find_in}
 use Rattle.node.specs.declared.record.NodeId.{NodeId}
 use Rattle.node.specs.declared.record.VoiceId.{VoiceId}
@@ -115,9 +114,9 @@ module _ (l : Ledger) (s : InvariantOf l) where
       subst (λ o. Stolen (model.steal_voice (stored l v) (model_of l)) l (ledger.stolen v o l)) (feeds_held s v i t) (go (find (feeds (feeder v) v.bus) l.shared.graph.edges) refl)
     where
       go : (o : Option Edge) → find (feeds (feeder v) v.bus) l.shared.graph.edges ≡ o
-          → Stolen (model.stolen (stored l v) (map_o (λ e. e.port) o) (model_of l)) l (ledger.stolen v (map_o (λ e. e.port) o) l)
-      go none e = cut_off_lem v Tracked i
-      go (some d) e =
+          → Stolen (model.stolen (stored l v) (option_map (λ e. e.port) o) (model_of l)) l (ledger.stolen v (option_map (λ e. e.port) o) l)
+      go None e = cut_off_lem v Tracked i
+      go (Some d) e =
           let r = find_in (feeds (feeder v) v.bus) l.shared.graph.edges d e in
           faded v i d r.0 (eqb-true _ _ (and_left _ _ r.1)) (eqb-true _ _ (and_right (eqb d.from.0 (feeder v).0) _ r.1))
 
@@ -143,19 +142,19 @@ module _ (spawn : Spawn) (ok : allowed spawn.def ≡ true) (t : VoiceState) (sti
       same : new_voice spawn t p l.shared ≡ stored l (new_voice spawn t p l.shared)
       same = ap (λ u. new_voice spawn u p l.shared) (sym (still (reached l.shared.config.block)))
 
-  free_below : (p : ℕ) (l : Ledger) → ledger.port_free bus l ≡ some p → p < ports_at l.shared.graph.nodes bus.0
+  free_below : (p : ℕ) (l : Ledger) → ledger.port_free bus l ≡ Some p → p < ports_at l.shared.graph.nodes bus.0
   free_below p l e =
       let r = lowest_some (ports_at l.shared.graph.nodes bus.0) (λ p. not (is_held (l.holders bus.0 p))) 0 p e in
       omega (arith, r.1)
 
   place_agrees : (k : ℕ) (l : Ledger) → InvariantOf l → HostAt l.shared.graph.nodes bus.0 → Lands (model.place k spawn t (model_of l)) (ledger.place k spawn t l)
   place_agrees zero l s live =
-      subst (λ o. Lands (model.instantiate_or o none spawn t (model_of l) (model.refused NoPort)) (ledger.place zero spawn t l)) (sym (free_same s bus live)) (go (ledger.port_free bus l) refl)
+      subst (λ o. Lands (model.instantiate_or o None spawn t (model_of l) (model.refused NoPort)) (ledger.place zero spawn t l)) (sym (free_same s bus live)) (go (ledger.port_free bus l) refl)
     where
       go : (o : Option ℕ) → ledger.port_free bus l ≡ o
-          → Lands (model.instantiate_or o none spawn t (model_of l) (model.refused NoPort)) (ledger.instantiate_or o none spawn t l (ledger.refused NoPort))
-      go (some p) e = instantiate_agrees p l s live (free_below p l e)
-      go none e = refused_agrees NoPort l s
+          → Lands (model.instantiate_or o None spawn t (model_of l) (model.refused NoPort)) (ledger.instantiate_or o None spawn t l (ledger.refused NoPort))
+      go (Some p) e = instantiate_agrees p l s live (free_below p l e)
+      go None e = refused_agrees NoPort l s
   place_agrees (suc k) l s live =
       subst (λ o. Lands (model.instantiate_or o (next_out l.shared bus spawn.rank (map (stored l) l.voices)) spawn t (model_of l) (λ m. model.place k spawn t m)) (ledger.place (suc k) spawn t l))
       (sym (free_same s bus live))
@@ -165,10 +164,10 @@ module _ (spawn : Spawn) (ok : allowed spawn.def ≡ true) (t : VoiceState) (sti
     where
       go : (o : Option ℕ) → ledger.port_free bus l ≡ o → (u : Option Voice) → next_out l.shared bus spawn.rank l.voices ≡ u
           → ((l : Ledger) → InvariantOf l → HostAt l.shared.graph.nodes bus.0 → Lands (model.place k spawn t (model_of l)) (ledger.place k spawn t l))
-          → Lands (model.instantiate_or o (map_o (stored l) u) spawn t (model_of l) (λ m. model.place k spawn t m)) (ledger.instantiate_or o u spawn t l (λ l. ledger.place k spawn t l))
-      go (some p) e u f ih = instantiate_agrees p l s live (free_below p l e)
-      go none e none f ih = refused_agrees NoPort l s
-      go none e (some v) f ih =
+          → Lands (model.instantiate_or o (option_map (stored l) u) spawn t (model_of l) (λ m. model.place k spawn t m)) (ledger.instantiate_or o u spawn t l (λ l. ledger.place k spawn t l))
+      go (Some p) e u f ih = instantiate_agrees p l s live (free_below p l e)
+      go None e None f ih = refused_agrees NoPort l s
+      go None e (Some v) f ih =
           let z = cut_off_lem l s v v.state (next_out_in (ids_of_lem l s) l.shared bus spawn.rank v f).0 in
           subst (λ m. Lands (model.place k spawn t m) (ledger.place k spawn t (ledger.cut_off v v.state l))) (sym z.model) (ih (ledger.cut_off v v.state l) z.sound (z.hosts bus.0 live))
 
@@ -180,10 +179,10 @@ module _ (spawn : Spawn) (ok : allowed spawn.def ≡ true) where
       (sym (tries_same (reached l.shared.config.block) l.shared.config.budget l.voices))
       (place_agrees spawn ok (state_under l.shared.config.budget) (λ more. under_same more l.shared.config.budget) (tries l.shared.config.budget l.voices) l s live)
 
-  steal_agrees : (l : Ledger) → InvariantOf l → HostAt l.shared.graph.nodes spawn.bus.0 → (o : Option Voice) → ((v : Voice) → o ≡ some v → In v l.voices × (is_tracked v.state ≡ true))
-      → Lands (model.steal_then (map_o (stored l) o) spawn (model_of l)) (ledger.steal_then o spawn l)
-  steal_agrees l s live none who = budgeted_agrees l s live
-  steal_agrees l s live (some v) who =
+  steal_agrees : (l : Ledger) → InvariantOf l → HostAt l.shared.graph.nodes spawn.bus.0 → (o : Option Voice) → ((v : Voice) → o ≡ Some v → In v l.voices × (is_tracked v.state ≡ true))
+      → Lands (model.steal_then (option_map (stored l) o) spawn (model_of l)) (ledger.steal_then o spawn l)
+  steal_agrees l s live None who = budgeted_agrees l s live
+  steal_agrees l s live (Some v) who =
       let r = who v refl in
       let z = stolen l s v r.0 r.1 in
       subst (λ m. Lands (model.place_within_budget spawn m) (ledger.place_within_budget spawn (ledger.steal_voice v l))) (sym z.model) (budgeted_agrees (ledger.steal_voice v l) z.sound (z.hosts spawn.bus.0 live))
@@ -199,25 +198,25 @@ module _ (spawn : Spawn) (ok : allowed spawn.def ≡ true) where
       go admission.Reject e = refused_agrees Rejected l s
       go (admission.Steal place w) e =
           let r = steal_voice_lem (ids_of_lem l s) l.shared (counted l.shared.config.scope spawn.bus) l.shared.config.budget l.shared.config.policy spawn.rank place w e in
-          let y : find (is_voice w) (map (stored l) l.voices) ≡ some (stored l r.0) = find_stored (reached l.shared.config.block) w l.voices ∙ ap (map_o (stored l)) r.3 in
+          let y : find (is_voice w) (map (stored l) l.voices) ≡ Some (stored l r.0) = find_stored (reached l.shared.config.block) w l.voices ∙ ap (option_map (stored l)) r.3 in
           subst (λ o. Lands (model.steal_then o spawn (model_of l)) (ledger.steal_then (find (is_voice w) l.voices) spawn l)) (sym y)
-          (subst (λ o. Lands (model.steal_then (some (stored l r.0)) spawn (model_of l)) (ledger.steal_then o spawn l)) (sym r.3)
-          (steal_agrees l s live (some r.0) (λ v q. subst (λ x. In x l.voices × (is_tracked x.state ≡ true)) (some_inj q) (r.1, and_left (is_tracked r.0.state) _ r.2))))
+          (subst (λ o. Lands (model.steal_then (Some (stored l r.0)) spawn (model_of l)) (ledger.steal_then o spawn l)) (sym r.3)
+          (steal_agrees l s live (Some r.0) (λ v q. subst (λ x. In x l.voices × (is_tracked x.state ≡ true)) (some_inj q) (r.1, and_left (is_tracked r.0.state) _ r.2))))
 
 -- ---- the spawns
 -- a live node of the host, by its owner
 pub host_owned : (ns : List Node) (k : NodeId) → refusal.HostAt ns k → HostAt ns k.0
-host_owned ns k r = ap owner_of r.1 ∙ ap some r.2
+host_owned ns k r = ap owner_of r.1 ∙ ap Some r.2
 
 module _ (l : Ledger) (s : InvariantOf l) where
   refusal_same : (def : SynthDef) (bus : NodeId) (rank : ℕ) → spawn_refusal l.shared (map (stored l) l.voices) def bus rank ≡ spawn_refusal l.shared l.voices def bus rank
   refusal_same def bus rank = rw (length-map l.voices (stored l))
 
-  unless_agrees : (o : Option Refusal) (r : model.SpawnResult) (t : ledger.SpawnResult) → (o ≡ none → Lands r t) → Lands (model.unless o (model_of l) r) (ledger.unless o l t)
-  unless_agrees none r t f = f refl
-  unless_agrees (some n) r t f = refused_agrees n l s
+  unless_agrees : (o : Option Refusal) (r : model.SpawnResult) (t : ledger.SpawnResult) → (o ≡ None → Lands r t) → Lands (model.unless o (model_of l) r) (ledger.unless o l t)
+  unless_agrees None r t f = f refl
+  unless_agrees (Some n) r t f = refused_agrees n l s
 
-  host_bus : (def : SynthDef) (bus : NodeId) (rank : ℕ) → spawn_refusal l.shared l.voices def bus rank ≡ none → HostAt l.shared.graph.nodes bus.0
+  host_bus : (def : SynthDef) (bus : NodeId) (rank : ℕ) → spawn_refusal l.shared l.voices def bus rank ≡ None → HostAt l.shared.graph.nodes bus.0
   host_bus def bus rank e = host_owned l.shared.graph.nodes bus (spawn_allowed l.shared l.voices def bus rank e).host
 
   pub managed_agrees : (spawn : Spawn) → Lands (model.spawn_managed spawn (model_of l)) (ledger.spawn_managed spawn l)

@@ -1,4 +1,5 @@
 -- The steal records by their numbers: which are held, and what a new record and a mark do to each.
+use Rattle.std.specs.Prelude.{Option, Some, None}
 use Prim.Native.Nat.{ℕ, zero, suc, ◌+◌, ◌-◌, ◌≤◌, ◌<◌}
 use native.Mathlib.Omega.{arith}
 use native.Mathlib.Nat.{min-eq_left}
@@ -12,8 +13,6 @@ use lib.ListN.{length, drop, length-append, length-drop}
 use borrow.Author.Tests.{leb-true, leb-false, le-leb, lt-leb}
 use Rattle.voice.specs.Steals.{StealLog, pushed, cut_at, marked, found_at}
 use Rattle.voice.specs.declared.steals.StealRecord.{StealRecord}
-use Rattle.voice.specs.declared.steals.StealFound.{StealFound}
-use Rattle.voice.specs.declared.steals.StealFound.TheVariants as found
 use Rattle.ledger.specs.Claim.{first_held, held_record, cut_found, cut_if_held, Newest}
 
 -- ---- lists of records
@@ -27,7 +26,7 @@ found_left i [] m h = absurd (omega arith)
 found_left zero (r ∷ l) m h = refl
 found_left (suc i) (r ∷ l) m h = found_left i l m (omega arith)
 
-found_last : (l : List StealRecord) (r : StealRecord) → found_at (length l) (l ++ (r ∷ [])) ≡ found.Record r
+found_last : (l : List StealRecord) (r : StealRecord) → found_at (length l) (l ++ (r ∷ [])) ≡ Some r
 found_last [] r = refl
 found_last (x ∷ l) r = found_last l r
 
@@ -95,10 +94,10 @@ module _ (b : StealLog) (r : StealRecord) (small : b.count < 1844674407370955161
       ∙ ap (λ z. found_at z (b.newest ++ (r ∷ []))) (stood (length b.newest + 1 - 64) (first_held b) (first_held (pushed b r)) k (first w) le))
 
   -- a record that was there stays as it was, or is no longer one of the newest 64
-  pub held_pushed : Newest b → (k : ℕ) → k < b.count → (held_record (pushed b r) k ≡ held_record b k) ⊎ ((held_record (pushed b r) k ≡ found.Nothing) × (k + 64 < (pushed b r).count))
+  pub held_pushed : Newest b → (k : ℕ) → k < b.count → (held_record (pushed b r) k ≡ held_record b k) ⊎ ((held_record (pushed b r) k ≡ None) × (k + 64 < (pushed b r).count))
   held_pushed w k h = go (leb (first_held (pushed b r)) k) refl
     where
-      go : (t : Bool) → leb (first_held (pushed b r)) k ≡ t → (held_record (pushed b r) k ≡ held_record b k) ⊎ ((held_record (pushed b r) k ≡ found.Nothing) × (k + 64 < (pushed b r).count))
+      go : (t : Bool) → leb (first_held (pushed b r)) k ≡ t → (held_record (pushed b r) k ≡ held_record b k) ⊎ ((held_record (pushed b r) k ≡ None) × (k + 64 < (pushed b r).count))
       go true q =
           let le : first_held (pushed b r) ≤ k = leb-true _ _ q in
           let e = first w in
@@ -109,7 +108,7 @@ module _ (b : StealLog) (r : StealRecord) (small : b.count < 1844674407370955161
       go false q = let lt : k < first_held (pushed b r) = leb-false _ _ q in inr (rw (lt-leb (first_held (pushed b r)) k lt), too_many w k lt)
 
   -- the new one has the next number
-  pub held_new : Newest b → held_record (pushed b r) b.count ≡ found.Record r
+  pub held_new : Newest b → held_record (pushed b r) b.count ≡ Some r
   held_new w =
       let e = first w in
       let l = within w in
@@ -136,7 +135,7 @@ module _ (b : StealLog) (j : ℕ) where
   pub held_marked : held_record (marked b j) j ≡ cut_found (held_record b j)
   held_marked = rw first_marked (go (leb (first_held b) j))
     where
-      go : (t : Bool) → cond t (found_at (j - first_held b) (cond t (cut_at (j - first_held b) b.newest) b.newest)) found.Nothing ≡ cut_found (cond t (found_at (j - first_held b) b.newest) found.Nothing)
+      go : (t : Bool) → cond t (found_at (j - first_held b) (cond t (cut_at (j - first_held b) b.newest) b.newest)) None ≡ cut_found (cond t (found_at (j - first_held b) b.newest) None)
       go true = found_cut (j - first_held b) b.newest
       go false = refl
 
@@ -144,7 +143,7 @@ module _ (b : StealLog) (j : ℕ) where
   held_unmarked k h = rw first_marked (go (leb (first_held b) k) refl (leb (first_held b) j) refl)
     where
       go : (s : Bool) → leb (first_held b) k ≡ s → (t : Bool) → leb (first_held b) j ≡ t
-          → cond s (found_at (k - first_held b) (cond t (cut_at (j - first_held b) b.newest) b.newest)) found.Nothing ≡ cond s (found_at (k - first_held b) b.newest) found.Nothing
+          → cond s (found_at (k - first_held b) (cond t (cut_at (j - first_held b) b.newest) b.newest)) None ≡ cond s (found_at (k - first_held b) b.newest) None
       go false p t q = refl
       go true p false q = refl
       go true p true q =
@@ -152,10 +151,10 @@ module _ (b : StealLog) (j : ℕ) where
           let y : first_held b ≤ j = leb-true _ _ q in
           found_uncut (k - first_held b) (j - first_held b) b.newest (λ e. h (omega arith))
 
-pub cut_twice : (f : StealFound) → cut_found (cut_found f) ≡ cut_found f
-cut_twice found.Nothing = refl
-cut_twice (found.Record r) = refl
+pub cut_twice : (f : Option StealRecord) → cut_found (cut_found f) ≡ cut_found f
+cut_twice None = refl
+cut_twice (Some r) = refl
 
-pub cut_cut : (f : StealFound) → cut_if_held (cut_found f) ≡ true
-cut_cut found.Nothing = refl
-cut_cut (found.Record r) = refl
+pub cut_cut : (f : Option StealRecord) → cut_if_held (cut_found f) ≡ true
+cut_cut None = refl
+cut_cut (Some r) = refl

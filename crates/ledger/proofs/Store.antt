@@ -6,13 +6,12 @@ use native.Mathlib.Nat.{suc-mul, zero-mul}
 use mathlib.Core.Path.{◌≡◌, refl, sym, ap, ap₂, ◌∙◌, subst}
 use mathlib.Core.Logic.{inl, inr, ⊎_elim}
 use mathlib.Core.List.{List, [], ◌∷◌, map}
-use mathlib.Core.Option.{Option, none, some}
+use Rattle.std.specs.Prelude.{Option, None, Some, find, is_some, option_map}
 use mathlib.Core.Bool.{Bool, true, false, not, cond, ◌&&◌, ◌||◌}
 use lib.Dec.{leb}
 use lib.ListN.{length-map}
 use Rattle.lists.specs.Member.{In}
 use Rattle.lists.proofs.Member.{in_map, in_of_map, some_inj, none_some}
-use Rattle.lists.specs.Find.{find, is_some, map_o}
 use Rattle.lists.specs.Count.{more, count}
 use Rattle.lists.proofs.Count.{count_map}
 use Rattle.node.specs.declared.record.NodeId.{NodeId}
@@ -142,9 +141,9 @@ module _ (c : Config) where
   pub tracks_count : (vs : List Voice) → count tracks (map (shown c) vs) ≡ count tracks vs
   tracks_count vs = count_map (shown c) tracks tracks (λ v. tracked_same (λ n. n * c.block) v.state) vs
 
-  spare_same : (bus : NodeId) (r : ℕ) (o : Option Voice) → is_spare bus r (map_o (shown c) o) ≡ is_spare bus r o
-  spare_same bus r none = refl
-  spare_same bus r (some v) = ap₂ (λ a b. (a || (b && leb v.rank r)) && is_on bus v) (fading_same (λ n. n * c.block) v.state) (tracked_same (λ n. n * c.block) v.state)
+  spare_same : (bus : NodeId) (r : ℕ) (o : Option Voice) → is_spare bus r (option_map (shown c) o) ≡ is_spare bus r o
+  spare_same bus r None = refl
+  spare_same bus r (Some v) = ap₂ (λ a b. (a || (b && leb v.rank r)) && is_on bus v) (fading_same (λ n. n * c.block) v.state) (tracked_same (λ n. n * c.block) v.state)
 
   other_same : (bus : NodeId) (r : ℕ) (vs : List Voice) (h : Holder) → by_other bus r (map (shown c) vs) h ≡ by_other bus r vs h
   other_same bus r vs nobody = refl
@@ -179,7 +178,7 @@ module _ (c : Config) where
         state = ap (moved_state (λ n. n * c.block)) r.state;
         number = r.number;
         on = r.on;
-        without_voice = find_stored (λ n. n * c.block) r.voice.id vs' ∙ ap (map_o (shown c)) r.without_voice;
+        without_voice = find_stored (λ n. n * c.block) r.voice.id vs' ∙ ap (option_map (shown c)) r.without_voice;
       }
 
   -- a fade has ended as the ledger says: "ended is count × block at least L"
@@ -211,11 +210,11 @@ module _ (c : Config) where
   as_tracked : (v : Voice) → v.state ≡ Tracked → shown c v ≡ v
   as_tracked v t = ap (λ z. with_state (moved_state (λ n. n * c.block) z) v) t ∙ ap (λ z. with_state z v) (sym t)
 
-  victim_shown : (o : Option Refusal) (a : Admission) (vs : List Voice) → victim_in o a (map (shown c) vs) ≡ map_o (shown c) (victim_in o a vs)
-  victim_shown (some r) a vs = refl
-  victim_shown none admission.Admit vs = refl
-  victim_shown none admission.Reject vs = refl
-  victim_shown none (admission.Steal place w) vs = find_stored (λ n. n * c.block) w vs
+  victim_shown : (o : Option Refusal) (a : Admission) (vs : List Voice) → victim_in o a (map (shown c) vs) ≡ option_map (shown c) (victim_in o a vs)
+  victim_shown (Some r) a vs = refl
+  victim_shown None admission.Admit vs = refl
+  victim_shown None admission.Reject vs = refl
+  victim_shown None (admission.Steal place w) vs = find_stored (λ n. n * c.block) w vs
 
   apart_distinct : (vs : List Voice) → Apart vs → Distinct (voice_ids vs)
   apart_distinct [] a = tt
@@ -228,7 +227,7 @@ module _ (c : Config) where
     abbrev o : Option Voice
     o = victim_in (spawn_refusal l.shared l.voices x.def x.bus x.rank) (ledger.admission_on x.bus x.rank l) l.voices
 
-    victim_same : claim.victim_of x (store_of c l) ≡ map_o (shown c) o
+    victim_same : claim.victim_of x (store_of c l) ≡ option_map (shown c) o
     victim_same =
         ap₂ (λ r a. victim_in r a (map (shown c) l.voices)) (refusal_same l.shared l.voices x.def x.bus x.rank) (admits_same (λ n. n * c.block) l.shared x.bus x.rank l.voices)
         ∙ victim_shown (spawn_refusal l.shared l.voices x.def x.bus x.rank) (ledger.admission_on x.bus x.rank l) l.voices
@@ -236,33 +235,33 @@ module _ (c : Config) where
     found_same : (v : Voice) → is_some (find (is_voice v.id) l'.voices) ≡ is_some (find (is_voice v.id) (map (shown c) l'.voices))
     found_same v = sym (ap is_some (find_stored (λ n. n * c.block) v.id l'.voices) ∙ some_same (find (is_voice v.id) l'.voices))
       where
-        some_same : (o : Option Voice) → is_some (map_o (shown c) o) ≡ is_some o
-        some_same none = refl
-        some_same (some u) = refl
+        some_same : (o : Option Voice) → is_some (option_map (shown c) o) ≡ is_some o
+        some_same None = refl
+        some_same (Some u) = refl
 
-    heads_shown : (o : Option Voice) → Heads o h.lost → Heads (map_o (shown c) o) h.lost
-    heads_shown none q = tt
-    heads_shown (some g) q =
+    heads_shown : (o : Option Voice) → Heads o h.lost → Heads (option_map (shown c) o) h.lost
+    heads_shown None q = tt
+    heads_shown (Some g) q =
         let i : In g h.lost = subst (In g) (sym q.1) (inl refl) in
         (q.0, q.1 ∙ ap (λ z. z ∷ q.0) (sym (as_tracked g (h.were g i).1)))
 
-    victim_back : (v : Voice) (y : Option Voice) → Heads y h.lost → map_o (shown c) y ≡ some v → y ≡ some v
-    victim_back v none q e = absurd (none_some e)
-    victim_back v (some g) q e =
+    victim_back : (v : Voice) (y : Option Voice) → Heads y h.lost → option_map (shown c) y ≡ Some v → y ≡ Some v
+    victim_back v None q e = absurd (none_some e)
+    victim_back v (Some g) q e =
         let i : In g h.lost = subst (In g) (sym q.1) (inl refl) in
-        ap some (sym (as_tracked g (h.were g i).1)) ∙ e
+        ap Some (sym (as_tracked g (h.were g i).1)) ∙ e
 
     -- a fade begins at 0
     start_shown : (f : Fade) → f.position ≡ 0 → moved_fade (λ n. n * c.block) f ≡ f
     start_shown f e = ap (λ n. record { node = f.node; start = f.start; position = n; number = f.number }) (ap (λ n. n * c.block) e ∙ zero-mul c.block ∙ sym e)
 
-    fades_shown : (v u : Voice) → In v h.lost → find (is_voice v.id) (map (shown c) l'.voices) ≡ some u
+    fades_shown : (v u : Voice) → In v h.lost → find (is_voice v.id) (map (shown c) l'.voices) ≡ Some u
         → (u ≡ with_state (Fading (fade_of l.shared)) v) × (is_some (port_from l.shared.graph.edges (feeder v) v.bus) ≡ true)
     fades_shown v u i e = go (find (is_voice v.id) l'.voices) refl (sym (find_stored (λ n. n * c.block) v.id l'.voices) ∙ e)
       where
-        go : (z : Option Voice) → find (is_voice v.id) l'.voices ≡ z → map_o (shown c) z ≡ some u → (u ≡ with_state (Fading (fade_of l.shared)) v) × (is_some (port_from l.shared.graph.edges (feeder v) v.bus) ≡ true)
-        go none p q = absurd (none_some q)
-        go (some w) p q =
+        go : (z : Option Voice) → find (is_voice v.id) l'.voices ≡ z → option_map (shown c) z ≡ Some u → (u ≡ with_state (Fading (fade_of l.shared)) v) × (is_some (port_from l.shared.graph.edges (feeder v) v.bus) ≡ true)
+        go None p q = absurd (none_some q)
+        go (Some w) p q =
             let r = h.fades v w i p in
             let t : is_tracked v.state ≡ true = ap is_tracked (h.were v i).1 in (
               sym (some_inj q) ∙ ap (shown c) r.0 ∙ ap (λ f. with_state (Fading f) v) (start_shown (fade_of l.shared) refl),
@@ -278,7 +277,7 @@ module _ (c : Config) where
           all = λ v i t. ⊎_elim inl (λ j. inr (in_tracked l'.voices v t j)) (h.all v (tracked_in l.voices v t i) t);
           once = apart_distinct h.lost h.apart;
           first = subst (λ z. Heads z h.lost) (sym victim_same) (heads_shown o h.first);
-          others = λ v i. ⊎_elim (λ e. inl (victim_same ∙ ap (map_o (shown c)) e ∙ ap some (as_tracked v (h.were v i).1))) inr (h.others v i);
+          others = λ v i. ⊎_elim (λ e. inl (victim_same ∙ ap (option_map (shown c)) e ∙ ap Some (as_tracked v (h.were v i).1))) inr (h.others v i);
           below = h.below;
           least = λ v u e i t.
               let w = in_map (shown c) l.voices u i in

@@ -6,30 +6,23 @@ use native.Mathlib.Omega.{arith}
 use mathlib.Core.Path.{◌≡◌, refl, sym, ap, ◌∙◌, subst}
 use mathlib.Core.Logic.{inl, inr}
 use mathlib.Core.List.{List, [], ◌∷◌}
-use mathlib.Core.Option.{Option, none, some}
+use Rattle.std.specs.Prelude.{Option, None, Some, find, cond, filter}
 use mathlib.Core.Bool.{Bool, true, false, ◌&&◌, ◌||◌, false≢true}
 use lib.Dec.{leb}
 use lib.ListN.{length, length-map}
 use borrow.Author.Tests.{eq-eqb, le-leb, lt-leb, leb-true, leb-false}
 use Rattle.lists.specs.Member.{In}
 use Rattle.lists.proofs.Member.{in_map, in_of_map, some_inj, none_some}
-use Rattle.lists.specs.Find.{find, or?}
-use Rattle.lists.specs.Filter.{filter}
 use Rattle.lists.proofs.Filter.{in_filter, filter_in}
 use Rattle.lists.specs.Count.{count}
 use Rattle.lists.proofs.Count.{count_is_length}
 use Rattle.node.specs.declared.record.NodeId.{NodeId}
 use Rattle.node.specs.declared.record.VoiceId.{VoiceId}
-use Rattle.voice.specs.Policy.{victim, decides, admits}
+use Rattle.voice.specs.Policy.{Victim, victim, decides, admits}
 use Rattle.voice.proofs.Ranks.{Lowest, victim_lowest, nobody_outranked}
 use Rattle.voice.specs.declared.policy.StealPolicy.{StealPolicy}
 use Rattle.voice.specs.declared.policy.StealPolicy.TheVariants as policy
-use Rattle.voice.specs.declared.policy.Level.TheVariants.{Unknown}
 use Rattle.voice.specs.declared.policy.Candidate.{Candidate}
-use Rattle.voice.specs.declared.policy.Victim.{Victim}
-use Rattle.voice.specs.declared.policy.Victim.TheVariants.{Nobody, Goes}
-use Rattle.voice.specs.declared.policy.Budget.{Budget}
-use Rattle.voice.specs.declared.policy.Budget.TheVariants.{Unlimited, AtMost}
 use Rattle.voice.specs.declared.policy.Admission.TheVariants as admission
 use Rattle.store.specs.declared.voices.Voice.{Voice}
 use Rattle.store.specs.declared.voices.VoiceState.{VoiceState}
@@ -40,9 +33,6 @@ use Rattle.model.specs.Spawn.{voice_of, earlier, earliest, else_victim, next_out
 use Rattle.ledger.specs.Claim.{Stealing, may_go_on}
 use Rattle.ledger.proofs.Ids.{Ids, once}
 
-nobody_goes : {p : ℕ} {w : VoiceId} → Nobody ≡ Goes p w → ⊥
-nobody_goes e = let z : ◌≡◌ {A = ℕ} 0 1 = cc in omega arith
-
 -- a policy that steals is not `Reject`
 stealing_not : (t : StealPolicy) → Stealing t → t ≡ policy.Reject → ⊥
 stealing_not t s e = subst Stealing e s
@@ -51,11 +41,11 @@ stealing_not t s e = subst Stealing e s
 module _ {n : ℕ} {vs : List Voice} (u : Ids n vs) (d : SharedState) (q : Voice → Bool) where
   -- The voice that is removed for a new voice of rank r is one of those that are asked, does not outrank the new voice, and nobody who is asked ranks below it.
   abbrev pub Chosen : ℕ → VoiceId → Type 0
-  Chosen r w = (v : Voice) × In v vs × (q v ≡ true) × (find (is_voice w) vs ≡ some v) × (v.rank ≤ r) × ((x : Voice) → In x vs → q x ≡ true → v.rank ≤ x.rank)
+  Chosen r w = (v : Voice) × In v vs × (q v ≡ true) × (find (is_voice w) vs ≡ Some v) × (v.rank ≤ r) × ((x : Voice) → In x vs → q x ≡ true → v.rank ≤ x.rank)
 
-  pub victim_voice : (t : StealPolicy) (r : ℕ) (p : ℕ) (w : VoiceId) → victim t r (candidates d q vs) ≡ Goes p w → Chosen r w
+  pub victim_voice : (t : StealPolicy) (r : ℕ) (p : ℕ) (w : VoiceId) → victim t r (candidates d q vs) ≡ Some (p, w) → Chosen r w
   victim_voice t r p w h =
-      let c = subst (Lowest r (candidates d q vs)) h (victim_lowest (record { voice = w; level = Unknown; rank = 0 }) t r (candidates d q vs)) in
+      let c = subst (Lowest r (candidates d q vs)) h (victim_lowest (record { voice = w; level = None; rank = 0 }) t r (candidates d q vs)) in
       let s = in_map (candidate d) (filter q vs) c.0 c.1 in
       let i = in_filter q vs s.0 s.1 in
       let e : s.0.id.0 ≡ w.0 = ap (λ (x : VoiceId). x.0) (sym (ap (λ (c : Candidate). c.voice) s.2) ∙ c.2) in
@@ -68,7 +58,7 @@ module _ {n : ℕ} {vs : List Voice} (u : Ids n vs) (d : SharedState) (q : Voice
         λ x j y. subst (λ m. m ≤ x.rank) k (c.4 (candidate d x) (in_of_map (candidate d) (filter q vs) x (filter_in q vs x j y))),
       )
 
-  pub no_victim : (t : StealPolicy) → Stealing t → (r : ℕ) → victim t r (candidates d q vs) ≡ Nobody → (v : Voice) → In v vs → q v ≡ true → r < v.rank
+  pub no_victim : (t : StealPolicy) → Stealing t → (r : ℕ) → victim t r (candidates d q vs) ≡ None → (v : Voice) → In v vs → q v ≡ true → r < v.rank
   no_victim t s r h v i e = nobody_outranked t (stealing_not t s) r (candidates d q vs) h (candidate d v) (in_of_map (candidate d) (filter q vs) v (filter_in q vs v i e))
 
 pub candidates_count : (d : SharedState) (q : Voice → Bool) (vs : List Voice) → length (candidates d q vs) ≡ count q vs
@@ -76,62 +66,62 @@ candidates_count d q vs = length-map (filter q vs) (candidate d) ∙ sym (count_
 
 -- ---- admission
 module _ {n : ℕ} {vs : List Voice} (u : Ids n vs) (d : SharedState) (q : Voice → Bool) where
-  pub steal_voice_lem : (b : Budget) (t : StealPolicy) (r : ℕ) (p : ℕ) (w : VoiceId) → admits b t r (candidates d q vs) ≡ admission.Steal p w → Chosen u d q r w
-  steal_voice_lem Unlimited t r p w h = let z : ◌≡◌ {A = ℕ} 0 1 = cc in absurd (omega arith)
-  steal_voice_lem (AtMost k) t r p w h = go (leb k (length (candidates d q vs))) (victim t r (candidates d q vs)) refl h
+  pub steal_voice_lem : (b : Option ℕ) (t : StealPolicy) (r : ℕ) (p : ℕ) (w : VoiceId) → admits b t r (candidates d q vs) ≡ admission.Steal p w → Chosen u d q r w
+  steal_voice_lem None t r p w h = let z : ◌≡◌ {A = ℕ} 0 1 = cc in absurd (omega arith)
+  steal_voice_lem (Some k) t r p w h = go (leb k (length (candidates d q vs))) (victim t r (candidates d q vs)) refl h
     where
       go : (b : Bool) (x : Victim) → victim t r (candidates d q vs) ≡ x → decides b x ≡ admission.Steal p w → Chosen u d q r w
       go false x e h = let z : ◌≡◌ {A = ℕ} 0 1 = cc in absurd (omega arith)
-      go true Nobody e h = let z : ◌≡◌ {A = ℕ} 0 1 = cc in absurd (omega arith)
-      go true (Goes p₁ w₁) e h = victim_voice u d q t r p w (e ∙ cc)
+      go true None e h = let z : ◌≡◌ {A = ℕ} 0 1 = cc in absurd (omega arith)
+      go true (Some (p₁, w₁)) e h = victim_voice u d q t r p w (e ∙ cc)
 
   -- admitted under a budget: below it
-  pub admit_below : (k : ℕ) (t : StealPolicy) (r : ℕ) → admits (AtMost k) t r (candidates d q vs) ≡ admission.Admit → count q vs < k
+  pub admit_below : (k : ℕ) (t : StealPolicy) (r : ℕ) → admits (Some k) t r (candidates d q vs) ≡ admission.Admit → count q vs < k
   admit_below k t r h = go (leb k (length (candidates d q vs))) refl (victim t r (candidates d q vs)) h
     where
       go : (b : Bool) → leb k (length (candidates d q vs)) ≡ b → (x : Victim) → decides b x ≡ admission.Admit → count q vs < k
       go false e x h = let l : length (candidates d q vs) < k = leb-false _ _ e in omega (arith, l, candidates_count d q vs)
-      go true e Nobody h = let z : ◌≡◌ {A = ℕ} 0 1 = cc in absurd (omega arith)
-      go true e (Goes p w) h = let z : ◌≡◌ {A = ℕ} 0 1 = cc in absurd (omega arith)
+      go true e None h = let z : ◌≡◌ {A = ℕ} 0 1 = cc in absurd (omega arith)
+      go true e (Some (p, w)) h = let z : ◌≡◌ {A = ℕ} 0 1 = cc in absurd (omega arith)
 
   -- a policy that steals rejects at budget alone, and only where all that count outrank the new voice
-  pub rejects_when : (k : ℕ) (t : StealPolicy) → Stealing t → (r : ℕ) → admits (AtMost k) t r (candidates d q vs) ≡ admission.Reject
+  pub rejects_when : (k : ℕ) (t : StealPolicy) → Stealing t → (r : ℕ) → admits (Some k) t r (candidates d q vs) ≡ admission.Reject
       → (k ≤ count q vs) × ((v : Voice) → In v vs → q v ≡ true → r < v.rank)
   rejects_when k t s r h = go (leb k (length (candidates d q vs))) refl (victim t r (candidates d q vs)) refl h
     where
       go : (b : Bool) → leb k (length (candidates d q vs)) ≡ b → (x : Victim) → victim t r (candidates d q vs) ≡ x → decides b x ≡ admission.Reject
           → (k ≤ count q vs) × ((v : Voice) → In v vs → q v ≡ true → r < v.rank)
       go false e x f h = let z : ◌≡◌ {A = ℕ} 0 1 = cc in absurd (omega arith)
-      go true e Nobody f h = let l : k ≤ length (candidates d q vs) = leb-true _ _ e in (omega (arith, l, candidates_count d q vs), no_victim u d q t s r f)
-      go true e (Goes p w) f h = let z : ◌≡◌ {A = ℕ} 0 1 = cc in absurd (omega arith)
+      go true e None f h = let l : k ≤ length (candidates d q vs) = leb-true _ _ e in (omega (arith, l, candidates_count d q vs), no_victim u d q t s r f)
+      go true e (Some (p, w)) f h = let z : ◌≡◌ {A = ℕ} 0 1 = cc in absurd (omega arith)
 
-earliest_in : (q : Voice → Bool) (vs : List Voice) (v : Voice) → earliest q vs ≡ some v → In v vs × (q v ≡ true)
+earliest_in : (q : Voice → Bool) (vs : List Voice) (v : Voice) → earliest q vs ≡ Some v → In v vs × (q v ≡ true)
 earliest_in q [] v h = absurd (none_some h)
 earliest_in q (x ∷ vs) v h = go (earliest q vs) refl (q x) refl h (earliest_in q vs)
   where
-    go : (o : Option Voice) → earliest q vs ≡ o → (b : Bool) → q x ≡ b → earlier o b x ≡ some v → ((v : Voice) → earliest q vs ≡ some v → In v vs × (q v ≡ true)) → In v (x ∷ vs) × (q v ≡ true)
-    go none e true f h ih = let s : x ≡ v = some_inj h in (inl (sym s), ap q (sym s) ∙ f)
-    go none e false f h ih = absurd (none_some h)
-    go (some y) e false f h ih = let r = ih v (e ∙ h) in (inr r.0, r.1)
-    go (some y) e true f h ih = pick (leb (start_of x.state) (start_of y.state)) h
+    go : (o : Option Voice) → earliest q vs ≡ o → (b : Bool) → q x ≡ b → earlier o b x ≡ Some v → ((v : Voice) → earliest q vs ≡ Some v → In v vs × (q v ≡ true)) → In v (x ∷ vs) × (q v ≡ true)
+    go None e true f h ih = let s : x ≡ v = some_inj h in (inl (sym s), ap q (sym s) ∙ f)
+    go None e false f h ih = absurd (none_some h)
+    go (Some y) e false f h ih = let r = ih v (e ∙ h) in (inr r.0, r.1)
+    go (Some y) e true f h ih = pick (leb (start_of x.state) (start_of y.state)) h
       where
-        pick : (c : Bool) → or? c x (some y) ≡ some v → In v (x ∷ vs) × (q v ≡ true)
+        pick : (c : Bool) → cond c (Some x) (Some y) ≡ Some v → In v (x ∷ vs) × (q v ≡ true)
         pick true g = let s : x ≡ v = some_inj g in (inl (sym s), ap q (sym s) ∙ f)
         pick false g = let r = ih v (e ∙ g) in (inr r.0, r.1)
 
-earliest_none : (q : Voice → Bool) (vs : List Voice) → earliest q vs ≡ none → (v : Voice) → In v vs → q v ≡ false
+earliest_none : (q : Voice → Bool) (vs : List Voice) → earliest q vs ≡ None → (v : Voice) → In v vs → q v ≡ false
 earliest_none q [] h v i = absurd i
 earliest_none q (x ∷ vs) h v i = go (earliest q vs) refl (q x) refl h i (earliest_none q vs)
   where
-    pick : (c : Bool) (y : Voice) → or? c x (some y) ≡ none → ⊥
+    pick : (c : Bool) (y : Voice) → cond c (Some x) (Some y) ≡ None → ⊥
     pick true y g = none_some (sym g)
     pick false y g = none_some (sym g)
 
-    go : (o : Option Voice) → earliest q vs ≡ o → (b : Bool) → q x ≡ b → earlier o b x ≡ none → In v (x ∷ vs) → (earliest q vs ≡ none → (v : Voice) → In v vs → q v ≡ false) → q v ≡ false
-    go (some y) e b f h i ih = absurd (pick (b && leb (start_of x.state) (start_of y.state)) y h)
-    go none e true f h i ih = absurd (none_some (sym h))
-    go none e false f h (inl s) ih = ap q s ∙ f
-    go none e false f h (inr j) ih = ih e v j
+    go : (o : Option Voice) → earliest q vs ≡ o → (b : Bool) → q x ≡ b → earlier o b x ≡ None → In v (x ∷ vs) → (earliest q vs ≡ None → (v : Voice) → In v vs → q v ≡ false) → q v ≡ false
+    go (Some y) e b f h i ih = absurd (pick (b && leb (start_of x.state) (start_of y.state)) y h)
+    go None e true f h i ih = absurd (none_some (sym h))
+    go None e false f h (inl s) ih = ap q s ∙ f
+    go None e false f h (inr j) ih = ih e v j
 
 fading_goes : (a b c : Bool) → (a && c) ≡ true → ((a || b) && c) ≡ true
 fading_goes true b c h = h
@@ -165,32 +155,32 @@ module _ {n : ℕ} {vs : List Voice} (u : Ids n vs) (d : SharedState) (bus : Nod
   abbrev Next : Voice → Type 0
   Next v = In v vs × (may_go_on bus r v ≡ true) × (is_tracked v.state ≡ true → (x : Voice) → In x vs → tracked_on bus x ≡ true → v.rank ≤ x.rank)
 
-  pub next_out_in : (v : Voice) → next_out d bus r vs ≡ some v → Next v
+  pub next_out_in : (v : Voice) → next_out d bus r vs ≡ Some v → Next v
   next_out_in v h = go (earliest (fades_on bus) vs) refl h
     where
-      tracks : (x : Victim) → bus_victim ≡ x → voice_of x vs ≡ some v → Next v
-      tracks Nobody e h = absurd (none_some h)
-      tracks (Goes p w) e h =
+      tracks : (x : Victim) → bus_victim ≡ x → voice_of x vs ≡ Some v → Next v
+      tracks None e h = absurd (none_some h)
+      tracks (Some (p, w)) e h =
           let z = victim_voice u d (tracked_on bus) d.config.policy r p w e in
           let s : z.0 ≡ v = some_inj (sym z.3 ∙ h) in
           subst Next s
           (z.1, tracked_goes (is_fading z.0.state) (is_tracked z.0.state) (leb z.0.rank r) (is_on bus z.0) z.2 (le-leb _ _ z.4), λ t. z.5)
 
-      go : (o : Option Voice) → earliest (fades_on bus) vs ≡ o → else_victim o (voice_of bus_victim vs) ≡ some v → Next v
-      go (some x) e h =
+      go : (o : Option Voice) → earliest (fades_on bus) vs ≡ o → else_victim o (voice_of bus_victim vs) ≡ Some v → Next v
+      go (Some x) e h =
           let z = earliest_in (fades_on bus) vs v (e ∙ h) in
           (z.0, fading_goes (is_fading v.state) (is_tracked v.state && leb v.rank r) (is_on bus v) z.1, λ t. absurd (fading_tracked v.state (is_on bus v) z.1 t))
-      go none e h = tracks bus_victim refl h
+      go None e h = tracks bus_victim refl h
 
-  pub next_out_none : Stealing d.config.policy → next_out d bus r vs ≡ none → (v : Voice) → In v vs → may_go_on bus r v ≡ false
+  pub next_out_none : Stealing d.config.policy → next_out d bus r vs ≡ None → (v : Voice) → In v vs → may_go_on bus r v ≡ false
   next_out_none t h v i = go (earliest (fades_on bus) vs) refl h
     where
-      tracks : earliest (fades_on bus) vs ≡ none → (x : Victim) → bus_victim ≡ x → voice_of x vs ≡ none → may_go_on bus r v ≡ false
-      tracks f Nobody e h =
+      tracks : earliest (fades_on bus) vs ≡ None → (x : Victim) → bus_victim ≡ x → voice_of x vs ≡ None → may_go_on bus r v ≡ false
+      tracks f None e h =
           none_goes (is_fading v.state) (is_tracked v.state) (leb v.rank r) (is_on bus v) (earliest_none (fades_on bus) vs f v i)
           (λ y. lt-leb _ _ (no_victim u d (tracked_on bus) d.config.policy t r e v i y))
-      tracks f (Goes p w) e h = absurd (none_some (sym h ∙ (victim_voice u d (tracked_on bus) d.config.policy r p w e).3))
+      tracks f (Some (p, w)) e h = absurd (none_some (sym h ∙ (victim_voice u d (tracked_on bus) d.config.policy r p w e).3))
 
-      go : (o : Option Voice) → earliest (fades_on bus) vs ≡ o → else_victim o (voice_of bus_victim vs) ≡ none → may_go_on bus r v ≡ false
-      go (some x) e h = absurd (none_some (sym h))
-      go none e h = tracks e bus_victim refl h
+      go : (o : Option Voice) → earliest (fades_on bus) vs ≡ o → else_victim o (voice_of bus_victim vs) ≡ None → may_go_on bus r v ≡ false
+      go (Some x) e h = absurd (none_some (sym h))
+      go None e h = tracks e bus_victim refl h

@@ -1,5 +1,8 @@
 -- The words of the lemmas on the ledger: what the claim says of the store, said of the ledger, where a fade has the count of its sounding
 -- renders and a port its holder. `Claim` carries the lemmas over to the store.
+use Rattle.std.specs.Prelude.{Result}
+use Rattle.node.specs.declared.refusal.Refusal.{Refusal}
+use Rattle.node.specs.declared.record.VoiceId.{VoiceId}
 use Prim.Native.Nat.{ℕ, ◌+◌, ◌≤◌}
 use mathlib.Core.Path.{◌≡◌}
 use mathlib.Core.List.{List, [], ◌∷◌, ◌++◌}
@@ -13,7 +16,6 @@ use Rattle.graph.specs.Node.{node_at, ports_of}
 use Rattle.scheduler.specs.Queue as queue
 use Rattle.scheduler.specs.declared.event.Event.{Event}
 use Rattle.synthdef.specs.Rows.{every}
-use Rattle.store.specs.declared.answer.Spawned.{Spawned}
 use Rattle.store.specs.declared.config.Config.{Config}
 use Rattle.store.specs.declared.voices.Voice.{Voice}
 use Rattle.store.specs.declared.voices.VoiceState.TheVariants.{Tracked, Fading, Loose}
@@ -71,7 +73,7 @@ abbrev pub blocked : NodeId → ℕ → Ledger → Bool
 blocked bus r l = every (λ p. by_other bus r l.voices (l.holders bus.0 p)) (upto (ports_of (node_at l.shared.graph.nodes bus)))
 
 -- what a spawn answers that the table does not refuse
-abbrev pub spawn_answer : NodeId → ℕ → Ledger → Spawned
+abbrev pub spawn_answer : NodeId → ℕ → Ledger → Result VoiceId Refusal
 spawn_answer bus r l = answer_when (outranked l.shared.config bus r l.voices) (blocked bus r l) (next_voice l.shared)
 
 -- what they hold, with places left for so many nodes, edges and voices

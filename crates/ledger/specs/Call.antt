@@ -1,7 +1,5 @@
 -- The ledger's answer to each call, and to a list of calls.
-use Rattle.std.specs.Prelude.{ℕ, ◌*◌, List, [], ◌∷◌, map, length}
-use Rattle.std.proofs.Math.Option.{Option, none, some}
-use Rattle.lists.specs.Find.{find}
+use Rattle.std.specs.Prelude.{ℕ, ◌*◌, List, [], ◌∷◌, map, length, Option, None, Some, find}
 use Rattle.node.specs.Name.{name_of}
 use Rattle.node.specs.declared.refusal.Refusal.{Refusal}
 use Rattle.graph.specs.View.{GraphView}
@@ -32,8 +30,8 @@ pub record Step : Type 0 where
   pub ledger : Ledger
 
 abbrev pub unless : Option Refusal → Ledger → Step → Step
-unless none l s = s
-unless (some r) l s = record { answer = call.refused r; ledger = l }
+unless None l s = s
+unless (Some r) l s = record { answer = call.refused r; ledger = l }
 
 -- the host's calls change the graph and the holders
 abbrev pub graph_step : Ledger → GraphView → Holders → Answer → Step
@@ -58,8 +56,8 @@ seen l = record { shared = l.shared; voices = map (shown l) l.voices }
 
 -- 02, Paper 1: a refused render takes no event and writes no entry; else the outcomes stand in the list, and "later entries stay"
 abbrev pub render_step : Option Refusal → List ℕ → Ledger → Step
-render_step (some r) out l = record { answer = call.rendered (Rendered.Refused r) 0 out; ledger = l }
-render_step none out l =
+render_step (Some r) out l = record { answer = call.rendered (Rendered.Refused r) 0 out; ledger = l }
+render_step None out l =
     let h = rendering.render l in
     let q = due l.shared in
     record { answer = call.rendered h.answer (length q) (written (rendering.outcomes q (rendering.rested l)) out); ledger = h.ledger }

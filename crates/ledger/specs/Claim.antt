@@ -5,11 +5,8 @@
 -- Read with 01's "The ledger" and "Contracts": a fade that moves only at the first steal or never contradicts `ends`; "no port" before
 -- reclaiming, a store refusing all spawns, and one that does nothing contradict `spawns`; steal records counted at will contradict
 -- `quiet`, `marks` and `writes`.
-use Rattle.std.specs.Prelude.{ℕ, zero, suc, ◌+◌, ◌-◌, ◌≤◌, ◌<◌, ◌*◌, ◌/◌, ◌≡◌, ◌⊎◌, ◌↔◌, List, [], ◌∷◌, ◌++◌, map, Bool, true, false, not, cond, ◌&&◌, ◌||◌, eqb, leb, ltb, ℤ, Float, length}
-use Rattle.std.proofs.Math.Option.{Option, none, some}
+use Rattle.std.specs.Prelude.{ℕ, zero, suc, ◌+◌, ◌-◌, ◌≤◌, ◌<◌, ◌*◌, ◌/◌, ◌≡◌, ◌⊎◌, ◌↔◌, List, [], ◌∷◌, ◌++◌, map, Bool, true, false, not, cond, ◌&&◌, ◌||◌, eqb, leb, ltb, ℤ, Float, length, Option, None, Some, find, is_some, option_map, filter, Result, Err, Ok}
 use Rattle.lists.specs.Member.{In}
-use Rattle.lists.specs.Find.{find, is_some, map_o}
-use Rattle.lists.specs.Filter.{filter}
 use Rattle.lists.specs.Count.{more, count}
 use Rattle.node.specs.declared.record.Edge.{Edge}
 use Rattle.node.specs.declared.record.Node.{Node}
@@ -37,15 +34,11 @@ use Rattle.voice.specs.Steals.{StealLog, cut_of, found_at, record_of}
 use Rattle.voice.specs.Policy.{at_budget}
 use Rattle.voice.specs.declared.policy.Admission.{Admission}
 use Rattle.voice.specs.declared.policy.Admission.TheVariants as admission
-use Rattle.voice.specs.declared.policy.Budget.TheVariants.{Unlimited, AtMost}
 use Rattle.voice.specs.declared.policy.BudgetScope.{BudgetScope}
 use Rattle.voice.specs.declared.policy.StealPolicy.{StealPolicy}
 use Rattle.voice.specs.declared.policy.StealPolicy.TheVariants as policy
 use Rattle.voice.specs.declared.steals.StealRecord.{StealRecord}
-use Rattle.voice.specs.declared.steals.StealFound.{StealFound}
-use Rattle.voice.specs.declared.steals.StealFound.TheVariants as found
 use Rattle.synthdef.specs.Rows.{every}
-use Rattle.store.specs.declared.answer.Spawned.{Spawned}
 use Rattle.store.specs.declared.config.Config.{Config}
 use Rattle.store.specs.declared.voices.Voice.{Voice}
 use Rattle.store.specs.declared.voices.VoiceState.{VoiceState}
@@ -142,7 +135,7 @@ Owners = ℕ → Option ℕ
 
 -- the owner of the node of this id: 0 is the host, none where no such node lives
 abbrev pub owner_of : Option Node → Option ℕ
-owner_of o = map_o (λ x. x.owner.0) o
+owner_of o = option_map (λ x. x.owner.0) o
 
 abbrev pub owner_at : List Node → ℕ → Option ℕ
 owner_at ns n = owner_of (node_at ns (id n))
@@ -153,16 +146,16 @@ holder_of zero s = host s
 holder_of (suc k) s = voice (record { 0 = suc k })
 
 abbrev pub source_holds : Option ℕ → NodeId → Holder
-source_holds none s = nobody
-source_holds (some k) s = holder_of k s
+source_holds None s = nobody
+source_holds (Some k) s = holder_of k s
 
 abbrev pub held_by : Owners → Option Edge → Holder
-held_by own none = nobody
-held_by own (some e) = source_holds (own e.from.0) e.from
+held_by own None = nobody
+held_by own (Some e) = source_holds (own e.from.0) e.from
 
 abbrev pub is_host : Option ℕ → Bool
-is_host none = false
-is_host (some k) = eqb k 0
+is_host None = false
+is_host (Some k) = eqb k 0
 
 abbrev pub holds_at : Owners → List Edge → ℕ → ℕ → Holder
 holds_at own es n p = cond (is_host (own n)) (held_by own (find (ends_at (id n) p) es)) nobody
@@ -206,18 +199,18 @@ abbrev pub first_held : StealLog → ℕ
 first_held b = b.count - length b.newest
 
 -- the record of this number, if still held
-abbrev pub held_record : StealLog → ℕ → StealFound
-held_record b k = cond (leb (first_held b) k) (found_at (k - first_held b) b.newest) found.Nothing
+abbrev pub held_record : StealLog → ℕ → Option StealRecord
+held_record b k = cond (leb (first_held b) k) (found_at (k - first_held b) b.newest) None
 
 -- the same record, marked cut
-abbrev pub cut_found : StealFound → StealFound
-cut_found found.Nothing = found.Nothing
-cut_found (found.Record r) = found.Record (cut_of r)
+abbrev pub cut_found : Option StealRecord → Option StealRecord
+cut_found None = None
+cut_found (Some r) = Some (cut_of r)
 
 -- cut, if still held
-abbrev pub cut_if_held : StealFound → Bool
-cut_if_held found.Nothing = true
-cut_if_held (found.Record r) = r.cut
+abbrev pub cut_if_held : Option StealRecord → Bool
+cut_if_held None = true
+cut_if_held (Some r) = r.cut
 
 -- why a voice v that faded by f is not there any more, after the call x that made of s the store s'
 pub data Why (s s' : Model) (v : Voice) (f : Fade) : Call → Type 0 where
@@ -235,12 +228,12 @@ pub record Reclaimed (vs vs' : List Voice) (bus : NodeId) (k : ℕ) : Type 0 whe
   pub state : voice.state ≡ Fading fade
   pub number : fade.number ≡ k
   pub on : is_on bus voice ≡ true
-  pub without_voice : find (is_voice voice.id) vs' ≡ none
+  pub without_voice : find (is_voice voice.id) vs' ≡ None
 
 -- record k, which was there before a managed spawn, is as before; or no longer one of the newest 64; or it is marked cut, and a fade that has it was reclaimed
 pub data Fate (b b' : StealLog) (R : Type 0) (k : ℕ) : Type 0 where
   same : held_record b' k ≡ held_record b k → Fate b b' R k
-  older : held_record b' k ≡ found.Nothing → k + 64 < b'.count → Fate b b' R k
+  older : held_record b' k ≡ None → k + 64 < b'.count → Fate b b' R k
   struck : held_record b' k ≡ cut_found (held_record b k) → R → Fate b b' R k
 
 -- the voice is tracked
@@ -248,24 +241,24 @@ abbrev pub tracks : Voice → Bool
 tracks v = is_tracked v.state
 
 -- the new voice is let in
-abbrev pub is_let : Spawned → Bool
-is_let (Spawned.Voice w) = true
-is_let (Spawned.Refused r) = false
+abbrev pub is_let : Result VoiceId Refusal → Bool
+is_let (Ok w) = true
+is_let (Err r) = false
 
 -- The victim of an admission, where the table does not refuse the spawn.
 abbrev pub victim_in : Option Refusal → Admission → List Voice → Option Voice
-victim_in (some r) a vs = none
-victim_in none admission.Admit vs = none
-victim_in none admission.Reject vs = none
-victim_in none (admission.Steal place w) vs = find (is_voice w) vs
+victim_in (Some r) a vs = None
+victim_in None admission.Admit vs = None
+victim_in None admission.Reject vs = None
+victim_in None (admission.Steal place w) vs = find (is_voice w) vs
 
 abbrev pub victim_of : Spawn → Model → Option Voice
 victim_of x s = victim_in (spawn_refusal s.shared s.voices x.def x.bus x.rank) (admission_on x.bus x.rank s) s.voices
 
 -- the list begins with the voice, if there is one
 abbrev pub Heads : Option Voice → List Voice → Type 0
-Heads none vs = Unit {0}
-Heads (some g) vs = (rest : List Voice) × (vs ≡ g ∷ rest)
+Heads None vs = Unit {0}
+Heads (Some g) vs = (rest : List Voice) × (vs ≡ g ∷ rest)
 
 -- what is recorded of the voice v, which was one of the tracked voices beside the shared d, when vs' are the voices after the call: the
 -- clock, the level that it had before the call, and a cut mark exactly if it is removed
@@ -275,7 +268,7 @@ loss_of d vs' v = record_of d.clock (voice_level d v) (not (is_some (find (is_vo
 -- from number k on, the records of these voices, in this order, are held
 abbrev pub Records : (Voice → StealRecord) → StealLog → ℕ → List Voice → Type 0
 Records r b k [] = Unit {0}
-Records r b k (v ∷ vs) = (held_record b k ≡ found.Record (r v)) × Records r b (suc k) vs
+Records r b k (v ∷ vs) = (held_record b k ≡ Some (r v)) × Records r b (suc k) vs
 
 -- What the managed spawn x, which made of s the store s', records. "A victim is untracked, faded, or freed if it cannot fade, and
 -- recorded"; later "free the policy's victim among tracked voices of that bus with a cut record".
@@ -288,14 +281,14 @@ pub record Losses (x : Spawn) (s s' : Model) : Type 0 where
   pub once : Distinct (voice_ids lost)
   -- first the victim of the admission; the others were on the bus
   pub first : Heads (victim_of x s) lost
-  pub others : (v : Voice) → In v lost → (victim_of x s ≡ some v) ⊎ (is_on x.bus v ≡ true)
+  pub others : (v : Voice) → In v lost → (victim_of x s ≡ Some v) ⊎ (is_on x.bus v ≡ true)
   -- 02, Paper 13: "The victim comes from the lowest rank among candidates, .. and never outranks the newcomer": the victim of the admission is of
   -- the lowest rank among those that count; no tracked voice that is left on the bus, the new voice among them, ranks below one that was lost
   pub below : (v : Voice) → In v lost → v.rank ≤ x.rank
-  pub least : (v u : Voice) → victim_of x s ≡ some v → In u s.voices → counted s.shared.config.scope x.bus u ≡ true → v.rank ≤ u.rank
+  pub least : (v u : Voice) → victim_of x s ≡ Some v → In u s.voices → counted s.shared.config.scope x.bus u ≡ true → v.rank ≤ u.rank
   pub lowest : (v u : Voice) → In v lost → In u s'.voices → u.state ≡ Tracked → is_on x.bus u ≡ true → v.rank ≤ u.rank
   -- one that is still there fades, from now on, and fed a port of its bus. So one that cannot fade is removed
-  pub fades : (v u : Voice) → In v lost → find (is_voice v.id) s'.voices ≡ some u
+  pub fades : (v u : Voice) → In v lost → find (is_voice v.id) s'.voices ≡ Some u
       → (u ≡ with_state (Fading (fade_of s.shared)) v) × (is_some (port_from s.shared.graph.edges (feeder v) v.bus) ≡ true)
   -- there are so many more records, and these are the voices'
   pub added : s'.shared.steals.count ≡ s.shared.steals.count + length lost
@@ -328,8 +321,8 @@ may_go_on bus r v = may_go r v && is_on bus v
 
 -- such a voice of the bus
 abbrev pub is_spare : NodeId → ℕ → Option Voice → Bool
-is_spare bus r none = false
-is_spare bus r (some v) = may_go_on bus r v
+is_spare bus r None = false
+is_spare bus r (Some v) = may_go_on bus r v
 
 -- held, by a node of no such voice of the bus: "for want of a port, a tracked unfaded voice that outranks it holds its port as a stranger would"
 abbrev pub by_other : NodeId → ℕ → List Voice → Holder → Bool
@@ -350,12 +343,12 @@ abbrev pub outranked : Config → NodeId → ℕ → List Voice → Bool
 outranked c bus r vs = at_budget c.budget (count (counted c.scope bus) vs) && every (stays c.scope bus r) vs
 
 -- what a managed spawn answers that the table does not refuse: 11, 12, or the next voice id
-abbrev pub answer_when : Bool → Bool → VoiceId → Spawned
-answer_when true b w = Spawned.Refused Rejected
-answer_when false true w = Spawned.Refused NoPort
-answer_when false false w = Spawned.Voice w
+abbrev pub answer_when : Bool → Bool → VoiceId → Result VoiceId Refusal
+answer_when true b w = Err Rejected
+answer_when false true w = Err NoPort
+answer_when false false w = Ok w
 
-abbrev pub spawn_answer : NodeId → ℕ → Model → Spawned
+abbrev pub spawn_answer : NodeId → ℕ → Model → Result VoiceId Refusal
 spawn_answer bus r s = answer_when (outranked s.shared.config bus r s.voices) (blocked bus r s) (next_voice s.shared)
 
 -- "The newcomer takes the next id and the port found": after the spawn x, which made of s the store s', the voice w is there, on the bus
@@ -387,8 +380,8 @@ Newest b = ((length b.newest ≡ 64) × (64 ≤ b.count)) ⊎ ((length b.newest 
 -- 02, Paper 4: "The port column shall show the port that the voice's output, pan node or fade feeds on its bus now, or `-` if none": it shows p exactly where there is an
 -- edge from the voice's end to the port p of its bus, and exactly where the voice holds that port. So at most one p is right, and `-` stands where none is.
 pub record Shows (s : Model) (v : Voice) : Type 0 where
-  pub feeds : (p : ℕ) → (port_now s.shared.graph.edges v ≡ some p) ↔ In (edge (end_of v) v.bus p) s.shared.graph.edges
-  pub holds : (p : ℕ) → (port_now s.shared.graph.edges v ≡ some p) ↔ (holder_at s.shared.graph.nodes s.shared.graph.edges v.bus.0 p ≡ voice v.id)
+  pub feeds : (p : ℕ) → (port_now s.shared.graph.edges v ≡ Some p) ↔ In (edge (end_of v) v.bus p) s.shared.graph.edges
+  pub holds : (p : ℕ) → (port_now s.shared.graph.edges v ≡ Some p) ↔ (holder_at s.shared.graph.nodes s.shared.graph.edges v.bus.0 p ≡ voice v.id)
 
 -- ---- the graph
 -- "All live nodes are processed once": the processing order has every live node once and nothing else, and each edge's source before its target
@@ -399,21 +392,21 @@ InOrder g = Sorted (node_ids g.nodes) (map arc_of g.edges) (map (λ (k : NodeId)
 pub record Holds (c : Config) (s : Model) : Type 0 where
   -- ---- 2. The next clearing call has removed a voice whose fade has ended; what is left are the voices whose fade has not ended and, of
   -- these, whose plan is not silent; it answers how many it removed.
-  pub removes : (v : Voice) → In v s.voices → clearing.ended (fade_length c.rate) v.state ≡ true → find (is_voice v.id) (call.step call.clear s).model.voices ≡ none
+  pub removes : (v : Voice) → In v s.voices → clearing.ended (fade_length c.rate) v.state ≡ true → find (is_voice v.id) (call.step call.clear s).model.voices ≡ None
   pub clears : (call.step call.clear s).model.voices
       ≡ filter (λ v. not (is_silent s.shared.graph.nodes v)) (filter (λ v. not (clearing.ended (fade_length c.rate) v.state)) s.voices)
   pub removed : (n : ℕ) → (call.step call.clear s).answer ≡ call.removed n → length s.voices ≡ length (call.step call.clear s).model.voices + n
   -- ---- 3. At the next call x a fading voice goes on, a block further after a sounding render and else the same; or it is removed, for one of
   -- the reasons of `Why`: a free, called or timed, its end or its silence at a clearing, or a reclaim, which marks its record.
   pub leaves : (x : Call) (v : Voice) → In v s.voices → (f : Fade) → v.state ≡ Fading f
-      → GoesOn c.block v f (call.step x s).answer (call.step x s).model.voices ⊎ ((find (is_voice v.id) (call.step x s).model.voices ≡ none) × Why s (call.step x s).model v f x)
+      → GoesOn c.block v f (call.step x s).answer (call.step x s).model.voices ⊎ ((find (is_voice v.id) (call.step x s).model.voices ≡ None) × Why s (call.step x s).model v f x)
   -- No call but a managed spawn touches the steal records. There a record that was written before stays, drops out of the newest 64, or is
   -- marked, and then the fade that has it was on this bus and was removed in this call; and one record is written for each voice that was
   -- tracked and is not any more: both numbers together rise by one if the new voice is let in, else not.
   pub quiet : (x : Call) → is_managed x ≡ false → (call.step x s).model.shared.steals ≡ s.shared.steals
   pub marks : (x : Spawn) (k : ℕ) → k < s.shared.steals.count
       → Fate s.shared.steals (call.step (call.spawn_managed x) s).model.shared.steals (Reclaimed s.voices (call.step (call.spawn_managed x) s).model.voices x.bus k) k
-  pub writes : (n : ℕ) → c.budget ≡ AtMost n → (x : Spawn) (a : Spawned) → (call.step (call.spawn_managed x) s).answer ≡ call.spawned a
+  pub writes : (n : ℕ) → c.budget ≡ Some n → (x : Spawn) (a : Result VoiceId Refusal) → (call.step (call.spawn_managed x) s).answer ≡ call.spawned a
       → (call.step (call.spawn_managed x) s).model.shared.steals.count + count tracks (call.step (call.spawn_managed x) s).model.voices
       ≡ more (is_let a) (s.shared.steals.count + count tracks s.voices)
   -- What these records hold: the clock, the level of the voice before anything of the call changed, and a cut mark exactly if it is removed.
@@ -423,18 +416,18 @@ pub record Holds (c : Config) (s : Model) : Type 0 where
   pub own : (u v : Voice) → In u s.voices → In v s.voices → (f g : Fade) → u.state ≡ Fading f → v.state ≡ Fading g → f.number ≡ g.number → u ≡ v
   -- ---- 4. Tracked voices never exceed the budget: all of them, or those of each bus under `PerGroup`. Without a budget nobody is
   -- tracked, stolen or reclaimed.
-  pub budget : (n : ℕ) → c.budget ≡ AtMost n → (bus : NodeId) → count (counted c.scope bus) s.voices ≤ n
-  pub loose : c.budget ≡ Unlimited → AllLoose s
-  pub stay : c.budget ≡ Unlimited → (x : Spawn) (v : Voice) → In v s.voices → In v (call.step (call.spawn_managed x) s).model.voices
+  pub budget : (n : ℕ) → c.budget ≡ Some n → (bus : NodeId) → count (counted c.scope bus) s.voices ≤ n
+  pub loose : c.budget ≡ None → AllLoose s
+  pub stay : c.budget ≡ None → (x : Spawn) (v : Voice) → In v s.voices → In v (call.step (call.spawn_managed x) s).model.voices
   -- ---- 5. With a budget above 0 and a policy that steals, a managed spawn that the table does not refuse (rank 0 to 7, definition and bus,
   -- headroom, ids left) is refused with 11 exactly when it is at budget and all candidates outrank it; else with 12 exactly when every port of its
   -- bus is held by somebody who is neither a fading voice of that bus nor a tracked one of it that does not outrank it; else it answers the
   -- next voice id.
-  pub spawns : (n : ℕ) → c.budget ≡ AtMost (suc n) → Stealing c.policy → (x : Spawn) → spawn_refusal s.shared s.voices x.def x.bus x.rank ≡ none
+  pub spawns : (n : ℕ) → c.budget ≡ Some (suc n) → Stealing c.policy → (x : Spawn) → spawn_refusal s.shared s.voices x.def x.bus x.rank ≡ None
       → (call.step (call.spawn_managed x) s).answer ≡ call.spawned (spawn_answer x.bus x.rank s)
   -- A spawn that answers a voice has let it in, "tracked under a budget", or loose. A node that is answered is there, and was not before.
-  pub arrives : (x : Spawn) (w : VoiceId) → (call.step (call.spawn_managed x) s).answer ≡ call.spawned (Spawned.Voice w) → Arrives x (state_under c.budget) w s (call.step (call.spawn_managed x) s).model
-  pub arrives_loose : (x : Spawn) (w : VoiceId) → (call.step (call.spawn_loose x) s).answer ≡ call.spawned (Spawned.Voice w) → Arrives x Loose w s (call.step (call.spawn_loose x) s).model
+  pub arrives : (x : Spawn) (w : VoiceId) → (call.step (call.spawn_managed x) s).answer ≡ call.spawned (Ok w) → Arrives x (state_under c.budget) w s (call.step (call.spawn_managed x) s).model
+  pub arrives_loose : (x : Spawn) (w : VoiceId) → (call.step (call.spawn_loose x) s).answer ≡ call.spawned (Ok w) → Arrives x Loose w s (call.step (call.spawn_loose x) s).model
   pub adds : (kind : List ℕ) (ports required : ℕ) (values glides : Bool) (k : NodeId) → (call.step (call.add_node kind ports required values glides) s).answer ≡ call.node k
       → In k.0 (node_ids (call.step (call.add_node kind ports required values glides) s).model.shared.graph.nodes) × (In k.0 (node_ids s.shared.graph.nodes) → ⊥)
   -- ---- "All live nodes are processed once in a sounding render, that is a prepared graph with a sink": while the graph is prepared it has
@@ -443,7 +436,7 @@ pub record Holds (c : Config) (s : Model) : Type 0 where
   pub wires : (e : Edge) → In e s.shared.graph.edges → In e.from.0 (node_ids s.shared.graph.nodes) × In e.to.0 (node_ids s.shared.graph.nodes)
   pub in_order : s.shared.graph.prepared ≡ true → InOrder s.shared.graph
   pub prepares : s.shared.graph.prepared ≡ true → call.step call.prepare s ≡ record { answer = call.done; model = s }
-  pub sounds : (out : List ℕ) → render_refusal s.shared (length out) ≡ none → is_sounded (call.step (call.render out) s).answer ≡ sounding (call.step (call.render out) s).model.shared
+  pub sounds : (out : List ℕ) → render_refusal s.shared (length out) ≡ None → is_sounded (call.step (call.render out) s).answer ≡ sounding (call.step (call.render out) s).model.shared
   -- ---- 02, Paper 4. The page's port column, of every voice: tracked, fading or loose.
   pub shows : (v : Voice) → In v s.voices → Shows s v
   -- ---- The tables hold it: 512 nodes, 1,024 edges, 64 voices, 256 events, and the newest 64 records.

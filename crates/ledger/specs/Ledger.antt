@@ -1,10 +1,7 @@
 -- 01's ledger: "fed the calls with all their arguments, making's too, and nothing from the store". Ports are decided by their
 -- holders and fades by counts of sounding renders: in a fading voice's record `position` is that count here. What the rules
 -- give both, it shares with the model: nodes, edges, ids, clock, events, reports, steal records, policy, level, silence.
-use Rattle.std.specs.Prelude.{ℕ, zero, suc, List, [], ◌∷◌, ◌++◌, map, Bool, not, cond}
-use Rattle.std.proofs.Math.Option.{Option, none, some}
-use Rattle.lists.specs.Filter.{filter}
-use Rattle.lists.specs.Find.{find}
+use Rattle.std.specs.Prelude.{ℕ, zero, suc, List, [], ◌∷◌, ◌++◌, map, Bool, not, cond, Option, None, Some, filter, find, Result, Err, Ok}
 use Rattle.node.specs.declared.record.NodeId.{NodeId}
 use Rattle.node.specs.declared.record.VoiceId.{VoiceId}
 use Rattle.node.specs.declared.refusal.Refusal.{Refusal}
@@ -15,7 +12,6 @@ use Rattle.graph.specs.Change.{remove_voice}
 use Rattle.voice.specs.Policy.{admits}
 use Rattle.voice.specs.declared.policy.Admission.{Admission}
 use Rattle.voice.specs.declared.policy.Admission.TheVariants as admission
-use Rattle.store.specs.declared.answer.Spawned.{Spawned}
 use Rattle.store.specs.declared.config.Config.{Config}
 use Rattle.store.specs.declared.voices.Voice.{Voice}
 use Rattle.store.specs.declared.voices.VoiceState.{VoiceState}
@@ -43,8 +39,8 @@ at_graph l g h = record { shared = with_graph g l.shared; holders = h; voices = 
 
 -- ---- ports by their holders: the lowest of the k ports from p on whose holder passes
 abbrev pub lowest_port : ℕ → (ℕ → Bool) → ℕ → Option ℕ
-lowest_port zero t p = none
-lowest_port (suc k) t p = let r = lowest_port k t (suc p) in cond (t p) (some p) r
+lowest_port zero t p = None
+lowest_port (suc k) t p = let r = lowest_port k t (suc p) in cond (t p) (Some p) r
 
 -- the lowest port of the bus that nobody holds
 abbrev pub port_free : NodeId → Ledger → Option ℕ
@@ -71,24 +67,24 @@ abbrev pub cut_off : Voice → VoiceState → Ledger → Ledger
 cut_off v s l = without_voice v.id (at_shared l (with_steals (reclaim_log v s l.shared) l.shared))
 
 abbrev pub stolen : Voice → Option ℕ → Ledger → Ledger
-stolen v (some p) l = fade v p l
-stolen v none l = cut_off v Tracked l
+stolen v (Some p) l = fade v p l
+stolen v None l = cut_off v Tracked l
 
 abbrev pub steal_voice : Voice → Ledger → Ledger
 steal_voice v l = stolen v (port_held v l) l
 
 -- ---- "The newcomer takes the next id and the port found, tracked under a budget."
 pub record SpawnResult : Type 0 where
-  pub answer : Spawned
+  pub answer : Result VoiceId Refusal
   pub ledger : Ledger
 
 abbrev pub refused : Refusal → Ledger → SpawnResult
-refused r l = record { answer = Spawned.Refused r; ledger = l }
+refused r l = record { answer = Err r; ledger = l }
 
 abbrev pub instantiate : Spawn → VoiceState → ℕ → Ledger → SpawnResult
 instantiate x s p l =
     record {
-      answer = Spawned.Voice (next_voice l.shared);
+      answer = Ok (next_voice l.shared);
       ledger = record {
         shared = instantiate_shared x p l.shared;
         holders = hold x.bus p (voice (next_voice l.shared)) l.holders;
@@ -97,20 +93,20 @@ instantiate x s p l =
     }
 
 abbrev pub instantiate_or : Option ℕ → Option Voice → Spawn → VoiceState → Ledger → (Ledger → SpawnResult) → SpawnResult
-instantiate_or (some p) o x s l again = instantiate x s p l
-instantiate_or none none x s l again = refused NoPort l
-instantiate_or none (some v) x s l again = again (cut_off v v.state l)
+instantiate_or (Some p) o x s l again = instantiate x s p l
+instantiate_or None None x s l again = refused NoPort l
+instantiate_or None (Some v) x s l again = again (cut_off v v.state l)
 
 abbrev pub place : ℕ → Spawn → VoiceState → Ledger → SpawnResult
-place zero x s l = instantiate_or (port_free x.bus l) none x s l (refused NoPort)
+place zero x s l = instantiate_or (port_free x.bus l) None x s l (refused NoPort)
 place (suc fuel) x s l = instantiate_or (port_free x.bus l) (next_out l.shared x.bus x.rank l.voices) x s l (λ k. place fuel x s k)
 
 abbrev pub place_within_budget : Spawn → Ledger → SpawnResult
 place_within_budget x l = place (tries l.shared.config.budget l.voices) x (state_under l.shared.config.budget) l
 
 abbrev pub steal_then : Option Voice → Spawn → Ledger → SpawnResult
-steal_then none x l = place_within_budget x l
-steal_then (some v) x l = place_within_budget x (steal_voice v l)
+steal_then None x l = place_within_budget x l
+steal_then (Some v) x l = place_within_budget x (steal_voice v l)
 
 abbrev pub admitted : Admission → Spawn → Ledger → SpawnResult
 admitted admission.Admit x l = place_within_budget x l
@@ -123,8 +119,8 @@ admission_on bus r l =
 
 -- "Refused: nothing changes; with 12 the steals and reclaims made stand."
 abbrev pub unless : Option Refusal → Ledger → SpawnResult → SpawnResult
-unless none l r = r
-unless (some n) l r = refused n l
+unless None l r = r
+unless (Some n) l r = refused n l
 
 abbrev pub spawn_managed : Spawn → Ledger → SpawnResult
 spawn_managed x l =
@@ -136,8 +132,8 @@ spawn_loose x l = unless (spawn_refusal l.shared l.voices x.def x.bus x.rank) l 
 
 -- ---- "Free, called or by event: the voice goes."
 abbrev pub freed : Option Voice → Ledger → Ledger
-freed none l = l
-freed (some v) l = without_voice v.id l
+freed None l = l
+freed (Some v) l = without_voice v.id l
 
 abbrev pub free : VoiceId → Ledger → Ledger
 free w l = freed (find (is_voice w) l.voices) l

@@ -1,6 +1,5 @@
 -- "Sounding render, after events: each fading count + 1."
-use Rattle.std.specs.Prelude.{ℕ, suc, ◌+◌, List, [], ◌∷◌, map, Bool, true, false, cond}
-use Rattle.lists.specs.Find.{find}
+use Rattle.std.specs.Prelude.{ℕ, suc, ◌+◌, List, [], ◌∷◌, map, Bool, true, false, cond, find}
 use Rattle.scheduler.specs.Event.{param_order}
 use Rattle.scheduler.specs.Queue.{left_after}
 use Rattle.scheduler.specs.declared.event.Event.{Event}

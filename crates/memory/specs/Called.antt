@@ -1,11 +1,8 @@
 -- What the contract of every call on a lent store says. A contract speaks of the tables that its function was lent, and holds
 -- whatever stands in the others: a table that is no parameter cannot change.
-use Rattle.std.specs.Prelude.{◌≡◌, List, [], ◌∷◌, Bool, true, false, not, ℕ, eqb}
-use Rattle.std.proofs.Math.Option.{Option, none, some}
-use Rattle.graph.specs.declared.state.Answer as graph
-use Rattle.graph.specs.declared.state.Answer.TheVariants as Answer
-use Rattle.graph.specs.declared.state.AddAnswer as given
-use Rattle.graph.specs.declared.state.AddAnswer.TheVariants as AddAnswer
+use Rattle.node.specs.declared.record.NodeId.{NodeId}
+use Rattle.node.specs.declared.refusal.Refusal.{Refusal}
+use Rattle.std.specs.Prelude.{◌≡◌, List, [], ◌∷◌, Bool, true, false, not, ℕ, eqb, Option, None, Some, Err, Ok, Result}
 use Rattle.model.specs.Call.{Call, Answer, Step, step, done, refused, node}
 use Rattle.model.specs.Numbers.{number_in}
 use Rattle.memory.specs.View.{Memory, model_of}
@@ -17,21 +14,21 @@ Called c m a n = ◌≡◌ {A = Step} (record { answer = a; model = model_of n }
 -- "Each refusal returns its number and leaves store and buffers unchanged"; only after 12, "no port", do the steals and reclaims
 -- that were made before it stand
 abbrev pub keeps : Option ℕ → Bool
-keeps none = false
-keeps (some n) = not (eqb n 12)
+keeps None = false
+keeps (Some n) = not (eqb n 12)
 
 -- such a refusal leaves the very memory: the state, and every word of the tables
 abbrev pub Kept : Answer → Memory → Memory → Type 0
 Kept a m n = keeps (number_in a) ≡ true → n ≡ m
 
 -- an answer in the model's words
-abbrev pub answered : graph.Answer → Answer
-answered Answer.Done = done
-answered (Answer.Refused r) = refused r
+abbrev pub answered : Result (Unit {0}) Refusal → Answer
+answered (Ok tt) = done
+answered (Err r) = refused r
 
-abbrev pub add_answered : given.AddAnswer → Answer
-add_answered (AddAnswer.Id k) = node k
-add_answered (AddAnswer.Refused r) = refused r
+abbrev pub add_answered : Result NodeId Refusal → Answer
+add_answered (Ok k) = node k
+add_answered (Err r) = refused r
 
 -- a list of calls on a lent store: each gets what the last left
 pub data Runs : Memory → List Call → List Answer → Memory → Type 0 where

@@ -1,11 +1,11 @@
 -- The state with some parts changed.
-use Rattle.std.specs.Prelude.{ℕ, Bool, true, false}
-use Rattle.graph.specs.declared.state.Sink.{Sink}
+use Rattle.node.specs.declared.record.NodeId.{NodeId}
+use Rattle.std.specs.Prelude.{ℕ, Bool, true, false, Option}
 use Rattle.store.specs.declared.config.Config.{Config}
 use Rattle.memory.specs.declared.state.State.{State}
 
 -- a state, its fields in the order of the struct
-abbrev pub state_of : Config → ℕ → ℕ → ℕ → ℕ → ℕ → Sink → Bool → ℕ → ℕ → ℕ → ℕ → ℕ → State
+abbrev pub state_of : Config → ℕ → ℕ → ℕ → ℕ → ℕ → Option NodeId → Bool → ℕ → ℕ → ℕ → ℕ → ℕ → State
 state_of config nodes edges order voices events sink prepared next clock spawned stolen place =
     record {
       config = config;
@@ -24,7 +24,7 @@ state_of config nodes edges order voices events sink prepared next clock spawned
     }
 
 -- "Adding, removing, connecting or disconnecting makes it unprepared", and so does setting the sink
-abbrev pub graphed : State → ℕ → ℕ → Sink → ℕ → State
+abbrev pub graphed : State → ℕ → ℕ → Option NodeId → ℕ → State
 graphed s nodes edges sink next =
     state_of s.config nodes edges s.order s.voices s.events sink false next s.clock s.spawned s.stolen s.place
 

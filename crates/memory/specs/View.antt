@@ -2,7 +2,6 @@
 -- count is no part of the store, and a count above the room of a table is the room.
 use Rattle.std.specs.Prelude.{ℕ, List, take}
 use Rattle.graph.specs.View.{GraphView}
-use Rattle.graph.specs.Tables.{sink_of}
 use Rattle.model.specs.SharedState.{SharedState}
 use Rattle.model.specs.Model.{Model}
 use Rattle.graph_rows.specs.Node.{nodes_in}
@@ -28,7 +27,7 @@ graph_of m =
     record {
       nodes = take m.state.nodes (nodes_in m.nodes);
       edges = take m.state.edges (edges_in m.edges);
-      sink = sink_of m.state.sink;
+      sink = m.state.sink;
       prepared = m.state.prepared;
       order = take m.state.order (ids_in m.order);
       next = m.state.next;

@@ -1,4 +1,6 @@
-use graph::state::{AddAnswer, Answer, Sink};
+ghost use Rattle.std.specs.Prelude.{◌≡◌, Err};
+
+use node::record::NodeId;
 use store::config::Config;
 
 // What is no table: what making fixed, how many rows each table holds, the sink, whether the graph is prepared, the next node id, the
@@ -11,7 +13,7 @@ pub struct State {
     pub order: usize,
     pub voices: usize,
     pub events: usize,
-    pub sink: Sink,
+    pub sink: Option<NodeId>,
     pub prepared: bool,
     pub next: u64,
     pub clock: u64,
@@ -20,16 +22,19 @@ pub struct State {
     pub place: usize,
 }
 
-// The state that a call left, and what it answers.
+// The state that a call left, and what the call answers: a result, of done or of the id that it gives.
 #[derive(Clone, Copy)]
-pub struct HostResult {
+pub struct CallResult<A> {
     pub state: State,
-    pub answer: Answer,
+    pub answer: A,
 }
 
-// The same of a call that gives a node id.
-#[derive(Clone, Copy)]
-pub struct AddResult {
-    pub state: State,
-    pub given: AddAnswer,
+// A call that is refused and leaves the state as it is.
+pub fn refuse<A, E>(state: State, why: E) -> CallResult<Result<A, E>>
+    ensures { (result.state ≡ state) × (result.answer ≡ Err why) }
+{
+    CallResult {
+        state,
+        answer: Err(why),
+    }
 }

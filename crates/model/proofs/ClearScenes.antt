@@ -2,7 +2,7 @@
 -- how many it removed."
 use mathlib.Core.Path.{◌≡◌, refl}
 use mathlib.Core.List.{List, [], ◌∷◌}
-use mathlib.Core.Option.{none, some}
+use Rattle.std.specs.Prelude.{None, Some}
 use mathlib.Core.Bool.{false}
 use lib.Ieee.{eq}
 use Rattle.synthdef.specs.Plan.{settled}
@@ -12,9 +12,7 @@ use Rattle.prepare.specs.Live.{rising_from, live_nodes, live_ids, processing_ord
 use Rattle.prepare.specs.Required.{any, lacks, lacking}
 use Rattle.prepare.specs.Prepare.{prepare}
 use Rattle.voice.specs.Steals.{record_of}
-use Rattle.voice.specs.declared.policy.Budget.TheVariants.{AtMost}
 use Rattle.voice.specs.declared.policy.BudgetScope.TheVariants.{Global}
-use Rattle.voice.specs.declared.policy.Level.TheVariants.{Unknown}
 use Rattle.voice.specs.declared.policy.StealPolicy.TheVariants.{Oldest}
 use Rattle.store.specs.declared.voices.VoiceState.TheVariants.{Tracked}
 use Rattle.model.specs.Model.{Model}
@@ -30,12 +28,12 @@ twice = after (up_to 1 Oldest) (host 2 ∷ sink 0 ∷ spawn 0 ∷ spawn 0 ∷ ca
 -- Refuses: rounding L over block down; a fade that is removed by the render; a clearing that does nothing, or all.
 ends_at_L :
     asked (call.clear ∷ render ∷ call.clear ∷ call.clear ∷ call.ask (call.position (voice 1)) ∷ call.ask call.edges ∷ render ∷ []) twice
-    ≡ removed 0 ∷ sounding ∷ removed 1 ∷ removed 0 ∷ reached none ∷ wires (edge 3 0 1 ∷ []) ∷ silent ∷ []
+    ≡ removed 0 ∷ sounding ∷ removed 1 ∷ removed 0 ∷ reached None ∷ wires (edge 3 0 1 ∷ []) ∷ silent ∷ []
 unfolding eq silence_pass_through rules prepare processing_order lacking lacks any live_ids live_nodes rising_from whole order walk released fed among count_up settled
 ends_at_L = refl
 
 -- Its record stays uncut. Refuses: a mark for every fade that leaves.
-uncut : (further (render ∷ call.clear ∷ []) twice).shared.steals ≡ record { count = 1; newest = record_of 0 Unknown false ∷ [] }
+uncut : (further (render ∷ call.clear ∷ []) twice).shared.steals ≡ record { count = 1; newest = record_of 0 None false ∷ [] }
 unfolding eq silence_pass_through rules prepare processing_order lacking lacks any live_ids live_nodes rising_from whole order walk released fed among count_up settled
 uncut = refl
 
@@ -43,11 +41,11 @@ uncut = refl
 abbrev exact : List Call → List Answer
 exact calls =
     asked calls
-    (after (record { rate = 400; block = 1; budget = AtMost 1; policy = Oldest; scope = Global; table = false }) (host 2 ∷ sink 0 ∷ spawn 0 ∷ spawn 0 ∷ call.prepare ∷ []))
+    (after (record { rate = 400; block = 1; budget = Some 1; policy = Oldest; scope = Global; table = false }) (host 2 ∷ sink 0 ∷ spawn 0 ∷ spawn 0 ∷ call.prepare ∷ []))
 
 to_the_sample :
     exact (render ∷ call.clear ∷ render ∷ call.ask (call.position (voice 1)) ∷ call.clear ∷ [])
-    ≡ sounding ∷ removed 0 ∷ sounding ∷ reached (some 2) ∷ removed 1 ∷ []
+    ≡ sounding ∷ removed 0 ∷ sounding ∷ reached (Some 2) ∷ removed 1 ∷ []
 unfolding eq silence_pass_through rules prepare processing_order lacking lacks any live_ids live_nodes rising_from whole order walk released fed among count_up settled
 to_the_sample = refl
 
@@ -58,7 +56,7 @@ to_the_sample = refl
 abbrev four : List Call → Model
 four calls =
     further calls
-    (after (record { rate = 400; block = 1; budget = AtMost 2; policy = Oldest; scope = Global; table = false })
+    (after (record { rate = 400; block = 1; budget = Some 2; policy = Oldest; scope = Global; table = false })
     (host 4 ∷ sink 0 ∷ spawn 0 ∷ spawn 0 ∷ spawn 0 ∷ call.prepare ∷ render ∷ spawn 0 ∷ call.prepare ∷ render ∷ []))
 
 once :

@@ -3,11 +3,10 @@ use Prim.Native.Nat.{ℕ}
 use Prim.Native.String.{String}
 use mathlib.Core.Path.{◌≡◌, refl}
 use mathlib.Core.List.{List, [], ◌∷◌}
-use mathlib.Core.Option.{Option, some}
+use Rattle.std.specs.Prelude.{Option, Some, option_map, None}
 use mathlib.Core.Bool.{true, false}
 use lib.ListN.{replicate, length}
 use lib.Ieee.{eq}
-use Rattle.lists.specs.Find.{map_o}
 use Rattle.node.specs.Silence.{bytes}
 use Rattle.node.specs.declared.order.EventAction.{EventAction}
 use Rattle.node.specs.declared.order.LastOrder.{LastOrder}
@@ -19,7 +18,6 @@ use Rattle.prepare.specs.Required.{any, lacks, lacking}
 use Rattle.prepare.specs.Prepare.{prepare}
 use Rattle.voice.specs.declared.policy.StealPolicy.TheVariants.{Oldest}
 use Rattle.voice.specs.Steals.{record_of}
-use Rattle.voice.specs.declared.policy.Level.TheVariants.{Unknown}
 use Rattle.synthdef.specs.declared.def.SynthDef.{SynthDef}
 use Rattle.store.specs.declared.answer.Outcome.TheVariants.{Applied, NoVoice, NoParameter, NotTaken}
 use Rattle.store.specs.declared.answer.Rendered.TheVariants as Rendered
@@ -51,7 +49,7 @@ at t s n = call.schedule t (voice 1) (bytes s) (EventAction.Value (float n))
 
 -- the last orders of the voice's two nodes, 1 and 2
 abbrev last : ℕ → Model → Option LastOrder
-last k m = map_o (λ n. n.last) (node_at m.shared.graph.nodes (id k))
+last k m = option_map (λ n. n.last) (node_at m.shared.graph.nodes (id k))
 
 abbrev key : List Call → Model
 key calls = after (up_to 2 Oldest) (host 2 ∷ sink 0 ∷ call.spawn_managed (spawn_of key_def (id 0) (float 0) 0) ∷ call.prepare ∷ calls)
@@ -62,33 +60,33 @@ key calls = after (up_to 2 Oldest) (host 2 ∷ sink 0 ∷ call.spawn_managed (sp
 -- Refuses: the last parameter of a name; the first that takes the order; a glide of 0 seconds taken as a value.
 orders :
     (asked
-    (set "cut" (value 1) ∷ set "cut" (glide 1 1) ∷ set "rate" (glide 3 0) ∷ set "rate" (value 1) ∷ set "none" (value 1) ∷ set "" (value 1)
+    (set "cut" (value 1) ∷ set "cut" (glide 1 1) ∷ set "rate" (glide 3 0) ∷ set "rate" (value 1) ∷ set "None" (value 1) ∷ set "" (value 1)
     ∷ set "ratexxxxxxxxxxxxx" (value 1) ∷ call.order (voice 2) (bytes "cut") (value 1) ∷ render ∷ []) (key [])
     ≡ ordered Applied ∷ ordered NotTaken ∷ ordered Applied ∷ ordered NotTaken ∷ ordered NoParameter ∷ ordered NoParameter
     ∷ ordered NoParameter ∷ ordered NoVoice ∷ sounding ∷ [])
-    × (last 1 (key (set "cut" (value 1) ∷ set "cut" (glide 1 1) ∷ set "none" (value 3) ∷ [])) ≡ some (value 1))
-    × (last 2 (key (set "rate" (glide 3 0) ∷ set "rate" (value 1) ∷ set "cut" (glide 1 1) ∷ [])) ≡ some (glide 3 0))
+    × (last 1 (key (set "cut" (value 1) ∷ set "cut" (glide 1 1) ∷ set "None" (value 3) ∷ [])) ≡ Some (value 1))
+    × (last 2 (key (set "rate" (glide 3 0) ∷ set "rate" (value 1) ∷ set "cut" (glide 1 1) ∷ [])) ≡ Some (glide 3 0))
 unfolding eq prepare processing_order lacking lacks any live_ids live_nodes rising_from whole order walk released fed among count_up
 orders = (refl, refl, refl)
 
 -- ---- ● the deadline: the block is 16, so that the first render takes 15, the second 16. Refuses: times up to the deadline; times up to
 -- the clock.
 deadline :
-    (last 1 (key (at 15 "cut" 1 ∷ render ∷ [])) ≡ some (value 1))
-    × (last 1 (key (at 16 "cut" 1 ∷ render ∷ [])) ≡ some LastOrder.Nothing)
-    × (last 1 (key (at 16 "cut" 1 ∷ render ∷ render ∷ [])) ≡ some (value 1))
-    × (last 1 (key (render ∷ render ∷ at 3 "cut" 1 ∷ render ∷ [])) ≡ some (value 1))
+    (last 1 (key (at 15 "cut" 1 ∷ render ∷ [])) ≡ Some (value 1))
+    × (last 1 (key (at 16 "cut" 1 ∷ render ∷ [])) ≡ Some LastOrder.Nothing)
+    × (last 1 (key (at 16 "cut" 1 ∷ render ∷ render ∷ [])) ≡ Some (value 1))
+    × (last 1 (key (render ∷ render ∷ at 3 "cut" 1 ∷ render ∷ [])) ≡ Some (value 1))
 unfolding eq prepare processing_order lacking lacks any live_ids live_nodes rising_from whole order walk released fed among count_up
 deadline = (refl, refl, refl, refl)
 
 -- By time, equal times by insertion; a gate is a value for `gate`, whatever name stands beside it; a name that is not 1 to 16
 -- bytes matches no parameter. Refuses: by insertion alone; equal times the other way round.
 by_time :
-    (last 1 (key (at 9 "cut" 3 ∷ at 4 "cut" 5 ∷ render ∷ [])) ≡ some (value 3))
-    × (last 1 (key (at 4 "cut" 3 ∷ at 4 "cut" 5 ∷ render ∷ [])) ≡ some (value 5))
-    × (last 1 (key (call.schedule 4 (voice 1) (bytes "rate") (EventAction.Gate (float 7)) ∷ render ∷ [])) ≡ some (value 7))
-    × (last 1 (key (call.schedule 4 (voice 1) [] (EventAction.Value (float 7)) ∷ render ∷ [])) ≡ some LastOrder.Nothing)
-    × (last 2 (key (call.schedule 4 (voice 1) (bytes "rate") (EventAction.Glide (linear 7 1)) ∷ render ∷ [])) ≡ some (glide 7 1))
+    (last 1 (key (at 9 "cut" 3 ∷ at 4 "cut" 5 ∷ render ∷ [])) ≡ Some (value 3))
+    × (last 1 (key (at 4 "cut" 3 ∷ at 4 "cut" 5 ∷ render ∷ [])) ≡ Some (value 5))
+    × (last 1 (key (call.schedule 4 (voice 1) (bytes "rate") (EventAction.Gate (float 7)) ∷ render ∷ [])) ≡ Some (value 7))
+    × (last 1 (key (call.schedule 4 (voice 1) [] (EventAction.Value (float 7)) ∷ render ∷ [])) ≡ Some LastOrder.Nothing)
+    × (last 2 (key (call.schedule 4 (voice 1) (bytes "rate") (EventAction.Glide (linear 7 1)) ∷ render ∷ [])) ≡ Some (glide 7 1))
 unfolding eq prepare processing_order lacking lacks any live_ids live_nodes rising_from whole order walk released fed among count_up
 by_time = (refl, refl, refl, refl, refl)
 
@@ -140,7 +138,7 @@ free_without_sink = (refl, refl)
 -- ---- A timed free marks no record cut: voice 1 fades with record 0. It leaves before the fades move. Refuses: a mark for it.
 timed_free_marks_none :
     ((after (up_to 1 Oldest) (host 2 ∷ sink 0 ∷ spawn 0 ∷ spawn 0 ∷ timed_free 0 1 ∷ render ∷ [])).shared.steals
-    ≡ record { count = 1; newest = record_of 0 Unknown false ∷ [] })
+    ≡ record { count = 1; newest = record_of 0 None false ∷ [] })
     × (voices (after (up_to 1 Oldest) (host 2 ∷ sink 0 ∷ spawn 0 ∷ spawn 0 ∷ timed_free 0 1 ∷ render ∷ [])) ≡ seen 2 1 Tracked ∷ [])
 unfolding eq prepare processing_order lacking lacks any live_ids live_nodes rising_from whole order walk released fed among count_up
 timed_free_marks_none = (refl, refl)

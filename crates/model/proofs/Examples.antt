@@ -1,4 +1,5 @@
 -- The examples of the scope, as one table over the definitions, proved by one computed check: the marked ones first.
+use Rattle.std.specs.Prelude.{Some}
 use Prim.Native.Nat.{ℕ, suc}
 use mathlib.Core.Path.{◌≡◌, refl}
 use mathlib.Core.List.{List, [], ◌∷◌, map}
@@ -21,13 +22,9 @@ use Rattle.prepare.specs.Required.{any, lacks, lacking}
 use Rattle.prepare.specs.Prepare.{prepare}
 use Rattle.scheduler.specs.Queue.{taken_before}
 use Rattle.voice.proofs.Examples.{numbered}
-use Rattle.voice.specs.Policy.{victim}
-use Rattle.voice.specs.declared.policy.Budget.TheVariants.{AtMost}
+use Rattle.voice.specs.Policy.{Victim, victim}
 use Rattle.voice.specs.declared.policy.BudgetScope.TheVariants.{Global}
-use Rattle.voice.specs.declared.policy.Level.TheVariants.{Known}
 use Rattle.voice.specs.declared.policy.StealPolicy.TheVariants.{Oldest, Quietest}
-use Rattle.voice.specs.declared.policy.Victim.{Victim}
-use Rattle.voice.specs.declared.policy.Victim.TheVariants.{Goes}
 use Rattle.model.specs.Voice.{id, is_fading}
 use Rattle.model.specs.Model.{Model}
 use Rattle.model.specs.Page as paper
@@ -80,7 +77,7 @@ full xs = further (reported 1 xs) (after (small 3 Quietest) (host 4 ∷ spawn 0 
 
 -- a block of 64, so that the first render's deadline is 64
 abbrev timed : ℕ → Model
-timed t = after (record { rate = 8000; block = 64; budget = AtMost 1; policy = Oldest; scope = Global; table = false }) (host 1 ∷ spawn 0 ∷ timed_free t 1 ∷ render ∷ [])
+timed t = after (record { rate = 8000; block = 64; budget = Some 1; policy = Oldest; scope = Global; table = false }) (host 1 ∷ spawn 0 ∷ timed_free t 1 ∷ render ∷ [])
 
 -- the row as the definitions give it
 unfoldable pub given : Row → Row
@@ -88,7 +85,7 @@ unfolding seed_of level_of
 given (rate r l) = rate r (fade_length r)
 given (level xs y) = level xs (level_of xs)
 given (seed s n x) = seed s n (seed_of s n)
-given (quietest xs v) = quietest xs (victim Quietest 0 (numbered 1 (map Known xs)))
+given (quietest xs v) = quietest xs (victim Quietest 0 (numbered 1 (map Some xs)))
 given (taken t deadline n) = taken t deadline (length (taken_before deadline (event t (voice 1) [] EventAction.Free ∷ [])))
 given (third_prepare l) = third_prepare (map (λ (k : NodeId). k.0) page.model.shared.graph.order)
 given (prints t) = prints (paper.page page.model.shared.clock (paper.port_now page.model.shared.graph.edges) page.model.voices)
@@ -112,13 +109,13 @@ table =
     ∷ seed 0 0 0xDEADBEEF
     ∷ seed 0 1 0x5B467498
     ∷ seed 1 0 0x409AC756
-    ∷ quietest (two ∷ float 1 ∷ float 1 ∷ []) (Goes 2 (voice 3))
+    ∷ quietest (two ∷ float 1 ∷ float 1 ∷ []) (Some (2, voice 3))
     ∷ taken 64 64 0
     ∷ taken 63 64 1
     ∷ third_prepare (1 ∷ 2 ∷ 4 ∷ 3 ∷ 0 ∷ [])
     ∷ prints printed
     ∷ cleared (removed 1 ∷ []) (2 ∷ 3 ∷ [])
-    ∷ block (float 1 ∷ float 7 ∷ []) (known (Known (float 5)) ∷ [])
+    ∷ block (float 1 ∷ float 7 ∷ []) (known (Some (float 5)) ∷ [])
     ∷ stolen (two ∷ float 1 ∷ float 1 ∷ []) (false ∷ false ∷ true ∷ false ∷ [])
     ∷ freed 64 (1 ∷ [])
     ∷ freed 63 []

@@ -3,7 +3,7 @@
 use mathlib.Core.Path.{◌≡◌, refl}
 use mathlib.Core.List.{[], ◌∷◌}
 use mathlib.Core.Bool.{false, true}
-use mathlib.Core.Option.{some}
+use Rattle.std.specs.Prelude.{Some, option_map, None}
 use lib.Ieee.{nan, eq, add, mul, div, of_int, of_bits}
 use lib.ListN.{replicate}
 use Rattle.level.specs.Root.{root_of, sqrt}
@@ -11,9 +11,7 @@ use Rattle.level.specs.Narrow.{narrow}
 use Rattle.level.specs.Level.{squares, level_of}
 use Rattle.node.specs.declared.refusal.Refusal.TheVariants.{UnknownNode, LentBlock}
 use Rattle.rank.specs.Order.{among, fed, released, walk, order, whole, count_up}
-use Rattle.voice.specs.declared.policy.Level.TheVariants.{Unknown, Known}
 use Rattle.voice.specs.declared.policy.StealPolicy.TheVariants.{Oldest}
-use Rattle.lists.specs.Find.{map_o}
 use Rattle.graph.specs.Node.{node_at}
 use Rattle.node.specs.Silence.{bytes, silence_pass_through, rules}
 use Rattle.synthdef.specs.Plan.{settled}
@@ -35,16 +33,16 @@ lone = after (small 1 Oldest) (host 1 ∷ render ∷ [])
 
 levels :
     (asked (spawn 0 ∷ call.ask (call.level (voice 1)) ∷ render ∷ call.ask (call.level (voice 1)) ∷ sounds 1 3 ∷ call.ask (call.level (voice 1)) ∷ sounds 1 1 ∷ call.ask (call.level (voice 1)) ∷ []) lone
-    ≡ spawned 1 ∷ known Unknown ∷ silent ∷ known (Known (float 0)) ∷ done ∷ known (Known (float 3)) ∷ done ∷ known (Known (float 1)) ∷ [])
+    ≡ spawned 1 ∷ known None ∷ silent ∷ known (Some (float 0)) ∷ done ∷ known (Some (float 3)) ∷ done ∷ known (Some (float 1)) ∷ [])
     × (asked (spawn 0 ∷ sounds 1 3 ∷ call.ask (call.level (voice 1)) ∷ render ∷ call.ask (call.level (voice 1)) ∷ free 1 ∷ call.ask (call.level (voice 1)) ∷ call.ask (call.level (voice 2)) ∷ []) lone
-    ≡ spawned 1 ∷ done ∷ known Unknown ∷ silent ∷ known (Known (float 3)) ∷ ordered Applied ∷ known Unknown ∷ known Unknown ∷ [])
+    ≡ spawned 1 ∷ done ∷ known None ∷ silent ∷ known (Some (float 3)) ∷ ordered Applied ∷ known None ∷ known None ∷ [])
 unfolding eq level_of squares root_of sqrt narrow add mul div of_int of_bits whole order walk released fed among count_up
 levels = (refl, refl)
 
 -- "channel by channel": the block of two channels, 1 and 7, has the level 5. Refuses: the first channel alone; the sum of levels.
 stereo :
     asked (call.report (id 1) 2 (float 1 ∷ float 7 ∷ []) false ∷ call.ask (call.level (voice 1)) ∷ []) (after (small 1 Oldest) (host 1 ∷ spawn 0 ∷ render ∷ []))
-    ≡ done ∷ known (Known (float 5)) ∷ []
+    ≡ done ∷ known (Some (float 5)) ∷ []
 unfolding eq level_of squares root_of sqrt narrow add mul div of_int of_bits whole order walk released fed among count_up
 stereo = refl
 
@@ -56,7 +54,7 @@ panned = after (small 1 Oldest) (host 2 ∷ call.spawn_managed (spawn_of tone_de
 
 reports :
     (asked (sounds 1 3 ∷ sounds 0 1 ∷ call.ask (call.level (voice 1)) ∷ sounds 2 1 ∷ sounds 3 1 ∷ []) panned
-    ≡ done ∷ done ∷ known (Known (float 3)) ∷ refused UnknownNode ∷ refused UnknownNode ∷ [])
+    ≡ done ∷ done ∷ known (Some (float 3)) ∷ refused UnknownNode ∷ refused UnknownNode ∷ [])
     × (asked (spawn 0 ∷ sounds 1 1 ∷ sounds 4 1 ∷ sounds 5 1 ∷ sounds 6 1 ∷ call.report (id 4) 3 [] false ∷ free 1 ∷ sounds 1 1 ∷ []) panned
     ≡ spawned 2 ∷ done ∷ refused UnknownNode ∷ done ∷ refused UnknownNode ∷ refused UnknownNode ∷ ordered Applied ∷ refused UnknownNode ∷ [])
 unfolding eq level_of squares root_of sqrt narrow add mul div of_int of_bits whole order walk released fed among count_up
@@ -116,14 +114,14 @@ abbrev lively : Model
 lively = after (small 1 Oldest) (host 1 ∷ call.spawn_managed (spawn_of cut_def (id 0) (float 0) 0) ∷ render ∷ [])
 
 dead_output :
-    (asked (call.ask (call.level (voice 1)) ∷ cut (value 1) ∷ call.clear ∷ []) lively ≡ known (Known (float 0)) ∷ ordered Applied ∷ removed 0 ∷ [])
-    × (asked (call.ask (call.level (voice 1)) ∷ cut (value 1) ∷ call.clear ∷ []) (nodeless lively) ≡ known Unknown ∷ ordered NotTaken ∷ removed 0 ∷ [])
+    (asked (call.ask (call.level (voice 1)) ∷ cut (value 1) ∷ call.clear ∷ []) lively ≡ known (Some (float 0)) ∷ ordered Applied ∷ removed 0 ∷ [])
+    × (asked (call.ask (call.level (voice 1)) ∷ cut (value 1) ∷ call.clear ∷ []) (nodeless lively) ≡ known None ∷ ordered NotTaken ∷ removed 0 ∷ [])
 unfolding eq level_of squares root_of sqrt narrow add mul div of_int of_bits silence_pass_through rules whole order walk released fed among count_up settled
 dead_output = (refl, refl)
 
 -- An order that is none is not taken, and the last one stays. Refuses: an empty order that erases it.
 no_order :
     (asked (cut LastOrder.Nothing ∷ []) lively ≡ ordered NotTaken ∷ [])
-    × (map_o (λ n. n.last) (node_at (further (cut (value 3) ∷ cut LastOrder.Nothing ∷ []) lively).shared.graph.nodes (id 1)) ≡ some (value 3))
+    × (option_map (λ n. n.last) (node_at (further (cut (value 3) ∷ cut LastOrder.Nothing ∷ []) lively).shared.graph.nodes (id 1)) ≡ Some (value 3))
 unfolding eq whole order walk released fed among count_up
 no_order = (refl, refl)

@@ -1,12 +1,11 @@
 -- Scenes of making: what a new store holds, field by field, for makings that differ in every argument. The refusals are in `RefusalScenes`.
 use mathlib.Core.Path.{◌≡◌, refl}
 use mathlib.Core.List.{[]}
-use mathlib.Core.Option.{none, some}
+use Rattle.std.specs.Prelude.{None, Some}
 use mathlib.Core.Bool.{true, false}
 use lib.IntN.{pos}
 use lib.Ieee.{fin}
 use Rattle.bus.specs.Rate.{rate_of}
-use Rattle.voice.specs.declared.policy.Budget.TheVariants.{Unlimited, AtMost}
 use Rattle.voice.specs.declared.policy.BudgetScope.TheVariants.{Global, PerGroup}
 use Rattle.voice.specs.declared.policy.StealPolicy.TheVariants.{Newest, Quietest}
 use Rattle.store.specs.declared.config.Config.{Config}
@@ -19,7 +18,7 @@ empty c =
     record {
       shared = record {
         config = c;
-        graph = record { nodes = []; edges = []; sink = none; prepared = false; order = []; next = 0 };
+        graph = record { nodes = []; edges = []; sink = None; prepared = false; order = []; next = 0 };
         events = [];
         steals = record { count = 0; newest = [] };
         clock = 0;
@@ -31,11 +30,11 @@ empty c =
 -- 8000 and 44,100 Hz, and 48,000 Hz with the fade table. Refuses: an argument that is not kept: a rate, a block, a budget, a policy, a scope or a choice of the table
 -- that is always the same; a store that is not empty.
 makes :
-    (make (record { rate = fin false 125 (pos 6); block = 16; budget = AtMost 2; policy = Quietest; scope = PerGroup; table = false })
-    ≡ some (empty (record { rate = 8000; block = 16; budget = AtMost 2; policy = Quietest; scope = PerGroup; table = false })))
-    × (make (record { rate = fin false 11025 (pos 2); block = 128; budget = Unlimited; policy = Newest; scope = Global; table = false })
-    ≡ some (empty (record { rate = 44100; block = 128; budget = Unlimited; policy = Newest; scope = Global; table = false })))
-    × (make (record { rate = fin false 375 (pos 7); block = 128; budget = Unlimited; policy = Newest; scope = Global; table = true })
-    ≡ some (empty (record { rate = 48000; block = 128; budget = Unlimited; policy = Newest; scope = Global; table = true })))
+    (make (record { rate = fin false 125 (pos 6); block = 16; budget = Some 2; policy = Quietest; scope = PerGroup; table = false })
+    ≡ Some (empty (record { rate = 8000; block = 16; budget = Some 2; policy = Quietest; scope = PerGroup; table = false })))
+    × (make (record { rate = fin false 11025 (pos 2); block = 128; budget = None; policy = Newest; scope = Global; table = false })
+    ≡ Some (empty (record { rate = 44100; block = 128; budget = None; policy = Newest; scope = Global; table = false })))
+    × (make (record { rate = fin false 375 (pos 7); block = 128; budget = None; policy = Newest; scope = Global; table = true })
+    ≡ Some (empty (record { rate = 48000; block = 128; budget = None; policy = Newest; scope = Global; table = true })))
 unfolding rate_of
 makes = (refl, refl, refl)

@@ -5,11 +5,10 @@ use native.Mathlib.Omega.{arith}
 use mathlib.Core.Path.{◌≡◌, refl, sym, ap, ◌∙◌}
 use mathlib.Core.Logic.{◌↔◌, ◌⊎◌, inl, inr, ⊎_elim}
 use mathlib.Core.List.{List, [], ◌∷◌}
-use mathlib.Core.Option.{Option, none, some}
+use Rattle.std.specs.Prelude.{Option, None, Some, find, option_map}
 use mathlib.Core.Bool.{Bool, true, false, cond, false≢true}
 use lib.ListN.{length, take, get_or}
 use Rattle.lists.specs.Member.{In}
-use Rattle.lists.specs.Find.{find, map_o}
 use Rattle.lists.proofs.Find.{find_in, find_none, none_find}
 use Rattle.lists.proofs.Member.{some_inj, none_some}
 use Rattle.node.specs.declared.name.Name.{Name}
@@ -41,71 +40,71 @@ module _ (w : VoiceId) (name : Name) (o : LastOrder) (vs : List Voice) (d : Shar
 
   -- the voice is known, and none of its parameters has the name
   abbrev pub Nameless : Type 0
-  Nameless = (v : Voice) × (find (is_voice w) vs ≡ some v) × ((p : Param) → In p (param_rows v.params) → called name p ≡ false)
+  Nameless = (v : Voice) × (find (is_voice w) vs ≡ Some v) × ((p : Param) → In p (param_rows v.params) → called name p ≡ false)
 
   -- the voice is known and has the parameter, and no node takes that sort at its place
   abbrev pub Refusing : Type 0
   Refusing =
-      (v : Voice) × (find (is_voice w) vs ≡ some v) × (p : Param) × (find (called name) (param_rows v.params) ≡ some p)
-      × ((n : Node) → node_at d.graph.nodes (id (v.first.0 + p.node)) ≡ some n → takes o n ≡ false)
+      (v : Voice) × (find (is_voice w) vs ≡ Some v) × (p : Param) × (find (called name) (param_rows v.params) ≡ Some p)
+      × ((n : Node) → node_at d.graph.nodes (id (v.first.0 + p.node)) ≡ Some n → takes o n ≡ false)
 
   -- the voice is known and has the parameter, and its node takes that sort
   abbrev pub Taking : Type 0
   Taking =
-      (v : Voice) × (find (is_voice w) vs ≡ some v) × (p : Param) × (find (called name) (param_rows v.params) ≡ some p)
-      × (n : Node) × (node_at d.graph.nodes (id (v.first.0 + p.node)) ≡ some n) × (takes o n ≡ true)
+      (v : Voice) × (find (is_voice w) vs ≡ Some v) × (p : Param) × (find (called name) (param_rows v.params) ≡ Some p)
+      × (n : Node) × (node_at d.graph.nodes (id (v.first.0 + p.node)) ≡ Some n) × (takes o n ≡ true)
 
   by_voice : (x : Option Voice) → find (is_voice w) vs ≡ x → answer ≡ outcome_number (order_voice x name o d).outcome
   by_voice x e = ap (λ x. outcome_number (order_voice x name o d).outcome) e
 
-  by_param : (v : Voice) → find (is_voice w) vs ≡ some v → (x : Option Param) → find (called name) (param_rows v.params) ≡ x
-      → answer ≡ outcome_number (order_param (map_o (λ (p : Param). p.node) x) v o d).outcome
-  by_param v e x f = by_voice (some v) e ∙ ap (λ x. outcome_number (order_param (map_o (λ (p : Param). p.node) x) v o d).outcome) f
+  by_param : (v : Voice) → find (is_voice w) vs ≡ Some v → (x : Option Param) → find (called name) (param_rows v.params) ≡ x
+      → answer ≡ outcome_number (order_param (option_map (λ (p : Param). p.node) x) v o d).outcome
+  by_param v e x f = by_voice (Some v) e ∙ ap (λ x. outcome_number (order_param (option_map (λ (p : Param). p.node) x) v o d).outcome) f
 
-  by_node : (v : Voice) → find (is_voice w) vs ≡ some v → (p : Param) → find (called name) (param_rows v.params) ≡ some p
+  by_node : (v : Voice) → find (is_voice w) vs ≡ Some v → (p : Param) → find (called name) (param_rows v.params) ≡ Some p
       → (x : Option Node) → node_at d.graph.nodes (id (v.first.0 + p.node)) ≡ x → answer ≡ outcome_number (order_node x o d).outcome
-  by_node v e p f x g = by_param v e (some p) f ∙ ap (λ x. outcome_number (order_node x o d).outcome) g
+  by_node v e p f x g = by_param v e (Some p) f ∙ ap (λ x. outcome_number (order_node x o d).outcome) g
 
-  by_sort : (b : Bool) (n : Node) → takes o n ≡ b → outcome_number (order_node (some n) o d).outcome ≡ cond b 0 3
+  by_sort : (b : Bool) (n : Node) → takes o n ≡ b → outcome_number (order_node (Some n) o d).outcome ≡ cond b 0 3
   by_sort true n t = rw t
   by_sort false n t = rw t
 
   unknown_is : Unknown → answer ≡ 1
-  unknown_is h = by_voice none (none_find (is_voice w) vs h)
+  unknown_is h = by_voice None (none_find (is_voice w) vs h)
 
   nameless_is : Nameless → answer ≡ 2
-  nameless_is (v, e, h) = by_param v e none (none_find (called name) (param_rows v.params) h)
+  nameless_is (v, e, h) = by_param v e None (none_find (called name) (param_rows v.params) h)
 
   refusing_is : Refusing → answer ≡ 3
   refusing_is (v, e, p, f, h) = go (node_at d.graph.nodes (id (v.first.0 + p.node))) refl
     where
       go : (x : Option Node) → node_at d.graph.nodes (id (v.first.0 + p.node)) ≡ x → answer ≡ 3
-      go none g = by_node v e p f none g
-      go (some n) g = by_node v e p f (some n) g ∙ by_sort false n (h n g)
+      go None g = by_node v e p f None g
+      go (Some n) g = by_node v e p f (Some n) g ∙ by_sort false n (h n g)
 
   taking_is : Taking → answer ≡ 0
-  taking_is (v, e, p, f, n, g, t) = by_node v e p f (some n) g ∙ by_sort true n t
+  taking_is (v, e, p, f, n, g, t) = by_node v e p f (Some n) g ∙ by_sort true n t
 
   -- it is one of the four
   which : Unknown ⊎ (Nameless ⊎ (Refusing ⊎ Taking))
   which = voice (find (is_voice w) vs) refl
     where
-      node : (v : Voice) → find (is_voice w) vs ≡ some v → (p : Param) → find (called name) (param_rows v.params) ≡ some p
+      node : (v : Voice) → find (is_voice w) vs ≡ Some v → (p : Param) → find (called name) (param_rows v.params) ≡ Some p
           → (x : Option Node) → node_at d.graph.nodes (id (v.first.0 + p.node)) ≡ x → Unknown ⊎ (Nameless ⊎ (Refusing ⊎ Taking))
-      node v e p f none g = inr (inr (inl (v, e, p, f, λ n h. absurd (none_some (sym g ∙ h)))))
-      node v e p f (some n) g = sort (takes o n) refl
+      node v e p f None g = inr (inr (inl (v, e, p, f, λ n h. absurd (none_some (sym g ∙ h)))))
+      node v e p f (Some n) g = sort (takes o n) refl
         where
           sort : (b : Bool) → takes o n ≡ b → Unknown ⊎ (Nameless ⊎ (Refusing ⊎ Taking))
           sort true t = inr (inr (inr (v, e, p, f, n, g, t)))
           sort false t = inr (inr (inl (v, e, p, f, λ k h. ap (takes o) (sym (some_inj (sym g ∙ h))) ∙ t)))
 
-      param : (v : Voice) → find (is_voice w) vs ≡ some v → (x : Option Param) → find (called name) (param_rows v.params) ≡ x → Unknown ⊎ (Nameless ⊎ (Refusing ⊎ Taking))
-      param v e none f = inr (inl (v, e, λ p i. find_none (called name) (param_rows v.params) p f i))
-      param v e (some p) f = node v e p f (node_at d.graph.nodes (id (v.first.0 + p.node))) refl
+      param : (v : Voice) → find (is_voice w) vs ≡ Some v → (x : Option Param) → find (called name) (param_rows v.params) ≡ x → Unknown ⊎ (Nameless ⊎ (Refusing ⊎ Taking))
+      param v e None f = inr (inl (v, e, λ p i. find_none (called name) (param_rows v.params) p f i))
+      param v e (Some p) f = node v e p f (node_at d.graph.nodes (id (v.first.0 + p.node))) refl
 
       voice : (x : Option Voice) → find (is_voice w) vs ≡ x → Unknown ⊎ (Nameless ⊎ (Refusing ⊎ Taking))
-      voice none e = inl (λ v i. find_none (is_voice w) vs v e i)
-      voice (some v) e = param v e (find (called name) (param_rows v.params)) refl
+      voice None e = inl (λ v i. find_none (is_voice w) vs v e i)
+      voice (Some v) e = param v e (find (called name) (param_rows v.params)) refl
 
   other : {A : Type 0} {a b : ℕ} → answer ≡ a → (a ≡ b → ⊥) → answer ≡ b → A
   other e n h = absurd (n (sym e ∙ h))
@@ -147,19 +146,19 @@ pub free_one : (w : VoiceId) (vs : List Voice) → (outcome_number (free_outcome
 free_one w vs = (go (find (is_voice w) vs) refl, λ h. ap (λ x. outcome_number (free_outcome x)) (none_find (is_voice w) vs h))
   where
     go : (x : Option Voice) → find (is_voice w) vs ≡ x → outcome_number (free_outcome x) ≡ 1 → (v : Voice) → In v vs → is_voice w v ≡ false
-    go none e h v i = find_none (is_voice w) vs v e i
-    go (some u) e h v i = absurd (omega (arith, h))
+    go None e h v i = find_none (is_voice w) vs v e i
+    go (Some u) e h v i = absurd (omega (arith, h))
 
 pub free_zero : (w : VoiceId) (vs : List Voice) → (outcome_number (free_outcome (find (is_voice w) vs)) ≡ 0) ↔ ((v : Voice) × In v vs × (is_voice w v ≡ true))
 free_zero w vs = (go (find (is_voice w) vs) refl, back (find (is_voice w) vs) refl)
   where
     go : (x : Option Voice) → find (is_voice w) vs ≡ x → outcome_number (free_outcome x) ≡ 0 → (v : Voice) × In v vs × (is_voice w v ≡ true)
-    go none e h = absurd (omega (arith, h))
-    go (some u) e h = let r = find_in (is_voice w) vs u e in (u, r.0, r.1)
+    go None e h = absurd (omega (arith, h))
+    go (Some u) e h = let r = find_in (is_voice w) vs u e in (u, r.0, r.1)
 
     back : (x : Option Voice) → find (is_voice w) vs ≡ x → (v : Voice) × In v vs × (is_voice w v ≡ true) → outcome_number (free_outcome x) ≡ 0
-    back none e h = absurd (false≢true (sym (find_none (is_voice w) vs h.0 e h.1) ∙ h.2))
-    back (some u) e h = refl
+    back None e h = absurd (false≢true (sym (find_none (is_voice w) vs h.0 e h.1) ∙ h.2))
+    back (Some u) e h = refl
 
 -- ---- "Render also answers how many events it took and hands this on for each, in event order": so many entries, and each is the outcome of its
 -- event at the moment when it is applied, after those before it

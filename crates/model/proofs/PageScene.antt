@@ -2,7 +2,7 @@
 -- one-node definition `Tone`. Managed spawns at clock 0, 16 and 32, a prepare and a render after each."
 use mathlib.Core.Path.{◌≡◌, refl}
 use mathlib.Core.List.{List, [], ◌∷◌, ◌++◌, map}
-use mathlib.Core.Option.{some}
+use Rattle.std.specs.Prelude.{Some}
 use mathlib.Core.Bool.{false}
 use lib.Ieee.{eq, of_bits, binary32}
 use Rattle.synthdef.specs.Plan.{settled}
@@ -13,7 +13,6 @@ use Rattle.prepare.specs.Live.{rising_from, live_nodes, live_ids, processing_ord
 use Rattle.prepare.specs.Required.{any, lacks, lacking}
 use Rattle.prepare.specs.Prepare.{prepare}
 use Rattle.voice.specs.Steals.{record_of}
-use Rattle.voice.specs.declared.policy.Level.TheVariants.{Known}
 use Rattle.store.specs.declared.voices.VoiceState.TheVariants.{Tracked}
 use Rattle.model.specs.Model.{Model}
 use Rattle.model.specs.Make.{new_model}
@@ -46,7 +45,7 @@ page_voices : voices page.model ≡ seen 1 0 (fading 3 32 16 0) ∷ seen 2 1 Tra
 unfolding page eq prepare processing_order lacking lacks any live_ids live_nodes rising_from whole order walk released fed among count_up settled
 page_voices = refl
 
-page_steals : page.model.shared.steals ≡ record { count = 1; newest = record_of 32 (Known (of_bits binary32 0)) false ∷ [] }
+page_steals : page.model.shared.steals ≡ record { count = 1; newest = record_of 32 (Some (of_bits binary32 0)) false ∷ [] }
 unfolding page eq prepare processing_order lacking lacks any live_ids live_nodes rising_from whole order walk released fed among count_up settled
 page_steals = refl
 
@@ -58,7 +57,7 @@ page_order = refl
 -- "Two more renders and a clearing call: it removes voice 1 and answers 1." After one more, at 32 of 40, it removes nobody.
 page_clear :
     (asked (render ∷ call.clear ∷ render ∷ call.ask (call.position (voice 1)) ∷ call.clear ∷ []) page.model
-    ≡ sounding ∷ removed 0 ∷ sounding ∷ reached (some 48) ∷ removed 1 ∷ [])
+    ≡ sounding ∷ removed 0 ∷ sounding ∷ reached (Some 48) ∷ removed 1 ∷ [])
     × (voices (further (render ∷ render ∷ call.clear ∷ []) page.model) ≡ seen 2 1 Tracked ∷ seen 3 2 Tracked ∷ [])
 unfolding page eq silence_pass_through rules prepare processing_order lacking lacks any live_ids live_nodes rising_from whole order walk released fed among count_up settled
 page_clear = (refl, refl)

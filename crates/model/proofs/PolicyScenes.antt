@@ -1,4 +1,5 @@
 -- Scenes of admission: who counts at budget, and which voice each policy and scope takes.
+use Rattle.std.specs.Prelude.{Some, None}
 use Prim.Native.Nat.{ℕ}
 use mathlib.Core.Path.{◌≡◌, refl}
 use mathlib.Core.List.{List, [], ◌∷◌}
@@ -8,7 +9,6 @@ use Rattle.level.specs.Narrow.{narrow}
 use Rattle.level.specs.Level.{squares, level_of}
 use Rattle.node.specs.declared.refusal.Refusal.TheVariants.{Rejected, NoPort}
 use Rattle.rank.specs.Order.{among, fed, released, walk, order, whole, count_up}
-use Rattle.voice.specs.declared.policy.Budget.TheVariants.{Unlimited, AtMost}
 use Rattle.voice.specs.declared.policy.BudgetScope.{BudgetScope}
 use Rattle.voice.specs.declared.policy.BudgetScope.TheVariants.{Global, PerGroup}
 use Rattle.voice.specs.declared.policy.StealPolicy.{StealPolicy}
@@ -94,7 +94,7 @@ above_budget = refl
 
 -- "Without a budget nobody is tracked, stolen or reclaimed": two ports, three spawns, 12. Refuses: a tracked voice; a reclaim.
 abbrev unlimited : Model
-unlimited = after (config Unlimited Oldest Global) (host 2 ∷ [])
+unlimited = after (config None Oldest Global) (host 2 ∷ [])
 
 no_budget :
     (asked (spawn 0 ∷ spawn 0 ∷ spawn 0 ∷ []) unlimited ≡ spawned 1 ∷ spawned 2 ∷ not_spawned NoPort ∷ [])
@@ -106,7 +106,7 @@ no_budget = (refl, refl, refl)
 -- ---- scope: voices 1 and 3 on bus 0, voice 2 on bus 1, then one on bus 1. All count, and the oldest is stolen, of another bus; or
 -- those of the bus count, and the oldest of them is stolen. Refuses: a scope that is not asked; a victim of another bus under `PerGroup`.
 abbrev buses : ℕ → BudgetScope → Model
-buses n scope = after (config (AtMost n) Oldest scope) (host 3 ∷ host 3 ∷ spawn 0 ∷ spawn 1 ∷ spawn 0 ∷ spawn 1 ∷ [])
+buses n scope = after (config (Some n) Oldest scope) (host 3 ∷ host 3 ∷ spawn 0 ∷ spawn 1 ∷ spawn 0 ∷ spawn 1 ∷ [])
 
 by_scope :
     (voices (buses 3 Global) ≡ seen 1 0 (fading 5 0 0 0) ∷ seen 2 0 Tracked ∷ seen 3 1 Tracked ∷ seen 4 1 Tracked ∷ [])

@@ -7,14 +7,12 @@ use lib.Ieee.{eq, lt, le, add, mul, div, of_int, of_bits}
 use Rattle.level.specs.Root.{root_of, sqrt}
 use Rattle.level.specs.Narrow.{narrow}
 use Rattle.level.specs.Level.{squares, level_of}
-use Rattle.lists.specs.Filter.{filter}
+use Rattle.std.specs.Prelude.{filter, None, Some}
 use Rattle.node.specs.declared.refusal.Refusal.TheVariants.{RankTooHigh, DefinitionLimits, UnknownNode, Rejected, NoPort}
 use Rattle.rank.specs.Order.{among, fed, released, walk, order, whole, count_up}
 use Rattle.voice.specs.Steals.{record_of}
-use Rattle.voice.specs.declared.policy.Budget.TheVariants.{Unlimited, AtMost}
 use Rattle.voice.specs.declared.policy.BudgetScope.{BudgetScope}
 use Rattle.voice.specs.declared.policy.BudgetScope.TheVariants.{Global, PerGroup}
-use Rattle.voice.specs.declared.policy.Level.TheVariants.{Unknown}
 use Rattle.voice.specs.declared.policy.StealPolicy.{StealPolicy}
 use Rattle.voice.specs.declared.policy.StealPolicy.TheVariants.{Reject, Oldest, Newest, Quietest}
 use Rattle.store.specs.declared.voices.VoiceState.TheVariants.{Tracked}
@@ -92,7 +90,7 @@ for_a_port :
     × (further (ranked 4 0 ∷ []) one_port ≡ one_port)
     × (asked (ranked 5 0 ∷ []) one_port ≡ spawned 2 ∷ [])
     × (voices (further (ranked 5 0 ∷ []) one_port) ≡ seen 2 0 Tracked ∷ [])
-    × ((further (ranked 5 0 ∷ []) one_port).shared.steals.newest ≡ record_of 0 Unknown true ∷ [])
+    × ((further (ranked 5 0 ∷ []) one_port).shared.steals.newest ≡ record_of 0 None true ∷ [])
 unfolding eq whole order walk released fed among count_up
 for_a_port = (refl, refl, refl, refl, refl)
 
@@ -130,12 +128,12 @@ fades_go = (refl, refl, refl)
 -- ---- Who counts: under `PerGroup` a pedal voice of another bus neither fills the budget nor is asked; under `Global` it is. Without a budget no
 -- rank is asked. A loose voice holds its port against every rank. Refuses: ranks that are asked without a budget; a loose voice reclaimed by a higher rank.
 abbrev buses : BudgetScope → Model
-buses scope = after (config (AtMost 1) Oldest scope) (host 1 ∷ host 1 ∷ ranked 5 0 ∷ [])
+buses scope = after (config (Some 1) Oldest scope) (host 1 ∷ host 1 ∷ ranked 5 0 ∷ [])
 
 by_scope :
     (asked (spawn 1 ∷ []) (buses PerGroup) ≡ spawned 2 ∷ [])
     × (asked (spawn 1 ∷ []) (buses Global) ≡ not_spawned Rejected ∷ [])
-    × (asked (spawn 0 ∷ []) (after (config Unlimited Oldest Global) (host 2 ∷ ranked 7 0 ∷ [])) ≡ spawned 2 ∷ [])
+    × (asked (spawn 0 ∷ []) (after (config None Oldest Global) (host 2 ∷ ranked 7 0 ∷ [])) ≡ spawned 2 ∷ [])
     × (asked (spawn 0 ∷ ranked 7 0 ∷ []) (after (up_to 1 Oldest) (host 1 ∷ call.spawn_loose (spawn_of tone_def (id 0) (float 0) 0) ∷ [])) ≡ not_spawned NoPort ∷ not_spawned NoPort ∷ [])
 unfolding eq whole order walk released fed among count_up
 by_scope = (refl, refl, refl, refl)

@@ -3,18 +3,16 @@
 use Prim.Native.Nat.{ℕ}
 use mathlib.Core.Path.{◌≡◌, refl}
 use mathlib.Core.List.{List, [], ◌∷◌, ◌++◌, map}
-use mathlib.Core.Option.{none, some}
+use Rattle.std.specs.Prelude.{None, Some}
 use mathlib.Core.Bool.{true, false}
 use lib.ListN.{replicate}
 use lib.Ieee.{eq}
 use Rattle.edges.specs.Ports.{sources_from}
-use Rattle.edges.specs.declared.ports.Source.TheVariants.{From, Nothing}
 use Rattle.node.specs.Silence.{bytes, silence_pass_through, rules}
 use Rattle.node.specs.declared.order.LastOrder.TheVariants as LastOrder
 use Rattle.node.specs.declared.refusal.Refusal.TheVariants.{ShortBuffer}
 use Rattle.rank.specs.Order as rank
 use Rattle.rank.specs.Order.{among, released, walk, order, whole, count_up}
-use Rattle.voice.specs.declared.policy.Level.TheVariants.{Unknown, Known}
 use Rattle.voice.specs.declared.policy.StealPolicy.TheVariants.{Oldest}
 use Rattle.model.specs.Decimal.{decimal}
 use Rattle.model.specs.Voice.{id}
@@ -31,8 +29,8 @@ told qs m = asked (map call.ask qs) m
 -- ---- voices: all, in voice order; by id, known or not; by place. Refuses: nobody; a known voice that is not found; an unknown one that is; places from 1.
 voices :
     told (call.voices ∷ call.voice (voice 1) ∷ call.voice (voice 2) ∷ call.voice (voice 9) ∷ call.voice_at 0 ∷ call.voice_at 3 ∷ call.voice_at 4 ∷ []) (heard key1)
-    ≡ all (v1 (fades 1) ∷ v2 ∷ v3 ∷ v4 ∷ []) ∷ found (some (v1 (fades 1))) ∷ found (some v2) ∷ found none ∷ found (some (v1 (fades 1))) ∷ found (some v4)
-    ∷ found none ∷ []
+    ≡ all (v1 (fades 1) ∷ v2 ∷ v3 ∷ v4 ∷ []) ∷ found (Some (v1 (fades 1))) ∷ found (Some v2) ∷ found None ∷ found (Some (v1 (fades 1))) ∷ found (Some v4)
+    ∷ found None ∷ []
 unfolding eq silence_pass_through rules whole order walk released rank.fed among count_up
 voices = refl
 
@@ -42,7 +40,7 @@ states :
     told
     (call.position (voice 1) ∷ call.position (voice 2) ∷ call.position (voice 3) ∷ call.position (voice 9) ∷ call.level (voice 1) ∷ call.level (voice 2) ∷ call.level (voice 9)
     ∷ []) (heard (key true 5 (value 7)))
-    ≡ reached (some 1) ∷ reached none ∷ reached none ∷ reached none ∷ known (Known (float 3)) ∷ known (Known (float 0)) ∷ known Unknown ∷ []
+    ≡ reached (Some 1) ∷ reached None ∷ reached None ∷ reached None ∷ known (Some (float 3)) ∷ known (Some (float 0)) ∷ known None ∷ []
 unfolding eq silence_pass_through rules whole order walk released rank.fed among count_up
 states = refl
 
@@ -50,15 +48,15 @@ states = refl
 -- node; a node that is not there.
 records :
     told (call.node_record (id 2) ∷ call.node_record (id 4) ∷ call.node_record (id 0) ∷ call.node_record (id 13) ∷ []) (heard (key true 5 (value 7)))
-    ≡ found_node (some (key true 5 (value 7))) ∷ found_node (some (node 4 1 "Mul" 2 1 true true false 3 LastOrder.Nothing)) ∷ found_node (some fx) ∷ found_node none ∷ []
+    ≡ found_node (Some (key true 5 (value 7))) ∷ found_node (Some (node 4 1 "Mul" 2 1 true true false 3 LastOrder.Nothing)) ∷ found_node (Some fx) ∷ found_node None ∷ []
 unfolding eq silence_pass_through rules whole order walk released rank.fed among count_up
 records = refl
 
 -- ---- the rest: records of steals, edges, order, sources port by port, clock. Refuses: sources of another node; sources by edge order.
 rest :
     told (call.steals ∷ call.edges ∷ call.processing ∷ call.sources (id 1) ∷ call.sources (id 4) ∷ call.sources (id 9) ∷ call.sources (id 13) ∷ call.clock ∷ []) (heard key1)
-    ≡ stolen one ∷ wires edges ∷ in_order (2 ∷ 3 ∷ 5 ∷ 7 ∷ 8 ∷ 10 ∷ 12 ∷ 4 ∷ 9 ∷ 6 ∷ 11 ∷ 1 ∷ 0 ∷ []) ∷ fed (From (id 11) ∷ From (id 9) ∷ From (id 10) ∷ From (id 12) ∷ replicate 60 Nothing)
-    ∷ fed (From (id 2) ∷ From (id 3) ∷ replicate 62 Nothing) ∷ fed (From (id 7) ∷ From (id 8) ∷ replicate 62 Nothing) ∷ fed (replicate 64 Nothing) ∷ time 3 ∷ []
+    ≡ stolen one ∷ wires edges ∷ in_order (2 ∷ 3 ∷ 5 ∷ 7 ∷ 8 ∷ 10 ∷ 12 ∷ 4 ∷ 9 ∷ 6 ∷ 11 ∷ 1 ∷ 0 ∷ []) ∷ fed (Some (id 11) ∷ Some (id 9) ∷ Some (id 10) ∷ Some (id 12) ∷ replicate 60 None)
+    ∷ fed (Some (id 2) ∷ Some (id 3) ∷ replicate 62 None) ∷ fed (Some (id 7) ∷ Some (id 8) ∷ replicate 62 None) ∷ fed (replicate 64 None) ∷ time 3 ∷ []
 unfolding eq silence_pass_through rules whole order walk released rank.fed among count_up sources_from
 rest = refl
 

@@ -1,4 +1,5 @@
 -- Scenes of stealing and reclaiming: who goes when a bus has no free port, who fades and who cannot, and what the records say.
+use Rattle.std.specs.Prelude.{Some, None}
 use Prim.Native.Nat.{ℕ}
 use mathlib.Core.Path.{◌≡◌, refl}
 use mathlib.Core.List.{List, [], ◌∷◌, ◌++◌}
@@ -13,9 +14,7 @@ use Rattle.prepare.specs.Live.{rising_from, live_nodes, live_ids, processing_ord
 use Rattle.prepare.specs.Required.{any, lacks, lacking}
 use Rattle.prepare.specs.Prepare.{prepare}
 use Rattle.voice.specs.Steals.{StealLog, record_of}
-use Rattle.voice.specs.declared.policy.Budget.TheVariants.{AtMost}
 use Rattle.voice.specs.declared.policy.BudgetScope.TheVariants.{PerGroup}
-use Rattle.voice.specs.declared.policy.Level.TheVariants.{Unknown, Known}
 use Rattle.voice.specs.declared.policy.StealPolicy.TheVariants.{Reject, Oldest, Newest, Quietest}
 use Rattle.voice.specs.declared.steals.StealRecord.{StealRecord}
 use Rattle.store.specs.declared.voices.VoiceState.TheVariants.{Tracked, Loose}
@@ -36,7 +35,7 @@ one = after (up_to 1 Oldest) (host 1 ∷ spawn 0 ∷ [])
 own_fade :
     (asked (spawn 0 ∷ []) one ≡ spawned 2 ∷ [])
     × (voices (further (spawn 0 ∷ []) one) ≡ seen 2 0 Tracked ∷ [])
-    × ((further (spawn 0 ∷ []) one).shared.steals ≡ book 1 (record_of 0 Unknown true ∷ []))
+    × ((further (spawn 0 ∷ []) one).shared.steals ≡ book 1 (record_of 0 None true ∷ []))
 unfolding eq whole order walk released fed among count_up
 own_fade = (refl, refl, refl)
 
@@ -48,7 +47,7 @@ taken = after (up_to 2 Oldest) (host 2 ∷ host 0 ∷ spawn 0 ∷ spawn 0 ∷ wi
 emptied :
     (asked (spawn 0 ∷ []) taken ≡ not_spawned NoPort ∷ [])
     × (voices (further (spawn 0 ∷ []) taken) ≡ [])
-    × ((further (spawn 0 ∷ []) taken).shared.steals ≡ book 2 (record_of 0 Unknown true ∷ record_of 0 Unknown true ∷ []))
+    × ((further (spawn 0 ∷ []) taken).shared.steals ≡ book 2 (record_of 0 None true ∷ record_of 0 None true ∷ []))
 unfolding eq whole order walk released fed among count_up
 emptied = (refl, refl, refl)
 
@@ -60,9 +59,9 @@ unfed calls = after (small 2 Oldest) (host 4 ∷ host 0 ∷ spawn 0 ∷ spawn 0 
 
 cannot_fade :
     (voices (unfed (wire 1 0 0 ∷ [])) ≡ seen 2 1 Tracked ∷ seen 3 2 Tracked ∷ [])
-    × ((unfed (wire 1 0 0 ∷ [])).shared.steals ≡ book 1 (record_of 1 (Known (inf false)) true ∷ []))
+    × ((unfed (wire 1 0 0 ∷ [])).shared.steals ≡ book 1 (record_of 1 (Some (inf false)) true ∷ []))
     × (voices (unfed []) ≡ seen 1 0 (fading 4 1 0 0) ∷ seen 2 1 Tracked ∷ seen 3 2 Tracked ∷ [])
-    × ((unfed []).shared.steals ≡ book 1 (record_of 1 (Known (inf false)) false ∷ []))
+    × ((unfed []).shared.steals ≡ book 1 (record_of 1 (Some (inf false)) false ∷ []))
 unfolding eq level_of squares root_of sqrt narrow add mul div of_int of_bits whole order walk released fed among count_up
 cannot_fade = (refl, refl, refl, refl)
 
@@ -77,7 +76,7 @@ earliest_first :
     (voices starts ≡ seen 1 0 (fading 5 2 0 1) ∷ seen 2 1 (fading 3 1 0 0) ∷ seen 3 2 Tracked ∷ seen 4 3 Tracked ∷ [])
     × (voices (further (spawn 0 ∷ []) starts) ≡ seen 1 0 (fading 5 2 0 1) ∷ seen 3 2 (fading 7 2 0 2) ∷ seen 4 3 Tracked ∷ seen 5 1 Tracked ∷ [])
     × ((further (spawn 0 ∷ []) starts).shared.steals
-    ≡ book 3 (record_of 1 (Known (float 0)) true ∷ record_of 2 (Known (float 3)) false ∷ record_of 2 (Known (inf false)) false ∷ []))
+    ≡ book 3 (record_of 1 (Some (float 0)) true ∷ record_of 2 (Some (float 3)) false ∷ record_of 2 (Some (inf false)) false ∷ []))
 unfolding eq lt le level_of squares root_of sqrt narrow add mul div of_int of_bits whole order walk released fed among count_up
 earliest_first = (refl, refl, refl)
 
@@ -90,7 +89,7 @@ ties_by_order :
     (voices ties ≡ seen 1 0 (fading 5 1 0 1) ∷ seen 2 1 (fading 3 1 0 0) ∷ seen 3 2 Tracked ∷ seen 4 3 Tracked ∷ [])
     × (voices (further (spawn 0 ∷ []) ties) ≡ seen 2 1 (fading 3 1 0 0) ∷ seen 3 2 (fading 7 1 0 2) ∷ seen 4 3 Tracked ∷ seen 5 0 Tracked ∷ [])
     × ((further (spawn 0 ∷ []) ties).shared.steals
-    ≡ book 3 (record_of 1 (Known (float 0)) false ∷ record_of 1 (Known (inf false)) true ∷ record_of 1 Unknown false ∷ []))
+    ≡ book 3 (record_of 1 (Some (float 0)) false ∷ record_of 1 (Some (inf false)) true ∷ record_of 1 None false ∷ []))
 unfolding eq lt le level_of squares root_of sqrt narrow add mul div of_int of_bits whole order walk released fed among count_up
 ties_by_order = (refl, refl, refl)
 
@@ -99,7 +98,7 @@ ties_by_order = (refl, refl, refl)
 -- Refuses: the policy's victim among all voices; a loose victim; an uncut record; the admission's victim only.
 tracked_goes :
     (voices (after (up_to 9 Oldest) (host 1 ∷ host 2 ∷ spawn 0 ∷ spawn_loose 1 ∷ spawn 1 ∷ spawn 1 ∷ [])) ≡ seen 1 0 Tracked ∷ seen 2 0 Loose ∷ seen 4 1 Tracked ∷ [])
-    × ((after (up_to 9 Oldest) (host 1 ∷ host 2 ∷ spawn 0 ∷ spawn_loose 1 ∷ spawn 1 ∷ spawn 1 ∷ [])).shared.steals ≡ book 1 (record_of 0 Unknown true ∷ []))
+    × ((after (up_to 9 Oldest) (host 1 ∷ host 2 ∷ spawn 0 ∷ spawn_loose 1 ∷ spawn 1 ∷ spawn 1 ∷ [])).shared.steals ≡ book 1 (record_of 0 None true ∷ []))
     × (voices (after (up_to 9 Newest) (host 2 ∷ spawn 0 ∷ spawn 0 ∷ spawn 0 ∷ [])) ≡ seen 1 0 Tracked ∷ seen 3 1 Tracked ∷ [])
 unfolding eq whole order walk released fed among count_up
 tracked_goes = (refl, refl, refl)
@@ -117,13 +116,13 @@ quiet a b = after (small 9 Quietest) (host 2 ∷ spawn 0 ∷ spawn 0 ∷ render 
 quietest_goes :
     (voices (quiet 3 1) ≡ seen 1 0 Tracked ∷ seen 3 1 Tracked ∷ [])
     × (voices (quiet 1 3) ≡ seen 2 1 Tracked ∷ seen 3 0 Tracked ∷ [])
-    × ((quiet 3 1).shared.steals ≡ book 1 (record_of 1 (Known (float 1)) true ∷ []))
+    × ((quiet 3 1).shared.steals ≡ book 1 (record_of 1 (Some (float 1)) true ∷ []))
 unfolding eq lt le level_of squares root_of sqrt narrow add mul div of_int of_bits whole order walk released fed among count_up
 quietest_goes = (refl, refl, refl)
 
 -- Fades of another bus are not reclaimed: voice 1 fades on bus 0; bus 1 has one port, which voice 2 holds. Refuses: any fade.
 other_bus :
-    voices (after (config (AtMost 1) Oldest PerGroup) (host 2 ∷ host 1 ∷ spawn 0 ∷ spawn 0 ∷ spawn 1 ∷ spawn 1 ∷ []))
+    voices (after (config (Some 1) Oldest PerGroup) (host 2 ∷ host 1 ∷ spawn 0 ∷ spawn 0 ∷ spawn 1 ∷ spawn 1 ∷ []))
     ≡ seen 1 0 (fading 3 0 0 0) ∷ seen 2 1 Tracked ∷ seen 4 0 Tracked ∷ []
 unfolding eq whole order walk released fed among count_up
 other_bus = refl
@@ -133,7 +132,7 @@ other_bus = refl
 portless :
     (voices (after (up_to 1 Oldest) (host 2 ∷ host 0 ∷ spawn 0 ∷ spawn 0 ∷ wire 1 0 0 ∷ spawn 0 ∷ [])) ≡ seen 3 1 Tracked ∷ [])
     × ((after (up_to 1 Oldest) (host 2 ∷ host 0 ∷ spawn 0 ∷ spawn 0 ∷ wire 1 0 0 ∷ spawn 0 ∷ [])).shared.steals
-    ≡ book 2 (record_of 0 Unknown true ∷ record_of 0 Unknown true ∷ []))
+    ≡ book 2 (record_of 0 None true ∷ record_of 0 None true ∷ []))
 unfolding eq whole order walk released fed among count_up
 portless = (refl, refl)
 
@@ -145,7 +144,7 @@ over = after (up_to 1 Oldest) (host 2 ∷ sink 0 ∷ spawn 0 ∷ spawn 0 ∷ cal
 ended_reclaimed :
     (voices over ≡ seen 1 0 (fading 2 0 48 0) ∷ seen 2 1 Tracked ∷ [])
     × (voices (further (spawn 0 ∷ []) over) ≡ seen 2 1 (fading 4 48 0 1) ∷ seen 3 0 Tracked ∷ [])
-    × ((further (spawn 0 ∷ []) over).shared.steals.newest ≡ record_of 0 Unknown true ∷ record_of 48 (Known (of_bits binary32 0)) false ∷ [])
+    × ((further (spawn 0 ∷ []) over).shared.steals.newest ≡ record_of 0 None true ∷ record_of 48 (Some (of_bits binary32 0)) false ∷ [])
 unfolding eq prepare processing_order lacking lacks any live_ids live_nodes rising_from whole order walk released fed among count_up
 ended_reclaimed = (refl, refl, refl)
 
@@ -158,7 +157,7 @@ unfolding eq whole order walk released fed among count_up
 nobody_goes = (refl, refl, refl)
 
 -- ---- A free marks no record cut. Refuses: a mark for every fade that leaves.
-free_marks_none : (after (up_to 1 Oldest) (host 2 ∷ spawn 0 ∷ spawn 0 ∷ free 1 ∷ [])).shared.steals ≡ book 1 (record_of 0 Unknown false ∷ [])
+free_marks_none : (after (up_to 1 Oldest) (host 2 ∷ spawn 0 ∷ spawn 0 ∷ free 1 ∷ [])).shared.steals ≡ book 1 (record_of 0 None false ∷ [])
 unfolding eq whole order walk released fed among count_up
 free_marks_none = refl
 
@@ -172,6 +171,6 @@ bus_removed :
     (voices busless ≡ seen 1 0 (fading 3 0 16 0) ∷ seen 2 1 Tracked ∷ [])
     × (asked (spawn 1 ∷ spawn 1 ∷ []) busless ≡ spawned 3 ∷ spawned 4 ∷ [])
     × (voices (further (spawn 1 ∷ spawn 1 ∷ []) busless) ≡ seen 1 0 (fading 3 0 16 0) ∷ seen 4 0 Tracked ∷ [])
-    × ((further (spawn 1 ∷ []) busless).shared.steals.newest ≡ record_of 0 Unknown false ∷ record_of 16 (Known (of_bits binary32 0)) true ∷ [])
+    × ((further (spawn 1 ∷ []) busless).shared.steals.newest ≡ record_of 0 None false ∷ record_of 16 (Some (of_bits binary32 0)) true ∷ [])
 unfolding eq prepare processing_order lacking lacks any live_ids live_nodes rising_from whole order walk released fed among count_up
 bus_removed = (refl, refl, refl, refl)

@@ -1,5 +1,6 @@
 -- Scenes of the newest 64 records: "mark its record, if still held, cut". A record is still held if its number is at least the
 -- total less 64, counted after this spawn's own admission record.
+use Rattle.std.specs.Prelude.{Some}
 use Prim.Native.Nat.{ℕ, zero, suc}
 use mathlib.Core.Path.{◌≡◌, refl}
 use mathlib.Core.List.{List, [], ◌∷◌, map}
@@ -7,7 +8,6 @@ use mathlib.Core.Bool.{Bool, true, false}
 use lib.ListN.{replicate}
 use lib.Ieee.{eq}
 use Rattle.rank.specs.Order.{among, fed, released, walk, order, whole, count_up}
-use Rattle.voice.specs.declared.policy.Budget.TheVariants.{AtMost}
 use Rattle.voice.specs.declared.policy.BudgetScope.TheVariants.{PerGroup}
 use Rattle.voice.specs.declared.policy.StealPolicy.TheVariants.{Oldest}
 use Rattle.store.specs.declared.voices.VoiceState.TheVariants.{Tracked}
@@ -23,7 +23,7 @@ steals (suc n) w = spawn 1 ∷ free w ∷ steals n (suc w)
 -- voice 1 fades on bus 0, of 2 ports, with record 0; then n more records; then a spawn on bus 0 steals voice 2, finds no port and
 -- reclaims voice 1
 abbrev many : ℕ → Model
-many n = further (spawn 0 ∷ []) (after (config (AtMost 1) Oldest PerGroup) (host 2 ∷ host 2 ∷ spawn 0 ∷ spawn 0 ∷ spawn 1 ∷ steals n 3))
+many n = further (spawn 0 ∷ []) (after (config (Some 1) Oldest PerGroup) (host 2 ∷ host 2 ∷ spawn 0 ∷ spawn 0 ∷ spawn 1 ∷ steals n 3))
 
 abbrev marks : Model → List Bool
 marks m = map (λ r. r.cut) m.shared.steals.newest

@@ -3,20 +3,17 @@
 use Prim.Native.Nat.{ℕ}
 use mathlib.Core.Path.{◌≡◌, refl}
 use mathlib.Core.List.{List, [], ◌∷◌, ◌++◌, map}
-use mathlib.Core.Option.{Option, none, some}
+use Rattle.std.specs.Prelude.{Option, None, Some, option_map}
 use mathlib.Core.Bool.{true, false}
 use lib.IntN.{pos, negsuc}
 use lib.ListN.{replicate}
 use lib.Ieee.{Float, nan, inf, fin, eq}
-use Rattle.lists.specs.Find.{map_o}
 use Rattle.node.specs.Refusal.{number_of}
 use Rattle.node.specs.Silence.{bytes}
 use Rattle.node.specs.declared.record.Node.{Node}
 use Rattle.bus.specs.Rate.{rate_of}
 use Rattle.graph.specs.Node.{host_node, with_id}
 use Rattle.rank.specs.Order.{among, fed, released, walk, order, whole, count_up}
-use Rattle.voice.specs.declared.policy.Budget.{Budget}
-use Rattle.voice.specs.declared.policy.Budget.TheVariants.{Unlimited, AtMost}
 use Rattle.voice.specs.declared.policy.BudgetScope.TheVariants.{Global}
 use Rattle.voice.specs.declared.policy.StealPolicy.TheVariants.{Oldest, Reject}
 use Rattle.synthdef.specs.declared.def.SynthDef.{SynthDef}
@@ -36,8 +33,8 @@ abbrev numbers : List Call → Model → List (Option ℕ)
 numbers calls m = map number_in (asked calls m)
 
 -- ---- making: 1, 2, 3; the 20 of the fade table is in `TableScenes`
-abbrev making : Float → ℕ → Budget → Option ℕ
-making rate block budget = map_o number_of (refusal_of (record { rate = rate; block = block; budget = budget; policy = Oldest; scope = Global; table = false }))
+abbrev making : Float → ℕ → Option ℕ → Option ℕ
+making rate block budget = option_map number_of (refusal_of (record { rate = rate; block = block; budget = budget; policy = Oldest; scope = Global; table = false }))
 
 -- 8000
 abbrev rate : Float
@@ -45,16 +42,16 @@ rate = fin false 125 (pos 6)
 
 -- Refuses: an order other than 1, 2, 3; a block of 0; a budget of 0 or none refused, 65 taken.
 makings :
-    (making nan 0 (AtMost 65) ≡ some 1) × (making rate 0 (AtMost 65) ≡ some 2) × (making rate 129 Unlimited ≡ some 2) × (making rate 16 (AtMost 65) ≡ some 3)
-    × (making rate 128 (AtMost 64) ≡ none) × (making rate 1 (AtMost 0) ≡ none) × (making rate 1 Unlimited ≡ none)
+    (making nan 0 (Some 65) ≡ Some 1) × (making rate 0 (Some 65) ≡ Some 2) × (making rate 129 None ≡ Some 2) × (making rate 16 (Some 65) ≡ Some 3)
+    × (making rate 128 (Some 64) ≡ None) × (making rate 1 (Some 0) ≡ None) × (making rate 1 None ≡ None)
 unfolding rate_of
 makings = (refl, refl, refl, refl, refl, refl, refl)
 
 -- 1, 384,000; 0, -1, 384,001, 44,100.5, the infinities
 rates :
-    (making (float 1) 1 Unlimited ≡ none) × (making (fin false 375 (pos 10)) 1 Unlimited ≡ none)
-    × (making (float 0) 1 Unlimited ≡ some 1) × (making (fin true 1 (pos 0)) 1 Unlimited ≡ some 1) × (making (float 384001) 1 Unlimited ≡ some 1)
-    × (making (fin false 88201 (negsuc 0)) 1 Unlimited ≡ some 1) × (making (inf false) 1 Unlimited ≡ some 1) × (making (inf true) 1 Unlimited ≡ some 1)
+    (making (float 1) 1 None ≡ None) × (making (fin false 375 (pos 10)) 1 None ≡ None)
+    × (making (float 0) 1 None ≡ Some 1) × (making (fin true 1 (pos 0)) 1 None ≡ Some 1) × (making (float 384001) 1 None ≡ Some 1)
+    × (making (fin false 88201 (negsuc 0)) 1 None ≡ Some 1) × (making (inf false) 1 None ≡ Some 1) × (making (inf true) 1 None ≡ Some 1)
 unfolding rate_of
 rates = (refl, refl, refl, refl, refl, refl, refl, refl)
 
@@ -83,11 +80,11 @@ wired = after (up_to 9 Reject) (host 2 ∷ host 0 ∷ spawn 0 ∷ host 1 ∷ cal
 -- removing, the sink: 4, 5. Disconnecting: 4, 5, 6. Connecting: 4 of either node, 5 of either, 6. Refuses: 5 or 6 first.
 host_calls :
     (numbers (call.remove_node (id 9) ∷ call.remove_node (id 3) ∷ call.remove_node (id 2) ∷ sink 3 ∷ sink 2 ∷ []) wired
-    ≡ some 4 ∷ some 4 ∷ some 5 ∷ some 4 ∷ some 5 ∷ [])
+    ≡ Some 4 ∷ Some 4 ∷ Some 5 ∷ Some 4 ∷ Some 5 ∷ [])
     × (numbers (unwire 9 0 ∷ unwire 2 0 ∷ unwire 1 0 ∷ unwire 0 2 ∷ unwire 0 1 ∷ unwire 0 1 ∷ []) wired
-    ≡ some 4 ∷ some 5 ∷ some 6 ∷ some 6 ∷ none ∷ none ∷ [])
+    ≡ Some 4 ∷ Some 5 ∷ Some 6 ∷ Some 6 ∷ None ∷ None ∷ [])
     × (numbers (wire 2 9 0 ∷ wire 3 2 0 ∷ wire 2 1 5 ∷ wire 1 2 5 ∷ wire 1 0 2 ∷ wire 1 0 1 ∷ []) wired
-    ≡ some 4 ∷ some 4 ∷ some 5 ∷ some 5 ∷ some 6 ∷ none ∷ [])
+    ≡ Some 4 ∷ Some 4 ∷ Some 5 ∷ Some 5 ∷ Some 6 ∷ None ∷ [])
 unfolding eq whole order walk released fed among count_up
 host_calls = (refl, refl, refl)
 
@@ -95,9 +92,9 @@ host_calls = (refl, refl, refl)
 -- place, also a voice's. With 1,023 there is a place for one more. Refuses: 7 for a replaced edge; 7 before 6.
 edges_full :
     (numbers (wire 1 0 2 ∷ wire 1 0 0 ∷ wire 1 0 1 ∷ unwire 0 1 ∷ wire 1 0 1 ∷ []) (crowded 0 1022 4 1 wired)
-    ≡ some 6 ∷ none ∷ none ∷ none ∷ none ∷ [])
-    × (numbers (wire 1 0 1 ∷ []) (crowded 0 1023 2 0 (after (up_to 9 Reject) (host 2 ∷ host 0 ∷ []))) ≡ none ∷ [])
-    × (numbers (wire 1 0 2 ∷ wire 1 0 1 ∷ []) (crowded 0 1024 2 0 (after (up_to 9 Reject) (host 2 ∷ host 0 ∷ []))) ≡ some 6 ∷ some 7 ∷ [])
+    ≡ Some 6 ∷ None ∷ None ∷ None ∷ None ∷ [])
+    × (numbers (wire 1 0 1 ∷ []) (crowded 0 1023 2 0 (after (up_to 9 Reject) (host 2 ∷ host 0 ∷ []))) ≡ None ∷ [])
+    × (numbers (wire 1 0 2 ∷ wire 1 0 1 ∷ []) (crowded 0 1024 2 0 (after (up_to 9 Reject) (host 2 ∷ host 0 ∷ []))) ≡ Some 6 ∷ Some 7 ∷ [])
 unfolding eq whole order walk released fed among count_up
 edges_full = (refl, refl, refl)
 
@@ -106,12 +103,12 @@ abbrev bare : Model
 bare = after (up_to 9 Reject) []
 
 adds :
-    (numbers (host 64 ∷ host 64 ∷ host 65 ∷ call.add_node [] 1 0 false false ∷ []) (crowded 511 0 4294967295 0 bare) ≡ none ∷ some 7 ∷ some 6 ∷ some 6 ∷ [])
-    × (numbers (host 64 ∷ host 64 ∷ host 65 ∷ []) (crowded 510 0 4294967295 0 bare) ≡ none ∷ some 8 ∷ some 6 ∷ [])
+    (numbers (host 64 ∷ host 64 ∷ host 65 ∷ call.add_node [] 1 0 false false ∷ []) (crowded 511 0 4294967295 0 bare) ≡ None ∷ Some 7 ∷ Some 6 ∷ Some 6 ∷ [])
+    × (numbers (host 64 ∷ host 64 ∷ host 65 ∷ []) (crowded 510 0 4294967295 0 bare) ≡ None ∷ Some 8 ∷ Some 6 ∷ [])
     × (numbers
     (call.add_node (replicate 16 65) 1 0 false false ∷ call.add_node (replicate 17 65) 1 0 false false ∷ call.add_node (bytes "Fx") 1 1 false false
     ∷ call.add_node (bytes "Fx") 1 2 false false ∷ []) bare
-    ≡ none ∷ some 6 ∷ none ∷ some 6 ∷ [])
+    ≡ None ∷ Some 6 ∷ None ∷ Some 6 ∷ [])
 adds = (refl, refl, refl)
 
 -- ---- spawns: 9; 4, 5; 10; 7; 8; 11; 12
@@ -125,9 +122,9 @@ loose def b = call.spawn_loose (spawn_of def (id b) (float 0) 0)
 -- none; 10. Refuses: 4 first; 10 first.
 bus_refused :
     (numbers (managed (tones 25 0) 9 ∷ managed (tones 0 0) 9 ∷ managed (tones 24 0) 9 ∷ managed tone_def 3 ∷ managed tone_def 2 ∷ managed tone_def 1 ∷ managed (tones 24 0) 0 ∷ []) wired
-    ≡ some 9 ∷ some 9 ∷ some 4 ∷ some 4 ∷ some 5 ∷ some 10 ∷ some 12 ∷ [])
+    ≡ Some 9 ∷ Some 9 ∷ Some 4 ∷ Some 4 ∷ Some 5 ∷ Some 10 ∷ Some 12 ∷ [])
     × (numbers (loose (tones 25 0) 9 ∷ loose (tones 0 0) 9 ∷ loose (tones 24 0) 9 ∷ loose tone_def 3 ∷ loose tone_def 2 ∷ loose tone_def 1 ∷ loose tone_def 0 ∷ []) wired
-    ≡ some 9 ∷ some 9 ∷ some 4 ∷ some 4 ∷ some 5 ∷ some 10 ∷ some 12 ∷ [])
+    ≡ Some 9 ∷ Some 9 ∷ Some 4 ∷ Some 4 ∷ Some 5 ∷ Some 10 ∷ Some 12 ∷ [])
 unfolding eq whole order walk released fed among count_up
 bus_refused = (refl, refl)
 
@@ -137,22 +134,22 @@ abbrev held : Model
 held = after (up_to 1 Reject) (host 1 ∷ host 0 ∷ spawn 0 ∷ [])
 
 in_order :
-    (numbers (spawn 1 ∷ spawn 0 ∷ spawn_loose 0 ∷ []) (crowded 506 0 4294967293 1 held) ≡ some 10 ∷ some 7 ∷ some 7 ∷ [])
-    × (numbers (spawn 0 ∷ spawn_loose 0 ∷ []) (crowded 505 0 4294967293 1 held) ≡ some 8 ∷ some 8 ∷ [])
-    × (numbers (spawn 0 ∷ spawn_loose 0 ∷ []) (crowded 505 0 4294967292 1 held) ≡ some 11 ∷ some 12 ∷ [])
-    × (numbers (spawn 0 ∷ []) (crowded 0 0 3 18446744073709551615 held) ≡ some 8 ∷ [])
-    × (numbers (spawn 0 ∷ []) (crowded 0 0 3 18446744073709551614 held) ≡ some 11 ∷ [])
-    × (numbers (spawn 0 ∷ []) (crowded 0 1020 3 1 held) ≡ some 7 ∷ [])
-    × (numbers (spawn 0 ∷ []) (crowded 0 1019 3 1 held) ≡ some 11 ∷ [])
+    (numbers (spawn 1 ∷ spawn 0 ∷ spawn_loose 0 ∷ []) (crowded 506 0 4294967293 1 held) ≡ Some 10 ∷ Some 7 ∷ Some 7 ∷ [])
+    × (numbers (spawn 0 ∷ spawn_loose 0 ∷ []) (crowded 505 0 4294967293 1 held) ≡ Some 8 ∷ Some 8 ∷ [])
+    × (numbers (spawn 0 ∷ spawn_loose 0 ∷ []) (crowded 505 0 4294967292 1 held) ≡ Some 11 ∷ Some 12 ∷ [])
+    × (numbers (spawn 0 ∷ []) (crowded 0 0 3 18446744073709551615 held) ≡ Some 8 ∷ [])
+    × (numbers (spawn 0 ∷ []) (crowded 0 0 3 18446744073709551614 held) ≡ Some 11 ∷ [])
+    × (numbers (spawn 0 ∷ []) (crowded 0 1020 3 1 held) ≡ Some 7 ∷ [])
+    × (numbers (spawn 0 ∷ []) (crowded 0 1019 3 1 held) ≡ Some 11 ∷ [])
 unfolding eq whole order walk released fed among count_up
 in_order = (refl, refl, refl, refl, refl, refl, refl)
 
 -- Headroom and ids by the definition's nodes: 24 and 3 more make 512 of 485, which with the three of `held` are 482 more. Refuses: the headroom of one node for all.
 by_nodes :
-    (numbers (managed (tones 24 0) 0 ∷ []) (crowded 482 0 3 1 held) ≡ some 11 ∷ [])
-    × (numbers (managed (tones 24 0) 0 ∷ []) (crowded 483 0 3 1 held) ≡ some 7 ∷ [])
-    × (numbers (managed (tones 24 0) 0 ∷ []) (crowded 0 0 4294967269 1 held) ≡ some 11 ∷ [])
-    × (numbers (managed (tones 24 0) 0 ∷ []) (crowded 0 0 4294967270 1 held) ≡ some 8 ∷ [])
+    (numbers (managed (tones 24 0) 0 ∷ []) (crowded 482 0 3 1 held) ≡ Some 11 ∷ [])
+    × (numbers (managed (tones 24 0) 0 ∷ []) (crowded 483 0 3 1 held) ≡ Some 7 ∷ [])
+    × (numbers (managed (tones 24 0) 0 ∷ []) (crowded 0 0 4294967269 1 held) ≡ Some 11 ∷ [])
+    × (numbers (managed (tones 24 0) 0 ∷ []) (crowded 0 0 4294967270 1 held) ≡ Some 8 ∷ [])
 unfolding eq whole order walk released fed among count_up
 by_nodes = (refl, refl, refl, refl)
 
@@ -170,7 +167,7 @@ edged =
     }
 
 all_edges :
-    (numbers (managed edged 0 ∷ []) (crowded 0 1016 3 1 held) ≡ some 11 ∷ []) × (numbers (managed edged 0 ∷ []) (crowded 0 1017 3 1 held) ≡ some 7 ∷ [])
+    (numbers (managed edged 0 ∷ []) (crowded 0 1016 3 1 held) ≡ Some 11 ∷ []) × (numbers (managed edged 0 ∷ []) (crowded 0 1017 3 1 held) ≡ Some 7 ∷ [])
 unfolding eq whole order walk released fed among count_up
 all_edges = (refl, refl)
 
@@ -184,6 +181,6 @@ crowd n =
     let m = after (up_to 1 Oldest) (host 2 ∷ spawn 0 ∷ []) in
     record { shared = m.shared; voices = copies n m.voices }
 
-voices_full : (numbers (spawn_loose 0 ∷ spawn_loose 0 ∷ spawn 0 ∷ []) (crowd 63) ≡ none ∷ some 7 ∷ some 7 ∷ [])
+voices_full : (numbers (spawn_loose 0 ∷ spawn_loose 0 ∷ spawn 0 ∷ []) (crowd 63) ≡ None ∷ Some 7 ∷ Some 7 ∷ [])
 unfolding eq whole order walk released fed among count_up
 voices_full = refl

@@ -1,28 +1,26 @@
 -- "Each refusal returns its number and leaves store and buffers unchanged; 12 leaves the steals and reclaims made." Of every
 -- call and every model, also of one that no calls make.
+use Rattle.node.specs.declared.record.VoiceId.{VoiceId}
 use Prim.Native.Nat.{ℕ, zero, suc}
 use mathlib.Core.Path.{◌≡◌, refl, sym, ap, ◌∙◌}
 use mathlib.Core.Logic.{◌⊎◌, inl, inr, ⊎_elim}
 use mathlib.Core.List.{List}
-use mathlib.Core.Option.{Option, none, some}
+use Rattle.std.specs.Prelude.{Option, None, Some, find, Result, Err, Ok}
 use mathlib.Core.Bool.{Bool, true, false, not, cond}
 use lib.Dec.{eqb, ltb}
 use lib.ListN.{length}
 use Rattle.lists.proofs.Member.{some_inj, none_some}
-use Rattle.lists.specs.Find.{find}
 use Rattle.node.specs.declared.record.NodeId.{NodeId}
 use Rattle.node.specs.Refusal.{number_of}
 use Rattle.node.specs.declared.refusal.Refusal.{Refusal}
 use Rattle.node.specs.declared.refusal.Refusal.TheVariants.{NoPort, Rejected, DefinitionLimits, UnknownNode, VoiceNode, BusWithoutPorts, TableFull, IdsUsedUp, RankTooHigh}
 use Rattle.graph.specs.Node.{node_at, ports_of, of_voice}
 use Rattle.graph.specs.Refuse.{when, dead, add_refusal, host_refusal, disconnect_refusal, connect_refusal}
-use Rattle.prepare.specs.declared.Readiness.{Readiness}
 use Rattle.voice.specs.declared.policy.Admission.{Admission}
 use Rattle.voice.specs.declared.policy.Admission.TheVariants as admission
 use Rattle.synthdef.specs.Limits.{allowed}
 use Rattle.synthdef.specs.declared.def.SynthDef.{SynthDef}
 use Rattle.store.specs.declared.answer.Rendered.{Rendered}
-use Rattle.store.specs.declared.answer.Spawned.{Spawned}
 use Rattle.store.specs.declared.voices.Voice.{Voice}
 use Rattle.store.specs.declared.voices.VoiceState.{VoiceState}
 use Rattle.store.specs.declared.voices.VoiceState.TheVariants.{Loose}
@@ -37,43 +35,43 @@ use Rattle.model.specs.Call.{Call, Answer, Step, unless, step, render_step, read
 use Rattle.model.specs.Call as call
 
 -- ---- the refusal that an answer is. A render whose prepare failed "is not refused"
-abbrev pub not_spawned : Spawned → Option Refusal
-not_spawned (Spawned.Voice w) = none
-not_spawned (Spawned.Refused r) = some r
+abbrev pub not_spawned : Result VoiceId Refusal → Option Refusal
+not_spawned (Ok w) = None
+not_spawned (Err r) = Some r
 
 abbrev pub not_rendered : Rendered → Option Refusal
-not_rendered Rendered.Sounding = none
-not_rendered Rendered.Silent = none
-not_rendered (Rendered.Unprepared r) = none
-not_rendered (Rendered.Refused r) = some r
+not_rendered Rendered.Sounding = None
+not_rendered Rendered.Silent = None
+not_rendered (Rendered.Unprepared r) = None
+not_rendered (Rendered.Refused r) = Some r
 
 abbrev pub refusal_in : Answer → Option Refusal
-refusal_in call.done = none
-refusal_in (call.refused r) = some r
-refusal_in (call.node k) = none
+refusal_in call.done = None
+refusal_in (call.refused r) = Some r
+refusal_in (call.node k) = None
 refusal_in (call.spawned s) = not_spawned s
-refusal_in (call.removed n) = none
-refusal_in (call.ordered o) = none
+refusal_in (call.removed n) = None
+refusal_in (call.ordered o) = None
 refusal_in (call.rendered a n out) = not_rendered a
-refusal_in (call.known l) = none
-refusal_in (call.reached p) = none
-refusal_in (call.found v) = none
-refusal_in (call.found_node n) = none
-refusal_in (call.all vs) = none
-refusal_in (call.stolen b) = none
-refusal_in (call.wires es) = none
-refusal_in (call.in_order l) = none
-refusal_in (call.fed l) = none
-refusal_in (call.time t) = none
-refusal_in (call.printed n out) = none
-refusal_in (call.filled out) = none
-refusal_in (call.filled_whole out) = none
+refusal_in (call.known l) = None
+refusal_in (call.reached p) = None
+refusal_in (call.found v) = None
+refusal_in (call.found_node n) = None
+refusal_in (call.all vs) = None
+refusal_in (call.stolen b) = None
+refusal_in (call.wires es) = None
+refusal_in (call.in_order l) = None
+refusal_in (call.fed l) = None
+refusal_in (call.time t) = None
+refusal_in (call.printed n out) = None
+refusal_in (call.filled out) = None
+refusal_in (call.filled_whole out) = None
 
 -- ---- what 12 leaves
 -- the admission's steal
 abbrev pub stolen_if : Option Voice → Model → Model
-stolen_if none m = m
-stolen_if (some v) m = steal_voice v m
+stolen_if None m = m
+stolen_if (Some v) m = steal_voice v m
 
 abbrev pub admission_leaves : Admission → Model → Model
 admission_leaves admission.Admit m = m
@@ -82,8 +80,8 @@ admission_leaves (admission.Steal place w) m = stolen_if (find (is_voice w) m.vo
 
 -- then the reclaims, one after the other, until nobody is left to reclaim
 abbrev pub reclaims_or : Option Voice → Model → (Model → Model) → Model
-reclaims_or none m again = m
-reclaims_or (some v) m again = again (cut_off v v.state m)
+reclaims_or None m again = m
+reclaims_or (Some v) m again = again (cut_off v v.state m)
 
 abbrev pub reclaims : ℕ → NodeId → ℕ → Model → Model
 reclaims zero bus rank m = m
@@ -117,26 +115,26 @@ left r c m = cond (eqb (number_of r) 12) (left_by_no_port c m) m
 
 -- ---- the port search answers a voice or 12
 module _ (spawn : Spawn) (s : VoiceState) where
-  pub place_left : (fuel : ℕ) (m : Model) (r : Refusal) → not_spawned (place fuel spawn s m).answer ≡ some r
+  pub place_left : (fuel : ℕ) (m : Model) (r : Refusal) → not_spawned (place fuel spawn s m).answer ≡ Some r
       → (r ≡ NoPort) × ((place fuel spawn s m).model ≡ reclaims fuel spawn.bus spawn.rank m)
   place_left zero m r h = go (port_free spawn.bus m) h
     where
-      go : (o : Option ℕ) → not_spawned (instantiate_or o none spawn s m (store.refused NoPort)).answer ≡ some r
-          → (r ≡ NoPort) × ((instantiate_or o none spawn s m (store.refused NoPort)).model ≡ m)
-      go none e = (sym (some_inj e), refl)
-      go (some p) e = absurd (none_some e)
+      go : (o : Option ℕ) → not_spawned (instantiate_or o None spawn s m (store.refused NoPort)).answer ≡ Some r
+          → (r ≡ NoPort) × ((instantiate_or o None spawn s m (store.refused NoPort)).model ≡ m)
+      go None e = (sym (some_inj e), refl)
+      go (Some p) e = absurd (none_some e)
   place_left (suc fuel) m r h = go (port_free spawn.bus m) (next_out m.shared spawn.bus spawn.rank m.voices) h (λ k. place_left fuel k r)
     where
-      go : (o : Option ℕ) (v : Option Voice) → not_spawned (instantiate_or o v spawn s m (λ k. place fuel spawn s k)).answer ≡ some r
-          → ((k : Model) → not_spawned (place fuel spawn s k).answer ≡ some r → (r ≡ NoPort) × ((place fuel spawn s k).model ≡ reclaims fuel spawn.bus spawn.rank k))
+      go : (o : Option ℕ) (v : Option Voice) → not_spawned (instantiate_or o v spawn s m (λ k. place fuel spawn s k)).answer ≡ Some r
+          → ((k : Model) → not_spawned (place fuel spawn s k).answer ≡ Some r → (r ≡ NoPort) × ((place fuel spawn s k).model ≡ reclaims fuel spawn.bus spawn.rank k))
           → (r ≡ NoPort) × ((instantiate_or o v spawn s m (λ k. place fuel spawn s k)).model ≡ reclaims_or v m (λ k. reclaims fuel spawn.bus spawn.rank k))
-      go none none e ih = (sym (some_inj e), refl)
-      go none (some v) e ih = ih (cut_off v v.state m) e
-      go (some p) v e ih = absurd (none_some e)
+      go None None e ih = (sym (some_inj e), refl)
+      go None (Some v) e ih = ih (cut_off v v.state m) e
+      go (Some p) v e ih = absurd (none_some e)
 
 -- a managed spawn past the table's refusals: 12; or 11, and nothing has changed
 module _ (spawn : Spawn) (m : Model) where
-  pub admitted_left : (a : Admission) (r : Refusal) → not_spawned (admitted a spawn m).answer ≡ some r
+  pub admitted_left : (a : Admission) (r : Refusal) → not_spawned (admitted a spawn m).answer ≡ Some r
       → ((r ≡ NoPort) × ((admitted a spawn m).model ≡ all_reclaims spawn.bus spawn.rank (admission_leaves a m)))
       ⊎ ((r ≡ Rejected) × ((admitted a spawn m).model ≡ m))
   admitted_left admission.Admit r h =
@@ -144,19 +142,19 @@ module _ (spawn : Spawn) (m : Model) where
   admitted_left admission.Reject r h = inr (sym (some_inj h), refl)
   admitted_left (admission.Steal place w) r h = inl (go (find (is_voice w) m.voices) h)
     where
-      go : (o : Option Voice) → not_spawned (steal_then o spawn m).answer ≡ some r
+      go : (o : Option Voice) → not_spawned (steal_then o spawn m).answer ≡ Some r
           → (r ≡ NoPort) × ((steal_then o spawn m).model ≡ all_reclaims spawn.bus spawn.rank (stolen_if o m))
-      go none e = place_left spawn (state_under m.shared.config.budget) (tries m.shared.config.budget m.voices) m r e
-      go (some v) e =
+      go None e = place_left spawn (state_under m.shared.config.budget) (tries m.shared.config.budget m.voices) m r e
+      go (Some v) e =
           let k = steal_voice v m in
           place_left spawn (state_under k.shared.config.budget) (tries k.shared.config.budget k.voices) k r e
 
 -- ---- the table's refusals are none of them 12
 abbrev pub is12 : Option Refusal → Bool
-is12 none = false
-is12 (some r) = eqb (number_of r) 12
+is12 None = false
+is12 (Some r) = eqb (number_of r) 12
 
-when_not : (b : Bool) (q : Refusal) (rest : Option Refusal) → is12 (some q) ≡ false → is12 rest ≡ false → is12 (when b q rest) ≡ false
+when_not : (b : Bool) (q : Refusal) (rest : Option Refusal) → is12 (Some q) ≡ false → is12 rest ≡ false → is12 (when b q rest) ≡ false
 when_not true q rest h k = h
 when_not false q rest h k = k
 
@@ -165,41 +163,41 @@ spawn_not d vs def bus rank =
     when_not (ltb rank_limit rank) RankTooHigh _ refl
     (when_not (not (allowed def)) DefinitionLimits _ refl
     (or_not (host_refusal d.graph bus) _
-    (when_not (dead (node_at d.graph.nodes bus)) UnknownNode _ refl (when_not (of_voice (node_at d.graph.nodes bus)) VoiceNode none refl refl))
+    (when_not (dead (node_at d.graph.nodes bus)) UnknownNode _ refl (when_not (of_voice (node_at d.graph.nodes bus)) VoiceNode None refl refl))
     (when_not (eqb (ports_of (node_at d.graph.nodes bus)) 0) BusWithoutPorts _ refl
-    (when_not (no_headroom d vs def) TableFull _ refl (when_not (no_ids d def) IdsUsedUp none refl refl)))))
+    (when_not (no_headroom d vs def) TableFull _ refl (when_not (no_ids d def) IdsUsedUp None refl refl)))))
   where
     or_not : (o rest : Option Refusal) → is12 o ≡ false → is12 rest ≡ false → is12 (or_else o rest) ≡ false
-    or_not none rest h k = k
-    or_not (some q) rest h k = h
+    or_not None rest h k = k
+    or_not (Some q) rest h k = h
 
-unless_left : (o : Option Refusal) (m : Model) (s : Step) (r : Refusal) → refusal_in s.answer ≡ none → refusal_in (unless o m s).answer ≡ some r
+unless_left : (o : Option Refusal) (m : Model) (s : Step) (r : Refusal) → refusal_in s.answer ≡ None → refusal_in (unless o m s).answer ≡ Some r
     → (unless o m s).model ≡ m
-unless_left none m s r n h = absurd (none_some (sym n ∙ h))
-unless_left (some q) m s r n h = refl
+unless_left None m s r n h = absurd (none_some (sym n ∙ h))
+unless_left (Some q) m s r n h = refl
 
-ready_left : (a : Readiness) (l : List NodeId) (d : SharedState) (r : Refusal) → refusal_in (ready_answer a) ≡ some r → ready_shared a l d ≡ d
-ready_left Readiness.Ready l d r h = absurd (none_some h)
-ready_left (Readiness.Refused q) l d r h = refl
+ready_left : (a : Result (Unit {0}) Refusal) (l : List NodeId) (d : SharedState) (r : Refusal) → refusal_in (ready_answer a) ≡ Some r → ready_shared a l d ≡ d
+ready_left (Ok tt) l d r h = absurd (none_some h)
+ready_left (Err q) l d r h = refl
 
-render_left : (out : List ℕ) (m : Model) (r : Refusal) → refusal_in (step (call.render out) m).answer ≡ some r → (step (call.render out) m).model ≡ m
+render_left : (out : List ℕ) (m : Model) (r : Refusal) → refusal_in (step (call.render out) m).answer ≡ Some r → (step (call.render out) m).model ≡ m
 render_left out m r h = go (render_refusal m.shared (length out)) h
   where
-    heard_not : (b : Bool) → not_rendered (heard b) ≡ none
+    heard_not : (b : Bool) → not_rendered (heard b) ≡ None
     heard_not true = refl
     heard_not false = refl
 
-    after_not : (a : Readiness) (d : SharedState) → not_rendered (answer_after a d) ≡ none
-    after_not Readiness.Ready d = heard_not (sounding d)
-    after_not (Readiness.Refused q) d = refl
+    after_not : (a : Result (Unit {0}) Refusal) (d : SharedState) → not_rendered (answer_after a d) ≡ None
+    after_not (Ok tt) d = heard_not (sounding d)
+    after_not (Err q) d = refl
 
-    inside_not : (f : Bool) (k : Model) → not_rendered (prepared_if f k).answer ≡ none
+    inside_not : (f : Bool) (k : Model) → not_rendered (prepared_if f k).answer ≡ None
     inside_not true k = after_not (prepare_outcome k.shared).answer (prepare_shared k.shared)
     inside_not false k = heard_not (sounding k.shared)
 
-    go : (o : Option Refusal) → refusal_in (render_step o out m).answer ≡ some r → (render_step o out m).model ≡ m
-    go (some q) e = refl
-    go none e = absurd (none_some (sym (inside_not (any_free (due m.shared)) (apply_events (due m.shared) (rested m))) ∙ e))
+    go : (o : Option Refusal) → refusal_in (render_step o out m).answer ≡ Some r → (render_step o out m).model ≡ m
+    go (Some q) e = refl
+    go None e = absurd (none_some (sym (inside_not (any_free (due m.shared)) (apply_events (due m.shared) (rested m))) ∙ e))
 
 -- ---- the theorem
 -- where 12 would leave nothing either
@@ -210,28 +208,28 @@ same_left r m k e = go (eqb (number_of r) 12)
     go true = e
     go false = e
 
-managed_left : (x : Spawn) (m : Model) (r : Refusal) → not_spawned (store.spawn_managed x m).answer ≡ some r
+managed_left : (x : Spawn) (m : Model) (r : Refusal) → not_spawned (store.spawn_managed x m).answer ≡ Some r
     → (store.spawn_managed x m).model ≡ cond (eqb (number_of r) 12) (all_reclaims x.bus x.rank (admission_leaves (admission_on x.bus x.rank m) m)) m
 managed_left x m r h = go (spawn_refusal m.shared m.voices x.def x.bus x.rank) (spawn_not m.shared m.voices x.def x.bus x.rank) h
   where
     admits : SpawnResult
     admits = admitted (admission_on x.bus x.rank m) x m
 
-    go : (o : Option Refusal) → is12 o ≡ false → not_spawned (store.unless o m admits).answer ≡ some r
+    go : (o : Option Refusal) → is12 o ≡ false → not_spawned (store.unless o m admits).answer ≡ Some r
         → (store.unless o m admits).model ≡ cond (eqb (number_of r) 12) (all_reclaims x.bus x.rank (admission_leaves (admission_on x.bus x.rank m) m)) m
-    go (some q) n e = let s : q ≡ r = some_inj e in let t : eqb (number_of r) 12 ≡ false = ap (λ x. eqb (number_of x) 12) (sym s) ∙ n in rw t
-    go none n e = ⊎_elim (λ p. rw p.0 p.1) (λ p. rw p.0 p.1) (admitted_left x m (admission_on x.bus x.rank m) r e)
+    go (Some q) n e = let s : q ≡ r = some_inj e in let t : eqb (number_of r) 12 ≡ false = ap (λ x. eqb (number_of x) 12) (sym s) ∙ n in rw t
+    go None n e = ⊎_elim (λ p. rw p.0 p.1) (λ p. rw p.0 p.1) (admitted_left x m (admission_on x.bus x.rank m) r e)
 
-loose_left : (x : Spawn) (m : Model) (r : Refusal) → not_spawned (store.spawn_loose x m).answer ≡ some r → (store.spawn_loose x m).model ≡ m
+loose_left : (x : Spawn) (m : Model) (r : Refusal) → not_spawned (store.spawn_loose x m).answer ≡ Some r → (store.spawn_loose x m).model ≡ m
 loose_left x m r h = go (spawn_refusal m.shared m.voices x.def x.bus x.rank) h
   where
-    go : (o : Option Refusal) → not_spawned (store.unless o m (place 0 x Loose m)).answer ≡ some r
+    go : (o : Option Refusal) → not_spawned (store.unless o m (place 0 x Loose m)).answer ≡ Some r
         → (store.unless o m (place 0 x Loose m)).model ≡ m
-    go (some q) e = refl
-    go none e = (place_left x Loose 0 m r e).1
+    go (Some q) e = refl
+    go None e = (place_left x Loose 0 m r e).1
 
 -- whatever the call and the model: a refused call leaves the model as it was, and 12 the steals and reclaims made
-pub refused_leaves : (c : Call) (m : Model) (r : Refusal) → refusal_in (step c m).answer ≡ some r → (step c m).model ≡ left r c m
+pub refused_leaves : (c : Call) (m : Model) (r : Refusal) → refusal_in (step c m).answer ≡ Some r → (step c m).model ≡ left r c m
 refused_leaves (call.add_node kind ports required values glides) m r h = same_left r m _ (unless_left (add_refusal m.shared.graph kind ports required) m _ r refl h)
 refused_leaves (call.remove_node k) m r h = same_left r m _ (unless_left (host_refusal m.shared.graph k) m _ r refl h)
 refused_leaves (call.connect a b p) m r h = same_left r m _ (unless_left (connect_refusal m.shared.graph a b p) m _ r refl h)
@@ -251,8 +249,8 @@ refused_leaves (call.render out) m r h = same_left r m _ (render_left out m r h)
 refused_leaves (call.ask q) m r h = same_left r m _ refl
 
 -- the two halves: any number but 12, and 12
-pub refused_same : (c : Call) (m : Model) (r : Refusal) → refusal_in (step c m).answer ≡ some r → eqb (number_of r) 12 ≡ false → (step c m).model ≡ m
+pub refused_same : (c : Call) (m : Model) (r : Refusal) → refusal_in (step c m).answer ≡ Some r → eqb (number_of r) 12 ≡ false → (step c m).model ≡ m
 refused_same c m r h k = refused_leaves c m r h ∙ ap (λ (b : Bool). cond b (left_by_no_port c m) m) k
 
-pub no_port_leaves : (c : Call) (m : Model) → refusal_in (step c m).answer ≡ some NoPort → (step c m).model ≡ left_by_no_port c m
+pub no_port_leaves : (c : Call) (m : Model) → refusal_in (step c m).answer ≡ Some NoPort → (step c m).model ≡ left_by_no_port c m
 no_port_leaves c m h = refused_leaves c m NoPort h

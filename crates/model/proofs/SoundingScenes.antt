@@ -2,7 +2,7 @@
 -- order.
 use mathlib.Core.Path.{◌≡◌, refl}
 use mathlib.Core.List.{List, [], ◌∷◌}
-use mathlib.Core.Option.{none, some}
+use Rattle.std.specs.Prelude.{None, Some}
 use mathlib.Core.Bool.{false}
 use lib.Ieee.{eq}
 use Rattle.node.specs.Silence.{bytes}
@@ -74,8 +74,8 @@ moves :
     (call.ask (call.position (voice 1)) ∷ render ∷ call.ask (call.position (voice 1)) ∷ call.prepare ∷ render ∷ call.ask (call.position (voice 1))
     ∷ render ∷ render ∷ render ∷ call.ask (call.position (voice 1)) ∷ call.ask (call.position (voice 2)) ∷ call.ask (call.position (voice 9)) ∷ [])
     (after (up_to 1 Oldest) (host 2 ∷ sink 0 ∷ spawn 0 ∷ spawn 0 ∷ []))
-    ≡ reached (some 0) ∷ silent ∷ reached (some 0) ∷ done ∷ sounding ∷ reached (some 16)
-    ∷ sounding ∷ sounding ∷ sounding ∷ reached (some 64) ∷ reached none ∷ reached none ∷ []
+    ≡ reached (Some 0) ∷ silent ∷ reached (Some 0) ∷ done ∷ sounding ∷ reached (Some 16)
+    ∷ sounding ∷ sounding ∷ sounding ∷ reached (Some 64) ∷ reached None ∷ reached None ∷ []
 unfolding eq prepare processing_order lacking lacks any live_ids live_nodes rising_from whole order walk released fed among count_up
 moves = refl
 
@@ -84,7 +84,7 @@ moves = refl
 unconnected_moves :
     asked (wire 1 0 0 ∷ call.prepare ∷ render ∷ call.ask (call.position (voice 1)) ∷ [])
     (after (up_to 1 Oldest) (host 2 ∷ host 0 ∷ sink 0 ∷ spawn 0 ∷ spawn 0 ∷ []))
-    ≡ done ∷ done ∷ sounding ∷ reached (some 16) ∷ []
+    ≡ done ∷ done ∷ sounding ∷ reached (Some 16) ∷ []
 unfolding eq prepare processing_order lacking lacks any live_ids live_nodes rising_from whole order walk released fed among count_up
 unconnected_moves = refl
 

@@ -3,7 +3,7 @@ use Prim.Native.Nat.{ℕ}
 use Prim.Native.String.{String}
 use mathlib.Core.Path.{◌≡◌, refl}
 use mathlib.Core.List.{List, [], ◌∷◌, map}
-use mathlib.Core.Option.{none}
+use Rattle.std.specs.Prelude.{None, Some}
 use mathlib.Core.Bool.{true, false}
 use lib.IntN.{pos}
 use lib.ListN.{replicate}
@@ -17,10 +17,8 @@ use Rattle.rank.specs.Order.{among, released, walk, order, whole, count_up}
 use Rattle.prepare.specs.Live.{rising_from, live_nodes, live_ids, processing_order}
 use Rattle.prepare.specs.Required.{any, lacks, lacking}
 use Rattle.prepare.specs.Prepare.{prepare}
-use Rattle.edges.specs.declared.ports.Source.TheVariants.{From, Nothing}
 use Rattle.graph.specs.Node.{node_at, noise_of}
 use Rattle.voice.specs.Steals.{record_of}
-use Rattle.voice.specs.declared.policy.Level.TheVariants.{Unknown}
 use Rattle.voice.specs.declared.policy.StealPolicy.TheVariants.{Oldest, Reject}
 use Rattle.synthdef.specs.declared.def.DefNode.{DefNode}
 use Rattle.synthdef.specs.declared.def.SynthDef.{SynthDef}
@@ -88,8 +86,8 @@ created = (refl, refl)
 -- As the reading calls give it: what feeds each of 64 ports, the records, an unknown voice. Refuses: ports by edge order.
 read :
     asked (call.ask (call.sources (id 0)) ∷ call.ask (call.sources (id 5)) ∷ call.ask call.steals ∷ call.ask (call.voice (voice 3)) ∷ []) panned
-    ≡ fed (From (id 2) ∷ From (id 7) ∷ replicate 62 Nothing) ∷ fed (From (id 4) ∷ From (id 4) ∷ replicate 62 Nothing)
-    ∷ stolen (record { count = 1; newest = record_of 0 Unknown false ∷ [] }) ∷ found none ∷ []
+    ≡ fed (Some (id 2) ∷ Some (id 7) ∷ replicate 62 None) ∷ fed (Some (id 4) ∷ Some (id 4) ∷ replicate 62 None)
+    ∷ stolen (record { count = 1; newest = record_of 0 None false ∷ [] }) ∷ found None ∷ []
 unfolding eq whole order walk released rank.fed among count_up sources_from
 read = refl
 
@@ -147,7 +145,7 @@ moved :
     × (counters twelve ≡ at 1 1 4)
     × (counters (further (spawn 1 ∷ []) twelve) ≡ at 1 1 5)
     × (voices (further (spawn 1 ∷ []) twelve) ≡ seen 1 0 (fading 4 0 0 0) ∷ [])
-    × ((further (spawn 1 ∷ []) twelve).shared.steals ≡ record { count = 1; newest = record_of 0 Unknown false ∷ [] })
+    × ((further (spawn 1 ∷ []) twelve).shared.steals ≡ record { count = 1; newest = record_of 0 None false ∷ [] })
     × ((further (spawn 1 ∷ []) (further (call.prepare ∷ []) twelve)).shared.graph.prepared ≡ false)
 unfolding eq prepare processing_order lacking lacks any live_ids live_nodes rising_from whole order walk released rank.fed among count_up
 moved = (refl, refl, refl, refl, refl, refl)

@@ -4,12 +4,11 @@
 use Prim.Native.Nat.{ℕ}
 use mathlib.Core.Path.{◌≡◌, refl, sym, ap, ◌∙◌}
 use mathlib.Core.List.{List, [], ◌∷◌}
-use mathlib.Core.Option.{Option, none, some}
+use Rattle.std.specs.Prelude.{Option, None, Some, option_map}
 use mathlib.Core.Bool.{Bool, true, false, cond, ◌&&◌}
 use lib.IntN.{pos, negsuc}
 use lib.ListN.{length}
 use lib.Ieee.{Float, nan, fin, mul, div, of_int, round, odd, span, size, climb, units}
-use Rattle.lists.specs.Find.{map_o}
 use Rattle.node.specs.Refusal.{number_of}
 use Rattle.node.specs.declared.refusal.Refusal.TheVariants.{LentBlock}
 use Rattle.bus.specs.Rate.{rate_of}
@@ -18,8 +17,6 @@ use Rattle.bus.specs.Fade.{fade_length, fade_fits, fade_output}
 use Rattle.fade_table.specs.Table.{entries}
 use Rattle.fade_table.specs.Gain.{gains, gain_of}
 use Rattle.fade_table.proofs.Gains.{length_gains}
-use Rattle.voice.specs.declared.policy.Budget.{Budget}
-use Rattle.voice.specs.declared.policy.Budget.TheVariants.{Unlimited, AtMost}
 use Rattle.voice.specs.declared.policy.BudgetScope.TheVariants.{Global}
 use Rattle.voice.specs.declared.policy.StealPolicy.TheVariants.{Oldest}
 use Rattle.store.specs.declared.config.Config.{Config}
@@ -30,8 +27,8 @@ use Rattle.model.specs.Call.{Answer, fade_answer, block_answer, filled}
 use Rattle.model.specs.Call as call
 
 -- ---- 20 "table chosen at another rate, after 3"
-abbrev making : Float → ℕ → Budget → Bool → Option ℕ
-making rate block budget table = map_o number_of (refusal_of (record { rate = rate; block = block; budget = budget; policy = Oldest; scope = Global; table = table }))
+abbrev making : Float → ℕ → Option ℕ → Bool → Option ℕ
+making rate block budget table = option_map number_of (refusal_of (record { rate = rate; block = block; budget = budget; policy = Oldest; scope = Global; table = table }))
 
 -- 48,000, 44,100 and 47,999
 abbrev rate48 : Float
@@ -45,15 +42,15 @@ below48 = fin false 47999 (pos 0)
 
 -- Refuses: 20 before 1, 2 or 3; the table at 44,100 or 47,999 Hz; 20 where the table is not chosen, or at 48,000 Hz.
 makings :
-    (making nan 0 (AtMost 65) true ≡ some 1) × (making rate44 0 (AtMost 65) true ≡ some 2) × (making rate44 16 (AtMost 65) true ≡ some 3)
-    × (making rate44 16 Unlimited true ≡ some 20) × (making below48 16 Unlimited true ≡ some 20) × (making rate48 16 Unlimited true ≡ none)
-    × (making rate44 16 Unlimited false ≡ none) × (making rate48 16 Unlimited false ≡ none)
+    (making nan 0 (Some 65) true ≡ Some 1) × (making rate44 0 (Some 65) true ≡ Some 2) × (making rate44 16 (Some 65) true ≡ Some 3)
+    × (making rate44 16 None true ≡ Some 20) × (making below48 16 None true ≡ Some 20) × (making rate48 16 None true ≡ None)
+    × (making rate44 16 None false ≡ None) × (making rate48 16 None false ≡ None)
 unfolding rate_of
 makings = (refl, refl, refl, refl, refl, refl, refl, refl)
 
 -- ---- a store of 48,000 Hz with blocks of two samples
 abbrev at48 : Bool → Config
-at48 table = record { rate = 48000; block = 2; budget = Unlimited; policy = Oldest; scope = Global; table = table }
+at48 table = record { rate = 48000; block = 2; budget = None; policy = Oldest; scope = Global; table = table }
 
 abbrev one : Float
 one = fin false 1 (pos 0)

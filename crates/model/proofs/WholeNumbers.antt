@@ -4,7 +4,7 @@
 use Prim.Native.Nat.{ℕ}
 use mathlib.Core.Path.{◌≡◌, refl, sym, ap, ◌∙◌}
 use mathlib.Core.List.{List, [], ◌∷◌}
-use mathlib.Core.Option.{Option, none, some}
+use Rattle.std.specs.Prelude.{Option, None, Some}
 use mathlib.Core.Bool.{Bool, true, false, cond, ◌&&◌}
 use lib.IntN.{ℤ, pos, negsuc}
 use lib.ListN.{length}
@@ -16,7 +16,6 @@ use Rattle.bus.specs.Sum.{channels, every_is_channels, summed_by, sum_fits}
 use Rattle.fade_table.specs.Table.{entries}
 use Rattle.whole_bus.specs.Sample.{is_sample, is_gain, faded_sample, clipped}
 use Rattle.whole_bus.specs.Block.{every, refusal_of, left_by, faded_of, fade_refusal}
-use Rattle.voice.specs.declared.policy.Budget.TheVariants.{Unlimited}
 use Rattle.voice.specs.declared.policy.BudgetScope.TheVariants.{Global}
 use Rattle.voice.specs.declared.policy.StealPolicy.TheVariants.{Oldest}
 use Rattle.store.specs.declared.config.Config.{Config}
@@ -27,7 +26,7 @@ use Rattle.model.specs.Call as call
 
 -- ---- a store of 48,000 Hz with blocks of two samples
 abbrev at48 : Bool → Config
-at48 table = record { rate = 48000; block = 2; budget = Unlimited; policy = Oldest; scope = Global; table = table }
+at48 table = record { rate = 48000; block = 2; budget = None; policy = Oldest; scope = Global; table = table }
 
 -- -2^23, 2^23 - 1, and the numbers next to them
 abbrev low : ℤ
@@ -66,8 +65,8 @@ table_entries c lent chosen = ap (λ (b : Bool). cond b entries lent) chosen
 
 -- a refused call answers no output
 answers_new : (r : Option Refusal) (new old : List ℤ) → whole_answer r (left_by r new old) ≡ whole_answer r new
-answers_new none new old = refl
-answers_new (some x) new old = refl
+answers_new None new old = refl
+answers_new (Some x) new old = refl
 
 entries_gains : (b : Bool) → b && every is_gain entries ≡ b
 unfolding every entries

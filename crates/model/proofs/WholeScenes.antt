@@ -5,7 +5,7 @@ use Prim.Native.Nat.{ℕ}
 use Prim.Native.String.{String}
 use mathlib.Core.Path.{◌≡◌, refl}
 use mathlib.Core.List.{List, [], ◌∷◌, ◌++◌, map}
-use mathlib.Core.Option.{Option, some}
+use Rattle.std.specs.Prelude.{Option, Some}
 use mathlib.Core.Bool.{Bool, true, false}
 use lib.Ieee.{nan, eq, add, mul, div, of_int, of_bits}
 use Rattle.level.specs.Root.{root_of, sqrt}
@@ -26,9 +26,7 @@ use Rattle.prepare.specs.Prepare.{prepare}
 use Rattle.graph.specs.View.{GraphView}
 use Rattle.scheduler.specs.declared.event.Event.{Event}
 use Rattle.voice.specs.Steals.{StealLog, record_of}
-use Rattle.voice.specs.declared.policy.Budget.TheVariants.{AtMost}
 use Rattle.voice.specs.declared.policy.BudgetScope.TheVariants.{PerGroup}
-use Rattle.voice.specs.declared.policy.Level.TheVariants.{Known}
 use Rattle.voice.specs.declared.policy.StealPolicy.TheVariants.{Oldest}
 use Rattle.synthdef.specs.Plan.{plan_of, settled}
 use Rattle.synthdef.specs.declared.def.DefNode.{DefNode}
@@ -69,7 +67,7 @@ key_def =
 
 -- ---- a store, field by field. Rate 400, so that L is 2; block 1, so that a sample reported is a level
 abbrev made : Config
-made = record { rate = 400; block = 1; budget = AtMost 2; policy = Oldest; scope = PerGroup; table = false }
+made = record { rate = 400; block = 1; budget = Some 2; policy = Oldest; scope = PerGroup; table = false }
 
 -- unprepared, or prepared; the processing order of the last prepare; the next id
 abbrev graph : List Node → List Edge → Option NodeId → Bool → List ℕ → ℕ → GraphView
@@ -207,7 +205,7 @@ abbrev opened : Model
 opened =
     store
     (graph (fx ∷ bus 3 ∷ voice1 key1 ++ (voice2 LastOrder.Nothing ++ (tone 10 3 ∷ []))) (edge 1 0 1 ∷ edges1 ++ (edge 6 1 0 ∷ edges2 ++ (edge 10 1 2 ∷ [])))
-    (some (id 0)) true (2 ∷ 3 ∷ 5 ∷ 7 ∷ 8 ∷ 10 ∷ 4 ∷ 9 ∷ 6 ∷ 1 ∷ 0 ∷ []) 11)
+    (Some (id 0)) true (2 ∷ 3 ∷ 5 ∷ 7 ∷ 8 ∷ 10 ∷ 4 ∷ 9 ∷ 6 ∷ 1 ∷ 0 ∷ []) 11)
     (value_at ∷ free_at ∷ []) (record { count = 0; newest = [] }) 2 3 (v1 Tracked ∷ v2 ∷ v3 ∷ [])
 
 -- Refuses: a new voice's birth, bus, port, nodes, output, pan, noise sequence, rank, parameters or plan that are another's; a noise sequence that stands still for an
@@ -225,14 +223,14 @@ abbrev pub edges : List Edge
 edges = edge 1 0 1 ∷ edges1 ++ (edges2 ++ (edge 10 1 2 ∷ edge 6 11 0 ∷ edge 11 1 0 ∷ edge 12 1 3 ∷ []))
 
 abbrev pub one : StealLog
-one = record { count = 1; newest = record_of 2 (Known (float 3)) false ∷ [] }
+one = record { count = 1; newest = record_of 2 (Some (float 3)) false ∷ [] }
 
 abbrev pub fades : ℕ → VoiceState
 fades position = fading 11 2 position 0
 
 abbrev stole : Model
 stole =
-    store (graph (nodes key1 LastOrder.Nothing) edges (some (id 0)) false (2 ∷ 3 ∷ 5 ∷ 7 ∷ 8 ∷ 10 ∷ 4 ∷ 9 ∷ 6 ∷ 1 ∷ 0 ∷ []) 13)
+    store (graph (nodes key1 LastOrder.Nothing) edges (Some (id 0)) false (2 ∷ 3 ∷ 5 ∷ 7 ∷ 8 ∷ 10 ∷ 4 ∷ 9 ∷ 6 ∷ 1 ∷ 0 ∷ []) 13)
     (value_at ∷ free_at ∷ []) one 2 4 (v1 (fades 0) ∷ v2 ∷ v3 ∷ v4 ∷ [])
 
 -- Refuses: a fade that changes another field of its voice, or another voice; one that takes orders, is done, or whose port is not required; a steal that loses the
@@ -244,7 +242,7 @@ steals = record { config = refl; graph = refl; events = refl; steals = refl; clo
 -- ---- Prepared, and a render that sounds: the fade has moved, the event at 3 is not taken. The next render takes it.
 abbrev sounded : Node → LastOrder → List Event → ℕ → ℕ → Model
 sounded key cut pending time position =
-    store (graph (nodes key cut) edges (some (id 0)) true (2 ∷ 3 ∷ 5 ∷ 7 ∷ 8 ∷ 10 ∷ 12 ∷ 4 ∷ 9 ∷ 6 ∷ 11 ∷ 1 ∷ 0 ∷ []) 13) pending one time 4
+    store (graph (nodes key cut) edges (Some (id 0)) true (2 ∷ 3 ∷ 5 ∷ 7 ∷ 8 ∷ 10 ∷ 12 ∷ 4 ∷ 9 ∷ 6 ∷ 11 ∷ 1 ∷ 0 ∷ []) 13) pending one time 4
     (v1 (fades position) ∷ v2 ∷ v3 ∷ v4 ∷ [])
 
 abbrev pub heard : Node → Model
@@ -278,7 +276,7 @@ reports_again = record { config = refl; graph = refl; events = refl; steals = re
 
 -- ---- A clearing removes voice 1, which is silent through its `Key`; a free removes voice 2.
 abbrev without_voice : List Node → List Edge → List Voice → Model
-without_voice ns es vs = store (graph ns es (some (id 0)) false (2 ∷ 3 ∷ 5 ∷ 7 ∷ 8 ∷ 10 ∷ 12 ∷ 4 ∷ 9 ∷ 6 ∷ 11 ∷ 1 ∷ 0 ∷ []) 13) (value_at ∷ free_at ∷ []) one 3 4 vs
+without_voice ns es vs = store (graph ns es (Some (id 0)) false (2 ∷ 3 ∷ 5 ∷ 7 ∷ 8 ∷ 10 ∷ 12 ∷ 4 ∷ 9 ∷ 6 ∷ 11 ∷ 1 ∷ 0 ∷ []) 13) (value_at ∷ free_at ∷ []) one 3 4 vs
 
 -- Refuses: one that takes more or less than the voice's nodes with their edges; one that takes its record, the order or the events.
 clears :
@@ -303,7 +301,7 @@ hosts :
     ∷ call.schedule 5 (voice 4) (bytes "cut") (EventAction.Gate (float 1)) ∷ []) (heard key1))
     (store
     (graph (bus 4 ∷ voice1 key1 ++ (voice2 LastOrder.Nothing ++ (tone 10 3 ∷ fade1 ∷ tone 12 4 ∷ new 13 0 "Out" 1 1 true true ∷ [])))
-    (edges1 ++ (edges2 ++ (edge 6 11 0 ∷ edge 11 1 0 ∷ edge 13 1 2 ∷ []))) (some (id 1)) false (2 ∷ 3 ∷ 5 ∷ 7 ∷ 8 ∷ 10 ∷ 12 ∷ 4 ∷ 9 ∷ 6 ∷ 11 ∷ 1 ∷ 0 ∷ []) 14)
+    (edges1 ++ (edges2 ++ (edge 6 11 0 ∷ edge 11 1 0 ∷ edge 13 1 2 ∷ []))) (Some (id 1)) false (2 ∷ 3 ∷ 5 ∷ 7 ∷ 8 ∷ 10 ∷ 12 ∷ 4 ∷ 9 ∷ 6 ∷ 11 ∷ 1 ∷ 0 ∷ []) 14)
     (value_at ∷ record { time = 5; voice = voice 4; name = name "cut"; action = EventAction.Gate (float 1) } ∷ free_at ∷ []) one 3 4 (v1 (fades 1) ∷ v2 ∷ v3 ∷ v4 ∷ []))
 unfolding eq level_of squares root_of sqrt narrow add mul div of_int of_bits silence_pass_through rules prepare processing_order lacking lacks any live_ids live_nodes rising_from whole order walk released fed among count_up settled
 hosts = record { config = refl; graph = refl; events = refl; steals = refl; clock = refl; spawned = refl; voices = refl }

@@ -1,7 +1,6 @@
 -- What making fixed decides of fade output and bus sum, in floats and in whole numbers: the samples of a block, the fade length, and whose gains count. The
 -- arithmetic is that of crates `bus` and `whole_bus`.
-use Rattle.std.specs.Prelude.{ℕ, List, Bool, cond, ℤ, length, Float}
-use Rattle.std.proofs.Math.Option.{Option}
+use Rattle.std.specs.Prelude.{ℕ, List, Bool, cond, ℤ, length, Float, Option}
 use Rattle.bus.specs.Fade.{fade_length, fade_fits, fade_output}
 use Rattle.bus.specs.Sum.{sum_fits, sum_output}
 use Rattle.node.specs.declared.refusal.Refusal.{Refusal}

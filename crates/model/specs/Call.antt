@@ -1,9 +1,6 @@
 -- The store's calls as one datatype, each a function from a model to an answer and a model; and a list of calls, where "each
 -- call gets the store that the last left".
-use Rattle.std.specs.Prelude.{ℕ, List, [], ◌∷◌, Bool, cond, length, leb, ℤ, Float}
-use Rattle.std.proofs.Math.Option.{Option, none, some}
-use Rattle.std.proofs.Math.ListN.{get_elem?}
-use Rattle.lists.specs.Find.{find}
+use Rattle.std.specs.Prelude.{ℕ, List, [], ◌∷◌, Bool, cond, length, leb, ℤ, Float, Option, None, Some, find, slice_get, Result, Err, Ok}
 use Rattle.node.specs.Name.{name_of}
 use Rattle.node.specs.declared.order.EventAction.{EventAction}
 use Rattle.node.specs.declared.order.LastOrder.{LastOrder}
@@ -13,20 +10,16 @@ use Rattle.node.specs.declared.record.VoiceId.{VoiceId}
 use Rattle.node.specs.declared.record.Edge.{Edge}
 use Rattle.node.specs.declared.refusal.Refusal.{Refusal}
 use Rattle.edges.specs.Ports as ports
-use Rattle.edges.specs.declared.ports.Source.{Source}
 use Rattle.graph.specs.View.{GraphView}
 use Rattle.graph.specs.Node.{node_at, host_node}
 use Rattle.graph.specs.Change as change
 use Rattle.graph.specs.Refuse.{add_refusal, host_refusal, disconnect_refusal, connect_refusal, when}
-use Rattle.prepare.specs.declared.Readiness.{Readiness}
 use Rattle.scheduler.specs.Replace.{thinned}
 use Rattle.scheduler.specs.Queue.{full, replacing}
 use Rattle.scheduler.specs.declared.event.Event.{Event}
 use Rattle.voice.specs.Steals.{StealLog}
-use Rattle.voice.specs.declared.policy.Level.{Level}
 use Rattle.store.specs.declared.config.Config.{Config}
 use Rattle.store.specs.declared.answer.Outcome.{Outcome}
-use Rattle.store.specs.declared.answer.Spawned.{Spawned}
 use Rattle.store.specs.declared.answer.Rendered.{Rendered}
 use Rattle.store.specs.declared.voices.Voice.{Voice}
 use Rattle.store.specs.declared.voices.VoiceState.{VoiceState}
@@ -98,12 +91,12 @@ pub data Answer : Type 0 where
   done : Answer
   refused : Refusal → Answer
   node : NodeId → Answer
-  spawned : Spawned → Answer
+  spawned : Result VoiceId Refusal → Answer
   removed : ℕ → Answer
   ordered : Outcome → Answer
   -- how many events the render took, and the list with the outcome of each in it
   rendered : Rendered → ℕ → List ℕ → Answer
-  known : Level → Answer
+  known : Option Float → Answer
   reached : Option ℕ → Answer
   found : Option Voice → Answer
   found_node : Option Node → Answer
@@ -111,7 +104,7 @@ pub data Answer : Type 0 where
   stolen : StealLog → Answer
   wires : List Edge → Answer
   in_order : List NodeId → Answer
-  fed : List Source → Answer
+  fed : List (Option NodeId) → Answer
   time : ℕ → Answer
   -- the length of the page, and the buffer with the page in it
   printed : ℕ → List ℕ → Answer
@@ -125,8 +118,8 @@ pub record Step : Type 0 where
 
 -- a refusal, and "leaves store and buffers unchanged"; or the call's work
 abbrev pub unless : Option Refusal → Model → Step → Step
-unless none m s = s
-unless (some r) m s = record { answer = refused r; model = m }
+unless None m s = s
+unless (Some r) m s = record { answer = refused r; model = m }
 
 abbrev pub graph_step : Model → GraphView → Answer → Step
 graph_step m g a = record { answer = a; model = record { shared = with_graph g m.shared; voices = m.voices } }
@@ -137,26 +130,26 @@ shared_step m d a = record { answer = a; model = record { shared = d; voices = m
 abbrev pub reads : Model → Answer → Step
 reads m a = record { answer = a; model = m }
 
-abbrev pub ready_answer : Readiness → Answer
-ready_answer Readiness.Ready = done
-ready_answer (Readiness.Refused r) = refused r
+abbrev pub ready_answer : Result (Unit {0}) Refusal → Answer
+ready_answer (Ok tt) = done
+ready_answer (Err r) = refused r
 
 abbrev pub position_of : VoiceState → Option ℕ
-position_of Tracked = none
-position_of (Fading f) = some f.position
-position_of Loose = none
+position_of Tracked = None
+position_of (Fading f) = Some f.position
+position_of Loose = None
 
 -- "The position of a voice's fade can be read, none if it has no fade."
 abbrev pub position_in : Option Voice → Option ℕ
-position_in none = none
-position_in (some v) = position_of v.state
+position_in None = None
+position_in (Some v) = position_of v.state
 
 abbrev pub event : ℕ → VoiceId → List ℕ → EventAction → Event
 event t w name a = record { time = t; voice = w; name = name_of name; action = a }
 
 -- 7 "event table full"; 02, Paper 9: "Freed queue places count before refusal 7"
 abbrev pub schedule_refusal : Event → List Event → Option Refusal
-schedule_refusal e q = when (full (thinned e q)) TableFull none
+schedule_refusal e q = when (full (thinned e q)) TableFull None
 
 -- 17 "lent buffer too short"; else the text stands in the buffer and "later bytes stay"
 abbrev pub page_answer : List ℕ → List ℕ → Answer
@@ -174,8 +167,8 @@ sum_answer c inputs counts out outs = block_answer (sums c inputs counts out out
 
 -- the output in whole numbers, or the refusal that is given
 abbrev pub whole_answer : Option Refusal → List ℤ → Answer
-whole_answer none out = filled_whole out
-whole_answer (some r) out = refused r
+whole_answer None out = filled_whole out
+whole_answer (Some r) out = refused r
 
 abbrev pub whole_fade_answer : Config → List ℤ → ℕ → List ℕ → ℕ → List ℤ → ℕ → Answer
 whole_fade_answer c input ins lent at out outs = whole_answer (whole_fade_refusal c input ins lent out outs) (whole_fade_block c input ins lent at out outs)
@@ -188,7 +181,7 @@ abbrev pub answer_to : (Voice → Option ℕ) → Question → Model → Answer
 answer_to port (level w) m = known (level_or m.shared (find (is_voice w) m.voices))
 answer_to port (position w) m = reached (position_in (find (is_voice w) m.voices))
 answer_to port (voice w) m = found (find (is_voice w) m.voices)
-answer_to port (voice_at i) m = found (get_elem? m.voices i)
+answer_to port (voice_at i) m = found (slice_get m.voices i)
 answer_to port voices m = all m.voices
 answer_to port steals m = stolen m.shared.steals
 answer_to port edges m = wires m.shared.graph.edges
@@ -204,8 +197,8 @@ answer_to port (whole_sum inputs counts out outs) m = whole_sum_answer m.shared.
 
 -- 02, Paper 1: a refused render takes no event and writes no entry; else the outcomes stand in the list, and "later entries stay"
 abbrev pub render_step : Option Refusal → List ℕ → Model → Step
-render_step (some r) out m = record { answer = rendered (Rendered.Refused r) 0 out; model = m }
-render_step none out m =
+render_step (Some r) out m = record { answer = rendered (Rendered.Refused r) 0 out; model = m }
+render_step None out m =
     let h = rendering.render m in
     let q = due m.shared in
     record { answer = rendered h.answer (length q) (written (outcomes q (rested m)) out); model = h.model }

@@ -1,8 +1,6 @@
 -- Clearing (`free_done_synths`): "first the voices whose fade has ended, in voice order, then those whose done plan is silent;
 -- it answers how many it removed."
-use Rattle.std.specs.Prelude.{ℕ, ◌+◌, min, List, [], ◌∷◌, map, Bool, false, leb, length}
-use Rattle.std.proofs.Math.Option.{Option, none, some}
-use Rattle.lists.specs.Filter.{filter}
+use Rattle.std.specs.Prelude.{ℕ, ◌+◌, min, List, [], ◌∷◌, map, Bool, false, leb, length, Option, None, Some, filter}
 use Rattle.node.specs.declared.record.Node.{Node}
 use Rattle.rank.specs.Order.{upto}
 use Rattle.graph.specs.Node.{node_at}
@@ -22,8 +20,8 @@ ended len Loose = false
 
 -- the done flags of a voice's definition's nodes, by their places
 abbrev pub done_flag : Option Node → Bool
-done_flag none = false
-done_flag (some n) = n.done
+done_flag None = false
+done_flag (Some n) = n.done
 
 abbrev pub done_flags : List Node → Voice → List Bool
 done_flags ns v = map (λ i. done_flag (node_at ns (id (v.first.0 + i)))) (upto (min v.count 24))

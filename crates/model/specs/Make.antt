@@ -1,6 +1,5 @@
 -- Making a store: 1, 2, 3, 20, or a new store.
-use Rattle.std.specs.Prelude.{ℕ, []}
-use Rattle.std.proofs.Math.Option.{Option, none, some}
+use Rattle.std.specs.Prelude.{ℕ, [], Option, None, Some}
 use Rattle.node.specs.declared.refusal.Refusal.{Refusal}
 use Rattle.node.specs.Refusal.{Said, refused, gives}
 use Rattle.bus.specs.Rate.{rate_of}
@@ -26,8 +25,8 @@ abbrev pub new_model : Config → Model
 new_model c = record { shared = new_shared c; voices = [] }
 
 abbrev pub made_unless : Option Refusal → Model → Option Model
-made_unless none m = some m
-made_unless (some r) m = none
+made_unless None m = Some m
+made_unless (Some r) m = None
 
 -- the new store, or none where making is refused
 abbrev pub make : Making → Option Model

@@ -1,8 +1,5 @@
 -- The store as a value of plain lists. Here ports are decided by edges and fades by positions.
-use Rattle.std.specs.Prelude.{ℕ, zero, suc, List, [], ◌∷◌, ◌++◌, map, not}
-use Rattle.std.proofs.Math.Option.{Option, none, some}
-use Rattle.lists.specs.Filter.{filter}
-use Rattle.lists.specs.Find.{find}
+use Rattle.std.specs.Prelude.{ℕ, zero, suc, List, [], ◌∷◌, ◌++◌, map, not, Option, None, Some, filter, find, Result, Err, Ok}
 use Rattle.node.specs.declared.record.NodeId.{NodeId}
 use Rattle.node.specs.declared.record.VoiceId.{VoiceId}
 use Rattle.node.specs.declared.refusal.Refusal.{Refusal}
@@ -13,7 +10,6 @@ use Rattle.graph.specs.Change.{remove_voice}
 use Rattle.voice.specs.Policy.{admits}
 use Rattle.voice.specs.declared.policy.Admission.{Admission}
 use Rattle.voice.specs.declared.policy.Admission.TheVariants as admission
-use Rattle.store.specs.declared.answer.Spawned.{Spawned}
 use Rattle.store.specs.declared.voices.Voice.{Voice}
 use Rattle.store.specs.declared.voices.VoiceState.{VoiceState}
 use Rattle.store.specs.declared.voices.VoiceState.TheVariants.{Tracked, Loose}
@@ -46,19 +42,19 @@ cut_off v s m = without_voice v.id (record { shared = with_steals (reclaim_log v
 -- "a victim is untracked, faded, or freed if it cannot fade, and recorded": "a victim that feeds none there, and only such a
 -- one, cannot fade"
 abbrev pub stolen : Voice → Option ℕ → Model → Model
-stolen v (some p) m = fade v p m
-stolen v none m = cut_off v Tracked m
+stolen v (Some p) m = fade v p m
+stolen v None m = cut_off v Tracked m
 
 abbrev pub steal_voice : Voice → Model → Model
 steal_voice v m = stolen v (port_from m.shared.graph.edges (feeder v) v.bus) m
 
 -- ---- the port search
 pub record SpawnResult : Type 0 where
-  pub answer : Spawned
+  pub answer : Result VoiceId Refusal
   pub model : Model
 
 abbrev pub refused : Refusal → Model → SpawnResult
-refused r m = record { answer = Spawned.Refused r; model = m }
+refused r m = record { answer = Err r; model = m }
 
 -- "then the lowest port without an edge"
 abbrev pub port_free : NodeId → Model → Option ℕ
@@ -67,19 +63,19 @@ port_free bus m = free_port m.shared.graph.edges bus (ports_of (node_at m.shared
 abbrev pub instantiate : Spawn → VoiceState → ℕ → Model → SpawnResult
 instantiate x s p m =
     record {
-      answer = Spawned.Voice (next_voice m.shared);
+      answer = Ok (next_voice m.shared);
       model = record { shared = instantiate_shared x p m.shared; voices = m.voices ++ (new_voice x s p m.shared ∷ []) };
     }
 
 -- a port: instantiate there; none, and nobody to reclaim: 12; else reclaim that voice and "try again"
 abbrev pub instantiate_or : Option ℕ → Option Voice → Spawn → VoiceState → Model → (Model → SpawnResult) → SpawnResult
-instantiate_or (some p) o x s m again = instantiate x s p m
-instantiate_or none none x s m again = refused NoPort m
-instantiate_or none (some v) x s m again = again (cut_off v v.state m)
+instantiate_or (Some p) o x s m again = instantiate x s p m
+instantiate_or None None x s m again = refused NoPort m
+instantiate_or None (Some v) x s m again = again (cut_off v v.state m)
 
 -- at most `fuel` reclaims
 abbrev pub place : ℕ → Spawn → VoiceState → Model → SpawnResult
-place zero x s m = instantiate_or (port_free x.bus m) none x s m (refused NoPort)
+place zero x s m = instantiate_or (port_free x.bus m) None x s m (refused NoPort)
 place (suc fuel) x s m = instantiate_or (port_free x.bus m) (next_out m.shared x.bus x.rank m.voices) x s m (λ k. place fuel x s k)
 
 abbrev pub place_within_budget : Spawn → Model → SpawnResult
@@ -87,8 +83,8 @@ place_within_budget x m = place (tries m.shared.config.budget m.voices) x (state
 
 -- the victim of an admission is one of the voices
 abbrev pub steal_then : Option Voice → Spawn → Model → SpawnResult
-steal_then none x m = place_within_budget x m
-steal_then (some v) x m = place_within_budget x (steal_voice v m)
+steal_then None x m = place_within_budget x m
+steal_then (Some v) x m = place_within_budget x (steal_voice v m)
 
 abbrev pub admitted : Admission → Spawn → Model → SpawnResult
 admitted admission.Admit x m = place_within_budget x m
@@ -100,8 +96,8 @@ admission_on bus r m =
     admits m.shared.config.budget m.shared.config.policy r (candidates m.shared (counted m.shared.config.scope bus) m.voices)
 
 abbrev pub unless : Option Refusal → Model → SpawnResult → SpawnResult
-unless none m r = r
-unless (some n) m r = refused n m
+unless None m r = r
+unless (Some n) m r = refused n m
 
 -- `spawn_voice_on_bus_panned_managed`: the refusals of the table, then "admission; a victim ...; then the lowest port ..."
 abbrev pub spawn_managed : Spawn → Model → SpawnResult
@@ -114,8 +110,8 @@ spawn_loose x m = unless (spawn_refusal m.shared m.voices x.def x.bus x.rank) m 
 
 -- ---- "A free of an unknown voice does nothing."
 abbrev pub freed : Option Voice → Model → Model
-freed none m = m
-freed (some v) m = without_voice v.id m
+freed None m = m
+freed (Some v) m = without_voice v.id m
 
 abbrev pub free : VoiceId → Model → Model
 free w m = freed (find (is_voice w) m.voices) m

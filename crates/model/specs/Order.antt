@@ -1,7 +1,5 @@
 -- Values, glides and reports: what changes the record of a node.
-use Rattle.std.specs.Prelude.{ℕ, ◌+◌, List, Bool, true, false, cond, Float}
-use Rattle.std.proofs.Math.Option.{Option, none, some}
-use Rattle.lists.specs.Find.{find}
+use Rattle.std.specs.Prelude.{ℕ, ◌+◌, List, Bool, true, false, cond, Float, Option, None, Some, find}
 use Rattle.level.specs.Level.{level_of}
 use Rattle.node.specs.Node.{reported}
 use Rattle.node.specs.declared.name.Name.{Name}
@@ -38,16 +36,16 @@ abbrev pub stays : Outcome → SharedState → Ordered
 stays o d = record { outcome = o; shared = d }
 
 abbrev pub order_node : Option Node → LastOrder → SharedState → Ordered
-order_node none o d = stays NotTaken d
-order_node (some n) o d = cond (takes o n) (record { outcome = Applied; shared = with_node (with_last o n) d }) (stays NotTaken d)
+order_node None o d = stays NotTaken d
+order_node (Some n) o d = cond (takes o n) (record { outcome = Applied; shared = with_node (with_last o n) d }) (stays NotTaken d)
 
 abbrev pub order_param : Option ℕ → Voice → LastOrder → SharedState → Ordered
-order_param none v o d = stays NoParameter d
-order_param (some i) v o d = order_node (node_at d.graph.nodes (id (v.first.0 + i))) o d
+order_param None v o d = stays NoParameter d
+order_param (Some i) v o d = order_node (node_at d.graph.nodes (id (v.first.0 + i))) o d
 
 abbrev pub order_voice : Option Voice → Name → LastOrder → SharedState → Ordered
-order_voice none name o d = stays NoVoice d
-order_voice (some v) name o d = order_param (param_node (param_rows v.params) name) v o d
+order_voice None name o d = stays NoVoice d
+order_voice (Some v) name o d = order_param (param_node (param_rows v.params) name) v o d
 
 abbrev pub order : VoiceId → Name → LastOrder → List Voice → SharedState → Ordered
 order w name o vs d = order_voice (find (is_voice w) vs) name o d
@@ -62,8 +60,8 @@ outcome_number NotTaken = 3
 
 -- "A free answers 0 or 1": the voice that was looked for, or none
 abbrev pub free_outcome : Option Voice → Outcome
-free_outcome none = NoVoice
-free_outcome (some v) = Applied
+free_outcome None = NoVoice
+free_outcome (Some v) = Applied
 
 -- yes or no
 abbrev pub is_yes : Outcome → Bool
@@ -77,5 +75,5 @@ abbrev pub with_report : List Float → Bool → Node → Node
 with_report samples done n = reported (level_of samples) done n
 
 abbrev pub report_node : Option Node → List Float → Bool → SharedState → SharedState
-report_node none samples done d = d
-report_node (some n) samples done d = with_node (with_report samples done n) d
+report_node None samples done d = d
+report_node (Some n) samples done d = with_node (with_report samples done n) d

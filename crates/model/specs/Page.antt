@@ -1,8 +1,7 @@
 -- "The page": "a header and a line for each voice in voice order: id, clock less birth, port ..., state (`held` tracked, `fading`,
 -- `loose` otherwise), all decimal, one space between, a line feed after each". By 02's Paper 4 the port is not the one given at the
 -- spawn: "The port column shall show the port that the voice's output, pan node or fade feeds on its bus now, or `-` if none."
-use Rattle.std.specs.Prelude.{ℕ, ◌-◌, List, [], ◌∷◌, ◌++◌}
-use Rattle.std.proofs.Math.Option.{Option, none, some}
+use Rattle.std.specs.Prelude.{ℕ, ◌-◌, List, [], ◌∷◌, ◌++◌, Option, None, Some}
 use Rattle.node.specs.Silence.{bytes}
 use Rattle.node.specs.declared.record.Edge.{Edge}
 use Rattle.edges.specs.Ports.{port_from}
@@ -30,8 +29,8 @@ port_now es v = port_from es (end_of v) v.bus
 
 -- "or `-` if none"
 abbrev pub port_text : Option ℕ → List ℕ
-port_text none = bytes "-"
-port_text (some p) = decimal p
+port_text None = bytes "-"
+port_text (Some p) = decimal p
 
 -- the line of a voice that feeds the port o
 abbrev pub line : ℕ → Option ℕ → Voice → List ℕ

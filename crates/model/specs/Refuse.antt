@@ -1,8 +1,6 @@
 -- The refusals of making, of the spawns and of a report, in the order of the table "Where each refusal is checked, top first".
 -- Those of the host's calls are the graph's.
-use Rattle.std.specs.Prelude.{ℕ, ◌+◌, ◌*◌, List, Bool, true, false, not, ◌&&◌, ◌||◌, eqb, leb, ltb, length}
-use Rattle.std.proofs.Math.Option.{Option, none, some}
-use Rattle.lists.specs.Find.{find}
+use Rattle.std.specs.Prelude.{ℕ, ◌+◌, ◌*◌, List, Bool, true, false, not, ◌&&◌, ◌||◌, eqb, leb, ltb, length, Option, None, Some, find}
 use Rattle.node.specs.declared.record.NodeId.{NodeId}
 use Rattle.node.specs.declared.record.Node.{Node}
 use Rattle.node.specs.declared.refusal.Refusal.{Refusal}
@@ -11,8 +9,6 @@ use Rattle.node.specs.Refusal.{Said, refused, gives}
 use Rattle.edges.specs.Wiring.{edge_limit}
 use Rattle.graph.specs.Node.{node_limit, id_limit, node_at, ports_of}
 use Rattle.graph.specs.Refuse.{when, host_refusal}
-use Rattle.voice.specs.declared.policy.Budget.{Budget}
-use Rattle.voice.specs.declared.policy.Budget.TheVariants.{Unlimited, AtMost}
 use Rattle.synthdef.specs.Limits.{allowed}
 use Rattle.synthdef.specs.declared.def.SynthDef.{SynthDef}
 use Rattle.store.specs.declared.voices.Voice.{Voice}
@@ -31,9 +27,9 @@ abbrev pub no_rate : Said ℕ → Bool
 no_rate (refused n) = true
 no_rate (gives n) = false
 
-abbrev pub over_budget : Budget → Bool
-over_budget Unlimited = false
-over_budget (AtMost n) = ltb 64 n
+abbrev pub over_budget : Option ℕ → Bool
+over_budget None = false
+over_budget (Some n) = ltb 64 n
 
 -- 02: "A fade table for 48,000 Hz."
 abbrev pub table_rate : ℕ
@@ -44,12 +40,12 @@ other_rate (refused n) = true
 other_rate (gives n) = not (eqb n table_rate)
 
 -- 02: "20 table chosen at another rate, after 3"
-abbrev pub make_refusal : Said ℕ → ℕ → Budget → Bool → Option Refusal
+abbrev pub make_refusal : Said ℕ → ℕ → Option ℕ → Bool → Option Refusal
 make_refusal rate block budget table =
     when (no_rate rate) SampleRate
     (when (not (leb 1 block && leb block 128)) BlockSize
     (when (over_budget budget) BudgetTooLarge
-    (when (table && other_rate rate) TableRate none)))
+    (when (table && other_rate rate) TableRate None)))
 
 -- ---- a spawn, managed or not: 26; 9; 4 and 5 of the bus; 10; 7, headroom; 8
 -- 02, Paper 13: "a rank 0 to 7"
@@ -57,8 +53,8 @@ abbrev pub rank_limit : ℕ
 rank_limit = 7
 
 abbrev pub or_else : Option Refusal → Option Refusal → Option Refusal
-or_else none rest = rest
-or_else (some r) rest = some r
+or_else None rest = rest
+or_else (Some r) rest = Some r
 
 abbrev pub no_headroom : SharedState → List Voice → SynthDef → Bool
 no_headroom d vs def =
@@ -76,17 +72,17 @@ spawn_refusal d vs def bus rank =
     (or_else (host_refusal d.graph bus)
     (when (eqb (ports_of (node_at d.graph.nodes bus)) 0) BusWithoutPorts
     (when (no_headroom d vs def) TableFull
-    (when (no_ids d def) IdsUsedUp none)))))
+    (when (no_ids d def) IdsUsedUp None)))))
 
 -- ---- report: 4 "unknown or dead, or a voice's fade, pan or constant node"; 16 "channels not 1 or 2, or samples not
 -- channels × block"
 abbrev pub of_definition : ℕ → Option Voice → Bool
-of_definition k none = false
-of_definition k (some v) = leb v.first.0 k && ltb k (v.first.0 + v.count)
+of_definition k None = false
+of_definition k (Some v) = leb v.first.0 k && ltb k (v.first.0 + v.count)
 
 abbrev pub reports : List Voice → Option Node → Bool
-reports vs none = false
-reports vs (some n) = eqb n.owner.0 0 || of_definition n.id.0 (find (is_voice n.owner) vs)
+reports vs None = false
+reports vs (Some n) = eqb n.owner.0 0 || of_definition n.id.0 (find (is_voice n.owner) vs)
 
 abbrev pub lent_block : ℕ → ℕ → ℕ → Bool
 lent_block block channels samples = (eqb channels 1 || eqb channels 2) && eqb samples (channels * block)
@@ -94,4 +90,4 @@ lent_block block channels samples = (eqb channels 1 || eqb channels 2) && eqb sa
 abbrev pub report_refusal : SharedState → List Voice → NodeId → ℕ → ℕ → Option Refusal
 report_refusal d vs k channels samples =
     when (not (reports vs (node_at d.graph.nodes k))) UnknownNode
-    (when (not (lent_block d.config.block channels samples)) LentBlock none)
+    (when (not (lent_block d.config.block channels samples)) LentBlock None)

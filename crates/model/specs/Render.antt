@@ -1,14 +1,10 @@
 -- Prepare and render.
-use Rattle.std.specs.Prelude.{ℕ, ◌+◌, min, List, [], ◌∷◌, map, Bool, true, false, ◌||◌, cond, ltb}
-use Rattle.std.proofs.Math.Option.{Option, none}
-use Rattle.lists.specs.Find.{find}
+use Rattle.std.specs.Prelude.{ℕ, ◌+◌, min, List, [], ◌∷◌, map, Bool, true, false, ◌||◌, cond, ltb, Option, None, find, Result, Err, Ok}
 use Rattle.node.specs.declared.order.EventAction.{EventAction}
 use Rattle.node.specs.declared.record.NodeId.{NodeId}
 use Rattle.node.specs.declared.refusal.Refusal.{Refusal}
 use Rattle.node.specs.declared.refusal.Refusal.TheVariants.{ClockEnd, ShortBuffer}
 use Rattle.prepare.specs.Prepare as graph
-use Rattle.prepare.specs.declared.Readiness.{Readiness}
-use Rattle.prepare.specs.declared.Readiness.TheVariants.{Ready, Refused}
 use Rattle.scheduler.specs.Event.{param_order}
 use Rattle.scheduler.specs.Queue.{taken_before, left_after}
 use Rattle.scheduler.specs.declared.event.Event.{Event}
@@ -26,9 +22,9 @@ use Rattle.model.specs.Order.{order, outcome_number, free_outcome}
 abbrev pub prepare_outcome : SharedState → graph.Outcome
 prepare_outcome d = graph.prepare d.graph.nodes d.graph.edges
 
-abbrev pub ready_shared : Readiness → List NodeId → SharedState → SharedState
-ready_shared Ready l d = with_graph (prepared_by d.graph l) d
-ready_shared (Refused r) l d = d
+abbrev pub ready_shared : Result (Unit {0}) Refusal → List NodeId → SharedState → SharedState
+ready_shared (Ok tt) l d = with_graph (prepared_by d.graph l) d
+ready_shared (Err r) l d = d
 
 abbrev pub prepare_shared : SharedState → SharedState
 prepare_shared d = ready_shared (prepare_outcome d).answer (prepare_outcome d).order d
@@ -79,9 +75,9 @@ abbrev pub heard : Bool → Rendered
 heard true = Rendered.Sounding
 heard false = Rendered.Silent
 
-abbrev pub answer_after : Readiness → SharedState → Rendered
-answer_after Ready d = heard (sounding d)
-answer_after (Refused r) d = Rendered.Unprepared r
+abbrev pub answer_after : Result (Unit {0}) Refusal → SharedState → Rendered
+answer_after (Ok tt) d = heard (sounding d)
+answer_after (Err r) d = Rendered.Unprepared r
 
 abbrev pub is_sounding : Rendered → Bool
 is_sounding Rendered.Sounding = true
@@ -125,7 +121,7 @@ clock_ends d = ltb 18446744073709551615 (deadline d)
 
 -- 02, Paper 1: "in a lent list of 256 entries; later entries stay, and a shorter list gives 17, after 15", whatever is due
 abbrev pub render_refusal : SharedState → ℕ → Option Refusal
-render_refusal d entries = when (clock_ends d) ClockEnd (when (ltb entries 256) ShortBuffer none)
+render_refusal d entries = when (clock_ends d) ClockEnd (when (ltb entries 256) ShortBuffer None)
 
 -- a render that is not refused
 abbrev pub render : Model → Heard

@@ -1,6 +1,6 @@
 -- The vocabulary of the scenes: a store, the calls in short, and what is looked at. A scene is a closed list of calls that
 -- computes to its literal outcome; each names the wrong rule that it refuses.
-use Rattle.std.specs.Prelude.{ℕ, List, [], ◌∷◌, ◌++◌, map, Bool, true, false, pos, Float, replicate, length}
+use Rattle.std.specs.Prelude.{ℕ, List, [], ◌∷◌, ◌++◌, map, Bool, true, false, pos, Float, replicate, length, Option, Some, Err, Ok}
 use Prim.Native.String.{String}
 use Rattle.std.specs.Float.{inf, fin}
 use Rattle.node.specs.Silence.{name, bytes}
@@ -12,8 +12,6 @@ use Rattle.node.specs.declared.order.LastOrder.{LastOrder}
 use Rattle.node.specs.declared.record.VoiceId.{VoiceId}
 use Rattle.node.specs.declared.record.Edge.{Edge}
 use Rattle.node.specs.declared.refusal.Refusal.{Refusal}
-use Rattle.voice.specs.declared.policy.Budget.{Budget}
-use Rattle.voice.specs.declared.policy.Budget.TheVariants.{AtMost}
 use Rattle.voice.specs.declared.policy.BudgetScope.{BudgetScope}
 use Rattle.voice.specs.declared.policy.StealPolicy.{StealPolicy}
 use Rattle.synthdef.specs.declared.def.DefNode.{DefNode}
@@ -21,7 +19,6 @@ use Rattle.synthdef.specs.declared.def.DefEdge.{DefEdge}
 use Rattle.synthdef.specs.declared.def.Param.{Param}
 use Rattle.synthdef.specs.declared.def.SynthDef.{SynthDef}
 use Rattle.store.specs.declared.answer.Rendered.{Rendered}
-use Rattle.store.specs.declared.answer.Spawned.TheVariants as Spawned
 use Rattle.store.specs.declared.config.Config.{Config}
 use Rattle.store.specs.declared.voices.Voice.{Voice}
 use Rattle.store.specs.declared.voices.VoiceState.{VoiceState}
@@ -34,16 +31,16 @@ use Rattle.model.specs.Call as call
 use Rattle.model.specs.Spawn.{spawn_of}
 
 -- ---- stores: rate 8000, so that L is 40; block 16
-abbrev pub config : Budget → StealPolicy → BudgetScope → Config
+abbrev pub config : Option ℕ → StealPolicy → BudgetScope → Config
 config b p s = record { rate = 8000; block = 16; budget = b; policy = p; scope = s; table = false }
 
 -- all voices count
 abbrev pub up_to : ℕ → StealPolicy → Config
-up_to n p = config (AtMost n) p BudgetScope.Global
+up_to n p = config (Some n) p BudgetScope.Global
 
 -- a block of one sample: L is 40 blocks, and a report of a sample is its level
 abbrev pub small : ℕ → StealPolicy → Config
-small n p = record { rate = 8000; block = 1; budget = AtMost n; policy = p; scope = BudgetScope.Global; table = false }
+small n p = record { rate = 8000; block = 1; budget = Some n; policy = p; scope = BudgetScope.Global; table = false }
 
 -- ---- definitions of one node, which has no ports
 abbrev pub plain : String → Bool → Bool → DefNode
@@ -151,10 +148,10 @@ timed_free t w = call.schedule t (voice w) [] EventAction.Free
 
 -- ---- answers
 abbrev pub spawned : ℕ → Answer
-spawned w = call.spawned (Spawned.Voice (voice w))
+spawned w = call.spawned (Ok (voice w))
 
 abbrev pub not_spawned : Refusal → Answer
-not_spawned r = call.spawned (Spawned.Refused r)
+not_spawned r = call.spawned (Err r)
 
 -- a render that took no event
 abbrev pub sounding : Answer

@@ -1,8 +1,7 @@
 -- What the store has besides its voices: what making fixed, the graph, the pending events, the steal records, the clock, the
 -- voice ids given out. The ledger has the same, since 01 says of the ledger: "From these the rules above
 -- give its nodes, edges, ids, clock, events, reports and steal records".
-use Rattle.std.specs.Prelude.{ℕ, ◌+◌, List, [], Bool, ◌&&◌}
-use Rattle.lists.specs.Find.{is_some}
+use Rattle.std.specs.Prelude.{ℕ, ◌+◌, List, [], Bool, ◌&&◌, is_some}
 use Rattle.bus.specs.Fade.{fade_length}
 use Rattle.graph.specs.View.{GraphView, new_graph}
 use Rattle.scheduler.specs.declared.event.Event.{Event}

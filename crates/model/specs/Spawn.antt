@@ -1,9 +1,7 @@
 -- What a spawn puts into the graph, and who is removed for it: the parts of 01's "Managed spawn" that do not ask who holds a port.
-use Rattle.std.specs.Prelude.{ℕ, ◌+◌, List, [], ◌∷◌, ◌++◌, map, Bool, true, false, not, cond, ◌&&◌, leb, length, pos, Float}
-use Rattle.std.proofs.Math.Option.{Option, none, some}
+use Rattle.std.specs.Prelude.{ℕ, ◌+◌, List, [], ◌∷◌, ◌++◌, map, Bool, true, false, not, cond, ◌&&◌, leb, length, pos, Float, Option, None, Some, find}
 use Rattle.std.specs.Float.{fin}
 use Rattle.std.specs.Float.Ieee.{eq}
-use Rattle.lists.specs.Find.{find, or?}
 use Rattle.node.specs.Node.{new_node}
 use Rattle.node.specs.Silence.{name}
 use Rattle.node.specs.declared.name.Name.{Name}
@@ -13,11 +11,7 @@ use Rattle.node.specs.declared.record.Node.{Node}
 use Rattle.graph.specs.View.{GraphView}
 use Rattle.graph.specs.Node.{node_at, noise_of, noise_raised}
 use Rattle.graph.specs.Change.{append, connect, with_nodes}
-use Rattle.voice.specs.Policy.{victim}
-use Rattle.voice.specs.declared.policy.Victim.{Victim}
-use Rattle.voice.specs.declared.policy.Victim.TheVariants.{Nobody, Goes}
-use Rattle.voice.specs.declared.policy.Budget.{Budget}
-use Rattle.voice.specs.declared.policy.Budget.TheVariants.{Unlimited, AtMost}
+use Rattle.voice.specs.Policy.{Victim, victim}
 use Rattle.voice.specs.Steals.{StealLog, pushed, marked, record_of}
 use Rattle.synthdef.specs.Tables.{node_rows, edge_rows}
 use Rattle.synthdef.specs.Edges.{counted}
@@ -134,14 +128,14 @@ new_voice x s p d =
     }
 
 -- "tracked under a budget"; "without a budget nobody is tracked, stolen or reclaimed"
-abbrev pub state_under : Budget → VoiceState
-state_under Unlimited = Loose
-state_under (AtMost n) = Tracked
+abbrev pub state_under : Option ℕ → VoiceState
+state_under None = Loose
+state_under (Some n) = Tracked
 
 -- how often a port may be made: never without a budget, else at most once for each voice
-abbrev pub tries : Budget → List Voice → ℕ
-tries Unlimited vs = 0
-tries (AtMost n) vs = length vs
+abbrev pub tries : Option ℕ → List Voice → ℕ
+tries None vs = 0
+tries (Some n) vs = length vs
 
 -- ---- a fade: "takes the port of the bus that the victim's output or pan node feeds at that moment". Its node takes its id
 -- first; the edge to the bus replaces the feeder's
@@ -167,25 +161,25 @@ reclaim_log v Loose d = d.steals
 
 -- ---- who is removed
 abbrev pub voice_of : Victim → List Voice → Option Voice
-voice_of Nobody vs = none
-voice_of (Goes place w) vs = find (is_voice w) vs
+voice_of None vs = None
+voice_of (Some (place, w)) vs = find (is_voice w) vs
 
 -- "the earliest-started fade of that bus (ties by voice order)"
 abbrev pub no_later : Voice → Voice → Bool
 no_later v u = leb (start_of v.state) (start_of u.state)
 
 abbrev pub earlier : Option Voice → Bool → Voice → Option Voice
-earlier none b v = or? b v none
-earlier (some u) b v = or? (b && no_later v u) v (some u)
+earlier None b v = cond b (Some v) None
+earlier (Some u) b v = cond (b && no_later v u) (Some v) (Some u)
 
 abbrev pub earliest : (Voice → Bool) → List Voice → Option Voice
-earliest q [] = none
+earliest q [] = None
 earliest q (v ∷ vs) = earlier (earliest q vs) (q v) v
 
 -- "else ... the policy's victim among tracked voices of that bus"
 abbrev pub else_victim : Option Voice → Option Voice → Option Voice
-else_victim none o = o
-else_victim (some v) o = some v
+else_victim None o = o
+else_victim (Some v) o = Some v
 
 -- who is removed for a port of the bus, for a new voice of rank r. 02, Paper 13: "Fades are reclaimed regardless of rank."
 abbrev pub next_out : SharedState → NodeId → ℕ → List Voice → Option Voice

@@ -1,15 +1,11 @@
 -- Voices: who they are, their states, the node that they sound through, their level, and how a fade begins and moves.
 -- A fade's `position` is a number of samples in the model. The ledger keeps the same record and has there the count of
 -- sounding renders.
-use Rattle.std.specs.Prelude.{ℕ, ◌+◌, List, map, Bool, true, false, ◌&&◌, cond, eqb, ltb}
-use Rattle.std.proofs.Math.Option.{Option, none, some}
-use Rattle.lists.specs.Filter.{filter}
+use Rattle.std.specs.Prelude.{ℕ, ◌+◌, List, map, Bool, true, false, ◌&&◌, cond, eqb, ltb, Option, None, Some, filter, Float}
 use Rattle.node.specs.declared.record.NodeId.{NodeId}
 use Rattle.node.specs.declared.record.VoiceId.{VoiceId}
 use Rattle.node.specs.declared.record.Node.{Node}
 use Rattle.graph.specs.Node.{node_at}
-use Rattle.voice.specs.declared.policy.Level.{Level}
-use Rattle.voice.specs.declared.policy.Level.TheVariants.{Unknown, Known}
 use Rattle.voice.specs.declared.policy.Candidate.{Candidate}
 use Rattle.voice.specs.declared.policy.BudgetScope.{BudgetScope}
 use Rattle.voice.specs.Policy.{counts}
@@ -78,16 +74,16 @@ abbrev pub is_on : NodeId → Voice → Bool
 is_on bus v = eqb v.bus.0 bus.0
 
 -- ---- level: "none until the clock passes the birth sample, and none for an unknown voice or a dead output"
-abbrev pub node_level : Option Node → Level
-node_level none = Unknown
-node_level (some n) = Known n.level
+abbrev pub node_level : Option Node → Option Float
+node_level None = None
+node_level (Some n) = Some n.level
 
-abbrev pub voice_level : SharedState → Voice → Level
-voice_level d v = cond (ltb v.birth d.clock) (node_level (node_at d.graph.nodes v.output)) Unknown
+abbrev pub voice_level : SharedState → Voice → Option Float
+voice_level d v = cond (ltb v.birth d.clock) (node_level (node_at d.graph.nodes v.output)) None
 
-abbrev pub level_or : SharedState → Option Voice → Level
-level_or d none = Unknown
-level_or d (some v) = voice_level d v
+abbrev pub level_or : SharedState → Option Voice → Option Float
+level_or d None = None
+level_or d (Some v) = voice_level d v
 
 -- ---- candidates: voices in order of admission, each with its level and its rank
 abbrev pub candidate : SharedState → Voice → Candidate

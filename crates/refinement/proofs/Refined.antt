@@ -1,11 +1,10 @@
 -- Every call's contract is the model's step, so that a run of calls on a lent store is the model's run; the store of an accepted making
 -- is the model's new store; and a refusal other than 12 leaves the very memory.
+use Rattle.node.specs.declared.refusal.Refusal.{Refusal}
 use mathlib.Core.Path.{◌≡◌, refl, sym, ap, ◌∙◌}
 use mathlib.Core.List.{List, map}
-use mathlib.Core.Option.{some}
+use Rattle.std.specs.Prelude.{Some, Err, Ok, Result}
 use Rattle.lists.proofs.Member.{some_inj, none_some}
-use Rattle.graph.specs.declared.state.Answer.TheVariants as graph
-use Rattle.graph.specs.declared.state.Answer as answer
 use Rattle.model.specs.Model.{Model}
 use Rattle.model.specs.Make.{Making, make}
 use Rattle.model.specs.Call.{Call, Answer, Ran, run}
@@ -104,16 +103,16 @@ pub run_is : {m n : Memory} {cs : List Call} {said : List Answer} → Runs m cs 
 run_is r = lent.run_is (runs r)
 
 -- the store of an accepted making is the model's new store, whatever stands in the tables
-made_new : (k : Making) (m : Model) (a : answer.Answer) (n : Memory) → if_done a (model_of n) ≡ make k → make k ≡ some m → model_of n ≡ m
+made_new : (k : Making) (m : Model) (a : Result (Unit {0}) Refusal) (n : Memory) → if_done a (model_of n) ≡ make k → make k ≡ Some m → model_of n ≡ m
 made_new k m a n e accepted = go a (e ∙ accepted)
   where
-    go : (a : answer.Answer) → if_done a (model_of n) ≡ some m → model_of n ≡ m
-    go graph.Done h = some_inj h
-    go (graph.Refused x) h = absurd (none_some h)
+    go : (a : Result (Unit {0}) Refusal) → if_done a (model_of n) ≡ Some m → model_of n ≡ m
+    go (Ok tt) h = some_inj h
+    go (Err x) h = absurd (none_some h)
 
 -- the refinement, from the contract of `make`
 pub refines : (κs : _) (a : _) (r : _) (s : _) → fn-make.Post κs a r s
-    → (m : Model) → make a.0 ≡ some m
+    → (m : Model) → make a.0 ≡ Some m
     → (tables last : Memory) (cs : List Call) (said : List Answer) → Runs (lent_state r.state tables) cs said last
     → Refines a.0 m cs said last
 refines κs a r s p m accepted tables last cs said ran =

@@ -5,19 +5,16 @@
 -- contract that says less has a `Post` that says less, and then `called` (proofs/Refined.antt) is not proved.
 use Rattle.std.specs.Prelude.{◌≡◌, List, [], ◌∷◌, take}
 use Rattle.node.specs.declared.order.LastOrder.TheVariants as LastOrder
-use Rattle.graph.specs.Tables.{found_node_of}
 use Rattle.graph_rows.specs.Edge.{edges_in}
 use Rattle.order_table.specs.Prepares.{ids_in}
 use Rattle.voice.specs.Steals.{log_of}
 use Rattle.voice_rows.specs.Rows.{voices_in}
-use Rattle.model.specs.Numbers.{position_says}
 use Rattle.model.specs.Wish.{call_of}
 use Rattle.model.specs.Call.{Call, Answer}
 use Rattle.model.specs.Call as call
 use Rattle.memory.specs.View.{Memory}
 use Rattle.memory.specs.Lent.{lent_edges, lent_events, lent_graph, lent_nodes, lent_order, lent_page, lent_params, lent_processing, lent_render, lent_spawn, lent_state, lent_steals, lent_voice_table, lent_voices}
 use Rattle.memory.specs.Called.{answered, add_answered}
-use Rattle.call_read.specs.Found.{voice_found}
 use Rattle.call_page.specs.Paged.{paged_of}
 use Rattle.mixing.specs.Filled.{filled_of}
 use Rattle.whole_mixing.specs.Filled as whole
@@ -56,7 +53,7 @@ use Rattle.whole_mixing.proofs.bus_sum.Reads as fn-whole-sum
 pub data Contract : Call → Memory → Answer → Memory → Type 1 where
   -- the host's nodes and wiring
   add_node : (κs : _) (a : _) (r : _) (s : _) → fn-add-node.Post κs a r s → (m : Memory)
-      → Contract (call.add_node a.1.1.0.now a.1.1.1.0.ports a.1.1.1.0.required a.1.1.1.0.takes_values a.1.1.1.0.takes_glides) (lent_nodes a.0 a.1.0.now m) (add_answered r.given) (lent_nodes r.state s.1.0.now m)
+      → Contract (call.add_node a.1.1.0.now a.1.1.1.0.ports a.1.1.1.0.required a.1.1.1.0.takes_values a.1.1.1.0.takes_glides) (lent_nodes a.0 a.1.0.now m) (add_answered r.answer) (lent_nodes r.state s.1.0.now m)
   remove_node : (κs : _) (a : _) (r : _) (s : _) → fn-remove-node.Post κs a r s → (m : Memory)
       → Contract (call.remove_node a.1.1.1.0) (lent_graph a.0 a.1.0.now a.1.1.0.now m) (answered r.answer) (lent_graph r.state s.1.0.now s.1.1.0.now m)
   connect : (κs : _) (a : _) (r : _) (s : _) → fn-connect.Post κs a r s → (m : Memory)
@@ -91,11 +88,11 @@ pub data Contract : Call → Memory → Answer → Memory → Type 1 where
   voice_level : (κs : _) (a : _) (r : _) (s : _) → fn-voice-level.Post κs a r s → (m : Memory)
       → Contract (call.ask (call.level a.1.1.1.0)) (lent_params a.0 a.1.0.now a.1.1.0.now m) (call.known r) (lent_params a.0 a.1.0.now a.1.1.0.now m)
   fade_position : (κs : _) (a : _) (r : _) (s : _) → fn-fade-position.Post κs a r s → (m : Memory)
-      → Contract (call.ask (call.position a.1.1.0)) (lent_voice_table a.0 a.1.0.now m) (call.reached (position_says r)) (lent_voice_table a.0 a.1.0.now m)
+      → Contract (call.ask (call.position a.1.1.0)) (lent_voice_table a.0 a.1.0.now m) (call.reached (r)) (lent_voice_table a.0 a.1.0.now m)
   voice : (κs : _) (a : _) (r : _) (s : _) → fn-voice.Post κs a r s → (m : Memory)
-      → Contract (call.ask (call.voice a.1.1.0)) (lent_voice_table a.0 a.1.0.now m) (call.found (voice_found r)) (lent_voice_table a.0 a.1.0.now m)
+      → Contract (call.ask (call.voice a.1.1.0)) (lent_voice_table a.0 a.1.0.now m) (call.found (r)) (lent_voice_table a.0 a.1.0.now m)
   voice_at : (κs : _) (a : _) (r : _) (s : _) → fn-voice-at.Post κs a r s → (m : Memory)
-      → Contract (call.ask (call.voice_at a.1.1.0)) (lent_voice_table a.0 a.1.0.now m) (call.found (voice_found r)) (lent_voice_table a.0 a.1.0.now m)
+      → Contract (call.ask (call.voice_at a.1.1.0)) (lent_voice_table a.0 a.1.0.now m) (call.found (r)) (lent_voice_table a.0 a.1.0.now m)
   voices : (κs : _) (a : _) (r : _) (s : _) → fn-voices.Post κs a r s → (m : Memory)
       → Contract (call.ask call.voices) (lent_voice_table a.0 a.1.0.now m) (call.all (take r (voices_in a.1.0.now))) (lent_voice_table a.0 a.1.0.now m)
   steals : (κs : _) (a : _) (r : _) (s : _) → fn-steals.Post κs a r s → (m : Memory)
@@ -107,7 +104,7 @@ pub data Contract : Call → Memory → Answer → Memory → Type 1 where
   sources : (κs : _) (a : _) (r : _) (s : _) → fn-sources.Post κs a r s → (m : Memory)
       → Contract (call.ask (call.sources a.1.1.0)) (lent_edges a.0 a.1.0.now m) (call.fed r) (lent_edges a.0 a.1.0.now m)
   node_record : (κs : _) (a : _) (r : _) (s : _) → fn-node-record.Post κs a r s → (m : Memory)
-      → Contract (call.ask (call.node_record a.1.1.0)) (lent_nodes a.0 a.1.0.now m) (call.found_node (found_node_of r)) (lent_nodes a.0 a.1.0.now m)
+      → Contract (call.ask (call.node_record a.1.1.0)) (lent_nodes a.0 a.1.0.now m) (call.found_node (r)) (lent_nodes a.0 a.1.0.now m)
   clock : (κs : _) (a : _) (r : _) (s : _) → fn-clock.Post κs a r s → (m : Memory)
       → Contract (call.ask call.clock) (lent_state a.0 m) (call.time r) (lent_state a.0 m)
   page : (κs : _) (a : _) (r : _) (s : _) → fn-page.Post κs a r s → (m : Memory)

@@ -5,7 +5,7 @@ use Prim.Native.Nat.{ℕ, ◌+◌}
 use mathlib.Core.Path.{◌≡◌, refl, sym, ap, ◌∙◌, subst}
 use mathlib.Core.Logic.{inl, inr}
 use mathlib.Core.List.{List, [], ◌∷◌, map}
-use mathlib.Core.Option.{Option, none, some}
+use Rattle.std.specs.Prelude.{Option, None, Some, find, option_map, filter}
 use mathlib.Core.Bool.{Bool, true, false, ◌&&◌, ◌||◌, not, cond, false≢true, true≢false}
 use lib.Dec.{eqb}
 use borrow.Author.Tests.{eqb-true, eqb-false, eq-eqb, ne_eqb, not-true}
@@ -25,9 +25,8 @@ use Rattle.store.specs.declared.answer.Outcome.TheVariants.{Applied, NotTaken}
 use Rattle.model.specs.Order as param
 use Rattle.lists.specs.Member.{In}
 use Rattle.lists.proofs.Member.{in_map, map_same, map_swap, and_left, and_right, some_inj, none_some}
-use Rattle.lists.specs.Find.{or?, find, map_o, filter_o, Once}
+use Rattle.lists.specs.Find.{filter_o, Once}
 use Rattle.lists.proofs.Find.{find_in, find_map, find_same, find_filter_some, find_filter_same, once_filter}
-use Rattle.lists.specs.Filter.{filter}
 use Rattle.lists.proofs.Filter.{filter_map, in_filter}
 use Rattle.node.specs.Name.{named, text, same_bytes, same_name}
 use Rattle.edges.specs.Wiring.{among, drop_touching}
@@ -59,8 +58,8 @@ abbrev pub set_at : ℕ → LastOrder → Model → Model
 set_at k o m = at_nodes (set k o m.shared.graph.nodes) m
 
 abbrev pub put : Option ℕ → LastOrder → Model → Model
-put none o m = m
-put (some k) o m = set_at k o m
+put None o m = m
+put (Some k) o m = set_at k o m
 
 module _ (k : ℕ) (o : LastOrder) where
   touched_id : (x : Node) → (touched k o x).id ≡ x.id
@@ -95,7 +94,7 @@ module _ (k : ℕ) (o : LastOrder) where
   touched_of : (w : VoiceId) (x : Node) → owned_by w (touched k o x) ≡ owned_by w x
   touched_of w x = ap (λ (i : VoiceId). eqb i.0 w.0) (touched_owner x)
 
-  pub look_set : (j : NodeId) (ns : List Node) → node_at (set k o ns) j ≡ map_o (touched k o) (node_at ns j)
+  pub look_set : (j : NodeId) (ns : List Node) → node_at (set k o ns) j ≡ option_map (touched k o) (node_at ns j)
   look_set j ns = find_map (touched k o) (is_node j) (is_node j) (touched_at j) ns
 
 -- the later one of two is left
@@ -122,16 +121,16 @@ set_swap j k u o off ns = map_swap (touched k o) (touched j u) (touched j u) one
 
 -- ---- the node whose last order an event sets, if it does
 abbrev pub taken : LastOrder → Option Node → Bool
-taken o none = false
-taken o (some n) = takes o n
+taken o None = false
+taken o (Some n) = takes o n
 
 abbrev pub aim_param : Option ℕ → Voice → LastOrder → List Node → Option ℕ
-aim_param none v o ns = none
-aim_param (some i) v o ns = or? (taken o (node_at ns (id (v.first.0 + i)))) (v.first.0 + i) none
+aim_param None v o ns = None
+aim_param (Some i) v o ns = cond (taken o (node_at ns (id (v.first.0 + i)))) (Some (v.first.0 + i)) None
 
 abbrev pub aim_voice : Option Voice → Name → LastOrder → List Node → Option ℕ
-aim_voice none name o ns = none
-aim_voice (some v) name o ns = aim_param (param_node (param_rows v.params) name) v o ns
+aim_voice None name o ns = None
+aim_voice (Some v) name o ns = aim_param (param_node (param_rows v.params) name) v o ns
 
 abbrev pub aim : Event → Model → Option ℕ
 aim e m = aim_voice (find (is_voice e.voice) m.voices) (param_of e.action e.name) (order_of e.action) m.shared.graph.nodes
@@ -139,7 +138,7 @@ aim e m = aim_voice (find (is_voice e.voice) m.voices) (param_of e.action e.name
 -- ---- what is needed of a store: ids of nodes are distinct, and the node of a voice's parameter is the voice's own
 pub record Good (m : Model) : Type 0 where
   pub once : (k : ℕ) → Once (is_node (id k)) m.shared.graph.nodes
-  pub own : (v : Voice) → In v m.voices → (name : Name) (i : ℕ) → param_node (param_rows v.params) name ≡ some i
+  pub own : (v : Voice) → In v m.voices → (name : Name) (i : ℕ) → param_node (param_rows v.params) name ≡ Some i
       → (x : Node) → In x m.shared.graph.nodes → x.id.0 ≡ v.first.0 + i → x.owner.0 ≡ v.id.0
 
 pub good_set : (k : ℕ) (o : LastOrder) (m : Model) → Good m → Good (set_at k o m)
@@ -148,7 +147,7 @@ good_set k o m g =
       once = λ j x i h.
           let r = in_map (touched k o) ns x i in
           let t : is_node (id j) r.0 ≡ true = sym (touched_at k o (id j) r.0) ∙ ap (is_node (id j)) (sym r.2) ∙ h in
-          look_set k o (id j) ns ∙ ap (map_o (touched k o)) (g.once j r.0 r.1 t) ∙ ap some (sym r.2);
+          look_set k o (id j) ns ∙ ap (option_map (touched k o)) (g.once j r.0 r.1 t) ∙ ap Some (sym r.2);
       own = λ v q name i e x j h.
           let r = in_map (touched k o) ns x j in
           let a : x.id ≡ r.0.id = ap (λ (y : Node). y.id) r.2 ∙ touched_id k o r.0 in
@@ -167,7 +166,7 @@ good_removed w m g =
     }
 
 -- ---- an event that is no free sets a last order, or does nothing
-replaced_set : (k : ℕ) (o : LastOrder) (ns : List Node) (n : Node) → Once (is_node (id k)) ns → node_at ns (id k) ≡ some n → replaced ns (with_last o n) ≡ set k o ns
+replaced_set : (k : ℕ) (o : LastOrder) (ns : List Node) (n : Node) → Once (is_node (id k)) ns → node_at ns (id k) ≡ Some n → replaced ns (with_last o n) ≡ set k o ns
 replaced_set k o ns n one e = map_same (λ x. cond (is_node n.id x) (with_last o n) x) (touched k o) ns (λ x i. go x i (is_node (id k) x) refl)
   where
     at : n.id.0 ≡ k
@@ -189,32 +188,32 @@ module _ (m : Model) (g : Good m) (o : LastOrder) where
   abbrev ordered : param.Ordered → Model
   ordered r = record { shared = r.shared; voices = m.voices }
 
-  order_node_lem : (k : ℕ) (u : Option Node) → node_at m.shared.graph.nodes (id k) ≡ u → ordered (order_node u o m.shared) ≡ put (or? (taken o u) k none) o m
-  order_node_lem k none e = refl
-  order_node_lem k (some n) e = go (takes o n)
+  order_node_lem : (k : ℕ) (u : Option Node) → node_at m.shared.graph.nodes (id k) ≡ u → ordered (order_node u o m.shared) ≡ put (cond (taken o u) (Some k) None) o m
+  order_node_lem k None e = refl
+  order_node_lem k (Some n) e = go (takes o n)
     where
-      go : (b : Bool) → ordered (cond b (record { outcome = Applied; shared = with_node (with_last o n) m.shared }) (stays NotTaken m.shared)) ≡ put (or? b k none) o m
+      go : (b : Bool) → ordered (cond b (record { outcome = Applied; shared = with_node (with_last o n) m.shared }) (stays NotTaken m.shared)) ≡ put (cond b (Some k) None) o m
       go true = ap (λ z. at_nodes z m) (replaced_set k o m.shared.graph.nodes n (g.once k) e)
       go false = refl
 
   order_param_lem : (u : Option ℕ) (v : Voice) → ordered (order_param u v o m.shared) ≡ put (aim_param u v o m.shared.graph.nodes) o m
-  order_param_lem none v = refl
-  order_param_lem (some i) v = order_node_lem (v.first.0 + i) (node_at m.shared.graph.nodes (id (v.first.0 + i))) refl
+  order_param_lem None v = refl
+  order_param_lem (Some i) v = order_node_lem (v.first.0 + i) (node_at m.shared.graph.nodes (id (v.first.0 + i))) refl
 
   order_voice_lem : (u : Option Voice) (name : Name) → ordered (order_voice u name o m.shared) ≡ put (aim_voice u name o m.shared.graph.nodes) o m
-  order_voice_lem none name = refl
-  order_voice_lem (some v) name = order_param_lem (param_node (param_rows v.params) name) v
+  order_voice_lem None name = refl
+  order_voice_lem (Some v) name = order_param_lem (param_node (param_rows v.params) name) v
 
 pub applied_put : (e : Event) (m : Model) → Good m → is_free e.action ≡ false → apply_event e m ≡ put (aim e m) (order_of e.action) m
 applied_put e m g h = rw h (order_voice_lem m g (order_of e.action) (find (is_voice e.voice) m.voices) (param_of e.action e.name))
 
 good_put : (u : Option ℕ) (o : LastOrder) (m : Model) → Good m → Good (put u o m)
-good_put none o m g = g
-good_put (some k) o m g = good_set k o m g
+good_put None o m g = g
+good_put (Some k) o m g = good_set k o m g
 
 good_freed : (u : Option Voice) (m : Model) → Good m → Good (freed u m)
-good_freed none m g = g
-good_freed (some v) m g = good_removed v.id m g
+good_freed None m g = g
+good_freed (Some v) m g = good_removed v.id m g
 
 pub good_applied : (e : Event) (m : Model) → Good m → Good (apply_event e m)
 good_applied e m g = go (is_free e.action) refl
@@ -224,9 +223,9 @@ good_applied e m g = go (is_free e.action) refl
     go false h = subst Good (sym (applied_put e m g h)) (good_put (aim e m) (order_of e.action) m g)
 
 -- ---- the aim of an event does not depend on last orders
-taken_set : (k : ℕ) (o u : LastOrder) (x : Option Node) → taken u (map_o (touched k o) x) ≡ taken u x
-taken_set k o u none = refl
-taken_set k o u (some n) = touched_takes k o u n
+taken_set : (k : ℕ) (o u : LastOrder) (x : Option Node) → taken u (option_map (touched k o) x) ≡ taken u x
+taken_set k o u None = refl
+taken_set k o u (Some n) = touched_takes k o u n
 
 pub aim_set : (e : Event) (k : ℕ) (o : LastOrder) (m : Model) → aim e (set_at k o m) ≡ aim e m
 aim_set e k o m = voice (find (is_voice e.voice) m.voices)
@@ -238,12 +237,12 @@ aim_set e k o m = voice (find (is_voice e.voice) m.voices)
     ns = m.shared.graph.nodes
 
     at : (i : Option ℕ) (v : Voice) → aim_param i v u (set k o ns) ≡ aim_param i v u ns
-    at none v = refl
-    at (some i) v = ap (λ b. or? b (v.first.0 + i) none) (ap (taken u) (look_set k o (id (v.first.0 + i)) ns) ∙ taken_set k o u (node_at ns (id (v.first.0 + i))))
+    at None v = refl
+    at (Some i) v = ap (λ b. cond b (Some (v.first.0 + i)) None) (ap (taken u) (look_set k o (id (v.first.0 + i)) ns) ∙ taken_set k o u (node_at ns (id (v.first.0 + i))))
 
     voice : (v : Option Voice) → aim_voice v (param_of e.action e.name) u (set k o ns) ≡ aim_voice v (param_of e.action e.name) u ns
-    voice none = refl
-    voice (some v) = at (param_node (param_rows v.params) (param_of e.action e.name)) v
+    voice None = refl
+    voice (Some v) = at (param_node (param_rows v.params) (param_of e.action e.name)) v
 
 -- ---- an event and the one that replaces it have one aim
 same_bytes_lem : (a b : List ℕ) → same_bytes a b ≡ true → a ≡ b
@@ -264,7 +263,7 @@ same_called a b h x =
     ap (λ z. named x && (z && same_bytes (text x) (text a))) (na ∙ sym nb) ∙ ap (λ z. named x && (named b && same_bytes (text x) z)) t
 
 same_param : (ps : List Param) (a b : Name) → same_name a b ≡ true → param_node ps a ≡ param_node ps b
-same_param ps a b h = ap (map_o (λ p. p.node)) (find_same (called a) (called b) ps (λ p i. same_called a b h p.name))
+same_param ps a b h = ap (option_map (λ p. p.node)) (find_same (called a) (called b) ps (λ p i. same_called a b h p.name))
 
 same_takes : (a b : EventAction) → same_sort a b ≡ true → (n : Node) → takes (order_of a) n ≡ takes (order_of b) n
 same_takes (action.Value x) (action.Value y) h n = refl
@@ -305,16 +304,16 @@ aim_same f e m l =
     ns = m.shared.graph.nodes
 
     took : (x : Option Node) → taken (order_of f.action) x ≡ taken (order_of e.action) x
-    took none = refl
-    took (some n) = same_takes f.action e.action l.sort n
+    took None = refl
+    took (Some n) = same_takes f.action e.action l.sort n
 
     at : (i : Option ℕ) (v : Voice) → aim_param i v (order_of f.action) ns ≡ aim_param i v (order_of e.action) ns
-    at none v = refl
-    at (some i) v = ap (λ b. or? b (v.first.0 + i) none) (took (node_at ns (id (v.first.0 + i))))
+    at None v = refl
+    at (Some i) v = ap (λ b. cond b (Some (v.first.0 + i)) None) (took (node_at ns (id (v.first.0 + i))))
 
     voice : (v : Option Voice) → aim_voice v (param_of f.action f.name) (order_of f.action) ns ≡ aim_voice v (param_of e.action e.name) (order_of e.action) ns
-    voice none = refl
-    voice (some v) =
+    voice None = refl
+    voice (Some v) =
         ap (λ i. aim_param i v (order_of f.action) ns) (same_param (param_rows v.params) (param_of f.action f.name) (param_of e.action e.name) l.name)
         ∙ at (param_node (param_rows v.params) (param_of e.action e.name)) v
 
@@ -359,7 +358,7 @@ module _ (k : ℕ) (o : LastOrder) (w : VoiceId) where
           absurd (true≢false (sym t ∙ not-true _ r.1))
 
 -- ---- an event aims at a node of its own voice
-aim_own : (e : Event) (m : Model) → Good m → (k : ℕ) → aim e m ≡ some k → (x : Node) → In x m.shared.graph.nodes → x.id.0 ≡ k → x.owner.0 ≡ e.voice.0
+aim_own : (e : Event) (m : Model) → Good m → (k : ℕ) → aim e m ≡ Some k → (x : Node) → In x m.shared.graph.nodes → x.id.0 ≡ k → x.owner.0 ≡ e.voice.0
 aim_own e m g k h x i q = voice (find (is_voice e.voice) m.voices) refl h
   where
     ns : List Node
@@ -368,22 +367,22 @@ aim_own e m g k h x i q = voice (find (is_voice e.voice) m.voices) refl h
     name : Name
     name = param_of e.action e.name
 
-    hit : (b : Bool) (j : ℕ) → or? b j none ≡ some k → j ≡ k
+    hit : (b : Bool) (j : ℕ) → cond b (Some j) None ≡ Some k → j ≡ k
     hit true j z = some_inj z
     hit false j z = absurd (none_some z)
 
-    at : (v : Voice) → In v m.voices → (j : Option ℕ) → param_node (param_rows v.params) name ≡ j → aim_param j v (order_of e.action) ns ≡ some k → x.owner.0 ≡ v.id.0
-    at v y none p z = absurd (none_some z)
-    at v y (some j) p z = g.own v y name j p x i (q ∙ sym (hit (taken (order_of e.action) (node_at ns (id (v.first.0 + j)))) (v.first.0 + j) z))
+    at : (v : Voice) → In v m.voices → (j : Option ℕ) → param_node (param_rows v.params) name ≡ j → aim_param j v (order_of e.action) ns ≡ Some k → x.owner.0 ≡ v.id.0
+    at v y None p z = absurd (none_some z)
+    at v y (Some j) p z = g.own v y name j p x i (q ∙ sym (hit (taken (order_of e.action) (node_at ns (id (v.first.0 + j)))) (v.first.0 + j) z))
 
-    voice : (v : Option Voice) → find (is_voice e.voice) m.voices ≡ v → aim_voice v name (order_of e.action) ns ≡ some k → x.owner.0 ≡ e.voice.0
-    voice none p z = absurd (none_some z)
-    voice (some v) p z =
+    voice : (v : Option Voice) → find (is_voice e.voice) m.voices ≡ v → aim_voice v name (order_of e.action) ns ≡ Some k → x.owner.0 ≡ e.voice.0
+    voice None p z = absurd (none_some z)
+    voice (Some v) p z =
         let r = find_in (is_voice e.voice) m.voices v p in
         at v r.0 (param_node (param_rows v.params) name) refl z ∙ eqb-true _ _ r.1
 
 -- another voice is removed
-aim_removed : (e : Event) (m : Model) → Good m → (k : ℕ) → aim e m ≡ some k → (w : VoiceId) → (e.voice.0 ≡ w.0 → ⊥) → aim e (without_voice w m) ≡ some k
+aim_removed : (e : Event) (m : Model) → Good m → (k : ℕ) → aim e m ≡ Some k → (w : VoiceId) → (e.voice.0 ≡ w.0 → ⊥) → aim e (without_voice w m) ≡ Some k
 aim_removed e m g k h w off =
     ap (λ v. aim_voice v name o (filter (λ x. not (owned_by w x)) ns)) (find_filter_same (is_voice e.voice) (λ v. not (is_voice w v)) (λ v t. ap not (ne_eqb v.id.0 w.0 (λ z. off (sym (eqb-true _ _ t) ∙ z)))) m.voices)
     ∙ voice (find (is_voice e.voice) m.voices) h
@@ -397,34 +396,34 @@ aim_removed e m g k h w off =
     o : LastOrder
     o = order_of e.action
 
-    node : (j : ℕ) (x : Option Node) → node_at ns (id j) ≡ x → or? (taken o x) j none ≡ some k → or? (taken o (node_at (filter (λ x. not (owned_by w x)) ns) (id j))) j none ≡ some k
-    node j none p z = absurd (none_some z)
-    node j (some n) p z = go (takes o n) refl z
+    node : (j : ℕ) (x : Option Node) → node_at ns (id j) ≡ x → cond (taken o x) (Some j) None ≡ Some k → cond (taken o (node_at (filter (λ x. not (owned_by w x)) ns) (id j))) (Some j) None ≡ Some k
+    node j None p z = absurd (none_some z)
+    node j (Some n) p z = go (takes o n) refl z
       where
-        go : (b : Bool) → takes o n ≡ b → or? b j none ≡ some k → or? (taken o (node_at (filter (λ x. not (owned_by w x)) ns) (id j))) j none ≡ some k
+        go : (b : Bool) → takes o n ≡ b → cond b (Some j) None ≡ Some k → cond (taken o (node_at (filter (λ x. not (owned_by w x)) ns) (id j))) (Some j) None ≡ Some k
         go false t z = absurd (none_some z)
         go true t z =
             let r = find_in (is_node (id j)) ns n p in
             let own : n.owner.0 ≡ e.voice.0 = aim_own e m g k h n r.0 (eqb-true _ _ r.1 ∙ some_inj z) in
-            let left : node_at (filter (λ x. not (owned_by w x)) ns) (id j) ≡ some n = find_filter_some (is_node (id j)) (λ x. not (owned_by w x)) ns n p (ap not (ne_eqb n.owner.0 w.0 (λ y. off (sym own ∙ y)))) in
-            ap (λ u. or? (taken o u) j none) left ∙ ap (λ b. or? b j none) t ∙ z
+            let left : node_at (filter (λ x. not (owned_by w x)) ns) (id j) ≡ Some n = find_filter_some (is_node (id j)) (λ x. not (owned_by w x)) ns n p (ap not (ne_eqb n.owner.0 w.0 (λ y. off (sym own ∙ y)))) in
+            ap (λ u. cond (taken o u) (Some j) None) left ∙ ap (λ b. cond b (Some j) None) t ∙ z
 
-    at : (j : Option ℕ) (v : Voice) → aim_param j v o ns ≡ some k → aim_param j v o (filter (λ x. not (owned_by w x)) ns) ≡ some k
-    at none v z = absurd (none_some z)
-    at (some j) v z = node (v.first.0 + j) (node_at ns (id (v.first.0 + j))) refl z
+    at : (j : Option ℕ) (v : Voice) → aim_param j v o ns ≡ Some k → aim_param j v o (filter (λ x. not (owned_by w x)) ns) ≡ Some k
+    at None v z = absurd (none_some z)
+    at (Some j) v z = node (v.first.0 + j) (node_at ns (id (v.first.0 + j))) refl z
 
-    voice : (v : Option Voice) → aim_voice v name o ns ≡ some k → aim_voice v name o (filter (λ x. not (owned_by w x)) ns) ≡ some k
-    voice none z = absurd (none_some z)
-    voice (some v) z = at (param_node (param_rows v.params) name) v z
+    voice : (v : Option Voice) → aim_voice v name o ns ≡ Some k → aim_voice v name o (filter (λ x. not (owned_by w x)) ns) ≡ Some k
+    voice None z = absurd (none_some z)
+    voice (Some v) z = at (param_node (param_rows v.params) name) v z
 
 -- ---- a last order that a later event sets again may be left out
 module _ (e : Event) (o : LastOrder) (k : ℕ) where
-  again : (q : List Event) (m : Model) → Good m → aim e m ≡ some k → Superseded e q → apply_events q (set_at k o m) ≡ apply_events q m
+  again : (q : List Event) (m : Model) → Good m → aim e m ≡ Some k → Superseded e q → apply_events q (set_at k o m) ≡ apply_events q m
   again [] m g h s = absurd s
   again (f ∷ q) m g h (inl r) =
       let l = tested f e r in
       let free = (no_free f.action e.action l.sort).0 in
-      let a : aim f m ≡ some k = aim_same f e m l ∙ h in
+      let a : aim f m ≡ Some k = aim_same f e m l ∙ h in
       let u = order_of f.action in
       ap (apply_events q)
       (applied_put f (set_at k o m) (good_set k o m g) free ∙ ap (λ z. put z u (set_at k o m)) (aim_set f k o m ∙ a) ∙ ap (λ z. at_nodes z m) (set_again k o u m.shared.graph.nodes)
@@ -435,7 +434,7 @@ module _ (e : Event) (o : LastOrder) (k : ℕ) where
       u = order_of f.action
 
       -- a value or a glide: of this node, then it is set again; or of another
-      ordered : (t : Option ℕ) → aim f m ≡ t → is_free f.action ≡ false → ((n : Model) → Good n → aim e n ≡ some k → apply_events q (set_at k o n) ≡ apply_events q n)
+      ordered : (t : Option ℕ) → aim f m ≡ t → is_free f.action ≡ false → ((n : Model) → Good n → aim e n ≡ Some k → apply_events q (set_at k o n) ≡ apply_events q n)
           → apply_events q (apply_event f (set_at k o m)) ≡ apply_events q (apply_event f m)
       ordered t a free ih =
           ap (apply_events q) (applied_put f (set_at k o m) (good_set k o m g) free ∙ ap (λ z. put z u (set_at k o m)) (aim_set f k o m ∙ a))
@@ -450,20 +449,20 @@ module _ (e : Event) (o : LastOrder) (k : ℕ) where
               ∙ ih (set_at j u m) (good_set j u m g) (aim_set e j u m ∙ h)
 
           each : (t : Option ℕ) → apply_events q (put t u (set_at k o m)) ≡ apply_events q (put t u m)
-          each none = ih m g h
-          each (some j) = at j (eqb j k) refl
+          each None = ih m g h
+          each (Some j) = at j (eqb j k) refl
 
       -- a free of the voice, and its node is removed; or of another
-      freeing : (t : Option Voice) → ((n : Model) → Good n → aim e n ≡ some k → apply_events q (set_at k o n) ≡ apply_events q n)
+      freeing : (t : Option Voice) → ((n : Model) → Good n → aim e n ≡ Some k → apply_events q (set_at k o n) ≡ apply_events q n)
           → apply_events q (freed t (set_at k o m)) ≡ apply_events q (freed t m)
-      freeing none ih = ih m g h
-      freeing (some v) ih = at (eqb e.voice.0 v.id.0) refl
+      freeing None ih = ih m g h
+      freeing (Some v) ih = at (eqb e.voice.0 v.id.0) refl
         where
           at : (b : Bool) → eqb e.voice.0 v.id.0 ≡ b → apply_events q (without_voice v.id (set_at k o m)) ≡ apply_events q (without_voice v.id m)
           at true b = ap (apply_events q) (removed_both k o v.id m (λ x i z. aim_own e m g k h x i z ∙ eqb-true _ _ b))
           at false b = ap (apply_events q) (removed_set k o v.id m) ∙ ih (without_voice v.id m) (good_removed v.id m g) (aim_removed e m g k h v.id (eqb-false _ _ b))
 
-      go : (b : Bool) → is_free f.action ≡ b → ((n : Model) → Good n → aim e n ≡ some k → apply_events q (set_at k o n) ≡ apply_events q n)
+      go : (b : Bool) → is_free f.action ≡ b → ((n : Model) → Good n → aim e n ≡ Some k → apply_events q (set_at k o n) ≡ apply_events q n)
           → apply_events q (apply_event f (set_at k o m)) ≡ apply_events q (apply_event f m)
       go false b ih = ordered (aim f m) refl b ih
       go true b ih = rw b (freeing (find (is_voice f.voice) m.voices) ih)
@@ -477,8 +476,8 @@ pub drop_same : (e : Event) (q : List Event) (m : Model) → Good m → Supersed
 drop_same e q m g s = ap (apply_events q) (applied_put e m g (superseded_free e q s)) ∙ go (aim e m) refl
   where
     go : (t : Option ℕ) → aim e m ≡ t → apply_events q (put t (order_of e.action) m) ≡ apply_events q m
-    go none h = refl
-    go (some k) h = again e (order_of e.action) k q m g h s
+    go None h = refl
+    go (Some k) h = again e (order_of e.action) k q m g h s
 
 -- ---- both queues come to the same
 pub thinned_applies : (q p : List Event) (m : Model) → Good m → Thinned p q → apply_events q m ≡ apply_events p m

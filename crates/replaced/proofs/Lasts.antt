@@ -11,7 +11,7 @@ use Rattle.node.specs.declared.order.EventAction.{EventAction}
 use Rattle.node.specs.declared.order.EventAction.TheVariants as action
 use Rattle.scheduler.specs.declared.event.Event.{Event}
 use Rattle.lists.specs.Member.{In}
-use Rattle.lists.specs.Filter.{put?, filter}
+use Rattle.std.specs.Prelude.{cond, filter}
 use Rattle.lists.proofs.Filter.{in_filter}
 use Rattle.scheduler.specs.Event.{param_of}
 use Rattle.scheduler.specs.Queue.{later, before?, inserted, replacing}
@@ -81,7 +81,7 @@ pub single_filter : (t : Event → Bool) (p : List Event) → Single p → Singl
 single_filter t [] s = tt
 single_filter t (e ∷ p) s = go (t e) (single_filter t p s.1)
   where
-    go : (b : Bool) → Single (filter t p) → Single (put? b e (filter t p))
+    go : (b : Bool) → Single (filter t p) → Single (cond b (e ∷ (filter t p)) (filter t p))
     go true ih = (λ z. let r = superseded_in e (filter t p) z in s.0 (in_superseded e p r.0 (in_filter t p r.0 r.1).0 r.2), ih)
     go false ih = ih
 
@@ -143,10 +143,10 @@ thinned_lasts (e ∷ q) p (inl h) d = h.1 ∙ go (overtaken e q) refl (thinned_l
     one : Single (e ∷ h.0)
     one = subst Single h.1 d
 
-    go : (b : Bool) → overtaken e q ≡ b → h.0 ≡ lasts q → e ∷ h.0 ≡ put? (not b) e (lasts q)
+    go : (b : Bool) → overtaken e q ≡ b → h.0 ≡ lasts q → e ∷ h.0 ≡ cond (not b) (e ∷ (lasts q)) (lasts q)
     go false t ih = ap (λ z. e ∷ z) ih
     go true t ih = absurd (one.0 (superseded_thin q h.0 h.2 e (true_overtaken e q t)))
-thinned_lasts (e ∷ q) p (inr h) d = thinned_lasts q p h.1 d ∙ ap (λ b. put? (not b) e (lasts q)) (sym (overtaken_true e q h.0))
+thinned_lasts (e ∷ q) p (inr h) d = thinned_lasts q p h.1 d ∙ ap (λ b. cond (not b) (e ∷ (lasts q)) (lasts q)) (sym (overtaken_true e q h.0))
 
 pub thinned_sorted : (q p : List Event) → Sorted q → Thinned p q → Sorted p
 thinned_sorted [] p s h = subst Sorted (sym h) tt

@@ -5,7 +5,7 @@ use native.Mathlib.Omega.{arith}
 use mathlib.Core.Path.{◌≡◌, refl, sym, ap, ◌∙◌, subst}
 use mathlib.Core.Logic.{⊎_elim}
 use mathlib.Core.List.{List, [], ◌∷◌, ◌++◌, map}
-use mathlib.Core.Option.{Option, none, some}
+use Rattle.std.specs.Prelude.{Option, None, Some, find, option_map, filter}
 use mathlib.Core.Bool.{Bool, true, false, not, cond}
 use lib.ListN.{length}
 use lib.Dec.{ltb}
@@ -19,9 +19,7 @@ use Rattle.store.specs.declared.voices.VoiceState.TheVariants.{Fading, Loose}
 use Rattle.store.specs.declared.voices.Fade.{Fade}
 use Rattle.lists.specs.Member.{In}
 use Rattle.lists.proofs.Member.{in_snoc, in_map, and_left, and_right, some_inj, none_some}
-use Rattle.lists.specs.Find.{find, map_o}
 use Rattle.lists.proofs.Find.{find_in}
-use Rattle.lists.specs.Filter.{filter}
 use Rattle.lists.proofs.Filter.{in_filter}
 use Rattle.node.specs.Name.{named}
 use Rattle.synthdef.specs.Rows.{every}
@@ -86,8 +84,8 @@ fits_steal : (v : Voice) (l : Ledger) → FitsOf l → FitsOf (steal_voice v l)
 fits_steal v l f = go (port_held v l)
   where
     go : (o : Option ℕ) → FitsOf (stolen v o l)
-    go none = fits_filter (λ x. not (is_voice v.id x)) l.voices f
-    go (some p) = fits_map (begin_fade v.id (fade_of l.shared)) (fits_begin v.id (fade_of l.shared)) l.voices f
+    go None = fits_filter (λ x. not (is_voice v.id x)) l.voices f
+    go (Some p) = fits_map (begin_fade v.id (fade_of l.shared)) (fits_begin v.id (fade_of l.shared)) l.voices f
 
 fits_budgeted : (spawn : Spawn) (l : Ledger) → allowed spawn.def ≡ true → FitsOf l → FitsOf (place_within_budget spawn l).ledger
 fits_budgeted spawn l h f =
@@ -110,12 +108,12 @@ fits_step x l u f =
     x l (u, f)).1
 
 -- ---- so a store that calls made is good
-param_fits : (v : Voice) → Fits v → (name : Name) (i : ℕ) → param_node (param_rows v.params) name ≡ some i → i < v.count
+param_fits : (v : Voice) → Fits v → (name : Name) (i : ℕ) → param_node (param_rows v.params) name ≡ Some i → i < v.count
 param_fits v f name i h = go (find (called name) (param_rows v.params)) refl h
   where
-    go : (o : Option Param) → find (called name) (param_rows v.params) ≡ o → map_o (λ (p : Param). p.node) o ≡ some i → i < v.count
-    go none e z = absurd (none_some z)
-    go (some p) e z = subst (λ n. n < v.count) (some_inj z) (f p (find_in (called name) (param_rows v.params) p e).0)
+    go : (o : Option Param) → find (called name) (param_rows v.params) ≡ o → option_map (λ (p : Param). p.node) o ≡ Some i → i < v.count
+    go None e z = absurd (none_some z)
+    go (Some p) e z = subst (λ n. n < v.count) (some_inj z) (f p (find_in (called name) (param_rows v.params) p e).0)
 
 pub good_of : (l : Ledger) → RunInvariant l → OwnNodes l → FitsOf l → Good (model_of l)
 good_of l k q f =

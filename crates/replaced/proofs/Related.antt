@@ -3,7 +3,7 @@ use Prim.Native.Nat.{ℕ}
 use mathlib.Core.Path.{◌≡◌, refl, sym, ap, ◌∙◌, subst}
 use mathlib.Core.Logic.{◌⊎◌, inl, inr}
 use mathlib.Core.List.{List, [], ◌∷◌}
-use mathlib.Core.Option.{Option, none, some}
+use Rattle.std.specs.Prelude.{Option, None, Some}
 use mathlib.Core.Bool.{false, not, true≢false}
 use lib.ListN.{length}
 use Rattle.node.specs.declared.order.EventAction.{EventAction}
@@ -51,7 +51,7 @@ pub record Schedules (x : Call) : Type 0 where
   pub is : x ≡ call.schedule time voice name action
 
 abbrev View : Call → Type 0
-View x = Schedules x ⊎ (((out : List ℕ) × (x ≡ call.render out)) ⊎ ((is_render x ≡ false) × (scheduled x ≡ none)))
+View x = Schedules x ⊎ (((out : List ℕ) × (x ≡ call.render out)) ⊎ ((is_render x ≡ false) × (scheduled x ≡ None)))
 
 view : (x : Call) → View x
 view (call.add_node kind ports required values glides) = inr (inr (refl, refl))
@@ -92,8 +92,8 @@ module _ (a : Model) (g : Good a) (q : List Event) (h : Thinned a.shared.events 
       mine o = unless o a (shared_step a (with_events (replacing e a.shared.events) a.shared) call.done)
 
       go : (o : Option Refusal) → Related (mine o).model (kept_unless o e b).model × ((mine o).answer ≡ (kept_unless o e b).answer)
-      go (some r) = (related, refl)
-      go none = (
+      go (Some r) = (related, refl)
+      go None = (
         record { queue = inserted e q; is = refl; thin = thinned_schedule e q a.shared.events s h; order = inserted_sorted e q s; single = single_replacing e a.shared.events (thinned_sorted q a.shared.events s h) i },
         refl,
       )
@@ -135,10 +135,10 @@ module _ (a : Model) (g : Good a) (q : List Event) (h : Thinned a.shared.events 
   renders out = record { related = go (render_refusal a.shared (length out)); answer = λ z. absurd (true≢false z) }
     where
       go : (o : Option Refusal) → Related (render_step o out a).model (render_step o out b).model
-      go (some r) = related
-      go none = renders_both.0
+      go (Some r) = related
+      go None = renders_both.0
 
-  others : (x : Call) → is_render x ≡ false → scheduled x ≡ none → Stepped x a b
+  others : (x : Call) → is_render x ≡ false → scheduled x ≡ None → Stepped x a b
   others x r z =
       record {
         related = subst (λ o. Related (step x a).model (kept_by o x a b).model) (sym z)
@@ -172,7 +172,7 @@ related_run (x ∷ xs) l k o f b t =
     subst (λ m. Related (run xs m).model (kept_run xs m c).model × Good (run xs m).model) (sym a)
     (related_run xs n (kept_step_lem x l k) (own_run (x ∷ []) l o) (fits_step x l (ids_of_lem l k.sound) f) c (subst (λ m. Related m c) a r))
 
-pub related_runs : (k : Making) (m : Model) → make k ≡ some m → (xs : List Call) → Related (run xs m).model (kept_run xs m m).model × Good (run xs m).model
+pub related_runs : (k : Making) (m : Model) → make k ≡ Some m → (xs : List Call) → Related (run xs m).model (kept_run xs m m).model × Good (run xs m).model
 related_runs k m accepted xs =
     let z = made k m accepted in
     subst (λ m. Related (run xs m).model (kept_run xs m m).model × Good (run xs m).model) (sym z.new)
@@ -180,10 +180,10 @@ related_runs k m accepted xs =
 
 -- ---- "for a queue that would have held them": where B's queue has a place left, B's `schedule` is that of a store that replaces nothing
 abbrev pub plain_schedule : Event → Model → Step
-plain_schedule e b = unless (when (full b.shared.events) TableFull none) b (shared_step b (with_events (inserted e b.shared.events) b.shared) call.done)
+plain_schedule e b = unless (when (full b.shared.events) TableFull None) b (shared_step b (with_events (inserted e b.shared.events) b.shared) call.done)
 
-pub held : (e : Event) (b : Model) → full b.shared.events ≡ false → plain_schedule e b ≡ kept_unless none e b
-held e b h = ap (λ z. unless (when z TableFull none) b (shared_step b (with_events (inserted e b.shared.events) b.shared) call.done)) h
+pub held : (e : Event) (b : Model) → full b.shared.events ≡ false → plain_schedule e b ≡ kept_unless None e b
+held e b h = ap (λ z. unless (when z TableFull None) b (shared_step b (with_events (inserted e b.shared.events) b.shared) call.done)) h
 
 pub heard_same : (a b : Model) → Good a → Related a b → (render a).answer ≡ (render b).answer
 heard_same a b g t = subst (λ (z : Model). (render a).answer ≡ (render z).answer) (sym t.is) (renders_both a g t.queue t.thin t.order t.single).1

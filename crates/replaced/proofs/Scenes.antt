@@ -4,7 +4,7 @@ use Prim.Native.Nat.{ℕ}
 use Prim.Native.String.{String}
 use mathlib.Core.Path.{◌≡◌, refl}
 use mathlib.Core.List.{List, [], ◌∷◌, map}
-use mathlib.Core.Option.{Option, none, some}
+use Rattle.std.specs.Prelude.{Option, None, Some, option_map, filter}
 use mathlib.Core.Bool.{Bool, true, false, ◌&&◌, not, cond}
 use lib.ListN.{replicate, length}
 use lib.Dec.{eqb}
@@ -18,8 +18,6 @@ use Rattle.voice.specs.declared.policy.StealPolicy.TheVariants.{Oldest}
 use Rattle.synthdef.specs.declared.def.Param.{Param}
 use Rattle.synthdef.specs.declared.def.SynthDef.{SynthDef}
 use Rattle.model.specs.Call as call
-use Rattle.lists.specs.Find.{map_o}
-use Rattle.lists.specs.Filter.{filter}
 use Rattle.node.specs.Name.{same_name}
 use Rattle.node.specs.Silence.{name, bytes}
 use Rattle.graph.specs.Node.{node_at}
@@ -81,7 +79,7 @@ abbrev b : List Call → Model
 b calls = (kept_run calls start start).model
 
 abbrev last : ℕ → Model → Option LastOrder
-last k m = map_o (λ n. n.last) (node_at m.shared.graph.nodes (id k))
+last k m = option_map (λ n. n.last) (node_at m.shared.graph.nodes (id k))
 
 abbrev pending : Model → List EventAction
 pending m = map (λ (e : Event). e.action) m.shared.events
@@ -97,25 +95,25 @@ gli n = EventAction.Glide (linear n 1)
 in_order :
     (pending (a (at 4 "cut" 1 ∷ to 4 "cut" 3 ∷ at 4 "cut" 5 ∷ [])) ≡ gli 3 ∷ val 5 ∷ [])
     × (pending (b (at 4 "cut" 1 ∷ to 4 "cut" 3 ∷ at 4 "cut" 5 ∷ [])) ≡ val 1 ∷ gli 3 ∷ val 5 ∷ [])
-    × (last 1 (a (at 4 "cut" 1 ∷ to 4 "cut" 3 ∷ at 4 "cut" 5 ∷ render ∷ [])) ≡ some (value 5))
-    × (last 1 (b (at 4 "cut" 1 ∷ to 4 "cut" 3 ∷ at 4 "cut" 5 ∷ render ∷ [])) ≡ some (value 5))
+    × (last 1 (a (at 4 "cut" 1 ∷ to 4 "cut" 3 ∷ at 4 "cut" 5 ∷ render ∷ [])) ≡ Some (value 5))
+    × (last 1 (b (at 4 "cut" 1 ∷ to 4 "cut" 3 ∷ at 4 "cut" 5 ∷ render ∷ [])) ≡ Some (value 5))
 unfolding eq prepare processing_order lacking lacks any live_ids live_nodes rising_from whole order walk released fed among count_up
 in_order = (refl, refl, refl, refl)
 
 -- A glide replaces a glide, and no value: `rate` takes values only, so that the value stays its last order. Refuses: the sort ignored.
 by_sort :
     (pending (a (at 4 "rate" 1 ∷ to 4 "rate" 3 ∷ [])) ≡ val 1 ∷ gli 3 ∷ [])
-    × (last 2 (a (at 4 "rate" 1 ∷ to 4 "rate" 3 ∷ render ∷ [])) ≡ some (value 1))
+    × (last 2 (a (at 4 "rate" 1 ∷ to 4 "rate" 3 ∷ render ∷ [])) ≡ Some (value 1))
     × (pending (a (to 4 "cut" 1 ∷ at 4 "cut" 3 ∷ to 4 "cut" 5 ∷ [])) ≡ val 3 ∷ gli 5 ∷ [])
-    × (last 1 (a (to 4 "cut" 1 ∷ at 4 "cut" 3 ∷ to 4 "cut" 5 ∷ render ∷ [])) ≡ some (glide 5))
+    × (last 1 (a (to 4 "cut" 1 ∷ at 4 "cut" 3 ∷ to 4 "cut" 5 ∷ render ∷ [])) ≡ Some (glide 5))
 unfolding eq prepare processing_order lacking lacks any live_ids live_nodes rising_from whole order walk released fed among count_up
 by_sort = (refl, refl, refl, refl)
 
 -- The block is 16: the first render takes the value at 4, the second the one at 20. Refuses: the time ignored.
 by_time :
     (pending (a (at 4 "cut" 1 ∷ at 20 "cut" 3 ∷ [])) ≡ val 1 ∷ val 3 ∷ [])
-    × (last 1 (a (at 4 "cut" 1 ∷ at 20 "cut" 3 ∷ render ∷ [])) ≡ some (value 1))
-    × (last 1 (a (at 4 "cut" 1 ∷ at 20 "cut" 3 ∷ render ∷ render ∷ [])) ≡ some (value 3))
+    × (last 1 (a (at 4 "cut" 1 ∷ at 20 "cut" 3 ∷ render ∷ [])) ≡ Some (value 1))
+    × (last 1 (a (at 4 "cut" 1 ∷ at 20 "cut" 3 ∷ render ∷ render ∷ [])) ≡ Some (value 3))
 unfolding eq prepare processing_order lacking lacks any live_ids live_nodes rising_from whole order walk released fed among count_up
 by_time = (refl, refl, refl)
 
@@ -127,7 +125,7 @@ gates :
     × (pending (a (gate 4 "" 1 ∷ gate 4 "ratexxxxxxxxxxxxx" 3 ∷ [])) ≡ EventAction.Gate (float 3) ∷ [])
     × (pending (a (gate 4 "rate" 1 ∷ at 4 "rate" 3 ∷ [])) ≡ EventAction.Gate (float 1) ∷ val 3 ∷ [])
     × (pending (a (gate 4 "rate" 1 ∷ to 4 "gate" 3 ∷ [])) ≡ EventAction.Gate (float 1) ∷ gli 3 ∷ [])
-    × (last 1 (a (gate 4 "rate" 1 ∷ at 4 "gate" 3 ∷ render ∷ [])) ≡ some (value 3))
+    × (last 1 (a (gate 4 "rate" 1 ∷ at 4 "gate" 3 ∷ render ∷ [])) ≡ Some (value 3))
 unfolding eq prepare processing_order lacking lacks any live_ids live_nodes rising_from whole order walk released fed among count_up
 gates = (refl, refl, refl, refl, refl, refl)
 
@@ -148,7 +146,7 @@ free_between :
     × (pending (b (at 4 "cut" 1 ∷ timed_free 4 1 ∷ at 4 "cut" 3 ∷ [])) ≡ val 1 ∷ EventAction.Free ∷ val 3 ∷ [])
     × (voices (a (at 4 "cut" 1 ∷ timed_free 4 1 ∷ at 4 "cut" 3 ∷ render ∷ [])) ≡ [])
     × (voices (b (at 4 "cut" 1 ∷ timed_free 4 1 ∷ at 4 "cut" 3 ∷ render ∷ [])) ≡ [])
-    × (last 1 (b (at 4 "cut" 1 ∷ timed_free 4 1 ∷ at 4 "cut" 3 ∷ render ∷ [])) ≡ none)
+    × (last 1 (b (at 4 "cut" 1 ∷ timed_free 4 1 ∷ at 4 "cut" 3 ∷ render ∷ [])) ≡ None)
 unfolding eq prepare processing_order lacking lacks any live_ids live_nodes rising_from whole order walk released fed among count_up
 free_between = (refl, refl, refl, refl, refl)
 
@@ -156,24 +154,24 @@ free_between = (refl, refl, refl, refl, refl)
 -- which `bend` would go from the queue; replaced in place.
 aliases :
     (pending (a (at 4 "cut" 1 ∷ at 4 "bend" 3 ∷ at 4 "cut" 5 ∷ [])) ≡ val 3 ∷ val 5 ∷ [])
-    × (last 1 (a (at 4 "cut" 1 ∷ at 4 "bend" 3 ∷ at 4 "cut" 5 ∷ render ∷ [])) ≡ some (value 5))
-    × (last 1 (a (at 4 "bend" 1 ∷ at 4 "cut" 3 ∷ render ∷ [])) ≡ some (value 3))
-    × (last 1 (b (at 4 "cut" 1 ∷ at 4 "bend" 3 ∷ at 4 "cut" 5 ∷ render ∷ [])) ≡ some (value 5))
+    × (last 1 (a (at 4 "cut" 1 ∷ at 4 "bend" 3 ∷ at 4 "cut" 5 ∷ render ∷ [])) ≡ Some (value 5))
+    × (last 1 (a (at 4 "bend" 1 ∷ at 4 "cut" 3 ∷ render ∷ [])) ≡ Some (value 3))
+    × (last 1 (b (at 4 "cut" 1 ∷ at 4 "bend" 3 ∷ at 4 "cut" 5 ∷ render ∷ [])) ≡ Some (value 5))
 unfolding eq prepare processing_order lacking lacks any live_ids live_nodes rising_from whole order walk released fed among count_up
 aliases = (refl, refl, refl, refl)
 
 -- A voice that is not let in yet: the replacing is by number, and the voice that comes has the later value.
 not_yet :
     (pending (a (call.schedule 20 (voice 2) (bytes "cut") (val 1) ∷ call.schedule 20 (voice 2) (bytes "cut") (val 3) ∷ [])) ≡ val 3 ∷ [])
-    × (last 3 (a (call.schedule 20 (voice 2) (bytes "cut") (val 1) ∷ call.schedule 20 (voice 2) (bytes "cut") (val 3) ∷ call.spawn_managed (spawn_of swell (id 0) (float 0) 0) ∷ render ∷ render ∷ [])) ≡ some (value 3))
+    × (last 3 (a (call.schedule 20 (voice 2) (bytes "cut") (val 1) ∷ call.schedule 20 (voice 2) (bytes "cut") (val 3) ∷ call.spawn_managed (spawn_of swell (id 0) (float 0) 0) ∷ render ∷ render ∷ [])) ≡ Some (value 3))
 unfolding eq prepare processing_order lacking lacks any live_ids live_nodes rising_from whole order walk released fed among count_up
 not_yet = (refl, refl)
 
 -- ---- "Render answers of Paper 1 list only the events left": the first value for `cut` has no entry; the one for `none`, which is no
 -- parameter, and the second for `cut` have theirs. Refuses: an entry for every event that was accepted; a count of them.
 lists :
-    (asked (at 4 "cut" 1 ∷ at 4 "none" 3 ∷ at 4 "cut" 5 ∷ render ∷ []) start ≡ done ∷ done ∷ done ∷ told Rendered.Sounding (2 ∷ 0 ∷ []) 254 ∷ [])
-    × ((kept_run (at 4 "cut" 1 ∷ at 4 "none" 3 ∷ at 4 "cut" 5 ∷ render ∷ []) start start).answers ≡ done ∷ done ∷ done ∷ told Rendered.Sounding (0 ∷ 2 ∷ 0 ∷ []) 253 ∷ [])
+    (asked (at 4 "cut" 1 ∷ at 4 "None" 3 ∷ at 4 "cut" 5 ∷ render ∷ []) start ≡ done ∷ done ∷ done ∷ told Rendered.Sounding (2 ∷ 0 ∷ []) 254 ∷ [])
+    × ((kept_run (at 4 "cut" 1 ∷ at 4 "None" 3 ∷ at 4 "cut" 5 ∷ render ∷ []) start start).answers ≡ done ∷ done ∷ done ∷ told Rendered.Sounding (0 ∷ 2 ∷ 0 ∷ []) 253 ∷ [])
 unfolding eq prepare processing_order lacking lacks any live_ids live_nodes rising_from whole order walk released fed among count_up
 lists = (refl, refl)
 
@@ -224,16 +222,16 @@ abbrev taken : (Event → List Event → List Event) → List Event → Model
 taken rule es = apply_events (queue_by rule es []) start
 
 in_place_differs :
-    (last 1 (taken in_place (ev 4 "cut" (val 1) ∷ ev 4 "cut" (gli 3) ∷ ev 4 "cut" (val 5) ∷ [])) ≡ some (glide 3))
-    × (last 1 (taken inserted (ev 4 "cut" (val 1) ∷ ev 4 "cut" (gli 3) ∷ ev 4 "cut" (val 5) ∷ [])) ≡ some (value 5))
-    × (last 1 (taken replacing (ev 4 "cut" (val 1) ∷ ev 4 "cut" (gli 3) ∷ ev 4 "cut" (val 5) ∷ [])) ≡ some (value 5))
+    (last 1 (taken in_place (ev 4 "cut" (val 1) ∷ ev 4 "cut" (gli 3) ∷ ev 4 "cut" (val 5) ∷ [])) ≡ Some (glide 3))
+    × (last 1 (taken inserted (ev 4 "cut" (val 1) ∷ ev 4 "cut" (gli 3) ∷ ev 4 "cut" (val 5) ∷ [])) ≡ Some (value 5))
+    × (last 1 (taken replacing (ev 4 "cut" (val 1) ∷ ev 4 "cut" (gli 3) ∷ ev 4 "cut" (val 5) ∷ [])) ≡ Some (value 5))
 unfolding eq prepare processing_order lacking lacks any live_ids live_nodes rising_from whole order walk released fed among count_up
 in_place_differs = (refl, refl, refl)
 
 sort_ignored_differs :
-    (last 2 (taken sort_ignored (ev 4 "rate" (val 1) ∷ ev 4 "rate" (gli 3) ∷ [])) ≡ some LastOrder.Nothing)
-    × (last 2 (taken inserted (ev 4 "rate" (val 1) ∷ ev 4 "rate" (gli 3) ∷ [])) ≡ some (value 1))
-    × (last 2 (taken replacing (ev 4 "rate" (val 1) ∷ ev 4 "rate" (gli 3) ∷ [])) ≡ some (value 1))
+    (last 2 (taken sort_ignored (ev 4 "rate" (val 1) ∷ ev 4 "rate" (gli 3) ∷ [])) ≡ Some LastOrder.Nothing)
+    × (last 2 (taken inserted (ev 4 "rate" (val 1) ∷ ev 4 "rate" (gli 3) ∷ [])) ≡ Some (value 1))
+    × (last 2 (taken replacing (ev 4 "rate" (val 1) ∷ ev 4 "rate" (gli 3) ∷ [])) ≡ Some (value 1))
 unfolding eq prepare processing_order lacking lacks any live_ids live_nodes rising_from whole order walk released fed among count_up
 sort_ignored_differs = (refl, refl, refl)
 
@@ -241,8 +239,8 @@ sort_ignored_differs = (refl, refl, refl)
 time_ignored_differs :
     (length (queue_by time_ignored (ev 4 "cut" (val 1) ∷ ev 20 "cut" (val 3) ∷ []) []) ≡ 1)
     × (length (queue_by replacing (ev 4 "cut" (val 1) ∷ ev 20 "cut" (val 3) ∷ []) []) ≡ 2)
-    × (last 1 (taken time_ignored (ev 20 "cut" (val 1) ∷ ev 12 "bend" (val 5) ∷ ev 4 "cut" (val 3) ∷ [])) ≡ some (value 5))
-    × (last 1 (taken inserted (ev 20 "cut" (val 1) ∷ ev 12 "bend" (val 5) ∷ ev 4 "cut" (val 3) ∷ [])) ≡ some (value 1))
-    × (last 1 (taken replacing (ev 20 "cut" (val 1) ∷ ev 12 "bend" (val 5) ∷ ev 4 "cut" (val 3) ∷ [])) ≡ some (value 1))
+    × (last 1 (taken time_ignored (ev 20 "cut" (val 1) ∷ ev 12 "bend" (val 5) ∷ ev 4 "cut" (val 3) ∷ [])) ≡ Some (value 5))
+    × (last 1 (taken inserted (ev 20 "cut" (val 1) ∷ ev 12 "bend" (val 5) ∷ ev 4 "cut" (val 3) ∷ [])) ≡ Some (value 1))
+    × (last 1 (taken replacing (ev 20 "cut" (val 1) ∷ ev 12 "bend" (val 5) ∷ ev 4 "cut" (val 3) ∷ [])) ≡ Some (value 1))
 unfolding eq prepare processing_order lacking lacks any live_ids live_nodes rising_from whole order walk released fed among count_up
 time_ignored_differs = (refl, refl, refl, refl, refl)

@@ -3,7 +3,7 @@
 use Prim.Native.Nat.{ℕ, zero, suc, ◌+◌}
 use mathlib.Core.Path.{◌≡◌, refl, sym, ap, ◌∙◌}
 use mathlib.Core.List.{List, [], ◌∷◌}
-use mathlib.Core.Option.{Option, none, some}
+use Rattle.std.specs.Prelude.{Option, None, Some, find, Result, Err, Ok}
 use mathlib.Core.Bool.{Bool, true, false, cond, true≢false}
 use lib.ListN.{length}
 use lib.Ieee.{Float}
@@ -13,8 +13,6 @@ use Rattle.node.specs.declared.record.NodeId.{NodeId}
 use Rattle.node.specs.declared.record.Node.{Node}
 use Rattle.node.specs.declared.refusal.Refusal.{Refusal}
 use Rattle.node.specs.declared.refusal.Refusal.TheVariants.{NoPort}
-use Rattle.prepare.specs.declared.Readiness.{Readiness}
-use Rattle.prepare.specs.declared.Readiness.TheVariants.{Ready, Refused}
 use Rattle.scheduler.specs.declared.event.Event.{Event}
 use Rattle.voice.specs.declared.policy.Admission.{Admission}
 use Rattle.voice.specs.declared.policy.Admission.TheVariants as admission
@@ -25,7 +23,6 @@ use Rattle.store.specs.declared.answer.Outcome.TheVariants.{Applied, NotTaken}
 use Rattle.model.specs.Model as store
 use Rattle.model.specs.Call as call
 use Rattle.lists.proofs.Member.{none_some}
-use Rattle.lists.specs.Find.{find}
 use Rattle.node.specs.Name.{name_of}
 use Rattle.edges.specs.Ports.{port_from}
 use Rattle.graph.specs.Node.{node_at}
@@ -58,8 +55,8 @@ module _ (q : List Event) where
   spawn_step r = record { answer = call.spawned r.answer; model = r.model }
 
   level_still : (v : Option Voice) (d : SharedState) → level_or (with_events q d) v ≡ level_or d v
-  level_still none d = refl
-  level_still (some v) d = refl
+  level_still None d = refl
+  level_still (Some v) d = refl
 
   -- no question is about the queue
   asks_still : (x : Question) (m : Model) → answer_to (port_now m.shared.graph.edges) x (with_queue q m) ≡ answer_to (port_now m.shared.graph.edges) x m
@@ -81,8 +78,8 @@ module _ (q : List Event) where
   asks_still (call.whole_sum inputs counts out outs) m = refl
 
   unless_still : (o : Option Refusal) (m : Model) (s t : Step) → t ≡ queued s → unless o (with_queue q m) t ≡ queued (unless o m s)
-  unless_still none m s t h = h
-  unless_still (some r) m s t h = refl
+  unless_still None m s t h = h
+  unless_still (Some r) m s t h = refl
 
   -- ---- spawns
   log_still : (v : Voice) (s : VoiceState) (d : SharedState) → reclaim_log v s (with_events q d) ≡ reclaim_log v s d
@@ -96,27 +93,27 @@ module _ (q : List Event) where
   place_still : (n : ℕ) (spawn : Spawn) (s : VoiceState) (m : Model) → place n spawn s (with_queue q m) ≡ spawned_q (place n spawn s m)
   place_still zero spawn s m = go (port_free spawn.bus m)
     where
-      go : (o : Option ℕ) → instantiate_or o none spawn s (with_queue q m) (refused NoPort) ≡ spawned_q (instantiate_or o none spawn s m (refused NoPort))
-      go none = refl
-      go (some p) = refl
+      go : (o : Option ℕ) → instantiate_or o None spawn s (with_queue q m) (refused NoPort) ≡ spawned_q (instantiate_or o None spawn s m (refused NoPort))
+      go None = refl
+      go (Some p) = refl
   place_still (suc n) spawn s m = go (port_free spawn.bus m) (next_out m.shared spawn.bus spawn.rank m.voices) (place_still n spawn s)
     where
       go : (o : Option ℕ) (u : Option Voice) → ((k : Model) → place n spawn s (with_queue q k) ≡ spawned_q (place n spawn s k))
           → instantiate_or o u spawn s (with_queue q m) (λ k. place n spawn s k) ≡ spawned_q (instantiate_or o u spawn s m (λ k. place n spawn s k))
-      go (some p) u ih = refl
-      go none none ih = refl
-      go none (some v) ih = ap (place n spawn s) (cut_still v v.state m) ∙ ih (cut_off v v.state m)
+      go (Some p) u ih = refl
+      go None None ih = refl
+      go None (Some v) ih = ap (place n spawn s) (cut_still v v.state m) ∙ ih (cut_off v v.state m)
 
   budget_still : (spawn : Spawn) (m : Model) → place_within_budget spawn (with_queue q m) ≡ spawned_q (place_within_budget spawn m)
   budget_still spawn m = place_still (tries m.shared.config.budget m.voices) spawn (state_under m.shared.config.budget) m
 
   stolen_still : (v : Voice) (o : Option ℕ) (m : Model) → stolen v o (with_queue q m) ≡ with_queue q (stolen v o m)
-  stolen_still v none m = refl
-  stolen_still v (some p) m = refl
+  stolen_still v None m = refl
+  stolen_still v (Some p) m = refl
 
   steal_still : (o : Option Voice) (spawn : Spawn) (m : Model) → steal_then o spawn (with_queue q m) ≡ spawned_q (steal_then o spawn m)
-  steal_still none spawn m = budget_still spawn m
-  steal_still (some v) spawn m =
+  steal_still None spawn m = budget_still spawn m
+  steal_still (Some v) spawn m =
       ap (place_within_budget spawn) (stolen_still v (port_from m.shared.graph.edges (feeder v) v.bus) m) ∙ budget_still spawn (steal_voice v m)
 
   admitted_still : (a : Admission) (spawn : Spawn) (m : Model) → admitted a spawn (with_queue q m) ≡ spawned_q (admitted a spawn m)
@@ -125,13 +122,13 @@ module _ (q : List Event) where
   admitted_still (admission.Steal p w) spawn m = steal_still (find (is_voice w) m.voices) spawn m
 
   spawned_still : (o : Option Refusal) (m : Model) (r t : SpawnResult) → t ≡ spawned_q r → store.unless o (with_queue q m) t ≡ spawned_q (store.unless o m r)
-  spawned_still none m r t h = h
-  spawned_still (some n) m r t h = refl
+  spawned_still None m r t h = h
+  spawned_still (Some n) m r t h = refl
 
   -- ---- frees and clearing
   freed_still : (o : Option Voice) (m : Model) → freed o (with_queue q m) ≡ with_queue q (freed o m)
-  freed_still none m = refl
-  freed_still (some v) m = refl
+  freed_still None m = refl
+  freed_still (Some v) m = refl
 
   removed_all_still : (vs : List Voice) (m : Model) → without_voices vs (with_queue q m) ≡ with_queue q (without_voices vs m)
   removed_all_still [] m = refl
@@ -150,8 +147,8 @@ module _ (q : List Event) where
   ordered_q r = record { outcome = r.outcome; shared = with_events q r.shared }
 
   node_still : (u : Option Node) (o : LastOrder) (d : SharedState) → order_node u o (with_events q d) ≡ ordered_q (order_node u o d)
-  node_still none o d = refl
-  node_still (some n) o d = go (takes o n)
+  node_still None o d = refl
+  node_still (Some n) o d = go (takes o n)
     where
       go : (b : Bool) → cond b (record { outcome = Applied; shared = with_node (with_last o n) (with_events q d) }) (stays NotTaken (with_events q d))
           ≡ ordered_q (cond b (record { outcome = Applied; shared = with_node (with_last o n) d }) (stays NotTaken d))
@@ -159,20 +156,20 @@ module _ (q : List Event) where
       go false = refl
 
   param_still : (i : Option ℕ) (v : Voice) (o : LastOrder) (d : SharedState) → order_param i v o (with_events q d) ≡ ordered_q (order_param i v o d)
-  param_still none v o d = refl
-  param_still (some i) v o d = node_still (node_at d.graph.nodes (id (v.first.0 + i))) o d
+  param_still None v o d = refl
+  param_still (Some i) v o d = node_still (node_at d.graph.nodes (id (v.first.0 + i))) o d
 
   pub voice_still : (v : Option Voice) (name : Name) (o : LastOrder) (d : SharedState) → order_voice v name o (with_events q d) ≡ ordered_q (order_voice v name o d)
-  voice_still none name o d = refl
-  voice_still (some v) name o d = param_still (param_node (param_rows v.params) name) v o d
+  voice_still None name o d = refl
+  voice_still (Some v) name o d = param_still (param_node (param_rows v.params) name) v o d
 
   report_still : (u : Option Node) (samples : List Float) (flag : Bool) (d : SharedState) → report_node u samples flag (with_events q d) ≡ with_events q (report_node u samples flag d)
-  report_still none samples flag d = refl
-  report_still (some n) samples flag d = refl
+  report_still None samples flag d = refl
+  report_still (Some n) samples flag d = refl
 
-  ready_still : (r : Readiness) (l : List NodeId) (d : SharedState) → ready_shared r l (with_events q d) ≡ with_events q (ready_shared r l d)
-  ready_still Ready l d = refl
-  ready_still (Refused r) l d = refl
+  ready_still : (r : Result (Unit {0}) Refusal) (l : List NodeId) (d : SharedState) → ready_shared r l (with_events q d) ≡ with_events q (ready_shared r l d)
+  ready_still (Ok tt) l d = refl
+  ready_still (Err r) l d = refl
 
   prepare_still : (d : SharedState) → prepare_shared (with_events q d) ≡ with_events q (prepare_shared d)
   prepare_still d = ready_still (prepare_outcome d).answer (prepare_outcome d).order d
@@ -193,9 +190,9 @@ module _ (q : List Event) where
   abbrev pub heard_q : Heard → Heard
   heard_q h = record { answer = h.answer; model = with_queue q h.model }
 
-  answer_still : (r : Readiness) (d : SharedState) → answer_after r (with_events q d) ≡ answer_after r d
-  answer_still Ready d = refl
-  answer_still (Refused r) d = refl
+  answer_still : (r : Result (Unit {0}) Refusal) (d : SharedState) → answer_after r (with_events q d) ≡ answer_after r d
+  answer_still (Ok tt) d = refl
+  answer_still (Err r) d = refl
 
   pub prepared_still : (b : Bool) (m : Model) → prepared_if b (with_queue q m) ≡ heard_q (prepared_if b m)
   prepared_still false m = refl
@@ -209,7 +206,7 @@ module _ (q : List Event) where
   Still x m = step x (with_queue q m) ≡ queued (step x m)
 
   -- every call but a schedule and a render
-  pub still_step : (x : Call) → is_render x ≡ false → scheduled x ≡ none → (m : Model) → Still x m
+  pub still_step : (x : Call) → is_render x ≡ false → scheduled x ≡ None → (m : Model) → Still x m
   still_step (call.add_node kind ports required values glides) r h m = unless_still (add_refusal m.shared.graph kind ports required) m _ _ refl
   still_step (call.remove_node k) r h m = unless_still (host_refusal m.shared.graph k) m _ _ refl
   still_step (call.connect a b p) r h m = unless_still (connect_refusal m.shared.graph a b p) m _ _ refl

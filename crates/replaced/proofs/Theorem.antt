@@ -1,7 +1,7 @@
 -- Paper 9's theorem: for every list of calls from a newly made store, and so after each call of it.
 use mathlib.Core.Path.{◌≡◌, sym, ap, ◌∙◌}
 use mathlib.Core.List.{List, []}
-use mathlib.Core.Option.{some}
+use Rattle.std.specs.Prelude.{Some}
 use Rattle.model.specs.Model.{Model}
 use Rattle.model.specs.Make.{Making, make}
 use Rattle.model.specs.Call.{Call, run}
@@ -11,7 +11,7 @@ use Rattle.replaced.proofs.Lasts.{thinned_lasts}
 use Rattle.replaced.proofs.Related.{related_step, related_runs}
 use Rattle.replaced.proofs.Told.{told_alike}
 
-pub replaced_same : (k : Making) (m : Model) → make k ≡ some m → (xs : List Call) → Replaced m xs
+pub replaced_same : (k : Making) (m : Model) → make k ≡ Some m → (xs : List Call) → Replaced m xs
 replaced_same k m accepted xs =
     let r = related_runs k m accepted xs in
     let t = r.0 in

@@ -10,7 +10,7 @@ use borrow.Author.Tests.{eqb-true, ltb-true, lt-ltb, ne_eqb}
 use Rattle.scheduler.specs.declared.event.Event.{Event}
 use Rattle.lists.specs.Member.{In}
 use Rattle.lists.proofs.Member.{and_left}
-use Rattle.lists.specs.Filter.{put?, filter}
+use Rattle.std.specs.Prelude.{cond, filter}
 use Rattle.lists.proofs.Filter.{filter_all}
 use Rattle.scheduler.specs.Queue.{later, before?, inserted, taken_before, left_after, replacing}
 use Rattle.scheduler.proofs.Sorted.{Sorted}
@@ -41,7 +41,7 @@ module _ (t : ℕ → Bool) where
       rw k (inl r)
   superseded_filter e (f ∷ q) h (inr s) = go (t f.time) (superseded_filter e q h s)
     where
-      go : (b : Bool) → Superseded e (filter no_overflow q) → Superseded e (put? b f (filter no_overflow q))
+      go : (b : Bool) → Superseded e (filter no_overflow q) → Superseded e (cond b (f ∷ (filter no_overflow q)) (filter no_overflow q))
       go true i = inr i
       go false i = i
 
@@ -50,12 +50,12 @@ module _ (t : ℕ → Bool) where
   thinned_filter (e ∷ q) p (inl h) =
       subst (λ z. Thinned (filter no_overflow z) (filter no_overflow (e ∷ q))) (sym h.1) (go (t e.time) (thinned_filter q h.0 h.2))
     where
-      go : (b : Bool) → Thinned (filter no_overflow h.0) (filter no_overflow q) → Thinned (put? b e (filter no_overflow h.0)) (put? b e (filter no_overflow q))
+      go : (b : Bool) → Thinned (filter no_overflow h.0) (filter no_overflow q) → Thinned (cond b (e ∷ (filter no_overflow h.0)) (filter no_overflow h.0)) (cond b (e ∷ (filter no_overflow q)) (filter no_overflow q))
       go true i = inl (filter no_overflow h.0, refl, i)
       go false i = i
   thinned_filter (e ∷ q) p (inr h) = go (t e.time) refl (thinned_filter q p h.1)
     where
-      go : (b : Bool) → t e.time ≡ b → Thinned (filter no_overflow p) (filter no_overflow q) → Thinned (filter no_overflow p) (put? b e (filter no_overflow q))
+      go : (b : Bool) → t e.time ≡ b → Thinned (filter no_overflow p) (filter no_overflow q) → Thinned (filter no_overflow p) (cond b (e ∷ (filter no_overflow q)) (filter no_overflow q))
       go true k i = inr (superseded_filter e q k h.0, i)
       go false k i = i
 
@@ -116,7 +116,7 @@ module _ (n : Event) where
 
       -- behind e, which stays or is replaced
       after : (r : List Event) → later n e ≡ false → (b : Bool) → replaces n e ≡ b → Thinned (replacing n r) (inserted n q)
-          → Thinned (inserted n (put? (not b) e (thinned n r))) (e ∷ inserted n q)
+          → Thinned (inserted n (cond (not b) (e ∷ (thinned n r)) (thinned n r))) (e ∷ inserted n q)
       after r l true t ih = inr (superseded_new e n q t, ih)
       after r l false t ih = inl (replacing n r, ap (λ b. before? b n e (thinned n r) (replacing n r)) l, ih)
 

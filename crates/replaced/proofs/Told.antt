@@ -3,13 +3,11 @@
 use Prim.Native.Nat.{ℕ, suc, ◌+◌}
 use mathlib.Core.Path.{◌≡◌, refl, sym, ap, ◌∙◌, subst}
 use mathlib.Core.List.{List, [], ◌∷◌}
-use mathlib.Core.Option.{Option, none, some}
+use Rattle.std.specs.Prelude.{Option, None, Some, find, option_map}
 use mathlib.Core.Bool.{Bool, true, false, not, cond, true≢false, false≢true}
 use lib.Dec.{eqb}
 use lib.ListN.{length}
 use borrow.Author.Tests.{eqb-true, eqb-false}
-use Rattle.lists.specs.Find.{find, map_o}
-use Rattle.lists.specs.Filter.{put?}
 use Rattle.node.specs.declared.order.LastOrder.{LastOrder}
 use Rattle.node.specs.declared.record.Node.{Node}
 use Rattle.node.specs.declared.refusal.Refusal.{Refusal}
@@ -55,17 +53,17 @@ applied_set e k o m = ap (cond (is_free e.action) (free_outcome (find (is_voice 
     took true false x y h = absurd (true≢false h)
     took false true x y h = absurd (false≢true h)
 
-    node : (x : Option Node) → (order_node (map_o (touched k o) x) u (set_at k o m).shared).outcome ≡ (order_node x u m.shared).outcome
-    node none = refl
-    node (some n) = took (takes u (touched k o n)) (takes u n) (with_last u (touched k o n)) (with_last u n) (touched_takes k o u n)
+    node : (x : Option Node) → (order_node (option_map (touched k o) x) u (set_at k o m).shared).outcome ≡ (order_node x u m.shared).outcome
+    node None = refl
+    node (Some n) = took (takes u (touched k o n)) (takes u n) (with_last u (touched k o n)) (with_last u n) (touched_takes k o u n)
 
     at : (i : Option ℕ) (v : Voice) → (order_param i v u (set_at k o m).shared).outcome ≡ (order_param i v u m.shared).outcome
-    at none v = refl
-    at (some i) v = ap (λ x. (order_node x u (set_at k o m).shared).outcome) (look_set k o (id (v.first.0 + i)) ns) ∙ node (node_at ns (id (v.first.0 + i)))
+    at None v = refl
+    at (Some i) v = ap (λ x. (order_node x u (set_at k o m).shared).outcome) (look_set k o (id (v.first.0 + i)) ns) ∙ node (node_at ns (id (v.first.0 + i)))
 
     voice : (v : Option Voice) → (order_voice v (param_of e.action e.name) u (set_at k o m).shared).outcome ≡ (order_voice v (param_of e.action e.name) u m.shared).outcome
-    voice none = refl
-    voice (some v) = at (param_node (param_rows v.params) (param_of e.action e.name)) v
+    voice None = refl
+    voice (Some v) = at (param_node (param_rows v.params) (param_of e.action e.name)) v
 
 outcomes_set : (k : ℕ) (o : LastOrder) (q : List Event) (m : Model) → Good m → outcomes q (set_at k o m) ≡ outcomes q m
 outcomes_set k o [] m g = refl
@@ -75,8 +73,8 @@ outcomes_set k o (f ∷ q) m g = ap (λ z. outcome_number z ∷ outcomes q (appl
     u = order_of f.action
 
     each : (t : Option ℕ) → ((n : Model) → Good n → outcomes q (set_at k o n) ≡ outcomes q n) → outcomes q (put t u (set_at k o m)) ≡ outcomes q (put t u m)
-    each none ih = ih m g
-    each (some j) ih = at (eqb j k) refl
+    each None ih = ih m g
+    each (Some j) ih = at (eqb j k) refl
       where
         at : (b : Bool) → eqb j k ≡ b → outcomes q (set_at j u (set_at k o m)) ≡ outcomes q (set_at j u m)
         at true b =
@@ -84,8 +82,8 @@ outcomes_set k o (f ∷ q) m g = ap (λ z. outcome_number z ∷ outcomes q (appl
         at false b = ap (λ z. outcomes q (at_nodes z m)) (set_swap j k u o (eqb-false j k b) m.shared.graph.nodes) ∙ ih (set_at j u m) (good_set j u m g)
 
     freeing : (t : Option Voice) → ((n : Model) → Good n → outcomes q (set_at k o n) ≡ outcomes q n) → outcomes q (freed t (set_at k o m)) ≡ outcomes q (freed t m)
-    freeing none ih = ih m g
-    freeing (some v) ih = ap (outcomes q) (removed_set k o v.id m) ∙ ih (without_voice v.id m) (good_removed v.id m g)
+    freeing None ih = ih m g
+    freeing (Some v) ih = ap (outcomes q) (removed_set k o v.id m) ∙ ih (without_voice v.id m) (good_removed v.id m g)
 
     go : (b : Bool) → is_free f.action ≡ b → ((n : Model) → Good n → outcomes q (set_at k o n) ≡ outcomes q n) → outcomes q (apply_event f (set_at k o m)) ≡ outcomes q (apply_event f m)
     go false b ih =
@@ -98,15 +96,15 @@ outcomes_drop : (e : Event) (q : List Event) (m : Model) → Good m → Supersed
 outcomes_drop e q m g s = ap (outcomes q) (applied_put e m g (superseded_free e q s)) ∙ go (aim e m)
   where
     go : (t : Option ℕ) → outcomes q (put t (order_of e.action) m) ≡ outcomes q m
-    go none = refl
-    go (some k) = outcomes_set k (order_of e.action) q m g
+    go None = refl
+    go (Some k) = outcomes_set k (order_of e.action) q m g
 
 pub outcomes_lasts : (q : List Event) (m : Model) → Good m → outcomes (lasts q) m ≡ left_of q (outcomes q m)
 outcomes_lasts [] m g = refl
 outcomes_lasts (e ∷ q) m g = go (overtaken e q) refl (outcomes_lasts q)
   where
     go : (b : Bool) → overtaken e q ≡ b → ((n : Model) → Good n → outcomes (lasts q) n ≡ left_of q (outcomes q n))
-        → outcomes (put? (not b) e (lasts q)) m ≡ put? (not b) (outcome_number (outcome_of e m)) (left_of q (outcomes q (apply_event e m)))
+        → outcomes (cond (not b) (e ∷ (lasts q)) (lasts q)) m ≡ cond (not b) ((outcome_number (outcome_of e m)) ∷ (left_of q (outcomes q (apply_event e m)))) (left_of q (outcomes q (apply_event e m)))
     go false t ih = ap (λ z. outcome_number (outcome_of e m) ∷ z) (ih (apply_event e m) (good_applied e m g))
     go true t ih = ih m g ∙ ap (left_of q) (sym (outcomes_drop e q m g (true_overtaken e q t)))
 
@@ -151,8 +149,8 @@ module _ (a b : Model) (g : Good a) (t : Related a b) (out : List ℕ) where
     pub mine : (render_step o out a).answer ≡ call.rendered says (length (left_of (taken_by o b) (told_by o b))) (written (left_of (taken_by o b) (told_by o b)) out)
 
   tells : (o : Option Refusal) → Told o
-  tells (some r) = record { says = Rendered.Refused r; theirs = refl; mine = refl }
-  tells none =
+  tells (Some r) = record { says = Rendered.Refused r; theirs = refl; mine = refl }
+  tells None =
       let os = outcomes (due b.shared) (rested b) in
       let ps = outcomes (due a.shared) (rested a) in
       let less : ps ≡ left_of (due b.shared) os = told a b g t in

@@ -1,9 +1,7 @@
 -- 02, Paper 9: "Prove that after each render the store, but for its pending events, is the same as if all accepted events had been kept,
 -- for a queue that would have held them." Two machines are fed the same calls. A is the store, whose `schedule` replaces. B is the store
 -- but for `schedule`: it is given exactly the events that A accepted, and keeps them all, without a limit.
-use Rattle.std.specs.Prelude.{◌≡◌, List, [], ◌∷◌, Bool, true, false, ◌||◌, not}
-use Rattle.std.proofs.Math.Option.{Option, none, some}
-use Rattle.lists.specs.Filter.{put?}
+use Rattle.std.specs.Prelude.{◌≡◌, List, [], ◌∷◌, Bool, true, false, ◌||◌, not, Option, None, Some, cond}
 use Rattle.node.specs.declared.refusal.Refusal.{Refusal}
 use Rattle.scheduler.specs.Queue.{inserted}
 use Rattle.scheduler.specs.Replace.{replaces}
@@ -24,21 +22,21 @@ SameButEvents a b = with_queue [] a ≡ with_queue [] b
 -- ---- machine B
 -- the event that a call schedules, if it is such a call
 abbrev pub scheduled : Call → Option Event
-scheduled (call.add_node kind ports required values glides) = none
-scheduled (call.remove_node k) = none
-scheduled (call.connect a b p) = none
-scheduled (call.disconnect b p) = none
-scheduled (call.set_sink k) = none
-scheduled (call.spawn_managed spawn) = none
-scheduled (call.spawn_loose spawn) = none
-scheduled (call.free w) = none
-scheduled call.clear = none
-scheduled (call.order w name o) = none
-scheduled (call.schedule t w name a) = some (event t w name a)
-scheduled (call.report k channels samples flag) = none
-scheduled call.prepare = none
-scheduled (call.render out) = none
-scheduled (call.ask q) = none
+scheduled (call.add_node kind ports required values glides) = None
+scheduled (call.remove_node k) = None
+scheduled (call.connect a b p) = None
+scheduled (call.disconnect b p) = None
+scheduled (call.set_sink k) = None
+scheduled (call.spawn_managed spawn) = None
+scheduled (call.spawn_loose spawn) = None
+scheduled (call.free w) = None
+scheduled call.clear = None
+scheduled (call.order w name o) = None
+scheduled (call.schedule t w name a) = Some (event t w name a)
+scheduled (call.report k channels samples flag) = None
+scheduled call.prepare = None
+scheduled (call.render out) = None
+scheduled (call.ask q) = None
 
 -- the other call that looks at the queue
 abbrev pub is_render : Call → Bool
@@ -60,12 +58,12 @@ is_render (call.ask q) = false
 
 -- what A refused is not given to B; what A accepted is put behind the others of its time, and none is removed
 abbrev pub kept_unless : Option Refusal → Event → Model → Step
-kept_unless none e b = record { answer = call.done; model = with_queue (inserted e b.shared.events) b }
-kept_unless (some r) e b = record { answer = call.refused r; model = b }
+kept_unless None e b = record { answer = call.done; model = with_queue (inserted e b.shared.events) b }
+kept_unless (Some r) e b = record { answer = call.refused r; model = b }
 
 abbrev pub kept_by : Option Event → Call → Model → Model → Step
-kept_by none x a b = step x b
-kept_by (some e) x a b = kept_unless (schedule_refusal e a.shared.events) e b
+kept_by None x a b = step x b
+kept_by (Some e) x a b = kept_unless (schedule_refusal e a.shared.events) e b
 
 -- B's step, where A is in the state a and B in the state b
 abbrev pub kept_step : Call → Model → Model → Step
@@ -87,4 +85,4 @@ overtaken e (f ∷ q) = replaces f e || overtaken e q
 -- the events that no later one replaces
 abbrev pub lasts : List Event → List Event
 lasts [] = []
-lasts (e ∷ q) = put? (not (overtaken e q)) e (lasts q)
+lasts (e ∷ q) = cond (not (overtaken e q)) (e ∷ (lasts q)) (lasts q)

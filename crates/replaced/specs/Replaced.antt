@@ -1,9 +1,7 @@
 -- The statement of Paper 9's theorem, of the store after a list of calls and of the call that is next: machine A, which replaces, and
 -- machine B, which keeps all that A accepted (`Kept`), are the same but for their pending events, and answer the same but for what shows
 -- these.
-use Rattle.std.specs.Prelude.{ℕ, ◌≡◌, List, [], ◌∷◌, false, not, length}
-use Rattle.std.proofs.Math.Option.{Option, none, some}
-use Rattle.lists.specs.Filter.{put?}
+use Rattle.std.specs.Prelude.{ℕ, ◌≡◌, List, [], ◌∷◌, false, not, length, Option, None, Some, cond}
 use Rattle.node.specs.declared.refusal.Refusal.{Refusal}
 use Rattle.scheduler.specs.declared.event.Event.{Event}
 use Rattle.store.specs.declared.answer.Rendered.{Rendered}
@@ -17,18 +15,18 @@ use Rattle.replaced.specs.Kept.{SameButEvents, is_render, kept_step, kept_run, o
 -- ---- "Render answers of Paper 1 list only the events left."
 -- the events that a render takes, and what became of each; a refused one takes none
 abbrev pub taken_by : Option Refusal → Model → List Event
-taken_by none m = due m.shared
-taken_by (some r) m = []
+taken_by None m = due m.shared
+taken_by (Some r) m = []
 
 abbrev pub told_by : Option Refusal → Model → List ℕ
-told_by none m = outcomes (due m.shared) (rested m)
-told_by (some r) m = []
+told_by None m = outcomes (due m.shared) (rested m)
+told_by (Some r) m = []
 
 -- the entries of the events that no later one replaces
 abbrev pub left_of : List Event → List ℕ → List ℕ
 left_of [] l = []
 left_of (e ∷ q) [] = []
-left_of (e ∷ q) (o ∷ l) = put? (not (overtaken e q)) o (left_of q l)
+left_of (e ∷ q) (o ∷ l) = cond (not (overtaken e q)) (o ∷ (left_of q l)) (left_of q l)
 
 -- What a render with the lent list `out` answers, by A in the state a and by B in the state b: the same, but that A's list has not the
 -- entries of the events that were replaced.

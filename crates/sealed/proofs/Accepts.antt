@@ -2,7 +2,7 @@
 use mathlib.Core.Path.{◌≡◌, refl, sym, ap, ◌∙◌}
 use mathlib.Core.Logic.{◌↔◌}
 use mathlib.Core.List.{List, [], ◌∷◌}
-use mathlib.Core.Option.{Option, none, some}
+use Rattle.std.specs.Prelude.{Option, None, Some}
 use mathlib.Core.Bool.{true, true≢false}
 use lib.Dec.{eqb, leb}
 use lib.ListN.{length}
@@ -36,9 +36,9 @@ accepts_fits s d vs h₀ =
       empty = none_in vs (and_right (eqb (length d.graph.edges) s.host_edges) _ h₇);
     }
   where
-    is_host : (o : Option Node) → host_owned o ≡ true → ports_of o ≡ s.ports → (n : Node) × (o ≡ some n) × (n.owner.0 ≡ 0) × (n.ports ≡ s.ports)
-    is_host none h p = absurd (true≢false (sym h))
-    is_host (some n) h p = (n, refl, eqb-true _ _ h, p)
+    is_host : (o : Option Node) → host_owned o ≡ true → ports_of o ≡ s.ports → (n : Node) × (o ≡ Some n) × (n.owner.0 ≡ 0) × (n.ports ≡ s.ports)
+    is_host None h p = absurd (true≢false (sym h))
+    is_host (Some n) h p = (n, refl, eqb-true _ _ h, p)
 
     none_in : (vs : List Voice) → nobody_in vs ≡ true → vs ≡ []
     none_in [] h = refl

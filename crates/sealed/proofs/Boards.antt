@@ -4,14 +4,13 @@ use native.Mathlib.Omega.{arith}
 use mathlib.Core.Path.{◌≡◌, refl, sym, ap, ◌∙◌, subst}
 use mathlib.Core.Logic.{◌⊎◌, inl, inr, ⊎_elim}
 use mathlib.Core.List.{List, [], ◌∷◌, ◌++◌, append_assoc}
-use mathlib.Core.Option.{Option, none, some}
+use Rattle.std.specs.Prelude.{Option, None, Some, Err}
 use mathlib.Core.Bool.{Bool, true, false, not, cond, false≢true}
 use lib.ListN.{get_or, set}
 use borrow.Author.Tests.{not-false}
 use Rattle.lists.specs.Member.{In}
 use Rattle.lists.proofs.Member.{some_inj, none_some, and_left, and_right, both, in_snoc}
 use Rattle.node.specs.declared.refusal.Refusal.TheVariants.{TableFull}
-use Rattle.store.specs.declared.answer.Spawned.TheVariants as Spawned
 use Rattle.model.specs.Model.{Model}
 use Rattle.model.specs.Make.{Making, config_of, make}
 use Rattle.model.specs.Call.{Call, Answer, step}
@@ -98,12 +97,12 @@ open_taken s q ws h n u i = ⊎_elim (λ j. h q u (in_rest (waiting_at q ws) j))
     in_rest [] j = j
     in_rest (w ∷ l) j = inr j
 
-open_picked : (s : Profile) (ws : Wishes) → AllOpen s ws → (n q : ℕ) (p : Picked) → search n ws q ≡ some p → open_wish s p.wish ≡ true
+open_picked : (s : Profile) (ws : Wishes) → AllOpen s ws → (n q : ℕ) (p : Picked) → search n ws q ≡ Some p → open_wish s p.wish ≡ true
 open_picked s ws h zero q p e = absurd (none_some e)
 open_picked s ws h (suc n) q p e = go (waiting_at q ws) refl (open_picked s ws h n (wishes.after (keyboards ws) q) p) e
   where
-    go : (l : List Wish) → waiting_at q ws ≡ l → (search n ws (wishes.after (keyboards ws) q) ≡ some p → open_wish s p.wish ≡ true)
-        → oldest_or l q (search n ws (wishes.after (keyboards ws) q)) ≡ some p → open_wish s p.wish ≡ true
+    go : (l : List Wish) → waiting_at q ws ≡ l → (search n ws (wishes.after (keyboards ws) q) ≡ Some p → open_wish s p.wish ≡ true)
+        → oldest_or l q (search n ws (wishes.after (keyboards ws) q)) ≡ Some p → open_wish s p.wish ≡ true
     go [] f ih e = ih e
     go (w ∷ l) f ih e =
         let z : record { keyboard = q; wish = w } ≡ p = some_inj e in
@@ -114,7 +113,7 @@ open_call : (s : Profile) (w : Wish) → open_wish s w ≡ true → (call_of w �
 open_call s w h = (ap (λ b. cond b (call.spawn_managed (spawn_in w)) (call.spawn_loose (spawn_in w))) (and_left w.managed _ h), and_right w.managed _ h)
 
 -- and so the one that a turn serves
-pub turn_open : (s : Profile) (ws : Wishes) → AllOpen s ws → (p : Picked) → picked ws ≡ some p → (call_of p.wish ≡ call.spawn_managed (spawn_in p.wish)) × (within s (spawn_in p.wish) ≡ true)
+pub turn_open : (s : Profile) (ws : Wishes) → AllOpen s ws → (p : Picked) → picked ws ≡ Some p → (call_of p.wish ≡ call.spawn_managed (spawn_in p.wish)) × (within s (spawn_in p.wish) ≡ true)
 turn_open s ws h p e = open_call s p.wish (open_picked s ws h (keyboards ws) ws.next p e)
 
 -- ---- the store part: m is the store that making gave
@@ -162,24 +161,24 @@ history_open m Unsealed (console.on c) k o h = made_step m k.model c h
 history_open m Unsealed (console.wish q w) k o h = go (wish_refusal k.wishes q)
   where
     go : (r : Option KeyboardRefusal) → Made m (wished r q w k).console.model
-    go none = h
-    go (some r) = h
+    go None = h
+    go (Some r) = h
 history_open m Unsealed console.turn k o h = go (picked k.wishes)
   where
     go : (p : Option Picked) → Made m (turned p k).console.model
-    go none = h
-    go (some p) = made_step m k.model (call_of p.wish) h
+    go None = h
+    go (Some p) = made_step m k.model (call_of p.wish) h
 history_open m (Sealed s) (console.on c) k o h = (sealed_step s m k.model c o h.0, h.1)
 history_open m (Sealed s) (console.wish q w) k o h = go (wish_refusal k.wishes q)
   where
     go : (r : Option KeyboardRefusal) → History m (Sealed s) (wished r q w k).console
-    go none = (h.0, open_added s q w k.wishes (not-false _ o) h.1)
-    go (some r) = h
+    go None = (h.0, open_added s q w k.wishes (not-false _ o) h.1)
+    go (Some r) = h
 history_open m (Sealed s) console.turn k o h = go (picked k.wishes) refl
   where
     go : (p : Option Picked) → picked k.wishes ≡ p → History m (Sealed s) (turned p k).console
-    go none e = h
-    go (some p) e =
+    go None e = h
+    go (Some p) e =
         let z = turn_open s k.wishes h.1 p e in
         (sealed_step s m k.model (call_of p.wish) (ap (shuts s) z.0 ∙ ap not z.1) h.0, open_taken s p.keyboard k.wishes h.1)
 
@@ -216,7 +215,7 @@ history_run m [] b h = h
 history_run m (x ∷ xs) b h = history_run m xs (board_step x b).board (history_step m x b h)
 
 -- ---- a sealed board
-sealed_board : (k : Making) (m : Model) → make k ≡ some m → (s : Profile) (b : Board) → b.seal ≡ Sealed s → History m b.seal b.console → SealedBoard k s b
+sealed_board : (k : Making) (m : Model) → make k ≡ Some m → (s : Profile) (b : Board) → b.seal ≡ Sealed s → History m b.seal b.console → SealedBoard k s b
 sealed_board k m made s b is h₀ =
     record {
       promise = promise;
@@ -246,9 +245,9 @@ sealed_board k m made s b is h₀ =
     served_inj : (p q : ℕ) (x y : Answer) → console.served p x ≡ console.served q y → x ≡ y
     served_inj p q x y e = cc
 
-    turn : (o : Option Picked) → picked b.console.wishes ≡ o → (q : ℕ) → (turned o b.console).answer ≡ console.served q (call.spawned (Spawned.Refused TableFull)) → ⊥
-    turn none e q z = let y : ◌≡◌ {A = ℕ} 0 1 = cc in omega arith
-    turn (some p) e q z =
+    turn : (o : Option Picked) → picked b.console.wishes ≡ o → (q : ℕ) → (turned o b.console).answer ≡ console.served q (call.spawned (Err TableFull)) → ⊥
+    turn None e q z = let y : ◌≡◌ {A = ℕ} 0 1 = cc in omega arith
+    turn (Some p) e q z =
         let w = turn_open s b.console.wishes h.1 p e in
         promise.never (spawn_in p.wish) w.1 (sym (ap (λ c. (step c b.console.model).answer) w.0) ∙ served_inj p.keyboard q _ _ z)
 

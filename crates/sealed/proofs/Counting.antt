@@ -6,14 +6,12 @@ use native.Mathlib.Nat.{suc-mul}
 use mathlib.Core.Path.{◌≡◌, refl, sym, ap, ◌∙◌}
 use mathlib.Core.Logic.{◌⊎◌, inl, inr, ⊎_elim}
 use mathlib.Core.List.{List, [], ◌∷◌}
-use mathlib.Core.Option.{Option, none, some}
+use Rattle.std.specs.Prelude.{Option, None, Some, filter, cond, find}
 use mathlib.Core.Bool.{Bool, true, false, not, false≢true}
 use lib.ListN.{length}
 use borrow.Author.Tests.{eqb-true, eq-eqb, not-true}
 use Rattle.lists.specs.Member.{In}
-use Rattle.lists.specs.Filter.{filter, put?}
 use Rattle.lists.proofs.Filter.{in_filter, filter_all}
-use Rattle.lists.specs.Find.{find}
 use Rattle.lists.proofs.Find.{find_in, find_none}
 use Rattle.lists.specs.Count.{more, count}
 use Rattle.lists.proofs.Count.{count_all, count_filter, count_is_length}
@@ -38,7 +36,7 @@ module _ {A : Type 0} where
   split q [] = refl
   split q (x ∷ l) = go (q x) (split q l)
     where
-      go : (b : Bool) → length l ≡ count q l + length (filter (λ x. not (q x)) l) → suc (length l) ≡ more b (count q l) + length (put? (not b) x (filter (λ x. not (q x)) l))
+      go : (b : Bool) → length l ≡ count q l + length (filter (λ x. not (q x)) l) → suc (length l) ≡ more b (count q l) + length (cond (not b) (x ∷ (filter (λ x. not (q x)) l)) (filter (λ x. not (q x)) l))
       go true h = omega arith
       go false h = omega arith
 
@@ -82,10 +80,10 @@ ports_enough h (suc n) given vs d at = go (find (λ v. by_voice v.id (h n)) vs) 
 
     go : (o : Option Voice) → find (λ v. by_voice v.id (h n)) vs ≡ o
         → ((vs : List Voice) → Ids given vs → ((v : Voice) → In v vs → (p : ℕ) × (p < n) × (by_voice v.id (h p) ≡ true)) → length vs ≤ n) → length vs ≤ suc n
-    go none e ih =
+    go None e ih =
         let z = ih vs d (λ v i. let r = at v i in below v r.0 r.1 r.2 (λ b. false≢true (sym (find_none (λ v. by_voice v.id (h n)) vs v e i) ∙ b))) in
         omega (arith, z)
-    go (some u) e ih =
+    go (Some u) e ih =
         let f = find_in (λ v. by_voice v.id (h n)) vs u e in
         let vs' = filter (λ x. not (is_voice u.id x)) vs in
         let c : count (λ x. true) vs ≡ suc (count (λ x. true) vs') = one_removed d (λ x. true) u f.0 in

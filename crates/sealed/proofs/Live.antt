@@ -3,14 +3,13 @@ use Prim.Native.Nat.{ℕ}
 use mathlib.Core.Path.{◌≡◌, refl, sym, ap, ◌∙◌, subst}
 use mathlib.Core.Logic.{◌⊎◌, inl, inr, ⊎_elim}
 use mathlib.Core.List.{List, [], ◌∷◌, ◌++◌, map}
-use mathlib.Core.Option.{Option, none, some}
+use Rattle.std.specs.Prelude.{Option, None, Some, filter}
 use mathlib.Core.Bool.{Bool, true, false, not, cond}
 use lib.Dec.{eqb}
 use borrow.Author.Tests.{not-true}
 use Rattle.lists.specs.Member.{In}
 use Rattle.lists.proofs.Member.{in_snoc, in_left, in_right, in_map, in_of_map}
 use Rattle.lists.proofs.Find.{find_in}
-use Rattle.lists.specs.Filter.{filter}
 use Rattle.lists.proofs.Filter.{in_filter, filter_in}
 use Rattle.graph.specs.View.{GraphView}
 use Rattle.graph.specs.Node.{is_node, owned_by, node_at, host_node, replaced, noise_raised}
@@ -59,7 +58,7 @@ live_removed w ns vs h x i = let r = in_filter (λ x. not (owned_by w x)) ns x i
     go (inr r) o = inr (r.0, filter_in (λ v. not (is_voice w v)) vs r.0 r.1 (ap not (ap (λ n. eqb n w.0) r.2 ∙ o)), r.2)
 
 -- a node's record changes
-live_replaced : (ns : List Node) (vs : List Voice) (k : NodeId) (x n : Node) → node_at ns k ≡ some x → n.owner ≡ x.owner → Live ns vs → Live (replaced ns n) vs
+live_replaced : (ns : List Node) (vs : List Voice) (k : NodeId) (x n : Node) → node_at ns k ≡ Some x → n.owner ≡ x.owner → Live ns vs → Live (replaced ns n) vs
 live_replaced ns vs k x n e o h y i = let r = in_map (λ m. cond (is_node n.id m) n m) ns y i in go r.0 r.1 (is_node n.id r.0) r.2
   where
     same : (z : Node) → In z ns → z.owner.0 ≡ y.owner.0 → Owned vs y
@@ -106,8 +105,8 @@ live_steal v l iv h = go (port_held v l)
     f = begin_fade v.id (fade_of l.shared)
 
     go : (o : Option ℕ) → LiveOf (stolen v o l)
-    go none = live_cut v Tracked l h
-    go (some p) = λ x i.
+    go None = live_cut v Tracked l h
+    go (Some p) = λ x i.
         ⊎_elim (λ j. live_map f (begin_id v.id (fade_of l.shared)) l.voices x (h x j))
         (λ e. inr (f v, in_of_map f l.voices v iv, ap (λ (w : VoiceId). w.0) (begin_id v.id (fade_of l.shared) v) ∙ sym (ap (λ (y : Node). y.owner.0) e)))
         (in_snoc l.shared.graph.nodes (with_id l.shared.graph.next (fade_node v.id)) x i)
@@ -138,9 +137,9 @@ live_preserved =
       block = λ l a q. (ids_preserved.block l a q.0, counts l (is_sounding a) q.1);
     }
   where
-    instantiates : (l : Ledger) (x : Spawn) → LiveOf l → (o : Option ℕ) → LiveOf (instantiate_or o none x Loose l (refused NoPort)).ledger
-    instantiates l x m none = m
-    instantiates l x m (some p) = live_instantiate x Loose p l m
+    instantiates : (l : Ledger) (x : Spawn) → LiveOf l → (o : Option ℕ) → LiveOf (instantiate_or o None x Loose l (refused NoPort)).ledger
+    instantiates l x m None = m
+    instantiates l x m (Some p) = live_instantiate x Loose p l m
 
     counts : (l : Ledger) (b : Bool) → LiveOf l → Live l.shared.graph.nodes (counted_if b l.voices)
     counts l true m = λ x i. live_map (moved one_more) (λ v. refl) l.voices x (m x i)

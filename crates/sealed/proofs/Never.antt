@@ -1,18 +1,18 @@
 -- After sealing no spawn meets refusal 7, whatever the list of calls; and the promise on when a spawn fails, without its headroom.
+use Rattle.node.specs.declared.record.VoiceId.{VoiceId}
 use Prim.Native.Nat.{ℕ, zero, suc, ◌+◌, ◌*◌, ◌≤◌, ◌<◌}
 use native.Mathlib.Omega.{arith}
 use native.Mathlib.Nat.{add-mul, mul-le-mul_right}
 use mathlib.Core.Path.{◌≡◌, refl, sym, ap, ◌∙◌, subst}
 use mathlib.Core.Logic.{◌⊎◌, inl, inr, ⊎_elim}
 use mathlib.Core.List.{List, [], ◌∷◌}
-use mathlib.Core.Option.{Option, none, some}
+use Rattle.std.specs.Prelude.{Option, None, Some, find, Result, Err}
 use mathlib.Core.Bool.{Bool, true, false, not, cond, false≢true}
 use lib.Dec.{eqb, leb, ltb}
 use lib.ListN.{length}
 use borrow.Author.Tests.{eqb-true, eq-eqb, ne_eqb, leb-true, le-ltb, lt-leb, not-false, not-true}
 use Rattle.lists.specs.Member.{In}
 use Rattle.lists.proofs.Member.{and_left, and_right, none_some}
-use Rattle.lists.specs.Find.{find}
 use Rattle.lists.proofs.Find.{find_in}
 use Rattle.lists.specs.Count.{count}
 use Rattle.lists.proofs.Count.{count_length}
@@ -42,7 +42,6 @@ use Rattle.node.specs.declared.record.Edge.{Edge}
 use Rattle.node.specs.declared.refusal.Refusal.{Refusal}
 use Rattle.node.specs.declared.refusal.Refusal.TheVariants.{UnknownNode, VoiceNode, TableFull, IdsUsedUp, DefinitionLimits, BusWithoutPorts, RankTooHigh}
 use Rattle.synthdef.specs.declared.def.SynthDef.{SynthDef}
-use Rattle.store.specs.declared.answer.Spawned.{Spawned}
 use Rattle.store.specs.declared.voices.Voice.{Voice}
 use Rattle.store.specs.declared.voices.VoiceState.{VoiceState}
 use Rattle.store.specs.declared.voices.VoiceState.TheVariants.{Tracked, Fading, Loose}
@@ -110,29 +109,29 @@ module _ (s : Profile) (l : Ledger) (sound : InvariantOf l) (live : LiveOf l) (r
 
 -- ---- no answer of a spawn is 7
 abbrev Not7 : Option Refusal → Type 0
-Not7 o = o ≡ some TableFull → ⊥
+Not7 o = o ≡ Some TableFull → ⊥
 
-not7 : (b : Bool) (x : Refusal) (o : Option Refusal) → Not7 (some x) → Not7 o → Not7 (when b x o)
+not7 : (b : Bool) (x : Refusal) (o : Option Refusal) → Not7 (Some x) → Not7 o → Not7 (when b x o)
 not7 true x o f g = f
 not7 false x o f g = g
 
 or7 : (o u : Option Refusal) → Not7 o → Not7 u → Not7 (or_else o u)
-or7 none u f g = g
-or7 (some x) u f g = f
+or7 None u f g = g
+or7 (Some x) u f g = f
 
-none7 : Not7 none
+none7 : Not7 None
 none7 e = none_some e
 
 refusal7 : (d : SharedState) (vs : List Voice) (def : SynthDef) (bus : NodeId) (rank : ℕ) → no_headroom d vs def ≡ false → Not7 (spawn_refusal d vs def bus rank)
 refusal7 d vs def bus rank h =
     not7 (ltb rank_limit rank) RankTooHigh _ (λ e. let z : ◌≡◌ {A = ℕ} 0 1 = cc in omega arith)
     (not7 (not (allowed def)) DefinitionLimits _ (λ e. let z : ◌≡◌ {A = ℕ} 0 1 = cc in omega arith)
-    (or7 (host_refusal d.graph bus) _ (not7 (dead (node_at d.graph.nodes bus)) UnknownNode _ (λ e. let z : ◌≡◌ {A = ℕ} 0 1 = cc in omega arith) (not7 (of_voice (node_at d.graph.nodes bus)) VoiceNode none (λ e. let z : ◌≡◌ {A = ℕ} 0 1 = cc in omega arith) none7))
+    (or7 (host_refusal d.graph bus) _ (not7 (dead (node_at d.graph.nodes bus)) UnknownNode _ (λ e. let z : ◌≡◌ {A = ℕ} 0 1 = cc in omega arith) (not7 (of_voice (node_at d.graph.nodes bus)) VoiceNode None (λ e. let z : ◌≡◌ {A = ℕ} 0 1 = cc in omega arith) none7))
     (not7 (eqb (ports_of (node_at d.graph.nodes bus)) 0) BusWithoutPorts _ (λ e. let z : ◌≡◌ {A = ℕ} 0 1 = cc in omega arith)
-    (subst (λ b. Not7 (when b TableFull (when (no_ids d def) IdsUsedUp none))) (sym h) (not7 (no_ids d def) IdsUsedUp none (λ e. let z : ◌≡◌ {A = ℕ} 0 1 = cc in omega arith) none7)))))
+    (subst (λ b. Not7 (when b TableFull (when (no_ids d def) IdsUsedUp None))) (sym h) (not7 (no_ids d def) IdsUsedUp None (λ e. let z : ◌≡◌ {A = ℕ} 0 1 = cc in omega arith) none7)))))
 
 Fine : SpawnResult → Type 0
-Fine r = r.answer ≡ Spawned.Refused TableFull → ⊥
+Fine r = r.answer ≡ Err TableFull → ⊥
 
 fine_budgeted : (x : Spawn) (l : Ledger) → Fine (place_within_budget x l)
 unfolding Fine
@@ -140,10 +139,10 @@ fine_budgeted x l =
     place_kept x (state_under l.shared.config.budget) (λ n m. Unit {0}) Fine (λ n m p e q z. let y : ◌≡◌ {A = ℕ} 0 1 = cc in omega arith) (λ m e q z. let y : ◌≡◌ {A = ℕ} 0 1 = cc in omega arith)
     (λ n m e f q z. let y : ◌≡◌ {A = ℕ} 0 1 = cc in omega arith) (λ n m v e f q. tt) (tries l.shared.config.budget l.voices) l tt
 
-spawned_inj : (a b : Spawned) → call.spawned a ≡ call.spawned b → a ≡ b
+spawned_inj : (a b : Result VoiceId Refusal) → call.spawned a ≡ call.spawned b → a ≡ b
 spawned_inj a b e = cc
 
-pub spawn_fine : (x : Spawn) (l : Ledger) → InvariantOf l → no_headroom l.shared l.voices x.def ≡ false → (step (call.spawn_managed x) l).answer ≡ call.spawned (Spawned.Refused TableFull) → ⊥
+pub spawn_fine : (x : Spawn) (l : Ledger) → InvariantOf l → no_headroom l.shared l.voices x.def ≡ false → (step (call.spawn_managed x) l).answer ≡ call.spawned (Err TableFull) → ⊥
 unfolding Fine
 spawn_fine x l sound h e = go (spawn_refusal l.shared l.voices x.def x.bus x.rank) (refusal7 l.shared l.voices x.def x.bus x.rank h) (spawned_inj _ _ e)
   where
@@ -152,12 +151,12 @@ spawn_fine x l sound h e = go (spawn_refusal l.shared l.voices x.def x.bus x.ran
         managed_kept x Fine l (ids_of_lem l sound) (λ h z. let y : ◌≡◌ {A = ℕ} 0 1 = cc in omega arith) (λ h. fine_budgeted x l)
         (λ p w h v i t. fine_budgeted x (steal_voice v l))
 
-    refused_inj : (a b : Refusal) → Spawned.Refused a ≡ Spawned.Refused b → a ≡ b
+    refused_inj : (a b : Refusal) → ◌≡◌ {A = Result VoiceId Refusal} (Err a) (Err b) → a ≡ b
     refused_inj a b e = cc
 
-    go : (o : Option Refusal) → Not7 o → (ledger.unless o l (admitted (admission_on x.bus x.rank l) x l)).answer ≡ Spawned.Refused TableFull → ⊥
-    go none f z = all z
-    go (some r) f z = f (ap some (refused_inj r TableFull z))
+    go : (o : Option Refusal) → Not7 o → (ledger.unless o l (admitted (admission_on x.bus x.rank l) x l)).answer ≡ Err TableFull → ⊥
+    go None f z = all z
+    go (Some r) f z = f (ap Some (refused_inj r TableFull z))
 
 -- ---- a ledger sealed by s: after an accepted sealing, and after every list of open calls since
 pub record Sealed (s : Profile) (l : Ledger) : Type 0 where
@@ -173,7 +172,7 @@ fits_within s l sound live f =
     record {
       listed = sound.listed;
       positive = λ v i. absurd (nobody v i);
-      bus = ap (λ o. owner_of' o) f.host.1 ∙ ap some f.host.2;
+      bus = ap (λ o. owner_of' o) f.host.1 ∙ ap Some f.host.2;
       ports = ap ports_of f.host.1 ∙ f.host.3;
       on = λ v i. absurd (nobody v i);
       holds = λ v i. absurd (nobody v i);
@@ -233,21 +232,21 @@ sealed_run s (x ∷ xs) l h q = sealed_run s xs (step x l).ledger (and_right (no
 
 -- ---- what holds of it
 -- "a spawn then never meets refusal 7"
-pub spawn_never_full : (s : Profile) (x : Spawn) (l : Ledger) → Sealed s l → within s x ≡ true → (step (call.spawn_managed x) l).answer ≡ call.spawned (Spawned.Refused TableFull) → ⊥
+pub spawn_never_full : (s : Profile) (x : Spawn) (l : Ledger) → Sealed s l → within s x ≡ true → (step (call.spawn_managed x) l).answer ≡ call.spawned (Err TableFull) → ⊥
 spawn_never_full s x l q w =
     let o = opens s x w in
     spawn_fine x l q.kept.sound (headroom s l q.kept.sound q.live.1 q.inside q.room x.def o.small o.few)
 
 -- the table refuses no open spawn with an allowed definition while ids are left
 pub not_refused : (s : Profile) (x : Spawn) (l : Ledger) → Sealed s l → within s x ≡ true → x.rank ≤ 7 → allowed x.def ≡ true → no_ids l.shared x.def ≡ false
-    → spawn_refusal l.shared l.voices x.def x.bus x.rank ≡ none
+    → spawn_refusal l.shared l.voices x.def x.bus x.rank ≡ None
 not_refused s x l q w low ok ids =
     let r = q.inside in
     let u = opens s x w in
     let o = owner_some (node_at l.shared.graph.nodes s.bus) 0 r.bus in
-    let a : host_refusal l.shared.graph s.bus ≡ none = ap host_test o.1 ∙ rw o.2 in
+    let a : host_refusal l.shared.graph s.bus ≡ None = ap host_test o.1 ∙ rw o.2 in
     let b : eqb (ports_of (node_at l.shared.graph.nodes s.bus)) 0 ≡ false = ne_eqb (ports_of (node_at l.shared.graph.nodes s.bus)) 0 (λ e. omega (arith, r.ports, e, q.least)) in
-    subst (λ y. spawn_refusal l.shared l.voices y.def y.bus y.rank ≡ none) (sym u.at)
+    subst (λ y. spawn_refusal l.shared l.voices y.def y.bus y.rank ≡ None) (sym u.at)
     (rw (le-ltb 7 x.rank low, ok, a, b, headroom s l q.kept.sound q.live.1 r q.room x.def u.small u.few, ids))
 
 -- ---- a voice of a sealed ledger holds exactly one port of the bus
@@ -263,12 +262,12 @@ held_edge s l sound r v p h =
 
     src : (o : Option Edge) → find (ends_at (id s.bus.0) p) l.shared.graph.edges ≡ o → by_voice v.id (held_by (owner_at l.shared.graph.nodes) o) ≡ true
         → (d : Edge) × In d l.shared.graph.edges × Out (owner_at l.shared.graph.nodes) v.id.0 d × (d.port ≡ p)
-    src none e b = absurd (false≢true b)
-    src (some d) e b =
+    src None e b = absurd (false≢true b)
+    src (Some d) e b =
         let a = edge_at_lem l.shared.graph.edges (id s.bus.0) p d e in
         let g = sound.wired.ends d a.0 in
         let o : g.a ≡ v.id.0 = own g.a d.from (sym (ap (λ u. by_voice v.id (source_holds u d.from)) g.from) ∙ b) in
-        (d, a.0, (ap (owner_at l.shared.graph.nodes) a.1 ∙ r.bus, g.from ∙ ap some o), a.2)
+        (d, a.0, (ap (owner_at l.shared.graph.nodes) a.1 ∙ r.bus, g.from ∙ ap Some o), a.2)
 
 pub one_port : (s : Profile) (l : Ledger) → InvariantOf l → WithinL s l → (v : Voice) → In v l.voices → (p q : ℕ) → by_voice v.id (l.holders s.bus.0 p) ≡ true → by_voice v.id (l.holders s.bus.0 q) ≡ true → p ≡ q
 one_port s l sound r v i p q a b =

@@ -6,7 +6,7 @@ use native.Mathlib.Nat.{zero-add}
 use mathlib.Core.Path.{◌≡◌, refl, sym, ap, ◌∙◌, subst}
 use mathlib.Core.Logic.{inl, inr, ⊎_elim}
 use mathlib.Core.List.{List, [], ◌∷◌, ◌++◌, map}
-use mathlib.Core.Option.{Option, none, some}
+use Rattle.std.specs.Prelude.{Option, None, Some, find, option_map}
 use mathlib.Core.Bool.{Bool, true, false, not, cond, ◌&&◌, false≢true}
 use lib.Dec.{eqb}
 use lib.ListN.{length}
@@ -14,7 +14,6 @@ use borrow.Author.Tests.{eqb-true, eq-eqb, ne_eqb, not-true}
 use Rattle.lists.specs.Member.{In}
 use Rattle.lists.proofs.Member.{and_left, and_right, in_snoc, in_map, in_left}
 use Rattle.lists.proofs.Filter.{filter_in}
-use Rattle.lists.specs.Find.{find, map_o}
 use Rattle.lists.proofs.Find.{find_in}
 use Rattle.lists.specs.Count.{more, count}
 use Rattle.lists.proofs.Count.{count_filter, count_filter_lt, count_snoc, count_none}
@@ -148,7 +147,7 @@ abbrev pub on_bus : NodeId → Spawn → Spawn
 on_bus b x = record { def = x.def; bus = b; pan = x.pan; rank = x.rank }
 
 module _ (s : Profile) (y : Spawn) (ok : allowed y.def ≡ true) (small : y.def.nodes.count ≤ s.def_nodes) (few : y.def.edges.count ≤ s.def_edges) (t : VoiceState) (l : Ledger) (sound₀ : InvariantOf l) (r₀ : WithinL s l)
-    (p : ℕ) (free : port_free s.bus l ≡ some p) where
+    (p : ℕ) (free : port_free s.bus l ≡ Some p) where
   abbrev x : Spawn
   x = on_bus s.bus y
 
@@ -246,8 +245,8 @@ module _ (s : Profile) (y : Spawn) (ok : allowed y.def ≡ true) (small : y.def.
       omega (arith, a, b, ap (count (from_owner ns' j)) (grown_edges xs g), still j, z, wires_few def pan)
     where
       none_yet : (n : ℕ) (o : Option ℕ) → owner_at g.nodes n ≡ o → is_owner o (nv + 1) ≡ false
-      none_yet n none e = refl
-      none_yet n (some m) e = let b = (live_below sound.listed n m e).1 in ne_eqb m (nv + 1) (λ q. omega arith)
+      none_yet n None e = refl
+      none_yet n (Some m) e = let b = (live_below sound.listed n m e).1 in ne_eqb m (nv + 1) (λ q. omega arith)
 
   pub within_instantiate : WithinL s (instantiate x t p l).ledger
   within_instantiate =
@@ -317,10 +316,10 @@ module _ (s : Profile) (l : Ledger) (sound : InvariantOf l) (r : WithinL s l) (v
   bus_below : s.bus.0 < ga.next
   bus_below = (live_below sound.listed s.bus.0 0 r.bus).0
 
-  by_feeder : owner_at n₁ (feeder v).0 ≡ some v.id.0
+  by_feeder : owner_at n₁ (feeder v).0 ≡ Some v.id.0
   by_feeder = let f = (sound.voiced.sung v i).feeds in old_owner (feeder v).0 (live_below sound.listed (feeder v).0 v.id.0 f).0 ∙ f
 
-  by_fade : owner_at n₁ ga.next ≡ some v.id.0
+  by_fade : owner_at n₁ ga.next ≡ Some v.id.0
   by_fade = owner_new sound.listed x₁
 
   before : (k : ℕ) → count (from_owner n₁ k) ga.edges ≤ count (from_owner ga.nodes k) ga.edges
@@ -375,7 +374,7 @@ module _ (s : Profile) (l : Ledger) (sound : InvariantOf l) (r : WithinL s l) (v
       subst (λ n. count (from_owner n₁ n) (wired es₁ e₂) ≤ s.def_edges + 3 + 1) (sym q) (omega (arith, edges_own, r.edges v i, tracked_fades v.state tr))
   edges_of u m false e = omega (arith, edges_other u.id.0 (λ q. false≢true (sym e ∙ eq-eqb _ _ (sym q))), r.edges u m)
 
-  within_fade : WithinL s (stolen v (some p) l)
+  within_fade : WithinL s (stolen v (Some p) l)
   within_fade =
       record {
         listed = listed_append sound.listed x₁ (sound.voiced.sung v i).named;
@@ -399,9 +398,9 @@ within_cut s l v t pos r = within_removed r v.id pos
 within_steal : (s : Profile) (l : Ledger) → InvariantOf l → WithinL s l → (v : Voice) → In v l.voices → is_tracked v.state ≡ true → WithinL s (steal_voice v l)
 within_steal s l sound r v i tr = subst (λ o. WithinL s (stolen v o l)) (feeds_held sound v i tr) (go (find (feeds (feeder v) v.bus) l.shared.graph.edges) refl)
   where
-    go : (o : Option Edge) → find (feeds (feeder v) v.bus) l.shared.graph.edges ≡ o → WithinL s (stolen v (map_o (λ e. e.port) o) l)
-    go none e = within_cut s l v Tracked (r.positive v i) r
-    go (some d) e =
+    go : (o : Option Edge) → find (feeds (feeder v) v.bus) l.shared.graph.edges ≡ o → WithinL s (stolen v (option_map (λ e. e.port) o) l)
+    go None e = within_cut s l v Tracked (r.positive v i) r
+    go (Some d) e =
         let z = find_in (feeds (feeder v) v.bus) l.shared.graph.edges d e in
         within_fade s l sound r v i tr d.port d z.0 (eqb-true _ _ (and_left _ _ z.1)) (eqb-true _ _ (and_right (eqb d.from.0 (feeder v).0) _ z.1)) refl
 

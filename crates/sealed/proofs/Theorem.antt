@@ -2,7 +2,7 @@
 use Prim.Native.Nat.{ℕ, ◌≤◌}
 use mathlib.Core.Path.{◌≡◌, refl, sym, ap, ◌∙◌, subst}
 use mathlib.Core.List.{List, [], ◌∷◌, ◌++◌, map}
-use mathlib.Core.Option.{Option, some}
+use Rattle.std.specs.Prelude.{Option, Some}
 use mathlib.Core.Bool.{true, false≢true}
 use lib.ListN.{length, length-map}
 use borrow.Author.Tests.{eqb-true, eq-eqb}
@@ -50,7 +50,7 @@ by_is w nobody h = absurd (false≢true h)
 by_is w (host k) h = absurd (false≢true h)
 by_is w (voice u) h = ap (λ n. voice (record { 0 = n })) (eqb-true u.0 w.0 h)
 
-module _ (k : Making) (m : Model) (accepted : make k ≡ some m) (s : Profile) (before later : List Call) where
+module _ (k : Making) (m : Model) (accepted : make k ≡ Some m) (s : Profile) (before later : List Call) where
   abbrev c : Config
   c = config_of k
 
@@ -103,5 +103,5 @@ module _ (k : Making) (m : Model) (accepted : make k ≡ some m) (s : Profile) (
       mine : {v : Voice} (u : (u : Voice) × In u l.voices × (v ≡ shown c u)) (p : ℕ) → holder_at (after m xs).shared.graph.nodes (after m xs).shared.graph.edges s.bus.0 p ≡ voice v.id → by_voice u.0.id (l.holders s.bus.0 p) ≡ true
       mine u p e = is_by _ _ (held p ∙ e ∙ ap (λ (z : Voice). voice z.id) u.2)
 
-pub sealed : (k : Making) (m : Model) → make k ≡ some m → SealedRun (config_of k) m
+pub sealed : (k : Making) (m : Model) → make k ≡ Some m → SealedRun (config_of k) m
 sealed k m accepted s before later a o = promise k m accepted s before later (sealed_here k m accepted s before later a o)

@@ -6,13 +6,12 @@ use native.Mathlib.Omega.{arith}
 use mathlib.Core.Path.{◌≡◌, refl, sym, ap, ◌∙◌}
 use mathlib.Core.Logic.{inl, inr}
 use mathlib.Core.List.{List, [], ◌∷◌, map}
-use mathlib.Core.Option.{Option, none, some}
+use Rattle.std.specs.Prelude.{Option, None, Some, filter}
 use mathlib.Core.Bool.{Bool, true, false, not, cond, false≢true}
 use lib.Dec.{eqb}
 use borrow.Author.Tests.{eqb-true, eq-eqb, ne_eqb, not-true}
 use Rattle.lists.specs.Member.{In}
 use Rattle.lists.proofs.Member.{some_inj, in_map}
-use Rattle.lists.specs.Filter.{filter, put?}
 use Rattle.lists.proofs.Filter.{in_filter}
 use Rattle.lists.proofs.Find.{find_in}
 use Rattle.lists.specs.Count.{more, count}
@@ -43,8 +42,8 @@ abbrev pub owned_n : ℕ → Node → Bool
 owned_n k x = eqb x.owner.0 k
 
 abbrev pub is_owner : Option ℕ → ℕ → Bool
-is_owner none k = false
-is_owner (some j) k = eqb j k
+is_owner None k = false
+is_owner (Some j) k = eqb j k
 
 -- the edge leaves a node of that owner
 abbrev pub from_owner : List Node → ℕ → Edge → Bool
@@ -58,7 +57,7 @@ fades Loose = 0
 pub record Within (s : Profile) (ns : List Node) (es : List Edge) (nx nv : ℕ) (vs : List Voice) (h : Holders) : Type 0 where
   pub listed : Listed ns nx nv
   pub positive : (v : Voice) → In v vs → 0 < v.id.0
-  pub bus : owner_at ns s.bus.0 ≡ some 0
+  pub bus : owner_at ns s.bus.0 ≡ Some 0
   pub ports : ports_at ns s.bus.0 ≡ s.ports
   -- I1, I2
   pub on : (v : Voice) → In v vs → v.bus.0 ≡ s.bus.0
@@ -78,7 +77,7 @@ count_kept : {A : Type 0} (q t : A → Bool) (l : List A) → ((x : A) → q x �
 count_kept q t [] h = refl
 count_kept {A} q t (x ∷ l) h = go (q x) refl (t x) refl (count_kept q t l h)
   where
-    go : (a : Bool) → q x ≡ a → (b : Bool) → t x ≡ b → count q (filter t l) ≡ count q l → count q (put? b x (filter t l)) ≡ more a (count q l)
+    go : (a : Bool) → q x ≡ a → (b : Bool) → t x ≡ b → count q (filter t l) ≡ count q l → count q (cond b (x ∷ (filter t l)) (filter t l)) ≡ more a (count q l)
     go true e true f ih = rw e (ap suc ih)
     go true e false f ih = absurd (false≢true (sym f ∙ h x e))
     go false e true f ih = rw e ih
@@ -97,7 +96,7 @@ drop_holds (voice u) v w a b =
     let f : eqb u.0 w.0 ≡ false = ap (λ n. eqb n w.0) e ∙ b in
     rw f a
 
-thin_owner : (b : Bool) (o : Option ℕ) (k : ℕ) → is_owner (cond b none o) k ≡ true → is_owner o k ≡ true
+thin_owner : (b : Bool) (o : Option ℕ) (k : ℕ) → is_owner (cond b None o) k ≡ true → is_owner o k ≡ true
 thin_owner true o k h = absurd (false≢true h)
 thin_owner false o k h = h
 
@@ -135,7 +134,7 @@ module _ {s : Profile} {ns : List Node} {es : List Edge} {nx nv : ℕ} {vs : Lis
           omega (arith, a, b)
 
   -- a node's record changes
-  within_replaced : (y x : Node) (k : NodeId) → node_at ns k ≡ some x → y.id.0 ≡ x.id.0 → y.owner.0 ≡ x.owner.0 → y.ports ≡ x.ports → Within s (replaced ns y) es nx nv vs h
+  within_replaced : (y x : Node) (k : NodeId) → node_at ns k ≡ Some x → y.id.0 ≡ x.id.0 → y.owner.0 ≡ x.owner.0 → y.ports ≡ x.ports → Within s (replaced ns y) es nx nv vs h
   within_replaced y x k e i o p =
       record {
         listed = listed_replaced r.listed y x k e i o p;

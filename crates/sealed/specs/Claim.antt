@@ -1,7 +1,6 @@
 -- 02, Paper 14, of every list of a board's calls: the list xs from a newly made console.
-use Rattle.std.specs.Prelude.{ℕ, ◌≡◌, List, true}
+use Rattle.std.specs.Prelude.{ℕ, ◌≡◌, List, true, Err}
 use Rattle.node.specs.declared.refusal.Refusal.TheVariants.{TableFull}
-use Rattle.store.specs.declared.answer.Spawned.TheVariants as Spawned
 use Rattle.model.specs.Call as call
 use Rattle.model.specs.Make.{Making, config_of}
 use Rattle.console.specs.Console.{Console, ConsoleCall, console_run}
@@ -23,7 +22,7 @@ pub record SealedBoard (k : Making) (s : Profile) (b : Board) : Type 0 where
   -- a spawn that the seal leaves open never meets 7, and the promise on when a spawn fails; every voice holds exactly one port of the bus
   pub promise : Promise (config_of k) s b.console.model
   -- nor does a turn: "direct or by a turn"
-  pub turn : (q : ℕ) → (board_step (on console.turn) b).answer ≡ given (console.served q (call.spawned (Spawned.Refused TableFull))) → ⊥
+  pub turn : (q : ℕ) → (board_step (on console.turn) b).answer ≡ given (console.served q (call.spawned (Err TableFull))) → ⊥
   -- whatever is called next, it stays sealed by s; sealing again is closed
   pub stays : (x : BoardCall) → (board_step x b).board.seal ≡ Sealed s
   pub again : (t : Profile) → board_step (seal t) b ≡ record { answer = refused Closed; board = b }

@@ -1,6 +1,5 @@
 -- 02, Paper 14, "The sealed profile": when sealing is accepted, and which calls it closes. Numbers are of any size.
-use Rattle.std.specs.Prelude.{ℕ, ◌+◌, ◌*◌, ◌≤◌, ◌≡◌, List, [], ◌∷◌, Bool, true, false, not, ◌&&◌, eqb, leb, length}
-use Rattle.std.proofs.Math.Option.{Option, none, some}
+use Rattle.std.specs.Prelude.{ℕ, ◌+◌, ◌*◌, ◌≤◌, ◌≡◌, List, [], ◌∷◌, Bool, true, false, not, ◌&&◌, eqb, leb, length, Option, None, Some}
 use Rattle.node.specs.declared.record.Node.{Node}
 use Rattle.graph.specs.Node.{node_at, ports_of}
 use Rattle.store.specs.declared.voices.Voice.{Voice}
@@ -28,8 +27,8 @@ edges_for s = s.host_edges + (s.ports + 1) * (s.def_edges + 4)
 
 -- "The builder names its one bus": a live host node
 abbrev pub host_owned : Option Node → Bool
-host_owned none = false
-host_owned (some n) = eqb n.owner.0 0
+host_owned None = false
+host_owned (Some n) = eqb n.owner.0 0
 
 abbrev pub nobody_in : List Voice → Bool
 nobody_in [] = true
@@ -48,7 +47,7 @@ pub record Fits (s : Profile) (d : SharedState) (vs : List Voice) : Type 0 where
   pub most : s.ports ≤ 31
   pub nodes : s.host_nodes + (s.ports + 1) * (s.def_nodes + 3) ≤ 512
   pub edges : s.host_edges + (s.ports + 1) * (s.def_edges + 4) ≤ 1024
-  pub host : (n : Node) × (node_at d.graph.nodes s.bus ≡ some n) × (n.owner.0 ≡ 0) × (n.ports ≡ s.ports)
+  pub host : (n : Node) × (node_at d.graph.nodes s.bus ≡ Some n) × (n.owner.0 ≡ 0) × (n.ports ≡ s.ports)
   pub held : length d.graph.nodes ≡ s.host_nodes
   pub wires : length d.graph.edges ≡ s.host_edges
   pub empty : vs ≡ []

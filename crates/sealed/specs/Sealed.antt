@@ -1,10 +1,8 @@
 -- 02, Paper 14: what the seal promises, "in any sequence".
-use Rattle.std.specs.Prelude.{ℕ, suc, ◌≤◌, ◌<◌, ◌≡◌, List, ◌++◌, true, false, length}
+use Rattle.std.specs.Prelude.{ℕ, suc, ◌≤◌, ◌<◌, ◌≡◌, List, ◌++◌, true, false, length, Some, Err}
 use Rattle.lists.specs.Member.{In}
 use Rattle.node.specs.declared.refusal.Refusal.TheVariants.{TableFull}
-use Rattle.voice.specs.declared.policy.Budget.TheVariants.{AtMost}
 use Rattle.synthdef.specs.Limits.{allowed}
-use Rattle.store.specs.declared.answer.Spawned.TheVariants as Spawned
 use Rattle.store.specs.declared.config.Config.{Config}
 use Rattle.store.specs.declared.voices.Voice.{Voice}
 use Rattle.model.specs.Model.{Model}
@@ -24,10 +22,10 @@ HoldsPort s m v p = holder_at m.shared.graph.nodes m.shared.graph.edges s.bus.0 
 -- of the store m, which is sealed by s
 pub record Promise (c : Config) (s : Profile) (m : Model) : Type 0 where
   -- "Show that a spawn then never meets refusal 7": one that the seal leaves open
-  pub never : (x : Spawn) → within s x ≡ true → (call.step (call.spawn_managed x) m).answer ≡ call.spawned (Spawned.Refused TableFull) → ⊥
+  pub never : (x : Spawn) → within s x ≡ true → (call.step (call.spawn_managed x) m).answer ≡ call.spawned (Err TableFull) → ⊥
   -- "The promise on when a spawn fails is then for spawns the seal leaves open": of a rank up to 7, an allowed definition
   -- and ids that are left nothing more is asked, neither headroom nor a bus
-  pub spawns : (n : ℕ) → c.budget ≡ AtMost (suc n) → Stealing c.policy → (x : Spawn) → within s x ≡ true → x.rank ≤ 7 → allowed x.def ≡ true → no_ids m.shared x.def ≡ false
+  pub spawns : (n : ℕ) → c.budget ≡ Some (suc n) → Stealing c.policy → (x : Spawn) → within s x ≡ true → x.rank ≤ 7 → allowed x.def ≡ true → no_ids m.shared x.def ≡ false
       → (call.step (call.spawn_managed x) m).answer ≡ call.spawned (spawn_answer x.bus x.rank m)
   -- every voice holds a port of the bus, and only one; so there are at most P voices
   pub holds : (v : Voice) → In v m.voices → (p : ℕ) × (p < s.ports) × HoldsPort s m v p

@@ -4,16 +4,13 @@ ghost use Rattle.sealed.specs.Refusal.{number_of};
 // Why a board is not sealed, or a call not made on a sealed board.
 #[derive(Clone, Copy)]
 pub enum SealRefusal {
-    NotAccepted,
-    Closed,
+    NotAccepted = 27,
+    Closed = 28,
 }
 
 // The number of such a refusal.
 pub fn seal_refusal_number(r: SealRefusal) -> u8
     ensures { result ≡ number_of r }
 {
-    match r {
-        SealRefusal::NotAccepted => 27,
-        SealRefusal::Closed => 28,
-    }
+    r as u8
 }

@@ -2,12 +2,11 @@
 use Prim.Native.Nat.{ℕ, zero, suc, ◌+◌, ◌*◌}
 use mathlib.Core.Path.{◌≡◌, refl}
 use mathlib.Core.List.{List, [], ◌∷◌, ◌++◌, map}
-use mathlib.Core.Option.{Option, none, some}
+use Rattle.std.specs.Prelude.{Option, None, Some, find}
 use mathlib.Core.Bool.{Bool, true, false}
 use lib.Dec.{leb}
 use lib.ListN.{length, replicate}
 use lib.Ieee.{nan, eq}
-use Rattle.lists.specs.Find.{find}
 use Rattle.rank.specs.Order as rank
 use Rattle.rank.specs.Order.{among, released, walk, order, whole, count_up, upto}
 use Rattle.node.specs.Silence.{name}
@@ -75,8 +74,8 @@ abbrev full : Model
 full = store (host 2 ∷ sings 1 ∷ sings 1 ∷ [])
 
 abbrev stealing : Option Voice → Model → Model
-stealing none m = m
-stealing (some v) m = steal_voice v m
+stealing None m = m
+stealing (Some v) m = steal_voice v m
 
 abbrev fullest : Model
 fullest = stealing (find (is_voice (record { 0 = 2 })) full.voices) full

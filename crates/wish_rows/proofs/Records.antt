@@ -1,4 +1,4 @@
--- Two records with the same fields are the same; a record read from the same words is the same; and the bytes of a word.
+-- Two records with the same fields are the same; a record read from the same words is the same.
 use Prim.Native.Nat.{ℕ, ◌+◌, ◌/◌, ◌%◌}
 use native.Mathlib.Omega.{arith}
 use mathlib.Core.Path.{◌≡◌, ap, ◌∙◌}
@@ -15,36 +15,10 @@ use Rattle.synthdef.specs.declared.def.DefEdges.{DefEdges}
 use Rattle.synthdef.specs.declared.def.Params.{Params}
 use Rattle.synthdef.specs.declared.def.SynthDef.{SynthDef}
 use Rattle.words.specs.Fields.{is_set, four, name_from, name_at}
-use Rattle.voice_rows.proofs.Filling.{Local}
+use Rattle.voice_rows.specs.Filled.{Local}
 use Rattle.voice_rows.proofs.Records.{param_same, first, name_local}
 use Rattle.store.specs.declared.wish.Wish.{Wish}
 use Rattle.wish_rows.specs.Rows.{def_node_at, def_edge_at, param_at}
-
--- ---- the bytes of a word
-pub record Bytes (x a b c d : ℕ) : Type 0 where
-  pub first : x % 256 ≡ a
-  pub second : x / 256 % 256 ≡ b
-  pub third : x / 65536 % 256 ≡ c
-  pub fourth : x / 16777216 % 256 ≡ d
-
-pub bytes_of : (x a b c d : ℕ) → four x ≡ a ∷ b ∷ c ∷ d ∷ [] → Bytes x a b c d
-bytes_of x a b c d e =
-    record {
-      first = ap (λ l. get_or l 0 0) e;
-      second = ap (λ l. get_or l 1 0) e;
-      third = ap (λ l. get_or l 2 0) e;
-      fourth = ap (λ l. get_or l 3 0) e;
-    }
-
-named : List ℕ → ℕ → Name
-named l k = record { bytes = l; len = k }
-
--- a name whose length shares its word with other bytes
-pub name_shared : (n : Name) (a b c d e x : ℕ) → name_from a b c d e ≡ n → x % 256 ≡ n.len → name_from a b c d x ≡ n
-unfolding named
-name_shared n a b c d e x is len =
-    let same : named (name_from a b c d x).bytes (x % 256) ≡ named n.bytes n.len = ap (λ l. named l (x % 256)) (ap (λ (m : Name). m.bytes) is) ∙ ap (named n.bytes) len in
-    same
 
 -- ---- records by their fields
 node : Name → ℕ → ℕ → Bool → Bool → ℕ → ℕ → ℕ → DefNode

@@ -29,7 +29,7 @@ edges_kept c e h =
     (λ k b. edge_local c e (155 + k) (155 + k) (λ j l. h (155 + k + j) (omega arith) (omega arith)))
 
 -- an edge has one word
-one_each : (c : List ℕ) → edges_in c ≡ each (λ k. def_edge_at c (155 + k * 1)) 0 48
+pub one_each : (c : List ℕ) → edges_in c ≡ each (λ k. def_edge_at c (155 + k * 1)) 0 48
 one_each c =
     each_same (λ k. def_edge_at c (155 + k)) (λ k. def_edge_at c (155 + k * 1)) 48 (λ k b. ap (λ n. def_edge_at c (155 + n)) (sym (mul-one k)))
 

@@ -7,7 +7,7 @@ use Rattle.wish_rows.proofs.row.put_wish.Goals as goal
 pub returns : goal.returns
 returns c =
     let s = c.args in
-    let ws = c.wish_words-ws in
+    let ws = c.wish_words in
     ap wishes_in c.put_row.ensures
     ∙ put_is 243 wish_of s.t.now ws.result s.i ws.ensures.long
     ∙ ap (set (wishes_in s.t.now) s.i) ws.ensures.back

@@ -11,4 +11,4 @@ pub returns : goal.returns
 returns c =
     let s = c.args in
     let v = wish_row s.t.now s.i in
-    wish_same _ (get_or (wishes_in s.t.now) s.i (wish_of [])) (c.flag_at.ensures ∙ v.managed) c.def_at-def.ensures (ap node c.word_at.ensures ∙ v.bus) (c.float_at.ensures ∙ v.pan) (c.word_at-2.ensures ∙ v.rank)
+    wish_same _ (get_or (wishes_in s.t.now) s.i (wish_of [])) (c.flag_at.ensures ∙ v.managed) c.def_at.ensures (ap node c.word_at.ensures ∙ v.bus) (c.float_at.ensures ∙ v.pan) (c.word_at-2.ensures ∙ v.rank)
