@@ -1,11 +1,9 @@
 -- "If none: reclaim the earliest-started fade of that bus (ties by voice order) and mark its record, if still held, cut, else free
 -- the policy's victim among tracked voices of that bus with a cut record; try again." Here without the new voice, of which the rank alone
 -- counts, and which takes its port in what is left.
-use Rattle.std.specs.Prelude.{ℕ, zero, suc, List, Bool, true, false}
-use Rattle.std.proofs.Math.Option.{Option, none, some}
+use Rattle.std.specs.Prelude.{ℕ, zero, suc, List, Option, None, Some}
 use Rattle.node.specs.declared.record.NodeId.{NodeId}
 use Rattle.node.specs.declared.record.Node.{Node}
-use Rattle.edges.specs.declared.ports.Port.{Port}
 use Rattle.voice.specs.Policy.{victim}
 use Rattle.voice.specs.Steals.{StealLog}
 use Rattle.voice.specs.declared.policy.StealPolicy.{StealPolicy}
@@ -18,8 +16,8 @@ use Rattle.model.specs.Model.{Model, port_free, cut_off}
 
 -- who is removed, where no port is free
 abbrev pub if_none : Option ℕ → Option Voice → Option Voice
-if_none none o = o
-if_none (some p) o = none
+if_none None o = o
+if_none (Some p) o = None
 
 abbrev pub leaving : NodeId → ℕ → Model → Option Voice
 leaving bus rank m = if_none (port_free bus m) (next_out m.shared bus rank m.voices)
@@ -32,8 +30,8 @@ abbrev pub cut_now : Voice → Model → Model
 cut_now v m = cut_off v v.state m
 
 abbrev pub go_on : Option Voice → Model → (Model → Model) → Model
-go_on none m again = m
-go_on (some v) m again = again (cut_now v m)
+go_on None m again = m
+go_on (Some v) m again = again (cut_now v m)
 
 -- what is left after at most so many removals
 abbrev pub reclaimed : ℕ → NodeId → ℕ → Model → Model
@@ -43,11 +41,6 @@ reclaimed (suc k) bus rank m = go_on (leaving bus rank m) m (λ j. reclaimed k b
 -- other steal records
 abbrev pub restolen : StealLog → Model → Model
 restolen b m = record { shared = with_steals b m.shared; voices = m.voices }
-
--- a port was found
-abbrev pub is_port : Port → Bool
-is_port (Port.At p) = true
-is_port Port.Nothing = false
 
 -- `next_out` over what it reads
 abbrev pub next_at : List Node → ℕ → StealPolicy → NodeId → ℕ → List Voice → Option Voice

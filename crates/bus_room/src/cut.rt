@@ -43,8 +43,7 @@ fn record_removal(
 ) -> State
     ensures { (m : Memory) → model_of (lent_spawn result nodes.now m.edges voices.now steals.new m) ≡ restolen (removal_log (get_or (voices_in voices.now) row (voice_of [])) (shared_of (lent_spawn s nodes.now m.edges voices.now steals.old m))) (model_of (lent_spawn s nodes.now m.edges voices.now steals.old m)) }
 {
-    let state = state_at(voices, row);
-    match state {
+    match state_at(voices, row) {
         VoiceState::Tracked => record_steal(s, nodes, voices, steals, row, true),
         VoiceState::Fading(f) => {
             let ring = log_cut(steals, s.stolen, s.place, f.number);

@@ -1,5 +1,5 @@
 ghost use Rattle.std.specs.Prelude.{◌≡◌, take};
-ghost use Rattle.edges.specs.Ports.{port_of, free_port};
+ghost use Rattle.edges.specs.Ports.{free_port};
 ghost use Rattle.graph.specs.Node.{node_at, ports_of};
 ghost use Rattle.graph_rows.specs.Node.{nodes_in};
 ghost use Rattle.graph_rows.specs.Edge.{edges_in};
@@ -10,7 +10,6 @@ ghost use Rattle.voice_rows.specs.Found.{FoundAt};
 ghost use Rattle.model.specs.Voice.{tracked_on};
 ghost use Rattle.bus_room.specs.Reclaimed.{next_at};
 
-use edges::ports::Port;
 use graph_rows::edge_row::EdgeTable;
 use graph_rows::node_row::NodeTable;
 use graph_tables::lookup::brief_of;
@@ -22,29 +21,27 @@ use voice_policy::policy::pick_victim;
 use voice_rows::fade::earliest_fade;
 use voice_rows::levels::{Counting, candidates};
 use voice_rows::row::VoiceTable;
-use voice_rows::table::{FoundRow, find_voice};
+use voice_rows::table::find_voice;
 
 // The lowest port of the bus without an edge, by the edges of everybody; a dead bus has no ports.
-pub fn bus_port(s: State, nodes: &NodeTable, edges: &EdgeTable, bus: NodeId) -> Port
-    ensures { result ≡ port_of (free_port (take s.edges (edges_in edges.now)) bus (ports_of (node_at (take s.nodes (nodes_in nodes.now)) bus))) }
+pub fn bus_port(s: State, nodes: &NodeTable, edges: &EdgeTable, bus: NodeId) -> Option<u32>
+    ensures { result ≡ free_port (take s.edges (edges_in edges.now)) bus (ports_of (node_at (take s.nodes (nodes_in nodes.now)) bus)) }
 {
-    let seen = brief_of(nodes, s.nodes, bus);
-    free_port(edges, s.edges, bus, seen.ports)
+    let ports = brief_of(nodes, s.nodes, bus).map_or(0, |node| node.ports);
+    free_port(edges, s.edges, bus, ports)
 }
 
 // The tracked voice of `bus` that gives way to a new voice of rank `rank`, or none.
 fn bus_victim(s: State, nodes: &NodeTable, voices: &VoiceTable, bus: NodeId, rank: u32) -> Victim
     ensures { result ≡ victim s.config.policy rank (candidates_at (take s.nodes (nodes_in nodes.now)) s.clock (tracked_on bus) (take s.voices (voices_in voices.now))) }
 {
-    let config = s.config;
-    let policy = config.policy;
     let by = Counting {
         scope: BudgetScope::PerGroup,
         bus,
         clock: s.clock,
     };
     let tracked = candidates(voices, s.voices, nodes, s.nodes, by);
-    pick_victim(tracked, policy, rank)
+    pick_victim(tracked, s.config.policy, rank)
 }
 
 // The row of the voice that is removed for a port of `bus`: its earliest fade, whatever its rank, else the tracked voice of the bus that gives
@@ -55,16 +52,12 @@ pub fn next_out(
     voices: &VoiceTable,
     bus: NodeId,
     rank: u32,
-) -> FoundRow
+) -> Option<usize>
     ensures { FoundAt result s.voices (voices_in voices.now) (next_at (take s.nodes (nodes_in nodes.now)) s.clock s.config.policy bus rank (take s.voices (voices_in voices.now))) }
 {
-    let fade = earliest_fade(voices, s.voices, bus);
-    if fade.found {
-        return fade;
+    if let Some(row) = earliest_fade(voices, s.voices, bus) {
+        return Some(row);
     }
-    let victim = bus_victim(s, nodes, voices, bus, rank);
-    match victim {
-        Victim::Nobody => fade,
-        Victim::Goes { place: _, voice } => find_voice(voices, s.voices, voice),
-    }
+    let (_, voice) = bus_victim(s, nodes, voices, bus, rank)?;
+    find_voice(voices, s.voices, voice)
 }

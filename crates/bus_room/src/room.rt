@@ -1,13 +1,9 @@
-ghost use Rattle.std.specs.Prelude.{◌≡◌};
-ghost use Rattle.edges.specs.declared.ports.Port.{Port};
 ghost use Rattle.memory.specs.View.{Memory, model_of};
 ghost use Rattle.memory.specs.Lent.{lent_spawn};
-ghost use Rattle.bus_room.specs.Reclaimed.{is_port};
 ghost use Rattle.bus_room.specs.Room.{Makes};
 
 use crate::cut::cut_voice;
 use crate::next::{bus_port, next_out};
-use edges::ports::Port;
 use graph_rows::edge_row::EdgeTable;
 use graph_rows::node_row::NodeTable;
 use memory::state::State;
@@ -19,16 +15,7 @@ use voice_rows::row::VoiceTable;
 #[derive(Clone, Copy)]
 pub struct Room {
     pub state: State,
-    pub port: Port,
-}
-
-fn is_port(p: Port) -> bool
-    ensures { result ≡ is_port p }
-{
-    match p {
-        Port::At(_) => true,
-        Port::Nothing => false,
-    }
+    pub port: Option<u32>,
 }
 
 // The lowest free port of `bus`. Where there is none, voices of the bus are removed one after the other until there is one, at most
@@ -47,20 +34,15 @@ pub fn make_room(
 {
     let mut state = s;
     let mut port = bus_port(s, nodes, edges, bus);
-    let mut left = fuel;
-    while 0 < left {
-        if is_port(port) {
-            left = 0;
-        } else {
-            let next = next_out(state, nodes, voices, bus, rank);
-            if next.found {
-                state = cut_voice(state, nodes, edges, voices, steals, next.row);
-                port = bus_port(state, nodes, edges, bus);
-                left -= 1;
-            } else {
-                left = 0;
-            }
+    for _ in 0..fuel {
+        if port.is_some() {
+            break;
         }
+        let Some(row) = next_out(state, nodes, voices, bus, rank) else {
+            break;
+        };
+        state = cut_voice(state, nodes, edges, voices, steals, row);
+        port = bus_port(state, nodes, edges, bus);
     }
     Room { state, port }
 }

@@ -5,13 +5,12 @@ use native.Mathlib.Decide.{ℕ_discrete}
 use mathlib.Core.Path.{◌≡◌, refl, sym, ap, subst, ◌∙◌}
 use mathlib.Core.List.{List, [], ◌∷◌, map}
 use mathlib.Core.Bool.{Bool, true, false, cond}
-use mathlib.Core.Option.{Option, none, some}
+use Rattle.std.specs.Prelude.{Option, None, Some, find, is_some}
 use lib.Dec.{ltb}
 use lib.ListN.{length, take, drop, get_or, set, replicate, length-set, length-take, drop_of_length-le, get_or-eq_default}
 use lib.Seq.{get_or-take, get_or-set_same, get_or-set_other}
 use borrow.Author.Tests.{lt-ltb, ltb-true, ltb-false, eq-eqb, ne_eqb}
 use Rattle.lists.proofs.Table.{left_cons}
-use Rattle.lists.specs.Find.{or?, find, is_some}
 use Rattle.lists.proofs.Find.{find_in, find_none}
 use Rattle.node.specs.declared.record.Node.{Node}
 use Rattle.rank.specs.Order.{count_up}
@@ -28,7 +27,7 @@ use Rattle.call_clear.specs.Flags.{PlaceOf, flag_at, FlagsAre, any_done}
 -- ---- one node more in front
 module _ (first count : ℕ) (x : Node) (l : List Node) where
   abbrev with_x : Bool → ℕ → Bool
-  with_x b j = done_flag (or? b x (node_at l (id (first + j))))
+  with_x b j = done_flag (cond b (Some x) (node_at l (id (first + j))))
 
   -- it has the place j
   here : (j : ℕ) → x.id.0 ≡ first + j → j < min count 24 → flag_at (x ∷ l) first count j ≡ x.done
@@ -76,19 +75,19 @@ none_yet first count = record { long = refl; is = λ j. clear_past 24 j ∙ sym 
 
 -- ---- no node is done
 module _ (ns : List Node) (nobody : any_done ns ≡ false) where
-  all_clear : find (λ (n : Node). n.done) ns ≡ none
+  all_clear : find (λ (n : Node). n.done) ns ≡ None
   all_clear = go (find (λ (n : Node). n.done) ns) nobody
     where
-      go : (o : Option Node) → is_some o ≡ false → o ≡ none
-      go none e = refl
-      go (some x) e = let z : ◌≡◌ {A = ℕ} 1 0 = ap (λ b. cond b 1 0) e in absurd (omega arith)
+      go : (o : Option Node) → is_some o ≡ false → o ≡ None
+      go None e = refl
+      go (Some x) e = let z : ◌≡◌ {A = ℕ} 1 0 = ap (λ b. cond b 1 0) e in absurd (omega arith)
 
   clear_at : (first j : ℕ) → done_flag (node_at ns (id (first + j))) ≡ false
   clear_at first j = go (node_at ns (id (first + j))) refl
     where
       go : (o : Option Node) → node_at ns (id (first + j)) ≡ o → done_flag o ≡ false
-      go none e = refl
-      go (some x) e = find_none (λ (n : Node). n.done) ns x all_clear (find_in _ ns x e).0
+      go None e = refl
+      go (Some x) e = find_none (λ (n : Node). n.done) ns x all_clear (find_in _ ns x e).0
 
   pub none_done : (first count : ℕ) → FlagsAre ns first count (replicate 24 false)
   none_done first count = record { long = refl; is = λ j. clear_past 24 j ∙ sym (go j (ltb j (min count 24))) }

@@ -6,7 +6,7 @@ use mathlib.Core.List.{List, [], ◌∷◌, map}
 use mathlib.Core.Bool.{Bool, true, false}
 use lib.ListN.{length, take, length-map}
 use lib.Seq.{length-take-le}
-use Rattle.lists.specs.Filter.{filter}
+use Rattle.std.specs.Prelude.{filter}
 use Rattle.words.proofs.InPlace.{Gathering}
 use Rattle.words.proofs.InWords.{take_count}
 use Rattle.words.proofs.Rows.{rows_long}

@@ -1,6 +1,5 @@
 -- The done flags of a definition's nodes, in an array of 24.
-use Rattle.std.specs.Prelude.{ℕ, ◌+◌, ◌<◌, min, ◌≡◌, List, Bool, false, cond, ltb, length, get_or}
-use Rattle.lists.specs.Find.{find, is_some}
+use Rattle.std.specs.Prelude.{ℕ, ◌+◌, ◌<◌, min, ◌≡◌, List, Bool, false, cond, ltb, length, get_or, find, is_some}
 use Rattle.node.specs.declared.record.Node.{Node}
 use Rattle.graph.specs.Node.{node_at}
 use Rattle.model.specs.Voice.{id}

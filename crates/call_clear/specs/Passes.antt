@@ -1,6 +1,5 @@
 -- The two passes of clearing: "first the voices whose fade has ended, in voice order, then those whose done plan is silent".
-use Rattle.std.specs.Prelude.{ℕ, ◌≤◌, ◌≡◌, List, map, Bool, true, false, length, take}
-use Rattle.lists.specs.Filter.{filter}
+use Rattle.std.specs.Prelude.{ℕ, ◌≤◌, ◌≡◌, List, map, Bool, true, false, length, take, filter}
 use Rattle.node.specs.declared.record.Node.{Node}
 use Rattle.store.specs.declared.voices.Voice.{Voice}
 use Rattle.model.specs.Model.{Model}

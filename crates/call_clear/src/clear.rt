@@ -13,7 +13,6 @@ use bus::fade_length;
 use call_free::forget::forget_voices;
 use graph_rows::edge_row::EdgeTable;
 use graph_rows::node_row::NodeTable;
-use lists::number::at_most;
 use memory::state::State;
 use voice_rows::fade::ended_at;
 use voice_rows::row::{VoiceTable, id_at};
@@ -47,9 +46,10 @@ fn is_leaving(
     ensures { result ≡ leaves silent len (take n (nodes_in nodes.now)) (get_or (voices_in voices.now) i (voice_of [])) }
 {
     if silent {
-        return is_silent(nodes, n, done, voices, i);
+        is_silent(nodes, n, done, voices, i)
+    } else {
+        ended_at(voices, i, len)
     }
-    ended_at(voices, i, len)
 }
 
 // The ids of those of the first `count` voices that are removed, in voice order.
@@ -58,27 +58,23 @@ fn leaving_ids(
     len: u64,
     nodes: &[u32],
     n: usize,
-    voices: &[u32],
+    voices: &VoiceTable,
     count: usize,
 ) -> Leaving
-    requires { length voices.now ≡ 9152 }
     ensures { Gathered (leaves silent len (take n (nodes_in nodes.now))) (take count (voices_in voices.now)) result }
 {
-    let room = at_most(count, 64);
     let done = has_done(nodes, n);
-    let mut ids = [0u64; 64];
-    let mut k: usize = 0;
-    let mut i: usize = 0;
-    while i < room {
+    let mut leaving = Leaving {
+        ids: [0; 64],
+        count: 0,
+    };
+    for i in 0..count.min(64) {
         if is_leaving(silent, len, nodes, n, done, voices, i) {
-            ids[k] = id_at(voices, i).0;
-            k += 1;
-            i += 1;
-        } else {
-            i += 1;
+            leaving.ids[leaving.count] = id_at(voices, i).0;
+            leaving.count += 1;
         }
     }
-    Leaving { ids, count: k }
+    leaving
 }
 
 // One pass. The voices are gathered first and removed together, so that each table is closed up once.
@@ -94,10 +90,11 @@ fn clear_pass(
     ensures few { result.removed ≤ 64 }
 {
     let leaving = leaving_ids(silent, len, nodes, s.nodes, voices, s.voices);
-    let ids = leaving.ids;
-    let k = leaving.count;
-    let state = forget_voices(s, nodes, edges, voices, &ids[..k]);
-    Cleared { state, removed: k }
+    let state = forget_voices(s, nodes, edges, voices, &leaving.ids[..leaving.count]);
+    Cleared {
+        state,
+        removed: leaving.count,
+    }
 }
 
 // The voices whose fade has ended are removed, then those whose done plan is silent.
@@ -109,14 +106,11 @@ pub fn free_done_synths(
 ) -> Cleared
     ensures { (m : Memory) → Called clear (lent_voices s nodes.old edges.old voices.old m) (removed result.removed) (lent_voices result.state nodes.new edges.new voices.new m) }
 {
-    let config = s.config;
-    let len = fade_length(config.rate) as u64;
+    let len = u64::from(fade_length(s.config.rate));
     let faded = clear_pass(s, nodes, edges, voices, false, len);
-    let left = faded.state;
-    let done = clear_pass(left, nodes, edges, voices, true, len);
-    let state = done.state;
+    let done = clear_pass(faded.state, nodes, edges, voices, true, len);
     Cleared {
-        state,
+        state: done.state,
         removed: faded.removed + done.removed,
     }
 }

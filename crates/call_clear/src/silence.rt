@@ -6,8 +6,6 @@ ghost use Rattle.model.specs.Clear.{is_silent};
 ghost use Rattle.call_clear.specs.Flags.{PlaceOf, FlagsAre, any_done};
 
 use graph_rows::node_row::{done_at, id_at};
-use lists::number::at_most;
-use lists::word::wide;
 use voice_rows::row::{count_at, first_at, silent_at};
 
 // Which node of the definition, whose nodes have consecutive ids from `first` on, has this id; 24 or more if none has.
@@ -15,9 +13,10 @@ fn place_from(first: u32, id: u32) -> usize
     ensures { PlaceOf first id result }
 {
     if first <= id {
-        return wide(id - first);
+        (id - first) as usize
+    } else {
+        24
     }
-    24
 }
 
 // The done flags of the `count` nodes from the id `first` on, in one walk over the first `n` nodes. The walk ends at the first row, so
@@ -25,11 +24,9 @@ fn place_from(first: u32, id: u32) -> usize
 fn done_flags(nodes: &[u32], n: usize, first: u32, count: u32) -> [bool; 24]
     ensures { FlagsAre (take n (nodes_in nodes.now)) first count result }
 {
-    let m = at_most(wide(count), 24);
+    let m = (count as usize).min(24);
     let mut flags = [false; 24];
-    let mut i = at_most(n, nodes.len() / 22);
-    while 0 < i {
-        i -= 1;
+    for i in (0..n.min(nodes.len() / 22)).rev() {
         let p = place_from(first, id_at(nodes, i).0);
         if p < m {
             flags[p] = done_at(nodes, i);
@@ -42,13 +39,10 @@ fn done_flags(nodes: &[u32], n: usize, first: u32, count: u32) -> [bool; 24]
 pub fn has_done(nodes: &[u32], n: usize) -> bool
     ensures { result ≡ any_done (take n (nodes_in nodes.now)) }
 {
-    let m = at_most(n, nodes.len() / 22);
-    let mut i: usize = 0;
-    while i < m {
+    for i in 0..n.min(nodes.len() / 22) {
         if done_at(nodes, i) {
             return true;
         }
-        i += 1;
     }
     false
 }
@@ -59,9 +53,10 @@ fn known_flags(nodes: &[u32], n: usize, done: bool, first: u32, count: u32) -> [
     ensures { FlagsAre (take n (nodes_in nodes.now)) first count result }
 {
     if done {
-        return done_flags(nodes, n, first, count);
+        done_flags(nodes, n, first, count)
+    } else {
+        [false; 24]
     }
-    [false; 24]
 }
 
 // Whether the done plan of the voice in row `i` is silent; `done` says whether any node is done.

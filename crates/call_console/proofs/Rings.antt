@@ -5,7 +5,7 @@ use native.Mathlib.Nat.{add-zero}
 use mathlib.Core.Path.{◌≡◌, refl, sym, ap, ◌∙◌, subst}
 use mathlib.Core.Logic.{◌≢◌}
 use mathlib.Core.List.{List, [], ◌∷◌, ◌++◌}
-use mathlib.Core.Option.{none, some}
+use Rattle.std.specs.Prelude.{None, Some}
 use mathlib.Core.Bool.{Bool, true, false}
 use lib.Dec.{eqb}
 use lib.ListN.{length, get_or, set, replicate, length-set, length-replicate, get_or-replicate, get_or-eq_default}
@@ -188,10 +188,10 @@ taken_is s c q v r eight a b n next =
 
 -- ---- the oldest wish
 pub oldest_is : (s : WishState) (c : List ℕ) (q : ℕ) → Waits s q
-    → oldest_or (waiting_at q (wishes_of s c)) q none ≡ some (record { keyboard = q; wish = get_or (wishes_in c) (place_in q (get_or s.queues q no_queue) 0) (wish_of []) })
+    → oldest_or (waiting_at q (wishes_of s c)) q None ≡ Some (record { keyboard = q; wish = get_or (wishes_in c) (place_in q (get_or s.queues q no_queue) 0) (wish_of []) })
 oldest_is s c q r =
-    ap (λ l. oldest_or l q none) (waits_is s c q r.inside)
-    ∙ ap (λ n. oldest_or (each (λ i. get_or (wishes_in c) (place_in q u i) (wish_of [])) 0 n) q none) one
+    ap (λ l. oldest_or l q None) (waits_is s c q r.inside)
+    ∙ ap (λ n. oldest_or (each (λ i. get_or (wishes_in c) (place_in q u i) (wish_of [])) 0 n) q None) one
   where
     u : Queue
     u = get_or s.queues q no_queue

@@ -1,8 +1,6 @@
 -- What the contracts of the console's calls say: the store as it is lent, and beside it the wishes' state and words.
-use Rattle.std.specs.Prelude.{ℕ, ◌≡◌, List}
-use Rattle.std.proofs.Math.Option.{Option, none, some}
-use Rattle.graph.specs.declared.state.Answer as graph
-use Rattle.graph.specs.declared.state.Answer.TheVariants as Answer
+use Rattle.node.specs.declared.refusal.Refusal.{Refusal}
+use Rattle.std.specs.Prelude.{ℕ, ◌≡◌, List, Option, None, Some, Err, Ok, Result}
 use Rattle.model.specs.Call.{spawned}
 use Rattle.memory.specs.View.{Memory, model_of}
 use Rattle.memory.specs.Called as store
@@ -10,9 +8,9 @@ use Rattle.console.specs.declared.refusal.KeyboardRefusal.{KeyboardRefusal}
 use Rattle.console.specs.Wishes.{keyboards_refusal}
 use Rattle.console.specs.Console.{Console, ConsoleCall, ConsoleAnswer, plain, accepted, refused, served, empty, ConsoleStep, console_step, ConsoleMade, made, refused_by, refused_for}
 use Rattle.call_console.specs.declared.queues.WishState.{WishState}
-use Rattle.call_console.specs.declared.wishing.WishAnswer.{WishAnswer}
-use Rattle.call_console.specs.declared.turning.TurnAnswer.{TurnAnswer}
-use Rattle.call_console.specs.declared.making.MakeAnswer.{MakeAnswer}
+use Rattle.call_console.specs.declared.turning.Served.{Served}
+use Rattle.call_console.specs.declared.making.MakeRefusal.{MakeRefusal}
+use Rattle.call_console.specs.declared.making.MakeRefusal.TheVariants.{Store, Keyboards}
 use Rattle.call_console.specs.Queues.{wishes_of}
 
 -- the console: the store, the wishes' state, and their words
@@ -41,25 +39,25 @@ Kept (served q a) m n = (n.words ≡ m.words) × store.Kept a m.store n.store
 Kept empty m n = n ≡ m
 
 -- ---- the answers in the theory's words
-abbrev pub wish_answer : WishAnswer → ConsoleAnswer
-wish_answer WishAnswer.Accepted = accepted
-wish_answer (WishAnswer.Refused r) = refused r
+abbrev pub wish_answer : Result (Unit {0}) KeyboardRefusal → ConsoleAnswer
+wish_answer (Ok tt) = accepted
+wish_answer (Err r) = refused r
 
-abbrev pub turn_answer : TurnAnswer → ConsoleAnswer
-turn_answer TurnAnswer.Empty = empty
-turn_answer (TurnAnswer.Served q a) = served q (spawned a)
+abbrev pub turn_answer : Option Served → ConsoleAnswer
+turn_answer None = empty
+turn_answer (Some x) = served x.keyboard (spawned x.answer)
 
 -- the console, unless making was refused
-abbrev pub made_of : MakeAnswer → Console → ConsoleMade
-made_of MakeAnswer.Done k = made k
-made_of (MakeAnswer.Refused r) k = refused_by r
-made_of (MakeAnswer.Keyboards r) k = refused_for r
+abbrev pub made_of : Result (Unit {0}) MakeRefusal → Console → ConsoleMade
+made_of (Ok tt) k = made k
+made_of (Err (Store r)) k = refused_by r
+made_of (Err (Keyboards r)) k = refused_for r
 
 -- the store's refusal, or the keyboards', or neither
-abbrev pub judged : graph.Answer → Option KeyboardRefusal → MakeAnswer
-judged (Answer.Refused r) o = MakeAnswer.Refused r
-judged Answer.Done (some r) = MakeAnswer.Keyboards r
-judged Answer.Done none = MakeAnswer.Done
+abbrev pub judged : Result (Unit {0}) Refusal → Option KeyboardRefusal → Result (Unit {0}) MakeRefusal
+judged (Err r) o = Err (Store r)
+judged (Ok tt) (Some r) = Err (Keyboards r)
+judged (Ok tt) None = Ok tt
 
-abbrev pub Judged : graph.Answer → ℕ → MakeAnswer → Type 0
+abbrev pub Judged : Result (Unit {0}) Refusal → ℕ → Result (Unit {0}) MakeRefusal → Type 0
 Judged a n r = r ≡ judged a (keyboards_refusal n)

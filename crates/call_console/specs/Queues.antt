@@ -1,15 +1,12 @@
 -- What the lent wishes stand for: each of eight keyboards has 16 rows, and its wishes are `count` of them from its row `start` on, going
 -- round. What else stands in the rows is no part of the wishes; a count above 16 is 16, and more than eight keyboards are eight.
-use Rattle.std.specs.Prelude.{ℕ, ◌+◌, ◌*◌, ◌%◌, ◌<◌, min, ◌≡◌, List, [], get_or}
-use Rattle.std.proofs.Math.Option.{Option, none}
+use Rattle.std.specs.Prelude.{ℕ, ◌+◌, ◌*◌, ◌%◌, ◌<◌, min, ◌≡◌, List, [], get_or, Option, None, Some}
 use Rattle.voice_rows.specs.Rows.{each}
 use Rattle.store.specs.declared.wish.Wish.{Wish}
 use Rattle.console.specs.Wishes.{Wishes, waiting_at, Picked, oldest_or}
 use Rattle.wish_rows.specs.Rows.{wish_of, wishes_in}
 use Rattle.call_console.specs.declared.queues.Queue.{Queue}
 use Rattle.call_console.specs.declared.queues.WishState.{WishState}
-use Rattle.call_console.specs.declared.queues.Keyboard.{Keyboard}
-use Rattle.call_console.specs.declared.queues.Keyboard.TheVariants.{At, Nothing}
 
 abbrev pub no_queue : Queue
 no_queue = record { start = 0; count = 0 }
@@ -35,10 +32,10 @@ pub record Waits (s : WishState) (q : ℕ) : Type 0 where
   pub inside : q < min s.keyboards 8
   pub some : 0 < (get_or s.queues q no_queue).count
 
-abbrev pub WaitsAt : WishState → Keyboard → Type 0
-WaitsAt s k = (q : ℕ) → k ≡ At q → Waits s q
+abbrev pub WaitsAt : WishState → Option ℕ → Type 0
+WaitsAt s k = (q : ℕ) → k ≡ Some q → Waits s q
 
--- a keyboard with its oldest wish
-abbrev pub picked_at : Keyboard → Wishes → Option Picked
-picked_at Nothing ws = none
-picked_at (At q) ws = oldest_or (waiting_at q ws) q none
+-- the keyboard, if there is one, with its oldest wish
+abbrev pub picked_at : Option ℕ → Wishes → Option Picked
+picked_at None ws = None
+picked_at (Some q) ws = oldest_or (waiting_at q ws) q None

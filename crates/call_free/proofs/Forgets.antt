@@ -4,11 +4,10 @@ use mathlib.Core.Path.{◌≡◌, refl, ap, ◌∙◌}
 use mathlib.Core.List.{List}
 use mathlib.Core.Bool.{not}
 use lib.ListN.{length, take}
-use Rattle.lists.specs.Filter.{filter}
+use Rattle.std.specs.Prelude.{filter}
 use Rattle.words.specs.Place.{Holds}
 use Rattle.graph.specs.Node.{owned_by_any}
 use Rattle.graph.specs.Change.{without}
-use Rattle.graph.specs.Tables.{sink_of}
 use Rattle.graph.proofs.Calls.{same_view}
 use Rattle.graph_tables.specs.Removal.{Removed}
 use Rattle.graph_tables.specs.declared.removal.Left.{Left}
@@ -26,7 +25,7 @@ module _ (s : State) (ns es vs ids : List ℕ) (l : Left) (count : ℕ) where
   left = voiced (graphed s l.nodes l.edges l.sink s.next) count
 
   pub forgets : (ns' es' vs' : List ℕ) → (length ids ≡ 0 → ⊥)
-      → Removed ns es ns' es' s.nodes s.edges (sink_of s.sink) (owned_by_any ids) l
+      → Removed ns es ns' es' s.nodes s.edges (s.sink) (owned_by_any ids) l
       → Holds (voices_in vs') count (filter (λ v. not (is_any_of ids v)) (take s.voices (voices_in vs)))
       → (rest u : State) → rest ≡ graphed s l.nodes l.edges l.sink s.next → u ≡ voiced rest count
       → (m : Memory) → model_of (lent_voices u ns' es' vs' m) ≡ without_ids ids (model_of (lent_voices s ns es vs m))

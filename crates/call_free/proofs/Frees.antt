@@ -2,11 +2,11 @@
 use Prim.Native.Nat.{ℕ}
 use mathlib.Core.Path.{◌≡◌, refl, sym, ap, ◌∙◌}
 use mathlib.Core.List.{List, [], ◌∷◌}
-use mathlib.Core.Option.{none, some}
+use native.Mathlib.Omega.{arith}
+use Rattle.std.specs.Prelude.{Option, None, Some, find, is_some}
 use mathlib.Core.Bool.{Bool, true, false, cond}
 use lib.ListN.{take}
 use borrow.Author.Tests.{eqb-true}
-use Rattle.lists.specs.Find.{or?, find}
 use Rattle.lists.proofs.Member.{some_inj, none_some}
 use Rattle.node.specs.declared.record.VoiceId.{VoiceId}
 use Rattle.store.specs.declared.answer.Outcome.TheVariants.{Applied}
@@ -14,32 +14,35 @@ use Rattle.store.specs.declared.voices.Voice.{Voice}
 use Rattle.model.specs.Model.{Model, without_voice, freed}
 use Rattle.model.specs.Order.{free_outcome}
 use Rattle.model.specs.Voice.{is_voice}
-use Rattle.voice_rows.specs.Found.{FoundAt, found_in}
-use Rattle.voice_rows.specs.declared.table.FoundRow.{FoundRow}
+use Rattle.voice_rows.specs.Found.{FoundAt}
 
-found_is : (w : VoiceId) (l : List Voice) (v : Voice) → find (is_voice w) l ≡ some v → v.id.0 ≡ w.0
+found_is : (w : VoiceId) (l : List Voice) (v : Voice) → find (is_voice w) l ≡ Some v → v.id.0 ≡ w.0
 found_is w [] v e = absurd (none_some e)
 found_is w (x ∷ l) v e = go (is_voice w x) refl e (found_is w l v)
   where
-    go : (b : Bool) → is_voice w x ≡ b → or? b x (find (is_voice w) l) ≡ some v → (find (is_voice w) l ≡ some v → v.id.0 ≡ w.0) → v.id.0 ≡ w.0
+    go : (b : Bool) → is_voice w x ≡ b → cond b (Some x) (find (is_voice w) l) ≡ Some v → (find (is_voice w) l ≡ Some v → v.id.0 ≡ w.0) → v.id.0 ≡ w.0
     go true t f later = ap (λ (y : Voice). y.id.0) (sym (some_inj f)) ∙ eqb-true x.id.0 w.0 t
     go false t f later = later f
 
-module _ (w : VoiceId) (count : ℕ) (vs : List Voice) (r : FoundRow) (h : FoundAt r count vs (find (is_voice w) (take count vs))) where
+module _ (w : VoiceId) (count : ℕ) (vs : List Voice) where
+  abbrev looked : Option Voice
+  looked = find (is_voice w) (take count vs)
+
   -- there is none
-  pub unknown : r.found ≡ false → find (is_voice w) (take count vs) ≡ none
-  unknown e = sym h.is ∙ ap (λ b. cond b (found_in (record { found = true; row = r.row }) vs) none) e
+  pub unknown : (r : Option ℕ) → FoundAt r count vs looked → is_some r ≡ false → looked ≡ None
+  unknown None h e = sym h.is
+  unknown (Some i) h e = absurd (let z : ◌≡◌ {A = ℕ} 0 1 = cc in omega arith)
 
   -- there is one, and it is removed
-  module _ (known : r.found ≡ true) where
-    there : find (is_voice w) (take count vs) ≡ found_in (record { found = true; row = r.row }) vs
-    there = sym h.is ∙ ap (λ b. found_in (record { found = b; row = r.row }) vs) known
+  pub not_unknown : (r : Option ℕ) → FoundAt r count vs looked → is_some r ≡ true → looked ≡ None → ⊥
+  not_unknown None h e n = let z : ◌≡◌ {A = ℕ} 0 1 = cc in omega arith
+  not_unknown (Some i) h e n = none_some (sym n ∙ sym h.is)
 
-    pub not_unknown : find (is_voice w) (take count vs) ≡ none → ⊥
-    not_unknown e = none_some (sym e ∙ there)
+  pub known_applied : (r : Option ℕ) → FoundAt r count vs looked → is_some r ≡ true → Applied ≡ free_outcome looked
+  known_applied None h e = absurd (let z : ◌≡◌ {A = ℕ} 0 1 = cc in omega arith)
+  known_applied (Some i) h e = ap free_outcome h.is
 
-    pub known_applied : Applied ≡ free_outcome (find (is_voice w) (take count vs))
-    known_applied = ap free_outcome (sym there)
-
-    pub frees : (m : Model) → without_voice w m ≡ freed (find (is_voice w) (take count vs)) m
-    frees m = ap (λ (k : ℕ). without_voice (record { 0 = k }) m) (sym (found_is w (take count vs) _ there)) ∙ ap (λ o. freed o m) (sym there)
+  pub frees : (r : Option ℕ) → FoundAt r count vs looked → is_some r ≡ true → (m : Model) → without_voice w m ≡ freed looked m
+  frees None h e m = absurd (let z : ◌≡◌ {A = ℕ} 0 1 = cc in omega arith)
+  frees (Some i) h e m =
+      ap (λ (k : ℕ). without_voice (record { 0 = k }) m) (sym (found_is w (take count vs) _ (sym h.is))) ∙ ap (λ o. freed o m) h.is

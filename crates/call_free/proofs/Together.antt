@@ -5,7 +5,7 @@ use mathlib.Core.Path.{◌≡◌, refl, sym, ap, ◌∙◌}
 use mathlib.Core.List.{List, [], ◌∷◌}
 use mathlib.Core.Bool.{not}
 use lib.ListN.{length}
-use Rattle.lists.specs.Filter.{filter}
+use Rattle.std.specs.Prelude.{filter}
 use Rattle.lists.proofs.Filter.{filter_filter, filter_same}
 use Rattle.node.specs.declared.record.VoiceId.{VoiceId}
 use Rattle.graph.specs.Node.{owned_by, owned_by_any}
@@ -51,10 +51,6 @@ module _ (k : ℕ) (m : Model) where
 removed_together : (k : ℕ) (ids : List ℕ) (m : Model) → without_ids (k ∷ ids) m ≡ together (k ∷ ids) m
 removed_together k [] m = one k m
 removed_together k (j ∷ ids) m = removed_together j ids (without_voice (record { 0 = k }) m) ∙ then k m (j ∷ ids)
-
-pub none_removed : (ids : List ℕ) (m : Model) → length ids ≡ 0 → m ≡ without_ids ids m
-none_removed [] m e = refl
-none_removed (k ∷ ids) m e = absurd (omega arith)
 
 pub some_removed : (ids : List ℕ) (m : Model) → (length ids ≡ 0 → ⊥) → together ids m ≡ without_ids ids m
 some_removed [] m h = absurd (h refl)

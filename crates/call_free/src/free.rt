@@ -1,6 +1,4 @@
-ghost use Rattle.std.specs.Prelude.{◌≡◌, take};
-ghost use Rattle.std.proofs.Math.Option.{none};
-ghost use Rattle.lists.specs.Find.{find};
+ghost use Rattle.std.specs.Prelude.{◌≡◌, take, None, find};
 ghost use Rattle.model.specs.Call.{free, ordered};
 ghost use Rattle.model.specs.Voice.{is_voice};
 ghost use Rattle.voice_rows.specs.Rows.{voices_in};
@@ -33,18 +31,17 @@ pub fn free_voice(
     w: VoiceId,
 ) -> Freed
     ensures is { (m : Memory) → Called (free w) (lent_voices s nodes.old edges.old voices.old m) (ordered result.outcome) (lent_voices result.state nodes.new edges.new voices.new m) }
-    ensures same { find (is_voice w) (take s.voices (voices_in voices.old)) ≡ none → (m : Memory) → lent_voices result.state nodes.new edges.new voices.new m ≡ lent_voices s nodes.old edges.old voices.old m }
+    ensures same { find (is_voice w) (take s.voices (voices_in voices.old)) ≡ None → (m : Memory) → lent_voices result.state nodes.new edges.new voices.new m ≡ lent_voices s nodes.old edges.old voices.old m }
 {
-    let looked = find_voice(voices, s.voices, w);
-    if looked.found {
-        let state = forget_voice(s, nodes, edges, voices, w);
+    if find_voice(voices, s.voices, w).is_none() {
         return Freed {
-            state,
-            outcome: Outcome::Applied,
+            state: s,
+            outcome: Outcome::NoVoice,
         };
     }
+    let state = forget_voice(s, nodes, edges, voices, w);
     Freed {
-        state: s,
-        outcome: Outcome::NoVoice,
+        state,
+        outcome: Outcome::Applied,
     }
 }

@@ -4,14 +4,13 @@ ghost use Rattle.memory.specs.Lent.{lent_events};
 ghost use Rattle.memory.specs.Called.{Called, Kept, answered};
 
 use event_table::row::EventTable;
-use graph::state::Answer;
 use memory::parts::with_events;
-use memory::state::{HostResult, State};
+use memory::state::{CallResult, State, refuse};
 use node::name::name_of;
 use node::order::EventAction;
 use node::record::VoiceId;
+use node::refusal::Refusal;
 use scheduler::event::Event;
-use scheduler::queue::ScheduleAnswer;
 
 // An action for the voice `voice` at the sample `time`; a value or a glide is for the parameter `name`. A name that is not
 // 1 to 16 bytes is held, and matches no parameter.
@@ -22,30 +21,22 @@ pub fn schedule(
     voice: VoiceId,
     name: &[u8],
     action: EventAction,
-) -> HostResult
+) -> CallResult<Result<(), Refusal>>
     ensures is { (m : Memory) → Called (schedule time voice name.now action) (lent_events s events.old m) (answered result.answer) (lent_events result.state events.new m) }
     ensures same { (m : Memory) → Kept (answered result.answer) (lent_events s events.old m) (lent_events result.state events.new m) }
 {
-    let called = name_of(name);
-    let e = Event {
+    let event = Event {
         time,
         voice,
-        name: called,
+        name: name_of(name),
         action,
     };
-    let q = event_table::queue::schedule(events, s.events, e);
-    let told = q.answer;
-    match told {
-        ScheduleAnswer::Refused(r) => HostResult {
-            state: s,
-            answer: Answer::Refused(r),
-        },
-        ScheduleAnswer::Taken => {
-            let state = with_events(s, q.count);
-            HostResult {
-                state,
-                answer: Answer::Done,
-            }
-        }
+    let queued = event_table::queue::schedule(events, s.events, event);
+    if let Err(why) = queued.answer {
+        return refuse(s, why);
+    }
+    CallResult {
+        state: with_events(s, queued.count),
+        answer: Ok(()),
     }
 }

@@ -1,4 +1,5 @@
 -- A new store: no row of a table counts, so nothing that stands there is read.
+use Rattle.std.specs.Prelude.{None}
 use Prim.Native.Nat.{◌-◌}
 use native.Mathlib.Omega.{arith}
 use mathlib.Core.Path.{◌≡◌, ap, ◌∙◌}
@@ -6,7 +7,6 @@ use mathlib.Core.List.{List, []}
 use lib.ListN.{length, drop}
 use lib.Seq.{drop-length}
 use Rattle.graph.specs.View.{new_graph}
-use Rattle.graph.specs.declared.state.Sink.TheVariants as Sink
 use Rattle.voice.specs.Steals.{turned}
 use Rattle.voice.specs.declared.steals.StealRecord.{StealRecord}
 use Rattle.store.specs.declared.config.Config.{Config}
@@ -27,7 +27,7 @@ blank c =
       order = 0;
       voices = 0;
       events = 0;
-      sink = Sink.Nothing;
+      sink = None;
       prepared = false;
       next = 0;
       clock = 0;

@@ -3,7 +3,7 @@ use Prim.Native.Nat.{ℕ, ◌+◌, ◌<◌}
 use native.Mathlib.Numerals.{add-one}
 use mathlib.Core.Path.{◌≡◌, refl, sym, ap, ◌∙◌}
 use mathlib.Core.List.{List, [], ◌∷◌, ◌++◌, append_assoc, append-nil}
-use mathlib.Core.Option.{Option, none}
+use Rattle.std.specs.Prelude.{Option, None, find, cond, option_map, Some}
 use mathlib.Core.Bool.{Bool}
 use lib.ListN.{length, take, get_or}
 use lib.Seq.{take-suc}
@@ -11,27 +11,21 @@ use Rattle.node.specs.Silence.{bytes}
 use Rattle.model.specs.Decimal.{decimal}
 use Rattle.model.specs.Voice.{end_of}
 use Rattle.model.specs.Page.{word, age, port_now, port_text, header, line, lines, page}
-use Rattle.lists.specs.Find.{find, or?, map_o}
 use Rattle.node.specs.declared.record.NodeId.{NodeId}
 use Rattle.node.specs.declared.record.VoiceId.{VoiceId}
 use Rattle.node.specs.declared.record.Edge.{Edge}
 use Rattle.edges.specs.Ports.{feeds}
-use Rattle.graph_tables.specs.FedPorts.{node, feeding_of}
-use Rattle.graph_tables.specs.declared.ports.Feeding.{Feeding}
+use Rattle.graph_tables.specs.FedPorts.{node}
 use Rattle.store.specs.declared.voices.Voice.{Voice}
 use Rattle.store.specs.declared.voices.VoiceState.{VoiceState}
 
 -- the port of an edge that was looked for, if it was found
-abbrev pub port_found : Feeding → Option ℕ
-port_found fed = map_o (λ (e : Edge). e.port) (feeding_of fed)
+abbrev pub port_found : Option Edge → Option ℕ
+port_found fed = option_map (λ (e : Edge). e.port) (fed)
 
 -- looked for from the end of a voice to its bus, it is the port that the voice feeds
-pub port_is : (es : List Edge) (v : Voice) (from : ℕ) (bus : NodeId) (fed : Feeding) → from ≡ (end_of v).0 → bus ≡ v.bus → feeding_of fed ≡ find (feeds (node from) bus) es → port_found fed ≡ port_now es v
-port_is es v from bus fed e f h = ap (map_o (λ (e : Edge). e.port)) (h ∙ ap (λ k. find (feeds (node k) bus) es) e ∙ ap (λ k. find (feeds (end_of v) k) es) f)
-
--- and the text of that port
-pub port_text_lem : (fed : Feeding) (o : Option ℕ) → port_found fed ≡ o → (b : Bool) → fed.found ≡ b → port_text (map_o (λ (e : Edge). e.port) (or? b fed.edge none)) ++ bytes " " ≡ port_text o ++ bytes " "
-port_text_lem fed o e b t = ap (λ p. port_text p ++ bytes " ") (sym (ap (λ b. map_o (λ (e : Edge). e.port) (or? b fed.edge none)) t) ∙ e)
+pub port_is : (es : List Edge) (v : Voice) (from : ℕ) (bus : NodeId) (fed : Option Edge) → from ≡ (end_of v).0 → bus ≡ v.bus → fed ≡ find (feeds (node from) bus) es → port_found fed ≡ port_now es v
+port_is es v from bus fed e f h = ap (option_map (λ (e : Edge). e.port)) (h ∙ ap (λ k. find (feeds (node k) bus) es) e ∙ ap (λ k. find (feeds (end_of v) k) es) f)
 
 -- a voice's line, field by field
 regrouped : (s a b c d : List ℕ) → (((a ++ s) ++ (b ++ s)) ++ (c ++ s)) ++ d ≡ a ++ (s ++ (b ++ (s ++ (c ++ (s ++ d)))))

@@ -2,7 +2,7 @@
 use Prim.Native.Nat.{ℕ, suc, ◌+◌, ◌-◌, ◌≤◌, ◌<◌}
 use native.Mathlib.Numerals.{add-one}
 use native.Mathlib.Omega.{arith}
-use mathlib.Core.Path.{◌≡◌, sym, ap, ◌∙◌}
+use mathlib.Core.Path.{◌≡◌, sym, ap, ◌∙◌, subst}
 use mathlib.Core.List.{List, [], ◌∷◌, ◌++◌, append_assoc}
 use lib.ListN.{length, take, drop, set, length-append}
 use lib.Seq.{drop-cons, set-append_seam, take-append_seam}
@@ -19,6 +19,11 @@ then {a = a} {b} {x} e f =
       long = omega (arith, e.long, f.long, length-append a b);
       fits = omega (arith, e.fits, f.fits);
     }
+
+-- the same, where what is left is counted another way
+pub then_in : {m n : ℕ} {a b x y z : List ℕ} {p q : ℕ} (s : ℕ) → s ≡ length y - p → Put m a x y p → Put n b (mid_of p s y) z q → Put (m + n) (a ++ b) x (put_mid p s y z) (p + q)
+then_in {m} {n} {a} {b} {x} {y} {z} {p} {q} s is e f =
+    subst (λ (k : ℕ). Put n b (mid_of p k y) z q → Put (m + n) (a ++ b) x (put_mid p k y z) (p + q)) (sym is) (then e) f
 
 -- a text that was copied
 pub copied : (m : ℕ) (s text x y : List ℕ) (r : ℕ) → s ≡ text → r ≡ length s → y ≡ written s x → r ≤ m → Put m text x y r

@@ -11,10 +11,9 @@ ghost use Rattle.call_page.specs.Paged.{Put};
 use graph_rows::edge_row::EdgeTable;
 use graph_tables::ports::feeding_edge;
 use lists::byte::copy;
-use lists::number::at_most;
 use store::voices::VoiceState;
 use voice_rows::feeding::end_at;
-use voice_rows::row::{birth_at, bus_at, id_at, state_at};
+use voice_rows::row::{VoiceTable, birth_at, bus_at, id_at, state_at};
 
 fn put_number(n: u64, out: &mut [u8]) -> usize
     requires { 20 ≤ length out.old }
@@ -49,14 +48,10 @@ fn put_port(edges: &EdgeTable, wired: usize, t: &[u32], i: usize, out: &mut [u8]
     requires { 21 ≤ length out.old }
     ensures { Put 21 (paper.port_text (paper.port_now (take wired (edges_in edges.now)) (get_or (voices_in t.now) i (voice_of []))) ++ text " ") out.old out.new result }
 {
-    let from = end_at(t, i);
-    let bus = bus_at(t, i);
-    let fed = feeding_edge(edges, wired, from, bus);
-    if fed.found {
-        let e = fed.edge;
-        return put_field(e.port as u64, out);
+    match feeding_edge(edges, wired, end_at(t, i), bus_at(t, i)) {
+        Some(e) => put_field(u64::from(e.port), out),
+        None => copy(b"- ", out),
     }
-    copy(b"- ", out)
 }
 
 // A voice's state, and the line feed.
@@ -75,11 +70,7 @@ fn put_state(s: VoiceState, out: &mut [u8]) -> usize
 fn age_at(clock: u64, t: &[u32], i: usize) -> u64
     ensures { result ≡ paper.age clock (get_or (voices_in t.now) i (voice_of [])) }
 {
-    let birth = birth_at(t, i);
-    if birth <= clock {
-        return clock - birth;
-    }
-    0
+    clock.saturating_sub(birth_at(t, i))
 }
 
 // The line of the voice in row `i`.
@@ -96,8 +87,7 @@ fn put_line(
 {
     let a = put_fields(id_at(t, i).0, age_at(clock, t, i), out);
     let b = a + put_port(edges, wired, t, i, &mut out[a..]);
-    let state = state_at(t, i);
-    b + put_state(state, &mut out[b..])
+    b + put_state(state_at(t, i), &mut out[b..])
 }
 
 // The header, and the lines of the first `count` voices: at most 21 + 64 x 70 bytes.
@@ -105,19 +95,15 @@ pub(crate) fn put_page(
     clock: u64,
     edges: &EdgeTable,
     wired: usize,
-    t: &[u32],
+    t: &VoiceTable,
     count: usize,
-    out: &mut [u8],
+    out: &mut [u8; 4501],
 ) -> usize
-    requires { (length t.now ≡ 9152) × (4501 ≤ length out.old) }
     ensures { Put 4501 (paper.page clock (paper.port_now (take wired (edges_in edges.now))) (take count (voices_in t.now))) out.old out.new result }
 {
-    let n = at_most(count, t.len() / 143);
     let mut at = copy(b"voice age port state\n", out);
-    let mut i: usize = 0;
-    while i < n {
+    for i in 0..count.min(64) {
         at += put_line(clock, edges, wired, t, i, &mut out[at..]);
-        i += 1;
     }
     at
 }

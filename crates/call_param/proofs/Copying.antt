@@ -14,12 +14,6 @@ use Rattle.words.proofs.Rows.{rows_long, rows_move, moved_long}
 use Rattle.words.proofs.Place.{place_le, counted}
 use Rattle.words.proofs.InWords.{ChangingIn, change_row, change_none}
 
-pub and_swap : (a b : Bool) → (a && b) ≡ (b && a)
-and_swap true true = refl
-and_swap true false = refl
-and_swap false true = refl
-and_swap false false = refl
-
 module _ {A : Type 0} where
   -- a row stored that passes as the one before it did
   pub place_set : (q : A → Bool) (d y : A) (l : List A) (p : ℕ) → q y ≡ q (get_or l p d) → place_of q (set l p y) ≡ place_of q l

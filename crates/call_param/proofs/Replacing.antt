@@ -3,14 +3,13 @@ use Prim.Native.Nat.{ℕ, ◌/◌, ◌≤◌, ◌<◌, min}
 use native.Mathlib.Omega.{arith}
 use mathlib.Core.Path.{◌≡◌, refl, sym, ap, ◌∙◌}
 use mathlib.Core.List.{List, [], map}
-use mathlib.Core.Option.{none, some}
+use Rattle.std.specs.Prelude.{None, Some, find}
 use mathlib.Core.Bool.{Bool, true, false, not, cond}
 use lib.Dec.{eqb}
 use lib.ListN.{length, take, get_or, set, length-take}
 use lib.Seq.{take-set-lt, get_or-set_same, get_or-take}
 use borrow.Author.Tests.{eqb-true}
 use Rattle.lists.proofs.Member.{and_right}
-use Rattle.lists.specs.Find.{find}
 use Rattle.lists.proofs.Find.{find_in}
 use Rattle.node.specs.declared.record.Node.{Node}
 use Rattle.words.specs.Place.{place_of}
@@ -35,11 +34,11 @@ module _ (l c : List ℕ) (count k n p : ℕ) (e : n ≡ min count (length c / 2
   many : n ≡ length ns
   many = sym (counted 22 node_of c count n e)
 
-  pub first_lost : n ≤ p → find q ns ≡ none
+  pub first_lost : n ≤ p → find q ns ≡ None
   first_lost h = lost_in 22 node_of q c count p n at many h
 
   module _ (h : p < n) where
-    pub first_found : find q ns ≡ some node
+    pub first_found : find q ns ≡ Some node
     first_found = found_in 22 node_of q c count p n at many h
 
     its_id : k ≡ node.id.0

@@ -3,11 +3,10 @@ use Prim.Native.Nat.{ℕ, ◌+◌, ◌/◌, ◌≤◌, ◌<◌, min}
 use native.Mathlib.Omega.{arith}
 use mathlib.Core.Path.{◌≡◌, refl, sym, ap, subst, ◌∙◌}
 use mathlib.Core.List.{List, []}
-use mathlib.Core.Option.{Option, none, some}
+use Rattle.std.specs.Prelude.{Option, None, Some, find}
 use mathlib.Core.Bool.{Bool, true, false, not, cond, ◌&&◌}
 use lib.ListN.{length, take, get_or}
 use borrow.Author.Tests.{eqb-true}
-use Rattle.lists.specs.Find.{find}
 use Rattle.lists.proofs.Find.{none_find, find_same}
 use Rattle.node.specs.Name.{name_of}
 use Rattle.node.specs.declared.name.Name.{Name}
@@ -21,8 +20,7 @@ use Rattle.graph.specs.View.{with_nodes}
 use Rattle.graph.specs.Node.{node_at}
 use Rattle.graph_rows.specs.Node.{node_of, nodes_in}
 use Rattle.synthdef.specs.Tables.{param_rows}
-use Rattle.synthdef.specs.Params.{param_node, as_param_node}
-use Rattle.synthdef.specs.declared.params.ParamNode.TheVariants.{At, Nothing}
+use Rattle.synthdef.specs.Params.{param_node}
 use Rattle.store.specs.declared.answer.Outcome.{Outcome}
 use Rattle.store.specs.declared.answer.Outcome.TheVariants.{Applied, NoVoice, NoParameter, NotTaken}
 use Rattle.store.specs.declared.voices.Voice.{Voice}
@@ -33,8 +31,6 @@ use Rattle.model.specs.Order as model
 use Rattle.model.specs.Call.{shared_step, ordered}
 use Rattle.model.specs.Call as call
 use Rattle.voice_rows.specs.Rows.{voice_of, voices_in}
-use Rattle.voice_rows.specs.Found.{FoundAt}
-use Rattle.voice_rows.specs.declared.table.FoundRow.{FoundRow}
 use Rattle.memory.specs.declared.state.State.{State}
 use Rattle.memory.specs.View.{Memory, model_of}
 use Rattle.memory.specs.Lent.{lent_params}
@@ -46,9 +42,6 @@ use Rattle.call_param.proofs.Replacing.{first_lost, first_found}
 -- no: the very words
 pub refused : (c : List ℕ) (count : ℕ) (o : Outcome) (r : Reply) → reply o (take count (nodes_in c)) ≡ r → Replies c c count o r
 refused c count o r e = record { is = e; same = λ h. refl }
-
-pub replies_same : (old new : List ℕ) (count : ℕ) (o : Outcome) (r u : Reply) → r ≡ u → Replies old new count o r → Replies old new count o u
-replies_same old new count o r u e h = subst (Replies old new count o) e h
 
 -- ---- the node
 module _ (l c : List ℕ) (count k : ℕ) (o : LastOrder) (n p : ℕ) (e : n ≡ min count (length c / 22)) (at : p ≡ place_of (is_left l (id k)) (take count (nodes_in c))) where
@@ -98,20 +91,11 @@ module _ (l : List ℕ) (w : VoiceId) where
       go true t = ap (λ x. not (listed l x) && is_voice w v) (eqb-true v.id.0 w.0 t) ∙ ap (λ b. not b && is_voice w v) h
       go false t = ap (λ b. not (listed l v.id.0) && b) t ∙ off (not (listed l v.id.0)) ∙ sym t
 
-  pub freed_unknown : (vs : List Voice) → listed l w.0 ≡ true → find (is_known l w) vs ≡ none
+  pub freed_unknown : (vs : List Voice) → listed l w.0 ≡ true → find (is_known l w) vs ≡ None
   freed_unknown vs h = none_find (is_known l w) vs (λ v i. unknown v h)
 
   pub others_known : (vs : List Voice) → listed l w.0 ≡ false → find (is_known l w) vs ≡ find (is_voice w) vs
   others_known vs h = find_same (is_known l w) (is_voice w) vs (λ v i. known v h)
-
--- which parameter, by the enum that says it
-at_nothing : (p : Option ℕ) → Nothing ≡ as_param_node p → p ≡ none
-at_nothing none e = refl
-at_nothing (some i) e = absurd (let z : ◌≡◌ {A = ℕ} 0 1 = cc in omega arith)
-
-at_some : (p : Option ℕ) (i : ℕ) → At i ≡ as_param_node p → p ≡ some i
-at_some none i e = absurd (let z : ◌≡◌ {A = ℕ} 0 1 = cc in omega arith)
-at_some (some k) i e = let same : k ≡ i = cc in ap some same
 
 module _ (l : List ℕ) (w : VoiceId) (name : Name) (o : LastOrder) (voices nodes : List ℕ) (held live : ℕ) where
   abbrev its_voices : List Voice
@@ -125,55 +109,3 @@ module _ (l : List ℕ) (w : VoiceId) (name : Name) (o : LastOrder) (voices node
 
   pub voice_freed : listed l w.0 ≡ true → Replies nodes nodes live NoVoice asked
   voice_freed h = refused nodes live NoVoice asked (sym (ap (λ x. reply_voice l x name o its_nodes) (freed_unknown l w its_voices h)))
-
-  module _ (h : listed l w.0 ≡ false) (r : FoundRow) (found : FoundAt r held (voices_in voices) (find (is_voice w) its_voices)) where
-    abbrev v : Voice
-    v = get_or (voices_in voices) r.row (voice_of [])
-
-    by : (b : Bool) → r.found ≡ b → asked ≡ reply_voice l (cond b (some v) none) name o its_nodes
-    by b t = ap (λ x. reply_voice l x name o its_nodes) (others_known l w its_voices h ∙ sym found.is ∙ ap (λ b. cond b (some v) none) t)
-
-    pub voice_none : r.found ≡ false → Replies nodes nodes live NoVoice asked
-    voice_none t = refused nodes live NoVoice asked (sym (by false t))
-
-    pub param_none : r.found ≡ true → Nothing ≡ as_param_node (param_node (param_rows v.params) name) → Replies nodes nodes live NoParameter asked
-    param_none t p = refused nodes live NoParameter asked (sym (by true t ∙ ap (λ x. reply_param l x v o its_nodes) (at_nothing (param_node (param_rows v.params) name) p)))
-
-    pub param_at_lem : (i : ℕ) (first : NodeId) (new : List ℕ) (out : Outcome) → r.found ≡ true → At i ≡ as_param_node (param_node (param_rows v.params) name) → first ≡ v.first
-        → Replies nodes new live out (reply_node l (find (is_left l (id (first.0 + i))) its_nodes) o its_nodes) → Replies nodes new live out asked
-    param_at_lem i first new out t p is answer =
-        replies_same nodes new live out (reply_node l (find (is_left l (id (first.0 + i))) its_nodes) o its_nodes) asked
-        (ap (λ (x : NodeId). reply_node l (find (is_left l (id (x.0 + i))) its_nodes) o its_nodes) is
-        ∙ sym (by true t ∙ ap (λ x. reply_param l x v o its_nodes) (at_some (param_node (param_rows v.params) name) i p)))
-        answer
-
--- ---- the order of the model
-module _ (o : LastOrder) (d : SharedState) where
-  abbrev carried : Reply → model.Ordered
-  carried r = record { outcome = r.outcome; shared = with_graph (with_nodes d.graph r.nodes) d }
-
-  abbrev all : List Node
-  all = d.graph.nodes
-
-  by_node : (x : Option Node) → order_node x o d ≡ carried (reply_node [] x o all)
-  by_node none = refl
-  by_node (some n) = go (takes o n)
-    where
-      go : (b : Bool) → cond b (record { outcome = Applied; shared = model.with_node (with_last o n) d }) (stays NotTaken d) ≡ carried (cond b (reply Applied (replaced_left [] all (with_last o n))) (reply NotTaken all))
-      go true = refl
-      go false = refl
-
-  by_param : (p : Option ℕ) (v : Voice) → order_param p v o d ≡ carried (reply_param [] p v o all)
-  by_param none v = refl
-  by_param (some i) v = by_node (node_at all (id (v.first.0 + i)))
-
-  by_voice : (x : Option Voice) (name : Name) → order_voice x name o d ≡ carried (reply_voice [] x name o all)
-  by_voice none name = refl
-  by_voice (some v) name = by_param (param_node (param_rows v.params) name) v
-
-pub order_called : (s : State) (ns vs new name : List ℕ) (w : VoiceId) (o : LastOrder) (r : Outcome) → Replies ns new s.nodes r (order_left [] w (name_of name) o (take s.voices (voices_in vs)) (take s.nodes (nodes_in ns)))
-    → (m : Memory) → Called (call.order w name o) (lent_params s ns vs m) (ordered r) (lent_params s new vs m)
-order_called s ns vs new name w o r h m =
-    let old = model_of (lent_params s ns vs m) in
-    ap (λ (x : Reply). shared_step old (with_graph (with_nodes old.shared.graph x.nodes) old.shared) (ordered x.outcome)) h.is
-    ∙ ap (λ (x : model.Ordered). shared_step old x.shared (ordered x.outcome)) (sym (by_voice o old.shared (find (is_voice w) old.voices) (name_of name)))

@@ -1,5 +1,4 @@
-ghost use Rattle.std.specs.Prelude.{◌/◌, take};
-ghost use Rattle.lists.specs.Find.{find};
+ghost use Rattle.std.specs.Prelude.{◌/◌, take, find};
 ghost use Rattle.model.specs.Voice.{id};
 ghost use Rattle.graph_rows.specs.Node.{nodes_in};
 ghost use Rattle.call_param.specs.Left.{is_left, reply_node};
@@ -7,7 +6,6 @@ ghost use Rattle.call_param.specs.Replies.{Replies};
 
 use crate::last::{put_last, takes_at};
 use crate::left::{copy_on, row_left};
-use lists::number::at_most;
 use node::order::LastOrder;
 use store::answer::Outcome;
 
@@ -22,12 +20,9 @@ pub(crate) fn order_node(
 ) -> Outcome
     ensures { Replies t.old t.new count result (reply_node freed.now (find (is_left freed.now (id k)) (take count (nodes_in t.old))) o (take count (nodes_in t.old))) }
 {
-    let n = at_most(count, t.len() / 22);
+    let n = count.min(t.len() / 22);
     let p = row_left(t, count, k, freed);
-    if n <= p {
-        return Outcome::NotTaken;
-    }
-    if !takes_at(t, p, o) {
+    if n <= p || !takes_at(t, p, o) {
         return Outcome::NotTaken;
     }
     put_last(t, p, o);

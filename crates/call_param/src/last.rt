@@ -21,6 +21,5 @@ pub(crate) fn takes_at(t: &[u32], i: usize, o: LastOrder) -> bool
 pub(crate) fn put_last(t: &mut [u32], i: usize, o: LastOrder)
     ensures { nodes_in t.new ≡ set (nodes_in t.old) i (with_last o (get_or (nodes_in t.old) i (node_of []))) }
 {
-    let ws = last_words(o);
-    put_fields(t, 22, i, 15, &ws);
+    put_fields(t, 22, i, 15, &last_words(o));
 }

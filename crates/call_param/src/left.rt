@@ -8,30 +8,24 @@ ghost use Rattle.call_param.specs.Left.{is_left};
 
 use edges::table::is_listed;
 use graph_rows::node_row::{id_at, owner_at};
-use lists::number::at_most;
 use words::table::move_row;
 
 // Whether the node in row `i` has the id `k` and stays. The id is counted from a voice's first node, and may be past the last one.
 fn is_left(t: &[u32], i: usize, k: u64, freed: &[u64]) -> bool
     ensures { result ≡ is_left freed.now (id k) (get_or (nodes_in t.now) i (node_of [])) }
 {
-    if id_at(t, i).0 as u64 == k {
-        return !is_listed(freed, owner_at(t, i).0);
-    }
-    false
+    u64::from(id_at(t, i).0) == k && !is_listed(freed, owner_at(t, i).0)
 }
 
 // The row of the first such node among the first `count`; behind them where there is none.
 pub fn row_left(t: &[u32], count: usize, k: u64, freed: &[u64]) -> usize
     ensures { result ≡ place_of (is_left freed.now (id k)) (take count (nodes_in t.now)) }
 {
-    let n = at_most(count, t.len() / 22);
-    let mut i: usize = 0;
-    while i < n {
+    let n = count.min(t.len() / 22);
+    for i in 0..n {
         if is_left(t, i, k, freed) {
             return i;
         }
-        i += 1;
     }
     n
 }
@@ -40,14 +34,9 @@ pub fn row_left(t: &[u32], count: usize, k: u64, freed: &[u64]) -> usize
 pub fn copy_on(t: &mut [u32], count: usize, p: usize, k: u64, freed: &[u64])
     ensures { p ≡ place_of (is_left freed.now (id k)) (take count (nodes_in t.old)) → take count (nodes_in t.new) ≡ map (λ x. cond (is_left freed.now (id k) x) (get_or (nodes_in t.old) p (node_of [])) x) (take count (nodes_in t.old)) }
 {
-    let n = at_most(count, t.len() / 22);
-    let mut i = p;
-    while i < n {
+    for i in p..count.min(t.len() / 22) {
         if is_left(t, i, k, freed) {
             move_row(t, 22, p, i);
-            i += 1;
-        } else {
-            i += 1;
         }
     }
 }

@@ -2,13 +2,11 @@
 ghost use Rattle.std.specs.Prelude.{◌≡◌, [], ◌+◌, ◌*◌, ◌%◌, ◌<◌, get_or};
 ghost use Rattle.words.specs.Rows.{row_at};
 ghost use Rattle.synthdef.specs.Tables.{param_rows};
-ghost use Rattle.synthdef.specs.Params.{called, param_node, as_param_node};
+ghost use Rattle.synthdef.specs.Params.{called, param_node};
 ghost use Rattle.voice_rows.specs.Rows.{param_at, voice_of, voices_in};
 
-use lists::number::at_most;
 use node::name::{Name, same_name};
-use synthdef::params::ParamNode;
-use words::fields::{long_at, name_at};
+use words::fields::{long_at, low_byte, name_at};
 use words::table::word_at;
 
 // Whether the parameter `k` of the voice in row `i` has that name.
@@ -16,8 +14,7 @@ fn is_called(t: &[u32], i: usize, k: usize, name: Name) -> bool
     requires { k < 8 }
     ensures { result ≡ called name (param_at (row_at 143 i t.now) (23 + k * 6)) }
 {
-    let theirs = name_at(t, 143, i, (23 + k * 6) as u16);
-    same_name(theirs, name)
+    same_name(name_at(t, 143, i, (23 + k * 6) as u16), name)
 }
 
 // The place of its node in the definition.
@@ -25,20 +22,18 @@ fn node_of(t: &[u32], i: usize, k: usize) -> u8
     requires { k < 8 }
     ensures { result ≡ (param_at (row_at 143 i t.now) (23 + k * 6)).node }
 {
-    (word_at(t, 143, i, 23 + k * 6 + 5) % 256) as u8
+    low_byte(word_at(t, 143, i, 23 + k * 6 + 5))
 }
 
 // The node of the first parameter of that name of the voice in row `i`, or none.
-pub(crate) fn param_named(t: &[u32], i: usize, name: Name) -> ParamNode
-    ensures { result ≡ as_param_node (param_node (param_rows (get_or (voices_in t.now) i (voice_of [])).params) name) }
+pub(crate) fn param_named(t: &[u32], i: usize, name: Name) -> Option<u8>
+    ensures { result ≡ param_node (param_rows (get_or (voices_in t.now) i (voice_of [])).params) name }
 {
-    let n = at_most(long_at(t, 143, i, 19) as usize, 8);
-    let mut k: usize = 0;
-    while k < n {
+    let n = long_at(t, 143, i, 19) as usize;
+    for k in 0..n.min(8) {
         if is_called(t, i, k, name) {
-            return ParamNode::At(node_of(t, i, k));
+            return Some(node_of(t, i, k));
         }
-        k += 1;
     }
-    ParamNode::Nothing
+    None
 }

@@ -20,7 +20,6 @@ use node::name::{Name, name_of};
 use node::order::{Glide, LastOrder};
 use node::record::VoiceId;
 use store::answer::Outcome;
-use synthdef::params::ParamNode;
 use voice_rows::row::{VoiceTable, first_at};
 use voice_rows::table::find_voice;
 
@@ -40,18 +39,14 @@ pub fn order_voice(
     if is_listed(freed, w.0) {
         return Outcome::NoVoice;
     }
-    let v = find_voice(voices, s.voices, w);
-    if !v.found {
+    let Some(row) = find_voice(voices, s.voices, w) else {
         return Outcome::NoVoice;
-    }
-    let place = param_named(voices, v.row, name);
-    match place {
-        ParamNode::Nothing => Outcome::NoParameter,
-        ParamNode::At(i) => {
-            let first = first_at(voices, v.row);
-            order_node(nodes, s.nodes, first.0 as u64 + i as u64, freed, o)
-        }
-    }
+    };
+    let Some(i) = param_named(voices, row, name) else {
+        return Outcome::NoParameter;
+    };
+    let id = u64::from(first_at(voices, row).0) + u64::from(i);
+    order_node(nodes, s.nodes, id, freed, o)
 }
 
 // An order for the parameter `name` of the voice `voice`, where no voice waits to be removed.
@@ -66,8 +61,7 @@ fn set_order(
     ensures is { (m : Memory) → Called (call.order voice name.now o) (lent_params s nodes.old voices.now m) (ordered result) (lent_params s nodes.new voices.now m) }
     ensures same { is_yes result ≡ false → nodes.new ≡ nodes.old }
 {
-    let nobody = [0u64; 1];
-    order_voice(s, nodes, voices, &nobody[..0], voice, name_of(name), o)
+    order_voice(s, nodes, voices, &[], voice, name_of(name), o)
 }
 
 // A value for the parameter `name` of the voice `voice`.

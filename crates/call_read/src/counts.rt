@@ -1,7 +1,6 @@
 // How many rows of a lent table count: the host has the rows, in the words that it lends. The answer is their number, and never more
 // than the table has room for.
-ghost use Rattle.std.specs.Prelude.{◌≡◌, length, take};
-ghost use Rattle.std.proofs.Math.ListN.{get_elem?};
+ghost use Rattle.std.specs.Prelude.{◌≡◌, take, slice_get};
 ghost use Rattle.words.specs.Place.{Holds};
 ghost use Rattle.graph_rows.specs.Edge.{edges_in};
 ghost use Rattle.order_table.specs.Prepares.{ids_in};
@@ -10,40 +9,21 @@ ghost use Rattle.model.specs.Call as call;
 ghost use Rattle.memory.specs.View.{Memory};
 ghost use Rattle.memory.specs.Lent.{lent_edges, lent_processing, lent_voice_table};
 ghost use Rattle.memory.specs.Called.{Called};
-ghost use Rattle.call_read.specs.Found.{edge_found};
 
 use graph_rows::edge_row::EdgeTable;
-use lists::number::at_most;
+use graph_tables::wiring::edge_count;
 use memory::state::State;
 use node::record::Edge;
 use order_table::OrderTable;
 use voice_rows::row::VoiceTable;
-
-// An edge, or none. Where none is found, `edge` says nothing.
-#[derive(Clone, Copy)]
-pub struct FoundEdge {
-    pub found: bool,
-    pub edge: Edge,
-}
-
-fn voices_in(t: &[u32], count: usize) -> usize
-    ensures { Holds (voices_in t.now) result (take count (voices_in t.now)) }
-{
-    at_most(count, t.len() / 143)
-}
+use voice_rows::table::voice_count;
 
 // The voices in order of admission: that many rows of the table are they.
 pub fn voices(s: State, voices: &VoiceTable) -> usize
     ensures is { (m : Memory) → Called (call.ask call.voices) (lent_voice_table s voices.now m) (call.all (take result (voices_in voices.now))) (lent_voice_table s voices.now m) }
     ensures count { Holds (voices_in voices.now) result (take s.voices (voices_in voices.now)) }
 {
-    voices_in(voices, s.voices)
-}
-
-fn edges_in(t: &[u32], count: usize) -> usize
-    ensures { Holds (edges_in t.now) result (take count (edges_in t.now)) }
-{
-    at_most(count, t.len() / 3)
+    voice_count(voices, s.voices)
 }
 
 // The edges, in their order: that many rows of the table are they.
@@ -51,28 +31,17 @@ pub fn edges(s: State, edges: &EdgeTable) -> usize
     ensures is { (m : Memory) → Called (call.ask call.edges) (lent_edges s edges.now m) (call.wires (take result (edges_in edges.now))) (lent_edges s edges.now m) }
     ensures count { Holds (edges_in edges.now) result (take s.edges (edges_in edges.now)) }
 {
-    edges_in(edges, s.edges)
-}
-
-fn edge_in(t: &[u32], count: usize, i: usize) -> FoundEdge
-    ensures { edge_found result ≡ get_elem? (take count (edges_in t.now)) i }
-{
-    let n = at_most(count, t.len() / 3);
-    let edge = graph_rows::edge_row::edge_at(t, i);
-    FoundEdge { found: i < n, edge }
+    edge_count(edges, s.edges)
 }
 
 // The edge at a place in their order, or none.
-pub fn edge_at(s: State, edges: &EdgeTable, i: usize) -> FoundEdge
-    ensures { edge_found result ≡ get_elem? (take s.edges (edges_in edges.now)) i }
+pub fn edge_at(s: State, edges: &EdgeTable, i: usize) -> Option<Edge>
+    ensures { result ≡ slice_get (take s.edges (edges_in edges.now)) i }
 {
-    edge_in(edges, s.edges, i)
-}
-
-fn ids_in(t: &[u32], count: usize) -> usize
-    ensures { Holds (ids_in t.now) result (take count (ids_in t.now)) }
-{
-    at_most(count, t.len())
+    if i < edge_count(edges, s.edges) {
+        return Some(graph_rows::edge_row::edge_at(edges, i));
+    }
+    None
 }
 
 // The processing order that the last good prepare gave: that many words of the table are its node ids.
@@ -80,5 +49,5 @@ pub fn processing_order(s: State, order: &OrderTable) -> usize
     ensures is { (m : Memory) → Called (call.ask call.processing) (lent_processing s order.now m) (call.in_order (take result (ids_in order.now))) (lent_processing s order.now m) }
     ensures count { Holds (ids_in order.now) result (take s.order (ids_in order.now)) }
 {
-    ids_in(order, s.order)
+    s.order.min(order.len())
 }

@@ -1,15 +1,14 @@
 -- What the due events leave alone: clock and block.
+use Rattle.node.specs.declared.refusal.Refusal.{Refusal}
 use Prim.Native.Nat.{ℕ, ◌+◌}
 use mathlib.Core.Path.{◌≡◌, refl, sym, ap, ◌∙◌}
 use mathlib.Core.List.{List, [], ◌∷◌}
-use mathlib.Core.Option.{Option, none, some}
+use Rattle.std.specs.Prelude.{Option, None, Some, find, Result, Err, Ok}
 use mathlib.Core.Bool.{Bool, true, false}
-use Rattle.lists.specs.Find.{find}
 use Rattle.node.specs.declared.name.Name.{Name}
 use Rattle.node.specs.declared.order.LastOrder.{LastOrder}
 use Rattle.node.specs.declared.record.Node.{Node}
 use Rattle.node.specs.declared.record.NodeId.{NodeId}
-use Rattle.prepare.specs.declared.Readiness.{Readiness}
 use Rattle.graph.specs.Node.{node_at}
 use Rattle.scheduler.specs.Event.{param_order}
 use Rattle.scheduler.specs.declared.event.Event.{Event}
@@ -30,24 +29,24 @@ event_order : (e : Event) (m : Model) → is_free e.action ≡ false → record 
 event_order e m h = rw h
 
 freed_ends : (o : Option Voice) (m : Model) → deadline (freed o m).shared ≡ deadline m.shared
-freed_ends none m = refl
-freed_ends (some v) m = refl
+freed_ends None m = refl
+freed_ends (Some v) m = refl
 
-taken_ends : (b : Bool) (n : Node) (o : LastOrder) (d : SharedState) → takes o n ≡ b → deadline (order_node (some n) o d).shared ≡ deadline d
+taken_ends : (b : Bool) (n : Node) (o : LastOrder) (d : SharedState) → takes o n ≡ b → deadline (order_node (Some n) o d).shared ≡ deadline d
 taken_ends true n o d h = rw h
 taken_ends false n o d h = rw h
 
 node_ends : (x : Option Node) (o : LastOrder) (d : SharedState) → deadline (order_node x o d).shared ≡ deadline d
-node_ends none o d = refl
-node_ends (some n) o d = taken_ends (takes o n) n o d refl
+node_ends None o d = refl
+node_ends (Some n) o d = taken_ends (takes o n) n o d refl
 
 param_ends : (p : Option ℕ) (v : Voice) (o : LastOrder) (d : SharedState) → deadline (order_param p v o d).shared ≡ deadline d
-param_ends none v o d = refl
-param_ends (some i) v o d = node_ends (node_at d.graph.nodes (id (v.first.0 + i))) o d
+param_ends None v o d = refl
+param_ends (Some i) v o d = node_ends (node_at d.graph.nodes (id (v.first.0 + i))) o d
 
 order_ends : (x : Option Voice) (name : Name) (o : LastOrder) (d : SharedState) → deadline (order_voice x name o d).shared ≡ deadline d
-order_ends none name o d = refl
-order_ends (some v) name o d = param_ends (param_node (param_rows v.params) name) v o d
+order_ends None name o d = refl
+order_ends (Some v) name o d = param_ends (param_node (param_rows v.params) name) v o d
 
 event_ends : (e : Event) (m : Model) → deadline (apply_event e m).shared ≡ deadline m.shared
 event_ends e m = go (is_free e.action) refl
@@ -60,9 +59,9 @@ pub all_ends : (l : List Event) (m : Model) → deadline (apply_events l m).shar
 all_ends [] m = refl
 all_ends (e ∷ l) m = all_ends l (apply_event e m) ∙ event_ends e m
 
-ready_ends : (r : Readiness) (l : List NodeId) (d : SharedState) → deadline (ready_shared r l d) ≡ deadline d
-ready_ends Readiness.Ready l d = refl
-ready_ends (Readiness.Refused x) l d = refl
+ready_ends : (r : Result (Unit {0}) Refusal) (l : List NodeId) (d : SharedState) → deadline (ready_shared r l d) ≡ deadline d
+ready_ends (Ok tt) l d = refl
+ready_ends (Err x) l d = refl
 
 -- the block, after what was made ready
 pub block_is : (b : Bool) (m : Model) (end : ℕ) → end ≡ deadline m.shared → block_to end (readied b m).answer (readied b m).model ≡ prepared_if b m

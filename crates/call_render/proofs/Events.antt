@@ -3,12 +3,10 @@ use Prim.Native.Nat.{ℕ, suc, ◌+◌, ◌≤◌, ◌<◌}
 use native.Mathlib.Omega.{arith}
 use mathlib.Core.Path.{◌≡◌, refl, sym, ap, ap₂, ◌∙◌}
 use mathlib.Core.List.{List, [], ◌∷◌, ◌++◌, append_assoc, append-nil}
-use mathlib.Core.Option.{none, some}
+use Rattle.std.specs.Prelude.{Option, None, Some, find, is_some}
 use mathlib.Core.Bool.{Bool, true, false, cond, ◌||◌}
 use lib.ListN.{length, take, drop, get_or, set, length-set, drop_of_length-le, take-append-drop}
 use lib.Seq.{length-take-le, drop-drop, drop-set-lt}
-use Rattle.lists.specs.Filter.{put?}
-use Rattle.lists.specs.Find.{find}
 use Rattle.lists.proofs.Table.{left_row, append_row}
 use Rattle.node.specs.declared.record.Node.{Node}
 use Rattle.node.specs.declared.record.VoiceId.{VoiceId}
@@ -30,9 +28,8 @@ use Rattle.lists.specs.Written.{written}
 use Rattle.model.proofs.Outcomes.{count_is}
 use Rattle.model.specs.Render.{is_free, any_free, apply_event, apply_events, outcomes}
 use Rattle.model.specs.Voice.{is_voice}
-use Rattle.voice_rows.specs.Rows.{voice_of, voices_in}
+use Rattle.voice_rows.specs.Rows.{voices_in}
 use Rattle.voice_rows.specs.Found.{FoundAt}
-use Rattle.voice_rows.specs.declared.table.FoundRow.{FoundRow}
 use Rattle.memory.specs.declared.state.State.{State}
 use Rattle.memory.specs.View.{Memory, model_of}
 use Rattle.memory.specs.Lent.{lent_render, lent_voices, lent_events}
@@ -49,27 +46,15 @@ module _ (vs : List Voice) (w : VoiceId) (old : List ℕ) (count : ℕ) where
   abbrev l : List ℕ
   l = take count old
 
-  same : find (is_known l w) vs ≡ none → Noted vs w old count old count NoVoice
+  same : find (is_known l w) vs ≡ None → Noted vs w old count old count NoVoice
   same e = record { is = ap (λ x. noted x l w.0) (sym e); told = ap free_outcome (sym e); more = omega arith; long = refl }
 
   pub note_freed : listed l w.0 ≡ true → Noted vs w old count old count NoVoice
   note_freed h = same (freed_unknown l w vs h)
 
-  module _ (h : listed l w.0 ≡ false) (r : FoundRow) (rows : List Voice) (held : ℕ) (found : FoundAt r held rows (find (is_voice w) vs)) where
-    by : (b : Bool) → r.found ≡ b → find (is_known l w) vs ≡ cond b (some (get_or rows r.row (voice_of []))) none
-    by b t = others_known l w vs h ∙ sym found.is ∙ ap (λ b. cond b (some (get_or rows r.row (voice_of []))) none) t
-
-    pub note_unknown : r.found ≡ false → Noted vs w old count old count NoVoice
-    note_unknown t = same (by false t)
-
-    pub note_known : r.found ≡ true → count < length old → Noted vs w old count (set old count w.0) (count + 1) Applied
-    note_known t room =
-        record {
-          is = append_row old count w.0 room ∙ ap (λ x. noted x l w.0) (sym (by true t));
-          told = ap free_outcome (sym (by true t));
-          more = omega arith;
-          long = length-set old count w.0;
-        }
+  pub note_unknown : listed l w.0 ≡ false → (r : Option ℕ) (held : ℕ) (rows : List Voice) → FoundAt r held rows (find (is_voice w) vs) → is_some r ≡ false → Noted vs w old count old count NoVoice
+  note_unknown h None held rows found e = same (others_known l w vs h ∙ sym found.is)
+  note_unknown h (Some i) held rows found e = absurd (let z : ◌≡◌ {A = ℕ} 0 1 = cc in omega arith)
 
 -- ---- one event
 module _ (vs : List Voice) (e : Event) (ns : List Node) (old : List ℕ) (count : ℕ) where
@@ -125,16 +110,12 @@ module _ (deadline : ℕ) (rows : List Event) (n : ℕ) (vs : List Voice) (start
       pub many : taken + length (rest i) ≡ length (rest 0)
       pub later : drop taken list ≡ drop taken lent
 
-    pub events_start : (freed : List ℕ) → length freed ≡ 256 → EventsApplied start freed lent 0 0 0
-    events_start freed h =
-        record { passed = omega arith; few = omega arith; took = omega arith; long = h; wide = refl; left = λ d. refl; told = λ d. refl; many = omega arith; later = refl }
-
     module _ (d : Event) (ns : List Node) (freed list : List ℕ) (count taken i : ℕ) (g : EventsApplied ns freed list count taken i) (below : i < n) (top : n ≤ length rows) where
       abbrev e : Event
       e = get_or rows i d
 
-      split : (b : Bool) → due deadline e ≡ b → rest i ≡ put? b e (rest (i + 1))
-      split b t = ap (taken_before deadline) (left_row d rows n i below top) ∙ ap (λ b. put? b e (rest (i + 1))) t
+      split : (b : Bool) → due deadline e ≡ b → rest i ≡ cond b (e ∷ (rest (i + 1))) (rest (i + 1))
+      split b t = ap (taken_before deadline) (left_row d rows n i below top) ∙ ap (λ b. cond b (e ∷ (rest (i + 1))) (rest (i + 1))) t
 
       abbrev at : SharedState → Model
       at x = without_ids (take count freed) (scene x ns vs)
@@ -184,7 +165,7 @@ module _ (deadline : ℕ) (rows : List Event) (n : ℕ) (vs : List Voice) (start
 
     module _ (ns : List Node) (freed list : List ℕ) (count taken i : ℕ) (g : EventsApplied ns freed list count taken i) (h : n ≤ i) (top : n ≤ length rows) (room : n ≤ 256) (wide : 256 ≤ length lent) where
       many_done : taken ≡ length (rest 0)
-      many_done = let none : length (rest i) ≡ 0 = ap length (over i h top) in omega (arith, none, g.many)
+      many_done = let None : length (rest i) ≡ 0 = ap length (over i h top) in omega (arith, None, g.many)
 
       told_done : (d : SharedState) → list ≡ written (outcomes (rest 0) (scene d start vs)) lent
       told_done d =
@@ -209,14 +190,8 @@ module _ (deadline : ℕ) (rows : List Event) (n : ℕ) (vs : List Voice) (start
   Looking i = (i ≤ n) × (any_free (rest i) ≡ any_free (rest 0))
 
   module _ (d : Event) (i : ℕ) (g : Looking i) (below : i < n) (top : n ≤ length rows) where
-    part : (b : Bool) → due deadline (get_or rows i d) ≡ b → any_free (rest i) ≡ any_free (put? b (get_or rows i d) (rest (i + 1)))
-    part b t = ap any_free (ap (taken_before deadline) (left_row d rows n i below top) ∙ ap (λ b. put? b (get_or rows i d) (rest (i + 1))) t)
-
-    pub looking_off : due deadline (get_or rows i d) ≡ false → Looking (i + 1)
-    looking_off t = (omega arith, sym (part false t) ∙ g.1)
-
-    pub looking_on : due deadline (get_or rows i d) ≡ true → is_free (get_or rows i d).action ≡ false → Looking (i + 1)
-    looking_on t f = (omega arith, sym (part true t ∙ ap (λ b. b || any_free (rest (i + 1))) f) ∙ g.1)
+    part : (b : Bool) → due deadline (get_or rows i d) ≡ b → any_free (rest i) ≡ any_free (cond b ((get_or rows i d) ∷ (rest (i + 1))) (rest (i + 1)))
+    part b t = ap any_free (ap (taken_before deadline) (left_row d rows n i below top) ∙ ap (λ b. cond b ((get_or rows i d) ∷ (rest (i + 1))) (rest (i + 1))) t)
 
     pub looking_hit : due deadline (get_or rows i d) ≡ true → is_free (get_or rows i d).action ≡ true → true ≡ any_free (rest 0)
     looking_hit t f = sym (part true t ∙ ap (λ b. b || any_free (rest (i + 1))) f) ∙ g.1

@@ -4,15 +4,14 @@ use Prim.Native.Nat.{ℕ, ◌+◌}
 use mathlib.Core.Path.{◌≡◌, refl, sym, ap, ◌∙◌}
 use mathlib.Core.Logic.{inl, inr}
 use mathlib.Core.List.{List, [], ◌∷◌, ◌++◌, map}
-use mathlib.Core.Option.{Option, none, some}
+use Rattle.std.specs.Prelude.{Option, None, Some, filter, find, is_some}
 use mathlib.Core.Bool.{Bool, true, false, not, cond, ◌&&◌, false≢true}
 use lib.Dec.{eqb}
 use borrow.Author.Tests.{eqb-true, eq-eqb, ne_eqb, not-true}
 use Rattle.lists.specs.Member.{In}
 use Rattle.lists.proofs.Member.{and_left, and_right, map_same}
-use Rattle.lists.specs.Filter.{put?, filter}
 use Rattle.lists.proofs.Filter.{filter_all, filter_filter, filter_same, filter_map, in_filter}
-use Rattle.lists.specs.Find.{or?, find, is_some, filter_o}
+use Rattle.lists.specs.Find.{filter_o}
 use Rattle.lists.proofs.Find.{find_in, find_none}
 use Rattle.node.specs.declared.name.Name.{Name}
 use Rattle.node.specs.declared.order.LastOrder.{LastOrder}
@@ -40,16 +39,16 @@ find_and : {A : Type 0} (q t : A → Bool) (l : List A) → find q (filter t l) 
 find_and q t [] = refl
 find_and q t (x ∷ l) = go (t x) (find_and q t l)
   where
-    go : (b : Bool) → find q (filter t l) ≡ find (λ y. t y && q y) l → find q (put? b x (filter t l)) ≡ or? (b && q x) x (find (λ y. t y && q y) l)
-    go true ih = ap (or? (q x) x) ih
+    go : (b : Bool) → find q (filter t l) ≡ find (λ y. t y && q y) l → find q (cond b (x ∷ (filter t l)) (filter t l)) ≡ cond (b && q x) (Some x) (find (λ y. t y && q y) l)
+    go true ih = ap (λ o. cond (q x) (Some x) o) ih
     go false ih = ih
 
 listed_in : (w : ℕ) (l : List ℕ) → In w l → listed l w ≡ true
 listed_in w l i = go (find (λ k. eqb k w) l) refl
   where
     go : (o : Option ℕ) → find (λ k. eqb k w) l ≡ o → is_some o ≡ true
-    go none e = absurd (false≢true (sym (find_none (λ k. eqb k w) l w e i) ∙ eq-eqb w w refl))
-    go (some k) e = refl
+    go None e = absurd (false≢true (sym (find_none (λ k. eqb k w) l w e i) ∙ eq-eqb w w refl))
+    go (Some k) e = refl
 
 abbrev voice : ℕ → VoiceId
 voice w = record { 0 = w }
@@ -112,7 +111,7 @@ module _ (f : Node → Node) (ids : (n : Node) → (f n).id.0 ≡ n.id.0) where
   all_mapped (w ∷ l) own m = ap (without_ids l) (removed_mapped (voice w) (own w (inl refl)) m) ∙ all_mapped l (λ v i. own v (inr i)) (without_voice (voice w) m)
 
 -- ---- an order gives the node that it finds, and those of its id, another record
-module _ (l : List ℕ) (ns : List Node) (k : ℕ) (o : LastOrder) (n : Node) (found : find (is_left l (id k)) ns ≡ some n) where
+module _ (l : List ℕ) (ns : List Node) (k : ℕ) (o : LastOrder) (n : Node) (found : find (is_left l (id k)) ns ≡ Some n) where
   abbrev new : Node
   new = with_last o n
 
@@ -167,22 +166,22 @@ module _ (l : List ℕ) (d : SharedState) (ns : List Node) (vs : List Voice) whe
   with x = record { shared = x; voices = now.voices }
 
   way_node : (k : ℕ) (o : LastOrder) (x : Option Node) → find (is_left l (id k)) ns ≡ x → without_ids l (scene d (reply_node l x o ns).nodes vs) ≡ with (order_node x o now.shared).shared
-  way_node k o none e = refl
-  way_node k o (some n) e = go (takes o n)
+  way_node k o None e = refl
+  way_node k o (Some n) e = go (takes o n)
     where
       go : (b : Bool) → without_ids l (scene d (cond b (reply Applied (replaced_left l ns (with_last o n))) (reply NotTaken ns)).nodes vs) ≡ with (cond b (record { outcome = Applied; shared = with_node (with_last o n) now.shared }) (stays NotTaken now.shared)).shared
       go true = order_removed l ns k o n e d vs
       go false = refl
 
   way_param : (v : Voice) (o : LastOrder) (p : Option ℕ) → without_ids l (scene d (reply_param l p v o ns).nodes vs) ≡ with (order_param p v o now.shared).shared
-  way_param v o none = refl
-  way_param v o (some i) =
+  way_param v o None = refl
+  way_param v o (Some i) =
       way_node (v.first.0 + i) o (find (is_left l (id (v.first.0 + i))) ns) refl
       ∙ ap (λ x. with (order_node x o now.shared).shared) (sym (node_left (v.first.0 + i)))
 
   way_voice : (name : Name) (o : LastOrder) (x : Option Voice) → without_ids l (scene d (reply_voice l x name o ns).nodes vs) ≡ with (order_voice x name o now.shared).shared
-  way_voice name o none = refl
-  way_voice name o (some v) = way_param v o (param_node (param_rows v.params) name)
+  way_voice name o None = refl
+  way_voice name o (Some v) = way_param v o (param_node (param_rows v.params) name)
 
   -- a value or a glide
   pub way_order : (w : VoiceId) (name : Name) (o : LastOrder) → without_ids l (scene d (order_left l w name o vs ns).nodes vs) ≡ with (order w name o now.voices now.shared).shared
@@ -190,21 +189,21 @@ module _ (l : List ℕ) (d : SharedState) (ns : List Node) (vs : List Voice) whe
 
   -- what it answers
   say_node : (o : LastOrder) (x : Option Node) → (reply_node l x o ns).outcome ≡ (order_node x o now.shared).outcome
-  say_node o none = refl
-  say_node o (some n) = go (takes o n)
+  say_node o None = refl
+  say_node o (Some n) = go (takes o n)
     where
       go : (b : Bool) → (cond b (reply Applied (replaced_left l ns (with_last o n))) (reply NotTaken ns)).outcome ≡ (cond b (record { outcome = Applied; shared = with_node (with_last o n) now.shared }) (stays NotTaken now.shared)).outcome
       go true = refl
       go false = refl
 
   say_param : (v : Voice) (o : LastOrder) (p : Option ℕ) → (reply_param l p v o ns).outcome ≡ (order_param p v o now.shared).outcome
-  say_param v o none = refl
-  say_param v o (some i) =
+  say_param v o None = refl
+  say_param v o (Some i) =
       say_node o (find (is_left l (id (v.first.0 + i))) ns) ∙ ap (λ x. (order_node x o now.shared).outcome) (sym (node_left (v.first.0 + i)))
 
   say_voice : (name : Name) (o : LastOrder) (x : Option Voice) → (reply_voice l x name o ns).outcome ≡ (order_voice x name o now.shared).outcome
-  say_voice name o none = refl
-  say_voice name o (some v) = say_param v o (param_node (param_rows v.params) name)
+  say_voice name o None = refl
+  say_voice name o (Some v) = say_param v o (param_node (param_rows v.params) name)
 
   pub say_order : (w : VoiceId) (name : Name) (o : LastOrder) → (order_left l w name o vs ns).outcome ≡ (order w name o now.voices now.shared).outcome
   say_order w name o = say_voice name o (find (is_known l w) vs) ∙ ap (λ x. (order_voice x name o now.shared).outcome) (sym (voice_left w))
@@ -217,5 +216,5 @@ module _ (l : List ℕ) (d : SharedState) (ns : List Node) (vs : List Voice) whe
   way_free w = ap (λ x. without_ids (noted x l w.0) (scene d ns vs)) (sym (voice_left w)) ∙ go (find (is_voice w) now.voices) refl
     where
       go : (x : Option Voice) → find (is_voice w) now.voices ≡ x → without_ids (noted x l w.0) (scene d ns vs) ≡ freed x now
-      go none e = refl
-      go (some v) e = removed_more l w.0 (scene d ns vs) ∙ ap (λ z. without_voice (voice z) now) (sym (eqb-true v.id.0 w.0 (find_in (is_voice w) now.voices v e).1))
+      go None e = refl
+      go (Some v) e = removed_more l w.0 (scene d ns vs) ∙ ap (λ z. without_voice (voice z) now) (sym (eqb-true v.id.0 w.0 (find_in (is_voice w) now.voices v e).1))

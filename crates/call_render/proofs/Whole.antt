@@ -3,17 +3,14 @@ use Prim.Native.Nat.{ℕ, ◌+◌, ◌-◌, ◌≤◌, ◌<◌}
 use native.Mathlib.Omega.{arith}
 use mathlib.Core.Path.{◌≡◌, refl, sym, ap, ap₂, subst, ◌∙◌}
 use mathlib.Core.List.{List, []}
-use mathlib.Core.Option.{Option, none, some}
+use Rattle.std.specs.Prelude.{Option, None, Some, is_some, Result, Err, Ok}
 use mathlib.Core.Bool.{Bool, true, false, ◌&&◌, false≢true}
 use lib.Dec.{ltb}
 use lib.ListN.{length, take}
 use borrow.Author.Tests.{lt-ltb, le-ltb}
-use Rattle.lists.specs.Find.{is_some}
 use Rattle.node.specs.declared.refusal.Refusal.{Refusal}
 use Rattle.node.specs.declared.refusal.Refusal.TheVariants.{ClockEnd, ShortBuffer}
-use Rattle.prepare.specs.declared.Readiness.{Readiness}
 use Rattle.prepare.specs.Prepare as order
-use Rattle.graph.specs.Tables.{sink_of}
 use Rattle.scheduler.specs.Queue.{taken_before}
 use Rattle.store.specs.declared.answer.Rendered.{Rendered}
 use Rattle.model.specs.SharedState.{SharedState, sounding, with_clock}
@@ -45,45 +42,25 @@ module _ (s : State) (ns es os : List ℕ) where
   abbrev outcome : order.Outcome
   outcome = order.prepare (take s.nodes (nodes_in ns)) (take s.edges (edges_in es))
 
-  pub unready : (freed : Bool) → freed ≡ false → (a : Rendered) → a ≡ heard (s.prepared && is_some (sink_of s.sink)) → (m : Memory)
-      → heard_in (record { state = s; answer = a }) (lent_order s ns es os m) ≡ readied freed (model_of (lent_order s ns es os m))
-  unready freed t a e m =
-      ap (λ x. record { answer = x; model = model_of (lent_order s ns es os m) }) e ∙ ap (λ b. readied b (model_of (lent_order s ns es os m))) (sym t)
-
   module _ (freed : Bool) (t : freed ≡ true) (os' : List ℕ) (p : Prepared) (h : Prepares (take s.nodes (nodes_in ns)) (take s.edges (edges_in es)) os os' p) (m : Memory) where
     abbrev old : Model
     old = model_of (lent_order s ns es os m)
 
     -- by the answer of the prepare
-    abbrev by : Readiness → Heard
+    abbrev by : Result (Unit {0}) Refusal → Heard
     by a = record { answer = answer_after a (ready_shared a outcome.order old.shared); model = record { shared = ready_shared a outcome.order old.shared; voices = old.voices } }
 
-    pub ready_not : (x : Refusal) → p.answer ≡ Readiness.Refused x → heard_in (record { state = s; answer = Rendered.Unprepared x }) (lent_order s ns es os' m) ≡ readied freed old
-    ready_not x e =
-        ap (λ w. record { answer = Rendered.Unprepared x; model = model_of (lent_order s ns es w m) }) (h.kept x e)
-        ∙ ap by (sym e ∙ h.answer)
-        ∙ ap (λ b. readied b old) (sym t)
-
-    pub ready : p.answer ≡ Readiness.Ready → (u : State) → u ≡ ordered s p.count → (a : Rendered) → a ≡ heard (u.prepared && is_some (sink_of u.sink))
+    pub ready : p.answer ≡ Ok tt → (u : State) → u ≡ ordered s p.count → (a : Rendered) → a ≡ heard (u.prepared && is_some (u.sink))
         → heard_in (record { state = u; answer = a }) (lent_order u ns es os' m) ≡ readied freed old
     ready e u is a told =
         ap (λ x. record { answer = x; model = model_of (lent_order u ns es os' m) }) told
-        ∙ ap (λ (x : State). record { answer = heard (x.prepared && is_some (sink_of x.sink)); model = model_of (lent_order x ns es os' m) }) is
+        ∙ ap (λ (x : State). record { answer = heard (x.prepared && is_some (x.sink)); model = model_of (lent_order x ns es os' m) }) is
         ∙ ap (λ l. record {
-          answer = heard (is_some (sink_of s.sink));
-          model = record { shared = ready_shared Readiness.Ready l old.shared; voices = old.voices };
+          answer = heard (is_some (s.sink));
+          model = record { shared = ready_shared (Ok tt) l old.shared; voices = old.voices };
         }) h.order.is
         ∙ ap by (sym e ∙ h.answer)
         ∙ ap (λ b. readied b old) (sym t)
-
--- ---- the block
-pub block_left : (s : State) (vs vs' : List ℕ) (a : Rendered) (end : ℕ) (b : Bool) → b ≡ is_sounding a
-    → take s.voices (voices_in vs') ≡ moved_if b s.config.block (take s.voices (voices_in vs)) → (u : State) → u ≡ clocked s end → (m : Memory)
-    → heard_in (record { state = u; answer = a }) (lent_voice_table u vs' m) ≡ block_to end a (model_of (lent_voice_table s vs m))
-block_left s vs vs' a end b told moved u is m =
-    let old = model_of (lent_voice_table s vs m) in
-    ap (λ x. record { answer = a; model = model_of (lent_voice_table x vs' m) }) is
-    ∙ ap (λ l. record { answer = a; model = record { shared = with_clock end old.shared; voices = l } }) (moved ∙ ap (λ x. moved_if x s.config.block old.voices) told)
 
 -- ---- 15, and then 17
 refused_is : (m : Model) (out : List ℕ) (o : Option Refusal) → render_refusal m.shared (length out) ≡ o → render_step o out m ≡ step (call.render out) m
@@ -93,19 +70,11 @@ module _ (m : Memory) (out : List ℕ) where
   abbrev end : ℕ
   end = m.state.clock + m.state.config.block
 
-  pub render_ended : 18446744073709551615 - m.state.config.block < m.state.clock → Called (call.render out) m (rendered (Rendered.Refused ClockEnd) 0 out) m
-  render_ended h =
-      let over : 18446744073709551615 < end = omega arith in
-      refused_is (model_of m) out (some ClockEnd) (ap (λ b. when b ClockEnd (when (ltb (length out) 256) ShortBuffer none)) (lt-ltb 18446744073709551615 end over))
+  not_ended : (o : Option Refusal) → end ≤ 18446744073709551615 → when (ltb (length out) 256) ShortBuffer None ≡ o → render_refusal (model_of m).shared (length out) ≡ o
+  not_ended o fits e = ap (λ b. when b ClockEnd (when (ltb (length out) 256) ShortBuffer None)) (le-ltb 18446744073709551615 end fits) ∙ e
 
-  not_ended : (o : Option Refusal) → end ≤ 18446744073709551615 → when (ltb (length out) 256) ShortBuffer none ≡ o → render_refusal (model_of m).shared (length out) ≡ o
-  not_ended o fits e = ap (λ b. when b ClockEnd (when (ltb (length out) 256) ShortBuffer none)) (le-ltb 18446744073709551615 end fits) ∙ e
-
-  pub render_short : end ≤ 18446744073709551615 → length out < 256 → Called (call.render out) m (rendered (Rendered.Refused ShortBuffer) 0 out) m
-  render_short fits short = refused_is (model_of m) out (some ShortBuffer) (not_ended (some ShortBuffer) fits (ap (λ b. when b ShortBuffer none) (lt-ltb (length out) 256 short)))
-
-  taken_on : end ≤ 18446744073709551615 → 256 ≤ length out → render_step none out (model_of m) ≡ step (call.render out) (model_of m)
-  taken_on fits long = refused_is (model_of m) out none (not_ended none fits (ap (λ b. when b ShortBuffer none) (le-ltb (length out) 256 long)))
+  taken_on : end ≤ 18446744073709551615 → 256 ≤ length out → render_step None out (model_of m) ≡ step (call.render out) (model_of m)
+  taken_on fits long = refused_is (model_of m) out None (not_ended None fits (ap (λ b. when b ShortBuffer None) (le-ltb (length out) 256 long)))
 
 -- ---- no other refusal
 abbrev kept : Rendered → Bool
@@ -115,9 +84,9 @@ heard_kept : (b : Bool) → kept (heard b) ≡ false
 heard_kept true = refl
 heard_kept false = refl
 
-after_kept : (k : Readiness) (d : SharedState) → kept (answer_after k d) ≡ false
-after_kept Readiness.Ready d = heard_kept (sounding d)
-after_kept (Readiness.Refused y) d = refl
+after_kept : (k : Result (Unit {0}) Refusal) (d : SharedState) → kept (answer_after k d) ≡ false
+after_kept (Ok tt) d = heard_kept (sounding d)
+after_kept (Err y) d = refl
 
 readied_kept : (b : Bool) (m : Model) → kept (readied b m).answer ≡ false
 readied_kept true m = after_kept (prepare_outcome m.shared).answer (prepare_shared m.shared)

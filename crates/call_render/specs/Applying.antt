@@ -1,8 +1,6 @@
 -- What the due events leave: the records of the nodes, and the voices that are freed. These are noted first, and removed all together
 -- at the end (proofs/Freed.antt: that is the same as each at its event).
-use Rattle.std.specs.Prelude.{ℕ, ◌+◌, ◌≤◌, ◌≡◌, List, [], ◌∷◌, ◌++◌, length, take}
-use Rattle.std.proofs.Math.Option.{Option, none, some}
-use Rattle.lists.specs.Find.{find}
+use Rattle.std.specs.Prelude.{ℕ, ◌+◌, ◌≤◌, ◌≡◌, List, [], ◌∷◌, ◌++◌, length, take, Option, None, Some, find}
 use Rattle.node.specs.declared.record.Node.{Node}
 use Rattle.node.specs.declared.record.VoiceId.{VoiceId}
 use Rattle.graph.specs.View.{with_nodes}
@@ -24,8 +22,8 @@ scene d ns vs = record { shared = with_graph (with_nodes d.graph ns) d; voices =
 
 -- one voice more, if it is known
 abbrev pub noted : Option Voice → List ℕ → ℕ → List ℕ
-noted none l w = l
-noted (some v) l w = l ++ (w ∷ [])
+noted None l w = l
+noted (Some v) l w = l ++ (w ∷ [])
 
 pub record Noted (vs : List Voice) (w : VoiceId) (old : List ℕ) (count : ℕ) (new : List ℕ) (r : ℕ) (o : Outcome) : Type 0 where
   pub is : take r new ≡ noted (find (is_known (take count old) w) vs) (take count old) w.0

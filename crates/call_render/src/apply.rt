@@ -20,10 +20,7 @@ use voice_rows::table::find_voice;
 pub(crate) fn is_free(a: EventAction) -> bool
     ensures { result ≡ is_free a }
 {
-    match a {
-        EventAction::Free => true,
-        _ => false,
-    }
+    matches!(a, EventAction::Free)
 }
 
 // How many voices are noted after an event, and what became of it.
@@ -38,23 +35,16 @@ fn note(voices: &[u32], held: usize, freed: &mut [u64], count: usize, w: VoiceId
     requires { count < length freed.old }
     ensures { Noted (take held (voices_in voices.now)) w freed.old count freed.new result.count result.outcome }
 {
-    if is_listed(&freed[..count], w.0) {
+    if is_listed(&freed[..count], w.0) || find_voice(voices, held, w).is_none() {
         return EventResult {
             count,
             outcome: Outcome::NoVoice,
         };
     }
-    let v = find_voice(voices, held, w);
-    if v.found {
-        freed[count] = w.0;
-        return EventResult {
-            count: count + 1,
-            outcome: Outcome::Applied,
-        };
-    }
+    freed[count] = w.0;
     EventResult {
-        count,
-        outcome: Outcome::NoVoice,
+        count: count + 1,
+        outcome: Outcome::Applied,
     }
 }
 
@@ -70,14 +60,10 @@ pub(crate) fn apply_event(
     requires { count < length freed.old }
     ensures { EventApplied (take s.voices (voices_in voices.now)) e (take s.nodes (nodes_in nodes.old)) freed.old count (take s.nodes (nodes_in nodes.new)) freed.new result.count result.outcome }
 {
-    let w = e.voice;
-    let action = e.action;
-    if is_free(action) {
-        return note(voices, s.voices, freed, count, w);
+    if is_free(e.action) {
+        return note(voices, s.voices, freed, count, e.voice);
     }
     let p = param_order(e);
-    let name = p.name;
-    let order = p.order;
-    let outcome = order_voice(s, nodes, voices, &freed[..count], w, name, order);
+    let outcome = order_voice(s, nodes, voices, &freed[..count], e.voice, p.name, p.order);
     EventResult { count, outcome }
 }

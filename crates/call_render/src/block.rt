@@ -1,20 +1,16 @@
 // After the events: a prepare, if there was a free, and the block itself.
-ghost use Rattle.std.specs.Prelude.{◌≡◌, ◌&&◌, take};
-ghost use Rattle.lists.specs.Find.{is_some};
-ghost use Rattle.graph.specs.Tables.{sink_of};
+ghost use Rattle.std.specs.Prelude.{◌≡◌, ◌&&◌, take, is_some};
 ghost use Rattle.model.specs.Render.{heard, is_sounding, moved_if};
 ghost use Rattle.voice_rows.specs.Rows.{voices_in};
 ghost use Rattle.memory.specs.View.{Memory, model_of};
 ghost use Rattle.memory.specs.Lent.{lent_order, lent_voice_table};
 ghost use Rattle.call_render.specs.Blocks.{heard_in, readied, block_to};
 
-use graph::state::Sink;
 use graph_rows::edge_row::EdgeTable;
 use graph_rows::node_row::NodeTable;
 use memory::parts::{with_clock, with_order};
 use memory::state::State;
 use order_table::OrderTable;
-use prepare::Readiness;
 use store::answer::Rendered;
 use voice_rows::fade::move_fades;
 use voice_rows::row::VoiceTable;
@@ -26,27 +22,15 @@ pub(crate) struct Block {
     pub answer: Rendered,
 }
 
-fn has_sink(k: Sink) -> bool
-    ensures { result ≡ is_some (sink_of k) }
-{
-    match k {
-        Sink::Node(_) => true,
-        Sink::Nothing => false,
-    }
-}
-
 // What is heard: a prepared graph with a sink sounds.
 fn heard_of(s: State) -> Rendered
-    ensures { result ≡ heard (s.prepared && is_some (sink_of s.sink)) }
+    ensures { result ≡ heard (s.prepared && is_some s.sink) }
 {
-    if s.prepared {
-        let k = s.sink;
-        if has_sink(k) {
-            return Rendered::Sounding;
-        }
-        return Rendered::Silent;
+    if s.prepared && s.sink.is_some() {
+        Rendered::Sounding
+    } else {
+        Rendered::Silent
     }
-    Rendered::Silent
 }
 
 // Before the block: the graph is prepared, if there was a free.
@@ -60,17 +44,18 @@ pub(crate) fn readied(
     ensures { (m : Memory) → heard_in result (lent_order result.state nodes.now edges.now order.new m) ≡ readied freed (model_of (lent_order s nodes.now edges.now order.old m)) }
 {
     if !freed {
-        let answer = heard_of(s);
-        return Block { state: s, answer };
+        return Block {
+            state: s,
+            answer: heard_of(s),
+        };
     }
     let p = order_table::prepare(nodes, s.nodes, edges, s.edges, order);
-    let ready = p.answer;
-    match ready {
-        Readiness::Refused(r) => Block {
+    match p.answer {
+        Err(r) => Block {
             state: s,
             answer: Rendered::Unprepared(r),
         },
-        Readiness::Ready => {
+        Ok(()) => {
             let state = with_order(s, p.count);
             let answer = heard_of(state);
             Block { state, answer }
@@ -81,12 +66,7 @@ pub(crate) fn readied(
 fn is_sounding(a: Rendered) -> bool
     ensures { result ≡ is_sounding a }
 {
-    match a {
-        Rendered::Sounding => true,
-        Rendered::Silent => false,
-        Rendered::Unprepared(_) => false,
-        Rendered::Refused(_) => false,
-    }
+    matches!(a, Rendered::Sounding)
 }
 
 // The fades move by a block, if it sounds.
@@ -102,8 +82,7 @@ fn move_if(voices: &mut [u32], held: usize, sounding: bool, block: u64)
 pub(crate) fn block_to(s: State, voices: &mut VoiceTable, answer: Rendered, end: u64) -> Block
     ensures { (m : Memory) → heard_in result (lent_voice_table result.state voices.new m) ≡ block_to end answer (model_of (lent_voice_table s voices.old m)) }
 {
-    let config = s.config;
-    move_if(voices, s.voices, is_sounding(answer), config.block as u64);
+    move_if(voices, s.voices, is_sounding(answer), s.config.block as u64);
     let state = with_clock(s, end);
     Block { state, answer }
 }

@@ -16,7 +16,6 @@ use event_table::queue::{is_due, remove_due};
 use event_table::row::{EventTable, event_at};
 use graph_rows::edge_row::EdgeTable;
 use graph_rows::node_row::NodeTable;
-use lists::number::at_most;
 use memory::parts::with_events;
 use memory::state::State;
 use voice_rows::row::VoiceTable;
@@ -25,18 +24,9 @@ use voice_rows::row::VoiceTable;
 pub(crate) fn any_free(t: &[u32], count: usize, deadline: u64) -> bool
     ensures { result ≡ any_free (taken_before deadline (take count (events_in t.now))) }
 {
-    let n = at_most(count, t.len() / 15);
-    let mut i: usize = 0;
-    while i < n {
-        if is_due(t, i, deadline) {
-            let e = event_at(t, i);
-            let action = e.action;
-            if is_free(action) {
-                return true;
-            }
-            i += 1;
-        } else {
-            i += 1;
+    for i in 0..count.min(t.len() / 15) {
+        if is_due(t, i, deadline) && is_free(event_at(t, i).action) {
+            return true;
         }
     }
     false
@@ -54,29 +44,22 @@ fn apply_due(
     s: State,
     nodes: &mut NodeTable,
     voices: &VoiceTable,
-    t: &[u32],
+    t: &EventTable,
     deadline: u64,
-    freed: &mut [u64],
+    freed: &mut [u64; 256],
     out: &mut [u8],
 ) -> DueResult
-    requires { (length t.now ≡ 3840) × (length freed.old ≡ 256) × (256 ≤ length out.old) }
+    requires { 256 ≤ length out.old }
     ensures { Left (take s.nodes (nodes_in nodes.old)) (take s.voices (voices_in voices.now)) (taken_before deadline (take s.events (events_in t.now))) (take s.nodes (nodes_in nodes.new)) freed.new out.old out.new result.freed result.taken }
 {
-    let n = at_most(s.events, t.len() / 15);
-    let mut count: usize = 0;
-    let mut taken: usize = 0;
-    let mut i: usize = 0;
-    while i < n {
+    let mut count = 0;
+    let mut taken = 0;
+    for i in 0..s.events.min(256) {
         if is_due(t, i, deadline) {
-            let e = event_at(t, i);
-            let r = apply_event(s, nodes, voices, e, freed, count);
-            let outcome = r.outcome;
+            let r = apply_event(s, nodes, voices, event_at(t, i), freed, count);
             count = r.count;
-            out[taken] = outcome_number(outcome);
+            out[taken] = outcome_number(r.outcome);
             taken += 1;
-            i += 1;
-        } else {
-            i += 1;
         }
     }
     DueResult {
@@ -107,10 +90,9 @@ pub(crate) fn apply_events(
 {
     let mut freed = [0u64; 256];
     let due = apply_due(s, nodes, voices, events, deadline, &mut freed, out);
-    let count = due.freed;
     let rest = remove_due(events, s.events, deadline);
     let queued = with_events(s, rest);
-    let state = forget_voices(queued, nodes, edges, voices, &freed[..count]);
+    let state = forget_voices(queued, nodes, edges, voices, &freed[..due.freed]);
     EventsResult {
         state,
         taken: due.taken,

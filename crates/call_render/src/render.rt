@@ -37,8 +37,7 @@ pub fn render(
     ensures is { (m : Memory) → Called (call.render out.old) (lent_render s nodes.old edges.old order.old voices.old events.old m) (rendered result.answer result.taken out.new) (lent_render result.state nodes.new edges.new order.new voices.new events.new m) }
     ensures same { (m : Memory) → Kept (rendered result.answer result.taken out.new) (lent_render s nodes.old edges.old order.old voices.old events.old m) (lent_render result.state nodes.new edges.new order.new voices.new events.new m) }
 {
-    let config = s.config;
-    let block = config.block as u64;
+    let block = s.config.block as u64;
     if 18446744073709551615 - block < s.clock {
         return Rendering {
             state: s,
@@ -56,16 +55,11 @@ pub fn render(
     let end = s.clock + block;
     let frees = any_free(events, s.events, end);
     let after = apply_events(s, nodes, edges, voices, events, end, out);
-    let applied = after.state;
-    let ready = readied(applied, nodes, edges, order, frees);
-    let prepared = ready.state;
-    let heard = ready.answer;
-    let last = block_to(prepared, voices, heard, end);
-    let state = last.state;
-    let answer = last.answer;
+    let ready = readied(after.state, nodes, edges, order, frees);
+    let last = block_to(ready.state, voices, ready.answer, end);
     Rendering {
-        state,
-        answer,
+        state: last.state,
+        answer: last.answer,
         taken: after.taken,
     }
 }

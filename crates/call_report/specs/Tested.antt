@@ -1,7 +1,6 @@
 -- The tests of a report, asked of a row that was looked for: 4 "unknown or dead, or a voice's fade, pan or constant node", then 16
 -- "channels not 1 or 2, or samples not channels × block".
-use Rattle.std.specs.Prelude.{ℕ, List, [], Bool, not, cond, get_or}
-use Rattle.std.proofs.Math.Option.{Option, none, some}
+use Rattle.std.specs.Prelude.{ℕ, List, [], Bool, not, cond, get_or, Option, None, Some}
 use Rattle.node.specs.declared.record.Node.{Node}
 use Rattle.node.specs.declared.refusal.Refusal.{Refusal}
 use Rattle.node.specs.declared.refusal.Refusal.TheVariants.{UnknownNode, LentBlock}
@@ -12,8 +11,8 @@ use Rattle.graph_rows.specs.Node.{node_of}
 
 -- the node in row p, if one was found there
 abbrev pub row_or : Bool → ℕ → List Node → Option Node
-row_or live p ns = cond live (some (get_or ns p (node_of []))) none
+row_or live p ns = cond live (Some (get_or ns p (node_of []))) None
 
 -- `report_refusal` of the model, of a node that was looked for
 abbrev pub tested : List Voice → Option Node → ℕ → ℕ → ℕ → Option Refusal
-tested vs o block channels samples = when (not (reports vs o)) UnknownNode (when (not (lent_block block channels samples)) LentBlock none)
+tested vs o block channels samples = when (not (reports vs o)) UnknownNode (when (not (lent_block block channels samples)) LentBlock None)

@@ -6,12 +6,12 @@ ghost use Rattle.memory.specs.Called.{Called, Kept, answered};
 use crate::row::put_report;
 use crate::tests::report_test;
 use call_param::left::{copy_on, row_left};
-use graph::state::Answer;
 use graph_rows::node_row::NodeTable;
 use graph_tables::lookup::node_count;
 use level::level;
 use memory::state::State;
 use node::record::NodeId;
+use node::refusal::Refusal;
 use voice_rows::row::VoiceTable;
 
 // The block that a node wrote, channel by channel, and its done flag.
@@ -23,31 +23,24 @@ pub fn report(
     channels: usize,
     samples: &[f32],
     done: bool,
-) -> Answer
+) -> Result<(), Refusal>
     ensures is { (m : Memory) → Called (call.report node channels samples.now done) (lent_params s nodes.old voices.now m) (answered result) (lent_params s nodes.new voices.now m) }
     ensures same { (m : Memory) → Kept (answered result) (lent_params s nodes.old voices.now m) (lent_params s nodes.new voices.now m) }
 {
-    let nobody = [0u64; 1];
-    let config = s.config;
-    let k = node.0 as u64;
-    let p = row_left(nodes, s.nodes, k, &nobody[..0]);
+    let k = u64::from(node.0);
+    let p = row_left(nodes, s.nodes, k, &[]);
     let live = p < node_count(nodes, s.nodes);
-    let test = report_test(
+    report_test(
         nodes,
         live,
         p,
         voices,
         s.voices,
-        config.block,
+        s.config.block,
         channels,
         samples.len(),
-    );
-    match test {
-        Answer::Refused(r) => Answer::Refused(r),
-        Answer::Done => {
-            put_report(nodes, p, done, level(samples));
-            copy_on(nodes, s.nodes, p, k, &nobody[..0]);
-            Answer::Done
-        }
-    }
+    )?;
+    put_report(nodes, p, done, level(samples));
+    copy_on(nodes, s.nodes, p, k, &[]);
+    Ok(())
 }

@@ -1,13 +1,17 @@
 -- A call on a board, from whether the seal closes it and from what the console's or the store's own call promises.
-use Prim.Native.Nat.{ℕ, zero, suc, ◌≤◌, ◌<◌}
+use Prim.Native.Nat.{ℕ, ◌≤◌}
 use native.Mathlib.Omega.{arith}
-use mathlib.Core.Path.{◌≡◌, refl, sym, ap, ◌∙◌}
-use mathlib.Core.List.{List, [], ◌∷◌}
+use mathlib.Core.Path.{◌≡◌, refl, sym, ap, subst, ◌∙◌}
+use mathlib.Core.List.{List}
 use mathlib.Core.Bool.{Bool, true, false, not, cond, ◌&&◌, false≢true}
-use lib.Dec.{eqb, leb, ltb}
-use lib.ListN.{length, get_or, drop, drop_of_length-le}
-use borrow.Author.Tests.{leb-true, leb-false, le-leb, le-ltb, lt-ltb}
+use lib.Dec.{eqb, leb}
+use borrow.Author.Tests.{le-leb}
+use Rattle.std.specs.Prelude.{Ok, Err, Result}
 use Rattle.node.specs.declared.record.NodeId.{NodeId}
+use Rattle.node.specs.declared.refusal.Refusal.{Refusal}
+use Rattle.memory.specs.declared.state.State.{State}
+use Rattle.console.specs.declared.refusal.KeyboardRefusal.{KeyboardRefusal}
+use Rattle.call_seal.specs.declared.closing.BoardRefusal.{BoardRefusal}
 use Rattle.model.specs.Call.{Call, Answer, Step}
 use Rattle.model.specs.Call as call
 use Rattle.memory.specs.View.{Memory}
@@ -17,15 +21,14 @@ use Rattle.model.specs.Wish.{spawn_in, call_of}
 use Rattle.console.specs.Console.{ConsoleCall, ConsoleAnswer, ConsoleStep, plain, console_step}
 use Rattle.console.specs.Console as console
 use Rattle.call_console.specs.declared.queues.WishState.{WishState}
-use Rattle.call_console.specs.Queues.{wishes_of}
-use Rattle.call_console.specs.Called.{ConsoleMemory, memory, console_of, Called}
+use Rattle.call_console.specs.Called.{ConsoleMemory, console_of, Called, Kept, wish_answer}
 use Rattle.sealed.specs.declared.profile.Profile.{Profile}
 use Rattle.sealed.specs.declared.profile.Seal.{Seal}
 use Rattle.sealed.specs.declared.profile.Seal.TheVariants.{Unsealed, Sealed}
 use Rattle.sealed.specs.declared.refusal.SealRefusal.TheVariants.{NotAccepted, Closed}
 use Rattle.sealed.specs.Seal.{within, shuts}
-use Rattle.sealed.specs.Board.{BoardAnswer, on, seal, given, sealed, refused, closed, none_waits, sealable, refuses, passes}
-use Rattle.call_seal.specs.Board.{sealed_by, board, board_of, on_store, BoardCalled, BoardKept, is_sealed, shuts_spawn}
+use Rattle.sealed.specs.Board.{on, seal, given, sealed, refused, closed, sealable, refuses, passes}
+use Rattle.call_seal.specs.Board.{sealed_by, board, board_of, BoardCalled, BoardKept, is_sealed, shuts_spawn, opened, told_by, wished_answer}
 
 -- ---- the calls
 pub shut : (x : Seal) (c : ConsoleCall) (m : ConsoleMemory) → closed x c ≡ true → BoardCalled (on c) (sealed_by m x) (refused Closed) (sealed_by m x)
@@ -38,30 +41,27 @@ through x c m n a e h =
     let b = board_of (sealed_by m x) in
     ap (λ (t : ConsoleStep). passes t x) h ∙ sym (ap (λ t. cond t (refuses Closed b) (passes (console_step c (console_of m)) x)) e)
 
--- what the contract of a call of the store says on a board: f and g put the parts that the call was lent into the store
-abbrev Promised : Seal → Call → BoardAnswer → (Memory → Memory) → (Memory → Memory) → Type 0
-Promised x c a f g =
-    ((m : Memory) (w : WishState) (words : List ℕ) → BoardCalled (on_store c) (board (f m) w words x) a (board (g m) w words x))
-    × ((m : Memory) (w : WishState) (words : List ℕ) → BoardKept a (board (f m) w words x) (board (g m) w words x))
+-- what a call that no seal closes keeps is what the store's call keeps, or the console's
+pub kept_open : {A : Type 0} (say : Result A Refusal → Answer) (a : Result A Refusal) (r : Result A (BoardRefusal Refusal)) (lent : State → Memory) (s t : State) (m : Memory)
+    → (t ≡ s) × (r ≡ opened a) → store.Kept (say a) m (lent s)
+    → (w : WishState) (words : List ℕ) (x : Seal) → BoardKept (told_by (λ b. plain (say b)) r) (board m w words x) (board (lent t) w words x)
+kept_open {A = A} say a r lent s t m e kept w words x =
+    subst (λ b. BoardKept (told_by (λ b. plain (say b)) b) (board m w words x) (board (lent t) w words x)) (sym e.1)
+    (subst (λ u. BoardKept (told_by (λ b. plain (say b)) (opened a)) (board m w words x) (board (lent u) w words x)) (sym e.0) (go a kept))
+  where
+    go : (b : Result A Refusal) → store.Kept (say b) m (lent s) → BoardKept (told_by (λ b. plain (say b)) (opened b)) (board m w words x) (board (lent s) w words x)
+    go (Ok v) h = (refl, (refl, refl, h))
+    go (Err v) h = (refl, (refl, refl, h))
 
-pub shut_store : (x : Seal) (c : Call) (f : Memory → Memory) → closed x (console.on c) ≡ true → Promised x c (refused Closed) f f
-shut_store x c f e = (λ m w words. shut x (console.on c) (memory (f m) w words) e, λ m w words. refl)
-
-pub through_store : (x : Seal) (c : Call) (a : Answer) (f g : Memory → Memory) → closed x (console.on c) ≡ false
-    → ((m : Memory) → store.Called c (f m) a (g m)) → ((m : Memory) → store.Kept a (f m) (g m)) → Promised x c (given (plain a)) f g
-through_store x c a f g e is same = (
-  λ m w words.
-      through x (console.on c) (memory (f m) w words) (memory (g m) w words) (plain a) e
-      (ap (λ (s : Step). record { answer = plain s.answer; console = record { model = s.model; wishes = wishes_of w words } }) (is m)),
-  λ m w words. (refl, (refl, refl, same m)),
-)
+pub kept_wish : (a : Result (Unit {0}) KeyboardRefusal) (r : Result (Unit {0}) (BoardRefusal KeyboardRefusal)) (m n : ConsoleMemory) (x : Seal) → r ≡ opened a → Kept (wish_answer a) m n
+    → BoardKept (wished_answer r) (sealed_by m x) (sealed_by n x)
+kept_wish a r m n x e kept = subst (λ b. BoardKept (wished_answer b) (sealed_by m x) (sealed_by n x)) (sym e) (go a kept)
+  where
+    go : (b : Result (Unit {0}) KeyboardRefusal) → Kept (wish_answer b) m n → BoardKept (wished_answer (opened b)) (sealed_by m x) (sealed_by n x)
+    go (Ok v) h = (refl, h)
+    go (Err v) h = (refl, h)
 
 -- ---- what the tests come to
--- a call that every seal closes
-pub every_seal : (x : Seal) (c : Call) (b : Bool) → ((s : Profile) → shuts s c ≡ true) → b ≡ is_sealed x → closed x (console.on c) ≡ b
-every_seal Unsealed c b h e = sym e
-every_seal (Sealed s) c b h e = h s ∙ sym e
-
 -- a spawn and a wish for it: the seal closes both by one test
 pub spawn_closed : (x : Seal) (w : Wish) (b : Bool) → b ≡ shuts_spawn x w.managed w.bus w.def.nodes.count w.def.edges.count → closed x (console.on (call_of w)) ≡ b
 spawn_closed x w b e = same x ∙ sym e
@@ -95,19 +95,7 @@ shut_anyway (Sealed s) managed bus nodes edges e = go managed (eqb bus.0 s.bus.0
         let f : 0 ≤ s.def_edges = omega arith in
         absurd (false≢true (sym (ap (λ i. not (i && leb 0 s.def_edges)) (le-leb 0 s.def_nodes d) ∙ ap (λ i. not i) (le-leb 0 s.def_edges f)) ∙ h))
 
--- "not at most" is "more than"
-pub not_leb : (a b : ℕ) → ltb b a ≡ not (leb a b)
-not_leb a b = go (leb a b) refl
-  where
-    go : (t : Bool) → leb a b ≡ t → ltb b a ≡ not t
-    go true e = le-ltb b a (leb-true a b e)
-    go false e = lt-ltb b a (leb-false a b e)
-
 -- ---- sealing
-pub sealed_before : (x : Seal) (p : Profile) (m : ConsoleMemory) → is_sealed x ≡ true → BoardCalled (seal p) (sealed_by m x) (refused Closed) (sealed_by m x)
-sealed_before Unsealed p m e = absurd (false≢true e)
-sealed_before (Sealed s) p m e = refl
-
 pub sealed_now : (x : Seal) (p : Profile) (m : ConsoleMemory) → is_sealed x ≡ false → sealable p (console_of m) ≡ true → BoardCalled (seal p) (sealed_by m x) sealed (sealed_by m (Sealed p))
 sealed_now Unsealed p m e h = sym (ap (λ t. cond t (record { answer = sealed; board = board_of (sealed_by m (Sealed p)) }) (refuses NotAccepted (board_of (sealed_by m Unsealed)))) h)
 sealed_now (Sealed s) p m e h = absurd (false≢true (sym e))
@@ -115,20 +103,3 @@ sealed_now (Sealed s) p m e h = absurd (false≢true (sym e))
 pub not_sealed : (x : Seal) (p : Profile) (m : ConsoleMemory) → is_sealed x ≡ false → sealable p (console_of m) ≡ false → BoardCalled (seal p) (sealed_by m x) (refused NotAccepted) (sealed_by m x)
 not_sealed Unsealed p m e h = sym (ap (λ t. cond t (record { answer = sealed; board = board_of (sealed_by m (Sealed p)) }) (refuses NotAccepted (board_of (sealed_by m Unsealed)))) h)
 not_sealed (Sealed s) p m e h = absurd (false≢true (sym e))
-
--- ---- whether a wish waits: at the keyboards from q on
-pub none_here : (l : List (List Wish)) (q : ℕ) → length (get_or l q []) ≤ 0 → none_waits (drop (suc q) l) ≡ none_waits (drop q l)
-none_here [] zero h = refl
-none_here [] (suc q) h = refl
-none_here ([] ∷ l) zero h = refl
-none_here ((w ∷ x) ∷ l) zero h = absurd (omega arith)
-none_here (x ∷ l) (suc q) h = none_here l q h
-
-pub some_here : (l : List (List Wish)) (q : ℕ) → 0 < length (get_or l q []) → none_waits (drop q l) ≡ false
-some_here [] q h = absurd (omega arith)
-some_here ([] ∷ l) zero h = absurd (omega arith)
-some_here ((w ∷ x) ∷ l) zero h = refl
-some_here (x ∷ l) (suc q) h = some_here l q h
-
-pub none_past : (l : List (List Wish)) (q : ℕ) → length l ≤ q → none_waits (drop q l) ≡ true
-none_past l q h = ap none_waits (drop_of_length-le l h)

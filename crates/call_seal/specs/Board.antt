@@ -1,10 +1,10 @@
 -- What the contracts of a board's calls say: the console as it is lent, and beside it the seal, which goes by value.
-use Rattle.std.specs.Prelude.{ℕ, ◌≡◌, List, Bool, true, false, not, ◌&&◌, eqb, leb}
+use Rattle.std.specs.Prelude.{ℕ, ◌≡◌, List, Bool, true, false, not, ◌&&◌, eqb, leb, Ok, Err, Result}
 use Rattle.node.specs.declared.record.NodeId.{NodeId}
 use Rattle.model.specs.Call.{Call, spawned}
 use Rattle.memory.specs.View.{Memory}
 use Rattle.memory.specs.Called.{answered, add_answered}
-use Rattle.console.specs.Console.{plain}
+use Rattle.console.specs.Console.{ConsoleAnswer, plain}
 use Rattle.console.specs.Console as console
 use Rattle.call_console.specs.declared.queues.WishState.{WishState}
 use Rattle.call_console.specs.Called.{ConsoleMemory, memory, console_of, Kept, wish_answer}
@@ -13,12 +13,11 @@ use Rattle.sealed.specs.declared.profile.Seal.{Seal}
 use Rattle.sealed.specs.declared.profile.Seal.TheVariants.{Unsealed, Sealed}
 use Rattle.sealed.specs.declared.refusal.SealRefusal.TheVariants.{Closed}
 use Rattle.sealed.specs.Board.{Board, BoardCall, on, BoardAnswer, given, sealed, refused, BoardStep, board_step}
-use Rattle.call_seal.specs.declared.sealing.SealAnswer.{SealAnswer}
-use Rattle.call_seal.specs.declared.host.BoardAnswer as host
-use Rattle.call_seal.specs.declared.host.BoardAnswer.TheVariants as BoardHost
-use Rattle.call_seal.specs.declared.host.BoardNode.{BoardNode}
-use Rattle.call_seal.specs.declared.spawn.BoardSpawned.{BoardSpawned}
-use Rattle.call_seal.specs.declared.wishing.BoardWished.{BoardWished}
+use Rattle.node.specs.declared.record.VoiceId.{VoiceId}
+use Rattle.node.specs.declared.refusal.Refusal.{Refusal}
+use Rattle.console.specs.declared.refusal.KeyboardRefusal.{KeyboardRefusal}
+use Rattle.sealed.specs.declared.refusal.SealRefusal.{SealRefusal}
+use Rattle.call_seal.specs.declared.closing.BoardRefusal.{BoardRefusal}
 
 -- the board: the console, and the seal
 pub record BoardMemory : Type 0 where
@@ -50,25 +49,32 @@ BoardKept sealed m n = n.console ≡ m.console
 BoardKept (refused r) m n = n ≡ m
 
 -- ---- the answers in the theory's words
-abbrev pub seal_answer : SealAnswer → BoardAnswer
-seal_answer SealAnswer.Done = sealed
-seal_answer (SealAnswer.Refused r) = refused r
+abbrev pub seal_answer : Result (Unit {0}) SealRefusal → BoardAnswer
+seal_answer (Ok tt) = sealed
+seal_answer (Err r) = refused r
 
-abbrev pub host_answer : host.BoardAnswer → BoardAnswer
-host_answer BoardHost.Closed = refused Closed
-host_answer (BoardHost.Given a) = given (plain (answered a))
+-- what the store or the console gives, on a board that does not close the call
+abbrev pub opened : {A R : Type 0} → Result A R → Result A (BoardRefusal R)
+opened (Ok x) = Ok x
+opened (Err r) = Err (BoardRefusal.Given r)
 
-abbrev pub node_answer : BoardNode → BoardAnswer
-node_answer BoardNode.Closed = refused Closed
-node_answer (BoardNode.Given a) = given (plain (add_answered a))
+-- closed by the seal, or what `say` makes of what the store or the console gives
+abbrev pub told_by : {A R : Type 0} → (Result A R → ConsoleAnswer) → Result A (BoardRefusal R) → BoardAnswer
+told_by say (Ok x) = given (say (Ok x))
+told_by say (Err BoardRefusal.Closed) = refused Closed
+told_by say (Err (BoardRefusal.Given r)) = given (say (Err r))
 
-abbrev pub spawn_answer : BoardSpawned → BoardAnswer
-spawn_answer BoardSpawned.Closed = refused Closed
-spawn_answer (BoardSpawned.Given a) = given (plain (spawned a))
+abbrev pub host_answer : Result (Unit {0}) (BoardRefusal Refusal) → BoardAnswer
+host_answer = told_by (λ a. plain (answered a))
 
-abbrev pub wished_answer : BoardWished → BoardAnswer
-wished_answer BoardWished.Closed = refused Closed
-wished_answer (BoardWished.Given a) = given (wish_answer a)
+abbrev pub node_answer : Result NodeId (BoardRefusal Refusal) → BoardAnswer
+node_answer = told_by (λ a. plain (add_answered a))
+
+abbrev pub spawn_answer : Result VoiceId (BoardRefusal Refusal) → BoardAnswer
+spawn_answer = told_by (λ a. plain (spawned a))
+
+abbrev pub wished_answer : Result (Unit {0}) (BoardRefusal KeyboardRefusal) → BoardAnswer
+wished_answer = told_by wish_answer
 
 -- ---- the tests, by what they look at
 abbrev pub is_sealed : Seal → Bool

@@ -1,9 +1,37 @@
 // What a seal closes.
 ghost use Rattle.std.specs.Prelude.{◌≡◌};
-ghost use Rattle.call_seal.specs.Board.{is_sealed, leaves_out, shuts_spawn};
+ghost use Rattle.call_seal.specs.Board.{is_sealed, leaves_out, shuts_spawn, opened};
 
+use memory::state::CallResult;
 use node::record::NodeId;
+use node::refusal::Refusal;
 use sealed::profile::{Profile, Seal};
+
+// Why a call on a board is refused: the seal closes it, or for what the store or the console gives.
+#[derive(Clone, Copy)]
+pub enum BoardRefusal<R> {
+    Closed,
+    Given(R),
+}
+
+// What the store or the console gives, as the answer of a call that no seal closes.
+pub(crate) fn opened<A, R>(given: Result<A, R>) -> Result<A, BoardRefusal<R>>
+    ensures { result ≡ opened given }
+{
+    given.map_err(BoardRefusal::Given)
+}
+
+// The same of a call of the store, with the state that it left.
+pub(crate) fn open<A>(
+    given: CallResult<Result<A, Refusal>>,
+) -> CallResult<Result<A, BoardRefusal<Refusal>>>
+    ensures { (result.state ≡ given.state) × (result.answer ≡ opened given.answer) }
+{
+    CallResult {
+        state: given.state,
+        answer: opened(given.answer),
+    }
+}
 
 // Whether a board is sealed: host calls and sealing are then closed.
 pub(crate) fn is_sealed(x: Seal) -> bool
@@ -19,14 +47,7 @@ pub(crate) fn is_sealed(x: Seal) -> bool
 fn leaves_out(p: Profile, managed: bool, bus: NodeId, nodes: usize, edges: usize) -> bool
     ensures { result ≡ leaves_out p managed bus nodes edges }
 {
-    if managed {
-        if bus.0 == p.bus.0 {
-            if nodes as u64 <= p.def_nodes {
-                return p.def_edges < edges as u64;
-            }
-        }
-    }
-    true
+    !(managed && bus == p.bus && nodes as u64 <= p.def_nodes && edges as u64 <= p.def_edges)
 }
 
 // Whether the seal closes a spawn of so many nodes and edges on the bus, and a wish for it.

@@ -6,60 +6,30 @@ ghost use Rattle.memory.specs.Lent.{lent_nodes, lent_graph};
 ghost use Rattle.call_console.specs.declared.queues.WishState.{WishState};
 ghost use Rattle.call_seal.specs.Board.{board, on_store, BoardCalled, BoardKept, host_answer, node_answer};
 
-use crate::closing::is_sealed;
+use crate::closing::{BoardRefusal, is_sealed, open};
 use graph::host::HostNode;
-use graph::state::{AddAnswer, Answer};
 use graph_rows::edge_row::EdgeTable;
 use graph_rows::node_row::NodeTable;
-use memory::state::State;
+use memory::state::{CallResult, State, refuse};
 use node::record::{Edge, NodeId};
+use node::refusal::Refusal;
 use sealed::profile::Seal;
 
-// What a host call on a board is answered: that the seal closes it, or what the store gives.
-#[derive(Clone, Copy)]
-pub enum BoardAnswer {
-    Closed,
-    Given(Answer),
-}
-
-// The state that such a call left, and its answer.
-#[derive(Clone, Copy)]
-pub struct BoardHost {
-    pub state: State,
-    pub answer: BoardAnswer,
-}
-
-// The same of the call that gives a node id.
-#[derive(Clone, Copy)]
-pub enum BoardNode {
-    Closed,
-    Given(AddAnswer),
-}
-
-#[derive(Clone, Copy)]
-pub struct BoardAdded {
-    pub state: State,
-    pub answer: BoardNode,
-}
-
 // The host adds a node, unless the board is sealed.
-pub fn add_node(x: Seal, s: State, nodes: &mut NodeTable, kind: &[u8], n: HostNode) -> BoardAdded
+pub fn add_node(
+    x: Seal,
+    s: State,
+    nodes: &mut NodeTable,
+    kind: &[u8],
+    n: HostNode,
+) -> CallResult<Result<NodeId, BoardRefusal<Refusal>>>
     ensures is { (m : Memory) (w : WishState) (c : List ℕ) → BoardCalled (on_store (add_node kind.now n.ports n.required n.takes_values n.takes_glides)) (board (lent_nodes s nodes.old m) w c x) (node_answer result.answer) (board (lent_nodes result.state nodes.new m) w c x) }
     ensures same { (m : Memory) (w : WishState) (c : List ℕ) → BoardKept (node_answer result.answer) (board (lent_nodes s nodes.old m) w c x) (board (lent_nodes result.state nodes.new m) w c x) }
 {
     if is_sealed(x) {
-        return BoardAdded {
-            state: s,
-            answer: BoardNode::Closed,
-        };
+        return refuse(s, BoardRefusal::Closed);
     }
-    let result = call_host::host::add_node(s, nodes, kind, n);
-    let state = result.state;
-    let given = result.given;
-    BoardAdded {
-        state,
-        answer: BoardNode::Given(given),
-    }
+    open(call_host::host::add_node(s, nodes, kind, n))
 }
 
 // The host removes one of its nodes, unless the board is sealed.
@@ -69,43 +39,31 @@ pub fn remove_node(
     nodes: &mut NodeTable,
     edges: &mut EdgeTable,
     node: NodeId,
-) -> BoardHost
+) -> CallResult<Result<(), BoardRefusal<Refusal>>>
     ensures is { (m : Memory) (w : WishState) (c : List ℕ) → BoardCalled (on_store (remove_node node)) (board (lent_graph s nodes.old edges.old m) w c x) (host_answer result.answer) (board (lent_graph result.state nodes.new edges.new m) w c x) }
     ensures same { (m : Memory) (w : WishState) (c : List ℕ) → BoardKept (host_answer result.answer) (board (lent_graph s nodes.old edges.old m) w c x) (board (lent_graph result.state nodes.new edges.new m) w c x) }
 {
     if is_sealed(x) {
-        return BoardHost {
-            state: s,
-            answer: BoardAnswer::Closed,
-        };
+        return refuse(s, BoardRefusal::Closed);
     }
-    let result = call_host::host::remove_node(s, nodes, edges, node);
-    let state = result.state;
-    let given = result.answer;
-    BoardHost {
-        state,
-        answer: BoardAnswer::Given(given),
-    }
+    open(call_host::host::remove_node(s, nodes, edges, node))
 }
 
 // The output of `e.from` feeds the port `e.port` of `e.to`, unless the board is sealed.
-pub fn connect(x: Seal, s: State, nodes: &NodeTable, edges: &mut EdgeTable, e: Edge) -> BoardHost
+pub fn connect(
+    x: Seal,
+    s: State,
+    nodes: &NodeTable,
+    edges: &mut EdgeTable,
+    e: Edge,
+) -> CallResult<Result<(), BoardRefusal<Refusal>>>
     ensures is { (m : Memory) (w : WishState) (c : List ℕ) → BoardCalled (on_store (connect e.from e.to e.port)) (board (lent_graph s nodes.now edges.old m) w c x) (host_answer result.answer) (board (lent_graph result.state nodes.now edges.new m) w c x) }
     ensures same { (m : Memory) (w : WishState) (c : List ℕ) → BoardKept (host_answer result.answer) (board (lent_graph s nodes.now edges.old m) w c x) (board (lent_graph result.state nodes.now edges.new m) w c x) }
 {
     if is_sealed(x) {
-        return BoardHost {
-            state: s,
-            answer: BoardAnswer::Closed,
-        };
+        return refuse(s, BoardRefusal::Closed);
     }
-    let result = call_host::host::connect(s, nodes, edges, e);
-    let state = result.state;
-    let given = result.answer;
-    BoardHost {
-        state,
-        answer: BoardAnswer::Given(given),
-    }
+    open(call_host::host::connect(s, nodes, edges, e))
 }
 
 // Nothing feeds the port `port` of `to` any more, unless the board is sealed.
@@ -116,41 +74,28 @@ pub fn disconnect(
     edges: &mut EdgeTable,
     to: NodeId,
     port: u32,
-) -> BoardHost
+) -> CallResult<Result<(), BoardRefusal<Refusal>>>
     ensures is { (m : Memory) (w : WishState) (c : List ℕ) → BoardCalled (on_store (disconnect to port)) (board (lent_graph s nodes.now edges.old m) w c x) (host_answer result.answer) (board (lent_graph result.state nodes.now edges.new m) w c x) }
     ensures same { (m : Memory) (w : WishState) (c : List ℕ) → BoardKept (host_answer result.answer) (board (lent_graph s nodes.now edges.old m) w c x) (board (lent_graph result.state nodes.now edges.new m) w c x) }
 {
     if is_sealed(x) {
-        return BoardHost {
-            state: s,
-            answer: BoardAnswer::Closed,
-        };
+        return refuse(s, BoardRefusal::Closed);
     }
-    let result = call_host::host::disconnect(s, nodes, edges, to, port);
-    let state = result.state;
-    let given = result.answer;
-    BoardHost {
-        state,
-        answer: BoardAnswer::Given(given),
-    }
+    open(call_host::host::disconnect(s, nodes, edges, to, port))
 }
 
 // The host hears `node`, unless the board is sealed.
-pub fn set_sink(x: Seal, s: State, nodes: &NodeTable, node: NodeId) -> BoardHost
+pub fn set_sink(
+    x: Seal,
+    s: State,
+    nodes: &NodeTable,
+    node: NodeId,
+) -> CallResult<Result<(), BoardRefusal<Refusal>>>
     ensures is { (m : Memory) (w : WishState) (c : List ℕ) → BoardCalled (on_store (set_sink node)) (board (lent_nodes s nodes.now m) w c x) (host_answer result.answer) (board (lent_nodes result.state nodes.now m) w c x) }
     ensures same { (m : Memory) (w : WishState) (c : List ℕ) → BoardKept (host_answer result.answer) (board (lent_nodes s nodes.now m) w c x) (board (lent_nodes result.state nodes.now m) w c x) }
 {
     if is_sealed(x) {
-        return BoardHost {
-            state: s,
-            answer: BoardAnswer::Closed,
-        };
+        return refuse(s, BoardRefusal::Closed);
     }
-    let result = call_host::host::set_sink(s, nodes, node);
-    let state = result.state;
-    let given = result.answer;
-    BoardHost {
-        state,
-        answer: BoardAnswer::Given(given),
-    }
+    open(call_host::host::set_sink(s, nodes, node))
 }

@@ -15,31 +15,21 @@ use sealed::profile::{Profile, Seal};
 use sealed::refusal::SealRefusal;
 use voice_rows::row::VoiceTable;
 
-// What sealing is answered.
-#[derive(Clone, Copy)]
-pub enum SealAnswer {
-    Done,
-    Refused(SealRefusal),
-}
-
 // The seal that sealing left, and its answer.
 #[derive(Clone, Copy)]
 pub struct SealResult {
     pub seal: Seal,
-    pub answer: SealAnswer,
+    pub answer: Result<(), SealRefusal>,
 }
 
 // Whether no wish waits at any keyboard.
 fn none_waits(w: WishState) -> bool
     ensures { (c : List ℕ) → result ≡ none_waits (wishes_of w c).waits }
 {
-    let n = keyboard_count(w);
-    let mut q = 0;
-    while q < n {
+    for q in 0..keyboard_count(w) {
         if 0 < waiting_count(w, q) {
             return false;
         }
-        q += 1;
     }
     true
 }
@@ -60,19 +50,17 @@ pub fn seal(
     if is_sealed(x) {
         return SealResult {
             seal: x,
-            answer: SealAnswer::Refused(SealRefusal::Closed),
+            answer: Err(SealRefusal::Closed),
         };
     }
-    if fits_store(s, nodes, edges, voices, p) {
-        if none_waits(w) {
-            return SealResult {
-                seal: Seal::Sealed(p),
-                answer: SealAnswer::Done,
-            };
-        }
+    if fits_store(s, nodes, edges, voices, p) && none_waits(w) {
+        return SealResult {
+            seal: Seal::Sealed(p),
+            answer: Ok(()),
+        };
     }
     SealResult {
         seal: x,
-        answer: SealAnswer::Refused(SealRefusal::NotAccepted),
+        answer: Err(SealRefusal::NotAccepted),
     }
 }

@@ -7,30 +7,17 @@ ghost use Rattle.memory.specs.Lent.{lent_spawn};
 ghost use Rattle.call_console.specs.declared.queues.WishState.{WishState};
 ghost use Rattle.call_seal.specs.Board.{board, on_store, BoardCalled, BoardKept, spawn_answer};
 
-use crate::closing::shuts_spawn;
+use crate::closing::{BoardRefusal, open, shuts_spawn};
 use call_spawn::spawn::spawn_voice;
 use graph_rows::edge_row::EdgeTable;
 use graph_rows::node_row::NodeTable;
-use memory::state::State;
+use memory::state::{CallResult, State, refuse};
+use node::record::VoiceId;
+use node::refusal::Refusal;
 use sealed::profile::Seal;
 use steal_log::StealTable;
-use store::answer::Spawned;
 use store::wish::Wish;
 use voice_rows::row::VoiceTable;
-
-// What a spawn on a board is answered: that the seal closes it, or what the store gives.
-#[derive(Clone, Copy)]
-pub enum BoardSpawned {
-    Closed,
-    Given(Spawned),
-}
-
-// The state that a spawn left, and its answer.
-#[derive(Clone, Copy)]
-pub struct BoardSpawn {
-    pub state: State,
-    pub answer: BoardSpawned,
-}
 
 // The spawn that `w` is for, unless the seal closes it.
 pub fn spawn(
@@ -41,22 +28,12 @@ pub fn spawn(
     voices: &mut VoiceTable,
     steals: &mut StealTable,
     w: Wish,
-) -> BoardSpawn
+) -> CallResult<Result<VoiceId, BoardRefusal<Refusal>>>
     ensures is { (m : Memory) (p : WishState) (c : List ℕ) → BoardCalled (on_store (call_of w)) (board (lent_spawn s nodes.old edges.old voices.old steals.old m) p c x) (spawn_answer result.answer) (board (lent_spawn result.state nodes.new edges.new voices.new steals.new m) p c x) }
     ensures same { (m : Memory) (p : WishState) (c : List ℕ) → BoardKept (spawn_answer result.answer) (board (lent_spawn s nodes.old edges.old voices.old steals.old m) p c x) (board (lent_spawn result.state nodes.new edges.new voices.new steals.new m) p c x) }
 {
-    let bus = w.bus;
-    if shuts_spawn(x, w.managed, bus, w.def.nodes.count, w.def.edges.count) {
-        return BoardSpawn {
-            state: s,
-            answer: BoardSpawned::Closed,
-        };
+    if shuts_spawn(x, w.managed, w.bus, w.def.nodes.count, w.def.edges.count) {
+        return refuse(s, BoardRefusal::Closed);
     }
-    let result = spawn_voice(s, nodes, edges, voices, steals, w);
-    let state = result.state;
-    let given = result.answer;
-    BoardSpawn {
-        state,
-        answer: BoardSpawned::Given(given),
-    }
+    open(spawn_voice(s, nodes, edges, voices, steals, w))
 }

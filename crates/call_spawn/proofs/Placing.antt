@@ -3,11 +3,8 @@ use Prim.Native.Nat.{ℕ, zero, suc}
 use native.Mathlib.Omega.{arith}
 use mathlib.Core.Path.{◌≡◌, refl, sym, ap, ◌∙◌}
 use mathlib.Core.Bool.{false}
-use mathlib.Core.Option.{Option, none, some}
+use Rattle.std.specs.Prelude.{Option, None, Some}
 use Rattle.node.specs.declared.refusal.Refusal.TheVariants.{NoPort}
-use Rattle.edges.specs.Ports.{port_of}
-use Rattle.edges.specs.declared.ports.Port.{Port}
-use Rattle.voice.specs.declared.policy.Budget.{Budget}
 use Rattle.store.specs.declared.voices.Voice.{Voice}
 use Rattle.store.specs.declared.voices.VoiceState.{VoiceState}
 use Rattle.model.specs.Spawn.{Spawn, state_under, tries, next_out}
@@ -21,13 +18,13 @@ use Rattle.call_spawn.specs.Room.{place_under}
 
 module _ (x : Spawn) (s : VoiceState) (m : Model) where
   -- a port: the new voice stands there
-  place_port : (fuel p : ℕ) → port_free x.bus m ≡ some p → place fuel x s m ≡ instantiate x s p m
-  place_port zero p e = ap (λ o. instantiate_or o none x s m (refused NoPort)) e
+  place_port : (fuel p : ℕ) → port_free x.bus m ≡ Some p → place fuel x s m ≡ instantiate x s p m
+  place_port zero p e = ap (λ o. instantiate_or o None x s m (refused NoPort)) e
   place_port (suc k) p e = ap (λ o. instantiate_or o (next_out m.shared x.bus x.rank m.voices) x s m (λ j. place k x s j)) e
 
   -- no port, and no try left
-  place_over : port_free x.bus m ≡ none → place 0 x s m ≡ refused NoPort m
-  place_over e = ap (λ o. instantiate_or o none x s m (refused NoPort)) e
+  place_over : port_free x.bus m ≡ None → place 0 x s m ≡ refused NoPort m
+  place_over e = ap (λ o. instantiate_or o None x s m (refused NoPort)) e
 
 -- the new voice after what was reclaimed
 place_reclaimed : (x : Spawn) (s : VoiceState) (k : ℕ) (m : Model) → place k x s m ≡ place 0 x s (reclaimed k x.bus x.rank m)
@@ -36,43 +33,43 @@ place_reclaimed x s (suc k) m = go (port_free x.bus m) refl (next_out m.shared x
   where
     go : (o : Option ℕ) → port_free x.bus m ≡ o → (u : Option Voice) → ((j : Model) → place k x s j ≡ place 0 x s (reclaimed k x.bus x.rank j))
         → instantiate_or o u x s m (λ j. place k x s j) ≡ place 0 x s (go_on (if_none o u) m (λ j. reclaimed k x.bus x.rank j))
-    go (some p) e u ih = sym (place_port x s m 0 p e)
-    go none e none ih = sym (place_over x s m e)
-    go none e (some v) ih = ih (cut_off v v.state m)
+    go (Some p) e u ih = sym (place_port x s m 0 p e)
+    go None e None ih = sym (place_over x s m e)
+    go None e (Some v) ih = ih (cut_off v v.state m)
 
-module _ (x : Spawn) (s : VoiceState) (fuel : ℕ) (m n : Model) (p : Port) (made : Makes fuel x.bus x.rank m n p) where
-  pub places : (k : ℕ) → p ≡ Port.At k → instantiate x s k n ≡ place fuel x s m
+module _ (x : Spawn) (s : VoiceState) (fuel : ℕ) (m n : Model) (p : Option ℕ) (made : Makes fuel x.bus x.rank m n p) where
+  pub places : (k : ℕ) → p ≡ Some k → instantiate x s k n ≡ place fuel x s m
   places k e = sym (place_reclaimed x s fuel m ∙ ap (λ j. place 0 x s j) (sym made.is) ∙ place_port x s n 0 k (found (port_free x.bus n) (sym made.port ∙ e)))
     where
-      found : (o : Option ℕ) → port_of o ≡ Port.At k → o ≡ some k
-      found none h = let z : ◌≡◌ {A = ℕ} 0 1 = cc in absurd (omega arith)
-      found (some q) h = cc
+      found : (o : Option ℕ) → o ≡ Some k → o ≡ Some k
+      found None h = let z : ◌≡◌ {A = ℕ} 0 1 = cc in absurd (omega arith)
+      found (Some q) h = cc
 
-  pub places_not : p ≡ Port.Nothing → refused NoPort n ≡ place fuel x s m
+  pub places_not : p ≡ None → refused NoPort n ≡ place fuel x s m
   places_not e = sym (place_reclaimed x s fuel m ∙ ap (λ j. place 0 x s j) (sym made.is) ∙ place_over x s n (lost (port_free x.bus n) (sym made.port ∙ e)))
     where
-      lost : (o : Option ℕ) → port_of o ≡ Port.Nothing → o ≡ none
-      lost none h = refl
-      lost (some q) h = let z : ◌≡◌ {A = ℕ} 0 1 = cc in absurd (omega arith)
+      lost : (o : Option ℕ) → o ≡ None → o ≡ None
+      lost None h = refl
+      lost (Some q) h = let z : ◌≡◌ {A = ℕ} 0 1 = cc in absurd (omega arith)
 
 -- by what the budget allows
-pub under : (b : Budget) (x : Spawn) (m : Model) (fuel : ℕ) (s : VoiceState) → fuel ≡ tries b m.voices → s ≡ state_under b → place fuel x s m ≡ place_under b x m
+pub under : (b : Option ℕ) (x : Spawn) (m : Model) (fuel : ℕ) (s : VoiceState) → fuel ≡ tries b m.voices → s ≡ state_under b → place fuel x s m ≡ place_under b x m
 under b x m fuel s is-fuel is-s = ap (λ n. place n x s m) is-fuel ∙ ap (λ k. place (tries b m.voices) x k m) is-s
 
 -- ---- past the table's refusals and admission there is a voice, or 12
 pub place_free : (fuel : ℕ) (x : Spawn) (s : VoiceState) (m : Model) → keeps (number_in (spawned (place fuel x s m).answer)) ≡ false
 place_free zero x s m = go (port_free x.bus m)
   where
-    go : (o : Option ℕ) → keeps (number_in (spawned (instantiate_or o none x s m (refused NoPort)).answer)) ≡ false
-    go none = refl
-    go (some p) = refl
+    go : (o : Option ℕ) → keeps (number_in (spawned (instantiate_or o None x s m (refused NoPort)).answer)) ≡ false
+    go None = refl
+    go (Some p) = refl
 place_free (suc k) x s m = go (port_free x.bus m) (next_out m.shared x.bus x.rank m.voices) (place_free k x s)
   where
     go : (o : Option ℕ) (u : Option Voice) → ((j : Model) → keeps (number_in (spawned (place k x s j).answer)) ≡ false)
         → keeps (number_in (spawned (instantiate_or o u x s m (λ j. place k x s j)).answer)) ≡ false
-    go none none ih = refl
-    go none (some v) ih = ih (cut_off v v.state m)
-    go (some p) u ih = refl
+    go None None ih = refl
+    go None (Some v) ih = ih (cut_off v v.state m)
+    go (Some p) u ih = refl
 
 -- a spawn's answer and what it leaves, as a step
 abbrev pub step_of : SpawnResult → Step

@@ -3,12 +3,11 @@ use Prim.Native.Nat.{ℕ, zero, suc, ◌+◌, ◌≤◌}
 use native.Mathlib.Omega.{arith}
 use mathlib.Core.Path.{◌≡◌, refl}
 use mathlib.Core.Bool.{Bool, true, false, not, ◌||◌}
-use mathlib.Core.Option.{Option, none, some}
+use Rattle.std.specs.Prelude.{Option, None, Some, find, Err}
 use mathlib.Core.List.{List, []}
 use lib.Dec.{ltb, leb, eqb}
 use lib.ListN.{length, length-map}
 use borrow.Author.Tests.{ltb-false, leb-false, not-false}
-use Rattle.lists.specs.Find.{find}
 use Rattle.lists.proofs.Filter.{length_filter}
 use Rattle.node.specs.declared.record.NodeId.{NodeId}
 use Rattle.node.specs.declared.record.VoiceId.{VoiceId}
@@ -18,7 +17,6 @@ use Rattle.edges.specs.Ports.{port_from}
 use Rattle.graph.specs.Node.{node_at, ports_of}
 use Rattle.graph.specs.Refuse.{when, host_refusal}
 use Rattle.graph.specs.Tables.{answer_of}
-use Rattle.graph.specs.declared.state.Answer.TheVariants as Answer
 use Rattle.synthdef.specs.Limits.{allowed}
 use Rattle.synthdef.specs.declared.def.SynthDef.{SynthDef}
 use Rattle.store.specs.declared.voices.Voice.{Voice}
@@ -36,23 +34,23 @@ use Rattle.bus_room.specs.Reclaimed.{leaving, go_on, reclaimed}
 use Rattle.call_spawn.specs.Room.{Headroom, FadeRoom, Roomy, steal_found, steal}
 
 -- ---- what the refusals leave
-pub answer_some : (o : Option Refusal) (r : Refusal) → answer_of o ≡ Answer.Refused r → o ≡ some r
-answer_some none r e = let z : ◌≡◌ {A = ℕ} 0 1 = cc in absurd (omega arith)
-answer_some (some q) r e = cc
+pub answer_some : (o : Option Refusal) (r : Refusal) → answer_of o ≡ Err r → o ≡ Some r
+answer_some None r e = let z : ◌≡◌ {A = ℕ} 0 1 = cc in absurd (omega arith)
+answer_some (Some q) r e = cc
 
-when_none : (b : Bool) (r : Refusal) (rest : Option Refusal) → when b r rest ≡ none → (b ≡ false) × (rest ≡ none)
+when_none : (b : Bool) (r : Refusal) (rest : Option Refusal) → when b r rest ≡ None → (b ≡ false) × (rest ≡ None)
 when_none true r rest e = let z : ◌≡◌ {A = ℕ} 0 1 = cc in absurd (omega arith)
 when_none false r rest e = (refl, e)
 
-else_none : (o rest : Option Refusal) → or_else o rest ≡ none → rest ≡ none
-else_none none rest e = e
-else_none (some r) rest e = let z : ◌≡◌ {A = ℕ} 0 1 = cc in absurd (omega arith)
+else_none : (o rest : Option Refusal) → or_else o rest ≡ None → rest ≡ None
+else_none None rest e = e
+else_none (Some r) rest e = let z : ◌≡◌ {A = ℕ} 0 1 = cc in absurd (omega arith)
 
 or_none : (a b : Bool) → (a || b) ≡ false → (a ≡ false) × (b ≡ false)
 or_none true b e = let z : ◌≡◌ {A = ℕ} 0 1 = cc in absurd (omega arith)
 or_none false b e = (refl, e)
 
-pub roomy : (m : Model) (def : SynthDef) (bus : NodeId) (rank : ℕ) → spawn_refusal m.shared m.voices def bus rank ≡ none → Roomy def m
+pub roomy : (m : Model) (def : SynthDef) (bus : NodeId) (rank : ℕ) → spawn_refusal m.shared m.voices def bus rank ≡ None → Roomy def m
 roomy m def bus rank e =
     let d = m.shared in
     let vs = m.voices in
@@ -111,16 +109,16 @@ headroom_reclaimed def bus rank zero m h = h
 headroom_reclaimed def bus rank (suc k) m h = go (leaving bus rank m) (headroom_reclaimed def bus rank k)
   where
     go : (o : Option Voice) → ((j : Model) → Headroom def j → Headroom def (reclaimed k bus rank j)) → Headroom def (go_on o m (λ j. reclaimed k bus rank j))
-    go none ih = h
-    go (some v) ih = ih (cut_off v v.state m) (headroom_cut def v v.state m h)
+    go None ih = h
+    go (Some v) ih = ih (cut_off v v.state m) (headroom_cut def v v.state m h)
 
 -- a fade takes one node, one edge and one id
 roomy_steal : (def : SynthDef) (v : Voice) (m : Model) → Roomy def m → Headroom def (steal_voice v m)
 roomy_steal def v m r = go (port_from m.shared.graph.edges (feeder v) v.bus) refl
   where
     go : (o : Option ℕ) → port_from m.shared.graph.edges (feeder v) v.bus ≡ o → Headroom def (stolen v o m)
-    go none e = headroom_cut def v Tracked m (roomy_head def m r)
-    go (some p) e =
+    go None e = headroom_cut def v Tracked m (roomy_head def m r)
+    go (Some p) e =
         let ns = fade_nodes v p m.shared.graph in
         let es = fade_edges_lem v p m.shared.graph e in
         let vs = length-map m.voices (begin_fade v.id (fade_of m.shared)) in
@@ -134,8 +132,8 @@ pub roomy_stolen : (def : SynthDef) (w : VoiceId) (m : Model) → Roomy def m �
 roomy_stolen def w m r = go (find (is_voice w) m.voices)
   where
     go : (o : Option Voice) → Headroom def (steal_found o m)
-    go none = roomy_head def m r
-    go (some v) = roomy_steal def v m r
+    go None = roomy_head def m r
+    go (Some v) = roomy_steal def v m r
 
 -- ---- room is a matter of the tables that are lent. Some memory around them
 abbrev pub blank : State → Memory

@@ -1,4 +1,7 @@
 -- The new voice's record, and the store with it, by the parts that the code computes.
+use Rattle.std.specs.Prelude.{Result}
+use Rattle.node.specs.declared.refusal.Refusal.{Refusal}
+use Rattle.node.specs.declared.record.VoiceId.{VoiceId}
 use Prim.Native.Nat.{ℕ, ◌+◌, ◌≤◌}
 use native.Mathlib.Omega.{arith}
 use mathlib.Core.Path.{◌≡◌, ap, ◌∙◌}
@@ -19,7 +22,6 @@ use Rattle.model.specs.SharedState.{SharedState, with_spawned}
 use Rattle.model.specs.Voice.{id}
 use Rattle.model.specs.Spawn.{Spawn, pans, next_voice, new_voice, instantiate_graph, raised}
 use Rattle.model.specs.Model.{Model, SpawnResult, instantiate}
-use Rattle.store.specs.declared.answer.Spawned.{Spawned}
 use Rattle.voice_graph.specs.Added.{with_voice, regraphed}
 use Rattle.voice_graph.proofs.Room.{voice_room}
 use Rattle.call_spawn.specs.Room.{Headroom}
@@ -72,5 +74,5 @@ module _ (x : Spawn) (s : VoiceState) (p : ℕ) (m : Model) (room : Headroom x.d
       ap (λ l. seated l (d.spawned + 1) grown) (is-vs ∙ ap (λ k. pushed_voice k.voices v) all ∙ seat ∙ ap (λ k. m.voices ++ (k ∷ [])) is-v)
       ∙ ap (λ k. seated (m.voices ++ (new_voice x s p d ∷ [])) (d.spawned + 1) k) all
 
-abbrev pub spawned_in : Spawned → Model → SpawnResult
+abbrev pub spawned_in : Result VoiceId Refusal → Model → SpawnResult
 spawned_in a m = record { answer = a; model = m }

@@ -3,15 +3,13 @@ use Prim.Native.Nat.{ℕ}
 use native.Mathlib.Omega.{arith}
 use mathlib.Core.Path.{◌≡◌, refl, sym, ap, ◌∙◌}
 use mathlib.Core.Bool.{Bool, true, false, cond}
-use mathlib.Core.Option.{Option, none, some}
-use Rattle.lists.specs.Find.{find}
+use Rattle.std.specs.Prelude.{Option, None, Some, find, Result, Err}
 use Rattle.node.specs.declared.record.VoiceId.{VoiceId}
 use Rattle.node.specs.declared.refusal.Refusal.{Refusal}
 use Rattle.node.specs.declared.refusal.Refusal.TheVariants.{Rejected}
 use Rattle.edges.specs.Ports.{port_from}
 use Rattle.voice.specs.declared.policy.Admission.{Admission}
 use Rattle.voice.specs.declared.policy.Admission.TheVariants as admission
-use Rattle.store.specs.declared.answer.Spawned.{Spawned}
 use Rattle.store.specs.declared.voices.Voice.{Voice}
 use Rattle.store.specs.declared.voices.VoiceState.TheVariants.{Loose}
 use Rattle.model.specs.Refuse.{spawn_refusal}
@@ -25,8 +23,8 @@ use Rattle.call_spawn.specs.Room.{result_of, budget_for, admission_under, place_
 use Rattle.call_spawn.proofs.Placing.{step_of}
 
 -- a spawn that was refused, and left the memory n
-pub refused_in : (r : Refusal) (a : Spawned) (m n : Memory) → a ≡ Spawned.Refused r → n ≡ m → result_of a n ≡ refused r (model_of m)
-refused_in r a m n e f = ap (λ k. result_of k n) e ∙ ap (λ k. result_of (Spawned.Refused r) k) f
+pub refused_in : (r : Refusal) (a : Result VoiceId Refusal) (m n : Memory) → a ≡ Err r → n ≡ m → result_of a n ≡ refused r (model_of m)
+refused_in r a m n e f = ap (λ k. result_of k n) e ∙ ap (λ k. result_of (Err r) k) f
 
 module _ (x : Spawn) (m : Model) where
   abbrev tested : Option Refusal
@@ -43,30 +41,30 @@ module _ (x : Spawn) (m : Model) where
   spawn_step true = refl
   spawn_step false = refl
 
-  pub spawn_not : (t : Bool) (r : Refusal) → tested ≡ some r → refused r m ≡ spawn_for t
+  pub spawn_not : (t : Bool) (r : Refusal) → tested ≡ Some r → refused r m ≡ spawn_for t
   spawn_not true r e = sym (ap (λ o. unless o m (admitted (admission_on x.bus x.rank m) x m)) e)
   spawn_not false r e = sym (ap (λ o. unless o m (place 0 x Loose m)) e)
 
-  managed_on : tested ≡ none → (a : Admission) → a ≡ met true → admitted a x m ≡ spawn_managed x m
+  managed_on : tested ≡ None → (a : Admission) → a ≡ met true → admitted a x m ≡ spawn_managed x m
   managed_on e a is = ap (λ k. admitted k x m) is ∙ sym (ap (λ o. unless o m (admitted (admission_on x.bus x.rank m) x m)) e)
 
-  pub spawn_rejected : (t : Bool) → tested ≡ none → admission.Reject ≡ met t → refused Rejected m ≡ spawn_for t
+  pub spawn_rejected : (t : Bool) → tested ≡ None → admission.Reject ≡ met t → refused Rejected m ≡ spawn_for t
   spawn_rejected true e is = managed_on e admission.Reject is
   spawn_rejected false e is = let z : ◌≡◌ {A = ℕ} 0 1 = cc in absurd (omega arith)
 
-  pub spawn_admitted : (t : Bool) → tested ≡ none → admission.Admit ≡ met t → place_under (budget_for t m.shared.config.budget) x m ≡ spawn_for t
+  pub spawn_admitted : (t : Bool) → tested ≡ None → admission.Admit ≡ met t → place_under (budget_for t m.shared.config.budget) x m ≡ spawn_for t
   spawn_admitted true e is = managed_on e admission.Admit is
   spawn_admitted false e is = sym (ap (λ o. unless o m (place 0 x Loose m)) e)
 
   -- a steal leaves the store's budget
   under_stolen : (o : Option Voice) → place_under m.shared.config.budget x (steal_found o m) ≡ steal_then o x m
-  under_stolen none = refl
-  under_stolen (some v) = go (port_from m.shared.graph.edges (feeder v) v.bus)
+  under_stolen None = refl
+  under_stolen (Some v) = go (port_from m.shared.graph.edges (feeder v) v.bus)
     where
       go : (p : Option ℕ) → place_under m.shared.config.budget x (stolen v p m) ≡ place_within_budget x (stolen v p m)
-      go none = refl
-      go (some q) = refl
+      go None = refl
+      go (Some q) = refl
 
-  pub spawn_stolen : (t : Bool) (place : ℕ) (w : VoiceId) → tested ≡ none → admission.Steal place w ≡ met t → place_under (budget_for t m.shared.config.budget) x (steal w m) ≡ spawn_for t
+  pub spawn_stolen : (t : Bool) (place : ℕ) (w : VoiceId) → tested ≡ None → admission.Steal place w ≡ met t → place_under (budget_for t m.shared.config.budget) x (steal w m) ≡ spawn_for t
   spawn_stolen true place w e is = under_stolen (find (is_voice w) m.voices) ∙ managed_on e (admission.Steal place w) is
   spawn_stolen false place w e is = let z : ◌≡◌ {A = ℕ} 0 1 = cc in absurd (omega arith)

@@ -2,12 +2,11 @@
 use Prim.Native.Nat.{ℕ}
 use mathlib.Core.Path.{◌≡◌, sym, ap, ◌∙◌}
 use mathlib.Core.List.{List, map}
-use mathlib.Core.Bool.{Bool, true, false}
-use mathlib.Core.Option.{Option, none, some}
+use mathlib.Core.Bool.{true, false}
+use Rattle.std.specs.Prelude.{Option, None, Some, find, option_map}
 use lib.Dec.{eqb}
 use borrow.Author.Tests.{eqb-true}
 use Rattle.lists.proofs.Member.{and_left}
-use Rattle.lists.specs.Find.{find, or?, map_o}
 use Rattle.lists.proofs.Find.{find_in}
 use Rattle.node.specs.declared.record.NodeId.{NodeId}
 use Rattle.node.specs.declared.record.VoiceId.{VoiceId}
@@ -47,28 +46,23 @@ pub cuts : (v : Voice) (m told : Model) → told ≡ restolen (recorded v true m
 cuts v m told is-told w is-w = ap (λ k. without_voice k told) is-w ∙ ap (without_voice v.id) is-told
 
 -- the voice that was looked for
-pub found_id : (w : VoiceId) (l : List Voice) (v : Voice) → find (is_voice w) l ≡ some v → w ≡ v.id
+pub found_id : (w : VoiceId) (l : List Voice) (v : Voice) → find (is_voice w) l ≡ Some v → w ≡ v.id
 found_id w l v e = ap named (sym (eqb-true v.id.0 w.0 (find_in (is_voice w) l v e).1))
   where
     named : ℕ → VoiceId
     named k = record { 0 = k }
 
 -- ---- which of the two: the edge by which the victim feeds its bus
-module _ (v : Voice) (m : Model) (k : ℕ) (bus : NodeId) (found : Bool) (x : Edge) (at : k ≡ (feeder v).0) (on : bus ≡ v.bus)
-    (seen : or? found x none ≡ find (feeds (id k) bus) m.shared.graph.edges) where
-  looked : find (feeds (feeder v) v.bus) m.shared.graph.edges ≡ or? found x none
+module _ (v : Voice) (m : Model) (k : ℕ) (bus : NodeId) (at : k ≡ (feeder v).0) (on : bus ≡ v.bus) (r : Option Edge)
+    (seen : r ≡ find (feeds (id k) bus) m.shared.graph.edges) where
+  looked : find (feeds (feeder v) v.bus) m.shared.graph.edges ≡ r
   looked = ap (λ b. find (feeds (feeder v) b) m.shared.graph.edges) (sym on) ∙ ap (λ j. find (feeds (id j) bus) m.shared.graph.edges) (sym at) ∙ sym seen
 
-  pub feeds_none : found ≡ false → cut_off v Tracked m ≡ steal_voice v m
-  feeds_none h =
-      let is : find (feeds (feeder v) v.bus) m.shared.graph.edges ≡ none = looked ∙ ap (λ b. or? b x none) h in
-      ap (λ (o : Option Edge). stolen v (map_o (λ (e : Edge). e.port) o) m) (sym is)
+  pub feeds_none : r ≡ None → cut_off v Tracked m ≡ steal_voice v m
+  feeds_none e = ap (λ (o : Option Edge). stolen v (option_map (λ (e : Edge). e.port) o) m) (sym (looked ∙ e))
 
-  is_edge_lem : found ≡ true → find (feeds (feeder v) v.bus) m.shared.graph.edges ≡ some x
-  is_edge_lem t = looked ∙ ap (λ b. or? b x none) t
+  pub feeds_from : (x : Edge) → r ≡ Some x → x.from ≡ feeder v
+  feeds_from x e = ap id (eqb-true x.from.0 (feeder v).0 (and_left (eqb x.from.0 (feeder v).0) _ (find_in (feeds (feeder v) v.bus) m.shared.graph.edges x (looked ∙ e)).1))
 
-  pub feeds_from : found ≡ true → x.from ≡ feeder v
-  feeds_from t = ap id (eqb-true x.from.0 (feeder v).0 (and_left (eqb x.from.0 (feeder v).0) _ (find_in (feeds (feeder v) v.bus) m.shared.graph.edges x (is_edge_lem t)).1))
-
-  pub feeds_one : found ≡ true → fade v x.port m ≡ steal_voice v m
-  feeds_one t = ap (λ (o : Option Edge). stolen v (map_o (λ (e : Edge). e.port) o) m) (sym (is_edge_lem t))
+  pub feeds_one : (x : Edge) → r ≡ Some x → fade v x.port m ≡ steal_voice v m
+  feeds_one x e = ap (λ (o : Option Edge). stolen v (option_map (λ (e : Edge). e.port) o) m) (sym (looked ∙ e))

@@ -1,5 +1,4 @@
-ghost use Rattle.std.specs.Prelude.{◌≡◌, ◌||◌, ◌+◌, ltb, leb, length, take};
-ghost use Rattle.std.proofs.Math.Option.{none};
+ghost use Rattle.std.specs.Prelude.{◌≡◌, ◌||◌, ◌+◌, ltb, leb, length, take, None};
 ghost use Rattle.graph.specs.Tables.{answer_of};
 ghost use Rattle.graph_rows.specs.Node.{nodes_in};
 ghost use Rattle.graph_rows.specs.Edge.{edges_in};
@@ -9,7 +8,6 @@ ghost use Rattle.memory.specs.View.{Memory, shared_of};
 ghost use Rattle.memory.specs.Lent.{lent_voices};
 ghost use Rattle.call_spawn.specs.Room.{bus_brief, room_refusal};
 
-use graph::state::Answer;
 use graph_rows::edge_row::EdgeTable;
 use graph_rows::node_row::{Brief, NodeTable};
 use graph_tables::lookup::{brief_of, node_count};
@@ -26,109 +24,82 @@ use voice_rows::table::voice_count;
 fn is_over(limit: u64, held: u64, more: u64, spare: u64) -> bool
     ensures { result ≡ ltb limit (held + more + spare) }
 {
-    if limit < spare {
-        return true;
-    }
-    if limit - spare < more {
-        return true;
-    }
-    limit - spare - more < held
+    u128::from(limit) < u128::from(held) + u128::from(more) + u128::from(spare)
 }
 
 // Headroom: the new voice's nodes and edges, what a pan and a fade add, and a place among the voices.
 fn no_headroom(nodes: usize, edges: usize, voices: usize, ns: usize, es: usize) -> bool
     ensures { result ≡ (ltb 512 (nodes + ns + 3) || (ltb 1024 (edges + es + 4) || leb 64 voices)) }
 {
-    if is_over(512, nodes as u64, ns as u64, 3) {
-        return true;
-    }
-    if is_over(1024, edges as u64, es as u64, 4) {
-        return true;
-    }
-    64 <= voices
+    is_over(512, nodes as u64, ns as u64, 3)
+        || is_over(1024, edges as u64, es as u64, 4)
+        || 64 <= voices
 }
 
 // Whether the node ids or the voice ids do not suffice.
 fn no_ids(next: u64, ns: usize, spawned: u64) -> bool
     ensures { result ≡ (ltb 4294967296 (next + ns + 3) || leb 18446744073709551615 spawned) }
 {
-    if is_over(4294967296, next, ns as u64, 3) {
-        return true;
-    }
-    18446744073709551615 <= spawned
+    is_over(4294967296, next, ns as u64, 3) || spawned == u64::MAX
 }
 
 // The bus lives, is the host's and has ports: 4, 5, 10.
-fn bus_test(bus: Brief) -> Answer
+fn bus_test(bus: Option<Brief>) -> Result<(), Refusal>
     ensures { result ≡ answer_of (bus_brief bus) }
 {
-    let test = host_test(bus);
-    match test {
-        Answer::Refused(_) => test,
-        Answer::Done => {
-            if bus.ports == 0 {
-                return Answer::Refused(Refusal::BusWithoutPorts);
-            }
-            Answer::Done
-        }
+    host_test(bus)?;
+    if bus.is_some_and(|node| node.ports == 0) {
+        return Err(Refusal::BusWithoutPorts);
     }
+    Ok(())
 }
 
-// The tables have room for the new voice, and the ids last: 7, 8.
-fn room_test(s: State, nodes: usize, edges: usize, voices: usize, ns: usize, es: usize) -> Answer
-    ensures { result ≡ answer_of (room_refusal nodes edges voices s.next s.spawned ns es) }
-{
-    if no_headroom(nodes, edges, voices, ns, es) {
-        return Answer::Refused(Refusal::TableFull);
-    }
-    if no_ids(s.next, ns, s.spawned) {
-        return Answer::Refused(Refusal::IdsUsedUp);
-    }
-    Answer::Done
-}
-
-// Whether there is room in these tables for a definition of `ns` nodes and `es` edges.
-fn tables_test(
+// The tables have room for a definition of `ns` nodes and `es` edges, and the ids last: 7, 8.
+fn room_test(
     s: State,
     nodes: &NodeTable,
     edges: &EdgeTable,
     voices: &VoiceTable,
     ns: usize,
     es: usize,
-) -> Answer
+) -> Result<(), Refusal>
     ensures { result ≡ answer_of (room_refusal (length (take s.nodes (nodes_in nodes.now))) (length (take s.edges (edges_in edges.now))) (length (take s.voices (voices_in voices.now))) s.next s.spawned ns es) }
 {
     let n = node_count(nodes, s.nodes);
     let e = edge_count(edges, s.edges);
     let v = voice_count(voices, s.voices);
-    room_test(s, n, e, v, ns, es)
+    if no_headroom(n, e, v, ns, es) {
+        return Err(Refusal::TableFull);
+    }
+    if no_ids(s.next, ns, s.spawned) {
+        return Err(Refusal::IdsUsedUp);
+    }
+    Ok(())
 }
 
-// Why a spawn is refused before anything changes, or `Done`. The bus is read once.
+// Why a spawn is refused before anything changes, if it is. The bus is read once.
 pub fn spawn_refusal(
     s: State,
     nodes: &NodeTable,
     edges: &EdgeTable,
     voices: &VoiceTable,
     w: Wish,
-) -> Answer
+) -> Result<(), Refusal>
     ensures { (m : Memory) → result ≡ answer_of (spawn_refusal (shared_of (lent_voices s nodes.now edges.now voices.now m)) (take s.voices (voices_in voices.now)) w.def w.bus w.rank) }
 {
     if 7 < w.rank {
-        return Answer::Refused(Refusal::RankTooHigh);
+        return Err(Refusal::RankTooHigh);
     }
-    let def = w.def;
-    let bus = w.bus;
-    if !allowed(def) {
-        return Answer::Refused(Refusal::DefinitionLimits);
+    if !allowed(w.def) {
+        return Err(Refusal::DefinitionLimits);
     }
-    let test = bus_test(brief_of(nodes, s.nodes, bus));
-    match test {
-        Answer::Refused(_) => test,
-        Answer::Done => {
-            let ns = def.nodes;
-            let es = def.edges;
-            tables_test(s, nodes, edges, voices, ns.count, es.count)
-        }
-    }
+    bus_test(brief_of(nodes, s.nodes, w.bus))?;
+    room_test(
+        s,
+        nodes,
+        edges,
+        voices,
+        w.def.nodes.count,
+        w.def.edges.count,
+    )
 }

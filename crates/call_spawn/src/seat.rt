@@ -6,15 +6,13 @@ ghost use Rattle.memory.specs.View.{Memory, shared_of, model_of};
 ghost use Rattle.memory.specs.Lent.{lent_nodes, lent_voices};
 ghost use Rattle.call_spawn.specs.Room.{Headroom, result_of, NewIds};
 
-use crate::spawn::Spawning;
 use graph_rows::edge_row::EdgeTable;
 use graph_rows::node_row::NodeTable;
 use graph_tables::noise::{noise_of, raise_noise};
-use lists::number::at_most;
 use memory::parts::{with_spawned, with_voices};
-use memory::state::State;
+use memory::state::{CallResult, State};
 use node::record::{NodeId, VoiceId};
-use store::answer::Spawned;
+use node::refusal::Refusal;
 use store::voices::{Voice, VoiceState};
 use store::wish::Wish;
 use synthdef::instance::id_after;
@@ -27,7 +25,7 @@ use voice_rows::table::push_voice;
 fn pans(pan: f32) -> bool
     ensures { result ≡ pans pan }
 {
-    !(pan == 0.0)
+    pan != 0.0
 }
 
 // The record of the new voice, which gets the noise sequence of its bus.
@@ -35,30 +33,21 @@ fn new_voice(s: State, nodes: &NodeTable, w: Wish, state: VoiceState, port: u32)
     requires { NewIds w.def s.next s.spawned }
     ensures { (m : Memory) → result ≡ new_voice (spawn_in w) state port (shared_of (lent_nodes s nodes.now m)) }
 {
-    let def = w.def;
-    let bus = w.bus;
-    let ns = def.nodes;
-    let count = at_most(ns.count, 24) as u32;
-    let params = def.params;
-    let plan = done_plan(def);
     let first = NodeId(s.next as u32);
-    let output = id_after(first, def.output);
-    let panned = pans(w.pan);
-    let sequence = noise_of(nodes, s.nodes, bus);
     Voice {
         id: VoiceId(s.spawned + 1),
         birth: s.clock,
-        bus,
+        bus: w.bus,
         port,
         first,
-        count,
-        output,
-        panned,
-        sequence,
+        count: w.def.nodes.count.min(24) as u32,
+        output: id_after(first, w.def.output),
+        panned: pans(w.pan),
+        sequence: noise_of(nodes, s.nodes, w.bus),
         rank: w.rank,
         state,
-        params,
-        plan,
+        params: w.def.params,
+        plan: done_plan(w.def),
     }
 }
 
@@ -71,22 +60,17 @@ pub(crate) fn seat_voice(
     w: Wish,
     state: VoiceState,
     port: u32,
-) -> Spawning
+) -> CallResult<Result<VoiceId, Refusal>>
     requires { (m : Memory) → Headroom w.def (model_of (lent_voices s nodes.old edges.old voices.old m)) }
     ensures { (m : Memory) → result_of result.answer (lent_voices result.state nodes.new edges.new voices.new m) ≡ instantiate (spawn_in w) state port (model_of (lent_voices s nodes.old edges.old voices.old m)) }
 {
-    let def = w.def;
-    let bus = w.bus;
-    let v = new_voice(s, nodes, w, state, port);
-    raise_noise(nodes, s.nodes, bus);
     let id = VoiceId(s.spawned + 1);
-    let panned = pans(w.pan);
-    let grown = add_voice(s, nodes, edges, id, def, panned, bus, port);
-    let count = push_voice(voices, grown.voices, v);
-    let seated = with_voices(grown, count);
-    let told = with_spawned(seated, s.spawned + 1);
-    Spawning {
-        state: told,
-        answer: Spawned::Voice(id),
+    let voice = new_voice(s, nodes, w, state, port);
+    raise_noise(nodes, s.nodes, w.bus);
+    let grown = add_voice(s, nodes, edges, id, w.def, pans(w.pan), w.bus, port);
+    let count = push_voice(voices, grown.voices, voice);
+    CallResult {
+        state: with_spawned(with_voices(grown, count), s.spawned + 1),
+        answer: Ok(id),
     }
 }

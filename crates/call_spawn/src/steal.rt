@@ -13,7 +13,7 @@ use memory::state::State;
 use node::record::{NodeId, VoiceId};
 use steal_log::StealTable;
 use store::voices::Fade;
-use voice::policy::{Admission, Budget};
+use voice::policy::Admission;
 use voice_graph::growth::add_fade;
 use voice_policy::policy::request_in;
 use voice_rows::fade::begin_fade;
@@ -48,20 +48,16 @@ pub(crate) fn steal_voice(
     requires { (m : Memory) → FadeRoom (model_of (lent_spawn s nodes.old edges.old voices.old steals.old m)) }
     ensures { (m : Memory) → model_of (lent_spawn result nodes.new edges.new voices.new steals.new m) ≡ steal w (model_of (lent_spawn s nodes.old edges.old voices.old steals.old m)) }
 {
-    let looked = find_voice(voices, s.voices, w);
-    if !looked.found {
+    let Some(row) = find_voice(voices, s.voices, w) else {
         return s;
-    }
-    let row = looked.row;
+    };
     let bus = bus_at(voices, row);
     let fed = feeding_edge(edges, s.edges, feeder_at(voices, row), bus);
-    let told = record_steal(s, nodes, voices, steals, row, !fed.found);
-    if !fed.found {
+    let told = record_steal(s, nodes, voices, steals, row, fed.is_none());
+    let Some(e) = fed else {
         return forget_voice(told, nodes, edges, voices, w);
-    }
-    let e = fed.edge;
-    let from = e.from;
-    let grown = add_fade(told, nodes, edges, w, from, bus, e.port);
+    };
+    let grown = add_fade(told, nodes, edges, w, e.from, bus, e.port);
     let f = new_fade(s);
     begin_fade(voices, grown.voices, w, f);
     grown
@@ -72,13 +68,13 @@ pub(crate) fn admission(
     s: State,
     nodes: &NodeTable,
     voices: &VoiceTable,
-    budget: Budget,
+    budget: Option<usize>,
     bus: NodeId,
     rank: u32,
 ) -> Admission
     ensures { (m : Memory) → result ≡ admission_under budget bus rank (model_of (lent_params s nodes.now voices.now m)) }
 {
-    let Budget::AtMost(_) = budget else {
+    let Some(_) = budget else {
         return Admission::Admit;
     };
     let config = s.config;

@@ -2,14 +2,14 @@
 // many samples a block has, how long a fade is, and whether its gains are the fade table's. No table of the store is needed.
 #![tactic(auto)]
 
-ghost use Rattle.std.specs.Prelude.{◌≡◌};
-ghost use Rattle.bus.specs.declared.Written.TheVariants as written;
+ghost use Rattle.std.specs.Prelude.{◌≡◌, Err};
 ghost use Rattle.node.specs.declared.refusal.Refusal as refusal;
 ghost use Rattle.model.specs.Call.{fade_answer, sum_answer};
 ghost use Rattle.mixing.specs.Filled.{filled_of};
 
-use bus::{Written, fade_length};
+use bus::fade_length;
 use fade_table::table_gains;
+use node::refusal::Refusal;
 use store::config::Config;
 
 // One block of a fade: the channel counts of input and output, and what the fade's earlier blocks have passed, in samples.
@@ -27,9 +27,9 @@ pub fn fade_output(
     gains: &[f32],
     p: FadePart,
     out: &mut [f32],
-) -> Written
+) -> Result<(), Refusal>
     ensures is { filled_of result out.new ≡ fade_answer config input.now p.ins gains.now p.position out.old p.outs }
-    ensures same { (x : refusal.Refusal) → result ≡ written.Refused x → out.new ≡ out.old }
+    ensures same { (x : refusal.Refusal) → result ≡ Err x → out.new ≡ out.old }
 {
     let len = fade_length(config.rate);
     let size = config.block;
@@ -47,10 +47,9 @@ pub fn bus_sum(
     counts: &[usize],
     out: &mut [f32],
     outs: usize,
-) -> Written
+) -> Result<(), Refusal>
     ensures is { filled_of result out.new ≡ sum_answer config inputs.now counts.now out.old outs }
-    ensures same { (x : refusal.Refusal) → result ≡ written.Refused x → out.new ≡ out.old }
+    ensures same { (x : refusal.Refusal) → result ≡ Err x → out.new ≡ out.old }
 {
-    let size = config.block;
-    bus::bus_sum(inputs, counts, size, out, outs)
+    bus::bus_sum(inputs, counts, config.block, out, outs)
 }

@@ -12,13 +12,13 @@ pub use steal_log::{STEAL_WORDS, StealTable};
 pub use voice_rows::row::{VOICE_WORDS, VoiceTable};
 
 // ---- making
-pub use call_make::{Made, make};
+pub use call_make::make;
 
 // ---- the host's nodes, wiring and sink, prepare and scheduling
 pub use call_host::host::{add_node, connect, disconnect, remove_node, set_sink};
 pub use call_host::preparing::prepare;
 pub use call_host::schedule::schedule;
-pub use memory::state::{AddResult, HostResult};
+pub use memory::state::CallResult;
 
 // ---- voices
 pub use call_clear::clear::{Cleared, free_done_synths};
@@ -27,29 +27,31 @@ pub use call_param::number::outcome_number;
 pub use call_param::param::{set_voice_param, set_voice_param_glide};
 pub use call_render::render::{Rendering, render};
 pub use call_report::report::report;
-pub use call_spawn::spawn::{Spawning, spawn_voice};
+pub use call_spawn::spawn::spawn_voice;
 pub use call_spawn::wish::{
     voice_on_bus, voice_on_bus_managed, voice_on_bus_panned, voice_on_bus_panned_managed,
 };
 pub use store::wish::Wish;
 
 // ---- the console: keyboards whose wishes for spawns wait in a table of their own, and turns that serve them
-pub use call_console::making::{ConsoleMade, MakeAnswer, make_console};
-pub use call_console::queues::{Queue, WishState, keyboard_count, waiting_count};
-pub use call_console::turning::{TurnAnswer, TurnResult, turn};
-pub use call_console::wishing::{WishAnswer, WishResult, wish};
+pub use call_console::making::{MakeRefusal, make_console};
+pub use call_console::queues::{
+    ConsoleResult, Queue, WishResult, WishState, keyboard_count, waiting_count,
+};
+pub use call_console::turning::{Served, turn};
+pub use call_console::wishing::wish;
 pub use console::refusal::{KeyboardRefusal, keyboard_refusal_number};
 pub use wish_rows::row::{WISH_WORDS, WishTable};
 
 // ---- the seal: sealing the board of one console, and the calls that a seal may close. What is not here no seal closes
+pub use call_seal::closing::BoardRefusal;
 pub use call_seal::host::{
-    BoardAdded, BoardAnswer, BoardHost, BoardNode, add_node as board_add_node,
-    connect as board_connect, disconnect as board_disconnect, remove_node as board_remove_node,
-    set_sink as board_set_sink,
+    add_node as board_add_node, connect as board_connect, disconnect as board_disconnect,
+    remove_node as board_remove_node, set_sink as board_set_sink,
 };
-pub use call_seal::sealing::{SealAnswer, SealResult, seal};
-pub use call_seal::spawn::{BoardSpawn, BoardSpawned, spawn as board_spawn};
-pub use call_seal::wishing::{BoardWish, BoardWished, wish as board_wish};
+pub use call_seal::sealing::{SealResult, seal};
+pub use call_seal::spawn::spawn as board_spawn;
+pub use call_seal::wishing::wish as board_wish;
 pub use sealed::profile::{Profile, Seal};
 pub use sealed::refusal::{SealRefusal, seal_refusal_number};
 
@@ -61,8 +63,8 @@ pub use whole_mixing::{bus_sum as whole_bus_sum, fade_output as whole_fade_outpu
 
 // ---- reading, and the page
 pub use call_page::{page, page_length};
-pub use call_read::counts::{FoundEdge, edge_at, edges, processing_order, voices};
-pub use call_read::look::{FoundVoice, fade_position, voice, voice_at, voice_level};
+pub use call_read::counts::{edge_at, edges, processing_order, voices};
+pub use call_read::look::{fade_position, voice, voice_at, voice_level};
 pub use call_read::records::{clock, node_record, sources, steals};
 
 // ---- arguments
@@ -72,18 +74,14 @@ pub use node::order::{EventAction, Glide, GlideShape, GlideSpace};
 pub use node::record::{Edge, NodeId, VoiceId};
 pub use store::config::Making;
 pub use synthdef::def::{DefEdge, DefEdges, DefNode, DefNodes, NO_PORT, Param, Params, SynthDef};
-pub use voice::policy::{Budget, BudgetScope, StealPolicy};
+pub use voice::policy::{BudgetScope, StealPolicy};
 
 // ---- answers
-pub use edges::ports::Source;
-pub use graph::nodes::FoundNode;
-pub use graph::state::{AddAnswer, Answer, Sink};
 pub use node::order::LastOrder;
 pub use node::record::Node;
 pub use node::refusal::{Refusal, refusal_number};
-pub use store::answer::{Outcome, Paged, Position, Rendered, Spawned};
+pub use store::answer::{Outcome, Rendered};
 pub use store::config::Config;
 pub use store::voices::{Fade, Voice, VoiceState};
 pub use synthdef::plan::{DonePlan, DoneStep};
-pub use voice::policy::Level;
-pub use voice::steals::{StealFound, StealRecord, Steals};
+pub use voice::steals::{StealRecord, Steals};

@@ -26,23 +26,6 @@ use Rattle.model.specs.Voice.{id}
 use Rattle.model.specs.Spawn.{def_node, const_node, pan_node, fade_node, voice_nodes}
 use Rattle.voice_graph.specs.Added.{has_room, numbered, put_all, grown, fade_edges, with_fade, voice_size, voice_edges, with_voice}
 
--- a sum and a difference, compared
-pub leb_moved : (a b n : ℕ) → n ≤ b → leb a (b - n) ≡ leb (a + n) b
-leb_moved a b n h = go (leb a (b - n)) refl
-  where
-    go : (t : Bool) → leb a (b - n) ≡ t → t ≡ leb (a + n) b
-    go true e = let k : a + n ≤ b = omega (arith, leb-true a (b - n) e) in sym (le-leb (a + n) b k)
-    go false e = let k : b < a + n = omega (arith, leb-false a (b - n) e) in sym (lt-leb (a + n) b k)
-
--- a count stands for as many rows as there are
-pub holds_all : {A : Type 0} (rows : List A) (n : ℕ) → Holds rows (length (take n rows)) (take n rows)
-holds_all {A} rows n = record { is = go n rows; many = refl }
-  where
-    go : (n : ℕ) (l : List A) → take (length (take n l)) l ≡ take n l
-    go zero l = refl
-    go (suc n) [] = refl
-    go (suc n) (x ∷ l) = ap (λ z. x ∷ z) (go n l)
-
 -- ---- consecutive ids
 pub numbered_append : (k : ℕ) (l m : List Node) → numbered k (l ++ m) ≡ numbered k l ++ numbered (k + length l) m
 numbered_append k [] m = let e : k + 0 ≡ k = omega arith in ap (λ j. numbered j m) (sym e)
@@ -80,23 +63,11 @@ pub put_append : (es l m : List Edge) → put_all es (l ++ m) ≡ put_all (put_a
 put_append es [] m = refl
 put_append es (e ∷ l) m = put_append (put es e) l m
 
-pub pan_put : (es : List Edge) {one two : List Edge} {a k n a' k' n' : NodeId} → one ≡ put es (edge a n 0) → two ≡ put one (edge k n 1)
-    → a ≡ a' → k ≡ k' → n ≡ n' → two ≡ put_all es (edge a' n' 0 ∷ edge k' n' 1 ∷ [])
-pan_put es {one} {two} {a} {k} {n} {a'} {k'} {n'} p q x y z =
-    q
-    ∙ ap (λ l. put l (edge k n 1)) p
-    ∙ ap (λ i. put (put es (edge i n 0)) (edge k n 1)) x
-    ∙ ap (λ i. put (put es (edge a' n 0)) (edge i n 1)) y
-    ∙ ap (λ i. put (put es (edge a' i 0)) (edge k' i 1)) z
-
 pub voice_put : (es l m : List Edge) (e : Edge) {inner last : List Edge} → inner ≡ put_all es l → last ≡ put_all inner m → put last e ≡ put_all es (l ++ (m ++ (e ∷ [])))
 voice_put es l m e p q =
     ap (λ z. put z e) (q ∙ ap (λ z. put_all z m) p) ∙ sym (put_append es l (m ++ (e ∷ [])) ∙ put_append (put_all es l) m (e ∷ []))
 
 -- ---- sizes
-pub size_le : (n : ℕ) (pan : Bool) → voice_size n pan ≤ n + 2
-size_le n true = omega arith
-size_le n false = omega arith
 
 pub length_voice : (w : VoiceId) (d : SynthDef) (pan : Bool) → length (voice_nodes w d pan) ≡ voice_size (length (node_rows d.nodes)) pan
 length_voice w d true =

@@ -7,16 +7,14 @@ use native.Mathlib.Nat.{min-le_left}
 use mathlib.Core.Path.{◌≡◌, refl, sym, ap, ◌∙◌}
 use mathlib.Core.Logic.{inl, inr}
 use mathlib.Core.List.{List, [], ◌∷◌, ◌++◌, map, append-nil, append_assoc}
-use mathlib.Core.Option.{Option, none, some}
+use Rattle.std.specs.Prelude.{Option, None, Some, filter, find, option_map, is_some}
 use mathlib.Core.Bool.{Bool, true, false, not, false≢true}
 use lib.Dec.{eqb}
 use lib.ListN.{length, take, length-append, length-map, length-take}
 use borrow.Author.Tests.{lt-leb, eq-eqb}
 use Rattle.lists.specs.Member.{In}
 use Rattle.lists.proofs.Member.{and_right, both, some_inj, none_some, map_append}
-use Rattle.lists.specs.Filter.{filter}
 use Rattle.lists.proofs.Filter.{filter_append, length_filter}
-use Rattle.lists.specs.Find.{find, map_o, is_some}
 use Rattle.lists.proofs.Find.{find_in, find_none}
 use Rattle.lists.proofs.Count.{count_is_length, count_filter}
 use Rattle.node.specs.declared.record.NodeId.{NodeId}
@@ -72,25 +70,22 @@ module _ (v : Voice) (p : ℕ) (g : GraphView) where
   pub fade_nodes : length (fade_graph v p g).nodes ≡ length g.nodes + 1
   fade_nodes = length-append g.nodes (with_id g.next (fade_node v.id) ∷ [])
 
-  pub fade_next : (fade_graph v p g).next ≡ g.next + 1
-  fade_next = refl
-
   -- the port that the feeder feeds has an edge, which is replaced
-  fed_taken : port_from g.edges (feeder v) v.bus ≡ some p → taken g.edges v.bus p ≡ true
+  fed_taken : port_from g.edges (feeder v) v.bus ≡ Some p → taken g.edges v.bus p ≡ true
   fed_taken h = go (find (feeds (feeder v) v.bus) g.edges) refl h
     where
       seen : (d : Edge) → In d g.edges → ends_at v.bus p d ≡ true → (o : Option Edge) → find (ends_at v.bus p) g.edges ≡ o → is_some o ≡ true
-      seen d i t none e = absurd (false≢true (sym (find_none (ends_at v.bus p) g.edges d e i) ∙ t))
-      seen d i t (some x) e = refl
+      seen d i t None e = absurd (false≢true (sym (find_none (ends_at v.bus p) g.edges d e i) ∙ t))
+      seen d i t (Some x) e = refl
 
-      go : (o : Option Edge) → find (feeds (feeder v) v.bus) g.edges ≡ o → map_o (λ (e : Edge). e.port) o ≡ some p → taken g.edges v.bus p ≡ true
-      go none e q = absurd (none_some q)
-      go (some d) e q =
+      go : (o : Option Edge) → find (feeds (feeder v) v.bus) g.edges ≡ o → option_map (λ (e : Edge). e.port) o ≡ Some p → taken g.edges v.bus p ≡ true
+      go None e q = absurd (none_some q)
+      go (Some d) e q =
           let r = find_in (feeds (feeder v) v.bus) g.edges d e in
           let to = and_right (eqb d.from.0 (feeder v).0) (eqb d.to.0 v.bus.0) r.1 in
           seen d r.0 (both (eqb d.to.0 v.bus.0) (eqb d.port p) to (eq-eqb d.port p (some_inj q))) _ refl
 
-  pub fade_edges_lem : port_from g.edges (feeder v) v.bus ≡ some p → length (fade_graph v p g).edges ≤ length g.edges + 1
+  pub fade_edges_lem : port_from g.edges (feeder v) v.bus ≡ Some p → length (fade_graph v p g).edges ≤ length g.edges + 1
   fade_edges_lem h =
       let es = g.edges in
       let e = edge (feeder v) (id g.next) 0 in

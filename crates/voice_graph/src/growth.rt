@@ -10,7 +10,6 @@ use graph_rows::edge_row::EdgeTable;
 use graph_rows::node_row::NodeTable;
 use graph_tables::lookup::{append_node, node_count};
 use graph_tables::wiring::put_edge;
-use lists::number::at_most;
 use memory::parts::with_graph;
 use memory::state::State;
 use node::record::{Edge, NodeId, VoiceId};
@@ -20,13 +19,7 @@ use synthdef::def::SynthDef;
 fn has_room(count: usize, next: u64, n: usize) -> bool
     ensures { result ≡ has_room count next n }
 {
-    if 512 < n {
-        return false;
-    }
-    if 512 - n < count {
-        return false;
-    }
-    next <= 4294967296 - n as u64
+    n <= 512 && count <= 512 - n && next <= 4294967296 - n as u64
 }
 
 // How many nodes a voice has.
@@ -53,8 +46,7 @@ pub fn add_fade(
         return s;
     }
     let fade = NodeId(s.next as u32);
-    let row = fade_node(fade, owner);
-    let n = append_node(nodes, s.nodes, row);
+    let n = append_node(nodes, s.nodes, fade_node(fade, owner));
     let fed = put_edge(
         edges,
         s.edges,
@@ -73,8 +65,7 @@ pub fn add_fade(
             port,
         },
     );
-    let sink = s.sink;
-    with_graph(s, n, both, sink, s.next + 1)
+    with_graph(s, n, both, s.sink, s.next + 1)
 }
 
 // The new voice `owner`: its definition's nodes, the constant and the pan node where it pans, their edges, and the edge to the port
@@ -91,15 +82,13 @@ pub fn add_voice(
 ) -> State
     ensures { (m : Memory) → model_of (lent_graph result nodes.new edges.new m) ≡ regraphed (with_voice owner d pan bus port (graph_of (lent_graph s nodes.old edges.old m))) (model_of (lent_graph s nodes.old edges.old m)) }
 {
-    let ns = d.nodes;
-    let m = at_most(ns.count, 24);
+    let m = d.nodes.count.min(24);
     if !has_room(node_count(nodes, s.nodes), s.next, m + 2) {
         return s;
     }
-    let n = append_voice(nodes, s.nodes, s.next, owner, ns, pan);
+    let n = append_voice(nodes, s.nodes, s.next, owner, d.nodes, pan);
     let first = NodeId(s.next as u32);
     let e = wire_voice(edges, s.edges, first, d, pan, bus, port);
-    let sink = s.sink;
     let next = s.next + voice_size(m, pan) as u64;
-    with_graph(s, n, e, sink, next)
+    with_graph(s, n, e, s.sink, next)
 }

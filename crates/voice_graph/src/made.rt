@@ -9,7 +9,6 @@ ghost use Rattle.voice_graph.specs.Added.{numbered, nodes_for, Fits};
 use crate::kinds::{const_node, pan_node};
 use graph_rows::node_row::NodeTable;
 use graph_tables::lookup::{append_node, node_count};
-use lists::number::at_most;
 use node::record::{NodeId, VoiceId};
 use synthdef::def::DefNodes;
 use synthdef::instance::live_node;
@@ -25,15 +24,10 @@ fn append_defined(
     requires { Fits (length (take count (nodes_in nodes.old))) first (length (node_rows ns)) }
     ensures { Holds (nodes_in nodes.new) result (take count (nodes_in nodes.old) ++ numbered first (map (def_node owner) (node_rows ns))) }
 {
-    let m = at_most(ns.count, 24);
     let mut k = node_count(nodes, count);
-    let mut i: usize = 0;
-    while i < m {
-        let n = ns.rows[i];
+    for (i, n) in ns.rows[..ns.count.min(24)].iter().enumerate() {
         let id = first + i as u64;
-        let row = live_node(n, NodeId(id as u32), owner);
-        k = append_node(nodes, k, row);
-        i += 1;
+        k = append_node(nodes, k, live_node(*n, NodeId(id as u32), owner));
     }
     k
 }
@@ -43,11 +37,9 @@ fn append_pan(nodes: &mut NodeTable, count: usize, first: u64, owner: VoiceId) -
     requires { Fits (length (take count (nodes_in nodes.old))) first 2 }
     ensures { Holds (nodes_in nodes.new) result (take count (nodes_in nodes.old) ++ numbered first (const_node owner ∷ pan_node owner ∷ [])) }
 {
-    let constant = const_node(NodeId(first as u32), owner);
-    let k = append_node(nodes, count, constant);
+    let k = append_node(nodes, count, const_node(NodeId(first as u32), owner));
     let next = first + 1;
-    let pan = pan_node(NodeId(next as u32), owner);
-    append_node(nodes, k, pan)
+    append_node(nodes, k, pan_node(NodeId(next as u32), owner))
 }
 
 // The nodes of a voice, behind the first `count`, under the ids from `first` on: how many nodes there are.
@@ -64,7 +56,7 @@ pub(crate) fn append_voice(
 {
     let k = append_defined(nodes, count, first, owner, ns);
     if pan {
-        let m = at_most(ns.count, 24);
+        let m = ns.count.min(24);
         return append_pan(nodes, k, first + m as u64, owner);
     }
     k

@@ -8,7 +8,6 @@ ghost use Rattle.voice_graph.specs.Added.{put_all, pan_edges, voice_edges};
 
 use graph_rows::edge_row::EdgeTable;
 use graph_tables::wiring::{edge_count, put_edge};
-use lists::number::at_most;
 use node::record::{Edge, NodeId};
 use synthdef::def::{DefEdges, SynthDef};
 use synthdef::edges::counted_edges;
@@ -18,14 +17,9 @@ use synthdef::instance::{id_after, live_edge};
 fn wire_nodes(edges: &mut EdgeTable, count: usize, first: NodeId, es: DefEdges) -> usize
     ensures { Holds (edges_in edges.new) result (put_all (take count (edges_in edges.old)) (live_edges (edge_rows es) first)) }
 {
-    let m = at_most(es.count, 48);
     let mut k = edge_count(edges, count);
-    let mut i: usize = 0;
-    while i < m {
-        let e = es.rows[i];
-        let live = live_edge(e, first);
-        k = put_edge(edges, k, live);
-        i += 1;
+    for e in &es.rows[..es.count.min(48)] {
+        k = put_edge(edges, k, live_edge(*e, first));
     }
     k
 }
@@ -70,10 +64,8 @@ pub(crate) fn wire_voice(
 ) -> usize
     ensures { Holds (edges_in edges.new) result (put_all (take count (edges_in edges.old)) (voice_edges first d pan bus port)) }
 {
-    let es = d.edges;
-    let ns = d.nodes;
-    let n = at_most(ns.count, 24) as u8;
-    let inner = wire_nodes(edges, count, first, counted_edges(es));
+    let n = d.nodes.count.min(24) as u8;
+    let inner = wire_nodes(edges, count, first, counted_edges(d.edges));
     if pan {
         let panned = wire_pan(edges, inner, first, d.output, n);
         let last = id_after(first, n + 1);

@@ -1,16 +1,17 @@
 // Fade output and bus sum in whole numbers, as questions of a store. What making fixed says how many samples a block has, how long a fade is, and
 // whether its gains are the fade table's entries. No table of the store is needed.
+// Two functions beside those of `mixing`: table, call below and answer of the model differ, and a trait that holds them is longer than the four bodies.
 #![tactic(auto)]
 
-ghost use Rattle.std.specs.Prelude.{◌≡◌};
-ghost use Rattle.bus.specs.declared.Written.TheVariants as written;
+ghost use Rattle.std.specs.Prelude.{◌≡◌, Err};
 ghost use Rattle.node.specs.declared.refusal.Refusal as refusal;
 ghost use Rattle.model.specs.Call.{whole_fade_answer, whole_sum_answer};
 ghost use Rattle.whole_mixing.specs.Filled.{filled_of};
 
-use bus::{Written, fade_length};
+use bus::fade_length;
 use fade_table::table_entries;
 use mixing::FadePart;
+use node::refusal::Refusal;
 use store::config::Config;
 
 // A fade's output for one block. Where the table was chosen, the lent gains are not looked at.
@@ -20,9 +21,9 @@ pub fn fade_output(
     gains: &[u32],
     p: FadePart,
     out: &mut [i32],
-) -> Written
+) -> Result<(), Refusal>
     ensures is { filled_of result out.new ≡ whole_fade_answer config input.now p.ins gains.now p.position out.old p.outs }
-    ensures same { (x : refusal.Refusal) → result ≡ written.Refused x → out.new ≡ out.old }
+    ensures same { (x : refusal.Refusal) → result ≡ Err x → out.new ≡ out.old }
 {
     let len = fade_length(config.rate);
     let size = config.block;
@@ -40,10 +41,9 @@ pub fn bus_sum(
     counts: &[usize],
     out: &mut [i32],
     outs: usize,
-) -> Written
+) -> Result<(), Refusal>
     ensures is { filled_of result out.new ≡ whole_sum_answer config inputs.now counts.now out.old outs }
-    ensures same { (x : refusal.Refusal) → result ≡ written.Refused x → out.new ≡ out.old }
+    ensures same { (x : refusal.Refusal) → result ≡ Err x → out.new ≡ out.old }
 {
-    let size = config.block;
-    whole_samples::bus_sum(inputs, counts, size, out, outs)
+    whole_samples::bus_sum(inputs, counts, config.block, out, outs)
 }

@@ -9,7 +9,4 @@ use Rattle.call_clear.proofs.clear.leaving_ids.Given as goal
 
 abbrev pub invariant-loop-i : goal.invariant-loop-i
 invariant-loop-i l =
-    (l.i ≤ l.room) × Gathering (leaves l.silent l.len (take l.n (nodes_in l.nodes))) id_of 64 (voices_in l.voices) l.ids l.i l.k
-
-abbrev pub decreases-loop-i : goal.decreases-loop-i
-decreases-loop-i l = l.room - l.i
+    Gathering (leaves l.silent l.len (take l.n (nodes_in l.nodes))) id_of 64 (voices_in l.voices) l.leaving.ids l.i l.leaving.count

@@ -11,7 +11,4 @@ abbrev pub is_done : Node → Bool
 is_done x = x.done
 
 abbrev pub invariant-loop-i : goal.invariant-loop-i
-invariant-loop-i l = (l.m ≡ min l.n (length l.nodes / 22)) × SeekingIn 22 node_of is_done l.nodes l.n l.m l.i
-
-abbrev pub decreases-loop-i : goal.decreases-loop-i
-decreases-loop-i l = l.m - l.i
+invariant-loop-i l = (l.i-end ≡ min l.n (length l.nodes / 22)) × SeekingIn 22 node_of is_done l.nodes l.n l.i-end l.i

@@ -13,5 +13,5 @@ returns c =
     let a = c.args in
     let v = get_or (voices_in a.t.now) a.i (voice_of []) in
     let port = port_now (take a.wired (edges_in a.edges.now)) v in
-    widened (omega arith) (line_is a.clock port v c.id_at.result c.age_at.result c.state_at-state.result c.id_at.ensures c.age_at.ensures c.state_at-state.ensures)
+    widened (omega arith) (line_is a.clock port v c.id_at.result c.age_at.result c.state_at.result c.id_at.ensures c.age_at.ensures c.state_at.ensures)
     (then (then c.put_fields-a.ensures c.put_port.ensures) c.put_state.ensures)

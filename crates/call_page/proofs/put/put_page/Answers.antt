@@ -1,6 +1,6 @@
-use Prim.Native.Nat.{◌+◌, ◌*◌, ◌≤◌, ◌<◌}
+use Prim.Native.Nat.{◌+◌, ◌-◌, ◌*◌, ◌/◌, ◌≤◌, ◌<◌, min}
 use native.Mathlib.Omega.{arith}
-use mathlib.Core.Path.{◌≡◌, refl, ap, ◌∙◌}
+use mathlib.Core.Path.{◌≡◌, refl, sym, ap, ◌∙◌}
 use mathlib.Core.List.{[]}
 use lib.ListN.{length, length-take, length-drop, take}
 use borrow.Author.Rules.{rules}
@@ -11,7 +11,7 @@ use Rattle.graph_rows.specs.Edge.{edges_in}
 use Rattle.model.specs.Page.{header, port_now, page}
 use Rattle.call_page.specs.Paged.{Put}
 use Rattle.call_page.proofs.Lines.{page_more}
-use Rattle.call_page.proofs.Puts.{then, copied, widened, same_long}
+use Rattle.call_page.proofs.Puts.{then_in, copied, widened, same_long}
 use Rattle.call_page.proofs.put.put_page.Goals as goal
 use Rattle.call_page.proofs.put.put_page.Goals.{At-loop-i}
 
@@ -20,15 +20,15 @@ so_far : (c : At-loop-i) → Put (21 + 70 * c.loop-i.i) (page c.args.clock (port
 so_far c =
     let h = c.copy-at in
     let fits : h.result ≤ 21 = omega (arith, h.ensures.long) in
-    c.loop-i.invariant.1 c.args.out.now (copied 21 _ header _ _ _ refl h.ensures.long h.ensures.placed fits)
+    c.loop-i.invariant c.args.out.now (copied 21 _ header _ _ _ refl h.ensures.long h.ensures.placed fits)
 
 -- what the room still holds
-left : (c : At-loop-i) → c.loop-i.i < c.at_most-n.result → 70 + c.loop-i.at ≤ length c.loop-i.out
+left : (c : At-loop-i) → c.loop-i.i < c.min-i-end.result → 70 + c.loop-i.at ≤ length c.loop-i.out
 left c h =
-    let n : c.at_most-n.result ≤ 64 = omega (arith, c.at_most-n.ensures, c.requires.0) in
-    let few : 21 + 70 * c.loop-i.i + 70 ≤ 4501 = omega arith in
-    let room : 21 + 70 * c.loop-i.i ≤ length c.args.out.now = omega (arith, c.requires.1) in
-    omega (arith, c.requires.1, same_long (so_far c) room, (so_far c).fits)
+    let few : 21 + 70 * c.loop-i.i + 70 ≤ 4501 = omega (arith, c.min-i-end.ensures) in
+    let long : length c.args.out.now ≡ 4501 = search rules in
+    let room : 21 + 70 * c.loop-i.i ≤ length c.args.out.now = omega arith in
+    omega (arith, same_long (so_far c) room, (so_far c).fits)
 
 pub slice_bounds-put_line-start : goal.slice_bounds-put_line-start
 slice_bounds-put_line-start c = let h = left (goal.at.slice_bounds-put_line-start c).At-loop-i c.loop-i-test.true in omega arith
@@ -45,15 +45,19 @@ pub loop-i-preserved : goal.loop-i-preserved
 loop-i-preserved c =
     let i = c.loop-i.i in
     let rows = voices_in c.args.t.now in
-    let within : i < length rows = omega (arith, rows_long 143 voice_of c.args.t.now, c.at_most-n.ensures, c.loop-i-test.true) in
+    let table : length c.args.t.now ≡ 9152 = search rules in
+    let within : i < length rows = omega (arith, rows_long 143 voice_of c.args.t.now, ap (λ k. k / 143) table, c.min-i-end.ensures, c.loop-i-test.true) in
     let more : 21 + 70 * i + 70 ≤ 21 + 70 * (i + 1) = omega arith in
-    (search rules, λ x h. widened more (page_more c.args.clock (port_now (take c.args.wired (edges_in c.args.edges.now))) i rows (voice_of []) within) (then (c.loop-i.invariant.1 x h) c.put_line-at.ensures))
+    let long : 4501 ≡ length c.loop-i.out = search rules in
+    let page = page_more c.args.clock (port_now (take c.args.wired (edges_in c.args.edges.now))) i rows (voice_of []) within in
+    λ x h. widened more page (then_in (4501 - c.loop-i.at) (ap (λ k. k - c.loop-i.at) long) (c.loop-i.invariant x h) c.put_line-at.ensures)
 
 pub returns : goal.returns
 returns c =
-    let n = c.at_most-n in
-    let most : n.result ≤ 64 = omega (arith, n.ensures, c.requires.0) in
-    let all : c.loop-i.i ≡ n.result = omega arith in
-    let few : 21 + 70 * c.loop-i.i ≤ 4501 = omega arith in
+    let n = c.min-i-end in
+    let all : c.loop-i.i ≡ n.result = omega (arith, c.loop-i.auto.i-end, c.loop-i-test.false) in
+    let few : 21 + 70 * c.loop-i.i ≤ 4501 = omega (arith, n.ensures) in
     let port = port_now (take c.args.wired (edges_in c.args.edges.now)) in
-    widened few (ap (λ k. page c.args.clock port (take k (voices_in c.args.t.now))) all ∙ ap (page c.args.clock port) (take_count 143 voice_of c.args.t.now c.args.count n.result n.ensures)) (so_far (goal.at.returns c).At-loop-i)
+    let table : length c.args.t.now ≡ 9152 = search rules in
+    let count : n.result ≡ min c.args.count (length c.args.t.now / 143) = n.ensures ∙ ap (min c.args.count) (sym (ap (λ k. k / 143) table)) in
+    widened few (ap (λ k. page c.args.clock port (take k (voices_in c.args.t.now))) all ∙ ap (page c.args.clock port) (take_count 143 voice_of c.args.t.now c.args.count n.result count)) (so_far (goal.at.returns c).At-loop-i)

@@ -6,25 +6,23 @@ use Rattle.graph_rows.specs.Node.{node_of, nodes_in}
 use Rattle.call_param.proofs.Replacing.{still_first, all_replaced}
 use Rattle.call_param.proofs.Whole.{node_lost, node_off, node_on}
 use Rattle.call_param.proofs.apply.order_node.Goals as goal
+use Rattle.call_param.proofs.apply.order_node.Goals.{then-n-p-via-then-n-p, then-n-p-via-else-n-p+then-not-takes_at}
 
 pub returns-then-n-p : goal.returns-then-n-p
 returns-then-n-p c =
     let s = c.args in
-    let n = c.at_most-n in
+    let n = c.min-n in
     let p = c.row_left-p in
-    node_lost s.freed.now s.t.now s.count s.k s.o n.result p.result n.ensures p.ensures c.if-n-p.true
-
-pub returns-then-not-takes_at : goal.returns-then-not-takes_at
-returns-then-not-takes_at c =
-    let s = c.args in
-    let n = c.at_most-n in
-    let p = c.row_left-p in
-    node_off s.freed.now s.t.now s.count s.k s.o n.result p.result n.ensures p.ensures c.if-n-p.false (sym c.takes_at.ensures ∙ c.if-not-takes_at.true)
+    elim c.then-n-p.branch [
+      | then-n-p-via-then-n-p w ↦ node_lost s.freed.now s.t.now s.count s.k s.o n.result p.result n.ensures p.ensures w.if-n-p.true
+      | then-n-p-via-else-n-p+then-not-takes_at w ↦
+          node_off s.freed.now s.t.now s.count s.k s.o n.result p.result n.ensures p.ensures w.if-n-p.false (sym w.takes_at.ensures ∙ w.if-not-takes_at.true)
+    ]
 
 pub returns : goal.returns
 returns c =
     let s = c.args in
-    let n = c.at_most-n in
+    let n = c.min-n in
     let p = c.row_left-p in
     let put = c.put_last in
     let copied = c.copy_on in

@@ -7,6 +7,3 @@ use Rattle.call_param.proofs.left.row_left.Given as goal
 
 abbrev pub invariant-loop-i : goal.invariant-loop-i
 invariant-loop-i l = PlacingIn 22 node_of (is_left l.freed (id l.k)) l.t l.count l.n l.i
-
-abbrev pub decreases-loop-i : goal.decreases-loop-i
-decreases-loop-i l = l.n - l.i

@@ -1,10 +1,19 @@
-use mathlib.Core.Path.{sym, ◌∙◌}
+use mathlib.Core.Bool.{not}
+use mathlib.Core.Path.{sym, ap, ◌∙◌}
 use lib.ListN.{take}
 use Rattle.voice_rows.specs.Rows.{voices_in}
-use Rattle.call_render.proofs.Events.{note_freed}
+use Rattle.call_render.proofs.Events.{note_freed, note_unknown}
 use Rattle.call_render.proofs.apply.note.Goals as goal
+use Rattle.call_render.proofs.apply.note.Goals.{then-is_listed-via-then-is_listed, then-is_listed-via-else-is_listed+then-is_none}
 
 pub returns-then-is_listed : goal.returns-then-is_listed
 returns-then-is_listed c =
     let s = c.args in
-    note_freed (take s.held (voices_in s.voices.now)) s.w s.freed.now s.count (sym c.is_listed.ensures ∙ c.if-is_listed.true)
+    let rows = voices_in s.voices.now in
+    let vs = take s.held rows in
+    let test = sym c.is_listed.ensures in
+    elim c.then-is_listed.branch [
+      | then-is_listed-via-then-is_listed w ↦ note_freed vs s.w s.freed.now s.count (test ∙ w.if-is_listed.true)
+      | then-is_listed-via-else-is_listed+then-is_none w ↦
+          note_unknown vs s.w s.freed.now s.count (test ∙ w.if-is_listed.false) w.find_voice.result s.held rows w.find_voice.ensures (w.is_none.ensures ∙ ap not w.if-is_none.true)
+    ]

@@ -5,7 +5,4 @@ use Rattle.call_render.proofs.Events.{Looking}
 use Rattle.call_render.proofs.due.any_free.Given as goal
 
 abbrev pub invariant-loop-i : goal.invariant-loop-i
-invariant-loop-i l = Looking l.deadline (events_in l.t) l.n [] [] l.i
-
-abbrev pub decreases-loop-i : goal.decreases-loop-i
-decreases-loop-i l = l.n - l.i
+invariant-loop-i l = Looking l.deadline (events_in l.t) l.i-end [] [] l.i

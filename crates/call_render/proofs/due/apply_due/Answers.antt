@@ -1,7 +1,8 @@
-use Prim.Native.Nat.{◌≤◌, ◌<◌}
+use Prim.Native.Nat.{◌/◌, ◌≤◌, ◌<◌, min}
 use native.Mathlib.Omega.{arith}
-use mathlib.Core.Path.{sym, ◌∙◌, subst}
+use mathlib.Core.Path.{◌≡◌, sym, ap, ◌∙◌, subst}
 use mathlib.Core.List.{[]}
+use borrow.Author.Rules.{rules}
 use lib.ListN.{length, take}
 use Rattle.scheduler.specs.declared.event.Event.{Event}
 use Rattle.voice_rows.specs.Rows.{voices_in}
@@ -12,36 +13,40 @@ use Rattle.words.proofs.InWords.{take_count}
 use Rattle.call_render.specs.Applying.{EventApplied}
 use Rattle.call_render.proofs.Events.{events_on, events_off, events_done}
 use Rattle.call_render.proofs.due.apply_due.Goals as goal
-
-pub loop-i-preserved-then-is_due : goal.loop-i-preserved-then-is_due
-loop-i-preserved-then-is_due c =
-    let s = c.args in
-    let l = c.loop-i in
-    let n = c.at_most-n in
-    let below = c.loop-i-test.true in
-    let vs = take s.s.voices (voices_in s.voices.now) in
-    let ns = take s.s.nodes (nodes_in l.nodes) in
-    let top : n.result ≤ length (events_in s.t.now) = omega (arith, n.ensures, rows_long 15 event_of s.t.now) in
-    let room : l.taken < length l.out = omega (arith, l.invariant.took, l.invariant.wide, n.ensures, below, c.requires.0, c.requires.2) in
-    let h = c.apply_event-r in
-    let new = take s.s.nodes (nodes_in h.new.nodes) in
-    let applied = subst (λ (e : Event). EventApplied vs e ns l.freed l.count new h.new.freed h.result.count h.result.outcome) c.event_at-e.ensures h.ensures in
-    events_on s.deadline (events_in s.t.now) n.result vs (take s.s.nodes (nodes_in s.nodes.now)) s.out.now (event_of []) ns l.freed l.out l.count l.taken l.i l.invariant below top
-    (sym c.is_due.ensures ∙ c.if-is_due.true) new h.new.freed h.result.count h.result.outcome applied c.outcome_number.result c.outcome_number.ensures room
+use Rattle.call_render.proofs.due.apply_due.Goals.{then-is_due, else-is_due}
 
 pub loop-i-preserved : goal.loop-i-preserved
 loop-i-preserved c =
     let s = c.args in
     let l = c.loop-i in
-    let n = c.at_most-n in
-    let top : n.result ≤ length (events_in s.t.now) = omega (arith, n.ensures, rows_long 15 event_of s.t.now) in
-    events_off s.deadline (events_in s.t.now) n.result (take s.s.voices (voices_in s.voices.now)) (take s.s.nodes (nodes_in s.nodes.now)) s.out.now (event_of []) (take s.s.nodes (nodes_in l.nodes)) l.freed l.out l.count l.taken l.i l.invariant c.loop-i-test.true top (sym c.is_due.ensures ∙ c.if-is_due.false)
+    let n = c.min-i-end in
+    let below = c.loop-i-test.true in
+    let rows = events_in s.t.now in
+    let vs = take s.s.voices (voices_in s.voices.now) in
+    let start = take s.s.nodes (nodes_in s.nodes.now) in
+    let ns = take s.s.nodes (nodes_in l.nodes) in
+    let table : length s.t.now ≡ 3840 = search rules in
+    let top : n.result ≤ length rows = omega (arith, n.ensures, rows_long 15 event_of s.t.now, ap (λ k. k / 15) table) in
+    elim c.if-is_due.branch [
+      | then-is_due w ↦
+          let room : l.taken < length l.out = omega (arith, l.invariant.took, l.invariant.wide, n.ensures, below, c.requires) in
+          let h = w.apply_event-r in
+          let new = take s.s.nodes (nodes_in h.new.nodes) in
+          let applied = subst (λ (e : Event). EventApplied vs e ns l.freed l.count new h.new.freed h.result.count h.result.outcome) w.event_at.ensures h.ensures in
+          rw (w.nodes-is, w.freed-is, w.out-is, w.count-is, w.taken-is) (events_on s.deadline rows n.result vs start s.out.now (event_of []) ns l.freed l.out l.count l.taken l.i l.invariant below top
+          (sym c.is_due.ensures ∙ w.if-is_due.true) new h.new.freed h.result.count h.result.outcome applied w.outcome_number.result w.outcome_number.ensures room)
+      | else-is_due w ↦
+          rw (w.nodes-is, w.freed-is, w.out-is, w.count-is, w.taken-is)
+          (events_off s.deadline rows n.result vs start s.out.now (event_of []) ns l.freed l.out l.count l.taken l.i l.invariant below top (sym c.is_due.ensures ∙ w.if-is_due.false))
+    ]
 
 pub returns : goal.returns
 returns c =
     let s = c.args in
     let l = c.loop-i in
-    let n = c.at_most-n in
-    let top : n.result ≤ length (events_in s.t.now) = omega (arith, n.ensures, rows_long 15 event_of s.t.now) in
-    let room : n.result ≤ 256 = omega (arith, n.ensures, c.requires.0) in
-    events_done s.deadline (events_in s.t.now) n.result (take s.s.voices (voices_in s.voices.now)) (take s.s.nodes (nodes_in s.nodes.now)) s.out.now (take s.s.nodes (nodes_in l.nodes)) l.freed l.out l.count l.taken l.i l.invariant c.loop-i-test.false top room c.requires.2 (take s.s.events (events_in s.t.now)) (take_count 15 event_of s.t.now s.s.events n.result n.ensures)
+    let n = c.min-i-end in
+    let table : length s.t.now ≡ 3840 = search rules in
+    let top : n.result ≤ length (events_in s.t.now) = omega (arith, n.ensures, rows_long 15 event_of s.t.now, ap (λ k. k / 15) table) in
+    let room : n.result ≤ 256 = omega (arith, n.ensures) in
+    let count : n.result ≡ min s.s.events (length s.t.now / 15) = n.ensures ∙ ap (min s.s.events) (sym (ap (λ k. k / 15) table)) in
+    events_done s.deadline (events_in s.t.now) n.result (take s.s.voices (voices_in s.voices.now)) (take s.s.nodes (nodes_in s.nodes.now)) s.out.now (take s.s.nodes (nodes_in l.nodes)) l.freed l.out l.count l.taken l.i l.invariant c.loop-i-test.false top room c.requires (take s.s.events (events_in s.t.now)) (take_count 15 event_of s.t.now s.s.events n.result count)

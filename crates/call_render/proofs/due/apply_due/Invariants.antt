@@ -8,7 +8,4 @@ use Rattle.call_render.proofs.due.apply_due.Given as goal
 
 abbrev pub invariant-loop-i : goal.invariant-loop-i
 invariant-loop-i l =
-    EventsApplied l.deadline (events_in l.t) l.n (take l.s.voices (voices_in l.voices)) (take l.s.nodes (nodes_in l.initial.nodes)) l.initial.out (take l.s.nodes (nodes_in l.nodes)) l.freed l.out l.count l.taken l.i
-
-abbrev pub decreases-loop-i : goal.decreases-loop-i
-decreases-loop-i l = l.n - l.i
+    EventsApplied l.deadline (events_in l.t) l.i-end (take l.s.voices (voices_in l.voices)) (take l.s.nodes (nodes_in l.initial.nodes)) l.initial.out (take l.s.nodes (nodes_in l.nodes)) l.freed l.out l.count l.taken l.i

@@ -1,14 +1,10 @@
-use mathlib.Core.Path.{refl, ◌∙◌}
-use Rattle.model.specs.Call.{connect}
 use Rattle.memory.specs.Lent.{lent_graph}
 use Rattle.memory.specs.Called.{answered}
-use Rattle.call_seal.proofs.Boards.{through_store, every_seal}
+use Rattle.call_seal.proofs.Boards.{kept_open}
 use Rattle.call_seal.proofs.host.connect.Goals as goal
 
-pub returns : goal.returns
-returns c =
+pub returns-clause-same : goal.returns-clause-same
+returns-clause-same c =
     let a = c.args in
-    let got = c.connect-result in
-    let opens = every_seal a.x (connect a.e.from a.e.to a.e.port) _ (λ s. refl) c.is_sealed.ensures ∙ c.if-is_sealed.false in
-    let told = through_store a.x (connect a.e.from a.e.to a.e.port) (answered got.result.answer) (lent_graph a.s a.nodes.now a.edges.now) (lent_graph got.result.state a.nodes.now got.new.edges) opens got.ensures.is got.ensures.same in
-    record { is = told.0; same = told.1 }
+    let got = c.connect in
+    λ m w words. kept_open answered got.result.answer c.open.result.answer (λ k. lent_graph k a.nodes.now got.new.edges m) got.result.state c.open.result.state (lent_graph a.s a.nodes.now a.edges.now m) c.open.ensures (got.ensures.same m) w words a.x

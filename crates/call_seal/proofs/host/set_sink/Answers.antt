@@ -1,14 +1,10 @@
-use mathlib.Core.Path.{refl, ◌∙◌}
-use Rattle.model.specs.Call.{set_sink}
 use Rattle.memory.specs.Lent.{lent_nodes}
 use Rattle.memory.specs.Called.{answered}
-use Rattle.call_seal.proofs.Boards.{through_store, every_seal}
+use Rattle.call_seal.proofs.Boards.{kept_open}
 use Rattle.call_seal.proofs.host.set_sink.Goals as goal
 
-pub returns : goal.returns
-returns c =
+pub returns-clause-same : goal.returns-clause-same
+returns-clause-same c =
     let a = c.args in
-    let got = c.set_sink-result in
-    let opens = every_seal a.x (set_sink a.node) _ (λ s. refl) c.is_sealed.ensures ∙ c.if-is_sealed.false in
-    let told = through_store a.x (set_sink a.node) (answered got.result.answer) (lent_nodes a.s a.nodes.now) (lent_nodes got.result.state a.nodes.now) opens got.ensures.is got.ensures.same in
-    record { is = told.0; same = told.1 }
+    let got = c.set_sink in
+    λ m w words. kept_open answered got.result.answer c.open.result.answer (λ k. lent_nodes k a.nodes.now m) got.result.state c.open.result.state (lent_nodes a.s a.nodes.now m) c.open.ensures (got.ensures.same m) w words a.x

@@ -1,14 +1,10 @@
-use mathlib.Core.Path.{◌∙◌}
-use Rattle.model.specs.Call.{spawned}
 use Rattle.memory.specs.Lent.{lent_spawn}
-use Rattle.model.specs.Wish.{call_of}
-use Rattle.call_seal.proofs.Boards.{through_store, spawn_closed}
+use Rattle.model.specs.Call.{spawned}
+use Rattle.call_seal.proofs.Boards.{kept_open}
 use Rattle.call_seal.proofs.spawn.spawn.Goals as goal
 
-pub returns : goal.returns
-returns c =
+pub returns-clause-same : goal.returns-clause-same
+returns-clause-same c =
     let a = c.args in
-    let got = c.spawn_voice-result in
-    let opens = spawn_closed a.x a.w _ c.shuts_spawn.ensures ∙ c.if-shuts_spawn.false in
-    let told = through_store a.x (call_of a.w) (spawned got.result.answer) (lent_spawn a.s a.nodes.now a.edges.now a.voices.now a.steals.now) (lent_spawn got.result.state got.new.nodes got.new.edges got.new.voices got.new.steals) opens got.ensures.is got.ensures.same in
-    record { is = told.0; same = told.1 }
+    let got = c.spawn_voice in
+    λ m w words. kept_open spawned got.result.answer c.open.result.answer (λ k. lent_spawn k got.new.nodes got.new.edges got.new.voices got.new.steals m) got.result.state c.open.result.state (lent_spawn a.s a.nodes.now a.edges.now a.voices.now a.steals.now m) c.open.ensures (got.ensures.same m) w words a.x

@@ -1,8 +1,8 @@
+use Rattle.std.specs.Prelude.{Ok}
 use Prim.Native.Nat.{◌+◌}
 use native.Mathlib.Omega.{arith}
 use mathlib.Core.Path.{ap, ◌∙◌}
 use lib.ListN.{take}
-use Rattle.store.specs.declared.answer.Spawned.TheVariants as Spawned
 use Rattle.graph_rows.specs.Node.{nodes_in}
 use Rattle.model.specs.Spawn.{next_voice}
 use Rattle.model.specs.Wish.{spawn_in}
@@ -14,8 +14,8 @@ use Rattle.call_spawn.proofs.Rooms.{blank}
 use Rattle.call_spawn.proofs.Seating.{seats, spawned_in}
 use Rattle.call_spawn.proofs.seat.seat_voice.Goals as goal
 
-pub new_voice-v-requires : goal.new_voice-v-requires
-new_voice-v-requires c =
+pub new_voice-voice-requires : goal.new_voice-voice-requires
+new_voice-voice-requires c =
     let h = c.requires (blank c.args.s) in
     record { within = h.within; ids = h.ids; names = h.names }
 
@@ -31,15 +31,15 @@ pub returns : goal.returns
 returns c =
     let a = c.args in
     let x = spawn_in a.w in
-    let new = c.new_voice-v in
+    let new = c.new_voice-voice in
     let counted = c.raise_noise in
-    let pan = c.pans-panned in
+    let pan = c.pans in
     let grown = c.add_voice-grown in
     let seat = c.push_voice-count in
-    let left = c.with_spawned-told.ensures ∙ ap (λ (k : State). numbered k (a.s.spawned + 1)) c.with_voices-seated.ensures in
+    let left = c.with_spawned.ensures ∙ ap (λ (k : State). numbered k (a.s.spawned + 1)) c.with_voices.ensures in
     λ m.
     let old = lent_voices a.s a.nodes.now a.edges.now a.voices.now m in
     let more = lent_voices grown.result grown.new.nodes grown.new.edges a.voices.now m in
-    ap (spawned_in (Spawned.Voice (next_voice (shared_of old))))
+    ap (spawned_in (Ok (next_voice (shared_of old))))
     (ap (λ (k : State). model_of (lent_voices k grown.new.nodes grown.new.edges seat.new.t m)) left
     ∙ seats x a.state a.port (model_of old) (c.requires m) (take a.s.nodes (nodes_in counted.new.nodes)) counted.ensures (model_of more) pan.result pan.ensures (grown.ensures old) new.result (new.ensures old) _ seat.ensures.is)

@@ -19,8 +19,8 @@ seat_voice-requires c =
     head_apart def room.result.state room.new.nodes room.new.edges room.new.voices room.new.steals m
     (subst (Headroom def) (sym (room.ensures m).is) (headroom_reclaimed def a.w.bus a.w.rank c.most_removed-fuel.result old (c.requires m)))
 
-pub returns-in-At : goal.returns-in-At
-returns-in-At c =
+pub returns-in-Some : goal.returns-in-Some
+returns-in-Some c =
     let a = c.args in
     let room = c.make_room-room in
     let x = spawn_in a.w in
@@ -29,11 +29,11 @@ returns-in-At c =
     λ m.
     let old = lent_spawn a.s a.nodes.now a.edges.now a.voices.now a.steals.now m in
     let left = lent_spawn room.result.state room.new.nodes room.new.edges room.new.voices room.new.steals m in
-    c.seat_voice.ensures left ∙ places x how.result fuel.result (model_of old) (model_of left) room.result.port (room.ensures m) _ c.in-At.is
+    c.seat_voice.ensures left ∙ places x how.result fuel.result (model_of old) (model_of left) room.result.port (room.ensures m) _ c.in-Some.is
     ∙ under a.budget x (model_of old) fuel.result how.result fuel.ensures how.ensures
 
-pub returns-in-Nothing : goal.returns-in-Nothing
-returns-in-Nothing c =
+pub returns-in-None : goal.returns-in-None
+returns-in-None c =
     let a = c.args in
     let room = c.make_room-room in
     let x = spawn_in a.w in
@@ -43,5 +43,5 @@ returns-in-Nothing c =
     let old = lent_spawn a.s a.nodes.now a.edges.now a.voices.now a.steals.now m in
     let left = lent_spawn room.result.state room.new.nodes room.new.edges room.new.voices room.new.steals m in
     refused_in NoPort c.refuse.result.answer left _ c.refuse.ensures.1 (ap (λ k. lent_spawn k room.new.nodes room.new.edges room.new.voices room.new.steals m) c.refuse.ensures.0)
-    ∙ places_not x how.result fuel.result (model_of old) (model_of left) room.result.port (room.ensures m) c.in-Nothing.is
+    ∙ places_not x how.result fuel.result (model_of old) (model_of left) room.result.port (room.ensures m) c.in-None.is
     ∙ under a.budget x (model_of old) fuel.result how.result fuel.ensures how.ensures

@@ -24,4 +24,4 @@ returns c =
     let n = c.append_node-n in
     let e = c.put_edge-both in
     let wired = e.ensures.is ∙ ap (λ z. put z (edge (id a.s.next) a.bus a.port)) c.put_edge-fed.ensures.is in
-    λ m. fade_grows a.s a.nodes.now a.edges.now m a.owner a.from a.bus a.port is c.fade_node-row.result c.fade_node-row.ensures n.new.nodes e.new.edges n.result e.result c.with_graph.result c.with_graph.ensures n.ensures wired
+    λ m. fade_grows a.s a.nodes.now a.edges.now m a.owner a.from a.bus a.port is c.fade_node.result c.fade_node.ensures n.new.nodes e.new.edges n.result e.result c.with_graph.result c.with_graph.ensures n.ensures wired

@@ -19,19 +19,19 @@ count_is c = rows_count 24 c.args.d.nodes.count c.args.d.nodes.rows (rows_long c
 pub returns-then-not-has_room : goal.returns-then-not-has_room
 returns-then-not-has_room c =
     let a = c.args in
-    let many : length (node_rows a.d.nodes) ≡ c.at_most-m.result = count_is (goal.at.returns-then-not-has_room c).Start ∙ sym c.at_most-m.ensures in
+    let many : length (node_rows a.d.nodes) ≡ c.min-m.result = count_is (goal.at.returns-then-not-has_room c).Start ∙ sym c.min-m.ensures in
     let old = length (take a.s.nodes (nodes_in a.nodes.now)) in
     let no : has_room old a.s.next (length (node_rows a.d.nodes) + 2) ≡ false =
-    ap (λ k. has_room old a.s.next (k + 2)) many ∙ ap (λ k. has_room k a.s.next (c.at_most-m.result + 2)) (sym c.node_count.ensures) ∙ sym c.has_room.ensures ∙ c.if-not-has_room.true in
+    ap (λ k. has_room old a.s.next (k + 2)) many ∙ ap (λ k. has_room k a.s.next (c.min-m.result + 2)) (sym c.node_count.ensures) ∙ sym c.has_room.ensures ∙ c.if-not-has_room.true in
     λ m. voice_stays a.s a.nodes.now a.edges.now m a.owner a.d a.pan a.bus a.port no
 
 pub returns : goal.returns
 returns c =
     let a = c.args in
-    let many : length (node_rows a.d.nodes) ≡ c.at_most-m.result = count_is (goal.at.returns c).Start ∙ sym c.at_most-m.ensures in
+    let many : length (node_rows a.d.nodes) ≡ c.min-m.result = count_is (goal.at.returns c).Start ∙ sym c.min-m.ensures in
     let old = length (take a.s.nodes (nodes_in a.nodes.now)) in
     let is : has_room old a.s.next (length (node_rows a.d.nodes) + 2) ≡ true =
-    ap (λ k. has_room old a.s.next (k + 2)) many ∙ ap (λ k. has_room k a.s.next (c.at_most-m.result + 2)) (sym c.node_count.ensures) ∙ sym c.has_room.ensures ∙ c.if-not-has_room.false in
+    ap (λ k. has_room old a.s.next (k + 2)) many ∙ ap (λ k. has_room k a.s.next (c.min-m.result + 2)) (sym c.node_count.ensures) ∙ sym c.has_room.ensures ∙ c.if-not-has_room.false in
     let size : a.s.next + c.voice_size.result ≡ a.s.next + voice_size (length (node_rows a.d.nodes)) a.pan = ap (λ k. a.s.next + k) (c.voice_size.ensures ∙ ap (λ k. voice_size k a.pan) (sym many)) in
     let n = c.append_voice-n in
     let e = c.wire_voice-e in

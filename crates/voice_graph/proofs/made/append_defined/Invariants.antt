@@ -10,7 +10,4 @@ use Rattle.voice_graph.proofs.made.append_defined.Given as goal
 
 abbrev pub invariant-loop-i : goal.invariant-loop-i
 invariant-loop-i l =
-    (l.i ≤ l.m) × Holds (nodes_in l.nodes) l.k (take l.count (nodes_in l.initial.nodes) ++ numbered l.first (take l.i (map (def_node l.owner) (node_rows l.ns))))
-
-abbrev pub decreases-loop-i : goal.decreases-loop-i
-decreases-loop-i l = l.m - l.i
+    Holds (nodes_in l.nodes) l.k (take l.count (nodes_in l.initial.nodes) ++ numbered l.first (take l.i (map (def_node l.owner) (node_rows l.fn.ns))))

@@ -28,7 +28,7 @@ append_pan-requires c =
     let rows = map (def_node a.owner) (node_rows a.ns) in
     let long : length (take d.result (nodes_in d.new.nodes)) ≡ length base + length (node_rows a.ns) =
     ap length d.ensures.is ∙ length-append base (numbered a.first rows) ∙ ap (λ k. length base + k) (length_numbered a.first rows ∙ length-map (node_rows a.ns) (def_node a.owner)) in
-    record { places = omega (arith, s.requires.places, long); ids = omega (arith, s.requires.ids, many (goal.at.append_pan-requires c).Start, c.at_most-m.ensures) }
+    record { places = omega (arith, s.requires.places, long); ids = omega (arith, s.requires.ids, many (goal.at.append_pan-requires c).Start, c.min-m.ensures) }
 
 pub returns-then-pan : goal.returns-then-pan
 returns-then-pan c =
@@ -38,7 +38,7 @@ returns-then-pan c =
     let w = a.owner in
     let base = take a.count (nodes_in a.nodes.now) in
     let rows = map (def_node w) (node_rows a.ns) in
-    let size : length rows ≡ c.at_most-m.result = length-map (node_rows a.ns) (def_node w) ∙ many (goal.at.returns-then-pan c).Start ∙ sym c.at_most-m.ensures in
-    let all = appended_more base rows (const_node w ∷ pan_node w ∷ []) a.first c.at_most-m.result size d.ensures.is in
+    let size : length rows ≡ c.min-m.result = length-map (node_rows a.ns) (def_node w) ∙ many (goal.at.returns-then-pan c).Start ∙ sym c.min-m.ensures in
+    let all = appended_more base rows (const_node w ∷ pan_node w ∷ []) a.first c.min-m.result size d.ensures.is in
     subst (λ b. Holds (nodes_in c.append_pan.new.nodes) c.append_pan.result (base ++ numbered a.first (nodes_for w a.ns b))) (sym c.if-pan.true)
     (subst (Holds (nodes_in c.append_pan.new.nodes) c.append_pan.result) all c.append_pan.ensures)

@@ -1,4 +1,0 @@
-pub mod Tests
-pub mod Wiring
-pub mod Ordering
-pub mod Queueing
