@@ -2,14 +2,17 @@
 use Prim.Native.Nat.{ℕ}
 use mathlib.Core.Path.{◌≡◌, refl, sym, ap, ◌∙◌}
 use mathlib.Core.List.{List, []}
-use mathlib.Core.Bool.{Bool, true, false}
+use mathlib.Core.Bool.{Bool, true, false, not}
 use Rattle.console.specs.Console.{Console, ConsoleCall, ConsoleAnswer, plain, accepted, refused, served, empty, ConsoleStep, console_step, ConsoleMade, made}
 use Rattle.memory.specs.View.{Memory}
 use Rattle.memory.specs.Lent.{lent_state}
 use Rattle.memory.specs.declared.state.State.{State}
 use Rattle.call_console.specs.declared.queues.WishState.{WishState}
-use Rattle.call_console.specs.declared.turning.TurnAnswer.{TurnAnswer}
-use Rattle.call_console.specs.declared.making.MakeAnswer.{MakeAnswer}
+use Rattle.std.specs.Prelude.{Option, None, Some, is_some, Result, Err, Ok}
+use Rattle.std.specs.Result.{is_err}
+use Rattle.call_console.specs.declared.turning.Served.{Served}
+use Rattle.call_console.specs.declared.making.MakeRefusal.{MakeRefusal}
+use Rattle.call_console.specs.declared.making.MakeRefusal.TheVariants.{Store, Keyboards}
 use Rattle.call_console.specs.Called.{ConsoleMemory, memory, console_of, Called, Kept, turn_answer, made_of}
 use Rattle.state_words.specs.State.{state_in}
 use Rattle.wish_state_words.specs.Waiting.{waiting_in}
@@ -85,20 +88,32 @@ module _ (x y : ConsoleCall) (before after : State → WishState → ConsoleMemo
       go false h = settled.moved h
 
   -- the cells of a turn hold what its answer has
-  pub turn_cells : (e : TurnAnswer) (o o' i i' : ℕ) → a ≡ turn_answer e → o' ≡ keyboard_cell e o → i' ≡ served_cell e i → TurnCells x (before (state_in w) (waiting_in u)) o o' i i'
+  pub turn_cells : (e : Option Served) (o o' i i' : ℕ) → a ≡ turn_answer e → o' ≡ keyboard_cell e o → i' ≡ served_cell e i → TurnCells x (before (state_in w) (waiting_in u)) o o' i i'
   turn_cells e o o' i i' says keyboard voice = record { value = e; answer = sym said ∙ says; keyboard = keyboard; voice = voice }
 
+-- ---- an answer that is a refusal, or none, keeps every word
+pub turn_kept : (a : Option Served) (b : Bool) → is_some a ≡ not b → b ≡ waiting_kept (turn_answer a)
+turn_kept None true h = refl
+turn_kept None false h = h
+turn_kept (Some x) false h = refl
+turn_kept (Some x) true h = h
+
+pub made_keeps : (a : Result (Unit {0}) MakeRefusal) (x : Console) → is_err a ≡ made_kept (made_of a x)
+made_keeps (Ok tt) x = refl
+made_keeps (Err (Store r)) x = refl
+made_keeps (Err (Keyboards r)) x = refl
+
 -- ---- making: o is what it comes to, a its answer
-is_made : (a : MakeAnswer) (x : Console) → made_kept (made_of a x) ≡ false → made_of a x ≡ made x
-is_made MakeAnswer.Done x h = refl
-is_made (MakeAnswer.Refused r) x h = no (sym h)
-is_made (MakeAnswer.Keyboards r) x h = no (sym h)
+is_made : (a : Result (Unit {0}) MakeRefusal) (x : Console) → made_kept (made_of a x) ≡ false → made_of a x ≡ made x
+is_made (Ok tt) x h = refl
+is_made (Err (Store r)) x h = no (sym h)
+is_made (Err (Keyboards r)) x h = no (sym h)
 
 -- any tables
 bare : State → Memory
 bare s = record { state = s; nodes = []; edges = []; order = []; voices = []; events = []; steals = [] }
 
-pub makes : (o : ConsoleMade) (a : MakeAnswer) (s : State) (p : WishState) (w u v z : List ℕ) (kept : Bool) (k r : ℕ)
+pub makes : (o : ConsoleMade) (a : Result (Unit {0}) MakeRefusal) (s : State) (p : WishState) (w u v z : List ℕ) (kept : Bool) (k r : ℕ)
     → ((m : Memory) (c : List ℕ) → made_of a (console_of (memory (lent_state s m) p c)) ≡ o)
     → ((x : Console) → kept ≡ made_kept (made_of a x))
     → ((x : Console) → k ≡ made_code (made_of a x))

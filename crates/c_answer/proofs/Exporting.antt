@@ -5,12 +5,16 @@ use mathlib.Core.Path.{◌≡◌, refl, sym, ap, ◌∙◌}
 use mathlib.Core.List.{List}
 use mathlib.Core.Bool.{Bool, true, false}
 use Rattle.model.specs.Call.{Call, Answer, Step, step}
-use Rattle.model.specs.Numbers.{number_in}
+use Rattle.model.specs.Numbers.{number, number_in}
 use Rattle.memory.specs.View.{Memory, model_of}
 use Rattle.memory.specs.declared.state.State.{State}
-use Rattle.memory.specs.Called.{Called, Kept, keeps}
+use Rattle.memory.specs.Called.{Called, Kept, keeps, answered, add_answered}
 use Rattle.state_words.specs.State.{state_in}
-use Rattle.c_answer.specs.Exported.{code, said_by, Exported, Tells, Settled}
+use Rattle.node.specs.declared.record.NodeId.{NodeId}
+use Rattle.node.specs.declared.refusal.Refusal.{Refusal}
+use Rattle.node.specs.Refusal.{says}
+use Rattle.std.specs.Prelude.{Result, Err, Ok}
+use Rattle.c_answer.specs.Exported.{code, result_code, said_by, Exported, Tells, Settled}
 
 pub no : {A : Type 0} → ◌≡◌ {A = Bool} false true → A
 no e = absurd (let z : ◌≡◌ {A = ℕ} 0 1 = cc in omega arith)
@@ -59,3 +63,20 @@ module _ (c d : Call) (before after : State → Memory) (w : List ℕ) (s t : St
       go : (x : Bool) → b ≡ x → state_in v ≡ t
       go true h = ap state_in (settled.stays h) ∙ sym read ∙ sym (own s) ∙ ap (λ (m : Memory). m.state) (sym (kept (sym tested ∙ h))) ∙ own' t
       go false h = settled.moved h
+
+-- a call that answers by a result: its number, and whether it keeps every word
+pub done_code : (a : Result (Unit {0}) Refusal) → result_code a ≡ code (answered a)
+done_code (Ok tt) = refl
+done_code (Err r) = refl
+
+pub node_code : (a : Result NodeId Refusal) → result_code a ≡ code (add_answered a)
+node_code (Ok k) = refl
+node_code (Err r) = refl
+
+pub done_kept : (a : Result (Unit {0}) Refusal) → keeps (number (says a)) ≡ keeps (number_in (answered a))
+done_kept (Ok tt) = refl
+done_kept (Err r) = refl
+
+pub node_kept : (a : Result NodeId Refusal) → keeps (number (says a)) ≡ keeps (number_in (add_answered a))
+node_kept (Ok k) = refl
+node_kept (Err r) = refl

@@ -1,5 +1,5 @@
 -- Arguments that are numbers: the shape and the space of a glide, the glide of them, the action of an event, and what making is asked for.
-use Rattle.std.specs.Prelude.{ℕ, cond, eqb, Float}
+use Rattle.std.specs.Prelude.{ℕ, cond, eqb, Float, Option}
 use Rattle.node.specs.declared.order.EventAction.{EventAction}
 use Rattle.node.specs.declared.order.EventAction.TheVariants as action
 use Rattle.node.specs.declared.order.Glide.{Glide}
@@ -7,7 +7,6 @@ use Rattle.node.specs.declared.order.GlideShape.{GlideShape}
 use Rattle.node.specs.declared.order.GlideShape.TheVariants as shape
 use Rattle.node.specs.declared.order.GlideSpace.{GlideSpace}
 use Rattle.node.specs.declared.order.GlideSpace.TheVariants as space
-use Rattle.voice.specs.declared.policy.Budget.{Budget}
 use Rattle.store.specs.declared.config.Making.{Making}
 use Rattle.words.specs.Fields.{is_set}
 use Rattle.state_words.specs.State.{policy_in, scope_in}
@@ -29,5 +28,5 @@ glide_in target seconds shape curve space = record { target = target; seconds = 
 abbrev pub action_in : ℕ → Glide → EventAction
 action_in tag g = by_tag tag (action.Value g.target) (action.Glide g) (action.Gate g.target) action.Free
 
-abbrev pub making_in : Float → ℕ → Budget → ℕ → ℕ → ℕ → Making
+abbrev pub making_in : Float → ℕ → Option ℕ → ℕ → ℕ → ℕ → Making
 making_in rate block budget policy scope table = record { rate = rate; block = block; budget = budget; policy = policy_in policy; scope = scope_in scope; table = is_set table }

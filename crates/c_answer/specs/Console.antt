@@ -1,6 +1,6 @@
 -- What an exported call of the console answers and leaves (02, Paper 11). Beside the state's words a host in C holds those of what waits
 -- (wish_state_words).
-use Rattle.std.specs.Prelude.{ℕ, ◌≡◌, List, Bool, true, false}
+use Rattle.std.specs.Prelude.{ℕ, ◌≡◌, List, Bool, true, false, Option, None, Some}
 use Rattle.node.specs.Refusal.{number_of}
 use Rattle.console.specs.Refusal as keyboard
 use Rattle.model.specs.Numbers.{number_in}
@@ -9,7 +9,7 @@ use Rattle.memory.specs.View.{Memory}
 use Rattle.memory.specs.Lent.{lent_state}
 use Rattle.memory.specs.Called.{keeps}
 use Rattle.call_console.specs.declared.queues.WishState.{WishState}
-use Rattle.call_console.specs.declared.turning.TurnAnswer.{TurnAnswer}
+use Rattle.call_console.specs.declared.turning.Served.{Served}
 use Rattle.call_console.specs.Called.{ConsoleMemory, memory, console_of, turn_answer}
 use Rattle.state_words.specs.State.{state_in}
 use Rattle.wish_state_words.specs.Waiting.{waiting_in}
@@ -56,16 +56,16 @@ pub record ConsoleExported (x : ConsoleCall) (m : ConsoleMemory) (w u : List ℕ
   pub waiting : waiting_kept (said_to x m) ≡ true → (t ≡ u) × (n.words ≡ m.words)
 
 -- ---- what stands in the cells after a turn: the keyboard that it served and the new voice; else what stood there
-abbrev pub keyboard_cell : TurnAnswer → ℕ → ℕ
-keyboard_cell TurnAnswer.Empty old = old
-keyboard_cell (TurnAnswer.Served q a) old = q
+abbrev pub keyboard_cell : Option Served → ℕ → ℕ
+keyboard_cell None old = old
+keyboard_cell (Some x) old = x.keyboard
 
-abbrev pub served_cell : TurnAnswer → ℕ → ℕ
-served_cell TurnAnswer.Empty old = old
-served_cell (TurnAnswer.Served q a) old = voice_cell a old
+abbrev pub served_cell : Option Served → ℕ → ℕ
+served_cell None old = old
+served_cell (Some x) old = voice_cell x.answer old
 
 pub record TurnCells (x : ConsoleCall) (m : ConsoleMemory) (q q' v v' : ℕ) : Type 0 where
-  pub value : TurnAnswer
+  pub value : Option Served
   pub answer : said_to x m ≡ turn_answer value
   pub keyboard : q' ≡ keyboard_cell value q
   pub voice : v' ≡ served_cell value v

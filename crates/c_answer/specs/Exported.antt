@@ -1,13 +1,12 @@
 -- What an exported call answers and leaves. A host in C holds words: the state is a list of words (state_words), an answer is one
 -- number, and what else a call gives is stored in cells that the host lends.
-use Rattle.std.specs.Prelude.{ℕ, ◌≡◌, List, Bool, true, false}
+use Rattle.node.specs.declared.record.VoiceId.{VoiceId}
+use Rattle.node.specs.declared.refusal.Refusal.{Refusal}
+use Rattle.node.specs.declared.record.NodeId.{NodeId}
+use Rattle.std.specs.Prelude.{ℕ, ◌≡◌, List, Bool, true, false, Result, Err, Ok}
 use Rattle.node.specs.Refusal.{number_of}
-use Rattle.store.specs.declared.answer.Spawned.{Spawned}
-use Rattle.store.specs.declared.answer.Spawned.TheVariants as spawned
 use Rattle.store.specs.declared.answer.Rendered.{Rendered}
 use Rattle.store.specs.declared.answer.Rendered.TheVariants as rendered
-use Rattle.graph.specs.declared.state.AddAnswer.{AddAnswer}
-use Rattle.graph.specs.declared.state.AddAnswer.TheVariants as given
 use Rattle.model.specs.Call.{Call, Answer, step}
 use Rattle.model.specs.Call as call
 use Rattle.model.specs.Order.{outcome_number}
@@ -18,9 +17,9 @@ use Rattle.memory.specs.declared.state.State.{State}
 use Rattle.state_words.specs.State.{state_in}
 
 -- ---- the number of an answer: 0 done, or 01's and 02's number
-abbrev pub spawn_code : Spawned → ℕ
-spawn_code (spawned.Voice w) = 0
-spawn_code (spawned.Refused r) = number_of r
+abbrev pub result_code : {A : Type 0} → Result A Refusal → ℕ
+result_code (Ok x) = 0
+result_code (Err r) = number_of r
 
 -- "the render is not refused: it answers silent and 13 or 14"
 abbrev pub render_code : Rendered → ℕ
@@ -33,7 +32,7 @@ abbrev pub code : Answer → ℕ
 code call.done = 0
 code (call.refused r) = number_of r
 code (call.node k) = 0
-code (call.spawned s) = spawn_code s
+code (call.spawned s) = result_code s
 code (call.removed n) = 0
 code (call.ordered o) = outcome_number o
 code (call.rendered a n out) = render_code a
@@ -71,13 +70,13 @@ pub record Tells {A : Type 0} (say : A → Answer) (c : Call) (m : Memory) (k : 
   pub held : cells value
 
 -- ---- what stands in a cell: the new node, the new voice, 1 or 0 for sounding or silent; where the call was refused, what stood there
-abbrev pub node_cell : AddAnswer → ℕ → ℕ
-node_cell (given.Id k) old = k.0
-node_cell (given.Refused r) old = old
+abbrev pub node_cell : Result NodeId Refusal → ℕ → ℕ
+node_cell (Ok k) old = k.0
+node_cell (Err r) old = old
 
-abbrev pub voice_cell : Spawned → ℕ → ℕ
-voice_cell (spawned.Voice w) old = w.0
-voice_cell (spawned.Refused r) old = old
+abbrev pub voice_cell : Result VoiceId Refusal → ℕ → ℕ
+voice_cell (Ok w) old = w.0
+voice_cell (Err r) old = old
 
 abbrev pub sound_cell : Rendered → ℕ → ℕ
 sound_cell rendered.Sounding old = 1

@@ -1,34 +1,30 @@
 // Enums, a glide, and what making is asked for, that a host in C gives as numbers. Any number stands for one.
 ghost use Rattle.std.specs.Prelude.{◌≡◌};
+ghost use Rattle.state_words.specs.State.{budget_in};
 ghost use Rattle.c_answer.specs.Argument.{shape_in, space_in, glide_in, action_in, making_in};
 
 use node::order::{EventAction, Glide, GlideShape, GlideSpace};
-use state_words::{policy_in, scope_in};
+use state_words::{budget_in, policy_in, scope_in};
 use store::config::Making;
-use voice::policy::Budget;
 
 fn shape_in(tag: u32, curve: f32) -> GlideShape
     ensures { result ≡ shape_in tag curve }
 {
-    if tag == 0 {
-        return GlideShape::Hold;
+    match tag {
+        0 => GlideShape::Hold,
+        1 => GlideShape::Linear,
+        2 => GlideShape::Sine,
+        _ => GlideShape::Exponential(curve),
     }
-    if tag == 1 {
-        return GlideShape::Linear;
-    }
-    if tag == 2 {
-        return GlideShape::Sine;
-    }
-    GlideShape::Exponential(curve)
 }
 
 fn space_in(tag: u32) -> GlideSpace
     ensures { result ≡ space_in tag }
 {
-    if tag == 0 {
-        return GlideSpace::Raw;
+    match tag {
+        0 => GlideSpace::Raw,
+        _ => GlideSpace::Pitch,
     }
-    GlideSpace::Pitch
 }
 
 pub fn glide_in(target: f32, seconds: f32, shape: u32, curve: f32, space: u32) -> Glide
@@ -46,32 +42,29 @@ pub fn glide_in(target: f32, seconds: f32, shape: u32, curve: f32, space: u32) -
 pub fn action_in(tag: u32, glide: Glide) -> EventAction
     ensures { result ≡ action_in tag glide }
 {
-    if tag == 0 {
-        return EventAction::Value(glide.target);
+    match tag {
+        0 => EventAction::Value(glide.target),
+        1 => EventAction::Glide(glide),
+        2 => EventAction::Gate(glide.target),
+        _ => EventAction::Free,
     }
-    if tag == 1 {
-        return EventAction::Glide(glide);
-    }
-    if tag == 2 {
-        return EventAction::Gate(glide.target);
-    }
-    EventAction::Free
 }
 
 pub fn making_in(
     rate: f32,
     block: usize,
-    budget: Budget,
+    limited: u32,
+    budget: usize,
     policy: u32,
     scope: u32,
     table: u32,
 ) -> Making
-    ensures { result ≡ making_in rate block budget policy scope table }
+    ensures { result ≡ making_in rate block (budget_in limited budget) policy scope table }
 {
     Making {
         rate,
         block,
-        budget,
+        budget: budget_in(limited, budget),
         policy: policy_in(policy),
         scope: scope_in(scope),
         table: table != 0,

@@ -2,120 +2,49 @@
 ghost use Rattle.std.specs.Prelude.{◌≡◌};
 ghost use Rattle.console.specs.Refusal.{number_of};
 ghost use Rattle.console.specs.Console.{Console};
-ghost use Rattle.call_console.specs.Called.{wish_answer, turn_answer, made_of};
-ghost use Rattle.c_answer.specs.Console.{console_code, store_kept, waiting_kept, keyboard_cell, served_cell, made_code, made_kept, WaitingSettled};
+ghost use Rattle.call_console.specs.Called.{turn_answer, made_of};
+ghost use Rattle.c_answer.specs.Console.{console_code, store_kept, made_code, WaitingSettled};
 
-use crate::answer::{number_of, spawn_code, spawn_kept, voice_cell};
-use call_console::making::MakeAnswer;
+use crate::answer::{number_of, result_code, result_kept};
+use call_console::making::MakeRefusal;
 use call_console::queues::WishState;
-use call_console::turning::TurnAnswer;
-use call_console::wishing::WishAnswer;
+use call_console::turning::Served;
 use console::refusal::{KeyboardRefusal, keyboard_refusal_number};
 use wish_state_words::{WaitingWords, put_waiting};
 
 pub const EMPTY_TURN: u32 = 256;
 
-fn keyboard_number(r: KeyboardRefusal) -> u32
+pub fn keyboard_number(r: KeyboardRefusal) -> u32
     ensures { result ≡ number_of r }
 {
-    keyboard_refusal_number(r) as u32
+    u32::from(keyboard_refusal_number(r))
 }
 
-pub fn wish_code(a: WishAnswer) -> u32
-    ensures { result ≡ console_code (wish_answer a) }
-{
-    match a {
-        WishAnswer::Accepted => 0,
-        WishAnswer::Refused(r) => keyboard_number(r),
-    }
-}
-
-pub fn wish_kept(a: WishAnswer) -> bool
-    ensures { result ≡ waiting_kept (wish_answer a) }
-{
-    match a {
-        WishAnswer::Accepted => false,
-        WishAnswer::Refused(_) => true,
-    }
-}
-
-pub fn turn_code(a: TurnAnswer) -> u32
+pub fn turn_code(a: Option<Served>) -> u32
     ensures { result ≡ console_code (turn_answer a) }
 {
     match a {
-        TurnAnswer::Empty => EMPTY_TURN,
-        TurnAnswer::Served {
-            keyboard: _,
-            answer,
-        } => spawn_code(answer),
+        Some(served) => result_code(served.answer),
+        None => EMPTY_TURN,
     }
 }
 
-pub fn turn_keeps_store(a: TurnAnswer) -> bool
+pub fn turn_keeps_store(a: Option<Served>) -> bool
     ensures { result ≡ store_kept (turn_answer a) }
 {
     match a {
-        TurnAnswer::Empty => true,
-        TurnAnswer::Served {
-            keyboard: _,
-            answer,
-        } => spawn_kept(answer),
+        Some(served) => result_kept(served.answer),
+        None => true,
     }
 }
 
-pub fn turn_keeps_waiting(a: TurnAnswer) -> bool
-    ensures { result ≡ waiting_kept (turn_answer a) }
-{
-    match a {
-        TurnAnswer::Empty => true,
-        TurnAnswer::Served {
-            keyboard: _,
-            answer: _,
-        } => false,
-    }
-}
-
-pub fn keyboard_cell(a: TurnAnswer, old: usize) -> usize
-    ensures { result ≡ keyboard_cell a old }
-{
-    match a {
-        TurnAnswer::Empty => old,
-        TurnAnswer::Served {
-            keyboard,
-            answer: _,
-        } => keyboard,
-    }
-}
-
-pub fn served_cell(a: TurnAnswer, old: u64) -> u64
-    ensures { result ≡ served_cell a old }
-{
-    match a {
-        TurnAnswer::Empty => old,
-        TurnAnswer::Served {
-            keyboard: _,
-            answer,
-        } => voice_cell(answer, old),
-    }
-}
-
-pub fn made_code(a: MakeAnswer) -> u32
+pub fn made_code(a: Result<(), MakeRefusal>) -> u32
     ensures { (x : Console) → result ≡ made_code (made_of a x) }
 {
     match a {
-        MakeAnswer::Done => 0,
-        MakeAnswer::Refused(r) => number_of(r),
-        MakeAnswer::Keyboards(r) => keyboard_number(r),
-    }
-}
-
-pub fn made_kept(a: MakeAnswer) -> bool
-    ensures { (x : Console) → result ≡ made_kept (made_of a x) }
-{
-    match a {
-        MakeAnswer::Done => false,
-        MakeAnswer::Refused(_) => true,
-        MakeAnswer::Keyboards(_) => true,
+        Ok(()) => 0,
+        Err(MakeRefusal::Store(r)) => number_of(r),
+        Err(MakeRefusal::Keyboards(r)) => keyboard_number(r),
     }
 }
 
@@ -123,8 +52,7 @@ pub fn made_kept(a: MakeAnswer) -> bool
 pub fn settle_waiting(w: &mut WaitingWords, s: WishState, kept: bool)
     ensures { WaitingSettled w.old s kept w.new }
 {
-    if kept {
-        return;
+    if !kept {
+        put_waiting(w, s);
     }
-    put_waiting(w, s);
 }

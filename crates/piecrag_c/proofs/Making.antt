@@ -9,11 +9,13 @@ use Rattle.model.specs.Numbers.{number_in}
 use Rattle.memory.specs.View.{Memory, model_of}
 use Rattle.memory.specs.Lent.{lent_state}
 use Rattle.memory.specs.Called.{answered, keeps}
-use Rattle.call_make.specs.declared.Made.{Made}
+use Rattle.node.specs.declared.refusal.Refusal.{Refusal}
+use Rattle.std.specs.Prelude.{Result}
+use Rattle.memory.specs.declared.state.CallResult.{CallResult}
 use Rattle.state_words.specs.State.{state_in}
 use Rattle.c_answer.specs.Exported.{code, Settled}
 
-pub made : (asked said : Making) (w v : List ℕ) (x : Made) (kept : Bool) (k r : ℕ)
+pub made : (asked said : Making) (w v : List ℕ) (x : CallResult (Result (Unit {0}) Refusal)) (kept : Bool) (k r : ℕ)
     → asked ≡ said
     → x.answer ≡ answer_of (refusal_of asked)
     → ((m : Memory) → model_of (lent_state x.state m) ≡ new_model (config_of asked))

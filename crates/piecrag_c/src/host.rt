@@ -11,11 +11,11 @@ ghost use Rattle.model.specs.Numbers.{number_in};
 ghost use Rattle.c_answer.specs.Exported.{Exported, code};
 ghost use Rattle.c_answer.specs.Argument.{glide_in, action_in, making_in};
 
-use c_answer::answer::{answer_code, answer_kept, settle};
+use c_answer::answer::{result_code, result_kept, settle};
 use c_answer::argument::{action_in, glide_in, making_in};
 use node::record::VoiceId;
 use piecrag::{EdgeTable, EventTable, NodeTable, OrderTable};
-use state_words::{StateWords, budget_in, state_in};
+use state_words::{StateWords, state_in};
 
 // A new store, whatever stands in the words of its tables.
 #[unsafe(no_mangle)]
@@ -33,10 +33,14 @@ pub extern "C" fn piecrag_make(
     ensures model { keeps (number_in (answered (answer_of (refusal_of (making_in rate block (budget_in limited budget) policy scope table))))) ≡ false → (m : Memory) → model_of (lent_state (state_in state.new) m) ≡ new_model (config_of (making_in rate block (budget_in limited budget) policy scope table)) }
     ensures same { keeps (number_in (answered (answer_of (refusal_of (making_in rate block (budget_in limited budget) policy scope table))))) ≡ true → state.new ≡ state.old }
 {
-    let most = budget_in(limited, budget);
-    let made = piecrag::make(making_in(rate, block, most, policy, scope, table));
-    let answer = made.answer;
-    settle(state, made.state, answer_kept(answer), answer_code(answer))
+    let asked = making_in(rate, block, limited, budget, policy, scope, table);
+    let made = piecrag::make(asked);
+    settle(
+        state,
+        made.state,
+        result_kept(made.answer),
+        result_code(made.answer),
+    )
 }
 
 #[unsafe(no_mangle)]
@@ -50,8 +54,7 @@ pub extern "C" fn piecrag_prepare(
 {
     let s = state_in(state);
     let r = piecrag::prepare(s, nodes, edges, order);
-    let answer = r.answer;
-    settle(state, r.state, answer_kept(answer), answer_code(answer))
+    settle(state, r.state, result_kept(r.answer), result_code(r.answer))
 }
 
 // An action for a voice at the sample `time`: `value` is the value, the target of the glide or the gate. A value and a glide are for the
@@ -73,9 +76,7 @@ pub extern "C" fn piecrag_schedule(
     ensures { (m : Memory) → Exported (call.schedule time (record { 0 = voice }) name.now (action_in action (glide_in value seconds shape curve space))) (lent_events (state_in state.old) events.old m) state.old result (lent_events (state_in state.new) events.new m) state.new }
 {
     let s = state_in(state);
-    let glide = glide_in(value, seconds, shape, curve, space);
-    let asked = action_in(action, glide);
+    let asked = action_in(action, glide_in(value, seconds, shape, curve, space));
     let r = piecrag::schedule(s, events, time, VoiceId(voice), name, asked);
-    let answer = r.answer;
-    settle(state, r.state, answer_kept(answer), answer_code(answer))
+    settle(state, r.state, result_kept(r.answer), result_code(r.answer))
 }

@@ -6,8 +6,8 @@ ghost use Rattle.c_answer.specs.Console.{MakesConsole};
 
 use c_answer::answer::settle;
 use c_answer::argument::making_in;
-use c_answer::keyboards::{made_code, made_kept, settle_waiting};
-use state_words::{StateWords, budget_in};
+use c_answer::keyboards::{made_code, settle_waiting};
+use state_words::StateWords;
 use wish_state_words::WaitingWords;
 
 // A new console, whatever stands in the words of its tables.
@@ -26,11 +26,9 @@ pub extern "C" fn piecrag_make_console(
 ) -> u32
     ensures { MakesConsole (make_console (making_in rate block (budget_in limited budget) policy scope table) keyboards) state.old waiting.old result state.new waiting.new }
 {
-    let most = budget_in(limited, budget);
-    let asked = making_in(rate, block, most, policy, scope, table);
+    let asked = making_in(rate, block, limited, budget, policy, scope, table);
     let made = piecrag::make_console(asked, keyboards);
-    let answer = made.answer;
-    let kept = made_kept(answer);
+    let kept = made.answer.is_err();
     settle_waiting(waiting, made.wishes, kept);
-    settle(state, made.state, kept, made_code(answer))
+    settle(state, made.state, kept, made_code(made.answer))
 }

@@ -2,10 +2,11 @@
 ghost use Rattle.std.specs.Prelude.{◌≡◌, List, ℕ, length};
 ghost use Rattle.console.specs.Wishes.{keyboards, waiting_at, picked};
 ghost use Rattle.call_console.specs.Queues.{wishes_of};
+ghost use Rattle.state_words.specs.State.{some_flag};
 ghost use Rattle.wish_state_words.specs.Waiting.{waiting_in};
-ghost use Rattle.piecrag_c_console.specs.Next.{next_flag, next_cell, picked_flag, picked_cell};
+ghost use Rattle.piecrag_c_console.specs.Next.{picked_cell};
 
-use call_console::queues::{Keyboard, next_keyboard};
+use call_console::queues::next_keyboard;
 use wish_state_words::{WaitingWords, waiting_in};
 
 // How many keyboards there are.
@@ -32,24 +33,6 @@ pub extern "C" fn piecrag_waiting_count(
     0
 }
 
-fn next_flag(k: Keyboard) -> u32
-    ensures { result ≡ next_flag k }
-{
-    match k {
-        Keyboard::At(_) => 1,
-        Keyboard::Nothing => 0,
-    }
-}
-
-fn next_cell(k: Keyboard, old: usize) -> usize
-    ensures { result ≡ next_cell k old }
-{
-    match k {
-        Keyboard::At(q) => q,
-        Keyboard::Nothing => old,
-    }
-}
-
 // The keyboard that the next turn serves: `found` becomes 1, or 0 where no wish waits.
 #[unsafe(no_mangle)]
 pub extern "C" fn piecrag_next_keyboard(
@@ -57,11 +40,11 @@ pub extern "C" fn piecrag_next_keyboard(
     found: &mut u32,
     keyboard: &mut usize,
 ) -> u32
-    ensures { (result ≡ 0) × ((c : List ℕ) → (found.new ≡ picked_flag (picked (wishes_of (waiting_in waiting.now) c))) × (keyboard.new ≡ picked_cell (picked (wishes_of (waiting_in waiting.now) c)) keyboard.old)) }
+    ensures { (result ≡ 0) × ((c : List ℕ) → (found.new ≡ some_flag (picked (wishes_of (waiting_in waiting.now) c))) × (keyboard.new ≡ picked_cell (picked (wishes_of (waiting_in waiting.now) c)) keyboard.old)) }
 {
     let s = waiting_in(waiting);
     let next = next_keyboard(s);
-    *found = next_flag(next);
-    *keyboard = next_cell(next, *keyboard);
+    *found = u32::from(next.is_some());
+    *keyboard = next.unwrap_or(*keyboard);
     0
 }

@@ -9,9 +9,7 @@ ghost use Rattle.wish_state_words.specs.Waiting.{waiting_in};
 ghost use Rattle.c_answer.specs.Console.{ConsoleExported, TurnCells};
 
 use c_answer::answer::settle;
-use c_answer::keyboards::{
-    keyboard_cell, served_cell, settle_waiting, turn_code, turn_keeps_store, turn_keeps_waiting,
-};
+use c_answer::keyboards::{settle_waiting, turn_code, turn_keeps_store};
 use piecrag::{EdgeTable, NodeTable, StealTable, VoiceTable, WishTable};
 use state_words::{StateWords, state_in};
 use wish_state_words::{WaitingWords, waiting_in};
@@ -35,9 +33,16 @@ pub extern "C" fn piecrag_turn(
     let s = state_in(state);
     let w = waiting_in(waiting);
     let r = piecrag::turn(s, nodes, edges, voices, steals, w, wishes);
-    let answer = r.answer;
-    *keyboard = keyboard_cell(answer, *keyboard);
-    *voice = served_cell(answer, *voice);
-    settle_waiting(waiting, r.wishes, turn_keeps_waiting(answer));
-    settle(state, r.state, turn_keeps_store(answer), turn_code(answer))
+    *keyboard = r.answer.map_or(*keyboard, |served| served.keyboard);
+    *voice = r
+        .answer
+        .and_then(|served| served.answer.ok())
+        .map_or(*voice, |id| id.0);
+    settle_waiting(waiting, r.wishes, r.answer.is_none());
+    settle(
+        state,
+        r.state,
+        turn_keeps_store(r.answer),
+        turn_code(r.answer),
+    )
 }

@@ -1,21 +1,16 @@
 -- From what a reading call answers to what stands in the cells.
+use Rattle.node.specs.declared.refusal.Refusal.{Refusal}
 use Prim.Native.Nat.{ℕ, zero, suc, ◌<◌}
 use native.Mathlib.Omega.{arith}
-use mathlib.Core.Path.{◌≡◌, refl, ap}
+use mathlib.Core.Path.{◌≡◌, refl, sym, ap, ◌∙◌}
 use mathlib.Core.List.{List, [], ◌∷◌}
 use lib.ListN.{length, get_or}
-use mathlib.Core.Option.{Option, none, some}
-use mathlib.Core.Bool.{Bool, true, false, cond}
+use Rattle.std.specs.Prelude.{Result, Err, Ok}
 use lib.IntN.{ℤ}
 use lib.Ieee.{Float}
-use Rattle.lists.specs.Find.{or?}
-use Rattle.bus.specs.declared.Written.{Written}
-use Rattle.bus.specs.declared.Written.TheVariants as written
-use Rattle.store.specs.declared.answer.Paged.{Paged}
-use Rattle.store.specs.declared.answer.Paged.TheVariants as paged
 use Rattle.voice.specs.Steals.{StealLog}
 use Rattle.steal_log.specs.Rows.{log_in}
-use Rattle.model.specs.Call.{Step, step}
+use Rattle.model.specs.Call.{Call, Answer, Step, step}
 use Rattle.model.specs.Call as call
 use Rattle.memory.specs.View.{Memory, model_of}
 use Rattle.memory.specs.Lent.{lent_steals}
@@ -24,35 +19,27 @@ use Rattle.memory.specs.declared.state.State.{State}
 use Rattle.call_page.specs.Paged.{paged_of}
 use Rattle.mixing.specs.Filled as float
 use Rattle.whole_mixing.specs.Filled as whole
-use Rattle.state_words.specs.State.{flag_of}
-use Rattle.c_answer.specs.Exported.{code}
-use Rattle.piecrag_c_read.specs.Cells.{some_flag, row_cell, written_code, paged_code}
+use Rattle.state_words.specs.State.{state_in}
+use Rattle.c_answer.specs.Exported.{code, result_code, Tells}
+use Rattle.c_answer.proofs.Exporting.{tells}
 
--- the flag of a row that was looked for
-pub found_flag : {A : Type 0} (b : Bool) (x : A) → flag_of b ≡ some_flag (cond b (some x) none)
-found_flag true x = refl
-found_flag false x = refl
-
-pub live_flag : {A : Type 0} (b : Bool) (x : A) → flag_of b ≡ some_flag (or? b x none)
-live_flag true x = refl
-live_flag false x = refl
-
-pub live_row : {A : Type 0} (b : Bool) (x : A) (l : List A) → row_cell (cond b (some x) none) l ≡ row_cell (or? b x none) l
-live_row true x l = refl
-live_row false x l = refl
+-- a call that only reads: s are the words w as the code has read them, x the value of its answer, which the cells hold
+pub reads : {A : Type 0} {c : Call} (at : State → Memory) (w : List ℕ) {s : State} (a : Answer) (say : A → Answer) (x : A) {cells : A → Type 0}
+    → s ≡ state_in w → Called c (at s) a (at s) → a ≡ say x → ◌≡◌ {A = ℕ} 0 (code (say x)) → cells x → Tells say c (at (state_in w)) 0 cells
+reads {c = c} at w {s = s} a say x {cells = cells} read called says number held = tells c c at at w s s a refl read called say 0 cells x says (number ∙ ap code (sym says)) held
 
 -- the numbers of a page and of a block
-pub page_code : (p : Paged) (out : List ℕ) → paged_code p ≡ code (paged_of p out)
-page_code (paged.Length n) out = refl
-page_code (paged.Refused r) out = refl
+pub page_code : (p : Result ℕ Refusal) (out : List ℕ) → result_code p ≡ code (paged_of p out)
+page_code (Ok n) out = refl
+page_code (Err r) out = refl
 
-pub float_code : (r : Written) (out : List Float) → written_code r ≡ code (float.filled_of r out)
-float_code written.Done out = refl
-float_code (written.Refused x) out = refl
+pub float_code : (r : Result (Unit {0}) Refusal) (out : List Float) → result_code r ≡ code (float.filled_of r out)
+float_code (Ok tt) out = refl
+float_code (Err x) out = refl
 
-pub whole_code : (r : Written) (out : List ℤ) → written_code r ≡ code (whole.filled_of r out)
-whole_code written.Done out = refl
-whole_code (written.Refused x) out = refl
+pub whole_code : (r : Result (Unit {0}) Refusal) (out : List ℤ) → result_code r ≡ code (whole.filled_of r out)
+whole_code (Ok tt) out = refl
+whole_code (Err x) out = refl
 
 -- the steals that were read are those that the words hold
 same_log : (b l : StealLog) → call.stolen b ≡ call.stolen l → b ≡ l

@@ -5,16 +5,15 @@ ghost use Rattle.voice_rows.specs.Rows.{voices_in};
 ghost use Rattle.model.specs.Call as call;
 ghost use Rattle.memory.specs.View.{Memory};
 ghost use Rattle.memory.specs.Lent.{lent_nodes, lent_params, lent_voice_table};
-ghost use Rattle.state_words.specs.State.{state_in};
+ghost use Rattle.std.specs.Option.{unwrap_or};
+ghost use Rattle.state_words.specs.State.{state_in, some_flag};
 ghost use Rattle.c_answer.specs.Exported.{Tells};
-ghost use Rattle.piecrag_c_read.specs.Cells.{some_flag, some_cell, row_cell, level_flag, level_cell};
+ghost use Rattle.piecrag_c_read.specs.Cells.{row_cell};
 
-use crate::cell::{
-    level_cell, level_flag, position_cell, position_flag, put_found_node, put_found_voice,
-};
+use crate::cell::put_found;
 use node::record::{NodeId, VoiceId};
 use piecrag::{NodeTable, VoiceTable};
-use state_words::{StateWords, flag, state_in};
+use state_words::{StateWords, state_in};
 
 pub const VOICE_RECORD_WORDS: usize = 143;
 
@@ -34,12 +33,12 @@ pub extern "C" fn piecrag_voice_level(
     known: &mut u32,
     level: &mut f32,
 ) -> u32
-    ensures { (m : Memory) → Tells call.known (call.ask (call.level (record { 0 = voice }))) (lent_params (state_in state.now) nodes.now voices.now m) result (λ l. (known.new ≡ level_flag l) × (level.new ≡ level_cell l level.old)) }
+    ensures { (m : Memory) → Tells call.known (call.ask (call.level (record { 0 = voice }))) (lent_params (state_in state.now) nodes.now voices.now m) result (λ l. (known.new ≡ some_flag l) × (level.new ≡ unwrap_or l level.old)) }
 {
     let s = state_in(state);
     let l = piecrag::voice_level(s, nodes, voices, VoiceId(voice));
-    *known = level_flag(l);
-    *level = level_cell(l, *level);
+    *known = u32::from(l.is_some());
+    *level = l.unwrap_or(*level);
     0
 }
 
@@ -52,12 +51,12 @@ pub extern "C" fn piecrag_fade_position(
     fading: &mut u32,
     position: &mut u64,
 ) -> u32
-    ensures { (m : Memory) → Tells call.reached (call.ask (call.position (record { 0 = voice }))) (lent_voice_table (state_in state.now) voices.now m) result (λ p. (fading.new ≡ some_flag p) × (position.new ≡ some_cell p position.old)) }
+    ensures { (m : Memory) → Tells call.reached (call.ask (call.position (record { 0 = voice }))) (lent_voice_table (state_in state.now) voices.now m) result (λ p. (fading.new ≡ some_flag p) × (position.new ≡ unwrap_or p position.old)) }
 {
     let s = state_in(state);
     let p = piecrag::fade_position(s, voices, VoiceId(voice));
-    *fading = position_flag(p);
-    *position = position_cell(p, *position);
+    *fading = u32::from(p.is_some());
+    *position = p.unwrap_or(*position);
     0
 }
 
@@ -74,9 +73,8 @@ pub extern "C" fn piecrag_voice(
 {
     let s = state_in(state);
     let r = piecrag::voice(s, voices, VoiceId(voice));
-    let v = r.voice;
-    *found = flag(r.found);
-    put_found_voice(row, r.found, v);
+    *found = u32::from(r.is_some());
+    put_found(row, r);
     0
 }
 
@@ -93,9 +91,8 @@ pub extern "C" fn piecrag_voice_at(
 {
     let s = state_in(state);
     let r = piecrag::voice_at(s, voices, place);
-    let v = r.voice;
-    *found = flag(r.found);
-    put_found_voice(row, r.found, v);
+    *found = u32::from(r.is_some());
+    put_found(row, r);
     0
 }
 
@@ -112,8 +109,7 @@ pub extern "C" fn piecrag_node_record(
 {
     let s = state_in(state);
     let r = piecrag::node_record(s, nodes, NodeId(node));
-    let n = r.node;
-    *found = flag(r.live);
-    put_found_node(row, r.live, n);
+    *found = u32::from(r.is_some());
+    put_found(row, r);
     0
 }

@@ -1,8 +1,6 @@
 // The page, and the blocks of sound that a host works out by the store's rules: fade output and bus sum, in floats and in whole numbers.
-ghost use Rattle.std.specs.Prelude.{◌≡◌};
+ghost use Rattle.std.specs.Prelude.{◌≡◌, Err};
 ghost use Rattle.node.specs.declared.refusal.Refusal as refusal;
-ghost use Rattle.bus.specs.declared.Written.TheVariants as written;
-ghost use Rattle.store.specs.declared.answer.Paged.TheVariants as paged;
 ghost use Rattle.model.specs.Call as call;
 ghost use Rattle.memory.specs.View.{Memory};
 ghost use Rattle.memory.specs.Lent.{lent_state, lent_page};
@@ -11,9 +9,9 @@ ghost use Rattle.mixing.specs.Filled.{filled_of};
 ghost use Rattle.whole_mixing.specs.Filled.{filled_of as filled_whole};
 ghost use Rattle.state_words.specs.State.{state_in};
 ghost use Rattle.c_answer.specs.Exported.{Tells};
-ghost use Rattle.piecrag_c_read.specs.Cells.{paged_cell};
+ghost use Rattle.std.specs.Result.{result_unwrap_or};
 
-use crate::cell::{paged_cell, paged_code, written_code};
+use c_answer::answer::result_code;
 use piecrag::{EdgeTable, FadePart, VoiceTable};
 use state_words::{StateWords, config_in, state_in};
 
@@ -26,12 +24,12 @@ pub extern "C" fn piecrag_page(
     out: &mut [u8],
     length: &mut usize,
 ) -> u32
-    ensures { (m : Memory) → Tells (λ p. paged_of p out.new) (call.ask (call.page out.old)) (lent_page (state_in state.now) edges.now voices.now m) result (λ p. (length.new ≡ paged_cell p length.old) × ((x : refusal.Refusal) → p ≡ paged.Refused x → out.new ≡ out.old)) }
+    ensures { (m : Memory) → Tells (λ p. paged_of p out.new) (call.ask (call.page out.old)) (lent_page (state_in state.now) edges.now voices.now m) result (λ p. (length.new ≡ result_unwrap_or p length.old) × ((x : refusal.Refusal) → p ≡ Err x → out.new ≡ out.old)) }
 {
     let s = state_in(state);
     let p = piecrag::page(s, edges, voices, out);
-    *length = paged_cell(p, *length);
-    paged_code(p)
+    *length = p.unwrap_or(*length);
+    result_code(p)
 }
 
 // The output of a fade for one block.
@@ -45,7 +43,7 @@ pub extern "C" fn piecrag_fade_output(
     out: &mut [f32],
     outs: usize,
 ) -> u32
-    ensures { (m : Memory) → Tells (λ r. filled_of r out.new) (call.ask (call.fade_output input.now ins gains.now position out.old outs)) (lent_state (state_in state.now) m) result (λ r. (x : refusal.Refusal) → r ≡ written.Refused x → out.new ≡ out.old) }
+    ensures { (m : Memory) → Tells (λ r. filled_of r out.new) (call.ask (call.fade_output input.now ins gains.now position out.old outs)) (lent_state (state_in state.now) m) result (λ r. (x : refusal.Refusal) → r ≡ Err x → out.new ≡ out.old) }
 {
     let config = config_in(state);
     let part = FadePart {
@@ -53,7 +51,7 @@ pub extern "C" fn piecrag_fade_output(
         outs,
         position,
     };
-    written_code(piecrag::fade_output(config, input, gains, part, out))
+    result_code(piecrag::fade_output(config, input, gains, part, out))
 }
 
 // The sum of a bus for one block.
@@ -65,10 +63,10 @@ pub extern "C" fn piecrag_bus_sum(
     out: &mut [f32],
     outs: usize,
 ) -> u32
-    ensures { (m : Memory) → Tells (λ r. filled_of r out.new) (call.ask (call.bus_sum inputs.now counts.now out.old outs)) (lent_state (state_in state.now) m) result (λ r. (x : refusal.Refusal) → r ≡ written.Refused x → out.new ≡ out.old) }
+    ensures { (m : Memory) → Tells (λ r. filled_of r out.new) (call.ask (call.bus_sum inputs.now counts.now out.old outs)) (lent_state (state_in state.now) m) result (λ r. (x : refusal.Refusal) → r ≡ Err x → out.new ≡ out.old) }
 {
     let config = config_in(state);
-    written_code(piecrag::bus_sum(config, inputs, counts, out, outs))
+    result_code(piecrag::bus_sum(config, inputs, counts, out, outs))
 }
 
 // The output of a fade in whole numbers.
@@ -82,7 +80,7 @@ pub extern "C" fn piecrag_whole_fade_output(
     out: &mut [i32],
     outs: usize,
 ) -> u32
-    ensures { (m : Memory) → Tells (λ r. filled_whole r out.new) (call.ask (call.whole_fade input.now ins gains.now position out.old outs)) (lent_state (state_in state.now) m) result (λ r. (x : refusal.Refusal) → r ≡ written.Refused x → out.new ≡ out.old) }
+    ensures { (m : Memory) → Tells (λ r. filled_whole r out.new) (call.ask (call.whole_fade input.now ins gains.now position out.old outs)) (lent_state (state_in state.now) m) result (λ r. (x : refusal.Refusal) → r ≡ Err x → out.new ≡ out.old) }
 {
     let config = config_in(state);
     let part = FadePart {
@@ -90,7 +88,7 @@ pub extern "C" fn piecrag_whole_fade_output(
         outs,
         position,
     };
-    written_code(piecrag::whole_fade_output(config, input, gains, part, out))
+    result_code(piecrag::whole_fade_output(config, input, gains, part, out))
 }
 
 // The sum of a bus in whole numbers.
@@ -102,8 +100,8 @@ pub extern "C" fn piecrag_whole_bus_sum(
     out: &mut [i32],
     outs: usize,
 ) -> u32
-    ensures { (m : Memory) → Tells (λ r. filled_whole r out.new) (call.ask (call.whole_sum inputs.now counts.now out.old outs)) (lent_state (state_in state.now) m) result (λ r. (x : refusal.Refusal) → r ≡ written.Refused x → out.new ≡ out.old) }
+    ensures { (m : Memory) → Tells (λ r. filled_whole r out.new) (call.ask (call.whole_sum inputs.now counts.now out.old outs)) (lent_state (state_in state.now) m) result (λ r. (x : refusal.Refusal) → r ≡ Err x → out.new ≡ out.old) }
 {
     let config = config_in(state);
-    written_code(piecrag::whole_bus_sum(config, inputs, counts, out, outs))
+    result_code(piecrag::whole_bus_sum(config, inputs, counts, out, outs))
 }

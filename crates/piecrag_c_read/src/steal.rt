@@ -6,14 +6,11 @@ ghost use Rattle.busiest.specs.Stretch.{samples, busiest};
 ghost use Rattle.model.specs.Call as call;
 ghost use Rattle.memory.specs.View.{Memory};
 ghost use Rattle.memory.specs.Lent.{lent_steals};
-ghost use Rattle.state_words.specs.State.{state_in};
+ghost use Rattle.state_words.specs.State.{state_in, some_flag};
 ghost use Rattle.c_answer.specs.Exported.{Tells};
-ghost use Rattle.piecrag_c_read.specs.Cells.{steal_flag, steal_sample, steal_known, steal_level, steal_cut, StretchCells};
+ghost use Rattle.piecrag_c_read.specs.Cells.{steal_sample, steal_known, steal_level, steal_cut, StretchCells};
 
-use crate::cell::{
-    steal_cut, steal_flag, steal_known, steal_level, steal_sample, stretch_code, stretch_count,
-    stretch_sample,
-};
+use crate::cell::{stretch_code, stretch_count, stretch_sample};
 use busiest::newest::busiest_steals;
 use piecrag::StealTable;
 use state_words::{StateWords, state_in};
@@ -48,16 +45,16 @@ pub extern "C" fn piecrag_steal_at(
     level: &mut f32,
     cut: &mut u32,
 ) -> u32
-    ensures { (m : Memory) → Tells call.stolen (call.ask call.steals) (lent_steals (state_in state.now) steals.now m) result (λ b. (found.new ≡ steal_flag (found_at place b.newest)) × (sample.new ≡ steal_sample (found_at place b.newest) sample.old) × (known.new ≡ steal_known (found_at place b.newest) known.old) × (level.new ≡ steal_level (found_at place b.newest) level.old) × (cut.new ≡ steal_cut (found_at place b.newest) cut.old)) }
+    ensures { (m : Memory) → Tells call.stolen (call.ask call.steals) (lent_steals (state_in state.now) steals.now m) result (λ b. (found.new ≡ some_flag (found_at place b.newest)) × (sample.new ≡ steal_sample (found_at place b.newest) sample.old) × (known.new ≡ steal_known (found_at place b.newest) known.old) × (level.new ≡ steal_level (found_at place b.newest) level.old) × (cut.new ≡ steal_cut (found_at place b.newest) cut.old)) }
 {
     let s = state_in(state);
     let r = piecrag::steals(s, steals);
     let f = steal_at(r, place);
-    *found = steal_flag(f);
-    *sample = steal_sample(f, *sample);
-    *known = steal_known(f, *known);
-    *level = steal_level(f, *level);
-    *cut = steal_cut(f, *cut);
+    *found = u32::from(f.is_some());
+    *sample = f.map_or(*sample, |r| r.sample);
+    *known = f.map_or(*known, |r| u32::from(r.known));
+    *level = f.map_or(*level, |r| r.level);
+    *cut = f.map_or(*cut, |r| u32::from(r.cut));
     0
 }
 

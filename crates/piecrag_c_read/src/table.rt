@@ -1,23 +1,20 @@
 // How many rows of a table count, an edge, what feeds a port, and the clock.
-ghost use Rattle.std.specs.Prelude.{◌≡◌, get_or};
-ghost use Rattle.std.proofs.Math.ListN.{get_elem?};
+ghost use Rattle.std.specs.Prelude.{◌≡◌, get_or, slice_get, None};
 ghost use Rattle.words.specs.Place.{Holds};
-ghost use Rattle.edges.specs.declared.ports.Source.TheVariants as source;
 ghost use Rattle.graph_rows.specs.Edge.{edges_in};
 ghost use Rattle.order_table.specs.Prepares.{ids_in};
 ghost use Rattle.voice_rows.specs.Rows.{voices_in};
 ghost use Rattle.model.specs.Call as call;
 ghost use Rattle.memory.specs.View.{Memory};
 ghost use Rattle.memory.specs.Lent.{lent_state, lent_edges, lent_processing, lent_voice_table};
-ghost use Rattle.state_words.specs.State.{state_in};
+ghost use Rattle.state_words.specs.State.{state_in, some_flag};
 ghost use Rattle.c_answer.specs.Exported.{Tells};
-ghost use Rattle.piecrag_c_read.specs.Cells.{some_flag, row_cell, source_flag, source_cell};
+ghost use Rattle.piecrag_c_read.specs.Cells.{row_cell, source_cell};
 
-use crate::cell::{put_found_edge, source_cell, source_flag};
-use edges::ports::Source;
+use crate::cell::put_found;
 use node::record::NodeId;
 use piecrag::{EdgeTable, OrderTable, VoiceTable};
-use state_words::{StateWords, flag, state_in};
+use state_words::{StateWords, state_in};
 
 pub const EDGE_RECORD_WORDS: usize = 3;
 
@@ -66,24 +63,13 @@ pub extern "C" fn piecrag_edge_at(
     found: &mut u32,
     row: &mut EdgeRecord,
 ) -> u32
-    ensures { (m : Memory) → Tells call.wires (call.ask call.edges) (lent_edges (state_in state.now) edges.now m) result (λ es. (found.new ≡ some_flag (get_elem? es place)) × (edges_in row.new ≡ row_cell (get_elem? es place) (edges_in row.old))) }
+    ensures { (m : Memory) → Tells call.wires (call.ask call.edges) (lent_edges (state_in state.now) edges.now m) result (λ es. (found.new ≡ some_flag (slice_get es place)) × (edges_in row.new ≡ row_cell (slice_get es place) (edges_in row.old))) }
 {
     let s = state_in(state);
     let r = piecrag::edge_at(s, edges, place);
-    let e = r.edge;
-    *found = flag(r.found);
-    put_found_edge(row, r.found, e);
+    *found = u32::from(r.is_some());
+    put_found(row, r);
     0
-}
-
-fn source_at(all: [Source; 64], port: u32) -> Source
-    ensures { result ≡ get_or all port source.Nothing }
-{
-    let p = port as usize;
-    if p < 64 {
-        return all[p];
-    }
-    Source::Nothing
 }
 
 // What feeds a port of a node: `fed` becomes 1, or 0 where nothing does.
@@ -96,13 +82,13 @@ pub extern "C" fn piecrag_source(
     fed: &mut u32,
     from: &mut u32,
 ) -> u32
-    ensures { (m : Memory) → Tells call.fed (call.ask (call.sources (record { 0 = node }))) (lent_edges (state_in state.now) edges.now m) result (λ l. (fed.new ≡ source_flag (get_or l port source.Nothing)) × (from.new ≡ source_cell (get_or l port source.Nothing) from.old)) }
+    ensures { (m : Memory) → Tells call.fed (call.ask (call.sources (record { 0 = node }))) (lent_edges (state_in state.now) edges.now m) result (λ l. (fed.new ≡ some_flag (get_or l port None)) × (from.new ≡ source_cell (get_or l port None) from.old)) }
 {
     let s = state_in(state);
     let all = piecrag::sources(s, edges, NodeId(node));
-    let one = source_at(all, port);
-    *fed = source_flag(one);
-    *from = source_cell(one, *from);
+    let source = all.get(port as usize).copied().flatten();
+    *fed = u32::from(source.is_some());
+    *from = source.map_or(*from, |n| n.0);
     0
 }
 

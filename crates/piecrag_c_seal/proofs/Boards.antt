@@ -8,14 +8,19 @@ use Rattle.memory.specs.View.{Memory}
 use Rattle.console.specs.Console.{plain, accepted, served, empty}
 use Rattle.console.specs.Console as console
 use Rattle.call_console.specs.declared.queues.WishState.{WishState}
-use Rattle.call_console.specs.declared.wishing.WishAnswer.{WishAnswer}
-use Rattle.call_console.specs.Called.{wish_answer}
+use Rattle.std.specs.Prelude.{Result, Ok, Err}
+use Rattle.std.specs.Result.{is_err}
+use Rattle.node.specs.declared.record.NodeId.{NodeId}
+use Rattle.node.specs.declared.record.VoiceId.{VoiceId}
+use Rattle.node.specs.declared.refusal.Refusal.{Refusal}
+use Rattle.console.specs.declared.refusal.KeyboardRefusal.{KeyboardRefusal}
+use Rattle.sealed.specs.declared.refusal.SealRefusal.{SealRefusal}
+use Rattle.call_seal.specs.declared.closing.BoardRefusal.{BoardRefusal}
 use Rattle.sealed.specs.declared.profile.Seal.{Seal}
 use Rattle.sealed.specs.Board.{BoardCall, BoardAnswer, given, sealed, refused, BoardStep, board_step}
-use Rattle.call_seal.specs.Board.{BoardMemory, board, board_of, BoardCalled, BoardKept}
-use Rattle.c_answer.specs.Console.{waiting_kept}
+use Rattle.call_seal.specs.Board.{BoardMemory, board, board_of, BoardCalled, BoardKept, seal_answer, host_answer, node_answer, spawn_answer, wished_answer}
 use Rattle.c_answer.proofs.Exporting.{no}
-use Rattle.piecrag_c_seal.specs.Board.{board_code, keeps_all, board_keeps, said_on, BoardExported, BoardTells}
+use Rattle.piecrag_c_seal.specs.Board.{board_code, board_keeps, store_code, store_kept, said_on, BoardExported, BoardTells}
 
 same_board : (m n : BoardMemory) → n.console.store ≡ m.console.store → n.console.wishes ≡ m.console.wishes → n.console.words ≡ m.console.words → n.seal ≡ m.seal → n ≡ m
 same_board m n a b c d =
@@ -35,10 +40,45 @@ kept_board (given empty) m n k h = same_console m n k.1 k.0
 kept_board sealed m n k h = no h
 kept_board (refused r) m n k h = k
 
--- the words of what waits are kept where the console keeps them
-pub wish_keeps : (a : WishAnswer) → waiting_kept (wish_answer a) ≡ keeps_all (wish_answer a)
-wish_keeps WishAnswer.Accepted = refl
-wish_keeps (WishAnswer.Refused r) = refl
+-- ---- what an answer is, by what stands in it: its number, and whether the call keeps every word
+pub host_code : (a : Result (Unit {0}) (BoardRefusal Refusal)) → store_code a ≡ board_code (host_answer a)
+host_code (Ok tt) = refl
+host_code (Err BoardRefusal.Closed) = refl
+host_code (Err (BoardRefusal.Given r)) = refl
+
+pub host_kept : (a : Result (Unit {0}) (BoardRefusal Refusal)) → store_kept a ≡ board_keeps (host_answer a)
+host_kept (Ok tt) = refl
+host_kept (Err BoardRefusal.Closed) = refl
+host_kept (Err (BoardRefusal.Given r)) = refl
+
+pub node_code : (a : Result NodeId (BoardRefusal Refusal)) → store_code a ≡ board_code (node_answer a)
+node_code (Ok k) = refl
+node_code (Err BoardRefusal.Closed) = refl
+node_code (Err (BoardRefusal.Given r)) = refl
+
+pub node_kept : (a : Result NodeId (BoardRefusal Refusal)) → store_kept a ≡ board_keeps (node_answer a)
+node_kept (Ok k) = refl
+node_kept (Err BoardRefusal.Closed) = refl
+node_kept (Err (BoardRefusal.Given r)) = refl
+
+pub spawn_code : (a : Result VoiceId (BoardRefusal Refusal)) → store_code a ≡ board_code (spawn_answer a)
+spawn_code (Ok w) = refl
+spawn_code (Err BoardRefusal.Closed) = refl
+spawn_code (Err (BoardRefusal.Given r)) = refl
+
+pub spawn_kept : (a : Result VoiceId (BoardRefusal Refusal)) → store_kept a ≡ board_keeps (spawn_answer a)
+spawn_kept (Ok w) = refl
+spawn_kept (Err BoardRefusal.Closed) = refl
+spawn_kept (Err (BoardRefusal.Given r)) = refl
+
+pub wish_kept : (a : Result (Unit {0}) (BoardRefusal KeyboardRefusal)) → is_err a ≡ board_keeps (wished_answer a)
+wish_kept (Ok tt) = refl
+wish_kept (Err BoardRefusal.Closed) = refl
+wish_kept (Err (BoardRefusal.Given r)) = refl
+
+pub seal_kept : (a : Result (Unit {0}) SealRefusal) → is_err a ≡ board_keeps (seal_answer a)
+seal_kept (Ok tt) = refl
+seal_kept (Err r) = refl
 
 -- what a call only reads may be two parts
 abbrev pub both : {A B : Type 0} → A → B → A × B

@@ -6,8 +6,11 @@ use mathlib.Core.Bool.{Bool, true, false, not, ◌&&◌}
 use lib.Ieee.{Float}
 use Rattle.node.specs.declared.record.NodeId.{NodeId}
 use Rattle.synthdef.specs.declared.def.SynthDef.{SynthDef}
-use Rattle.def_book.specs.declared.answer.ReadAnswer.{ReadAnswer}
-use Rattle.def_book.specs.Read.{Read, gives, malformed, limits, read_number, read_of, def_in}
+use Rattle.std.specs.Prelude.{Result, Ok, Err}
+use Rattle.std.specs.Result.{result_unwrap_or}
+use Rattle.def_book.specs.declared.answer.ReadError.{ReadError}
+use Rattle.def_book.specs.declared.answer.ReadError.TheVariants as error
+use Rattle.def_book.specs.Read.{Read, gives, malformed, limits, read_number, read_of, blank_def, def_in}
 use Rattle.model.specs.Wish.{wish_for, call_of}
 use Rattle.console.specs.Console as console
 use Rattle.memory.specs.View.{Memory}
@@ -28,13 +31,19 @@ number_is false (gives d) e = no e
 number_is false (malformed at) e = refl
 number_is false limits e = no e
 
--- the code has read the seal as y and the book as the answer a beside d, and tests t
-module _ (x y : Seal) (managed : Bool) (bus : NodeId) (b : Read) (a : ReadAnswer) (d : SynthDef) (t : Bool)
+-- the definition that goes on from a reading
+pub given : (r : Result SynthDef ReadError) (b : Read) → read_of r ≡ b → result_unwrap_or r blank_def ≡ def_in b
+given (Ok d) b e = ap def_in e
+given (Err (error.Malformed at)) b e = ap def_in e
+given (Err error.Limits) b e = ap def_in e
+
+-- the code has read the seal as y and the book as r, and tests t
+module _ (x y : Seal) (managed : Bool) (bus : NodeId) (b : Read) (r : Result SynthDef ReadError) (t : Bool)
     (same : y ≡ x)
-    (read : read_of a d ≡ b)
-    (tested : (e : SynthDef) → t ≡ refuses_book y managed bus (read_of a e)) where
+    (read : read_of r ≡ b)
+    (tested : t ≡ refuses_book y managed bus (read_of r)) where
   is : t ≡ refuses_book x managed bus b
-  is = tested d ∙ ap (refuses_book y managed bus) read ∙ ap (λ z. refuses_book z managed bus b) same
+  is = tested ∙ ap (refuses_book y managed bus) read ∙ ap (λ z. refuses_book z managed bus b) same
 
   pub unread : {Same : Type 0} {Does : SynthDef → Type 0} → t ≡ true → Same → FromBook (refuses_book x managed bus b) b 18 Same Does
   unread e stays = record { refused = λ h. (number_is (shuts_spawn x managed bus 0 0) b h, stays); does = λ h. no (sym h ∙ sym is ∙ e) }

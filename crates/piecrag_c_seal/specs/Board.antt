@@ -1,16 +1,19 @@
 -- What an exported call of a board answers and leaves.
-use Rattle.std.specs.Prelude.{ℕ, ◌≡◌, List, Bool, true, false}
+use Rattle.std.specs.Prelude.{ℕ, ◌≡◌, List, Bool, true, false, Option, Some, Result, Ok, Err}
 use Rattle.model.specs.Numbers.{number_in}
 use Rattle.memory.specs.Called.{keeps}
 use Rattle.console.specs.Console.{ConsoleAnswer, plain, accepted, served, empty}
 use Rattle.console.specs.Console as console
 use Rattle.sealed.specs.Refusal.{number_of}
 use Rattle.sealed.specs.Board.{BoardCall, BoardAnswer, given, sealed, refused, board_step}
-use Rattle.call_seal.specs.declared.host.BoardNode.{BoardNode}
-use Rattle.call_seal.specs.declared.spawn.BoardSpawned.{BoardSpawned}
+use Rattle.node.specs.declared.record.NodeId.{NodeId}
+use Rattle.node.specs.declared.record.VoiceId.{VoiceId}
+use Rattle.node.specs.declared.refusal.Refusal.{Refusal}
+use Rattle.node.specs.Refusal as store
+use Rattle.sealed.specs.declared.refusal.SealRefusal.TheVariants.{Closed}
+use Rattle.call_seal.specs.declared.closing.BoardRefusal.{BoardRefusal}
 use Rattle.call_seal.specs.Board.{BoardMemory, board_of}
 use Rattle.sealed.specs.declared.profile.Seal.{Seal}
-use Rattle.c_answer.specs.Exported.{node_cell, voice_cell}
 use Rattle.c_answer.specs.Console.{console_code}
 use Rattle.seal_words.specs.Seal.{seal_in}
 
@@ -33,6 +36,17 @@ board_keeps (given a) = keeps_all a
 board_keeps sealed = false
 board_keeps (refused r) = true
 
+-- ---- the same of what a call of the store is answered on a board
+abbrev pub store_code : {A : Type 0} → Result A (BoardRefusal Refusal) → ℕ
+store_code (Ok x) = 0
+store_code (Err BoardRefusal.Closed) = number_of Closed
+store_code (Err (BoardRefusal.Given r)) = store.number_of r
+
+abbrev pub store_kept : {A : Type 0} → Result A (BoardRefusal Refusal) → Bool
+store_kept (Ok x) = false
+store_kept (Err BoardRefusal.Closed) = true
+store_kept (Err (BoardRefusal.Given r)) = keeps (Some (store.number_of r))
+
 -- ---- the contract of an export
 abbrev pub said_on : BoardCall → BoardMemory → BoardAnswer
 said_on x m = (board_step x (board_of m)).answer
@@ -51,13 +65,13 @@ pub record BoardTells {A : Type 0} (say : A → BoardAnswer) (x : BoardCall) (m 
   pub held : cell value
 
 -- ---- what stands in a cell: the new node, the new voice; else what stood there
-abbrev pub added_cell : BoardNode → ℕ → ℕ
-added_cell BoardNode.Closed old = old
-added_cell (BoardNode.Given a) old = node_cell a old
+abbrev pub added_cell : Result NodeId (BoardRefusal Refusal) → ℕ → ℕ
+added_cell (Ok k) old = k.0
+added_cell (Err r) old = old
 
-abbrev pub born_cell : BoardSpawned → ℕ → ℕ
-born_cell BoardSpawned.Closed old = old
-born_cell (BoardSpawned.Given a) old = voice_cell a old
+abbrev pub born_cell : Result VoiceId (BoardRefusal Refusal) → ℕ → ℕ
+born_cell (Ok w) old = w.0
+born_cell (Err r) old = old
 
 -- what `settle_seal` does: the seal x is written to the words w, unless they are kept
 pub record SealSettled (w : List ℕ) (x : Seal) (kept : Bool) (v : List ℕ) : Type 0 where

@@ -10,7 +10,7 @@ ghost use Rattle.state_words.specs.State.{state_in};
 ghost use Rattle.seal_words.specs.Seal.{seal_in};
 ghost use Rattle.piecrag_c_seal.specs.Board.{BoardExported, BoardTells, added_cell};
 
-use crate::numbers::{added_cell, added_code, added_kept, host_code, host_kept};
+use crate::numbers::{store_code, store_kept};
 use c_answer::answer::settle;
 use graph::host::HostNode;
 use node::record::{Edge, NodeId};
@@ -43,9 +43,8 @@ pub extern "C" fn piecrag_add_node(
         takes_glides: glides != 0,
     };
     let r = piecrag::board_add_node(x, s, nodes, kind, n);
-    let answer = r.answer;
-    *node = added_cell(answer, *node);
-    settle(state, r.state, added_kept(answer), added_code(answer))
+    *node = r.answer.map_or(*node, |id| id.0);
+    settle(state, r.state, store_kept(r.answer), store_code(r.answer))
 }
 
 #[unsafe(no_mangle)]
@@ -61,8 +60,7 @@ pub extern "C" fn piecrag_remove_node(
     let x = seal_in(seal);
     let s = state_in(state);
     let r = piecrag::board_remove_node(x, s, nodes, edges, NodeId(node));
-    let answer = r.answer;
-    settle(state, r.state, host_kept(answer), host_code(answer))
+    settle(state, r.state, store_kept(r.answer), store_code(r.answer))
 }
 
 #[unsafe(no_mangle)]
@@ -85,8 +83,7 @@ pub extern "C" fn piecrag_connect(
         port,
     };
     let r = piecrag::board_connect(x, s, nodes, edges, e);
-    let answer = r.answer;
-    settle(state, r.state, host_kept(answer), host_code(answer))
+    settle(state, r.state, store_kept(r.answer), store_code(r.answer))
 }
 
 #[unsafe(no_mangle)]
@@ -103,8 +100,7 @@ pub extern "C" fn piecrag_disconnect(
     let x = seal_in(seal);
     let s = state_in(state);
     let r = piecrag::board_disconnect(x, s, nodes, edges, NodeId(to), port);
-    let answer = r.answer;
-    settle(state, r.state, host_kept(answer), host_code(answer))
+    settle(state, r.state, store_kept(r.answer), store_code(r.answer))
 }
 
 #[unsafe(no_mangle)]
@@ -119,6 +115,5 @@ pub extern "C" fn piecrag_set_sink(
     let x = seal_in(seal);
     let s = state_in(state);
     let r = piecrag::board_set_sink(x, s, nodes, NodeId(node));
-    let answer = r.answer;
-    settle(state, r.state, host_kept(answer), host_code(answer))
+    settle(state, r.state, store_kept(r.answer), store_code(r.answer))
 }

@@ -10,7 +10,7 @@ ghost use Rattle.seal_words.specs.Seal.{seal_in};
 ghost use Rattle.piecrag_c_seal.specs.Board.{BoardExported};
 ghost use Rattle.piecrag_c_seal.specs.Stated.{profile_of};
 
-use crate::numbers::{sealed_code, sealed_kept, settle_seal};
+use crate::numbers::{sealed_code, settle_seal};
 use node::record::NodeId;
 use piecrag::{EdgeTable, NodeTable, Profile, VoiceTable};
 use seal_words::{SealWords, seal_in};
@@ -48,8 +48,6 @@ pub extern "C" fn piecrag_seal(
         def_edges,
     };
     let r = piecrag::seal(x, s, nodes, edges, voices, w, p);
-    let answer = r.answer;
-    let left = r.seal;
-    settle_seal(seal, left, sealed_kept(answer));
-    sealed_code(answer)
+    settle_seal(seal, r.seal, r.answer.is_err());
+    sealed_code(r.answer)
 }

@@ -11,8 +11,8 @@ ghost use Rattle.seal_words.specs.Seal.{seal_in};
 ghost use Rattle.piecrag_c_seal.specs.Book.{SpawnFromBook};
 
 use crate::from_book::{MALFORMED_BOOK, refuses_book};
-use crate::numbers::{born_cell, born_code, born_kept};
-use book_bytes::read::read_book;
+use crate::numbers::{store_code, store_kept};
+use book_bytes::read::{blank_def, read_book};
 use c_answer::answer::settle;
 use node::record::NodeId;
 use piecrag::{EdgeTable, NodeTable, StealTable, VoiceTable, Wish};
@@ -38,22 +38,19 @@ pub extern "C" fn piecrag_spawn(
     ensures { (m : Memory) (p : WishState) (c : List ℕ) → SpawnFromBook (read_book book.now) (is_set managed) (record { 0 = bus }) pan rank (board (lent_spawn (state_in state.old) nodes.old edges.old voices.old steals.old m) p c (seal_in seal.now)) state.old voice.old result (board (lent_spawn (state_in state.new) nodes.new edges.new voices.new steals.new m) p c (seal_in seal.now)) state.new voice.new }
 {
     let x = seal_in(seal);
-    let b = read_book(book);
-    let read = b.answer;
-    if refuses_book(x, managed != 0, NodeId(bus), read) {
+    let read = read_book(book);
+    if refuses_book(x, managed != 0, NodeId(bus), &read) {
         return MALFORMED_BOOK;
     }
     let s = state_in(state);
-    let def = b.def;
     let w = Wish {
         managed: managed != 0,
-        def,
+        def: read.unwrap_or(blank_def()),
         bus: NodeId(bus),
         pan,
         rank,
     };
     let r = piecrag::board_spawn(x, s, nodes, edges, voices, steals, w);
-    let answer = r.answer;
-    *voice = born_cell(answer, *voice);
-    settle(state, r.state, born_kept(answer), born_code(answer))
+    *voice = r.answer.map_or(*voice, |id| id.0);
+    settle(state, r.state, store_kept(r.answer), store_code(r.answer))
 }

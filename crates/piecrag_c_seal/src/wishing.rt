@@ -5,8 +5,8 @@ ghost use Rattle.memory.specs.View.{Memory};
 ghost use Rattle.piecrag_c_seal.specs.Book.{WishFromBook};
 
 use crate::from_book::{MALFORMED_BOOK, refuses_book};
-use crate::numbers::{wished_code, wished_kept};
-use book_bytes::read::read_book;
+use crate::numbers::wished_code;
+use book_bytes::read::{blank_def, read_book};
 use c_answer::keyboards::settle_waiting;
 use node::record::NodeId;
 use piecrag::{Wish, WishTable};
@@ -29,22 +29,19 @@ pub extern "C" fn piecrag_wish(
     ensures { (m : Memory) → WishFromBook (read_book book.now) keyboard (is_set managed) (record { 0 = bus }) pan rank m seal.now waiting.old wishes.old result waiting.new wishes.new }
 {
     let x = seal_in(seal);
-    let b = read_book(book);
-    let read = b.answer;
-    if refuses_book(x, managed != 0, NodeId(bus), read) {
+    let read = read_book(book);
+    if refuses_book(x, managed != 0, NodeId(bus), &read) {
         return MALFORMED_BOOK;
     }
     let s = waiting_in(waiting);
-    let def = b.def;
     let wish = Wish {
         managed: managed != 0,
-        def,
+        def: read.unwrap_or(blank_def()),
         bus: NodeId(bus),
         pan,
         rank,
     };
     let r = piecrag::board_wish(x, s, wishes, keyboard, wish);
-    let answer = r.answer;
-    settle_waiting(waiting, r.wishes, wished_kept(answer));
-    wished_code(answer)
+    settle_waiting(waiting, r.wishes, r.answer.is_err());
+    wished_code(r.answer)
 }

@@ -10,12 +10,10 @@ ghost use Rattle.state_words.specs.State.{state_in};
 ghost use Rattle.c_answer.specs.Exported.{Exported, Tells, Took, sound_cell, taken_cell};
 ghost use Rattle.c_answer.specs.Argument.{glide_in};
 
-use c_answer::answer::{
-    answer_code, outcome_code, render_code, render_kept, settle, sound_cell, taken_cell,
-};
+use c_answer::answer::{render_code, render_kept, result_code, settle, sound_cell, taken_cell};
 use c_answer::argument::glide_in;
 use node::record::{NodeId, VoiceId};
-use piecrag::{EdgeTable, EventTable, NodeTable, OrderTable, VoiceTable};
+use piecrag::{EdgeTable, EventTable, NodeTable, OrderTable, VoiceTable, outcome_number};
 use state_words::{StateWords, state_in};
 
 // The voice is removed, with its nodes and edges; an unknown one answers 1.
@@ -31,8 +29,7 @@ pub extern "C" fn piecrag_free_voice(
 {
     let s = state_in(state);
     let r = piecrag::free_voice(s, nodes, edges, voices, VoiceId(voice));
-    let outcome = r.outcome;
-    settle(state, r.state, false, outcome_code(outcome))
+    settle(state, r.state, false, u32::from(outcome_number(r.outcome)))
 }
 
 // The voices whose fade has ended or whose output is silent go; `removed` becomes how many they were.
@@ -68,7 +65,7 @@ pub extern "C" fn piecrag_set_voice_param(
 {
     let s = state_in(state);
     let o = piecrag::set_voice_param(s, nodes, voices, VoiceId(voice), name, value);
-    outcome_code(o)
+    u32::from(outcome_number(o))
 }
 
 // A glide for a parameter of a voice, from now on.
@@ -91,7 +88,7 @@ pub extern "C" fn piecrag_set_voice_param_glide(
     let s = state_in(state);
     let g = glide_in(target, seconds, shape, curve, space);
     let o = piecrag::set_voice_param_glide(s, nodes, voices, VoiceId(voice), name, g);
-    outcome_code(o)
+    u32::from(outcome_number(o))
 }
 
 // The block that a node has written, and whether it is done.
@@ -109,7 +106,7 @@ pub extern "C" fn piecrag_report(
 {
     let s = state_in(state);
     let a = piecrag::report(s, nodes, voices, NodeId(node), channels, samples, done != 0);
-    answer_code(a)
+    result_code(a)
 }
 
 // A block: the events that are due are applied, fades move, the clock advances. `sounding` becomes 1 or 0, `taken` how many events there
@@ -131,8 +128,7 @@ pub extern "C" fn piecrag_render(
 {
     let s = state_in(state);
     let r = piecrag::render(s, nodes, edges, order, voices, events, outcomes);
-    let answer = r.answer;
-    *sounding = sound_cell(answer, *sounding);
-    *taken = taken_cell(answer, r.taken, *taken);
-    settle(state, r.state, render_kept(answer), render_code(answer))
+    *sounding = sound_cell(r.answer, *sounding);
+    *taken = taken_cell(r.answer, r.taken, *taken);
+    settle(state, r.state, render_kept(r.answer), render_code(r.answer))
 }

@@ -31,10 +31,10 @@ pub fn seal_in(w: &SealWords) -> Seal
     ensures { result ≡ seal_in w.now }
 {
     if w[0] == 0 {
-        return Seal::Unsealed;
+        Seal::Unsealed
+    } else {
+        Seal::Sealed(profile_in(w))
     }
-    let p = profile_in(w);
-    Seal::Sealed(p)
 }
 
 // The words of the seal by a profile.
@@ -61,7 +61,7 @@ fn seal_words(x: Seal) -> SealWords
     ensures { seal_in result ≡ x }
 {
     match x {
-        Seal::Unsealed => [0; 12],
+        Seal::Unsealed => [0; SEAL_WORDS],
         Seal::Sealed(p) => profile_words(p),
     }
 }

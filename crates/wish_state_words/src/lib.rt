@@ -5,7 +5,7 @@ ghost use Rattle.std.specs.Prelude.{◌≡◌, ◌/◌, ◌%◌};
 ghost use Rattle.wish_state_words.specs.Waiting.{queue_from, waiting_in};
 
 use call_console::queues::{Queue, WishState};
-use state_words::{high_of, low_of, sized};
+use words::fields::{high_word, long_from, low_word};
 
 pub const WAITING_WORDS: usize = 12;
 
@@ -15,7 +15,7 @@ pub type WaitingWords = [u32; WAITING_WORDS];
 fn queue_word(q: Queue) -> u32
     ensures { queue_from result ≡ q }
 {
-    q.start as u32 + q.count as u32 * 256
+    u32::from(q.start) + u32::from(q.count) * 256
 }
 
 fn queue_from(x: u32) -> Queue
@@ -31,20 +31,10 @@ fn queue_from(x: u32) -> Queue
 pub fn waiting_in(w: &WaitingWords) -> WishState
     ensures { result ≡ waiting_in w.now }
 {
-    let queues = [
-        queue_from(w[4]),
-        queue_from(w[5]),
-        queue_from(w[6]),
-        queue_from(w[7]),
-        queue_from(w[8]),
-        queue_from(w[9]),
-        queue_from(w[10]),
-        queue_from(w[11]),
-    ];
     WishState {
-        keyboards: sized(w[0], w[1]),
-        next: sized(w[2], w[3]),
-        queues,
+        keyboards: long_from(w[0], w[1]) as usize,
+        next: long_from(w[2], w[3]) as usize,
+        queues: std::array::from_fn(|k| queue_from(w[4 + k])),
     }
 }
 
@@ -54,10 +44,10 @@ fn waiting_words(s: WishState) -> WaitingWords
 {
     let q = s.queues;
     [
-        low_of(s.keyboards),
-        high_of(s.keyboards),
-        low_of(s.next),
-        high_of(s.next),
+        low_word(s.keyboards as u64),
+        high_word(s.keyboards as u64),
+        low_word(s.next as u64),
+        high_word(s.next as u64),
         queue_word(q[0]),
         queue_word(q[1]),
         queue_word(q[2]),

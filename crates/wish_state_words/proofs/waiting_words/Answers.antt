@@ -8,7 +8,7 @@ pub returns : goal.returns
 returns c =
     let eight : length c.args.s.queues ≡ 8 = c.well_formed.0.1.1.1.1.0.1.0.1 in
     waiting_back c.args.s no_queue eight _ _ _ _ _ _ _ _ _ _ _ _
-    c.low_of.ensures c.high_of.ensures c.low_of-2.ensures c.high_of-2.ensures
+    c.low_word.ensures c.high_word.ensures c.low_word-2.ensures c.high_word-2.ensures
     c.queue_word.ensures
     c.queue_word-2.ensures
     c.queue_word-3.ensures

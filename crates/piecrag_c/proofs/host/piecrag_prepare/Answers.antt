@@ -1,8 +1,8 @@
-use mathlib.Core.Path.{refl}
+use mathlib.Core.Path.{refl, ◌∙◌}
 use Rattle.model.specs.Call as call
 use Rattle.memory.specs.Lent.{lent_order}
 use Rattle.memory.specs.Called.{answered}
-use Rattle.c_answer.proofs.Exporting.{exported}
+use Rattle.c_answer.proofs.Exporting.{exported, done_code, done_kept}
 use Rattle.piecrag_c.proofs.host.piecrag_prepare.Goals as goal
 
 pub returns : goal.returns
@@ -12,4 +12,4 @@ returns c =
     let read = c.state_in-s in
     λ m.
     exported (call.prepare) (call.prepare) (λ s. lent_order s a.nodes.now a.edges.now a.order.now m) (λ s. lent_order s a.nodes.now a.edges.now r.new.order m) a.state.now read.result r.result.state (answered r.result.answer) (refl) read.ensures (r.ensures.is m)
-    (λ s. refl) (λ s. refl) c.answer_kept.result c.answer_code.result c.settle.result c.settle.new.w (r.ensures.same m) c.answer_kept.ensures c.answer_code.ensures c.settle.ensures
+    (λ s. refl) (λ s. refl) c.result_kept.result c.result_code.result c.settle.result c.settle.new.w (r.ensures.same m) (c.result_kept.ensures ∙ done_kept r.result.answer) (c.result_code.ensures ∙ done_code r.result.answer) c.settle.ensures

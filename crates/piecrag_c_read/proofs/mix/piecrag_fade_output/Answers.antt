@@ -12,6 +12,6 @@ returns c =
     record {
       value = r.result;
       answer = sym (r.ensures.is ∙ ap (λ g. fade_answer g a.input.now a.ins a.gains.now a.position a.out.now a.outs) c.config_in-config.ensures);
-      number = c.written_code.ensures ∙ float_code r.result out;
+      number = c.result_code.ensures ∙ float_code r.result out;
       held = r.ensures.same;
     }

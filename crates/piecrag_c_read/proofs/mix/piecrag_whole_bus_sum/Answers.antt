@@ -12,6 +12,6 @@ returns c =
     record {
       value = r.result;
       answer = sym (r.ensures.is ∙ ap (λ g. whole_sum_answer g a.inputs.now a.counts.now a.out.now a.outs) c.config_in-config.ensures);
-      number = c.written_code.ensures ∙ whole_code r.result out;
+      number = c.result_code.ensures ∙ whole_code r.result out;
       held = r.ensures.same;
     }

@@ -1,9 +1,10 @@
 use mathlib.Core.Path.{refl, ap, ◌∙◌}
-use Rattle.piecrag_c_read.specs.Cells.{some_flag, row_cell}
-use lib.ListN.{take, get_elem?}
+use Rattle.std.proofs.Common.{arith}
+use Rattle.piecrag_c_read.specs.Cells.{row_cell}
+use lib.ListN.{take}
+use Rattle.std.specs.Prelude.{slice_get}
 use Rattle.graph_rows.specs.Edge.{edges_in}
 use Rattle.state_words.specs.State.{state_in}
-use Rattle.piecrag_c_read.proofs.Reading.{found_flag}
 use Rattle.piecrag_c_read.proofs.table.piecrag_edge_at.Goals as goal
 
 pub returns : goal.returns
@@ -11,11 +12,11 @@ returns c =
     let a = c.args in
     let r = c.edge_at-r in
     let read = c.state_in-s in
-    let is = r.ensures ∙ ap (λ s. get_elem? (take s.edges (edges_in a.edges.now)) a.place) read.ensures in
+    let is = r.ensures ∙ ap (λ s. slice_get (take s.edges (edges_in a.edges.now)) a.place) read.ensures in
     λ m.
     record {
       value = take (state_in a.state.now).edges (edges_in a.edges.now);
       answer = refl;
       number = refl;
-      held = (c.flag.ensures ∙ found_flag r.result.found r.result.edge ∙ ap some_flag is, c.put_found_edge.ensures ∙ ap (λ e. row_cell e (edges_in a.row.now)) is);
+      held = (grind (arith, is), c.put_found.ensures ∙ ap (λ e. row_cell e (edges_in a.row.now)) is);
     }
