@@ -17,10 +17,9 @@ use book_bytes::read::read_book;
 use book_bytes::write::write_book;
 use codec::field::{bytes_at, input_room};
 use codec::word::{and_number, end_line, hex_bytes, number, text};
-use def_book::answer::{ReadAnswer, WriteAnswer, read_number, write_number};
+use def_book::answer::{ReadError, read_number, write_number};
 use define::define;
 use file::{fail, open, read_full};
-use line::same_bytes;
 use show::show;
 use std::env::FillError;
 use std::io::Read;
@@ -35,97 +34,89 @@ enum Verb {
     Rewrite,
 }
 
+// How a book is printed.
+#[derive(Clone, Copy)]
+enum Print {
+    Bytes,
+    Hex,
+}
+
+// What the words so far ask for, and whether a file was among them.
 #[derive(Clone, Copy)]
 struct Mode {
     verb: Verb,
-    hex: bool,
+    print: Print,
     files: bool,
 }
 
 fn refused(n: u8) {
     text(b"refused ");
-    number(n as u64);
+    number(u64::from(n));
 }
 
-fn refused_at(n: u8, at: usize) {
-    refused(n);
+// The definition of a book, or none, with the refusal and the position printed. 9 is found when the whole book is read.
+fn definition(s: &[u8]) -> Option<SynthDef> {
+    let read = read_book(s);
+    let at = match read {
+        Ok(def) => return Some(def),
+        Err(ReadError::Malformed(at)) => at,
+        Err(ReadError::Limits) => s.len(),
+    };
+    refused(read_number(&read));
     text(b" at byte");
     and_number(at as u64);
     end_line();
+    None
 }
 
-// The definition of a book as text, or the refusal and the position. 9 is found when the whole book is read.
-fn read(s: &[u8]) {
-    let r = read_book(s);
-    let answer = r.answer;
-    match answer {
-        ReadAnswer::Definition => {
-            let def = r.def;
-            show(def);
+fn put_out(book: &[u8], print: Print) {
+    match print {
+        Print::Bytes => text(book),
+        Print::Hex => {
+            hex_bytes(book);
+            end_line();
         }
-        ReadAnswer::Malformed(at) => refused_at(read_number(answer), at),
-        ReadAnswer::Limits => refused_at(read_number(answer), s.len()),
     }
-}
-
-fn put_out(book: &[u8], hex: bool) {
-    if hex {
-        hex_bytes(book);
-        end_line();
-        return;
-    }
-    text(book);
 }
 
 // The book of a definition, or the refusal. The longest book has 1,166 bytes.
-fn write(def: SynthDef, hex: bool) {
+fn write(def: SynthDef, print: Print) {
     let mut room = [0u8; 1166];
-    let answer = write_book(def, &mut room);
-    match answer {
-        WriteAnswer::Length(n) => put_out(bytes_at(&room, 0, n), hex),
-        WriteAnswer::Limits => {
-            refused(write_number(answer));
-            end_line();
-        }
-        WriteAnswer::ShortBuffer => {
-            refused(write_number(answer));
+    let written = write_book(def, &mut room);
+    match written {
+        Ok(n) => put_out(bytes_at(&room, 0, n), print),
+        Err(_) => {
+            refused(write_number(written));
             end_line();
         }
     }
 }
 
 // The book that a text defines, or the line that it cannot read.
-fn write_text(s: &[u8], hex: bool) {
-    let d = define(s);
-    let def = d.def;
-    if d.bad {
-        text(b"malformed line");
-        and_number(d.line as u64);
-        end_line();
-        return;
-    }
-    write(def, hex);
-}
-
-fn rewrite(s: &[u8], hex: bool) {
-    let r = read_book(s);
-    let answer = r.answer;
-    match answer {
-        ReadAnswer::Definition => {
-            let def = r.def;
-            write(def, hex);
+fn write_text(s: &[u8], print: Print) {
+    match define(s) {
+        Ok(def) => write(def, print),
+        Err(line) => {
+            text(b"malformed line");
+            and_number(line as u64);
+            end_line();
         }
-        ReadAnswer::Malformed(at) => refused_at(read_number(answer), at),
-        ReadAnswer::Limits => refused_at(read_number(answer), s.len()),
     }
 }
 
 fn answer(m: Mode, s: &[u8]) {
-    let verb = m.verb;
-    match verb {
-        Verb::Read => read(s),
-        Verb::Write => write_text(s, m.hex),
-        Verb::Rewrite => rewrite(s, m.hex),
+    match m.verb {
+        Verb::Write => write_text(s, m.print),
+        Verb::Read => {
+            if let Some(def) = definition(s) {
+                show(def);
+            }
+        }
+        Verb::Rewrite => {
+            if let Some(def) = definition(s) {
+                write(def, m.print);
+            }
+        }
     }
 }
 
@@ -153,40 +144,27 @@ fn answer_file<R: Files>(rt: &R, m: Mode, path: &[u8]) {
 
 // Takes one word of the command line: a verb, `hex`, or the name of a file, which is answered.
 fn take_word<R: Files>(rt: &R, m: Mode, word: &[u8]) -> Mode {
-    let verb = m.verb;
-    if same_bytes(word, b"read") {
-        return Mode {
+    match word {
+        b"read" => Mode {
             verb: Verb::Read,
-            hex: m.hex,
-            files: m.files,
-        };
-    }
-    if same_bytes(word, b"write") {
-        return Mode {
+            ..m
+        },
+        b"write" => Mode {
             verb: Verb::Write,
-            hex: m.hex,
-            files: m.files,
-        };
-    }
-    if same_bytes(word, b"rewrite") {
-        return Mode {
+            ..m
+        },
+        b"rewrite" => Mode {
             verb: Verb::Rewrite,
-            hex: m.hex,
-            files: m.files,
-        };
-    }
-    if same_bytes(word, b"hex") {
-        return Mode {
-            verb,
-            hex: true,
-            files: m.files,
-        };
-    }
-    answer_file(rt, m, word);
-    Mode {
-        verb,
-        hex: m.hex,
-        files: true,
+            ..m
+        },
+        b"hex" => Mode {
+            print: Print::Hex,
+            ..m
+        },
+        _ => {
+            answer_file(rt, m, word);
+            Mode { files: true, ..m }
+        }
     }
 }
 
@@ -204,7 +182,7 @@ fn take_argument<R: Env + Files>(rt: &R, m: Mode, i: usize) -> Option<Mode> {
 fn take_arguments<R: Env + Files>(rt: &R) -> Mode {
     let mut m = Mode {
         verb: Verb::Read,
-        hex: false,
+        print: Print::Bytes,
         files: false,
     };
     for i in 1..usize::MAX {

@@ -1,4 +1,5 @@
 -- Calls one after the other, each by its contract.
+use Rattle.std.specs.Prelude.{Option}
 use Prim.Native.Nat.{ℕ, suc, ◌+◌, ◌-◌, ◌≤◌, ◌<◌}
 use native.Mathlib.Omega.{arith}
 use mathlib.Core.Path.{◌≡◌, refl, sym, ap, ◌∙◌}
@@ -6,7 +7,6 @@ use mathlib.Core.List.{List, [], ◌∷◌, ◌++◌}
 use mathlib.Core.Bool.{false}
 use lib.Ieee.{of_bits, binary32}
 use Rattle.bus.specs.Rate.{rate_of}
-use Rattle.voice.specs.declared.policy.Budget.{Budget}
 use Rattle.voice.specs.declared.policy.StealPolicy.{StealPolicy}
 use Rattle.voice.specs.declared.policy.BudgetScope.{BudgetScope}
 use Rattle.model.specs.Model.{Model}
@@ -53,7 +53,7 @@ none_left i m h l =
     sym (ap (λ (k : ℕ). further (turns k) m) none) ∙ l
 
 -- a rate of 8000, as the code writes it
-pub config_is : (b : Budget) (p : StealPolicy) (s : BudgetScope) → config_of (record { rate = of_bits binary32 0x45fa0000; block = 16; budget = b; policy = p; scope = s; table = false }) ≡ config b p s
+pub config_is : (b : Option ℕ) (p : StealPolicy) (s : BudgetScope) → config_of (record { rate = of_bits binary32 0x45fa0000; block = 16; budget = b; policy = p; scope = s; table = false }) ≡ config b p s
 unfolding of_bits rate_of
 config_is b p s = refl
 

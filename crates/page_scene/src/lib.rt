@@ -10,11 +10,12 @@ ghost use Rattle.memory.specs.Lent.{lent_nodes};
 ghost use Rattle.call_page.specs.Paged.{paged_of};
 ghost use Rattle.page_scene.specs.Played as played;
 
+use node::refusal::Refusal;
 use piecrag::{
-    Budget, BudgetScope, DefEdge, DefEdges, DefNode, DefNodes, EDGE_WORDS, EVENT_WORDS, HostNode,
-    Making, NO_PORT, NODE_WORDS, NodeId, NodeTable, ORDER_WORDS, Paged, Param, Params, STEAL_WORDS,
-    State, StealPolicy, SynthDef, VOICE_WORDS, add_node, make, name_of, page, prepare, render,
-    set_sink, spawn_voice, voice_on_bus_managed,
+    BudgetScope, DefEdge, DefEdges, DefNode, DefNodes, EDGE_WORDS, EVENT_WORDS, HostNode, Making,
+    NO_PORT, NODE_WORDS, NodeId, NodeTable, ORDER_WORDS, Param, Params, STEAL_WORDS, State,
+    StealPolicy, SynthDef, VOICE_WORDS, add_node, make, name_of, page, prepare, render, set_sink,
+    spawn_voice, voice_on_bus_managed,
 };
 
 // A node that has no ports and takes nothing.
@@ -37,9 +38,8 @@ fn tone_node() -> DefNode
 fn tone() -> SynthDef
     ensures { result ≡ played.tone }
 {
-    let node = tone_node();
     let nodes = DefNodes {
-        rows: [node; 24],
+        rows: [tone_node(); 24],
         count: 1,
     };
     let edge = DefEdge {
@@ -51,8 +51,10 @@ fn tone() -> SynthDef
         rows: [edge; 48],
         count: 0,
     };
-    let name = name_of(b"");
-    let param = Param { name, node: 0 };
+    let param = Param {
+        name: name_of(b""),
+        node: 0,
+    };
     let params = Params {
         rows: [param; 8],
         count: 0,
@@ -72,27 +74,24 @@ fn opened(nodes: &mut NodeTable) -> State
     let making = Making {
         rate: 8000.0,
         block: 16,
-        budget: Budget::AtMost(2),
+        budget: Some(2),
         policy: StealPolicy::Oldest,
         scope: BudgetScope::Global,
         table: false,
     };
     let made = make(making);
-    let empty = made.state;
     let bus = HostNode {
         ports: 3,
         required: 0,
         takes_values: false,
         takes_glides: false,
     };
-    let added = add_node(empty, nodes, b"Bus", bus);
-    let with_bus = added.state;
-    let heard = set_sink(with_bus, nodes, NodeId(0));
-    heard.state
+    let added = add_node(made.state, nodes, b"Bus", bus);
+    set_sink(added.state, nodes, NodeId(0)).state
 }
 
 // The page after three turns, each a managed spawn, a prepare and a render, is 01's.
-pub fn scene_page(out: &mut [u8]) -> Paged
+pub fn scene_page(out: &mut [u8]) -> Result<usize, Refusal>
     ensures { paged_of result out.new ≡ page_answer printed out.old }
 {
     let mut nodes = [0u32; NODE_WORDS];
@@ -102,16 +101,13 @@ pub fn scene_page(out: &mut [u8]) -> Paged
     let mut events = [0u32; EVENT_WORDS];
     let mut steals = [0u32; STEAL_WORDS];
     let mut s = opened(&mut nodes);
-    let mut i: usize = 0;
-    while i < 3 {
+    for _ in 0..3u32 {
         let w = voice_on_bus_managed(tone(), NodeId(0), 0);
         let spawning = spawn_voice(s, &mut nodes, &mut edges, &mut voices, &mut steals, w);
-        let t = spawning.state;
-        let served = prepare(t, &nodes, &edges, &mut order);
-        let u = served.state;
+        let served = prepare(spawning.state, &nodes, &edges, &mut order);
         let mut list = [0u8; 256];
         let r = render(
-            u,
+            served.state,
             &mut nodes,
             &mut edges,
             &mut order,
@@ -120,7 +116,6 @@ pub fn scene_page(out: &mut [u8]) -> Paged
             &mut list,
         );
         s = r.state;
-        i += 1;
     }
     page(s, &edges, &voices, out)
 }

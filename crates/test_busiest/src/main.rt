@@ -6,52 +6,46 @@ mod count;
 mod runs;
 mod show;
 
-ghost use Rattle.std.specs.Prelude.{◌≡◌, ◌≤◌, take};
-ghost use Rattle.busiest.specs.Stretch.{samples, said, busiest};
-
 use busiest::newest::busiest_steals;
-use busiest::stretch::{Busiest, busiest_stretch};
-use count::{count_all, part};
+use busiest::stretch::busiest_stretch;
+use count::count_all;
 use runs::{falling, records, ring, rising};
 use show::compare;
-use voice::steals::StealRecord;
 
-// The busiest stretch of the first `n` rows of an array, which are lent as the run.
-fn busiest_of(rows: [StealRecord; 4096], n: usize, width: u64) -> Busiest
-    requires { n ≤ 4096 }
-    ensures { said result ≡ busiest width (samples (take n rows)) }
-{
-    busiest_stretch(&rows[..n], width)
+// The first `n` of the samples.
+fn first_of(xs: [u64; 4096], n: usize, width: u64) {
+    if n <= 4096 {
+        let rows = records(xs);
+        compare(
+            n,
+            width,
+            busiest_stretch(&rows[..n], width),
+            count_all(&xs[..n], width),
+        );
+    }
 }
 
-// The first `n` of the samples, which never fall.
+// The first `n` of samples that never fall.
 fn run_of(seed: u64, n: usize, width: u64) {
-    let xs = rising(seed);
-    if n <= 4096 {
-        let found = busiest_of(records(xs), n, width);
-        compare(n, width, found, count_all(part(&xs, 0, n), width));
-    }
+    first_of(rising(seed), n, width);
 }
 
 // The same with a last sample that falls.
 fn falling_run_of(seed: u64, n: usize, width: u64) {
-    let xs = falling(rising(seed), n);
-    if n <= 4096 {
-        let found = busiest_of(records(xs), n, width);
-        compare(n, width, found, count_all(part(&xs, 0, n), width));
-    }
+    first_of(falling(rising(seed), n), n, width);
 }
 
 // The store's ring after `n` steals, which holds the newest 64.
 fn ring_of(seed: u64, n: usize, width: u64) {
     let xs = rising(seed);
     if n <= 4096 {
-        let found = busiest_steals(ring(xs, n), width);
-        if n < 64 {
-            compare(n, width, found, count_all(part(&xs, 0, n), width));
-        } else {
-            compare(64, width, found, count_all(part(&xs, n - 64, n), width));
-        }
+        let found = busiest_steals(ring(&xs[..n]), width);
+        compare(
+            n.min(64),
+            width,
+            found,
+            count_all(&xs[n.saturating_sub(64)..n], width),
+        );
     }
 }
 

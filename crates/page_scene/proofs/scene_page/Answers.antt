@@ -15,16 +15,14 @@ use Rattle.page_scene.specs.Played.{tone, lent_all}
 use Rattle.page_scene.proofs.Playing.{and_then, at_first, one_less, none_left, page_is}
 use Rattle.page_scene.proofs.scene_page.Goals as goal
 
-pub loop-i-init : goal.loop-i-init
-loop-i-init c =
-    let o = c.opened-s in (
-      search rules,
-      at_first o.result o.new.nodes (replicate 3072 0) (replicate 512 0) (replicate 9152 0) (replicate 3840 0) (replicate 320 0) o.ensures,
-    )
+pub loop-init : goal.loop-init
+loop-init c =
+    let o = c.opened-s in
+    at_first o.result o.new.nodes (replicate 3072 0) (replicate 512 0) (replicate 9152 0) (replicate 3840 0) (replicate 320 0) o.ensures
 
-pub loop-i-preserved : goal.loop-i-preserved
-loop-i-preserved c =
-    let l = c.loop-i in
+pub loop-preserved : goal.loop-preserved
+loop-preserved c =
+    let l = c.loop in
     let spawned = c.spawn_voice-spawning in
     let prepared = c.prepare-served in
     let rendered = c.render-r in
@@ -43,12 +41,12 @@ loop-i-preserved c =
     and_then (call.spawn_managed (spawn_of tone (id 0) (float 0) 0)) (call.prepare ∷ call.render (replicate 256 0) ∷ []) (model_of s) (model_of more) end (ap (λ x. x.model) one)
     (and_then call.prepare (call.render (replicate 256 0) ∷ []) (model_of more) (model_of ready) end (ap (λ x. x.model) (prepared.ensures.is more))
     (and_then (call.render (replicate 256 0)) [] (model_of ready) end end (ap (λ x. x.model) (rendered.ensures.is ready)) refl)) in
-    (omega (arith, c.loop-i-test.true), one_less l.i (model_of s) end c.loop-i-test.true turned l.invariant.1)
+    one_less l.counter (model_of s) end c.loop-test.true turned l.invariant
 
 pub returns : goal.returns
 returns c =
     let r = c.page in
-    let l = c.loop-i in
+    let l = c.loop in
     let a = c.args in
     let m = lent_all l.s l.nodes l.edges l.order l.voices l.events l.steals in
-    page_is (model_of m) (paged_of r.result r.new.out) a.out.now (r.ensures.is m) (none_left l.i (model_of m) c.loop-i-test.false l.invariant.1)
+    page_is (model_of m) (paged_of r.result r.new.out) a.out.now (r.ensures.is m) (none_left l.counter (model_of m) c.loop-test.false l.invariant)

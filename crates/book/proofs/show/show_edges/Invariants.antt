@@ -1,9 +1,0 @@
--- `book::show::show_edges` is safe and ends.
-use Prim.Native.Nat.{◌≤◌, ◌-◌}
-use Rattle.book.proofs.show.show_edges.Given as goal
-
-abbrev pub invariant-loop-i : goal.invariant-loop-i
-invariant-loop-i l = l.i ≤ l.m
-
-abbrev pub decreases-loop-i : goal.decreases-loop-i
-decreases-loop-i l = l.m - l.i
