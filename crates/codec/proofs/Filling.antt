@@ -1,6 +1,5 @@
--- The loop that fills a list of n fields from the front: where it begins, a turn of it, and where it ends.
+-- The loop that fills a list of n fields from the front: a turn of it, and where it ends.
 use Prim.Native.Nat.{ℕ, suc, ◌+◌, ◌-◌, ◌≤◌, ◌<◌}
-use native.Mathlib.Nat.{sub-zero}
 use native.Mathlib.Omega.{arith}
 use native.Mathlib.Numerals.{add-one}
 use mathlib.Core.Path.{◌≡◌, sym, ap, ◌∙◌}
@@ -13,9 +12,6 @@ module _ {A : Type 0} (f : ℕ → A) (n : ℕ) (s : List ℕ) where
   -- what is filled, and what is still to come
   abbrev pub partly : List A → ℕ → ℕ → List A
   partly out from i = take i out ++ fields f (n - i) s from
-
-  pub begun : (out : List A) (at : ℕ) → partly out at 0 ≡ fields f n s at
-  begun out at = ap (λ (k : ℕ). fields f k s at) (sub-zero n)
 
   pub turned : (out : List A) (from i next : ℕ) (x : A) → i < length out → length out ≡ n → x ≡ f (little 4 s from) → next ≡ moved from 4 → partly (set out i x) next (i + 1) ≡ partly out from i
   unfolding fields

@@ -1,47 +1,39 @@
 // Fields of a lent input, little-endian. A byte past the input's end is 0, so that every field can be asked for; whether the input
 // was long enough is seen by the position after its last field.
-ghost use Rattle.std.specs.Prelude.{◌≡◌, min, ◌≤◌, length};
+ghost use Rattle.std.specs.Prelude.{◌≡◌, ℕ, ◌≤◌, length};
 ghost use Rattle.std.specs.Float.{binary32, binary64};
 ghost use Rattle.std.specs.Float.Ieee.{of_bits};
 ghost use Rattle.codec.specs.Field.{moved, little, run, fields};
-
-pub use lists::number::at_most;
 
 // The position n bytes after `at`. It stops at the last position of all, which no input reaches.
 pub fn after(at: usize, n: usize) -> usize
     ensures { result ≡ moved at n }
 {
-    if n <= usize::MAX - at {
-        return at + n;
-    }
-    usize::MAX
+    at.saturating_add(n)
 }
 
 pub fn byte_at(s: &[u8], at: usize) -> u8
     ensures { result ≡ little 1 s.now at }
 {
-    if at < s.len() {
-        return s[at];
-    }
-    0
+    s.get(at).copied().unwrap_or(0)
 }
 
 pub fn pair_at(s: &[u8], at: usize) -> u16
     ensures { result ≡ little 2 s.now at }
 {
-    byte_at(s, at) as u16 + byte_at(s, after(at, 1)) as u16 * 0x100
+    u16::from(byte_at(s, at)) + u16::from(byte_at(s, after(at, 1))) * 0x100
 }
 
 pub fn word_at(s: &[u8], at: usize) -> u32
     ensures { result ≡ little 4 s.now at }
 {
-    pair_at(s, at) as u32 + pair_at(s, after(at, 2)) as u32 * 0x1_0000
+    u32::from(pair_at(s, at)) + u32::from(pair_at(s, after(at, 2))) * 0x1_0000
 }
 
 pub fn long_at(s: &[u8], at: usize) -> u64
     ensures { result ≡ little 8 s.now at }
 {
-    word_at(s, at) as u64 + word_at(s, after(at, 4)) as u64 * 0x1_0000_0000
+    u64::from(word_at(s, at)) + u64::from(word_at(s, after(at, 4))) * 0x1_0000_0000
 }
 
 // The `len` bytes from `at` on, or none where the input ends before.
@@ -49,10 +41,7 @@ pub fn bytes_at(s: &[u8], at: usize, len: usize) -> &[u8]
     ensures { result.now ≡ run s.now at len }
 {
     let end = after(at, len);
-    if end <= s.len() {
-        return &s[at..end];
-    }
-    &s[0..0]
+    if end <= s.len() { &s[at..end] } else { &[] }
 }
 
 // The float of a pattern. Every pattern of a NaN is the same one.
@@ -74,30 +63,52 @@ pub fn double(bits: u64) -> f64
     f64::from_bits(bits)
 }
 
+// What a field of four bytes stands for.
+trait Field: Copy {
+    ghost value: { ℕ → Self };
+
+    fn of(word: u32) -> Self
+        ensures { result ≡ value word };
+}
+
+impl Field for f32 {
+    ghost value = { of_bits binary32 };
+
+    fn of(word: u32) -> f32 {
+        float(word)
+    }
+}
+
+impl Field for usize {
+    ghost value = { λ n. n };
+
+    fn of(word: u32) -> usize {
+        word as usize
+    }
+}
+
+fn fields_at<T: Field>(s: &[u8], at: usize, out: &mut [T])
+    ensures { out.new ≡ fields T.value (length out.old) s.now at }
+{
+    let mut from = at;
+    for i in 0..out.len() {
+        out[i] = T::of(word_at(s, from));
+        from = after(from, 4);
+    }
+}
+
 // Fills `out` with the floats whose patterns stand from `at` on.
 pub fn floats_at(s: &[u8], at: usize, out: &mut [f32])
     ensures { out.new ≡ fields (of_bits binary32) (length out.old) s.now at }
 {
-    let mut from = at;
-    let mut i: usize = 0;
-    while i < out.len() {
-        out[i] = float(word_at(s, from));
-        from = after(from, 4);
-        i += 1;
-    }
+    fields_at(s, at, out);
 }
 
 // Fills `out` with the numbers of four bytes that stand from `at` on.
 pub fn words_at(s: &[u8], at: usize, out: &mut [usize])
     ensures { out.new ≡ fields (λ n. n) (length out.old) s.now at }
 {
-    let mut from = at;
-    let mut i: usize = 0;
-    while i < out.len() {
-        out[i] = word_at(s, from) as usize;
-        from = after(from, 4);
-        i += 1;
-    }
+    fields_at(s, at, out);
 }
 
 // Where a run of lent numbers stands: how many, the first of them, and the end.

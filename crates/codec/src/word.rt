@@ -4,7 +4,6 @@ ghost use Rattle.std.specs.Float.{binary32, binary64};
 ghost use Rattle.codec.specs.Pattern.{pattern_of};
 
 use crate::descriptor::STDOUT;
-use lists::byte::long;
 
 pub fn pattern(x: f32) -> u32
     ensures { result ≡ pattern_of binary32 x }
@@ -12,7 +11,7 @@ pub fn pattern(x: f32) -> u32
     if x != x {
         return 0x7fc0_0000;
     }
-    f32::to_bits(x)
+    x.to_bits()
 }
 
 pub fn long_pattern(x: f64) -> u64
@@ -21,7 +20,7 @@ pub fn long_pattern(x: f64) -> u64
     if x != x {
         return 0x7ff8_0000_0000_0000;
     }
-    f64::to_bits(x)
+    x.to_bits()
 }
 
 pub fn text(s: &[u8]) {
@@ -33,7 +32,7 @@ pub fn number(n: u64) {
 }
 
 pub fn sample(x: f32) {
-    io::print_hex(STDOUT, pattern(x) as u64, 8);
+    io::print_hex(STDOUT, u64::from(pattern(x)), 8);
 }
 
 pub fn long_sample(x: f64) {
@@ -56,18 +55,14 @@ pub fn and_sample(x: f32) {
 }
 
 pub fn and_samples(xs: &[f32]) {
-    let mut i: usize = 0;
-    while i < xs.len() {
-        and_sample(xs[i]);
-        i += 1;
+    for x in xs {
+        and_sample(*x);
     }
 }
 
 // Each byte in two hexadecimal digits.
 pub fn hex_bytes(s: &[u8]) {
-    let mut i: usize = 0;
-    while i < s.len() {
-        io::print_hex(STDOUT, long(s[i]), 2);
-        i += 1;
+    for b in s {
+        io::print_hex(STDOUT, u64::from(*b), 2);
     }
 }

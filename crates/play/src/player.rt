@@ -2,8 +2,7 @@
 use codec::field::byte_at;
 use codec::output::Output;
 use piecrag::{
-    EdgeTable, EventTable, NodeTable, OrderTable, State, StealTable, SynthDef, VoiceTable,
-    WishTable, make,
+    EdgeTable, EventTable, NodeTable, OrderTable, StealTable, SynthDef, VoiceTable, WishTable, make,
 };
 use play_board::keyboards::{Board, new_board, no_keyboards, play_console, play_turn};
 use play_board::seals::play_seal;
@@ -16,19 +15,7 @@ use script::config::first_making;
 
 // Entries before the first making are played on a store of 48,000 Hz, block 64, no budget, without keyboards.
 pub(crate) fn first_board() -> Board {
-    let r = make(first_making());
-    new_board(r.state, no_keyboards())
-}
-
-// The board with another state of its store.
-fn on_store(board: Board, state: State) -> Board {
-    let wishes = board.wishes;
-    let seal = board.seal;
-    Board {
-        state,
-        wishes,
-        seal,
-    }
+    new_board(make(first_making()).state, no_keyboards())
 }
 
 // The entry at `at`, which is whole and keeps no definition: the board after it. A spawn and a wish are of the definition `def`.
@@ -46,29 +33,31 @@ pub(crate) fn play_entry(
     steals: &mut StealTable,
     wishes: &mut WishTable,
 ) -> Board {
-    let state = board.state;
-    let seal = board.seal;
-    let mut next = state;
-    match byte_at(s, at) {
-        2..=7 => next = play_host(out, s, at, seal, state, nodes, edges),
+    let Board { state, seal, .. } = board;
+    let next = match byte_at(s, at) {
+        2..=7 => play_host(out, s, at, seal, state, nodes, edges),
         9..=12 => {
             let w = spawn_at(s, at, def);
-            next = play_spawn(out, w, seal, state, nodes, edges, voices, steals);
+            play_spawn(out, w, seal, state, nodes, edges, voices, steals)
         }
-        13..=16 | 18 | 19 => next = play_voice(out, s, at, state, nodes, edges, voices),
-        17 => next = play_event(out, s, at, state, events),
-        20 => next = play_prepare(out, state, nodes, edges, order),
+        13..=16 | 18 | 19 => play_voice(out, s, at, state, nodes, edges, voices),
+        17 => play_event(out, s, at, state, events),
+        20 => play_prepare(out, state, nodes, edges, order),
         21 | 35 => {
             let lent = lent_at(s, at);
-            next = play_render(out, lent, state, nodes, edges, order, voices, events);
+            play_render(out, lent, state, nodes, edges, order, voices, events)
         }
         22..=33 => {
             let q = question_at(s, at);
             tell(out, q, state, nodes, edges, order, voices, events, steals);
+            state
         }
         49 => return play_turn(out, board, nodes, edges, voices, steals, wishes),
         52 => return play_seal(out, s, at, board, nodes, edges, voices),
         _ => return play_console(out, s, at, def, board, wishes),
+    };
+    Board {
+        state: next,
+        ..board
     }
-    on_store(board, next)
 }

@@ -1,13 +1,14 @@
 // A script that is read part by part, and its transcript.
 use crate::player::{first_board, play_entry};
 use crate::slots::{is_kept, keep, no_slots, slot_at};
-use crate::window::{end_at, fill, move_front, window_room};
+use crate::window::{WINDOW_BYTES, end_at, fill, move_front};
 use codec::descriptor::STDERR;
 use codec::field::after;
-use codec::output::{Output, and_number, end_line, flush, has_failed, output_room, text};
+use codec::output::{Output, flush, has_failed, output_room};
 use piecrag::{
     EDGE_WORDS, EVENT_WORDS, NODE_WORDS, ORDER_WORDS, STEAL_WORDS, VOICE_WORDS, WISH_WORDS,
 };
+use transcript::line_words::number_line;
 
 // How far the script is played. The first `held` bytes of the window were read, and `more` may follow them; the first has the position
 // `base` in the script. The entry that is to be played stands from `at` to `end`. There is none where the run has `ended`.
@@ -41,28 +42,26 @@ fn first_run() -> Run {
 fn step(window: &[u8], run: Run) -> Run {
     let at = run.end;
     let end = end_at(window, run.held, at);
-    let mut next = run;
-    next.at = at;
-    next.ended = run.held <= at || run.held < end;
-    if !next.ended {
-        next.end = end;
-        next.count = after(run.count, 1);
+    if run.held <= at || run.held < end {
+        return Run {
+            at,
+            ended: true,
+            ..run
+        };
     }
-    next
-}
-
-fn left_behind(held: usize, at: usize) -> usize {
-    if held < at {
-        return 0;
+    Run {
+        at,
+        end,
+        count: after(run.count, 1),
+        ..run
     }
-    held - at
 }
 
 // What is left of the window moves to its front, and the script is read on.
 fn read_on<S: std::io::Read>(input: &mut S, window: &mut [u8], run: Run) -> Run {
     let at = run.end;
     move_front(window, at);
-    let r = fill(input, window, left_behind(run.held, at));
+    let r = fill(input, window, run.held.saturating_sub(at));
     Run {
         held: r.held,
         more: r.more,
@@ -85,21 +84,15 @@ fn next_entry<S: std::io::Read>(input: &mut S, window: &mut [u8], run: Run) -> R
     step(window, further)
 }
 
-fn last_line(out: &mut Output, word: &[u8], n: usize) {
-    text(out, word);
-    and_number(out, n as u64);
-    end_line(out);
-}
-
 // The last line, when no entry was left. What fails is said on standard error too: a program of this language has no exit status.
 fn end_run(out: &mut Output, run: Run) {
     if run.failed {
-        last_line(out, b"unread", after(run.base, run.held));
+        number_line(out, b"unread", after(run.base, run.held) as u64);
         io::write_all(STDERR, b"the script cannot be read on\n");
     } else if run.at == run.held {
-        last_line(out, b"played", run.count);
+        number_line(out, b"played", run.count as u64);
     } else {
-        last_line(out, b"malformed", after(run.base, run.at));
+        number_line(out, b"malformed", after(run.base, run.at) as u64);
     }
     flush(out);
     if has_failed(out) {
@@ -109,7 +102,7 @@ fn end_run(out: &mut Output, run: Run) {
 
 // Plays the script on newly made stores, and writes the transcript to standard output.
 pub fn play_input<S: std::io::Read>(input: &mut S) {
-    let mut window = window_room();
+    let mut window = [0; WINDOW_BYTES];
     let mut out = output_room();
     let mut nodes = [0u32; NODE_WORDS];
     let mut edges = [0u32; EDGE_WORDS];
@@ -121,18 +114,16 @@ pub fn play_input<S: std::io::Read>(input: &mut S) {
     let mut board = first_board();
     let mut slots = no_slots();
     let mut run = first_run();
-    let mut left = usize::MAX;
-    while 0 < left {
-        left -= 1;
+    for _ in 0..u64::MAX {
         run = next_entry(input, &mut window, run);
         if run.ended || has_failed(&out) {
             break;
         }
         let at = run.at;
         if is_kept(&window, at) {
-            slots = keep(&mut out, &window, at, slots);
+            keep(&mut out, &window, at, &mut slots);
         } else {
-            let def = slot_at(&window, at, slots);
+            let def = slot_at(&window, at, &slots);
             board = play_entry(
                 &mut out,
                 &window,

@@ -2,22 +2,14 @@
 use crate::keyboards::Board;
 use codec::field::{after, long_at};
 use codec::output::{Output, text};
-use piecrag::{EdgeTable, NodeTable, Profile, SealAnswer, VoiceTable, seal};
+use piecrag::{EdgeTable, NodeTable, Profile, VoiceTable, seal};
 use script::host::id_at;
-use transcript::answer::seal_refused_line;
-
-fn seal_line(out: &mut Output, answer: SealAnswer) {
-    match answer {
-        SealAnswer::Done => text(out, b"sealed\n"),
-        SealAnswer::Refused(refusal) => seal_refused_line(out, refusal),
-    }
-}
+use transcript::answer::answer_line;
 
 // A bus, P, H, G, D and E.
 fn profile_at(s: &[u8], at: usize) -> Profile {
-    let bus = id_at(s, at);
     Profile {
-        bus,
+        bus: id_at(s, at),
         ports: long_at(s, after(at, 4)),
         host_nodes: long_at(s, after(at, 12)),
         host_edges: long_at(s, after(at, 20)),
@@ -35,17 +27,19 @@ pub fn play_seal(
     edges: &EdgeTable,
     voices: &VoiceTable,
 ) -> Board {
-    let state = board.state;
-    let wishes = board.wishes;
-    let before = board.seal;
     let stated = profile_at(s, after(at, 1));
-    let r = seal(before, state, nodes, edges, voices, wishes, stated);
-    let answer = r.answer;
-    seal_line(out, answer);
-    let left = r.seal;
+    let r = seal(
+        board.seal,
+        board.state,
+        nodes,
+        edges,
+        voices,
+        board.wishes,
+        stated,
+    );
+    answer_line(out, b"sealed\n", r.answer);
     Board {
-        state,
-        wishes,
-        seal: left,
+        seal: r.seal,
+        ..board
     }
 }

@@ -2,51 +2,24 @@
 use codec::field::{after, byte_at, float, word_at};
 use codec::output::Output;
 use piecrag::{
-    BoardSpawned, EdgeTable, NodeTable, Seal, State, StealTable, SynthDef, VoiceTable, Wish,
-    board_spawn,
+    EdgeTable, NodeTable, Seal, State, StealTable, SynthDef, VoiceTable, Wish, board_spawn,
 };
 use script::host::id_at;
-use transcript::answer::{closed_line, spawned_line};
+use transcript::answer::given_line;
 
-// The rank stands last.
-fn rank_at(s: &[u8], at: usize) -> u32 {
-    if byte_at(s, at) < 11 {
-        return word_at(s, after(at, 10));
-    }
-    word_at(s, after(at, 6))
-}
-
-// The entries 9 and 10 have a pan; of 11 and 12 it is 0.
-fn pan_at(s: &[u8], at: usize) -> f32 {
-    if byte_at(s, at) < 11 {
-        return float(word_at(s, after(at, 6)));
-    }
-    0.0
-}
-
-// The spawns of the entries 9 and 11 are managed.
-fn is_managed(sort: u8) -> bool {
-    match sort {
-        9 | 11 => true,
-        _ => false,
-    }
-}
-
-fn spawn_line(out: &mut Output, answer: BoardSpawned) {
-    match answer {
-        BoardSpawned::Closed => closed_line(out),
-        BoardSpawned::Given(given) => spawned_line(out, given),
-    }
-}
-
-// A slot, whose definition is `def`, a bus and, but for the calls with pan 0, a pan; then a rank.
+// A slot, whose definition is `def`, a bus, a pan and a rank. The entries 11 and 12 have no pan, which is 0; those of 9 and 11 are managed.
 pub fn spawn_at(s: &[u8], at: usize, def: SynthDef) -> Wish {
+    let sort = byte_at(s, at);
+    let (pan, rank) = match sort {
+        11.. => (0.0, word_at(s, after(at, 6))),
+        _ => (float(word_at(s, after(at, 6))), word_at(s, after(at, 10))),
+    };
     Wish {
-        managed: is_managed(byte_at(s, at)),
+        managed: matches!(sort, 9 | 11),
         def,
         bus: id_at(s, after(at, 2)),
-        pan: pan_at(s, at),
-        rank: rank_at(s, at),
+        pan,
+        rank,
     }
 }
 
@@ -61,7 +34,6 @@ pub fn play_spawn(
     steals: &mut StealTable,
 ) -> State {
     let r = board_spawn(seal, state, nodes, edges, voices, steals, w);
-    let answer = r.answer;
-    spawn_line(out, answer);
+    given_line(out, b"voice", r.answer.map(|id| id.0));
     r.state
 }

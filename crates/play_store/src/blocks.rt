@@ -4,18 +4,15 @@ ghost use Rattle.std.specs.Prelude.{◌≡◌, length};
 use crate::host::told;
 use codec::field::{after, byte_at, bytes_at, float, floats_at, word_at};
 use codec::output::Output;
-use lists::number::at_most;
 use piecrag::{
-    Answer, EdgeTable, EventTable, NodeTable, OrderTable, Rendered, State, VoiceTable, prepare,
-    render, report,
+    EdgeTable, EventTable, NodeTable, OrderTable, Refusal, State, VoiceTable, prepare, render,
+    report,
 };
 use script::host::id_at;
 use transcript::answer::{list_line, rendered_line};
 
 // 512 samples: those that stand from `at` on, or the one that stands there again and again.
-fn samples_at(s: &[u8], at: usize, repeated: bool) -> [f32; 512]
-    ensures { 512 ≡ length result }
-{
+fn samples_at(s: &[u8], at: usize, repeated: bool) -> [f32; 512] {
     if repeated {
         return [float(word_at(s, at)); 512];
     }
@@ -32,11 +29,11 @@ pub fn reported(
     state: State,
     nodes: &mut NodeTable,
     voices: &VoiceTable,
-) -> Answer {
+) -> Result<(), Refusal> {
     let node = id_at(s, after(at, 1));
     let channels = byte_at(s, after(at, 5)) as usize;
     let done = byte_at(s, after(at, 6)) != 0;
-    let n = at_most(word_at(s, after(at, 7)) as usize, 512);
+    let n = (word_at(s, after(at, 7)) as usize).min(512);
     let samples = samples_at(s, after(at, 11), byte_at(s, at) == 19);
     report(state, nodes, voices, node, channels, &samples[..n], done)
 }
@@ -74,30 +71,16 @@ pub fn lent_at(s: &[u8], at: usize) -> Lent {
     }
 }
 
-// Room for the longest list that a script lends, each entry the same.
+// Room for the longest list that a script lends, each entry the same. A function of its own: with the array in reach the bound of the part
+// that is lent was not found within the prover's limit.
 fn list_room(old: u8) -> [u8; 4096]
     ensures { 4096 ≡ length result }
 {
     [old; 4096]
 }
 
-// The line of a render shows the entries that it has written. Of a list that the script describes, the first `n` of the room, all stand
-// on a line of their own.
-fn shown(
-    out: &mut Output,
-    described: bool,
-    answer: Rendered,
-    taken: usize,
-    room: &[u8; 4096],
-    n: usize,
-) {
-    rendered_line(out, answer, bytes_at(room, 0, taken));
-    if described {
-        list_line(out, bytes_at(room, 0, n));
-    }
-}
-
-// Of the entries that a list is said to have 4,096 count.
+// The line of a render shows the entries that it has written; all of a list that the script describes stand on a line of their own. Of the
+// entries that a list is said to have 4,096 count.
 pub fn play_render(
     out: &mut Output,
     lent: Lent,
@@ -108,10 +91,13 @@ pub fn play_render(
     voices: &mut VoiceTable,
     events: &mut EventTable,
 ) -> State {
-    let n = at_most(lent.count, 4096);
+    let n = lent.count.min(4096);
     let mut room = list_room(lent.old);
-    let r = render(state, nodes, edges, order, voices, events, &mut room[..n]);
-    let answer = r.answer;
-    shown(out, lent.described, answer, r.taken, &room, n);
+    let list = &mut room[..n];
+    let r = render(state, nodes, edges, order, voices, events, list);
+    rendered_line(out, r.answer, bytes_at(list, 0, r.taken));
+    if lent.described {
+        list_line(out, list);
+    }
     r.state
 }

@@ -1,11 +1,10 @@
 // The readings, which leave the store as it is.
 use crate::voices::voice_at;
-use codec::field::{after, byte_at, word_at};
+use codec::field::{after, byte_at, bytes_at, word_at};
 use codec::output::Output;
-use lists::number::at_most;
 use piecrag::{
-    EdgeTable, EventTable, NodeId, NodeTable, OrderTable, Paged, State, StealTable, VoiceId,
-    VoiceTable, page,
+    EdgeTable, EventTable, NodeId, NodeTable, OrderTable, State, StealTable, VoiceId, VoiceTable,
+    page,
 };
 use transcript::answer::{clock_line, level_line, page_lines, position_line, refused_line};
 use transcript::graphs::{edges_line, order_line, sources_line};
@@ -33,8 +32,7 @@ pub fn question_at(s: &[u8], at: usize) -> Question {
 // What is read of one voice.
 fn tell_voice(out: &mut Output, q: Question, state: State, nodes: &NodeTable, voices: &VoiceTable) {
     let id = q.voice;
-    let sort = q.sort;
-    match sort {
+    match q.sort {
         22 => level_line(out, piecrag::voice_level(state, nodes, voices, id)),
         23 => position_line(out, piecrag::fade_position(state, voices, id)),
         24 => found_line(out, piecrag::voice(state, voices, id)),
@@ -44,16 +42,15 @@ fn tell_voice(out: &mut Output, q: Question, state: State, nodes: &NodeTable, vo
 
 fn paged(out: &mut Output, room: &mut [u8], state: State, edges: &EdgeTable, voices: &VoiceTable) {
     match page(state, edges, voices, room) {
-        Paged::Length(n) => page_lines(out, n, room),
-        Paged::Refused(refusal) => refused_line(out, refusal),
+        Ok(n) => page_lines(out, bytes_at(room, 0, n)),
+        Err(refusal) => refused_line(out, refusal),
     }
 }
 
 // The length of the buffer. An entry that asks for more than 4,096 bytes is malformed, and not played.
 fn lent_page(out: &mut Output, n: usize, state: State, edges: &EdgeTable, voices: &VoiceTable) {
-    let m = at_most(n, 4096);
     let mut room = io::buffer();
-    paged(out, &mut room[..m], state, edges, voices);
+    paged(out, &mut room[..n.min(4096)], state, edges, voices);
 }
 
 // What is read of one table, of none, or, for the page, of two.
@@ -66,8 +63,7 @@ fn tell_table(
     voices: &VoiceTable,
     steals: &StealTable,
 ) {
-    let sort = q.sort;
-    match sort {
+    match q.sort {
         26 => voices_line(out, state, voices),
         27 => steals_line(out, piecrag::steals(state, steals)),
         28 => edges_line(out, state, edges),
@@ -90,8 +86,7 @@ pub fn tell(
     events: &EventTable,
     steals: &StealTable,
 ) {
-    let sort = q.sort;
-    match sort {
+    match q.sort {
         22..=25 => tell_voice(out, q, state, nodes, voices),
         33 => state_lines(out, state, nodes, edges, order, voices, events, steals),
         _ => tell_table(out, q, state, edges, order, voices, steals),

@@ -25,8 +25,7 @@ fn play_free(
     voices: &mut VoiceTable,
 ) -> State {
     let r = free_voice(state, nodes, edges, voices, id);
-    let outcome = r.outcome;
-    outcome_line(out, outcome);
+    outcome_line(out, r.outcome);
     r.state
 }
 
@@ -67,7 +66,7 @@ fn play_order(
     match byte_at(s, at) {
         15 => outcome_line(out, value(s, from, state, nodes, voices)),
         16 => outcome_line(out, glide(s, from, state, nodes, voices)),
-        _ => answer_line(out, reported(s, at, state, nodes, voices)),
+        _ => answer_line(out, b"done\n", reported(s, at, state, nodes, voices)),
     }
 }
 
@@ -103,8 +102,7 @@ pub fn play_event(
     let voice = voice_at(s, after(at, 9));
     let sort = byte_at(s, after(at, 17));
     let name = after(at, 18);
-    let g = glide_at(s, name_end(s, name));
-    let action = action_of(sort, g);
+    let action = action_of(sort, glide_at(s, name_end(s, name)));
     told(
         out,
         schedule(state, events, time, voice, name_at(s, name), action),

@@ -2,29 +2,18 @@
 #![tactic(auto)]
 
 ghost use Rattle.std.specs.Prelude.{◌≡◌, take};
-ghost use Rattle.edges.specs.Ports.{port_of, free_port};
+ghost use Rattle.edges.specs.Ports.{free_port};
 ghost use Rattle.graph_rows.specs.Edge.{edges_in};
 ghost use Rattle.port_search.specs.Number.{number_of};
 
-use edges::ports::Port;
 use graph_rows::edge_row::EdgeTable;
 use graph_tables::ports::free_port;
 use node::record::NodeId;
 
-fn port_number(p: Port) -> u32
-    ensures { result ≡ number_of p }
-{
-    match p {
-        Port::At(n) => n,
-        Port::Nothing => 64,
-    }
-}
-
 // The lowest port of `node` below `ports` that nothing feeds; 64 if there is none.
 #[unsafe(no_mangle)]
 pub extern "C" fn piecrag_free_port(edges: &EdgeTable, count: usize, node: u32, ports: u32) -> u32
-    ensures { result ≡ number_of (port_of (free_port (take count (edges_in edges.now)) (record { 0 = node }) ports)) }
+    ensures { result ≡ number_of (free_port (take count (edges_in edges.now)) (record { 0 = node }) ports) }
 {
-    let p = free_port(edges, count, NodeId(node), ports);
-    port_number(p)
+    free_port(edges, count, NodeId(node), ports).unwrap_or(64)
 }

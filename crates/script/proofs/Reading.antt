@@ -1,7 +1,6 @@
--- The loop that reads n rows and keeps the first `cap` of them: where it begins, a turn that keeps the row, one that does not, and
--- where it ends.
+-- The loop that reads n rows and keeps the first `cap` of them: a turn that keeps the row, one that does not, and where it ends.
 use Prim.Native.Nat.{ℕ, suc, ◌+◌, ◌-◌, ◌≤◌, ◌<◌, min}
-use native.Mathlib.Nat.{sub-zero, min-eq_left, min-eq_right, le_of_lt}
+use native.Mathlib.Nat.{min-eq_left, min-eq_right, le_of_lt}
 use native.Mathlib.Omega.{arith}
 use native.Mathlib.Numerals.{add-one}
 use mathlib.Core.Path.{◌≡◌, refl, sym, ap, ◌∙◌}
@@ -22,15 +21,6 @@ module _ {A : Type 0} (read : List ℕ → ℕ → A) (next : List ℕ → ℕ �
     pub few : i ≤ n
     pub same : take cap (take i rows ++ rows_at read next (n - i) s end) ≡ take cap (rows_at read next n s start)
     pub ends : rows_end next (n - i) s end ≡ rows_end next n s start
-
-  pub begun : (rows : List A) → length rows ≡ cap → Read rows start 0
-  begun rows l =
-      record {
-        long = l;
-        few = omega arith;
-        same = ap (λ (k : ℕ). take cap (rows_at read next k s start)) (sub-zero n);
-        ends = ap (λ (k : ℕ). rows_end next k s start) (sub-zero n);
-      }
 
   here : (i : ℕ) → i < n → n - i ≡ suc (n - (i + 1))
   here i h = omega arith

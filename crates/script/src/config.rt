@@ -3,15 +3,15 @@ ghost use Rattle.std.specs.Prelude.{◌≡◌};
 ghost use Rattle.script.specs.Config.{budget_of, policy_of, scope_of, first_making};
 
 use store::config::Making;
-use voice::policy::{Budget, BudgetScope, StealPolicy};
+use voice::policy::{BudgetScope, StealPolicy};
 
 // Whether there is a budget, and the budget.
-pub fn budget_of(flag: u8, n: usize) -> Budget
+pub fn budget_of(flag: u8, n: usize) -> Option<usize>
     ensures { result ≡ budget_of flag n }
 {
     match flag {
-        0 => Budget::Unlimited,
-        _ => Budget::AtMost(n),
+        0 => None,
+        _ => Some(n),
     }
 }
 
@@ -42,7 +42,7 @@ pub fn first_making() -> Making
     Making {
         rate: 48000.0,
         block: 64,
-        budget: Budget::Unlimited,
+        budget: None,
         policy: StealPolicy::Reject,
         scope: BudgetScope::Global,
         table: false,

@@ -102,21 +102,17 @@ const FORMS: [Form; 54] = [
 fn form_of(sort: u8) -> Form
     ensures { result ≡ form_of sort }
 {
-    let n = sort as usize;
-    if n < 54 {
-        return FORMS[n];
-    }
-    Form::Malformed
+    FORMS
+        .get(usize::from(sort))
+        .copied()
+        .unwrap_or(Form::Malformed)
 }
 
 // The end of an entry that may count n of something; of one that counts too much, a position past every script.
 fn within(most: u32, n: u32, end: usize) -> usize
     ensures { result ≡ within most n end }
 {
-    if n <= most {
-        return end;
-    }
-    usize::MAX
+    if n <= most { end } else { usize::MAX }
 }
 
 // The samples that a report counts.
@@ -129,8 +125,7 @@ fn samples_of(s: &[u8], from: usize) -> u32
 fn def_end(s: &[u8], at: usize) -> usize
     ensures { result ≡ def_end s.now at }
 {
-    let r = def_at(s, at);
-    r.end
+    def_at(s, at).end
 }
 
 // The position after the fields that start at `from`.

@@ -8,12 +8,12 @@ use codec::field::{after, byte_at, bytes_at};
 pub fn name_at(s: &[u8], at: usize) -> &[u8]
     ensures { result.now ≡ name_at s.now at }
 {
-    bytes_at(s, after(at, 1), byte_at(s, at) as usize)
+    bytes_at(s, after(at, 1), usize::from(byte_at(s, at)))
 }
 
 // The position after the name at `at`.
 pub fn name_end(s: &[u8], at: usize) -> usize
     ensures { result ≡ name_end s.now at }
 {
-    after(after(at, 1), byte_at(s, at) as usize)
+    after(after(at, 1), usize::from(byte_at(s, at)))
 }

@@ -1,66 +1,83 @@
 // What a call answers, in one line.
-use crate::line_words::{id_word, level_word};
+use crate::line_words::{level_word, number_line, number_word};
+use call_console::making::MakeRefusal;
 use call_param::number::outcome_number;
-use codec::field::bytes_at;
+use call_seal::closing::BoardRefusal;
 use codec::output::{Output, and_number, end_line, hex_bytes, text};
-use graph::state::{AddAnswer, Answer};
+use console::refusal::{KeyboardRefusal, keyboard_refusal_number};
 use node::refusal::{Refusal, refusal_number};
 use sealed::refusal::{SealRefusal, seal_refusal_number};
-use store::answer::{Outcome, Position, Rendered, Spawned};
-use voice::policy::Level;
+use store::answer::{Outcome, Rendered};
 
-pub fn refused_line(out: &mut Output, refusal: Refusal) {
-    text(out, b"refused");
-    and_number(out, refusal_number(refusal) as u64);
-    end_line(out);
+// Why a call was refused, by whom it was.
+pub trait Numbered: Copy {
+    fn number(self) -> u8;
 }
 
-pub fn made_line(out: &mut Output, answer: Answer) {
-    match answer {
-        Answer::Done => text(out, b"made\n"),
-        Answer::Refused(refusal) => refused_line(out, refusal),
+impl Numbered for Refusal {
+    fn number(self) -> u8 {
+        refusal_number(self)
     }
 }
 
-pub fn answer_line(out: &mut Output, answer: Answer) {
-    match answer {
-        Answer::Done => text(out, b"done\n"),
-        Answer::Refused(refusal) => refused_line(out, refusal),
+impl Numbered for KeyboardRefusal {
+    fn number(self) -> u8 {
+        keyboard_refusal_number(self)
     }
 }
 
-pub fn given_line(out: &mut Output, given: AddAnswer) {
+impl Numbered for SealRefusal {
+    fn number(self) -> u8 {
+        seal_refusal_number(self)
+    }
+}
+
+impl Numbered for MakeRefusal {
+    fn number(self) -> u8 {
+        match self {
+            MakeRefusal::Store(refusal) => refusal.number(),
+            MakeRefusal::Keyboards(refusal) => refusal.number(),
+        }
+    }
+}
+
+impl<R: Numbered> Numbered for BoardRefusal<R> {
+    fn number(self) -> u8 {
+        match self {
+            BoardRefusal::Closed => SealRefusal::Closed.number(),
+            BoardRefusal::Given(refusal) => refusal.number(),
+        }
+    }
+}
+
+pub fn refused_line<R: Numbered>(out: &mut Output, refusal: R) {
+    number_line(out, b"refused", u64::from(refusal.number()));
+}
+
+// The line `done`, or the refusal.
+pub fn answer_line<R: Numbered>(out: &mut Output, done: &[u8], answer: Result<(), R>) {
+    match answer {
+        Ok(()) => text(out, done),
+        Err(refusal) => refused_line(out, refusal),
+    }
+}
+
+// The new id behind a word that says of what, or the refusal.
+pub fn given_line<R: Numbered>(out: &mut Output, word: &[u8], given: Result<u64, R>) {
     match given {
-        AddAnswer::Id(id) => {
-            text(out, b"node");
-            id_word(out, id);
-            end_line(out);
-        }
-        AddAnswer::Refused(refusal) => refused_line(out, refusal),
-    }
-}
-
-pub fn spawned_line(out: &mut Output, answer: Spawned) {
-    match answer {
-        Spawned::Voice(id) => {
-            text(out, b"voice");
-            and_number(out, id.0);
-            end_line(out);
-        }
-        Spawned::Refused(refusal) => refused_line(out, refusal),
+        Ok(id) => number_line(out, word, id),
+        Err(refusal) => refused_line(out, refusal),
     }
 }
 
 // What became of a value, a glide or a free.
 pub fn outcome_line(out: &mut Output, outcome: Outcome) {
-    text(out, b"outcome");
-    and_number(out, outcome_number(outcome) as u64);
-    end_line(out);
+    number_line(out, b"outcome", u64::from(outcome_number(outcome)));
 }
 
 // The entries of a list, if there are any.
 fn entries(out: &mut Output, list: &[u8]) {
-    if list.len() != 0 {
+    if !list.is_empty() {
         text(out, b" ");
         hex_bytes(out, list);
     }
@@ -76,21 +93,15 @@ fn taken_words(out: &mut Output, outcomes: &[u8]) {
 
 pub fn rendered_line(out: &mut Output, answer: Rendered, outcomes: &[u8]) {
     match answer {
-        Rendered::Sounding => {
-            text(out, b"sounding");
-            taken_words(out, outcomes);
-        }
-        Rendered::Silent => {
-            text(out, b"silent");
-            taken_words(out, outcomes);
-        }
+        Rendered::Sounding => text(out, b"sounding"),
+        Rendered::Silent => text(out, b"silent"),
         Rendered::Unprepared(refusal) => {
             text(out, b"silent");
-            and_number(out, refusal_number(refusal) as u64);
-            taken_words(out, outcomes);
+            and_number(out, u64::from(refusal_number(refusal)));
         }
-        Rendered::Refused(refusal) => refused_line(out, refusal),
+        Rendered::Refused(refusal) => return refused_line(out, refusal),
     }
+    taken_words(out, outcomes);
 }
 
 // The whole of a lent list.
@@ -100,72 +111,43 @@ pub fn list_line(out: &mut Output, list: &[u8]) {
 }
 
 pub fn removed_line(out: &mut Output, removed: usize) {
-    text(out, b"removed");
-    and_number(out, removed as u64);
-    end_line(out);
+    number_line(out, b"removed", removed as u64);
 }
 
-pub fn level_line(out: &mut Output, level: Level) {
+pub fn level_line(out: &mut Output, level: Option<f32>) {
     text(out, b"level");
     level_word(out, level);
     end_line(out);
 }
 
-pub fn position_line(out: &mut Output, position: Position) {
-    match position {
-        Position::At(sample) => {
-            text(out, b"position");
-            and_number(out, sample);
-            end_line(out);
-        }
-        Position::Nothing => text(out, b"position -\n"),
-    }
+pub fn position_line(out: &mut Output, position: Option<u64>) {
+    text(out, b"position");
+    number_word(out, position);
+    end_line(out);
 }
 
-// The length of a page, and the page, which stands at the start of `page`.
-pub fn page_lines(out: &mut Output, length: usize, page: &[u8]) {
-    text(out, b"page");
-    and_number(out, length as u64);
-    end_line(out);
-    text(out, bytes_at(page, 0, length));
+// The length of a page, and the page.
+pub fn page_lines(out: &mut Output, page: &[u8]) {
+    number_line(out, b"page", page.len() as u64);
+    text(out, page);
 }
 
 pub fn clock_line(out: &mut Output, clock: u64) {
-    text(out, b"clock");
-    and_number(out, clock);
-    end_line(out);
+    number_line(out, b"clock", clock);
 }
 
 // A byte of a remark. One that is no printable character of ASCII is `?`, so that every remark is one line.
 fn printable(byte: u8) -> u8 {
-    if byte < 32 || 126 < byte {
-        return 63;
-    }
-    byte
-}
-
-fn remark_bytes(out: &mut Output, words: &[u8]) {
-    let mut i: usize = 0;
-    while i < words.len() {
-        let shown = [printable(words[i])];
-        text(out, &shown);
-        i += 1;
+    match byte {
+        32..=126 => byte,
+        _ => b'?',
     }
 }
 
 pub fn remark_line(out: &mut Output, words: &[u8]) {
     text(out, b"# ");
-    remark_bytes(out, words);
+    for &byte in words {
+        text(out, &[printable(byte)]);
+    }
     end_line(out);
-}
-
-pub fn seal_refused_line(out: &mut Output, refusal: SealRefusal) {
-    text(out, b"refused");
-    and_number(out, seal_refusal_number(refusal) as u64);
-    end_line(out);
-}
-
-// The line of a call that the seal closes.
-pub fn closed_line(out: &mut Output) {
-    seal_refused_line(out, SealRefusal::Closed);
 }

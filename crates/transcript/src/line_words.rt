@@ -1,26 +1,32 @@
 // The words of more than one line. Each has a space before it.
-use codec::output::{Output, and_number, and_sample, hex_bytes, text};
+use codec::output::{Output, and_number, and_sample, end_line, hex_bytes, text};
 use node::name::{Name, is_named};
 use node::order::{Glide, GlideShape, GlideSpace};
 use node::record::NodeId;
-use voice::policy::Level;
 
-pub fn id_word(out: &mut Output, id: NodeId) {
-    and_number(out, id.0 as u64);
+// A line of a word and a number.
+pub fn number_line(out: &mut Output, word: &[u8], n: u64) {
+    text(out, word);
+    and_number(out, n);
+    end_line(out);
 }
 
-pub fn flag_word(out: &mut Output, yes: bool) {
-    if yes {
-        text(out, b" 1");
-    } else {
-        text(out, b" 0");
+pub fn id_word(out: &mut Output, id: NodeId) {
+    and_number(out, u64::from(id.0));
+}
+
+// A number, or `-` where there is none.
+pub fn number_word(out: &mut Output, n: Option<u64>) {
+    match n {
+        Some(n) => and_number(out, n),
+        None => text(out, b" -"),
     }
 }
 
-pub fn level_word(out: &mut Output, level: Level) {
+pub fn level_word(out: &mut Output, level: Option<f32>) {
     match level {
-        Level::Unknown => text(out, b" -"),
-        Level::Known(x) => and_sample(out, x),
+        Some(x) => and_sample(out, x),
+        None => text(out, b" -"),
     }
 }
 
@@ -29,10 +35,8 @@ pub fn name_word(out: &mut Output, name: Name) {
         text(out, b" -");
         return;
     }
-    let n = name.len as usize;
-    let bytes = name.bytes;
     text(out, b" ");
-    hex_bytes(out, &bytes[..n]);
+    hex_bytes(out, &name.bytes[..name.len as usize]);
 }
 
 fn shape_words(out: &mut Output, shape: GlideShape) {
@@ -55,10 +59,8 @@ fn space_word(out: &mut Output, space: GlideSpace) {
 }
 
 pub fn glide_words(out: &mut Output, g: Glide) {
-    let shape = g.shape;
-    let space = g.space;
     and_sample(out, g.target);
     and_sample(out, g.seconds);
-    shape_words(out, shape);
-    space_word(out, space);
+    shape_words(out, g.shape);
+    space_word(out, g.space);
 }

@@ -2,7 +2,6 @@
 use crate::line_words::{glide_words, name_word};
 use codec::output::{Output, and_number, and_sample, end_line, text};
 use event_table::row::{EventTable, event_at};
-use lists::number::at_most;
 use memory::state::State;
 use node::order::EventAction;
 use scheduler::event::Event;
@@ -11,17 +10,15 @@ fn event_line(out: &mut Output, e: Event) {
     text(out, b"event");
     and_number(out, e.time);
     and_number(out, e.voice.0);
-    let name = e.name;
-    let action = e.action;
-    match action {
+    match e.action {
         EventAction::Value(x) => {
             text(out, b" value");
-            name_word(out, name);
+            name_word(out, e.name);
             and_sample(out, x);
         }
         EventAction::Glide(g) => {
             text(out, b" glide");
-            name_word(out, name);
+            name_word(out, e.name);
             glide_words(out, g);
         }
         EventAction::Gate(x) => {
@@ -34,10 +31,7 @@ fn event_line(out: &mut Output, e: Event) {
 }
 
 pub fn event_lines(out: &mut Output, s: State, events: &EventTable) {
-    let n = at_most(s.events, 256);
-    let mut i: usize = 0;
-    while i < n {
+    for i in 0..s.events.min(256) {
         event_line(out, event_at(events, i));
-        i += 1;
     }
 }

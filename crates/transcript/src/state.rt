@@ -1,7 +1,7 @@
 // The whole state.
 use crate::answer::clock_line;
 use crate::graphs::{edges_line, node_lines, order_line, sink_line};
-use crate::line_words::flag_word;
+use crate::line_words::number_line;
 use crate::queue::event_lines;
 use crate::stolen::steal_lines;
 use crate::voices::{tracked_line, voice_lines};
@@ -22,11 +22,8 @@ fn graph_lines(
     edges: &EdgeTable,
     order: &OrderTable,
 ) {
-    text(out, b"prepared");
-    flag_word(out, s.prepared);
-    end_line(out);
-    let sink = s.sink;
-    sink_line(out, sink);
+    number_line(out, b"prepared", u64::from(s.prepared));
+    sink_line(out, s.sink);
     edges_line(out, s, edges);
     order_line(out, s, order);
     node_lines(out, s, nodes);

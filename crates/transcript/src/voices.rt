@@ -1,10 +1,10 @@
 // Voices.
-use crate::line_words::{flag_word, id_word, level_word};
-use call_read::look::{FoundVoice, voice_at, voice_level};
+use crate::line_words::{id_word, level_word, number_word};
+use call_read::look::{voice_at, voice_level};
 use codec::output::{Output, and_number, end_line, text};
 use graph_rows::edge_row::EdgeTable;
 use graph_rows::node_row::NodeTable;
-use graph_tables::ports::{Feeding, feeding_edge};
+use graph_tables::ports::feeding_edge;
 use memory::state::State;
 use store::voices::{Voice, VoiceState};
 use voice_rows::feeding::end_at;
@@ -31,33 +31,23 @@ fn record_words(out: &mut Output, v: Voice) {
     and_number(out, v.birth);
     id_word(out, v.bus);
     id_word(out, v.first);
-    and_number(out, v.count as u64);
+    and_number(out, u64::from(v.count));
     id_word(out, v.output);
-    flag_word(out, v.panned);
-    and_number(out, v.port as u64);
-    and_number(out, v.sequence as u64);
-    and_number(out, v.rank as u64);
-    let state = v.state;
-    state_words(out, state);
+    and_number(out, u64::from(v.panned));
+    and_number(out, u64::from(v.port));
+    and_number(out, u64::from(v.sequence));
+    and_number(out, u64::from(v.rank));
+    state_words(out, v.state);
 }
 
-pub fn found_line(out: &mut Output, found: FoundVoice) {
-    if found.found {
-        record_words(out, found.voice);
-        end_line(out);
-        return;
+pub fn found_line(out: &mut Output, found: Option<Voice>) {
+    match found {
+        Some(v) => {
+            record_words(out, v);
+            end_line(out);
+        }
+        None => text(out, b"-\n"),
     }
-    text(out, b"-\n");
-}
-
-// The port of an edge that was looked for.
-fn port_word(out: &mut Output, fed: Feeding) {
-    if fed.found {
-        let e = fed.edge;
-        and_number(out, e.port as u64);
-        return;
-    }
-    text(out, b" -");
 }
 
 // The voice `v`, which stands in row `i`: its record, the port of its bus that it feeds now, its level.
@@ -70,11 +60,10 @@ fn voice_line(
     i: usize,
     v: Voice,
 ) {
-    let id = v.id;
-    let bus = v.bus;
+    let fed = feeding_edge(edges, s.edges, end_at(voices, i), v.bus);
     record_words(out, v);
-    port_word(out, feeding_edge(edges, s.edges, end_at(voices, i), bus));
-    level_word(out, voice_level(s, nodes, voices, id));
+    number_word(out, fed.map(|e| u64::from(e.port)));
+    level_word(out, voice_level(s, nodes, voices, v.id));
     end_line(out);
 }
 
@@ -85,51 +74,27 @@ pub fn voice_lines(
     edges: &EdgeTable,
     voices: &VoiceTable,
 ) {
-    let n = call_read::counts::voices(s, voices);
-    let mut i: usize = 0;
-    while i < n {
-        let found = voice_at(s, voices, i);
-        voice_line(out, s, nodes, edges, voices, i, found.voice);
-        i += 1;
-    }
-}
-
-fn voice_words(out: &mut Output, s: State, voices: &VoiceTable) {
-    let n = call_read::counts::voices(s, voices);
-    let mut i: usize = 0;
-    while i < n {
-        and_number(out, id_at(voices, i).0);
-        i += 1;
+    for i in 0..call_read::counts::voices(s, voices) {
+        if let Some(v) = voice_at(s, voices, i) {
+            voice_line(out, s, nodes, edges, voices, i, v);
+        }
     }
 }
 
 pub fn voices_line(out: &mut Output, s: State, voices: &VoiceTable) {
     text(out, b"voices");
-    voice_words(out, s, voices);
+    for i in 0..call_read::counts::voices(s, voices) {
+        and_number(out, id_at(voices, i).0);
+    }
     end_line(out);
-}
-
-// The id of the voice in row `i`, if that is tracked.
-fn tracked_word(out: &mut Output, voices: &[u32], i: usize) {
-    let state = state_at(voices, i);
-    match state {
-        VoiceState::Tracked => and_number(out, id_at(voices, i).0),
-        VoiceState::Loose => text(out, b""),
-        VoiceState::Fading(_) => text(out, b""),
-    }
-}
-
-fn tracked_words(out: &mut Output, s: State, voices: &VoiceTable) {
-    let n = call_read::counts::voices(s, voices);
-    let mut i: usize = 0;
-    while i < n {
-        tracked_word(out, voices, i);
-        i += 1;
-    }
 }
 
 pub fn tracked_line(out: &mut Output, s: State, voices: &VoiceTable) {
     text(out, b"tracked");
-    tracked_words(out, s, voices);
+    for i in 0..call_read::counts::voices(s, voices) {
+        if let VoiceState::Tracked = state_at(voices, i) {
+            and_number(out, id_at(voices, i).0);
+        }
+    }
     end_line(out);
 }

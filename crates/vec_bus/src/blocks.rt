@@ -1,30 +1,29 @@
 // Sample rates, fade lengths, noise seeds, fade output and bus sums.
-use bus::{SampleRate, Written};
 use codec::descriptor::STDOUT;
 use codec::field::{
     after, float, float_room, floats_at, lent_at, long_at, word_at, word_room, words_at,
 };
 use codec::word::{and_number, and_samples, end_line, number, text};
 use mixing::FadePart;
-use node::refusal::refusal_number;
+use node::refusal::{Refusal, refusal_number};
 use store::config::Config;
-use voice::policy::{Budget, BudgetScope, StealPolicy};
+use voice::policy::{BudgetScope, StealPolicy};
 
 pub fn rate(s: &[u8], at: usize) -> usize {
     match bus::sample_rate(float(word_at(s, at))) {
-        SampleRate::Hertz(rate) => {
+        Ok(rate) => {
             text(b"rate ");
-            number(rate as u64);
+            number(u64::from(rate));
         }
-        SampleRate::Refused(_) => text(b"refused 1"),
+        Err(_) => text(b"refused 1"),
     }
     end_line();
     after(at, 4)
 }
 
 fn fade_length_line(rate: u32, length: u32) {
-    number(rate as u64);
-    and_number(length as u64);
+    number(u64::from(rate));
+    and_number(u64::from(length));
     end_line();
 }
 
@@ -45,7 +44,7 @@ pub fn fade_lengths(s: &[u8], at: usize) -> usize {
 
 pub fn seed(s: &[u8], at: usize) -> usize {
     let seed = bus::derive_noise_seed(word_at(s, at), long_at(s, after(at, 4)) as usize);
-    io::print_hex(STDOUT, seed as u64, 8);
+    io::print_hex(STDOUT, u64::from(seed), 8);
     end_line();
     after(at, 12)
 }
@@ -58,17 +57,17 @@ fn filled(s: &[u8], at: usize, out: &mut [f32]) -> usize {
 }
 
 // The first words of a block's line, before its samples.
-pub fn written_words(written: Written) {
+pub fn written_words(written: Result<(), Refusal>) {
     match written {
-        Written::Done => text(b"block"),
-        Written::Refused(r) => {
+        Ok(()) => text(b"block"),
+        Err(r) => {
             text(b"refused");
-            and_number(refusal_number(r) as u64);
+            and_number(u64::from(refusal_number(r)));
         }
     }
 }
 
-fn block_line(written: Written, out: &[f32]) {
+fn block_line(written: Result<(), Refusal>, out: &[f32]) {
     written_words(written);
     and_samples(out);
     end_line();
@@ -79,7 +78,7 @@ pub fn config(rate: u32, block: usize, table: bool) -> Config {
     Config {
         rate,
         block,
-        budget: Budget::Unlimited,
+        budget: None,
         policy: StealPolicy::Reject,
         scope: BudgetScope::Global,
         table,
@@ -116,10 +115,14 @@ pub fn fade(s: &[u8], at: usize, sort: u8) -> usize {
     let mut a = float_room();
     let mut b = float_room();
     let mut c = float_room();
-    let g = gains.count;
-    let i = input.count;
-    let o = out.count;
-    fade_line(s, at, sort, &mut a[..g], &mut b[..i], &mut c[..o]);
+    fade_line(
+        s,
+        at,
+        sort,
+        &mut a[..gains.count],
+        &mut b[..input.count],
+        &mut c[..out.count],
+    );
     out.end
 }
 
@@ -155,10 +158,14 @@ pub fn sum(s: &[u8], at: usize, sort: u8) -> usize {
     let mut a = word_room();
     let mut b = float_room();
     let mut c = float_room();
-    let n = counts.count;
-    let i = input.count;
-    let o = out.count;
-    sum_line(s, at, sort, &mut a[..n], &mut b[..i], &mut c[..o]);
+    sum_line(
+        s,
+        at,
+        sort,
+        &mut a[..counts.count],
+        &mut b[..input.count],
+        &mut c[..out.count],
+    );
     out.end
 }
 

@@ -5,18 +5,15 @@ use call_host::host::{add_node, connect, disconnect, remove_node, set_sink};
 use call_make::make;
 use codec::field::{after, byte_at, long_at, word_at};
 use codec::word::{and_number, end_line, text};
-use edges::ports::{Port, Source};
 use graph::host::{HostNode, host_node};
-use graph::state::{AddAnswer, Answer, Sink};
 use graph_rows::edge_row::{EDGE_WORDS, EdgeTable, edge_at, set_edge};
 use graph_rows::node_row::{NODE_WORDS, NodeTable};
 use graph_tables::lookup::{append_node, brief_of, node_count};
 use graph_tables::ports::{feeding_edge, free_port, sources_of};
 use graph_tables::removal::remove_voice;
 use graph_tables::wiring::{edge_count, put_edge};
-use lists::number::at_most;
 use memory::parts::with_graph;
-use memory::state::{HostResult, State};
+use memory::state::{CallResult, State};
 use node::record::{Node, NodeId, VoiceId};
 use node::refusal::{Refusal, refusal_number};
 use order_table::{ORDER_WORDS, OrderTable};
@@ -32,45 +29,44 @@ struct Played {
 }
 
 fn id_word(id: NodeId) {
-    and_number(id.0 as u64);
+    and_number(u64::from(id.0));
 }
 
 fn refused_line(refusal: Refusal) {
     text(b"refused");
-    and_number(refusal_number(refusal) as u64);
+    and_number(u64::from(refusal_number(refusal)));
     end_line();
 }
 
-fn given_line(given: AddAnswer) {
+fn given_line(given: Result<NodeId, Refusal>) {
     match given {
-        AddAnswer::Id(id) => {
+        Ok(id) => {
             text(b"node");
             id_word(id);
             end_line();
         }
-        AddAnswer::Refused(refusal) => refused_line(refusal),
+        Err(refusal) => refused_line(refusal),
     }
 }
 
 // Writes the answer of a call that gives nothing back.
-fn served(r: HostResult, end: usize) -> Played {
-    let answer = r.answer;
-    match answer {
-        Answer::Done => text(b"done\n"),
-        Answer::Refused(refusal) => refused_line(refusal),
+fn served(r: CallResult<Result<(), Refusal>>, end: usize) -> Played {
+    match r.answer {
+        Ok(()) => text(b"done\n"),
+        Err(refusal) => refused_line(refusal),
     }
-    let state = r.state;
-    Played { state, end }
+    Played {
+        state: r.state,
+        end,
+    }
 }
 
 // A kind name, and what else the host says of the node.
 fn add(s: &[u8], at: usize, g: State, nodes: &mut NodeTable) -> Played {
     let r = add_node(g, nodes, name_at(s, at), host_node_at(s, at));
-    let given = r.given;
-    given_line(given);
-    let state = r.state;
+    given_line(r.answer);
     Played {
-        state,
+        state: r.state,
         end: after(name_end(s, at), 13),
     }
 }
@@ -94,24 +90,20 @@ fn hear(s: &[u8], at: usize, g: State, nodes: &NodeTable) -> Played {
     served(set_sink(g, nodes, id_at(s, at)), after(at, 4))
 }
 
-fn port_line(port: Port) {
+fn port_line(port: Option<u32>) {
     match port {
-        Port::At(p) => {
+        Some(p) => {
             text(b"port");
-            and_number(p as u64);
+            and_number(u64::from(p));
             end_line();
         }
-        Port::Nothing => text(b"port -\n"),
+        None => text(b"port -\n"),
     }
 }
 
 // How many ports a node has; one that is not live has none.
 fn ports_of(g: State, nodes: &NodeTable, node: NodeId) -> u32 {
-    let seen = brief_of(nodes, g.nodes, node);
-    if seen.live {
-        return seen.ports;
-    }
-    0
+    brief_of(nodes, g.nodes, node).map_or(0, |seen| seen.ports)
 }
 
 fn ask_free_port(s: &[u8], at: usize, g: State, nodes: &NodeTable, edges: &EdgeTable) -> Played {
@@ -124,13 +116,8 @@ fn ask_free_port(s: &[u8], at: usize, g: State, nodes: &NodeTable, edges: &EdgeT
 }
 
 // The port of the first edge from a node to another, if there is one.
-fn fed_port(g: State, edges: &EdgeTable, from: NodeId, to: NodeId) -> Port {
-    let fed = feeding_edge(edges, g.edges, from.0 as u64, to);
-    if fed.found {
-        let e = fed.edge;
-        return Port::At(e.port);
-    }
-    Port::Nothing
+fn fed_port(g: State, edges: &EdgeTable, from: NodeId, to: NodeId) -> Option<u32> {
+    feeding_edge(edges, g.edges, u64::from(from.0), to).map(|e| e.port)
 }
 
 fn ask_fed_port(s: &[u8], at: usize, g: State, edges: &EdgeTable) -> Played {
@@ -141,21 +128,17 @@ fn ask_fed_port(s: &[u8], at: usize, g: State, edges: &EdgeTable) -> Played {
     }
 }
 
-fn source_word(source: Source) {
+fn source_word(source: Option<NodeId>) {
     match source {
-        Source::From(id) => id_word(id),
-        Source::Nothing => text(b" -"),
+        Some(id) => id_word(id),
+        None => text(b" -"),
     }
 }
 
 // The sources of the first `ports` ports.
-fn source_words(sources: [Source; 64], ports: usize) {
-    let n = at_most(ports, 64);
-    let mut i: usize = 0;
-    while i < n {
-        let source = sources[i];
-        source_word(source);
-        i += 1;
+fn source_words(sources: [Option<NodeId>; 64], ports: usize) {
+    for source in &sources[..ports.min(64)] {
+        source_word(*source);
     }
 }
 
@@ -175,43 +158,34 @@ fn ask_sources(s: &[u8], at: usize, g: State, nodes: &NodeTable, edges: &EdgeTab
 
 // The first `count` words, each the id of a node.
 fn id_words(ids: &[u32], count: usize) {
-    let n = at_most(count, ids.len());
-    let mut i: usize = 0;
-    while i < n {
-        id_word(NodeId(ids[i]));
-        i += 1;
+    for id in &ids[..count.min(ids.len())] {
+        id_word(NodeId(*id));
     }
 }
 
 fn node_words(g: State, nodes: &NodeTable) {
-    let n = node_count(nodes, g.nodes);
-    let mut i: usize = 0;
-    while i < n {
+    for i in 0..node_count(nodes, g.nodes) {
         id_word(graph_rows::node_row::id_at(nodes, i));
-        i += 1;
     }
 }
 
 fn edge_words(g: State, edges: &EdgeTable) {
-    let n = edge_count(edges, g.edges);
-    let mut i: usize = 0;
-    while i < n {
+    for i in 0..edge_count(edges, g.edges) {
         let e = edge_at(edges, i);
         id_word(e.from);
         id_word(e.to);
-        and_number(e.port as u64);
-        i += 1;
+        and_number(u64::from(e.port));
     }
 }
 
-fn sink_line(sink: Sink) {
+fn sink_line(sink: Option<NodeId>) {
     match sink {
-        Sink::Node(id) => {
+        Some(id) => {
             text(b"sink");
             id_word(id);
             end_line();
         }
-        Sink::Nothing => text(b"sink -\n"),
+        None => text(b"sink -\n"),
     }
 }
 
@@ -223,8 +197,7 @@ fn order_line(g: State, order: &OrderTable) {
 
 // The whole graph: its sink, whether it is prepared, its nodes, its edges and its order.
 fn show(at: usize, g: State, nodes: &NodeTable, edges: &EdgeTable, order: &OrderTable) -> Played {
-    let sink = g.sink;
-    sink_line(sink);
+    sink_line(g.sink);
     if g.prepared {
         text(b"prepared yes\nnodes");
     } else {
@@ -247,10 +220,9 @@ fn prepare(
 ) -> Played {
     let r = call_host::preparing::prepare(g, nodes, edges, order);
     let state = r.state;
-    let answer = r.answer;
-    match answer {
-        Answer::Done => order_line(state, order),
-        Answer::Refused(refusal) => refused_line(refusal),
+    match r.answer {
+        Ok(()) => order_line(state, order),
+        Err(refusal) => refused_line(refusal),
     }
     Played { state, end: at }
 }
@@ -263,8 +235,8 @@ fn owned_node(id: NodeId, voice: u64, ports: u32) -> Node {
         takes_glides: false,
     };
     let mut row = host_node(b"Tone", plain);
-    row.id.0 = id.0;
-    row.owner.0 = voice;
+    row.id = id;
+    row.owner = VoiceId(voice);
     row
 }
 
@@ -284,11 +256,10 @@ fn add_owned(s: &[u8], at: usize, g: State, nodes: &mut NodeTable) -> Played {
     }
     let id = NodeId(g.next as u32);
     let row = owned_node(id, long_at(s, at), word_at(s, after(at, 8)));
-    given_line(AddAnswer::Id(id));
+    given_line(Ok(id));
     let n = append_node(nodes, g.nodes, row);
-    let sink = g.sink;
     Played {
-        state: with_graph(g, n, g.edges, sink, g.next + 1),
+        state: with_graph(g, n, g.edges, g.sink, g.next + 1),
         end,
     }
 }
@@ -298,9 +269,8 @@ fn put(s: &[u8], at: usize, g: State, edges: &mut EdgeTable) -> Played {
     let e = wire_at(s, at);
     let n = put_edge(edges, g.edges, e);
     text(b"done\n");
-    let sink = g.sink;
     Played {
-        state: with_graph(g, g.nodes, n, sink, g.next),
+        state: with_graph(g, g.nodes, n, g.sink, g.next),
         end: after(at, 12),
     }
 }
@@ -311,9 +281,8 @@ fn append(s: &[u8], at: usize, g: State, edges: &mut EdgeTable) -> Played {
     let n = edge_count(edges, g.edges);
     set_edge(edges, n, e);
     text(b"done\n");
-    let sink = g.sink;
     Played {
-        state: with_graph(g, g.nodes, after(n, 1), sink, g.next),
+        state: with_graph(g, g.nodes, after(n, 1), g.sink, g.next),
         end: after(at, 12),
     }
 }
@@ -326,12 +295,10 @@ fn clear_voice(
     edges: &mut EdgeTable,
 ) -> Played {
     text(b"done\n");
-    let sink = g.sink;
     let voice = VoiceId(long_at(s, at));
-    let left = remove_voice(nodes, g.nodes, edges, g.edges, sink, voice);
-    let heard = left.sink;
+    let left = remove_voice(nodes, g.nodes, edges, g.edges, g.sink, voice);
     Played {
-        state: with_graph(g, left.nodes, left.edges, heard, g.next),
+        state: with_graph(g, left.nodes, left.edges, left.sink, g.next),
         end: after(at, 8),
     }
 }
@@ -386,24 +353,20 @@ fn play(
 
 // The state of a new store, of which the vectors use the graph alone.
 fn new_state() -> State {
-    let r = make(first_making());
-    r.state
+    make(first_making()).state
 }
 
 // How many calls, and the calls, on a new graph in tables of its own.
 pub fn script(s: &[u8], at: usize) -> usize {
-    let mut nodes = [0u32; NODE_WORDS];
-    let mut edges = [0u32; EDGE_WORDS];
-    let mut order = [0u32; ORDER_WORDS];
-    let n = word_at(s, at) as usize;
+    let mut nodes = [0; NODE_WORDS];
+    let mut edges = [0; EDGE_WORDS];
+    let mut order = [0; ORDER_WORDS];
     let mut state = new_state();
     let mut from = after(at, 4);
-    let mut i: usize = 0;
-    while i < n {
+    for _ in 0..word_at(s, at) {
         let p = play(s, from, state, &mut nodes, &mut edges, &mut order);
         state = p.state;
         from = p.end;
-        i += 1;
         if s.len() < from {
             return from;
         }

@@ -4,26 +4,21 @@
 
 use codec::field::{after, byte_at, word_at};
 use codec::word::{and_number, end_line, text};
-use lists::number::at_most;
 use node::name::name_of;
 use script::def::def_at;
 use script::name::{name_at, name_end};
 use synthdef::def::DefEdges;
 use synthdef::edges::counted_edges;
 use synthdef::limits::allowed;
-use synthdef::params::{ParamNode, param_node};
+use synthdef::params::param_node;
 use synthdef::plan::{DonePlan, done_plan};
 use synthdef::silent::plan_silent;
 
 fn edge_words(es: DefEdges) {
-    let n = at_most(es.count, 48);
-    let mut i: usize = 0;
-    while i < n {
-        let e = es.rows[i];
-        and_number(e.from as u64);
-        and_number(e.to as u64);
-        and_number(e.port as u64);
-        i += 1;
+    for e in es.as_slice() {
+        and_number(u64::from(e.from));
+        and_number(u64::from(e.to));
+        and_number(u64::from(e.port));
     }
 }
 
@@ -31,11 +26,9 @@ fn edge_words(es: DefEdges) {
 fn flags_of(mask: u32) -> [bool; 24] {
     let mut flags = [false; 24];
     let mut left = mask;
-    let mut i: usize = 0;
-    while i < 24 {
-        flags[i] = left % 2 == 1;
+    for flag in flags.iter_mut() {
+        *flag = left % 2 == 1;
         left = left / 2;
-        i += 1;
     }
     flags
 }
@@ -50,18 +43,16 @@ fn silent_word(silent: bool) {
 
 fn silent_words(s: &[u8], at: usize, count: usize, plan: DonePlan) {
     let mut from = at;
-    let mut i: usize = 0;
-    while i < count {
+    for _ in 0..count {
         silent_word(plan_silent(plan, flags_of(word_at(s, from))));
         from = after(from, 4);
-        i += 1;
     }
 }
 
-fn param_word(found: ParamNode) {
+fn param_word(found: Option<u8>) {
     match found {
-        ParamNode::At(node) => and_number(node as u64),
-        ParamNode::Nothing => text(b" -"),
+        Some(node) => and_number(u64::from(node)),
+        None => text(b" -"),
     }
 }
 
@@ -69,7 +60,7 @@ fn param_word(found: ParamNode) {
 pub fn definition(s: &[u8], at: usize) -> usize {
     let r = def_at(s, at);
     let def = r.def;
-    let count = byte_at(s, r.end) as usize;
+    let count = usize::from(byte_at(s, r.end));
     let sets = after(r.end, 1);
     let first = after(sets, 4 * count);
     let second = name_end(s, first);
@@ -77,15 +68,13 @@ pub fn definition(s: &[u8], at: usize) -> usize {
         text(b"refused 9\n");
         return name_end(s, second);
     }
-    let edges = def.edges;
-    let params = def.params;
     text(b"counted");
-    edge_words(counted_edges(edges));
+    edge_words(counted_edges(def.edges));
     text(b"\nsilent");
     silent_words(s, sets, count, done_plan(def));
     text(b"\nparams");
-    param_word(param_node(params, name_of(name_at(s, first))));
-    param_word(param_node(params, name_of(name_at(s, second))));
+    param_word(param_node(def.params, name_of(name_at(s, first))));
+    param_word(param_node(def.params, name_of(name_at(s, second))));
     end_line();
     name_end(s, second)
 }

@@ -2,14 +2,12 @@
 use codec::field::{after, byte_at, long_at, word_at};
 use codec::word::{and_number, and_sample, end_line, number, text};
 use event_table::queue::{count_due, is_due, remove_due, schedule};
-use event_table::row::{EventTable, event_at};
-use lists::number::at_most;
+use event_table::row::{EVENT_WORDS, EventTable, event_at};
 use node::name::{Name, is_named, name_of};
 use node::order::{EventAction, GlideShape, GlideSpace};
 use node::record::VoiceId;
 use node::refusal::refusal_number;
 use scheduler::event::Event;
-use scheduler::queue::ScheduleAnswer;
 use script::glide::{action_of, glide_at};
 use script::name::{name_at, name_end};
 
@@ -31,12 +29,11 @@ fn scheduled(s: &[u8], at: usize, queue: &mut EventTable, count: usize) -> Playe
         action: action_of(byte_at(s, end), glide_at(s, after(end, 1))),
     };
     let r = schedule(queue, count, event);
-    let answer = r.answer;
-    match answer {
-        ScheduleAnswer::Taken => text(b"done\n"),
-        ScheduleAnswer::Refused(refusal) => {
+    match r.answer {
+        Ok(()) => text(b"done\n"),
+        Err(refusal) => {
             text(b"refused");
-            and_number(refusal_number(refusal) as u64);
+            and_number(u64::from(refusal_number(refusal)));
             end_line();
         }
     }
@@ -51,9 +48,7 @@ fn name_word(name: Name) {
         text(b"-");
         return;
     }
-    let n = name.len as usize;
-    let bytes = name.bytes;
-    text(&bytes[..n]);
+    text(&name.bytes[..name.len as usize]);
 }
 
 fn shape_words(shape: GlideShape) {
@@ -78,23 +73,19 @@ fn space_word(space: GlideSpace) {
 fn event_line(e: Event) {
     number(e.time);
     and_number(e.voice.0);
-    let name = e.name;
-    let action = e.action;
-    match action {
+    match e.action {
         EventAction::Value(x) => {
             text(b" value ");
-            name_word(name);
+            name_word(e.name);
             and_sample(x);
         }
         EventAction::Glide(g) => {
-            let shape = g.shape;
-            let space = g.space;
             text(b" glide ");
-            name_word(name);
+            name_word(e.name);
             and_sample(g.target);
             and_sample(g.seconds);
-            shape_words(shape);
-            space_word(space);
+            shape_words(g.shape);
+            space_word(g.space);
         }
         EventAction::Gate(x) => {
             text(b" gate");
@@ -107,25 +98,19 @@ fn event_line(e: Event) {
 
 // So many events, each on its line.
 fn event_lines(queue: &[u32], count: usize) {
-    let n = at_most(count, 256);
+    let n = count.min(256);
     and_number(n as u64);
     end_line();
-    let mut i: usize = 0;
-    while i < n {
+    for i in 0..n {
         event_line(event_at(queue, i));
-        i += 1;
     }
 }
 
 // The events that are due, of the first `n`.
 fn due_lines(queue: &[u32], n: usize, deadline: u64) {
-    let mut i: usize = 0;
-    while i < n {
+    for i in 0..n {
         if is_due(queue, i, deadline) {
             event_line(event_at(queue, i));
-            i += 1;
-        } else {
-            i += 1;
         }
     }
 }
@@ -135,7 +120,7 @@ fn taken(s: &[u8], at: usize, queue: &mut EventTable, count: usize) -> Played {
     text(b"taken");
     and_number(count_due(queue, count, deadline) as u64);
     end_line();
-    due_lines(queue, at_most(count, 256), deadline);
+    due_lines(queue, count.min(256), deadline);
     Played {
         count: remove_due(queue, count, deadline),
         end: after(at, 8),
@@ -158,16 +143,13 @@ fn waiting(queue: &EventTable, count: usize) {
 
 // How many calls, and the calls; then the events that wait.
 pub fn history(s: &[u8], at: usize) -> usize {
-    let n = word_at(s, at) as usize;
-    let mut queue = [0u32; 3840];
-    let mut count: usize = 0;
+    let mut queue = [0; EVENT_WORDS];
+    let mut count = 0;
     let mut from = after(at, 4);
-    let mut i: usize = 0;
-    while i < n {
+    for _ in 0..word_at(s, at) {
         let p = play(s, from, &mut queue, count);
         count = p.count;
         from = p.end;
-        i += 1;
         if s.len() < from {
             return from;
         }

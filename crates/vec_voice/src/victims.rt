@@ -5,17 +5,17 @@ use codec::field::{after, byte_at, float, long_at, word_at};
 use codec::word::{and_number, and_sample, end_line, number, text};
 use node::record::{NodeId, VoiceId};
 use script::config::{budget_of, policy_of, scope_of};
-use voice::policy::{Admission, BudgetScope, Candidate, Candidates, Level, Victim};
-use voice::steals::{StealFound, StealRecord, Steals};
+use voice::policy::{Admission, BudgetScope, Candidate, Candidates, Victim};
+use voice::steals::{StealRecord, Steals};
 use voice_policy::policy::{counts_for, pick_victim, request_in};
 use voice_policy::steals::{
     held_steals, mark_cut, no_steals, push_steal, record_level, steal_at, steal_record,
 };
 
-fn level_at(s: &[u8], at: usize) -> Level {
+fn level_at(s: &[u8], at: usize) -> Option<f32> {
     match byte_at(s, at) {
-        0 => Level::Unknown,
-        _ => Level::Known(float(word_at(s, after(at, 1)))),
+        0 => None,
+        _ => Some(float(word_at(s, after(at, 1)))),
     }
 }
 
@@ -26,19 +26,17 @@ fn candidates_at(s: &[u8], at: usize, n: usize, scope: BudgetScope, bus: NodeId)
 {
     let nobody = Candidate {
         voice: VoiceId(0),
-        level: Level::Unknown,
+        level: None,
         rank: 0,
     };
     let mut rows = [nobody; 64];
-    let mut count: usize = 0;
+    let mut count = 0;
     let mut from = at;
-    let mut i: usize = 0;
-    while i < n {
+    for _ in 0..n {
         let theirs = NodeId(word_at(s, after(from, 8)));
         let level = level_at(s, after(from, 12));
         let voice = VoiceId(long_at(s, from));
         from = after(from, 17);
-        i += 1;
         if counts_for(scope, theirs, bus) {
             rows[count] = Candidate {
                 voice,
@@ -59,8 +57,8 @@ pub fn victim(s: &[u8], at: usize) -> usize {
     }
     let t = candidates_at(s, after(at, 5), n, BudgetScope::Global, NodeId(0));
     match pick_victim(t, policy_of(byte_at(s, at)), 0) {
-        Victim::Nobody => text(b"-"),
-        Victim::Goes { place, voice } => {
+        None => text(b"-"),
+        Some((place, voice)) => {
             number(place as u64);
             and_number(voice.0);
         }
@@ -106,10 +104,9 @@ fn called(s: &[u8], at: usize, steals: Steals) -> Steals {
 
 fn record_line(r: StealRecord) {
     number(r.sample);
-    let level = record_level(r);
-    match level {
-        Level::Unknown => text(b" -"),
-        Level::Known(x) => and_sample(x),
+    match record_level(r) {
+        None => text(b" -"),
+        Some(x) => and_sample(x),
     }
     if r.cut {
         text(b" cut");
@@ -119,10 +116,10 @@ fn record_line(r: StealRecord) {
     end_line();
 }
 
-fn steal_line(found: StealFound) {
+fn steal_line(found: Option<StealRecord>) {
     match found {
-        StealFound::Nothing => text(b"-\n"),
-        StealFound::Record(r) => record_line(r),
+        None => text(b"-\n"),
+        Some(r) => record_line(r),
     }
 }
 
@@ -130,22 +127,18 @@ fn steal_lines(steals: Steals) {
     text(b"steals");
     and_number(steals.total);
     end_line();
-    let n = held_steals(steals);
-    for i in 0..n {
+    for i in 0..held_steals(steals) {
         steal_line(steal_at(steals, i));
     }
 }
 
 // How many calls, and the calls; then the steals and the newest records.
 pub fn steals(s: &[u8], at: usize) -> usize {
-    let n = word_at(s, at) as usize;
     let mut steals = no_steals();
     let mut from = after(at, 4);
-    let mut i: usize = 0;
-    while i < n {
+    for _ in 0..word_at(s, at) {
         steals = called(s, from, steals);
         from = after(from, 15);
-        i += 1;
         if s.len() < from {
             return from;
         }

@@ -1,11 +1,11 @@
 // Fade output and bus sum in whole numbers, as calls of a store.
-use crate::field::{and_samples, gain_room, gains_at, sample_room, samples_at};
-use bus::Written;
+use crate::field::{and_samples, gains_at, samples_at};
 use codec::field::{after, lent_at, word_at, word_room, words_at};
 use codec::word::end_line;
+use node::refusal::Refusal;
 use vec_bus::blocks::{config, head_at, written_words};
 
-fn block_line(written: Written, out: &[i32]) {
+fn block_line(written: Result<(), Refusal>, out: &[i32]) {
     written_words(written);
     and_samples(out);
     end_line();
@@ -17,13 +17,17 @@ pub fn fade(s: &[u8], at: usize, sort: u8) -> usize {
     let gains = lent_at(s, after(at, 24));
     let input = lent_at(s, gains.end);
     let out = lent_at(s, input.end);
-    let mut a = gain_room();
-    let mut b = sample_room();
-    let mut c = sample_room();
-    let g = gains.count;
-    let i = input.count;
-    let o = out.count;
-    fade_line(s, at, sort, &mut a[..g], &mut b[..i], &mut c[..o]);
+    let mut a = [0; 2048];
+    let mut b = [0; 2048];
+    let mut c = [0; 2048];
+    fade_line(
+        s,
+        at,
+        sort,
+        &mut a[..gains.count],
+        &mut b[..input.count],
+        &mut c[..out.count],
+    );
     out.end
 }
 
@@ -45,12 +49,15 @@ pub fn sum(s: &[u8], at: usize) -> usize {
     let input = lent_at(s, counts.end);
     let out = lent_at(s, input.end);
     let mut a = word_room();
-    let mut b = sample_room();
-    let mut c = sample_room();
-    let n = counts.count;
-    let i = input.count;
-    let o = out.count;
-    sum_line(s, at, &mut a[..n], &mut b[..i], &mut c[..o]);
+    let mut b = [0; 2048];
+    let mut c = [0; 2048];
+    sum_line(
+        s,
+        at,
+        &mut a[..counts.count],
+        &mut b[..input.count],
+        &mut c[..out.count],
+    );
     out.end
 }
 

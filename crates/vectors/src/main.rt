@@ -39,17 +39,15 @@ fn answer(s: &[u8], at: usize) -> usize {
 fn answer_all(s: &[u8]) {
     let count = word_at(s, 0);
     let mut at: usize = 4;
-    let mut done: u32 = 0;
-    while done < count {
+    for _ in 0..count {
         at = answer(s, at);
         if s.len() < at {
             text(b"malformed\n");
             return;
         }
-        done += 1;
     }
     text(b"vectors ");
-    number(count as u64);
+    number(u64::from(count));
     end_line();
 }
 

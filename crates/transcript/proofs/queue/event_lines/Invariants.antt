@@ -1,9 +1,0 @@
--- `transcript::queue::event_lines` is safe and ends.
-use Prim.Native.Nat.{◌≤◌, ◌-◌}
-use Rattle.transcript.proofs.queue.event_lines.Given as goal
-
-abbrev pub invariant-loop-i : goal.invariant-loop-i
-invariant-loop-i l = l.i ≤ l.n
-
-abbrev pub decreases-loop-i : goal.decreases-loop-i
-decreases-loop-i l = l.n - l.i
