@@ -1,12 +1,13 @@
 -- Loops that fill a lent block, sample by sample and channel by channel.
 --     Filling     the first i samples are f 0, f 1, .., and the rest is as it was
 --     Laying      so are the first c channels, each filled whole
-use Rattle.std.proofs.Common.{◌≡◌, ℕ, zero, suc, ◌+◌, ◌*◌, ◌<◌, ◌≤◌, List, [], ◌∷◌, ◌++◌, length, get_or, take, drop, set, sym, refl, ap, ◌∙◌, subst, ⊎_elim, append_assoc, append-nil, le_of_suc-le-suc, mul-le-mul_right, suc-mul, add-sub_of_le, eq-or-lt_of_le, zero-mul, add-one, arith, length-append, length-drop, length-set, length-take, get_or-drop, drop-cons, get_or-take, drop-drop, take_at, get_or-append-add, ext_get_or, drop_at}
+use Rattle.std.proofs.Common.{◌≡◌, Bool, true, ◌&&◌, cond, ℕ, zero, suc, ◌+◌, ◌*◌, ◌<◌, ◌≤◌, List, [], ◌∷◌, ◌++◌, length, get_or, take, drop, set, sym, refl, ap, ◌∙◌, subst, ⊎_elim, append_assoc, append-nil, le_of_suc-le-suc, mul-le-mul_right, suc-mul, add-sub_of_le, eq-or-lt_of_le, zero-mul, add-one, arith, length-append, length-drop, length-set, length-take, get_or-drop, drop-cons, get_or-take, drop-drop, take_at, get_or-append-add, ext_get_or, drop_at}
 use lib.ListN.{get_or-append}
 use lib.Seq.{drop-length, set_at, get_or_at}
 use Rattle.std.proofs.lemmas.List.{replicate-append-replicate}
 use Rattle.std.proofs.Math.ListN.{replicate}
 use Prim.Native.Nat.{zero-le}
+use Rattle.bus.specs.Answer.{left}
 use Rattle.bus.specs.Block.{each, block_of, sample_at}
 
 -- channel k of n lies within their samples
@@ -174,3 +175,7 @@ module _ {A : Type 0} where
   pub lay_all : (n size : ℕ) (f : ℕ → ℕ → A) (l now : List A) (c : ℕ) → Laying size f l now c → c ≡ n → length l ≡ n * size → now ≡ block_of n size f
   lay_all n size f l now c q done e =
       q.is ∙ ap (λ (k : ℕ). block_of k size f ++ drop (k * size) l) done ∙ ap (λ (k : ℕ). block_of n size f ++ drop k l) (sym e) ∙ ap (λ (t : List A). block_of n size f ++ t) (drop-length l) ∙ append-nil (block_of n size f)
+
+  -- the output of a call that is not refused
+  pub left_new : (fits in_range : Bool) (new old now : List A) → fits ≡ true → in_range ≡ true → now ≡ new → now ≡ left fits in_range new old
+  left_new fits in_range new old now f r e = e ∙ sym (ap (λ (b : Bool). cond (b && in_range) new old) f ∙ ap (λ (b : Bool). cond b new old) r)

@@ -1,12 +1,8 @@
 -- The machine's exclusive or, and its products that wrap, in the words of `Noise`.
-use Rattle.std.proofs.Common.{◌≡◌, ℕ, zero, suc, ◌+◌, ◌*◌, ◌/◌, ◌%◌, ◌^◌, ◌<◌, sym, refl, ap, ◌∙◌, subst, lt_of_le_of_lt, le_of_lt, mod-lt, add-mul, add_comm, mul-le-mul_left, mul-lt-mul_of_pos_right, pow-suc, div-add-mod', mul_right_comm, arith, lit<, pow_pos, pow-add}
+use Rattle.std.proofs.Common.{◌≡◌, ℕ, zero, suc, ◌+◌, ◌*◌, ◌/◌, ◌%◌, ◌^◌, ◌<◌, sym, refl, ap, ◌∙◌, subst, mod-lt, add-mul, add_comm, pow-suc, div-add-mod', mul_right_comm, arith, lit<}
 use native.Mathlib.Nat.{add-mul-mod_self_right}
 use lib.Bits.{bit_xor, differ, xor_step, xor_lt}
 use Rattle.bus.specs.Noise.{wrap, exclusive_or, seed_of}
-
-pub product : (k : ℕ) {a b : ℕ} → a < 2 ^ k → b < 2 ^ k → a * b < 2 ^ (k + k)
-product k {a} {b} ha hb =
-    subst (λ (n : ℕ). a * b < n) (sym (pow-add 2 k k)) (lt_of_le_of_lt (mul-le-mul_left a (le_of_lt hb)) (mul-lt-mul_of_pos_right ha (pow_pos k)))
 
 -- one digit: 1 where the two differ, which is where their sum is odd
 odd_sum : (x y : ℕ) → x < 2 → y < 2 → differ x y ≡ (x + y) % 2

@@ -1,7 +1,6 @@
 -- The sum of a bus, input by input: what each turn of a loop over the channel counts does.
 --     Summing     the first k inputs, which end at `at`, are added, and what is left makes the sum whole
-use Rattle.std.proofs.Common.{◌≡◌, ℕ, zero, suc, ◌+◌, ◌*◌, ◌%◌, ◌<◌, ◌≤◌, Bool, true, ◌&&◌, T, eqb, leb, List, [], ◌∷◌, length, get_or, take, drop, sym, refl, ap, ◌∙◌, subst, add_assoc, mul-le-mul_right, mod-lt, suc-mul, add-mul, add-one, arith, eqb→eq, leb→le, drop_of_length-le, get_or-drop, drop-cons, drop-drop}
-use Rattle.std.specs.List.{list_all}
+use Rattle.std.proofs.Common.{◌≡◌, ℕ, zero, suc, ◌+◌, ◌*◌, ◌%◌, ◌<◌, ◌≤◌, true, ◌&&◌, T, eqb, leb, List, [], ◌∷◌, length, get_or, take, drop, sym, ap, ◌∙◌, subst, add_assoc, mul-le-mul_right, mod-lt, suc-mul, add-mul, add-one, arith, eqb→eq, leb→le, drop_of_length-le, get_or-drop, drop-cons, drop-drop}
 use lib.Ieee.Fits.{and_l, and_r}
 use Prim.Native.Nat.{zero-le}
 use Rattle.bus.specs.Block.{each, sample_at, is_channels, holds}
@@ -14,11 +13,6 @@ use Rattle.bus.proofs.Sizes.{channels_are, held}
 next : (ns : List ℕ) (k : ℕ) → k < length ns → drop k ns ≡ get_or ns k 0 ∷ drop (k + 1) ns
 next ns k h = drop-cons ns k 0 h ∙ ap (λ (j : ℕ). get_or ns k 0 ∷ drop j ns) (sym (add-one k))
 
-pub all_is_every : (ns : List ℕ) → list_all is_channels ns ≡ every_is_channels ns
-unfolding every_is_channels
-all_is_every [] = refl
-all_is_every (n ∷ ns) = ap (λ (b : Bool). is_channels n && b) (all_is_every ns)
-
 pub channels_next : (ns : List ℕ) (k : ℕ) → k < length ns → channels (drop k ns) ≡ get_or ns k 0 + channels (drop (k + 1) ns)
 unfolding channels
 channels_next ns k h = ap channels (next ns k h)
@@ -26,6 +20,14 @@ channels_next ns k h = ap channels (next ns k h)
 pub channels_none : (ns : List ℕ) (k : ℕ) → length ns ≤ k → channels (drop k ns) ≡ 0
 unfolding channels
 channels_none ns k h = ap channels (drop_of_length-le ns h)
+
+pub every_next : (ns : List ℕ) (k : ℕ) → k < length ns → every_is_channels (drop k ns) ≡ is_channels (get_or ns k 0) && every_is_channels (drop (k + 1) ns)
+unfolding every_is_channels
+every_next ns k h = ap every_is_channels (next ns k h)
+
+pub every_none : (ns : List ℕ) (k : ℕ) → length ns ≤ k → every_is_channels (drop k ns) ≡ true
+unfolding every_is_channels
+every_none ns k h = ap every_is_channels (drop_of_length-le ns h)
 
 -- each count is 1 or 2
 pub count_is : (ns : List ℕ) (k : ℕ) → T (every_is_channels ns) → k < length ns → (0 < get_or ns k 0) × (get_or ns k 0 ≤ 2)

@@ -2,7 +2,7 @@
 // voice's fade, the fade's output, the sum of a bus, and the seed of a node's noise. Blocks are lent; nothing is kept.
 #![tactic(auto)]
 
-ghost use Rattle.std.specs.Prelude.{◌≡◌, ◌*◌, T, ◌==◌};
+ghost use Rattle.std.specs.Prelude.{◌≡◌, ◌*◌, ◌==◌, cond, Some, None};
 ghost use Rattle.node.specs.Refusal.{says};
 ghost use Rattle.bus.specs.Rate.{rate_of};
 ghost use Rattle.bus.specs.Block.{is_channels, holds};
@@ -38,18 +38,11 @@ pub fn fade_length(rate: u32) -> u32
     len.max(1)
 }
 
-// The low 32 bits of a product.
-fn wrapping_mul(a: u32, b: u32) -> u32
-    ensures { result ≡ wrap (a * b) }
-{
-    (u64::from(a) * u64::from(b) % 0x1_0000_0000) as u32
-}
-
 pub fn derive_noise_seed(sequence: u32, node: usize) -> u32
     ensures { result ≡ seed_of sequence node }
 {
     let low = (node % 0x1_0000_0000) as u32;
-    0xDEAD_BEEF ^ wrapping_mul(sequence, 0x9E37_79B9) ^ wrapping_mul(low, 0x85EB_CA77)
+    0xDEAD_BEEF ^ sequence.wrapping_mul(0x9E37_79B9) ^ low.wrapping_mul(0x85EB_CA77)
 }
 
 fn is_channels(n: usize) -> bool
@@ -105,40 +98,35 @@ pub fn fade_output(
     ensures answers { says result ≡ fade_answer input.now ins gains.now len size out.old outs }
     ensures leaves { out.new ≡ fade_output input.now ins gains.now len position size out.old outs }
 {
-    let len = len as usize;
-    if !fade_fits(input.len(), ins, gains.len(), len, size, out.len(), outs) {
-        return Err(Refusal::LentBlock);
-    }
-    mix::fade_block::<Floats>(input, ins, gains, len, position as usize, size, out, outs);
-    Ok(())
+    mix::fade::<Floats>(input, ins, gains, len, position, size, out, outs)
 }
 
-fn every_is_channels(counts: &[usize]) -> bool
-    ensures { result ≡ every_is_channels counts.now }
-{
-    counts.iter().all(|n| is_channels(*n))
-}
-
-// How many channels the inputs have together.
-fn total_channels(counts: &[usize]) -> usize
-    requires { T (every_is_channels counts.now) }
-    ensures { result ≡ channels counts.now }
+// How many channels the inputs have together, where each has one or two. One walk tests and adds: `all` and then `sum` are two, and `sum` asks
+// to be shown that the total fits.
+fn total_channels(counts: &[usize]) -> Option<usize>
+    ensures { result ≡ cond (every_is_channels counts.now) (Some (channels counts.now)) None }
 {
     let mut total = 0;
     for n in counts {
+        if !is_channels(*n) {
+            return None;
+        }
         total += *n;
     }
-    total
+    Some(total)
 }
 
 // The same of the sum of a bus.
 pub fn sum_fits(inputs: usize, counts: &[usize], size: usize, out: usize, outs: usize) -> bool
     ensures { result ≡ sum_fits inputs counts.now size out outs }
 {
-    if counts.len() <= 64 && every_is_channels(counts) {
-        return is_product(inputs, total_channels(counts), size) && holds_block(out, outs, size);
+    if counts.len() > 64 {
+        return false;
     }
-    false
+    match total_channels(counts) {
+        Some(n) => is_product(inputs, n, size) && holds_block(out, outs, size),
+        None => false,
+    }
 }
 
 // The sum of a bus for one block of size samples. The inputs' blocks stand one after the other in inputs, and counts has the channel count of each; outs is
@@ -153,9 +141,5 @@ pub fn bus_sum(
     ensures answers { says result ≡ sum_answer inputs.now counts.now size out.old outs }
     ensures leaves { out.new ≡ sum_output inputs.now counts.now size out.old outs }
 {
-    if !sum_fits(inputs.len(), counts, size, out.len(), outs) {
-        return Err(Refusal::LentBlock);
-    }
-    mix::sum_block::<Floats>(inputs, counts, size, out, outs);
-    Ok(())
+    mix::sum::<Floats>(inputs, counts, size, out, outs)
 }

@@ -5,7 +5,7 @@ use Prim.Native.Nat.{ℕ, ◌+◌, ◌*◌, ◌^◌, ◌≤◌, ◌<◌}
 use mathlib.Core.Path.{◌≡◌, sym, ap, ◌∙◌, subst}
 use mathlib.Core.Bool.{true, false, true≢false}
 use mathlib.Core.Logic.{⊎_elim}
-use native.Mathlib.Nat.{one-mul, mul_assoc, mul_comm, mul_right_comm, mul-pos, lt_trans, not-suc-le-zero, eq-or-lt_of_le}
+use native.Mathlib.Nat.{one-mul, mul_assoc, mul_comm, mul_right_comm, mul-pos, lt_trans, eq-or-lt_of_le}
 use native.Mathlib.Omega.{arith}
 use mathlib.Core.List.{List}
 use lib.ListN.{length, get_or, set, length-map, length-set, get_or-map}
@@ -69,9 +69,6 @@ length_gains = length-map entries gain_of ∙ entries_lawful.long
 pub record Filled (all : List Float) (k : ℕ) : Type 0 where
   pub long : length all ≡ 241
   pub so_far : (j : ℕ) → j < k → get_or all j (gain_of 0) ≡ get_or gains j (gain_of 0)
-
-pub filled_none : (all : List Float) → length all ≡ 241 → Filled all 0
-filled_none all l = record { long = l; so_far = λ j h. absurd (not-suc-le-zero h) }
 
 pub filled_more : (all : List Float) (k : ℕ) (x : Float) → Filled all k → k < 241 → x ≡ gain_of (entry_of entries k) → Filled (set all k x) (k + 1)
 filled_more all k x f l e = record { long = length-set all k x ∙ f.long; so_far = more }

@@ -3,8 +3,9 @@ use Prim.Native.Nat.{ℕ, ◌*◌, ◌%◌, ◌≤◌}
 use mathlib.Core.Path.{◌≡◌, refl, sym, ap, ◌∙◌, subst}
 use mathlib.Core.Bool.{Bool, true, false, not, false≢true}
 use lib.Dec.{T}
-use lib.Ieee.{Float, nan, inf, fin, Format, binary32, binary64, fits, hid, ones, top, of_bits, to_bits, nan_bits, is_nan}
+use lib.Ieee.{Float, nan, inf, fin, Format, binary32, binary64, fits, hid, ones, top, of_bits, to_bits, nan_bits, ne, is_nan}
 use lib.Ieee.Bits.{is_false, of_bits-to_bits, nan_bits_is, nan_bits_above}
+use lib.Ieee.Compare.{differs_from_itself, nan_differs}
 use borrow.Author.Tests.{ltb-false, le-ltb}
 
 -- the library's constant of each format
@@ -24,6 +25,17 @@ is_nan_lem (fin s m d) e = absurd (false≢true e)
 
 pub no_nan : (x : Float) → is_nan x ≡ false → T (not (is_nan x))
 no_nan x e = subst (λ (b : Bool). T (not b)) (sym e) tt
+
+-- the code's test is the older one, whether a number differs from itself
+pub differs_is : (x : Float) → ne x x ≡ is_nan x
+unfolding is_nan
+differs_is x = go (ne x x) (is_nan x) refl refl
+  where
+    go : (d n : Bool) → ne x x ≡ d → is_nan x ≡ n → d ≡ n
+    go true true e f = refl
+    go false false e f = refl
+    go true false e f = sym (ap is_nan (differs_from_itself x (subst T (sym e) tt))) ∙ f
+    go false true e f = sym e ∙ ap (λ (y : Float). ne y y) (is_nan_lem x f) ∙ nan_differs
 
 -- the bits of a value that is no NaN, without the sign, and the other way round
 pub bits_le : (f : Format) (x : Float) → T (fits f x) → T (not (is_nan x)) → to_bits f x % top f ≤ ones f * hid f

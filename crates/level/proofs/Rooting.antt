@@ -1,6 +1,6 @@
 -- The root's digits and its bits: `rounded` from any 53 digits that the root lies at, and the digits that `root_digits` finds.
 use Prim.Native.Nat.{ℕ, zero, suc, ◌+◌, ◌-◌, ◌*◌, ◌/◌, ◌%◌, ◌^◌, ◌≤◌, ◌<◌}
-use native.Mathlib.Nat.{le_trans, le_of_eq, lt_of_lt_of_le, lt_of_le_of_lt, lt_of_mul-lt-mul_left, eq_of_mul-eq-mul_right, mul_assoc, mul_left_comm, mul_right_comm, mul-le-mul, mul-le-mul_left, mul-le-mul_right, mul-lt-mul_of_pos_right, zero-add, le-add_right, div-eq_of_lt-le}
+use native.Mathlib.Nat.{le_trans, le_of_eq, lt_of_lt_of_le, lt_of_le_of_lt, lt_of_mul-lt-mul_left, eq_of_mul-eq-mul_right, mul_assoc, mul_left_comm, mul_right_comm, mul-le-mul, mul-le-mul_right, mul-lt-mul_of_pos_right, zero-add, le-add_right, div-eq_of_lt-le}
 use native.Mathlib.Omega.{arith}
 use mathlib.Core.Path.{◌≡◌, refl, sym, ap, ◌∙◌}
 use mathlib.Core.Logic.{inr}
@@ -144,13 +144,3 @@ module _ (m e r rest n : ℕ) (M : 0 < m) (m-lt : m < 2 ^ 53) (e-lt : e < 2046) 
 
   pub bits_same : rest ≤ r → of_bits binary64 ((e / 2 + 564 - n) * 2 ^ 52 + r) ≡ root_of (m * 2 ^ e)
   bits_same h = let s = R.small in bits r (nearer_down (m * 2 ^ e * 2 ^ 1074) r rest k found h) (omega arith) (omega arith)
-
--- ---- what `root_bits` asks besides
-pub product : (m p : ℕ) → m < 2 ^ 53 → p < 2 → m * 1024 * (1 + p) < 2 ^ 64
-product m p h l = lt_of_le_of_lt (mul-le-mul_left (m * 1024) two) small
-  where
-    two : 1 + p ≤ 2
-    two = omega arith
-
-    small : m * 1024 * 2 < 2 ^ 64
-    small = omega arith

@@ -1,6 +1,6 @@
 -- The loop of `root_digits` on plain numbers: one digit of the root a turn, and what its end says.
 use Prim.Native.Nat.{ℕ, ◌+◌, ◌-◌, ◌*◌, ◌/◌, ◌%◌, ◌^◌, ◌≤◌, ◌<◌}
-use native.Mathlib.Nat.{le_trans, le_of_eq, le_of_lt, lt_of_lt_of_le, lt_of_le_of_lt, lt_of_not-le, not-le_of_lt, mul_assoc, mul_comm, mul-one, one-mul, mul-le-mul, mul-le-mul_right, pow-suc, pow-le-pow_right}
+use native.Mathlib.Nat.{le_trans, le_of_eq, le_of_lt, lt_of_lt_of_le, lt_of_le_of_lt, lt_of_not-le, not-le_of_lt, mul_assoc, mul_comm, one-mul, mul-le-mul, mul-le-mul_right, pow-suc, pow-le-pow_right}
 use native.Mathlib.Numerals.{add-one}
 use native.Mathlib.Omega.{arith}
 use mathlib.Core.Path.{◌≡◌, sym, ap, ◌∙◌}
@@ -16,12 +16,6 @@ pub record Found (a m root rest turns : ℕ) : Type 0 where
   pub small : root < 2 ^ 53
   pub left : rest ≤ 2 * root
   pub sum : (root * root + rest) * 2 ^ 64 + m ≡ a * 4 ^ turns
-
-pub none : (a : ℕ) → a < 2 ^ 64 → Found a a 0 0 0
-none a h = record { fits = h; small = lit< tt; left = lit≤ tt; sum = plain a ∙ sym (mul-one a) }
-  where
-    plain : (a : ℕ) → (0 * 0 + 0) * 2 ^ 64 + a ≡ a
-    plain a = omega arith
 
 four_times : (a n : ℕ) → a * 4 ^ (n + 1) ≡ a * 4 ^ n * 4
 four_times a n = ap (λ (x : ℕ). a * 4 ^ x) (add-one n) ∙ ap (λ (x : ℕ). a * x) (pow-suc 4 n) ∙ sym (mul_assoc a (4 ^ n) 4)

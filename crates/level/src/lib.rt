@@ -87,7 +87,8 @@ struct Digits {
     turns: u64,
 }
 
-// The square root of a, one binary digit a turn, until it has 53 of them. Each turn takes the two leading digits of what is left of a.
+// The square root of a, one binary digit a turn, until it has 53 of them; how many turns that takes is an answer, so that no range counts them.
+// Each turn takes the two leading digits of what is left of a.
 fn root_digits(a: u64) -> Digits
     requires { 0 < a }
     ensures { Rooted a result.root result.rest result.turns }
@@ -161,7 +162,7 @@ pub fn sqrt(x: f64) -> f64
     f64::NAN
 }
 
-// A cast of a NaN is not to be had.
+// The cast is defined for numbers alone: a NaN is answered before it.
 fn widen(x: f32) -> f64
     ensures { result ≡ x }
 {

@@ -3,7 +3,7 @@ use Prim.Native.Nat.{ℕ, ◌-◌, ◌≤◌}
 use native.Mathlib.Omega.{arith}
 use mathlib.Core.Path.{◌≡◌, sym, ap, ◌∙◌}
 use mathlib.Core.List.{List, ◌++◌, append_assoc, append-nil}
-use lib.ListN.{length, take, drop, length-append, length-drop}
+use lib.ListN.{length, drop, length-append, length-drop}
 use lib.Seq.{take-append_seam, drop-append_seam, drop-drop, take-length, drop-length}
 use borrow.Rule.Slice.PartMut.{mid_of, put_mid}
 use Rattle.lists.specs.Written.{written}
@@ -29,10 +29,6 @@ written_then a b x {y} {z} {p} placed long next =
     let mid : mid_of p (length y - p) y ≡ rest = rw (placed, long) (mid_is a rest) in
     let laid : z ≡ written b rest = next ∙ ap (written b) mid in
     rw (placed, long) (put_is a rest z ∙ ap (◌++◌ a) laid ∙ written_both a b x)
-
--- a text that was copied
-pub written_copy : (s x : List ℕ) {y : List ℕ} → y ≡ take (length s) s ++ drop (length s) x → y ≡ written s x
-written_copy s x e = e ∙ ap (λ (l : List ℕ). l ++ drop (length s) x) (take-length s)
 
 -- the buffer keeps its length
 pub written_long : (a x : List ℕ) → length a ≤ length x → length (written a x) ≡ length x

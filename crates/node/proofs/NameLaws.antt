@@ -37,16 +37,6 @@ same_pointwise [] (y ∷ t) = refl
 same_pointwise (x ∷ s) [] = refl
 same_pointwise (x ∷ s) (y ∷ t) = ap (◌&&◌ (eqb x y)) (same_pointwise s t)
 
--- a Bool that is true exactly when two byte strings are equal is the test
-pub same_is : (b : Bool) (s t : List ℕ) → (b ≡ true → s ≡ t) → (s ≡ t → b ≡ true) → b ≡ same_bytes s t
-same_is b s t to from = go b refl (same_bytes s t) refl
-  where
-    go : (x : Bool) → b ≡ x → (y : Bool) → same_bytes s t ≡ y → x ≡ y
-    go true p true q = refl
-    go true p false q = absurd (false≢true (sym q ∙ ap (same_bytes s) (sym (to p)) ∙ same_refl s))
-    go false p true q = absurd (false≢true (sym p ∙ from (same_equal s t q)))
-    go false p false q = refl
-
 -- two names are the same exactly if both are names and stand for one byte string
 pub record Same (a b : Name) : Type 0 where
   pub first : named a ≡ true

@@ -2,14 +2,14 @@ ghost use Rattle.std.specs.Prelude.{◌≡◌};
 ghost use Rattle.node.specs.Name.{name_length, named, name_of, same_name};
 
 // A byte string of 1 to 16 bytes: the first `len` of `bytes`. With any other `len` it is a name that equals none, itself
-// included.
+// included. An array and a count, since the store has no heap.
 #[derive(Clone, Copy)]
 pub struct Name {
     pub bytes: [u8; 16],
     pub len: u8,
 }
 
-// Whether a name may have `n` bytes.
+// Whether a name may have `n` bytes. Two comparisons: `(1..=16).contains(&n)` says no more.
 pub fn name_length(n: usize) -> bool
     ensures { result ≡ name_length n }
 {
@@ -23,7 +23,8 @@ pub fn is_named(n: Name) -> bool
     name_length(usize::from(n.len))
 }
 
-// The name that stands for `text`, or one that equals none where `text` has not 1 to 16 bytes.
+// The name that stands for `text`, or one that equals none where `text` has not 1 to 16 bytes. No `Option`: a name that equals none is
+// refused and looked for like any other.
 pub fn name_of(text: &[u8]) -> Name
     ensures { result ≡ name_of text.now }
 {
@@ -39,7 +40,8 @@ pub fn name_of(text: &[u8]) -> Name
     }
 }
 
-// Whether `a` and `b` are both names of 1 to 16 bytes and stand for the same byte string.
+// Whether `a` and `b` are both names of 1 to 16 bytes and stand for the same byte string. A derived `==` would say that a name of a
+// wrong length equals itself.
 pub fn same_name(a: Name, b: Name) -> bool
     ensures { result ≡ same_name a b }
 {

@@ -1,4 +1,4 @@
-// What can be asked of a node: from curve.rs and the actions of scheduler.rs.
+// What can be asked of a node: values and glides, and by an event its gate or its end.
 
 // How a glide's way to its target runs over its time.
 #[derive(Clone, Copy)]
@@ -25,7 +25,7 @@ pub struct Glide {
     pub space: GlideSpace,
 }
 
-// The newest order that a node took.
+// The newest order that a node took. `Nothing` is a case and no `Option`: the words of a node have one number for each of the three.
 #[derive(Clone, Copy)]
 pub enum LastOrder {
     Nothing,

@@ -1,8 +1,8 @@
 use crate::name::Name;
 use crate::order::LastOrder;
 
-// The two ids of the source. They are different types, so that a node id never serves as a voice id.
-#[derive(Clone, Copy, PartialEq, Eq)]
+// The ids of nodes and of voices. They are different types, so that a node id never serves as a voice id.
+#[derive(Clone, Copy, PartialEq, Eq, PartialOrd, Ord)]
 pub struct NodeId(pub u32);
 
 #[derive(Clone, Copy, PartialEq, Eq)]
@@ -10,7 +10,7 @@ pub struct VoiceId(pub u64);
 
 // A live node, as scope lists it: kind name, ports, required ports (bit p for port p), whether it takes values or
 // glides, done flag, level of the last reported block, last order; with its id and the voice that owns it. Voice ids
-// start at 1: owner 0 is the host. A bus counts here the noise sequence of its voices (02, Paper 6): 0 in a new node.
+// start at 1: owner 0 is the host. A bus counts here the noise sequence of its voices: 0 in a new node.
 #[derive(Clone, Copy)]
 pub struct Node {
     pub id: NodeId,

@@ -26,7 +26,7 @@ pub enum Refusal {
     RankTooHigh = 26,
 }
 
-// The number of a refusal, as the table gives it.
+// The number of a refusal, as the table gives it: lent words and the library for C hold numbers.
 pub fn refusal_number(r: Refusal) -> u8
     ensures { result ≡ number_of r }
 {

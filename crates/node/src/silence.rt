@@ -4,7 +4,7 @@ ghost use Rattle.node.specs.Silence.{silence_of, passes_through, is_among, rule_
 
 use crate::name::{Name, name_of, same_name};
 
-// How the silence of a node follows from its sources, by the name of its kind: the cases of `DonePlan` in synthdef.rs.
+// How the silence of a node follows from its sources, by the name of its kind.
 #[derive(Clone, Copy)]
 pub enum SilenceRule {
     // its done flag alone
@@ -63,7 +63,7 @@ const RULES: [(&str, SilenceRule); 7] = [
     ("Neg", SilenceRule::InPort),
 ];
 
-// Whether `kind` is one of `names`.
+// Whether `kind` is one of `names`. By a for: of `any` over a slice of texts the clause did not close. So is the search below.
 fn is_among(names: &[&str], kind: Name) -> bool
     ensures { result ≡ is_among (map (λ name. name_of name.now) names.now) kind }
 {
@@ -75,7 +75,7 @@ fn is_among(names: &[&str], kind: Name) -> bool
     false
 }
 
-// Whether `kind` is one of the listed names.
+// Whether `kind` is one of the listed names. The scope asks for this test by its name; the walk above is proved of any list.
 pub fn passes_through(kind: Name) -> bool
     ensures { result ≡ passes_through kind }
 {

@@ -1,3 +1,4 @@
+pub mod Answers
 pub mod Whole
 pub mod Rounding
 pub mod Machine
@@ -7,3 +8,4 @@ pub mod Even
 pub mod Sums
 pub mod Rule
 pub mod Scenes
+pub mod Answered

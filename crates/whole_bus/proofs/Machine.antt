@@ -6,7 +6,6 @@ use native.Mathlib.Omega.{arith}
 use mathlib.Core.Path.{◌≡◌, sym, ap, ◌∙◌, subst}
 use lib.Dec.{T, leb→le}
 use lib.IntN.{ℤ, pos, nat_abs, neg_ℤ, ◌+ℤ◌, ◌-ℤ◌, ◌*ℤ◌}
-use lib.Signed.{non_neg}
 use mir.Syntax.{w32, w64}
 use mir.Val.{Fits, SFits, to_z, of_z}
 use mir.ValLaws.{to_z-of_z, to_z_pos}
@@ -83,14 +82,8 @@ module _ (x : ℤ) (g : ℕ) (inside : T (is_sample x)) (gain : T (is_gain g)) w
   abbrev lifted_read : ℕ
   lifted_read = nat_abs (to_z w32 (of_z w32 (to_z w32 (of_z w32 x) +ℤ pos full)))
 
-  pub unsigned : T (non_neg (to_z w32 (of_z w32 (to_z w32 (of_z w32 x) +ℤ pos full)))) × Fits w32 lifted_read
-  unsigned = subst (λ (z : ℤ). T (non_neg z) × Fits w32 (nat_abs z)) (sym read_lifted) (tt, record { fits = omega (arith, lifted_small) })
-
   lifted_read_lem : lifted_read ≡ lifted x
   lifted_read_lem = ap nat_abs read_lifted
-
-  pub widened : Fits w64 lifted_read
-  widened = subst (Fits w64) (sym lifted_read_lem) (record { fits = omega (arith, lifted_small) })
 
   product : lifted x * g ≤ 2 ^ 25 * full
   product = le_trans (mul-le-mul_left (lifted x) small) (mul-le-mul_right full (le_of_lt lifted_small))

@@ -62,15 +62,6 @@ abbrev added_to : List ℕ → List ℤ → ℕ → ℕ
 added_to sums block i = (get_or sums i 0 + above_lowest (get_or block i (pos 0))) % 4294967296
 
 module _ (inputs : List ℤ) (n : ℕ) (before : List ℕ) where
-  pub port_none : length inputs ≡ n * length before → ((j : ℕ) → get_or before j 0 ≡ 0) → Porting inputs n before before true 0 n
-  port_none whole blank =
-      record {
-        long = refl;
-        ahead = omega arith;
-        adds = λ j h. let e = blank j in let s : get_or before j 0 + raised_sum n (length before) inputs j ≡ raised_sum n (length before) inputs j = omega arith in ap (λ (x : ℕ). x % 4294967296) s;
-        told = refl;
-      }
-
   module _ (sums : List ℕ) (ok : Bool) (at left : ℕ) (q : Porting inputs n before sums ok at left) where
     pub next_fits : 0 < left → at + length before ≤ length inputs
     next_fits h = let o = one_off left (length before) h in let a = q.ahead in omega arith

@@ -21,11 +21,12 @@ use Rattle.whole_bus.proofs.Rounding.{sample_is}
 use Rattle.whole_bus.proofs.Machine.{fits_32}
 use Rattle.whole_bus.proofs.Ranges.{every_at, every_drop}
 
-abbrev Within : ℕ → ℤ → Type 0
+-- no further from 0 than k times 2^23
+abbrev pub Within : ℕ → ℤ → Type 0
 Within k z = (over z ≤ k * half) × (under z ≤ k * half)
 
 -- two samples' worth that fit are added without wrapping
-add_exact : (k : ℕ) (a x : ℤ) → Within k a → k < 64 → T (is_sample x) → (int_wrapping_add w32 a x ≡ a +ℤ x) × Within (k + 1) (a +ℤ x)
+pub add_exact : (k : ℕ) (a x : ℤ) → Within k a → k < 64 → T (is_sample x) → (int_wrapping_add w32 a x ≡ a +ℤ x) × Within (k + 1) (a +ℤ x)
 add_exact k a x w h t =
     let s = sample_is x t in
     let m = add_within a x in
@@ -46,6 +47,19 @@ wrapped_is size c i k a xs (n ∷ ns) w h t =
     let more = add_exact k a x w few (every_at is_sample xs (pos 0) tt t (c % n * size + i)) in
     ap (λ (b : ℤ). summed_by (int_wrapping_add w32) (pos 0) b size c i (drop (n * size) xs) ns) more.0
     ∙ wrapped_is size c i (k + 1) (a +ℤ x) (drop (n * size) xs) ns more.1 left (every_drop is_sample (n * size) xs t)
+
+-- and after all inputs no sum is further from 0 than their number times 2^23
+pub summed_within : (size c i k : ℕ) (a : ℤ) (xs : List ℤ) (counts : List ℕ) → Within k a → k + length counts ≤ most_inputs → T (every is_sample xs)
+    → Within (k + length counts) (summed_by ◌+ℤ◌ (pos 0) a size c i xs counts)
+unfolding summed_by
+summed_within size c i k a xs [] w h t = (omega arith, omega arith)
+summed_within size c i k a xs (n ∷ ns) w h t =
+    let x = sample_at (pos 0) size xs (c % n) i in
+    let few : k < 64 = omega arith in
+    let left : k + 1 + length ns ≤ most_inputs = omega arith in
+    let more = add_exact k a x w few (every_at is_sample xs (pos 0) tt t (c % n * size + i)) in
+    let within = summed_within size c i (k + 1) (a +ℤ x) (drop (n * size) xs) ns more.1 left (every_drop is_sample (n * size) xs t) in
+    (omega arith, omega arith)
 
 -- the sums, clipped one by one, are the bus's sum
 pub clipped_block : (inputs : List ℤ) (counts : List ℕ) (size outs : ℕ) (before sums after : List ℤ) → Fitting inputs counts size before outs → true ≡ every is_sample inputs

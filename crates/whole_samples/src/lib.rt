@@ -6,11 +6,12 @@ ghost use Rattle.std.specs.Int.{w32, int_wrapping_add};
 ghost use Rattle.bus.specs.Block.{each};
 ghost use Rattle.bus.specs.Sum.{most_inputs};
 ghost use Rattle.whole_bus.specs.Sample.{is_sample, is_gain, faded_sample, clipped};
-ghost use Rattle.whole_bus.specs.Raised.{above_lowest, Added, AddedTwo, AddedAll, SummedBlocks, Fitting, Summed};
+ghost use Rattle.whole_bus.specs.Raised.{above_lowest, Added, AddedTwo, AddedAll, SummedBlocks};
 ghost use Rattle.whole_bus.specs.Block.{every, answer_of, fade_refusal, fade_output, sum_refusal, sum_output};
+ghost use Rattle.whole_bus.proofs.Ranges.{every_at};
 
-use bus::mix::{Numbers, fade_block, sum_block};
-use bus::{fade_fits, sum_fits};
+use bus::mix::{Numbers, fade, sum};
+use bus::sum_fits;
 use node::refusal::Refusal;
 
 // Whole numbers: a product is the nearest whole number to the exact one. Sums wrap, and are exact where at most 64 samples are added up.
@@ -33,6 +34,12 @@ impl Numbers for Wholes {
 
     ghost Multiplies = { λ x g. T (is_sample x) × T (is_gain g) };
 
+    ghost are_samples = { every is_sample };
+
+    ghost are_gains = { every is_gain };
+
+    ghost in_range = { λ xs gains t u i j. (every_at is_sample xs (pos 0) tt t i, every_at is_gain gains 0 tt u j) };
+
     fn silence() -> i32 {
         0
     }
@@ -52,6 +59,14 @@ impl Numbers for Wholes {
     fn plus(x: i32, y: i32) -> i32 {
         x.wrapping_add(y)
     }
+
+    fn every_sample(xs: &[i32]) -> bool {
+        all_low(xs, above_lowest)
+    }
+
+    fn every_gain(gains: &[u32]) -> bool {
+        all_low(gains, below_full)
+    }
 }
 
 // How far x lies above the lowest sample, modulo 2^32: that is below 2^24 for a sample, and for no other number.
@@ -62,14 +77,14 @@ fn above_lowest(x: i32) -> u32
     ((i64::from(x) + 2147483648) as u32).wrapping_sub(2139095040)
 }
 
-// Below 2^24 for a gain, and for no other number: full gain loses 1 here.
+// Below 2^24 for a gain, and for no other number: the full gain, 2^24, becomes one less.
 fn below_full(g: u32) -> u32
     ensures { nat_lt result 16777216 ≡ is_gain g }
 {
     g - g / 16777216
 }
 
-// Whether `low` gives less than 2^24 at all. The bits of what it gives are collected, and one test at the end says whether any was out of range: no branch
+// Whether `low` gives less than 2^24 for each of the numbers. The bits of what it gives are collected, and one test at the end says whether any was out of range: no branch
 // stands in the loop.
 fn all_low<A: Copy, F: Fn(A) -> u32>(xs: &[A], low: F) -> bool
     requires { F.IsAlwaysCallable low }
@@ -80,18 +95,6 @@ fn all_low<A: Copy, F: Fn(A) -> u32>(xs: &[A], low: F) -> bool
         bits |= low(*x);
     }
     bits < 16777216
-}
-
-fn every_sample(xs: &[i32]) -> bool
-    ensures { result ≡ every is_sample xs.now }
-{
-    all_low(xs, above_lowest)
-}
-
-fn every_gain(gains: &[u32]) -> bool
-    ensures { result ≡ every is_gain gains.now }
-{
-    all_low(gains, below_full)
 }
 
 // A fade's output for one block of size samples: ins and outs are the channel counts of input and output, len is the fade's length L, and position is what
@@ -109,15 +112,7 @@ pub fn fade_output(
     ensures answers { result ≡ answer_of (fade_refusal input.now ins gains.now len size (length out.old) outs) }
     ensures leaves { out.new ≡ fade_output input.now ins gains.now len position size out.old outs }
 {
-    let len = len as usize;
-    if !fade_fits(input.len(), ins, gains.len(), len, size, out.len(), outs) {
-        return Err(Refusal::LentBlock);
-    }
-    if !every_sample(input) || !every_gain(gains) {
-        return Err(Refusal::OutOfRange);
-    }
-    fade_block::<Wholes>(input, ins, gains, len, position as usize, size, out, outs);
-    Ok(())
+    fade::<Wholes>(input, ins, gains, len, position, size, out, outs)
 }
 
 fn clip(x: i32) -> i32
@@ -133,6 +128,8 @@ fn clip_all(out: &mut [i32])
         *y = clip(*y);
     }
 }
+
+// The loops over two slices take both by one index: of what a loop over `zip` wrote nothing is known.
 
 // A block is added to sums of raised samples, and the bits of its samples are collected. One pass does both, so that each sample is read once. The sums wrap, and
 // mean something only where all are samples.
@@ -175,16 +172,14 @@ fn add_ports(inputs: &[i32], n: usize, sums: &mut [u32]) -> u32
     let size = sums.len();
     let mut bits: u32 = 0;
     let mut at: usize = 0;
-    let mut left = n;
-    while 1 < left {
+    for _ in 0..n / 2 {
         let next = at + size;
         let end = next + size;
         let more = add_two(&inputs[at..next], &inputs[next..end], sums);
         bits |= more;
         at = end;
-        left -= 2;
     }
-    if left == 1 {
+    if n % 2 == 1 {
         let end = at + size;
         let more = add_block(&inputs[at..end], sums);
         return bits | more;
@@ -225,34 +220,10 @@ fn sum_even(inputs: &[i32], n: usize, out: &mut [i32]) -> bool
     sum_through(inputs, n, &mut sums[0..size], out)
 }
 
-// Otherwise the samples are tested first, and then read again.
-fn sum_tested(inputs: &[i32], counts: &[usize], size: usize, out: &mut [i32], outs: usize) -> bool
-    requires { Fitting inputs.now counts.now size out.old outs }
-    ensures { Summed inputs.now counts.now size outs out.old out.new result }
-{
-    if every_sample(inputs) {
-        sum_block::<Wholes>(inputs, counts, size, out, outs);
-        clip_all(out);
-        return true;
-    }
-    false
-}
-
 fn every_is(counts: &[usize], n: usize) -> bool
     ensures { result ≡ every (λ m. nat_eq m n) counts.now }
 {
     counts.iter().all(|m| *m == n)
-}
-
-// Whether all are samples; if so, the sum is written.
-fn sum_samples(inputs: &[i32], counts: &[usize], size: usize, out: &mut [i32], outs: usize) -> bool
-    requires { Fitting inputs.now counts.now size out.old outs }
-    ensures { Summed inputs.now counts.now size outs out.old out.new result }
-{
-    if out.len() <= 256 && every_is(counts, outs) {
-        return sum_even(inputs, counts.len(), out);
-    }
-    sum_tested(inputs, counts, size, out, outs)
 }
 
 // The sum of a bus for one block of size samples. The inputs' blocks stand one after the other in inputs, and counts has the channel count of each; outs is
@@ -267,10 +238,16 @@ pub fn bus_sum(
     ensures answers { result ≡ answer_of (sum_refusal inputs.now counts.now size (length out.old) outs) }
     ensures leaves { out.new ≡ sum_output inputs.now counts.now size out.old outs }
 {
+    // Where a port has another count than the bus, the samples are tested first, and then read again.
+    if out.len() > 256 || !every_is(counts, outs) {
+        sum::<Wholes>(inputs, counts, size, out, outs)?;
+        clip_all(out);
+        return Ok(());
+    }
     if !sum_fits(inputs.len(), counts, size, out.len(), outs) {
         return Err(Refusal::LentBlock);
     }
-    if !sum_samples(inputs, counts, size, out, outs) {
+    if !sum_even(inputs, counts.len(), out) {
         return Err(Refusal::OutOfRange);
     }
     Ok(())

@@ -1,24 +1,12 @@
 -- Bytes in words, and a u64 in two.
-use Prim.Native.Nat.{ℕ, ◌+◌, ◌*◌, ◌/◌, ◌%◌, ◌<◌}
+use Prim.Native.Nat.{ℕ, ◌/◌, ◌%◌, ◌<◌}
 use native.Mathlib.Omega.{arith}
 use mathlib.Core.Path.{◌≡◌, ap, ◌∙◌}
-use mathlib.Core.List.{List, [], ◌∷◌, ◌++◌}
+use mathlib.Core.List.{List, ◌++◌}
 use lib.ListN.{length}
 use Rattle.node.specs.declared.name.Name.{Name}
 use Rattle.words.specs.Fields.{long_from, four, name_from}
 use Rattle.words.proofs.Words.{spell, spelled}
-
-pub four_is : (a b c d : ℕ) → a < 256 → b < 256 → c < 256 → d < 256 → four (a + b * 256 + c * 65536 + d * 16777216) ≡ a ∷ b ∷ c ∷ d ∷ []
-four_is a b c d ha hb hc hd =
-    let x = a + b * 256 + c * 65536 + d * 16777216 in
-    let e0 : x % 256 ≡ a = omega arith in
-    let q1 : x / 256 ≡ b + c * 256 + d * 65536 = omega arith in
-    let q2 : x / 65536 ≡ c + d * 256 = omega arith in
-    let q3 : x / 16777216 ≡ d = omega arith in
-    let e1 : x / 256 % 256 ≡ b = rw q1 (omega arith) in
-    let e2 : x / 65536 % 256 ≡ c = rw q2 (omega arith) in
-    let e3 : x / 16777216 % 256 ≡ d = rw q3 (omega arith) in
-    rw (e0, e1, e2, e3)
 
 abbrev made : List ℕ → List ℕ → List ℕ → List ℕ → ℕ → Name
 made x y z w k = record { bytes = x ++ y ++ z ++ w; len = k }

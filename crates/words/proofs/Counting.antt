@@ -1,7 +1,7 @@
 -- A loop over rows in words that counts those that pass a test.
 use Prim.Native.Nat.{ℕ, ◌+◌, ◌/◌, ◌≤◌, ◌<◌, min}
 use native.Mathlib.Omega.{arith}
-use mathlib.Core.Path.{◌≡◌, refl, sym, ap, ◌∙◌}
+use mathlib.Core.Path.{◌≡◌, sym, ap, ◌∙◌}
 use mathlib.Core.List.{List, [], ◌∷◌, ◌++◌}
 use mathlib.Core.Bool.{Bool, true, false}
 use lib.ListN.{length, take, get_or, length-append}
@@ -16,9 +16,6 @@ module _ {A : Type 0} (w : ℕ) (of : List ℕ → A) (t : A → Bool) (c : List
   -- of the first i rows, found pass
   abbrev pub CountingIn : ℕ → ℕ → ℕ → Type 0
   CountingIn n i found = (i ≤ n) × (found ≤ i) × (found ≡ length (filter t (take i (rows w of c))))
-
-  pub count_start : (n : ℕ) → CountingIn n 0 0
-  count_start n = (omega arith, omega arith, refl)
 
   module _ (n i found : ℕ) (fits : n ≤ length c / w) (more : i < n) (inv : CountingIn n i found) where
     next : take (i + 1) (rows w of c) ≡ take i (rows w of c) ++ (get_or (rows w of c) i (of []) ∷ [])

@@ -32,9 +32,6 @@ pub record Closing {A : Type 0} (t : A → Bool) (old new : List A) (i w : ℕ) 
   pub left : drop i new ≡ drop i old
 
 module _ {A : Type 0} (d : A) (t : A → Bool) where
-  pub closing_start : (old : List A) → Closing t old old 0 0
-  closing_start old = record { low = omega arith; long = refl; front = refl; left = refl }
-
   -- the row that the loop reads is the old one
   pub closing_row : (old new : List A) (i w : ℕ) → Closing t old new i w → get_or new i d ≡ get_or old i d
   closing_row old new i w inv = left_same d old new i inv.left
@@ -69,9 +66,6 @@ pub record Gathering {A B : Type 0} (t : A → Bool) (f : A → B) (m : ℕ) (ro
   pub front : take k out ≡ map f (filter t (take i rows))
 
 module _ {A B : Type 0} (d : A) (t : A → Bool) (f : A → B) (m : ℕ) (rows : List A) where
-  pub gathering_start : (out : List B) → length out ≡ m → Gathering t f m rows out 0 0
-  gathering_start out h = record { low = omega arith; long = h; front = refl }
-
   module _ (out : List B) (i k : ℕ) (h : i < length rows) (inv : Gathering t f m rows out i k) where
     pub gathering_take : k < m → t (get_or rows i d) ≡ true → Gathering t f m rows (set out k (f (get_or rows i d))) (i + 1) (k + 1)
     gathering_take room p =
@@ -103,9 +97,6 @@ pub record Changing {A : Type 0} (f : A → A) (old new : List A) (i : ℕ) : Ty
   pub left : drop i new ≡ drop i old
 
 module _ {A : Type 0} (d : A) (f : A → A) where
-  pub changing_start : (old : List A) → Changing f old old 0
-  changing_start old = record { long = refl; front = refl; left = refl }
-
   pub changing_more : (old new : List A) (i : ℕ) → i < length old → Changing f old new i → Changing f old (set new i (f (get_or new i d))) (i + 1)
   changing_more old new i h inv =
       let same : get_or new i d ≡ get_or old i d = left_same d old new i inv.left in

@@ -1,20 +1,22 @@
 -- The loops of `InPlace` on tables in words: the list of rows is that of the words, and a row is stored by moving its words.
-use Prim.Native.Nat.{ℕ, zero, suc, ◌+◌, ◌-◌, ◌/◌, ◌≤◌, ◌<◌, min}
+use Prim.Native.Nat.{ℕ, zero, suc, ◌+◌, ◌*◌, ◌-◌, ◌/◌, ◌≤◌, ◌<◌, min}
 use native.Mathlib.Omega.{arith}
 use native.Mathlib.Nat.{add-zero, add-suc}
 use native.Mathlib.Numerals.{add-one}
 use mathlib.Core.Path.{◌≡◌, refl, sym, ap, ◌∙◌, subst}
 use mathlib.Core.List.{List, [], ◌∷◌, ◌++◌, map}
-use Rattle.std.specs.Prelude.{None, Some, filter, find}
+use Rattle.std.specs.Prelude.{Some, filter, find}
 use mathlib.Core.Bool.{Bool, true, false, cond}
 use lib.ListN.{length, take, drop, get_or, set, length-take}
-use lib.Seq.{take_all, set-get_or}
+use lib.Seq.{take_all, set-get_or, sets-eq, paste, paste-zero, take-add, drop_at, drop-drop, take-take, length-take-le}
+use Rattle.std.proofs.Common.{append_assoc, suc-mul, zero-mul, add-mul, length-drop}
+use Rattle.std.proofs.lemmas.List.{take-append-le, drop-append-le, drop-take}
 use lib.Dec.{leb, ltb}
 use borrow.Author.Tests.{leb-true, leb-false, lt-ltb, le-ltb}
-use Rattle.lists.proofs.Table.{append_row, find_hit, find_next, find_over}
-use Rattle.words.specs.Rows.{cuts, rows, row_moved, moved_up, opened}
-use Rattle.words.proofs.Rows.{rows_long, rows_move, rows_cuts, moved_long}
-use Rattle.words.proofs.InPlace.{Closing, closing_start, closing_row, closing_keep, closing_drop, Changing, changing_start, changing_more, Opening, opening_start, opening_more, opening_put, opening_map}
+use Rattle.lists.proofs.Table.{append_row, find_hit, find_next}
+use Rattle.words.specs.Rows.{cut, cuts, rows, row_moved, moved_up, opened}
+use Rattle.words.proofs.Rows.{rows_long, rows_move, rows_cuts, moved_long, row_fits, cut_long, moved_is}
+use Rattle.words.proofs.InPlace.{Closing, closing_row, closing_keep, closing_drop, Changing, changing_more, Opening, opening_start, opening_more, opening_put, opening_map}
 
 -- a count above the room stands for the room
 pub take_count : {A : Type 0} (w : ℕ) (of : List ℕ → A) (c : List ℕ) (count n : ℕ) → n ≡ min count (length c / w) → take n (rows w of c) ≡ take count (rows w of c)
@@ -48,16 +50,10 @@ module _ {A : Type 0} (w : ℕ) (of : List ℕ → A) (q : A → Bool) (c : List
     pub seek_next : (i : ℕ) → i < n → SeekingIn i → q (get_or (rows w of c) i (of [])) ≡ false → SeekingIn (i + 1)
     seek_next i h inv p = (omega arith, find_next (of []) q (rows w of c) n i h fits p ∙ inv.1)
 
-    pub seek_none : (i : ℕ) → n ≤ i → SeekingIn i → None ≡ find q (take count (rows w of c))
-    seek_none i h inv = let all : i ≡ n = omega (arith, inv.0) in sym (find_over q (rows w of c) n i all fits) ∙ inv.1
-
 -- closing gaps: row i of the words is moved to place k, if it passes
 module _ {A : Type 0} (w : ℕ) (of : List ℕ → A) (t : A → Bool) where
   abbrev pub ClosingIn : List ℕ → List ℕ → ℕ → ℕ → ℕ → Type 0
   ClosingIn old new n i k = (i ≤ n) × (length new ≡ length old) × Closing t (rows w of old) (rows w of new) i k
-
-  pub words_start : (c : List ℕ) (n : ℕ) → ClosingIn c c n 0 0
-  words_start c n = (omega arith, refl, closing_start (of []) t (rows w of c))
 
   -- the row that the loop reads is the old one
   pub words_row : (old new : List ℕ) (n i k : ℕ) → ClosingIn old new n i k → get_or (rows w of new) i (of []) ≡ get_or (rows w of old) i (of [])
@@ -109,9 +105,6 @@ module _ {A : Type 0} (w : ℕ) (of : List ℕ → A) (old new : List ℕ) (coun
 module _ {A : Type 0} (w : ℕ) (of : List ℕ → A) (f : A → A) where
   abbrev pub ChangingIn : List ℕ → List ℕ → ℕ → ℕ → Type 0
   ChangingIn old new n i = (i ≤ n) × (length new ≡ length old) × Changing f (rows w of old) (rows w of new) i
-
-  pub change_start : (c : List ℕ) (n : ℕ) → ChangingIn c c n 0
-  change_start c n = (omega arith, refl, changing_start (of []) f (rows w of c))
 
   module _ (old new : List ℕ) (n i : ℕ) (fits : n ≤ length old / w) (more : i < n) (inv : ChangingIn old new n i) where
     within : i < length (rows w of old)
@@ -169,19 +162,63 @@ module _ (w : ℕ) where
   unfolding opened
   open_off n p c h = rw (le-ltb n (length c / w) h)
 
-  pub up_none : (p : ℕ) (c : List ℕ) → moved_up 0 w p c ≡ c
-  unfolding moved_up
-  up_none p c = refl
+  -- where no row has to move
+  pub open_none : (n p : ℕ) (c : List ℕ) → n ≤ p → opened w n p c ≡ c
+  unfolding opened moved_up
+  open_none n p c h = let e : n - p ≡ 0 = omega arith in ap (λ k. cond (ltb n (length c / w)) (moved_up k w p c) c) e ∙ go (ltb n (length c / w))
+    where
+      go : (b : Bool) → cond b c c ≡ c
+      go true = refl
+      go false = refl
 
-  -- rows moved up, one row more
-  pub up_more : (p j : ℕ) (c last : List ℕ) → p < j → last ≡ row_moved w (j - 1) j c → moved_up (j - 1 - p) w p last ≡ moved_up (j - p) w p c
+  -- rows moved up one by one are moved as one block
+  pub up_block : (k p : ℕ) (c : List ℕ) → 0 < w → p + k < length c / w → moved_up k w p c ≡ paste c (suc p * w) (drop (p * w) c) (k * w)
   unfolding moved_up
-  up_more p j c last h moved =
-      let k = j - 1 - p in
-      let e : j - p ≡ suc k = omega arith in
-      let a : p + k ≡ j - 1 = omega arith in
-      let b : suc (p + k) ≡ j = omega arith in
-      ap (moved_up k w p) (moved ∙ sym (ap (λ m. row_moved w m (suc m) c) a ∙ ap (λ m. row_moved w (j - 1) m c) (omega arith))) ∙ ap (λ m. moved_up m w p c) (sym e)
+  up_block zero p c some h = paste-zero c (suc p * w) (drop (p * w) c) ∙ ap (paste c (suc p * w) (drop (p * w) c)) (sym (zero-mul w))
+  up_block (suc k) p c some h =
+      let last : suc (p + k) < length c / w = omega arith in
+      let before : p + k < length c / w = omega arith in
+      let to = suc p * w in
+      let past = suc (p + k) * w in
+      let first : to ≡ p * w + w = suc-mul p w in
+      let rest : past ≡ p * w + k * w + w = suc-mul (p + k) w ∙ ap (λ m. m + w) (add-mul p k w) in
+      let more : suc k * w ≡ k * w + w = suc-mul k w in
+      let fits : past + w ≤ length c = row_fits w (suc (p + k)) c last in
+      let row = cut w (p + k) c in
+      let front = take past c in
+      let back = row ++ drop (past + w) c in
+      let long : length front ≡ past = length-take-le past c (omega arith) in
+      let wide : length row ≡ w = cut_long w (p + k) c (row_fits w (p + k) c before) in
+      let c' = row_moved w (p + k) (suc (p + k)) c in
+      let moved : c' ≡ front ++ back =
+      moved_is w (p + k) (suc (p + k)) c before last
+      ∙ sets-eq row c past (omega (arith, wide, fits))
+      ∙ ap (λ m. take past c ++ row ++ drop (past + m) c) wide
+      ∙ append_assoc front row (drop (past + w) c) in
+      let below : p + k < length c' / w = subst (λ m. p + k < m / w) (sym (moved_long w (p + k) (suc (p + k)) c)) before in
+      let part = drop (p * w) c in
+      let one : take to c' ≡ take to c = ap (take to) moved ∙ take-append-le to front back (omega (arith, first, rest, long)) ∙ take-take to past c (omega (arith, first, rest)) in
+      let two : take (k * w) (drop (p * w) c') ≡ take (k * w) part =
+      ap (λ l. take (k * w) (drop (p * w) l)) moved
+      ∙ ap (take (k * w)) (drop-append-le (p * w) front back (omega (arith, rest, long)))
+      ∙ take-append-le (k * w) (drop (p * w) front) back (omega (arith, rest, long, length-drop (p * w) front))
+      ∙ ap (λ m. take (k * w) (drop (p * w) (take m c))) (omega (arith, rest))
+      ∙ ap (take (k * w)) (drop-take (p * w) (k * w + w) c)
+      ∙ take-take (k * w) (k * w + w) part (omega arith) in
+      let three : drop (to + k * w) c' ≡ take w (drop (k * w) part) ++ drop (past + w) c =
+      ap (λ m. drop m c') (omega (arith, first, rest))
+      ∙ ap (drop past) moved
+      ∙ drop_at front back past long
+      ∙ ap (λ l. take w l ++ drop (past + w) c) (ap (λ m. drop m c) (add-mul p k w) ∙ sym (drop-drop (k * w) (p * w) c)) in
+      up_block k p c' some below
+      ∙ ap (λ l. l ++ take (k * w) (drop (p * w) c') ++ drop (to + k * w) c') one
+      ∙ ap (λ l. take to c ++ l ++ drop (to + k * w) c') two
+      ∙ ap (λ l. take to c ++ take (k * w) part ++ l) three
+      ∙ sym (append_assoc (take to c ++ take (k * w) part) (take w (drop (k * w) part)) (drop (past + w) c))
+      ∙ ap (λ l. l ++ drop (past + w) c) (append_assoc (take to c) (take (k * w) part) (take w (drop (k * w) part)))
+      ∙ ap (λ l. take to c ++ l ++ drop (past + w) c) (sym (take-add (k * w) w part))
+      ∙ ap (λ m. take to c ++ take m part ++ drop (past + w) c) (sym more)
+      ∙ ap (λ m. take to c ++ take (suc k * w) part ++ drop m c) (omega (arith, first, rest, more))
 
   -- and the new row is stored at p
   pub open_put : {A : Type 0} (of : List ℕ → A) (old new last : List ℕ) (n p : ℕ) (x : A) → n < length old / w → p ≤ n → new ≡ opened w n p old → rows w of last ≡ set (rows w of new) p x

@@ -46,14 +46,6 @@ module _ (w i k : ℕ) (ws c : List ℕ) where
       off true false = refl
       off false b = refl
 
-  pub fields_long : length (fields_put w i k ws c) ≡ length c
-  unfolding fields_put
-  fields_long = go (ltb k w && leb (length ws) (w - k) && ltb i (length c / w))
-    where
-      go : (b : Bool) → length (cond b (sets c (i * w + k) ws) c) ≡ length c
-      go true = length-sets c (i * w + k) ws
-      go false = refl
-
 -- ---- what is stored
 
 -- words stored from a place on, seen from behind n words and within n words

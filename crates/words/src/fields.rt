@@ -1,4 +1,4 @@
-// The fields of a record in words, and back.
+// The fields of a record in words, and back. Word by word and byte by byte, since the list is the layout.
 ghost use Rattle.std.specs.Prelude.{◌≡◌, ◌/◌, ◌%◌, [], ◌∷◌, ◌++◌, get_or};
 ghost use Rattle.words.specs.Fields.{long_from, is_set, float_from, four, name_from, shape_from, space_from, glide_from, last_from, Glides, long_at, name_at, last_at};
 ghost use Rattle.words.specs.Rows.{row_at};
@@ -57,7 +57,7 @@ pub fn float_from(x: u32) -> f32
 pub fn byte_word(a: u8, b: u8, c: u8, d: u8) -> u32
     ensures { four result ≡ a ∷ b ∷ c ∷ d ∷ [] }
 {
-    u32::from(a) + u32::from(b) * 256 + u32::from(c) * 65536 + u32::from(d) * 16777216
+    u32::from_le_bytes([a, b, c, d])
 }
 
 // A name in five words.
@@ -85,16 +85,9 @@ pub fn low_byte(x: u32) -> u8
 pub fn eight_bytes(a: u32, b: u32) -> [u8; 8]
     ensures { result ≡ four a ++ four b }
 {
-    [
-        low_byte(a),
-        low_byte(a / 256),
-        low_byte(a / 65536),
-        low_byte(a / 16777216),
-        low_byte(b),
-        low_byte(b / 256),
-        low_byte(b / 65536),
-        low_byte(b / 16777216),
-    ]
+    let x = a.to_le_bytes();
+    let y = b.to_le_bytes();
+    [x[0], x[1], x[2], x[3], y[0], y[1], y[2], y[3]]
 }
 
 pub fn name_from(a: u32, b: u32, c: u32, d: u32, len: u32) -> Name

@@ -2,6 +2,8 @@ ghost use Rattle.std.specs.Prelude.{◌≡◌, ◌+◌, ◌≤◌, min, length, 
 ghost use Rattle.std.proofs.lemmas.List.Edits.{sets};
 ghost use Rattle.words.specs.Rows.{row_at, row_put, word_put, fields_put, row_moved, opened};
 
+// Each function is given a slice and a width: one serves tables of every width.
+
 // The word at `i`, or 0 past the end.
 pub fn word(t: &[u32], i: usize) -> u32
     ensures { result ≡ get_or t.now i 0 }
@@ -20,7 +22,7 @@ pub fn word_at(t: &[u32], w: usize, i: usize, k: usize) -> u32
     }
 }
 
-// Word `k` of row `i` is `x`, if there is such a word.
+// Word `k` of row `i` is `x`, if there is such a word. No call of the store needs it alone; what it promises is kept.
 pub fn put_word(t: &mut [u32], w: usize, i: usize, k: usize, x: u32)
     ensures { t.new ≡ word_put w i k x t.old }
 {
@@ -57,7 +59,8 @@ pub fn put_fields(t: &mut [u32], w: usize, i: usize, k: usize, ws: &[u32])
     }
 }
 
-// Row `to` of rows of `w` words is what row `from` is, if the words have room for both.
+// Row `to` of rows of `w` words is what row `from` is, if the words have room for both. The loops that close gaps by it are written where they are: one
+// over a test would want a contract for the test, and each loop is three lines.
 pub fn move_row(t: &mut [u32], w: usize, from: usize, to: usize)
     ensures { t.new ≡ row_moved w from to t.old }
 {
@@ -70,9 +73,7 @@ pub fn move_row(t: &mut [u32], w: usize, from: usize, to: usize)
 pub fn open_row(t: &mut [u32], w: usize, n: usize, p: usize)
     ensures { t.new ≡ opened w n p t.old }
 {
-    if 0 < w && n < t.len() / w {
-        for j in (p..n).rev() {
-            move_row(t, w, j, j + 1);
-        }
+    if 0 < w && n < t.len() / w && p < n {
+        t.copy_within(p * w..n * w, (p + 1) * w);
     }
 }

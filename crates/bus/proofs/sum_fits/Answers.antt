@@ -1,27 +1,38 @@
 -- `bus::sum_fits` meets its contract.
-use Rattle.std.proofs.Common.{◌≡◌, ◌*◌, eqb, sym, ap, ◌∙◌, le-leb}
+use Rattle.std.proofs.Common.{◌≡◌, ◌*◌, Bool, true, false, cond, ℕ, Some, None, eqb, sym, refl, ap, ◌∙◌, le-leb}
+use Rattle.std.proofs.lemmas.Option.{cond_some, none-some}
 use borrow.Author.Tests.{lt-leb}
-use Rattle.bus.specs.Sum.{channels, sum_fits}
+use Rattle.bus.specs.Sum.{channels, every_is_channels, sum_fits}
 use Rattle.bus.proofs.sum_fits.Goals as goal
-use Rattle.bus.proofs.sum_fits.Goals.{then-is_product, else-is_product, else-counts-le64-via-then-counts-le64+else-every_is_channels, else-counts-le64-via-else-counts-le64}
+use Rattle.bus.proofs.sum_fits.Goals.{After-is_product}
 
-pub returns-then-every_is_channels : goal.returns-then-every_is_channels
-unfolding sum_fits
-returns-then-every_is_channels c =
-    let o = c.args in
-    let few = le-leb _ _ c.if-counts-le64.true in
-    let all = sym c.every_is_channels.ensures ∙ c.if-every_is_channels.true in
-    let product : c.is_product.result ≡ eqb o.inputs (channels o.counts.now * o.size) =
-    c.is_product.ensures ∙ ap (λ n. eqb o.inputs (n * o.size)) c.total_channels.ensures in
-    elim c.if-is_product.branch [
-      | then-is_product w ↦ w.result-is ∙ simp (few, all, sym product ∙ w.if-is_product.true) w.holds_block.ensures
-      | else-is_product w ↦ w.result-is ∙ w.if-is_product.false ∙ simp (few, all, sym product ∙ w.if-is_product.false)
-    ]
+-- some count is not 1 or 2
+uncounted : (b : Bool) (n : ℕ) → cond b (Some n) None ≡ None → b ≡ false
+uncounted true n e = absurd (none-some n (sym e))
+uncounted false n e = refl
 
-pub returns : goal.returns
+counted : (c : After-is_product) → (every_is_channels c.args.counts.now ≡ true) × (channels c.args.counts.now ≡ c.in-Some.n)
+counted c = cond_some _ _ _ (sym c.total_channels.ensures ∙ c.in-Some.is)
+
+product : (c : After-is_product) → eqb c.args.inputs (channels c.args.counts.now * c.args.size) ≡ c.is_product.result
+product c = ap (λ n. eqb c.args.inputs (n * c.args.size)) (counted c).1 ∙ sym c.is_product.ensures
+
+pub returns-then-counts-gt64 : goal.returns-then-counts-gt64
 unfolding sum_fits
-returns c =
-    elim c.else-counts-le64.branch [
-      | else-counts-le64-via-then-counts-le64+else-every_is_channels w ↦ simp (le-leb _ _ w.if-counts-le64.true, sym w.every_is_channels.ensures ∙ w.if-every_is_channels.false)
-      | else-counts-le64-via-else-counts-le64 w ↦ simp (lt-leb _ _ w.if-counts-le64.false)
-    ]
+returns-then-counts-gt64 c = simp (lt-leb _ _ c.if-counts-gt64.true)
+
+pub returns-then-is_product : goal.returns-then-is_product
+unfolding sum_fits
+returns-then-is_product c =
+    let p = (goal.at.returns-then-is_product c).After-is_product in
+    simp (le-leb _ _ c.if-counts-gt64.false, (counted p).0, product p ∙ c.if-is_product.true) c.holds_block.ensures
+
+pub returns-else-is_product : goal.returns-else-is_product
+unfolding sum_fits
+returns-else-is_product c =
+    let p = (goal.at.returns-else-is_product c).After-is_product in
+    c.if-is_product.false ∙ simp (le-leb _ _ c.if-counts-gt64.false, (counted p).0, product p ∙ c.if-is_product.false)
+
+pub returns-in-None : goal.returns-in-None
+unfolding sum_fits
+returns-in-None c = simp (le-leb _ _ c.if-counts-gt64.false, uncounted _ _ (sym c.total_channels.ensures ∙ c.in-None.is))

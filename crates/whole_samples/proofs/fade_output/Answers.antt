@@ -1,11 +1,16 @@
 -- `whole_samples::fade_output` meets its contract.
-use Rattle.std.proofs.Common.{T, sym, ◌∙◌, pos, subst}
+use Rattle.std.proofs.Common.{◌&&◌, length, ◌∙◌}
+use Rattle.bus.specs.Block.{block_of}
+use Rattle.bus.specs.Fade.{fade_fits}
 use Rattle.whole_bus.specs.Sample.{is_sample, is_gain}
-use Rattle.whole_bus.proofs.Ranges.{every_at}
+use Rattle.whole_bus.specs.Block.{every, faded_of}
+use Rattle.whole_bus.proofs.Answered.{answer_is, left_is}
 use Rattle.whole_samples.proofs.fade_output.Goals as goal
 
-pub fade_block-requires-clause-ranges : goal.fade_block-requires-clause-ranges
-fade_block-requires-clause-ranges c =
-    let samples = subst T (sym c.if-not-every_sample.false ∙ c.every_sample.ensures) tt in
-    let gains = subst T (sym c.if-not-every_gain.false ∙ c.every_gain.ensures) tt in
-    λ i j. (every_at is_sample c.args.input.now (pos 0) tt samples i, every_at is_gain c.args.gains.now 0 tt gains j)
+pub returns : goal.returns
+returns c =
+    let a = c.args in
+    let fits = fade_fits (length a.input.now) a.ins (length a.gains.now) a.len a.size (length a.out.now) a.outs in
+    let in_range = every is_sample a.input.now && every is_gain a.gains.now in
+    let whole = block_of a.outs a.size (faded_of a.input.now a.ins a.gains.now a.len a.position a.size) in
+    record { answers = c.fade.ensures.answers ∙ answer_is fits in_range; leaves = c.fade.ensures.leaves ∙ left_is fits in_range whole a.out.now }

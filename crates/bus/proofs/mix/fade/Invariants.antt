@@ -1,7 +1,7 @@
--- `bus::mix::fade_block` meets its contract: the channels before c are written, and the rest is as it was.
+-- `bus::mix::fade` meets its contract: the channels before c are written, and the rest is as it was.
 use Rattle.bus.specs.Fade.{faded_of_by}
 use Rattle.bus.proofs.Blocks.{Laying}
-use Rattle.bus.proofs.mix.fade_block.Given as goal
+use Rattle.bus.proofs.mix.fade.Given as goal
 
 abbrev pub invariant-loop-c : goal.invariant-loop-c
 invariant-loop-c g l =
