@@ -13,7 +13,7 @@ pub(crate) fn byte_at(s: &[u8], i: usize) -> u8
     s.get(i).copied().unwrap_or(0)
 }
 
-// The two bytes at `i` as one number, the lower first.
+// The two bytes at `i` as one number, the lower first. By hand: `from_le_bytes` takes two bytes, and here one past the end is 0.
 fn pair_at(s: &[u8], i: u8) -> usize
     ensures { result ≡ pair_at s.now i }
 {
@@ -54,6 +54,7 @@ fn name_fits(n: Name) -> bool
     is_named(n) && is_clear(n)
 }
 
+// The four sorts of record. A heading's and an edge's have a name too, since a call with two numbers says less.
 pub(crate) fn is_heading(s: &[u8]) -> bool
     ensures { result ≡ is_heading s.now }
 {

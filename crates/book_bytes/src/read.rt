@@ -20,7 +20,7 @@ pub fn blank_def() -> SynthDef
     }
 }
 
-// The definition that the book `s` holds; or 18 and where, or 9.
+// The definition that the book `s` holds; or where it is malformed, or that it is not within the limits.
 pub fn read_book(s: &[u8]) -> Result<SynthDef, ReadError>
     ensures { read_of result ≡ read_book s.now }
 {

@@ -21,14 +21,15 @@ fn put_book(d: SynthDef, out: &mut [u8]) -> usize
     requires { book_length d.nodes.count d.edges.count d.params.count ≤ length out.old }
     ensures { Put (book_of d) out.old out.new result }
 {
-    let count = d.nodes.count.min(24) as u8;
-    let a = put_heading(count, d.output, out);
-    let b = a + put_rows(d.nodes.as_slice(), &mut out[a..]);
+    let nodes = d.nodes.as_slice();
+    let a = put_heading(nodes.len() as u8, d.output, out);
+    let b = a + put_rows(nodes, &mut out[a..]);
     let c = b + put_rows(d.edges.as_slice(), &mut out[b..]);
     c + put_rows(d.params.as_slice(), &mut out[c..])
 }
 
-// The book of `d` at the start of `out`, and its length; or 9, or 19 where `out` is too short, and then `out` stays as it is.
+// The book of `d` at the start of `out`, and its length; or that `d` is not within the limits, or that `out` is too short, and then `out`
+// stays as it is.
 pub fn write_book(d: SynthDef, out: &mut [u8]) -> Result<usize, WriteError>
     ensures is { wrote_of result ≡ write_answer d out.old }
     ensures leaves { out.new ≡ write_book d out.old }

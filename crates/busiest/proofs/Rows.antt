@@ -3,7 +3,7 @@ use Rattle.std.specs.Prelude.{unwrap_or}
 use Prim.Native.Nat.{ℕ, zero, suc, ◌-◌, ◌≤◌, min}
 use native.Mathlib.Omega.{arith}
 use mathlib.Core.Path.{◌≡◌, refl, ap, ◌∙◌}
-use mathlib.Core.List.{List, [], ◌∷◌, ◌++◌}
+use mathlib.Core.List.{List, [], ◌∷◌}
 use lib.ListN.{length, take, get_or, replicate}
 use lib.Seq.{take_all, take-append-le}
 use Rattle.lists.specs.Table.{rows_of}
@@ -26,12 +26,3 @@ pub found_row : (l : List StealRecord) (i : ℕ) (d : StealRecord) → unwrap_or
 found_row [] i d = refl
 found_row (r ∷ l) zero d = refl
 found_row (r ∷ l) (suc i) d = found_row l i d
-
--- all rows are written
-pub rows_all : (l : List StealRecord) (n i : ℕ) (rows : List StealRecord) → n ≡ length l → i ≡ n → rows ≡ take i l ++ replicate (64 - i) no_record
-    → record { rows = rows; count = n } ≡ newest_of l
-rows_all l n i rows e over h =
-    let past : length l ≤ i = omega arith in
-    let last : i ≡ length l = omega arith in
-    ap (λ m. record { rows = rows; count = m }) e
-    ∙ ap (λ z. record { rows = z; count = length l }) (h ∙ ap (λ z. z ++ replicate (64 - i) no_record) (take_all i l past) ∙ ap (λ k. l ++ replicate (64 - k) no_record) last)

@@ -7,7 +7,7 @@ use mathlib.Core.List.{List, [], ◌∷◌, ◌++◌}
 use mathlib.Core.Bool.{Bool, true, false, ◌&&◌}
 use lib.Dec.{leb, ltb}
 use lib.ListN.{length, get_or, length-append}
-use borrow.Author.Tests.{leb-true, ltb-true, ltb-false, le-leb, lt-ltb, lt-leb, le-ltb}
+use borrow.Author.Tests.{leb-true, ltb-true, ltb-false, le-leb, lt-ltb, lt-leb}
 use Rattle.lists.specs.Member.{In}
 use Rattle.lists.proofs.Member.{and_left, and_right, both, in_snoc, in_left}
 use Rattle.lists.specs.Count.{more}
@@ -32,14 +32,6 @@ module _ (w a x : ℕ) where
 
   pub within_past : a ≤ x → within w a x ≡ false → a + w ≤ x
   within_past h f = ltb-false x (a + w) (ap (λ b. b && ltb x (a + w)) (sym (le-leb a x h)) ∙ f)
-
-  -- the test as the code makes it, in which nothing can wrap
-  pub within_by : a ≤ x → ltb (x - a) w ≡ within w a x
-  within_by h = go (ltb (x - a) w) refl ∙ ap (λ b. b && ltb x (a + w)) (sym (le-leb a x h))
-    where
-      go : (b : Bool) → ltb (x - a) w ≡ b → ltb (x - a) w ≡ ltb x (a + w)
-      go true e = let less = ltb-true (x - a) w e in e ∙ sym (lt-ltb x (a + w) (omega arith))
-      go false e = let over = ltb-false (x - a) w e in e ∙ sym (le-ltb x (a + w) (omega arith))
 
 -- No stretch of w samples holds more than n of the records p; the one from x on holds n; none that starts at an earlier record does.
 pub record SoFar (w : ℕ) (p : List ℕ) (n x : ℕ) : Type 0 where

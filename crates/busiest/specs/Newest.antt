@@ -3,11 +3,11 @@
 use Rattle.std.specs.Prelude.{◌-◌, List, ◌++◌, false, length, replicate}
 use Rattle.std.specs.Float.Ieee.{of_bits}
 use Rattle.std.specs.Float.{binary32}
+use Rattle.lists.specs.declared.rows.Table.{Table}
 use Rattle.voice.specs.declared.steals.StealRecord.{StealRecord}
-use Rattle.busiest.specs.declared.newest.Newest.{Newest}
 
 abbrev pub no_record : StealRecord
 no_record = record { sample = 0; level = of_bits binary32 0; known = false; cut = false }
 
-abbrev pub newest_of : List StealRecord → Newest
+abbrev pub newest_of : List StealRecord → Table StealRecord 64
 newest_of l = record { rows = l ++ replicate (64 - length l) no_record; count = length l }

@@ -4,17 +4,14 @@ ghost use Rattle.busiest.specs.Newest.{newest_of};
 ghost use Rattle.busiest.specs.Stretch.{samples, said, busiest};
 
 use crate::stretch::{Busiest, busiest_stretch};
+use lists::rows::Table;
 use voice::steals::{StealRecord, Steals};
 use voice_policy::steals::{held_steals, steal_at, steal_record};
 
-// A run of records in an array: the first `count` rows.
-#[derive(Clone, Copy)]
-pub struct Newest {
-    pub rows: [StealRecord; 64],
-    pub count: usize,
-}
+// A run of records.
+pub type Newest = Table<StealRecord, 64>;
 
-// The newest records that the store holds, oldest first.
+// The newest records that the store holds, oldest first. By an index, since they stand in a ring: no slice holds them in this order.
 pub fn newest_records(s: Steals) -> Newest
     ensures { result ≡ newest_of (log_of s).newest }
 {
@@ -32,5 +29,5 @@ pub fn busiest_steals(s: Steals, width: u64) -> Busiest
     ensures { said result ≡ busiest width (samples (log_of s).newest) }
 {
     let run = newest_records(s);
-    busiest_stretch(&run.rows[..run.count], width)
+    busiest_stretch(run.as_slice(), width)
 }

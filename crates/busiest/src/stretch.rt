@@ -4,11 +4,11 @@ ghost use Rattle.busiest.specs.Scan.{begun, advanced, concluded};
 
 use voice::steals::StealRecord;
 
-// Why a run has no answer.
+// Why a run has no answer: the refusal of a host in C.
 #[derive(Clone, Copy, PartialEq)]
 pub enum Unanswered {
-    NoWidth,
-    SamplesFall,
+    NoWidth = 22,
+    SamplesFall = 23,
 }
 
 // How many records a stretch holds, and the sample of the first of them.
@@ -23,7 +23,8 @@ pub type Busiest = Result<Option<Stretch>, Unanswered>;
 
 // What is known of the records passed so far: the largest number of them inside a stretch, the sample of the first record of the
 // earliest such stretch, the sample passed last, whether samples fell. `head` is the place of the record from which a stretch
-// would have to reach to the next record to hold one more: `most` places before that one.
+// would have to reach to the next record to hold one more: `most` places before that one. Of no records `most` is 0, and of others it is not, so that no Option
+// says it.
 #[derive(Clone, Copy)]
 struct Scan {
     width: u64,

@@ -8,11 +8,11 @@ use lib.ListN.{length, take, drop, length-append, length-drop, drop_of_length-le
 use lib.Seq.{append_snoc, drop-drop, take_all}
 use Rattle.synthdef.specs.Tables.{no_edge}
 use Rattle.synthdef.specs.declared.def.DefNode.{DefNode}
-use Rattle.synthdef.specs.declared.def.DefNodes.{DefNodes}
+use Rattle.synthdef.specs.Tables.{DefNodes}
 use Rattle.synthdef.specs.declared.def.DefEdge.{DefEdge}
-use Rattle.synthdef.specs.declared.def.DefEdges.{DefEdges}
+use Rattle.synthdef.specs.Tables.{DefEdges}
 use Rattle.synthdef.specs.declared.def.Param.{Param}
-use Rattle.synthdef.specs.declared.def.Params.{Params}
+use Rattle.synthdef.specs.Tables.{Params}
 use Rattle.def_book.specs.Bytes.{Row, node, edge, param, long}
 use Rattle.def_book.specs.Rows.{row_at, follow, rows_after, rows, size, more, gather, as_node, as_edge, as_param, nodes_of, edges_of, params_of}
 use Rattle.def_book.specs.Read.{blank_node, blank_param, node_table, edge_table, param_table}

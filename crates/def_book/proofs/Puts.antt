@@ -60,9 +60,6 @@ module _ {A : Type 0} (f : A → List ℕ) (n : ℕ) (size : (x : A) → length 
       let kept : length out ≡ length out₀ = same_long put (omega (arith, taken, next, mul-suc n i)) in
       omega (arith, kept, put.long, taken, next, mul-suc n i)
 
-  pub all_put : length rows ≤ i → Put (joined (map f rows)) out₀ out at
-  all_put h = same_text (ap (λ l. joined (map f l)) (take_all i rows h)) put
-
 pub joined_append : (a b : List (List ℕ)) → joined (a ++ b) ≡ joined a ++ joined b
 unfolding joined
 joined_append [] b = refl

@@ -1,11 +1,11 @@
 -- What the walk over a book's rows gathers.
 use Rattle.std.specs.Prelude.{◌+◌, List, set}
 use Rattle.synthdef.specs.declared.def.DefNode.{DefNode}
-use Rattle.synthdef.specs.declared.def.DefNodes.{DefNodes}
+use Rattle.synthdef.specs.Tables.{DefNodes}
 use Rattle.synthdef.specs.declared.def.DefEdge.{DefEdge}
-use Rattle.synthdef.specs.declared.def.DefEdges.{DefEdges}
+use Rattle.synthdef.specs.Tables.{DefEdges}
 use Rattle.synthdef.specs.declared.def.Param.{Param}
-use Rattle.synthdef.specs.declared.def.Params.{Params}
+use Rattle.synthdef.specs.Tables.{Params}
 use Rattle.def_book.specs.Bytes.{Row}
 use Rattle.def_book.specs.Rows.{size, nodes_of, edges_of, params_of}
 use Rattle.def_book.specs.Read.{node_table, edge_table, param_table}

@@ -6,11 +6,11 @@ use Rattle.node.specs.declared.name.Name.{Name}
 use Rattle.synthdef.specs.Limits.{allowed}
 use Rattle.synthdef.specs.Tables.{node_rows, edge_rows, param_rows, no_edge, bare_node}
 use Rattle.synthdef.specs.declared.def.DefNode.{DefNode}
-use Rattle.synthdef.specs.declared.def.DefNodes.{DefNodes}
+use Rattle.synthdef.specs.Tables.{DefNodes}
 use Rattle.synthdef.specs.declared.def.DefEdge.{DefEdge}
-use Rattle.synthdef.specs.declared.def.DefEdges.{DefEdges}
+use Rattle.synthdef.specs.Tables.{DefEdges}
 use Rattle.synthdef.specs.declared.def.Param.{Param}
-use Rattle.synthdef.specs.declared.def.Params.{Params}
+use Rattle.synthdef.specs.Tables.{Params}
 use Rattle.synthdef.specs.declared.def.SynthDef.{SynthDef}
 use Rattle.def_book.specs.Held.{held}
 use Rattle.def_book.specs.Bytes.{Row}

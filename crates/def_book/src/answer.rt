@@ -4,21 +4,23 @@ ghost use Rattle.def_book.specs.Write.{wrote_number, wrote_of};
 
 use synthdef::def::SynthDef;
 
-// Why a book gives no definition: 18 with the position in the book of what is malformed, or 9.
+// Why a book gives no definition: what stands at this position in the book is malformed, or what it holds is not within the limits of a
+// definition.
 #[derive(Clone, Copy)]
 pub enum ReadError {
     Malformed(usize),
     Limits,
 }
 
-// Why a definition is not written: 9 or 19.
+// Why a definition is not written: it is not within the limits, or the buffer is too short. The numbers are those of the refusals, since a
+// host in C holds no enum.
 #[derive(Clone, Copy)]
 pub enum WriteError {
-    Limits,
-    ShortBuffer,
+    Limits = 9,
+    ShortBuffer = 19,
 }
 
-// The number of a reading's refusal, 0 where there is none.
+// The number of a reading's refusal, 0 where there is none. By cases, and not beside them as in `WriteError`: one of them holds a position.
 pub fn read_number(read: &Result<SynthDef, ReadError>) -> u8
     ensures { result ≡ read_number (read_of read.now) }
 {
@@ -35,7 +37,6 @@ pub fn write_number(written: Result<usize, WriteError>) -> u8
 {
     match written {
         Ok(_) => 0,
-        Err(WriteError::Limits) => 9,
-        Err(WriteError::ShortBuffer) => 19,
+        Err(why) => why as u8,
     }
 }

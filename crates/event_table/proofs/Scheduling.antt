@@ -1,26 +1,27 @@
--- The two ways through scheduling: the queue has no place for the event, or takes it.
-use Prim.Native.Nat.{ℕ, suc, zero, ◌+◌, ◌≤◌, ◌<◌, min}
+-- Scheduling: the queue has no place for the event, or takes it.
+use Prim.Native.Nat.{ℕ, suc, zero, ◌+◌, ◌/◌, ◌≤◌, ◌<◌, min}
 use native.Mathlib.Omega.{arith}
-use mathlib.Core.Path.{◌≡◌, refl, sym, ap, ◌∙◌}
+use mathlib.Core.Path.{◌≡◌, refl, sym, ap, subst, ◌∙◌}
 use mathlib.Core.List.{List, [], ◌∷◌}
-use mathlib.Core.Bool.{Bool, true, false, ◌&&◌, not, true≢false, cond}
-use Rattle.std.specs.Prelude.{None, Some, filter, Err, Ok}
+use mathlib.Core.Bool.{Bool, true, false, not, true≢false, cond}
+use Rattle.std.specs.Prelude.{None, Some, filter, Err, Ok, position}
 use lib.Dec.{leb}
 use lib.ListN.{length, take, length-take}
 use lib.Seq.{take_all}
-use borrow.Author.Tests.{leb-true, leb-false, le-leb, lt-leb}
+use borrow.Author.Tests.{lt-leb}
 use Rattle.lists.proofs.Filter.{length_filter}
 use Rattle.node.specs.declared.refusal.Refusal.TheVariants.{TableFull}
-use Rattle.scheduler.specs.Replace.{replaces, thinned}
+use Rattle.scheduler.specs.Replace.{thinned}
 use Rattle.scheduler.specs.Queue.{full, replacing}
 use Rattle.scheduler.specs.declared.event.Event.{Event}
-use Rattle.words.specs.Place.{place_of}
-use Rattle.words.proofs.Place.{place_keep}
-use Rattle.event_table.specs.Rows.{events_in}
+use Rattle.words.specs.Place.{place_of, Holds}
+use Rattle.words.proofs.Place.{place_keep, holds_count}
+use Rattle.event_table.specs.Rows.{event_of, events_in}
 use Rattle.event_table.specs.Queue.{Queued}
-use Rattle.event_table.proofs.Room.{room}
+use Rattle.event_table.proofs.Room.{room, full_is}
+use Rattle.event_table.proofs.Search.{at_place, no_place}
 
--- ---- whether there is a place, by the row of the first event that is replaced
+-- ---- how many are left, by the row of the first event that is replaced
 module _ {A : Type 0} (q : A → Bool) where
   -- one that passes is not left
   fewer : (l : List A) → place_of q l < length l → length (filter (λ x. not (q x)) l) < length l
@@ -39,37 +40,39 @@ module _ {A : Type 0} (q : A → Bool) where
       let same : take (place_of q l) l ≡ l = take_all (place_of q l) l h in
       sym (ap (filter (λ x. not (q x))) same) ∙ k ∙ same
 
+-- ---- what an event's key leaves of the queue
+module _ (q : Event → Bool) (count : ℕ) (old : List ℕ) (long : length old ≡ 3840) where
+  abbrev queue : List Event
+  queue = take count (events_in old)
+
+  many : length queue ≡ min count 256
+  many = length-take count (events_in old) ∙ ap (min count) (room old long)
+
+  -- one goes, and there is a place
+  pub place_freed : (p : ℕ) → position q (take count (events_in old)) ≡ Some p → full (filter (λ f. not (q f)) (take count (events_in old))) ≡ false
+  place_freed p e =
+      let at = at_place q queue p e in
+      let low : place_of q queue < length queue = omega (arith, at.0, at.1) in
+      lt-leb 256 _ (omega (arith, many, fewer q queue low))
+
+  -- none goes
+  pub none_goes : position q (take count (events_in old)) ≡ None → filter (λ f. not (q f)) (take count (events_in old)) ≡ take count (events_in old)
+  none_goes e = all_left q queue (no_place q queue e)
+
+  pub none_full : position q (take count (events_in old)) ≡ None → full (filter (λ f. not (q f)) (take count (events_in old))) ≡ leb 256 count
+  none_full e = ap full (none_goes e) ∙ full_is old long count
+
+  pub none_held : count < 256 → position q (take count (events_in old)) ≡ None → Holds (events_in old) count (filter (λ f. not (q f)) (take count (events_in old)))
+  none_held h e =
+      let same : count ≡ min count (length old / 15) = omega (arith, ap (λ k. k / 15) long) in
+      subst (Holds (events_in old) count) (sym (none_goes e)) (holds_count 15 event_of old count count same)
+
+-- ---- the two ways through scheduling
 module _ (count : ℕ) (e : Event) (old : List ℕ) where
   l : List Event
   l = take count (events_in old)
 
-  -- the queue takes none: it has 256 events, and none of them is replaced
-  pub takes_none : length old ≡ 3840 → (p : ℕ) → p ≡ place_of (replaces e) (take count (events_in old)) → (leb 256 count && leb 256 p) ≡ full (thinned e (take count (events_in old)))
-  unfolding l
-  takes_none long p at = go (leb 256 count) refl (leb 256 p) refl
-    where
-      many : length l ≡ min count 256
-      many = length-take count (events_in old) ∙ ap (min count) (room old long)
-
-      left : length (thinned e l) ≤ length l
-      left = length_filter (λ f. not (replaces e f)) l
-
-      go : (a : Bool) → leb 256 count ≡ a → (b : Bool) → leb 256 p ≡ b → (a && b) ≡ full (thinned e l)
-      go false x b y = let k : length (thinned e l) < 256 = omega (arith, many, left, leb-false 256 count x) in sym (lt-leb 256 _ k)
-      go true x true y =
-          let k : length l ≤ place_of (replaces e) l = omega (arith, many, leb-true 256 p y) in
-          let m : 256 ≤ length (thinned e l) = omega (arith, many, leb-true 256 count x, ap length (all_left (replaces e) l k)) in
-          sym (le-leb 256 _ m)
-      go true x false y =
-          let k : place_of (replaces e) l < length l = omega (arith, many, leb-true 256 count x, leb-false 256 p y) in
-          let m : length (thinned e l) < 256 = omega (arith, many, fewer (replaces e) l k) in
-          sym (lt-leb 256 _ m)
-
-  -- what is left has a place
-  pub left_less : (n : ℕ) → full (thinned e (take count (events_in old))) ≡ false → n ≡ length (thinned e (take count (events_in old))) → n < 256
-  left_less n h many = omega (arith, many, leb-false 256 (length (thinned e (take count (events_in old)))) h)
-
-  pub queue_full : full (thinned e (take count (events_in old))) ≡ true → Queued count e old (record { count = count; answer = Err TableFull }) old
+  pub queue_full : full (thinned e (take count (events_in old))) ≡ true → Queued count e old (Err TableFull) old
   unfolding l
   queue_full h =
       record {
@@ -81,7 +84,7 @@ module _ (count : ℕ) (e : Event) (old : List ℕ) where
       }
 
   pub queue_taken : (new : List ℕ) (n : ℕ) → full (thinned e (take count (events_in old))) ≡ false → n ≡ length (thinned e (take count (events_in old)))
-      → take (n + 1) (events_in new) ≡ replacing e (take count (events_in old)) → Queued count e old (record { count = n + 1; answer = Ok tt }) new
+      → take (n + 1) (events_in new) ≡ replacing e (take count (events_in old)) → Queued count e old (Ok (n + 1)) new
   unfolding l
   queue_taken new n h many p =
       record {

@@ -1,23 +1,17 @@
 // The queue of pending events: the first `count` rows of its table, by time, equal times in the order in which they came. A
 // count above the room is the room. What a deadline takes is read row by row first (`is_due`, `event_at`), and removed then.
-ghost use Rattle.std.specs.Prelude.{◌≡◌, List, [], ◌&&◌, ℕ, ◌+◌, ◌<◌, leb, length, take, get_or};
+ghost use Rattle.std.specs.Prelude.{◌≡◌, List, [], ℕ, ◌+◌, ◌<◌, length, take, get_or};
 ghost use Rattle.scheduler.specs.Queue.{Place, inserted, full, due, taken_before, left_after};
 ghost use Rattle.words.specs.Place.{Holds};
 ghost use Rattle.event_table.specs.Rows.{event_of, events_in};
-ghost use Rattle.event_table.specs.Queue.{Queued};
+ghost use Rattle.event_table.specs.Key.{thinned_by};
+ghost use Rattle.event_table.specs.Queue.{Thinned, Queued};
 
-use crate::replace::{key_of, param_words, remove_replaced, row_replaced};
+use crate::replace::{Key, key_of, remove_replaced, row_replaced};
 use crate::row::{EventTable, put_event, time_at};
 use node::refusal::Refusal;
 use scheduler::event::Event;
 use words::table::{move_row, open_row};
-
-// What scheduling answers, and how many events there are then.
-#[derive(Clone, Copy)]
-pub struct Scheduled {
-    pub count: usize,
-    pub answer: Result<(), Refusal>,
-}
 
 // Whether the event in row `i` is due: its time is strictly below the deadline.
 pub fn is_due(t: &[u32], i: usize, deadline: u64) -> bool
@@ -26,17 +20,13 @@ pub fn is_due(t: &[u32], i: usize, deadline: u64) -> bool
     time_at(t, i) < deadline
 }
 
-// The place at which an event belongs among the first `n`: before the first that is later.
+// The place at which an event belongs among the first `n`: before the first that is later. Any words are a queue, so it need not be ordered,
+// and a bisection would not find the first.
 fn place(t: &[u32], n: usize, e: Event) -> usize
     requires { (length t.now ≡ 3840) × (n < 256) }
     ensures { Place (take n (events_in t.now)) e result }
 {
-    for i in 0..n {
-        if e.time < time_at(t, i) {
-            return i;
-        }
-    }
-    n
+    (0..n).find(|i| e.time < time_at(t, *i)).unwrap_or(n)
 }
 
 // The event `e` at its place among the first `n`: the rows from there on move up by one.
@@ -49,36 +39,33 @@ fn insert(t: &mut [u32], n: usize, e: Event)
     put_event(t, p, e);
 }
 
-// Whether a queue of `count` events takes none, where `p` is the row of the first that is replaced: a place that is freed counts.
-fn takes_none(count: usize, p: usize) -> bool
-    ensures { result ≡ (leb 256 count && leb 256 p) }
+// Removes the events that are replaced: how many are left. A queue that has no place then, where none was removed, is refused.
+fn make_place(t: &mut EventTable, count: usize, k: &Key) -> Result<usize, Refusal>
+    ensures { Thinned (thinned_by k.now (take count (events_in t.old))) t.old result t.new }
 {
-    256 <= count && 256 <= p
+    match row_replaced(t, count, k) {
+        Some(p) => Ok(remove_replaced(t, count, p, k)),
+        None => {
+            if count < 256 {
+                Ok(count)
+            } else {
+                Err(Refusal::TableFull)
+            }
+        }
+    }
 }
 
-// Schedules an event: those that it replaces go, and it is taken; or it is refused where the queue has no place for it, and then words
-// and count are the very ones.
-pub fn schedule(t: &mut EventTable, count: usize, e: Event) -> Scheduled
+// Schedules an event: those that it replaces go, and it is taken, and the answer is how many events there are then; or it is refused where
+// the queue has no place for it, and then the words are the very ones.
+pub fn schedule(t: &mut EventTable, count: usize, e: Event) -> Result<usize, Refusal>
     ensures { Queued count e t.old result t.new }
 {
-    let k = key_of(e);
-    let ws = param_words(e);
-    let p = row_replaced(t, count, k, &ws);
-    if takes_none(count, p) {
-        return Scheduled {
-            count,
-            answer: Err(Refusal::TableFull),
-        };
-    }
-    let left = remove_replaced(t, count, p, k, &ws);
+    let left = make_place(t, count, &key_of(e))?;
     insert(t, left, e);
-    Scheduled {
-        count: left + 1,
-        answer: Ok(()),
-    }
+    Ok(left + 1)
 }
 
-// How many of the first `count` events are due.
+// How many of the first `count` events are due. By a for: of filter and count the contract did not close (tried three times).
 pub fn count_due(t: &[u32], count: usize, deadline: u64) -> usize
     ensures { result ≡ length (taken_before deadline (take count (events_in t.now))) }
 {
@@ -99,11 +86,10 @@ pub fn remove_due(t: &mut [u32], count: usize, deadline: u64) -> usize
     let n = count.min(t.len() / 15);
     let mut w = 0;
     for i in 0..n {
-        if is_due(t, i, deadline) {
-            continue;
+        if !is_due(t, i, deadline) {
+            move_row(t, 15, i, w);
+            w += 1;
         }
-        move_row(t, 15, i, w);
-        w += 1;
     }
     w
 }

@@ -1,15 +1,13 @@
 // Which pending events a new one replaces, and their removal from the table. What decides is the new event's time, its voice, whether it
 // orders a value or a glide, and the name of its parameter in words: a row is told by comparing words, and no name is spelled out.
-ghost use Rattle.std.specs.Prelude.{◌≡◌, ◌&&◌, [], ◌-◌, take, get_or};
+ghost use Rattle.std.specs.Prelude.{◌≡◌, ◌&&◌, [], ◌-◌, take, get_or, Some, position};
 ghost use Rattle.node.specs.Name.{same_name};
-ghost use Rattle.scheduler.specs.Event.{param_of};
-ghost use Rattle.scheduler.specs.Replace.{is_value, is_glide, same_sort, replaces, thinned};
-ghost use Rattle.scheduler.specs.declared.event.Event.{Event};
+ghost use Rattle.scheduler.specs.Replace.{is_value, is_glide};
 ghost use Rattle.words.specs.Fields.{name_at};
 ghost use Rattle.words.specs.Rows.{row_at};
-ghost use Rattle.words.specs.Place.{place_of, Holds};
+ghost use Rattle.words.specs.Place.{Holds};
 ghost use Rattle.event_table.specs.Rows.{action_at, event_of, events_in};
-ghost use Rattle.event_table.specs.Key.{KeyOf, same_four};
+ghost use Rattle.event_table.specs.Key.{KeyOf, same_four, same_order, replaces_by, thinned_by};
 
 use crate::row::time_at;
 use node::name::{name_length, same_name};
@@ -18,7 +16,8 @@ use scheduler::event::{Event, gate_name, param_order};
 use words::fields::{long_at, name_words};
 use words::table::{move_row, word_at};
 
-// What of a new event decides whom it replaces, beside its parameter's name in words. `gate` says that the parameter is `gate`.
+// What of a new event decides whom it replaces. `gate` says that the parameter is `gate`, and `name` is its name in words. Flags and no enum:
+// they are the tests that `replaces` makes, `value` and `glide` of the action, `gate` of the name.
 #[derive(Clone, Copy)]
 pub(crate) struct Key {
     time: u64,
@@ -26,6 +25,7 @@ pub(crate) struct Key {
     value: bool,
     glide: bool,
     gate: bool,
+    name: [u32; 5],
 }
 
 fn is_value(a: EventAction) -> bool
@@ -43,21 +43,18 @@ fn is_glide(a: EventAction) -> bool
 pub(crate) fn key_of(e: Event) -> Key
     ensures { KeyOf e result }
 {
+    let name = param_order(e).name;
     Key {
         time: e.time,
         voice: e.voice.0,
         value: is_value(e.action),
         glide: is_glide(e.action),
-        gate: same_name(param_order(e).name, gate_name()),
+        gate: same_name(name, gate_name()),
+        name: name_words(name),
     }
 }
 
-// The name of the parameter that an event is for, in words.
-pub(crate) fn param_words(e: Event) -> [u32; 5]
-    ensures { name_at result 0 ≡ param_of e.action e.name }
-{
-    name_words(param_order(e).name)
-}
+// The four tests below compare a row's words with a key's, and build no record: an equality of records would read both names first.
 
 // Whether the first `n` bytes of two words are the same; a word has four.
 fn same_four(x: u32, y: u32, n: usize) -> bool
@@ -92,49 +89,43 @@ fn same_called(t: &[u32], i: usize, ws: &[u32; 5]) -> bool
 }
 
 // Whether the event in row `i` is of the key's sort and for its parameter.
-fn same_order(t: &[u32], i: usize, k: Key, ws: &[u32; 5]) -> bool
-    ensures { (e : Event) → KeyOf e k → name_at ws.now 0 ≡ param_of e.action e.name → result ≡ (same_sort e.action (action_at (row_at 15 i t.now) 9) && same_name (param_of e.action e.name) (param_of (action_at (row_at 15 i t.now) 9) (name_at (row_at 15 i t.now) 4))) }
+fn same_order(t: &[u32], i: usize, k: &Key) -> bool
+    ensures { result ≡ same_order k.now (action_at (row_at 15 i t.now) 9) (name_at (row_at 15 i t.now) 4) }
 {
     match word_at(t, 15, i, 9) {
-        1 => k.value && same_called(t, i, ws),
-        2 => k.glide && same_called(t, i, ws),
+        1 => k.value && same_called(t, i, &k.name),
+        2 => k.glide && same_called(t, i, &k.name),
         3 => k.value && k.gate,
         _ => false,
     }
 }
 
 // Whether the event in row `i` is one that the key's replaces.
-fn is_replaced(t: &[u32], i: usize, k: Key, ws: &[u32; 5]) -> bool
-    ensures { (e : Event) → KeyOf e k → name_at ws.now 0 ≡ param_of e.action e.name → result ≡ replaces e (get_or (events_in t.now) i (event_of [])) }
+fn is_replaced(t: &[u32], i: usize, k: &Key) -> bool
+    ensures { result ≡ replaces_by k.now (get_or (events_in t.now) i (event_of [])) }
 {
-    time_at(t, i) == k.time && long_at(t, 15, i, 2) == k.voice && same_order(t, i, k, ws)
+    time_at(t, i) == k.time && long_at(t, 15, i, 2) == k.voice && same_order(t, i, k)
 }
 
-// The row of the first event among the first `count` that is replaced; behind them where none is.
-pub(crate) fn row_replaced(t: &[u32], count: usize, k: Key, ws: &[u32; 5]) -> usize
-    ensures { (e : Event) → KeyOf e k → name_at ws.now 0 ≡ param_of e.action e.name → result ≡ place_of (replaces e) (take count (events_in t.now)) }
+// The row of the first event among the first `count` that is replaced, or none.
+pub(crate) fn row_replaced(t: &[u32], count: usize, k: &Key) -> Option<usize>
+    ensures { result ≡ position (replaces_by k.now) (take count (events_in t.now)) }
 {
-    let n = count.min(t.len() / 15);
-    for i in 0..n {
-        if is_replaced(t, i, k, ws) {
-            return i;
-        }
-    }
-    n
+    (0..count.min(t.len() / 15)).find(|i| is_replaced(t, *i, k))
 }
 
-// If `p` is the row of the first that is replaced: removes those that are, in one pass that closes the gaps. How many are left.
-pub(crate) fn remove_replaced(t: &mut [u32], count: usize, p: usize, k: Key, ws: &[u32; 5]) -> usize
-    ensures { (e : Event) → KeyOf e k → name_at ws.now 0 ≡ param_of e.action e.name → p ≡ place_of (replaces e) (take count (events_in t.old)) → Holds (events_in t.new) result (thinned e (take count (events_in t.old))) }
+// Removes the events that are replaced, of which row `p` is the first, in one pass that closes the gaps: how many are left.
+pub(crate) fn remove_replaced(t: &mut [u32], count: usize, p: usize, k: &Key) -> usize
+    requires { position (replaces_by k.now) (take count (events_in t.old)) ≡ Some p }
+    ensures { Holds (events_in t.new) result (thinned_by k.now (take count (events_in t.old))) }
 {
     let n = count.min(t.len() / 15);
     let mut w = p;
     for i in p..n {
-        if is_replaced(t, i, k, ws) {
-            continue;
+        if !is_replaced(t, i, k) {
+            move_row(t, 15, i, w);
+            w += 1;
         }
-        move_row(t, 15, i, w);
-        w += 1;
     }
     w
 }

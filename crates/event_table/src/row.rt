@@ -33,6 +33,7 @@ fn action_words(a: EventAction) -> [u32; 6]
     }
 }
 
+// By its six words, of which a glide takes all but the first, as `words::fields` has them.
 fn action_from(which: u32, x: u32, seconds: u32, shape: u32, e: u32, space: u32) -> EventAction
     ensures { result ≡ action_from which x seconds shape e space }
 {
@@ -44,7 +45,7 @@ fn action_from(which: u32, x: u32, seconds: u32, shape: u32, e: u32, space: u32)
     }
 }
 
-// The words of an event.
+// The words of an event, one by one: copies of parts into an array say no more.
 fn event_words(e: Event) -> [u32; 15]
     ensures { Stands e result }
 {

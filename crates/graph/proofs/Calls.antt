@@ -1,28 +1,20 @@
 -- The laws of the refusals, and when two graphs are the same.
 use Prim.Native.Nat.{ℕ, ◌≤◌, ◌<◌}
 use native.Mathlib.Omega.{arith}
-use mathlib.Core.Path.{◌≡◌, refl, sym, ap, ◌∙◌}
-use Rattle.std.specs.Prelude.{Option, None, Some, Err, Ok}
+use mathlib.Core.Path.{◌≡◌, refl, ap, ◌∙◌}
+use Rattle.std.specs.Prelude.{Option, None, Some, Ok}
 use mathlib.Core.List.{List}
-use mathlib.Core.Bool.{Bool, true, false, ◌||◌}
-use lib.Dec.{leb}
+use mathlib.Core.Bool.{Bool, true, false}
 use lib.ListN.{length}
 use borrow.Author.Tests.{le-leb, lt-leb}
-use Rattle.lists.proofs.Member.{none_some}
 use Rattle.node.specs.declared.record.NodeId.{NodeId}
 use Rattle.node.specs.declared.record.Node.{Node}
 use Rattle.node.specs.declared.record.Edge.{Edge}
 use Rattle.node.specs.declared.refusal.Refusal.{Refusal}
-use Rattle.node.specs.declared.refusal.Refusal.TheVariants.{UnknownNode, VoiceNode, PortOrKind, TableFull, IdsUsedUp}
+use Rattle.node.specs.declared.refusal.Refusal.TheVariants.{TableFull, IdsUsedUp}
 use Rattle.graph.specs.View.{GraphView}
-use Rattle.graph.specs.Node.{of_voice, ports_of}
-use Rattle.graph.specs.Refuse.{when, dead, wire_test, append_refusal}
+use Rattle.graph.specs.Refuse.{when, append_refusal}
 use Rattle.graph.specs.Tables.{answer_of}
-
--- the answer says which of the two it is
-pub answer_refused : (o : Option Refusal) (x : Refusal) → answer_of o ≡ Err x → o ≡ Some x
-answer_refused None x e = absurd (let z : ◌≡◌ {A = ℕ} 0 1 = cc in omega arith)
-answer_refused (Some y) x e = let s : y ≡ x = cc in ap Some s
 
 pub answer_done : (o : Option Refusal) → answer_of o ≡ Ok tt → o ≡ None
 answer_done None e = refl
@@ -44,17 +36,6 @@ module _ (v : GraphView) where
 
   pub append_fine : length v.nodes < 512 → v.next < 4294967296 → append_refusal v ≡ None
   append_fine h k = when_off _ _ _ (lt-leb _ _ h) ∙ when_off _ _ _ (lt-leb _ _ k)
-
--- a place is the last test of connecting
-pub wire_room : (a b : Option Node) (p : ℕ) (full : Bool) → wire_test a b p full ≡ None → full ≡ false
-wire_room a b p false e = refl
-wire_room a b p true e = absurd (go (dead a || dead b) (of_voice a || of_voice b) (leb (ports_of b) p) e)
-  where
-    go : (x y z : Bool) → when x UnknownNode (when y VoiceNode (when z PortOrKind (Some TableFull))) ≡ None → ⊥
-    go true y z e = none_some (sym e)
-    go false true z e = none_some (sym e)
-    go false false true e = none_some (sym e)
-    go false false false e = none_some (sym e)
 
 abbrev made : List Node → List Edge → Option NodeId → Bool → List NodeId → ℕ → GraphView
 made n e s p o k = record { nodes = n; edges = e; sink = s; prepared = p; order = o; next = k }

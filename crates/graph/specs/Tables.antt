@@ -1,6 +1,5 @@
 -- What the types of the calls stand for: the sink, a row that was looked for, and the answer of a test.
-use Rattle.std.specs.Prelude.{Option, None, Some, cond, Result, Err, Ok}
-use Rattle.node.specs.declared.record.Node.{Node}
+use Rattle.std.specs.Prelude.{Option, None, Some, Result, Err, Ok}
 use Rattle.node.specs.declared.refusal.Refusal.{Refusal}
 
 -- the answer of a test

@@ -1,6 +1,6 @@
 -- A node in 22 words, and the node table that a list of words is: "a node becomes a record: kind name (up to 16 bytes), ports,
 -- required ports, whether it takes values or glides, done flag, level, last order".
-use Rattle.std.specs.Prelude.{ℕ, ◌≡◌, true, false, List, length, get_or, Option, option_map}
+use Rattle.std.specs.Prelude.{ℕ, ◌≡◌, List, length, get_or, Option, option_map}
 use Rattle.node.specs.declared.record.Node.{Node}
 use Rattle.words.specs.Rows.{rows}
 use Rattle.words.specs.Fields.{is_set, float_from, long_at, name_at, last_at}

@@ -1,3 +1,5 @@
+// An edge's row. The words are a slice and not `EdgeTable`: the library for C stores one edge in a lent record by `set_edge`, and a
+// table's length would ask of callers what no row needs.
 ghost use Rattle.std.specs.Prelude.{◌≡◌, [], get_or, set};
 ghost use Rattle.graph_rows.specs.Edge.{edge_of, edges_in};
 

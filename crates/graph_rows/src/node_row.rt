@@ -1,3 +1,6 @@
+// A node's row: its fields one by one, so that a loop reads what it tests; the whole record. A getter of any field would take the
+// field's word and say less than a name. The words are a slice and not `NodeTable`: the library for C stores one node in a lent record
+// by `put_node`, and a table's length would ask of callers what no row needs.
 ghost use Rattle.std.specs.Prelude.{◌≡◌, [], get_or, set};
 ghost use Rattle.node.specs.Node.{with_noise};
 ghost use Rattle.graph_rows.specs.Node.{node_of, nodes_in, Stands, brief};
@@ -21,7 +24,7 @@ pub struct Brief {
     pub ports: u32,
 }
 
-// The words of a node.
+// The words of a node. Word by word, since the list is the layout: parts put by their places would say it twice.
 pub fn node_words(n: Node) -> [u32; 22]
     ensures { Stands n result }
 {

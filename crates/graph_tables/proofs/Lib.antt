@@ -1,6 +1,8 @@
 pub mod Backwards
 pub mod Brief
+pub mod Changed
 pub mod Edges
 pub mod FedPorts
 pub mod Marks
 pub mod Room
+pub mod Searched

@@ -2,7 +2,7 @@ ghost use Rattle.std.specs.Prelude.{◌≡◌, take};
 ghost use Rattle.graph.specs.Node.{node_at, noise_of, next_noise, noise_raised};
 ghost use Rattle.graph_rows.specs.Node.{nodes_in};
 
-use crate::lookup::{node_count, row_of};
+use crate::lookup::row_of;
 use graph_rows::node_row::{NodeTable, id_at, noise_at, put_noise};
 use node::record::NodeId;
 
@@ -10,11 +10,7 @@ use node::record::NodeId;
 pub fn noise_of(nodes: &NodeTable, count: usize, bus: NodeId) -> u32
     ensures { result ≡ noise_of (node_at (take count (nodes_in nodes.now)) bus) }
 {
-    let i = row_of(nodes, count, bus);
-    if i < node_count(nodes, count) {
-        return noise_at(nodes, i);
-    }
-    0
+    row_of(nodes, count, bus).map_or(0, |i| noise_at(nodes, i))
 }
 
 // The sequence wraps after 2^32 - 1.
@@ -29,8 +25,7 @@ fn next_noise(k: u32) -> u32
 pub fn raise_noise(nodes: &mut NodeTable, count: usize, bus: NodeId)
     ensures { take count (nodes_in nodes.new) ≡ noise_raised bus (take count (nodes_in nodes.old)) }
 {
-    let m = count.min(nodes.len() / 22);
-    for i in 0..m {
+    for i in 0..count.min(nodes.len() / 22) {
         if id_at(nodes, i) == bus {
             let k = next_noise(noise_at(nodes, i));
             put_noise(nodes, i, k);

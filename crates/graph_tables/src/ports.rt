@@ -1,4 +1,4 @@
-ghost use Rattle.std.specs.Prelude.{◌≡◌, List, [], ◌≤◌, take, get_or, find};
+ghost use Rattle.std.specs.Prelude.{◌≡◌, List, [], ◌≤◌, take, get_or, find, option_map};
 ghost use Rattle.node.specs.declared.record.NodeId.{NodeId};
 ghost use Rattle.node.specs.declared.record.Edge.{Edge};
 ghost use Rattle.edges.specs.Ports.{free_port, feeds, sources};
@@ -43,7 +43,7 @@ fn port_at(t: &[u32], i: usize) -> u32
 }
 
 // Which of the ports 0 to 63 of `node` an edge feeds, a flag for each port: one walk over the edges. Most edges end elsewhere:
-// of these one word is read. The ports above 63 share the last flag, which nobody reads.
+// of these one word is read. The ports above 63 share the last flag, which nobody reads. From the last edge on, as the definition folds them.
 fn fed_ports(edges: &EdgeTable, count: usize, node: NodeId) -> [bool; 65]
     ensures { FedPorts result (take count (edges_in edges.now)) node }
 {
@@ -57,7 +57,8 @@ fn fed_ports(edges: &EdgeTable, count: usize, node: NodeId) -> [bool; 65]
     fed
 }
 
-// The first of the ports below `ports` that nothing feeds, by the flags of the fed ports.
+// The first of the ports below `ports` that nothing feeds, by the flags of the fed ports. By a for: that a flag is there follows from the range,
+// and a closure would have to ask for it.
 fn first_unfed(fed: [bool; 65], ports: u32) -> Option<u32>
     requires { ports ≤ 64 }
     ensures { (es : List Edge) (n : NodeId) → FedPorts fed es n → result ≡ free_port es n ports }
@@ -74,12 +75,7 @@ fn first_unfed(fed: [bool; 65], ports: u32) -> Option<u32>
 fn lowest_port(edges: &EdgeTable, count: usize, node: NodeId, ports: u32) -> Option<u32>
     ensures { result ≡ free_port (take count (edges_in edges.now)) node ports }
 {
-    for p in 0..ports {
-        if !is_taken(edges, count, node, p) {
-            return Some(p);
-        }
-    }
-    None
+    (0..ports).find(|p| !is_taken(edges, count, node, *p))
 }
 
 // The lowest port of `node` below `ports` without an edge, in one walk over the edges. No node that a call makes has more
@@ -100,15 +96,16 @@ fn leads(t: &[u32], i: usize, from: u64, to: NodeId) -> bool
     u64::from(word_at(t, 3, i, 0)) == from && to_at(t, i) == to
 }
 
+// The row of the first edge from the node of the id `from` to `to`, or none.
+fn feeding_row(edges: &EdgeTable, count: usize, from: u64, to: NodeId) -> Option<usize>
+    ensures { option_map (λ i. get_or (edges_in edges.now) i (edge_of [])) result ≡ find (feeds (node from) to) (take count (edges_in edges.now)) }
+{
+    (0..count.min(edges.len() / 3)).find(|i| leads(edges, *i, from, to))
+}
+
 // The first edge from the node of the id `from` to `to`. An id past the last is no node's.
 pub fn feeding_edge(edges: &EdgeTable, count: usize, from: u64, to: NodeId) -> Option<Edge>
     ensures { result ≡ find (feeds (node from) to) (take count (edges_in edges.now)) }
 {
-    let n = count.min(edges.len() / 3);
-    for i in 0..n {
-        if leads(edges, i, from, to) {
-            return Some(edge_at(edges, i));
-        }
-    }
-    None
+    feeding_row(edges, count, from, to).map(|i| edge_at(edges, i))
 }

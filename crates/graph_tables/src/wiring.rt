@@ -21,7 +21,8 @@ pub fn ends_at(t: &[u32], i: usize, node: NodeId, port: u32) -> bool
     word_at(t, 3, i, 1) == node.0 && word_at(t, 3, i, 2) == port
 }
 
-// The row of the first edge at the port `port` of `node`; behind the edges where there is none.
+// The row of the first edge at the port `port` of `node`; behind the edges where there is none, and no Option: it is where the walk of
+// `drop_port` begins, or is over. By a for: what `find` over a range ensures is said of the numbers, and its end would have to be carried to the rows.
 fn row_of(edges: &EdgeTable, count: usize, node: NodeId, port: u32) -> usize
     ensures { result ≡ place_of (ends_at node port) (take count (edges_in edges.now)) }
 {
@@ -56,11 +57,10 @@ pub fn drop_port(edges: &mut EdgeTable, count: usize, node: NodeId, port: u32) -
     let first = row_of(edges, count, node, port);
     let mut k = first;
     for i in first..n {
-        if ends_at(edges, i, node, port) {
-            continue;
+        if !ends_at(edges, i, node, port) {
+            move_row(edges, 3, i, k);
+            k += 1;
         }
-        move_row(edges, 3, i, k);
-        k += 1;
     }
     k
 }

@@ -27,21 +27,21 @@ use Rattle.prepare.proofs.Rises.{live_few}
 use Rattle.order_table.specs.Prepares.{ids_in, Prepares, Lacks}
 
 module _ (nodes : List Node) (edges : List Edge) (old : List ℕ) where
-  pub refused_13 : lacking nodes edges ≡ true → Prepares nodes edges old old (record { answer = Err RequiredPort; count = 0 })
+  pub refused_13 : lacking nodes edges ≡ true → Prepares nodes edges old old (Err RequiredPort)
   unfolding prepare
   refused_13 h = record { answer = rw h; order = rw h (record { is = refl; many = refl }); kept = λ x e. refl }
 
-  pub refused_14 : lacking nodes edges ≡ false → whole (live_ids nodes) (map arc_of edges) ≡ false → Prepares nodes edges old old (record { answer = Err Cycle; count = 0 })
+  pub refused_14 : lacking nodes edges ≡ false → whole (live_ids nodes) (map arc_of edges) ≡ false → Prepares nodes edges old old (Err Cycle)
   unfolding prepare
   refused_14 h w = record { answer = rw (h, w); order = rw (h, w) (record { is = refl; many = refl }); kept = λ x e. refl }
 
   pub accepted : lacking nodes edges ≡ false → whole (live_ids nodes) (map arc_of edges) ≡ true → (new : List ℕ) (k : ℕ) → Holds (ids_in new) k (processing_order nodes edges)
-      → Prepares nodes edges old new (record { answer = Ok tt; count = k })
+      → Prepares nodes edges old new (Ok k)
   unfolding prepare
   accepted h w new k held = record {
     answer = rw (h, w);
     order = rw (h, w) held;
-    kept = λ x e. let z : ◌≡◌ {A = ℕ} 0 1 = cc in absurd (omega arith);
+    kept = λ x e. absurd (cc);
   }
 
 -- ---- the ids that were written

@@ -1,69 +1,17 @@
--- The laws of masks: a bit that is set, and the flags that the masks of all rows are.
+-- The laws of masks: the flags that the masks of all rows are.
 use Prim.Native.Nat.{ℕ, zero, suc, ◌+◌, ◌*◌, ◌/◌, ◌%◌, ◌^◌, ◌≤◌, ◌<◌, min}
 use native.Mathlib.Omega.{arith}
-use native.Mathlib.Nat.{add-zero, mul_comm, pow-suc, zero-div, div-one, div-div-eq-div-mul}
+use native.Mathlib.Nat.{add-zero, pow-suc, zero-div, div-div-eq-div-mul}
 use mathlib.Core.Path.{◌≡◌, refl, sym, ap, ◌∙◌}
 use mathlib.Core.List.{List, [], ◌∷◌, ◌++◌, map}
 use mathlib.Core.Bool.{Bool, true, false, not, ◌&&◌, ◌||◌}
 use lib.Dec.{eqb}
 use lib.ListN.{length, get_or, set, replicate, length-append, length-map}
 use lib.Seq.{get_or-append-add, set-append_left}
-use borrow.Author.Tests.{eq-eqb}
 use Rattle.rank.specs.Order.{count_up, upto}
 use Rattle.prepare.specs.Required.{any, bit}
 use Rattle.prepare.specs.Parts.{ports_lack}
 use Rattle.order_table.specs.Masks.{ports_in, mask_lacks, WithPort}
-
--- ---- one mask
--- the bits from 1 on are those of the half
-halved : (x q : ℕ) → x / 2 ^ suc q ≡ x / 2 / 2 ^ q
-halved x q = ap (λ k. x / k) (pow-suc 2 q ∙ mul_comm (2 ^ q) 2) ∙ sym (div-div-eq-div-mul x 2 (2 ^ q))
-
-bit_half : (x q : ℕ) → bit x (suc q) ≡ bit (x / 2) q
-bit_half x q = ap (λ k. eqb (k % 2) 1) (halved x q)
-
-module _ (p x : ℕ) where
-  -- the half of what has one bit more
-  half_more : (x + 2 ^ suc p) / 2 ≡ x / 2 + 2 ^ p
-  half_more = omega (arith, pow-suc 2 p)
-
-  half_off : x / 2 ^ suc p % 2 ≡ 0 → x / 2 / 2 ^ p % 2 ≡ 0
-  half_off z = ap (λ k. k % 2) (sym (halved x p)) ∙ z
-
-more_on : (p x : ℕ) → x / 2 ^ p % 2 ≡ 0 → bit (x + 2 ^ p) p ≡ true
-more_on zero x z =
-    let even : x % 2 ≡ 0 = ap (λ k. k % 2) (sym (div-one x)) ∙ z in
-    eq-eqb ((x + 1) / 1 % 2) 1 (ap (λ k. k % 2) (div-one (x + 1)) ∙ omega arith)
-more_on (suc p) x z = bit_half (x + 2 ^ suc p) p ∙ ap (λ k. bit k p) (half_more p x) ∙ more_on p (x / 2) (half_off p x z)
-
-more_others : (p x : ℕ) → x / 2 ^ p % 2 ≡ 0 → (q : ℕ) → (q ≡ p → ⊥) → bit (x + 2 ^ p) q ≡ bit x q
-more_others zero x z zero o = absurd (o refl)
-more_others zero x z (suc q) o =
-    let even : x % 2 ≡ 0 = ap (λ k. k % 2) (sym (div-one x)) ∙ z in
-    let same : (x + 1) / 2 ≡ x / 2 = omega arith in
-    bit_half (x + 1) q ∙ ap (λ k. bit k q) same ∙ sym (bit_half x q)
-more_others (suc p) x z zero o =
-    let same : (x + 2 ^ suc p) % 2 ≡ x % 2 = omega (arith, pow-suc 2 p) in
-    ap (λ k. eqb (k % 2) 1) (div-one (x + 2 ^ suc p)) ∙ ap (λ k. eqb k 1) same ∙ sym (ap (λ k. eqb (k % 2) 1) (div-one x))
-more_others (suc p) x z (suc q) o =
-    bit_half (x + 2 ^ suc p) q ∙ ap (λ k. bit k q) (half_more p x) ∙ more_others p (x / 2) (half_off p x z) q (λ e. o (ap suc e)) ∙ sym (bit_half x q)
-
-pub port_more : (p x : ℕ) → x / 2 ^ p % 2 ≡ 0 → WithPort x p (x + 2 ^ p)
-port_more p x z = record { on = more_on p x z; others = more_others p x z }
-
-pub port_there : (p x : ℕ) → x / 2 ^ p % 2 ≡ 1 → WithPort x p x
-port_there p x z = record { on = eq-eqb (x / 2 ^ p % 2) 1 z; others = λ q o. refl }
-
--- a bit that was not set does not carry past the last
-pub port_fits : (k p x : ℕ) → p < k → x < 2 ^ k → x / 2 ^ p % 2 ≡ 0 → x + 2 ^ p < 2 ^ k
-port_fits zero p x h b z = absurd (omega arith)
-port_fits (suc k) zero x h b z =
-    let even : x % 2 ≡ 0 = ap (λ k. k % 2) (sym (div-one x)) ∙ z in
-    omega (arith, pow-suc 2 k)
-port_fits (suc k) (suc p) x h b z =
-    let low : x / 2 < 2 ^ k = omega (arith, pow-suc 2 k) in
-    let more : x / 2 + 2 ^ p < 2 ^ k = port_fits k p (x / 2) (omega arith) low (half_off p x z) in
-    omega (arith, pow-suc 2 k, pow-suc 2 p)
 
 -- ---- the flags of one row
 -- flags of the k numbers from i on

@@ -1,12 +1,12 @@
-// The processing order and prepare, from graph.rs, on the lent tables: nodes and edges are read where they stand, and the order
+// The processing order and prepare (graph.rs of the older program: docs/CRATES.md), on the lent tables: nodes and edges are read where they stand, and the order
 // is written to a table of node ids, once nothing is refused.
 #![tactic(auto)]
 
-ghost use Rattle.std.specs.Prelude.{◌≡◌, map, ℕ, ◌≤◌, ◌<◌, ◌^◌, min, take, get_or};
+ghost use Rattle.std.specs.Prelude.{◌≡◌, map, ◌≤◌, ◌<◌, min, length, take, get_or};
 ghost use Rattle.rank.specs.Names.{row_of};
 ghost use Rattle.rank.specs.Order.{upto, arcs};
 ghost use Rattle.rank.specs.Parts.{Ranked};
-ghost use Rattle.prepare.specs.Parts.{Lived, Rising, Ends, Plugged, rows_lack};
+ghost use Rattle.prepare.specs.Parts.{Lived, Rising, Ends, Plugged, RowsIn, rows_lack};
 ghost use Rattle.graph_rows.specs.Node.{nodes_in};
 ghost use Rattle.graph_rows.specs.Edge.{edges_in};
 ghost use Rattle.order_table.specs.Prepares.{Prepares, Lacks};
@@ -22,17 +22,31 @@ pub const ORDER_WORDS: usize = 512;
 
 pub type OrderTable = [u32; ORDER_WORDS];
 
-// The answer, and how many ids the order has: none where it is refused.
-#[derive(Clone, Copy)]
-pub struct Prepared {
-    pub answer: Result<(), Refusal>,
-    pub count: usize,
-}
-
 // The rows of the edges' ends.
 type EndTable = [usize; 1024];
 
-// The ids of the rows up to the first that does not rise are stored in `ids`: how many there are.
+// The ids of the live nodes: the first `count` rows, which rise. A view and not the table: by value the tables are copied, which took 2 µs
+// of a prepare and 34 KB of its stack.
+#[derive(Clone, Copy)]
+struct LiveIds<'r> {
+    rows: &'r OrderTable,
+    count: usize,
+    ghost long: { length rows.now ≡ 512 },
+    ghost few: { count ≤ 512 },
+    ghost rising: { Rising (take count rows.now) },
+}
+
+// The rows of the ends of the first `count` edges, a view too.
+#[derive(Clone, Copy)]
+struct EdgeRows<'f, 't> {
+    from: &'f EndTable,
+    to: &'t EndTable,
+    count: usize,
+    ghost long: { (length from.now ≡ 1024) × (length to.now ≡ 1024) },
+    ghost few: { count ≤ 1024 },
+}
+
+// The ids of the nodes' rows up to the first that does not rise are stored in `ids`: how many there are.
 fn live_ids(nodes: &NodeTable, count: usize, ids: &mut OrderTable) -> usize
     ensures { Lived ids.new result (take count (nodes_in nodes.now)) }
 {
@@ -50,75 +64,102 @@ fn live_ids(nodes: &NodeTable, count: usize, ids: &mut OrderTable) -> usize
     n
 }
 
-// A row for each remainder of an id: a guess that `row_of` tests before it halves, so nothing is promised of it. Ids are counted up, so
-// it is mostly right.
-fn guesses(ids: &OrderTable, n: usize) -> [usize; 1024]
-    requires { n ≤ 512 }
-{
-    let mut rows = [0usize; 1024];
-    for (i, x) in ids[..n].iter().enumerate() {
-        rows[*x as usize % 1024] = i;
+impl LiveIds<'_> {
+    // A row for each remainder of an id: a guess that `row_of` tests before it halves, so nothing is promised of it. Ids are counted up,
+    // so it is mostly right.
+    fn guesses(&self) -> [usize; 1024] {
+        let mut rows = [0usize; 1024];
+        let ids = self.rows;
+        for (i, x) in ids[..self.count].iter().enumerate() {
+            rows[*x as usize % 1024] = i;
+        }
+        rows
     }
-    rows
-}
 
-// The row of the id `x` among the first `n`, which rise; `n` where it is none of them. By the guess, or by halving.
-fn row_of(ids: &OrderTable, n: usize, x: u32, guess: usize) -> usize
-    requires n_bound { n ≤ 512 }
-    requires rising { Rising (take n ids.now) }
-    ensures { result ≡ row_of (take n ids.now) x }
-{
-    if guess < n && ids[guess] == x {
-        return guess;
+    // The row of the id `x`, by the guess or by halving. Their number where it is none of them, and no option: the definition gives it, and the
+    // edges' ends are compared with it.
+    fn row_of(&self, x: u32, guess: usize) -> usize
+        ensures { result ≡ row_of (take self.now.count self.now.rows.now) x }
+    {
+        let n = self.count;
+        if guess < n && self.rows[guess] == x {
+            return guess;
+        }
+        let ids = self.rows;
+        ids[..n].binary_search(&x).unwrap_or(n)
     }
-    let mut lo: usize = 0;
-    let mut hi = n;
-    while lo < hi {
-        let mid = lo + (hi - lo) / 2;
-        if ids[mid] < x {
-            lo = mid + 1;
-        } else {
-            hi = mid;
+
+    // The rows of the ends of the first `m` edges are stored, edge by edge.
+    fn ends(&self, edges: &EdgeTable, m: usize, from: &mut EndTable, to: &mut EndTable)
+        requires { m ≤ 1024 }
+        ensures { Ends from.new to.new (take self.now.count self.now.rows.now) (take m (edges_in edges.now)) }
+    {
+        let rows = self.guesses();
+        for i in 0..m {
+            let e = edge_at(edges, i);
+            from[i] = self.row_of(e.from.0, rows[e.from.0 as usize % 1024]);
+            to[i] = self.row_of(e.to.0, rows[e.to.0 as usize % 1024]);
         }
     }
-    if lo < n && ids[lo] == x { lo } else { n }
-}
 
-// The rows of the ends of the first `m` edges are stored, edge by edge.
-fn ends(
-    ids: &OrderTable,
-    n: usize,
-    edges: &EdgeTable,
-    m: usize,
-    from: &mut EndTable,
-    to: &mut EndTable,
-)
-    requires n_bound { (n ≤ 512) × (m ≤ 1024) }
-    requires rising { Rising (take n ids.now) }
-    ensures { Ends from.new to.new (take n ids.now) (take m (edges_in edges.now)) }
-{
-    let rows = guesses(ids, n);
-    for i in 0..m {
-        let e = edge_at(edges, i);
-        from[i] = row_of(ids, n, e.from.0, rows[e.from.0 as usize % 1024]);
-        to[i] = row_of(ids, n, e.to.0, rows[e.to.0 as usize % 1024]);
+    // Whether one of their nodes, which are the first of the table, lacks a required port. By a for: what `any` ensures is said of the numbers, and a
+    // law would have to carry it to the rows.
+    fn row_lacks(&self, nodes: &NodeTable, masks: &[u64; 512]) -> bool
+        ensures { result ≡ rows_lack (ports_in masks.now) (take self.now.count (nodes_in nodes.now)) 0 }
+    {
+        for i in 0..self.count {
+            if port_lacks(masks[i], ports_at(nodes, i), required_at(nodes, i)) {
+                return true;
+            }
+        }
+        false
+    }
+
+    // Whether a live node lacks a required port.
+    fn lacks(&self, nodes: &NodeTable, ends: &EdgeRows, edges: &EdgeTable) -> bool
+        ensures { Lacks (take self.now.count (nodes_in nodes.now)) self.now.count ends.now.from.now ends.now.to.now (take ends.now.count (edges_in edges.now)) result }
+    {
+        let masks = ends.plugged(self, edges);
+        self.row_lacks(nodes, &masks)
+    }
+
+    // The ids of the ranked rows, written to the order.
+    fn named(&self, r: &Ranking, order: &mut OrderTable)
+        requires { RowsIn r.now }
+        ensures { take r.now.count order.new ≡ map (λ x. get_or self.now.rows.now x 0) (take r.now.count r.now.rows) }
+    {
+        for (i, row) in r.rows[..r.count].iter().enumerate() {
+            order[i] = self.rows[*row];
+        }
     }
 }
 
-// The order of the rows, by the ends of the first `m` edges.
-fn rows(n: usize, from: &EndTable, to: &EndTable, m: usize) -> Ranking
-    requires { m ≤ 1024 }
-    ensures { Ranked result (upto (min n 512)) (arcs (take m from.now) (take m to.now)) }
-{
-    rank::ranked(n, &from[..m], &to[..m])
-}
+impl EdgeRows<'_, '_> {
+    // The order of the first `n` rows.
+    fn ranking(&self, n: usize) -> Ranking
+        ensures { Ranked result (upto (min n 512)) (arcs (take self.now.count self.now.from.now) (take self.now.count self.now.to.now)) }
+    {
+        let from = self.from;
+        let to = self.to;
+        rank::ranked(n, &from[..self.count], &to[..self.count])
+    }
 
-// The value of bit `p`.
-fn bit_value(p: usize) -> u64
-    requires { p < 64 }
-    ensures { result ≡ 2 ^ p }
-{
-    1u64 << p
+    // Which ports of each live row one of the edges of two live ends feeds: a mask for each row, in which bit p is port p.
+    fn plugged(&self, ids: &LiveIds, edges: &EdgeTable) -> [u64; 512]
+        ensures { Plugged (ports_in result) ids.now.count self.now.from.now self.now.to.now (take self.now.count (edges_in edges.now)) }
+    {
+        let n = ids.count;
+        let mut masks = [0u64; 512];
+        for i in 0..self.count {
+            let f = self.from[i];
+            let t = self.to[i];
+            let p = edge_at(edges, i).port as usize;
+            if f < n && t < n && p < 64 {
+                masks[t] = with_port(masks[t], p);
+            }
+        }
+        masks
+    }
 }
 
 // The ports `mask`, and `p` too.
@@ -126,28 +167,7 @@ fn with_port(mask: u64, p: usize) -> u64
     requires { p < 64 }
     ensures { WithPort mask p result }
 {
-    if (mask >> p) % 2 == 1 {
-        return mask;
-    }
-    mask + bit_value(p)
-}
-
-// Which ports of each of the first `n` rows one of the first `m` edges of two live ends feeds: a mask for each row, in which bit p is
-// port p.
-fn plugged(n: usize, from: &EndTable, to: &EndTable, edges: &EdgeTable, m: usize) -> [u64; 512]
-    requires n_bound { (n ≤ 512) × (m ≤ 1024) }
-    ensures { Plugged (ports_in result) n from.now to.now (take m (edges_in edges.now)) }
-{
-    let mut masks = [0u64; 512];
-    for i in 0..m {
-        let f = from[i];
-        let t = to[i];
-        let p = edge_at(edges, i).port as usize;
-        if f < n && t < n && p < 64 {
-            masks[t] = with_port(masks[t], p);
-        }
-    }
-    masks
+    mask | 1 << p
 }
 
 // Whether one of the first `ports` ports is required and not in the mask: looked at until no required port is left.
@@ -166,80 +186,39 @@ fn port_lacks(mask: u64, ports: u32, required: u64) -> bool
     false
 }
 
-// Whether one of the first `n` nodes lacks a required port.
-fn row_lacks(nodes: &NodeTable, n: usize, masks: &[u64; 512]) -> bool
-    requires { n ≤ 512 }
-    ensures { result ≡ rows_lack (ports_in masks.now) (take n (nodes_in nodes.now)) 0 }
-{
-    for i in 0..n {
-        if port_lacks(masks[i], ports_at(nodes, i), required_at(nodes, i)) {
-            return true;
-        }
-    }
-    false
-}
-
-// Whether a live node lacks a required port.
-fn lacks(
-    nodes: &NodeTable,
-    n: usize,
-    from: &EndTable,
-    to: &EndTable,
-    edges: &EdgeTable,
-    m: usize,
-) -> bool
-    requires n_bound { (n ≤ 512) × (m ≤ 1024) }
-    ensures { Lacks (take n (nodes_in nodes.now)) n from.now to.now (take m (edges_in edges.now)) result }
-{
-    let masks = plugged(n, from, to, edges, m);
-    row_lacks(nodes, n, &masks)
-}
-
-// The ids of the first `k` ranked rows, written to the order.
-fn named(ids: &OrderTable, rows: &[usize; 512], k: usize, order: &mut OrderTable)
-    requires k_bound { k ≤ 512 }
-    requires by_index { (j : ℕ) → j < k → get_or rows.now j 0 < 512 }
-    ensures { take k order.new ≡ map (λ x. get_or ids.now x 0) (take k rows.now) }
-{
-    for (i, row) in rows[..k].iter().enumerate() {
-        order[i] = ids[*row];
-    }
-}
-
 // Prepare's two tests and the order: 13 where a required port of a live node is unconnected, else 14 where there is a cycle
-// among live nodes, else the processing order.
+// among live nodes, else the processing order, and how many ids it has.
 pub fn prepare(
     nodes: &NodeTable,
     n: usize,
     edges: &EdgeTable,
     m: usize,
     order: &mut OrderTable,
-) -> Prepared
+) -> Result<usize, Refusal>
     ensures { Prepares (take n (nodes_in nodes.now)) (take m (edges_in edges.now)) order.old order.new result }
 {
-    let mut ids = [0u32; 512];
-    let k = live_ids(nodes, n, &mut ids);
+    let mut rows = [0u32; ORDER_WORDS];
+    let k = live_ids(nodes, n, &mut rows);
+    let ids = LiveIds {
+        rows: &rows,
+        count: k,
+    };
     let count = m.min(1024);
     let mut from = [0usize; 1024];
     let mut to = [0usize; 1024];
-    ends(&ids, k, edges, count, &mut from, &mut to);
-    if lacks(nodes, k, &from, &to, edges, count) {
-        return Prepared {
-            answer: Err(Refusal::RequiredPort),
-            count: 0,
-        };
+    ids.ends(edges, count, &mut from, &mut to);
+    let ends = EdgeRows {
+        from: &from,
+        to: &to,
+        count,
+    };
+    if ids.lacks(nodes, &ends, edges) {
+        return Err(Refusal::RequiredPort);
     }
-    let r = rows(k, &from, &to, count);
-    if r.whole {
-        named(&ids, &r.rows, r.count, order);
-        Prepared {
-            answer: Ok(()),
-            count: r.count,
-        }
-    } else {
-        Prepared {
-            answer: Err(Refusal::Cycle),
-            count: 0,
-        }
+    let r = ends.ranking(k);
+    if !r.whole {
+        return Err(Refusal::Cycle);
     }
+    ids.named(&r, order);
+    Ok(r.count)
 }

@@ -1,8 +1,7 @@
 -- The laws of the row of an id.
-use Prim.Native.Nat.{ℕ, zero, suc, ◌+◌, ◌≤◌, ◌<◌}
+use Prim.Native.Nat.{ℕ, zero, suc, ◌≤◌, ◌<◌}
 use native.Mathlib.Omega.{arith}
 use native.Mathlib.Nat.{not-suc-le-zero}
-use native.Mathlib.Decide.{ℕ_discrete, dec_lt}
 use mathlib.Core.Path.{◌≡◌, refl, sym, ap, ◌∙◌}
 use mathlib.Core.Logic.{◌≢◌}
 use mathlib.Core.List.{List, [], ◌∷◌}
@@ -42,36 +41,3 @@ module _ (ids : List ℕ) (n : ℕ) (hn : n ≤ length ids) where
 -- a row that has x is the row of x
 pub guessed : (ids : List ℕ) (n x : ℕ) → n ≤ length ids → Rising (take n ids) → (g : ℕ) → g < n → get_or ids g 0 ≡ x → g ≡ row_of (take n ids) x
 guessed ids n x hn r g h e = row_is ids n hn x g h (λ j lt z. omega (arith, of_rising ids n hn r j g lt h)) e
-
--- ---- halving
-abbrev pub Halved : List ℕ → ℕ → ℕ → ℕ → ℕ → Type 0
-Halved ids n x lo hi = (lo ≤ hi) × (hi ≤ n) × ((j : ℕ) → j < lo → get_or ids j 0 < x) × ((j : ℕ) → hi ≤ j → j < n → x ≤ get_or ids j 0)
-
-module _ (ids : List ℕ) (n x : ℕ) (hn : n ≤ length ids) (r : Rising (take n ids)) (lo hi : ℕ) (inv : Halved ids n x lo hi) where
-  pub halve_up : (m : ℕ) → lo ≤ m → m < hi → get_or ids m 0 < x → Halved ids n x (m + 1) hi
-  halve_up m l h e = (omega arith, inv.1, (λ j lt. go j lt (ℕ_discrete j m)), inv.3)
-    where
-      go : (j : ℕ) → j < m + 1 → Dec (j ≡ m) → get_or ids j 0 < x
-      go j lt (yes s) = rw s e
-      go j lt (no o) = omega (arith, of_rising ids n hn r j m (omega arith) (omega (arith, inv.1)))
-
-  pub halve_down : (m : ℕ) → lo ≤ m → m < hi → x ≤ get_or ids m 0 → Halved ids n x lo m
-  halve_down m l h e = (l, omega (arith, inv.1), inv.2, λ j le lt. go j le lt (ℕ_discrete j m))
-    where
-      go : (j : ℕ) → m ≤ j → j < n → Dec (j ≡ m) → x ≤ get_or ids j 0
-      go j le lt (yes s) = rw s e
-      go j le lt (no o) = omega (arith, of_rising ids n hn r m j (omega arith) lt)
-
-  pub halved_at : hi ≤ lo → lo < n → get_or ids lo 0 ≡ x → lo ≡ row_of (take n ids) x
-  halved_at e l q = row_is ids n hn x lo l (λ j lt z. omega (arith, inv.2 j lt)) q
-
-  pub halved_other : hi ≤ lo → lo < n → (get_or ids lo 0 ≡ x → ⊥) → n ≡ row_of (take n ids) x
-  halved_other e l o = row_none ids n hn x (λ j lt z. go j lt z (dec_lt j lo) (ℕ_discrete j lo))
-    where
-      go : (j : ℕ) → j < n → get_or ids j 0 ≡ x → Dec (j < lo) → Dec (j ≡ lo) → ⊥
-      go j lt z (yes h) d = omega (arith, inv.2 j h)
-      go j lt z (no h) (yes s) = o (rw s at z)
-      go j lt z (no h) (no p) = omega (arith, of_rising ids n hn r lo j (omega arith) lt, inv.3 lo (omega arith) l)
-
-  pub halved_past : hi ≤ lo → n ≤ lo → n ≡ row_of (take n ids) x
-  halved_past e l = row_none ids n hn x (λ j lt z. omega (arith, inv.2 j (omega arith)))

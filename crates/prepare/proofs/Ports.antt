@@ -1,10 +1,9 @@
 -- The laws of the required ports.
 use Prim.Native.Nat.{ℕ, suc, ◌+◌, ◌-◌, ◌*◌, ◌^◌, ◌/◌, ◌%◌, ◌≤◌, ◌<◌}
 use native.Mathlib.Omega.{arith}
-use native.Mathlib.Nat.{div-div-eq-div-mul, pow-suc}
 use native.Mathlib.Numerals.{add-one}
 use native.Mathlib.Decide.{ℕ_discrete}
-use mathlib.Core.Path.{◌≡◌, refl, sym, ap, ◌∙◌}
+use mathlib.Core.Path.{◌≡◌, refl, sym, ◌∙◌}
 use mathlib.Core.List.{List, [], ◌∷◌}
 use mathlib.Core.Bool.{Bool, true, false, ◌&&◌, ◌||◌, not, and-false, or-true}
 use lib.Dec.{eqb, ltb}
@@ -80,9 +79,6 @@ any_next q most p h =
 pub any_end : (q : ℕ → Bool) (most p : ℕ) → most ≤ p → any q (count_up (most - p) p) ≡ false
 unfolding any count_up
 any_end q most p h = let e : most - p ≡ 0 = omega arith in rw e
-
-pub half : (m p : ℕ) → m / 2 ^ p / 2 ≡ m / 2 ^ (p + 1)
-half m p = div-div-eq-div-mul m (2 ^ p) 2 ∙ ap (λ (k : ℕ). m / k) (sym (pow-suc 2 p) ∙ ap (λ (k : ℕ). 2 ^ k) (sym (add-one p)))
 
 -- one port: `left` is the mask from bit p on
 pub lack_on : (mask left p : ℕ) (flag : Bool) → left ≡ mask / 2 ^ p → left % 2 ≡ 1 → not flag ≡ true → (bit mask p && not flag) ≡ true

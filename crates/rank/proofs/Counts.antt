@@ -15,9 +15,8 @@ use Rattle.std.specs.Prelude.{cond, filter}
 use Rattle.lists.proofs.Filter.{filter_filter, filter_same}
 use Rattle.lists.specs.Count.{more, count}
 use Rattle.lists.proofs.Count.{count_append}
-use Rattle.rank.specs.Order.{Arc, among, fed, live, own, others, released, walk, order, whole, count_up, upto, arcs}
-use Rattle.rank.specs.declared.Queue.{Queue}
-use Rattle.rank.specs.Parts.{indeg, degs, ready, St, app, fall, pick_st, serve, run, start, order_rows, Queued, Ranked}
+use Rattle.rank.specs.Order.{Arc, arc, among, fed, live, own, others, released, walk, order, whole, count_up, upto, arcs}
+use Rattle.rank.specs.Parts.{Queue, indeg, degs, ready, St, app, fall, pick_st, serve, run, start, order_rows, Queued, Ranked}
 use Rattle.rank.proofs.Laws.{length_arcs}
 use Rattle.rank.proofs.Serve.{zeros_le, run_step, run_done, fall_zero}
 use Rattle.rank.proofs.Cycle.{in_upto, upto_in, among_snoc, opens, opens_none, fall_count, fall_long, Good, good_next, good_start}
@@ -263,8 +262,15 @@ module _ (n : ℕ) (es : List Arc) where
       ∙ sym (rw (length_upto n, live_left n es))
 
 -- ---- what the code returns
-pub take_arcs : (fs ts : List ℕ) (m : ℕ) → m ≡ min (min (length fs) (length ts)) 1024 → take m (arcs fs ts) ≡ take 1024 (arcs fs ts)
-take_arcs fs ts m h = go (dec_lt (length (arcs fs ts)) 1024)
+cut_arcs : (fs ts : List ℕ) (m : ℕ) → arcs (take m fs) (take m ts) ≡ take m (arcs fs ts)
+unfolding arcs
+cut_arcs fs ts zero = refl
+cut_arcs [] ts (suc m) = refl
+cut_arcs (f ∷ fs) [] (suc m) = refl
+cut_arcs (f ∷ fs) (t ∷ ts) (suc m) = ap (λ es. arc f t ∷ es) (cut_arcs fs ts m)
+
+pub take_arcs : (fs ts : List ℕ) (m : ℕ) → m ≡ min (min (length fs) (length ts)) 1024 → arcs (take m fs) (take m ts) ≡ take 1024 (arcs fs ts)
+take_arcs fs ts m h = cut_arcs fs ts m ∙ go (dec_lt (length (arcs fs ts)) 1024)
   where
     go : Dec (length (arcs fs ts) < 1024) → take m (arcs fs ts) ≡ take 1024 (arcs fs ts)
     go (yes l) = take_all m (arcs fs ts) (omega (arith, length_arcs fs ts)) ∙ sym (take_all 1024 (arcs fs ts) (omega arith))

@@ -12,7 +12,7 @@ use lib.Dec.{eqb, ltb}
 use lib.ListN.{length, take, drop, get_or, set, length-take, length-set, drop_of_length-le, replicate, length-replicate, get_or-replicate}
 use lib.Seq.{get_or-take, length-take-le, get_or-set_same, get_or-set_other, ext_get_or, take-suc-set, append_snoc}
 use Rattle.lists.specs.Count.{more}
-use Rattle.lists.proofs.Table.{left_row}
+use Rattle.lists.proofs.Table.{left_cons}
 use Rattle.rank.specs.Order.{Arc, arc, arcs}
 use Rattle.rank.specs.Parts.{indeg, degs, ready}
 use Rattle.rank.specs.Parts.{find, none, from_at}
@@ -31,22 +31,23 @@ get_d_arcs (f ∷ fs) [] i h k = absurd (not-suc-le-zero k)
 get_d_arcs (f ∷ fs) (t ∷ ts) zero h k = refl
 get_d_arcs (f ∷ fs) (t ∷ ts) (suc i) h k = get_d_arcs fs ts i (omega arith) (omega arith)
 
--- the first m of them
-module _ (fs ts : List ℕ) (m : ℕ) (hf : m ≤ length fs) (ht : m ≤ length ts) where
-  pub enough : m ≤ length (arcs fs ts)
-  enough = omega (arith, length_arcs fs ts)
+-- as many sources as targets
+module _ (fs ts : List ℕ) (paired : length fs ≡ length ts) where
+  pub many_arcs : length (arcs fs ts) ≡ length ts
+  many_arcs = omega (arith, length_arcs fs ts)
 
-  pub many_arcs : length (take m (arcs fs ts)) ≡ m
-  many_arcs = length-take-le m (arcs fs ts) enough
+  module _ (i : ℕ) (h : i < length ts) where
+    pub arc_at : get_or (arcs fs ts) i none ≡ arc (get_or fs i 0) (get_or ts i 0)
+    arc_at = get_d_arcs fs ts i (omega arith) h
 
-  module _ (i : ℕ) (h : i < m) where
-    pub arc_at : get_or (take m (arcs fs ts)) i none ≡ arc (get_or fs i 0) (get_or ts i 0)
-    arc_at = get_or-take m (arcs fs ts) i none h ∙ get_d_arcs fs ts i (omega arith) (omega arith)
-
-    pub next_arc : drop i (take m (arcs fs ts)) ≡ arc (get_or fs i 0) (get_or ts i 0) ∷ drop (i + 1) (take m (arcs fs ts))
+    pub next_arc : drop i (arcs fs ts) ≡ arc (get_or fs i 0) (get_or ts i 0) ∷ drop (i + 1) (arcs fs ts)
     next_arc =
-        left_row none (arcs fs ts) m i h enough
-        ∙ ap (λ (e : Arc). e ∷ drop (i + 1) (take m (arcs fs ts))) (get_d_arcs fs ts i (omega arith) (omega arith))
+        let inside : i < length (arcs fs ts) = omega (arith, many_arcs) in
+        left_cons none (arcs fs ts) i inside ∙ ap (λ (e : Arc). e ∷ drop (i + 1) (arcs fs ts)) arc_at
+
+  -- none is left behind the last
+  pub no_arc : (i : ℕ) → length ts ≤ i → drop i (arcs fs ts) ≡ []
+  no_arc i h = let q : length (arcs fs ts) ≤ i = omega (arith, many_arcs) in drop_of_length-le (arcs fs ts) q
 
 pub no_row : {A : Type 0} (rows : List A) (k i : ℕ) → k ≤ i → drop i (take k rows) ≡ []
 no_row rows k i h = let q : length (take k rows) ≤ i = simp length-take (omega arith) in drop_of_length-le (take k rows) q
@@ -164,25 +165,26 @@ module _ (es : List Arc) (i : ℕ) (e : Arc) (dr : drop i es ≡ e ∷ drop (i +
             rw (s, get_or-set_same next i (get_or first e.from 0) 0 q, fr) (inv.2 e.from h)
         go₂ j le lt f (no o) = get_or-set_other next i j (get_or first e.from 0) 0 o ∙ inv.3 j (omega arith) lt f
 
--- of the first m arcs from fs to ts, the arc at i before those that are linked
-module _ (fs ts : List ℕ) (m : ℕ) (hf : m ≤ length fs) (ht : m ≤ length ts) (i : ℕ) (h : i < m) (first next : List ℕ) (n : ℕ) (inv : Chain first next n (take m (arcs fs ts)) (i + 1)) where
-  from_at_lem : from_at (take m (arcs fs ts)) i ≡ get_or fs i 0
-  from_at_lem = ap (λ (x : Arc). x.from) (arc_at fs ts m hf ht i h)
+-- of the arcs from fs to ts, the arc at i before those that are linked
+module _ (fs ts : List ℕ) (paired : length fs ≡ length ts) (i : ℕ) (h : i < length ts) (first next : List ℕ) (n : ℕ) (inv : Chain first next n (arcs fs ts) (i + 1)) where
+  from_at_lem : from_at (arcs fs ts) i ≡ get_or fs i 0
+  from_at_lem = ap (λ (x : Arc). x.from) (arc_at fs ts paired i h)
 
-  pub arc_skip : n ≤ get_or fs i 0 → Chain first next n (take m (arcs fs ts)) i
-  arc_skip = chain_skip (take m (arcs fs ts)) i (arc (get_or fs i 0) (get_or ts i 0)) (next_arc fs ts m hf ht i h) first next n from_at_lem inv
+  pub arc_skip : n ≤ get_or fs i 0 → Chain first next n (arcs fs ts) i
+  arc_skip = chain_skip (arcs fs ts) i (arc (get_or fs i 0) (get_or ts i 0)) (next_arc fs ts paired i h) first next n from_at_lem inv
 
-  pub arc_link : get_or fs i 0 < n → n ≤ 512 → i < 1024 → Chain (set first (get_or fs i 0) i) (set next i (get_or first (get_or fs i 0) 0)) n (take m (arcs fs ts)) i
-  arc_link = chain_link (take m (arcs fs ts)) i (arc (get_or fs i 0) (get_or ts i 0)) (next_arc fs ts m hf ht i h) first next n from_at_lem inv
+  pub arc_link : get_or fs i 0 < n → n ≤ 512 → i < 1024 → Chain (set first (get_or fs i 0) i) (set next i (get_or first (get_or fs i 0) 0)) n (arcs fs ts) i
+  arc_link = chain_link (arcs fs ts) i (arc (get_or fs i 0) (get_or ts i 0)) (next_arc fs ts paired i h) first next n from_at_lem inv
 
-pub chain_start : (n m : ℕ) (rows : List Arc) → n ≤ 512 → m ≤ length rows → Chain (replicate 512 m) (replicate 1024 m) n (take m rows) m
+pub chain_start : (n m : ℕ) (es : List Arc) → n ≤ 512 → length es ≡ m → Chain (replicate 512 m) (replicate 1024 m) n es m
 unfolding find
-chain_start n m rows hn hm = (
-  length-replicate {A = ℕ} 512 m,
-  length-replicate {A = ℕ} 1024 m,
-  (λ v lt. let q : v < 512 = omega arith in rw (get_or-replicate {A = ℕ} 512 v m 0 q, no_row rows m m (le_refl m))),
-  λ j le lt f. let q : length (take m rows) ≡ m = length-take-le m rows hm in absurd (omega arith),
-)
+chain_start n m es hn e =
+    let past : length es ≤ m = omega arith in (
+      length-replicate {A = ℕ} 512 m,
+      length-replicate {A = ℕ} 1024 m,
+      (λ v lt. let q : v < 512 = omega arith in rw (get_or-replicate {A = ℕ} 512 v m 0 q, drop_of_length-le es past)),
+      λ j le lt f. absurd (omega arith),
+    )
 
 -- ---- the rows that are ready at the start
 -- the queue, with the rows from v on that are ready, is all that are ready

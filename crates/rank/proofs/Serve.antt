@@ -14,8 +14,7 @@ use lib.ListN.{length, take, drop, get_or, set, length-set, get_or-eq_default}
 use lib.Seq.{get_or-take, length-take-le, get_or-set_same, get_or-set_other, drop-drop, drop-nil, take-suc-set, take-set-lt, set-get_or}
 use Rattle.lists.specs.Count.{more}
 use Rattle.rank.specs.Order.{Arc, arc, arcs}
-use Rattle.rank.specs.Parts.{ready, St, fall, pick_st, serve, run, order_rows, start}
-use Rattle.rank.specs.declared.Queue.{Queue}
+use Rattle.rank.specs.Parts.{Queue, ready, St, fall, pick_st, serve, run, order_rows, start}
 use Rattle.rank.specs.Parts.{find, from_at, Degrees, Ready, Linked}
 use Rattle.rank.proofs.Laws.{many_arcs, arc_at, next_arc}
 
@@ -256,27 +255,27 @@ module _ (n : ℕ) (counts : List ℕ) (o : Queue) (es : List Arc) (hn : n ≤ 5
   unfolding order_rows start
   run_start = rw (sub-zero, r.is, d.is)
 
--- the next arc of v, among the first m from fs to ts
-module _ (fs ts : List ℕ) (m : ℕ) (hf : m ≤ length fs) (ht : m ≤ length ts) (v e n : ℕ) (first next : List ℕ) (lk : Linked first next n (take m (arcs fs ts)))
-    (vn : v < n) (he : e < m) (f : find v (drop e (take m (arcs fs ts))) e ≡ e) where
-  next_is : get_or next e 0 ≡ find v (drop (e + 1) (take m (arcs fs ts))) (e + 1)
+-- the next arc of v, among those from fs to ts
+module _ (fs ts : List ℕ) (paired : length fs ≡ length ts) (v e n : ℕ) (first next : List ℕ) (lk : Linked first next n (arcs fs ts))
+    (vn : v < n) (he : e < length ts) (f : find v (drop e (arcs fs ts)) e ≡ e) where
+  next_is : get_or next e 0 ≡ find v (drop (e + 1) (arcs fs ts)) (e + 1)
   next_is =
-      let es = take m (arcs fs ts) in
-      let le : e < length es = rw (many_arcs fs ts m hf ht) he in
-      let fr : from_at es e ≡ get_or fs e 0 = ap (λ (x : Arc). x.from) (arc_at fs ts m hf ht e he) in
-      let w : from_at es e ≡ v = fr ∙ its_own v es e (arc (get_or fs e 0) (get_or ts e 0)) (next_arc fs ts m hf ht e he) f in
+      let es = arcs fs ts in
+      let le : e < length es = rw (many_arcs fs ts paired) he in
+      let fr : from_at es e ≡ get_or fs e 0 = ap (λ (x : Arc). x.from) (arc_at fs ts paired e he) in
+      let w : from_at es e ≡ v = fr ∙ its_own v es e (arc (get_or fs e 0) (get_or ts e 0)) (next_arc fs ts paired e he) f in
       lk.nexts e le (rw w vn) ∙ ap (λ (k : ℕ). find k (drop (e + 1) es) (e + 1)) w
 
   pub next_more : e < get_or next e 0
-  next_more = omega (arith, next_is, find_ge v (drop (e + 1) (take m (arcs fs ts))) (e + 1))
+  next_more = omega (arith, next_is, find_ge v (drop (e + 1) (arcs fs ts)) (e + 1))
 
-  pub next_found : find v (drop (get_or next e 0) (take m (arcs fs ts))) (get_or next e 0) ≡ get_or next e 0
-  next_found = rw next_is (find_again v (take m (arcs fs ts)) (e + 1))
+  pub next_found : find v (drop (get_or next e 0) (arcs fs ts)) (get_or next e 0) ≡ get_or next e 0
+  next_found = rw next_is (find_again v (arcs fs ts) (e + 1))
 
-  pub next_serve : (s s' : St) → s' ≡ fall (get_or ts e 0) s → serve v (drop (get_or next e 0) (take m (arcs fs ts))) s' ≡ serve v (drop e (take m (arcs fs ts))) s
+  pub next_serve : (s s' : St) → s' ≡ fall (get_or ts e 0) s → serve v (drop (get_or next e 0) (arcs fs ts)) s' ≡ serve v (drop e (arcs fs ts)) s
   next_serve s s' q =
-      let es = take m (arcs fs ts) in
-      rw (next_is, q) (sym (serve_one v es e (arc (get_or fs e 0) (get_or ts e 0)) (next_arc fs ts m hf ht e he) f s ∙ serve_skip v es (e + 1) (fall (get_or ts e 0) s)))
+      let es = arcs fs ts in
+      rw (next_is, q) (sym (serve_one v es e (arc (get_or fs e 0) (get_or ts e 0)) (next_arc fs ts paired e he) f s ∙ serve_skip v es (e + 1) (fall (get_or ts e 0) s)))
 
 -- the next of the queue
 pub next_run : (n h : ℕ) (es : List Arc) (s s' : St) → h < length s.queue → h < n → s' ≡ serve (get_or s.queue h 0) es s

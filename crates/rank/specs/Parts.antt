@@ -3,8 +3,8 @@
 use Rattle.std.specs.Prelude.{ℕ, zero, suc, ◌+◌, ◌-◌, ◌<◌, ◌≤◌, List, [], ◌∷◌, ◌++◌, Bool, true, false, ◌&&◌, cond, ◌≡◌, length, take, drop, get_or, set, eqb, ltb}
 use Rattle.lists.specs.Count.{more}
 use Rattle.lists.specs.Table.{rows_of}
+use Rattle.lists.specs.declared.rows.Table.{Table}
 use Rattle.rank.specs.Order.{Arc, arc, order, whole}
-use Rattle.rank.specs.declared.Queue.{Queue}
 use Rattle.rank.specs.declared.Ranking.{Ranking}
 
 -- what a ranking holds
@@ -36,6 +36,10 @@ pub record Degrees (r : List ℕ) (n : ℕ) (es : List Arc) : Type 0 where
 unfoldable pub ready : List ℕ → ℕ → List ℕ
 ready [] v = []
 ready (c ∷ cs) v = cond (eqb c 0) (v ∷ (ready cs (suc v))) (ready cs (suc v))
+
+-- indices, in the order in which they are looked at
+abbrev pub Queue : Type 0
+Queue = Table ℕ 512
 
 pub record Ready (r : Queue) (cs : List ℕ) : Type 0 where
   pub long : length r.rows ≡ 512

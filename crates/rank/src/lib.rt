@@ -4,7 +4,10 @@ ghost use Rattle.std.specs.Prelude.{◌≡◌, min, ◌≤◌, length, take, rep
 ghost use Rattle.rank.specs.Order.{arcs, upto, order, whole};
 ghost use Rattle.rank.specs.Parts.{Degrees, Linked, Ready, Queued, ranking_of};
 
-// The order of nodes that are the indices 0 to n - 1: the first `count` of `rows`, and whether they are all.
+use lists::rows::Table;
+
+// The order of nodes that are the indices 0 to n - 1: the first `count` of `rows`, since there is no heap, and whether they are all. It is
+// promised where they are not all too, so it is no option.
 #[derive(Clone, Copy)]
 pub struct Ranking {
     pub rows: [usize; 512],
@@ -12,99 +15,105 @@ pub struct Ranking {
     pub whole: bool,
 }
 
+// Indices, in the order in which they are looked at.
+type Queue = Table<usize, 512>;
+
+// The indices 0 to n - 1 and the arcs between them, from `from[i]` to `to[i]`. An arc with an end at or past n does not count.
 #[derive(Clone, Copy)]
-struct Queue {
-    rows: [usize; 512],
-    count: usize,
+struct Graph<'f, 't> {
+    n: usize,
+    from: &'f [usize],
+    to: &'t [usize],
+    ghost few: { n ≤ 512 },
+    ghost paired: { length from.now ≡ length to.now },
+    ghost short: { length to.now ≤ 1024 },
 }
 
-// How many arcs go to each index from a live one.
-fn degrees(from: &[usize], to: &[usize], n: usize, m: usize) -> [usize; 512]
-    requires n_bound { (n ≤ 512) × (m ≤ 1024) }
-    requires m_in_bounds { (m ≤ length from.now) × (m ≤ length to.now) }
-    ensures { Degrees result n (take m (arcs from.now to.now)) }
-{
-    let mut counts = [0usize; 512];
-    for i in 0..m {
-        let t = to[i];
-        if from[i] < n && t < n {
-            counts[t] += 1;
+impl Graph<'_, '_> {
+    // How many arcs go to each index from a live one. By an index: the ends of arc i stand in two slices, as the definition has them.
+    fn degrees(&self) -> [usize; 512]
+        ensures { Degrees result self.now.n (arcs self.now.from.now self.now.to.now) }
+    {
+        let mut counts = [0usize; 512];
+        for i in 0..self.to.len() {
+            let t = self.to[i];
+            if self.from[i] < self.n && t < self.n {
+                counts[t] += 1;
+            }
+        }
+        counts
+    }
+
+    // The arcs of one source, as a chain in their order, are stored: `first` of an index, `next` of an arc; their number, past the arcs,
+    // where there is none, as it stands there before.
+    fn linked(&self, first: &mut [usize; 512], next: &mut [usize; 1024])
+        requires { (first.old ≡ replicate 512 (length self.now.to.now)) × (next.old ≡ replicate 1024 (length self.now.to.now)) }
+        ensures { Linked first.new next.new self.now.n (arcs self.now.from.now self.now.to.now) }
+    {
+        for i in (0..self.to.len()).rev() {
+            let v = self.from[i];
+            if v < self.n {
+                next[i] = first[v];
+                first[v] = i;
+            }
         }
     }
-    counts
-}
 
-// The arcs of one source, as a chain in their order, are stored: `first` of an index, `next` of an arc; `m`, past the arcs, where there
-// is none, as it stands there before.
-fn linked(from: &[usize], to: &[usize], n: usize, m: usize, first: &mut [usize], next: &mut [usize])
-    requires n_bound { (n ≤ 512) × (m ≤ 1024) × (first.old ≡ replicate 512 m) × (next.old ≡ replicate 1024 m) }
-    requires m_in_bounds { (m ≤ length from.now) × (m ≤ length to.now) }
-    ensures { Linked first.new next.new n (take m (arcs from.now to.now)) }
-{
-    for i in (0..m).rev() {
-        let v = from[i];
-        if v < n {
-            next[i] = first[v];
-            first[v] = i;
+    // The indices whose count is 0.
+    fn ready(&self, counts: &[usize; 512]) -> Queue
+        ensures { Ready result (take self.now.n counts.now) }
+    {
+        let mut queue = [0usize; 512];
+        let mut tail: usize = 0;
+        for v in 0..self.n {
+            if counts[v] == 0 {
+                queue[tail] = v;
+                tail += 1;
+            }
+        }
+        Queue {
+            rows: queue,
+            count: tail,
         }
     }
-}
 
-// The indices below `n` whose count is 0.
-fn ready(counts: &[usize], n: usize) -> Queue
-    requires { (n ≤ 512) × (length counts.now ≡ 512) }
-    ensures { Ready result (take n counts.now) }
-{
-    let mut queue = [0usize; 512];
-    let mut tail: usize = 0;
-    for v in 0..n {
-        if counts[v] == 0 {
-            queue[tail] = v;
-            tail += 1;
-        }
-    }
-    Queue {
-        rows: queue,
-        count: tail,
-    }
-}
-
-// The queue, walked to its end.
-fn queued(from: &[usize], to: &[usize], n: usize, m: usize) -> Queue
-    requires n_bound { (n ≤ 512) × (m ≤ 1024) }
-    requires m_in_bounds { (m ≤ length from.now) × (m ≤ length to.now) }
-    ensures { Queued result n (take m (arcs from.now to.now)) }
-{
-    let mut first = [m; 512];
-    let mut next = [m; 1024];
-    linked(from, to, n, m, &mut first, &mut next);
-    let mut counts = degrees(from, to, n, m);
-    let o = ready(&counts, n);
-    let mut queue = o.rows;
-    let mut tail = o.count;
-    let mut head: usize = 0;
-    while head < tail {
-        let v = queue[head];
-        let mut e = first[v];
-        while e < m {
-            let t = to[e];
-            if t < n {
-                let k = counts[t];
-                if 0 < k {
-                    counts[t] = k - 1;
-                    if k == 1 {
-                        queue[tail] = t;
-                        tail += 1;
+    // The queue, walked to its end: it grows as it is walked, and the next arc of an index stands in a table, so that neither walk is one over a
+    // range. The rows and their number go on by themselves, and no `Table`.
+    fn queued(&self) -> Queue
+        ensures { Queued result self.now.n (arcs self.now.from.now self.now.to.now) }
+    {
+        let m = self.to.len();
+        let mut first = [m; 512];
+        let mut next = [m; 1024];
+        self.linked(&mut first, &mut next);
+        let mut counts = self.degrees();
+        let o = self.ready(&counts);
+        let mut queue = o.rows;
+        let mut tail = o.count;
+        let mut head: usize = 0;
+        while head < tail {
+            let v = queue[head];
+            let mut e = first[v];
+            while e < m {
+                let t = self.to[e];
+                if t < self.n {
+                    let k = counts[t];
+                    if 0 < k {
+                        counts[t] = k - 1;
+                        if k == 1 {
+                            queue[tail] = t;
+                            tail += 1;
+                        }
                     }
                 }
+                e = next[e];
             }
-            e = next[e];
+            head += 1;
         }
-        head += 1;
-    }
-    Queue {
-        rows: queue,
-        count: tail,
+        Queue {
+            rows: queue,
+            count: tail,
+        }
     }
 }
 
@@ -117,7 +126,12 @@ pub fn ranked(n: usize, from: &[usize], to: &[usize]) -> Ranking
 {
     let k = n.min(512);
     let m = from.len().min(to.len()).min(1024);
-    let q = queued(from, to, k, m);
+    let g = Graph {
+        n: k,
+        from: &from[..m],
+        to: &to[..m],
+    };
+    let q = g.queued();
     let rows = q.rows;
     Ranking {
         rows,

@@ -15,7 +15,8 @@ pub struct Event {
     pub action: EventAction,
 }
 
-// What an event orders: `order` for the parameter `name`. `Nothing` is no order: the event is a free.
+// What an event orders: `order` for the parameter `name`. `Nothing` is no order: the event is a free. It is no
+// Option, since the model and the words of a node have `Nothing` as one of the three cases of a last order.
 #[derive(Clone, Copy)]
 pub struct ParamOrder {
     pub name: Name,

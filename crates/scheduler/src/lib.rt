@@ -1,4 +1,4 @@
-// The pending events, from scheduler.rs: what an event asks of its voice, and the queue of up to 256 of them as a list. The queue's
+// The pending events: what an event asks of its voice, and the queue of up to 256 of them as a list. The queue's
 // functions, on lent words, stand in crate event_table.
 #![tactic(auto)]
 

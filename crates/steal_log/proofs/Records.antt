@@ -1,5 +1,5 @@
 -- Two records with the same fields are the same record; the table has room for 64.
-use Prim.Native.Nat.{ℕ, ◌-◌, ◌/◌, ◌%◌, min}
+use Prim.Native.Nat.{ℕ, ◌-◌, ◌/◌, ◌%◌}
 use native.Mathlib.Omega.{arith}
 use mathlib.Core.Path.{◌≡◌, ap, ◌∙◌}
 use mathlib.Core.Bool.{Bool}
@@ -8,10 +8,9 @@ use lib.Ieee.{Float}
 use lib.ListN.{length, drop}
 use Rattle.voice.specs.declared.steals.StealRecord.{StealRecord}
 use Rattle.voice.specs.Steals.{empty_log, turned}
-use Rattle.voice.proofs.Records.{log_long}
 use Rattle.lists.proofs.Table.{left_none}
 use Rattle.words.proofs.Rows.{rows_long}
-use Rattle.steal_log.specs.Rows.{steal_of, records_in, steals_in, log_in}
+use Rattle.steal_log.specs.Rows.{steal_of, records_in, log_in}
 
 made : ℕ → Float → Bool → Bool → StealRecord
 made s l k c = record { sample = s; level = l; known = k; cut = c }
@@ -22,10 +21,6 @@ record_same a b p q r s = let same : made a.sample a.level a.known a.cut ≡ mad
 
 pub room : (c : List ℕ) → length c ≡ 320 → length (records_in c) ≡ 64
 room c long = rows_long 5 steal_of c ∙ ap (λ k. k / 5) long
-
--- as many are held as there were, and at most 64
-pub held_is : (c : List ℕ) (total next : ℕ) → length c ≡ 320 → length (log_in c total next).newest ≡ min total 64
-held_is c total next long = log_long (steals_in c total next) (room c long)
 
 -- words that a new store is lent, whatever they are, hold no steals
 pub none_held : (c : List ℕ) (next : ℕ) → log_in c 0 next ≡ empty_log

@@ -3,7 +3,7 @@
 // changed there, and written back, by the calls that touch them and no others.
 #![tactic(auto)]
 
-ghost use Rattle.std.specs.Prelude.{◌≡◌, List, [], ℕ, length, get_or, set};
+ghost use Rattle.std.specs.Prelude.{◌≡◌, [], get_or, set};
 ghost use Rattle.voice.specs.Steals.{pushed, marked, found_at};
 ghost use Rattle.steal_log.specs.Rows.{steal_of, records_in, steals_in, log_in, Stands};
 
@@ -17,7 +17,7 @@ pub const STEAL_WORDS: usize = 320;
 
 pub type StealTable = [u32; STEAL_WORDS];
 
-// What of the ring stands in the store's state.
+// What of the ring stands in the store's state: how many steals there were, and the place of the next.
 #[derive(Clone, Copy)]
 pub struct Ring {
     pub total: u64,
@@ -56,16 +56,21 @@ fn put_record(t: &mut [u32], i: usize, r: StealRecord)
     put_row(t, 5, i, &record_words(r));
 }
 
-// The records that the words stand for, with the total and the next place.
-pub fn read_steals(t: &StealTable, total: u64, next: usize) -> Steals
-    ensures { result ≡ steals_in t.now total next }
+// The records that the words stand for, with the total and the next place. By a for: from_fn wants a contract at its closure, and says no
+// more.
+pub fn read_steals(t: &StealTable, ring: Ring) -> Steals
+    ensures { result ≡ steals_in t.now ring.total ring.next }
 {
     let none = steal_record(0, None, false);
     let mut rows = [none; 64];
     for (i, row) in rows.iter_mut().enumerate() {
         *row = record_at(t, i);
     }
-    Steals { rows, total, next }
+    Steals {
+        rows,
+        total: ring.total,
+        next: ring.next,
+    }
 }
 
 // Writes the records: total and next place are for the store's state.
@@ -82,31 +87,25 @@ pub fn write_steals(t: &mut StealTable, s: Steals) -> Ring
 }
 
 // One more record.
-pub fn log_steal(t: &mut StealTable, total: u64, next: usize, r: StealRecord) -> Ring
-    ensures { log_in t.new result.total result.next ≡ pushed (log_in t.old total next) r }
+pub fn log_steal(t: &mut StealTable, ring: Ring, r: StealRecord) -> Ring
+    ensures { log_in t.new result.total result.next ≡ pushed (log_in t.old ring.total ring.next) r }
 {
-    let steals = push_steal(read_steals(t, total, next), r);
+    let steals = push_steal(read_steals(t, ring), r);
     write_steals(t, steals)
 }
 
 // The record of that number is cut, if it is still held. Records are numbered from 0.
-pub fn log_cut(t: &mut StealTable, total: u64, next: usize, number: u64) -> Ring
-    ensures { log_in t.new result.total result.next ≡ marked (log_in t.old total next) number }
+pub fn log_cut(t: &mut StealTable, ring: Ring, number: u64) -> Ring
+    ensures { log_in t.new result.total result.next ≡ marked (log_in t.old ring.total ring.next) number }
 {
-    let steals = mark_cut(read_steals(t, total, next), number);
+    let steals = mark_cut(read_steals(t, ring), number);
     write_steals(t, steals)
 }
 
-// The record at the place `i` of those that are held, oldest first.
-pub fn logged_at(t: &StealTable, total: u64, next: usize, i: usize) -> Option<StealRecord>
-    ensures { result ≡ found_at i (log_in t.now total next).newest }
+// The record at the place `i` of those that are held, oldest first. No call asks for one record alone; docs/TRACE.md names this function
+// beside the two that write.
+pub fn logged_at(t: &StealTable, ring: Ring, i: usize) -> Option<StealRecord>
+    ensures { result ≡ found_at i (log_in t.now ring.total ring.next).newest }
 {
-    steal_at(read_steals(t, total, next), i)
-}
-
-// How many records are held, where there were `total` steals.
-pub fn held_count(total: u64) -> usize
-    ensures { (c : List ℕ) (next : ℕ) → length c ≡ 320 → result ≡ length (log_in c total next).newest }
-{
-    (total as usize).min(64)
+    steal_at(read_steals(t, ring), i)
 }

@@ -1,5 +1,7 @@
 use voice::policy::{BudgetScope, StealPolicy};
 
+// Two types, of which neither is a part of the other: the model names the fields of both, and the rate is not the same in them.
+//
 // What a host asks for when it makes a store: the sample rate as it says it, and the rest as in `Config`.
 #[derive(Clone, Copy)]
 pub struct Making {

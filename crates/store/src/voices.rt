@@ -11,7 +11,7 @@ pub struct Fade {
     pub number: u64,
 }
 
-// Counted by the budget; stolen, and on its way out; or counted by nobody.
+// Counted by the budget; stolen, and on its way out; or counted by nobody. Three cases: an Option of a fade beside a flag would say less.
 #[derive(Clone, Copy)]
 pub enum VoiceState {
     Tracked,

@@ -18,7 +18,7 @@ use Rattle.synthdef.specs.Rows.{any}
 use Rattle.synthdef.specs.Tables.{edge_rows, edge_table}
 use Rattle.synthdef.specs.Edges.{ends_at, taken, counted, source_at, connect, connect_all}
 use Rattle.synthdef.specs.declared.def.DefEdge.{DefEdge}
-use Rattle.synthdef.specs.declared.def.DefEdges.{DefEdges}
+use Rattle.synthdef.specs.Tables.{DefEdges}
 use Rattle.synthdef.proofs.Rows.{none_any, table_rows}
 
 -- a counted edge is one of the edges

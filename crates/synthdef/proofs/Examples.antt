@@ -40,7 +40,7 @@ def ns es out =
       output = out;
     }
 
--- counted edges stand in the order of their last occurrence
+-- Example, computed: counted edges stand in the order of their last occurrence.
 pub last_occurrence : counted (edge 0 2 0 ∷ edge 1 2 1 ∷ edge 1 2 0 ∷ []) ≡ edge 1 2 1 ∷ edge 1 2 0 ∷ []
 unfolding edge
 last_occurrence = refl
@@ -99,7 +99,7 @@ unfolding table given row two def node edge both crossed lone first_done settled
 silent_right = refl
 
 -- ---- limits
--- a cycle of counted edges; the same edges with the cycle broken by a later edge to its port
+-- Two examples, computed: a cycle of counted edges, and the same edges with the cycle broken by a later edge to its port.
 pub cycle_refused : allowed (two "Mul" 255 255 255 (edge 2 2 0 ∷ [])) ≡ false
 unfolding two def node edge whole order walk released fed among count_up
 cycle_refused = refl

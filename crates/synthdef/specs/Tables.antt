@@ -2,14 +2,22 @@
 -- the capacity.
 use Rattle.std.specs.Prelude.{◌-◌, List, [], ◌++◌, false, length, replicate}
 use Rattle.lists.specs.Table.{rows_of}
+use Rattle.lists.specs.declared.rows.Table.{Table}
 use Rattle.node.specs.declared.name.Name.{Name}
 use Rattle.synthdef.specs.declared.def.DefNode.{DefNode}
-use Rattle.synthdef.specs.declared.def.DefNodes.{DefNodes}
 use Rattle.synthdef.specs.declared.def.DefEdge.{DefEdge}
-use Rattle.synthdef.specs.declared.def.DefEdges.{DefEdges}
 use Rattle.synthdef.specs.declared.def.Param.{Param}
-use Rattle.synthdef.specs.declared.def.Params.{Params}
 
+abbrev pub DefNodes : Type 0
+DefNodes = Table DefNode 24
+
+abbrev pub DefEdges : Type 0
+DefEdges = Table DefEdge 48
+
+abbrev pub Params : Type 0
+Params = Table Param 8
+
+-- the rows that count
 abbrev pub node_rows : DefNodes → List DefNode
 node_rows t = rows_of 24 t.count t.rows
 

@@ -1,9 +1,7 @@
-ghost use Rattle.std.specs.Prelude.{◌≡◌};
-ghost use Rattle.synthdef.specs.Tables.{node_rows, edge_rows, param_rows};
-
+use lists::rows::Table;
 use node::name::Name;
 
-// The port of a name that a node has not.
+// The port of a name that a node has not. A number and no Option: the bytes of a book and the words of a wish hold it as it is.
 pub const NO_PORT: u8 = 255;
 
 // A node of a definition: kind name, ports, required ports (bit p for port p), what it takes, and its first ports named
@@ -35,24 +33,12 @@ pub struct Param {
     pub node: u8,
 }
 
-// The three tables of a definition. The rows are the first `count`; a count above the capacity is the capacity.
-#[derive(Clone, Copy)]
-pub struct DefNodes {
-    pub rows: [DefNode; 24],
-    pub count: usize,
-}
+// The three tables of a definition.
+pub type DefNodes = Table<DefNode, 24>;
 
-#[derive(Clone, Copy)]
-pub struct DefEdges {
-    pub rows: [DefEdge; 48],
-    pub count: usize,
-}
+pub type DefEdges = Table<DefEdge, 48>;
 
-#[derive(Clone, Copy)]
-pub struct Params {
-    pub rows: [Param; 8],
-    pub count: usize,
-}
+pub type Params = Table<Param, 8>;
 
 // A definition. `output` is the node that the voice sounds through.
 #[derive(Clone, Copy)]
@@ -61,31 +47,4 @@ pub struct SynthDef {
     pub edges: DefEdges,
     pub params: Params,
     pub output: u8,
-}
-
-impl DefNodes {
-    // The rows that count.
-    pub fn as_slice(&self) -> &[DefNode]
-        ensures { result.now ≡ node_rows self.now }
-    {
-        &self.rows[..self.count.min(24)]
-    }
-}
-
-impl DefEdges {
-    // The rows that count.
-    pub fn as_slice(&self) -> &[DefEdge]
-        ensures { result.now ≡ edge_rows self.now }
-    {
-        &self.rows[..self.count.min(48)]
-    }
-}
-
-impl Params {
-    // The rows that count.
-    pub fn as_slice(&self) -> &[Param]
-        ensures { result.now ≡ param_rows self.now }
-    {
-        &self.rows[..self.count.min(8)]
-    }
 }

@@ -19,7 +19,8 @@ fn taken(e: DefEdge, es: &[DefEdge]) -> bool
         .any(|x| ends_at(*x, usize::from(e.to), usize::from(e.port)))
 }
 
-// The edges that count, the last to each port, in the order of their last occurrence.
+// The edges that count, the last to each port, in the order of their last occurrence. A row is stored by its number and not by `push`, since the
+// loop's bound says that there is room; the blank row stands behind the count, where nobody reads.
 pub fn counted_edges(es: DefEdges) -> DefEdges
     ensures { result ≡ edge_table (counted (edge_rows es)) }
 {

@@ -12,7 +12,8 @@ pub fn id_after(first: NodeId, place: u8) -> NodeId
     NodeId(first.0.saturating_add(u32::from(place)))
 }
 
-// A node of a definition as a live node of a voice: its done flag clear, its level 0, and no order taken.
+// A node of a definition as a live node of a voice: its done flag clear, its level 0, and no order taken. The fields stand here as in
+// `host_node` of graph: one function for both would take seven values without a name.
 pub fn live_node(n: DefNode, id: NodeId, owner: VoiceId) -> Node
     ensures { result ≡ live_node n id owner }
 {

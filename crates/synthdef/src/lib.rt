@@ -1,5 +1,5 @@
-// A definition: the template of a voice, from synthdef.rs. Its limits, its counted edges, its parameters, and the done plan
-// that says when a voice built from it has fallen silent.
+// A definition: the template of a voice (the scope has it in a file synthdef.rs: docs/CRATES.md). Its limits, its counted edges, its
+// parameters, and the done plan that says when a voice built from it has fallen silent.
 #![tactic(auto)]
 
 pub mod def;

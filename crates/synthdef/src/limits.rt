@@ -1,10 +1,10 @@
-ghost use Rattle.std.specs.Prelude.{◌≡◌, ◌^◌, ◌≤◌, map};
+ghost use Rattle.std.specs.Prelude.{◌≡◌, ◌^◌, ◌≤◌, length, map};
 ghost use Rattle.synthdef.specs.Rows.{every};
-ghost use Rattle.synthdef.specs.Tables.{edge_rows};
+ghost use Rattle.synthdef.specs.Tables.{node_rows, edge_rows};
 ghost use Rattle.synthdef.specs.Limits.{port_given, node_allowed, edge_allowed, param_allowed, counts_allowed, arc_of, allowed};
 ghost use Rattle.rank.specs.Order.{upto, whole};
 
-use crate::def::{DefEdge, DefEdges, DefNode, NO_PORT, Param, SynthDef};
+use crate::def::{DefEdge, DefEdges, DefNode, DefNodes, NO_PORT, Param, SynthDef};
 use crate::edges::counted_edges;
 use node::name::is_named;
 use rank::ranked;
@@ -16,20 +16,12 @@ fn port_given(ports: u8, port: u8) -> bool
     port == NO_PORT || port < ports
 }
 
-// The value of bit `n`.
-fn bit_value(n: u8) -> usize
-    requires { n ≤ 8 }
-    ensures { result ≡ 2 ^ n }
-{
-    1 << n
-}
-
 fn node_allowed(n: DefNode) -> bool
     ensures { result ≡ node_allowed n }
 {
     is_named(n.kind)
         && n.ports <= 8
-        && usize::from(n.required) < bit_value(n.ports)
+        && usize::from(n.required) < 1 << n.ports
         && port_given(n.ports, n.in_port)
         && port_given(n.ports, n.level_port)
         && port_given(n.ports, n.amp_port)
@@ -69,13 +61,13 @@ fn params_allowed(n: usize, ps: &[Param]) -> bool
 fn counts_allowed(nodes: usize, edges: usize, params: usize) -> bool
     ensures { result ≡ counts_allowed nodes edges params }
 {
-    1 <= nodes && nodes <= 24 && edges <= 48 && params <= 8
+    (1..=24).contains(&nodes) && edges <= 48 && params <= 8
 }
 
-// Whether the edges `es` among `n` nodes have no cycle: their processing order has all nodes.
-fn ordered(n: usize, es: DefEdges) -> bool
-    requires { n ≤ 24 }
-    ensures { result ≡ whole (upto n) (map arc_of (edge_rows es)) }
+// Whether the edges `es` among the nodes have no cycle: their processing order has all nodes. An array for each end, and not one of
+// pairs: so `ranked` takes them.
+fn ordered(nodes: &DefNodes, es: DefEdges) -> bool
+    ensures { result ≡ whole (upto (length (node_rows nodes.now))) (map arc_of (edge_rows es)) }
 {
     let edges = es.as_slice();
     let mut from = [0usize; 48];
@@ -85,7 +77,7 @@ fn ordered(n: usize, es: DefEdges) -> bool
         to[i] = usize::from(e.to);
     }
     let m = edges.len();
-    ranked(n, &from[..m], &to[..m]).whole
+    ranked(nodes.as_slice().len(), &from[..m], &to[..m]).whole
 }
 
 // Whether a definition is within the limits; refusal 9 where it is not.
@@ -99,5 +91,5 @@ pub fn allowed(d: SynthDef) -> bool
         && edges_allowed(nodes, d.edges.as_slice())
         && params_allowed(n, d.params.as_slice())
         && usize::from(d.output) < n
-        && ordered(n, counted_edges(d.edges))
+        && ordered(&d.nodes, counted_edges(d.edges))
 }

@@ -7,8 +7,8 @@ use crate::def::{DefEdges, DefNode, SynthDef};
 use crate::edges::{counted_edges, ends_at};
 use node::silence::{SilenceRule, silence_rule};
 
-// The sources that the rule of a node reads, the first `count` of `sources`: where `all` is set, all of them have to be silent
-// for the node to be, else one.
+// The sources that the rule of a node reads, the first `count` of `sources`: where `all` is set, all of them have to be silent for the node
+// to be, else one. No `Table` of lists: its count is a byte, as the words of a voice hold it.
 #[derive(Clone, Copy)]
 pub struct DoneStep {
     pub all: bool,
@@ -72,6 +72,7 @@ fn span_of(rule: SilenceRule, n: DefNode) -> Span
     }
 }
 
+// Whether the rule asks that every source is silent: a test of the rule, no comparison.
 fn is_every(rule: SilenceRule) -> bool
     ensures { result ≡ is_every rule }
 {

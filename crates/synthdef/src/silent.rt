@@ -1,3 +1,4 @@
+// Which nodes of a definition are silent, by its done plan and the done flags of its nodes.
 ghost use Rattle.std.specs.Prelude.{◌≡◌};
 ghost use Rattle.synthdef.specs.Plan.{silent_in, says, pass, settled, plan_silent};
 
@@ -22,7 +23,7 @@ fn says(st: DoneStep, s: [bool; 24]) -> bool
     }
 }
 
-// One pass over the steps: which nodes are silent, if those in `s` are.
+// One pass over the steps: which nodes are silent, if those in `s` are. By the index: a zip of three arrays nests a pair in a pair.
 fn pass(p: DonePlan, done: [bool; 24], s: [bool; 24]) -> [bool; 24]
     ensures { result ≡ pass p.steps done s }
 {
@@ -33,7 +34,8 @@ fn pass(p: DonePlan, done: [bool; 24], s: [bool; 24]) -> [bool; 24]
     t
 }
 
-// Which nodes are silent: passes until nothing changes.
+// Which nodes are silent: passes until nothing changes. Each that changes anything adds a node, so that there are no more of them than
+// steps; a loop without that number would have to prove the same.
 fn settle(p: DonePlan, done: [bool; 24]) -> [bool; 24]
     ensures { result ≡ settled p.steps done }
 {

@@ -13,13 +13,13 @@ use Rattle.voice.specs.declared.policy.StealPolicy.{StealPolicy}
 use Rattle.voice.specs.declared.policy.StealPolicy.TheVariants as policy
 use Rattle.voice.specs.declared.policy.BudgetScope.{BudgetScope}
 use Rattle.voice.specs.declared.policy.BudgetScope.TheVariants.{Global, PerGroup}
+use Rattle.lists.specs.declared.rows.Table.{Table}
 use Rattle.voice.specs.declared.policy.Candidate.{Candidate}
-use Rattle.voice.specs.declared.policy.Candidates.{Candidates}
 use Rattle.voice.specs.declared.policy.Admission.{Admission}
 use Rattle.voice.specs.declared.policy.Admission.TheVariants as admission
 
 -- the candidates that a table holds, in order of admission
-abbrev pub candidates_of : Candidates → List Candidate
+abbrev pub candidates_of : Table Candidate 64 → List Candidate
 candidates_of t = rows_of 64 t.count t.rows
 
 -- ---- the victim

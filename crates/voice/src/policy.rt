@@ -1,3 +1,4 @@
+use lists::rows::Table;
 use node::record::VoiceId;
 
 // What to do at budget.
@@ -24,12 +25,8 @@ pub struct Candidate {
     pub rank: u32,
 }
 
-// The candidates, in order of admission: the first `count` rows; a count above the capacity is the capacity.
-#[derive(Clone, Copy)]
-pub struct Candidates {
-    pub rows: [Candidate; 64],
-    pub count: usize,
-}
+// The candidates, in order of admission.
+pub type Candidates = Table<Candidate, 64>;
 
 // What the walk of `Quietest` holds: the place, the id and the level of the candidate taken so far.
 pub type Held = Option<(usize, VoiceId, f32)>;
@@ -37,7 +34,7 @@ pub type Held = Option<(usize, VoiceId, f32)>;
 // Who is stolen or freed: its place among the candidates of its rank, and its id.
 pub type Victim = Option<(usize, VoiceId)>;
 
-// What a new voice meets.
+// What a new voice meets. Three ways, one of which steals: an option of an option would say less.
 #[derive(Clone, Copy)]
 pub enum Admission {
     Admit,

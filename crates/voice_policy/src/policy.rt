@@ -1,7 +1,8 @@
-ghost use Rattle.std.specs.Prelude.{◌≡◌, [], min, eqb, filter};
+ghost use Rattle.std.specs.Prelude.{◌≡◌, [], eqb, filter};
 ghost use Rattle.voice.specs.declared.policy.Candidate.{Candidate};
 ghost use Rattle.voice.specs.Policy.{candidates_of, oldest, newest, takes, passed, walk, quietest, policy_victim, lowest, victim, counts, admits, admission_number, reject_number};
 
+use lists::rows::Table;
 use node::record::{NodeId, VoiceId};
 use voice::policy::{Admission, BudgetScope, Candidate, Candidates, Held, StealPolicy, Victim};
 
@@ -9,29 +10,11 @@ use voice::policy::{Admission, BudgetScope, Candidate, Candidates, Held, StealPo
 pub fn no_candidates() -> Candidates
     ensures { candidates_of result ≡ [] }
 {
-    let c = Candidate {
+    Table::empty(Candidate {
         voice: VoiceId(0),
         level: None,
         rank: 0,
-    };
-    Candidates {
-        rows: [c; 64],
-        count: 0,
-    }
-}
-
-// A count above the capacity is the capacity.
-pub fn at_most_64(count: usize) -> usize
-    ensures { result ≡ min count 64 }
-{
-    count.min(64)
-}
-
-// The rows that count.
-fn held(t: &Candidates) -> &[Candidate]
-    ensures { result.now ≡ candidates_of t.now }
-{
-    &t.rows[..at_most_64(t.count)]
+    })
 }
 
 // Whether the walk takes a level.
@@ -76,6 +59,7 @@ fn pick_newest(all: &[Candidate]) -> Victim
     Some((all.len() - 1, c.voice))
 }
 
+// By a match: map and or_else want a closure for each case and say no more.
 fn pick_quietest(all: &[Candidate]) -> Victim
     ensures { result ≡ quietest all.now }
 {
@@ -110,10 +94,9 @@ fn of_rank(t: &Candidates, k: u32) -> Candidates
     ensures { candidates_of result ≡ filter (λ (c : Candidate). eqb c.rank k) (candidates_of t.now) }
 {
     let mut out = no_candidates();
-    for c in held(t) {
+    for c in t.as_slice() {
         if c.rank == k {
-            out.rows[out.count] = *c;
-            out.count += 1;
+            out.push(*c);
         }
     }
     out
@@ -124,9 +107,9 @@ fn of_rank(t: &Candidates, k: u32) -> Candidates
 pub fn pick_victim(t: Candidates, policy: StealPolicy, rank: u32) -> Victim
     ensures { result ≡ victim policy rank (candidates_of t) }
 {
-    let k = lowest_rank(held(&t), rank);
+    let k = lowest_rank(t.as_slice(), rank);
     let low = of_rank(&t, k);
-    policy_victim(held(&low), policy)
+    policy_victim(low.as_slice(), policy)
 }
 
 // Whether a tracked voice of the bus `theirs` counts for a new voice on `bus`.
@@ -147,7 +130,7 @@ pub fn request_in(budget: Option<usize>, policy: StealPolicy, rank: u32, t: Cand
     let Some(most) = budget else {
         return Admission::Admit;
     };
-    if held(&t).len() < most {
+    if t.as_slice().len() < most {
         return Admission::Admit;
     }
     match pick_victim(t, policy, rank) {

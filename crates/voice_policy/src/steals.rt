@@ -76,6 +76,7 @@ pub fn held_steals(s: Steals) -> usize
 pub fn steal_at(s: Steals, i: usize) -> Option<StealRecord>
     ensures { result ≡ found_at i (log_of s).newest }
 {
+    // The number itself and not `held_steals`, which says it by the list: the place in the ring is counted back from it.
     let n = (s.total as usize).min(64);
     if n <= i {
         return None;

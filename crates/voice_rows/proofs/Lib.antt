@@ -1,3 +1,4 @@
+pub mod Changed
 pub mod Filling
 pub mod Made
 pub mod Records
@@ -5,3 +6,4 @@ pub mod Words
 pub mod Reading
 pub mod Picked
 pub mod First
+pub mod Searching

@@ -6,20 +6,18 @@ use mathlib.Core.Path.{◌≡◌, sym, ap, ◌∙◌}
 use mathlib.Core.Bool.{Bool, cond}
 use mathlib.Core.List.{List, ◌++◌}
 use lib.Dec.{eqb}
-use lib.ListN.{length, get_or}
+use lib.ListN.{get_or}
 use Rattle.node.specs.declared.name.Name.{Name}
 use Rattle.node.specs.declared.record.NodeId.{NodeId}
 use Rattle.node.specs.declared.record.VoiceId.{VoiceId}
 use Rattle.synthdef.specs.declared.def.Param.{Param}
-use Rattle.synthdef.specs.declared.def.Params.{Params}
+use Rattle.synthdef.specs.Tables.{Params}
 use Rattle.synthdef.specs.declared.plan.DoneStep.{DoneStep}
 use Rattle.synthdef.specs.declared.plan.DonePlan.{DonePlan}
-use Rattle.store.specs.declared.voices.Fade.{Fade}
 use Rattle.store.specs.declared.voices.Voice.{Voice}
 use Rattle.store.specs.declared.voices.VoiceState.{VoiceState}
 use Rattle.store.specs.declared.voices.VoiceState.TheVariants.{Tracked, Fading, Loose}
 use Rattle.words.specs.Fields.{is_set, four, name_from, name_at, long_from}
-use Rattle.words.proofs.Words.{spell, spelled}
 use Rattle.voice_rows.specs.Rows.{node, state_at, param_at, step_at}
 use Rattle.voice_rows.specs.Filled.{Local}
 

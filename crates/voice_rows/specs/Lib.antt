@@ -4,3 +4,4 @@ pub mod Found
 pub mod Earlier
 pub mod Listed
 pub mod Levels
+pub mod Fading

@@ -4,7 +4,7 @@
 use Rattle.std.specs.Prelude.{ℕ, zero, suc, ◌+◌, ◌*◌, ◌/◌, ◌%◌, ◌≡◌, Bool, false, cond, List, [], ◌∷◌, ◌++◌, eqb, length, take, get_or}
 use Rattle.node.specs.declared.record.NodeId.{NodeId}
 use Rattle.synthdef.specs.declared.def.Param.{Param}
-use Rattle.synthdef.specs.declared.def.Params.{Params}
+use Rattle.synthdef.specs.Tables.{Params}
 use Rattle.synthdef.specs.declared.plan.DoneStep.{DoneStep}
 use Rattle.store.specs.declared.voices.Fade.{Fade}
 use Rattle.store.specs.declared.voices.Voice.{Voice}

@@ -7,10 +7,21 @@ ghost use Rattle.model.specs.Clear.{ended};
 ghost use Rattle.voice_rows.specs.Rows.{voice_of, voices_in};
 ghost use Rattle.voice_rows.specs.Found.{FoundAt};
 ghost use Rattle.voice_rows.specs.Earlier.{Earlier};
+ghost use Rattle.voice_rows.specs.Fading.{fading};
 
 use crate::row::{bus_at, id_at, put_state, state_at};
 use node::record::{NodeId, VoiceId};
 use store::voices::{Fade, VoiceState};
+
+// The fade of a voice in the state `s`; none if it does not fade.
+pub fn fading(s: VoiceState) -> Option<Fade>
+    ensures { result ≡ fading s }
+{
+    match s {
+        VoiceState::Fading(f) => Some(f),
+        VoiceState::Tracked | VoiceState::Loose => None,
+    }
+}
 
 // The voice `w` fades from now on.
 pub fn begin_fade(t: &mut [u32], count: usize, w: VoiceId, f: Fade)
@@ -37,10 +48,7 @@ fn moved_fade(f: Fade, block: u64) -> Fade
 fn moved_state(s: VoiceState, block: u64) -> VoiceState
     ensures { result ≡ moved_state (further block) s }
 {
-    match s {
-        VoiceState::Fading(f) => VoiceState::Fading(moved_fade(f, block)),
-        VoiceState::Tracked | VoiceState::Loose => s,
-    }
+    fading(s).map_or(s, |f| VoiceState::Fading(moved_fade(f, block)))
 }
 
 // Every fade moves by a block.
@@ -57,27 +65,21 @@ pub fn move_fades(t: &mut [u32], count: usize, block: u64)
 pub fn ended_at(t: &[u32], i: usize, length: u64) -> bool
     ensures { result ≡ ended length (get_or (voices_in t.now) i (voice_of [])).state }
 {
-    match state_at(t, i) {
-        VoiceState::Fading(f) => length <= f.position,
-        VoiceState::Tracked | VoiceState::Loose => false,
-    }
+    fading(state_at(t, i)).is_some_and(|f| length <= f.position)
 }
 
 // Whether the voice in row `i` fades on `bus`.
 pub fn fades_on(t: &[u32], i: usize, bus: NodeId) -> bool
     ensures { result ≡ fades_on bus (get_or (voices_in t.now) i (voice_of [])) }
 {
-    matches!(state_at(t, i), VoiceState::Fading(_)) && bus_at(t, i) == bus
+    fading(state_at(t, i)).is_some() && bus_at(t, i) == bus
 }
 
 // The clock at the start of the fade of the voice in row `i`; 0 if it has none.
 pub fn start_at(t: &[u32], i: usize) -> u64
     ensures { result ≡ start_of (get_or (voices_in t.now) i (voice_of [])).state }
 {
-    match state_at(t, i) {
-        VoiceState::Fading(f) => f.start,
-        VoiceState::Tracked | VoiceState::Loose => 0,
-    }
+    fading(state_at(t, i)).map_or(0, |f| f.start)
 }
 
 // Of two rows the one that is reclaimed first: row `i`, if its voice fades on `bus` and started no later than that of `best`.
@@ -94,6 +96,7 @@ fn earlier_row(t: &[u32], best: Option<usize>, i: usize, bus: NodeId) -> Option<
 }
 
 // The row of the fade of `bus` that started earliest, of several the first in voice order; or none.
+// By a for: of `filter` and `min_by_key` the library tells the steps and has no law of what they find, and the clause did not close.
 pub fn earliest_fade(t: &[u32], count: usize, bus: NodeId) -> Option<usize>
     ensures { FoundAt result count (voices_in t.now) (earliest (fades_on bus) (take count (voices_in t.now))) }
 {

@@ -3,8 +3,8 @@ ghost use Rattle.std.specs.Prelude.{◌≡◌, [], get_or};
 ghost use Rattle.model.specs.Voice.{feeder, end_of};
 ghost use Rattle.voice_rows.specs.Rows.{voice_of, voices_in};
 
+use crate::fade::fading;
 use crate::row::{count_at, first_at, output_at, panned_at, state_at};
-use store::voices::VoiceState;
 
 // The id of the node by which the voice in row `i` feeds its bus where it does not fade: its pan node, or its output.
 pub fn feeder_at(t: &[u32], i: usize) -> u64
@@ -20,8 +20,5 @@ pub fn feeder_at(t: &[u32], i: usize) -> u64
 pub fn end_at(t: &[u32], i: usize) -> u64
     ensures { result ≡ (end_of (get_or (voices_in t.now) i (voice_of []))).0 }
 {
-    match state_at(t, i) {
-        VoiceState::Fading(fade) => u64::from(fade.node.0),
-        VoiceState::Tracked | VoiceState::Loose => feeder_at(t, i),
-    }
+    fading(state_at(t, i)).map_or_else(|| feeder_at(t, i), |f| u64::from(f.node.0))
 }

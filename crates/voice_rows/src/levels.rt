@@ -26,57 +26,79 @@ pub struct Counting {
 fn node_level(nodes: &[u32], n: usize, id: NodeId) -> Option<f32>
     ensures { result ≡ node_level (node_at (take n (nodes_in nodes.now)) id) }
 {
-    for i in 0..n.min(nodes.len() / 22) {
-        if graph_rows::node_row::id_at(nodes, i) == id {
-            return Some(float_at(nodes, 22, i, 14));
-        }
-    }
-    None
-}
-
-// On from row `from` of the nodes while their ids rise and are below `id`: the row that is reached. Every row before it has a lower id.
-// The row is counted by hand, since it is the answer wherever the walk stops, also past the last one.
-fn advance(nodes: &[u32], n: usize, from: usize, id: NodeId) -> usize
-    requires { LeftMax nodes.now from }
-    ensures { LeftMax nodes.now result }
-{
     let m = n.min(nodes.len() / 22);
-    let mut here = graph_rows::node_row::id_at(nodes, from).0;
-    let mut i = from;
-    while i < m {
-        if id.0 <= here {
-            return i;
-        }
-        let next = graph_rows::node_row::id_at(nodes, i + 1).0;
-        if next <= here {
-            return i;
-        }
-        here = next;
-        i += 1;
-    }
-    i
+    let row = (0..m).find(|i| graph_rows::node_row::id_at(nodes, *i) == id)?;
+    Some(float_at(nodes, 22, row, 14))
 }
 
-// The level of the node `id` among the first `n` nodes, read from row `row` if it stands there.
-fn node_level_near(nodes: &[u32], n: usize, id: NodeId, row: usize) -> Option<f32>
-    requires { LeftMax nodes.now row }
-    ensures { result ≡ node_level (node_at (take n (nodes_in nodes.now)) id) }
-{
-    if row < n.min(nodes.len() / 22) && graph_rows::node_row::id_at(nodes, row) == id {
-        return Some(float_at(nodes, 22, row, 14));
-    }
-    node_level(nodes, n, id)
+// A walk over the first `n` of the lent nodes: every row before `row` has a lower id, so that the node in it is the first of its id.
+#[derive(Drop)]
+struct NodeWalk<'a> {
+    nodes: &'a [u32],
+    n: usize,
+    row: usize,
+    ghost rising: { LeftMax nodes.now row },
 }
 
-// The level of the voice in row `i`, whose output is looked for in row `row` of the nodes first.
-fn level_near(t: &[u32], i: usize, nodes: &[u32], n: usize, clock: u64, row: usize) -> Option<f32>
-    requires { LeftMax nodes.now row }
-    ensures { result ≡ level_at (take n (nodes_in nodes.now)) clock (get_or (voices_in t.now) i (voice_of [])) }
-{
-    if birth_at(t, i) < clock {
-        node_level_near(nodes, n, output_at(t, i), row)
-    } else {
-        None
+impl<'a> NodeWalk<'a> {
+    // At the first row.
+    fn new(nodes: &'a [u32], n: usize) -> Self
+        ensures { (result.nodes.now ≡ nodes.now) × (result.n ≡ n) }
+    {
+        NodeWalk { nodes, n, row: 0 }
+    }
+
+    // On while the ids rise and are below `id`; where it stops, the next walk goes on.
+    fn advance(&mut self, id: NodeId)
+        ensures { (self.new.nodes.now ≡ self.old.nodes.now) × (self.new.n ≡ self.old.n) }
+    {
+        let m = self.n.min(self.nodes.len() / 22);
+        let mut here = graph_rows::node_row::id_at(self.nodes, self.row);
+        for i in self.row..m {
+            let next = graph_rows::node_row::id_at(self.nodes, i + 1);
+            if id <= here || next <= here {
+                return;
+            }
+            here = next;
+            self.row = i + 1;
+        }
+    }
+
+    // The level of the node `id`, read from the row that the walk reaches if it stands there; none if it does not live.
+    fn level_of(&mut self, id: NodeId) -> Option<f32>
+        ensures kept { (self.new.nodes.now ≡ self.old.nodes.now) × (self.new.n ≡ self.old.n) }
+        ensures is { result ≡ node_level (node_at (take self.old.n (nodes_in self.old.nodes.now)) id) }
+    {
+        self.advance(id);
+        let m = self.n.min(self.nodes.len() / 22);
+        if self.row < m && graph_rows::node_row::id_at(self.nodes, self.row) == id {
+            return Some(float_at(self.nodes, 22, self.row, 14));
+        }
+        node_level(self.nodes, self.n, id)
+    }
+
+    // The level of the voice in row `i`: none until the clock passes its birth, and none where its output does not live.
+    fn voice_level(&mut self, t: &[u32], i: usize, clock: u64) -> Option<f32>
+        ensures kept { (self.new.nodes.now ≡ self.old.nodes.now) × (self.new.n ≡ self.old.n) }
+        ensures is { result ≡ level_at (take self.old.n (nodes_in self.old.nodes.now)) clock (get_or (voices_in t.now) i (voice_of [])) }
+    {
+        if birth_at(t, i) < clock {
+            self.level_of(output_at(t, i))
+        } else {
+            None
+        }
+    }
+
+    // The voice in row `i` as one that may have to go, with its level and its rank.
+    fn candidate(&mut self, t: &[u32], i: usize, clock: u64) -> Candidate
+        ensures kept { (self.new.nodes.now ≡ self.old.nodes.now) × (self.new.n ≡ self.old.n) }
+        ensures is { result ≡ candidate_at (take self.old.n (nodes_in self.old.nodes.now)) clock (get_or (voices_in t.now) i (voice_of [])) }
+    {
+        Candidate {
+            voice: id_at(t, i),
+            level: self.voice_level(t, i, clock),
+            rank: rank_at(t, i),
+        }
     }
 }
 
@@ -84,7 +106,8 @@ fn level_near(t: &[u32], i: usize, nodes: &[u32], n: usize, clock: u64, row: usi
 pub fn level_at(t: &[u32], i: usize, nodes: &[u32], n: usize, clock: u64) -> Option<f32>
     ensures { result ≡ level_at (take n (nodes_in nodes.now)) clock (get_or (voices_in t.now) i (voice_of [])) }
 {
-    level_near(t, i, nodes, n, clock, 0)
+    let mut walk = NodeWalk::new(nodes, n);
+    walk.voice_level(t, i, clock)
 }
 
 // Whether the voice in row `i` is tracked and counts for a new voice on `bus`.
@@ -94,30 +117,18 @@ pub fn is_counted(t: &[u32], i: usize, scope: BudgetScope, bus: NodeId) -> bool
     matches!(state_at(t, i), VoiceState::Tracked) && counts_for(scope, bus_at(t, i), bus)
 }
 
-// The voice in row `i` as one that may have to go, with its level and its rank; its output is looked for in row `row` of the nodes first.
-fn candidate_at(t: &[u32], i: usize, nodes: &[u32], n: usize, clock: u64, row: usize) -> Candidate
-    requires { LeftMax nodes.now row }
-    ensures { result ≡ candidate_at (take n (nodes_in nodes.now)) clock (get_or (voices_in t.now) i (voice_of [])) }
-{
-    Candidate {
-        voice: id_at(t, i),
-        level: level_near(t, i, nodes, n, clock, row),
-        rank: rank_at(t, i),
-    }
-}
-
 // The tracked voices that count for a new voice, in order of admission, each with its level and its rank.
 // One walk over the nodes serves all voices: in a store that calls made, the ids of the nodes rise from row to row, and those of the
-// outputs from voice to voice. For an output that is not at the row reached, all nodes are looked at.
+// outputs from voice to voice. For an output that is not at the row reached, all nodes are looked at. A row is stored by its number and not by `push`, since
+// the loop's bound says that there is room.
 pub fn candidates(t: &VoiceTable, count: usize, nodes: &[u32], n: usize, by: Counting) -> Candidates
     ensures { candidates_of result ≡ candidates_at (take n (nodes_in nodes.now)) by.clock (counted by.scope by.bus) (take count (voices_in t.now)) }
 {
     let mut out = no_candidates();
-    let mut row = 0;
+    let mut walk = NodeWalk::new(nodes, n);
     for i in 0..count.min(64) {
         if is_counted(t, i, by.scope, by.bus) {
-            row = advance(nodes, n, row, output_at(t, i));
-            out.rows[out.count] = candidate_at(t, i, nodes, n, by.clock, row);
+            out.rows[out.count] = walk.candidate(t, i, by.clock);
             out.count += 1;
         }
     }

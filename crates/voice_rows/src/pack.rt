@@ -42,7 +42,7 @@ impl Layout<6> for ParamWords {
 
     fn words(x: Param) -> [u32; 6] {
         let n = name_words(x.name);
-        [n[0], n[1], n[2], n[3], n[4], x.node as u32]
+        [n[0], n[1], n[2], n[3], n[4], u32::from(x.node)]
     }
 
     fn read(t: &[u32], width: usize, i: usize, k: usize) -> Param {
@@ -57,11 +57,7 @@ impl Layout<6> for ParamWords {
 fn rule_word(all: bool, count: u8) -> u32
     ensures { (result % 256 ≡ count) × (is_set (result / 256) ≡ all) }
 {
-    if all {
-        256 + u32::from(count)
-    } else {
-        u32::from(count)
-    }
+    256 * u32::from(all) + u32::from(count)
 }
 
 // A step of a done plan in three words.
@@ -91,7 +87,7 @@ impl Layout<3> for StepWords {
     }
 }
 
-// The words of a voice before its parameters.
+// The words of a voice before its parameters. Word by word, since the list is the layout: parts put by their places would say it twice.
 fn head_words(v: Voice) -> [u32; 23]
     ensures { Heads v result }
 {
@@ -119,7 +115,7 @@ fn head_words(v: Voice) -> [u32; 23]
         s[7],
         low_word(held),
         high_word(held),
-        v.plan.output as u32,
+        u32::from(v.plan.output),
         v.rank,
     ]
 }

@@ -1,19 +1,17 @@
-// A voice's row: its fields one by one, so that a loop reads what it tests; its state; the whole record.
+// A voice's row: its fields one by one, so that a loop reads what it tests; its state; the whole record. A getter of any field would
+// take the field's word and say less than a name. The words are a slice and not `VoiceTable`: the library for C stores one voice in a
+// lent record by `put_voice`, and a table's length would ask of callers what no row needs.
 ghost use Rattle.std.specs.Prelude.{◌≡◌, [], get_or, set};
 ghost use Rattle.words.specs.Rows.{row_at};
-ghost use Rattle.synthdef.specs.Tables.{param_rows};
-ghost use Rattle.synthdef.specs.Params.{param_node};
 ghost use Rattle.synthdef.specs.Plan.{plan_silent};
 ghost use Rattle.model.specs.Voice.{with_state};
 ghost use Rattle.voice_rows.specs.Rows.{fade_at, voice_of, voices_in};
 
 use crate::layout::records_at;
 use crate::pack::{ParamWords, StepWords, state_words, voice_words};
-use node::name::Name;
 use node::record::{NodeId, VoiceId};
 use store::voices::{Fade, Voice, VoiceState};
 use synthdef::def::Params;
-use synthdef::params::param_node;
 use synthdef::plan::DonePlan;
 use synthdef::silent::plan_silent;
 use words::fields::{flag_at, long_at, low_byte};
@@ -145,13 +143,6 @@ pub fn silent_at(t: &[u32], i: usize, done: [bool; 24]) -> bool
     ensures { result ≡ plan_silent (get_or (voices_in t.now) i (voice_of [])).plan done }
 {
     plan_silent(plan_at(t, i), done)
-}
-
-// The node of the parameter of that name of the voice in row `i`, or none.
-pub fn param_node_at(t: &[u32], i: usize, name: Name) -> Option<u8>
-    ensures { result ≡ param_node (param_rows (get_or (voices_in t.now) i (voice_of [])).params) name }
-{
-    param_node(params_at(t, i), name)
 }
 
 // The voice in row `i`; past the end, the voice of no words.

@@ -1,4 +1,5 @@
-// The table of voices, in order of admission: its first `count` rows. A count above the room is the room.
+// The table of voices, in order of admission: its first `count` rows. A count above the room is the room. Where the room is tested the
+// table itself is lent; the other loops serve any words, and a table's length would ask of callers what they do not need.
 ghost use Rattle.std.specs.Prelude.{◌≡◌, not, length, take, filter, find};
 ghost use Rattle.model.specs.Voice.{is_voice};
 ghost use Rattle.voice_rows.specs.Listed.{is_any_of, pushed_voice};
@@ -23,12 +24,7 @@ pub fn voice_count(voices: &VoiceTable, count: usize) -> usize
 pub fn find_voice(t: &[u32], count: usize, w: VoiceId) -> Option<usize>
     ensures { FoundAt result count (voices_in t.now) (find (is_voice w) (take count (voices_in t.now))) }
 {
-    for i in 0..count.min(t.len() / 143) {
-        if id_at(t, i) == w {
-            return Some(i);
-        }
-    }
-    None
+    (0..count.min(t.len() / 143)).find(|i| id_at(t, *i) == w)
 }
 
 // One voice more behind the first `count`, if there is a place: how many there are.

@@ -9,5 +9,5 @@ loop-i-init c =
     let t = c.args.t.now in
     let wide : length t ≡ 320 = search rules in
     let rows = c.args.s.rows in
-    let long : length rows ≡ 64 = c.well_formed.1.0.1.1.0.1.0.1 in
+    let long : length rows ≡ 64 = search rules in
     (refl, copy_start (steal_of []) 64 rows (records_in t) long (room t wide))

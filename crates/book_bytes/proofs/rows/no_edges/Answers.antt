@@ -5,4 +5,4 @@ use Rattle.book_bytes.proofs.rows.no_edges.Goals as goal
 
 pub returns : goal.returns
 unfolding held
-returns c = refl
+returns c = rw (c.empty.ensures.rows, c.empty.ensures.count) refl

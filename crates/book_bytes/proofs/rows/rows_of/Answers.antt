@@ -18,22 +18,14 @@ said f s at e h = sym (ap f (part s at)) ∙ sym e ∙ h
 pub loop-at-init : goal.loop-at-init
 loop-at-init c = begun _ _ _ _ c.no_nodes-nodes.ensures c.no_edges-edges.ensures c.no_params-params.ensures
 
-pub push-requires : goal.push-requires
-push-requires c = let h = few_nodes c.loop-at.invariant in omega arith
-
-pub push-requires-then-is_edge : goal.push-requires-then-is_edge
-push-requires-then-is_edge c = let h = few_edges c.loop-at.invariant in omega arith
-
-pub push-requires-then-is_param : goal.push-requires-then-is_param
-push-requires-then-is_param c = let h = few_params c.loop-at.invariant in omega arith
-
 pub loop-at-preserved-then-is_node : goal.loop-at-preserved-then-is_node
 loop-at-preserved-then-is_node c =
     let s = c.args.s.now in
     let at = c.loop-at.at in
     let here = as_node_lem (drop at s) (said is_node s at c.is_node.ensures c.if-is_node.true) in
     let read = c.node_at.ensures ∙ ap node_at (part s at) in
-    node_turn c.loop-at.invariant (node_at (drop at s)) _ here (rw (c.push.ensures.stored, c.push.ensures.counted) (ap (more_nodes c.loop-at.nodes) read))
+    let h = few_nodes c.loop-at.invariant in
+    node_turn c.loop-at.invariant (node_at (drop at s)) _ here (rw (c.push.ensures.stored, c.push.ensures.counted (omega arith)) (ap (more_nodes c.loop-at.nodes) read))
 
 pub loop-at-preserved-then-is_edge : goal.loop-at-preserved-then-is_edge
 loop-at-preserved-then-is_edge c =
@@ -43,7 +35,8 @@ loop-at-preserved-then-is_edge c =
     let here = as_edge (drop at s) no (said is_edge s at c.is_edge.ensures c.if-is_edge.true) in
     let read = c.edge_at.ensures ∙ ap edge_at (part s at) in
     let p = c.push-then-is_edge.ensures in
-    edge_turn c.loop-at.invariant (edge_at (drop at s)) _ here (rw (p.stored, p.counted) (ap (more_edges c.loop-at.edges) read))
+    let h = few_edges c.loop-at.invariant in
+    edge_turn c.loop-at.invariant (edge_at (drop at s)) _ here (rw (p.stored, p.counted (omega arith)) (ap (more_edges c.loop-at.edges) read))
 
 pub loop-at-preserved : goal.loop-at-preserved
 loop-at-preserved c =
@@ -54,7 +47,8 @@ loop-at-preserved c =
     let here = as_param_lem (drop at s) no nor (said is_param s at c.is_param.ensures c.if-is_param.true) in
     let read = c.param_at.ensures ∙ ap param_at (part s at) in
     let p = c.push-then-is_param.ensures in
-    param_turn c.loop-at.invariant (param_at (drop at s)) _ here (rw (p.stored, p.counted) (ap (more_params c.loop-at.params) read))
+    let h = few_params c.loop-at.invariant in
+    param_turn c.loop-at.invariant (param_at (drop at s)) _ here (rw (p.stored, p.counted (omega arith)) (ap (more_params c.loop-at.params) read))
 
 pub returns-else-is_param : goal.returns-else-is_param
 returns-else-is_param c =

@@ -3,6 +3,7 @@ use Prim.Native.Nat.{◌≤◌, ◌<◌}
 use native.Mathlib.Omega.{arith}
 use mathlib.Core.Path.{sym, ◌∙◌}
 use lib.ListN.{length}
+use Rattle.std.proofs.Common.{rules}
 use Rattle.def_book.specs.Bytes.{book_of}
 use Rattle.def_book.proofs.Writing.{Long, book_long, beyond, too_short, put_whole}
 use Rattle.book_bytes.proofs.write.write_book.Goals as goal
@@ -10,9 +11,9 @@ use Rattle.book_bytes.proofs.write.write_book.Goals.{Start}
 
 long : (c : Start) → Long c.args.d
 long c = record {
-  nodes = c.well_formed.0.1.1.0.1.1.0.1.0.1;
-  edges = c.well_formed.0.1.1.1.0.1.1.0.1.0.1;
-  params = c.well_formed.0.1.1.1.1.0.1.1.0.1.0.1;
+  nodes = search rules;
+  edges = search rules;
+  params = search rules;
 }
 
 pub returns-then-not-allowed : goal.returns-then-not-allowed

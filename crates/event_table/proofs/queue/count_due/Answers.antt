@@ -7,21 +7,19 @@ use Rattle.event_table.proofs.queue.count_due.Goals.{then-is_due, else-is_due}
 
 pub loop-i-preserved : goal.loop-i-preserved
 loop-i-preserved c =
-    let s = c.args in
+    let t = c.args.t.now in
+    let q = due c.args.deadline in
     let l = c.loop-i in
-    let n = c.min-n.result in
-    let fits : n ≤ length s.t.now / 15 = omega (arith, c.min-n.ensures) in
+    let fits : c.min-n.result ≤ length t / 15 = omega (arith, c.min-n.ensures) in
+    let counted = CountingIn 15 event_of q t c.min-n.result (l.i + 1) in
     elim c.if-is_due.branch [
       | then-is_due w ↦
-          subst (CountingIn 15 event_of (due s.deadline) s.t.now n (l.i + 1)) (sym w.found-is)
-          (count_on 15 event_of (due s.deadline) s.t.now n l.i l.found fits c.loop-i-test.true l.invariant (sym c.is_due.ensures ∙ w.if-is_due.true))
+          subst counted (sym w.found-is) (count_on 15 event_of q t c.min-n.result l.i l.found fits c.loop-i-test.true l.invariant (sym c.is_due.ensures ∙ w.if-is_due.true))
       | else-is_due w ↦
-          subst (CountingIn 15 event_of (due s.deadline) s.t.now n (l.i + 1)) (sym w.found-is)
-          (count_off 15 event_of (due s.deadline) s.t.now n l.i l.found fits c.loop-i-test.true l.invariant (sym c.is_due.ensures ∙ w.if-is_due.false))
+          subst counted (sym w.found-is) (count_off 15 event_of q t c.min-n.result l.i l.found fits c.loop-i-test.true l.invariant (sym c.is_due.ensures ∙ w.if-is_due.false))
     ]
 
 pub returns : goal.returns
 returns c =
-    let s = c.args in
-    let l = c.loop-i in
-    count_done 15 event_of (due s.deadline) s.t.now s.count c.min-n.result l.i l.found c.min-n.ensures (omega arith) l.invariant
+    let a = c.args in
+    count_done 15 event_of (due a.deadline) a.t.now a.count c.min-n.result c.loop-i.i c.loop-i.found c.min-n.ensures (omega arith) c.loop-i.invariant

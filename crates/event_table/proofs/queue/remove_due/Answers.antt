@@ -4,14 +4,7 @@ use Rattle.words.proofs.Place.{holds_rows}
 use Rattle.event_table.specs.Rows.{event_of}
 use Rattle.event_table.proofs.queue.remove_due.Invariants.{stays}
 use Rattle.event_table.proofs.queue.remove_due.Goals as goal
-
-pub loop-i-preserved-then-is_due : goal.loop-i-preserved-then-is_due
-loop-i-preserved-then-is_due c =
-    let s = c.args in
-    let l = c.loop-i in
-    let n = c.min-n.result in
-    let fits : n ≤ length s.t.now / 15 = omega (arith, c.min-n.ensures) in
-    words_drop 15 event_of (stays s.deadline) s.t.now l.t n l.i l.w fits c.loop-i-test.true l.invariant (ap not (sym c.is_due.ensures ∙ c.if-is_due.true))
+use Rattle.event_table.proofs.queue.remove_due.Goals.{then-not-is_due, else-not-is_due}
 
 pub loop-i-preserved : goal.loop-i-preserved
 loop-i-preserved c =
@@ -19,7 +12,12 @@ loop-i-preserved c =
     let l = c.loop-i in
     let n = c.min-n.result in
     let fits : n ≤ length s.t.now / 15 = omega (arith, c.min-n.ensures) in
-    words_keep 15 event_of (stays s.deadline) s.t.now l.t n l.i l.w fits c.loop-i-test.true l.invariant c.move_row.new.t c.move_row.ensures (ap not (sym c.is_due.ensures ∙ c.if-is_due.false))
+    let test = ap not (sym c.is_due.ensures) in
+    elim c.if-not-is_due.branch [
+      | then-not-is_due w ↦
+          rw (w.t-is, w.w-is) (words_keep 15 event_of (stays s.deadline) s.t.now l.t n l.i l.w fits c.loop-i-test.true l.invariant w.move_row.new.t w.move_row.ensures (test ∙ ap not w.if-not-is_due.true))
+      | else-not-is_due w ↦ rw (w.t-is, w.w-is) (words_drop 15 event_of (stays s.deadline) s.t.now l.t n l.i l.w fits c.loop-i-test.true l.invariant (test ∙ ap not w.if-not-is_due.false))
+    ]
 
 pub returns : goal.returns
 returns c =

@@ -1,28 +1,14 @@
-use mathlib.Core.Path.{sym, ap, ◌∙◌}
-use native.Mathlib.Omega.{arith}
-use lib.Dec.{eqb}
-use Rattle.node.specs.declared.record.NodeId.{NodeId}
-use Rattle.words.proofs.Place.{placing_hit, placing_next, placing_none}
+use Rattle.std.proofs.Common.{ℕ, ◌≡◌, Bool, true, false, [], get_or, rules, tests}
+use Rattle.std.proofs.lemmas.Iterator.{first_from_Range}
 use Rattle.graph.specs.Node.{is_node}
-use Rattle.graph_rows.specs.Node.{node_of}
-use borrow.Author.Rules.{rules}
+use Rattle.graph_rows.specs.Node.{node_of, nodes_in}
 use Rattle.graph_tables.proofs.Room.{nodes_counted}
+use Rattle.graph_tables.proofs.Searched.{found_row}
 use Rattle.graph_tables.proofs.lookup.row_of.Goals as goal
-
-pub returns-then-eq : goal.returns-then-eq
-returns-then-eq c =
-    let m = c.min-n in
-    let l = c.loop-i in
-    placing_hit 22 node_of (is_node c.args.id) c.args.nodes.now c.args.count m.result (nodes_counted c.args.nodes.now c.args.count m.result (search rules) m.ensures) l.i c.loop-i-test.true l.invariant (ap (λ (k : NodeId). eqb k.0 c.args.id.0) (sym c.id_at.ensures) ∙ sym c.eq.ensures ∙ c.if-eq.true)
-
-pub loop-i-preserved : goal.loop-i-preserved
-loop-i-preserved c =
-    let m = c.min-n in
-    let l = c.loop-i in
-    placing_next 22 node_of (is_node c.args.id) c.args.nodes.now c.args.count m.result (nodes_counted c.args.nodes.now c.args.count m.result (search rules) m.ensures) l.i c.loop-i-test.true l.invariant (ap (λ (k : NodeId). eqb k.0 c.args.id.0) (sym c.id_at.ensures) ∙ sym c.eq.ensures ∙ c.if-eq.false)
 
 pub returns : goal.returns
 returns c =
-    let m = c.min-n in
-    let l = c.loop-i in
-    placing_none 22 node_of (is_node c.args.id) c.args.nodes.now c.args.count m.result (nodes_counted c.args.nodes.now c.args.count m.result (search rules) m.ensures) l.i (omega arith) l.invariant
+    let s = c.args in
+    let q : ℕ → Bool = λ i. is_node s.id (get_or (nodes_in s.nodes.now) i (node_of [])) in
+    let told = first_from_Range _ _ _ c.find.result (λ i. q i ≡ true) (λ i. q i ≡ false) c.find.ensures.ran (λ x p h. search (rules, tests)) (λ x p h. (search rules, search (rules, tests))) in
+    found_row 22 node_of (is_node s.id) s.nodes.now s.count c.min.result (nodes_counted s.nodes.now s.count c.min.result (search rules) c.min.ensures) c.find.result told

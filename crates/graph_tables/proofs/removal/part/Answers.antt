@@ -13,9 +13,10 @@ use Rattle.graph.specs.Change.{ids_of}
 use Rattle.graph_rows.specs.Node.{node_of, nodes_in}
 use Rattle.graph_tables.proofs.Room.{nodes_counted}
 use Rattle.graph_tables.proofs.removal.part.Goals as goal
+use Rattle.graph_tables.proofs.removal.part.Goals.{then-goes, else-goes}
 
-pub loop-i-preserved-then-goes : goal.loop-i-preserved-then-goes
-loop-i-preserved-then-goes g c =
+pub loop-i-preserved : goal.loop-i-preserved
+loop-i-preserved g c =
     let l = c.loop-i in
     let m = c.min-n in
     let old = c.args.nodes.now in
@@ -24,48 +25,39 @@ loop-i-preserved-then-goes g c =
     let fits : m.result ≤ length old / 22 = omega (arith, counted) in
     let more : l.i < m.result = c.loop-i-test.true in
     let inside : l.i < length (nodes_in old) = omega (arith, rows_long 22 node_of old) in
-    let room : l.gone < 512 = omega (arith, l.invariant.0, m.ensures) in (
-      omega (arith, l.invariant.0),
-      omega (arith, l.invariant.1),
-      length-set l.removed l.gone _ ∙ l.invariant.2,
-      l.invariant.3,
-      λ q tells.
-          let inv = l.invariant.4 q tells in
-          let same = words_row 22 node_of (λ x. not (q x)) old l.nodes m.result l.i l.stay inv.0 in
-          let asked = subst (λ o. goal.F-post g c.args.goes row.id o c.goes.result) c.owner_at.ensures (subst (λ k. goal.F-post g c.args.goes k c.owner_at.result c.goes.result) c.id_at.ensures c.goes.ensures) in
-          let test = sym (tells row c.goes.result asked) ∙ c.if-goes.true in (
-            words_drop 22 node_of (λ x. not (q x)) old l.nodes m.result l.i l.stay fits more inv.0 (ap not test),
-            rw (c.id_at-then-goes.ensures, same) (gathering_take (node_of []) q (λ x. x.id.0) 512 (nodes_in old) l.removed l.i l.gone inside inv.1 room (sym (ap q same) ∙ test)),
-          ),
-    )
-
-pub overflow_add-stay : goal.overflow_add-stay
-overflow_add-stay g c = omega (arith, c.loop-i.invariant.1, c.loop-i-test.true, c.min-n.ensures)
-
-pub loop-i-preserved : goal.loop-i-preserved
-loop-i-preserved g c =
-    let l = c.loop-i in
-    let m = c.min-n in
-    let moved = c.move_row in
-    let old = c.args.nodes.now in
-    let row = get_or (nodes_in l.nodes) l.i (node_of []) in
-    let counted : m.result ≡ min c.args.count (length old / 22) = nodes_counted old c.args.count m.result (search rules) m.ensures in
-    let fits : m.result ≤ length old / 22 = omega (arith, counted) in
-    let more : l.i < m.result = c.loop-i-test.true in
-    let inside : l.i < length (nodes_in old) = omega (arith, rows_long 22 node_of old) in (
-      omega (arith, l.invariant.0),
-      omega (arith, l.invariant.1),
-      l.invariant.2,
-      ap length moved.ensures ∙ moved_long 22 l.i l.stay l.nodes ∙ l.invariant.3,
-      λ q tells.
-          let inv = l.invariant.4 q tells in
-          let same = words_row 22 node_of (λ x. not (q x)) old l.nodes m.result l.i l.stay inv.0 in
-          let asked = subst (λ o. goal.F-post g c.args.goes row.id o c.goes.result) c.owner_at.ensures (subst (λ k. goal.F-post g c.args.goes k c.owner_at.result c.goes.result) c.id_at.ensures c.goes.ensures) in
-          let test = sym (tells row c.goes.result asked) ∙ c.if-goes.false in (
-            words_keep 22 node_of (λ x. not (q x)) old l.nodes m.result l.i l.stay fits more inv.0 moved.new.t moved.ensures (ap not test),
-            gathering_pass (node_of []) q (λ x. x.id.0) 512 (nodes_in old) l.removed l.i l.gone inside inv.1 (sym (ap q same) ∙ test),
-          ),
-    )
+    let asked = subst (λ o. goal.F-post g c.args.goes row.id o c.goes.result) c.owner_at.ensures (subst (λ k. goal.F-post g c.args.goes k c.owner_at.result c.goes.result) c.id_at.ensures c.goes.ensures) in
+    elim c.if-goes.branch [
+      | then-goes w ↦
+          let room : l.gone < 512 = omega (arith, l.invariant.0, m.ensures) in
+          rw (w.nodes-is, w.stay-is, w.gone-is, w.removed-is) (
+            omega (arith, l.invariant.0),
+            omega (arith, l.invariant.1),
+            length-set l.removed l.gone _ ∙ l.invariant.2,
+            l.invariant.3,
+            λ q tells.
+                let inv = l.invariant.4 q tells in
+                let same = words_row 22 node_of (λ x. not (q x)) old l.nodes m.result l.i l.stay inv.0 in
+                let test = sym (tells row c.goes.result asked) ∙ w.if-goes.true in (
+                  words_drop 22 node_of (λ x. not (q x)) old l.nodes m.result l.i l.stay fits more inv.0 (ap not test),
+                  rw (w.id_at-then-goes.ensures, same) (gathering_take (node_of []) q (λ x. x.id.0) 512 (nodes_in old) l.removed l.i l.gone inside inv.1 room (sym (ap q same) ∙ test)),
+                ),
+          )
+      | else-goes w ↦
+          let moved = w.move_row in
+          rw (w.nodes-is, w.stay-is, w.gone-is, w.removed-is) (
+            omega (arith, l.invariant.0),
+            omega (arith, l.invariant.1),
+            l.invariant.2,
+            ap length moved.ensures ∙ moved_long 22 l.i l.stay l.nodes ∙ l.invariant.3,
+            λ q tells.
+                let inv = l.invariant.4 q tells in
+                let same = words_row 22 node_of (λ x. not (q x)) old l.nodes m.result l.i l.stay inv.0 in
+                let test = sym (tells row c.goes.result asked) ∙ w.if-goes.false in (
+                  words_keep 22 node_of (λ x. not (q x)) old l.nodes m.result l.i l.stay fits more inv.0 moved.new.t moved.ensures (ap not test),
+                  gathering_pass (node_of []) q (λ x. x.id.0) 512 (nodes_in old) l.removed l.i l.gone inside inv.1 (sym (ap q same) ∙ test),
+                ),
+          )
+    ]
 
 pub returns : goal.returns
 returns g c =

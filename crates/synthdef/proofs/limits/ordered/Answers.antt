@@ -3,10 +3,12 @@ use Prim.Native.Nat.{ℕ, ◌≤◌, min}
 use native.Mathlib.Omega.{arith}
 use mathlib.Core.Path.{◌≡◌, refl, sym, ap, ◌∙◌}
 use mathlib.Core.List.{List, [], ◌∷◌, ◌++◌, map, append-nil}
-use lib.ListN.{length, take, drop, length-map, drop_of_length-le}
+use lib.ListN.{length, take, drop, length-take, length-map, drop_of_length-le}
 use lib.Seq.{take_all}
 use Rattle.rank.specs.Order.{arc, arcs, upto, whole}
 use Rattle.synthdef.specs.Limits.{arc_of}
+use Rattle.synthdef.specs.Tables.{node_rows}
+use Rattle.synthdef.specs.declared.def.DefNode.{DefNode}
 use Rattle.synthdef.specs.declared.def.DefEdge.{DefEdge}
 use Rattle.synthdef.proofs.limits.ordered.Invariants.{source, target}
 use Rattle.synthdef.proofs.limits.ordered.Goals as goal
@@ -30,12 +32,13 @@ returns c =
     let end : drop c.loop-i.i es ≡ [] = drop_of_length-le es c.loop-i-test.false in
     let froms = all_ends source c.loop-i.from c.loop-i.i m es last end v.3 in
     let tos = all_ends target c.loop-i.to c.loop-i.i m es last end v.4 in
-    let small : min c.args.n 512 ≡ c.args.n = omega (arith, c.requires) in
+    let n = length (node_rows c.args.nodes.now) in
+    let small : min (length c.as_slice.result.now) 512 ≡ n = ap (λ (ns : List DefNode). min (length ns) 512) c.as_slice.ensures ∙ omega (arith, length-take (min c.args.nodes.now.count 24) c.args.nodes.now.rows) in
     let few : length (map arc_of es) ≤ 1024 = simp length-map (omega arith) in
     c.ranked.ensures.all
     ∙ ap (λ k. whole (upto k) (take 1024 (arcs (take m c.loop-i.from) (take m c.loop-i.to)))) small
-    ∙ ap (λ z. whole (upto c.args.n) (take 1024 (arcs z (take m c.loop-i.to)))) froms
-    ∙ ap (λ z. whole (upto c.args.n) (take 1024 (arcs (map source es) z))) tos
-    ∙ ap (λ z. whole (upto c.args.n) (take 1024 z)) (arcs_of es)
-    ∙ ap (whole (upto c.args.n)) (take_all 1024 (map arc_of es) few)
-    ∙ ap (λ z. whole (upto c.args.n) (map arc_of z)) c.as_slice-edges.ensures
+    ∙ ap (λ z. whole (upto n) (take 1024 (arcs z (take m c.loop-i.to)))) froms
+    ∙ ap (λ z. whole (upto n) (take 1024 (arcs (map source es) z))) tos
+    ∙ ap (λ z. whole (upto n) (take 1024 z)) (arcs_of es)
+    ∙ ap (whole (upto n)) (take_all 1024 (map arc_of es) few)
+    ∙ ap (λ z. whole (upto n) (map arc_of z)) c.as_slice-edges.ensures

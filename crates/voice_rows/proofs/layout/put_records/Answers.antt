@@ -1,5 +1,4 @@
-use Prim.Native.Nat.{◌<◌}
-use mathlib.Core.Path.{refl, ap, ◌∙◌}
+use mathlib.Core.Path.{refl, ◌∙◌}
 use mathlib.Core.List.{[]}
 use lib.ListN.{length}
 use Rattle.voice_rows.proofs.Filling.{fill_start, fill_more, fill_done, any_default}

@@ -2,7 +2,6 @@ use Prim.Native.Nat.{ℕ, ◌/◌, ◌<◌, min}
 use native.Mathlib.Omega.{arith}
 use mathlib.Core.Path.{◌≡◌, sym, ap, ◌∙◌}
 use mathlib.Core.List.{List, []}
-use mathlib.Core.Bool.{true, false}
 use borrow.Author.Rules.{rules}
 use lib.ListN.{length-set, length, take, get_or}
 use Rattle.model.specs.Voice.{counted}
@@ -31,18 +30,25 @@ loop-i-preserved c =
     elim c.if-is_counted.branch [
       | then-is_counted w ↦
           let fits : at.out.count < length at.out.rows = omega (arith, at.invariant.0, at.invariant.1, c.min-i-end.ensures, c.loop-i-test.true) in
-          rw (w.out-is, w.row-is) (
+          let walk = at.walk in
+          let here : w.candidate.result ≡ candidate_at ns a.by.clock (get_or vs at.i (voice_of [])) =
+          w.candidate.ensures.is
+          ∙ ap (λ l. candidate_at (take walk.n (nodes_in l)) a.by.clock (get_or vs at.i (voice_of []))) at.invariant.3
+          ∙ ap (λ n. candidate_at (take n (nodes_in a.nodes.now)) a.by.clock (get_or vs at.i (voice_of []))) at.invariant.4 in
+          rw (w.out-is, w.walk-is) (
             omega (arith, at.invariant.0),
-            length-set at.out.rows at.out.count w.candidate_at.result ∙ at.invariant.1,
-            picked_on (voice_of []) (candidate_at ns a.by.clock) q vs at.out.rows w.candidate_at.result at.i at.out.count below fits at.invariant.2 (sym c.is_counted.ensures ∙ w.if-is_counted.true) w.candidate_at.ensures,
-            w.advance-row.ensures,
+            length-set at.out.rows at.out.count w.candidate.result ∙ at.invariant.1,
+            picked_on (voice_of []) (candidate_at ns a.by.clock) q vs at.out.rows w.candidate.result at.i at.out.count below fits at.invariant.2 (sym c.is_counted.ensures ∙ w.if-is_counted.true) here,
+            w.candidate.ensures.kept.0 ∙ at.invariant.3,
+            w.candidate.ensures.kept.1 ∙ at.invariant.4,
           )
       | else-is_counted w ↦
-          rw (w.out-is, w.row-is) (
+          rw (w.out-is, w.walk-is) (
             omega (arith, at.invariant.0),
             at.invariant.1,
             picked_off (voice_of []) (candidate_at ns a.by.clock) q vs at.out.rows at.i at.out.count below at.invariant.2 (sym c.is_counted.ensures ∙ w.if-is_counted.false),
             at.invariant.3,
+            at.invariant.4,
           )
     ]
 

@@ -17,7 +17,7 @@ returns c =
     let id = long_back v.id.0 _ _ c.low_word.ensures c.high_word.ensures in
     let birth = long_back v.birth _ _ c.low_word-2.ensures c.high_word-2.ensures in
     let held = long_back v.params.count _ _ c.low_word-3.ensures c.high_word-3.ensures in
-    let output : v.plan.output % 256 ≡ v.plan.output = omega arith in
+    let output : c.from.result % 256 ≡ v.plan.output = omega (arith, c.from.ensures) in
     record {
       long = refl;
       back =

@@ -1,7 +1,0 @@
-use mathlib.Core.Path.{◌≡◌}
-use lib.ListN.{length, take, get_or}
-use Rattle.prepare.proofs.Mapped.{Mapped}
-use Rattle.order_table.proofs.named.Given as goal
-
-abbrev pub invariant-loop-i : goal.invariant-loop-i
-invariant-loop-i l = (length l.order ≡ 512) × Mapped (λ x. get_or l.ids x 0) l.order l.i (take l.k l.rows)

@@ -1,0 +1,6 @@
+use lib.ListN.{take}
+use Rattle.rank.proofs.Laws.{Filled}
+use Rattle.rank.proofs.Graph.ready.Given as goal
+
+abbrev pub invariant-loop-v : goal.invariant-loop-v
+invariant-loop-v l = Filled l.queue l.tail l.v (take l.self.n l.counts)

@@ -1,6 +1,0 @@
-use lib.ListN.{take}
-use Rattle.rank.proofs.Laws.{Filled}
-use Rattle.rank.proofs.ready.Given as goal
-
-abbrev pub invariant-loop-v : goal.invariant-loop-v
-invariant-loop-v l = Filled l.queue l.tail l.v (take l.n l.counts)
