@@ -12,10 +12,8 @@ use Rattle.console.specs.Console.{Console, ConsoleCall, console_step, spawn_by, 
 use Rattle.console.specs.Console as console
 use Rattle.console.proofs.Plain.{store_run}
 use Rattle.sealed.specs.declared.profile.Profile.{Profile}
-use Rattle.sealed.specs.declared.profile.Seal.{Seal}
-use Rattle.sealed.specs.declared.profile.Seal.TheVariants.{Unsealed, Sealed}
 use Rattle.sealed.specs.declared.refusal.SealRefusal.TheVariants.{NotAccepted, Closed}
-use Rattle.sealed.specs.Seal.{shuts}
+use Rattle.sealed.specs.Seal.{Seal, shuts}
 use Rattle.sealed.specs.Board.{Board, BoardCall, on, seal, BoardAnswer, given, sealed, refused, closed, sealable, refuses, passes, board_step, console_calls}
 use Rattle.sealed.specs.Board as board
 use Rattle.sealed.proofs.Boards.{History, history_step, turn_open}
@@ -23,7 +21,7 @@ use Rattle.board_isolation.specs.Agree.{Asked, sealing, passed, shut, marked, as
 
 -- ---- by the seal x, until a sealing is answered that it is sealed
 abbrev pub seal_after : BoardAnswer → Profile → Seal → Seal
-seal_after sealed s x = Sealed s
+seal_after sealed s x = Some s
 seal_after (refused r) s x = x
 seal_after (given a) s x = x
 
@@ -43,8 +41,8 @@ counted : (m : Model) (x : Seal) (c : ConsoleCall) (k : Console) → History m x
 counted m x (console.on c) k h d (inl e) = ap (λ z. closed x (console.on z)) e
 counted m x (console.on c) k h d (inr i) = absurd i
 counted m x (console.wish q w) k h d i = absurd i
-counted m Unsealed console.turn k h d i = refl
-counted m (Sealed s) console.turn k h d i = go (picked k.wishes) refl i
+counted m None console.turn k h d i = refl
+counted m (Some s) console.turn k h d i = go (picked k.wishes) refl i
   where
     go : (o : Option Picked) → picked k.wishes ≡ o → In d (spawn_by o) → shuts s d ≡ false
     go None e i = absurd i
@@ -66,13 +64,13 @@ record Sealing (s : Profile) (b : Board) (r : board.BoardStep) : Type 0 where
 sealing_is : (s : Profile) (b : Board) → Sealing s b (board_step (seal s) b)
 sealing_is s b = go b.seal
   where
-    at : (t : Bool) → Sealing s b (cond t (record { answer = sealed; board = record { console = b.console; seal = Sealed s } }) (refuses NotAccepted b))
+    at : (t : Bool) → Sealing s b (cond t (record { answer = sealed; board = record { console = b.console; seal = Some s } }) (refuses NotAccepted b))
     at true = record { seal = refl; console = refl }
     at false = record { seal = refl; console = refl }
 
     go : (x : Seal) → Sealing s b (board.sealing x s b)
-    go Unsealed = at (sealable s b.console)
-    go (Sealed t) = record { seal = refl; console = refl }
+    go None = at (sealable s b.console)
+    go (Some t) = record { seal = refl; console = refl }
 
 pub asked_marked : (m : Model) (xs : List BoardCall) (b : Board) → History m b.seal b.console → Marked b.seal (asked xs b)
 asked_marked m [] b h = tt

@@ -20,10 +20,8 @@ use Rattle.isolation.proofs.Agreed.{matched_by}
 use Rattle.console_isolation.specs.Isolated.{calls_from}
 use Rattle.console_isolation.proofs.Theorem.{console_isolated}
 use Rattle.sealed.specs.declared.profile.Profile.{Profile}
-use Rattle.sealed.specs.declared.profile.Seal.{Seal}
-use Rattle.sealed.specs.declared.profile.Seal.TheVariants.{Unsealed, Sealed}
 use Rattle.sealed.specs.declared.refusal.SealRefusal.TheVariants.{Closed}
-use Rattle.sealed.specs.Seal.{within}
+use Rattle.sealed.specs.Seal.{Seal, within}
 use Rattle.sealed.specs.Board.{BoardCall, BoardAnswer, given, sealed, refused, closed, new_board}
 use Rattle.sealed.proofs.Boards.{board_claim}
 use Rattle.board_isolation.specs.Agree.{Asked, sealing, passed, shut, ledger_by, SameProfile, SameSpawns, managed, loose, AgreeAsked}
@@ -34,10 +32,10 @@ use Rattle.board_isolation.proofs.Marks.{seal_after, Marked, asked_marked, passe
 module _ (m : Matching) (nodes : OneToOne m.nodes) where
   -- ---- two seals that are the same up to the matching
   abbrev SameSeal : Seal → Seal → Type 0
-  SameSeal Unsealed Unsealed = Unit {0}
-  SameSeal Unsealed (Sealed t) = ⊥
-  SameSeal (Sealed s) Unsealed = ⊥
-  SameSeal (Sealed s) (Sealed t) = SameProfile m s t
+  SameSeal None None = Unit {0}
+  SameSeal None (Some t) = ⊥
+  SameSeal (Some s) None = ⊥
+  SameSeal (Some s) (Some t) = SameProfile m s t
 
   -- a sealing with its answer leaves such seals
   same_after : (a : BoardAnswer) (s t : Profile) (x y : Seal) → SameProfile m s t → SameSeal x y → SameSeal (seal_after a s x) (seal_after a t y)
@@ -52,11 +50,11 @@ module _ (m : Matching) (nodes : OneToOne m.nodes) where
       (ap₂ (λ a b. a && b) (ap₂ (λ d n. leb d.nodes.count n) e.def p.def_nodes) (ap₂ (λ d n. leb d.edges.count n) e.def p.def_edges))
 
   same_closed : (x y : Seal) (c d : Call) → SameSeal x y → SameSpawns m c d → closed x (console.on c) ≡ closed y (console.on d)
-  same_closed Unsealed Unsealed c d e f = refl
-  same_closed Unsealed (Sealed t) c d e f = absurd e
-  same_closed (Sealed s) Unsealed c d e f = absurd e
-  same_closed (Sealed s) (Sealed t) _ _ e (managed {x = x} {y = y} f) = ap not (same_within s t x y e f)
-  same_closed (Sealed s) (Sealed t) _ _ e (loose f) = refl
+  same_closed None None c d e f = refl
+  same_closed None (Some t) c d e f = absurd e
+  same_closed (Some s) None c d e f = absurd e
+  same_closed (Some s) (Some t) _ _ e (managed {x = x} {y = y} f) = ap not (same_within s t x y e f)
+  same_closed (Some s) (Some t) _ _ e (loose f) = refl
 
   -- ---- so what was let through agrees, and the seals have answered the same
   module _ (b₁ b₂ : NodeId) where
@@ -99,7 +97,7 @@ module _ (m : Matching) (nodes : OneToOne m.nodes) where
 -- ---- the stores of two consoles
 pub board_isolated : BoardIsolated
 board_isolated k n₁ n₂ c₁ c₂ e₁ e₂ per ids b₁ b₂ xs₁ xs₂ h₁ h₂ a =
-    let r = alike ids a.nodes b₁ b₂ a.calls Unsealed Unsealed tt (marks c₁ xs₁) (marks c₂ xs₂) in
+    let r = alike ids a.nodes b₁ b₂ a.calls None None tt (marks c₁ xs₁) (marks c₂ xs₂) in
     record {
       seals = r.seals;
       console = console_isolated k n₁ n₂ c₁ c₂ e₁ e₂ per ids b₁ b₂ (let_through xs₁ c₁) (let_through xs₂ c₂) h₁ h₂
@@ -108,7 +106,7 @@ board_isolated k n₁ n₂ c₁ c₂ e₁ e₂ per ids b₁ b₂ xs₁ xs₂ h�
       second = (board_claim k n₂ c₂ e₂ xs₂).console.console;
     }
   where
-    marks : (c : Console) (xs : List BoardCall) → Marked Unsealed (asked_of xs c)
+    marks : (c : Console) (xs : List BoardCall) → Marked None (asked_of xs c)
     marks c xs = asked_marked c.model xs (new_board c) (record { calls = []; is = refl })
 
     calls_of : (n : ℕ) (c : Console) → make_console k n ≡ made c → (xs : List BoardCall) → passed_of (asked_of xs c) ≡ calls_from n (let_through xs c)

@@ -4,6 +4,7 @@ use Prim.Native.Nat.{ℕ}
 use mathlib.Core.Path.{◌≡◌, refl, ap, ◌∙◌}
 use mathlib.Core.List.{List, [], ◌∷◌}
 use mathlib.Core.Bool.{false}
+use Rattle.std.specs.Prelude.{None, Some}
 use Rattle.memory.specs.View.{Memory}
 use Rattle.memory.specs.Lent.{lent_state}
 use Rattle.console.specs.Console.{Console, ConsoleCall, ConsoleRan, made, make_console}
@@ -12,8 +13,7 @@ use Rattle.call_console.proofs.making.make_console.Reads as fn-make-console
 use Rattle.console_refinement.specs.Contract as on-console
 use Rattle.console_refinement.proofs.Refined as on-console-proved
 use Rattle.sealed.specs.declared.profile.Profile.{Profile}
-use Rattle.sealed.specs.declared.profile.Seal.{Seal}
-use Rattle.sealed.specs.declared.profile.Seal.TheVariants.{Unsealed, Sealed}
+use Rattle.sealed.specs.Seal.{Seal}
 use Rattle.sealed.specs.Board.{BoardCall, BoardAnswer, BoardStep, BoardRan, closes, closed, board_run, new_board}
 use Rattle.sealed.proofs.Boards.{board_claim}
 use Rattle.call_seal.specs.Board.{BoardMemory, board, board_of, BoardCalled, BoardKept}
@@ -23,8 +23,8 @@ use Rattle.board_refinement.specs.Contract as contract
 use Rattle.board_refinement.specs.Refines.{Refines}
 
 never_closed : (x : Seal) (c : ConsoleCall) → ((s : Profile) → closes s c ≡ false) → closed x c ≡ false
-never_closed Unsealed c h = refl
-never_closed (Sealed s) c h = h s
+never_closed None c h = refl
+never_closed (Some s) c h = h s
 
 pub called : {x : BoardCall} {m : BoardMemory} {a : BoardAnswer} {n : BoardMemory} → Contract x m a n → BoardCalled x m a n
 called (contract.add_node κs a r s p m w words) = p.0 m w words
@@ -59,7 +59,7 @@ run_is (calls {xs = xs} {a = a} e r) = ap (after a) (run_is r) ∙ ap (λ (s : B
 -- the refinement, from the contract of `make_console`
 pub refines : (κs : _) (a : _) (r : _) (s : _) → fn-make-console.Post κs a r s
     → (c : Console) → make_console a.0 a.1.0 ≡ made c
-    → (tables : Memory) (words : List ℕ) (last : BoardMemory) (xs : List BoardCall) (said : List BoardAnswer) → Runs (board (lent_state r.state tables) r.wishes words Unsealed) xs said last
+    → (tables : Memory) (words : List ℕ) (last : BoardMemory) (xs : List BoardCall) (said : List BoardAnswer) → Runs (board (lent_state r.state tables) r.wishes words None) xs said last
     → Refines a.0 a.1.0 c xs said last
 refines κs a r s p c accepted tables words last xs said ran =
     let k = a.0 in

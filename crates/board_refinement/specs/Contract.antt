@@ -11,7 +11,7 @@ use Rattle.call_console.specs.declared.queues.WishState.{WishState}
 use Rattle.call_console.specs.Called.{ConsoleMemory}
 use Rattle.console_refinement.specs.Contract as on-console
 use Rattle.sealed.specs.declared.profile.Profile.{Profile}
-use Rattle.sealed.specs.declared.profile.Seal.{Seal}
+use Rattle.sealed.specs.Seal.{Seal}
 use Rattle.sealed.specs.Board.{BoardCall, BoardAnswer, on, given, closes}
 use Rattle.sealed.specs.Board as sealed
 use Rattle.call_seal.specs.Board.{BoardMemory, sealed_by, board, on_store, seal_answer, host_answer, node_answer, spawn_answer, wished_answer}

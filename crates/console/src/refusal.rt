@@ -8,7 +8,7 @@ pub enum KeyboardRefusal {
     Full = 25,
 }
 
-// The number of such a refusal.
+// The number of such a refusal: what a host in C and a recorded script hold.
 pub fn keyboard_refusal_number(r: KeyboardRefusal) -> u8
     ensures { result ≡ number_of r }
 {

@@ -66,44 +66,13 @@ ledger_after c xs = (run xs (new_ledger c)).ledger
 
 -- a managed spawn
 abbrev pub is_managed : Call → Bool
-is_managed (call.add_node kind ports required values glides) = false
-is_managed (call.remove_node k) = false
-is_managed (call.connect a b p) = false
-is_managed (call.disconnect b p) = false
-is_managed (call.set_sink k) = false
 is_managed (call.spawn_managed x) = true
-is_managed (call.spawn_loose x) = false
-is_managed (call.free w) = false
-is_managed call.clear = false
-is_managed (call.order w name o) = false
-is_managed (call.schedule t w name a) = false
-is_managed (call.report k channels samples flag) = false
-is_managed call.prepare = false
-is_managed (call.render out) = false
-is_managed (call.ask q) = false
+is_managed x = false
 
 -- a sounding render
 abbrev pub is_sounded : Answer → Bool
-is_sounded call.done = false
-is_sounded (call.refused r) = false
-is_sounded (call.node k) = false
-is_sounded (call.spawned s) = false
-is_sounded (call.removed n) = false
-is_sounded (call.ordered o) = false
 is_sounded (call.rendered a n out) = is_sounding a
-is_sounded (call.known x) = false
-is_sounded (call.reached p) = false
-is_sounded (call.found v) = false
-is_sounded (call.found_node n) = false
-is_sounded (call.all vs) = false
-is_sounded (call.stolen b) = false
-is_sounded (call.wires es) = false
-is_sounded (call.in_order ks) = false
-is_sounded (call.fed ss) = false
-is_sounded (call.time t) = false
-is_sounded (call.printed n out) = false
-is_sounded (call.filled out) = false
-is_sounded (call.filled_whole out) = false
+is_sounded x = false
 
 -- the store after a list of calls, from m
 abbrev pub after : Model → List Call → Model

@@ -4,7 +4,8 @@ use node::record::NodeId;
 use store::config::Config;
 
 // What is no table: what making fixed, how many rows each table holds, the sink, whether the graph is prepared, the next node id, the
-// clock, the voice ids given out, and of the ring of steal records the total and the next place.
+// clock, the voice ids given out, and of the ring of steal records the total and the next place. It goes by value, and each lent table is a
+// parameter of its own: a signature shows what a call may touch.
 #[derive(Clone, Copy)]
 pub struct State {
     pub config: Config,
@@ -22,7 +23,8 @@ pub struct State {
     pub place: usize,
 }
 
-// The state that a call left, and what the call answers: a result, of done or of the id that it gives.
+// The state that a call left, and what the call answers: a result, an outcome, a number. The state stands beside the answer and not in it,
+// since it may change where the answer is no: a spawn that finds no port has removed voices, and a render whose prepare failed has gone on.
 #[derive(Clone, Copy)]
 pub struct CallResult<A> {
     pub state: State,

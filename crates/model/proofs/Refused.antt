@@ -46,26 +46,10 @@ not_rendered (Rendered.Unprepared r) = None
 not_rendered (Rendered.Refused r) = Some r
 
 abbrev pub refusal_in : Answer → Option Refusal
-refusal_in call.done = None
 refusal_in (call.refused r) = Some r
-refusal_in (call.node k) = None
 refusal_in (call.spawned s) = not_spawned s
-refusal_in (call.removed n) = None
-refusal_in (call.ordered o) = None
 refusal_in (call.rendered a n out) = not_rendered a
-refusal_in (call.known l) = None
-refusal_in (call.reached p) = None
-refusal_in (call.found v) = None
-refusal_in (call.found_node n) = None
-refusal_in (call.all vs) = None
-refusal_in (call.stolen b) = None
-refusal_in (call.wires es) = None
-refusal_in (call.in_order l) = None
-refusal_in (call.fed l) = None
-refusal_in (call.time t) = None
-refusal_in (call.printed n out) = None
-refusal_in (call.filled out) = None
-refusal_in (call.filled_whole out) = None
+refusal_in x = None
 
 -- ---- what 12 leaves
 -- the admission's steal

@@ -2,10 +2,8 @@
 -- says, for every enum that the store's calls answer by. What a call that answers by a result says is `says` (node/specs/Refusal): making,
 -- the host's calls, prepare, "scheduling an event gives 7 or nothing", a spawn, the page, fade output and bus sum. The number of a value, a
 -- glide or a free is `outcome_number` (Order).
-use Rattle.node.specs.declared.refusal.Refusal.{Refusal}
-use Rattle.std.specs.Prelude.{ℕ, Bool, true, false, Option, None, Some, Result, Err, Ok}
+use Rattle.std.specs.Prelude.{ℕ, Bool, true, false, Option, None, Some}
 use Rattle.node.specs.Refusal.{Said, refused, gives, number_of, says}
-use Rattle.node.specs.declared.record.NodeId.{NodeId}
 use Rattle.node.specs.declared.record.VoiceId.{VoiceId}
 use Rattle.node.specs.declared.refusal.Refusal.TheVariants.{Rejected}
 use Rattle.voice.specs.declared.policy.Admission.{Admission}

@@ -67,9 +67,9 @@ pub data Contract : Call → Memory → Answer → Memory → Type 1 where
       → Contract (call_of a.1.1.1.1.1.0) (lent_spawn a.0 a.1.0.now a.1.1.0.now a.1.1.1.0.now a.1.1.1.1.0.now m) (call.spawned r.answer) (lent_spawn r.state s.1.0.now s.1.1.0.now s.1.1.1.0.now s.1.1.1.1.0.now m)
   -- free and clearing
   free_voice : (κs : _) (a : _) (r : _) (s : _) → fn-free-voice.Post κs a r s → (m : Memory)
-      → Contract (call.free a.1.1.1.1.0) (lent_voices a.0 a.1.0.now a.1.1.0.now a.1.1.1.0.now m) (call.ordered r.outcome) (lent_voices r.state s.1.0.now s.1.1.0.now s.1.1.1.0.now m)
+      → Contract (call.free a.1.1.1.1.0) (lent_voices a.0 a.1.0.now a.1.1.0.now a.1.1.1.0.now m) (call.ordered r.answer) (lent_voices r.state s.1.0.now s.1.1.0.now s.1.1.1.0.now m)
   free_done : (κs : _) (a : _) (r : _) (s : _) → fn-free-done.Post κs a r s → (m : Memory)
-      → Contract call.clear (lent_voices a.0 a.1.0.now a.1.1.0.now a.1.1.1.0.now m) (call.removed r.removed) (lent_voices r.state s.1.0.now s.1.1.0.now s.1.1.1.0.now m)
+      → Contract call.clear (lent_voices a.0 a.1.0.now a.1.1.0.now a.1.1.1.0.now m) (call.removed r.answer) (lent_voices r.state s.1.0.now s.1.1.0.now s.1.1.1.0.now m)
   -- values and glides, events, reports
   set_param : (κs : _) (a : _) (r : _) (s : _) → fn-set-param.Post κs a r s → (m : Memory)
       → Contract (call.order a.1.1.1.0 a.1.1.1.1.0.now (LastOrder.Value a.1.1.1.1.1.0)) (lent_params a.0 a.1.0.now a.1.1.0.now m) (call.ordered r) (lent_params a.0 s.1.0.now a.1.1.0.now m)

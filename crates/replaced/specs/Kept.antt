@@ -22,39 +22,13 @@ SameButEvents a b = with_queue [] a ≡ with_queue [] b
 -- ---- machine B
 -- the event that a call schedules, if it is such a call
 abbrev pub scheduled : Call → Option Event
-scheduled (call.add_node kind ports required values glides) = None
-scheduled (call.remove_node k) = None
-scheduled (call.connect a b p) = None
-scheduled (call.disconnect b p) = None
-scheduled (call.set_sink k) = None
-scheduled (call.spawn_managed spawn) = None
-scheduled (call.spawn_loose spawn) = None
-scheduled (call.free w) = None
-scheduled call.clear = None
-scheduled (call.order w name o) = None
 scheduled (call.schedule t w name a) = Some (event t w name a)
-scheduled (call.report k channels samples flag) = None
-scheduled call.prepare = None
-scheduled (call.render out) = None
-scheduled (call.ask q) = None
+scheduled x = None
 
 -- the other call that looks at the queue
 abbrev pub is_render : Call → Bool
-is_render (call.add_node kind ports required values glides) = false
-is_render (call.remove_node k) = false
-is_render (call.connect a b p) = false
-is_render (call.disconnect b p) = false
-is_render (call.set_sink k) = false
-is_render (call.spawn_managed spawn) = false
-is_render (call.spawn_loose spawn) = false
-is_render (call.free w) = false
-is_render call.clear = false
-is_render (call.order w name o) = false
-is_render (call.schedule t w name a) = false
-is_render (call.report k channels samples flag) = false
-is_render call.prepare = false
 is_render (call.render out) = true
-is_render (call.ask q) = false
+is_render x = false
 
 -- what A refused is not given to B; what A accepted is put behind the others of its time, and none is removed
 abbrev pub kept_unless : Option Refusal → Event → Model → Step

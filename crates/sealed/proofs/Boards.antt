@@ -25,10 +25,8 @@ use Rattle.console.specs.Console.{Console, ConsoleCall, wished, turned, console_
 use Rattle.console.specs.Console as console
 use Rattle.console.proofs.Claim.{console_claim, accepted}
 use Rattle.sealed.specs.declared.profile.Profile.{Profile}
-use Rattle.sealed.specs.declared.profile.Seal.{Seal}
-use Rattle.sealed.specs.declared.profile.Seal.TheVariants.{Unsealed, Sealed}
 use Rattle.sealed.specs.declared.refusal.SealRefusal.TheVariants.{NotAccepted, Closed}
-use Rattle.sealed.specs.Seal.{accepts, within, shuts, all_open}
+use Rattle.sealed.specs.Seal.{Seal, accepts, within, shuts, all_open}
 use Rattle.sealed.specs.Sealed.{Promise}
 use Rattle.sealed.specs.Board.{Board, BoardCall, on, seal, given, sealed, BoardStep, open_wish, closed, none_at, none_waits, sealable, refuses, passes, sealing, board_step, BoardRan, board_run, new_board, console_calls}
 use Rattle.sealed.specs.Claim.{ConsoleRun, SealedBoard, BoardClaim}
@@ -56,15 +54,15 @@ console_run (on c ∷ xs) b = go (closed b.seal c) (console_run xs)
 console_run (seal s ∷ xs) b = go b.seal (console_run xs)
   where
     at : (t : Bool) → ((d : Board) → Part xs d)
-        → let u = cond t (record { answer = sealed; board = record { console = b.console; seal = Sealed s } }) (refuses NotAccepted b) in
+        → let u = cond t (record { answer = sealed; board = record { console = b.console; seal = Some s } }) (refuses NotAccepted b) in
         ConsoleRun (then u (board_run xs u.board)) (console_calls xs u.board) b.console
-    at true ih = let r = ih (record { console = b.console; seal = Sealed s }) in record { console = r.console; answers = r.answers }
+    at true ih = let r = ih (record { console = b.console; seal = Some s }) in record { console = r.console; answers = r.answers }
     at false ih = let r = ih b in record { console = r.console; answers = r.answers }
 
     go : (x : Seal) → ((d : Board) → Part xs d)
         → ConsoleRun (then (sealing x s b) (board_run xs (sealing x s b).board)) (console_calls xs (sealing x s b).board) b.console
-    go Unsealed ih = at (sealable s b.console) ih
-    go (Sealed t) ih = let r = ih b in record { console = r.console; answers = r.answers }
+    go None ih = at (sealable s b.console) ih
+    go (Some t) ih = let r = ih b in record { console = r.console; answers = r.answers }
 
 -- ---- what waits
 abbrev pub AllOpen : Profile → Wishes → Type 0
@@ -152,31 +150,31 @@ sealed_step s m n x o d =
     }
 
 abbrev pub History : Model → Seal → Console → Type 0
-History m Unsealed k = Made m k.model
-History m (Sealed s) k = MadeSealed s m k.model × AllOpen s k.wishes
+History m None k = Made m k.model
+History m (Some s) k = MadeSealed s m k.model × AllOpen s k.wishes
 
 -- ---- a call that is let through
 history_open : (m : Model) (x : Seal) (c : ConsoleCall) (k : Console) → closed x c ≡ false → History m x k → History m x (console_step c k).console
-history_open m Unsealed (console.on c) k o h = made_step m k.model c h
-history_open m Unsealed (console.wish q w) k o h = go (wish_refusal k.wishes q)
+history_open m None (console.on c) k o h = made_step m k.model c h
+history_open m None (console.wish q w) k o h = go (wish_refusal k.wishes q)
   where
     go : (r : Option KeyboardRefusal) → Made m (wished r q w k).console.model
     go None = h
     go (Some r) = h
-history_open m Unsealed console.turn k o h = go (picked k.wishes)
+history_open m None console.turn k o h = go (picked k.wishes)
   where
     go : (p : Option Picked) → Made m (turned p k).console.model
     go None = h
     go (Some p) = made_step m k.model (call_of p.wish) h
-history_open m (Sealed s) (console.on c) k o h = (sealed_step s m k.model c o h.0, h.1)
-history_open m (Sealed s) (console.wish q w) k o h = go (wish_refusal k.wishes q)
+history_open m (Some s) (console.on c) k o h = (sealed_step s m k.model c o h.0, h.1)
+history_open m (Some s) (console.wish q w) k o h = go (wish_refusal k.wishes q)
   where
-    go : (r : Option KeyboardRefusal) → History m (Sealed s) (wished r q w k).console
+    go : (r : Option KeyboardRefusal) → History m (Some s) (wished r q w k).console
     go None = (h.0, open_added s q w k.wishes (not-false _ o) h.1)
     go (Some r) = h
-history_open m (Sealed s) console.turn k o h = go (picked k.wishes) refl
+history_open m (Some s) console.turn k o h = go (picked k.wishes) refl
   where
-    go : (p : Option Picked) → picked k.wishes ≡ p → History m (Sealed s) (turned p k).console
+    go : (p : Option Picked) → picked k.wishes ≡ p → History m (Some s) (turned p k).console
     go None e = h
     go (Some p) e =
         let z = turn_open s k.wishes h.1 p e in
@@ -192,7 +190,7 @@ history_step m (on c) b h = go (closed b.seal c) refl
 history_step m (seal s) b h = go b.seal refl h
   where
     at : (t : Bool) → sealable s b.console ≡ t → Made m b.console.model → History m b.seal b.console
-        → let u = cond t (record { answer = sealed; board = record { console = b.console; seal = Sealed s } }) (refuses NotAccepted b) in History m u.board.seal u.board.console
+        → let u = cond t (record { answer = sealed; board = record { console = b.console; seal = Some s } }) (refuses NotAccepted b) in History m u.board.seal u.board.console
     at true e d h =
         let a = and_left (accepts s b.console.model.shared b.console.model.voices) _ e in (
           record {
@@ -207,15 +205,15 @@ history_step m (seal s) b h = go b.seal refl h
     at false e d h = h
 
     go : (x : Seal) → b.seal ≡ x → History m x b.console → History m (sealing x s b).board.seal (sealing x s b).board.console
-    go Unsealed e d = at (sealable s b.console) refl d h
-    go (Sealed t) e d = h
+    go None e d = at (sealable s b.console) refl d h
+    go (Some t) e d = h
 
 history_run : (m : Model) (xs : List BoardCall) (b : Board) → History m b.seal b.console → History m (board_run xs b).board.seal (board_run xs b).board.console
 history_run m [] b h = h
 history_run m (x ∷ xs) b h = history_run m xs (board_step x b).board (history_step m x b h)
 
 -- ---- a sealed board
-sealed_board : (k : Making) (m : Model) → make k ≡ Some m → (s : Profile) (b : Board) → b.seal ≡ Sealed s → History m b.seal b.console → SealedBoard k s b
+sealed_board : (k : Making) (m : Model) → make k ≡ Some m → (s : Profile) (b : Board) → b.seal ≡ Some s → History m b.seal b.console → SealedBoard k s b
 sealed_board k m made s b is h₀ =
     record {
       promise = promise;
@@ -225,16 +223,16 @@ sealed_board k m made s b is h₀ =
       shut = λ c e. ap (λ x. cond (closed x c) (refuses Closed b) (passes (console_step c b.console) b.seal)) is ∙ ap (λ t. cond t (refuses Closed b) (passes (console_step c b.console) b.seal)) e;
     }
   where
-    h : History m (Sealed s) b.console
+    h : History m (Some s) b.console
     h = subst (λ x. History m x b.console) is h₀
 
     promise : Promise (config_of k) s b.console.model
     promise = subst (Promise (config_of k) s) (sym h.0.is) (theorem.sealed k m made s h.0.before h.0.later h.0.fits h.0.opens)
 
-    stays : (x : BoardCall) → (board_step x b).board.seal ≡ Sealed s
+    stays : (x : BoardCall) → (board_step x b).board.seal ≡ Some s
     stays (on c) = at (closed b.seal c)
       where
-        at : (t : Bool) → (cond t (refuses Closed b) (passes (console_step c b.console) b.seal)).board.seal ≡ Sealed s
+        at : (t : Bool) → (cond t (refuses Closed b) (passes (console_step c b.console) b.seal)).board.seal ≡ Some s
         at true = is
         at false = is
     stays (seal t) = ap (λ x. (sealing x t b).board.seal) is ∙ is

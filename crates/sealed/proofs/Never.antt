@@ -142,7 +142,7 @@ fine_budgeted x l =
 spawned_inj : (a b : Result VoiceId Refusal) → call.spawned a ≡ call.spawned b → a ≡ b
 spawned_inj a b e = cc
 
-pub spawn_fine : (x : Spawn) (l : Ledger) → InvariantOf l → no_headroom l.shared l.voices x.def ≡ false → (step (call.spawn_managed x) l).answer ≡ call.spawned (Err TableFull) → ⊥
+spawn_fine : (x : Spawn) (l : Ledger) → InvariantOf l → no_headroom l.shared l.voices x.def ≡ false → (step (call.spawn_managed x) l).answer ≡ call.spawned (Err TableFull) → ⊥
 unfolding Fine
 spawn_fine x l sound h e = go (spawn_refusal l.shared l.voices x.def x.bus x.rank) (refusal7 l.shared l.voices x.def x.bus x.rank h) (spawned_inj _ _ e)
   where

@@ -1,15 +1,13 @@
 -- A board: a console and its seal. Its calls are the console's own, and sealing.
-use Rattle.std.specs.Prelude.{List, [], ◌∷◌, ◌++◌, Bool, true, false, not, cond, ◌&&◌}
+use Rattle.std.specs.Prelude.{List, [], ◌∷◌, ◌++◌, Bool, true, false, not, cond, ◌&&◌, None, Some}
 use Rattle.store.specs.declared.wish.Wish.{Wish}
 use Rattle.model.specs.Wish.{spawn_in}
 use Rattle.console.specs.Console.{Console, ConsoleCall, ConsoleAnswer, ConsoleStep, console_step}
 use Rattle.console.specs.Console as console
 use Rattle.sealed.specs.declared.profile.Profile.{Profile}
-use Rattle.sealed.specs.declared.profile.Seal.{Seal}
-use Rattle.sealed.specs.declared.profile.Seal.TheVariants.{Unsealed, Sealed}
 use Rattle.sealed.specs.declared.refusal.SealRefusal.{SealRefusal}
 use Rattle.sealed.specs.declared.refusal.SealRefusal.TheVariants.{NotAccepted, Closed}
-use Rattle.sealed.specs.Seal.{accepts, within, shuts}
+use Rattle.sealed.specs.Seal.{Seal, accepts, within, shuts}
 
 pub record Board : Type 0 where
   pub console : Console
@@ -38,8 +36,8 @@ closes s (console.wish q w) = not (open_wish s w)
 closes s console.turn = false
 
 abbrev pub closed : Seal → ConsoleCall → Bool
-closed Unsealed c = false
-closed (Sealed s) c = closes s c
+closed None c = false
+closed (Some s) c = closes s c
 
 -- ---- 27. "which has no voice and no waiting wish"
 abbrev pub none_at : List Wish → Bool
@@ -62,8 +60,8 @@ passes t x = record { answer = given t.answer; board = record { console = t.cons
 
 -- sealing "changes nothing but the seal"; on a sealed board it is closed
 abbrev pub sealing : Seal → Profile → Board → BoardStep
-sealing Unsealed s b = cond (sealable s b.console) (record { answer = sealed; board = record { console = b.console; seal = Sealed s } }) (refuses NotAccepted b)
-sealing (Sealed t) s b = refuses Closed b
+sealing None s b = cond (sealable s b.console) (record { answer = sealed; board = record { console = b.console; seal = Some s } }) (refuses NotAccepted b)
+sealing (Some t) s b = refuses Closed b
 
 abbrev pub board_step : BoardCall → Board → BoardStep
 board_step (on c) b = cond (closed b.seal c) (refuses Closed b) (passes (console_step c b.console) b.seal)
@@ -81,7 +79,7 @@ board_run (x ∷ xs) b =
     record { answers = s.answer ∷ r.answers; board = r.board }
 
 abbrev pub new_board : Console → Board
-new_board k = record { console = k; seal = Unsealed }
+new_board k = record { console = k; seal = None }
 
 -- ---- the console's calls that a list makes: those that the seal lets through
 abbrev pub through : BoardCall → Board → List ConsoleCall

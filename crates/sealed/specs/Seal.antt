@@ -9,6 +9,10 @@ use Rattle.model.specs.Call.{Call}
 use Rattle.model.specs.Call as call
 use Rattle.sealed.specs.declared.profile.Profile.{Profile}
 
+-- the seal of a board: none yet, or the profile by which it was sealed
+abbrev pub Seal : Type 0
+Seal = Option Profile
+
 -- ---- 27: "Sealing accepts exactly if P is 2 to 31, H + (P + 1) × (D + 3) is at most 512, G + (P + 1) × (E + 4) at most 1,024, and
 -- P, H and G are those of the present store, which has no voice"
 abbrev pub fewest_ports : ℕ

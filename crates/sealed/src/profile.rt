@@ -13,8 +13,4 @@ pub struct Profile {
 }
 
 // The seal of a board: none yet, or the profile by which it was sealed.
-#[derive(Clone, Copy)]
-pub enum Seal {
-    Unsealed,
-    Sealed(Profile),
-}
+pub type Seal = Option<Profile>;

@@ -8,7 +8,7 @@ pub enum SealRefusal {
     Closed = 28,
 }
 
-// The number of such a refusal.
+// The number of such a refusal: what a host in C and a recorded script hold.
 pub fn seal_refusal_number(r: SealRefusal) -> u8
     ensures { result ≡ number_of r }
 {

@@ -1,20 +1,20 @@
 -- Two records with the same fields are the same; a record read from the same words is the same.
 use Prim.Native.Nat.{ℕ, ◌+◌, ◌/◌, ◌%◌}
 use native.Mathlib.Omega.{arith}
-use mathlib.Core.Path.{◌≡◌, ap, ◌∙◌}
+use mathlib.Core.Path.{◌≡◌, ap}
 use mathlib.Core.Bool.{Bool}
-use mathlib.Core.List.{List, [], ◌∷◌}
+use mathlib.Core.List.{List}
 use lib.ListN.{get_or}
 use lib.Ieee.{Float}
 use Rattle.node.specs.declared.name.Name.{Name}
 use Rattle.node.specs.declared.record.NodeId.{NodeId}
 use Rattle.synthdef.specs.declared.def.DefNode.{DefNode}
 use Rattle.synthdef.specs.declared.def.DefEdge.{DefEdge}
-use Rattle.synthdef.specs.declared.def.DefNodes.{DefNodes}
-use Rattle.synthdef.specs.declared.def.DefEdges.{DefEdges}
-use Rattle.synthdef.specs.declared.def.Params.{Params}
+use Rattle.synthdef.specs.Tables.{DefNodes}
+use Rattle.synthdef.specs.Tables.{DefEdges}
+use Rattle.synthdef.specs.Tables.{Params}
 use Rattle.synthdef.specs.declared.def.SynthDef.{SynthDef}
-use Rattle.words.specs.Fields.{is_set, four, name_from, name_at}
+use Rattle.words.specs.Fields.{is_set, name_at}
 use Rattle.voice_rows.specs.Filled.{Local}
 use Rattle.voice_rows.proofs.Records.{param_same, first, name_local}
 use Rattle.store.specs.declared.wish.Wish.{Wish}
@@ -35,10 +35,6 @@ node_same m n a b c d e f g h =
 
 edge : ℕ → ℕ → ℕ → DefEdge
 edge a b c = record { from = a; to = b; port = c }
-
-pub edge_same : (m n : DefEdge) → m.from ≡ n.from → m.to ≡ n.to → m.port ≡ n.port → m ≡ n
-unfolding edge
-edge_same m n a b c = let same : edge m.from m.to m.port ≡ edge n.from n.to n.port = cc in same
 
 nodes : List DefNode → ℕ → DefNodes
 nodes l k = record { rows = l; count = k }

@@ -93,7 +93,7 @@ impl Layout<5> for PackedParam {
     }
 }
 
-// The words of a wish before its definition's rows.
+// The words of a wish before its definition's rows. Word by word, since the list is the layout.
 fn head_words(w: Wish) -> [u32; 11]
     ensures { Heads w result }
 {
@@ -105,7 +105,7 @@ fn head_words(w: Wish) -> [u32; 11]
         w.bus.0,
         float_word(w.pan),
         w.rank,
-        w.def.output as u32,
+        u32::from(w.def.output),
         low_word(ns),
         high_word(ns),
         low_word(es),

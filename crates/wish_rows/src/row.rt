@@ -1,4 +1,5 @@
-// A wish's row: read whole, and stored whole.
+// A wish's row: read whole, and stored whole. The words are a slice and not `WishTable`: a table's length would ask of callers what no
+// row needs.
 ghost use Rattle.std.specs.Prelude.{◌≡◌, [], get_or, set};
 ghost use Rattle.wish_rows.specs.Rows.{wish_of, wishes_in};
 

@@ -14,7 +14,7 @@ returns c =
     let ns = long_back w.def.nodes.count _ _ c.low_word.ensures c.high_word.ensures in
     let es = long_back w.def.edges.count _ _ c.low_word-2.ensures c.high_word-2.ensures in
     let ps = long_back w.def.params.count _ _ c.low_word-3.ensures c.high_word-3.ensures in
-    let output : w.def.output % 256 ≡ w.def.output = omega arith in
+    let output : c.from.result % 256 ≡ w.def.output = omega (arith, c.from.ensures) in
     record {
       long = refl;
       back =
