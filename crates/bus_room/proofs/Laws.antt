@@ -2,20 +2,13 @@
 use Prim.Native.Nat.{ℕ, zero, suc, ◌-◌, ◌<◌}
 use native.Mathlib.Omega.{arith}
 use mathlib.Core.Path.{◌≡◌, refl, sym, ap, ◌∙◌}
-use mathlib.Core.List.{List}
 use mathlib.Core.Bool.{true, false}
 use Rattle.std.specs.Prelude.{Option, None, Some, is_some}
 use Rattle.node.specs.declared.record.NodeId.{NodeId}
-use Rattle.voice.specs.Steals.{StealLog}
 use Rattle.store.specs.declared.voices.Voice.{Voice}
-use Rattle.steal_log.specs.Rows.{log_in}
 use Rattle.model.specs.Spawn.{next_out}
 use Rattle.model.specs.Model.{Model, port_free}
-use Rattle.memory.specs.declared.state.State.{State}
-use Rattle.memory.specs.View.{Memory, model_of}
-use Rattle.memory.specs.Lent.{lent_spawn}
-use Rattle.memory.specs.Parts.{logged}
-use Rattle.bus_room.specs.Reclaimed.{if_none, leaving, cut_now, go_on, reclaimed, restolen}
+use Rattle.bus_room.specs.Reclaimed.{if_none, leaving, cut_now, go_on, reclaimed}
 
 -- ---- one after the other: what is left to do on what is there is what there was to do
 pub reclaim_port : (k : ℕ) (bus : NodeId) (rank : ℕ) (n : Model) (p : Option ℕ) → p ≡ (port_free bus n) → is_some p ≡ true → reclaimed k bus rank n ≡ n

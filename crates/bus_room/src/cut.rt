@@ -10,11 +10,21 @@ use graph_rows::edge_row::EdgeTable;
 use graph_rows::node_row::NodeTable;
 use memory::parts::with_steals;
 use memory::state::State;
-use steal_log::{StealTable, log_cut, log_steal};
+use steal_log::{Ring, StealTable, log_cut, log_steal};
 use store::voices::VoiceState;
 use voice_policy::steals::steal_record;
 use voice_rows::levels::level_at;
 use voice_rows::row::{VoiceTable, id_at, state_at};
+
+// What the state knows of the ring of steal records.
+fn ring_of(s: State) -> Ring
+    ensures { (result.total ≡ s.stolen) × (result.next ≡ s.place) }
+{
+    Ring {
+        total: s.stolen,
+        next: s.place,
+    }
+}
 
 // One steal record more: of the voice in row `row` now, with its level.
 pub fn record_steal(
@@ -28,7 +38,7 @@ pub fn record_steal(
     ensures { (m : Memory) → model_of (lent_spawn result nodes.now m.edges voices.now steals.new m) ≡ restolen (recorded (get_or (voices_in voices.now) row (voice_of [])) cut (shared_of (lent_spawn s nodes.now m.edges voices.now steals.old m))) (model_of (lent_spawn s nodes.now m.edges voices.now steals.old m)) }
 {
     let level = level_at(voices, row, nodes, s.nodes, s.clock);
-    let ring = log_steal(steals, s.stolen, s.place, steal_record(s.clock, level, cut));
+    let ring = log_steal(steals, ring_of(s), steal_record(s.clock, level, cut));
     with_steals(s, ring.total, ring.next)
 }
 
@@ -46,7 +56,7 @@ fn record_removal(
     match state_at(voices, row) {
         VoiceState::Tracked => record_steal(s, nodes, voices, steals, row, true),
         VoiceState::Fading(f) => {
-            let ring = log_cut(steals, s.stolen, s.place, f.number);
+            let ring = log_cut(steals, ring_of(s), f.number);
             with_steals(s, ring.total, ring.next)
         }
         VoiceState::Loose => s,

@@ -6,20 +6,13 @@ use crate::cut::cut_voice;
 use crate::next::{bus_port, next_out};
 use graph_rows::edge_row::EdgeTable;
 use graph_rows::node_row::NodeTable;
-use memory::state::State;
+use memory::state::{CallResult, State};
 use node::record::NodeId;
 use steal_log::StealTable;
 use voice_rows::row::VoiceTable;
 
-// The state, and the lowest free port of the bus, if there is one.
-#[derive(Clone, Copy)]
-pub struct Room {
-    pub state: State,
-    pub port: Option<u32>,
-}
-
-// The lowest free port of `bus`. Where there is none, voices of the bus are removed one after the other until there is one, at most
-// `fuel` of them.
+// The lowest free port of `bus`, if there is one. Where there is none, voices of the bus are removed one after the other until there is
+// one, at most `fuel` of them: a loop here is one that is proved to end.
 pub fn make_room(
     s: State,
     nodes: &mut NodeTable,
@@ -29,8 +22,8 @@ pub fn make_room(
     bus: NodeId,
     rank: u32,
     fuel: usize,
-) -> Room
-    ensures { (m : Memory) → Makes fuel bus rank (model_of (lent_spawn s nodes.old edges.old voices.old steals.old m)) (model_of (lent_spawn result.state nodes.new edges.new voices.new steals.new m)) result.port }
+) -> CallResult<Option<u32>>
+    ensures { (m : Memory) → Makes fuel bus rank (model_of (lent_spawn s nodes.old edges.old voices.old steals.old m)) (model_of (lent_spawn result.state nodes.new edges.new voices.new steals.new m)) result.answer }
 {
     let mut state = s;
     let mut port = bus_port(s, nodes, edges, bus);
@@ -44,5 +37,8 @@ pub fn make_room(
         state = cut_voice(state, nodes, edges, voices, steals, row);
         port = bus_port(state, nodes, edges, bus);
     }
-    Room { state, port }
+    CallResult {
+        state,
+        answer: port,
+    }
 }

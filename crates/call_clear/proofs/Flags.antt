@@ -22,7 +22,7 @@ use Rattle.synthdef.proofs.PassLaws.{silent_flags}
 use Rattle.store.specs.declared.voices.Voice.{Voice}
 use Rattle.model.specs.Voice.{id}
 use Rattle.model.specs.Clear.{done_flag, done_flags, is_silent}
-use Rattle.call_clear.specs.Flags.{PlaceOf, flag_at, FlagsAre, any_done}
+use Rattle.call_clear.specs.Flags.{flag_at, FlagsAre, any_done}
 
 -- ---- one node more in front
 module _ (first count : ℕ) (x : Node) (l : List Node) where
@@ -41,13 +41,10 @@ module _ (first count : ℕ) (x : Node) (l : List Node) where
       go true t = ap (λ b. with_x b j) (ne_eqb x.id.0 (first + j) (not (ltb-true j (min count 24) t)))
       go false t = refl
 
-  module _ (flags : List Bool) (p : ℕ) (at : PlaceOf first x.id.0 p) (old : FlagsAre l first count flags) where
-    front_take : p < min count 24 → FlagsAre (x ∷ l) first count (set flags p x.done)
-    front_take h = record { long = length-set flags p x.done ∙ old.long; is = λ j. go j (ℕ_discrete j p) }
+  module _ (flags : List Bool) (old : FlagsAre l first count flags) where
+    front_take : (p : ℕ) → x.id.0 ≡ first + p → p < min count 24 → FlagsAre (x ∷ l) first count (set flags p x.done)
+    front_take p is h = record { long = length-set flags p x.done ∙ old.long; is = λ j. go j (ℕ_discrete j p) }
       where
-        is : x.id.0 ≡ first + p
-        is = at.is (omega arith)
-
         go : (j : ℕ) → Dec (j ≡ p) → get_or (set flags p x.done) j false ≡ flag_at (x ∷ l) first count j
         go j (yes e) =
             let inside : p < length flags = omega (arith, old.long) in
@@ -57,8 +54,8 @@ module _ (first count : ℕ) (x : Node) (l : List Node) where
             ∙ old.is j
             ∙ sym (elsewhere j (λ b f. let same : j ≡ p = omega (arith, is, f) in e same))
 
-    front_pass : min count 24 ≤ p → FlagsAre (x ∷ l) first count flags
-    front_pass h = record { long = old.long; is = λ j. old.is j ∙ sym (elsewhere j (λ b f. let small : j < 24 = omega arith in let same : p ≡ j = at.only j small f in omega arith)) }
+    front_pass : ((j : ℕ) → j < min count 24 → x.id.0 ≡ first + j → ⊥) → FlagsAre (x ∷ l) first count flags
+    front_pass not = record { long = old.long; is = λ j. old.is j ∙ sym (elsewhere j (not j)) }
 
 -- ---- no node yet
 clear_past : (k j : ℕ) → get_or (replicate k false) j false ≡ false
@@ -111,7 +108,7 @@ module _ (c : List ℕ) (n first count : ℕ) where
       let past : length ns ≤ top = omega arith in
       record { within = omega arith; are = rw (drop_of_length-le ns past) (none_yet first count) }
 
-  module _ (i : ℕ) (flags : List Bool) (p : ℕ) (more : 0 < i) (inv : FlagsFrom c n first count i flags) where
+  module _ (i : ℕ) (flags : List Bool) (more : 0 < i) (inv : FlagsFrom c n first count i flags) where
     abbrev x : Node
     x = get_or (nodes_in c) (i - 1) (node_of [])
 
@@ -124,14 +121,11 @@ module _ (c : List ℕ) (n first count : ℕ) where
         ∙ ap (λ y. y ∷ drop (i - 1 + 1) ns) (get_or-take n (nodes_in c) (i - 1) (node_of []) below)
         ∙ ap (λ k. x ∷ drop k ns) on
 
-    pub flags_take : PlaceOf first x.id.0 p → p < min count 24 → FlagsFrom c n first count (i - 1) (set flags p x.done)
-    flags_take at h = record { within = omega (arith, inv.within); are = rw next (front_take first count x (drop i ns) flags p at inv.are h) }
+    pub flags_take : (p : ℕ) → x.id.0 ≡ first + p → p < min count 24 → FlagsFrom c n first count (i - 1) (set flags p x.done)
+    flags_take p is h = record { within = omega (arith, inv.within); are = rw next (front_take first count x (drop i ns) flags inv.are p is h) }
 
-    pub flags_pass : PlaceOf first x.id.0 p → min count 24 ≤ p → FlagsFrom c n first count (i - 1) flags
-    flags_pass at h = record { within = omega (arith, inv.within); are = rw next (front_pass first count x (drop i ns) flags p at inv.are h) }
-
-  pub flags_done : (i : ℕ) (flags : List Bool) → i ≤ 0 → FlagsFrom c n first count i flags → FlagsAre (take n (nodes_in c)) first count flags
-  flags_done i flags h inv = let z : i ≡ 0 = omega arith in subst (λ k. FlagsAre (drop k ns) first count flags) z inv.are
+    pub flags_pass : ((j : ℕ) → j < min count 24 → x.id.0 ≡ first + j → ⊥) → FlagsFrom c n first count (i - 1) flags
+    flags_pass not = record { within = omega (arith, inv.within); are = rw next (front_pass first count x (drop i ns) flags inv.are not) }
 
 -- ---- a plan looks at the flags by their places
 counted_at : {A : Type 0} (f : ℕ → A) (d : A) (n k i : ℕ) → i < n → get_or (map f (count_up n k)) i d ≡ f (k + i)

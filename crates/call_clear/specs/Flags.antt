@@ -1,14 +1,9 @@
 -- The done flags of a definition's nodes, in an array of 24.
-use Rattle.std.specs.Prelude.{ℕ, ◌+◌, ◌<◌, min, ◌≡◌, List, Bool, false, cond, ltb, length, get_or, find, is_some}
+use Rattle.std.specs.Prelude.{ℕ, ◌+◌, min, ◌≡◌, List, Bool, false, cond, ltb, length, get_or, find, is_some}
 use Rattle.node.specs.declared.record.Node.{Node}
 use Rattle.graph.specs.Node.{node_at}
 use Rattle.model.specs.Voice.{id}
 use Rattle.model.specs.Clear.{done_flag}
-
--- the node k is at place r among those whose ids follow `first`; none of the 24, if r is 24 or more
-pub record PlaceOf (first k r : ℕ) : Type 0 where
-  pub is : r < 24 → k ≡ first + r
-  pub only : (j : ℕ) → j < 24 → k ≡ first + j → r ≡ j
 
 -- the flag at place j; places past the definition's nodes are clear
 abbrev pub flag_at : List Node → ℕ → ℕ → ℕ → Bool

@@ -1,116 +1,73 @@
-ghost use Rattle.std.specs.Prelude.{◌≡◌, [], ◌≤◌, length, take, get_or};
+ghost use Rattle.std.specs.Prelude.{Bool, take};
+ghost use Rattle.store.specs.declared.voices.Voice.{Voice};
 ghost use Rattle.graph_rows.specs.Node.{nodes_in};
-ghost use Rattle.voice_rows.specs.Rows.{voice_of, voices_in};
+ghost use Rattle.voice_rows.specs.Rows.{voices_in};
 ghost use Rattle.model.specs.Call.{clear, removed};
-ghost use Rattle.memory.specs.View.{Memory, model_of};
+ghost use Rattle.model.specs.Clear.{is_silent};
+ghost use Rattle.memory.specs.View.{Memory};
 ghost use Rattle.memory.specs.Lent.{lent_voices};
 ghost use Rattle.memory.specs.Called.{Called};
-ghost use Rattle.call_clear.specs.Flags.{any_done};
-ghost use Rattle.call_clear.specs.Passes.{leaves, pass_by, cleared, Gathered};
+ghost use Rattle.call_clear.specs.Passes.{has_faded, Tells, Gathered};
 
-use crate::silence::{has_done, is_silent};
+use crate::silence::Flags;
 use bus::fade_length;
 use call_free::forget::forget_voices;
 use graph_rows::edge_row::EdgeTable;
 use graph_rows::node_row::NodeTable;
-use memory::state::State;
+use lists::rows::Table;
+use memory::state::{CallResult, State};
 use voice_rows::fade::ended_at;
 use voice_rows::row::{VoiceTable, id_at};
 
-// The state that a clearing left, and how many voices it removed.
-#[derive(Clone, Copy)]
-pub struct Cleared {
-    pub state: State,
-    pub removed: usize,
-}
+// Ids of voices, of which there are at most 64: a table in fixed memory, since there is no heap for a list.
+type Leaving = Table<u64, 64>;
 
-// Ids of voices: the first `count` of `ids`.
-#[derive(Clone, Copy)]
-struct Leaving {
-    ids: [u64; 64],
-    count: usize,
-}
-
-// Whether the voice in row `i` is removed: in the second pass if its plan is silent, in the first if its fade has ended. `done` says
-// whether any node is done.
-fn is_leaving(
-    silent: bool,
-    len: u64,
-    nodes: &[u32],
-    n: usize,
-    done: bool,
-    voices: &[u32],
-    i: usize,
-) -> bool
-    requires { done ≡ any_done (take n (nodes_in nodes.now)) }
-    ensures { result ≡ leaves silent len (take n (nodes_in nodes.now)) (get_or (voices_in voices.now) i (voice_of [])) }
+// The ids of those of the first `count` voices for whose row `leaves` answers true, in voice order.
+fn leaving_ids<F: Fn(usize) -> bool>(voices: &VoiceTable, count: usize, leaves: F) -> Leaving
+    requires { F.IsAlwaysCallable leaves }
+    ensures { (q : Voice → Bool) → Tells (F.post leaves) voices.now q → Gathered q (take count (voices_in voices.now)) result }
 {
-    if silent {
-        is_silent(nodes, n, done, voices, i)
-    } else {
-        ended_at(voices, i, len)
-    }
-}
-
-// The ids of those of the first `count` voices that are removed, in voice order.
-fn leaving_ids(
-    silent: bool,
-    len: u64,
-    nodes: &[u32],
-    n: usize,
-    voices: &VoiceTable,
-    count: usize,
-) -> Leaving
-    ensures { Gathered (leaves silent len (take n (nodes_in nodes.now))) (take count (voices_in voices.now)) result }
-{
-    let done = has_done(nodes, n);
-    let mut leaving = Leaving {
-        ids: [0; 64],
-        count: 0,
-    };
+    let mut leaving = Table::empty(0);
     for i in 0..count.min(64) {
-        if is_leaving(silent, len, nodes, n, done, voices, i) {
-            leaving.ids[leaving.count] = id_at(voices, i).0;
-            leaving.count += 1;
+        if leaves(i) {
+            leaving.push(id_at(voices, i).0);
         }
     }
     leaving
 }
 
-// One pass. The voices are gathered first and removed together, so that each table is closed up once.
-fn clear_pass(
-    s: State,
-    nodes: &mut NodeTable,
-    edges: &mut EdgeTable,
-    voices: &mut VoiceTable,
-    silent: bool,
-    len: u64,
-) -> Cleared
-    ensures is { (m : Memory) → cleared result.removed (model_of (lent_voices result.state nodes.new edges.new voices.new m)) ≡ pass_by silent len (model_of (lent_voices s nodes.old edges.old voices.old m)) }
-    ensures few { result.removed ≤ 64 }
+// Of the first `count` voices those whose fade has ended.
+fn faded_ids(voices: &VoiceTable, count: usize, len: u64) -> Leaving
+    ensures { Gathered (has_faded len) (take count (voices_in voices.now)) result }
 {
-    let leaving = leaving_ids(silent, len, nodes, s.nodes, voices, s.voices);
-    let state = forget_voices(s, nodes, edges, voices, &leaving.ids[..leaving.count]);
-    Cleared {
-        state,
-        removed: leaving.count,
-    }
+    leaving_ids(voices, count, |i| ended_at(voices, i, len))
 }
 
-// The voices whose fade has ended are removed, then those whose done plan is silent.
+// Of the first `count` voices those whose done plan is silent.
+fn silent_ids(nodes: &NodeTable, n: usize, voices: &VoiceTable, count: usize) -> Leaving
+    ensures { Gathered (is_silent (take n (nodes_in nodes.now))) (take count (voices_in voices.now)) result }
+{
+    let flags = Flags::of(nodes, n);
+    leaving_ids(voices, count, |i| flags.is_silent(voices, i))
+}
+
+// The voices whose fade has ended are removed, then those whose done plan is silent; the answer is how many. Each time they are gathered
+// first and removed together, so that each table is closed up once.
 pub fn free_done_synths(
     s: State,
     nodes: &mut NodeTable,
     edges: &mut EdgeTable,
     voices: &mut VoiceTable,
-) -> Cleared
-    ensures { (m : Memory) → Called clear (lent_voices s nodes.old edges.old voices.old m) (removed result.removed) (lent_voices result.state nodes.new edges.new voices.new m) }
+) -> CallResult<usize>
+    ensures { (m : Memory) → Called clear (lent_voices s nodes.old edges.old voices.old m) (removed result.answer) (lent_voices result.state nodes.new edges.new voices.new m) }
 {
     let len = u64::from(fade_length(s.config.rate));
-    let faded = clear_pass(s, nodes, edges, voices, false, len);
-    let done = clear_pass(faded.state, nodes, edges, voices, true, len);
-    Cleared {
-        state: done.state,
-        removed: faded.removed + done.removed,
+    let faded = faded_ids(voices, s.voices, len);
+    let left = forget_voices(s, nodes, edges, voices, faded.as_slice());
+    let silent = silent_ids(nodes, left.nodes, voices, left.voices);
+    let state = forget_voices(left, nodes, edges, voices, silent.as_slice());
+    CallResult {
+        state,
+        answer: faded.as_slice().len() + silent.as_slice().len(),
     }
 }

@@ -3,21 +3,10 @@ ghost use Rattle.std.specs.Prelude.{◌≡◌, [], take, get_or};
 ghost use Rattle.graph_rows.specs.Node.{nodes_in};
 ghost use Rattle.voice_rows.specs.Rows.{voice_of, voices_in};
 ghost use Rattle.model.specs.Clear.{is_silent};
-ghost use Rattle.call_clear.specs.Flags.{PlaceOf, FlagsAre, any_done};
+ghost use Rattle.call_clear.specs.Flags.{FlagsAre, any_done};
 
 use graph_rows::node_row::{done_at, id_at};
 use voice_rows::row::{count_at, first_at, silent_at};
-
-// Which node of the definition, whose nodes have consecutive ids from `first` on, has this id; 24 or more if none has.
-fn place_from(first: u32, id: u32) -> usize
-    ensures { PlaceOf first id result }
-{
-    if first <= id {
-        (id - first) as usize
-    } else {
-        24
-    }
-}
 
 // The done flags of the `count` nodes from the id `first` on, in one walk over the first `n` nodes. The walk ends at the first row, so
 // that of two nodes with one id the first one counts.
@@ -27,16 +16,28 @@ fn done_flags(nodes: &[u32], n: usize, first: u32, count: u32) -> [bool; 24]
     let m = (count as usize).min(24);
     let mut flags = [false; 24];
     for i in (0..n.min(nodes.len() / 22)).rev() {
-        let p = place_from(first, id_at(nodes, i).0);
-        if p < m {
-            flags[p] = done_at(nodes, i);
+        if let Some(place) = id_at(nodes, i).0.checked_sub(first) {
+            let p = place as usize;
+            if p < m {
+                flags[p] = done_at(nodes, i);
+            }
         }
     }
     flags
 }
 
-// Whether one of the first `n` nodes is done.
-pub fn has_done(nodes: &[u32], n: usize) -> bool
+// The done flags of the first `n` lent nodes, and whether any of them is set.
+#[derive(Clone, Copy)]
+pub struct Flags<'a> {
+    pub nodes: &'a [u32],
+    pub n: usize,
+    any: bool,
+    ghost known: { any ≡ any_done (take n (nodes_in nodes.now)) },
+}
+
+// Whether one of the first `n` nodes is done. No `any` over the rows' numbers: what it ensures is said of the numbers, and a law would have to carry
+// it to the rows.
+fn has_done(nodes: &[u32], n: usize) -> bool
     ensures { result ≡ any_done (take n (nodes_in nodes.now)) }
 {
     for i in 0..n.min(nodes.len() / 22) {
@@ -47,24 +48,34 @@ pub fn has_done(nodes: &[u32], n: usize) -> bool
     false
 }
 
-// The same flags; where no node is done, as in most blocks, nothing is looked for.
-fn known_flags(nodes: &[u32], n: usize, done: bool, first: u32, count: u32) -> [bool; 24]
-    requires { done ≡ any_done (take n (nodes_in nodes.now)) }
-    ensures { FlagsAre (take n (nodes_in nodes.now)) first count result }
-{
-    if done {
-        done_flags(nodes, n, first, count)
-    } else {
-        [false; 24]
+impl<'a> Flags<'a> {
+    pub fn of(nodes: &'a [u32], n: usize) -> Flags<'a>
+        ensures { (result.nodes.now ≡ nodes.now) × (result.n ≡ n) }
+    {
+        Flags {
+            nodes,
+            n,
+            any: has_done(nodes, n),
+        }
     }
-}
 
-// Whether the done plan of the voice in row `i` is silent; `done` says whether any node is done.
-pub fn is_silent(nodes: &[u32], n: usize, done: bool, voices: &[u32], i: usize) -> bool
-    requires { done ≡ any_done (take n (nodes_in nodes.now)) }
-    ensures { result ≡ is_silent (take n (nodes_in nodes.now)) (get_or (voices_in voices.now) i (voice_of [])) }
-{
-    let first = first_at(voices, i).0;
-    let flags = known_flags(nodes, n, done, first, count_at(voices, i));
-    silent_at(voices, i, flags)
+    // Those of the `count` nodes from the id `first` on; where no node is done, as in most blocks, nothing is looked for.
+    fn from(&self, first: u32, count: u32) -> [bool; 24]
+        ensures { FlagsAre (take self.now.n (nodes_in self.now.nodes.now)) first count result }
+    {
+        if self.any {
+            done_flags(self.nodes, self.n, first, count)
+        } else {
+            [false; 24]
+        }
+    }
+
+    // Whether the done plan of the voice in row `i` is silent.
+    pub fn is_silent(&self, voices: &[u32], i: usize) -> bool
+        ensures { result ≡ is_silent (take self.now.n (nodes_in self.now.nodes.now)) (get_or (voices_in voices.now) i (voice_of [])) }
+    {
+        let first = first_at(voices, i).0;
+        let flags = self.from(first, count_at(voices, i));
+        silent_at(voices, i, flags)
+    }
 }

@@ -1,4 +1,4 @@
-// The calls of the console (02, Paper 11) on a lent store with its lent wishes: making with keyboards, a wish, a turn. A call of the
+// The calls of the console (docs/CHANGES.md, "Fair turns for the manuals") on a lent store with its lent wishes: making with keyboards, a wish, a turn. A call of the
 // store stays as it is; it is not lent the wishes.
 #![tactic(auto)]
 

@@ -11,7 +11,7 @@ use console::refusal::KeyboardRefusal;
 use node::refusal::Refusal;
 use store::config::Making;
 
-// Why a console is not made: one of the store's refusals, or 24.
+// Why a console is not made: one of the store's refusals, or that there is no keyboard or more than 8.
 #[derive(Clone, Copy)]
 pub enum MakeRefusal {
     Store(Refusal),

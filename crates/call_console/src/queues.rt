@@ -8,7 +8,7 @@ use memory::state::State;
 use store::wish::Wish;
 use wish_rows::row::{WishTable, put_wish, wish_at};
 
-// A keyboard's wishes are `count` of its 16 rows, from its row `start` on, going round. A count above 16 is 16.
+// A keyboard's wishes are `count` of its 16 rows, from its row `start` on, going round. A count above 16 is 16. The rows themselves are lent.
 #[derive(Clone, Copy)]
 pub struct Queue {
     pub start: u8,
@@ -16,7 +16,7 @@ pub struct Queue {
 }
 
 // What is no table of the wishes: how many keyboards there are, the one after the last served, and what waits at each. More than
-// eight keyboards are eight.
+// eight keyboards are eight. Fixed memory: no vector holds the queues.
 #[derive(Clone, Copy)]
 pub struct WishState {
     pub keyboards: usize,
@@ -24,7 +24,8 @@ pub struct WishState {
     pub queues: [Queue; 8],
 }
 
-// The state of the store and the wishes that a call left, and what the call answers.
+// The state of the store and the wishes that a call left, and what the call answers: beside each other, since a turn changes them where its spawn
+// is refused.
 #[derive(Clone, Copy)]
 pub struct ConsoleResult<A> {
     pub state: State,
@@ -32,7 +33,7 @@ pub struct ConsoleResult<A> {
     pub answer: A,
 }
 
-// The same of a call that leaves the store as it is.
+// The same of a call that leaves the store as it is: no state, so that its signature shows that.
 #[derive(Clone, Copy)]
 pub struct WishResult<A> {
     pub wishes: WishState,
@@ -74,7 +75,8 @@ fn after(m: usize, q: usize) -> usize
     if q < m && q + 1 < m { q + 1 } else { 0 }
 }
 
-// The first keyboard at which a wish waits, going round from the one after the last served.
+// The first keyboard at which a wish waits, going round from the one after the last served. A loop and no `find` over a range: the numbers go
+// round past the last keyboard, so that they are two ranges, and the first of them is none where `next` is past the last.
 pub fn next_keyboard(s: WishState) -> Option<usize>
     ensures is { (c : List ℕ) → picked (wishes_of s c) ≡ picked_at result (wishes_of s c) }
     ensures waits { WaitsAt s result }

@@ -28,16 +28,7 @@ module _ (w : VoiceId) (count : ℕ) (vs : List Voice) where
   abbrev looked : Option Voice
   looked = find (is_voice w) (take count vs)
 
-  -- there is none
-  pub unknown : (r : Option ℕ) → FoundAt r count vs looked → is_some r ≡ false → looked ≡ None
-  unknown None h e = sym h.is
-  unknown (Some i) h e = absurd (let z : ◌≡◌ {A = ℕ} 0 1 = cc in omega arith)
-
   -- there is one, and it is removed
-  pub not_unknown : (r : Option ℕ) → FoundAt r count vs looked → is_some r ≡ true → looked ≡ None → ⊥
-  not_unknown None h e n = let z : ◌≡◌ {A = ℕ} 0 1 = cc in omega arith
-  not_unknown (Some i) h e n = none_some (sym n ∙ sym h.is)
-
   pub known_applied : (r : Option ℕ) → FoundAt r count vs looked → is_some r ≡ true → Applied ≡ free_outcome looked
   known_applied None h e = absurd (let z : ◌≡◌ {A = ℕ} 0 1 = cc in omega arith)
   known_applied (Some i) h e = ap free_outcome h.is

@@ -1,3 +1,4 @@
+// The workers: voices are removed from the lent tables, one or several.
 ghost use Rattle.std.specs.Prelude.{◌≡◌};
 ghost use Rattle.model.specs.Model.{without_voice};
 ghost use Rattle.memory.specs.View.{Memory, model_of};

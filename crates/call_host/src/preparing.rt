@@ -20,12 +20,11 @@ pub fn prepare(
     ensures is { (m : Memory) → Called prepare (lent_order s nodes.now edges.now order.old m) (answered result.answer) (lent_order result.state nodes.now edges.now order.new m) }
     ensures same { (m : Memory) → Kept (answered result.answer) (lent_order s nodes.now edges.now order.old m) (lent_order result.state nodes.now edges.now order.new m) }
 {
-    let prepared = order_table::prepare(nodes, s.nodes, edges, s.edges, order);
-    if let Err(why) = prepared.answer {
-        return refuse(s, why);
-    }
-    CallResult {
-        state: with_order(s, prepared.count),
-        answer: Ok(()),
+    match order_table::prepare(nodes, s.nodes, edges, s.edges, order) {
+        Err(why) => refuse(s, why),
+        Ok(count) => CallResult {
+            state: with_order(s, count),
+            answer: Ok(()),
+        },
     }
 }

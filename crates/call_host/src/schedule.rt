@@ -31,12 +31,11 @@ pub fn schedule(
         name: name_of(name),
         action,
     };
-    let queued = event_table::queue::schedule(events, s.events, event);
-    if let Err(why) = queued.answer {
-        return refuse(s, why);
-    }
-    CallResult {
-        state: with_events(s, queued.count),
-        answer: Ok(()),
+    match event_table::queue::schedule(events, s.events, event) {
+        Err(why) => refuse(s, why),
+        Ok(count) => CallResult {
+            state: with_events(s, count),
+            answer: Ok(()),
+        },
     }
 }

@@ -14,27 +14,13 @@ use Rattle.model.specs.Model.{Model}
 use Rattle.model.specs.Make.{new_model}
 use Rattle.steal_log.specs.Rows.{records_in}
 use Rattle.memory.specs.declared.state.State.{State}
+use Rattle.memory.specs.Parts.{state_of}
 use Rattle.memory.specs.View.{Memory, model_of}
 use Rattle.memory.specs.Lent.{lent_state}
 use mathlib.Core.Bool.{false}
 
 abbrev blank : Config → State
-blank c =
-    record {
-      config = c;
-      nodes = 0;
-      edges = 0;
-      order = 0;
-      voices = 0;
-      events = 0;
-      sink = None;
-      prepared = false;
-      next = 0;
-      clock = 0;
-      spawned = 0;
-      stolen = 0;
-      place = 0;
-    }
+blank c = state_of c 0 0 0 0 0 None false 0 0 0 0 0
 
 -- the model with these steal records, and nothing else
 abbrev holding : Config → List StealRecord → Model

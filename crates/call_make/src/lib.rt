@@ -15,7 +15,8 @@ use memory::state::{CallResult, State};
 use node::refusal::Refusal;
 use store::config::{Config, Making};
 
-// Whether making is refused: 1, 2, 3, 20.
+// Whether making is refused: 1 the sample rate, 2 the block size, 3 the budget, 20 the fade table at another rate than its own. The first is
+// no `?`: whatever the rate was refused for, the answer is 1.
 fn make_test(
     rate: Result<u32, Refusal>,
     block: usize,

@@ -3,8 +3,7 @@ use Prim.Native.Nat.{ℕ, ◌+◌, ◌<◌}
 use native.Mathlib.Numerals.{add-one}
 use mathlib.Core.Path.{◌≡◌, refl, sym, ap, ◌∙◌}
 use mathlib.Core.List.{List, [], ◌∷◌, ◌++◌, append_assoc, append-nil}
-use Rattle.std.specs.Prelude.{Option, None, find, cond, option_map, Some}
-use mathlib.Core.Bool.{Bool}
+use Rattle.std.specs.Prelude.{Option, find, option_map}
 use lib.ListN.{length, take, get_or}
 use lib.Seq.{take-suc}
 use Rattle.node.specs.Silence.{bytes}

@@ -4,8 +4,8 @@ use native.Mathlib.Numerals.{add-one}
 use native.Mathlib.Omega.{arith}
 use mathlib.Core.Path.{◌≡◌, sym, ap, ◌∙◌, subst}
 use mathlib.Core.List.{List, [], ◌∷◌, ◌++◌, append_assoc}
-use lib.ListN.{length, take, drop, set, length-append}
-use lib.Seq.{drop-cons, set-append_seam, take-append_seam}
+use lib.ListN.{length, set, length-append}
+use lib.Seq.{drop-cons, set-append_seam}
 use borrow.Rule.Slice.PartMut.{mid_of, put_mid}
 use Rattle.lists.specs.Written.{written}
 use Rattle.lists.proofs.Written.{written_then, written_long}
@@ -47,7 +47,3 @@ widened h t e = rw (← t) (record { placed = e.placed; long = e.long; fits = om
 -- the buffer keeps its length
 pub same_long : {m : ℕ} {a x y : List ℕ} {r : ℕ} → Put m a x y r → m ≤ length x → length y ≡ length x
 same_long {m} {a} {x} e h = ap length e.placed ∙ written_long a x (omega (arith, e.long, e.fits))
-
--- the text stands where it was put
-pub taken : {m : ℕ} {a x y : List ℕ} {r : ℕ} → Put m a x y r → take r y ≡ a
-taken {a = a} {x} e = rw (e.placed, e.long) (take-append_seam a (drop (length a) x))

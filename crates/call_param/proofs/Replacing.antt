@@ -1,9 +1,9 @@
 -- The first node of an id that stays, and the record that it and those behind it get in its place.
-use Prim.Native.Nat.{ℕ, ◌/◌, ◌≤◌, ◌<◌, min}
+use Prim.Native.Nat.{ℕ, ◌<◌}
 use native.Mathlib.Omega.{arith}
 use mathlib.Core.Path.{◌≡◌, refl, sym, ap, ◌∙◌}
 use mathlib.Core.List.{List, [], map}
-use Rattle.std.specs.Prelude.{None, Some, find}
+use Rattle.std.specs.Prelude.{Option, None, Some, find, position, option_map}
 use mathlib.Core.Bool.{Bool, true, false, not, cond}
 use lib.Dec.{eqb}
 use lib.ListN.{length, take, get_or, set, length-take}
@@ -13,39 +13,42 @@ use Rattle.lists.proofs.Member.{and_right}
 use Rattle.lists.proofs.Find.{find_in}
 use Rattle.node.specs.declared.record.Node.{Node}
 use Rattle.words.specs.Place.{place_of}
-use Rattle.words.proofs.Rows.{rows_long}
-use Rattle.words.proofs.Place.{counted, found_in, lost_in}
+use Rattle.words.proofs.Place.{found_in}
+use Rattle.event_table.proofs.Search.{at_place, none_placed}
 use Rattle.graph.specs.Node.{owned_by_any}
 use Rattle.graph_rows.specs.Node.{node_of, nodes_in}
 use Rattle.model.specs.Voice.{id}
 use Rattle.call_param.specs.Left.{is_left, replaced_left}
 use Rattle.call_param.proofs.Copying.{place_set, map_set}
 
-module _ (l c : List ℕ) (count k n p : ℕ) (e : n ≡ min count (length c / 22)) (at : p ≡ place_of (is_left l (id k)) (take count (nodes_in c))) where
+module _ (l c : List ℕ) (count k : ℕ) where
   abbrev q : Node → Bool
   q = is_left l (id k)
 
   abbrev ns : List Node
   ns = take count (nodes_in c)
 
-  abbrev node : Node
-  node = get_or (nodes_in c) p (node_of [])
+  pub first_lost : position (is_left l (id k)) (take count (nodes_in c)) ≡ None → find (is_left l (id k)) (take count (nodes_in c)) ≡ None
+  first_lost e = none_placed q ns e
 
-  many : n ≡ length ns
-  many = sym (counted 22 node_of c count n e)
+  module _ (p : ℕ) (found : position (is_left l (id k)) (take count (nodes_in c)) ≡ Some p) where
+    abbrev node : Node
+    node = get_or (nodes_in c) p (node_of [])
 
-  pub first_lost : n ≤ p → find q ns ≡ None
-  first_lost h = lost_in 22 node_of q c count p n at many h
+    at : p ≡ place_of q ns
+    at = (at_place q ns p found).0
 
-  module _ (h : p < n) where
-    pub first_found : find q ns ≡ Some node
-    first_found = found_in 22 node_of q c count p n at many h
+    inside : p < length ns
+    inside = (at_place q ns p found).1
+
+    pub first_found : find (is_left l (id k)) (take count (nodes_in c)) ≡ Some (get_or (nodes_in c) p (node_of []))
+    first_found = found_in 22 node_of q c count p (length ns) at refl inside
 
     its_id : k ≡ node.id.0
     its_id = sym (eqb-true node.id.0 k (and_right (not (owned_by_any l node)) (eqb node.id.0 k) (find_in q ns node first_found).1))
 
     below : p < count
-    below = omega (arith, many, length-take count (nodes_in c))
+    below = omega (arith, inside, length-take count (nodes_in c))
 
     read : get_or ns p (node_of []) ≡ node
     read = get_or-take count (nodes_in c) p (node_of []) below
@@ -62,7 +65,7 @@ module _ (l c : List ℕ) (count k n p : ℕ) (e : n ≡ min count (length c / 2
       -- and takes the place of those behind it
       pub all_replaced : (last : List ℕ) → take count (nodes_in last) ≡ map (λ x. cond (q x) (get_or (nodes_in put) p (node_of [])) x) (take count (nodes_in put)) → take count (nodes_in last) ≡ replaced_left l ns new
       all_replaced last copied =
-          let room : p < length (nodes_in c) = omega (arith, rows_long 22 node_of c) in
+          let room : p < length (nodes_in c) = omega (arith, inside, length-take count (nodes_in c)) in
           let there : get_or (nodes_in put) p (node_of []) ≡ new = ap (λ r. get_or r p (node_of [])) stored ∙ get_or-set_same (nodes_in c) p new (node_of []) room in
           let first : cond (q new) new new ≡ cond (q (get_or ns p (node_of []))) new (get_or ns p (node_of [])) =
           either (q new) ∙ sym (ap (λ b. cond b new node) (find_in q ns node first_found).1) ∙ ap (λ x. cond (q x) new x) (sym read) in
@@ -75,3 +78,9 @@ module _ (l c : List ℕ) (count k n p : ℕ) (e : n ≡ min count (length c / 2
           either : (b : Bool) → cond b new new ≡ new
           either true = refl
           either false = refl
+
+-- the row that was looked for: its node is the one that `find` finds
+module _ (l c : List ℕ) (count k : ℕ) where
+  pub first_seen : (r : Option ℕ) → r ≡ position (is_left l (id k)) (take count (nodes_in c)) → option_map (λ p. get_or (nodes_in c) p (node_of [])) r ≡ find (is_left l (id k)) (take count (nodes_in c))
+  first_seen None e = sym (first_lost l c count k (sym e))
+  first_seen (Some p) e = sym (first_found l c count k p (sym e))

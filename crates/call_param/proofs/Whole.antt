@@ -1,41 +1,26 @@
 -- What an order leaves, from the ways through its code; and the order of the model, with nobody freed.
-use Prim.Native.Nat.{ℕ, ◌+◌, ◌/◌, ◌≤◌, ◌<◌, min}
+use Prim.Native.Nat.{ℕ}
 use native.Mathlib.Omega.{arith}
-use mathlib.Core.Path.{◌≡◌, refl, sym, ap, subst, ◌∙◌}
+use mathlib.Core.Path.{◌≡◌, refl, sym, ap, ◌∙◌}
 use mathlib.Core.List.{List, []}
-use Rattle.std.specs.Prelude.{Option, None, Some, find}
+use Rattle.std.specs.Prelude.{None, Some, find, position}
 use mathlib.Core.Bool.{Bool, true, false, not, cond, ◌&&◌}
-use lib.ListN.{length, take, get_or}
+use lib.ListN.{take, get_or}
 use borrow.Author.Tests.{eqb-true}
 use Rattle.lists.proofs.Find.{none_find, find_same}
-use Rattle.node.specs.Name.{name_of}
 use Rattle.node.specs.declared.name.Name.{Name}
 use Rattle.node.specs.declared.order.LastOrder.{LastOrder}
-use Rattle.node.specs.declared.record.NodeId.{NodeId}
 use Rattle.node.specs.declared.record.VoiceId.{VoiceId}
 use Rattle.node.specs.declared.record.Node.{Node}
-use Rattle.words.specs.Place.{place_of}
 use Rattle.edges.specs.Wiring.{listed}
-use Rattle.graph.specs.View.{with_nodes}
-use Rattle.graph.specs.Node.{node_at}
 use Rattle.graph_rows.specs.Node.{node_of, nodes_in}
-use Rattle.synthdef.specs.Tables.{param_rows}
-use Rattle.synthdef.specs.Params.{param_node}
 use Rattle.store.specs.declared.answer.Outcome.{Outcome}
-use Rattle.store.specs.declared.answer.Outcome.TheVariants.{Applied, NoVoice, NoParameter, NotTaken}
+use Rattle.store.specs.declared.answer.Outcome.TheVariants.{Applied, NoVoice, NotTaken}
 use Rattle.store.specs.declared.voices.Voice.{Voice}
-use Rattle.model.specs.SharedState.{SharedState, with_graph}
 use Rattle.model.specs.Voice.{is_voice, id}
-use Rattle.model.specs.Order.{takes, with_last, order_node, order_param, order_voice, stays}
-use Rattle.model.specs.Order as model
-use Rattle.model.specs.Call.{shared_step, ordered}
-use Rattle.model.specs.Call as call
-use Rattle.voice_rows.specs.Rows.{voice_of, voices_in}
-use Rattle.memory.specs.declared.state.State.{State}
-use Rattle.memory.specs.View.{Memory, model_of}
-use Rattle.memory.specs.Lent.{lent_params}
-use Rattle.memory.specs.Called.{Called}
-use Rattle.call_param.specs.Left.{is_left, is_known, Reply, reply, replaced_left, reply_node, reply_param, reply_voice, order_left}
+use Rattle.model.specs.Order.{takes, with_last}
+use Rattle.voice_rows.specs.Rows.{voices_in}
+use Rattle.call_param.specs.Left.{is_left, is_known, Reply, reply, replaced_left, reply_node, reply_voice, order_left}
 use Rattle.call_param.specs.Replies.{Replies}
 use Rattle.call_param.proofs.Replacing.{first_lost, first_found}
 
@@ -44,22 +29,22 @@ pub refused : (c : List ℕ) (count : ℕ) (o : Outcome) (r : Reply) → reply o
 refused c count o r e = record { is = e; same = λ h. refl }
 
 -- ---- the node
-module _ (l c : List ℕ) (count k : ℕ) (o : LastOrder) (n p : ℕ) (e : n ≡ min count (length c / 22)) (at : p ≡ place_of (is_left l (id k)) (take count (nodes_in c))) where
+module _ (l c : List ℕ) (count k : ℕ) (o : LastOrder) where
   abbrev ns : List Node
   ns = take count (nodes_in c)
-
-  abbrev node : Node
-  node = get_or (nodes_in c) p (node_of [])
 
   abbrev whole : Reply
   whole = reply_node l (find (is_left l (id k)) ns) o ns
 
-  pub node_lost : n ≤ p → Replies c c count NotTaken whole
-  node_lost h = refused c count NotTaken whole (ap (λ x. reply_node l x o ns) (sym (first_lost l c count k n p e at h)))
+  pub node_lost : position (is_left l (id k)) (take count (nodes_in c)) ≡ None → Replies c c count NotTaken whole
+  node_lost e = refused c count NotTaken whole (ap (λ x. reply_node l x o ns) (sym (first_lost l c count k e)))
 
-  module _ (h : p < n) where
+  module _ (p : ℕ) (found : position (is_left l (id k)) (take count (nodes_in c)) ≡ Some p) where
+    abbrev node : Node
+    node = get_or (nodes_in c) p (node_of [])
+
     by_takes : (b : Bool) → takes o node ≡ b → whole ≡ cond b (reply Applied (replaced_left l ns (with_last o node))) (reply NotTaken ns)
-    by_takes b t = ap (λ x. reply_node l x o ns) (first_found l c count k n p e at h) ∙ ap (λ b. cond b (reply Applied (replaced_left l ns (with_last o node))) (reply NotTaken ns)) t
+    by_takes b t = ap (λ x. reply_node l x o ns) (first_found l c count k p found) ∙ ap (λ b. cond b (reply Applied (replaced_left l ns (with_last o node))) (reply NotTaken ns)) t
 
     pub node_off : takes o node ≡ false → Replies c c count NotTaken whole
     node_off t = refused c count NotTaken whole (sym (by_takes false t))

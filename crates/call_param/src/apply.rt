@@ -1,4 +1,5 @@
-ghost use Rattle.std.specs.Prelude.{◌/◌, take, find};
+// An order at its node, which is looked for by its id.
+ghost use Rattle.std.specs.Prelude.{take, find};
 ghost use Rattle.model.specs.Voice.{id};
 ghost use Rattle.graph_rows.specs.Node.{nodes_in};
 ghost use Rattle.call_param.specs.Left.{is_left, reply_node};
@@ -20,9 +21,10 @@ pub(crate) fn order_node(
 ) -> Outcome
     ensures { Replies t.old t.new count result (reply_node freed.now (find (is_left freed.now (id k)) (take count (nodes_in t.old))) o (take count (nodes_in t.old))) }
 {
-    let n = count.min(t.len() / 22);
-    let p = row_left(t, count, k, freed);
-    if n <= p || !takes_at(t, p, o) {
+    let Some(p) = row_left(t, count, k, freed) else {
+        return Outcome::NotTaken;
+    };
+    if !takes_at(t, p, o) {
         return Outcome::NotTaken;
     }
     put_last(t, p, o);

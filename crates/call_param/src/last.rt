@@ -1,3 +1,4 @@
+// The last order of a node, in its row.
 ghost use Rattle.std.specs.Prelude.{◌≡◌, [], get_or, set};
 ghost use Rattle.model.specs.Order.{takes, with_last};
 ghost use Rattle.graph_rows.specs.Node.{node_of, nodes_in};

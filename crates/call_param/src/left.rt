@@ -1,6 +1,6 @@
 // The nodes of an id that stay when the voices `freed` are removed: their owner is none of these. The ids of a store that calls made
 // are all different; any words are a store, so several rows may have one id here.
-ghost use Rattle.std.specs.Prelude.{◌≡◌, cond, [], map, take, get_or};
+ghost use Rattle.std.specs.Prelude.{◌≡◌, cond, [], map, take, get_or, position};
 ghost use Rattle.words.specs.Place.{place_of};
 ghost use Rattle.model.specs.Voice.{id};
 ghost use Rattle.graph_rows.specs.Node.{node_of, nodes_in};
@@ -17,17 +17,11 @@ fn is_left(t: &[u32], i: usize, k: u64, freed: &[u64]) -> bool
     u64::from(id_at(t, i).0) == k && !is_listed(freed, owner_at(t, i).0)
 }
 
-// The row of the first such node among the first `count`; behind them where there is none.
-pub fn row_left(t: &[u32], count: usize, k: u64, freed: &[u64]) -> usize
-    ensures { result ≡ place_of (is_left freed.now (id k)) (take count (nodes_in t.now)) }
+// The row of the first such node among the first `count`, or none.
+pub fn row_left(t: &[u32], count: usize, k: u64, freed: &[u64]) -> Option<usize>
+    ensures { result ≡ position (is_left freed.now (id k)) (take count (nodes_in t.now)) }
 {
-    let n = count.min(t.len() / 22);
-    for i in 0..n {
-        if is_left(t, i, k, freed) {
-            return i;
-        }
-    }
-    n
+    (0..count.min(t.len() / 22)).find(|i| is_left(t, *i, k, freed))
 }
 
 // If `p` is the row of the first such node, that node takes the place of those behind it.

@@ -25,7 +25,8 @@ fn node_of(t: &[u32], i: usize, k: usize) -> u8
     low_byte(word_at(t, 143, i, 23 + k * 6 + 5))
 }
 
-// The node of the first parameter of that name of the voice in row `i`, or none.
+// The node of the first parameter of that name of the voice in row `i`, or none. By a for: that a parameter is one of eight follows from the
+// range, and a closure would have to ask for it.
 pub(crate) fn param_named(t: &[u32], i: usize, name: Name) -> Option<u8>
     ensures { result ≡ param_node (param_rows (get_or (voices_in t.now) i (voice_of [])).params) name }
 {

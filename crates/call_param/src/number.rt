@@ -1,4 +1,4 @@
-// 02, Paper 1: the number of an outcome.
+// The number of an outcome, as a host in C reads it and as a render lists it.
 ghost use Rattle.std.specs.Prelude.{◌≡◌};
 ghost use Rattle.model.specs.Order.{outcome_number};
 
@@ -8,10 +8,5 @@ use store::answer::Outcome;
 pub fn outcome_number(o: Outcome) -> u8
     ensures { result ≡ outcome_number o }
 {
-    match o {
-        Outcome::Applied => 0,
-        Outcome::NoVoice => 1,
-        Outcome::NoParameter => 2,
-        Outcome::NotTaken => 3,
-    }
+    o as u8
 }

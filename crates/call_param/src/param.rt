@@ -24,7 +24,7 @@ use voice_rows::row::{VoiceTable, first_at};
 use voice_rows::table::find_voice;
 
 // An order for the parameter `name` of the voice `w`, while the voices `freed` wait to be removed: none of them is known any more,
-// and none of their nodes lives. With nobody freed it is the order of 01.
+// and none of their nodes lives. With nobody freed it is the order that a call gives.
 pub fn order_voice(
     s: State,
     nodes: &mut NodeTable,

@@ -10,7 +10,7 @@ ghost use Rattle.memory.specs.View.{Memory};
 ghost use Rattle.memory.specs.Lent.{lent_edges, lent_processing, lent_voice_table};
 ghost use Rattle.memory.specs.Called.{Called};
 
-use graph_rows::edge_row::EdgeTable;
+use graph_rows::edge_row::{self, EdgeTable};
 use graph_tables::wiring::edge_count;
 use memory::state::State;
 use node::record::Edge;
@@ -38,10 +38,7 @@ pub fn edges(s: State, edges: &EdgeTable) -> usize
 pub fn edge_at(s: State, edges: &EdgeTable, i: usize) -> Option<Edge>
     ensures { result ≡ slice_get (take s.edges (edges_in edges.now)) i }
 {
-    if i < edge_count(edges, s.edges) {
-        return Some(graph_rows::edge_row::edge_at(edges, i));
-    }
-    None
+    (i < edge_count(edges, s.edges)).then(|| edge_row::edge_at(edges, i))
 }
 
 // The processing order that the last good prepare gave: that many words of the table are its node ids.

@@ -9,8 +9,9 @@ use graph_rows::node_row::NodeTable;
 use memory::state::State;
 use node::record::VoiceId;
 use store::voices::{Voice, VoiceState};
+use voice_rows::fade::fading;
 use voice_rows::levels::level_at;
-use voice_rows::row::{VoiceTable, state_at};
+use voice_rows::row::{self, VoiceTable, state_at};
 use voice_rows::table::{find_voice, voice_count};
 
 // The level of a voice, or none.
@@ -24,10 +25,7 @@ pub fn voice_level(s: State, nodes: &NodeTable, voices: &VoiceTable, w: VoiceId)
 fn position_of(s: VoiceState) -> Option<u64>
     ensures { result ≡ call.position_of s }
 {
-    match s {
-        VoiceState::Fading(fade) => Some(fade.position),
-        VoiceState::Tracked | VoiceState::Loose => None,
-    }
+    fading(s).map(|f| f.position)
 }
 
 // The position of a voice's fade, or none.
@@ -42,16 +40,12 @@ pub fn fade_position(s: State, voices: &VoiceTable, w: VoiceId) -> Option<u64>
 pub fn voice(s: State, voices: &VoiceTable, w: VoiceId) -> Option<Voice>
     ensures { (m : Memory) → Called (call.ask (call.voice w)) (lent_voice_table s voices.now m) (call.found result) (lent_voice_table s voices.now m) }
 {
-    let row = find_voice(voices, s.voices, w)?;
-    Some(voice_rows::row::voice_at(voices, row))
+    find_voice(voices, s.voices, w).map(|i| row::voice_at(voices, i))
 }
 
 // The voice at a place in the order of admission, or none.
 pub fn voice_at(s: State, voices: &VoiceTable, i: usize) -> Option<Voice>
     ensures { (m : Memory) → Called (call.ask (call.voice_at i)) (lent_voice_table s voices.now m) (call.found result) (lent_voice_table s voices.now m) }
 {
-    if i < voice_count(voices, s.voices) {
-        return Some(voice_rows::row::voice_at(voices, i));
-    }
-    None
+    (i < voice_count(voices, s.voices)).then(|| row::voice_at(voices, i))
 }

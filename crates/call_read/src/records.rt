@@ -11,14 +11,18 @@ use graph_tables::lookup::node_of;
 use graph_tables::ports::sources_of;
 use memory::state::State;
 use node::record::{Node, NodeId};
-use steal_log::{StealTable, read_steals};
+use steal_log::{Ring, StealTable, read_steals};
 use voice::steals::Steals;
 
 // The steals: their count, and the newest 64 records.
 pub fn steals(s: State, steals: &StealTable) -> Steals
     ensures { (m : Memory) → Called (call.ask call.steals) (lent_steals s steals.now m) (call.stolen (log_of result)) (lent_steals s steals.now m) }
 {
-    read_steals(steals, s.stolen, s.place)
+    let ring = Ring {
+        total: s.stolen,
+        next: s.place,
+    };
+    read_steals(steals, ring)
 }
 
 // What feeds each port of a node.

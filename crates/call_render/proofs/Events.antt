@@ -1,10 +1,11 @@
 -- The walk over the events: those that are due are applied, one after the other.
-use Prim.Native.Nat.{ℕ, suc, ◌+◌, ◌≤◌, ◌<◌}
+use Prim.Native.Nat.{ℕ, zero, suc, ◌+◌, ◌≤◌, ◌<◌}
 use native.Mathlib.Omega.{arith}
 use mathlib.Core.Path.{◌≡◌, refl, sym, ap, ap₂, ◌∙◌}
 use mathlib.Core.List.{List, [], ◌∷◌, ◌++◌, append_assoc, append-nil}
 use Rattle.std.specs.Prelude.{Option, None, Some, find, is_some}
-use mathlib.Core.Bool.{Bool, true, false, cond, ◌||◌}
+use Rattle.std.specs.List.{list_any, range_with_len}
+use mathlib.Core.Bool.{Bool, true, false, cond, ◌&&◌, ◌||◌}
 use lib.ListN.{length, take, drop, get_or, set, length-set, drop_of_length-le, take-append-drop}
 use lib.Seq.{length-take-le, drop-drop, drop-set-lt}
 use Rattle.lists.proofs.Table.{left_row, append_row}
@@ -19,10 +20,10 @@ use Rattle.words.specs.Place.{Holds}
 use Rattle.event_table.specs.Rows.{events_in}
 use Rattle.graph_rows.specs.Node.{nodes_in}
 use Rattle.store.specs.declared.answer.Outcome.{Outcome}
-use Rattle.store.specs.declared.answer.Outcome.TheVariants.{Applied, NoVoice}
+use Rattle.store.specs.declared.answer.Outcome.TheVariants.{NoVoice}
 use Rattle.store.specs.declared.voices.Voice.{Voice}
 use Rattle.model.specs.SharedState.{SharedState, with_events}
-use Rattle.model.specs.Model.{Model, freed}
+use Rattle.model.specs.Model.{Model}
 use Rattle.model.specs.Order.{outcome_number, free_outcome}
 use Rattle.lists.specs.Written.{written}
 use Rattle.model.proofs.Outcomes.{count_is}
@@ -186,18 +187,22 @@ module _ (deadline : ℕ) (rows : List Event) (n : ℕ) (vs : List Voice) (start
           }
 
   -- ---- whether one is a free
-  abbrev pub Looking : ℕ → Type 0
-  Looking i = (i ≤ n) × (any_free (rest i) ≡ any_free (rest 0))
+  module _ (d : Event) (top : n ≤ length rows) where
+    abbrev pub frees : ℕ → Bool
+    frees i = due deadline (get_or rows i d) && is_free (get_or rows i d).action
 
-  module _ (d : Event) (i : ℕ) (g : Looking i) (below : i < n) (top : n ≤ length rows) where
-    part : (b : Bool) → due deadline (get_or rows i d) ≡ b → any_free (rest i) ≡ any_free (cond b ((get_or rows i d) ∷ (rest (i + 1))) (rest (i + 1)))
-    part b t = ap any_free (ap (taken_before deadline) (left_row d rows n i below top) ∙ ap (λ b. cond b ((get_or rows i d) ∷ (rest (i + 1))) (rest (i + 1))) t)
-
-    pub looking_hit : due deadline (get_or rows i d) ≡ true → is_free (get_or rows i d).action ≡ true → true ≡ any_free (rest 0)
-    looking_hit t f = sym (part true t ∙ ap (λ b. b || any_free (rest (i + 1))) f) ∙ g.1
-
-  pub looking_done : (i : ℕ) → Looking i → n ≤ i → n ≤ length rows → false ≡ any_free (rest 0)
-  looking_done i g h top = sym (ap any_free (over i h top)) ∙ g.1
+    pub any_from : (m i : ℕ) → i + m ≡ n → list_any frees (range_with_len i m) ≡ any_free (taken_before deadline (drop i (take n rows)))
+    any_from zero i h = sym (ap any_free (over i (omega (arith, h)) top))
+    any_from (suc m) i h =
+        let below : i < n = omega (arith, h) in
+        let ih = any_from m (i + 1) (omega (arith, h)) in
+        go (due deadline (get_or rows i d)) ih
+        ∙ sym (ap any_free (ap (taken_before deadline) (left_row d rows n i below top)))
+      where
+        go : (b : Bool) → list_any frees (range_with_len (i + 1) m) ≡ any_free (rest (i + 1))
+            → ((b && is_free (get_or rows i d).action) || list_any frees (range_with_len (i + 1) m)) ≡ any_free (cond b (get_or rows i d ∷ rest (i + 1)) (rest (i + 1)))
+        go true ih = ap (λ z. is_free (get_or rows i d).action || z) ih
+        go false ih = ih
 
 -- ---- all of them: the events are removed from the queue, and the freed voices from the tables
 module _ (s : State) (ns es vs ev : List ℕ) (deadline : ℕ) (ns1 freed lent list : List ℕ) (r taken : ℕ)

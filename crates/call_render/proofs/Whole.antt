@@ -1,19 +1,17 @@
 -- The whole render from its parts.
-use Prim.Native.Nat.{ℕ, ◌+◌, ◌-◌, ◌≤◌, ◌<◌}
-use native.Mathlib.Omega.{arith}
+use Prim.Native.Nat.{ℕ, ◌+◌, ◌≤◌}
 use mathlib.Core.Path.{◌≡◌, refl, sym, ap, ap₂, subst, ◌∙◌}
 use mathlib.Core.List.{List, []}
-use Rattle.std.specs.Prelude.{Option, None, Some, is_some, Result, Err, Ok}
-use mathlib.Core.Bool.{Bool, true, false, ◌&&◌, false≢true}
+use Rattle.std.specs.Prelude.{Option, None, Result, Err, Ok}
+use mathlib.Core.Bool.{Bool, true, false, false≢true}
 use lib.Dec.{ltb}
-use lib.ListN.{length, take}
-use borrow.Author.Tests.{lt-ltb, le-ltb}
+use lib.ListN.{length}
+use borrow.Author.Tests.{le-ltb}
 use Rattle.node.specs.declared.refusal.Refusal.{Refusal}
 use Rattle.node.specs.declared.refusal.Refusal.TheVariants.{ClockEnd, ShortBuffer}
-use Rattle.prepare.specs.Prepare as order
 use Rattle.scheduler.specs.Queue.{taken_before}
 use Rattle.store.specs.declared.answer.Rendered.{Rendered}
-use Rattle.model.specs.SharedState.{SharedState, sounding, with_clock}
+use Rattle.model.specs.SharedState.{SharedState, sounding}
 use Rattle.model.specs.Model.{Model}
 use Rattle.model.specs.Render.{Heard, heard, answer_after, prepare_outcome, prepare_shared, ready_shared, any_free, apply_events, deadline, prepared_if, is_sounding, moved_if, outcomes, render_refusal}
 use Rattle.lists.specs.Written.{written}
@@ -22,45 +20,12 @@ use Rattle.model.specs.Render as model
 use Rattle.model.specs.Call.{Step, step, render_step, rendered}
 use Rattle.model.specs.Call as call
 use Rattle.model.specs.Numbers.{number_in}
-use Rattle.graph_rows.specs.Node.{nodes_in}
-use Rattle.graph_rows.specs.Edge.{edges_in}
-use Rattle.order_table.specs.Prepares.{Prepares}
-use Rattle.order_table.specs.declared.Prepared.{Prepared}
-use Rattle.voice_rows.specs.Rows.{voices_in}
-use Rattle.memory.specs.declared.state.State.{State}
+use Rattle.memory.specs.declared.state.CallResult.{CallResult}
 use Rattle.memory.specs.View.{Memory, model_of, shared_of}
-use Rattle.memory.specs.Lent.{lent_order, lent_voice_table}
 use Rattle.memory.specs.Called.{Called, Kept, keeps}
-use Rattle.memory.specs.Parts.{ordered, clocked}
-use Rattle.call_render.specs.declared.block.Block.{Block}
 use Rattle.call_render.specs.Applying.{resting, Handed}
 use Rattle.call_render.specs.Blocks.{heard_in, readied, block_to}
 use Rattle.call_render.proofs.Ends.{all_ends, block_is}
-
--- ---- before the block
-module _ (s : State) (ns es os : List ℕ) where
-  abbrev outcome : order.Outcome
-  outcome = order.prepare (take s.nodes (nodes_in ns)) (take s.edges (edges_in es))
-
-  module _ (freed : Bool) (t : freed ≡ true) (os' : List ℕ) (p : Prepared) (h : Prepares (take s.nodes (nodes_in ns)) (take s.edges (edges_in es)) os os' p) (m : Memory) where
-    abbrev old : Model
-    old = model_of (lent_order s ns es os m)
-
-    -- by the answer of the prepare
-    abbrev by : Result (Unit {0}) Refusal → Heard
-    by a = record { answer = answer_after a (ready_shared a outcome.order old.shared); model = record { shared = ready_shared a outcome.order old.shared; voices = old.voices } }
-
-    pub ready : p.answer ≡ Ok tt → (u : State) → u ≡ ordered s p.count → (a : Rendered) → a ≡ heard (u.prepared && is_some (u.sink))
-        → heard_in (record { state = u; answer = a }) (lent_order u ns es os' m) ≡ readied freed old
-    ready e u is a told =
-        ap (λ x. record { answer = x; model = model_of (lent_order u ns es os' m) }) told
-        ∙ ap (λ (x : State). record { answer = heard (x.prepared && is_some (x.sink)); model = model_of (lent_order x ns es os' m) }) is
-        ∙ ap (λ l. record {
-          answer = heard (is_some (s.sink));
-          model = record { shared = ready_shared (Ok tt) l old.shared; voices = old.voices };
-        }) h.order.is
-        ∙ ap by (sym e ∙ h.answer)
-        ∙ ap (λ b. readied b old) (sym t)
 
 -- ---- 15, and then 17
 refused_is : (m : Model) (out : List ℕ) (o : Option Refusal) → render_refusal m.shared (length out) ≡ o → render_step o out m ≡ step (call.render out) m
@@ -93,7 +58,7 @@ readied_kept true m = after_kept (prepare_outcome m.shared).answer (prepare_shar
 readied_kept false m = heard_kept (sounding m.shared)
 
 -- ---- the memory at first, after the events, when it is ready, and at the end; the list before and after
-module _ (old mid then last : Memory) (b : Bool) (ready out : Block) (lent list : List ℕ) (taken end : ℕ) (is-end : end ≡ old.state.clock + old.state.config.block) (fits : end ≤ 18446744073709551615)
+module _ (old mid then last : Memory) (b : Bool) (ready out : CallResult Rendered) (lent list : List ℕ) (taken end : ℕ) (is-end : end ≡ old.state.clock + old.state.config.block) (fits : end ≤ 18446744073709551615)
     (long : 256 ≤ length lent)
     (frees : b ≡ any_free (taken_before end (shared_of old).events))
     (handed-on : Handed end (model_of old) (model_of mid) lent list taken)

@@ -5,10 +5,10 @@ use Rattle.model.specs.SharedState.{sounding, with_clock}
 use Rattle.model.specs.Model.{Model}
 use Rattle.model.specs.Render.{Heard, heard, answer_after, is_sounding, moved_if, prepare_outcome, prepare_shared}
 use Rattle.memory.specs.View.{Memory, model_of}
-use Rattle.call_render.specs.declared.block.Block.{Block}
+use Rattle.memory.specs.declared.state.CallResult.{CallResult}
 
 -- what is heard, and the memory that is left
-abbrev pub heard_in : Block → Memory → Heard
+abbrev pub heard_in : CallResult Rendered → Memory → Heard
 heard_in r m = record { answer = r.answer; model = model_of m }
 
 -- before the block: prepared inside the render, or not

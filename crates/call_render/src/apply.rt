@@ -30,7 +30,8 @@ pub(crate) struct EventResult {
     pub outcome: Outcome,
 }
 
-// The voice `w` is noted behind the first `count`, if it is known and not noted yet.
+// The voice `w` is noted behind the first `count`, if it is known and not noted yet. Fixed memory and no Vec: the noted ones are the first
+// `count` of an array that the render has.
 fn note(voices: &[u32], held: usize, freed: &mut [u64], count: usize, w: VoiceId) -> EventResult
     requires { count < length freed.old }
     ensures { Noted (take held (voices_in voices.now)) w freed.old count freed.new result.count result.outcome }

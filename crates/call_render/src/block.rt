@@ -9,18 +9,11 @@ ghost use Rattle.call_render.specs.Blocks.{heard_in, readied, block_to};
 use graph_rows::edge_row::EdgeTable;
 use graph_rows::node_row::NodeTable;
 use memory::parts::{with_clock, with_order};
-use memory::state::State;
+use memory::state::{CallResult, State};
 use order_table::OrderTable;
 use store::answer::Rendered;
 use voice_rows::fade::move_fades;
 use voice_rows::row::VoiceTable;
-
-// The state that a part of the render left, and what the render answers.
-#[derive(Clone, Copy)]
-pub(crate) struct Block {
-    pub state: State,
-    pub answer: Rendered,
-}
 
 // What is heard: a prepared graph with a sink sounds.
 fn heard_of(s: State) -> Rendered
@@ -33,32 +26,32 @@ fn heard_of(s: State) -> Rendered
     }
 }
 
-// Before the block: the graph is prepared, if there was a free.
+// Before the block: the graph is prepared, if there was a free. It takes the flag as `readied` of specs/Blocks does, and
+// `move_if` below as `moved_if` of the model does: each is that definition. The answer is what the render will answer.
 pub(crate) fn readied(
     s: State,
     nodes: &NodeTable,
     edges: &EdgeTable,
     order: &mut OrderTable,
     freed: bool,
-) -> Block
+) -> CallResult<Rendered>
     ensures { (m : Memory) → heard_in result (lent_order result.state nodes.now edges.now order.new m) ≡ readied freed (model_of (lent_order s nodes.now edges.now order.old m)) }
 {
     if !freed {
-        return Block {
+        return CallResult {
             state: s,
             answer: heard_of(s),
         };
     }
-    let p = order_table::prepare(nodes, s.nodes, edges, s.edges, order);
-    match p.answer {
-        Err(r) => Block {
+    match order_table::prepare(nodes, s.nodes, edges, s.edges, order) {
+        Err(r) => CallResult {
             state: s,
             answer: Rendered::Unprepared(r),
         },
-        Ok(()) => {
-            let state = with_order(s, p.count);
+        Ok(count) => {
+            let state = with_order(s, count);
             let answer = heard_of(state);
-            Block { state, answer }
+            CallResult { state, answer }
         }
     }
 }
@@ -79,10 +72,15 @@ fn move_if(voices: &mut [u32], held: usize, sounding: bool, block: u64)
 }
 
 // The block itself: the fades move if it sounds, and the clock is then at `end`.
-pub(crate) fn block_to(s: State, voices: &mut VoiceTable, answer: Rendered, end: u64) -> Block
+pub(crate) fn block_to(
+    s: State,
+    voices: &mut VoiceTable,
+    answer: Rendered,
+    end: u64,
+) -> CallResult<Rendered>
     ensures { (m : Memory) → heard_in result (lent_voice_table result.state voices.new m) ≡ block_to end answer (model_of (lent_voice_table s voices.old m)) }
 {
     move_if(voices, s.voices, is_sounding(answer), s.config.block as u64);
     let state = with_clock(s, end);
-    Block { state, answer }
+    CallResult { state, answer }
 }

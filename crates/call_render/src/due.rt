@@ -17,19 +17,14 @@ use event_table::row::{EventTable, event_at};
 use graph_rows::edge_row::EdgeTable;
 use graph_rows::node_row::NodeTable;
 use memory::parts::with_events;
-use memory::state::State;
+use memory::state::{CallResult, State};
 use voice_rows::row::VoiceTable;
 
 // Whether any of the due events is a free, of a known voice or not.
 pub(crate) fn any_free(t: &[u32], count: usize, deadline: u64) -> bool
     ensures { result ≡ any_free (taken_before deadline (take count (events_in t.now))) }
 {
-    for i in 0..count.min(t.len() / 15) {
-        if is_due(t, i, deadline) && is_free(event_at(t, i).action) {
-            return true;
-        }
-    }
-    false
+    (0..count.min(t.len() / 15)).any(|i| is_due(t, i, deadline) && is_free(event_at(t, i).action))
 }
 
 // How many voices the due events have freed, and how many events there were.
@@ -68,14 +63,7 @@ fn apply_due(
     }
 }
 
-// The state that the due events left, and how many they were.
-#[derive(Clone, Copy)]
-pub(crate) struct EventsResult {
-    pub state: State,
-    pub taken: usize,
-}
-
-// The due events are removed from the queue and applied, and what became of each stands in `out`.
+// The due events are removed from the queue and applied, and what became of each stands in `out`: how many they were.
 pub(crate) fn apply_events(
     s: State,
     nodes: &mut NodeTable,
@@ -84,17 +72,17 @@ pub(crate) fn apply_events(
     events: &mut EventTable,
     deadline: u64,
     out: &mut [u8],
-) -> EventsResult
+) -> CallResult<usize>
     requires { 256 ≤ length out.old }
-    ensures { (m : Memory) → Handed deadline (model_of (lent_render s nodes.old edges.old m.order voices.old events.old m)) (model_of (lent_render result.state nodes.new edges.new m.order voices.new events.new m)) out.old out.new result.taken }
+    ensures { (m : Memory) → Handed deadline (model_of (lent_render s nodes.old edges.old m.order voices.old events.old m)) (model_of (lent_render result.state nodes.new edges.new m.order voices.new events.new m)) out.old out.new result.answer }
 {
     let mut freed = [0u64; 256];
     let due = apply_due(s, nodes, voices, events, deadline, &mut freed, out);
     let rest = remove_due(events, s.events, deadline);
     let queued = with_events(s, rest);
     let state = forget_voices(queued, nodes, edges, voices, &freed[..due.freed]);
-    EventsResult {
+    CallResult {
         state,
-        taken: due.taken,
+        answer: due.taken,
     }
 }

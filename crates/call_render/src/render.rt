@@ -15,7 +15,8 @@ use order_table::OrderTable;
 use store::answer::Rendered;
 use voice_rows::row::VoiceTable;
 
-// The state that a render left, what it answers, and how many events it took.
+// The state that a render left, what it answers, and how many events it took. Three fields and no `CallResult` of a pair: a pair would name
+// neither.
 #[derive(Clone, Copy)]
 pub struct Rendering {
     pub state: State,
@@ -60,6 +61,6 @@ pub fn render(
     Rendering {
         state: last.state,
         answer: last.answer,
-        taken: after.taken,
+        taken: after.answer,
     }
 }

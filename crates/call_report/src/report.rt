@@ -7,7 +7,6 @@ use crate::row::put_report;
 use crate::tests::report_test;
 use call_param::left::{copy_on, row_left};
 use graph_rows::node_row::NodeTable;
-use graph_tables::lookup::node_count;
 use level::level;
 use memory::state::State;
 use node::record::NodeId;
@@ -28,12 +27,10 @@ pub fn report(
     ensures same { (m : Memory) → Kept (answered result) (lent_params s nodes.old voices.now m) (lent_params s nodes.new voices.now m) }
 {
     let k = u64::from(node.0);
-    let p = row_left(nodes, s.nodes, k, &[]);
-    let live = p < node_count(nodes, s.nodes);
-    report_test(
+    let row = row_left(nodes, s.nodes, k, &[]);
+    let p = report_test(
         nodes,
-        live,
-        p,
+        row,
         voices,
         s.voices,
         s.config.block,

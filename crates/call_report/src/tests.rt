@@ -1,10 +1,9 @@
-ghost use Rattle.std.specs.Prelude.{◌≡◌, take, find};
-ghost use Rattle.graph.specs.Tables.{answer_of};
+ghost use Rattle.std.specs.Prelude.{◌≡◌, Some, take, find};
 ghost use Rattle.model.specs.Refuse.{of_definition, reports, lent_block};
 ghost use Rattle.model.specs.Voice.{is_voice};
 ghost use Rattle.graph_rows.specs.Node.{nodes_in};
 ghost use Rattle.voice_rows.specs.Rows.{voices_in};
-ghost use Rattle.call_report.specs.Tested.{row_or, tested};
+ghost use Rattle.call_report.specs.Tested.{row_in, tested, Told};
 
 use graph_rows::node_row::{id_at, owner_at};
 use node::record::VoiceId;
@@ -23,15 +22,16 @@ fn of_definition(voices: &[u32], held: usize, w: VoiceId, k: u32) -> bool
     first <= k && u64::from(k) < u64::from(first) + u64::from(count_at(voices, row))
 }
 
-// Whether the node in row `p`, if it is `live`, can be reported: it is one of the host's, or one of a voice's definition.
-fn is_reported(nodes: &[u32], live: bool, p: usize, voices: &[u32], held: usize) -> bool
-    ensures { result ≡ reports (take held (voices_in voices.now)) (row_or live p (nodes_in nodes.now)) }
+// Whether the node in row `p` can be reported: it is one of the host's, or one of a voice's definition.
+fn is_reported(nodes: &[u32], p: usize, voices: &[u32], held: usize) -> bool
+    ensures { result ≡ reports (take held (voices_in voices.now)) (row_in (Some p) (nodes_in nodes.now)) }
 {
     let w = owner_at(nodes, p);
-    live && (w.0 == 0 || of_definition(voices, held, w, id_at(nodes, p).0))
+    w == VoiceId(0) || of_definition(voices, held, w, id_at(nodes, p).0)
 }
 
-// Whether a lent block has its length: one or two channels of `block` samples.
+// Whether a lent block has its length: one or two channels of `block` samples. Crate bus asks it of its own buffers by a private test and a
+// definition of its own.
 fn is_lent_block(block: usize, channels: usize, samples: usize) -> bool
     ensures { result ≡ lent_block block channels samples }
 {
@@ -42,24 +42,26 @@ fn is_lent_block(block: usize, channels: usize, samples: usize) -> bool
     }
 }
 
-// 4, then 16.
+// The row of the node, if it was found and can be reported: else 4, the node is unknown; then 16, the lent block has not its length.
 pub(crate) fn report_test(
     nodes: &[u32],
-    live: bool,
-    p: usize,
+    row: Option<usize>,
     voices: &[u32],
     held: usize,
     block: usize,
     channels: usize,
     samples: usize,
-) -> Result<(), Refusal>
-    ensures { result ≡ answer_of (tested (take held (voices_in voices.now)) (row_or live p (nodes_in nodes.now)) block channels samples) }
+) -> Result<usize, Refusal>
+    ensures { Told row (tested (take held (voices_in voices.now)) (row_in row (nodes_in nodes.now)) block channels samples) result }
 {
-    if !is_reported(nodes, live, p, voices, held) {
+    let Some(p) = row else {
+        return Err(Refusal::UnknownNode);
+    };
+    if !is_reported(nodes, p, voices, held) {
         return Err(Refusal::UnknownNode);
     }
     if !is_lent_block(block, channels, samples) {
         return Err(Refusal::LentBlock);
     }
-    Ok(())
+    Ok(p)
 }

@@ -6,7 +6,7 @@ use mathlib.Core.List.{List}
 use mathlib.Core.Bool.{Bool, true, false, not, cond, ◌&&◌, false≢true}
 use lib.Dec.{eqb, leb}
 use borrow.Author.Tests.{le-leb}
-use Rattle.std.specs.Prelude.{Ok, Err, Result}
+use Rattle.std.specs.Prelude.{Ok, Err, Result, None, Some, is_some}
 use Rattle.node.specs.declared.record.NodeId.{NodeId}
 use Rattle.node.specs.declared.refusal.Refusal.{Refusal}
 use Rattle.memory.specs.declared.state.State.{State}
@@ -21,14 +21,13 @@ use Rattle.model.specs.Wish.{spawn_in, call_of}
 use Rattle.console.specs.Console.{ConsoleCall, ConsoleAnswer, ConsoleStep, plain, console_step}
 use Rattle.console.specs.Console as console
 use Rattle.call_console.specs.declared.queues.WishState.{WishState}
-use Rattle.call_console.specs.Called.{ConsoleMemory, console_of, Called, Kept, wish_answer}
+use Rattle.call_console.specs.Queues.{wishes_of}
+use Rattle.call_console.specs.Called.{ConsoleMemory, memory, console_of, Called, Kept, wish_answer}
 use Rattle.sealed.specs.declared.profile.Profile.{Profile}
-use Rattle.sealed.specs.declared.profile.Seal.{Seal}
-use Rattle.sealed.specs.declared.profile.Seal.TheVariants.{Unsealed, Sealed}
 use Rattle.sealed.specs.declared.refusal.SealRefusal.TheVariants.{NotAccepted, Closed}
-use Rattle.sealed.specs.Seal.{within, shuts}
-use Rattle.sealed.specs.Board.{on, seal, given, sealed, refused, closed, sealable, refuses, passes}
-use Rattle.call_seal.specs.Board.{sealed_by, board, board_of, BoardCalled, BoardKept, is_sealed, shuts_spawn, opened, told_by, wished_answer}
+use Rattle.sealed.specs.Seal.{Seal, within, shuts}
+use Rattle.sealed.specs.Board.{BoardAnswer, on, seal, given, sealed, refused, closed, sealable, refuses, passes}
+use Rattle.call_seal.specs.Board.{sealed_by, board, board_of, on_store, BoardCalled, BoardKept, shuts_spawn, opened, told_by, wished_answer}
 
 -- ---- the calls
 pub shut : (x : Seal) (c : ConsoleCall) (m : ConsoleMemory) → closed x c ≡ true → BoardCalled (on c) (sealed_by m x) (refused Closed) (sealed_by m x)
@@ -40,6 +39,24 @@ pub through : (x : Seal) (c : ConsoleCall) (m n : ConsoleMemory) (a : ConsoleAns
 through x c m n a e h =
     let b = board_of (sealed_by m x) in
     ap (λ (t : ConsoleStep). passes t x) h ∙ sym (ap (λ t. cond t (refuses Closed b) (passes (console_step c (console_of m)) x)) e)
+
+-- what the contract of a call of the store says on a board: f and g put the parts that the call was lent into the store
+abbrev pub Promised : Seal → Call → BoardAnswer → (Memory → Memory) → (Memory → Memory) → Type 0
+Promised x c a f g =
+    ((m : Memory) (w : WishState) (words : List ℕ) → BoardCalled (on_store c) (board (f m) w words x) a (board (g m) w words x))
+    × ((m : Memory) (w : WishState) (words : List ℕ) → BoardKept a (board (f m) w words x) (board (g m) w words x))
+
+pub shut_store : (x : Seal) (c : Call) (f : Memory → Memory) → closed x (console.on c) ≡ true → Promised x c (refused Closed) f f
+shut_store x c f e = (λ m w words. shut x (console.on c) (memory (f m) w words) e, λ m w words. refl)
+
+pub through_store : (x : Seal) (c : Call) (a : Answer) (f g : Memory → Memory) → closed x (console.on c) ≡ false
+    → ((m : Memory) → store.Called c (f m) a (g m)) → ((m : Memory) → store.Kept a (f m) (g m)) → Promised x c (given (plain a)) f g
+through_store x c a f g e is same = (
+  λ m w words.
+      through x (console.on c) (memory (f m) w words) (memory (g m) w words) (plain a) e
+      (ap (λ (s : Step). record { answer = plain s.answer; console = record { model = s.model; wishes = wishes_of w words } }) (is m)),
+  λ m w words. (refl, (refl, refl, same m)),
+)
 
 -- what a call that no seal closes keeps is what the store's call keeps, or the console's
 pub kept_open : {A : Type 0} (say : Result A Refusal → Answer) (a : Result A Refusal) (r : Result A (BoardRefusal Refusal)) (lent : State → Memory) (s t : State) (m : Memory)
@@ -71,21 +88,21 @@ spawn_closed x w b e = same x ∙ sym e
     go s false = refl
 
     same : (y : Seal) → closed y (console.on (call_of w)) ≡ shuts_spawn y w.managed w.bus w.def.nodes.count w.def.edges.count
-    same Unsealed = none w.managed
+    same None = none w.managed
       where
-        none : (t : Bool) → closed Unsealed (console.on (cond t (call.spawn_managed (spawn_in w)) (call.spawn_loose (spawn_in w)))) ≡ false
+        none : (t : Bool) → closed None (console.on (cond t (call.spawn_managed (spawn_in w)) (call.spawn_loose (spawn_in w)))) ≡ false
         none true = refl
         none false = refl
-    same (Sealed s) = go s w.managed
+    same (Some s) = go s w.managed
 
 pub wish_closed : (x : Seal) (q : ℕ) (w : Wish) (b : Bool) → b ≡ shuts_spawn x w.managed w.bus w.def.nodes.count w.def.edges.count → closed x (console.wish q w) ≡ b
-wish_closed Unsealed q w b e = sym e
-wish_closed (Sealed s) q w b e = sym e
+wish_closed None q w b e = sym e
+wish_closed (Some s) q w b e = sym e
 
 -- what a seal closes with no node and no edge, it closes with every definition
 pub shut_anyway : (x : Seal) (managed : Bool) (bus : NodeId) (nodes edges : ℕ) → shuts_spawn x managed bus 0 0 ≡ true → shuts_spawn x managed bus nodes edges ≡ true
-shut_anyway Unsealed managed bus nodes edges e = e
-shut_anyway (Sealed s) managed bus nodes edges e = go managed (eqb bus.0 s.bus.0) e
+shut_anyway None managed bus nodes edges e = e
+shut_anyway (Some s) managed bus nodes edges e = go managed (eqb bus.0 s.bus.0) e
   where
     go : (t u : Bool) → not (t && (u && (leb 0 s.def_nodes && leb 0 s.def_edges))) ≡ true → not (t && (u && (leb nodes s.def_nodes && leb edges s.def_edges))) ≡ true
     go false u h = refl
@@ -96,10 +113,10 @@ shut_anyway (Sealed s) managed bus nodes edges e = go managed (eqb bus.0 s.bus.0
         absurd (false≢true (sym (ap (λ i. not (i && leb 0 s.def_edges)) (le-leb 0 s.def_nodes d) ∙ ap (λ i. not i) (le-leb 0 s.def_edges f)) ∙ h))
 
 -- ---- sealing
-pub sealed_now : (x : Seal) (p : Profile) (m : ConsoleMemory) → is_sealed x ≡ false → sealable p (console_of m) ≡ true → BoardCalled (seal p) (sealed_by m x) sealed (sealed_by m (Sealed p))
-sealed_now Unsealed p m e h = sym (ap (λ t. cond t (record { answer = sealed; board = board_of (sealed_by m (Sealed p)) }) (refuses NotAccepted (board_of (sealed_by m Unsealed)))) h)
-sealed_now (Sealed s) p m e h = absurd (false≢true (sym e))
+pub sealed_now : (x : Seal) (p : Profile) (m : ConsoleMemory) → is_some x ≡ false → sealable p (console_of m) ≡ true → BoardCalled (seal p) (sealed_by m x) sealed (sealed_by m (Some p))
+sealed_now None p m e h = sym (ap (λ t. cond t (record { answer = sealed; board = board_of (sealed_by m (Some p)) }) (refuses NotAccepted (board_of (sealed_by m None)))) h)
+sealed_now (Some s) p m e h = absurd (false≢true (sym e))
 
-pub not_sealed : (x : Seal) (p : Profile) (m : ConsoleMemory) → is_sealed x ≡ false → sealable p (console_of m) ≡ false → BoardCalled (seal p) (sealed_by m x) (refused NotAccepted) (sealed_by m x)
-not_sealed Unsealed p m e h = sym (ap (λ t. cond t (record { answer = sealed; board = board_of (sealed_by m (Sealed p)) }) (refuses NotAccepted (board_of (sealed_by m Unsealed)))) h)
-not_sealed (Sealed s) p m e h = absurd (false≢true (sym e))
+pub not_sealed : (x : Seal) (p : Profile) (m : ConsoleMemory) → is_some x ≡ false → sealable p (console_of m) ≡ false → BoardCalled (seal p) (sealed_by m x) (refused NotAccepted) (sealed_by m x)
+not_sealed None p m e h = sym (ap (λ t. cond t (record { answer = sealed; board = board_of (sealed_by m (Some p)) }) (refuses NotAccepted (board_of (sealed_by m None)))) h)
+not_sealed (Some s) p m e h = absurd (false≢true (sym e))

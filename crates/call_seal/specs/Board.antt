@@ -1,5 +1,5 @@
 -- What the contracts of a board's calls say: the console as it is lent, and beside it the seal, which goes by value.
-use Rattle.std.specs.Prelude.{ℕ, ◌≡◌, List, Bool, true, false, not, ◌&&◌, eqb, leb, Ok, Err, Result}
+use Rattle.std.specs.Prelude.{ℕ, ◌≡◌, List, Bool, false, not, ◌&&◌, eqb, leb, Ok, Err, Result, None, Some}
 use Rattle.node.specs.declared.record.NodeId.{NodeId}
 use Rattle.model.specs.Call.{Call, spawned}
 use Rattle.memory.specs.View.{Memory}
@@ -9,8 +9,7 @@ use Rattle.console.specs.Console as console
 use Rattle.call_console.specs.declared.queues.WishState.{WishState}
 use Rattle.call_console.specs.Called.{ConsoleMemory, memory, console_of, Kept, wish_answer}
 use Rattle.sealed.specs.declared.profile.Profile.{Profile}
-use Rattle.sealed.specs.declared.profile.Seal.{Seal}
-use Rattle.sealed.specs.declared.profile.Seal.TheVariants.{Unsealed, Sealed}
+use Rattle.sealed.specs.Seal.{Seal}
 use Rattle.sealed.specs.declared.refusal.SealRefusal.TheVariants.{Closed}
 use Rattle.sealed.specs.Board.{Board, BoardCall, on, BoardAnswer, given, sealed, refused, BoardStep, board_step}
 use Rattle.node.specs.declared.record.VoiceId.{VoiceId}
@@ -77,14 +76,10 @@ abbrev pub wished_answer : Result (Unit {0}) (BoardRefusal KeyboardRefusal) → 
 wished_answer = told_by wish_answer
 
 -- ---- the tests, by what they look at
-abbrev pub is_sealed : Seal → Bool
-is_sealed Unsealed = false
-is_sealed (Sealed s) = true
-
 -- "managed spawns on that bus within D and E", and "wishes for them": of so many nodes and edges as given
 abbrev pub leaves_out : Profile → Bool → NodeId → ℕ → ℕ → Bool
 leaves_out s managed bus nodes edges = not (managed && (eqb bus.0 s.bus.0 && (leb nodes s.def_nodes && leb edges s.def_edges)))
 
 abbrev pub shuts_spawn : Seal → Bool → NodeId → ℕ → ℕ → Bool
-shuts_spawn Unsealed managed bus nodes edges = false
-shuts_spawn (Sealed s) managed bus nodes edges = leaves_out s managed bus nodes edges
+shuts_spawn None managed bus nodes edges = false
+shuts_spawn (Some s) managed bus nodes edges = leaves_out s managed bus nodes edges

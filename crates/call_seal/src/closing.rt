@@ -1,6 +1,6 @@
 // What a seal closes.
 ghost use Rattle.std.specs.Prelude.{◌≡◌};
-ghost use Rattle.call_seal.specs.Board.{is_sealed, leaves_out, shuts_spawn, opened};
+ghost use Rattle.call_seal.specs.Board.{leaves_out, shuts_spawn, opened};
 
 use memory::state::CallResult;
 use node::record::NodeId;
@@ -33,16 +33,6 @@ pub(crate) fn open<A>(
     }
 }
 
-// Whether a board is sealed: host calls and sealing are then closed.
-pub(crate) fn is_sealed(x: Seal) -> bool
-    ensures { result ≡ is_sealed x }
-{
-    match x {
-        Seal::Unsealed => false,
-        Seal::Sealed(_) => true,
-    }
-}
-
 // Whether a spawn of so many nodes and edges is unmanaged, on another bus than the profile's, or larger than its D or E.
 fn leaves_out(p: Profile, managed: bool, bus: NodeId, nodes: usize, edges: usize) -> bool
     ensures { result ≡ leaves_out p managed bus nodes edges }
@@ -50,12 +40,10 @@ fn leaves_out(p: Profile, managed: bool, bus: NodeId, nodes: usize, edges: usize
     !(managed && bus == p.bus && nodes as u64 <= p.def_nodes && edges as u64 <= p.def_edges)
 }
 
-// Whether the seal closes a spawn of so many nodes and edges on the bus, and a wish for it.
+// Whether the seal closes a spawn of so many nodes and edges on the bus, and a wish for it. Not a `Wish`: a book that cannot be read is
+// tested as a definition of no nodes and no edges, and there is no wish yet then.
 pub fn shuts_spawn(x: Seal, managed: bool, bus: NodeId, nodes: usize, edges: usize) -> bool
     ensures { result ≡ shuts_spawn x managed bus nodes edges }
 {
-    match x {
-        Seal::Unsealed => false,
-        Seal::Sealed(p) => leaves_out(p, managed, bus, nodes, edges),
-    }
+    x.is_some_and(|p| leaves_out(p, managed, bus, nodes, edges))
 }

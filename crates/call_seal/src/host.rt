@@ -1,4 +1,5 @@
-// The host's nodes, wiring and sink on a board: closed by every seal, before all else that these calls refuse.
+// The host's nodes, wiring and sink on a board: closed by every seal, before all else that these calls refuse. Five functions of two lines: one that
+// takes the call as a closure would lend it the tables and be longer.
 ghost use Rattle.std.specs.Prelude.{List, ℕ};
 ghost use Rattle.model.specs.Call.{add_node, remove_node, connect, disconnect, set_sink};
 ghost use Rattle.memory.specs.View.{Memory};
@@ -6,7 +7,7 @@ ghost use Rattle.memory.specs.Lent.{lent_nodes, lent_graph};
 ghost use Rattle.call_console.specs.declared.queues.WishState.{WishState};
 ghost use Rattle.call_seal.specs.Board.{board, on_store, BoardCalled, BoardKept, host_answer, node_answer};
 
-use crate::closing::{BoardRefusal, is_sealed, open};
+use crate::closing::{BoardRefusal, open};
 use graph::host::HostNode;
 use graph_rows::edge_row::EdgeTable;
 use graph_rows::node_row::NodeTable;
@@ -26,7 +27,7 @@ pub fn add_node(
     ensures is { (m : Memory) (w : WishState) (c : List ℕ) → BoardCalled (on_store (add_node kind.now n.ports n.required n.takes_values n.takes_glides)) (board (lent_nodes s nodes.old m) w c x) (node_answer result.answer) (board (lent_nodes result.state nodes.new m) w c x) }
     ensures same { (m : Memory) (w : WishState) (c : List ℕ) → BoardKept (node_answer result.answer) (board (lent_nodes s nodes.old m) w c x) (board (lent_nodes result.state nodes.new m) w c x) }
 {
-    if is_sealed(x) {
+    if x.is_some() {
         return refuse(s, BoardRefusal::Closed);
     }
     open(call_host::host::add_node(s, nodes, kind, n))
@@ -43,7 +44,7 @@ pub fn remove_node(
     ensures is { (m : Memory) (w : WishState) (c : List ℕ) → BoardCalled (on_store (remove_node node)) (board (lent_graph s nodes.old edges.old m) w c x) (host_answer result.answer) (board (lent_graph result.state nodes.new edges.new m) w c x) }
     ensures same { (m : Memory) (w : WishState) (c : List ℕ) → BoardKept (host_answer result.answer) (board (lent_graph s nodes.old edges.old m) w c x) (board (lent_graph result.state nodes.new edges.new m) w c x) }
 {
-    if is_sealed(x) {
+    if x.is_some() {
         return refuse(s, BoardRefusal::Closed);
     }
     open(call_host::host::remove_node(s, nodes, edges, node))
@@ -60,7 +61,7 @@ pub fn connect(
     ensures is { (m : Memory) (w : WishState) (c : List ℕ) → BoardCalled (on_store (connect e.from e.to e.port)) (board (lent_graph s nodes.now edges.old m) w c x) (host_answer result.answer) (board (lent_graph result.state nodes.now edges.new m) w c x) }
     ensures same { (m : Memory) (w : WishState) (c : List ℕ) → BoardKept (host_answer result.answer) (board (lent_graph s nodes.now edges.old m) w c x) (board (lent_graph result.state nodes.now edges.new m) w c x) }
 {
-    if is_sealed(x) {
+    if x.is_some() {
         return refuse(s, BoardRefusal::Closed);
     }
     open(call_host::host::connect(s, nodes, edges, e))
@@ -78,7 +79,7 @@ pub fn disconnect(
     ensures is { (m : Memory) (w : WishState) (c : List ℕ) → BoardCalled (on_store (disconnect to port)) (board (lent_graph s nodes.now edges.old m) w c x) (host_answer result.answer) (board (lent_graph result.state nodes.now edges.new m) w c x) }
     ensures same { (m : Memory) (w : WishState) (c : List ℕ) → BoardKept (host_answer result.answer) (board (lent_graph s nodes.now edges.old m) w c x) (board (lent_graph result.state nodes.now edges.new m) w c x) }
 {
-    if is_sealed(x) {
+    if x.is_some() {
         return refuse(s, BoardRefusal::Closed);
     }
     open(call_host::host::disconnect(s, nodes, edges, to, port))
@@ -94,7 +95,7 @@ pub fn set_sink(
     ensures is { (m : Memory) (w : WishState) (c : List ℕ) → BoardCalled (on_store (set_sink node)) (board (lent_nodes s nodes.now m) w c x) (host_answer result.answer) (board (lent_nodes result.state nodes.now m) w c x) }
     ensures same { (m : Memory) (w : WishState) (c : List ℕ) → BoardKept (host_answer result.answer) (board (lent_nodes s nodes.now m) w c x) (board (lent_nodes result.state nodes.now m) w c x) }
 {
-    if is_sealed(x) {
+    if x.is_some() {
         return refuse(s, BoardRefusal::Closed);
     }
     open(call_host::host::set_sink(s, nodes, node))

@@ -1,4 +1,4 @@
-// Sealing a board, and the calls that a seal may close (02, Paper 14). A call that no seal closes stays as it is: it is not lent the seal.
+// Sealing a board, and the calls that a seal may close (docs/CHANGES.md, "The sealed profile"). A call that no seal closes stays as it is: it is not lent the seal.
 #![tactic(auto)]
 
 pub mod accept;

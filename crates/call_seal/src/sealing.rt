@@ -6,7 +6,6 @@ ghost use Rattle.sealed.specs.Board.{none_waits, seal};
 ghost use Rattle.call_seal.specs.Board.{board, BoardCalled, BoardKept, seal_answer};
 
 use crate::accept::fits_store;
-use crate::closing::is_sealed;
 use call_console::queues::{WishState, keyboard_count, waiting_count};
 use graph_rows::edge_row::EdgeTable;
 use graph_rows::node_row::NodeTable;
@@ -15,14 +14,15 @@ use sealed::profile::{Profile, Seal};
 use sealed::refusal::SealRefusal;
 use voice_rows::row::VoiceTable;
 
-// The seal that sealing left, and its answer.
+// The seal that sealing left, and its answer: beside each other, as the state and the answer of a call of the store are (`CallResult`).
 #[derive(Clone, Copy)]
 pub struct SealResult {
     pub seal: Seal,
     pub answer: Result<(), SealRefusal>,
 }
 
-// Whether no wish waits at any keyboard.
+// Whether no wish waits at any keyboard. No `all` over the keyboards' numbers: what it ensures is said of the numbers, and a law would have to carry
+// it to the queues.
 fn none_waits(w: WishState) -> bool
     ensures { (c : List ℕ) → result ≡ none_waits (wishes_of w c).waits }
 {
@@ -47,7 +47,7 @@ pub fn seal(
     ensures is { (m : Memory) (c : List ℕ) → BoardCalled (seal p) (board (lent_voices s nodes.now edges.now voices.now m) w c x) (seal_answer result.answer) (board (lent_voices s nodes.now edges.now voices.now m) w c result.seal) }
     ensures same { (m : Memory) (c : List ℕ) → BoardKept (seal_answer result.answer) (board (lent_voices s nodes.now edges.now voices.now m) w c x) (board (lent_voices s nodes.now edges.now voices.now m) w c result.seal) }
 {
-    if is_sealed(x) {
+    if x.is_some() {
         return SealResult {
             seal: x,
             answer: Err(SealRefusal::Closed),
@@ -55,7 +55,7 @@ pub fn seal(
     }
     if fits_store(s, nodes, edges, voices, p) && none_waits(w) {
         return SealResult {
-            seal: Seal::Sealed(p),
+            seal: Some(p),
             answer: Ok(()),
         };
     }

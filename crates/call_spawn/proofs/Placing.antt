@@ -1,6 +1,5 @@
 -- The port search after what was reclaimed for it, and what a spawn keeps.
 use Prim.Native.Nat.{ℕ, zero, suc}
-use native.Mathlib.Omega.{arith}
 use mathlib.Core.Path.{◌≡◌, refl, sym, ap, ◌∙◌}
 use mathlib.Core.Bool.{false}
 use Rattle.std.specs.Prelude.{Option, None, Some}
@@ -37,24 +36,19 @@ place_reclaimed x s (suc k) m = go (port_free x.bus m) refl (next_out m.shared x
     go None e None ih = sym (place_over x s m e)
     go None e (Some v) ih = ih (cut_off v v.state m)
 
-module _ (x : Spawn) (s : VoiceState) (fuel : ℕ) (m n : Model) (p : Option ℕ) (made : Makes fuel x.bus x.rank m n p) where
-  pub places : (k : ℕ) → p ≡ Some k → instantiate x s k n ≡ place fuel x s m
-  places k e = sym (place_reclaimed x s fuel m ∙ ap (λ j. place 0 x s j) (sym made.is) ∙ place_port x s n 0 k (found (port_free x.bus n) (sym made.port ∙ e)))
-    where
-      found : (o : Option ℕ) → o ≡ Some k → o ≡ Some k
-      found None h = let z : ◌≡◌ {A = ℕ} 0 1 = cc in absurd (omega arith)
-      found (Some q) h = cc
+-- room was made for x by what the budget b allows; n is what it left
+module _ (b : Option ℕ) (x : Spawn) {s : VoiceState} {fuel : ℕ} {m n : Model} {p : Option ℕ}
+    (made : Makes fuel x.bus x.rank m n p)
+    (is-fuel : fuel ≡ tries b m.voices)
+    (is-s : s ≡ state_under b) where
+  left : place 0 x s n ≡ place_under b x m
+  left = ap (place 0 x s) made.is ∙ sym (place_reclaimed x s fuel m) ∙ ap (λ k. place k x s m) is-fuel ∙ ap (λ t. place (tries b m.voices) x t m) is-s
 
-  pub places_not : p ≡ None → refused NoPort n ≡ place fuel x s m
-  places_not e = sym (place_reclaimed x s fuel m ∙ ap (λ j. place 0 x s j) (sym made.is) ∙ place_over x s n (lost (port_free x.bus n) (sym made.port ∙ e)))
-    where
-      lost : (o : Option ℕ) → o ≡ None → o ≡ None
-      lost None h = refl
-      lost (Some q) h = let z : ◌≡◌ {A = ℕ} 0 1 = cc in absurd (omega arith)
+  pub places : (k : ℕ) → p ≡ Some k → instantiate x s k n ≡ place_under b x m
+  places k e = sym (place_port x s n 0 k (sym made.port ∙ e)) ∙ left
 
--- by what the budget allows
-pub under : (b : Option ℕ) (x : Spawn) (m : Model) (fuel : ℕ) (s : VoiceState) → fuel ≡ tries b m.voices → s ≡ state_under b → place fuel x s m ≡ place_under b x m
-under b x m fuel s is-fuel is-s = ap (λ n. place n x s m) is-fuel ∙ ap (λ k. place (tries b m.voices) x k m) is-s
+  pub places_not : p ≡ None → refused NoPort n ≡ place_under b x m
+  places_not e = sym (place_over x s n (sym made.port ∙ e)) ∙ left
 
 -- ---- past the table's refusals and admission there is a voice, or 12
 pub place_free : (fuel : ℕ) (x : Spawn) (s : VoiceState) (m : Model) → keeps (number_in (spawned (place fuel x s m).answer)) ≡ false

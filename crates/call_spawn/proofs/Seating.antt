@@ -1,4 +1,4 @@
--- The new voice's record, and the store with it, by the parts that the code computes.
+-- The store with the new voice, by the parts that the code computes.
 use Rattle.std.specs.Prelude.{Result}
 use Rattle.node.specs.declared.refusal.Refusal.{Refusal}
 use Rattle.node.specs.declared.record.VoiceId.{VoiceId}
@@ -9,46 +9,18 @@ use mathlib.Core.Bool.{Bool}
 use mathlib.Core.List.{List, ◌∷◌, [], ◌++◌}
 use lib.ListN.{length, length-map}
 use borrow.Author.Tests.{lt-ltb}
-use Rattle.node.specs.declared.record.NodeId.{NodeId}
 use Rattle.node.specs.declared.record.Node.{Node}
 use Rattle.graph.specs.Node.{raise_noise, noise_raised}
 use Rattle.graph.specs.Change.{with_nodes}
-use Rattle.synthdef.specs.declared.def.SynthDef.{SynthDef}
-use Rattle.synthdef.specs.declared.plan.DonePlan.{DonePlan}
 use Rattle.store.specs.declared.voices.Voice.{Voice}
 use Rattle.store.specs.declared.voices.VoiceState.{VoiceState}
 use Rattle.voice_rows.specs.Listed.{pushed_voice}
-use Rattle.model.specs.SharedState.{SharedState, with_spawned}
-use Rattle.model.specs.Voice.{id}
+use Rattle.model.specs.SharedState.{with_spawned}
 use Rattle.model.specs.Spawn.{Spawn, pans, next_voice, new_voice, instantiate_graph, raised}
 use Rattle.model.specs.Model.{Model, SpawnResult, instantiate}
 use Rattle.voice_graph.specs.Added.{with_voice, regraphed}
 use Rattle.voice_graph.proofs.Room.{voice_room}
 use Rattle.call_spawn.specs.Room.{Headroom}
-
--- ---- the record
-abbrev pub made : SharedState → SynthDef → Bool → ℕ → VoiceState → NodeId → ℕ → ℕ → NodeId → DonePlan → ℕ → Voice
-made d def pan rank s bus p n out plan noise =
-    record {
-      id = next_voice d;
-      birth = d.clock;
-      bus = bus;
-      port = p;
-      first = id d.graph.next;
-      count = n;
-      output = out;
-      panned = pan;
-      sequence = noise;
-      rank = rank;
-      state = s;
-      params = def.params;
-      plan = plan;
-    }
-
-pub made_same : (d : SharedState) (def : SynthDef) (rank : ℕ) (s : VoiceState) (bus : NodeId) (p n m : ℕ) (a b : NodeId) (x y : DonePlan) (i j : Bool) (k l : ℕ) → n ≡ m → a ≡ b → x ≡ y → i ≡ j → k ≡ l
-    → made d def i rank s bus p n a x k ≡ made d def j rank s bus p m b y l
-made_same d def rank s bus p n m a b x y i j k l e f g h o =
-    ap (λ z. made d def i rank s bus p z a x k) e ∙ ap (λ z. made d def i rank s bus p m z x k) f ∙ ap (λ z. made d def i rank s bus p m b z k) g ∙ ap (λ z. made d def z rank s bus p m b y k) h ∙ ap (made d def j rank s bus p m b y) o
 
 -- ---- the store
 -- these voices, so many voice ids given out

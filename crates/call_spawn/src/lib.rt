@@ -1,5 +1,5 @@
 // The spawn on a lent store: why it is refused, who is stolen for it, and where the new voice gets its port. All tests are made before
-// the first word is stored; after 12, "no port", the steals and reclaims stand.
+// the first word is stored; after the refusal `NoPort` the steals and reclaims stand.
 #![tactic(auto)]
 
 pub mod refuse;

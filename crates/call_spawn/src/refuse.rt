@@ -43,7 +43,7 @@ fn no_ids(next: u64, ns: usize, spawned: u64) -> bool
     is_over(4294967296, next, ns as u64, 3) || spawned == u64::MAX
 }
 
-// The bus lives, is the host's and has ports: 4, 5, 10.
+// The bus lives, is the host's and has ports. The first of the three that fails is told.
 fn bus_test(bus: Option<Brief>) -> Result<(), Refusal>
     ensures { result ≡ answer_of (bus_brief bus) }
 {
@@ -54,7 +54,7 @@ fn bus_test(bus: Option<Brief>) -> Result<(), Refusal>
     Ok(())
 }
 
-// The tables have room for a definition of `ns` nodes and `es` edges, and the ids last: 7, 8.
+// The tables have room for a definition of `ns` nodes and `es` edges; else they are full. The ids last; else they are used up.
 fn room_test(
     s: State,
     nodes: &NodeTable,

@@ -40,7 +40,7 @@ fn new_voice(s: State, nodes: &NodeTable, w: Wish, state: VoiceState, port: u32)
         bus: w.bus,
         port,
         first,
-        count: w.def.nodes.count.min(24) as u32,
+        count: w.def.nodes.as_slice().len() as u32,
         output: id_after(first, w.def.output),
         panned: pans(w.pan),
         sequence: noise_of(nodes, s.nodes, w.bus),

@@ -39,7 +39,7 @@ fn state_under(budget: Option<usize>) -> VoiceState
 fn budget_for(s: State, managed: bool) -> Option<usize>
     ensures { result ≡ budget_for managed s.config.budget }
 {
-    if managed { s.config.budget } else { None }
+    s.config.budget.filter(|_| managed)
 }
 
 // How many voices may be removed for a port: none without a budget, else all.
@@ -70,7 +70,7 @@ fn place(
     let how = state_under(budget);
     let fuel = most_removed(budget, voices, s.voices);
     let room = make_room(s, nodes, edges, voices, steals, w.bus, w.rank, fuel);
-    match room.port {
+    match room.answer {
         Some(port) => seat_voice(room.state, nodes, edges, voices, w, how, port),
         None => refuse(room.state, Refusal::NoPort),
     }

@@ -74,9 +74,9 @@ pub(crate) fn admission(
 ) -> Admission
     ensures { (m : Memory) → result ≡ admission_under budget bus rank (model_of (lent_params s nodes.now voices.now m)) }
 {
-    let Some(_) = budget else {
+    if budget.is_none() {
         return Admission::Admit;
-    };
+    }
     let config = s.config;
     let policy = config.policy;
     let scope = config.scope;

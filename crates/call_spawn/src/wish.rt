@@ -1,4 +1,5 @@
-// The four spawns of the Rust, each as the wish that `spawn_voice` takes. In the middle the pan is 0.
+// The four spawns that a host may ask for, each as the wish that `spawn_voice` takes: four functions, since a host knows each by a name of
+// its own (docs/CALLS.md, spawn_voice). In the middle the pan is 0.
 ghost use Rattle.std.specs.Prelude.{◌≡◌, true, false};
 ghost use Rattle.model.specs.Spawn.{middle};
 ghost use Rattle.model.specs.Wish.{wish_for};

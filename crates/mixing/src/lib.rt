@@ -1,5 +1,6 @@
 // The blocks of sound that a store's host works out by its rules: the output of a fade and the sum of a bus. What making fixed says how
-// many samples a block has, how long a fade is, and whether its gains are the fade table's. No table of the store is needed.
+// many samples a block has, how long a fade is, and whether its gains are the fade table's. No table of the store is needed. Its twin in whole
+// numbers is crate whole_mixing, which says why there are two.
 #![tactic(auto)]
 
 ghost use Rattle.std.specs.Prelude.{◌≡◌, Err};

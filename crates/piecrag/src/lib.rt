@@ -21,8 +21,8 @@ pub use call_host::schedule::schedule;
 pub use memory::state::CallResult;
 
 // ---- voices
-pub use call_clear::clear::{Cleared, free_done_synths};
-pub use call_free::free::{Freed, free_voice};
+pub use call_clear::clear::free_done_synths;
+pub use call_free::free::free_voice;
 pub use call_param::number::outcome_number;
 pub use call_param::param::{set_voice_param, set_voice_param_glide};
 pub use call_render::render::{Rendering, render};

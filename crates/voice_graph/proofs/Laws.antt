@@ -1,5 +1,5 @@
 -- Laws of appending nodes and putting edges one by one.
-use Prim.Native.Nat.{ℕ, zero, suc, ◌+◌, ◌-◌, ◌≤◌, ◌<◌}
+use Prim.Native.Nat.{ℕ, suc, ◌+◌, ◌≤◌, ◌<◌}
 use native.Mathlib.Omega.{arith}
 use mathlib.Core.Path.{◌≡◌, refl, sym, ap, ◌∙◌}
 use mathlib.Core.List.{List, [], ◌∷◌, ◌++◌, append_assoc, append-nil, map}
@@ -7,16 +7,14 @@ use mathlib.Core.Bool.{Bool, true, false, not}
 use lib.Dec.{leb}
 use lib.ListN.{length, take, get_or, length-map, length-append}
 use lib.Seq.{length-take-le}
-use borrow.Author.Tests.{leb-true, leb-false, le-leb, lt-leb, not-false}
+use borrow.Author.Tests.{leb-true, le-leb, not-false}
 use Rattle.lists.proofs.Member.{and_left, and_right, both}
 use Rattle.lists.proofs.Table.{passed_row}
-use Rattle.words.specs.Place.{Holds}
 use Rattle.node.specs.declared.record.NodeId.{NodeId}
 use Rattle.node.specs.declared.record.VoiceId.{VoiceId}
 use Rattle.node.specs.declared.record.Node.{Node}
 use Rattle.node.specs.declared.record.Edge.{Edge}
 use Rattle.graph.specs.Node.{with_id}
-use Rattle.graph.specs.Change.{edge}
 use Rattle.edges.specs.Wiring.{put, pushed}
 use Rattle.edges.proofs.Loops.{pushed_on}
 use Rattle.graph.specs.View.{GraphView}
@@ -77,9 +75,6 @@ length_voice w d false = ap length (append-nil (map (def_node w) (node_rows d.no
 -- ---- with room and without
 pub room_is : (count next n : ℕ) → has_room count next n ≡ true → (count + n ≤ 512) × (next + n ≤ 4294967296)
 room_is count next n h = (leb-true _ _ (and_left (leb (count + n) 512) _ h), leb-true _ _ (and_right (leb (count + n) 512) _ h))
-
-pub room_of : (b : Bool) (count next n : ℕ) → b ≡ has_room count next n → not b ≡ false → (count + n ≤ 512) × (next + n ≤ 4294967296)
-room_of b count next n e h = room_is count next n (sym e ∙ not-false b h)
 
 pub has_room_lem : (count next n : ℕ) → count + n ≤ 512 → next + n ≤ 4294967296 → has_room count next n ≡ true
 has_room_lem count next n h k = both (leb (count + n) 512) (leb (next + n) 4294967296) (le-leb _ _ h) (le-leb _ _ k)

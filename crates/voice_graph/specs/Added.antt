@@ -13,7 +13,7 @@ use Rattle.graph.specs.Change.{edge}
 use Rattle.synthdef.specs.Tables.{node_rows, edge_rows}
 use Rattle.synthdef.specs.Edges.{counted}
 use Rattle.synthdef.specs.Instance.{id_after, live_edges}
-use Rattle.synthdef.specs.declared.def.DefNodes.{DefNodes}
+use Rattle.synthdef.specs.Tables.{DefNodes}
 use Rattle.synthdef.specs.declared.def.SynthDef.{SynthDef}
 use Rattle.model.specs.SharedState.{with_graph}
 use Rattle.model.specs.Voice.{id}

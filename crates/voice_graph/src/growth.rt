@@ -1,4 +1,5 @@
-ghost use Rattle.std.specs.Prelude.{◌≡◌, ◌≤◌};
+ghost use Rattle.std.specs.Prelude.{◌≡◌, length};
+ghost use Rattle.synthdef.specs.Tables.{node_rows};
 ghost use Rattle.memory.specs.View.{Memory, graph_of, model_of};
 ghost use Rattle.memory.specs.Lent.{lent_graph};
 ghost use Rattle.voice_graph.specs.Added.{has_room, voice_size, with_fade, with_voice, regraphed};
@@ -13,7 +14,7 @@ use graph_tables::wiring::put_edge;
 use memory::parts::with_graph;
 use memory::state::State;
 use node::record::{Edge, NodeId, VoiceId};
-use synthdef::def::SynthDef;
+use synthdef::def::{DefNodes, SynthDef};
 
 // Whether `n` nodes more find a place and an id each.
 fn has_room(count: usize, next: u64, n: usize) -> bool
@@ -22,11 +23,12 @@ fn has_room(count: usize, next: u64, n: usize) -> bool
     n <= 512 && count <= 512 - n && next <= 4294967296 - n as u64
 }
 
-// How many nodes a voice has.
-fn voice_size(n: usize, pan: bool) -> usize
-    requires { n ≤ 24 }
-    ensures { result ≡ voice_size n pan }
+// How many nodes a voice has: its definition's, and where it pans the constant and the pan node. Here and in the wires `pan` is what the wish
+// of the voice says, a value and no switch that the code of a caller sets.
+fn voice_size(ns: DefNodes, pan: bool) -> usize
+    ensures { result ≡ voice_size (length (node_rows ns)) pan }
 {
+    let n = ns.as_slice().len();
     if pan { n + 2 } else { n }
 }
 
@@ -82,13 +84,16 @@ pub fn add_voice(
 ) -> State
     ensures { (m : Memory) → model_of (lent_graph result nodes.new edges.new m) ≡ regraphed (with_voice owner d pan bus port (graph_of (lent_graph s nodes.old edges.old m))) (model_of (lent_graph s nodes.old edges.old m)) }
 {
-    let m = d.nodes.count.min(24);
-    if !has_room(node_count(nodes, s.nodes), s.next, m + 2) {
+    if !has_room(
+        node_count(nodes, s.nodes),
+        s.next,
+        voice_size(d.nodes, true),
+    ) {
         return s;
     }
     let n = append_voice(nodes, s.nodes, s.next, owner, d.nodes, pan);
     let first = NodeId(s.next as u32);
     let e = wire_voice(edges, s.edges, first, d, pan, bus, port);
-    let next = s.next + voice_size(m, pan) as u64;
+    let next = s.next + voice_size(d.nodes, pan) as u64;
     with_graph(s, n, e, s.sink, next)
 }

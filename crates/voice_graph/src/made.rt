@@ -25,7 +25,7 @@ fn append_defined(
     ensures { Holds (nodes_in nodes.new) result (take count (nodes_in nodes.old) ++ numbered first (map (def_node owner) (node_rows ns))) }
 {
     let mut k = node_count(nodes, count);
-    for (i, n) in ns.rows[..ns.count.min(24)].iter().enumerate() {
+    for (i, n) in ns.as_slice().iter().enumerate() {
         let id = first + i as u64;
         k = append_node(nodes, k, live_node(*n, NodeId(id as u32), owner));
     }
@@ -56,7 +56,7 @@ pub(crate) fn append_voice(
 {
     let k = append_defined(nodes, count, first, owner, ns);
     if pan {
-        let m = ns.count.min(24);
+        let m = ns.as_slice().len();
         return append_pan(nodes, k, first + m as u64, owner);
     }
     k

@@ -1,10 +1,11 @@
 // The edges of a new voice.
-ghost use Rattle.std.specs.Prelude.{◌≤◌, take};
+ghost use Rattle.std.specs.Prelude.{[], ◌∷◌, take};
 ghost use Rattle.words.specs.Place.{Holds};
 ghost use Rattle.synthdef.specs.Tables.{edge_rows};
 ghost use Rattle.synthdef.specs.Instance.{live_edges};
+ghost use Rattle.graph.specs.Change.{edge};
 ghost use Rattle.graph_rows.specs.Edge.{edges_in};
-ghost use Rattle.voice_graph.specs.Added.{put_all, pan_edges, voice_edges};
+ghost use Rattle.voice_graph.specs.Added.{put_all, voice_edges};
 
 use graph_rows::edge_row::EdgeTable;
 use graph_tables::wiring::{edge_count, put_edge};
@@ -18,20 +19,22 @@ fn wire_nodes(edges: &mut EdgeTable, count: usize, first: NodeId, es: DefEdges) 
     ensures { Holds (edges_in edges.new) result (put_all (take count (edges_in edges.old)) (live_edges (edge_rows es) first)) }
 {
     let mut k = edge_count(edges, count);
-    for e in &es.rows[..es.count.min(48)] {
+    for e in es.as_slice() {
         k = put_edge(edges, k, live_edge(*e, first));
     }
     k
 }
 
-// The edges of a pan are put: the voice's output to port 0 of the pan node, its constant to port 1.
-fn wire_pan(edges: &mut EdgeTable, count: usize, first: NodeId, output: u8, n: u8) -> usize
-    requires { n ≤ 24 }
-    ensures { Holds (edges_in edges.new) result (put_all (take count (edges_in edges.old)) (pan_edges first output n)) }
+// The edges of a pan are put: the voice's output `from` to port 0 of the pan node, its constant to port 1.
+fn wire_pan(
+    edges: &mut EdgeTable,
+    count: usize,
+    from: NodeId,
+    constant: NodeId,
+    pan: NodeId,
+) -> usize
+    ensures { Holds (edges_in edges.new) result (put_all (take count (edges_in edges.old)) (edge from pan 0 ∷ edge constant pan 1 ∷ [])) }
 {
-    let from = id_after(first, output);
-    let constant = id_after(first, n);
-    let pan = id_after(first, n + 1);
     let one = put_edge(
         edges,
         count,
@@ -64,11 +67,13 @@ pub(crate) fn wire_voice(
 ) -> usize
     ensures { Holds (edges_in edges.new) result (put_all (take count (edges_in edges.old)) (voice_edges first d pan bus port)) }
 {
-    let n = d.nodes.count.min(24) as u8;
+    let n = d.nodes.as_slice().len() as u8;
     let inner = wire_nodes(edges, count, first, counted_edges(d.edges));
     if pan {
-        let panned = wire_pan(edges, inner, first, d.output, n);
+        let from = id_after(first, d.output);
+        let constant = id_after(first, n);
         let last = id_after(first, n + 1);
+        let panned = wire_pan(edges, inner, from, constant, last);
         return put_edge(
             edges,
             panned,

@@ -1,4 +1,4 @@
-use Prim.Native.Nat.{◌/◌, ◌-◌, min}
+use Prim.Native.Nat.{◌/◌, min}
 use mathlib.Core.Path.{◌≡◌}
 use mathlib.Core.Bool.{Bool}
 use lib.ListN.{length}

@@ -5,7 +5,6 @@ use Rattle.words.proofs.Rows.{rows_long}
 use Rattle.wish_rows.specs.Rows.{wish_of, wishes_in}
 use Rattle.call_console.proofs.Rings.{added_is}
 use Rattle.call_console.proofs.queues.add_wish.Goals as goal
-use Rattle.call_console.proofs.queues.add_wish.Goals.{Start}
 
 pub returns : goal.returns
 returns c =

@@ -3,7 +3,6 @@ use mathlib.Core.Path.{refl, ap, ◌∙◌}
 use Rattle.console.specs.Wishes.{after}
 use Rattle.call_console.proofs.Rings.{many_is, taken_is}
 use Rattle.call_console.proofs.queues.drop_oldest.Goals as goal
-use Rattle.call_console.proofs.queues.drop_oldest.Goals.{Start}
 
 pub returns : goal.returns
 returns c =

@@ -1,24 +1,14 @@
-use mathlib.Core.Path.{sym, ◌∙◌}
+use Rattle.std.proofs.Common.{ℕ, ◌≡◌, Bool, true, false, [], get_or, rules, tests}
+use Rattle.std.proofs.lemmas.Iterator.{first_from_Range}
 use Rattle.model.specs.Voice.{id}
-use Rattle.graph_rows.specs.Node.{node_of}
-use Rattle.words.proofs.Place.{placing_hit, placing_next, placing_none}
+use Rattle.graph_rows.specs.Node.{node_of, nodes_in}
+use Rattle.event_table.proofs.Search.{first_row}
 use Rattle.call_param.specs.Left.{is_left}
 use Rattle.call_param.proofs.left.row_left.Goals as goal
-
-pub returns-then-is_left : goal.returns-then-is_left
-returns-then-is_left c =
-    let s = c.args in
-    let l = c.loop-i in
-    placing_hit 22 node_of (is_left s.freed.now (id s.k)) s.t.now s.count c.min-n.result c.min-n.ensures l.i c.loop-i-test.true l.invariant (sym c.is_left.ensures ∙ c.if-is_left.true)
-
-pub loop-i-preserved : goal.loop-i-preserved
-loop-i-preserved c =
-    let s = c.args in
-    let l = c.loop-i in
-    placing_next 22 node_of (is_left s.freed.now (id s.k)) s.t.now s.count c.min-n.result c.min-n.ensures l.i c.loop-i-test.true l.invariant (sym c.is_left.ensures ∙ c.if-is_left.false)
 
 pub returns : goal.returns
 returns c =
     let s = c.args in
-    let l = c.loop-i in
-    placing_none 22 node_of (is_left s.freed.now (id s.k)) s.t.now s.count c.min-n.result c.min-n.ensures l.i c.loop-i-test.false l.invariant
+    let q : ℕ → Bool = λ i. is_left s.freed.now (id s.k) (get_or (nodes_in s.t.now) i (node_of [])) in
+    let told = first_from_Range _ _ _ c.find.result (λ i. q i ≡ true) (λ i. q i ≡ false) c.find.ensures.ran (λ x p h. search (rules, tests)) (λ x p h. (search rules, search (rules, tests))) in
+    first_row 22 node_of (is_left s.freed.now (id s.k)) s.t.now s.count c.min.result c.min.ensures c.find.result told

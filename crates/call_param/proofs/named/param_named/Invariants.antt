@@ -1,4 +1,3 @@
-use Prim.Native.Nat.{◌-◌}
 use Rattle.call_param.proofs.Params.{Naming}
 use Rattle.call_param.proofs.named.param_named.Given as goal
 

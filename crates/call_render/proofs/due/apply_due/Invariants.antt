@@ -1,4 +1,3 @@
-use Prim.Native.Nat.{◌-◌}
 use lib.ListN.{take}
 use Rattle.voice_rows.specs.Rows.{voices_in}
 use Rattle.graph_rows.specs.Node.{nodes_in}

@@ -24,4 +24,4 @@ returns c =
     let mid : Memory → Memory = λ m. lent_render h.result.state h.new.nodes h.new.edges s.order.now h.new.voices h.new.events m in
     let then : Memory → Memory = λ m. lent_render r.result.state h.new.nodes h.new.edges r.new.order h.new.voices h.new.events m in
     let last : Memory → Memory = λ m. lent_render b.result.state h.new.nodes h.new.edges r.new.order b.new.voices h.new.events m in
-    record { is = λ m. render_done (old m) (mid m) (then m) (last m) a.result r.result b.result s.out.now list h.result.taken end refl fits long a.ensures (h.ensures (lent_processing m.state s.order.now m)) (r.ensures (mid m)) (b.ensures (then m)); same = λ m. render_kept (old m) (mid m) (then m) (last m) a.result r.result b.result s.out.now list h.result.taken end refl fits long a.ensures (h.ensures (lent_processing m.state s.order.now m)) (r.ensures (mid m)) (b.ensures (then m)) }
+    record { is = λ m. render_done (old m) (mid m) (then m) (last m) a.result r.result b.result s.out.now list h.result.answer end refl fits long a.ensures (h.ensures (lent_processing m.state s.order.now m)) (r.ensures (mid m)) (b.ensures (then m)); same = λ m. render_kept (old m) (mid m) (then m) (last m) a.result r.result b.result s.out.now list h.result.answer end refl fits long a.ensures (h.ensures (lent_processing m.state s.order.now m)) (r.ensures (mid m)) (b.ensures (then m)) }

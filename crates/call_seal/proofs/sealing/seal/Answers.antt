@@ -11,7 +11,7 @@ use Rattle.call_seal.proofs.sealing.seal.Goals.{else-fits_store-via-then-fits_st
 pub returns-then-none_waits-clause-is : goal.returns-then-none_waits-clause-is
 returns-then-none_waits-clause-is c =
     let a = c.args in
-    let new = sym c.is_sealed.ensures ∙ c.if-is_sealed.false in
+    let new = sym c.is_some.ensures ∙ c.if-is_some.false in
     λ m words.
     let fits = sym (c.fits_store.ensures m) ∙ c.if-fits_store.true in
     let none = sym (c.none_waits.ensures words) ∙ c.if-none_waits.true in
@@ -20,7 +20,7 @@ returns-then-none_waits-clause-is c =
 pub returns-clause-is : goal.returns-clause-is
 returns-clause-is c =
     let a = c.args in
-    let new = sym c.is_sealed.ensures ∙ c.if-is_sealed.false in
+    let new = sym c.is_some.ensures ∙ c.if-is_some.false in
     λ m words.
     let here = not_sealed a.x a.p (memory (lent_voices a.s a.nodes.now a.edges.now a.voices.now m) a.w words) new in
     elim c.else-fits_store.branch [

@@ -5,7 +5,7 @@ use Rattle.memory.specs.View.{model_of}
 use Rattle.memory.specs.Lent.{lent_spawn}
 use Rattle.call_spawn.specs.Room.{Headroom}
 use Rattle.call_spawn.proofs.Rooms.{headroom_reclaimed, head_apart}
-use Rattle.call_spawn.proofs.Placing.{places, places_not, under}
+use Rattle.call_spawn.proofs.Placing.{places, places_not}
 use Rattle.call_spawn.proofs.Spawns.{refused_in}
 use Rattle.call_spawn.proofs.spawn.place.Goals as goal
 
@@ -21,27 +21,14 @@ seat_voice-requires c =
 
 pub returns-in-Some : goal.returns-in-Some
 returns-in-Some c =
-    let a = c.args in
     let room = c.make_room-room in
-    let x = spawn_in a.w in
-    let how = c.state_under-how in
-    let fuel = c.most_removed-fuel in
     λ m.
-    let old = lent_spawn a.s a.nodes.now a.edges.now a.voices.now a.steals.now m in
-    let left = lent_spawn room.result.state room.new.nodes room.new.edges room.new.voices room.new.steals m in
-    c.seat_voice.ensures left ∙ places x how.result fuel.result (model_of old) (model_of left) room.result.port (room.ensures m) _ c.in-Some.is
-    ∙ under a.budget x (model_of old) fuel.result how.result fuel.ensures how.ensures
+    c.seat_voice.ensures (lent_spawn room.result.state room.new.nodes room.new.edges room.new.voices room.new.steals m)
+    ∙ places c.args.budget (spawn_in c.args.w) (room.ensures m) c.most_removed-fuel.ensures c.state_under-how.ensures _ c.in-Some.is
 
 pub returns-in-None : goal.returns-in-None
 returns-in-None c =
-    let a = c.args in
     let room = c.make_room-room in
-    let x = spawn_in a.w in
-    let how = c.state_under-how in
-    let fuel = c.most_removed-fuel in
     λ m.
-    let old = lent_spawn a.s a.nodes.now a.edges.now a.voices.now a.steals.now m in
-    let left = lent_spawn room.result.state room.new.nodes room.new.edges room.new.voices room.new.steals m in
-    refused_in NoPort c.refuse.result.answer left _ c.refuse.ensures.1 (ap (λ k. lent_spawn k room.new.nodes room.new.edges room.new.voices room.new.steals m) c.refuse.ensures.0)
-    ∙ places_not x how.result fuel.result (model_of old) (model_of left) room.result.port (room.ensures m) c.in-None.is
-    ∙ under a.budget x (model_of old) fuel.result how.result fuel.ensures how.ensures
+    refused_in NoPort c.refuse.result.answer _ _ c.refuse.ensures.1 (ap (λ k. lent_spawn k room.new.nodes room.new.edges room.new.voices room.new.steals m) c.refuse.ensures.0)
+    ∙ places_not c.args.budget (spawn_in c.args.w) (room.ensures m) c.most_removed-fuel.ensures c.state_under-how.ensures c.in-None.is

@@ -1,4 +1,3 @@
-use Prim.Native.Nat.{◌≤◌, ◌-◌}
 use mathlib.Core.List.{◌++◌, map}
 use lib.ListN.{take}
 use Rattle.words.specs.Place.{Holds}
