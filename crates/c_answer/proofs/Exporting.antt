@@ -8,9 +8,8 @@ use Rattle.model.specs.Call.{Call, Answer, Step, step}
 use Rattle.model.specs.Numbers.{number, number_in}
 use Rattle.memory.specs.View.{Memory, model_of}
 use Rattle.memory.specs.declared.state.State.{State}
-use Rattle.memory.specs.Called.{Called, Kept, keeps, answered, add_answered}
+use Rattle.memory.specs.Called.{Called, Kept, keeps, answered}
 use Rattle.state_words.specs.State.{state_in}
-use Rattle.node.specs.declared.record.NodeId.{NodeId}
 use Rattle.node.specs.declared.refusal.Refusal.{Refusal}
 use Rattle.node.specs.Refusal.{says}
 use Rattle.std.specs.Prelude.{Result, Err, Ok}
@@ -69,14 +68,6 @@ pub done_code : (a : Result (Unit {0}) Refusal) → result_code a ≡ code (answ
 done_code (Ok tt) = refl
 done_code (Err r) = refl
 
-pub node_code : (a : Result NodeId Refusal) → result_code a ≡ code (add_answered a)
-node_code (Ok k) = refl
-node_code (Err r) = refl
-
 pub done_kept : (a : Result (Unit {0}) Refusal) → keeps (number (says a)) ≡ keeps (number_in (answered a))
 done_kept (Ok tt) = refl
 done_kept (Err r) = refl
-
-pub node_kept : (a : Result NodeId Refusal) → keeps (number (says a)) ≡ keeps (number_in (add_answered a))
-node_kept (Ok k) = refl
-node_kept (Err r) = refl

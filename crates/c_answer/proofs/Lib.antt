@@ -1,3 +1,2 @@
 pub mod Exporting
 pub mod Consoles
-mod Tags

@@ -2,7 +2,6 @@
 -- number, and what else a call gives is stored in cells that the host lends.
 use Rattle.node.specs.declared.record.VoiceId.{VoiceId}
 use Rattle.node.specs.declared.refusal.Refusal.{Refusal}
-use Rattle.node.specs.declared.record.NodeId.{NodeId}
 use Rattle.std.specs.Prelude.{ℕ, ◌≡◌, List, Bool, true, false, Result, Err, Ok}
 use Rattle.node.specs.Refusal.{number_of}
 use Rattle.store.specs.declared.answer.Rendered.{Rendered}
@@ -69,11 +68,7 @@ pub record Tells {A : Type 0} (say : A → Answer) (c : Call) (m : Memory) (k : 
   pub number : k ≡ code (say value)
   pub held : cells value
 
--- ---- what stands in a cell: the new node, the new voice, 1 or 0 for sounding or silent; where the call was refused, what stood there
-abbrev pub node_cell : Result NodeId Refusal → ℕ → ℕ
-node_cell (Ok k) old = k.0
-node_cell (Err r) old = old
-
+-- ---- what stands in a cell: the new voice, 1 or 0 for sounding or silent; where the call was refused, what stood there
 abbrev pub voice_cell : Result VoiceId Refusal → ℕ → ℕ
 voice_cell (Ok w) old = w.0
 voice_cell (Err r) old = old

@@ -1,4 +1,5 @@
-// Answers as numbers and cells, and when the state is written back.
+// Answers as numbers and cells, and when the state is written back. Numbers, since a host in C has no enums. A function of its own
+// for each sort of refusal: one over a trait would need as many lines in an impl for each.
 ghost use Rattle.std.specs.Prelude.{◌≡◌, Some};
 ghost use Rattle.node.specs.Refusal.{number_of, says};
 ghost use Rattle.model.specs.Numbers.{number, render_says};
@@ -16,31 +17,25 @@ pub fn number_of(r: Refusal) -> u32
     u32::from(refusal_number(r))
 }
 
-// Whether a call that was refused so keeps every word: all but 12 do.
+// Whether a call that was refused so keeps every word: all but the one for want of a port do.
 pub fn is_kept(r: Refusal) -> bool
     ensures { result ≡ keeps (Some (number_of r)) }
 {
-    refusal_number(r) != 12
+    !matches!(r, Refusal::NoPort)
 }
 
 // The number of an answer that may be a refusal: 0 where it is none.
 pub fn result_code<A: Copy>(a: Result<A, Refusal>) -> u32
     ensures { result ≡ result_code a }
 {
-    match a {
-        Ok(_) => 0,
-        Err(r) => number_of(r),
-    }
+    a.map_or_else(number_of, |_| 0)
 }
 
 // Whether a call that answers so keeps every word.
 pub fn result_kept<A: Copy>(a: Result<A, Refusal>) -> bool
     ensures { result ≡ keeps (number (says a)) }
 {
-    match a {
-        Ok(_) => false,
-        Err(r) => is_kept(r),
-    }
+    a.is_err_and(is_kept)
 }
 
 pub fn render_code(a: Rendered) -> u32
@@ -80,7 +75,8 @@ pub fn taken_cell(a: Rendered, n: usize, old: usize) -> usize
     }
 }
 
-// The state s is written to the words, unless they are kept; the answer is the number.
+// The state s is written to the words, unless they are kept; the answer is the number. `kept` is a value and no step to run: what follows
+// from the refusal.
 pub fn settle(w: &mut StateWords, s: State, kept: bool, k: u32) -> u32
     ensures { Settled w.old s kept k result w.new }
 {

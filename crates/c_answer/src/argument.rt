@@ -1,4 +1,5 @@
-// Enums, a glide, and what making is asked for, that a host in C gives as numbers. Any number stands for one.
+// Enums, a glide, and what making is asked for, that a host in C gives as numbers. Any number stands for one, and the enums are those of other
+// crates, so that these are functions and no `From`.
 ghost use Rattle.std.specs.Prelude.{◌≡◌};
 ghost use Rattle.state_words.specs.State.{budget_in};
 ghost use Rattle.c_answer.specs.Argument.{shape_in, space_in, glide_in, action_in, making_in};
@@ -7,6 +8,8 @@ use node::order::{EventAction, Glide, GlideShape, GlideSpace};
 use state_words::{budget_in, policy_in, scope_in};
 use store::config::Making;
 
+// Crate script has this match and that of `action_in` once more: what plays the scripts is kept apart from the library that it is compared
+// with.
 fn shape_in(tag: u32, curve: f32) -> GlideShape
     ensures { result ≡ shape_in tag curve }
 {
@@ -50,6 +53,7 @@ pub fn action_in(tag: u32, glide: Glide) -> EventAction
     }
 }
 
+// The parameters are those of the two exports that make: for C arguments stay single numbers.
 pub fn making_in(
     rate: f32,
     block: usize,

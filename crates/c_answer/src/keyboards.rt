@@ -1,4 +1,4 @@
-// The console's answers as numbers and cells, and when the words of what waits are written back.
+// The console's answers as numbers and cells, and when the words of what waits are written back. Numbers, since a host in C has no enums.
 ghost use Rattle.std.specs.Prelude.{◌≡◌};
 ghost use Rattle.console.specs.Refusal.{number_of};
 ghost use Rattle.console.specs.Console.{Console};
@@ -23,19 +23,13 @@ pub fn keyboard_number(r: KeyboardRefusal) -> u32
 pub fn turn_code(a: Option<Served>) -> u32
     ensures { result ≡ console_code (turn_answer a) }
 {
-    match a {
-        Some(served) => result_code(served.answer),
-        None => EMPTY_TURN,
-    }
+    a.map_or(EMPTY_TURN, |served| result_code(served.answer))
 }
 
 pub fn turn_keeps_store(a: Option<Served>) -> bool
     ensures { result ≡ store_kept (turn_answer a) }
 {
-    match a {
-        Some(served) => result_kept(served.answer),
-        None => true,
-    }
+    a.is_none_or(|served| result_kept(served.answer))
 }
 
 pub fn made_code(a: Result<(), MakeRefusal>) -> u32

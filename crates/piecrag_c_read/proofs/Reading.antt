@@ -20,13 +20,18 @@ use Rattle.call_page.specs.Paged.{paged_of}
 use Rattle.mixing.specs.Filled as float
 use Rattle.whole_mixing.specs.Filled as whole
 use Rattle.state_words.specs.State.{state_in}
-use Rattle.c_answer.specs.Exported.{code, result_code, Tells}
+use Rattle.c_answer.specs.Exported.{code, result_code, said_by, Tells}
 use Rattle.c_answer.proofs.Exporting.{tells}
 
 -- a call that only reads: s are the words w as the code has read them, x the value of its answer, which the cells hold
 pub reads : {A : Type 0} {c : Call} (at : State → Memory) (w : List ℕ) {s : State} (a : Answer) (say : A → Answer) (x : A) {cells : A → Type 0}
     → s ≡ state_in w → Called c (at s) a (at s) → a ≡ say x → ◌≡◌ {A = ℕ} 0 (code (say x)) → cells x → Tells say c (at (state_in w)) 0 cells
 reads {c = c} at w {s = s} a say x {cells = cells} read called says number held = tells c c at at w s s a refl read called say 0 cells x says (number ∙ ap code (sym says)) held
+
+-- a block that was worked out: r is what the code answered, which the model says too
+pub told : {say : Result (Unit {0}) Refusal → Answer} {c : Call} {m : Memory} {k : ℕ} {cells : Result (Unit {0}) Refusal → Type 0} (r : Result (Unit {0}) Refusal)
+    → say r ≡ said_by c m → k ≡ code (say r) → cells r → Tells say c m k cells
+told r answer number held = record { value = r; answer = sym answer; number = number; held = held }
 
 -- the numbers of a page and of a block
 pub page_code : (p : Result ℕ Refusal) (out : List ℕ) → result_code p ≡ code (paged_of p out)

@@ -55,6 +55,8 @@ pub fn put_found<R: Row>(t: &mut [u32], found: Option<R>)
     }
 }
 
+// The answer of the busiest stretch as a number and two cells. Numbers, since a host in C has no enums. Matches, since each is a case of a
+// Result of an Option, and its definition is told by these cases.
 pub fn stretch_code(b: Busiest) -> u32
     ensures { result ≡ stretch_code (said b) }
 {

@@ -1,4 +1,5 @@
-// One voice and one node: a level, the position of a fade, a record.
+// One voice and one node: a level, the position of a fade, a record. Exported names with parameters of their own: exports that differ in a type
+// stay functions of their own.
 ghost use Rattle.std.specs.Prelude.{◌≡◌};
 ghost use Rattle.graph_rows.specs.Node.{nodes_in};
 ghost use Rattle.voice_rows.specs.Rows.{voices_in};

@@ -1,4 +1,5 @@
 // The page, and the blocks of sound that a host works out by the store's rules: fade output and bus sum, in floats and in whole numbers.
+// Of fades and sums there are two functions each, since the C interface has no generic ones.
 ghost use Rattle.std.specs.Prelude.{◌≡◌, Err};
 ghost use Rattle.node.specs.declared.refusal.Refusal as refusal;
 ghost use Rattle.model.specs.Call as call;

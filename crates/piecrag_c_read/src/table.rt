@@ -1,4 +1,5 @@
-// How many rows of a table count, an edge, what feeds a port, and the clock.
+// How many rows of a table count, an edge, what feeds a port, and the clock. Exported names: `piecrag_edge_at` differs from `piecrag_voice_at` in
+// its tables and stays a function of its own.
 ghost use Rattle.std.specs.Prelude.{◌≡◌, get_or, slice_get, None};
 ghost use Rattle.words.specs.Place.{Holds};
 ghost use Rattle.graph_rows.specs.Edge.{edges_in};

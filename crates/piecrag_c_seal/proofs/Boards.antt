@@ -16,7 +16,7 @@ use Rattle.node.specs.declared.refusal.Refusal.{Refusal}
 use Rattle.console.specs.declared.refusal.KeyboardRefusal.{KeyboardRefusal}
 use Rattle.sealed.specs.declared.refusal.SealRefusal.{SealRefusal}
 use Rattle.call_seal.specs.declared.closing.BoardRefusal.{BoardRefusal}
-use Rattle.sealed.specs.declared.profile.Seal.{Seal}
+use Rattle.sealed.specs.Seal.{Seal}
 use Rattle.sealed.specs.Board.{BoardCall, BoardAnswer, given, sealed, refused, BoardStep, board_step}
 use Rattle.call_seal.specs.Board.{BoardMemory, board, board_of, BoardCalled, BoardKept, seal_answer, host_answer, node_answer, spawn_answer, wished_answer}
 use Rattle.c_answer.proofs.Exporting.{no}

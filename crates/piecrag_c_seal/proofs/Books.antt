@@ -15,7 +15,7 @@ use Rattle.model.specs.Wish.{wish_for, call_of}
 use Rattle.console.specs.Console as console
 use Rattle.memory.specs.View.{Memory}
 use Rattle.call_console.specs.Called.{ConsoleMemory, memory}
-use Rattle.sealed.specs.declared.profile.Seal.{Seal}
+use Rattle.sealed.specs.Seal.{Seal}
 use Rattle.sealed.specs.Board.{BoardStep}
 use Rattle.call_seal.specs.Board.{BoardMemory, sealed_by, shuts_spawn}
 use Rattle.call_seal.proofs.Boards.{shut, spawn_closed, wish_closed, shut_anyway}
@@ -32,13 +32,13 @@ number_is false (malformed at) e = refl
 number_is false limits e = no e
 
 -- the definition that goes on from a reading
-pub given : (r : Result SynthDef ReadError) (b : Read) → read_of r ≡ b → result_unwrap_or r blank_def ≡ def_in b
-given (Ok d) b e = ap def_in e
-given (Err (error.Malformed at)) b e = ap def_in e
-given (Err error.Limits) b e = ap def_in e
+pub given : (r : Result SynthDef ReadError) → result_unwrap_or r blank_def ≡ def_in (read_of r)
+given (Ok d) = refl
+given (Err (error.Malformed at)) = refl
+given (Err error.Limits) = refl
 
 -- the code has read the seal as y and the book as r, and tests t
-module _ (x y : Seal) (managed : Bool) (bus : NodeId) (b : Read) (r : Result SynthDef ReadError) (t : Bool)
+module _ {x y : Seal} (managed : Bool) (bus : NodeId) {b : Read} (r : Result SynthDef ReadError) {t : Bool}
     (same : y ≡ x)
     (read : read_of r ≡ b)
     (tested : t ≡ refuses_book y managed bus (read_of r)) where

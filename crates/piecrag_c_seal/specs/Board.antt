@@ -1,5 +1,5 @@
 -- What an exported call of a board answers and leaves.
-use Rattle.std.specs.Prelude.{ℕ, ◌≡◌, List, Bool, true, false, Option, Some, Result, Ok, Err}
+use Rattle.std.specs.Prelude.{ℕ, ◌≡◌, List, Bool, true, false, Some, Result, Ok, Err}
 use Rattle.model.specs.Numbers.{number_in}
 use Rattle.memory.specs.Called.{keeps}
 use Rattle.console.specs.Console.{ConsoleAnswer, plain, accepted, served, empty}
@@ -13,7 +13,7 @@ use Rattle.node.specs.Refusal as store
 use Rattle.sealed.specs.declared.refusal.SealRefusal.TheVariants.{Closed}
 use Rattle.call_seal.specs.declared.closing.BoardRefusal.{BoardRefusal}
 use Rattle.call_seal.specs.Board.{BoardMemory, board_of}
-use Rattle.sealed.specs.declared.profile.Seal.{Seal}
+use Rattle.sealed.specs.Seal.{Seal}
 use Rattle.c_answer.specs.Console.{console_code}
 use Rattle.seal_words.specs.Seal.{seal_in}
 

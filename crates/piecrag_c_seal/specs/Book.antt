@@ -7,7 +7,7 @@ use Rattle.def_book.specs.Read.{Read, gives, malformed, limits, read_number, def
 use Rattle.model.specs.Wish.{wish_for, call_of}
 use Rattle.console.specs.Console.{wish}
 use Rattle.memory.specs.View.{Memory}
-use Rattle.sealed.specs.declared.profile.Seal.{Seal}
+use Rattle.sealed.specs.Seal.{Seal}
 use Rattle.sealed.specs.Board.{on}
 use Rattle.call_seal.specs.Board.{BoardMemory, board, on_store, spawn_answer, shuts_spawn}
 use Rattle.wish_state_words.specs.Waiting.{waiting_in}

@@ -1,4 +1,4 @@
-// Sealing for a host in C, and every call that a seal may close (02, Paper 14): the host's nodes, edges and sink, the spawn, the wish. Each
+// Sealing for a host in C, and every call that a seal may close (Paper 14 in docs/TRACE.md): the host's nodes, edges and sink, the spawn, the wish. Each
 // has this one form, which is lent the seal in words; words of all 0 are no seal. The calls that no seal closes are those of the other
 // crates.
 #![tactic(auto)]

@@ -1,4 +1,5 @@
-// A board's answers as numbers and cells, and when the words of the seal are written back.
+// A board's answers as numbers and cells, and when the words of the seal are written back. Numbers, since a host in C has no enums; why a
+// function for each sort of refusal, crate c_answer says.
 ghost use Rattle.std.specs.Prelude.{◌≡◌};
 ghost use Rattle.sealed.specs.Refusal.{number_of};
 ghost use Rattle.call_seal.specs.Board.{seal_answer, wished_answer};

@@ -10,12 +10,12 @@ ghost use Rattle.state_words.specs.State.{state_in};
 ghost use Rattle.seal_words.specs.Seal.{seal_in};
 ghost use Rattle.piecrag_c_seal.specs.Book.{SpawnFromBook};
 
-use crate::from_book::{MALFORMED_BOOK, refuses_book};
+use crate::from_book::{MALFORMED_BOOK, refuses_book, wish_in};
 use crate::numbers::{store_code, store_kept};
-use book_bytes::read::{blank_def, read_book};
+use book_bytes::read::read_book;
 use c_answer::answer::settle;
 use node::record::NodeId;
-use piecrag::{EdgeTable, NodeTable, StealTable, VoiceTable, Wish};
+use piecrag::{EdgeTable, NodeTable, StealTable, VoiceTable};
 use seal_words::{SealWords, seal_in};
 use state_words::{StateWords, state_in};
 
@@ -43,13 +43,7 @@ pub extern "C" fn piecrag_spawn(
         return MALFORMED_BOOK;
     }
     let s = state_in(state);
-    let w = Wish {
-        managed: managed != 0,
-        def: read.unwrap_or(blank_def()),
-        bus: NodeId(bus),
-        pan,
-        rank,
-    };
+    let w = wish_in(read, managed, bus, pan, rank);
     let r = piecrag::board_spawn(x, s, nodes, edges, voices, steals, w);
     *voice = r.answer.map_or(*voice, |id| id.0);
     settle(state, r.state, store_kept(r.answer), store_code(r.answer))

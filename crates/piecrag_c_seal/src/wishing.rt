@@ -4,12 +4,12 @@ ghost use Rattle.def_book.specs.Read.{read_book};
 ghost use Rattle.memory.specs.View.{Memory};
 ghost use Rattle.piecrag_c_seal.specs.Book.{WishFromBook};
 
-use crate::from_book::{MALFORMED_BOOK, refuses_book};
+use crate::from_book::{MALFORMED_BOOK, refuses_book, wish_in};
 use crate::numbers::wished_code;
-use book_bytes::read::{blank_def, read_book};
+use book_bytes::read::read_book;
 use c_answer::keyboards::settle_waiting;
 use node::record::NodeId;
-use piecrag::{Wish, WishTable};
+use piecrag::WishTable;
 use seal_words::{SealWords, seal_in};
 use wish_state_words::{WaitingWords, waiting_in};
 
@@ -34,13 +34,7 @@ pub extern "C" fn piecrag_wish(
         return MALFORMED_BOOK;
     }
     let s = waiting_in(waiting);
-    let wish = Wish {
-        managed: managed != 0,
-        def: read.unwrap_or(blank_def()),
-        bus: NodeId(bus),
-        pan,
-        rank,
-    };
+    let wish = wish_in(read, managed, bus, pan, rank);
     let r = piecrag::board_wish(x, s, wishes, keyboard, wish);
     settle_waiting(waiting, r.wishes, r.answer.is_err());
     wished_code(r.answer)

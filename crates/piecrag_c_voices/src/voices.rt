@@ -29,7 +29,7 @@ pub extern "C" fn piecrag_free_voice(
 {
     let s = state_in(state);
     let r = piecrag::free_voice(s, nodes, edges, voices, VoiceId(voice));
-    settle(state, r.state, false, u32::from(outcome_number(r.outcome)))
+    settle(state, r.state, false, u32::from(outcome_number(r.answer)))
 }
 
 // The voices whose fade has ended or whose output is silent go; `removed` becomes how many they were.
@@ -46,7 +46,7 @@ pub extern "C" fn piecrag_free_done_synths(
 {
     let s = state_in(state);
     let r = piecrag::free_done_synths(s, nodes, edges, voices);
-    *removed = r.removed;
+    *removed = r.answer;
     settle(state, r.state, false, 0)
 }
 

@@ -2,10 +2,10 @@
 use Prim.Native.Nat.{ℕ, ◌/◌, ◌%◌}
 use mathlib.Core.Path.{◌≡◌, refl}
 use mathlib.Core.List.{List, [], ◌∷◌}
+use Rattle.std.specs.Prelude.{Some}
 use Rattle.words.specs.Fields.{long_at}
 use Rattle.state_words.specs.State.{halves}
 use Rattle.sealed.specs.declared.profile.Profile.{Profile}
-use Rattle.sealed.specs.declared.profile.Seal.TheVariants.{Sealed}
 use Rattle.seal_words.specs.Seal.{profile_in, seal_in}
 
 -- the words one by one
@@ -20,6 +20,6 @@ pub profile_back : (p : Profile) (a b c d e f g h i j : ℕ)
     → e ≡ p.host_edges % 4294967296 → f ≡ p.host_edges / 4294967296
     → g ≡ p.def_nodes % 4294967296 → h ≡ p.def_nodes / 4294967296
     → i ≡ p.def_edges % 4294967296 → j ≡ p.def_edges / 4294967296
-    → seal_in (1 ∷ p.bus.0 ∷ a ∷ b ∷ c ∷ d ∷ e ∷ f ∷ g ∷ h ∷ i ∷ j ∷ []) ≡ Sealed p
+    → seal_in (1 ∷ p.bus.0 ∷ a ∷ b ∷ c ∷ d ∷ e ∷ f ∷ g ∷ h ∷ i ∷ j ∷ []) ≡ Some p
 profile_back p a b c d e f g h i j x1 x2 x3 x4 x5 x6 x7 x8 x9 x10 =
     rw (x1, x2, x3, x4, x5, x6, x7, x8, x9, x10, halves p.ports, halves p.host_nodes, halves p.host_edges, halves p.def_nodes, halves p.def_edges) refl

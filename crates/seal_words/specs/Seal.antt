@@ -1,10 +1,9 @@
 -- The seal of a board in 12 words, for a host that holds words only: whether it is sealed, the bus, and two words for each of P, H, G, D
 -- and E. Any words stand for a seal.
-use Rattle.std.specs.Prelude.{ℕ, List, cond, eqb, get_or}
+use Rattle.std.specs.Prelude.{ℕ, List, cond, eqb, get_or, None, Some}
 use Rattle.words.specs.Fields.{long_at}
 use Rattle.sealed.specs.declared.profile.Profile.{Profile}
-use Rattle.sealed.specs.declared.profile.Seal.{Seal}
-use Rattle.sealed.specs.declared.profile.Seal.TheVariants.{Unsealed, Sealed}
+use Rattle.sealed.specs.Seal.{Seal}
 
 abbrev pub profile_in : List ℕ → Profile
 profile_in w =
@@ -18,4 +17,4 @@ profile_in w =
     }
 
 abbrev pub seal_in : List ℕ → Seal
-seal_in w = cond (eqb (get_or w 0 0) 0) Unsealed (Sealed (profile_in w))
+seal_in w = cond (eqb (get_or w 0 0) 0) None (Some (profile_in w))

@@ -1,8 +1,7 @@
 // The seal of a board in 12 lent words, for a host that holds words only. Any words stand for a seal; zeros for none.
 #![tactic(auto)]
 
-ghost use Rattle.std.specs.Prelude.{◌≡◌};
-ghost use Rattle.sealed.specs.declared.profile.Seal.TheVariants.{Sealed};
+ghost use Rattle.std.specs.Prelude.{◌≡◌, Some};
 ghost use Rattle.seal_words.specs.Seal.{profile_in, seal_in};
 
 use node::record::NodeId;
@@ -30,16 +29,12 @@ fn profile_in(w: &SealWords) -> Profile
 pub fn seal_in(w: &SealWords) -> Seal
     ensures { result ≡ seal_in w.now }
 {
-    if w[0] == 0 {
-        Seal::Unsealed
-    } else {
-        Seal::Sealed(profile_in(w))
-    }
+    if w[0] == 0 { None } else { Some(profile_in(w)) }
 }
 
 // The words of the seal by a profile.
 fn profile_words(p: Profile) -> SealWords
-    ensures { seal_in result ≡ Sealed p }
+    ensures { seal_in result ≡ Some p }
 {
     [
         1,
@@ -57,18 +52,9 @@ fn profile_words(p: Profile) -> SealWords
     ]
 }
 
-fn seal_words(x: Seal) -> SealWords
-    ensures { seal_in result ≡ x }
-{
-    match x {
-        Seal::Unsealed => [0; SEAL_WORDS],
-        Seal::Sealed(p) => profile_words(p),
-    }
-}
-
 // The lent words become those of the seal.
 pub fn put_seal(w: &mut SealWords, x: Seal)
     ensures { seal_in w.new ≡ x }
 {
-    *w = seal_words(x);
+    *w = x.map_or([0; SEAL_WORDS], profile_words);
 }

@@ -5,7 +5,7 @@ ghost use Rattle.std.specs.Prelude.{◌≡◌, ◌/◌, ◌%◌};
 ghost use Rattle.wish_state_words.specs.Waiting.{queue_from, waiting_in};
 
 use call_console::queues::{Queue, WishState};
-use words::fields::{high_word, long_from, low_word};
+use words::fields::{byte_word, high_word, long_from, low_byte, low_word};
 
 pub const WAITING_WORDS: usize = 12;
 
@@ -15,15 +15,15 @@ pub type WaitingWords = [u32; WAITING_WORDS];
 fn queue_word(q: Queue) -> u32
     ensures { queue_from result ≡ q }
 {
-    u32::from(q.start) + u32::from(q.count) * 256
+    byte_word(q.start, q.count, 0, 0)
 }
 
 fn queue_from(x: u32) -> Queue
     ensures { result ≡ queue_from x }
 {
     Queue {
-        start: (x % 256) as u8,
-        count: (x / 256 % 256) as u8,
+        start: low_byte(x),
+        count: low_byte(x / 256),
     }
 }
 
@@ -38,7 +38,7 @@ pub fn waiting_in(w: &WaitingWords) -> WishState
     }
 }
 
-// The words of a state.
+// The words of a state. Word by word, since the list is the layout.
 fn waiting_words(s: WishState) -> WaitingWords
     ensures { waiting_in result ≡ s }
 {

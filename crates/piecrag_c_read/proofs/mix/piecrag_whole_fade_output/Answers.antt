@@ -1,17 +1,10 @@
-use mathlib.Core.Path.{sym, ap, ◌∙◌}
+use mathlib.Core.Path.{ap, ◌∙◌}
 use Rattle.model.specs.Call.{whole_fade_answer}
-use Rattle.piecrag_c_read.proofs.Reading.{whole_code}
+use Rattle.piecrag_c_read.proofs.Reading.{told, whole_code}
 use Rattle.piecrag_c_read.proofs.mix.piecrag_whole_fade_output.Goals as goal
 
 pub returns : goal.returns
 returns c =
     let a = c.args in
     let r = c.fade_output in
-    let out = r.new.out in
-    λ m.
-    record {
-      value = r.result;
-      answer = sym (r.ensures.is ∙ ap (λ g. whole_fade_answer g a.input.now a.ins a.gains.now a.position a.out.now a.outs) c.config_in-config.ensures);
-      number = c.result_code.ensures ∙ whole_code r.result out;
-      held = r.ensures.same;
-    }
+    λ m. told r.result (r.ensures.is ∙ ap (λ g. whole_fade_answer g a.input.now a.ins a.gains.now a.position a.out.now a.outs) c.config_in-config.ensures) (c.result_code.ensures ∙ whole_code r.result r.new.out) r.ensures.same

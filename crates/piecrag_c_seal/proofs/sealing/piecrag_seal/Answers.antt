@@ -2,7 +2,7 @@ use mathlib.Core.Path.{refl, ◌∙◌}
 use Rattle.memory.specs.Lent.{lent_voices}
 use Rattle.memory.specs.declared.state.State.{State}
 use Rattle.call_console.specs.declared.queues.WishState.{WishState}
-use Rattle.sealed.specs.declared.profile.Seal.{Seal}
+use Rattle.sealed.specs.Seal.{Seal}
 use Rattle.sealed.specs.Board as sealed
 use Rattle.call_seal.specs.Board.{BoardMemory, board, seal_answer}
 use Rattle.state_words.specs.State.{state_in}
