@@ -4,14 +4,6 @@ use crate::words::{labelled, next_byte, next_name};
 use book_bytes::read::blank_def;
 use synthdef::def::{DefEdge, DefNode, Param, SynthDef};
 
-// One row more. A row that the table has no room for makes the count too large, which the writer refuses.
-fn push<T: Copy>(rows: &mut [T], count: &mut usize, row: T) {
-    if *count < rows.len() {
-        rows[*count] = row;
-    }
-    *count = count.saturating_add(1);
-}
-
 // `node NAME ports N required N sorts N in N level N amp N`
 fn node_in(words: &mut Words) -> Option<DefNode> {
     let kind = next_name(words);
@@ -53,31 +45,28 @@ fn param_in(words: &mut Words) -> Option<Param> {
     })
 }
 
-// Takes a line by its first word: none where it cannot be read. An empty line is passed over.
+// Takes a line by its first word: none where it cannot be read. An empty line is passed over. A row that the table has no room for makes
+// the count too large, which the writer refuses.
 fn take_line(def: &mut SynthDef, line: &[u8]) -> Option<()> {
     let mut words = words_of(line);
     match next_word(&mut words) {
         b"node" => {
             let node = node_in(&mut words)?;
-            push(&mut def.nodes.rows, &mut def.nodes.count, node);
+            def.nodes.push(node);
         }
         b"edge" => {
             let edge = edge_in(&mut words)?;
-            push(&mut def.edges.rows, &mut def.edges.count, edge);
+            def.edges.push(edge);
         }
         b"param" => {
             let param = param_in(&mut words)?;
-            push(&mut def.params.rows, &mut def.params.count, param);
+            def.params.push(param);
         }
         b"output" => def.output = next_byte(&mut words)?,
         b"" => {}
         _ => return None,
     }
-    if next_word(&mut words).is_empty() {
-        Some(())
-    } else {
-        None
-    }
+    next_word(&mut words).is_empty().then_some(())
 }
 
 // The definition that the lines of `s` make, or the number of the first line that cannot be read. It begins as the blank one, which has

@@ -15,7 +15,8 @@ pub(crate) fn open<R: Files>(rt: &R, name: &[u8]) -> Result<R::File> {
     }
 }
 
-// Reads until the room is full, the input ends or a read fails: how many bytes were read.
+// Reads until the room is full, the input ends or a read fails: how many bytes were read. A `while`, since a read may give fewer bytes than are
+// asked for.
 pub(crate) fn read_full<S: Read>(input: &mut S, room: &mut [u8]) -> usize
     ensures { result ≤ length room.new }
 {
@@ -32,17 +33,14 @@ pub(crate) fn read_full<S: Read>(input: &mut S, room: &mut [u8]) -> usize
 
 // Whether the number of an error begins at `at`, as ` (os error 2)`.
 fn begins_number(text: &[u8], at: usize) -> bool {
-    check::same(bytes_at(text, at, 11), b" (os error ")
+    bytes_at(text, at, 11) == b" (os error ".as_slice()
 }
 
 // How many bytes of an error's text say what went wrong: those before its number, and before the zeros that follow the text.
 fn reason_length(text: &[u8]) -> usize {
-    for n in 0..text.len() {
-        if byte_at(text, n) == 0 || begins_number(text, n) {
-            return n;
-        }
-    }
-    text.len()
+    (0..text.len())
+        .find(|n| byte_at(text, *n) == 0 || begins_number(text, *n))
+        .unwrap_or(text.len())
 }
 
 // Writes a line to standard error: what could not be opened, a colon and the reason.

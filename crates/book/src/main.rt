@@ -16,7 +16,9 @@ mod words;
 use book_bytes::read::read_book;
 use book_bytes::write::write_book;
 use codec::field::{bytes_at, input_room};
-use codec::word::{and_number, end_line, hex_bytes, number, text};
+use codec::line::word_line;
+use codec::output::{Output, end_line, flush, hex_bytes, output_room, text};
+use codec::word::and_word;
 use def_book::answer::{ReadError, read_number, write_number};
 use define::define;
 use file::{fail, open, read_full};
@@ -49,101 +51,99 @@ struct Mode {
     files: bool,
 }
 
-fn refused(n: u8) {
-    text(b"refused ");
-    number(u64::from(n));
+fn refused(out: &mut Output, n: u8) {
+    text(out, b"refused");
+    and_word(out, n);
 }
 
-// The definition of a book, or none, with the refusal and the position printed. 9 is found when the whole book is read.
-fn definition(s: &[u8]) -> Option<SynthDef> {
+// The definition of a book, or none, with the refusal and the position printed. That it is beyond the limits is found when the whole
+// book is read.
+fn definition(out: &mut Output, s: &[u8]) -> Option<SynthDef> {
     let read = read_book(s);
     let at = match read {
         Ok(def) => return Some(def),
         Err(ReadError::Malformed(at)) => at,
         Err(ReadError::Limits) => s.len(),
     };
-    refused(read_number(&read));
-    text(b" at byte");
-    and_number(at as u64);
-    end_line();
+    refused(out, read_number(&read));
+    text(out, b" at byte");
+    and_word(out, at);
+    end_line(out);
     None
 }
 
-fn put_out(book: &[u8], print: Print) {
+fn put_out(out: &mut Output, book: &[u8], print: Print) {
     match print {
-        Print::Bytes => text(book),
+        Print::Bytes => text(out, book),
         Print::Hex => {
-            hex_bytes(book);
-            end_line();
+            hex_bytes(out, book);
+            end_line(out);
         }
     }
 }
 
 // The book of a definition, or the refusal. The longest book has 1,166 bytes.
-fn write(def: SynthDef, print: Print) {
+fn write(out: &mut Output, def: SynthDef, print: Print) {
     let mut room = [0u8; 1166];
     let written = write_book(def, &mut room);
     match written {
-        Ok(n) => put_out(bytes_at(&room, 0, n), print),
+        Ok(n) => put_out(out, bytes_at(&room, 0, n), print),
         Err(_) => {
-            refused(write_number(written));
-            end_line();
+            refused(out, write_number(written));
+            end_line(out);
         }
     }
 }
 
 // The book that a text defines, or the line that it cannot read.
-fn write_text(s: &[u8], print: Print) {
+fn write_text(out: &mut Output, s: &[u8], print: Print) {
     match define(s) {
-        Ok(def) => write(def, print),
-        Err(line) => {
-            text(b"malformed line");
-            and_number(line as u64);
-            end_line();
-        }
+        Ok(def) => write(out, def, print),
+        Err(line) => word_line(out, b"malformed line", line),
     }
 }
 
-fn answer(m: Mode, s: &[u8]) {
+fn answer(out: &mut Output, m: Mode, s: &[u8]) {
     match m.verb {
-        Verb::Write => write_text(s, m.print),
+        Verb::Write => write_text(out, s, m.print),
         Verb::Read => {
-            if let Some(def) = definition(s) {
-                show(def);
+            if let Some(def) = definition(out, s) {
+                show(out, def);
             }
         }
         Verb::Rewrite => {
-            if let Some(def) = definition(s) {
-                write(def, m.print);
+            if let Some(def) = definition(out, s) {
+                write(out, def, m.print);
             }
         }
     }
 }
 
 // Answers what stands in a file or comes from standard input, if it is not too long. The room holds more than is taken.
-fn answer_from<S: Read>(m: Mode, input: &mut S) {
+fn answer_from<S: Read>(out: &mut Output, m: Mode, input: &mut S) {
     let mut space = input_room();
     let n = read_full(input, &mut space);
     if n > 393215 {
-        text(b"longer than 393215 bytes\n");
+        text(out, b"longer than 393215 bytes\n");
         return;
     }
-    answer(m, &space[..n]);
+    answer(out, m, &space[..n]);
 }
 
-fn answer_file<R: Files>(rt: &R, m: Mode, path: &[u8]) {
+fn answer_file<R: Files>(out: &mut Output, rt: &R, m: Mode, path: &[u8]) {
     match open(rt, path) {
         Ok(mut file) => {
-            text(path);
-            end_line();
-            answer_from(m, &mut file);
+            text(out, path);
+            end_line(out);
+            answer_from(out, m, &mut file);
+            flush(out);
         }
         Err(error) => fail(path, error),
     }
 }
 
 // Takes one word of the command line: a verb, `hex`, or the name of a file, which is answered.
-fn take_word<R: Files>(rt: &R, m: Mode, word: &[u8]) -> Mode {
+fn take_word<R: Files>(out: &mut Output, rt: &R, m: Mode, word: &[u8]) -> Mode {
     match word {
         b"read" => Mode {
             verb: Verb::Read,
@@ -162,31 +162,31 @@ fn take_word<R: Files>(rt: &R, m: Mode, word: &[u8]) -> Mode {
             ..m
         },
         _ => {
-            answer_file(rt, m, word);
+            answer_file(out, rt, m, word);
             Mode { files: true, ..m }
         }
     }
 }
 
 // Takes the word at `i`, if there is one. A word of more than 4,096 bytes is taken as an empty one, which names no file.
-fn take_argument<R: Env + Files>(rt: &R, m: Mode, i: usize) -> Option<Mode> {
+fn take_argument<R: Env + Files>(out: &mut Output, rt: &R, m: Mode, i: usize) -> Option<Mode> {
     let mut word = io::buffer();
     match rt.arg(i, &mut word) {
-        Ok(n) => Some(take_word(rt, m, &word[..n])),
-        Err(FillError::TooLong) => Some(take_word(rt, m, b"")),
+        Ok(n) => Some(take_word(out, rt, m, &word[..n])),
+        Err(FillError::TooLong) => Some(take_word(out, rt, m, b"")),
         Err(FillError::NotPresent) => None,
     }
 }
 
-// Takes the words behind the program's own name, one after the other.
-fn take_arguments<R: Env + Files>(rt: &R) -> Mode {
+// Takes the words behind the program's own name, one after the other. A `for` with no end in practice, since every loop is proved to end.
+fn take_arguments<R: Env + Files>(out: &mut Output, rt: &R) -> Mode {
     let mut m = Mode {
         verb: Verb::Read,
         print: Print::Bytes,
         files: false,
     };
     for i in 1..usize::MAX {
-        match take_argument(rt, m, i) {
+        match take_argument(out, rt, m, i) {
             Some(next) => m = next,
             None => return m,
         }
@@ -195,8 +195,10 @@ fn take_arguments<R: Env + Files>(rt: &R) -> Mode {
 }
 
 fn main(rt: HostRuntime) {
-    let m = take_arguments(&rt);
+    let mut out = output_room();
+    let m = take_arguments(&mut out, &rt);
     if !m.files {
-        answer_from(m, &mut rt.stdin());
+        answer_from(&mut out, m, &mut rt.stdin());
     }
+    flush(&mut out);
 }

@@ -1,76 +1,79 @@
 // A definition as text: a line for the output, and one for each node, edge and parameter.
-use codec::descriptor::STDOUT;
-use codec::word::{and_number, end_line, text};
+use codec::output::{Output, end_line, hex_bytes, text};
+use codec::word::and_word;
 use node::name::Name;
 use synthdef::def::{DefEdge, DefNode, NO_PORT, Param, SynthDef};
 
 // A byte of a name: itself where it is visible and no `%`, else `%` and two hexadecimal digits.
-fn show_byte(b: u8) {
+fn show_byte(out: &mut Output, b: u8) {
     if b'!' <= b && b <= b'~' && b != b'%' {
-        text(&[b]);
+        text(out, &[b]);
         return;
     }
-    text(b"%");
-    io::print_hex(STDOUT, u64::from(b), 2);
+    text(out, b"%");
+    hex_bytes(out, &[b]);
 }
 
-fn show_name(n: Name) {
+fn show_name(out: &mut Output, n: Name) {
     for b in &n.bytes[..usize::from(n.len).min(16)] {
-        show_byte(*b);
+        show_byte(out, *b);
     }
 }
 
 // A port that is given by name, or `-`.
-fn show_port(label: &[u8], port: u8) {
-    text(label);
+fn show_port(out: &mut Output, label: &[u8], port: u8) {
+    text(out, label);
     if port == NO_PORT {
-        text(b" -");
+        text(out, b" -");
         return;
     }
-    and_number(u64::from(port));
+    and_word(out, port);
 }
 
-fn show_node(n: DefNode) {
-    text(b"node ");
-    show_name(n.kind);
-    text(b" ports");
-    and_number(u64::from(n.ports));
-    text(b" required");
-    and_number(u64::from(n.required));
-    text(b" sorts");
-    and_number(u64::from(n.takes_values) + 2 * u64::from(n.takes_glides));
-    show_port(b" in", n.in_port);
-    show_port(b" level", n.level_port);
-    show_port(b" amp", n.amp_port);
-    end_line();
+fn show_node(out: &mut Output, n: DefNode) {
+    text(out, b"node ");
+    show_name(out, n.kind);
+    text(out, b" ports");
+    and_word(out, n.ports);
+    text(out, b" required");
+    and_word(out, n.required);
+    text(out, b" sorts");
+    and_word(
+        out,
+        u64::from(n.takes_values) + 2 * u64::from(n.takes_glides),
+    );
+    show_port(out, b" in", n.in_port);
+    show_port(out, b" level", n.level_port);
+    show_port(out, b" amp", n.amp_port);
+    end_line(out);
 }
 
-fn show_edge(e: DefEdge) {
-    text(b"edge");
-    and_number(u64::from(e.from));
-    and_number(u64::from(e.to));
-    and_number(u64::from(e.port));
-    end_line();
+fn show_edge(out: &mut Output, e: DefEdge) {
+    text(out, b"edge");
+    and_word(out, e.from);
+    and_word(out, e.to);
+    and_word(out, e.port);
+    end_line(out);
 }
 
-fn show_param(p: Param) {
-    text(b"param ");
-    show_name(p.name);
-    and_number(u64::from(p.node));
-    end_line();
+fn show_param(out: &mut Output, p: Param) {
+    text(out, b"param ");
+    show_name(out, p.name);
+    and_word(out, p.node);
+    end_line(out);
 }
 
-pub(crate) fn show(d: SynthDef) {
-    text(b"output");
-    and_number(u64::from(d.output));
-    end_line();
+pub(crate) fn show(out: &mut Output, d: SynthDef) {
+    text(out, b"output");
+    and_word(out, d.output);
+    end_line(out);
     for n in d.nodes.as_slice() {
-        show_node(*n);
+        show_node(out, *n);
     }
     for e in d.edges.as_slice() {
-        show_edge(*e);
+        show_edge(out, *e);
     }
     for p in d.params.as_slice() {
-        show_param(*p);
+        show_param(out, *p);
     }
 }

@@ -4,6 +4,7 @@ ghost use Rattle.std.specs.Prelude.{MatchOption, ◌<◌};
 use crate::line::{Words, next_word};
 use codec::field::{after, byte_at};
 use node::name::{Name, name_of};
+use synthdef::def::NO_PORT;
 
 // The value of a digit.
 fn digit(b: u8) -> Option<u8> {
@@ -30,13 +31,13 @@ pub(crate) fn next_byte(words: &mut Words) -> Option<u8> {
     number_of(next_word(words))
 }
 
-// The number that stands behind the word `label`; `-` is 255, no port.
+// The number that stands behind the word `label`; `-` is no port.
 pub(crate) fn labelled(words: &mut Words, label: &[u8]) -> Option<u8> {
     if next_word(words) != label {
         return None;
     }
     match next_word(words) {
-        b"-" => Some(255),
+        b"-" => Some(NO_PORT),
         word => number_of(word),
     }
 }

@@ -1,4 +1,5 @@
-// Plays 01's remaining examples, and each refusal by a call of its own: the script on standard input, which oracle/examples/make writes.
+// Plays the scope document's remaining examples, and each refusal by a call of its own: the script on standard input, which
+// oracle/examples/make writes. It is the program `replay`, with a script and a transcript of its own.
 #![tactic(auto)]
 
 use play::run::play_input;

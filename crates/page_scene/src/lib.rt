@@ -1,4 +1,4 @@
-// The scene of 01's page, played by the store's calls.
+// The scene whose page the scope (quoted in docs/TRACE.md) shows, played by the store's calls.
 #![tactic(auto)]
 
 ghost use Rattle.std.specs.Prelude.{◌≡◌, false};
@@ -90,10 +90,11 @@ fn opened(nodes: &mut NodeTable) -> State
     set_sink(added.state, nodes, NodeId(0)).state
 }
 
-// The page after three turns, each a managed spawn, a prepare and a render, is 01's.
+// The page after three turns, each a managed spawn, a prepare and a render, is the one that the scope shows.
 pub fn scene_page(out: &mut [u8]) -> Result<usize, Refusal>
     ensures { paged_of result out.new ≡ page_answer printed out.old }
 {
+    // Six variables, here as in `play`: no heap, and each call is lent the tables that it touches by themselves.
     let mut nodes = [0u32; NODE_WORDS];
     let mut edges = [0u32; EDGE_WORDS];
     let mut order = [0u32; ORDER_WORDS];

@@ -8,15 +8,17 @@ mod show;
 
 use busiest::newest::busiest_steals;
 use busiest::stretch::busiest_stretch;
+use codec::output::{Output, flush, output_room};
 use count::count_all;
 use runs::{falling, records, ring, rising};
 use show::compare;
 
 // The first `n` of the samples.
-fn first_of(xs: [u64; 4096], n: usize, width: u64) {
+fn first_of(out: &mut Output, xs: [u64; 4096], n: usize, width: u64) {
     if n <= 4096 {
         let rows = records(xs);
         compare(
+            out,
             n,
             width,
             busiest_stretch(&rows[..n], width),
@@ -26,21 +28,22 @@ fn first_of(xs: [u64; 4096], n: usize, width: u64) {
 }
 
 // The first `n` of samples that never fall.
-fn run_of(seed: u64, n: usize, width: u64) {
-    first_of(rising(seed), n, width);
+fn run_of(out: &mut Output, seed: u64, n: usize, width: u64) {
+    first_of(out, rising(seed), n, width);
 }
 
 // The same with a last sample that falls.
-fn falling_run_of(seed: u64, n: usize, width: u64) {
-    first_of(falling(rising(seed), n), n, width);
+fn falling_run_of(out: &mut Output, seed: u64, n: usize, width: u64) {
+    first_of(out, falling(rising(seed), n), n, width);
 }
 
 // The store's ring after `n` steals, which holds the newest 64.
-fn ring_of(seed: u64, n: usize, width: u64) {
+fn ring_of(out: &mut Output, seed: u64, n: usize, width: u64) {
     let xs = rising(seed);
     if n <= 4096 {
         let found = busiest_steals(ring(&xs[..n]), width);
         compare(
+            out,
             n.min(64),
             width,
             found,
@@ -49,26 +52,29 @@ fn ring_of(seed: u64, n: usize, width: u64) {
     }
 }
 
-fn widths(seed: u64, n: usize) {
-    run_of(seed, n, 0);
-    run_of(seed, n, 1);
-    run_of(seed, n, 2);
-    run_of(seed, n, 37);
-    run_of(seed, n, 1000);
-    run_of(seed, n, 18446744073709551615);
+fn widths(out: &mut Output, seed: u64, n: usize) {
+    run_of(out, seed, n, 0);
+    run_of(out, seed, n, 1);
+    run_of(out, seed, n, 2);
+    run_of(out, seed, n, 37);
+    run_of(out, seed, n, 1000);
+    run_of(out, seed, n, 18446744073709551615);
 }
 
 fn main() {
-    widths(1, 0);
-    widths(2, 1);
-    widths(3, 64);
-    widths(4, 4096);
-    widths(5, 3000);
-    falling_run_of(6, 64, 0);
-    falling_run_of(6, 64, 37);
-    falling_run_of(7, 4096, 37);
-    ring_of(8, 0, 37);
-    ring_of(8, 40, 37);
-    ring_of(8, 64, 37);
-    ring_of(8, 1000, 37);
+    let mut room = output_room();
+    let out = &mut room;
+    widths(out, 1, 0);
+    widths(out, 2, 1);
+    widths(out, 3, 64);
+    widths(out, 4, 4096);
+    widths(out, 5, 3000);
+    falling_run_of(out, 6, 64, 0);
+    falling_run_of(out, 6, 64, 37);
+    falling_run_of(out, 7, 4096, 37);
+    ring_of(out, 8, 0, 37);
+    ring_of(out, 8, 40, 37);
+    ring_of(out, 8, 64, 37);
+    ring_of(out, 8, 1000, 37);
+    flush(out);
 }

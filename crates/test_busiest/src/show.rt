@@ -1,31 +1,36 @@
 // A line for each run: how many records, the width, the answer, and whether the count agrees.
-use busiest::stretch::{Busiest, Unanswered};
-use codec::word::{end_line, number, text};
+use busiest::stretch::Busiest;
+use codec::output::{Output, text};
+use codec::word::{Word, and_word};
 
-fn answer(found: Busiest) {
+fn answer(out: &mut Output, found: Busiest) {
     match found {
-        Err(Unanswered::NoWidth) => text(b"refused 22"),
-        Err(Unanswered::SamplesFall) => text(b"refused 23"),
-        Ok(None) => text(b"0 and no sample"),
+        Err(why) => {
+            text(out, b"refused");
+            and_word(out, why as u8);
+        }
+        Ok(None) => text(out, b"0 and no sample"),
         Ok(Some(s)) => {
-            number(s.count as u64);
-            text(b" from sample ");
-            number(s.sample);
+            s.count.put(out);
+            text(out, b" from sample ");
+            s.sample.put(out);
         }
     }
 }
 
-pub fn compare(n: usize, width: u64, found: Busiest, counted: Busiest) {
-    text(b"run of ");
-    number(n as u64);
-    text(b", width ");
-    number(width);
-    text(b": ");
-    answer(found);
-    if found == counted {
-        text(b", counted the same");
-    } else {
-        text(b", COUNTED DIFFERENTLY");
-    }
-    end_line();
+pub fn compare(out: &mut Output, n: usize, width: u64, found: Busiest, counted: Busiest) {
+    text(out, b"run of ");
+    n.put(out);
+    text(out, b", width ");
+    width.put(out);
+    text(out, b": ");
+    answer(out, found);
+    text(
+        out,
+        if found == counted {
+            b", counted the same\n"
+        } else {
+            b", COUNTED DIFFERENTLY\n"
+        },
+    );
 }

@@ -1,9 +1,10 @@
-// Prints the page of 01's scene: a header, and a line for each voice.
+// Prints the page of the scene in crate page_scene: a header, and a line for each voice.
 #![tactic(auto)]
 
 use page_scene::scene_page;
 use piecrag::page_length;
 
+// The descriptor of standard output. Crate codec has it too, and nothing else that this program needs.
 const STDOUT: i32 = 1;
 
 fn main() {
