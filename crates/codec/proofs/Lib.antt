@@ -1,4 +1,3 @@
 pub mod Filling
 pub mod Halves
 pub mod Nan
-pub mod Part

@@ -1,16 +1,23 @@
-// Fields of a lent input, little-endian. A byte past the input's end is 0, so that every field can be asked for; whether the input
+// Fields of a lent input, little-endian; each reader is given the input and the position, as its definition is.
+// A byte past the input's end is 0, so that every field can be asked for; whether the input
 // was long enough is seen by the position after its last field.
-ghost use Rattle.std.specs.Prelude.{◌≡◌, ℕ, ◌≤◌, length};
+ghost use Rattle.std.specs.Prelude.{◌≡◌, ℕ, ◌≤◌, length, pos, ◌-ℤ◌};
 ghost use Rattle.std.specs.Float.{binary32, binary64};
 ghost use Rattle.std.specs.Float.Ieee.{of_bits};
 ghost use Rattle.codec.specs.Field.{moved, little, run, fields};
 
-// The position n bytes after `at`. It stops at the last position of all, which no input reaches.
+// The last position of all, which no input reaches. It is where a malformed field ends: one that runs past the input's end is malformed too,
+// so that one test finds both, which of an `Option` would be two.
+pub const NOWHERE: usize = usize::MAX;
+
+// The position n bytes after `at`. It stops at the last position of all.
 pub fn after(at: usize, n: usize) -> usize
     ensures { result ≡ moved at n }
 {
     at.saturating_add(n)
 }
+
+// The fields of two, four and eight bytes are each two of the half: `from_le_bytes` takes bytes that are all there, and past the input's end none is.
 
 pub fn byte_at(s: &[u8], at: usize) -> u8
     ensures { result ≡ little 1 s.now at }
@@ -44,12 +51,13 @@ pub fn bytes_at(s: &[u8], at: usize, len: usize) -> &[u8]
     if end <= s.len() { &s[at..end] } else { &[] }
 }
 
-// The float of a pattern. Every pattern of a NaN is the same one.
+// The float of a pattern. Every pattern of a NaN is the same one. Crate words has this too: what is compared reads with functions of its own.
+// Its twin for 64 bits is a function of its own, since no trait of the library says of both formats what a pattern is.
 pub fn float(bits: u32) -> f32
     ensures { result ≡ of_bits binary32 bits }
 {
     if bits % 0x8000_0000 > 0x7f80_0000 {
-        return 0.0 / 0.0;
+        return f32::NAN;
     }
     f32::from_bits(bits)
 }
@@ -58,13 +66,13 @@ pub fn double(bits: u64) -> f64
     ensures { result ≡ of_bits binary64 bits }
 {
     if bits % 0x8000_0000_0000_0000 > 0x7ff0_0000_0000_0000 {
-        return 0.0 / 0.0;
+        return f64::NAN;
     }
     f64::from_bits(bits)
 }
 
 // What a field of four bytes stands for.
-trait Field: Copy {
+pub trait Field: Copy {
     ghost value: { ℕ → Self };
 
     fn of(word: u32) -> Self
@@ -87,28 +95,32 @@ impl Field for usize {
     }
 }
 
-fn fields_at<T: Field>(s: &[u8], at: usize, out: &mut [T])
-    ensures { out.new ≡ fields T.value (length out.old) s.now at }
-{
-    let mut from = at;
-    for i in 0..out.len() {
-        out[i] = T::of(word_at(s, from));
-        from = after(from, 4);
+impl Field for u32 {
+    ghost value = { λ n. n };
+
+    fn of(word: u32) -> u32 {
+        word
     }
 }
 
-// Fills `out` with the floats whose patterns stand from `at` on.
-pub fn floats_at(s: &[u8], at: usize, out: &mut [f32])
-    ensures { out.new ≡ fields (of_bits binary32) (length out.old) s.now at }
-{
-    fields_at(s, at, out);
+// A number with a sign stands as 2^31 more than it is.
+impl Field for i32 {
+    ghost value = { λ n. pos n -ℤ pos 2147483648 };
+
+    fn of(word: u32) -> i32 {
+        (i64::from(word) - 2147483648) as i32
+    }
 }
 
-// Fills `out` with the numbers of four bytes that stand from `at` on.
-pub fn words_at(s: &[u8], at: usize, out: &mut [usize])
-    ensures { out.new ≡ fields (λ n. n) (length out.old) s.now at }
+// Fills `out` with the fields of four bytes that stand from `at` on.
+pub fn fields_at<T: Field>(s: &[u8], at: usize, out: &mut [T])
+    ensures { out.new ≡ fields T.value (length out.old) s.now at }
 {
-    fields_at(s, at, out);
+    let mut from = at;
+    for x in out.iter_mut() {
+        *x = T::of(word_at(s, from));
+        from = after(from, 4);
+    }
 }
 
 // Where a run of lent numbers stands: how many, the first of them, and the end.
@@ -129,7 +141,7 @@ pub fn lent_at(s: &[u8], at: usize) -> Lent
         return Lent {
             count: 0,
             from,
-            end: usize::MAX,
+            end: NOWHERE,
         };
     }
     Lent {
@@ -139,21 +151,9 @@ pub fn lent_at(s: &[u8], at: usize) -> Lent
     }
 }
 
-// Room for a whole input, and for the fields that a program lends. Each `ensures` gives the length, which lending a part asks for.
+// Room for a whole input. The `ensures` gives the length, which lending a part asks for.
 pub fn input_room() -> [u8; 786432]
     ensures { 786432 ≡ length result }
 {
     [0; 786432]
-}
-
-pub fn float_room() -> [f32; 2048]
-    ensures { 2048 ≡ length result }
-{
-    [0.0; 2048]
-}
-
-pub fn word_room() -> [usize; 2048]
-    ensures { 2048 ≡ length result }
-{
-    [0; 2048]
 }

@@ -3,9 +3,9 @@
 ghost use Rattle.std.specs.Prelude.{◌≡◌, ◌≤◌};
 
 use crate::descriptor::STDOUT;
-use crate::word::{long_pattern, pattern};
 
-// The first `count` bytes are gathered. Nothing is written after a write that has failed.
+// The first `count` bytes are gathered, in fixed memory and no `Vec`. Nothing is written after a write that has failed; of the bytes beside it
+// `failed` says nothing, so that it is no option of them.
 #[derive(Drop)]
 pub struct Output {
     bytes: [u8; 65536],
@@ -52,45 +52,15 @@ pub fn text(out: &mut Output, s: &[u8]) {
     out.count = end;
 }
 
-pub fn number(out: &mut Output, n: u64) {
-    let mut digits = [0u8; 20];
-    let k = io::decimal(n, &mut digits);
-    text(out, &digits[..k]);
-}
-
-fn hex(out: &mut Output, n: u64, width: usize) {
-    let mut digits = [0u8; 16];
-    let k = io::hex(n, width, &mut digits);
-    text(out, &digits[..k]);
-}
-
-pub fn sample(out: &mut Output, x: f32) {
-    hex(out, u64::from(pattern(x)), 8);
-}
-
-pub fn long_sample(out: &mut Output, x: f64) {
-    hex(out, long_pattern(x), 16);
-}
-
 pub fn end_line(out: &mut Output) {
     text(out, b"\n");
 }
 
-// A space, and then the word.
-pub fn and_number(out: &mut Output, n: u64) {
-    text(out, b" ");
-    number(out, n);
-}
-
-pub fn and_sample(out: &mut Output, x: f32) {
-    text(out, b" ");
-    sample(out, x);
-}
-
-pub fn and_samples(out: &mut Output, xs: &[f32]) {
-    for x in xs {
-        and_sample(out, *x);
-    }
+// A number of `width` hexadecimal digits.
+pub fn hex(out: &mut Output, n: u64, width: usize) {
+    let mut digits = [0u8; 16];
+    let k = io::hex(n, width, &mut digits);
+    text(out, &digits[..k]);
 }
 
 // Each byte in two hexadecimal digits.

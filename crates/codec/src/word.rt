@@ -1,14 +1,16 @@
-// The words of a line, written to standard output. A float is its pattern in hexadecimal, every NaN the same.
+// The words of a line: numbers in decimal, and floats as their patterns in hexadecimal, every NaN the same.
 ghost use Rattle.std.specs.Prelude.{◌≡◌};
 ghost use Rattle.std.specs.Float.{binary32, binary64};
 ghost use Rattle.codec.specs.Pattern.{pattern_of};
 
-use crate::descriptor::STDOUT;
+use crate::output::{Output, hex, text};
+use node::record::{NodeId, VoiceId};
 
+// The pattern of a float. That of an f64 is a function of its own: no trait of the library says of both formats what a pattern is.
 pub fn pattern(x: f32) -> u32
     ensures { result ≡ pattern_of binary32 x }
 {
-    if x != x {
+    if x.is_nan() {
         return 0x7fc0_0000;
     }
     x.to_bits()
@@ -17,52 +19,94 @@ pub fn pattern(x: f32) -> u32
 pub fn long_pattern(x: f64) -> u64
     ensures { result ≡ pattern_of binary64 x }
 {
-    if x != x {
+    if x.is_nan() {
         return 0x7ff8_0000_0000_0000;
     }
     x.to_bits()
 }
 
-pub fn text(s: &[u8]) {
-    io::write_all(STDOUT, s);
+// What is written as one word.
+pub trait Word: Copy {
+    fn put(self, out: &mut Output);
 }
 
-pub fn number(n: u64) {
-    io::print_decimal(STDOUT, n);
-}
-
-pub fn sample(x: f32) {
-    io::print_hex(STDOUT, u64::from(pattern(x)), 8);
-}
-
-pub fn long_sample(x: f64) {
-    io::print_hex(STDOUT, long_pattern(x), 16);
-}
-
-pub fn end_line() {
-    text(b"\n");
-}
-
-// A space, and then the word.
-pub fn and_number(n: u64) {
-    text(b" ");
-    number(n);
-}
-
-pub fn and_sample(x: f32) {
-    text(b" ");
-    sample(x);
-}
-
-pub fn and_samples(xs: &[f32]) {
-    for x in xs {
-        and_sample(*x);
+impl Word for u64 {
+    fn put(self, out: &mut Output) {
+        let mut digits = [0u8; 20];
+        let k = io::decimal(self, &mut digits);
+        text(out, &digits[..k]);
     }
 }
 
-// Each byte in two hexadecimal digits.
-pub fn hex_bytes(s: &[u8]) {
-    for b in s {
-        io::print_hex(STDOUT, u64::from(*b), 2);
+impl Word for u32 {
+    fn put(self, out: &mut Output) {
+        u64::from(self).put(out);
+    }
+}
+
+impl Word for u8 {
+    fn put(self, out: &mut Output) {
+        u64::from(self).put(out);
+    }
+}
+
+impl Word for usize {
+    fn put(self, out: &mut Output) {
+        (self as u64).put(out);
+    }
+}
+
+impl Word for i32 {
+    fn put(self, out: &mut Output) {
+        if self < 0 {
+            text(out, b"-");
+        }
+        self.unsigned_abs().put(out);
+    }
+}
+
+impl Word for f32 {
+    fn put(self, out: &mut Output) {
+        hex(out, u64::from(pattern(self)), 8);
+    }
+}
+
+impl Word for f64 {
+    fn put(self, out: &mut Output) {
+        hex(out, long_pattern(self), 16);
+    }
+}
+
+impl Word for NodeId {
+    fn put(self, out: &mut Output) {
+        self.0.put(out);
+    }
+}
+
+impl Word for VoiceId {
+    fn put(self, out: &mut Output) {
+        self.0.put(out);
+    }
+}
+
+// `-` where there is none.
+impl<W: Word> Word for Option<W> {
+    fn put(self, out: &mut Output) {
+        match self {
+            Some(word) => word.put(out),
+            None => text(out, b"-"),
+        }
+    }
+}
+
+// A space, and then the word.
+pub fn and_word<W: Word>(out: &mut Output, word: W) {
+    text(out, b" ");
+    word.put(out);
+}
+
+pub fn and_words<W: Word>(out: &mut Output, words: &[W]) {
+    for word in words {
+        and_word(out, *word);
     }
 }

@@ -1,4 +1,5 @@
 // An entry of a script on its store, in seven lent tables.
+// The sorts are numbers: docs/REPLAY.md numbers the entries, and a recorded script holds the numbers.
 use codec::field::byte_at;
 use codec::output::Output;
 use piecrag::{

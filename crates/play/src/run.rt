@@ -1,98 +1,75 @@
 // A script that is read part by part, and its transcript.
 use crate::player::{first_board, play_entry};
 use crate::slots::{is_kept, keep, no_slots, slot_at};
-use crate::window::{WINDOW_BYTES, end_at, fill, move_front};
+use crate::window::{Read, WINDOW_BYTES, end_at, fill, move_front, nothing_read};
 use codec::descriptor::STDERR;
 use codec::field::after;
+use codec::line::word_line;
 use codec::output::{Output, flush, has_failed, output_room};
 use piecrag::{
     EDGE_WORDS, EVENT_WORDS, NODE_WORDS, ORDER_WORDS, STEAL_WORDS, VOICE_WORDS, WISH_WORDS,
 };
-use transcript::line_words::number_line;
 
-// How far the script is played. The first `held` bytes of the window were read, and `more` may follow them; the first has the position
-// `base` in the script. The entry that is to be played stands from `at` to `end`. There is none where the run has `ended`.
-#[derive(Clone, Copy)]
+// How far the script is played. `read` says what the window holds, whose first byte has the position `base` in the script; the entries up to
+// `end` of the window are played, `count` of them in all.
+#[derive(Drop)]
 struct Run {
-    held: usize,
-    more: bool,
-    failed: bool,
+    read: Read,
     base: usize,
-    at: usize,
     end: usize,
     count: usize,
-    ended: bool,
 }
 
 // Before the first read.
 fn first_run() -> Run {
     Run {
-        held: 0,
-        more: true,
-        failed: false,
+        read: nothing_read(),
         base: 0,
-        at: 0,
         end: 0,
         count: 0,
-        ended: false,
     }
 }
 
-// The entry behind the last one, if it stands in the window whole.
-fn step(window: &[u8], run: Run) -> Run {
+// Where the entry behind the last one stands, if the window holds it whole.
+fn step(window: &[u8], run: &mut Run) -> Option<usize> {
     let at = run.end;
-    let end = end_at(window, run.held, at);
-    if run.held <= at || run.held < end {
-        return Run {
-            at,
-            ended: true,
-            ..run
-        };
+    let end = end_at(window, run.read.held, at);
+    if run.read.held <= at || run.read.held < end {
+        return None;
     }
-    Run {
-        at,
-        end,
-        count: after(run.count, 1),
-        ..run
-    }
+    run.end = end;
+    run.count = after(run.count, 1);
+    Some(at)
 }
 
 // What is left of the window moves to its front, and the script is read on.
-fn read_on<S: std::io::Read>(input: &mut S, window: &mut [u8], run: Run) -> Run {
+fn read_on<S: std::io::Read>(input: &mut S, window: &mut [u8], run: &mut Run) {
     let at = run.end;
     move_front(window, at);
-    let r = fill(input, window, run.held.saturating_sub(at));
-    Run {
-        held: r.held,
-        more: r.more,
-        failed: r.failed,
-        base: after(run.base, at),
-        at: 0,
-        end: 0,
-        count: run.count,
-        ended: false,
-    }
+    run.read = fill(input, window, run.read.held.saturating_sub(at));
+    run.base = after(run.base, at);
+    run.end = 0;
 }
 
-// The next entry. One that the window does not hold whole is looked for once more after a read.
-fn next_entry<S: std::io::Read>(input: &mut S, window: &mut [u8], run: Run) -> Run {
+// Where the next entry stands. One that the window does not hold whole is looked for once more after a read.
+fn next_entry<S: std::io::Read>(input: &mut S, window: &mut [u8], run: &mut Run) -> Option<usize> {
     let next = step(window, run);
-    if !next.ended || !run.more {
+    if next.is_some() || !run.read.more {
         return next;
     }
-    let further = read_on(input, window, run);
-    step(window, further)
+    read_on(input, window, run);
+    step(window, run)
 }
 
 // The last line, when no entry was left. What fails is said on standard error too: a program of this language has no exit status.
-fn end_run(out: &mut Output, run: Run) {
-    if run.failed {
-        number_line(out, b"unread", after(run.base, run.held) as u64);
+fn end_run(out: &mut Output, run: &Run) {
+    if run.read.failed {
+        word_line(out, b"unread", after(run.base, run.read.held));
         io::write_all(STDERR, b"the script cannot be read on\n");
-    } else if run.at == run.held {
-        number_line(out, b"played", run.count as u64);
+    } else if run.end == run.read.held {
+        word_line(out, b"played", run.count);
     } else {
-        number_line(out, b"malformed", after(run.base, run.at) as u64);
+        word_line(out, b"malformed", after(run.base, run.end));
     }
     flush(out);
     if has_failed(out) {
@@ -114,12 +91,14 @@ pub fn play_input<S: std::io::Read>(input: &mut S) {
     let mut board = first_board();
     let mut slots = no_slots();
     let mut run = first_run();
+    // A `for` with no end in practice, since every loop is proved to end.
     for _ in 0..u64::MAX {
-        run = next_entry(input, &mut window, run);
-        if run.ended || has_failed(&out) {
+        let Some(at) = next_entry(input, &mut window, &mut run) else {
+            break;
+        };
+        if has_failed(&out) {
             break;
         }
-        let at = run.at;
         if is_kept(&window, at) {
             keep(&mut out, &window, at, &mut slots);
         } else {
@@ -140,5 +119,5 @@ pub fn play_input<S: std::io::Read>(input: &mut S) {
             );
         }
     }
-    end_run(&mut out, run);
+    end_run(&mut out, &run);
 }

@@ -1,4 +1,5 @@
 // The definitions that a script keeps.
+// The sorts are numbers: docs/REPLAY.md numbers the entries, and a recorded script holds the numbers.
 ghost use Rattle.std.specs.Prelude.{◌<◌};
 
 use codec::field::{after, byte_at};

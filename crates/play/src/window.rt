@@ -15,6 +15,16 @@ pub(crate) struct Read {
     done: bool,
 }
 
+// Before the first read.
+pub(crate) fn nothing_read() -> Read {
+    Read {
+        held: 0,
+        more: true,
+        failed: false,
+        done: false,
+    }
+}
+
 // One read behind the first `held` bytes of the window.
 fn read_on<S: std::io::Read>(input: &mut S, window: &mut [u8], held: usize) -> Read {
     let n = held.min(window.len());
@@ -30,7 +40,8 @@ fn read_on<S: std::io::Read>(input: &mut S, window: &mut [u8], held: usize) -> R
     }
 }
 
-// Reads until the window is full, the script ends or a read fails. A read moves a byte at least, or is the last.
+// Reads until the window is full, the script ends or a read fails. A read moves a byte at least, or is the last. The program `book` has a shorter
+// loop, which does not say why it ended.
 pub(crate) fn fill<S: std::io::Read>(input: &mut S, window: &mut [u8], held: usize) -> Read {
     let mut r = read_on(input, window, held);
     for _ in 0..window.len() {

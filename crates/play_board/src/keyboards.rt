@@ -1,6 +1,8 @@
 // Makings, and the console's calls: wishes, turns, and what waits.
+// The sorts are numbers: docs/REPLAY.md numbers the entries, and a recorded script holds the numbers.
 use codec::field::{after, byte_at, float, word_at};
-use codec::output::{Output, and_number, end_line, text};
+use codec::output::{Output, end_line, text};
+use codec::word::and_word;
 use piecrag::{
     EdgeTable, Making, NodeTable, Queue, Seal, State, StealTable, SynthDef, VoiceTable, Wish,
     WishState, WishTable, board_wish, keyboard_count, make, make_console, turn, waiting_count,
@@ -18,7 +20,8 @@ pub struct Board {
     pub seal: Seal,
 }
 
-// A store that was made without keyboards: a wish is refused, and a turn is empty.
+// A store that was made without keyboards: a wish is refused, and a turn is empty. As a host writes it: the function of call_console for this is
+// that crate's own.
 pub fn no_keyboards() -> WishState {
     WishState {
         keyboards: 0,
@@ -32,7 +35,7 @@ pub fn new_board(state: State, wishes: WishState) -> Board {
     Board {
         state,
         wishes,
-        seal: Seal::Unsealed,
+        seal: None,
     }
 }
 
@@ -122,7 +125,7 @@ pub fn play_turn(
     match r.answer {
         Some(served) => {
             text(out, b"served");
-            and_number(out, served.keyboard as u64);
+            and_word(out, served.keyboard);
             text(out, b" ");
             given_line(out, b"voice", served.answer.map(|id| id.0));
         }
@@ -139,10 +142,10 @@ pub fn play_turn(
 fn waiting_line(out: &mut Output, w: WishState) {
     text(out, b"waiting");
     for q in 0..keyboard_count(w) {
-        and_number(out, waiting_count(w, q) as u64);
+        and_word(out, waiting_count(w, q));
     }
     text(out, b" next");
-    and_number(out, w.next as u64);
+    and_word(out, w.next);
     end_line(out);
 }
 

@@ -1,4 +1,5 @@
 // The four spawns.
+// The sorts are numbers: docs/REPLAY.md numbers the entries, and a recorded script holds the numbers.
 use codec::field::{after, byte_at, float, word_at};
 use codec::output::Output;
 use piecrag::{

@@ -1,8 +1,9 @@
 // Reports, prepares and renders.
+// The sorts are numbers: docs/REPLAY.md numbers the entries, and a recorded script holds the numbers.
 ghost use Rattle.std.specs.Prelude.{◌≡◌, length};
 
 use crate::host::told;
-use codec::field::{after, byte_at, bytes_at, float, floats_at, word_at};
+use codec::field::{after, byte_at, bytes_at, fields_at, float, word_at};
 use codec::output::Output;
 use piecrag::{
     EdgeTable, EventTable, NodeTable, OrderTable, Refusal, State, VoiceTable, prepare, render,
@@ -11,13 +12,14 @@ use piecrag::{
 use script::host::id_at;
 use transcript::answer::{list_line, rendered_line};
 
-// 512 samples: those that stand from `at` on, or the one that stands there again and again.
-fn samples_at(s: &[u8], at: usize, repeated: bool) -> [f32; 512] {
-    if repeated {
-        return [float(word_at(s, at)); 512];
+// The samples of the report at `at`: 512 that follow each other, or the one of entry 19 again and again.
+fn samples_at(s: &[u8], at: usize) -> [f32; 512] {
+    let from = after(at, 11);
+    if byte_at(s, at) == 19 {
+        return [float(word_at(s, from)); 512];
     }
     let mut out = [0.0; 512];
-    floats_at(s, at, &mut out);
+    fields_at(s, from, &mut out);
     out
 }
 
@@ -31,10 +33,10 @@ pub fn reported(
     voices: &VoiceTable,
 ) -> Result<(), Refusal> {
     let node = id_at(s, after(at, 1));
-    let channels = byte_at(s, after(at, 5)) as usize;
+    let channels = usize::from(byte_at(s, after(at, 5)));
     let done = byte_at(s, after(at, 6)) != 0;
     let n = (word_at(s, after(at, 7)) as usize).min(512);
-    let samples = samples_at(s, after(at, 11), byte_at(s, at) == 19);
+    let samples = samples_at(s, at);
     report(state, nodes, voices, node, channels, &samples[..n], done)
 }
 
@@ -48,7 +50,8 @@ pub fn play_prepare(
     told(out, prepare(state, nodes, edges, order))
 }
 
-// How long a list the entry lends, and what each of its entries holds before: 256 and 255 where it does not describe it.
+// How long a list the entry lends, and what each of its entries holds before: 256 and 255 where it does not describe it. A flag beside the two
+// and no Option of them, since a list is lent in both cases.
 #[derive(Clone, Copy)]
 pub struct Lent {
     described: bool,

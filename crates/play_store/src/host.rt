@@ -1,8 +1,10 @@
 // The counters and the host's calls.
+// The sorts are numbers: docs/REPLAY.md numbers the entries, and a recorded script holds the numbers.
 use codec::field::{after, byte_at, long_at, word_at};
 use codec::output::{Output, text};
 use graph_rows::node_row::{owner_at, put_noise};
 use graph_tables::lookup::node_count;
+use node::record::{NodeId, VoiceId};
 use piecrag::{
     CallResult, EdgeTable, NodeTable, Seal, State, board_add_node, board_connect, board_disconnect,
     board_remove_node, board_set_sink,
@@ -17,10 +19,16 @@ pub fn told<R: Numbered>(out: &mut Output, r: CallResult<Result<(), R>>) -> Stat
     r.state
 }
 
+// The state that a call left; the id that it gave is written.
+fn given<R: Numbered>(out: &mut Output, r: CallResult<Result<NodeId, R>>) -> State {
+    given_line(out, b"node", r.answer.map(|id| u64::from(id.0)));
+    r.state
+}
+
 // The noise sequence of every node of the host.
 fn set_noise(nodes: &mut NodeTable, count: usize, noise: u32) {
     for i in 0..node_count(nodes, count) {
-        if owner_at(nodes, i).0 == 0 {
+        if owner_at(nodes, i) == VoiceId(0) {
             put_noise(nodes, i, noise);
         }
     }
@@ -39,20 +47,6 @@ fn set(out: &mut Output, s: &[u8], at: usize, state: State, nodes: &mut NodeTabl
     }
 }
 
-// A kind name, and what else the host says of the node.
-fn add(
-    out: &mut Output,
-    s: &[u8],
-    at: usize,
-    seal: Seal,
-    state: State,
-    nodes: &mut NodeTable,
-) -> State {
-    let r = board_add_node(seal, state, nodes, name_at(s, at), host_node_at(s, at));
-    given_line(out, b"node", r.answer.map(|id| u64::from(id.0)));
-    r.state
-}
-
 // The counters, or a call on the host's nodes: one node, a node and a port, or an edge.
 pub fn play_host(
     out: &mut Output,
@@ -68,7 +62,10 @@ pub fn play_host(
     let port = word_at(s, after(from, 4));
     match byte_at(s, at) {
         2 => set(out, s, from, state, nodes),
-        3 => add(out, s, from, seal, state, nodes),
+        3 => given(
+            out,
+            board_add_node(seal, state, nodes, name_at(s, from), host_node_at(s, from)),
+        ),
         4 => told(out, board_remove_node(seal, state, nodes, edges, id)),
         5 => told(
             out,

@@ -1,4 +1,5 @@
 // The readings, which leave the store as it is.
+// The sorts are numbers: docs/REPLAY.md numbers the entries, and a recorded script holds the numbers.
 use crate::voices::voice_at;
 use codec::field::{after, byte_at, bytes_at, word_at};
 use codec::output::Output;

@@ -1,4 +1,5 @@
 // Frees, clearing, values, glides, reports and events.
+// The sorts are numbers: docs/REPLAY.md numbers the entries, and a recorded script holds the numbers.
 use crate::blocks::reported;
 use crate::host::told;
 use codec::field::{after, byte_at, float, long_at, word_at};
@@ -25,7 +26,7 @@ fn play_free(
     voices: &mut VoiceTable,
 ) -> State {
     let r = free_voice(state, nodes, edges, voices, id);
-    outcome_line(out, r.outcome);
+    outcome_line(out, r.answer);
     r.state
 }
 
@@ -37,7 +38,7 @@ fn play_clearing(
     voices: &mut VoiceTable,
 ) -> State {
     let r = free_done_synths(state, nodes, edges, voices);
-    removed_line(out, r.removed);
+    removed_line(out, r.answer);
     r.state
 }
 

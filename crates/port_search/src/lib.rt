@@ -10,7 +10,7 @@ use graph_rows::edge_row::EdgeTable;
 use graph_tables::ports::free_port;
 use node::record::NodeId;
 
-// The lowest port of `node` below `ports` that nothing feeds; 64 if there is none.
+// The lowest port of `node` below `ports` that nothing feeds; 64 if there is none, since a number is what C reads.
 #[unsafe(no_mangle)]
 pub extern "C" fn piecrag_free_port(edges: &EdgeTable, count: usize, node: u32, ports: u32) -> u32
     ensures { result ≡ number_of (free_port (take count (edges_in edges.now)) (record { 0 = node }) ports) }

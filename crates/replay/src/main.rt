@@ -1,4 +1,5 @@
-// Plays a script from standard input on a newly made store, and writes the transcript. docs/REPLAY.md describes both.
+// Plays a script from standard input on a newly made store, and writes the transcript. docs/REPLAY.md describes both. `examples` is the
+// same program, with a script and a transcript of its own.
 #![tactic(auto)]
 
 use play::run::play_input;

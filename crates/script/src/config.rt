@@ -1,4 +1,5 @@
-// What making fixes, as numbers say it.
+// What making fixes, as the numbers of a script say it; the words of a store have functions of their own (crate state_words).
+// The enums are those of other crates, so that these are functions and no `From`.
 ghost use Rattle.std.specs.Prelude.{◌≡◌};
 ghost use Rattle.script.specs.Config.{budget_of, policy_of, scope_of, first_making};
 

@@ -95,7 +95,7 @@ impl Row for Param {
     }
 }
 
-// Reads the table at `at` into `rows`.
+// Reads the table at `at` into `rows`. An index and no walk over `rows`, since what they have no room for is read over too.
 fn read_rows<T: Row>(s: &[u8], at: usize, rows: &mut [T]) -> Counted
     ensures { Table (length rows.old) T.read T.next s.now at (rows_of (length rows.old) result.count rows.new) result.count result.end }
 {
@@ -110,7 +110,7 @@ fn read_rows<T: Row>(s: &[u8], at: usize, rows: &mut [T]) -> Counted
     Counted { count, end }
 }
 
-// The nodes, the edges, the parameters and the output.
+// The nodes, the edges, the parameters and the output. The rows behind those that are read are what an empty input gives: a name has no default.
 pub fn def_at(s: &[u8], at: usize) -> ReadDef
     ensures def { DefAt s.now at result.def }
     ensures end { result.end ≡ def_end s.now at }

@@ -7,7 +7,8 @@ use crate::def::def_at;
 use crate::name::name_end;
 use codec::field::{after, byte_at, word_at};
 
-// How the fields of an entry stand.
+// How the fields of an entry stand. `Malformed` is a case and no option: its end lies past the script, as that of a cut entry does, so that one
+// test finds both.
 #[derive(Clone, Copy)]
 enum Form {
     // There is no such entry.
@@ -26,7 +27,7 @@ enum Form {
     Buffer,
 }
 
-// By rising sort, from 0 on.
+// By rising sort, from 0 on: docs/REPLAY.md numbers the entries.
 const FORMS: [Form; 54] = [
     Form::Malformed,
     Form::Fixed(15),

@@ -1,15 +1,16 @@
 // What a call answers, in one line.
-use crate::line_words::{level_word, number_line, number_word};
 use call_console::making::MakeRefusal;
 use call_param::number::outcome_number;
 use call_seal::closing::BoardRefusal;
-use codec::output::{Output, and_number, end_line, hex_bytes, text};
+use codec::line::word_line;
+use codec::output::{Output, end_line, hex_bytes, text};
+use codec::word::and_word;
 use console::refusal::{KeyboardRefusal, keyboard_refusal_number};
 use node::refusal::{Refusal, refusal_number};
 use sealed::refusal::{SealRefusal, seal_refusal_number};
 use store::answer::{Outcome, Rendered};
 
-// Why a call was refused, by whom it was.
+// Why a call was refused, by whom it was. Numbers, since a transcript tells a refusal by its number (docs/REPLAY.md).
 pub trait Numbered: Copy {
     fn number(self) -> u8;
 }
@@ -51,7 +52,7 @@ impl<R: Numbered> Numbered for BoardRefusal<R> {
 }
 
 pub fn refused_line<R: Numbered>(out: &mut Output, refusal: R) {
-    number_line(out, b"refused", u64::from(refusal.number()));
+    word_line(out, b"refused", refusal.number());
 }
 
 // The line `done`, or the refusal.
@@ -65,14 +66,14 @@ pub fn answer_line<R: Numbered>(out: &mut Output, done: &[u8], answer: Result<()
 // The new id behind a word that says of what, or the refusal.
 pub fn given_line<R: Numbered>(out: &mut Output, word: &[u8], given: Result<u64, R>) {
     match given {
-        Ok(id) => number_line(out, word, id),
+        Ok(id) => word_line(out, word, id),
         Err(refusal) => refused_line(out, refusal),
     }
 }
 
 // What became of a value, a glide or a free.
 pub fn outcome_line(out: &mut Output, outcome: Outcome) {
-    number_line(out, b"outcome", u64::from(outcome_number(outcome)));
+    word_line(out, b"outcome", outcome_number(outcome));
 }
 
 // The entries of a list, if there are any.
@@ -87,7 +88,7 @@ fn entries(out: &mut Output, list: &[u8]) {
 // How many events a render took, and what became of each.
 fn taken_words(out: &mut Output, outcomes: &[u8]) {
     text(out, b" took");
-    and_number(out, outcomes.len() as u64);
+    and_word(out, outcomes.len());
     entries(out, outcomes);
 }
 
@@ -97,7 +98,7 @@ pub fn rendered_line(out: &mut Output, answer: Rendered, outcomes: &[u8]) {
         Rendered::Silent => text(out, b"silent"),
         Rendered::Unprepared(refusal) => {
             text(out, b"silent");
-            and_number(out, u64::from(refusal_number(refusal)));
+            and_word(out, refusal_number(refusal));
         }
         Rendered::Refused(refusal) => return refused_line(out, refusal),
     }
@@ -111,29 +112,25 @@ pub fn list_line(out: &mut Output, list: &[u8]) {
 }
 
 pub fn removed_line(out: &mut Output, removed: usize) {
-    number_line(out, b"removed", removed as u64);
+    word_line(out, b"removed", removed);
 }
 
 pub fn level_line(out: &mut Output, level: Option<f32>) {
-    text(out, b"level");
-    level_word(out, level);
-    end_line(out);
+    word_line(out, b"level", level);
 }
 
 pub fn position_line(out: &mut Output, position: Option<u64>) {
-    text(out, b"position");
-    number_word(out, position);
-    end_line(out);
+    word_line(out, b"position", position);
 }
 
 // The length of a page, and the page.
 pub fn page_lines(out: &mut Output, page: &[u8]) {
-    number_line(out, b"page", page.len() as u64);
+    word_line(out, b"page", page.len());
     text(out, page);
 }
 
 pub fn clock_line(out: &mut Output, clock: u64) {
-    number_line(out, b"clock", clock);
+    word_line(out, b"clock", clock);
 }
 
 // A byte of a remark. One that is no printable character of ASCII is `?`, so that every remark is one line.

@@ -1,32 +1,17 @@
 // Pending events.
-use crate::line_words::{glide_words, name_word};
-use codec::output::{Output, and_number, and_sample, end_line, text};
+use crate::line_words::name_word;
+use codec::line::action_words;
+use codec::output::{Output, end_line, text};
+use codec::word::and_word;
 use event_table::row::{EventTable, event_at};
 use memory::state::State;
-use node::order::EventAction;
 use scheduler::event::Event;
 
 fn event_line(out: &mut Output, e: Event) {
     text(out, b"event");
-    and_number(out, e.time);
-    and_number(out, e.voice.0);
-    match e.action {
-        EventAction::Value(x) => {
-            text(out, b" value");
-            name_word(out, e.name);
-            and_sample(out, x);
-        }
-        EventAction::Glide(g) => {
-            text(out, b" glide");
-            name_word(out, e.name);
-            glide_words(out, g);
-        }
-        EventAction::Gate(x) => {
-            text(out, b" gate");
-            and_sample(out, x);
-        }
-        EventAction::Free => text(out, b" free"),
-    }
+    and_word(out, e.time);
+    and_word(out, e.voice);
+    action_words(out, e.action, |o: &mut Output| name_word(o, e.name));
     end_line(out);
 }
 

@@ -1,12 +1,13 @@
 // The whole state.
 use crate::answer::clock_line;
 use crate::graphs::{edges_line, node_lines, order_line, sink_line};
-use crate::line_words::number_line;
 use crate::queue::event_lines;
 use crate::stolen::steal_lines;
 use crate::voices::{tracked_line, voice_lines};
 use call_read::records::{clock, steals};
-use codec::output::{Output, and_number, end_line, text};
+use codec::line::word_line;
+use codec::output::{Output, end_line, text};
+use codec::word::and_word;
 use event_table::row::EventTable;
 use graph_rows::edge_row::EdgeTable;
 use graph_rows::node_row::NodeTable;
@@ -22,7 +23,7 @@ fn graph_lines(
     edges: &EdgeTable,
     order: &OrderTable,
 ) {
-    number_line(out, b"prepared", u64::from(s.prepared));
+    word_line(out, b"prepared", u64::from(s.prepared));
     sink_line(out, s.sink);
     edges_line(out, s, edges);
     order_line(out, s, order);
@@ -32,8 +33,8 @@ fn graph_lines(
 // The next node id, 2^32 where none is left, and how many voice ids were given out.
 fn next_line(out: &mut Output, s: State) {
     text(out, b"next");
-    and_number(out, s.next);
-    and_number(out, s.spawned);
+    and_word(out, s.next);
+    and_word(out, s.spawned);
     end_line(out);
 }
 

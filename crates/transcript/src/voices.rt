@@ -1,7 +1,7 @@
 // Voices.
-use crate::line_words::{id_word, level_word, number_word};
 use call_read::look::{voice_at, voice_level};
-use codec::output::{Output, and_number, end_line, text};
+use codec::output::{Output, end_line, text};
+use codec::word::and_word;
 use graph_rows::edge_row::EdgeTable;
 use graph_rows::node_row::NodeTable;
 use graph_tables::ports::feeding_edge;
@@ -16,10 +16,10 @@ fn state_words(out: &mut Output, state: VoiceState) {
         VoiceState::Loose => text(out, b" loose"),
         VoiceState::Fading(fade) => {
             text(out, b" fading");
-            id_word(out, fade.node);
-            and_number(out, fade.start);
-            and_number(out, fade.position);
-            and_number(out, fade.number);
+            and_word(out, fade.node);
+            and_word(out, fade.start);
+            and_word(out, fade.position);
+            and_word(out, fade.number);
         }
     }
 }
@@ -27,16 +27,16 @@ fn state_words(out: &mut Output, state: VoiceState) {
 // The record of a voice.
 fn record_words(out: &mut Output, v: Voice) {
     text(out, b"voice");
-    and_number(out, v.id.0);
-    and_number(out, v.birth);
-    id_word(out, v.bus);
-    id_word(out, v.first);
-    and_number(out, u64::from(v.count));
-    id_word(out, v.output);
-    and_number(out, u64::from(v.panned));
-    and_number(out, u64::from(v.port));
-    and_number(out, u64::from(v.sequence));
-    and_number(out, u64::from(v.rank));
+    and_word(out, v.id);
+    and_word(out, v.birth);
+    and_word(out, v.bus);
+    and_word(out, v.first);
+    and_word(out, v.count);
+    and_word(out, v.output);
+    and_word(out, u64::from(v.panned));
+    and_word(out, v.port);
+    and_word(out, v.sequence);
+    and_word(out, v.rank);
     state_words(out, v.state);
 }
 
@@ -62,8 +62,8 @@ fn voice_line(
 ) {
     let fed = feeding_edge(edges, s.edges, end_at(voices, i), v.bus);
     record_words(out, v);
-    number_word(out, fed.map(|e| u64::from(e.port)));
-    level_word(out, voice_level(s, nodes, voices, v.id));
+    and_word(out, fed.map(|e| e.port));
+    and_word(out, voice_level(s, nodes, voices, v.id));
     end_line(out);
 }
 
@@ -84,7 +84,7 @@ pub fn voice_lines(
 pub fn voices_line(out: &mut Output, s: State, voices: &VoiceTable) {
     text(out, b"voices");
     for i in 0..call_read::counts::voices(s, voices) {
-        and_number(out, id_at(voices, i).0);
+        and_word(out, id_at(voices, i));
     }
     end_line(out);
 }
@@ -93,7 +93,7 @@ pub fn tracked_line(out: &mut Output, s: State, voices: &VoiceTable) {
     text(out, b"tracked");
     for i in 0..call_read::counts::voices(s, voices) {
         if let VoiceState::Tracked = state_at(voices, i) {
-            and_number(out, id_at(voices, i).0);
+            and_word(out, id_at(voices, i));
         }
     }
     end_line(out);

@@ -1,32 +1,34 @@
-// Roots, narrowings and levels.
-use codec::field::{after, double, float_room, floats_at, long_at, word_at};
-use codec::word::{end_line, long_sample, sample};
+// Roots, narrowings and levels. A root and a narrowing are two functions of three lines: one that takes the function to call would need a contract
+// for it, and a sort for its result.
+use codec::field::{NOWHERE, after, double, fields_at, long_at, word_at};
+use codec::output::{Output, end_line};
+use codec::word::Word;
 
-pub fn root(s: &[u8], at: usize) -> usize {
-    long_sample(level::sqrt(double(long_at(s, at))));
-    end_line();
+pub fn root(out: &mut Output, s: &[u8], at: usize) -> usize {
+    level::sqrt(double(long_at(s, at))).put(out);
+    end_line(out);
     after(at, 8)
 }
 
-pub fn narrowing(s: &[u8], at: usize) -> usize {
-    sample(level::narrow(double(long_at(s, at))));
-    end_line();
+pub fn narrowing(out: &mut Output, s: &[u8], at: usize) -> usize {
+    level::narrow(double(long_at(s, at))).put(out);
+    end_line(out);
     after(at, 8)
 }
 
 // A count, and that many samples.
-pub fn block(s: &[u8], at: usize) -> usize {
+pub fn block(out: &mut Output, s: &[u8], at: usize) -> usize {
     let n = word_at(s, at) as usize;
     if n > 2048 {
-        return usize::MAX;
+        return NOWHERE;
     }
-    let mut space = float_room();
-    sample(level_of(s, after(at, 4), &mut space[..n]));
-    end_line();
+    let mut space = [0.0; 2048];
+    level_of(s, after(at, 4), &mut space[..n]).put(out);
+    end_line(out);
     after(at, 4 + 4 * n)
 }
 
 fn level_of(s: &[u8], at: usize, samples: &mut [f32]) -> f32 {
-    floats_at(s, at, samples);
+    fields_at(s, at, samples);
     level::level(samples)
 }

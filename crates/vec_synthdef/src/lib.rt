@@ -3,7 +3,8 @@
 #![tactic(auto)]
 
 use codec::field::{after, byte_at, word_at};
-use codec::word::{and_number, end_line, text};
+use codec::output::{Output, end_line, text};
+use codec::word::and_word;
 use node::name::name_of;
 use script::def::def_at;
 use script::name::{name_at, name_end};
@@ -14,11 +15,11 @@ use synthdef::params::param_node;
 use synthdef::plan::{DonePlan, done_plan};
 use synthdef::silent::plan_silent;
 
-fn edge_words(es: DefEdges) {
+fn edge_words(out: &mut Output, es: DefEdges) {
     for e in es.as_slice() {
-        and_number(u64::from(e.from));
-        and_number(u64::from(e.to));
-        and_number(u64::from(e.port));
+        and_word(out, e.from);
+        and_word(out, e.to);
+        and_word(out, e.port);
     }
 }
 
@@ -33,31 +34,20 @@ fn flags_of(mask: u32) -> [bool; 24] {
     flags
 }
 
-fn silent_word(silent: bool) {
-    if silent {
-        text(b" yes");
-    } else {
-        text(b" no");
-    }
+fn silent_word(out: &mut Output, silent: bool) {
+    text(out, if silent { b" yes" } else { b" no" });
 }
 
-fn silent_words(s: &[u8], at: usize, count: usize, plan: DonePlan) {
+fn silent_words(out: &mut Output, s: &[u8], at: usize, count: usize, plan: DonePlan) {
     let mut from = at;
     for _ in 0..count {
-        silent_word(plan_silent(plan, flags_of(word_at(s, from))));
+        silent_word(out, plan_silent(plan, flags_of(word_at(s, from))));
         from = after(from, 4);
     }
 }
 
-fn param_word(found: Option<u8>) {
-    match found {
-        Some(node) => and_number(u64::from(node)),
-        None => text(b" -"),
-    }
-}
-
 // The definition; then how many sets of done flags, and the sets; then two names.
-pub fn definition(s: &[u8], at: usize) -> usize {
+pub fn definition(out: &mut Output, s: &[u8], at: usize) -> usize {
     let r = def_at(s, at);
     let def = r.def;
     let count = usize::from(byte_at(s, r.end));
@@ -65,16 +55,16 @@ pub fn definition(s: &[u8], at: usize) -> usize {
     let first = after(sets, 4 * count);
     let second = name_end(s, first);
     if !allowed(def) {
-        text(b"refused 9\n");
+        text(out, b"refused 9\n");
         return name_end(s, second);
     }
-    text(b"counted");
-    edge_words(counted_edges(def.edges));
-    text(b"\nsilent");
-    silent_words(s, sets, count, done_plan(def));
-    text(b"\nparams");
-    param_word(param_node(def.params, name_of(name_at(s, first))));
-    param_word(param_node(def.params, name_of(name_at(s, second))));
-    end_line();
+    text(out, b"counted");
+    edge_words(out, counted_edges(def.edges));
+    text(out, b"\nsilent");
+    silent_words(out, s, sets, count, done_plan(def));
+    text(out, b"\nparams");
+    and_word(out, param_node(def.params, name_of(name_at(s, first))));
+    and_word(out, param_node(def.params, name_of(name_at(s, second))));
+    end_line(out);
     name_end(s, second)
 }

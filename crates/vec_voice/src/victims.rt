@@ -1,8 +1,10 @@
 // Victims, admissions and steal records.
 ghost use Rattle.std.specs.Prelude.{◌≤◌};
 
-use codec::field::{after, byte_at, float, long_at, word_at};
-use codec::word::{and_number, and_sample, end_line, number, text};
+use codec::field::{NOWHERE, after, byte_at, float, long_at, word_at};
+use codec::line::word_line;
+use codec::output::{Output, end_line, text};
+use codec::word::{Word, and_word};
 use node::record::{NodeId, VoiceId};
 use script::config::{budget_of, policy_of, scope_of};
 use voice::policy::{Admission, BudgetScope, Candidate, Candidates, Victim};
@@ -20,7 +22,7 @@ fn level_at(s: &[u8], at: usize) -> Option<f32> {
 }
 
 // The tracked voices that count for a new voice on `bus`: of n rows, each a voice id, its bus and its level. All ranks are 0, as in
-// all runs against the Rust.
+// all runs against the older program in Rust. A row is stored by its number and not by `push`, since the loop's bound says that there is room.
 fn candidates_at(s: &[u8], at: usize, n: usize, scope: BudgetScope, bus: NodeId) -> Candidates
     requires { n ≤ 64 }
 {
@@ -50,46 +52,46 @@ fn candidates_at(s: &[u8], at: usize, n: usize, scope: BudgetScope, bus: NodeId)
 }
 
 // The policy; then how many candidates, and the candidates.
-pub fn victim(s: &[u8], at: usize) -> usize {
+pub fn victim(out: &mut Output, s: &[u8], at: usize) -> usize {
     let n = word_at(s, after(at, 1)) as usize;
     if n > 64 {
-        return usize::MAX;
+        return NOWHERE;
     }
     let t = candidates_at(s, after(at, 5), n, BudgetScope::Global, NodeId(0));
     match pick_victim(t, policy_of(byte_at(s, at)), 0) {
-        None => text(b"-"),
+        None => text(out, b"-"),
         Some((place, voice)) => {
-            number(place as u64);
-            and_number(voice.0);
+            place.put(out);
+            and_word(out, voice);
         }
     }
-    end_line();
+    end_line(out);
     after(at, 5 + 17 * n)
 }
 
 // The budget, the policy, the scope and the new voice's bus; then how many voices are tracked, and the voices.
-pub fn admission(s: &[u8], at: usize) -> usize {
+pub fn admission(out: &mut Output, s: &[u8], at: usize) -> usize {
     let n = word_at(s, after(at, 11)) as usize;
     if n > 64 {
-        return usize::MAX;
+        return NOWHERE;
     }
     let scope = scope_of(byte_at(s, after(at, 6)));
     let bus = NodeId(word_at(s, after(at, 7)));
     let t = candidates_at(s, after(at, 15), n, scope, bus);
     let budget = budget_of(byte_at(s, at), word_at(s, after(at, 1)) as usize);
     match request_in(budget, policy_of(byte_at(s, after(at, 5))), 0, t) {
-        Admission::Admit => text(b"admit"),
-        Admission::Reject => text(b"reject"),
+        Admission::Admit => text(out, b"admit"),
+        Admission::Reject => text(out, b"reject"),
         Admission::Steal { place: _, voice } => {
-            text(b"steal");
-            and_number(voice.0);
+            text(out, b"steal");
+            and_word(out, voice);
         }
     }
-    end_line();
+    end_line(out);
     after(at, 15 + 17 * n)
 }
 
-// One call: 1 pushes a record, its sample, level and cut mark; any other marks the record of a number.
+// One call, by docs/VECTORS.md, which numbers the sorts: 1 pushes a record, its sample, level and cut mark; any other marks the record of a number.
 fn called(s: &[u8], at: usize, steals: Steals) -> Steals {
     let n = long_at(s, after(at, 1));
     match byte_at(s, at) {
@@ -102,38 +104,29 @@ fn called(s: &[u8], at: usize, steals: Steals) -> Steals {
     }
 }
 
-fn record_line(r: StealRecord) {
-    number(r.sample);
-    match record_level(r) {
-        None => text(b" -"),
-        Some(x) => and_sample(x),
-    }
-    if r.cut {
-        text(b" cut");
-    } else {
-        text(b" faded");
-    }
-    end_line();
+fn record_line(out: &mut Output, r: StealRecord) {
+    r.sample.put(out);
+    and_word(out, record_level(r));
+    text(out, if r.cut { b" cut" } else { b" faded" });
+    end_line(out);
 }
 
-fn steal_line(found: Option<StealRecord>) {
+fn steal_line(out: &mut Output, found: Option<StealRecord>) {
     match found {
-        None => text(b"-\n"),
-        Some(r) => record_line(r),
+        None => text(out, b"-\n"),
+        Some(r) => record_line(out, r),
     }
 }
 
-fn steal_lines(steals: Steals) {
-    text(b"steals");
-    and_number(steals.total);
-    end_line();
+fn steal_lines(out: &mut Output, steals: Steals) {
+    word_line(out, b"steals", steals.total);
     for i in 0..held_steals(steals) {
-        steal_line(steal_at(steals, i));
+        steal_line(out, steal_at(steals, i));
     }
 }
 
 // How many calls, and the calls; then the steals and the newest records.
-pub fn steals(s: &[u8], at: usize) -> usize {
+pub fn steals(out: &mut Output, s: &[u8], at: usize) -> usize {
     let mut steals = no_steals();
     let mut from = after(at, 4);
     for _ in 0..word_at(s, at) {
@@ -143,6 +136,6 @@ pub fn steals(s: &[u8], at: usize) -> usize {
             return from;
         }
     }
-    steal_lines(steals);
+    steal_lines(out, steals);
     from
 }
