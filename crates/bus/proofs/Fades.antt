@@ -124,12 +124,8 @@ pub channel_ahead : {A B C : Type 0} (times : A → B → C) (past : A) (none : 
     → ys ≡ each (length (take k (drop (c * size) out))) (λ i. times (get_or (take j (drop from input)) i past) (get_or (take (len - first) (drop first gains)) i none))
     → ys ≡ each size (faded_of_by times past none input ins gains len position size c)
 channel_ahead times past none input gains out ys ins len position size c first from j k few is-first place ej ek h e =
-    e
-    ∙ ap (λ (n : ℕ). each n (λ i. times (get_or (take j (drop from input)) i past) (get_or (take (len - first) (drop first gains)) i none))) (length_part k (c * size) size out ek h)
-    ∙ each_same size _ (faded_of_by times past none input ins gains len position size c)
-    (λ i l.
-    ap (times (get_or (take j (drop from input)) i past)) (gain_ahead none gains len position first few is-first i)
-    ∙ ap (faded_by times none gains len position i) (part_at j from size input i past ej l ∙ ap (λ (n : ℕ). get_or input (n + i) past) place))
+    channel_is times past none input gains out ys ins len position size c from j k place ej ek h
+    (e ∙ each_same (length (take k (drop (c * size) out))) _ _ (λ i l. ap (times (get_or (take j (drop from input)) i past)) (gain_ahead none gains len position first few is-first i)))
 
 -- ---- what `fade_fits` says
 

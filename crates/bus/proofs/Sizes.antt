@@ -1,22 +1,7 @@
 -- The tests of a block's channels and its length.
-use Rattle.std.proofs.Common.{◌≡◌, ℕ, zero, suc, ◌-◌, min, ◌*◌, ◌%◌, ◌<◌, ◌≤◌, Bool, true, false, T, eqb, sym, refl, ap, ◌∙◌, arith, eqb→eq, eq-eqb, ne_eqb, eqb-true}
-use native.Mathlib.Nat.{mul-mod_right}
+use Rattle.std.proofs.Common.{◌≡◌, ℕ, zero, suc, ◌-◌, min, ◌*◌, ◌%◌, ◌<◌, ◌≤◌, Bool, true, false, T, eqb, refl, arith, eqb→eq, eqb-true}
 use lib.Ieee.Fits.{and_l, and_r}
 use Rattle.bus.specs.Block.{is_channels, holds}
-
--- two tests that agree
-agree : (a b c d : ℕ) → (a ≡ b → c ≡ d) → (c ≡ d → a ≡ b) → eqb a b ≡ eqb c d
-agree a b c d there back = go (eqb c d) refl
-  where
-    go : (t : Bool) → eqb c d ≡ t → eqb a b ≡ t
-    go true e = eq-eqb a b (back (eqb-true c d e))
-    go false e = ne_eqb a b (λ q. let z : ◌≡◌ {A = Bool} true false = sym (eq-eqb c d (there q)) ∙ e in absurd (differ z))
-      where
-        differ : true ≡ false → ⊥
-        differ z = let y : ◌≡◌ {A = ℕ} 0 1 = cc in omega arith
-
-pub product_not : (len n size : ℕ) → (len % n ≡ 0 → ⊥) → eqb len (n * size) ≡ false
-product_not len n size r = ne_eqb len (n * size) (λ q. r (ap (λ (x : ℕ). x % n) q ∙ mul-mod_right n size))
 
 pub channels_are : (n : ℕ) → T (is_channels n) → (0 < n) × (n ≤ 2)
 channels_are n t = go (eqb n 1) refl (eqb n 2) refl

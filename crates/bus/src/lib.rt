@@ -18,11 +18,12 @@ use node::refusal::Refusal;
 pub fn sample_rate(x: f32) -> Result<u32, Refusal>
     ensures { says result ≡ rate_of x }
 {
-    // The first two tests are what cutting off the fraction asks. A NaN passes neither.
+    // The first two tests are what cutting off the fraction asks, for which no `TryFrom` is there. A NaN passes neither.
     if x > -1.0 && x < 18446744073709551616.0 {
         let n = std::num::truncating_f32_to_u64(x);
-        if 1 <= n && n <= 384000 {
+        if (1..=384000).contains(&n) {
             let rate = n as u32;
+            // Floats of the same bits are one value. That `==` says as much of these two would have to be shown, since it is true of 0 and -0 too.
             if f32::to_bits(rate as f32) == f32::to_bits(x) {
                 return Ok(rate);
             }
@@ -38,6 +39,7 @@ pub fn fade_length(rate: u32) -> u32
     len.max(1)
 }
 
+// The low 32 bits of `node` are a remainder: `as` takes no number that does not fit.
 pub fn derive_noise_seed(sequence: u32, node: usize) -> u32
     ensures { result ≡ seed_of sequence node }
 {
@@ -51,14 +53,11 @@ fn is_channels(n: usize) -> bool
     n == 1 || n == 2
 }
 
-// Whether len is n × size. The product, which may not fit, is not worked out.
+// Whether len is n × size, which may not fit.
 fn is_product(len: usize, n: usize, size: usize) -> bool
     ensures { result ≡ (len == n * size) }
 {
-    if n == 0 {
-        return len == 0;
-    }
-    len % n == 0 && len / n == size
+    n.checked_mul(size) == Some(len)
 }
 
 // Whether a lent block of len samples is channels × block.
@@ -68,7 +67,8 @@ fn holds_block(len: usize, channels: usize, size: usize) -> bool
     is_channels(channels) && is_product(len, channels, size)
 }
 
-// Whether a fade's blocks and gains are of the sizes asked for.
+// Whether a fade's blocks and gains are of the sizes asked for. What is lent, its channel counts and its sizes are a parameter each, from the call in C
+// down: a signature shows what a call may touch.
 pub fn fade_fits(
     input: usize,
     ins: usize,
@@ -83,6 +83,8 @@ pub fn fade_fits(
     holds_block(input, ins, size) && holds_block(out, outs, size) && len <= gains
 }
 
+// The form in floats of `mix::fade`: its clauses are the scope's, which name no sort of numbers. So it is with `bus_sum`.
+//
 // A fade's output for one block of size samples: ins and outs are the channel counts of input and output, len is the fade's length L, and position is what
 // its earlier blocks have passed. The gains are those of samples 0 to L - 1.
 pub fn fade_output(
@@ -123,10 +125,8 @@ pub fn sum_fits(inputs: usize, counts: &[usize], size: usize, out: usize, outs: 
     if counts.len() > 64 {
         return false;
     }
-    match total_channels(counts) {
-        Some(n) => is_product(inputs, n, size) && holds_block(out, outs, size),
-        None => false,
-    }
+    total_channels(counts).is_some_and(|n| is_product(inputs, n, size)
+        && holds_block(out, outs, size))
 }
 
 // The sum of a bus for one block of size samples. The inputs' blocks stand one after the other in inputs, and counts has the channel count of each; outs is

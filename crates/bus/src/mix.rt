@@ -108,7 +108,8 @@ impl Numbers for Floats {
     }
 }
 
-// The three loops over two slices ask that both have as many samples. `out.iter_mut().zip(source)` would not, but of what a loop over it wrote nothing is known.
+// The three loops over two slices ask that both have as many samples, and so does what calls them. `out.iter_mut().zip(source)` would not, but after a
+// loop over it nothing is known of `out` (tried: `returns` stays open).
 
 // Samples under a gain each.
 fn fade_held<N: Numbers>(source: &[N::Sample], gains: &[N::Gain], out: &mut [N::Sample])
@@ -130,7 +131,8 @@ fn fade_out<N: Numbers>(source: &[N::Sample], out: &mut [N::Sample])
     }
 }
 
-// The samples that the gains reach, and those after them: two loops, so that none asks at each sample whether there is a gain.
+// The samples that the gains reach, and those after them: two loops, so that none asks at each sample whether there is a gain, which took too long
+// (docs/CHANGES.md, "Mixing in whole numbers").
 fn fade_channel<N: Numbers>(source: &[N::Sample], gains: &[N::Gain], out: &mut [N::Sample])
     requires { (length source.now ≡ length out.old) × Multiply N.Multiplies N.past N.no_gain source.now gains.now }
     ensures { out.new ≡ each (length out.old) (λ i. N.times (slice_index_or source.now i N.past) (slice_index_or gains.now i N.no_gain)) }
@@ -184,7 +186,7 @@ fn add_channel<N: Numbers>(source: &[N::Sample], out: &mut [N::Sample])
     }
 }
 
-// A loop, since `fill` asks for a clone that cannot fail, and of a type parameter `Copy` does not say so.
+// A loop, since `fill` asks for a clone that cannot fail, and of a type parameter `Copy` does not say so (tried: its `requires` stays open).
 fn clear<N: Numbers>(out: &mut [N::Sample])
     ensures { out.new ≡ each (length out.old) (λ i. N.silence) }
 {
@@ -193,7 +195,7 @@ fn clear<N: Numbers>(out: &mut [N::Sample])
     }
 }
 
-// Channel c of the sum: silence, and then input by input its channel c modulo its count.
+// Channel c of the sum: silence, and then input by input its channel c modulo its count. An input's block is found by where those before it end.
 fn sum_channel<N: Numbers>(
     inputs: &[N::Sample],
     counts: &[usize],

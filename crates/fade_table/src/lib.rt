@@ -34,7 +34,7 @@ const ENTRIES: [u32; 241] = [
     35191, 25859, 17961, 11496, 6467, 2875, 719, 0,
 ];
 
-// Entry k; past the table's end, 0.
+// Entry k; past the table's end, 0, and no `Option`: a fade is silent from its end on, which is what a gain of 0 says.
 pub fn entry(k: usize) -> u32
     ensures { result ≡ entry_of entries k }
 {
@@ -59,9 +59,5 @@ pub fn gain(k: usize) -> f32
 pub fn table_gains() -> [f32; 241]
     ensures { result ≡ gains }
 {
-    let mut all = [0.0f32; 241];
-    for (k, slot) in all.iter_mut().enumerate() {
-        *slot = gain(k);
-    }
-    all
+    std::array::from_fn(gain)
 }

@@ -8,7 +8,6 @@ mod Squares
 mod Turns
 mod Rooting
 mod Signs
-mod Counting
 pub mod NearestRoot
 pub mod NearestEven
 mod Examples

@@ -33,7 +33,7 @@ narrow_of (inf t) s a c C h = absurd h
 narrow_of (fin t m e) s a c C h = sym (ap (λ (b : Bool). round binary32 b (m * up e) (down e)) h.0 ∙ round_same binary32 s (m * up e) (down e) a c (down_pos e) C h.1)
 
 -- ---- the ways of `narrow_bits`, for either sign
-abbrev Right : ℕ → ℕ → Type 0
+abbrev pub Right : ℕ → ℕ → Type 0
 Right a r = (s : Bool) → of_bits binary32 (cond s (2 ^ 31) 0 + r) ≡ narrow (of_bits binary64 (signed s a))
 
 infinite : (s : Bool) → of_bits binary32 (cond s (2 ^ 31) 0 + 0x7f80_0000) ≡ inf s

@@ -1,15 +1,18 @@
 // The level of a block of samples: the root of the mean of their squares, each step rounded as IEEE 754 says.
-// Sums, products and quotients are the machine's f64 steps. The root and the narrowing to f32 are worked out here, from bits over whole numbers.
+// Sums, products and quotients are the machine's f64 steps. The scope asks that the root and the narrowing to f32 are worked out here, from bits over
+// whole numbers, so that they are not the library's `f64::sqrt` and `nearest_f64_to_f32`.
 #![tactic(auto)]
 
 ghost use Rattle.std.specs.Prelude.{◌≡◌, Bool, cond, ℕ, ◌+◌, ◌*◌, ◌^◌, ◌<◌, ◌≤◌, pos};
 ghost use Rattle.std.specs.Float.{binary32, binary64};
-ghost use Rattle.std.specs.Float.Ieee.{of_bits, of_int};
+ghost use Rattle.std.specs.Float.Ieee.{of_bits};
 ghost use Rattle.std.specs.Float.Ieee.Nearest.{closest};
 ghost use Rattle.level.specs.Root as spec;
 ghost use Rattle.level.specs.Narrow as thin;
 ghost use Rattle.level.specs.Level.{plus_zero, squares, level_of};
 ghost use Rattle.level.specs.Digits.{Rooted};
+
+use std::num::nearest_usize_to_f64;
 
 // The weight of the exponent's field of an f64, the weight of its sign, and the bits of its infinity.
 const FIELD64: u64 = 0x10_0000_0000_0000;
@@ -25,7 +28,7 @@ const SIGN32: u64 = 0x8000_0000;
 
 const INFINITY32: u64 = 0x7f80_0000;
 
-// m / u to the nearest whole number, at a tie the even one.
+// m / u to the nearest whole number, at a tie the even one. The library has no such quotient.
 fn nearest(m: u64, u: u64) -> u64
     requires { (m < 2 ^ 63) × (0 < u) }
     ensures { result ≡ closest m u }
@@ -59,11 +62,7 @@ fn narrow_bits(a: u64) -> u64
     if x < 897 {
         return nearest(m, 1 << (926 - x));
     }
-    let b = (x - 897) * FIELD32 + nearest(m, 0x2000_0000);
-    if b < INFINITY32 {
-        return b;
-    }
-    INFINITY32
+    ((x - 897) * FIELD32 + nearest(m, 0x2000_0000)).min(INFINITY32)
 }
 
 // The nearest f32 to an f64, at a tie the even one.
@@ -162,31 +161,12 @@ pub fn sqrt(x: f64) -> f64
     f64::NAN
 }
 
-// The cast is defined for numbers alone: a NaN is answered before it.
-fn widen(x: f32) -> f64
-    ensures { result ≡ x }
-{
-    if x.is_nan() {
-        return f64::NAN;
-    }
-    x as f64
-}
-
-// A count as the nearest f64. A cast takes whole numbers up to 2 ^ 53; of the two halves each is exact, and their sum is rounded once.
-fn count(n: usize) -> f64
-    ensures { result ≡ of_int binary64 (pos n) }
-{
-    let high = n / 0x1_0000_0000;
-    let low = n % 0x1_0000_0000;
-    (high as f64) * 4294967296.0 + (low as f64)
-}
-
 fn sum_of_squares(samples: &[f32]) -> f64
     ensures { result ≡ squares plus_zero samples.now }
 {
     let mut sum: f64 = 0.0;
     for sample in samples {
-        let x = widen(*sample);
+        let x = f64::from(*sample);
         sum += x * x;
     }
     sum
@@ -196,5 +176,5 @@ fn sum_of_squares(samples: &[f32]) -> f64
 pub fn level(samples: &[f32]) -> f32
     ensures { result ≡ level_of samples.now }
 {
-    narrow(sqrt(sum_of_squares(samples) / count(samples.len())))
+    narrow(sqrt(sum_of_squares(samples) / nearest_usize_to_f64(samples.len())))
 }

@@ -5,3 +5,4 @@ pub mod Member
 pub mod Rising
 pub mod Table
 pub mod Written
+pub mod FromFn

@@ -4,8 +4,10 @@ use native.Mathlib.Omega.{arith}
 use native.Mathlib.Numerals.{add-one}
 use mathlib.Core.Path.{◌≡◌, refl, sym, ap, ◌∙◌}
 use mathlib.Core.List.{List, [], ◌∷◌, ◌++◌, map}
-use mathlib.Core.Bool.{Bool, true, false}
-use Rattle.std.specs.Prelude.{None, Some, find, filter}
+use mathlib.Core.Bool.{Bool, true, false, ◌||◌, cond}
+use Rattle.std.specs.Prelude.{None, Some, find, filter, option_map}
+use Rattle.std.specs.List.{list_any}
+use Rattle.std.specs.Option.{unwrap_or}
 use lib.ListN.{length, take, drop, get_or, set, replicate, drop_of_length-le}
 use lib.Seq.{take-suc, drop-cons, get_or-take, take-suc-set, length-take-le, set_at, append_snoc}
 use Rattle.lists.specs.Table.{lookup}
@@ -68,6 +70,25 @@ module _ {A R : Type 0} (d : A) (t : A → Bool) (f : A → R) (r : R) where
 
   pub lookup_next : (l : List A) (i : ℕ) → i < length l → t (get_or l i d) ≡ false → lookup t f r (drop (i + 1) l) ≡ lookup t f r (drop i l)
   lookup_next l i h p = sym (ap (lookup t f r) (left_cons d l i h) ∙ rw p)
+
+-- A lookup is a search: what `find` gives, read, or r; and whether a row passes is what the library's test of a list says.
+module _ {A R : Type 0} (t : A → Bool) (f : A → R) (r : R) where
+  pub lookup_find : (l : List A) → unwrap_or (option_map f (find t l)) r ≡ lookup t f r l
+  lookup_find [] = refl
+  lookup_find (x ∷ l) = go (t x) (lookup_find l)
+    where
+      go : (b : Bool) → unwrap_or (option_map f (find t l)) r ≡ lookup t f r l → unwrap_or (option_map f (cond b (Some x) (find t l))) r ≡ cond b (f x) (lookup t f r l)
+      go true e = refl
+      go false e = e
+
+module _ {A : Type 0} (t : A → Bool) where
+  pub lookup_any : (l : List A) → list_any t l ≡ lookup t (λ _. true) false l
+  lookup_any [] = refl
+  lookup_any (x ∷ l) = go (t x) (lookup_any l)
+    where
+      go : (b : Bool) → list_any t l ≡ lookup t (λ _. true) false l → (b || list_any t l) ≡ cond b true (lookup t (λ _. true) false l)
+      go true e = refl
+      go false e = e
 
 -- a lookup in a table that is read row by row
 pub lookup_map : {A B R : Type 0} (g : A → B) (t : B → Bool) (f : B → R) (r : R) (l : List A) → lookup t f r (map g l) ≡ lookup (λ x. t (g x)) (λ x. f (g x)) r l

@@ -29,10 +29,12 @@ impl<T: Copy, const N: usize> Table<T, N> {
         &self.rows[..self.count.min(N)]
     }
 
-    // Stores a row at the count, and counts it; past the capacity nothing is stored.
+    // Stores a row at the count, and counts it; past the capacity nothing is stored. No `Result`: the count goes on, and a definition with too
+    // many rows is refused by it.
     pub fn push(&mut self, x: T)
         ensures stored { self.new.rows ≡ set self.old.rows self.old.count x }
         ensures counted { self.old.count < 0xffff_ffff_ffff_ffff → self.new.count ≡ self.old.count + 1 }
+        ensures full { self.old.count ≡ 0xffff_ffff_ffff_ffff → self.new.count ≡ 0xffff_ffff_ffff_ffff }
     {
         if self.count < N {
             self.rows[self.count] = x;

@@ -1,22 +1,31 @@
 ghost use Rattle.std.specs.Prelude.{◌≡◌};
-ghost use Rattle.node.specs.Name.{name_length, named, name_of, same_name};
+ghost use Rattle.node.specs.Name.{name_length, named, name_of, same_name, text};
 
 // A byte string of 1 to 16 bytes: the first `len` of `bytes`. With any other `len` it is a name that equals none, itself
-// included. An array and a count, since the store has no heap.
+// included. An array and a count, since the store has no heap; and no `Table` of lists: its count is a byte, as lent words and books hold it.
 #[derive(Clone, Copy)]
 pub struct Name {
     pub bytes: [u8; 16],
     pub len: u8,
 }
 
-// Whether a name may have `n` bytes. Two comparisons: `(1..=16).contains(&n)` says no more.
+impl Name {
+    // The bytes of the name: no more than there are, whatever `len` says.
+    pub fn text(&self) -> &[u8]
+        ensures { result.now ≡ text self.now }
+    {
+        &self.bytes[..usize::from(self.len).min(16)]
+    }
+}
+
+// Whether a name may have `n` bytes.
 pub fn name_length(n: usize) -> bool
     ensures { result ≡ name_length n }
 {
-    1 <= n && n <= 16
+    (1..=16).contains(&n)
 }
 
-// Whether `n` is a name of 1 to 16 bytes.
+// Whether `n` is a name of 1 to 16 bytes. `name_length` is asked of a text too, which is no name yet.
 pub fn is_named(n: Name) -> bool
     ensures { result ≡ named n }
 {
@@ -48,5 +57,5 @@ pub fn same_name(a: Name, b: Name) -> bool
     if !is_named(a) || !is_named(b) {
         return false;
     }
-    a.bytes[..usize::from(a.len)] == b.bytes[..usize::from(b.len)]
+    a.text() == b.text()
 }

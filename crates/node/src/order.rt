@@ -33,7 +33,8 @@ pub enum LastOrder {
     Glide(Glide),
 }
 
-// What an event does to its voice. The name of its parameter stands beside it, in the event.
+// What an event does to its voice. The name of its parameter stands beside it, in the event. It has two cases of `LastOrder`, and does not hold
+// one: an event with no order would be a fifth case, which nobody schedules.
 #[derive(Clone, Copy)]
 pub enum EventAction {
     Value(f32),

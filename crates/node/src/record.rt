@@ -10,7 +10,8 @@ pub struct VoiceId(pub u64);
 
 // A live node, as scope lists it: kind name, ports, required ports (bit p for port p), whether it takes values or
 // glides, done flag, level of the last reported block, last order; with its id and the voice that owns it. Voice ids
-// start at 1: owner 0 is the host. A bus counts here the noise sequence of its voices: 0 in a new node.
+// start at 1: owner 0 is the host, and no `Option`, since the words of a node hold it so. A bus counts here the noise sequence of its voices: 0
+// in a new node.
 #[derive(Clone, Copy)]
 pub struct Node {
     pub id: NodeId,

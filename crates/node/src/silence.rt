@@ -1,5 +1,5 @@
 ghost use Rattle.std.specs.Prelude.{◌≡◌, map};
-ghost use Rattle.node.specs.Name.{name_of};
+ghost use Rattle.node.specs.Name.{name_of, same_name};
 ghost use Rattle.node.specs.Silence.{silence_of, passes_through, is_among, rule_in};
 
 use crate::name::{Name, name_of, same_name};
@@ -15,7 +15,7 @@ pub enum SilenceRule {
     FirstPort,
     // every port is connected, there is at least one, and all sources are silent
     EveryPort,
-    // the source of the port of that name is silent
+    // the source of the port of that name is silent; a case for each of the three, since a rule that holds a name would be compared by its bytes
     LevelPort,
     AmpPort,
     InPort,
@@ -63,19 +63,21 @@ const RULES: [(&str, SilenceRule); 7] = [
     ("Neg", SilenceRule::InPort),
 ];
 
-// Whether `kind` is one of `names`. By a for: of `any` over a slice of texts the clause did not close. So is the search below.
+// Whether `kind` is called `name`.
+fn is_called(name: &str, kind: Name) -> bool
+    ensures { result ≡ same_name kind (name_of name.now) }
+{
+    same_name(kind, name_of(name.as_bytes()))
+}
+
+// Whether `kind` is one of `names`.
 fn is_among(names: &[&str], kind: Name) -> bool
     ensures { result ≡ is_among (map (λ name. name_of name.now) names.now) kind }
 {
-    for name in names {
-        if same_name(kind, name_of(name.as_bytes())) {
-            return true;
-        }
-    }
-    false
+    names.iter().any(|name| is_called(name, kind))
 }
 
-// Whether `kind` is one of the listed names. The scope asks for this test by its name; the walk above is proved of any list.
+// Whether `kind` is one of the listed names. The scope asks for this test by its name; the search above is proved of any list.
 pub fn passes_through(kind: Name) -> bool
     ensures { result ≡ passes_through kind }
 {
@@ -86,12 +88,9 @@ pub fn passes_through(kind: Name) -> bool
 fn rule_in(rows: &[(&str, SilenceRule)], kind: Name) -> SilenceRule
     ensures { result ≡ rule_in (map (λ r. record { name = name_of r.0.now; rule = r.1 }) rows.now) kind }
 {
-    for (name, rule) in rows {
-        if same_name(kind, name_of(name.as_bytes())) {
-            return *rule;
-        }
-    }
-    SilenceRule::Own
+    rows.iter()
+        .find(|r| is_called(r.0, kind))
+        .map_or(SilenceRule::Own, |r| r.1)
 }
 
 // The silence rule of a kind.

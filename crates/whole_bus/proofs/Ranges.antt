@@ -6,26 +6,24 @@
 use Prim.Native.Nat.{ℕ, zero, suc, ◌+◌, ◌-◌, ◌/◌, ◌%◌, ◌^◌, ◌≤◌, ◌<◌}
 use native.Mathlib.Numerals.{add-one}
 use native.Mathlib.Omega.{arith}
-use mathlib.Core.Path.{◌≡◌, refl, sym, ap, ◌∙◌, subst}
+use mathlib.Core.Path.{◌≡◌, refl, sym, ap, ◌∙◌}
 use mathlib.Core.Bool.{Bool, true, false, ◌&&◌}
 use mathlib.Core.List.{List, [], ◌∷◌}
 use Rattle.std.specs.List.{list_all}
 use lib.Bits.{bit_or, or_lt, or_add_and, and_le_l, and_le_r}
 use lib.Dec.{T, leb, ltb}
-use lib.IntN.{ℤ, pos, negsuc, nat_abs, ◌+ℤ◌}
+use lib.IntN.{ℤ, pos, negsuc}
 use lib.Ieee.Fits.{and_l, and_r, and_i}
 use lib.ListN.{length, get_or, take, drop, drop_of_length-le}
 use lib.Seq.{drop-cons}
-use lib.Signed.{non_neg, mag}
+use lib.Signed.{mag}
 use Prim.Native.Nat.{zero-le}
 use borrow.Author.Tests.{lt-ltb, le-ltb, leb-true, leb-false, ltb-true, ltb-false}
-use mir.Syntax.{w32, w64}
-use mir.Val.{Fits, SFits, to_z, of_z}
-use mir.ValLaws.{to_z-of_z}
+use mir.Syntax.{w32}
+use mir.Val.{SFits, of_z}
 use Rattle.whole_bus.specs.Sample.{is_sample, is_gain, full}
 use Rattle.whole_bus.specs.Block.{every}
 use Rattle.whole_bus.specs.Raised.{above_lowest}
-use Rattle.whole_bus.proofs.Whole.{mag_is, raised, raised_is}
 
 -- two tests that agree
 agree : (a b c d : ℕ) → (c ≤ d → a < b) → (d < c → b ≤ a) → ltb a b ≡ leb c d
@@ -44,58 +42,20 @@ and_true false = refl
 pub full_is : (g : ℕ) → ltb (g - g / 16777216) 16777216 ≡ is_gain g
 full_is g = agree (g - g / 16777216) 16777216 g full (λ h. omega arith) (λ h. omega arith)
 
--- ---- a sample: what `above_lowest` reads back, and gives
-
--- x as 64 bits have it, and 2^31 more
-abbrev raised_read : ℤ → ℤ
-raised_read x = to_z w64 (of_z w64 (to_z w64 (of_z w64 (to_z w32 (of_z w32 x))) +ℤ pos 2147483648))
+-- ---- a sample
 
 module _ (x : ℤ) (f : SFits w32 x) where
   within : mag x < 2 ^ 31
   within = f.sfits
 
-  pub widened : SFits w64 (to_z w32 (of_z w32 x))
-  widened = subst (SFits w64) (sym (to_z-of_z w32 x f)) (record { sfits = omega (arith, within) })
-
-  read_x : to_z w64 (of_z w64 (to_z w32 (of_z w32 x))) ≡ x
-  read_x = to_z-of_z w64 (to_z w32 (of_z w32 x)) widened ∙ to_z-of_z w32 x f
-
-  small : raised 2147483648 x < 2 ^ 32
-  small = below x within
-    where
-      below : (x : ℤ) → mag x < 2 ^ 31 → raised 2147483648 x < 2 ^ 32
-      below (pos a) h = omega arith
-      below (negsuc a) h = omega arith
-
-  sum_is : to_z w64 (of_z w64 (to_z w32 (of_z w32 x))) +ℤ pos 2147483648 ≡ pos (raised 2147483648 x)
-  sum_is = ap (λ (z : ℤ). z +ℤ pos 2147483648) read_x ∙ raised_is 2147483648 x (mag_is x (2 ^ 31) within).1
-
-  pub sum_fits : SFits w64 (to_z w64 (of_z w64 (to_z w32 (of_z w32 x))) +ℤ pos 2147483648)
-  sum_fits = subst (SFits w64) (sym sum_is) (record { sfits = omega (arith, small) })
-
-  read_raised : raised_read x ≡ pos (raised 2147483648 x)
-  read_raised = to_z-of_z w64 _ sum_fits ∙ sum_is
-
-  pub unsigned : T (non_neg (raised_read x)) × Fits w32 (nat_abs (raised_read x))
-  unsigned = subst (λ (z : ℤ). T (non_neg z) × Fits w32 (nat_abs z)) (sym read_raised) (tt, record { fits = small })
-
-  above_is : (r : ℕ) → r < 2 ^ 32 → (r + 2139095040) % 2 ^ 32 ≡ nat_abs (raised_read x) → r ≡ above_lowest x
+  -- its 32 bits, read as a number without a sign, and 2^23 more
+  pub above_is : (of_z w32 x + 8388608) % 4294967296 ≡ above_lowest x
   unfolding above_lowest
-  above_is r h e = by_sign x within (e ∙ ap nat_abs read_raised)
+  above_is = by_sign x within
     where
-      by_sign : (x : ℤ) → mag x < 2 ^ 31 → (r + 2139095040) % 2 ^ 32 ≡ raised 2147483648 x → r ≡ above_lowest x
-      by_sign (pos a) w e = omega arith
-      by_sign (negsuc a) w e = omega arith
-
-  -- y is x as the machine reads it, and 2139095040 is taken off by its complement
-  pub above_wraps : (y : ℤ) → y ≡ to_z w32 (of_z w32 x)
-      → (nat_abs (to_z w64 (of_z w64 (to_z w64 (of_z w64 y) +ℤ pos 2147483648))) + 2155872256) % 4294967296 ≡ above_lowest x
-  above_wraps y e =
-      let m = nat_abs (raised_read x) in
-      let small : m < 2 ^ 32 = unsigned.1.fits in
-      let r = (m + 2155872256) % 4294967296 in
-      ap (λ (z : ℤ). (nat_abs (to_z w64 (of_z w64 (to_z w64 (of_z w64 z) +ℤ pos 2147483648))) + 2155872256) % 4294967296) e
-      ∙ above_is r (omega arith) (omega arith)
+      by_sign : (x : ℤ) → mag x < 2 ^ 31 → (of_z w32 x + 8388608) % 4294967296 ≡ above_lowest x
+      by_sign (pos a) w = refl
+      by_sign (negsuc a) w = let e : 4294967296 - suc a + 8388608 ≡ 4303355904 - suc a = omega arith in ap (λ (n : ℕ). n % 4294967296) e
 
   -- it is below 2^24 for a sample, and for no other number
   pub above_tells : ltb (above_lowest x) 16777216 ≡ is_sample x

@@ -74,7 +74,7 @@ fn above_lowest(x: i32) -> u32
     ensures value { result ≡ above_lowest x }
     ensures tells { nat_lt result 16777216 ≡ is_sample x }
 {
-    ((i64::from(x) + 2147483648) as u32).wrapping_sub(2139095040)
+    x.cast_unsigned().wrapping_add(8388608)
 }
 
 // Below 2^24 for a gain, and for no other number: the full gain, 2^24, becomes one less.
@@ -84,8 +84,8 @@ fn below_full(g: u32) -> u32
     g - g / 16777216
 }
 
-// Whether `low` gives less than 2^24 for each of the numbers. The bits of what it gives are collected, and one test at the end says whether any was out of range: no branch
-// stands in the loop.
+// Whether `low` gives less than 2^24 for each of the numbers. No `all`: a loop that leaves at the first bad number took three to five times as long.
+// The bits of what it gives are collected, and one test at the end says whether any was out of range: no branch stands in the loop.
 fn all_low<A: Copy, F: Fn(A) -> u32>(xs: &[A], low: F) -> bool
     requires { F.IsAlwaysCallable low }
     ensures { (test : A → Bool) → ((x : A) (r : ℕ) → F.post low x r → nat_lt r 16777216 ≡ test x) → result ≡ every test xs.now }
@@ -97,6 +97,8 @@ fn all_low<A: Copy, F: Fn(A) -> u32>(xs: &[A], low: F) -> bool
     bits < 16777216
 }
 
+// The form in whole numbers of `mix::fade`: its clauses are the scope's, which name no sort of numbers. `bus_sum` tests and adds in one pass where it can.
+//
 // A fade's output for one block of size samples: ins and outs are the channel counts of input and output, len is the fade's length L, and position is what
 // its earlier blocks have passed. The gains are those of samples 0 to L - 1, from 0 to 2^24.
 pub fn fade_output(
@@ -129,7 +131,8 @@ fn clip_all(out: &mut [i32])
     }
 }
 
-// The loops over two slices take both by one index: of what a loop over `zip` wrote nothing is known.
+// The loops over two slices take both by one index, and so ask that both have as many samples: of what a loop over `zip` wrote nothing is known
+// (tried in `add_channel` of crate bus).
 
 // A block is added to sums of raised samples, and the bits of its samples are collected. One pass does both, so that each sample is read once. The sums wrap, and
 // mean something only where all are samples.
@@ -146,7 +149,8 @@ fn add_block(a: &[i32], sums: &mut [u32]) -> u32
     bits
 }
 
-// Two blocks in one pass, so that each sum is read and written half as often.
+// Two blocks in one pass, so that each sum is read and written half as often. With one block in each pass the sum took longer than the one in floats,
+// which its goal forbids (docs/CHANGES.md).
 fn add_two(a: &[i32], b: &[i32], sums: &mut [u32]) -> u32
     requires { (length a.now ≡ length sums.old) × (length b.now ≡ length sums.old) }
     ensures { AddedTwo a.now b.now sums.old sums.new result }
@@ -163,8 +167,8 @@ fn add_two(a: &[i32], b: &[i32], sums: &mut [u32]) -> u32
     first | second
 }
 
-// n blocks, which stand one after the other. sums are 0 before. Two blocks go at a time, and the last alone; a block may have no samples, so that the inputs are
-// not cut by `chunks_exact`.
+// n blocks, which stand one after the other, here and in the two functions that call this: a number and not a length, since a block may have no
+// samples. sums are 0 before. Two blocks go at a time, and the last alone; the inputs are not cut by `chunks_exact`, which takes no blocks of no samples.
 fn add_ports(inputs: &[i32], n: usize, sums: &mut [u32]) -> u32
     requires { (length inputs.now ≡ n * length sums.old) × ((j : ℕ) → slice_index sums.old j ≡ 0) }
     ensures { AddedAll inputs.now n sums.old sums.new result }

@@ -6,6 +6,7 @@ pub mod Floats
 pub mod Bytes
 pub mod Place
 pub mod Within
-pub mod Counting
 pub mod Copying
+pub mod FirstRow
 mod Glides
+pub mod Gaps

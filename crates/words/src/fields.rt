@@ -1,4 +1,8 @@
-// The fields of a record in words, and back. Word by word and byte by byte, since the list is the layout.
+// The fields of a record in words, and back. Word by word and byte by byte, since the list is the layout. Each way is a function of its own,
+// also where it is one step: its clause is what the records' clauses cite. What reads several words has a parameter for each, as its definition has:
+// of an array the clause would name each word by its place.
+//
+// The words of lent memory hold numbers, so that each kind has one. The numbers of a kind stand in two functions, one for each way.
 ghost use Rattle.std.specs.Prelude.{◌≡◌, ◌/◌, ◌%◌, [], ◌∷◌, ◌++◌, get_or};
 ghost use Rattle.words.specs.Fields.{long_from, is_set, float_from, four, name_from, shape_from, space_from, glide_from, last_from, Glides, long_at, name_at, last_at};
 ghost use Rattle.words.specs.Rows.{row_at};
@@ -7,6 +11,8 @@ use crate::table::word_at;
 use node::name::Name;
 use node::order::{Glide, GlideShape, GlideSpace, LastOrder};
 
+// `as` takes no number that does not fit, so that the low part of one is a remainder, here and in `low_byte`. A number of 64 bits is taken apart and put
+// together by hand: the library does it by eight bytes, and not by two words.
 pub fn low_word(x: u64) -> u32
     ensures { result ≡ x % 4294967296 }
 {
@@ -37,7 +43,7 @@ pub fn is_set(x: u32) -> bool
     x != 0
 }
 
-// A NaN has one pattern here, whichever it had.
+// A NaN has one pattern here, whichever it had: the bits of a NaN cannot be read.
 pub fn float_word(x: f32) -> u32
     ensures { float_from result ≡ x }
 {
@@ -85,9 +91,7 @@ pub fn low_byte(x: u32) -> u8
 pub fn eight_bytes(a: u32, b: u32) -> [u8; 8]
     ensures { result ≡ four a ++ four b }
 {
-    let x = a.to_le_bytes();
-    let y = b.to_le_bytes();
-    [x[0], x[1], x[2], x[3], y[0], y[1], y[2], y[3]]
+    long_from(a, b).to_le_bytes()
 }
 
 pub fn name_from(a: u32, b: u32, c: u32, d: u32, len: u32) -> Name
@@ -193,7 +197,8 @@ pub fn last_from(which: u32, x: u32, seconds: u32, shape: u32, e: u32, space: u3
     }
 }
 
-// The fields of row `i`, of rows of `w` words, from word `k` on; past the end every word is 0.
+// The fields of row `i`, of rows of `w` words, from word `k` on; past the end every word is 0. A function for each sort of field: over a trait there
+// would be an impl with a law for each, and a call would be no shorter.
 pub fn long_at(t: &[u32], w: usize, i: usize, k: u16) -> u64
     ensures { result ≡ long_at (row_at w i t.now) k }
 {

@@ -1,10 +1,13 @@
-ghost use Rattle.std.specs.Prelude.{◌≡◌, ◌+◌, ◌≤◌, min, length, get_or, take, drop};
+ghost use Rattle.std.specs.Prelude.{◌≡◌, ℕ, List, Bool, true, ◌+◌, ◌≤◌, min, length, get_or, take, drop, filter};
+ghost use Rattle.std.specs.List.{list_all};
 ghost use Rattle.std.proofs.lemmas.List.Edits.{sets};
-ghost use Rattle.words.specs.Rows.{row_at, row_put, word_put, fields_put, row_moved, opened};
+ghost use Rattle.words.specs.Rows.{cuts, row_at, row_put, word_put, fields_put, row_moved, opened};
+ghost use Rattle.words.specs.Place.{Holds, Tells};
 
-// Each function is given a slice and a width: one serves tables of every width.
+// Each function is given a slice and a width, so that one serves tables of every width. They are no struct with methods: the tables are lent, and
+// a signature shows what a call may touch. A row's place is tested in each: its parts are what the index below it needs.
 
-// The word at `i`, or 0 past the end.
+// The word at `i`, or 0 past the end, and no option: what no row holds reads as 0, here and in a row.
 pub fn word(t: &[u32], i: usize) -> u32
     ensures { result ≡ get_or t.now i 0 }
 {
@@ -41,7 +44,7 @@ pub fn put_words(t: &mut [u32], at: usize, ws: &[u32])
     }
 }
 
-// Row `i` has the words `ws`, if there is room for it and they are as many as a row has.
+// Row `i` has the words `ws`, if there is room for it and they are as many as a row has; `put_fields` from word 0 on would take fewer too.
 pub fn put_row(t: &mut [u32], w: usize, i: usize, ws: &[u32])
     ensures { t.new ≡ row_put w i ws.now t.old }
 {
@@ -59,14 +62,37 @@ pub fn put_fields(t: &mut [u32], w: usize, i: usize, k: usize, ws: &[u32])
     }
 }
 
-// Row `to` of rows of `w` words is what row `from` is, if the words have room for both. The loops that close gaps by it are written where they are: one
-// over a test would want a contract for the test, and each loop is three lines.
+// Row `to` of rows of `w` words is what row `from` is, if the words have room for both.
 pub fn move_row(t: &mut [u32], w: usize, from: usize, to: usize)
     ensures { t.new ≡ row_moved w from to t.old }
 {
     if 0 < w && from < t.len() / w && to < t.len() / w && from != to {
         t.copy_within(from * w..from * w + w, to * w);
     }
+}
+
+// Of the first `count` rows of `w` words those stay for which `stays` answers true, in one pass that closes the gaps: how many are left. The first
+// `from` rows stay unasked, so its clause speaks of tests which they pass. By the rows' numbers: a row is so many words of a lent table, and there is
+// no slice of rows. `stays` is given the words and a number.
+pub fn close_gaps<F: Fn(&[u32], usize) -> bool>(
+    t: &mut [u32],
+    w: usize,
+    from: usize,
+    count: usize,
+    stays: F,
+) -> usize
+    requires { F.IsAlwaysCallable stays }
+    ensures { (q : List ℕ → Bool) → Tells w (F.post stays) q → list_all q (take from (take count (cuts w t.old))) ≡ true → Holds (cuts w t.new) result (filter q (take count (cuts w t.old))) }
+{
+    let n = count.min(t.len().checked_div(w).unwrap_or(0));
+    let mut to = from.min(n);
+    for i in to..n {
+        if stays(t, i) {
+            move_row(t, w, i, to);
+            to += 1;
+        }
+    }
+    to
 }
 
 // Row `p` of the first `n` rows of `w` words and those after it move up by one, if there is room for one more.

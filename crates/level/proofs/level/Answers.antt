@@ -17,5 +17,5 @@ steps s sum count root r a b c d =
 pub returns : goal.returns
 returns c =
     let s = c.args.samples.now in
-    steps s c.sum_of_squares.result c.count.result c.sqrt.result c.narrow.result
-    c.sum_of_squares.ensures c.count.ensures c.sqrt.ensures c.narrow.ensures
+    steps s c.sum_of_squares.result c.nearest_usize_to_f64.result c.sqrt.result c.narrow.result
+    c.sum_of_squares.ensures c.nearest_usize_to_f64.ensures c.sqrt.ensures c.narrow.ensures

@@ -31,7 +31,7 @@ pub loop-sample-preserved : goal.loop-sample-preserved
 loop-sample-preserved c =
     let l = c.loop-sample in
     let s = c.args.samples.now in
-    more s l.sum c.widen-x.result (squares plus_zero s) l.sample-index (omega arith) c.widen-x.ensures l.invariant
+    more s l.sum c.from-x.result (squares plus_zero s) l.sample-index (omega arith) c.from-x.ensures l.invariant
 
 pub returns : goal.returns
 returns c =

@@ -1,19 +1,15 @@
-use Rattle.std.proofs.Common.{◌≡◌, ℕ, ◌<◌, List, length, get_or, map, drop, Bor, true, false, sym, ap, ◌∙◌, arith}
-use Rattle.lists.proofs.Table.{lookup_hit, lookup_map}
+use Rattle.std.proofs.Common.{List, Bor, ℕ, true, false, sym, ◌∙◌, rules, tests}
+use Rattle.std.proofs.lemmas.Iterator.{YieldsList-from_slice}
+use Rattle.std.proofs.lemmas.Iterator.Search.{any_from_yields_List}
+use Rattle.lists.proofs.Table.{lookup_any, lookup_map}
 use Rattle.node.specs.Name.{name_of, same_name}
 use Rattle.node.specs.declared.name.Name.{Name}
-use Rattle.node.specs.Silence.{is_among}
 use Rattle.node.proofs.silence.is_among.Goals as goal
 
--- the name at `i` is the first of those that are left
-hit : (d : Bor (List ℕ)) (names : List (Bor (List ℕ))) (i : ℕ) (kind : Name) → i < length names → same_name kind (name_of (get_or names i d).now) ≡ true →
-    is_among (map (λ name. name_of name.now) (drop i names)) kind ≡ true
-hit d names i kind h e =
-    lookup_map (λ name. name_of name.now) (same_name kind) (λ (m : Name). true) false (drop i names)
-    ∙ lookup_hit d (λ name. same_name kind (name_of name.now)) (λ _. true) false names i h e
-
-pub returns-then-same_name : goal.returns-then-same_name
-returns-then-same_name c =
-    let read = ap (same_name c.args.kind) (c.name_of.ensures ∙ ap name_of c.as_bytes.ensures.value) in
-    sym (hit _ c.args.names.now c.loop-name.name-index c.args.kind (omega arith) (sym read ∙ sym c.same_name.ensures ∙ c.if-same_name.true))
-    ∙ c.loop-name.invariant
+pub returns : goal.returns
+returns c =
+    let names = c.args.names.now in
+    let kind = c.args.kind in
+    any_from_yields_List (λ (name : Bor (List ℕ)). same_name kind (name_of name.now)) _ _ _ c.any.ensures.ran (YieldsList-from_slice names (search rules)) (λ x b q k. search (rules, tests))
+    ∙ lookup_any (λ (name : Bor (List ℕ)). same_name kind (name_of name.now)) names
+    ∙ sym (lookup_map (λ (name : Bor (List ℕ)). name_of name.now) (same_name kind) (λ (n : Name). true) false names)

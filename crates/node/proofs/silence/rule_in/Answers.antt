@@ -1,27 +1,27 @@
-use Rattle.std.proofs.Common.{◌≡◌, ℕ, ◌<◌, List, length, get_or, map, drop, Bor, true, sym, ap, ◌∙◌, arith}
-use Rattle.lists.proofs.Table.{lookup_hit, lookup_map}
+use Rattle.std.proofs.Common.{◌≡◌, List, Bor, ℕ, Bool, sym, ap, ◌∙◌, rules, tests}
+use Rattle.std.specs.Prelude.{Option, option_map}
+use Rattle.std.specs.Option.{unwrap_or}
+use Rattle.std.proofs.lemmas.Iterator.{YieldsList-from_slice}
+use Rattle.std.proofs.lemmas.Iterator.Search.{find_from_yields_List}
+use Rattle.lists.proofs.Table.{lookup_find, lookup_map}
 use Rattle.node.specs.Name.{name_of, same_name}
-use Rattle.node.specs.declared.name.Name.{Name}
 use Rattle.node.specs.declared.silence.SilenceRule.{SilenceRule}
 use Rattle.node.specs.declared.silence.SilenceRule.TheVariants.{Own}
-use Rattle.node.specs.Silence.{KindRule, rule_in}
+use Rattle.node.specs.Silence.{KindRule}
 use Rattle.node.proofs.silence.rule_in.Goals as goal
 
 abbrev Row : Type 0
 Row = Bor (List ℕ) × SilenceRule
 
-abbrev table : List Row → List KindRule
-table rows = map (λ (r : Row). record { name = name_of r.0.now; rule = r.1 }) rows
+abbrev rule_of : Option Row → SilenceRule
+rule_of o = unwrap_or (option_map (λ (r : Row). r.1) o) Own
 
--- the row at `i` is the first of those that are left
-hit : (d : Row) (rows : List Row) (i : ℕ) (kind : Name) → i < length rows → same_name kind (name_of (get_or rows i d).0.now) ≡ true →
-    rule_in (table (drop i rows)) kind ≡ (get_or rows i d).1
-hit d rows i kind h e =
-    lookup_map (λ (r : Row). record { name = name_of r.0.now; rule = r.1 }) (λ (k : KindRule). same_name kind k.name) (λ (k : KindRule). k.rule) Own (drop i rows)
-    ∙ lookup_hit d (λ (r : Row). same_name kind (name_of r.0.now)) (λ (r : Row). r.1) Own rows i h e
-
-pub returns-then-same_name : goal.returns-then-same_name
-returns-then-same_name c =
-    let read = ap (same_name c.args.kind) (c.name_of.ensures ∙ ap name_of c.as_bytes.ensures.value) in
-    sym (hit _ c.args.rows.now c.loop-name.name-index c.args.kind (omega arith) (sym read ∙ sym c.same_name.ensures ∙ c.if-same_name.true))
-    ∙ c.loop-name.invariant
+pub returns : goal.returns
+returns c =
+    let rows = c.args.rows.now in
+    let kind = c.args.kind in
+    let is_row : Row → Bool = λ r. same_name kind (name_of r.0.now) in
+    let e = find_from_yields_List is_row _ _ c.find.result c.find.ensures.ran (YieldsList-from_slice rows (search rules)) (λ x b q k. search (rules, tests)) in
+    let h : c.map_or.result ≡ rule_of (option_map (λ (r : Bor Row). r.now) c.find.result) = search rules in
+    h ∙ ap rule_of e ∙ lookup_find is_row (λ (r : Row). r.1) Own rows
+    ∙ sym (lookup_map (λ (r : Row). record { name = name_of r.0.now; rule = r.1 }) (λ (k : KindRule). same_name kind k.name) (λ (k : KindRule). k.rule) Own rows)
