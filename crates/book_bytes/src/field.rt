@@ -1,9 +1,11 @@
-// The records of a book, each looked at from its first byte on. Every test and every field is there for any bytes.
+// The records of a book, each looked at from its first byte on. Every test and every field is there for any bytes: one past the end is 0, and no
+// Option, since fields are read where a test has found the record whole.
 ghost use Rattle.std.specs.Prelude.{◌≡◌, ◌+◌, drop, get_or};
 ghost use Rattle.synthdef.specs.Rows.{every};
 ghost use Rattle.def_book.specs.Rows.{pair_at, is_record, is_zero, name_at, name_fits, is_heading, is_node, is_edge, is_param, node_at, edge_at, param_at};
 
 use node::name::{Name, is_named};
+use std::array;
 use synthdef::def::{DefEdge, DefNode, Param};
 
 // The byte at `i`, 0 past the end.
@@ -13,7 +15,7 @@ pub(crate) fn byte_at(s: &[u8], i: usize) -> u8
     s.get(i).copied().unwrap_or(0)
 }
 
-// The two bytes at `i` as one number, the lower first. By hand: `from_le_bytes` takes two bytes, and here one past the end is 0.
+// The two bytes at `i` as one number, the lower first. By hand, as the definition adds them: `from_le_bytes` of the two, made a usize, says no more.
 fn pair_at(s: &[u8], i: u8) -> usize
     ensures { result ≡ pair_at s.now i }
 {
@@ -21,22 +23,19 @@ fn pair_at(s: &[u8], i: u8) -> usize
     usize::from(byte_at(s, at)) + 256 * usize::from(byte_at(s, at + 1))
 }
 
-// Whether a record of this kind and size stands here, whole.
+// Whether a record of this kind and size stands here, whole. Its kind is a number, as the bytes hold it.
 fn is_record(s: &[u8], kind: usize, size: usize) -> bool
     ensures { result ≡ is_record kind size s.now }
 {
     pair_at(s, 0) == size && pair_at(s, 2) == kind && size <= s.len()
 }
 
+// By the place, and no copy of a slice, which would have to be as long: a byte past the end is 0.
 fn name_at(s: &[u8]) -> Name
     ensures { result ≡ name_at s.now }
 {
-    let mut bytes = [0u8; 16];
-    for (i, b) in bytes.iter_mut().enumerate() {
-        *b = byte_at(s, 5 + i);
-    }
     Name {
-        bytes,
+        bytes: array::from_fn(|i| byte_at(s, 5 + i)),
         len: byte_at(s, 4),
     }
 }
@@ -79,6 +78,7 @@ pub(crate) fn is_param(s: &[u8]) -> bool
     is_record(s, 4, 22) && name_fits(name_at(s))
 }
 
+// The sorts that it takes are one number, as the bytes hold them.
 pub(crate) fn node_at(s: &[u8]) -> DefNode
     ensures { result ≡ node_at s.now }
 {

@@ -1,5 +1,5 @@
 // The records of a book, each put at the start of a lent part of the buffer. Each asks for its room, and answers how much it took.
-ghost use Rattle.std.specs.Prelude.{◌≡◌, List, ℕ, map, ◌*◌, ◌≤◌, length};
+ghost use Rattle.std.specs.Prelude.{◌≡◌, List, ℕ, map, ◌+◌, ◌*◌, ◌++◌, ◌≤◌, length};
 ghost use Rattle.node.specs.Name.{text};
 ghost use Rattle.def_book.specs.Held.{held};
 ghost use Rattle.def_book.specs.Bytes.{sorts_of, heading_bytes, node, edge, param, node_bytes, edge_bytes, param_bytes, joined};
@@ -27,16 +27,28 @@ pub(crate) trait Record {
 fn clean_bytes(n: Name) -> [u8; 16]
     ensures { result ≡ held 16 0 (text n) }
 {
-    let m = usize::from(n.len).min(16);
+    let name = n.text();
     let mut bytes = [0u8; 16];
-    bytes[..m].copy_from_slice(&n.bytes[..m]);
+    bytes[..name.len()].copy_from_slice(name);
     bytes
 }
 
+// The sorts that a node takes as one number, as the bytes hold them.
 fn sorts_of(values: bool, glides: bool) -> u8
     ensures { result ≡ sorts_of values glides }
 {
     u8::from(values) + 2 * u8::from(glides)
+}
+
+// A record with a name in it: what stands before the bytes of the name, these, and what stands behind them.
+fn put_named(head: &[u8], name: Name, behind: &[u8], out: &mut [u8]) -> usize
+    requires { length head.now + 16 + length behind.now ≤ length out.old }
+    ensures { Put ((head.now ++ held 16 0 (text name)) ++ behind.now) out.old out.new result }
+{
+    let bytes = clean_bytes(name);
+    let a = copy(head, out);
+    let b = a + copy(&bytes, &mut out[a..]);
+    b + copy(behind, &mut out[b..])
 }
 
 pub(crate) fn put_heading(count: u8, output: u8, out: &mut [u8]) -> usize
@@ -56,7 +68,6 @@ impl Record for DefNode {
 
     fn put(&self, out: &mut [u8]) -> usize {
         let head = [27, 0, 2, 0, self.kind.len];
-        let name = clean_bytes(self.kind);
         let behind = [
             self.ports,
             self.required,
@@ -65,9 +76,7 @@ impl Record for DefNode {
             self.level_port,
             self.amp_port,
         ];
-        let a = copy(&head, out);
-        let b = a + copy(&name, &mut out[a..]);
-        b + copy(&behind, &mut out[b..])
+        put_named(&head, self.kind, &behind, out)
     }
 }
 
@@ -93,11 +102,8 @@ impl Record for Param {
 
     fn put(&self, out: &mut [u8]) -> usize {
         let head = [22, 0, 4, 0, self.name.len];
-        let name = clean_bytes(self.name);
         let behind = [self.node];
-        let a = copy(&head, out);
-        let b = a + copy(&name, &mut out[a..]);
-        b + copy(&behind, &mut out[b..])
+        put_named(&head, self.name, &behind, out)
     }
 }
 

@@ -8,7 +8,7 @@ use def_book::answer::ReadError;
 use synthdef::def::SynthDef;
 use synthdef::limits::allowed;
 
-// The definition without rows, which stands for that of a refused book.
+// The definition without rows.
 pub fn blank_def() -> SynthDef
     ensures { result ≡ blank_def }
 {

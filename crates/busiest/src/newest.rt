@@ -16,12 +16,12 @@ pub fn newest_records(s: Steals) -> Newest
     ensures { result ≡ newest_of (log_of s).newest }
 {
     let none = steal_record(0, None, false);
-    let mut rows = [none; 64];
+    let mut run = Table::empty(none);
     let count = held_steals(s);
     for i in 0..count {
-        rows[i] = steal_at(s, i).unwrap_or(none);
+        run.push(steal_at(s, i).unwrap_or(none));
     }
-    Newest { rows, count }
+    run
 }
 
 // The busiest stretch of the newest records that the store holds.

@@ -23,8 +23,8 @@ pub type Busiest = Result<Option<Stretch>, Unanswered>;
 
 // What is known of the records passed so far: the largest number of them inside a stretch, the sample of the first record of the
 // earliest such stretch, the sample passed last, whether samples fell. `head` is the place of the record from which a stretch
-// would have to reach to the next record to hold one more: `most` places before that one. Of no records `most` is 0, and of others it is not, so that no Option
-// says it.
+// would have to reach to the next record to hold one more: `most` places before that one. Of no records `most` is 0, and no Option: each step counts
+// on from it, and would take it apart first. `falls` is a flag, and a step has no Result: `conclude` alone says what is refused, the width first.
 #[derive(Clone, Copy)]
 struct Scan {
     width: u64,

@@ -4,7 +4,6 @@ pub mod Walk
 pub mod Runs
 pub mod Restores
 pub mod Clean
-pub mod Fields
 pub mod Gather
 pub mod Reading
 pub mod Puts

@@ -1,15 +1,12 @@
 -- Texts put one after the other, and rows of a table put one by one.
-use Prim.Native.Nat.{ℕ, zero, suc, ◌+◌, ◌*◌, ◌-◌, ◌≤◌, ◌<◌, min}
-use native.Mathlib.Nat.{min-eq_left, min-eq_right, mul-suc, mul-le-mul_left, le_trans}
+use Prim.Native.Nat.{ℕ, zero, suc, ◌+◌, ◌*◌, ◌-◌, ◌≤◌, ◌<◌}
+use native.Mathlib.Nat.{min-eq_left, mul-suc, mul-le-mul_left, le_trans}
 use native.Mathlib.Omega.{arith}
 use native.Mathlib.Numerals.{add-one}
 use mathlib.Core.Path.{◌≡◌, refl, sym, ap, ◌∙◌}
 use mathlib.Core.List.{List, [], ◌∷◌, ◌++◌, map, append_assoc, append-nil}
-use mathlib.Core.Bool.{Bool, true, false}
 use lib.ListN.{length, take, drop, get_or, replicate, length-append, length-drop, length-take}
-use lib.Dec.{leb}
 use lib.Seq.{take_all, take-nil, take-suc}
-use borrow.Author.Tests.{leb-true, leb-false}
 use borrow.Rule.Slice.PartMut.{mid_of, put_mid}
 use Rattle.lists.specs.Written.{written}
 use Rattle.lists.proofs.Member.{map_append}
@@ -94,21 +91,6 @@ held_is (suc room) (x ∷ l) = ap (λ m. x ∷ m) (held_is room l) ∙ ap (λ k.
     same : (k : ℕ) → room - k ≡ suc room - suc k
     same k = omega arith
 
--- the first bytes of a name's 16, and zeros
-pub name_filled : (b : List ℕ) (len m i : ℕ) → length b ≡ 16 → m ≡ min len 16 → i ≡ m → take i b ++ replicate (16 - i) 0 ≡ held 16 0 (take len b)
-name_filled b len m i h e f =
-    let many : length (take len b) ≡ i = length-take len b ∙ omega arith in
-    let within : length (take len b) ≤ 16 = omega arith in
-    let front : take i b ≡ take len b = first len i h (f ∙ e) in
-    ap (λ l. l ++ replicate (16 - i) 0) (front ∙ sym (take_all 16 (take len b) within))
-    ∙ ap (λ k. take 16 (take len b) ++ replicate (16 - k) 0) (sym many)
-    ∙ sym (held_is 16 (take len b))
-  where
-    first : (len i : ℕ) → length b ≡ 16 → i ≡ min len 16 → take i b ≡ take len b
-    first len i h e = go (leb len 16) refl
-      where
-        go : (x : Bool) → leb len 16 ≡ x → take i b ≡ take len b
-        go true p = ap (λ k. take k b) (e ∙ min-eq_left (leb-true len 16 p))
-        go false p =
-            let over : 16 ≤ len = omega (arith, leb-false len 16 p) in
-            ap (λ k. take k b) (e ∙ min-eq_right over) ∙ take_all 16 b (omega arith) ∙ sym (take_all len b (omega arith))
+-- the bytes of a name, and zeros behind them
+pub name_filled : (t : List ℕ) → length t ≤ 16 → t ++ replicate (16 - length t) 0 ≡ held 16 0 t
+name_filled t h = ap (λ l. l ++ replicate (16 - length t) 0) (sym (take_all 16 t h)) ∙ sym (held_is 16 t)

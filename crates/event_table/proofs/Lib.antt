@@ -3,4 +3,3 @@ pub mod Room
 pub mod Scheduling
 pub mod Named
 pub mod Keys
-pub mod Search

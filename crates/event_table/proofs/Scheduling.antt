@@ -19,7 +19,7 @@ use Rattle.words.proofs.Place.{place_keep, holds_count}
 use Rattle.event_table.specs.Rows.{event_of, events_in}
 use Rattle.event_table.specs.Queue.{Queued}
 use Rattle.event_table.proofs.Room.{room, full_is}
-use Rattle.event_table.proofs.Search.{at_place, no_place}
+use Rattle.words.proofs.FirstRow.{at_place, no_place}
 
 -- ---- how many are left, by the row of the first event that is replaced
 module _ {A : Type 0} (q : A → Bool) where

@@ -11,7 +11,7 @@ use crate::replace::{Key, key_of, remove_replaced, row_replaced};
 use crate::row::{EventTable, put_event, time_at};
 use node::refusal::Refusal;
 use scheduler::event::Event;
-use words::table::{move_row, open_row};
+use words::table::{close_gaps, open_row};
 
 // Whether the event in row `i` is due: its time is strictly below the deadline.
 pub fn is_due(t: &[u32], i: usize, deadline: u64) -> bool
@@ -65,31 +65,17 @@ pub fn schedule(t: &mut EventTable, count: usize, e: Event) -> Result<usize, Ref
     Ok(left + 1)
 }
 
-// How many of the first `count` events are due. By a for: of filter and count the contract did not close (tried three times).
+// How many of the first `count` events are due.
 pub fn count_due(t: &[u32], count: usize, deadline: u64) -> usize
     ensures { result ≡ length (taken_before deadline (take count (events_in t.now))) }
 {
     let n = count.min(t.len() / 15);
-    let mut found = 0;
-    for i in 0..n {
-        if is_due(t, i, deadline) {
-            found += 1;
-        }
-    }
-    found
+    (0..n).filter(|i| is_due(t, *i, deadline)).count()
 }
 
-// Removes the events that are due, in one pass that closes the gaps: how many are left.
+// Removes the events that are due: how many are left.
 pub fn remove_due(t: &mut [u32], count: usize, deadline: u64) -> usize
     ensures { Holds (events_in t.new) result (left_after deadline (take count (events_in t.old))) }
 {
-    let n = count.min(t.len() / 15);
-    let mut w = 0;
-    for i in 0..n {
-        if !is_due(t, i, deadline) {
-            move_row(t, 15, i, w);
-            w += 1;
-        }
-    }
-    w
+    close_gaps(t, 15, 0, count, |t, i| !is_due(t, i, deadline))
 }

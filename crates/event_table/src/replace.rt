@@ -14,7 +14,7 @@ use node::name::{name_length, same_name};
 use node::order::EventAction;
 use scheduler::event::{Event, gate_name, param_order};
 use words::fields::{long_at, name_words};
-use words::table::{move_row, word_at};
+use words::table::{close_gaps, word_at};
 
 // What of a new event decides whom it replaces. `gate` says that the parameter is `gate`, and `name` is its name in words. Flags and no enum:
 // they are the tests that `replaces` makes, `value` and `glide` of the action, `gate` of the name.
@@ -54,7 +54,8 @@ pub(crate) fn key_of(e: Event) -> Key
     }
 }
 
-// The four tests below compare a row's words with a key's, and build no record: an equality of records would read both names first.
+// The tests below compare a row's words with a key's. Tried with names, by `name_at` and `same_name`: where the first of 256 events of one voice is
+// replaced, that took 1.22 times as long, which makes 2.1 µs of 1.7, where 2 are allowed (docs/DECISIONS.md, 174).
 
 // Whether the first `n` bytes of two words are the same; a word has four.
 fn same_four(x: u32, y: u32, n: usize) -> bool
@@ -73,10 +74,7 @@ fn same_four(x: u32, y: u32, n: usize) -> bool
 fn same_text(t: &[u32], i: usize, ws: &[u32; 5], n: usize) -> bool
     ensures { result ≡ (same_four n (get_or ws.now 0 0) (get_or (row_at 15 i t.now) 4 0) && (same_four (n - 4) (get_or ws.now 1 0) (get_or (row_at 15 i t.now) 5 0) && (same_four (n - 8) (get_or ws.now 2 0) (get_or (row_at 15 i t.now) 6 0) && same_four (n - 12) (get_or ws.now 3 0) (get_or (row_at 15 i t.now) 7 0)))) }
 {
-    same_four(ws[0], word_at(t, 15, i, 4), n)
-        && same_four(ws[1], word_at(t, 15, i, 5), n.saturating_sub(4))
-        && same_four(ws[2], word_at(t, 15, i, 6), n.saturating_sub(8))
-        && same_four(ws[3], word_at(t, 15, i, 7), n.saturating_sub(12))
+    (0..4).all(|k| same_four(ws[k], word_at(t, 15, i, 4 + k), n.saturating_sub(4 * k)))
 }
 
 // Whether the name in row `i` is the one in the words `ws`.
@@ -88,7 +86,7 @@ fn same_called(t: &[u32], i: usize, ws: &[u32; 5]) -> bool
     name_length(n) && word_at(t, 15, i, 8) % 256 == len && same_text(t, i, ws, n)
 }
 
-// Whether the event in row `i` is of the key's sort and for its parameter.
+// Whether the event in row `i` is of the key's sort and for its parameter. The sort is a number, as the words hold it.
 fn same_order(t: &[u32], i: usize, k: &Key) -> bool
     ensures { result ≡ same_order k.now (action_at (row_at 15 i t.now) 9) (name_at (row_at 15 i t.now) 4) }
 {
@@ -114,18 +112,10 @@ pub(crate) fn row_replaced(t: &[u32], count: usize, k: &Key) -> Option<usize>
     (0..count.min(t.len() / 15)).find(|i| is_replaced(t, *i, k))
 }
 
-// Removes the events that are replaced, of which row `p` is the first, in one pass that closes the gaps: how many are left.
+// Removes the events that are replaced, of which row `p` is the first: how many are left.
 pub(crate) fn remove_replaced(t: &mut [u32], count: usize, p: usize, k: &Key) -> usize
     requires { position (replaces_by k.now) (take count (events_in t.old)) ≡ Some p }
     ensures { Holds (events_in t.new) result (thinned_by k.now (take count (events_in t.old))) }
 {
-    let n = count.min(t.len() / 15);
-    let mut w = p;
-    for i in p..n {
-        if !is_replaced(t, i, k) {
-            move_row(t, 15, i, w);
-            w += 1;
-        }
-    }
-    w
+    close_gaps(t, 15, p, count, |t, i| !is_replaced(t, i, k))
 }

@@ -1,4 +1,5 @@
-// An event in 15 words: time 2, voice 2, name 5, action 6.
+// An event in 15 words: time 2, voice 2, name 5, action 6. A reader past the end gives what no words stand for, and no Option: callers read below
+// the count, and none of them would meet the other case.
 ghost use Rattle.std.specs.Prelude.{◌≡◌, [], get_or, set};
 ghost use Rattle.words.specs.Rows.{row_at};
 ghost use Rattle.event_table.specs.Rows.{action_from, action_at, event_of, events_in, Stands};
@@ -21,7 +22,8 @@ pub const EVENT_WORDS: usize = 3840;
 
 pub type EventTable = [u32; EVENT_WORDS];
 
-// An action in six words: which, the target or value, the seconds, the shape and its exponent, the space.
+// An action in six words: which, the target or value, the seconds, the shape and its exponent, the space. Which it is is a number, since lent words
+// hold numbers.
 fn action_words(a: EventAction) -> [u32; 6]
     ensures { action_from (get_or result 0 0) (get_or result 1 0) (get_or result 2 0) (get_or result 3 0) (get_or result 4 0) (get_or result 5 0) ≡ a }
 {
@@ -33,7 +35,7 @@ fn action_words(a: EventAction) -> [u32; 6]
     }
 }
 
-// By its six words, of which a glide takes all but the first, as `words::fields` has them.
+// By its six words, of which a glide takes all but the first, as `words::fields` has them; lent words hold a number for its sort.
 fn action_from(which: u32, x: u32, seconds: u32, shape: u32, e: u32, space: u32) -> EventAction
     ensures { result ≡ action_from which x seconds shape e space }
 {

@@ -15,8 +15,8 @@ pub struct HostNode {
     pub takes_glides: bool,
 }
 
-// A new node of the host. Its id is given when it is appended. The fields stand here as in `live_node` of synthdef: one function for both
-// would take seven values without a name.
+// A new node of the host. Its id is given when it is appended, and 0 until then: an option in each node would be there for this moment alone. The fields stand
+// here as in `live_node` of synthdef: one function for both would take seven values without a name.
 pub fn host_node(kind: &[u8], n: HostNode) -> Node
     ensures { result ≡ host_node kind.now n.ports n.required n.takes_values n.takes_glides }
 {

@@ -1,5 +1,6 @@
 // An edge's row. The words are a slice and not `EdgeTable`: the library for C stores one edge in a lent record by `set_edge`, and a
-// table's length would ask of callers what no row needs.
+// table's length would ask of callers what no row needs. A reader past the end gives what no words stand for, and no Option: callers read below
+// the count, and none of them would meet the other case.
 ghost use Rattle.std.specs.Prelude.{◌≡◌, [], get_or, set};
 ghost use Rattle.graph_rows.specs.Edge.{edge_of, edges_in};
 

@@ -1,6 +1,9 @@
 // A node's row: its fields one by one, so that a loop reads what it tests; the whole record. A getter of any field would take the
 // field's word and say less than a name. The words are a slice and not `NodeTable`: the library for C stores one node in a lent record
-// by `put_node`, and a table's length would ask of callers what no row needs.
+// by `put_node`, and a table's length would ask of callers what no row needs. A reader past the end gives what no words stand for, and no Option:
+// callers read below the count, and none of them would meet the other case.
+#![tactic(auto, using(words::proofs::Rows::row_is), unfolding(crate::specs::Node::node_of))]
+
 ghost use Rattle.std.specs.Prelude.{◌≡◌, [], get_or, set};
 ghost use Rattle.node.specs.Node.{with_noise};
 ghost use Rattle.graph_rows.specs.Node.{node_of, nodes_in, Stands, brief};

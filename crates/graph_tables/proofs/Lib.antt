@@ -5,4 +5,4 @@ pub mod Edges
 pub mod FedPorts
 pub mod Marks
 pub mod Room
-pub mod Searched
+pub mod Lowest

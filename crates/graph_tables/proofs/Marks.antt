@@ -1,13 +1,13 @@
 -- Ids looked for by a mark of their remainder.
 use Prim.Native.Nat.{ℕ, zero, suc, ◌%◌, ◌≤◌, ◌<◌}
 use native.Mathlib.Omega.{arith}
-use mathlib.Core.Path.{◌≡◌, refl, ap, ◌∙◌, subst}
+use mathlib.Core.Path.{◌≡◌, refl, ap, ◌∙◌}
 use mathlib.Core.List.{List, [], ◌∷◌}
 use mathlib.Core.Bool.{Bool, true, false}
 use lib.Dec.{eqb}
 use lib.ListN.{length, get_or}
 use borrow.Author.Tests.{eq-eqb, ne_eqb}
-use Rattle.std.specs.Prelude.{find, cond, is_some, Some, ◌||◌}
+use Rattle.std.specs.Prelude.{Option, None, find, Some, cond, is_some, ◌||◌}
 use Rattle.std.specs.List.{list_any}
 use Rattle.edges.specs.Wiring.{listed}
 use Rattle.graph_tables.specs.Removal.{Marked}
@@ -36,9 +36,9 @@ listed_any (y ∷ ids) x = go (eqb y x) (listed_any ids x)
     go false h = h
 
 -- the first j ids are marked
-abbrev pub MarkedTo : List ℕ → List ℕ → ℕ → Type 0
-MarkedTo marks ids j = (length marks ≡ 1024) × (j ≤ length ids) × ((i : ℕ) → i < j → 0 < get_or marks (get_or ids i 0 % 1024) 0)
+abbrev pub MarkedTo : List (Option ℕ) → List ℕ → ℕ → Type 0
+MarkedTo marks ids j = (length marks ≡ 1024) × (j ≤ length ids) × ((i : ℕ) → i < j → get_or marks (get_or ids i 0 % 1024) None ≡ None → ⊥)
 
 -- without a mark, it is none of them
-pub unmarked : (marks ids : List ℕ) (x : ℕ) → Marked marks ids → get_or marks (x % 1024) 0 ≡ 0 → listed ids x ≡ false
-unmarked marks ids x m e = unlisted ids x (λ i l q. let some-mark : 0 < get_or marks (x % 1024) 0 = subst (λ k. 0 < get_or marks (k % 1024) 0) q (m.is i l) in omega arith)
+pub unmarked : (marks : List (Option ℕ)) (ids : List ℕ) (x : ℕ) → Marked marks ids → get_or marks (x % 1024) None ≡ None → listed ids x ≡ false
+unmarked marks ids x m e = unlisted ids x (λ i l q. m.is i l (ap (λ k. get_or marks (k % 1024) None) q ∙ e))

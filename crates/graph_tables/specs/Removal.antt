@@ -1,6 +1,6 @@
 -- What is left in the lent tables when nodes are removed "with their edges": what `without` of crate graph leaves of the nodes,
 -- the edges and the sink.
-use Rattle.std.specs.Prelude.{ℕ, ◌≤◌, ◌<◌, ◌%◌, ◌≡◌, List, Bool, not, length, take, get_or, Option, filter}
+use Rattle.std.specs.Prelude.{ℕ, ◌≤◌, ◌<◌, ◌%◌, ◌≡◌, List, Bool, not, length, take, get_or, Option, None, filter}
 use Rattle.lists.specs.Find.{filter_o}
 use Rattle.words.specs.Place.{Holds}
 use Rattle.node.specs.declared.record.Node.{Node}
@@ -32,6 +32,6 @@ pub record Removed (ns es new-ns new-es : List ℕ) (n m : ℕ) (heard : Option 
 
 -- A mark for each remainder of an id: without a mark there, an id is none of these; with one, it is looked for. Nothing here
 -- has to be believed: it is what the search by remainders needs.
-pub record Marked (marks ids : List ℕ) : Type 0 where
+pub record Marked (marks : List (Option ℕ)) (ids : List ℕ) : Type 0 where
   pub long : length marks ≡ 1024
-  pub is : (j : ℕ) → j < length ids → 0 < get_or marks (get_or ids j 0 % 1024) 0
+  pub is : (j : ℕ) → j < length ids → get_or marks (get_or ids j 0 % 1024) None ≡ None → ⊥

@@ -1,3 +1,5 @@
+// Each lent table and its count are parameters of their own: a signature shows what a call may touch.
+// A loop goes by the numbers of rows: a row is so many words of a lent table, and there is no slice of rows.
 ghost use Rattle.std.specs.Prelude.{◌≡◌, [], length, take, get_or, option_map};
 ghost use Rattle.words.specs.Place.{Holds};
 ghost use Rattle.edges.specs.Wiring.{pushed};

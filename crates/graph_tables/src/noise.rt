@@ -1,3 +1,5 @@
+// Each lent table and its count are parameters of their own: a signature shows what a call may touch.
+// A loop goes by the numbers of rows: a row is so many words of a lent table, and there is no slice of rows.
 ghost use Rattle.std.specs.Prelude.{◌≡◌, take};
 ghost use Rattle.graph.specs.Node.{node_at, noise_of, next_noise, noise_raised};
 ghost use Rattle.graph_rows.specs.Node.{nodes_in};
@@ -6,7 +8,8 @@ use crate::lookup::row_of;
 use graph_rows::node_row::{NodeTable, id_at, noise_at, put_noise};
 use node::record::NodeId;
 
-// The noise sequence of a bus, which is the number that its next voice gets; 0 where it does not live.
+// The noise sequence of a bus, which is the number that its next voice gets; 0 and no option where it does not live, as the definition in the clause
+// gives it: a spawn asks once it has found the bus.
 pub fn noise_of(nodes: &NodeTable, count: usize, bus: NodeId) -> u32
     ensures { result ≡ noise_of (node_at (take count (nodes_in nodes.now)) bus) }
 {

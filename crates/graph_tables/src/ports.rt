@@ -1,3 +1,5 @@
+// Each lent table and its count are parameters of their own: a signature shows what a call may touch.
+// A loop goes by the numbers of rows: a row is so many words of a lent table, and there is no slice of rows.
 ghost use Rattle.std.specs.Prelude.{◌≡◌, List, [], ◌≤◌, take, get_or, find, option_map};
 ghost use Rattle.node.specs.declared.record.NodeId.{NodeId};
 ghost use Rattle.node.specs.declared.record.Edge.{Edge};
@@ -44,6 +46,7 @@ fn port_at(t: &[u32], i: usize) -> u32
 
 // Which of the ports 0 to 63 of `node` an edge feeds, a flag for each port: one walk over the edges. Most edges end elsewhere:
 // of these one word is read. The ports above 63 share the last flag, which nobody reads. From the last edge on, as the definition folds them.
+// Flags and not the options of `sources_of`: who feeds a port is not asked, and of an edge that ends here only the port's word is read.
 fn fed_ports(edges: &EdgeTable, count: usize, node: NodeId) -> [bool; 65]
     ensures { FedPorts result (take count (edges_in edges.now)) node }
 {
@@ -57,18 +60,12 @@ fn fed_ports(edges: &EdgeTable, count: usize, node: NodeId) -> [bool; 65]
     fed
 }
 
-// The first of the ports below `ports` that nothing feeds, by the flags of the fed ports. By a for: that a flag is there follows from the range,
-// and a closure would have to ask for it.
+// The first of the ports below `ports` that nothing feeds, by the flags of the fed ports.
 fn first_unfed(fed: [bool; 65], ports: u32) -> Option<u32>
     requires { ports ≤ 64 }
     ensures { (es : List Edge) (n : NodeId) → FedPorts fed es n → result ≡ free_port es n ports }
 {
-    for p in 0..ports {
-        if !fed[p as usize] {
-            return Some(p);
-        }
-    }
-    None
+    (0..ports).find(|p| !fed[*p as usize])
 }
 
 // The lowest port of `node` below `ports` without an edge: each port in turn is looked for among all the edges.

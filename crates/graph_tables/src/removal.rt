@@ -1,4 +1,6 @@
-ghost use Rattle.std.specs.Prelude.{◌≡◌, Bool, not, ◌≤◌, length, take};
+// Each lent table and its count are parameters of their own: a signature shows what a call may touch.
+// A loop goes by the numbers of rows: a row is so many words of a lent table, and there is no slice of rows.
+ghost use Rattle.std.specs.Prelude.{◌≡◌, Bool, not, ◌≤◌, take};
 ghost use Rattle.lists.specs.Find.{filter_o};
 ghost use Rattle.node.specs.declared.record.Node.{Node};
 ghost use Rattle.words.specs.Place.{Holds};
@@ -12,7 +14,7 @@ use edges::table::is_listed;
 use graph_rows::edge_row::{EdgeTable, edge_at};
 use graph_rows::node_row::{NodeTable, id_at, owner_at};
 use node::record::{Edge, NodeId, VoiceId};
-use words::table::move_row;
+use words::table::{close_gaps, move_row};
 
 // How many nodes and edges are left, and the sink, unless it is removed.
 #[derive(Clone, Copy)]
@@ -22,7 +24,8 @@ pub struct Left {
     pub sink: Option<NodeId>,
 }
 
-// How many nodes are left, and of how many that are not the id was stored.
+// How many nodes are left, and of how many that are not the id was stored: a count beside the lent array and no `Table`, which would have to come
+// empty, and a clause to ask for it.
 #[derive(Clone, Copy)]
 struct Parted {
     stay: usize,
@@ -30,7 +33,7 @@ struct Parted {
 }
 
 // The nodes that `goes` tells by id and owner are removed, in one pass that closes the gaps; their ids are stored in `removed`, which has
-// a word for each node.
+// a word for each node. Not by `close_gaps` of words: in the same pass the ids are gathered, and a test that is a plain `Fn` stores nothing.
 fn part<F: Fn(NodeId, VoiceId) -> bool>(
     nodes: &mut NodeTable,
     count: usize,
@@ -58,70 +61,61 @@ fn part<F: Fn(NodeId, VoiceId) -> bool>(
     }
 }
 
-// For each remainder of an id a place in `ids`, from 1 on, where an id of this remainder stands; 0 where there is none: a number and no option, which
-// would take 8 KB in place of 4.
-fn marks_of(ids: &[u32]) -> [u32; 1024]
-    requires { length ids.now ≤ 512 }
-    ensures { Marked result ids.now }
-{
-    let mut marks = [0; 1024];
-    for (j, id) in ids.iter().enumerate() {
-        marks[*id as usize % 1024] = j as u32 + 1;
-    }
-    marks
+// Ids among which others are looked for. Where one of them stands is marked by its remainder, so that mostly the mark says at once whether an id is
+// one of them.
+#[derive(Drop)]
+struct Sought<'a> {
+    ids: &'a [u32],
+    marks: [Option<u16>; 1024],
+    ghost marked: { Marked marks ids.now },
 }
 
-#[tactic(auto, using(crate::proofs::Marks::listed_any))]
-// Whether `x` is one of `ids`: mostly the mark of its remainder says so or not.
-fn is_removed(ids: &[u32], marks: &[u32; 1024], x: u32) -> bool
-    requires { Marked marks.now ids.now }
-    ensures { result ≡ listed ids.now x }
-{
-    let m = marks[x as usize % 1024] as usize;
-    if m == 0 {
-        return false;
+impl<'a> Sought<'a> {
+    // Of several ids with one remainder the last is marked, and one past row 65535 by that row: a mark only says that an id may be there.
+    fn new(ids: &'a [u32]) -> Self
+        ensures { result.ids.now ≡ ids.now }
+    {
+        let mut marks = [None; 1024];
+        for (j, id) in ids.iter().enumerate() {
+            marks[*id as usize % 1024] = Some(j.min(65535) as u16);
+        }
+        Sought { ids, marks }
     }
-    if m <= ids.len() && ids[m - 1] == x {
-        return true;
-    }
-    ids.contains(&x)
-}
 
-// Whether the edge starts or ends at one of `ids`.
-fn touches_any(ids: &[u32], marks: &[u32; 1024], e: Edge) -> bool
-    requires { Marked marks.now ids.now }
-    ensures { result ≡ touches ids.now e }
-{
-    is_removed(ids, marks, e.from.0) || is_removed(ids, marks, e.to.0)
-}
-
-// The edges that start or end at one of `ids` are removed, in one pass that closes the gaps: how many are left.
-fn drop_touching(edges: &mut EdgeTable, count: usize, ids: &[u32]) -> usize
-    requires { length ids.now ≤ 512 }
-    ensures { Holds (edges_in edges.new) result (drop_touching (take count (edges_in edges.old)) ids.now) }
-{
-    let marks = marks_of(ids);
-    let n = count.min(edges.len() / 3);
-    let mut k = 0;
-    for i in 0..n {
-        if !touches_any(ids, &marks, edge_at(edges, i)) {
-            move_row(edges, 3, i, k);
-            k += 1;
+    // Whether `x` is one of them.
+    #[tactic(auto, using(crate::proofs::Marks::listed_any))]
+    fn has(&self, x: u32) -> bool
+        ensures { result ≡ listed self.now.ids.now x }
+    {
+        let ids = self.ids;
+        match self.marks[x as usize % 1024] {
+            None => false,
+            Some(m) => ids.get(usize::from(m)).is_some_and(|k| *k == x) || ids.contains(&x),
         }
     }
-    k
+
+    // Whether the edge starts or ends at one of them.
+    fn touched_by(&self, e: Edge) -> bool
+        ensures { result ≡ touches self.now.ids.now e }
+    {
+        self.has(e.from.0) || self.has(e.to.0)
+    }
 }
 
-#[tactic(auto, using(crate::proofs::Marks::listed_any))]
+// The edges that start or end at one of `ids` are removed: how many are left.
+fn drop_touching(edges: &mut EdgeTable, count: usize, ids: &[u32]) -> usize
+    ensures { Holds (edges_in edges.new) result (drop_touching (take count (edges_in edges.old)) ids.now) }
+{
+    let sought = Sought::new(ids);
+    close_gaps(edges, 3, 0, count, |t, i| !sought.touched_by(edge_at(t, i)))
+}
+
 // The sink, or none if it is one of `ids`.
+#[tactic(auto, using(crate::proofs::Marks::listed_any))]
 fn keep_sink(sink: Option<NodeId>, ids: &[u32]) -> Option<NodeId>
     ensures { result ≡ filter_o (λ k. not (among ids.now k)) sink }
 {
-    let k = sink?;
-    if ids.contains(&k.0) {
-        return None;
-    }
-    Some(k)
+    sink.filter(|k| !ids.contains(&k.0))
 }
 
 // The nodes that leave are removed, with every edge that touches them, and the sink if it is one of them.
@@ -145,6 +139,8 @@ fn remove<F: Fn(NodeId, VoiceId) -> bool>(
         sink: keep_sink(sink, gone),
     }
 }
+
+// The three below differ in the test alone, and each names in its clause which nodes go.
 
 // The node of this id is removed: host removal, once the node is known to be the host's.
 pub fn remove_node(

@@ -8,7 +8,7 @@ use graph_rows::node_row::Brief;
 use node::record::VoiceId;
 use node::refusal::Refusal;
 
-// The node is the host's.
+// The node is the host's: 0 is no voice's id, and the words of a node hold it for the host.
 fn owner_test(n: Brief) -> Result<(), Refusal>
     ensures { result ≡ answer_of (when (of_voice n) VoiceNode None) }
 {
@@ -47,12 +47,9 @@ pub fn wire_test(
     ensures { result ≡ answer_of (wire_brief from to port full) }
 {
     let source = from.ok_or(Refusal::UnknownNode)?;
-    let fed = to.ok_or(Refusal::UnknownNode)?;
+    to.ok_or(Refusal::UnknownNode)?;
     owner_test(source)?;
-    owner_test(fed)?;
-    if fed.ports <= port {
-        return Err(Refusal::PortOrKind);
-    }
+    port_test(to, port)?;
     if full {
         return Err(Refusal::TableFull);
     }

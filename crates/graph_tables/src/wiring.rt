@@ -1,11 +1,12 @@
-ghost use Rattle.std.specs.Prelude.{◌≡◌, [], length, take, get_or};
-ghost use Rattle.words.specs.Place.{place_of, Holds};
+// Each lent table and its count are parameters of their own: a signature shows what a call may touch.
+ghost use Rattle.std.specs.Prelude.{◌≡◌, [], length, take, get_or, position};
+ghost use Rattle.words.specs.Place.{Holds};
 ghost use Rattle.edges.specs.Wiring.{ends_at, taken, no_place, drop_at, put};
 ghost use Rattle.graph_rows.specs.Edge.{edge_of, edges_in};
 
 use graph_rows::edge_row::{EdgeTable, set_edge};
 use node::record::{Edge, NodeId};
-use words::table::{move_row, word_at};
+use words::table::{close_gaps, word_at};
 
 // How many edges there are.
 pub fn edge_count(edges: &EdgeTable, count: usize) -> usize
@@ -21,25 +22,18 @@ pub fn ends_at(t: &[u32], i: usize, node: NodeId, port: u32) -> bool
     word_at(t, 3, i, 1) == node.0 && word_at(t, 3, i, 2) == port
 }
 
-// The row of the first edge at the port `port` of `node`; behind the edges where there is none, and no Option: it is where the walk of
-// `drop_port` begins, or is over. By a for: what `find` over a range ensures is said of the numbers, and its end would have to be carried to the rows.
-fn row_of(edges: &EdgeTable, count: usize, node: NodeId, port: u32) -> usize
-    ensures { result ≡ place_of (ends_at node port) (take count (edges_in edges.now)) }
+// The row of the first edge at the port `port` of `node`, or none.
+fn row_of(edges: &EdgeTable, count: usize, node: NodeId, port: u32) -> Option<usize>
+    ensures { result ≡ position (ends_at node port) (take count (edges_in edges.now)) }
 {
-    let n = count.min(edges.len() / 3);
-    for i in 0..n {
-        if ends_at(edges, i, node, port) {
-            return i;
-        }
-    }
-    n
+    (0..count.min(edges.len() / 3)).find(|i| ends_at(edges, *i, node, port))
 }
 
 // Whether an edge ends at the port `port` of `node`.
 pub(crate) fn is_taken(edges: &EdgeTable, count: usize, node: NodeId, port: u32) -> bool
     ensures { result ≡ taken (take count (edges_in edges.now)) node port }
 {
-    row_of(edges, count, node, port) < edge_count(edges, count)
+    row_of(edges, count, node, port).is_some()
 }
 
 // Whether an edge to that port has no place.
@@ -53,16 +47,8 @@ pub fn no_place(edges: &EdgeTable, count: usize, node: NodeId, port: u32) -> boo
 pub fn drop_port(edges: &mut EdgeTable, count: usize, node: NodeId, port: u32) -> usize
     ensures { Holds (edges_in edges.new) result (drop_at (take count (edges_in edges.old)) node port) }
 {
-    let n = count.min(edges.len() / 3);
-    let first = row_of(edges, count, node, port);
-    let mut k = first;
-    for i in first..n {
-        if !ends_at(edges, i, node, port) {
-            move_row(edges, 3, i, k);
-            k += 1;
-        }
-    }
-    k
+    let first = row_of(edges, count, node, port).unwrap_or(count);
+    close_gaps(edges, 3, first, count, |t, i| !ends_at(t, i, node, port))
 }
 
 // Connecting, with no look at the nodes: the edge at that port is dropped, and this one appended if it has a place. How many

@@ -1,5 +1,6 @@
 // The processing order and prepare (graph.rs of the older program: docs/CRATES.md), on the lent tables: nodes and edges are read where they stand, and the order
-// is written to a table of node ids, once nothing is refused.
+// is written to a table of node ids, once nothing is refused. Each lent table and its count are parameters of their own: a signature shows what a call
+// may touch. A loop goes by the numbers of rows: a row is so many words of a lent table, and there is no slice of rows.
 #![tactic(auto)]
 
 ghost use Rattle.std.specs.Prelude.{◌≡◌, map, ◌≤◌, ◌<◌, min, length, take, get_or};
@@ -26,7 +27,8 @@ pub type OrderTable = [u32; ORDER_WORDS];
 type EndTable = [usize; 1024];
 
 // The ids of the live nodes: the first `count` rows, which rise. A view and not the table: by value the tables are copied, which took 2 µs
-// of a prepare and 34 KB of its stack.
+// of a prepare and 34 KB of its stack. An array and a count, as `Lived` and `Ends` of crate prepare say it of them: of slices each proof would have to cut
+// the arrays first.
 #[derive(Clone, Copy)]
 struct LiveIds<'r> {
     rows: &'r OrderTable,
@@ -65,8 +67,8 @@ fn live_ids(nodes: &NodeTable, count: usize, ids: &mut OrderTable) -> usize
 }
 
 impl LiveIds<'_> {
-    // A row for each remainder of an id: a guess that `row_of` tests before it halves, so nothing is promised of it. Ids are counted up,
-    // so it is mostly right.
+    // A row for each remainder of an id, 0 where none has it: a guess that `row_of` tests before it halves, so nothing is promised of it. Ids are counted
+    // up, so it is mostly right.
     fn guesses(&self) -> [usize; 1024] {
         let mut rows = [0usize; 1024];
         let ids = self.rows;
@@ -102,17 +104,11 @@ impl LiveIds<'_> {
         }
     }
 
-    // Whether one of their nodes, which are the first of the table, lacks a required port. By a for: what `any` ensures is said of the numbers, and a
-    // law would have to carry it to the rows.
+    // Whether one of their nodes, which are the first of the table, lacks a required port.
     fn row_lacks(&self, nodes: &NodeTable, masks: &[u64; 512]) -> bool
         ensures { result ≡ rows_lack (ports_in masks.now) (take self.now.count (nodes_in nodes.now)) 0 }
     {
-        for i in 0..self.count {
-            if port_lacks(masks[i], ports_at(nodes, i), required_at(nodes, i)) {
-                return true;
-            }
-        }
-        false
+        (0..self.count).any(|i| port_lacks(masks[i], ports_at(nodes, i), required_at(nodes, i)))
     }
 
     // Whether a live node lacks a required port.
@@ -123,7 +119,7 @@ impl LiveIds<'_> {
         self.row_lacks(nodes, &masks)
     }
 
-    // The ids of the ranked rows, written to the order.
+    // The ids of the ranked rows, written to the order. By the place: `zip` with `iter_mut` tells a proof nothing of what was written (tried in bus::mix).
     fn named(&self, r: &Ranking, order: &mut OrderTable)
         requires { RowsIn r.now }
         ensures { take r.now.count order.new ≡ map (λ x. get_or self.now.rows.now x 0) (take r.now.count r.now.rows) }
@@ -145,6 +141,8 @@ impl EdgeRows<'_, '_> {
     }
 
     // Which ports of each live row one of the edges of two live ends feeds: a mask for each row, in which bit p is port p.
+    // By the edge's number: over the two ends zipped and numbered the goals `loop-i-preserved` and `returns` stayed open, since of an item only the steps of
+    // three iterators are told.
     fn plugged(&self, ids: &LiveIds, edges: &EdgeTable) -> [u64; 512]
         ensures { Plugged (ports_in result) ids.now.count self.now.from.now self.now.to.now (take self.now.count (edges_in edges.now)) }
     {
@@ -170,7 +168,8 @@ fn with_port(mask: u64, p: usize) -> u64
     mask | 1 << p
 }
 
-// Whether one of the first `ports` ports is required and not in the mask: looked at until no required port is left.
+// Whether one of the first `ports` ports is required and not in the mask. By a for, since it ends also where no required port is left: `any` would need a
+// `take_while` before it, which shifts a second time.
 fn port_lacks(mask: u64, ports: u32, required: u64) -> bool
     ensures { result ≡ mask_lacks mask ports required }
 {

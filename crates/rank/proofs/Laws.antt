@@ -9,7 +9,17 @@ use mathlib.Core.List.{List, [], ◌∷◌, ◌++◌}
 use mathlib.Core.Bool.{Bool, true, false, ◌&&◌, and-false}
 use borrow.Author.Tests.{eq-eqb, ne_eqb, lt-ltb, le-ltb}
 use lib.Dec.{eqb, ltb}
-use lib.ListN.{length, take, drop, get_or, set, length-take, length-set, drop_of_length-le, replicate, length-replicate, get_or-replicate}
+use Rattle.std.specs.Prelude.{Option, None, Some}
+use Rattle.std.specs.Borrow.{Bor}
+use Rattle.std.specs.Iterator.{Yields}
+use Rattle.std.specs.Iterator.Adapters.{zip_first, zip_second}
+use Rattle.std.specs.declared.iter.Zip.{Zip}
+use Rattle.std.specs.Slice.Iter.{iter_rest}
+use Rattle.std.proofs.Common.{Iter}
+use Rattle.std.proofs.iter.Yields.{fronts}
+use Rattle.std.proofs.lemmas.Iterator.{zips}
+use Rattle.std.proofs.lemmas.Slice.Zip.{zip_turn, zip_end}
+use lib.ListN.{length, length-append, take, drop, get_or, set, length-take, length-set, drop_of_length-le, replicate, length-replicate, get_or-replicate}
 use lib.Seq.{get_or-take, length-take-le, get_or-set_same, get_or-set_other, ext_get_or, take-suc-set, append_snoc}
 use Rattle.lists.specs.Count.{more}
 use Rattle.lists.proofs.Table.{left_cons}
@@ -48,6 +58,16 @@ module _ (fs ts : List ℕ) (paired : length fs ≡ length ts) where
   -- none is left behind the last
   pub no_arc : (i : ℕ) → length ts ≤ i → drop i (arcs fs ts) ≡ []
   no_arc i h = let q : length (arcs fs ts) ≤ i = omega (arith, many_arcs) in drop_of_length-le (arcs fs ts) q
+
+  -- a loop over both lists at once that has yielded xs: the arc that comes next, or none
+  module _ (xs : List (Bor ℕ × Bor ℕ)) (s t u : Zip (Iter ℕ) (Iter ℕ)) (r : Option (Bor ℕ × Bor ℕ)) (first : iter_rest (zip_first s) ≡ fs) (second : iter_rest (zip_second s) ≡ ts) (so_far : Yields (zips fronts fronts) s xs t) (step : zips fronts fronts t r u) where
+    pub zip_arc : (p : Bor ℕ × Bor ℕ) → r ≡ Some p → drop (length xs) (arcs fs ts) ≡ arc p.0.now p.1.now ∷ drop (length (xs ++ (p ∷ []))) (arcs fs ts)
+    zip_arc p e =
+        let z = zip_turn fs ts xs s t u r first second so_far p e step in
+        rw (length-append xs (p ∷ []), z.2 0, z.3 0) (next_arc (length xs) z.1)
+
+    pub zip_none : r ≡ None → drop (length xs) (arcs fs ts) ≡ []
+    zip_none e = no_arc (length xs) (omega (arith, paired, zip_end fs ts xs s t u r first second so_far e step))
 
 pub no_row : {A : Type 0} (rows : List A) (k i : ℕ) → k ≤ i → drop i (take k rows) ≡ []
 no_row rows k i h = let q : length (take k rows) ≤ i = simp length-take (omega arith) in drop_of_length-le (take k rows) q

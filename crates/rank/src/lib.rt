@@ -7,7 +7,7 @@ ghost use Rattle.rank.specs.Parts.{Degrees, Linked, Ready, Queued, ranking_of};
 use lists::rows::Table;
 
 // The order of nodes that are the indices 0 to n - 1: the first `count` of `rows`, since there is no heap, and whether they are all. It is
-// promised where they are not all too, so it is no option.
+// promised where they are not all too, so it is no option. It is no `Table`, since it has `whole` too and nobody adds to it.
 #[derive(Clone, Copy)]
 pub struct Ranking {
     pub rows: [usize; 512],
@@ -18,7 +18,8 @@ pub struct Ranking {
 // Indices, in the order in which they are looked at.
 type Queue = Table<usize, 512>;
 
-// The indices 0 to n - 1 and the arcs between them, from `from[i]` to `to[i]`. An arc with an end at or past n does not count.
+// The indices 0 to n - 1 and the arcs between them, from `from[i]` to `to[i]`. An arc with an end at or past n does not count. A slice for each end, and
+// not one of pairs: of the two tables that hold the edges' ends, `Ends` of crate prepare says what stands in each.
 #[derive(Clone, Copy)]
 struct Graph<'f, 't> {
     n: usize,
@@ -30,22 +31,22 @@ struct Graph<'f, 't> {
 }
 
 impl Graph<'_, '_> {
-    // How many arcs go to each index from a live one. By an index: the ends of arc i stand in two slices, as the definition has them.
+    // How many arcs go to each index from a live one.
     fn degrees(&self) -> [usize; 512]
         ensures { Degrees result self.now.n (arcs self.now.from.now self.now.to.now) }
     {
         let mut counts = [0usize; 512];
-        for i in 0..self.to.len() {
-            let t = self.to[i];
-            if self.from[i] < self.n && t < self.n {
-                counts[t] += 1;
+        for (v, t) in self.from.iter().zip(self.to) {
+            if *v < self.n && *t < self.n {
+                counts[*t] += 1;
             }
         }
         counts
     }
 
     // The arcs of one source, as a chain in their order, are stored: `first` of an index, `next` of an arc; their number, past the arcs,
-    // where there is none, as it stands there before.
+    // where there is none, as it stands there before. It is no `Option`, which would take twice the memory. By the index, from the last arc on:
+    // the index is what is stored.
     fn linked(&self, first: &mut [usize; 512], next: &mut [usize; 1024])
         requires { (first.old ≡ replicate 512 (length self.now.to.now)) × (next.old ≡ replicate 1024 (length self.now.to.now)) }
         ensures { Linked first.new next.new self.now.n (arcs self.now.from.now self.now.to.now) }
@@ -63,22 +64,17 @@ impl Graph<'_, '_> {
     fn ready(&self, counts: &[usize; 512]) -> Queue
         ensures { Ready result (take self.now.n counts.now) }
     {
-        let mut queue = [0usize; 512];
-        let mut tail: usize = 0;
-        for v in 0..self.n {
-            if counts[v] == 0 {
-                queue[tail] = v;
-                tail += 1;
+        let mut queue = Queue::empty(0);
+        for (v, k) in counts[..self.n].iter().enumerate() {
+            if *k == 0 {
+                queue.push(v);
             }
         }
-        Queue {
-            rows: queue,
-            count: tail,
-        }
+        queue
     }
 
     // The queue, walked to its end: it grows as it is walked, and the next arc of an index stands in a table, so that neither walk is one over a
-    // range. The rows and their number go on by themselves, and no `Table`.
+    // range.
     fn queued(&self) -> Queue
         ensures { Queued result self.now.n (arcs self.now.from.now self.now.to.now) }
     {
@@ -87,12 +83,10 @@ impl Graph<'_, '_> {
         let mut next = [m; 1024];
         self.linked(&mut first, &mut next);
         let mut counts = self.degrees();
-        let o = self.ready(&counts);
-        let mut queue = o.rows;
-        let mut tail = o.count;
+        let mut queue = self.ready(&counts);
         let mut head: usize = 0;
-        while head < tail {
-            let v = queue[head];
+        while head < queue.count {
+            let v = queue.rows[head];
             let mut e = first[v];
             while e < m {
                 let t = self.to[e];
@@ -101,8 +95,7 @@ impl Graph<'_, '_> {
                     if 0 < k {
                         counts[t] = k - 1;
                         if k == 1 {
-                            queue[tail] = t;
-                            tail += 1;
+                            queue.push(t);
                         }
                     }
                 }
@@ -110,10 +103,7 @@ impl Graph<'_, '_> {
             }
             head += 1;
         }
-        Queue {
-            rows: queue,
-            count: tail,
-        }
+        queue
     }
 }
 

@@ -7,8 +7,9 @@ ghost use Rattle.std.specs.Prelude.{◌≡◌, [], get_or, set};
 ghost use Rattle.voice.specs.Steals.{pushed, marked, found_at};
 ghost use Rattle.steal_log.specs.Rows.{steal_of, records_in, steals_in, log_in, Stands};
 
+use std::array;
 use voice::steals::{StealRecord, Steals};
-use voice_policy::steals::{mark_cut, push_steal, steal_at, steal_record};
+use voice_policy::steals::{mark_cut, push_steal, steal_at};
 use words::fields::{flag_at, flag_word, float_at, float_word, high_word, long_at, low_word};
 use words::table::put_row;
 
@@ -17,7 +18,8 @@ pub const STEAL_WORDS: usize = 320;
 
 pub type StealTable = [u32; STEAL_WORDS];
 
-// What of the ring stands in the store's state: how many steals there were, and the place of the next.
+// What of the ring stands in the store's state: how many steals there were, and the place of the next. The table is a parameter beside it: a
+// signature shows which words a call may touch.
 #[derive(Clone, Copy)]
 pub struct Ring {
     pub total: u64,
@@ -37,7 +39,7 @@ fn record_words(r: StealRecord) -> [u32; 5]
     ]
 }
 
-// The record in row `i`; past the end, the record of no words.
+// The record in row `i`; past the end, the record of no words, and no Option: callers read below the count.
 pub fn record_at(t: &[u32], i: usize) -> StealRecord
     ensures { result ≡ get_or (records_in t.now) i (steal_of []) }
 {
@@ -56,24 +58,18 @@ fn put_record(t: &mut [u32], i: usize, r: StealRecord)
     put_row(t, 5, i, &record_words(r));
 }
 
-// The records that the words stand for, with the total and the next place. By a for: from_fn wants a contract at its closure, and says no
-// more.
+// The records that the words stand for, with the total and the next place.
 pub fn read_steals(t: &StealTable, ring: Ring) -> Steals
     ensures { result ≡ steals_in t.now ring.total ring.next }
 {
-    let none = steal_record(0, None, false);
-    let mut rows = [none; 64];
-    for (i, row) in rows.iter_mut().enumerate() {
-        *row = record_at(t, i);
-    }
     Steals {
-        rows,
+        rows: array::from_fn(|i| record_at(t, i)),
         total: ring.total,
         next: ring.next,
     }
 }
 
-// Writes the records: total and next place are for the store's state.
+// Writes the records: total and next place are for the store's state. By the rows' numbers, since words are no slice of rows.
 pub fn write_steals(t: &mut StealTable, s: Steals) -> Ring
     ensures { steals_in t.new result.total result.next ≡ s }
 {

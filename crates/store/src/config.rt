@@ -1,8 +1,9 @@
 use voice::policy::{BudgetScope, StealPolicy};
 
-// Two types, of which neither is a part of the other: the model names the fields of both, and the rate is not the same in them.
+// Two types, of which neither is a part of the other, and not one over the type of the rate: the model names both and their fields, and a rate
+// that is asked for may be any float.
 //
-// What a host asks for when it makes a store: the sample rate as it says it, and the rest as in `Config`.
+// What a host asks for when it makes a store: the sample rate as it says it, and the rest as in `Config`. `table` is a flag: a call from C gives it as one.
 #[derive(Clone, Copy)]
 pub struct Making {
     pub rate: f32,

@@ -1,7 +1,8 @@
 use lists::rows::Table;
 use node::name::Name;
 
-// The port of a name that a node has not. A number and no Option: the bytes of a book and the words of a wish hold it as it is.
+// The port of a name that a node has not. A number and no Option: books and words hold it as it is, and `Some(255)` would be a second none,
+// which a book that is written and read again does not give back.
 pub const NO_PORT: u8 = 255;
 
 // A node of a definition: kind name, ports, required ports (bit p for port p), what it takes, and its first ports named

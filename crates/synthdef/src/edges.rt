@@ -3,6 +3,7 @@ ghost use Rattle.synthdef.specs.Tables.{edge_rows, edge_table};
 ghost use Rattle.synthdef.specs.Edges.{counted, taken, ends_at};
 
 use crate::def::{DefEdge, DefEdges};
+use lists::rows::Table;
 
 // Whether `e` ends at the port `port` of the node `node`.
 pub fn ends_at(e: DefEdge, node: usize, port: usize) -> bool
@@ -19,24 +20,20 @@ fn taken(e: DefEdge, es: &[DefEdge]) -> bool
         .any(|x| ends_at(*x, usize::from(e.to), usize::from(e.port)))
 }
 
-// The edges that count, the last to each port, in the order of their last occurrence. A row is stored by its number and not by `push`, since the
-// loop's bound says that there is room; the blank row stands behind the count, where nobody reads.
+// The edges that count, the last to each port, in the order of their last occurrence.
 pub fn counted_edges(es: DefEdges) -> DefEdges
     ensures { result ≡ edge_table (counted (edge_rows es)) }
 {
-    let none = DefEdge {
+    let mut out = Table::empty(DefEdge {
         from: 0,
         to: 0,
         port: 0,
-    };
-    let mut rows = [none; 48];
-    let mut count = 0;
+    });
     let edges = es.as_slice();
     for (i, e) in edges.iter().enumerate() {
         if !taken(*e, &edges[i + 1..]) {
-            rows[count] = *e;
-            count += 1;
+            out.push(*e);
         }
     }
-    DefEdges { rows, count }
+    out
 }

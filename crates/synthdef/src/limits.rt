@@ -6,6 +6,7 @@ ghost use Rattle.rank.specs.Order.{upto, whole};
 
 use crate::def::{DefEdge, DefEdges, DefNode, DefNodes, NO_PORT, Param, SynthDef};
 use crate::edges::counted_edges;
+use lists::rows::Table;
 use node::name::is_named;
 use rank::ranked;
 
@@ -64,20 +65,18 @@ fn counts_allowed(nodes: usize, edges: usize, params: usize) -> bool
     (1..=24).contains(&nodes) && edges <= 48 && params <= 8
 }
 
-// Whether the edges `es` among the nodes have no cycle: their processing order has all nodes. An array for each end, and not one of
+// Whether the edges `es` among the nodes have no cycle: their processing order has all nodes. A table for each end, and not one of
 // pairs: so `ranked` takes them.
 fn ordered(nodes: &DefNodes, es: DefEdges) -> bool
     ensures { result ≡ whole (upto (length (node_rows nodes.now))) (map arc_of (edge_rows es)) }
 {
-    let edges = es.as_slice();
-    let mut from = [0usize; 48];
-    let mut to = [0usize; 48];
-    for (i, e) in edges.iter().enumerate() {
-        from[i] = usize::from(e.from);
-        to[i] = usize::from(e.to);
+    let mut from: Table<usize, 48> = Table::empty(0);
+    let mut to: Table<usize, 48> = Table::empty(0);
+    for e in es.as_slice() {
+        from.push(usize::from(e.from));
+        to.push(usize::from(e.to));
     }
-    let m = edges.len();
-    ranked(nodes.as_slice().len(), &from[..m], &to[..m]).whole
+    ranked(nodes.as_slice().len(), from.as_slice(), to.as_slice()).whole
 }
 
 // Whether a definition is within the limits; refusal 9 where it is not.

@@ -5,10 +5,12 @@ ghost use Rattle.synthdef.specs.Plan.{named_span, span_of, is_every, sources_fro
 
 use crate::def::{DefEdges, DefNode, SynthDef};
 use crate::edges::{counted_edges, ends_at};
+use lists::rows::Table;
 use node::silence::{SilenceRule, silence_rule};
 
 // The sources that the rule of a node reads, the first `count` of `sources`: where `all` is set, all of them have to be silent for the node
-// to be, else one. No `Table` of lists: its count is a byte, as the words of a voice hold it.
+// to be, else one. No `Table` of lists: its count is a byte, as the words of a voice hold it. `all` is a flag there too: an enum of the two
+// would be made of it and taken apart again.
 #[derive(Clone, Copy)]
 pub struct DoneStep {
     pub all: bool,
@@ -16,7 +18,7 @@ pub struct DoneStep {
     pub sources: [u8; 8],
 }
 
-// The step of a node that is silent by its done flag alone.
+// The step of a node that is silent by its done flag alone. It stands for no step, and needs no Option: of no sources none is silent.
 const NEVER: DoneStep = DoneStep {
     all: false,
     count: 0,
@@ -30,7 +32,7 @@ pub struct DonePlan {
     pub output: u8,
 }
 
-// The ports that a rule reads: `count` of them from `first` on.
+// The ports that a rule reads: `count` of them from `first` on. No range of the library: a sum compares the count, which a range would subtract.
 #[derive(Clone, Copy)]
 struct Span {
     first: usize,
@@ -57,22 +59,18 @@ fn span_of(rule: SilenceRule, n: DefNode) -> Span
     let ports = usize::from(n.ports).min(8);
     match rule {
         SilenceRule::Own => Span { first: 0, count: 0 },
-        SilenceRule::AnyPort => Span {
+        SilenceRule::AnyPort | SilenceRule::EveryPort => Span {
             first: 0,
             count: ports,
         },
         SilenceRule::FirstPort => Span { first: 0, count: 1 },
-        SilenceRule::EveryPort => Span {
-            first: 0,
-            count: ports,
-        },
         SilenceRule::LevelPort => named_span(ports, usize::from(n.level_port)),
         SilenceRule::AmpPort => named_span(ports, usize::from(n.amp_port)),
         SilenceRule::InPort => named_span(ports, usize::from(n.in_port)),
     }
 }
 
-// Whether the rule asks that every source is silent: a test of the rule, no comparison.
+// Whether the rule asks that every source is silent.
 fn is_every(rule: SilenceRule) -> bool
     ensures { result ≡ is_every rule }
 {
@@ -89,23 +87,21 @@ fn source_at(es: DefEdges, node: usize, port: usize) -> Option<u8>
         .map(|e| e.from)
 }
 
-// A step that asks for one silent source among those that are connected to `count` ports from `first` on.
-fn sources_of(es: DefEdges, node: usize, first: usize, count: usize) -> DoneStep
-    requires { (first ≤ 8) × (count ≤ 8) }
-    ensures { result ≡ step false (sources_from (edge_rows es) node first count) }
+// A step that asks for one silent source among those that are connected to the ports of `span`.
+fn sources_of(es: DefEdges, node: usize, span: Span) -> DoneStep
+    requires { (span.first ≤ 8) × (span.count ≤ 8) }
+    ensures { result ≡ step false (sources_from (edge_rows es) node span.first span.count) }
 {
-    let mut sources = [0u8; 8];
-    let mut found: usize = 0;
-    for port in first..first + count {
+    let mut found: Table<u8, 8> = Table::empty(0);
+    for port in span.first..span.first + span.count {
         if let Some(from) = source_at(es, node, port) {
-            sources[found] = from;
-            found += 1;
+            found.push(from);
         }
     }
     DoneStep {
         all: false,
-        count: found as u8,
-        sources,
+        count: found.count as u8,
+        sources: found.rows,
     }
 }
 
@@ -125,7 +121,7 @@ fn step_of(es: DefEdges, n: DefNode, i: usize) -> DoneStep
 {
     let rule = silence_rule(n.kind);
     let span = span_of(rule, n);
-    let st = sources_of(es, i, span.first, span.count);
+    let st = sources_of(es, i, span);
     if is_every(rule) {
         sum_of(span.count, st)
     } else {
@@ -133,7 +129,7 @@ fn step_of(es: DefEdges, n: DefNode, i: usize) -> DoneStep
     }
 }
 
-// The done plan of a definition.
+// The done plan of a definition. By the place, which the step needs as well: a zip with the steps would nest a pair in a pair.
 pub fn done_plan(d: SynthDef) -> DonePlan
     ensures { result ≡ plan_of d }
 {

@@ -3,6 +3,7 @@ ghost use Rattle.std.specs.Prelude.{◌≡◌};
 ghost use Rattle.synthdef.specs.Plan.{silent_in, says, pass, settled, plan_silent};
 
 use crate::plan::{DonePlan, DoneStep};
+use std::array;
 
 // Whether node `j` is silent by the flags `s`. A row past them is not.
 fn silent_in(s: [bool; 24], j: u8) -> bool
@@ -23,15 +24,11 @@ fn says(st: DoneStep, s: [bool; 24]) -> bool
     }
 }
 
-// One pass over the steps: which nodes are silent, if those in `s` are. By the index: a zip of three arrays nests a pair in a pair.
+// One pass over the steps: which nodes are silent, if those in `s` are.
 fn pass(p: DonePlan, done: [bool; 24], s: [bool; 24]) -> [bool; 24]
     ensures { result ≡ pass p.steps done s }
 {
-    let mut t = [false; 24];
-    for (i, st) in p.steps.iter().enumerate() {
-        t[i] = done[i] || says(*st, s);
-    }
-    t
+    array::from_fn(|i| done[i] || says(p.steps[i], s))
 }
 
 // Which nodes are silent: passes until nothing changes. Each that changes anything adds a node, so that there are no more of them than

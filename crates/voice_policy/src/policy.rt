@@ -6,7 +6,7 @@ use lists::rows::Table;
 use node::record::{NodeId, VoiceId};
 use voice::policy::{Admission, BudgetScope, Candidate, Candidates, Held, StealPolicy, Victim};
 
-// No candidates: the table that a caller fills from the front.
+// No candidates: the table that a caller fills from the front. Its memory is fixed, so that a blank one stands behind the count, where nobody reads.
 pub fn no_candidates() -> Candidates
     ensures { candidates_of result ≡ [] }
 {
@@ -38,11 +38,9 @@ fn pass_candidate(h: Held, p: usize, c: Candidate) -> Held
 fn walk_levels(all: &[Candidate]) -> Held
     ensures { result ≡ walk None 0 all.now }
 {
-    let mut h = None;
-    for (i, c) in all.iter().enumerate() {
-        h = pass_candidate(h, i, *c);
-    }
-    h
+    all.iter()
+        .enumerate()
+        .fold(None, |h, (i, c)| pass_candidate(h, i, *c))
 }
 
 fn pick_oldest(all: &[Candidate]) -> Victim
@@ -59,14 +57,12 @@ fn pick_newest(all: &[Candidate]) -> Victim
     Some((all.len() - 1, c.voice))
 }
 
-// By a match: map and or_else want a closure for each case and say no more.
 fn pick_quietest(all: &[Candidate]) -> Victim
     ensures { result ≡ quietest all.now }
 {
-    match walk_levels(all) {
-        None => pick_oldest(all),
-        Some((place, voice, _)) => Some((place, voice)),
-    }
+    walk_levels(all)
+        .map(|(place, voice, _)| (place, voice))
+        .or_else(|| pick_oldest(all))
 }
 
 // The candidate that the policy gives up, whatever the ranks.
@@ -81,15 +77,15 @@ fn policy_victim(all: &[Candidate], policy: StealPolicy) -> Victim
     }
 }
 
-#[tactic(auto, using(voice::proofs::Walk::lowest_fold))]
 // The lowest of `rank` and the ranks of the candidates.
+#[tactic(auto, using(voice::proofs::Walk::lowest_fold))]
 fn lowest_rank(all: &[Candidate], rank: u32) -> u32
     ensures { result ≡ lowest rank all.now }
 {
     all.iter().fold(rank, |k, c| k.min(c.rank))
 }
 
-// The candidates of the rank `k`, in order of admission.
+// The candidates of the rank `k`, in order of admission. By a loop: `collect` makes no table, and there is no heap for a list.
 fn of_rank(t: &Candidates, k: u32) -> Candidates
     ensures { candidates_of result ≡ filter (λ (c : Candidate). eqb c.rank k) (candidates_of t.now) }
 {

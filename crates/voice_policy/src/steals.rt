@@ -1,9 +1,11 @@
-ghost use Rattle.std.specs.Prelude.{◌≡◌, ◌+◌, ◌-◌, ◌%◌, ◌≤◌, min, length};
+// The steals as functions and no methods: `Steals` is a type of crate voice, which has definitions and no code. Its clauses say `log_of`, and
+// no impl Model does: the fields are public, since crate steal_log makes the ring of words and stores its rows.
+ghost use Rattle.std.specs.Prelude.{◌≡◌, ◌+◌, ◌-◌, ◌%◌, ◌≤◌, length};
 ghost use Rattle.voice.specs.Steals.{record_of, record_level, empty_log, log_of, pushed, marked, found_at};
 
 use voice::steals::{StealRecord, Steals};
 
-// The record of a steal. Where no level is known, the float is 0.
+// The record of a steal. Where no level is known, the float is 0: the scope asks for a float beside a flag, and for no option.
 pub fn steal_record(sample: u64, level: Option<f32>, cut: bool) -> StealRecord
     ensures { result ≡ record_of sample level cut }
 {
@@ -76,8 +78,7 @@ pub fn held_steals(s: Steals) -> usize
 pub fn steal_at(s: Steals, i: usize) -> Option<StealRecord>
     ensures { result ≡ found_at i (log_of s).newest }
 {
-    // The number itself and not `held_steals`, which says it by the list: the place in the ring is counted back from it.
-    let n = (s.total as usize).min(64);
+    let n = held_steals(s);
     if n <= i {
         return None;
     }

@@ -6,4 +6,3 @@ pub mod Words
 pub mod Reading
 pub mod Picked
 pub mod First
-pub mod Searching

@@ -1,13 +1,11 @@
--- Two records with the same fields are the same; a record read from the same words is the same.
-use Prim.Native.Nat.{ℕ, ◌+◌, ◌/◌, ◌%◌, ◌<◌}
+-- Two records with the same fields are the same; a state read from the same words is the same.
+use Prim.Native.Nat.{ℕ, ◌+◌, ◌<◌}
 use native.Mathlib.Omega.{arith}
-use native.Mathlib.Nat.{add-zero}
 use mathlib.Core.Path.{◌≡◌, sym, ap, ◌∙◌}
 use mathlib.Core.Bool.{Bool, cond}
-use mathlib.Core.List.{List, ◌++◌}
+use mathlib.Core.List.{List}
 use lib.Dec.{eqb}
 use lib.ListN.{get_or}
-use Rattle.node.specs.declared.name.Name.{Name}
 use Rattle.node.specs.declared.record.NodeId.{NodeId}
 use Rattle.node.specs.declared.record.VoiceId.{VoiceId}
 use Rattle.synthdef.specs.declared.def.Param.{Param}
@@ -17,16 +15,10 @@ use Rattle.synthdef.specs.declared.plan.DonePlan.{DonePlan}
 use Rattle.store.specs.declared.voices.Voice.{Voice}
 use Rattle.store.specs.declared.voices.VoiceState.{VoiceState}
 use Rattle.store.specs.declared.voices.VoiceState.TheVariants.{Tracked, Fading, Loose}
-use Rattle.words.specs.Fields.{is_set, four, name_from, name_at, long_from}
-use Rattle.voice_rows.specs.Rows.{node, state_at, param_at, step_at}
+use Rattle.words.specs.Fields.{long_from}
+use Rattle.voice_rows.specs.Rows.{node, state_at}
 use Rattle.voice_rows.specs.Filled.{Local}
-
-param : Name → ℕ → Param
-param n k = record { name = n; node = k }
-
-pub param_same : (p q : Param) → p.name ≡ q.name → p.node ≡ q.node → p ≡ q
-unfolding param
-param_same p q a b = let same : param p.name p.node ≡ param q.name q.node = cc in same
+use Rattle.voice_rows.specs.Layouts.{first}
 
 params : List Param → ℕ → Params
 params l k = record { rows = l; count = k }
@@ -54,45 +46,7 @@ voice_same v w a b c d e f g h i m j k l =
     ≡ made w.id w.birth w.bus w.port w.first w.count w.output w.panned w.sequence w.rank w.state w.params w.plan = cc in
     same
 
--- ---- a name is read from five words, a parameter from six, a step from three
-name_of : ℕ → ℕ → ℕ → ℕ → ℕ → Name
-name_of a b c d e = name_from a b c d e
-
-step_from : ℕ → ℕ → ℕ → DoneStep
-step_from a b r = record { all = is_set (r / 256); count = r % 256; sources = four a ++ four b }
-
-module _ (w : ℕ) (c e : List ℕ) (a b : ℕ) (h : (j : ℕ) → j < w → get_or c (a + j) 0 ≡ get_or e (b + j) 0) where
-  pub first : 0 < w → get_or c a 0 ≡ get_or e b 0
-  first pos = ap (λ k. get_or c k 0) (sym (add-zero a)) ∙ h 0 pos ∙ ap (λ k. get_or e k 0) (add-zero b)
-
-pub name_local : Local 5 name_at
-unfolding name_of
-name_local c e a b h =
-    let e0 : get_or c a 0 ≡ get_or e b 0 = first 5 c e a b h (omega arith) in
-    let e1 : get_or c (a + 1) 0 ≡ get_or e (b + 1) 0 = h 1 (omega arith) in
-    let e2 : get_or c (a + 2) 0 ≡ get_or e (b + 2) 0 = h 2 (omega arith) in
-    let e3 : get_or c (a + 3) 0 ≡ get_or e (b + 3) 0 = h 3 (omega arith) in
-    let e4 : get_or c (a + 4) 0 ≡ get_or e (b + 4) 0 = h 4 (omega arith) in
-    let same : name_of (get_or c a 0) (get_or c (a + 1) 0) (get_or c (a + 2) 0) (get_or c (a + 3) 0) (get_or c (a + 4) 0)
-    ≡ name_of (get_or e b 0) (get_or e (b + 1) 0) (get_or e (b + 2) 0) (get_or e (b + 3) 0) (get_or e (b + 4) 0) = cc in
-    same
-
-pub param_local : Local 6 param_at
-param_local c e a b h =
-    let name : name_at c a ≡ name_at e b = name_local c e a b (λ j l. h j (omega arith)) in
-    let last : get_or c (a + 5) 0 ≡ get_or e (b + 5) 0 = h 5 (omega arith) in
-    param_same (param_at c a) (param_at e b) name (ap (λ x. x % 256) last)
-
-pub step_local : Local 3 step_at
-unfolding step_from
-step_local c e a b h =
-    let e0 : get_or c a 0 ≡ get_or e b 0 = first 3 c e a b h (omega arith) in
-    let e1 : get_or c (a + 1) 0 ≡ get_or e (b + 1) 0 = h 1 (omega arith) in
-    let e2 : get_or c (a + 2) 0 ≡ get_or e (b + 2) 0 = h 2 (omega arith) in
-    let same : step_from (get_or c a 0) (get_or c (a + 1) 0) (get_or c (a + 2) 0) ≡ step_from (get_or e b 0) (get_or e (b + 1) 0) (get_or e (b + 2) 0) = cc in
-    same
-
--- a state is read from eight
+-- ---- a state is read from eight
 state_from : ℕ → ℕ → ℕ → ℕ → ℕ → ℕ → ℕ → ℕ → VoiceState
 state_from k n a b c d e f =
     cond (eqb k 1) Tracked (cond (eqb k 2) (Fading (record { node = node n; start = long_from a b; position = long_from c d; number = long_from e f })) Loose)

@@ -22,7 +22,7 @@ use Rattle.words.proofs.Within.{sets_out, take_sets, put_past, fields_is}
 use Rattle.voice_rows.specs.Rows.{state_at, param_at, step_at, params_in, steps_in, headed, voice_of, voices_in, Heads, Stands, Spells}
 use Rattle.voice_rows.specs.Filled.{Filled}
 use Rattle.voice_rows.proofs.Filling.{each_same, sets_in}
-use Rattle.voice_rows.proofs.Records.{param_local, step_local}
+use Rattle.voice_rows.specs.Layouts.{param_local, step_local}
 
 -- the same words from a place on give the same parameters, and the same steps
 params_same : (c e : List ℕ) → ((j : ℕ) → 23 ≤ j → j < 71 → get_or c j 0 ≡ get_or e j 0) → params_in c ≡ params_in e

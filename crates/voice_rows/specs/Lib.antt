@@ -5,3 +5,4 @@ pub mod Earlier
 pub mod Listed
 pub mod Levels
 pub mod Fading
+pub mod Layouts

@@ -1,4 +1,5 @@
 // Fades: how they begin and move, in place, and which one started earliest.
+// A loop goes by the numbers of rows: a row is so many words of a lent table, and there is no slice of rows.
 ghost use Rattle.std.specs.Prelude.{◌≡◌, [], map, take, get_or};
 ghost use Rattle.model.specs.Voice.{start_of, fades_on, begin_fade, moved, moved_fade, moved_state};
 ghost use Rattle.model.specs.Spawn.{earliest};
@@ -75,7 +76,8 @@ pub fn fades_on(t: &[u32], i: usize, bus: NodeId) -> bool
     fading(state_at(t, i)).is_some() && bus_at(t, i) == bus
 }
 
-// The clock at the start of the fade of the voice in row `i`; 0 if it has none.
+// The clock at the start of the fade of the voice in row `i`; 0 and no option where it does not fade, as `start_of` in the clause gives it: compared
+// as options, a voice that does not fade would be before one whose fade starts at 0.
 pub fn start_at(t: &[u32], i: usize) -> u64
     ensures { result ≡ start_of (get_or (voices_in t.now) i (voice_of [])).state }
 {
@@ -96,7 +98,8 @@ fn earlier_row(t: &[u32], best: Option<usize>, i: usize, bus: NodeId) -> Option<
 }
 
 // The row of the fade of `bus` that started earliest, of several the first in voice order; or none.
-// By a for: of `filter` and `min_by_key` the library tells the steps and has no law of what they find, and the clause did not close.
+// By a for: with `filter` and `min_by_key` the goal `returns` stayed open: the library says that no key is less, and not that of several the first
+// is taken.
 pub fn earliest_fade(t: &[u32], count: usize, bus: NodeId) -> Option<usize>
     ensures { FoundAt result count (voices_in t.now) (earliest (fades_on bus) (take count (voices_in t.now))) }
 {

@@ -1,5 +1,5 @@
 // Records that stand one after the other, each in so many words, in a row of a table.
-ghost use Rattle.std.specs.Prelude.{◌≡◌, ◌+◌, ◌*◌, ◌≤◌, List, ℕ, length};
+ghost use Rattle.std.specs.Prelude.{◌≡◌, ◌+◌, ◌*◌, ◌<◌, ◌≤◌, List, ℕ};
 ghost use Rattle.words.specs.Rows.{row_at};
 ghost use Rattle.voice_rows.specs.Rows.{Spells, each};
 ghost use Rattle.voice_rows.specs.Filled.{Filled, Local};
@@ -17,36 +17,48 @@ pub trait Layout<const W: usize> {
         ensures { Spells at W x result };
 
     // The record from word `k` of row `i` on, of rows of `width` words.
-    fn read(t: &[u32], width: usize, i: usize, k: usize) -> Self::Record
-        requires { k + W ≤ 65536 }
+    fn read(t: &[u32], width: usize, i: usize, k: u16) -> Self::Record
         ensures { result ≡ at (row_at width i t.now) k };
+
+    // It is read from its own words alone.
+    ghost local: { Local W at };
 }
 
-// The records `xs` stand one after the other from word `base` on. Each is read from its own words alone.
-pub fn put_records<L: Layout<W>, const W: usize>(t: &mut [u32], base: usize, xs: &[L::Record])
-    requires room { base + length xs.now * W ≤ length t.old }
-    requires own { Local W L.at }
-    ensures { Filled base W (length xs.now) L.at t.old t.new xs.now }
+// Where `N` records of `W` words each stand in a row of `M` words: one after the other, from word `base` on.
+#[derive(Clone, Copy)]
+pub struct Run<const W: usize, const N: usize, const M: usize> {
+    pub base: u16,
+    ghost fits: { base + N * W ≤ M },
+    ghost narrow: { M ≤ 65536 },
+}
+
+// The records `xs` are stored in the words of a row.
+pub fn put_records<L: Layout<W>, const W: usize, const N: usize, const M: usize>(
+    ws: &mut [u32; M],
+    run: Run<W, N, M>,
+    xs: &[L::Record; N],
+)
+    ensures { Filled run.entry.base W N L.at ws.old ws.new xs.now }
 {
+    let base = usize::from(run.base);
     for (k, x) in xs.iter().enumerate() {
-        put_words(t, base + k * W, &L::words(*x));
+        put_words(ws, base + k * W, &L::words(*x));
     }
 }
 
-// The `N` records from word `base` of row `i` on, of rows of `width` words.
-pub fn records_at<L: Layout<W>, const W: usize, const N: usize>(
+// The records in row `i`.
+pub fn records_at<L: Layout<W>, const W: usize, const N: usize, const M: usize>(
     t: &[u32],
-    width: usize,
     i: usize,
-    base: usize,
+    run: Run<W, N, M>,
 ) -> [L::Record; N]
-    requires { base + N * W ≤ 65536 }
-    ensures { result ≡ each (λ k. L.at (row_at width i t.now) (base + k * W)) 0 N }
+    ensures { result ≡ each (λ k. L.at (row_at M i t.now) (run.entry.base + k * W)) 0 N }
 {
+    let base = run.base;
     array::from_fn(
         |k: usize| -> L::Record
-            requires { base + k * W + W ≤ 65536 }
-            ensures { result ≡ L.at (row_at width i t.entry.now) (base + k * W) }
-        { L::read(t, width, i, base + k * W) },
+            requires { base + k * W < 65536 }
+            ensures { result ≡ L.at (row_at M i t.entry.now) (base + k * W) }
+        { L::read(t, M, i, base + (k * W) as u16) },
     )
 }

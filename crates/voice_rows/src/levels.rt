@@ -1,4 +1,5 @@
 // Who counts for a new voice on a bus, and with which level.
+// A loop goes by the numbers of rows: a row is so many words of a lent table, and there is no slice of rows.
 ghost use Rattle.std.specs.Prelude.{◌≡◌, [], length, take, get_or};
 ghost use Rattle.voice.specs.Policy.{candidates_of};
 ghost use Rattle.graph.specs.Node.{node_at};
@@ -31,7 +32,8 @@ fn node_level(nodes: &[u32], n: usize, id: NodeId) -> Option<f32>
     Some(float_at(nodes, 22, row, 14))
 }
 
-// A walk over the first `n` of the lent nodes: every row before `row` has a lower id, so that the node in it is the first of its id.
+// A walk over the first `n` of the lent nodes: every row before `row` has a lower id, so that the node in it is the first of its id. Each method says that
+// the walk keeps its nodes: what is behind a `&mut` is known by the clauses alone. The clock is a parameter and no field: each would have to keep it too.
 #[derive(Drop)]
 struct NodeWalk<'a> {
     nodes: &'a [u32],
@@ -48,7 +50,8 @@ impl<'a> NodeWalk<'a> {
         NodeWalk { nodes, n, row: 0 }
     }
 
-    // On while the ids rise and are below `id`; where it stops, the next walk goes on.
+    // On while the ids rise and are below `id`; where it stops, the next walk goes on. Past the end of the table 0 is read and no option: an id that
+    // does not rise ends the walk.
     fn advance(&mut self, id: NodeId)
         ensures { (self.new.nodes.now ≡ self.old.nodes.now) × (self.new.n ≡ self.old.n) }
     {
@@ -119,8 +122,7 @@ pub fn is_counted(t: &[u32], i: usize, scope: BudgetScope, bus: NodeId) -> bool
 
 // The tracked voices that count for a new voice, in order of admission, each with its level and its rank.
 // One walk over the nodes serves all voices: in a store that calls made, the ids of the nodes rise from row to row, and those of the
-// outputs from voice to voice. For an output that is not at the row reached, all nodes are looked at. A row is stored by its number and not by `push`, since
-// the loop's bound says that there is room.
+// outputs from voice to voice. For an output that is not at the row reached, all nodes are looked at.
 pub fn candidates(t: &VoiceTable, count: usize, nodes: &[u32], n: usize, by: Counting) -> Candidates
     ensures { candidates_of result ≡ candidates_at (take n (nodes_in nodes.now)) by.clock (counted by.scope by.bus) (take count (voices_in t.now)) }
 {
@@ -128,8 +130,7 @@ pub fn candidates(t: &VoiceTable, count: usize, nodes: &[u32], n: usize, by: Cou
     let mut walk = NodeWalk::new(nodes, n);
     for i in 0..count.min(64) {
         if is_counted(t, i, by.scope, by.bus) {
-            out.rows[out.count] = walk.candidate(t, i, by.clock);
-            out.count += 1;
+            out.push(walk.candidate(t, i, by.clock));
         }
     }
     out

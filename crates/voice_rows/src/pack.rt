@@ -2,8 +2,9 @@
 ghost use Rattle.std.specs.Prelude.{◌≡◌, ◌/◌, ◌%◌};
 ghost use Rattle.words.specs.Fields.{is_set};
 ghost use Rattle.voice_rows.specs.Rows.{state_at, param_at, step_at, Heads, Stands, Spells};
+ghost use Rattle.voice_rows.specs.Layouts.{param_local, step_local};
 
-use crate::layout::{Layout, put_records};
+use crate::layout::{Layout, Run, put_records};
 use store::voices::{Voice, VoiceState};
 use synthdef::def::Param;
 use synthdef::plan::DoneStep;
@@ -12,7 +13,7 @@ use words::fields::{
 };
 use words::table::{put_words, word_at};
 
-// A state in eight words.
+// A state in eight words, of which the first is a number for each case: the lent words hold numbers.
 pub fn state_words(s: VoiceState) -> [u32; 8]
     ensures { Spells state_at 8 s result }
 {
@@ -45,15 +46,18 @@ impl Layout<6> for ParamWords {
         [n[0], n[1], n[2], n[3], n[4], u32::from(x.node)]
     }
 
-    fn read(t: &[u32], width: usize, i: usize, k: usize) -> Param {
+    fn read(t: &[u32], width: usize, i: usize, k: u16) -> Param {
         Param {
-            name: name_at(t, width, i, k as u16),
-            node: low_byte(word_at(t, width, i, k + 5)),
+            name: name_at(t, width, i, k),
+            node: low_byte(word_at(t, width, i, usize::from(k) + 5)),
         }
     }
+
+    ghost local = { param_local };
 }
 
-// How many sources of a step count, and whether all have to be silent.
+// How many sources of a step count, and whether all have to be silent. By 256 and not by bytes, here and where it is read: what stands above the
+// count's byte is one number in the definition.
 fn rule_word(all: bool, count: u8) -> u32
     ensures { (result % 256 ≡ count) × (is_set (result / 256) ≡ all) }
 {
@@ -77,14 +81,17 @@ impl Layout<3> for StepWords {
         ]
     }
 
-    fn read(t: &[u32], width: usize, i: usize, k: usize) -> DoneStep {
-        let rule = word_at(t, width, i, k + 2);
+    fn read(t: &[u32], width: usize, i: usize, k: u16) -> DoneStep {
+        let j = usize::from(k);
+        let rule = word_at(t, width, i, j + 2);
         DoneStep {
             all: is_set(rule / 256),
             count: low_byte(rule),
-            sources: eight_bytes(word_at(t, width, i, k), word_at(t, width, i, k + 1)),
+            sources: eight_bytes(word_at(t, width, i, j), word_at(t, width, i, j + 1)),
         }
     }
+
+    ghost local = { step_local };
 }
 
 // The words of a voice before its parameters. Word by word, since the list is the layout: parts put by their places would say it twice.
@@ -126,7 +133,7 @@ pub fn voice_words(v: Voice) -> [u32; 143]
 {
     let mut ws = [0; 143];
     put_words(&mut ws, 0, &head_words(v));
-    put_records::<ParamWords, 6>(&mut ws, 23, &v.params.rows);
-    put_records::<StepWords, 3>(&mut ws, 71, &v.plan.steps);
+    put_records::<ParamWords, 6, 8, 143>(&mut ws, Run { base: 23 }, &v.params.rows);
+    put_records::<StepWords, 3, 24, 143>(&mut ws, Run { base: 71 }, &v.plan.steps);
     ws
 }

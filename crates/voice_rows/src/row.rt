@@ -1,13 +1,14 @@
 // A voice's row: its fields one by one, so that a loop reads what it tests; its state; the whole record. A getter of any field would
 // take the field's word and say less than a name. The words are a slice and not `VoiceTable`: the library for C stores one voice in a
-// lent record by `put_voice`, and a table's length would ask of callers what no row needs.
+// lent record by `put_voice`, and a table's length would ask of callers what no row needs. A reader past the end gives what no words
+// stand for, and no option: callers read below the count, and none of them would meet the other case.
 ghost use Rattle.std.specs.Prelude.{◌≡◌, [], get_or, set};
 ghost use Rattle.words.specs.Rows.{row_at};
 ghost use Rattle.synthdef.specs.Plan.{plan_silent};
 ghost use Rattle.model.specs.Voice.{with_state};
 ghost use Rattle.voice_rows.specs.Rows.{fade_at, voice_of, voices_in};
 
-use crate::layout::records_at;
+use crate::layout::{Run, records_at};
 use crate::pack::{ParamWords, StepWords, state_words, voice_words};
 use node::record::{NodeId, VoiceId};
 use store::voices::{Fade, Voice, VoiceState};
@@ -82,7 +83,7 @@ pub fn rank_at(t: &[u32], i: usize) -> u32
     word_at(t, 143, i, 22)
 }
 
-// The fade that the words of a state would be one of.
+// The fade that the words of the state in row `i` stand for, if it is one.
 fn fade_at(t: &[u32], i: usize) -> Fade
     ensures { result ≡ fade_at (row_at 143 i t.now) 11 }
 {
@@ -94,6 +95,7 @@ fn fade_at(t: &[u32], i: usize) -> Fade
     }
 }
 
+// The lent words hold a number for each state; any other number is the last.
 pub fn state_at(t: &[u32], i: usize) -> VoiceState
     ensures { result ≡ (get_or (voices_in t.now) i (voice_of [])).state }
 {
@@ -123,7 +125,7 @@ pub fn params_at(t: &[u32], i: usize) -> Params
     ensures { result ≡ (get_or (voices_in t.now) i (voice_of [])).params }
 {
     Params {
-        rows: records_at::<ParamWords, 6, 8>(t, 143, i, 23),
+        rows: records_at::<ParamWords, 6, 8, 143>(t, i, Run { base: 23 }),
         count: long_at(t, 143, i, 19) as usize,
     }
 }
@@ -133,7 +135,7 @@ pub fn plan_at(t: &[u32], i: usize) -> DonePlan
     ensures { result ≡ (get_or (voices_in t.now) i (voice_of [])).plan }
 {
     DonePlan {
-        steps: records_at::<StepWords, 3, 24>(t, 143, i, 71),
+        steps: records_at::<StepWords, 3, 24, 143>(t, i, Run { base: 71 }),
         output: low_byte(word_at(t, 143, i, 21)),
     }
 }

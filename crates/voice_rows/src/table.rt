@@ -1,5 +1,5 @@
 // The table of voices, in order of admission: its first `count` rows. A count above the room is the room. Where the room is tested the
-// table itself is lent; the other loops serve any words, and a table's length would ask of callers what they do not need.
+// table itself is lent; the others serve any words, and a table's length would ask of callers what they do not need.
 ghost use Rattle.std.specs.Prelude.{◌≡◌, not, length, take, filter, find};
 ghost use Rattle.model.specs.Voice.{is_voice};
 ghost use Rattle.voice_rows.specs.Listed.{is_any_of, pushed_voice};
@@ -11,7 +11,7 @@ use crate::row::{VoiceTable, id_at, put_voice};
 use edges::table::is_listed;
 use node::record::VoiceId;
 use store::voices::Voice;
-use words::table::move_row;
+use words::table::close_gaps;
 
 // How many voices live.
 pub fn voice_count(voices: &VoiceTable, count: usize) -> usize
@@ -39,21 +39,14 @@ pub fn push_voice(t: &mut VoiceTable, count: usize, v: Voice) -> usize
     n
 }
 
-// Removes the voices whose ids are among `ids`, in one pass that closes the gaps: how many are left.
+// Removes the voices whose ids are among `ids`: how many are left.
 pub fn remove_voices(t: &mut [u32], count: usize, ids: &[u64]) -> usize
     ensures { Holds (voices_in t.new) result (filter (λ v. not (is_any_of ids.now v)) (take count (voices_in t.old))) }
 {
-    let mut w = 0;
-    for i in 0..count.min(t.len() / 143) {
-        if !is_listed(ids, id_at(t, i).0) {
-            move_row(t, 143, i, w);
-            w += 1;
-        }
-    }
-    w
+    close_gaps(t, 143, 0, count, |t, i| !is_listed(ids, id_at(t, i).0))
 }
 
-// Removes the voice `v`: how many are left.
+// Removes the voice `v`: how many are left. Its clause speaks of a voice, and callers with one id need no law of lists of ids.
 pub fn remove_voice(t: &mut [u32], count: usize, v: VoiceId) -> usize
     ensures { Holds (voices_in t.new) result (filter (λ x. not (is_voice v x)) (take count (voices_in t.old))) }
 {

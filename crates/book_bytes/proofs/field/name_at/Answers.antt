@@ -1,18 +1,15 @@
--- `book_bytes::field::name_at` meets its contract.
-use native.Mathlib.Omega.{arith}
-use mathlib.Core.Path.{◌≡◌, ap, ◌∙◌}
-use lib.ListN.{set}
-use Rattle.def_book.proofs.Fields.{copied_more, copied_all}
+-- `book_bytes::field::name_at` meets its contract: an array that is made by its places has at each place what the call there gave.
+use Rattle.std.proofs.Common.{◌+◌, ◌≡◌, ◌∙◌, sym, drop, get_or, rules, tests}
+use lib.Seq.{get_or-drop}
+use Rattle.lists.proofs.FromFn.{made_is}
+use Rattle.def_book.specs.Held.{held}
+use Rattle.def_book.proofs.Held.{length_held, get_d_held}
 use Rattle.book_bytes.proofs.field.name_at.Goals as goal
-
-pub loop-i-preserved : goal.loop-i-preserved
-loop-i-preserved c =
-    let l = c.loop-i in
-    ap (λ z. set z l.i c.byte_at.result) l.invariant ∙ copied_more c.args.s.now l.i c.byte_at.result c.loop-i-test.true c.byte_at.ensures
 
 pub returns : goal.returns
 returns c =
-    let l = c.loop-i in
-    let all : l.i ≡ 16 = omega arith in
-    let bytes = l.invariant ∙ copied_all c.args.s.now l.i all in
-    cc (bytes, c.byte_at-2.ensures)
+    let s = c.args.s.now in
+    let bytes = made_is _ _ c.from_fn.result (held 16 0 (drop 5 s)) 0 16 (λ i x q h p.
+    let there : x ≡ get_or s (5 + i) 0 = search (rules, tests) in
+    (search rules, there ∙ sym (get_d_held 0 16 (drop 5 s) i h ∙ get_or-drop 5 s i 0))) (length_held 0 16 (drop 5 s)) c.from_fn.ensures.items in
+    cc (bytes, c.byte_at.ensures)

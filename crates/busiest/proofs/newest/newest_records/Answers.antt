@@ -1,8 +1,10 @@
-use Rattle.std.proofs.Common.{◌≡◌, ◌-◌, ◌<◌, ◌++◌, length, take, get_or, replicate, ap, ◌∙◌, arith}
+use Rattle.std.proofs.Common.{ℕ, List, ◌≡◌, ◌+◌, ◌-◌, ◌<◌, ◌++◌, length, take, get_or, replicate, ap, ◌∙◌, arith}
+use mathlib.Core.Path.{ap₂}
 use Rattle.std.specs.Prelude.{unwrap_or}
 use Rattle.std.proofs.Math.ListN.{set}
 use Rattle.lists.proofs.Table.{filled_more}
 use Rattle.voice.specs.Steals.{log_of}
+use Rattle.voice.specs.declared.steals.StealRecord.{StealRecord}
 use Rattle.busiest.specs.Newest.{no_record}
 use Rattle.busiest.proofs.Rows.{found_row}
 use Rattle.busiest.proofs.newest.newest_records.Goals as goal
@@ -22,7 +24,9 @@ loop-i-preserved c =
       inv.0,
       inv.1,
       inv.2,
-      ap (λ z. set z i c.unwrap_or.result) inv.3
+      c.push.ensures.counted (omega arith) ∙ ap (λ k. k + 1) inv.3,
+      c.push.ensures.stored
+          ∙ ap₂ (λ (z : List StealRecord) (k : ℕ). set z k c.unwrap_or.result) inv.4 inv.3
           ∙ ap (set (take i l ++ replicate (64 - i) no_record) i) row
           ∙ filled_more no_record l 64 i in_list in_array,
     )

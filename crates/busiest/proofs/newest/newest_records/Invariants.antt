@@ -8,4 +8,6 @@ use Rattle.busiest.proofs.newest.newest_records.Given as goal
 
 -- the first i rows are the first i records, and no other is written
 abbrev pub invariant-loop-i : goal.invariant-loop-i
-invariant-loop-i l = (l.count ≡ length (log_of l.s).newest) × (l.count ≤ 64) × (l.none ≡ no_record) × (l.rows ≡ take l.i (log_of l.s).newest ++ replicate (64 - l.i) no_record)
+invariant-loop-i l =
+    (l.count ≡ length (log_of l.s).newest) × (l.count ≤ 64) × (l.none ≡ no_record) × (l.run.count ≡ l.i)
+    × (l.run.rows ≡ take l.i (log_of l.s).newest ++ replicate (64 - l.i) no_record)

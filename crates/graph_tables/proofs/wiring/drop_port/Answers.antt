@@ -1,36 +1,17 @@
-use Prim.Native.Nat.{◌/◌, ◌≤◌}
-use native.Mathlib.Omega.{arith}
-use mathlib.Core.Path.{sym, ap, ◌∙◌}
-use mathlib.Core.Bool.{not}
-use lib.ListN.{length}
-use Rattle.words.proofs.Place.{close_from, closed}
-use Rattle.words.proofs.InWords.{words_keep, words_drop}
+use Rattle.std.proofs.Common.{rules, ◌≤◌, length, take, not, ap, ◌∙◌, arith}
+use lib.ListN.{length-take}
+use Rattle.std.specs.List.{list_all}
+use Rattle.words.proofs.Gaps.{found_stay, closed_rows}
 use Rattle.edges.specs.Wiring.{ends_at}
-use Rattle.graph_rows.specs.Edge.{edge_of}
-use borrow.Author.Rules.{rules}
-use Rattle.graph_tables.proofs.Room.{edges_counted}
+use Rattle.graph_rows.specs.Edge.{edge_of, edges_in}
 use Rattle.graph_tables.proofs.wiring.drop_port.Goals as goal
-use Rattle.graph_tables.proofs.wiring.drop_port.Goals.{then-not-ends_at, else-not-ends_at}
-
-pub loop-i-init : goal.loop-i-init
-loop-i-init c = close_from 3 edge_of (ends_at c.args.node c.args.port) c.args.edges.now c.args.count c.min-n.result (edges_counted c.args.edges.now c.args.count _ (search rules) c.min-n.ensures) c.row_of-first.result c.row_of-first.ensures
-
-pub loop-i-preserved : goal.loop-i-preserved
-loop-i-preserved c =
-    let m = c.min-n in
-    let l = c.loop-i in
-    let s = c.args in
-    let fits : m.result ≤ length s.edges.now / 3 = omega (arith, edges_counted s.edges.now s.count _ (search rules) m.ensures) in
-    let test = ap not (sym c.ends_at.ensures) in
-    elim c.if-not-ends_at.branch [
-      | then-not-ends_at w ↦
-          rw (w.edges-is, w.k-is) (words_keep 3 edge_of (λ e. not (ends_at s.node s.port e)) s.edges.now l.edges m.result l.i l.k fits c.loop-i-test.true l.invariant w.move_row.new.t w.move_row.ensures (test ∙ ap not w.if-not-ends_at.true))
-      | else-not-ends_at w ↦
-          rw (w.edges-is, w.k-is) (words_drop 3 edge_of (λ e. not (ends_at s.node s.port e)) s.edges.now l.edges m.result l.i l.k fits c.loop-i-test.true l.invariant (test ∙ ap not w.if-not-ends_at.false))
-    ]
 
 pub returns : goal.returns
 returns c =
-    let m = c.min-n in
-    let l = c.loop-i in
-    closed 3 edge_of c.args.edges.now l.edges (λ e. not (ends_at c.args.node c.args.port e)) c.args.count m.result l.i l.k (edges_counted c.args.edges.now c.args.count _ (search rules) m.ensures) (omega arith) l.invariant
+    let s = c.args in
+    let q = ends_at s.node s.port in
+    let l = take s.count (edges_in s.edges.now) in
+    let few : length l ≤ s.count = omega (arith, length-take s.count (edges_in s.edges.now)) in
+    let first = c.unwrap_or-first.result in
+    let stay = ap (λ k. list_all (λ e. not (q e)) (take k l)) c.unwrap_or-first.ensures ∙ found_stay q l c.row_of.result s.count c.row_of.ensures few in
+    closed_rows 3 edge_of (λ e. not (q e)) s.edges.now c.close_gaps.new.t c.close_gaps.result first s.count _ c.close_gaps.ensures (λ t i b h. search rules) stay

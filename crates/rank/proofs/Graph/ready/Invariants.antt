@@ -3,4 +3,4 @@ use Rattle.rank.proofs.Laws.{Filled}
 use Rattle.rank.proofs.Graph.ready.Given as goal
 
 abbrev pub invariant-loop-v : goal.invariant-loop-v
-invariant-loop-v l = Filled l.queue l.tail l.v (take l.self.n l.counts)
+invariant-loop-v l = Filled l.queue.rows l.queue.count l.v (take l.self.n l.counts)

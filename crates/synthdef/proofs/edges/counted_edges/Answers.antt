@@ -25,6 +25,7 @@ loop-i-preserved c =
     let v = c.loop-i.invariant in
     let edges = c.as_slice-edges.result.now in
     let i = c.loop-i.i in
+    let t = c.loop-i.out in
     let e = get_or edges i no_edge in
     let rest = drop (i + 1) edges in
     let next : drop i edges ≡ e ∷ rest = left_cons no_edge edges i c.loop-i-test.true in
@@ -33,24 +34,23 @@ loop-i-preserved c =
     elim c.if-not-taken.branch [
       | then-not-taken w ↦
           let free : taken e rest ≡ false = sym told ∙ w.if-not-taken.true in
-          let room : c.loop-i.count < length c.loop-i.rows = omega arith in
-          let below : c.loop-i.count < 48 = omega arith in
-          rw (w.count-is, w.rows-is) (
+          let room : t.count < length t.rows = omega arith in
+          let below : t.count < 48 = omega arith in
+          let pushed = w.push.ensures in
+          rw (w.out-is, pushed.stored, pushed.counted (omega arith)) (
             omega arith,
             v.1,
             simp length-set v.2,
-            filled_one no_edge 48 c.loop-i.rows c.loop-i.count v.3 e room below,
-            one_more c.loop-i.rows c.loop-i.count e (counted rest) room
-                ∙ ap (λ z. take c.loop-i.count c.loop-i.rows ++ z) (sym (ap counted next ∙ counts e rest free))
-                ∙ v.4,
+            filled_one no_edge 48 t.rows t.count v.3 e room below,
+            one_more t.rows t.count e (counted rest) room ∙ ap (λ z. take t.count t.rows ++ z) (sym (ap counted next ∙ counts e rest free)) ∙ v.4,
           )
       | else-not-taken w ↦
           let gone : taken e rest ≡ true = sym told ∙ w.if-not-taken.false in
-          rw (w.count-is, w.rows-is) (
+          rw w.out-is (
             omega arith,
             v.1,
             v.2,
             v.3,
-            ap (λ z. take c.loop-i.count c.loop-i.rows ++ z) (sym (ap counted next ∙ counts_not e rest gone)) ∙ v.4,
+            ap (λ z. take t.count t.rows ++ z) (sym (ap counted next ∙ counts_not e rest gone)) ∙ v.4,
           )
     ]

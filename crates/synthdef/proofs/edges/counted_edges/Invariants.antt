@@ -10,5 +10,5 @@ use Rattle.synthdef.proofs.edges.counted_edges.Given as goal
 
 abbrev pub invariant-loop-i : goal.invariant-loop-i
 invariant-loop-i l =
-    (l.count ≤ l.i) × (length l.edges ≤ 48) × (length l.rows ≡ 48) × Filled no_edge 48 l.rows l.count
-    × (take l.count l.rows ++ counted (drop l.i l.edges) ≡ counted l.edges)
+    (l.out.count ≤ l.i) × (length l.edges ≤ 48) × (length l.out.rows ≡ 48) × Filled no_edge 48 l.out.rows l.out.count
+    × (take l.out.count l.out.rows ++ counted (drop l.i l.edges) ≡ counted l.edges)

@@ -12,8 +12,8 @@ source e = e.from
 abbrev pub target : DefEdge → ℕ
 target e = e.to
 
-abbrev pub invariant-loop-i : goal.invariant-loop-i
-invariant-loop-i l =
-    (length l.edges ≤ 48) × (length l.from ≡ 48) × (length l.to ≡ 48)
-    × (take l.i l.from ++ map source (drop l.i l.edges) ≡ map source l.edges)
-    × (take l.i l.to ++ map target (drop l.i l.edges) ≡ map target l.edges)
+abbrev pub invariant-loop-e : goal.invariant-loop-e
+invariant-loop-e l =
+    (length l.e-items ≤ 48) × (length l.from.rows ≡ 48) × (length l.to.rows ≡ 48) × (l.from.count ≡ l.e-index) × (l.to.count ≡ l.e-index)
+    × (take l.e-index l.from.rows ++ map source (drop l.e-index l.e-items) ≡ map source l.e-items)
+    × (take l.e-index l.to.rows ++ map target (drop l.e-index l.e-items) ≡ map target l.e-items)

@@ -32,26 +32,28 @@ loop-port-preserved c =
     let es = edge_rows c.args.es in
     let i = c.args.node in
     let p = c.loop-port.port in
-    let end = c.args.first + c.args.count in
+    let end = c.args.span.first + c.args.span.count in
     let rest = sources_from es i (p + 1) (end - (p + 1)) in
     let step = next es i p end c.loop-port-test.true in
-    let front = take c.loop-port.found c.loop-port.sources in
+    let t = c.loop-port.found in
+    let front = take t.count t.rows in
     elim c.match-source_at.branch [
       | in-Some w ↦
           let j = w.in-Some.from in
           let is : source_at es i p ≡ Some j = sym c.source_at.ensures ∙ w.in-Some.is in
-          let room : c.loop-port.found < length c.loop-port.sources = omega (arith, c.requires) in
-          let below : c.loop-port.found < 8 = omega arith in
-          rw (w.found-is, w.sources-is) (
+          let room : t.count < length t.rows = omega (arith, c.requires) in
+          let below : t.count < 8 = omega arith in
+          let pushed = w.push.ensures in
+          rw (w.found-is, pushed.stored, pushed.counted (omega arith)) (
             omega arith,
             omega arith,
             simp length-set v.2,
-            filled_one 0 8 c.loop-port.sources c.loop-port.found v.3 j room below,
-            one_more c.loop-port.sources c.loop-port.found j rest room ∙ ap (λ z. front ++ z) (sym (step ∙ ap (λ o. more o rest) is)) ∙ v.4,
+            filled_one 0 8 t.rows t.count v.3 j room below,
+            one_more t.rows t.count j rest room ∙ ap (λ z. front ++ z) (sym (step ∙ ap (λ o. more o rest) is)) ∙ v.4,
           )
       | in_default w ↦
           let is : source_at es i p ≡ None = found_none (source_at es i p) (λ j e. w.in_default.not-Some j (c.source_at.ensures ∙ e)) in
-          rw (w.found-is, w.sources-is) (
+          rw w.found-is (
             omega arith,
             omega arith,
             v.2,

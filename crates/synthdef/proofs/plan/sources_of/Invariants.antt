@@ -10,6 +10,6 @@ use Rattle.synthdef.proofs.plan.sources_of.Given as goal
 
 abbrev pub invariant-loop-port : goal.invariant-loop-port
 invariant-loop-port l =
-    let end = l.fn.first + l.fn.count in
-    (l.found + l.fn.first ≤ l.port) × (l.port ≤ end) × (length l.sources ≡ 8) × Filled 0 8 l.sources l.found
-    × (take l.found l.sources ++ sources_from (edge_rows l.es) l.node l.port (end - l.port) ≡ sources_from (edge_rows l.es) l.node l.fn.first l.fn.count)
+    let end = l.fn.span.first + l.fn.span.count in
+    (l.found.count + l.fn.span.first ≤ l.port) × (l.port ≤ end) × (length l.found.rows ≡ 8) × Filled 0 8 l.found.rows l.found.count
+    × (take l.found.count l.found.rows ++ sources_from (edge_rows l.es) l.node l.port (end - l.port) ≡ sources_from (edge_rows l.es) l.node l.fn.span.first l.fn.span.count)

@@ -1,36 +1,25 @@
--- `synthdef::silent::pass` meets its contract. Invariant: the flags so far and those of the steps that are left are the pass.
-use Prim.Native.Nat.{◌+◌, ◌<◌}
-use native.Mathlib.Omega.{arith}
-use native.Mathlib.Numerals.{add-one}
-use mathlib.Core.Path.{◌≡◌, sym, ap, ◌∙◌}
-use mathlib.Core.List.{◌∷◌, ◌++◌}
-use mathlib.Core.Bool.{false, ◌||◌}
-use lib.ListN.{length, take, drop, get_or, length-set}
-use Rattle.lists.proofs.Table.{left_cons}
-use Rattle.synthdef.specs.Plan.{no_step, says, pass_from}
-use Rattle.synthdef.proofs.Walk.{one_more}
+-- `synthdef::silent::pass` meets its contract: an array that is made by its places has at each place what the call there gave.
+use Rattle.std.proofs.Common.{ℕ, zero, suc, ◌+◌, List, [], ◌∷◌, Bool, false, ◌||◌, ◌≡◌, ◌<◌, ◌∙◌, refl, sym, ap, length, get_or, arith, rules, tests}
+use Rattle.lists.proofs.FromFn.{made_is}
+use Rattle.synthdef.specs.Plan.{no_step, says, pass_from, pass}
+use Rattle.synthdef.specs.declared.plan.DoneStep.{DoneStep}
+use Rattle.synthdef.proofs.PassLaws.{length_pass}
 use Rattle.synthdef.proofs.silent.pass.Goals as goal
-use Rattle.synthdef.proofs.silent.pass.Goals.{then-done-i, else-done-i}
 
-pub loop-i-preserved : goal.loop-i-preserved
-loop-i-preserved c =
-    let v = c.loop-i.invariant in
+-- what a pass says of the node at a place
+pass_at : (sts : List DoneStep) (done s : List Bool) (i k : ℕ) → k < length sts
+    → get_or (pass_from sts done s i) k false ≡ (get_or done (i + k) false || says (get_or sts k no_step) s)
+pass_at [] done s i k h = absurd (omega arith)
+pass_at (st ∷ sts) done s i zero h = let same : i + 0 ≡ i = omega arith in rw same refl
+pass_at (st ∷ sts) done s i (suc k) h = let same : i + suc k ≡ suc i + k = omega arith in rw same (pass_at sts done s (suc i) k (omega arith))
+
+pub returns : goal.returns
+returns c =
     let sts = c.args.p.steps in
-    let i = c.loop-i.i in
-    let st = get_or sts i no_step in
-    let rest = pass_from (drop (i + 1) sts) c.args.done c.args.s (i + 1) in
-    let more : i < length sts = omega arith in
-    let room : i < length c.loop-i.t = omega arith in
-    let flag : c.if-done-i.t ≡ (get_or c.args.done i false || says st c.args.s) =
-    elim c.if-done-i.branch [
-      | then-done-i w ↦ w.t-is ∙ w.if-done-i.true ∙ sym (ap (λ b. b || says st c.args.s) w.if-done-i.true)
-      | else-done-i w ↦ w.t-is ∙ w.says.ensures ∙ sym (ap (λ b. b || says st c.args.s) w.if-done-i.false)
-    ] in
-    let here : pass_from (drop i sts) c.args.done c.args.s i ≡ c.if-done-i.t ∷ rest =
-    ap (λ z. pass_from z c.args.done c.args.s i) (left_cons no_step sts i more)
-    ∙ ap (λ k. (get_or c.args.done i false || says st c.args.s) ∷ pass_from (drop (i + 1) sts) c.args.done c.args.s k) (sym (add-one i))
-    ∙ ap (λ b. b ∷ rest) (sym flag) in (
-      v.0,
-      simp length-set v.1,
-      one_more c.loop-i.t i c.if-done-i.t rest room ∙ ap (λ z. take i c.loop-i.t ++ z) (sym here) ∙ v.2,
-    )
+    let done = c.args.done in
+    let s = c.args.s in
+    let wide : length sts ≡ 24 = search rules in
+    made_is _ _ c.from_fn.result (pass sts done s) false 24 (λ i x q h p.
+    let there : x ≡ (get_or done i false || says (get_or sts i no_step) s) = search (rules, tests) in
+    let from_0 : i ≡ 0 + i = omega arith in
+    (search rules, there ∙ ap (λ k. get_or done k false || says (get_or sts i no_step) s) from_0 ∙ sym (pass_at sts done s 0 i (omega arith)))) (length_pass sts done s 0 ∙ wide) c.from_fn.ensures.items

@@ -1,4 +1,4 @@
-use Prim.Native.Nat.{ℕ, ◌/◌, ◌<◌, min}
+use Prim.Native.Nat.{ℕ, ◌+◌, ◌/◌, ◌<◌, min}
 use native.Mathlib.Omega.{arith}
 use mathlib.Core.Path.{◌≡◌, sym, ap, ◌∙◌}
 use mathlib.Core.List.{List, []}
@@ -35,10 +35,14 @@ loop-i-preserved c =
           w.candidate.ensures.is
           ∙ ap (λ l. candidate_at (take walk.n (nodes_in l)) a.by.clock (get_or vs at.i (voice_of []))) at.invariant.3
           ∙ ap (λ n. candidate_at (take n (nodes_in a.nodes.now)) a.by.clock (get_or vs at.i (voice_of []))) at.invariant.4 in
+          let put = w.push.ensures in
+          let more : w.push.new.self.count ≡ at.out.count + 1 = put.counted (omega (arith, at.invariant.0, c.min-i-end.ensures, c.loop-i-test.true)) in
           rw (w.out-is, w.walk-is) (
-            omega (arith, at.invariant.0),
-            length-set at.out.rows at.out.count w.candidate.result ∙ at.invariant.1,
-            picked_on (voice_of []) (candidate_at ns a.by.clock) q vs at.out.rows w.candidate.result at.i at.out.count below fits at.invariant.2 (sym c.is_counted.ensures ∙ w.if-is_counted.true) here,
+            omega (arith, at.invariant.0, more),
+            ap length put.stored ∙ length-set at.out.rows at.out.count w.candidate.result ∙ at.invariant.1,
+            ap (λ k. take k w.push.new.self.rows) more
+                ∙ ap (take (at.out.count + 1)) put.stored
+                ∙ picked_on (voice_of []) (candidate_at ns a.by.clock) q vs at.out.rows w.candidate.result at.i at.out.count below fits at.invariant.2 (sym c.is_counted.ensures ∙ w.if-is_counted.true) here,
             w.candidate.ensures.kept.0 ∙ at.invariant.3,
             w.candidate.ensures.kept.1 ∙ at.invariant.4,
           )

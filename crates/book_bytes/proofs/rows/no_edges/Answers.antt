@@ -1,8 +1,0 @@
--- `book_bytes::rows::no_edges` meets its contract.
-use mathlib.Core.Path.{refl}
-use Rattle.def_book.specs.Held.{held}
-use Rattle.book_bytes.proofs.rows.no_edges.Goals as goal
-
-pub returns : goal.returns
-unfolding held
-returns c = rw (c.empty.ensures.rows, c.empty.ensures.count) refl

@@ -1,9 +1,0 @@
-use mathlib.Core.Path.{sym, ap, ◌∙◌}
-use Rattle.words.proofs.Rows.{row_is}
-use Rattle.graph_rows.specs.Node.{node_of}
-use Rattle.graph_rows.proofs.Records.{voice}
-use Rattle.graph_rows.proofs.node_row.owner_at.Goals as goal
-
-pub returns : goal.returns
-unfolding node_of
-returns c = ap voice c.long_at.ensures ∙ sym (ap (λ n. n.owner) (row_is 22 node_of c.args.t.now c.args.i))
