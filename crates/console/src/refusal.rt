@@ -8,7 +8,8 @@ pub enum KeyboardRefusal {
     Full = 25,
 }
 
-// The number of such a refusal: what a host in C and a recorded script hold.
+// The number of such a refusal: what a host in C and a recorded script hold. A function for each sort of refusal: one over a trait would need an impl
+// of as many lines for each.
 pub fn keyboard_refusal_number(r: KeyboardRefusal) -> u8
     ensures { result ≡ number_of r }
 {

@@ -1,8 +1,10 @@
+// Each function changes some parts as a definition of specs/Parts does, by which the theorems say what a call changed.
 ghost use Rattle.std.specs.Prelude.{◌≡◌};
 ghost use Rattle.memory.specs.Parts.{graphed, ordered, queued, voiced, clocked, numbered, logged};
 
 use crate::state::State;
 use node::record::NodeId;
+use steal_log::Ring;
 
 // The state with these counts of nodes and edges, this sink and this next node id, unprepared.
 pub fn with_graph(s: State, nodes: usize, edges: usize, sink: Option<NodeId>, next: u64) -> State
@@ -62,4 +64,14 @@ pub fn with_steals(s: State, stolen: u64, place: usize) -> State
     ensures { result ≡ logged s stolen place }
 {
     State { stolen, place, ..s }
+}
+
+// What the state knows of the ring of steal records. A function and no `From`: `ring_of(s)` says which part is meant, and an impl would say no more.
+pub fn ring_of(s: State) -> Ring
+    ensures { (result.total ≡ s.stolen) × (result.next ≡ s.place) }
+{
+    Ring {
+        total: s.stolen,
+        next: s.place,
+    }
 }

@@ -5,7 +5,8 @@ use store::config::Config;
 
 // What is no table: what making fixed, how many rows each table holds, the sink, whether the graph is prepared, the next node id, the
 // clock, the voice ids given out, and of the ring of steal records the total and the next place. It goes by value, and each lent table is a
-// parameter of its own: a signature shows what a call may touch.
+// parameter of its own: a signature shows what a call may touch. The counts stand here and not beside their rows, which the caller owns;
+// `prepared` is no option around `order`, since the order of the last good prepare can be read where the graph is unprepared.
 #[derive(Clone, Copy)]
 pub struct State {
     pub config: Config,

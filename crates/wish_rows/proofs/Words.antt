@@ -15,7 +15,7 @@ use Rattle.voice_rows.specs.Filled.{Filled}
 use Rattle.voice_rows.proofs.Filling.{each_same, sets_in}
 use Rattle.store.specs.declared.wish.Wish.{Wish}
 use Rattle.wish_rows.specs.Rows.{def_node_at, def_edge_at, param_at, nodes_in, edges_in, params_in, headed, wish_of, wishes_in, Heads, Stands}
-use Rattle.wish_rows.proofs.Records.{node_local, edge_local}
+use Rattle.wish_rows.specs.Layouts.{node_local, edge_local}
 
 -- the same words in a part give the same rows
 nodes_kept : (c e : List ℕ) → ((j : ℕ) → 11 ≤ j → j < 155 → get_or c j 0 ≡ get_or e j 0) → nodes_in c ≡ nodes_in e

@@ -2,13 +2,12 @@
 ghost use Rattle.std.specs.Prelude.{◌≡◌};
 ghost use Rattle.words.specs.Fields.{is_set};
 ghost use Rattle.wish_rows.specs.Rows.{def_node_at, def_edge_at, param_at, Heads, Stands};
+ghost use Rattle.wish_rows.specs.Layouts.{node_local, edge_local, param_local};
 
 use store::wish::Wish;
 use synthdef::def::{DefEdge, DefNode, Param};
-use voice_rows::layout::{Layout, put_records};
-use words::fields::{
-    byte_word, flag_word, float_word, high_word, is_set, low_byte, low_word, name_at, name_words,
-};
+use voice_rows::layout::{Layout, Run, put_records};
+use words::fields::{byte_word, flag_word, float_word, high_word, low_word, name_at, name_words};
 use words::table::{put_words, word_at};
 
 // A node of a definition in six words.
@@ -33,21 +32,23 @@ impl Layout<6> for NodeWords {
         ]
     }
 
-    fn read(t: &[u32], width: usize, i: usize, k: usize) -> DefNode {
-        let kind = name_at(t, width, i, k as u16);
-        let x = word_at(t, width, i, k + 4);
-        let y = word_at(t, width, i, k + 5);
+    fn read(t: &[u32], width: usize, i: usize, k: u16) -> DefNode {
+        let j = usize::from(k);
+        let x = word_at(t, width, i, j + 4).to_le_bytes();
+        let y = word_at(t, width, i, j + 5).to_le_bytes();
         DefNode {
-            kind,
-            ports: low_byte(x / 256),
-            required: low_byte(x / 65536),
-            takes_values: is_set(x / 16777216 % 256),
-            takes_glides: is_set(y / 16777216 % 256),
-            in_port: low_byte(y),
-            level_port: low_byte(y / 256),
-            amp_port: low_byte(y / 65536),
+            kind: name_at(t, width, i, k),
+            ports: x[1],
+            required: x[2],
+            takes_values: x[3] != 0,
+            takes_glides: y[3] != 0,
+            in_port: y[0],
+            level_port: y[1],
+            amp_port: y[2],
         }
     }
+
+    ghost local = { node_local };
 }
 
 // An edge of a definition in one word.
@@ -62,14 +63,16 @@ impl Layout<1> for EdgeWords {
         [byte_word(x.from, x.to, x.port, 0)]
     }
 
-    fn read(t: &[u32], width: usize, i: usize, k: usize) -> DefEdge {
-        let x = word_at(t, width, i, k);
+    fn read(t: &[u32], width: usize, i: usize, k: u16) -> DefEdge {
+        let x = word_at(t, width, i, usize::from(k)).to_le_bytes();
         DefEdge {
-            from: low_byte(x),
-            to: low_byte(x / 256),
-            port: low_byte(x / 65536),
+            from: x[0],
+            to: x[1],
+            port: x[2],
         }
     }
+
+    ghost local = { edge_local };
 }
 
 // A parameter in five words: the length of its name and its node share the last.
@@ -85,12 +88,14 @@ impl Layout<5> for PackedParam {
         [n[0], n[1], n[2], n[3], byte_word(x.name.len, x.node, 0, 0)]
     }
 
-    fn read(t: &[u32], width: usize, i: usize, k: usize) -> Param {
+    fn read(t: &[u32], width: usize, i: usize, k: u16) -> Param {
         Param {
-            name: name_at(t, width, i, k as u16),
-            node: low_byte(word_at(t, width, i, k + 4) / 256),
+            name: name_at(t, width, i, k),
+            node: word_at(t, width, i, usize::from(k) + 4).to_le_bytes()[1],
         }
     }
+
+    ghost local = { param_local };
 }
 
 // The words of a wish before its definition's rows. Word by word, since the list is the layout.
@@ -121,8 +126,8 @@ pub fn wish_words(w: Wish) -> [u32; 243]
 {
     let mut ws = [0; 243];
     put_words(&mut ws, 0, &head_words(w));
-    put_records::<NodeWords, 6>(&mut ws, 11, &w.def.nodes.rows);
-    put_records::<EdgeWords, 1>(&mut ws, 155, &w.def.edges.rows);
-    put_records::<PackedParam, 5>(&mut ws, 203, &w.def.params.rows);
+    put_records::<NodeWords, 6, 24, 243>(&mut ws, Run { base: 11 }, &w.def.nodes.rows);
+    put_records::<EdgeWords, 1, 48, 243>(&mut ws, Run { base: 155 }, &w.def.edges.rows);
+    put_records::<PackedParam, 5, 8, 243>(&mut ws, Run { base: 203 }, &w.def.params.rows);
     ws
 }

@@ -7,7 +7,7 @@ use crate::pack::{EdgeWords, NodeWords, PackedParam, wish_words};
 use node::record::NodeId;
 use store::wish::Wish;
 use synthdef::def::{DefEdges, DefNodes, Params, SynthDef};
-use voice_rows::layout::records_at;
+use voice_rows::layout::{Run, records_at};
 use words::fields::{flag_at, float_at, long_at, low_byte};
 use words::table::{put_row, word_at};
 
@@ -21,15 +21,15 @@ fn def_at(t: &[u32], i: usize) -> SynthDef
     ensures { result ≡ (get_or (wishes_in t.now) i (wish_of [])).def }
 {
     let nodes = DefNodes {
-        rows: records_at::<NodeWords, 6, 24>(t, 243, i, 11),
+        rows: records_at::<NodeWords, 6, 24, 243>(t, i, Run { base: 11 }),
         count: long_at(t, 243, i, 5) as usize,
     };
     let edges = DefEdges {
-        rows: records_at::<EdgeWords, 1, 48>(t, 243, i, 155),
+        rows: records_at::<EdgeWords, 1, 48, 243>(t, i, Run { base: 155 }),
         count: long_at(t, 243, i, 7) as usize,
     };
     let params = Params {
-        rows: records_at::<PackedParam, 5, 8>(t, 243, i, 203),
+        rows: records_at::<PackedParam, 5, 8, 243>(t, i, Run { base: 203 }),
         count: long_at(t, 243, i, 9) as usize,
     };
     SynthDef {
@@ -40,7 +40,7 @@ fn def_at(t: &[u32], i: usize) -> SynthDef
     }
 }
 
-// The wish in row `i`; past the end, the wish of no words.
+// The wish in row `i`; past the end, the wish of no words, and no option: callers read a row that waits.
 pub fn wish_at(t: &[u32], i: usize) -> Wish
     ensures { result ≡ get_or (wishes_in t.now) i (wish_of []) }
 {
