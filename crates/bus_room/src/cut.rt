@@ -8,25 +8,15 @@ ghost use Rattle.bus_room.specs.Reclaimed.{removal_log, cut_now, restolen};
 use call_free::forget::forget_voice;
 use graph_rows::edge_row::EdgeTable;
 use graph_rows::node_row::NodeTable;
-use memory::parts::with_steals;
+use memory::parts::{ring_of, with_steals};
 use memory::state::State;
-use steal_log::{Ring, StealTable, log_cut, log_steal};
+use steal_log::{StealTable, log_cut, log_steal};
 use store::voices::VoiceState;
 use voice_policy::steals::steal_record;
 use voice_rows::levels::level_at;
 use voice_rows::row::{VoiceTable, id_at, state_at};
 
-// What the state knows of the ring of steal records.
-fn ring_of(s: State) -> Ring
-    ensures { (result.total ≡ s.stolen) × (result.next ≡ s.place) }
-{
-    Ring {
-        total: s.stolen,
-        next: s.place,
-    }
-}
-
-// One steal record more: of the voice in row `row` now, with its level.
+// One steal record more: of the voice in row `row` now, with its level. `cut` is what the record says, and picks no step.
 pub fn record_steal(
     s: State,
     nodes: &NodeTable,

@@ -27,8 +27,8 @@ use voice_rows::table::find_voice;
 pub fn bus_port(s: State, nodes: &NodeTable, edges: &EdgeTable, bus: NodeId) -> Option<u32>
     ensures { result ≡ free_port (take s.edges (edges_in edges.now)) bus (ports_of (node_at (take s.nodes (nodes_in nodes.now)) bus)) }
 {
-    let ports = brief_of(nodes, s.nodes, bus).map_or(0, |node| node.ports);
-    free_port(edges, s.edges, bus, ports)
+    let node = brief_of(nodes, s.nodes, bus)?;
+    free_port(edges, s.edges, bus, node.ports)
 }
 
 // The tracked voice of `bus` that gives way to a new voice of rank `rank`, or none.
@@ -55,9 +55,8 @@ pub fn next_out(
 ) -> Option<usize>
     ensures { FoundAt result s.voices (voices_in voices.now) (next_at (take s.nodes (nodes_in nodes.now)) s.clock s.config.policy bus rank (take s.voices (voices_in voices.now))) }
 {
-    if let Some(row) = earliest_fade(voices, s.voices, bus) {
-        return Some(row);
-    }
-    let (_, voice) = bus_victim(s, nodes, voices, bus, rank)?;
-    find_voice(voices, s.voices, voice)
+    earliest_fade(voices, s.voices, bus).or_else(|| {
+        let (_, voice) = bus_victim(s, nodes, voices, bus, rank)?;
+        find_voice(voices, s.voices, voice)
+    })
 }

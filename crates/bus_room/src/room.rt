@@ -12,7 +12,7 @@ use steal_log::StealTable;
 use voice_rows::row::VoiceTable;
 
 // The lowest free port of `bus`, if there is one. Where there is none, voices of the bus are removed one after the other until there is
-// one, at most `fuel` of them: a loop here is one that is proved to end.
+// one, at most `fuel` of them. A `for` and no `while`: the definition counts the tries too, and a `while` would count them beside its test.
 pub fn make_room(
     s: State,
     nodes: &mut NodeTable,

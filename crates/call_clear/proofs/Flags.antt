@@ -2,20 +2,23 @@
 use Prim.Native.Nat.{ℕ, zero, suc, ◌+◌, ◌-◌, ◌/◌, ◌≤◌, ◌<◌, min}
 use native.Mathlib.Omega.{arith}
 use native.Mathlib.Decide.{ℕ_discrete}
-use mathlib.Core.Path.{◌≡◌, refl, sym, ap, subst, ◌∙◌}
+use mathlib.Core.Path.{◌≡◌, refl, sym, ap, ◌∙◌}
 use mathlib.Core.List.{List, [], ◌∷◌, map}
-use mathlib.Core.Bool.{Bool, true, false, cond}
+use mathlib.Core.Bool.{Bool, true, false, cond, ◌||◌}
 use Rattle.std.specs.Prelude.{Option, None, Some, find, is_some}
+use Rattle.std.specs.List.{list_any, range_with_len}
 use lib.Dec.{ltb}
 use lib.ListN.{length, take, drop, get_or, set, replicate, length-set, length-take, drop_of_length-le, get_or-eq_default}
 use lib.Seq.{get_or-take, get_or-set_same, get_or-set_other}
 use borrow.Author.Tests.{lt-ltb, ltb-true, ltb-false, eq-eqb, ne_eqb}
-use Rattle.lists.proofs.Table.{left_cons}
+use Rattle.lists.proofs.Table.{left_cons, left_row, find_over}
 use Rattle.lists.proofs.Find.{find_in, find_none}
 use Rattle.node.specs.declared.record.Node.{Node}
 use Rattle.rank.specs.Order.{count_up}
 use Rattle.graph.specs.Node.{node_at}
+use Rattle.words.proofs.InWords.{take_count}
 use Rattle.words.proofs.Place.{counted}
+use Rattle.words.proofs.Rows.{rows_long}
 use Rattle.graph_rows.specs.Node.{node_of, nodes_in}
 use Rattle.synthdef.specs.Plan.{plan_silent}
 use Rattle.synthdef.proofs.PassLaws.{silent_flags}
@@ -92,6 +95,29 @@ module _ (ns : List Node) (nobody : any_done ns ≡ false) where
       go : (j : ℕ) (b : Bool) → cond b (done_flag (node_at ns (id (first + j)))) false ≡ false
       go j true = clear_at first j
       go j false = refl
+
+-- ---- any of the rows' numbers stands for a node that is done
+module _ (c : List ℕ) (n top : ℕ) (e : top ≡ min n (length c / 22)) where
+  abbrev pub done_row : ℕ → Bool
+  done_row i = (get_or (nodes_in c) i (node_of [])).done
+
+  abbrev rest : ℕ → List Node
+  rest i = drop i (take top (nodes_in c))
+
+  any_left : (m i : ℕ) → i + m ≡ top → list_any done_row (range_with_len i m) ≡ any_done (rest i)
+  any_left zero i h = sym (ap is_some (find_over (λ (x : Node). x.done) (nodes_in c) top i (omega (arith, h)) (omega (arith, e, rows_long 22 node_of c))))
+  any_left (suc m) i h =
+      let x = get_or (nodes_in c) i (node_of []) in
+      go x.done x (any_left m (i + 1) (omega (arith, h)))
+      ∙ sym (ap any_done (left_row (node_of []) (nodes_in c) top i (omega (arith, h)) (omega (arith, e, rows_long 22 node_of c))))
+    where
+      go : (b : Bool) (x : Node) → list_any done_row (range_with_len (i + 1) m) ≡ any_done (rest (i + 1))
+          → (b || list_any done_row (range_with_len (i + 1) m)) ≡ is_some (cond b (Some x) (find (λ (x : Node). x.done) (rest (i + 1))))
+      go true x ih = refl
+      go false x ih = ih
+
+  pub any_row : list_any done_row (range_with_len 0 top) ≡ any_done (take n (nodes_in c))
+  any_row = let start : 0 + top ≡ top = omega arith in any_left top 0 start ∙ ap any_done (take_count 22 node_of c n top e)
 
 -- ---- the walk over the words: the flags by the nodes from row i on
 pub record FlagsFrom (c : List ℕ) (n first count i : ℕ) (flags : List Bool) : Type 0 where

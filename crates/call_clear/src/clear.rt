@@ -22,7 +22,8 @@ use voice_rows::row::{VoiceTable, id_at};
 // Ids of voices, of which there are at most 64: a table in fixed memory, since there is no heap for a list.
 type Leaving = Table<u64, 64>;
 
-// The ids of those of the first `count` voices for whose row `leaves` answers true, in voice order.
+// The ids of those of the first `count` voices for whose row `leaves` answers true, in voice order. By the places, and pushed one by one: a
+// row is so many words of a lent table, and without a heap there is nothing to collect into.
 fn leaving_ids<F: Fn(usize) -> bool>(voices: &VoiceTable, count: usize, leaves: F) -> Leaving
     requires { F.IsAlwaysCallable leaves }
     ensures { (q : Voice → Bool) → Tells (F.post leaves) voices.now q → Gathered q (take count (voices_in voices.now)) result }

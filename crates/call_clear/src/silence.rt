@@ -9,7 +9,7 @@ use graph_rows::node_row::{done_at, id_at};
 use voice_rows::row::{count_at, first_at, silent_at};
 
 // The done flags of the `count` nodes from the id `first` on, in one walk over the first `n` nodes. The walk ends at the first row, so
-// that of two nodes with one id the first one counts.
+// that of two nodes with one id the first one counts. By the places: a row is so many words of a lent table.
 fn done_flags(nodes: &[u32], n: usize, first: u32, count: u32) -> [bool; 24]
     ensures { FlagsAre (take n (nodes_in nodes.now)) first count result }
 {
@@ -26,7 +26,8 @@ fn done_flags(nodes: &[u32], n: usize, first: u32, count: u32) -> [bool; 24]
     flags
 }
 
-// The done flags of the first `n` lent nodes, and whether any of them is set.
+// The first `n` rows of a lent table, whose count stands in the state and not beside its words, and whether a done flag of them is set. No option of
+// the nodes in the place of `any`: the clauses speak of the nodes also where none is done.
 #[derive(Clone, Copy)]
 pub struct Flags<'a> {
     pub nodes: &'a [u32],
@@ -35,17 +36,11 @@ pub struct Flags<'a> {
     ghost known: { any ≡ any_done (take n (nodes_in nodes.now)) },
 }
 
-// Whether one of the first `n` nodes is done. No `any` over the rows' numbers: what it ensures is said of the numbers, and a law would have to carry
-// it to the rows.
+// Whether one of the first `n` nodes is done.
 fn has_done(nodes: &[u32], n: usize) -> bool
     ensures { result ≡ any_done (take n (nodes_in nodes.now)) }
 {
-    for i in 0..n.min(nodes.len() / 22) {
-        if done_at(nodes, i) {
-            return true;
-        }
-    }
-    false
+    (0..n.min(nodes.len() / 22)).any(|i| done_at(nodes, i))
 }
 
 impl<'a> Flags<'a> {

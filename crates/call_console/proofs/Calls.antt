@@ -21,7 +21,7 @@ use Rattle.console.specs.Wishes.{Wishes, keyboards, waiting_at, after, oldest_or
 use Rattle.console.specs.Console.{Console, turn, served, turned, made, with_keyboards, made_unless}
 use Rattle.wish_rows.specs.Rows.{wish_of, wishes_in}
 use Rattle.call_console.specs.declared.queues.WishState.{WishState}
-use Rattle.call_console.specs.Queues.{no_queue, place_in, wishes_of, Capacity, Waits, WaitsAt, picked_at}
+use Rattle.call_console.specs.Queues.{no_queue, place_in, wishes_of, Capacity, Waits, picked_at}
 use Rattle.call_console.specs.Called.{memory, console_of, Called, made_of, judged}
 use Rattle.call_console.proofs.Rings.{many_is, waits_is, waits_none, queue_long, oldest_is}
 
@@ -64,10 +64,6 @@ search_next (suc n) ws q h k = ap (λ i. search i ws (after (keyboards ws) q)) l
     go [] k = refl
     go (w ∷ l) k = absurd (omega arith)
 
-pub search_end : (n : ℕ) (ws : Wishes) (q : ℕ) → n ≤ 0 → search n ws q ≡ None
-search_end zero ws q h = refl
-search_end (suc n) ws q h = absurd (omega arith)
-
 pub waits_from : (s : WishState) (q : ℕ) (c : List ℕ) → 0 < length (waiting_at q (wishes_of s c)) → Waits s q
 waits_from s q c h = go (ltb q (min s.keyboards 8)) refl
   where
@@ -79,9 +75,6 @@ waits_from s q c h = go (ltb q (min s.keyboards 8)) refl
         let inside : q < min s.keyboards 8 = ltb-true _ _ e in
         let z : length (waiting_at q (wishes_of s c)) ≡ min (get_or s.queues q no_queue).count 16 = ap length (waits_is s c q inside) ∙ queue_long (wishes_in c) q (get_or s.queues q no_queue) in
         record { inside = inside; some = omega (arith, z, h) }
-
-pub waits_at : (s : WishState) (q : ℕ) → Waits s q → WaitsAt s (Some q)
-waits_at s q w p e = let y : q ≡ p = cc in subst (Waits s) y w
 
 -- ---- a turn
 pub serves : (m n : Memory) (s t : WishState) (c : List ℕ) (q : ℕ) (w : Wish) (a : Result VoiceId Refusal) → Waits s q → w ≡ get_or (wishes_in c) (place_in q (get_or s.queues q no_queue) 0) (wish_of [])

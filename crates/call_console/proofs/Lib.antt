@@ -1,2 +1,3 @@
 pub mod Rings
 pub mod Calls
+pub mod Walked

@@ -31,7 +31,7 @@ fn judge(made: Result<(), Refusal>, keyboards: usize) -> Result<(), MakeRefusal>
     ensures { Judged made keyboards result }
 {
     made?;
-    if keyboards < 1 || 8 < keyboards {
+    if !(1..=8).contains(&keyboards) {
         return Err(MakeRefusal::Keyboards(KeyboardRefusal::OutOfRange));
     }
     Ok(())

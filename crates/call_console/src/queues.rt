@@ -5,10 +5,12 @@ ghost use Rattle.console.specs.Wishes.{keyboards, waiting_at, after, added, pick
 ghost use Rattle.call_console.specs.Queues.{no_queue, place_in, wishes_of, picked_at, Capacity, Waits, WaitsAt};
 
 use memory::state::State;
+use std::iter::successors;
 use store::wish::Wish;
 use wish_rows::row::{WishTable, put_wish, wish_at};
 
-// A keyboard's wishes are `count` of its 16 rows, from its row `start` on, going round. A count above 16 is 16. The rows themselves are lent.
+// A keyboard's wishes are `count` of its 16 rows, from its row `start` on, going round. A count above 16 is 16. The rows themselves are lent:
+// there is no slice of rows, and no queue of the library over lent words.
 #[derive(Clone, Copy)]
 pub struct Queue {
     pub start: u8,
@@ -16,7 +18,9 @@ pub struct Queue {
 }
 
 // What is no table of the wishes: how many keyboards there are, the one after the last served, and what waits at each. More than
-// eight keyboards are eight. Fixed memory: no vector holds the queues.
+// eight keyboards are eight. Fixed memory: an array holds the queues. No `Table` of lists: the bound is asked for in two places below, and each
+// other use would name one field more.
+// The lent wishes are a parameter beside it, as the tables are beside `State`: a signature shows what a call may touch.
 #[derive(Clone, Copy)]
 pub struct WishState {
     pub keyboards: usize,
@@ -25,7 +29,7 @@ pub struct WishState {
 }
 
 // The state of the store and the wishes that a call left, and what the call answers: beside each other, since a turn changes them where its spawn
-// is refused.
+// is refused. This type, `WishResult`, `CallResult` and `SealResult` are four and not one over what is left: each names what that is.
 #[derive(Clone, Copy)]
 pub struct ConsoleResult<A> {
     pub state: State,
@@ -33,7 +37,7 @@ pub struct ConsoleResult<A> {
     pub answer: A,
 }
 
-// The same of a call that leaves the store as it is: no state, so that its signature shows that.
+// The same of a call that leaves the store as it is: no state of the store, so that its signature shows that.
 #[derive(Clone, Copy)]
 pub struct WishResult<A> {
     pub wishes: WishState,
@@ -62,34 +66,27 @@ pub fn keyboard_count(s: WishState) -> usize
 pub fn waiting_count(s: WishState, q: usize) -> usize
     ensures { (c : List ℕ) → result ≡ length (waiting_at q (wishes_of s c)) }
 {
-    if s.keyboards.min(8) <= q {
-        return 0;
-    }
-    usize::from(s.queues[q].count).min(16)
+    s.queues[..s.keyboards.min(8)]
+        .get(q)
+        .map_or(0, |queue| usize::from(queue.count).min(16))
 }
 
-// The keyboard after `q` of `m`, going round.
+// The keyboard after `q` of `m`, going round. Two tests: `(q + 1) % m` is another number where `q` is past the last, and `q + 1` need not fit.
 fn after(m: usize, q: usize) -> usize
     ensures { result ≡ after m q }
 {
     if q < m && q + 1 < m { q + 1 } else { 0 }
 }
 
-// The first keyboard at which a wish waits, going round from the one after the last served. A loop and no `find` over a range: the numbers go
-// round past the last keyboard, so that they are two ranges, and the first of them is none where `next` is past the last.
+// The first keyboard at which a wish waits, going round from the one after the last served.
 pub fn next_keyboard(s: WishState) -> Option<usize>
     ensures is { (c : List ℕ) → picked (wishes_of s c) ≡ picked_at result (wishes_of s c) }
     ensures waits { WaitsAt s result }
 {
     let m = keyboard_count(s);
-    let mut q = s.next;
-    for _ in 0..m {
-        if 0 < waiting_count(s, q) {
-            return Some(q);
-        }
-        q = after(m, q);
-    }
-    None
+    successors(Some(s.next), |q| Some(after(m, *q)))
+        .take(m)
+        .find(|q| 0 < waiting_count(s, *q))
 }
 
 // The wish `w` waits behind those of keyboard `q`.
@@ -98,7 +95,7 @@ pub(crate) fn add_wish(s: WishState, t: &mut WishTable, q: usize, w: Wish) -> Wi
     ensures { wishes_of result t.new ≡ added q w (wishes_of s t.old) }
 {
     let queue = s.queues[q];
-    // `as` and not `usize::from`: so the check knows that each is below 256, and the sum fits.
+    // `as`: with `usize::from` the goal `overflow_add-place` stayed open (tried), since its answer is not known to be below 256.
     let place = (queue.start as usize + queue.count as usize) % 16;
     put_wish(t, q * 16 + place, w);
     let mut out = s;
@@ -106,7 +103,8 @@ pub(crate) fn add_wish(s: WishState, t: &mut WishTable, q: usize, w: Wish) -> Wi
     out
 }
 
-// The oldest wish of keyboard `q`.
+// The oldest wish of keyboard `q`. A keyboard at which a wish waits is a number with a `requires`, here and below: a struct with the fact in a
+// ghost field would hold the state too, and `turn` alone would make it and take it apart.
 pub(crate) fn oldest_wish(s: WishState, t: &WishTable, q: usize) -> Wish
     requires { Waits s q }
     ensures { result ≡ get_or (wishes_in t.now) (place_in q (get_or s.queues q no_queue) 0) (wish_of []) }
@@ -123,7 +121,7 @@ pub(crate) fn drop_oldest(s: WishState, q: usize) -> WishState
     let queue = s.queues[q];
     let mut queues = s.queues;
     queues[q] = Queue {
-        // `as` and not `usize::from`: so the check knows that it is below 256, and the sum fits.
+        // `as`: with `usize::from` the goal `overflow_add-queues` stayed open (tried), since its answer is not known to be below 256.
         start: ((queue.start as usize + 1) % 16) as u8,
         count: queue.count.min(16) - 1,
     };

@@ -8,8 +8,8 @@ use console::refusal::KeyboardRefusal;
 use store::wish::Wish;
 use wish_rows::row::WishTable;
 
-// A wish that is refused.
-fn refuse_wish(s: WishState, why: KeyboardRefusal) -> WishResult<Result<(), KeyboardRefusal>>
+// A wish that is refused, here or by a seal. What `refuse` of memory is for a state: it is not that function, since what is left has another type and name.
+pub fn refuse_wish<A, E>(s: WishState, why: E) -> WishResult<Result<A, E>>
     ensures { (result.wishes ≡ s) × (result.answer ≡ Err why) }
 {
     WishResult {

@@ -1,13 +1,13 @@
 -- A voice that was looked for: the one of that id, or none.
 use Prim.Native.Nat.{ℕ}
-use mathlib.Core.Path.{◌≡◌, refl, sym, ap, ◌∙◌}
-use mathlib.Core.List.{List, [], ◌∷◌}
+use mathlib.Core.Path.{◌≡◌, sym, ap, ◌∙◌}
+use mathlib.Core.List.{List}
 use native.Mathlib.Omega.{arith}
 use Rattle.std.specs.Prelude.{Option, None, Some, find, is_some}
-use mathlib.Core.Bool.{Bool, true, false, cond}
+use mathlib.Core.Bool.{true}
 use lib.ListN.{take}
 use borrow.Author.Tests.{eqb-true}
-use Rattle.lists.proofs.Member.{some_inj, none_some}
+use Rattle.lists.proofs.Find.{find_in}
 use Rattle.node.specs.declared.record.VoiceId.{VoiceId}
 use Rattle.store.specs.declared.answer.Outcome.TheVariants.{Applied}
 use Rattle.store.specs.declared.voices.Voice.{Voice}
@@ -17,12 +17,7 @@ use Rattle.model.specs.Voice.{is_voice}
 use Rattle.voice_rows.specs.Found.{FoundAt}
 
 found_is : (w : VoiceId) (l : List Voice) (v : Voice) → find (is_voice w) l ≡ Some v → v.id.0 ≡ w.0
-found_is w [] v e = absurd (none_some e)
-found_is w (x ∷ l) v e = go (is_voice w x) refl e (found_is w l v)
-  where
-    go : (b : Bool) → is_voice w x ≡ b → cond b (Some x) (find (is_voice w) l) ≡ Some v → (find (is_voice w) l ≡ Some v → v.id.0 ≡ w.0) → v.id.0 ≡ w.0
-    go true t f later = ap (λ (y : Voice). y.id.0) (sym (some_inj f)) ∙ eqb-true x.id.0 w.0 t
-    go false t f later = later f
+found_is w l v e = eqb-true v.id.0 w.0 (find_in (is_voice w) l v e).1
 
 module _ (w : VoiceId) (count : ℕ) (vs : List Voice) where
   abbrev looked : Option Voice

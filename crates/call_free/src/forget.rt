@@ -24,18 +24,16 @@ pub fn forget_voices(
 ) -> State
     ensures { (m : Memory) → model_of (lent_voices result nodes.new edges.new voices.new m) ≡ without_ids ids.now (model_of (lent_voices s nodes.old edges.old voices.old m)) }
 {
-    if ids.len() == 0 {
+    if ids.is_empty() {
         return s;
     }
-    let sink = s.sink;
-    let left = remove_voices(nodes, s.nodes, edges, s.edges, sink, ids);
+    let left = remove_voices(nodes, s.nodes, edges, s.edges, s.sink, ids);
     let count = voice_rows::table::remove_voices(voices, s.voices, ids);
-    let heard = left.sink;
-    let state = with_graph(s, left.nodes, left.edges, heard, s.next);
+    let state = with_graph(s, left.nodes, left.edges, left.sink, s.next);
     with_voices(state, count)
 }
 
-// The voice `w` is removed.
+// The voice `w` is removed. With `forget_voices` in its place each of its three callers would make a list of one number from its id.
 pub fn forget_voice(
     s: State,
     nodes: &mut NodeTable,
@@ -45,6 +43,5 @@ pub fn forget_voice(
 ) -> State
     ensures { (m : Memory) → model_of (lent_voices result nodes.new edges.new voices.new m) ≡ without_voice w (model_of (lent_voices s nodes.old edges.old voices.old m)) }
 {
-    let one = [w.0];
-    forget_voices(s, nodes, edges, voices, &one)
+    forget_voices(s, nodes, edges, voices, &[w.0])
 }

@@ -17,6 +17,7 @@ use voice_rows::row::VoiceTable;
 use voice_rows::table::find_voice;
 
 // The voice `w` is freed: applied, or no such voice. An unknown voice leaves the very state and words.
+// An `Outcome` and no result: model and ledger have its four cases by their names.
 pub fn free_voice(
     s: State,
     nodes: &mut NodeTable,

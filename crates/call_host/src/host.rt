@@ -1,3 +1,4 @@
+// A refusal is handed on by `refuse` and not by `?`, since the state goes with every answer.
 ghost use Rattle.model.specs.Call.{add_node, remove_node, connect, disconnect, set_sink};
 ghost use Rattle.memory.specs.View.{Memory};
 ghost use Rattle.memory.specs.Lent.{lent_nodes, lent_graph};
@@ -31,10 +32,10 @@ pub fn add_node(
     if node_count(nodes, s.nodes) >= 512 {
         return refuse(s, Refusal::TableFull);
     }
-    if s.next >= 4294967296 {
+    let Ok(next) = u32::try_from(s.next) else {
         return refuse(s, Refusal::IdsUsedUp);
-    }
-    let id = NodeId(s.next as u32);
+    };
+    let id = NodeId(next);
     let row = Node {
         id,
         ..host_node(kind, n)

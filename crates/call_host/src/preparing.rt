@@ -10,7 +10,7 @@ use memory::state::{CallResult, State, refuse};
 use node::refusal::Refusal;
 use order_table::OrderTable;
 
-// The graph is made ready to be rendered.
+// The graph is made ready to be rendered. A `match` and no `?`, since the state goes with every answer.
 pub fn prepare(
     s: State,
     nodes: &NodeTable,

@@ -13,7 +13,7 @@ use node::refusal::Refusal;
 use scheduler::event::Event;
 
 // An action for the voice `voice` at the sample `time`; a value or a glide is for the parameter `name`. A name that is not
-// 1 to 16 bytes is held, and matches no parameter.
+// 1 to 16 bytes is held, and matches no parameter. A `match` and no `?`, since the state goes with every answer.
 pub fn schedule(
     s: State,
     events: &mut EventTable,

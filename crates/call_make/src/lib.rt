@@ -15,8 +15,8 @@ use memory::state::{CallResult, State};
 use node::refusal::Refusal;
 use store::config::{Config, Making};
 
-// Whether making is refused: 1 the sample rate, 2 the block size, 3 the budget, 20 the fade table at another rate than its own. The first is
-// no `?`: whatever the rate was refused for, the answer is 1.
+// Whether making is refused: 1 the sample rate, whatever it was refused for, 2 the block size, 3 the budget, 20 the fade table at another
+// rate than its own.
 fn make_test(
     rate: Result<u32, Refusal>,
     block: usize,
@@ -25,10 +25,8 @@ fn make_test(
 ) -> Result<(), Refusal>
     ensures { result ≡ answer_of (make_refusal (says rate) block budget table) }
 {
-    let Ok(hertz) = rate else {
-        return Err(Refusal::SampleRate);
-    };
-    if block < 1 || 128 < block {
+    let hertz = rate.or(Err(Refusal::SampleRate))?;
+    if !(1..=128).contains(&block) {
         return Err(Refusal::BlockSize);
     }
     if budget.is_some_and(|most| 64 < most) {
@@ -61,7 +59,9 @@ fn new_state(config: Config) -> State
     }
 }
 
-// A new store, of what the host asks for. Where it is refused, the state is one of the arguments as they are, at 0 hertz if the rate is.
+// A new store, of what the host asks for. Where it is refused, the state is one of the arguments as they are, at 0 hertz if the rate is:
+// the clauses promise a state then too, so that it stands beside the answer and is none of its cases. No `From` of what is asked for: both
+// types are crate store's, and the test of a rate is crate bus's.
 pub fn make(making: Making) -> CallResult<Result<(), Refusal>>
     ensures is { (m : Memory) → if_done result.answer (model_of (lent_state result.state m)) ≡ make making }
     ensures answer { result.answer ≡ answer_of (refusal_of making) }

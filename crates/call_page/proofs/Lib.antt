@@ -1,4 +1,3 @@
-mod Answers
 mod Digits
 mod Lines
 mod Puts

@@ -1,4 +1,4 @@
--- What the page answers, and what its parts put into the room that they are lent.
+-- What the page answers, and what a text that is put at the start of a buffer leaves.
 use Rattle.node.specs.declared.refusal.Refusal.{Refusal}
 use Rattle.std.specs.Prelude.{ℕ, ◌≤◌, ◌≡◌, List, length, Result, Err, Ok}
 use Rattle.lists.specs.Written.{written}

@@ -16,7 +16,7 @@ use graph_rows::edge_row::EdgeTable;
 use lists::byte::copy;
 use memory::state::State;
 use node::refusal::Refusal;
-use put::put_page;
+use put::page_text;
 use voice_rows::row::VoiceTable;
 
 // The page in `out`, and its length; or 17 where `out` is too short, and then `out` stays as it is.
@@ -29,16 +29,17 @@ pub fn page(
     ensures is { (m : Memory) → Called (call.ask (call.page out.old)) (lent_page s edges.now voices.now m) (paged_of result out.new) (lent_page s edges.now voices.now m) }
     ensures same { (x : refusal.Refusal) → result ≡ Err x → out.new ≡ out.old }
 {
-    let mut text = [0u8; 4501];
-    let n = put_page(s.clock, edges, s.edges, voices, s.voices, &mut text);
+    let page = page_text(s, edges, voices);
+    let text = page.as_slice();
+    let n = text.len();
     if out.len() < n {
         return Err(Refusal::ShortBuffer);
     }
-    copy(&text[..n], out);
+    copy(text, out);
     Ok(n)
 }
 
-// How many bytes of a buffer the page takes, none where it was refused: what a program lends to be printed.
+// How many bytes of a buffer the page takes. 0 and no option where it was refused: a program prints so many, and then there is nothing to print.
 pub fn page_length(p: Result<usize, Refusal>, out: &[u8]) -> usize
     ensures is { result ≡ min (length_of p) (length out.now) }
     ensures part { IsPrefixLen result out.now }

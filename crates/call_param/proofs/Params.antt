@@ -1,9 +1,9 @@
 -- Looking for a parameter by its name, in the words of a voice's row.
-use Prim.Native.Nat.{ℕ, ◌+◌, ◌*◌, ◌≤◌, ◌<◌, min}
+use Prim.Native.Nat.{ℕ, zero, suc, ◌+◌, ◌*◌, ◌≤◌, ◌<◌, min}
 use native.Mathlib.Omega.{arith}
-use mathlib.Core.Path.{◌≡◌, sym, ap, ◌∙◌}
+use mathlib.Core.Path.{◌≡◌, refl, sym, ap, subst, ◌∙◌}
 use mathlib.Core.List.{List, []}
-use Rattle.std.specs.Prelude.{Option, find, option_map, Some, None}
+use Rattle.std.specs.Prelude.{Option, MatchOption, find, option_map, Some, None}
 use mathlib.Core.Bool.{true, false}
 use lib.ListN.{length, take, drop, get_or}
 use Rattle.lists.proofs.Table.{find_hit, find_next, find_over}
@@ -28,7 +28,7 @@ module _ (c : List ℕ) (i : ℕ) (name : Name) (n : ℕ) where
   param k = param_at row (23 + k * 6)
 
   -- what is found from the parameter k on is what is found at all
-  abbrev pub Naming : ℕ → Type 0
+  abbrev Naming : ℕ → Type 0
   Naming k = (k ≤ n) × (find (called name) (drop k (take n params)) ≡ find (called name) (take n params))
 
   module _ (e : n ≡ min (long_at row 19) 8) where
@@ -49,17 +49,26 @@ module _ (c : List ℕ) (i : ℕ) (name : Name) (n : ℕ) where
       at : get_or params k (param 0) ≡ param k
       at = each_at param 8 k (param 0) (omega arith)
 
-      pub naming_hit : called name (param k) ≡ true → (r : ℕ) → r ≡ (param k).node → Some r ≡ param_node (param_rows (get_or (voices_in c) i (voice_of [])).params) name
-      naming_hit t r is =
-          ap Some is
-          ∙ ap (λ (p : Param). Some p.node) (sym at)
+      naming_hit : called name (param k) ≡ true → Some (param k).node ≡ param_node (param_rows (get_or (voices_in c) i (voice_of [])).params) name
+      naming_hit t =
+          ap (λ (p : Param). Some p.node) (sym at)
           ∙ ap answer (sym (find_hit (param 0) (called name) params n k h fits (ap (called name) at ∙ t)) ∙ inv.1)
           ∙ asked
 
-      pub naming_next : called name (param k) ≡ false → Naming (k + 1)
+      naming_next : called name (param k) ≡ false → Naming (k + 1)
       naming_next t = (omega arith, find_next (param 0) (called name) params n k h fits (ap (called name) at ∙ t) ∙ inv.1)
 
-    pub naming_none : (k : ℕ) → n ≤ k → Naming k → None ≡ param_node (param_rows (get_or (voices_in c) i (voice_of [])).params) name
-    naming_none k h inv =
-        let all : k ≡ n = omega (arith, inv.0) in
-        ap answer (sym (find_over (called name) params n k all fits) ∙ inv.1) ∙ asked
+    naming_none : Naming n → None ≡ param_node (param_rows (get_or (voices_in c) i (voice_of [])).params) name
+    naming_none inv = ap answer (sym (find_over (called name) params n n refl fits) ∙ inv.1) ∙ asked
+
+    passed : (k : ℕ) → k ≤ n → ((j : ℕ) → j < k → called name (param j) ≡ false) → Naming k
+    passed zero h none = (omega arith, refl)
+    passed (suc k) h none =
+        let one : k + 1 ≡ suc k = omega arith in
+        subst Naming one (naming_next k (omega arith) (passed k (omega arith) (λ j l. none j (omega arith))) (none k (omega arith)))
+
+    -- what a search over the numbers of the parameters gives
+    pub named_first : (r : Option ℕ) → MatchOption r ((j : ℕ) → 0 ≤ j → j < n → called name (param j) ≡ false) (λ k. (0 ≤ k) × (k < n) × (called name (param k) ≡ true) × ((j : ℕ) → 0 ≤ j → j < k → called name (param j) ≡ false))
+        → option_map (λ k. (param k).node) r ≡ param_node (param_rows (get_or (voices_in c) i (voice_of [])).params) name
+    named_first None h = naming_none (passed n (omega arith) (λ j l. h j (omega arith) l))
+    named_first (Some k) h = naming_hit k h.1 (passed k (omega (arith, h.1)) (λ j l. h.3 j (omega arith) l)) h.2

@@ -14,7 +14,7 @@ use Rattle.lists.proofs.Find.{find_in}
 use Rattle.node.specs.declared.record.Node.{Node}
 use Rattle.words.specs.Place.{place_of}
 use Rattle.words.proofs.Place.{found_in}
-use Rattle.event_table.proofs.Search.{at_place, none_placed}
+use Rattle.words.proofs.FirstRow.{at_place, none_placed}
 use Rattle.graph.specs.Node.{owned_by_any}
 use Rattle.graph_rows.specs.Node.{node_of, nodes_in}
 use Rattle.model.specs.Voice.{id}

@@ -1,4 +1,5 @@
-// An order at its node, which is looked for by its id.
+// An order at its node, which is looked for by its id. No `?`: an `Outcome` is no result, since model and ledger
+// have its four cases by their names.
 ghost use Rattle.std.specs.Prelude.{take, find};
 ghost use Rattle.model.specs.Voice.{id};
 ghost use Rattle.graph_rows.specs.Node.{nodes_in};

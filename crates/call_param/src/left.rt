@@ -1,5 +1,6 @@
 // The nodes of an id that stay when the voices `freed` are removed: their owner is none of these. The ids of a store that calls made
-// are all different; any words are a store, so several rows may have one id here.
+// are all different; any words are a store, so several rows may have one id here. The lent table and its count go beside the id and the
+// freed voices, as with every table: a type for the last two would be taken apart in each clause.
 ghost use Rattle.std.specs.Prelude.{◌≡◌, cond, [], map, take, get_or, position};
 ghost use Rattle.words.specs.Place.{place_of};
 ghost use Rattle.model.specs.Voice.{id};
@@ -10,7 +11,8 @@ use edges::table::is_listed;
 use graph_rows::node_row::{id_at, owner_at};
 use words::table::move_row;
 
-// Whether the node in row `i` has the id `k` and stays. The id is counted from a voice's first node, and may be past the last one.
+// Whether the node in row `i` has the id `k` and stays. The id is a u64 and no option of a `NodeId`: counted from a voice's first node it may be
+// past the last id, and then no node is found by it.
 fn is_left(t: &[u32], i: usize, k: u64, freed: &[u64]) -> bool
     ensures { result ≡ is_left freed.now (id k) (get_or (nodes_in t.now) i (node_of [])) }
 {
@@ -24,7 +26,8 @@ pub fn row_left(t: &[u32], count: usize, k: u64, freed: &[u64]) -> Option<usize>
     (0..count.min(t.len() / 22)).find(|i| is_left(t, *i, k, freed))
 }
 
-// If `p` is the row of the first such node, that node takes the place of those behind it.
+// If `p` is the row of the first such node, that node takes the place of those behind it. By the places: a row is so many words of a lent
+// table, and one row is copied onto another of the same table.
 pub fn copy_on(t: &mut [u32], count: usize, p: usize, k: u64, freed: &[u64])
     ensures { p ≡ place_of (is_left freed.now (id k)) (take count (nodes_in t.old)) → take count (nodes_in t.new) ≡ map (λ x. cond (is_left freed.now (id k) x) (get_or (nodes_in t.old) p (node_of [])) x) (take count (nodes_in t.old)) }
 {

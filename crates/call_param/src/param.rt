@@ -25,6 +25,7 @@ use voice_rows::table::find_voice;
 
 // An order for the parameter `name` of the voice `w`, while the voices `freed` wait to be removed: none of them is known any more,
 // and none of their nodes lives. With nobody freed it is the order that a call gives.
+// No `?`: an `Outcome` is no result, since model and ledger have its four cases by their names.
 pub fn order_voice(
     s: State,
     nodes: &mut NodeTable,
@@ -49,7 +50,8 @@ pub fn order_voice(
     order_node(nodes, s.nodes, id, freed, o)
 }
 
-// An order for the parameter `name` of the voice `voice`, where no voice waits to be removed.
+// An order for the parameter `name` of the voice `voice`, where no voice waits to be removed. Here and below the parameters are the calls'
+// own: what is ordered goes on as one `LastOrder`, and a type of it with voice and name would be taken apart in each clause.
 fn set_order(
     s: State,
     nodes: &mut NodeTable,
@@ -64,7 +66,7 @@ fn set_order(
     order_voice(s, nodes, voices, &[], voice, name_of(name), o)
 }
 
-// A value for the parameter `name` of the voice `voice`.
+// A value for the parameter `name` of the voice `voice`. This and the next are the two calls that the scope names, one line each.
 pub fn set_voice_param(
     s: State,
     nodes: &mut NodeTable,

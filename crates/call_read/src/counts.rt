@@ -1,5 +1,7 @@
-// How many rows of a lent table count: the host has the rows, in the words that it lends. The answer is their number, and never more
-// than the table has room for.
+// How many rows of a lent table count: the host has the rows, in the words that it lends, and there is no slice of rows. The answer is their number,
+// and never more than the table has room for.
+// `voices` and `edges` are calls of docs/CALLS.md: each takes the state, so that a host need not know which count is meant, and says what the
+// model answers.
 ghost use Rattle.std.specs.Prelude.{◌≡◌, take, slice_get};
 ghost use Rattle.words.specs.Place.{Holds};
 ghost use Rattle.graph_rows.specs.Edge.{edges_in};

@@ -1,4 +1,5 @@
 // The other reading calls: the steals, what feeds a node, a node's record, and the clock.
+// Each is a call of docs/CALLS.md: it takes the state, so that a host need not know which count is meant, and says what the model answers.
 ghost use Rattle.voice.specs.Steals.{log_of};
 ghost use Rattle.model.specs.Call as call;
 ghost use Rattle.memory.specs.View.{Memory};
@@ -9,20 +10,17 @@ use graph_rows::edge_row::EdgeTable;
 use graph_rows::node_row::NodeTable;
 use graph_tables::lookup::node_of;
 use graph_tables::ports::sources_of;
+use memory::parts::ring_of;
 use memory::state::State;
 use node::record::{Node, NodeId};
-use steal_log::{Ring, StealTable, read_steals};
+use steal_log::{StealTable, read_steals};
 use voice::steals::Steals;
 
 // The steals: their count, and the newest 64 records.
 pub fn steals(s: State, steals: &StealTable) -> Steals
     ensures { (m : Memory) → Called (call.ask call.steals) (lent_steals s steals.now m) (call.stolen (log_of result)) (lent_steals s steals.now m) }
 {
-    let ring = Ring {
-        total: s.stolen,
-        next: s.place,
-    };
-    read_steals(steals, ring)
+    read_steals(steals, ring_of(s))
 }
 
 // What feeds each port of a node.

@@ -1,14 +1,14 @@
 // After the events: a prepare, if there was a free, and the block itself.
-ghost use Rattle.std.specs.Prelude.{◌≡◌, ◌&&◌, take, is_some};
-ghost use Rattle.model.specs.Render.{heard, is_sounding, moved_if};
-ghost use Rattle.voice_rows.specs.Rows.{voices_in};
+ghost use Rattle.std.specs.Prelude.{◌≡◌, ◌&&◌, is_some};
+ghost use Rattle.model.specs.Render.{heard};
 ghost use Rattle.memory.specs.View.{Memory, model_of};
 ghost use Rattle.memory.specs.Lent.{lent_order, lent_voice_table};
 ghost use Rattle.call_render.specs.Blocks.{heard_in, readied, block_to};
 
+use call_host::preparing::prepare;
 use graph_rows::edge_row::EdgeTable;
 use graph_rows::node_row::NodeTable;
-use memory::parts::{with_clock, with_order};
+use memory::parts::with_clock;
 use memory::state::{CallResult, State};
 use order_table::OrderTable;
 use store::answer::Rendered;
@@ -26,8 +26,8 @@ fn heard_of(s: State) -> Rendered
     }
 }
 
-// Before the block: the graph is prepared, if there was a free. It takes the flag as `readied` of specs/Blocks does, and
-// `move_if` below as `moved_if` of the model does: each is that definition. The answer is what the render will answer.
+// Before the block: the graph is prepared, if there was a free. The answer is what the render will answer.
+// It takes the flag, since with the test in `render` both ways would have to be written there, with their states, and no line would go.
 pub(crate) fn readied(
     s: State,
     nodes: &NodeTable,
@@ -43,31 +43,14 @@ pub(crate) fn readied(
             answer: heard_of(s),
         };
     }
-    match order_table::prepare(nodes, s.nodes, edges, s.edges, order) {
-        Err(r) => CallResult {
-            state: s,
-            answer: Rendered::Unprepared(r),
-        },
-        Ok(count) => {
-            let state = with_order(s, count);
-            let answer = heard_of(state);
-            CallResult { state, answer }
-        }
-    }
-}
-
-fn is_sounding(a: Rendered) -> bool
-    ensures { result ≡ is_sounding a }
-{
-    matches!(a, Rendered::Sounding)
-}
-
-// The fades move by a block, if it sounds.
-fn move_if(voices: &mut [u32], held: usize, sounding: bool, block: u64)
-    ensures { take held (voices_in voices.new) ≡ moved_if sounding block (take held (voices_in voices.old)) }
-{
-    if sounding {
-        move_fades(voices, held, block);
+    let ready = prepare(s, nodes, edges, order);
+    let answer = match ready.answer {
+        Err(r) => Rendered::Unprepared(r),
+        Ok(()) => heard_of(ready.state),
+    };
+    CallResult {
+        state: ready.state,
+        answer,
     }
 }
 
@@ -80,7 +63,11 @@ pub(crate) fn block_to(
 ) -> CallResult<Rendered>
     ensures { (m : Memory) → heard_in result (lent_voice_table result.state voices.new m) ≡ block_to end answer (model_of (lent_voice_table s voices.old m)) }
 {
-    move_if(voices, s.voices, is_sounding(answer), s.config.block as u64);
-    let state = with_clock(s, end);
-    CallResult { state, answer }
+    if matches!(answer, Rendered::Sounding) {
+        move_fades(voices, s.voices, s.config.block as u64);
+    }
+    CallResult {
+        state: with_clock(s, end),
+        answer,
+    }
 }

@@ -38,14 +38,13 @@ pub fn render(
     ensures is { (m : Memory) → Called (call.render out.old) (lent_render s nodes.old edges.old order.old voices.old events.old m) (rendered result.answer result.taken out.new) (lent_render result.state nodes.new edges.new order.new voices.new events.new m) }
     ensures same { (m : Memory) → Kept (rendered result.answer result.taken out.new) (lent_render s nodes.old edges.old order.old voices.old events.old m) (lent_render result.state nodes.new edges.new order.new voices.new events.new m) }
 {
-    let block = s.config.block as u64;
-    if 18446744073709551615 - block < s.clock {
+    let Some(end) = s.clock.checked_add(s.config.block as u64) else {
         return Rendering {
             state: s,
             answer: Rendered::Refused(Refusal::ClockEnd),
             taken: 0,
         };
-    }
+    };
     if out.len() < 256 {
         return Rendering {
             state: s,
@@ -53,7 +52,6 @@ pub fn render(
             taken: 0,
         };
     }
-    let end = s.clock + block;
     let frees = any_free(events, s.events, end);
     let after = apply_events(s, nodes, edges, voices, events, end, out);
     let ready = readied(after.state, nodes, edges, order, frees);

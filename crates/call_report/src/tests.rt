@@ -1,3 +1,5 @@
+// The tests of a report. The voices are lent words and the first `held` of their rows: that number stands in the state, and the words are lent
+// without it.
 ghost use Rattle.std.specs.Prelude.{◌≡◌, Some, take, find};
 ghost use Rattle.model.specs.Refuse.{of_definition, reports, lent_block};
 ghost use Rattle.model.specs.Voice.{is_voice};
@@ -15,11 +17,10 @@ use voice_rows::table::find_voice;
 fn of_definition(voices: &[u32], held: usize, w: VoiceId, k: u32) -> bool
     ensures { result ≡ of_definition k (find (is_voice w) (take held (voices_in voices.now))) }
 {
-    let Some(row) = find_voice(voices, held, w) else {
-        return false;
-    };
-    let first = first_at(voices, row).0;
-    first <= k && u64::from(k) < u64::from(first) + u64::from(count_at(voices, row))
+    find_voice(voices, held, w).is_some_and(|row| {
+        k.checked_sub(first_at(voices, row).0)
+            .is_some_and(|i| i < count_at(voices, row))
+    })
 }
 
 // Whether the node in row `p` can be reported: it is one of the host's, or one of a voice's definition.
@@ -30,16 +31,12 @@ fn is_reported(nodes: &[u32], p: usize, voices: &[u32], held: usize) -> bool
     w == VoiceId(0) || of_definition(voices, held, w, id_at(nodes, p).0)
 }
 
-// Whether a lent block has its length: one or two channels of `block` samples. Crate bus asks it of its own buffers by a private test and a
-// definition of its own.
+// Whether a lent block has its length: one or two channels of `block` samples. Crate bus asks the same of its buffers by a private test; to share it
+// would make that one public for these lines alone, with a proof that the definitions of the two crates are equal.
 fn is_lent_block(block: usize, channels: usize, samples: usize) -> bool
     ensures { result ≡ lent_block block channels samples }
 {
-    match channels {
-        1 => samples == block,
-        2 => block <= samples && samples - block == block,
-        _ => false,
-    }
+    (1..=2).contains(&channels) && channels.checked_mul(block) == Some(samples)
 }
 
 // The row of the node, if it was found and can be reported: else 4, the node is unknown; then 16, the lent block has not its length.
@@ -54,12 +51,9 @@ pub(crate) fn report_test(
 ) -> Result<usize, Refusal>
     ensures { Told row (tested (take held (voices_in voices.now)) (row_in row (nodes_in nodes.now)) block channels samples) result }
 {
-    let Some(p) = row else {
-        return Err(Refusal::UnknownNode);
-    };
-    if !is_reported(nodes, p, voices, held) {
-        return Err(Refusal::UnknownNode);
-    }
+    let p = row
+        .filter(|p| is_reported(nodes, *p, voices, held))
+        .ok_or(Refusal::UnknownNode)?;
     if !is_lent_block(block, channels, samples) {
         return Err(Refusal::LentBlock);
     }

@@ -16,7 +16,7 @@ use voice_rows::row::VoiceTable;
 use voice_rows::table::voice_count;
 
 // Whether `base` and `ports` + 1 times `each` and `spare` are together at most `limit`. Numbers above 1,024 are told apart first, so
-// nothing overflows.
+// nothing overflows: with `checked_add` and `checked_mul` it would be three calls, and a case for none.
 fn has_room(limit: u64, base: u64, ports: u64, each: u64, spare: u64) -> bool
     requires ports_bound { ports ≤ 31 }
     requires few { spare ≤ 4 }
@@ -30,8 +30,7 @@ fn has_room(limit: u64, base: u64, ports: u64, each: u64, spare: u64) -> bool
 fn numbers_fit(p: Profile) -> bool
     ensures { result ≡ fitting p }
 {
-    2 <= p.ports
-        && p.ports <= 31
+    (2..=31).contains(&p.ports)
         && has_room(512, p.host_nodes, p.ports, p.def_nodes, 3)
         && has_room(1024, p.host_edges, p.ports, p.def_edges, 4)
 }

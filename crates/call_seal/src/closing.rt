@@ -40,8 +40,8 @@ fn leaves_out(p: Profile, managed: bool, bus: NodeId, nodes: usize, edges: usize
     !(managed && bus == p.bus && nodes as u64 <= p.def_nodes && edges as u64 <= p.def_edges)
 }
 
-// Whether the seal closes a spawn of so many nodes and edges on the bus, and a wish for it. Not a `Wish`: a book that cannot be read is
-// tested as a definition of no nodes and no edges, and there is no wish yet then.
+// Whether the seal closes a spawn of so many nodes and edges on the bus, and a wish for it. Four arguments and no `Wish`: a book that cannot be
+// read is tested as a definition of no nodes and no edges, and there is no wish yet then.
 pub fn shuts_spawn(x: Seal, managed: bool, bus: NodeId, nodes: usize, edges: usize) -> bool
     ensures { result ≡ shuts_spawn x managed bus nodes edges }
 {

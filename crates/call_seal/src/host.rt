@@ -1,5 +1,6 @@
-// The host's nodes, wiring and sink on a board: closed by every seal, before all else that these calls refuse. Five functions of two lines: one that
-// takes the call as a closure would lend it the tables and be longer.
+// The host's nodes, wiring and sink on a board: closed by every seal, before all else that these calls refuse.
+// Five functions that begin alike. One that takes the call as a closure was tried: nothing is known of a table that a closure changed, so that
+// `returns-clause-is` of `add_node` stayed open. `set_sink` alone changes no table, and would be the one that uses it.
 ghost use Rattle.std.specs.Prelude.{List, ℕ};
 ghost use Rattle.model.specs.Call.{add_node, remove_node, connect, disconnect, set_sink};
 ghost use Rattle.memory.specs.View.{Memory};

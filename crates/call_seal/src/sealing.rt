@@ -15,23 +15,18 @@ use sealed::refusal::SealRefusal;
 use voice_rows::row::VoiceTable;
 
 // The seal that sealing left, and its answer: beside each other, as the state and the answer of a call of the store are (`CallResult`).
+// Not that type, whose field `state` would hold no state; and not the seal in an `Ok`: a caller keeps what is left whatever the answer is.
 #[derive(Clone, Copy)]
 pub struct SealResult {
     pub seal: Seal,
     pub answer: Result<(), SealRefusal>,
 }
 
-// Whether no wish waits at any keyboard. No `all` over the keyboards' numbers: what it ensures is said of the numbers, and a law would have to carry
-// it to the queues.
+// Whether no wish waits at any keyboard.
 fn none_waits(w: WishState) -> bool
     ensures { (c : List ℕ) → result ≡ none_waits (wishes_of w c).waits }
 {
-    for q in 0..keyboard_count(w) {
-        if 0 < waiting_count(w, q) {
-            return false;
-        }
-    }
-    true
+    (0..keyboard_count(w)).all(|q| waiting_count(w, q) == 0)
 }
 
 // The builder seals the board by the profile `p`. A sealed board stays as it is sealed.

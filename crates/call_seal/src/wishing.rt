@@ -5,6 +5,7 @@ ghost use Rattle.call_seal.specs.Board.{board, BoardCalled, BoardKept, wished_an
 
 use crate::closing::{BoardRefusal, opened, shuts_spawn};
 use call_console::queues::{WishResult, WishState};
+use call_console::wishing::refuse_wish;
 use console::refusal::KeyboardRefusal;
 use sealed::profile::Seal;
 use store::wish::Wish;
@@ -28,10 +29,7 @@ pub fn wish(
         wish.def.nodes.count,
         wish.def.edges.count,
     ) {
-        return WishResult {
-            wishes: w,
-            answer: Err(BoardRefusal::Closed),
-        };
+        return refuse_wish(w, BoardRefusal::Closed);
     }
     let given = call_console::wishing::wish(w, wishes, keyboard, wish);
     WishResult {

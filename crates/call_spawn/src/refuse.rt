@@ -21,6 +21,7 @@ use voice_rows::row::VoiceTable;
 use voice_rows::table::voice_count;
 
 // Whether `held` and `more` and `spare` together are above `limit`.
+// In 128 bits, where the sum fits: `checked_add` twice, and a case for none, is longer.
 fn is_over(limit: u64, held: u64, more: u64, spare: u64) -> bool
     ensures { result ≡ ltb limit (held + more + spare) }
 {

@@ -34,10 +34,8 @@ pub fn fade_output(
 {
     let len = fade_length(config.rate);
     let size = config.block;
-    if config.table {
-        let table = table_gains();
-        return bus::fade_output(input, p.ins, &table, len, p.position, size, out, p.outs);
-    }
+    let table = config.table.then(table_gains);
+    let gains = table.as_ref().map_or(gains, |t| &t[..]);
     bus::fade_output(input, p.ins, gains, len, p.position, size, out, p.outs)
 }
 

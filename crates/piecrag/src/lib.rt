@@ -1,5 +1,7 @@
 // The store: the calls that a host makes on memory that it lends, the tables that it lends, and the types of arguments and answers.
-// What else writes a store is no call, and is not shown here.
+// What else writes a store is no call, and is not shown here. Also shown: what makes an argument (`name_of`, the four `voice_on_bus`), how long
+// a page is, and the numbers of refusals and outcomes, which docs/CALLS.md lists for every host.
+// A type stands here if a signature or a field names it.
 #![tactic(auto)]
 
 // ---- the state, which goes by value, and the six tables with how many words each has

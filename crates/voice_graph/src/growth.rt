@@ -16,15 +16,15 @@ use memory::state::State;
 use node::record::{Edge, NodeId, VoiceId};
 use synthdef::def::{DefNodes, SynthDef};
 
-// Whether `n` nodes more find a place and an id each.
+// Whether `n` nodes more find a place and an id each. By differences, which fit: for sums it would be `checked_add` twice, and a case for none.
 fn has_room(count: usize, next: u64, n: usize) -> bool
     ensures { result ≡ has_room count next n }
 {
     n <= 512 && count <= 512 - n && next <= 4294967296 - n as u64
 }
 
-// How many nodes a voice has: its definition's, and where it pans the constant and the pan node. Here and in the wires `pan` is what the wish
-// of the voice says, a value and no switch that the code of a caller sets.
+// How many nodes a voice has: its definition's, and where it pans the constant and the pan node.
+// Here and below `pan` is what the wish of the voice says, a value and no switch that the code of a caller sets.
 fn voice_size(ns: DefNodes, pan: bool) -> usize
     ensures { result ≡ voice_size (length (node_rows ns)) pan }
 {
@@ -84,11 +84,8 @@ pub fn add_voice(
 ) -> State
     ensures { (m : Memory) → model_of (lent_graph result nodes.new edges.new m) ≡ regraphed (with_voice owner d pan bus port (graph_of (lent_graph s nodes.old edges.old m))) (model_of (lent_graph s nodes.old edges.old m)) }
 {
-    if !has_room(
-        node_count(nodes, s.nodes),
-        s.next,
-        voice_size(d.nodes, true),
-    ) {
+    let most = d.nodes.as_slice().len() + 2;
+    if !has_room(node_count(nodes, s.nodes), s.next, most) {
         return s;
     }
     let n = append_voice(nodes, s.nodes, s.next, owner, d.nodes, pan);

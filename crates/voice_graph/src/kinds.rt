@@ -25,7 +25,8 @@ fn plain_node(id: NodeId, owner: VoiceId, kind: Name, ports: u32, required: u64)
     }
 }
 
-// The three nodes that are no definition's, each under the name that the model gives it.
+// The three nodes that are no definition's, one call each under the name that the model gives it: one function
+// over an enum of the three would match it in as many lines.
 pub(crate) fn fade_node(id: NodeId, owner: VoiceId) -> Node
     ensures { result ≡ with_id id.0 (fade_node owner) }
 {

@@ -1,4 +1,5 @@
-// The nodes of a new voice.
+// The nodes of a new voice. Each part asks for room and ids for its own number of nodes: a type with the table's count, the first id and
+// the owner that holds this fact would be made anew, and its fact proved anew, for each of the three.
 ghost use Rattle.std.specs.Prelude.{◌≡◌, [], ◌∷◌, ◌++◌, map, ◌+◌, ◌≤◌, length, take};
 ghost use Rattle.words.specs.Place.{Holds};
 ghost use Rattle.synthdef.specs.Tables.{node_rows};
@@ -43,6 +44,7 @@ fn append_pan(nodes: &mut NodeTable, count: usize, first: u64, owner: VoiceId) -
 }
 
 // The nodes of a voice, behind the first `count`, under the ids from `first` on: how many nodes there are.
+// `pan` is what the wish of the voice says, and no switch.
 pub(crate) fn append_voice(
     nodes: &mut NodeTable,
     count: usize,

@@ -1,4 +1,4 @@
-// The edges of a new voice.
+// The edges of a new voice. The edges are a lent table and how many of its rows count: each part takes the count and answers the new one.
 ghost use Rattle.std.specs.Prelude.{[], ◌∷◌, take};
 ghost use Rattle.words.specs.Place.{Holds};
 ghost use Rattle.synthdef.specs.Tables.{edge_rows};
@@ -56,6 +56,7 @@ fn wire_pan(
 }
 
 // All edges of a voice are put: those that count of its definition, those of its pan, and the one to the port `port` of the bus.
+// `pan` is what the wish of the voice says, and no switch.
 pub(crate) fn wire_voice(
     edges: &mut EdgeTable,
     count: usize,

@@ -27,10 +27,8 @@ pub fn fade_output(
 {
     let len = fade_length(config.rate);
     let size = config.block;
-    if config.table {
-        let table = table_entries();
-        return whole_samples::fade_output(input, p.ins, &table, len, p.position, size, out, p.outs);
-    }
+    let table = config.table.then(table_entries);
+    let gains = table.as_ref().map_or(gains, |t| &t[..]);
     whole_samples::fade_output(input, p.ins, gains, len, p.position, size, out, p.outs)
 }
 

@@ -1,15 +1,17 @@
-use mathlib.Core.Path.{sym, ap, ◌∙◌}
-use Rattle.std.specs.Prelude.{is_some}
-use Rattle.words.proofs.InWords.{seek_start, seek_hit}
-use Rattle.graph_rows.specs.Node.{node_of}
-use Rattle.call_clear.proofs.silence.has_done.Invariants.{is_done}
+use Prim.Native.Nat.{◌-◌}
+use native.Mathlib.Omega.{arith}
+use mathlib.Core.Path.{◌≡◌, refl, ◌∙◌}
+use borrow.Author.Rules.{rules}
+use borrow.Author.Tests.{tests}
+use Rattle.std.proofs.lemmas.Iterator.{YieldsList-from_range}
+use Rattle.std.proofs.lemmas.Iterator.Search.{any_from_yields_List}
+use Rattle.call_clear.proofs.Flags.{done_row, any_row}
 use Rattle.call_clear.proofs.silence.has_done.Goals as goal
 
-pub loop-i-init : goal.loop-i-init
-loop-i-init c = let s = c.args in (c.min-i-end.ensures, seek_start 22 node_of is_done s.nodes.now s.n c.min-i-end.result c.min-i-end.ensures)
-
-pub returns-then-done_at : goal.returns-then-done_at
-returns-then-done_at c =
+pub returns : goal.returns
+returns c =
     let s = c.args in
-    let l = c.loop-i in
-    ap is_some (seek_hit 22 node_of is_done s.nodes.now s.n c.min-i-end.result l.invariant.0 l.i c.loop-i-test.true l.invariant.1 (sym c.done_at.ensures ∙ c.if-done_at.true))
+    let n = c.min in
+    let all : n.result - 0 ≡ n.result = omega arith in
+    any_from_yields_List (done_row s.nodes.now s.n n.result n.ensures) _ _ c.any.result c.any.ensures.ran (YieldsList-from_range 0 n.result n.result refl all) (λ x b q h. (search rules, search (rules, tests)))
+    ∙ any_row s.nodes.now s.n n.result n.ensures

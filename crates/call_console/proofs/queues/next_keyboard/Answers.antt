@@ -1,49 +1,73 @@
-use Prim.Native.Nat.{◌≤◌, ◌<◌, ◌-◌, ◌+◌}
+use Prim.Native.Nat.{ℕ, zero, suc, ◌≤◌, ◌<◌}
 use native.Mathlib.Omega.{arith}
-use mathlib.Core.Path.{◌≡◌, sym, ap, ◌∙◌}
+use native.Mathlib.Numerals.{add-one}
+use mathlib.Core.Bool.{true, false}
+use mathlib.Core.Path.{◌≡◌, refl, sym, ap, subst, ◌∙◌}
 use mathlib.Core.List.{[]}
+use borrow.Author.Rules.{rules}
+use borrow.Author.Tests.{tests, ltb-true, ltb-false}
+use lib.Dec.{ltb}
 use lib.ListN.{length}
-use Rattle.console.specs.Wishes.{keyboards, waiting_at, after}
-use Rattle.console.specs.Wishes as wishes
-use Rattle.call_console.specs.Queues.{wishes_of}
-use Rattle.call_console.proofs.Calls.{search_here, search_next, search_end, waits_from, waits_at}
+use Rattle.std.specs.Prelude.{IfSome, None, Some}
+use Rattle.std.specs.Fn.{iterate}
+use Rattle.lists.proofs.Member.{none_some}
+use Rattle.console.specs.Wishes.{keyboards, waiting_at, after, picked, oldest_or}
+use Rattle.call_console.specs.Queues.{wishes_of, picked_at}
+use Rattle.call_console.proofs.Calls.{waits_from}
+use Rattle.call_console.proofs.Walked.{walk_none, walk_found, item_has, some_has, endless, not_below}
 use Rattle.call_console.proofs.queues.next_keyboard.Goals as goal
-
-pub loop-init : goal.loop-init
-loop-init c =
-    λ words.
-    let s = c.args.s in
-    let all : c.keyboard_count-m.result - 0 ≡ keyboards (wishes_of s words) = omega (arith, c.keyboard_count-m.ensures words) in
-    ap (λ n. wishes.search n (wishes_of s words) s.next) all
-
-pub returns-then-waiting_count-gt0 : goal.returns-then-waiting_count-gt0
-returns-then-waiting_count-gt0 c =
-    let l = c.loop in
-    let s = c.args.s in
-    let some : 0 < length (waiting_at l.q (wishes_of s [])) = omega (arith, c.waiting_count.ensures [], c.if-waiting_count-gt0.true) in record {
-      is = λ words.
-          let here : 0 < length (waiting_at l.q (wishes_of s words)) = omega (arith, c.waiting_count.ensures words, c.if-waiting_count-gt0.true) in
-          let left : 0 < c.keyboard_count-m.result - l.counter = omega arith in
-          sym (l.invariant words) ∙ search_here (c.keyboard_count-m.result - l.counter) (wishes_of s words) l.q left here;
-      waits = waits_at s l.q (waits_from s l.q [] some);
-    }
-
-pub loop-preserved : goal.loop-preserved
-loop-preserved c =
-    let l = c.loop in
-    let s = c.args.s in
-    let n = c.keyboard_count-m.result - l.counter in
-    let left : 0 < n = omega arith in
-    let next : c.keyboard_count-m.result - (l.counter + 1) ≡ n - 1 = omega arith in
-    λ words.
-    let none : length (waiting_at l.q (wishes_of s words)) ≤ 0 = omega (arith, c.waiting_count.ensures words, c.if-waiting_count-gt0.false) in
-    ap (λ k. wishes.search k (wishes_of s words) c.after-q.result) next
-    ∙ ap (wishes.search (n - 1) (wishes_of s words)) (c.after-q.ensures ∙ ap (λ k. after k l.q) (c.keyboard_count-m.ensures words))
-    ∙ search_next n (wishes_of s words) l.q left none ∙ l.invariant words
 
 pub returns-clause-is : goal.returns-clause-is
 returns-clause-is c =
-    let l = c.loop in
+    λ words.
     let s = c.args.s in
-    let past : c.keyboard_count-m.result - l.counter ≤ 0 = omega arith in
-    λ words. sym (l.invariant words) ∙ search_end (c.keyboard_count-m.result - l.counter) (wishes_of s words) l.q past
+    let ws = wishes_of s words in
+    let m = c.keyboard_count-m.result in
+    let many : m ≡ keyboards ws = c.keyboard_count-m.ensures words in
+    let on : ℕ → ℕ = after (keyboards ws) in
+    let found = c.find.ensures.runs in
+    let u = found.0 in
+    let taken = c.take.ensures.runs u u.seen found.1 in
+    let q = taken.1.0 in
+    let walk = c.successors.ensures.runs q q.seen taken.1.1 in
+    let same = taken.1.2.0 in
+    let whole = taken.1.2.1 in
+    let steps = walk.2 (λ x r q h. search rules) in
+    let item : (k : ℕ) → IfSome (u.at k) (λ y. y ≡ iterate on k s.next) =
+    λ k. subst (λ o. IfSome o (λ y. y ≡ iterate on k s.next)) (same.2 k)
+    (steps.2 on s.next k refl (λ x y h. let e : y ≡ after m x = search rules in e ∙ ap (λ n. after n x) many)) in
+    elim c.find.result as (λ r. c.find.result ≡ r → picked ws ≡ picked_at r ws) [
+      | None ↦ λ e.
+          let h = rw e at found.2 in
+          let quiet = h.1 (λ x r q e. search rules) in
+          let ends : (n : ℕ) → q.len ≡ n → q.whole ≡ true → ⊥ =
+          λ n. elim n as (λ n. q.len ≡ n → q.whole ≡ true → ⊥) [
+            | zero ↦ λ e w. absurd (none_some (sym (walk.1 w e)))
+            | suc k ↦ λ e w. endless (q.at k) _ (steps.1 k w (e ∙ sym (add-one k))) (λ x h. search rules)
+          ] in
+          let full : m ≤ u.len = not_below u.len m (λ lt. ends q.len refl (whole h.0 lt)) in
+          walk_none ws (keyboards ws) s.next
+          (λ k lt. item_has (u.at k) (iterate on k s.next) _ _ (λ x. length (waiting_at x ws) ≤ 0) (u.reads k 0 (omega (arith, lt, many, full))) (item k) (λ x h. let e : false ≡ ltb 0 (length (waiting_at x ws)) = search (rules, tests) in ltb-false 0 (length (waiting_at x ws)) (sym e)) (quiet k))
+      | Some x ↦ λ e.
+          let h = rw e at found.2 in
+          let i = h.0 in
+          let says = h.3 (λ x r q e. search rules) in
+          let here : x ≡ iterate on i s.next = subst (λ o. IfSome o (λ y. y ≡ iterate on i s.next)) h.2 (item i) in
+          let hit = says.0 in
+          let t : true ≡ ltb 0 (length (waiting_at x ws)) = search (rules, tests) in
+          let some : 0 < length (waiting_at x ws) = ltb-true 0 (length (waiting_at x ws)) (sym t) in
+          walk_found ws (keyboards ws) s.next i (omega (arith, taken.0, h.1, many)) (subst (λ y. 0 < length (waiting_at y ws)) here some)
+          (λ k lt. some_has (u.at k) (iterate on k s.next) _ (λ y. length (waiting_at y ws) ≤ 0) (item k) (λ x h. let e : false ≡ ltb 0 (length (waiting_at x ws)) = search (rules, tests) in ltb-false 0 (length (waiting_at x ws)) (sym e)) (says.1 k lt))
+          ∙ ap (λ y. oldest_or (waiting_at y ws) y None) (sym here)
+    ] refl
+
+pub returns-clause-waits : goal.returns-clause-waits
+returns-clause-waits c =
+    λ p e.
+    let ws = wishes_of c.args.s [] in
+    let found = c.find.ensures.runs in
+    let h = rw e at found.2 in
+    let says = h.3 (λ x r q e. search rules) in
+    let hit = says.0 in
+    let t : true ≡ ltb 0 (length (waiting_at p ws)) = search (rules, tests) in
+    waits_from c.args.s p [] (ltb-true 0 (length (waiting_at p ws)) (sym t))

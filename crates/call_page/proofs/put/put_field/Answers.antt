@@ -1,10 +1,7 @@
-use Prim.Native.Nat.{◌<◌}
 use native.Mathlib.Omega.{arith}
-use lib.ListN.{length}
-use Rattle.call_page.proofs.Puts.{and_byte}
+use mathlib.Core.Path.{refl}
+use Rattle.call_page.proofs.Puts.{then, added}
 use Rattle.call_page.proofs.put.put_field.Goals as goal
 
 pub returns : goal.returns
-returns c =
-    let room : 20 < length c.args.out.now = omega arith in
-    and_byte 32 c.put_number-k.ensures room
+returns c = then c.put_number.ensures (added 1 _ _ _ _ refl c.add.ensures (omega arith))

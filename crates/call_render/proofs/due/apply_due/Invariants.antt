@@ -7,4 +7,4 @@ use Rattle.call_render.proofs.due.apply_due.Given as goal
 
 abbrev pub invariant-loop-i : goal.invariant-loop-i
 invariant-loop-i l =
-    EventsApplied l.deadline (events_in l.t) l.i-end (take l.s.voices (voices_in l.voices)) (take l.s.nodes (nodes_in l.initial.nodes)) l.initial.out (take l.s.nodes (nodes_in l.nodes)) l.freed l.out l.count l.taken l.i
+    EventsApplied l.deadline (events_in l.t) l.i-end (take l.s.voices (voices_in l.voices)) (take l.s.nodes (nodes_in l.initial.nodes)) l.initial.out (take l.s.nodes (nodes_in l.nodes)) l.freed l.out l.taken l.i

@@ -14,7 +14,7 @@ returns-then-not-has_room c =
     let a = c.args in
     let old = length (take a.s.nodes (nodes_in a.nodes.now)) in
     let no : has_room old a.s.next (length (node_rows a.d.nodes) + 2) ≡ false =
-    ap (λ k. has_room k a.s.next (length (node_rows a.d.nodes) + 2)) (sym c.node_count.ensures) ∙ ap (has_room c.node_count.result a.s.next) (sym c.voice_size.ensures) ∙ sym c.has_room.ensures ∙ c.if-not-has_room.true in
+    ap (λ k. has_room k a.s.next (length (node_rows a.d.nodes) + 2)) (sym c.node_count.ensures) ∙ ap (λ l. has_room c.node_count.result a.s.next (length l + 2)) (sym c.as_slice.ensures) ∙ sym c.has_room.ensures ∙ c.if-not-has_room.true in
     λ m. voice_stays a.s a.nodes.now a.edges.now m a.owner a.d a.pan a.bus a.port no
 
 pub returns : goal.returns
@@ -22,8 +22,8 @@ returns c =
     let a = c.args in
     let old = length (take a.s.nodes (nodes_in a.nodes.now)) in
     let is : has_room old a.s.next (length (node_rows a.d.nodes) + 2) ≡ true =
-    ap (λ k. has_room k a.s.next (length (node_rows a.d.nodes) + 2)) (sym c.node_count.ensures) ∙ ap (has_room c.node_count.result a.s.next) (sym c.voice_size.ensures) ∙ sym c.has_room.ensures ∙ c.if-not-has_room.false in
+    ap (λ k. has_room k a.s.next (length (node_rows a.d.nodes) + 2)) (sym c.node_count.ensures) ∙ ap (λ l. has_room c.node_count.result a.s.next (length l + 2)) (sym c.as_slice.ensures) ∙ sym c.has_room.ensures ∙ c.if-not-has_room.false in
     let n = c.append_voice-n in
     let e = c.wire_voice-e in
-    let next = c.voice_size-2 in
+    let next = c.voice_size in
     λ m. voice_grows a.s a.nodes.now a.edges.now m a.owner a.d a.pan a.bus a.port is n.new.nodes e.new.edges n.result e.result (a.s.next + next.result) c.with_graph.result c.with_graph.ensures (ap (λ k. a.s.next + k) next.ensures) n.ensures e.ensures
