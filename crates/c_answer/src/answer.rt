@@ -1,12 +1,13 @@
-// Answers as numbers and cells, and when the state is written back. Numbers, since a host in C has no enums. A function of its own
-// for each sort of refusal: one over a trait would need as many lines in an impl for each.
+// Answers as numbers and cells, and when the state is written back. Numbers, since a host in C has no enums.
+// A function for each sort of answer. One over a trait would need an impl for each sort of refusal, which for those of a seal could not stand
+// in piecrag_c_seal (neither trait nor enum would be its own), and in all as many lines.
 ghost use Rattle.std.specs.Prelude.{◌≡◌, Some};
 ghost use Rattle.node.specs.Refusal.{number_of, says};
 ghost use Rattle.model.specs.Numbers.{number, render_says};
 ghost use Rattle.memory.specs.Called.{keeps};
 ghost use Rattle.c_answer.specs.Exported.{result_code, render_code, sound_cell, taken_cell, Settled};
 
-use memory::state::State;
+use memory::state::{CallResult, State};
 use node::refusal::{Refusal, refusal_number};
 use state_words::{StateWords, put_state};
 use store::answer::Rendered;
@@ -38,6 +39,7 @@ pub fn result_kept<A: Copy>(a: Result<A, Refusal>) -> bool
     a.is_err_and(is_kept)
 }
 
+// A render by its cases: C gets a number and two cells of it, and a cell keeps its value where the render is refused.
 pub fn render_code(a: Rendered) -> u32
     ensures { result ≡ render_code a }
 {
@@ -75,8 +77,9 @@ pub fn taken_cell(a: Rendered, n: usize, old: usize) -> usize
     }
 }
 
-// The state s is written to the words, unless they are kept; the answer is the number. `kept` is a value and no step to run: what follows
-// from the refusal.
+// The state s is written to the words, unless they are kept; the answer is the number.
+// `kept` is a value and no step to run: each caller asks it of an answer of another type.
+// `settle_waiting` and `settle_seal` are this `if` for other words: one function would take what writes as a closure, as long as the `if`.
 pub fn settle(w: &mut StateWords, s: State, kept: bool, k: u32) -> u32
     ensures { Settled w.old s kept k result w.new }
 {
@@ -84,4 +87,11 @@ pub fn settle(w: &mut StateWords, s: State, kept: bool, k: u32) -> u32
         put_state(w, s);
     }
     k
+}
+
+// The same of a call that answers by a result.
+pub fn settle_result<A: Copy>(w: &mut StateWords, r: CallResult<Result<A, Refusal>>) -> u32
+    ensures { Settled w.old r.state (keeps (number (says r.answer))) (result_code r.answer) result w.new }
+{
+    settle(w, r.state, result_kept(r.answer), result_code(r.answer))
 }

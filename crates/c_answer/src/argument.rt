@@ -1,5 +1,6 @@
-// Enums, a glide, and what making is asked for, that a host in C gives as numbers. Any number stands for one, and the enums are those of other
-// crates, so that these are functions and no `From`.
+// Enums, a glide, and what making is asked for, that a host in C gives as numbers. Functions and no `From`: the enums are those of crate node,
+// where alone an impl could stand, and the numbers are those of the C interface.
+// Arguments stay single numbers for C, here and in the exports: a tag picks a case, and `limited` stands before the budget of which it tells.
 ghost use Rattle.std.specs.Prelude.{◌≡◌};
 ghost use Rattle.state_words.specs.State.{budget_in};
 ghost use Rattle.c_answer.specs.Argument.{shape_in, space_in, glide_in, action_in, making_in};
@@ -53,7 +54,7 @@ pub fn action_in(tag: u32, glide: Glide) -> EventAction
     }
 }
 
-// The parameters are those of the two exports that make: for C arguments stay single numbers.
+// The parameters are those of the two exports that make.
 pub fn making_in(
     rate: f32,
     block: usize,

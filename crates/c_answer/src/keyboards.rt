@@ -1,4 +1,5 @@
-// The console's answers as numbers and cells, and when the words of what waits are written back. Numbers, since a host in C has no enums.
+// The console's answers as numbers and cells, and when the words of what waits are written back. Numbers, since a host in C has no enums;
+// why a function for each sort of answer, module answer says.
 ghost use Rattle.std.specs.Prelude.{◌≡◌};
 ghost use Rattle.console.specs.Refusal.{number_of};
 ghost use Rattle.console.specs.Console.{Console};
@@ -12,6 +13,7 @@ use call_console::turning::Served;
 use console::refusal::{KeyboardRefusal, keyboard_refusal_number};
 use wish_state_words::{WaitingWords, put_waiting};
 
+// What an empty turn answers, since C has no option: no refusal has this number, as those are bytes.
 pub const EMPTY_TURN: u32 = 256;
 
 pub fn keyboard_number(r: KeyboardRefusal) -> u32
@@ -32,6 +34,7 @@ pub fn turn_keeps_store(a: Option<Served>) -> bool
     a.is_none_or(|served| result_kept(served.answer))
 }
 
+// Three cases: by closures one of them would hold a match of its own.
 pub fn made_code(a: Result<(), MakeRefusal>) -> u32
     ensures { (x : Console) → result ≡ made_code (made_of a x) }
 {
@@ -42,7 +45,7 @@ pub fn made_code(a: Result<(), MakeRefusal>) -> u32
     }
 }
 
-// The state s of what waits is written to the words, unless they are kept.
+// The state s of what waits is written to the words, unless they are kept. Why not by `settle`, the line at it says.
 pub fn settle_waiting(w: &mut WaitingWords, s: WishState, kept: bool)
     ensures { WaitingSettled w.old s kept w.new }
 {

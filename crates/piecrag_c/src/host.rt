@@ -1,4 +1,4 @@
-// Making, prepare and scheduling.
+// Making, prepare and scheduling. For C arguments are single numbers: a budget is a flag and a number, an action and a shape are a tag each.
 ghost use Rattle.std.specs.Prelude.{◌≡◌, true, false};
 ghost use Rattle.graph.specs.Tables.{answer_of};
 ghost use Rattle.model.specs.Call as call;
@@ -11,7 +11,7 @@ ghost use Rattle.model.specs.Numbers.{number_in};
 ghost use Rattle.c_answer.specs.Exported.{Exported, code};
 ghost use Rattle.c_answer.specs.Argument.{glide_in, action_in, making_in};
 
-use c_answer::answer::{result_code, result_kept, settle};
+use c_answer::answer::settle_result;
 use c_answer::argument::{action_in, glide_in, making_in};
 use node::record::VoiceId;
 use piecrag::{EdgeTable, EventTable, NodeTable, OrderTable};
@@ -34,13 +34,7 @@ pub extern "C" fn piecrag_make(
     ensures same { keeps (number_in (answered (answer_of (refusal_of (making_in rate block (budget_in limited budget) policy scope table))))) ≡ true → state.new ≡ state.old }
 {
     let asked = making_in(rate, block, limited, budget, policy, scope, table);
-    let made = piecrag::make(asked);
-    settle(
-        state,
-        made.state,
-        result_kept(made.answer),
-        result_code(made.answer),
-    )
+    settle_result(state, piecrag::make(asked))
 }
 
 #[unsafe(no_mangle)]
@@ -53,8 +47,7 @@ pub extern "C" fn piecrag_prepare(
     ensures { (m : Memory) → Exported call.prepare (lent_order (state_in state.old) nodes.now edges.now order.old m) state.old result (lent_order (state_in state.new) nodes.now edges.now order.new m) state.new }
 {
     let s = state_in(state);
-    let r = piecrag::prepare(s, nodes, edges, order);
-    settle(state, r.state, result_kept(r.answer), result_code(r.answer))
+    settle_result(state, piecrag::prepare(s, nodes, edges, order))
 }
 
 // An action for a voice at the sample `time`: `value` is the value, the target of the glide or the gate. A value and a glide are for the
@@ -78,5 +71,5 @@ pub extern "C" fn piecrag_schedule(
     let s = state_in(state);
     let asked = action_in(action, glide_in(value, seconds, shape, curve, space));
     let r = piecrag::schedule(s, events, time, VoiceId(voice), name, asked);
-    settle(state, r.state, result_kept(r.answer), result_code(r.answer))
+    settle_result(state, r)
 }

@@ -10,7 +10,7 @@ use c_answer::keyboards::{made_code, settle_waiting};
 use state_words::StateWords;
 use wish_state_words::WaitingWords;
 
-// A new console, whatever stands in the words of its tables.
+// A new console, whatever stands in the words of its tables. For C its arguments are single numbers.
 #[unsafe(no_mangle)]
 pub extern "C" fn piecrag_make_console(
     state: &mut StateWords,

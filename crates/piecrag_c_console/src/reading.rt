@@ -1,4 +1,5 @@
-// How many keyboards there are, what waits at one, and whose turn it is.
+// How many keyboards there are, what waits at one, and whose turn it is. Exported names, so that calls that are alike stay functions of their
+// own; a flag stands beside the cell of which it tells, since C has no option.
 ghost use Rattle.std.specs.Prelude.{◌≡◌, List, ℕ, length};
 ghost use Rattle.console.specs.Wishes.{keyboards, waiting_at, picked};
 ghost use Rattle.call_console.specs.Queues.{wishes_of};

@@ -1,18 +1,16 @@
 -- From what a reading call answers to what stands in the cells.
 use Rattle.node.specs.declared.refusal.Refusal.{Refusal}
-use Prim.Native.Nat.{ℕ, zero, suc, ◌<◌}
-use native.Mathlib.Omega.{arith}
+use Prim.Native.Nat.{ℕ}
 use mathlib.Core.Path.{◌≡◌, refl, sym, ap, ◌∙◌}
-use mathlib.Core.List.{List, [], ◌∷◌}
-use lib.ListN.{length, get_or}
+use mathlib.Core.List.{List, []}
 use Rattle.std.specs.Prelude.{Result, Err, Ok}
 use lib.IntN.{ℤ}
 use lib.Ieee.{Float}
 use Rattle.voice.specs.Steals.{StealLog}
 use Rattle.steal_log.specs.Rows.{log_in}
-use Rattle.model.specs.Call.{Call, Answer, Step, step}
+use Rattle.model.specs.Call.{Call, Answer, Step}
 use Rattle.model.specs.Call as call
-use Rattle.memory.specs.View.{Memory, model_of}
+use Rattle.memory.specs.View.{Memory}
 use Rattle.memory.specs.Lent.{lent_steals}
 use Rattle.memory.specs.Called.{Called}
 use Rattle.memory.specs.declared.state.State.{State}
@@ -57,9 +55,3 @@ pub log_read : (w : List ℕ) (s : State) (b : StealLog)
     → ((m : Memory) → Called (call.ask call.steals) (lent_steals s w m) (call.stolen b) (lent_steals s w m))
     → b ≡ log_in w s.stolen s.place
 log_read w s b called = same_log b (log_in w s.stolen s.place) (ap (λ (x : Step). x.answer) (called (nothing s)))
-
--- inside a list any default is the same
-pub any_default : {A : Type 0} (l : List A) (i : ℕ) (d e : A) → i < length l → get_or l i d ≡ get_or l i e
-any_default [] i d e h = absurd (omega (arith, h))
-any_default (x ∷ l) zero d e h = refl
-any_default (x ∷ l) (suc i) d e h = any_default l i d e (omega (arith, h))

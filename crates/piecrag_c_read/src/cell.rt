@@ -4,9 +4,10 @@ ghost use Rattle.graph_rows.specs.Node.{nodes_in};
 ghost use Rattle.graph_rows.specs.Edge.{edges_in};
 ghost use Rattle.voice_rows.specs.Rows.{voices_in};
 ghost use Rattle.busiest.specs.Stretch.{said};
+ghost use Rattle.state_words.specs.State.{some_flag};
 ghost use Rattle.piecrag_c_read.specs.Cells.{row_cell, stretch_code, stretch_count, stretch_sample};
 
-use busiest::stretch::{Busiest, Unanswered};
+use busiest::stretch::Busiest;
 use graph_rows::edge_row::set_edge;
 use graph_rows::node_row::put_node;
 use node::record::{Edge, Node};
@@ -46,42 +47,32 @@ impl Row for Edge {
     }
 }
 
-// A row that was found becomes the row of the lent record.
-pub fn put_found<R: Row>(t: &mut [u32], found: Option<R>)
-    ensures { R.rows t.new ≡ row_cell found (R.rows t.old) }
+// A row that was found becomes the row of the lent record, and the flag beside it becomes 1, or 0 where there is none.
+pub fn put_found<R: Row>(flag: &mut u32, t: &mut [u32], found: Option<R>)
+    ensures flag { flag.new ≡ some_flag found }
+    ensures row { R.rows t.new ≡ row_cell found (R.rows t.old) }
 {
+    *flag = u32::from(found.is_some());
     if let Some(row) = found {
         row.put(t);
     }
 }
 
-// The answer of the busiest stretch as a number and two cells. Numbers, since a host in C has no enums. Matches, since each is a case of a
-// Result of an Option, and its definition is told by these cases.
+// The answer of the busiest stretch as a number and two cells. Numbers, since a host in C has no enums; those of the refusals stand at their cases.
 pub fn stretch_code(b: Busiest) -> u32
     ensures { result ≡ stretch_code (said b) }
 {
-    match b {
-        Err(Unanswered::NoWidth) => 22,
-        Err(Unanswered::SamplesFall) => 23,
-        Ok(_) => 0,
-    }
+    b.map_or_else(|why| why as u32, |_| 0)
 }
 
 pub fn stretch_count(b: Busiest, old: usize) -> usize
     ensures { result ≡ stretch_count (said b) old }
 {
-    match b {
-        Err(_) => old,
-        Ok(None) => 0,
-        Ok(Some(s)) => s.count,
-    }
+    b.map_or(old, |found| found.map_or(0, |s| s.count))
 }
 
 pub fn stretch_sample(b: Busiest, old: u64) -> u64
     ensures { result ≡ stretch_sample (said b) old }
 {
-    match b {
-        Ok(Some(s)) => s.sample,
-        _ => old,
-    }
+    b.ok().flatten().map_or(old, |s| s.sample)
 }

@@ -1,5 +1,5 @@
 // One voice and one node: a level, the position of a fade, a record. Exported names with parameters of their own: exports that differ in a type
-// stay functions of their own.
+// stay functions of their own. A flag stands beside the cell of which it tells, since C has no option.
 ghost use Rattle.std.specs.Prelude.{◌≡◌};
 ghost use Rattle.graph_rows.specs.Node.{nodes_in};
 ghost use Rattle.voice_rows.specs.Rows.{voices_in};
@@ -74,8 +74,7 @@ pub extern "C" fn piecrag_voice(
 {
     let s = state_in(state);
     let r = piecrag::voice(s, voices, VoiceId(voice));
-    *found = u32::from(r.is_some());
-    put_found(row, r);
+    put_found(found, row, r);
     0
 }
 
@@ -92,8 +91,7 @@ pub extern "C" fn piecrag_voice_at(
 {
     let s = state_in(state);
     let r = piecrag::voice_at(s, voices, place);
-    *found = u32::from(r.is_some());
-    put_found(row, r);
+    put_found(found, row, r);
     0
 }
 
@@ -110,7 +108,6 @@ pub extern "C" fn piecrag_node_record(
 {
     let s = state_in(state);
     let r = piecrag::node_record(s, nodes, NodeId(node));
-    *found = u32::from(r.is_some());
-    put_found(row, r);
+    put_found(found, row, r);
     0
 }

@@ -1,4 +1,4 @@
-// The steal records, and their busiest stretch.
+// The steal records, and their busiest stretch. A flag stands beside the cells of which it tells, since C has no option.
 ghost use Rattle.std.specs.Prelude.{◌≡◌, length};
 ghost use Rattle.voice.specs.Steals.{found_at};
 ghost use Rattle.steal_log.specs.Rows.{log_in};

@@ -1,5 +1,5 @@
-// How many rows of a table count, an edge, what feeds a port, and the clock. Exported names: `piecrag_edge_at` differs from `piecrag_voice_at` in
-// its tables and stays a function of its own.
+// How many rows of a table count, an edge, what feeds a port, and the clock. Exported names, so that calls that are alike stay functions of
+// their own, as `piecrag_edge_at` beside `piecrag_voice_at`. A flag stands beside the cell of which it tells, since C has no option.
 ghost use Rattle.std.specs.Prelude.{◌≡◌, get_or, slice_get, None};
 ghost use Rattle.words.specs.Place.{Holds};
 ghost use Rattle.graph_rows.specs.Edge.{edges_in};
@@ -68,8 +68,7 @@ pub extern "C" fn piecrag_edge_at(
 {
     let s = state_in(state);
     let r = piecrag::edge_at(s, edges, place);
-    *found = u32::from(r.is_some());
-    put_found(row, r);
+    put_found(found, row, r);
     0
 }
 

@@ -4,21 +4,28 @@ use Prim.Native.Nat.{ℕ}
 use mathlib.Core.Path.{◌≡◌, refl, sym, ap, ◌∙◌}
 use mathlib.Core.List.{List}
 use mathlib.Core.Bool.{Bool, true, false}
+use Rattle.model.specs.Call.{Call, Answer}
+use Rattle.model.specs.Numbers.{number, number_in}
 use Rattle.memory.specs.View.{Memory}
+use Rattle.memory.specs.declared.state.State.{State}
 use Rattle.console.specs.Console.{plain, accepted, served, empty}
 use Rattle.console.specs.Console as console
 use Rattle.call_console.specs.declared.queues.WishState.{WishState}
 use Rattle.std.specs.Prelude.{Result, Ok, Err}
 use Rattle.std.specs.Result.{is_err}
 use Rattle.node.specs.declared.record.NodeId.{NodeId}
-use Rattle.node.specs.declared.record.VoiceId.{VoiceId}
 use Rattle.node.specs.declared.refusal.Refusal.{Refusal}
+use Rattle.node.specs.Refusal.{says}
+use Rattle.memory.specs.Called.{keeps, add_answered}
 use Rattle.console.specs.declared.refusal.KeyboardRefusal.{KeyboardRefusal}
 use Rattle.sealed.specs.declared.refusal.SealRefusal.{SealRefusal}
 use Rattle.call_seal.specs.declared.closing.BoardRefusal.{BoardRefusal}
 use Rattle.sealed.specs.Seal.{Seal}
 use Rattle.sealed.specs.Board.{BoardCall, BoardAnswer, given, sealed, refused, BoardStep, board_step}
-use Rattle.call_seal.specs.Board.{BoardMemory, board, board_of, BoardCalled, BoardKept, seal_answer, host_answer, node_answer, spawn_answer, wished_answer}
+use Rattle.call_seal.specs.Board.{BoardMemory, board, board_of, on_store, BoardCalled, BoardKept, told_by, seal_answer, wished_answer}
+use Rattle.state_words.specs.State.{state_in}
+use Rattle.seal_words.specs.Seal.{seal_in}
+use Rattle.c_answer.specs.Exported.{result_code, code, Settled}
 use Rattle.c_answer.proofs.Exporting.{no}
 use Rattle.piecrag_c_seal.specs.Board.{board_code, board_keeps, store_code, store_kept, said_on, BoardExported, BoardTells}
 
@@ -41,35 +48,24 @@ kept_board sealed m n k h = no h
 kept_board (refused r) m n k h = k
 
 -- ---- what an answer is, by what stands in it: its number, and whether the call keeps every word
-pub host_code : (a : Result (Unit {0}) (BoardRefusal Refusal)) → store_code a ≡ board_code (host_answer a)
-host_code (Ok tt) = refl
-host_code (Err BoardRefusal.Closed) = refl
-host_code (Err (BoardRefusal.Given r)) = refl
+-- of a call of the store, by what `say` makes of its answer
+told_code : {A : Type 0} (say : Result A Refusal → Answer) → ((a : Result A Refusal) → result_code a ≡ code (say a)) → (a : Result A (BoardRefusal Refusal)) → store_code a ≡ board_code (told_by (λ b. plain (say b)) a)
+told_code say is (Ok x) = is (Ok x)
+told_code say is (Err BoardRefusal.Closed) = refl
+told_code say is (Err (BoardRefusal.Given r)) = is (Err r)
 
-pub host_kept : (a : Result (Unit {0}) (BoardRefusal Refusal)) → store_kept a ≡ board_keeps (host_answer a)
-host_kept (Ok tt) = refl
-host_kept (Err BoardRefusal.Closed) = refl
-host_kept (Err (BoardRefusal.Given r)) = refl
+told_kept : {A : Type 0} (say : Result A Refusal → Answer) → ((a : Result A Refusal) → keeps (number (says a)) ≡ keeps (number_in (say a))) → (a : Result A (BoardRefusal Refusal)) → store_kept a ≡ board_keeps (told_by (λ b. plain (say b)) a)
+told_kept say is (Ok x) = is (Ok x)
+told_kept say is (Err BoardRefusal.Closed) = refl
+told_kept say is (Err (BoardRefusal.Given r)) = is (Err r)
 
-pub node_code : (a : Result NodeId (BoardRefusal Refusal)) → store_code a ≡ board_code (node_answer a)
-node_code (Ok k) = refl
-node_code (Err BoardRefusal.Closed) = refl
-node_code (Err (BoardRefusal.Given r)) = refl
+pub add_code : (a : Result NodeId Refusal) → result_code a ≡ code (add_answered a)
+add_code (Ok k) = refl
+add_code (Err r) = refl
 
-pub node_kept : (a : Result NodeId (BoardRefusal Refusal)) → store_kept a ≡ board_keeps (node_answer a)
-node_kept (Ok k) = refl
-node_kept (Err BoardRefusal.Closed) = refl
-node_kept (Err (BoardRefusal.Given r)) = refl
-
-pub spawn_code : (a : Result VoiceId (BoardRefusal Refusal)) → store_code a ≡ board_code (spawn_answer a)
-spawn_code (Ok w) = refl
-spawn_code (Err BoardRefusal.Closed) = refl
-spawn_code (Err (BoardRefusal.Given r)) = refl
-
-pub spawn_kept : (a : Result VoiceId (BoardRefusal Refusal)) → store_kept a ≡ board_keeps (spawn_answer a)
-spawn_kept (Ok w) = refl
-spawn_kept (Err BoardRefusal.Closed) = refl
-spawn_kept (Err (BoardRefusal.Given r)) = refl
+pub add_kept : (a : Result NodeId Refusal) → keeps (number (says a)) ≡ keeps (number_in (add_answered a))
+add_kept (Ok k) = refl
+add_kept (Err r) = refl
 
 pub wish_kept : (a : Result (Unit {0}) (BoardRefusal KeyboardRefusal)) → is_err a ≡ board_keeps (wished_answer a)
 wish_kept (Ok tt) = refl
@@ -123,3 +119,22 @@ module _ {E S : Type 0} (decode : List ℕ → S) (x y : BoardCall) (before afte
       go : (i : Bool) → b ≡ i → decode v ≡ t
       go true h = ap decode (stays h) ∙ sym read ∙ sym (own e s) ∙ ap part (sym (kept_board a (before e s) (after e t) kept (sym tested ∙ h))) ∙ own' e t
       go false h = moved h
+
+-- A call of the store on a board, whose state is settled. `lent j` and `left j` are the store with the state j and the lent tables as they
+-- stood before and after; `say` is what its answer says where no seal closes it.
+pub settled : {A : Type 0} (say : Result A Refusal → Answer)
+    → ((a : Result A Refusal) → result_code a ≡ code (say a))
+    → ((a : Result A Refusal) → keeps (number (says a)) ≡ keeps (number_in (say a)))
+    → (c d : Call) (lent left : State → Memory) (own : (j : State) → (lent j).state ≡ j) (own' : (j : State) → (left j).state ≡ j)
+    → (p : WishState) (l : List ℕ) (x : Seal) (z w : List ℕ) (s t : State) (a : Result A (BoardRefusal Refusal))
+    → d ≡ c
+    → x ≡ seal_in z
+    → s ≡ state_in w
+    → BoardCalled (on_store d) (board (lent s) p l x) (told_by (λ b. plain (say b)) a) (board (left t) p l x)
+    → BoardKept (told_by (λ b. plain (say b)) a) (board (lent s) p l x) (board (left t) p l x)
+    → (r : ℕ) (v : List ℕ)
+    → Settled w t (store_kept a) (store_code a) r v
+    → BoardExported (on_store c) (board (lent (state_in w)) p l (seal_in z)) w r (board (left (state_in v)) p l (seal_in z)) v
+settled say code_is kept_is c d lent left own own' p l x z w s t a is same read called kept r v done =
+    exported state_in (on_store c) (on_store d) (λ i j. board (lent j) p l i) (λ i j. board (left j) p l i) x (seal_in z) w s t (told_by (λ b. plain (say b)) a) (ap on_store is) same read called kept
+    (λ (n : BoardMemory). n.console.store.state) (λ i j. own j) (λ i j. own' j) (store_kept a) r v (told_kept say kept_is a) (done.told ∙ told_code say code_is a) done.stays done.moved

@@ -10,7 +10,7 @@ use Rattle.std.specs.Prelude.{Result, Ok, Err}
 use Rattle.std.specs.Result.{result_unwrap_or}
 use Rattle.def_book.specs.declared.answer.ReadError.{ReadError}
 use Rattle.def_book.specs.declared.answer.ReadError.TheVariants as error
-use Rattle.def_book.specs.Read.{Read, gives, malformed, limits, read_number, read_of, blank_def, def_in}
+use Rattle.def_book.specs.Read.{Read, read_number, read_of, blank_def, def_in}
 use Rattle.model.specs.Wish.{wish_for, call_of}
 use Rattle.console.specs.Console as console
 use Rattle.memory.specs.View.{Memory}
@@ -24,12 +24,6 @@ use Rattle.seal_words.specs.Seal.{seal_in}
 use Rattle.c_answer.proofs.Exporting.{no}
 use Rattle.piecrag_c_seal.specs.Board.{board_code}
 use Rattle.piecrag_c_seal.specs.Book.{is_malformed, refuses_book, FromBook, SpawnFromBook, WishFromBook}
-
-number_is : (shuts : Bool) (b : Read) → (not shuts && is_malformed b) ≡ true → 18 ≡ read_number b
-number_is true b e = no e
-number_is false (gives d) e = no e
-number_is false (malformed at) e = refl
-number_is false limits e = no e
 
 -- the definition that goes on from a reading
 pub given : (r : Result SynthDef ReadError) → result_unwrap_or r blank_def ≡ def_in (read_of r)
@@ -45,8 +39,8 @@ module _ {x y : Seal} (managed : Bool) (bus : NodeId) {b : Read} (r : Result Syn
   is : t ≡ refuses_book x managed bus b
   is = tested ∙ ap (refuses_book y managed bus) read ∙ ap (λ z. refuses_book z managed bus b) same
 
-  pub unread : {Same : Type 0} {Does : SynthDef → Type 0} → t ≡ true → Same → FromBook (refuses_book x managed bus b) b 18 Same Does
-  unread e stays = record { refused = λ h. (number_is (shuts_spawn x managed bus 0 0) b h, stays); does = λ h. no (sym h ∙ sym is ∙ e) }
+  pub unread : {Same : Type 0} {Does : SynthDef → Type 0} (k : ℕ) → k ≡ read_number (read_of r) → t ≡ true → Same → FromBook (refuses_book x managed bus b) b k Same Does
+  unread k number e stays = record { refused = λ h. (number ∙ ap read_number read, stays); does = λ h. no (sym h ∙ sym is ∙ e) }
 
   pub booked : {Same : Type 0} {Does : SynthDef → Type 0} (k : ℕ) → t ≡ false → Does (def_in b) → FromBook (refuses_book x managed bus b) b k Same Does
   booked k e done = record { refused = λ h. no (sym e ∙ is ∙ h); does = λ h. done }

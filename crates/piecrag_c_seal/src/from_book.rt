@@ -13,8 +13,6 @@ use piecrag::Wish;
 use sealed::profile::Seal;
 use synthdef::def::SynthDef;
 
-pub const MALFORMED_BOOK: u32 = 18;
-
 // Whether the book of a spawn, or of a wish for it, is refused.
 pub fn refuses_book(x: Seal, managed: bool, bus: NodeId, read: &Result<SynthDef, ReadError>) -> bool
     ensures { result ≡ refuses_book x managed bus (read_of read.now) }
@@ -22,7 +20,8 @@ pub fn refuses_book(x: Seal, managed: bool, bus: NodeId, read: &Result<SynthDef,
     !shuts_spawn(x, managed, bus, 0, 0) && matches!(read, Err(ReadError::Malformed(_)))
 }
 
-// A spawn, or the wish for it, with the definition of its book; a book that is none gives the blank definition.
+// A spawn, or the wish for it, with the definition of its book. The numbers are the exports'.
+// Of a book that gives none it is the blank one, and no `None`: a spawn refuses that by 9 where it tests for the limits, after other refusals.
 pub(crate) fn wish_in(
     read: Result<SynthDef, ReadError>,
     managed: u32,

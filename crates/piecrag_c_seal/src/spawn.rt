@@ -10,10 +10,10 @@ ghost use Rattle.state_words.specs.State.{state_in};
 ghost use Rattle.seal_words.specs.Seal.{seal_in};
 ghost use Rattle.piecrag_c_seal.specs.Book.{SpawnFromBook};
 
-use crate::from_book::{MALFORMED_BOOK, refuses_book, wish_in};
-use crate::numbers::{store_code, store_kept};
+use crate::from_book::{refuses_book, wish_in};
+use crate::numbers::settle_board;
 use book_bytes::read::read_book;
-use c_answer::answer::settle;
+use def_book::answer::read_number;
 use node::record::NodeId;
 use piecrag::{EdgeTable, NodeTable, StealTable, VoiceTable};
 use seal_words::{SealWords, seal_in};
@@ -40,11 +40,11 @@ pub extern "C" fn piecrag_spawn(
     let x = seal_in(seal);
     let read = read_book(book);
     if refuses_book(x, managed != 0, NodeId(bus), &read) {
-        return MALFORMED_BOOK;
+        return u32::from(read_number(&read));
     }
     let s = state_in(state);
     let w = wish_in(read, managed, bus, pan, rank);
     let r = piecrag::board_spawn(x, s, nodes, edges, voices, steals, w);
     *voice = r.answer.map_or(*voice, |id| id.0);
-    settle(state, r.state, store_kept(r.answer), store_code(r.answer))
+    settle_board(state, r)
 }

@@ -4,10 +4,11 @@ ghost use Rattle.def_book.specs.Read.{read_book};
 ghost use Rattle.memory.specs.View.{Memory};
 ghost use Rattle.piecrag_c_seal.specs.Book.{WishFromBook};
 
-use crate::from_book::{MALFORMED_BOOK, refuses_book, wish_in};
+use crate::from_book::{refuses_book, wish_in};
 use crate::numbers::wished_code;
 use book_bytes::read::read_book;
 use c_answer::keyboards::settle_waiting;
+use def_book::answer::read_number;
 use node::record::NodeId;
 use piecrag::WishTable;
 use seal_words::{SealWords, seal_in};
@@ -31,7 +32,7 @@ pub extern "C" fn piecrag_wish(
     let x = seal_in(seal);
     let read = read_book(book);
     if refuses_book(x, managed != 0, NodeId(bus), &read) {
-        return MALFORMED_BOOK;
+        return u32::from(read_number(&read));
     }
     let s = waiting_in(waiting);
     let wish = wish_in(read, managed, bus, pan, rank);

@@ -1,4 +1,5 @@
-// Voices that sound: freed, cleared, given values and glides; reports, and the render of a block.
+// Voices that sound: freed, cleared, given values and glides; reports, and the render of a block. For C arguments are single numbers: a glide
+// is five of them. Exported names with parameters of their own, so that a value and a glide stay two functions.
 ghost use Rattle.std.specs.Prelude.{◌≡◌, false};
 ghost use Rattle.words.specs.Fields.{is_set};
 ghost use Rattle.node.specs.declared.order.LastOrder.TheVariants as last;

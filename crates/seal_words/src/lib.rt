@@ -12,6 +12,7 @@ pub const SEAL_WORDS: usize = 12;
 
 pub type SealWords = [u32; SEAL_WORDS];
 
+// Word by word, here and in `profile_words`, since the list is the layout: fields put by their places would say it twice.
 fn profile_in(w: &SealWords) -> Profile
     ensures { result ≡ profile_in w.now }
 {
@@ -29,7 +30,7 @@ fn profile_in(w: &SealWords) -> Profile
 pub fn seal_in(w: &SealWords) -> Seal
     ensures { result ≡ seal_in w.now }
 {
-    if w[0] == 0 { None } else { Some(profile_in(w)) }
+    (w[0] != 0).then_some(profile_in(w))
 }
 
 // The words of the seal by a profile.

@@ -1,4 +1,4 @@
-// The state in 32 lent words, for a host that holds words only. Any words stand for a state.
+// The state in 32 lent words, for a host that holds words only. Any words stand for a state: an option is a flag and its words.
 // Numbers for the kinds, since words hold no enum. The enums are those of crate voice and have no numbers of their own: `From` cannot
 // stand here, and numbers at the cases would put this layout into the rules of stealing.
 #![tactic(auto)]
@@ -113,6 +113,7 @@ pub fn state_in(w: &StateWords) -> State
 }
 
 // The words of a state. Word by word, since the list is the layout: parts put by their places would say it twice.
+// A function apart from `put_state`: its contract names each word, that of `put_state` what they stand for.
 fn state_words(s: State) -> StateWords
     ensures { result ≡ words_of s }
 {

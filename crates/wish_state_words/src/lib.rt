@@ -1,11 +1,11 @@
 // What a console holds beside its table of wishes, in 12 lent words, for a host that holds words only. Any words stand for such a state.
 #![tactic(auto)]
 
-ghost use Rattle.std.specs.Prelude.{◌≡◌, ◌/◌, ◌%◌};
+ghost use Rattle.std.specs.Prelude.{◌≡◌};
 ghost use Rattle.wish_state_words.specs.Waiting.{queue_from, waiting_in};
 
 use call_console::queues::{Queue, WishState};
-use words::fields::{byte_word, high_word, long_from, low_byte, low_word};
+use words::fields::{byte_word, high_word, long_from, low_word};
 
 pub const WAITING_WORDS: usize = 12;
 
@@ -21,10 +21,8 @@ fn queue_word(q: Queue) -> u32
 fn queue_from(x: u32) -> Queue
     ensures { result ≡ queue_from x }
 {
-    Queue {
-        start: low_byte(x),
-        count: low_byte(x / 256),
-    }
+    let [start, count, _, _] = x.to_le_bytes();
+    Queue { start, count }
 }
 
 // The state that the words stand for.
@@ -38,12 +36,12 @@ pub fn waiting_in(w: &WaitingWords) -> WishState
     }
 }
 
-// The words of a state. Word by word, since the list is the layout.
-fn waiting_words(s: WishState) -> WaitingWords
-    ensures { waiting_in result ≡ s }
+// The lent words become those of the state. Word by word, since the list is the layout.
+pub fn put_waiting(w: &mut WaitingWords, s: WishState)
+    ensures { waiting_in w.new ≡ s }
 {
     let q = s.queues;
-    [
+    *w = [
         low_word(s.keyboards as u64),
         high_word(s.keyboards as u64),
         low_word(s.next as u64),
@@ -56,12 +54,5 @@ fn waiting_words(s: WishState) -> WaitingWords
         queue_word(q[5]),
         queue_word(q[6]),
         queue_word(q[7]),
-    ]
-}
-
-// The lent words become those of the state.
-pub fn put_waiting(w: &mut WaitingWords, s: WishState)
-    ensures { waiting_in w.new ≡ s }
-{
-    *w = waiting_words(s);
+    ];
 }

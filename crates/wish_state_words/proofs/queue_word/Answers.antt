@@ -2,7 +2,6 @@ use Prim.Native.Nat.{ℕ}
 use mathlib.Core.Path.{ap}
 use mathlib.Core.List.{List}
 use lib.ListN.{get_or}
-use Rattle.call_console.specs.declared.queues.Queue.{Queue}
 use Rattle.wish_state_words.proofs.queue_word.Goals as goal
 
 pub returns : goal.returns

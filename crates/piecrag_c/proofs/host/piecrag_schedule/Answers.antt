@@ -18,4 +18,4 @@ returns c =
     let named = call.schedule a.time (record { 0 = a.voice }) a.name.now in
     λ m.
     exported (named wanted) (named asked.result) (λ s. lent_events s a.events.now m) (λ s. lent_events s r.new.events m) a.state.now read.result r.result.state (answered r.result.answer) (ap named given) read.ensures (r.ensures.is m)
-    (λ s. refl) (λ s. refl) c.result_kept.result c.result_code.result c.settle.result c.settle.new.w (r.ensures.same m) (c.result_kept.ensures ∙ done_kept r.result.answer) (c.result_code.ensures ∙ done_code r.result.answer) c.settle.ensures
+    (λ s. refl) (λ s. refl) _ _ c.settle_result.result c.settle_result.new.w (r.ensures.same m) (done_kept r.result.answer) (done_code r.result.answer) c.settle_result.ensures

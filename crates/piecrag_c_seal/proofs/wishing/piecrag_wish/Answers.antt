@@ -15,7 +15,7 @@ use Rattle.piecrag_c_seal.proofs.wishing.piecrag_wish.Goals as goal
 pub returns-then-refuses_book : goal.returns-then-refuses_book
 returns-then-refuses_book c =
     let a = c.args in
-    λ m. unread (is_set a.managed) (record { 0 = a.bus }) c.read_book-read.result c.seal_in-x.ensures c.read_book-read.ensures c.refuses_book.ensures c.if-refuses_book.true (refl, refl)
+    λ m. unread (is_set a.managed) (record { 0 = a.bus }) c.read_book-read.result c.seal_in-x.ensures c.read_book-read.ensures c.refuses_book.ensures c.from.result (c.from.ensures ∙ c.read_number.ensures) c.if-refuses_book.true (refl, refl)
 
 pub returns : goal.returns
 returns c =
