@@ -4,7 +4,7 @@ use crate::words::{labelled, next_byte, next_name};
 use book_bytes::read::blank_def;
 use synthdef::def::{DefEdge, DefNode, Param, SynthDef};
 
-// `node NAME ports N required N sorts N in N level N amp N`
+// `node NAME ports N required N sorts N in N level N amp N`. The sorts are one number, as the text has them.
 fn node_in(words: &mut Words) -> Option<DefNode> {
     let kind = next_name(words);
     let ports = labelled(words, b"ports")?;
@@ -74,9 +74,7 @@ fn take_line(def: &mut SynthDef, line: &[u8]) -> Option<()> {
 pub(crate) fn define(s: &[u8]) -> Result<SynthDef, usize> {
     let mut def = blank_def();
     for (i, line) in s.split(|b| *b == b'\n').enumerate() {
-        if take_line(&mut def, line).is_none() {
-            return Err(i + 1);
-        }
+        take_line(&mut def, line).ok_or(i + 1)?;
     }
     Ok(def)
 }

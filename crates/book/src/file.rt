@@ -16,7 +16,7 @@ pub(crate) fn open<R: Files>(rt: &R, name: &[u8]) -> Result<R::File> {
 }
 
 // Reads until the room is full, the input ends or a read fails: how many bytes were read. A `while`, since a read may give fewer bytes than are
-// asked for.
+// asked for: `read_exact` does not say how many came where the input ends first, and `io::read_full` takes a descriptor, which `R::File` does not give.
 pub(crate) fn read_full<S: Read>(input: &mut S, room: &mut [u8]) -> usize
     ensures { result ≤ length room.new }
 {
@@ -36,7 +36,8 @@ fn begins_number(text: &[u8], at: usize) -> bool {
     bytes_at(text, at, 11) == b" (os error ".as_slice()
 }
 
-// How many bytes of an error's text say what went wrong: those before its number, and before the zeros that follow the text.
+// How many bytes of an error's text say what went wrong: those before its number, and before the zeros that follow the text. By the place, since
+// both tests look at what begins there.
 fn reason_length(text: &[u8]) -> usize {
     (0..text.len())
         .find(|n| byte_at(text, *n) == 0 || begins_number(text, *n))

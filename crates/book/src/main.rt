@@ -43,9 +43,11 @@ enum Print {
     Hex,
 }
 
-// What the words so far ask for, and whether a file was among them.
-#[derive(Clone, Copy)]
-struct Mode {
+// The program as it runs: what it prints, how it opens files, what the words so far ask for, and whether a file was among them.
+#[derive(Drop)]
+struct Run<'a, R> {
+    out: Output,
+    rt: &'a R,
     verb: Verb,
     print: Print,
     files: bool,
@@ -103,102 +105,92 @@ fn write_text(out: &mut Output, s: &[u8], print: Print) {
     }
 }
 
-fn answer(out: &mut Output, m: Mode, s: &[u8]) {
-    match m.verb {
-        Verb::Write => write_text(out, s, m.print),
-        Verb::Read => {
-            if let Some(def) = definition(out, s) {
-                show(out, def);
+impl<'a, R: Env + Files> Run<'a, R> {
+    fn answer(&mut self, s: &[u8]) {
+        match self.verb {
+            Verb::Write => write_text(&mut self.out, s, self.print),
+            Verb::Read => {
+                if let Some(def) = definition(&mut self.out, s) {
+                    show(&mut self.out, def);
+                }
+            }
+            Verb::Rewrite => {
+                if let Some(def) = definition(&mut self.out, s) {
+                    write(&mut self.out, def, self.print);
+                }
             }
         }
-        Verb::Rewrite => {
-            if let Some(def) = definition(out, s) {
-                write(out, def, m.print);
+    }
+
+    // Answers what stands in a file or comes from standard input, if it is not too long. The room holds more than is taken.
+    fn answer_from<S: Read>(&mut self, input: &mut S) {
+        let mut space = input_room();
+        let n = read_full(input, &mut space);
+        if n > 393215 {
+            text(&mut self.out, b"longer than 393215 bytes\n");
+            return;
+        }
+        self.answer(&space[..n]);
+    }
+
+    fn answer_file(&mut self, path: &[u8]) {
+        match open(self.rt, path) {
+            Ok(mut file) => {
+                text(&mut self.out, path);
+                end_line(&mut self.out);
+                self.answer_from(&mut file);
+                flush(&mut self.out);
+            }
+            Err(error) => fail(path, error),
+        }
+    }
+
+    // Takes one word of the command line: a verb, `hex`, or the name of a file, which is answered.
+    fn take_word(&mut self, word: &[u8]) {
+        match word {
+            b"read" => self.verb = Verb::Read,
+            b"write" => self.verb = Verb::Write,
+            b"rewrite" => self.verb = Verb::Rewrite,
+            b"hex" => self.print = Print::Hex,
+            _ => {
+                self.answer_file(word);
+                self.files = true;
+            }
+        }
+    }
+
+    // Takes the word at `i`, and says whether there is one. A word of more than 4,096 bytes is taken as an empty one, which names no file.
+    fn take_argument(&mut self, i: usize) -> bool {
+        let mut word = io::buffer();
+        match self.rt.arg(i, &mut word) {
+            Ok(n) => self.take_word(&word[..n]),
+            Err(FillError::TooLong) => self.take_word(b""),
+            Err(FillError::NotPresent) => return false,
+        }
+        true
+    }
+
+    // Takes the words behind the program's own name, one after the other. A `for` with no end in practice, since every loop is proved to end.
+    fn take_arguments(&mut self) {
+        for i in 1..usize::MAX {
+            if !self.take_argument(i) {
+                return;
             }
         }
     }
 }
 
-// Answers what stands in a file or comes from standard input, if it is not too long. The room holds more than is taken.
-fn answer_from<S: Read>(out: &mut Output, m: Mode, input: &mut S) {
-    let mut space = input_room();
-    let n = read_full(input, &mut space);
-    if n > 393215 {
-        text(out, b"longer than 393215 bytes\n");
-        return;
-    }
-    answer(out, m, &space[..n]);
-}
-
-fn answer_file<R: Files>(out: &mut Output, rt: &R, m: Mode, path: &[u8]) {
-    match open(rt, path) {
-        Ok(mut file) => {
-            text(out, path);
-            end_line(out);
-            answer_from(out, m, &mut file);
-            flush(out);
-        }
-        Err(error) => fail(path, error),
-    }
-}
-
-// Takes one word of the command line: a verb, `hex`, or the name of a file, which is answered.
-fn take_word<R: Files>(out: &mut Output, rt: &R, m: Mode, word: &[u8]) -> Mode {
-    match word {
-        b"read" => Mode {
-            verb: Verb::Read,
-            ..m
-        },
-        b"write" => Mode {
-            verb: Verb::Write,
-            ..m
-        },
-        b"rewrite" => Mode {
-            verb: Verb::Rewrite,
-            ..m
-        },
-        b"hex" => Mode {
-            print: Print::Hex,
-            ..m
-        },
-        _ => {
-            answer_file(out, rt, m, word);
-            Mode { files: true, ..m }
-        }
-    }
-}
-
-// Takes the word at `i`, if there is one. A word of more than 4,096 bytes is taken as an empty one, which names no file.
-fn take_argument<R: Env + Files>(out: &mut Output, rt: &R, m: Mode, i: usize) -> Option<Mode> {
-    let mut word = io::buffer();
-    match rt.arg(i, &mut word) {
-        Ok(n) => Some(take_word(out, rt, m, &word[..n])),
-        Err(FillError::TooLong) => Some(take_word(out, rt, m, b"")),
-        Err(FillError::NotPresent) => None,
-    }
-}
-
-// Takes the words behind the program's own name, one after the other. A `for` with no end in practice, since every loop is proved to end.
-fn take_arguments<R: Env + Files>(out: &mut Output, rt: &R) -> Mode {
-    let mut m = Mode {
+fn main(rt: HostRuntime) {
+    let mut run = Run {
+        out: output_room(),
+        rt: &rt,
         verb: Verb::Read,
         print: Print::Bytes,
         files: false,
     };
-    for i in 1..usize::MAX {
-        match take_argument(out, rt, m, i) {
-            Some(next) => m = next,
-            None => return m,
-        }
+    run.take_arguments();
+    if !run.files {
+        run.answer_from(&mut rt.stdin());
     }
-    m
-}
-
-fn main(rt: HostRuntime) {
-    let mut out = output_room();
-    let m = take_arguments(&mut out, &rt);
-    if !m.files {
-        answer_from(&mut out, m, &mut rt.stdin());
-    }
-    flush(&mut out);
+    flush(&mut run.out);
 }

@@ -1,4 +1,5 @@
-// A definition as text: a line for the output, and one for each node, edge and parameter.
+// A definition as text: a line for the output, and one for each node, edge and parameter. No impl Display: the types are of crate synthdef, and what is
+// printed goes into a buffer of bytes.
 use codec::output::{Output, end_line, hex_bytes, text};
 use codec::word::and_word;
 use node::name::Name;
@@ -6,7 +7,7 @@ use synthdef::def::{DefEdge, DefNode, NO_PORT, Param, SynthDef};
 
 // A byte of a name: itself where it is visible and no `%`, else `%` and two hexadecimal digits.
 fn show_byte(out: &mut Output, b: u8) {
-    if b'!' <= b && b <= b'~' && b != b'%' {
+    if b.is_ascii_graphic() && b != b'%' {
         text(out, &[b]);
         return;
     }
@@ -15,7 +16,7 @@ fn show_byte(out: &mut Output, b: u8) {
 }
 
 fn show_name(out: &mut Output, n: Name) {
-    for b in &n.bytes[..usize::from(n.len).min(16)] {
+    for b in n.text() {
         show_byte(out, *b);
     }
 }
@@ -30,6 +31,7 @@ fn show_port(out: &mut Output, label: &[u8], port: u8) {
     and_word(out, port);
 }
 
+// The sorts are one number, as the text has them.
 fn show_node(out: &mut Output, n: DefNode) {
     text(out, b"node ");
     show_name(out, n.kind);

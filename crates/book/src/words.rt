@@ -6,15 +6,17 @@ use codec::field::{after, byte_at};
 use node::name::{Name, name_of};
 use synthdef::def::NO_PORT;
 
-// The value of a digit.
-fn digit(b: u8) -> Option<u8> {
+// The value of a digit. `to_digit` takes a char and gives a u32, so that both would be converted.
+fn digit(b: u8) -> Option<u8>
+    ensures { MatchOption result Unit (λ d. d < 10) }
+{
     match b {
         b'0'..=b'9' => Some(b - b'0'),
         _ => None,
     }
 }
 
-// The number of a word of digits, up to 255.
+// The number of a word of digits, up to 255. `parse` takes a sign too.
 fn number_of(word: &[u8]) -> Option<u8> {
     if word.is_empty() {
         return None;
@@ -42,18 +44,17 @@ pub(crate) fn labelled(words: &mut Words, label: &[u8]) -> Option<u8> {
     }
 }
 
-// The value of a hexadecimal digit.
+// The value of a hexadecimal digit; `to_digit` takes capital letters too.
 fn hex_value(b: u8) -> Option<u8>
     ensures { MatchOption result Unit (λ d. d < 16) }
 {
     match b {
-        b'0'..=b'9' => Some(b - b'0'),
         b'a'..=b'f' => Some(b - b'a' + 10),
-        _ => None,
+        _ => digit(b),
     }
 }
 
-// The byte of two hexadecimal digits; `%` where they are none.
+// The byte of two hexadecimal digits; `%` where they are none, and no Option: every word spells some name.
 fn hex_byte(high: u8, low: u8) -> u8 {
     match (hex_value(high), hex_value(low)) {
         (Some(h), Some(l)) => h * 16 + l,

@@ -1,5 +1,6 @@
 // Plays the scope document's remaining examples, and each refusal by a call of its own: the script on standard input, which
-// oracle/examples/make writes. It is the program `replay`, with a script and a transcript of its own.
+// oracle/examples/make writes. It is the program `replay`: a crate has one `stdin` and one `stdout`, so that a second
+// script needs a second program.
 #![tactic(auto)]
 
 use play::run::play_input;

@@ -42,23 +42,15 @@ fn tone() -> SynthDef
         rows: [tone_node(); 24],
         count: 1,
     };
-    let edge = DefEdge {
+    let edges = DefEdges::empty(DefEdge {
         from: 0,
         to: 0,
         port: 0,
-    };
-    let edges = DefEdges {
-        rows: [edge; 48],
-        count: 0,
-    };
-    let param = Param {
+    });
+    let params = Params::empty(Param {
         name: name_of(b""),
         node: 0,
-    };
-    let params = Params {
-        rows: [param; 8],
-        count: 0,
-    };
+    });
     SynthDef {
         nodes,
         edges,
@@ -94,7 +86,7 @@ fn opened(nodes: &mut NodeTable) -> State
 pub fn scene_page(out: &mut [u8]) -> Result<usize, Refusal>
     ensures { paged_of result out.new ≡ page_answer printed out.old }
 {
-    // Six variables, here as in `play`: no heap, and each call is lent the tables that it touches by themselves.
+    // Six variables and no struct of them, here as in `play`: no heap, and each call is lent the tables that it touches by themselves.
     let mut nodes = [0u32; NODE_WORDS];
     let mut edges = [0u32; EDGE_WORDS];
     let mut order = [0u32; ORDER_WORDS];

@@ -10,71 +10,43 @@ use busiest::newest::busiest_steals;
 use busiest::stretch::busiest_stretch;
 use codec::output::{Output, flush, output_room};
 use count::count_all;
-use runs::{falling, records, ring, rising};
+use runs::{records, ring, rising};
 use show::compare;
 
-// The first `n` of the samples.
-fn first_of(out: &mut Output, xs: [u64; 4096], n: usize, width: u64) {
-    if n <= 4096 {
-        let rows = records(xs);
-        compare(
-            out,
-            n,
-            width,
-            busiest_stretch(&rows[..n], width),
-            count_all(&xs[..n], width),
-        );
+fn run_of(out: &mut Output, xs: &[u64], width: u64) {
+    let found = busiest_stretch(records(xs).as_slice(), width);
+    compare(out, xs.len(), width, found, count_all(xs, width));
+}
+
+fn widths(out: &mut Output, xs: &[u64]) {
+    for width in [0, 1, 2, 37, 1000, u64::MAX] {
+        run_of(out, xs, width);
     }
 }
 
-// The first `n` of samples that never fall.
-fn run_of(out: &mut Output, seed: u64, n: usize, width: u64) {
-    first_of(out, rising(seed), n, width);
-}
-
-// The same with a last sample that falls.
-fn falling_run_of(out: &mut Output, seed: u64, n: usize, width: u64) {
-    first_of(out, falling(rising(seed), n), n, width);
-}
-
-// The store's ring after `n` steals, which holds the newest 64.
-fn ring_of(out: &mut Output, seed: u64, n: usize, width: u64) {
-    let xs = rising(seed);
-    if n <= 4096 {
-        let found = busiest_steals(ring(&xs[..n]), width);
-        compare(
-            out,
-            n.min(64),
-            width,
-            found,
-            count_all(&xs[n.saturating_sub(64)..n], width),
-        );
-    }
-}
-
-fn widths(out: &mut Output, seed: u64, n: usize) {
-    run_of(out, seed, n, 0);
-    run_of(out, seed, n, 1);
-    run_of(out, seed, n, 2);
-    run_of(out, seed, n, 37);
-    run_of(out, seed, n, 1000);
-    run_of(out, seed, n, 18446744073709551615);
+// The store's ring after a steal at each of the samples: it holds the newest 64.
+fn ring_of(out: &mut Output, xs: &[u64], width: u64) {
+    let newest = &xs[xs.len().saturating_sub(64)..];
+    let found = busiest_steals(ring(xs), width);
+    compare(out, newest.len(), width, found, count_all(newest, width));
 }
 
 fn main() {
     let mut room = output_room();
     let out = &mut room;
-    widths(out, 1, 0);
-    widths(out, 2, 1);
-    widths(out, 3, 64);
-    widths(out, 4, 4096);
-    widths(out, 5, 3000);
-    falling_run_of(out, 6, 64, 0);
-    falling_run_of(out, 6, 64, 37);
-    falling_run_of(out, 7, 4096, 37);
-    ring_of(out, 8, 0, 37);
-    ring_of(out, 8, 40, 37);
-    ring_of(out, 8, 64, 37);
-    ring_of(out, 8, 1000, 37);
+    for (seed, n) in [(1, 0), (2, 1), (3, 64), (4, 4096), (5, 3000)] {
+        widths(out, rising(seed, n).as_slice());
+    }
+    // The last sample falls.
+    let mut few = rising(6, 63);
+    few.push(0);
+    run_of(out, few.as_slice(), 0);
+    run_of(out, few.as_slice(), 37);
+    let mut many = rising(7, 4095);
+    many.push(0);
+    run_of(out, many.as_slice(), 37);
+    for n in [0, 40, 64, 1000] {
+        ring_of(out, rising(8, n).as_slice(), 37);
+    }
     flush(out);
 }

@@ -1,4 +1,5 @@
 // Runs of samples to count in.
+use lists::rows::Table;
 use voice::steals::{StealRecord, Steals};
 use voice_policy::steals::{no_steals, push_steal, steal_record};
 
@@ -17,37 +18,26 @@ fn gap(x: u64) -> u64 {
     }
 }
 
-fn after(at: u64, more: u64) -> u64 {
-    if at < 1000000 && more < 1000 {
-        return at + more;
-    }
-    at
-}
-
-// 4,096 samples that never fall, from the seed on.
-pub fn rising(seed: u64) -> [u64; 4096] {
-    let mut xs = [0; 4096];
+// The first `n` samples that never fall, from the seed on, and 4,096 at most.
+pub fn rising(seed: u64, n: usize) -> Table<u64, 4096> {
+    let mut xs = Table::empty(0);
     let mut x = next(seed);
     let mut at = seed % 1000;
-    for sample in xs.iter_mut() {
-        *sample = at;
+    for _ in 0..n {
+        xs.push(at);
         x = next(x);
-        at = after(at, gap(x));
+        at = at.saturating_add(gap(x));
     }
     xs
 }
 
-// The same, but that sample n - 1 is 0.
-pub fn falling(mut xs: [u64; 4096], n: usize) -> [u64; 4096] {
-    if 0 < n && n <= 4096 {
-        xs[n - 1] = 0;
+// A record for each sample, of which there are 4,096 at most.
+pub fn records(samples: &[u64]) -> Table<StealRecord, 4096> {
+    let mut rows = Table::empty(steal_record(0, None, false));
+    for at in samples {
+        rows.push(steal_record(*at, None, false));
     }
-    xs
-}
-
-// A record for each sample.
-pub fn records(samples: [u64; 4096]) -> [StealRecord; 4096] {
-    samples.map(|at| steal_record(at, None, false))
+    rows
 }
 
 // The ring after a steal at each of the samples.

@@ -3,6 +3,7 @@ use busiest::stretch::Busiest;
 use codec::output::{Output, text};
 use codec::word::{Word, and_word};
 
+// A function and no `Display`: `Busiest` is a `Result`, a type of the library.
 fn answer(out: &mut Output, found: Busiest) {
     match found {
         Err(why) => {
