@@ -1,7 +1,7 @@
 // Fields of a lent input, little-endian; each reader is given the input and the position, as its definition is.
 // A byte past the input's end is 0, so that every field can be asked for; whether the input
 // was long enough is seen by the position after its last field.
-ghost use Rattle.std.specs.Prelude.{◌≡◌, ℕ, ◌≤◌, length, pos, ◌-ℤ◌};
+ghost use Rattle.std.specs.Prelude.{◌≡◌, ℕ, ◌≤◌, ◌<◌, length, pos, ◌-ℤ◌, Some};
 ghost use Rattle.std.specs.Float.{binary32, binary64};
 ghost use Rattle.std.specs.Float.Ieee.{of_bits};
 ghost use Rattle.codec.specs.Field.{moved, little, run, fields};
@@ -10,14 +10,17 @@ ghost use Rattle.codec.specs.Field.{moved, little, run, fields};
 // so that one test finds both, which of an `Option` would be two.
 pub const NOWHERE: usize = usize::MAX;
 
-// The position n bytes after `at`. It stops at the last position of all.
+// The position n bytes after `at`. It stops at the last position of all. A function beside the library's method, since the definitions of
+// every format say `moved`.
 pub fn after(at: usize, n: usize) -> usize
     ensures { result ≡ moved at n }
 {
     at.saturating_add(n)
 }
 
-// The fields of two, four and eight bytes are each two of the half: `from_le_bytes` takes bytes that are all there, and past the input's end none is.
+// The fields of two, four and eight bytes are each two of the half: for `from_le_bytes` an array would be filled first, byte by byte, since past
+// the input's end a byte is 0.
+// Each gives another type: one function over a trait of the three would be longer.
 
 pub fn byte_at(s: &[u8], at: usize) -> u8
     ensures { result ≡ little 1 s.now at }
@@ -47,11 +50,11 @@ pub fn long_at(s: &[u8], at: usize) -> u64
 pub fn bytes_at(s: &[u8], at: usize, len: usize) -> &[u8]
     ensures { result.now ≡ run s.now at len }
 {
-    let end = after(at, len);
-    if end <= s.len() { &s[at..end] } else { &[] }
+    s.get(at..after(at, len)).unwrap_or(&[])
 }
 
-// The float of a pattern. Every pattern of a NaN is the same one. Crate words has this too: what is compared reads with functions of its own.
+// The float of a pattern. Every pattern of a NaN is the same one, and found by hand: `from_bits` takes none.
+// Crate words has this too: what is compared reads with functions of its own.
 // Its twin for 64 bits is a function of its own, since no trait of the library says of both formats what a pattern is.
 pub fn float(bits: u32) -> f32
     ensures { result ≡ of_bits binary32 bits }
@@ -71,7 +74,7 @@ pub fn double(bits: u64) -> f64
     f64::from_bits(bits)
 }
 
-// What a field of four bytes stands for.
+// What a field of four bytes stands for. No `From<u32>`: that and the types are all the library's.
 pub trait Field: Copy {
     ghost value: { ℕ → Self };
 
@@ -103,16 +106,17 @@ impl Field for u32 {
     }
 }
 
-// A number with a sign stands as 2^31 more than it is.
+// A number with a sign stands as 2^31 more than it is (docs/VECTORS.md).
 impl Field for i32 {
     ghost value = { λ n. pos n -ℤ pos 2147483648 };
 
     fn of(word: u32) -> i32 {
-        (i64::from(word) - 2147483648) as i32
+        i32::MIN.saturating_add_unsigned(word)
     }
 }
 
-// Fills `out` with the fields of four bytes that stand from `at` on.
+// Fills `out` with the fields of four bytes that stand from `at` on. The position goes on by `after`, as that of the definition does: by
+// `enumerate` it would be a product, which has to fit.
 pub fn fields_at<T: Field>(s: &[u8], at: usize, out: &mut [T])
     ensures { out.new ≡ fields T.value (length out.old) s.now at }
 {
@@ -151,7 +155,25 @@ pub fn lent_at(s: &[u8], at: usize) -> Lent
     }
 }
 
-// Room for a whole input. The `ensures` gives the length, which lending a part asks for.
+// Plays as many calls as the field at `at` says, each from where the one before it ends. The end of the last, or none where one ends past the input.
+// A public `requires`, since a call of a closure needs it; a trait of what plays one call, with an impl for each caller, would be longer.
+pub fn calls<F: FnMut(usize) -> usize>(s: &[u8], at: usize, mut play: F) -> Option<usize>
+    requires { F.IsAlwaysCallable play }
+    ensures none { little 4 s.now at ≡ 0 → result ≡ Some (moved at 4) }
+    ensures end { 0 < little 4 s.now at → (e : ℕ) → result ≡ Some e → e ≤ length s.now }
+{
+    let mut from = after(at, 4);
+    for _ in 0..word_at(s, at) {
+        from = play(from);
+        if s.len() < from {
+            return None;
+        }
+    }
+    Some(from)
+}
+
+// Room for a whole input. The `ensures` gives the length, which lending a part asks for. With the array in the caller, tried in `main` of vectors,
+// the check did not end in 300 s.
 pub fn input_room() -> [u8; 786432]
     ensures { 786432 ≡ length result }
 {

@@ -1,4 +1,5 @@
 // Lines that are of one word, and the words of more than one line. Each of those has a space before it.
+// Functions and no `Display`: the types are those of other crates, and a float is written as its pattern.
 use crate::output::{Output, end_line, text};
 use crate::word::{Word, and_word};
 use node::order::{EventAction, Glide, GlideShape, GlideSpace};
@@ -11,7 +12,7 @@ pub fn word_line<W: Word>(out: &mut Output, of: &[u8], word: W) {
     end_line(out);
 }
 
-// A line of a refusal by its number.
+// A line of a refusal by its number. Crate transcript has one for every sort of refusal, and takes crates that the vectors have no need of.
 pub fn refused_line(out: &mut Output, refusal: Refusal) {
     word_line(out, b"refused", refusal_number(refusal));
 }

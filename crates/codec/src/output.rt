@@ -52,6 +52,7 @@ pub fn text(out: &mut Output, s: &[u8]) {
     out.count = end;
 }
 
+// A call of `text` with a name: what ends every line is written in one place.
 pub fn end_line(out: &mut Output) {
     text(out, b"\n");
 }

@@ -25,7 +25,7 @@ pub fn long_pattern(x: f64) -> u64
     x.to_bits()
 }
 
-// What is written as one word.
+// What is written as one word. No `Display`: a float is written as its pattern, nothing as `-`, and both are types of the library.
 pub trait Word: Copy {
     fn put(self, out: &mut Output);
 }

@@ -1,4 +1,5 @@
-// An entry of a script on its store, in seven lent tables.
+// An entry of a script on its store. Each lent table is a parameter of its own, a rule of the project: a signature shows what a function may touch.
+// An entry is the script and its position, two parameters everywhere, as codec::field reads and its definitions say.
 // The sorts are numbers: docs/REPLAY.md numbers the entries, and a recorded script holds the numbers.
 use codec::field::byte_at;
 use codec::output::Output;

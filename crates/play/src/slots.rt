@@ -9,7 +9,7 @@ use script::def::def_at;
 
 pub(crate) type Slots = [SynthDef; 16];
 
-// A slot that was never kept holds a definition without nodes.
+// A slot that was never kept holds a definition without nodes, as docs/REPLAY.md says, and no `None`.
 pub(crate) fn no_slots() -> Slots {
     [def_at(b"", 0).def; 16]
 }

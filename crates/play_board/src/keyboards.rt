@@ -1,4 +1,5 @@
 // Makings, and the console's calls: wishes, turns, and what waits.
+// Each lent table is a parameter of its own, a rule of the project: a signature shows what a function may touch.
 // The sorts are numbers: docs/REPLAY.md numbers the entries, and a recorded script holds the numbers.
 use codec::field::{after, byte_at, float, word_at};
 use codec::output::{Output, end_line, text};
@@ -138,7 +139,8 @@ pub fn play_turn(
     }
 }
 
-// How many wishes wait at each keyboard, and the keyboard after the last served.
+// How many wishes wait at each keyboard, and the keyboard after the last served. Asked for by the keyboard's number, as a host asks: the queues
+// themselves may count more than wait.
 fn waiting_line(out: &mut Output, w: WishState) {
     text(out, b"waiting");
     for q in 0..keyboard_count(w) {

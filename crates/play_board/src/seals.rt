@@ -1,4 +1,4 @@
-// Sealing, and what is answered where a seal closes a call.
+// Sealing a board.
 use crate::keyboards::Board;
 use codec::field::{after, long_at};
 use codec::output::{Output, text};

@@ -24,6 +24,7 @@ pub fn spawn_at(s: &[u8], at: usize, def: SynthDef) -> Wish {
     }
 }
 
+// It writes as `given` of play_store does, a crate that this one needs for nothing else.
 pub fn play_spawn(
     out: &mut Output,
     w: Wish,

@@ -1,7 +1,5 @@
 // Reports, prepares and renders.
 // The sorts are numbers: docs/REPLAY.md numbers the entries, and a recorded script holds the numbers.
-ghost use Rattle.std.specs.Prelude.{◌≡◌, length};
-
 use crate::host::told;
 use codec::field::{after, byte_at, bytes_at, fields_at, float, word_at};
 use codec::output::Output;
@@ -74,14 +72,6 @@ pub fn lent_at(s: &[u8], at: usize) -> Lent {
     }
 }
 
-// Room for the longest list that a script lends, each entry the same. A function of its own: with the array in reach the bound of the part
-// that is lent was not found within the prover's limit.
-fn list_room(old: u8) -> [u8; 4096]
-    ensures { 4096 ≡ length result }
-{
-    [old; 4096]
-}
-
 // The line of a render shows the entries that it has written; all of a list that the script describes stand on a line of their own. Of the
 // entries that a list is said to have 4,096 count.
 pub fn play_render(
@@ -95,7 +85,7 @@ pub fn play_render(
     events: &mut EventTable,
 ) -> State {
     let n = lent.count.min(4096);
-    let mut room = list_room(lent.old);
+    let mut room = [lent.old; 4096];
     let list = &mut room[..n];
     let r = render(state, nodes, edges, order, voices, events, list);
     rendered_line(out, r.answer, bytes_at(list, 0, r.taken));

@@ -13,19 +13,33 @@ use script::host::{host_node_at, id_at, wire_at};
 use script::name::name_at;
 use transcript::answer::{Numbered, answer_line, given_line};
 
+// The state that a call left; `line` writes its answer.
+pub(crate) fn answered<A, F: FnOnce(&mut Output, A)>(
+    out: &mut Output,
+    r: CallResult<A>,
+    line: F,
+) -> State
+    requires { F.IsAlwaysCallable line }
+{
+    let CallResult { state, answer } = r;
+    line(out, answer);
+    state
+}
+
 // The state that a call left; its answer is written.
 pub fn told<R: Numbered>(out: &mut Output, r: CallResult<Result<(), R>>) -> State {
-    answer_line(out, b"done\n", r.answer);
-    r.state
+    answered(out, r, |o: &mut Output, a| answer_line(o, b"done\n", a))
 }
 
 // The state that a call left; the id that it gave is written.
 fn given<R: Numbered>(out: &mut Output, r: CallResult<Result<NodeId, R>>) -> State {
-    given_line(out, b"node", r.answer.map(|id| u64::from(id.0)));
-    r.state
+    answered(out, r, |o: &mut Output, a| {
+        given_line(o, b"node", a.map(|id| u64::from(id.0)));
+    })
 }
 
-// The noise sequence of every node of the host.
+// The noise sequence of every node of the host, whose owner is 0 in the lent words. By the index: a row is so many words of the table, and no
+// slice of rows is there.
 fn set_noise(nodes: &mut NodeTable, count: usize, noise: u32) {
     for i in 0..node_count(nodes, count) {
         if owner_at(nodes, i) == VoiceId(0) {
@@ -35,7 +49,7 @@ fn set_noise(nodes: &mut NodeTable, count: usize, noise: u32) {
 }
 
 // The clock, the voice ids given out, the noise sequence, and the next node id: that moves forwards alone, and no further than past the
-// last id.
+// last id. No `clamp`: it asks that the least is not above the most, which nothing says of a state's next id.
 fn set(out: &mut Output, s: &[u8], at: usize, state: State, nodes: &mut NodeTable) -> State {
     set_noise(nodes, state.nodes, word_at(s, after(at, 16)));
     text(out, b"set\n");

@@ -13,7 +13,8 @@ use transcript::state::state_lines;
 use transcript::stolen::steals_line;
 use transcript::voices::{found_line, voices_line};
 
-// A reading: its sort, and what it is of, a voice or, as a word, a place, a node or the length of a buffer.
+// A reading: its sort, and what it is of, a voice or, as a word, a place, a node or the length of a buffer. Both are read of every entry: an enum
+// would name twelve readings, which are matched once.
 #[derive(Clone, Copy)]
 pub struct Question {
     sort: u8,
@@ -41,17 +42,14 @@ fn tell_voice(out: &mut Output, q: Question, state: State, nodes: &NodeTable, vo
     }
 }
 
-fn paged(out: &mut Output, room: &mut [u8], state: State, edges: &EdgeTable, voices: &VoiceTable) {
-    match page(state, edges, voices, room) {
-        Ok(n) => page_lines(out, bytes_at(room, 0, n)),
-        Err(refusal) => refused_line(out, refusal),
-    }
-}
-
-// The length of the buffer. An entry that asks for more than 4,096 bytes is malformed, and not played.
+// A page in a buffer of `n` bytes. An entry that asks for more than 4,096 is malformed, and not played.
 fn lent_page(out: &mut Output, n: usize, state: State, edges: &EdgeTable, voices: &VoiceTable) {
     let mut room = io::buffer();
-    paged(out, &mut room[..n.min(4096)], state, edges, voices);
+    let lent = &mut room[..n.min(4096)];
+    match page(state, edges, voices, lent) {
+        Ok(len) => page_lines(out, bytes_at(lent, 0, len)),
+        Err(refusal) => refused_line(out, refusal),
+    }
 }
 
 // What is read of one table, of none, or, for the page, of two.

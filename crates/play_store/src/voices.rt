@@ -1,7 +1,7 @@
 // Frees, clearing, values, glides, reports and events.
 // The sorts are numbers: docs/REPLAY.md numbers the entries, and a recorded script holds the numbers.
 use crate::blocks::reported;
-use crate::host::told;
+use crate::host::{answered, told};
 use codec::field::{after, byte_at, float, long_at, word_at};
 use codec::output::Output;
 use piecrag::{
@@ -16,32 +16,7 @@ pub fn voice_at(s: &[u8], at: usize) -> VoiceId {
     VoiceId(long_at(s, at))
 }
 
-// A free of the voice `id`.
-fn play_free(
-    out: &mut Output,
-    id: VoiceId,
-    state: State,
-    nodes: &mut NodeTable,
-    edges: &mut EdgeTable,
-    voices: &mut VoiceTable,
-) -> State {
-    let r = free_voice(state, nodes, edges, voices, id);
-    outcome_line(out, r.answer);
-    r.state
-}
-
-fn play_clearing(
-    out: &mut Output,
-    state: State,
-    nodes: &mut NodeTable,
-    edges: &mut EdgeTable,
-    voices: &mut VoiceTable,
-) -> State {
-    let r = free_done_synths(state, nodes, edges, voices);
-    removed_line(out, r.answer);
-    r.state
-}
-
+// A value, and the next a glide. Two functions: one over both would take the reading and the call as closures, and lend the tables to the second.
 fn value(s: &[u8], at: usize, state: State, nodes: &mut NodeTable, voices: &VoiceTable) -> Outcome {
     let name = after(at, 8);
     let x = float(word_at(s, name_end(s, name)));
@@ -82,8 +57,14 @@ pub fn play_voice(
     voices: &mut VoiceTable,
 ) -> State {
     match byte_at(s, at) {
-        13 => play_free(out, voice_at(s, after(at, 1)), state, nodes, edges, voices),
-        14 => play_clearing(out, state, nodes, edges, voices),
+        13 => {
+            let r = free_voice(state, nodes, edges, voices, voice_at(s, after(at, 1)));
+            answered(out, r, outcome_line)
+        }
+        14 => {
+            let r = free_done_synths(state, nodes, edges, voices);
+            answered(out, r, removed_line)
+        }
         _ => {
             play_order(out, s, at, state, nodes, voices);
             state

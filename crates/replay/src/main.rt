@@ -1,5 +1,5 @@
 // Plays a script from standard input on a newly made store, and writes the transcript. docs/REPLAY.md describes both. `examples` is the
-// same program, with a script and a transcript of its own.
+// same program: a crate has one `stdin` and one `stdout`, and each of the two programs has a script and a transcript of its own.
 #![tactic(auto)]
 
 use play::run::play_input;

@@ -1,5 +1,6 @@
-// What making fixes, as the numbers of a script say it; the words of a store have functions of their own (crate state_words).
-// The enums are those of other crates, so that these are functions and no `From`.
+// What making fixes, by the numbers of a script, which docs/REPLAY.md fixes. Crate state_words has such functions for a store's words: what plays
+// the scripts is kept apart from the library that it is compared with. The enums are those of other crates, so that these are functions and no
+// `From`.
 ghost use Rattle.std.specs.Prelude.{◌≡◌};
 ghost use Rattle.script.specs.Config.{budget_of, policy_of, scope_of, first_making};
 
@@ -10,10 +11,7 @@ use voice::policy::{BudgetScope, StealPolicy};
 pub fn budget_of(flag: u8, n: usize) -> Option<usize>
     ensures { result ≡ budget_of flag n }
 {
-    match flag {
-        0 => None,
-        _ => Some(n),
-    }
+    (flag != 0).then_some(n)
 }
 
 pub fn policy_of(n: u8) -> StealPolicy

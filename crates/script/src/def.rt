@@ -15,6 +15,7 @@ struct Counted {
     end: usize,
 }
 
+// A definition, and the position after it. No generic pair with `Counted`, whose fields would need names that say less.
 #[derive(Clone, Copy)]
 pub struct ReadDef {
     pub def: SynthDef,
@@ -34,7 +35,8 @@ trait Row: Copy {
         ensures { result ≡ next s.now at };
 }
 
-// A kind name, ports, required ports, what the node takes, its channels, which are the generator's, and its ports by name.
+// A kind name, ports, required ports, what the node takes, its channels, which are the generator's, and its ports by name. What it takes are two
+// flags in one number, as docs/REPLAY.md has them.
 impl Row for DefNode {
     ghost read = { node_at };
 
@@ -95,7 +97,8 @@ impl Row for Param {
     }
 }
 
-// Reads the table at `at` into `rows`. An index and no walk over `rows`, since what they have no room for is read over too.
+// Reads the table at `at` into `rows`. An index and no walk over `rows`, since what they have no room for is read over too; and no `get_mut`, whose
+// contract says nothing of the rows after it.
 fn read_rows<T: Row>(s: &[u8], at: usize, rows: &mut [T]) -> Counted
     ensures { Table (length rows.old) T.read T.next s.now at (rows_of (length rows.old) result.count rows.new) result.count result.end }
 {

@@ -5,7 +5,7 @@ ghost use Rattle.script.specs.Entry.{form_of, form_end, within, samples_of, entr
 
 use crate::def::def_at;
 use crate::name::name_end;
-use codec::field::{after, byte_at, word_at};
+use codec::field::{NOWHERE, after, byte_at, word_at};
 
 // How the fields of an entry stand. `Malformed` is a case and no option: its end lies past the script, as that of a cut entry does, so that one
 // test finds both.
@@ -109,11 +109,11 @@ fn form_of(sort: u8) -> Form
         .unwrap_or(Form::Malformed)
 }
 
-// The end of an entry that may count n of something; of one that counts too much, a position past every script.
+// The end of an entry that may count n of something; of one that counts too much, the position past every script.
 fn within(most: u32, n: u32, end: usize) -> usize
     ensures { result ≡ within most n end }
 {
-    if n <= most { end } else { usize::MAX }
+    if n <= most { end } else { NOWHERE }
 }
 
 // The samples that a report counts.
@@ -134,7 +134,7 @@ fn form_end(form: Form, s: &[u8], from: usize) -> usize
     ensures { result ≡ form_end form s.now from }
 {
     match form {
-        Form::Malformed => usize::MAX,
+        Form::Malformed => NOWHERE,
         Form::Fixed(n) => after(from, n),
         Form::Named { before, behind } => after(name_end(s, after(from, before)), behind),
         Form::Definition => def_end(s, after(from, 1)),

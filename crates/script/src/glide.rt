@@ -1,5 +1,6 @@
-// Glides and actions, from the numbers of a script. The library for C has such functions of its own: what plays the scripts is kept apart from the
-// library that it is compared with. The enums are those of another crate, so that these are functions and no `From`.
+// Glides and actions, by the numbers of a script, which docs/REPLAY.md fixes. The library for C has such functions of its own: what plays
+// the scripts is kept apart from the library that it is compared with. The enums are those of another crate, so that these are functions and no
+// `From`.
 ghost use Rattle.std.specs.Prelude.{◌≡◌};
 ghost use Rattle.script.specs.Glide.{float_at, shape_of, space_of, glide_at, action_of};
 

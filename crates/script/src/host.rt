@@ -15,7 +15,8 @@ pub fn id_at(s: &[u8], at: usize) -> NodeId
     NodeId(word_at(s, at))
 }
 
-// Behind the kind name at `at`: ports, required ports and what the node takes. Its channels are the generator's.
+// Behind the kind name at `at`: ports, required ports and what the node takes, two flags in one number, as docs/REPLAY.md has them. Its channels are
+// the generator's.
 pub fn host_node_at(s: &[u8], at: usize) -> HostNode
     ensures { result ≡ host_node_at s.now at }
 {

@@ -1,4 +1,4 @@
-// What a call answers, in one line.
+// What a call answers, in one line. Also a line that is one call of `word_line` has a function, so that this crate alone has a transcript's words.
 use call_console::making::MakeRefusal;
 use call_param::number::outcome_number;
 use call_seal::closing::BoardRefusal;
@@ -51,6 +51,7 @@ impl<R: Numbered> Numbered for BoardRefusal<R> {
     }
 }
 
+// Crate codec has one for a `Refusal` alone: what answers vectors does not take the crates of the other refusals.
 pub fn refused_line<R: Numbered>(out: &mut Output, refusal: R) {
     word_line(out, b"refused", refusal.number());
 }
@@ -133,7 +134,8 @@ pub fn clock_line(out: &mut Output, clock: u64) {
     word_line(out, b"clock", clock);
 }
 
-// A byte of a remark. One that is no printable character of ASCII is `?`, so that every remark is one line.
+// A byte of a remark. One that is no printable character of ASCII is `?`, so that every remark is one line. A range and no `is_ascii_graphic`,
+// which leaves out the space.
 fn printable(byte: u8) -> u8 {
     match byte {
         32..=126 => byte,

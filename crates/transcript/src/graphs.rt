@@ -1,4 +1,5 @@
 // Nodes, edges, the processing order and the sink.
+// Rows are read by their index: a row is so many words of a lent table, and no slice of rows is there.
 use crate::line_words::name_word;
 use call_read::counts::edge_at;
 use codec::line::{glide_words, word_line};
@@ -45,6 +46,7 @@ pub fn sources_line(out: &mut Output, sources: [Option<NodeId>; 64]) {
     end_line(out);
 }
 
+// One call, with a function of its own, so that this crate alone has a transcript's words.
 pub fn sink_line(out: &mut Output, sink: Option<NodeId>) {
     word_line(out, b"sink", sink);
 }
@@ -70,7 +72,7 @@ fn node_line(out: &mut Output, node: Node) {
     name_word(out, node.kind);
     and_word(out, node.ports);
     and_word(out, node.required);
-    // 1 for values, plus 2 for glides.
+    // 1 for values, plus 2 for glides: docs/REPLAY.md has one number for both.
     and_word(
         out,
         u64::from(node.takes_values) + 2 * u64::from(node.takes_glides),

@@ -1,4 +1,5 @@
 // The lines of a transcript, written to standard output. docs/REPLAY.md describes them.
+// Functions and no `Display`: the records are types of other crates, and a float is written as its pattern.
 #![tactic(auto)]
 
 pub mod answer;

@@ -8,5 +8,5 @@ pub fn name_word(out: &mut Output, name: Name) {
         return;
     }
     text(out, b" ");
-    hex_bytes(out, &name.bytes[..usize::from(name.len)]);
+    hex_bytes(out, name.text());
 }

@@ -1,4 +1,5 @@
 // Pending events.
+// Rows are read by their index: a row is so many words of a lent table, and no slice of rows is there.
 use crate::line_words::name_word;
 use codec::line::action_words;
 use codec::output::{Output, end_line, text};

@@ -1,4 +1,4 @@
-// The whole state.
+// The whole state. Each lent table is a parameter of its own, a rule of the project: a signature shows what a function may touch.
 use crate::answer::clock_line;
 use crate::graphs::{edges_line, node_lines, order_line, sink_line};
 use crate::queue::event_lines;

@@ -1,4 +1,5 @@
-// Steal records.
+// Steal records. They are read by their index: they stand in a ring, whose rows are no slice in their order.
+// Two functions write them: one over both would take as closures what stands around a record.
 use codec::line::word_line;
 use codec::output::{Output, end_line, text};
 use codec::word::and_word;

@@ -1,4 +1,5 @@
 // Voices.
+// Rows are read by their index: a row is so many words of a lent table, and no slice of rows is there.
 use call_read::look::{voice_at, voice_level};
 use codec::output::{Output, end_line, text};
 use codec::word::and_word;
@@ -81,6 +82,7 @@ pub fn voice_lines(
     }
 }
 
+// The ids of the voices. A function over this line and the next would take a test as a closure, and be no shorter than the two.
 pub fn voices_line(out: &mut Output, s: State, voices: &VoiceTable) {
     text(out, b"voices");
     for i in 0..call_read::counts::voices(s, voices) {

@@ -1,8 +1,11 @@
-// Sample rates, fade lengths, noise seeds, fade output and bus sums. That a closure may be called is asked for by each function that takes one: no type
-// holds it.
+// Sample rates, fade lengths, noise seeds, fade output and bus sums.
+// Output, input and position stay three parameters: a struct of them would be taken apart at each reader of `codec`.
+ghost use Rattle.std.specs.Prelude.{◌*◌, ◌<◌, ◌^◌};
+ghost use Rattle.std.specs.Mem.{type_size};
+ghost use Rattle.std.proofs.Common.{rules};
 
 use codec::field::{Field, after, fields_at, float, lent_at, long_at, word_at};
-use codec::line::word_line;
+use codec::line::{refused_line, word_line};
 use codec::output::{Output, end_line, hex, text};
 use codec::word::{Word, and_word, and_words};
 use mixing::FadePart;
@@ -13,7 +16,7 @@ use voice::policy::{BudgetScope, StealPolicy};
 pub fn rate(out: &mut Output, s: &[u8], at: usize) -> usize {
     match bus::sample_rate(float(word_at(s, at))) {
         Ok(rate) => word_line(out, b"rate", rate),
-        Err(refusal) => word_line(out, b"refused", refusal_number(refusal)),
+        Err(refusal) => refused_line(out, refusal),
     }
     after(at, 4)
 }
@@ -28,13 +31,13 @@ fn fade_length_line(out: &mut Output, rate: u32, length: u32) {
 pub fn fade_lengths(out: &mut Output, s: &[u8], at: usize) -> usize {
     let first = word_at(s, at);
     let end = word_at(s, after(at, 4));
-    let mut last: u32 = 0;
+    let mut last = None;
     for rate in first..end {
         let length = bus::fade_length(rate);
-        if length != last {
+        if last != Some(length) {
             fade_length_line(out, rate, length);
         }
-        last = length;
+        last = Some(length);
     }
     after(at, 8)
 }
@@ -105,131 +108,148 @@ fn block_line<S: Word>(out: &mut Output, written: Result<(), Refusal>, block: &[
     end_line(out);
 }
 
-// The head of a fade; then the gains, the input, and what the output holds before. `call` fades samples of any sort by gains of any sort. The caller
-// lends the rooms that hold them, since no array of a sort that is not known can be made.
-pub fn fade_by<S: Field + Word, G: Field, F: Fn(Head, &[S], &[G], &mut [S]) -> Result<(), Refusal>>(
-    out: &mut Output,
-    s: &[u8],
-    at: usize,
-    a: &mut [G; 2048],
-    b: &mut [S; 2048],
-    c: &mut [S; 2048],
-    call: F,
-) -> usize
-    requires { F.IsAlwaysCallable call }
-{
+// What fades and sums the samples of one sort, and by which gains.
+pub trait Mixer {
+    type Sample: Field + Word;
+
+    type Gain: Field;
+
+    // One block of a fade.
+    fn fade(
+        &self,
+        head: Head,
+        input: &[Self::Sample],
+        gains: &[Self::Gain],
+        block: &mut [Self::Sample],
+    ) -> Result<(), Refusal>;
+
+    // One block of a bus, of inputs with so many channels each.
+    fn sum(
+        &self,
+        sizes: Sizes,
+        inputs: &[Self::Sample],
+        counts: &[usize],
+        block: &mut [Self::Sample],
+    ) -> Result<(), Refusal>;
+
+    // There is memory for 2,048 samples, and for as many gains.
+    ghost small: { (2048 * type_size Self.Sample.row < 2 ^ 63) × (2048 * type_size Self.Gain.row < 2 ^ 63) };
+}
+
+// The head of a fade; then the gains, the input, and what the output holds before.
+// `sum` is this with counts for gains: one function over both would take their type, with memory for it, and the method as a closure.
+pub fn fade<M: Mixer>(out: &mut Output, s: &[u8], at: usize, mixer: &M) -> usize {
     let gains = lent_at(s, after(at, 24));
     let input = lent_at(s, gains.end);
     let left = lent_at(s, input.end);
+    let mut a = [M::Gain::of(0); 2048];
+    let mut b = [M::Sample::of(0); 2048];
+    let mut c = [M::Sample::of(0); 2048];
     let gain = &mut a[..gains.count];
     let samples = &mut b[..input.count];
     let block = &mut c[..left.count];
     fields_at(s, gains.from, gain);
     fields_at(s, input.from, samples);
     fields_at(s, left.from, block);
-    let written = call(head_at(s, at), samples, gain, block);
+    let written = mixer.fade(head_at(s, at), samples, gain, block);
     block_line(out, written, block);
     left.end
 }
 
-// The sizes of a sum; then the channel count of each input, the inputs, and what the output holds before. `call` sums samples of any sort.
-pub fn sum_by<S: Field + Word, F: Fn(Sizes, &[S], &[usize], &mut [S]) -> Result<(), Refusal>>(
-    out: &mut Output,
-    s: &[u8],
-    at: usize,
-    b: &mut [S; 2048],
-    c: &mut [S; 2048],
-    call: F,
-) -> usize
-    requires { F.IsAlwaysCallable call }
-{
+// The sizes of a sum; then the channel count of each input, the inputs, and what the output holds before.
+pub fn sum<M: Mixer>(out: &mut Output, s: &[u8], at: usize, mixer: &M) -> usize {
     let counts = lent_at(s, after(at, 8));
     let input = lent_at(s, counts.end);
     let left = lent_at(s, input.end);
     let mut a: [usize; 2048] = [0; 2048];
+    let mut b = [M::Sample::of(0); 2048];
+    let mut c = [M::Sample::of(0); 2048];
     let channels = &mut a[..counts.count];
     let samples = &mut b[..input.count];
     let block = &mut c[..left.count];
     fields_at(s, counts.from, channels);
     fields_at(s, input.from, samples);
     fields_at(s, left.from, block);
-    let written = call(sizes_at(s, at), samples, channels, block);
+    let written = mixer.sum(sizes_at(s, at), samples, channels, block);
     block_line(out, written, block);
     left.end
 }
 
-// A fade of floats.
-fn float_fade<F>(out: &mut Output, s: &[u8], at: usize, call: F) -> usize
-where
-    F: Fn(Head, &[f32], &[f32], &mut [f32]) -> Result<(), Refusal>,
-    requires { F.IsAlwaysCallable call }
-{
-    fade_by(
-        out,
-        s,
-        at,
-        &mut [0.0; 2048],
-        &mut [0.0; 2048],
-        &mut [0.0; 2048],
-        call,
-    )
+// The functions of crate `bus` themselves: a fade by its length.
+#[derive(Clone, Copy)]
+pub struct Bus;
+
+impl Mixer for Bus {
+    type Sample = f32;
+
+    type Gain = f32;
+
+    fn fade(
+        &self,
+        head: Head,
+        input: &[f32],
+        gains: &[f32],
+        block: &mut [f32],
+    ) -> Result<(), Refusal> {
+        let p = head.part;
+        bus::fade_output(
+            input,
+            p.ins,
+            gains,
+            head.length,
+            p.position,
+            head.size,
+            block,
+            p.outs,
+        )
+    }
+
+    fn sum(
+        &self,
+        sizes: Sizes,
+        inputs: &[f32],
+        counts: &[usize],
+        block: &mut [f32],
+    ) -> Result<(), Refusal> {
+        bus::bus_sum(inputs, counts, sizes.size, block, sizes.outs)
+    }
+
+    ghost small = { Prim.search rules };
 }
 
-// A sum of floats.
-fn float_sum<F>(out: &mut Output, s: &[u8], at: usize, call: F) -> usize
-where
-    F: Fn(Sizes, &[f32], &[usize], &mut [f32]) -> Result<(), Refusal>,
-    requires { F.IsAlwaysCallable call }
-{
-    sum_by(out, s, at, &mut [0.0; 2048], &mut [0.0; 2048], call)
+// The calls of a store, by the gains of its table or by those that are lent. A fade has the rate in the length's place.
+// `WholeStore` of vec_whole is written out beside it: they call functions of two crates, and a trait of those would have the same two methods.
+#[derive(Clone, Copy)]
+pub struct Store {
+    pub table: bool,
 }
 
-// A fade by its length.
-pub fn bus_fade(out: &mut Output, s: &[u8], at: usize) -> usize {
-    float_fade(
-        out,
-        s,
-        at,
-        |f: Head, input: &[f32], gains: &[f32], block: &mut [f32]| {
-            let p = f.part;
-            bus::fade_output(
-                input, p.ins, gains, f.length, p.position, f.size, block, p.outs,
-            )
-        },
-    )
-}
+impl Mixer for Store {
+    type Sample = f32;
 
-// A fade as a call of a store, with the rate in the length's place.
-pub fn store_fade(out: &mut Output, s: &[u8], at: usize, table: bool) -> usize {
-    float_fade(
-        out,
-        s,
-        at,
-        |f: Head, input: &[f32], gains: &[f32], block: &mut [f32]| {
-            mixing::fade_output(config(f.length, f.size, table), input, gains, f.part, block)
-        },
-    )
-}
+    type Gain = f32;
 
-pub fn bus_sum(out: &mut Output, s: &[u8], at: usize) -> usize {
-    float_sum(
-        out,
-        s,
-        at,
-        |z: Sizes, inputs: &[f32], counts: &[usize], block: &mut [f32]| {
-            bus::bus_sum(inputs, counts, z.size, block, z.outs)
-        },
-    )
-}
+    fn fade(
+        &self,
+        head: Head,
+        input: &[f32],
+        gains: &[f32],
+        block: &mut [f32],
+    ) -> Result<(), Refusal> {
+        let made = config(head.length, head.size, self.table);
+        mixing::fade_output(made, input, gains, head.part, block)
+    }
 
-// A sum as a call of a store.
-pub fn store_sum(out: &mut Output, s: &[u8], at: usize) -> usize {
-    float_sum(
-        out,
-        s,
-        at,
-        |z: Sizes, inputs: &[f32], counts: &[usize], block: &mut [f32]| {
-            mixing::bus_sum(config(48000, z.size, false), inputs, counts, block, z.outs)
-        },
-    )
+    fn sum(
+        &self,
+        sizes: Sizes,
+        inputs: &[f32],
+        counts: &[usize],
+        block: &mut [f32],
+    ) -> Result<(), Refusal> {
+        let made = config(48000, sizes.size, self.table);
+        mixing::bus_sum(made, inputs, counts, block, sizes.outs)
+    }
+
+    ghost small = { Prim.search rules };
 }

@@ -1,34 +1,34 @@
-// Roots, narrowings and levels. A root and a narrowing are two functions of three lines: one that takes the function to call would need a contract
-// for it, and a sort for its result.
-use codec::field::{NOWHERE, after, double, fields_at, long_at, word_at};
+// Roots, narrowings and levels.
+// Output, input and position stay three parameters: a struct of them would be taken apart at each reader of `codec`.
+use codec::field::{NOWHERE, after, double, fields_at, lent_at, long_at};
 use codec::output::{Output, end_line};
 use codec::word::Word;
 
-pub fn root(out: &mut Output, s: &[u8], at: usize) -> usize {
-    level::sqrt(double(long_at(s, at))).put(out);
+// A line of one word.
+fn line<W: Word>(out: &mut Output, word: W) {
+    word.put(out);
     end_line(out);
+}
+
+pub fn root(out: &mut Output, s: &[u8], at: usize) -> usize {
+    line(out, level::sqrt(double(long_at(s, at))));
     after(at, 8)
 }
 
 pub fn narrowing(out: &mut Output, s: &[u8], at: usize) -> usize {
-    level::narrow(double(long_at(s, at))).put(out);
-    end_line(out);
+    line(out, level::narrow(double(long_at(s, at))));
     after(at, 8)
 }
 
 // A count, and that many samples.
 pub fn block(out: &mut Output, s: &[u8], at: usize) -> usize {
-    let n = word_at(s, at) as usize;
-    if n > 2048 {
+    let lent = lent_at(s, at);
+    if lent.end == NOWHERE {
         return NOWHERE;
     }
     let mut space = [0.0; 2048];
-    level_of(s, after(at, 4), &mut space[..n]).put(out);
-    end_line(out);
-    after(at, 4 + 4 * n)
-}
-
-fn level_of(s: &[u8], at: usize, samples: &mut [f32]) -> f32 {
-    fields_at(s, at, samples);
-    level::level(samples)
+    let samples = &mut space[..lent.count];
+    fields_at(s, lent.from, samples);
+    line(out, level::level(samples));
+    lent.end
 }

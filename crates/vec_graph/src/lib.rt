@@ -1,9 +1,11 @@
 // Answers the vectors of the graph: scripts of calls on a graph in lent tables.
+// Output, input and position stay three parameters: a struct of them would be taken apart at each reader of `codec` and `script`.
+// Crate transcript has lines of an id, of edges and of an order too, and takes crates that the vectors have no need of.
 #![tactic(auto)]
 
 use call_host::host::{add_node, connect, disconnect, remove_node, set_sink};
 use call_make::make;
-use codec::field::{NOWHERE, after, byte_at, long_at, word_at};
+use codec::field::{NOWHERE, after, byte_at, calls, long_at, word_at};
 use codec::line::{refused_line, word_line};
 use codec::output::{Output, end_line, text};
 use codec::word::{and_word, and_words};
@@ -23,19 +25,13 @@ use script::config::first_making;
 use script::host::{host_node_at, id_at, wire_at};
 use script::name::{name_at, name_end};
 
-// The tables of this program, which lends them to the calls one by one.
+// The store of this program: its state, and the tables that it lends to the calls one by one.
 #[derive(Drop)]
-struct Tables {
+struct Store {
+    state: State,
     nodes: NodeTable,
     edges: EdgeTable,
     order: OrderTable,
-}
-
-// The state after a call, and the position after the call.
-#[derive(Clone, Copy)]
-struct Played {
-    state: State,
-    end: usize,
 }
 
 fn given_line(out: &mut Output, given: Result<NodeId, Refusal>) {
@@ -45,158 +41,132 @@ fn given_line(out: &mut Output, given: Result<NodeId, Refusal>) {
     }
 }
 
-// Writes the answer of a call that gives nothing back.
-fn served(out: &mut Output, r: CallResult<Result<(), Refusal>>, end: usize) -> Played {
+// Writes the answer of a call that gives nothing back, and keeps the state that it left.
+fn served(out: &mut Output, g: &mut Store, r: CallResult<Result<(), Refusal>>) {
+    g.state = r.state;
     match r.answer {
         Ok(()) => text(out, b"done\n"),
         Err(refusal) => refused_line(out, refusal),
     }
-    Played {
-        state: r.state,
-        end,
-    }
 }
 
 // A kind name, and what else the host says of the node.
-fn add(out: &mut Output, s: &[u8], at: usize, g: State, nodes: &mut NodeTable) -> Played {
-    let r = add_node(g, nodes, name_at(s, at), host_node_at(s, at));
+fn add(out: &mut Output, s: &[u8], at: usize, g: &mut Store) -> usize {
+    let r = add_node(g.state, &mut g.nodes, name_at(s, at), host_node_at(s, at));
+    g.state = r.state;
     given_line(out, r.answer);
-    Played {
-        state: r.state,
-        end: after(name_end(s, at), 13),
-    }
+    after(name_end(s, at), 13)
 }
 
-fn remove(out: &mut Output, s: &[u8], at: usize, g: State, t: &mut Tables) -> Played {
-    let r = remove_node(g, &mut t.nodes, &mut t.edges, id_at(s, at));
-    served(out, r, after(at, 4))
+fn remove(out: &mut Output, s: &[u8], at: usize, g: &mut Store) -> usize {
+    let r = remove_node(g.state, &mut g.nodes, &mut g.edges, id_at(s, at));
+    served(out, g, r);
+    after(at, 4)
 }
 
-fn join(out: &mut Output, s: &[u8], at: usize, g: State, t: &mut Tables) -> Played {
-    let r = connect(g, &t.nodes, &mut t.edges, wire_at(s, at));
-    served(out, r, after(at, 12))
+fn join(out: &mut Output, s: &[u8], at: usize, g: &mut Store) -> usize {
+    let r = connect(g.state, &g.nodes, &mut g.edges, wire_at(s, at));
+    served(out, g, r);
+    after(at, 12)
 }
 
-fn part(out: &mut Output, s: &[u8], at: usize, g: State, t: &mut Tables) -> Played {
+fn part(out: &mut Output, s: &[u8], at: usize, g: &mut Store) -> usize {
     let port = word_at(s, after(at, 4));
-    let r = disconnect(g, &t.nodes, &mut t.edges, id_at(s, at), port);
-    served(out, r, after(at, 8))
+    let r = disconnect(g.state, &g.nodes, &mut g.edges, id_at(s, at), port);
+    served(out, g, r);
+    after(at, 8)
 }
 
-fn hear(out: &mut Output, s: &[u8], at: usize, g: State, nodes: &NodeTable) -> Played {
-    served(out, set_sink(g, nodes, id_at(s, at)), after(at, 4))
+fn hear(out: &mut Output, s: &[u8], at: usize, g: &mut Store) -> usize {
+    let r = set_sink(g.state, &g.nodes, id_at(s, at));
+    served(out, g, r);
+    after(at, 4)
 }
 
-// How many ports a node has; one that is not live has none.
-fn ports_of(g: State, nodes: &NodeTable, node: NodeId) -> u32 {
-    brief_of(nodes, g.nodes, node).map_or(0, |seen| seen.ports)
+// How many ports a node has. Of one that is not live it is 0, and no `None`: it is asked of and answered as one without ports.
+fn ports_of(g: &Store, node: NodeId) -> u32 {
+    brief_of(&g.nodes, g.state.nodes, node).map_or(0, |seen| seen.ports)
 }
 
-fn ask_free_port(out: &mut Output, s: &[u8], at: usize, g: State, t: &Tables) -> Played {
+fn ask_free_port(out: &mut Output, s: &[u8], at: usize, g: &Store) -> usize {
     let node = id_at(s, at);
     word_line(
         out,
         b"port",
-        free_port(&t.edges, g.edges, node, ports_of(g, &t.nodes, node)),
+        free_port(&g.edges, g.state.edges, node, ports_of(g, node)),
     );
-    Played {
-        state: g,
-        end: after(at, 4),
-    }
+    after(at, 4)
 }
 
 // The port of the first edge from a node to another, if there is one.
-fn fed_port(g: State, edges: &EdgeTable, from: NodeId, to: NodeId) -> Option<u32> {
-    feeding_edge(edges, g.edges, u64::from(from.0), to).map(|e| e.port)
+fn ask_fed_port(out: &mut Output, s: &[u8], at: usize, g: &Store) -> usize {
+    let from = u64::from(word_at(s, at));
+    let fed = feeding_edge(&g.edges, g.state.edges, from, id_at(s, after(at, 4)));
+    word_line(out, b"port", fed.map(|e| e.port));
+    after(at, 8)
 }
 
-fn ask_fed_port(out: &mut Output, s: &[u8], at: usize, g: State, edges: &EdgeTable) -> Played {
-    word_line(
-        out,
-        b"port",
-        fed_port(g, edges, id_at(s, at), id_at(s, after(at, 4))),
-    );
-    Played {
-        state: g,
-        end: after(at, 8),
-    }
-}
-
-// The sources of the first `ports` ports.
-fn source_words(out: &mut Output, sources: [Option<NodeId>; 64], ports: usize) {
-    and_words(out, &sources[..ports.min(64)]);
-}
-
-fn ask_sources(out: &mut Output, s: &[u8], at: usize, g: State, t: &Tables) -> Played {
+// The sources of the ports that a node has.
+fn ask_sources(out: &mut Output, s: &[u8], at: usize, g: &Store) -> usize {
     let node = id_at(s, at);
+    let ports = ports_of(g, node) as usize;
+    let sources = sources_of(&g.edges, g.state.edges, node);
     text(out, b"sources");
-    source_words(
-        out,
-        sources_of(&t.edges, g.edges, node),
-        ports_of(g, &t.nodes, node) as usize,
-    );
+    and_words(out, &sources[..ports.min(64)]);
     end_line(out);
-    Played {
-        state: g,
-        end: after(at, 4),
+    after(at, 4)
+}
+
+// Nodes and edges by an index: a row is so many words of a lent table, and no slice of rows is there.
+fn node_words(out: &mut Output, g: &Store) {
+    for i in 0..node_count(&g.nodes, g.state.nodes) {
+        and_word(out, graph_rows::node_row::id_at(&g.nodes, i));
     }
 }
 
-// The first `count` words, each the id of a node.
-fn id_words(out: &mut Output, ids: &[u32], count: usize) {
-    for id in &ids[..count.min(ids.len())] {
-        and_word(out, NodeId(*id));
-    }
-}
-
-fn node_words(out: &mut Output, g: State, nodes: &NodeTable) {
-    for i in 0..node_count(nodes, g.nodes) {
-        and_word(out, graph_rows::node_row::id_at(nodes, i));
-    }
-}
-
-fn edge_words(out: &mut Output, g: State, edges: &EdgeTable) {
-    for i in 0..edge_count(edges, g.edges) {
-        let e = edge_at(edges, i);
+// Crate vec_synthdef has this of edges by bytes: one function for both would need a trait of three getters, longer than the two.
+fn edge_words(out: &mut Output, g: &Store) {
+    for i in 0..edge_count(&g.edges, g.state.edges) {
+        let e = edge_at(&g.edges, i);
         and_word(out, e.from);
         and_word(out, e.to);
         and_word(out, e.port);
     }
 }
 
-fn order_line(out: &mut Output, g: State, order: &OrderTable) {
+fn order_line(out: &mut Output, g: &Store) {
     text(out, b"order");
-    id_words(out, order, g.order);
+    for id in g.order.iter().take(g.state.order) {
+        and_word(out, NodeId(*id));
+    }
     end_line(out);
 }
 
 // The whole graph: its sink, whether it is prepared, its nodes, its edges and its order.
-fn show(out: &mut Output, at: usize, g: State, t: &Tables) -> Played {
-    word_line(out, b"sink", g.sink);
+fn show(out: &mut Output, g: &Store) {
+    word_line(out, b"sink", g.state.sink);
     text(
         out,
-        if g.prepared {
+        if g.state.prepared {
             b"prepared yes\nnodes"
         } else {
             b"prepared no\nnodes"
         },
     );
-    node_words(out, g, &t.nodes);
+    node_words(out, g);
     text(out, b"\nedges");
-    edge_words(out, g, &t.edges);
+    edge_words(out, g);
     end_line(out);
-    order_line(out, g, &t.order);
-    Played { state: g, end: at }
+    order_line(out, g);
 }
 
-fn prepare(out: &mut Output, at: usize, g: State, t: &mut Tables) -> Played {
-    let r = call_host::preparing::prepare(g, &t.nodes, &t.edges, &mut t.order);
-    let state = r.state;
+fn prepare(out: &mut Output, g: &mut Store) {
+    let r = call_host::preparing::prepare(g.state, &g.nodes, &g.edges, &mut g.order);
+    g.state = r.state;
     match r.answer {
-        Ok(()) => order_line(out, state, &t.order),
+        Ok(()) => order_line(out, g),
         Err(refusal) => refused_line(out, refusal),
     }
-    Played { state, end: at }
 }
 
 fn owned_node(id: NodeId, voice: u64, ports: u32) -> Node {
@@ -206,123 +176,106 @@ fn owned_node(id: NodeId, voice: u64, ports: u32) -> Node {
         takes_values: false,
         takes_glides: false,
     };
-    let mut row = host_node(b"Tone", plain);
-    row.id = id;
-    row.owner = VoiceId(voice);
-    row
+    Node {
+        id,
+        owner: VoiceId(voice),
+        ..host_node(b"Tone", plain)
+    }
 }
 
-fn refused(out: &mut Output, refusal: Refusal, g: State, end: usize) -> Played {
-    refused_line(out, refusal);
-    Played { state: g, end }
+// Adds a node of a voice, with so many ports, under the next id.
+fn give_owned(g: &mut Store, voice: u64, ports: u32) -> Result<NodeId, Refusal> {
+    if node_count(&g.nodes, g.state.nodes) >= 512 {
+        return Err(Refusal::TableFull);
+    }
+    let next = u32::try_from(g.state.next).map_err(|_| Refusal::IdsUsedUp)?;
+    let id = NodeId(next);
+    let n = append_node(&mut g.nodes, g.state.nodes, owned_node(id, voice, ports));
+    let s = g.state;
+    g.state = with_graph(s, n, s.edges, s.sink, u64::from(next) + 1);
+    Ok(id)
 }
 
-// A node of a voice, with so many ports, under the next id.
-fn add_owned(out: &mut Output, s: &[u8], at: usize, g: State, nodes: &mut NodeTable) -> Played {
-    let end = after(at, 12);
-    if node_count(nodes, g.nodes) >= 512 {
-        return refused(out, Refusal::TableFull, g, end);
-    }
-    if g.next >= 4294967296 {
-        return refused(out, Refusal::IdsUsedUp, g, end);
-    }
-    let id = NodeId(g.next as u32);
-    let row = owned_node(id, long_at(s, at), word_at(s, after(at, 8)));
-    given_line(out, Ok(id));
-    let n = append_node(nodes, g.nodes, row);
-    Played {
-        state: with_graph(g, n, g.edges, g.sink, g.next + 1),
-        end,
-    }
+fn add_owned(out: &mut Output, s: &[u8], at: usize, g: &mut Store) -> usize {
+    let given = give_owned(g, long_at(s, at), word_at(s, after(at, 8)));
+    given_line(out, given);
+    after(at, 12)
+}
+
+// So many edges, after a step that no call of the store makes.
+fn wired(out: &mut Output, g: &mut Store, edges: usize) {
+    let s = g.state;
+    g.state = with_graph(s, s.nodes, edges, s.sink, s.next);
+    text(out, b"done\n");
 }
 
 // An edge, with no look at the nodes.
-fn put(out: &mut Output, s: &[u8], at: usize, g: State, edges: &mut EdgeTable) -> Played {
-    let e = wire_at(s, at);
-    let n = put_edge(edges, g.edges, e);
-    text(out, b"done\n");
-    Played {
-        state: with_graph(g, g.nodes, n, g.sink, g.next),
-        end: after(at, 12),
-    }
+fn put(out: &mut Output, s: &[u8], at: usize, g: &mut Store) -> usize {
+    let n = put_edge(&mut g.edges, g.state.edges, wire_at(s, at));
+    wired(out, g, n);
+    after(at, 12)
 }
 
 // An edge behind the others, whatever else feeds its port.
-fn append(out: &mut Output, s: &[u8], at: usize, g: State, edges: &mut EdgeTable) -> Played {
-    let e = wire_at(s, at);
-    let n = edge_count(edges, g.edges);
-    set_edge(edges, n, e);
-    text(out, b"done\n");
-    Played {
-        state: with_graph(g, g.nodes, after(n, 1), g.sink, g.next),
-        end: after(at, 12),
-    }
+fn append(out: &mut Output, s: &[u8], at: usize, g: &mut Store) -> usize {
+    let n = edge_count(&g.edges, g.state.edges);
+    set_edge(&mut g.edges, n, wire_at(s, at));
+    wired(out, g, after(n, 1));
+    after(at, 12)
 }
 
-fn clear_voice(out: &mut Output, s: &[u8], at: usize, g: State, t: &mut Tables) -> Played {
+fn clear_voice(out: &mut Output, s: &[u8], at: usize, g: &mut Store) -> usize {
     text(out, b"done\n");
     let voice = VoiceId(long_at(s, at));
-    let left = remove_voice(&mut t.nodes, g.nodes, &mut t.edges, g.edges, g.sink, voice);
-    Played {
-        state: with_graph(g, left.nodes, left.edges, left.sink, g.next),
-        end: after(at, 8),
-    }
-}
-
-// A call that reads, or one that there is not: its end is past the input.
-fn play_reading(out: &mut Output, s: &[u8], at: usize, sort: u8, g: State, t: &Tables) -> Played {
-    match sort {
-        7 => ask_free_port(out, s, at, g, t),
-        8 => ask_fed_port(out, s, at, g, &t.edges),
-        9 => ask_sources(out, s, at, g, t),
-        10 => show(out, at, g, t),
-        _ => Played {
-            state: g,
-            end: NOWHERE,
-        },
-    }
+    let left = remove_voice(
+        &mut g.nodes,
+        g.state.nodes,
+        &mut g.edges,
+        g.state.edges,
+        g.state.sink,
+        voice,
+    );
+    g.state = with_graph(g.state, left.nodes, left.edges, left.sink, g.state.next);
+    after(at, 8)
 }
 
 // One call, by its sort, which docs/VECTORS.md numbers.
-fn play(out: &mut Output, s: &[u8], at: usize, g: State, t: &mut Tables) -> Played {
+// The byte is matched itself: an enum of the sorts would be made by the same match, and matched once more.
+// NOWHERE and no Option for a sort that there is not: one test of an end finds it and an input that is too short.
+fn play(out: &mut Output, s: &[u8], at: usize, g: &mut Store) -> usize {
     let from = after(at, 1);
-    let sort = byte_at(s, at);
-    match sort {
-        1 => add(out, s, from, g, &mut t.nodes),
-        2 => remove(out, s, from, g, t),
-        3 => join(out, s, from, g, t),
-        4 => part(out, s, from, g, t),
-        5 => hear(out, s, from, g, &t.nodes),
-        6 => prepare(out, from, g, t),
-        11 => add_owned(out, s, from, g, &mut t.nodes),
-        12 => put(out, s, from, g, &mut t.edges),
-        13 => clear_voice(out, s, from, g, t),
-        14 => append(out, s, from, g, &mut t.edges),
-        _ => play_reading(out, s, from, sort, g, t),
+    match byte_at(s, at) {
+        1 => add(out, s, from, g),
+        2 => remove(out, s, from, g),
+        3 => join(out, s, from, g),
+        4 => part(out, s, from, g),
+        5 => hear(out, s, from, g),
+        6 => {
+            prepare(out, g);
+            from
+        }
+        7 => ask_free_port(out, s, from, g),
+        8 => ask_fed_port(out, s, from, g),
+        9 => ask_sources(out, s, from, g),
+        10 => {
+            show(out, g);
+            from
+        }
+        11 => add_owned(out, s, from, g),
+        12 => put(out, s, from, g),
+        13 => clear_voice(out, s, from, g),
+        14 => append(out, s, from, g),
+        _ => NOWHERE,
     }
 }
 
-// The state of a new store, of which the vectors use the graph alone.
-fn new_state() -> State {
-    make(first_making()).state
-}
-
-// How many calls, and the calls, on a new graph in tables of its own.
+// How many calls, and the calls, on a new graph in tables of its own. Of a new store the vectors use the graph alone.
 pub fn script(out: &mut Output, s: &[u8], at: usize) -> usize {
-    let mut tables = Tables {
+    let mut g = Store {
+        state: make(first_making()).state,
         nodes: [0; NODE_WORDS],
         edges: [0; EDGE_WORDS],
         order: [0; ORDER_WORDS],
     };
-    let mut state = new_state();
-    let mut from = after(at, 4);
-    for _ in 0..word_at(s, at) {
-        let p = play(out, s, from, state, &mut tables);
-        state = p.state;
-        from = p.end;
-        if s.len() < from {
-            return from;
-        }
-    }
-    from
+    calls(s, at, |from| play(out, s, from, &mut g)).unwrap_or(NOWHERE)
 }

@@ -3,11 +3,14 @@
 #![tactic(auto)]
 
 use codec::field::{after, byte_at, word_at};
+use codec::line::refused_line;
 use codec::output::{Output, end_line, text};
 use codec::word::and_word;
 use node::name::name_of;
+use node::refusal::Refusal;
 use script::def::def_at;
 use script::name::{name_at, name_end};
+use std::array;
 use synthdef::def::DefEdges;
 use synthdef::edges::counted_edges;
 use synthdef::limits::allowed;
@@ -15,6 +18,7 @@ use synthdef::params::param_node;
 use synthdef::plan::{DonePlan, done_plan};
 use synthdef::silent::plan_silent;
 
+// Crate vec_graph has this of edges in words: one function for both would need a trait of three getters, longer than the two.
 fn edge_words(out: &mut Output, es: DefEdges) {
     for e in es.as_slice() {
         and_word(out, e.from);
@@ -25,13 +29,7 @@ fn edge_words(out: &mut Output, es: DefEdges) {
 
 // The done flag of each node: bit n is that of node n.
 fn flags_of(mask: u32) -> [bool; 24] {
-    let mut flags = [false; 24];
-    let mut left = mask;
-    for flag in flags.iter_mut() {
-        *flag = left % 2 == 1;
-        left = left / 2;
-    }
-    flags
+    array::from_fn(|n| mask >> n & 1 == 1)
 }
 
 fn silent_word(out: &mut Output, silent: bool) {
@@ -55,7 +53,7 @@ pub fn definition(out: &mut Output, s: &[u8], at: usize) -> usize {
     let first = after(sets, 4 * count);
     let second = name_end(s, first);
     if !allowed(def) {
-        text(out, b"refused 9\n");
+        refused_line(out, Refusal::DefinitionLimits);
         return name_end(s, second);
     }
     text(out, b"counted");

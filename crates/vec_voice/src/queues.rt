@@ -1,5 +1,6 @@
 // Histories of the event queue, on a table of this program.
-use codec::field::{after, byte_at, long_at, word_at};
+// Output, input and position stay three parameters: a struct of them would be taken apart at each reader of `codec` and `script`.
+use codec::field::{NOWHERE, after, byte_at, calls, long_at};
 use codec::line::{action_words, refused_line};
 use codec::output::{Output, end_line, text};
 use codec::word::{Word, and_word};
@@ -11,21 +12,16 @@ use scheduler::event::Event;
 use script::glide::{action_of, glide_at};
 use script::name::{name_at, name_end};
 
-// How many events wait after a call, and the position after the call.
-#[derive(Clone, Copy)]
-struct Played {
+// The queue of this program: the words of its table, and how many events wait in it.
+// Table and count stand side by side, since each call of the queue is lent the words and given the count.
+#[derive(Drop)]
+struct Queue {
+    rows: EventTable,
     count: usize,
-    end: usize,
 }
 
 // Schedules the event at `at`: time, voice, name and action.
-fn scheduled(
-    out: &mut Output,
-    s: &[u8],
-    at: usize,
-    queue: &mut EventTable,
-    count: usize,
-) -> Played {
+fn scheduled(out: &mut Output, s: &[u8], at: usize, queue: &mut Queue) -> usize {
     let name = after(at, 16);
     let end = name_end(s, name);
     let event = Event {
@@ -34,25 +30,24 @@ fn scheduled(
         name: name_of(name_at(s, name)),
         action: action_of(byte_at(s, end), glide_at(s, after(end, 1))),
     };
-    let r = schedule(queue, count, event);
-    match r {
-        Ok(_) => text(out, b"done\n"),
+    match schedule(&mut queue.rows, queue.count, event) {
+        Ok(count) => {
+            queue.count = count;
+            text(out, b"done\n");
+        }
         Err(refusal) => refused_line(out, refusal),
     }
-    Played {
-        count: r.unwrap_or(count),
-        end: after(end, 15),
-    }
+    after(end, 15)
 }
 
-// The bytes themselves with a space before them, which a transcript has in hexadecimal.
+// The bytes themselves with a space before them. Crate transcript has them in hexadecimal, so that its lines of events are others.
 fn name_word(out: &mut Output, name: Name) {
     if !is_named(name) {
         text(out, b" -");
         return;
     }
     text(out, b" ");
-    text(out, &name.bytes[..usize::from(name.len)]);
+    text(out, name.text());
 }
 
 fn event_line(out: &mut Output, e: Event) {
@@ -62,64 +57,55 @@ fn event_line(out: &mut Output, e: Event) {
     end_line(out);
 }
 
+// The events by an index: a row is so many words of a lent table, and no slice of rows is there.
+
 // So many events, each on its line.
-fn event_lines(out: &mut Output, queue: &[u32], count: usize) {
-    let n = count.min(256);
-    and_word(out, n);
+fn event_lines(out: &mut Output, queue: &Queue) {
+    and_word(out, queue.count);
     end_line(out);
-    for i in 0..n {
-        event_line(out, event_at(queue, i));
+    for i in 0..queue.count {
+        event_line(out, event_at(&queue.rows, i));
     }
 }
 
-// The events that are due, of the first `n`.
-fn due_lines(out: &mut Output, queue: &[u32], n: usize, deadline: u64) {
-    for i in 0..n {
-        if is_due(queue, i, deadline) {
-            event_line(out, event_at(queue, i));
+// The events that are due.
+fn due_lines(out: &mut Output, queue: &Queue, deadline: u64) {
+    for i in 0..queue.count {
+        if is_due(&queue.rows, i, deadline) {
+            event_line(out, event_at(&queue.rows, i));
         }
     }
 }
 
-fn taken(out: &mut Output, s: &[u8], at: usize, queue: &mut EventTable, count: usize) -> Played {
+fn taken(out: &mut Output, s: &[u8], at: usize, queue: &mut Queue) -> usize {
     let deadline = long_at(s, at);
     text(out, b"taken");
-    and_word(out, count_due(queue, count, deadline));
+    and_word(out, count_due(&queue.rows, queue.count, deadline));
     end_line(out);
-    due_lines(out, queue, count.min(256), deadline);
-    Played {
-        count: remove_due(queue, count, deadline),
-        end: after(at, 8),
-    }
+    due_lines(out, queue, deadline);
+    queue.count = remove_due(&mut queue.rows, queue.count, deadline);
+    after(at, 8)
 }
 
 // One call, by docs/VECTORS.md, which numbers the sorts: 1 schedules an event, any other takes those before a deadline.
-fn play(out: &mut Output, s: &[u8], at: usize, queue: &mut EventTable, count: usize) -> Played {
+// The byte is matched itself: an enum of the sorts would be made by the same match, and matched once more.
+fn play(out: &mut Output, s: &[u8], at: usize, queue: &mut Queue) -> usize {
     match byte_at(s, at) {
-        1 => scheduled(out, s, after(at, 1), queue, count),
-        _ => taken(out, s, after(at, 1), queue, count),
+        1 => scheduled(out, s, after(at, 1), queue),
+        _ => taken(out, s, after(at, 1), queue),
     }
-}
-
-// The events that wait.
-fn waiting(out: &mut Output, queue: &EventTable, count: usize) {
-    text(out, b"waiting");
-    event_lines(out, queue, count);
 }
 
 // How many calls, and the calls; then the events that wait.
 pub fn history(out: &mut Output, s: &[u8], at: usize) -> usize {
-    let mut queue = [0; EVENT_WORDS];
-    let mut count = 0;
-    let mut from = after(at, 4);
-    for _ in 0..word_at(s, at) {
-        let p = play(out, s, from, &mut queue, count);
-        count = p.count;
-        from = p.end;
-        if s.len() < from {
-            return from;
-        }
-    }
-    waiting(out, &queue, count);
-    from
+    let mut queue = Queue {
+        rows: [0; EVENT_WORDS],
+        count: 0,
+    };
+    let Some(end) = calls(s, at, |from| play(out, s, from, &mut queue)) else {
+        return NOWHERE;
+    };
+    text(out, b"waiting");
+    event_lines(out, &queue);
+    end
 }

@@ -1,7 +1,7 @@
 // Victims, admissions and steal records.
-ghost use Rattle.std.specs.Prelude.{◌≤◌};
-
-use codec::field::{NOWHERE, after, byte_at, float, long_at, word_at};
+// Output, input and position stay three parameters: a struct of them would be taken apart at each reader of `codec`.
+// NOWHERE and no Option for a count that is too high: whoever calls asks of each end whether it is past the input, and one test finds both.
+use codec::field::{NOWHERE, after, byte_at, calls, float, long_at, word_at};
 use codec::line::word_line;
 use codec::output::{Output, end_line, text};
 use codec::word::{Word, and_word};
@@ -9,46 +9,32 @@ use node::record::{NodeId, VoiceId};
 use script::config::{budget_of, policy_of, scope_of};
 use voice::policy::{Admission, BudgetScope, Candidate, Candidates, Victim};
 use voice::steals::{StealRecord, Steals};
-use voice_policy::policy::{counts_for, pick_victim, request_in};
+use voice_policy::policy::{counts_for, no_candidates, pick_victim, request_in};
 use voice_policy::steals::{
     held_steals, mark_cut, no_steals, push_steal, record_level, steal_at, steal_record,
 };
 
 fn level_at(s: &[u8], at: usize) -> Option<f32> {
-    match byte_at(s, at) {
-        0 => None,
-        _ => Some(float(word_at(s, after(at, 1)))),
-    }
+    (byte_at(s, at) != 0).then(|| float(word_at(s, after(at, 1))))
 }
 
 // The tracked voices that count for a new voice on `bus`: of n rows, each a voice id, its bus and its level. All ranks are 0, as in
-// all runs against the older program in Rust. A row is stored by its number and not by `push`, since the loop's bound says that there is room.
-fn candidates_at(s: &[u8], at: usize, n: usize, scope: BudgetScope, bus: NodeId) -> Candidates
-    requires { n ≤ 64 }
-{
-    let nobody = Candidate {
-        voice: VoiceId(0),
-        level: None,
-        rank: 0,
-    };
-    let mut rows = [nobody; 64];
-    let mut count = 0;
+// all runs against the older program in Rust.
+fn candidates_at(s: &[u8], at: usize, n: usize, scope: BudgetScope, bus: NodeId) -> Candidates {
+    let mut t = no_candidates();
     let mut from = at;
     for _ in 0..n {
         let theirs = NodeId(word_at(s, after(from, 8)));
-        let level = level_at(s, after(from, 12));
-        let voice = VoiceId(long_at(s, from));
-        from = after(from, 17);
         if counts_for(scope, theirs, bus) {
-            rows[count] = Candidate {
-                voice,
-                level,
+            t.push(Candidate {
+                voice: VoiceId(long_at(s, from)),
+                level: level_at(s, after(from, 12)),
                 rank: 0,
-            };
-            count += 1;
+            });
         }
+        from = after(from, 17);
     }
-    Candidates { rows, count }
+    t
 }
 
 // The policy; then how many candidates, and the candidates.
@@ -92,6 +78,7 @@ pub fn admission(out: &mut Output, s: &[u8], at: usize) -> usize {
 }
 
 // One call, by docs/VECTORS.md, which numbers the sorts: 1 pushes a record, its sample, level and cut mark; any other marks the record of a number.
+// The byte is matched itself: an enum of the sorts would be made by the same match, and matched once more.
 fn called(s: &[u8], at: usize, steals: Steals) -> Steals {
     let n = long_at(s, after(at, 1));
     match byte_at(s, at) {
@@ -103,6 +90,8 @@ fn called(s: &[u8], at: usize, steals: Steals) -> Steals {
         _ => mark_cut(steals, n),
     }
 }
+
+// Crate transcript has lines of steal records too, and takes crates that the vectors have no need of.
 
 fn record_line(out: &mut Output, r: StealRecord) {
     r.sample.put(out);
@@ -118,6 +107,7 @@ fn steal_line(out: &mut Output, found: Option<StealRecord>) {
     }
 }
 
+// By an index: the records stand in a ring, and no slice holds them in this order.
 fn steal_lines(out: &mut Output, steals: Steals) {
     word_line(out, b"steals", steals.total);
     for i in 0..held_steals(steals) {
@@ -128,14 +118,13 @@ fn steal_lines(out: &mut Output, steals: Steals) {
 // How many calls, and the calls; then the steals and the newest records.
 pub fn steals(out: &mut Output, s: &[u8], at: usize) -> usize {
     let mut steals = no_steals();
-    let mut from = after(at, 4);
-    for _ in 0..word_at(s, at) {
+    let mut play = |from| {
         steals = called(s, from, steals);
-        from = after(from, 15);
-        if s.len() < from {
-            return from;
-        }
-    }
+        after(from, 15)
+    };
+    let Some(end) = calls(s, at, &mut play) else {
+        return NOWHERE;
+    };
     steal_lines(out, steals);
-    from
+    end
 }

@@ -1,32 +1,42 @@
-// Fade output and bus sum in whole numbers, as calls of a store. As crate vec_bus has them for floats: the two differ in the crate that they call and
-// in their arrays; that the mixings are two, crate whole_mixing says.
-use codec::output::Output;
-use vec_bus::blocks::{Head, Sizes, config, fade_by, sum_by};
+// Fade output and bus sum in whole numbers.
+ghost use Rattle.std.proofs.Common.{rules};
 
-// The rate stands in the length's place.
-pub fn store_fade(out: &mut Output, s: &[u8], at: usize, table: bool) -> usize {
-    fade_by(
-        out,
-        s,
-        at,
-        &mut [0; 2048],
-        &mut [0; 2048],
-        &mut [0; 2048],
-        |f: Head, input: &[i32], gains: &[u32], block: &mut [i32]| {
-            whole_mixing::fade_output(config(f.length, f.size, table), input, gains, f.part, block)
-        },
-    )
+use node::refusal::Refusal;
+use vec_bus::blocks::{Head, Mixer, Sizes, config};
+
+// The calls of a store, by the entries of its table or by the gains that are lent. A fade has the rate in the length's place.
+// Written out beside `Store` of vec_bus: they call functions of two crates, and a trait of those would have the same two methods.
+#[derive(Clone, Copy)]
+pub struct WholeStore {
+    pub table: bool,
 }
 
-pub fn store_sum(out: &mut Output, s: &[u8], at: usize) -> usize {
-    sum_by(
-        out,
-        s,
-        at,
-        &mut [0; 2048],
-        &mut [0; 2048],
-        |z: Sizes, inputs: &[i32], counts: &[usize], block: &mut [i32]| {
-            whole_mixing::bus_sum(config(48000, z.size, false), inputs, counts, block, z.outs)
-        },
-    )
+impl Mixer for WholeStore {
+    type Sample = i32;
+
+    type Gain = u32;
+
+    fn fade(
+        &self,
+        head: Head,
+        input: &[i32],
+        gains: &[u32],
+        block: &mut [i32],
+    ) -> Result<(), Refusal> {
+        let made = config(head.length, head.size, self.table);
+        whole_mixing::fade_output(made, input, gains, head.part, block)
+    }
+
+    fn sum(
+        &self,
+        sizes: Sizes,
+        inputs: &[i32],
+        counts: &[usize],
+        block: &mut [i32],
+    ) -> Result<(), Refusal> {
+        let made = config(48000, sizes.size, self.table);
+        whole_mixing::bus_sum(made, inputs, counts, block, sizes.outs)
+    }
+
+    ghost small = { Prim.search rules };
 }

@@ -3,15 +3,19 @@
 #![tactic(auto)]
 
 use codec::descriptor::STDIN;
-use codec::field::{NOWHERE, after, byte_at, input_room, word_at};
+use codec::field::{NOWHERE, after, byte_at, calls, input_room, word_at};
 use codec::line::word_line;
 use codec::output::{Output, flush, output_room, text};
+use vec_bus::blocks::{Bus, Store};
 use vec_bus::{blocks, levels};
 use vec_graph::script;
 use vec_synthdef::definition;
 use vec_voice::{queues, victims};
+use vec_whole::blocks::WholeStore;
 
-// Answers the vector at `at` by its sort, which docs/VECTORS.md numbers, and gives the position after it. A sort that there is not has its end past the input.
+// Answers the vector at `at` by its sort, which docs/VECTORS.md numbers, and gives the position after it.
+// The byte is matched itself: an enum of the sorts would be made by the same match, and matched once more.
+// NOWHERE and no Option for a sort that there is not: one test of an end finds it and an input that is too short.
 fn answer(out: &mut Output, s: &[u8], at: usize) -> usize {
     let from = after(at, 1);
     match byte_at(s, at) {
@@ -21,36 +25,30 @@ fn answer(out: &mut Output, s: &[u8], at: usize) -> usize {
         11 => blocks::rate(out, s, from),
         12 => blocks::fade_lengths(out, s, from),
         13 => blocks::seed(out, s, from),
-        14 => blocks::bus_fade(out, s, from),
-        15 => blocks::bus_sum(out, s, from),
-        16 => blocks::store_fade(out, s, from, false),
-        17 => blocks::store_fade(out, s, from, true),
-        18 => blocks::store_sum(out, s, from),
+        14 => blocks::fade(out, s, from, &Bus),
+        15 => blocks::sum(out, s, from, &Bus),
+        16 => blocks::fade(out, s, from, &Store { table: false }),
+        17 => blocks::fade(out, s, from, &Store { table: true }),
+        18 => blocks::sum(out, s, from, &Store { table: false }),
         21 => script(out, s, from),
         31 => queues::history(out, s, from),
         41 => victims::victim(out, s, from),
         42 => victims::admission(out, s, from),
         43 => victims::steals(out, s, from),
         51 => definition(out, s, from),
-        61 => vec_whole::blocks::store_fade(out, s, from, false),
-        62 => vec_whole::blocks::store_fade(out, s, from, true),
-        63 => vec_whole::blocks::store_sum(out, s, from),
+        61 => blocks::fade(out, s, from, &WholeStore { table: false }),
+        62 => blocks::fade(out, s, from, &WholeStore { table: true }),
+        63 => blocks::sum(out, s, from, &WholeStore { table: false }),
         _ => NOWHERE,
     }
 }
 
 // Answers each vector of the input. One that runs past the input's end is the last.
 fn answer_all(out: &mut Output, s: &[u8]) {
-    let count = word_at(s, 0);
-    let mut at: usize = 4;
-    for _ in 0..count {
-        at = answer(out, s, at);
-        if s.len() < at {
-            text(out, b"malformed\n");
-            return;
-        }
+    match calls(s, 0, |at| answer(out, s, at)) {
+        Some(_) => word_line(out, b"vectors", word_at(s, 0)),
+        None => text(out, b"malformed\n"),
     }
-    word_line(out, b"vectors", count);
 }
 
 fn main() {
