@@ -1,7 +1,7 @@
 -- The machine's exclusive or, and its products that wrap, in the words of `Noise`.
-use Rattle.std.proofs.Common.{◌≡◌, ℕ, zero, suc, ◌+◌, ◌*◌, ◌/◌, ◌%◌, ◌^◌, ◌<◌, sym, refl, ap, ◌∙◌, subst, mod-lt, add-mul, add_comm, pow-suc, div-add-mod', mul_right_comm, arith, lit<}
-use native.Mathlib.Nat.{add-mul-mod_self_right}
+use Rattle.std.proofs.Common.{◌≡◌, ℕ, zero, suc, ◌+◌, ◌*◌, ◌/◌, ◌%◌, ◌^◌, ◌<◌, sym, refl, ap, ◌∙◌, subst, mod-lt, pow-suc, arith, lit<}
 use lib.Bits.{bit_xor, differ, xor_step, xor_lt}
+use Rattle.std.proofs.lemmas.Nat.{mul-mod_first}
 use Rattle.bus.specs.Noise.{wrap, exclusive_or, seed_of}
 
 -- one digit: 1 where the two differ, which is where their sum is odd
@@ -30,10 +30,7 @@ xor_is (suc k) a b p q =
 
 -- a product's remainder needs no more of a factor than the factor's own
 mod_mul : (n b d : ℕ) → n % d * b % d ≡ n * b % d
-mod_mul n b d =
-    let e : n * b ≡ n % d * b + n / d * b * d =
-    ap (λ (x : ℕ). x * b) (sym (div-add-mod' n d)) ∙ add-mul (n / d * d) (n % d) b ∙ add_comm (n / d * d * b) (n % d * b) ∙ ap (λ (x : ℕ). n % d * b + x) (mul_right_comm (n / d) d b) in
-    sym (ap (λ (x : ℕ). x % d) e ∙ add-mul-mod_self_right (n % d * b) (n / d * b) d)
+mod_mul = mul-mod_first
 
 -- the seed as the code has it: r and t are the two products that wrapped, the second of the node's low digits alone
 pub seed_is : (s n r t : ℕ) → r ≡ wrap (s * 0x9E3779B9) → t ≡ wrap (n % 2 ^ 32 * 0x85EBCA77) → bit_xor (bit_xor 0xDEADBEEF r) t ≡ seed_of s n

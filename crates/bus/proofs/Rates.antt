@@ -10,6 +10,7 @@ use lib.Ieee.Back.{round_whole, whole_unique, unsigned_back}
 use lib.Ieee.Bits.{of_bits-to_bits}
 use lib.Ieee.Exact.{HasValue}
 use lib.Ieee.Fits.{of_int-fits, down_pos}
+use Rattle.std.proofs.lemmas.Bool.{both_ways}
 use Rattle.node.specs.Refusal.{refused, gives, number_of}
 use Rattle.node.specs.declared.refusal.Refusal.TheVariants.{SampleRate}
 use Rattle.bus.specs.Rate.{highest_rate, whole_rate, rate_of}
@@ -136,25 +137,13 @@ pub exact : (n : ℕ) → n ≤ 2 ^ 24 → T (in_float binary32 (pos n))
 unfolding in_float
 exact n h = le→leb n (2 ^ 24) h
 
--- a value above another is no NaN
-pub ordered : (y x : Float) → lt y x ≡ true → T (not (is_nan x))
-unfolding is_nan lt
-ordered y (inf s) l = tt
-ordered y (fin s m e) l = tt
-ordered nan nan l = subst T (sym l) tt
-ordered (inf s) nan l = subst T (sym l) tt
-ordered (fin s m e) nan l = subst T (sym l) tt
-
 -- ---- where a test fails, x is no rate
 
-never : {b : Bool} → b ≡ true → b ≡ false → ⊥
-never p q = subst T (sym p ∙ q) tt
-
 pub not_above : (x : Float) → T (fits binary32 x) → lt (fin true 1 (pos 0)) x ≡ false → rate_of x ≡ refused (number_of SampleRate)
-not_above x f q = refuses x f (λ n s. never (above x n s) q)
+not_above x f q = refuses x f (λ n s. both_ways _ q (above x n s))
 
 pub not_under : (x : Float) → T (fits binary32 x) → lt x (fin false 1 (pos 64)) ≡ false → rate_of x ≡ refused (number_of SampleRate)
-not_under x f q = refuses x f (λ n s. never (under x n s) q)
+not_under x f q = refuses x f (λ n s. both_ways _ q (under x n s))
 
 -- k is what is left of x without its fraction
 pub out_of_range : (x : Float) (k : ℕ) → T (fits binary32 x) → k ≡ to_unsigned 64 x → (1 ≤ k → k ≤ highest_rate → ⊥) → rate_of x ≡ refused (number_of SampleRate)

@@ -50,7 +50,7 @@ pub fn derive_noise_seed(sequence: u32, node: usize) -> u32
 fn is_channels(n: usize) -> bool
     ensures { result ≡ is_channels n }
 {
-    n == 1 || n == 2
+    (1..=2).contains(&n)
 }
 
 // Whether len is n × size, which may not fit.
@@ -67,40 +67,45 @@ fn holds_block(len: usize, channels: usize, size: usize) -> bool
     is_channels(channels) && is_product(len, channels, size)
 }
 
-// Whether a fade's blocks and gains are of the sizes asked for. What is lent, its channel counts and its sizes are a parameter each, from the call in C
-// down: a signature shows what a call may touch.
+// One block of a fade: the channel counts of input and output, and what the fade's earlier blocks have passed, in samples.
+#[derive(Clone, Copy)]
+pub struct FadePart {
+    pub ins: usize,
+    pub outs: usize,
+    pub position: u64,
+}
+
+// Whether a fade's blocks and gains are of the sizes asked for. What is lent is a parameter each: a signature shows what a call may touch. Its sizes are
+// no struct either, here and in a sum: the store's calls take the block's size, and a fade's length, out of their config, and whoever asks gives the
+// channel counts.
 pub fn fade_fits(
     input: usize,
-    ins: usize,
     gains: usize,
     len: usize,
     size: usize,
+    p: FadePart,
     out: usize,
-    outs: usize,
 ) -> bool
-    ensures { result ≡ fade_fits input ins gains len size out outs }
+    ensures { result ≡ fade_fits input p.ins gains len size out p.outs }
 {
-    holds_block(input, ins, size) && holds_block(out, outs, size) && len <= gains
+    holds_block(input, p.ins, size) && holds_block(out, p.outs, size) && len <= gains
 }
 
 // The form in floats of `mix::fade`: its clauses are the scope's, which name no sort of numbers. So it is with `bus_sum`.
 //
-// A fade's output for one block of size samples: ins and outs are the channel counts of input and output, len is the fade's length L, and position is what
-// its earlier blocks have passed. The gains are those of samples 0 to L - 1.
+// A fade's output for one block of size samples, where len is the fade's length L. The gains are those of samples 0 to L - 1.
 pub fn fade_output(
     input: &[f32],
-    ins: usize,
     gains: &[f32],
     len: u32,
-    position: u64,
     size: usize,
+    p: FadePart,
     out: &mut [f32],
-    outs: usize,
 ) -> Result<(), Refusal>
-    ensures answers { says result ≡ fade_answer input.now ins gains.now len size out.old outs }
-    ensures leaves { out.new ≡ fade_output input.now ins gains.now len position size out.old outs }
+    ensures answers { says result ≡ fade_answer input.now p.ins gains.now len size out.old p.outs }
+    ensures leaves { out.new ≡ fade_output input.now p.ins gains.now len p.position size out.old p.outs }
 {
-    mix::fade::<Floats>(input, ins, gains, len, position, size, out, outs)
+    mix::fade::<Floats>(input, gains, len, size, p, out)
 }
 
 // How many channels the inputs have together, where each has one or two. One walk tests and adds: `all` and then `sum` are two, and `sum` asks

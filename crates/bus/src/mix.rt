@@ -7,7 +7,7 @@ ghost use Rattle.bus.specs.Block.{each, block_of};
 ghost use Rattle.bus.specs.Fade.{silence, faded_of_by, fade_fits, Multiply};
 ghost use Rattle.bus.specs.Sum.{channels, every_is_channels, summed_by, sum_fits};
 
-use crate::{fade_fits, sum_fits};
+use crate::{FadePart, fade_fits, sum_fits};
 use node::refusal::Refusal;
 
 // A sort of numbers: what samples and gains are, which of them are in range, and how they are multiplied and added.
@@ -150,27 +150,25 @@ fn fade_channel<N: Numbers>(source: &[N::Sample], gains: &[N::Gain], out: &mut [
 // second channel reads the input's last.
 pub fn fade<N: Numbers>(
     input: &[N::Sample],
-    ins: usize,
     gains: &[N::Gain],
     len: u32,
-    position: u64,
     size: usize,
+    p: FadePart,
     out: &mut [N::Sample],
-    outs: usize,
 ) -> Result<(), Refusal>
-    ensures answers { result ≡ answered (fade_fits (length input.now) ins (length gains.now) len size (length out.old) outs) (N.are_samples input.now && N.are_gains gains.now) }
-    ensures leaves { out.new ≡ left (fade_fits (length input.now) ins (length gains.now) len size (length out.old) outs) (N.are_samples input.now && N.are_gains gains.now) (block_of outs size (faded_of_by N.times N.past N.no_gain input.now ins gains.now len position size)) out.old }
+    ensures answers { result ≡ answered (fade_fits (length input.now) p.ins (length gains.now) len size (length out.old) p.outs) (N.are_samples input.now && N.are_gains gains.now) }
+    ensures leaves { out.new ≡ left (fade_fits (length input.now) p.ins (length gains.now) len size (length out.old) p.outs) (N.are_samples input.now && N.are_gains gains.now) (block_of p.outs size (faded_of_by N.times N.past N.no_gain input.now p.ins gains.now len p.position size)) out.old }
 {
     let len = len as usize;
-    if !fade_fits(input.len(), ins, gains.len(), len, size, out.len(), outs) {
+    if !fade_fits(input.len(), gains.len(), len, size, p, out.len()) {
         return Err(Refusal::LentBlock);
     }
     if !N::every_sample(input) || !N::every_gain(gains) {
         return Err(Refusal::OutOfRange);
     }
-    let ahead = &gains[len.min(position as usize)..len];
-    for c in 0..outs {
-        let from = c.min(ins - 1) * size;
+    let ahead = &gains[len.min(p.position as usize)..len];
+    for c in 0..p.outs {
+        let from = c.min(p.ins - 1) * size;
         let to = c * size;
         fade_channel::<N>(&input[from..from + size], ahead, &mut out[to..to + size]);
     }

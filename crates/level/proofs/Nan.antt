@@ -8,6 +8,8 @@ use lib.Ieee.Bits.{is_false, of_bits-to_bits, nan_bits_is, nan_bits_above}
 use lib.Ieee.Compare.{differs_from_itself, nan_differs}
 use borrow.Author.Tests.{ltb-false, le-ltb}
 
+-- crates level, codec and words depend on nothing of each other, so that each has its own laws of a NaN's bits
+
 -- the library's constant of each format
 pub nan32 : of_bits binary32 0x7fc0_0000 ≡ nan
 unfolding of_bits

@@ -1,7 +1,7 @@
 -- `sqrt` is the nearest binary64 value to the root: no other is as near, by the squares of the numbers halfway.
 use Prim.Native.Nat.{ℕ, zero, suc, ◌+◌, ◌-◌, ◌*◌, ◌/◌, ◌%◌, ◌^◌, ◌≤◌, ◌<◌}
 use native.Mathlib.Nat.{le_refl, le_trans, le_of_eq, le_of_lt, lt_of_lt_of_le, lt_of_le_of_lt, lt_of_not-le, not-le_of_lt, lt_of_mul-lt-mul_right, eq_of_mul-eq-mul_right, eq-or-lt_of_le, mul_assoc, mul_right_comm, mul-pos, mul-le-mul, mul-le-mul_left, mul-le-mul_right, mul-lt-mul_of_pos_right, zero-mul, one-mul, mul-one, add-mul, div-mul-le_self, div-add-mod', mod-lt, le-div_iff_mul-le}
-use native.Mathlib.Omega.{arith}
+use native.Mathlib.Omega.{arith, by_contra}
 use mathlib.Core.Path.{◌≡◌, refl, sym, ap, ◌∙◌, subst}
 use mathlib.Core.Logic.{◌⊎◌, inl, inr}
 use mathlib.Core.Bool.{Bool, true, false, cond, ◌&&◌}
@@ -15,7 +15,7 @@ use lib.Ieee.Exact.{HasValue, units_val}
 use lib.Ieee.Positive.{positive}
 use borrow.Author.Tests.{ltb-true, ltb-false}
 use Rattle.level.specs.Root.{whole_root, nearer, root_of, sqrt, NearestRoot}
-use Rattle.level.proofs.Pack.{or_less, pow_lt_back, units_held}
+use Rattle.level.proofs.Pack.{pow_lt_back, units_held}
 use Rattle.level.proofs.Grid.{gap}
 use Rattle.level.proofs.Squares.{even_square, square_le, scaled_square, four_pow, four_pow_pos, whole_root_lem, root_ge}
 use Rattle.level.proofs.Rooting.{At, rounded_at, halfway}
@@ -111,12 +111,9 @@ module _ (n r k : ℕ) (A : At n r k) where
 
   below_at : (t : Bool) → ltb (both * both) (4 * n) ≡ t → (b : ℕ) → Spread b → b < at t → (at t + b) * (at t + b) < 4 * n
   below_at true e b S h =
-      let l : b ≤ lower = not_above b lower (λ (g : lower < b). not-le_of_lt h (next b S g)) in
+      let l : b ≤ lower = by_contra b lower (λ (g : lower < b). not-le_of_lt h (next b S g)) in
       let m : upper + b ≤ both = let s = sum_is in omega arith in
       lt_of_le_of_lt (square_le (upper + b) both m) (ltb-true (both * both) (4 * n) e)
-    where
-      not_above : (b l : ℕ) → (l < b → ⊥) → b ≤ l
-      not_above b l h = elim (or_less b l) [ inl g ↦ g | inr g ↦ absurd (h g) ]
   below_at false e b S h =
       let m : lower + b < 2 * lower = omega arith in
       lt_of_lt_of_le (square_lt (lower + b) (2 * lower) m) (le_trans (le_of_eq (even_square lower)) (mul-le-mul_left 4 A.lo))

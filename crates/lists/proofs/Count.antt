@@ -11,6 +11,17 @@ use Rattle.std.specs.Prelude.{cond, filter}
 use Rattle.lists.specs.Count.{more, count}
 
 module _ {A : Type 0} where
+  -- a weaker test passes more
+  pub count_weaker : (q r : A → Bool) (l : List A) → ((x : A) → In x l → q x ≡ true → r x ≡ true) → count q l ≤ count r l
+  count_weaker q r [] h = omega arith
+  count_weaker q r (x ∷ l) h = go (q x) refl (r x) refl (count_weaker q r l (λ y i. h y (inr i)))
+    where
+      go : (a : Bool) → q x ≡ a → (b : Bool) → r x ≡ b → count q l ≤ count r l → more a (count q l) ≤ more b (count r l)
+      go true e true f ih = omega arith
+      go true e false f ih = absurd (false≢true (sym f ∙ h x (inl refl) e))
+      go false e true f ih = omega arith
+      go false e false f ih = ih
+
   pub count_length : (q : A → Bool) (l : List A) → count q l ≤ length l
   count_length q [] = omega arith
   count_length q (x ∷ l) = go (q x) (count_length q l)

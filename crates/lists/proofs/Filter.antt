@@ -6,21 +6,14 @@ use mathlib.Core.Logic.{inl, inr}
 use mathlib.Core.List.{List, [], ◌∷◌, ◌++◌, map}
 use mathlib.Core.Bool.{Bool, true, false, ◌&&◌}
 use lib.ListN.{length}
+use Rattle.std.proofs.lemmas.List.Elements.{filter-append}
 use Rattle.lists.specs.Member.{In}
 use Rattle.std.specs.Prelude.{cond, filter}
 
 module _ {A : Type 0} where
-  pub filter_append : (t : A → Bool) (l m : List A) → filter t (l ++ m) ≡ filter t l ++ filter t m
-  filter_append t [] m = refl
-  filter_append t (x ∷ l) m = rw (filter_append t l m) (go (t x))
-    where
-      go : (b : Bool) → cond b (x ∷ (filter t l ++ filter t m)) (filter t l ++ filter t m) ≡ cond b (x ∷ (filter t l)) (filter t l) ++ filter t m
-      go true = refl
-      go false = refl
-
   -- one row more, by whether it passes
   pub filter_snoc_on : (t : A → Bool) (l : List A) (y : A) → t y ≡ true → filter t (l ++ (y ∷ [])) ≡ filter t l ++ (y ∷ [])
-  filter_snoc_on t l y h = filter_append t l (y ∷ []) ∙ ap (λ b. filter t l ++ cond b (y ∷ []) []) h
+  filter_snoc_on t l y h = filter-append t l (y ∷ []) ∙ ap (λ b. filter t l ++ cond b (y ∷ []) []) h
 
   pub filter_snoc_off : (t : A → Bool) (l : List A) (y : A) → t y ≡ false → filter t (l ++ (y ∷ [])) ≡ filter t l
   filter_snoc_off t [] y h = rw h

@@ -1,13 +1,16 @@
 -- Laws of member.
-use Prim.Native.Nat.{ℕ}
+use Prim.Native.Nat.{ℕ, zero, suc, ◌<◌}
 use native.Mathlib.Omega.{arith}
 use mathlib.Core.Path.{◌≡◌, refl, ap}
 use mathlib.Core.Logic.{◌⊎◌, inl, inr, ⊎_elim}
 use mathlib.Core.List.{List, [], ◌∷◌, ◌++◌, map}
 use Rattle.std.specs.Prelude.{Option, None, Some, Result, Ok, Err}
-use mathlib.Core.Bool.{Bool, true, false, ◌&&◌, false≢true}
+use mathlib.Core.Bool.{Bool, true, false, not, cond, ◌&&◌, ◌||◌, false≢true}
+use lib.ListN.{length, get_or}
 use Rattle.lists.specs.Member.{In}
 
+-- `same_Some` and `none-some` of the library say the next two with the values as arguments, and here they are found: each citation would
+-- be longer by them.
 pub some_inj : {A : Type 0} {x y : A} → Some x ≡ Some y → x ≡ y
 some_inj p = cc
 
@@ -17,6 +20,10 @@ none_some {A} {x} p = let z : ◌≡◌ {A = ℕ} 0 1 = cc in omega arith
 pub ok_err : {A E : Type 0} {x : A} {e : E} → ◌≡◌ {A = Result A E} (Ok x) (Err e) → ⊥
 ok_err {A} {E} {x} {e} p = let z : ◌≡◌ {A = ℕ} 0 1 = cc in omega arith
 
+pub cond_same : {A : Type 0} (b : Bool) (x : A) → cond b x x ≡ x
+cond_same true x = refl
+cond_same false x = refl
+
 pub and_left : (a b : Bool) → (a && b) ≡ true → a ≡ true
 and_left true b h = refl
 and_left false b h = h
@@ -25,8 +32,11 @@ pub and_right : (a b : Bool) → (a && b) ≡ true → b ≡ true
 and_right true b h = h
 and_right false b h = absurd (false≢true h)
 
-pub both : (a b : Bool) → a ≡ true → b ≡ true → (a && b) ≡ true
-both a b p q = rw (p, q)
+pub neither : (a b : Bool) → (not b && not a) ≡ not (a || b)
+neither true true = refl
+neither true false = refl
+neither false true = refl
+neither false false = refl
 
 module _ {A : Type 0} where
   -- one row more
@@ -50,6 +60,12 @@ module _ {A : Type 0} where
   in_append (z ∷ l) m x (inl p) = inl (inl p)
   in_append (z ∷ l) m x (inr i) = ⊎_elim (λ j. inl (inr j)) inr (in_append l m x i)
 
+-- what stands at a place of a list of numbers
+pub at_in : (l : List ℕ) (k : ℕ) → k < length l → In (get_or l k 0) l
+at_in [] k h = absurd (omega arith)
+at_in (x ∷ l) zero h = inl refl
+at_in (x ∷ l) (suc k) h = let m : k < length l = omega arith in inr (at_in l k m)
+
 pub in_of_map : {A B : Type 0} (f : A → B) (l : List A) (x : A) → In x l → In (f x) (map f l)
 in_of_map f [] x i = i
 in_of_map f (y ∷ l) x (inl p) = inl (ap f p)
@@ -59,10 +75,6 @@ pub in_map : {A B : Type 0} (f : A → B) (l : List A) (y : B) → In y (map f l
 in_map f [] y i = absurd i
 in_map f (x ∷ l) y (inl p) = (x, inl refl, p)
 in_map f (x ∷ l) y (inr i) = let r = in_map f l y i in (r.0, inr r.1, r.2)
-
-pub map_append : {A B : Type 0} (f : A → B) (l m : List A) → map f (l ++ m) ≡ map f l ++ map f m
-map_append f [] m = refl
-map_append f (x ∷ l) m = ap (λ z. f x ∷ z) (map_append f l m)
 
 pub map_swap : {A B : Type 0} (f : A → B) (g : B → B) (h : A → A) → ((x : A) → g (f x) ≡ f (h x)) → (l : List A) → map g (map f l) ≡ map f (map h l)
 map_swap f g h e [] = refl

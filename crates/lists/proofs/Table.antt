@@ -1,52 +1,25 @@
 -- Laws of table.
-use Prim.Native.Nat.{ℕ, suc, ◌+◌, ◌-◌, ◌≤◌, ◌<◌}
+use Prim.Native.Nat.{ℕ, ◌+◌, ◌≤◌, ◌<◌}
 use native.Mathlib.Omega.{arith}
-use native.Mathlib.Numerals.{add-one}
 use mathlib.Core.Path.{◌≡◌, refl, sym, ap, ◌∙◌}
 use mathlib.Core.List.{List, [], ◌∷◌, ◌++◌, map}
 use mathlib.Core.Bool.{Bool, true, false, ◌||◌, cond}
 use Rattle.std.specs.Prelude.{None, Some, find, filter, option_map}
 use Rattle.std.specs.List.{list_any}
 use Rattle.std.specs.Option.{unwrap_or}
-use lib.ListN.{length, take, drop, get_or, set, replicate, drop_of_length-le}
-use lib.Seq.{take-suc, drop-cons, get_or-take, take-suc-set, length-take-le, set_at, append_snoc}
+use lib.ListN.{length, take, drop, get_or, set, drop_of_length-le}
+use lib.Seq.{get_or-take, length-take-le}
+use Rattle.std.proofs.lemmas.List.{drop_more, take_more, take_more_set}
 use Rattle.lists.specs.Table.{lookup}
 use Rattle.lists.proofs.Filter.{filter_snoc_on, filter_snoc_off}
 
 module _ {A : Type 0} (d : A) where
   -- what is left, row by row
-  pub left_cons : (l : List A) (i : ℕ) → i < length l → drop i l ≡ get_or l i d ∷ drop (i + 1) l
-  left_cons l i h = drop-cons l i d h ∙ ap (λ n. get_or l i d ∷ drop n l) (sym (add-one i))
-
   pub left_row : (rows : List A) (k i : ℕ) → i < k → k ≤ length rows → drop i (take k rows) ≡ get_or rows i d ∷ drop (i + 1) (take k rows)
   left_row rows k i h t =
       let long : length (take k rows) ≡ k = length-take-le k rows t in
       let below : i < length (take k rows) = omega arith in
-      left_cons (take k rows) i below ∙ ap (λ x. x ∷ drop (i + 1) (take k rows)) (get_or-take k rows i d h)
-
-  -- nothing is left at the end
-  pub left_none : (l : List A) → drop (length l) l ≡ []
-  left_none [] = refl
-  left_none (x ∷ l) = left_none l
-
-  -- what was passed, row by row
-  pub passed_row : (rows : List A) (i : ℕ) → i < length rows → take (i + 1) rows ≡ take i rows ++ (get_or rows i d ∷ [])
-  passed_row rows i h = ap (λ n. take n rows) (add-one i) ∙ take-suc rows i d h
-
-  -- an array that starts as one value, filled from the front: one row more
-  pub filled_more : (s : List A) (n i : ℕ) → i < length s → i < n → set (take i s ++ replicate (n - i) d) i (get_or s i d) ≡ take (i + 1) s ++ replicate (n - (i + 1)) d
-  filled_more s n i h k =
-      let front : length (take i s) ≡ i = length-take-le i s (omega arith) in
-      let split : n - i ≡ suc (n - (i + 1)) = omega arith in
-      ap (λ m. set (take i s ++ replicate m d) i (get_or s i d)) split
-      ∙ set_at (take i s) d (replicate (n - (i + 1)) d) (get_or s i d) i front
-      ∙ sym (append_snoc (take i s) (get_or s i d) (replicate (n - (i + 1)) d))
-      ∙ ap (λ z. z ++ replicate (n - (i + 1)) d) (sym (passed_row s i h))
-
-module _ {A : Type 0} where
-  -- a row stored at the count, and one more
-  pub append_row : (rows : List A) (k : ℕ) (x : A) → k < length rows → take (k + 1) (set rows k x) ≡ take k rows ++ (x ∷ [])
-  append_row rows k x h = ap (λ n. take n (set rows k x)) (add-one k) ∙ take-suc-set rows k x h
+      drop_more (take k rows) i d below ∙ ap (λ x. x ∷ drop (i + 1) (take k rows)) (get_or-take k rows i d h)
 
 -- Removal that closes the gap, in place: a loop reads row i of the old rows, and stores it at the next place w of the new
 -- ones if it passes. What the first w new rows hold is what passes of the first i old ones.
@@ -54,22 +27,24 @@ module _ {A : Type 0} (d : A) (t : A → Bool) where
   pub filter_row : (old new : List A) (i w : ℕ) → i < length old → w < length new → take w new ≡ filter t (take i old) → t (get_or old i d) ≡ true
       → take (w + 1) (set new w (get_or old i d)) ≡ filter t (take (i + 1) old)
   filter_row old new i w h k e p =
-      append_row new w (get_or old i d) k
+      take_more_set new w (get_or old i d) k
       ∙ ap (λ z. z ++ (get_or old i d ∷ [])) e
       ∙ sym (filter_snoc_on t (take i old) (get_or old i d) p)
-      ∙ ap (filter t) (sym (passed_row d old i h))
+      ∙ ap (filter t) (sym (take_more old i d h))
 
   pub drop_row : (old new : List A) (i w : ℕ) → i < length old → take w new ≡ filter t (take i old) → t (get_or old i d) ≡ false
       → take w new ≡ filter t (take (i + 1) old)
   drop_row old new i w h e p =
-      e ∙ sym (filter_snoc_off t (take i old) (get_or old i d) p) ∙ ap (filter t) (sym (passed_row d old i h))
+      e ∙ sym (filter_snoc_off t (take i old) (get_or old i d) p) ∙ ap (filter t) (sym (take_more old i d h))
 
 module _ {A R : Type 0} (d : A) (t : A → Bool) (f : A → R) (r : R) where
+  -- No proof cites the next two: they say row by row what a walk of the table finds, as the table of promises in docs/TRACE.md states it,
+  -- while the searches of the code cite `lookup_any` and `lookup_find`.
   pub lookup_hit : (l : List A) (i : ℕ) → i < length l → t (get_or l i d) ≡ true → lookup t f r (drop i l) ≡ f (get_or l i d)
-  lookup_hit l i h p = ap (lookup t f r) (left_cons d l i h) ∙ rw p
+  lookup_hit l i h p = ap (lookup t f r) (drop_more l i d h) ∙ rw p
 
   pub lookup_next : (l : List A) (i : ℕ) → i < length l → t (get_or l i d) ≡ false → lookup t f r (drop (i + 1) l) ≡ lookup t f r (drop i l)
-  lookup_next l i h p = sym (ap (lookup t f r) (left_cons d l i h) ∙ rw p)
+  lookup_next l i h p = sym (ap (lookup t f r) (drop_more l i d h) ∙ rw p)
 
 -- A lookup is a search: what `find` gives, read, or r; and whether a row passes is what the library's test of a list says.
 module _ {A R : Type 0} (t : A → Bool) (f : A → R) (r : R) where

@@ -5,7 +5,7 @@ use Prim.Native.Nat.{ℕ, zero, suc, ◌+◌, ◌-◌, ◌*◌, ◌%◌, ◌≤�
 use native.Mathlib.Nat.{suc-mul}
 use native.Mathlib.Omega.{arith}
 use mathlib.Core.Path.{◌≡◌, refl, sym, ap, ◌∙◌, subst}
-use mathlib.Core.Bool.{Bool, true, false, ◌&&◌}
+use mathlib.Core.Bool.{Bool, ◌&&◌, and_assoc, and-true}
 use mathlib.Core.List.{List, [], ◌∷◌}
 use lib.Bits.{bit_or}
 use lib.Dec.{ltb}
@@ -17,7 +17,7 @@ use Rattle.bus.proofs.Blocks.{length_each, each_at, each_is, each_same, part_at}
 use Rattle.whole_bus.specs.Sample.{is_sample}
 use Rattle.whole_bus.specs.Block.{every}
 use Rattle.whole_bus.specs.Raised.{above_lowest, raised_sum, Added, AddedTwo, AddedAll}
-use Rattle.whole_bus.proofs.Ranges.{and_true, either}
+use Rattle.whole_bus.proofs.Ranges.{either}
 
 -- ---- sums modulo 2^32
 
@@ -26,15 +26,11 @@ wrap_then s x y = omega arith
 
 -- ---- a list in two parts
 
-together : (a b c : Bool) → (a && b) && c ≡ a && (b && c)
-together true b c = refl
-together false b c = refl
-
 every_parts : {A : Type 0} (f : A → Bool) (n : ℕ) (xs : List A) → every f xs ≡ every f (take n xs) && every f (drop n xs)
 unfolding every
 every_parts f zero xs = refl
 every_parts f (suc n) [] = refl
-every_parts f (suc n) (x ∷ xs) = ap (λ (b : Bool). f x && b) (every_parts f n xs) ∙ sym (together (f x) (every f (take n xs)) (every f (drop n xs)))
+every_parts f (suc n) (x ∷ xs) = ap (λ (b : Bool). f x && b) (every_parts f n xs) ∙ sym (and_assoc (f x) (every f (take n xs)) (every f (drop n xs)))
 
 -- ---- the blocks, one by one
 
@@ -97,7 +93,7 @@ module _ (inputs : List ℤ) (n : ℕ) (before : List ℕ) where
               ∙ wrap_then (get_or sums i 0) x rest
               ∙ grouped (get_or sums i 0) x rest (raised_sum left size (drop at inputs) i) next
               ∙ q.adds i l;
-          told = together ok (every is_sample block) (every is_sample (drop (at + size) inputs)) ∙ ap (λ (b : Bool). ok && b) (sym whole) ∙ q.told;
+          told = and_assoc ok (every is_sample block) (every is_sample (drop (at + size) inputs)) ∙ ap (λ (b : Bool). ok && b) (sym whole) ∙ q.told;
         }
       where
         grouped : (s x r t : ℕ) → t ≡ x + r → (s + x + r) % 4294967296 ≡ (s + t) % 4294967296
@@ -136,7 +132,7 @@ module _ (inputs : List ℤ) (n : ℕ) (before : List ℕ) where
         let two : left - 1 - 1 ≡ left - 2 = omega arith in
         subst (λ (m : ℕ). Porting inputs n before after (ltb (bit_or bits more) 16777216) (at + length before + length before) m) two
         (subst (λ (b : Bool). Porting inputs n before after b (at + length before + length before) (left - 1 - 1))
-        (together ok (every is_sample a) (every is_sample b) ∙ sym (either bits more ∙ ap (λ (b : Bool). ok && b) w.tells))
+        (and_assoc ok (every is_sample a) (every is_sample b) ∙ sym (either bits more ∙ ap (λ (b : Bool). ok && b) w.tells))
         (port_next mid (ok && every is_sample a) (at + length before) (left - 1) first after k h₂ ek second))
 
     pub port_all : left ≡ 0 → ((j : ℕ) → get_or sums j 0 < 4294967296) → AddedAll inputs n before sums bits
@@ -144,7 +140,7 @@ module _ (inputs : List ℤ) (n : ℕ) (before : List ℕ) where
     port_all none small =
         record {
           sums = each_is (length before) _ 0 sums q.long (λ j h. is j (small j) ∙ sym (ap (λ (m : ℕ). (get_or sums j 0 + raised_sum m (length before) (drop at inputs) j) % 4294967296) none) ∙ q.adds j h);
-          tells = and_true (ltb bits 16777216) ∙ ap (λ (l : List ℤ). ltb bits 16777216 && every is_sample l) (sym (drop_of_length-le inputs past)) ∙ q.told;
+          tells = sym (and-true (ltb bits 16777216)) ∙ ap (λ (l : List ℤ). ltb bits 16777216 && every is_sample l) (sym (drop_of_length-le inputs past)) ∙ q.told;
         }
       where
         is : (j : ℕ) → get_or sums j 0 < 4294967296 → get_or sums j 0 ≡ (get_or sums j 0 + 0) % 4294967296

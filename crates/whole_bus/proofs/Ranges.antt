@@ -7,7 +7,7 @@ use Prim.Native.Nat.{ℕ, zero, suc, ◌+◌, ◌-◌, ◌/◌, ◌%◌, ◌^◌
 use native.Mathlib.Numerals.{add-one}
 use native.Mathlib.Omega.{arith}
 use mathlib.Core.Path.{◌≡◌, refl, sym, ap, ◌∙◌}
-use mathlib.Core.Bool.{Bool, true, false, ◌&&◌}
+use mathlib.Core.Bool.{Bool, true, false, ◌&&◌, and_assoc, and-true}
 use mathlib.Core.List.{List, [], ◌∷◌}
 use Rattle.std.specs.List.{list_all}
 use lib.Bits.{bit_or, or_lt, or_add_and, and_le_l, and_le_r}
@@ -32,10 +32,6 @@ agree a b c d under over = go (leb c d) refl
     go : (t : Bool) → leb c d ≡ t → ltb a b ≡ t
     go true e = lt-ltb a b (under (leb-true c d e))
     go false e = le-ltb a b (over (leb-false c d e))
-
-pub and_true : (b : Bool) → b ≡ b && true
-and_true true = refl
-and_true false = refl
 
 -- ---- a gain
 
@@ -64,7 +60,7 @@ module _ (x : ℤ) (f : SFits w32 x) where
     where
       by_sign : (x : ℤ) → mag x < 2 ^ 31 → ltb (above_lowest x) 16777216 ≡ is_sample x
       by_sign (pos a) w = agree ((a + 8388608) % 4294967296) 16777216 a 8388607 (λ l. omega arith) (λ l. omega arith)
-      by_sign (negsuc a) w = agree ((4303355904 - suc a) % 4294967296) 16777216 a 8388607 (λ l. omega arith) (λ l. omega arith) ∙ and_true (leb a 8388607)
+      by_sign (negsuc a) w = agree ((4303355904 - suc a) % 4294967296) 16777216 a 8388607 (λ l. omega arith) (λ l. omega arith) ∙ sym (and-true (leb a 8388607))
 
 -- ---- all of them
 
@@ -125,14 +121,10 @@ module _ {A : Type 0} (f : A → Bool) (xs : List A) where
         within = omega arith;
         tells =
             ap (λ (b : Bool). b && every f (drop (i + 1) xs)) (either bits r ∙ ap (λ (b : Bool). ltb bits 16777216 && b) e)
-            ∙ together (ltb bits 16777216) (f (get_or xs i d)) (every f (drop (i + 1) xs))
+            ∙ and_assoc (ltb bits 16777216) (f (get_or xs i d)) (every f (drop (i + 1) xs))
             ∙ ap (λ (b : Bool). ltb bits 16777216 && b) (sym (every_next f xs i d h))
             ∙ q.tells;
       }
-    where
-      together : (a b c : Bool) → (a && b) && c ≡ a && (b && c)
-      together true b c = refl
-      together false b c = refl
 
   pub collect_all : (bits i : ℕ) → Collected f xs bits i → length xs ≤ i → ltb bits 16777216 ≡ every f xs
-  collect_all bits i q h = and_true (ltb bits 16777216) ∙ ap (λ (b : Bool). ltb bits 16777216 && b) (sym (every_none f xs i h)) ∙ q.tells
+  collect_all bits i q h = sym (and-true (ltb bits 16777216)) ∙ ap (λ (b : Bool). ltb bits 16777216 && b) (sym (every_none f xs i h)) ∙ q.tells

@@ -11,7 +11,7 @@ ghost use Rattle.whole_bus.specs.Block.{every, answer_of, fade_refusal, fade_out
 ghost use Rattle.whole_bus.proofs.Ranges.{every_at};
 
 use bus::mix::{Numbers, fade, sum};
-use bus::sum_fits;
+use bus::{FadePart, sum_fits};
 use node::refusal::Refusal;
 
 // Whole numbers: a product is the nearest whole number to the exact one. Sums wrap, and are exact where at most 64 samples are added up.
@@ -99,22 +99,19 @@ fn all_low<A: Copy, F: Fn(A) -> u32>(xs: &[A], low: F) -> bool
 
 // The form in whole numbers of `mix::fade`: its clauses are the scope's, which name no sort of numbers. `bus_sum` tests and adds in one pass where it can.
 //
-// A fade's output for one block of size samples: ins and outs are the channel counts of input and output, len is the fade's length L, and position is what
-// its earlier blocks have passed. The gains are those of samples 0 to L - 1, from 0 to 2^24.
+// A fade's output for one block of size samples, where len is the fade's length L. The gains are those of samples 0 to L - 1, from 0 to 2^24.
 pub fn fade_output(
     input: &[i32],
-    ins: usize,
     gains: &[u32],
     len: u32,
-    position: u64,
     size: usize,
+    p: FadePart,
     out: &mut [i32],
-    outs: usize,
 ) -> Result<(), Refusal>
-    ensures answers { result ≡ answer_of (fade_refusal input.now ins gains.now len size (length out.old) outs) }
-    ensures leaves { out.new ≡ fade_output input.now ins gains.now len position size out.old outs }
+    ensures answers { result ≡ answer_of (fade_refusal input.now p.ins gains.now len size (length out.old) p.outs) }
+    ensures leaves { out.new ≡ fade_output input.now p.ins gains.now len p.position size out.old p.outs }
 {
-    fade::<Wholes>(input, ins, gains, len, position, size, out, outs)
+    fade::<Wholes>(input, gains, len, size, p, out)
 }
 
 fn clip(x: i32) -> i32
@@ -131,8 +128,8 @@ fn clip_all(out: &mut [i32])
     }
 }
 
-// The loops over two slices take both by one index, and so ask that both have as many samples: of what a loop over `zip` wrote nothing is known
-// (tried in `add_channel` of crate bus).
+// The loops over two slices take both by one index, and so ask that both have as many samples, and so does what calls them. `iter_mut().zip(a)` would not
+// (tried in each of the three: `returns` stays open, since after such a loop nothing is known of what it wrote).
 
 // A block is added to sums of raised samples, and the bits of its samples are collected. One pass does both, so that each sample is read once. The sums wrap, and
 // mean something only where all are samples.
@@ -167,7 +164,7 @@ fn add_two(a: &[i32], b: &[i32], sums: &mut [u32]) -> u32
     first | second
 }
 
-// n blocks, which stand one after the other, here and in the two functions that call this: a number and not a length, since a block may have no
+// n blocks, which stand one after the other, here, in `sum_through` and in `sum_even`: a number and not a length, since a block may have no
 // samples. sums are 0 before. Two blocks go at a time, and the last alone; the inputs are not cut by `chunks_exact`, which takes no blocks of no samples.
 fn add_ports(inputs: &[i32], n: usize, sums: &mut [u32]) -> u32
     requires { (length inputs.now ≡ n * length sums.old) × ((j : ℕ) → slice_index sums.old j ≡ 0) }

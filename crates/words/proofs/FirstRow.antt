@@ -1,12 +1,12 @@
 -- A search over the numbers of the rows is a search of the rows: what `find` over a range says, said of the first row that passes.
-use Prim.Native.Nat.{ℕ, suc, ◌+◌, ◌/◌, ◌≤◌, ◌<◌, min}
+use Prim.Native.Nat.{ℕ, zero, suc, ◌+◌, ◌/◌, ◌≤◌, ◌<◌, min}
 use native.Mathlib.Omega.{arith}
 use mathlib.Core.Path.{◌≡◌, refl, sym, ap, ◌∙◌}
-use mathlib.Core.List.{List, []}
+use mathlib.Core.List.{List, [], ◌∷◌, map}
 use mathlib.Core.Bool.{Bool, true, false, cond}
 use denote.Ref.{Bor}
 use lib.Dec.{ltb}
-use lib.ListN.{length, take, get_or}
+use lib.ListN.{length, take, get_or, length-map}
 use lib.Seq.{get_or-take}
 use borrow.Author.Tests.{ltb-true, ltb-false, lt-ltb, le-ltb}
 use Rattle.std.specs.declared.ops.Range.{Range}
@@ -17,11 +17,13 @@ use Rattle.std.proofs.iter.Yields.{nat_range_steps}
 use Rattle.std.specs.Prelude.{⊤, Option, None, Some, MatchOption, find, position, option_map, is_some}
 use Rattle.std.specs.List.{position_or_len}
 use Rattle.std.proofs.lemmas.Iterator.{first_from_Range}
+use Rattle.std.proofs.lemmas.List.{take-map}
 use Rattle.std.proofs.lemmas.List.Sums.{position_or_len_is}
 use Rattle.std.proofs.lemmas.List.Recursion.{is_position_or_len}
 use Rattle.lists.proofs.Member.{some_inj, none_some}
-use Rattle.words.specs.Rows.{rows}
-use Rattle.words.specs.Place.{place_of}
+use Rattle.words.specs.Rows.{rows, cuts}
+use Rattle.words.specs.Place.{place_of, Tells}
+use Rattle.words.proofs.Rows.{row_is, rows_cuts}
 use Rattle.words.proofs.Place.{counted, place_found, place_lost, found_in}
 
 -- the place of the first that passes, as `place_of` has it
@@ -71,10 +73,6 @@ module _ {A : Type 0} (w : ℕ) (of : List ℕ → A) (q : A → Bool) (c : List
       → IsFirst r
   is_first u f r ran on off = first_from_Range (record { start = 0; end = n }) u f r (λ i. q (row i) ≡ true) (λ i. q (row i) ≡ false) ran on off
 
-  pub below : (r : Option ℕ) → IsFirst r → (i : ℕ) → r ≡ Some i → i < n
-  below None h i p = absurd (none_some p)
-  below (Some j) h i p = let same : j ≡ i = some_inj p in omega (arith, h.1)
-
   -- of the rows that a count stands for it is the first
   module _ (count : ℕ) (e : n ≡ min count (length c / w)) where
     abbrev l : List A
@@ -95,9 +93,34 @@ module _ {A : Type 0} (w : ℕ) (of : List ℕ → A) (q : A → Bool) (c : List
         let more = h.1 in
         placed i true (position_or_len_is q l i (of []) (omega (arith, long, more)) (λ k m. ap q (read k (omega (arith, more, m))) ∙ h.3 k (omega arith) m) (λ m. ap q (read i more) ∙ h.2)) (lt-ltb i (length l) (omega (arith, long, more)))
 
-    -- the row itself
-    pub first_row : (r : Option ℕ) → IsFirst r → option_map row r ≡ find q (take count (rows w of c))
-    first_row None h = sym (none_placed q l (sym (first_place None h)))
-    first_row (Some i) h =
-        let at = at_place q l i (sym (first_place (Some i) h)) in
-        sym (found_in w of q c count i (length l) at.0 refl at.1)
+-- what is said of the words of rows is said of what they stand for
+module _ {A : Type 0} (q : A → Bool) (of : List ℕ → A) where
+  place_map : (l : List (List ℕ)) → place_of q (map of l) ≡ place_of (λ ws. q (of ws)) l
+  unfolding place_of
+  place_map [] = refl
+  place_map (ws ∷ l) = ap (λ k. cond (q (of ws)) zero (suc k)) (place_map l)
+
+  position_map : (l : List (List ℕ)) → position q (map of l) ≡ position (λ ws. q (of ws)) l
+  position_map l =
+      let p : List ℕ → Bool = λ ws. q (of ws) in
+      let same : position_or_len q (map of l) ≡ position_or_len p l = sym (same_place q (map of l)) ∙ place_map l ∙ same_place p l in
+      ap (λ k. cond (ltb k (length (map of l))) (Some k) None) same ∙ ap (λ n. cond (ltb (position_or_len p l) n) (Some (position_or_len p l)) None) (length-map l of)
+
+module _ {A : Type 0} (w : ℕ) (of : List ℕ → A) (q : A → Bool) (c : List ℕ) (count : ℕ) (r : Option ℕ) where
+  pub first_of : (post : Bor (List ℕ) → ℕ → Bool → Type 0)
+      → ((p : List ℕ → Bool) → Tells w post p → r ≡ position p (take count (cuts w c)))
+      → ((t : Bor (List ℕ)) (i : ℕ) (b : Bool) → post t i b → b ≡ q (get_or (rows w of t.now) i (of [])))
+      → r ≡ position q (take count (rows w of c))
+  first_of post first tells =
+      let words = take count (cuts w c) in
+      let typed : map of words ≡ take count (rows w of c) = sym (ap (take count) (rows_cuts w of c) ∙ take-map of count (cuts w c)) in
+      first (λ ws. q (of ws)) (λ t i b h. tells t i b h ∙ ap q (row_is w of t.now i)) ∙ sym (position_map q of words) ∙ ap (position q) typed
+
+-- the row itself
+pub row_found : {A : Type 0} (w : ℕ) (of : List ℕ → A) (q : A → Bool) (c : List ℕ) (count : ℕ) (r : Option ℕ) → r ≡ position q (take count (rows w of c))
+    → option_map (λ i. get_or (rows w of c) i (of [])) r ≡ find q (take count (rows w of c))
+row_found w of q c count None e = sym (none_placed q (take count (rows w of c)) (sym e))
+row_found w of q c count (Some i) e =
+    let l = take count (rows w of c) in
+    let at = at_place q l i (sym e) in
+    sym (found_in w of q c count i (length l) at.0 refl at.1)

@@ -1,14 +1,13 @@
 -- The loop that closes gaps, and what its clause says of the rows that the words stand for.
-use Prim.Native.Nat.{ℕ, zero, suc, ◌/◌, ◌≤◌, ◌<◌, min}
+use Prim.Native.Nat.{ℕ, zero, suc, ◌/◌, ◌≤◌, min}
 use native.Mathlib.Omega.{arith}
-use native.Mathlib.Nat.{div-zero}
 use mathlib.Core.Path.{◌≡◌, refl, sym, ap, ◌∙◌}
 use mathlib.Core.List.{List, [], ◌∷◌, map}
 use mathlib.Core.Bool.{Bool, true, false, false≢true, not, cond, ◌&&◌}
 use denote.Ref.{Bor}
 use lib.ListN.{length, take, get_or, length-map}
 use lib.Seq.{take_all, take-take}
-use Rattle.std.specs.Prelude.{Option, None, Some, SomeIff, filter, position, unwrap_or}
+use Rattle.std.specs.Prelude.{Option, None, Some, filter, position, unwrap_or}
 use Rattle.std.specs.List.{list_all}
 use Rattle.std.proofs.lemmas.List.{take_min, take-map}
 use Rattle.std.proofs.lemmas.List.Folds.{list_all-map}
@@ -19,15 +18,6 @@ use Rattle.words.proofs.Rows.{row_is, rows_cuts}
 use Rattle.words.proofs.Place.{counted}
 use Rattle.words.proofs.InWords.{ClosingIn}
 use Rattle.words.proofs.FirstRow.{at_place, no_place}
-
--- how many rows of w words a count stands for
-pub room_is : (w len count n u : ℕ) (r : Option ℕ) → n ≡ min count u → u ≡ unwrap_or r 0 → SomeIff r (0 < w) (len / w) → n ≡ min count (len / w)
-room_is w len count n u r e f h = e ∙ ap (min count) (f ∙ go w r h)
-  where
-    go : (w : ℕ) (r : Option ℕ) → SomeIff r (0 < w) (len / w) → unwrap_or r 0 ≡ len / w
-    go zero None h = sym (div-zero len)
-    go (suc w) None h = absurd (h (omega arith))
-    go w (Some x) h = h.1
 
 module _ {A : Type 0} (q : A → Bool) where
   -- where all pass, all are left

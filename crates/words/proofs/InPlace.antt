@@ -1,7 +1,7 @@
 -- Loops that change a list of rows in place: closing gaps, changing each row, making room for one more. Each has an invariant
 -- of the list as it was, `old`, and as it is, `new`, and a law for each way through the loop's body; `d` is what `get_or` gives
 -- past the end, and plays no part.
-use Prim.Native.Nat.{ℕ, zero, suc, ◌+◌, ◌≤◌, ◌<◌}
+use Prim.Native.Nat.{ℕ, suc, ◌+◌, ◌≤◌, ◌<◌}
 use native.Mathlib.Omega.{arith}
 use native.Mathlib.Nat.{add-zero}
 use native.Mathlib.Numerals.{add-one}
@@ -9,19 +9,17 @@ use mathlib.Core.Path.{◌≡◌, refl, sym, ap, ◌∙◌}
 use mathlib.Core.List.{List, [], ◌∷◌, ◌++◌, map}
 use mathlib.Core.Bool.{Bool, true, false}
 use lib.ListN.{length, take, drop, get_or, set, length-set, length-map, length-take, drop_of_length-le}
-use lib.Seq.{get_or-drop, get_or-take, take-take, take-set-le, drop-set-lt, take-set-lt, get_or-set_same, lt-length-set, set_split, drop-drop}
-use Rattle.lists.proofs.Member.{map_append}
+use lib.Seq.{get_or-drop, get_or-take, take-take, take-set-le, drop-set-lt, take-set-lt, get_or-set_same, lt-length-set, set_split}
 use Rattle.std.specs.Prelude.{filter}
+use Rattle.std.proofs.lemmas.List.{map-append, take-map, drop-map, drop_more, take_more_set, take_more}
+use Rattle.std.proofs.lemmas.Grind.{drop_more_same}
 use Rattle.lists.proofs.Filter.{filter_snoc_on, filter_snoc_off}
-use Rattle.lists.proofs.Table.{left_cons, left_row, passed_row, append_row, filter_row, drop_row}
+use Rattle.lists.proofs.Table.{left_row, filter_row, drop_row}
 
 -- what is left at i is known: so is the row at i
-left_same : {A : Type 0} (d : A) (old new : List A) (i : ℕ) → drop i new ≡ drop i old → get_or new i d ≡ get_or old i d
+pub left_same : {A : Type 0} (d : A) (old new : List A) (i : ℕ) → drop i new ≡ drop i old → get_or new i d ≡ get_or old i d
 left_same d old new i e =
     ap (λ k. get_or new k d) (sym (add-zero i)) ∙ sym (get_or-drop i new 0 d) ∙ ap (λ l. get_or l 0 d) e ∙ get_or-drop i old 0 d ∙ ap (λ k. get_or old k d) (add-zero i)
-
-left_more : {A : Type 0} (old new : List A) (i : ℕ) → drop i new ≡ drop i old → drop (i + 1) new ≡ drop (i + 1) old
-left_more old new i e = sym (drop-drop 1 i new) ∙ ap (drop 1) e ∙ drop-drop 1 i old
 
 -- ---- closing gaps: the loop reads row i, and stores it at the next place w if it passes
 
@@ -45,7 +43,7 @@ module _ {A : Type 0} (d : A) (t : A → Bool) where
           low = omega (arith, inv.low);
           long = length-set new w (get_or new i d) ∙ inv.long;
           front = rw same (filter_row d t old new i w h room inv.front (sym (ap t same) ∙ p));
-          left = drop-set-lt (i + 1) new w (get_or new i d) (omega (arith, inv.low)) ∙ left_more old new i inv.left;
+          left = drop-set-lt (i + 1) new w (get_or new i d) (omega (arith, inv.low)) ∙ drop_more_same new old i inv.left;
         }
 
     pub closing_drop : t (get_or new i d) ≡ false → Closing t old new (i + 1) w
@@ -55,7 +53,7 @@ module _ {A : Type 0} (d : A) (t : A → Bool) where
           low = omega (arith, inv.low);
           long = inv.long;
           front = drop_row d t old new i w h inv.front (sym (ap t same) ∙ p);
-          left = left_more old new i inv.left;
+          left = drop_more_same new old i inv.left;
         }
 
 -- ---- gathering: what f says of each row that passes is stored at the next place k of another list, of m places
@@ -75,10 +73,10 @@ module _ {A B : Type 0} (d : A) (t : A → Bool) (f : A → B) (m : ℕ) (rows :
           low = omega (arith, inv.low);
           long = length-set out k (f x) ∙ inv.long;
           front =
-              append_row out k (f x) inside
+              take_more_set out k (f x) inside
               ∙ ap (λ l. l ++ (f x ∷ [])) inv.front
-              ∙ sym (map_append f (filter t (take i rows)) (x ∷ []))
-              ∙ ap (map f) (sym (filter_snoc_on t (take i rows) x p) ∙ ap (filter t) (sym (passed_row d rows i h)));
+              ∙ sym (map-append f (filter t (take i rows)) (x ∷ []))
+              ∙ ap (map f) (sym (filter_snoc_on t (take i rows) x p) ∙ ap (filter t) (sym (take_more rows i d h)));
         }
 
     pub gathering_pass : t (get_or rows i d) ≡ false → Gathering t f m rows out (i + 1) k
@@ -86,7 +84,7 @@ module _ {A B : Type 0} (d : A) (t : A → Bool) (f : A → B) (m : ℕ) (rows :
         record {
           low = omega (arith, inv.low);
           long = inv.long;
-          front = inv.front ∙ ap (map f) (sym (filter_snoc_off t (take i rows) (get_or rows i d) p) ∙ ap (filter t) (sym (passed_row d rows i h)));
+          front = inv.front ∙ ap (map f) (sym (filter_snoc_off t (take i rows) (get_or rows i d) p) ∙ ap (filter t) (sym (take_more rows i d h)));
         }
 
 -- ---- changing each row: the first i of the first n rows are changed
@@ -104,11 +102,11 @@ module _ {A : Type 0} (d : A) (f : A → A) where
       record {
         long = length-set new i (f (get_or new i d)) ∙ inv.long;
         front =
-            append_row new i (f (get_or new i d)) room
+            take_more_set new i (f (get_or new i d)) room
             ∙ ap (λ l. l ++ (f (get_or new i d) ∷ [])) inv.front
             ∙ ap (λ x. map f (take i old) ++ (f x ∷ [])) same
-            ∙ sym (ap (map f) (passed_row d old i h) ∙ map_append f (take i old) (get_or old i d ∷ []));
-        left = drop-set-lt (i + 1) new i (f (get_or new i d)) (omega arith) ∙ left_more old new i inv.left;
+            ∙ sym (ap (map f) (take_more old i d h) ∙ map-append f (take i old) (get_or old i d ∷ []));
+        left = drop-set-lt (i + 1) new i (f (get_or new i d)) (omega arith) ∙ drop_more_same new old i inv.left;
       }
 
 -- ---- making room at place p among the first n rows: the loop stores row j - 1 at j, from j = n down to p
@@ -145,7 +143,7 @@ module _ {A : Type 0} (d : A) where
           front = take-set-le j new (j + 1) x (omega arith) ∙ sym (take-take j (j + 1) new (omega arith)) ∙ ap (take j) inv.front ∙ take-take j (j + 1) old (omega arith);
           back =
               ap (drop (j + 1)) (take-set-lt (n + 1) new (j + 1) x top)
-              ∙ left_cons d (set (take (n + 1) new) (j + 1) x) (j + 1) (lt-length-set (take (n + 1) new) (j + 1) x room)
+              ∙ drop_more (set (take (n + 1) new) (j + 1) x) (j + 1) d (lt-length-set (take (n + 1) new) (j + 1) x room)
               ∙ ap (λ y. y ∷ drop (j + 1 + 1) (set (take (n + 1) new) (j + 1) x)) (get_or-set_same (take (n + 1) new) (j + 1) x d room ∙ same)
               ∙ ap (λ l. get_or old j d ∷ l) (drop-set-lt (j + 1 + 1) (take (n + 1) new) (j + 1) x (omega arith) ∙ inv.back)
               ∙ sym (left_row d old n j (omega (arith, inv.high)) (omega arith));
@@ -162,24 +160,14 @@ module _ {A : Type 0} (d : A) where
 
 -- the same of what the rows stand for
 module _ {A B : Type 0} (f : A → B) where
-  map_take : (n : ℕ) (l : List A) → take n (map f l) ≡ map f (take n l)
-  map_take zero l = refl
-  map_take (suc n) [] = refl
-  map_take (suc n) (x ∷ l) = ap (λ r. f x ∷ r) (map_take n l)
-
-  map_drop : (n : ℕ) (l : List A) → drop n (map f l) ≡ map f (drop n l)
-  map_drop zero l = refl
-  map_drop (suc n) [] = refl
-  map_drop (suc n) (x ∷ l) = map_drop n l
-
   pub opening_map : (old new : List A) (n j : ℕ) → Opening old new n j → Opening (map f old) (map f new) n j
   opening_map old new n j inv =
       record {
         high = inv.high;
         long = length-map new f ∙ inv.long ∙ sym (length-map old f);
-        front = map_take j new ∙ ap (map f) inv.front ∙ sym (map_take j old);
+        front = take-map f j new ∙ ap (map f) inv.front ∙ sym (take-map f j old);
         back =
-            ap (drop (j + 1)) (map_take (n + 1) new) ∙ map_drop (j + 1) (take (n + 1) new)
+            ap (drop (j + 1)) (take-map f (n + 1) new) ∙ drop-map f (j + 1) (take (n + 1) new)
             ∙ ap (map f) inv.back
-            ∙ sym (ap (drop j) (map_take n old) ∙ map_drop j (take n old));
+            ∙ sym (ap (drop j) (take-map f n old) ∙ drop-map f j (take n old));
       }

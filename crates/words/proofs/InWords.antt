@@ -5,15 +5,16 @@ use native.Mathlib.Nat.{add-zero, add-suc}
 use native.Mathlib.Numerals.{add-one}
 use mathlib.Core.Path.{◌≡◌, refl, sym, ap, ◌∙◌, subst}
 use mathlib.Core.List.{List, [], ◌∷◌, ◌++◌, map}
+use Rattle.lists.proofs.Member.{cond_same}
 use Rattle.std.specs.Prelude.{Some, filter, find}
 use mathlib.Core.Bool.{Bool, true, false, cond}
 use lib.ListN.{length, take, drop, get_or, set, length-take}
 use lib.Seq.{take_all, set-get_or, sets-eq, paste, paste-zero, take-add, drop_at, drop-drop, take-take, length-take-le}
 use Rattle.std.proofs.Common.{append_assoc, suc-mul, zero-mul, add-mul, length-drop}
-use Rattle.std.proofs.lemmas.List.{take-append-le, drop-append-le, drop-take}
+use Rattle.std.proofs.lemmas.List.{take-append-le, drop-append-le, drop-take, take_more_set}
 use lib.Dec.{leb, ltb}
 use borrow.Author.Tests.{leb-true, leb-false, lt-ltb, le-ltb}
-use Rattle.lists.proofs.Table.{append_row, find_hit, find_next}
+use Rattle.lists.proofs.Table.{find_hit, find_next}
 use Rattle.words.specs.Rows.{cut, cuts, rows, row_moved, moved_up, opened}
 use Rattle.words.proofs.Rows.{rows_long, rows_move, rows_cuts, moved_long, row_fits, cut_long, moved_is}
 use Rattle.words.proofs.InPlace.{Closing, closing_row, closing_keep, closing_drop, Changing, changing_more, Opening, opening_start, opening_more, opening_put, opening_map}
@@ -92,7 +93,7 @@ module _ {A : Type 0} (w : ℕ) (of : List ℕ → A) (old new : List ℕ) (coun
       let inside : n < length (rows w of old) = omega (arith, rows_long w of old) in
       let room : length (take count (rows w of old)) < length old / w = omega (arith, counted) in
       ap (take (n + 1)) p
-      ∙ append_row (rows w of old) n x inside
+      ∙ take_more_set (rows w of old) n x inside
       ∙ ap (λ l. l ++ (x ∷ [])) (take_count w of old count n e)
       ∙ sym (ap (λ b. cond b (take count (rows w of old) ++ (x ∷ [])) (take count (rows w of old))) (lt-ltb _ _ room))
 
@@ -165,11 +166,7 @@ module _ (w : ℕ) where
   -- where no row has to move
   pub open_none : (n p : ℕ) (c : List ℕ) → n ≤ p → opened w n p c ≡ c
   unfolding opened moved_up
-  open_none n p c h = let e : n - p ≡ 0 = omega arith in ap (λ k. cond (ltb n (length c / w)) (moved_up k w p c) c) e ∙ go (ltb n (length c / w))
-    where
-      go : (b : Bool) → cond b c c ≡ c
-      go true = refl
-      go false = refl
+  open_none n p c h = let e : n - p ≡ 0 = omega arith in ap (λ k. cond (ltb n (length c / w)) (moved_up k w p c) c) e ∙ cond_same (ltb n (length c / w)) c
 
   -- rows moved up one by one are moved as one block
   pub up_block : (k p : ℕ) (c : List ℕ) → 0 < w → p + k < length c / w → moved_up k w p c ≡ paste c (suc p * w) (drop (p * w) c) (k * w)

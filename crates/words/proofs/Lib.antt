@@ -10,3 +10,4 @@ pub mod Copying
 pub mod FirstRow
 mod Glides
 pub mod Gaps
+pub mod Changes

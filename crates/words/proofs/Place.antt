@@ -1,17 +1,19 @@
 -- The laws of loops that look for the first row that passes, and of a table's count after a change.
 use Prim.Native.Nat.{ℕ, zero, suc, ◌+◌, ◌/◌, ◌≤◌, ◌<◌, min}
 use native.Mathlib.Omega.{arith}
-use mathlib.Core.Path.{◌≡◌, refl, sym, ap, ◌∙◌}
+use mathlib.Core.Path.{◌≡◌, refl, sym, ap, ◌∙◌, subst}
 use mathlib.Core.List.{List, [], ◌∷◌, ◌++◌}
 use Rattle.std.specs.Prelude.{None, Some, filter, find}
 use mathlib.Core.Bool.{Bool, true, false, not, cond}
-use lib.ListN.{length, take, get_or, set, length-take, length-append}
+use lib.ListN.{length, take, get_or, set, length-take}
+use lib.Dec.{ltb}
+use borrow.Author.Tests.{ltb-true, ltb-false, eq-eqb}
+use Rattle.std.proofs.lemmas.List.{length-set}
 use lib.Seq.{get_or-take, length-take-le}
-use Rattle.lists.proofs.Table.{append_row}
-use Rattle.words.specs.Rows.{rows}
+use Rattle.words.specs.Rows.{rows, row_put, rows_counted, rows_appended}
 use Rattle.words.specs.Place.{place_of, Holds}
-use Rattle.words.proofs.Rows.{rows_long}
-use Rattle.words.proofs.InWords.{ClosingIn, words_done, take_count}
+use Rattle.words.proofs.Rows.{rows_long, rows_kept, put_is}
+use Rattle.words.proofs.InWords.{ClosingIn, words_done, take_count, words_push, words_full}
 
 module _ {A : Type 0} (q : A → Bool) where
   pub place_le : (l : List A) → place_of q l ≤ length l
@@ -67,15 +69,6 @@ module _ {A : Type 0} (w : ℕ) (of : List ℕ → A) (old new : List ℕ) where
       let room : k ≤ length (rows w of new) = omega (arith, rows_long w of new, inv.0, inv.2.low) in
       record { is = is; many = sym (length-take-le k (rows w of new) room) ∙ ap length is }
 
-  -- one row more behind the first n, or as many as there were
-  pub pushed_more : (n : ℕ) (l : List A) (x : A) → n < length old / w → Holds (rows w of old) n l → rows w of new ≡ set (rows w of old) n x → Holds (rows w of new) (n + 1) (l ++ (x ∷ []))
-  pushed_more n l x h inv put =
-      let inside : n < length (rows w of old) = omega (arith, rows_long w of old) in
-      record {
-        is = ap (take (n + 1)) put ∙ append_row (rows w of old) n x inside ∙ ap (λ m. m ++ (x ∷ [])) inv.is;
-        many = omega (arith, inv.many, length-append l (x ∷ []));
-      }
-
 -- a count above the room is the room
 pub holds_count : {A : Type 0} (w : ℕ) (of : List ℕ → A) (c : List ℕ) (count n : ℕ) → n ≡ min count (length c / w) → Holds (rows w of c) n (take count (rows w of c))
 holds_count w of c count n e = record { is = take_count w of c count n e; many = sym (counted w of c count n e) }
@@ -93,3 +86,43 @@ module _ {A : Type 0} (w : ℕ) (of : List ℕ → A) (q : A → Bool) (c : List
       let l = take count (rows w of c) in
       let below : r < count = omega (arith, length-take count (rows w of c)) in
       place_found q (of []) l (omega arith) ∙ ap (λ k. Some (get_or l k (of []))) (sym at) ∙ ap Some (get_or-take count (rows w of c) r (of []) below)
+
+-- what storing a row behind the first `count` says of the rows that the words stand for
+module _ {A : Type 0} (w : ℕ) (of : List ℕ → A) (old new ws : List ℕ) (count r : ℕ) (x : A) (long : length ws ≡ w) (is : of ws ≡ x) where
+  pub appended : new ≡ row_put w (rows_counted w count old) ws old → r ≡ rows_appended w count ws old → (limit : ℕ) → length old / w ≡ limit
+      → Holds (rows w of new) r (cond (ltb (length (take count (rows w of old))) limit) (take count (rows w of old) ++ (x ∷ [])) (take count (rows w of old)))
+  appended put many limit e = go (ltb n (length old / w)) refl
+    where
+      n : ℕ
+      n = rows_counted w count old
+
+      l : List A
+      l = take count (rows w of old)
+
+      after : List A
+      after = cond (ltb (length l) limit) (l ++ (x ∷ [])) l
+
+      limited : cond (ltb (length l) (length old / w)) (l ++ (x ∷ [])) l ≡ after
+      limited = ap (λ k. cond (ltb (length l) k) (l ++ (x ∷ [])) l) e
+
+      stored : rows w of new ≡ set (rows w of old) n x
+      stored = ap (rows w of) put ∙ put_is w of old ws n long ∙ ap (set (rows w of old) n) is
+
+      same : length new / w ≡ length old / w
+      same = sym (rows_long w of new) ∙ ap length stored ∙ length-set (rows w of old) n x ∙ rows_long w of old
+
+      counts : rows_counted w (count + 1) old ≡ r
+      counts = sym (many ∙ ap (λ b. cond b (rows_counted w (count + 1) old) n) (eq-eqb (length ws) w long))
+
+      go : (b : Bool) → ltb n (length old / w) ≡ b → Holds (rows w of new) r after
+      go true h =
+          let room : n < length old / w = ltb-true n (length old / w) h in
+          let more : n + 1 ≡ r = omega (arith, room, counts) in
+          let fits : n + 1 ≤ length new / w = omega (arith, room, same) in
+          subst (λ k. Holds (rows w of new) k after) more (holds_rows w of new (n + 1) after fits (words_push w of old new count n x refl room stored ∙ limited))
+      go false h =
+          let full : length old / w ≤ n = ltb-false n (length old / w) h in
+          let as_many : n ≡ r = omega (arith, full, counts) in
+          let fits : n ≤ length new / w = omega (arith, same) in
+          let kept : rows w of new ≡ rows w of old = stored ∙ sym (rows_kept w of old n x full) in
+          subst (λ k. Holds (rows w of new) k after) as_many (holds_rows w of new n after fits (ap (take n) kept ∙ words_full w of old old count n x refl full ∙ limited))

@@ -5,8 +5,8 @@ use native.Mathlib.Omega.{arith}
 use mathlib.Core.Path.{◌≡◌, refl, sym, ap, ◌∙◌}
 use mathlib.Core.Logic.{◌⊎◌, inl, inr}
 use mathlib.Core.List.{List, [], ◌∷◌, ◌++◌, append_assoc, map}
-use mathlib.Core.Bool.{Bool, true, false, ◌&&◌, cond}
-use lib.ListN.{length, take, drop, get_or, set, length-take, length-drop, length-set, get_or-eq_default}
+use mathlib.Core.Bool.{Bool, true, false, ◌&&◌, cond, and-false}
+use lib.ListN.{length, take, drop, get_or, set, length-take, length-drop, length-set, get_or-eq_default, get_or-map}
 use lib.Dec.{ltb, eqb}
 use lib.Seq.{set_out, get_or-set_same, get_or-set_other, get_or-take, get_or-drop, drop-drop, drop_at, take_at, length-take-le, ext_get_or, sets, length-sets, sets-eq}
 use borrow.Author.Tests.{ltb-true, ltb-false, eqb-true, eqb-false, lt-ltb, le-ltb, eq-eqb, ne_eqb}
@@ -111,7 +111,7 @@ module _ {A : Type 0} (w : ℕ) (of : List ℕ → A) where
           ∙ sym (get_or-set_other (rows w of c) i j (of (cut w i e)) (of []) (eqb-false j i p))
 
 -- whole rows: the words ws stored from the start of row i on
-sets_out : (ws c : List ℕ) (at k : ℕ) → (k < at) ⊎ (at + length ws ≤ k) → get_or (sets c at ws) k 0 ≡ get_or c k 0
+pub sets_out : (ws c : List ℕ) (at k : ℕ) → (k < at) ⊎ (at + length ws ≤ k) → get_or (sets c at ws) k 0 ≡ get_or c k 0
 sets_out [] c at k h = refl
 sets_out (x ∷ ws) c at k (inl h) = sets_out ws (set c at x) (suc at) k (inl (omega arith)) ∙ get_or-set_other c at k x 0 (λ q. omega arith)
 sets_out (x ∷ ws) c at k (inr h) = sets_out ws (set c at x) (suc at) k (inr (omega arith)) ∙ get_or-set_other c at k x 0 (λ q. omega arith)
@@ -123,10 +123,6 @@ cut_sets w i c ws h e =
     ∙ ap (take w) (drop_at (take (i * w) c) (ws ++ drop (i * w + length ws) c) (i * w) (length-take-le (i * w) c (omega arith)))
     ∙ take_at ws (drop (i * w + length ws) c) w e
 
-and_false : (b : Bool) → (b && false) ≡ false
-and_false true = refl
-and_false false = refl
-
 -- a row moved, if there is room for both
 pub moved_is : (w from to : ℕ) (c : List ℕ) → from < length c / w → to < length c / w → row_moved w from to c ≡ sets c (to * w) (cut w from c)
 unfolding row_moved
@@ -135,7 +131,7 @@ moved_is w from to c h k = rw (lt-ltb from (length c / w) h, lt-ltb to (length c
 pub moved_not : (w from to : ℕ) (c : List ℕ) → (length c / w ≤ from) ⊎ (length c / w ≤ to) → row_moved w from to c ≡ c
 unfolding row_moved
 moved_not w from to c (inl h) = rw (le-ltb from (length c / w) h)
-moved_not w from to c (inr h) = rw (le-ltb to (length c / w) h, and_false (ltb from (length c / w)))
+moved_not w from to c (inr h) = rw (le-ltb to (length c / w) h, and-false (ltb from (length c / w)))
 
 module _ {A : Type 0} (w : ℕ) (of : List ℕ → A) where
   -- a row stored whole
@@ -161,15 +157,10 @@ rows_cuts w of c = from_cuts w of (length c / w) c
 
 -- ---- the same past the end, so that reads and stores of any row have one meaning: a read there gives the row of no words, a
 -- store changes nothing
-map_at : {A B : Type 0} (f : A → B) (l : List A) (i : ℕ) (d : A) → get_or (map f l) i (f d) ≡ f (get_or l i d)
-map_at f [] i d = refl
-map_at f (x ∷ l) zero d = refl
-map_at f (x ∷ l) (suc i) d = map_at f l i d
-
 module _ {A : Type 0} (w : ℕ) (of : List ℕ → A) where
   -- a row read
   pub row_is : (c : List ℕ) (i : ℕ) → get_or (rows w of c) i (of []) ≡ of (row_at w i c)
-  row_is c i = ap (λ l. get_or l i (of [])) (rows_cuts w of c) ∙ map_at of (cuts w c) i []
+  row_is c i = ap (λ l. get_or l i (of [])) (rows_cuts w of c) ∙ get_or-map of (cuts w c) i []
 
   pub rows_past : (c : List ℕ) (i : ℕ) (d : A) → length c / w ≤ i → get_or (rows w of c) i d ≡ d
   rows_past c i d h =
@@ -196,7 +187,7 @@ put_on w i ws c h e = rw (lt-ltb i (length c / w) h, eq-eqb (length ws) w e)
 pub put_off : (w i : ℕ) (ws c : List ℕ) → (length c / w ≤ i) ⊎ (length ws ≡ w → ⊥) → row_put w i ws c ≡ c
 unfolding row_put
 put_off w i ws c (inl h) = rw (le-ltb i (length c / w) h)
-put_off w i ws c (inr h) = rw (ne_eqb (length ws) w h, and_false (ltb i (length c / w)))
+put_off w i ws c (inr h) = rw (ne_eqb (length ws) w h, and-false (ltb i (length c / w)))
 
 pub word_on : (w i k x : ℕ) (c : List ℕ) → i < length c / w → k < w → word_put w i k x c ≡ set c (i * w + k) x
 unfolding word_put
@@ -205,10 +196,10 @@ word_on w i k x c h b = rw (lt-ltb i (length c / w) h, lt-ltb k w b)
 pub word_off : (w i k x : ℕ) (c : List ℕ) → (length c / w ≤ i) ⊎ (w ≤ k) → word_put w i k x c ≡ c
 unfolding word_put
 word_off w i k x c (inl h) = rw (le-ltb i (length c / w) h)
-word_off w i k x c (inr h) = rw (le-ltb k w h, and_false (ltb i (length c / w)))
+word_off w i k x c (inr h) = rw (le-ltb k w h, and-false (ltb i (length c / w)))
 
 -- a store keeps the length
-cond_long : (b : Bool) (c e : List ℕ) → length e ≡ length c → length (cond b e c) ≡ length c
+pub cond_long : (b : Bool) (c e : List ℕ) → length e ≡ length c → length (cond b e c) ≡ length c
 cond_long true c e h = h
 cond_long false c e h = refl
 

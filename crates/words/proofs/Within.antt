@@ -1,17 +1,16 @@
 -- The laws of fields stored within a row, for any width, row type and place.
-use Prim.Native.Nat.{ℕ, suc, ◌+◌, ◌-◌, ◌*◌, ◌/◌, ◌%◌, ◌≤◌, ◌<◌}
+use Prim.Native.Nat.{ℕ, suc, ◌+◌, ◌-◌, ◌*◌, ◌/◌, ◌≤◌, ◌<◌}
 use native.Mathlib.Omega.{arith}
 use mathlib.Core.Path.{◌≡◌, refl, sym, ap, ◌∙◌}
 use mathlib.Core.Logic.{◌⊎◌, inl, inr}
 use mathlib.Core.List.{List, [], ◌∷◌}
 use mathlib.Core.Bool.{Bool, true, false, cond, ◌&&◌}
 use lib.Dec.{leb, ltb}
-use lib.ListN.{length, take, drop, get_or, set}
-use lib.Seq.{sets, length-sets, get_or-set_other, drop-set-add, take-set-lt}
+use lib.ListN.{length, take, drop, set}
+use lib.Seq.{sets, length-sets, drop-set-add, take-set-lt}
 use borrow.Author.Tests.{ltb-true, ltb-false, lt-ltb, le-ltb, le-leb, lt-leb}
-use Rattle.words.specs.Fields.{long_from}
 use Rattle.words.specs.Rows.{row_at, rows, fields_put}
-use Rattle.words.proofs.Rows.{rows_at, rows_kept, rows_change}
+use Rattle.words.proofs.Rows.{rows_at, rows_kept, rows_change, sets_out}
 
 -- ---- the three tests before a store
 module _ (w i k : ℕ) (ws c : List ℕ) where
@@ -62,11 +61,6 @@ take_sets n k c (x ∷ ws) h =
     let below : k < n = omega arith in
     take_sets n (suc k) (set c k x) ws next ∙ ap (λ l. sets l (suc k) ws) (take-set-lt n c k x below)
 
-pub sets_out : (ws c : List ℕ) (at k : ℕ) → (k < at) ⊎ (at + length ws ≤ k) → get_or (sets c at ws) k 0 ≡ get_or c k 0
-sets_out [] c at k h = refl
-sets_out (x ∷ ws) c at k (inl h) = sets_out ws (set c at x) (suc at) k (inl (omega arith)) ∙ get_or-set_other c at k x 0 (λ q. omega arith)
-sets_out (x ∷ ws) c at k (inr h) = sets_out ws (set c at x) (suc at) k (inr (omega arith)) ∙ get_or-set_other c at k x 0 (λ q. omega arith)
-
 module _ {A : Type 0} (w : ℕ) (of : List ℕ → A) (c ws : List ℕ) (i k : ℕ) where
   -- the row has these words in the place of what stood there; no other row changes
   pub fields_is : k < w → k + length ws ≤ w → rows w of (fields_put w i k ws c) ≡ set (rows w of c) i (of (sets (row_at w i c) k ws))
@@ -86,7 +80,3 @@ module _ {A : Type 0} (w : ℕ) (of : List ℕ → A) (c ws : List ℕ) (i k : �
       go false e =
           let past : length c / w ≤ i = ltb-false i (length c / w) e in
           ap (rows w of) (sym (put_past w i k ws c past)) ∙ rows_kept w of c i (of (sets (row_at w i c) k ws)) past
-
--- ---- a u64 comes back
-pub long_back : (x low high : ℕ) → low ≡ x % 4294967296 → high ≡ x / 4294967296 → long_from low high ≡ x
-long_back x low high p q = omega arith

@@ -1,7 +1,7 @@
 -- A table in words that the caller lends: row i is the w words from i * w on, and `of` says what the words of a row stand for.
 -- `rows w of c` is the list of all rows that c has room for, so a store to a row is a `set` of that list, a read a `get_or`, and
 -- the first n rows are `take n`: whatever is known of lists of rows (crate lists) serves as it is.
-use Rattle.std.specs.Prelude.{ℕ, zero, suc, ◌+◌, ◌-◌, ◌*◌, ◌/◌, List, [], ◌∷◌, cond, ◌&&◌, eqb, leb, ltb, length, take, drop, get_or, set}
+use Rattle.std.specs.Prelude.{ℕ, zero, suc, ◌+◌, ◌-◌, ◌*◌, ◌/◌, List, [], ◌∷◌, cond, ◌&&◌, eqb, leb, ltb, min, length, take, drop, get_or, set}
 use Rattle.std.proofs.lemmas.List.Edits.{sets}
 
 -- the words of row i
@@ -27,6 +27,14 @@ row_at w i c = get_or (cuts w c) i []
 -- row i has the words ws, if there is room for it and they are as many as a row has
 unfoldable pub row_put : ℕ → ℕ → List ℕ → List ℕ → List ℕ
 row_put w i ws c = cond (ltb i (length c / w) && eqb (length ws) w) (sets c (i * w) ws) c
+
+-- how many rows a count stands for: a count above the room is the room
+abbrev pub rows_counted : ℕ → ℕ → List ℕ → ℕ
+rows_counted w n c = min n (length c / w)
+
+-- and how many with the words ws behind them: one more, if they are as many as a row has and there is room
+abbrev pub rows_appended : ℕ → ℕ → List ℕ → List ℕ → ℕ
+rows_appended w n ws c = cond (eqb (length ws) w) (rows_counted w (n + 1) c) (rows_counted w n c)
 
 -- word k of row i is x, if there is such a word
 unfoldable pub word_put : ℕ → ℕ → ℕ → ℕ → List ℕ → List ℕ

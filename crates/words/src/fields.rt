@@ -43,7 +43,8 @@ pub fn is_set(x: u32) -> bool
     x != 0
 }
 
-// A NaN has one pattern here, whichever it had: the bits of a NaN cannot be read.
+// A NaN has one pattern here, whichever it had: the bits of a NaN cannot be read. Crate codec has this too: what is compared writes with functions of
+// its own.
 pub fn float_word(x: f32) -> u32
     ensures { float_from result ≡ x }
 {

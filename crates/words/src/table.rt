@@ -1,8 +1,10 @@
-ghost use Rattle.std.specs.Prelude.{◌≡◌, ℕ, List, Bool, true, ◌+◌, ◌≤◌, min, length, get_or, take, drop, filter};
+ghost use Rattle.std.specs.Prelude.{◌≡◌, ℕ, List, Bool, true, ◌+◌, ◌≤◌, min, length, get_or, take, drop, filter, position};
 ghost use Rattle.std.specs.List.{list_all};
 ghost use Rattle.std.proofs.lemmas.List.Edits.{sets};
-ghost use Rattle.words.specs.Rows.{cuts, row_at, row_put, word_put, fields_put, row_moved, opened};
-ghost use Rattle.words.specs.Place.{Holds, Tells};
+ghost use Rattle.words.specs.Rows.{cuts, row_at, row_put, rows_counted, rows_appended, word_put, fields_put, row_moved, opened};
+ghost use Rattle.words.specs.Place.{Changed, Holds, Tells};
+
+use std::convert::AsSlice;
 
 // Each function is given a slice and a width, so that one serves tables of every width. They are no struct with methods: the tables are lent, and
 // a signature shows what a call may touch. A row's place is tested in each: its parts are what the index below it needs.
@@ -71,6 +73,41 @@ pub fn move_row(t: &mut [u32], w: usize, from: usize, to: usize)
     }
 }
 
+// How many rows of `w` words a count stands for. A loop over the rows of one table has this expression as its bound, with the width or the room as a
+// number: a call would say no more, and each proof would cite its clause in the place of that of `min`.
+pub fn row_count(t: &[u32], w: usize, count: usize) -> usize
+    ensures { result ≡ rows_counted w count t.now }
+{
+    count.min(t.len().checked_div(w).unwrap_or(0))
+}
+
+// The words `ws` as one row more behind the first `count`, if they are as many as a row has and there is room: how many rows there are.
+pub fn append_row(t: &mut [u32], w: usize, count: usize, ws: &[u32]) -> usize
+    ensures words { t.new ≡ row_put w (rows_counted w count t.old) ws.now t.old }
+    ensures many { result ≡ rows_appended w count ws.now t.old }
+{
+    let n = row_count(t, w, count);
+    put_row(t, w, n, ws);
+    if ws.len() == w {
+        row_count(t, w, count.saturating_add(1))
+    } else {
+        n
+    }
+}
+
+// The first of the first `count` rows of `w` words for which `test` answers true, or none. `test` is given the words and a number.
+pub fn first_row<F: Fn(&[u32], usize) -> bool>(
+    t: &[u32],
+    w: usize,
+    count: usize,
+    test: F,
+) -> Option<usize>
+    requires { F.IsAlwaysCallable test }
+    ensures { (q : List ℕ → Bool) → Tells w (F.post test) q → result ≡ position q (take count (cuts w t.now)) }
+{
+    (0..row_count(t, w, count)).find(|i| test(t, *i))
+}
+
 // Of the first `count` rows of `w` words those stay for which `stays` answers true, in one pass that closes the gaps: how many are left. The first
 // `from` rows stay unasked, so its clause speaks of tests which they pass. By the rows' numbers: a row is so many words of a lent table, and there is
 // no slice of rows. `stays` is given the words and a number.
@@ -84,7 +121,7 @@ pub fn close_gaps<F: Fn(&[u32], usize) -> bool>(
     requires { F.IsAlwaysCallable stays }
     ensures { (q : List ℕ → Bool) → Tells w (F.post stays) q → list_all q (take from (take count (cuts w t.old))) ≡ true → Holds (cuts w t.new) result (filter q (take count (cuts w t.old))) }
 {
-    let n = count.min(t.len().checked_div(w).unwrap_or(0));
+    let n = row_count(t, w, count);
     let mut to = from.min(n);
     for i in to..n {
         if stays(t, i) {
@@ -93,6 +130,26 @@ pub fn close_gaps<F: Fn(&[u32], usize) -> bool>(
         }
     }
     to
+}
+
+// Into each of the first `count` rows of `w` words for which `change` gives words these are stored, from word `k` on; the other rows stay.
+// By the rows' numbers: a row is so many words of a lent table, and there is no slice of rows. `change` is given the words and a number; what it
+// gives is any type that lends words, since the bound of a closure cannot name the length of an array.
+pub fn change_rows<W: AsSlice<u32> + Drop, F: Fn(&[u32], usize) -> Option<W>>(
+    t: &mut [u32],
+    w: usize,
+    count: usize,
+    k: usize,
+    change: F,
+)
+    requires { F.IsAlwaysCallable change }
+    ensures { Changed w k (rows_counted w count t.old) W.items (F.post change) t.old t.new }
+{
+    for i in 0..row_count(t, w, count) {
+        if let Some(ws) = change(t, i) {
+            put_fields(t, w, i, k, ws.as_slice());
+        }
+    }
 }
 
 // Row `p` of the first `n` rows of `w` words and those after it move up by one, if there is room for one more.

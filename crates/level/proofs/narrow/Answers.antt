@@ -13,6 +13,8 @@ use Rattle.level.proofs.Narrowing.{narrow_nan}
 use Rattle.level.proofs.narrow.Goals as goal
 use Rattle.level.proofs.narrow.Goals.{Else-is_nan, Start}
 
+-- The next two are of this function's own start and test, whose types no other function has: what functions share of them is
+-- `no_nan` and `bits_le` of Nan.
 held : (c : Start) → T (fits binary64 c.args.x)
 held c = subst T (sym c.well_formed.0.1) tt
 

@@ -12,6 +12,8 @@ use Rattle.level.proofs.Signs.{sqrt_nan, negative, own_zero, own_inf, own_minus_
 use Rattle.level.proofs.sqrt.Goals as goal
 use Rattle.level.proofs.sqrt.Goals.{Else-is_nan, Start, then-b-eq-INFINITY64-via-then-b-eq-INFINITY64, then-b-eq-INFINITY64-via-else-b-eq-INFINITY64+then-b}
 
+-- The next two are of this function's own start and test, whose types no other function has: what functions share of them is
+-- `no_nan` and `bits_le` of Nan.
 held : (c : Start) → T (fits binary64 c.args.x)
 held c = subst T (sym c.well_formed.0.1) tt
 

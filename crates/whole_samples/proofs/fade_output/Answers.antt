@@ -10,7 +10,7 @@ use Rattle.whole_samples.proofs.fade_output.Goals as goal
 pub returns : goal.returns
 returns c =
     let a = c.args in
-    let fits = fade_fits (length a.input.now) a.ins (length a.gains.now) a.len a.size (length a.out.now) a.outs in
+    let fits = fade_fits (length a.input.now) a.p.ins (length a.gains.now) a.len a.size (length a.out.now) a.p.outs in
     let in_range = every is_sample a.input.now && every is_gain a.gains.now in
-    let whole = block_of a.outs a.size (faded_of a.input.now a.ins a.gains.now a.len a.position a.size) in
+    let whole = block_of a.p.outs a.size (faded_of a.input.now a.p.ins a.gains.now a.len a.p.position a.size) in
     record { answers = c.fade.ensures.answers ∙ answer_is fits in_range; leaves = c.fade.ensures.leaves ∙ left_is fits in_range whole a.out.now }

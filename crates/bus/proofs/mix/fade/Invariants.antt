@@ -6,4 +6,4 @@ use Rattle.bus.proofs.mix.fade.Given as goal
 abbrev pub invariant-loop-c : goal.invariant-loop-c
 invariant-loop-c g l =
     let N = g.N.Numbers in
-    Laying l.size (faded_of_by N.times N.past N.no_gain l.input l.ins l.gains l.len l.position l.size) l.initial.out l.out l.c
+    Laying l.size (faded_of_by N.times N.past N.no_gain l.input l.p.ins l.gains l.len l.p.position l.size) l.initial.out l.out l.c

@@ -5,23 +5,23 @@ use lib.ListN.{length}
 use Rattle.words.proofs.Rows.{moved_long}
 use Rattle.words.proofs.Place.{closed}
 use Rattle.words.proofs.InWords.{words_keep, words_drop}
-use Rattle.words.proofs.Gaps.{room_is, close_begun}
+use Rattle.words.proofs.Gaps.{close_begun}
 use Rattle.words.proofs.table.close_gaps.Goals as goal
 use Rattle.words.proofs.table.close_gaps.Goals.{then-stays, else-stays}
 
 pub loop-i-init : goal.loop-i-init
 loop-i-init g c =
     let s = c.args in
-    let n = c.min-n.result in
-    let e : n ≡ min s.count (length s.t.now / s.w) = room_is s.w (length s.t.now) s.count n c.unwrap_or.result c.checked_div.result c.min-n.ensures c.unwrap_or.ensures c.checked_div.ensures in
+    let n = c.row_count-n.result in
+    let e : n ≡ min s.count (length s.t.now / s.w) = c.row_count-n.ensures in
     (omega arith, refl, λ q tells stay. close_begun s.w (λ ws. ws) q s.t.now s.count n e s.from c.min-to.result c.min-to.ensures stay)
 
 pub loop-i-preserved : goal.loop-i-preserved
 loop-i-preserved g c =
     let s = c.args in
     let l = c.loop-i in
-    let n = c.min-n.result in
-    let e : n ≡ min s.count (length s.t.now / s.w) = room_is s.w (length s.t.now) s.count n c.unwrap_or.result c.checked_div.result c.min-n.ensures c.unwrap_or.ensures c.checked_div.ensures in
+    let n = c.row_count-n.result in
+    let e : n ≡ min s.count (length s.t.now / s.w) = c.row_count-n.ensures in
     let fits : n ≤ length s.t.now / s.w = omega arith in
     elim c.if-stays.branch [
       | then-stays w ↦
@@ -42,6 +42,6 @@ pub returns : goal.returns
 returns g c q tells stay =
     let s = c.args in
     let l = c.loop-i in
-    let n = c.min-n.result in
-    let e : n ≡ min s.count (length s.t.now / s.w) = room_is s.w (length s.t.now) s.count n c.unwrap_or.result c.checked_div.result c.min-n.ensures c.unwrap_or.ensures c.checked_div.ensures in
+    let n = c.row_count-n.result in
+    let e : n ≡ min s.count (length s.t.now / s.w) = c.row_count-n.ensures in
     closed s.w (λ ws. ws) s.t.now l.t q s.count n l.i l.to e c.loop-i-test.false (l.invariant.2 q tells stay)
