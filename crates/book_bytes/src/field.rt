@@ -1,12 +1,15 @@
 // The records of a book, each looked at from its first byte on. Every test and every field is there for any bytes: one past the end is 0, and no
-// Option, since fields are read where a test has found the record whole.
+// Option, since fields are read where a test has found the record whole, and the tests take a byte past the end for 0.
 ghost use Rattle.std.specs.Prelude.{◌≡◌, ◌+◌, drop, get_or};
 ghost use Rattle.synthdef.specs.Rows.{every};
 ghost use Rattle.def_book.specs.Rows.{pair_at, is_record, is_zero, name_at, name_fits, is_heading, is_node, is_edge, is_param, node_at, edge_at, param_at};
 
+use crate::sorts::takes_of;
 use node::name::{Name, is_named};
 use std::array;
 use synthdef::def::{DefEdge, DefNode, Param};
+
+// Crate codec has `byte_at` and `pair_at` too, and crate words a word that is 0 past the end: what is compared shares no reader with the library.
 
 // The byte at `i`, 0 past the end.
 pub(crate) fn byte_at(s: &[u8], i: usize) -> u8
@@ -78,17 +81,16 @@ pub(crate) fn is_param(s: &[u8]) -> bool
     is_record(s, 4, 22) && name_fits(name_at(s))
 }
 
-// The sorts that it takes are one number, as the bytes hold them.
 pub(crate) fn node_at(s: &[u8]) -> DefNode
     ensures { result ≡ node_at s.now }
 {
-    let sorts = byte_at(s, 23);
+    let (takes_values, takes_glides) = takes_of(byte_at(s, 23));
     DefNode {
         kind: name_at(s),
         ports: byte_at(s, 21),
         required: byte_at(s, 22),
-        takes_values: sorts % 2 == 1,
-        takes_glides: 2 <= sorts,
+        takes_values,
+        takes_glides,
         in_port: byte_at(s, 24),
         level_port: byte_at(s, 25),
         amp_port: byte_at(s, 26),

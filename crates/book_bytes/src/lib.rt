@@ -5,4 +5,5 @@ mod field;
 mod put;
 pub mod read;
 mod rows;
+pub mod sorts;
 pub mod write;

@@ -2,10 +2,11 @@
 ghost use Rattle.std.specs.Prelude.{◌≡◌, List, ℕ, map, ◌+◌, ◌*◌, ◌++◌, ◌≤◌, length};
 ghost use Rattle.node.specs.Name.{text};
 ghost use Rattle.def_book.specs.Held.{held};
-ghost use Rattle.def_book.specs.Bytes.{sorts_of, heading_bytes, node, edge, param, node_bytes, edge_bytes, param_bytes, joined};
+ghost use Rattle.def_book.specs.Bytes.{heading_bytes, node, edge, param, node_bytes, edge_bytes, param_bytes, joined};
 ghost use Rattle.def_book.specs.Put.{Put};
 ghost use Rattle.def_book.proofs.Restores.{row_long};
 
+use crate::sorts::sorts_of;
 use lists::byte::copy;
 use node::name::Name;
 use synthdef::def::{DefEdge, DefNode, Param};
@@ -31,13 +32,6 @@ fn clean_bytes(n: Name) -> [u8; 16]
     let mut bytes = [0u8; 16];
     bytes[..name.len()].copy_from_slice(name);
     bytes
-}
-
-// The sorts that a node takes as one number, as the bytes hold them.
-fn sorts_of(values: bool, glides: bool) -> u8
-    ensures { result ≡ sorts_of values glides }
-{
-    u8::from(values) + 2 * u8::from(glides)
 }
 
 // A record with a name in it: what stands before the bytes of the name, these, and what stands behind them.

@@ -31,6 +31,7 @@ pub(crate) fn no_nodes() -> DefNodes
     })
 }
 
+// Crates synthdef and page_scene write the edge of zeros out too: a constant for its three numbers would be no shorter.
 #[tactic(auto, unfolding(def_book::specs::Held::held))]
 pub(crate) fn no_edges() -> DefEdges
     ensures { result ≡ edge_table [] }

@@ -5,12 +5,12 @@ use mathlib.Core.Path.{◌≡◌, refl, sym, ap, ◌∙◌}
 use mathlib.Core.Logic.{◌⊎◌, inl, inr}
 use mathlib.Core.List.{List, [], ◌∷◌, ◌++◌}
 use Rattle.std.specs.Prelude.{None, Some}
-use mathlib.Core.Bool.{Bool, true, false, cond, ◌||◌}
+use mathlib.Core.Bool.{Bool, true, false, cond, ◌||◌, or_assoc, or-false}
 use lib.Dec.{eqb, ltb}
 use lib.ListN.{length, take, drop, get_or}
-use lib.Seq.{take_all, get_or-take, length-take-le}
+use lib.Seq.{take_all, get_or-take, length-take-le, drop-length}
 use borrow.Author.Tests.{eqb-false, ne_eqb}
-use Rattle.lists.proofs.Table.{left_cons, passed_row, left_none}
+use Rattle.std.proofs.lemmas.List.{drop_more, take_more}
 use Rattle.busiest.specs.declared.stretch.Scan.{Scan}
 use Rattle.busiest.specs.Stretch.{within, falls_from, falls, largest, first_of, Answer, refused, gives, busiest, BusiestStretch}
 use Rattle.busiest.specs.Scan.{begun, grown, moved, advanced, scan_from, scanned, concluded}
@@ -51,14 +51,6 @@ advanced_place s x y = go (within s.width x y)
 
 -- ---- all records
 
-or_assoc : (a b c : Bool) → ((a || b) || c) ≡ (a || (b || c))
-or_assoc true b c = refl
-or_assoc false b c = refl
-
-or_false : (a : Bool) → (a || false) ≡ a
-or_false true = refl
-or_false false = refl
-
 module _ (xs : List ℕ) where
   scan_width : (k i : ℕ) (s : Scan) → (scan_from k xs i s).width ≡ s.width
   scan_width zero i s = refl
@@ -67,7 +59,7 @@ module _ (xs : List ℕ) where
   scan_falls : (k i : ℕ) (s : Scan) → i + k ≡ length xs → (scan_from k xs i s).falls ≡ (s.falls || falls_from s.last (drop i xs))
   scan_falls zero i s e =
       let over : i ≡ length xs = omega arith in
-      sym (ap (λ l. s.falls || falls_from s.last l) (ap (λ j. drop j xs) over ∙ left_none 0 xs) ∙ or_false s.falls)
+      sym (ap (λ l. s.falls || falls_from s.last l) (ap (λ j. drop j xs) over ∙ drop-length xs) ∙ or-false s.falls)
   scan_falls (suc k) i s e =
       let y = get_or xs i 0 in
       let t = advanced s (get_or xs s.head 0) y in
@@ -77,7 +69,7 @@ module _ (xs : List ℕ) where
       ∙ ap (λ a. t.falls || falls_from a (drop (i + 1) xs)) (advanced_last s (get_or xs s.head 0) y)
       ∙ ap (λ b. b || falls_from y (drop (i + 1) xs)) (advanced_falls s (get_or xs s.head 0) y)
       ∙ or_assoc s.falls (ltb y s.last) (falls_from y (drop (i + 1) xs))
-      ∙ ap (λ l. s.falls || falls_from s.last l) (sym (left_cons 0 xs i less))
+      ∙ ap (λ l. s.falls || falls_from s.last l) (sym (drop_more xs i 0 less))
 
   module _ (w : ℕ) (wide : 0 < w) (rises : Rises 0 xs) where
     -- what is known of the first i records, and where `head` stands
@@ -101,7 +93,7 @@ module _ (xs : List ℕ) where
         long = length-take-le i xs (omega arith)
 
         row : take (i + 1) xs ≡ p ++ (y ∷ [])
-        row = passed_row 0 xs i less
+        row = take_more xs i 0 less
 
         up : Rises 0 (p ++ (y ∷ []))
         up = rw row at (rises_take 0 (i + 1) xs rises)

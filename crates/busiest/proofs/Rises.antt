@@ -10,32 +10,21 @@ use lib.Dec.{ltb}
 use lib.ListN.{length, take, get_or}
 use borrow.Author.Tests.{ltb-true, ltb-false, lt-ltb}
 use Rattle.lists.specs.Member.{In}
-use Rattle.lists.proofs.Member.{some_inj}
+use Rattle.lists.proofs.Member.{some_inj, at_in}
 use Rattle.lists.specs.Count.{count, more}
-use Rattle.lists.proofs.Count.{count_length}
+use Rattle.lists.proofs.Count.{count_length, count_weaker}
 use Rattle.busiest.specs.Stretch.{falls_from}
 
 -- ---- two tests on one list
 
 module _ {A : Type 0} (q r : A → Bool) where
-  -- what passes the one passes the other
-  pub count_le : (l : List A) → ((x : A) → In x l → q x ≡ true → r x ≡ true) → count q l ≤ count r l
-  count_le [] h = omega arith
-  count_le (x ∷ l) h = go (q x) refl (r x) refl (count_le l (λ y i. h y (inr i)))
-    where
-      go : (a : Bool) → q x ≡ a → (b : Bool) → r x ≡ b → count q l ≤ count r l → more a (count q l) ≤ more b (count r l)
-      go true e true g ih = omega arith
-      go true e false g ih = absurd (false≢true (sym g ∙ h x (inl refl) e))
-      go false e true g ih = omega arith
-      go false e false g ih = ih
-
-  -- and one passes the other alone
+  -- what passes the one passes the other, and one passes the other alone
   pub count_lt : (l : List A) → ((x : A) → In x l → q x ≡ true → r x ≡ true) → (a : A) → In a l → q a ≡ false → r a ≡ true → count q l < count r l
   count_lt [] h a i f t = absurd i
   count_lt (x ∷ l) h a (inl p) f t =
       let qx : q x ≡ false = sym (ap q p) ∙ f in
       let rx : r x ≡ true = sym (ap r p) ∙ t in
-      let le = count_le l (λ y i. h y (inr i)) in
+      let le = count_weaker q r l (λ y i. h y (inr i)) in
       rw (qx, rx) (omega arith)
   count_lt (x ∷ l) h a (inr i) f t = go (q x) refl (r x) refl (count_lt l (λ y j. h y (inr j)) a i f t)
     where
@@ -108,18 +97,13 @@ rises_most a (z ∷ l) y r x (inl p) = let h = rises_least z (l ++ (y ∷ [])) r
     in_last (z ∷ l) y = inr (in_last l y)
 rises_most a (z ∷ l) y r x (inr i) = rises_most z l y r.1 x i
 
-pub in_get : (l : List ℕ) (k : ℕ) → k < length l → In (get_or l k 0) l
-in_get [] k h = absurd (omega arith)
-in_get (x ∷ l) zero h = inl refl
-in_get (x ∷ l) (suc k) h = let m : k < length l = omega arith in inr (in_get l k m)
-
 -- nothing up to place k passes
 pub count_after : (q : ℕ → Bool) (a : ℕ) (l : List ℕ) (k : ℕ) → Rises a l → k < length l → ((z : ℕ) → z ≤ get_or l k 0 → q z ≡ false) → count q l ≤ length l - suc k
 count_after q a [] k r h f = absurd (omega arith)
 count_after q a (x ∷ l) zero r h f = rw (f x (omega arith)) (let m = count_length q l in omega arith)
 count_after q a (x ∷ l) (suc k) r h f =
     let m : k < length l = omega arith in
-    let least = rises_least x l r.1 (get_or l k 0) (in_get l k m) in
+    let least = rises_least x l r.1 (get_or l k 0) (at_in l k m) in
     let ih = count_after q x l k r.1 m f in
     rw (f x least) (omega arith)
 

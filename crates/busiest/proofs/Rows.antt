@@ -3,7 +3,7 @@ use Rattle.std.specs.Prelude.{unwrap_or}
 use Prim.Native.Nat.{ℕ, zero, suc, ◌-◌, ◌≤◌, min}
 use native.Mathlib.Omega.{arith}
 use mathlib.Core.Path.{◌≡◌, refl, ap, ◌∙◌}
-use mathlib.Core.List.{List, [], ◌∷◌}
+use mathlib.Core.List.{List, [], ◌∷◌, ◌++◌}
 use lib.ListN.{length, take, get_or, replicate}
 use lib.Seq.{take_all, take-append-le}
 use Rattle.lists.specs.Table.{rows_of}
@@ -21,8 +21,10 @@ newest_run l =
 pub newest_rows : (l : List StealRecord) → length l ≤ 64 → rows_of 64 (newest_of l).count (newest_of l).rows ≡ l
 newest_rows l h = let size : min (length l) 64 ≡ length l = omega arith in ap (λ k. take k (newest_of l).rows) size ∙ newest_run l
 
--- what is read at a place
-pub found_row : (l : List StealRecord) (i : ℕ) (d : StealRecord) → unwrap_or (found_at i l) d ≡ get_or l i d
-found_row [] i d = refl
-found_row (r ∷ l) zero d = refl
-found_row (r ∷ l) (suc i) d = found_row l i d
+-- what is read at a place, with the default that stands behind the records
+pub found_row : (l : List StealRecord) (m i : ℕ) (d : StealRecord) → unwrap_or (found_at i l) d ≡ get_or (l ++ replicate m d) i d
+found_row [] zero i d = refl
+found_row [] (suc m) zero d = refl
+found_row [] (suc m) (suc i) d = found_row [] m i d
+found_row (r ∷ l) m zero d = refl
+found_row (r ∷ l) m (suc i) d = found_row l m i d

@@ -8,12 +8,13 @@ use mathlib.Core.Bool.{Bool, true, false, ◌&&◌}
 use lib.Dec.{leb, ltb}
 use lib.ListN.{length, get_or, length-append}
 use borrow.Author.Tests.{leb-true, ltb-true, ltb-false, le-leb, lt-ltb, lt-leb}
+use Rattle.std.proofs.lemmas.Bool.{and_from}
 use Rattle.lists.specs.Member.{In}
-use Rattle.lists.proofs.Member.{and_left, and_right, both, in_snoc, in_left}
+use Rattle.lists.proofs.Member.{and_left, and_right, in_snoc, in_left, at_in}
 use Rattle.lists.specs.Count.{more}
 use Rattle.lists.proofs.Count.{count_length, count_snoc}
 use Rattle.busiest.specs.Stretch.{within, inside}
-use Rattle.busiest.proofs.Rises.{count_lt, Rises, rises_most, in_get, count_after, count_from}
+use Rattle.busiest.proofs.Rises.{count_lt, Rises, rises_most, count_after, count_from}
 
 -- ---- a sample and a stretch
 
@@ -25,7 +26,7 @@ module _ (w a x : ℕ) where
   within_to h = ltb-true x (a + w) (and_right (leb a x) (ltb x (a + w)) h)
 
   pub within_on : a ≤ x → x < a + w → within w a x ≡ true
-  within_on h k = both (leb a x) (ltb x (a + w)) (le-leb a x h) (lt-ltb x (a + w) k)
+  within_on h k = and_from (leb a x) (ltb x (a + w)) (le-leb a x h) (lt-ltb x (a + w) k)
 
   pub within_before : x < a → within w a x ≡ false
   within_before h = rw (lt-leb a x h)
@@ -59,7 +60,7 @@ module _ (w n x : ℕ) (p : List ℕ) (y : ℕ) (wide : 0 < w) (rises : Rises 0 
   fits = let c = count_length (within w x) p in let e = so_far.as_many in omega arith
 
   least : h ≤ y
-  least = let m : length p - n < length l = omega (arith, long, fits) in rises_most 0 p y rises h (in_get l (length p - n) m)
+  least = let m : length p - n < length l = omega (arith, long, fits) in rises_most 0 p y rises h (at_in l (length p - n) m)
 
   one_more : (a : ℕ) (b : Bool) → within w a y ≡ b → inside w a l ≡ more b (inside w a p)
   one_more a b e = count_snoc (within w a) p y ∙ ap (λ t. more t (inside w a p)) e
@@ -87,7 +88,7 @@ module _ (w n x : ℕ) (p : List ℕ) (y : ℕ) (wide : 0 < w) (rises : Rises 0 
 
   -- the stretch from h on holds y: one more
   pub so_far_grown : within w h y ≡ true → SoFar w l (n + 1) h
-  so_far_grown e = record { no_more = no_more; as_many = as_many; earlier = earlier_on (n + 1) h no_more as_many before; met = λ _. in_get l (length p - n) (omega (arith, long, fits)) }
+  so_far_grown e = record { no_more = no_more; as_many = as_many; earlier = earlier_on (n + 1) h no_more as_many before; met = λ _. at_in l (length p - n) (omega (arith, long, fits)) }
     where
       no_more : (a : ℕ) → inside w a l ≤ n + 1
       no_more a = go (within w a y) refl

@@ -13,9 +13,9 @@ use borrow.Author.Tests.{eq-eqb, eqb-true}
 use Rattle.lists.specs.Member.{In}
 use Rattle.lists.proofs.Member.{some_inj}
 use Rattle.lists.proofs.Find.{find_in, find_none}
-use Rattle.lists.proofs.Count.{count_none}
+use Rattle.lists.proofs.Count.{count_none, count_weaker}
 use Rattle.busiest.specs.Stretch.{within, inside, largest, first_of, BusiestStretch}
-use Rattle.busiest.proofs.Rises.{Rises, count_le, count_some, find_least}
+use Rattle.busiest.proofs.Rises.{Rises, count_some, find_least}
 use Rattle.busiest.proofs.SoFar.{within_from, within_to, within_on, SoFar}
 
 -- it names one number and one sample
@@ -81,7 +81,7 @@ module _ (w : ℕ) (xs : List ℕ) (n x : ℕ) (wide : 0 < w) (rises : Rises 0 x
       let lo = find_least (within w a) 0 xs rises z j t r f in
       let hi = within_to w a z t in
       within_on w r z lo (omega arith)) in
-      let more = count_le (within w a) (within w r) xs holds in
+      let more = count_weaker (within w a) (within w r) xs holds in
       let most = so_far.no_more r in
       let late = not_before r i.0 (omega arith) in
       let on : within w a x ≡ true = within_on w a x le (omega arith) in

@@ -7,7 +7,9 @@ use mathlib.Core.Bool.{Bool, true, ◌&&◌}
 use lib.Dec.{leb, ltb}
 use lib.ListN.{length, length-map, length-take}
 use borrow.Author.Tests.{le-leb, leb-true, ltb-true}
-use Rattle.lists.proofs.Member.{and_left, and_right, both}
+use Rattle.std.proofs.lemmas.Bool.{and_from}
+use Rattle.synthdef.proofs.Rows.{every_same}
+use Rattle.lists.proofs.Member.{and_left, and_right}
 use Rattle.lists.specs.Table.{rows_of}
 use Rattle.synthdef.specs.Rows.{every}
 use Rattle.synthdef.specs.Tables.{node_rows, edge_rows, param_rows, no_edge}
@@ -22,10 +24,6 @@ use Rattle.def_book.proofs.Held.{rows_held}
 every_map : {A B : Type 0} (q : B → Bool) (r : A → Bool) (f : A → B) → ((x : A) → q (f x) ≡ r x) → (l : List A) → every q (map f l) ≡ every r l
 every_map q r f e [] = refl
 every_map q r f e (x ∷ l) = rw (e x, every_map q r f e l)
-
-every_same : {A : Type 0} (q r : A → Bool) → ((x : A) → q x ≡ r x) → (l : List A) → every q l ≡ every r l
-every_same q r e [] = refl
-every_same q r e (x ∷ l) = rw (e x, every_same q r e l)
 
 pub rows_few : {A : Type 0} (room count : ℕ) (l : List A) → length (rows_of room count l) ≤ room
 rows_few room count l = simp length-take (omega arith)
@@ -44,7 +42,7 @@ module _ (ns : List DefNode) (es : List DefEdge) (ps : List Param) (output : ℕ
   rows_clean =
       let many : length (map clean_node ns) ≡ length ns = length-map ns clean_node in
       let a = every_map node_allowed node_allowed clean_node (λ n. refl) ns in
-      let b = every_same (edge_allowed (map clean_node ns)) (edge_allowed ns) (λ e. rw (many, ports_clean ns)) es in
+      let b = every_same (edge_allowed (map clean_node ns)) (edge_allowed ns) es (λ e. rw (many, ports_clean ns)) in
       let c = every_map (param_allowed (length (map clean_node ns))) (param_allowed (length ns)) clean_param (λ p. rw many) ps in
       let d : (ltb output (length (map clean_node ns)) && ordered (length (map clean_node ns)) es) ≡ (ltb output (length ns) && ordered (length ns) es) =
       ap (λ k. ltb output k && ordered k es) many in
@@ -71,8 +69,8 @@ module _ (ns : List DefNode) (es : List DefEdge) (ps : List Param) (output : ℕ
   tables_allowed n e p h =
       let some_node : 1 ≤ length ns = omega (arith, output_there h) in
       let counts : counts_allowed (length ns) (length es) (length ps) ≡ true =
-      both _ _ (le-leb 1 (length ns) some_node) (both _ _ (le-leb _ 24 n) (both _ _ (le-leb _ 48 e) (le-leb _ 8 p))) in
-      rw (rows_held blank_node 24 ns n, rows_held no_edge 48 es e, rows_held blank_param 8 ps p) (both _ _ counts h)
+      and_from _ _ (le-leb 1 (length ns) some_node) (and_from _ _ (le-leb _ 24 n) (and_from _ _ (le-leb _ 48 e) (le-leb _ 8 p))) in
+      rw (rows_held blank_node 24 ns n, rows_held no_edge 48 es e, rows_held blank_param 8 ps p) (and_from _ _ counts h)
 
 pub counts_there : (n e p : ℕ) → counts_allowed n e p ≡ true → (n ≤ 24) × (e ≤ 48) × (p ≤ 8)
 counts_there n e p h =

@@ -4,8 +4,9 @@ use native.Mathlib.Omega.{arith}
 use mathlib.Core.Path.{◌≡◌, refl, sym, ap, ◌∙◌}
 use mathlib.Core.List.{List, [], ◌∷◌, ◌++◌, append-nil}
 use Rattle.std.specs.Prelude.{Option, None, Some}
-use lib.ListN.{length, take, drop, length-append, length-drop, drop_of_length-le}
-use lib.Seq.{append_snoc, drop-drop, take_all}
+use lib.ListN.{length, drop, length-drop, drop_of_length-le}
+use lib.Seq.{append_snoc, drop-drop}
+use Rattle.std.proofs.lemmas.List.{length_push}
 use Rattle.synthdef.specs.Tables.{no_edge}
 use Rattle.synthdef.specs.declared.def.DefNode.{DefNode}
 use Rattle.synthdef.specs.Tables.{DefNodes}
@@ -21,10 +22,6 @@ use Rattle.def_book.specs.declared.body.Body.{Body}
 use Rattle.def_book.proofs.Held.{held_more}
 use Rattle.def_book.proofs.Walk.{row_fits, rows_nil, rows_none, rows_some}
 use Rattle.def_book.proofs.Restores.{gather_append}
-
--- the bytes from a position to the end
-pub part : (s : List ℕ) (at : ℕ) → take (length s - at) (drop at s) ≡ drop at s
-part s at = take_all (length s - at) (drop at s) (omega (arith, length-drop at s))
 
 row_some : (r : Row) → 1 ≤ long r
 row_some (node n) = omega arith
@@ -77,17 +74,14 @@ module _ {A : Type 0} (f : Row → Option A) where
       go (param p) None h = omega arith
       go (param p) (Some x) h = omega arith
 
-one_long : {A : Type 0} (l : List A) (x : A) → length l + 1 ≡ length (l ++ (x ∷ []))
-one_long l x = sym (length-append l (x ∷ []))
-
 pub nodes_more : (l : List DefNode) (n : DefNode) → more_nodes (node_table l) n ≡ node_table (l ++ (n ∷ []))
-nodes_more l n = rw (held_more blank_node 24 l n, one_long l n)
+nodes_more l n = rw (held_more blank_node 24 l n, sym (length_push l n))
 
 pub edges_more : (l : List DefEdge) (e : DefEdge) → more_edges (edge_table l) e ≡ edge_table (l ++ (e ∷ []))
-edges_more l e = rw (held_more no_edge 48 l e, one_long l e)
+edges_more l e = rw (held_more no_edge 48 l e, sym (length_push l e))
 
 pub params_more : (l : List Param) (p : Param) → more_params (param_table l) p ≡ param_table (l ++ (p ∷ []))
-params_more l p = rw (held_more blank_param 8 l p, one_long l p)
+params_more l p = rw (held_more blank_param 8 l p, sym (length_push l p))
 
 -- ---- the walk: the rows that were passed fill the tables, and with those that are left they are all
 pub record Walked (s : List ℕ) (ns : DefNodes) (es : DefEdges) (ps : Params) (at : ℕ) : Type 0 where

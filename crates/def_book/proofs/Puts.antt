@@ -8,8 +8,8 @@ use mathlib.Core.List.{List, [], ◌∷◌, ◌++◌, map, append_assoc, append-
 use lib.ListN.{length, take, drop, get_or, replicate, length-append, length-drop, length-take}
 use lib.Seq.{take_all, take-nil, take-suc}
 use borrow.Rule.Slice.PartMut.{mid_of, put_mid}
+use Rattle.std.proofs.lemmas.List.{map-append}
 use Rattle.lists.specs.Written.{written}
-use Rattle.lists.proofs.Member.{map_append}
 use Rattle.lists.proofs.Written.{written_then, written_long}
 use Rattle.def_book.specs.Held.{held}
 use Rattle.def_book.specs.Bytes.{joined}
@@ -71,7 +71,7 @@ rows_more f rows i d h =
     sym
     (ap (λ k. joined (map f (take k rows))) (add-one i)
     ∙ ap (λ l. joined (map f l)) (take-suc rows i d h)
-    ∙ ap joined (map_append f (take i rows) (get_or rows i d ∷ []))
+    ∙ ap joined (map-append f (take i rows) (get_or rows i d ∷ []))
     ∙ joined_append (map f (take i rows)) (f (get_or rows i d) ∷ [])
     ∙ ap (◌++◌ (joined (map f (take i rows)))) one)
 

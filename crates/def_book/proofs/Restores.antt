@@ -9,7 +9,8 @@ use lib.Dec.{leb, eqb}
 use lib.ListN.{length, drop, get_or, length-append}
 use lib.Seq.{drop_at, get_or-append-add}
 use borrow.Author.Tests.{le-leb}
-use Rattle.lists.proofs.Member.{and_left, and_right, both, some_inj}
+use Rattle.std.proofs.lemmas.Bool.{and_from}
+use Rattle.lists.proofs.Member.{and_left, and_right, some_inj}
 use Rattle.node.specs.Name.{named, text}
 use Rattle.node.specs.declared.name.Name.{Name}
 use Rattle.synthdef.specs.Rows.{every}
@@ -52,7 +53,7 @@ name_back : (a b c e : ℕ) (n : Name) (z : List ℕ) → name_at (a ∷ b ∷ c
 name_back a b c e n z = ap (λ l. record { bytes = l; len = n.len }) (held_again 0 16 (text n) z)
 
 clean_fits : (n : Name) → named n ≡ true → name_fits (clean_name n) ≡ true
-clean_fits n h = both (named n) _ h (rest_zero 16 n.len n.bytes)
+clean_fits n h = and_from (named n) _ h (rest_zero 16 n.len n.bytes)
 
 -- ---- one row
 module _ (n : DefNode) (t : List ℕ) where
@@ -81,7 +82,7 @@ module _ (n : DefNode) (t : List ℕ) where
       let sorts : leb (get_or (kind_bytes ++ behind) 18 0) 3 ≡ true = ap (λ k. leb k 3) (past kind_bytes behind p 2) ∙ sorts_three n.takes_values n.takes_glides in
       let name : name_fits (name_at (27 ∷ 0 ∷ 2 ∷ 0 ∷ n.kind.len ∷ (kind_bytes ++ behind))) ≡ true =
       ap name_fits (name_back 27 0 2 0 n.kind behind) ∙ clean_fits n.kind h in
-      both _ _ (le-leb 27 _ long) (both _ _ name sorts)
+      and_from _ _ (le-leb 27 _ long) (and_from _ _ name sorts)
 
   node_back : named n.kind ≡ true → row_at (node_bytes n ++ t) ≡ Some (node (clean_node n))
   node_back h = ap row_at laid ∙ as_node_lem _ (node_is h) ∙ ap (λ m. Some (node m)) node_read
@@ -111,7 +112,7 @@ module _ (p : Param) (t : List ℕ) where
       let long : 22 ≤ length (22 ∷ 0 ∷ 4 ∷ 0 ∷ p.name.len ∷ (name_bytes_lem ++ (p.node ∷ t))) = simp length-append (omega arith) in
       let name : name_fits (name_at (22 ∷ 0 ∷ 4 ∷ 0 ∷ p.name.len ∷ (name_bytes_lem ++ (p.node ∷ t)))) ≡ true =
       ap name_fits (name_back 22 0 4 0 p.name (p.node ∷ t)) ∙ clean_fits p.name h in
-      both _ _ (le-leb 22 _ long) name
+      and_from _ _ (le-leb 22 _ long) name
 
   param_back : named p.name ≡ true → row_at (param_bytes p ++ t) ≡ Some (param (clean_param p))
   param_back h = ap row_at param_laid ∙ as_param_lem _ refl refl (param_is h) ∙ ap (λ m. Some (param m)) param_read

@@ -11,8 +11,9 @@ use lib.Dec.{leb, eqb}
 use lib.ListN.{length, take, drop, get_or, length-append, length-drop, take-append-drop, get_or-append}
 use lib.Seq.{get_or-take, get_or-drop, length-take-le, drop_at}
 use borrow.Author.Tests.{le-leb, leb-true, eq-eqb, eqb-true}
+use Rattle.std.proofs.lemmas.Bool.{and_from}
 use Rattle.lists.specs.Member.{In}
-use Rattle.lists.proofs.Member.{and_left, and_right, both, some_inj, none_some}
+use Rattle.lists.proofs.Member.{and_left, and_right, some_inj, none_some}
 use Rattle.lists.specs.Count.{count, more as counted}
 use Rattle.node.specs.Name.{named}
 use Rattle.node.proofs.NameLaws.{name_long}
@@ -32,7 +33,7 @@ module _ (kind n : ℕ) (s : List ℕ) where
       (eqb-true _ _ (and_left (eqb (pair_at s 0) n) _ h), eqb-true _ _ (and_left (eqb (pair_at s 2) kind) (leb n (length s)) h1), record_fits kind n s h)
 
   says_record : pair_at s 0 ≡ n → pair_at s 2 ≡ kind → n ≤ length s → is_record kind n s ≡ true
-  says_record a b c = both _ _ (eq-eqb _ _ a) (both _ _ (eq-eqb _ _ b) (le-leb _ _ c))
+  says_record a b c = and_from _ _ (eq-eqb _ _ a) (and_from _ _ (eq-eqb _ _ b) (le-leb _ _ c))
 
   -- the first n bytes
   pub record_cut : 4 ≤ n → is_record kind n s ≡ true → IsRecord kind n (take n s)
@@ -57,7 +58,7 @@ module _ (kind n : ℕ) (s : List ℕ) where
           let fits : n ≤ length (s ++ t) = simp length-append (omega (arith, r.long)) in
           let first : pair_at (s ++ t) 0 ≡ n = rw (a, b) r.says_length in
           let second : pair_at (s ++ t) 2 ≡ kind = rw (c, d) r.says_kind in
-          both _ _ (eq-eqb _ _ first) (both _ _ (eq-eqb _ _ second) (le-leb _ _ fits))
+          and_from _ _ (eq-eqb _ _ first) (and_from _ _ (eq-eqb _ _ second) (le-leb _ _ fits))
 
 -- ---- a name
 zeros_at : (l : List ℕ) (i : ℕ) → every is_zero l ≡ true → get_or l i 0 ≡ 0
@@ -67,7 +68,7 @@ zeros_at (x ∷ l) (suc i) h = zeros_at l i (and_right (is_zero x) (every is_zer
 
 at_zeros : (l : List ℕ) → ((i : ℕ) → i < length l → get_or l i 0 ≡ 0) → every is_zero l ≡ true
 at_zeros [] h = refl
-at_zeros (x ∷ l) h = both _ _ (eq-eqb x 0 (h 0 (omega arith))) (at_zeros l (λ i b. h (suc i) (omega arith)))
+at_zeros (x ∷ l) h = and_from _ _ (eq-eqb x 0 (h 0 (omega arith))) (at_zeros l (λ i b. h (suc i) (omega arith)))
 
 -- byte i of the 16
 name_byte : (s : List ℕ) (i : ℕ) → i < 16 → get_or (held 16 0 (drop 5 s)) i 0 ≡ get_or s (5 + i) 0
@@ -107,7 +108,7 @@ name_goes_on r t f n =
     let some_byte : 1 ≤ get_or (r ++ t) 4 0 = omega (arith, n.some_byte) in
     let sixteen : get_or (r ++ t) 4 0 ≤ 16 = omega (arith, n.sixteen) in
     let zeros = unused_name (r ++ t) (λ i b k. get_or-append r t 0 (5 + i) (omega arith) ∙ n.unused i (omega arith) k) in
-    both _ _ (both _ _ (le-leb _ _ some_byte) (le-leb _ _ sixteen)) zeros
+    and_from _ _ (and_from _ _ (le-leb _ _ some_byte) (le-leb _ _ sixteen)) zeros
 
 -- ---- a row
 -- a record of another length is none of this kind
@@ -159,7 +160,7 @@ row_goes_on r t (inl n) =
     let sorts : get_or (r ++ t) 23 0 ≤ 3 = omega (arith, get_or-append r t 0 23 (omega (arith, n.framed.long)), n.sorts) in
     record {
       row = node (node_at (r ++ t));
-      read = as_node_lem (r ++ t) (both _ _ framed (both _ _ name (le-leb _ _ sorts)));
+      read = as_node_lem (r ++ t) (and_from _ _ framed (and_from _ _ name (le-leb _ _ sorts)));
       size = sym n.framed.long;
       node_or_not = sym (eq-eqb _ 2 n.framed.says_kind);
     }
@@ -177,7 +178,7 @@ row_goes_on r t (inr (inr p)) =
     let says = (record_says 4 22 (r ++ t) framed).0 in
     record {
       row = param (param_at (r ++ t));
-      read = as_param_lem (r ++ t) (no_node 22 (r ++ t) says refl) (other_length 3 7 22 (r ++ t) says refl) (both _ _ framed name);
+      read = as_param_lem (r ++ t) (no_node 22 (r ++ t) says refl) (other_length 3 7 22 (r ++ t) says refl) (and_from _ _ framed name);
       size = sym p.framed.long;
       node_or_not = sym (ap (λ k. eqb k 2) p.framed.says_kind);
     }

@@ -5,13 +5,15 @@ use Prim.Native.Nat.{ℕ, ◌+◌, ◌≤◌}
 use native.Mathlib.Omega.{arith}
 use mathlib.Core.Path.{◌≡◌, refl, sym, ap, ◌∙◌}
 use mathlib.Core.Logic.{◌↔◌}
-use mathlib.Core.List.{List, [], ◌∷◌, ◌++◌, map, append-nil}
+use mathlib.Core.List.{List, [], ◌∷◌, ◌++◌, map, append-nil, map-map}
 use mathlib.Core.Bool.{Bool, true, false, cond}
 use lib.Dec.{leb, eqb}
 use lib.ListN.{length, take, drop, get_or, length-map, take-append-drop, get_or-append}
 use lib.Seq.{length-take-le, take-append_seam, get_or-take, drop_at}
 use borrow.Author.Tests.{le-leb, eq-eqb, eqb-true}
-use Rattle.lists.proofs.Member.{and_left, and_right, both, map_append}
+use Rattle.std.proofs.lemmas.Bool.{and_from}
+use Rattle.std.proofs.lemmas.List.{map-append}
+use Rattle.lists.proofs.Member.{and_left, and_right}
 use Rattle.lists.specs.Written.{written}
 use Rattle.node.specs.Name.{named, text}
 use Rattle.node.specs.declared.name.Name.{Name}
@@ -39,11 +41,11 @@ given d h = ap (λ b. cond b (gives d) limits) h
 -- ---- the rows of a definition
 every_append : {A : Type 0} (q : A → Bool) (a b : List A) → every q a ≡ true → every q b ≡ true → every q (a ++ b) ≡ true
 every_append q [] b h k = k
-every_append q (x ∷ a) b h k = both (q x) _ (and_left (q x) (every q a) h) (every_append q a b (and_right (q x) (every q a) h) k)
+every_append q (x ∷ a) b h k = and_from (q x) _ (and_left (q x) (every q a) h) (every_append q a b (and_right (q x) (every q a) h) k)
 
 every_mapped : {A B : Type 0} (q : B → Bool) (r : A → Bool) (f : A → B) → ((x : A) → r x ≡ true → q (f x) ≡ true) → (l : List A) → every r l ≡ true → every q (map f l) ≡ true
 every_mapped q r f e [] h = refl
-every_mapped q r f e (x ∷ l) h = both (q (f x)) _ (e x (and_left (r x) (every r l) h)) (every_mapped q r f e l (and_right (r x) (every r l) h))
+every_mapped q r f e (x ∷ l) h = and_from (q (f x)) _ (e x (and_left (r x) (every r l) h)) (every_mapped q r f e l (and_right (r x) (every r l) h))
 
 module _ (d : SynthDef) where
   abbrev ns : List DefNode
@@ -72,16 +74,12 @@ module _ (d : SynthDef) where
   kept : List Row
   kept = map (λ n. node (clean_node n)) ns ++ (map edge es ++ map (λ p. param (clean_param p)) ps)
 
-  map_map : {A B C : Type 0} (g : B → C) (f : A → B) (l : List A) → map g (map f l) ≡ map (λ x. g (f x)) l
-  map_map g f [] = refl
-  map_map g f (x ∷ l) = ap (λ m. g (f x) ∷ m) (map_map g f l)
-
   rows_kept : map clean_row (rows_in d) ≡ kept
   unfolding kept
   rows_kept =
-      map_append clean_row (map node ns) (map edge es ++ map param ps)
-      ∙ ap (λ l. map clean_row (map node ns) ++ l) (map_append clean_row (map edge es) (map param ps))
-      ∙ (cc (map_map clean_row node ns, map_map clean_row edge es, map_map clean_row param ps))
+      map-append clean_row (map node ns) (map edge es ++ map param ps)
+      ∙ ap (λ l. map clean_row (map node ns) ++ l) (map-append clean_row (map edge es) (map param ps))
+      ∙ (cc (map-map clean_row node ns, map-map clean_row edge es, map-map clean_row param ps))
 
   nodes_kept : nodes_of kept ≡ map clean_node ns
   unfolding kept

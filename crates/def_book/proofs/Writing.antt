@@ -2,13 +2,13 @@
 use Prim.Native.Nat.{ℕ, ◌*◌, ◌≤◌, ◌<◌, min}
 use native.Mathlib.Nat.{min-eq_left}
 use native.Mathlib.Omega.{arith}
-use mathlib.Core.Path.{◌≡◌, refl, sym, ap, ◌∙◌}
-use mathlib.Core.List.{List, [], ◌∷◌, ◌++◌, map, append_assoc}
+use mathlib.Core.Path.{◌≡◌, sym, ap, ◌∙◌}
+use mathlib.Core.List.{List, ◌++◌, map, append_assoc, map-map}
 use mathlib.Core.Bool.{true, false, cond}
 use lib.ListN.{length, length-append, length-take, length-map}
 use lib.Dec.{leb}
 use borrow.Author.Tests.{le-leb, lt-leb}
-use Rattle.lists.proofs.Member.{map_append}
+use Rattle.std.proofs.lemmas.List.{map-append}
 use Rattle.lists.specs.Written.{written}
 use Rattle.synthdef.specs.Limits.{allowed}
 use Rattle.synthdef.specs.Tables.{node_rows, edge_rows, param_rows}
@@ -21,10 +21,6 @@ use Rattle.def_book.specs.Write.{length_of, refused, book_length, write_answer, 
 use Rattle.def_book.specs.Put.{Put}
 use Rattle.def_book.proofs.Restores.{row_long}
 use Rattle.def_book.proofs.Puts.{joined_append, take_long}
-
-map_map : {A B C : Type 0} (g : B → C) (f : A → B) (l : List A) → map g (map f l) ≡ map (λ x. g (f x)) l
-map_map g f [] = refl
-map_map g f (x ∷ l) = ap (λ m. g (f x) ∷ m) (map_map g f l)
 
 -- the records of the three sorts
 pub record Long (d : SynthDef) : Type 0 where
@@ -55,9 +51,9 @@ module _ (d : SynthDef) where
       let es = edge_rows d.edges in
       let ps = param_rows d.params in
       ap joined
-      (map_append row_bytes (map node ns) (map edge es ++ map param ps)
-      ∙ ap (λ l. map row_bytes (map node ns) ++ l) (map_append row_bytes (map edge es) (map param ps))
-      ∙ cc (map_map row_bytes node ns, map_map row_bytes edge es, map_map row_bytes param ps))
+      (map-append row_bytes (map node ns) (map edge es ++ map param ps)
+      ∙ ap (λ l. map row_bytes (map node ns) ++ l) (map-append row_bytes (map edge es) (map param ps))
+      ∙ cc (map-map row_bytes node ns, map-map row_bytes edge es, map-map row_bytes param ps))
       ∙ joined_append (map node_bytes ns) (map edge_bytes es ++ map param_bytes ps)
       ∙ ap (λ l. node_part ++ l) (joined_append (map edge_bytes es) (map param_bytes ps))
 

@@ -1,14 +1,15 @@
 -- Connecting: dropping the edge at a port makes a place if there was one.
-use Prim.Native.Nat.{ℕ, ◌≤◌, ◌<◌}
+use Prim.Native.Nat.{ℕ, ◌+◌, ◌≤◌, ◌<◌}
 use native.Mathlib.Omega.{arith}
 use mathlib.Core.Path.{◌≡◌, refl, sym, ap, ◌∙◌}
 use mathlib.Core.List.{List, [], ◌∷◌, ◌++◌}
 use Rattle.std.specs.Prelude.{Option, None, Some, find, is_some}
-use mathlib.Core.Bool.{Bool, true, false, not, cond, ◌&&◌, and-false}
+use mathlib.Core.Bool.{Bool, true, false, not, cond, ◌&&◌, and-false, and-true}
 use lib.Dec.{leb}
 use lib.ListN.{length}
 use borrow.Author.Tests.{le-leb, lt-leb, leb-false}
-use Rattle.lists.proofs.Filter.{filter_all}
+use Rattle.std.proofs.lemmas.List.{length_push}
+use Rattle.lists.proofs.Filter.{filter_all, length_filter}
 use Rattle.lists.proofs.Find.{find_in, find_none}
 use Rattle.lists.proofs.Count.{count_filter_lt, count_all}
 use Rattle.node.specs.declared.record.NodeId.{NodeId}
@@ -27,6 +28,10 @@ drop_fewer es n p h = go (find (ends_at n p) es) refl h
         let fewer = count_filter_lt (λ y. true) (λ y. not (ends_at n p y)) es x i.0 refl (ap not i.1) in
         omega (arith, fewer, count_all es, count_all (drop_at es n p))
 
+-- connecting adds one edge at most
+pub length_wired : (es : List Edge) (e : Edge) → length (wired es e) ≤ length es + 1
+length_wired es e = omega (arith, length_push (drop_at es e.to e.port) e, length_filter (λ d. not (ends_at e.to e.port d)) es)
+
 pub drop_none : (es : List Edge) (n : NodeId) (p : ℕ) → taken es n p ≡ false → drop_at es n p ≡ es
 drop_none es n p h = go (find (ends_at n p) es) refl h
   where
@@ -42,11 +47,7 @@ place_left es n p h = go (taken es n p) refl
     go true e =
         let fewer : length (drop_at es n p) < 1024 = omega (arith, h, drop_fewer es n p e) in
         lt-leb _ _ fewer ∙ sym (and-false (leb 1024 (length es)))
-    go false e = ap (λ l. leb 1024 (length l)) (drop_none es n p e) ∙ and_true' (leb 1024 (length es))
-      where
-        and_true' : (b : Bool) → b ≡ (b && true)
-        and_true' true = refl
-        and_true' false = refl
+    go false e = ap (λ l. leb 1024 (length l)) (drop_none es n p e) ∙ sym (and-true (leb 1024 (length es)))
 
 module _ (es d : List Edge) (e : Edge) (small : length es ≤ 1024) (dropped : d ≡ drop_at es e.to e.port) where
   pub left : leb 1024 (length d) ≡ no_place es e.to e.port

@@ -9,6 +9,7 @@ use Rattle.lists.proofs.Filter.{filter_same}
 use Rattle.node.specs.Name.{same_name}
 use Rattle.node.specs.declared.name.Name.{Name}
 use Rattle.node.specs.declared.order.EventAction.{EventAction}
+use Rattle.node.specs.declared.record.VoiceId.{VoiceId}
 use Rattle.node.specs.declared.order.EventAction.TheVariants as action
 use Rattle.scheduler.specs.Event.{param_of}
 use Rattle.scheduler.specs.Replace.{is_value, is_glide, same_sort, replaces, thinned}
@@ -19,6 +20,8 @@ use Rattle.event_table.specs.Key.{KeyOf, same_order, replaces_by, thinned_by}
 use Rattle.event_table.specs.declared.replace.Key.{Key}
 
 -- ---- a test of several parts
+-- `and_left` of the library has the sides of the first the other way round: each citation ends a chain with the conjunction, and would
+-- turn it again.
 pub off : (a b : Bool) → a ≡ false → false ≡ (a && b)
 off a b h = rw h
 
@@ -67,7 +70,7 @@ module _ (e : Event) (k : Key) (h : KeyOf e k) where
 
   pub key_replaces : (f : Event) → replaces_by k f ≡ replaces e f
   key_replaces f =
-      ap₂ (λ (t v : ℕ). eqb t f.time && (eqb v f.voice.0 && same_order k f.action f.name)) h.time h.voice
+      ap₂ (λ (t : ℕ) (v : VoiceId). eqb t f.time && (eqb v.0 f.voice.0 && same_order k f.action f.name)) h.time h.voice
       ∙ ap (λ z. eqb e.time f.time && (eqb e.voice.0 f.voice.0 && z)) (ordered f.action f.name)
 
   pub key_thinned : (l : List Event) → thinned_by k l ≡ thinned e l

@@ -3,7 +3,7 @@ use Prim.Native.Nat.{ℕ, zero, suc, ◌-◌, ◌%◌, min}
 use native.Mathlib.Omega.{arith}
 use mathlib.Core.Path.{◌≡◌, refl, sym, ap, ◌∙◌}
 use mathlib.Core.List.{List, [], ◌∷◌, ◌++◌}
-use mathlib.Core.Bool.{Bool, true, false, ◌&&◌}
+use mathlib.Core.Bool.{Bool, true, false, ◌&&◌, and_assoc}
 use lib.Dec.{eqb}
 use lib.ListN.{length, take, length-take}
 use Rattle.node.specs.Name.{name_length, named, text, same_bytes, same_name}
@@ -13,10 +13,6 @@ use Rattle.words.specs.Fields.{four, name_from}
 use Rattle.event_table.specs.Key.{same_four}
 
 -- ---- word by word
-and_assoc : (a b c : Bool) → (a && (b && c)) ≡ ((a && b) && c)
-and_assoc true b c = refl
-and_assoc false b c = refl
-
 same_append : (a b l m : List ℕ) → length a ≡ length b → (n : ℕ)
     → same_bytes (take n (a ++ l)) (take n (b ++ m)) ≡ (same_bytes (take n a) (take n b) && same_bytes (take (n - length a) l) (take (n - length a) m))
 same_append [] [] l m h n =
@@ -33,7 +29,7 @@ same_append (x ∷ a) (y ∷ b) l m h (suc n) =
     let same : length a ≡ length b = omega arith in
     let k : suc n - suc (length a) ≡ n - length a = omega arith in
     ap (λ z. eqb x y && z) (same_append a b l m same n)
-    ∙ and_assoc (eqb x y) (same_bytes (take n a) (take n b)) (same_bytes (take (n - length a) l) (take (n - length a) m))
+    ∙ sym (and_assoc (eqb x y) (same_bytes (take n a) (take n b)) (same_bytes (take (n - length a) l) (take (n - length a) m)))
     ∙ sym (ap (λ j. (eqb x y && same_bytes (take n a) (take n b)) && same_bytes (take j l) (take j m)) k)
 
 module _ (a b c d x y z w n : ℕ) where

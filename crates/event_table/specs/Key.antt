@@ -12,7 +12,7 @@ use Rattle.event_table.specs.declared.replace.Key.{Key}
 
 pub record KeyOf (e : Event) (k : Key) : Type 0 where
   pub time : k.time ≡ e.time
-  pub voice : k.voice ≡ e.voice.0
+  pub voice : k.voice ≡ e.voice
   pub value : k.value ≡ is_value e.action
   pub glide : k.glide ≡ is_glide e.action
   pub gate : k.gate ≡ same_name (param_of e.action e.name) gate_name
@@ -31,7 +31,7 @@ same_order k action.Free name = false
 
 -- what the key says is what `replaces` says of its event (`key_replaces` in proofs/Keys)
 abbrev pub replaces_by : Key → Event → Bool
-replaces_by k f = eqb k.time f.time && (eqb k.voice f.voice.0 && same_order k f.action f.name)
+replaces_by k f = eqb k.time f.time && (eqb k.voice.0 f.voice.0 && same_order k f.action f.name)
 
 abbrev pub thinned_by : Key → List Event → List Event
 thinned_by k l = filter (λ f. not (replaces_by k f)) l

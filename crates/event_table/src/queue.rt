@@ -22,16 +22,16 @@ pub fn is_due(t: &[u32], i: usize, deadline: u64) -> bool
 
 // The place at which an event belongs among the first `n`: before the first that is later. Any words are a queue, so it need not be ordered,
 // and a bisection would not find the first.
-fn place(t: &[u32], n: usize, e: Event) -> usize
-    requires { (length t.now ≡ 3840) × (n < 256) }
+fn place(t: &EventTable, n: usize, e: Event) -> usize
+    requires { n < 256 }
     ensures { Place (take n (events_in t.now)) e result }
 {
     (0..n).find(|i| e.time < time_at(t, *i)).unwrap_or(n)
 }
 
 // The event `e` at its place among the first `n`: the rows from there on move up by one.
-fn insert(t: &mut [u32], n: usize, e: Event)
-    requires { (length t.old ≡ 3840) × (n < 256) }
+fn insert(t: &mut EventTable, n: usize, e: Event)
+    requires { n < 256 }
     ensures { take (n + 1) (events_in t.new) ≡ inserted e (take n (events_in t.old)) }
 {
     let p = place(t, n, e);

@@ -12,16 +12,17 @@ ghost use Rattle.event_table.specs.Key.{KeyOf, same_four, same_order, replaces_b
 use crate::row::time_at;
 use node::name::{name_length, same_name};
 use node::order::EventAction;
+use node::record::VoiceId;
 use scheduler::event::{Event, gate_name, param_order};
 use words::fields::{long_at, name_words};
-use words::table::{close_gaps, word_at};
+use words::table::{close_gaps, first_row, word_at};
 
 // What of a new event decides whom it replaces. `gate` says that the parameter is `gate`, and `name` is its name in words. Flags and no enum:
 // they are the tests that `replaces` makes, `value` and `glide` of the action, `gate` of the name.
 #[derive(Clone, Copy)]
 pub(crate) struct Key {
     time: u64,
-    voice: u64,
+    voice: VoiceId,
     value: bool,
     glide: bool,
     gate: bool,
@@ -46,7 +47,7 @@ pub(crate) fn key_of(e: Event) -> Key
     let name = param_order(e).name;
     Key {
         time: e.time,
-        voice: e.voice.0,
+        voice: e.voice,
         value: is_value(e.action),
         glide: is_glide(e.action),
         gate: same_name(name, gate_name()),
@@ -55,7 +56,7 @@ pub(crate) fn key_of(e: Event) -> Key
 }
 
 // The tests below compare a row's words with a key's. Tried with names, by `name_at` and `same_name`: where the first of 256 events of one voice is
-// replaced, that took 1.22 times as long, which makes 2.1 µs of 1.7, where 2 are allowed (docs/DECISIONS.md, 174).
+// replaced, that took 1.22 times as long, which makes 2.1 µs of 1.7 (docs/DECISIONS.md, 174), and the paper leaves 2 (docs/CHANGES.md, "Paper 9").
 
 // Whether the first `n` bytes of two words are the same; a word has four.
 fn same_four(x: u32, y: u32, n: usize) -> bool
@@ -102,14 +103,14 @@ fn same_order(t: &[u32], i: usize, k: &Key) -> bool
 fn is_replaced(t: &[u32], i: usize, k: &Key) -> bool
     ensures { result ≡ replaces_by k.now (get_or (events_in t.now) i (event_of [])) }
 {
-    time_at(t, i) == k.time && long_at(t, 15, i, 2) == k.voice && same_order(t, i, k)
+    k.time == time_at(t, i) && k.voice == VoiceId(long_at(t, 15, i, 2)) && same_order(t, i, k)
 }
 
 // The row of the first event among the first `count` that is replaced, or none.
 pub(crate) fn row_replaced(t: &[u32], count: usize, k: &Key) -> Option<usize>
     ensures { result ≡ position (replaces_by k.now) (take count (events_in t.now)) }
 {
-    (0..count.min(t.len() / 15)).find(|i| is_replaced(t, *i, k))
+    first_row(t, 15, count, |t, i| is_replaced(t, i, k))
 }
 
 // Removes the events that are replaced, of which row `p` is the first: how many are left.

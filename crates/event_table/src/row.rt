@@ -1,15 +1,14 @@
-// An event in 15 words: time 2, voice 2, name 5, action 6. A reader past the end gives what no words stand for, and no Option: callers read below
-// the count, and none of them would meet the other case.
+// An event in 15 words: time 2, voice 2, name 5, action 6. A reader past the end gives what no words stand for, and no Option: the
+// definitions read a list with that default, so that any words have a meaning, and with an Option each caller would name it again.
 ghost use Rattle.std.specs.Prelude.{◌≡◌, [], get_or, set};
 ghost use Rattle.words.specs.Rows.{row_at};
 ghost use Rattle.event_table.specs.Rows.{action_from, action_at, event_of, events_in, Stands};
 
-use node::order::EventAction;
+use node::order::{EventAction, LastOrder};
 use node::record::VoiceId;
 use scheduler::event::Event;
 use words::fields::{
-    float_from, float_word, glide_from, glide_words, high_word, long_at, low_word, name_at,
-    name_words,
+    float_at, float_word, glide_words, high_word, last_at, long_at, low_word, name_at, name_words,
 };
 use words::table::{put_row, word_at};
 
@@ -23,7 +22,7 @@ pub const EVENT_WORDS: usize = 3840;
 pub type EventTable = [u32; EVENT_WORDS];
 
 // An action in six words: which, the target or value, the seconds, the shape and its exponent, the space. Which it is is a number, since lent words
-// hold numbers.
+// hold numbers. By `last_words` of words it would have these four arms too, and make a node's order in three of them first.
 fn action_words(a: EventAction) -> [u32; 6]
     ensures { action_from (get_or result 0 0) (get_or result 1 0) (get_or result 2 0) (get_or result 3 0) (get_or result 4 0) (get_or result 5 0) ≡ a }
 {
@@ -32,18 +31,6 @@ fn action_words(a: EventAction) -> [u32; 6]
         EventAction::Value(x) => [1, float_word(x), 0, 0, 0, 0],
         EventAction::Glide(g) => glide_words(g),
         EventAction::Gate(x) => [3, float_word(x), 0, 0, 0, 0],
-    }
-}
-
-// By its six words, of which a glide takes all but the first, as `words::fields` has them; lent words hold a number for its sort.
-fn action_from(which: u32, x: u32, seconds: u32, shape: u32, e: u32, space: u32) -> EventAction
-    ensures { result ≡ action_from which x seconds shape e space }
-{
-    match which {
-        1 => EventAction::Value(float_from(x)),
-        2 => EventAction::Glide(glide_from(x, seconds, shape, e, space)),
-        3 => EventAction::Gate(float_from(x)),
-        _ => EventAction::Free,
     }
 }
 
@@ -72,16 +59,18 @@ fn event_words(e: Event) -> [u32; 15]
     ]
 }
 
-// The action of the event in row `i`.
+// The action of the event in row `i`: its words are those of a node's newest order, but for a gate, which has number 3: lent words hold numbers.
 fn action_at(t: &[u32], i: usize) -> EventAction
     ensures { result ≡ action_at (row_at 15 i t.now) 9 }
 {
-    let which = word_at(t, 15, i, 9);
-    let x = word_at(t, 15, i, 10);
-    let seconds = word_at(t, 15, i, 11);
-    let shape = word_at(t, 15, i, 12);
-    let e = word_at(t, 15, i, 13);
-    action_from(which, x, seconds, shape, e, word_at(t, 15, i, 14))
+    match last_at(t, 15, i, 9) {
+        LastOrder::Value(x) => EventAction::Value(x),
+        LastOrder::Glide(g) => EventAction::Glide(g),
+        LastOrder::Nothing if word_at(t, 15, i, 9) == 3 => {
+            EventAction::Gate(float_at(t, 15, i, 10))
+        }
+        LastOrder::Nothing => EventAction::Free,
+    }
 }
 
 // The event in row `i`; past the end, the event of no words, all 0.

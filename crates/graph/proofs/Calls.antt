@@ -1,12 +1,13 @@
 -- The laws of the refusals, and when two graphs are the same.
 use Prim.Native.Nat.{ℕ, ◌≤◌, ◌<◌}
 use native.Mathlib.Omega.{arith}
-use mathlib.Core.Path.{◌≡◌, refl, ap, ◌∙◌}
+use mathlib.Core.Path.{◌≡◌, refl, sym, ap, ◌∙◌}
 use Rattle.std.specs.Prelude.{Option, None, Some, Ok}
 use mathlib.Core.List.{List}
 use mathlib.Core.Bool.{Bool, true, false}
 use lib.ListN.{length}
 use borrow.Author.Tests.{le-leb, lt-leb}
+use Rattle.lists.proofs.Member.{none_some}
 use Rattle.node.specs.declared.record.NodeId.{NodeId}
 use Rattle.node.specs.declared.record.Node.{Node}
 use Rattle.node.specs.declared.record.Edge.{Edge}
@@ -25,6 +26,11 @@ when_on t r rest e = rw e
 
 pub when_off : (t : Bool) (r : Refusal) (rest : Option Refusal) → t ≡ false → when t r rest ≡ rest
 when_off t r rest e = rw e
+
+-- where nothing is refused the test failed, and what comes after it refuses nothing
+pub when_none : (t : Bool) (r : Refusal) (rest : Option Refusal) → when t r rest ≡ None → (t ≡ false) × (rest ≡ None)
+when_none true r rest e = absurd (none_some (sym e))
+when_none false r rest e = (refl, e)
 
 -- the refusals of appending
 module _ (v : GraphView) where

@@ -5,9 +5,12 @@ use native.Mathlib.Decide.{ℕ_discrete}
 use mathlib.Core.Path.{◌≡◌, refl, sym, ap, fun_ext, ◌∙◌}
 use mathlib.Core.List.{List, [], ◌∷◌, map}
 use Rattle.std.specs.Prelude.{Option, None, Some, cond, filter, find, is_some}
-use mathlib.Core.Bool.{Bool, true, false, not, ◌&&◌, ◌||◌, or_assoc, or-false}
+use mathlib.Core.Bool.{Bool, true, false, not, ◌||◌, or_assoc, or-false, false≢true}
 use lib.Dec.{eqb}
 use borrow.Author.Tests.{eq-eqb, ne_eqb}
+use Rattle.lists.proofs.Find.{find_none}
+use Rattle.lists.specs.Member.{In}
+use Rattle.lists.proofs.Member.{neither}
 use Rattle.lists.proofs.Filter.{filter_filter, filter_same}
 use Rattle.lists.specs.Find.{filter_o}
 use Rattle.node.specs.declared.record.NodeId.{NodeId}
@@ -19,12 +22,6 @@ use Rattle.graph.specs.Change.{ids_of, without}
 use Rattle.graph.proofs.Calls.{same_view}
 
 -- ---- Bools
-pub neither : (a b : Bool) → (not b && not a) ≡ not (a || b)
-neither true true = refl
-neither true false = refl
-neither false true = refl
-neither false false = refl
-
 after : (a b c : Bool) → (c || (a || b)) ≡ (a || (c || b))
 after true b true = refl
 after true b false = refl
@@ -37,6 +34,13 @@ pairs false true false d = refl
 pairs false false c d = refl
 
 -- ---- lists of numbers
+pub listed_in : (ids : List ℕ) (x : ℕ) → In x ids → listed ids x ≡ true
+listed_in ids x i = go (find (λ j. eqb j x) ids) refl
+  where
+    go : (o : Option ℕ) → find (λ j. eqb j x) ids ≡ o → is_some o ≡ true
+    go None e = absurd (false≢true (sym (find_none (λ j. eqb j x) ids x e i) ∙ eq-eqb x x refl))
+    go (Some k) e = refl
+
 pub listed_more : (k x : ℕ) (ids : List ℕ) → listed (k ∷ ids) x ≡ (eqb x k || listed ids x)
 listed_more k x ids = go (ℕ_discrete k x)
   where

@@ -1,7 +1,7 @@
 // A node's row: its fields one by one, so that a loop reads what it tests; the whole record. A getter of any field would take the
 // field's word and say less than a name. The words are a slice and not `NodeTable`: the library for C stores one node in a lent record
 // by `put_node`, and a table's length would ask of callers what no row needs. A reader past the end gives what no words stand for, and no Option:
-// callers read below the count, and none of them would meet the other case.
+// the definitions read a list with that default, so that any words have a meaning, and with an Option each caller would name it again.
 #![tactic(auto, using(words::proofs::Rows::row_is), unfolding(crate::specs::Node::node_of))]
 
 ghost use Rattle.std.specs.Prelude.{◌≡◌, [], get_or, set};
@@ -73,7 +73,7 @@ pub fn node_at(t: &[u32], i: usize) -> Node
         takes_values: flag_at(t, 22, i, 11),
         takes_glides: flag_at(t, 22, i, 12),
         done: done_at(t, i),
-        level: float_at(t, 22, i, 14),
+        level: level_at(t, i),
         last: last_at(t, 22, i, 15),
         noise: noise_at(t, i),
     }
@@ -115,6 +115,12 @@ pub fn done_at(t: &[u32], i: usize) -> bool
     ensures { result ≡ (get_or (nodes_in t.now) i (node_of [])).done }
 {
     flag_at(t, 22, i, 13)
+}
+
+pub fn level_at(t: &[u32], i: usize) -> f32
+    ensures { result ≡ (get_or (nodes_in t.now) i (node_of [])).level }
+{
+    float_at(t, 22, i, 14)
 }
 
 // The noise sequence of the node in row `i`: the number that its next voice gets.

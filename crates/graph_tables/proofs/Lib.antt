@@ -1,6 +1,5 @@
 pub mod Backwards
 pub mod Brief
-pub mod Changed
 pub mod Edges
 pub mod FedPorts
 pub mod Marks

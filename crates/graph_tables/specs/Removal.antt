@@ -1,7 +1,8 @@
 -- What is left in the lent tables when nodes are removed "with their edges": what `without` of crate graph leaves of the nodes,
 -- the edges and the sink.
-use Rattle.std.specs.Prelude.{ℕ, ◌≤◌, ◌<◌, ◌%◌, ◌≡◌, List, Bool, not, length, take, get_or, Option, None, filter}
+use Rattle.std.specs.Prelude.{ℕ, ◌<◌, ◌%◌, ◌≡◌, List, Bool, not, length, take, get_or, Option, None, filter}
 use Rattle.lists.specs.Find.{filter_o}
+use Rattle.lists.specs.Table.{rows_of}
 use Rattle.words.specs.Place.{Holds}
 use Rattle.node.specs.declared.record.Node.{Node}
 use Rattle.node.specs.declared.record.NodeId.{NodeId}
@@ -18,11 +19,9 @@ abbrev pub Tells : (NodeId → VoiceId → Bool → Type 0) → (Node → Bool) 
 Tells post goes = (x : Node) (b : Bool) → post x.id x.owner b → b ≡ goes x
 
 -- of the first n nodes of the words ns: those that stay, and the ids of those that go
-pub record Parts (ns new removed : List ℕ) (n : ℕ) (goes : Node → Bool) (r : Parted) : Type 0 where
+pub record Parts (ns new : List ℕ) (n : ℕ) (goes : Node → Bool) (r : Parted) : Type 0 where
   pub stay : Holds (nodes_in new) r.stay (filter (λ x. not (goes x)) (take n (nodes_in ns)))
-  pub leave : take r.removed removed ≡ ids_of goes (take n (nodes_in ns))
-  pub fits : r.removed ≤ 512
-  pub long : length removed ≡ 512
+  pub leave : rows_of 512 r.removed.count r.removed.rows ≡ ids_of goes (take n (nodes_in ns))
 
 -- the first n nodes of ns and the first m edges of es, with a sink: what is left of them when these nodes go
 pub record Removed (ns es new-ns new-es : List ℕ) (n m : ℕ) (heard : Option NodeId) (goes : Node → Bool) (r : Left) : Type 0 where

@@ -1,12 +1,12 @@
 // Each lent table and its count are parameters of their own: a signature shows what a call may touch.
-// A loop goes by the numbers of rows: a row is so many words of a lent table, and there is no slice of rows.
 ghost use Rattle.std.specs.Prelude.{◌≡◌, take};
 ghost use Rattle.graph.specs.Node.{node_at, noise_of, next_noise, noise_raised};
 ghost use Rattle.graph_rows.specs.Node.{nodes_in};
 
 use crate::lookup::row_of;
-use graph_rows::node_row::{NodeTable, id_at, noise_at, put_noise};
+use graph_rows::node_row::{NodeTable, id_at, noise_at};
 use node::record::NodeId;
+use words::table::change_rows;
 
 // The noise sequence of a bus, which is the number that its next voice gets; 0 and no option where it does not live, as the definition in the clause
 // gives it: a spawn asks once it has found the bus.
@@ -24,14 +24,12 @@ fn next_noise(k: u32) -> u32
 }
 
 // The bus counts one voice more. The ids of a store that calls made are all different; any words are a store, so several rows may
-// have the bus's id here, and each of them counts.
+// have the bus's id here, and each of them counts. The sequence is word 21 of a row,
+// as `put_noise` of graph_rows has it, which stores one row.
 pub fn raise_noise(nodes: &mut NodeTable, count: usize, bus: NodeId)
     ensures { take count (nodes_in nodes.new) ≡ noise_raised bus (take count (nodes_in nodes.old)) }
 {
-    for i in 0..count.min(nodes.len() / 22) {
-        if id_at(nodes, i) == bus {
-            let k = next_noise(noise_at(nodes, i));
-            put_noise(nodes, i, k);
-        }
-    }
+    change_rows(nodes, 22, count, 21, |t, i| {
+        (id_at(t, i) == bus).then_some([next_noise(noise_at(t, i))])
+    });
 }

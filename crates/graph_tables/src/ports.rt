@@ -8,16 +8,9 @@ ghost use Rattle.graph_rows.specs.Edge.{edge_of, edges_in};
 ghost use Rattle.graph_tables.specs.FedPorts.{FedPorts, node};
 
 use crate::wiring::is_taken;
-use graph_rows::edge_row::{EdgeTable, edge_at};
+use graph_rows::edge_row::{EdgeTable, edge_at, from_at, port_at, to_at};
 use node::record::{Edge, NodeId};
-use words::table::word_at;
-
-// The node at which the edge in row `i` ends.
-fn to_at(t: &[u32], i: usize) -> NodeId
-    ensures { result ≡ (get_or (edges_in t.now) i (edge_of [])).to }
-{
-    NodeId(word_at(t, 3, i, 1))
-}
+use words::table::first_row;
 
 // The source of each of the ports 0 to 63 of `node`: one walk over the edges, from the last to the first, so that of two
 // edges at one port the first counts. Most edges end elsewhere: of these one word is read.
@@ -35,13 +28,6 @@ pub fn sources_of(edges: &EdgeTable, count: usize, node: NodeId) -> [Option<Node
         }
     }
     table
-}
-
-// The port at which the edge in row `i` ends.
-fn port_at(t: &[u32], i: usize) -> u32
-    ensures { result ≡ (get_or (edges_in t.now) i (edge_of [])).port }
-{
-    word_at(t, 3, i, 2)
 }
 
 // Which of the ports 0 to 63 of `node` an edge feeds, a flag for each port: one walk over the edges. Most edges end elsewhere:
@@ -86,21 +72,22 @@ pub fn free_port(edges: &EdgeTable, count: usize, node: NodeId, ports: u32) -> O
     first_unfed(fed_ports(edges, count, node), ports)
 }
 
-// Whether the edge in row `i` leads from the node of the id `from` to `to`.
+// Whether the edge in row `i` leads from the node of the id `from` to `to`, here and below. The id is a u64 and no option of a `NodeId`: `end_at`
+// counts it from a voice's first node, and one past the last id is no node's.
 fn leads(t: &[u32], i: usize, from: u64, to: NodeId) -> bool
     ensures { result ≡ feeds (node from) to (get_or (edges_in t.now) i (edge_of [])) }
 {
-    u64::from(word_at(t, 3, i, 0)) == from && to_at(t, i) == to
+    u64::from(from_at(t, i).0) == from && to_at(t, i) == to
 }
 
 // The row of the first edge from the node of the id `from` to `to`, or none.
 fn feeding_row(edges: &EdgeTable, count: usize, from: u64, to: NodeId) -> Option<usize>
     ensures { option_map (λ i. get_or (edges_in edges.now) i (edge_of [])) result ≡ find (feeds (node from) to) (take count (edges_in edges.now)) }
 {
-    (0..count.min(edges.len() / 3)).find(|i| leads(edges, *i, from, to))
+    first_row(edges, 3, count, |t, i| leads(t, i, from, to))
 }
 
-// The first edge from the node of the id `from` to `to`. An id past the last is no node's.
+// The first edge from the node of the id `from` to `to`.
 pub fn feeding_edge(edges: &EdgeTable, count: usize, from: u64, to: NodeId) -> Option<Edge>
     ensures { result ≡ find (feeds (node from) to) (take count (edges_in edges.now)) }
 {

@@ -1,6 +1,6 @@
 // Each lent table and its count are parameters of their own: a signature shows what a call may touch.
 // A loop goes by the numbers of rows: a row is so many words of a lent table, and there is no slice of rows.
-ghost use Rattle.std.specs.Prelude.{◌≡◌, Bool, not, ◌≤◌, take};
+ghost use Rattle.std.specs.Prelude.{◌≡◌, Bool, not, take};
 ghost use Rattle.lists.specs.Find.{filter_o};
 ghost use Rattle.node.specs.declared.record.Node.{Node};
 ghost use Rattle.words.specs.Place.{Holds};
@@ -13,6 +13,7 @@ ghost use Rattle.graph_tables.specs.Removal.{Tells, Parts, Marked, Removed};
 use edges::table::is_listed;
 use graph_rows::edge_row::{EdgeTable, edge_at};
 use graph_rows::node_row::{NodeTable, id_at, owner_at};
+use lists::rows::Table;
 use node::record::{Edge, NodeId, VoiceId};
 use words::table::{close_gaps, move_row};
 
@@ -24,45 +25,36 @@ pub struct Left {
     pub sink: Option<NodeId>,
 }
 
-// How many nodes are left, and of how many that are not the id was stored: a count beside the lent array and no `Table`, which would have to come
-// empty, and a clause to ask for it.
+// How many nodes are left, and the ids of those that are not: in fixed memory, since there is no heap for a list, with as many places as the
+// table of nodes has rows.
 #[derive(Clone, Copy)]
 struct Parted {
     stay: usize,
-    removed: usize,
+    removed: Table<u32, 512>,
 }
 
-// The nodes that `goes` tells by id and owner are removed, in one pass that closes the gaps; their ids are stored in `removed`, which has
-// a word for each node. Not by `close_gaps` of words: in the same pass the ids are gathered, and a test that is a plain `Fn` stores nothing.
-fn part<F: Fn(NodeId, VoiceId) -> bool>(
-    nodes: &mut NodeTable,
-    count: usize,
-    goes: F,
-    removed: &mut [u32; 512],
-) -> Parted
+// The nodes that `goes` tells by id and owner are removed, in one pass that closes the gaps; their ids are given back, in the order of the
+// nodes. Not by `close_gaps` of words: in the same pass the ids are gathered, and a test that is a plain `Fn` stores nothing.
+fn part<F: Fn(NodeId, VoiceId) -> bool>(nodes: &mut NodeTable, count: usize, goes: F) -> Parted
     requires { F.IsAlwaysCallable goes }
-    ensures { (result.removed ≤ 512) × ((q : Node → Bool) → Tells (F.post goes) q → Parts nodes.old nodes.new removed.new count q result) }
+    ensures { (q : Node → Bool) → Tells (F.post goes) q → Parts nodes.old nodes.new count q result }
 {
     let n = count.min(nodes.len() / 22);
     let mut stay = 0;
-    let mut gone = 0;
+    let mut removed = Table::empty(0);
     for i in 0..n {
         if goes(id_at(nodes, i), owner_at(nodes, i)) {
-            removed[gone] = id_at(nodes, i).0;
-            gone += 1;
+            removed.push(id_at(nodes, i).0);
         } else {
             move_row(nodes, 22, i, stay);
             stay += 1;
         }
     }
-    Parted {
-        stay,
-        removed: gone,
-    }
+    Parted { stay, removed }
 }
 
 // Ids among which others are looked for. Where one of them stands is marked by its remainder, so that mostly the mark says at once whether an id is
-// one of them.
+// one of them. The marks are an array and no map of the library, since there is no heap.
 #[derive(Drop)]
 struct Sought<'a> {
     ids: &'a [u32],
@@ -77,7 +69,7 @@ impl<'a> Sought<'a> {
     {
         let mut marks = [None; 1024];
         for (j, id) in ids.iter().enumerate() {
-            marks[*id as usize % 1024] = Some(j.min(65535) as u16);
+            marks[*id as usize % 1024] = Some(u16::try_from(j).unwrap_or(u16::MAX));
         }
         Sought { ids, marks }
     }
@@ -130,9 +122,8 @@ fn remove<F: Fn(NodeId, VoiceId) -> bool>(
     requires { F.IsAlwaysCallable goes }
     ensures { (q : Node → Bool) → Tells (F.post goes) q → Removed nodes.old edges.old nodes.new edges.new n m sink q result }
 {
-    let mut removed = [0; 512];
-    let parted = part(nodes, n, goes, &mut removed);
-    let gone = &removed[..parted.removed];
+    let parted = part(nodes, n, goes);
+    let gone = parted.removed.as_slice();
     Left {
         nodes: parted.stay,
         edges: drop_touching(edges, m, gone),

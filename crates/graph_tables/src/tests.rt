@@ -5,14 +5,14 @@ ghost use Rattle.graph.specs.Tables.{answer_of};
 ghost use Rattle.graph_tables.specs.Brief.{of_voice, host_brief, port_brief, wire_brief};
 
 use graph_rows::node_row::Brief;
-use node::record::VoiceId;
+use node::record::HOST;
 use node::refusal::Refusal;
 
-// The node is the host's: 0 is no voice's id, and the words of a node hold it for the host.
+// The node is the host's.
 fn owner_test(n: Brief) -> Result<(), Refusal>
     ensures { result ≡ answer_of (when (of_voice n) VoiceNode None) }
 {
-    if n.owner != VoiceId(0) {
+    if n.owner != HOST {
         return Err(Refusal::VoiceNode);
     }
     Ok(())

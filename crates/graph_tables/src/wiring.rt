@@ -4,29 +4,29 @@ ghost use Rattle.words.specs.Place.{Holds};
 ghost use Rattle.edges.specs.Wiring.{ends_at, taken, no_place, drop_at, put};
 ghost use Rattle.graph_rows.specs.Edge.{edge_of, edges_in};
 
-use graph_rows::edge_row::{EdgeTable, set_edge};
+use graph_rows::edge_row::{EdgeTable, edge_words, port_at, to_at};
 use node::record::{Edge, NodeId};
-use words::table::{close_gaps, word_at};
+use words::table::{append_row, close_gaps, first_row, row_count};
 
 // How many edges there are.
 pub fn edge_count(edges: &EdgeTable, count: usize) -> usize
     ensures { result ≡ length (take count (edges_in edges.now)) }
 {
-    count.min(edges.len() / 3)
+    row_count(edges, 3, count)
 }
 
 // Whether the edge in row `i` ends at the port `port` of `node`.
 pub fn ends_at(t: &[u32], i: usize, node: NodeId, port: u32) -> bool
     ensures { result ≡ ends_at node port (get_or (edges_in t.now) i (edge_of [])) }
 {
-    word_at(t, 3, i, 1) == node.0 && word_at(t, 3, i, 2) == port
+    to_at(t, i) == node && port_at(t, i) == port
 }
 
 // The row of the first edge at the port `port` of `node`, or none.
 fn row_of(edges: &EdgeTable, count: usize, node: NodeId, port: u32) -> Option<usize>
     ensures { result ≡ position (ends_at node port) (take count (edges_in edges.now)) }
 {
-    (0..count.min(edges.len() / 3)).find(|i| ends_at(edges, *i, node, port))
+    first_row(edges, 3, count, |t, i| ends_at(t, i, node, port))
 }
 
 // Whether an edge ends at the port `port` of `node`.
@@ -56,10 +56,6 @@ pub fn drop_port(edges: &mut EdgeTable, count: usize, node: NodeId, port: u32) -
 pub fn put_edge(edges: &mut EdgeTable, count: usize, e: Edge) -> usize
     ensures { Holds (edges_in edges.new) result (put (take count (edges_in edges.old)) e) }
 {
-    let k = drop_port(edges, count, e.to, e.port);
-    if k < 1024 {
-        set_edge(edges, k, e);
-        return k + 1;
-    }
-    k
+    let left = drop_port(edges, count, e.to, e.port);
+    append_row(edges, 3, left, &edge_words(e))
 }

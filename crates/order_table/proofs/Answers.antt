@@ -1,12 +1,13 @@
 -- Prepare's three answers, from what its tests found.
 use Rattle.std.specs.Prelude.{Err, Ok}
-use Prim.Native.Nat.{ℕ, zero, suc, ◌≤◌, min}
+use Prim.Native.Nat.{ℕ, ◌≤◌, min}
 use native.Mathlib.Omega.{arith}
 use mathlib.Core.Path.{◌≡◌, refl, sym, ap, ◌∙◌, subst}
-use mathlib.Core.List.{List, [], ◌∷◌, map}
+use mathlib.Core.List.{List, map}
 use mathlib.Core.Bool.{Bool, true, false}
 use lib.ListN.{length, take, get_or, length-take}
 use lib.Seq.{length-take-le, take-take}
+use Rattle.std.proofs.lemmas.List.{take-map}
 use Rattle.node.specs.declared.record.Node.{Node}
 use Rattle.node.specs.declared.record.Edge.{Edge}
 use Rattle.node.specs.declared.refusal.Refusal.TheVariants.{RequiredPort, Cycle}
@@ -21,7 +22,8 @@ use Rattle.graph_rows.specs.Edge.{edge_of, edges_in}
 use Rattle.prepare.specs.Live.{live_ids, arc_of, as_id, processing_order}
 use Rattle.prepare.specs.Required.{lacking}
 use Rattle.prepare.specs.Prepare.{prepare}
-use Rattle.prepare.specs.Parts.{Lived, Ends, RowsIn, rows_lack}
+use Rattle.prepare.specs.Parts.{Lived, Ends, plugs, Plugged, RowsIn, rows_lack}
+use Rattle.prepare.proofs.Ports.{plugs_take}
 use Rattle.prepare.proofs.Graph.{many_live, rows_in, whole_is, ordered, many_ordered, lacking_is}
 use Rattle.prepare.proofs.Rises.{live_few}
 use Rattle.order_table.specs.Prepares.{ids_in, Prepares, Lacks}
@@ -45,11 +47,6 @@ module _ (nodes : List Node) (edges : List Edge) (old : List ℕ) where
   }
 
 -- ---- the ids that were written
-map_take : {A B : Type 0} (f : A → B) (n : ℕ) (l : List A) → take n (map f l) ≡ map f (take n l)
-map_take f zero l = refl
-map_take f (suc n) [] = refl
-map_take f (suc n) (x ∷ l) = ap (λ r. f x ∷ r) (map_take f n l)
-
 -- the live nodes are the first of the rows
 pub first_of : (rows : List Node) (n k : ℕ) → k ≡ length (live_ids (take n rows)) → take k (take n rows) ≡ take k rows
 first_of rows n k e =
@@ -61,14 +58,30 @@ module _ (ns es : List ℕ) (n m : ℕ) (ids : List ℕ) (live : ℕ) (lv : Live
   all_edges : take count (edges_in es) ≡ take m (edges_in es)
   all_edges = take_count 3 edge_of es m count (omega arith)
 
+  many_ids : length (take live ids) ≡ live
+  many_ids = length-take-le live ids (omega (arith, lv.few, lv.long))
+
   many_edges : length (take count (edges_in es)) ≡ count
   many_edges = length-take-le count (edges_in es) (omega (arith, rows_long 3 edge_of es))
 
-  pub lacked : (b : Bool) → Lacks (take live (nodes_in ns)) live from to (take count (edges_in es)) b → b ≡ lacking (take n (nodes_in ns)) (take m (edges_in es))
-  lacked b k =
+  many_ends : length (take count to) ≡ count
+  many_ends = length-take-le count to (omega (arith, en.to_long))
+
+  -- flags that say it of as many ends as edges say it of all ends
+  all_ends : (flags : List Bool) → Plugged flags live (take count from) (take count to) (take count (edges_in es)) → Plugged flags live from to (take count (edges_in es))
+  all_ends flags pl = record {
+    long = pl.long;
+    is = λ r p hr hp.
+        pl.is r p hr hp ∙ ap (λ k. plugs live (take k from) (take k to) (take count (edges_in es)) r p) (sym many_edges) ∙ plugs_take live from to (take count (edges_in es)) r p;
+  }
+
+  pub lacked : (b : Bool) → Lacks (take (length (take live ids)) (nodes_in ns)) (length (take live ids)) (take count from) (take count to) (take (length (take count to)) (edges_in es)) b
+      → b ≡ lacking (take n (nodes_in ns)) (take m (edges_in es))
+  lacked b l =
+      let k : Lacks (take live (nodes_in ns)) live (take count from) (take count to) (take count (edges_in es)) b = rw (many_ids, many_ends) at l in
       k.is
       ∙ ap (λ xs. rows_lack k.flags xs 0) (sym (first_of (nodes_in ns) n live (sym (many_live (take n (nodes_in ns)) _ _ lv))))
-      ∙ lacking_is (take n (nodes_in ns)) _ _ lv (take count (edges_in es)) _ _ en k.flags k.plugged
+      ∙ lacking_is (take n (nodes_in ns)) _ _ lv (take count (edges_in es)) _ _ en k.flags (all_ends k.flags k.plugged)
       ∙ ap (lacking (take n (nodes_in ns))) all_edges
 
   module _ (r : Ranking) (rk : Ranked r (upto (min live 512)) (arcs (take count from) (take count to))) where
@@ -78,12 +91,13 @@ module _ (ns es : List ℕ) (n m : ℕ) (ids : List ℕ) (live : ℕ) (lv : Live
     pub held : r.whole ≡ whole (live_ids (take n (nodes_in ns))) (map arc_of (take m (edges_in es)))
     held = whole_is (take n (nodes_in ns)) _ _ lv (take count (edges_in es)) _ _ en r by_edges ∙ ap (λ xs. whole (live_ids (take n (nodes_in ns))) (map arc_of xs)) all_edges
 
-    pub rows_fit : RowsIn r
-    rows_fit = rows_in (take n (nodes_in ns)) _ _ lv (take count (edges_in es)) _ _ en r by_edges
+    pub rows_fit : RowsIn (length (take live ids)) r
+    rows_fit = subst (λ k. RowsIn k r) (sym many_ids) (rows_in (take n (nodes_in ns)) _ _ lv (take count (edges_in es)) _ _ en r by_edges)
 
-    pub ordered_as : (new : List ℕ) → take r.count new ≡ map (λ x. get_or ids x 0) (take r.count r.rows) → Holds (ids_in new) r.count (processing_order (take n (nodes_in ns)) (take m (edges_in es)))
+    pub ordered_as : (new : List ℕ) → take r.rows.count new ≡ map (λ x. get_or (take live ids) x 0) (take r.rows.count r.rows.rows)
+        → Holds (ids_in new) r.rows.count (processing_order (take n (nodes_in ns)) (take m (edges_in es)))
     ordered_as new w =
-        subst (λ xs. Holds (ids_in new) r.count (processing_order (take n (nodes_in ns)) xs)) all_edges (record {
-          is = map_take as_id r.count new ∙ ap (map as_id) w ∙ ordered (take n (nodes_in ns)) _ _ lv (take count (edges_in es)) _ _ en r by_edges;
+        subst (λ xs. Holds (ids_in new) r.rows.count (processing_order (take n (nodes_in ns)) xs)) all_edges (record {
+          is = take-map as_id r.rows.count new ∙ ap (map as_id) w ∙ ordered (take n (nodes_in ns)) _ _ lv (take count (edges_in es)) _ _ en r by_edges;
           many = many_ordered (take n (nodes_in ns)) _ _ lv (take count (edges_in es)) _ _ en r by_edges;
         })

@@ -1,10 +1,10 @@
 -- Whether one of the rows lacks a port, from row i on: what `any` over their numbers says, said of the rows.
 use Rattle.std.proofs.Common.{ℕ, zero, suc, ◌+◌, ◌≤◌, ◌<◌, ◌≡◌, List, [], Bool, ◌||◌, length, take, drop, get_or, sym, ap, ◌∙◌, arith}
 use Rattle.std.specs.List.{list_any, range_with_len}
+use Rattle.rank.proofs.Laws.{no_row}
 use Rattle.lists.proofs.Table.{left_row}
 use Rattle.node.specs.declared.record.Node.{Node}
 use Rattle.prepare.specs.Parts.{rows_lack}
-use Rattle.prepare.proofs.Mapped.{no_row}
 use Rattle.prepare.proofs.Ports.{rows_next}
 use Rattle.graph_rows.specs.Node.{node_of, nodes_in}
 use Rattle.order_table.specs.Masks.{ports_in, mask_lacks}

@@ -1,3 +1,4 @@
 pub mod Answers
 pub mod Lacking
 pub mod Masks
+pub mod Pairs

@@ -1,13 +1,19 @@
 -- The laws of masks: the flags that the masks of all rows are.
-use Prim.Native.Nat.{ℕ, zero, suc, ◌+◌, ◌*◌, ◌/◌, ◌%◌, ◌^◌, ◌≤◌, ◌<◌, min}
+use Prim.Native.Nat.{ℕ, zero, suc, ◌+◌, ◌-◌, ◌*◌, ◌/◌, ◌%◌, ◌^◌, ◌≤◌, ◌<◌, min}
 use native.Mathlib.Omega.{arith}
-use native.Mathlib.Nat.{add-zero, pow-suc, zero-div, div-div-eq-div-mul}
+use native.Mathlib.Nat.{add-zero, pow-suc, zero-div, div-one, div-eq_of_lt, div-div-eq-div-mul}
 use mathlib.Core.Path.{◌≡◌, refl, sym, ap, ◌∙◌}
 use mathlib.Core.List.{List, [], ◌∷◌, ◌++◌, map}
 use mathlib.Core.Bool.{Bool, true, false, not, ◌&&◌, ◌||◌}
 use lib.Dec.{eqb}
 use lib.ListN.{length, get_or, set, replicate, length-append, length-map}
 use lib.Seq.{get_or-append-add, set-append_left}
+use Rattle.std.specs.Int.{bit_at, bit_not}
+use Rattle.std.specs.Int.Bits.{bit_and}
+use Rattle.std.proofs.Common.{w64}
+use Rattle.std.proofs.lemmas.Nat.{and_le_r, pow_pos}
+use Rattle.std.proofs.lemmas.Nat.Bits.{bit_at_and, bit_at_not, bit_at_ones, bit_at-lt}
+use Rattle.std.proofs.lemmas.Bool.Decides.{nat_tests}
 use Rattle.rank.specs.Order.{count_up, upto}
 use Rattle.prepare.specs.Required.{any, bit}
 use Rattle.prepare.specs.Parts.{ports_lack}
@@ -118,10 +124,40 @@ mask_lacks_lem l row ports required h =
     any_up (λ p. bit required p && not (bit (get_or l row 0) p)) (λ p. bit required p && not (get_or (ports_in l) (row * 64 + p) false)) (min ports 64) 0
     (λ q low. ap (λ b. bit required q && not b) (sym (port_at l row q h (omega arith))))
 
--- from where no bit is left on, nothing is required
-pub none_left : (m k p : ℕ) (g : ℕ → Bool) → m / 2 ^ p ≡ 0 → any (λ q. bit m q && g q) (count_up k p) ≡ false
+-- ---- what a row lacks, by all bits at once
+-- a number is not 0 just if its last bit is on or its half is not 0
+half_on : (y : ℕ) → (eqb (y % 2) 1 || not (eqb (y / 2) 0)) ≡ not (eqb y 0)
+half_on y = grind (arith, nat_tests)
+
+-- the k bits from i on, the highest of a number: one is on just if they are not 0
+some_on : (x k i n : ℕ) → n ≡ i + k → x < 2 ^ n → any (bit x) (count_up k i) ≡ not (eqb (x / 2 ^ i) 0)
 unfolding any count_up
-none_left m zero p g z = refl
-none_left m (suc k) p g z =
-    let less : m / 2 ^ suc p ≡ 0 = ap (λ x. m / x) (pow-suc 2 p) ∙ sym (div-div-eq-div-mul m (2 ^ p) 2) ∙ ap (λ x. x / 2) z in
-    ap (λ x. (eqb (x % 2) 1 && g p) || any (λ q. bit m q && g q) (count_up k (suc p))) z ∙ none_left m k (suc p) g less
+some_on x zero i n e h =
+    let all : n ≡ i = omega arith in
+    ap (λ y. not (eqb y 0)) (sym (div-eq_of_lt (rw all at h)))
+some_on x (suc k) i n e h =
+    let half : x / 2 ^ suc i ≡ x / 2 ^ i / 2 = ap (λ y. x / y) (pow-suc 2 i) ∙ sym (div-div-eq-div-mul x (2 ^ i) 2) in
+    ap (λ b. bit x i || b) (some_on x k (suc i) n (omega arith) h ∙ ap (λ y. not (eqb y 0)) half) ∙ half_on (x / 2 ^ i)
+
+-- what is required of the first k ports and not in the mask, as a mask
+abbrev pub unmet : ℕ → ℕ → ℕ → ℕ
+unmet mask k required = bit_and (bit_and required (bit_not w64 mask)) (2 ^ k - 1)
+
+bit_unmet : (r m : ℕ) → r < 2 → m < 2 → (eqb r 1 && not (eqb m 1)) ≡ eqb (min (min r (1 - m)) 1) 1
+bit_unmet r m hr hm = grind (arith, nat_tests)
+
+unmet_at : (mask k required q : ℕ) → mask < 2 ^ 64 → k ≤ 64 → q < k → (bit required q && not (bit mask q)) ≡ bit (unmet mask k required) q
+unmet_at mask k required q h few low =
+    let inside : q < 64 = omega arith in
+    bit_unmet (bit_at required q) (bit_at mask q) (bit_at-lt required q) (bit_at-lt mask q)
+    ∙ ap (λ b. eqb b 1) (sym (rw (bit_at_and (bit_and required (bit_not w64 mask)) (2 ^ k - 1) q, bit_at_and required (bit_not w64 mask) q, bit_at_not w64 mask q h inside, bit_at_ones k q low)))
+
+pub lacks_at_once : (mask ports required : ℕ) → mask < 2 ^ 64 → mask_lacks mask ports required ≡ not (eqb (unmet mask (min ports 64) required) 0)
+unfolding mask_lacks
+lacks_at_once mask ports required h =
+    let k = min ports 64 in
+    let x = unmet mask k required in
+    let room : x < 2 ^ k = omega (arith, pow_pos k, and_le_r (bit_and required (bit_not w64 mask)) (2 ^ k - 1)) in
+    any_up (λ p. bit required p && not (bit mask p)) (bit x) k 0 (λ q low. unmet_at mask k required q h (omega arith) (omega (arith, low)))
+    ∙ some_on x k 0 k (omega arith) room
+    ∙ ap (λ y. not (eqb y 0)) (div-one x)

@@ -26,26 +26,22 @@ pub type OrderTable = [u32; ORDER_WORDS];
 // The rows of the edges' ends.
 type EndTable = [usize; 1024];
 
-// The ids of the live nodes: the first `count` rows, which rise. A view and not the table: by value the tables are copied, which took 2 µs
-// of a prepare and 34 KB of its stack. An array and a count, as `Lived` and `Ends` of crate prepare say it of them: of slices each proof would have to cut
-// the arrays first.
+// The ids of the live nodes, which rise. A view and not the table: by value this table and those of the edges' ends are copied, which took 2 µs of a
+// prepare and 34 KB of its stack.
 #[derive(Clone, Copy)]
 struct LiveIds<'r> {
-    rows: &'r OrderTable,
-    count: usize,
-    ghost long: { length rows.now ≡ 512 },
-    ghost few: { count ≤ 512 },
-    ghost rising: { Rising (take count rows.now) },
+    rows: &'r [u32],
+    ghost few: { length rows.now ≤ 512 },
+    ghost rising: { Rising rows.now },
 }
 
-// The rows of the ends of the first `count` edges, a view too.
+// The rows of the edges' ends, edge by edge: a view too. A slice for each end, and not one of pairs: `rank::ranked` takes each by itself.
 #[derive(Clone, Copy)]
 struct EdgeRows<'f, 't> {
-    from: &'f EndTable,
-    to: &'t EndTable,
-    count: usize,
-    ghost long: { (length from.now ≡ 1024) × (length to.now ≡ 1024) },
-    ghost few: { count ≤ 1024 },
+    from: &'f [usize],
+    to: &'t [usize],
+    ghost paired: { length from.now ≡ length to.now },
+    ghost few: { length to.now ≤ 1024 },
 }
 
 // The ids of the nodes' rows up to the first that does not rise are stored in `ids`: how many there are.
@@ -68,11 +64,10 @@ fn live_ids(nodes: &NodeTable, count: usize, ids: &mut OrderTable) -> usize
 
 impl LiveIds<'_> {
     // A row for each remainder of an id, 0 where none has it: a guess that `row_of` tests before it halves, so nothing is promised of it. Ids are counted
-    // up, so it is mostly right.
+    // up, so it is mostly right. An array and no map of the library, since there is no heap.
     fn guesses(&self) -> [usize; 1024] {
         let mut rows = [0usize; 1024];
-        let ids = self.rows;
-        for (i, x) in ids[..self.count].iter().enumerate() {
+        for (i, x) in self.rows.iter().enumerate() {
             rows[*x as usize % 1024] = i;
         }
         rows
@@ -81,20 +76,18 @@ impl LiveIds<'_> {
     // The row of the id `x`, by the guess or by halving. Their number where it is none of them, and no option: the definition gives it, and the
     // edges' ends are compared with it.
     fn row_of(&self, x: u32, guess: usize) -> usize
-        ensures { result ≡ row_of (take self.now.count self.now.rows.now) x }
+        ensures { result ≡ row_of self.now.rows.now x }
     {
-        let n = self.count;
-        if guess < n && self.rows[guess] == x {
+        if self.rows.get(guess) == Some(&x) {
             return guess;
         }
-        let ids = self.rows;
-        ids[..n].binary_search(&x).unwrap_or(n)
+        self.rows.binary_search(&x).unwrap_or(self.rows.len())
     }
 
     // The rows of the ends of the first `m` edges are stored, edge by edge.
     fn ends(&self, edges: &EdgeTable, m: usize, from: &mut EndTable, to: &mut EndTable)
         requires { m ≤ 1024 }
-        ensures { Ends from.new to.new (take self.now.count self.now.rows.now) (take m (edges_in edges.now)) }
+        ensures { Ends from.new to.new self.now.rows.now (take m (edges_in edges.now)) }
     {
         let rows = self.guesses();
         for i in 0..m {
@@ -106,25 +99,28 @@ impl LiveIds<'_> {
 
     // Whether one of their nodes, which are the first of the table, lacks a required port.
     fn row_lacks(&self, nodes: &NodeTable, masks: &[u64; 512]) -> bool
-        ensures { result ≡ rows_lack (ports_in masks.now) (take self.now.count (nodes_in nodes.now)) 0 }
+        ensures { result ≡ rows_lack (ports_in masks.now) (take (length self.now.rows.now) (nodes_in nodes.now)) 0 }
     {
-        (0..self.count).any(|i| port_lacks(masks[i], ports_at(nodes, i), required_at(nodes, i)))
+        let n = self.rows.len();
+        (0..n).any(|i| port_lacks(masks[i], ports_at(nodes, i), required_at(nodes, i)))
     }
 
     // Whether a live node lacks a required port.
     fn lacks(&self, nodes: &NodeTable, ends: &EdgeRows, edges: &EdgeTable) -> bool
-        ensures { Lacks (take self.now.count (nodes_in nodes.now)) self.now.count ends.now.from.now ends.now.to.now (take ends.now.count (edges_in edges.now)) result }
+        ensures { Lacks (take (length self.now.rows.now) (nodes_in nodes.now)) (length self.now.rows.now) ends.now.from.now ends.now.to.now (take (length ends.now.to.now) (edges_in edges.now)) result }
     {
         let masks = ends.plugged(self, edges);
         self.row_lacks(nodes, &masks)
     }
 
-    // The ids of the ranked rows, written to the order. By the place: `zip` with `iter_mut` tells a proof nothing of what was written (tried in bus::mix).
+    // The ids of the ranked rows, written to the order. By the place: `zip` with `iter_mut` tells a proof nothing of what was written (tried here over
+    // `order.iter_mut().zip(r.rows.as_slice())`: `returns` stayed open, since nothing is known of the order's words after that loop, and its invariant has
+    // no name for them).
     fn named(&self, r: &Ranking, order: &mut OrderTable)
-        requires { RowsIn r.now }
-        ensures { take r.now.count order.new ≡ map (λ x. get_or self.now.rows.now x 0) (take r.now.count r.now.rows) }
+        requires { RowsIn (length self.now.rows.now) r.now }
+        ensures { take r.now.rows.count order.new ≡ map (λ x. get_or self.now.rows.now x 0) (take r.now.rows.count r.now.rows.rows) }
     {
-        for (i, row) in r.rows[..r.count].iter().enumerate() {
+        for (i, row) in r.rows.as_slice().iter().enumerate() {
             order[i] = self.rows[*row];
         }
     }
@@ -133,27 +129,21 @@ impl LiveIds<'_> {
 impl EdgeRows<'_, '_> {
     // The order of the first `n` rows.
     fn ranking(&self, n: usize) -> Ranking
-        ensures { Ranked result (upto (min n 512)) (arcs (take self.now.count self.now.from.now) (take self.now.count self.now.to.now)) }
+        ensures { Ranked result (upto (min n 512)) (arcs self.now.from.now self.now.to.now) }
     {
-        let from = self.from;
-        let to = self.to;
-        rank::ranked(n, &from[..self.count], &to[..self.count])
+        rank::ranked(n, self.from, self.to)
     }
 
     // Which ports of each live row one of the edges of two live ends feeds: a mask for each row, in which bit p is port p.
-    // By the edge's number: over the two ends zipped and numbered the goals `loop-i-preserved` and `returns` stayed open, since of an item only the steps of
-    // three iterators are told.
     fn plugged(&self, ids: &LiveIds, edges: &EdgeTable) -> [u64; 512]
-        ensures { Plugged (ports_in result) ids.now.count self.now.from.now self.now.to.now (take self.now.count (edges_in edges.now)) }
+        ensures { Plugged (ports_in result) (length ids.now.rows.now) self.now.from.now self.now.to.now (take (length self.now.to.now) (edges_in edges.now)) }
     {
-        let n = ids.count;
+        let n = ids.rows.len();
         let mut masks = [0u64; 512];
-        for i in 0..self.count {
-            let f = self.from[i];
-            let t = self.to[i];
+        for (i, (f, t)) in self.from.iter().zip(self.to).enumerate() {
             let p = edge_at(edges, i).port as usize;
-            if f < n && t < n && p < 64 {
-                masks[t] = with_port(masks[t], p);
+            if *f < n && *t < n && p < 64 {
+                masks[*t] = with_port(masks[*t], p);
             }
         }
         masks
@@ -168,21 +158,17 @@ fn with_port(mask: u64, p: usize) -> u64
     mask | 1 << p
 }
 
-// Whether one of the first `ports` ports is required and not in the mask. By a for, since it ends also where no required port is left: `any` would need a
-// `take_while` before it, which shifts a second time.
+// Whether one of the first `ports` ports is required and not in the mask: by all bits at once, of which `asked` has those of these ports. A row may give more
+// ports than the 64 that a mask has.
 fn port_lacks(mask: u64, ports: u32, required: u64) -> bool
     ensures { result ≡ mask_lacks mask ports required }
 {
-    for p in 0..ports.min(64) {
-        let left = required >> p;
-        if left == 0 {
-            return false;
-        }
-        if left % 2 == 1 && (mask >> p) % 2 == 0 {
-            return true;
-        }
-    }
-    false
+    let asked = if ports < 64 {
+        (1u64 << ports) - 1
+    } else {
+        u64::MAX
+    };
+    required & !mask & asked != 0
 }
 
 // Prepare's two tests and the order: 13 where a required port of a live node is unconnected, else 14 where there is a cycle
@@ -198,18 +184,14 @@ pub fn prepare(
 {
     let mut rows = [0u32; ORDER_WORDS];
     let k = live_ids(nodes, n, &mut rows);
-    let ids = LiveIds {
-        rows: &rows,
-        count: k,
-    };
+    let ids = LiveIds { rows: &rows[..k] };
     let count = m.min(1024);
     let mut from = [0usize; 1024];
     let mut to = [0usize; 1024];
     ids.ends(edges, count, &mut from, &mut to);
     let ends = EdgeRows {
-        from: &from,
-        to: &to,
-        count,
+        from: &from[..count],
+        to: &to[..count],
     };
     if ids.lacks(nodes, &ends, edges) {
         return Err(Refusal::RequiredPort);
@@ -219,5 +201,5 @@ pub fn prepare(
         return Err(Refusal::Cycle);
     }
     ids.named(&r, order);
-    Ok(r.count)
+    Ok(r.rows.count)
 }

@@ -10,7 +10,7 @@ use lib.ListN.{length, take, get_or, length-map}
 use lib.Seq.{length-take-le, get_or-take}
 use borrow.Author.Tests.{eq-eqb, ne_eqb}
 use Rattle.lists.specs.Member.{In}
-use Rattle.lists.proofs.Member.{map_same}
+use Rattle.lists.proofs.Member.{map_same, at_in}
 use Rattle.node.specs.declared.record.Node.{Node}
 use Rattle.node.specs.declared.record.Edge.{Edge}
 use Rattle.rank.specs.Order.{Arc, arc, order, whole, count_up, upto, arcs}
@@ -18,7 +18,6 @@ use Rattle.rank.specs.Names.{row_of, row_arc}
 use Rattle.rank.specs.Parts.{Ranked}
 use Rattle.rank.specs.declared.Ranking.{Ranking}
 use Rattle.rank.proofs.Cycle.{upto_in}
-use Rattle.rank.proofs.Invariant.{at_in}
 use Rattle.rank.proofs.Counts.{length_upto}
 use Rattle.rank.proofs.Names.{row_live, row_back, row_of_row, order_named, whole_named}
 use Rattle.rank.proofs.Theorems.{distinct_upto, order_only, order_few}
@@ -67,26 +66,26 @@ module _ (nodes : List Node) (ids : List ℕ) (n : ℕ) (lv : Lived ids n nodes)
           let z : min n 512 ≡ n = omega (arith, lv.few) in
           subst (λ (k : ℕ). Ranked r (upto k) rs) z (subst (Ranked r (upto (min n 512))) arcs_are rk)
 
-      many : r.count ≡ length (order (upto n) rs)
+      many : r.rows.count ≡ length (order (upto n) rs)
       many = ranked.many ∙ ap length ranked.is
 
-      few : r.count ≤ n
+      few : r.rows.count ≤ n
       few = omega (arith, many, order_few (upto n) (distinct_upto n) rs, length_upto n)
 
-      rows_are : take r.count r.rows ≡ order (upto n) rs
-      rows_are = let z : r.count ≡ min r.count 512 = omega (arith, few, lv.few) in ap (λ (k : ℕ). take k r.rows) z ∙ ranked.is
+      rows_are : take r.rows.count r.rows.rows ≡ order (upto n) rs
+      rows_are = let z : r.rows.count ≡ min r.rows.count 512 = omega (arith, few, lv.few) in ap (λ (k : ℕ). take k r.rows.rows) z ∙ ranked.is
 
       below : (x : ℕ) → In x (order (upto n) rs) → x < n
       below x m = upto_in n x (order_only (upto n) (distinct_upto n) rs x m)
 
-      pub rows_in : RowsIn r
+      pub rows_in : RowsIn n r
       rows_in = record {
         long = ranked.long;
         few = omega (arith, few, lv.few);
         below = λ j h.
-            let at : get_or r.rows j 0 ≡ get_or (order (upto n) rs) j 0 = sym (get_or-take r.count r.rows j 0 h) ∙ ap (λ (q : List ℕ). get_or q j 0) rows_are in
+            let at : get_or r.rows.rows j 0 ≡ get_or (order (upto n) rs) j 0 = sym (get_or-take r.rows.count r.rows.rows j 0 h) ∙ ap (λ (q : List ℕ). get_or q j 0) rows_are in
             let lt : j < length (order (upto n) rs) = omega (arith, many) in
-            omega (arith, below _ (at_in (order (upto n) rs) j lt), lv.few, at);
+            omega (arith, below _ (at_in (order (upto n) rs) j lt), at);
       }
 
       pub whole_is : r.whole ≡ whole (live_ids nodes) (map arc_of edges)
@@ -95,22 +94,19 @@ module _ (nodes : List Node) (ids : List ℕ) (n : ℕ) (lv : Lived ids n nodes)
           ∙ sym (whole_named (live_ids nodes) (live_distinct nodes) (map arc_of edges))
 
       -- the ids of the ranked rows are the processing order, and they are as many as the ranking counts
-      pub ordered : map as_id (map (λ (x : ℕ). get_or ids x 0) (take r.count r.rows)) ≡ processing_order nodes edges
+      pub ordered : map as_id (map (λ (x : ℕ). get_or (take n ids) x 0) (take r.rows.count r.rows.rows)) ≡ processing_order nodes edges
       unfolding processing_order
       ordered =
-          ap (map as_id) (ap (map (λ (x : ℕ). get_or ids x 0)) rows_are
-          ∙ map_same (λ (x : ℕ). get_or ids x 0) (λ (x : ℕ). get_or (live_ids nodes) x 0) (order (upto n) rs) same
+          ap (λ q. map as_id (map (λ (x : ℕ). get_or q x 0) (take r.rows.count r.rows.rows))) lv.is
+          ∙ ap (map as_id) (ap (map (λ (x : ℕ). get_or (live_ids nodes) x 0)) rows_are
           ∙ ap (λ (k : ℕ). map (λ (x : ℕ). get_or (live_ids nodes) x 0) (order (upto k) rs)) (sym many_live)
           ∙ sym (order_named (live_ids nodes) (live_distinct nodes) (map arc_of edges)))
-        where
-          same : (x : ℕ) → In x (order (upto n) rs) → get_or ids x 0 ≡ get_or (live_ids nodes) x 0
-          same x m = sym (get_or-take n ids x 0 (below x m)) ∙ ap (λ (q : List ℕ). get_or q x 0) lv.is
 
-      pub many_ordered : r.count ≡ length (processing_order nodes edges)
+      pub many_ordered : r.rows.count ≡ length (processing_order nodes edges)
       many_ordered =
-          sym (length-take-le r.count r.rows (omega (arith, rows_in.few, rows_in.long)))
-          ∙ sym (length-map (take r.count r.rows) (λ (x : ℕ). get_or ids x 0))
-          ∙ sym (length-map (map (λ (x : ℕ). get_or ids x 0) (take r.count r.rows)) as_id)
+          sym (length-take-le r.rows.count r.rows.rows (omega (arith, rows_in.few, rows_in.long)))
+          ∙ sym (length-map (take r.rows.count r.rows.rows) (λ (x : ℕ). get_or (take n ids) x 0))
+          ∙ sym (length-map (map (λ (x : ℕ). get_or (take n ids) x 0) (take r.rows.count r.rows.rows)) as_id)
           ∙ ap length ordered
 
     -- ---- required ports

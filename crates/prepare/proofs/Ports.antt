@@ -1,19 +1,17 @@
 -- The laws of the required ports.
-use Prim.Native.Nat.{ℕ, suc, ◌+◌, ◌-◌, ◌*◌, ◌^◌, ◌/◌, ◌%◌, ◌≤◌, ◌<◌}
+use Prim.Native.Nat.{ℕ, ◌+◌, ◌*◌, ◌≤◌, ◌<◌}
 use native.Mathlib.Omega.{arith}
 use native.Mathlib.Numerals.{add-one}
 use native.Mathlib.Decide.{ℕ_discrete}
-use mathlib.Core.Path.{◌≡◌, refl, sym, ◌∙◌}
+use mathlib.Core.Path.{◌≡◌, refl, sym, ap, ◌∙◌}
 use mathlib.Core.List.{List, [], ◌∷◌}
-use mathlib.Core.Bool.{Bool, true, false, ◌&&◌, ◌||◌, not, and-false, or-true}
+use mathlib.Core.Bool.{Bool, true, false, ◌&&◌, ◌||◌, and-false, or-true, or-false}
 use lib.Dec.{eqb, ltb}
-use lib.ListN.{length, drop, get_or, set, length-set}
+use lib.ListN.{length, take, drop, get_or, set, length-set}
 use lib.Seq.{get_or-set_same, get_or-set_other}
 use borrow.Author.Tests.{eq-eqb, ne_eqb, lt-ltb, le-ltb}
 use Rattle.node.specs.declared.record.Node.{Node}
 use Rattle.node.specs.declared.record.Edge.{Edge}
-use Rattle.rank.specs.Order.{count_up}
-use Rattle.prepare.specs.Required.{any, bit}
 use Rattle.prepare.specs.Parts.{plugs, ports_lack, rows_lack}
 
 -- ---- which ports are fed: the flags, with what the edges that are left feed, are what all feed
@@ -56,39 +54,24 @@ module _ (flags flags' : List Bool) (n f : ℕ) (fs : List ℕ) (t : ℕ) (ts : 
           off (yes a) (no b) = rw (ne_eqb e.port p b) (and-false (eqb t r))
           off (no a) d = rw (ne_eqb t r a)
 
-or_false : (b : Bool) → (b || false) ≡ b
-or_false true = refl
-or_false false = refl
-
 pub flags_start : (flags : List Bool) (n : ℕ) (fs ts : List ℕ) (es : List Edge) → length flags ≡ 32768 → ((j : ℕ) → get_or flags j false ≡ false) → Flags flags n fs ts es (plugs n fs ts es)
 flags_start flags n fs ts es l z = (l, λ r p hr hp. rw (z (r * 64 + p)))
 
 pub flags_done : (flags : List Bool) (n : ℕ) (fs ts : List ℕ) (all : ℕ → ℕ → Bool) → Flags flags n fs ts [] all → (r p : ℕ) → r < n → p < 64 → get_or flags (r * 64 + p) false ≡ all r p
 unfolding plugs
-flags_done flags n [] ts all inv r p hr hp = sym (or_false _) ∙ inv.1 r p hr hp
-flags_done flags n (f ∷ fs) [] all inv r p hr hp = sym (or_false _) ∙ inv.1 r p hr hp
-flags_done flags n (f ∷ fs) (t ∷ ts) all inv r p hr hp = sym (or_false _) ∙ inv.1 r p hr hp
+flags_done flags n [] ts all inv r p hr hp = sym (or-false _) ∙ inv.1 r p hr hp
+flags_done flags n (f ∷ fs) [] all inv r p hr hp = sym (or-false _) ∙ inv.1 r p hr hp
+flags_done flags n (f ∷ fs) (t ∷ ts) all inv r p hr hp = sym (or-false _) ∙ inv.1 r p hr hp
 
--- ---- port by port
-pub any_next : (q : ℕ → Bool) (most p : ℕ) → p < most → any q (count_up (most - p) p) ≡ (q p || any q (count_up (most - (p + 1)) (p + 1)))
-unfolding any count_up
-any_next q most p h =
-    let e : most - p ≡ suc (most - (p + 1)) = omega arith in
-    rw (e, add-one p)
-
-pub any_end : (q : ℕ → Bool) (most p : ℕ) → most ≤ p → any q (count_up (most - p) p) ≡ false
-unfolding any count_up
-any_end q most p h = let e : most - p ≡ 0 = omega arith in rw e
-
--- one port: `left` is the mask from bit p on
-pub lack_on : (mask left p : ℕ) (flag : Bool) → left ≡ mask / 2 ^ p → left % 2 ≡ 1 → not flag ≡ true → (bit mask p && not flag) ≡ true
-lack_on mask left p flag e h f = rw (← e, eq-eqb (left % 2) 1 h, f)
-
-pub lack_fed : (mask p : ℕ) (flag : Bool) → not flag ≡ false → (bit mask p && not flag) ≡ false
-lack_fed mask p flag f = rw f (and-false (bit mask p))
-
-pub lack_off : (mask left p : ℕ) (flag : Bool) → left ≡ mask / 2 ^ p → (left % 2 ≡ 1 → ⊥) → (bit mask p && not flag) ≡ false
-lack_off mask left p flag e o = rw (← e, ne_eqb (left % 2) 1 o)
+-- ends behind that of the last edge do not count
+pub plugs_take : (n : ℕ) (fs ts : List ℕ) (es : List Edge) (r p : ℕ) → plugs n (take (length es) fs) (take (length es) ts) es r p ≡ plugs n fs ts es r p
+unfolding plugs
+plugs_take n [] ts [] r p = refl
+plugs_take n [] ts (e ∷ es) r p = refl
+plugs_take n (f ∷ fs) [] [] r p = refl
+plugs_take n (f ∷ fs) [] (e ∷ es) r p = refl
+plugs_take n (f ∷ fs) (t ∷ ts) [] r p = refl
+plugs_take n (f ∷ fs) (t ∷ ts) (e ∷ es) r p = ap (λ b. (ltb f n && (eqb t r && eqb e.port p)) || b) (plugs_take n fs ts es r p)
 
 -- ---- row by row
 pub rows_next : (flags : List Bool) (xs : List Node) (i : ℕ) (x : Node) (b : Bool) → drop i xs ≡ x ∷ drop (i + 1) xs → b ≡ ports_lack flags i x.ports x.required

@@ -11,11 +11,12 @@ use lib.Dec.{leb}
 use lib.ListN.{length, take, drop, get_or, set, length-map, length-take}
 use lib.Seq.{append_snoc}
 use borrow.Author.Tests.{le-leb, lt-leb}
-use Rattle.lists.proofs.Table.{append_row}
+use Rattle.std.proofs.lemmas.Bool.{false_from_ne_true}
+use Rattle.std.proofs.lemmas.List.{take_more_set}
 use Rattle.node.specs.declared.record.Node.{Node}
 use Rattle.rank.specs.Order.{among}
 use Rattle.rank.specs.Cycle.{Distinct}
-use Rattle.rank.proofs.Invariant.{bool_false, among_in, in_at}
+use Rattle.rank.proofs.Invariant.{among_in, in_at}
 use Rattle.prepare.specs.Live.{rising_from, live_nodes, live_ids, id_of}
 use Rattle.prepare.specs.Parts.{Rising}
 
@@ -32,7 +33,7 @@ module _ (l : List Node) (ids : List ℕ) (least i : ℕ) (inv : Passed l ids le
     pub passed_more : least ≤ id_of x → i < length ids → Passed l (set ids i (id_of x)) (id_of x + 1) (i + 1)
     unfolding rising_from
     passed_more h k =
-        rw (append_row ids i (id_of x) k, append_snoc (take i ids) (id_of x) (map id_of (rising_from (id_of x + 1) (drop (i + 1) l))), add-one (id_of x))
+        rw (take_more_set ids i (id_of x) k, append_snoc (take i ids) (id_of x) (map id_of (rising_from (id_of x + 1) (drop (i + 1) l))), add-one (id_of x))
         (rw (dr, le-leb _ _ h) at inv)
 
     pub passed_stop : id_of x < least → take i ids ≡ live_ids l
@@ -110,7 +111,7 @@ live_rising l = record { rises = rising_rises 0 l }
 above_distinct : (l : List ℕ) → ((i j : ℕ) → i < j → j < length l → get_or l i 0 < get_or l j 0) → Distinct l
 above_distinct [] h = tt
 above_distinct (x ∷ l) h = (
-  bool_false (among x l) (λ t. let r = in_at x l (among_in x l t) in omega (arith, h 0 (suc r.0) (omega arith) (omega (arith, r.1)), r.2)),
+  false_from_ne_true (among x l) (λ t. let r = in_at x l (among_in x l t) in omega (arith, h 0 (suc r.0) (omega arith) (omega (arith, r.1)), r.2)),
   above_distinct l (λ i j k m. h (suc i) (suc j) (omega arith) (omega arith)),
 )
 

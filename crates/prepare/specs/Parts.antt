@@ -54,8 +54,8 @@ unfoldable pub rows_lack : List Bool → List Node → ℕ → Bool
 rows_lack flags [] row = false
 rows_lack flags (x ∷ l) row = ports_lack flags row x.ports x.required || rows_lack flags l (suc row)
 
--- ---- the ranking: each of its rows is one of the node table
-pub record RowsIn (r : Ranking) : Type 0 where
-  pub long : length r.rows ≡ 512
-  pub few : r.count ≤ 512
-  pub below : (j : ℕ) → j < r.count → get_or r.rows j 0 < 512
+-- ---- the ranking: each of its rows is one of the first n
+pub record RowsIn (n : ℕ) (r : Ranking) : Type 0 where
+  pub long : length r.rows.rows ≡ 512
+  pub few : r.rows.count ≤ 512
+  pub below : (j : ℕ) → j < r.rows.count → get_or r.rows.rows j 0 < n

@@ -6,12 +6,13 @@ use native.Mathlib.Decide.{ℕ_discrete, dec_lt}
 use mathlib.Core.Path.{◌≡◌, refl, sym, ap, subst, ◌∙◌}
 use mathlib.Core.Logic.{◌≢◌}
 use mathlib.Core.List.{List, [], ◌∷◌, ◌++◌, append-nil}
-use mathlib.Core.Bool.{Bool, true, false, ◌&&◌, ◌||◌, not, and-true}
+use mathlib.Core.Bool.{Bool, true, false, ◌&&◌, ◌||◌, not, and-true, not-not}
 use borrow.Author.Tests.{eq-eqb, ne_eqb, lt-ltb, le-ltb}
 use lib.Dec.{eqb, ltb}
 use lib.ListN.{length, take, drop, get_or, get_or-eq_default, drop_of_length-le}
 use lib.Seq.{length-take-le, append_snoc, take_all, take-suc, drop-cons, take-append-le, drop-append-le}
 use Rattle.std.specs.Prelude.{cond, filter}
+use Rattle.std.proofs.lemmas.Bool.{false_from_ne_true}
 use Rattle.lists.proofs.Filter.{filter_filter, filter_same}
 use Rattle.lists.specs.Count.{more, count}
 use Rattle.lists.proofs.Count.{count_append}
@@ -20,7 +21,7 @@ use Rattle.rank.specs.Parts.{Queue, indeg, degs, ready, St, app, fall, pick_st, 
 use Rattle.rank.proofs.Laws.{length_arcs}
 use Rattle.rank.proofs.Serve.{zeros_le, run_step, run_done, fall_zero}
 use Rattle.rank.proofs.Cycle.{in_upto, upto_in, among_snoc, opens, opens_none, fall_count, fall_long, Good, good_next, good_start}
-use Rattle.rank.proofs.Invariant.{bool_false, among_in, in_among, Ok, Invariant, invariant_next, invariant_start}
+use Rattle.rank.proofs.Invariant.{among_in, in_among, Ok, Invariant, invariant_next, invariant_start}
 
 -- ---- how many arcs go to v
 abbrev pub into : ℕ → List Arc → ℕ
@@ -36,11 +37,7 @@ fed_into v (e ∷ l) = go (eqb e.to v) (fed_into v l)
     go false h = h
 
 not_fed : (v k : ℕ) (l : List Arc) → k ≡ into v l → eqb k 0 ≡ not (fed v l)
-not_fed v k l h = rw (fed_into v l, h) (go (eqb (into v l) 0))
-  where
-    go : (b : Bool) → b ≡ not (not b)
-    go true = refl
-    go false = refl
+not_fed v k l h = rw (fed_into v l, h) (sym (not-not (eqb (into v l) 0)))
 
 count_split : {A : Type 0} (p t : A → Bool) (l : List A) → count p (filter t l) + count p (filter (λ x. not (t x)) l) ≡ count p l
 count_split p t [] = refl
@@ -65,7 +62,7 @@ among_upto n x = go (dec_lt x n)
   where
     go : Dec (x < n) → among x (upto n) ≡ ltb x n
     go (yes h) = in_among x (upto n) (in_upto n x h) ∙ sym (lt-ltb _ _ h)
-    go (no o) = let h : n ≤ x = omega arith in bool_false _ (λ t. o (upto_in n x (among_in x (upto n) t))) ∙ sym (le-ltb _ _ h)
+    go (no o) = let h : n ≤ x = omega arith in false_from_ne_true _ (λ t. o (upto_in n x (among_in x (upto n) t))) ∙ sym (le-ltb _ _ h)
 
 length_count : (k i : ℕ) → length (count_up k i) ≡ k
 unfolding count_up
@@ -276,7 +273,7 @@ take_arcs fs ts m h = cut_arcs fs ts m ∙ go (dec_lt (length (arcs fs ts)) 1024
     go (yes l) = take_all m (arcs fs ts) (omega (arith, length_arcs fs ts)) ∙ sym (take_all 1024 (arcs fs ts) (omega arith))
     go (no o) = let e : m ≡ 1024 = omega (arith, length_arcs fs ts) in ap (λ (k : ℕ). take k (arcs fs ts)) e
 
-pub ranking : (r : Queue) (k : ℕ) (es : List Arc) → k ≤ 512 → Queued r k es → Ranked (record { rows = r.rows; count = r.count; whole = eqb r.count k }) (upto k) es
+pub ranking : (r : Queue) (k : ℕ) (es : List Arc) → k ≤ 512 → Queued r k es → Ranked (record { rows = r; whole = eqb r.count k }) (upto k) es
 unfolding whole
 ranking r k es h q =
     let clamp : min r.count 512 ≡ r.count = omega (arith, q.few) in

@@ -6,7 +6,7 @@ use native.Mathlib.Decide.{ℕ_discrete, dec_lt}
 use mathlib.Core.Path.{◌≡◌, refl, sym, ap, subst, ◌∙◌}
 use mathlib.Core.Logic.{◌≢◌, inl, inr}
 use mathlib.Core.List.{List, [], ◌∷◌, ◌++◌, append-nil}
-use mathlib.Core.Bool.{Bool, true, false, ◌&&◌, ◌||◌, not, and-true, or-true, false≢true}
+use mathlib.Core.Bool.{Bool, true, false, ◌&&◌, ◌||◌, not, and-true, or-true, false≢true, or-false}
 use borrow.Author.Tests.{eq-eqb, ne_eqb, eqb-true, ltb-true}
 use lib.Dec.{eqb, ltb}
 use lib.ListN.{length, take, get_or, set, length-append, length-set, get_or-eq_default, replicate, length-replicate, get_or-replicate}
@@ -44,11 +44,7 @@ upto_in n x m = omega (arith, count_in n 0 x m)
 
 pub among_snoc : (x : ℕ) (q : List ℕ) (v : ℕ) → among x (q ++ (v ∷ [])) ≡ (among x q || eqb x v)
 unfolding among
-among_snoc x [] v = go (eqb x v)
-  where
-    go : (b : Bool) → (b || false) ≡ b
-    go true = refl
-    go false = refl
+among_snoc x [] v = or-false (eqb x v)
 among_snoc x (y ∷ q) v = go (eqb x y) (among_snoc x q v)
   where
     go : (b : Bool) → among x (q ++ (v ∷ [])) ≡ (among x q || eqb x v) → (b || among x (q ++ (v ∷ []))) ≡ ((b || among x q) || eqb x v)

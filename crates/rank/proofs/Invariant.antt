@@ -11,6 +11,8 @@ use borrow.Author.Tests.{eq-eqb, ne_eqb, lt-ltb}
 use lib.Dec.{eqb, ltb}
 use lib.ListN.{length, take, get_or, length-append, get_or-append}
 use lib.Seq.{take-append-le, take-suc, get_or-append_seam, take-append_seam}
+use Rattle.std.proofs.lemmas.Bool.{false_from_ne_true}
+use Rattle.lists.proofs.Member.{at_in}
 use Rattle.lists.specs.Count.{more}
 use Rattle.std.specs.Prelude.{cond}
 use Rattle.rank.specs.Order.{Arc, among, upto}
@@ -107,10 +109,6 @@ among_take x (suc k) (y ∷ l) h = go (eqb x y) h (among_take x k l)
     go true h ih = refl
     go false h ih = ih h
 
-pub bool_false : (b : Bool) → (b ≡ true → ⊥) → b ≡ false
-bool_false true o = absurd (o refl)
-bool_false false o = refl
-
 module _ (n : ℕ) (es : List Arc) (q : List ℕ) (k w : ℕ) where
   mid_fall : (e : Arc) (rest : List Arc) (s : St) → e.from ≡ w → Mid n es q k w (e ∷ rest) s → Mid n es q k w rest (fall e.to s)
   unfolding cnt Begins
@@ -145,7 +143,7 @@ module _ (n : ℕ) (es : List Arc) (q : List ℕ) (k w : ℕ) where
           let z : opens n q es t ≡ 0 = omega (arith, (rw (eq-eqb _ _ p, eq-eqb t t refl) at (m.least t lt)), r.0) in
           rw r.1 (ok_snoc n es s.queue t m.ok (
             lt,
-            bool_false (among t s.queue) (λ h. omega (arith, m.zero_in t h, r.0)),
+            false_from_ne_true (among t s.queue) (λ h. omega (arith, m.zero_in t h, r.0)),
             λ e' m' f' t'. among_take e'.from k s.queue (rw m.begins.1 (opens_zero n q es t z e' m' f' t')),
           ))
 
@@ -285,11 +283,6 @@ in_at x [] m = absurd m
 in_at x (y ∷ l) (inl p) = (0, omega arith, sym p)
 in_at x (y ∷ l) (inr m) = let r = in_at x l m in (suc r.0, omega (arith, r.1), r.2)
 
-pub at_in : (l : List ℕ) (j : ℕ) → j < length l → In (get_or l j 0) l
-at_in [] j h = absurd (not-suc-le-zero h)
-at_in (y ∷ l) zero h = inl refl
-at_in (y ∷ l) (suc j) h = inr (at_in l j (omega arith))
-
 or_no : (a b : Bool) → (a || b) ≡ false → b ≡ false
 or_no true b h = absurd (false≢true (sym h))
 or_no false b h = h
@@ -299,7 +292,7 @@ fresh_distinct : (q : List ℕ) → ((j : ℕ) → j < length q → among (get_o
 unfolding among
 fresh_distinct [] h = tt
 fresh_distinct (x ∷ q) h = (
-  bool_false (among x q) (λ t. let r = in_at x q (among_in x q t) in
+  false_from_ne_true (among x q) (λ t. let r = in_at x q (among_in x q t) in
       false≢true (sym (h (suc r.0) (omega (arith, r.1))) ∙ rw (eq-eqb (get_or q r.0 0) x r.2))),
   fresh_distinct q (λ j l. or_no (eqb (get_or q j 0) x) (among (get_or q j 0) (take j q)) (h (suc j) (omega arith))),
 )

@@ -4,7 +4,7 @@ use native.Mathlib.Omega.{arith}
 use native.Mathlib.Nat.{not-suc-le-zero, add-zero, zero-add, le_refl}
 use native.Mathlib.Numerals.{add-one}
 use native.Mathlib.Decide.{ℕ_discrete}
-use mathlib.Core.Path.{◌≡◌, refl, sym, ap, ◌∙◌}
+use mathlib.Core.Path.{◌≡◌, refl, sym, ap, subst, ◌∙◌}
 use mathlib.Core.List.{List, [], ◌∷◌, ◌++◌}
 use mathlib.Core.Bool.{Bool, true, false, ◌&&◌, and-false}
 use borrow.Author.Tests.{eq-eqb, ne_eqb, lt-ltb, le-ltb}
@@ -12,17 +12,19 @@ use lib.Dec.{eqb, ltb}
 use Rattle.std.specs.Prelude.{Option, None, Some}
 use Rattle.std.specs.Borrow.{Bor}
 use Rattle.std.specs.Iterator.{Yields}
-use Rattle.std.specs.Iterator.Adapters.{zip_first, zip_second}
+use Rattle.std.specs.Iterator.Adapters.{zip_first, zip_second, rev_source, enumerate_source, enumerate_count}
 use Rattle.std.specs.declared.iter.Zip.{Zip}
 use Rattle.std.specs.Slice.Iter.{iter_rest}
 use Rattle.std.proofs.Common.{Iter}
+use Rattle.std.specs.declared.iter.Rev.{Rev}
+use Rattle.std.specs.declared.iter.Enumerate.{Enumerate}
 use Rattle.std.proofs.iter.Yields.{fronts}
 use Rattle.std.proofs.lemmas.Iterator.{zips}
 use Rattle.std.proofs.lemmas.Slice.Zip.{zip_turn, zip_end}
 use lib.ListN.{length, length-append, take, drop, get_or, set, length-take, length-set, drop_of_length-le, replicate, length-replicate, get_or-replicate}
-use lib.Seq.{get_or-take, length-take-le, get_or-set_same, get_or-set_other, ext_get_or, take-suc-set, append_snoc}
+use lib.Seq.{get_or-take, length-take-le, take-take, take-append_seam, take-length, get_or-append_seam, get_or-set_same, get_or-set_other, ext_get_or, take-suc-set, append_snoc}
+use Rattle.std.proofs.lemmas.List.{drop_more}
 use Rattle.lists.specs.Count.{more}
-use Rattle.lists.proofs.Table.{left_cons}
 use Rattle.rank.specs.Order.{Arc, arc, arcs}
 use Rattle.rank.specs.Parts.{indeg, degs, ready}
 use Rattle.rank.specs.Parts.{find, none, from_at}
@@ -53,7 +55,7 @@ module _ (fs ts : List ℕ) (paired : length fs ≡ length ts) where
     pub next_arc : drop i (arcs fs ts) ≡ arc (get_or fs i 0) (get_or ts i 0) ∷ drop (i + 1) (arcs fs ts)
     next_arc =
         let inside : i < length (arcs fs ts) = omega (arith, many_arcs) in
-        left_cons none (arcs fs ts) i inside ∙ ap (λ (e : Arc). e ∷ drop (i + 1) (arcs fs ts)) arc_at
+        drop_more (arcs fs ts) i none inside ∙ ap (λ (e : Arc). e ∷ drop (i + 1) (arcs fs ts)) arc_at
 
   -- none is left behind the last
   pub no_arc : (i : ℕ) → length ts ≤ i → drop i (arcs fs ts) ≡ []
@@ -190,10 +192,10 @@ module _ (fs ts : List ℕ) (paired : length fs ≡ length ts) (i : ℕ) (h : i 
   from_at_lem : from_at (arcs fs ts) i ≡ get_or fs i 0
   from_at_lem = ap (λ (x : Arc). x.from) (arc_at fs ts paired i h)
 
-  pub arc_skip : n ≤ get_or fs i 0 → Chain first next n (arcs fs ts) i
+  arc_skip : n ≤ get_or fs i 0 → Chain first next n (arcs fs ts) i
   arc_skip = chain_skip (arcs fs ts) i (arc (get_or fs i 0) (get_or ts i 0)) (next_arc fs ts paired i h) first next n from_at_lem inv
 
-  pub arc_link : get_or fs i 0 < n → n ≤ 512 → i < 1024 → Chain (set first (get_or fs i 0) i) (set next i (get_or first (get_or fs i 0) 0)) n (arcs fs ts) i
+  arc_link : get_or fs i 0 < n → n ≤ 512 → i < 1024 → Chain (set first (get_or fs i 0) i) (set next i (get_or first (get_or fs i 0) 0)) n (arcs fs ts) i
   arc_link = chain_link (arcs fs ts) i (arc (get_or fs i 0) (get_or ts i 0)) (next_arc fs ts paired i h) first next n from_at_lem inv
 
 pub chain_start : (n m : ℕ) (es : List Arc) → n ≤ 512 → length es ≡ m → Chain (replicate 512 m) (replicate 1024 m) n es m
@@ -205,6 +207,56 @@ chain_start n m es hn e =
       (λ v lt. let q : v < 512 = omega arith in rw (get_or-replicate {A = ℕ} 512 v m 0 q, drop_of_length-le es past)),
       λ j le lt f. absurd (omega arith),
     )
+
+-- what a walk over the sources from the last back has left
+abbrev pub before : Rev (Enumerate (Iter ℕ)) → List ℕ
+before s = iter_rest (enumerate_source (rev_source s))
+
+-- these are the first of the sources, and they are numbered from 0 on
+abbrev pub Back : List ℕ → Rev (Enumerate (Iter ℕ)) → Type 0
+Back fs s = (enumerate_count (rev_source s) ≡ 0) × (before s ≡ take (length (before s)) fs)
+
+-- the last of the first few
+last_of : (fs xs : List ℕ) (v : ℕ) → xs ++ v ∷ [] ≡ take (length (xs ++ v ∷ [])) fs → (xs ≡ take (length xs) fs) × (v ≡ get_or fs (length xs) 0) × (length xs < length fs)
+last_of fs xs v e =
+    let k : length (xs ++ v ∷ []) ≡ length xs + 1 = length-append xs (v ∷ []) in
+    let low : length xs < length (xs ++ v ∷ []) = omega (arith, k) in (
+      sym (take-append_seam xs (v ∷ [])) ∙ ap (take (length xs)) e ∙ take-take (length xs) (length (xs ++ v ∷ [])) fs (omega (arith, k)),
+      sym (get_or-append_seam xs v [] 0) ∙ ap (λ l. get_or l (length xs) 0) e ∙ get_or-take (length (xs ++ v ∷ [])) fs (length xs) 0 low,
+      omega (arith, k, ap length e, length-take (length (xs ++ v ∷ [])) fs),
+    )
+
+pub back_start : (fs : List ℕ) (s : Rev (Enumerate (Iter ℕ))) → enumerate_count (rev_source s) ≡ 0 → before s ≡ fs → Back fs s
+back_start fs s none all = (none, rw (all, take-length fs) refl)
+
+-- a step back gives the last source that is left, and its number
+module _ (fs ts : List ℕ) (paired : length fs ≡ length ts) (s t : Rev (Enumerate (Iter ℕ))) (i v : ℕ) (inv : Back fs s) (same : enumerate_count (rev_source t) ≡ enumerate_count (rev_source s)) (step : before s ≡ before t ++ v ∷ []) (number : i ≡ enumerate_count (rev_source s) + length (before t)) (first next : List ℕ) (n : ℕ) (chain : Chain first next n (arcs fs ts) (length (before s))) where
+  at_i : i ≡ length (before t)
+  at_i = omega (arith, number, inv.0)
+
+  parts : (before t ≡ take (length (before t)) fs) × (v ≡ get_or fs (length (before t)) 0) × (length (before t) < length fs)
+  parts = last_of fs (before t) v (sym step ∙ inv.1 ∙ ap (λ xs. take (length xs) fs) step)
+
+  kept : Back fs t
+  kept = (same ∙ inv.0, parts.0)
+
+  is : v ≡ get_or fs i 0
+  is = parts.1 ∙ ap (λ k. get_or fs k 0) (sym at_i)
+
+  inside : i < length ts
+  inside = omega (arith, parts.2, at_i, paired)
+
+  behind : Chain first next n (arcs fs ts) (i + 1)
+  behind = subst (Chain first next n (arcs fs ts)) (ap length step ∙ length-append (before t) (v ∷ []) ∙ ap (λ k. k + 1) (sym at_i)) chain
+
+  pub back_skip : n ≤ v → Back fs t × Chain first next n (arcs fs ts) (length (before t))
+  back_skip h = (kept, subst (Chain first next n (arcs fs ts)) at_i (arc_skip fs ts paired i inside first next n behind (rw (← is) h)))
+
+  pub back_link : v < n → n ≤ 512 → length ts ≤ 1024 → Back fs t × Chain (set first v i) (set next i (get_or first v 0)) n (arcs fs ts) (length (before t))
+  back_link h few short =
+      let at_v : Chain (set first v i) (set next i (get_or first v 0)) n (arcs fs ts) i =
+      rw is (arc_link fs ts paired i inside first next n behind (rw (← is) h) few (omega (arith, inside, short))) in
+      (kept, subst (Chain (set first v i) (set next i (get_or first v 0)) n (arcs fs ts)) at_i at_v)
 
 -- ---- the rows that are ready at the start
 -- the queue, with the rows from v on that are ready, is all that are ready

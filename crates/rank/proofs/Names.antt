@@ -11,15 +11,16 @@ use borrow.Author.Tests.{eq-eqb, ne_eqb, lt-ltb, le-ltb}
 use lib.Dec.{eqb, ltb}
 use lib.ListN.{length, get_or, length-map, length-append}
 use lib.Seq.{append_snoc, get_or-append_seam}
+use Rattle.std.proofs.lemmas.List.{map-append}
 use Rattle.lists.specs.Member.{In}
-use Rattle.lists.proofs.Member.{and_left, and_right, in_append, map_append}
+use Rattle.lists.proofs.Member.{and_left, and_right, in_append, at_in}
 use Rattle.std.specs.Prelude.{filter}
 use Rattle.lists.proofs.Filter.{in_filter}
 use Rattle.rank.specs.Order.{Arc, arc, among, fed, live, own, others, released, walk, order, whole, count_up, upto}
 use Rattle.rank.specs.Cycle.{Distinct}
 use Rattle.rank.specs.Names.{row_of, row_arc}
 use Rattle.rank.proofs.Cycle.{upto_in}
-use Rattle.rank.proofs.Invariant.{among_in, in_among, at_in}
+use Rattle.rank.proofs.Invariant.{among_in, in_among}
 use Rattle.rank.proofs.Counts.{among_upto, length_upto}
 
 filter_map_in : {A B : Type 0} (f : A → B) (q : B → Bool) (r : A → Bool) (l : List A) → ((x : A) → In x l → q (f x) ≡ r x) → filter q (map f l) ≡ map f (filter r l)
@@ -59,7 +60,7 @@ module _ (f : ℕ → ℕ) (n : ℕ) (apart : (a b : ℕ) → a < n → b < n �
       let rest : Between mine = λ x m. h x (inr m) in
       let all : Between (mine ++ left) = λ x m. ⊎_elim (rest x) (k x) (in_append mine left x m) in
       let t : fed (f e.to) (map named mine ++ map named left) ≡ fed e.to (mine ++ left) =
-      ap (fed (f e.to)) (sym (map_append named mine left)) ∙ fed_named (mine ++ left) e.to all (h e (inl refl)).1 in
+      ap (fed (f e.to)) (sym (map-append named mine left)) ∙ fed_named (mine ++ left) e.to all (h e (inl refl)).1 in
       rw (t, released_named mine left rest k) (go (not (fed e.to (mine ++ left))))
     where
       go : (b : Bool) → cond b ((f e.to) ∷ (map f (released mine left))) (map f (released mine left)) ≡ map f (cond b (e.to ∷ (released mine left)) (released mine left))
@@ -88,7 +89,7 @@ module _ (f : ℕ → ℕ) (n : ℕ) (apart : (a b : ℕ) → a < n → b < n �
       let q : Small (queue ++ r) = λ x m. ⊎_elim (λ i. s x (inr i)) (in_released (own v left) (others v left) bo x) (in_append queue r x m) in
       let e : released (own (f v) (map named left)) (others (f v) (map named left)) ≡ map f r =
       rw (own_named v left hv b, others_named v left hv b) (released_named (own v left) (others v left) bo bt) in
-      rw (e, others_named v left hv b, ← (map_append f queue r), walk_named k (queue ++ r) (others v left) q bt)
+      rw (e, others_named v left hv b, ← (map-append f queue r), walk_named k (queue ++ r) (others v left) q bt)
 
 -- ---- rows of names
 pub row_in : (names : List ℕ) (x : ℕ) → In x names → (row_of names x < length names) × (get_or names (row_of names x) 0 ≡ x)

@@ -9,14 +9,15 @@ use mathlib.Core.Bool.{true, false, cond, false≢true}
 use borrow.Author.Tests.{eq-eqb, ne_eqb, eqb-true, eqb-false}
 use lib.Dec.{eqb}
 use lib.ListN.{length, get_or, length-map}
+use Rattle.std.proofs.lemmas.Bool.{false_from_ne_true}
 use Rattle.lists.specs.Member.{In}
-use Rattle.lists.proofs.Member.{in_of_map, in_map}
+use Rattle.lists.proofs.Member.{in_of_map, in_map, at_in}
 use Rattle.rank.specs.Order.{Arc, among, order, whole, count_up, upto}
 use Rattle.rank.specs.Cycle.{Walk, step, then, Cyclic, Acyclic, Distinct, Before, Sorted}
 use Rattle.rank.specs.Names.{row_of, row_arc}
 use Rattle.rank.specs.Parts.{order_rows}
 use Rattle.rank.proofs.Cycle.{in_upto, upto_in, count_in, short_rows, rows_few}
-use Rattle.rank.proofs.Invariant.{bool_false, among_in, in_among, at_in, rows_only, rows_sorted}
+use Rattle.rank.proofs.Invariant.{among_in, in_among, rows_only, rows_sorted}
 use Rattle.rank.proofs.Counts.{rows_order, length_upto}
 use Rattle.rank.proofs.Names.{row_in, row_back, rows_apart, order_named, whole_named}
 
@@ -51,7 +52,7 @@ distinct_count : (k i : ℕ) → Distinct (count_up k i)
 unfolding count_up
 distinct_count zero i = tt
 distinct_count (suc k) i =
-    (bool_false (among i (count_up k (suc i))) (λ t. let r = count_in k (suc i) i (among_in i (count_up k (suc i)) t) in omega (arith, r.0)), distinct_count k (suc i))
+    (false_from_ne_true (among i (count_up k (suc i))) (λ t. let r = count_in k (suc i) i (among_in i (count_up k (suc i)) t) in omega (arith, r.0)), distinct_count k (suc i))
 
 pub distinct_upto : (n : ℕ) → Distinct (upto n)
 distinct_upto n = distinct_count n 0
@@ -108,7 +109,7 @@ module _ (nodes : List ℕ) (d : Distinct nodes) (es : List Arc) where
   distinct_named : (l : List ℕ) → ((x : ℕ) → In x l → x < n) → Distinct l → Distinct (map name l)
   distinct_named [] s p = tt
   distinct_named (x ∷ l) s p = (
-    bool_false (among (name x) (map name l)) (λ t.
+    false_from_ne_true (among (name x) (map name l)) (λ t.
         let r = in_map name l (name x) (among_in (name x) (map name l) t) in
         let e : x ≡ r.0 = eqb-true x r.0 (sym (rows_apart nodes d x r.0 (s x (inl refl)) (s r.0 (inr r.1))) ∙ eq-eqb _ _ r.2) in
         false≢true (sym p.0 ∙ in_among x l (subst (λ (y : ℕ). In y l) (sym e) r.1))),
@@ -144,4 +145,4 @@ module _ (nodes : List ℕ) (d : Distinct nodes) (es : List Arc) where
 
   -- and so a cycle is what makes it short
   pub cyclic_short : Cyclic nodes es → whole nodes es ≡ false
-  cyclic_short c = bool_false (whole nodes es) (λ h. whole_acyclic h c)
+  cyclic_short c = false_from_ne_true (whole nodes es) (λ h. whole_acyclic h c)

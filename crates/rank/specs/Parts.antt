@@ -9,12 +9,12 @@ use Rattle.rank.specs.declared.Ranking.{Ranking}
 
 -- what a ranking holds
 abbrev pub ranking_of : Ranking → List ℕ
-ranking_of r = rows_of 512 r.count r.rows
+ranking_of r = rows_of 512 r.rows.count r.rows.rows
 
 pub record Ranked (r : Ranking) (nodes : List ℕ) (es : List Arc) : Type 0 where
-  pub long : length r.rows ≡ 512
+  pub long : length r.rows.rows ≡ 512
   pub is : ranking_of r ≡ order nodes es
-  pub many : r.count ≡ length (ranking_of r)
+  pub many : r.rows.count ≡ length (ranking_of r)
   pub all : r.whole ≡ whole nodes es
 
 -- ---- counts

@@ -6,12 +6,11 @@ ghost use Rattle.rank.specs.Parts.{Degrees, Linked, Ready, Queued, ranking_of};
 
 use lists::rows::Table;
 
-// The order of nodes that are the indices 0 to n - 1: the first `count` of `rows`, since there is no heap, and whether they are all. It is
-// promised where they are not all too, so it is no option. It is no `Table`, since it has `whole` too and nobody adds to it.
+// The order of nodes that are the indices 0 to n - 1, and whether it has them all. Which rows it has is promised also where they are not all,
+// so it is no option.
 #[derive(Clone, Copy)]
 pub struct Ranking {
-    pub rows: [usize; 512],
-    pub count: usize,
+    pub rows: Table<usize, 512>,
     pub whole: bool,
 }
 
@@ -45,17 +44,16 @@ impl Graph<'_, '_> {
     }
 
     // The arcs of one source, as a chain in their order, are stored: `first` of an index, `next` of an arc; their number, past the arcs,
-    // where there is none, as it stands there before. It is no `Option`, which would take twice the memory. By the index, from the last arc on:
-    // the index is what is stored.
+    // where there is none, as it stands there before. Two tables of numbers and no lists, since there is no heap. It is no `Option`, which would take
+    // twice the memory. From the last arc back, so that an arc is put before the later ones of its source.
     fn linked(&self, first: &mut [usize; 512], next: &mut [usize; 1024])
         requires { (first.old ≡ replicate 512 (length self.now.to.now)) × (next.old ≡ replicate 1024 (length self.now.to.now)) }
         ensures { Linked first.new next.new self.now.n (arcs self.now.from.now self.now.to.now) }
     {
-        for i in (0..self.to.len()).rev() {
-            let v = self.from[i];
-            if v < self.n {
-                next[i] = first[v];
-                first[v] = i;
+        for (i, v) in self.from.iter().enumerate().rev() {
+            if *v < self.n {
+                next[i] = first[*v];
+                first[*v] = i;
             }
         }
     }
@@ -112,7 +110,7 @@ impl Graph<'_, '_> {
 pub fn ranked(n: usize, from: &[usize], to: &[usize]) -> Ranking
     ensures is { ranking_of result ≡ order (upto (min n 512)) (take 1024 (arcs from.now to.now)) }
     ensures all { result.whole ≡ whole (upto (min n 512)) (take 1024 (arcs from.now to.now)) }
-    ensures sized { (length result.rows ≡ 512) × (result.count ≡ length (ranking_of result)) }
+    ensures sized { (length result.rows.rows ≡ 512) × (result.rows.count ≡ length (ranking_of result)) }
 {
     let k = n.min(512);
     let m = from.len().min(to.len()).min(1024);
@@ -121,11 +119,9 @@ pub fn ranked(n: usize, from: &[usize], to: &[usize]) -> Ranking
         from: &from[..m],
         to: &to[..m],
     };
-    let q = g.queued();
-    let rows = q.rows;
+    let rows = g.queued();
     Ranking {
         rows,
-        count: q.count,
-        whole: q.count == k,
+        whole: rows.count == k,
     }
 }

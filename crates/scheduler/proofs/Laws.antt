@@ -7,7 +7,8 @@ use mathlib.Core.Bool.{true, false}
 use lib.ListN.{length, take, drop, get_or}
 use lib.Seq.{append_snoc, get_or-take, length-take-le}
 use borrow.Author.Tests.{lt-ltb, le-ltb}
-use Rattle.lists.proofs.Table.{left_row, passed_row}
+use Rattle.std.proofs.lemmas.List.{take_more}
+use Rattle.lists.proofs.Table.{left_row}
 use Rattle.scheduler.specs.declared.event.Event.{Event}
 use Rattle.scheduler.specs.Queue.{later, before?, inserted}
 
@@ -17,7 +18,7 @@ module _ {A : Type 0} (d : A) (rows : List A) (k i : ℕ) (h : i < k) (t : k ≤
   passed_more m =
       let long : length (take k rows) ≡ k = length-take-le k rows t in
       let below : i < length (take k rows) = omega arith in
-      ap (λ z. z ++ m) (passed_row d (take k rows) i below)
+      ap (λ z. z ++ m) (take_more (take k rows) i d below)
       ∙ append_snoc (take i (take k rows)) (get_or (take k rows) i d) m
       ∙ ap (λ x. take i (take k rows) ++ (x ∷ m)) (get_or-take k rows i d h)
 

@@ -5,6 +5,7 @@ use native.Mathlib.Omega.{arith}
 use mathlib.Core.Path.{◌≡◌, refl, sym, ap, ◌∙◌}
 use mathlib.Core.Logic.{◌⊎◌, inl, inr, ⊎_elim}
 use mathlib.Core.List.{List, [], ◌∷◌, ◌++◌}
+use Rattle.std.proofs.lemmas.Bool.{and_from}
 use Rattle.node.specs.declared.refusal.Refusal.{Refusal}
 use Rattle.std.specs.Prelude.{Option, None, Some, filter, Err, Ok, Result}
 use mathlib.Core.Bool.{Bool, true, false, ◌&&◌, not, cond, false≢true}
@@ -12,7 +13,7 @@ use lib.Dec.{eqb, leb}
 use lib.ListN.{length}
 use borrow.Author.Tests.{eqb-true, eq-eqb, ne_eqb, ltb-true, leb-true, leb-false, lt-leb}
 use Rattle.lists.specs.Member.{In}
-use Rattle.lists.proofs.Member.{ok_err, some_inj, none_some, and_left, and_right, both}
+use Rattle.lists.proofs.Member.{ok_err, some_inj, none_some, and_left, and_right}
 use Rattle.lists.proofs.Filter.{length_filter, filter_same, filter_filter}
 use Rattle.node.specs.Name.{named, text, same_name}
 use Rattle.node.specs.declared.name.Name.{Name}
@@ -125,7 +126,7 @@ tested e f h =
 
 -- the four together are the rule
 pub tests_pass : (e f : Event) → Tested e f → replaces e f ≡ true
-tests_pass e f t = both _ _ (eq-eqb _ _ t.time) (both _ _ (eq-eqb _ _ t.voice) (both _ _ t.sort t.name))
+tests_pass e f t = and_from _ _ (eq-eqb _ _ t.time) (and_from _ _ (eq-eqb _ _ t.voice) (and_from _ _ t.sort t.name))
 
 pub replaces_to : (e f : Event) → replaces e f ≡ true → Alike e f
 replaces_to e f h =

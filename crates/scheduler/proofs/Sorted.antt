@@ -20,7 +20,7 @@ abbrev pub Sorted : List Event → Type 0
 Sorted [] = Unit
 Sorted (e ∷ l) = ((f : Event) → In f l → e.time ≤ f.time) × Sorted l
 
-in_inserted : (e : Event) (l : List Event) (x : Event) → In x (inserted e l) → (x ≡ e) ⊎ In x l
+pub in_inserted : (e : Event) (l : List Event) (x : Event) → In x (inserted e l) → (x ≡ e) ⊎ In x l
 in_inserted e [] x (inl p) = inl p
 in_inserted e [] x (inr i) = absurd i
 in_inserted e (f ∷ l) x i = go (later e f) i (in_inserted e l x)

@@ -3,12 +3,12 @@ use Prim.Native.Nat.{ℕ, ◌-◌, ◌/◌, ◌%◌}
 use native.Mathlib.Omega.{arith}
 use mathlib.Core.Path.{◌≡◌, ap, ◌∙◌}
 use mathlib.Core.Bool.{Bool}
-use mathlib.Core.List.{List, []}
+use mathlib.Core.List.{List}
 use lib.Ieee.{Float}
 use lib.ListN.{length, drop}
+use lib.Seq.{drop-length}
 use Rattle.voice.specs.declared.steals.StealRecord.{StealRecord}
 use Rattle.voice.specs.Steals.{empty_log, turned}
-use Rattle.lists.proofs.Table.{left_none}
 use Rattle.words.proofs.Rows.{rows_long}
 use Rattle.steal_log.specs.Rows.{steal_of, records_in, log_in}
 
@@ -27,4 +27,4 @@ pub none_held : (c : List ℕ) (next : ℕ) → log_in c 0 next ≡ empty_log
 none_held c next =
     let l = turned (next % 64) (records_in c) in
     let all : length l - 0 ≡ length l = omega arith in
-    ap (λ (n : List StealRecord). record { count = 0; newest = n }) (ap (λ k. drop k l) all ∙ left_none (steal_of []) l)
+    ap (λ (n : List StealRecord). record { count = 0; newest = n }) (ap (λ k. drop k l) all ∙ drop-length l)

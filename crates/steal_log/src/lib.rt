@@ -39,7 +39,10 @@ fn record_words(r: StealRecord) -> [u32; 5]
     ]
 }
 
-// The record in row `i`; past the end, the record of no words, and no Option: callers read below the count.
+// A row is read and stored in a slice and not in a `StealTable`: a table's length would ask of callers what no row needs.
+
+// The record in row `i`; past the end, the record of no words, and no Option: the definition reads a list with that default, and the one caller
+// reads the 64 rows that a table has.
 pub fn record_at(t: &[u32], i: usize) -> StealRecord
     ensures { result ≡ get_or (records_in t.now) i (steal_of []) }
 {

@@ -34,7 +34,7 @@ steps_at es [] more k i n h = absurd (none_some h)
 steps_at es (x ∷ ns) more k zero n h = rw (add-zero, some_inj h)
 steps_at es (x ∷ ns) more k (suc i) n h = steps_at es ns more (suc k) i n h ∙ ap (λ j. Some (step_of es n j)) (omega arith)
 
-length_steps : (es : List DefEdge) (ns : List DefNode) (k : ℕ) → length (steps_from es ns k) ≡ length ns
+pub length_steps : (es : List DefEdge) (ns : List DefNode) (k : ℕ) → length (steps_from es ns k) ≡ length ns
 length_steps es [] k = refl
 length_steps es (n ∷ ns) k = ap suc (length_steps es ns (suc k))
 

@@ -5,13 +5,14 @@ use mathlib.Core.Path.{◌≡◌, refl, sym, ap, ◌∙◌}
 use mathlib.Core.Logic.{inl, inr}
 use mathlib.Core.List.{List, [], ◌∷◌, ◌++◌, append-nil, append_assoc}
 use Rattle.std.specs.Prelude.{Option, None, Some, cond, filter, find, option_map}
-use mathlib.Core.Bool.{Bool, true, false, not, ◌&&◌, ◌||◌, false≢true}
+use mathlib.Core.Bool.{Bool, true, false, not, false≢true}
 use lib.ListN.{length, length-take}
 use lib.Dec.{eqb}
 use borrow.Author.Tests.{eqb-true}
+use Rattle.std.proofs.lemmas.List.Elements.{filter-append}
 use Rattle.lists.specs.Member.{In}
-use Rattle.lists.proofs.Member.{and_left, and_right, some_inj, none_some}
-use Rattle.lists.proofs.Filter.{filter_append, filter_all, filter_filter, filter_same}
+use Rattle.lists.proofs.Member.{and_left, and_right, some_inj, none_some, neither}
+use Rattle.lists.proofs.Filter.{filter_all, filter_filter, filter_same}
 use Rattle.lists.specs.Find.{Once}
 use Rattle.lists.proofs.Find.{find_in, none_find}
 use Rattle.synthdef.specs.Rows.{any}
@@ -43,7 +44,7 @@ connect_onto : (l es : List DefEdge) → connect_all l es ≡ filter (λ x. not 
 connect_onto l [] = sym (append-nil _ ∙ filter_all (λ x. true) l (λ x i. refl))
 connect_onto l (e ∷ es) =
     connect_onto (connect l e) es
-    ∙ ap (λ z. z ++ counted es) (filter_append (free es) (filter (away e) l) (e ∷ []) ∙ ap (λ z. z ++ filter (free es) (e ∷ [])) (both_free l))
+    ∙ ap (λ z. z ++ counted es) (filter-append (free es) (filter (away e) l) (e ∷ []) ∙ ap (λ z. z ++ filter (free es) (e ∷ [])) (both_free l))
     ∙ append_assoc (filter (free (e ∷ es)) l) (filter (free es) (e ∷ [])) (counted es)
     ∙ ap (λ z. filter (free (e ∷ es)) l ++ z) (last (free es e))
   where
@@ -53,14 +54,8 @@ connect_onto l (e ∷ es) =
     away : DefEdge → DefEdge → Bool
     away f x = not (ends_at x.to x.port f)
 
-    de_morgan : (a b : Bool) → (not b && not a) ≡ not (a || b)
-    de_morgan true true = refl
-    de_morgan true false = refl
-    de_morgan false true = refl
-    de_morgan false false = refl
-
     both_free : (m : List DefEdge) → filter (free es) (filter (away e) m) ≡ filter (free (e ∷ es)) m
-    both_free m = filter_filter (free es) (away e) m ∙ filter_same _ (free (e ∷ es)) m (λ x i. de_morgan (ends_at x.to x.port e) (taken x es))
+    both_free m = filter_filter (free es) (away e) m ∙ filter_same _ (free (e ∷ es)) m (λ x i. neither (ends_at x.to x.port e) (taken x es))
 
     last : (b : Bool) → cond b (e ∷ []) [] ++ counted es ≡ cond b (e ∷ (counted es)) (counted es)
     last true = refl

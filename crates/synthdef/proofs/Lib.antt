@@ -8,3 +8,4 @@ pub mod Walk
 pub mod Within
 pub mod Theorem
 pub mod Rows
+pub mod PlanRows

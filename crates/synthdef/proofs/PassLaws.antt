@@ -6,7 +6,8 @@ use mathlib.Core.Logic.{◌⊎◌, inl, inr, ⊎_elim}
 use mathlib.Core.List.{List, [], ◌∷◌}
 use mathlib.Core.Bool.{Bool, true, false, ◌||◌, cond, false≢true}
 use lib.ListN.{length, get_or, replicate}
-use Rattle.lists.proofs.Member.{and_left, and_right, both}
+use Rattle.std.proofs.lemmas.Bool.{and_from}
+use Rattle.lists.proofs.Member.{and_left, and_right}
 use Rattle.lists.specs.Count.{count}
 use Rattle.lists.proofs.Count.{count_length}
 use Rattle.synthdef.specs.Rows.{every, any}
@@ -26,7 +27,7 @@ or_mono false b c f h = f h
 every_mono : (f g : ℕ → Bool) → ((j : ℕ) → f j ≡ true → g j ≡ true) → (l : List ℕ) → every f l ≡ true → every g l ≡ true
 every_mono f g m [] h = refl
 every_mono f g m (j ∷ l) h =
-    both (g j) (every g l) (m j (and_left (f j) (every f l) h)) (every_mono f g m l (and_right (f j) (every f l) h))
+    and_from (g j) (every g l) (m j (and_left (f j) (every f l) h)) (every_mono f g m l (and_right (f j) (every f l) h))
 
 any_mono : (f g : ℕ → Bool) → ((j : ℕ) → f j ≡ true → g j ≡ true) → (l : List ℕ) → any f l ≡ true → any g l ≡ true
 any_mono f g m [] h = h

@@ -1,12 +1,13 @@
 -- The place in a list that has the sources of arcs before their targets is a ranking of the arcs.
 use Prim.Native.Nat.{ℕ, zero, suc, ◌<◌}
 use native.Mathlib.Omega.{arith}
-use mathlib.Core.Path.{◌≡◌, refl, sym, ap, ◌∙◌}
+use mathlib.Core.Path.{◌≡◌, sym, ap, ◌∙◌}
 use mathlib.Core.Logic.{inl, inr}
 use mathlib.Core.List.{List, [], ◌∷◌}
-use mathlib.Core.Bool.{Bool, true, false, ◌||◌, cond, false≢true}
+use mathlib.Core.Bool.{false, cond, false≢true}
 use lib.Dec.{eqb}
 use borrow.Author.Tests.{eq-eqb, ne_eqb}
+use Rattle.rank.proofs.Invariant.{in_among}
 use Rattle.lists.specs.Member.{In}
 use Rattle.rank.specs.Order.{among}
 use Rattle.rank.specs.Cycle.{Distinct, Before}
@@ -14,16 +15,6 @@ use Rattle.rank.specs.Cycle.{Distinct, Before}
 unfoldable pub place : ℕ → List ℕ → ℕ
 place x [] = zero
 place x (y ∷ l) = cond (eqb x y) zero (suc (place x l))
-
-in_among : (x : ℕ) (l : List ℕ) → In x l → among x l ≡ true
-unfolding among
-in_among x [] i = absurd i
-in_among x (y ∷ l) (inl p) = rw (eq-eqb x y p)
-in_among x (y ∷ l) (inr i) = go (eqb x y) (in_among x l i)
-  where
-    go : (b : Bool) → among x l ≡ true → (b || among x l) ≡ true
-    go true h = refl
-    go false h = h
 
 -- what stands after a number that is there once is another one
 other : (x z : ℕ) (l : List ℕ) → among z l ≡ false → In x l → eqb x z ≡ false

@@ -5,7 +5,7 @@ use mathlib.Core.Path.{◌≡◌, sym, ap, ◌∙◌}
 use mathlib.Core.List.{List, ◌∷◌, ◌++◌}
 use lib.ListN.{length, take, set, replicate}
 use lib.Seq.{length-take-le, set_at, append_snoc}
-use Rattle.lists.proofs.Table.{append_row}
+use Rattle.std.proofs.lemmas.List.{take_more_set}
 
 -- an array that is filled from the front: w rows so far, and d past them
 pub record Filled {A : Type 0} (d : A) (room : ℕ) (rows : List A) (w : ℕ) : Type 0 where
@@ -24,15 +24,9 @@ module _ {A : Type 0} (d : A) (room : ℕ) where
               ap (λ l. set l w x) (f.is ∙ ap (λ m. take w rows ++ replicate m d) split)
               ∙ set_at (take w rows) d (replicate (room - (w + 1)) d) x w front
               ∙ sym (append_snoc (take w rows) x (replicate (room - (w + 1)) d))
-              ∙ ap (λ l. l ++ replicate (room - (w + 1)) d) (sym (append_row rows w x h));
+              ∙ ap (λ l. l ++ replicate (room - (w + 1)) d) (sym (take_more_set rows w x h));
         }
-
-    -- what such an array holds, where the rows so far are l
-    pub filled_is : (l : List A) → w ≤ length rows → take w rows ≡ l → (rows ≡ l ++ replicate (room - length l) d) × (w ≡ length l)
-    filled_is l h e =
-        let many : w ≡ length l = sym (length-take-le w rows h) ∙ ap length e in
-        (f.is ∙ ap (λ z. z ++ replicate (room - w) d) e ∙ ap (λ m. l ++ replicate (room - m) d) many, many)
 
 -- a row stored at the count, before what is still to come
 pub one_more : {A : Type 0} (rows : List A) (w : ℕ) (x : A) (rest : List A) → w < length rows → take (w + 1) (set rows w x) ++ rest ≡ take w rows ++ x ∷ rest
-one_more rows w x rest h = ap (λ l. l ++ rest) (append_row rows w x h) ∙ append_snoc (take w rows) x rest
+one_more rows w x rest h = ap (λ l. l ++ rest) (take_more_set rows w x h) ∙ append_snoc (take w rows) x rest

@@ -19,7 +19,8 @@ pub struct DefNode {
     pub amp_port: u8,
 }
 
-// The output of the definition's node `from` feeds the port `port` of its node `to`.
+// The output of the definition's node `from` feeds the port `port` of its node `to`. No one type with `Edge` over the id: the definitions name both,
+// and a place in a definition never serves as a node id.
 #[derive(Clone, Copy)]
 pub struct DefEdge {
     pub from: u8,

@@ -20,7 +20,8 @@ fn taken(e: DefEdge, es: &[DefEdge]) -> bool
         .any(|x| ends_at(*x, usize::from(e.to), usize::from(e.port)))
 }
 
-// The edges that count, the last to each port, in the order of their last occurrence.
+// The edges that count, the last to each port, in the order of their last occurrence. Crates book_bytes and page_scene write the edge of zeros out too: a
+// constant for its three numbers would be no shorter.
 pub fn counted_edges(es: DefEdges) -> DefEdges
     ensures { result ≡ edge_table (counted (edge_rows es)) }
 {

@@ -2,8 +2,7 @@ ghost use Rattle.std.specs.Prelude.{◌≡◌};
 ghost use Rattle.synthdef.specs.Instance.{id_after, live_node, live_edge};
 
 use crate::def::{DefEdge, DefNode};
-use node::order::LastOrder;
-use node::record::{Edge, Node, NodeId, VoiceId};
+use node::record::{Edge, Node, NodeId, VoiceId, new_node};
 
 // The id that stands `place` after `first`, or the last id where the ids end before it.
 pub fn id_after(first: NodeId, place: u8) -> NodeId
@@ -12,23 +11,16 @@ pub fn id_after(first: NodeId, place: u8) -> NodeId
     NodeId(first.0.saturating_add(u32::from(place)))
 }
 
-// A node of a definition as a live node of a voice: its done flag clear, its level 0, and no order taken. The fields stand here as in
-// `host_node` of graph: one function for both would take seven values without a name.
+// A node of a definition as a live node of a voice: its done flag clear, its level 0, and no order taken.
 pub fn live_node(n: DefNode, id: NodeId, owner: VoiceId) -> Node
     ensures { result ≡ live_node n id owner }
 {
     Node {
-        id,
-        owner,
-        kind: n.kind,
         ports: u32::from(n.ports),
         required: u64::from(n.required),
         takes_values: n.takes_values,
         takes_glides: n.takes_glides,
-        done: false,
-        level: 0.0,
-        last: LastOrder::Nothing,
-        noise: 0,
+        ..new_node(id, owner, n.kind)
     }
 }
 

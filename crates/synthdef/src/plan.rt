@@ -1,12 +1,13 @@
-ghost use Rattle.std.specs.Prelude.{◌≡◌, ◌≤◌, false};
+ghost use Rattle.std.specs.Prelude.{◌≡◌, ◌≤◌, [], false, get_or};
 ghost use Rattle.synthdef.specs.Tables.{edge_rows};
 ghost use Rattle.synthdef.specs.Edges.{source_at};
-ghost use Rattle.synthdef.specs.Plan.{named_span, span_of, is_every, sources_from, step, summed, step_of, plan_of};
+ghost use Rattle.synthdef.specs.Plan.{named_span, span_of, is_every, sources_from, step, summed, step_of, steps_from, plan_of};
 
 use crate::def::{DefEdges, DefNode, SynthDef};
 use crate::edges::{counted_edges, ends_at};
 use lists::rows::Table;
 use node::silence::{SilenceRule, silence_rule};
+use std::array;
 
 // The sources that the rule of a node reads, the first `count` of `sources`: where `all` is set, all of them have to be silent for the node
 // to be, else one. No `Table` of lists: its count is a byte, as the words of a voice hold it. `all` is a flag there too: an enum of the two
@@ -32,7 +33,8 @@ pub struct DonePlan {
     pub output: u8,
 }
 
-// The ports that a rule reads: `count` of them from `first` on. No range of the library: a sum compares the count, which a range would subtract.
+// The ports that a rule reads: `count` of them from `first` on. No range of the library: it is not `Copy`, `step_of` reads it twice, and specs/Plan
+// names this type.
 #[derive(Clone, Copy)]
 struct Span {
     first: usize,
@@ -129,17 +131,21 @@ fn step_of(es: DefEdges, n: DefNode, i: usize) -> DoneStep
     }
 }
 
-// The done plan of a definition. By the place, which the step needs as well: a zip with the steps would nest a pair in a pair.
+// The step of the node in row `i`, or NEVER where there is no such row.
+fn step_at(es: DefEdges, nodes: &[DefNode], i: usize) -> DoneStep
+    ensures { result ≡ get_or (steps_from (edge_rows es) nodes.now 0) i (step false []) }
+{
+    nodes.get(i).map_or(NEVER, |n| step_of(es, *n, i))
+}
+
+// The done plan of a definition.
 pub fn done_plan(d: SynthDef) -> DonePlan
     ensures { result ≡ plan_of d }
 {
     let es = counted_edges(d.edges);
-    let mut steps = [NEVER; 24];
-    for (i, n) in d.nodes.as_slice().iter().enumerate() {
-        steps[i] = step_of(es, *n, i);
-    }
+    let nodes = d.nodes.as_slice();
     DonePlan {
-        steps,
+        steps: array::from_fn(|i| step_at(es, nodes, i)),
         output: d.output,
     }
 }

@@ -5,7 +5,8 @@ ghost use Rattle.synthdef.specs.Plan.{silent_in, says, pass, settled, plan_silen
 use crate::plan::{DonePlan, DoneStep};
 use std::array;
 
-// Whether node `j` is silent by the flags `s`. A row past them is not.
+// Whether node `j` is silent by the flags `s`. A row past them is not, and it is no Option: any words are a plan, and a source that is no row
+// silences nothing.
 fn silent_in(s: [bool; 24], j: u8) -> bool
     ensures { result ≡ silent_in s j }
 {

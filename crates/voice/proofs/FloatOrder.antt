@@ -4,21 +4,15 @@
 use Prim.Native.Nat.{ℕ, ◌+◌, ◌*◌, ◌≤◌, ◌<◌}
 use native.Mathlib.Nat.{le_of_lt, mul-le-mul_right, le_of_mul-le-mul_right}
 use native.Mathlib.Omega.{arith}
-use mathlib.Core.Path.{◌≡◌, refl, sym, ap, ◌∙◌}
+use mathlib.Core.Path.{◌≡◌, refl, sym, ◌∙◌}
 use mathlib.Core.Logic.{◌⊎◌, inl, inr}
 use mathlib.Core.Bool.{Bool, true, false, ◌||◌, true≢false}
 use lib.Dec.{leb, ltb, eqb}
 use lib.Ieee.{Float, nan, inf, fin, up, down, below, level, lt, eq, le, is_nan}
 use lib.Ieee.Fits.{down_pos}
 use borrow.Author.Tests.{ltb-true, ltb-false, leb-true, leb-false, eqb-true, lt-ltb, eq-eqb}
-use Rattle.lists.proofs.Member.{and_left, and_right, both}
-
-or_true : (p q : Bool) → (p || q) ≡ true → (p ≡ true) ⊎ (q ≡ true)
-or_true true q h = inl refl
-or_true false q h = inr h
-
-or_left : (p q : Bool) → p ≡ true → (p || q) ≡ true
-or_left p q h = ap (λ z. z || q) h
+use Rattle.std.proofs.lemmas.Bool.{and_from, or_cases, or_left}
+use Rattle.lists.proofs.Member.{and_left, and_right}
 
 or_else : (p q : Bool) → (p ≡ false → q ≡ true) → (p || q) ≡ true
 or_else true q h = refl
@@ -60,7 +54,7 @@ module _ (a k b j : ℕ) where
   same true true h = omega (arith, eqb-true (a * k) (b * j) (and_left _ _ h))
 
   least_is : (s t : Bool) → (below s (a * k) t (b * j) || level s (a * k) t (b * j)) ≡ true → Least s t
-  least_is s t h = go (or_true _ _ h)
+  least_is s t h = go (or_cases _ _ h)
     where
       go : (below s (a * k) t (b * j) ≡ true) ⊎ (level s (a * k) t (b * j) ≡ true) → Least s t
       go (inl p) = le_of_lt (less_is s t p)
@@ -69,17 +63,17 @@ module _ (a k b j : ℕ) where
   is_least : (s t : Bool) → Least s t → (below s (a * k) t (b * j) || level s (a * k) t (b * j)) ≡ true
   is_least false false h =
       or_else (ltb (a * k) (b * j)) (level false (a * k) false (b * j))
-      (λ e. both (eqb (a * k) (b * j)) true (eq-eqb (a * k) (b * j) (omega (arith, ltb-false (a * k) (b * j) e))) refl)
-  is_least false true h = both (eqb (a * k) (b * j)) (eqb (a * k) 0) (eq-eqb (a * k) (b * j) (omega arith)) (eq-eqb (a * k) 0 (omega arith))
+      (λ e. and_from (eqb (a * k) (b * j)) true (eq-eqb (a * k) (b * j) (omega (arith, ltb-false (a * k) (b * j) e))) refl)
+  is_least false true h = and_from (eqb (a * k) (b * j)) (eqb (a * k) 0) (eq-eqb (a * k) (b * j) (omega arith)) (eq-eqb (a * k) 0 (omega arith))
   is_least true false h =
       or_else (ltb 0 (a * k + b * j)) (level true (a * k) false (b * j))
       (λ e.
-      both (eqb (a * k) (b * j)) (eqb (a * k) 0)
+      and_from (eqb (a * k) (b * j)) (eqb (a * k) 0)
       (eq-eqb (a * k) (b * j) (omega (arith, ltb-false 0 (a * k + b * j) e)))
       (eq-eqb (a * k) 0 (omega (arith, ltb-false 0 (a * k + b * j) e))))
   is_least true true h =
       or_else (ltb (b * j) (a * k)) (level true (a * k) true (b * j))
-      (λ e. both (eqb (a * k) (b * j)) true (eq-eqb (a * k) (b * j) (omega (arith, ltb-false (b * j) (a * k) e))) refl)
+      (λ e. and_from (eqb (a * k) (b * j)) true (eq-eqb (a * k) (b * j) (omega (arith, ltb-false (b * j) (a * k) e))) refl)
 
   -- one of the two holds
   total : (s t : Bool) → (below s (a * k) t (b * j) || level s (a * k) t (b * j)) ≡ false → plus t b * j + minus s a * k < plus s a * k + minus t b * j

@@ -24,7 +24,7 @@ whole_none = refl
 pub whole_pushed : (b : StealLog) (r : StealRecord) → Whole b → Whole (pushed b r)
 whole_pushed b r h = simp (length-drop, length-append) (omega arith)
 
-length_cut : (i : ℕ) (l : List StealRecord) → length (cut_at i l) ≡ length l
+pub length_cut : (i : ℕ) (l : List StealRecord) → length (cut_at i l) ≡ length l
 length_cut i [] = refl
 length_cut zero (r ∷ l) = refl
 length_cut (suc i) (r ∷ l) = ap suc (length_cut i l)

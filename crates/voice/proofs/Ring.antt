@@ -8,7 +8,7 @@ use mathlib.Core.Path.{◌≡◌, sym, ap, ◌∙◌}
 use mathlib.Core.List.{List, [], ◌∷◌, ◌++◌, append-nil, append_assoc}
 use lib.ListN.{length, take, drop, get_or, set, length-append, length-take, length-drop, length-set, drop_of_length-le, get_or-append}
 use lib.Seq.{take_all, set-append_left, drop-set-lt, drop-set-add, take-set-le, take-set-lt, drop-append-le, drop-drop, get_or-append-add, get_or-drop, get_or-take}
-use Rattle.lists.proofs.Table.{append_row}
+use Rattle.std.proofs.lemmas.List.{take_more_set}
 use Rattle.voice.specs.Steals.{last_of, turned}
 
 -- a store past the first of two lists
@@ -31,7 +31,7 @@ module _ {A : Type 0} (rows : List A) (n p : ℕ) (long : length rows ≡ n) (be
       let fit : p < length rows = omega arith in
       let next : p < p + 1 = omega arith in
       ap (λ z. z ++ take (p + 1) (set rows p r)) (drop-set-lt (p + 1) rows p r next)
-      ∙ ap (λ z. drop (p + 1) rows ++ z) (append_row rows p r fit)
+      ∙ ap (λ z. drop (p + 1) rows ++ z) (take_more_set rows p r fit)
       ∙ sym (append_assoc (drop (p + 1) rows) (take p rows) (r ∷ []))
       ∙ ap (λ z. z ++ (r ∷ [])) (sym turned_rest)
 

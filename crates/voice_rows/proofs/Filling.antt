@@ -11,7 +11,7 @@ use lib.Dec.{eqb}
 use lib.ListN.{length, get_or, set, length-set}
 use lib.Seq.{ext_get_or, sets, length-sets, get_or-set_same}
 use borrow.Author.Tests.{eqb-true, eqb-false}
-use Rattle.words.proofs.Within.{sets_out}
+use Rattle.words.proofs.Rows.{sets_out}
 use Rattle.voice_rows.specs.Rows.{each}
 use Rattle.voice_rows.specs.Filled.{Filled, Local}
 
@@ -111,9 +111,3 @@ module _ {A : Type 0} (base w n : ℕ) (at : List ℕ → ℕ → A) (d : A) (ol
         is = each_is (λ m. at new (base + m * w)) n d xs long (λ i h. inv.front i (omega arith));
         out = λ j h. inv.out j (rw all h);
       }
-
--- within a list nothing is read past its end
-pub any_default : {A : Type 0} (l : List A) (k : ℕ) (d e : A) → k < length l → get_or l k d ≡ get_or l k e
-any_default [] k d e h = absurd (omega arith)
-any_default (x ∷ l) zero d e h = refl
-any_default (x ∷ l) (suc k) d e h = any_default l k d e (omega arith)

@@ -1,4 +1,3 @@
-pub mod Changed
 pub mod Filling
 pub mod Made
 pub mod Records
@@ -6,3 +5,4 @@ pub mod Words
 pub mod Reading
 pub mod Picked
 pub mod First
+pub mod Down

@@ -17,12 +17,16 @@ use Rattle.store.specs.declared.voices.VoiceState.{VoiceState}
 use Rattle.model.specs.Voice.{with_state}
 use Rattle.words.specs.Rows.{row_at, fields_put}
 use Rattle.words.proofs.Words.{spell, spelled}
-use Rattle.words.proofs.Rows.{row_is, rows_kept, at_long}
-use Rattle.words.proofs.Within.{sets_out, take_sets, put_past, fields_is}
+use Rattle.words.proofs.Rows.{row_is, rows_kept, at_long, sets_out, rows_long}
+use Rattle.words.proofs.Within.{take_sets, put_past, fields_is}
 use Rattle.voice_rows.specs.Rows.{state_at, param_at, step_at, params_in, steps_in, headed, voice_of, voices_in, Heads, Stands, Spells}
 use Rattle.voice_rows.specs.Filled.{Filled}
 use Rattle.voice_rows.proofs.Filling.{each_same, sets_in}
 use Rattle.voice_rows.specs.Layouts.{param_local, step_local}
+
+-- so many words have room for 64 voices
+pub voices_long : (c : List ℕ) → length c ≡ 9152 → length (voices_in c) ≡ 64
+voices_long c h = rows_long 143 voice_of c ∙ ap (λ k. k / 143) h
 
 -- the same words from a place on give the same parameters, and the same steps
 params_same : (c e : List ℕ) → ((j : ℕ) → 23 ≤ j → j < 71 → get_or c j 0 ≡ get_or e j 0) → params_in c ≡ params_in e

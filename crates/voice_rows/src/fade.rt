@@ -1,5 +1,5 @@
 // Fades: how they begin and move, in place, and which one started earliest.
-// A loop goes by the numbers of rows: a row is so many words of a lent table, and there is no slice of rows.
+// Each lent table and its count are parameters of their own: a signature shows what a call may touch.
 ghost use Rattle.std.specs.Prelude.{◌≡◌, [], map, take, get_or};
 ghost use Rattle.model.specs.Voice.{start_of, fades_on, begin_fade, moved, moved_fade, moved_state};
 ghost use Rattle.model.specs.Spawn.{earliest};
@@ -10,9 +10,11 @@ ghost use Rattle.voice_rows.specs.Found.{FoundAt};
 ghost use Rattle.voice_rows.specs.Earlier.{Earlier};
 ghost use Rattle.voice_rows.specs.Fading.{fading};
 
-use crate::row::{bus_at, id_at, put_state, state_at};
+use crate::pack::state_words;
+use crate::row::{bus_at, id_at, state_at};
 use node::record::{NodeId, VoiceId};
 use store::voices::{Fade, VoiceState};
+use words::table::change_rows;
 
 // The fade of a voice in the state `s`; none if it does not fade.
 pub fn fading(s: VoiceState) -> Option<Fade>
@@ -24,15 +26,12 @@ pub fn fading(s: VoiceState) -> Option<Fade>
     }
 }
 
-// The voice `w` fades from now on.
+// The voice `w` fades from now on: its state is stored, which begins at word 11 of a row.
 pub fn begin_fade(t: &mut [u32], count: usize, w: VoiceId, f: Fade)
     ensures { take count (voices_in t.new) ≡ map (begin_fade w f) (take count (voices_in t.old)) }
 {
-    for i in 0..count.min(t.len() / 143) {
-        if id_at(t, i) == w {
-            put_state(t, i, VoiceState::Fading(f));
-        }
-    }
+    let ws = state_words(VoiceState::Fading(f));
+    change_rows(t, 143, count, 11, |t, i| (id_at(t, i) == w).then_some(ws));
 }
 
 // A fade after a sounding block.
@@ -52,14 +51,13 @@ fn moved_state(s: VoiceState, block: u64) -> VoiceState
     fading(s).map_or(s, |f| VoiceState::Fading(moved_fade(f, block)))
 }
 
-// Every fade moves by a block.
+// Every fade moves by a block. The state of every voice is stored, also of one that does not fade: it is what it was.
 pub fn move_fades(t: &mut [u32], count: usize, block: u64)
     ensures { take count (voices_in t.new) ≡ map (moved (further block)) (take count (voices_in t.old)) }
 {
-    for i in 0..count.min(t.len() / 143) {
-        let s = state_at(t, i);
-        put_state(t, i, moved_state(s, block));
-    }
+    change_rows(t, 143, count, 11, |t, i| {
+        Some(state_words(moved_state(state_at(t, i), block)))
+    });
 }
 
 // Whether the fade of the voice in row `i` has ended: its position has reached the fade length.
@@ -97,15 +95,12 @@ fn earlier_row(t: &[u32], best: Option<usize>, i: usize, bus: NodeId) -> Option<
     }
 }
 
-// The row of the fade of `bus` that started earliest, of several the first in voice order; or none.
-// By a for: with `filter` and `min_by_key` the goal `returns` stayed open: the library says that no key is less, and not that of several the first
-// is taken.
+// The row of the fade of `bus` that started earliest, of several the first in voice order; or none. From the last row down, so that of several
+// the first stays. A fold and no `min_by_key`: of that the library says that no key is less, and not that of several the first is taken.
 pub fn earliest_fade(t: &[u32], count: usize, bus: NodeId) -> Option<usize>
     ensures { FoundAt result count (voices_in t.now) (earliest (fades_on bus) (take count (voices_in t.now))) }
 {
-    let mut best = None;
-    for i in (0..count.min(t.len() / 143)).rev() {
-        best = earlier_row(t, best, i, bus);
-    }
-    best
+    (0..count.min(t.len() / 143))
+        .rev()
+        .fold(None, |best, i| earlier_row(t, best, i, bus))
 }

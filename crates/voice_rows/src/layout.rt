@@ -32,7 +32,7 @@ pub struct Run<const W: usize, const N: usize, const M: usize> {
     ghost narrow: { M ≤ 65536 },
 }
 
-// The records `xs` are stored in the words of a row.
+// The records `xs` are stored in the words of a row. By the records' numbers, since words are no slice of records.
 pub fn put_records<L: Layout<W>, const W: usize, const N: usize, const M: usize>(
     ws: &mut [u32; M],
     run: Run<W, N, M>,

@@ -1,4 +1,5 @@
 // Who counts for a new voice on a bus, and with which level.
+// Each lent table and its count are parameters of their own: a signature shows what a call may touch.
 // A loop goes by the numbers of rows: a row is so many words of a lent table, and there is no slice of rows.
 ghost use Rattle.std.specs.Prelude.{◌≡◌, [], length, take, get_or};
 ghost use Rattle.voice.specs.Policy.{candidates_of};
@@ -13,7 +14,7 @@ use node::record::NodeId;
 use store::voices::VoiceState;
 use voice::policy::{BudgetScope, Candidate, Candidates};
 use voice_policy::policy::{counts_for, no_candidates};
-use words::fields::float_at;
+use words::table::first_row;
 
 // Which voices count for a new voice: those that the scope of the budget names, for a new voice on `bus`; the clock says which of them have a level yet.
 #[derive(Clone, Copy)]
@@ -27,13 +28,13 @@ pub struct Counting {
 fn node_level(nodes: &[u32], n: usize, id: NodeId) -> Option<f32>
     ensures { result ≡ node_level (node_at (take n (nodes_in nodes.now)) id) }
 {
-    let m = n.min(nodes.len() / 22);
-    let row = (0..m).find(|i| graph_rows::node_row::id_at(nodes, *i) == id)?;
-    Some(float_at(nodes, 22, row, 14))
+    let row = first_row(nodes, 22, n, |t, i| graph_rows::node_row::id_at(t, i) == id)?;
+    Some(graph_rows::node_row::level_at(nodes, row))
 }
 
-// A walk over the first `n` of the lent nodes: every row before `row` has a lower id, so that the node in it is the first of its id. Each method says that
-// the walk keeps its nodes: what is behind a `&mut` is known by the clauses alone. The clock is a parameter and no field: each would have to keep it too.
+// A walk over the first `n` of the lent nodes, whose count stands in the state and not beside its words: every row before `row` has a lower id, so that
+// the node in it is the first of its id. Each method says that the walk keeps its nodes: what is behind a `&mut` is known by the clauses alone.
+// The clock is a parameter and no field: each would have to keep it too.
 #[derive(Drop)]
 struct NodeWalk<'a> {
     nodes: &'a [u32],
@@ -75,7 +76,7 @@ impl<'a> NodeWalk<'a> {
         self.advance(id);
         let m = self.n.min(self.nodes.len() / 22);
         if self.row < m && graph_rows::node_row::id_at(self.nodes, self.row) == id {
-            return Some(float_at(self.nodes, 22, self.row, 14));
+            return Some(graph_rows::node_row::level_at(self.nodes, self.row));
         }
         node_level(self.nodes, self.n, id)
     }

@@ -1,18 +1,19 @@
 // A voice's row: its fields one by one, so that a loop reads what it tests; its state; the whole record. A getter of any field would
 // take the field's word and say less than a name. The words are a slice and not `VoiceTable`: the library for C stores one voice in a
 // lent record by `put_voice`, and a table's length would ask of callers what no row needs. A reader past the end gives what no words
-// stand for, and no option: callers read below the count, and none of them would meet the other case.
-ghost use Rattle.std.specs.Prelude.{◌≡◌, [], get_or, set};
+// stand for, and no option: the definitions read a list with that default, so that any words have a meaning, and with an option each caller
+// would name it again.
+ghost use Rattle.std.specs.Prelude.{◌≡◌, [], ◌+◌, ◌*◌, get_or, set};
 ghost use Rattle.words.specs.Rows.{row_at};
 ghost use Rattle.synthdef.specs.Plan.{plan_silent};
 ghost use Rattle.model.specs.Voice.{with_state};
-ghost use Rattle.voice_rows.specs.Rows.{fade_at, voice_of, voices_in};
+ghost use Rattle.voice_rows.specs.Rows.{fade_at, param_at, voice_of, voices_in};
 
-use crate::layout::{Run, records_at};
+use crate::layout::{Layout, Run, records_at};
 use crate::pack::{ParamWords, StepWords, state_words, voice_words};
 use node::record::{NodeId, VoiceId};
 use store::voices::{Fade, Voice, VoiceState};
-use synthdef::def::Params;
+use synthdef::def::{Param, Params};
 use synthdef::plan::DonePlan;
 use synthdef::silent::plan_silent;
 use words::fields::{flag_at, long_at, low_byte};
@@ -106,7 +107,7 @@ pub fn state_at(t: &[u32], i: usize) -> VoiceState
     }
 }
 
-// The voice in row `i` is in the state `s`; past the end nothing is stored.
+// The voice in row `i` is in the state `s`; past the end nothing is stored. No call of the store needs it now; what it promises is kept.
 pub fn put_state(t: &mut [u32], i: usize, s: VoiceState)
     ensures { voices_in t.new ≡ set (voices_in t.old) i (with_state s (get_or (voices_in t.old) i (voice_of []))) }
 {
@@ -120,13 +121,27 @@ pub fn put_voice(t: &mut [u32], i: usize, v: Voice)
     put_row(t, 143, i, &voice_words(v));
 }
 
+// Parameter `k` of the voice in row `i`, alone: who looks for a name stops where it is found.
+pub fn param_at(t: &[u32], i: usize, k: u8) -> Param
+    ensures { result ≡ param_at (row_at 143 i t.now) (23 + k * 6) }
+{
+    ParamWords::read(t, 143, i, 23 + u16::from(k) * 6)
+}
+
+// How many parameters the voice in row `i` counts.
+pub fn param_count_at(t: &[u32], i: usize) -> usize
+    ensures { result ≡ (get_or (voices_in t.now) i (voice_of [])).params.count }
+{
+    long_at(t, 143, i, 19) as usize
+}
+
 // The parameters of the voice in row `i`.
 pub fn params_at(t: &[u32], i: usize) -> Params
     ensures { result ≡ (get_or (voices_in t.now) i (voice_of [])).params }
 {
     Params {
         rows: records_at::<ParamWords, 6, 8, 143>(t, i, Run { base: 23 }),
-        count: long_at(t, 143, i, 19) as usize,
+        count: param_count_at(t, i),
     }
 }
 

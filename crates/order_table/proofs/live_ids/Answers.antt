@@ -4,12 +4,12 @@ use mathlib.Core.Path.{◌≡◌, sym, ap, ◌∙◌}
 use mathlib.Core.List.{List, [], ◌∷◌}
 use lib.ListN.{length, take, drop, get_or, length-set}
 use borrow.Author.Rules.{rules}
+use Rattle.rank.proofs.Laws.{no_row}
 use Rattle.lists.proofs.Table.{left_row}
 use Rattle.words.proofs.Rows.{rows_long}
 use Rattle.words.proofs.InWords.{take_count}
 use Rattle.prepare.specs.Live.{id_of, live_ids}
 use Rattle.prepare.proofs.Rises.{passed_start, passed_more, passed_stop, passed_end}
-use Rattle.prepare.proofs.Mapped.{no_row}
 use Rattle.graph_rows.specs.Node.{node_of, nodes_in}
 use Rattle.order_table.proofs.live_ids.Goals as goal
 use Rattle.order_table.proofs.live_ids.Goals.{Start}

@@ -1,6 +1,7 @@
+use native.Mathlib.Omega.{arith}
 use mathlib.Core.Path.{◌≡◌, sym, ◌∙◌}
 use mathlib.Core.List.{map}
-use lib.ListN.{length, take}
+use lib.ListN.{length, take, length-take}
 use borrow.Author.Rules.{rules}
 use Rattle.rank.specs.Order.{whole}
 use Rattle.prepare.specs.Live.{live_ids, arc_of}
@@ -15,7 +16,7 @@ use Rattle.order_table.proofs.prepare.Goals.{After-lacks, After-ranking-r}
 pub invariant_of-ids : goal.invariant_of-ids
 invariant_of-ids c =
     let lv = c.live_ids-k.ensures in
-    record { long = lv.long; few = lv.few; rising = ids_rise _ _ _ lv }
+    record { few = omega (arith, lv.few, length-take c.live_ids-k.result c.live_ids-k.new.ids); rising = ids_rise _ _ _ lv }
 
 -- what the first test says of the nodes and the edges
 lacking_is : (c : After-lacks) → lacking (take c.args.n (nodes_in c.args.nodes.now)) (take c.args.m (edges_in c.args.edges.now)) ≡ c.lacks.result
@@ -55,5 +56,5 @@ returns c =
     let new = c.named.new.order in
     let p = goal.at.returns c in
     let words : length a.edges.now ≡ 3072 = search rules in
-    accepted (take a.n (nodes_in a.nodes.now)) (take a.m (edges_in a.edges.now)) a.order.now (lacking_is p.After-lacks ∙ c.if-lacks.false) (whole_is p.After-ranking-r ∙ c.if-not-r.false) new r.result.count
+    accepted (take a.n (nodes_in a.nodes.now)) (take a.m (edges_in a.edges.now)) a.order.now (lacking_is p.After-lacks ∙ c.if-lacks.false) (whole_is p.After-ranking-r ∙ c.if-not-r.false) new r.result.rows.count
     (ordered_as a.nodes.now a.edges.now a.n a.m _ _ c.live_ids-k.ensures words _ c.min-count.ensures _ _ c.ends.ensures r.result r.ensures new c.named.ensures)

@@ -1,5 +1,5 @@
 use Rattle.std.proofs.Common.{refl}
-use Rattle.words.proofs.Within.{long_back}
+use Rattle.words.proofs.Bytes.{long_back}
 use Rattle.steal_log.specs.Rows.{steal_of}
 use Rattle.steal_log.proofs.Records.{record_same}
 use Rattle.steal_log.proofs.record_words.Goals as goal

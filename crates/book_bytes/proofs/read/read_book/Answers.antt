@@ -6,13 +6,14 @@ use mathlib.Core.List.{List}
 use mathlib.Core.Bool.{true}
 use borrow.Author.Rules.{rules}
 use lib.ListN.{length, take, drop, get_or, length-drop}
+use Rattle.std.proofs.lemmas.List.{take_rest}
 use Rattle.synthdef.specs.Limits.{allowed}
 use Rattle.def_book.specs.Read.{gives, malformed, def_of}
 use Rattle.def_book.specs.Rows.{is_heading, rows, size, nodes_of}
 use Rattle.def_book.specs.Body.{body_of}
 use Rattle.def_book.specs.declared.body.Body.{Body}
 use Rattle.def_book.proofs.Walk.{record_fits}
-use Rattle.def_book.proofs.Gather.{part, size_fits}
+use Rattle.def_book.proofs.Gather.{size_fits}
 use Rattle.def_book.proofs.Reading.{built, no_heading, not_taken, not_many, beyond, given}
 use Rattle.book_bytes.proofs.read.read_book.Goals as goal
 use Rattle.book_bytes.proofs.read.read_book.Goals.{After-allowed, After-rows_of-b, Else-b-n, Else-b-from, Else-not-is_heading}
@@ -25,7 +26,7 @@ six : (c : Else-not-is_heading) → 6 ≤ length c.args.s.now
 six c = record_fits 1 6 c.args.s.now (heading c)
 
 body : (s : List ℕ) {b : Body} → b ≡ body_of (rows (take (length s - 6) (drop 6 s))) → b ≡ body_of (rows (drop 6 s))
-body s e = e ∙ ap (λ l. body_of (rows l)) (part s 6)
+body s e = e ∙ ap (λ l. body_of (rows l)) (take_rest s 6)
 
 end : (c : After-rows_of-b) → c.rows_of-b.result.end ≡ size (rows (drop 6 c.args.s.now))
 end c = ap (λ b. b.end) (body c.args.s.now c.rows_of-b.ensures)

@@ -1,32 +1,29 @@
-use Rattle.std.proofs.Common.{ℕ, List, ◌≡◌, ◌+◌, ◌-◌, ◌<◌, ◌++◌, length, take, get_or, replicate, ap, ◌∙◌, arith}
+-- `busiest::newest::newest_records` meets its contract: an array that is made by its places has at each place what the call there gave.
+use Rattle.std.proofs.Common.{ℕ, List, ◌≡◌, ◌+◌, ◌-◌, ◌≤◌, min, length, replicate, ap, ◌∙◌, arith, rules, tests}
 use mathlib.Core.Path.{ap₂}
+use lib.ListN.{length-append, length-replicate}
 use Rattle.std.specs.Prelude.{unwrap_or}
-use Rattle.std.proofs.Math.ListN.{set}
-use Rattle.lists.proofs.Table.{filled_more}
-use Rattle.voice.specs.Steals.{log_of}
+use Rattle.lists.specs.declared.rows.Table.{Table}
+use Rattle.lists.proofs.FromFn.{made_is}
+use Rattle.voice.specs.Steals.{log_of, found_at}
 use Rattle.voice.specs.declared.steals.StealRecord.{StealRecord}
-use Rattle.busiest.specs.Newest.{no_record}
+use Rattle.voice.proofs.Records.{log_long}
+use Rattle.busiest.specs.Newest.{no_record, newest_of}
 use Rattle.busiest.proofs.Rows.{found_row}
 use Rattle.busiest.proofs.newest.newest_records.Goals as goal
 
-pub loop-i-preserved : goal.loop-i-preserved
-loop-i-preserved c =
-    let inv = c.loop-i.invariant in
+abbrev table : List StealRecord → ℕ → Table StealRecord 64
+table rows count = record { rows = rows; count = count }
+
+pub returns : goal.returns
+returns c =
     let l = (log_of c.args.s).newest in
-    let i = c.loop-i.i in
-    let in_list : i < length l = omega arith in
-    let in_array : i < 64 = omega arith in
-    let row : c.unwrap_or.result ≡ get_or l i no_record =
-    c.unwrap_or.ensures
-    ∙ ap (unwrap_or c.steal_at.result) c.steal_record-none.ensures
-    ∙ ap (λ f. unwrap_or f no_record) c.steal_at.ensures
-    ∙ found_row l i no_record in (
-      inv.0,
-      inv.1,
-      inv.2,
-      c.push.ensures.counted (omega arith) ∙ ap (λ k. k + 1) inv.3,
-      c.push.ensures.stored
-          ∙ ap₂ (λ (z : List StealRecord) (k : ℕ). set z k c.unwrap_or.result) inv.4 inv.3
-          ∙ ap (set (take i l ++ replicate (64 - i) no_record) i) row
-          ∙ filled_more no_record l 64 i in_list in_array,
-    )
+    let all = (newest_of l).rows in
+    let long : length c.args.s.rows ≡ 64 = search rules in
+    let few : length l ≤ 64 = omega (arith, log_long c.args.s long) in
+    let wide : length all ≡ 64 =
+    length-append l (replicate (64 - length l) no_record) ∙ ap (λ m. length l + m) (length-replicate (64 - length l) no_record) ∙ omega arith in
+    let rows : c.from_fn.result ≡ all = made_is _ _ c.from_fn.result all no_record 64 (λ i x q h p.
+    let there : x ≡ unwrap_or (found_at i l) no_record = search (rules, tests) in
+    (search rules, there ∙ found_row l (64 - length l) i no_record)) wide c.from_fn.ensures.items in
+    ap₂ table rows c.held_steals.ensures

@@ -10,7 +10,7 @@ use Rattle.std.specs.Prelude.{filter}
 use Rattle.std.specs.List.{range_with_len}
 use Rattle.std.proofs.lemmas.Iterator.{YieldsList-from_range}
 use Rattle.std.proofs.lemmas.Iterator.Consumers.{YieldsList-from_filter, count_from_yields_List}
-use Rattle.lists.proofs.Table.{left_cons}
+use Rattle.std.proofs.lemmas.List.{drop_more}
 use Rattle.scheduler.specs.Queue.{due}
 use Rattle.words.proofs.InWords.{take_count}
 use Rattle.words.proofs.Rows.{rows_long}
@@ -23,7 +23,7 @@ module _ {A : Type 0} (q : A → Bool) (d : A) (l : List A) where
   numbers zero a h = refl
   numbers (suc n) a h =
       go (q (get_or l a d)) (numbers n (a + 1) (omega arith))
-      ∙ ap (λ m. length (filter q (take (suc n) m))) (sym (left_cons d l a (omega arith)))
+      ∙ ap (λ m. length (filter q (take (suc n) m))) (sym (drop_more l a d (omega arith)))
     where
       go : (b : Bool) → length (filter (λ i. q (get_or l i d)) (range_with_len (a + 1) n)) ≡ length (filter q (take n (drop (a + 1) l)))
           → length (cond b (a ∷ filter (λ i. q (get_or l i d)) (range_with_len (a + 1) n)) (filter (λ i. q (get_or l i d)) (range_with_len (a + 1) n)))

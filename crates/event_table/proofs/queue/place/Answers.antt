@@ -45,6 +45,7 @@ returns c =
     let e = c.args.e in
     let t = c.args.t.now in
     let n = c.args.n in
-    let fit : n ≤ length (events_in t) = omega (arith, room t c.requires.0) in
+    let long : length t ≡ 3840 = search rules in
+    let fit : n ≤ length (events_in t) = omega (arith, room t long) in
     let told = first_from_Range _ _ _ c.find.result (λ i. e.time < (get_or (events_in t) i (event_of [])).time) (λ i. (get_or (events_in t) i (event_of [])).time ≤ e.time) c.find.ensures.ran (λ x p h. search (rules, tests)) (λ x p h. (search rules, search (rules, tests))) in
     subst (Place (take n (events_in t)) e) (sym c.unwrap_or.ensures) (placed (events_in t) e n fit c.find.result told)

@@ -1,39 +1,42 @@
+use lib.Dec.{eqb}
 use mathlib.Core.Path.{sym, ap, ◌∙◌}
 use mathlib.Core.Bool.{false≢true}
-use borrow.Author.Tests.{eqb-true, eq-eqb, ne_eqb}
+use borrow.Author.Tests.{eq-eqb, ne_eqb}
 use Rattle.scheduler.specs.declared.event.Event.{Event}
 use Rattle.words.proofs.Rows.{row_is}
 use Rattle.event_table.specs.Rows.{event_of}
 use Rattle.event_table.specs.Key.{replaces_by}
 use Rattle.event_table.proofs.Keys.{off, on}
 use Rattle.event_table.proofs.replace.is_replaced.Goals as goal
-use Rattle.event_table.proofs.replace.is_replaced.Goals.{then-time_at-k, else-time_at-k}
+use Rattle.event_table.proofs.replace.is_replaced.Goals.{then-k-time_at, else-k-time_at}
 
-pub returns-then-long_at-k : goal.returns-then-long_at-k
+pub returns-then-eq : goal.returns-then-eq
 unfolding event_of
-returns-then-long_at-k c =
+returns-then-eq c =
     let s = c.args in
+    let k = s.k.now in
     let row = row_is 15 event_of s.t.now s.i in
-    elim c.if-time_at-k.branch [
-      | then-time_at-k w ↦
+    elim c.if-k-time_at.branch [
+      | then-k-time_at w ↦
           (c.same_order.ensures
-          ∙ on _ _ (eq-eqb _ _ (sym (eqb-true _ _ (sym w.value-is ∙ c.if-long_at-k.true)) ∙ w.long_at.ensures))
-          ∙ on _ _ (eq-eqb _ _ (sym w.if-time_at-k.true ∙ c.time_at.ensures ∙ ap (λ (x : Event). x.time) row)))
-          ∙ sym (ap (replaces_by s.k.now) row)
-      | else-time_at-k w ↦ absurd (false≢true (sym (w.value-is ∙ ne_eqb _ _ w.if-time_at-k.false) ∙ c.if-long_at-k.true))
+          ∙ on _ _ (ap (eqb k.voice.0) (sym w.long_at.ensures) ∙ sym w.eq.ensures ∙ sym w.value-is ∙ c.if-eq.true)
+          ∙ on _ _ (eq-eqb _ _ (w.if-k-time_at.true ∙ c.time_at.ensures ∙ ap (λ (x : Event). x.time) row)))
+          ∙ sym (ap (replaces_by k) row)
+      | else-k-time_at w ↦ absurd (false≢true (sym (w.value-is ∙ ne_eqb _ _ w.if-k-time_at.false) ∙ c.if-eq.true))
     ]
 
-pub returns-else-long_at-k : goal.returns-else-long_at-k
+pub returns-else-eq : goal.returns-else-eq
 unfolding event_of
-returns-else-long_at-k c =
+returns-else-eq c =
     let s = c.args in
+    let k = s.k.now in
     let row = row_is 15 event_of s.t.now s.i in
     let time = c.time_at.ensures ∙ ap (λ (x : Event). x.time) row in
-    elim c.if-time_at-k.branch [
-      | then-time_at-k w ↦
-          (c.if-long_at-k.false
-          ∙ off _ _ (ne_eqb _ _ (λ z. false≢true (sym c.if-long_at-k.false ∙ w.value-is ∙ eq-eqb _ _ (w.long_at.ensures ∙ sym z))))
-          ∙ on _ _ (eq-eqb _ _ (sym w.if-time_at-k.true ∙ time)))
-          ∙ sym (ap (replaces_by s.k.now) row)
-      | else-time_at-k w ↦ (w.value-is ∙ ne_eqb _ _ w.if-time_at-k.false ∙ off _ _ (ne_eqb _ _ (λ z. w.if-time_at-k.false (time ∙ sym z)))) ∙ sym (ap (replaces_by s.k.now) row)
+    elim c.if-k-time_at.branch [
+      | then-k-time_at w ↦
+          (c.if-eq.false
+          ∙ off _ _ (ap (eqb k.voice.0) (sym w.long_at.ensures) ∙ sym w.eq.ensures ∙ sym w.value-is ∙ c.if-eq.false)
+          ∙ on _ _ (eq-eqb _ _ (w.if-k-time_at.true ∙ time)))
+          ∙ sym (ap (replaces_by k) row)
+      | else-k-time_at w ↦ (w.value-is ∙ ne_eqb _ _ w.if-k-time_at.false ∙ off _ _ (ne_eqb _ _ (λ z. w.if-k-time_at.false (z ∙ sym time)))) ∙ sym (ap (replaces_by k) row)
     ]

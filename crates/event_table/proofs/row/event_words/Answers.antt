@@ -1,6 +1,6 @@
 use Rattle.std.proofs.Common.{ℕ, refl, ap}
+use Rattle.words.proofs.Bytes.{long_back}
 use Rattle.node.specs.declared.record.VoiceId.{VoiceId}
-use Rattle.words.proofs.Within.{long_back}
 use Rattle.event_table.specs.Rows.{event_of}
 use Rattle.event_table.proofs.Records.{event_same}
 use Rattle.event_table.proofs.row.event_words.Goals as goal

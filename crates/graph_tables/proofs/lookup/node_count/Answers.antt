@@ -1,9 +1,7 @@
 use mathlib.Core.Path.{refl, sym, ◌∙◌}
 use Rattle.words.proofs.Place.{counted}
 use Rattle.graph_rows.specs.Node.{node_of}
-use borrow.Author.Rules.{rules}
-use Rattle.graph_tables.proofs.Room.{nodes_counted}
 use Rattle.graph_tables.proofs.lookup.node_count.Goals as goal
 
 pub returns : goal.returns
-returns c = nodes_counted c.args.nodes.now c.args.count _ (search rules) c.min.ensures ∙ sym (counted 22 node_of c.args.nodes.now c.args.count _ refl)
+returns c = c.row_count.ensures ∙ sym (counted 22 node_of c.args.nodes.now c.args.count _ refl)

@@ -3,7 +3,7 @@ use native.Mathlib.Omega.{arith}
 use mathlib.Core.Path.{◌≡◌, sym, ap, ◌∙◌, subst}
 use mathlib.Core.List.{[]}
 use mathlib.Core.Bool.{not}
-use lib.ListN.{length, take, get_or, length-set}
+use lib.ListN.{length, take, get_or}
 use borrow.Author.Rules.{rules}
 use Rattle.words.proofs.Rows.{rows_long, moved_long}
 use Rattle.words.proofs.Place.{closed}
@@ -28,33 +28,30 @@ loop-i-preserved g c =
     let asked = subst (λ o. goal.F-post g c.args.goes row.id o c.goes.result) c.owner_at.ensures (subst (λ k. goal.F-post g c.args.goes k c.owner_at.result c.goes.result) c.id_at.ensures c.goes.ensures) in
     elim c.if-goes.branch [
       | then-goes w ↦
-          let room : l.gone < 512 = omega (arith, l.invariant.0, m.ensures) in
-          rw (w.nodes-is, w.stay-is, w.gone-is, w.removed-is) (
+          rw (w.nodes-is, w.stay-is, w.removed-is) (
             omega (arith, l.invariant.0),
-            omega (arith, l.invariant.1),
-            length-set l.removed l.gone _ ∙ l.invariant.2,
-            l.invariant.3,
+            l.invariant.1,
             λ q tells.
-                let inv = l.invariant.4 q tells in
+                let inv = l.invariant.2 q tells in
                 let same = words_row 22 node_of (λ x. not (q x)) old l.nodes m.result l.i l.stay inv.0 in
-                let test = sym (tells row c.goes.result asked) ∙ w.if-goes.true in (
+                let test = sym (tells row c.goes.result asked) ∙ w.if-goes.true in
+                let room : l.removed.count < 512 = omega (arith, inv.1.low, m.ensures) in
+                let grown = w.push.ensures.counted (omega arith) in (
                   words_drop 22 node_of (λ x. not (q x)) old l.nodes m.result l.i l.stay fits more inv.0 (ap not test),
-                  rw (w.id_at-then-goes.ensures, same) (gathering_take (node_of []) q (λ x. x.id.0) 512 (nodes_in old) l.removed l.i l.gone inside inv.1 room (sym (ap q same) ∙ test)),
+                  rw (w.push.ensures.stored, grown, w.id_at-then-goes.ensures, same) (gathering_take (node_of []) q (λ x. x.id.0) 512 (nodes_in old) l.removed.rows l.i l.removed.count inside inv.1 room (sym (ap q same) ∙ test)),
                 ),
           )
       | else-goes w ↦
           let moved = w.move_row in
-          rw (w.nodes-is, w.stay-is, w.gone-is, w.removed-is) (
+          rw (w.nodes-is, w.stay-is, w.removed-is) (
             omega (arith, l.invariant.0),
-            omega (arith, l.invariant.1),
-            l.invariant.2,
-            ap length moved.ensures ∙ moved_long 22 l.i l.stay l.nodes ∙ l.invariant.3,
+            ap length moved.ensures ∙ moved_long 22 l.i l.stay l.nodes ∙ l.invariant.1,
             λ q tells.
-                let inv = l.invariant.4 q tells in
+                let inv = l.invariant.2 q tells in
                 let same = words_row 22 node_of (λ x. not (q x)) old l.nodes m.result l.i l.stay inv.0 in
                 let test = sym (tells row c.goes.result asked) ∙ w.if-goes.false in (
                   words_keep 22 node_of (λ x. not (q x)) old l.nodes m.result l.i l.stay fits more inv.0 moved.new.t moved.ensures (ap not test),
-                  gathering_pass (node_of []) q (λ x. x.id.0) 512 (nodes_in old) l.removed l.i l.gone inside inv.1 (sym (ap q same) ∙ test),
+                  gathering_pass (node_of []) q (λ x. x.id.0) 512 (nodes_in old) l.removed.rows l.i l.removed.count inside inv.1 (sym (ap q same) ∙ test),
                 ),
           )
     ]
@@ -65,14 +62,15 @@ returns g c =
     let m = c.min-n in
     let old = c.args.nodes.now in
     let counted : m.result ≡ min c.args.count (length old / 22) = nodes_counted old c.args.count m.result (search rules) m.ensures in
-    let all : l.i ≡ m.result = omega arith in (
-      omega (arith, l.invariant.0, m.ensures, all),
-      λ q tells.
-          let inv = l.invariant.4 q tells in
-          record {
-            stay = closed 22 node_of old l.nodes (λ x. not (q x)) c.args.count m.result l.i l.stay counted (omega arith) inv.0;
-            leave = inv.1.front ∙ ap (λ k. ids_of q (take k (nodes_in old))) all ∙ ap (ids_of q) (take_count 22 node_of old c.args.count m.result counted);
-            fits = omega (arith, inv.1.low, m.ensures, all);
-            long = inv.1.long;
-          },
-    )
+    let all : l.i ≡ m.result = omega arith in
+    λ q tells.
+    let inv = l.invariant.2 q tells in
+    let below : min l.removed.count 512 ≡ l.removed.count = omega (arith, inv.1.low, m.ensures, all) in
+    record {
+      stay = closed 22 node_of old l.nodes (λ x. not (q x)) c.args.count m.result l.i l.stay counted (omega arith) inv.0;
+      leave =
+          ap (λ k. take k l.removed.rows) below
+          ∙ inv.1.front
+          ∙ ap (λ k. ids_of q (take k (nodes_in old))) all
+          ∙ ap (ids_of q) (take_count 22 node_of old c.args.count m.result counted);
+    }

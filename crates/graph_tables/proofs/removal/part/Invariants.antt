@@ -8,6 +8,7 @@ use Rattle.graph_tables.proofs.removal.part.Given as goal
 
 abbrev pub invariant-loop-i : goal.invariant-loop-i
 invariant-loop-i g l =
-    (l.gone ≤ l.i) × (l.stay ≤ l.i) × (length l.removed ≡ 512) × (length l.nodes ≡ length l.initial.nodes)
+    (l.stay ≤ l.i) × (length l.nodes ≡ length l.initial.nodes)
     × ((q : Node → Bool) → Tells (goal.F-post g l.goes) q
-    → ClosingIn 22 node_of (λ x. not (q x)) l.initial.nodes l.nodes l.n l.i l.stay × Gathering q (λ x. x.id.0) 512 (nodes_in l.initial.nodes) l.removed l.i l.gone)
+    → ClosingIn 22 node_of (λ x. not (q x)) l.initial.nodes l.nodes l.n l.i l.stay
+    × Gathering q (λ x. x.id.0) 512 (nodes_in l.initial.nodes) l.removed.rows l.i l.removed.count)

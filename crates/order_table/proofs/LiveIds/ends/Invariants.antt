@@ -6,4 +6,4 @@ use Rattle.graph_rows.specs.Edge.{edges_in}
 use Rattle.order_table.proofs.LiveIds.ends.Given as goal
 
 abbrev pub invariant-loop-i : goal.invariant-loop-i
-invariant-loop-i l = (length l.from ≡ 1024) × (length l.to ≡ 1024) × Mapped (source_row (take l.self.count l.self.rows.now)) l.from l.i (take l.m (edges_in l.edges)) × Mapped (target_row (take l.self.count l.self.rows.now)) l.to l.i (take l.m (edges_in l.edges))
+invariant-loop-i l = (length l.from ≡ 1024) × (length l.to ≡ 1024) × Mapped (source_row l.self.rows.now) l.from l.i (take l.m (edges_in l.edges)) × Mapped (target_row l.self.rows.now) l.to l.i (take l.m (edges_in l.edges))

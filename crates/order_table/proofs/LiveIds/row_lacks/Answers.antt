@@ -9,7 +9,7 @@ use Rattle.order_table.proofs.LiveIds.row_lacks.Goals as goal
 pub returns : goal.returns
 returns c =
     let s = c.args in
-    let n = s.self.now.count in
+    let n = length s.self.now.rows.now in
     let long : length s.masks.now ≡ 512 = search rules in
     let words : length s.nodes.now ≡ 11264 = search rules in
     let few : n ≤ length s.masks.now = omega (arith, s.self.now.few, long) in

@@ -4,7 +4,7 @@ use mathlib.Core.Path.{◌≡◌, sym, ◌∙◌}
 use mathlib.Core.List.{append-nil}
 use lib.ListN.{length, take, length-take}
 use borrow.Author.Rules.{rules}
-use Rattle.lists.proofs.Table.{left_cons}
+use Rattle.std.proofs.lemmas.List.{drop_more}
 use Rattle.rank.specs.Parts.{ready}
 use Rattle.rank.proofs.Laws.{no_row, fill_hit, fill_miss}
 use Rattle.rank.proofs.Graph.ready.Goals as goal
@@ -17,7 +17,7 @@ loop-v-preserved c =
     let cs = c.args.counts.now in
     let long : length cs ≡ 512 = search rules in
     let below : l.v < length (take n cs) = omega arith in
-    let dr = left_cons 0 (take n cs) l.v below in
+    let dr = drop_more (take n cs) l.v 0 below in
     elim c.if-k-eq0.branch [
       | then-k-eq0 w ↦ rw (w.queue-is, w.push.ensures.stored, w.push.ensures.counted (omega arith)) (fill_hit l.queue.rows l.queue.count l.v (take n cs) _ dr l.invariant w.if-k-eq0.true (omega (arith, c.args.self.now.few, length-take n cs)))
       | else-k-eq0 w ↦ rw w.queue-is (fill_miss l.queue.rows l.queue.count l.v (take n cs) _ dr l.invariant w.if-k-eq0.false)

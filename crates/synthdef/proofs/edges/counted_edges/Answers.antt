@@ -6,7 +6,7 @@ use mathlib.Core.List.{List, ◌∷◌, ◌++◌}
 use mathlib.Core.Bool.{true, false}
 use lib.ListN.{length, take, drop, get_or, length-set, length-drop}
 use lib.Seq.{take_all}
-use Rattle.lists.proofs.Table.{left_cons}
+use Rattle.std.proofs.lemmas.List.{drop_more}
 use Rattle.synthdef.specs.Tables.{no_edge}
 use Rattle.synthdef.specs.Edges.{taken, counted}
 use Rattle.synthdef.specs.declared.def.DefEdge.{DefEdge}
@@ -28,7 +28,7 @@ loop-i-preserved c =
     let t = c.loop-i.out in
     let e = get_or edges i no_edge in
     let rest = drop (i + 1) edges in
-    let next : drop i edges ≡ e ∷ rest = left_cons no_edge edges i c.loop-i-test.true in
+    let next : drop i edges ≡ e ∷ rest = drop_more edges i no_edge c.loop-i-test.true in
     let whole : take (length edges - (i + 1)) rest ≡ rest = take_all (length edges - (i + 1)) rest (simp length-drop (omega arith)) in
     let told : c.taken.result ≡ taken e rest = c.taken.ensures ∙ ap (taken e) whole in
     elim c.if-not-taken.branch [

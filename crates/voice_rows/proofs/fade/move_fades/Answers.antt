@@ -1,24 +1,19 @@
-use mathlib.Core.Path.{ap, ◌∙◌}
-use mathlib.Core.List.{[]}
-use borrow.Author.Rules.{rules}
-use lib.ListN.{get_or, set}
-use Rattle.model.specs.Voice.{moved, moved_state, with_state}
+use Rattle.std.proofs.Common.{rules, ◌≡◌, List, ℕ, [], get_or}
+use Rattle.std.specs.Prelude.{Some}
 use Rattle.model.specs.Render.{further}
-use Rattle.words.proofs.InWords.{change_done}
-use Rattle.voice_rows.specs.Rows.{voice_of, voices_in}
-use Rattle.voice_rows.proofs.Changed.{voice_changed}
+use Rattle.model.specs.Voice.{moved, moved_state}
+use Rattle.words.proofs.Changes.{changed_rows, stored_some}
+use Rattle.voice_rows.specs.Rows.{voice_of, voices_in, state_at, Spells}
+use Rattle.voice_rows.proofs.Words.{state_put}
 use Rattle.voice_rows.proofs.fade.move_fades.Goals as goal
-
-pub loop-i-preserved : goal.loop-i-preserved
-loop-i-preserved c =
-    let s = c.args in
-    let l = c.loop-i in
-    let x = get_or (voices_in l.t) l.i (voice_of []) in
-    let put = c.put_state.ensures ∙ ap (λ y. set (voices_in l.t) l.i (with_state y x)) (c.moved_state.ensures ∙ ap (moved_state (further s.block)) c.state_at-s.ensures) in
-    voice_changed (moved (further s.block)) s.t.now l.t s.count c.min-i-end.result l.i c.min-i-end.ensures c.loop-i-test.true l.invariant c.put_state.new.t (search rules) put
 
 pub returns : goal.returns
 returns c =
     let s = c.args in
-    let l = c.loop-i in
-    change_done 143 voice_of (moved (further s.block)) s.t.now l.t s.count c.min-i-end.result l.i c.min-i-end.ensures c.loop-i-test.false l.invariant
+    let f = moved (further s.block) in
+    changed_rows 143 11 (λ l. l) voice_of f s.t.now c.change_rows.new.t s.count _ c.change_rows.ensures
+    (λ t i r h.
+    let x = get_or (voices_in t.now) i (voice_of []) in
+    let state = moved_state (further s.block) x.state in
+    let told : (ws : List ℕ) × (r ≡ Some ws) × Spells state_at 8 state ws = search rules in
+    stored_some 143 11 (λ l. l) voice_of t.now i (f x) r told.0 told.1 (state_put t.now told.0 i state told.2))

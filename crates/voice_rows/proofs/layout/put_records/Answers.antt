@@ -1,6 +1,7 @@
 use Rattle.std.proofs.Common.{◌≡◌, ◌+◌, ◌*◌, ◌≤◌, ◌<◌, [], length, subst, arith, rules, ◌∙◌}
+use Rattle.std.proofs.lemmas.List.{get_or_default}
 use Rattle.voice_rows.specs.Filled.{Filled}
-use Rattle.voice_rows.proofs.Filling.{fill_start, fill_more, fill_done, any_default}
+use Rattle.voice_rows.proofs.Filling.{fill_start, fill_more, fill_done}
 use Rattle.voice_rows.proofs.layout.put_records.Goals as goal
 
 pub loop-k-init : goal.loop-k-init
@@ -19,7 +20,7 @@ loop-k-preserved g c =
     let low : l.k < length a.xs.now = omega (arith, many, c.loop-k-test.true) in
     let wide : length a.ws.now ≡ g.row.M = search rules in
     let room : base + g.row.N * g.row.W ≤ length a.ws.now = omega (arith, wide, a.run.fits, c.from-base.ensures) in
-    let is = c.words.ensures.back ∙ any_default a.xs.now l.k x.result (y.at [] 0) low in
+    let is = c.words.ensures.back ∙ get_or_default a.xs.now l.k x.result (y.at [] 0) low in
     fill_more base g.row.W g.row.N y.at (y.at [] 0) a.ws.now a.xs.now l.ws l.k c.loop-k-test.true room l.invariant c.words.result c.put_words.new.t c.words.ensures.long (g.met.L.Layout.local) is c.put_words.ensures
 
 pub returns : goal.returns

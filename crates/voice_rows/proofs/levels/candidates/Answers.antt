@@ -1,21 +1,18 @@
-use Prim.Native.Nat.{ℕ, ◌+◌, ◌/◌, ◌<◌, min}
+use Prim.Native.Nat.{◌+◌, ◌/◌, ◌<◌, min}
 use native.Mathlib.Omega.{arith}
 use mathlib.Core.Path.{◌≡◌, sym, ap, ◌∙◌}
-use mathlib.Core.List.{List, []}
+use mathlib.Core.List.{[]}
 use borrow.Author.Rules.{rules}
 use lib.ListN.{length-set, length, take, get_or}
+use Rattle.voice_rows.proofs.Words.{voices_long}
 use Rattle.model.specs.Voice.{counted}
 use Rattle.words.proofs.InWords.{take_count}
-use Rattle.words.proofs.Rows.{rows_long}
 use Rattle.graph_rows.specs.Node.{nodes_in}
 use Rattle.voice_rows.specs.Levels.{candidate_at, candidates_at}
 use Rattle.voice_rows.specs.Rows.{voice_of, voices_in}
 use Rattle.voice_rows.proofs.Picked.{picked_on, picked_off}
 use Rattle.voice_rows.proofs.levels.candidates.Goals as goal
 use Rattle.voice_rows.proofs.levels.candidates.Goals.{then-is_counted, else-is_counted}
-
-room : (t : List ℕ) → length t ≡ 9152 → length (voices_in t) ≡ 64
-room t h = rows_long 143 voice_of t ∙ ap (λ k. k / 143) h
 
 pub loop-i-preserved : goal.loop-i-preserved
 loop-i-preserved c =
@@ -26,7 +23,7 @@ loop-i-preserved c =
     let ns = take a.n (nodes_in a.nodes.now) in
     let q = counted a.by.scope a.by.bus in
     let long : length a.t.now ≡ 9152 = search rules in
-    let below : at.i < length vs = omega (arith, room a.t.now long, c.min-i-end.ensures, c.loop-i-test.true) in
+    let below : at.i < length vs = omega (arith, voices_long a.t.now long, c.min-i-end.ensures, c.loop-i-test.true) in
     elim c.if-is_counted.branch [
       | then-is_counted w ↦
           let fits : at.out.count < length at.out.rows = omega (arith, at.invariant.0, at.invariant.1, c.min-i-end.ensures, c.loop-i-test.true) in

@@ -1,33 +1,29 @@
-use Rattle.std.proofs.Common.{◌≡◌, Some, sym, ap, ◌∙◌, option_map, rules, tests, take}
-use Rattle.node.specs.declared.record.Node.{Node}
+use Rattle.std.proofs.Common.{◌≡◌, Some, sym, ap, ◌∙◌, option_map, rules, get_or, [], take}
 use Rattle.graph.specs.Node.{is_node, node_at}
 use Rattle.model.specs.Voice.{node_level}
-use Rattle.words.proofs.FirstRow.{row, is_first, first_row}
-use Rattle.words.proofs.Rows.{row_is}
+use Rattle.words.proofs.FirstRow.{first_of, row_found}
 use Rattle.graph_rows.specs.Node.{node_of, nodes_in}
 use Rattle.voice_rows.proofs.levels.node_level.Goals as goal
-use Rattle.voice_rows.proofs.levels.node_level.Goals.{After-find}
+use Rattle.voice_rows.proofs.levels.node_level.Goals.{After-first_row}
 
 -- what the search over the rows found is the node of the id
-found : (c : After-find) → option_map (row 22 node_of (is_node c.args.id) c.args.nodes.now c.min-m.result) c.find.result ≡ node_at (take c.args.n (nodes_in c.args.nodes.now)) c.args.id
+found : (c : After-first_row) → option_map (λ i. get_or (nodes_in c.args.nodes.now) i (node_of [])) c.first_row.result ≡ node_at (take c.args.n (nodes_in c.args.nodes.now)) c.args.id
 found c =
     let s = c.args in
     let q = is_node s.id in
-    let m = c.min-m.result in
-    first_row 22 node_of q s.nodes.now m s.n c.min-m.ensures c.find.result
-    (is_first 22 node_of q s.nodes.now m _ _ c.find.result c.find.ensures.ran (λ x p k. search (rules, tests)) (λ x p k. (search rules, search (rules, tests))))
+    let r = c.first_row.result in
+    row_found 22 node_of q s.nodes.now s.n r (first_of 22 node_of q s.nodes.now s.n r _ c.first_row.ensures (λ t i b h. search rules))
 
 pub returns-in_err-row : goal.returns-in_err-row
 returns-in_err-row c =
-    let s = c.args in
+    let nodes = nodes_in c.args.nodes.now in
     c.from_residual.ensures
-    ∙ ap (λ o. node_level (option_map (row 22 node_of (is_node s.id) s.nodes.now c.min-m.result) o)) (sym c.in_err-row.was)
-    ∙ ap node_level (found (goal.at.returns-in_err-row c).After-find)
+    ∙ ap (λ o. node_level (option_map (λ i. get_or nodes i (node_of [])) o)) (sym c.in_err-row.was)
+    ∙ ap node_level (found (goal.at.returns-in_err-row c).After-first_row)
 
 pub returns : goal.returns
-unfolding node_of
 returns c =
-    let s = c.args in
-    ap Some (c.float_at.ensures ∙ sym (ap (λ (x : Node). x.level) (row_is 22 node_of s.nodes.now c.in_ok-row.row)))
-    ∙ ap (λ o. node_level (option_map (row 22 node_of (is_node s.id) s.nodes.now c.min-m.result) o)) (sym c.in_ok-row.was)
-    ∙ ap node_level (found (goal.at.returns c).After-find)
+    let nodes = nodes_in c.args.nodes.now in
+    ap Some c.level_at.ensures
+    ∙ ap (λ o. node_level (option_map (λ i. get_or nodes i (node_of [])) o)) (sym c.in_ok-row.was)
+    ∙ ap node_level (found (goal.at.returns c).After-first_row)

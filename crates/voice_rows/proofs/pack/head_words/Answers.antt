@@ -1,8 +1,8 @@
 use Prim.Native.Nat.{ℕ, ◌%◌}
 use native.Mathlib.Omega.{arith}
 use mathlib.Core.Path.{◌≡◌, refl, ap}
+use Rattle.words.proofs.Bytes.{long_back}
 use Rattle.node.specs.declared.record.VoiceId.{VoiceId}
-use Rattle.words.proofs.Within.{long_back}
 use Rattle.voice_rows.specs.Rows.{headed}
 use Rattle.voice_rows.proofs.Records.{voice_same}
 use Rattle.voice_rows.proofs.pack.head_words.Goals as goal
