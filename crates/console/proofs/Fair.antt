@@ -10,7 +10,7 @@ use mathlib.Core.Bool.{Bool, true, false, cond}
 use lib.Dec.{eqb}
 use lib.ListN.{length, length-append, length-set, length-replicate}
 use borrow.Author.Tests.{eqb-true, eqb-false}
-use Rattle.lists.proofs.Member.{none_some}
+use Rattle.std.proofs.lemmas.Option.{slice_get_within}
 use Rattle.store.specs.declared.wish.Wish.{Wish}
 use Rattle.console.specs.declared.refusal.KeyboardRefusal.{KeyboardRefusal}
 use Rattle.console.specs.Wishes.{Wishes, keyboards, waiting_at, wish_refusal, after, Picked, picked, rest, taken_from, new_wishes}
@@ -131,16 +131,11 @@ place_left [] s k h = absurd (omega arith)
 place_left (x ∷ l) s zero h = refl
 place_left (x ∷ l) s (suc k) h = place_left l s k (omega arith)
 
-place_in : (l : List Wish) (k : ℕ) (w : Wish) → slice_get l k ≡ Some w → k < length l
-place_in [] k w e = absurd (none_some e)
-place_in (x ∷ l) zero w e = omega arith
-place_in (x ∷ l) (suc k) w e = let i = place_in l k w e in omega (arith, i)
-
 -- A wish w of keyboard q with k before it is the (k + 1)th that the list serves of that keyboard, if the list has (k + 1) × m turns.
 pub within : (xs : List ConsoleCall) (m : ℕ) (ws : Wishes) → WishInvariant m ws → (q k : ℕ) (w : Wish) → slice_get (waiting_at q ws) k ≡ Some w
     → (k + 1) * m ≤ turns xs → slice_get (served_of q xs ws) k ≡ Some w
 within xs m ws g q k w e t =
-    let i = place_in (waiting_at q ws) k w e in
+    let i = slice_get_within (waiting_at q ws) k w e in
     let c = first (waiting_at q ws) k i in
     let hq : q < m = subst (λ n. q < n) g.many (waits_in ws.waits q c.0 c.1 c.2) in
     let v = way m ws.next q g.next hq in

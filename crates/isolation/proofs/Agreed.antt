@@ -3,7 +3,7 @@
 use Prim.Native.Nat.{ℕ, ◌+◌, ◌-◌, ◌≤◌, ◌<◌}
 use native.Mathlib.Omega.{arith}
 use mathlib.Core.Path.{◌≡◌, refl, sym, ap, ap₂, ◌∙◌, subst}
-use mathlib.Core.Logic.{◌⊎◌, inl, inr, ⊎_elim}
+use mathlib.Core.Logic.{inl, inr, ⊎_elim}
 use mathlib.Core.List.{List, [], ◌∷◌, map}
 use Rattle.std.specs.Prelude.{Option, None, Some, filter, find, is_some, Ok}
 use mathlib.Core.Bool.{Bool, true, false, not, cond, ◌&&◌, ◌||◌, true≢false, false≢true}
@@ -11,6 +11,9 @@ use lib.Dec.{eqb, leb, ltb}
 use lib.Ieee.{Float}
 use lib.ListN.{length}
 use borrow.Author.Tests.{eqb-true, eqb-false, eq-eqb, ne_eqb, leb-true, ltb-true, lt-ltb, not-false}
+use Rattle.std.proofs.lemmas.Bool.{or_parts}
+use Rattle.rank.proofs.Cycle.{count_in}
+use Rattle.graph.proofs.Calls.{when_none}
 use Rattle.lists.specs.Member.{In}
 use Rattle.lists.proofs.Member.{in_map, in_of_map, and_left, and_right}
 use Rattle.lists.proofs.Filter.{in_filter, filter_in, filter_same}
@@ -44,8 +47,6 @@ use Rattle.ledger.specs.Render.{rested, render}
 use Rattle.ledger.specs.Call.{step, graph_step}
 use Rattle.ledger.specs.Call as steps
 use Rattle.ledger.proofs.Ids.{Ids, once, unique, above, same_id}
-use Rattle.ledger.proofs.Allowed.{when_none}
-use Rattle.ledger.proofs.Upto.{up_in}
 use Rattle.ledger.proofs.Managed.{config_step}
 use Rattle.isolation.specs.Story.{Entry, if_done, if?, is_bus, ports_at, held_by, lost_if, on_bus, voice_of, owner_voice, meets, timed_frees, entry, write, story}
 use Rattle.isolation.specs.Story as story
@@ -61,14 +62,6 @@ use Rattle.isolation.proofs.Follows.{Follow, Goes, goes, tidy_new, bus_new}
 use Rattle.isolation.proofs.Kin.{Kin, kin_self, AfterSpawn, New, managed_spawned, loose_spawned, Stays, Brings, stays}
 
 -- ---- tests
-and_false : (a b : Bool) → (a && b) ≡ false → (a ≡ false) ⊎ (b ≡ false)
-and_false true b e = inr e
-and_false false b e = inl refl
-
-or_false : (a b : Bool) → (a || b) ≡ false → (a ≡ false) × (b ≡ false)
-or_false true b e = absurd (true≢false e)
-or_false false b e = (refl, e)
-
 taken_none : (o : Option Refusal) → accepted o ≡ true → o ≡ None
 taken_none None e = refl
 taken_none (Some r) e = absurd (false≢true e)
@@ -107,7 +100,7 @@ module _ (b : NodeId) (l : Ledger) where
   no_entry (call.add_node kind ports required values glides) h =
       done_none (add_refusal l.shared.graph kind ports required) _ (eqb l.shared.graph.next b.0) h (λ e. if_none (eqb l.shared.graph.next b.0) (story.opened ports) e)
   no_entry (call.remove_node k) h =
-      done_none (host_refusal l.shared.graph k) _ (is_bus b k || feeds b k l) h (λ e. let r = or_false (is_bus b k) (feeds b k l) e in ap (λ c. cond c (Some story.closed) (lost_if (held_by b k l))) r.0 ∙ held_none k r.1)
+      done_none (host_refusal l.shared.graph k) _ (is_bus b k || feeds b k l) h (λ e. let r = or_parts (is_bus b k) (feeds b k l) e in ap (λ c. cond c (Some story.closed) (lost_if (held_by b k l))) r.0 ∙ held_none k r.1)
   no_entry (call.connect a k p) h = done_none (connect_refusal l.shared.graph a k p) _ (is_bus b k) h (λ e. if_none (is_bus b k) (story.plugged p) e)
   no_entry (call.disconnect k p) h = done_none (disconnect_refusal l.shared.graph k p) _ (is_bus b k) h (λ e. if_none (is_bus b k) (story.unplugged p) e)
   no_entry (call.set_sink k) h = refl
@@ -406,7 +399,7 @@ module _ (m : Matching) (nodes : OneToOne m.nodes) (voices : OneToOne m.voices) 
         let n = ports_at_lem (node_at k.shared.graph.nodes b₁) in
         let o = ports_at_lem (node_at l.shared.graph.nodes b₂) in
         let s : ports_at b₁ k ≡ ports_at b₂ l = n ∙ ap (λ (z : Bus). port_count z.ports) t.same ∙ sym o in
-        filter_same (λ p. by_host a (k.holders b₁.0 p)) (λ p. by_host c (l.holders b₂.0 p)) (upto (ports_at b₁ k)) (λ p i. held_same a c e p (let r = (up_in (ports_at b₁ k) 0 p i).1 in omega arith))
+        filter_same (λ p. by_host a (k.holders b₁.0 p)) (λ p. by_host c (l.holders b₂.0 p)) (upto (ports_at b₁ k)) (λ p i. held_same a c e p (let r = (count_in (ports_at b₁ k) 0 p i).1 in omega arith))
         ∙ ap (λ n. filter (λ p. by_host c (l.holders b₂.0 p)) (upto n)) s
 
     says_removed : (a c : NodeId) → SameNode m a c → is_call_of b₁ (call.remove_node a) k ≡ true → is_call_of b₂ (call.remove_node c) l ≡ true → Says (call.remove_node a) (call.remove_node c)

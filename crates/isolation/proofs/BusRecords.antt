@@ -10,7 +10,7 @@ use mathlib.Core.Bool.{Bool, true, false, cond}
 use lib.Dec.{eqb}
 use borrow.Author.Tests.{eqb-true, eqb-false}
 use Rattle.lists.specs.Member.{In}
-use Rattle.lists.proofs.Member.{in_map, in_of_map, in_snoc}
+use Rattle.lists.proofs.Member.{in_map, in_of_map, in_snoc, some_inj, none_some}
 use Rattle.node.specs.declared.record.NodeId.{NodeId}
 use Rattle.voice.specs.Steals.{StealLog, pushed, marked, cut_of}
 use Rattle.voice.specs.declared.steals.StealRecord.{StealRecord}
@@ -59,12 +59,6 @@ UnderOn b l s = (b.0 < l.shared.graph.next) × UnderR (ports_now b l.shared.grap
 
 abbrev pub BusRecordsOf : NodeId → List Item → Ledger → Type 0
 BusRecordsOf b ts l = BusRecords b ts l.shared.steals (UnderOn b l) l.voices
-
-nothing_record : {r : StealRecord} → None ≡ Some r → ⊥
-nothing_record e = let z : ◌≡◌ {A = ℕ} 0 1 = cc in omega arith
-
-record_inj : {r s : StealRecord} → Some r ≡ Some s → r ≡ s
-record_inj e = cc
 
 -- ---- voices go, or change without their fades, or come without one
 -- a voice as it was, but for how far its fade has come
@@ -119,7 +113,7 @@ module _ {b : NodeId} {ts : List Item} {log : StealLog} {U : ℕ → Type 0} {vs
   -- ---- a record of another bus is written, or marked
   module _ (r : StealRecord) (w : Newest log) (small : log.count < 18446744073709551615) where
     same_pushed : (x : Item) → In x ts → (s : StealRecord) → held_record (pushed log r) x.at ≡ Some s → x.what ≡ s
-    same_pushed x i s e = ⊎_elim (λ h. k.same x i s (sym h ∙ e)) (λ h. absurd (nothing_record (sym h.0 ∙ e))) (held_pushed log r small w x.at (k.below x i))
+    same_pushed x i s e = ⊎_elim (λ h. k.same x i s (sym h ∙ e)) (λ h. absurd (none_some (sym h.0 ∙ e))) (held_pushed log r small w x.at (k.below x i))
 
     more : (pushed log r).count ≡ log.count + 1
     more = count_pushed log r small
@@ -136,7 +130,7 @@ module _ {b : NodeId} {ts : List Item} {log : StealLog} {U : ℕ → Type 0} {vs
       pub same_own : (x : Item) → In x (ts ++ (new ∷ [])) → (s : StealRecord) → held_record (pushed log r) x.at ≡ Some s → x.what ≡ s
       same_own x j s e =
           ⊎_elim (λ m. same_pushed x m s e)
-          (λ z. ap (λ (y : Item). y.what) z ∙ record_inj (sym (held_new log r small w) ∙ ap (λ (y : Item). held_record (pushed log r) y.at) (sym z) ∙ e)) (in_snoc ts new x j)
+          (λ z. ap (λ (y : Item). y.what) z ∙ some_inj (sym (held_new log r small w) ∙ ap (λ (y : Item). held_record (pushed log r) y.at) (sym z) ∙ e)) (in_snoc ts new x j)
 
       pub once_own : (x y : Item) → In x (ts ++ (new ∷ [])) → In y (ts ++ (new ∷ [])) → x.voice ≡ y.voice → x ≡ y
       once_own x y a c e =
@@ -189,8 +183,8 @@ module _ {b : NodeId} {ts : List Item} {log : StealLog} {U : ℕ → Type 0} {vs
       its = k.tags g i on f e
 
       uncut : (o : Option StealRecord) (s : StealRecord) → cut_found o ≡ Some s → (r : StealRecord) × (o ≡ Some r) × (cut_of r ≡ s)
-      uncut None s h = absurd (nothing_record h)
-      uncut (Some r) s h = (r, refl, record_inj h)
+      uncut None s h = absurd (none_some h)
+      uncut (Some r) s h = (r, refl, some_inj h)
 
       same' : (x : Item) → In x ts → (s : StealRecord) → held_record (marked log f.number) x.at ≡ Some s → (c : Bool) → eqb x.voice g.sequence ≡ c → cond c (cut_of x.what) x.what ≡ s
       same' x j s h true c =

@@ -2,9 +2,9 @@
 use Prim.Native.Nat.{ℕ}
 use native.Mathlib.Omega.{arith}
 use mathlib.Core.Path.{◌≡◌, refl, sym, ap, ap₂, ◌∙◌}
-use mathlib.Core.List.{List, [], ◌∷◌, map}
+use mathlib.Core.List.{List, [], ◌∷◌, map, map-map}
 use Rattle.std.specs.Prelude.{Option, None, Some, filter, find, option_map}
-use mathlib.Core.Bool.{Bool, true, false, not, cond, ◌&&◌}
+use mathlib.Core.Bool.{Bool, true, false, not, cond, ◌&&◌, and-true, and-false}
 use lib.Dec.{eqb}
 use borrow.Author.Tests.{eqb-true, eqb-false, eq-eqb, ne_eqb, lt-ltb}
 use Rattle.lists.specs.Member.{In}
@@ -31,7 +31,6 @@ use Rattle.isolation.specs.Story.{phase_of}
 use Rattle.isolation.proofs.Bus.{Own, empty, is_taken, by_number, is_number, port_count}
 use Rattle.isolation.proofs.Bus as bus
 use Rattle.isolation.proofs.Part.{seat_for, seat_of, host_ports, own_of, ports_now, own_voices, bus_of, Tidy, find_one}
-use Rattle.isolation.proofs.Fade.{map_comp}
 use Rattle.isolation.proofs.Relabel.{rename, renamed, victim_rename, lowest_same}
 
 -- ---- states and phases
@@ -120,10 +119,10 @@ module _ (l : Ledger) (t : Tidy l) (b : NodeId) where
   pub candidates_same : bus.candidates l.shared.clock (own_voices b ns vs) ≡ map (rename number) (candidates l.shared (tracked_on b) vs)
   candidates_same =
       ap (map cand) (filter_map (own_of ns) bus.tracks (λ v. is_tracked v.state) (λ v. tracked_same v.state) (filter (is_on b) vs) ∙ ap (map (own_of ns)) (filter_filter (λ v. is_tracked v.state) (is_on b) vs))
-      ∙ map_comp cand (own_of ns) (filter (tracked_on b) vs)
+      ∙ map-map cand (own_of ns) (filter (tracked_on b) vs)
       ∙ map_same (λ v. cand (own_of ns v)) (λ v. rename number (candidate l.shared v)) (filter (tracked_on b) vs) (λ v j.
       let i = (in_filter (tracked_on b) vs v j).0 in ap (λ w. record { voice = w; level = bus.level_now l.shared.clock (own_of ns v); rank = v.rank }) (sym (number_is v i)))
-      ∙ sym (map_comp (rename number) (candidate l.shared) (filter (tracked_on b) vs))
+      ∙ sym (map-map (rename number) (candidate l.shared) (filter (tracked_on b) vs))
     where
       cand : Own → Candidate
       cand v = record { voice = record { 0 = v.number }; level = bus.level_now l.shared.clock v; rank = v.rank }
@@ -146,17 +145,9 @@ module _ (l : Ledger) (t : Tidy l) (b : NodeId) where
       idle None = refl
       idle (Some u) = refl
 
-      off : (c : Bool) → (c && false) ≡ false
-      off true = refl
-      off false = refl
-
-      on : (c : Bool) → (c && true) ≡ c
-      on true = refl
-      on false = refl
-
       go : (c : Bool) → bus.earlier (bus.earliest (map (own_of ns) (filter (is_on b) us))) (is_fading v.state && c) (own_of ns v) ≡ bus.earliest (map (own_of ns) (cond c (v ∷ (filter (is_on b) us)) (filter (is_on b) us)))
-      go true = ap (λ d. bus.earlier (bus.earliest (map (own_of ns) (filter (is_on b) us))) d (own_of ns v)) (on (is_fading v.state) ∙ sym (fading_same v.state))
-      go false = ap (λ d. bus.earlier (bus.earliest (map (own_of ns) (filter (is_on b) us))) d (own_of ns v)) (off (is_fading v.state)) ∙ idle (bus.earliest (map (own_of ns) (filter (is_on b) us)))
+      go true = ap (λ d. bus.earlier (bus.earliest (map (own_of ns) (filter (is_on b) us))) d (own_of ns v)) (and-true (is_fading v.state) ∙ sym (fading_same v.state))
+      go false = ap (λ d. bus.earlier (bus.earliest (map (own_of ns) (filter (is_on b) us))) d (own_of ns v)) (and-false (is_fading v.state)) ∙ idle (bus.earliest (map (own_of ns) (filter (is_on b) us)))
 
   voice_same : (r : ℕ) (x : Victim) → victim l.shared.config.policy r (candidates l.shared (tracked_on b) vs) ≡ x → option_map (own_of ns) (voice_of x vs) ≡ bus.voice_of (renamed number x) (own_voices b ns vs)
   voice_same r None e = refl

@@ -3,7 +3,7 @@ use Prim.Native.Nat.{ℕ, ◌+◌, ◌≤◌, ◌<◌}
 use native.Mathlib.Omega.{arith}
 use mathlib.Core.Path.{◌≡◌, refl, sym, ap, ap₂, ◌∙◌, subst, fun_ext}
 use mathlib.Core.Logic.{⊎_elim}
-use mathlib.Core.List.{List, [], ◌∷◌, ◌++◌, map}
+use mathlib.Core.List.{List, [], ◌∷◌, ◌++◌, map, map-map}
 use Rattle.std.specs.Prelude.{Option, None, Some, filter, find, option_map}
 use mathlib.Core.Bool.{Bool, true, false, cond, true≢false}
 use lib.Dec.{eqb, ltb}
@@ -31,10 +31,6 @@ use Rattle.isolation.specs.Story.{fading}
 use Rattle.isolation.proofs.Bus.{Own, empty, mine, port_count, begin, at_voices, with_phase}
 use Rattle.isolation.proofs.Part.{seat_for, seat_of, own_of, ports_now, seats_for, own_voices, bus_of_lem, bus_of, Tidy, own_same}
 use Rattle.isolation.proofs.Grown.{old_node, ports_one, once_one, same_nodes}
-
-pub map_comp : {A B C : Type 0} (f : B → C) (g : A → B) (l : List A) → map f (map g l) ≡ map (λ x. f (g x)) l
-map_comp f g [] = refl
-map_comp f g (x ∷ l) = ap (λ z. f (g x) ∷ z) (map_comp f g l)
 
 module _ (l : Ledger) (t : Tidy l) (g : Voice) (i : In g l.voices) (port : ℕ) where
   abbrev ns : List Node
@@ -86,7 +82,7 @@ module _ (l : Ledger) (t : Tidy l) (g : Voice) (i : In g l.voices) (port : ℕ) 
   pub fade_off : (b : NodeId) → is_on b g ≡ false → bus_of b (fade g port l) ≡ bus_of b l
   fade_off b off =
       with_voices b (own_voices b ns vs)
-      (map_comp (own_of ns') bf (filter (is_on b) vs) ∙ map_same (λ v. own_of ns' (bf v)) (own_of ns) (filter (is_on b) vs) (λ v j. let r = in_filter (is_on b) vs v j in go v r.0 r.1 (is_voice g.id v) refl))
+      (map-map (own_of ns') bf (filter (is_on b) vs) ∙ map_same (λ v. own_of ns' (bf v)) (own_of ns) (filter (is_on b) vs) (λ v j. let r = in_filter (is_on b) vs v j in go v r.0 r.1 (is_voice g.id v) refl))
     where
       go : (v : Voice) → In v vs → is_on b v ≡ true → (c : Bool) → is_voice g.id v ≡ c → own_of ns' (cond c (with_state (Fading (fade_of l.shared)) v) v) ≡ own_of ns v
       go v j on false e = own_stays v j
@@ -95,9 +91,9 @@ module _ (l : Ledger) (t : Tidy l) (g : Voice) (i : In g l.voices) (port : ℕ) 
   pub fade_on : (b : NodeId) → is_on b g ≡ true → bus_of b (fade g port l) ≡ at_voices (bus_of b l) (bus_of b l).seats (map (begin g.sequence l.shared.clock) (bus_of b l).voices)
   fade_on b on =
       with_voices b (map (begin g.sequence l.shared.clock) (own_voices b ns vs))
-      (map_comp (own_of ns') bf (filter (is_on b) vs)
+      (map-map (own_of ns') bf (filter (is_on b) vs)
       ∙ map_same (λ v. own_of ns' (bf v)) (λ v. begin g.sequence l.shared.clock (own_of ns v)) (filter (is_on b) vs) (λ v j. let r = in_filter (is_on b) vs v j in go v r.0 r.1 (is_voice g.id v) refl)
-      ∙ sym (map_comp (begin g.sequence l.shared.clock) (own_of ns) (filter (is_on b) vs)))
+      ∙ sym (map-map (begin g.sequence l.shared.clock) (own_of ns) (filter (is_on b) vs)))
     where
       go : (v : Voice) → In v vs → is_on b v ≡ true → (c : Bool) → is_voice g.id v ≡ c → own_of ns' (cond c (with_state (Fading (fade_of l.shared)) v) v) ≡ begin g.sequence l.shared.clock (own_of ns v)
       go v j o false e =

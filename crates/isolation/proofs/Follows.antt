@@ -3,13 +3,15 @@ use Prim.Native.Nat.{ℕ, ◌+◌, ◌-◌, ◌≤◌, ◌<◌}
 use native.Mathlib.Omega.{arith}
 use mathlib.Core.Path.{◌≡◌, refl, sym, ap, ap₂, ◌∙◌, subst}
 use mathlib.Core.Logic.{inl, inr}
-use mathlib.Core.List.{List, [], ◌∷◌, map}
-use Rattle.std.specs.Prelude.{Option, None, Some, Result, Err, Ok}
+use mathlib.Core.List.{List, [], ◌∷◌, map, map-map}
+use Rattle.std.specs.Prelude.{Option, None, Some}
 use mathlib.Core.Bool.{Bool, true, false, not, cond, ◌&&◌, ◌||◌, true≢false}
 use lib.Dec.{eqb, ltb, leb}
 use lib.Ieee.{Float}
 use lib.ListN.{length}
 use borrow.Author.Tests.{eqb-true, eq-eqb, ne_eqb, ltb-true, leb-true, leb-false, not-false}
+use Rattle.std.proofs.lemmas.Bool.{or_parts}
+use Rattle.graph.proofs.Calls.{when_none}
 use Rattle.lists.specs.Member.{In}
 use Rattle.lists.proofs.Member.{map_same, and_left, and_right}
 use Rattle.lists.proofs.Filter.{in_filter}
@@ -31,11 +33,11 @@ use Rattle.model.specs.Voice.{is_voice, is_on}
 use Rattle.model.specs.Refuse.{report_refusal, reports, of_definition}
 use Rattle.model.specs.Spawn.{pans, Spawn}
 use Rattle.model.specs.Order.{report_node, free_outcome}
-use Rattle.model.specs.Render.{prepare_outcome, prepare_shared, answer_after, heard, any_free, is_sounding, due, render_refusal}
-use Rattle.model.proofs.Refused.{refusal_in, not_rendered}
+use Rattle.model.specs.Render.{prepare_outcome, prepare_shared, any_free, is_sounding, due, render_refusal}
+use Rattle.model.proofs.Refused.{refusal_in, not_rendered, heard_not, after_not}
 use Rattle.model.specs.Call.{Call, Answer, event, schedule_refusal}
 use Rattle.model.specs.Call as call
-use Rattle.model.specs.SharedState.{SharedState, with_graph, sounding}
+use Rattle.model.specs.SharedState.{with_graph, sounding}
 use Rattle.ledger.specs.Ledger.{at_graph, Ledger, new_ledger, freed, spawn_managed, spawn_loose}
 use Rattle.scheduler.specs.declared.event.Event.{Event}
 use Rattle.ledger.specs.Holder.{hold, drop_node, nobody, voice}
@@ -43,7 +45,6 @@ use Rattle.ledger.specs.Holder as holder
 use Rattle.ledger.specs.Render.{Heard, apply_events, prepared_if, rested}
 use Rattle.ledger.specs.Call.{Step, step, run, unless, shared_step, render_step}
 use Rattle.ledger.proofs.Ids.{unique, above}
-use Rattle.ledger.proofs.Allowed.{when_none, or_false}
 use Rattle.ledger.proofs.Managed.{config_step}
 use Rattle.ledger.proofs.Nodes.{own_new}
 use Rattle.isolation.specs.Story.{Entry, rendered, if_done, if?, is_bus, held_by, lost_if, on_bus, voice_of, owner_voice, timed_frees, entry, story, Told, BusVoice, told, bus_voice, tell, write, tale, shown, voices_on}
@@ -51,7 +52,6 @@ use Rattle.isolation.specs.Story as story
 use Rattle.isolation.specs.Isolated.{full_in, Covered}
 use Rattle.isolation.proofs.Bus.{Own, Bus, empty, port_count, follow, new_bus, quiet, level_now}
 use Rattle.isolation.proofs.Bus as bus
-use Rattle.isolation.proofs.Fade.{map_comp}
 use Rattle.isolation.proofs.Part.{room_of, host_ports, own_of, ports_now, bus_of_lem, bus_of, Tidy}
 use Rattle.isolation.proofs.Removed.{removed_off, removed_on}
 use Rattle.isolation.proofs.Decide.{held_same}
@@ -129,7 +129,7 @@ module _ (l : Ledger) (t : Tidy l) (b : NodeId) where
           let h₁ = when_none (dead x || dead y) UnknownNode _ h in
           let h₂ = when_none (of_voice x || of_voice y) VoiceNode _ h₁.1 in
           let h₃ = when_none (leb (ports_of y) p) PortOrKind _ h₂.1 in
-          wire_ports l t k p (or_false (dead x) (dead y) h₁.0).1 (or_false (of_voice x) (of_voice y) h₂.0).1 h₃.0
+          wire_ports l t k p (or_parts (dead x) (dead y) h₁.0).1 (or_parts (of_voice x) (of_voice y) h₂.0).1 h₃.0
 
       go : k.0 < l.shared.graph.next → p < port_count (ports_now k l.shared.graph.nodes) → (c : Bool) → is_bus b k ≡ c
           → Follow (if? c (story.plugged p)) call.done (bus_of b (at_graph l (change.connect l.shared.graph a k p) (hold k p (holder.host a) l.holders))) (bus_of b l)
@@ -229,17 +229,9 @@ module _ (l : Ledger) (t : Tidy l) (b : NodeId) where
       q : List Event
       q = due l.shared
 
-      heard_never : (y : Bool) → not_rendered (heard y) ≡ None
-      heard_never true = refl
-      heard_never false = refl
-
-      after_never : (r : Result (Unit {0}) Refusal) (d : SharedState) → not_rendered (answer_after r d) ≡ None
-      after_never (Ok tt) d = heard_never (sounding d)
-      after_never (Err r) d = refl
-
       never : (y : Bool) (m : Ledger) → not_rendered (prepared_if y m).answer ≡ None
-      never true m = after_never (prepare_outcome m.shared).answer (prepare_shared m.shared)
-      never false m = heard_never (sounding m.shared)
+      never true m = after_not (prepare_outcome m.shared).answer (prepare_shared m.shared)
+      never false m = heard_not (sounding m.shared)
 
       played : Heard
       played = prepared_if (any_free q) (apply_events q (rested l))
@@ -289,7 +281,7 @@ told_same b a l t =
     (map_same (bus_voice l) (λ v. bus_voice_in (bus_of b l) (own_of l.shared.graph.nodes v)) (voices_on b l) (λ v i.
     let r = in_filter (is_on b) l.voices v i in
     ap (λ h. record { number = v.sequence; rank = v.rank; birth = v.birth; port = v.port; holds = h; phase = story.phase_of v.state; level = level_now l.shared.clock (own_of l.shared.graph.nodes v) }) (held_same l t b v r.0 r.1))
-    ∙ sym (map_comp (bus_voice_in (bus_of b l)) (own_of l.shared.graph.nodes) (voices_on b l)))
+    ∙ sym (map-map (bus_voice_in (bus_of b l)) (own_of l.shared.graph.nodes) (voices_on b l)))
 
 pub tale_same : (b : NodeId) (xs : List Call) (l : Ledger) → Tidy l → l.shared.config.scope ≡ PerGroup → Covered xs l → tale b xs l ≡ tale_of (story b xs l) (bus_of b l)
 tale_same b [] l t per c = refl

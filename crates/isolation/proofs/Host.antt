@@ -8,11 +8,14 @@ use Rattle.std.specs.Prelude.{Option, None, Some, filter, find, is_some}
 use mathlib.Core.Bool.{Bool, true, false, not, cond, ◌&&◌, true≢false, false≢true}
 use lib.Dec.{eqb, ltb}
 use borrow.Author.Tests.{eqb-true, eqb-false, eq-eqb, ne_eqb, ltb-true, lt-ltb, le-ltb}
+use Rattle.std.proofs.lemmas.Bool.{not-true}
+use Rattle.rank.proofs.Cycle.{in_count}
+use Rattle.graph.proofs.Together.{listed_in}
 use Rattle.lists.specs.Member.{In}
-use Rattle.lists.proofs.Member.{in_snoc, map_same}
+use Rattle.lists.proofs.Member.{in_snoc, map_same, cond_same}
 use Rattle.lists.proofs.Filter.{in_filter, filter_in}
 use Rattle.lists.specs.Find.{Once}
-use Rattle.lists.proofs.Find.{find_in, find_none, none_find, find_snoc_off, find_filter_same, once_filter}
+use Rattle.lists.proofs.Find.{find_in, none_find, find_snoc_off, find_filter_same, once_filter}
 use Rattle.rank.specs.Order.{upto}
 use Rattle.node.specs.declared.record.NodeId.{NodeId}
 use Rattle.node.specs.declared.record.VoiceId.{VoiceId}
@@ -31,7 +34,6 @@ use Rattle.ledger.specs.Ledger.{Ledger, at_graph}
 use Rattle.ledger.proofs.Ids.{above}
 use Rattle.ledger.proofs.Allowed.{host_at}
 use Rattle.ledger.proofs.Nodes.{Mine, own_preserved}
-use Rattle.ledger.proofs.Upto.{in_up}
 use Rattle.isolation.specs.Story.{held_by, ports_at}
 use Rattle.isolation.proofs.Bus.{Seat, empty, port_count, seat, at_ports}
 use Rattle.isolation.proofs.Part.{seat_of, host_ports, own_of, ports_now, seats_for, own_voices, bus_of_lem, bus_of, Tidy, own_same, ports_at_lem}
@@ -76,12 +78,8 @@ module _ (l : Ledger) (t : Tidy l) (kind : List ℕ) (ports required : ℕ) (val
       is : id next ≡ b
       is = ap (λ n. record { 0 = n }) (eqb-true _ _ on)
 
-      either : (c : Bool) → cond c empty empty ≡ empty
-      either true = refl
-      either false = refl
-
       free : (p : ℕ) → seats_for b (Some (record { ports = ports; noise = 0 })) l.voices l.holders p ≡ empty
-      free p = ap (λ y. cond (ltb p ports) (seat_of l.voices y) empty) (t.fresh b.0 p (let z : next ≡ b.0 = eqb-true _ _ on in omega arith)) ∙ either (ltb p ports)
+      free p = ap (λ y. cond (ltb p ports) (seat_of l.voices y) empty) (t.fresh b.0 p (let z : next ≡ b.0 = eqb-true _ _ on in omega arith)) ∙ cond_same (ltb p ports) empty
 
   pub tidy_add : Tidy added
   tidy_add =
@@ -111,11 +109,7 @@ module _ (l : Ledger) (t : Tidy l) (k : NodeId) (e : host_refusal l.shared.graph
   others_stay j off = find_filter_same (is_node j) (λ x. not (is_node k x)) (λ x h. ap not (ap (λ n. eqb n k.0) (eqb-true _ _ h) ∙ off)) ms
 
   itself_goes : node_at ms' k ≡ None
-  itself_goes = none_find (is_node k) ms' (λ x i. not_true' (is_node k x) (in_filter (λ x. not (is_node k x)) ms x i).1)
-    where
-      not_true' : (c : Bool) → not c ≡ true → c ≡ false
-      not_true' true h = sym h
-      not_true' false h = refl
+  itself_goes = none_find (is_node k) ms' (λ x i. not-true (is_node k x) (in_filter (λ x. not (is_node k x)) ms x i).1)
 
   -- no voice has it among its definition's nodes
   own_removed : (v : Voice) → In v l.voices → own_of ms' v ≡ own_of ms v
@@ -144,13 +138,6 @@ module _ (l : Ledger) (t : Tidy l) (k : NodeId) (e : host_refusal l.shared.graph
       is : k ≡ b
       is = ap (λ n. record { 0 = n }) (eqb-true _ _ on)
 
-  listed_in : (ps : List ℕ) (p : ℕ) → In p ps → listed ps p ≡ true
-  listed_in ps p i = go (find (λ q. eqb q p) ps) refl
-    where
-      go : (o : Option ℕ) → find (λ q. eqb q p) ps ≡ o → is_some o ≡ true
-      go (Some q) f = refl
-      go None f = absurd (true≢false (sym (eq-eqb p p refl) ∙ find_none (λ q. eqb q p) ps p f i))
-
   in_listed : (ps : List ℕ) (p : ℕ) → listed ps p ≡ true → In p ps
   in_listed ps p h = go (find (λ q. eqb q p) ps) refl h
     where
@@ -165,7 +152,7 @@ module _ (l : Ledger) (t : Tidy l) (k : NodeId) (e : host_refusal l.shared.graph
       count = ports_at_lem (node_at ms b)
 
       inside : In p (upto (ports_at b l))
-      inside = in_up (ports_at b l) 0 p (omega arith) (let c = count in omega arith)
+      inside = in_count (ports_at b l) 0 p (omega arith) (let c = count in omega arith)
 
       go : (c : Bool) → by_host k (l.holders b.0 p) ≡ c → listed (held_by b k l) p ≡ c
       go true f = listed_in (held_by b k l) p (filter_in (λ q. by_host k (l.holders b.0 q)) (upto (ports_at b l)) p inside f)
@@ -183,10 +170,6 @@ module _ (l : Ledger) (t : Tidy l) (k : NodeId) (e : host_refusal l.shared.graph
       off' : eqb b.0 k.0 ≡ false
       off' = ne_eqb b.0 k.0 (λ q. eqb-false _ _ off (sym q))
 
-      either : (c : Bool) → empty ≡ cond c empty empty
-      either true = refl
-      either false = refl
-
       drop : (y : Holder) → seat_of l.voices (cond (by_host k y) nobody y) ≡ cond (by_host k y) empty (seat_of l.voices y)
       drop y = at (by_host k y)
         where
@@ -196,7 +179,7 @@ module _ (l : Ledger) (t : Tidy l) (k : NodeId) (e : host_refusal l.shared.graph
 
       go : (p : ℕ) (c : Bool) → ltb p (port_count (ports_now b ms)) ≡ c
           → cond c (seat_of l.voices (drop_node k l.holders b.0 p)) empty ≡ cond (listed (held_by b k l) p) empty (cond c (seat_of l.voices (l.holders b.0 p)) empty)
-      go p false f = either (listed (held_by b k l) p)
+      go p false f = sym (cond_same (listed (held_by b k l) p) empty)
       go p true f = rw (off', held_listed b p (ltb-true _ _ f)) (drop (l.holders b.0 p))
 
   pub remove_off : (b : NodeId) → eqb k.0 b.0 ≡ false → held_by b k l ≡ [] → bus_of b removed ≡ bus_of b l
@@ -209,16 +192,12 @@ module _ (l : Ledger) (t : Tidy l) (k : NodeId) (e : host_refusal l.shared.graph
         rows = λ j. once_filter (is_node j) (λ x. not (is_node k x)) ms (t.rows j);
         outs = t.outs;
         seated = λ n p w q. t.seated n p w (was n p w (eqb n k.0) (l.holders n p) q);
-        fresh = λ n p h. ap (λ y. cond (eqb n k.0) nobody (cond (by_host k y) nobody y)) (t.fresh n p h) ∙ either (eqb n k.0);
+        fresh = λ n p h. ap (λ y. cond (eqb n k.0) nobody (cond (by_host k y) nobody y)) (t.fresh n p h) ∙ cond_same (eqb n k.0) nobody;
         single = t.single;
         few = λ y i. t.few y (in_filter (λ x. not (is_node k x)) ms y i).0;
         hosted = λ v i. let h = t.hosted v i in (h.0, λ n q. h.1 n (back v.bus n q));
       }
     where
-      either : (c : Bool) → cond c nobody nobody ≡ nobody
-      either true = refl
-      either false = refl
-
       was : (n p : ℕ) (w : VoiceId) (c : Bool) (y : Holder) → cond c nobody (cond (by_host k y) nobody y) ≡ voice w → y ≡ voice w
       was n p w true y q = let z : ◌≡◌ {A = ℕ} 0 1 = cc in absurd (omega arith)
       was n p w false y q = at (by_host k y) q

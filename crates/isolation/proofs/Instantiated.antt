@@ -11,8 +11,10 @@ use lib.Dec.{eqb, ltb}
 use lib.ListN.{length}
 use lib.Ieee.{of_bits, binary32}
 use borrow.Author.Tests.{eqb-true, eqb-false, eq-eqb, ne_eqb, ltb-true, lt-ltb}
+use Rattle.std.proofs.lemmas.List.{map-append}
+use Rattle.model.proofs.Grown.{grown_next}
 use Rattle.lists.specs.Member.{In}
-use Rattle.lists.proofs.Member.{in_map, in_snoc, in_left, in_right, in_append, map_same, map_append, some_inj, none_some}
+use Rattle.lists.proofs.Member.{in_map, in_snoc, in_left, in_right, in_append, map_same, some_inj, none_some}
 use Rattle.lists.proofs.Filter.{filter_snoc_on, filter_snoc_off, in_filter}
 use Rattle.lists.specs.Find.{Once}
 use Rattle.lists.proofs.Find.{find_in, find_snoc_some, find_snoc_none, none_find}
@@ -37,7 +39,7 @@ use Rattle.ledger.proofs.Ids.{once, ids_snoc}
 use Rattle.ledger.proofs.NewVoice.{nodes_owned, nodes_count, output_in}
 use Rattle.graph.specs.Change as change
 use Rattle.ledger.proofs.Raised.{raise_same, look_raised, in_raised}
-use Rattle.ledger.proofs.Nodes.{mine_instantiate, grown_next, wires_same}
+use Rattle.ledger.proofs.Nodes.{mine_instantiate, wires_same}
 use Rattle.isolation.specs.Story.{phase_of}
 use Rattle.isolation.proofs.Bus.{Own, empty, mine, BusPorts, port_count, seat}
 use Rattle.isolation.proofs.Bus as bus
@@ -237,7 +239,7 @@ module _ (l : Ledger) (t : Tidy l) (spawn : Spawn) (ok : allowed spawn.def ≡ t
 
       voices : own_voices spawn.bus ns' (vs ++ (new ∷ [])) ≡ own_voices spawn.bus ns vs ++ (bus.new_voice spawn.def spawn.rank (phase_of st) p (bus_of spawn.bus l) ∷ [])
       voices =
-          ap (map (own_of ns')) (filter_snoc_on (is_on spawn.bus) vs new here) ∙ map_append (own_of ns') (filter (is_on spawn.bus) vs) (new ∷ [])
+          ap (map (own_of ns')) (filter_snoc_on (is_on spawn.bus) vs new here) ∙ map-append (own_of ns') (filter (is_on spawn.bus) vs) (new ∷ [])
           ∙ ap₂ (λ a c. a ++ (c ∷ [])) (map_same (own_of ns') (own_of ns) (filter (is_on spawn.bus) vs) (λ v j. own_stays v (in_filter (is_on spawn.bus) vs v j).0)) (new_own range)
 
   -- ---- what every run keeps

@@ -10,6 +10,7 @@ use mathlib.Core.Bool.{Bool, true, false, not, cond, true≢false}
 use lib.Dec.{eqb, ltb}
 use lib.ListN.{length, length-map}
 use borrow.Author.Tests.{eqb-true, eq-eqb, ne_eqb}
+use Rattle.model.proofs.Grown.{grown_next}
 use Rattle.lists.specs.Member.{In}
 use Rattle.lists.proofs.Member.{in_map, in_snoc, and_left, and_right, none_some, some_inj}
 use Rattle.lists.proofs.Filter.{in_filter, length_filter}
@@ -43,7 +44,7 @@ use Rattle.ledger.specs.Claim.{may_go, is_managed}
 use Rattle.ledger.proofs.Preserved.{place_kept, Preserves, voices_only, unmanaged_step}
 use Rattle.ledger.proofs.Managed.{managed_kept}
 use Rattle.ledger.proofs.Marks.{log_stays}
-use Rattle.ledger.proofs.Nodes.{grown_next, wires_same}
+use Rattle.ledger.proofs.Nodes.{wires_same}
 use Rattle.ledger.proofs.Records.{RecordedOf, recorded_cut, recorded_steal, tracked_state, under_fading, moved_fading, loose_fading}
 use Rattle.lists.proofs.Find.{find_in, find_snoc_off}
 use Rattle.node.specs.Node.{with_id}

@@ -7,6 +7,8 @@ use Rattle.std.specs.Prelude.{Option, None, Some}
 use mathlib.Core.Bool.{Bool, true, false, not, cond}
 use lib.Dec.{eqb, ltb, leb}
 use borrow.Author.Tests.{eqb-true, eq-eqb, ltb-false}
+use Rattle.std.proofs.lemmas.Bool.{or_parts}
+use Rattle.graph.proofs.Calls.{when_none}
 use Rattle.lists.specs.Member.{In}
 use Rattle.lists.proofs.Member.{and_right, none_some, some_inj}
 use Rattle.lists.proofs.Find.{find_in}
@@ -24,11 +26,11 @@ use Rattle.store.specs.declared.voices.VoiceState.{VoiceState}
 use Rattle.store.specs.declared.voices.VoiceState.TheVariants.{Tracked, Loose}
 use Rattle.model.specs.SharedState.{SharedState, with_steals}
 use Rattle.model.specs.Voice.{is_on, is_tracked, counted}
-use Rattle.model.specs.Refuse.{rank_limit, spawn_refusal, or_else, no_headroom, no_ids, voice_id_limit}
+use Rattle.model.specs.Refuse.{rank_limit, spawn_refusal, no_headroom, no_ids, voice_id_limit}
 use Rattle.model.specs.Spawn.{state_under, tries, reclaim_log, Spawn}
 use Rattle.ledger.specs.Ledger.{Ledger, SpawnResult, cut_off, stolen, steal_voice, port_held, instantiate, place, place_within_budget, admitted, admission_on, spawn_managed, spawn_loose}
 use Rattle.ledger.specs.Ledger as ledger
-use Rattle.ledger.proofs.Allowed.{when_none, or_false, spawn_allowed}
+use Rattle.ledger.proofs.Allowed.{spawn_allowed, or_else_none}
 use Rattle.ledger.proofs.Victim.{next_out_in}
 use Rattle.ledger.specs.Claim.{may_go}
 use Rattle.ledger.proofs.Preserved.{place_kept}
@@ -84,10 +86,6 @@ pub record Meets (d : SharedState) (spawn : Spawn) : Type 0 where
   pub bus : ports_now spawn.bus d.graph.nodes ≡ Some ports
   pub room : d.graph.next + 3 ≤ 4294967296
 
-or_else_none : (o r : Option Refusal) → or_else o r ≡ None → (o ≡ None) × (r ≡ None)
-or_else_none (Some x) r h = absurd (none_some (sym h))
-or_else_none None r h = (refl, h)
-
 pub meets : (d : SharedState) (vs : List Voice) (spawn : Spawn) → spawn_refusal d vs spawn.def spawn.bus spawn.rank ≡ None → Meets d spawn
 meets d vs spawn h =
     let a = spawn_allowed d vs spawn.def spawn.bus spawn.rank h in
@@ -97,7 +95,7 @@ meets d vs spawn h =
     let h₃ = when_none (eqb (ports_of (node_at d.graph.nodes spawn.bus)) 0) BusWithoutPorts _ h₂.1 in
     let h₄ = when_none (no_headroom d vs spawn.def) TableFull _ h₃.1 in
     let h₅ = when_none (no_ids d spawn.def) IdsUsedUp None h₄.1 in
-    let q = or_false (ltb id_limit (d.graph.next + spawn.def.nodes.count + 3)) (leb voice_id_limit d.spawned) h₅.0 in
+    let q = or_parts (ltb id_limit (d.graph.next + spawn.def.nodes.count + 3)) (leb voice_id_limit d.spawned) h₅.0 in
     let r : d.graph.next + spawn.def.nodes.count + 3 ≤ 4294967296 = ltb-false _ _ q.0 in
     let n = a.host in
     record {

@@ -4,7 +4,7 @@ use native.Mathlib.Omega.{arith}
 use mathlib.Core.Path.{◌≡◌, refl, sym, ap, ap₂, ◌∙◌, fun_ext}
 use mathlib.Core.List.{List, map}
 use Rattle.std.specs.Prelude.{Option, None, Some, filter, find, Float}
-use mathlib.Core.Bool.{Bool, true, false, cond, ◌&&◌, true≢false}
+use mathlib.Core.Bool.{Bool, true, false, cond, ◌&&◌, true≢false, and_comm}
 use lib.Dec.{eqb, ltb}
 use borrow.Author.Tests.{ltb-true}
 use Rattle.lists.specs.Member.{In}
@@ -120,13 +120,7 @@ find_one q l v i h only = go (find q l) refl
     go (Some x) e = let r = find_in q l x e in ap Some (only x r.0 r.1)
 
 pub filter_swap : {A : Type 0} (t u : A → Bool) (l : List A) → filter t (filter u l) ≡ filter u (filter t l)
-filter_swap t u l = filter_filter t u l ∙ filter_same (λ x. t x && u x) (λ x. u x && t x) l (λ x i. go (t x) (u x)) ∙ sym (filter_filter u t l)
-  where
-    go : (a b : Bool) → (a && b) ≡ (b && a)
-    go true true = refl
-    go true false = refl
-    go false true = refl
-    go false false = refl
+filter_swap t u l = filter_filter t u l ∙ filter_same (λ x. t x && u x) (λ x. u x && t x) l (λ x i. and_comm (t x) (u x)) ∙ sym (filter_filter u t l)
 
 -- ---- a voice is the same while its nodes keep their levels and flags
 abbrev pub Same : List Node → List Node → Voice → Type 0

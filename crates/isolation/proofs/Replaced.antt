@@ -2,12 +2,13 @@
 use Prim.Native.Nat.{ℕ, ◌+◌, ◌-◌, ◌≤◌, ◌<◌}
 use native.Mathlib.Omega.{arith}
 use mathlib.Core.Path.{◌≡◌, refl, sym, ap, ap₂, ◌∙◌, subst, fun_ext}
-use mathlib.Core.List.{List, map}
+use mathlib.Core.List.{List, map, map-map}
 use Rattle.std.specs.Prelude.{Option, None, Some, filter, option_map}
 use mathlib.Core.Bool.{Bool, true, false, cond}
 use lib.Dec.{eqb, ltb}
 use lib.Ieee.{Float}
 use borrow.Author.Tests.{eqb-true, eqb-false, eq-eqb, ne_eqb, lt-ltb}
+use Rattle.ledger.proofs.Owner.{replaced_id}
 use Rattle.level.specs.Level.{level_of}
 use Rattle.lists.specs.Member.{In}
 use Rattle.lists.proofs.Member.{in_map, map_same, some_inj}
@@ -34,7 +35,6 @@ use Rattle.ledger.proofs.Nodes.{own_preserved}
 use Rattle.ledger.proofs.Preserved.{Alike}
 use Rattle.isolation.specs.Story.{phase_of}
 use Rattle.isolation.proofs.Bus.{Own, is_number, at_voices, report}
-use Rattle.isolation.proofs.Fade.{map_comp}
 use Rattle.isolation.proofs.Part.{room_of, host_ports, flag_at, own_of, ports_now, seats_for, own_voices, bus_of_lem, bus_of, Tidy, own_same}
 
 module _ (l : Ledger) (t : Tidy l) (j : NodeId) (x y : Node) (found : node_at l.shared.graph.nodes j ≡ Some x) (alike : Alike x y) (noises : y.noise ≡ x.noise) where
@@ -50,15 +50,8 @@ module _ (l : Ledger) (t : Tidy l) (j : NodeId) (x y : Node) (found : node_at l.
   abbrev rep : Node → Node
   rep m = cond (is_node y.id m) y m
 
-  same_id : (m : Node) → (rep m).id.0 ≡ m.id.0
-  same_id m = go (is_node y.id m) refl
-    where
-      go : (c : Bool) → is_node y.id m ≡ c → (cond c y m).id.0 ≡ m.id.0
-      go true e = sym (eqb-true _ _ e)
-      go false e = refl
-
   look : (k : NodeId) → node_at ns' k ≡ option_map rep (node_at ns k)
-  look k = find_map rep (is_node k) (is_node k) (λ m. ap (λ n. eqb n k.0) (same_id m)) ns
+  look k = find_map rep (is_node k) (is_node k) (λ m. ap (λ n. eqb n k.0) (replaced_id y m)) ns
 
   is_j : y.id.0 ≡ j.0
   is_j = ap (λ (z : NodeId). z.0) alike.id ∙ eqb-true _ _ (find_in (is_node j) ns x found).1
@@ -118,7 +111,7 @@ module _ (l : Ledger) (t : Tidy l) (j : NodeId) (x y : Node) (found : node_at l.
       rows : (k : NodeId) → Once (is_node k) ns'
       rows k z i h =
           let r = in_map rep ns z i in
-          let q : is_node k r.0 ≡ true = ap (λ n. eqb n k.0) (sym (same_id r.0) ∙ ap (λ (n : Node). n.id.0) (sym r.2)) ∙ h in
+          let q : is_node k r.0 ≡ true = ap (λ n. eqb n k.0) (sym (replaced_id y r.0) ∙ ap (λ (n : Node). n.id.0) (sym r.2)) ∙ h in
           look k ∙ ap (option_map rep) (t.rows k r.0 r.1 q) ∙ ap Some (sym r.2)
 
       at_most : (m : Node) → In m ns → (c : Bool) → is_node y.id m ≡ c → (cond c y m).noise ≤ l.shared.graph.next
@@ -233,7 +226,7 @@ module _ (l : Ledger) (t : Tidy l) (j : NodeId) (x : Node) (found : node_at l.sh
     report_on b on =
         with_voices l t j x y found (record { id = refl; owner = refl; ports = refl; required = refl }) refl b (map f (own_voices b ms l.voices))
         (map_same (own_of ms') (λ v. f (own_of ms v)) (filter (is_on b) l.voices) (λ v k. let r = in_filter (is_on b) l.voices v k in go v r.0 r.1 (eqb v.sequence g.sequence) refl)
-        ∙ sym (map_comp f (own_of ms) (filter (is_on b) l.voices)))
+        ∙ sym (map-map f (own_of ms) (filter (is_on b) l.voices)))
       where
         f : Own → Own
         f v = cond (is_number g.sequence v) (report at samples flag v) v

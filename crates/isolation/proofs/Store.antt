@@ -2,7 +2,7 @@
 -- position, and its records are the ledger's.
 use Prim.Native.Nat.{ℕ, ◌*◌}
 use mathlib.Core.Path.{◌≡◌, refl, sym, ap, ap₂, ◌∙◌}
-use mathlib.Core.List.{List, map}
+use mathlib.Core.List.{List, map, map-map}
 use Rattle.std.specs.Prelude.{Some, filter}
 use Rattle.lists.proofs.Member.{map_same}
 use Rattle.lists.proofs.Filter.{filter_map}
@@ -20,7 +20,6 @@ use Rattle.ledger.specs.Claim.{ledger_after, after, held_record}
 use Rattle.ledger.proofs.Claim.{claim}
 use Rattle.isolation.specs.Story.{Phase, held, fading, loose, phase_of, BusVoice, bus_voice, voices_on}
 use Rattle.isolation.specs.Store.{StoreVoice, store_voice, store_voices, StoreIsolated}
-use Rattle.isolation.proofs.Fade.{map_comp}
 use Rattle.isolation.proofs.Theorem.{isolated_up_to_ids}
 
 abbrev scaled : ℕ → Phase → Phase
@@ -37,9 +36,9 @@ from_ledger k m made xs b =
     let a = claim k m made xs in
     ap₂ (λ (d : SharedState) (vs : List Voice). map (store_voice d) (filter (is_on b) vs)) a.shared a.voices
     ∙ ap (map (store_voice l.shared)) (filter_map (moved to) (is_on b) (is_on b) (λ v. refl) l.voices)
-    ∙ map_comp (store_voice l.shared) (moved to) (voices_on b l)
+    ∙ map-map (store_voice l.shared) (moved to) (voices_on b l)
     ∙ same (voices_on b l)
-    ∙ sym (map_comp (scale (config_of k).block) (bus_voice l) (voices_on b l))
+    ∙ sym (map-map (scale (config_of k).block) (bus_voice l) (voices_on b l))
   where
     l : Ledger
     l = ledger_after (config_of k) xs

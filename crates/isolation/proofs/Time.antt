@@ -1,11 +1,12 @@
 -- Frees, clearing calls and renders.
+use Rattle.rank.proofs.Cycle.{count_in}
 use Rattle.node.specs.declared.refusal.Refusal.{Refusal}
 use Prim.Native.Nat.{ℕ, suc, ◌+◌, ◌≤◌, ◌<◌, min}
 use native.Mathlib.Omega.{arith}
 use native.Mathlib.Nat.{min-le_left}
 use mathlib.Core.Path.{◌≡◌, refl, sym, ap, ap₂, ◌∙◌, subst, fun_ext}
 use mathlib.Core.Logic.{inl, inr}
-use mathlib.Core.List.{List, [], ◌∷◌, map}
+use mathlib.Core.List.{List, [], ◌∷◌, map, map-map}
 use Rattle.std.specs.Prelude.{Option, None, Some, filter, find, option_map, Result, Err, Ok}
 use mathlib.Core.Bool.{Bool, true, false, not, cond}
 use lib.Dec.{ltb}
@@ -39,11 +40,9 @@ use Rattle.ledger.specs.Ledger.{Ledger, without_voice, freed, free, at_shared}
 use Rattle.ledger.specs.Clear.{ended, without_voices, ended_voices, silent_voices, clear}
 use Rattle.ledger.specs.Render.{apply_events, one_more, counted_if, block_of, prepared_if}
 use Rattle.ledger.proofs.Nodes.{own_preserved}
-use Rattle.ledger.proofs.Upto.{up_in}
 use Rattle.isolation.specs.Story.{phase_of, voice_of, meets, timed_frees}
 use Rattle.isolation.proofs.Bus.{Own, empty, Bus, port_count}
 use Rattle.isolation.proofs.Bus as bus
-use Rattle.isolation.proofs.Fade.{map_comp}
 use Rattle.isolation.proofs.Part.{seat_for, seat_of, flag_at, own_of, ports_now, seats_for, own_voices, bus_of_lem, bus_of, Seated, Tidy, filter_swap}
 use Rattle.isolation.proofs.Removed.{removed_off, removed_on, tidy_removed}
 use Rattle.isolation.proofs.Replaced.{Unmoved, order_still}
@@ -98,7 +97,7 @@ ended_same d Loose = refl
 silent_same : (ns : List Node) (v : Voice) → bus.silent (own_of ns v) ≡ is_silent ns v
 silent_same ns v =
     ap (plan_silent v.plan) (map_same (flag_at ns v) (λ i. done_flag (node_at ns (id (v.first.0 + i)))) (upto (min v.count 24)) (λ i j.
-    let r = (up_in (min v.count 24) 0 i j).1 in let m = min-le_left v.count 24 in let h : i < v.count = omega arith in rw (lt-ltb i v.count h)))
+    let r = (count_in (min v.count 24) 0 i j).1 in let m = min-le_left v.count 24 in let h : i < v.count = omega arith in rw (lt-ltb i v.count h)))
 
 -- those of the bus among the voices that pass a test
 among : (b : NodeId) (ns : List Node) (q : Own → Bool) (r : Voice → Bool) → ((v : Voice) → q (own_of ns v) ≡ r v) → (vs : List Voice) → filter q (map (own_of ns) (filter (is_on b) vs)) ≡ map (own_of ns) (filter (is_on b) (filter r vs))
@@ -195,9 +194,9 @@ module _ (l : Ledger) (t : Tidy l) (a : Rendered) where
           ap₂ (λ h ws. bus_of_lem l.shared.config (l.shared.clock + l.shared.config.block) (ports_now b ns) h ws)
           (fun_ext (λ p. ap (λ x. cond (ltb p (port_count (ports_now b ns))) x empty) (seat_same (l.holders b.0 p))))
           (ap (map (own_of ns)) (filter_map step (is_on b) (is_on b) (λ v. refl) l.voices)
-          ∙ map_comp (own_of ns) step (filter (is_on b) l.voices)
+          ∙ map-map (own_of ns) step (filter (is_on b) l.voices)
           ∙ map_same (λ v. own_of ns (step v)) (λ v. bus.with_phase (bus.beat (own_of ns v).phase) (own_of ns v)) (filter (is_on b) l.voices) (λ v i. beat_same v)
-          ∙ sym (map_comp (λ (o : Own). bus.with_phase (bus.beat o.phase) o) (own_of ns) (filter (is_on b) l.voices)))
+          ∙ sym (map-map (λ (o : Own). bus.with_phase (bus.beat o.phase) o) (own_of ns) (filter (is_on b) l.voices)))
 
   pub tidy_block : Tidy (block_of a l).ledger
   tidy_block = record {

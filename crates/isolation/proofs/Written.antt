@@ -4,13 +4,14 @@ use Prim.Native.Nat.{ℕ, zero, suc, ◌+◌, ◌-◌, ◌≤◌, ◌<◌}
 use native.Mathlib.Omega.{arith}
 use mathlib.Core.Path.{◌≡◌, refl, sym, ap, ◌∙◌, subst}
 use mathlib.Core.Logic.{inl, ⊎_elim}
-use mathlib.Core.List.{List, [], ◌∷◌, ◌++◌, map, append_assoc, append-nil}
+use mathlib.Core.List.{List, [], ◌∷◌, ◌++◌, map, append_assoc, append-nil, map-map}
 use Rattle.std.specs.Prelude.{Option, None, Some, filter}
 use mathlib.Core.Bool.{Bool, true, false, not, cond, true≢false}
 use lib.Dec.{eqb}
 use borrow.Author.Tests.{eqb-true, eqb-false, not-true}
+use Rattle.std.proofs.lemmas.List.{map-append}
 use Rattle.lists.specs.Member.{In}
-use Rattle.lists.proofs.Member.{in_snoc, in_left, in_right, map_append}
+use Rattle.lists.proofs.Member.{in_snoc, in_left, in_right}
 use Rattle.lists.proofs.Filter.{in_filter}
 use Rattle.rank.specs.Order.{count_up}
 use Rattle.node.specs.declared.record.NodeId.{NodeId}
@@ -29,7 +30,6 @@ use Rattle.ledger.proofs.StealLog.{count_pushed}
 use Rattle.ledger.proofs.Records.{RecordedOf, steal_small, begun, fade_inj}
 use Rattle.isolation.specs.Story.{phase_of, from_to}
 use Rattle.isolation.proofs.Part.{host_ports, own_of, Tidy, room_of}
-use Rattle.isolation.proofs.Fade.{map_comp}
 use Rattle.isolation.proofs.Fade as fading
 use Rattle.isolation.proofs.Others.{cut_ports}
 use Rattle.isolation.proofs.Acts.{Act, cut_if, apply, apply_append, goes, writes}
@@ -153,8 +153,8 @@ module _ (l : Ledger) (t : Tidy l) (r : RecordedOf l) (g : Voice) (i : In g l.vo
         record {
           items = ts ++ (item c ∷ []);
           logged = z;
-          strips = map_append strip ts (item c ∷ []);
-          ats = map_append At ts (item c ∷ []) ∙ ap (λ y. map At ts ++ y) (sym (to_one l.shared.steals.count m.shared.steals.count n));
+          strips = map-append strip ts (item c ∷ []);
+          ats = map-append At ts (item c ∷ []) ∙ ap (λ y. map At ts ++ y) (sym (to_one l.shared.steals.count m.shared.steals.count n));
           up = omega arith;
         }
 
@@ -207,8 +207,8 @@ module _ (l : Ledger) (t : Tidy l) (r : RecordedOf l) (g : Voice) (i : In g l.vo
         record {
           items = map (cut_item g.sequence) ts;
           logged = records_next (records_cut k g i on f e) (UnderOn b (cut_off g (Fading f) l)) others (up_cut b (Fading f)) stays;
-          strips = map_comp strip (cut_item g.sequence) ts ∙ sym (map_comp (cut_if g.sequence) strip ts);
-          ats = map_comp At (cut_item g.sequence) ts ∙ sym (ap (λ z. map At ts ++ z) (to_self l.shared.steals.count l.shared.steals.count refl) ∙ append-nil (map At ts));
+          strips = map-map strip (cut_item g.sequence) ts ∙ sym (map-map (cut_if g.sequence) strip ts);
+          ats = map-map At (cut_item g.sequence) ts ∙ sym (ap (λ z. map At ts ++ z) (to_self l.shared.steals.count l.shared.steals.count refl) ∙ append-nil (map At ts));
           up = omega arith;
         }
     own_cut Loose e = logs_none b l ts (cut_off g Loose l) (records_next k (UnderOn b (cut_off g Loose l)) others (up_cut b Loose) stays) refl

@@ -4,10 +4,12 @@ use native.Mathlib.Omega.{arith}
 use mathlib.Core.Path.{◌≡◌, refl, sym}
 use mathlib.Core.List.{List}
 use Rattle.std.specs.Prelude.{Option, None, Some}
-use mathlib.Core.Bool.{Bool, true, false, not, ◌||◌, true≢false}
+use mathlib.Core.Bool.{true, false, not, true≢false}
 use lib.Dec.{eqb, ltb}
 use lib.ListN.{length}
 use borrow.Author.Tests.{eqb-true, eqb-false, ltb-false, leb-false, not-false}
+use Rattle.std.proofs.lemmas.Bool.{or_parts}
+use Rattle.graph.proofs.Calls.{when_none}
 use Rattle.lists.proofs.Member.{none_some}
 use Rattle.node.specs.declared.record.NodeId.{NodeId}
 use Rattle.node.specs.declared.record.Node.{Node}
@@ -22,17 +24,9 @@ use Rattle.store.specs.declared.voices.Voice.{Voice}
 use Rattle.model.specs.SharedState.{SharedState}
 use Rattle.model.specs.Refuse.{or_else, rank_limit, no_headroom, no_ids, spawn_refusal}
 
-pub when_none : (b : Bool) (r : Refusal) (o : Option Refusal) → when b r o ≡ None → (b ≡ false) × (o ≡ None)
-when_none true r o h = absurd (none_some (sym h))
-when_none false r o h = (refl, h)
-
-or_else_none : (o r : Option Refusal) → or_else o r ≡ None → (o ≡ None) × (r ≡ None)
+pub or_else_none : (o r : Option Refusal) → or_else o r ≡ None → (o ≡ None) × (r ≡ None)
 or_else_none (Some x) r h = absurd (none_some (sym h))
 or_else_none None r h = (refl, h)
-
-pub or_false : (a b : Bool) → (a || b) ≡ false → (a ≡ false) × (b ≡ false)
-or_false true b h = absurd (true≢false h)
-or_false false b h = (refl, h)
 
 -- a live node of the host
 abbrev pub HostAt : List Node → NodeId → Type 0
@@ -63,9 +57,9 @@ spawn_allowed d vs def bus rank h =
     let h₃ = when_none (eqb (ports_of (node_at d.graph.nodes bus)) 0) BusWithoutPorts _ h₂.1 in
     let h₄ = when_none (no_headroom d vs def) TableFull _ h₃.1 in
     let h₅ = when_none (no_ids d def) IdsUsedUp None h₄.1 in
-    let r = or_false (ltb 512 (length d.graph.nodes + def.nodes.count + 3)) _ h₄.0 in
-    let s = or_false (ltb 1024 (length d.graph.edges + def.edges.count + 4)) _ r.1 in
-    let t = or_false (ltb id_limit (d.graph.next + def.nodes.count + 3)) _ h₅.0 in
+    let r = or_parts (ltb 512 (length d.graph.nodes + def.nodes.count + 3)) _ h₄.0 in
+    let s = or_parts (ltb 1024 (length d.graph.edges + def.edges.count + 4)) _ r.1 in
+    let t = or_parts (ltb id_limit (d.graph.next + def.nodes.count + 3)) _ h₅.0 in
     let some-port = eqb-false _ _ h₃.0 in
     record {
       rank_low = ltb-false _ _ h₀.0;

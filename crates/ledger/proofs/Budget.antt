@@ -94,9 +94,6 @@ Within c vs = (k : ℕ) → c.budget ≡ Some k → Few c.scope k vs
 abbrev WithinOf : Ledger → Type 0
 WithinOf l = IdsOf l × Within l.shared.config l.voices
 
-at_most : {a b : ℕ} → Some a ≡ Some b → a ≡ b
-at_most e = cc
-
 within_preserved : Preserves WithinOf
 within_preserved =
     voices_only (λ c b n vs. Ids n vs × Within c vs)

@@ -1,15 +1,19 @@
 -- The tables hold what every list of calls makes: 512 live nodes, 1,024 edges, 64 voices, 256 pending events, and the newest 64 steal
 -- records. So nothing overflows in the store.
-use Prim.Native.Nat.{ℕ, suc, ◌+◌, ◌≤◌, ◌<◌, min}
+use Prim.Native.Nat.{ℕ, suc, ◌+◌, ◌≤◌, ◌<◌}
 use native.Mathlib.Omega.{arith}
-use native.Mathlib.Nat.{min-le_left}
 use mathlib.Core.Path.{◌≡◌, refl, sym, ap, ◌∙◌}
 use mathlib.Core.List.{List, [], ◌∷◌, ◌++◌, map}
 use Rattle.std.specs.Prelude.{Option, None, Some, find, is_some, option_map}
 use mathlib.Core.Bool.{Bool, true, false, not, cond, ◌&&◌, ◌||◌, false≢true}
 use lib.Dec.{eqb, leb}
-use lib.ListN.{length, length-append, length-map, length-take, take}
+use lib.ListN.{length, length-append, length-map}
 use borrow.Author.Tests.{eqb-true, leb-false}
+use Rattle.std.proofs.lemmas.List.{length_push}
+use Rattle.model.proofs.Grown.{grown_edges, wired_nodes}
+use Rattle.edges.proofs.Wiring.{length_wired}
+use Rattle.synthdef.proofs.Rows.{rows_few}
+use Rattle.graph.proofs.Calls.{when_none}
 use Rattle.lists.specs.Member.{In}
 use Rattle.lists.proofs.Member.{some_inj, none_some, and_left, and_right}
 use Rattle.lists.proofs.Find.{find_in}
@@ -47,7 +51,7 @@ use Rattle.ledger.specs.Render.{one_more, counted_if}
 use Rattle.ledger.specs.Call.{step, run}
 use Rattle.ledger.specs.Claim.{owner_at}
 use Rattle.ledger.proofs.Words.{Headroom}
-use Rattle.ledger.proofs.Allowed.{when_none, spawn_allowed}
+use Rattle.ledger.proofs.Allowed.{spawn_allowed}
 use Rattle.ledger.proofs.Preserved.{place_kept, Preserves, step_kept, unless_spawn_kept}
 use Rattle.ledger.proofs.Managed.{managed_kept}
 use Rattle.ledger.proofs.EdgeInvariant.{edge_put}
@@ -58,12 +62,6 @@ use Rattle.ledger.proofs.Spawns.{InvariantOf, ids_of_lem}
 use Rattle.ledger.proofs.Simulation.{RunInvariant, kept_step_lem}
 
 -- ---- lengths
-length_snoc : {A : Type 0} (l : List A) (x : A) → length (l ++ (x ∷ [])) ≡ length l + 1
-length_snoc l x = length-append l (x ∷ [])
-
-length_wired : (es : List Edge) (e : Edge) → length (wired es e) ≤ length es + 1
-length_wired es e = omega (arith, length_snoc (drop_at es e.to e.port) e, length_filter (λ d. not (ends_at e.to e.port d)) es)
-
 -- "a replaced edge needs no place"
 length_replaced : (es : List Edge) (e : Edge) → taken es e.to e.port ≡ true → length (wired es e) ≤ length es
 length_replaced es e h = go (find (ends_at e.to e.port) es) refl h
@@ -73,21 +71,13 @@ length_replaced es e h = go (find (ends_at e.to e.port) es) refl h
     go (Some d) q h =
         let r = find_in (ends_at e.to e.port) es d q in
         let k = count_filter_lt (λ x. true) (λ d. not (ends_at e.to e.port d)) es d r.0 refl (ap not r.1) in
-        omega (arith, k, length_snoc (drop_at es e.to e.port) e, count_all es, count_all (drop_at es e.to e.port))
+        omega (arith, k, length_push (drop_at es e.to e.port) e, count_all es, count_all (drop_at es e.to e.port))
 
 -- a voice's nodes and wires
 module _ where
   grown_nodes : (xs : List Node) (g : GraphView) → length (append_all g xs).nodes ≡ length g.nodes + length xs
   grown_nodes [] g = omega arith
-  grown_nodes (x ∷ xs) g = let e = length_snoc g.nodes (with_id g.next x) in omega (arith, e, grown_nodes xs (change.append g x))
-
-  grown_edges : (xs : List Node) (g : GraphView) → (append_all g xs).edges ≡ g.edges
-  grown_edges [] g = refl
-  grown_edges (x ∷ xs) g = grown_edges xs (change.append g x)
-
-  wired_nodes : (base : ℕ) (ws : List Wire) (g : GraphView) → (wire_all base g ws).nodes ≡ g.nodes
-  wired_nodes base [] g = refl
-  wired_nodes base (w ∷ ws) g = wired_nodes base ws (change.connect g (id (base + w.from)) (id (base + w.to)) w.port)
+  grown_nodes (x ∷ xs) g = let e = length_push g.nodes (with_id g.next x) in omega (arith, e, grown_nodes xs (change.append g x))
 
   wired_edges : (base : ℕ) (ws : List Wire) (g : GraphView) → length (wire_all base g ws).edges ≤ length g.edges + length ws
   wired_edges base [] g = omega arith
@@ -102,9 +92,6 @@ length_counted (e ∷ es) = go (not (edges.taken e es)) (length_counted es)
     go : (b : Bool) → length (edges.counted es) ≤ length es → length (cond b (e ∷ (edges.counted es)) (edges.counted es)) ≤ suc (length es)
     go true h = omega arith
     go false h = omega arith
-
-rows_few : {A : Type 0} (capacity count : ℕ) (l : List A) → length (take (min count capacity) l) ≤ count
-rows_few capacity count l = omega (arith, length-take (min count capacity) l, min-le_left (min count capacity) (length l), min-le_left count capacity)
 
 pub nodes_few : (w : VoiceId) (def : SynthDef) (pan : Bool) → length (voice_nodes w def pan) ≤ def.nodes.count + 2
 nodes_few w def pan = go pan (nodes_count w def pan)
@@ -154,7 +141,7 @@ room_instantiate spawn s p l r =
     record {
       nodes = omega (arith, r.nodes, length-map l.shared.graph.nodes (raise_noise spawn.bus), ap length (wired_nodes g.next ws g₁), grown_nodes xs g, nodes_few (next_voice l.shared) spawn.def (pans spawn.pan));
       edges = omega (arith, r.edges, length_wired (wire_all g.next g₁ ws).edges (change.edge (id (g.next + voice_out spawn.def (pans spawn.pan))) spawn.bus p), wired_edges g.next ws g₁, ap length (grown_edges xs g), wires_few spawn.def (pans spawn.pan));
-      voices = omega (arith, r.voices, length_snoc l.voices (new_voice spawn s p l.shared));
+      voices = omega (arith, r.voices, length_push l.voices (new_voice spawn s p l.shared));
       events = r.events;
     }
   where
@@ -208,7 +195,7 @@ room_steal n e l s v i t r = go (port_held v l) refl
     go None h = let q = room_cut (n + 1) (e + 1) 1 l v Tracked r in record { nodes = omega (arith, q.nodes); edges = omega (arith, q.edges); voices = q.voices; events = q.events }
     go (Some p) h =
         record {
-          nodes = omega (arith, r.nodes, length_snoc g.nodes (with_id g.next (fade_node v.id)));
+          nodes = omega (arith, r.nodes, length_push g.nodes (with_id g.next (fade_node v.id)));
           edges = omega (arith, r.edges, length_wired g.edges e₁, length_replaced (wired g.edges e₁) (change.edge (id g.next) v.bus p) (still p (held_edge l s v i t p h)));
           voices = rw (length-map l.voices (begin_fade v.id (fade_of l.shared))) r.voices;
           events = r.events;
@@ -251,7 +238,7 @@ room_preserved =
     record {
       add_node = λ l kind ports required values glides e r.
           let h = free_node l.shared.graph kind ports required e in
-          record { nodes = omega (arith, h, length_snoc l.shared.graph.nodes (with_id l.shared.graph.next (host_node kind ports required values glides))); edges = r.edges; voices = r.voices; events = r.events };
+          record { nodes = omega (arith, h, length_push l.shared.graph.nodes (with_id l.shared.graph.next (host_node kind ports required values glides))); edges = r.edges; voices = r.voices; events = r.events };
       remove_node = λ l k e r.
           record {
             nodes = omega (arith, r.nodes, length_filter (λ x. not (is_node k x)) l.shared.graph.nodes);

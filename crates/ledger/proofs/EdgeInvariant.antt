@@ -10,8 +10,9 @@ use Rattle.std.specs.Prelude.{Some, find, cond}
 use mathlib.Core.Bool.{Bool, true, false, not, ◌&&◌, false≢true}
 use lib.Dec.{eqb}
 use borrow.Author.Tests.{eqb-true, eq-eqb, not-true}
+use Rattle.std.proofs.lemmas.Bool.{and_from}
 use Rattle.lists.specs.Member.{In}
-use Rattle.lists.proofs.Member.{and_left, and_right, both, in_snoc, in_map}
+use Rattle.lists.proofs.Member.{and_left, and_right, in_snoc, in_map}
 use Rattle.lists.proofs.Filter.{in_filter}
 use Rattle.lists.specs.Find.{Once}
 use Rattle.lists.proofs.Find.{find_in, none_find, find_snoc_off, find_snoc_none, find_filter_same, once_filter, once_snoc}
@@ -71,7 +72,7 @@ pub ends_at_lem : (k : NodeId) (p : ℕ) (e : Edge) → ends_at k p e ≡ true �
 ends_at_lem k p e h = (eqb-true _ _ (and_left _ _ h), eqb-true _ _ (and_right (eqb e.to.0 k.0) _ h))
 
 pub at_ends : (k : NodeId) (p : ℕ) (e : Edge) → e.to.0 ≡ k.0 → e.port ≡ p → ends_at k p e ≡ true
-at_ends k p e a b = both _ _ (eq-eqb _ _ a) (eq-eqb _ _ b)
+at_ends k p e a b = and_from _ _ (eq-eqb _ _ a) (eq-eqb _ _ b)
 
 pub edge_at_lem : (es : List Edge) (k : NodeId) (p : ℕ) (e : Edge) → find (ends_at k p) es ≡ Some e → In e es × (e.to.0 ≡ k.0) × (e.port ≡ p)
 edge_at_lem es k p e h = let r = find_in (ends_at k p) es e h in let t = ends_at_lem k p e r.1 in (r.0, t.0, t.1)

@@ -10,7 +10,7 @@ use mathlib.Core.Bool.{Bool, true, false, not, cond, ◌&&◌, ◌||◌}
 use lib.Dec.{eqb}
 use borrow.Author.Tests.{eqb-true, eq-eqb, ne_eqb}
 use Rattle.lists.specs.Member.{In}
-use Rattle.lists.proofs.Member.{some_inj, and_left}
+use Rattle.lists.proofs.Member.{some_inj, and_left, cond_same}
 use Rattle.lists.specs.Find.{filter_o}
 use Rattle.lists.proofs.Find.{find_filter}
 use Rattle.node.specs.declared.record.NodeId.{NodeId}
@@ -21,10 +21,6 @@ use Rattle.model.specs.Voice.{id}
 use Rattle.ledger.specs.Holder.{Holder, nobody, voice, is_held, by_voice, by_host, hold, drop_voice, drop_node}
 use Rattle.ledger.specs.Claim.{Owners, holder_of, source_holds, held_by, is_host, holds_at}
 use Rattle.ledger.proofs.EdgeInvariant.{EdgeInvariant, Same, edge_at_lem, edge_put}
-
-cond_same : {A : Type 0} (b : Bool) (x : A) → cond b x x ≡ x
-cond_same true x = refl
-cond_same false x = refl
 
 eqb_sym : (a b : ℕ) → eqb a b ≡ eqb b a
 eqb_sym a b = go (ℕ_discrete a b)

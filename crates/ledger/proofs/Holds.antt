@@ -4,7 +4,7 @@ use native.Mathlib.Omega.{arith}
 use mathlib.Core.Path.{◌≡◌, refl, sym, ap, ap₂, ◌∙◌, subst}
 use mathlib.Core.Logic.{◌⊎◌, ◌↔◌, ⊎_elim, inl, inr}
 use mathlib.Core.List.{List, [], ◌∷◌, ◌++◌, map}
-use Rattle.std.specs.Prelude.{Option, None, Some, find, option_map, filter, Result, Ok}
+use Rattle.std.specs.Prelude.{Option, None, Some, find, option_map, filter, Ok}
 use mathlib.Core.Bool.{Bool, true, false, not, true≢false}
 use lib.ListN.{length, length-map}
 use borrow.Author.Tests.{eqb-true, not-true}
@@ -53,7 +53,7 @@ use Rattle.ledger.proofs.Simulation.{RunInvariant, kept_step_lem}
 use Rattle.ledger.proofs.Capacity.{RoomOf}
 use Rattle.ledger.proofs.Nodes.{OwnNodes}
 use Rattle.ledger.proofs.Records.{RecordedOf}
-use Rattle.ledger.proofs.Marks.{fate_voices, log_stays, marks, tallies}
+use Rattle.ledger.proofs.Marks.{fate_voices, log_stays, marks, tallies, spawned_inj}
 use Rattle.ledger.proofs.FadeEnds.{leaves_removed}
 use Rattle.ledger.proofs.Clearing.{cleared_voices, cleared_count}
 use Rattle.ledger.proofs.SpawnFailure.{spawn_answer_lem}
@@ -188,13 +188,10 @@ module _ (c : Config) (l : Ledger) (known : Known c l) where
   under_budget : state_under l.shared.config.budget ≡ state_under c.budget
   under_budget = ap (λ (z : Config). state_under z.budget) is
 
-  spawned_is : {a b : Result VoiceId Refusal} → call.spawned a ≡ call.spawned b → a ≡ b
-  spawned_is e = cc
-
   managed_arrives : (x : Spawn) (w : VoiceId) → (step (call.spawn_managed x) l).answer ≡ call.spawned (Ok w) → Arrives x (state_under c.budget) w (store_of c l) (store_of c (step (call.spawn_managed x) l).ledger)
   managed_arrives x w e =
       arrives_shown (call.spawn_managed x) x (state_under c.budget) (under_same (λ n. n * c.block) c.budget) w
-      (subst (λ z. ArrivesAt x.bus x.rank z w l (step (call.spawn_managed x) l).ledger) under_budget (managed_comes x l w (spawned_is e)))
+      (subst (λ z. ArrivesAt x.bus x.rank z w l (step (call.spawn_managed x) l).ledger) under_budget (managed_comes x l w (spawned_inj e)))
 
   node_added : (kind : List ℕ) (ports required : ℕ) (values glides : Bool) (k : NodeId) → (step (call.add_node kind ports required values glides) l).answer ≡ call.node k
       → In k.0 (node_ids (step (call.add_node kind ports required values glides) l).ledger.shared.graph.nodes) × (In k.0 (node_ids l.shared.graph.nodes) → ⊥)
@@ -265,7 +262,7 @@ module _ (c : Config) (l : Ledger) (known : Known c l) where
             ∙ ap call.spawned (sym (answer_same c x.bus x.rank l is known.kept.sound)));
         arrives = λ x w. next (call.spawn_managed x) (λ t. t.answer ≡ call.spawned (Ok w) → Arrives x (state_under c.budget) w (store_of c l) t.model) (managed_arrives x w);
         arrives_loose = λ x w. next (call.spawn_loose x) (λ t. t.answer ≡ call.spawned (Ok w) → Arrives x Loose w (store_of c l) t.model) (λ e.
-            arrives_shown (call.spawn_loose x) x Loose refl w (loose_comes x l w (spawned_is e)));
+            arrives_shown (call.spawn_loose x) x Loose refl w (loose_comes x l w (spawned_inj e)));
         adds = λ kind ports required values glides k. next (call.add_node kind ports required values glides)
             (λ t. t.answer ≡ call.node k → In k.0 (node_ids t.model.shared.graph.nodes) × (In k.0 (node_ids l.shared.graph.nodes) → ⊥)) (node_added kind ports required values glides k);
         wires = wired;

@@ -5,8 +5,9 @@ use native.Mathlib.Omega.{arith}
 use mathlib.Core.Path.{◌≡◌, refl, sym, ap, ◌∙◌}
 use mathlib.Core.List.{List, [], ◌∷◌, ◌++◌}
 use Rattle.std.specs.Prelude.{None, Some, filter}
-use mathlib.Core.Bool.{Bool, true, false, not, cond, ◌||◌, false≢true}
+use mathlib.Core.Bool.{Bool, true, false, not, cond}
 use borrow.Author.Tests.{ne_eqb, not-true}
+use Rattle.std.proofs.lemmas.Bool.{or_parts}
 use Rattle.lists.specs.Member.{In}
 use Rattle.lists.proofs.Member.{some_inj, none_some}
 use Rattle.lists.proofs.Filter.{in_filter}
@@ -105,12 +106,8 @@ module _ {ns : List Node} {es : List Edge} {nx nv : ℕ} {vs : List Voice} {h : 
     stays : (e : Edge) → In e es₂ → In e es × (dead_at e.from.0 ≡ false) × (dead_at e.to.0 ≡ false)
     stays e i =
         let r = in_filter (λ e. not (touches (ids_of goes ns) e)) es e i in
-        let q = neither (dead_at e.from.0) (dead_at e.to.0) (not-true _ r.1) in
+        let q = or_parts (dead_at e.from.0) (dead_at e.to.0) (not-true _ r.1) in
         (r.0, q.0, q.1)
-      where
-        neither : (a b : Bool) → (a || b) ≡ false → (a ≡ false) × (b ≡ false)
-        neither true b f = absurd (false≢true (sym f))
-        neither false b f = (refl, f)
 
     alive : (n : ℕ) → dead_at n ≡ false → owner_at ns₂ n ≡ owner_at ns n
     alive n f = owner_thin s.listed goes n ∙ rw f

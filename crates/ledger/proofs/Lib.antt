@@ -25,7 +25,6 @@ pub mod Budget
 pub mod StealLog
 pub mod Records
 pub mod Marks
-pub mod Upto
 pub mod Nodes
 pub mod Leaves
 pub mod Clearing

@@ -12,8 +12,9 @@ use mathlib.Core.Bool.{Bool, true, false, not, cond, ◌&&◌, ◌||◌, false�
 use lib.Dec.{eqb, leb, ltb}
 use lib.ListN.{length, length-append}
 use borrow.Author.Tests.{eq-eqb, ne_eqb, eqb-true, not-true, leb-true}
+use Rattle.std.proofs.lemmas.Bool.{and_from}
 use Rattle.lists.specs.Member.{In}
-use Rattle.lists.proofs.Member.{in_snoc, in_left, in_right, in_map, in_of_map, and_left, and_right, both, some_inj, none_some}
+use Rattle.lists.proofs.Member.{in_snoc, in_left, in_right, in_map, in_of_map, and_left, and_right, some_inj, none_some}
 use Rattle.lists.proofs.Find.{find_in, find_filter_same, find_snoc_off, find_map}
 use Rattle.lists.proofs.Filter.{in_filter, filter_in}
 use Rattle.lists.proofs.Count.{count_length}
@@ -45,7 +46,7 @@ use Rattle.ledger.proofs.Ids.{unique, once}
 use Rattle.ledger.proofs.StealLog.{held_pushed, held_new, held_marked, held_unmarked, count_pushed}
 use Rattle.ledger.proofs.Nodes.{MineOf, OwnNodes, mine_cut, mine_steal, node_stays}
 use Rattle.ledger.proofs.Managed.{begin_id}
-use Rattle.ledger.proofs.Records.{RecordedOf, tracked_state, fade_inj, recorded_cut, recorded_steal, steal_small, begun, begin_other}
+use Rattle.ledger.proofs.Records.{RecordedOf, tracked_state, fade_inj, recorded_cut, recorded_steal, steal_small, begun, begin_other, tracked_fading}
 use Rattle.ledger.proofs.Marks.{tally_of, tally_cut, tally_steal, removed_self}
 
 -- ---- laws of these
@@ -115,9 +116,6 @@ nothing_lost bus r l =
       records = tt;
     }
 
-tracked_fades : (f : Fade) → Tracked ≡ Fading f → ⊥
-tracked_fades f e = let z : ◌≡◌ {A = ℕ} 0 1 = cc in omega arith
-
 -- ---- during a managed spawn that found the ledger l₀, with the victim o of the admission
 module _ (bus : NodeId) (rank : ℕ) (l₀ : Ledger) (r₀ : RecordedOf l₀) (q₀ : OwnNodes l₀) (few : length l₀.voices < 64) (o : Option Voice) where
   abbrev k₀ : ℕ
@@ -149,7 +147,7 @@ module _ (bus : NodeId) (rank : ℕ) (l₀ : Ledger) (r₀ : RecordedOf l₀) (q
   -- what was tracked in z was there before, as it is
   module _ (z : Ledger) (h : Losing z) (v : Voice) (i : In v z.voices) where
     pub tracked_from : v.state ≡ Tracked → In v l₀.voices
-    tracked_from t = ⊎_elim (λ j. j) (λ s. absurd (tracked_fades (fade_of l₀.shared) (sym t ∙ ap (λ (x : Voice). x.state) s.4))) (h.from v i)
+    tracked_from t = ⊎_elim (λ j. j) (λ s. absurd (tracked_fading (fade_of l₀.shared) (sym t ∙ ap (λ (x : Voice). x.state) s.4))) (h.from v i)
 
     -- and its level is what it was: no part of the spawn changed its nodes
     level_same : voice_level z.shared v ≡ voice_level l₀.shared v
@@ -229,7 +227,7 @@ module _ (bus : NodeId) (rank : ℕ) (l₀ : Ledger) (r₀ : RecordedOf l₀) (q
           apart = apart_snoc h.lost v (lost_other z h v i t) h.apart;
           others = λ u j. ⊎_elim (h.others u) (λ e. subst (λ x. (o ≡ Some x) ⊎ (is_on bus x ≡ true)) (sym e) why) (in_snoc h.lost v u j);
           below = λ u j. ⊎_elim (h.below u) (λ e. subst (λ (x : Voice). x.rank ≤ rank) (sym e) low) (in_snoc h.lost v u j);
-          lowest = λ u y j k s on. let m = (in_rest y k).0 in ⊎_elim (λ i. h.lowest u y i m s on) (λ e. subst (λ (x : Voice). x.rank ≤ y.rank) (sym e) (least y m (both _ _ (ap is_tracked s) on))) (in_snoc h.lost v u j);
+          lowest = λ u y j k s on. let m = (in_rest y k).0 in ⊎_elim (λ i. h.lowest u y i m s on) (λ e. subst (λ (x : Voice). x.rank ≤ y.rank) (sym e) (least y m (and_from _ _ (ap is_tracked s) on))) (in_snoc h.lost v u j);
           count = let a = count_pushed b rec small in let e = h.count in let n = length-append h.lost (v ∷ []) in omega arith;
           records =
               records_snoc (loss_of l₀.shared rest) (pushed b rec) k₀ h.lost v
@@ -264,7 +262,7 @@ module _ (bus : NodeId) (rank : ℕ) (l₀ : Ledger) (r₀ : RecordedOf l₀) (q
           lost = h.lost;
           were = h.were;
           away = λ u j k. h.away u j (in_rest u k).0;
-          all = all_rest h.lost (inr (λ e. tracked_fades f (sym e ∙ t))) (λ u j. j);
+          all = all_rest h.lost (inr (λ e. tracked_fading f (sym e ∙ t))) (λ u j. j);
           apart = h.apart;
           others = h.others;
           below = h.below;
@@ -285,7 +283,7 @@ module _ (bus : NodeId) (rank : ℕ) (l₀ : Ledger) (r₀ : RecordedOf l₀) (q
             records_same (loss_of l₀.shared z.voices) (loss_of l₀.shared rest) b (marked b f.number) k₀ h.lost
             (λ g k. loss_other v.id z.voices g (λ e.
             let s : g ≡ v = unique r₀.ids g v (h.were g k).0 j e in
-            tracked_fades f (sym (h.were g k).1 ∙ ap (λ (x : Voice). x.state) s ∙ t)))
+            tracked_fading f (sym (h.were g k).1 ∙ ap (λ (x : Voice). x.state) s ∙ t)))
             (λ j lo hi. held_unmarked b f.number j (λ e. omega (arith, e, n, lo))) h.records
 
         this : Started v → Marked h.lost
@@ -367,7 +365,7 @@ module _ (bus : NodeId) (rank : ℕ) (l₀ : Ledger) (r₀ : RecordedOf l₀) (q
         apart = (λ u j. absurd j, tt);
         others = λ u j. only u j (λ x. (o ≡ Some x) ⊎ (is_on bus x ≡ true)) (inl is);
         below = λ u j. only u j (λ x. x.rank ≤ rank) low;
-        lowest = λ u y j k s on. only u j (λ x. x.rank ≤ y.rank) (⊎_elim (λ e. absurd (tracked_fades f₀ (sym s ∙ ap (λ (x : Voice). x.state) e))) (λ m. least y m.0 (both _ _ (ap is_tracked s) on)) (begun r₀.ids v i f₀ y k));
+        lowest = λ u y j k s on. only u j (λ x. x.rank ≤ y.rank) (⊎_elim (λ e. absurd (tracked_fading f₀ (sym s ∙ ap (λ (x : Voice). x.state) e))) (λ m. least y m.0 (and_from _ _ (ap is_tracked s) on)) (begun r₀.ids v i f₀ y k));
         count = count_pushed b rec small;
         records = (held_new b rec small r₀.newest ∙ ap Some (ap (λ x. record_of l₀.shared.clock (voice_level l₀.shared v) (not (is_some x))) (sym there)), tt);
       }
@@ -396,7 +394,7 @@ module _ (bus : NodeId) (rank : ℕ) (l₀ : Ledger) (r₀ : RecordedOf l₀) (q
 
       without_voice : In v (map begins l₀.voices) → ⊥
       without_voice j =
-          ⊎_elim (λ e. tracked_fades f₀ (sym t ∙ ap (λ (x : Voice). x.state) e)) (λ r. false≢true (sym r.1 ∙ eq-eqb v.id.0 v.id.0 refl)) (begun r₀.ids v i f₀ v j)
+          ⊎_elim (λ e. tracked_fading f₀ (sym t ∙ ap (λ (x : Voice). x.state) e)) (λ r. false≢true (sym r.1 ∙ eq-eqb v.id.0 v.id.0 refl)) (begun r₀.ids v i f₀ v j)
 
       go : (u : Voice) → In u l₀.voices → Dec (u.id.0 ≡ v.id.0) → In u (v ∷ []) ⊎ In u (map begins l₀.voices)
       go u j (yes e) = inl (inl (unique r₀.ids u v j i e))
@@ -524,7 +522,7 @@ losses x l r q = go (spawn_refusal l.shared l.voices x.def x.bus x.rank) refl
     counts s b = (u : Voice) → tracked_on b u ≡ true → counted s b u ≡ true
 
     on_bus_lem : (s : BudgetScope) (b : NodeId) → counts s b
-    on_bus_lem Global b u h = both _ _ (and_left (is_tracked u.state) _ h) refl
+    on_bus_lem Global b u h = and_from _ _ (and_left (is_tracked u.state) _ h) refl
     on_bus_lem PerGroup b u h = h
 
     admits : length l.voices < 64 → (a : Admission) → admission_on bus x.rank l ≡ a → LossesOf bus x.rank (victim_in None a l.voices) l (admitted a x l).ledger

@@ -8,6 +8,7 @@ use mathlib.Core.Bool.{Bool, true, false, not, cond, ◌&&◌, true≢false}
 use lib.Dec.{eqb, leb}
 use lib.Ieee.{Float, nan, inf, fin, up, down}
 use borrow.Author.Tests.{leb-true, eqb-true, not-false}
+use Rattle.graph.proofs.Calls.{when_none}
 use Rattle.lists.proofs.Member.{some_inj, none_some, and_left, and_right}
 use Rattle.node.specs.declared.refusal.Refusal.{Refusal}
 use Rattle.node.specs.declared.refusal.Refusal.TheVariants.{SampleRate, BlockSize, BudgetTooLarge, TableRate}
@@ -17,7 +18,6 @@ use Rattle.bus.specs.Fade.{fade_length}
 use Rattle.model.specs.Refuse.{no_rate, over_budget, table_rate, other_rate}
 use Rattle.model.specs.Model.{Model}
 use Rattle.model.specs.Make.{Making, whole_or0, config_of, refusal_of, new_model, made_unless, make}
-use Rattle.ledger.proofs.Allowed.{when_none}
 
 whole_bound : (a b n : ℕ) → whole_rate a b ≡ gives n → n ≤ 384000
 whole_bound a b n h = go (eqb (a % b) 0 && (leb 1 (a / b) && leb (a / b) 384000)) refl h

@@ -259,13 +259,13 @@ module _ (spawn : Spawn) (n : ℕ) where
           let c = count_snoc tracks z.voices (new_voice spawn (state_under m.shared.config.budget) p z.shared) ∙ ap (λ b. more (is_tracked (state_under b)) (count tracks z.voices)) b in
           omega arith
 
+pub spawned_inj : {x y : Result VoiceId Refusal} → call.spawned x ≡ call.spawned y → x ≡ y
+spawned_inj h = cc
+
 pub tallies : (spawn : Spawn) (n : ℕ) (l : Ledger) → l.shared.config.budget ≡ Some n → RecordedOf l → (a : Result VoiceId Refusal) → (step (call.spawn_managed spawn) l).answer ≡ call.spawned a
     → tally_of (step (call.spawn_managed spawn) l).ledger ≡ more (is_let a) (tally_of l)
 tallies spawn n l b r a e = all ∙ ap (λ x. more (is_let x) (tally_of l)) (spawned_inj e)
   where
-    spawned_inj : {x y : Result VoiceId Refusal} → call.spawned x ≡ call.spawned y → x ≡ y
-    spawned_inj h = cc
-
     go : (o : Option Refusal) → Tallies spawn n (tally_of l) (unless o l (admitted (admission_on spawn.bus spawn.rank l) spawn l))
     go (Some k) = refl
     go None =

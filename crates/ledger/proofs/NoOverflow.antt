@@ -11,6 +11,7 @@ use mathlib.Core.Bool.{Bool, true, false, not, cond}
 use lib.Ieee.{Float}
 use lib.ListN.{length}
 use borrow.Author.Tests.{ltb-false}
+use Rattle.graph.proofs.Calls.{when_none}
 use Rattle.lists.specs.Member.{In}
 use Rattle.lists.proofs.Member.{in_snoc, in_map}
 use Rattle.lists.proofs.Filter.{in_filter}
@@ -47,7 +48,6 @@ use Rattle.ledger.specs.Ledger as ledger
 use Rattle.ledger.specs.Clear.{without_voices, ended_voices, silent_voices}
 use Rattle.ledger.specs.Render.{one_more, apply_event, apply_events, counted_if, block_of, prepared_if, rested}
 use Rattle.ledger.specs.Call.{Step, unless, step, render_step, position, shown}
-use Rattle.ledger.proofs.Allowed.{when_none}
 use Rattle.ledger.proofs.Preserved.{at_shared, place_kept, Preserves, kept_step_lem, both_preserved}
 use Rattle.ledger.proofs.Abstraction.{reached, stored}
 use Rattle.ledger.proofs.Managed.{IdsOf, ids_steal, ids_budgeted, ids_preserved, managed_kept}

@@ -10,6 +10,8 @@ use Rattle.std.specs.Prelude.{Option, None, Some, filter}
 use mathlib.Core.Bool.{Bool, true, false, not, cond, false≢true}
 use lib.ListN.{length}
 use borrow.Author.Tests.{eqb-true, ne_eqb}
+use Rattle.model.proofs.Grown.{grown_next}
+use Rattle.rank.proofs.Cycle.{count_in}
 use Rattle.lists.specs.Member.{In}
 use Rattle.lists.proofs.Member.{in_snoc, in_map, map_same}
 use Rattle.lists.proofs.Find.{find_in, find_none, none_find, find_filter_some}
@@ -39,7 +41,6 @@ use Rattle.ledger.specs.Clear.{ended, without_voices, ended_voices}
 use Rattle.ledger.specs.Render.{one_more, counted_if}
 use Rattle.ledger.specs.Call.{run}
 use Rattle.ledger.proofs.Raised.{in_raised}
-use Rattle.ledger.proofs.Upto.{up_in}
 use Rattle.ledger.proofs.Ids.{unique}
 use Rattle.ledger.proofs.Preserved.{place_kept, Preserves, kept_run}
 use Rattle.ledger.proofs.Managed.{IdsOf, managed_kept, ids_preserved, ids_budgeted, ids_steal}
@@ -112,10 +113,6 @@ mine_replaced {ns} {next} {vs} k x n e i o m =
         go z q false s = (z, q, (ap (λ (w : Node). w.id.0) s, ap (λ (w : Node). w.owner.0) s))
 
 -- ---- a new voice's nodes
-pub grown_next : (xs : List Node) (g : GraphView) → (append_all g xs).next ≡ g.next + length xs
-grown_next [] g = omega arith
-grown_next (x ∷ xs) g = grown_next xs (change.append g x) ∙ omega arith
-
 -- an old node, or one of the new ones, under a new id
 pub in_grown : (xs : List Node) (g : GraphView) (x : Node) → In x (append_all g xs).nodes
     → In x g.nodes ⊎ ((y : Node) × In y xs × (x.owner.0 ≡ y.owner.0) × (g.next ≤ x.id.0) × (x.id.0 < g.next + length xs))
@@ -274,7 +271,7 @@ module _ (l : Ledger) (q : OwnNodes l) (v : Voice) (i : In v l.voices) where
   silent_stays : (w : VoiceId) → (v.id.0 ≡ w.0 → ⊥) → is_silent (without_voice w l).shared.graph.nodes v ≡ is_silent l.shared.graph.nodes v
   silent_stays w other =
       ap (plan_silent v.plan) (map_same (λ k. done_flag (node_at (without_voice w l).shared.graph.nodes (id (v.first.0 + k)))) (λ k. done_flag (node_at l.shared.graph.nodes (id (v.first.0 + k)))) (upto (min v.count 24))
-      (λ k j. ap done_flag (node_stays w other k (let r = (up_in (min v.count 24) 0 k j).1 in let m = min-le_left v.count 24 in omega arith))))
+      (λ k j. ap done_flag (node_stays w other k (let r = (count_in (min v.count 24) 0 k j).1 in let m = min-le_left v.count 24 in omega arith))))
 
 pub silent_same : (gs : List Voice) (l : Ledger) → OwnNodes l → (v : Voice) → In v l.voices → ((g : Voice) → In g gs → v.id.0 ≡ g.id.0 → ⊥) → is_silent (without_voices gs l).shared.graph.nodes v ≡ is_silent l.shared.graph.nodes v
 silent_same [] l q v i other = refl

@@ -36,6 +36,18 @@ pub owner_some : (o : Option Node) (k : ℕ) → owner_of o ≡ Some k → (x : 
 owner_some None k h = absurd (none_some h)
 owner_some (Some x) k h = (x, refl, some_inj h)
 
+some_if : (x : Node) (b : Bool) → is_some (cond b (Some x) None) ≡ b
+some_if x true = refl
+some_if x false = refl
+
+-- a row that is replaced keeps its id
+pub replaced_id : (n m : Node) → (cond (is_node n.id m) n m).id.0 ≡ m.id.0
+replaced_id n m = go (is_node n.id m) refl
+  where
+    go : (b : Bool) → is_node n.id m ≡ b → (cond b n m).id.0 ≡ m.id.0
+    go true e = sym (eqb-true m.id.0 n.id.0 e)
+    go false e = refl
+
 module _ {ns : List Node} {nx nv : ℕ} (l : Listed ns nx nv) where
   pub once : (k : NodeId) → Once (is_node k) ns
   once k = rises_once (λ (x : Node). x.id.0) 0 ns l.rises k.0
@@ -117,33 +129,18 @@ module _ {ns : List Node} {nx nv : ℕ} (l : Listed ns nx nv) where
   dead_voice w n k h =
       let r = owner_some (node_at ns (id n)) k h in
       let o = r.2 in
-      among_is (owned_by w) (id n) ∙ rw (r.1, o) (go r.0 (eqb k w.0))
-    where
-      go : (x : Node) (b : Bool) → is_some (cond b (Some x) None) ≡ b
-      go x true = refl
-      go x false = refl
+      among_is (owned_by w) (id n) ∙ rw (r.1, o) (some_if r.0 (eqb k w.0))
 
   pub dead_node : (j : NodeId) (n k : ℕ) → owner_at ns n ≡ Some k → among (ids_of (is_node j) ns) (id n) ≡ eqb n j.0
   dead_node j n k h =
       let r = owner_some (node_at ns (id n)) k h in
       let e : r.0.id.0 ≡ n = eqb-true _ _ (find_in (is_node (id n)) ns r.0 r.1).1 in
-      among_is (is_node j) (id n) ∙ rw (r.1, e) (go r.0 (eqb n j.0))
-    where
-      go : (x : Node) (b : Bool) → is_some (cond b (Some x) None) ≡ b
-      go x true = refl
-      go x false = refl
+      among_is (is_node j) (id n) ∙ rw (r.1, e) (some_if r.0 (eqb n j.0))
 
   -- ---- a node's record is replaced by one of the same id, owner and ports
   module _ (y x : Node) (k : NodeId) (h : node_at ns k ≡ Some x) (i : y.id.0 ≡ x.id.0) (o : y.owner.0 ≡ x.owner.0) (p : y.ports ≡ x.ports) where
-    same_id : (m : Node) → (cond (is_node y.id m) y m).id.0 ≡ m.id.0
-    same_id m = go (is_node y.id m) refl
-      where
-        go : (b : Bool) → is_node y.id m ≡ b → (cond b y m).id.0 ≡ m.id.0
-        go true e = sym (eqb-true _ _ e)
-        go false e = refl
-
     look_replaced : (n : ℕ) → node_at (replaced ns y) (id n) ≡ option_map (λ m. cond (is_node y.id m) y m) (node_at ns (id n))
-    look_replaced n = find_map (λ m. cond (is_node y.id m) y m) (is_node (id n)) (is_node (id n)) (λ m. ap (λ j. eqb j n) (same_id m)) ns
+    look_replaced n = find_map (λ m. cond (is_node y.id m) y m) (is_node (id n)) (is_node (id n)) (λ m. ap (λ j. eqb j n) (replaced_id y m)) ns
 
     -- the one of that id is x
     only : (m : Node) → In m ns → is_node y.id m ≡ true → m ≡ x
@@ -183,11 +180,11 @@ module _ {ns : List Node} {nx nv : ℕ} (l : Listed ns nx nv) where
     pub listed_replaced : Listed (replaced ns y) nx nv
     listed_replaced =
         record {
-          rises = rises_map (λ (x : Node). x.id.0) (λ m. cond (is_node y.id m) y m) same_id 0 ns l.rises;
+          rises = rises_map (λ (x : Node). x.id.0) (λ m. cond (is_node y.id m) y m) (replaced_id y) 0 ns l.rises;
           below = λ z j.
               let r = in_map (λ m. cond (is_node y.id m) y m) ns z j in
               let b = l.below r.0 r.1 in
-              let e : z.id.0 ≡ r.0.id.0 = ap (λ (u : Node). u.id.0) r.2 ∙ same_id r.0 in
+              let e : z.id.0 ≡ r.0.id.0 = ap (λ (u : Node). u.id.0) r.2 ∙ replaced_id y r.0 in
               let q : z.owner.0 ≡ r.0.owner.0 = ap (λ (u : Node). u.owner.0) r.2 ∙ same_owner r.0 r.1 in
               (omega (arith, b.0), omega (arith, b.1));
         }

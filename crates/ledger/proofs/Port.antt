@@ -9,8 +9,9 @@ use Rattle.std.specs.Prelude.{Option, None, Some, find, option_map}
 use mathlib.Core.Bool.{Bool, true, false, not, cond, true≢false, false≢true}
 use lib.Dec.{eqb}
 use borrow.Author.Tests.{eqb-true, eq-eqb, ne_eqb}
+use Rattle.std.proofs.lemmas.Bool.{and_from}
 use Rattle.lists.specs.Member.{In}
-use Rattle.lists.proofs.Member.{some_inj, none_some, and_left, and_right, both}
+use Rattle.lists.proofs.Member.{some_inj, none_some, and_left, and_right}
 use Rattle.lists.proofs.Find.{find_in, find_none}
 use Rattle.node.specs.declared.record.NodeId.{NodeId}
 use Rattle.node.specs.declared.record.Node.{Node}
@@ -114,7 +115,7 @@ module _ {ns : List Node} {es : List Edge} {nx nv : ℕ} {vs : List Voice} {h : 
       own d e b (suc k) f = ne_eqb (suc k) v.id.0 (λ z.
           let r = edge_at_lem es v.bus q d e in
           let g = s.ends.leaves v i d r.0 (ap (owner_at ns) r.1 ∙ b, f ∙ ap Some z) in
-          false≢true (sym (find_none (feeds (end_of v) v.bus) es d off r.0) ∙ both _ _ (eq-eqb _ _ (sym g)) (eq-eqb _ _ r.1)))
+          false≢true (sym (find_none (feeds (end_of v) v.bus) es d off r.0) ∙ and_from _ _ (eq-eqb _ _ (sym g)) (eq-eqb _ _ r.1)))
 
       src : owner_at ns v.bus.0 ≡ Some 0 → (o : Option Edge) → find (ends_at v.bus q) es ≡ o → by_voice v.id (held_by (owner_at ns) o) ≡ false
       src b None e = refl

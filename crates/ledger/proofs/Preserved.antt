@@ -10,6 +10,7 @@ use Rattle.std.specs.Prelude.{Option, None, Some, find, filter, Result, Err, Ok}
 use mathlib.Core.Bool.{Bool, true, false, not, cond, true≢false}
 use lib.ListN.{length}
 use lib.Ieee.{Float}
+use Rattle.graph.proofs.Calls.{when_none}
 use Rattle.lists.proofs.Find.{find_in}
 use Rattle.lists.specs.Member.{In}
 use Rattle.lists.proofs.Filter.{in_filter}
@@ -53,7 +54,7 @@ use Rattle.ledger.specs.Clear.{ended, without_voices, ended_voices, silent_voice
 use Rattle.ledger.specs.Render.{apply_event, apply_events, one_more, counted_if, block_of, prepared_if, rested}
 use Rattle.ledger.specs.Call.{Step, unless, step, render_step, run}
 use Rattle.ledger.specs.Claim.{is_managed}
-use Rattle.ledger.proofs.Allowed.{when_none, Allowed, spawn_allowed}
+use Rattle.ledger.proofs.Allowed.{Allowed, spawn_allowed}
 pub use Rattle.ledger.specs.Ledger.{at_shared, at_graph}
 
 -- ---- the port search: what holds of it while n tries are left, and what of its outcome

@@ -10,6 +10,7 @@ use Rattle.std.specs.Prelude.{None, Some, is_some, Result, Err, Ok}
 use mathlib.Core.Bool.{Bool, true, false, cond, ◌&&◌, false≢true}
 use lib.ListN.{length}
 use borrow.Author.Tests.{eqb-true, eq-eqb}
+use Rattle.ledger.proofs.Owner.{replaced_id}
 use Rattle.lists.specs.Member.{In}
 use Rattle.lists.proofs.Member.{some_inj, map_same}
 use Rattle.lists.proofs.Find.{find_in}
@@ -39,7 +40,7 @@ use Rattle.ledger.specs.Call.{step, render_step, run}
 use Rattle.ledger.specs.Claim.{is_sounded}
 use Rattle.ledger.proofs.Preserved.{Preserves, Alike, open_moves, events_kept, kept_run}
 use Rattle.ledger.proofs.Spawning.{Spawning, place_keeps, managed_keeps}
-use Rattle.ledger.proofs.Rows.{Rows, rows_other, rows_preserved, rows_spawning, replaced_id}
+use Rattle.ledger.proofs.Rows.{Rows, rows_other, rows_preserved, rows_spawning}
 
 -- ---- prepare reads of a node its id, its ports and which of them it requires
 lacks_alike : (ids : List ℕ) (es : List Edge) (x n : Node) → Alike x n → lacks ids es n ≡ lacks ids es x

@@ -65,7 +65,7 @@ not_fading s f t e = false≢true (sym (ap is_tracked e) ∙ t)
 pub loose_fading : (f : Fade) → Loose ≡ Fading f → ⊥
 loose_fading f e = let z : ◌≡◌ {A = ℕ} 0 1 = cc in omega arith
 
-tracked_fading : (f : Fade) → Tracked ≡ Fading f → ⊥
+pub tracked_fading : (f : Fade) → Tracked ≡ Fading f → ⊥
 tracked_fading f e = let z : ◌≡◌ {A = ℕ} 0 1 = cc in omega arith
 
 pub fade_inj : {f g : Fade} → Fading f ≡ Fading g → f ≡ g

@@ -2,12 +2,12 @@
 -- next id, nodes go, a node's record is replaced. So nodes stand by rising id, all below the next.
 use Prim.Native.Nat.{ℕ, ◌+◌, ◌<◌}
 use native.Mathlib.Omega.{arith}
-use mathlib.Core.Path.{◌≡◌, refl, sym, ap, ◌∙◌}
+use mathlib.Core.Path.{◌≡◌, ap, ◌∙◌}
 use mathlib.Core.Logic.{⊎_elim}
 use mathlib.Core.List.{List, [], ◌∷◌, ◌++◌}
 use Rattle.std.specs.Prelude.{Some, filter}
-use mathlib.Core.Bool.{Bool, true, false, not, cond}
-use borrow.Author.Tests.{eqb-true}
+use mathlib.Core.Bool.{Bool, not, cond}
+use Rattle.ledger.proofs.Owner.{replaced_id}
 use Rattle.lists.specs.Member.{In}
 use Rattle.lists.proofs.Member.{in_snoc, in_map}
 use Rattle.lists.proofs.Filter.{in_filter}
@@ -88,14 +88,6 @@ rows_more ns next n r =
 
 pub rows_fewer : (ns : List Node) (next : ℕ) (t : Node → Bool) → Rows ns next → Rows (filter t ns) next
 rows_fewer ns next t r = record { rises = rises_filter (λ (x : Node). x.id.0) t 0 ns r.rises; below = λ y i. r.below y (in_filter t ns y i).0 }
-
--- the row keeps its id
-pub replaced_id : (n m : Node) → (cond (is_node n.id m) n m).id.0 ≡ m.id.0
-replaced_id n m = go (is_node n.id m) refl
-  where
-    go : (b : Bool) → is_node n.id m ≡ b → (cond b n m).id.0 ≡ m.id.0
-    go true e = sym (eqb-true m.id.0 n.id.0 e)
-    go false e = refl
 
 pub rows_other : (ns : List Node) (next : ℕ) (n : Node) → Rows ns next → Rows (replaced ns n) next
 rows_other ns next n r =

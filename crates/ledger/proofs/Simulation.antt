@@ -11,6 +11,8 @@ use lib.Dec.{leb}
 use lib.Ieee.{Float}
 use lib.ListN.{length}
 use borrow.Author.Tests.{eqb-true, leb-false, not-false}
+use Rattle.std.proofs.lemmas.Bool.{or_parts}
+use Rattle.graph.proofs.Calls.{when_none}
 use Rattle.lists.specs.Member.{In}
 use Rattle.node.specs.Name.{name_of}
 use Rattle.node.specs.declared.record.NodeId.{NodeId}
@@ -38,7 +40,7 @@ use Rattle.ledger.specs.Ledger.{Ledger, new_ledger, port_held}
 use Rattle.ledger.specs.Render.{rested}
 use Rattle.ledger.specs.Call as ledger
 use Rattle.ledger.specs.Claim.{owner_of}
-use Rattle.ledger.proofs.Allowed.{when_none, or_false, host_at}
+use Rattle.ledger.proofs.Allowed.{host_at}
 use Rattle.ledger.proofs.Managed.{config_step}
 use Rattle.ledger.proofs.Owner.{ports_at}
 use Rattle.ledger.proofs.Invariant.{HostAt, sound_append, sound_removed, sound_connect, sound_disconnect, sound_new}
@@ -69,8 +71,8 @@ connect_ok g a b p h =
     let h₁ = when_none (dead x || dead y) UnknownNode _ h in
     let h₂ = when_none (of_voice x || of_voice y) VoiceNode _ h₁.1 in
     let h₃ = when_none (leb (ports_of y) p) PortOrKind _ h₂.1 in
-    let d = or_false (dead x) (dead y) h₁.0 in
-    let v = or_false (of_voice x) (of_voice y) h₂.0 in
+    let d = or_parts (dead x) (dead y) h₁.0 in
+    let v = or_parts (of_voice x) (of_voice y) h₂.0 in
     (host_is x d.0 v.0, host_is y d.1 v.1, leb-false _ _ h₃.0)
 
 -- ---- every call

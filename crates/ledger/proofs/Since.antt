@@ -7,8 +7,10 @@ use mathlib.Core.Path.{◌≡◌, refl, sym, ap, ◌∙◌, subst}
 use mathlib.Core.Logic.{⊎_elim}
 use mathlib.Core.List.{List, [], ◌∷◌, ◌++◌, map, map-map, append-nil}
 use mathlib.Core.Bool.{Bool, cond}
+use Rattle.std.proofs.lemmas.List.{map-append}
+use Rattle.ledger.proofs.Owner.{replaced_id}
 use Rattle.lists.specs.Member.{In}
-use Rattle.lists.proofs.Member.{in_snoc, in_map, in_of_map, map_append, map_same}
+use Rattle.lists.proofs.Member.{in_snoc, in_map, in_of_map, map_same}
 use Rattle.std.specs.Prelude.{filter}
 use Rattle.lists.proofs.Filter.{in_filter}
 use Rattle.node.specs.declared.record.Node.{Node}
@@ -20,7 +22,7 @@ use Rattle.ledger.specs.Ledger.{Ledger, new_ledger}
 use Rattle.ledger.specs.Call.{run}
 use Rattle.ledger.specs.Claim.{ledger_after, node_ids, voice_ids, NeverReturns}
 use Rattle.ledger.proofs.History.{run_append}
-use Rattle.ledger.proofs.Rows.{nodes_run, replaced_id}
+use Rattle.ledger.proofs.Rows.{nodes_run}
 use Rattle.ledger.proofs.Raised.{raise_id}
 use Rattle.ledger.proofs.Voices.{voices_run}
 
@@ -63,7 +65,7 @@ module _ (ids₀ : List ℕ) (next₀ : ℕ) where
       → Since ids₀ next₀ (node_ids (run xs l).ledger.shared.graph.nodes) (run xs l).ledger.shared.graph.next
   nodes_since =
       nodes_run (λ ns next. Since ids₀ next₀ (node_ids ns) next)
-      (λ ns next n s. subst (λ ids. Since ids₀ next₀ ids (next + 1)) (sym (map_append (λ (x : Node). x.id.0) ns (with_id next n ∷ []))) (since_more ids₀ next₀ (node_ids ns) next next refl s))
+      (λ ns next n s. subst (λ ids. Since ids₀ next₀ ids (next + 1)) (sym (map-append (λ (x : Node). x.id.0) ns (with_id next n ∷ []))) (since_more ids₀ next₀ (node_ids ns) next next refl s))
       (λ ns next t s. since_fewer ids₀ next₀ (node_ids ns) (node_ids (filter t ns)) next (in_kept (λ (x : Node). x.id.0) t ns) s)
       (λ ns next k x n e a s.
       let same : node_ids (replaced ns n) ≡ node_ids ns = map-map (λ (x : Node). x.id.0) (λ m. cond (is_node n.id m) n m) ns ∙ map_same _ (λ (x : Node). x.id.0) ns (λ m i. replaced_id n m) in
@@ -80,7 +82,7 @@ module _ (ids₀ : List ℕ) (next₀ : ℕ) where
       (λ n vs f e s.
       let same : voice_ids (map f vs) ≡ voice_ids vs = map-map (λ (v : Voice). v.id.0) f vs ∙ map_same _ (λ (v : Voice). v.id.0) vs (λ v i. ap (λ w. w.0) (e v)) in
       subst (λ ids. Since ids₀ next₀ ids (n + 1)) (sym same) s)
-      (λ n vs v e s. subst (λ ids. Since ids₀ next₀ ids (n + 1 + 1)) (sym (map_append (λ (v : Voice). v.id.0) vs (v ∷ []))) (since_more ids₀ next₀ (voice_ids vs) (n + 1) v.id.0 e s))
+      (λ n vs v e s. subst (λ ids. Since ids₀ next₀ ids (n + 1 + 1)) (sym (map-append (λ (v : Voice). v.id.0) vs (v ∷ []))) (since_more ids₀ next₀ (voice_ids vs) (n + 1) v.id.0 e s))
 
 -- ---- from making
 module _ (c : Config) where

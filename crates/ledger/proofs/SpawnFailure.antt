@@ -10,14 +10,16 @@ use mathlib.Core.Bool.{Bool, true, false, not, cond, ◌&&◌, ◌||◌, false�
 use lib.Dec.{eqb, leb, ltb}
 use lib.ListN.{length}
 use borrow.Author.Tests.{eq-eqb, ne_eqb, eqb-true, not-false, le-leb, lt-leb, lt-ltb, le-ltb}
+use Rattle.std.proofs.lemmas.Bool.{and_from}
+use Rattle.rank.proofs.Cycle.{count_in, in_count}
 use Rattle.lists.specs.Member.{In}
-use Rattle.lists.proofs.Member.{and_left, both}
+use Rattle.lists.proofs.Member.{and_left}
 use Rattle.lists.proofs.Find.{find_in, find_filter_same, find_filter_some, find_snoc_some, find_map}
 use Rattle.lists.specs.Count.{count}
 use Rattle.lists.proofs.Count.{count_filter_lt, count_all}
 use Rattle.rank.specs.Order.{upto}
 use Rattle.synthdef.specs.Rows.{every}
-use Rattle.synthdef.proofs.Rows.{every_in, in_every}
+use Rattle.synthdef.proofs.Rows.{every_in, in_every, every_same}
 use Rattle.node.specs.declared.record.NodeId.{NodeId}
 use Rattle.node.specs.declared.record.VoiceId.{VoiceId}
 use Rattle.node.specs.declared.record.Node.{Node}
@@ -42,7 +44,6 @@ use Rattle.ledger.specs.Call.{step}
 use Rattle.ledger.specs.Claim.{Stealing, may_go, may_go_on, owner_at, holder_of, held_by, is_host, is_spare, by_other, stays, outranked, answer_when}
 use Rattle.ledger.proofs.Words.{blocked, spawn_answer}
 use Rattle.ledger.proofs.Allowed.{HostAt, spawn_allowed}
-use Rattle.ledger.proofs.Upto.{up_in, in_up}
 use Rattle.ledger.proofs.Ids.{once, above, unique, not_voice_self}
 use Rattle.ledger.proofs.Victim.{rejects_when, admit_below, next_out_in, next_out_none}
 use Rattle.ledger.proofs.Preserved.{place_kept}
@@ -53,16 +54,12 @@ use Rattle.ledger.proofs.Port.{lowest_some, lowest_none}
 use Rattle.ledger.proofs.Spawns.{InvariantOf, ids_of_lem}
 
 -- ---- ports
-pub every_same : {A : Type 0} (t u : A → Bool) (l : List A) → ((x : A) → t x ≡ u x) → every t l ≡ every u l
-every_same t u [] h = refl
-every_same t u (x ∷ l) h = rw (h x, every_same t u l h)
-
 module _ (bus : NodeId) (rank : ℕ) (l : Ledger) where
   -- a free port
   free_blocked : (p : ℕ) → port_free bus l ≡ Some p → blocked bus rank l ≡ false
   free_blocked p h =
       let r = lowest_some (ports_of (node_at l.shared.graph.nodes bus)) (λ p. not (is_held (l.holders bus.0 p))) 0 p h in
-      go (blocked bus rank l) refl (l.holders bus.0 p) refl r.2 (in_up (ports_of (node_at l.shared.graph.nodes bus)) 0 p r.0 r.1)
+      go (blocked bus rank l) refl (l.holders bus.0 p) refl r.2 (in_count (ports_of (node_at l.shared.graph.nodes bus)) 0 p r.0 r.1)
     where
       go : (b : Bool) → blocked bus rank l ≡ b → (h : Holder) → l.holders bus.0 p ≡ h → not (is_held h) ≡ true → In p (upto (ports_of (node_at l.shared.graph.nodes bus))) → b ≡ false
       go false e h f g i = refl
@@ -75,7 +72,7 @@ module _ (bus : NodeId) (rank : ℕ) (l : Ledger) where
   idle_blocked : port_free bus l ≡ None → ((v : Voice) → In v l.voices → may_go_on bus rank v ≡ false) → blocked bus rank l ≡ true
   idle_blocked h f =
       in_every (λ p. by_other bus rank l.voices (l.holders bus.0 p)) (upto (ports_of (node_at l.shared.graph.nodes bus))) (λ p i.
-      let r = up_in (ports_of (node_at l.shared.graph.nodes bus)) 0 p i in
+      let r = count_in (ports_of (node_at l.shared.graph.nodes bus)) 0 p i in
       go (l.holders bus.0 p) (not-false _ (lowest_none (ports_of (node_at l.shared.graph.nodes bus)) (λ p. not (is_held (l.holders bus.0 p))) 0 p h r.0 r.1)))
     where
       idle : (o : Option Voice) → ((v : Voice) → o ≡ Some v → In v l.voices) → not (is_spare bus rank o) ≡ true
@@ -203,7 +200,7 @@ module _ (bus : NodeId) (rank : ℕ) (l : Ledger) (d : IdsOf l) (hb : HostAt l.s
   blocked_steal s tr low = go (port_held v l)
     where
       own : (p : ℕ) (w : VoiceId) → l.holders bus.0 p ≡ voice w → w.0 ≡ v.id.0 → may_go_on bus rank v ≡ true
-      own p w e q = both (may_go rank v) (is_on bus v) (ap₂ (λ z b. is_fading z || (is_tracked z && b)) (tracked_state v.state tr) (le-leb _ _ low)) (eq-eqb v.bus.0 bus.0 (held_own l s v i bus.0 p w e (sym q)))
+      own p w e q = and_from (may_go rank v) (is_on bus v) (ap₂ (λ z b. is_fading z || (is_tracked z && b)) (tracked_state v.state tr) (le-leb _ _ low)) (eq-eqb v.bus.0 bus.0 (held_own l s v i bus.0 p w e (sym q)))
 
       go : (o : Option ℕ) → blocked bus rank (stolen v o l) ≡ blocked bus rank l
       go None = blocked_cut Tracked own
@@ -271,7 +268,7 @@ module _ (c : Config) (bus : NodeId) (rank k : ℕ) (b : c.budget ≡ Some k) (v
       go false h = refl
 
   is_outranked : k ≤ count (counted c.scope bus) vs → ((v : Voice) → In v vs → counted c.scope bus v ≡ true → rank < v.rank) → outranked c bus rank vs ≡ true
-  is_outranked h f = both _ _ (at_budget_lem _ true (le-leb _ _ h)) (in_every (stays c.scope bus rank) vs (λ v i. stays_true v (f v i)))
+  is_outranked h f = and_from _ _ (at_budget_lem _ true (le-leb _ _ h)) (in_every (stays c.scope bus rank) vs (λ v i. stays_true v (f v i)))
 
   below_outranked : count (counted c.scope bus) vs < k → outranked c bus rank vs ≡ false
   below_outranked h = ap (λ t. t && every (stays c.scope bus rank) vs) (at_budget_lem _ false (lt-leb _ _ h))

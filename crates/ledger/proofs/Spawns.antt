@@ -8,8 +8,9 @@ use mathlib.Core.Bool.{true, not}
 use lib.Dec.{eqb}
 use lib.ListN.{length-map}
 use borrow.Author.Tests.{eqb-true, ne_eqb}
+use Rattle.std.proofs.lemmas.List.{map-append}
 use Rattle.lists.specs.Member.{In}
-use Rattle.lists.proofs.Member.{some_inj, and_left, and_right, map_append, map_swap}
+use Rattle.lists.proofs.Member.{some_inj, and_left, and_right, map_swap}
 use Rattle.lists.proofs.Filter.{filter_map}
 use Rattle.lists.proofs.Find.{find_in}
 use Rattle.node.specs.declared.record.NodeId.{NodeId}
@@ -134,7 +135,7 @@ module _ (spawn : Spawn) (ok : allowed spawn.def ≡ true) (t : VoiceState) (sti
       record {
         answer = refl;
         model = ap (λ vs. record { shared = (ledger.instantiate spawn t p l).ledger.shared; voices = vs })
-            (ap (λ v. map (stored l) l.voices ++ (v ∷ [])) same ∙ sym (map_append (stored l) l.voices (new_voice spawn t p l.shared ∷ [])));
+            (ap (λ v. map (stored l) l.voices ++ (v ∷ [])) same ∙ sym (map-append (stored l) l.voices (new_voice spawn t p l.shared ∷ [])));
         sound = sound_new_voice spawn.def ok (pans spawn.pan) bus p l.shared.spawned (raised bus l.shared.graph) l.voices l.holders (sound_raised bus s)
             (owner_raised bus l.shared.graph.nodes bus.0 ∙ live) (subst (λ n. p < n) (sym (ports_raised bus l.shared.graph.nodes bus.0)) range) (new_voice spawn t p l.shared) refl refl (feeder_out spawn t p l.shared) (still_end t still (new_voice spawn t p l.shared));
       }

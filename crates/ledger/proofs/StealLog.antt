@@ -11,6 +11,7 @@ use mathlib.Core.Bool.{Bool, true, false, cond}
 use lib.Dec.{leb}
 use lib.ListN.{length, drop, length-append, length-drop}
 use borrow.Author.Tests.{leb-true, leb-false, le-leb, lt-leb}
+use Rattle.voice.proofs.Logs.{length_cut}
 use Rattle.voice.specs.Steals.{StealLog, pushed, cut_at, marked, found_at}
 use Rattle.voice.specs.declared.steals.StealRecord.{StealRecord}
 use Rattle.ledger.specs.Claim.{first_held, held_record, cut_found, cut_if_held, Newest}
@@ -41,11 +42,6 @@ found_uncut zero zero (r ∷ l) h = absurd (h refl)
 found_uncut zero (suc j) (r ∷ l) h = refl
 found_uncut (suc i) zero (r ∷ l) h = refl
 found_uncut (suc i) (suc j) (r ∷ l) h = found_uncut i j l (λ e. h (ap suc e))
-
-length_cut : (j : ℕ) (l : List StealRecord) → length (cut_at j l) ≡ length l
-length_cut j [] = refl
-length_cut zero (r ∷ l) = refl
-length_cut (suc j) (r ∷ l) = ap suc (length_cut j l)
 
 -- what is the (k - m)th after the first d, where m is d past f, is the (k - f)th of all
 stood : (d f m k : ℕ) → m ≡ f + d → m ≤ k → d + (k - m) ≡ k - f

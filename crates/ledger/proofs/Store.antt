@@ -10,6 +10,9 @@ use Rattle.std.specs.Prelude.{Option, None, Some, find, is_some, option_map}
 use mathlib.Core.Bool.{Bool, true, false, not, cond, ◌&&◌, ◌||◌}
 use lib.Dec.{leb}
 use lib.ListN.{length-map}
+use Rattle.std.proofs.lemmas.Bool.{false_from_ne_true}
+use Rattle.ledger.proofs.Records.{fade_inj}
+use Rattle.synthdef.proofs.Rows.{every_same}
 use Rattle.lists.specs.Member.{In}
 use Rattle.lists.proofs.Member.{in_map, in_of_map, some_inj, none_some}
 use Rattle.lists.specs.Count.{more, count}
@@ -19,7 +22,7 @@ use Rattle.node.specs.declared.refusal.Refusal.{Refusal}
 use Rattle.bus.specs.Fade.{fade_length}
 use Rattle.rank.specs.Order.{among, upto}
 use Rattle.rank.specs.Cycle.{Distinct}
-use Rattle.rank.proofs.Invariant.{among_in, bool_false}
+use Rattle.rank.proofs.Invariant.{among_in}
 use Rattle.edges.specs.Ports.{port_from}
 use Rattle.graph.specs.Node.{node_at, ports_of}
 use Rattle.voice.specs.Steals.{record_of}
@@ -57,7 +60,6 @@ use Rattle.ledger.proofs.Managed.{config_step, config_run, ids_new}
 use Rattle.ledger.proofs.Simulation.{RunInvariant, step_agrees, kept_step_lem, kept_new, runs}
 use Rattle.ledger.proofs.Port.{feeds_held}
 use Rattle.ledger.proofs.Losses.{LossesOf, Apart, records_same}
-use Rattle.ledger.proofs.SpawnFailure.{every_same}
 
 -- ---- the store of a ledger
 abbrev pub shown : Config → Voice → Voice
@@ -129,12 +131,9 @@ module _ (c : Config) where
       let m = back r.0.state (ap (λ (x : Voice). x.state) (sym r.2) ∙ e) in
       record { voice = r.0; fade = m.0; member = r.1; state = m.1; is = r.2; moves = m.2 }
     where
-      inj : {a b : Fade} → Fading a ≡ Fading b → a ≡ b
-      inj e = cc
-
       back : (s : VoiceState) → moved_state (λ n. n * c.block) s ≡ Fading f → (g : Fade) × (s ≡ Fading g) × (f ≡ moved_fade (λ n. n * c.block) g)
       back Tracked e = let z : ◌≡◌ {A = ℕ} 0 1 = cc in absurd (omega arith)
-      back (Fading g) e = (g, refl, sym (inj e))
+      back (Fading g) e = (g, refl, sym (fade_inj e))
       back Loose e = let z : ◌≡◌ {A = ℕ} 0 1 = cc in absurd (omega arith)
 
   -- ---- what the claim reads of them
@@ -219,7 +218,7 @@ module _ (c : Config) where
   apart_distinct : (vs : List Voice) → Apart vs → Distinct (voice_ids vs)
   apart_distinct [] a = tt
   apart_distinct (v ∷ vs) a = (
-    bool_false (among v.id.0 (voice_ids vs)) (λ t. let r = in_map (λ (u : Voice). u.id.0) vs v.id.0 (among_in v.id.0 (voice_ids vs) t) in a.0 r.0 r.1 (sym r.2)),
+    false_from_ne_true (among v.id.0 (voice_ids vs)) (λ t. let r = in_map (λ (u : Voice). u.id.0) vs v.id.0 (among_in v.id.0 (voice_ids vs) t) in a.0 r.0 r.1 (sym r.2)),
     apart_distinct vs a.1,
   )
 

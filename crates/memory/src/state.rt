@@ -26,6 +26,7 @@ pub struct State {
 
 // The state that a call left, and what the call answers: a result, an outcome, a number. The state stands beside the answer and not in it,
 // since it may change where the answer is no: a spawn that finds no port has removed voices, and a render whose prepare failed has gone on.
+// Why this, `ConsoleResult`, `WishResult` and `SealResult` are four types, crate call_console says.
 #[derive(Clone, Copy)]
 pub struct CallResult<A> {
     pub state: State,

@@ -20,5 +20,6 @@ pub mod ReadingScenes
 pub mod RewiredScenes
 pub mod SilenceScenes
 pub mod Refused
+pub mod Grown
 pub mod NoPort
 pub mod Examples

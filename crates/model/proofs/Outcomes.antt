@@ -8,6 +8,7 @@ use mathlib.Core.List.{List, [], ◌∷◌}
 use Rattle.std.specs.Prelude.{Option, None, Some, find, option_map}
 use mathlib.Core.Bool.{Bool, true, false, cond, false≢true}
 use lib.ListN.{length, take, get_or}
+use Rattle.lists.proofs.Written.{written_long}
 use Rattle.lists.specs.Member.{In}
 use Rattle.lists.proofs.Find.{find_in, find_none, none_find}
 use Rattle.lists.proofs.Member.{some_inj, none_some}
@@ -179,6 +180,4 @@ later_stay (x ∷ text) (y ∷ out) zero f h = absurd (omega (arith, h))
 later_stay (x ∷ text) (y ∷ out) (suc i) f h = later_stay text out i (omega (arith, f)) (omega (arith, h))
 
 pub long_stays : (text out : List ℕ) → length text ≤ length out → length (written text out) ≡ length out
-long_stays [] out h = refl
-long_stays (x ∷ text) [] h = absurd (omega (arith, h))
-long_stays (x ∷ text) (y ∷ out) h = ap suc (long_stays text out (omega (arith, h)))
+long_stays text out h = written_long text out h

@@ -164,17 +164,17 @@ ready_left : (a : Result (Unit {0}) Refusal) (l : List NodeId) (d : SharedState)
 ready_left (Ok tt) l d r h = absurd (none_some h)
 ready_left (Err q) l d r h = refl
 
+pub heard_not : (b : Bool) → not_rendered (heard b) ≡ None
+heard_not true = refl
+heard_not false = refl
+
+pub after_not : (a : Result (Unit {0}) Refusal) (d : SharedState) → not_rendered (answer_after a d) ≡ None
+after_not (Ok tt) d = heard_not (sounding d)
+after_not (Err q) d = refl
+
 render_left : (out : List ℕ) (m : Model) (r : Refusal) → refusal_in (step (call.render out) m).answer ≡ Some r → (step (call.render out) m).model ≡ m
 render_left out m r h = go (render_refusal m.shared (length out)) h
   where
-    heard_not : (b : Bool) → not_rendered (heard b) ≡ None
-    heard_not true = refl
-    heard_not false = refl
-
-    after_not : (a : Result (Unit {0}) Refusal) (d : SharedState) → not_rendered (answer_after a d) ≡ None
-    after_not (Ok tt) d = heard_not (sounding d)
-    after_not (Err q) d = refl
-
     inside_not : (f : Bool) (k : Model) → not_rendered (prepared_if f k).answer ≡ None
     inside_not true k = after_not (prepare_outcome k.shared).answer (prepare_shared k.shared)
     inside_not false k = heard_not (sounding k.shared)

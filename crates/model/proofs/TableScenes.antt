@@ -5,7 +5,7 @@ use Prim.Native.Nat.{ℕ}
 use mathlib.Core.Path.{◌≡◌, refl, sym, ap, ◌∙◌}
 use mathlib.Core.List.{List, [], ◌∷◌}
 use Rattle.std.specs.Prelude.{Option, None, Some, option_map}
-use mathlib.Core.Bool.{Bool, true, false, cond, ◌&&◌}
+use mathlib.Core.Bool.{Bool, true, false, cond, ◌&&◌, and-true}
 use lib.IntN.{pos, negsuc}
 use lib.ListN.{length}
 use lib.Ieee.{Float, nan, fin, mul, div, of_int, round, odd, span, size, climb, units}
@@ -89,17 +89,12 @@ lent_ignored c chosen input ins lent other position out outs = ap answer (table_
         block_answer (fade_fits (length input) ins (length used) (fade_length c.rate) c.block (length out) outs)
         (fade_output input ins used (fade_length c.rate) position c.block out outs)
 
-and_true : (a b : Bool) → (a && (b && true)) ≡ (a && b)
-and_true true true = refl
-and_true true false = refl
-and_true false b = refl
-
 pub gains_enough : (c : Config) → c.table ≡ true → c.rate ≡ table_rate → (input : List Float) (ins : ℕ) (lent out : List Float) (outs : ℕ)
     → fades c input ins lent out outs ≡ (holds (length input) ins c.block && holds (length out) outs c.block)
 gains_enough c chosen rate input ins lent out outs =
     ap (λ (n : ℕ). fits (fade_length c.rate) n) (ap length (table_gains c lent chosen) ∙ length_gains)
     ∙ ap (λ (r : ℕ). fits (fade_length r) 241) rate
-    ∙ and_true (holds (length input) ins c.block) (holds (length out) outs c.block)
+    ∙ ap (λ (b : Bool). holds (length input) ins c.block && b) (and-true (holds (length out) outs c.block))
   where
     fits : ℕ → ℕ → Bool
     fits len n = fade_fits (length input) ins n len c.block (length out) outs

@@ -5,7 +5,7 @@ use Prim.Native.Nat.{ℕ}
 use mathlib.Core.Path.{◌≡◌, refl, sym, ap, ◌∙◌}
 use mathlib.Core.List.{List, [], ◌∷◌}
 use Rattle.std.specs.Prelude.{Option, None, Some}
-use mathlib.Core.Bool.{Bool, true, false, cond, ◌&&◌}
+use mathlib.Core.Bool.{Bool, true, false, cond, ◌&&◌, and-true}
 use lib.IntN.{ℤ, pos, negsuc}
 use lib.ListN.{length}
 use Rattle.node.specs.declared.refusal.Refusal.{Refusal}
@@ -73,11 +73,6 @@ unfolding every entries
 entries_gains true = refl
 entries_gains false = refl
 
-and_true : (a b : Bool) → (a && (b && true)) ≡ (a && b)
-and_true true true = refl
-and_true true false = refl
-and_true false b = refl
-
 length_entries : length entries ≡ 241
 unfolding entries
 length_entries = refl
@@ -110,7 +105,7 @@ module _ (c : Config) (chosen : c.table ≡ true) (input : List ℤ) (ins : ℕ)
       refusal =
           ap (λ (b : Bool). refusal_of (fits (length entries)) b) (entries_gains (every is_sample input))
           ∙ ap (λ (n : ℕ). refusal_of (fits n) (every is_sample input)) length_entries
-          ∙ ap (λ (b : Bool). refusal_of b (every is_sample input)) (and_true (holds (length input) ins c.block) (holds (length out) outs c.block))
+          ∙ ap (λ (b : Bool). refusal_of b (every is_sample input)) (ap (λ (b : Bool). holds (length input) ins c.block && b) (and-true (holds (length out) outs c.block)))
         where
           fits : ℕ → Bool
           fits n = fade_fits (length input) ins n 240 c.block (length out) outs

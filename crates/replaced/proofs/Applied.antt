@@ -9,6 +9,7 @@ use Rattle.std.specs.Prelude.{Option, None, Some, find, option_map, filter}
 use mathlib.Core.Bool.{Bool, true, false, ◌&&◌, ◌||◌, not, cond, false≢true, true≢false}
 use lib.Dec.{eqb}
 use borrow.Author.Tests.{eqb-true, eqb-false, eq-eqb, ne_eqb, not-true}
+use Rattle.node.proofs.NameLaws.{same_equal}
 use Rattle.node.specs.declared.name.Name.{Name}
 use Rattle.node.specs.declared.order.EventAction.{EventAction}
 use Rattle.node.specs.declared.order.EventAction.TheVariants as action
@@ -246,12 +247,7 @@ aim_set e k o m = voice (find (is_voice e.voice) m.voices)
 
 -- ---- an event and the one that replaces it have one aim
 same_bytes_lem : (a b : List ℕ) → same_bytes a b ≡ true → a ≡ b
-same_bytes_lem [] [] h = refl
-same_bytes_lem [] (y ∷ ys) h = absurd (false≢true h)
-same_bytes_lem (x ∷ xs) [] h = absurd (false≢true h)
-same_bytes_lem (x ∷ xs) (y ∷ ys) h =
-    let p : x ≡ y = eqb-true _ _ (and_left (eqb x y) (same_bytes xs ys) h) in
-    ap (λ z. z ∷ xs) p ∙ ap (λ z. y ∷ z) (same_bytes_lem xs ys (and_right (eqb x y) (same_bytes xs ys) h))
+same_bytes_lem = same_equal
 
 -- a name counts by its text alone
 pub same_called : (a b : Name) → same_name a b ≡ true → (x : Name) → same_name x a ≡ same_name x b

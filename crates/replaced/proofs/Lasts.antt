@@ -3,7 +3,7 @@
 use Prim.Native.Nat.{◌<◌}
 use native.Mathlib.Omega.{arith}
 use mathlib.Core.Path.{◌≡◌, refl, sym, ap, ◌∙◌, subst}
-use mathlib.Core.Logic.{◌⊎◌, inl, inr, ⊎_elim}
+use mathlib.Core.Logic.{inl, inr, ⊎_elim}
 use mathlib.Core.List.{List, [], ◌∷◌}
 use mathlib.Core.Bool.{Bool, true, false, ◌||◌, not, false≢true}
 use borrow.Author.Tests.{ltb-true, not-true}
@@ -15,7 +15,7 @@ use Rattle.std.specs.Prelude.{cond, filter}
 use Rattle.lists.proofs.Filter.{in_filter}
 use Rattle.scheduler.specs.Event.{param_of}
 use Rattle.scheduler.specs.Queue.{later, before?, inserted, replacing}
-use Rattle.scheduler.proofs.Sorted.{Sorted, filter_sorted}
+use Rattle.scheduler.proofs.Sorted.{Sorted, filter_sorted, in_inserted}
 use Rattle.scheduler.specs.Replace.{replaces, same_sort, thinned}
 use Rattle.scheduler.proofs.ReplaceLaws.{tested, tests_pass}
 use Rattle.replaced.specs.Kept.{overtaken, lasts}
@@ -84,17 +84,6 @@ single_filter t (e ∷ p) s = go (t e) (single_filter t p s.1)
     go : (b : Bool) → Single (filter t p) → Single (cond b (e ∷ (filter t p)) (filter t p))
     go true ih = (λ z. let r = superseded_in e (filter t p) z in s.0 (in_superseded e p r.0 (in_filter t p r.0 r.1).0 r.2), ih)
     go false ih = ih
-
-in_inserted : (n : Event) (l : List Event) (x : Event) → In x (inserted n l) → (x ≡ n) ⊎ In x l
-in_inserted n [] x (inl p) = inl p
-in_inserted n [] x (inr i) = absurd i
-in_inserted n (f ∷ l) x i = go (later n f) i (in_inserted n l x)
-  where
-    go : (b : Bool) → In x (before? b n f l (inserted n l)) → (In x (inserted n l) → (x ≡ n) ⊎ In x l) → (x ≡ n) ⊎ In x (f ∷ l)
-    go true (inl p) ih = inl p
-    go true (inr j) ih = inr j
-    go false (inl p) ih = inr (inl p)
-    go false (inr j) ih = ⊎_elim inl (λ k. inr (inr k)) (ih j)
 
 single_inserted : (n : Event) (l : List Event) → Sorted l → ((f : Event) → In f l → replaces n f ≡ false) → Single l → Single (inserted n l)
 single_inserted n [] s h d = (λ z. z, tt)

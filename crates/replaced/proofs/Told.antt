@@ -1,6 +1,6 @@
 -- "Render answers of Paper 1 list only the events left." A's list is B's without the entries of the events that a later one replaces. So no
 -- entry of an event that is left is another than it would have been.
-use Prim.Native.Nat.{ℕ, suc, ◌+◌}
+use Prim.Native.Nat.{ℕ, ◌+◌}
 use mathlib.Core.Path.{◌≡◌, refl, sym, ap, ◌∙◌, subst}
 use mathlib.Core.List.{List, [], ◌∷◌}
 use Rattle.std.specs.Prelude.{Option, None, Some, find, option_map}
@@ -8,6 +8,7 @@ use mathlib.Core.Bool.{Bool, true, false, not, cond, true≢false, false≢true}
 use lib.Dec.{eqb}
 use lib.ListN.{length}
 use borrow.Author.Tests.{eqb-true, eqb-false}
+use Rattle.model.proofs.Outcomes.{count_is}
 use Rattle.node.specs.declared.order.LastOrder.{LastOrder}
 use Rattle.node.specs.declared.record.Node.{Node}
 use Rattle.node.specs.declared.refusal.Refusal.{Refusal}
@@ -136,10 +137,6 @@ told a b g t = subst (λ (z : Model). outcomes (due a.shared) (rested a) ≡ lef
         ∙ ap (left_of q) (sym (outcomes_still (left_after d t.queue) q a))
 
 -- ---- one entry for each event
-outcomes_long : (q : List Event) (m : Model) → length (outcomes q m) ≡ length q
-outcomes_long [] m = refl
-outcomes_long (e ∷ q) m = ap suc (outcomes_long q (apply_event e m))
-
 -- ---- a render that is refused, or not
 module _ (a b : Model) (g : Good a) (t : Related a b) (out : List ℕ) where
   -- what the two answer
@@ -156,10 +153,10 @@ module _ (a b : Model) (g : Good a) (t : Related a b) (out : List ℕ) where
       let less : ps ≡ left_of (due b.shared) os = told a b g t in
       record {
         says = (render b).answer;
-        theirs = ap (λ n. call.rendered (render b).answer n (written os out)) (sym (outcomes_long (due b.shared) (rested b)));
+        theirs = ap (λ n. call.rendered (render b).answer n (written os out)) (sym (count_is (due b.shared) (rested b)));
         mine =
             ap (λ (x : Rendered). call.rendered x (length (due a.shared)) (written ps out)) (heard_same a b g t)
-            ∙ ap (λ n. call.rendered (render b).answer n (written ps out)) (sym (outcomes_long (due a.shared) (rested a)))
+            ∙ ap (λ n. call.rendered (render b).answer n (written ps out)) (sym (count_is (due a.shared) (rested a)))
             ∙ ap (λ l. call.rendered (render b).answer (length l) (written l out)) less;
       }
 

@@ -7,7 +7,8 @@ use mathlib.Core.Bool.{true, true≢false}
 use lib.Dec.{eqb, leb}
 use lib.ListN.{length}
 use borrow.Author.Tests.{eqb-true, eq-eqb, leb-true, le-leb}
-use Rattle.lists.proofs.Member.{and_left, and_right, both}
+use Rattle.std.proofs.lemmas.Bool.{and_from}
+use Rattle.lists.proofs.Member.{and_left, and_right}
 use Rattle.node.specs.declared.record.Node.{Node}
 use Rattle.graph.specs.Node.{node_at, ports_of}
 use Rattle.store.specs.declared.voices.Voice.{Voice}
@@ -46,8 +47,8 @@ accepts_fits s d vs h₀ =
 
 pub fits_accepts : (s : Profile) (d : SharedState) (vs : List Voice) → Fits s d vs → accepts s d vs ≡ true
 fits_accepts s d vs f =
-    both _ _ (le-leb _ _ f.least) (both _ _ (le-leb _ _ f.most) (both _ _ (le-leb _ _ f.nodes) (both _ _ (le-leb _ _ f.edges)
-    (both _ _ owned (both _ _ (eq-eqb _ _ ports) (both _ _ (eq-eqb _ _ f.held) (both _ _ (eq-eqb _ _ f.wires) (ap nobody_in f.empty))))))))
+    and_from _ _ (le-leb _ _ f.least) (and_from _ _ (le-leb _ _ f.most) (and_from _ _ (le-leb _ _ f.nodes) (and_from _ _ (le-leb _ _ f.edges)
+    (and_from _ _ owned (and_from _ _ (eq-eqb _ _ ports) (and_from _ _ (eq-eqb _ _ f.held) (and_from _ _ (eq-eqb _ _ f.wires) (ap nobody_in f.empty))))))))
   where
     owned : host_owned (node_at d.graph.nodes s.bus) ≡ true
     owned = ap host_owned f.host.1 ∙ eq-eqb _ _ f.host.2

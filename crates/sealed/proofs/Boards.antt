@@ -8,8 +8,9 @@ use Rattle.std.specs.Prelude.{Option, None, Some, Err}
 use mathlib.Core.Bool.{Bool, true, false, not, cond, false≢true}
 use lib.ListN.{get_or, set}
 use borrow.Author.Tests.{not-false}
+use Rattle.std.proofs.lemmas.Bool.{and_from}
 use Rattle.lists.specs.Member.{In}
-use Rattle.lists.proofs.Member.{some_inj, none_some, and_left, and_right, both, in_snoc}
+use Rattle.lists.proofs.Member.{some_inj, none_some, and_left, and_right, in_snoc}
 use Rattle.node.specs.declared.refusal.Refusal.TheVariants.{TableFull}
 use Rattle.model.specs.Model.{Model}
 use Rattle.model.specs.Make.{Making, config_of, make}
@@ -120,8 +121,8 @@ run_append [] ys m = refl
 run_append (x ∷ xs) ys m = run_append xs ys (step x m).model
 
 open_append : (s : Profile) (xs : List Call) (x : Call) → all_open s xs ≡ true → shuts s x ≡ false → all_open s (xs ++ (x ∷ [])) ≡ true
-open_append s [] x h o = both _ _ (ap not o) refl
-open_append s (y ∷ xs) x h o = both _ _ (and_left (not (shuts s y)) _ h) (open_append s xs x (and_right (not (shuts s y)) _ h) o)
+open_append s [] x h o = and_from _ _ (ap not o) refl
+open_append s (y ∷ xs) x h o = and_from _ _ (and_left (not (shuts s y)) _ h) (open_append s xs x (and_right (not (shuts s y)) _ h) o)
 
 -- some calls made the store
 pub record Made (m n : Model) : Type 0 where

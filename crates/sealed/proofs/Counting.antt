@@ -21,17 +21,6 @@ use Rattle.ledger.proofs.Ids.{Ids, one_removed, ids_filter}
 use Rattle.store.specs.declared.voices.Voice.{Voice}
 
 module _ {A : Type 0} where
-  -- a weaker test passes more
-  pub count_weaker : (q r : A → Bool) (l : List A) → ((x : A) → In x l → q x ≡ true → r x ≡ true) → count q l ≤ count r l
-  count_weaker q r [] h = omega arith
-  count_weaker q r (x ∷ l) h = go (q x) refl (r x) refl (count_weaker q r l (λ y i. h y (inr i)))
-    where
-      go : (a : Bool) → q x ≡ a → (b : Bool) → r x ≡ b → count q l ≤ count r l → more a (count q l) ≤ more b (count r l)
-      go true e true f ih = omega arith
-      go true e false f ih = absurd (false≢true (sym f ∙ h x (inl refl) e))
-      go false e true f ih = omega arith
-      go false e false f ih = ih
-
   split : (q : A → Bool) (l : List A) → length l ≡ count q l + length (filter (λ x. not (q x)) l)
   split q [] = refl
   split q (x ∷ l) = go (q x) (split q l)

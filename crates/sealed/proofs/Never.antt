@@ -1,4 +1,5 @@
 -- After sealing no spawn meets refusal 7, whatever the list of calls; and the promise on when a spawn fails, without its headroom.
+use Rattle.ledger.proofs.Marks.{spawned_inj}
 use Rattle.node.specs.declared.record.VoiceId.{VoiceId}
 use Prim.Native.Nat.{ℕ, zero, suc, ◌+◌, ◌*◌, ◌≤◌, ◌<◌}
 use native.Mathlib.Omega.{arith}
@@ -139,12 +140,9 @@ fine_budgeted x l =
     place_kept x (state_under l.shared.config.budget) (λ n m. Unit {0}) Fine (λ n m p e q z. let y : ◌≡◌ {A = ℕ} 0 1 = cc in omega arith) (λ m e q z. let y : ◌≡◌ {A = ℕ} 0 1 = cc in omega arith)
     (λ n m e f q z. let y : ◌≡◌ {A = ℕ} 0 1 = cc in omega arith) (λ n m v e f q. tt) (tries l.shared.config.budget l.voices) l tt
 
-spawned_inj : (a b : Result VoiceId Refusal) → call.spawned a ≡ call.spawned b → a ≡ b
-spawned_inj a b e = cc
-
 spawn_fine : (x : Spawn) (l : Ledger) → InvariantOf l → no_headroom l.shared l.voices x.def ≡ false → (step (call.spawn_managed x) l).answer ≡ call.spawned (Err TableFull) → ⊥
 unfolding Fine
-spawn_fine x l sound h e = go (spawn_refusal l.shared l.voices x.def x.bus x.rank) (refusal7 l.shared l.voices x.def x.bus x.rank h) (spawned_inj _ _ e)
+spawn_fine x l sound h e = go (spawn_refusal l.shared l.voices x.def x.bus x.rank) (refusal7 l.shared l.voices x.def x.bus x.rank h) (spawned_inj e)
   where
     all : Fine (admitted (admission_on x.bus x.rank l) x l)
     all =

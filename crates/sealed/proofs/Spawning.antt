@@ -11,12 +11,13 @@ use mathlib.Core.Bool.{Bool, true, false, not, cond, ◌&&◌, false≢true}
 use lib.Dec.{eqb}
 use lib.ListN.{length}
 use borrow.Author.Tests.{eqb-true, eq-eqb, ne_eqb, not-true}
+use Rattle.model.proofs.Grown.{grown_edges}
 use Rattle.lists.specs.Member.{In}
 use Rattle.lists.proofs.Member.{and_left, and_right, in_snoc, in_map, in_left}
 use Rattle.lists.proofs.Filter.{filter_in}
 use Rattle.lists.proofs.Find.{find_in}
 use Rattle.lists.specs.Count.{more, count}
-use Rattle.lists.proofs.Count.{count_filter, count_filter_lt, count_snoc, count_none}
+use Rattle.lists.proofs.Count.{count_filter, count_filter_lt, count_snoc, count_none, count_weaker}
 use Rattle.edges.specs.Wiring.{ends_at, drop_at, wired}
 use Rattle.edges.specs.Ports.{feeds}
 use Rattle.graph.specs.View.{GraphView}
@@ -53,7 +54,6 @@ use Rattle.store.specs.declared.voices.VoiceState.TheVariants.{Tracked, Fading, 
 use Rattle.store.specs.declared.voices.Fade.{Fade}
 use Rattle.ledger.proofs.Spawns as spawns
 use Rattle.sealed.specs.declared.profile.Profile.{Profile}
-use Rattle.sealed.proofs.Counting.{count_weaker}
 use Rattle.sealed.proofs.Within.{owned_n, is_owner, from_owner, fades, Within, WithinL, within_removed, count_mapped}
 
 -- ---- counts after nodes came and edges were put
@@ -102,10 +102,6 @@ wires_off : (t : Edge → Bool) (base : ℕ) (ws : List Wire) (g : GraphView) �
 wires_off t base [] g h = omega arith
 wires_off t base (w ∷ ws) g h =
     omega (arith, wires_off t base ws (change.connect g (id (base + w.from)) (id (base + w.to)) w.port) (λ u i. h u (inr i)), put_off t g.edges (wire_edge base w) (h w (inl refl)))
-
-grown_edges : (xs : List Node) (g : GraphView) → (append_all g xs).edges ≡ g.edges
-grown_edges [] g = refl
-grown_edges (x ∷ xs) g = grown_edges xs (change.append g x)
 
 -- ---- the new voice
 free_holds : (b : NodeId) (q : ℕ) (k : VoiceId) (h : Holders) (v : VoiceId) (p : ℕ) → is_held (h b.0 q) ≡ false → by_voice v (h b.0 p) ≡ true → by_voice v (hold b q (voice k) h b.0 p) ≡ true

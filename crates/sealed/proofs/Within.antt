@@ -15,7 +15,7 @@ use Rattle.lists.proofs.Member.{some_inj, in_map}
 use Rattle.lists.proofs.Filter.{in_filter}
 use Rattle.lists.proofs.Find.{find_in}
 use Rattle.lists.specs.Count.{more, count}
-use Rattle.lists.proofs.Count.{count_filter}
+use Rattle.lists.proofs.Count.{count_filter, count_weaker}
 use Rattle.edges.specs.Wiring.{among, touches, drop_touching}
 use Rattle.graph.specs.Node.{is_node, owned_by, node_at, replaced}
 use Rattle.graph.specs.Change.{ids_of}
@@ -35,7 +35,6 @@ use Rattle.store.specs.declared.voices.VoiceState.{VoiceState}
 use Rattle.store.specs.declared.voices.VoiceState.TheVariants.{Tracked, Fading, Loose}
 use Rattle.ledger.proofs.Preserved.{OpenMoves}
 use Rattle.sealed.specs.declared.profile.Profile.{Profile}
-use Rattle.sealed.proofs.Counting.{count_weaker}
 use Rattle.sealed.proofs.Open.{Positive}
 
 abbrev pub owned_n : ℕ → Node → Bool

@@ -8,8 +8,8 @@ pub enum SealRefusal {
     Closed = 28,
 }
 
-// The number of such a refusal: what a host in C and a recorded script hold. A function for each sort of refusal: one over a trait would need an impl
-// of as many lines for each.
+// The number of such a refusal: what a host in C and a recorded script hold. A cast for each sort of refusal: a trait over all sorts has
+// these for its bodies (c_answer, transcript).
 pub fn seal_refusal_number(r: SealRefusal) -> u8
     ensures { result ≡ number_of r }
 {

@@ -1,5 +1,5 @@
-// A wish's row: read whole, and stored whole. The words are a slice and not `WishTable`: a table's length would ask of callers what no
-// row needs.
+// A wish's row: read whole, and stored whole. The words are a slice and not `WishTable`, which both callers have: no row needs the table's length, and
+// the narrower type would ask more of callers than these public functions do.
 ghost use Rattle.std.specs.Prelude.{◌≡◌, [], get_or, set};
 ghost use Rattle.wish_rows.specs.Rows.{wish_of, wishes_in};
 

@@ -1,7 +1,7 @@
 use Prim.Native.Nat.{◌%◌}
 use native.Mathlib.Omega.{arith}
 use mathlib.Core.Path.{◌≡◌, refl}
-use Rattle.words.proofs.Within.{long_back}
+use Rattle.words.proofs.Bytes.{long_back}
 use Rattle.voice_rows.proofs.Records.{params_same}
 use Rattle.wish_rows.specs.Rows.{headed}
 use Rattle.wish_rows.proofs.Records.{nodes_same, edges_same, def_same, wish_same}
