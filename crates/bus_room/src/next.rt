@@ -32,6 +32,8 @@ pub fn bus_port(s: State, nodes: &NodeTable, edges: &EdgeTable, bus: NodeId) -> 
 }
 
 // The tracked voice of `bus` that gives way to a new voice of rank `rank`, or none.
+// The bus and the rank are two arguments, here, below, in `make_room` and in `admission` of call_spawn: a spawn has both in its wish, and a struct of
+// the two would be made of that for two calls alone, and be taken apart in each body.
 fn bus_victim(s: State, nodes: &NodeTable, voices: &VoiceTable, bus: NodeId, rank: u32) -> Victim
     ensures { result ≡ victim s.config.policy rank (candidates_at (take s.nodes (nodes_in nodes.now)) s.clock (tracked_on bus) (take s.voices (voices_in voices.now))) }
 {

@@ -5,13 +5,15 @@ use native.Mathlib.Decide.{ℕ_discrete}
 use mathlib.Core.Path.{◌≡◌, refl, sym, ap, ◌∙◌}
 use mathlib.Core.List.{List, [], ◌∷◌, map}
 use mathlib.Core.Bool.{Bool, true, false, cond, ◌||◌}
+use Rattle.lists.proofs.Member.{cond_same}
 use Rattle.std.specs.Prelude.{Option, None, Some, find, is_some}
 use Rattle.std.specs.List.{list_any, range_with_len}
 use lib.Dec.{ltb}
 use lib.ListN.{length, take, drop, get_or, set, replicate, length-set, length-take, drop_of_length-le, get_or-eq_default}
 use lib.Seq.{get_or-take, get_or-set_same, get_or-set_other}
 use borrow.Author.Tests.{lt-ltb, ltb-true, ltb-false, eq-eqb, ne_eqb}
-use Rattle.lists.proofs.Table.{left_cons, left_row, find_over}
+use Rattle.std.proofs.lemmas.List.{drop_more}
+use Rattle.lists.proofs.Table.{left_row, find_over}
 use Rattle.lists.proofs.Find.{find_in, find_none}
 use Rattle.node.specs.declared.record.Node.{Node}
 use Rattle.rank.specs.Order.{count_up}
@@ -67,11 +69,7 @@ clear_past (suc k) zero = refl
 clear_past (suc k) (suc j) = clear_past k j
 
 none_yet : (first count : ℕ) → FlagsAre [] first count (replicate 24 false)
-none_yet first count = record { long = refl; is = λ j. clear_past 24 j ∙ sym (go (ltb j (min count 24))) }
-  where
-    go : (b : Bool) → cond b false false ≡ false
-    go true = refl
-    go false = refl
+none_yet first count = record { long = refl; is = λ j. clear_past 24 j ∙ sym (cond_same (ltb j (min count 24)) false) }
 
 -- ---- no node is done
 module _ (ns : List Node) (nobody : any_done ns ≡ false) where
@@ -143,7 +141,7 @@ module _ (c : List ℕ) (n first count : ℕ) where
         let inside : i - 1 < length ns = omega (arith, inv.within) in
         let below : i - 1 < n = omega (arith, inv.within, length-take n (nodes_in c)) in
         let on : i - 1 + 1 ≡ i = omega arith in
-        left_cons (node_of []) ns (i - 1) inside
+        drop_more ns (i - 1) (node_of []) inside
         ∙ ap (λ y. y ∷ drop (i - 1 + 1) ns) (get_or-take n (nodes_in c) (i - 1) (node_of []) below)
         ∙ ap (λ k. x ∷ drop k ns) on
 

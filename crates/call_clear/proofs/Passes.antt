@@ -8,7 +8,6 @@ use lib.ListN.{length, take, length-map}
 use Rattle.std.specs.Prelude.{filter}
 use Rattle.words.proofs.InPlace.{Gathering}
 use Rattle.words.proofs.InWords.{take_count}
-use Rattle.words.proofs.Rows.{rows_long}
 use Rattle.store.specs.declared.voices.Voice.{Voice}
 use Rattle.model.specs.SharedState.{length_l}
 use Rattle.model.specs.Model.{Model, without_voice}
@@ -22,9 +21,6 @@ abbrev pub id_of : Voice → ℕ
 id_of v = v.id.0
 
 -- ---- gathering the ids
-pub room : (c : List ℕ) → length c ≡ 9152 → length (voices_in c) ≡ 64
-room c h = rows_long 143 voice_of c ∙ ap (λ k. k / 143) h
-
 pub gathered : (q : Voice → Bool) (c : List ℕ) (count i k : ℕ) (ids : List ℕ) → length c ≡ 9152 → i ≡ min count 64 → Gathering q id_of 64 (voices_in c) ids i k
     → Gathered q (take count (voices_in c)) (record { rows = ids; count = k })
 gathered q c count i k ids h end g =

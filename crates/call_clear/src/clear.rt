@@ -1,3 +1,4 @@
+// Each lent table and its count are parameters of their own: a signature shows what a call may touch.
 ghost use Rattle.std.specs.Prelude.{Bool, take};
 ghost use Rattle.store.specs.declared.voices.Voice.{Voice};
 ghost use Rattle.graph_rows.specs.Node.{nodes_in};

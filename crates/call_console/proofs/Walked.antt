@@ -2,10 +2,7 @@
 use Prim.Native.Nat.{ℕ, zero, suc, ◌-◌, ◌≤◌, ◌<◌}
 use native.Mathlib.Omega.{arith}
 use mathlib.Core.Path.{◌≡◌, refl, sym, ap, subst, ◌∙◌}
-use mathlib.Core.Bool.{Bool, true, false}
-use lib.Dec.{ltb}
 use lib.ListN.{length}
-use borrow.Author.Tests.{ltb-true, ltb-false}
 use Rattle.std.specs.Prelude.{Option, None, Some, IfSome, IsSomeAnd, option_map}
 use Rattle.std.specs.Fn.{iterate}
 use Rattle.lists.proofs.Member.{none_some}
@@ -42,10 +39,3 @@ some_has (Some x) y P Q is so p = subst Q is (so x p)
 pub endless : (o : Option ℕ) (P : ℕ → Type 0) → IsSomeAnd o P → ((x : ℕ) → P x → ⊥) → ⊥
 endless None P p not = p
 endless (Some x) P p not = not x p
-
-pub not_below : (a b : ℕ) → (a < b → ⊥) → b ≤ a
-not_below a b not = go (ltb a b) refl
-  where
-    go : (t : Bool) → ltb a b ≡ t → b ≤ a
-    go true e = absurd (not (ltb-true a b e))
-    go false e = ltb-false a b e

@@ -1,3 +1,4 @@
+// A refusal is handed on by `refuse_wish` and not by `?`, since what waits goes with every answer.
 ghost use Rattle.std.specs.Prelude.{◌≡◌, Err};
 ghost use Rattle.console.specs.Console.{wish};
 ghost use Rattle.memory.specs.View.{Memory};

@@ -5,12 +5,13 @@ use mathlib.Core.List.{List, [], ◌∷◌}
 use mathlib.Core.Bool.{not}
 use lib.ListN.{length}
 use Rattle.std.specs.Prelude.{filter}
+use Rattle.lists.proofs.Member.{neither}
 use Rattle.lists.proofs.Filter.{filter_filter, filter_same}
 use Rattle.node.specs.declared.record.VoiceId.{VoiceId}
 use Rattle.graph.specs.Node.{owned_by, owned_by_any}
 use Rattle.graph.specs.Change.{without}
 use Rattle.graph.specs.View.{GraphView}
-use Rattle.graph.proofs.Together.{neither, listed_more, listed_one, without_together, without_same}
+use Rattle.graph.proofs.Together.{listed_more, listed_one, without_together, without_same}
 use Rattle.store.specs.declared.voices.Voice.{Voice}
 use Rattle.model.specs.SharedState.{SharedState, with_graph}
 use Rattle.model.specs.Model.{Model, without_voice}

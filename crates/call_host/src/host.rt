@@ -13,7 +13,7 @@ use graph_tables::lookup::{append_node, node_count};
 use graph_tables::wiring::{drop_port, put_edge};
 use memory::parts::with_graph;
 use memory::state::{CallResult, State, refuse};
-use node::record::{Edge, Node, NodeId};
+use node::record::{Edge, NodeId};
 use node::refusal::Refusal;
 
 // The host adds a node, of a kind name of 1 to 16 bytes and up to 64 ports.
@@ -36,11 +36,7 @@ pub fn add_node(
         return refuse(s, Refusal::IdsUsedUp);
     };
     let id = NodeId(next);
-    let row = Node {
-        id,
-        ..host_node(kind, n)
-    };
-    let count = append_node(nodes, s.nodes, row);
+    let count = append_node(nodes, s.nodes, host_node(id, kind, n));
     CallResult {
         state: with_graph(s, count, s.edges, s.sink, s.next + 1),
         answer: Ok(id),

@@ -11,6 +11,7 @@ use node::refusal::Refusal;
 use order_table::OrderTable;
 
 // The graph is made ready to be rendered. A `match` and no `?`, since the state goes with every answer.
+// The same `match` as in `schedule`: a function for both would take `with_order` or `with_events` as a closure.
 pub fn prepare(
     s: State,
     nodes: &NodeTable,

@@ -14,6 +14,7 @@ use scheduler::event::Event;
 
 // An action for the voice `voice` at the sample `time`; a value or a glide is for the parameter `name`. A name that is not
 // 1 to 16 bytes is held, and matches no parameter. A `match` and no `?`, since the state goes with every answer.
+// The same `match` as in `prepare`: a function for both would take `with_order` or `with_events` as a closure.
 pub fn schedule(
     s: State,
     events: &mut EventTable,

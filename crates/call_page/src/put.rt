@@ -1,4 +1,5 @@
-// The parts of the page, each added at the end of one text. A `write!` ensures what it writes to a `String` alone, and there is no heap.
+// The parts of the page, each added at the end of one text. Not by `write!`: to a writer of one's own it says what it wrote where it answers Ok, and
+// not that it does, and the clauses here have no other case.
 ghost use Rattle.std.specs.Prelude.{◌≡◌, [], ◌++◌, take, get_or};
 ghost use Rattle.node.specs.Silence.{bytes as text};
 ghost use Rattle.graph_rows.specs.Edge.{edges_in};

@@ -22,11 +22,6 @@ module _ {A : Type 0} where
   place_set q d y (x ∷ l) zero e = ap (λ b. cond b zero (suc (place_of q l))) e
   place_set q d y (x ∷ l) (suc p) e = ap (λ n. cond (q x) zero (suc n)) (place_set q d y l p e)
 
-  pub map_set : {B : Type 0} (f : A → B) (d y : A) (l : List A) (p : ℕ) → f y ≡ f (get_or l p d) → map f (set l p y) ≡ map f l
-  map_set f d y [] p e = refl
-  map_set f d y (x ∷ l) zero e = ap (λ z. z ∷ map f l) e
-  map_set f d y (x ∷ l) (suc p) e = ap (λ m. f x ∷ m) (map_set f d y l p e)
-
   -- those before the first that passes stay
   place_map : (q : A → Bool) (x : A) (l : List A) → map (λ y. cond (q y) x y) (take (place_of q l) l) ≡ take (place_of q l) l
   unfolding place_of

@@ -4,12 +4,12 @@ use native.Mathlib.Omega.{arith}
 use mathlib.Core.Path.{◌≡◌, refl, sym, ap, ◌∙◌}
 use mathlib.Core.List.{List, [], map}
 use Rattle.std.specs.Prelude.{Option, None, Some, find, position, option_map}
-use mathlib.Core.Bool.{Bool, true, false, not, cond}
+use mathlib.Core.Bool.{Bool, not, cond}
 use lib.Dec.{eqb}
 use lib.ListN.{length, take, get_or, set, length-take}
-use lib.Seq.{take-set-lt, get_or-set_same, get_or-take}
+use lib.Seq.{take-set-lt, get_or-set_same, get_or-take, map-set_same}
 use borrow.Author.Tests.{eqb-true}
-use Rattle.lists.proofs.Member.{and_right}
+use Rattle.lists.proofs.Member.{and_right, cond_same}
 use Rattle.lists.proofs.Find.{find_in}
 use Rattle.node.specs.declared.record.Node.{Node}
 use Rattle.words.specs.Place.{place_of}
@@ -19,7 +19,7 @@ use Rattle.graph.specs.Node.{owned_by_any}
 use Rattle.graph_rows.specs.Node.{node_of, nodes_in}
 use Rattle.model.specs.Voice.{id}
 use Rattle.call_param.specs.Left.{is_left, replaced_left}
-use Rattle.call_param.proofs.Copying.{place_set, map_set}
+use Rattle.call_param.proofs.Copying.{place_set}
 
 module _ (l c : List ℕ) (count k : ℕ) where
   abbrev q : Node → Bool
@@ -68,16 +68,12 @@ module _ (l c : List ℕ) (count k : ℕ) where
           let room : p < length (nodes_in c) = omega (arith, inside, length-take count (nodes_in c)) in
           let there : get_or (nodes_in put) p (node_of []) ≡ new = ap (λ r. get_or r p (node_of [])) stored ∙ get_or-set_same (nodes_in c) p new (node_of []) room in
           let first : cond (q new) new new ≡ cond (q (get_or ns p (node_of []))) new (get_or ns p (node_of [])) =
-          either (q new) ∙ sym (ap (λ b. cond b new node) (find_in q ns node first_found).1) ∙ ap (λ x. cond (q x) new x) (sym read) in
+          cond_same (q new) new ∙ sym (ap (λ b. cond b new node) (find_in q ns node first_found).1) ∙ ap (λ x. cond (q x) new x) (sym read) in
           copied
           ∙ ap (λ y. map (λ x. cond (q x) y x) (take count (nodes_in put))) there
           ∙ ap (map (λ x. cond (q x) new x)) front
-          ∙ map_set (λ x. cond (q x) new x) (node_of []) new ns p first
+          ∙ map-set_same (λ x. cond (q x) new x) ns p new (node_of []) first
           ∙ ap (λ j. map (λ x. cond (is_left l (id j) x) new x) ns) (its_id ∙ sym same)
-        where
-          either : (b : Bool) → cond b new new ≡ new
-          either true = refl
-          either false = refl
 
 -- the row that was looked for: its node is the one that `find` finds
 module _ (l c : List ℕ) (count k : ℕ) where

@@ -4,7 +4,7 @@ use native.Mathlib.Omega.{arith}
 use mathlib.Core.Path.{◌≡◌, refl, sym, ap, ◌∙◌}
 use mathlib.Core.List.{List, []}
 use Rattle.std.specs.Prelude.{None, Some, find, position}
-use mathlib.Core.Bool.{Bool, true, false, not, cond, ◌&&◌}
+use mathlib.Core.Bool.{Bool, true, false, not, cond, ◌&&◌, and-false}
 use lib.ListN.{take, get_or}
 use borrow.Author.Tests.{eqb-true}
 use Rattle.lists.proofs.Find.{none_find, find_same}
@@ -59,22 +59,14 @@ module _ (l : List ℕ) (w : VoiceId) where
     where
       go : (b : Bool) → is_voice w v ≡ b → is_known l w v ≡ false
       go true t = ap (λ x. not (listed l x) && is_voice w v) (eqb-true v.id.0 w.0 t) ∙ ap (λ b. not b && is_voice w v) h
-      go false t = ap (λ b. not (listed l v.id.0) && b) t ∙ off (not (listed l v.id.0))
-        where
-          off : (a : Bool) → (a && false) ≡ false
-          off true = refl
-          off false = refl
+      go false t = ap (λ b. not (listed l v.id.0) && b) t ∙ and-false (not (listed l v.id.0))
 
   known : (v : Voice) → listed l w.0 ≡ false → is_known l w v ≡ is_voice w v
   known v h = go (is_voice w v) refl
     where
-      off : (a : Bool) → (a && false) ≡ false
-      off true = refl
-      off false = refl
-
       go : (b : Bool) → is_voice w v ≡ b → is_known l w v ≡ is_voice w v
       go true t = ap (λ x. not (listed l x) && is_voice w v) (eqb-true v.id.0 w.0 t) ∙ ap (λ b. not b && is_voice w v) h
-      go false t = ap (λ b. not (listed l v.id.0) && b) t ∙ off (not (listed l v.id.0)) ∙ sym t
+      go false t = ap (λ b. not (listed l v.id.0) && b) t ∙ and-false (not (listed l v.id.0)) ∙ sym t
 
   pub freed_unknown : (vs : List Voice) → listed l w.0 ≡ true → find (is_known l w) vs ≡ None
   freed_unknown vs h = none_find (is_known l w) vs (λ v i. unknown v h)

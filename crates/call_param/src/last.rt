@@ -7,7 +7,7 @@ use node::order::LastOrder;
 use words::fields::{flag_at, last_words};
 use words::table::put_fields;
 
-// Whether the node in row `i` takes orders of that sort.
+// Whether the node in row `i` takes orders of that sort. Here and not in graph_rows: `takes` is the model's, which stands above that crate.
 pub(crate) fn takes_at(t: &[u32], i: usize, o: LastOrder) -> bool
     ensures { result ≡ takes o (get_or (nodes_in t.now) i (node_of [])) }
 {
@@ -18,7 +18,8 @@ pub(crate) fn takes_at(t: &[u32], i: usize, o: LastOrder) -> bool
     }
 }
 
-// The last order of the node in row `i` is `o`: only its words are stored, and past the end none.
+// The last order of the node in row `i` is `o`: only its words are stored, and past the end none. Here and not in graph_rows: there it would be a
+// public function for one caller.
 pub(crate) fn put_last(t: &mut [u32], i: usize, o: LastOrder)
     ensures { nodes_in t.new ≡ set (nodes_in t.old) i (with_last o (get_or (nodes_in t.old) i (node_of []))) }
 {

@@ -36,7 +36,7 @@ pub fn edges(s: State, edges: &EdgeTable) -> usize
     edge_count(edges, s.edges)
 }
 
-// The edge at a place in their order, or none.
+// The edge at a place in their order, or none. It is a call of docs/CALLS.md as `voice_at` is, and its one line reads another table.
 pub fn edge_at(s: State, edges: &EdgeTable, i: usize) -> Option<Edge>
     ensures { result ≡ slice_get (take s.edges (edges_in edges.now)) i }
 {

@@ -43,7 +43,7 @@ pub fn voice(s: State, voices: &VoiceTable, w: VoiceId) -> Option<Voice>
     find_voice(voices, s.voices, w).map(|i| row::voice_at(voices, i))
 }
 
-// The voice at a place in the order of admission, or none.
+// The voice at a place in the order of admission, or none. It is a call of docs/CALLS.md as `edge_at` is, and its one line reads another table.
 pub fn voice_at(s: State, voices: &VoiceTable, i: usize) -> Option<Voice>
     ensures { (m : Memory) → Called (call.ask (call.voice_at i)) (lent_voice_table s voices.now m) (call.found result) (lent_voice_table s voices.now m) }
 {

@@ -8,7 +8,8 @@ use Rattle.std.specs.List.{list_any, range_with_len}
 use mathlib.Core.Bool.{Bool, true, false, cond, ◌&&◌, ◌||◌}
 use lib.ListN.{length, take, drop, get_or, set, length-set, drop_of_length-le, take-append-drop}
 use lib.Seq.{length-take-le, drop-drop, drop-set-lt}
-use Rattle.lists.proofs.Table.{left_row, append_row}
+use Rattle.std.proofs.lemmas.List.{take_more_set}
+use Rattle.lists.proofs.Table.{left_row}
 use Rattle.node.specs.declared.record.Node.{Node}
 use Rattle.node.specs.declared.record.VoiceId.{VoiceId}
 use Rattle.edges.specs.Wiring.{listed}
@@ -70,7 +71,7 @@ module _ (vs : List Voice) (w : VoiceId) (old : Table ℕ 256) where
       record {
         is = ap (λ n. take n new.rows) one
             ∙ ap (take (old.count + 1)) stored
-            ∙ append_row old.rows old.count w.0 below
+            ∙ take_more_set old.rows old.count w.0 below
             ∙ ap (λ n. take n old.rows ++ (w.0 ∷ [])) (sym few)
             ∙ ap (λ x. noted x l w.0) (sym known);
         told = ap free_outcome (sym known);
@@ -160,7 +161,7 @@ module _ (deadline : ℕ) (rows : List Event) (n : ℕ) (vs : List Voice) (start
       module _ (t : due deadline e ≡ true) (new-ns : List Node) (new : Table ℕ 256) (o : Outcome) (h : EventApplied vs e ns freed new-ns new o) (number : ℕ) (said : number ≡ outcome_number o) (room : taken < length list) where
         told_on : (x : SharedState) → take (taken + 1) (set list taken number) ++ outcomes (rest (i + 1)) (without_ids (ids new) (scene x new-ns vs)) ≡ outcomes (rest 0) (scene x start vs)
         told_on x =
-            ap₂ (λ a m. a ++ outcomes (rest (i + 1)) m) (append_row list taken number room) (h.is x)
+            ap₂ (λ a m. a ++ outcomes (rest (i + 1)) m) (take_more_set list taken number room) (h.is x)
             ∙ append_assoc (take taken list) (number ∷ []) (outcomes (rest (i + 1)) (apply_event e (at x)))
             ∙ ap (λ z. take taken list ++ (z ∷ outcomes (rest (i + 1)) (apply_event e (at x)))) (said ∙ ap outcome_number (h.told x))
             ∙ sym (ap (λ z. take taken list ++ outcomes z (at x)) (split true t))

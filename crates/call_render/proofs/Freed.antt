@@ -4,15 +4,15 @@ use Prim.Native.Nat.{ℕ, ◌+◌}
 use mathlib.Core.Path.{◌≡◌, refl, sym, ap, ◌∙◌}
 use mathlib.Core.Logic.{inl, inr}
 use mathlib.Core.List.{List, [], ◌∷◌, ◌++◌, map}
-use Rattle.std.specs.Prelude.{Option, None, Some, filter, find, is_some}
+use Rattle.std.specs.Prelude.{Option, None, Some, filter, find}
 use mathlib.Core.Bool.{Bool, true, false, not, cond, ◌&&◌, false≢true}
 use lib.Dec.{eqb}
-use borrow.Author.Tests.{eqb-true, eq-eqb, ne_eqb, not-true}
+use borrow.Author.Tests.{eqb-true, ne_eqb, not-true}
 use Rattle.lists.specs.Member.{In}
-use Rattle.lists.proofs.Member.{and_left, and_right, map_same}
+use Rattle.lists.proofs.Member.{and_left, and_right, map_same, neither}
 use Rattle.lists.proofs.Filter.{filter_all, filter_filter, filter_same, filter_map, in_filter}
 use Rattle.lists.specs.Find.{filter_o}
-use Rattle.lists.proofs.Find.{find_in, find_none}
+use Rattle.lists.proofs.Find.{find_in}
 use Rattle.node.specs.declared.name.Name.{Name}
 use Rattle.node.specs.declared.order.LastOrder.{LastOrder}
 use Rattle.node.specs.declared.record.Node.{Node}
@@ -21,7 +21,7 @@ use Rattle.edges.specs.Wiring.{listed, among, drop_touching}
 use Rattle.graph.specs.Node.{is_node, owned_by, owned_by_any, node_at, replaced}
 use Rattle.graph.specs.View.{with_nodes}
 use Rattle.graph.specs.Change.{ids_of}
-use Rattle.graph.proofs.Together.{neither, listed_more}
+use Rattle.graph.proofs.Together.{listed_more, listed_in}
 use Rattle.synthdef.specs.Tables.{param_rows}
 use Rattle.synthdef.specs.Params.{param_node}
 use Rattle.store.specs.declared.answer.Outcome.TheVariants.{Applied, NotTaken}
@@ -42,13 +42,6 @@ find_and q t (x ∷ l) = go (t x) (find_and q t l)
     go : (b : Bool) → find q (filter t l) ≡ find (λ y. t y && q y) l → find q (cond b (x ∷ (filter t l)) (filter t l)) ≡ cond (b && q x) (Some x) (find (λ y. t y && q y) l)
     go true ih = ap (λ o. cond (q x) (Some x) o) ih
     go false ih = ih
-
-listed_in : (w : ℕ) (l : List ℕ) → In w l → listed l w ≡ true
-listed_in w l i = go (find (λ k. eqb k w) l) refl
-  where
-    go : (o : Option ℕ) → find (λ k. eqb k w) l ≡ o → is_some o ≡ true
-    go None e = absurd (false≢true (sym (find_none (λ k. eqb k w) l w e i) ∙ eq-eqb w w refl))
-    go (Some k) e = refl
 
 abbrev voice : ℕ → VoiceId
 voice w = record { 0 = w }
@@ -129,7 +122,7 @@ module _ (l : List ℕ) (ns : List Node) (k : ℕ) (o : LastOrder) (n : Node) (f
       go false t = refl
 
   other : (w : ℕ) → In w l → (x : Node) → owned_by_any l x ≡ false → eqb x.owner.0 w ≡ false
-  other w i x h = ne_eqb x.owner.0 w (λ e. false≢true (sym h ∙ ap (listed l) e ∙ listed_in w l i))
+  other w i x h = ne_eqb x.owner.0 w (λ e. false≢true (sym h ∙ ap (listed l) e ∙ listed_in l w i))
 
   f_own : (w : ℕ) → In w l → (x : Node) → owned_by (voice w) (f x) ≡ owned_by (voice w) x
   f_own w i x = go (is_left l new.id x) refl

@@ -48,7 +48,7 @@ pub record EventApplied (vs : List Voice) (e : Event) (ns : List Node) (old : Ta
   pub more : new.count ≤ old.count + 1
   pub long : length new.rows ≡ length old.rows
 
--- all of them, and the list of what became of them in the place of `lent`
+-- all of them, and the list of what became of them in the place of `lent`; every voice that is noted found room
 pub record Left (ns : List Node) (vs : List Voice) (events : List Event) (new-ns : List Node) (freed : Table ℕ 256) (lent list : List ℕ) (taken : ℕ) : Type 0 where
   pub is : (d : SharedState) → apply_events events (scene d ns vs) ≡ without_ids (ids freed) (scene d new-ns vs)
   pub told : (d : SharedState) → list ≡ written (outcomes events (scene d ns vs)) lent

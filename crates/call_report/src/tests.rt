@@ -8,7 +8,7 @@ ghost use Rattle.voice_rows.specs.Rows.{voices_in};
 ghost use Rattle.call_report.specs.Tested.{row_in, tested, Told};
 
 use graph_rows::node_row::{id_at, owner_at};
-use node::record::VoiceId;
+use node::record::{HOST, VoiceId};
 use node::refusal::Refusal;
 use voice_rows::row::{count_at, first_at};
 use voice_rows::table::find_voice;
@@ -28,7 +28,7 @@ fn is_reported(nodes: &[u32], p: usize, voices: &[u32], held: usize) -> bool
     ensures { result ≡ reports (take held (voices_in voices.now)) (row_in (Some p) (nodes_in nodes.now)) }
 {
     let w = owner_at(nodes, p);
-    w == VoiceId(0) || of_definition(voices, held, w, id_at(nodes, p).0)
+    w == HOST || of_definition(voices, held, w, id_at(nodes, p).0)
 }
 
 // Whether a lent block has its length: one or two channels of `block` samples. Crate bus asks the same of its buffers by a private test; to share it

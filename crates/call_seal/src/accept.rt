@@ -10,7 +10,7 @@ use graph_rows::node_row::{Brief, NodeTable};
 use graph_tables::lookup::{brief_of, node_count};
 use graph_tables::wiring::edge_count;
 use memory::state::State;
-use node::record::VoiceId;
+use node::record::HOST;
 use sealed::profile::Profile;
 use voice_rows::row::VoiceTable;
 use voice_rows::table::voice_count;
@@ -39,7 +39,7 @@ fn numbers_fit(p: Profile) -> bool
 fn is_bus(bus: Option<Brief>, ports: u64) -> bool
     ensures { result ≡ bus_briefed bus ports }
 {
-    bus.is_some_and(|node| node.owner == VoiceId(0) && u64::from(node.ports) == ports)
+    bus.is_some_and(|node| node.owner == HOST && u64::from(node.ports) == ports)
 }
 
 // Whether a store with this bus and these counts is the one that the profile states, and has no voice.

@@ -1,4 +1,5 @@
 // The host's nodes, wiring and sink on a board: closed by every seal, before all else that these calls refuse.
+// A refusal is handed on by `refuse` and not by `?`, since the state goes with every answer.
 // Five functions that begin alike. One that takes the call as a closure was tried: nothing is known of a table that a closure changed, so that
 // `returns-clause-is` of `add_node` stayed open. `set_sink` alone changes no table, and would be the one that uses it.
 ghost use Rattle.std.specs.Prelude.{List, ℕ};

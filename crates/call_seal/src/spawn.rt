@@ -1,5 +1,6 @@
 // The spawn on a board: which of the two, and all its arguments, go together as a wish does. Every seal closes the unmanaged one, and the
-// managed one that is on another bus or larger than the profile says; before all else that a spawn refuses.
+// managed one that is on another bus or larger than the profile says; before all else that a spawn refuses. A refusal is handed on by `refuse`
+// and not by `?`, since the state goes with every answer.
 ghost use Rattle.std.specs.Prelude.{List, ℕ};
 ghost use Rattle.model.specs.Wish.{call_of};
 ghost use Rattle.memory.specs.View.{Memory};

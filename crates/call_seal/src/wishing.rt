@@ -1,3 +1,4 @@
+// A refusal is handed on by `refuse_wish` and not by `?`, since what waits goes with every answer.
 ghost use Rattle.memory.specs.View.{Memory};
 ghost use Rattle.console.specs.Console as console;
 ghost use Rattle.sealed.specs.Board.{on};

@@ -2,12 +2,14 @@
 use Prim.Native.Nat.{ℕ, zero, suc, ◌+◌, ◌≤◌}
 use native.Mathlib.Omega.{arith}
 use mathlib.Core.Path.{◌≡◌, refl}
-use mathlib.Core.Bool.{Bool, true, false, not, ◌||◌}
+use mathlib.Core.Bool.{not, ◌||◌}
 use Rattle.std.specs.Prelude.{Option, None, Some, find, Err}
 use mathlib.Core.List.{List, []}
 use lib.Dec.{ltb, leb, eqb}
 use lib.ListN.{length, length-map}
 use borrow.Author.Tests.{ltb-false, leb-false, not-false}
+use Rattle.std.proofs.lemmas.Bool.{or_parts}
+use Rattle.graph.proofs.Calls.{when_none}
 use Rattle.lists.proofs.Filter.{length_filter}
 use Rattle.node.specs.declared.record.NodeId.{NodeId}
 use Rattle.node.specs.declared.record.VoiceId.{VoiceId}
@@ -15,7 +17,7 @@ use Rattle.node.specs.declared.refusal.Refusal.{Refusal}
 use Rattle.node.specs.declared.refusal.Refusal.TheVariants.{DefinitionLimits, BusWithoutPorts, TableFull, IdsUsedUp, RankTooHigh}
 use Rattle.edges.specs.Ports.{port_from}
 use Rattle.graph.specs.Node.{node_at, ports_of}
-use Rattle.graph.specs.Refuse.{when, host_refusal}
+use Rattle.graph.specs.Refuse.{host_refusal}
 use Rattle.graph.specs.Tables.{answer_of}
 use Rattle.synthdef.specs.Limits.{allowed}
 use Rattle.synthdef.specs.declared.def.SynthDef.{SynthDef}
@@ -38,17 +40,9 @@ pub answer_some : (o : Option Refusal) (r : Refusal) → answer_of o ≡ Err r �
 answer_some None r e = let z : ◌≡◌ {A = ℕ} 0 1 = cc in absurd (omega arith)
 answer_some (Some q) r e = cc
 
-when_none : (b : Bool) (r : Refusal) (rest : Option Refusal) → when b r rest ≡ None → (b ≡ false) × (rest ≡ None)
-when_none true r rest e = let z : ◌≡◌ {A = ℕ} 0 1 = cc in absurd (omega arith)
-when_none false r rest e = (refl, e)
-
 else_none : (o rest : Option Refusal) → or_else o rest ≡ None → rest ≡ None
 else_none None rest e = e
 else_none (Some r) rest e = let z : ◌≡◌ {A = ℕ} 0 1 = cc in absurd (omega arith)
-
-or_none : (a b : Bool) → (a || b) ≡ false → (a ≡ false) × (b ≡ false)
-or_none true b e = let z : ◌≡◌ {A = ℕ} 0 1 = cc in absurd (omega arith)
-or_none false b e = (refl, e)
 
 pub roomy : (m : Model) (def : SynthDef) (bus : NodeId) (rank : ℕ) → spawn_refusal m.shared m.voices def bus rank ≡ None → Roomy def m
 roomy m def bus rank e =
@@ -59,9 +53,9 @@ roomy m def bus rank e =
     let b = when_none (eqb (ports_of (node_at d.graph.nodes bus)) 0) BusWithoutPorts _ (else_none (host_refusal d.graph bus) _ a.1) in
     let c = when_none (no_headroom d vs def) TableFull _ b.1 in
     let i = when_none (no_ids d def) IdsUsedUp _ c.1 in
-    let n = or_none (ltb 512 (length d.graph.nodes + def.nodes.count + 3)) (ltb 1024 (length d.graph.edges + def.edges.count + 4) || leb 64 (length vs)) c.0 in
-    let w = or_none (ltb 1024 (length d.graph.edges + def.edges.count + 4)) (leb 64 (length vs)) n.1 in
-    let k = or_none (ltb 4294967296 (d.graph.next + def.nodes.count + 3)) (leb 18446744073709551615 d.spawned) i.0 in
+    let n = or_parts (ltb 512 (length d.graph.nodes + def.nodes.count + 3)) (ltb 1024 (length d.graph.edges + def.edges.count + 4) || leb 64 (length vs)) c.0 in
+    let w = or_parts (ltb 1024 (length d.graph.edges + def.edges.count + 4)) (leb 64 (length vs)) n.1 in
+    let k = or_parts (ltb 4294967296 (d.graph.next + def.nodes.count + 3)) (leb 18446744073709551615 d.spawned) i.0 in
     record {
       within = not-false (allowed def) a.0;
       places = ltb-false 512 (length d.graph.nodes + def.nodes.count + 3) n.0;

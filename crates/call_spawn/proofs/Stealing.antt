@@ -6,7 +6,7 @@ use mathlib.Core.Bool.{true, false}
 use Rattle.std.specs.Prelude.{Option, None, Some, find, option_map}
 use lib.Dec.{eqb}
 use borrow.Author.Tests.{eqb-true}
-use Rattle.lists.proofs.Member.{and_left}
+use Rattle.lists.proofs.Member.{and_left, and_right}
 use Rattle.lists.proofs.Find.{find_in}
 use Rattle.node.specs.declared.record.NodeId.{NodeId}
 use Rattle.node.specs.declared.record.VoiceId.{VoiceId}
@@ -63,6 +63,9 @@ module _ (v : Voice) (m : Model) (k : ℕ) (bus : NodeId) (at : k ≡ (feeder v)
 
   pub feeds_from : (x : Edge) → r ≡ Some x → x.from ≡ feeder v
   feeds_from x e = ap id (eqb-true x.from.0 (feeder v).0 (and_left (eqb x.from.0 (feeder v).0) _ (find_in (feeds (feeder v) v.bus) m.shared.graph.edges x (looked ∙ e)).1))
+
+  pub feeds_to : (x : Edge) → r ≡ Some x → x.to ≡ v.bus
+  feeds_to x e = ap id (eqb-true x.to.0 v.bus.0 (and_right (eqb x.from.0 (feeder v).0) _ (find_in (feeds (feeder v) v.bus) m.shared.graph.edges x (looked ∙ e)).1))
 
   pub feeds_one : (x : Edge) → r ≡ Some x → fade v x.port m ≡ steal_voice v m
   feeds_one x e = ap (λ (o : Option Edge). stolen v (option_map (λ (e : Edge). e.port) o) m) (sym (looked ∙ e))

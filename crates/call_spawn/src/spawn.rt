@@ -1,3 +1,4 @@
+// A refusal is handed on by `refuse` and not by `?`, since the state goes with every answer.
 ghost use Rattle.std.specs.Prelude.{◌≡◌, take};
 ghost use Rattle.voice_rows.specs.Rows.{voices_in};
 ghost use Rattle.model.specs.Spawn.{state_under, tries};

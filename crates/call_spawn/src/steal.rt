@@ -57,7 +57,7 @@ pub(crate) fn steal_voice(
     let Some(e) = fed else {
         return forget_voice(told, nodes, edges, voices, w);
     };
-    let grown = add_fade(told, nodes, edges, w, e.from, bus, e.port);
+    let grown = add_fade(told, nodes, edges, w, e);
     let f = new_fade(s);
     begin_fade(voices, grown.voices, w, f);
     grown

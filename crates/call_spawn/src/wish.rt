@@ -41,9 +41,6 @@ pub fn voice_on_bus_panned_managed(def: SynthDef, bus: NodeId, pan: f32, rank: u
 {
     Wish {
         managed: true,
-        def,
-        bus,
-        pan,
-        rank,
+        ..voice_on_bus_panned(def, bus, pan, rank)
     }
 }

@@ -8,18 +8,11 @@ ghost use Rattle.node.specs.declared.refusal.Refusal as refusal;
 ghost use Rattle.model.specs.Call.{fade_answer, sum_answer};
 ghost use Rattle.mixing.specs.Filled.{filled_of};
 
+pub use bus::FadePart;
 use bus::fade_length;
 use fade_table::table_gains;
 use node::refusal::Refusal;
 use store::config::Config;
-
-// One block of a fade: the channel counts of input and output, and what the fade's earlier blocks have passed, in samples.
-#[derive(Clone, Copy)]
-pub struct FadePart {
-    pub ins: usize,
-    pub outs: usize,
-    pub position: u64,
-}
 
 // A fade's output for one block. Where the table was chosen, the lent gains are not looked at.
 pub fn fade_output(
@@ -36,7 +29,7 @@ pub fn fade_output(
     let size = config.block;
     let table = config.table.then(table_gains);
     let gains = table.as_ref().map_or(gains, |t| &t[..]);
-    bus::fade_output(input, p.ins, gains, len, p.position, size, out, p.outs)
+    bus::fade_output(input, gains, len, size, p, out)
 }
 
 // The sum of a bus for one block. The inputs' blocks stand one after the other, and counts has the channel count of each.

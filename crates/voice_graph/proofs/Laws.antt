@@ -8,8 +8,9 @@ use lib.Dec.{leb}
 use lib.ListN.{length, take, get_or, length-map, length-append}
 use lib.Seq.{length-take-le}
 use borrow.Author.Tests.{leb-true, le-leb}
-use Rattle.lists.proofs.Member.{and_left, and_right, both}
-use Rattle.lists.proofs.Table.{passed_row}
+use Rattle.std.proofs.lemmas.Bool.{and_from}
+use Rattle.std.proofs.lemmas.List.{take_more}
+use Rattle.lists.proofs.Member.{and_left, and_right}
 use Rattle.node.specs.declared.record.NodeId.{NodeId}
 use Rattle.node.specs.declared.record.VoiceId.{VoiceId}
 use Rattle.node.specs.declared.record.Node.{Node}
@@ -46,7 +47,7 @@ appended_next base l d row first i h room r {now} e =
     ∙ ap (λ z. z ++ (row ∷ [])) e
     ∙ append_assoc base (numbered first (take i l)) (row ∷ [])
     ∙ ap (λ x. base ++ (numbered first (take i l) ++ (x ∷ []))) (r ∙ ap (λ j. with_id (first + j) (get_or l i d)) (sym short))
-    ∙ ap (λ z. base ++ z) (sym (numbered_append first (take i l) (get_or l i d ∷ [])) ∙ ap (numbered first) (sym (passed_row d l i h)))
+    ∙ ap (λ z. base ++ z) (sym (numbered_append first (take i l) (get_or l i d ∷ [])) ∙ ap (numbered first) (sym (take_more l i d h)))
 
 -- the nodes of a pan behind those of the definition
 pub appended_more : (base l m : List Node) (first n : ℕ) → length l ≡ n → {now : List Node} → now ≡ base ++ numbered first l
@@ -77,7 +78,7 @@ pub room_is : (count next n : ℕ) → has_room count next n ≡ true → (count
 room_is count next n h = (leb-true _ _ (and_left (leb (count + n) 512) _ h), leb-true _ _ (and_right (leb (count + n) 512) _ h))
 
 pub has_room_lem : (count next n : ℕ) → count + n ≤ 512 → next + n ≤ 4294967296 → has_room count next n ≡ true
-has_room_lem count next n h k = both (leb (count + n) 512) (leb (next + n) 4294967296) (le-leb _ _ h) (le-leb _ _ k)
+has_room_lem count next n h k = and_from (leb (count + n) 512) (leb (next + n) 4294967296) (le-leb _ _ h) (le-leb _ _ k)
 
 module _ (w : VoiceId) (from bus : NodeId) (p : ℕ) (g : GraphView) where
   pub fade_on : has_room (length g.nodes) g.next 1 ≡ true → with_fade w from bus p g ≡ grown g (fade_node w ∷ []) (put_all g.edges (fade_edges (id g.next) from bus p))

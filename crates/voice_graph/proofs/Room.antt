@@ -3,18 +3,22 @@
 -- edge to the bus replaces the feeder's. Together these are the headroom of a spawn.
 use Prim.Native.Nat.{ℕ, ◌+◌, ◌≤◌, ◌<◌, min}
 use native.Mathlib.Omega.{arith}
-use native.Mathlib.Nat.{min-le_left}
 use mathlib.Core.Path.{◌≡◌, refl, sym, ap, ◌∙◌}
 use mathlib.Core.Logic.{inl, inr}
 use mathlib.Core.List.{List, [], ◌∷◌, ◌++◌, map, append-nil, append_assoc}
 use Rattle.std.specs.Prelude.{Option, None, Some, filter, find, option_map, is_some}
 use mathlib.Core.Bool.{Bool, true, false, not, false≢true}
 use lib.Dec.{eqb}
-use lib.ListN.{length, take, length-append, length-map, length-take}
+use lib.ListN.{length, length-append, length-map}
 use borrow.Author.Tests.{lt-leb, eq-eqb}
+use Rattle.std.proofs.lemmas.Bool.{and_from}
+use Rattle.std.proofs.lemmas.List.{map-append}
+use Rattle.std.proofs.lemmas.List.Elements.{filter-append}
+use Rattle.synthdef.proofs.Rows.{rows_few}
+use Rattle.model.proofs.Grown.{grown_next, grown_edges, wired_nodes}
 use Rattle.lists.specs.Member.{In}
-use Rattle.lists.proofs.Member.{and_right, both, some_inj, none_some, map_append}
-use Rattle.lists.proofs.Filter.{filter_append, length_filter}
+use Rattle.lists.proofs.Member.{and_right, some_inj, none_some}
+use Rattle.lists.proofs.Filter.{length_filter}
 use Rattle.lists.proofs.Find.{find_in, find_none}
 use Rattle.lists.proofs.Count.{count_is_length, count_filter}
 use Rattle.node.specs.declared.record.NodeId.{NodeId}
@@ -23,7 +27,7 @@ use Rattle.node.specs.declared.record.Node.{Node}
 use Rattle.node.specs.declared.record.Edge.{Edge}
 use Rattle.edges.specs.Wiring.{ends_at, taken, drop_at, wired, put}
 use Rattle.edges.specs.Ports.{feeds, port_from}
-use Rattle.edges.proofs.Wiring.{drop_fewer}
+use Rattle.edges.proofs.Wiring.{drop_fewer, length_wired}
 use Rattle.graph.specs.View.{GraphView}
 use Rattle.graph.specs.Node.{with_id}
 use Rattle.graph.specs.Change.{append, connect, edge}
@@ -49,10 +53,6 @@ wired_all es (e ∷ l) = wired_all (wired es e) l
 
 put_place : (es : List Edge) (e : Edge) → length es < 1024 → put es e ≡ wired es e
 put_place es e h = rw (lt-leb 1024 (length es) h)
-
-length_wired : (es : List Edge) (e : Edge) → length (wired es e) ≤ length es + 1
-length_wired es e =
-    omega (arith, length-append (drop_at es e.to e.port) (e ∷ []), length_filter (λ d. not (ends_at e.to e.port d)) es)
 
 put_wired : (es l : List Edge) → length es + length l ≤ 1024 → put_all es l ≡ wired_all es l
 put_wired es [] h = refl
@@ -83,7 +83,7 @@ module _ (v : Voice) (p : ℕ) (g : GraphView) where
       go (Some d) e q =
           let r = find_in (feeds (feeder v) v.bus) g.edges d e in
           let to = and_right (eqb d.from.0 (feeder v).0) (eqb d.to.0 v.bus.0) r.1 in
-          seen d r.0 (both (eqb d.to.0 v.bus.0) (eqb d.port p) to (eq-eqb d.port p (some_inj q))) _ refl
+          seen d r.0 (and_from (eqb d.to.0 v.bus.0) (eqb d.port p) to (eq-eqb d.port p (some_inj q))) _ refl
 
   pub fade_edges_lem : port_from g.edges (feeder v) v.bus ≡ Some p → length (fade_graph v p g).edges ≤ length g.edges + 1
   fade_edges_lem h =
@@ -94,7 +94,7 @@ module _ (v : Voice) (p : ℕ) (g : GraphView) where
       omega (
         arith,
         length-append (drop_at (wired es e) v.bus p) (edge (id g.next) v.bus p ∷ []),
-        ap length (filter_append off rest (e ∷ [])),
+        ap length (filter-append off rest (e ∷ [])),
         length-append (filter off rest) (filter off (e ∷ [])),
         length_filter off (e ∷ []),
         count_is_length off rest,
@@ -107,14 +107,6 @@ module _ (v : Voice) (p : ℕ) (g : GraphView) where
 append_nodes : (ns : List Node) (g : GraphView) → (append_all g ns).nodes ≡ g.nodes ++ numbered g.next ns
 append_nodes [] g = sym (append-nil g.nodes)
 append_nodes (n ∷ ns) g = append_nodes ns (append g n) ∙ append_assoc g.nodes (with_id g.next n ∷ []) (numbered (g.next + 1) ns)
-
-append_next : (ns : List Node) (g : GraphView) → (append_all g ns).next ≡ g.next + length ns
-append_next [] g = omega arith
-append_next (n ∷ ns) g = omega (arith, append_next ns (append g n))
-
-append_edges : (ns : List Node) (g : GraphView) → (append_all g ns).edges ≡ g.edges
-append_edges [] g = refl
-append_edges (n ∷ ns) g = append_edges ns (append g n)
 
 append_sink : (ns : List Node) (g : GraphView) → (append_all g ns).sink ≡ g.sink
 append_sink [] g = refl
@@ -135,10 +127,6 @@ module _ (base : ℕ) where
   wire_edges : (ws : List Wire) (g : GraphView) → (wire_all base g ws).edges ≡ wired_all g.edges (map wire_edge ws)
   wire_edges [] g = refl
   wire_edges (w ∷ ws) g = wire_edges ws (one g w)
-
-  wire_nodes : (ws : List Wire) (g : GraphView) → (wire_all base g ws).nodes ≡ g.nodes
-  wire_nodes [] g = refl
-  wire_nodes (w ∷ ws) g = wire_nodes ws (one g w)
 
   wire_sink : (ws : List Wire) (g : GraphView) → (wire_all base g ws).sink ≡ g.sink
   wire_sink [] g = refl
@@ -168,9 +156,6 @@ wired_append : (es l m : List Edge) → wired_all es (l ++ m) ≡ wired_all (wir
 wired_append es [] m = refl
 wired_append es (e ∷ l) m = wired_append (wired es e) l m
 
-rows_few : {A : Type 0} (capacity count : ℕ) (l : List A) → length (take (min count capacity) l) ≤ count
-rows_few capacity count l = omega (arith, length-take (min count capacity) l, min-le_left (min count capacity) (length l), min-le_left count capacity)
-
 module _ (d : SynthDef) (ok : allowed d ≡ true) (base : ℕ) (ids : base + d.nodes.count + 2 ≤ 4294967296) where
   abbrev n : ℕ
   n = length (node_rows d.nodes)
@@ -199,7 +184,7 @@ module _ (d : SynthDef) (ok : allowed d ≡ true) (base : ℕ) (ids : base + d.n
       out : base + d.output < 4294967296
       out = in_reach d.output (omega (arith, (allowed_within d ok).output))
   all_wires true bus p =
-      ap (λ z. z ++ (edge (id (base + (n + 1))) bus p ∷ [])) (map_append (wire_edge base) (map def_wire (counted (edge_rows d.edges))) (wire d.output (n + 1) 0 ∷ wire n (n + 1) 1 ∷ []))
+      ap (λ z. z ++ (edge (id (base + (n + 1))) bus p ∷ [])) (map-append (wire_edge base) (map def_wire (counted (edge_rows d.edges))) (wire d.output (n + 1) 0 ∷ wire n (n + 1) 1 ∷ []))
       ∙ append_assoc (map (wire_edge base) (map def_wire (counted (edge_rows d.edges)))) _ _
       ∙ ap (λ z. z ++ tail (id (base + d.output)) (id (base + n)) (id (base + (n + 1)))) own_wires
       ∙ ap (λ i. front ++ tail i (id (base + n)) (id (base + (n + 1)))) (sym (id_within base d.output out))
@@ -240,12 +225,12 @@ module _ (w : VoiceId) (d : SynthDef) (pan : Bool) (bus : NodeId) (p : ℕ) (g :
       let fit : length g.edges + length (voice_edges (id g.next) d pan bus p) ≤ 1024 = omega (arith, wires_few d ok g.next ids pan bus p) in
       voice_on w d pan bus p g (has_room_lem (length g.nodes) g.next (count + 2) a b)
       ∙ same_view _ (instantiate_graph w d pan bus p g)
-      (sym (wire_nodes g.next ws g₁ ∙ append_nodes ns g))
+      (sym (wired_nodes g.next ws g₁ ∙ append_nodes ns g))
       (put_wired g.edges (voice_edges (id g.next) d pan bus p) fit
       ∙ ap (wired_all g.edges) (sym (all_wires d ok g.next ids pan bus p))
       ∙ wired_append g.edges (map (wire_edge g.next) ws) (last ∷ [])
-      ∙ ap (λ z. wired z last) (sym (wire_edges g.next ws g₁ ∙ ap (λ z. wired_all z (map (wire_edge g.next) ws)) (append_edges ns g))))
+      ∙ ap (λ z. wired z last) (sym (wire_edges g.next ws g₁ ∙ ap (λ z. wired_all z (map (wire_edge g.next) ws)) (grown_edges ns g))))
       (sym (wire_sink g.next ws g₁ ∙ append_sink ns g))
       refl
       (sym (wire_order g.next ws g₁ ∙ append_order ns g))
-      (sym (wire_next g.next ws g₁ ∙ append_next ns g))
+      (sym (wire_next g.next ws g₁ ∙ grown_next ns g))

@@ -32,46 +32,38 @@ fn voice_size(ns: DefNodes, pan: bool) -> usize
     if pan { n + 2 } else { n }
 }
 
-// A fade of the voice `owner` stands between `from`, which feeds the bus, and the port `port` of the bus.
+// A fade of the voice `owner` stands in the place of the edge `fed`, between the node that feeds the bus and the port of the bus.
 pub fn add_fade(
     s: State,
     nodes: &mut NodeTable,
     edges: &mut EdgeTable,
     owner: VoiceId,
-    from: NodeId,
-    bus: NodeId,
-    port: u32,
+    fed: Edge,
 ) -> State
-    ensures { (m : Memory) → model_of (lent_graph result nodes.new edges.new m) ≡ regraphed (with_fade owner from bus port (graph_of (lent_graph s nodes.old edges.old m))) (model_of (lent_graph s nodes.old edges.old m)) }
+    ensures { (m : Memory) → model_of (lent_graph result nodes.new edges.new m) ≡ regraphed (with_fade owner fed.from fed.to fed.port (graph_of (lent_graph s nodes.old edges.old m))) (model_of (lent_graph s nodes.old edges.old m)) }
 {
     if !has_room(node_count(nodes, s.nodes), s.next, 1) {
         return s;
     }
     let fade = NodeId(s.next as u32);
     let n = append_node(nodes, s.nodes, fade_node(fade, owner));
-    let fed = put_edge(
+    let one = put_edge(
         edges,
         s.edges,
         Edge {
-            from,
             to: fade,
             port: 0,
+            ..fed
         },
     );
-    let both = put_edge(
-        edges,
-        fed,
-        Edge {
-            from: fade,
-            to: bus,
-            port,
-        },
-    );
+    let both = put_edge(edges, one, Edge { from: fade, ..fed });
     with_graph(s, n, both, s.sink, s.next + 1)
 }
 
 // The new voice `owner`: its definition's nodes, the constant and the pan node where it pans, their edges, and the edge to the port
 // `port` of the bus.
+// `d`, `pan`, `bus` and `port` go on to `wire_voice`. A `Wish` would not do for them: it has a rank and a flag that the graph does not ask for, `pan`
+// is a test of its pan, and the port is found by a search.
 pub fn add_voice(
     s: State,
     nodes: &mut NodeTable,

@@ -3,25 +3,16 @@ ghost use Rattle.graph.specs.Node.{with_id};
 ghost use Rattle.model.specs.Spawn.{voice_node, const_node, pan_node, fade_node};
 
 use node::name::{Name, name_of};
-use node::order::LastOrder;
-use node::record::{Node, NodeId, VoiceId};
+use node::record::{Node, NodeId, VoiceId, new_node};
 
-// A node of a voice that takes no orders. One function with those of synthdef and graph would take seven values without a name.
+// A node of a voice that takes no orders.
 fn plain_node(id: NodeId, owner: VoiceId, kind: Name, ports: u32, required: u64) -> Node
     ensures { result ≡ with_id id.0 (voice_node owner kind ports required false false) }
 {
     Node {
-        id,
-        owner,
-        kind,
         ports,
         required,
-        takes_values: false,
-        takes_glides: false,
-        done: false,
-        level: 0.0,
-        last: LastOrder::Nothing,
-        noise: 0,
+        ..new_node(id, owner, kind)
     }
 }
 

@@ -8,9 +8,8 @@ ghost use Rattle.node.specs.declared.refusal.Refusal as refusal;
 ghost use Rattle.model.specs.Call.{whole_fade_answer, whole_sum_answer};
 ghost use Rattle.whole_mixing.specs.Filled.{filled_of};
 
-use bus::fade_length;
+use bus::{FadePart, fade_length};
 use fade_table::table_entries;
-use mixing::FadePart;
 use node::refusal::Refusal;
 use store::config::Config;
 
@@ -29,7 +28,7 @@ pub fn fade_output(
     let size = config.block;
     let table = config.table.then(table_entries);
     let gains = table.as_ref().map_or(gains, |t| &t[..]);
-    whole_samples::fade_output(input, p.ins, gains, len, p.position, size, out, p.outs)
+    whole_samples::fade_output(input, gains, len, size, p, out)
 }
 
 // The sum of a bus for one block. The inputs' blocks stand one after the other, and counts has the channel count of each.

@@ -4,10 +4,11 @@ use mathlib.Core.Path.{◌≡◌, sym, ap, ◌∙◌}
 use mathlib.Core.List.{[]}
 use borrow.Author.Rules.{rules}
 use lib.ListN.{length, set}
+use Rattle.voice_rows.proofs.Words.{voices_long}
 use Rattle.node.specs.declared.record.VoiceId.{VoiceId}
 use Rattle.words.proofs.InPlace.{gathering_take, gathering_pass}
 use Rattle.voice_rows.specs.Rows.{voice_of, voices_in}
-use Rattle.call_clear.proofs.Passes.{id_of, room, gathered}
+use Rattle.call_clear.proofs.Passes.{id_of, gathered}
 use Rattle.call_clear.proofs.clear.leaving_ids.Goals as goal
 use Rattle.call_clear.proofs.clear.leaving_ids.Goals.{then-leaves, else-leaves}
 
@@ -17,7 +18,7 @@ loop-i-preserved g c =
     let l = c.loop-i in
     let vs = voices_in a.voices.now in
     let long : length a.voices.now ≡ 9152 = search rules in
-    let below : l.i < length vs = omega (arith, room a.voices.now long, c.min-i-end.ensures, c.loop-i-test.true) in
+    let below : l.i < length vs = omega (arith, voices_long a.voices.now long, c.min-i-end.ensures, c.loop-i-test.true) in
     elim c.if-leaves.branch [
       | then-leaves w ↦
           let free : l.leaving.count < 64 = omega (arith, l.invariant.0, c.min-i-end.ensures, c.loop-i-test.true) in

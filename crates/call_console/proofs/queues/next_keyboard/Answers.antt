@@ -1,5 +1,5 @@
 use Prim.Native.Nat.{ℕ, zero, suc, ◌≤◌, ◌<◌}
-use native.Mathlib.Omega.{arith}
+use native.Mathlib.Omega.{arith, by_contra}
 use native.Mathlib.Numerals.{add-one}
 use mathlib.Core.Bool.{true, false}
 use mathlib.Core.Path.{◌≡◌, refl, sym, ap, subst, ◌∙◌}
@@ -14,7 +14,7 @@ use Rattle.lists.proofs.Member.{none_some}
 use Rattle.console.specs.Wishes.{keyboards, waiting_at, after, picked, oldest_or}
 use Rattle.call_console.specs.Queues.{wishes_of, picked_at}
 use Rattle.call_console.proofs.Calls.{waits_from}
-use Rattle.call_console.proofs.Walked.{walk_none, walk_found, item_has, some_has, endless, not_below}
+use Rattle.call_console.proofs.Walked.{walk_none, walk_found, item_has, some_has, endless}
 use Rattle.call_console.proofs.queues.next_keyboard.Goals as goal
 
 pub returns-clause-is : goal.returns-clause-is
@@ -45,7 +45,7 @@ returns-clause-is c =
             | zero ↦ λ e w. absurd (none_some (sym (walk.1 w e)))
             | suc k ↦ λ e w. endless (q.at k) _ (steps.1 k w (e ∙ sym (add-one k))) (λ x h. search rules)
           ] in
-          let full : m ≤ u.len = not_below u.len m (λ lt. ends q.len refl (whole h.0 lt)) in
+          let full : m ≤ u.len = by_contra m u.len (λ lt. ends q.len refl (whole h.0 lt)) in
           walk_none ws (keyboards ws) s.next
           (λ k lt. item_has (u.at k) (iterate on k s.next) _ _ (λ x. length (waiting_at x ws) ≤ 0) (u.reads k 0 (omega (arith, lt, many, full))) (item k) (λ x h. let e : false ≡ ltb 0 (length (waiting_at x ws)) = search (rules, tests) in ltb-false 0 (length (waiting_at x ws)) (sym e)) (quiet k))
       | Some x ↦ λ e.

@@ -14,7 +14,7 @@ use Rattle.memory.specs.Lent.{lent_spawn}
 use Rattle.bus_room.specs.Reclaimed.{restolen}
 use Rattle.call_spawn.specs.Room.{steal_found}
 use Rattle.call_spawn.proofs.Rooms.{blank}
-use Rattle.call_spawn.proofs.Stealing.{fades, cuts, found_id, feeds_none, feeds_from, feeds_one}
+use Rattle.call_spawn.proofs.Stealing.{fades, cuts, found_id, feeds_none, feeds_from, feeds_to, feeds_one}
 use Rattle.call_spawn.proofs.steal.steal_voice.Goals as goal
 
 pub returns-in_default-fed : goal.returns-in_default-fed
@@ -54,6 +54,7 @@ returns c =
     let is-told = told.ensures old ∙ ap (λ b. restolen (recorded v b (shared_of old)) (model_of old)) is-fed in
     let grown = c.add_fade-grown in
     let more = lent_spawn grown.result grown.new.nodes grown.new.edges a.voices.now told.new.steals m in
+    let to = feeds_to v (model_of old) c.feeder_at.result c.bus_at-bus.result c.feeder_at.ensures c.bus_at-bus.ensures fed.result fed.ensures e c.in-Some-fed.is in
     let from = feeds_from v (model_of old) c.feeder_at.result c.bus_at-bus.result c.feeder_at.ensures c.bus_at-bus.ensures fed.result fed.ensures e c.in-Some-fed.is in
-    fades v e.port (model_of old) (model_of mid) (model_of more) (c.requires m) is-told a.w e.from c.bus_at-bus.result is-w from c.bus_at-bus.ensures (grown.ensures mid) c.new_fade-f.result c.new_fade-f.ensures _ c.begin_fade.ensures
+    fades v e.port (model_of old) (model_of mid) (model_of more) (c.requires m) is-told a.w e.from e.to is-w from to (grown.ensures mid) c.new_fade-f.result c.new_fade-f.ensures _ c.begin_fade.ensures
     ∙ feeds_one v (model_of old) c.feeder_at.result c.bus_at-bus.result c.feeder_at.ensures c.bus_at-bus.ensures fed.result fed.ensures e c.in-Some-fed.is ∙ sym (ap (λ o. steal_found o (model_of old)) found)

@@ -14,7 +14,7 @@ returns-then-not-has_room c =
     let a = c.args in
     let no : has_room (length (take a.s.nodes (nodes_in a.nodes.now))) a.s.next 1 ≡ false =
     ap (λ k. has_room k a.s.next 1) (sym c.node_count.ensures) ∙ sym c.has_room.ensures ∙ c.if-not-has_room.true in
-    λ m. fade_stays a.s a.nodes.now a.edges.now m a.owner a.from a.bus a.port no
+    λ m. fade_stays a.s a.nodes.now a.edges.now m a.owner a.fed.from a.fed.to a.fed.port no
 
 pub returns : goal.returns
 returns c =
@@ -23,5 +23,5 @@ returns c =
     ap (λ k. has_room k a.s.next 1) (sym c.node_count.ensures) ∙ sym c.has_room.ensures ∙ c.if-not-has_room.false in
     let n = c.append_node-n in
     let e = c.put_edge-both in
-    let wired = e.ensures.is ∙ ap (λ z. put z (edge (id a.s.next) a.bus a.port)) c.put_edge-fed.ensures.is in
-    λ m. fade_grows a.s a.nodes.now a.edges.now m a.owner a.from a.bus a.port is c.fade_node.result c.fade_node.ensures n.new.nodes e.new.edges n.result e.result c.with_graph.result c.with_graph.ensures n.ensures wired
+    let wired = e.ensures.is ∙ ap (λ z. put z (edge (id a.s.next) a.fed.to a.fed.port)) c.put_edge-one.ensures.is in
+    λ m. fade_grows a.s a.nodes.now a.edges.now m a.owner a.fed.from a.fed.to a.fed.port is c.fade_node.result c.fade_node.ensures n.new.nodes e.new.edges n.result e.result c.with_graph.result c.with_graph.ensures n.ensures wired
