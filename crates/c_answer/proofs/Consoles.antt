@@ -16,6 +16,7 @@ use Rattle.call_console.specs.declared.making.MakeRefusal.TheVariants.{Store, Ke
 use Rattle.call_console.specs.Called.{ConsoleMemory, memory, console_of, Called, Kept, turn_answer, made_of}
 use Rattle.state_words.specs.State.{state_in}
 use Rattle.wish_state_words.specs.Waiting.{waiting_in}
+use Rattle.c_answer.specs.Refused.{made_number, number_by}
 use Rattle.c_answer.specs.Exported.{Settled}
 use Rattle.c_answer.specs.Console.{console_code, store_kept, waiting_kept, said_to, ConsoleExported, keyboard_cell, served_cell, TurnCells, made_code, made_kept, MakesConsole, WaitingSettled}
 use Rattle.c_answer.proofs.Exporting.{no}
@@ -102,6 +103,11 @@ pub made_keeps : (a : Result (Unit {0}) MakeRefusal) (x : Console) → is_err a 
 made_keeps (Ok tt) x = refl
 made_keeps (Err (Store r)) x = refl
 made_keeps (Err (Keyboards r)) x = refl
+
+pub made_told : (a : Result (Unit {0}) MakeRefusal) (x : Console) → number_by made_number a ≡ made_code (made_of a x)
+made_told (Ok tt) x = refl
+made_told (Err (Store r)) x = refl
+made_told (Err (Keyboards r)) x = refl
 
 -- ---- making: o is what it comes to, a its answer
 is_made : (a : Result (Unit {0}) MakeRefusal) (x : Console) → made_kept (made_of a x) ≡ false → made_of a x ≡ made x

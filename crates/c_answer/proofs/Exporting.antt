@@ -4,16 +4,16 @@ use native.Mathlib.Omega.{arith}
 use mathlib.Core.Path.{◌≡◌, refl, sym, ap, ◌∙◌}
 use mathlib.Core.List.{List}
 use mathlib.Core.Bool.{Bool, true, false}
-use Rattle.model.specs.Call.{Call, Answer, Step, step}
-use Rattle.model.specs.Numbers.{number, number_in}
+use Rattle.model.specs.Call.{Call, Answer, Step, step, spawned}
+use Rattle.model.specs.Numbers.{number_in}
 use Rattle.memory.specs.View.{Memory, model_of}
 use Rattle.memory.specs.declared.state.State.{State}
 use Rattle.memory.specs.Called.{Called, Kept, keeps, answered}
 use Rattle.state_words.specs.State.{state_in}
 use Rattle.node.specs.declared.refusal.Refusal.{Refusal}
-use Rattle.node.specs.Refusal.{says}
+use Rattle.node.specs.declared.record.VoiceId.{VoiceId}
 use Rattle.std.specs.Prelude.{Result, Err, Ok}
-use Rattle.c_answer.specs.Exported.{code, result_code, said_by, Exported, Tells, Settled}
+use Rattle.c_answer.specs.Exported.{code, result_code, result_kept, said_by, Exported, Tells, Settled}
 
 pub no : {A : Type 0} → ◌≡◌ {A = Bool} false true → A
 no e = absurd (let z : ◌≡◌ {A = ℕ} 0 1 = cc in omega arith)
@@ -68,6 +68,10 @@ pub done_code : (a : Result (Unit {0}) Refusal) → result_code a ≡ code (answ
 done_code (Ok tt) = refl
 done_code (Err r) = refl
 
-pub done_kept : (a : Result (Unit {0}) Refusal) → keeps (number (says a)) ≡ keeps (number_in (answered a))
+pub done_kept : (a : Result (Unit {0}) Refusal) → result_kept a ≡ keeps (number_in (answered a))
 done_kept (Ok tt) = refl
 done_kept (Err r) = refl
+
+pub spawned_kept : (a : Result VoiceId Refusal) → result_kept a ≡ keeps (number_in (spawned a))
+spawned_kept (Ok w) = refl
+spawned_kept (Err r) = refl

@@ -2,7 +2,7 @@
 -- number, and what else a call gives is stored in cells that the host lends.
 use Rattle.node.specs.declared.record.VoiceId.{VoiceId}
 use Rattle.node.specs.declared.refusal.Refusal.{Refusal}
-use Rattle.std.specs.Prelude.{ℕ, ◌≡◌, List, Bool, true, false, Result, Err, Ok}
+use Rattle.std.specs.Prelude.{ℕ, ◌≡◌, List, Bool, true, false, Some, Result, Err, Ok}
 use Rattle.node.specs.Refusal.{number_of}
 use Rattle.store.specs.declared.answer.Rendered.{Rendered}
 use Rattle.store.specs.declared.answer.Rendered.TheVariants as rendered
@@ -14,11 +14,15 @@ use Rattle.memory.specs.View.{Memory, model_of}
 use Rattle.memory.specs.Called.{keeps}
 use Rattle.memory.specs.declared.state.State.{State}
 use Rattle.state_words.specs.State.{state_in}
+use Rattle.c_answer.specs.Refused.{number_by, kept_by}
 
 -- ---- the number of an answer: 0 done, or 01's and 02's number
 abbrev pub result_code : {A : Type 0} → Result A Refusal → ℕ
-result_code (Ok x) = 0
-result_code (Err r) = number_of r
+result_code a = number_by number_of a
+
+-- whether a call that answers by a result keeps every word
+abbrev pub result_kept : {A : Type 0} → Result A Refusal → Bool
+result_kept a = kept_by (λ r. keeps (Some (number_of r))) a
 
 -- "the render is not refused: it answers silent and 13 or 14"
 abbrev pub render_code : Rendered → ℕ

@@ -1,42 +1,35 @@
 // Answers as numbers and cells, and when the state is written back. Numbers, since a host in C has no enums.
-// A function for each sort of answer. One over a trait would need an impl for each sort of refusal, which for those of a seal could not stand
-// in piecrag_c_seal (neither trait nor enum would be its own), and in all as many lines.
-ghost use Rattle.std.specs.Prelude.{◌≡◌, Some};
-ghost use Rattle.node.specs.Refusal.{number_of, says};
+ghost use Rattle.std.specs.Prelude.{◌≡◌};
+ghost use Rattle.std.specs.Option.{unwrap_or};
 ghost use Rattle.model.specs.Numbers.{number, render_says};
 ghost use Rattle.memory.specs.Called.{keeps};
-ghost use Rattle.c_answer.specs.Exported.{result_code, render_code, sound_cell, taken_cell, Settled};
+ghost use Rattle.state_words.specs.State.{some_flag};
+ghost use Rattle.c_answer.specs.Refused.{number_by, kept_by};
+ghost use Rattle.c_answer.specs.Exported.{render_code, sound_cell, taken_cell, Settled};
 
+use crate::refusal::Numbered;
 use memory::state::{CallResult, State};
-use node::refusal::{Refusal, refusal_number};
 use state_words::{StateWords, put_state};
 use store::answer::Rendered;
 
-pub fn number_of(r: Refusal) -> u32
-    ensures { result ≡ number_of r }
+pub fn number_of<R: Numbered>(r: R) -> u32
+    ensures { result ≡ R.number r }
 {
-    u32::from(refusal_number(r))
-}
-
-// Whether a call that was refused so keeps every word: all but the one for want of a port do.
-pub fn is_kept(r: Refusal) -> bool
-    ensures { result ≡ keeps (Some (number_of r)) }
-{
-    !matches!(r, Refusal::NoPort)
+    u32::from(r.number())
 }
 
 // The number of an answer that may be a refusal: 0 where it is none.
-pub fn result_code<A: Copy>(a: Result<A, Refusal>) -> u32
-    ensures { result ≡ result_code a }
+pub fn result_code<A: Copy, R: Numbered>(a: Result<A, R>) -> u32
+    ensures { result ≡ number_by R.number a }
 {
     a.map_or_else(number_of, |_| 0)
 }
 
 // Whether a call that answers so keeps every word.
-pub fn result_kept<A: Copy>(a: Result<A, Refusal>) -> bool
-    ensures { result ≡ keeps (number (says a)) }
+pub fn result_kept<A: Copy, R: Numbered>(a: Result<A, R>) -> bool
+    ensures { result ≡ kept_by R.kept a }
 {
-    a.is_err_and(is_kept)
+    a.is_err_and(|r| r.is_kept())
 }
 
 // A render by its cases: C gets a number and two cells of it, and a cell keeps its value where the render is refused.
@@ -53,7 +46,7 @@ pub fn render_kept(a: Rendered) -> bool
     ensures { result ≡ keeps (number (render_says a)) }
 {
     match a {
-        Rendered::Refused(r) => is_kept(r),
+        Rendered::Refused(r) => r.is_kept(),
         _ => false,
     }
 }
@@ -77,8 +70,17 @@ pub fn taken_cell(a: Rendered, n: usize, old: usize) -> usize
     }
 }
 
+// A value that was found goes into the cell, and the flag beside it becomes 1, or 0 where there is none, since C has no option.
+pub fn put_cell<T: Copy>(flag: &mut u32, cell: &mut T, found: Option<T>)
+    ensures flag { flag.new ≡ some_flag found }
+    ensures cell { cell.new ≡ unwrap_or found cell.old }
+{
+    *flag = u32::from(found.is_some());
+    *cell = found.unwrap_or(*cell);
+}
+
 // The state s is written to the words, unless they are kept; the answer is the number.
-// `kept` is a value and no step to run: each caller asks it of an answer of another type.
+// `kept` is a value and no step to run: a render and a turn answer by enums and options, of which each has a test of its own.
 // `settle_waiting` and `settle_seal` are this `if` for other words: one function would take what writes as a closure, as long as the `if`.
 pub fn settle(w: &mut StateWords, s: State, kept: bool, k: u32) -> u32
     ensures { Settled w.old s kept k result w.new }
@@ -90,8 +92,8 @@ pub fn settle(w: &mut StateWords, s: State, kept: bool, k: u32) -> u32
 }
 
 // The same of a call that answers by a result.
-pub fn settle_result<A: Copy>(w: &mut StateWords, r: CallResult<Result<A, Refusal>>) -> u32
-    ensures { Settled w.old r.state (keeps (number (says r.answer))) (result_code r.answer) result w.new }
+pub fn settle_result<A: Copy, R: Numbered>(w: &mut StateWords, r: CallResult<Result<A, R>>) -> u32
+    ensures { Settled w.old r.state (kept_by R.kept r.answer) (number_by R.number r.answer) result w.new }
 {
     settle(w, r.state, result_kept(r.answer), result_code(r.answer))
 }

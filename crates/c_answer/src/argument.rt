@@ -9,8 +9,8 @@ use node::order::{EventAction, Glide, GlideShape, GlideSpace};
 use state_words::{budget_in, policy_in, scope_in};
 use store::config::Making;
 
-// Crate script has this match and that of `action_in` once more: what plays the scripts is kept apart from the library that it is compared
-// with.
+// Crate script has this match and those of `space_in` and `action_in` once more: what plays the scripts is kept apart from the library that it is
+// compared with.
 fn shape_in(tag: u32, curve: f32) -> GlideShape
     ensures { result ≡ shape_in tag curve }
 {

@@ -4,3 +4,4 @@
 pub mod answer;
 pub mod argument;
 pub mod keyboards;
+pub mod refusal;

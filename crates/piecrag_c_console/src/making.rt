@@ -4,9 +4,9 @@ ghost use Rattle.state_words.specs.State.{budget_in};
 ghost use Rattle.c_answer.specs.Argument.{making_in};
 ghost use Rattle.c_answer.specs.Console.{MakesConsole};
 
-use c_answer::answer::settle;
+use c_answer::answer::{result_code, settle};
 use c_answer::argument::making_in;
-use c_answer::keyboards::{made_code, settle_waiting};
+use c_answer::keyboards::settle_waiting;
 use state_words::StateWords;
 use wish_state_words::WaitingWords;
 
@@ -30,5 +30,5 @@ pub extern "C" fn piecrag_make_console(
     let made = piecrag::make_console(asked, keyboards);
     let kept = made.answer.is_err();
     settle_waiting(waiting, made.wishes, kept);
-    settle(state, made.state, kept, made_code(made.answer))
+    settle(state, made.state, kept, result_code(made.answer))
 }

@@ -7,6 +7,7 @@ ghost use Rattle.state_words.specs.State.{some_flag};
 ghost use Rattle.wish_state_words.specs.Waiting.{waiting_in};
 ghost use Rattle.piecrag_c_console.specs.Next.{picked_cell};
 
+use c_answer::answer::put_cell;
 use call_console::queues::next_keyboard;
 use wish_state_words::{WaitingWords, waiting_in};
 
@@ -45,7 +46,6 @@ pub extern "C" fn piecrag_next_keyboard(
 {
     let s = waiting_in(waiting);
     let next = next_keyboard(s);
-    *found = u32::from(next.is_some());
-    *keyboard = next.unwrap_or(*keyboard);
+    put_cell(found, keyboard, next);
     0
 }

@@ -47,7 +47,7 @@ impl Row for Edge {
     }
 }
 
-// A row that was found becomes the row of the lent record, and the flag beside it becomes 1, or 0 where there is none.
+// A row that was found becomes the row of the lent record, and the flag beside it becomes 1, or 0 where there is none, since C has no option.
 pub fn put_found<R: Row>(flag: &mut u32, t: &mut [u32], found: Option<R>)
     ensures flag { flag.new ≡ some_flag found }
     ensures row { R.rows t.new ≡ row_cell found (R.rows t.old) }

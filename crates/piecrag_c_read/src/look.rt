@@ -12,6 +12,7 @@ ghost use Rattle.c_answer.specs.Exported.{Tells};
 ghost use Rattle.piecrag_c_read.specs.Cells.{row_cell};
 
 use crate::cell::put_found;
+use c_answer::answer::put_cell;
 use node::record::{NodeId, VoiceId};
 use piecrag::{NodeTable, VoiceTable};
 use state_words::{StateWords, state_in};
@@ -38,8 +39,7 @@ pub extern "C" fn piecrag_voice_level(
 {
     let s = state_in(state);
     let l = piecrag::voice_level(s, nodes, voices, VoiceId(voice));
-    *known = u32::from(l.is_some());
-    *level = l.unwrap_or(*level);
+    put_cell(known, level, l);
     0
 }
 
@@ -56,8 +56,7 @@ pub extern "C" fn piecrag_fade_position(
 {
     let s = state_in(state);
     let p = piecrag::fade_position(s, voices, VoiceId(voice));
-    *fading = u32::from(p.is_some());
-    *position = p.unwrap_or(*position);
+    put_cell(fading, position, p);
     0
 }
 

@@ -50,6 +50,7 @@ pub extern "C" fn piecrag_steal_at(
     let s = state_in(state);
     let r = piecrag::steals(s, steals);
     let f = steal_at(r, place);
+    // Four cells share the one flag: by `put_cell` one of them would set it for the others.
     *found = u32::from(f.is_some());
     *sample = f.map_or(*sample, |r| r.sample);
     *known = f.map_or(*known, |r| u32::from(r.known));

@@ -13,6 +13,7 @@ ghost use Rattle.c_answer.specs.Exported.{Tells};
 ghost use Rattle.piecrag_c_read.specs.Cells.{row_cell, source_cell};
 
 use crate::cell::put_found;
+use c_answer::answer::put_cell;
 use node::record::NodeId;
 use piecrag::{EdgeTable, OrderTable, VoiceTable};
 use state_words::{StateWords, state_in};
@@ -87,8 +88,7 @@ pub extern "C" fn piecrag_source(
     let s = state_in(state);
     let all = piecrag::sources(s, edges, NodeId(node));
     let source = all.get(port as usize).copied().flatten();
-    *fed = u32::from(source.is_some());
-    *from = source.map_or(*from, |n| n.0);
+    put_cell(fed, from, source.map(|n| n.0));
     0
 }
 

@@ -5,7 +5,7 @@ use mathlib.Core.Path.{◌≡◌, refl, sym, ap, ◌∙◌}
 use mathlib.Core.List.{List}
 use mathlib.Core.Bool.{Bool, true, false}
 use Rattle.model.specs.Call.{Call, Answer}
-use Rattle.model.specs.Numbers.{number, number_in}
+use Rattle.model.specs.Numbers.{number_in}
 use Rattle.memory.specs.View.{Memory}
 use Rattle.memory.specs.declared.state.State.{State}
 use Rattle.console.specs.Console.{plain, accepted, served, empty}
@@ -15,7 +15,6 @@ use Rattle.std.specs.Prelude.{Result, Ok, Err}
 use Rattle.std.specs.Result.{is_err}
 use Rattle.node.specs.declared.record.NodeId.{NodeId}
 use Rattle.node.specs.declared.refusal.Refusal.{Refusal}
-use Rattle.node.specs.Refusal.{says}
 use Rattle.memory.specs.Called.{keeps, add_answered}
 use Rattle.console.specs.declared.refusal.KeyboardRefusal.{KeyboardRefusal}
 use Rattle.sealed.specs.declared.refusal.SealRefusal.{SealRefusal}
@@ -25,7 +24,10 @@ use Rattle.sealed.specs.Board.{BoardCall, BoardAnswer, given, sealed, refused, B
 use Rattle.call_seal.specs.Board.{BoardMemory, board, board_of, on_store, BoardCalled, BoardKept, told_by, seal_answer, wished_answer}
 use Rattle.state_words.specs.State.{state_in}
 use Rattle.seal_words.specs.Seal.{seal_in}
-use Rattle.c_answer.specs.Exported.{result_code, code, Settled}
+use Rattle.console.specs.Refusal as keyboard
+use Rattle.sealed.specs.Refusal as seal
+use Rattle.c_answer.specs.Refused.{board_number, number_by}
+use Rattle.c_answer.specs.Exported.{result_code, result_kept, code, Settled}
 use Rattle.c_answer.proofs.Exporting.{no}
 use Rattle.piecrag_c_seal.specs.Board.{board_code, board_keeps, store_code, store_kept, said_on, BoardExported, BoardTells}
 
@@ -54,7 +56,7 @@ told_code say is (Ok x) = is (Ok x)
 told_code say is (Err BoardRefusal.Closed) = refl
 told_code say is (Err (BoardRefusal.Given r)) = is (Err r)
 
-told_kept : {A : Type 0} (say : Result A Refusal → Answer) → ((a : Result A Refusal) → keeps (number (says a)) ≡ keeps (number_in (say a))) → (a : Result A (BoardRefusal Refusal)) → store_kept a ≡ board_keeps (told_by (λ b. plain (say b)) a)
+told_kept : {A : Type 0} (say : Result A Refusal → Answer) → ((a : Result A Refusal) → result_kept a ≡ keeps (number_in (say a))) → (a : Result A (BoardRefusal Refusal)) → store_kept a ≡ board_keeps (told_by (λ b. plain (say b)) a)
 told_kept say is (Ok x) = is (Ok x)
 told_kept say is (Err BoardRefusal.Closed) = refl
 told_kept say is (Err (BoardRefusal.Given r)) = is (Err r)
@@ -63,7 +65,7 @@ pub add_code : (a : Result NodeId Refusal) → result_code a ≡ code (add_answe
 add_code (Ok k) = refl
 add_code (Err r) = refl
 
-pub add_kept : (a : Result NodeId Refusal) → keeps (number (says a)) ≡ keeps (number_in (add_answered a))
+pub add_kept : (a : Result NodeId Refusal) → result_kept a ≡ keeps (number_in (add_answered a))
 add_kept (Ok k) = refl
 add_kept (Err r) = refl
 
@@ -71,6 +73,15 @@ pub wish_kept : (a : Result (Unit {0}) (BoardRefusal KeyboardRefusal)) → is_er
 wish_kept (Ok tt) = refl
 wish_kept (Err BoardRefusal.Closed) = refl
 wish_kept (Err (BoardRefusal.Given r)) = refl
+
+pub wish_code : (a : Result (Unit {0}) (BoardRefusal KeyboardRefusal)) → number_by (board_number keyboard.number_of) a ≡ board_code (wished_answer a)
+wish_code (Ok tt) = refl
+wish_code (Err BoardRefusal.Closed) = refl
+wish_code (Err (BoardRefusal.Given r)) = refl
+
+pub seal_code : (a : Result (Unit {0}) SealRefusal) → number_by seal.number_of a ≡ board_code (seal_answer a)
+seal_code (Ok tt) = refl
+seal_code (Err r) = refl
 
 pub seal_kept : (a : Result (Unit {0}) SealRefusal) → is_err a ≡ board_keeps (seal_answer a)
 seal_kept (Ok tt) = refl
@@ -124,7 +135,7 @@ module _ {E S : Type 0} (decode : List ℕ → S) (x y : BoardCall) (before afte
 -- stood before and after; `say` is what its answer says where no seal closes it.
 pub settled : {A : Type 0} (say : Result A Refusal → Answer)
     → ((a : Result A Refusal) → result_code a ≡ code (say a))
-    → ((a : Result A Refusal) → keeps (number (says a)) ≡ keeps (number_in (say a)))
+    → ((a : Result A Refusal) → result_kept a ≡ keeps (number_in (say a)))
     → (c d : Call) (lent left : State → Memory) (own : (j : State) → (lent j).state ≡ j) (own' : (j : State) → (left j).state ≡ j)
     → (p : WishState) (l : List ℕ) (x : Seal) (z w : List ℕ) (s t : State) (a : Result A (BoardRefusal Refusal))
     → d ≡ c

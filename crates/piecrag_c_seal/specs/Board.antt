@@ -10,10 +10,10 @@ use Rattle.node.specs.declared.record.NodeId.{NodeId}
 use Rattle.node.specs.declared.record.VoiceId.{VoiceId}
 use Rattle.node.specs.declared.refusal.Refusal.{Refusal}
 use Rattle.node.specs.Refusal as store
-use Rattle.sealed.specs.declared.refusal.SealRefusal.TheVariants.{Closed}
 use Rattle.call_seal.specs.declared.closing.BoardRefusal.{BoardRefusal}
 use Rattle.call_seal.specs.Board.{BoardMemory, board_of}
 use Rattle.sealed.specs.Seal.{Seal}
+use Rattle.c_answer.specs.Refused.{board_number, board_kept, number_by, kept_by}
 use Rattle.c_answer.specs.Console.{console_code}
 use Rattle.seal_words.specs.Seal.{seal_in}
 
@@ -38,14 +38,10 @@ board_keeps (refused r) = true
 
 -- ---- the same of what a call of the store is answered on a board
 abbrev pub store_code : {A : Type 0} → Result A (BoardRefusal Refusal) → ℕ
-store_code (Ok x) = 0
-store_code (Err BoardRefusal.Closed) = number_of Closed
-store_code (Err (BoardRefusal.Given r)) = store.number_of r
+store_code a = number_by (board_number store.number_of) a
 
 abbrev pub store_kept : {A : Type 0} → Result A (BoardRefusal Refusal) → Bool
-store_kept (Ok x) = false
-store_kept (Err BoardRefusal.Closed) = true
-store_kept (Err (BoardRefusal.Given r)) = keeps (Some (store.number_of r))
+store_kept a = kept_by (board_kept (λ r. keeps (Some (store.number_of r)))) a
 
 -- ---- the contract of an export
 abbrev pub said_on : BoardCall → BoardMemory → BoardAnswer

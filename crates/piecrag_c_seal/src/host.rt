@@ -11,7 +11,7 @@ ghost use Rattle.state_words.specs.State.{state_in};
 ghost use Rattle.seal_words.specs.Seal.{seal_in};
 ghost use Rattle.piecrag_c_seal.specs.Board.{BoardExported, BoardTells, added_cell};
 
-use crate::numbers::settle_board;
+use c_answer::answer::settle_result;
 use graph::host::HostNode;
 use node::record::{Edge, NodeId};
 use piecrag::{EdgeTable, NodeTable};
@@ -44,7 +44,7 @@ pub extern "C" fn piecrag_add_node(
     };
     let r = piecrag::board_add_node(x, s, nodes, kind, n);
     *node = r.answer.map_or(*node, |id| id.0);
-    settle_board(state, r)
+    settle_result(state, r)
 }
 
 #[unsafe(no_mangle)]
@@ -60,7 +60,7 @@ pub extern "C" fn piecrag_remove_node(
     let x = seal_in(seal);
     let s = state_in(state);
     let r = piecrag::board_remove_node(x, s, nodes, edges, NodeId(node));
-    settle_board(state, r)
+    settle_result(state, r)
 }
 
 #[unsafe(no_mangle)]
@@ -83,7 +83,7 @@ pub extern "C" fn piecrag_connect(
         port,
     };
     let r = piecrag::board_connect(x, s, nodes, edges, e);
-    settle_board(state, r)
+    settle_result(state, r)
 }
 
 #[unsafe(no_mangle)]
@@ -100,7 +100,7 @@ pub extern "C" fn piecrag_disconnect(
     let x = seal_in(seal);
     let s = state_in(state);
     let r = piecrag::board_disconnect(x, s, nodes, edges, NodeId(to), port);
-    settle_board(state, r)
+    settle_result(state, r)
 }
 
 #[unsafe(no_mangle)]
@@ -115,5 +115,5 @@ pub extern "C" fn piecrag_set_sink(
     let x = seal_in(seal);
     let s = state_in(state);
     let r = piecrag::board_set_sink(x, s, nodes, NodeId(node));
-    settle_board(state, r)
+    settle_result(state, r)
 }

@@ -5,7 +5,6 @@
 
 pub mod from_book;
 pub mod host;
-pub mod numbers;
 pub mod sealing;
 pub mod spawn;
 pub mod wishing;

@@ -7,15 +7,25 @@ ghost use Rattle.call_seal.specs.Board.{board};
 ghost use Rattle.state_words.specs.State.{state_in};
 ghost use Rattle.wish_state_words.specs.Waiting.{waiting_in};
 ghost use Rattle.seal_words.specs.Seal.{seal_in};
-ghost use Rattle.piecrag_c_seal.specs.Board.{BoardExported};
+ghost use Rattle.piecrag_c_seal.specs.Board.{BoardExported, SealSettled};
 ghost use Rattle.piecrag_c_seal.specs.Stated.{profile_of};
 
-use crate::numbers::{sealed_code, settle_seal};
+use c_answer::answer::result_code;
 use node::record::NodeId;
 use piecrag::{EdgeTable, NodeTable, Profile, VoiceTable};
-use seal_words::{SealWords, seal_in};
+use seal_words::{SealWords, put_seal, seal_in};
+use sealed::profile::Seal;
 use state_words::{StateWords, state_in};
 use wish_state_words::{WaitingWords, waiting_in};
+
+// The seal x is written to the words, unless they are kept. Why not by `settle` of c_answer, and why `kept` is a value, the lines at it say.
+fn settle_seal(w: &mut SealWords, x: Seal, kept: bool)
+    ensures { SealSettled w.old x kept w.new }
+{
+    if !kept {
+        put_seal(w, x);
+    }
+}
 
 // The board is sealed by what its builder states: the bus and its ports, the host nodes and edges, and the nodes and edges of the largest
 // definition.
@@ -49,5 +59,5 @@ pub extern "C" fn piecrag_seal(
     };
     let r = piecrag::seal(x, s, nodes, edges, voices, w, p);
     settle_seal(seal, r.seal, r.answer.is_err());
-    sealed_code(r.answer)
+    result_code(r.answer)
 }

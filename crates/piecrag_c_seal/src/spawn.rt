@@ -11,8 +11,8 @@ ghost use Rattle.seal_words.specs.Seal.{seal_in};
 ghost use Rattle.piecrag_c_seal.specs.Book.{SpawnFromBook};
 
 use crate::from_book::{refuses_book, wish_in};
-use crate::numbers::settle_board;
 use book_bytes::read::read_book;
+use c_answer::answer::settle_result;
 use def_book::answer::read_number;
 use node::record::NodeId;
 use piecrag::{EdgeTable, NodeTable, StealTable, VoiceTable};
@@ -46,5 +46,5 @@ pub extern "C" fn piecrag_spawn(
     let w = wish_in(read, managed, bus, pan, rank);
     let r = piecrag::board_spawn(x, s, nodes, edges, voices, steals, w);
     *voice = r.answer.map_or(*voice, |id| id.0);
-    settle_board(state, r)
+    settle_result(state, r)
 }

@@ -5,8 +5,8 @@ ghost use Rattle.memory.specs.View.{Memory};
 ghost use Rattle.piecrag_c_seal.specs.Book.{WishFromBook};
 
 use crate::from_book::{refuses_book, wish_in};
-use crate::numbers::wished_code;
 use book_bytes::read::read_book;
+use c_answer::answer::result_code;
 use c_answer::keyboards::settle_waiting;
 use def_book::answer::read_number;
 use node::record::NodeId;
@@ -38,5 +38,5 @@ pub extern "C" fn piecrag_wish(
     let wish = wish_in(read, managed, bus, pan, rank);
     let r = piecrag::board_wish(x, s, wishes, keyboard, wish);
     settle_waiting(waiting, r.wishes, r.answer.is_err());
-    wished_code(r.answer)
+    result_code(r.answer)
 }

@@ -15,7 +15,7 @@ use c_answer::answer::{render_code, render_kept, result_code, settle, sound_cell
 use c_answer::argument::glide_in;
 use node::record::{NodeId, VoiceId};
 use piecrag::{EdgeTable, EventTable, NodeTable, OrderTable, VoiceTable, outcome_number};
-use state_words::{StateWords, state_in};
+use state_words::{StateWords, put_state, state_in};
 
 // The voice is removed, with its nodes and edges; an unknown one answers 1.
 #[unsafe(no_mangle)]
@@ -30,7 +30,8 @@ pub extern "C" fn piecrag_free_voice(
 {
     let s = state_in(state);
     let r = piecrag::free_voice(s, nodes, edges, voices, VoiceId(voice));
-    settle(state, r.state, false, u32::from(outcome_number(r.answer)))
+    put_state(state, r.state);
+    u32::from(outcome_number(r.answer))
 }
 
 // The voices whose fade has ended or whose output is silent go; `removed` becomes how many they were.
@@ -48,7 +49,8 @@ pub extern "C" fn piecrag_free_done_synths(
     let s = state_in(state);
     let r = piecrag::free_done_synths(s, nodes, edges, voices);
     *removed = r.answer;
-    settle(state, r.state, false, 0)
+    put_state(state, r.state);
+    0
 }
 
 // A value for a parameter of a voice, now.

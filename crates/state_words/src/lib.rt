@@ -3,15 +3,15 @@
 // stand here, and numbers at the cases would put this layout into the rules of stealing.
 #![tactic(auto)]
 
-ghost use Rattle.std.specs.Prelude.{◌≡◌, ◌/◌, ◌%◌, ◌<◌};
-ghost use Rattle.words.specs.Fields.{long_from, long_at};
+ghost use Rattle.std.specs.Prelude.{◌≡◌};
+ghost use Rattle.words.specs.Fields.{long_at};
 ghost use Rattle.state_words.specs.State.{state_in, words_of, budget_in, policy_in, scope_in, policy_tag, scope_tag};
 
 use memory::state::State;
 use node::record::NodeId;
 use store::config::Config;
 use voice::policy::{BudgetScope, StealPolicy};
-use words::fields::{high_word, long_from, low_word};
+use words::fields::{self, high_word, low_word};
 
 pub const STATE_WORDS: usize = 32;
 
@@ -63,16 +63,14 @@ fn scope_tag(s: BudgetScope) -> u32
     }
 }
 
-// Two words as one number.
-fn long_at(w: &StateWords, k: usize) -> u64
-    requires { k < 30 }
+// Two words as one number: the state is one row of its words.
+fn long_at(w: &StateWords, k: u16) -> u64
     ensures { result ≡ long_at w.now k }
 {
-    long_from(w[k], w[k + 1])
+    fields::long_at(w, STATE_WORDS, 0, k)
 }
 
-fn size_at(w: &StateWords, k: usize) -> usize
-    requires { k < 30 }
+fn size_at(w: &StateWords, k: u16) -> usize
     ensures { result ≡ long_at w.now k }
 {
     long_at(w, k) as usize

@@ -1,5 +1,4 @@
-use native.Mathlib.Omega.{arith}
-use mathlib.Core.Path.{◌≡◌, refl, ap, ◌∙◌}
+use mathlib.Core.Path.{refl, ap, ◌∙◌}
 use Rattle.console.specs.Wishes.{picked}
 use Rattle.call_console.specs.Queues.{wishes_of}
 use Rattle.state_words.specs.State.{some_flag}
@@ -11,12 +10,11 @@ pub returns : goal.returns
 returns c =
     let k = c.next_keyboard-next in
     let p = c.waiting_in-s in
-    let o = c.args.keyboard.now in
-    let flag : c.from.result ≡ some_flag k.result = grind arith in (
+    let o = c.args.keyboard.now in (
       refl,
       λ words.
           let is = next_is p.result words k.result o (k.ensures.is words) k.ensures.waits in (
-            flag ∙ is.0 ∙ ap (λ s. some_flag (picked (wishes_of s words))) p.ensures,
-            c.unwrap_or.ensures ∙ is.1 ∙ ap (λ s. picked_cell (picked (wishes_of s words)) o) p.ensures,
+            c.put_cell.ensures.flag ∙ is.0 ∙ ap (λ s. some_flag (picked (wishes_of s words))) p.ensures,
+            c.put_cell.ensures.cell ∙ is.1 ∙ ap (λ s. picked_cell (picked (wishes_of s words)) o) p.ensures,
           ),
     )

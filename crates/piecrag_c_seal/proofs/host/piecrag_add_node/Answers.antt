@@ -24,6 +24,6 @@ returns c =
     let asked = call.add_node a.kind.now a.ports a.required (is_set a.values) (is_set a.glides) in record {
       is = λ m p w.
           settled add_answered add_code add_kept asked asked (λ j. lent_nodes j a.nodes.now m) (λ j. lent_nodes j r.new.nodes m) (λ j. refl) (λ j. refl) p w x.result a.seal.now a.state.now s.result r.result.state r.result.answer refl x.ensures s.ensures (r.ensures.is m p w) (r.ensures.same m p w)
-          c.settle_board.result c.settle_board.new.w c.settle_board.ensures;
+          c.settle_result.result c.settle_result.new.w c.settle_result.ensures;
       cell = λ m p w. tells state_in (on_store asked) (on_store asked) (λ i j. board (lent_nodes j a.nodes.now m) p w i) (λ i j. board (lent_nodes j r.new.nodes m) p w i) x.result (seal_in a.seal.now) a.state.now s.result r.result.state (node_answer r.result.answer) refl x.ensures s.ensures (r.ensures.is m p w) (r.ensures.same m p w) node_answer (λ (z : Result NodeId (BoardRefusal Refusal)). c.map_or.result ≡ added_cell z a.node.now) r.result.answer refl (search rules);
     }

@@ -15,4 +15,4 @@ returns c =
     let asked = call.remove_node (record { 0 = a.node }) in
     λ m p w.
     settled answered done_code done_kept asked asked (λ j. lent_graph j a.nodes.now a.edges.now m) (λ j. lent_graph j r.new.nodes r.new.edges m) (λ j. refl) (λ j. refl) p w x.result a.seal.now a.state.now s.result r.result.state r.result.answer refl x.ensures s.ensures (r.ensures.is m p w) (r.ensures.same m p w)
-    c.settle_board.result c.settle_board.new.w c.settle_board.ensures
+    c.settle_result.result c.settle_result.new.w c.settle_result.ensures

@@ -14,6 +14,7 @@ use Rattle.call_seal.specs.declared.closing.BoardRefusal.{BoardRefusal}
 use Rattle.call_seal.specs.Board.{board, on_store, spawn_answer}
 use Rattle.state_words.specs.State.{state_in}
 use Rattle.seal_words.specs.Seal.{seal_in}
+use Rattle.c_answer.proofs.Exporting.{spawned_kept}
 use Rattle.piecrag_c_seal.specs.Board.{born_cell}
 use Rattle.piecrag_c_seal.proofs.Boards.{settled, tells}
 use Rattle.piecrag_c_seal.proofs.Books.{unread, booked}
@@ -35,9 +36,9 @@ returns c =
     let wish : Read → Wish = λ b. wish_for (is_set a.managed) (record { 0 = a.bus }) a.pan a.rank (def_in b) in
     let given = c.wish_in-w.ensures ∙ ap wish book.ensures in
     λ m p w.
-    booked (is_set a.managed) (record { 0 = a.bus }) book.result x.ensures book.ensures c.refuses_book.ensures c.settle_board.result c.if-refuses_book.false (
-      settled spawned (λ b. refl) (λ b. refl) (call_of (wish (read_book a.book.now))) (call_of c.wish_in-w.result) (λ j. lent_spawn j a.nodes.now a.edges.now a.voices.now a.steals.now m) (λ j. lent_spawn j r.new.nodes r.new.edges r.new.voices r.new.steals m) (λ j. refl) (λ j. refl) p w x.result a.seal.now a.state.now s.result r.result.state r.result.answer (ap call_of given) x.ensures s.ensures (r.ensures.is m p w) (r.ensures.same m p w)
-          c.settle_board.result c.settle_board.new.w c.settle_board.ensures,
+    booked (is_set a.managed) (record { 0 = a.bus }) book.result x.ensures book.ensures c.refuses_book.ensures c.settle_result.result c.if-refuses_book.false (
+      settled spawned (λ b. refl) spawned_kept (call_of (wish (read_book a.book.now))) (call_of c.wish_in-w.result) (λ j. lent_spawn j a.nodes.now a.edges.now a.voices.now a.steals.now m) (λ j. lent_spawn j r.new.nodes r.new.edges r.new.voices r.new.steals m) (λ j. refl) (λ j. refl) p w x.result a.seal.now a.state.now s.result r.result.state r.result.answer (ap call_of given) x.ensures s.ensures (r.ensures.is m p w) (r.ensures.same m p w)
+          c.settle_result.result c.settle_result.new.w c.settle_result.ensures,
       tells state_in (asked (wish (read_book a.book.now))) (asked c.wish_in-w.result) (λ i j. board (lent_spawn j a.nodes.now a.edges.now a.voices.now a.steals.now m) p w i) (λ i j. board (lent_spawn j r.new.nodes r.new.edges r.new.voices r.new.steals m) p w i) x.result (seal_in a.seal.now) a.state.now s.result r.result.state (spawn_answer r.result.answer) (ap asked given) x.ensures s.ensures (r.ensures.is m p w) (r.ensures.same m p w)
           spawn_answer (λ (z : Result VoiceId (BoardRefusal Refusal)). c.map_or.result ≡ born_cell z a.voice.now) r.result.answer refl (search rules),
     )

@@ -8,7 +8,7 @@ use Rattle.call_seal.specs.Board.{BoardMemory, board, wished_answer}
 use Rattle.wish_state_words.specs.Waiting.{waiting_in}
 use Rattle.seal_words.specs.Seal.{seal_in}
 use Rattle.model.specs.Wish.{wish_for}
-use Rattle.piecrag_c_seal.proofs.Boards.{wish_kept, exported}
+use Rattle.piecrag_c_seal.proofs.Boards.{wish_code, wish_kept, exported}
 use Rattle.piecrag_c_seal.proofs.Books.{unread, booked}
 use Rattle.piecrag_c_seal.proofs.wishing.piecrag_wish.Goals as goal
 
@@ -28,6 +28,6 @@ returns c =
     let wish : Read → Wish = λ b. wish_for (is_set a.managed) (record { 0 = a.bus }) a.pan a.rank (def_in b) in
     let given = c.wish_in-wish.ensures ∙ ap wish book.ensures in
     λ m.
-    booked (is_set a.managed) (record { 0 = a.bus }) book.result x.ensures book.ensures c.refuses_book.ensures c.wished_code.result c.if-refuses_book.false
+    booked (is_set a.managed) (record { 0 = a.bus }) book.result x.ensures book.ensures c.refuses_book.ensures c.result_code.result c.if-refuses_book.false
     (exported waiting_in (asked (wish (read_book a.book.now))) (asked c.wish_in-wish.result) (λ i j. board m j a.wishes.now i) (λ i j. board m j r.new.wishes i) x.result (seal_in a.seal.now) a.waiting.now s.result r.result.wishes (wished_answer r.result.answer) (ap asked given) x.ensures s.ensures (r.ensures.is m) (r.ensures.same m)
-    (λ (n : BoardMemory). n.console.wishes) (λ i j. refl) (λ i j. refl) c.is_err.result c.wished_code.result c.settle_waiting.new.w (c.is_err.ensures.value ∙ wish_kept r.result.answer) c.wished_code.ensures c.settle_waiting.ensures.stays c.settle_waiting.ensures.moved)
+    (λ (n : BoardMemory). n.console.wishes) (λ i j. refl) (λ i j. refl) c.is_err.result c.result_code.result c.settle_waiting.new.w (c.is_err.ensures.value ∙ wish_kept r.result.answer) (c.result_code.ensures ∙ wish_code r.result.answer) c.settle_waiting.ensures.stays c.settle_waiting.ensures.moved)
