@@ -2,9 +2,10 @@
 use crate::line::{Words, next_word, words_of};
 use crate::words::{labelled, next_byte, next_name};
 use book_bytes::read::blank_def;
+use book_bytes::sorts::takes_of;
 use synthdef::def::{DefEdge, DefNode, Param, SynthDef};
 
-// `node NAME ports N required N sorts N in N level N amp N`. The sorts are one number, as the text has them.
+// `node NAME ports N required N sorts N in N level N amp N`
 fn node_in(words: &mut Words) -> Option<DefNode> {
     let kind = next_name(words);
     let ports = labelled(words, b"ports")?;
@@ -16,12 +17,13 @@ fn node_in(words: &mut Words) -> Option<DefNode> {
     if 3 < sorts {
         return None;
     }
+    let (takes_values, takes_glides) = takes_of(sorts);
     Some(DefNode {
         kind,
         ports,
         required,
-        takes_values: sorts % 2 == 1,
-        takes_glides: 2 <= sorts,
+        takes_values,
+        takes_glides,
         in_port,
         level_port,
         amp_port,

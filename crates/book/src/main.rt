@@ -53,11 +53,6 @@ struct Run<'a, R> {
     files: bool,
 }
 
-fn refused(out: &mut Output, n: u8) {
-    text(out, b"refused");
-    and_word(out, n);
-}
-
 // The definition of a book, or none, with the refusal and the position printed. That it is beyond the limits is found when the whole
 // book is read.
 fn definition(out: &mut Output, s: &[u8]) -> Option<SynthDef> {
@@ -67,7 +62,8 @@ fn definition(out: &mut Output, s: &[u8]) -> Option<SynthDef> {
         Err(ReadError::Malformed(at)) => at,
         Err(ReadError::Limits) => s.len(),
     };
-    refused(out, read_number(&read));
+    text(out, b"refused");
+    and_word(out, read_number(&read));
     text(out, b" at byte");
     and_word(out, at);
     end_line(out);
@@ -90,10 +86,7 @@ fn write(out: &mut Output, def: SynthDef, print: Print) {
     let written = write_book(def, &mut room);
     match written {
         Ok(n) => put_out(out, bytes_at(&room, 0, n), print),
-        Err(_) => {
-            refused(out, write_number(written));
-            end_line(out);
-        }
+        Err(_) => word_line(out, b"refused", write_number(written)),
     }
 }
 

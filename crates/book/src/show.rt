@@ -1,7 +1,8 @@
 // A definition as text: a line for the output, and one for each node, edge and parameter. No impl Display: the types are of crate synthdef, and what is
 // printed goes into a buffer of bytes.
+use book_bytes::sorts::sorts_of;
 use codec::output::{Output, end_line, hex_bytes, text};
-use codec::word::and_word;
+use codec::word::{and_word, edge_words};
 use node::name::Name;
 use synthdef::def::{DefEdge, DefNode, NO_PORT, Param, SynthDef};
 
@@ -31,7 +32,6 @@ fn show_port(out: &mut Output, label: &[u8], port: u8) {
     and_word(out, port);
 }
 
-// The sorts are one number, as the text has them.
 fn show_node(out: &mut Output, n: DefNode) {
     text(out, b"node ");
     show_name(out, n.kind);
@@ -40,10 +40,7 @@ fn show_node(out: &mut Output, n: DefNode) {
     text(out, b" required");
     and_word(out, n.required);
     text(out, b" sorts");
-    and_word(
-        out,
-        u64::from(n.takes_values) + 2 * u64::from(n.takes_glides),
-    );
+    and_word(out, sorts_of(n.takes_values, n.takes_glides));
     show_port(out, b" in", n.in_port);
     show_port(out, b" level", n.level_port);
     show_port(out, b" amp", n.amp_port);
@@ -52,9 +49,7 @@ fn show_node(out: &mut Output, n: DefNode) {
 
 fn show_edge(out: &mut Output, e: DefEdge) {
     text(out, b"edge");
-    and_word(out, e.from);
-    and_word(out, e.to);
-    and_word(out, e.port);
+    edge_words(out, e.from, e.to, e.port);
     end_line(out);
 }
 

@@ -38,10 +38,9 @@ fn tone_node() -> DefNode
 fn tone() -> SynthDef
     ensures { result ≡ played.tone }
 {
-    let nodes = DefNodes {
-        rows: [tone_node(); 24],
-        count: 1,
-    };
+    let mut nodes = DefNodes::empty(tone_node());
+    nodes.push(tone_node());
+    // Crates synthdef and book_bytes write the edge of zeros out too: a constant for its three numbers would be no shorter.
     let edges = DefEdges::empty(DefEdge {
         from: 0,
         to: 0,
@@ -86,7 +85,7 @@ fn opened(nodes: &mut NodeTable) -> State
 pub fn scene_page(out: &mut [u8]) -> Result<usize, Refusal>
     ensures { paged_of result out.new ≡ page_answer printed out.old }
 {
-    // Six variables and no struct of them, here as in `play`: no heap, and each call is lent the tables that it touches by themselves.
+    // Six variables and no struct of them: it would be declared and made for this one function, and each call would be lent its fields one by one.
     let mut nodes = [0u32; NODE_WORDS];
     let mut edges = [0u32; EDGE_WORDS];
     let mut order = [0u32; ORDER_WORDS];
