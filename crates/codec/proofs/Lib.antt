@@ -1,3 +1,4 @@
 pub mod Filling
 pub mod Halves
 pub mod Nan
+pub mod Playing

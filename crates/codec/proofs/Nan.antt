@@ -7,6 +7,7 @@ use lib.Dec.{T}
 use lib.Ieee.{Float, nan, inf, fin, Format, binary32, binary64, hid, ones, top, of_bits, nan_bits, is_nan}
 use lib.Ieee.Bits.{nan_bits_is, nan_bits_above}
 
+-- crates level, codec and words depend on nothing of each other, so that each has its own laws of a NaN's bits
 is_nan_lem : (x : Float) → is_nan x ≡ true → x ≡ nan
 unfolding is_nan
 is_nan_lem nan e = refl

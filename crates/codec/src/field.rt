@@ -5,6 +5,7 @@ ghost use Rattle.std.specs.Prelude.{◌≡◌, ℕ, ◌≤◌, ◌<◌, length, 
 ghost use Rattle.std.specs.Float.{binary32, binary64};
 ghost use Rattle.std.specs.Float.Ieee.{of_bits};
 ghost use Rattle.codec.specs.Field.{moved, little, run, fields};
+ghost use Rattle.codec.specs.Calls.{Played};
 
 // The last position of all, which no input reaches. It is where a malformed field ends: one that runs past the input's end is malformed too,
 // so that one test finds both, which of an `Option` would be two.
@@ -21,6 +22,7 @@ pub fn after(at: usize, n: usize) -> usize
 // The fields of two, four and eight bytes are each two of the half: for `from_le_bytes` an array would be filled first, byte by byte, since past
 // the input's end a byte is 0.
 // Each gives another type: one function over a trait of the three would be longer.
+// Those of one and of two bytes stand in crate book_bytes too: what is compared reads with functions of its own.
 
 pub fn byte_at(s: &[u8], at: usize) -> u8
     ensures { result ≡ little 1 s.now at }
@@ -46,7 +48,8 @@ pub fn long_at(s: &[u8], at: usize) -> u64
     u64::from(word_at(s, at)) + u64::from(word_at(s, after(at, 4))) * 0x1_0000_0000
 }
 
-// The `len` bytes from `at` on, or none where the input ends before.
+// The `len` bytes from `at` on, or none where the input ends before. No `Option` for that, as for a byte past the end: whether the input was long
+// enough is seen by the position after its last field.
 pub fn bytes_at(s: &[u8], at: usize, len: usize) -> &[u8]
     ensures { result.now ≡ run s.now at len }
 {
@@ -106,7 +109,7 @@ impl Field for u32 {
     }
 }
 
-// A number with a sign stands as 2^31 more than it is (docs/VECTORS.md).
+// A number with a sign stands as 2^31 more than it is (docs/VECTORS.md). The sum never saturates: with the largest word it is the largest `i32`.
 impl Field for i32 {
     ghost value = { λ n. pos n -ℤ pos 2147483648 };
 
@@ -127,7 +130,8 @@ pub fn fields_at<T: Field>(s: &[u8], at: usize, out: &mut [T])
     }
 }
 
-// Where a run of lent numbers stands: how many, the first of them, and the end.
+// Where a run of lent numbers stands: how many, the first of them, and the end. It holds no number: whoever reads them has fixed memory of the
+// type that they are read as.
 #[derive(Clone, Copy)]
 pub struct Lent {
     pub count: usize,
@@ -155,12 +159,14 @@ pub fn lent_at(s: &[u8], at: usize) -> Lent
     }
 }
 
-// Plays as many calls as the field at `at` says, each from where the one before it ends. The end of the last, or none where one ends past the input.
+// Plays as many calls as the field at `at` says, each from where the one before it ends. The end of the last, or none where one ends past the input,
+// and then it is the last that is played.
 // A public `requires`, since a call of a closure needs it; a trait of what plays one call, with an impl for each caller, would be longer.
 pub fn calls<F: FnMut(usize) -> usize>(s: &[u8], at: usize, mut play: F) -> Option<usize>
     requires { F.IsAlwaysCallable play }
     ensures none { little 4 s.now at ≡ 0 → result ≡ Some (moved at 4) }
     ensures end { 0 < little 4 s.now at → (e : ℕ) → result ≡ Some e → e ≤ length s.now }
+    ensures played { Played F.step (length s.now) (little 4 s.now at) play (moved at 4) result }
 {
     let mut from = after(at, 4);
     for _ in 0..word_at(s, at) {

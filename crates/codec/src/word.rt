@@ -7,6 +7,7 @@ use crate::output::{Output, hex, text};
 use node::record::{NodeId, VoiceId};
 
 // The pattern of a float. That of an f64 is a function of its own: no trait of the library says of both formats what a pattern is.
+// Crate words has this too: what is compared writes with functions of its own.
 pub fn pattern(x: f32) -> u32
     ensures { result ≡ pattern_of binary32 x }
 {
@@ -109,4 +110,12 @@ pub fn and_words<W: Word>(out: &mut Output, words: &[W]) {
     for word in words {
         and_word(out, *word);
     }
+}
+
+// An edge: the nodes that it goes from and to, and the port that it feeds. The three and no edge, since there are two types of one: a definition's
+// (`DefEdge`) and a graph's (`Edge`).
+pub fn edge_words<N: Word, P: Word>(out: &mut Output, from: N, to: N, port: P) {
+    and_word(out, from);
+    and_word(out, to);
+    and_word(out, port);
 }

@@ -30,6 +30,7 @@ fn end_run(out: &mut Output, window: &Window) {
 pub fn play_input<S: std::io::Read>(input: &mut S) {
     let mut window = unread();
     let mut out = output_room();
+    // Seven variables and no struct of them: it would be declared and made for this one function, and each call would be lent its fields one by one.
     let mut nodes = [0u32; NODE_WORDS];
     let mut edges = [0u32; EDGE_WORDS];
     let mut order = [0u32; ORDER_WORDS];

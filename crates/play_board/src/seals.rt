@@ -1,7 +1,7 @@
 // Sealing a board.
 use crate::keyboards::Board;
 use codec::field::{after, long_at};
-use codec::output::{Output, text};
+use codec::output::Output;
 use piecrag::{EdgeTable, NodeTable, Profile, VoiceTable, seal};
 use script::host::id_at;
 use transcript::answer::answer_line;

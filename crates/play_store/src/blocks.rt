@@ -10,7 +10,8 @@ use piecrag::{
 use script::host::id_at;
 use transcript::answer::{list_line, rendered_line};
 
-// The samples of the report at `at`: 512 that follow each other, or the one of entry 19 again and again.
+// The samples of the report at `at`: 512 that follow each other, or the one of entry 19 again and again. All 512 and no count: `reported` takes those
+// that the entry counts.
 fn samples_at(s: &[u8], at: usize) -> [f32; 512] {
     let from = after(at, 11);
     if byte_at(s, at) == 19 {

@@ -4,7 +4,7 @@ use codec::field::{after, byte_at, long_at, word_at};
 use codec::output::{Output, text};
 use graph_rows::node_row::{owner_at, put_noise};
 use graph_tables::lookup::node_count;
-use node::record::{NodeId, VoiceId};
+use node::record::{HOST, NodeId};
 use piecrag::{
     CallResult, EdgeTable, NodeTable, Seal, State, board_add_node, board_connect, board_disconnect,
     board_remove_node, board_set_sink,
@@ -38,11 +38,12 @@ fn given<R: Numbered>(out: &mut Output, r: CallResult<Result<NodeId, R>>) -> Sta
     })
 }
 
-// The noise sequence of every node of the host, whose owner is 0 in the lent words. By the index: a row is so many words of the table, and no
-// slice of rows is there.
+// The noise sequence of every node of the host. By the index: a row is so many words of the table, and no
+// slice of rows is there. Not by `change_rows` of words: that crate is no dependency here, and `put_noise` knows the width of a row and the place of
+// the sequence in it.
 fn set_noise(nodes: &mut NodeTable, count: usize, noise: u32) {
     for i in 0..node_count(nodes, count) {
-        if owner_at(nodes, i) == VoiceId(0) {
+        if owner_at(nodes, i) == HOST {
             put_noise(nodes, i, noise);
         }
     }

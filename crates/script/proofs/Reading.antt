@@ -3,16 +3,16 @@ use Prim.Native.Nat.{ℕ, suc, ◌+◌, ◌-◌, ◌≤◌, ◌<◌, min}
 use native.Mathlib.Nat.{min-eq_left, min-eq_right, le_of_lt}
 use native.Mathlib.Omega.{arith}
 use native.Mathlib.Numerals.{add-one}
-use mathlib.Core.Path.{◌≡◌, refl, sym, ap, ◌∙◌}
+use mathlib.Core.Path.{◌≡◌, refl, sym, ap, ◌∙◌, subst}
 use mathlib.Core.Bool.{Bool, true, false}
 use mathlib.Core.List.{List, ◌++◌, append-nil}
 use borrow.Author.Tests.{leb-true, leb-false}
 use lib.Dec.{leb}
 use lib.ListN.{length, take, set, length-take, length-set}
-use lib.Seq.{take-suc-set, take_all, take-take, take-append-le, append_snoc}
+use lib.Seq.{set_out, take-suc-set, take_all, take-take, take-append-le, append_snoc}
 use Rattle.codec.specs.Field.{moved, little}
 use Rattle.script.specs.Rows.{rows_at, rows_end}
-use Rattle.script.specs.Def.{Table}
+use Rattle.script.specs.Def.{TableAt}
 
 module _ {A : Type 0} (read : List ℕ → ℕ → A) (next : List ℕ → ℕ → ℕ) (cap n : ℕ) (s : List ℕ) (start : ℕ) where
   -- what is kept and what is still to come is the whole, and the end stays where it is
@@ -22,6 +22,16 @@ module _ {A : Type 0} (read : List ℕ → ℕ → A) (next : List ℕ → ℕ �
     pub same : take cap (take i rows ++ rows_at read next (n - i) s end) ≡ take cap (rows_at read next n s start)
     pub ends : rows_end next (n - i) s end ≡ rows_end next n s start
 
+  pub began : (rows : List A) (end : ℕ) → length rows ≡ cap → end ≡ start → Read rows end 0
+  began rows end l b =
+      let all : n - 0 ≡ n = omega arith in
+      record {
+        long = l;
+        few = omega arith;
+        same = ap (λ (k : ℕ). take cap (rows_at read next k s end)) all ∙ ap (λ (p : ℕ). take cap (rows_at read next n s p)) b;
+        ends = ap (λ (k : ℕ). rows_end next k s end) all ∙ ap (λ (p : ℕ). rows_end next n s p) b;
+      }
+
   here : (i : ℕ) → i < n → n - i ≡ suc (n - (i + 1))
   here i h = omega arith
 
@@ -29,7 +39,7 @@ module _ {A : Type 0} (read : List ℕ → ℕ → A) (next : List ℕ → ℕ �
   unfolding rows_end
   moved_end e i after h f = ap (rows_end next (n - (i + 1)) s) f ∙ sym (ap (λ (k : ℕ). rows_end next k s e) (here i h))
 
-  pub kept : (rows : List A) (end i : ℕ) (x : A) (after : ℕ) → Read rows end i → i < n → i < cap → x ≡ read s end → after ≡ next s end → Read (set rows i x) after (i + 1)
+  kept : (rows : List A) (end i : ℕ) (x : A) (after : ℕ) → Read rows end i → i < n → i < cap → x ≡ read s end → after ≡ next s end → Read (set rows i x) after (i + 1)
   unfolding rows_at
   kept rows end i x after r h w e f =
       let inside : i < length rows = omega (arith, r.long) in
@@ -51,7 +61,7 @@ module _ {A : Type 0} (read : List ℕ → ℕ → A) (next : List ℕ → ℕ �
       ∙ take-append-le cap rows (rows_at read next k s e) fits
       ∙ take_all cap rows within
 
-  pub passed : (rows : List A) (end i after : ℕ) → Read rows end i → i < n → cap ≤ i → after ≡ next s end → Read rows after (i + 1)
+  passed : (rows : List A) (end i after : ℕ) → Read rows end i → i < n → cap ≤ i → after ≡ next s end → Read rows after (i + 1)
   passed rows end i after r h w f =
       let past : cap ≤ i + 1 = omega arith in
       record {
@@ -60,6 +70,16 @@ module _ {A : Type 0} (read : List ℕ → ℕ → A) (next : List ℕ → ℕ �
         same = all rows (i + 1) (n - (i + 1)) after r.long past ∙ sym (all rows i (n - i) end r.long w) ∙ r.same;
         ends = moved_end end i after h f ∙ r.ends;
       }
+
+  -- a row that is pushed: past the capacity nothing is stored
+  pub pushed : (rows : List A) (end i : ℕ) (x : A) (after : ℕ) → Read rows end i → i < n → x ≡ read s end → after ≡ next s end → Read (set rows i x) after (i + 1)
+  pushed rows end i x after r h e f = go (leb cap i) refl
+    where
+      go : (b : Bool) → leb cap i ≡ b → Read (set rows i x) after (i + 1)
+      go false k = kept rows end i x after r h (leb-false cap i k) e f
+      go true k =
+          let out : length rows ≤ i = omega (arith, r.long, leb-true cap i k) in
+          subst (λ (l : List A). Read l after (i + 1)) (sym (set_out rows i x out)) (passed rows end i after r h (leb-true cap i k) f)
 
   left : (rows : List A) (end i : ℕ) → Read rows end i → n ≤ i → take cap (take n rows) ≡ take cap (rows_at read next n s start)
   unfolding rows_at
@@ -90,7 +110,7 @@ module _ {A : Type 0} (read : List ℕ → ℕ → A) (next : List ℕ → ℕ �
       let none : n - i ≡ 0 = omega arith in
       sym (ap (λ (k : ℕ). rows_end next k s end) none) ∙ r.ends
 
-  pub table_read : (at : ℕ) (rows : List A) (end i : ℕ) → n ≡ little 1 s at → start ≡ moved at 1 → Read rows end i → n ≤ i → Table cap read next s at (take (min n cap) rows) n end
+  pub table_read : (at : ℕ) (rows : List A) (end i : ℕ) → n ≡ little 1 s at → start ≡ moved at 1 → Read rows end i → n ≤ i → TableAt cap read next s at (take (min n cap) rows) n end
   table_read at rows end i c b r h =
       record {
         kept = rows_read rows end i r h ∙ ap (λ (k : ℕ). take cap (rows_at read next k s start)) c ∙ ap (λ (p : ℕ). take cap (rows_at read next (little 1 s at) s p)) b;

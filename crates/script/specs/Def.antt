@@ -65,7 +65,7 @@ abbrev pub def_end : List ℕ → ℕ → ℕ
 def_end s at = moved (output_from s at) 1
 
 -- a table that was read: its rows, its count and its end
-pub record Table {A : Type 0} (cap : ℕ) (read : List ℕ → ℕ → A) (next : List ℕ → ℕ → ℕ) (s : List ℕ) (at : ℕ) (rows : List A) (count end : ℕ) : Type 0 where
+pub record TableAt {A : Type 0} (cap : ℕ) (read : List ℕ → ℕ → A) (next : List ℕ → ℕ → ℕ) (s : List ℕ) (at : ℕ) (rows : List A) (count end : ℕ) : Type 0 where
   pub kept : rows ≡ table_at cap read next s at
   pub counted : count ≡ little 1 s at
   pub ended : end ≡ table_end next s at

@@ -1,6 +1,6 @@
-// What making fixes, by the numbers of a script, which docs/REPLAY.md fixes. Crate state_words has such functions for a store's words: what plays
-// the scripts is kept apart from the library that it is compared with. The enums are those of other crates, so that these are functions and no
-// `From`.
+// What making fixes, by the numbers of a script, which docs/REPLAY.md fixes. Crate state_words has such functions for a store's words, where a policy's
+// number that is none is another policy: what plays the scripts is kept apart from the library that it is compared with.
+// The enums are those of other crates, so that these are functions and no `From`.
 ghost use Rattle.std.specs.Prelude.{◌≡◌};
 ghost use Rattle.script.specs.Config.{budget_of, policy_of, scope_of, first_making};
 

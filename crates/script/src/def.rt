@@ -1,21 +1,24 @@
 // Definitions.
-ghost use Rattle.std.specs.Prelude.{◌≡◌, List, ℕ, length};
+ghost use Rattle.std.specs.Prelude.{◌≡◌, List, ℕ};
 ghost use Rattle.lists.specs.Table.{rows_of};
-ghost use Rattle.script.specs.Def.{node_at, node_end, edge_at, edge_end, param_at, param_end, Table, DefAt, def_end};
+ghost use Rattle.script.specs.Def.{node_at, node_end, edge_at, edge_end, param_at, param_end, TableAt, DefAt, def_end};
 
+use crate::host::takes_at;
 use crate::name::{name_at, name_end};
 use codec::field::{after, byte_at};
+use lists::rows::Table;
 use node::name::name_of;
-use synthdef::def::{DefEdge, DefEdges, DefNode, DefNodes, Param, Params, SynthDef};
+use synthdef::def::{DefEdge, DefNode, Param, SynthDef};
 
-// The rows that a table counts, and the position after them. A count above the table's capacity is kept; its rows are read and left out.
+// A table, and the position after its rows. A count above the table's capacity is kept; its rows are read and left out.
+// The rows behind those that are read are what an empty input gives: a name has no default.
 #[derive(Clone, Copy)]
-struct Counted {
-    count: usize,
+struct ReadRows<T: Copy, const N: usize> {
+    rows: Table<T, N>,
     end: usize,
 }
 
-// A definition, and the position after it. No generic pair with `Counted`, whose fields would need names that say less.
+// A definition, and the position after it. No generic pair with `ReadRows`, whose fields would need names that say less.
 #[derive(Clone, Copy)]
 pub struct ReadDef {
     pub def: SynthDef,
@@ -35,8 +38,7 @@ trait Row: Copy {
         ensures { result ≡ next s.now at };
 }
 
-// A kind name, ports, required ports, what the node takes, its channels, which are the generator's, and its ports by name. What it takes are two
-// flags in one number, as docs/REPLAY.md has them.
+// A kind name, ports, required ports, what the node takes, its channels, which are the generator's, and its ports by name.
 impl Row for DefNode {
     ghost read = { node_at };
 
@@ -44,13 +46,13 @@ impl Row for DefNode {
 
     fn read_at(s: &[u8], at: usize) -> DefNode {
         let rest = name_end(s, at);
-        let takes = byte_at(s, after(rest, 2));
+        let (takes_values, takes_glides) = takes_at(s, after(rest, 2));
         DefNode {
             kind: name_of(name_at(s, at)),
             ports: byte_at(s, rest),
             required: byte_at(s, after(rest, 1)),
-            takes_values: takes % 2 == 1,
-            takes_glides: takes / 2 % 2 == 1,
+            takes_values,
+            takes_glides,
             in_port: byte_at(s, after(rest, 4)),
             level_port: byte_at(s, after(rest, 5)),
             amp_port: byte_at(s, after(rest, 6)),
@@ -97,49 +99,34 @@ impl Row for Param {
     }
 }
 
-// Reads the table at `at` into `rows`. An index and no walk over `rows`, since what they have no room for is read over too; and no `get_mut`, whose
-// contract says nothing of the rows after it.
-fn read_rows<T: Row>(s: &[u8], at: usize, rows: &mut [T]) -> Counted
-    ensures { Table (length rows.old) T.read T.next s.now at (rows_of (length rows.old) result.count rows.new) result.count result.end }
+// How many rows, and the rows. What the table has no room for is read over too.
+fn read_rows<T: Row, const N: usize>(s: &[u8], at: usize) -> ReadRows<T, N>
+    ensures { TableAt N T.read T.next s.now at (rows_of N result.rows.count result.rows.rows) result.rows.count result.end }
 {
-    let count = usize::from(byte_at(s, at));
-    let mut end = after(at, 1);
-    for i in 0..count {
-        if i < rows.len() {
-            rows[i] = T::read_at(s, end);
-        }
-        end = T::end_at(s, end);
+    let mut rows = Table::empty(T::read_at(b"", 0));
+    let mut from = after(at, 1);
+    for _ in 0..byte_at(s, at) {
+        rows.push(T::read_at(s, from));
+        from = T::end_at(s, from);
     }
-    Counted { count, end }
+    ReadRows { rows, end: from }
 }
 
-// The nodes, the edges, the parameters and the output. The rows behind those that are read are what an empty input gives: a name has no default.
+// The nodes, the edges, the parameters and the output.
 pub fn def_at(s: &[u8], at: usize) -> ReadDef
     ensures def { DefAt s.now at result.def }
     ensures end { result.end ≡ def_end s.now at }
 {
-    let mut nodes = [DefNode::read_at(b"", 0); 24];
-    let n = read_rows(s, at, &mut nodes);
-    let mut edges = [DefEdge::read_at(b"", 0); 48];
-    let e = read_rows(s, n.end, &mut edges);
-    let mut params = [Param::read_at(b"", 0); 8];
-    let p = read_rows(s, e.end, &mut params);
+    let nodes = read_rows(s, at);
+    let edges = read_rows(s, nodes.end);
+    let params = read_rows(s, edges.end);
     ReadDef {
         def: SynthDef {
-            nodes: DefNodes {
-                rows: nodes,
-                count: n.count,
-            },
-            edges: DefEdges {
-                rows: edges,
-                count: e.count,
-            },
-            params: Params {
-                rows: params,
-                count: p.count,
-            },
-            output: byte_at(s, p.end),
+            nodes: nodes.rows,
+            edges: edges.rows,
+            params: params.rows,
+            output: byte_at(s, params.end),
         },
-        end: after(p.end, 1),
+        end: after(params.end, 1),
     }
 }

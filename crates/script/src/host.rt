@@ -1,5 +1,5 @@
 // What the host says of a node that it adds, and of an edge.
-ghost use Rattle.std.specs.Prelude.{◌≡◌};
+ghost use Rattle.std.specs.Prelude.{◌≡◌, ◌/◌, ◌%◌, eqb};
 ghost use Rattle.codec.specs.Field.{little};
 ghost use Rattle.script.specs.Host.{host_node_at, wire_at};
 
@@ -15,18 +15,25 @@ pub fn id_at(s: &[u8], at: usize) -> NodeId
     NodeId(word_at(s, at))
 }
 
-// Behind the kind name at `at`: ports, required ports and what the node takes, two flags in one number, as docs/REPLAY.md has them. Its channels are
-// the generator's.
+// Whether a node takes values, and whether it takes glides: one number holds both, as docs/REPLAY.md has them.
+pub fn takes_at(s: &[u8], at: usize) -> (bool, bool)
+    ensures { result ≡ (eqb (little 1 s.now at % 2) 1, eqb (little 1 s.now at / 2 % 2) 1) }
+{
+    let takes = byte_at(s, at);
+    (takes % 2 == 1, takes / 2 % 2 == 1)
+}
+
+// Behind the kind name at `at`: ports, required ports and what the node takes. Its channels are the generator's.
 pub fn host_node_at(s: &[u8], at: usize) -> HostNode
     ensures { result ≡ host_node_at s.now at }
 {
     let rest = name_end(s, at);
-    let takes = byte_at(s, after(rest, 12));
+    let (takes_values, takes_glides) = takes_at(s, after(rest, 12));
     HostNode {
         ports: word_at(s, rest),
         required: long_at(s, after(rest, 4)),
-        takes_values: takes % 2 == 1,
-        takes_glides: takes / 2 % 2 == 1,
+        takes_values,
+        takes_glides,
     }
 }
 

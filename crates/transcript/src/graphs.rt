@@ -4,7 +4,7 @@ use crate::line_words::name_word;
 use call_read::counts::edge_at;
 use codec::line::{glide_words, word_line};
 use codec::output::{Output, end_line, text};
-use codec::word::and_word;
+use codec::word::{and_word, edge_words};
 use graph_rows::edge_row::EdgeTable;
 use graph_rows::node_row::{NodeTable, node_at};
 use graph_tables::lookup::node_count;
@@ -17,9 +17,7 @@ pub fn edges_line(out: &mut Output, s: State, edges: &EdgeTable) {
     text(out, b"edges");
     for i in 0..call_read::counts::edges(s, edges) {
         if let Some(e) = edge_at(s, edges, i) {
-            and_word(out, e.from);
-            and_word(out, e.to);
-            and_word(out, e.port);
+            edge_words(out, e.from, e.to, e.port);
         }
     }
     end_line(out);
@@ -72,7 +70,7 @@ fn node_line(out: &mut Output, node: Node) {
     name_word(out, node.kind);
     and_word(out, node.ports);
     and_word(out, node.required);
-    // 1 for values, plus 2 for glides: docs/REPLAY.md has one number for both.
+    // 1 for values, plus 2 for glides: docs/REPLAY.md has one number for both. Not by `sorts_of` of book_bytes: what is compared shares nothing with it.
     and_word(
         out,
         u64::from(node.takes_values) + 2 * u64::from(node.takes_glides),

@@ -4,7 +4,7 @@ use crate::line_words::name_word;
 use codec::line::action_words;
 use codec::output::{Output, end_line, text};
 use codec::word::and_word;
-use event_table::row::{EventTable, event_at};
+use event_table::row::{EVENTS, EventTable, event_at};
 use memory::state::State;
 use scheduler::event::Event;
 
@@ -17,7 +17,7 @@ fn event_line(out: &mut Output, e: Event) {
 }
 
 pub fn event_lines(out: &mut Output, s: State, events: &EventTable) {
-    for i in 0..s.events.min(256) {
+    for i in 0..s.events.min(EVENTS) {
         event_line(out, event_at(events, i));
     }
 }

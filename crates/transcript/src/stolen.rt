@@ -1,10 +1,11 @@
-// Steal records. They are read by their index: they stand in a ring, whose rows are no slice in their order.
+// Steal records.
 // Two functions write them: one over both would take as closures what stands around a record.
+use busiest::newest::newest_records;
 use codec::line::word_line;
 use codec::output::{Output, end_line, text};
 use codec::word::and_word;
 use voice::steals::{StealRecord, Steals};
-use voice_policy::steals::{held_steals, record_level, steal_at};
+use voice_policy::steals::record_level;
 
 fn record_words(out: &mut Output, r: StealRecord) {
     and_word(out, r.sample);
@@ -16,10 +17,8 @@ fn record_words(out: &mut Output, r: StealRecord) {
 pub fn steals_line(out: &mut Output, steals: Steals) {
     text(out, b"steals");
     and_word(out, steals.total);
-    for i in 0..held_steals(steals) {
-        if let Some(r) = steal_at(steals, i) {
-            record_words(out, r);
-        }
+    for r in newest_records(steals).as_slice() {
+        record_words(out, *r);
     }
     end_line(out);
 }
@@ -27,11 +26,9 @@ pub fn steals_line(out: &mut Output, steals: Steals) {
 // The count, and then a line for each record.
 pub fn steal_lines(out: &mut Output, steals: Steals) {
     word_line(out, b"steals", steals.total);
-    for i in 0..held_steals(steals) {
-        if let Some(r) = steal_at(steals, i) {
-            text(out, b"steal");
-            record_words(out, r);
-            end_line(out);
-        }
+    for r in newest_records(steals).as_slice() {
+        text(out, b"steal");
+        record_words(out, *r);
+        end_line(out);
     }
 }

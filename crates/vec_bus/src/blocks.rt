@@ -4,11 +4,11 @@ ghost use Rattle.std.specs.Prelude.{◌*◌, ◌<◌, ◌^◌};
 ghost use Rattle.std.specs.Mem.{type_size};
 ghost use Rattle.std.proofs.Common.{rules};
 
+use bus::FadePart;
 use codec::field::{Field, after, fields_at, float, lent_at, long_at, word_at};
 use codec::line::{refused_line, word_line};
 use codec::output::{Output, end_line, hex, text};
 use codec::word::{Word, and_word, and_words};
-use mixing::FadePart;
 use node::refusal::{Refusal, refusal_number};
 use store::config::Config;
 use voice::policy::{BudgetScope, StealPolicy};
@@ -136,43 +136,45 @@ pub trait Mixer {
     ghost small: { (2048 * type_size Self.Sample.row < 2 ^ 63) × (2048 * type_size Self.Gain.row < 2 ^ 63) };
 }
 
-// The head of a fade; then the gains, the input, and what the output holds before.
-// `sum` is this with counts for gains: one function over both would take their type, with memory for it, and the method as a closure.
-pub fn fade<M: Mixer>(out: &mut Output, s: &[u8], at: usize, mixer: &M) -> usize {
-    let gains = lent_at(s, after(at, 24));
-    let input = lent_at(s, gains.end);
+// Three runs: numbers of one sort, the input, and what the output holds before. `mix` fades or sums the input into the output.
+fn mixed<G: Field, S: Field + Word, F: Fn(&[G], &[S], &mut [S]) -> Result<(), Refusal>>(
+    out: &mut Output,
+    s: &[u8],
+    at: usize,
+    mix: F,
+) -> usize
+    requires called { F.IsAlwaysCallable mix }
+    requires small { (2048 * type_size G.row < 2 ^ 63) × (2048 * type_size S.row < 2 ^ 63) }
+{
+    let first = lent_at(s, at);
+    let input = lent_at(s, first.end);
     let left = lent_at(s, input.end);
-    let mut a = [M::Gain::of(0); 2048];
-    let mut b = [M::Sample::of(0); 2048];
-    let mut c = [M::Sample::of(0); 2048];
-    let gain = &mut a[..gains.count];
+    let mut a = [G::of(0); 2048];
+    let mut b = [S::of(0); 2048];
+    let mut c = [S::of(0); 2048];
+    let numbers = &mut a[..first.count];
     let samples = &mut b[..input.count];
     let block = &mut c[..left.count];
-    fields_at(s, gains.from, gain);
+    fields_at(s, first.from, numbers);
     fields_at(s, input.from, samples);
     fields_at(s, left.from, block);
-    let written = mixer.fade(head_at(s, at), samples, gain, block);
+    let written = mix(numbers, samples, block);
     block_line(out, written, block);
     left.end
 }
 
-// The sizes of a sum; then the channel count of each input, the inputs, and what the output holds before.
+// The head of a fade; then its gains and its blocks.
+pub fn fade<M: Mixer>(out: &mut Output, s: &[u8], at: usize, mixer: &M) -> usize {
+    mixed(out, s, after(at, 24), |gains, input, block| {
+        mixer.fade(head_at(s, at), input, gains, block)
+    })
+}
+
+// The sizes of a sum; then the channel count of each input, and its blocks.
 pub fn sum<M: Mixer>(out: &mut Output, s: &[u8], at: usize, mixer: &M) -> usize {
-    let counts = lent_at(s, after(at, 8));
-    let input = lent_at(s, counts.end);
-    let left = lent_at(s, input.end);
-    let mut a: [usize; 2048] = [0; 2048];
-    let mut b = [M::Sample::of(0); 2048];
-    let mut c = [M::Sample::of(0); 2048];
-    let channels = &mut a[..counts.count];
-    let samples = &mut b[..input.count];
-    let block = &mut c[..left.count];
-    fields_at(s, counts.from, channels);
-    fields_at(s, input.from, samples);
-    fields_at(s, left.from, block);
-    let written = mixer.sum(sizes_at(s, at), samples, channels, block);
-    block_line(out, written, block);
-    left.end
+    mixed(out, s, after(at, 8), |counts, inputs, block| {
+        mixer.sum(sizes_at(s, at), inputs, counts, block)
+    })
 }
 
 // The functions of crate `bus` themselves: a fade by its length.
@@ -191,17 +193,7 @@ impl Mixer for Bus {
         gains: &[f32],
         block: &mut [f32],
     ) -> Result<(), Refusal> {
-        let p = head.part;
-        bus::fade_output(
-            input,
-            p.ins,
-            gains,
-            head.length,
-            p.position,
-            head.size,
-            block,
-            p.outs,
-        )
+        bus::fade_output(input, gains, head.length, head.size, head.part, block)
     }
 
     fn sum(

@@ -1,6 +1,6 @@
 // Answers the vectors of the graph: scripts of calls on a graph in lent tables.
 // Output, input and position stay three parameters: a struct of them would be taken apart at each reader of `codec` and `script`.
-// Crate transcript has lines of an id, of edges and of an order too, and takes crates that the vectors have no need of.
+// Crate transcript has lines of an id, of an answer, of edges and of an order too, and takes crates that the vectors have no need of.
 #![tactic(auto)]
 
 use call_host::host::{add_node, connect, disconnect, remove_node, set_sink};
@@ -8,7 +8,7 @@ use call_make::make;
 use codec::field::{NOWHERE, after, byte_at, calls, long_at, word_at};
 use codec::line::{refused_line, word_line};
 use codec::output::{Output, end_line, text};
-use codec::word::{and_word, and_words};
+use codec::word::{and_word, and_words, edge_words};
 use graph::host::{HostNode, host_node};
 use graph_rows::edge_row::{EDGE_WORDS, EdgeTable, edge_at, set_edge};
 use graph_rows::node_row::{NODE_WORDS, NodeTable};
@@ -124,13 +124,10 @@ fn node_words(out: &mut Output, g: &Store) {
     }
 }
 
-// Crate vec_synthdef has this of edges by bytes: one function for both would need a trait of three getters, longer than the two.
-fn edge_words(out: &mut Output, g: &Store) {
+fn wiring_words(out: &mut Output, g: &Store) {
     for i in 0..edge_count(&g.edges, g.state.edges) {
         let e = edge_at(&g.edges, i);
-        and_word(out, e.from);
-        and_word(out, e.to);
-        and_word(out, e.port);
+        edge_words(out, e.from, e.to, e.port);
     }
 }
 
@@ -155,7 +152,7 @@ fn show(out: &mut Output, g: &Store) {
     );
     node_words(out, g);
     text(out, b"\nedges");
-    edge_words(out, g);
+    wiring_words(out, g);
     end_line(out);
     order_line(out, g);
 }
@@ -177,13 +174,13 @@ fn owned_node(id: NodeId, voice: u64, ports: u32) -> Node {
         takes_glides: false,
     };
     Node {
-        id,
         owner: VoiceId(voice),
-        ..host_node(b"Tone", plain)
+        ..host_node(id, b"Tone", plain)
     }
 }
 
 // Adds a node of a voice, with so many ports, under the next id.
+// The tests of `add_node` once more: no call of the store adds a node of a voice alone.
 fn give_owned(g: &mut Store, voice: u64, ports: u32) -> Result<NodeId, Refusal> {
     if node_count(&g.nodes, g.state.nodes) >= 512 {
         return Err(Refusal::TableFull);
@@ -216,7 +213,8 @@ fn put(out: &mut Output, s: &[u8], at: usize, g: &mut Store) -> usize {
     after(at, 12)
 }
 
-// An edge behind the others, whatever else feeds its port.
+// An edge behind the others, whatever else feeds its port. By `set_edge` at the count: `append_row` is of crate words, which is no dependency here,
+// and takes the words of a row.
 fn append(out: &mut Output, s: &[u8], at: usize, g: &mut Store) -> usize {
     let n = edge_count(&g.edges, g.state.edges);
     set_edge(&mut g.edges, n, wire_at(s, at));
@@ -270,6 +268,7 @@ fn play(out: &mut Output, s: &[u8], at: usize, g: &mut Store) -> usize {
 }
 
 // How many calls, and the calls, on a new graph in tables of its own. Of a new store the vectors use the graph alone.
+// NOWHERE and no Option where a call ends past the input: whoever calls asks of each end whether it is past the input.
 pub fn script(out: &mut Output, s: &[u8], at: usize) -> usize {
     let mut g = Store {
         state: make(first_making()).state,

@@ -2,10 +2,10 @@
 // of its parameters.
 #![tactic(auto)]
 
-use codec::field::{after, byte_at, word_at};
+use codec::field::{after, byte_at, fields_at};
 use codec::line::refused_line;
 use codec::output::{Output, end_line, text};
-use codec::word::and_word;
+use codec::word::{and_word, edge_words};
 use node::name::name_of;
 use node::refusal::Refusal;
 use script::def::def_at;
@@ -18,12 +18,9 @@ use synthdef::params::param_node;
 use synthdef::plan::{DonePlan, done_plan};
 use synthdef::silent::plan_silent;
 
-// Crate vec_graph has this of edges in words: one function for both would need a trait of three getters, longer than the two.
-fn edge_words(out: &mut Output, es: DefEdges) {
+fn counted_words(out: &mut Output, es: DefEdges) {
     for e in es.as_slice() {
-        and_word(out, e.from);
-        and_word(out, e.to);
-        and_word(out, e.port);
+        edge_words(out, e.from, e.to, e.port);
     }
 }
 
@@ -36,11 +33,12 @@ fn silent_word(out: &mut Output, silent: bool) {
     text(out, if silent { b" yes" } else { b" no" });
 }
 
-fn silent_words(out: &mut Output, s: &[u8], at: usize, count: usize, plan: DonePlan) {
-    let mut from = at;
-    for _ in 0..count {
-        silent_word(out, plan_silent(plan, flags_of(word_at(s, from))));
-        from = after(from, 4);
+fn silent_words(out: &mut Output, s: &[u8], at: usize, count: u8, plan: DonePlan) {
+    let mut room = [0u32; 255];
+    let masks = &mut room[..usize::from(count)];
+    fields_at(s, at, masks);
+    for mask in masks.iter() {
+        silent_word(out, plan_silent(plan, flags_of(*mask)));
     }
 }
 
@@ -48,16 +46,16 @@ fn silent_words(out: &mut Output, s: &[u8], at: usize, count: usize, plan: DoneP
 pub fn definition(out: &mut Output, s: &[u8], at: usize) -> usize {
     let r = def_at(s, at);
     let def = r.def;
-    let count = usize::from(byte_at(s, r.end));
+    let count = byte_at(s, r.end);
     let sets = after(r.end, 1);
-    let first = after(sets, 4 * count);
+    let first = after(sets, 4 * usize::from(count));
     let second = name_end(s, first);
     if !allowed(def) {
         refused_line(out, Refusal::DefinitionLimits);
         return name_end(s, second);
     }
     text(out, b"counted");
-    edge_words(out, counted_edges(def.edges));
+    counted_words(out, counted_edges(def.edges));
     text(out, b"\nsilent");
     silent_words(out, s, sets, count, done_plan(def));
     text(out, b"\nparams");

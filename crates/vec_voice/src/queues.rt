@@ -20,7 +20,8 @@ struct Queue {
     count: usize,
 }
 
-// Schedules the event at `at`: time, voice, name and action.
+// Schedules the event at `at`: time, voice, name and action. Crate transcript has the lines of an answer too, and takes crates that the vectors have no
+// need of.
 fn scheduled(out: &mut Output, s: &[u8], at: usize, queue: &mut Queue) -> usize {
     let name = after(at, 16);
     let end = name_end(s, name);
@@ -97,6 +98,7 @@ fn play(out: &mut Output, s: &[u8], at: usize, queue: &mut Queue) -> usize {
 }
 
 // How many calls, and the calls; then the events that wait.
+// NOWHERE and no Option where a call ends past the input: whoever calls asks of each end whether it is past the input.
 pub fn history(out: &mut Output, s: &[u8], at: usize) -> usize {
     let mut queue = Queue {
         rows: [0; EVENT_WORDS],

@@ -1,29 +1,39 @@
 -- `script::def::read_rows` meets its contract.
-use Rattle.std.proofs.Common.{◌<◌, ◌≤◌, length, ◌∙◌, arith}
-use Rattle.script.proofs.Reading.{kept, passed, table_read}
+use Rattle.std.proofs.Common.{◌≡◌, ℕ, ◌<◌, ◌≤◌, length, set, take, min, arith, refl, ap, ◌∙◌, subst}
+use Rattle.std.proofs.lemmas.List.{length-replicate}
+use Rattle.codec.specs.Field.{little, moved}
+use Rattle.script.specs.Def.{TableAt}
+use Rattle.script.proofs.Reading.{began, pushed, table_read}
 use Rattle.script.proofs.def.read_rows.Goals as goal
-use Rattle.script.proofs.def.read_rows.Goals.{then-i-rows, else-i-rows}
 
-pub loop-i-preserved : goal.loop-i-preserved
-loop-i-preserved g c =
+pub loop-init : goal.loop-init
+loop-init g c =
     let r = g.T.Row in
-    let l = c.loop-i in
-    let cap = length c.args.rows.now in
-    let n = c.from-count.result in
     let s = c.args.s.now in
-    let start = c.after-end.result in
-    let long = l.invariant.long in
-    elim c.if-i-rows.branch [
-      | then-i-rows w ↦
-          let inside : l.i < cap = omega (arith, w.if-i-rows.true) in
-          rw w.rows-is (kept r.read r.next cap n s start l.rows l.end l.i w.read_at.result c.end_at-end.result l.invariant c.loop-i-test.true inside w.read_at.ensures c.end_at-end.ensures)
-      | else-i-rows w ↦
-          let past : cap ≤ l.i = omega (arith, w.if-i-rows.false) in
-          rw w.rows-is (passed r.read r.next cap n s start l.rows l.end l.i c.end_at-end.result l.invariant c.loop-i-test.true past c.end_at-end.ensures)
-    ]
+    let n = little 1 s c.args.at in
+    let long : length c.empty-rows.result.rows ≡ g.row.N = ap length c.empty-rows.ensures.rows ∙ length-replicate g.row.N c.read_at.result in
+    (c.empty-rows.ensures.count, began r.read r.next g.row.N n s (moved c.args.at 1) c.empty-rows.result.rows c.after-from.result long c.after-from.ensures)
+
+pub loop-preserved : goal.loop-preserved
+loop-preserved g c =
+    let r = g.T.Row in
+    let l = c.loop in
+    let s = c.args.s.now in
+    let n = little 1 s c.args.at in
+    let x = c.read_at-in-loop.result in
+    let more : l.counter < n = omega (arith, c.byte_at-end.ensures) in
+    let stored : c.push.new.self.rows ≡ set l.rows.rows l.counter x = subst (λ (k : ℕ). c.push.new.self.rows ≡ set l.rows.rows k x) l.invariant.0 c.push.ensures.stored in
+    let few : l.rows.count < 0xffff_ffff_ffff_ffff = omega (arith, l.invariant.0, c.byte_at-end.type_inv) in (
+      omega (arith, c.push.ensures.counted few, l.invariant.0),
+      rw stored (pushed r.read r.next g.row.N n s (moved c.args.at 1) l.rows.rows l.from l.counter x c.end_at-from.result l.invariant.1 more c.read_at-in-loop.ensures c.end_at-from.ensures),
+    )
 
 pub returns : goal.returns
 returns g c =
     let r = g.T.Row in
-    let l = c.loop-i in
-    table_read r.read r.next (length c.args.rows.now) c.from-count.result c.args.s.now c.after-end.result c.args.at l.rows l.end l.i (c.from-count.ensures ∙ c.byte_at.ensures) c.after-end.ensures l.invariant c.loop-i-test.false
+    let l = c.loop in
+    let s = c.args.s.now in
+    let n = little 1 s c.args.at in
+    let past : n ≤ l.counter = omega (arith, c.byte_at-end.ensures) in
+    let whole : n ≡ l.rows.count = omega (arith, l.invariant.0, l.invariant.1.few) in
+    subst (λ (k : ℕ). TableAt g.row.N r.read r.next s c.args.at (take (min k g.row.N) l.rows.rows) k l.from) whole (table_read r.read r.next g.row.N n s (moved c.args.at 1) c.args.at l.rows.rows l.from l.counter refl refl l.invariant.1 past)
