@@ -25,13 +25,51 @@ const STACK: usize = 96 * 1024;
 /// So many rounds of a scene: a number into which every answer went, and the microseconds of a round.
 type Scene = fn(u32) -> (u32, f64);
 
-/// The scenes that both sides have: what a round is, how many there are, the store's side, the Rust's, and the goal for the
-/// ratio of their times.
-const COMPARED: [(&str, u32, Scene, Scene, f64); 4] = [
-    ("note: spawn, prepare, render and clearing, budget 32", 1_000, scenes::notes, rust::notes, 0.1),
-    ("prepare, 512 nodes, 1,024 edges", 2_000, scenes::prepares, rust::prepare, 0.1),
-    ("port search, 1 port, 1,024 edges", 10_000, |n| scenes::ports(1, n), |n| rust::ports(1, n), 1.0),
-    ("port search, 64 ports, 1,024 edges", 10_000, |n| scenes::ports(64, n), |n| rust::ports(64, n), 1.0),
+/// A scene that both sides have: what a round is, how many rounds a repetition has, how many repetitions there are at most, the
+/// store's side, the Rust's, and the goal for the ratio of their times.
+struct Compared {
+    round: &'static str,
+    rounds: u32,
+    repetitions: usize,
+    store: Scene,
+    rust: Scene,
+    goal: f64,
+}
+
+/// The 10,000 prepares are timed one by one, so that their median needs no second repetition.
+const COMPARED: [Compared; 4] = [
+    Compared {
+        round: "note: spawn, prepare, render and clearing, budget 32",
+        rounds: 1_000,
+        repetitions: usize::MAX,
+        store: scenes::notes,
+        rust: rust::notes,
+        goal: 0.1,
+    },
+    Compared {
+        round: "prepare, 512 nodes, 1,024 edges",
+        rounds: 10_000,
+        repetitions: 1,
+        store: scenes::prepares,
+        rust: rust::prepare,
+        goal: 0.1,
+    },
+    Compared {
+        round: "port search, 1 port, 1,024 edges",
+        rounds: 10_000,
+        repetitions: usize::MAX,
+        store: |n| scenes::ports(1, n),
+        rust: |n| rust::ports(1, n),
+        goal: 1.0,
+    },
+    Compared {
+        round: "port search, 64 ports, 1,024 edges",
+        rounds: 10_000,
+        repetitions: usize::MAX,
+        store: |n| scenes::ports(64, n),
+        rust: |n| rust::ports(64, n),
+        goal: 1.0,
+    },
 ];
 
 /// Fades and sums in both forms: what a round is, how many there are, in floats, and in whole numbers.
@@ -55,12 +93,13 @@ fn repeated(repetitions: usize, run: impl Fn() -> (u32, f64)) -> (u32, f64) {
 fn compare(repetitions: usize) {
     println!("{:54}{:>8}{:>10}{:>10}{:>8}{:>7}", "a round", "rounds", "store µs", "Rust µs", "ratio", "goal");
     let mut times = Vec::new();
-    for (name, rounds, ours, theirs, goal) in COMPARED {
-        let (answer, mine) = repeated(repetitions, || ours(rounds));
-        let (other, rust) = repeated(repetitions, || theirs(rounds));
-        assert_eq!(answer, other, "{name}: the two sides answer differently");
-        let ratio = mine / rust;
-        println!("{name:54}{rounds:8}{mine:10.2}{rust:10.2}{ratio:8.3}{goal:7.2}  {}", kept(ratio, goal));
+    for Compared { round, rounds, repetitions: most, store, rust, goal } in COMPARED {
+        let repetitions = repetitions.min(most);
+        let (answer, mine) = repeated(repetitions, || store(rounds));
+        let (other, theirs) = repeated(repetitions, || rust(rounds));
+        assert_eq!(answer, other, "{round}: the two sides answer differently");
+        let ratio = mine / theirs;
+        println!("{round:54}{rounds:8}{mine:10.2}{theirs:10.2}{ratio:8.3}{goal:7.2}  {}", kept(ratio, goal));
         times.push(mine);
     }
     let ratio = times[3] / times[2];
