@@ -42,7 +42,7 @@ use Rattle.model.specs.Render as rendering
 
 -- ---- what can be read: questions, which change nothing (SPEC 14.1)
 pub data Question : Type 0 where
-  -- of a voice by its id: its level, the position of its fade, its record
+  -- of a voice by its id: its level (SPEC 11.2), the position of its fade (SPEC 10.2), its record (SPEC 9.9)
   level : VoiceId → Question
   position : VoiceId → Question
   voice : VoiceId → Question
