@@ -139,8 +139,8 @@ abbrev pub tries : Option ℕ → List Voice → ℕ
 tries None vs = 0
 tries (Some n) vs = length vs
 
--- ---- a fade takes the port of the bus that the victim's feeder feeds at that moment. Its node takes its id first; the
--- edge to the bus replaces the feeder's (SPEC 9.5)
+-- ---- a fade stands between the victim's feeder and the port that this feeds at that moment (SPEC 9.5). Its node takes its
+-- id first; the edge to the bus replaces the feeder's
 abbrev pub fade_graph : Voice → ℕ → GraphView → GraphView
 fade_graph v p g = connect (connect (append g (fade_node v.id)) (feeder v) (id g.next) 0) (id g.next) v.bus p
 
