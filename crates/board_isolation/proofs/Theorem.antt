@@ -1,5 +1,6 @@
--- Paper 6's theorem for boards. Sealings that agree with their answers leave two seals that are the same up to the matching, and these close the same of the bus's spawns; so what was
--- let through agrees as the calls of two consoles do.
+-- No bus of a board hears another (SPEC 21.4). Sealings that agree with their answers leave two seals that are the same
+-- up to the matching, and these close the same of the bus's spawns; so what was let through agrees as the calls of two
+-- consoles do.
 use Prim.Native.Nat.{ℕ}
 use mathlib.Core.Path.{◌≡◌, refl, sym, ap, ap₂, ◌∙◌, subst}
 use mathlib.Core.List.{List, [], ◌∷◌}

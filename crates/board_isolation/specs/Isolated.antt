@@ -1,5 +1,5 @@
--- Paper 6's theorem for boards, with Paper 14's sentence: "for Paper 6 sealing, with its answer, is a call of every bus." Of two boards whose consoles were made alike but for their
--- keyboards, and every two lists of calls that agree for a bus, sealings with their answers among its calls.
+-- No bus of a board hears another (SPEC 21.4): of two boards whose consoles were made alike but for their keyboards,
+-- and every two lists of calls that agree for a bus, sealings with their answers among its calls.
 use Rattle.std.specs.Prelude.{ℕ, ◌≡◌, List, [], ◌∷◌, cond, Option, None, Some}
 use Rattle.node.specs.declared.record.NodeId.{NodeId}
 use Rattle.voice.specs.declared.policy.BudgetScope.TheVariants.{PerGroup}

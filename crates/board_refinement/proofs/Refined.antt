@@ -1,5 +1,5 @@
--- Every call's contract is the theory's step, so that a run of calls on lent memory is the theory's run; the board of an accepted making
--- of a console, not yet sealed, is the theory's new board.
+-- Every call's contract is the theory's step (SPEC 21.8), so that a run of calls on lent memory is the theory's run
+-- (SPEC 21.6); the board of an accepted making of a console, not yet sealed, is the theory's new board.
 use Prim.Native.Nat.{ℕ}
 use mathlib.Core.Path.{◌≡◌, refl, ap, ◌∙◌}
 use mathlib.Core.List.{List, [], ◌∷◌}

@@ -1,4 +1,4 @@
--- The board that code makes is the one that Paper 14's claim speaks of.
+-- The board that code makes is the one that the claim on boards speaks of (SPEC 21.6, 21.8).
 use Rattle.std.specs.Prelude.{ℕ, ◌≡◌, List}
 use Rattle.model.specs.Make.{Making}
 use Rattle.console.specs.Console.{Console}

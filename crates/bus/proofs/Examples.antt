@@ -1,4 +1,5 @@
--- 01's marked examples of this crate, as one table over the definitions, proved by one computed check.
+-- Examples of fade lengths (SPEC 10.1) and seeds (SPEC 9.9), as one table over the definitions, proved by one computed
+-- check.
 use Rattle.std.proofs.Common.{ℕ, Bool, true, ◌&&◌, T, eqb, List, [], ◌∷◌}
 use Rattle.bus.specs.Fade.{fade_length}
 use Rattle.bus.specs.Noise.{exclusive_or, seed_of}

@@ -1,4 +1,4 @@
--- The gain of a sample, within the fade and past its end.
+-- The gain of a sample, within the fade and past its end (SPEC 10.4, 15.1).
 use Rattle.std.proofs.Common.{◌≡◌, ℕ, ◌+◌, ◌*◌, ◌%◌, ◌<◌, ◌≤◌, ◌-◌, min, Bool, true, false, ◌&&◌, T, eqb, leb, ltb, List, length, get_or, take, drop, ◌++◌, sym, refl, ap, ◌∙◌, subst, arith, leb→le, le-ltb, lt-ltb, get_or-take, get_or-drop, length-take}
 use borrow.Author.Tests.{ltb-true, ltb-false}
 use Rattle.std.proofs.lemmas.List.{get_or_default, get_or_past}

@@ -1,4 +1,4 @@
--- A rate is accepted exactly where it is the f32 of a whole number from 1 to 384,000.
+-- A rate is accepted exactly where it is the f32 of a whole number from 1 to 384,000 (SPEC 3).
 --     rate_is     a rate that is accepted as n is the f32 of n, and n is from 1 to 384,000
 --     rate_taken  the f32 of such an n is accepted as n
 --     refuses     an f32 that is that of no such n is refused

@@ -1,4 +1,4 @@
--- Small blocks, computed: each tells the rule from a near miss.
+-- Small blocks, computed (SPEC 15.1, 15.2): each tells the rule from a near miss.
 use Rattle.std.proofs.Common.{◌≡◌, true, false, [], ◌∷◌, pos, negsuc, refl}
 use lib.Ieee.{Float, nan, fin, add, mul}
 use Rattle.node.specs.Refusal.{refused, gives}

@@ -1,4 +1,4 @@
--- What a fade or a sum of lent blocks answers, and the output as it leaves it. Definitions only.
+-- What a fade or a sum of lent blocks answers, and the output as it leaves it (SPEC 15). Definitions only.
 use Rattle.std.specs.Prelude.{Bool, ◌&&◌, cond, List, Result, Err, Ok}
 use Rattle.node.specs.declared.refusal.Refusal.{Refusal}
 use Rattle.node.specs.declared.refusal.Refusal.TheVariants.{LentBlock, OutOfRange}

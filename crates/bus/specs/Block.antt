@@ -1,4 +1,4 @@
--- Lent blocks of samples. Definitions only, over any sort of sample.
+-- Lent blocks of samples (SPEC 15). Definitions only, over any sort of sample.
 use Rattle.std.specs.Prelude.{ℕ, zero, suc, ◌+◌, ◌*◌, Bool, ◌&&◌, ◌||◌, List, [], ◌∷◌, ◌++◌, ◌==◌, slice_index_or}
 
 -- f 0, f 1, .., f (n - 1)
@@ -16,10 +16,10 @@ block_of (suc c) size f = block_of c size f ++ each size (f c)
 abbrev pub sample_at : {A : Type 0} → A → ℕ → List A → ℕ → ℕ → A
 sample_at d size xs c i = slice_index_or xs (c * size + i) d
 
--- 01: "channels not 1 or 2" is refused
+-- one channel or two; any other count is refused with 16
 abbrev pub is_channels : ℕ → Bool
 is_channels n = n == 1 || n == 2
 
--- 01: so is "a lent block not channels × block"; len is how many samples it has
+-- a block has channels × block samples; any other length is refused so too. len is how many it has
 abbrev pub holds : ℕ → ℕ → ℕ → Bool
 holds len n size = is_channels n && len == n * size

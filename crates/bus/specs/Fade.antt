@@ -1,4 +1,5 @@
--- The fade of a stolen voice: its length, the gain that goes with each sample, and its output. Definitions only.
+-- The fade of a stolen voice: its length (SPEC 10.1), the gain that goes with each sample (SPEC 10.4), and its output
+-- (SPEC 15.1). Definitions only.
 use Rattle.std.specs.Prelude.{ℕ, ◌+◌, ◌/◌, ◌%◌, max, Bool, false, cond, ◌&&◌, List, length, pos, nat_le, nat_lt, slice_index_or, Float}
 use Rattle.std.specs.Float.{nan, fin, binary32}
 use Rattle.std.specs.Float.Ieee.{mul}
@@ -6,12 +7,12 @@ use Rattle.node.specs.Refusal.{Said, refused, gives, number_of}
 use Rattle.node.specs.declared.refusal.Refusal.TheVariants.{LentBlock}
 use Rattle.bus.specs.Block.{block_of, sample_at, holds}
 
--- 01: "Fade length L is the sample rate over 200, halves up, at least 1."
+-- L: a 200th of the rate, halves up, and 1 at the least
 abbrev pub fade_length : ℕ → ℕ
 fade_length rate = max 1 ((rate + 100) / 200)
 
--- 01: "the gain at i past the position held before that render, gain 0 from L on". This rule alone says which gain goes with which sample, in any
--- sort of number; none is that sort's 0.
+-- The gain of sample i of a block: that at position + i, and 0 from L on. This rule alone says which gain goes with
+-- which sample, in any sort of number; none is that sort's 0.
 abbrev pub gain_at : {A : Type 0} → A → List A → ℕ → ℕ → ℕ → A
 gain_at none gains len position i = cond (nat_lt (position + i) len) (slice_index_or gains (position + i) none) none
 
@@ -23,8 +24,8 @@ silence = fin false 0 (pos 0)
 abbrev pub faded_by : {A B C : Type 0} → (A → B → C) → B → List B → ℕ → ℕ → ℕ → A → C
 faded_by times none gains len position i x = times x (gain_at none gains len position i)
 
--- Sample i of channel c of the output. 01: "sample i of its output is input sample i × the gain at i past the position"; "output channel c reads channel c
--- modulo the input's count". past stands past the input's end.
+-- Sample i of channel c of the output: that of channel c modulo the input's channels, times its gain. past stands past
+-- the input's end.
 abbrev pub faded_of_by : {A B C : Type 0} → (A → B → C) → A → B → List A → ℕ → List B → ℕ → ℕ → ℕ → ℕ → ℕ → C
 faded_of_by times past none input ins gains len position size c i = faded_by times none gains len position i (sample_at past size input (c % ins) i)
 
@@ -39,7 +40,8 @@ faded = faded_by (mul binary32) silence
 abbrev pub faded_of : List Float → ℕ → List Float → ℕ → ℕ → ℕ → ℕ → ℕ → Float
 faded_of = faded_of_by (mul binary32) nan silence
 
--- 01's table: 16, `LentBlock`, unless both blocks are channels × block with 1 or 2 channels, and there are L gains; input, gains and out are how many there are of each
+-- 16, `LentBlock`, unless both blocks are channels × block with 1 or 2 channels, and there are L gains; input, gains
+-- and out are how many there are of each
 abbrev pub fade_fits : ℕ → ℕ → ℕ → ℕ → ℕ → ℕ → ℕ → Bool
 fade_fits input ins gains len size out outs = holds input ins size && (holds out outs size && nat_le len gains)
 

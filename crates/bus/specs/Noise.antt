@@ -1,4 +1,4 @@
--- The seed of a node's noise. Definitions only.
+-- The seed of a node's noise (SPEC 9.9). Definitions only.
 use Rattle.std.specs.Prelude.{ℕ, zero, suc, ◌+◌, ◌*◌, ◌/◌, ◌%◌, ◌^◌}
 
 -- the low 32 binary digits of a number, which is what a wrapping product keeps

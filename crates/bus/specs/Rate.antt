@@ -1,4 +1,4 @@
--- Which sample rates are accepted. Definitions only.
+-- Which sample rates are accepted (SPEC 3). Definitions only.
 use Rattle.std.specs.Prelude.{ℕ, ◌*◌, ◌/◌, ◌%◌, true, false, cond, ◌&&◌, ◌==◌, nat_le, Float}
 use Rattle.std.specs.Float.{nan, inf, fin}
 use Rattle.std.specs.Float.Ieee.{up, down}
@@ -13,7 +13,8 @@ highest_rate = 384000
 abbrev pub whole_rate : ℕ → ℕ → Said ℕ
 whole_rate a b = cond (a % b == 0 && (nat_le 1 (a / b) && nat_le (a / b) highest_rate)) (gives (a / b)) (refused (number_of SampleRate))
 
--- 01: "sample rate not a whole 1 to 384,000 Hz" is refused. A finite value is m * 2 ^ e, which is m * up e / down e; the flag is its sign.
+-- What is not a whole number of hertz in that range is refused. A finite value is m * 2 ^ e, which is m * up e / down
+-- e; the flag is its sign.
 unfoldable pub rate_of : Float → Said ℕ
 rate_of nan = refused (number_of SampleRate)
 rate_of (inf s) = refused (number_of SampleRate)

@@ -1,4 +1,4 @@
--- The sum of a bus. Definitions only.
+-- The sum of a bus (SPEC 15.2). Definitions only.
 use Rattle.std.specs.Prelude.{ℕ, ◌+◌, ◌*◌, ◌%◌, Bool, true, cond, ◌&&◌, List, [], ◌∷◌, length, drop, ◌==◌, nat_le, Float}
 use Rattle.std.specs.Float.{nan, binary32}
 use Rattle.std.specs.Float.Ieee.{add}
@@ -30,8 +30,8 @@ summed_by plus past a size c i xs (n ∷ ns) = summed_by plus past (plus a (samp
 abbrev pub summed : Float → ℕ → ℕ → ℕ → List Float → List ℕ → Float
 summed = summed_by (add binary32) nan
 
--- 01's table: 16, `LentBlock`, unless there are at most 64 inputs of 1 or 2 channels each, and their blocks and the output are channels × block; inputs and out are how
--- many samples there are of each
+-- 16, `LentBlock`, unless there are at most 64 inputs of 1 or 2 channels each, and their blocks and the output are
+-- channels × block; inputs and out are how many samples there are of each
 unfoldable pub sum_fits : ℕ → List ℕ → ℕ → ℕ → ℕ → Bool
 unfolding channels every_is_channels
 sum_fits inputs counts size out outs = nat_le (length counts) most_inputs && (every_is_channels counts && (inputs == channels counts * size && holds out outs size))
@@ -39,7 +39,8 @@ sum_fits inputs counts size out outs = nat_le (length counts) most_inputs && (ev
 abbrev pub sum_answer : List Float → List ℕ → ℕ → List Float → ℕ → Said Unit
 sum_answer inputs counts size out outs = cond (sum_fits (length inputs) counts size (length out) outs) (gives tt) (refused (number_of LentBlock))
 
--- The output as it is left: whole, or where the call is refused, as it was. 01: "A bus sums from +0, port by port in rising order, one rounding per addition".
+-- The output as it is left: whole, or where the call is refused, as it was. Each sample is summed from +0, input by
+-- input, and each addition rounded.
 abbrev pub sum_output : List Float → List ℕ → ℕ → List Float → ℕ → List Float
 sum_output inputs counts size out outs =
     cond (sum_fits (length inputs) counts size (length out) outs) (block_of outs size (λ c i. summed silence size c i inputs counts)) out

@@ -1,4 +1,4 @@
--- Closed examples of the definitions, each with the wrong rule that it refuses.
+-- Closed examples of the definitions (SPEC 19), each with the wrong rule that it refuses.
 use mathlib.Core.Path.{◌≡◌, refl}
 use mathlib.Core.List.{[], ◌∷◌}
 use Rattle.std.specs.Prelude.{None, Some}

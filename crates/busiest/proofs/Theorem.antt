@@ -1,5 +1,5 @@
--- The paper's sentence of every stretch (`BusiestStretch`): that it names one number and one sample, and that what the walk knows at
--- the end and what the definition computes are these.
+-- The rule of every stretch (`BusiestStretch`; SPEC 19, 21.7): that it names one number and one sample, and that what
+-- the walk knows at the end and what the definition computes are these.
 use Prim.Native.Nat.{ℕ, zero, suc, ◌+◌, ◌≤◌, ◌<◌}
 use native.Mathlib.Omega.{arith}
 use mathlib.Core.Path.{◌≡◌, refl, sym, ap, ◌∙◌}

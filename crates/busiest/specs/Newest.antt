@@ -1,4 +1,4 @@
--- "the newest 64 records" of the store as a run that can be lent: an array whose first rows are the records that are held, oldest
+-- The records that a store holds as a run that can be lent (SPEC 19): an array whose first rows are these, oldest
 -- first, and their count. The rows after them hold `no_record`.
 use Rattle.std.specs.Prelude.{◌-◌, List, ◌++◌, false, length, replicate}
 use Rattle.std.specs.Float.Ieee.{of_bits}

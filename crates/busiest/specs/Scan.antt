@@ -1,4 +1,4 @@
--- The walk over a run in one pass. That it ends at what Stretch says is shown in proofs/Found.
+-- The walk over a run in one pass (SPEC 19). That it ends at what Stretch says is shown in proofs/Found.
 use Rattle.std.specs.Prelude.{ℕ, zero, suc, ◌+◌, List, false, cond, ◌||◌, eqb, ltb, length, get_or, None, Some}
 use Rattle.busiest.specs.declared.stretch.Scan.{Scan}
 use Rattle.busiest.specs.Stretch.{within, Answer, refused, gives}

@@ -1,8 +1,6 @@
--- The busiest stretch: "Over a lent run of steal records and a width W in samples, give the largest number of records inside any
--- stretch of W consecutive samples, and the sample of the first record of the earliest such stretch. An empty run gives 0 and no
--- sample. Equal samples count separately."
--- `busiest` computes it from the stretches that start at a record. `BusiestStretch` below says it of every stretch, wherever it starts;
--- `found` of proofs/Found shows that the answer is the one that it names.
+-- The busiest stretch of a run of steal records (SPEC 19). `busiest` computes it from the stretches that start at a
+-- record. `BusiestStretch` below says it of every stretch, wherever it starts; `found` of proofs/Found shows that the
+-- answer is the one that it names.
 use Rattle.std.specs.Prelude.{ℕ, ◌+◌, ◌≤◌, max, ◌≡◌, List, [], ◌∷◌, map, Bool, false, cond, ◌&&◌, ◌||◌, eqb, leb, ltb, Option, None, Some, Result, Ok, Err, find}
 use Rattle.lists.specs.Count.{count}
 use Rattle.voice.specs.declared.steals.StealRecord.{StealRecord}
@@ -31,7 +29,7 @@ largest width xs (a ∷ l) = max (inside width a xs) (largest width xs l)
 abbrev pub first_of : ℕ → List ℕ → Option ℕ
 first_of width xs = find (λ a. eqb (inside width a xs) (largest width xs xs)) xs
 
--- "samples fall somewhere in the run"; nothing falls to the first
+-- somewhere in the run a sample is below the one before it; nothing falls to the first
 abbrev pub falls_from : ℕ → List ℕ → Bool
 falls_from a [] = false
 falls_from a (x ∷ l) = ltb x a || falls_from x l
@@ -44,18 +42,18 @@ pub data Answer : Type 0 where
   refused : ℕ → Answer
   gives : ℕ → Option ℕ → Answer
 
--- what each case of the answer says: "New numbers: 22 W is 0; 23 samples fall somewhere in the run"
+-- what each case of the answer says
 abbrev pub said : Result (Option Stretch) Unanswered → Answer
 said (Err NoWidth) = refused 22
 said (Err SamplesFall) = refused 23
 said (Ok None) = gives 0 None
 said (Ok (Some s)) = gives s.count (Some s.sample)
 
--- "22 W is 0; 23 samples fall somewhere in the run, checked after 22"
+-- 22: the width is 0; then 23: the run falls
 abbrev pub busiest : ℕ → List ℕ → Answer
 busiest width xs = cond (eqb width 0) (refused 22) (cond (falls xs) (refused 23) (gives (largest width xs xs) (first_of width xs)))
 
--- ---- the sentence, of every stretch
+-- ---- the rule, of every stretch (SPEC 19, 21.7)
 
 -- Of the stretches of `width` samples none holds more than n of the records; the one from `start` on holds n, and none that starts
 -- before it does; the first record in it is at the sample x.

@@ -1,4 +1,4 @@
--- What the tests of the console's calls come to, and each call from what its parts did.
+-- What the tests of the console's calls come to, and each call from what its parts did (SPEC 17).
 use Rattle.node.specs.declared.record.VoiceId.{VoiceId}
 use Prim.Native.Nat.{ℕ, zero, suc, ◌-◌, ◌≤◌, ◌<◌, min}
 use native.Mathlib.Omega.{arith}

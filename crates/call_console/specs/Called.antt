@@ -1,4 +1,5 @@
--- What the contracts of the console's calls say: the store as it is lent, and beside it the wishes' state and words.
+-- What the contracts of the console's calls say (SPEC 17): the store as it is lent, and beside it the wishes' state and
+-- words.
 use Rattle.node.specs.declared.refusal.Refusal.{Refusal}
 use Rattle.std.specs.Prelude.{ℕ, ◌≡◌, List, Option, None, Some, Err, Ok, Result}
 use Rattle.model.specs.Call.{spawned}

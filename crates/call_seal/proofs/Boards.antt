@@ -1,4 +1,5 @@
--- A call on a board, from whether the seal closes it and from what the console's or the store's own call promises.
+-- A call on a board, from whether the seal closes it (SPEC 18) and from what the console's or the store's own call
+-- promises.
 use Prim.Native.Nat.{ℕ, ◌≤◌}
 use native.Mathlib.Omega.{arith}
 use mathlib.Core.Path.{◌≡◌, refl, sym, ap, subst, ◌∙◌}

@@ -1,4 +1,5 @@
--- What the contracts of a board's calls say: the console as it is lent, and beside it the seal, which goes by value.
+-- What the contracts of a board's calls say (SPEC 18): the console as it is lent, and beside it the seal, which goes by
+-- value.
 use Rattle.std.specs.Prelude.{ℕ, ◌≡◌, List, Bool, false, not, ◌&&◌, eqb, leb, Ok, Err, Result, None, Some}
 use Rattle.node.specs.declared.record.NodeId.{NodeId}
 use Rattle.model.specs.Call.{Call, spawned}

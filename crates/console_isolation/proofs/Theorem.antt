@@ -1,4 +1,5 @@
--- Paper 6's theorem for consoles: their stores are those after the calls that the lists make.
+-- No bus of a console hears another (SPEC 21.4): the stores of two consoles are those after the calls that the lists
+-- make.
 use Prim.Native.Nat.{ℕ}
 use mathlib.Core.Path.{◌≡◌, sym, ap, ◌∙◌}
 use mathlib.Core.List.{List}

@@ -1,5 +1,6 @@
--- 02, Paper 11: "For Paper 6 a turn counts as the spawn it serves, and a wish as no call." So Paper 6's theorem is said of the store's calls that a list of a
--- console's calls makes, and holds of the stores of two consoles that were made alike but for their keyboards.
+-- For consoles turns stand for the spawns they serve, and wishes for nothing (SPEC 21.4). So the theorem that no bus
+-- hears another is said of the store's calls that a list of a console's calls makes, and holds of the stores of two
+-- consoles that were made alike but for their keyboards.
 use Rattle.std.specs.Prelude.{ℕ, ◌≡◌, List}
 use Rattle.node.specs.declared.record.NodeId.{NodeId}
 use Rattle.voice.specs.declared.policy.BudgetScope.TheVariants.{PerGroup}

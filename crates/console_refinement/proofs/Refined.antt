@@ -1,5 +1,5 @@
--- Every call's contract is the theory's step, so that a run of calls on lent memory is the theory's run; the console of an accepted
--- making is the theory's new console.
+-- Every call's contract is the theory's step (SPEC 21.8), so that a run of calls on lent memory is the theory's run
+-- (SPEC 21.5); the console of an accepted making is the theory's new console.
 use Rattle.std.specs.Prelude.{Result, Ok, Err}
 use Prim.Native.Nat.{ℕ}
 use native.Mathlib.Omega.{arith}

@@ -1,4 +1,4 @@
--- The console that code makes is the one that Paper 11's claim speaks of.
+-- The console that code makes is the one that the claim on consoles speaks of (SPEC 21.5, 21.8).
 use Rattle.std.specs.Prelude.{ℕ, ◌≡◌, List}
 use Rattle.model.specs.Make.{Making}
 use Rattle.console.specs.Console.{Console, ConsoleCall, ConsoleAnswer, ConsoleRan, console_run}

@@ -1,4 +1,5 @@
--- What reading makes of the bytes that the writer makes of rows: the same rows, with the unused bytes of names at zero.
+-- What reading makes of the bytes that the writer makes of rows (SPEC 16): the same rows, with the unused bytes of
+-- names at zero.
 use Prim.Native.Nat.{ℕ, zero, suc, ◌+◌, ◌-◌, ◌%◌, ◌≤◌}
 use native.Mathlib.Omega.{arith}
 use mathlib.Core.Path.{◌≡◌, refl, sym, ap, ◌∙◌}

@@ -1,4 +1,4 @@
--- The book of a definition, part by part, and what the writer answers.
+-- The book of a definition, part by part, and what the writer answers (SPEC 16).
 use Prim.Native.Nat.{ℕ, ◌*◌, ◌≤◌, ◌<◌, min}
 use native.Mathlib.Nat.{min-eq_left}
 use native.Mathlib.Omega.{arith}

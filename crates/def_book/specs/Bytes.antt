@@ -1,7 +1,5 @@
--- A definition's rows as bytes. "Each record: length of the whole record in two bytes, kind in two bytes, both little-endian, then payload,
--- one byte each. Kinds: 1 heading (node count, output node), 2 node (kind name, ports, required ports with bit p for port p, sorts
--- taken as 1 for values plus 2 for glides, ports `in`, `level`, `amp` or 255), 3 edge (source, target, port), 4 parameter (name,
--- node). A name is its length, then 16 bytes, unused ones zero."
+-- A definition's rows as the records of a book (SPEC 16): whole length and kind, in two bytes each, the low byte first,
+-- then the fields of its kind, a byte each.
 use Rattle.std.specs.Prelude.{ℕ, ◌/◌, ◌%◌, List, [], ◌∷◌, ◌++◌, map, Bool, true, false, length}
 use Rattle.node.specs.Name.{text}
 use Rattle.node.specs.declared.name.Name.{Name}
@@ -12,7 +10,7 @@ use Rattle.synthdef.specs.declared.def.Param.{Param}
 use Rattle.synthdef.specs.declared.def.SynthDef.{SynthDef}
 use Rattle.def_book.specs.Held.{held}
 
--- what stands behind the heading: "Nodes, edges and parameters may be interleaved"
+-- what stands behind the heading, the sorts mixed in any way
 pub data Row : Type 0 where
   node : DefNode → Row
   edge : DefEdge → Row
@@ -28,15 +26,15 @@ long (param p) = 22
 abbrev pub pair : ℕ → List ℕ
 pair n = n % 256 ∷ n / 256 ∷ []
 
--- "length of the whole record in two bytes, kind in two bytes, .. then payload"
+-- length, kind, fields
 abbrev pub record_bytes : ℕ → ℕ → List ℕ → List ℕ
 record_bytes kind size payload = pair size ++ (pair kind ++ payload)
 
--- "A name is its length, then 16 bytes, unused ones zero."
+-- a name: its length, then 16 bytes, zero behind the length
 abbrev pub name_bytes : Name → List ℕ
 name_bytes n = n.len ∷ held 16 0 (text n)
 
--- "1 for values plus 2 for glides"
+-- 1 for values and 2 for glides, added up
 abbrev pub sorts_of : Bool → Bool → ℕ
 sorts_of false false = 0
 sorts_of true false = 1
@@ -68,10 +66,10 @@ unfoldable pub joined : List (List ℕ) → List ℕ
 joined [] = []
 joined (r ∷ rs) = r ++ joined rs
 
--- "A writer puts nodes, edges, parameters"
+-- the rows as the writer puts them: nodes, then edges, then parameters
 abbrev pub rows_in : SynthDef → List Row
 rows_in d = map node (node_rows d.nodes) ++ (map edge (edge_rows d.edges) ++ map param (param_rows d.params))
 
--- the book that the writer makes of a definition: "The heading is first."
+-- the book that the writer makes of a definition, the heading first
 abbrev pub book_of : SynthDef → List ℕ
 book_of d = heading_bytes (length (node_rows d.nodes)) d.output ++ joined (map row_bytes (rows_in d))

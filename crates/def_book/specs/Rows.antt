@@ -1,5 +1,4 @@
--- The records of a book, read from its bytes. 18 is "malformed record (wrong length, sorts above 3, name length not 1 to 16, unused byte
--- set), unknown kind, heading not first or repeated, or another node count than the heading's".
+-- The records of a book, read from its bytes, and what makes one malformed, which is 18 (SPEC 16).
 use Rattle.std.specs.Prelude.{ℕ, zero, suc, ◌+◌, ◌*◌, ◌-◌, ◌%◌, List, [], ◌∷◌, Bool, ◌&&◌, cond, leb, eqb, length, drop, get_or, Option, None, Some}
 use Rattle.node.specs.Name.{named}
 use Rattle.node.specs.declared.name.Name.{Name}
@@ -25,7 +24,7 @@ is_zero b = eqb b 0
 abbrev pub name_at : List ℕ → Name
 name_at s = record { bytes = held 16 0 (drop 5 s); len = get_or s 4 0 }
 
--- "name length not 1 to 16, unused byte set" are malformed
+-- a name of 1 to 16 bytes, with zeros behind its length
 abbrev pub name_fits : Name → Bool
 name_fits n = named n && every is_zero (drop n.len n.bytes)
 
@@ -41,7 +40,7 @@ is_edge s = is_record 3 7 s
 abbrev pub is_param : List ℕ → Bool
 is_param s = is_record 4 22 s && name_fits (name_at s)
 
--- "sorts taken as 1 for values plus 2 for glides"
+-- the sorts of orders: 1 for values and 2 for glides, added up
 abbrev pub node_called : Name → List ℕ → DefNode
 node_called name s =
     record {
@@ -87,7 +86,7 @@ unfoldable pub size : List Row → ℕ
 size [] = 0
 size (r ∷ rs) = long r + size rs
 
--- ---- "each sort's own order counts"
+-- ---- the rows of one sort, in their own order
 abbrev pub more : {A : Type 0} → Option A → List A → List A
 more None l = l
 more (Some x) l = x ∷ l

@@ -1,5 +1,5 @@
--- Writing a book: "A writer puts nodes, edges, parameters and answers the length; later bytes stay." "A definition beyond 01's limits keeps
--- refusal 9, .. before 19"; "19 writer's buffer too short". On a refusal every byte stays.
+-- Writing a book (SPEC 16): 9, then 19; else the book stands at the start of the buffer, the bytes behind it stay, and
+-- its length is answered. On a refusal every byte stays.
 use Rattle.std.specs.Prelude.{ℕ, ◌+◌, ◌*◌, min, List, cond, leb, length, Result, Ok, Err}
 use Rattle.lists.specs.Written.{written}
 use Rattle.synthdef.specs.Limits.{allowed}
@@ -18,7 +18,7 @@ abbrev pub wrote_number : Wrote → ℕ
 wrote_number (length_of n) = 0
 wrote_number (refused n) = n
 
--- "9", and "19 writer's buffer too short"
+-- 9: the definition is not allowed; 19: the buffer is shorter than the book
 abbrev pub wrote_of : Result ℕ WriteError → Wrote
 wrote_of (Ok n) = length_of n
 wrote_of (Err error.Limits) = refused 9
@@ -28,7 +28,7 @@ wrote_of (Err error.ShortBuffer) = refused 19
 abbrev pub book_length : ℕ → ℕ → ℕ → ℕ
 book_length nodes edges params = 6 + 27 * min nodes 24 + 7 * min edges 48 + 22 * min params 8
 
--- "refusal 9, .. before 19"
+-- 9 before 19
 unfoldable pub write_answer : SynthDef → List ℕ → Wrote
 write_answer d out = cond (allowed d) (cond (leb (length (book_of d)) (length out)) (length_of (length (book_of d))) (refused 19)) (refused 9)
 

@@ -1,4 +1,4 @@
--- The laws of the port search and of the table of sources.
+-- The laws of the port search (SPEC 9.6) and of the table of sources (SPEC 14.1).
 use Prim.Native.Nat.{ℕ, zero, suc, ◌+◌, ◌-◌, ◌≤◌, ◌<◌}
 use native.Mathlib.Omega.{arith}
 use native.Mathlib.Numerals.{add-one}

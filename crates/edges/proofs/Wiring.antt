@@ -1,4 +1,4 @@
--- Connecting: dropping the edge at a port makes a place if there was one.
+-- Connecting (SPEC 4.3): dropping the edge at a port makes a place if there was one.
 use Prim.Native.Nat.{ℕ, ◌+◌, ◌≤◌, ◌<◌}
 use native.Mathlib.Omega.{arith}
 use mathlib.Core.Path.{◌≡◌, refl, sym, ap, ◌∙◌}

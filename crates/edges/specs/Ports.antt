@@ -1,5 +1,5 @@
--- What can be asked of the edges: "the lowest port without an edge", the port that a source feeds, and the "table of source
--- ids" that takes the place of the pointer scratch in `AudioGraph::render`.
+-- What can be asked of the edges: the lowest port that nothing feeds (SPEC 9.6), the port that a source feeds
+-- (SPEC 9.5, 14.2), and what feeds each port of a node (SPEC 14.1).
 use Rattle.std.specs.Prelude.{ℕ, zero, suc, List, [], ◌∷◌, Bool, cond, ◌&&◌, eqb, Option, None, Some, find, option_map}
 use Rattle.node.specs.declared.record.NodeId.{NodeId}
 use Rattle.node.specs.declared.record.Edge.{Edge}
@@ -10,7 +10,7 @@ abbrev pub lowest : ℕ → List Edge → NodeId → ℕ → Option ℕ
 lowest zero es n p = None
 lowest (suc k) es n p = let r = lowest k es n (suc p) in cond (taken es n p) r (Some p)
 
--- "the lowest port without an edge" of a node that has this many ports
+-- the lowest port that nothing feeds, of a node that has this many ports (SPEC 9.6)
 abbrev pub free_port : List Edge → NodeId → ℕ → Option ℕ
 free_port es n ports = lowest ports es n 0
 
@@ -18,7 +18,7 @@ free_port es n ports = lowest ports es n 0
 abbrev pub feeds : NodeId → NodeId → Edge → Bool
 feeds a b e = eqb e.from.0 a.0 && eqb e.to.0 b.0
 
--- "the port of the bus that the victim's output or pan node feeds": the first such edge, as `input_slot_from` has it
+-- the port of the node b that the node a feeds: that of the first such edge, as `input_slot_from` has it
 abbrev pub port_from : List Edge → NodeId → NodeId → Option ℕ
 port_from es a b = option_map (λ e. e.port) (find (feeds a b) es)
 

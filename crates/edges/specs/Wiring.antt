@@ -1,10 +1,10 @@
--- The edges of the graph as a list, in the order in which they were put: graph.rs, and "`connect` drops the edge at that
--- port and appends".
+-- The edges of the graph as a list, in the order in which they were put (SPEC 1): connecting (SPEC 4.3), disconnecting
+-- (SPEC 4.4), and what goes with a node (SPEC 4.2).
 use Rattle.std.specs.Prelude.{ℕ, List, [], ◌∷◌, ◌++◌, Bool, not, cond, ◌&&◌, ◌||◌, eqb, leb, ltb, length, filter, find, is_some}
 use Rattle.node.specs.declared.record.NodeId.{NodeId}
 use Rattle.node.specs.declared.record.Edge.{Edge}
 
--- "1,024 edges"
+-- so many edges at most (SPEC 2)
 abbrev pub edge_limit : ℕ
 edge_limit = 1024
 
@@ -24,11 +24,11 @@ taken es n p = is_some (find (ends_at n p) es)
 abbrev pub drop_at : List Edge → NodeId → ℕ → List Edge
 drop_at es n p = filter (λ e. not (ends_at n p e)) es
 
--- connecting: "drops the edge at that port and appends"
+-- connecting: the edge at that port goes, and the new one is put last (SPEC 4.3)
 abbrev pub wired : List Edge → Edge → List Edge
 wired es e = drop_at es e.to e.port ++ (e ∷ [])
 
--- "edge table full (a replaced edge needs no place)"
+-- the edge finds no place, which one that replaces another does not need
 abbrev pub no_place : List Edge → NodeId → ℕ → Bool
 no_place es n p = leb edge_limit (length es) && not (taken es n p)
 
@@ -52,6 +52,6 @@ among ids n = listed ids n.0
 abbrev pub touches : List ℕ → Edge → Bool
 touches ids e = among ids e.from || among ids e.to
 
--- nodes go "with their edges"
+-- with nodes go the edges that touch them
 abbrev pub drop_touching : List Edge → List ℕ → List Edge
 drop_touching es ids = filter (λ e. not (touches ids e)) es

@@ -1,4 +1,4 @@
--- The laws of the fade table: one test, which is computed over the whole table, and one lemma a law.
+-- The laws of the fade table (SPEC 10.4, 21.7): one test, which is computed over the whole table, and one lemma a law.
 --     lawful          a table that passes the test is lawful
 --     entries_lawful  the fade table is
 use Prim.Native.Nat.{ℕ, zero, suc, ◌+◌, ◌-◌, ◌*◌, ◌≤◌, ◌<◌, suc-le-suc}

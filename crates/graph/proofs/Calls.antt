@@ -1,4 +1,4 @@
--- The laws of the refusals, and when two graphs are the same.
+-- The laws of the refusals (SPEC 4), and when two graphs are the same.
 use Prim.Native.Nat.{ℕ, ◌≤◌, ◌<◌}
 use native.Mathlib.Omega.{arith}
 use mathlib.Core.Path.{◌≡◌, refl, sym, ap, ◌∙◌}

@@ -1,4 +1,4 @@
--- Closed scenes: the definitions compute, and each scene shuts out a wrong rule that it names.
+-- Closed scenes (SPEC 4): the definitions compute, and each scene shuts out a wrong rule that it names.
 use Prim.Native.Nat.{ℕ, ◌+◌, ◌*◌}
 use mathlib.Core.Path.{◌≡◌, refl}
 use mathlib.Core.List.{List, [], ◌∷◌, map}

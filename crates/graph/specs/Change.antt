@@ -1,5 +1,5 @@
--- What each call that is not refused does to the graph: "Adding, removing, connecting or disconnecting makes it
--- unprepared", and so does setting the sink.
+-- What each call that is not refused does to the graph: adding a node (SPEC 4.1), removing (SPEC 4.2), connecting
+-- (SPEC 4.3), disconnecting (SPEC 4.4), setting the sink (SPEC 4.5). Each of them leaves it unprepared (SPEC 5.1).
 use Rattle.std.specs.Prelude.{ℕ, ◌+◌, List, [], ◌∷◌, ◌++◌, map, Bool, false, not, filter}
 use Rattle.lists.specs.Find.{filter_o}
 use Rattle.node.specs.declared.record.NodeId.{NodeId}
@@ -26,7 +26,7 @@ append v n =
 abbrev pub edge : NodeId → NodeId → ℕ → Edge
 edge a b p = record { from = a; to = b; port = p }
 
--- "`connect` drops the edge at that port and appends"
+-- the edge at that port goes, and the new one is put last
 abbrev pub connect : GraphView → NodeId → NodeId → ℕ → GraphView
 connect v a b p = with_edges v (wired v.edges (edge a b p))
 

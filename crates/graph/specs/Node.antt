@@ -1,4 +1,5 @@
--- Live nodes: who they are, whose they are, and what a new one holds.
+-- Live nodes: who they are, whose they are (SPEC 1), what a new one holds (SPEC 4.1), and a bus's noise sequence
+-- (SPEC 9.9).
 use Rattle.std.specs.Prelude.{ℕ, ◌+◌, ◌%◌, List, map, Bool, false, not, cond, eqb, Option, None, Some, find}
 use Rattle.node.specs.Name.{name_of}
 use Rattle.node.specs.Node.{new_node, with_noise}
@@ -8,11 +9,11 @@ use Rattle.node.specs.declared.record.VoiceId.{VoiceId}
 use Rattle.node.specs.declared.record.Node.{Node}
 pub use Rattle.node.specs.Node.{with_id}
 
--- "512 live nodes"
+-- so many nodes live at most (SPEC 2)
 abbrev pub node_limit : ℕ
 node_limit = 512
 
--- node ids are "32 bits from 0", and all can be given out
+-- one above the last node id; all below it can be given out (SPEC 2)
 abbrev pub id_limit : ℕ
 id_limit = 4294967296
 
@@ -46,7 +47,7 @@ host_id = record { 0 = 0 }
 abbrev pub host_node : List ℕ → ℕ → ℕ → Bool → Bool → Node
 host_node kind ports required values glides = new_node (record { 0 = 0 }) host_id (name_of kind) ports required values glides
 
--- "Count the noise sequence for each bus, from 0, instead of one for all": the bus's node counts it; 0 where there is none
+-- each bus counts its own noise sequence, in its node; 0 where there is none
 abbrev pub noise_of : Option Node → ℕ
 noise_of None = 0
 noise_of (Some n) = n.noise

@@ -1,4 +1,4 @@
--- The graph as a value of plain lists. Every call on it is a function on this record.
+-- The graph as a value of plain lists (SPEC 1). Every call on it is a function on this record.
 use Rattle.std.specs.Prelude.{ℕ, List, [], Bool, true, false, Option, None, Some}
 use Rattle.node.specs.declared.record.NodeId.{NodeId}
 use Rattle.node.specs.declared.record.Node.{Node}
@@ -14,7 +14,7 @@ pub record GraphView : Type 0 where
   pub order : List NodeId
   pub next : ℕ
 
--- "a new store is unprepared"; node ids are "32 bits from 0"
+-- a new one is empty and unprepared, and its first node id is 0 (SPEC 3)
 abbrev pub new_graph : GraphView
 new_graph = record { nodes = []; edges = []; sink = None; prepared = false; order = []; next = 0 }
 

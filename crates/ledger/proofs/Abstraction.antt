@@ -67,7 +67,7 @@ module _ (more : ℕ → ℕ) where
   candidates_same : (d : SharedState) (q : Voice → Bool) → ((v : Voice) → q (moved more v) ≡ q v) → (vs : List Voice) → candidates d q (map (moved more) vs) ≡ candidates d q vs
   candidates_same d q same vs = ap (map (candidate d)) (filter_map (moved more) q q same vs) ∙ map-map (candidate d) (moved more) (filter q vs)
 
-  -- "admission"
+  -- admission (SPEC 9.2)
   pub admits_same : (d : SharedState) (bus : NodeId) (r : ℕ) (vs : List Voice)
       → admits d.config.budget d.config.policy r (candidates d (counted d.config.scope bus) (map (moved more) vs))
       ≡ admits d.config.budget d.config.policy r (candidates d (counted d.config.scope bus) vs)
@@ -77,7 +77,7 @@ module _ (more : ℕ → ℕ) where
   pub find_stored : (w : VoiceId) (vs : List Voice) → find (is_voice w) (map (moved more) vs) ≡ option_map (moved more) (find (is_voice w) vs)
   find_stored w vs = find_map (moved more) (is_voice w) (is_voice w) (λ v. refl) vs
 
-  -- "reclaim the earliest-started fade of that bus ... else free the policy's victim among tracked voices of that bus"
+  -- who is reclaimed: the fade of the bus that began first, or whom the policy names there (SPEC 9.7)
   earliest_same : (bus : NodeId) (vs : List Voice) → earliest (fades_on bus) (map (moved more) vs) ≡ option_map (moved more) (earliest (fades_on bus) vs)
   earliest_same bus [] = refl
   earliest_same bus (x ∷ vs) = rw (earliest_same bus vs, fading_same x.state) (go (earliest (fades_on bus) vs) (fades_on bus x))
@@ -144,7 +144,8 @@ module _ (block : ℕ) where
       go (Fading f) = ap (λ n. Fading (record { node = f.node; start = f.start; position = n; number = f.number })) (reached_suc f.position)
       go Loose = refl
 
--- "ended is count × block at least L": the store's number tells, since L is no more than it can hold
+-- a fade has ended where count × block is at least L (SPEC 21.1): the store's number tells, since L is no more than it
+-- can hold
 pub ended_stored : (d : SharedState) → length_l d ≤ 18446744073709551615 → (t : VoiceState) → model.ended (length_l d) (moved_state (reached d.config.block) t) ≡ ledger.ended d t
 ended_stored d fits Tracked = refl
 ended_stored d fits (Fading f) = go (length_l d) fits (f.position * d.config.block)

@@ -1,4 +1,5 @@
--- "The newcomer takes the next id and the port found, tracked under a budget": where a spawn answers a voice, that voice is there.
+-- Where a spawn answers a voice, that voice is there, with the next id, the port found and its state
+-- (SPEC 9, 9.9, 21.2).
 use Prim.Native.Nat.{ℕ, ◌+◌}
 use native.Mathlib.Omega.{arith}
 use mathlib.Core.Path.{◌≡◌, refl, sym, ap, ◌∙◌, subst}

@@ -1,5 +1,5 @@
--- "At budget (all, or those of the bus under `PerGroup`)": tracked voices never exceed the budget. "Without a budget nobody is
--- tracked, stolen or reclaimed."
+-- Tracked voices never exceed the budget, all of them or those of each bus; without a budget all voices are loose, and
+-- no spawn takes one away (SPEC 9.2, 21.2).
 use Prim.Native.Nat.{ℕ, suc, ◌≤◌, ◌<◌}
 use native.Mathlib.Omega.{arith}
 use mathlib.Core.Path.{◌≡◌, refl, sym, ap, ◌∙◌, subst}

@@ -1,5 +1,5 @@
--- The tables hold what every list of calls makes: 512 live nodes, 1,024 edges, 64 voices, 256 pending events, and the newest 64 steal
--- records. So nothing overflows in the store.
+-- The tables hold what every list of calls makes: 512 live nodes, 1,024 edges, 64 voices, 256 pending events, and the
+-- newest 64 steal records (SPEC 2). So nothing overflows in the store.
 use Prim.Native.Nat.{ℕ, suc, ◌+◌, ◌≤◌, ◌<◌}
 use native.Mathlib.Omega.{arith}
 use mathlib.Core.Path.{◌≡◌, refl, sym, ap, ◌∙◌}
@@ -62,7 +62,7 @@ use Rattle.ledger.proofs.Spawns.{InvariantOf, ids_of_lem}
 use Rattle.ledger.proofs.Simulation.{RunInvariant, kept_step_lem}
 
 -- ---- lengths
--- "a replaced edge needs no place"
+-- an edge that replaces another needs no place
 length_replaced : (es : List Edge) (e : Edge) → taken es e.to e.port ≡ true → length (wired es e) ≤ length es
 length_replaced es e h = go (find (ends_at e.to e.port) es) refl h
   where

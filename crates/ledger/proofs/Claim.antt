@@ -1,4 +1,4 @@
--- The claim holds of every list of calls, from every making that is accepted.
+-- The claim holds of every list of calls, from every making that is accepted (SPEC 21.1).
 use Prim.Native.Nat.{◌≤◌, ◌<◌, ◌*◌}
 use native.Mathlib.Omega.{arith}
 use mathlib.Core.Path.{◌≡◌, sym, ap, ◌∙◌, subst}

@@ -1,5 +1,5 @@
--- What a clearing leaves: exactly the voices whose fade has not ended and whose plan is not silent, in their order; and it answers how
--- many it removed.
+-- What a clearing leaves: exactly the voices whose fade has not ended and whose plan is not silent, in their order; and
+-- it answers how many it removed (SPEC 13.2).
 use Prim.Native.Nat.{ℕ, suc, ◌+◌, ◌-◌, ◌*◌, ◌≤◌, ◌<◌}
 use native.Mathlib.Omega.{arith}
 use native.Mathlib.Nat.{suc-mul, div-lt_iff_lt-mul}

@@ -1,4 +1,5 @@
--- Fade output and bus sum of a store whose config is c, in floats and in whole numbers; with the fade table, at its rate.
+-- Fade output and bus sum of a store whose config is c, in floats and in whole numbers (SPEC 15.1, 15.2, 15.3); with
+-- the fade table, at its rate (SPEC 10.4).
 use Prim.Native.Nat.{ℕ}
 use mathlib.Core.Path.{◌≡◌, ap, ◌∙◌}
 use mathlib.Core.List.{List}

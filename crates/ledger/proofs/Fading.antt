@@ -1,4 +1,4 @@
--- A fade begins: "takes the port of the bus that the victim's output or pan node feeds at that moment". The voice keeps its port.
+-- A fade begins at the port that the victim's feeder feeds at that moment (SPEC 9.5). The voice keeps its port.
 use Prim.Native.Nat.{ℕ, ◌+◌, ◌<◌}
 use native.Mathlib.Omega.{arith}
 use mathlib.Core.Path.{◌≡◌, refl, sym, ap, ◌∙◌, subst}

@@ -1,5 +1,5 @@
--- The holders that the edges give: a port of a host node is held by the owner of the source of its edge. And what each change of
--- nodes and edges does to them.
+-- The holders that the edges give: a port of a host node is held by the owner of the source of its edge (SPEC 21.1).
+-- And what each change of nodes and edges does to them.
 use Prim.Native.Nat.{ℕ, zero, suc, ◌<◌}
 use native.Mathlib.Omega.{arith}
 use native.Mathlib.Decide.{ℕ_discrete}

@@ -1,4 +1,5 @@
--- The count of a fade over a list of calls: it is the number of sounding renders since the managed spawn that stole the voice.
+-- The count of a fade over a list of calls: it is the number of sounding renders since the managed spawn that stole the
+-- voice (SPEC 10.2, 21.1).
 use mathlib.Core.Path.{◌≡◌, refl, sym, ap, ◌∙◌, subst}
 use mathlib.Core.List.{List, [], ◌∷◌, ◌++◌, append_assoc, append-nil}
 use Rattle.lists.specs.Member.{In}

@@ -1,4 +1,4 @@
--- What is known of the ledger after a list of calls, said of the store: claims 2 to 5.
+-- What is known of the ledger after a list of calls, said of the store (SPEC 21.2).
 use Prim.Native.Nat.{ℕ, ◌+◌, ◌≤◌, ◌<◌, ◌*◌}
 use native.Mathlib.Omega.{arith}
 use mathlib.Core.Path.{◌≡◌, refl, sym, ap, ap₂, ◌∙◌, subst}

@@ -1,4 +1,5 @@
--- Voices stand by rising id; ids start at 1, and none is above the number given out. So no two voices have one id.
+-- Voices stand by rising id; ids start at 1, and none is above the number given out (SPEC 1). So no two voices have one
+-- id.
 use Prim.Native.Nat.{ℕ, suc, ◌+◌, ◌≤◌, ◌<◌}
 use native.Mathlib.Omega.{arith}
 use mathlib.Core.Path.{◌≡◌, refl, sym, ap, ◌∙◌}

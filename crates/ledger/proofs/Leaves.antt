@@ -1,5 +1,6 @@
--- How a fading voice goes on and how it leaves: each sounding render raises its count by one and nothing else does; it leaves by a
--- free, called or timed, at a clearing for its end or its silence, or by a reclaim.
+-- How a fading voice goes on and how it leaves (SPEC 10.2, 10.3, 21.2): each sounding render raises its count by one
+-- and nothing else does; it leaves by a free, called or timed, at a clearing for its end or its silence, or by a
+-- reclaim.
 use Prim.Native.Nat.{ℕ, suc, ◌<◌}
 use native.Mathlib.Omega.{arith}
 use native.Mathlib.Decide.{ℕ_discrete}

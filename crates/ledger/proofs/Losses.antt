@@ -1,6 +1,5 @@
--- What the records of a managed spawn hold: "a victim is untracked, faded, or freed if it cannot fade, and recorded"; "else free the
--- policy's victim among tracked voices of that bus with a cut record". Each voice that was tracked and is not any more has its record, with
--- the clock, the level that it had before anything changed, and a cut mark exactly if it is removed.
+-- What the records of a managed spawn hold (SPEC 9.5, 9.7, 21.2): each voice that was tracked and is not any more has
+-- its record, with the clock, the level that it had before anything changed, and a cut mark exactly if it is removed.
 use Prim.Native.Nat.{ℕ, suc, ◌+◌, ◌≤◌, ◌<◌}
 use native.Mathlib.Omega.{arith}
 use native.Mathlib.Decide.{ℕ_discrete}

@@ -1,5 +1,5 @@
--- What an accepted making gives: its rate is a whole 1 to 384,000, so that the fade length is short, its block has a sample, and with the fade table its rate is
--- 48,000.
+-- What an accepted making gives (SPEC 3): its rate is a whole number up to 384,000, so that the fade length is short,
+-- its block has a sample, and with the fade table its rate is 48,000.
 use Prim.Native.Nat.{ℕ, ◌*◌, ◌/◌, ◌%◌, ◌≤◌, ◌<◌}
 use native.Mathlib.Omega.{arith}
 use mathlib.Core.Path.{◌≡◌, refl, sym, ap, ◌∙◌}

@@ -1,7 +1,6 @@
--- What each call does to the steal records. "a victim is untracked, faded, or freed if it cannot fade, and recorded"; "reclaim the
--- earliest-started fade of that bus ... and mark its record, if still held, cut". No call but a managed spawn writes a record or
--- marks one; there a record is marked for a fade of that bus that was removed in this very call, and one is written for each voice that
--- was tracked and is not any more.
+-- What each call does to the steal records (SPEC 9.5, 9.7, 21.2). No call but a managed spawn writes a record or marks
+-- one; there a record is marked for a fade of that bus that was removed in this very call, and one is written for each
+-- voice that was tracked and is not any more.
 use Prim.Native.Nat.{ℕ, suc, ◌+◌, ◌≤◌, ◌<◌}
 use native.Mathlib.Omega.{arith}
 use native.Mathlib.Decide.{ℕ_discrete}

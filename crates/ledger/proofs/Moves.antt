@@ -243,7 +243,7 @@ render_agrees l s =
     subst (λ m. Heards (modelRender.prepared_if (any_free (due l.shared)) m) (ledgerRender.prepared_if (any_free (due l.shared)) (ledgerRender.apply_events (due l.shared) (ledgerRender.rested l)))) (sym r.model)
     (prepared_agrees (any_free (due l.shared)) (ledgerRender.apply_events (due l.shared) (ledgerRender.rested l)) r.sound)
 
--- ---- 02, Paper 1: what became of the events
+-- ---- what became of the events (SPEC 8.5)
 pub freed_same : (w : VoiceId) (l : Ledger) → free_outcome (find (is_voice w) (map (stored l) l.voices)) ≡ free_outcome (find (is_voice w) l.voices)
 freed_same w l = ap free_outcome (find_stored (reached l.shared.config.block) w l.voices) ∙ go (find (is_voice w) l.voices)
   where

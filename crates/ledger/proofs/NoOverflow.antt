@@ -136,7 +136,7 @@ still_unless : (o : Option Refusal) (l : Ledger) (s : Step) → s.ledger.shared.
 still_unless None l s e = e
 still_unless (Some n) l s e = refl
 
--- ---- so the clock stays within 64 bits: "15 clock + block above 2^64 - 1"
+-- ---- so the clock stays within 64 bits: a render that would pass them is refused with 15 (SPEC 12)
 pub clock_step : (x : Call) (l : Ledger) → IdsOf l → l.shared.clock ≤ 18446744073709551615 → (step x l).ledger.shared.clock ≤ 18446744073709551615
 clock_step x l u h = go x
   where
@@ -173,7 +173,7 @@ clock_step x l u h = go x
     go (call.render out) = sounds out (render_refusal l.shared (length out)) refl
     go (call.ask q) = h
 
--- ---- "Position = count × block ≤ clock - start"
+-- ---- a fade's position, count × block, is at most the clock less the fade's start
 abbrev pub Within : ℕ → ℕ → VoiceState → Type 0
 Within block clock Tracked = Unit {0}
 Within block clock (Fading f) = f.position * block + f.start ≤ clock

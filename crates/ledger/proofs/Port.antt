@@ -1,5 +1,5 @@
--- The port search: the lowest port that passes; that it is the same by holders as by edges; and that the port which a voice
--- holds is the one that its end feeds.
+-- The port search (SPEC 9.6): the lowest port that passes; that it is the same by holders as by edges; and that the
+-- port which a voice holds is the one that its end feeds.
 use Prim.Native.Nat.{ℕ, zero, suc, ◌+◌, ◌≤◌, ◌<◌}
 use native.Mathlib.Omega.{arith}
 use native.Mathlib.Decide.{ℕ_discrete}
@@ -64,7 +64,7 @@ lowest_same es n t same (suc k) p = rw (same p, lowest_same es n t same k (suc p
     go false = refl
 
 module _ {ns : List Node} {es : List Edge} {nx nv : ℕ} {vs : List Voice} {h : Holders} (s : Invariant ns es nx nv vs h) where
-  -- "the lowest port without an edge" is the lowest that nobody holds
+  -- the lowest port that no edge feeds is the lowest that nobody holds
   pub free_same : (bus : NodeId) → HostAt ns bus.0 → free_port es bus (ports_at ns bus.0) ≡ lowest_port (ports_at ns bus.0) (λ p. not (is_held (h bus.0 p))) 0
   free_same bus live =
       lowest_same es bus (λ p. not (is_held (h bus.0 p))) (λ p. ap (λ x. not (is_held x)) (s.held bus.0 p) ∙ ap not (held_taken s.wired bus live p)) (ports_at ns bus.0) 0
@@ -127,7 +127,8 @@ module _ {ns : List Node} {es : List Edge} {nx nv : ℕ} {vs : List Voice} {h : 
           let z : k ≡ 0 = (s.voiced.sung v i).hosted k b in
           rw z (src (b ∙ ap Some z) (find (ends_at v.bus q) es) refl)
 
-  -- "the port that the voice's output, pan node or fade feeds on its bus now" is the port that it holds: of tracked, fading and loose voices
+  -- the port of its bus that a voice's end feeds is the port that it holds (SPEC 14.2): of tracked, fading and loose
+  -- voices
   pub end_held : (v : Voice) → In v vs → port_from es (end_of v) v.bus ≡ lowest_port (ports_at ns v.bus.0) (λ p. by_voice v.id (h v.bus.0 p)) 0
   end_held v i = go (find (feeds (end_of v) v.bus) es) refl
     where
@@ -170,7 +171,7 @@ module _ {ns : List Node} {es : List Edge} {nx nv : ℕ} {vs : List Voice} {h : 
             let own = ap (owner_at ns) (eqb-true _ _ (and_left _ _ r.1)) ∙ s.ends.owns v i in
             ap Some (at v i d r.0 own (eqb-true _ _ (and_right (eqb d.from.0 (end_of v).0) _ r.1)) p mine)
 
-  -- "A fade takes the port of the bus that the victim's output or pan node feeds at that moment": the port that it holds
+  -- the port at which a victim's fade begins is the port that the victim holds (SPEC 9.5)
   pub feeds_held : (v : Voice) → In v vs → is_tracked v.state ≡ true
       → port_from es (feeder v) v.bus ≡ lowest_port (ports_at ns v.bus.0) (λ p. by_voice v.id (h v.bus.0 p)) 0
   feeds_held v i t = ap (λ k. port_from es k v.bus) (sym (tracked_end v t)) ∙ end_held v i

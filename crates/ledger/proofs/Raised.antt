@@ -1,4 +1,4 @@
--- A bus counts one voice more (02, Paper 6): of every node, nothing but its noise sequence changes.
+-- A bus counts one voice more (SPEC 9.9): of every node, nothing but its noise sequence changes.
 use Prim.Native.Nat.{ℕ}
 use native.Mathlib.Omega.{arith}
 use mathlib.Core.Path.{◌≡◌, refl, sym, ap, ◌∙◌}

@@ -1,4 +1,4 @@
--- 02, Paper 13: "Each voice's record gains a rank 0 to 7, given at spawn": after every list of calls no voice has a rank above 7.
+-- After every list of calls no voice has a rank above 7 (SPEC 9.1, 21.2).
 use Prim.Native.Nat.{ℕ, ◌≤◌}
 use mathlib.Core.Path.{◌≡◌, refl, sym, ap, ◌∙◌, subst}
 use mathlib.Core.Logic.{⊎_elim}

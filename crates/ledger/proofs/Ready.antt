@@ -1,6 +1,6 @@
--- "All live nodes are processed once in a sounding render, that is a prepared graph with a sink." While the graph is prepared, prepare
--- would answer what it holds: the order has every live node once, and each source before its target; and a prepared graph never
--- fails to prepare.
+-- While the graph is prepared, prepare would answer what it holds (SPEC 5.1, 5.2): the order has every live node once,
+-- and each source before its target; and a prepared graph never fails to prepare (SPEC 5.3). So a sounding render has
+-- all live nodes (SPEC 12).
 use Prim.Native.Nat.{ℕ, suc}
 use native.Mathlib.Omega.{arith}
 use mathlib.Core.Path.{◌≡◌, refl, sym, ap, ◌∙◌, subst}

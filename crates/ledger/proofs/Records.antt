@@ -1,5 +1,5 @@
--- The steal records of every run: each steal has a voice id of its own, so that the count never ends; the newest 64 are held; each
--- fade has a record of its own.
+-- The steal records of every run: each steal has a voice id of its own, so that the count never ends; the newest 64 are
+-- held (SPEC 2); each fade has a record of its own.
 use Prim.Native.Nat.{ℕ, suc, ◌+◌, ◌≤◌, ◌<◌}
 use native.Mathlib.Omega.{arith}
 use mathlib.Core.Path.{◌≡◌, refl, sym, ap, ◌∙◌, subst}

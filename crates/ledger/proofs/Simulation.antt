@@ -1,5 +1,5 @@
--- The model and the ledger agree, call by call and on every list of calls: the same answers, and the store that the ledger stands
--- for. What is kept on the way is that the ledger is sound.
+-- The model and the ledger agree, call by call and on every list of calls (SPEC 21.1): the same answers, and the store
+-- that the ledger stands for. What is kept on the way is that the ledger is sound.
 use Prim.Native.Nat.{ℕ, ◌≤◌, ◌<◌}
 use native.Mathlib.Omega.{arith}
 use mathlib.Core.Path.{◌≡◌, refl, sym, ap, ap₂, ◌∙◌, subst}
@@ -117,7 +117,7 @@ module _ (l : Ledger) (s : InvariantOf l) where
   reads_agrees : (a b : call.Answer) → a ≡ b → Agrees (call.reads (model_of l) a) (ledger.reads l b)
   reads_agrees a b e = record { answer = e; model = refl; sound = s }
 
-  -- ---- 02, Paper 4: the store's page, by edges, and the ledger's, by holders
+  -- ---- the store's page, by edges, and the ledger's, by holders (SPEC 14.2)
   lines_agree : (vs : List Voice) → ((v : Voice) → In v vs → In v l.voices) → lines l.shared.clock (port_now l.shared.graph.edges) (map (stored l) vs) ≡ lines l.shared.clock (λ v. port_held v l) (map (stored l) vs)
   lines_agree [] sub = refl
   lines_agree (v ∷ vs) sub =
@@ -143,7 +143,7 @@ module _ (l : Ledger) (s : InvariantOf l) where
   asks_agree (call.whole_fade input ins lent at out outs) = refl
   asks_agree (call.whole_sum inputs counts out outs) = refl
 
-  -- ---- 02, Paper 1: the render with its list
+  -- ---- the render with its list (SPEC 12)
   rendered_agrees : (o : Option Refusal) (out : List ℕ) → Agrees (call.render_step o out (model_of l)) (ledger.render_step o out l)
   rendered_agrees (Some r) out = record { answer = refl; model = refl; sound = s }
   rendered_agrees None out =

@@ -1,5 +1,5 @@
--- "A freed row serves again; its id never returns." Ids are given out by rising number. So what is live after more calls, and has an id that
--- was given out before them, was live before them.
+-- No id is given out twice (SPEC 1): ids are given out by rising number. So what is live after more calls, and has an
+-- id that was given out before them, was live before them.
 use Prim.Native.Nat.{ℕ, ◌+◌, ◌≤◌, ◌<◌}
 use native.Mathlib.Omega.{arith}
 use native.Mathlib.Decide.{dec_lt}

@@ -1,6 +1,7 @@
--- When a managed spawn that the table does not refuse is refused all the same. With a budget above 0 and a policy that steals: 11 exactly when it is at
--- budget and all that count outrank it; else 12 exactly when every port of its bus is held by somebody who is neither a fading voice of that bus nor
--- a tracked one of it that does not outrank it; else it answers the next voice id.
+-- When a managed spawn that no number above 11 or 12 refuses is refused all the same (SPEC 9.1, 9.3, 21.2). With a
+-- budget above 0 and a policy that steals: 11 exactly when it is at budget and all that count outrank it; else 12
+-- exactly when every port of its bus is held by somebody who is neither a fading voice of that bus nor a tracked one of
+-- it that does not outrank it; else it answers the next voice id.
 use Prim.Native.Nat.{ℕ, zero, suc, ◌+◌, ◌≤◌, ◌<◌}
 use native.Mathlib.Omega.{arith}
 use mathlib.Core.Path.{◌≡◌, refl, sym, ap, ap₂, ◌∙◌, subst}

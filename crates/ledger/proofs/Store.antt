@@ -180,7 +180,7 @@ module _ (c : Config) where
         without_voice = find_stored (λ n. n * c.block) r.voice.id vs' ∙ ap (option_map (shown c)) r.without_voice;
       }
 
-  -- a fade has ended as the ledger says: "ended is count × block at least L"
+  -- a fade has ended as the ledger says: where count × block is at least L (SPEC 21.1)
   pub ended_shown : (d : SharedState) → d.config ≡ c → (s : VoiceState) → clearing.ended (fade_length c.rate) (moved_state (λ n. n * c.block) s) ≡ ledgerClear.ended d s
   ended_shown d is Tracked = refl
   ended_shown d is (Fading f) = ap (λ (z : Config). leb (fade_length z.rate) (f.position * z.block)) (sym is)

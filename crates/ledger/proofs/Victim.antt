@@ -1,6 +1,6 @@
--- Who is removed is one of the voices: the victim of an admission is tracked and counts for the new voice, and the next to be
--- reclaimed is fading on the bus, or tracked there; none that is tracked outranks the new voice, nor anybody that was asked. Where nobody is
--- found, all that were asked outrank it.
+-- Who is removed is one of the voices: the victim of an admission is tracked and counts for the new voice (SPEC 9.2),
+-- and the next to be reclaimed is fading on the bus, or tracked there (SPEC 9.7); none that is tracked outranks the new
+-- voice, nor anybody that was asked (SPEC 9.3). Where nobody is found, all that were asked outrank it.
 use Prim.Native.Nat.{ℕ, ◌≤◌, ◌<◌}
 use native.Mathlib.Omega.{arith}
 use mathlib.Core.Path.{◌≡◌, refl, sym, ap, ◌∙◌, subst}

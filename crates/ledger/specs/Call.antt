@@ -1,4 +1,4 @@
--- The ledger's answer to each call, and to a list of calls.
+-- The ledger's answer to each call, and to a list of calls (SPEC 21.1).
 use Rattle.std.specs.Prelude.{ℕ, ◌*◌, List, [], ◌∷◌, map, length, Option, None, Some, find}
 use Rattle.node.specs.Name.{name_of}
 use Rattle.node.specs.declared.refusal.Refusal.{Refusal}
@@ -50,11 +50,13 @@ position block count = count * block
 abbrev pub shown : Ledger → Voice → Voice
 shown l v = moved (position l.shared.config.block) v
 
--- what a question finds: the rules of reading are the model's. For the page (02, Paper 4) the port that a voice feeds is the port of its bus that it holds
+-- what a question finds: the rules of reading are the model's (SPEC 14.1). For the page the port that a voice feeds is
+-- the port of its bus that it holds (SPEC 14.2)
 abbrev pub seen : Ledger → Model
 seen l = record { shared = l.shared; voices = map (shown l) l.voices }
 
--- 02, Paper 1: a refused render takes no event and writes no entry; else the outcomes stand in the list, and "later entries stay"
+-- a refused render takes no event and writes no entry; else the outcomes stand first in the list, and the entries
+-- behind them stay (SPEC 12)
 abbrev pub render_step : Option Refusal → List ℕ → Ledger → Step
 render_step (Some r) out l = record { answer = call.rendered (Rendered.Refused r) 0 out; ledger = l }
 render_step None out l =

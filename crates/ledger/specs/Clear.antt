@@ -1,4 +1,4 @@
--- "Clearing: as above; ended is count × block at least L."
+-- Clearing, as the store does it (SPEC 13.2), where a fade has ended if its count × block is at least L (SPEC 21.1).
 use Rattle.std.specs.Prelude.{ℕ, ◌+◌, ◌*◌, List, [], ◌∷◌, Bool, false, leb, length, filter}
 use Rattle.store.specs.declared.voices.Voice.{Voice}
 use Rattle.store.specs.declared.voices.VoiceState.{VoiceState}

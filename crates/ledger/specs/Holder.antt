@@ -1,4 +1,4 @@
--- "Each port of a host node has a holder: host node, voice or none."
+-- The holder of a port of a host node: a host node, a voice or nobody (SPEC 21.1).
 use Rattle.std.specs.Prelude.{ℕ, Bool, true, false, cond, ◌&&◌, eqb}
 use Rattle.node.specs.declared.record.NodeId.{NodeId}
 use Rattle.node.specs.declared.record.VoiceId.{VoiceId}
@@ -27,11 +27,11 @@ by_host k nobody = false
 by_host k (host j) = eqb j.0 k.0
 by_host k (voice w) = false
 
--- "Connecting makes the source holder", and a new voice holds the port found
+-- who is connected holds the port, and a new voice the one found
 abbrev pub hold : NodeId → ℕ → Holder → Holders → Holders
 hold b p x h n q = cond (eqb n b.0 && eqb q p) x (h n q)
 
--- "disconnecting, or the going of the holder or of the port's own node, clears it"
+-- when the holder is removed, or the node that has the port, it comes to nobody
 abbrev pub drop_voice : VoiceId → Holders → Holders
 drop_voice w h n q = cond (by_voice w (h n q)) nobody (h n q)
 

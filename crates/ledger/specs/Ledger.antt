@@ -1,6 +1,7 @@
--- 01's ledger: "fed the calls with all their arguments, making's too, and nothing from the store". Ports are decided by their
--- holders and fades by counts of sounding renders: in a fading voice's record `position` is that count here. What the rules
--- give both, it shares with the model: nodes, edges, ids, clock, events, reports, steal records, policy, level, silence.
+-- The ledger, a second machine, which is given the making and the calls, and nothing of the store (SPEC 21.1). Ports
+-- are decided by their holders and fades by counts of sounding renders: in a fading voice's record `position` is that
+-- count here. What the rules give both, it shares with the model: nodes, edges, ids, clock, events, reports, steal
+-- records, policy, level, silence.
 use Rattle.std.specs.Prelude.{ℕ, zero, suc, List, [], ◌∷◌, ◌++◌, map, Bool, not, cond, Option, None, Some, filter, find, Result, Err, Ok}
 use Rattle.node.specs.declared.record.NodeId.{NodeId}
 use Rattle.node.specs.declared.record.VoiceId.{VoiceId}
@@ -59,7 +60,7 @@ without_voice w l =
       voices = filter (λ v. not (is_voice w v)) l.voices;
     }
 
--- ---- "An admission victim holding a port of its bus keeps it, fading, count 0; else it goes."
+-- ---- a victim that holds a port of its bus fades there, with count 0; any other is cut (SPEC 9.5)
 abbrev pub fade : Voice → ℕ → Ledger → Ledger
 fade v p l = record { shared = fade_shared v p l.shared; holders = l.holders; voices = map (begin_fade v.id (fade_of l.shared)) l.voices }
 
@@ -73,7 +74,7 @@ stolen v None l = cut_off v Tracked l
 abbrev pub steal_voice : Voice → Ledger → Ledger
 steal_voice v l = stolen v (port_held v l) l
 
--- ---- "The newcomer takes the next id and the port found, tracked under a budget."
+-- ---- the new voice takes the next id, and holds the port found (SPEC 9.9)
 pub record SpawnResult : Type 0 where
   pub answer : Result VoiceId Refusal
   pub ledger : Ledger
@@ -117,7 +118,7 @@ abbrev pub admission_on : NodeId → ℕ → Ledger → Admission
 admission_on bus r l =
     admits l.shared.config.budget l.shared.config.policy r (candidates l.shared (counted l.shared.config.scope bus) l.voices)
 
--- "Refused: nothing changes; with 12 the steals and reclaims made stand."
+-- refused before anything changes (SPEC 9.1), or the spawn
 abbrev pub unless : Option Refusal → Ledger → SpawnResult → SpawnResult
 unless None l r = r
 unless (Some n) l r = refused n l
@@ -126,11 +127,11 @@ abbrev pub spawn_managed : Spawn → Ledger → SpawnResult
 spawn_managed x l =
     unless (spawn_refusal l.shared l.voices x.def x.bus x.rank) l (admitted (admission_on x.bus x.rank l) x l)
 
--- "Unmanaged: the port search alone; the newcomer takes id and port likewise and is loose. No port: 12."
+-- no admission, and nobody reclaimed; the new voice is loose (SPEC 9.10)
 abbrev pub spawn_loose : Spawn → Ledger → SpawnResult
 spawn_loose x l = unless (spawn_refusal l.shared l.voices x.def x.bus x.rank) l (place 0 x Loose l)
 
--- ---- "Free, called or by event: the voice goes."
+-- ---- a free, called or by an event (SPEC 13.1)
 abbrev pub freed : Option Voice → Ledger → Ledger
 freed None l = l
 freed (Some v) l = without_voice v.id l

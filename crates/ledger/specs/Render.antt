@@ -1,4 +1,4 @@
--- "Sounding render, after events: each fading count + 1."
+-- Render (SPEC 12), where a sounding one raises the count of each fade by one (SPEC 21.1).
 use Rattle.std.specs.Prelude.{ℕ, suc, ◌+◌, List, [], ◌∷◌, map, Bool, true, false, cond, find}
 use Rattle.scheduler.specs.Event.{param_order}
 use Rattle.scheduler.specs.Queue.{left_after}
@@ -21,7 +21,7 @@ abbrev pub apply_events : List Event → Ledger → Ledger
 apply_events [] l = l
 apply_events (e ∷ q) l = apply_events q (apply_event e l)
 
--- 02, Paper 1: what became of an event, by the ledger's voices at the moment when it is applied, and of each of them
+-- what became of an event, by the ledger's voices at the moment when it is applied, and of each of them (SPEC 8.5)
 abbrev pub outcome_of : Event → Ledger → Outcome
 outcome_of e l =
     cond (is_free e.action) (free_outcome (find (is_voice e.voice) l.voices))

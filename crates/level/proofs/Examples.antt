@@ -1,4 +1,4 @@
--- Worked examples over the definitions, in a table that one computed check proves.
+-- Worked examples over the definitions (SPEC 11.1), in a table that one computed check proves.
 use Prim.Native.Nat.{ℕ}
 use mathlib.Core.Path.{◌≡◌, refl}
 use mathlib.Core.List.{List, [], ◌∷◌, map}

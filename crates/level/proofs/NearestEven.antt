@@ -1,4 +1,4 @@
--- The kit's `round`, and so `narrow`, is the nearest value, at a tie the even one.
+-- The kit's `round`, and so `narrow`, is the nearest value, at a tie the even one (SPEC 1, 11.1, 21.7).
 use Prim.Native.Nat.{Ordering}
 use Prim.Native.Nat.{ℕ, suc, ◌+◌, ◌-◌, ◌*◌, ◌/◌, ◌%◌, ◌^◌, ◌≤◌, ◌<◌}
 use native.Mathlib.Nat.{le_trans, le_of_eq, le_of_lt, not-le_of_lt, div-mul-le_self, eq-zero-or-pos, eq-or-lt_of_le, mul_assoc, mul_right_comm, mul-pos, mul-le-mul_right, mul-lt-mul_of_pos_right, add-mul, one-mul, le-div_iff_mul-le, div-add-mod', mod-lt, div-div-eq-div-mul}

@@ -1,4 +1,5 @@
--- `sqrt` is the nearest binary64 value to the root: no other is as near, by the squares of the numbers halfway.
+-- `sqrt` is the nearest binary64 value to the root (SPEC 11.1, 21.7): no other is as near, by the squares of the
+-- numbers halfway.
 use Prim.Native.Nat.{ℕ, zero, suc, ◌+◌, ◌-◌, ◌*◌, ◌/◌, ◌%◌, ◌^◌, ◌≤◌, ◌<◌}
 use native.Mathlib.Nat.{le_refl, le_trans, le_of_eq, le_of_lt, lt_of_lt_of_le, lt_of_le_of_lt, lt_of_not-le, not-le_of_lt, lt_of_mul-lt-mul_right, eq_of_mul-eq-mul_right, eq-or-lt_of_le, mul_assoc, mul_right_comm, mul-pos, mul-le-mul, mul-le-mul_left, mul-le-mul_right, mul-lt-mul_of_pos_right, zero-mul, one-mul, mul-one, add-mul, div-mul-le_self, div-add-mod', mod-lt, le-div_iff_mul-le}
 use native.Mathlib.Omega.{arith, by_contra}

@@ -1,5 +1,5 @@
--- The level of a block of samples. Definitions only. 01, "engine.rs": "f64 sum of squares from +0, divided by the count, square root, narrowed to f32,
--- each nearest-even". A binary32 sample is a binary64 value as it stands, since one type serves both formats; and every NaN is the one value `nan`.
+-- The level of a block of samples (SPEC 11.1). Definitions only. A binary32 sample is a binary64 value as it stands,
+-- since one type serves both formats; and every NaN is the one value `nan` (SPEC 1).
 use Rattle.std.specs.Prelude.{List, [], ◌∷◌, false, pos, length, Float}
 use Rattle.std.specs.Float.{fin, binary64}
 use Rattle.std.specs.Float.Ieee.{add, mul, div, of_int}

@@ -1,5 +1,5 @@
--- A binary64 value as a binary32 one, and what it is to be the nearest value of a format. Definitions only.
--- 01, "engine.rs": "narrowed to f32, each nearest-even".
+-- A binary64 value as a binary32 one (SPEC 11.1), and what it is to be the nearest value of a format (SPEC 1, 21.7).
+-- Definitions only.
 use Rattle.std.specs.Prelude.{ℕ, ◌+◌, ◌*◌, ◌%◌, ◌^◌, ◌≤◌, ◌<◌, ◌≡◌, Bool, T, Float}
 use Rattle.std.specs.Float.{nan, inf, fin, Format, binary32}
 use Rattle.std.specs.Float.Ieee.{prec, low, up, down, round, fits, to_bits}

@@ -1,5 +1,5 @@
--- The square root of a binary64 value, over `lib.Ieee` and natural numbers, and what it is to be the nearest one. Definitions only.
--- 01, "engine.rs": "square root, .., each nearest-even".
+-- The square root of a binary64 value (SPEC 11.1), over `lib.Ieee` and natural numbers, and what it is to be the
+-- nearest one (SPEC 21.7). Definitions only.
 use Rattle.std.specs.Prelude.{ℕ, zero, suc, ◌+◌, ◌-◌, ◌*◌, ◌/◌, ◌^◌, ◌<◌, false, cond, T, leb, ltb, Float}
 use Rattle.std.specs.Float.{nan, inf, fin, binary64}
 use Rattle.std.specs.Float.Ieee.{up, down, size, units, fits}

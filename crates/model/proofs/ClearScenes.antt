@@ -1,5 +1,4 @@
--- Scenes of clearing: "first the voices whose fade has ended, in voice order, then those whose done plan is silent; it answers
--- how many it removed."
+-- Scenes of clearing (SPEC 10.3, 13.2): ended fades first, then silent plans, and how many went.
 use mathlib.Core.Path.{◌≡◌, refl}
 use mathlib.Core.List.{List, [], ◌∷◌}
 use Rattle.std.specs.Prelude.{None, Some}

@@ -1,4 +1,5 @@
--- Scenes of events, values and glides: when an event is taken, in which order, what it does, and what a render then answers.
+-- Scenes of events, values and glides (SPEC 8): when an event is taken (SPEC 8.4), in which order (SPEC 8.2), what it
+-- does, and what a render then answers (SPEC 12).
 use Prim.Native.Nat.{ℕ}
 use Prim.Native.String.{String}
 use mathlib.Core.Path.{◌≡◌, refl}
@@ -54,9 +55,8 @@ last k m = option_map (λ n. n.last) (node_at m.shared.graph.nodes (id k))
 abbrev key : List Call → Model
 key calls = after (up_to 2 Oldest) (host 2 ∷ sink 0 ∷ call.spawn_managed (spawn_of key_def (id 0) (float 0) 0) ∷ call.prepare ∷ calls)
 
--- ---- "answers yes and becomes the node's last order if the voice is known, has the parameter, and its node takes that sort; else
--- it answers no and changes nothing"; "Of two parameters of one name the first counts", also where its node refuses the order; a
--- glide of 0 seconds is a glide; a name that is not 1 to 16 bytes names nothing.
+-- ---- when an order becomes the node's last (SPEC 8.1): by the first parameter of its name, also where its node
+-- refuses the order (SPEC 6.3); a glide of 0 seconds is a glide; a string that is no name names nothing.
 -- Refuses: the last parameter of a name; the first that takes the order; a glide of 0 seconds taken as a value.
 orders :
     (asked
@@ -100,17 +100,17 @@ free_first :
 unfolding eq prepare processing_order lacking lacks any live_ids live_nodes rising_from whole order walk released fed among count_up
 free_first = (refl, refl, refl, refl)
 
--- ---- "a free, known or not, prepares inside the render": it heals a graph that a new node left unprepared. A direct free prepares
--- nothing. Refuses: a prepare for known voices only.
+-- ---- a free among the events, of a live voice or not, prepares inside the render (SPEC 12): it heals a graph that a
+-- new node left unprepared. A direct free prepares nothing. Refuses: a prepare for known voices only.
 unknown_free :
     (asked (host 1 ∷ timed_free 4 9 ∷ render ∷ render ∷ []) (key []) ≡ call.node (id 3) ∷ done ∷ told Rendered.Sounding (1 ∷ []) 255 ∷ sounding ∷ [])
     × (asked (free 1 ∷ render ∷ []) (key []) ≡ ordered Applied ∷ silent ∷ [])
 unfolding eq prepare processing_order lacking lacks any live_ids live_nodes rising_from whole order walk released fed among count_up
 unknown_free = (refl, refl)
 
--- "If the last such prepare fails, the render is not refused: it answers silent and 13 or 14, events applied, clock advanced." Voice 1
--- is removed, the events are taken, and voice 2, which fades, does not move. Refuses: a refused render; one that counts in the fades; one that
--- keeps its events.
+-- Where that prepare fails, the render is silent with its number and not refused (SPEC 12). Voice 1 is removed, the
+-- events are taken, and voice 2, which fades, does not move. Refuses: a refused render; one that counts in the fades;
+-- one that keeps its events.
 abbrev cyclic : List Call → Model
 cyclic calls =
     after (up_to 2 Oldest)

@@ -1,4 +1,4 @@
--- The examples of the scope, as one table over the definitions, proved by one computed check: the marked ones first.
+-- Examples of the rules, as one table over the definitions, proved by one computed check.
 use Rattle.std.specs.Prelude.{Some}
 use Prim.Native.Nat.{ℕ, suc}
 use mathlib.Core.Path.{◌≡◌, refl}
@@ -34,21 +34,21 @@ use Rattle.model.specs.Scene.{printed, small, voice, float, host, spawn, timed_f
 use Rattle.model.proofs.PageScene.{page}
 
 pub data Row : Type 0 where
-  -- ● "rate ..: L .."
+  -- a rate and its fade length (SPEC 10.1)
   rate : ℕ → ℕ → Row
-  -- ● "Level of .., ..: .."
+  -- samples and their level (SPEC 11.1)
   level : List Float → Float → Row
-  -- ● "Seed, sequence .., node ..: .."
+  -- the seed of a sequence and a node (SPEC 9.9)
   seed : ℕ → ℕ → ℕ → Row
-  -- ● levels in order of admission: by Paper 5 "in 01's example with 2, 1, 1 the third voice goes"
+  -- levels in voice order, and who goes under `Quietest`: of 2, 1, 1 the third (SPEC 9.4)
   quietest : List Float → Victim → Row
-  -- ● "Events at .. with deadline ..": how many of one are taken
+  -- events at a time, and a deadline: how many are taken (SPEC 8.4)
   taken : ℕ → ℕ → ℕ → Row
-  -- ● "In the page's scene the order of the third prepare is .."
+  -- the order of the third prepare in the page's scene (SPEC 5.2)
   third_prepare : List ℕ → Row
   -- the page's scene, and what it prints
   prints : List ℕ → Row
-  -- "Two more renders and a clearing call": what it answers, and which voices are left
+  -- two renders more and a clearing: what it answers, and which voices are left (SPEC 13.2)
   cleared : List Answer → List ℕ → Row
   -- the marked ones met again in the store: a block of two samples, and the level of the voice
   block : List Float → List Answer → Row

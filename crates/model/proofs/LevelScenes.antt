@@ -1,5 +1,5 @@
--- Scenes of levels and reports: "none until the clock passes the birth sample, and none for an unknown voice or a dead output.
--- Else, over the last reported block .. Before any report it is 0."
+-- Scenes of levels and reports (SPEC 11.1, 11.2): none at the birth, for an unknown voice or without the output; else
+-- that of the last report, and 0 before one.
 use mathlib.Core.Path.{◌≡◌, refl}
 use mathlib.Core.List.{[], ◌∷◌}
 use mathlib.Core.Bool.{false, true}
@@ -39,7 +39,8 @@ levels :
 unfolding eq level_of squares root_of sqrt narrow add mul div of_int of_bits whole order walk released fed among count_up
 levels = (refl, refl)
 
--- "channel by channel": the block of two channels, 1 and 7, has the level 5. Refuses: the first channel alone; the sum of levels.
+-- one channel behind the other: the block of two channels, 1 and 7, has the level 5. Refuses: the first channel alone;
+-- the sum of levels.
 stereo :
     asked (call.report (id 1) 2 (float 1 ∷ float 7 ∷ []) false ∷ call.ask (call.level (voice 1)) ∷ []) (after (small 1 Oldest) (host 1 ∷ spawn 0 ∷ render ∷ []))
     ≡ done ∷ known (Some (float 5)) ∷ []
@@ -80,8 +81,8 @@ blocks_of_16 :
 unfolding eq whole order walk released fed among count_up
 blocks_of_16 = refl
 
--- ---- "none for .. a dead output", which no call makes: a store that has its voice and no node. The voice is not silent then, and takes no order. Refuses: the level 0
--- of a node that is not there; a missing node that is done.
+-- ---- no level without the output, which no call makes: a store that has its voice and no node. The voice is not
+-- silent then, and takes no order. Refuses: the level 0 of a node that is not there; a missing node that is done.
 abbrev nodeless : Model → Model
 nodeless m =
     let d = m.shared in

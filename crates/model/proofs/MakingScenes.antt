@@ -1,4 +1,5 @@
--- Scenes of making: what a new store holds, field by field, for makings that differ in every argument. The refusals are in `RefusalScenes`.
+-- Scenes of making (SPEC 3): what a new store holds, field by field, for makings that differ in every argument. The
+-- refusals are in `RefusalScenes`.
 use mathlib.Core.Path.{◌≡◌, refl}
 use mathlib.Core.List.{[]}
 use Rattle.std.specs.Prelude.{None, Some}
@@ -12,7 +13,7 @@ use Rattle.store.specs.declared.config.Config.{Config}
 use Rattle.model.specs.Model.{Model}
 use Rattle.model.specs.Make.{make}
 
--- "a new store is unprepared"; nothing is in it, no id is given out, the clock is 0
+-- a new store is unprepared; nothing is in it, no id is given out, the clock is 0
 abbrev empty : Config → Model
 empty c =
     record {

@@ -1,5 +1,5 @@
--- "12: no port, nothing left to reclaim": the bus that 12 leaves has no port without an edge, and under a budget nobody is left
--- to reclaim. So the search never gives up early. Of every model.
+-- The bus that 12 leaves has no port without an edge, and under a budget nobody is left to reclaim (SPEC 9.7, 9.10). So
+-- the search never gives up early. Of every model.
 use Prim.Native.Nat.{ℕ, zero, suc, ◌≤◌}
 use native.Mathlib.Omega.{arith}
 use mathlib.Core.Path.{◌≡◌, refl, subst, sym, ap, ◌∙◌}

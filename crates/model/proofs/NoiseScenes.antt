@@ -1,4 +1,4 @@
--- Scenes of the noise sequence (02, Paper 6): "Count the noise sequence for each bus, from 0, instead of one for all".
+-- Scenes of the noise sequence (SPEC 9.9): each bus counts its own, from 0.
 use Prim.Native.Nat.{ℕ}
 use mathlib.Core.Path.{◌≡◌, refl}
 use mathlib.Core.List.{List, [], ◌∷◌, map}

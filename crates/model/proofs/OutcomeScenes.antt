@@ -1,4 +1,4 @@
--- Scenes of 02, Paper 1: what a value, a glide and a free answer, and the list that a render hands on.
+-- Scenes of what a value, a glide and a free answer (SPEC 8.5), and of the list that a render hands on (SPEC 12).
 use Prim.Native.Nat.{ℕ}
 use Prim.Native.String.{String}
 use mathlib.Core.Path.{◌≡◌, refl}
@@ -54,8 +54,8 @@ gliding = EventAction.Glide (linear 1 1)
 abbrev lent : ℕ → Call
 lent n = call.render (replicate n 7)
 
--- ---- "0 applied, or the first that is true of 1 no such voice, 2 no such parameter, 3 node takes none of that sort". A name that is not 1 to 16 bytes is
--- 1 for an unknown voice and 2 for a known one. Refuses: other numbers; 2 before 1; 3 where there is no parameter; a free of an unknown voice that answers 0.
+-- ---- each of the four numbers (SPEC 8.5). A string that is no name gives 1 for an unknown voice and 2 for a known
+-- one. Refuses: other numbers; 2 before 1; 3 where there is no parameter; a free of an unknown voice that answers 0.
 numbers :
     (outcome_number Applied ≡ 0) × (outcome_number NoVoice ≡ 1) × (outcome_number NoParameter ≡ 2) × (outcome_number NotTaken ≡ 3)
 numbers = (refl, refl, refl, refl)
@@ -69,8 +69,8 @@ direct :
 unfolding eq prepare processing_order lacking lacks any live_ids live_nodes rising_from whole order walk released fed among count_up
 direct = refl
 
--- ---- "Render also answers how many events it took and hands this on for each, in event order": by time, equal times by insertion. Every number is there.
--- Refuses: the order of insertion; the order turned round; an outcome left out for a free.
+-- ---- in event order: by time, equal times as they were put in (SPEC 8.2). Every number is there. Refuses: the order
+-- in which they were put in; the order turned round; an outcome left out for a free.
 in_order :
     asked
     (at 9 1 "cut" gliding ∷ at 4 1 "none" (to 1) ∷ at 4 1 "cut" (to 1) ∷ timed_free 5 8 ∷ at 2 9 "cut" (to 1) ∷ lent 256 ∷ []) (key [])
@@ -78,8 +78,9 @@ in_order :
 unfolding eq prepare processing_order lacking lacks any live_ids live_nodes rising_from whole order walk released fed among count_up
 in_order = refl
 
--- ---- "a release sent to a voice that is already gone": the outcome is that of the moment when the event happens. A value before the free of its voice is applied, one
--- after it is 1, and so is a second free. Refuses: outcomes taken against the store before the events; against the store after them.
+-- ---- the number is that of the moment at which the event is applied. A value before the free of its voice is applied,
+-- one after it is 1, and so is a second free. Refuses: outcomes taken against the store before the events; against the
+-- store after them.
 at_the_moment :
     asked (at 3 1 "cut" (to 1) ∷ timed_free 4 1 ∷ at 5 1 "cut" (to 1) ∷ timed_free 6 1 ∷ lent 256 ∷ []) (key [])
     ≡ call.done ∷ call.done ∷ call.done ∷ call.done ∷ told Rendered.Sounding (0 ∷ 0 ∷ 1 ∷ 1 ∷ []) 252 ∷ []
@@ -93,13 +94,14 @@ due_alone :
 unfolding eq prepare processing_order lacking lacks any live_ids live_nodes rising_from whole order walk released fed among count_up
 due_alone = refl
 
--- "later entries stay", of a longer list too. Refuses: the rest cleared; a list that is cut to 256 entries.
+-- The entries behind them stay, of a longer list too. Refuses: the rest cleared; a list that is cut to 256 entries.
 longer : asked (at 3 1 "rate" (to 1) ∷ lent 300 ∷ []) (key []) ≡ call.done ∷ told Rendered.Sounding (3 ∷ []) 299 ∷ []
 unfolding eq prepare processing_order lacking lacks any live_ids live_nodes rising_from whole order walk released fed among count_up
 longer = refl
 
--- "a shorter list gives 17", whatever is due, even nothing; nothing changes: no event is taken, no entry is written, the clock stays. Refuses: 17 only where there
--- are fewer entries than events; an event that is taken, or a clock that moves, by a refused render.
+-- A list of fewer than 256 entries gives 17, whatever is due, even nothing; nothing changes: no event is taken, no
+-- entry is written, the clock stays. Refuses: 17 only where there are fewer entries than events; an event that is
+-- taken, or a clock that moves, by a refused render.
 short :
     (asked (lent 255 ∷ lent 0 ∷ call.ask call.clock ∷ []) (key [])
     ≡ call.rendered (Rendered.Refused ShortBuffer) 0 (replicate 255 7) ∷ call.rendered (Rendered.Refused ShortBuffer) 0 [] ∷ time 0 ∷ [])
@@ -109,7 +111,7 @@ short :
 unfolding eq prepare processing_order lacking lacks any live_ids live_nodes rising_from whole order walk released fed among count_up
 short = (refl, refl, refl)
 
--- "after 15": at the end of the clock a short list gives 15. Refuses: 17 before 15.
+-- At the end of the clock a short list gives 15. Refuses: 17 before 15.
 abbrev end : Model
 end = let m = key [] in record { shared = with_clock 18446744073709551600 m.shared; voices = m.voices }
 
@@ -119,7 +121,8 @@ fifteen_first :
 unfolding eq prepare processing_order lacking lacks any live_ids live_nodes rising_from whole order walk released fed among count_up
 fifteen_first = refl
 
--- The list is there also when the prepare inside the render fails: "the render is not refused". Node 3 feeds itself. Refuses: a list only where the prepare went well.
+-- The list is there also when the prepare inside the render fails, which refuses no render. Node 3 feeds itself.
+-- Refuses: a list only where the prepare went well.
 failed :
     asked (host 1 ∷ wire 3 3 0 ∷ timed_free 2 1 ∷ at 3 1 "cut" (to 1) ∷ lent 256 ∷ []) (key [])
     ≡ call.node (id 3) ∷ call.done ∷ call.done ∷ call.done ∷ told (Rendered.Unprepared Cycle) (0 ∷ 1 ∷ []) 254 ∷ []

@@ -1,5 +1,5 @@
--- 02, Paper 1, in its words: the number that a value, a glide or a free answers, and the list that a render hands on. Said of the voices, their
--- parameters and the nodes, and not by the steps of `order`.
+-- The number that a value, a glide or a free answers (SPEC 8.1, 8.5), and the list that a render hands on (SPEC 12).
+-- Said of the voices, their parameters and the nodes, and not by the steps of `order`.
 use Prim.Native.Nat.{ℕ, zero, suc, ◌+◌, ◌<◌, ◌≤◌}
 use native.Mathlib.Omega.{arith}
 use mathlib.Core.Path.{◌≡◌, refl, sym, ap, ◌∙◌}
@@ -29,8 +29,7 @@ use Rattle.model.specs.Order.{takes, order, order_node, order_param, order_voice
 use Rattle.lists.specs.Written.{written}
 use Rattle.model.specs.Render.{apply_event, apply_events, outcome_of, outcomes}
 
--- ---- "Setting a value or glide shall answer 0 applied, or the first that is true of 1 no such voice, 2 no such parameter, 3 node takes none of
--- that sort."
+-- ---- an order: 0, or the first that holds of 1, 2 and 3
 module _ (w : VoiceId) (name : Name) (o : LastOrder) (vs : List Voice) (d : SharedState) where
   abbrev pub answer : ℕ
   answer = outcome_number (order w name o vs d).outcome
@@ -142,7 +141,7 @@ module _ (w : VoiceId) (name : Name) (o : LastOrder) (vs : List Voice) (d : Shar
     taking_is,
   )
 
--- ---- "A free answers 0 or 1": 1 exactly if the voice is unknown, and else 0
+-- ---- a free: 1 exactly if the voice is unknown, and else 0
 pub free_one : (w : VoiceId) (vs : List Voice) → (outcome_number (free_outcome (find (is_voice w) vs)) ≡ 1) ↔ ((v : Voice) → In v vs → is_voice w v ≡ false)
 free_one w vs = (go (find (is_voice w) vs) refl, λ h. ap (λ x. outcome_number (free_outcome x)) (none_find (is_voice w) vs h))
   where
@@ -161,8 +160,8 @@ free_zero w vs = (go (find (is_voice w) vs) refl, back (find (is_voice w) vs) re
     back None e h = absurd (false≢true (sym (find_none (is_voice w) vs h.0 e h.1) ∙ h.2))
     back (Some u) e h = refl
 
--- ---- "Render also answers how many events it took and hands this on for each, in event order": so many entries, and each is the outcome of its
--- event at the moment when it is applied, after those before it
+-- ---- a render's list: so many entries as events were taken, and each is the outcome of its event at the moment when
+-- it is applied, after those before it
 pub count_is : (q : List Event) (m : Model) → length (outcomes q m) ≡ length q
 count_is [] m = refl
 count_is (e ∷ q) m = ap suc (count_is q (apply_event e m))
@@ -172,7 +171,7 @@ entry_is x [] m i h = absurd (omega (arith, h))
 entry_is x (e ∷ q) m zero h = refl
 entry_is x (e ∷ q) m (suc i) h = entry_is x q (apply_event e m) i (omega (arith, h))
 
--- "later entries stay", and no entry is added
+-- the entries behind them stay, and none is added
 pub later_stay : (text out : List ℕ) (i : ℕ) → length text ≤ length out → length text ≤ i → get_or (written text out) i 0 ≡ get_or out i 0
 later_stay [] out i f h = refl
 later_stay (x ∷ text) [] i f h = absurd (omega (arith, f))

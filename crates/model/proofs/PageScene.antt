@@ -1,5 +1,6 @@
--- The page's scene, as closed examples: "rate 8000, block 16, budget 2, `Oldest`, `Global`; node 0 a bus of 3 ports and sink; a
--- one-node definition `Tone`. Managed spawns at clock 0, 16 and 32, a prepare and a render after each."
+-- The page's scene, as closed examples (SPEC 14.2): a store of rate 8000, block 16 and budget 2 under `Oldest` and
+-- `Global`, a bus of 3 ports as node 0 and sink, and three managed spawns of a one-node definition, each with a prepare
+-- and a render.
 use mathlib.Core.Path.{◌≡◌, refl}
 use mathlib.Core.List.{List, [], ◌∷◌, ◌++◌, map}
 use Rattle.std.specs.Prelude.{Some}
@@ -49,12 +50,12 @@ page_steals : page.model.shared.steals ≡ record { count = 1; newest = record_o
 unfolding page eq prepare processing_order lacking lacks any live_ids live_nodes rising_from whole order walk released fed among count_up settled
 page_steals = refl
 
--- ● "In the page's scene the order of the third prepare is 1, 2, 4, 3, 0."
+-- The order of its third prepare (SPEC 5.2).
 pub page_order : map (λ (k : NodeId). k.0) page.model.shared.graph.order ≡ 1 ∷ 2 ∷ 4 ∷ 3 ∷ 0 ∷ []
 unfolding page eq prepare processing_order lacking lacks any live_ids live_nodes rising_from whole order walk released fed among count_up settled
 page_order = refl
 
--- "Two more renders and a clearing call: it removes voice 1 and answers 1." After one more, at 32 of 40, it removes nobody.
+-- Two renders later a clearing removes voice 1 and answers 1; after one, at 32 of 40, it removes nobody.
 page_clear :
     (asked (render ∷ call.clear ∷ render ∷ call.ask (call.position (voice 1)) ∷ call.clear ∷ []) page.model
     ≡ sounding ∷ removed 0 ∷ sounding ∷ reached (Some 48) ∷ removed 1 ∷ [])

@@ -1,4 +1,4 @@
--- Scenes of admission: who counts at budget, and which voice each policy and scope takes.
+-- Scenes of admission: who counts at budget (SPEC 9.2), and which voice each policy and scope takes (SPEC 9.4).
 use Rattle.std.specs.Prelude.{Some, None}
 use Prim.Native.Nat.{ℕ}
 use mathlib.Core.Path.{◌≡◌, refl}
@@ -92,7 +92,7 @@ above_budget :
 unfolding eq whole order walk released fed among count_up
 above_budget = refl
 
--- "Without a budget nobody is tracked, stolen or reclaimed": two ports, three spawns, 12. Refuses: a tracked voice; a reclaim.
+-- Without a budget all are loose and nobody goes: two ports, three spawns, 12. Refuses: a tracked voice; a reclaim.
 abbrev unlimited : Model
 unlimited = after (config None Oldest Global) (host 2 ∷ [])
 

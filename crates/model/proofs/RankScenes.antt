@@ -1,4 +1,4 @@
--- Scenes of ranks: 02, Paper 13.
+-- Scenes of ranks (SPEC 9.3).
 use Prim.Native.Nat.{ℕ}
 use mathlib.Core.Path.{◌≡◌, refl}
 use mathlib.Core.List.{List, [], ◌∷◌, map}
@@ -26,8 +26,9 @@ use Rattle.model.specs.Scene.{render, config, up_to, small, float, tones, tone_d
 abbrev ranks : Model → List ℕ
 ranks m = map (λ v. v.rank) m.voices
 
--- ---- "26 rank above 7, before 9", of both spawns, for a rank of any size; 7 is let in, and the voice's record has it. The bus of the second line does not live,
--- the definition of the third has 25 nodes. Refuses: rank 8 accepted; 9 or 4 before 26; a rank taken modulo a power of 2; a record with another rank.
+-- ---- 26 before 9 (SPEC 9.1), of both spawns, for a rank of any size; 7 is let in, and the voice's record has it. The
+-- bus of the second line does not live, the definition of the third has 25 nodes. Refuses: rank 8 accepted; 9 or 4
+-- before 26; a rank taken modulo a power of 2; a record with another rank.
 abbrev asks : ℕ → List Call
 asks r =
     ranked r 0 ∷ ranked r 5 ∷ call.spawn_managed (spawn_of (tones 25 0) (id 0) (float 0) r)
@@ -61,8 +62,9 @@ stolen :
 unfolding eq whole order walk released fed among count_up
 stolen = (refl, refl, refl)
 
--- ---- "The victim comes from the lowest rank among candidates, then by policy": of ranks 2, 1, 3, 1, 2 and a new voice of rank 2, 3 or 7 the second or the fourth is stolen; the first is
--- the oldest, the fifth the newest and the quietest of all. Refuses: the highest rank first; the policy before the rank; the policy among all that do not outrank the new voice.
+-- ---- the lowest rank first, then the policy: of ranks 2, 1, 3, 1, 2 and a new voice of rank 2, 3 or 7 the second or
+-- the fourth is stolen; the first is the oldest, the fifth the newest and the quietest of all. Refuses: the highest
+-- rank first; the policy before the rank; the policy among all that do not outrank the new voice.
 abbrev five : StealPolicy → List Call → Model
 five p calls = further calls (after (small 5 p) (host 9 ∷ ranked 2 0 ∷ ranked 1 0 ∷ ranked 3 0 ∷ ranked 1 0 ∷ ranked 2 0 ∷ render ∷ sounds 1 5 ∷ sounds 2 3 ∷ sounds 3 9 ∷ sounds 4 7 ∷ sounds 5 1 ∷ []))
 
@@ -114,7 +116,8 @@ reclaims :
 unfolding eq whole order walk released fed among count_up
 reclaims = (refl, refl, refl, refl)
 
--- ---- "Fades are reclaimed regardless of rank": a pedal voice fades on port 0, the host has taken port 1; a note of rank 0 gets port 0. Refuses: a fade of a higher rank kept.
+-- ---- a fade's rank does not matter (SPEC 9.7): a pedal voice fades on port 0, the host has taken port 1; a note of
+-- rank 0 gets port 0. Refuses: a fade of a higher rank kept.
 abbrev pedal_fades : Model
 pedal_fades = after (up_to 1 Oldest) (host 2 ∷ host 0 ∷ ranked 5 0 ∷ ranked 5 0 ∷ free 2 ∷ wire 1 0 1 ∷ [])
 

@@ -1,5 +1,5 @@
--- Scenes of what can be read, and of the page: every question, of the store that `WholeScenes` ends with. There voice 1 fades at 1 of 2, voice 2 is loose, voices 3 and 4
--- are tracked, and the clock is 3.
+-- Scenes of what can be read (SPEC 14.1), and of the page (SPEC 14.2): every question, of the store that `WholeScenes`
+-- ends with. There voice 1 fades at 1 of 2, voice 2 is loose, voices 3 and 4 are tracked, and the clock is 3.
 use Prim.Native.Nat.{ℕ}
 use mathlib.Core.Path.{◌≡◌, refl}
 use mathlib.Core.List.{List, [], ◌∷◌, ◌++◌, map}
@@ -34,8 +34,9 @@ voices :
 unfolding eq silence_pass_through rules whole order walk released rank.fed among count_up
 voices = refl
 
--- ---- "The position of a voice's fade can be read, none if it has no fade"; the level is that of the output, the third node of voice 1, whose first one has another,
--- and a fading voice has one. Refuses: the level of the first node; none for a fading voice; a position of a loose or a tracked voice.
+-- ---- a position, none where there is no fade; the level is that of the output, the third node of voice 1, whose first
+-- one has another, and a fading voice has one. Refuses: the level of the first node; none for a fading voice; a
+-- position of a loose or a tracked voice.
 states :
     told
     (call.position (voice 1) ∷ call.position (voice 2) ∷ call.position (voice 3) ∷ call.position (voice 9) ∷ call.level (voice 1) ∷ call.level (voice 2) ∷ call.level (voice 9)
@@ -78,7 +79,7 @@ empty :
 unfolding eq silence_pass_through rules whole order walk released rank.fed among count_up
 empty = (refl, refl)
 
--- "all decimal". Refuses: a zero in front; no digit for 0; digits in reverse; a digit lost.
+-- Numbers as text. Refuses: a zero in front; no digit for 0; digits in reverse; a digit lost.
 decimals :
     (decimal 0 ≡ bytes "0") × (decimal 9 ≡ bytes "9") × (decimal 10 ≡ bytes "10") × (decimal 105 ≡ bytes "105") × (decimal 4096 ≡ bytes "4096")
 decimals = (refl, refl, refl, refl, refl)

@@ -1,4 +1,5 @@
--- Scenes of stealing and reclaiming: who goes when a bus has no free port, who fades and who cannot, and what the records say.
+-- Scenes of stealing (SPEC 9.5) and reclaiming (SPEC 9.7): who goes when a bus has no free port, who fades and who
+-- cannot, and what the records say.
 use Rattle.std.specs.Prelude.{Some, None}
 use Prim.Native.Nat.{ℕ}
 use mathlib.Core.Path.{◌≡◌, refl}
@@ -51,9 +52,9 @@ emptied :
 unfolding eq whole order walk released fed among count_up
 emptied = (refl, refl, refl)
 
--- ---- "A victim that feeds none there, and only such a one, cannot fade": the host has taken voice 1's port, voice 2 has its own.
--- The cut record has the level that the victim had, which is infinite. Refuses: freeing the victim before its level is read; a fade without a
--- port; a record without the clock.
+-- ---- only a victim that feeds no port of its bus is cut: the host has taken voice 1's port, voice 2 has its own. The
+-- cut record has the level that the victim had, which is infinite. Refuses: freeing the victim before its level is
+-- read; a fade without a port; a record without the clock.
 abbrev unfed : List Call → Model
 unfed calls = after (small 2 Oldest) (host 4 ∷ host 0 ∷ spawn 0 ∷ spawn 0 ∷ render ∷ loud 2 ∷ calls ++ (spawn 0 ∷ []))
 
@@ -136,8 +137,8 @@ portless :
 unfolding eq whole order walk released fed among count_up
 portless = (refl, refl)
 
--- "Until it is removed, a voice whose fade has ended still counts as fading and can be reclaimed." Refuses: ended fades that go
--- by themselves.
+-- A voice whose fade has ended goes on being a fading one, and can be reclaimed (SPEC 10.3). Refuses: ended fades that
+-- go by themselves.
 abbrev over : Model
 over = after (up_to 1 Oldest) (host 2 ∷ sink 0 ∷ spawn 0 ∷ spawn 0 ∷ call.prepare ∷ render ∷ render ∷ render ∷ [])
 

@@ -1,5 +1,5 @@
--- Scenes of the newest 64 records: "mark its record, if still held, cut". A record is still held if its number is at least the
--- total less 64, counted after this spawn's own admission record.
+-- Scenes of the newest 64 records (SPEC 2, 9.7): a mark finds its record if that is still held. A record is held if its
+-- number is at least the total less 64, counted after this spawn's own admission record.
 use Rattle.std.specs.Prelude.{Some}
 use Prim.Native.Nat.{ℕ, zero, suc}
 use mathlib.Core.Path.{◌≡◌, refl}

@@ -1,5 +1,6 @@
--- Scenes of the refusal table, "top first": every number at its place, mostly where the number of a lower row holds too. 13 and 14 are in
--- `SoundingScenes`, 15 and the 7 of events in `EventScenes`, 4 and 16 of a report in `LevelScenes`.
+-- Scenes of the refusals in their order (SPEC 20): every number at its place, mostly where the number of a later test
+-- holds too, and those of adding, removing, connecting, disconnecting and the sink (SPEC 4.1, 4.2, 4.3, 4.4, 4.5). 13
+-- and 14 are in `SoundingScenes`, 15 and the 7 of events in `EventScenes`, 4 and 16 of a report in `LevelScenes`.
 use Prim.Native.Nat.{ℕ}
 use mathlib.Core.Path.{◌≡◌, refl}
 use mathlib.Core.List.{List, [], ◌∷◌, ◌++◌, map}

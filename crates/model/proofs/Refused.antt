@@ -1,5 +1,5 @@
--- "Each refusal returns its number and leaves store and buffers unchanged; 12 leaves the steals and reclaims made." Of every
--- call and every model, also of one that no calls make.
+-- A refused call changes nothing, but for what a spawn did before it came to 12 (SPEC 1). Of every call and every
+-- model, also of one that no calls make.
 use Rattle.node.specs.declared.record.VoiceId.{VoiceId}
 use Prim.Native.Nat.{ℕ, zero, suc}
 use mathlib.Core.Path.{◌≡◌, refl, sym, ap, ◌∙◌}
@@ -34,7 +34,7 @@ use Rattle.model.specs.Render.{prepare_outcome, prepare_shared, ready_shared, he
 use Rattle.model.specs.Call.{Call, Answer, Step, unless, step, render_step, ready_answer, event, schedule_refusal}
 use Rattle.model.specs.Call as call
 
--- ---- the refusal that an answer is. A render whose prepare failed "is not refused"
+-- ---- the refusal that an answer is. A render whose prepare failed is none (SPEC 12)
 abbrev pub not_spawned : Result VoiceId Refusal → Option Refusal
 not_spawned (Ok w) = None
 not_spawned (Err r) = Some r

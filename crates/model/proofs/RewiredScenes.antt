@@ -1,4 +1,5 @@
--- Scenes of the page after rewiring (02, Paper 4). Node 0 is the bus, node 1 a host node that the host patches onto its ports; the first voice's nodes follow.
+-- Scenes of the page after rewiring (SPEC 14.2). Node 0 is the bus, node 1 a host node that the host patches onto its
+-- ports; the first voice's nodes follow.
 use Prim.Native.Nat.{ℕ}
 use Prim.Native.String.{String}
 use mathlib.Core.Path.{◌≡◌, refl}
@@ -37,9 +38,9 @@ Prints m s = asked (look s ∷ []) m ≡ shows s ∷ []
 abbrev patched : ℕ → List Call → Model
 patched n cs = after (up_to n Oldest) (host 3 ∷ host 1 ∷ cs)
 
--- ---- "A builder patched a tremulant onto port 0 and the page still gave port 0 to the voice it had evicted." Taken: `-`. Given back by the host: nobody feeds
--- it, so still `-`. Then the next voice gets it. The voice's record keeps the port that it was given. Refuses: the port given at the spawn; that port unless somebody
--- else holds it; `-` for every voice of a bus that was rewired.
+-- ---- the host takes a voice's port. Taken: `-`. Given back by the host: nobody feeds it, so still `-`. Then the next
+-- voice gets it. The voice's record keeps the port that it was given. Refuses: the port given at the spawn; that port
+-- unless somebody else holds it; `-` for every voice of a bus that was rewired.
 evicted :
     Prints (patched 2 (spawn 0 ∷ [])) "1 0 0 held\n"
     × Prints (patched 2 (spawn 0 ∷ wire 1 0 0 ∷ [])) "1 0 - held\n"
@@ -79,7 +80,8 @@ loose :
 unfolding eq whole order walk released rank.fed among count_up
 loose = (refl, refl)
 
--- ---- "on its bus": the output of this voice, its first node, feeds port 1 of its second one too. Refuses: the port of any node that the output feeds.
+-- ---- a port of its bus alone: the output of this voice, its first node, feeds port 1 of its second one too. Refuses:
+-- the port of any node that the output feeds.
 abbrev looped : SynthDef
 looped =
     record {

@@ -1,5 +1,6 @@
--- Scenes of silence at a clearing: "those whose done plan is silent". The voices are those of `WholeScenes`: voice 1 fades, voice 2 is loose, both of `Key` and `Lfo` into
--- `Mul`, which is the output; voices 3 and 4 are tracked, each a `Tone`. No fade has ended.
+-- Scenes of silence at a clearing (SPEC 7.3, 13.2). The voices are those of `WholeScenes`: voice 1 fades, voice 2 is
+-- loose, both of `Key` and `Lfo` into `Mul`, which is the output; voices 3 and 4 are tracked, each a `Tone`. No fade
+-- has ended.
 use Prim.Native.Nat.{ℕ}
 use mathlib.Core.Path.{◌≡◌, refl}
 use mathlib.Core.List.{List, [], ◌∷◌, map}
@@ -32,8 +33,9 @@ cleared calls =
     let m = further calls (heard key1) in
     record { answers = asked (call.clear ∷ []) m; voices = map (λ v. v.id.0) (further (call.clear ∷ []) m).voices }
 
--- `Mul`: "some connected source is silent", or its own done flag. Refuses: a loose, a tracked or a fading voice that never falls silent; the output's flag alone, or that
--- of the first node alone; a flag of another voice; the bus that is done.
+-- `Mul`: one silent source, or its own done flag (SPEC 7.1). Refuses: a loose, a tracked or a fading voice that never
+-- falls silent; the output's flag alone, or that of the first node alone; a flag of another voice; the bus that is
+-- done.
 silent :
     (cleared [] ≡ left 0 (1 ∷ 2 ∷ 3 ∷ 4 ∷ []))
     × (cleared (ends 7 ∷ []) ≡ left 1 (1 ∷ 3 ∷ 4 ∷ []))

@@ -1,5 +1,5 @@
--- Scenes of sounding: when a render sounds, what makes the graph unprepared, what a failed prepare leaves, and the processing
--- order.
+-- Scenes of sounding: when a render sounds (SPEC 12), what makes the graph unprepared (SPEC 5.1), what a failed prepare
+-- leaves (SPEC 5.3), and the processing order (SPEC 5.2).
 use mathlib.Core.Path.{◌≡◌, refl}
 use mathlib.Core.List.{List, [], ◌∷◌}
 use Rattle.std.specs.Prelude.{None, Some}
@@ -38,7 +38,7 @@ ready = after (up_to 1 Oldest) (host 2 ∷ host 1 ∷ wire 1 0 0 ∷ sink 0 ∷ 
 abbrev then_render : Call → List Answer
 then_render c = asked (c ∷ render ∷ []) ready
 
--- "Adding, removing, connecting or disconnecting makes it unprepared", also of a port that has no edge, and of an edge that was
+-- Every call that wires leaves the graph unprepared (SPEC 4), also of a port that has no edge, and of an edge that was
 -- there. Refuses: a disconnecting of an empty port, or the same edge put anew, that leaves it prepared.
 unprepared :
     (then_render (host 1) ≡ node (id 2) ∷ silent ∷ [])
@@ -79,7 +79,7 @@ moves :
 unfolding eq prepare processing_order lacking lacks any live_ids live_nodes rising_from whole order walk released fed among count_up
 moves = refl
 
--- "All live nodes are processed": a fade whose port the host has taken moves too. Refuses: fades that move only if they reach
+-- Heard or not: a fade whose port the host has taken moves too (SPEC 10.2). Refuses: fades that move only if they reach
 -- the sink.
 unconnected_moves :
     asked (wire 1 0 0 ∷ call.prepare ∷ render ∷ call.ask (call.position (voice 1)) ∷ [])

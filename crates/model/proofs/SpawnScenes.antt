@@ -1,4 +1,5 @@
--- Scenes of what a spawn creates: nodes and edges in their order, pan, ids and the noise sequence of its bus.
+-- Scenes of what a spawn creates: nodes and edges in their order (SPEC 9.8), pan, ids and the noise sequence of its bus
+-- (SPEC 9.9).
 use Prim.Native.Nat.{ℕ}
 use Prim.Native.String.{String}
 use mathlib.Core.Path.{◌≡◌, refl}
@@ -98,7 +99,7 @@ behind_pan :
 unfolding eq whole order walk released rank.fed among count_up
 behind_pan = refl
 
--- ---- "Pan is left out for +0 and -0; NaN pans", and so does every other number
+-- ---- +0 and -0 alone do not pan; a NaN does, and every other number
 abbrev next_after : Float → ℕ
 next_after pan = (after (up_to 1 Oldest) (host 1 ∷ call.spawn_managed (spawn_of tone_def (id 0) pan 0) ∷ [])).shared.graph.next
 
@@ -106,8 +107,8 @@ pans_when : (next_after (fin false 0 (pos 0)) ≡ 2) × (next_after (fin true 0 
 unfolding eq whole order walk released rank.fed among count_up
 pans_when = (refl, refl, refl, refl)
 
--- ---- "then the lowest port without an edge": whoever put the edge. The host holds port 0; voice 1 is removed from port 1 again.
--- Refuses: seeing bus ports through the voice table only; the highest port; ports that are given once.
+-- ---- the lowest port without an edge, whoever put the edge (SPEC 9.6). The host holds port 0; voice 1 is removed from
+-- port 1 again. Refuses: seeing bus ports through the voice table only; the highest port; ports that are given once.
 ports :
     voices (after (up_to 9 Oldest) (host 4 ∷ host 0 ∷ wire 1 0 0 ∷ spawn 0 ∷ spawn 0 ∷ free 1 ∷ spawn_loose 0 ∷ spawn 0 ∷ []))
     ≡ seen 2 2 Tracked ∷ seen 3 1 Loose ∷ seen 4 3 Tracked ∷ []

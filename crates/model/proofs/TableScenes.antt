@@ -1,4 +1,4 @@
--- The fade table, chosen at making: 20, and lent gains that are ignored, "by 16 too".
+-- The fade table, chosen at making (SPEC 3): 20, and lent gains that are ignored, by 16 too (SPEC 10.4, 15.1, 15.2).
 --     lent_ignored    with the table, whatever gains are lent, fade output answers the same
 --     gains_enough    with the table, at 48,000 Hz, 16 is answered for the two blocks alone
 use Prim.Native.Nat.{ℕ}
@@ -26,7 +26,7 @@ use Rattle.model.specs.Block.{gains_of, fades}
 use Rattle.model.specs.Call.{Answer, fade_answer, block_answer, filled}
 use Rattle.model.specs.Call as call
 
--- ---- 20 "table chosen at another rate, after 3"
+-- ---- 20 at another rate, after 3
 abbrev making : Float → ℕ → Option ℕ → Bool → Option ℕ
 making rate block budget table = option_map number_of (refusal_of (record { rate = rate; block = block; budget = budget; policy = Oldest; scope = Global; table = table }))
 

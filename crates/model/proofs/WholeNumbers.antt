@@ -1,4 +1,5 @@
--- Fade output and bus sum in whole numbers, as questions of a store: 16, then 21, and lent gains that are ignored where the table is chosen.
+-- Fade output and bus sum in whole numbers, as questions of a store (SPEC 15.3): 16, then 21, and lent gains that are
+-- ignored where the table is chosen.
 --     whole_lent_ignored   with the table, whatever gains are lent, the answer is the same
 --     whole_from_table     with the table, at 48,000 Hz, 16 is answered for the two blocks alone, 21 for the input alone, and the gains are the entries
 use Prim.Native.Nat.{ℕ}

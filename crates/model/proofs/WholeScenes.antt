@@ -1,6 +1,7 @@
--- Scenes of the whole store: every field of it after each sort of call, so that a call that loses or changes a field which is not its own is
--- refused. The store is made up so that no two fields hold the same by chance: a definition of three nodes whose output is the last, ports that are
--- required, both sorts of orders, a panned, a loose and a fading voice, pending events and a record.
+-- Scenes of the whole store (SPEC 1): every field of it after each sort of call, frees among them (SPEC 13.1), so that
+-- a call that loses or changes a field which is not its own is refused. The store is made up so that no two fields hold
+-- the same by chance: a definition of three nodes whose output is the last, ports that are required, both sorts of
+-- orders, a panned, a loose and a fading voice, pending events and a record.
 use Prim.Native.Nat.{ℕ}
 use Prim.Native.String.{String}
 use mathlib.Core.Path.{◌≡◌, refl}

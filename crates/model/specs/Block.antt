@@ -1,5 +1,5 @@
--- What making fixed decides of fade output and bus sum, in floats and in whole numbers: the samples of a block, the fade length, and whose gains count. The
--- arithmetic is that of crates `bus` and `whole_bus`.
+-- What making fixed decides of fade output and bus sum, in floats and in whole numbers (SPEC 15): the samples of a
+-- block, the fade length, and whose gains count. The arithmetic is that of crates `bus` and `whole_bus`.
 use Rattle.std.specs.Prelude.{ℕ, List, Bool, cond, ℤ, length, Float, Option}
 use Rattle.bus.specs.Fade.{fade_length, fade_fits, fade_output}
 use Rattle.bus.specs.Sum.{sum_fits, sum_output}
@@ -9,7 +9,7 @@ use Rattle.fade_table.specs.Gain.{gains}
 use Rattle.whole_bus.specs.Block as whole
 use Rattle.store.specs.declared.config.Config.{Config}
 
--- 02: "Hosts may choose the table when making the store; lent gains are then ignored, by 16 too"
+-- the gains that count: the table's where it was chosen at making, whatever is lent, and else those lent (SPEC 10.4)
 abbrev pub gains_of : Config → List Float → List Float
 gains_of c lent = cond c.table gains lent
 
@@ -30,11 +30,11 @@ sum_block c inputs counts out outs = sum_output inputs counts c.block out outs
 
 -- ---- in whole numbers
 
--- 02: "with gains, lent or Paper 7's entries where chosen, as whole numbers from 0 to 2^24"
+-- in whole numbers the table's gains are its entries (SPEC 10.4, 15.3)
 abbrev pub whole_gains_of : Config → List ℕ → List ℕ
 whole_gains_of c lent = cond c.table entries lent
 
--- 16, then 21: where the table is chosen, lent gains are looked at by neither
+-- 16, then 21: where the table is chosen, lent gains are looked at by neither (SPEC 15.3)
 abbrev pub whole_fade_refusal : Config → List ℤ → ℕ → List ℕ → List ℤ → ℕ → Option Refusal
 whole_fade_refusal c input ins lent out outs = whole.fade_refusal input ins (whole_gains_of c lent) (fade_length c.rate) c.block (length out) outs
 

@@ -1,5 +1,5 @@
--- The store's calls as one datatype, each a function from a model to an answer and a model; and a list of calls, where "each
--- call gets the store that the last left".
+-- The store's calls as one datatype, each a function from a model to an answer and a model; and a list of calls, each
+-- of which goes on from the store that the one before it left (SPEC 21). What is tested in which order: SPEC 20.
 use Rattle.std.specs.Prelude.{ℕ, List, [], ◌∷◌, Bool, cond, length, leb, ℤ, Float, Option, None, Some, find, slice_get, Result, Err, Ok}
 use Rattle.node.specs.Name.{name_of}
 use Rattle.node.specs.declared.order.EventAction.{EventAction}
@@ -40,9 +40,9 @@ use Rattle.model.specs.Block.{fades, fade_block, sums, sum_block, whole_fade_ref
 use Rattle.model.specs.Render.{prepare_outcome, prepare_shared, due, rested, outcomes, render_refusal}
 use Rattle.model.specs.Render as rendering
 
--- ---- what can be read: questions, which change nothing
+-- ---- what can be read: questions, which change nothing (SPEC 14.1)
 pub data Question : Type 0 where
-  -- of a voice by its id: its level, the position of its fade, its record
+  -- of a voice by its id: its level (SPEC 11.2), the position of its fade (SPEC 10.2), its record (SPEC 9.9)
   level : VoiceId → Question
   position : VoiceId → Question
   voice : VoiceId → Question
@@ -116,7 +116,7 @@ pub record Step : Type 0 where
   pub answer : Answer
   pub model : Model
 
--- a refusal, and "leaves store and buffers unchanged"; or the call's work
+-- a refusal, which changes nothing; or the call's work
 abbrev pub unless : Option Refusal → Model → Step → Step
 unless None m s = s
 unless (Some r) m s = record { answer = refused r; model = m }
@@ -139,7 +139,7 @@ position_of Tracked = None
 position_of (Fading f) = Some f.position
 position_of Loose = None
 
--- "The position of a voice's fade can be read, none if it has no fade."
+-- the position of a voice's fade; none if it does not fade, or is unknown (SPEC 14.1)
 abbrev pub position_in : Option Voice → Option ℕ
 position_in None = None
 position_in (Some v) = position_of v.state
@@ -147,11 +147,11 @@ position_in (Some v) = position_of v.state
 abbrev pub event : ℕ → VoiceId → List ℕ → EventAction → Event
 event t w name a = record { time = t; voice = w; name = name_of name; action = a }
 
--- 7 "event table full"; 02, Paper 9: "Freed queue places count before refusal 7"
+-- 7: so many events are pending that the new one does not replace that none fits (SPEC 8.2)
 abbrev pub schedule_refusal : Event → List Event → Option Refusal
 schedule_refusal e q = when (full (thinned e q)) TableFull None
 
--- 17 "lent buffer too short"; else the text stands in the buffer and "later bytes stay"
+-- 17 where the text does not fit; else it stands at the start of the buffer, and the bytes behind it stay (SPEC 14.2)
 abbrev pub page_answer : List ℕ → List ℕ → Answer
 page_answer text out = cond (leb (length text) (length out)) (printed (length text) (written text out)) (refused ShortBuffer)
 
@@ -176,7 +176,7 @@ whole_fade_answer c input ins lent at out outs = whole_answer (whole_fade_refusa
 abbrev pub whole_sum_answer : Config → List ℤ → List ℕ → List ℤ → ℕ → Answer
 whole_sum_answer c inputs counts out outs = whole_answer (whole_sum_refusal c inputs counts out outs) (whole_sum_block c inputs counts out outs)
 
--- `port` tells which port of its bus a voice feeds now, for the page (02, Paper 4)
+-- `port` tells which port of its bus a voice feeds now, for the page (SPEC 14.2)
 abbrev pub answer_to : (Voice → Option ℕ) → Question → Model → Answer
 answer_to port (level w) m = known (level_or m.shared (find (is_voice w) m.voices))
 answer_to port (position w) m = reached (position_in (find (is_voice w) m.voices))
@@ -195,7 +195,8 @@ answer_to port (bus_sum inputs counts out outs) m = sum_answer m.shared.config i
 answer_to port (whole_fade input ins lent at out outs) m = whole_fade_answer m.shared.config input ins lent at out outs
 answer_to port (whole_sum inputs counts out outs) m = whole_sum_answer m.shared.config inputs counts out outs
 
--- 02, Paper 1: a refused render takes no event and writes no entry; else the outcomes stand in the list, and "later entries stay"
+-- a refused render takes no event and writes no entry; else the outcomes stand first in the list, and the entries
+-- behind them stay (SPEC 12)
 abbrev pub render_step : Option Refusal → List ℕ → Model → Step
 render_step (Some r) out m = record { answer = rendered (Rendered.Refused r) 0 out; model = m }
 render_step None out m =

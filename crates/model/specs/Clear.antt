@@ -1,5 +1,5 @@
--- Clearing (`free_done_synths`): "first the voices whose fade has ended, in voice order, then those whose done plan is silent;
--- it answers how many it removed."
+-- Clearing (`free_done_synths`): the voices whose fade has ended go first, then those left whose done plan is silent;
+-- the answer counts them (SPEC 13.2).
 use Rattle.std.specs.Prelude.{ℕ, ◌+◌, min, List, [], ◌∷◌, map, Bool, false, leb, length, Option, None, Some, filter}
 use Rattle.node.specs.declared.record.Node.{Node}
 use Rattle.rank.specs.Order.{upto}
@@ -12,7 +12,7 @@ use Rattle.model.specs.SharedState.{length_l}
 use Rattle.model.specs.Voice.{id}
 use Rattle.model.specs.Model.{Model, without_voice}
 
--- a fade "ends when position reaches L"
+-- a fade has ended when its position is L or more (SPEC 10.3)
 abbrev pub ended : ℕ → VoiceState → Bool
 ended len Tracked = false
 ended len (Fading f) = leb len f.position
@@ -26,7 +26,7 @@ done_flag (Some n) = n.done
 abbrev pub done_flags : List Node → Voice → List Bool
 done_flags ns v = map (λ i. done_flag (node_at ns (id (v.first.0 + i)))) (upto (min v.count 24))
 
--- "A done plan (`DonePlan`) answers for the output node."
+-- a voice is silent if its definition's output node is (SPEC 7.3)
 abbrev pub is_silent : List Node → Voice → Bool
 is_silent ns v = plan_silent v.plan (done_flags ns v)
 

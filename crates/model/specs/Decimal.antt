@@ -1,4 +1,4 @@
--- "all decimal": a number as text, in ASCII.
+-- A number as decimal text, in ASCII, as the page has it (SPEC 14.2).
 use Rattle.std.specs.Prelude.{ℕ, zero, suc, ◌+◌, ◌/◌, ◌%◌, List, [], ◌∷◌, ◌++◌, cond, ltb}
 
 abbrev pub digit : ℕ → ℕ

@@ -1,4 +1,4 @@
--- Making a store: 1, 2, 3, 20, or a new store.
+-- Making a store: 1, 2, 3, 20, or a new store (SPEC 3).
 use Rattle.std.specs.Prelude.{ℕ, [], Option, None, Some}
 use Rattle.node.specs.declared.refusal.Refusal.{Refusal}
 use Rattle.node.specs.Refusal.{Said, refused, gives}
@@ -7,7 +7,7 @@ use Rattle.store.specs.declared.config.Config.{Config}
 use Rattle.model.specs.SharedState.{new_shared}
 use Rattle.model.specs.Refuse.{make_refusal}
 use Rattle.model.specs.Model.{Model}
--- making's arguments. Of `table` 02 says: "Hosts may choose the table when making the store"
+-- making's arguments; `table`: whether fades take their gains from the fade table
 pub use Rattle.store.specs.declared.config.Making.{Making}
 
 -- the rate as a whole number; 0 where it is none, which is refused

@@ -1,4 +1,5 @@
--- The store as a value of plain lists. Here ports are decided by edges and fades by positions.
+-- The store as a value of plain lists, and its spawns (SPEC 9) and frees (SPEC 13.1). Here ports are decided by edges
+-- and fades by positions.
 use Rattle.std.specs.Prelude.{ℕ, zero, suc, List, [], ◌∷◌, ◌++◌, map, not, Option, None, Some, filter, find, Result, Err, Ok}
 use Rattle.node.specs.declared.record.NodeId.{NodeId}
 use Rattle.node.specs.declared.record.VoiceId.{VoiceId}
@@ -22,7 +23,7 @@ pub record Model : Type 0 where
   pub shared : SharedState
   pub voices : List Voice
 
--- ---- a voice is removed, with its nodes and their edges
+-- ---- a voice is removed, with its nodes and their edges (SPEC 13.1)
 abbrev pub without_voice : VoiceId → Model → Model
 without_voice w m =
     record {
@@ -39,8 +40,7 @@ fade v p m = record { shared = fade_shared v p m.shared; voices = map (begin_fad
 abbrev pub cut_off : Voice → VoiceState → Model → Model
 cut_off v s m = without_voice v.id (record { shared = with_steals (reclaim_log v s m.shared) m.shared; voices = m.voices })
 
--- "a victim is untracked, faded, or freed if it cannot fade, and recorded": "a victim that feeds none there, and only such a
--- one, cannot fade"
+-- a victim that feeds a port of its bus fades behind it; one that feeds none is cut; either is recorded (SPEC 9.5)
 abbrev pub stolen : Voice → Option ℕ → Model → Model
 stolen v (Some p) m = fade v p m
 stolen v None m = cut_off v Tracked m
@@ -56,7 +56,7 @@ pub record SpawnResult : Type 0 where
 abbrev pub refused : Refusal → Model → SpawnResult
 refused r m = record { answer = Err r; model = m }
 
--- "then the lowest port without an edge"
+-- the lowest port of the bus at which no edge ends (SPEC 9.6)
 abbrev pub port_free : NodeId → Model → Option ℕ
 port_free bus m = free_port m.shared.graph.edges bus (ports_of (node_at m.shared.graph.nodes bus))
 
@@ -67,7 +67,7 @@ instantiate x s p m =
       model = record { shared = instantiate_shared x p m.shared; voices = m.voices ++ (new_voice x s p m.shared ∷ []) };
     }
 
--- a port: instantiate there; none, and nobody to reclaim: 12; else reclaim that voice and "try again"
+-- a port: instantiate there; none, and nobody to reclaim: 12; else reclaim that voice and look again (SPEC 9.7)
 abbrev pub instantiate_or : Option ℕ → Option Voice → Spawn → VoiceState → Model → (Model → SpawnResult) → SpawnResult
 instantiate_or (Some p) o x s m again = instantiate x s p m
 instantiate_or None None x s m again = refused NoPort m
@@ -99,16 +99,17 @@ abbrev pub unless : Option Refusal → Model → SpawnResult → SpawnResult
 unless None m r = r
 unless (Some n) m r = refused n m
 
--- `spawn_voice_on_bus_panned_managed`: the refusals of the table, then "admission; a victim ...; then the lowest port ..."
+-- `spawn_voice_on_bus_panned_managed`: what is refused before anything changes (SPEC 9.1), then admission, the port,
+-- the new voice
 abbrev pub spawn_managed : Spawn → Model → SpawnResult
 spawn_managed x m =
     unless (spawn_refusal m.shared m.voices x.def x.bus x.rank) m (admitted (admission_on x.bus x.rank m) x m)
 
--- `spawn_voice_on_bus_panned`: "the port search alone; the newcomer ... is loose. No port: 12."
+-- `spawn_voice_on_bus_panned`: no admission and nobody reclaimed; the new voice is loose (SPEC 9.10)
 abbrev pub spawn_loose : Spawn → Model → SpawnResult
 spawn_loose x m = unless (spawn_refusal m.shared m.voices x.def x.bus x.rank) m (place 0 x Loose m)
 
--- ---- "A free of an unknown voice does nothing."
+-- ---- a free; of an unknown voice it changes nothing (SPEC 13.1)
 abbrev pub freed : Option Voice → Model → Model
 freed None m = m
 freed (Some v) m = without_voice v.id m

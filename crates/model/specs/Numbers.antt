@@ -1,7 +1,7 @@
--- "Where an answer is an enum, a definition states this paper's number and values for every one of its cases": what each answer of a call
--- says, for every enum that the store's calls answer by. What a call that answers by a result says is `says` (node/specs/Refusal): making,
--- the host's calls, prepare, "scheduling an event gives 7 or nothing", a spawn, the page, fade output and bus sum. The number of a value, a
--- glide or a free is `outcome_number` (Order).
+-- What each answer of a call says in numbers and values (SPEC 20), for every enum that the store's calls answer by.
+-- What a call that answers by a result says is `says` (node/specs/Refusal): making, the host's calls, prepare,
+-- scheduling, a spawn, the page, fade output and bus sum. The number of a value, a glide or a free is `outcome_number`
+-- (Order).
 use Rattle.std.specs.Prelude.{ℕ, Bool, true, false, Option, None, Some}
 use Rattle.node.specs.Refusal.{Said, refused, gives, number_of, says}
 use Rattle.node.specs.declared.record.VoiceId.{VoiceId}
@@ -13,13 +13,13 @@ use Rattle.store.specs.declared.answer.Rendered.TheVariants as rendered
 use Rattle.model.specs.Call.{Answer}
 use Rattle.model.specs.Call as call
 
--- an admission: nobody is stolen, that voice is, or 11
+-- an admission: nobody is stolen, that voice is, or 11 (SPEC 9.4)
 abbrev pub admission_says : Admission → Said (Option VoiceId)
 admission_says admission.Admit = gives None
 admission_says admission.Reject = refused (number_of Rejected)
 admission_says (admission.Steal place w) = gives (Some w)
 
--- a render sounds or is silent; where its last prepare failed "it answers silent and 13 or 14"
+-- a render sounds or is silent; where the prepare inside it was refused it is silent, with 13 or 14 beside it (SPEC 12)
 pub record Heard : Type 0 where
   pub sounds : Bool
   pub failed : Option ℕ

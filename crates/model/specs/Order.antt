@@ -1,4 +1,4 @@
--- Values, glides and reports: what changes the record of a node.
+-- Values, glides and reports: what changes the record of a node (SPEC 8.1, 8.5, 11.1).
 use Rattle.std.specs.Prelude.{ℕ, ◌+◌, List, Bool, true, false, cond, Float, Option, None, Some, find}
 use Rattle.level.specs.Level.{level_of}
 use Rattle.node.specs.Node.{reported}
@@ -21,8 +21,8 @@ pub use Rattle.node.specs.Node.{with_last}
 abbrev pub with_node : Node → SharedState → SharedState
 with_node n d = with_graph (with_nodes d.graph (replaced d.graph.nodes n)) d
 
--- ---- "A value or glide, set directly or by an event, answers yes and becomes the node's last order if the voice is known, has
--- the parameter, and its node takes that sort; else it answers no and changes nothing."
+-- ---- a value or a glide becomes the last order of the parameter's node, where the voice lives, has the parameter, and
+-- the node takes orders of that sort; else nothing changes (SPEC 8.1)
 abbrev pub takes : LastOrder → Node → Bool
 takes LastOrder.Nothing n = false
 takes (LastOrder.Value x) n = n.takes_values
@@ -50,15 +50,14 @@ order_voice (Some v) name o d = order_param (param_node (param_rows v.params) na
 abbrev pub order : VoiceId → Name → LastOrder → List Voice → SharedState → Ordered
 order w name o vs d = order_voice (find (is_voice w) vs) name o d
 
--- ---- 02, Paper 1: "Setting a value or glide shall answer 0 applied, or the first that is true of 1 no such voice, 2 no such parameter,
--- 3 node takes none of that sort."
+-- ---- the numbers of what became of an order or a free (SPEC 8.5)
 abbrev pub outcome_number : Outcome → ℕ
 outcome_number Applied = 0
 outcome_number NoVoice = 1
 outcome_number NoParameter = 2
 outcome_number NotTaken = 3
 
--- "A free answers 0 or 1": the voice that was looked for, or none
+-- of a free, by the voice that was found, or none: 0 or 1 (SPEC 8.5)
 abbrev pub free_outcome : Option Voice → Outcome
 free_outcome None = NoVoice
 free_outcome (Some v) = Applied
@@ -70,7 +69,7 @@ is_yes NoVoice = false
 is_yes NoParameter = false
 is_yes NotTaken = false
 
--- ---- "A report gives a node's block and its done flag". The level of the block is worked out when it is reported.
+-- ---- a report gives a node's samples and its done flag (SPEC 11.1). The level is worked out when it is reported.
 abbrev pub with_report : List Float → Bool → Node → Node
 with_report samples done n = reported (level_of samples) done n
 

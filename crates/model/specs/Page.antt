@@ -1,6 +1,5 @@
--- "The page": "a header and a line for each voice in voice order: id, clock less birth, port ..., state (`held` tracked, `fading`,
--- `loose` otherwise), all decimal, one space between, a line feed after each". By 02's Paper 4 the port is not the one given at the
--- spawn: "The port column shall show the port that the voice's output, pan node or fade feeds on its bus now, or `-` if none."
+-- The service page (SPEC 14.2): a header, and for each voice in voice order its id, its age, the port of its bus that
+-- its end feeds now, which need not be the one given at its spawn, and its state in a word.
 use Rattle.std.specs.Prelude.{ℕ, ◌-◌, List, [], ◌∷◌, ◌++◌, Option, None, Some}
 use Rattle.node.specs.Silence.{bytes}
 use Rattle.node.specs.declared.record.Edge.{Edge}
@@ -19,15 +18,15 @@ word Tracked = bytes "held"
 word (Fading f) = bytes "fading"
 word Loose = bytes "loose"
 
--- "clock less birth"
+-- the clock less the birth
 abbrev pub age : ℕ → Voice → ℕ
 age clock v = clock - v.birth
 
--- "the port that the voice's output, pan node or fade feeds on its bus now"
+-- the port of its bus that the voice's end feeds now, or none
 abbrev pub port_now : List Edge → Voice → Option ℕ
 port_now es v = port_from es (end_of v) v.bus
 
--- "or `-` if none"
+-- in decimal, or `-`
 abbrev pub port_text : Option ℕ → List ℕ
 port_text None = bytes "-"
 port_text (Some p) = decimal p

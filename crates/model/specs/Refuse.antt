@@ -1,4 +1,4 @@
--- The refusals of making, of the spawns and of a report, in the order of the table "Where each refusal is checked, top first".
+-- The refusals of making (SPEC 3), of the spawns (SPEC 9.1) and of a report (SPEC 11.1), each in its order (SPEC 20).
 -- Those of the host's calls are the graph's.
 use Rattle.std.specs.Prelude.{ℕ, ◌+◌, ◌*◌, List, Bool, true, false, not, ◌&&◌, ◌||◌, eqb, leb, ltb, length, Option, None, Some, find}
 use Rattle.node.specs.declared.record.NodeId.{NodeId}
@@ -15,7 +15,7 @@ use Rattle.store.specs.declared.voices.Voice.{Voice}
 use Rattle.model.specs.SharedState.{SharedState}
 use Rattle.model.specs.Voice.{is_voice}
 
--- "64 voices"; "All ... voice ids 1 to 2^64 - 1 can be given out"
+-- so many voices live at most, and the last voice id that can be given out (SPEC 2)
 abbrev pub voice_limit : ℕ
 voice_limit = 64
 
@@ -31,7 +31,7 @@ abbrev pub over_budget : Option ℕ → Bool
 over_budget None = false
 over_budget (Some n) = ltb 64 n
 
--- 02: "A fade table for 48,000 Hz."
+-- the rate of the fade table, in hertz (SPEC 3)
 abbrev pub table_rate : ℕ
 table_rate = 48000
 
@@ -39,7 +39,7 @@ abbrev pub other_rate : Said ℕ → Bool
 other_rate (refused n) = true
 other_rate (gives n) = not (eqb n table_rate)
 
--- 02: "20 table chosen at another rate, after 3"
+-- in this order: 20 is given last (SPEC 3)
 abbrev pub make_refusal : Said ℕ → ℕ → Option ℕ → Bool → Option Refusal
 make_refusal rate block budget table =
     when (no_rate rate) SampleRate
@@ -47,8 +47,8 @@ make_refusal rate block budget table =
     (when (over_budget budget) BudgetTooLarge
     (when (table && other_rate rate) TableRate None)))
 
--- ---- a spawn, managed or not: 26; 9; 4 and 5 of the bus; 10; 7, headroom; 8
--- 02, Paper 13: "a rank 0 to 7"
+-- ---- a spawn, managed or not: 26; 9; 4 and 5 of the bus; 10; 7, headroom; 8 (SPEC 9.1)
+-- the highest rank
 abbrev pub rank_limit : ℕ
 rank_limit = 7
 
@@ -64,7 +64,7 @@ no_headroom d vs def =
 abbrev pub no_ids : SharedState → SynthDef → Bool
 no_ids d def = ltb id_limit (d.graph.next + def.nodes.count + 3) || leb voice_id_limit d.spawned
 
--- 02, Paper 13: "26 rank above 7, before 9"
+-- the first of these that holds
 abbrev pub spawn_refusal : SharedState → List Voice → SynthDef → NodeId → ℕ → Option Refusal
 spawn_refusal d vs def bus rank =
     when (ltb rank_limit rank) RankTooHigh
@@ -74,8 +74,8 @@ spawn_refusal d vs def bus rank =
     (when (no_headroom d vs def) TableFull
     (when (no_ids d def) IdsUsedUp None)))))
 
--- ---- report: 4 "unknown or dead, or a voice's fade, pan or constant node"; 16 "channels not 1 or 2, or samples not
--- channels × block"
+-- ---- report: 4, unless the node is the host's or one of a live voice's definition; 16, unless there are 1 or 2
+-- channels of a block each (SPEC 11.1)
 abbrev pub of_definition : ℕ → Option Voice → Bool
 of_definition k None = false
 of_definition k (Some v) = leb v.first.0 k && ltb k (v.first.0 + v.count)

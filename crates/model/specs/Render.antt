@@ -1,4 +1,4 @@
--- Prepare and render.
+-- Prepare (SPEC 5.1) and render (SPEC 12).
 use Rattle.std.specs.Prelude.{ℕ, ◌+◌, min, List, [], ◌∷◌, map, Bool, true, false, ◌||◌, cond, ltb, Option, None, find, Result, Err, Ok}
 use Rattle.node.specs.declared.order.EventAction.{EventAction}
 use Rattle.node.specs.declared.record.NodeId.{NodeId}
@@ -29,7 +29,7 @@ ready_shared (Err r) l d = d
 abbrev pub prepare_shared : SharedState → SharedState
 prepare_shared d = ready_shared (prepare_outcome d).answer (prepare_outcome d).order d
 
--- ---- events: "a free, known or not, prepares inside the render"
+-- ---- events: one free among them, of a live voice or not, and the render prepares behind the last (SPEC 12)
 abbrev pub is_free : EventAction → Bool
 is_free (EventAction.Value x) = false
 is_free (EventAction.Glide g) = false
@@ -50,18 +50,18 @@ abbrev pub apply_events : List Event → Model → Model
 apply_events [] m = m
 apply_events (e ∷ l) m = apply_events l (apply_event e m)
 
--- 02, Paper 1: what became of an event, at the moment when it is applied
+-- what became of an event, at the moment when it is applied (SPEC 8.5)
 abbrev pub outcome_of : Event → Model → Outcome
 outcome_of e m =
     cond (is_free e.action) (free_outcome (find (is_voice e.voice) m.voices))
     (order e.voice (param_order e).name (param_order e).order m.voices m.shared).outcome
 
--- "hands this on for each, in event order"
+-- of each event, in the order in which they are applied
 abbrev pub outcomes : List Event → Model → List ℕ
 outcomes [] m = []
 outcomes (e ∷ l) m = outcome_number (outcome_of e m) ∷ outcomes l (apply_event e m)
 
--- ---- a fade's position "gains the block size at each sounding render". No run reaches 2^64 - 1 samples.
+-- ---- each sounding render moves a fade by a block (SPEC 10.2). No run reaches 2^64 - 1 samples.
 abbrev pub further : ℕ → ℕ → ℕ
 further block position = min (position + block) 18446744073709551615
 
@@ -69,8 +69,8 @@ abbrev pub moved_if : Bool → ℕ → List Voice → List Voice
 moved_if true block vs = map (moved (further block)) vs
 moved_if false block vs = vs
 
--- what the render answers, once its prepare, if there was one, has answered: "If the last such prepare fails, the render is
--- not refused: it answers silent and 13 or 14"
+-- what the render answers, once its prepare, if there was one, has answered: where that was refused the render is
+-- silent and hands on 13 or 14, but is not refused itself
 abbrev pub heard : Bool → Rendered
 heard true = Rendered.Sounding
 heard false = Rendered.Silent
@@ -89,7 +89,7 @@ pub record Heard : Type 0 where
   pub answer : Rendered
   pub model : Model
 
--- the block itself: fades move if it sounds, and "the clock still advances"
+-- the block itself: fades move if it sounds, and the clock moves whether it sounds or not
 abbrev pub block_of : Rendered → Model → Heard
 block_of a m =
     record {
@@ -105,7 +105,7 @@ abbrev pub prepared_if : Bool → Model → Heard
 prepared_if true m = block_of (answer_after (prepare_outcome m.shared).answer (prepare_shared m.shared)) (record { shared = prepare_shared m.shared; voices = m.voices })
 prepared_if false m = block_of (heard (sounding m.shared)) m
 
--- "Render: events before clock + block"
+-- what is due lies below this sample (SPEC 8.4)
 abbrev pub deadline : SharedState → ℕ
 deadline d = d.clock + d.config.block
 
@@ -115,11 +115,11 @@ due d = taken_before (deadline d) d.events
 abbrev pub rested : Model → Model
 rested m = record { shared = with_events (left_after (deadline m.shared) m.shared.events) m.shared; voices = m.voices }
 
--- 15 "clock + block above 2^64 - 1"
+-- 15: the clock would pass its end (SPEC 12)
 abbrev pub clock_ends : SharedState → Bool
 clock_ends d = ltb 18446744073709551615 (deadline d)
 
--- 02, Paper 1: "in a lent list of 256 entries; later entries stay, and a shorter list gives 17, after 15", whatever is due
+-- 15, then 17 for a list of fewer than 256 entries, whatever is due
 abbrev pub render_refusal : SharedState → ℕ → Option Refusal
 render_refusal d entries = when (clock_ends d) ClockEnd (when (ltb entries 256) ShortBuffer None)
 

@@ -203,7 +203,7 @@ fading node start position number = Fading (record { node = id node; start = sta
 abbrev pub edge : ℕ → ℕ → ℕ → Edge
 edge a b p = record { from = id a; to = id b; port = p }
 
--- ---- the page's scene: "rate 8000, block 16, budget 2, `Oldest`, `Global`"
+-- ---- the page's scene: rate 8000, block 16, a budget of 2 under `Oldest` and `Global`
 abbrev pub page_config : Config
 page_config = up_to 2 StealPolicy.Oldest
 

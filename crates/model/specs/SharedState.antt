@@ -1,6 +1,5 @@
--- What the store has besides its voices: what making fixed, the graph, the pending events, the steal records, the clock, the
--- voice ids given out. The ledger has the same, since 01 says of the ledger: "From these the rules above
--- give its nodes, edges, ids, clock, events, reports and steal records".
+-- What the store has besides its voices (SPEC 1): what making fixed, the graph, the pending events, the steal records,
+-- the clock, the voice ids given out. The ledger works out the same from the calls, by the same rules (SPEC 21.1).
 use Rattle.std.specs.Prelude.{ℕ, ◌+◌, List, [], Bool, ◌&&◌, is_some}
 use Rattle.bus.specs.Fade.{fade_length}
 use Rattle.graph.specs.View.{GraphView, new_graph}
@@ -16,11 +15,11 @@ pub record SharedState : Type 0 where
   pub clock : ℕ
   pub spawned : ℕ
 
--- "Fade length L"
+-- the fade length L (SPEC 10.1)
 abbrev pub length_l : SharedState → ℕ
 length_l d = fade_length d.config.rate
 
--- "a new store is unprepared"; voice ids are "64 bits from 1", so none has been given out
+-- a new store (SPEC 3): unprepared, and no voice id has been given out, of which the first is 1
 abbrev pub new_shared : Config → SharedState
 new_shared c =
     record {
@@ -58,7 +57,7 @@ abbrev pub with_spawned : ℕ → SharedState → SharedState
 with_spawned n d =
     record { config = d.config; graph = d.graph; events = d.events; steals = d.steals; clock = d.clock; spawned = n }
 
--- "Id and noise sequence move only when a port is found": one voice id more is given out; the noise sequence is the bus's (02, Paper 6)
+-- a new voice takes one voice id more (SPEC 9.9); the noise sequence is its bus's
 abbrev pub one_more_voice : SharedState → SharedState
 one_more_voice d =
     record {
@@ -70,6 +69,6 @@ one_more_voice d =
       spawned = d.spawned + 1;
     }
 
--- "a sounding render, that is a prepared graph with a sink"
+-- a render sounds where the graph is prepared and has a sink (SPEC 12)
 abbrev pub sounding : SharedState → Bool
 sounding d = d.graph.prepared && is_some d.graph.sink

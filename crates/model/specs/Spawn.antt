@@ -1,4 +1,5 @@
--- What a spawn puts into the graph, and who is removed for it: the parts of 01's "Managed spawn" that do not ask who holds a port.
+-- What a spawn puts into the graph (SPEC 9.8), and who is removed for it (SPEC 9.5, 9.7): what does not ask who holds a
+-- port.
 use Rattle.std.specs.Prelude.{ℕ, ◌+◌, List, [], ◌∷◌, ◌++◌, map, Bool, true, false, not, cond, ◌&&◌, leb, length, pos, Float, Option, None, Some, find}
 use Rattle.std.specs.Float.{fin}
 use Rattle.std.specs.Float.Ieee.{eq}
@@ -26,7 +27,7 @@ use Rattle.store.specs.declared.voices.Fade.{Fade}
 use Rattle.model.specs.SharedState.{SharedState, with_graph, with_steals, one_more_voice}
 use Rattle.model.specs.Voice.{is_voice, start_of, id, feeder, voice_level, candidates, tracked_on, fades_on, new_fade}
 
--- ---- the arguments of a spawn. 02, Paper 13: "a rank 0 to 7, given at spawn": it comes as a number of any size, and 26 refuses those above 7
+-- ---- the arguments of a spawn. The rank comes as a number of any size; 26 refuses those above 7 (SPEC 9.1)
 pub record Spawn : Type 0 where
   pub def : SynthDef
   pub bus : NodeId
@@ -43,7 +44,8 @@ voice_node w kind ports required values glides = new_node (id 0) w kind ports re
 abbrev pub def_node : VoiceId → DefNode → Node
 def_node w n = voice_node w n.kind n.ports n.required n.takes_values n.takes_glides
 
--- "ports and names of `Pan2` and `Const`": port 0 of `Pan2` is required, and so is that of a fade
+-- the constant and the pan node of a voice that pans, and the node of a fade: port 0 of the two last is required, and
+-- none of the three takes orders (SPEC 9.5, 9.8)
 abbrev pub const_node : VoiceId → Node
 const_node w = voice_node w (name "Const") 0 0 false false
 
@@ -53,7 +55,7 @@ pan_node w = voice_node w (name "Pan2") 2 1 false false
 abbrev pub fade_node : VoiceId → Node
 fade_node w = voice_node w (name "StealFade") 1 1 false false
 
--- "Pan is left out for +0 and -0; NaN pans." A spawn in the middle "has pan 0"
+-- a voice pans unless its pan is +0 or -0; a NaN pans (SPEC 9.8)
 abbrev pub middle : Float
 middle = fin false 0 (pos 0)
 
@@ -76,7 +78,7 @@ wire a b p = record { from = a; to = b; port = p }
 abbrev pub def_wire : DefEdge → Wire
 def_wire e = wire e.from e.to e.port
 
--- "the last edge to a port counts"; then output to pan, and constant to pan
+-- the counted edges (SPEC 6.2); then output to pan, and constant to pan
 abbrev pub voice_wires : SynthDef → Bool → List Wire
 voice_wires def pan =
     let n = length (node_rows def.nodes) in
@@ -99,7 +101,7 @@ abbrev pub instantiate_graph : VoiceId → SynthDef → Bool → NodeId → ℕ 
 instantiate_graph w def pan bus p g =
     connect (wire_all g.next (append_all g (voice_nodes w def pan)) (voice_wires def pan)) (id (g.next + voice_out def pan)) bus p
 
--- "each rank has its own noise": the bus counts one voice more
+-- the bus counts one voice more (SPEC 9.9)
 abbrev pub raised : NodeId → GraphView → GraphView
 raised bus g = with_nodes g (noise_raised bus g.nodes)
 
@@ -127,7 +129,7 @@ new_voice x s p d =
       plan = plan_of x.def;
     }
 
--- "tracked under a budget"; "without a budget nobody is tracked, stolen or reclaimed"
+-- a managed voice is tracked if there is a budget, and else loose (SPEC 9)
 abbrev pub state_under : Option ℕ → VoiceState
 state_under None = Loose
 state_under (Some n) = Tracked
@@ -137,8 +139,8 @@ abbrev pub tries : Option ℕ → List Voice → ℕ
 tries None vs = 0
 tries (Some n) vs = length vs
 
--- ---- a fade: "takes the port of the bus that the victim's output or pan node feeds at that moment". Its node takes its id
--- first; the edge to the bus replaces the feeder's
+-- ---- a fade stands between the victim's feeder and the port that this feeds at that moment (SPEC 9.5). Its node takes its
+-- id first; the edge to the bus replaces the feeder's
 abbrev pub fade_graph : Voice → ℕ → GraphView → GraphView
 fade_graph v p g = connect (connect (append g (fade_node v.id)) (feeder v) (id g.next) 0) (id g.next) v.bus p
 
@@ -164,7 +166,7 @@ abbrev pub voice_of : Victim → List Voice → Option Voice
 voice_of None vs = None
 voice_of (Some (place, w)) vs = find (is_voice w) vs
 
--- "the earliest-started fade of that bus (ties by voice order)"
+-- the fade that began at the lowest clock; of several the first in voice order (SPEC 9.7)
 abbrev pub no_later : Voice → Voice → Bool
 no_later v u = leb (start_of v.state) (start_of u.state)
 
@@ -176,11 +178,11 @@ abbrev pub earliest : (Voice → Bool) → List Voice → Option Voice
 earliest q [] = None
 earliest q (v ∷ vs) = earlier (earliest q vs) (q v) v
 
--- "else ... the policy's victim among tracked voices of that bus"
+-- where none fades, who the policy names among the tracked voices of that bus (SPEC 9.7)
 abbrev pub else_victim : Option Voice → Option Voice → Option Voice
 else_victim None o = o
 else_victim (Some v) o = Some v
 
--- who is removed for a port of the bus, for a new voice of rank r. 02, Paper 13: "Fades are reclaimed regardless of rank."
+-- who is removed for a port of the bus, for a new voice of rank r; a fade's own rank does not matter (SPEC 9.7)
 abbrev pub next_out : SharedState → NodeId → ℕ → List Voice → Option Voice
 next_out d bus r vs = else_victim (earliest (fades_on bus) vs) (voice_of (victim d.config.policy r (candidates d (tracked_on bus) vs)) vs)

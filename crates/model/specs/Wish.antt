@@ -1,4 +1,4 @@
--- Either spawn with all its arguments, as the calls take it: a keyboard's wish waits with it, a direct call makes it at once.
+-- Either spawn with all its arguments (SPEC 9, 17): a keyboard's wish waits with it, a direct call makes it at once.
 use Rattle.std.specs.Prelude.{ℕ, Bool, cond, Float}
 use Rattle.node.specs.declared.record.NodeId.{NodeId}
 use Rattle.synthdef.specs.declared.def.SynthDef.{SynthDef}

@@ -1,5 +1,5 @@
--- What the tests on names say: `same_name` is true exactly for two names of one byte string, and a lookup in a table of names,
--- of any length, exactly for the byte strings that the table lists.
+-- What the tests on names say: `same_name` is true exactly for two names of one byte string (SPEC 1), and a lookup in a
+-- table of names, of any length, exactly for the byte strings that the table lists (SPEC 7.2).
 use Prim.Native.Nat.{ℕ, ◌≤◌}
 use mathlib.Core.Path.{◌≡◌, refl, sym, ap, ◌∙◌}
 use mathlib.Core.Logic.{inl, inr}

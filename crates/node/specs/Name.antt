@@ -1,4 +1,4 @@
--- Names: "Names (`String`) become byte strings of 1 to 16 bytes."
+-- Names: strings of 1 to 16 bytes, and when two are equal (SPEC 1).
 use Rattle.std.specs.Prelude.{ℕ, ◌-◌, List, [], ◌∷◌, ◌++◌, Bool, true, false, ◌&&◌, cond, length, take, replicate, leb, eqb}
 use Rattle.node.specs.declared.name.Name.{Name}
 

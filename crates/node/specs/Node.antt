@@ -1,4 +1,4 @@
--- A node's record: what a new one holds, and one part of it changed.
+-- A node's record (SPEC 1): what a new one holds (SPEC 4.1), and one part of it changed.
 use Rattle.std.specs.Prelude.{ℕ, Bool, false, Float}
 use Rattle.std.specs.Float.Ieee.{of_bits}
 use Rattle.std.specs.Float.{binary32}
@@ -25,7 +25,7 @@ changed id owner done level last noise n =
       noise = noise;
     }
 
--- the done flag "is clear in a new node", "before any report" the level is 0, no order was taken, and the noise sequence of a bus is counted "from 0"
+-- a new node: the done flag is clear, the level 0, no order was taken, and as a bus it counts its noise sequence from 0
 abbrev pub new_node : NodeId → VoiceId → Name → ℕ → ℕ → Bool → Bool → Node
 new_node id owner kind ports required values glides =
     record {

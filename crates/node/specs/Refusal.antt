@@ -1,10 +1,10 @@
--- The refusals and their numbers: the table "Where each refusal is checked, top first".
+-- The refusals and their numbers (SPEC 20).
 use Rattle.std.specs.Prelude.{ℕ, Result, Ok, Err}
 use Rattle.node.specs.declared.refusal.Refusal.{Refusal}
 use Rattle.node.specs.declared.refusal.Refusal.TheVariants.{SampleRate, BlockSize, BudgetTooLarge, UnknownNode, VoiceNode, PortOrKind, TableFull, IdsUsedUp, DefinitionLimits, BusWithoutPorts, Rejected, NoPort, RequiredPort, Cycle, ClockEnd, LentBlock, ShortBuffer, TableRate, OutOfRange, RankTooHigh}
 
--- What an answer says in 01's terms: the number of a refusal, or what the call gives. `says` gives this of every call
--- that answers by a result; an enum of its own that a call answers by has a definition that gives it for each of its cases.
+-- What an answer says: the number of a refusal, or what the call gives. `says` gives this of every call that answers by
+-- a result; an enum of its own that a call answers by has a definition that gives it for each of its cases.
 pub data Said (A : Type 0) : Type 0 where
   refused : ℕ → Said A
   gives : A → Said A

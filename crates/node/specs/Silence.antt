@@ -1,6 +1,5 @@
--- The silence rule by the name of a kind. 01: "A node is silent if its done flag is set, or by its kind name: `Mul`: some
--- connected source is silent; `Div`: that of port 0; `Add`, `Sub`: every port connected, at least one, all silent; `FmOp`:
--- source of `level`; `Paf`: of `amp`; `Neg` and the 27 names in `SILENCE_PASS_THROUGH`: of `in`; other names: not."
+-- The silence rule of a kind, by its name: seven kinds with rules of their own (SPEC 7.1), and the names that pass the
+-- silence of `in` on (SPEC 7.2).
 use Rattle.std.specs.Prelude.{ℕ, List, [], ◌∷◌, map, Bool, true, false, cond}
 use Prim.Native.Char.{code}
 use Prim.Native.String.{String, [] as []ˢ, ◌∷◌ as ◌∷ˢ◌}
@@ -22,7 +21,7 @@ name s = name_of (bytes s)
 abbrev pub is_among : List Name → Name → Bool
 is_among table n = lookup (same_name n) (λ (m : Name). true) false table
 
--- the 27 names
+-- the 27 names that pass silence on (SPEC 7.2)
 unfoldable pub silence_pass_through : List Name
 silence_pass_through =
     map name

@@ -1,6 +1,6 @@
--- What prepare's answers mean: 13 exactly where a required port of a live node is unconnected, 14 exactly where it is not so
--- and there is a cycle among the live nodes; and an order that is accepted has every live node once, each source before its
--- target.
+-- What prepare's answers mean (SPEC 5.2, 5.3, 21.7): 13 exactly where a required port of a live node is unconnected, 14
+-- exactly where it is not so and there is a cycle among the live nodes; and an order that is accepted has every live
+-- node once, each source before its target.
 use Rattle.std.specs.Prelude.{Result, Err, Ok}
 use Rattle.node.specs.declared.refusal.Refusal.{Refusal}
 use Prim.Native.Nat.{ℕ}

@@ -1,4 +1,4 @@
--- What is live in the graph's two tables, and the processing order of graph.rs.
+-- What is live in the graph's two tables, and the processing order (SPEC 5.2).
 use Rattle.std.specs.Prelude.{ℕ, suc, ◌≤◌, List, [], ◌∷◌, map, cond, ◌≡◌, refl, leb}
 use Rattle.std.proofs.Common.{le-leb}
 use Rattle.node.specs.declared.record.Node.{Node}
@@ -24,8 +24,7 @@ live_ids nodes = map id_of (live_nodes nodes)
 abbrev pub arc_of : Edge → Arc
 arc_of e = arc e.from.0 e.to.0
 
--- "Processing order: live nodes without a live source by rising id; then, walking that queue, each target whose last source
--- has been served, in edge order." An edge that has a dead end does not count.
+-- The processing order (SPEC 5.2), by `order` of rank. An edge that has a dead end does not count.
 abbrev pub as_id : ℕ → NodeId
 as_id i = record { 0 = i }
 

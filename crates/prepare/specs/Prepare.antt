@@ -1,5 +1,5 @@
--- Prepare: "13: required port unconnected; 14: cycle among live nodes", tested in that order; else the processing order.
--- That the order has not all live nodes is that there is a cycle among them: proofs/Theorems.antt, both ways.
+-- Prepare (SPEC 5.1): 13, then 14 (SPEC 5.3); else the processing order. That the order has not all live nodes is that
+-- there is a cycle among them: proofs/Theorems.antt, both ways.
 use Rattle.std.specs.Prelude.{List, [], map, cond, not, Result, Err, Ok}
 use Rattle.node.specs.declared.record.Node.{Node}
 use Rattle.node.specs.declared.record.NodeId.{NodeId}

@@ -1,4 +1,4 @@
--- Refusal 13, "required port unconnected".
+-- Refusal 13: a live node has a required port that nothing feeds (SPEC 5.3).
 use Rattle.std.specs.Prelude.{ℕ, ◌^◌, ◌/◌, ◌%◌, min, List, [], ◌∷◌, Bool, false, ◌&&◌, ◌||◌, not, eqb}
 use Rattle.node.specs.declared.record.Node.{Node}
 use Rattle.node.specs.declared.record.Edge.{Edge}

@@ -1,5 +1,5 @@
--- What the order is good for: it has all nodes exactly where there is no cycle among them, and then each once and every
--- source before its target.
+-- What the order is good for (SPEC 5.2, 5.3, 21.7): it has all nodes exactly where there is no cycle among them, and
+-- then each once and every source before its target.
 use Prim.Native.Nat.{ℕ, zero, suc, ◌≤◌, ◌<◌}
 use native.Mathlib.Omega.{arith}
 use mathlib.Core.Path.{◌≡◌, refl, sym, ap, subst, ◌∙◌}

@@ -1,4 +1,5 @@
--- "Cycle among live nodes": a closed walk over arcs of live nodes. And what an order of all nodes is.
+-- A cycle among live nodes (SPEC 5.3): a closed walk over their arcs. And what an order of all nodes is
+-- (SPEC 5.2, 21.7).
 use Rattle.std.specs.Prelude.{ℕ, List, [], ◌∷◌, false, ◌≡◌, ◌⊎◌}
 use Rattle.lists.specs.Member.{In}
 use Rattle.rank.specs.Order.{Arc, among}

@@ -1,6 +1,5 @@
--- The order in which nodes are processed: "live nodes without a live source by rising id; then, walking that queue, each
--- target whose last source has been served, in edge order." Here nodes are numbers, listed as they are to be taken, and
--- arcs are pairs of numbers: a graph's node ids with its edges, or a definition's node indices with its edges.
+-- The order in which nodes are processed (SPEC 5.2). Here nodes are numbers, listed as they are to be taken, and arcs
+-- are pairs of numbers: a graph's node ids with its edges, or a definition's node indices with its edges.
 use Rattle.std.specs.Prelude.{ℕ, zero, suc, List, [], ◌∷◌, ◌++◌, Bool, false, ◌&&◌, ◌||◌, not, length, eqb, cond, filter}
 
 pub record Arc : Type 0 where

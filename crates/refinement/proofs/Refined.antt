@@ -1,5 +1,6 @@
--- Every call's contract is the model's step, so that a run of calls on a lent store is the model's run; the store of an accepted making
--- is the model's new store; and a refusal other than 12 leaves the very memory.
+-- Every call's contract is the model's step (SPEC 21.8), so that a run of calls on a lent store is the model's run, of
+-- which the claim holds (SPEC 21.1, 21.2, 21.3); the store of an accepted making is the model's new store; and a
+-- refusal other than 12 leaves the very memory.
 use Rattle.node.specs.declared.refusal.Refusal.{Refusal}
 use mathlib.Core.Path.{◌≡◌, refl, sym, ap, ◌∙◌}
 use mathlib.Core.List.{List, map}

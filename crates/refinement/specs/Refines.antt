@@ -1,5 +1,6 @@
--- The lent store that code makes is the model that the ledger's theorem speaks of: a run of calls on lent stores, each by the contract of its
--- function, gives the answers of the model's run, and its last store stands for the model's last state.
+-- The lent store that code makes is the model that the ledger's theorem speaks of (SPEC 21.8): a run of calls on lent
+-- stores, each by the contract of its function, gives the answers of the model's run, and its last store stands for the
+-- model's last state.
 use Rattle.std.specs.Prelude.{◌≡◌, List, map}
 use Rattle.model.specs.Model.{Model}
 use Rattle.model.specs.Make.{Making, config_of}
@@ -11,8 +12,8 @@ use Rattle.ledger.specs.Claim.{Claim}
 use Rattle.replaced.specs.Replaced.{Replaced}
 use Rattle.memory.specs.View.{Memory, model_of}
 
--- What the calls cs on a store that making gave answer, and the store that they leave, are the model's run, of which the ledger's
--- claim holds, and Paper 9's theorem.
+-- What the calls cs on a store that making gave answer, and the store that they leave, are the model's run, of which
+-- the ledger's claim holds (SPEC 21.1, 21.2), and the theorem on replaced events (SPEC 21.3).
 pub record Refines (k : Making) (m : Model) (cs : List Call) (said : List Answer) (last : Memory) : Type 0 where
   pub ran : ◌≡◌ {A = Ran} (record { answers = said; model = model_of last }) (run cs m)
   pub claimed : Claim (config_of k) m cs

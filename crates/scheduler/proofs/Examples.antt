@@ -1,4 +1,4 @@
--- The examples of the scope: events at 64 with deadline 64 are not taken, events at 63 are.
+-- Examples of what is due (SPEC 8.4): events at 64 with deadline 64 are not taken, events at 63 are.
 use Prim.Native.Nat.{ℕ}
 use mathlib.Core.Path.{◌≡◌, refl}
 use mathlib.Core.List.{List, [], ◌∷◌}

@@ -1,5 +1,5 @@
--- What `replaces` and `replacing` say, in the words of Paper 9 and by other definitions than theirs: which two events they are, where the
--- new one stands, and when there is room for it.
+-- What `replaces` and `replacing` say, in the rule's words and by other definitions than theirs (SPEC 8.3): which two
+-- events they are, where the new one stands, and when there is room for it (SPEC 8.2).
 use Prim.Native.Nat.{ℕ, ◌≤◌, ◌<◌}
 use native.Mathlib.Omega.{arith}
 use mathlib.Core.Path.{◌≡◌, refl, sym, ap, ◌∙◌}

@@ -1,4 +1,4 @@
--- Scenes of Paper 9's rule on the queue alone, each with the wrong rule that it refuses.
+-- Scenes of replacing on the queue alone (SPEC 8.3), each with the wrong rule that it refuses.
 use Rattle.std.specs.Prelude.{Err, Ok}
 use Prim.Native.Nat.{ℕ}
 use mathlib.Core.Path.{◌≡◌, refl}

@@ -1,5 +1,4 @@
--- What an event stands for: "An action is a value, a glide (target, seconds, shape, space), a gate or a free, carrying its
--- floats with it. A gate is a value for the parameter `gate`."
+-- What an event stands for (SPEC 8.2): a value, a glide, a gate, which is a value for the parameter `gate`, or a free.
 use Rattle.std.specs.Prelude.{[], ◌∷◌}
 use Rattle.node.specs.Name.{name_of}
 use Rattle.node.specs.declared.name.Name.{Name}

@@ -1,5 +1,4 @@
--- The queue of pending events: "Events are ordered by time, equal times by insertion. `drain_before` takes times strictly
--- below the deadline."
+-- The queue of pending events: its order and who finds no place (SPEC 8.2), and what a deadline takes (SPEC 8.4).
 use Rattle.node.specs.declared.refusal.Refusal.{Refusal}
 use Rattle.std.specs.Prelude.{ℕ, ◌≤◌, ◌≡◌, List, [], ◌∷◌, ◌++◌, Bool, true, false, not, cond, length, take, drop, leb, ltb, Option, None, Some, filter, Result, Err, Ok}
 use Rattle.node.specs.Refusal.{number_of}
@@ -29,17 +28,15 @@ pub record Place (l : List Event) (e : Event) (p : ℕ) : Type 0 where
   pub within : p ≤ length l
   pub splits : inserted e l ≡ take p l ++ (e ∷ drop p l)
 
--- 02, Paper 9: "The new event takes its own place at the end of its time": those that it replaces go, and it is put behind what is left
--- of its time
+-- those that the new event replaces go (SPEC 8.3), and it is put behind what is left of its time
 abbrev pub replacing : Event → List Event → List Event
 replacing e l = inserted e (thinned e l)
 
--- "256 pending events"
+-- no place is left (SPEC 2)
 abbrev pub full : List Event → Bool
 full l = leb 256 (length l)
 
--- "Scheduling an event gives 7 or nothing": 7 where the event table is full, and the queue stays as it was. 02, Paper 9: "Freed queue
--- places count before refusal 7."
+-- 7, and the queue stays as it was, where it is full but for those that the new event replaces (SPEC 8.2)
 abbrev pub queue_after : Event → List Event → List Event
 queue_after e l = cond (full (thinned e l)) l (replacing e l)
 

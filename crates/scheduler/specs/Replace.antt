@@ -1,5 +1,4 @@
--- Which pending events a new one replaces, 02, Paper 9: "A new value replaces a pending value for the same voice, parameter and time; a
--- glide does so with a glide. A gate counts as a value for `gate`; an event whose name is not 1 to 16 bytes replaces none."
+-- Which pending events a new one replaces (SPEC 8.3): those of the same time, voice, parameter and sort.
 use Rattle.std.specs.Prelude.{List, Bool, true, false, ◌&&◌, ◌||◌, not, eqb, filter}
 use Rattle.node.specs.Name.{same_name}
 use Rattle.node.specs.declared.order.EventAction.{EventAction}

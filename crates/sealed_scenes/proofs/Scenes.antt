@@ -1,4 +1,5 @@
--- Scenes of the sealed profile: closed lists of calls that compute to their literal outcome, each with the wrong rule that it refuses.
+-- Scenes of the seal (SPEC 18): closed lists of calls that compute to their literal outcome, each with the wrong rule
+-- that it refuses.
 use Prim.Native.Nat.{ℕ, zero, suc, ◌+◌, ◌*◌}
 use mathlib.Core.Path.{◌≡◌, refl}
 use mathlib.Core.List.{List, [], ◌∷◌, ◌++◌, map}

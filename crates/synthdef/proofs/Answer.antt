@@ -1,5 +1,5 @@
--- The silence of a definition: the plan's answer meets the rule at every node, and since counted edges have no cycle no other
--- answer does.
+-- The silence of a definition (SPEC 7.1, 7.3): the plan's answer meets the rule at every node, and since counted edges
+-- have no cycle no other answer does.
 use Prim.Native.Nat.{ℕ, zero, suc, ◌+◌, ◌≤◌, ◌<◌}
 use native.Mathlib.Omega.{arith}
 use native.Mathlib.Nat.{add-zero, add-suc}

@@ -1,4 +1,4 @@
--- Laws of counted edges.
+-- Laws of counted edges (SPEC 6.2).
 use Prim.Native.Nat.{ℕ, suc, ◌≤◌, min}
 use native.Mathlib.Omega.{arith}
 use mathlib.Core.Path.{◌≡◌, refl, sym, ap, ◌∙◌}

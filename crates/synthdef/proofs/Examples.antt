@@ -1,4 +1,5 @@
--- The definitions, computed on small definitions. The traps of 01 among them: "treating an unconnected port of `Add` as silent".
+-- The definitions, computed on small definitions: limits (SPEC 6.1), counted edges (SPEC 6.2), parameters (SPEC 6.3)
+-- and silence (SPEC 7.1), where a port of `Add` that nothing feeds keeps it sounding.
 use Prim.Native.Nat.{ℕ}
 use Prim.Native.String.{String}
 use mathlib.Core.Path.{◌≡◌, refl}

@@ -1,5 +1,6 @@
--- For an allowed definition the done plan answers silent exactly by 01's rule: its answer meets the rule at every node, and every
--- answer that does is the same at every node of the definition, the output among them.
+-- For an allowed definition the done plan answers silent exactly by the rule (SPEC 7.1, 7.3, 21.7): its answer meets
+-- the rule at every node, and every answer that does is the same at every node of the definition, the output among
+-- them.
 use Prim.Native.Nat.{ℕ, zero, suc, ◌<◌}
 use native.Mathlib.Omega.{arith}
 use mathlib.Core.Path.{◌≡◌, refl, sym}

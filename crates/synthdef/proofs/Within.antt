@@ -1,4 +1,4 @@
--- `allowed` answers yes exactly where a definition keeps the limits that `Within` states.
+-- `allowed` answers yes exactly where a definition keeps the limits that `Within` states (SPEC 6.1, 21.7).
 use Prim.Native.Nat.{ℕ, ◌≤◌, ◌<◌}
 use mathlib.Core.Path.{◌≡◌, refl}
 use mathlib.Core.Logic.{◌⊎◌, inl, inr}

@@ -1,5 +1,5 @@
--- Counted edges: "the last edge to a port counts". They stand in the order of their last occurrence, which is what connecting
--- the edges one by one leaves (`connect_one_by_one` of `EdgeLaws`).
+-- Counted edges (SPEC 6.2): of several to one port the last. They stand in the order of their last occurrence, which is
+-- what connecting the edges one by one leaves (`connect_one_by_one` of `EdgeLaws`).
 use Rattle.std.specs.Prelude.{ℕ, List, [], ◌∷◌, ◌++◌, Bool, not, ◌&&◌, eqb, Option, cond, filter, find, option_map}
 use Rattle.synthdef.specs.Rows.{any}
 use Rattle.synthdef.specs.declared.def.DefEdge.{DefEdge}
@@ -21,7 +21,7 @@ counted (e ∷ es) = cond (not (taken e es)) (e ∷ (counted es)) (counted es)
 abbrev pub source_at : List DefEdge → ℕ → ℕ → Option ℕ
 source_at es i p = option_map (λ e. e.from) (find (ends_at i p) es)
 
--- Connecting, as the graph does: "`connect` drops the edge at that port and appends."
+-- connecting, as the graph does: the edge at that port goes, and the new one is put last
 abbrev pub connect : List DefEdge → DefEdge → List DefEdge
 connect l e = filter (λ x. not (ends_at x.to x.port e)) l ++ (e ∷ [])
 

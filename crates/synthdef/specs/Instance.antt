@@ -1,5 +1,5 @@
--- What a spawn makes of a definition's nodes and counted edges: nodes with consecutive ids, "done flag, which is clear in a new
--- node", "Before any report [the level] is 0", no order taken; and edges between them.
+-- What a spawn makes of a definition's nodes and counted edges (SPEC 9.8): nodes with consecutive ids, done flag clear,
+-- level 0, no order taken; and edges between them.
 use Rattle.std.specs.Prelude.{ℕ, suc, ◌+◌, min, List, [], ◌∷◌, map}
 use Rattle.node.specs.Node.{new_node}
 use Rattle.node.specs.declared.record.NodeId.{NodeId}

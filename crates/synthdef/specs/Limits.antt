@@ -1,6 +1,5 @@
--- The limits of a definition, refusal 9: "A definition has 1 to 24 nodes of 0 to 8 ports, up to 48 edges and 8 parameters; edges,
--- parameters, required ports, the ports given by name and output name nodes and ports it has; the last edge to a port counts;
--- counted edges have no cycle." Names are "byte strings of 1 to 16 bytes".
+-- The limits of a definition (SPEC 6.1), beyond which a spawn of it is refused with 9: its counts, its names, what its
+-- nodes, edges, parameters and output refer to, and that its counted edges close no circle.
 use Rattle.std.specs.Prelude.{ℕ, ◌^◌, ◌≤◌, ◌<◌, ◌≡◌, ◌⊎◌, List, map, Bool, ◌&&◌, ◌||◌, length, get_or, leb, ltb, eqb}
 use Rattle.lists.specs.Member.{In}
 use Rattle.node.specs.Name.{named}
@@ -50,8 +49,8 @@ allowed d =
     && (every (param_allowed (length (node_rows d.nodes))) (param_rows d.params) && (ltb d.output (length (node_rows d.nodes))
     && ordered (length (node_rows d.nodes)) (edge_rows d.edges)))))
 
--- ---- the same as statements. A definition is allowed exactly if it keeps them: `allowed_within` and `within_allowed` of
--- proofs/Within.antt.
+-- ---- the same as statements (SPEC 6.1, 21.7). A definition is allowed exactly if it keeps them: `allowed_within` and
+-- `within_allowed` of proofs/Within.antt.
 pub record NodeWithin (n : DefNode) : Type 0 where
   pub kind : (1 ≤ n.kind.len) × (n.kind.len ≤ 16)
   pub ports : n.ports ≤ 8

@@ -1,4 +1,4 @@
--- Parameters: "Of two parameters of one name the first counts."
+-- Parameters: of several of one name the first counts (SPEC 6.3).
 use Rattle.std.specs.Prelude.{ℕ, List, Bool, Option, find, option_map}
 use Rattle.node.specs.Name.{same_name}
 use Rattle.node.specs.declared.name.Name.{Name}

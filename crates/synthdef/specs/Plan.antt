@@ -1,6 +1,7 @@
--- The done plan: of each node the sources that its rule reads, and whether one or all of them have to be silent. A plan is evaluated
--- on the done flags by passes over the nodes until nothing changes. That its answer meets the rule of `Silent` at every node, and that
--- no other does, is the theorem `plan_answers` of proofs/Theorem.antt: nothing here has to be believed beside it.
+-- The done plan (SPEC 7.3): of each node the sources that its rule reads, and whether one or all of them have to be
+-- silent. A plan is evaluated on the done flags by passes over the nodes until nothing changes. That its answer meets
+-- the rule of `Silent` at every node, and that no other does, is the theorem `plan_answers` of proofs/Theorem.antt:
+-- nothing here has to be believed beside it.
 use Rattle.std.specs.Prelude.{ℕ, zero, suc, ◌-◌, min, List, [], ◌∷◌, ◌++◌, Bool, true, false, ◌&&◌, ◌||◌, cond, length, get_or, replicate, ltb, eqb, Option, None, Some}
 use Rattle.lists.specs.Table.{rows_of}
 use Rattle.node.specs.Silence.{silence_of}

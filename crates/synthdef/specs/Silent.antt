@@ -1,7 +1,5 @@
--- Silence: "A node is silent if its done flag is set, or by its kind name: `Mul`: some connected source is silent; `Div`: that
--- of port 0; `Add`, `Sub`: every port connected, at least one, all silent; `FmOp`: source of `level`; `Paf`: of `amp`; `Neg` and
--- the 27 names in `SILENCE_PASS_THROUGH`: of `in`; other names: not."
--- The rule speaks of the silence of other nodes, so it is an equation that an answer has to meet at every node.
+-- Silence (SPEC 7.1): a node is silent by its done flag, or by the rule of its kind. The rule speaks of the silence of
+-- other nodes, so it is an equation that an answer has to meet at every node (SPEC 21.7).
 use Rattle.std.specs.Prelude.{ℕ, zero, suc, ◌≡◌, List, Bool, true, false, ◌&&◌, ◌||◌, get_or, ltb, Option, None, Some, slice_get}
 use Rattle.node.specs.Silence.{silence_of}
 use Rattle.node.specs.declared.silence.SilenceRule.{SilenceRule}

@@ -1,5 +1,5 @@
--- The tables of a definition: "1 to 24 nodes of 0 to 8 ports, up to 48 edges and 8 parameters". A count above the capacity is
--- the capacity.
+-- The tables of a definition, of 24 nodes, 48 edges and 8 parameters (SPEC 6). A count above the capacity is the
+-- capacity.
 use Rattle.std.specs.Prelude.{◌-◌, List, [], ◌++◌, false, length, replicate}
 use Rattle.lists.specs.Table.{rows_of}
 use Rattle.lists.specs.declared.rows.Table.{Table}

@@ -1,4 +1,4 @@
--- The two ways through an admission under a budget: below it, and at it; and who counts for the budget.
+-- The two ways through an admission under a budget: below it, and at it; and who counts for the budget (SPEC 9.2).
 use Prim.Native.Nat.{ℕ, ◌≤◌, ◌<◌}
 use mathlib.Core.Path.{◌≡◌, refl, sym, ap, ◌∙◌}
 use mathlib.Core.List.{List}
@@ -36,7 +36,7 @@ module _ (b : Option ℕ) (p : StealPolicy) (r : ℕ) (l : List Candidate) (most
       admitted b p r l (decides true v)
       (sym (ap (λ z. admits z p r l) is ∙ ap (λ t. decides t (victim p r l)) (le-leb most (length l) h) ∙ ap (decides true) e))
 
--- ---- "At budget (all, or those of the bus under `PerGroup`)": under `Global` a voice of another bus counts, under `PerGroup` it does not.
+-- ---- under `Global` a voice of another bus counts, under `PerGroup` it does not
 abbrev node : ℕ → NodeId
 node n = record { 0 = n }
 

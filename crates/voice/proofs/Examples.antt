@@ -1,4 +1,4 @@
--- "In 01's example with 2, 1, 1 the third voice goes" (Paper 5), and the other sentences on the walk, in the same table.
+-- Of levels 2, 1, 1 the third voice goes (SPEC 9.4); and the other rules of the walk, in the same table.
 use Rattle.std.specs.Prelude.{Option, Float, Some, None}
 use Prim.Native.Nat.{ℕ, suc}
 use mathlib.Core.Path.{◌≡◌, refl}

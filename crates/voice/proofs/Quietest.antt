@@ -1,5 +1,5 @@
--- The victim under `Quietest` is the one that Paper 5's words name (specs/Quietest): `quietest_goes`. There is no other such:
--- `only_quietest`. And the title by itself, for any list: `younger_goes`.
+-- The victim under `Quietest` is the one that the rule names (SPEC 9.4, 21.7; specs/Quietest): `quietest_goes`. There
+-- is no other such: `only_quietest`. And of two that are equally quiet, for any list: `younger_goes`.
 use Rattle.std.specs.Prelude.{Option, Some, None}
 use Prim.Native.Nat.{ℕ, suc, ◌+◌}
 use native.Mathlib.Omega.{arith}
@@ -243,7 +243,7 @@ quietest_goes l =
     let one = named l (first l) in
     subst (λ v. QuietestGoes l v) (sym (only_quietest one.1)) one.1
 
--- ---- "Between equally quiet voices the younger goes."
+-- ---- of two equally quiet voices the later goes
 
 same_place : (a b : List Candidate) (c d : Candidate) (l m : List Candidate) → a ++ (c ∷ l) ≡ b ++ (d ∷ m) → length a ≡ length b → (c ≡ d) × (l ≡ m)
 same_place [] [] c d l m p n = (cc, cc)

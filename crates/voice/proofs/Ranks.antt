@@ -1,6 +1,6 @@
--- Paper 13: "The victim comes from the lowest rank among candidates, then by policy, and never outranks the newcomer." Said of any list of
--- candidates and not of the walk that finds the lowest: `low_in` and `in_low` name who is asked, `victim_lowest` what is true of the victim, and
--- `outranked_nobody` and `nobody_outranked` when there is none.
+-- Who is in question by rank (SPEC 9.3), said of any list of candidates and not of the walk that finds the lowest:
+-- `low_in` and `in_low` name who is asked, `victim_lowest` what is true of the victim, and `outranked_nobody` and
+-- `nobody_outranked` when there is none.
 use Rattle.std.specs.Prelude.{Some, None}
 use Prim.Native.Nat.{ℕ, zero, suc, ◌≤◌, ◌<◌, min}
 use native.Mathlib.Omega.{arith}

@@ -1,7 +1,5 @@
--- Victim and admission: "Tracked voices stand in order of admission. At budget (all, or those of the bus under `PerGroup`)
--- `pick_victim` decides: `Reject` none; `Oldest` first; `Newest` last; `Quietest` walks in order, takes the first known
--- level", and then, by Paper 5, "a level equal to the lowest so far takes its place. A NaN met first stays, and no known level
--- still means the oldest." And by Paper 13 all this is asked of the candidates of the lowest rank alone.
+-- Victim and admission: who counts for the budget (SPEC 9.2), who of them is in question by rank (SPEC 9.3), and whom
+-- the policy names (SPEC 9.4). Candidates stand in voice order.
 use Rattle.std.specs.Prelude.{ℕ, suc, min, List, [], ◌∷◌, Bool, true, false, ◌&&◌, cond, length, leb, eqb, Float, Option, None, Some, filter}
 use Rattle.std.specs.Float.Ieee.{le}
 use Rattle.lists.specs.Table.{rows_of}
@@ -22,7 +20,7 @@ use Rattle.voice.specs.declared.policy.Admission.TheVariants as admission
 abbrev pub candidates_of : Table Candidate 64 → List Candidate
 candidates_of t = rows_of 64 t.count t.rows
 
--- ---- the victim
+-- ---- the victim, by policy (SPEC 9.4)
 
 -- who is stolen or freed: its place among the candidates of its rank, and its id
 abbrev pub Victim : Type 0
@@ -81,7 +79,8 @@ policy_victim policy.Oldest l = oldest l
 policy_victim policy.Newest l = newest l
 policy_victim policy.Quietest l = quietest l
 
--- ---- ranks. Paper 13: "The victim comes from the lowest rank among candidates, then by policy, and never outranks the newcomer."
+-- ---- ranks: only candidates of the lowest rank are in question, and none where that is above the new voice's
+-- (SPEC 9.3)
 
 -- the lowest of r and the ranks of the candidates
 abbrev pub lowest : ℕ → List Candidate → ℕ
@@ -103,23 +102,24 @@ abbrev pub counts : BudgetScope → NodeId → NodeId → Bool
 counts Global theirs bus = true
 counts PerGroup theirs bus = eqb theirs.0 bus.0
 
--- "At budget": there are as many as the budget allows, or more. Without a budget never; with a budget of 0 always.
+-- At budget there are as many as the budget allows, or more. Without a budget never; with a budget of 0 always
+-- (SPEC 9.2).
 abbrev pub at_budget : Option ℕ → ℕ → Bool
 at_budget None n = false
 at_budget (Some most) n = leb most n
 
--- "At budget `pick_victim` decides"
+-- not at budget: nobody goes; else whom the policy names, or 11
 abbrev pub decides : Bool → Victim → Admission
 decides false v = admission.Admit
 decides true None = admission.Reject
 decides true (Some (place, voice)) = admission.Steal place voice
 
--- What a new voice of rank r meets; the candidates are the tracked voices that count for it. "Without a budget nobody is tracked": it
--- is admitted, and the caller does not track it. All candidates count for the budget, whatever their rank.
+-- What a new voice of rank r meets; the candidates are the tracked voices that count for it. Without a budget it is
+-- admitted, and the caller does not track it. All candidates count for the budget, whatever their rank.
 abbrev pub admits : Option ℕ → StealPolicy → ℕ → List Candidate → Admission
 admits b p r l = decides (at_budget b (length l)) (victim p r l)
 
--- the number that an admission stands for, or none: 11 "admission rejects"
+-- the number that an admission stands for, or none: 11 where it rejects (SPEC 9.4)
 abbrev pub admission_number : Admission → Option ℕ
 admission_number admission.Admit = None
 admission_number admission.Reject = Some (number_of Rejected)
@@ -129,6 +129,6 @@ abbrev pub nobody : Victim → Bool
 nobody None = true
 nobody (Some (place, voice)) = false
 
--- 11 where it is at budget and nobody gives way: the policy steals nobody, or, by Paper 13, "all candidates outrank it"
+-- 11 where it is at budget and nobody gives way: the policy steals nobody, or all candidates outrank the new voice
 abbrev pub reject_number : Option ℕ → StealPolicy → ℕ → List Candidate → Option ℕ
 reject_number b p r l = cond (at_budget b (length l) && nobody (victim p r l)) (Some 11) None

@@ -1,6 +1,6 @@
--- The victim under `Quietest`, said of the list of candidates and not of a walk over it. Paper 5: "Between equally quiet voices the
--- younger goes. .. Under `Quietest` a level equal to the lowest so far takes its place. A NaN met first stays, and no known level
--- still means the oldest." That `policy_victim` is this is proved in proofs/Quietest.
+-- The victim under `Quietest` (SPEC 9.4), said of the list of candidates and not of a walk over it: the last of the
+-- lowest known levels, a NaN that is met first, or the oldest where no level is known. That `policy_victim` is this is
+-- proved in proofs/Quietest.
 use Rattle.std.specs.Prelude.{◌≡◌, List, [], ◌∷◌, ◌++◌, Bool, true, false, length, Float, Option, Some, None}
 use Rattle.std.specs.Float.{nan}
 use Rattle.std.specs.Float.Ieee.{lt, le, is_nan}
@@ -31,9 +31,9 @@ pub record LastLowest (before : List Candidate) (c : Candidate) (after : List Ca
   pub later : (e : Candidate) (x : Float) → In e after → e.level ≡ Some x → is_nan x ≡ false → lt least x ≡ true
 
 pub data QuietestGoes : List Candidate → Victim → Type 0 where
-  -- "no known level still means the oldest"
+  -- no level is known: the oldest
   none_known : {l : List Candidate} → Unheard l → QuietestGoes l (oldest l)
-  -- "A NaN met first stays"
+  -- the first known level is a NaN: its voice
   nan_stays : (before : List Candidate) (c : Candidate) (after : List Candidate) → Unheard before → c.level ≡ Some nan → QuietestGoes (before ++ (c ∷ after)) (Some (length before, c.voice))
-  -- "a level equal to the lowest so far takes its place"
+  -- else the last of the lowest
   last_lowest : (before : List Candidate) (c : Candidate) (after : List Candidate) → nan_first (before ++ (c ∷ after)) ≡ false → LastLowest before c after → QuietestGoes (before ++ (c ∷ after)) (Some (length before, c.voice))

@@ -1,4 +1,5 @@
--- The steal records: "`steals` becomes a running count and the newest 64 records (sample, level or none, cut mark)."
+-- The steal records (SPEC 9.5): a running count, and the newest 64, each with sample, level or none, and cut mark
+-- (SPEC 2).
 use Rattle.std.specs.Prelude.{ℕ, zero, suc, ◌+◌, ◌-◌, ◌%◌, min, List, [], ◌∷◌, ◌++◌, Bool, true, false, cond, length, take, drop, leb, Float, Option, Some, None}
 use Rattle.std.specs.Float.Ieee.{of_bits}
 use Rattle.std.specs.Float.{binary32}
@@ -46,8 +47,8 @@ cut_at i [] = []
 cut_at zero (r ∷ l) = cut_of r ∷ l
 cut_at (suc i) (r ∷ l) = r ∷ cut_at i l
 
--- Records are numbered from 0 in the order in which they came: the first that is still held has the number count - length.
--- "mark its record, if still held, cut"
+-- Records are numbered from 0 in the order in which they came: the first that is still held has the number count -
+-- length. The record of a fade that is reclaimed is marked cut, if it is still held (SPEC 9.7).
 abbrev pub marked : StealLog → ℕ → StealLog
 marked b k =
     let first = b.count - length b.newest in

@@ -1,4 +1,4 @@
--- What 02 asks of a faded sample and of a clipped sum.
+-- What is asked of a faded sample and of a clipped sum (SPEC 15.3, 21.7).
 --     faded_nearest, nearest_only   the faded sample differs from the exact product by at most half a step, halves going up; no other number does
 --     faded_full, faded_silent      full gain changes nothing, and gain 0 leaves silence
 --     faded_range                   a faded sample is a sample

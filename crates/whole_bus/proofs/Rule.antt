@@ -1,4 +1,5 @@
--- 02: "Both forms share the rule for which gain goes with which sample, shown for either." `gain_at` of crate `bus` is that rule, in any sort of number.
+-- One rule says in either form which gain goes with which sample (SPEC 15.1, 15.3): `gain_at` of crate `bus`, in any
+-- sort of number.
 --     float_rule, whole_rule   sample i of channel c of the output, in floats and in whole numbers: the same input sample, under the gain that the rule gives
 --     same_gain                with gains that are made of whole ones, as the fade table's are, the rule picks the gain that is made of the one it picks there
 use Prim.Native.Nat.{ℕ, ◌+◌, ◌%◌, ◌<◌}

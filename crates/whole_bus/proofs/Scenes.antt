@@ -1,4 +1,4 @@
--- Small blocks, computed: each tells the rule from a near miss.
+-- Small blocks, computed (SPEC 15.3): each tells the rule from a near miss.
 use mathlib.Core.Path.{◌≡◌, refl}
 use mathlib.Core.List.{[], ◌∷◌}
 use Rattle.std.specs.Prelude.{None, Some}

@@ -1,5 +1,6 @@
--- Fade output and bus sum in whole numbers: what they answer, and the output as they leave it. Definitions only. The sizes that are asked for, the rule for which
--- gain goes with which sample and the order of the ports are those of crate `bus`.
+-- Fade output and bus sum in whole numbers (SPEC 15.3): what they answer, and the output as they leave it. Definitions
+-- only. The sizes that are asked for, the rule for which gain goes with which sample and the order of the ports are
+-- those of crate `bus`.
 use Rattle.std.specs.Prelude.{ℕ, Bool, true, ◌&&◌, cond, List, [], ◌∷◌, ℤ, pos, ◌+ℤ◌, length, Option, None, Some, Result, Err, Ok}
 use Rattle.node.specs.declared.refusal.Refusal.{Refusal}
 use Rattle.node.specs.declared.refusal.Refusal.TheVariants.{LentBlock, OutOfRange}
@@ -13,7 +14,7 @@ unfoldable pub every : {A : Type 0} → (A → Bool) → List A → Bool
 every f [] = true
 every f (x ∷ xs) = f x && every f xs
 
--- 02: "21 any input sample or lent gain outside its range, after 16": 16 where the sizes do not fit, and then 21
+-- 16 where the sizes do not fit, and then 21 where a sample or a gain is out of its range
 abbrev pub refusal_of : Bool → Bool → Option Refusal
 refusal_of fits in_range = cond fits (cond in_range None (Some OutOfRange)) (Some LentBlock)
 
@@ -46,11 +47,11 @@ fade_output input ins gains len position size out outs =
 
 -- ---- the sum of a bus
 
--- 02: "A bus sum of up to 64 ports is exact": from 0, port by port
+-- exact, from 0, port by port
 abbrev pub exact_sum : ℕ → List ℤ → List ℕ → ℕ → ℕ → ℤ
 exact_sum size inputs counts c i = summed_by ◌+ℤ◌ (pos 0) (pos 0) size c i inputs counts
 
--- 02: "and then clipped to the range": once, at the end
+-- clipped once, at the end
 abbrev pub sum_of : ℕ → List ℤ → List ℕ → ℕ → ℕ → ℤ
 sum_of size inputs counts c i = clipped (exact_sum size inputs counts c i)
 
