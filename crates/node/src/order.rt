@@ -26,8 +26,9 @@ pub struct Glide {
 }
 
 // The newest order that a node took. `Nothing` is a case and no `Option`: the words of a node have one number for each of the three.
-#[derive(Clone, Copy)]
+#[derive(Clone, Copy, Default)]
 pub enum LastOrder {
+    #[default]
     Nothing,
     Value(f32),
     Glide(Glide),
