@@ -6,3 +6,5 @@ pub mod Rising
 pub mod Table
 pub mod Written
 pub mod FromFn
+pub mod Lone
+pub mod Halve

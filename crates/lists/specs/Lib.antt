@@ -4,3 +4,4 @@ pub mod Count
 pub mod Table
 pub mod Rising
 pub mod Written
+pub mod Lone

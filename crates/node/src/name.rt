@@ -3,7 +3,7 @@ ghost use Rattle.node.specs.Name.{name_length, named, name_of, same_name, text};
 
 // A byte string of 1 to 16 bytes: the first `len` of `bytes`. With any other `len` it is a name that equals none, itself
 // included. An array and a count, since the store has no heap; and no `Table` of lists: its count is a byte, as lent words and books hold it.
-#[derive(Clone, Copy)]
+#[derive(Clone, Copy, Default)]
 pub struct Name {
     pub bytes: [u8; 16],
     pub len: u8,

@@ -5,10 +5,10 @@ use crate::name::Name;
 use crate::order::LastOrder;
 
 // The ids of nodes and of voices. They are different types, so that a node id never serves as a voice id.
-#[derive(Clone, Copy, PartialEq, Eq, PartialOrd, Ord)]
+#[derive(Clone, Copy, Default, PartialEq, Eq, PartialOrd, Ord)]
 pub struct NodeId(pub u32);
 
-#[derive(Clone, Copy, PartialEq, Eq)]
+#[derive(Clone, Copy, Default, PartialEq, Eq)]
 pub struct VoiceId(pub u64);
 
 // The owner of the host's nodes. Voice ids start at 1; no `Option`, since the words of a node hold the host as 0.
@@ -17,7 +17,7 @@ pub const HOST: VoiceId = VoiceId(0);
 // A live node, as scope lists it: kind name, ports, required ports (bit p for port p), whether it takes values or
 // glides, done flag, level of the last reported block, last order; with its id and the voice that owns it, or HOST. A bus counts here the noise
 // sequence of its voices: 0 in a new node.
-#[derive(Clone, Copy)]
+#[derive(Clone, Copy, Default)]
 pub struct Node {
     pub id: NodeId,
     pub owner: VoiceId,
@@ -52,7 +52,7 @@ pub fn new_node(id: NodeId, owner: VoiceId, kind: Name) -> Node
 }
 
 // An edge of the graph: the output of `from` feeds the port `port` of `to`.
-#[derive(Clone, Copy)]
+#[derive(Clone, Copy, Default)]
 pub struct Edge {
     pub from: NodeId,
     pub to: NodeId,
