@@ -12,8 +12,9 @@ pub struct Fade {
 }
 
 // Counted by the budget; stolen, and on its way out; or counted by nobody. Three cases: an Option of a fade beside a flag would say less.
-#[derive(Clone, Copy)]
+#[derive(Clone, Copy, Default)]
 pub enum VoiceState {
+    #[default]
     Tracked,
     Fading(Fade),
     Loose,
@@ -22,7 +23,7 @@ pub enum VoiceState {
 // A live voice. Its definition's nodes have the ids from `first` on; the pan's constant and the pan node follow them where
 // it is panned; a fade has an id of its own. `port` is the port given at its spawn, `sequence` the noise sequence from
 // which the seeds of its nodes follow, `rank` 0 to 7: a voice of a higher rank than the new voice's does not give way to it.
-#[derive(Clone, Copy)]
+#[derive(Clone, Copy, Default)]
 pub struct Voice {
     pub id: VoiceId,
     pub birth: u64,
