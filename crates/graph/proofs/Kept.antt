@@ -11,21 +11,21 @@ use borrow.Author.Tests.{eqb-true, not-true, ltb-false, leb-false}
 use Rattle.std.specs.Prelude.{Option, None, Some, is_some, cond, find, filter, Float}
 use Rattle.lists.specs.Member.{In}
 use Rattle.lists.specs.Lone.{Lone}
-use Rattle.lists.proofs.Member.{and_left, and_right, in_snoc, in_map, in_left, in_of_map, none_some}
+use Rattle.lists.proofs.Member.{and_left, and_right, in_snoc, in_map, in_left, in_of_map, map_same, none_some, some_inj}
 use Rattle.lists.proofs.Filter.{in_filter, filter_in, filter_none, length_filter}
-use Rattle.lists.proofs.Rising.{rises_filter, rises_snoc, rises_map}
+use Rattle.lists.proofs.Rising.{rises_filter, rises_snoc, rises_map, rises_once}
 use Rattle.lists.proofs.Find.{find_in, none_find, find_none}
-use Rattle.lists.proofs.Lone.{lone_filter, lone_snoc, lone_rising}
+use Rattle.lists.proofs.Lone.{lone_filter, lone_snoc, lone_rising, changed_none}
 use Rattle.node.specs.declared.record.NodeId.{NodeId}
 use Rattle.node.specs.declared.record.Node.{Node}
 use Rattle.node.specs.declared.record.Edge.{Edge}
-use Rattle.node.specs.Node.{reported}
 use Rattle.edges.specs.Wiring.{ends_at, drop_at, wired, no_place, listed, among, touches, drop_touching}
 use Rattle.edges.proofs.Wiring.{place_left}
+use Rattle.graph.specs.View.{GraphView, with_nodes}
 use Rattle.graph.specs.Node.{is_node, node_at, of_voice, ports_of}
 use Rattle.graph.specs.Change.{ids_of}
 use Rattle.graph.specs.Refuse.{when, dead, host_test, wire_test, bad_kind}
-use Rattle.graph.specs.Does.{reported_at}
+use Rattle.graph.specs.Does.{changed_at, changed_node}
 use Rattle.graph.specs.Sound.{Sound, Lives, id_of}
 use Rattle.graph.proofs.Calls.{when_none}
 use Rattle.graph.proofs.Together.{listed_in}
@@ -156,8 +156,8 @@ module _ {ns : List Node} {es : List Edge} {n : ℕ} where
         few_edges = h.few_edges;
       }
 
-  -- nodes of one id change, and keep their ids and ports
-  pub sound_changed : (k : NodeId) (g : Node → Node) → ((x : Node) → id_of (g x) ≡ id_of x) → ((x : Node) → (g x).ports ≡ x.ports) → Sound ns es n → Sound (map (λ x. cond (is_node k x) (g x) x) ns) es n
+  -- the node of one id changes, and keeps its id and ports
+  pub sound_changed : (k : NodeId) (g : Node → Node) → ((x : Node) → id_of (g x) ≡ id_of x) → ((x : Node) → (g x).ports ≡ x.ports) → Sound ns es n → Sound (changed_at k g ns) es n
   sound_changed k g e m h = sound_map (λ x. cond (is_node k x) (g x) x) (λ x. same x (is_node k x)) (λ x. kept x (is_node k x)) h
     where
       same : (x : Node) (b : Bool) → id_of (cond b (g x) x) ≡ id_of x
@@ -168,8 +168,21 @@ module _ {ns : List Node} {es : List Edge} {n : ℕ} where
       kept x true = m x
       kept x false = refl
 
-  pub sound_reported : (k : NodeId) (level : Float) (done : Bool) → Sound ns es n → Sound (reported_at k level done ns) es n
-  sound_reported k level done h = sound_changed k (reported level done) (λ x. refl) (λ x. refl) h
+-- the node of an id is the only one, where ids rise: changed in its place, it is replaced
+pub changed_is : (v : GraphView) (k : NodeId) (g : Node → Node) → ((x : Node) → id_of (g x) ≡ id_of x) → Sound v.nodes v.edges v.next
+    → with_nodes v (changed_at k g v.nodes) ≡ changed_node (node_at v.nodes k) g v
+changed_is v k g e h = go (node_at v.nodes k) refl
+  where
+    row : (n : Node) → node_at v.nodes k ≡ Some n → (m : Node) → In m v.nodes → (b : Bool) → is_node k m ≡ b → cond b (g m) m ≡ cond b (g n) m
+    row n f m j true s = ap g (some_inj (sym (rises_once id_of 0 v.nodes h.rises k.0 m j s) ∙ f))
+    row n f m j false s = refl
+
+    go : (o : Option Node) → node_at v.nodes k ≡ o → with_nodes v (changed_at k g v.nodes) ≡ changed_node o g v
+    go None f = ap (with_nodes v) (changed_none (is_node k) g v.nodes f)
+    go (Some n) f =
+        let i = find_in (is_node k) v.nodes n f in
+        let same : (g n).id.0 ≡ k.0 = e n ∙ eqb-true _ _ i.1 in
+        ap (with_nodes v) (map_same _ _ v.nodes (λ m j. row n f m j (is_node k m) refl ∙ ap (λ z. cond (eqb m.id.0 z) (g n) m) (sym same)))
 
 -- the ids of the rows of one id
 ids_one : (k : NodeId) (ns : List Node) → Lone (is_node k) ns → is_some (node_at ns k) ≡ true → k.0 ∷ [] ≡ ids_of (is_node k) ns

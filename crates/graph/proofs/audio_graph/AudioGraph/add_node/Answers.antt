@@ -3,7 +3,7 @@ use lib.Dec.{leb}
 use borrow.Author.Tests.{leb-false}
 use Rattle.graph.specs.Sound.{id_of}
 use Rattle.graph.proofs.Kept.{sound_snoc, kind_ports}
-use Rattle.graph.proofs.audio_graph.AudioGraph.append.Goals as goal
+use Rattle.graph.proofs.audio_graph.AudioGraph.add_node.Goals as goal
 
 pub invariant_of-self : goal.invariant_of-self
 invariant_of-self c =
