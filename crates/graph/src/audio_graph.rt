@@ -14,11 +14,13 @@ ghost use Rattle.graph.specs.Grown.{fits, with_all};
 ghost use Rattle.graph.specs.Does.{unless, added, changed_node};
 
 use crate::edge_table::{
-    self, EdgeTable, drop_edge, drop_touching, edge_row, is_listed, lowest_port, port_from, put_edge, put_new, sources,
+    self, EdgeTable, drop_edge, drop_touching, edge_row, is_listed, lowest_port, port_from,
+    put_edge, put_new, sources,
 };
 use crate::host::{HostNode, host_node};
 use crate::node_table::{
-    NodeTable, all_join, append_all, drop_node, drop_owned, have_few_ports, ids_owned, joins, node_of, order_at, raise_noise_at, report_at,
+    NodeTable, all_join, append_all, drop_node, drop_owned, have_few_ports, ids_owned, joins,
+    node_of, order_at, raise_noise_at, report_at,
 };
 use crate::tests::{host_test, is_bad_kind, port_test, wire_test};
 use arrayvec::ArrayVec;

@@ -112,7 +112,10 @@ pub(crate) fn append_all(nodes: &mut NodeTable, more: &[Node], next: u64)
 {
     let mut id = next;
     for n in more {
-        nodes.push(Node { id: NodeId(id as u32), ..*n });
+        nodes.push(Node {
+            id: NodeId(id as u32),
+            ..*n
+        });
         id += 1;
     }
 }

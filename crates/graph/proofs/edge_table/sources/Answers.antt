@@ -1,9 +1,7 @@
-use Rattle.std.proofs.Common.{refl, ◌≡◌, ◌∙◌, sym, ap, zero, suc, None, Bool, true, false, not, is_some, length, take, get_or, drop, arith}
+use Rattle.std.proofs.Common.{refl, ◌≡◌, ◌∙◌, sym, ap, None, not, length, take, get_or, arith}
 use Rattle.std.proofs.lemmas.List.{get_or-replicate, take_more}
 use lib.Seq.{take_all}
-use Rattle.lists.proofs.Lone.{not_swap}
 use Rattle.node.specs.declared.record.Edge.{Edge}
-use Rattle.edges.specs.Ports.{source_at}
 use Rattle.graph.proofs.Ports.{fed_off, fed_hit, fed_held, fed_all, off_to, off_port}
 use Rattle.graph.proofs.edge_table.sources.Goals as goal
 use Rattle.graph.proofs.edge_table.sources.Goals.{then-e-to+then-e-lt64+then-is_none, then-e-to+then-e-lt64+else-is_none, else-e-to, else-e-to-via-then-e-to+else-e-lt64, else-e-to-via-else-e-to}
