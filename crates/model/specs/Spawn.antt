@@ -1,6 +1,6 @@
 -- What a spawn puts into the graph (SPEC 9.8), and who is removed for it (SPEC 9.5, 9.7): what does not ask who holds a
 -- port.
-use Rattle.std.specs.Prelude.{ℕ, ◌+◌, List, [], ◌∷◌, ◌++◌, map, Bool, true, false, not, cond, ◌&&◌, leb, length, pos, Float, Option, None, Some, find}
+use Rattle.std.specs.Prelude.{ℕ, ◌+◌, List, [], ◌∷◌, ◌++◌, map, Bool, true, false, not, cond, ◌&&◌, length, pos, Float, Option, None, Some, find}
 use Rattle.std.specs.Float.{fin}
 use Rattle.std.specs.Float.Ieee.{eq}
 use Rattle.node.specs.Node.{new_node}
@@ -25,7 +25,8 @@ use Rattle.voice.specs.declared.voices.VoiceState.{VoiceState}
 use Rattle.voice.specs.declared.voices.VoiceState.TheVariants.{Tracked, Fading, Loose}
 use Rattle.voice.specs.declared.voices.Fade.{Fade}
 use Rattle.model.specs.SharedState.{SharedState, with_graph, with_steals, one_more_voice}
-use Rattle.voice.specs.Voice.{is_voice, start_of, id, feeder, tracked_on, fades_on, new_fade}
+pub use Rattle.voice.specs.Voice.{no_later, earlier, earliest}
+use Rattle.voice.specs.Voice.{is_voice, id, feeder, tracked_on, fades_on, new_fade}
 use Rattle.model.specs.Voice.{voice_level, candidates}
 
 -- ---- the arguments of a spawn. The rank comes as a number of any size; 26 refuses those above 7 (SPEC 9.1)
@@ -166,18 +167,6 @@ reclaim_log v Loose d = d.steals
 abbrev pub voice_of : Victim → List Voice → Option Voice
 voice_of None vs = None
 voice_of (Some (place, w)) vs = find (is_voice w) vs
-
--- the fade that began at the lowest clock; of several the first in voice order (SPEC 9.7)
-abbrev pub no_later : Voice → Voice → Bool
-no_later v u = leb (start_of v.state) (start_of u.state)
-
-abbrev pub earlier : Option Voice → Bool → Voice → Option Voice
-earlier None b v = cond b (Some v) None
-earlier (Some u) b v = cond (b && no_later v u) (Some v) (Some u)
-
-abbrev pub earliest : (Voice → Bool) → List Voice → Option Voice
-earliest q [] = None
-earliest q (v ∷ vs) = earlier (earliest q vs) (q v) v
 
 -- where none fades, who the policy names among the tracked voices of that bus (SPEC 9.7)
 abbrev pub else_victim : Option Voice → Option Voice → Option Voice
