@@ -9,7 +9,10 @@ use Rattle.graph.proofs.Kept.{sound_without, host_ids}
 use Rattle.graph.proofs.audio_graph.AudioGraph.remove_node.Goals as goal
 
 pub invariant_of-self : goal.invariant_of-self
-invariant_of-self c = rw (c.drop_node.ensures, c.drop_touching.ensures) (sound_without _ _ c.self.invariant)
+invariant_of-self c =
+    let none : host_refusal c.args.self.now c.args.id ≡ None = ap host_test (sym c.node.ensures) ∙ answer_done _ (sym c.in_ok-host_test.ensures) in
+    let ids : c.args.id.0 ∷ [] ≡ ids_of (is_node c.args.id) c.self.inside.nodes.items = host_ids c.args.id c.self.invariant (ap (λ v. host_test (node_at v.nodes c.args.id)) c.self.view_is ∙ none) in
+    rw (c.drop_node.ensures, c.drop_touching.ensures ∙ ap (drop_touching _) ids) (sound_without _ c.self.invariant)
 
 pub returns-clause-graph : goal.returns-clause-graph
 returns-clause-graph c =

@@ -8,7 +8,9 @@ use Rattle.graph.proofs.Kept.{sound_without}
 use Rattle.graph.proofs.audio_graph.AudioGraph.remove_voice.Goals as goal
 
 pub invariant_of-self : goal.invariant_of-self
-invariant_of-self c = rw (c.drop_owned.ensures, c.drop_touching.ensures) (sound_without _ _ c.self.invariant)
+invariant_of-self c =
+    let ids = c.ids_owned-ids.ensures ∙ ap (ids_of (owned_by c.args.voice)) c.as_slice.ensures.value in
+    rw (c.drop_owned.ensures, c.drop_touching.ensures ∙ ap (drop_touching _) (c.as_slice-2.ensures.value ∙ ids)) (sound_without _ c.self.invariant)
 
 pub returns : goal.returns
 returns c =
