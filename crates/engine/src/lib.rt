@@ -2,13 +2,19 @@
 #![tactic(auto)]
 
 pub mod blocks;
+pub mod clear;
+pub mod free;
 pub mod host;
 mod making;
+pub mod order;
 mod page_text;
 mod parts;
 pub mod reach;
 pub mod read;
+pub mod render;
+pub mod report;
 pub mod scheduling;
+pub mod spawn;
 
 ghost use Rattle.std.specs.Prelude.{◌≡◌};
 ghost use Rattle.model.specs.Make.{new_model};
@@ -17,13 +23,14 @@ ghost use Rattle.engine.specs.Made.{Remakes};
 use graph::audio_graph::AudioGraph;
 use making::config_of;
 use node::refusal::Refusal;
-use parts::{Steals, Voices};
+use parts::Voices;
 use scheduler::queue::Scheduler;
 use std::marker::Model;
 use store::config::{Config, Making};
+use voice::steal_ring::Steals;
 
-/// The tables of a store: what making fixed, the graph, the pending events, the live voices, the newest steals, the samples rendered so far
-/// and how many voice ids are given out. Nothing is required of them: a `Store` is tables that calls left.
+/// The tables of a store: what making fixed, the graph, the pending events, the voices, the newest steals, and the clock, which counts the samples
+/// rendered so far. Nothing is required of them: a `Store` is tables that calls left.
 #[derive(Drop)]
 pub struct Tables {
     config: Config,
@@ -32,7 +39,6 @@ pub struct Tables {
     voices: Voices,
     steals: Steals,
     clock: u64,
-    spawned: u64,
 }
 
 impl Model for Tables {
@@ -40,7 +46,7 @@ impl Model for Tables {
 
     ghost Value = { Model };
 
-    ghost view = { λ t. record { shared = record { config = t.config; graph = t.graph; events = t.scheduler; steals = t.steals; clock = t.clock; spawned = t.spawned }; voices = t.voices } };
+    ghost view = { λ t. record { shared = record { config = t.config; graph = t.graph; events = t.scheduler; steals = t.steals; clock = t.clock; spawned = t.voices.spawned }; voices = t.voices.live } };
 }
 
 impl Tables {
@@ -55,7 +61,6 @@ impl Tables {
             voices: Voices::new(),
             steals: Steals::new(),
             clock: 0,
-            spawned: 0,
         }
     }
 

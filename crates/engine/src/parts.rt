@@ -1,27 +1,26 @@
-//! Stand-ins for `Voices` and `Steals`, until crate voice has them.
+//! A stand-in for `Voices`, until crate voice has it.
 
 ghost use Rattle.std.specs.Prelude.{◌≡◌, ◌≤◌, [], find, length};
 ghost use Rattle.voice.specs.Voice.{is_voice};
-ghost use Rattle.voice.specs.Steals.{empty_log};
+ghost use Rattle.engine.specs.Parts.{no_voices};
 
 use arrayvec::ArrayVec;
 use node::record::VoiceId;
 use std::marker::Model;
-use voice::steals::StealRecord;
 use voice::voices::Voice;
 
 #[derive(Drop)]
 pub struct Voices {
     rows: ArrayVec<Voice, 64>,
+    spawned: u64,
 }
 
 impl Model for Voices {
-    ghost use Rattle.std.specs.Prelude.{List, []};
-    ghost use Rattle.voice.specs.declared.voices.Voice.{Voice};
+    ghost use Rattle.engine.specs.Parts.{VoicesView};
 
-    ghost Value = { List Voice };
+    ghost Value = { VoicesView };
 
-    ghost view = { λ s. s.rows.items };
+    ghost view = { λ s. record { live = s.rows.items; spawned = s.spawned } };
 }
 
 fn is_voice(voice: VoiceId, v: &Voice) -> bool
@@ -38,55 +37,24 @@ fn find_in(rows: &[Voice], voice: VoiceId) -> Option<Voice>
 
 impl Voices {
     pub fn new() -> Voices
-        ensures { result ≡ [] }
+        ensures { result ≡ no_voices }
     {
-        Voices { rows: ArrayVec::new() }
+        Voices {
+            rows: ArrayVec::new(),
+            spawned: 0,
+        }
     }
 
     pub fn as_slice(&self) -> &[Voice]
-        ensures value { result.now ≡ self.now }
-        ensures fits { length self.now ≤ 64 }
+        ensures value { result.now ≡ self.now.live }
+        ensures fits { length self.now.live ≤ 64 }
     {
         self.rows.as_slice()
     }
 
     pub fn find(&self, voice: VoiceId) -> Option<Voice>
-        ensures { result ≡ find (is_voice voice) self.now }
+        ensures { result ≡ find (is_voice voice) self.now.live }
     {
         find_in(self.rows.as_slice(), voice)
-    }
-}
-
-#[derive(Drop)]
-pub struct Steals {
-    rows: [StealRecord; 64],
-    total: u64,
-    next: usize,
-}
-
-impl Model for Steals {
-    ghost use Rattle.std.specs.Prelude.{◌<◌};
-    ghost use Rattle.voice.specs.Steals.{StealLog, log_of};
-
-    ghost Value = { StealLog };
-
-    ghost view = { λ s. log_of (record { rows = s.rows; total = s.total; next = s.next }) };
-}
-
-impl Steals {
-    pub fn new() -> Steals
-        ensures { result ≡ record { count = 0; newest = [] } }
-    {
-        let none = StealRecord {
-            sample: 0,
-            level: 0.0,
-            known: false,
-            cut: false,
-        };
-        Steals {
-            rows: [none; 64],
-            total: 0,
-            next: 0,
-        }
     }
 }

@@ -8,6 +8,7 @@ ghost use Rattle.engine.specs.Called.{Asked};
 
 use crate::Tables;
 use node::record::{Edge, Node, NodeId, VoiceId};
+use voice::steal_ring::Steals;
 use voice::voices::{Voice, VoiceState};
 
 fn position_of(state: VoiceState) -> Option<u64>
@@ -64,6 +65,13 @@ impl Tables {
         ensures { Asked call.voices self.now (call.all result.now) }
     {
         self.voices.as_slice()
+    }
+
+    /// The steals: how many there were, and the newest 64 records (SPEC 9.5).
+    pub fn steals(&self) -> &Steals
+        ensures { Asked call.steals self.now (call.stolen result.now) }
+    {
+        &self.steals
     }
 
     /// The clock: the samples rendered so far.
