@@ -1,8 +1,8 @@
 -- What a call of the store answers and leaves, in the model's words.
-use Rattle.std.specs.Prelude.{◌≡◌, Result, Ok, Err}
+use Rattle.std.specs.Prelude.{ℕ, ◌≡◌, List, Result, Ok, Err}
 use Rattle.node.specs.declared.record.NodeId.{NodeId}
 use Rattle.node.specs.declared.refusal.Refusal.{Refusal}
-use Rattle.model.specs.Call.{Call, Question, Answer, Step, step, answer_to, done, refused, node}
+use Rattle.model.specs.Call.{Call, Question, Answer, Step, step, answer_to, done, refused, node, printed}
 use Rattle.model.specs.Page.{port_now}
 use Rattle.model.specs.Model.{Model}
 
@@ -23,3 +23,8 @@ answered (Err r) = refused r
 abbrev pub add_answered : Result NodeId Refusal → Answer
 add_answered (Ok k) = node k
 add_answered (Err r) = refused r
+
+-- the page, with what the buffer holds then, or refused
+abbrev pub page_answered : Result ℕ Refusal → List ℕ → Answer
+page_answered (Ok n) out = printed n out
+page_answered (Err r) out = refused r

@@ -3,10 +3,12 @@
 
 pub mod blocks;
 pub mod clear;
+mod feeding;
 pub mod free;
 pub mod host;
 mod making;
 pub mod order;
+pub mod page;
 mod page_text;
 mod parts;
 pub mod reach;
