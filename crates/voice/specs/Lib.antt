@@ -2,3 +2,4 @@ pub mod Policy
 pub mod Quietest
 pub mod Steals
 pub mod Voice
+pub mod Voices

@@ -1,7 +1,7 @@
 -- Voices: who they are, their states, the node that they sound through, and how a fade begins and moves.
 -- A fade's `position` is a number of samples in the model. The ledger keeps the same record and has there the count of
 -- sounding renders.
-use Rattle.std.specs.Prelude.{ℕ, ◌+◌, Bool, true, false, ◌&&◌, cond, eqb}
+use Rattle.std.specs.Prelude.{ℕ, ◌+◌, min, List, [], ◌∷◌, Bool, true, false, ◌&&◌, cond, eqb, leb, Option, None, Some}
 use Rattle.node.specs.declared.record.NodeId.{NodeId}
 use Rattle.node.specs.declared.record.VoiceId.{VoiceId}
 use Rattle.voice.specs.declared.policy.BudgetScope.{BudgetScope}
@@ -96,3 +96,25 @@ moved_state more Loose = Loose
 
 abbrev pub moved : (ℕ → ℕ) → Voice → Voice
 moved more v = with_state (moved_state more v.state) v
+
+-- a fade's position after a sounding block. No run reaches 2^64 - 1 samples
+abbrev pub further : ℕ → ℕ → ℕ
+further block position = min (position + block) 18446744073709551615
+
+-- a fade ends when its position reaches the fade length
+abbrev pub ended : ℕ → VoiceState → Bool
+ended len Tracked = false
+ended len (Fading f) = leb len f.position
+ended len Loose = false
+
+-- ---- the earliest-started of the voices that pass; of several that started at once the first
+abbrev pub no_later : Voice → Voice → Bool
+no_later v u = leb (start_of v.state) (start_of u.state)
+
+abbrev pub earlier : Option Voice → Bool → Voice → Option Voice
+earlier None b v = cond b (Some v) None
+earlier (Some u) b v = cond (b && no_later v u) (Some v) (Some u)
+
+abbrev pub earliest : (Voice → Bool) → List Voice → Option Voice
+earliest q [] = None
+earliest q (v ∷ vs) = earlier (earliest q vs) (q v) v
