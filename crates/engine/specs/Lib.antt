@@ -1,5 +1,4 @@
 pub mod Called
 pub mod Made
-pub mod Parts
 pub mod Reached
 pub mod Text

@@ -10,7 +10,6 @@ mod making;
 pub mod order;
 pub mod page;
 mod page_text;
-mod parts;
 pub mod reach;
 pub mod read;
 pub mod render;
@@ -25,11 +24,11 @@ ghost use Rattle.engine.specs.Made.{Remakes};
 use graph::audio_graph::AudioGraph;
 use making::config_of;
 use node::refusal::Refusal;
-use parts::Voices;
 use scheduler::queue::Scheduler;
 use std::marker::Model;
 use store::config::{Config, Making};
 use voice::steal_ring::Steals;
+use voice::voices::Voices;
 
 /// The tables of a store: what making fixed, the graph, the pending events, the voices, the newest steals, and the clock, which counts the samples
 /// rendered so far. Nothing is required of them: a `Store` is tables that calls left.
