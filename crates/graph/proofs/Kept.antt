@@ -8,24 +8,24 @@ use mathlib.Core.Bool.{Bool, true, false, not, ◌&&◌, ◌||◌, false≢true}
 use lib.Dec.{eqb, ltb, leb}
 use lib.ListN.{length, length-append, length-map}
 use borrow.Author.Tests.{eqb-true, not-true, ltb-false, leb-false}
-use Rattle.std.specs.Prelude.{Option, None, Some, is_some, cond, find, filter, Float}
+use Rattle.std.specs.Prelude.{Option, None, Some, is_some, cond, find, filter}
 use Rattle.lists.specs.Member.{In}
 use Rattle.lists.specs.Lone.{Lone}
-use Rattle.lists.proofs.Member.{and_left, and_right, in_snoc, in_map, in_left, in_of_map, none_some}
+use Rattle.lists.proofs.Member.{and_left, and_right, in_snoc, in_map, in_left, in_of_map, map_same, none_some, some_inj}
 use Rattle.lists.proofs.Filter.{in_filter, filter_in, filter_none, length_filter}
-use Rattle.lists.proofs.Rising.{rises_filter, rises_snoc, rises_map}
+use Rattle.lists.proofs.Rising.{rises_filter, rises_snoc, rises_map, rises_once}
 use Rattle.lists.proofs.Find.{find_in, none_find, find_none}
-use Rattle.lists.proofs.Lone.{lone_filter, lone_snoc, lone_rising}
+use Rattle.lists.proofs.Lone.{lone_filter, lone_snoc, lone_rising, changed_none}
 use Rattle.node.specs.declared.record.NodeId.{NodeId}
 use Rattle.node.specs.declared.record.Node.{Node}
 use Rattle.node.specs.declared.record.Edge.{Edge}
-use Rattle.node.specs.Node.{reported}
 use Rattle.edges.specs.Wiring.{ends_at, drop_at, wired, no_place, listed, among, touches, drop_touching}
 use Rattle.edges.proofs.Wiring.{place_left}
+use Rattle.graph.specs.View.{GraphView, with_nodes}
 use Rattle.graph.specs.Node.{is_node, node_at, of_voice, ports_of}
 use Rattle.graph.specs.Change.{ids_of}
-use Rattle.graph.specs.Refuse.{when, dead, host_test, wire_test, bad_kind}
-use Rattle.graph.specs.Does.{reported_at}
+use Rattle.graph.specs.Refuse.{host_test, wire_test, bad_kind}
+use Rattle.graph.specs.Does.{changed_at, changed_node}
 use Rattle.graph.specs.Sound.{Sound, Lives, id_of}
 use Rattle.graph.proofs.Calls.{when_none}
 use Rattle.graph.proofs.Together.{listed_in}
@@ -37,7 +37,7 @@ off es e c j h d i =
     ap (λ x. eqb d.to.0 x && eqb d.port j) (sym a) ∙ ap (λ x. eqb d.to.0 e.to.0 && eqb d.port x) (sym b) ∙ not-true _ (in_filter (λ d. not (ends_at e.to e.port d)) es d i).1
 
 -- ---- who lives
-lives_in : (ns : List Node) (k : NodeId) (n : Node) → In n ns → is_node k n ≡ true → Lives ns k
+pub lives_in : (ns : List Node) (k : NodeId) (n : Node) → In n ns → is_node k n ≡ true → Lives ns k
 lives_in ns k n i h = go (node_at ns k) refl
   where
     go : (o : Option Node) → node_at ns k ≡ o → is_some o ≡ true
@@ -67,6 +67,11 @@ lives_without goes ns k off h = let r = living ns k h in lives_in _ k r.0 (filte
         absurd (false≢true (sym off ∙ ap (listed (ids_of goes ns)) (sym (eqb-true _ _ s)) ∙ listed_in (ids_of goes ns) n.id.0 j))
     stays n i s false e = refl
 
+pub lone_wired : (es : List Edge) (e : Edge) → ((c : NodeId) (j : ℕ) → Lone (ends_at c j) es) → (c : NodeId) (j : ℕ) → Lone (ends_at c j) (wired es e)
+lone_wired es e h c j =
+    lone_snoc (ends_at c j) (drop_at es e.to e.port) e (lone_filter (ends_at c j) (λ d. not (ends_at e.to e.port d)) es (h c j))
+    (λ x. none_find (ends_at c j) (drop_at es e.to e.port) (off es e c j x))
+
 module _ {ns : List Node} {es : List Edge} {n : ℕ} where
   -- edges are dropped
   pub sound_filter : (t : Edge → Bool) → Sound ns es n → Sound ns (filter t es) n
@@ -79,6 +84,7 @@ module _ {ns : List Node} {es : List Edge} {n : ℕ} where
         ends = λ e i. h.ends e (in_filter t es e i).0;
         few_nodes = h.few_nodes;
         few_edges = omega (arith, length_filter t es, h.few_edges);
+        ids = h.ids;
       }
 
   -- an edge between nodes that live takes its port, and has a place
@@ -89,14 +95,13 @@ module _ {ns : List Node} {es : List Edge} {n : ℕ} where
         rises = h.rises;
         below = h.below;
         ports = h.ports;
-        lone = λ c j.
-            lone_snoc (ends_at c j) (drop_at es e.to e.port) e (lone_filter (ends_at c j) (λ d. not (ends_at e.to e.port d)) es (h.lone c j))
-            (λ x. none_find (ends_at c j) (drop_at es e.to e.port) (off es e c j x));
+        lone = lone_wired es e h.lone;
         ends = λ d i.
             ⊎_elim (λ j. h.ends d (in_filter (λ d. not (ends_at e.to e.port d)) es d j).0) (λ p. (subst (λ (x : Edge). Lives ns x.from) (sym p) a, subst (λ (x : Edge). Lives ns x.to) (sym p) b))
             (in_snoc (drop_at es e.to e.port) e d i);
         few_nodes = h.few_nodes;
         few_edges = omega (arith, length-append (drop_at es e.to e.port) (e ∷ []), left);
+        ids = h.ids;
       }
 
   -- nodes go, and the edges that touch them
@@ -114,6 +119,7 @@ module _ {ns : List Node} {es : List Edge} {n : ℕ} where
             (lives_without goes ns e.from o.0 k.0, lives_without goes ns e.to o.1 k.1);
         few_nodes = omega (arith, length_filter t ns, h.few_nodes);
         few_edges = omega (arith, length_filter u es, h.few_edges);
+        ids = h.ids;
       }
     where
       t : Node → Bool
@@ -131,8 +137,8 @@ module _ {ns : List Node} {es : List Edge} {n : ℕ} where
       untouched e i = neither_of _ _ i
 
   -- a node more, under the next id
-  pub sound_snoc : (x : Node) → x.id.0 ≡ n → x.ports ≤ 64 → length ns < 512 → Sound ns es n → Sound (ns ++ x ∷ []) es (n + 1)
-  sound_snoc x e m room h =
+  pub sound_snoc : (x : Node) → x.id.0 ≡ n → x.ports ≤ 64 → length ns < 512 → n < 4294967296 → Sound ns es n → Sound (ns ++ x ∷ []) es (n + 1)
+  sound_snoc x e m room more h =
       record {
         rises = rises_snoc id_of 0 ns x h.rises (omega arith) (λ y i. omega (arith, e, h.below y i));
         below = λ y i. ⊎_elim (λ j. omega (arith, h.below y j)) (λ p. let z : y.id.0 ≡ n = ap id_of p ∙ e in omega arith) (in_snoc ns x y i);
@@ -141,6 +147,7 @@ module _ {ns : List Node} {es : List Edge} {n : ℕ} where
         ends = λ d i. let k = h.ends d i in (lives_snoc ns x d.from k.0, lives_snoc ns x d.to k.1);
         few_nodes = omega (arith, length-append ns (x ∷ []), room);
         few_edges = h.few_edges;
+        ids = omega (arith, more);
       }
 
   -- nodes change, and keep their ids and ports
@@ -154,10 +161,11 @@ module _ {ns : List Node} {es : List Edge} {n : ℕ} where
         ends = λ d i. let k = h.ends d i in (lives_map g e ns d.from k.0, lives_map g e ns d.to k.1);
         few_nodes = omega (arith, length-map ns g, h.few_nodes);
         few_edges = h.few_edges;
+        ids = h.ids;
       }
 
-  -- nodes of one id change, and keep their ids and ports
-  pub sound_changed : (k : NodeId) (g : Node → Node) → ((x : Node) → id_of (g x) ≡ id_of x) → ((x : Node) → (g x).ports ≡ x.ports) → Sound ns es n → Sound (map (λ x. cond (is_node k x) (g x) x) ns) es n
+  -- the node of one id changes, and keeps its id and ports
+  pub sound_changed : (k : NodeId) (g : Node → Node) → ((x : Node) → id_of (g x) ≡ id_of x) → ((x : Node) → (g x).ports ≡ x.ports) → Sound ns es n → Sound (changed_at k g ns) es n
   sound_changed k g e m h = sound_map (λ x. cond (is_node k x) (g x) x) (λ x. same x (is_node k x)) (λ x. kept x (is_node k x)) h
     where
       same : (x : Node) (b : Bool) → id_of (cond b (g x) x) ≡ id_of x
@@ -168,8 +176,21 @@ module _ {ns : List Node} {es : List Edge} {n : ℕ} where
       kept x true = m x
       kept x false = refl
 
-  pub sound_reported : (k : NodeId) (level : Float) (done : Bool) → Sound ns es n → Sound (reported_at k level done ns) es n
-  sound_reported k level done h = sound_changed k (reported level done) (λ x. refl) (λ x. refl) h
+-- the node of an id is the only one, where ids rise: changed in its place, it is replaced
+pub changed_is : (v : GraphView) (k : NodeId) (g : Node → Node) → ((x : Node) → id_of (g x) ≡ id_of x) → Sound v.nodes v.edges v.next
+    → with_nodes v (changed_at k g v.nodes) ≡ changed_node (node_at v.nodes k) g v
+changed_is v k g e h = go (node_at v.nodes k) refl
+  where
+    row : (n : Node) → node_at v.nodes k ≡ Some n → (m : Node) → In m v.nodes → (b : Bool) → is_node k m ≡ b → cond b (g m) m ≡ cond b (g n) m
+    row n f m j true s = ap g (some_inj (sym (rises_once id_of 0 v.nodes h.rises k.0 m j s) ∙ f))
+    row n f m j false s = refl
+
+    go : (o : Option Node) → node_at v.nodes k ≡ o → with_nodes v (changed_at k g v.nodes) ≡ changed_node o g v
+    go None f = ap (with_nodes v) (changed_none (is_node k) g v.nodes f)
+    go (Some n) f =
+        let i = find_in (is_node k) v.nodes n f in
+        let same : (g n).id.0 ≡ k.0 = e n ∙ eqb-true _ _ i.1 in
+        ap (with_nodes v) (map_same _ _ v.nodes (λ m j. row n f m j (is_node k m) refl ∙ ap (λ z. cond (eqb m.id.0 z) (g n) m) (sym same)))
 
 -- the ids of the rows of one id
 ids_one : (k : NodeId) (ns : List Node) → Lone (is_node k) ns → is_some (node_at ns k) ≡ true → k.0 ∷ [] ≡ ids_of (is_node k) ns

@@ -4,3 +4,4 @@ pub mod Bits
 pub mod Together
 pub mod Kept
 pub mod Ports
+pub mod Grown

@@ -6,3 +6,4 @@ pub mod Tables
 pub mod Sound
 pub mod Does
 pub mod Taken
+pub mod Grown

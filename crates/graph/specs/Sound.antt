@@ -1,5 +1,5 @@
 -- What is true of every graph: ids rise and lie below the next one, no node has more than 64 ports, a port has one edge at most, the ends of
--- each edge live, and no table has more rows than it has places.
+-- each edge live, no table has more rows than it has places, and no more ids are given out than there are.
 use Rattle.std.specs.Prelude.{ℕ, ◌<◌, ◌≤◌, ◌≡◌, List, true, is_some, length}
 use Rattle.lists.specs.Member.{In}
 use Rattle.lists.specs.Rising.{RisesFrom}
@@ -25,3 +25,4 @@ pub record Sound (nodes : List Node) (edges : List Edge) (next : ℕ) : Type 0 w
   pub ends : (e : Edge) → In e edges → Lives nodes e.from × Lives nodes e.to
   pub few_nodes : length nodes ≤ 512
   pub few_edges : length edges ≤ 1024
+  pub ids : next ≤ 4294967296

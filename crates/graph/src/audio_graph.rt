@@ -2,25 +2,35 @@
 
 ghost use Rattle.std.specs.Prelude.{◌≡◌, not};
 ghost use Rattle.lists.specs.Find.{filter_o};
-ghost use Rattle.edges.specs.Ports.{free_port};
+ghost use Rattle.node.specs.Node.{reported, with_last};
+ghost use Rattle.edges.specs.Ports.{free_port, port_from, sources};
 ghost use Rattle.edges.specs.Wiring.{among};
 ghost use Rattle.graph.specs.View.{new_graph, with_nodes};
-ghost use Rattle.graph.specs.Node.{node_at, host_node, ports_of};
+ghost use Rattle.graph.specs.Node.{node_at, host_node, ports_of, noise_raised};
 ghost use Rattle.graph.specs.Change.{connect, disconnect, append, remove_node, remove_voice, set_sink};
 ghost use Rattle.graph.specs.Tables.{answer_of};
 ghost use Rattle.graph.specs.Refuse.{connect_refusal, disconnect_refusal, host_refusal, add_refusal};
-ghost use Rattle.graph.specs.Does.{unless, added, reported_at};
+ghost use Rattle.graph.specs.Grown.{fits, with_all};
+ghost use Rattle.graph.specs.Does.{unless, added, changed_node};
 
 use crate::edge_table::{
-    self, EdgeTable, drop_edge, drop_touching, edge_row, is_listed, lowest_port, put_edge,
+    self, EdgeTable, drop_edge, drop_touching, edge_row, is_listed, lowest_port, port_from,
+    put_edge, put_new, sources,
 };
 use crate::host::{HostNode, host_node};
-use crate::node_table::{NodeTable, drop_node, drop_owned, ids_owned, node_of, report_at};
+use crate::node_table::{
+    NodeTable, all_join, append_all, drop_node, drop_owned, have_few_ports, ids_owned, joins,
+    node_of, order_at, raise_noise_at, report_at,
+};
 use crate::tests::{host_test, is_bad_kind, port_test, wire_test};
 use arrayvec::ArrayVec;
+use node::order::LastOrder;
 use node::record::{Edge, Node, NodeId, VoiceId};
 use node::refusal::Refusal;
 use std::marker::Model;
+
+// As many ids as there are.
+const ID_LIMIT: u64 = 4294967296;
 
 /// A graph of at most 512 nodes and 1,024 edges, in fixed memory. Ids count from 0 and never return.
 #[derive(Drop)]
@@ -128,16 +138,30 @@ impl AudioGraph {
         self.prepared = false;
     }
 
-    /// The level of the node's block, and whether it is done (SPEC 11.1). Nothing changes where no node has this id.
+    /// The level of the node's block, from 0 on, and whether it is done (SPEC 11.1). Nothing changes where no node has this id.
     pub fn report(&mut self, id: NodeId, level: f32, done: bool)
-        ensures { self.new ≡ with_nodes self.old (reported_at id level done self.old.nodes) }
+        ensures { self.new ≡ changed_node (node_at self.old.nodes id) (reported level done) self.old }
     {
         report_at(&mut self.nodes, id, level, done);
     }
 
+    /// The last order that the node took (SPEC 8.1). Nothing changes where no node has this id.
+    pub fn set_last(&mut self, id: NodeId, order: LastOrder)
+        ensures { self.new ≡ changed_node (node_at self.old.nodes id) (with_last order) self.old }
+    {
+        order_at(&mut self.nodes, id, order);
+    }
+
+    /// The bus counts one voice more: its noise sequence goes on by one, and begins again after 2^32 - 1 (SPEC 9.9).
+    pub fn raise_noise(&mut self, bus: NodeId)
+        ensures { self.new ≡ with_nodes self.old (noise_raised bus self.old.nodes) }
+    {
+        raise_noise_at(&mut self.nodes, bus);
+    }
+
     /// The host adds a node of the kind `kind`, under the next id (SPEC 4.1). Refused, and nothing changes, with 6 if the kind's name has not 1 to 16
     /// bytes, the node more than 64 ports or a required one that it has not, 7 if there are 512 nodes, 8 if all ids are given out.
-    pub fn append(&mut self, kind: &[u8], n: HostNode) -> Result<NodeId, Refusal>
+    pub fn add_node(&mut self, kind: &[u8], n: HostNode) -> Result<NodeId, Refusal>
         ensures answer { result ≡ added (add_refusal self.old kind.now n.ports n.required) self.old.next }
         ensures graph { self.new ≡ unless (add_refusal self.old kind.now n.ports n.required) self.old (append self.old (host_node kind.now n.ports n.required n.takes_values n.takes_glides)) }
     {
@@ -157,6 +181,37 @@ impl AudioGraph {
         Ok(id)
     }
 
+    // Whether these nodes and edges find a place, and the edges lead from and to nodes that live or are among these.
+    fn fits(&self, nodes: &[Node], inner: &[Edge], outer: Edge) -> bool
+        ensures { result ≡ fits self.now nodes.now inner.now outer }
+    {
+        let n = nodes.len();
+        n <= 512 - self.nodes.len()
+            && n as u64 <= ID_LIMIT.saturating_sub(self.next)
+            && inner.len() < 1024 - self.edges.len()
+            && have_few_ports(nodes)
+            && all_join(self.nodes.as_slice(), self.next, n, inner)
+            && joins(self.nodes.as_slice(), self.next, n, outer)
+    }
+
+    /// Puts in nodes, under the next ids, with the edges `inner` to them and the edge `outer` to a node that lives, in place of what fed its port
+    /// (SPEC 9.8). Whether it did: it puts in none of them where one has no room, or more than 64 ports, or an end that does not live.
+    pub fn add_nodes(&mut self, nodes: &[Node], inner: &[Edge], outer: Edge) -> bool
+        ensures answer { result ≡ fits self.old nodes.now inner.now outer }
+        ensures graph { self.new ≡ with_all self.old nodes.now inner.now outer }
+    {
+        if !self.fits(nodes, inner, outer) {
+            return false;
+        }
+        append_all(&mut self.nodes, nodes, self.next);
+        put_new(&mut self.edges, inner, self.next);
+        let row = edge_row(self.edges.as_slice(), outer.to, outer.port);
+        put_edge(&mut self.edges, row, outer);
+        self.next += nodes.len() as u64;
+        self.prepared = false;
+        true
+    }
+
     /// The lowest port of the node without an edge (SPEC 9.6); none where all have one, or where no node has this id.
     pub fn free_port(&self, to: NodeId) -> Option<u32>
         ensures { result ≡ free_port self.now.edges to (ports_of (node_at self.now.nodes to)) }
@@ -174,5 +229,61 @@ impl AudioGraph {
         self.sink = Some(id);
         self.prepared = false;
         Ok(())
+    }
+
+    /// The port of `to` that `from` feeds: the first such edge's.
+    pub fn input_slot_from(&self, from: NodeId, to: NodeId) -> Option<u32>
+        ensures { result ≡ port_from self.now.edges from to }
+    {
+        port_from(self.edges.as_slice(), from, to)
+    }
+
+    /// What feeds each of the ports 0 to 63 of the node.
+    pub fn sources(&self, to: NodeId) -> [Option<NodeId>; 64]
+        ensures { result ≡ sources self.now.edges to }
+    {
+        sources(self.edges.as_slice(), to)
+    }
+
+    /// The live nodes by rising id.
+    pub fn nodes(&self) -> &[Node]
+        ensures { result.now ≡ self.now.nodes }
+    {
+        self.nodes.as_slice()
+    }
+
+    /// The edges in the order in which they were put.
+    pub fn edges(&self) -> &[Edge]
+        ensures { result.now ≡ self.now.edges }
+    {
+        self.edges.as_slice()
+    }
+
+    /// The processing order of the last prepare that was not refused (SPEC 5.2).
+    pub fn order(&self) -> &[NodeId]
+        ensures { result.now ≡ self.now.order }
+    {
+        self.order.as_slice()
+    }
+
+    /// The node that the host hears, if it chose one.
+    pub fn sink(&self) -> Option<NodeId>
+        ensures { result ≡ self.now.sink }
+    {
+        self.sink
+    }
+
+    /// Whether nothing changed since the last prepare that was not refused (SPEC 5.1).
+    pub fn is_prepared(&self) -> bool
+        ensures { result ≡ self.now.prepared }
+    {
+        self.prepared
+    }
+
+    /// The id of the next node, 0 to 2^32; at 2^32 all are given out.
+    pub fn next_id(&self) -> u64
+        ensures { result ≡ self.now.next }
+    {
+        self.next
     }
 }

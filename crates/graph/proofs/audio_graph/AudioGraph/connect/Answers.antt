@@ -1,5 +1,4 @@
 use Rattle.std.proofs.Common.{◌≡◌, ◌∙◌, sym, ap, is_some, None}
-use Rattle.node.specs.declared.record.NodeId.{NodeId}
 use Rattle.graph.specs.View.{GraphView}
 use Rattle.graph.specs.Node.{node_at}
 use Rattle.graph.specs.Refuse.{wire_test}
