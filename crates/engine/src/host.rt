@@ -14,7 +14,7 @@ impl Tables {
     pub fn add_node(&mut self, kind: &[u8], node: HostNode) -> Result<NodeId, Refusal>
         ensures { Called (add_node kind.now node.ports node.required node.takes_values node.takes_glides) self.old (add_answered result) self.new }
     {
-        self.graph.append(kind, node)
+        self.graph.add_node(kind, node)
     }
 
     /// The host removes its node, with the edges that touch it; where it is the sink, there is none (SPEC 4.2). Refused with 4 if it does not
