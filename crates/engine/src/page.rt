@@ -6,9 +6,8 @@ ghost use Rattle.model.specs.Call as call;
 ghost use Rattle.model.specs.Page.{page, port_now};
 ghost use Rattle.engine.specs.Called.{Asked, page_answered};
 
-use crate::Tables;
-use crate::feeding;
 use crate::page_text::{Text, add, put_line};
+use crate::{Tables, feeding};
 use lists::byte::copy;
 use node::record::Edge;
 use node::refusal::Refusal;
