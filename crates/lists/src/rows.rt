@@ -4,7 +4,7 @@ ghost use Rattle.lists.specs.Table.{rows_of};
 
 // An array and how many of its rows count, from the front on; a count above the capacity is the capacity. The project has no heap, so that
 // its capacity is part of the type.
-#[derive(Clone, Copy)]
+#[derive(Clone, Copy, Default)]
 pub struct Table<T: Copy, const N: usize> {
     pub rows: [T; N],
     pub count: usize,

@@ -1,22 +1,15 @@
 -- Clearing (`free_done_synths`): "first the voices whose fade has ended, in voice order, then those whose done plan is silent;
 -- it answers how many it removed."
-use Rattle.std.specs.Prelude.{ℕ, ◌+◌, min, List, [], ◌∷◌, map, Bool, false, leb, length, Option, None, Some, filter}
+use Rattle.std.specs.Prelude.{ℕ, ◌+◌, min, List, [], ◌∷◌, map, Bool, false, length, Option, None, Some, filter}
 use Rattle.node.specs.declared.record.Node.{Node}
 use Rattle.rank.specs.Order.{upto}
 use Rattle.graph.specs.Node.{node_at}
 use Rattle.synthdef.specs.Plan.{plan_silent}
-use Rattle.store.specs.declared.voices.Voice.{Voice}
-use Rattle.store.specs.declared.voices.VoiceState.{VoiceState}
-use Rattle.store.specs.declared.voices.VoiceState.TheVariants.{Tracked, Fading, Loose}
+use Rattle.voice.specs.declared.voices.Voice.{Voice}
 use Rattle.model.specs.SharedState.{length_l}
-use Rattle.model.specs.Voice.{id}
+pub use Rattle.voice.specs.Voice.{ended}
+use Rattle.voice.specs.Voice.{id}
 use Rattle.model.specs.Model.{Model, without_voice}
-
--- a fade "ends when position reaches L"
-abbrev pub ended : ℕ → VoiceState → Bool
-ended len Tracked = false
-ended len (Fading f) = leb len f.position
-ended len Loose = false
 
 -- the done flags of a voice's definition's nodes, by their places
 abbrev pub done_flag : Option Node → Bool

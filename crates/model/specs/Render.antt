@@ -1,5 +1,5 @@
 -- Prepare and render.
-use Rattle.std.specs.Prelude.{ℕ, ◌+◌, min, List, [], ◌∷◌, map, Bool, true, false, ◌||◌, cond, ltb, Option, None, find, Result, Err, Ok}
+use Rattle.std.specs.Prelude.{ℕ, ◌+◌, List, [], ◌∷◌, map, Bool, true, false, ◌||◌, cond, ltb, Option, None, find, Result, Err, Ok}
 use Rattle.node.specs.declared.order.EventAction.{EventAction}
 use Rattle.node.specs.declared.record.NodeId.{NodeId}
 use Rattle.node.specs.declared.refusal.Refusal.{Refusal}
@@ -10,11 +10,12 @@ use Rattle.scheduler.specs.Queue.{taken_before, left_after}
 use Rattle.scheduler.specs.declared.event.Event.{Event}
 use Rattle.store.specs.declared.answer.Outcome.{Outcome}
 use Rattle.store.specs.declared.answer.Rendered.{Rendered}
-use Rattle.store.specs.declared.voices.Voice.{Voice}
+use Rattle.voice.specs.declared.voices.Voice.{Voice}
 use Rattle.graph.specs.View.{prepared_by}
 use Rattle.graph.specs.Refuse.{when}
 use Rattle.model.specs.SharedState.{SharedState, with_graph, with_events, with_clock, sounding}
-use Rattle.model.specs.Voice.{moved, is_voice}
+pub use Rattle.voice.specs.Voice.{further}
+use Rattle.voice.specs.Voice.{moved, is_voice}
 use Rattle.model.specs.Model.{Model, free}
 use Rattle.model.specs.Order.{order, outcome_number, free_outcome}
 
@@ -61,10 +62,7 @@ abbrev pub outcomes : List Event → Model → List ℕ
 outcomes [] m = []
 outcomes (e ∷ l) m = outcome_number (outcome_of e m) ∷ outcomes l (apply_event e m)
 
--- ---- a fade's position "gains the block size at each sounding render". No run reaches 2^64 - 1 samples.
-abbrev pub further : ℕ → ℕ → ℕ
-further block position = min (position + block) 18446744073709551615
-
+-- ---- a fade's position "gains the block size at each sounding render"
 abbrev pub moved_if : Bool → ℕ → List Voice → List Voice
 moved_if true block vs = map (moved (further block)) vs
 moved_if false block vs = vs

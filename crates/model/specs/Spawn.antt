@@ -1,5 +1,5 @@
 -- What a spawn puts into the graph, and who is removed for it: the parts of 01's "Managed spawn" that do not ask who holds a port.
-use Rattle.std.specs.Prelude.{ℕ, ◌+◌, List, [], ◌∷◌, ◌++◌, map, Bool, true, false, not, cond, ◌&&◌, leb, length, pos, Float, Option, None, Some, find}
+use Rattle.std.specs.Prelude.{ℕ, ◌+◌, List, [], ◌∷◌, ◌++◌, map, Bool, true, false, not, cond, ◌&&◌, length, pos, Float, Option, None, Some, find}
 use Rattle.std.specs.Float.{fin}
 use Rattle.std.specs.Float.Ieee.{eq}
 use Rattle.node.specs.Node.{new_node}
@@ -19,12 +19,14 @@ use Rattle.synthdef.specs.Plan.{plan_of}
 use Rattle.synthdef.specs.declared.def.DefNode.{DefNode}
 use Rattle.synthdef.specs.declared.def.DefEdge.{DefEdge}
 use Rattle.synthdef.specs.declared.def.SynthDef.{SynthDef}
-use Rattle.store.specs.declared.voices.Voice.{Voice}
-use Rattle.store.specs.declared.voices.VoiceState.{VoiceState}
-use Rattle.store.specs.declared.voices.VoiceState.TheVariants.{Tracked, Fading, Loose}
-use Rattle.store.specs.declared.voices.Fade.{Fade}
+use Rattle.voice.specs.declared.voices.Voice.{Voice}
+use Rattle.voice.specs.declared.voices.VoiceState.{VoiceState}
+use Rattle.voice.specs.declared.voices.VoiceState.TheVariants.{Tracked, Fading, Loose}
+use Rattle.voice.specs.declared.voices.Fade.{Fade}
 use Rattle.model.specs.SharedState.{SharedState, with_graph, with_steals, one_more_voice}
-use Rattle.model.specs.Voice.{is_voice, start_of, id, feeder, voice_level, candidates, tracked_on, fades_on, new_fade}
+pub use Rattle.voice.specs.Voice.{no_later, earlier, earliest}
+use Rattle.voice.specs.Voice.{is_voice, id, feeder, tracked_on, fades_on, new_fade}
+use Rattle.model.specs.Voice.{voice_level, candidates}
 
 -- ---- the arguments of a spawn. 02, Paper 13: "a rank 0 to 7, given at spawn": it comes as a number of any size, and 26 refuses those above 7
 pub record Spawn : Type 0 where
@@ -163,18 +165,6 @@ reclaim_log v Loose d = d.steals
 abbrev pub voice_of : Victim → List Voice → Option Voice
 voice_of None vs = None
 voice_of (Some (place, w)) vs = find (is_voice w) vs
-
--- "the earliest-started fade of that bus (ties by voice order)"
-abbrev pub no_later : Voice → Voice → Bool
-no_later v u = leb (start_of v.state) (start_of u.state)
-
-abbrev pub earlier : Option Voice → Bool → Voice → Option Voice
-earlier None b v = cond b (Some v) None
-earlier (Some u) b v = cond (b && no_later v u) (Some v) (Some u)
-
-abbrev pub earliest : (Voice → Bool) → List Voice → Option Voice
-earliest q [] = None
-earliest q (v ∷ vs) = earlier (earliest q vs) (q v) v
 
 -- "else ... the policy's victim among tracked voices of that bus"
 abbrev pub else_victim : Option Voice → Option Voice → Option Voice

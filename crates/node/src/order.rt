@@ -36,10 +36,11 @@ pub enum LastOrder {
 
 // What an event does to its voice. The name of its parameter stands beside it, in the event. It has two cases of `LastOrder`, and does not hold
 // one: an event with no order would be a fifth case, which nobody schedules.
-#[derive(Clone, Copy)]
+#[derive(Clone, Copy, Default)]
 pub enum EventAction {
     Value(f32),
     Glide(Glide),
     Gate(f32),
+    #[default]
     Free,
 }

@@ -13,12 +13,8 @@ use Rattle.lists.specs.Member.{In}
 use Rattle.std.specs.Prelude.{cond, filter}
 use Rattle.lists.proofs.Filter.{in_filter, filter_all, filter_none}
 use Rattle.scheduler.specs.declared.event.Event.{Event}
+pub use Rattle.scheduler.specs.Sorted.{Sorted}
 use Rattle.scheduler.specs.Queue.{later, before?, inserted, due, taken_before, left_after}
-
--- no event is later than one that follows it
-abbrev pub Sorted : List Event → Type 0
-Sorted [] = Unit
-Sorted (e ∷ l) = ((f : Event) → In f l → e.time ≤ f.time) × Sorted l
 
 pub in_inserted : (e : Event) (l : List Event) (x : Event) → In x (inserted e l) → (x ≡ e) ⊎ In x l
 in_inserted e [] x (inl p) = inl p

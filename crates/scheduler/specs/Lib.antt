@@ -1,3 +1,4 @@
 pub mod Event
 pub mod Replace
 pub mod Queue
+pub mod Sorted

@@ -7,7 +7,7 @@ use node::record::VoiceId;
 
 // An action at a sample time. A value and a glide are for the parameter `name`; a gate and a free do not look at it, and hold it all the same: a
 // call from C gives one with every action. A name that is not 1 to 16 bytes is held, and matches no parameter.
-#[derive(Clone, Copy)]
+#[derive(Clone, Copy, Default)]
 pub struct Event {
     pub time: u64,
     pub voice: VoiceId,

@@ -29,7 +29,7 @@ pub struct DefEdge {
 }
 
 // A parameter: orders by that name go to the definition's node `node`.
-#[derive(Clone, Copy)]
+#[derive(Clone, Copy, Default)]
 pub struct Param {
     pub name: Name,
     pub node: u8,

@@ -12,7 +12,7 @@ use std::array;
 // The sources that the rule of a node reads, the first `count` of `sources`: where `all` is set, all of them have to be silent for the node
 // to be, else one. No `Table` of lists: its count is a byte, as the words of a voice hold it. `all` is a flag there too: an enum of the two
 // would be made of it and taken apart again.
-#[derive(Clone, Copy)]
+#[derive(Clone, Copy, Default)]
 pub struct DoneStep {
     pub all: bool,
     pub count: u8,
@@ -27,7 +27,7 @@ const NEVER: DoneStep = DoneStep {
 };
 
 // How done nodes silence a definition's output: a step for each node by its place in the definition.
-#[derive(Clone, Copy)]
+#[derive(Clone, Copy, Default)]
 pub struct DonePlan {
     pub steps: [DoneStep; 24],
     pub output: u8,

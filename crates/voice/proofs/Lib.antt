@@ -8,3 +8,7 @@ pub mod Records
 pub mod FloatOrder
 pub mod Quietest
 pub mod Ranks
+pub mod Walked
+pub mod Numbered
+pub mod Earliest
+pub mod Counted

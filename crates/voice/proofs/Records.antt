@@ -9,7 +9,7 @@ use lib.ListN.{length, drop, get_or, set}
 use borrow.Author.Tests.{le-leb, lt-leb}
 use Rattle.voice.specs.declared.steals.StealRecord.{StealRecord}
 use Rattle.voice.specs.declared.steals.Steals.{Steals}
-use Rattle.voice.specs.Steals.{last_of, turned, log_of, pushed, marked, cut_of, cut_at, found_at}
+use Rattle.voice.specs.Steals.{last_of, turned, log_of, pushed, marked, cut_of, cut_at, found_at, numbered}
 use Rattle.voice.proofs.Ring.{turned_long, turned_push, turned_set, turned_get, last_long, last_push, last_set, last_get}
 
 -- ---- a list of records
@@ -29,7 +29,7 @@ found_in d i [] h = absurd (omega arith)
 found_in d zero (r ∷ l) h = refl
 found_in d (suc i) (r ∷ l) h = let k : i < length l = omega arith in found_in d i l k
 
-found_out : (i : ℕ) (l : List StealRecord) → length l ≤ i → found_at i l ≡ None
+pub found_out : (i : ℕ) (l : List StealRecord) → length l ≤ i → found_at i l ≡ None
 found_out i [] h = refl
 found_out zero (r ∷ l) h = absurd (omega arith)
 found_out (suc i) (r ∷ l) h = let k : length l ≤ i = omega arith in found_out i l k
@@ -142,3 +142,34 @@ module _ (s : Steals) (long : length s.rows ≡ 64) where
       let same : min s.total 64 - (min s.total 64 - i) ≡ i = omega arith in
       ap Some (sym (back_get d (min s.total 64 - i) q held new at) ∙ ap (λ j. get_or (log_of s).newest j d) same)
       ∙ sym (found_in d i (log_of s).newest inside)
+
+  -- ---- a reading by number
+
+  pub numbered_late : (k : ℕ) → s.total ≤ k → None ≡ numbered k (log_of s)
+  numbered_late k h =
+      let l = (log_of s).newest in
+      let first = s.total - length l in
+      let b = log_long in
+      let le : first ≤ k = omega arith in
+      let over : length l ≤ k - first = omega arith in
+      sym (ap (λ t. cond t (found_at (k - first) l) None) (le-leb first k le) ∙ found_out (k - first) l over)
+
+  pub numbered_early : (k : ℕ) → 64 < s.total - k → None ≡ numbered k (log_of s)
+  numbered_early k h =
+      let l = (log_of s).newest in
+      let first = s.total - length l in
+      let b = log_long in
+      let lt : k < first = omega arith in
+      sym (ap (λ t. cond t (found_at (k - first) l) None) (lt-leb first k lt))
+
+  pub numbered_held : (d : StealRecord) (k q : ℕ) → k < s.total → s.total - k ≤ 64 → q ≡ (s.next % 64 + (64 - (s.total - k))) % 64
+      → Some (get_or s.rows q d) ≡ numbered k (log_of s)
+  numbered_held d k q h near at =
+      let l = (log_of s).newest in
+      let first = s.total - length l in
+      let b = log_long in
+      let le : first ≤ k = omega arith in
+      let i : k - first < min s.total 64 = omega arith in
+      let same : min s.total 64 - (k - first) ≡ s.total - k = omega arith in
+      let place : q ≡ (s.next % 64 + (64 - (min s.total 64 - (k - first)))) % 64 = at ∙ ap (λ n. (s.next % 64 + (64 - n)) % 64) (sym same) in
+      read_held d (k - first) q i place ∙ sym (ap (λ t. cond t (found_at (k - first) l) None) (le-leb first k le))

@@ -1,3 +1,5 @@
 pub mod Policy
 pub mod Quietest
 pub mod Steals
+pub mod Voice
+pub mod Voices

@@ -59,6 +59,12 @@ found_at i [] = None
 found_at zero (r ∷ l) = Some r
 found_at (suc i) (r ∷ l) = found_at i l
 
+-- the record of the number k, if it is still held
+abbrev pub numbered : ℕ → StealLog → Option StealRecord
+numbered k b =
+    let first = b.count - length b.newest in
+    cond (leb first k) (found_at (k - first) b.newest) None
+
 -- ---- the ring
 
 -- the ring from its oldest place on: the next place is the oldest

@@ -1,5 +1,7 @@
-// Policies, budgets, candidates and steal records: types and definitions. Crate voice_policy has the code.
+//! Voices, the policy by which one gives way to another, and the record of the steals.
 #![tactic(auto)]
 
 pub mod policy;
+pub mod steal_ring;
 pub mod steals;
+pub mod voices;
