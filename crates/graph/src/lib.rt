@@ -1,6 +1,8 @@
-// The graph of the store as plain lists: what the host's calls on it refuse and what they leave; a new node of the host, and the test of
-// its kind. The calls themselves work on lent tables, in crates graph_tables and call_host.
+//! The graph of the store: `AudioGraph`, and the record of a host's node. Its definitions speak of plain lists (specs/View.antt).
 #![tactic(auto)]
 
+pub mod audio_graph;
+mod edge_table;
 pub mod host;
+mod node_table;
 pub mod tests;

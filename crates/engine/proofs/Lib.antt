@@ -1,0 +1,4 @@
+pub mod Calls
+pub mod Digits
+pub mod Newly
+pub mod Texts

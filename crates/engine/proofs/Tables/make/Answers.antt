@@ -1,0 +1,10 @@
+use Rattle.std.proofs.Common.{◌∙◌, sym, refl}
+use Rattle.std.proofs.lemmas.Result.{err_from_is_err_and}
+use Rattle.model.specs.Make.{refusal_of}
+use Rattle.engine.proofs.Newly.{why}
+use Rattle.engine.proofs.Tables.make.Goals as goal
+
+pub returns-in_err-config : goal.returns-in_err-config
+returns-in_err-config c =
+    let p = err_from_is_err_and c.from_residual.result c.from_residual.ensures.1 in
+    rw (p.1, p.2) (why (refusal_of c.args.making) _ (sym c.in_err-config.was ∙ c.config_of.ensures), refl)

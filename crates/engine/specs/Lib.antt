@@ -1,0 +1,4 @@
+pub mod Called
+pub mod Made
+pub mod Reached
+pub mod Text

@@ -1,0 +1,1 @@
+//! Clearing: the voices whose fade has ended, and those that are silent.

@@ -1,0 +1,1 @@
+//! Freeing a voice.
