@@ -1,6 +1,6 @@
 //! The graph as one value: nodes by rising id, edges in the order in which they were put, the sink, and the processing order.
 
-ghost use Rattle.std.specs.Prelude.{◌≡◌, not};
+ghost use Rattle.std.specs.Prelude.{◌≡◌, ◌+◌, not};
 ghost use Rattle.lists.specs.Find.{filter_o};
 ghost use Rattle.node.specs.Node.{reported, with_last};
 ghost use Rattle.edges.specs.Ports.{free_port, port_from, sources};
@@ -87,6 +87,15 @@ impl AudioGraph {
         ensures { result ≡ node_at self.now.nodes id }
     {
         node_of(self.nodes.as_slice(), id)
+    }
+
+    /// The node whose id is `place` above `first`, if it lives: no id of 2^32 or above does.
+    pub fn node_past(&self, first: NodeId, place: u32) -> Option<Node>
+        ensures { result ≡ node_at self.now.nodes (record { 0 = first.0 + place }) }
+    {
+        let nodes = self.nodes.as_slice();
+        let id = first.0.checked_add(place)?;
+        node_of(nodes, NodeId(id))
     }
 
     /// The output of `from` feeds the port `port` of `to`, in place of what fed it (SPEC 4.3). Refused, and nothing changes, with 4 if one of them
