@@ -94,6 +94,13 @@ impl Store {
         self.tables.set_sink(node)
     }
 
+    /// See `Tables::prepare`.
+    pub fn prepare(&mut self) -> Result<(), Refusal>
+        ensures { Called call.prepare self.old (answered result) self.new }
+    {
+        self.tables.prepare()
+    }
+
     /// See `Tables::schedule`.
     pub fn schedule(
         &mut self,
