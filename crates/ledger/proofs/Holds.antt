@@ -39,7 +39,8 @@ use Rattle.graph.specs.Refuse.{add_refusal}
 use Rattle.node.specs.declared.record.VoiceId.{VoiceId}
 use Rattle.node.specs.declared.refusal.Refusal.{Refusal}
 use Rattle.store.specs.declared.voices.VoiceState.{VoiceState}
-use Rattle.refusals.proofs.Spawn.{admissible}
+use Rattle.refusals.specs.Spawn.{May}
+use Rattle.refusals.proofs.Spawn.{admissible, loose_answers}
 use Rattle.ledger.specs.Ledger.{Ledger}
 use Rattle.ledger.specs.Clear as ledger
 use Rattle.ledger.specs.Call.{step}
@@ -58,6 +59,7 @@ use Rattle.ledger.proofs.Marks.{fate_voices, log_stays, marks, tallies, spawned_
 use Rattle.ledger.proofs.FadeEnds.{leaves_removed}
 use Rattle.ledger.proofs.Clearing.{cleared_voices, cleared_count}
 use Rattle.ledger.proofs.SpawnFailure.{spawn_answer_lem}
+use Rattle.ledger.proofs.SpawnRows.{managed_answers, none_let}
 use Rattle.ledger.proofs.Owner.{owner_some}
 use Rattle.ledger.proofs.Ready.{ReadyOf, prepared_sorted, prepared_same, render_sounds}
 use Rattle.ledger.proofs.Losses.{losses}
@@ -214,6 +216,17 @@ module _ (c : Config) (l : Ledger) (known : Known c l) where
             λ i. let r = in_map (λ (y : Node). y.id.0) g.nodes k.0 i in let b = known.ready.rows.below r.0 r.1 in let x = r.2 in omega (arith, b, x, m),
           )
 
+  -- ---- spawns
+  few : (n : ℕ) → c.budget ≡ Some n → (bus : NodeId) → count (counted c.scope bus) (map (shown c) l.voices) ≤ n
+  few n b bus = subst (λ z. z ≤ n) (sym (count_map (shown c) (counted c.scope bus) (counted c.scope bus) (counted_same (λ n. n * c.block) c.scope bus) l.voices)) (known.budget n b bus)
+
+  may_answer : (x : Spawn) → May x (store_of c l) → (call.step (call.spawn_managed x) (store_of c l)).answer ≡ call.spawned (spawn_answer x.bus x.rank (store_of c l))
+  may_answer x may =
+      next (call.spawn_managed x) (λ z. z.answer ≡ call.spawned (spawn_answer x.bus x.rank (store_of c l)))
+      (spawn_answer_lem x l known.kept.sound (λ b v i. (known.loose (sym (ap (λ (z : Config). z.budget) is) ∙ b)).voices v i)
+      (sym (refusal_same c l.shared l.voices x.def x.bus x.rank) ∙ (admissible l.shared (map (shown c) l.voices) x.def x.bus x.rank).1 may)
+      ∙ ap call.spawned (sym (answer_same c x.bus x.rank l is known.kept.sound)))
+
   -- ---- the page's column: what the ledger knows of a voice, of the voice as the store shows it
   column : (v : Voice) → In v (map (shown c) l.voices) → Shows (store_of c l) v
   column v i = let w = in_map (shown c) l.voices v i in subst (Shows (store_of c l)) (sym w.2) (at w.0 w.1)
@@ -248,7 +261,7 @@ module _ (c : Config) (l : Ledger) (known : Known c l) where
         losses = λ x. next (call.spawn_managed x) (λ t. Losses x (store_of c l) t.model) (losses_shown c x l (step (call.spawn_managed x) l).ledger known.kept.sound (losses x l r q));
         numbers = λ v i f e. let w = was c l.voices v i f e in subst (λ (g : Fade). g.number < l.shared.steals.count) (sym w.moves) (r.numbers w.voice w.member w.fade w.state);
         own = own;
-        budget = λ n b bus. subst (λ z. z ≤ n) (sym (count_map (shown c) (counted c.scope bus) (counted c.scope bus) (counted_same (λ n. n * c.block) c.scope bus) l.voices)) (known.budget n b bus);
+        budget = few;
         loose = λ b.
             let a = known.loose b in
             record {
@@ -258,10 +271,10 @@ module _ (c : Config) (l : Ledger) (known : Known c l) where
         stay = λ b x v i. next (call.spawn_managed x) (λ t. In v t.model.voices) (
             let w = in_map (shown c) l.voices v i in
             subst (λ z. In z (map (shown c) (step (call.spawn_managed x) l).ledger.voices)) (sym w.2) (in_of_map (shown c) (step (call.spawn_managed x) l).ledger.voices w.0 (known.stay b x w.0 w.1)));
-        spawns = λ x may. next (call.spawn_managed x) (λ z. z.answer ≡ call.spawned (spawn_answer x.bus x.rank (store_of c l)))
-            (spawn_answer_lem x l known.kept.sound (λ b v i. (known.loose (sym (ap (λ (z : Config). z.budget) is) ∙ b)).voices v i)
-            (sym (refusal_same c l.shared l.voices x.def x.bus x.rank) ∙ (admissible l.shared (map (shown c) l.voices) x.def x.bus x.rank).1 may)
-            ∙ ap call.spawned (sym (answer_same c x.bus x.rank l is known.kept.sound)));
+        spawns = may_answer;
+        managed = λ x. managed_answers x (store_of c l) (may_answer x);
+        unmanaged = λ x. loose_answers x (store_of c l);
+        none_let = λ b x may. none_let x (store_of c l) (may_answer x) (ap (λ (z : Config). z.budget) is ∙ b) (subst (λ (z : Config). count (counted z.scope x.bus) (map (shown c) l.voices) ≤ 0) (sym is) (few 0 b x.bus)) may;
         arrives = λ x w. next (call.spawn_managed x) (λ t. t.answer ≡ call.spawned (Ok w) → Arrives x (state_under c.budget) w (store_of c l) t.model) (managed_arrives x w);
         arrives_loose = λ x w. next (call.spawn_loose x) (λ t. t.answer ≡ call.spawned (Ok w) → Arrives x Loose w (store_of c l) t.model) (λ e.
             arrives_shown (call.spawn_loose x) x Loose refl w (loose_comes x l w (spawned_inj e)));

@@ -31,6 +31,7 @@ pub mod Clearing
 pub mod Begins
 pub mod History
 pub mod SpawnFailure
+pub mod SpawnRows
 pub mod Spawning
 pub mod Rows
 pub mod Ready

@@ -13,7 +13,7 @@ use Rattle.node.specs.declared.record.Node.{Node}
 use Rattle.node.specs.declared.record.NodeId.{NodeId}
 use Rattle.node.specs.declared.record.VoiceId.{VoiceId}
 use Rattle.node.specs.declared.refusal.Refusal.{Refusal}
-use Rattle.node.specs.declared.refusal.Refusal.TheVariants.{Rejected, NoPort}
+use Rattle.node.specs.declared.refusal.Refusal.TheVariants.{UnknownNode, VoiceNode, TableFull, IdsUsedUp, DefinitionLimits, BusWithoutPorts, Rejected, NoPort, RankTooHigh}
 use Rattle.bus.specs.Block as samples
 use Rattle.bus.specs.Fade.{fade_length, fade_output}
 use Rattle.fade_table.specs.Table.{entries}
@@ -55,7 +55,7 @@ use Rattle.model.specs.Model.{Model, admission_on}
 use Rattle.model.specs.Page.{port_now}
 use Rattle.model.specs.Call.{Call, Answer}
 use Rattle.model.specs.Call as call
-use Rattle.refusals.specs.Spawn.{May}
+use Rattle.refusals.specs.Spawn.{May, spawn_when, SpawnAnswers, loose_rows, loose_when}
 use Rattle.ledger.specs.Holder.{Holder, nobody, host, voice}
 use Rattle.ledger.specs.Ledger.{Ledger, new_ledger}
 use Rattle.ledger.specs.Call.{run}
@@ -331,6 +331,31 @@ answer_when false false w = Ok w
 abbrev pub spawn_answer : NodeId → ℕ → Model → Result VoiceId Refusal
 spawn_answer bus r s = answer_when (outranked s.shared.config bus r s.voices) (blocked bus r s) (next_voice s.shared)
 
+-- Every refusal of a managed spawn, from the top: SPEC 9.1. Those before 11 are the rows of crate refusals.
+abbrev pub managed_rows : List Refusal
+managed_rows = RankTooHigh ∷ DefinitionLimits ∷ UnknownNode ∷ VoiceNode ∷ BusWithoutPorts ∷ TableFull ∷ IdsUsedUp ∷ Rejected ∷ NoPort ∷ []
+
+-- 11: as many voices count as the budget allows, or more, and the policy takes nobody or all of them outrank the new voice
+pub record AtBudget (x : Spawn) (s : Model) : Type 0 where
+  pub most : ℕ
+  pub budget : s.shared.config.budget ≡ Some most
+  pub reached : most ≤ count (counted s.shared.config.scope x.bus) s.voices
+  pub nobody : (s.shared.config.policy ≡ policy.Reject) ⊎ ((v : Voice) → In v s.voices → counted s.shared.config.scope x.bus v ≡ true → x.rank < v.rank)
+
+-- the ports of the bus
+abbrev pub EachPort : NodeId → Model → (ℕ → Type 0) → Type 0
+EachPort bus s held = (p : ℕ) → p < ports_of (node_at s.shared.graph.nodes bus) → held p
+
+-- who holds the port p of the bus
+abbrev pub port_holder : NodeId → Model → ℕ → Holder
+port_holder bus s p = holder_at s.shared.graph.nodes s.shared.graph.edges bus.0 p
+
+abbrev pub managed_when : Spawn → Model → Refusal → Type 0
+managed_when x s Rejected = AtBudget x s
+-- 12: every port of the bus is held, and none by a voice that goes
+managed_when x s NoPort = EachPort x.bus s (λ p. by_other s.shared.config.policy x.bus x.rank s.voices (port_holder x.bus s p) ≡ true)
+managed_when x s r = spawn_when x s r
+
 -- "The newcomer takes the next id and the port found": after the spawn x, which made of s the store s', the voice w is there, on the bus
 -- and in that state, has the rank that was given, and holds its port
 pub record Arrives (x : Spawn) (state : VoiceState) (w : VoiceId) (s s' : Model) : Type 0 where
@@ -403,6 +428,12 @@ pub record Holds (c : Config) (s : Model) : Type 0 where
   -- exactly when it is at budget and the policy takes nobody or all that count outrank it; else with 12 exactly when every port of its bus is held
   -- by somebody who is neither a fading voice of that bus nor one that the policy may take; else it answers the next voice id.
   pub spawns : (x : Spawn) → May x s → (call.step (call.spawn_managed x) s).answer ≡ call.spawned (spawn_answer x.bus x.rank s)
+  -- With what is asked before that, this is one list: 26, 9, 4, 5, 10, 7, 8, 11, 12, the first that holds. So for an unmanaged spawn, without 11,
+  -- and 12 exactly when no port of its bus is free.
+  pub managed : (x : Spawn) → SpawnAnswers (managed_when x s) managed_rows (call.spawn_managed x) s
+  pub unmanaged : (x : Spawn) → SpawnAnswers (loose_when x s) loose_rows (call.spawn_loose x) s
+  -- with a budget of 0 nobody is let in, whatever the policy
+  pub none_let : c.budget ≡ Some 0 → (x : Spawn) → May x s → (call.step (call.spawn_managed x) s).answer ≡ call.spawned (Err Rejected)
   -- A spawn that answers a voice has let it in, "tracked under a budget", or loose. A node that is answered is there, and was not before.
   pub arrives : (x : Spawn) (w : VoiceId) → (call.step (call.spawn_managed x) s).answer ≡ call.spawned (Ok w) → Arrives x (state_under c.budget) w s (call.step (call.spawn_managed x) s).model
   pub arrives_loose : (x : Spawn) (w : VoiceId) → (call.step (call.spawn_loose x) s).answer ≡ call.spawned (Ok w) → Arrives x Loose w s (call.step (call.spawn_loose x) s).model

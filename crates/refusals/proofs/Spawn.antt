@@ -1,20 +1,23 @@
 -- A spawn is refused by the rows, and exactly so; and it may come exactly when none of their conditions holds.
 use Prim.Native.Nat.{ℕ, zero, suc, ◌+◌, ◌≤◌, ◌<◌}
 use native.Mathlib.Omega.{arith}
-use mathlib.Core.Path.{◌≡◌, refl, sym, ap, ◌∙◌, subst}
+use mathlib.Core.Path.{◌≡◌, refl, sym, ap, ap₂, ◌∙◌, subst}
 use mathlib.Core.Logic.{◌⊎◌, ◌↔◌, inl, inr}
 use mathlib.Core.List.{List, [], ◌∷◌}
-use mathlib.Core.Bool.{Bool, true, false, not, ◌||◌, true≢false}
-use Rattle.std.specs.Prelude.{Option, None, Some, find, Result, Ok, Err}
+use mathlib.Core.Bool.{Bool, true, false, not, ◌&&◌, ◌||◌, true≢false}
+use Rattle.std.specs.Prelude.{Option, None, Some, find, cond, is_some, Result, Ok, Err}
 use lib.ListN.{length}
 use lib.Dec.{eqb, leb, ltb}
 use borrow.Author.Tests.{ltb-true, ltb-false, leb-true, leb-false, eqb-true, eqb-false, eq-eqb, not-true, not-false}
 use Rattle.std.proofs.lemmas.Bool.{or_parts}
 use Rattle.lists.specs.Member.{In}
-use Rattle.lists.proofs.Member.{some_inj, none_some}
-use Rattle.lists.proofs.Find.{find_none, none_find}
+use Rattle.lists.proofs.Member.{some_inj, none_some, and_left, and_right}
+use Rattle.lists.proofs.Find.{find_in, find_none, none_find}
 use Rattle.node.specs.declared.record.NodeId.{NodeId}
 use Rattle.node.specs.declared.record.Node.{Node}
+use Rattle.node.specs.declared.record.Edge.{Edge}
+use Rattle.edges.specs.Wiring.{ends_at, taken}
+use Rattle.edges.specs.Ports.{lowest}
 use Rattle.node.specs.declared.record.VoiceId.{VoiceId}
 use Rattle.node.specs.declared.refusal.Refusal.{Refusal}
 use Rattle.node.specs.declared.refusal.Refusal.TheVariants.{UnknownNode, VoiceNode, TableFull, IdsUsedUp, DefinitionLimits, BusWithoutPorts, Rejected, NoPort, RankTooHigh}
@@ -32,13 +35,14 @@ use Rattle.store.specs.declared.voices.VoiceState.TheVariants.{Loose}
 use Rattle.model.specs.SharedState.{SharedState}
 use Rattle.model.specs.Voice.{is_voice}
 use Rattle.model.specs.Refuse.{or_else, rank_limit, no_headroom, no_ids, spawn_refusal}
-use Rattle.model.specs.Spawn.{Spawn, next_out}
+use Rattle.model.specs.Spawn.{Spawn, next_voice, next_out}
 use Rattle.model.specs.Model.{Model, SpawnResult, port_free, cut_off, steal_voice, instantiate_or, place, place_within_budget, steal_then, admitted, admission_on, unless}
 use Rattle.model.specs.Model as store
 use Rattle.model.specs.Call.{Call}
 use Rattle.model.specs.Call as call
 use Rattle.refusals.specs.First.{NoneHolds, Told}
-use Rattle.refusals.specs.Spawn.{Bus, Headroom, IdsLeft, Admissible, rows, NoNode, OfVoice, Portless, NoHeadroom, node_table, edge_table, voice_table, NoIds, node_ids, voice_ids, when, SpawnRefuses}
+use Rattle.refusals.specs.Spawn.{Bus, Headroom, IdsLeft, Admissible, rows, NoNode, OfVoice, Portless, NoHeadroom, node_table, edge_table, voice_table, NoIds, node_ids, voice_ids, when, May, SpawnRefuses, SpawnAnswers, Fed, loose_rows, loose_when}
+use Rattle.refusals.specs.Definition.{Limits}
 use Rattle.graph.proofs.Calls.{when_none}
 use Rattle.refusals.proofs.First.{no_row, row}
 use Rattle.refusals.proofs.Definition.{limits}
@@ -83,17 +87,17 @@ of_no_voice ns k e h =
     omega arith
 
 -- ---- the rows
-no_ports : (ns : List Node) (k : NodeId) → eqb (ports_of (node_at ns k)) 0 ≡ true → Portless ns k
+pub no_ports : (ns : List Node) (k : NodeId) → eqb (ports_of (node_at ns k)) 0 ≡ true → Portless ns k
 no_ports ns k e n q = sym (ap ports_of q) ∙ eqb-true _ _ e
 
-some_ports : (ns : List Node) (k : NodeId) → eqb (ports_of (node_at ns k)) 0 ≡ false → Portless ns k → ⊥
+pub some_ports : (ns : List Node) (k : NodeId) → eqb (ports_of (node_at ns k)) 0 ≡ false → Portless ns k → ⊥
 some_ports ns k e h = eqb-false _ _ e (go (node_at ns k) refl)
   where
     go : (o : Option Node) → node_at ns k ≡ o → ports_of o ≡ 0
     go None q = refl
     go (Some n) q = h n q
 
-full_row : (d : SharedState) (vs : List Voice) (def : SynthDef) → no_headroom d vs def ≡ true → NoHeadroom d vs def
+pub full_row : (d : SharedState) (vs : List Voice) (def : SynthDef) → no_headroom d vs def ≡ true → NoHeadroom d vs def
 full_row d vs def e = go (ltb 512 (length d.graph.nodes + def.nodes.count + 3)) (ltb 1024 (length d.graph.edges + def.edges.count + 4)) (leb 64 (length vs)) refl refl refl e
   where
     go : (a b c : Bool) → ltb 512 (length d.graph.nodes + def.nodes.count + 3) ≡ a → ltb 1024 (length d.graph.edges + def.edges.count + 4) ≡ b → leb 64 (length vs) ≡ c → (a || (b || c)) ≡ true → NoHeadroom d vs def
@@ -102,13 +106,13 @@ full_row d vs def e = go (ltb 512 (length d.graph.nodes + def.nodes.count + 3)) 
     go false false true p q r e = voice_table (leb-true _ _ r)
     go false false false p q r e = absurd (true≢false (sym e))
 
-room : (d : SharedState) (vs : List Voice) (def : SynthDef) → no_headroom d vs def ≡ false → Headroom d vs def
+pub room : (d : SharedState) (vs : List Voice) (def : SynthDef) → no_headroom d vs def ≡ false → Headroom d vs def
 room d vs def e =
     let r = or_parts (ltb 512 (length d.graph.nodes + def.nodes.count + 3)) _ e in
     let s = or_parts (ltb 1024 (length d.graph.edges + def.edges.count + 4)) _ r.1 in
     record { nodes = ltb-false _ _ r.0; edges = ltb-false _ _ s.0; voices = leb-false _ _ s.1 }
 
-room_not : (d : SharedState) (vs : List Voice) (def : SynthDef) → Headroom d vs def → NoHeadroom d vs def → ⊥
+pub room_not : (d : SharedState) (vs : List Voice) (def : SynthDef) → Headroom d vs def → NoHeadroom d vs def → ⊥
 room_not d vs def h (node_table p) = let q = h.nodes in omega arith
 room_not d vs def h (edge_table p) = let q = h.edges in omega arith
 room_not d vs def h (voice_table p) = let q = h.voices in omega arith
@@ -120,7 +124,7 @@ not_room d vs def h = go (no_headroom d vs def) refl
     go true e = absurd (h (full_row d vs def e))
     go false e = refl
 
-spent_row : (d : SharedState) (def : SynthDef) → no_ids d def ≡ true → NoIds d def
+pub spent_row : (d : SharedState) (def : SynthDef) → no_ids d def ≡ true → NoIds d def
 spent_row d def e = go (ltb 4294967296 (d.graph.next + def.nodes.count + 3)) (leb 18446744073709551615 d.spawned) refl refl e
   where
     go : (a b : Bool) → ltb 4294967296 (d.graph.next + def.nodes.count + 3) ≡ a → leb 18446744073709551615 d.spawned ≡ b → (a || b) ≡ true → NoIds d def
@@ -133,7 +137,7 @@ ids_left d def e =
     let r = or_parts (ltb 4294967296 (d.graph.next + def.nodes.count + 3)) _ e in
     record { nodes = ltb-false _ _ r.0; voices = leb-false _ _ r.1 }
 
-left_not : (d : SharedState) (def : SynthDef) → IdsLeft d def → NoIds d def → ⊥
+pub left_not : (d : SharedState) (def : SynthDef) → IdsLeft d def → NoIds d def → ⊥
 left_not d def h (node_ids p) = let q = h.nodes in omega arith
 left_not d def h (voice_ids p) = let q = h.voices in omega arith
 
@@ -145,7 +149,7 @@ left_ids d def h = go (no_ids d def) refl
     go true e = absurd (left_not d def h (spent_row d def e))
     go false e = refl
 
-or_when : (g : GraphView) (bus : NodeId) (rest : Option Refusal)
+pub or_when : (g : GraphView) (bus : NodeId) (rest : Option Refusal)
     → or_else (host_refusal g bus) rest ≡ graph.when (dead (node_at g.nodes bus)) UnknownNode (graph.when (of_voice (node_at g.nodes bus)) VoiceNode rest)
 or_when g bus rest = go (dead (node_at g.nodes bus)) (of_voice (node_at g.nodes bus))
   where
@@ -203,7 +207,7 @@ passed d vs def bus rank h =
       ids = ids_left d def j.0;
     }
 
-free : (d : SharedState) (vs : List Voice) (def : SynthDef) (bus : NodeId) (rank : ℕ) → Admissible d vs def bus rank → NoneHolds (when d vs def bus rank) rows
+pub free : (d : SharedState) (vs : List Voice) (def : SynthDef) (bus : NodeId) (rank : ℕ) → Admissible d vs def bus rank → NoneHolds (when d vs def bus rank) rows
 free d vs def bus rank a = λ r i h. at r i (λ s q. subst (when d vs def bus rank) q h)
   where
     c : Refusal → Type 0
@@ -260,24 +264,191 @@ admitted_11 admission.Admit x m r e = inr (place_12 _ x _ m r e)
 admitted_11 admission.Reject x m r e = inl (sym (err_inj e))
 admitted_11 (admission.Steal place w) x m r e = inr (steal_12 (find (is_voice w) m.voices) x m r e)
 
+not_12 : Rejected ≡ NoPort → ⊥
+not_12 e = let z : ◌≡◌ {A = ℕ} 0 1 = cc in omega arith
+
+-- 11 changes nothing
+admitted_same : (a : Admission) (x : Spawn) (m : Model) → (admitted a x m).answer ≡ Err Rejected → (admitted a x m).model ≡ m
+admitted_same admission.Admit x m e = absurd (not_12 (place_12 _ x _ m Rejected e))
+admitted_same admission.Reject x m e = refl
+admitted_same (admission.Steal place w) x m e = absurd (not_12 (steal_12 (find (is_voice w) m.voices) x m Rejected e))
+
 -- ---- the calls
 abbrev spawn_step : SpawnResult → call.Step
 spawn_step l = record { answer = call.spawned l.answer; model = l.model }
 
 module _ (x : Spawn) (m : Model) where
   refuses : (c : Call) (s : SpawnResult) → call.step c m ≡ spawn_step (unless (spawn_refusal m.shared m.voices x.def x.bus x.rank) m s)
-      → ((r : Refusal) → s.answer ≡ Err r → (r ≡ Rejected) ⊎ (r ≡ NoPort)) → SpawnRefuses x c m
-  refuses c s is only =
+      → ((r : Refusal) → s.answer ≡ Err r → (r ≡ Rejected) ⊎ (r ≡ NoPort)) → (s.answer ≡ Err Rejected → s.model ≡ m) → SpawnRefuses x c m
+  refuses c s is only same =
       let t = told m.shared m.voices x.def x.bus x.rank in
       let a = admissible m.shared m.voices x.def x.bus x.rank in
       record {
         may = (free m.shared m.voices x.def x.bus x.rank, λ h. a.0 (t.none.1 h));
         refused = λ r f. is ∙ ap (λ o. spawn_step (unless o m s)) ((t.first r).1 f);
         left = λ y r e. only r (spawned_inj (sym (ap (λ (z : call.Step). z.answer) (is ∙ ap (λ o. spawn_step (unless o m s)) (a.1 y))) ∙ e));
+        rejected = λ e. ap (λ (z : call.Step). z.model) is ∙ unchanged (spawn_refusal m.shared m.voices x.def x.bus x.rank) (spawned_inj (sym (ap (λ (z : call.Step). z.answer) is) ∙ e));
       }
+    where
+      unchanged : (o : Option Refusal) → (unless o m s).answer ≡ Err Rejected → (unless o m s).model ≡ m
+      unchanged None e = same e
+      unchanged (Some r) e = refl
 
   pub managed_refuses : SpawnRefuses x (call.spawn_managed x) m
-  managed_refuses = refuses (call.spawn_managed x) (admitted (admission_on x.bus x.rank m) x m) refl (admitted_11 (admission_on x.bus x.rank m) x m)
+  managed_refuses = refuses (call.spawn_managed x) (admitted (admission_on x.bus x.rank m) x m) refl (admitted_11 (admission_on x.bus x.rank m) x m) (admitted_same (admission_on x.bus x.rank m) x m)
 
   pub loose_refuses : SpawnRefuses x (call.spawn_loose x) m
-  loose_refuses = refuses (call.spawn_loose x) (place 0 x Loose m) refl (λ r e. inr (place_12 0 x Loose m r e))
+  loose_refuses = refuses (call.spawn_loose x) (place 0 x Loose m) refl (λ r e. inr (place_12 0 x Loose m r e)) (λ e. absurd (not_12 (place_12 0 x Loose m Rejected e)))
+
+-- ---- a whole list
+-- what is refused, as an answer
+abbrev pub said : VoiceId → Option Refusal → Result VoiceId Refusal
+said w None = Ok w
+said w (Some r) = Err r
+
+behind : (t : Bool) (r : Refusal) (o q : Option Refusal) → or_else (graph.when t r o) q ≡ graph.when t r (or_else o q)
+behind true r o q = refl
+behind false r o q = refl
+
+-- a row before others and before what comes behind all of them
+pub row_before : (t : Bool) (r : Refusal) (o q : Option Refusal) (c : Refusal → Type 0) (l : List Refusal)
+    → (t ≡ true → c r) → (t ≡ false → c r → ⊥) → Told c l (or_else o q) → Told c (r ∷ l) (or_else (graph.when t r o) q)
+row_before t r o q c l on off rest = subst (Told c (r ∷ l)) (sym (behind t r o q)) (row t r (or_else o q) c l on off rest)
+
+-- a spawn whose answer is told by a list
+pub answers_by : (when : Refusal → Type 0) (l : List Refusal) (c : Call) (m : Model) (o : Option Refusal) → Told when l o
+    → (call.step c m).answer ≡ call.spawned (said (next_voice m.shared) o) → ((r : Refusal) → o ≡ Some r → (r ≡ NoPort) ⊎ ((call.step c m).model ≡ m)) → SpawnAnswers when l c m
+answers_by when l c m o told is kept =
+    record {
+      refused = λ r. (λ e. (told.first r).0 (said_err o r (spawned_inj (sym is ∙ e))), λ f. is ∙ ap (λ z. call.spawned (said (next_voice m.shared) z)) ((told.first r).1 f));
+      given = (λ e. told.none.0 (said_ok o (spawned_inj (sym is ∙ e))), λ h. is ∙ ap (λ z. call.spawned (said (next_voice m.shared) z)) (told.none.1 h));
+      kept = λ r f. kept r ((told.first r).1 f);
+    }
+  where
+    said_err : (o : Option Refusal) (r : Refusal) → said (next_voice m.shared) o ≡ Err r → o ≡ Some r
+    said_err None r e = absurd (ok_err e)
+    said_err (Some q) r e = ap Some (err_inj e)
+
+    said_ok : (o : Option Refusal) → said (next_voice m.shared) o ≡ Ok (next_voice m.shared) → o ≡ None
+    said_ok None e = refl
+    said_ok (Some q) e = absurd (ok_err (sym e))
+
+-- what the rows answer, and what the call answers where they refuse nothing
+pub answers_behind : (x : Spawn) (c : Call) (m : Model) (q : Option Refusal) → SpawnRefuses x c m → (May x m → (call.step c m).answer ≡ call.spawned (said (next_voice m.shared) q))
+    → (call.step c m).answer ≡ call.spawned (said (next_voice m.shared) (or_else (spawn_refusal m.shared m.voices x.def x.bus x.rank) q))
+answers_behind x c m q s h = go (spawn_refusal m.shared m.voices x.def x.bus x.rank) refl
+  where
+    go : (o : Option Refusal) → spawn_refusal m.shared m.voices x.def x.bus x.rank ≡ o → (call.step c m).answer ≡ call.spawned (said (next_voice m.shared) (or_else o q))
+    go None e = h ((admissible m.shared m.voices x.def x.bus x.rank).0 e)
+    go (Some r) e = ap (λ (z : call.Step). z.answer) (s.refused r (((told m.shared m.voices x.def x.bus x.rank).first r).0 e))
+
+pub kept_behind : (x : Spawn) (c : Call) (m : Model) (q : Option Refusal) → SpawnRefuses x c m → (May x m → (r : Refusal) → q ≡ Some r → (r ≡ NoPort) ⊎ ((call.step c m).model ≡ m))
+    → (r : Refusal) → or_else (spawn_refusal m.shared m.voices x.def x.bus x.rank) q ≡ Some r → (r ≡ NoPort) ⊎ ((call.step c m).model ≡ m)
+kept_behind x c m q s h r = go (spawn_refusal m.shared m.voices x.def x.bus x.rank) refl
+  where
+    go : (o : Option Refusal) → spawn_refusal m.shared m.voices x.def x.bus x.rank ≡ o → or_else o q ≡ Some r → (r ≡ NoPort) ⊎ ((call.step c m).model ≡ m)
+    go None e k = h ((admissible m.shared m.voices x.def x.bus x.rank).0 e) r k
+    go (Some y) e k = inr (ap (λ (z : call.Step). z.model) (s.refused y (((told m.shared m.voices x.def x.bus x.rank).first y).0 e)))
+
+-- conditions that are the rows' for the refusals of the rows
+pub record RowsOf (x : Spawn) (m : Model) (c : Refusal → Type 0) : Type 0 where
+  pub rank : c RankTooHigh ↔ (7 < x.rank)
+  pub definition : c DefinitionLimits ↔ (Limits x.def → ⊥)
+  pub unknown : c UnknownNode ↔ NoNode m.shared.graph.nodes x.bus
+  pub voices : c VoiceNode ↔ OfVoice m.shared.graph.nodes x.bus
+  pub portless : c BusWithoutPorts ↔ Portless m.shared.graph.nodes x.bus
+  pub full : c TableFull ↔ NoHeadroom m.shared m.voices x.def
+  pub spent : c IdsUsedUp ↔ NoIds m.shared x.def
+
+-- the rows before a list of one's own
+pub rows_before : (x : Spawn) (m : Model) (c : Refusal → Type 0) (l : List Refusal) (q : Option Refusal) → RowsOf x m c → Told c l q
+    → Told c (RankTooHigh ∷ DefinitionLimits ∷ UnknownNode ∷ VoiceNode ∷ BusWithoutPorts ∷ TableFull ∷ IdsUsedUp ∷ l) (or_else (spawn_refusal m.shared m.voices x.def x.bus x.rank) q)
+rows_before x m c l q of rest =
+    row_before (ltb rank_limit x.rank) RankTooHigh _ q c _ (λ e. of.rank.1 (ltb-true 7 x.rank e)) (λ e h. let p = ltb-false 7 x.rank e in let o = of.rank.0 h in omega arith)
+    (row_before (not (allowed x.def)) DefinitionLimits _ q c _ (λ e. of.definition.1 (λ l. true≢false (sym ((limits x.def).1 l) ∙ not-true _ e))) (λ e h. of.definition.0 h ((limits x.def).0 (not-false _ e)))
+    (subst (λ z. Told c (UnknownNode ∷ VoiceNode ∷ BusWithoutPorts ∷ TableFull ∷ IdsUsedUp ∷ l) (or_else z q)) (sym (or_when m.shared.graph x.bus _))
+    (row_before (dead (node_at ns x.bus)) UnknownNode _ q c _ (λ e. of.unknown.1 (dead_no ns x.bus e)) (λ e h. no_dead ns x.bus e (of.unknown.0 h))
+    (row_before (of_voice (node_at ns x.bus)) VoiceNode _ q c _ (λ e. of.voices.1 (of_a_voice ns x.bus e)) (λ e h. of_no_voice ns x.bus e (of.voices.0 h))
+    (row_before (eqb (ports_of (node_at ns x.bus)) 0) BusWithoutPorts _ q c _ (λ e. of.portless.1 (no_ports ns x.bus e)) (λ e h. some_ports ns x.bus e (of.portless.0 h))
+    (row_before (no_headroom m.shared m.voices x.def) TableFull _ q c _ (λ e. of.full.1 (full_row m.shared m.voices x.def e)) (λ e h. room_not m.shared m.voices x.def (room m.shared m.voices x.def e) (of.full.0 h))
+    (row_before (no_ids m.shared x.def) IdsUsedUp None q c l (λ e. of.spent.1 (spent_row m.shared x.def e)) (λ e h. left_not m.shared x.def (ids_left m.shared x.def e) (of.spent.0 h)) rest)))))))
+  where
+    ns : List Node
+    ns = m.shared.graph.nodes
+
+-- ---- the unmanaged spawn
+taken_fed : (es : List Edge) (k : NodeId) (p : ℕ) → taken es k p ≡ true → Fed es k p
+taken_fed es k p h = go (find (ends_at k p) es) refl h
+  where
+    go : (o : Option Edge) → find (ends_at k p) es ≡ o → is_some o ≡ true → Fed es k p
+    go None e g = absurd (true≢false (sym g))
+    go (Some d) e g =
+        let r = find_in (ends_at k p) es d e in
+        (d, r.0, eqb-true _ _ (and_left (eqb d.to.0 k.0) (eqb d.port p) r.1), eqb-true _ _ (and_right (eqb d.to.0 k.0) (eqb d.port p) r.1))
+
+fed_taken : (es : List Edge) (k : NodeId) (p : ℕ) → Fed es k p → taken es k p ≡ true
+fed_taken es k p f = go (find (ends_at k p) es) refl
+  where
+    go : (o : Option Edge) → find (ends_at k p) es ≡ o → is_some o ≡ true
+    go (Some d) e = refl
+    go None e = absurd (true≢false (sym (ap₂ (λ a b. a && b) (eq-eqb f.0.to.0 k.0 f.2) (eq-eqb f.0.port p f.3)) ∙ find_none (ends_at k p) es f.0 e f.1))
+
+-- the search goes over the n ports from i on
+search_none : (n : ℕ) (es : List Edge) (k : NodeId) (i : ℕ) → lowest n es k i ≡ None → (p : ℕ) → i ≤ p → p < i + n → Fed es k p
+search_none zero es k i h p l g = absurd (omega arith)
+search_none (suc n) es k i h p l g = go (taken es k i) refl h (search_none n es k (suc i)) (ltb i p) refl
+  where
+    go : (b : Bool) → taken es k i ≡ b → cond b (lowest n es k (suc i)) (Some i) ≡ None → (lowest n es k (suc i) ≡ None → (p : ℕ) → suc i ≤ p → p < suc i + n → Fed es k p) → (c : Bool) → ltb i p ≡ c → Fed es k p
+    go false e q below c f = absurd (none_some (sym q))
+    go true e q below true f = let m : i < p = ltb-true _ _ f in below q p (omega arith) (omega arith)
+    go true e q below false f = let m : p ≤ i = ltb-false _ _ f in let z : i ≡ p = omega arith in subst (Fed es k) z (taken_fed es k i e)
+
+search_some : (n : ℕ) (es : List Edge) (k : NodeId) (i p : ℕ) → lowest n es k i ≡ Some p → (i ≤ p) × (p < i + n) × (taken es k p ≡ false)
+search_some zero es k i p h = absurd (none_some h)
+search_some (suc n) es k i p h = go (taken es k i) refl h (search_some n es k (suc i) p)
+  where
+    go : (b : Bool) → taken es k i ≡ b → cond b (lowest n es k (suc i)) (Some i) ≡ Some p → (lowest n es k (suc i) ≡ Some p → (suc i ≤ p) × (p < suc i + n) × (taken es k p ≡ false)) → (i ≤ p) × (p < i + suc n) × (taken es k p ≡ false)
+    go false e q below = let z : i ≡ p = some_inj q in (omega arith, omega arith, ap (taken es k) (sym z) ∙ e)
+    go true e q below = let r = below q in let a = r.0 in let b = r.1 in (omega arith, omega arith, r.2)
+
+module _ (x : Spawn) (m : Model) where
+  abbrev full : Bool
+  full = not (is_some (port_free x.bus m))
+
+  full_fed : full ≡ true → (p : ℕ) → p < ports_of (node_at m.shared.graph.nodes x.bus) → Fed m.shared.graph.edges x.bus p
+  full_fed h p l = go (port_free x.bus m) refl h
+    where
+      go : (o : Option ℕ) → port_free x.bus m ≡ o → not (is_some o) ≡ true → Fed m.shared.graph.edges x.bus p
+      go None e q = search_none (ports_of (node_at m.shared.graph.nodes x.bus)) m.shared.graph.edges x.bus 0 e p (omega arith) (omega arith)
+      go (Some k) e q = absurd (true≢false (sym q))
+
+  not_full : full ≡ false → ((p : ℕ) → p < ports_of (node_at m.shared.graph.nodes x.bus) → Fed m.shared.graph.edges x.bus p) → ⊥
+  not_full h f = go (port_free x.bus m) refl h
+    where
+      go : (o : Option ℕ) → port_free x.bus m ≡ o → not (is_some o) ≡ false → ⊥
+      go None e q = true≢false q
+      go (Some k) e q =
+          let r = search_some (ports_of (node_at m.shared.graph.nodes x.bus)) m.shared.graph.edges x.bus 0 k e in
+          let l = r.1 in
+          true≢false (sym (fed_taken m.shared.graph.edges x.bus k (f k (omega arith))) ∙ r.2)
+
+  searched : (o : Option ℕ) → (instantiate_or o None x Loose m (store.refused NoPort)).answer ≡ said (next_voice m.shared) (graph.when (not (is_some o)) NoPort None)
+  searched None = refl
+  searched (Some p) = refl
+
+  loose_answer : May x m → (call.step (call.spawn_loose x) m).answer ≡ call.spawned (said (next_voice m.shared) (graph.when full NoPort None))
+  loose_answer y =
+      ap (λ o. call.spawned (unless o m (place 0 x Loose m)).answer) ((admissible m.shared m.voices x.def x.bus x.rank).1 y)
+      ∙ ap call.spawned (searched (port_free x.bus m))
+
+  pub loose_answers : SpawnAnswers (loose_when x m) loose_rows (call.spawn_loose x) m
+  loose_answers =
+      answers_by (loose_when x m) loose_rows (call.spawn_loose x) m (or_else (spawn_refusal m.shared m.voices x.def x.bus x.rank) (graph.when full NoPort None))
+      (rows_before x m (loose_when x m) (NoPort ∷ []) (graph.when full NoPort None) (record { rank = (λ h. h, λ h. h); definition = (λ h. h, λ h. h); unknown = (λ h. h, λ h. h); voices = (λ h. h, λ h. h); portless = (λ h. h, λ h. h); full = (λ h. h, λ h. h); spent = (λ h. h, λ h. h) })
+      (row full NoPort None (loose_when x m) [] full_fed not_full (no_row (loose_when x m))))
+      (answers_behind x (call.spawn_loose x) m (graph.when full NoPort None) (loose_refuses x m) loose_answer)
+      (kept_behind x (call.spawn_loose x) m (graph.when full NoPort None) (loose_refuses x m) (λ y r e. inl (port_12 full r e)))
+    where
+      port_12 : (b : Bool) (r : Refusal) → graph.when b NoPort None ≡ Some r → r ≡ NoPort
+      port_12 true r e = sym (some_inj e)
+      port_12 false r e = absurd (none_some e)

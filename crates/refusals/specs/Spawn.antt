@@ -1,16 +1,17 @@
 -- When a spawn may come, in numbers, and the rows of its refusals: SPEC 9.1. The rows are the same for the managed and the unmanaged spawn;
 -- after them come 11 and 12, of which the ledger's claim says when.
-use Rattle.std.specs.Prelude.{ℕ, ◌+◌, ◌≤◌, ◌<◌, ◌≡◌, ◌⊎◌, ◌↔◌, List, [], ◌∷◌, length, Some, Err}
+use Rattle.std.specs.Prelude.{ℕ, ◌+◌, ◌≤◌, ◌<◌, ◌≡◌, ◌⊎◌, ◌↔◌, List, [], ◌∷◌, length, Some, Ok, Err}
 use Rattle.lists.specs.Member.{In}
 use Rattle.node.specs.declared.record.NodeId.{NodeId}
 use Rattle.node.specs.declared.record.Node.{Node}
+use Rattle.node.specs.declared.record.Edge.{Edge}
 use Rattle.node.specs.declared.refusal.Refusal.{Refusal}
 use Rattle.node.specs.declared.refusal.Refusal.TheVariants.{UnknownNode, VoiceNode, TableFull, IdsUsedUp, DefinitionLimits, BusWithoutPorts, Rejected, NoPort, RankTooHigh}
-use Rattle.graph.specs.Node.{node_at}
+use Rattle.graph.specs.Node.{node_at, ports_of}
 use Rattle.synthdef.specs.declared.def.SynthDef.{SynthDef}
 use Rattle.store.specs.declared.voices.Voice.{Voice}
 use Rattle.model.specs.SharedState.{SharedState}
-use Rattle.model.specs.Spawn.{Spawn}
+use Rattle.model.specs.Spawn.{Spawn, next_voice}
 use Rattle.model.specs.Model.{Model}
 use Rattle.model.specs.Call.{Call}
 use Rattle.model.specs.Call as call
@@ -94,5 +95,27 @@ pub record SpawnRefuses (x : Spawn) (c : Call) (m : Model) : Type 0 where
   pub may : May x m ↔ NoneHolds (spawn_when x m) rows
   -- the first row whose condition holds is answered, and nothing is changed
   pub refused : (r : Refusal) → First (spawn_when x m) rows r → call.step c m ≡ record { answer = call.spawned (Err r); model = m }
-  -- where it may come, only 11 and 12 are left
+  -- where it may come, only 11 and 12 are left, and 11 changes nothing
   pub left : May x m → (r : Refusal) → (call.step c m).answer ≡ call.spawned (Err r) → (r ≡ Rejected) ⊎ (r ≡ NoPort)
+  pub rejected : (call.step c m).answer ≡ call.spawned (Err Rejected) → (call.step c m).model ≡ m
+
+-- ---- a whole list, 11 and 12 with it
+-- The call c, a spawn, answers a refusal exactly when it is the first of the list whose condition holds, and the next voice id exactly when none
+-- holds. A refusal other than 12 changes nothing.
+pub record SpawnAnswers (when : Refusal → Type 0) (l : List Refusal) (c : Call) (m : Model) : Type 0 where
+  pub refused : (r : Refusal) → ((call.step c m).answer ≡ call.spawned (Err r)) ↔ First when l r
+  pub given : ((call.step c m).answer ≡ call.spawned (Ok (next_voice m.shared))) ↔ NoneHolds when l
+  pub kept : (r : Refusal) → First when l r → (r ≡ NoPort) ⊎ ((call.step c m).model ≡ m)
+
+-- ---- the unmanaged spawn: it meets no budget and sends nobody away, SPEC 9.10
+-- an edge ends at the port p of the node k
+abbrev pub Fed : List Edge → NodeId → ℕ → Type 0
+Fed es k p = (e : Edge) × In e es × (e.to.0 ≡ k.0) × (e.port ≡ p)
+
+abbrev pub loose_rows : List Refusal
+loose_rows = RankTooHigh ∷ DefinitionLimits ∷ UnknownNode ∷ VoiceNode ∷ BusWithoutPorts ∷ TableFull ∷ IdsUsedUp ∷ NoPort ∷ []
+
+abbrev pub loose_when : Spawn → Model → Refusal → Type 0
+-- 12: no port of the bus is free
+loose_when x m NoPort = (p : ℕ) → p < ports_of (node_at m.shared.graph.nodes x.bus) → Fed m.shared.graph.edges x.bus p
+loose_when x m r = spawn_when x m r

@@ -18,7 +18,7 @@ ghost use Rattle.refusals.specs.Definition.{Limits, IsWithin};
 ghost use Rattle.refusals.specs.First.{Refuses};
 ghost use Rattle.refusals.specs.Host.{add_rows, add_when, node_rows, node_when, disconnect_rows, disconnect_when, connect_rows, connect_when, schedule_rows, schedule_when, report_rows, report_when, prepare_rows, prepare_when, RenderRefuses, NeverRefuses};
 ghost use Rattle.refusals.specs.Making.{Makes};
-ghost use Rattle.refusals.specs.Spawn.{SpawnRefuses};
+ghost use Rattle.refusals.specs.Spawn.{SpawnRefuses, SpawnAnswers, loose_rows, loose_when};
 
 /// A store is made exactly when rate, block, budget and table are in range; else the first of 1, 2, 3, 20 is given whose row holds.
 pub fn making_is_refused()
@@ -30,10 +30,12 @@ pub fn definition_is_within()
     ensures { (d : SynthDef) → IsWithin d }
 {}
 
-/// Both spawns: the first of 26, 9, 4, 5, 10, 7, 8 is given whose row holds, and else only 11 and 12 are left.
+/// Both spawns: the first of 26, 9, 4, 5, 10, 7, 8 is given whose row holds, and else only 11 and 12 are left. The unmanaged one is then given 12
+/// exactly when no port of its bus is free, and the next voice id else.
 pub fn spawn_is_refused()
     ensures managed { (m : Model) (x : Spawn) → SpawnRefuses x (call.spawn_managed x) m }
     ensures unmanaged { (m : Model) (x : Spawn) → SpawnRefuses x (call.spawn_loose x) m }
+    ensures whole { (m : Model) (x : Spawn) → SpawnAnswers (loose_when x m) loose_rows (call.spawn_loose x) m }
 {}
 
 /// Host nodes and the sink: 6, 7, 8 at adding, 4 and 5 at removing and at setting the sink.
