@@ -49,7 +49,7 @@ use Rattle.ledger.specs.Claim.{Arrives, Holds, Losses, GoesOn, Why, Fate, Reclai
 use Rattle.ledger.specs.Call as ledgerCall
 use Rattle.ledger.proofs.Arrives.{ArrivesAt, managed_comes, loose_comes}
 use Rattle.ledger.proofs.Words as words
-use Rattle.ledger.proofs.Ids.{unique}
+use Rattle.ledger.proofs.Ids.{unique, ids_map}
 use Rattle.ledger.proofs.Abstraction.{counted_same, under_same, find_stored}
 use Rattle.ledger.proofs.Simulation.{RunInvariant, kept_step_lem}
 use Rattle.ledger.proofs.Capacity.{RoomOf}
@@ -63,6 +63,7 @@ use Rattle.ledger.proofs.SpawnRows.{managed_answers, none_let}
 use Rattle.ledger.proofs.Owner.{owner_some}
 use Rattle.ledger.proofs.Ready.{ReadyOf, prepared_sorted, prepared_same, render_sounds}
 use Rattle.ledger.proofs.Losses.{losses}
+use Rattle.ledger.proofs.Reclaims.{reclaims}
 use Rattle.ledger.proofs.EndInvariant.{moved_end}
 use Rattle.ledger.proofs.Port.{now_edge, edge_now, now_holds, holds_now}
 use Rattle.ledger.proofs.Store.{shown, store_of, store_step, Was, was, tracks_count, answer_same, refusal_same, reclaimed_shown, ended_shown, goes_shown, why_shown, losses_shown}
@@ -259,6 +260,7 @@ module _ (c : Config) (l : Ledger) (known : Known c l) where
             ∙ tallies x n l (ap (λ (z : Config). z.budget) is ∙ b) r a e
             ∙ ap (λ z. more (is_let a) (l.shared.steals.count + z)) (sym (tracks_count c l.voices)));
         losses = λ x. next (call.spawn_managed x) (λ t. Losses x (store_of c l) t.model) (losses_shown c x l (step (call.spawn_managed x) l).ledger known.kept.sound (losses x l r q));
+        reclaims = λ x. reclaims x (store_of c l) (ids_map (shown c) (λ v. refl) r.ids);
         numbers = λ v i f e. let w = was c l.voices v i f e in subst (λ (g : Fade). g.number < l.shared.steals.count) (sym w.moves) (r.numbers w.voice w.member w.fade w.state);
         own = own;
         budget = few;

@@ -39,6 +39,7 @@ pub mod Voices
 pub mod Since
 pub mod FadeEnds
 pub mod Losses
+pub mod Reclaims
 pub mod Arrives
 pub mod Ranks
 pub mod Store

@@ -125,7 +125,7 @@ steals_by (Some k) t r l p w h = go (leb k (length l)) (victim t r l) refl h
     go true None e h = let z : ◌≡◌ {A = ℕ} 0 1 = cc in absurd (omega arith)
     go true (Some x) e h = victim_steals t r l x e
 
-earliest_in : (q : Voice → Bool) (vs : List Voice) (v : Voice) → earliest q vs ≡ Some v → In v vs × (q v ≡ true)
+pub earliest_in : (q : Voice → Bool) (vs : List Voice) (v : Voice) → earliest q vs ≡ Some v → In v vs × (q v ≡ true)
 earliest_in q [] v h = absurd (none_some h)
 earliest_in q (x ∷ vs) v h = go (earliest q vs) refl (q x) refl h (earliest_in q vs)
   where
@@ -139,7 +139,7 @@ earliest_in q (x ∷ vs) v h = go (earliest q vs) refl (q x) refl h (earliest_in
         pick true g = let s : x ≡ v = some_inj g in (inl (sym s), ap q (sym s) ∙ f)
         pick false g = let r = ih v (e ∙ g) in (inr r.0, r.1)
 
-earliest_none : (q : Voice → Bool) (vs : List Voice) → earliest q vs ≡ None → (v : Voice) → In v vs → q v ≡ false
+pub earliest_none : (q : Voice → Bool) (vs : List Voice) → earliest q vs ≡ None → (v : Voice) → In v vs → q v ≡ false
 earliest_none q [] h v i = absurd i
 earliest_none q (x ∷ vs) h v i = go (earliest q vs) refl (q x) refl h i (earliest_none q vs)
   where

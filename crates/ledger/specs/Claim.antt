@@ -264,6 +264,19 @@ pub record Losses (x : Spawn) (s s' : Model) : Type 0 where
   pub added : s'.shared.steals.count ≡ s.shared.steals.count + length lost
   pub records : Records (loss_of s.shared s'.voices) s'.shared.steals s.shared.steals.count lost
 
+-- ---- reclaiming: SPEC 9.7
+-- What the managed spawn x, which made of s the store s', took from the bus for a port.
+pub record Reclaims (x : Spawn) (s s' : Model) : Type 0 where
+  -- A fade of the bus that is gone began no later than each fade of the bus that is left; and where both began at one sample, it stood first.
+  pub earliest : (v u : Voice) (f g : Fade) → In v s.voices → v.state ≡ Fading f → is_on x.bus v ≡ true → find (is_voice v.id) s'.voices ≡ None
+      → In u s'.voices → u.state ≡ Fading g → is_on x.bus u ≡ true → (f.start ≤ g.start) × (f.start ≡ g.start → v.id.0 < u.id.0)
+  -- No tracked voice of the bus goes for a port while a fade of the bus is left, whatever the ranks: so it is the victim of the admission.
+  pub fades_first : (v u : Voice) (g : Fade) → In v s.voices → v.state ≡ Tracked → is_on x.bus v ≡ true → find (is_voice v.id) s'.voices ≡ None
+      → In u s'.voices → u.state ≡ Fading g → is_on x.bus u ≡ true → victim_of x s ≡ Some v
+  -- That one fades from now on, if it fed a port; and if it is gone then, it stood first of those that fade since now, and no other is left.
+  pub begun_now : (v u : Voice) (g : Fade) → victim_of x s ≡ Some v → is_some (port_from s.shared.graph.edges (feeder v) v.bus) ≡ true → is_on x.bus v ≡ true → find (is_voice v.id) s'.voices ≡ None
+      → In u s'.voices → u.state ≡ Fading g → is_on x.bus u ≡ true → (s.shared.clock ≤ g.start) × (s.shared.clock ≡ g.start → v.id.0 < u.id.0)
+
 -- ---- without a budget
 -- no record was ever written
 abbrev pub no_steals : StealLog
@@ -416,6 +429,8 @@ pub record Holds (c : Config) (s : Model) : Type 0 where
       ≡ more (is_let a) (s.shared.steals.count + count tracks s.voices)
   -- What these records hold: the clock, the level of the voice before anything of the call changed, and a cut mark exactly if it is removed.
   pub losses : (x : Spawn) → Losses x s (call.step (call.spawn_managed x) s).model
+  -- Who goes for a port: the fades of the bus, the earliest first, before any tracked voice.
+  pub reclaims : (x : Spawn) → Reclaims x s (call.step (call.spawn_managed x) s).model
   -- Each fade has a record of its own: its number was written, and no other fade has it.
   pub numbers : (v : Voice) → In v s.voices → (f : Fade) → v.state ≡ Fading f → f.number < s.shared.steals.count
   pub own : (u v : Voice) → In u s.voices → In v s.voices → (f g : Fade) → u.state ≡ Fading f → v.state ≡ Fading g → f.number ≡ g.number → u ≡ v
