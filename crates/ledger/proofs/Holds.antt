@@ -40,6 +40,8 @@ use Rattle.node.specs.declared.record.VoiceId.{VoiceId}
 use Rattle.node.specs.declared.refusal.Refusal.{Refusal}
 use Rattle.store.specs.declared.voices.VoiceState.{VoiceState}
 use Rattle.refusals.specs.Spawn.{May}
+use Rattle.refusals.proofs.Host.{schedule_refuses}
+use Rattle.refusals.proofs.Prepare.{prepare_refuses}
 use Rattle.refusals.proofs.Spawn.{admissible, loose_answers}
 use Rattle.ledger.specs.Ledger.{Ledger}
 use Rattle.ledger.specs.Clear as ledger
@@ -61,7 +63,8 @@ use Rattle.ledger.proofs.Clearing.{cleared_voices, cleared_count}
 use Rattle.ledger.proofs.SpawnFailure.{spawn_answer_lem}
 use Rattle.ledger.proofs.SpawnRows.{managed_answers, none_let}
 use Rattle.ledger.proofs.Owner.{owner_some}
-use Rattle.ledger.proofs.Ready.{ReadyOf, prepared_sorted, prepared_same, render_sounds}
+use Rattle.ledger.proofs.Chooses.{chooses}
+use Rattle.ledger.proofs.Ready.{to_live, ReadyOf, prepared_sorted, prepared_same, render_sounds}
 use Rattle.ledger.proofs.Losses.{losses}
 use Rattle.ledger.proofs.Reclaims.{reclaims}
 use Rattle.ledger.proofs.EndInvariant.{moved_end}
@@ -247,6 +250,14 @@ module _ (c : Config) (l : Ledger) (known : Known c l) where
   pub holds : Holds c (store_of c l)
   holds =
       record {
+        made = is;
+        node_rows = to_live 0 l.shared.graph.nodes known.ready.rows.rises;
+        next_node = known.ready.rows.below;
+        voice_rows = (ids_map (shown c) (λ v. refl) r.ids).rising;
+        next_voice = (ids_map (shown c) (λ v. refl) r.ids).below;
+        unprepared = prepare_refuses (store_of c l) (to_live 0 l.shared.graph.nodes known.ready.rows.rises);
+        unscheduled = λ t w name a. schedule_refuses (store_of c l) t w name a known.room.events;
+        chooses = λ x. chooses x (store_of c l) (ids_map (shown c) (λ v. refl) r.ids);
         removes = λ v i e. next call.clear (λ t. find (is_voice v.id) t.model.voices ≡ None) (ap (find (is_voice v.id)) left ∙ without_voice v i e);
         clears = next call.clear (λ t. t.model.voices ≡ Left (map (shown c) l.voices)) left;
         removed = λ n. next call.clear (λ t. t.answer ≡ call.removed n → length (map (shown c) l.voices) ≡ length t.model.voices + n) (λ e.

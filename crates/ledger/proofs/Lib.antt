@@ -40,6 +40,7 @@ pub mod Since
 pub mod FadeEnds
 pub mod Losses
 pub mod Reclaims
+pub mod Chooses
 pub mod Arrives
 pub mod Ranks
 pub mod Store

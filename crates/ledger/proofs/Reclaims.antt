@@ -1,22 +1,21 @@
 -- Who goes for a port of the bus: its fades, the earliest first and of equals the one that stands first, before any tracked voice.
-use Prim.Native.Nat.{ℕ, zero, suc, ◌+◌, ◌≤◌, ◌<◌}
+use Prim.Native.Nat.{ℕ, zero, suc, ◌≤◌, ◌<◌}
 use native.Mathlib.Omega.{arith}
-use mathlib.Core.Path.{◌≡◌, refl, sym, ap, ap₂, ◌∙◌, subst}
-use mathlib.Core.Logic.{◌⊎◌, ⊎_elim, inl, inr}
+use mathlib.Core.Path.{◌≡◌, refl, sym, ap, ◌∙◌, subst}
+use mathlib.Core.Logic.{⊎_elim, inl, inr}
 use mathlib.Core.List.{List, [], ◌∷◌, ◌++◌, map}
-use mathlib.Core.Bool.{Bool, true, false, not, cond, ◌&&◌, true≢false, false≢true}
-use Rattle.std.specs.Prelude.{Option, None, Some, find, filter, is_some}
-use lib.Dec.{leb, ltb, eqb}
+use mathlib.Core.Bool.{Bool, true, false, not, cond, true≢false, false≢true}
+use Rattle.std.specs.Prelude.{Option, None, Some, find, is_some}
+use lib.Dec.{leb, ltb}
 use borrow.Author.Tests.{eq-eqb, eqb-true, eqb-false, leb-true, leb-false, ltb-true, ltb-false}
 use Rattle.std.proofs.lemmas.Bool.{and_from}
 use Rattle.lists.specs.Member.{In}
 use Rattle.lists.specs.Rising.{RisesFrom}
 use Rattle.lists.proofs.Rising.{rises_in}
 use Rattle.lists.proofs.Member.{some_inj, none_some, and_left, in_snoc, in_of_map}
-use Rattle.lists.proofs.Find.{find_in, find_none}
+use Rattle.lists.proofs.Find.{find_none}
 use Rattle.lists.proofs.Filter.{in_filter, filter_in}
 use Rattle.node.specs.declared.record.NodeId.{NodeId}
-use Rattle.node.specs.declared.record.VoiceId.{VoiceId}
 use Rattle.node.specs.declared.refusal.Refusal.{Refusal}
 use Rattle.node.specs.declared.refusal.Refusal.TheVariants.{NoPort}
 use Rattle.edges.specs.Ports.{port_from}
@@ -24,16 +23,15 @@ use Rattle.voice.specs.declared.policy.Admission.{Admission}
 use Rattle.voice.specs.declared.policy.Admission.TheVariants as admission
 use Rattle.store.specs.declared.voices.Voice.{Voice}
 use Rattle.store.specs.declared.voices.VoiceState.{VoiceState}
-use Rattle.store.specs.declared.voices.VoiceState.TheVariants.{Tracked, Fading, Loose}
+use Rattle.store.specs.declared.voices.VoiceState.TheVariants.{Tracked, Fading}
 use Rattle.store.specs.declared.voices.Fade.{Fade}
-use Rattle.model.specs.SharedState.{SharedState}
 use Rattle.model.specs.Voice.{is_voice, is_tracked, is_fading, is_on, start_of, fades_on, counted, feeder, with_state, begin_fade}
 use Rattle.model.specs.Refuse.{spawn_refusal}
-use Rattle.model.specs.Spawn.{Spawn, earlier, earliest, no_later, else_victim, next_out, state_under, tries, fade_of, new_voice}
-use Rattle.model.specs.Model.{Model, SpawnResult, port_free, cut_off, fade, stolen, steal_voice, instantiate_or, refused, place, place_within_budget, steal_then, admitted, admission_on, unless}
+use Rattle.model.specs.Spawn.{Spawn, earlier, earliest, else_victim, next_out, state_under, tries, fade_of, new_voice}
+use Rattle.model.specs.Model.{Model, port_free, cut_off, fade, stolen, steal_voice, instantiate_or, refused, place, place_within_budget, steal_then, admitted, admission_on, unless}
 use Rattle.model.specs.Call as call
-use Rattle.ledger.specs.Claim.{victim_in, victim_of, Reclaims}
-use Rattle.ledger.proofs.Ids.{Ids, once, unique, ids_filter, ids_map}
+use Rattle.ledger.specs.Claim.{victim_in, Reclaims}
+use Rattle.ledger.proofs.Ids.{Ids, unique, ids_filter, ids_map}
 use Rattle.ledger.proofs.Managed.{begin_id}
 use Rattle.ledger.proofs.Victim.{earliest_in, earliest_none, steal_voice_lem}
 

@@ -7,11 +7,13 @@
 -- `quiet`, `marks` and `writes`.
 use Rattle.std.specs.Prelude.{ℕ, zero, suc, ◌+◌, ◌-◌, ◌≤◌, ◌<◌, ◌*◌, ◌/◌, ◌≡◌, ◌⊎◌, ◌↔◌, List, [], ◌∷◌, ◌++◌, map, Bool, true, false, not, cond, ◌&&◌, ◌||◌, eqb, leb, ltb, ℤ, Float, length, Option, None, Some, find, is_some, option_map, filter, Result, Err, Ok}
 use Rattle.lists.specs.Member.{In}
+use Rattle.lists.specs.Rising as rising
 use Rattle.lists.specs.Count.{more, count}
 use Rattle.node.specs.declared.record.Edge.{Edge}
 use Rattle.node.specs.declared.record.Node.{Node}
 use Rattle.node.specs.declared.record.NodeId.{NodeId}
 use Rattle.node.specs.declared.record.VoiceId.{VoiceId}
+use Rattle.node.specs.declared.order.EventAction.{EventAction}
 use Rattle.node.specs.declared.refusal.Refusal.{Refusal}
 use Rattle.node.specs.declared.refusal.Refusal.TheVariants.{UnknownNode, VoiceNode, TableFull, IdsUsedUp, DefinitionLimits, BusWithoutPorts, Rejected, NoPort, RankTooHigh}
 use Rattle.bus.specs.Block as samples
@@ -22,7 +24,7 @@ use Rattle.whole_bus.specs.Sample.{is_sample}
 use Rattle.whole_bus.specs.Block as whole
 use Rattle.rank.specs.Order.{upto}
 use Rattle.rank.specs.Cycle.{Distinct, Sorted}
-use Rattle.prepare.specs.Live.{arc_of}
+use Rattle.prepare.specs.Live.{RisesFrom, arc_of}
 use Rattle.edges.specs.Wiring.{ends_at}
 use Rattle.edges.specs.Ports.{port_from}
 use Rattle.graph.specs.View.{GraphView}
@@ -32,6 +34,7 @@ use Rattle.scheduler.specs.Queue as queue
 use Rattle.scheduler.specs.declared.event.Event.{Event}
 use Rattle.voice.specs.Steals.{StealLog, cut_of, found_at, record_of}
 use Rattle.voice.specs.Policy.{at_budget}
+use Rattle.voice.specs.Quietest.{QuietestGoes}
 use Rattle.voice.specs.declared.policy.Admission.{Admission}
 use Rattle.voice.specs.declared.policy.Admission.TheVariants as admission
 use Rattle.voice.specs.declared.policy.BudgetScope.{BudgetScope}
@@ -45,7 +48,7 @@ use Rattle.store.specs.declared.voices.VoiceState.{VoiceState}
 use Rattle.store.specs.declared.voices.VoiceState.TheVariants.{Tracked, Fading, Loose}
 use Rattle.store.specs.declared.voices.Fade.{Fade}
 use Rattle.model.specs.SharedState.{SharedState, length_l, sounding}
-use Rattle.model.specs.Voice.{id, is_voice, is_tracked, is_fading, is_on, feeder, end_of, voice_level, counted, moved, moved_fade, with_state}
+use Rattle.model.specs.Voice.{id, is_voice, is_tracked, is_fading, is_on, feeder, end_of, voice_level, candidate, counted, moved, moved_fade, with_state}
 use Rattle.model.specs.Refuse.{spawn_refusal}
 use Rattle.model.specs.Spawn.{Spawn, next_voice, state_under, fade_of}
 use Rattle.model.specs.Clear.{is_silent}
@@ -55,6 +58,8 @@ use Rattle.model.specs.Model.{Model, admission_on}
 use Rattle.model.specs.Page.{port_now}
 use Rattle.model.specs.Call.{Call, Answer}
 use Rattle.model.specs.Call as call
+use Rattle.refusals.specs.First.{Refuses}
+use Rattle.refusals.specs.Host.{prepare_rows, prepare_when, schedule_rows, schedule_when}
 use Rattle.refusals.specs.Spawn.{May, spawn_when, SpawnAnswers, loose_rows, loose_when}
 use Rattle.ledger.specs.Holder.{Holder, nobody, host, voice}
 use Rattle.ledger.specs.Ledger.{Ledger, new_ledger}
@@ -264,6 +269,18 @@ pub record Losses (x : Spawn) (s s' : Model) : Type 0 where
   pub added : s'.shared.steals.count ≡ s.shared.steals.count + length lost
   pub records : Records (loss_of s.shared s'.voices) s'.shared.steals s.shared.steals.count lost
 
+-- ---- the policy: SPEC 9.3, 9.4
+-- of the voices that count for the spawn x, those of the rank of v, in voice order
+abbrev pub peers : Spawn → Model → Voice → List Voice
+peers x s v = filter (λ (u : Voice). eqb u.rank v.rank && counted s.shared.config.scope x.bus u) s.voices
+
+-- which of them goes: the first, the last, or the one that `QuietestGoes` names of their levels
+abbrev pub Goes : StealPolicy → SharedState → List Voice → Voice → Type 0
+Goes policy.Reject d vs v = ⊥
+Goes policy.Oldest d vs v = (rest : List Voice) × (vs ≡ v ∷ rest)
+Goes policy.Newest d vs v = (front : List Voice) × (vs ≡ front ++ (v ∷ []))
+Goes policy.Quietest d vs v = (place : ℕ) × QuietestGoes (map (candidate d) vs) (Some (place, v.id))
+
 -- ---- reclaiming: SPEC 9.7
 -- What the managed spawn x, which made of s the store s', took from the bus for a port.
 pub record Reclaims (x : Spawn) (s s' : Model) : Type 0 where
@@ -408,6 +425,12 @@ InOrder g = Sorted (node_ids g.nodes) (map arc_of g.edges) (map (λ (k : NodeId)
 
 -- ---- 2 to 5, of the store s, which a list of calls left, and of the call that is next
 pub record Holds (c : Config) (s : Model) : Type 0 where
+  -- ---- What making fixed stays, and live ids rise, below the next.
+  pub made : s.shared.config ≡ c
+  pub node_rows : RisesFrom 0 s.shared.graph.nodes
+  pub next_node : (n : Node) → In n s.shared.graph.nodes → n.id.0 < s.shared.graph.next
+  pub voice_rows : rising.RisesFrom (λ (v : Voice). v.id.0) 1 s.voices
+  pub next_voice : (v : Voice) → In v s.voices → v.id.0 ≤ s.shared.spawned
   -- ---- 2. The next clearing call has removed a voice whose fade has ended; what is left are the voices whose fade has not ended and, of
   -- these, whose plan is not silent; it answers how many it removed.
   pub removes : (v : Voice) → In v s.voices → clearing.ended (fade_length c.rate) v.state ≡ true → find (is_voice v.id) (call.step call.clear s).model.voices ≡ None
@@ -429,6 +452,8 @@ pub record Holds (c : Config) (s : Model) : Type 0 where
       ≡ more (is_let a) (s.shared.steals.count + count tracks s.voices)
   -- What these records hold: the clock, the level of the voice before anything of the call changed, and a cut mark exactly if it is removed.
   pub losses : (x : Spawn) → Losses x s (call.step (call.spawn_managed x) s).model
+  -- Who goes for an admission: of those that count and have the lowest rank (`least` of `Losses`), the one that the policy names.
+  pub chooses : (x : Spawn) (v : Voice) → victim_of x s ≡ Some v → Goes s.shared.config.policy s.shared (peers x s v) v
   -- Who goes for a port: the fades of the bus, the earliest first, before any tracked voice.
   pub reclaims : (x : Spawn) → Reclaims x s (call.step (call.spawn_managed x) s).model
   -- Each fade has a record of its own: its number was written, and no other fade has it.
@@ -460,6 +485,10 @@ pub record Holds (c : Config) (s : Model) : Type 0 where
   pub wires : (e : Edge) → In e s.shared.graph.edges → In e.from.0 (node_ids s.shared.graph.nodes) × In e.to.0 (node_ids s.shared.graph.nodes)
   pub in_order : s.shared.graph.prepared ≡ true → InOrder s.shared.graph
   pub prepares : s.shared.graph.prepared ≡ true → call.step call.prepare s ≡ record { answer = call.done; model = s }
+  -- Where it is not prepared, prepare is refused with 13 or 14 exactly as its rows say; and scheduling with 7 exactly where 256 events are pending and
+  -- the new one replaces none. Every other call of the host is refused by its rows on any store: crate refusals.
+  pub unprepared : Refuses (prepare_when s.shared.graph) prepare_rows call.prepare s
+  pub unscheduled : (t : ℕ) (w : VoiceId) (name : List ℕ) (a : EventAction) → Refuses (schedule_when (call.event t w name a) s.shared.events) schedule_rows (call.schedule t w name a) s
   pub sounds : (out : List ℕ) → render_refusal s.shared (length out) ≡ None → is_sounded (call.step (call.render out) s).answer ≡ sounding (call.step (call.render out) s).model.shared
   -- ---- 02, Paper 4. The page's port column, of every voice: tracked, fading or loose.
   pub shows : (v : Voice) → In v s.voices → Shows s v

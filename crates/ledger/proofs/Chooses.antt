@@ -1,0 +1,115 @@
+-- Whom an admission takes: of those that count and have the lowest rank, the one that the policy names.
+use Prim.Native.Nat.{ℕ, zero, suc, ◌<◌}
+use native.Mathlib.Omega.{arith}
+use mathlib.Core.Path.{◌≡◌, refl, sym, ap, ◌∙◌, subst}
+use mathlib.Core.Logic.{inl, inr}
+use mathlib.Core.List.{List, [], ◌∷◌, ◌++◌, map}
+use mathlib.Core.Bool.{Bool, true, false, ◌&&◌}
+use Rattle.std.specs.Prelude.{Option, None, Some, find, filter, get_or}
+use lib.Dec.{eqb}
+use lib.ListN.{length}
+use borrow.Author.Tests.{eqb-true}
+use Rattle.lists.specs.Member.{In}
+use Rattle.lists.proofs.Member.{some_inj, none_some, in_map, in_right}
+use Rattle.lists.proofs.Find.{find_in}
+use Rattle.lists.proofs.Filter.{in_filter, filter_filter, filter_map}
+use Rattle.node.specs.declared.record.VoiceId.{VoiceId}
+use Rattle.node.specs.declared.refusal.Refusal.{Refusal}
+use Rattle.voice.specs.Policy.{Victim, victim, policy_victim, last_from, lowest, of_lowest, at_budget, decides}
+use Rattle.voice.specs.Quietest.{QuietestGoes}
+use Rattle.voice.proofs.Quietest.{quietest_goes}
+use Rattle.voice.proofs.Victims.{OneOf, victim_one}
+use Rattle.voice.specs.declared.policy.Admission.{Admission}
+use Rattle.voice.specs.declared.policy.Admission.TheVariants as admission
+use Rattle.voice.specs.declared.policy.Candidate.{Candidate}
+use Rattle.voice.specs.declared.policy.StealPolicy.{StealPolicy}
+use Rattle.voice.specs.declared.policy.StealPolicy.TheVariants as policy
+use Rattle.store.specs.declared.voices.Voice.{Voice}
+use Rattle.model.specs.SharedState.{SharedState}
+use Rattle.model.specs.Voice.{is_voice, counted, candidate, candidates}
+use Rattle.model.specs.Refuse.{spawn_refusal}
+use Rattle.model.specs.Spawn.{Spawn}
+use Rattle.model.specs.Model.{Model, admission_on}
+use Rattle.ledger.specs.Claim.{victim_in, victim_of, peers, Goes}
+use Rattle.ledger.proofs.Ids.{Ids, unique, same_id}
+
+in_at : (l : List Candidate) (i : ℕ) (d : Candidate) → i < length l → In (get_or l i d) l
+in_at [] i d h = absurd (omega arith)
+in_at (c ∷ l) zero d h = inl refl
+in_at (c ∷ l) (suc i) d h = let k : i < length l = omega arith in inr (in_at l i d k)
+
+-- the last
+last_is : (d : SharedState) (p : ℕ) (vs : List Voice) (place : ℕ) (w : VoiceId) → last_from p (map (candidate d) vs) ≡ Some (place, w) → (front : List Voice) × (a : Voice) × (vs ≡ front ++ (a ∷ [])) × (a.id ≡ w)
+last_is d p [] place w h = absurd (none_some h)
+last_is d p (a ∷ []) place w h = ([], a, refl, ap (λ (z : ℕ × VoiceId). z.1) (some_inj h))
+last_is d p (a ∷ b ∷ vs) place w h = let r = last_is d (suc p) (b ∷ vs) place w h in (a ∷ r.0, r.1, ap (λ l. a ∷ l) r.2, r.3)
+
+module _ (x : Spawn) (m : Model) {k : ℕ} (d : Ids k m.voices) where
+  abbrev q : Voice → Bool
+  q = counted m.shared.config.scope x.bus
+
+  -- the victim named w is v
+  module _ (v : Voice) (place : ℕ) (w : VoiceId) (found : find (is_voice w) m.voices ≡ Some v) where
+    abbrev here : In v m.voices
+    here = (find_in (is_voice w) m.voices v found).0
+
+    id_is : v.id.0 ≡ w.0
+    id_is = eqb-true v.id.0 w.0 (find_in (is_voice w) m.voices v found).1
+
+    is_v : (u : Voice) → In u m.voices → u.id ≡ w → u ≡ v
+    is_v u i e = unique d u v i here (ap (λ (z : VoiceId). z.0) e ∙ sym id_is)
+
+    -- those that a policy is asked of
+    asked : victim m.shared.config.policy x.rank (candidates m.shared q m.voices) ≡ Some (place, w) → of_lowest x.rank (candidates m.shared q m.voices) ≡ map (candidate m.shared) (peers x m v)
+    asked h =
+        filter_map (candidate m.shared) (λ c. eqb c.rank low) (λ u. eqb u.rank low) (λ u. refl) (filter q m.voices)
+        ∙ ap (map (candidate m.shared)) (filter_filter (λ u. eqb u.rank low) q m.voices)
+        ∙ ap (λ n. map (candidate m.shared) (filter (λ (u : Voice). eqb u.rank n && q u) m.voices)) rank
+      where
+        low : ℕ
+        low = lowest x.rank (candidates m.shared q m.voices)
+
+        rank : lowest x.rank (candidates m.shared q m.voices) ≡ v.rank
+        rank = go (victim m.shared.config.policy x.rank (candidates m.shared q m.voices)) h (victim_one (record { voice = w; level = None; rank = 0 }) m.shared.config.policy (of_lowest x.rank (candidates m.shared q m.voices)))
+          where
+            go : (o : Victim) → o ≡ Some (place, w) → OneOf (record { voice = w; level = None; rank = 0 }) (of_lowest x.rank (candidates m.shared q m.voices)) o → lowest x.rank (candidates m.shared q m.voices) ≡ v.rank
+            go o e one =
+                let p = subst (OneOf (record { voice = w; level = None; rank = 0 }) (of_lowest x.rank (candidates m.shared q m.voices))) e one in
+                let c = get_or (of_lowest x.rank (candidates m.shared q m.voices)) place (record { voice = w; level = None; rank = 0 }) in
+                let i = in_filter (λ c. eqb c.rank (lowest x.rank (candidates m.shared q m.voices))) (candidates m.shared q m.voices) c (in_at (of_lowest x.rank (candidates m.shared q m.voices)) place (record { voice = w; level = None; rank = 0 }) p.0) in
+                let u = in_map (candidate m.shared) (filter q m.voices) c i.0 in
+                let same : u.0 ≡ v = is_v u.0 (in_filter q m.voices u.0 u.1).0 (sym (ap (λ (y : Candidate). y.voice) u.2) ∙ p.1) in
+                sym (eqb-true _ _ i.1) ∙ ap (λ (y : Candidate). y.rank) u.2 ∙ ap (λ (y : Voice). y.rank) same
+
+    by_policy : (t : StealPolicy) → policy_victim t (map (candidate m.shared) (peers x m v)) ≡ Some (place, w) → Goes t m.shared (peers x m v) v
+    by_policy policy.Reject h = absurd (none_some h)
+    by_policy policy.Oldest h = first (peers x m v) (λ u i. (in_filter (λ (u : Voice). eqb u.rank v.rank && q u) m.voices u i).0) h
+      where
+        first : (l : List Voice) → ((u : Voice) → In u l → In u m.voices) → policy_victim policy.Oldest (map (candidate m.shared) l) ≡ Some (place, w) → (rest : List Voice) × (l ≡ v ∷ rest)
+        first [] i h = absurd (none_some h)
+        first (a ∷ rest) i h = (rest, ap (λ y. y ∷ rest) (is_v a (i a (inl refl)) (ap (λ (z : ℕ × VoiceId). z.1) (some_inj h))))
+    by_policy policy.Newest h =
+        let r = last_is m.shared 0 (peers x m v) place w h in
+        let i : In r.1 (peers x m v) = subst (In r.1) (sym r.2) (in_right r.0 (r.1 ∷ []) r.1 (inl refl)) in
+        (r.0, r.2 ∙ ap (λ y. r.0 ++ (y ∷ [])) (is_v r.1 (in_filter (λ (u : Voice). eqb u.rank v.rank && q u) m.voices r.1 i).0 r.3))
+    by_policy policy.Quietest h =
+        (place, subst (QuietestGoes (map (candidate m.shared) (peers x m v))) (h ∙ ap (λ z. Some (place, z)) (sym (same_id v.id w id_is))) (quietest_goes (map (candidate m.shared) (peers x m v))))
+
+  decided : (b : Bool) (o : Victim) (place : ℕ) (w : VoiceId) → decides b o ≡ admission.Steal place w → o ≡ Some (place, w)
+  decided false o place w e = let z : ◌≡◌ {A = ℕ} 0 1 = cc in absurd (omega arith)
+  decided true None place w e = let z : ◌≡◌ {A = ℕ} 0 1 = cc in absurd (omega arith)
+  decided true (Some (p, v)) place w e =
+      let a : p ≡ place = cc in
+      let b : v ≡ w = cc in
+      ap (λ z. Some (z, v)) a ∙ ap (λ z. Some (place, z)) b
+
+  pub chooses : (v : Voice) → victim_of x m ≡ Some v → Goes m.shared.config.policy m.shared (peers x m v) v
+  chooses v h = go (spawn_refusal m.shared m.voices x.def x.bus x.rank) (admission_on x.bus x.rank m) refl h
+    where
+      go : (o : Option Refusal) (a : Admission) → admission_on x.bus x.rank m ≡ a → victim_in o a m.voices ≡ Some v → Goes m.shared.config.policy m.shared (peers x m v) v
+      go (Some r) a e h = absurd (none_some h)
+      go None admission.Admit e h = absurd (none_some h)
+      go None admission.Reject e h = absurd (none_some h)
+      go None (admission.Steal place w) e h =
+          let z = decided (at_budget m.shared.config.budget (length (candidates m.shared q m.voices))) (victim m.shared.config.policy x.rank (candidates m.shared q m.voices)) place w e in
+          by_policy v place w h m.shared.config.policy (sym (ap (policy_victim m.shared.config.policy) (asked v place w h z)) ∙ z)
