@@ -1,14 +1,14 @@
 -- Whom an admission takes: of those that count and have the lowest rank, the one that the policy names.
-use Prim.Native.Nat.{ℕ, zero, suc, ◌<◌}
+use Prim.Native.Nat.{ℕ, zero, suc, ◌≤◌, ◌<◌}
 use native.Mathlib.Omega.{arith}
 use mathlib.Core.Path.{◌≡◌, refl, sym, ap, ◌∙◌, subst}
 use mathlib.Core.Logic.{inl, inr}
 use mathlib.Core.List.{List, [], ◌∷◌, ◌++◌, map}
 use mathlib.Core.Bool.{Bool, true, false, ◌&&◌}
 use Rattle.std.specs.Prelude.{Option, None, Some, find, filter, get_or}
-use lib.Dec.{eqb}
+use lib.Dec.{eqb, leb}
 use lib.ListN.{length}
-use borrow.Author.Tests.{eqb-true}
+use borrow.Author.Tests.{eqb-true, leb-true}
 use Rattle.lists.specs.Member.{In}
 use Rattle.lists.proofs.Member.{some_inj, none_some, in_map, in_right}
 use Rattle.lists.proofs.Find.{find_in}
@@ -30,7 +30,9 @@ use Rattle.model.specs.Voice.{is_voice, counted, candidate, candidates}
 use Rattle.model.specs.Refuse.{spawn_refusal}
 use Rattle.model.specs.Spawn.{Spawn}
 use Rattle.model.specs.Model.{Model, admission_on}
-use Rattle.ledger.specs.Claim.{victim_in, victim_of, peers, Goes}
+use Rattle.refusals.proofs.Spawn.{admissible}
+use Rattle.ledger.specs.Claim.{victim_in, victim_of, peers, Goes, Chosen}
+use Rattle.ledger.proofs.Victim.{candidates_count}
 use Rattle.ledger.proofs.Ids.{Ids, unique, same_id}
 
 in_at : (l : List Candidate) (i : ℕ) (d : Candidate) → i < length l → In (get_or l i d) l
@@ -103,13 +105,29 @@ module _ (x : Spawn) (m : Model) {k : ℕ} (d : Ids k m.voices) where
       let b : v ≡ w = cc in
       ap (λ z. Some (z, v)) a ∙ ap (λ z. Some (place, z)) b
 
-  pub chooses : (v : Voice) → victim_of x m ≡ Some v → Goes m.shared.config.policy m.shared (peers x m v) v
-  chooses v h = go (spawn_refusal m.shared m.voices x.def x.bus x.rank) (admission_on x.bus x.rank m) refl h
+  -- an admission that steals does so at budget
+  at_most : (o : Option ℕ) (n : ℕ) (l : Victim) (place : ℕ) (w : VoiceId) → decides (at_budget o n) l ≡ admission.Steal place w → (most : ℕ) × (o ≡ Some most) × (most ≤ n)
+  at_most None n l place w e = let z : ◌≡◌ {A = ℕ} 0 1 = cc in absurd (omega arith)
+  at_most (Some most) n l place w e = go (leb most n) refl e
     where
-      go : (o : Option Refusal) (a : Admission) → admission_on x.bus x.rank m ≡ a → victim_in o a m.voices ≡ Some v → Goes m.shared.config.policy m.shared (peers x m v) v
-      go (Some r) a e h = absurd (none_some h)
-      go None admission.Admit e h = absurd (none_some h)
-      go None admission.Reject e h = absurd (none_some h)
-      go None (admission.Steal place w) e h =
+      go : (b : Bool) → leb most n ≡ b → decides b l ≡ admission.Steal place w → (k : ℕ) × (Some most ≡ Some k) × (k ≤ n)
+      go false q e = let z : ◌≡◌ {A = ℕ} 0 1 = cc in absurd (omega arith)
+      go true q e = (most, refl, leb-true _ _ q)
+
+  pub chooses : (v : Voice) → victim_of x m ≡ Some v → Chosen x m v
+  chooses v h = go (spawn_refusal m.shared m.voices x.def x.bus x.rank) refl (admission_on x.bus x.rank m) refl h
+    where
+      go : (o : Option Refusal) → spawn_refusal m.shared m.voices x.def x.bus x.rank ≡ o → (a : Admission) → admission_on x.bus x.rank m ≡ a → victim_in o a m.voices ≡ Some v → Chosen x m v
+      go (Some r) f a e h = absurd (none_some h)
+      go None f admission.Admit e h = absurd (none_some h)
+      go None f admission.Reject e h = absurd (none_some h)
+      go None f (admission.Steal place w) e h =
           let z = decided (at_budget m.shared.config.budget (length (candidates m.shared q m.voices))) (victim m.shared.config.policy x.rank (candidates m.shared q m.voices)) place w e in
-          by_policy v place w h m.shared.config.policy (sym (ap (policy_victim m.shared.config.policy) (asked v place w h z)) ∙ z)
+          let b = at_most m.shared.config.budget (length (candidates m.shared q m.voices)) (victim m.shared.config.policy x.rank (candidates m.shared q m.voices)) place w e in
+          record {
+            may = (admissible m.shared m.voices x.def x.bus x.rank).0 f;
+            most = b.0;
+            budget = b.1;
+            reached = subst (λ n. b.0 ≤ n) (candidates_count m.shared q m.voices) b.2;
+            goes = by_policy v place w h m.shared.config.policy (sym (ap (policy_victim m.shared.config.policy) (asked v place w h z)) ∙ z);
+          }
