@@ -63,7 +63,7 @@ use Rattle.ledger.proofs.Clearing.{cleared_voices, cleared_count}
 use Rattle.ledger.proofs.SpawnFailure.{spawn_answer_lem}
 use Rattle.ledger.proofs.SpawnRows.{managed_answers, none_let}
 use Rattle.ledger.proofs.Owner.{owner_some}
-use Rattle.ledger.proofs.Chooses.{chooses}
+use Rattle.ledger.proofs.Chooses.{chooses, next_goes}
 use Rattle.ledger.proofs.Ready.{to_live, ReadyOf, prepared_sorted, prepared_same, render_sounds}
 use Rattle.ledger.proofs.Losses.{losses}
 use Rattle.ledger.proofs.Reclaims.{reclaims}
@@ -257,6 +257,7 @@ module _ (c : Config) (l : Ledger) (known : Known c l) where
         next_voice = (ids_map (shown c) (λ v. refl) r.ids).below;
         unprepared = prepare_refuses (store_of c l) (to_live 0 l.shared.graph.nodes known.ready.rows.rises);
         unscheduled = λ t w name a. schedule_refuses (store_of c l) t w name a known.room.events;
+        next_for_port = next_goes (store_of c l) (ids_map (shown c) (λ v. refl) r.ids);
         chooses = λ x. chooses x (store_of c l) (ids_map (shown c) (λ v. refl) r.ids);
         removes = λ v i e. next call.clear (λ t. find (is_voice v.id) t.model.voices ≡ None) (ap (find (is_voice v.id)) left ∙ without_voice v i e);
         clears = next call.clear (λ t. t.model.voices ≡ Left (map (shown c) l.voices)) left;

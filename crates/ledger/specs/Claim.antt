@@ -47,9 +47,9 @@ use Rattle.store.specs.declared.voices.VoiceState.{VoiceState}
 use Rattle.store.specs.declared.voices.VoiceState.TheVariants.{Tracked, Fading, Loose}
 use Rattle.store.specs.declared.voices.Fade.{Fade}
 use Rattle.model.specs.SharedState.{SharedState, length_l, sounding}
-use Rattle.model.specs.Voice.{id, is_voice, is_tracked, is_fading, is_on, feeder, end_of, voice_level, candidate, counted, moved, moved_fade, with_state}
+use Rattle.model.specs.Voice.{id, is_voice, is_tracked, is_fading, is_on, feeder, end_of, voice_level, candidate, counted, tracked_on, moved, moved_fade, with_state}
 use Rattle.model.specs.Refuse.{spawn_refusal}
-use Rattle.model.specs.Spawn.{Spawn, next_voice, state_under, fade_of}
+use Rattle.model.specs.Spawn.{Spawn, next_voice, next_out, state_under, fade_of}
 use Rattle.model.specs.Clear.{is_silent}
 use Rattle.model.specs.Clear as clearing
 use Rattle.model.specs.Render.{is_free, is_sounding, deadline, render_refusal}
@@ -269,9 +269,13 @@ pub record Losses (x : Spawn) (s s' : Model) : Type 0 where
   pub records : Records (loss_of s.shared s'.voices) s'.shared.steals s.shared.steals.count lost
 
 -- ---- the policy: SPEC 9.3, 9.4
--- of the voices that count for the spawn x, those of the rank of v, in voice order
+-- those of the rank k that pass the test, in voice order
+abbrev pub of_rank : ℕ → (Voice → Bool) → List Voice → List Voice
+of_rank k q vs = filter (λ (u : Voice). eqb u.rank k && q u) vs
+
+-- of the voices that count for the spawn x, those of the rank of v
 abbrev pub peers : Spawn → Model → Voice → List Voice
-peers x s v = filter (λ (u : Voice). eqb u.rank v.rank && counted s.shared.config.scope x.bus u) s.voices
+peers x s v = of_rank v.rank (counted s.shared.config.scope x.bus) s.voices
 
 -- which of them goes: the first, the last, or the one that `QuietestGoes` names of their levels
 abbrev pub Goes : StealPolicy → SharedState → List Voice → Voice → Type 0
@@ -475,6 +479,11 @@ pub record Holds (c : Config) (s : Model) : Type 0 where
   pub chooses : (x : Spawn) (v : Voice) → victim_of x s ≡ Some v → Chosen x s v
   -- SPEC 9.7. For a port the fades of the bus go, the earliest first, before any tracked voice.
   pub reclaims : (x : Spawn) → Reclaims x s (left_by (call.spawn_managed x) s)
+  -- Where no fade of the bus is left, the tracked voice that goes next for a new voice of rank r is the one that the policy names of those of the bus that
+  -- have the lowest rank, and does not outrank the new voice.
+  pub next_for_port : (bus : NodeId) (r : ℕ) (v : Voice) → next_out s.shared bus r s.voices ≡ Some v → v.state ≡ Tracked
+      → (v.rank ≤ r) × ((u : Voice) → In u s.voices → tracked_on bus u ≡ true → v.rank ≤ u.rank)
+      × Goes s.shared.config.policy s.shared (of_rank v.rank (tracked_on bus) s.voices) v
   -- Each fade has a record of its own: its number was written, and no other fade has it.
   pub numbers : (v : Voice) → In v s.voices → (f : Fade) → v.state ≡ Fading f → f.number < s.shared.steals.count
   pub own : (u v : Voice) → In u s.voices → In v s.voices → (f g : Fade) → u.state ≡ Fading f → v.state ≡ Fading g → f.number ≡ g.number → u ≡ v
