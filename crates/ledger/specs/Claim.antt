@@ -1,9 +1,10 @@
--- One claim about every list of calls, refused ones too, from every making that is accepted: SPEC 21. A list starts from a newly made store, and
--- each call gets the store that the last one left. The ledger is fed the calls with all their arguments, making's too, and nothing of the store.
--- `Claim`, at the end, is the statement: 1 says that the store is the ledger's; 2 to 5, in `Holds`, are said of the store itself, after the list
--- and at the call that is next. The words before them are what they say.
--- A fade that moves only at the first steal, or never, contradicts `ends`; a 12 before reclaiming, a store that refuses every spawn and one that
--- does nothing contradict `spawns`, whose premise is numbers alone; steal records counted at will contradict `quiet`, `marks` and `writes`.
+-- One claim about every list of calls, refused ones too, from every making that is accepted: SPEC 21. A list starts
+-- from a newly made store, and each call gets the store that the last one left. The ledger is fed the calls with all
+-- their arguments, making's too, and nothing of the store. `Claim`, at the end, is the statement: 1 says that the store
+-- is the ledger's; 2 to 5, in `Holds`, are said of the store itself, after the list and at the call that is next. The
+-- words before them are what they say. A fade that moves only at the first steal, or never, contradicts `ends`; a 12
+-- before reclaiming, a store that refuses every spawn and one that does nothing contradict `spawns`, whose premise is
+-- numbers alone; steal records counted at will contradict `quiet`, `marks` and `writes`.
 use Rattle.std.specs.Prelude.{ℕ, zero, suc, ◌+◌, ◌-◌, ◌≤◌, ◌<◌, ◌*◌, ◌/◌, ◌≡◌, ◌⊎◌, ◌↔◌, List, [], ◌∷◌, ◌++◌, map, Bool, true, false, not, cond, ◌&&◌, ◌||◌, eqb, leb, ltb, ℤ, Float, length, Option, None, Some, find, is_some, option_map, filter, Result, Err, Ok}
 use Rattle.lists.specs.Member.{In}
 use Rattle.lists.specs.Rising as rising
@@ -95,12 +96,15 @@ node_ids ns = map (λ (x : Node). x.id.0) ns
 abbrev pub voice_ids : List Voice → List ℕ
 voice_ids vs = map (λ (v : Voice). v.id.0) vs
 
--- A row that is free serves again, and its id never returns (SPEC 4.1, 9.9): `ids` are those that are live after a list of calls
+-- A row that is free serves again, and its id never returns (SPEC 4.1, 9.9): `ids` are those that are live after a list
+-- of calls
 pub record NeverReturns (ids : List Call → List ℕ) (xs : List Call) : Type 0 where
   -- one that was live after some of the calls, and is not after all of them, is never live again
-  pub never : (before rest : List Call) → xs ≡ before ++ rest → (k : ℕ) → In k (ids before) → (In k (ids xs) → ⊥) → (ys : List Call) → In k (ids (xs ++ ys)) → ⊥
+  pub never : (before rest : List Call) → xs ≡ before ++ rest → (k : ℕ) → In k (ids before) → (In k (ids xs) → ⊥)
+      → (ys : List Call) → In k (ids (xs ++ ys)) → ⊥
   -- one that the next call makes live is above each that was live before it
-  pub rises : (before rest : List Call) → xs ≡ before ++ rest → (j k : ℕ) → In j (ids before) → (x : Call) → In k (ids (xs ++ (x ∷ []))) → (In k (ids xs) → ⊥) → j < k
+  pub rises : (before rest : List Call) → xs ≡ before ++ rest → (j k : ℕ) → In j (ids before) → (x : Call)
+      → In k (ids (xs ++ (x ∷ []))) → (In k (ids xs) → ⊥) → j < k
 
 -- ---- holders, as the edges give them
 -- who owns the node of an id
@@ -139,8 +143,9 @@ abbrev pub holder_at : List Node → List Edge → ℕ → ℕ → Holder
 holder_at ns es n p = holds_at (owner_at ns) es n p
 
 -- ---- fades
--- the voice v, which fades by f after the calls xs on the store m, was stolen by one of them, a managed spawn: it was tracked before, the
--- fade starts at that clock and has the number of the next record, and its position is a block for each sounding render since
+-- the voice v, which fades by f after the calls xs on the store m, was stolen by one of them, a managed spawn: it was
+-- tracked before, the fade starts at that clock and has the number of the next record, and its position is a block for
+-- each sounding render since
 pub record Stolen (m : Model) (block : ℕ) (xs : List Call) (v : Voice) (f : Fade) : Type 0 where
   pub before : List Call
   pub later : List Call
@@ -189,10 +194,12 @@ cut_if_held (Some r) = r.cut
 -- why a voice v that faded by f is not there any more, after the call x that made of s the store s'
 pub data Why (s s' : Model) (v : Voice) (f : Fade) : Call → Type 0 where
   freed : Why s s' v f (call.free v.id)
-  timed : (out : List ℕ) (e : Event) → In e s.shared.events → queue.due (deadline s.shared) e ≡ true → is_free e.action ≡ true → e.voice ≡ v.id → Why s s' v f (call.render out)
+  timed : (out : List ℕ) (e : Event) → In e s.shared.events → queue.due (deadline s.shared) e ≡ true → is_free e.action
+      ≡ true → e.voice ≡ v.id → Why s s' v f (call.render out)
   ended : clearing.ended (length_l s.shared) v.state ≡ true → Why s s' v f call.clear
   silent : is_silent s.shared.graph.nodes v ≡ true → Why s s' v f call.clear
-  reclaimed : (x : Spawn) → is_on x.bus v ≡ true → cut_if_held (held_record s'.shared.steals f.number) ≡ true → Why s s' v f (call.spawn_managed x)
+  reclaimed : (x : Spawn) → is_on x.bus v ≡ true → cut_if_held (held_record s'.shared.steals f.number) ≡ true
+      → Why s s' v f (call.spawn_managed x)
 
 -- a fade of the bus that has the record k, among the voices vs and not among the voices vs' after them
 pub record Reclaimed (vs vs' : List Voice) (bus : NodeId) (k : ℕ) : Type 0 where
@@ -204,7 +211,8 @@ pub record Reclaimed (vs vs' : List Voice) (bus : NodeId) (k : ℕ) : Type 0 whe
   pub on : is_on bus voice ≡ true
   pub without_voice : find (is_voice voice.id) vs' ≡ None
 
--- record k, which was there before a managed spawn, is as before; or no longer one of the newest 64; or it is marked cut, and a fade that has it was reclaimed
+-- record k, which was there before a managed spawn, is as before; or no longer one of the newest 64; or it is marked
+-- cut, and a fade that has it was reclaimed
 pub data Fate (b b' : StealLog) (R : Type 0) (k : ℕ) : Type 0 where
   same : held_record b' k ≡ held_record b k → Fate b b' R k
   older : held_record b' k ≡ None → k + 64 < b'.count → Fate b b' R k
@@ -234,8 +242,8 @@ abbrev pub Heads : Option Voice → List Voice → Type 0
 Heads None vs = Unit {0}
 Heads (Some g) vs = (rest : List Voice) × (vs ≡ g ∷ rest)
 
--- what is recorded of the voice v, which was one of the tracked voices beside the shared d, when vs' are the voices after the call: the
--- clock, the level that it had before the call, and a cut mark exactly if it is removed
+-- what is recorded of the voice v, which was one of the tracked voices beside the shared d, when vs' are the voices
+-- after the call: the clock, the level that it had before the call, and a cut mark exactly if it is removed
 abbrev pub loss_of : SharedState → List Voice → Voice → StealRecord
 loss_of d vs' v = record_of d.clock (voice_level d v) (not (is_some (find (is_voice v.id) vs')))
 
@@ -244,8 +252,9 @@ abbrev pub Records : (Voice → StealRecord) → StealLog → ℕ → List Voice
 Records r b k [] = Unit {0}
 Records r b k (v ∷ vs) = (held_record b k ≡ Some (r v)) × Records r b (suc k) vs
 
--- What the managed spawn x, which made of s the store s', records: SPEC 9.5, 9.7, 16. The victim of the admission is no longer tracked: it fades, or it
--- goes if it cannot fade. Then for want of a port tracked voices of the bus may go. Each of them leaves a record.
+-- What the managed spawn x, which made of s the store s', records: SPEC 9.5, 9.7, 16. The victim of the admission is no
+-- longer tracked: it fades, or it goes if it cannot fade. Then for want of a port tracked voices of the bus may go.
+-- Each of them leaves a record.
 pub record Losses (x : Spawn) (s s' : Model) : Type 0 where
   -- the voices that were tracked and are not any more: each once
   pub lost : List Voice
@@ -256,14 +265,16 @@ pub record Losses (x : Spawn) (s s' : Model) : Type 0 where
   -- first the victim of the admission; the others were on the bus
   pub first : Heads (victim_of x s) lost
   pub others : (v : Voice) → In v lost → (victim_of x s ≡ Some v) ⊎ (is_on x.bus v ≡ true)
-  -- SPEC 9.3: none of them outranks the new voice; the victim of the admission is of the lowest rank among those that count; no tracked voice that
-  -- is left on the bus, the new one among them, ranks below one that was lost
+  -- SPEC 9.3: none of them outranks the new voice; the victim of the admission is of the lowest rank among those that
+  -- count; no tracked voice that is left on the bus, the new one among them, ranks below one that was lost
   pub below : (v : Voice) → In v lost → v.rank ≤ x.rank
-  pub least : (v u : Voice) → victim_of x s ≡ Some v → In u s.voices → counted s.shared.config.scope x.bus u ≡ true → v.rank ≤ u.rank
+  pub least : (v u : Voice) → victim_of x s ≡ Some v → In u s.voices → counted s.shared.config.scope x.bus u ≡ true
+      → v.rank ≤ u.rank
   pub lowest : (v u : Voice) → In v lost → In u s'.voices → u.state ≡ Tracked → is_on x.bus u ≡ true → v.rank ≤ u.rank
   -- one that is still there fades, from now on, and fed a port of its bus. So one that cannot fade is removed
   pub fades : (v u : Voice) → In v lost → find (is_voice v.id) s'.voices ≡ Some u
-      → (u ≡ with_state (Fading (fade_of s.shared)) v) × (is_some (port_from s.shared.graph.edges (feeder v) v.bus) ≡ true)
+      → (u ≡ with_state (Fading (fade_of s.shared)) v)
+      × (is_some (port_from s.shared.graph.edges (feeder v) v.bus) ≡ true)
   -- there are so many more records, and these are the voices'
   pub added : s'.shared.steals.count ≡ s.shared.steals.count + length lost
   pub records : Records (loss_of s.shared s'.voices) s'.shared.steals s.shared.steals.count lost
@@ -295,15 +306,24 @@ pub record Chosen (x : Spawn) (s : Model) (v : Voice) : Type 0 where
 -- ---- reclaiming: SPEC 9.7
 -- What the managed spawn x, which made of s the store s', took from the bus for a port.
 pub record Reclaims (x : Spawn) (s s' : Model) : Type 0 where
-  -- A fade of the bus that is gone began no later than each fade of the bus that is left; and where both began at one sample, it stood first.
-  pub earliest : (v u : Voice) (f g : Fade) → In v s.voices → v.state ≡ Fading f → is_on x.bus v ≡ true → find (is_voice v.id) s'.voices ≡ None
-      → In u s'.voices → u.state ≡ Fading g → is_on x.bus u ≡ true → (f.start ≤ g.start) × (f.start ≡ g.start → v.id.0 < u.id.0)
-  -- No tracked voice of the bus goes for a port while a fade of the bus is left, whatever the ranks: so it is the victim of the admission.
-  pub fades_first : (v u : Voice) (g : Fade) → In v s.voices → v.state ≡ Tracked → is_on x.bus v ≡ true → find (is_voice v.id) s'.voices ≡ None
+  -- A fade of the bus that is gone began no later than each fade of the bus that is left; and where both began at one
+  -- sample, it stood first.
+  pub earliest : (v u : Voice) (f g : Fade) → In v s.voices → v.state ≡ Fading f → is_on x.bus v ≡ true
+      → find (is_voice v.id) s'.voices ≡ None
+      → In u s'.voices → u.state ≡ Fading g → is_on x.bus u ≡ true → (f.start ≤ g.start)
+      × (f.start ≡ g.start → v.id.0 < u.id.0)
+  -- No tracked voice of the bus goes for a port while a fade of the bus is left, whatever the ranks: so it is the
+  -- victim of the admission.
+  pub fades_first : (v u : Voice) (g : Fade) → In v s.voices → v.state ≡ Tracked → is_on x.bus v ≡ true
+      → find (is_voice v.id) s'.voices ≡ None
       → In u s'.voices → u.state ≡ Fading g → is_on x.bus u ≡ true → victim_of x s ≡ Some v
-  -- That one fades from now on, if it fed a port; and if it is gone then, it stood first of those that fade since now, and no other is left.
-  pub begun_now : (v u : Voice) (g : Fade) → victim_of x s ≡ Some v → is_some (port_from s.shared.graph.edges (feeder v) v.bus) ≡ true → is_on x.bus v ≡ true → find (is_voice v.id) s'.voices ≡ None
-      → In u s'.voices → u.state ≡ Fading g → is_on x.bus u ≡ true → (s.shared.clock ≤ g.start) × (s.shared.clock ≡ g.start → v.id.0 < u.id.0)
+  -- That one fades from now on, if it fed a port; and if it is gone then, it stood first of those that fade since now,
+  -- and no other is left.
+  pub begun_now : (v u : Voice) (g : Fade) → victim_of x s ≡ Some v
+      → is_some (port_from s.shared.graph.edges (feeder v) v.bus) ≡ true → is_on x.bus v ≡ true
+      → find (is_voice v.id) s'.voices ≡ None
+      → In u s'.voices → u.state ≡ Fading g → is_on x.bus u ≡ true → (s.shared.clock ≤ g.start)
+      × (s.shared.clock ≡ g.start → v.id.0 < u.id.0)
 
 -- ---- without a budget
 -- no record was ever written
@@ -329,7 +349,8 @@ steals policy.Oldest = true
 steals policy.Newest = true
 steals policy.Quietest = true
 
--- Whether a voice may go for a new voice of rank r: it is fading, of any rank, or it is tracked and does not outrank the new one. SPEC 9.3, 9.7.
+-- Whether a voice may go for a new voice of rank r: it is fading, of any rank, or it is tracked and does not outrank
+-- the new one. SPEC 9.3, 9.7.
 abbrev pub may_go : ℕ → Voice → Bool
 may_go r v = is_fading v.state || (is_tracked v.state && leb v.rank r)
 
@@ -353,7 +374,8 @@ by_other t bus r vs (voice w) = not (is_spare t bus r (find (is_voice w) vs))
 
 -- every port of the bus is held so
 abbrev pub blocked : NodeId → ℕ → Model → Bool
-blocked bus r s = every (λ p. by_other s.shared.config.policy bus r s.voices (holder_at s.shared.graph.nodes s.shared.graph.edges bus.0 p)) (upto (ports_of (node_at s.shared.graph.nodes bus)))
+blocked bus r s = every (λ p. by_other s.shared.config.policy bus r s.voices
+    (holder_at s.shared.graph.nodes s.shared.graph.edges bus.0 p)) (upto (ports_of (node_at s.shared.graph.nodes bus)))
 
 -- not one of those that count, or one that outranks the new voice
 abbrev pub stays : BudgetScope → NodeId → ℕ → Voice → Bool
@@ -361,7 +383,8 @@ stays scope bus r v = not (counted scope bus v) || ltb r v.rank
 
 -- at budget, and the policy takes nobody or all that count outrank the new voice
 abbrev pub outranked : Config → NodeId → ℕ → List Voice → Bool
-outranked c bus r vs = at_budget c.budget (count (counted c.scope bus) vs) && (not (steals c.policy) || every (stays c.scope bus r) vs)
+outranked c bus r vs = at_budget c.budget (count (counted c.scope bus) vs) &&
+    (not (steals c.policy) || every (stays c.scope bus r) vs)
 
 -- what a managed spawn answers that may come: 11, 12, or the next voice id
 abbrev pub answer_when : Bool → Bool → VoiceId → Result VoiceId Refusal
@@ -374,14 +397,17 @@ spawn_answer bus r s = answer_when (outranked s.shared.config bus r s.voices) (b
 
 -- Every refusal of a managed spawn, from the top: SPEC 9.1. Those before 11 are the rows of crate refusals.
 abbrev pub managed_rows : List Refusal
-managed_rows = RankTooHigh ∷ DefinitionLimits ∷ UnknownNode ∷ VoiceNode ∷ BusWithoutPorts ∷ TableFull ∷ IdsUsedUp ∷ Rejected ∷ NoPort ∷ []
+managed_rows = RankTooHigh ∷ DefinitionLimits ∷ UnknownNode ∷ VoiceNode ∷ BusWithoutPorts ∷ TableFull ∷ IdsUsedUp
+    ∷ Rejected ∷ NoPort ∷ []
 
--- 11: as many voices count as the budget allows, or more, and the policy takes nobody or all of them outrank the new voice
+-- 11: as many voices count as the budget allows, or more, and the policy takes nobody or all of them outrank the new
+-- voice
 pub record AtBudget (x : Spawn) (s : Model) : Type 0 where
   pub most : ℕ
   pub budget : s.shared.config.budget ≡ Some most
   pub reached : most ≤ count (counted s.shared.config.scope x.bus) s.voices
-  pub nobody : (s.shared.config.policy ≡ policy.Reject) ⊎ ((v : Voice) → In v s.voices → counted s.shared.config.scope x.bus v ≡ true → x.rank < v.rank)
+  pub nobody : (s.shared.config.policy ≡ policy.Reject)
+      ⊎ ((v : Voice) → In v s.voices → counted s.shared.config.scope x.bus v ≡ true → x.rank < v.rank)
 
 -- the ports of the bus
 abbrev pub EachPort : NodeId → Model → (ℕ → Type 0) → Type 0
@@ -394,11 +420,12 @@ port_holder bus s p = holder_at s.shared.graph.nodes s.shared.graph.edges bus.0 
 abbrev pub managed_when : Spawn → Model → Refusal → Type 0
 managed_when x s Rejected = AtBudget x s
 -- 12: every port of the bus is held, and none by a voice that goes
-managed_when x s NoPort = EachPort x.bus s (λ p. by_other s.shared.config.policy x.bus x.rank s.voices (port_holder x.bus s p) ≡ true)
+managed_when x s NoPort = EachPort x.bus s
+    (λ p. by_other s.shared.config.policy x.bus x.rank s.voices (port_holder x.bus s p) ≡ true)
 managed_when x s r = spawn_when x s r
 
--- SPEC 9.8, 9.9: after the spawn x, which made of s the store s', the voice w is there under the next id, on the bus and in that state, has the rank
--- that was given, and holds the port that was found
+-- SPEC 9.8, 9.9: after the spawn x, which made of s the store s', the voice w is there under the next id, on the bus
+-- and in that state, has the rank that was given, and holds the port that was found
 pub record Arrives (x : Spawn) (state : VoiceState) (w : VoiceId) (s s' : Model) : Type 0 where
   pub new_voice : Voice
   pub member : In new_voice s'.voices
@@ -423,11 +450,13 @@ abbrev pub Newest : StealLog → Type 0
 Newest b = ((length b.newest ≡ 64) × (64 ≤ b.count)) ⊎ ((length b.newest ≡ b.count) × (b.count < 64))
 
 -- ---- the page
--- SPEC 14.2. The port column shows p exactly where there is an edge from the voice's end, its output, pan node or fade, to the port p of its bus, and
--- exactly where the voice holds that port. So at most one p is right, and `-` stands where none is.
+-- SPEC 14.2. The port column shows p exactly where there is an edge from the voice's end, its output, pan node or fade,
+-- to the port p of its bus, and exactly where the voice holds that port. So at most one p is right, and `-` stands
+-- where none is.
 pub record Shows (s : Model) (v : Voice) : Type 0 where
   pub feeds : (p : ℕ) → (port_now s.shared.graph.edges v ≡ Some p) ↔ In (edge (end_of v) v.bus p) s.shared.graph.edges
-  pub holds : (p : ℕ) → (port_now s.shared.graph.edges v ≡ Some p) ↔ (holder_at s.shared.graph.nodes s.shared.graph.edges v.bus.0 p ≡ voice v.id)
+  pub holds : (p : ℕ) → (port_now s.shared.graph.edges v ≡ Some p)
+      ↔ (holder_at s.shared.graph.nodes s.shared.graph.edges v.bus.0 p ≡ voice v.id)
 
 -- ---- the graph
 -- SPEC 5.2: the processing order has every live node once and nothing else, and each edge's source before its target
@@ -452,77 +481,94 @@ pub record Holds (c : Config) (s : Model) : Type 0 where
   pub voice_rows : rising.RisesFrom (λ (v : Voice). v.id.0) 1 s.voices
   pub next_voice : (v : Voice) → In v s.voices → v.id.0 ≤ s.shared.spawned
   -- ---- 2, SPEC 13.2. The next clearing call has removed each voice whose fade has ended.
-  pub removes : (v : Voice) → In v s.voices → clearing.ended (fade_length c.rate) v.state ≡ true → find (is_voice v.id) (left_by call.clear s).voices ≡ None
+  pub removes : (v : Voice) → In v s.voices → clearing.ended (fade_length c.rate) v.state ≡ true
+      → find (is_voice v.id) (left_by call.clear s).voices ≡ None
   -- What is left are the voices whose fade has not ended and, of these, whose plan is not silent.
   pub clears : (left_by call.clear s).voices
-      ≡ filter (λ v. not (is_silent s.shared.graph.nodes v)) (filter (λ v. not (clearing.ended (fade_length c.rate) v.state)) s.voices)
+      ≡ filter (λ v. not (is_silent s.shared.graph.nodes v))
+      (filter (λ v. not (clearing.ended (fade_length c.rate) v.state)) s.voices)
   -- It answers how many it removed.
-  pub removed : (n : ℕ) → answer_of call.clear s ≡ call.removed n → length s.voices ≡ length (left_by call.clear s).voices + n
-  -- ---- 3, SPEC 10. At the next call x a fading voice goes on, a block further after a sounding render and else the same; or it is removed, for one of
-  -- the reasons of `Why`: a free, called or timed, its end or its silence at a clearing, or a reclaim, which marks its record.
+  pub removed : (n : ℕ) → answer_of call.clear s ≡ call.removed n → length s.voices
+      ≡ length (left_by call.clear s).voices + n
+  -- ---- 3, SPEC 10. At the next call x a fading voice goes on, a block further after a sounding render and else the
+  -- same; or it is removed, for one of the reasons of `Why`: a free, called or timed, its end or its silence at a
+  -- clearing, or a reclaim, which marks its record.
   pub leaves : (x : Call) (v : Voice) → In v s.voices → (f : Fade) → v.state ≡ Fading f
-      → GoesOn c.block v f (answer_of x s) (left_by x s).voices ⊎ ((find (is_voice v.id) (left_by x s).voices ≡ None) × Why s (left_by x s) v f x)
+      → GoesOn c.block v f (answer_of x s) (left_by x s).voices
+      ⊎ ((find (is_voice v.id) (left_by x s).voices ≡ None) × Why s (left_by x s) v f x)
   -- SPEC 9.5, 16. No call but a managed spawn touches the steal records.
   pub quiet : (x : Call) → is_managed x ≡ false → (left_by x s).shared.steals ≡ s.shared.steals
-  -- There a record that was written before stays, drops out of the newest 64, or is marked, and then the fade that has it was on this bus and was
-  -- removed in this call.
+  -- There a record that was written before stays, drops out of the newest 64, or is marked, and then the fade that has
+  -- it was on this bus and was removed in this call.
   pub marks : (x : Spawn) (k : ℕ) → k < s.shared.steals.count
-      → Fate s.shared.steals (left_by (call.spawn_managed x) s).shared.steals (Reclaimed s.voices (left_by (call.spawn_managed x) s).voices x.bus k) k
-  -- One record is written for each voice that was tracked and is not any more: both numbers together rise by one if the new voice is let in, else not.
-  pub writes : (n : ℕ) → c.budget ≡ Some n → (x : Spawn) (a : Result VoiceId Refusal) → answer_of (call.spawn_managed x) s ≡ call.spawned a
+      → Fate s.shared.steals (left_by (call.spawn_managed x) s).shared.steals
+      (Reclaimed s.voices (left_by (call.spawn_managed x) s).voices x.bus k) k
+  -- One record is written for each voice that was tracked and is not any more: both numbers together rise by one if the
+  -- new voice is let in, else not.
+  pub writes : (n : ℕ) → c.budget ≡ Some n → (x : Spawn) (a : Result VoiceId Refusal)
+      → answer_of (call.spawn_managed x) s ≡ call.spawned a
       → (left_by (call.spawn_managed x) s).shared.steals.count + count tracks (left_by (call.spawn_managed x) s).voices
       ≡ more (is_let a) (s.shared.steals.count + count tracks s.voices)
-  -- What these records hold: the clock, the level of the voice before anything of the call changed, and a cut mark exactly if it is removed.
+  -- What these records hold: the clock, the level of the voice before anything of the call changed, and a cut mark
+  -- exactly if it is removed.
   pub losses : (x : Spawn) → Losses x s (left_by (call.spawn_managed x) s)
-  -- SPEC 9.2 to 9.4. Somebody goes for an admission only of a spawn that may come, and at budget; and of those that count and have the lowest rank it is
-  -- the one that the policy names.
+  -- SPEC 9.2 to 9.4. Somebody goes for an admission only of a spawn that may come, and at budget; and of those that
+  -- count and have the lowest rank it is the one that the policy names.
   pub chooses : (x : Spawn) (v : Voice) → victim_of x s ≡ Some v → Chosen x s v
   -- SPEC 9.7. For a port the fades of the bus go, the earliest first, before any tracked voice.
   pub reclaims : (x : Spawn) → Reclaims x s (left_by (call.spawn_managed x) s)
-  -- Where no fade of the bus is left, the tracked voice that goes next for a new voice of rank r is the one that the policy names of those of the bus that
-  -- have the lowest rank, and does not outrank the new voice.
+  -- Where no fade of the bus is left, the tracked voice that goes next for a new voice of rank r is the one that the
+  -- policy names of those of the bus that have the lowest rank, and does not outrank the new voice.
   pub next_for_port : (bus : NodeId) (r : ℕ) (v : Voice) → next_out s.shared bus r s.voices ≡ Some v → v.state ≡ Tracked
       → (v.rank ≤ r) × ((u : Voice) → In u s.voices → tracked_on bus u ≡ true → v.rank ≤ u.rank)
       × Goes s.shared.config.policy s.shared (of_rank v.rank (tracked_on bus) s.voices) v
   -- Each fade has a record of its own: its number was written, and no other fade has it.
   pub numbers : (v : Voice) → In v s.voices → (f : Fade) → v.state ≡ Fading f → f.number < s.shared.steals.count
-  pub own : (u v : Voice) → In u s.voices → In v s.voices → (f g : Fade) → u.state ≡ Fading f → v.state ≡ Fading g → f.number ≡ g.number → u ≡ v
+  pub own : (u v : Voice) → In u s.voices → In v s.voices → (f g : Fade) → u.state ≡ Fading f → v.state ≡ Fading g
+      → f.number ≡ g.number → u ≡ v
   -- ---- 4, SPEC 9.2. Tracked voices never exceed the budget: all of them, or those of each bus under `PerGroup`.
   pub budget : (n : ℕ) → c.budget ≡ Some n → (bus : NodeId) → count (counted c.scope bus) s.voices ≤ n
   -- Without a budget nobody is tracked, stolen or reclaimed.
   pub loose : c.budget ≡ None → AllLoose s
   pub stay : c.budget ≡ None → (x : Spawn) (v : Voice) → In v s.voices → In v (left_by (call.spawn_managed x) s).voices
-  -- ---- 5, SPEC 9.1. A managed spawn that may come (`May` of crate refusals: rank, definition, bus, headroom and ids, each in numbers) is refused with 11
-  -- exactly when it is at budget and the policy takes nobody or all that count outrank it; else with 12 exactly when every port of its bus is held
-  -- by somebody who is neither a fading voice of that bus nor one that the policy may take; else it answers the next voice id.
+  -- ---- 5, SPEC 9.1. A managed spawn that may come (`May` of crate refusals: rank, definition, bus, headroom and ids,
+  -- each in numbers) is refused with 11 exactly when it is at budget and the policy takes nobody or all that count
+  -- outrank it; else with 12 exactly when every port of its bus is held by somebody who is neither a fading voice of
+  -- that bus nor one that the policy may take; else it answers the next voice id.
   pub spawns : (x : Spawn) → May x s → answer_of (call.spawn_managed x) s ≡ call.spawned (spawn_answer x.bus x.rank s)
   -- With what is asked before that, it is one list: of 26, 9, 4, 5, 10, 7, 8, 11, 12 the first that holds is given.
   pub managed : (x : Spawn) → SpawnAnswers (managed_when x s) managed_rows (call.spawn_managed x) s
   -- SPEC 9.10. So it is for an unmanaged spawn, without 11, and with 12 exactly when no port of its bus is free.
   pub unmanaged : (x : Spawn) → SpawnAnswers (loose_when x s) loose_rows (call.spawn_loose x) s
   -- With a budget of 0 nobody is let in, whatever the policy.
-  pub none_let : c.budget ≡ Some 0 → (x : Spawn) → May x s → answer_of (call.spawn_managed x) s ≡ call.spawned (Err Rejected)
+  pub none_let : c.budget ≡ Some 0 → (x : Spawn) → May x s → answer_of (call.spawn_managed x) s
+      ≡ call.spawned (Err Rejected)
   -- SPEC 9.8. A spawn that answers a voice has let it in, tracked under a budget and else loose.
   pub arrives : (x : Spawn) (w : VoiceId) → answer_of (call.spawn_managed x) s ≡ call.spawned (Ok w)
       → Arrives x (state_under c.budget) w s (left_by (call.spawn_managed x) s)
-  pub arrives_loose : (x : Spawn) (w : VoiceId) → answer_of (call.spawn_loose x) s ≡ call.spawned (Ok w) → Arrives x Loose w s (left_by (call.spawn_loose x) s)
+  pub arrives_loose : (x : Spawn) (w : VoiceId) → answer_of (call.spawn_loose x) s ≡ call.spawned (Ok w)
+      → Arrives x Loose w s (left_by (call.spawn_loose x) s)
   -- SPEC 4.1. A node that is answered is there, and was not before.
-  pub adds : (kind : List ℕ) (ports required : ℕ) (values glides : Bool) (k : NodeId) → answer_of (call.add_node kind ports required values glides) s ≡ call.node k
-      → In k.0 (node_ids (left_by (call.add_node kind ports required values glides) s).shared.graph.nodes) × (In k.0 (node_ids s.shared.graph.nodes) → ⊥)
+  pub adds : (kind : List ℕ) (ports required : ℕ) (values glides : Bool) (k : NodeId)
+      → answer_of (call.add_node kind ports required values glides) s ≡ call.node k
+      → In k.0 (node_ids (left_by (call.add_node kind ports required values glides) s).shared.graph.nodes)
+      × (In k.0 (node_ids s.shared.graph.nodes) → ⊥)
   -- ---- SPEC 5. Edges join live nodes.
-  pub wires : (e : Edge) → In e s.shared.graph.edges → In e.from.0 (node_ids s.shared.graph.nodes) × In e.to.0 (node_ids s.shared.graph.nodes)
+  pub wires : (e : Edge) → In e s.shared.graph.edges → In e.from.0 (node_ids s.shared.graph.nodes)
+      × In e.to.0 (node_ids s.shared.graph.nodes)
   -- While the graph is prepared it has a processing order of all live nodes.
   pub in_order : s.shared.graph.prepared ≡ true → InOrder s.shared.graph
   -- A prepared graph never fails to prepare: prepare answers done and changes nothing.
   pub prepares : s.shared.graph.prepared ≡ true → call.step call.prepare s ≡ record { answer = call.done; model = s }
   -- Prepare is refused with 13 or 14 exactly as its rows say.
   pub unprepared : Refuses (prepare_when s.shared.graph) prepare_rows call.prepare s
-  -- SPEC 8.2. Scheduling is refused with 7 exactly where 256 events are pending and the new one replaces none. Every other call of the host is refused
-  -- by its rows on any store: crate refusals.
+  -- SPEC 8.2. Scheduling is refused with 7 exactly where 256 events are pending and the new one replaces none. Every
+  -- other call of the host is refused by its rows on any store: crate refusals.
   pub unscheduled : (t : ℕ) (w : VoiceId) (name : List ℕ) (a : EventAction)
       → Refuses (schedule_when (call.event t w name a) s.shared.events) schedule_rows (call.schedule t w name a) s
   -- SPEC 12. A render that is not refused sounds exactly where the graph that it leaves is prepared and has a sink.
-  pub sounds : (out : List ℕ) → render_refusal s.shared (length out) ≡ None → is_sounded (answer_of (call.render out) s) ≡ sounding (left_by (call.render out) s).shared
+  pub sounds : (out : List ℕ) → render_refusal s.shared (length out) ≡ None → is_sounded (answer_of (call.render out) s)
+      ≡ sounding (left_by (call.render out) s).shared
   -- ---- SPEC 14.2. The page's port column is right for every voice, tracked, fading or loose.
   pub shows : (v : Voice) → In v s.voices → Shows s v
   -- ---- SPEC 2. The tables hold it: 512 nodes, 1,024 edges, 64 voices, 256 events.
@@ -532,25 +578,31 @@ pub record Holds (c : Config) (s : Model) : Type 0 where
   -- The newest 64 steal records are held, or all where there are fewer.
   pub records : Newest s.shared.steals
 
--- SPEC 15.1, 15.2, 10.4. What fade output and bus sum answer is decided by what making fixed. Where the fade table was chosen, the gains are the
--- table's, and lent gains are not looked at: 16 is answered for the two blocks alone.
+-- SPEC 15.1, 15.2, 10.4. What fade output and bus sum answer is decided by what making fixed. Where the fade table was
+-- chosen, the gains are the table's, and lent gains are not looked at: 16 is answered for the two blocks alone.
 pub record Blocks (c : Config) (s : Model) : Type 0 where
   pub fade : (input : List Float) (ins : ℕ) (lent : List Float) (at : ℕ) (out : List Float) (outs : ℕ)
-      → (call.step (call.ask (call.fade_output input ins lent at out outs)) s).answer ≡ call.fade_answer c input ins lent at out outs
+      → (call.step (call.ask (call.fade_output input ins lent at out outs)) s).answer
+      ≡ call.fade_answer c input ins lent at out outs
   pub sum : (inputs : List Float) (counts : List ℕ) (out : List Float) (outs : ℕ)
       → (call.step (call.ask (call.bus_sum inputs counts out outs)) s).answer ≡ call.sum_answer c inputs counts out outs
   pub table : c.table ≡ true → (input : List Float) (ins : ℕ) (lent : List Float) (at : ℕ) (out : List Float) (outs : ℕ)
       → (call.step (call.ask (call.fade_output input ins lent at out outs)) s).answer
-      ≡ call.block_answer (samples.holds (length input) ins c.block && samples.holds (length out) outs c.block) (fade_output input ins gains 240 at c.block out outs)
-  -- SPEC 15.3. So it is in whole numbers, where 16 is asked before 21. With the table, 16 is answered for the two blocks alone and 21 for the input
-  -- alone, and the gains are the entries.
+      ≡ call.block_answer (samples.holds (length input) ins c.block && samples.holds (length out) outs c.block)
+      (fade_output input ins gains 240 at c.block out outs)
+  -- SPEC 15.3. So it is in whole numbers, where 16 is asked before 21. With the table, 16 is answered for the two
+  -- blocks alone and 21 for the input alone, and the gains are the entries.
   pub whole_fade : (input : List ℤ) (ins : ℕ) (lent : List ℕ) (at : ℕ) (out : List ℤ) (outs : ℕ)
-      → (call.step (call.ask (call.whole_fade input ins lent at out outs)) s).answer ≡ call.whole_fade_answer c input ins lent at out outs
+      → (call.step (call.ask (call.whole_fade input ins lent at out outs)) s).answer
+      ≡ call.whole_fade_answer c input ins lent at out outs
   pub whole_sum : (inputs : List ℤ) (counts : List ℕ) (out : List ℤ) (outs : ℕ)
-      → (call.step (call.ask (call.whole_sum inputs counts out outs)) s).answer ≡ call.whole_sum_answer c inputs counts out outs
+      → (call.step (call.ask (call.whole_sum inputs counts out outs)) s).answer
+      ≡ call.whole_sum_answer c inputs counts out outs
   pub whole_table : c.table ≡ true → (input : List ℤ) (ins : ℕ) (lent : List ℕ) (at : ℕ) (out : List ℤ) (outs : ℕ)
       → (call.step (call.ask (call.whole_fade input ins lent at out outs)) s).answer
-      ≡ call.whole_answer (whole.refusal_of (samples.holds (length input) ins c.block && samples.holds (length out) outs c.block) (whole.every is_sample input))
+      ≡ call.whole_answer (whole.refusal_of
+      (samples.holds (length input) ins c.block && samples.holds (length out) outs c.block)
+      (whole.every is_sample input))
       (samples.block_of outs c.block (whole.faded_of input ins entries 240 at c.block))
 
 -- ---- the claim
@@ -563,11 +615,13 @@ pub record Claim (c : Config) (m : Model) (xs : List Call) : Type 0 where
   -- The voices are the ledger's, in order, with their states: tracked, loose, or fading, at count × block samples.
   pub voices : (after m xs).voices ≡ map (moved (λ count. count * c.block)) (ledger_after c xs).voices
   -- The held ports: the ledger's holder of a port is the owner of the source of the store's edge at it.
-  pub holders : (n p : ℕ) → (ledger_after c xs).holders n p ≡ holder_at (after m xs).shared.graph.nodes (after m xs).shared.graph.edges n p
-  -- ---- 2. A fade was begun by a managed spawn of the list, and has moved by a block at each sounding render since. It has ended
-  -- exactly when these renders are at least L over block, rounded up.
+  pub holders : (n p : ℕ) → (ledger_after c xs).holders n p
+      ≡ holder_at (after m xs).shared.graph.nodes (after m xs).shared.graph.edges n p
+  -- ---- 2. A fade was begun by a managed spawn of the list, and has moved by a block at each sounding render since. It
+  -- has ended exactly when these renders are at least L over block, rounded up.
   pub ends : (v : Voice) → In v (after m xs).voices → (f : Fade) → v.state ≡ Fading f
-      → (t : Stolen m c.block xs v f) × ((clearing.ended (fade_length c.rate) v.state ≡ true) ↔ (rounded_up (fade_length c.rate) c.block ≤ since t))
+      → (t : Stolen m c.block xs v f) × ((clearing.ended (fade_length c.rate) v.state ≡ true)
+      ↔ (rounded_up (fade_length c.rate) c.block ≤ since t))
   -- ---- 2 to 5, and the tables
   pub now : Holds c (after m xs)
   pub blocks : Blocks c (after m xs)

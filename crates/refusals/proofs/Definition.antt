@@ -50,7 +50,8 @@ node_within n w =
       amp_port = w.amp_port;
     }
 
-there : (ns : List DefNode) (i : ℕ) → i < length ns → (n : DefNode) × (slice_get ns i ≡ Some n) × (ports_at ns i ≡ n.ports)
+there : (ns : List DefNode) (i : ℕ) → i < length ns → (n : DefNode) × (slice_get ns i ≡ Some n)
+    × (ports_at ns i ≡ n.ports)
 there [] i h = absurd (omega arith)
 there (x ∷ ns) zero h = (x, refl, refl)
 there (x ∷ ns) (suc i) h = there ns i (omega arith)
@@ -61,10 +62,17 @@ at (x ∷ ns) zero n e = (omega arith, ap (λ (y : DefNode). y.ports) (some_inj 
 at (x ∷ ns) (suc i) n e = let r = at ns i n e in let h : i < length ns = r.0 in (omega arith, r.1)
 
 edge_limits : (ns : List DefNode) (e : DefEdge) → EdgeWithin ns e → EdgeLimits ns e
-edge_limits ns e w = let r = there ns e.to w.target in record { source = w.source; target = r.0; there = r.1; port = subst (λ k. e.port < k) r.2 w.port }
+edge_limits ns e w =
+    let r = there ns e.to w.target in
+    record { source = w.source; target = r.0; there = r.1; port = subst (λ k. e.port < k) r.2 w.port }
 
 edge_within : (ns : List DefNode) (e : DefEdge) → EdgeLimits ns e → EdgeWithin ns e
-edge_within ns e w = let r = at ns e.to w.target w.there in record { source = w.source; target = r.0; port = subst (λ k. e.port < k) (sym r.1) w.port }
+edge_within ns e w = let r = at ns e.to w.target w.there in record {
+  source = w.source;
+  target = r.0;
+  port = subst
+      (λ k. e.port < k) (sym r.1) w.port;
+}
 
 param_limits : (n : ℕ) (p : Param) → ParamWithin n p → ParamLimits n p
 param_limits n p w = record { name = record { some = w.name.0; most = w.name.1 }; node = w.node }
@@ -73,27 +81,35 @@ param_within : (n : ℕ) (p : Param) → ParamLimits n p → ParamWithin n p
 param_within n p w = record { name = (w.name.some, w.name.most); node = w.node }
 
 -- ---- the edges that count
-free_taken : (e : DefEdge) (later : List DefEdge) → ((f : DefEdge) → In f later → f.to ≡ e.to → f.port ≡ e.port → ⊥) → taken e later ≡ false
+free_taken : (e : DefEdge) (later : List DefEdge) → ((f : DefEdge) → In f later → f.to ≡ e.to → f.port ≡ e.port → ⊥)
+    → taken e later ≡ false
 free_taken e later h =
     any_find (ends_at e.to e.port) later
     ∙ ap is_some (none_find (ends_at e.to e.port) later (λ f i. go f i (ends_at e.to e.port f) refl))
   where
     go : (f : DefEdge) → In f later → (b : Bool) → ends_at e.to e.port f ≡ b → b ≡ false
     go f i false q = refl
-    go f i true q = absurd (h f i (eqb-true _ _ (and_left (eqb f.to e.to) (eqb f.port e.port) q)) (eqb-true _ _ (and_right (eqb f.to e.to) (eqb f.port e.port) q)))
+    go f i true q = absurd (h f i (eqb-true _ _ (and_left (eqb f.to e.to) (eqb f.port e.port) q))
+        (eqb-true _ _ (and_right (eqb f.to e.to) (eqb f.port e.port) q)))
 
-taken_free : (e : DefEdge) (later : List DefEdge) → taken e later ≡ false → (f : DefEdge) → In f later → f.to ≡ e.to → f.port ≡ e.port → ⊥
-taken_free e later h f i p q = go (find (ends_at e.to e.port) later) refl (sym (any_find (ends_at e.to e.port) later) ∙ h)
+taken_free : (e : DefEdge) (later : List DefEdge) → taken e later ≡ false → (f : DefEdge) → In f later → f.to ≡ e.to
+    → f.port ≡ e.port → ⊥
+taken_free e later h f i p q = go (find (ends_at e.to e.port) later) refl
+    (sym (any_find (ends_at e.to e.port) later) ∙ h)
   where
     go : (o : Option DefEdge) → find (ends_at e.to e.port) later ≡ o → is_some o ≡ false → ⊥
     go (Some g) r s = true≢false s
-    go None r s = true≢false (sym (ap₂ (λ a b. a && b) (eq-eqb _ _ p) (eq-eqb _ _ q)) ∙ find_none (ends_at e.to e.port) later f r i)
+    go None r s = true≢false (sym (ap₂ (λ a b. a && b) (eq-eqb _ _ p) (eq-eqb _ _ q))
+        ∙ find_none (ends_at e.to e.port) later f r i)
 
-counts_in : (earlier : List DefEdge) (e : DefEdge) (later : List DefEdge) → ((f : DefEdge) → In f later → f.to ≡ e.to → f.port ≡ e.port → ⊥) → In e (counted (earlier ++ (e ∷ later)))
-counts_in [] e later h = subst (λ b. In e (cond (not b) (e ∷ (counted later)) (counted later))) (sym (free_taken e later h)) (inl refl)
+counts_in : (earlier : List DefEdge) (e : DefEdge) (later : List DefEdge)
+    → ((f : DefEdge) → In f later → f.to ≡ e.to → f.port ≡ e.port → ⊥) → In e (counted (earlier ++ (e ∷ later)))
+counts_in [] e later h = subst (λ b. In e (cond (not b) (e ∷ (counted later)) (counted later)))
+    (sym (free_taken e later h)) (inl refl)
 counts_in (x ∷ earlier) e later h = go (taken x (earlier ++ (e ∷ later))) (counts_in earlier e later h)
   where
-    go : (b : Bool) → In e (counted (earlier ++ (e ∷ later))) → In e (cond (not b) (x ∷ (counted (earlier ++ (e ∷ later)))) (counted (earlier ++ (e ∷ later))))
+    go : (b : Bool) → In e (counted (earlier ++ (e ∷ later)))
+        → In e (cond (not b) (x ∷ (counted (earlier ++ (e ∷ later)))) (counted (earlier ++ (e ∷ later))))
     go true i = i
     go false i = inr i
 
@@ -104,9 +120,16 @@ in_counts : (es : List DefEdge) (e : DefEdge) → In e (counted es) → Counts e
 in_counts [] e i = absurd i
 in_counts (x ∷ es) e i = go (taken x es) refl i (in_counts es e)
   where
-    go : (b : Bool) → taken x es ≡ b → In e (cond (not b) (x ∷ (counted es)) (counted es)) → (In e (counted es) → Counts es e) → Counts (x ∷ es) e
+    go : (b : Bool) → taken x es ≡ b → In e (cond (not b) (x ∷ (counted es)) (counted es))
+        → (In e (counted es) → Counts es e) → Counts (x ∷ es) e
     go true q j below = further x es e (below j)
-    go false q (inl p) below = record { earlier = []; later = es; split = ap (λ y. y ∷ es) (sym p); last = taken_free e es (ap (λ y. taken y es) p ∙ q) }
+    go false q (inl p) below = record {
+      earlier = [];
+      later = es;
+      split = ap (λ y. y ∷ es)
+          (sym p);
+      last = taken_free e es (ap (λ y. taken y es) p ∙ q);
+    }
     go false q (inr j) below = further x es e (below j)
 
 -- ---- a way, and a walk among the nodes of which there are n
@@ -139,7 +162,8 @@ limits_within d l =
       each_edge = λ e i. edge_within (node_rows d.nodes) e (l.each_edge e i);
       each_param = λ p i. param_within (length (node_rows d.nodes)) p (l.each_param p i);
       output = l.output;
-      no_cycle = λ c. l.no_cycle c.at (ways (length (node_rows d.nodes)) (edge_rows d.edges) (λ e i. let w = edge_within (node_rows d.nodes) e (l.each_edge e i) in (w.source, w.target)) c.back);
+      no_cycle = λ c. l.no_cycle c.at (ways (length (node_rows d.nodes)) (edge_rows d.edges)
+          (λ e i. let w = edge_within (node_rows d.nodes) e (l.each_edge e i) in (w.source, w.target)) c.back);
     }
 
 pub within_limits : (d : SynthDef) → Within d → Limits d
@@ -153,7 +177,12 @@ within_limits d w =
       each_edge = λ e i. edge_limits (node_rows d.nodes) e (w.each_edge e i);
       each_param = λ p i. param_limits (length (node_rows d.nodes)) p (w.each_param p i);
       output = w.output;
-      no_cycle = λ i v. w.no_cycle (record { at = i; back = walks (length (node_rows d.nodes)) (edge_rows d.edges) (λ e i. let w = w.each_edge e i in (w.source, w.target)) v });
+      no_cycle = λ i v. w.no_cycle
+          (record {
+            at = i;
+            back = walks (length (node_rows d.nodes)) (edge_rows d.edges)
+                (λ e i. let w = w.each_edge e i in (w.source, w.target)) v;
+          });
     }
 
 pub limits : (d : SynthDef) → (allowed d ≡ true) ↔ Limits d

@@ -43,15 +43,21 @@ row false r rest c l on off told =
     none_here e s (inr i) h = told.none.0 e s i h
 
 -- two refusals of one list that are both the first
-pub only_first : (c : Refusal → Type 0) (l : List Refusal) (o : Option Refusal) → Told c l o → (r : Refusal) → First c l r → o ≡ Some r
+pub only_first : (c : Refusal → Type 0) (l : List Refusal) (o : Option Refusal) → Told c l o → (r : Refusal)
+    → First c l r → o ≡ Some r
 only_first c l o told r f = (told.first r).1 f
 
 -- a call that does its work where its list refuses nothing, and whose work answers no refusal
-pub unless_refuses : (c : Refusal → Type 0) (l : List Refusal) (x : Call) (m : Model) (o : Option Refusal) (s : call.Step)
+pub unless_refuses : (c : Refusal → Type 0) (l : List Refusal) (x : Call) (m : Model) (o : Option Refusal)
+    (s : call.Step)
     → call.step x m ≡ unless o m s → ((r : Refusal) → s.answer ≡ call.refused r → ⊥) → Told c l o → Refuses c l x m
 unless_refuses c l x m o s is fine told =
     record {
-      first = λ r. (λ e. (told.first r).0 (forth r o (sym (ap (λ (t : call.Step). t.answer) is) ∙ e)), λ f. ap (λ (t : call.Step). t.answer) (is ∙ at r f));
+      first = λ r. (
+        λ e. (told.first r).0 (forth r o (sym (ap (λ (t : call.Step). t.answer) is) ∙ e)),
+        λ f. ap
+            (λ (t : call.Step). t.answer) (is ∙ at r f),
+      );
       unchanged = λ r f. ap (λ (t : call.Step). t.model) (is ∙ at r f);
     }
   where

@@ -31,7 +31,8 @@ use Rattle.refusals.proofs.First.{no_row, row}
 fraction : (a b n : ℕ) → 0 < b → whole_rate a b ≡ gives n → (1 ≤ n) × (n ≤ 384000) × (a ≡ n * b)
 fraction a b n p h = go (eqb (a % b) 0 && (leb 1 (a / b) && leb (a / b) 384000)) refl h
   where
-    go : (c : Bool) → (eqb (a % b) 0 && (leb 1 (a / b) && leb (a / b) 384000)) ≡ c → cond c (gives (a / b)) (refused 1) ≡ gives n → (1 ≤ n) × (n ≤ 384000) × (a ≡ n * b)
+    go : (c : Bool) → (eqb (a % b) 0 && (leb 1 (a / b) && leb (a / b) 384000)) ≡ c → cond c (gives (a / b)) (refused 1)
+        ≡ gives n → (1 ≤ n) × (n ≤ 384000) × (a ≡ n * b)
     go true e h =
         let q : a / b ≡ n = cc in
         let r = and_parts (eqb (a % b) 0) _ e in
@@ -56,7 +57,8 @@ unfolding rate_of
 is_hertz nan n h = let z : ◌≡◌ {A = ℕ} 0 1 = cc in absurd (omega arith)
 is_hertz (inf s) n h = let z : ◌≡◌ {A = ℕ} 0 1 = cc in absurd (omega arith)
 is_hertz (fin true m e) n h = let z : ◌≡◌ {A = ℕ} 0 1 = cc in absurd (omega arith)
-is_hertz (fin false m e) n h = let r = fraction (m * up e) (down e) n (down_pos e) h in record { some = r.0; most = r.1; is = (m, e, refl, r.2) }
+is_hertz (fin false m e) n h = let r = fraction (m * up e) (down e) n
+    (down_pos e) h in record { some = r.0; most = r.1; is = (m, e, refl, r.2) }
 
 hertz_is : (x : Float) (n : ℕ) → Hertz x n → rate_of x ≡ gives n
 unfolding rate_of
@@ -116,9 +118,12 @@ module _ (k : Making) where
   told : Told (make_when k) make_rows (refusal_of k)
   told =
       row (no_rate (rate_of k.rate)) SampleRate _ c _ (rate_row k.rate) (λ e h. let r = row_rate k.rate e in h r.0 r.1)
-      (row (not (leb 1 k.block && leb k.block 128)) BlockSize _ c _ (block_row k.block) (λ e. block_not k.block (row_block k.block e))
-      (row (over_budget k.budget) BudgetTooLarge _ c _ (budget_row k.budget) (λ e h. let q = row_budget k.budget e h.0 h.1 in let p = h.2 in omega arith)
-      (row (k.table && other_rate (rate_of k.rate)) TableRate _ c [] (table_row k) (λ e h. h.1 (row_table k e h.0)) (no_row c))))
+      (row (not (leb 1 k.block && leb k.block 128)) BlockSize _ c _ (block_row k.block)
+      (λ e. block_not k.block (row_block k.block e))
+      (row (over_budget k.budget) BudgetTooLarge _ c _ (budget_row k.budget)
+      (λ e h. let q = row_budget k.budget e h.0 h.1 in let p = h.2 in omega arith)
+      (row (k.table && other_rate (rate_of k.rate)) TableRate _ c [] (table_row k) (λ e h. h.1 (row_table k e h.0))
+      (no_row c))))
     where
       c : Refusal → Type 0
       c = make_when k
@@ -129,8 +134,10 @@ module _ (k : Making) where
       at : (r : Refusal) → In r make_rows → ((s : Refusal) → r ≡ s → make_when k s) → ⊥
       at r (inl q) h = h SampleRate q a.hertz a.rate
       at r (inr (inl q)) h = block_not k.block a.block (h BlockSize q)
-      at r (inr (inr (inl q))) h = let b : (n : ℕ) × (k.budget ≡ Some n) × (64 < n) = h BudgetTooLarge q in let l = a.budget b.0 b.1 in let g = b.2 in omega arith
-      at r (inr (inr (inr (inl q)))) h = let t : (k.table ≡ true) × (Hertz k.rate 48000 → ⊥) = h TableRate q in t.1 (subst (Hertz k.rate) (a.table t.0) a.rate)
+      at r (inr (inr (inl q))) h = let b : (n : ℕ) × (k.budget ≡ Some n)
+          × (64 < n) = h BudgetTooLarge q in let l = a.budget b.0 b.1 in let g = b.2 in omega arith
+      at r (inr (inr (inr (inl q)))) h = let t : (k.table ≡ true)
+          × (Hertz k.rate 48000 → ⊥) = h TableRate q in t.1 (subst (Hertz k.rate) (a.table t.0) a.rate)
       at r (inr (inr (inr (inr i)))) h = i
 
   passed : refusal_of k ≡ None → InRange k
@@ -148,7 +155,8 @@ module _ (k : Making) where
         table = λ t. gives_inj (sym (hertz_is k.rate r.0 r.1) ∙ hertz_is k.rate 48000 (row_table k f.0 t));
       }
 
-  made_of : (o : Option Refusal) (m : Model) → made_unless o (new_model (config_of k)) ≡ Some m → (o ≡ None) × (m ≡ new_model (config_of k))
+  made_of : (o : Option Refusal) (m : Model) → made_unless o (new_model (config_of k)) ≡ Some m → (o ≡ None)
+      × (m ≡ new_model (config_of k))
   made_of None m e = (refl, sym (some_inj e))
   made_of (Some r) m e = absurd (none_some e)
 
@@ -156,7 +164,14 @@ module _ (k : Making) where
   makes =
       record {
         refusal = told;
-        accepts = (λ a. (new_model (config_of k), ap (λ o. made_unless o (new_model (config_of k))) (told.none.1 (free a))), λ m. passed (made_of (refusal_of k) m.0 m.1).0);
+        accepts = (
+          λ a. (
+            new_model (config_of k),
+            ap (λ o. made_unless o (new_model (config_of k)))
+                (told.none.1 (free a)),
+          ),
+          λ m. passed (made_of (refusal_of k) m.0 m.1).0,
+        );
         new = λ m e. (made_of (refusal_of k) m e).1;
         rate = λ n h. ap whole_or0 (hertz_is k.rate n h);
       }

@@ -40,7 +40,8 @@ unfolding any
 any_some q [] h = absurd (true≢false (sym h))
 any_some {A = A} q (x ∷ l) h = go (q x) refl h (any_some q l)
   where
-    go : (b : Bool) → q x ≡ b → (b || any q l) ≡ true → (any q l ≡ true → (y : A) × In y l × (q y ≡ true)) → (y : A) × In y (x ∷ l) × (q y ≡ true)
+    go : (b : Bool) → q x ≡ b → (b || any q l) ≡ true → (any q l ≡ true → (y : A) × In y l × (q y ≡ true)) → (y : A)
+        × In y (x ∷ l) × (q y ≡ true)
     go true e h below = (x, inl refl, e)
     go false e h below = let r = below h in (r.0, inr r.1, r.2)
 
@@ -59,11 +60,15 @@ module _ (ns : List Node) (es : List Edge) where
   abbrev ids : List ℕ
   ids = map id_of ns
 
-  fed : (x : Node) (p : ℕ) → not (connected ids es (id_of x) p) ≡ true → (e : Edge) → In e es → In e.from.0 ids → e.to.0 ≡ x.id.0 → e.port ≡ p → ⊥
+  fed : (x : Node) (p : ℕ) → not (connected ids es (id_of x) p) ≡ true → (e : Edge) → In e es → In e.from.0 ids → e.to.0
+      ≡ x.id.0 → e.port ≡ p → ⊥
   fed x p h e i f q r =
-      true≢false (sym (some_any (feeds ids (id_of x) p) es e i (and_from (among e.from.0 ids) _ (in_among e.from.0 ids f) (and_from (eqb e.to.0 x.id.0) (eqb e.port p) (eq-eqb _ _ q) (eq-eqb _ _ r)))) ∙ not-true _ h)
+      true≢false (sym (some_any (feeds ids (id_of x) p) es e i
+      (and_from (among e.from.0 ids) _ (in_among e.from.0 ids f)
+      (and_from (eqb e.to.0 x.id.0) (eqb e.port p) (eq-eqb _ _ q) (eq-eqb _ _ r)))) ∙ not-true _ h)
 
-  not_fed : (x : Node) (p : ℕ) → ((e : Edge) → In e es → In e.from.0 ids → e.to.0 ≡ x.id.0 → e.port ≡ p → ⊥) → not (connected ids es (id_of x) p) ≡ true
+  not_fed : (x : Node) (p : ℕ) → ((e : Edge) → In e es → In e.from.0 ids → e.to.0 ≡ x.id.0 → e.port ≡ p → ⊥)
+      → not (connected ids es (id_of x) p) ≡ true
   not_fed x p h = go (connected ids es (id_of x) p) refl
     where
       go : (b : Bool) → connected ids es (id_of x) p ≡ b → not b ≡ true
@@ -80,14 +85,23 @@ module _ (ns : List Node) (es : List Edge) where
       let r = any_some (λ p. bit x.required p && not (connected ids es (id_of x) p)) (upto (min x.ports 64)) h in
       let l = upto_in (min x.ports 64) r.0 r.1 in
       let s = and_parts (bit x.required r.0) _ r.2 in
-      record { node = x; lives = i; port = r.0; within = omega arith; of_64 = omega arith; required = s.0; alone = fed x r.0 s.1 }
+      record {
+        node = x;
+        lives = i;
+        port = r.0;
+        within = omega arith;
+        of_64 = omega arith;
+        required = s.0;
+        alone = fed x r.0 s.1;
+      }
 
   port_lacks : (u : Unconnected ns es) → lacks ids es u.node ≡ true
   unfolding lacks
   port_lacks u =
       let a = u.within in
       let b = u.of_64 in
-      some_any (λ p. bit u.node.required p && not (connected ids es (id_of u.node) p)) (upto (min u.node.ports 64)) u.port (in_upto (min u.node.ports 64) u.port (omega arith))
+      some_any (λ p. bit u.node.required p && not (connected ids es (id_of u.node) p))
+      (upto (min u.node.ports 64)) u.port (in_upto (min u.node.ports 64) u.port (omega arith))
       (and_from _ _ u.required (not_fed u.node u.port u.alone))
 
   module _ (rises : RisesFrom 0 ns) where
@@ -106,31 +120,43 @@ module _ (ns : List Node) (es : List Edge) where
     not_13 h u = true≢false (sym (some_any (lacks ids es) ns u.node u.lives (port_lacks u)) ∙ sym lacking_is ∙ h)
 
     row_14 : not (whole (live_ids ns) (map arc_of es)) ≡ true → Cyclic (map id_of ns) (map arc_of es)
-    row_14 h = subst (λ l. Cyclic l (map arc_of es)) live (short_cyclic (live_ids ns) (live_distinct ns) (map arc_of es) (not-true _ h))
+    row_14 h = subst (λ l. Cyclic l (map arc_of es)) live
+        (short_cyclic (live_ids ns) (live_distinct ns) (map arc_of es) (not-true _ h))
 
     not_14 : not (whole (live_ids ns) (map arc_of es)) ≡ false → Cyclic (map id_of ns) (map arc_of es) → ⊥
-    not_14 h c = true≢false (sym (not-false _ h) ∙ cyclic_short (live_ids ns) (live_distinct ns) (map arc_of es) (subst (λ l. Cyclic l (map arc_of es)) (sym live) c))
+    not_14 h c = true≢false (sym (not-false _ h)
+        ∙ cyclic_short (live_ids ns) (live_distinct ns) (map arc_of es)
+        (subst (λ l. Cyclic l (map arc_of es)) (sym live) c))
 
 -- ---- the call
 abbrev refusal : Result (Unit {0}) Refusal → Option Refusal
 refusal (Ok tt) = None
 refusal (Err r) = Some r
 
-tests : (ns : List Node) (es : List Edge) → refusal (prepare ns es).answer ≡ when (lacking ns es) RequiredPort (when (not (whole (live_ids ns) (map arc_of es))) Cycle None)
+tests : (ns : List Node) (es : List Edge) → refusal (prepare ns es).answer
+    ≡ when (lacking ns es) RequiredPort (when (not (whole (live_ids ns) (map arc_of es))) Cycle None)
 unfolding prepare
-tests ns es = go (lacking ns es) (whole (live_ids ns) (map arc_of es)) (record { answer = Ok tt; order = processing_order ns es })
+tests ns es = go (lacking ns es) (whole (live_ids ns) (map arc_of es))
+    (record { answer = Ok tt; order = processing_order ns es })
   where
-    go : (b w : Bool) (ready : Outcome) → refusal (cond b (graph.refused RequiredPort) (cond (not w) (graph.refused Cycle) ready)).answer
+    go : (b w : Bool) (ready : Outcome) → refusal
+        (cond b (graph.refused RequiredPort) (cond (not w) (graph.refused Cycle) ready)).answer
         ≡ when b RequiredPort (when (not w) Cycle (refusal ready.answer))
     go true w ready = refl
     go false true ready = refl
     go false false ready = refl
 
-prepared : (c : Refusal → Type 0) (l : List Refusal) (m : Model) (a : Result (Unit {0}) Refusal) (order : List NodeId) → Told c l (refusal a)
-    → call.step call.prepare m ≡ shared_step m (ready_shared a order m.shared) (ready_answer a) → Refuses c l call.prepare m
+prepared : (c : Refusal → Type 0) (l : List Refusal) (m : Model) (a : Result (Unit {0}) Refusal) (order : List NodeId)
+    → Told c l (refusal a)
+    → call.step call.prepare m ≡ shared_step m (ready_shared a order m.shared) (ready_answer a)
+    → Refuses c l call.prepare m
 prepared c l m (Ok tt) order told is =
     record {
-      first = λ r. (λ e. absurd (done_no (sym (ap (λ (s : call.Step). s.answer) is) ∙ e)), λ f. absurd (none_some ((told.first r).1 f)));
+      first = λ r. (
+        λ e. absurd (done_no (sym (ap (λ (s : call.Step). s.answer) is) ∙ e)),
+        λ f. absurd
+            (none_some ((told.first r).1 f)),
+      );
       unchanged = λ r f. absurd (none_some ((told.first r).1 f));
     }
   where
@@ -138,14 +164,20 @@ prepared c l m (Ok tt) order told is =
     done_no e = let z : ◌≡◌ {A = ℕ} 0 1 = cc in omega arith
 prepared c l m (Err q) order told is =
     record {
-      first = λ r. (λ e. (told.first r).0 (ap Some (refused_inj (sym (ap (λ (s : call.Step). s.answer) is) ∙ e))), λ f. ap (λ (s : call.Step). s.answer) is ∙ ap call.refused (some_inj ((told.first r).1 f)));
+      first = λ r. (
+        λ e. (told.first r).0 (ap Some
+            (refused_inj (sym (ap (λ (s : call.Step). s.answer) is) ∙ e))),
+        λ f. ap (λ (s : call.Step). s.answer) is
+            ∙ ap call.refused (some_inj ((told.first r).1 f)),
+      );
       unchanged = λ r f. ap (λ (s : call.Step). s.model) is;
     }
   where
     refused_inj : {a b : Refusal} → call.refused a ≡ call.refused b → a ≡ b
     refused_inj e = cc
 
-pub prepare_refuses : (m : Model) → RisesFrom 0 m.shared.graph.nodes → Refuses (prepare_when m.shared.graph) prepare_rows call.prepare m
+pub prepare_refuses : (m : Model) → RisesFrom 0 m.shared.graph.nodes
+    → Refuses (prepare_when m.shared.graph) prepare_rows call.prepare m
 prepare_refuses m rises =
     let o = prepare_outcome m.shared in
     prepared c prepare_rows m o.answer o.order (subst (Told c prepare_rows) (sym (tests ns es)) told) refl
@@ -159,7 +191,9 @@ prepare_refuses m rises =
     c : Refusal → Type 0
     c = prepare_when m.shared.graph
 
-    told : Told c prepare_rows (when (lacking ns es) RequiredPort (when (not (whole (live_ids ns) (map arc_of es))) Cycle None))
+    told : Told c prepare_rows (when (lacking ns es) RequiredPort
+        (when (not (whole (live_ids ns) (map arc_of es))) Cycle None))
     told =
         row (lacking ns es) RequiredPort _ c _ (row_13 ns es rises) (not_13 ns es rises)
-        (row (not (whole (live_ids ns) (map arc_of es))) Cycle _ c [] (row_14 ns es rises) (not_14 ns es rises) (no_row c))
+        (row (not (whole (live_ids ns) (map arc_of es))) Cycle _ c [] (row_14 ns es rises) (not_14 ns es rises)
+        (no_row c))

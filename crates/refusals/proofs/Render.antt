@@ -22,8 +22,10 @@ use Rattle.refusals.proofs.First.{no_row, row}
 
 render_told : (d : SharedState) (entries : ℕ) → Told (render_when d entries) render_rows (render_refusal d entries)
 render_told d entries =
-    row (ltb 18446744073709551615 (deadline d)) ClockEnd _ c _ (ltb-true 18446744073709551615 (deadline d)) (λ e h. let q = ltb-false 18446744073709551615 (deadline d) e in omega arith)
-    (row (ltb entries 256) ShortBuffer _ c [] (ltb-true entries 256) (λ e h. let q = ltb-false entries 256 e in omega arith) (no_row c))
+    row (ltb 18446744073709551615 (deadline d)) ClockEnd _ c _ (ltb-true 18446744073709551615 (deadline d))
+    (λ e h. let q = ltb-false 18446744073709551615 (deadline d) e in omega arith)
+    (row (ltb entries 256) ShortBuffer _ c [] (ltb-true entries 256)
+    (λ e h. let q = ltb-false entries 256 e in omega arith) (no_row c))
   where
     c : Refusal → Type 0
     c = render_when d entries

@@ -1,5 +1,5 @@
--- What a definition may be, number by number: SPEC 6.1, and SPEC 6.2 on which edges count. That the store accepts exactly these: `limits` of
--- proofs/Definition.antt.
+-- What a definition may be, number by number: SPEC 6.1, and SPEC 6.2 on which edges count. That the store accepts
+-- exactly these: `limits` of proofs/Definition.antt.
 use Rattle.std.specs.Prelude.{ℕ, ◌^◌, ◌≤◌, ◌<◌, ◌≡◌, ◌⊎◌, ◌↔◌, List, ◌∷◌, ◌++◌, true, length, slice_get, Some}
 use Rattle.lists.specs.Member.{In}
 use Rattle.node.specs.declared.name.Name.{Name}

@@ -1,5 +1,5 @@
--- When each of the host's calls is refused, row by row: SPEC 4.1 to 4.5 (nodes, edges, the sink), 5.3 (prepare), 8.2 (scheduling), 11.1
--- (reports), 12 (render), 20 (the numbers). A free and a clearing refuse nothing.
+-- When each of the host's calls is refused, row by row: SPEC 4.1 to 4.5 (nodes, edges, the sink), 5.3 (prepare), 8.2
+-- (scheduling), 11.1 (reports), 12 (render), 20 (the numbers). A free and a clearing refuse nothing.
 use Rattle.std.specs.Prelude.{ℕ, ◌+◌, ◌*◌, ◌^◌, ◌≤◌, ◌<◌, ◌≡◌, ◌⊎◌, List, [], ◌∷◌, map, true, false, length, find, Some}
 use Rattle.lists.specs.Member.{In}
 use Rattle.node.specs.declared.record.NodeId.{NodeId}
@@ -25,7 +25,8 @@ use Rattle.refusals.specs.First.{First, NoneHolds}
 use Rattle.refusals.specs.Spawn.{NoNode, OfVoice}
 
 -- ---- adding a node: 6, 7, 8
--- more than 64 ports, a kind name that is not 1 to 16 bytes, or a required port that is none of the node's: bit p of `required` stands for port p
+-- more than 64 ports, a kind name that is not 1 to 16 bytes, or a required port that is none of the node's: bit p of
+-- `required` stands for port p
 pub data BadNode (kind : List ℕ) (ports required : ℕ) : Type 0 where
   many_ports : 64 < ports → BadNode kind ports required
   no_name : length kind < 1 → BadNode kind ports required
@@ -93,10 +94,12 @@ schedule_when e q TableFull = QueueFull e q
 schedule_when e q r = ⊥
 
 -- ---- a report: 4, 16
--- a node that can be reported: one of the host's, or of the definition of a voice, whose nodes have the ids from its first on
+-- a node that can be reported: one of the host's, or of the definition of a voice, whose nodes have the ids from its
+-- first on
 pub data Reportable (ns : List Node) (vs : List Voice) (k : NodeId) : Type 0 where
   of_host : (n : Node) → node_at ns k ≡ Some n → n.owner.0 ≡ 0 → Reportable ns vs k
-  of_voice_node : (n : Node) → node_at ns k ≡ Some n → (v : Voice) → find (is_voice n.owner) vs ≡ Some v → v.first.0 ≤ n.id.0 → n.id.0 < v.first.0 + v.count
+  of_voice_node : (n : Node) → node_at ns k ≡ Some n → (v : Voice) → find (is_voice n.owner) vs ≡ Some v
+      → v.first.0 ≤ n.id.0 → n.id.0 < v.first.0 + v.count
       → Reportable ns vs k
 
 -- 1 or 2 channels of a block each
@@ -142,8 +145,10 @@ render_when d entries r = ⊥
 
 -- a render names its refusal in an answer of its own kind, takes no event, and leaves the list as it was lent
 pub record RenderRefuses (out : List ℕ) (m : Model) : Type 0 where
-  pub refused : (r : Refusal) → First (render_when m.shared (length out)) render_rows r → call.step (call.render out) m ≡ record { answer = call.rendered (Rendered.Refused r) 0 out; model = m }
-  pub taken : NoneHolds (render_when m.shared (length out)) render_rows → (r : Refusal) (n : ℕ) (left : List ℕ) → (call.step (call.render out) m).answer ≡ call.rendered (Rendered.Refused r) n left → ⊥
+  pub refused : (r : Refusal) → First (render_when m.shared (length out)) render_rows r → call.step (call.render out) m
+      ≡ record { answer = call.rendered (Rendered.Refused r) 0 out; model = m }
+  pub taken : NoneHolds (render_when m.shared (length out)) render_rows → (r : Refusal) (n : ℕ) (left : List ℕ)
+      → (call.step (call.render out) m).answer ≡ call.rendered (Rendered.Refused r) n left → ⊥
 
 -- ---- a call that refuses nothing
 pub record NeverRefuses (x : Call) (m : Model) : Type 0 where

@@ -8,7 +8,8 @@ use Rattle.model.specs.Model.{Model}
 use Rattle.model.specs.Make.{Making, config_of, refusal_of, new_model, make}
 use Rattle.refusals.specs.First.{Told}
 
--- the rate is the whole number n, from 1 to 384,000: a finite value without sign is m * 2 ^ e, and 2 ^ e is up e / down e
+-- the rate is the whole number n, from 1 to 384,000: a finite value without sign is m * 2 ^ e, and 2 ^ e is up e / down
+-- e
 pub record Hertz (x : Float) (n : ℕ) : Type 0 where
   pub some : 1 ≤ n
   pub most : n ≤ 384000

@@ -1,5 +1,5 @@
--- When a spawn may come, in numbers, and the rows of its refusals: SPEC 9.1. The rows are the same for the managed and the unmanaged spawn;
--- after them come 11 and 12, of which the ledger's claim says when.
+-- When a spawn may come, in numbers, and the rows of its refusals: SPEC 9.1. The rows are the same for the managed and
+-- the unmanaged spawn; after them come 11 and 12, of which the ledger's claim says when.
 use Rattle.std.specs.Prelude.{ℕ, ◌+◌, ◌≤◌, ◌<◌, ◌≡◌, ◌⊎◌, ◌↔◌, List, [], ◌∷◌, length, Some, Ok, Err}
 use Rattle.lists.specs.Member.{In}
 use Rattle.node.specs.declared.record.NodeId.{NodeId}
@@ -26,7 +26,8 @@ pub record Bus (ns : List Node) (bus : NodeId) : Type 0 where
   pub host : node.owner.0 ≡ 0
   pub ports : 1 ≤ node.ports
 
--- Beside the definition's nodes and edges there is room for a constant, a pan node and a fade, and for the edges of these; and for a voice.
+-- Beside the definition's nodes and edges there is room for a constant, a pan node and a fade, and for the edges of
+-- these; and for a voice.
 pub record Headroom (d : SharedState) (vs : List Voice) (def : SynthDef) : Type 0 where
   pub nodes : length d.graph.nodes + def.nodes.count + 3 ≤ 512
   pub edges : length d.graph.edges + def.edges.count + 4 ≤ 1024
@@ -94,14 +95,15 @@ pub record SpawnRefuses (x : Spawn) (c : Call) (m : Model) : Type 0 where
   -- it may come exactly when none of the rows' conditions holds
   pub may : May x m ↔ NoneHolds (spawn_when x m) rows
   -- the first row whose condition holds is answered, and nothing is changed
-  pub refused : (r : Refusal) → First (spawn_when x m) rows r → call.step c m ≡ record { answer = call.spawned (Err r); model = m }
+  pub refused : (r : Refusal) → First (spawn_when x m) rows r → call.step c m
+      ≡ record { answer = call.spawned (Err r); model = m }
   -- where it may come, only 11 and 12 are left, and 11 changes nothing
   pub left : May x m → (r : Refusal) → (call.step c m).answer ≡ call.spawned (Err r) → (r ≡ Rejected) ⊎ (r ≡ NoPort)
   pub rejected : (call.step c m).answer ≡ call.spawned (Err Rejected) → (call.step c m).model ≡ m
 
 -- ---- a whole list, 11 and 12 with it
--- The call c, a spawn, answers a refusal exactly when it is the first of the list whose condition holds, and the next voice id exactly when none
--- holds. A refusal other than 12 changes nothing.
+-- The call c, a spawn, answers a refusal exactly when it is the first of the list whose condition holds, and the next
+-- voice id exactly when none holds. A refusal other than 12 changes nothing.
 pub record SpawnAnswers (when : Refusal → Type 0) (l : List Refusal) (c : Call) (m : Model) : Type 0 where
   pub refused : (r : Refusal) → ((call.step c m).answer ≡ call.spawned (Err r)) ↔ First when l r
   pub given : ((call.step c m).answer ≡ call.spawned (Ok (next_voice m.shared))) ↔ NoneHolds when l
@@ -113,7 +115,8 @@ abbrev pub Fed : List Edge → NodeId → ℕ → Type 0
 Fed es k p = (e : Edge) × In e es × (e.to.0 ≡ k.0) × (e.port ≡ p)
 
 abbrev pub loose_rows : List Refusal
-loose_rows = RankTooHigh ∷ DefinitionLimits ∷ UnknownNode ∷ VoiceNode ∷ BusWithoutPorts ∷ TableFull ∷ IdsUsedUp ∷ NoPort ∷ []
+loose_rows = RankTooHigh ∷ DefinitionLimits ∷ UnknownNode ∷ VoiceNode ∷ BusWithoutPorts ∷ TableFull ∷ IdsUsedUp ∷ NoPort
+    ∷ []
 
 abbrev pub loose_when : Spawn → Model → Refusal → Type 0
 -- 12: no port of the bus is free
