@@ -3,21 +3,22 @@
 use Prim.Native.Nat.{ℕ, zero, suc, ◌≤◌, ◌<◌}
 use native.Mathlib.Omega.{arith}
 use mathlib.Core.Path.{◌≡◌, refl, sym, ap, ◌∙◌, subst}
-use mathlib.Core.Logic.{inl, inr}
+use mathlib.Core.Logic.{◌⊎◌, ◌↔◌, inl, inr}
 use mathlib.Core.List.{List, [], ◌∷◌, ◌++◌, map}
 use mathlib.Core.Bool.{Bool, true, false, ◌&&◌, false≢true}
 use Rattle.std.specs.Prelude.{Option, None, Some, find, filter, get_or}
 use lib.Dec.{eqb, leb}
 use lib.ListN.{length}
-use borrow.Author.Tests.{eqb-true, leb-true}
+use borrow.Author.Tests.{eqb-true, eq-eqb, leb-true}
+use Rattle.std.proofs.lemmas.Bool.{and_from}
 use Rattle.lists.specs.Member.{In}
-use Rattle.lists.proofs.Member.{some_inj, none_some, in_map, in_right, and_left}
+use Rattle.lists.proofs.Member.{some_inj, none_some, in_map, in_right, and_left, and_right}
 use Rattle.lists.proofs.Find.{find_in}
 use Rattle.lists.proofs.Filter.{in_filter, filter_filter, filter_map}
 use Rattle.node.specs.declared.record.NodeId.{NodeId}
 use Rattle.node.specs.declared.record.VoiceId.{VoiceId}
 use Rattle.node.specs.declared.refusal.Refusal.{Refusal}
-use Rattle.voice.specs.Policy.{Victim, victim, policy_victim, last_from, lowest, of_lowest, at_budget, decides}
+use Rattle.voice.specs.Policy.{Victim, victim, policy_victim, last_from, lowest, of_lowest, at_budget, decides, counts}
 use Rattle.voice.specs.Quietest.{QuietestGoes}
 use Rattle.voice.proofs.Quietest.{quietest_goes}
 use Rattle.voice.proofs.Victims.{OneOf, victim_one}
@@ -27,9 +28,12 @@ use Rattle.voice.specs.declared.policy.Candidate.{Candidate}
 use Rattle.voice.specs.declared.policy.StealPolicy.{StealPolicy}
 use Rattle.voice.specs.declared.policy.StealPolicy.TheVariants as policy
 use Rattle.store.specs.declared.voices.Voice.{Voice}
-use Rattle.store.specs.declared.voices.VoiceState.TheVariants.{Tracked}
+use Rattle.voice.specs.declared.policy.BudgetScope.{BudgetScope}
+use Rattle.voice.specs.declared.policy.BudgetScope.TheVariants as scope
+use Rattle.store.specs.declared.voices.VoiceState.{VoiceState}
+use Rattle.store.specs.declared.voices.VoiceState.TheVariants.{Tracked, Fading, Loose}
 use Rattle.model.specs.SharedState.{SharedState}
-use Rattle.model.specs.Voice.{is_fading, is_on, fades_on, tracked_on, is_voice, counted, candidate, candidates}
+use Rattle.model.specs.Voice.{is_tracked, is_fading, is_on, fades_on, tracked_on, is_voice, counted, candidate, candidates}
 use Rattle.model.specs.Refuse.{spawn_refusal}
 use Rattle.model.specs.Spawn.{Spawn, voice_of, earliest, else_victim, next_out}
 use Rattle.model.specs.Model.{Model, admission_on}
@@ -207,3 +211,27 @@ module _ (m : Model) {k : ℕ} (d : Ids k m.voices) (bus : NodeId) (r : ℕ) whe
           let z = earliest_in (fades_on bus) m.voices v (e ∙ f) in
           absurd (false≢true (ap is_fading (sym t) ∙ and_left (is_fading v.state) (is_on bus v) z.1))
       go None e f = named (victim m.shared.config.policy r (candidates m.shared (tracked_on bus) m.voices)) refl f
+
+-- ---- who counts
+pub who_counts : (s : BudgetScope) (bus : NodeId) (v : Voice)
+    → (counted s bus v ≡ true) ↔ ((v.state ≡ Tracked) × ((s ≡ scope.Global) ⊎ (v.bus.0 ≡ bus.0)))
+who_counts s bus v =
+    (λ h. (tracks v.state (and_left (is_tracked v.state) (counts s v.bus bus) h), there s
+    (and_right (is_tracked v.state) (counts s v.bus bus) h)), back)
+  where
+    tracks : (z : VoiceState) → is_tracked z ≡ true → z ≡ Tracked
+    tracks Tracked e = refl
+    tracks (Fading f) e = absurd (false≢true e)
+    tracks Loose e = absurd (false≢true e)
+
+    there : (z : BudgetScope) → counts z v.bus bus ≡ true → (z ≡ scope.Global) ⊎ (v.bus.0 ≡ bus.0)
+    there scope.Global e = inl refl
+    there scope.PerGroup e = inr (eqb-true v.bus.0 bus.0 e)
+
+    here : (z : BudgetScope) → (z ≡ scope.Global) ⊎ (v.bus.0 ≡ bus.0) → counts z v.bus bus ≡ true
+    here scope.Global e = refl
+    here scope.PerGroup (inl e) = let z : ◌≡◌ {A = ℕ} 0 1 = cc in absurd (omega arith)
+    here scope.PerGroup (inr e) = eq-eqb v.bus.0 bus.0 e
+
+    back : (v.state ≡ Tracked) × ((s ≡ scope.Global) ⊎ (v.bus.0 ≡ bus.0)) → counted s bus v ≡ true
+    back h = and_from (is_tracked v.state) (counts s v.bus bus) (ap is_tracked h.0) (here s h.1)

@@ -63,7 +63,7 @@ use Rattle.ledger.proofs.Clearing.{cleared_voices, cleared_count}
 use Rattle.ledger.proofs.SpawnFailure.{spawn_answer_lem}
 use Rattle.ledger.proofs.SpawnRows.{managed_answers, none_let}
 use Rattle.ledger.proofs.Owner.{owner_some}
-use Rattle.ledger.proofs.Chooses.{chooses, next_goes}
+use Rattle.ledger.proofs.Chooses.{chooses, next_goes, who_counts}
 use Rattle.ledger.proofs.Ready.{to_live, ReadyOf, prepared_sorted, prepared_same, render_sounds}
 use Rattle.ledger.proofs.Losses.{losses}
 use Rattle.ledger.proofs.Reclaims.{reclaims}
@@ -275,6 +275,7 @@ module _ (c : Config) (l : Ledger) (known : Known c l) where
         reclaims = λ x. reclaims x (store_of c l) (ids_map (shown c) (λ v. refl) r.ids);
         numbers = λ v i f e. let w = was c l.voices v i f e in subst (λ (g : Fade). g.number < l.shared.steals.count) (sym w.moves) (r.numbers w.voice w.member w.fade w.state);
         own = own;
+        counts = who_counts c.scope;
         budget = few;
         loose = λ b.
             let a = known.loose b in

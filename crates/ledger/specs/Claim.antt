@@ -38,6 +38,7 @@ use Rattle.voice.specs.Quietest.{QuietestGoes}
 use Rattle.voice.specs.declared.policy.Admission.{Admission}
 use Rattle.voice.specs.declared.policy.Admission.TheVariants as admission
 use Rattle.voice.specs.declared.policy.BudgetScope.{BudgetScope}
+use Rattle.voice.specs.declared.policy.BudgetScope.TheVariants as scope
 use Rattle.voice.specs.declared.policy.StealPolicy.{StealPolicy}
 use Rattle.voice.specs.declared.policy.StealPolicy.TheVariants as policy
 use Rattle.voice.specs.declared.steals.StealRecord.{StealRecord}
@@ -526,7 +527,11 @@ pub record Holds (c : Config) (s : Model) : Type 0 where
   pub numbers : (v : Voice) → In v s.voices → (f : Fade) → v.state ≡ Fading f → f.number < s.shared.steals.count
   pub own : (u v : Voice) → In u s.voices → In v s.voices → (f g : Fade) → u.state ≡ Fading f → v.state ≡ Fading g
       → f.number ≡ g.number → u ≡ v
-  -- ---- 4, SPEC 9.2. Tracked voices never exceed the budget: all of them, or those of each bus under `PerGroup`.
+  -- ---- 4, SPEC 9.2. For a new voice on the bus count the tracked voices: all of them, or under `PerGroup` those of
+  -- the bus.
+  pub counts : (bus : NodeId) (v : Voice) → (counted c.scope bus v ≡ true)
+      ↔ ((v.state ≡ Tracked) × ((c.scope ≡ scope.Global) ⊎ (v.bus.0 ≡ bus.0)))
+  -- Tracked voices never exceed the budget: all of them, or those of each bus under `PerGroup`.
   pub budget : (n : ℕ) → c.budget ≡ Some n → (bus : NodeId) → count (counted c.scope bus) s.voices ≤ n
   -- Without a budget nobody is tracked, stolen or reclaimed.
   pub loose : c.budget ≡ None → AllLoose s
