@@ -253,7 +253,7 @@ abbrev pub Records : (Voice → StealRecord) → StealLog → ℕ → List Voice
 Records r b k [] = Unit {0}
 Records r b k (v ∷ vs) = (held_record b k ≡ Some (r v)) × Records r b (suc k) vs
 
--- What the managed spawn x, which made of s the store s', records: SPEC 9.5, 9.7, 16. The victim of the admission is no
+-- What the managed spawn x, which made of s the store s', records: SPEC 9.5, 9.7. The victim of the admission is no
 -- longer tracked: it fades, or it goes if it cannot fade. Then for want of a port tracked voices of the bus may go.
 -- Each of them leaves a record.
 pub record Losses (x : Spawn) (s s' : Model) : Type 0 where
@@ -497,7 +497,7 @@ pub record Holds (c : Config) (s : Model) : Type 0 where
   pub leaves : (x : Call) (v : Voice) → In v s.voices → (f : Fade) → v.state ≡ Fading f
       → GoesOn c.block v f (answer_of x s) (left_by x s).voices
       ⊎ ((find (is_voice v.id) (left_by x s).voices ≡ None) × Why s (left_by x s) v f x)
-  -- SPEC 9.5, 16. No call but a managed spawn touches the steal records.
+  -- SPEC 9.5. No call but a managed spawn touches the steal records.
   pub quiet : (x : Call) → is_managed x ≡ false → (left_by x s).shared.steals ≡ s.shared.steals
   -- There a record that was written before stays, drops out of the newest 64, or is marked, and then the fade that has
   -- it was on this bus and was removed in this call.
