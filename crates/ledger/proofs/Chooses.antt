@@ -215,9 +215,14 @@ module _ (m : Model) {k : ℕ} (d : Ids k m.voices) (bus : NodeId) (r : ℕ) whe
 -- ---- who counts
 pub who_counts : (s : BudgetScope) (bus : NodeId) (v : Voice)
     → (counted s bus v ≡ true) ↔ ((v.state ≡ Tracked) × ((s ≡ scope.Global) ⊎ (v.bus.0 ≡ bus.0)))
-who_counts s bus v =
-    (λ h. (tracks v.state (and_left (is_tracked v.state) (counts s v.bus bus) h), there s
-    (and_right (is_tracked v.state) (counts s v.bus bus) h)), back)
+who_counts s bus v = (
+  λ h. (
+    tracks v.state (and_left (is_tracked v.state) (counts s v.bus bus) h),
+    there s
+        (and_right (is_tracked v.state) (counts s v.bus bus) h),
+  ),
+  back,
+)
   where
     tracks : (z : VoiceState) → is_tracked z ≡ true → z ≡ Tracked
     tracks Tracked e = refl
