@@ -491,9 +491,9 @@ pub record Holds (c : Config) (s : Model) : Type 0 where
   -- It answers how many it removed.
   pub removed : (n : ℕ) → answer_of call.clear s ≡ call.removed n → length s.voices
       ≡ length (left_by call.clear s).voices + n
-  -- ---- 3, SPEC 10. At the next call x a fading voice goes on, a block further after a sounding render and else the
-  -- same; or it is removed, for one of the reasons of `Why`: a free, called or timed, its end or its silence at a
-  -- clearing, or a reclaim, which marks its record.
+  -- ---- 3, SPEC 10.2, 10.3. At the next call x a fading voice goes on, a block further after a sounding render and
+  -- else the same; or it is removed, for one of the reasons of `Why`: a free, called or timed, its end or its silence
+  -- at a clearing, or a reclaim, which marks its record.
   pub leaves : (x : Call) (v : Voice) → In v s.voices → (f : Fade) → v.state ≡ Fading f
       → GoesOn c.block v f (answer_of x s) (left_by x s).voices
       ⊎ ((find (is_voice v.id) (left_by x s).voices ≡ None) × Why s (left_by x s) v f x)
@@ -622,8 +622,8 @@ pub record Claim (c : Config) (m : Model) (xs : List Call) : Type 0 where
   -- The held ports: the ledger's holder of a port is the owner of the source of the store's edge at it.
   pub holders : (n p : ℕ) → (ledger_after c xs).holders n p
       ≡ holder_at (after m xs).shared.graph.nodes (after m xs).shared.graph.edges n p
-  -- ---- 2. A fade was begun by a managed spawn of the list, and has moved by a block at each sounding render since. It
-  -- has ended exactly when these renders are at least L over block, rounded up.
+  -- ---- 2, SPEC 10.1 to 10.3. A fade was begun by a managed spawn of the list, and has moved by a block at each
+  -- sounding render since. It has ended exactly when these renders are at least L over block, rounded up.
   pub ends : (v : Voice) → In v (after m xs).voices → (f : Fade) → v.state ≡ Fading f
       → (t : Stolen m c.block xs v f) × ((clearing.ended (fade_length c.rate) v.state ≡ true)
       ↔ (rounded_up (fade_length c.rate) c.block ≤ since t))

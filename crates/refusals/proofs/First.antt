@@ -42,11 +42,6 @@ row false r rest c l on off told =
     none_here e s (inl q) h = off refl (subst c q h)
     none_here e s (inr i) h = told.none.0 e s i h
 
--- two refusals of one list that are both the first
-pub only_first : (c : Refusal → Type 0) (l : List Refusal) (o : Option Refusal) → Told c l o → (r : Refusal)
-    → First c l r → o ≡ Some r
-only_first c l o told r f = (told.first r).1 f
-
 -- a call that does its work where its list refuses nothing, and whose work answers no refusal
 pub unless_refuses : (c : Refusal → Type 0) (l : List Refusal) (x : Call) (m : Model) (o : Option Refusal)
     (s : call.Step)
