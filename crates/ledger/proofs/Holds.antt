@@ -39,15 +39,19 @@ use Rattle.graph.specs.Refuse.{add_refusal}
 use Rattle.node.specs.declared.record.VoiceId.{VoiceId}
 use Rattle.node.specs.declared.refusal.Refusal.{Refusal}
 use Rattle.voice.specs.declared.voices.VoiceState.{VoiceState}
+use Rattle.refusals.specs.Spawn.{May}
+use Rattle.refusals.proofs.Host.{schedule_refuses}
+use Rattle.refusals.proofs.Prepare.{prepare_refuses}
+use Rattle.refusals.proofs.Spawn.{admissible, loose_answers}
 use Rattle.ledger.specs.Ledger.{Ledger}
 use Rattle.ledger.specs.Clear as ledger
 use Rattle.ledger.specs.Call.{step}
 use Rattle.ledger.specs.Holder.{voice}
-use Rattle.ledger.specs.Claim.{Arrives, Holds, Losses, Stealing, GoesOn, Why, Fate, Reclaimed, tracks, is_let, spawn_answer, is_sounded, node_ids, owner_at, holder_at, Shows}
+use Rattle.ledger.specs.Claim.{Arrives, Holds, Losses, GoesOn, Why, Fate, Reclaimed, tracks, is_let, spawn_answer, is_sounded, node_ids, owner_at, holder_at, Shows}
 use Rattle.ledger.specs.Call as ledgerCall
 use Rattle.ledger.proofs.Arrives.{ArrivesAt, managed_comes, loose_comes}
 use Rattle.ledger.proofs.Words as words
-use Rattle.ledger.proofs.Ids.{unique}
+use Rattle.ledger.proofs.Ids.{unique, ids_map}
 use Rattle.ledger.proofs.Abstraction.{counted_same, under_same, find_stored}
 use Rattle.ledger.proofs.Simulation.{RunInvariant, kept_step_lem}
 use Rattle.ledger.proofs.Capacity.{RoomOf}
@@ -57,9 +61,12 @@ use Rattle.ledger.proofs.Marks.{fate_voices, log_stays, marks, tallies, spawned_
 use Rattle.ledger.proofs.FadeEnds.{leaves_removed}
 use Rattle.ledger.proofs.Clearing.{cleared_voices, cleared_count}
 use Rattle.ledger.proofs.SpawnFailure.{spawn_answer_lem}
+use Rattle.ledger.proofs.SpawnRows.{managed_answers, none_let}
 use Rattle.ledger.proofs.Owner.{owner_some}
-use Rattle.ledger.proofs.Ready.{ReadyOf, prepared_sorted, prepared_same, render_sounds}
+use Rattle.ledger.proofs.Chooses.{chooses, next_goes, who_counts}
+use Rattle.ledger.proofs.Ready.{to_live, ReadyOf, prepared_sorted, prepared_same, render_sounds}
 use Rattle.ledger.proofs.Losses.{losses}
+use Rattle.ledger.proofs.Reclaims.{reclaims}
 use Rattle.ledger.proofs.EndInvariant.{moved_end}
 use Rattle.ledger.proofs.Port.{now_edge, edge_now, now_holds, holds_now}
 use Rattle.ledger.proofs.Store.{shown, store_of, store_step, Was, was, tracks_count, answer_same, refusal_same, reclaimed_shown, ended_shown, goes_shown, why_shown, losses_shown}
@@ -213,6 +220,17 @@ module _ (c : Config) (l : Ledger) (known : Known c l) where
             λ i. let r = in_map (λ (y : Node). y.id.0) g.nodes k.0 i in let b = known.ready.rows.below r.0 r.1 in let x = r.2 in omega (arith, b, x, m),
           )
 
+  -- ---- spawns
+  few : (n : ℕ) → c.budget ≡ Some n → (bus : NodeId) → count (counted c.scope bus) (map (shown c) l.voices) ≤ n
+  few n b bus = subst (λ z. z ≤ n) (sym (count_map (shown c) (counted c.scope bus) (counted c.scope bus) (counted_same (λ n. n * c.block) c.scope bus) l.voices)) (known.budget n b bus)
+
+  may_answer : (x : Spawn) → May x (store_of c l) → (call.step (call.spawn_managed x) (store_of c l)).answer ≡ call.spawned (spawn_answer x.bus x.rank (store_of c l))
+  may_answer x may =
+      next (call.spawn_managed x) (λ z. z.answer ≡ call.spawned (spawn_answer x.bus x.rank (store_of c l)))
+      (spawn_answer_lem x l known.kept.sound (λ b v i. (known.loose (sym (ap (λ (z : Config). z.budget) is) ∙ b)).voices v i)
+      (sym (refusal_same c l.shared l.voices x.def x.bus x.rank) ∙ (admissible l.shared (map (shown c) l.voices) x.def x.bus x.rank).1 may)
+      ∙ ap call.spawned (sym (answer_same c x.bus x.rank l is known.kept.sound)))
+
   -- ---- the page's column: what the ledger knows of a voice, of the voice as the store shows it
   column : (v : Voice) → In v (map (shown c) l.voices) → Shows (store_of c l) v
   column v i = let w = in_map (shown c) l.voices v i in subst (Shows (store_of c l)) (sym w.2) (at w.0 w.1)
@@ -232,6 +250,15 @@ module _ (c : Config) (l : Ledger) (known : Known c l) where
   pub holds : Holds c (store_of c l)
   holds =
       record {
+        made = is;
+        node_rows = to_live 0 l.shared.graph.nodes known.ready.rows.rises;
+        next_node = known.ready.rows.below;
+        voice_rows = (ids_map (shown c) (λ v. refl) r.ids).rising;
+        next_voice = (ids_map (shown c) (λ v. refl) r.ids).below;
+        unprepared = prepare_refuses (store_of c l) (to_live 0 l.shared.graph.nodes known.ready.rows.rises);
+        unscheduled = λ t w name a. schedule_refuses (store_of c l) t w name a known.room.events;
+        next_for_port = next_goes (store_of c l) (ids_map (shown c) (λ v. refl) r.ids);
+        chooses = λ x. chooses x (store_of c l) (ids_map (shown c) (λ v. refl) r.ids);
         removes = λ v i e. next call.clear (λ t. find (is_voice v.id) t.model.voices ≡ None) (ap (find (is_voice v.id)) left ∙ without_voice v i e);
         clears = next call.clear (λ t. t.model.voices ≡ Left (map (shown c) l.voices)) left;
         removed = λ n. next call.clear (λ t. t.answer ≡ call.removed n → length (map (shown c) l.voices) ≡ length t.model.voices + n) (λ e.
@@ -245,9 +272,11 @@ module _ (c : Config) (l : Ledger) (known : Known c l) where
             ∙ tallies x n l (ap (λ (z : Config). z.budget) is ∙ b) r a e
             ∙ ap (λ z. more (is_let a) (l.shared.steals.count + z)) (sym (tracks_count c l.voices)));
         losses = λ x. next (call.spawn_managed x) (λ t. Losses x (store_of c l) t.model) (losses_shown c x l (step (call.spawn_managed x) l).ledger known.kept.sound (losses x l r q));
+        reclaims = λ x. reclaims x (store_of c l) (ids_map (shown c) (λ v. refl) r.ids);
         numbers = λ v i f e. let w = was c l.voices v i f e in subst (λ (g : Fade). g.number < l.shared.steals.count) (sym w.moves) (r.numbers w.voice w.member w.fade w.state);
         own = own;
-        budget = λ n b bus. subst (λ z. z ≤ n) (sym (count_map (shown c) (counted c.scope bus) (counted c.scope bus) (counted_same (λ n. n * c.block) c.scope bus) l.voices)) (known.budget n b bus);
+        counts = who_counts c.scope;
+        budget = few;
         loose = λ b.
             let a = known.loose b in
             record {
@@ -257,9 +286,10 @@ module _ (c : Config) (l : Ledger) (known : Known c l) where
         stay = λ b x v i. next (call.spawn_managed x) (λ t. In v t.model.voices) (
             let w = in_map (shown c) l.voices v i in
             subst (λ z. In z (map (shown c) (step (call.spawn_managed x) l).ledger.voices)) (sym w.2) (in_of_map (shown c) (step (call.spawn_managed x) l).ledger.voices w.0 (known.stay b x w.0 w.1)));
-        spawns = λ n b t x h. next (call.spawn_managed x) (λ z. z.answer ≡ call.spawned (spawn_answer x.bus x.rank (store_of c l)))
-            (spawn_answer_lem x l known.kept.sound n (ap (λ (z : Config). z.budget) is ∙ b) (subst (λ (z : Config). Stealing z.policy) (sym is) t) (sym (refusal_same c l.shared l.voices x.def x.bus x.rank) ∙ h)
-            ∙ ap call.spawned (sym (answer_same c x.bus x.rank l is known.kept.sound)));
+        spawns = may_answer;
+        managed = λ x. managed_answers x (store_of c l) (may_answer x);
+        unmanaged = λ x. loose_answers x (store_of c l);
+        none_let = λ b x may. none_let x (store_of c l) (may_answer x) (ap (λ (z : Config). z.budget) is ∙ b) (subst (λ (z : Config). count (counted z.scope x.bus) (map (shown c) l.voices) ≤ 0) (sym is) (few 0 b x.bus)) may;
         arrives = λ x w. next (call.spawn_managed x) (λ t. t.answer ≡ call.spawned (Ok w) → Arrives x (state_under c.budget) w (store_of c l) t.model) (managed_arrives x w);
         arrives_loose = λ x w. next (call.spawn_loose x) (λ t. t.answer ≡ call.spawned (Ok w) → Arrives x Loose w (store_of c l) t.model) (λ e.
             arrives_shown (call.spawn_loose x) x Loose refl w (loose_comes x l w (spawned_inj e)));

@@ -31,6 +31,7 @@ pub mod Clearing
 pub mod Begins
 pub mod History
 pub mod SpawnFailure
+pub mod SpawnRows
 pub mod Spawning
 pub mod Rows
 pub mod Ready
@@ -38,6 +39,8 @@ pub mod Voices
 pub mod Since
 pub mod FadeEnds
 pub mod Losses
+pub mod Reclaims
+pub mod Chooses
 pub mod Arrives
 pub mod Ranks
 pub mod Store

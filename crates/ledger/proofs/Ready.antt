@@ -52,7 +52,7 @@ unfolding any
 lacking_alike f [] ids es h = refl
 lacking_alike f (x ∷ ns) ids es h = rw (lacks_alike ids es x (f x) (h x (inl refl)), lacking_alike f ns ids es (λ y i. h y (inr i)))
 
-to_live : (least : ℕ) (ns : List Node) → RisesFrom id_of least ns → live.RisesFrom least ns
+pub to_live : (least : ℕ) (ns : List Node) → RisesFrom id_of least ns → live.RisesFrom least ns
 to_live least [] r = tt
 to_live least (x ∷ ns) r = (r.0, to_live (suc (id_of x)) ns r.1)
 

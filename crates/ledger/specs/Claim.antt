@@ -1,19 +1,21 @@
--- Demand 3: one claim about every list of calls, refused ones too, from every making that is accepted. "A list starts from a newly
--- made store; each call gets the store that the last left". The ledger "is fed the calls with all their arguments, making's too, and
--- nothing from the store". 1 says that the store is the ledger's; 2 to 5 are said of the store itself, after the list and at the call
--- that is next. `Claim`, at the end, is the statement; the words before it are what it says.
--- Read with 01's "The ledger" and "Contracts": a fade that moves only at the first steal or never contradicts `ends`; "no port" before
--- reclaiming, a store refusing all spawns, and one that does nothing contradict `spawns`; steal records counted at will contradict
--- `quiet`, `marks` and `writes`.
+-- One claim about every list of calls, refused ones too, from every making that is accepted: SPEC 21. A list starts
+-- from a newly made store, and each call gets the store that the last one left. The ledger is fed the calls with all
+-- their arguments, making's too, and nothing of the store. `Claim`, at the end, is the statement: 1 says that the store
+-- is the ledger's; 2 to 5, in `Holds`, are said of the store itself, after the list and at the call that is next. The
+-- words before them are what they say. A fade that moves only at the first steal, or never, contradicts `ends`; a 12
+-- before reclaiming, a store that refuses every spawn and one that does nothing contradict `spawns`, whose premise is
+-- numbers alone; steal records counted at will contradict `quiet`, `marks` and `writes`.
 use Rattle.std.specs.Prelude.{ℕ, zero, suc, ◌+◌, ◌-◌, ◌≤◌, ◌<◌, ◌*◌, ◌/◌, ◌≡◌, ◌⊎◌, ◌↔◌, List, [], ◌∷◌, ◌++◌, map, Bool, true, false, not, cond, ◌&&◌, ◌||◌, eqb, leb, ltb, ℤ, Float, length, Option, None, Some, find, is_some, option_map, filter, Result, Err, Ok}
 use Rattle.lists.specs.Member.{In}
+use Rattle.lists.specs.Rising as rising
 use Rattle.lists.specs.Count.{more, count}
 use Rattle.node.specs.declared.record.Edge.{Edge}
 use Rattle.node.specs.declared.record.Node.{Node}
 use Rattle.node.specs.declared.record.NodeId.{NodeId}
 use Rattle.node.specs.declared.record.VoiceId.{VoiceId}
+use Rattle.node.specs.declared.order.EventAction.{EventAction}
 use Rattle.node.specs.declared.refusal.Refusal.{Refusal}
-use Rattle.node.specs.declared.refusal.Refusal.TheVariants.{Rejected, NoPort}
+use Rattle.node.specs.declared.refusal.Refusal.TheVariants.{UnknownNode, VoiceNode, TableFull, IdsUsedUp, DefinitionLimits, BusWithoutPorts, Rejected, NoPort, RankTooHigh}
 use Rattle.bus.specs.Block as samples
 use Rattle.bus.specs.Fade.{fade_length, fade_output}
 use Rattle.fade_table.specs.Table.{entries}
@@ -22,7 +24,7 @@ use Rattle.whole_bus.specs.Sample.{is_sample}
 use Rattle.whole_bus.specs.Block as whole
 use Rattle.rank.specs.Order.{upto}
 use Rattle.rank.specs.Cycle.{Distinct, Sorted}
-use Rattle.prepare.specs.Live.{arc_of}
+use Rattle.prepare.specs.Live.{RisesFrom, arc_of}
 use Rattle.edges.specs.Wiring.{ends_at}
 use Rattle.edges.specs.Ports.{port_from}
 use Rattle.graph.specs.View.{GraphView}
@@ -32,9 +34,11 @@ use Rattle.scheduler.specs.Queue as queue
 use Rattle.scheduler.specs.declared.event.Event.{Event}
 use Rattle.voice.specs.Steals.{StealLog, cut_of, found_at, record_of}
 use Rattle.voice.specs.Policy.{at_budget}
+use Rattle.voice.specs.Quietest.{QuietestGoes}
 use Rattle.voice.specs.declared.policy.Admission.{Admission}
 use Rattle.voice.specs.declared.policy.Admission.TheVariants as admission
 use Rattle.voice.specs.declared.policy.BudgetScope.{BudgetScope}
+use Rattle.voice.specs.declared.policy.BudgetScope.TheVariants as scope
 use Rattle.voice.specs.declared.policy.StealPolicy.{StealPolicy}
 use Rattle.voice.specs.declared.policy.StealPolicy.TheVariants as policy
 use Rattle.voice.specs.declared.steals.StealRecord.{StealRecord}
@@ -45,10 +49,10 @@ use Rattle.voice.specs.declared.voices.VoiceState.{VoiceState}
 use Rattle.voice.specs.declared.voices.VoiceState.TheVariants.{Tracked, Fading, Loose}
 use Rattle.voice.specs.declared.voices.Fade.{Fade}
 use Rattle.model.specs.SharedState.{SharedState, length_l, sounding}
-use Rattle.voice.specs.Voice.{id, is_voice, is_tracked, is_fading, is_on, feeder, end_of, counted, moved, moved_fade, with_state}
-use Rattle.model.specs.Voice.{voice_level}
+use Rattle.voice.specs.Voice.{id, is_voice, is_tracked, is_fading, is_on, feeder, end_of, counted, tracked_on, moved, moved_fade, with_state}
+use Rattle.model.specs.Voice.{voice_level, candidate}
 use Rattle.model.specs.Refuse.{spawn_refusal}
-use Rattle.model.specs.Spawn.{Spawn, next_voice, state_under, fade_of}
+use Rattle.model.specs.Spawn.{Spawn, next_voice, next_out, state_under, fade_of}
 use Rattle.model.specs.Clear.{is_silent}
 use Rattle.model.specs.Clear as clearing
 use Rattle.model.specs.Render.{is_free, is_sounding, deadline, render_refusal}
@@ -56,6 +60,9 @@ use Rattle.model.specs.Model.{Model, admission_on}
 use Rattle.model.specs.Page.{port_now}
 use Rattle.model.specs.Call.{Call, Answer}
 use Rattle.model.specs.Call as call
+use Rattle.refusals.specs.First.{Refuses}
+use Rattle.refusals.specs.Host.{prepare_rows, prepare_when, schedule_rows, schedule_when}
+use Rattle.refusals.specs.Spawn.{May, spawn_when, SpawnAnswers, loose_rows, loose_when}
 use Rattle.ledger.specs.Holder.{Holder, nobody, host, voice}
 use Rattle.ledger.specs.Ledger.{Ledger, new_ledger}
 use Rattle.ledger.specs.Call.{run}
@@ -91,12 +98,15 @@ node_ids ns = map (λ (x : Node). x.id.0) ns
 abbrev pub voice_ids : List Voice → List ℕ
 voice_ids vs = map (λ (v : Voice). v.id.0) vs
 
--- "A freed row serves again; its id never returns": `ids` are those that are live after a list of calls
+-- A row that is free serves again, and its id never returns (SPEC 4.1, 9.9): `ids` are those that are live after a list
+-- of calls
 pub record NeverReturns (ids : List Call → List ℕ) (xs : List Call) : Type 0 where
   -- one that was live after some of the calls, and is not after all of them, is never live again
-  pub never : (before rest : List Call) → xs ≡ before ++ rest → (k : ℕ) → In k (ids before) → (In k (ids xs) → ⊥) → (ys : List Call) → In k (ids (xs ++ ys)) → ⊥
+  pub never : (before rest : List Call) → xs ≡ before ++ rest → (k : ℕ) → In k (ids before) → (In k (ids xs) → ⊥)
+      → (ys : List Call) → In k (ids (xs ++ ys)) → ⊥
   -- one that the next call makes live is above each that was live before it
-  pub rises : (before rest : List Call) → xs ≡ before ++ rest → (j k : ℕ) → In j (ids before) → (x : Call) → In k (ids (xs ++ (x ∷ []))) → (In k (ids xs) → ⊥) → j < k
+  pub rises : (before rest : List Call) → xs ≡ before ++ rest → (j k : ℕ) → In j (ids before) → (x : Call)
+      → In k (ids (xs ++ (x ∷ []))) → (In k (ids xs) → ⊥) → j < k
 
 -- ---- holders, as the edges give them
 -- who owns the node of an id
@@ -130,13 +140,14 @@ is_host (Some k) = eqb k 0
 abbrev pub holds_at : Owners → List Edge → ℕ → ℕ → Holder
 holds_at own es n p = cond (is_host (own n)) (held_by own (find (ends_at (id n) p) es)) nobody
 
--- "Each port of a host node has a holder: host node, voice or none."
+-- Each port of a host node has a holder: a host node, a voice, or nobody. SPEC 9.6, 21.
 abbrev pub holder_at : List Node → List Edge → ℕ → ℕ → Holder
 holder_at ns es n p = holds_at (owner_at ns) es n p
 
 -- ---- fades
--- the voice v, which fades by f after the calls xs on the store m, was stolen by one of them, a managed spawn: it was tracked before, the
--- fade starts at that clock and has the number of the next record, and its position is a block for each sounding render since
+-- the voice v, which fades by f after the calls xs on the store m, was stolen by one of them, a managed spawn: it was
+-- tracked before, the fade starts at that clock and has the number of the next record, and its position is a block for
+-- each sounding render since
 pub record Stolen (m : Model) (block : ℕ) (xs : List Call) (v : Voice) (f : Fade) : Type 0 where
   pub before : List Call
   pub later : List Call
@@ -185,10 +196,12 @@ cut_if_held (Some r) = r.cut
 -- why a voice v that faded by f is not there any more, after the call x that made of s the store s'
 pub data Why (s s' : Model) (v : Voice) (f : Fade) : Call → Type 0 where
   freed : Why s s' v f (call.free v.id)
-  timed : (out : List ℕ) (e : Event) → In e s.shared.events → queue.due (deadline s.shared) e ≡ true → is_free e.action ≡ true → e.voice ≡ v.id → Why s s' v f (call.render out)
+  timed : (out : List ℕ) (e : Event) → In e s.shared.events → queue.due (deadline s.shared) e ≡ true → is_free e.action
+      ≡ true → e.voice ≡ v.id → Why s s' v f (call.render out)
   ended : clearing.ended (length_l s.shared) v.state ≡ true → Why s s' v f call.clear
   silent : is_silent s.shared.graph.nodes v ≡ true → Why s s' v f call.clear
-  reclaimed : (x : Spawn) → is_on x.bus v ≡ true → cut_if_held (held_record s'.shared.steals f.number) ≡ true → Why s s' v f (call.spawn_managed x)
+  reclaimed : (x : Spawn) → is_on x.bus v ≡ true → cut_if_held (held_record s'.shared.steals f.number) ≡ true
+      → Why s s' v f (call.spawn_managed x)
 
 -- a fade of the bus that has the record k, among the voices vs and not among the voices vs' after them
 pub record Reclaimed (vs vs' : List Voice) (bus : NodeId) (k : ℕ) : Type 0 where
@@ -200,7 +213,8 @@ pub record Reclaimed (vs vs' : List Voice) (bus : NodeId) (k : ℕ) : Type 0 whe
   pub on : is_on bus voice ≡ true
   pub without_voice : find (is_voice voice.id) vs' ≡ None
 
--- record k, which was there before a managed spawn, is as before; or no longer one of the newest 64; or it is marked cut, and a fade that has it was reclaimed
+-- record k, which was there before a managed spawn, is as before; or no longer one of the newest 64; or it is marked
+-- cut, and a fade that has it was reclaimed
 pub data Fate (b b' : StealLog) (R : Type 0) (k : ℕ) : Type 0 where
   same : held_record b' k ≡ held_record b k → Fate b b' R k
   older : held_record b' k ≡ None → k + 64 < b'.count → Fate b b' R k
@@ -230,8 +244,8 @@ abbrev pub Heads : Option Voice → List Voice → Type 0
 Heads None vs = Unit {0}
 Heads (Some g) vs = (rest : List Voice) × (vs ≡ g ∷ rest)
 
--- what is recorded of the voice v, which was one of the tracked voices beside the shared d, when vs' are the voices after the call: the
--- clock, the level that it had before the call, and a cut mark exactly if it is removed
+-- what is recorded of the voice v, which was one of the tracked voices beside the shared d, when vs' are the voices
+-- after the call: the clock, the level that it had before the call, and a cut mark exactly if it is removed
 abbrev pub loss_of : SharedState → List Voice → Voice → StealRecord
 loss_of d vs' v = record_of d.clock (voice_level d v) (not (is_some (find (is_voice v.id) vs')))
 
@@ -240,8 +254,9 @@ abbrev pub Records : (Voice → StealRecord) → StealLog → ℕ → List Voice
 Records r b k [] = Unit {0}
 Records r b k (v ∷ vs) = (held_record b k ≡ Some (r v)) × Records r b (suc k) vs
 
--- What the managed spawn x, which made of s the store s', records. "A victim is untracked, faded, or freed if it cannot fade, and
--- recorded"; later "free the policy's victim among tracked voices of that bus with a cut record".
+-- What the managed spawn x, which made of s the store s', records: SPEC 9.5, 9.7. The victim of the admission is no
+-- longer tracked: it fades, or it goes if it cannot fade. Then for want of a port tracked voices of the bus may go.
+-- Each of them leaves a record.
 pub record Losses (x : Spawn) (s s' : Model) : Type 0 where
   -- the voices that were tracked and are not any more: each once
   pub lost : List Voice
@@ -252,17 +267,65 @@ pub record Losses (x : Spawn) (s s' : Model) : Type 0 where
   -- first the victim of the admission; the others were on the bus
   pub first : Heads (victim_of x s) lost
   pub others : (v : Voice) → In v lost → (victim_of x s ≡ Some v) ⊎ (is_on x.bus v ≡ true)
-  -- 02, Paper 13: "The victim comes from the lowest rank among candidates, .. and never outranks the newcomer": the victim of the admission is of
-  -- the lowest rank among those that count; no tracked voice that is left on the bus, the new voice among them, ranks below one that was lost
+  -- SPEC 9.3: none of them outranks the new voice; the victim of the admission is of the lowest rank among those that
+  -- count; no tracked voice that is left on the bus, the new one among them, ranks below one that was lost
   pub below : (v : Voice) → In v lost → v.rank ≤ x.rank
-  pub least : (v u : Voice) → victim_of x s ≡ Some v → In u s.voices → counted s.shared.config.scope x.bus u ≡ true → v.rank ≤ u.rank
+  pub least : (v u : Voice) → victim_of x s ≡ Some v → In u s.voices → counted s.shared.config.scope x.bus u ≡ true
+      → v.rank ≤ u.rank
   pub lowest : (v u : Voice) → In v lost → In u s'.voices → u.state ≡ Tracked → is_on x.bus u ≡ true → v.rank ≤ u.rank
   -- one that is still there fades, from now on, and fed a port of its bus. So one that cannot fade is removed
   pub fades : (v u : Voice) → In v lost → find (is_voice v.id) s'.voices ≡ Some u
-      → (u ≡ with_state (Fading (fade_of s.shared)) v) × (is_some (port_from s.shared.graph.edges (feeder v) v.bus) ≡ true)
+      → (u ≡ with_state (Fading (fade_of s.shared)) v)
+      × (is_some (port_from s.shared.graph.edges (feeder v) v.bus) ≡ true)
   -- there are so many more records, and these are the voices'
   pub added : s'.shared.steals.count ≡ s.shared.steals.count + length lost
   pub records : Records (loss_of s.shared s'.voices) s'.shared.steals s.shared.steals.count lost
+
+-- ---- the policy: SPEC 9.3, 9.4
+-- those of the rank k that pass the test, in voice order
+abbrev pub of_rank : ℕ → (Voice → Bool) → List Voice → List Voice
+of_rank k q vs = filter (λ (u : Voice). eqb u.rank k && q u) vs
+
+-- of the voices that count for the spawn x, those of the rank of v
+abbrev pub peers : Spawn → Model → Voice → List Voice
+peers x s v = of_rank v.rank (counted s.shared.config.scope x.bus) s.voices
+
+-- which of them goes: the first, the last, or the one that `QuietestGoes` names of their levels
+abbrev pub Goes : StealPolicy → SharedState → List Voice → Voice → Type 0
+Goes policy.Reject d vs v = ⊥
+Goes policy.Oldest d vs v = (rest : List Voice) × (vs ≡ v ∷ rest)
+Goes policy.Newest d vs v = (front : List Voice) × (vs ≡ front ++ (v ∷ []))
+Goes policy.Quietest d vs v = (place : ℕ) × QuietestGoes (map (candidate d) vs) (Some (place, v.id))
+
+-- The voice v goes for the admission of the spawn x.
+pub record Chosen (x : Spawn) (s : Model) (v : Voice) : Type 0 where
+  pub may : May x s
+  pub most : ℕ
+  pub budget : s.shared.config.budget ≡ Some most
+  pub reached : most ≤ count (counted s.shared.config.scope x.bus) s.voices
+  pub goes : Goes s.shared.config.policy s.shared (peers x s v) v
+
+-- ---- reclaiming: SPEC 9.7
+-- What the managed spawn x, which made of s the store s', took from the bus for a port.
+pub record Reclaims (x : Spawn) (s s' : Model) : Type 0 where
+  -- A fade of the bus that is gone began no later than each fade of the bus that is left; and where both began at one
+  -- sample, it stood first.
+  pub earliest : (v u : Voice) (f g : Fade) → In v s.voices → v.state ≡ Fading f → is_on x.bus v ≡ true
+      → find (is_voice v.id) s'.voices ≡ None
+      → In u s'.voices → u.state ≡ Fading g → is_on x.bus u ≡ true → (f.start ≤ g.start)
+      × (f.start ≡ g.start → v.id.0 < u.id.0)
+  -- No tracked voice of the bus goes for a port while a fade of the bus is left, whatever the ranks: so it is the
+  -- victim of the admission.
+  pub fades_first : (v u : Voice) (g : Fade) → In v s.voices → v.state ≡ Tracked → is_on x.bus v ≡ true
+      → find (is_voice v.id) s'.voices ≡ None
+      → In u s'.voices → u.state ≡ Fading g → is_on x.bus u ≡ true → victim_of x s ≡ Some v
+  -- That one fades from now on, if it fed a port; and if it is gone then, it stood first of those that fade since now,
+  -- and no other is left.
+  pub begun_now : (v u : Voice) (g : Fade) → victim_of x s ≡ Some v
+      → is_some (port_from s.shared.graph.edges (feeder v) v.bus) ≡ true → is_on x.bus v ≡ true
+      → find (is_voice v.id) s'.voices ≡ None
+      → In u s'.voices → u.state ≡ Fading g → is_on x.bus u ≡ true → (s.shared.clock ≤ g.start)
+      × (s.shared.clock ≡ g.start → v.id.0 < u.id.0)
 
 -- ---- without a budget
 -- no record was ever written
@@ -274,7 +337,7 @@ pub record AllLoose (s : Model) : Type 0 where
   pub voices : (v : Voice) → In v s.voices → v.state ≡ Loose
   pub log : s.shared.steals ≡ no_steals
 
--- ---- when a managed spawn finds a port
+-- ---- when a spawn is refused
 -- a policy that steals
 abbrev pub Stealing : StealPolicy → Type 0
 Stealing policy.Reject = ⊥
@@ -282,37 +345,50 @@ Stealing policy.Oldest = Unit {0}
 Stealing policy.Newest = Unit {0}
 Stealing policy.Quietest = Unit {0}
 
--- 02, Paper 13. Whether a voice may go for a new voice of rank r: it is fading, "regardless of rank", or it is tracked and does not outrank it
+abbrev pub steals : StealPolicy → Bool
+steals policy.Reject = false
+steals policy.Oldest = true
+steals policy.Newest = true
+steals policy.Quietest = true
+
+-- Whether a voice may go for a new voice of rank r: it is fading, of any rank, or it is tracked and does not outrank
+-- the new one. SPEC 9.3, 9.7.
 abbrev pub may_go : ℕ → Voice → Bool
 may_go r v = is_fading v.state || (is_tracked v.state && leb v.rank r)
 
 abbrev pub may_go_on : NodeId → ℕ → Voice → Bool
 may_go_on bus r v = may_go r v && is_on bus v
 
--- such a voice of the bus
-abbrev pub is_spare : NodeId → ℕ → Option Voice → Bool
-is_spare bus r None = false
-is_spare bus r (Some v) = may_go_on bus r v
+-- under a policy, which may be `Reject`: then none that is tracked goes
+abbrev pub goes : StealPolicy → NodeId → ℕ → Voice → Bool
+goes t bus r v = (is_fading v.state || (steals t && (is_tracked v.state && leb v.rank r))) && is_on bus v
 
--- held, by a node of no such voice of the bus: "for want of a port, a tracked unfaded voice that outranks it holds its port as a stranger would"
-abbrev pub by_other : NodeId → ℕ → List Voice → Holder → Bool
-by_other bus r vs nobody = false
-by_other bus r vs (host k) = true
-by_other bus r vs (voice w) = not (is_spare bus r (find (is_voice w) vs))
+-- such a voice of the bus
+abbrev pub is_spare : StealPolicy → NodeId → ℕ → Option Voice → Bool
+is_spare t bus r None = false
+is_spare t bus r (Some v) = goes t bus r v
+
+-- held, and by no such voice: a tracked voice that outranks the new one holds its port as a stranger would
+abbrev pub by_other : StealPolicy → NodeId → ℕ → List Voice → Holder → Bool
+by_other t bus r vs nobody = false
+by_other t bus r vs (host k) = true
+by_other t bus r vs (voice w) = not (is_spare t bus r (find (is_voice w) vs))
 
 -- every port of the bus is held so
 abbrev pub blocked : NodeId → ℕ → Model → Bool
-blocked bus r s = every (λ p. by_other bus r s.voices (holder_at s.shared.graph.nodes s.shared.graph.edges bus.0 p)) (upto (ports_of (node_at s.shared.graph.nodes bus)))
+blocked bus r s = every (λ p. by_other s.shared.config.policy bus r s.voices
+    (holder_at s.shared.graph.nodes s.shared.graph.edges bus.0 p)) (upto (ports_of (node_at s.shared.graph.nodes bus)))
 
--- no candidate, or one that outranks the new voice
+-- not one of those that count, or one that outranks the new voice
 abbrev pub stays : BudgetScope → NodeId → ℕ → Voice → Bool
 stays scope bus r v = not (counted scope bus v) || ltb r v.rank
 
--- at budget, and "all candidates outrank it"
+-- at budget, and the policy takes nobody or all that count outrank the new voice
 abbrev pub outranked : Config → NodeId → ℕ → List Voice → Bool
-outranked c bus r vs = at_budget c.budget (count (counted c.scope bus) vs) && every (stays c.scope bus r) vs
+outranked c bus r vs = at_budget c.budget (count (counted c.scope bus) vs) &&
+    (not (steals c.policy) || every (stays c.scope bus r) vs)
 
--- what a managed spawn answers that the table does not refuse: 11, 12, or the next voice id
+-- what a managed spawn answers that may come: 11, 12, or the next voice id
 abbrev pub answer_when : Bool → Bool → VoiceId → Result VoiceId Refusal
 answer_when true b w = Err Rejected
 answer_when false true w = Err NoPort
@@ -321,8 +397,37 @@ answer_when false false w = Ok w
 abbrev pub spawn_answer : NodeId → ℕ → Model → Result VoiceId Refusal
 spawn_answer bus r s = answer_when (outranked s.shared.config bus r s.voices) (blocked bus r s) (next_voice s.shared)
 
--- "The newcomer takes the next id and the port found": after the spawn x, which made of s the store s', the voice w is there, on the bus
--- and in that state, has the rank that was given, and holds its port
+-- Every refusal of a managed spawn, from the top: SPEC 9.1. Those before 11 are the rows of crate refusals.
+abbrev pub managed_rows : List Refusal
+managed_rows = RankTooHigh ∷ DefinitionLimits ∷ UnknownNode ∷ VoiceNode ∷ BusWithoutPorts ∷ TableFull ∷ IdsUsedUp
+    ∷ Rejected ∷ NoPort ∷ []
+
+-- 11: as many voices count as the budget allows, or more, and the policy takes nobody or all of them outrank the new
+-- voice
+pub record AtBudget (x : Spawn) (s : Model) : Type 0 where
+  pub most : ℕ
+  pub budget : s.shared.config.budget ≡ Some most
+  pub reached : most ≤ count (counted s.shared.config.scope x.bus) s.voices
+  pub nobody : (s.shared.config.policy ≡ policy.Reject)
+      ⊎ ((v : Voice) → In v s.voices → counted s.shared.config.scope x.bus v ≡ true → x.rank < v.rank)
+
+-- the ports of the bus
+abbrev pub EachPort : NodeId → Model → (ℕ → Type 0) → Type 0
+EachPort bus s held = (p : ℕ) → p < ports_of (node_at s.shared.graph.nodes bus) → held p
+
+-- who holds the port p of the bus
+abbrev pub port_holder : NodeId → Model → ℕ → Holder
+port_holder bus s p = holder_at s.shared.graph.nodes s.shared.graph.edges bus.0 p
+
+abbrev pub managed_when : Spawn → Model → Refusal → Type 0
+managed_when x s Rejected = AtBudget x s
+-- 12: every port of the bus is held, and none by a voice that goes
+managed_when x s NoPort = EachPort x.bus s
+    (λ p. by_other s.shared.config.policy x.bus x.rank s.voices (port_holder x.bus s p) ≡ true)
+managed_when x s r = spawn_when x s r
+
+-- SPEC 9.8, 9.9: after the spawn x, which made of s the store s', the voice w is there under the next id, on the bus
+-- and in that state, has the rank that was given, and holds the port that was found
 pub record Arrives (x : Spawn) (state : VoiceState) (w : VoiceId) (s s' : Model) : Type 0 where
   pub new_voice : Voice
   pub member : In new_voice s'.voices
@@ -335,7 +440,7 @@ pub record Arrives (x : Spawn) (state : VoiceState) (w : VoiceId) (s s' : Model)
   pub holds : holder_at s'.shared.graph.nodes s'.shared.graph.edges x.bus.0 new_voice.port ≡ voice w
 
 -- ---- the tables
--- "512 live nodes, 1,024 edges, 64 voices, 256 pending events"
+-- what each holds: SPEC 2
 pub record Capacity (s : Model) : Type 0 where
   pub nodes : length s.shared.graph.nodes ≤ 512
   pub edges : length s.shared.graph.edges ≤ 1024
@@ -347,92 +452,163 @@ abbrev pub Newest : StealLog → Type 0
 Newest b = ((length b.newest ≡ 64) × (64 ≤ b.count)) ⊎ ((length b.newest ≡ b.count) × (b.count < 64))
 
 -- ---- the page
--- 02, Paper 4: "The port column shall show the port that the voice's output, pan node or fade feeds on its bus now, or `-` if none": it shows p exactly where there is an
--- edge from the voice's end to the port p of its bus, and exactly where the voice holds that port. So at most one p is right, and `-` stands where none is.
+-- SPEC 14.2. The port column shows p exactly where there is an edge from the voice's end, its output, pan node or fade,
+-- to the port p of its bus, and exactly where the voice holds that port. So at most one p is right, and `-` stands
+-- where none is.
 pub record Shows (s : Model) (v : Voice) : Type 0 where
   pub feeds : (p : ℕ) → (port_now s.shared.graph.edges v ≡ Some p) ↔ In (edge (end_of v) v.bus p) s.shared.graph.edges
-  pub holds : (p : ℕ) → (port_now s.shared.graph.edges v ≡ Some p) ↔ (holder_at s.shared.graph.nodes s.shared.graph.edges v.bus.0 p ≡ voice v.id)
+  pub holds : (p : ℕ) → (port_now s.shared.graph.edges v ≡ Some p)
+      ↔ (holder_at s.shared.graph.nodes s.shared.graph.edges v.bus.0 p ≡ voice v.id)
 
 -- ---- the graph
--- "All live nodes are processed once": the processing order has every live node once and nothing else, and each edge's source before its target
+-- SPEC 5.2: the processing order has every live node once and nothing else, and each edge's source before its target
 abbrev pub InOrder : GraphView → Type 0
 InOrder g = Sorted (node_ids g.nodes) (map arc_of g.edges) (map (λ (k : NodeId). k.0) g.order)
 
+-- the store after the next call, and what the call answers
+abbrev pub left_by : Call → Model → Model
+left_by x s = (call.step x s).model
+
+abbrev pub answer_of : Call → Model → Answer
+answer_of x s = (call.step x s).answer
+
 -- ---- 2 to 5, of the store s, which a list of calls left, and of the call that is next
 pub record Holds (c : Config) (s : Model) : Type 0 where
-  -- ---- 2. The next clearing call has removed a voice whose fade has ended; what is left are the voices whose fade has not ended and, of
-  -- these, whose plan is not silent; it answers how many it removed.
-  pub removes : (v : Voice) → In v s.voices → clearing.ended (fade_length c.rate) v.state ≡ true → find (is_voice v.id) (call.step call.clear s).model.voices ≡ None
-  pub clears : (call.step call.clear s).model.voices
-      ≡ filter (λ v. not (is_silent s.shared.graph.nodes v)) (filter (λ v. not (clearing.ended (fade_length c.rate) v.state)) s.voices)
-  pub removed : (n : ℕ) → (call.step call.clear s).answer ≡ call.removed n → length s.voices ≡ length (call.step call.clear s).model.voices + n
-  -- ---- 3. At the next call x a fading voice goes on, a block further after a sounding render and else the same; or it is removed, for one of
-  -- the reasons of `Why`: a free, called or timed, its end or its silence at a clearing, or a reclaim, which marks its record.
+  -- ---- SPEC 3, 4.1, 9.9. What making fixed stays.
+  pub made : s.shared.config ≡ c
+  -- The ids of the live nodes rise, and the next node id is above each.
+  pub node_rows : RisesFrom 0 s.shared.graph.nodes
+  pub next_node : (n : Node) → In n s.shared.graph.nodes → n.id.0 < s.shared.graph.next
+  -- So do the ids of the voices, from 1 on, and none is above the number of those given out.
+  pub voice_rows : rising.RisesFrom (λ (v : Voice). v.id.0) 1 s.voices
+  pub next_voice : (v : Voice) → In v s.voices → v.id.0 ≤ s.shared.spawned
+  -- ---- 2, SPEC 13.2. The next clearing call has removed each voice whose fade has ended.
+  pub removes : (v : Voice) → In v s.voices → clearing.ended (fade_length c.rate) v.state ≡ true
+      → find (is_voice v.id) (left_by call.clear s).voices ≡ None
+  -- What is left are the voices whose fade has not ended and, of these, whose plan is not silent.
+  pub clears : (left_by call.clear s).voices
+      ≡ filter (λ v. not (is_silent s.shared.graph.nodes v))
+      (filter (λ v. not (clearing.ended (fade_length c.rate) v.state)) s.voices)
+  -- It answers how many it removed.
+  pub removed : (n : ℕ) → answer_of call.clear s ≡ call.removed n → length s.voices
+      ≡ length (left_by call.clear s).voices + n
+  -- ---- 3, SPEC 10.2, 10.3. At the next call x a fading voice goes on, a block further after a sounding render and
+  -- else the same; or it is removed, for one of the reasons of `Why`: a free, called or timed, its end or its silence
+  -- at a clearing, or a reclaim, which marks its record.
   pub leaves : (x : Call) (v : Voice) → In v s.voices → (f : Fade) → v.state ≡ Fading f
-      → GoesOn c.block v f (call.step x s).answer (call.step x s).model.voices ⊎ ((find (is_voice v.id) (call.step x s).model.voices ≡ None) × Why s (call.step x s).model v f x)
-  -- No call but a managed spawn touches the steal records. There a record that was written before stays, drops out of the newest 64, or is
-  -- marked, and then the fade that has it was on this bus and was removed in this call; and one record is written for each voice that was
-  -- tracked and is not any more: both numbers together rise by one if the new voice is let in, else not.
-  pub quiet : (x : Call) → is_managed x ≡ false → (call.step x s).model.shared.steals ≡ s.shared.steals
+      → GoesOn c.block v f (answer_of x s) (left_by x s).voices
+      ⊎ ((find (is_voice v.id) (left_by x s).voices ≡ None) × Why s (left_by x s) v f x)
+  -- SPEC 9.5. No call but a managed spawn touches the steal records.
+  pub quiet : (x : Call) → is_managed x ≡ false → (left_by x s).shared.steals ≡ s.shared.steals
+  -- There a record that was written before stays, drops out of the newest 64, or is marked, and then the fade that has
+  -- it was on this bus and was removed in this call.
   pub marks : (x : Spawn) (k : ℕ) → k < s.shared.steals.count
-      → Fate s.shared.steals (call.step (call.spawn_managed x) s).model.shared.steals (Reclaimed s.voices (call.step (call.spawn_managed x) s).model.voices x.bus k) k
-  pub writes : (n : ℕ) → c.budget ≡ Some n → (x : Spawn) (a : Result VoiceId Refusal) → (call.step (call.spawn_managed x) s).answer ≡ call.spawned a
-      → (call.step (call.spawn_managed x) s).model.shared.steals.count + count tracks (call.step (call.spawn_managed x) s).model.voices
+      → Fate s.shared.steals (left_by (call.spawn_managed x) s).shared.steals
+      (Reclaimed s.voices (left_by (call.spawn_managed x) s).voices x.bus k) k
+  -- One record is written for each voice that was tracked and is not any more: both numbers together rise by one if the
+  -- new voice is let in, else not.
+  pub writes : (n : ℕ) → c.budget ≡ Some n → (x : Spawn) (a : Result VoiceId Refusal)
+      → answer_of (call.spawn_managed x) s ≡ call.spawned a
+      → (left_by (call.spawn_managed x) s).shared.steals.count + count tracks (left_by (call.spawn_managed x) s).voices
       ≡ more (is_let a) (s.shared.steals.count + count tracks s.voices)
-  -- What these records hold: the clock, the level of the voice before anything of the call changed, and a cut mark exactly if it is removed.
-  pub losses : (x : Spawn) → Losses x s (call.step (call.spawn_managed x) s).model
+  -- What these records hold: the clock, the level of the voice before anything of the call changed, and a cut mark
+  -- exactly if it is removed.
+  pub losses : (x : Spawn) → Losses x s (left_by (call.spawn_managed x) s)
+  -- SPEC 9.2 to 9.4. Somebody goes for an admission only of a spawn that may come, and at budget; and of those that
+  -- count and have the lowest rank it is the one that the policy names.
+  pub chooses : (x : Spawn) (v : Voice) → victim_of x s ≡ Some v → Chosen x s v
+  -- SPEC 9.7. For a port the fades of the bus go, the earliest first, before any tracked voice.
+  pub reclaims : (x : Spawn) → Reclaims x s (left_by (call.spawn_managed x) s)
+  -- Where no fade of the bus is left, the tracked voice that goes next for a new voice of rank r is the one that the
+  -- policy names of those of the bus that have the lowest rank, and does not outrank the new voice.
+  pub next_for_port : (bus : NodeId) (r : ℕ) (v : Voice) → next_out s.shared bus r s.voices ≡ Some v → v.state ≡ Tracked
+      → (v.rank ≤ r) × ((u : Voice) → In u s.voices → tracked_on bus u ≡ true → v.rank ≤ u.rank)
+      × Goes s.shared.config.policy s.shared (of_rank v.rank (tracked_on bus) s.voices) v
   -- Each fade has a record of its own: its number was written, and no other fade has it.
   pub numbers : (v : Voice) → In v s.voices → (f : Fade) → v.state ≡ Fading f → f.number < s.shared.steals.count
-  pub own : (u v : Voice) → In u s.voices → In v s.voices → (f g : Fade) → u.state ≡ Fading f → v.state ≡ Fading g → f.number ≡ g.number → u ≡ v
-  -- ---- 4. Tracked voices never exceed the budget: all of them, or those of each bus under `PerGroup`. Without a budget nobody is
-  -- tracked, stolen or reclaimed.
+  pub own : (u v : Voice) → In u s.voices → In v s.voices → (f g : Fade) → u.state ≡ Fading f → v.state ≡ Fading g
+      → f.number ≡ g.number → u ≡ v
+  -- ---- 4, SPEC 9.2. For a new voice on the bus count the tracked voices: all of them, or under `PerGroup` those of
+  -- the bus.
+  pub counts : (bus : NodeId) (v : Voice) → (counted c.scope bus v ≡ true)
+      ↔ ((v.state ≡ Tracked) × ((c.scope ≡ scope.Global) ⊎ (v.bus.0 ≡ bus.0)))
+  -- Tracked voices never exceed the budget: all of them, or those of each bus under `PerGroup`.
   pub budget : (n : ℕ) → c.budget ≡ Some n → (bus : NodeId) → count (counted c.scope bus) s.voices ≤ n
+  -- Without a budget nobody is tracked, stolen or reclaimed.
   pub loose : c.budget ≡ None → AllLoose s
-  pub stay : c.budget ≡ None → (x : Spawn) (v : Voice) → In v s.voices → In v (call.step (call.spawn_managed x) s).model.voices
-  -- ---- 5. With a budget above 0 and a policy that steals, a managed spawn that the table does not refuse (rank 0 to 7, definition and bus,
-  -- headroom, ids left) is refused with 11 exactly when it is at budget and all candidates outrank it; else with 12 exactly when every port of its
-  -- bus is held by somebody who is neither a fading voice of that bus nor a tracked one of it that does not outrank it; else it answers the
-  -- next voice id.
-  pub spawns : (n : ℕ) → c.budget ≡ Some (suc n) → Stealing c.policy → (x : Spawn) → spawn_refusal s.shared s.voices x.def x.bus x.rank ≡ None
-      → (call.step (call.spawn_managed x) s).answer ≡ call.spawned (spawn_answer x.bus x.rank s)
-  -- A spawn that answers a voice has let it in, "tracked under a budget", or loose. A node that is answered is there, and was not before.
-  pub arrives : (x : Spawn) (w : VoiceId) → (call.step (call.spawn_managed x) s).answer ≡ call.spawned (Ok w) → Arrives x (state_under c.budget) w s (call.step (call.spawn_managed x) s).model
-  pub arrives_loose : (x : Spawn) (w : VoiceId) → (call.step (call.spawn_loose x) s).answer ≡ call.spawned (Ok w) → Arrives x Loose w s (call.step (call.spawn_loose x) s).model
-  pub adds : (kind : List ℕ) (ports required : ℕ) (values glides : Bool) (k : NodeId) → (call.step (call.add_node kind ports required values glides) s).answer ≡ call.node k
-      → In k.0 (node_ids (call.step (call.add_node kind ports required values glides) s).model.shared.graph.nodes) × (In k.0 (node_ids s.shared.graph.nodes) → ⊥)
-  -- ---- "All live nodes are processed once in a sounding render, that is a prepared graph with a sink": while the graph is prepared it has
-  -- such an order, of edges between live nodes. A prepared graph never fails to prepare: prepare answers done and changes nothing. A
-  -- render that is not refused sounds exactly where the graph that it leaves is prepared and has a sink.
-  pub wires : (e : Edge) → In e s.shared.graph.edges → In e.from.0 (node_ids s.shared.graph.nodes) × In e.to.0 (node_ids s.shared.graph.nodes)
+  pub stay : c.budget ≡ None → (x : Spawn) (v : Voice) → In v s.voices → In v (left_by (call.spawn_managed x) s).voices
+  -- ---- 5, SPEC 9.1. A managed spawn that may come (`May` of crate refusals: rank, definition, bus, headroom and ids,
+  -- each in numbers) is refused with 11 exactly when it is at budget and the policy takes nobody or all that count
+  -- outrank it; else with 12 exactly when every port of its bus is held by somebody who is neither a fading voice of
+  -- that bus nor one that the policy may take; else it answers the next voice id.
+  pub spawns : (x : Spawn) → May x s → answer_of (call.spawn_managed x) s ≡ call.spawned (spawn_answer x.bus x.rank s)
+  -- With what is asked before that, it is one list: of 26, 9, 4, 5, 10, 7, 8, 11, 12 the first that holds is given.
+  pub managed : (x : Spawn) → SpawnAnswers (managed_when x s) managed_rows (call.spawn_managed x) s
+  -- SPEC 9.10. So it is for an unmanaged spawn, without 11, and with 12 exactly when no port of its bus is free.
+  pub unmanaged : (x : Spawn) → SpawnAnswers (loose_when x s) loose_rows (call.spawn_loose x) s
+  -- With a budget of 0 nobody is let in, whatever the policy.
+  pub none_let : c.budget ≡ Some 0 → (x : Spawn) → May x s → answer_of (call.spawn_managed x) s
+      ≡ call.spawned (Err Rejected)
+  -- SPEC 9.8. A spawn that answers a voice has let it in, tracked under a budget and else loose.
+  pub arrives : (x : Spawn) (w : VoiceId) → answer_of (call.spawn_managed x) s ≡ call.spawned (Ok w)
+      → Arrives x (state_under c.budget) w s (left_by (call.spawn_managed x) s)
+  pub arrives_loose : (x : Spawn) (w : VoiceId) → answer_of (call.spawn_loose x) s ≡ call.spawned (Ok w)
+      → Arrives x Loose w s (left_by (call.spawn_loose x) s)
+  -- SPEC 4.1. A node that is answered is there, and was not before.
+  pub adds : (kind : List ℕ) (ports required : ℕ) (values glides : Bool) (k : NodeId)
+      → answer_of (call.add_node kind ports required values glides) s ≡ call.node k
+      → In k.0 (node_ids (left_by (call.add_node kind ports required values glides) s).shared.graph.nodes)
+      × (In k.0 (node_ids s.shared.graph.nodes) → ⊥)
+  -- ---- SPEC 5. Edges join live nodes.
+  pub wires : (e : Edge) → In e s.shared.graph.edges → In e.from.0 (node_ids s.shared.graph.nodes)
+      × In e.to.0 (node_ids s.shared.graph.nodes)
+  -- While the graph is prepared it has a processing order of all live nodes.
   pub in_order : s.shared.graph.prepared ≡ true → InOrder s.shared.graph
+  -- A prepared graph never fails to prepare: prepare answers done and changes nothing.
   pub prepares : s.shared.graph.prepared ≡ true → call.step call.prepare s ≡ record { answer = call.done; model = s }
-  pub sounds : (out : List ℕ) → render_refusal s.shared (length out) ≡ None → is_sounded (call.step (call.render out) s).answer ≡ sounding (call.step (call.render out) s).model.shared
-  -- ---- 02, Paper 4. The page's port column, of every voice: tracked, fading or loose.
+  -- Prepare is refused with 13 or 14 exactly as its rows say.
+  pub unprepared : Refuses (prepare_when s.shared.graph) prepare_rows call.prepare s
+  -- SPEC 8.2. Scheduling is refused with 7 exactly where 256 events are pending and the new one replaces none. Every
+  -- other call of the host is refused by its rows on any store: crate refusals.
+  pub unscheduled : (t : ℕ) (w : VoiceId) (name : List ℕ) (a : EventAction)
+      → Refuses (schedule_when (call.event t w name a) s.shared.events) schedule_rows (call.schedule t w name a) s
+  -- SPEC 12. A render that is not refused sounds exactly where the graph that it leaves is prepared and has a sink.
+  pub sounds : (out : List ℕ) → render_refusal s.shared (length out) ≡ None → is_sounded (answer_of (call.render out) s)
+      ≡ sounding (left_by (call.render out) s).shared
+  -- ---- SPEC 14.2. The page's port column is right for every voice, tracked, fading or loose.
   pub shows : (v : Voice) → In v s.voices → Shows s v
-  -- ---- The tables hold it: 512 nodes, 1,024 edges, 64 voices, 256 events, and the newest 64 records.
+  -- ---- SPEC 2. The tables hold it: 512 nodes, 1,024 edges, 64 voices, 256 events.
   pub room : Capacity s
-  -- ---- 02, Paper 13: "Each voice's record gains a rank 0 to 7"
+  -- Every voice has a rank from 0 to 7.
   pub ranks : (v : Voice) → In v s.voices → v.rank ≤ 7
+  -- The newest 64 steal records are held, or all where there are fewer.
   pub records : Newest s.shared.steals
 
--- 02, Paper 7. What fade output and bus sum answer is decided by what making fixed. Where the fade table was chosen, the gains are the table's and "lent gains are
--- then ignored, by 16 too": 16 is answered for the two blocks alone.
+-- SPEC 15.1, 15.2, 10.4. What fade output and bus sum answer is decided by what making fixed. Where the fade table was
+-- chosen, the gains are the table's, and lent gains are not looked at: 16 is answered for the two blocks alone.
 pub record Blocks (c : Config) (s : Model) : Type 0 where
   pub fade : (input : List Float) (ins : ℕ) (lent : List Float) (at : ℕ) (out : List Float) (outs : ℕ)
-      → (call.step (call.ask (call.fade_output input ins lent at out outs)) s).answer ≡ call.fade_answer c input ins lent at out outs
+      → (call.step (call.ask (call.fade_output input ins lent at out outs)) s).answer
+      ≡ call.fade_answer c input ins lent at out outs
   pub sum : (inputs : List Float) (counts : List ℕ) (out : List Float) (outs : ℕ)
       → (call.step (call.ask (call.bus_sum inputs counts out outs)) s).answer ≡ call.sum_answer c inputs counts out outs
   pub table : c.table ≡ true → (input : List Float) (ins : ℕ) (lent : List Float) (at : ℕ) (out : List Float) (outs : ℕ)
       → (call.step (call.ask (call.fade_output input ins lent at out outs)) s).answer
-      ≡ call.block_answer (samples.holds (length input) ins c.block && samples.holds (length out) outs c.block) (fade_output input ins gains 240 at c.block out outs)
-  -- 02, Paper 8. So it is in whole numbers: "16, then 21". With the table, 16 is answered for the two blocks alone and 21 for the input alone, and the gains are the entries.
+      ≡ call.block_answer (samples.holds (length input) ins c.block && samples.holds (length out) outs c.block)
+      (fade_output input ins gains 240 at c.block out outs)
+  -- SPEC 15.3. So it is in whole numbers, where 16 is asked before 21. With the table, 16 is answered for the two
+  -- blocks alone and 21 for the input alone, and the gains are the entries.
   pub whole_fade : (input : List ℤ) (ins : ℕ) (lent : List ℕ) (at : ℕ) (out : List ℤ) (outs : ℕ)
-      → (call.step (call.ask (call.whole_fade input ins lent at out outs)) s).answer ≡ call.whole_fade_answer c input ins lent at out outs
+      → (call.step (call.ask (call.whole_fade input ins lent at out outs)) s).answer
+      ≡ call.whole_fade_answer c input ins lent at out outs
   pub whole_sum : (inputs : List ℤ) (counts : List ℕ) (out : List ℤ) (outs : ℕ)
-      → (call.step (call.ask (call.whole_sum inputs counts out outs)) s).answer ≡ call.whole_sum_answer c inputs counts out outs
+      → (call.step (call.ask (call.whole_sum inputs counts out outs)) s).answer
+      ≡ call.whole_sum_answer c inputs counts out outs
   pub whole_table : c.table ≡ true → (input : List ℤ) (ins : ℕ) (lent : List ℕ) (at : ℕ) (out : List ℤ) (outs : ℕ)
       → (call.step (call.ask (call.whole_fade input ins lent at out outs)) s).answer
-      ≡ call.whole_answer (whole.refusal_of (samples.holds (length input) ins c.block && samples.holds (length out) outs c.block) (whole.every is_sample input))
+      ≡ call.whole_answer (whole.refusal_of
+      (samples.holds (length input) ins c.block && samples.holds (length out) outs c.block)
+      (whole.every is_sample input))
       (samples.block_of outs c.block (whole.faded_of input ins entries 240 at c.block))
 
 -- ---- the claim
@@ -440,19 +616,21 @@ pub record Blocks (c : Config) (s : Model) : Type 0 where
 pub record Claim (c : Config) (m : Model) (xs : List Call) : Type 0 where
   -- ---- 1. Every answer is the ledger's: refusals, spawn answers and clearing counts among them.
   pub answers : (call.run xs m).answers ≡ (run xs (new_ledger c)).answers
-  -- What the rules give both is the same: "nodes, edges, ids, clock, events, reports and steal records".
+  -- What the rules give both is the same: nodes, edges, ids, clock, events, reports and steal records.
   pub shared : (after m xs).shared ≡ (ledger_after c xs).shared
   -- The voices are the ledger's, in order, with their states: tracked, loose, or fading, at count × block samples.
   pub voices : (after m xs).voices ≡ map (moved (λ count. count * c.block)) (ledger_after c xs).voices
   -- The held ports: the ledger's holder of a port is the owner of the source of the store's edge at it.
-  pub holders : (n p : ℕ) → (ledger_after c xs).holders n p ≡ holder_at (after m xs).shared.graph.nodes (after m xs).shared.graph.edges n p
-  -- ---- 2. A fade was begun by a managed spawn of the list, and has moved by a block at each sounding render since. It has ended
-  -- exactly when these renders are at least L over block, rounded up.
+  pub holders : (n p : ℕ) → (ledger_after c xs).holders n p
+      ≡ holder_at (after m xs).shared.graph.nodes (after m xs).shared.graph.edges n p
+  -- ---- 2, SPEC 10.1 to 10.3. A fade was begun by a managed spawn of the list, and has moved by a block at each
+  -- sounding render since. It has ended exactly when these renders are at least L over block, rounded up.
   pub ends : (v : Voice) → In v (after m xs).voices → (f : Fade) → v.state ≡ Fading f
-      → (t : Stolen m c.block xs v f) × ((clearing.ended (fade_length c.rate) v.state ≡ true) ↔ (rounded_up (fade_length c.rate) c.block ≤ since t))
+      → (t : Stolen m c.block xs v f) × ((clearing.ended (fade_length c.rate) v.state ≡ true)
+      ↔ (rounded_up (fade_length c.rate) c.block ≤ since t))
   -- ---- 2 to 5, and the tables
   pub now : Holds c (after m xs)
   pub blocks : Blocks c (after m xs)
-  -- ---- "A freed row serves again; its id never returns": the ids of voices, and those of nodes
+  -- ---- No id of a voice or of a node that is gone returns.
   pub no_voice_returns : NeverReturns (λ ys. voice_ids (after m ys).voices) xs
   pub no_node_returns : NeverReturns (λ ys. node_ids (after m ys).shared.graph.nodes) xs
