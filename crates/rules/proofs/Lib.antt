@@ -1,0 +1,4 @@
+pub mod Left
+pub mod Still
+pub mod RenderLaws
+pub mod EventLaws

@@ -1,0 +1,6 @@
+pub mod Left
+pub mod Render
+pub mod Events
+pub mod Orders
+pub mod Outcomes
+pub mod Wishes
