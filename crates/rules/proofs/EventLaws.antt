@@ -64,10 +64,10 @@ abbrev sort_from : Sort → queue.Sort
 sort_from value = queue.value
 sort_from glide = queue.glide
 
-long : (n : Name) → named n ≡ true → Named n
+pub long : (n : Name) → named n ≡ true → Named n
 long n h = let l = name_long n.len h in record { one = l.0; sixteen = l.1 }
 
-named_is : (n : Name) → Named n → named n ≡ true
+pub named_is : (n : Name) → Named n → named n ≡ true
 named_is n l = let a : leb 1 n.len ≡ true = le-leb _ _ l.one in let b : leb n.len 16 ≡ true = le-leb _ _ l.sixteen in rw (a, b)
 
 under_sets : (s : queue.Sort) (n : Name) (k : queue.Ordered) → queue.under s n ≡ Some k → (sort_of k.sort ≡ sort_of s) × Named n × (k.parameter ≡ text n)
@@ -141,11 +141,11 @@ split_later e (f ∷ l) s = go (later e f) refl (split_later e l s.1)
         rw (none, filter_all (later e) l on)
     go false t ih = ap (λ z. f ∷ z) ih
 
-not_true : (b : Bool) → not b ≡ true → b ≡ false
+pub not_true : (b : Bool) → not b ≡ true → b ≡ false
 not_true true h = absurd (false≢true h)
 not_true false h = refl
 
-not_false : (b : Bool) → not b ≡ false → b ≡ true
+pub not_false : (b : Bool) → not b ≡ false → b ≡ true
 not_false true h = refl
 not_false false h = absurd (false≢true (sym h))
 

@@ -43,3 +43,18 @@ module _ {A : Type 0} (Right : A → Type 0) (t : A → Bool) (yes : (x : A) →
 
   pub find_no : (l : List A) → find t l ≡ None → No Right l
   find_no l h x i = no x (find_none t l x h i)
+
+  pub first_find : (l : List A) (x : A) → First Right l x → find t l ≡ Some x
+  first_find l x f = ap (find t) f.splits ∙ go f.before f.none
+    where
+      here : (b : Bool) → t x ≡ b → cond b (Some x) (find t f.behind) ≡ Some x
+      here true e = refl
+      here false e = absurd (no x e f.right)
+
+      go : (k : List A) → ((y : A) → In y k → Right y → ⊥) → find t (k ++ (x ∷ f.behind)) ≡ Some x
+      go [] none = here (t x) refl
+      go (y ∷ k) none = at (t y) refl (go k (λ z i r. none z (inr i) r))
+        where
+          at : (b : Bool) → t y ≡ b → find t (k ++ (x ∷ f.behind)) ≡ Some x → cond b (Some y) (find t (k ++ (x ∷ f.behind))) ≡ Some x
+          at true e ih = absurd (none y (inl refl) (yes y e))
+          at false e ih = ih

@@ -54,7 +54,7 @@ module _ (out : List ℕ) (m : Model) where
       go false e false f = at_open (record { clock = ltb-false _ _ e; room = ltb-false _ _ f })
 
   -- what it answers, and the store after it
-  answer_by : (o : Option Refusal) → render_refusal m.shared (length out) ≡ o → answered out m ≡ (render_step o out m).answer
+  pub answer_by : (o : Option Refusal) → render_refusal m.shared (length out) ≡ o → answered out m ≡ (render_step o out m).answer
   answer_by o e = ap (λ (s : Step). s.answer) (step_is o e)
 
   pub after_by : (o : Option Refusal) → render_refusal m.shared (length out) ≡ o → after out m ≡ (render_step o out m).model

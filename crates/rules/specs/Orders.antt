@@ -32,13 +32,13 @@ Takes LastOrder.Nothing n = ⊥
 Takes (LastOrder.Value x) n = n.takes_values ≡ true
 Takes (LastOrder.Glide g) n = n.takes_glides ≡ true
 
--- the node of the id k, if the node is that one, holds the very order as its last; nothing else of it changes
-abbrev pub holding : ℕ → LastOrder → Node → Node
-holding k o n = cond (eqb n.id.0 k) (record n { last = o }) n
+-- the node x, if it is the node n, holds the very order as its last; nothing else of it changes
+abbrev pub holding : Node → LastOrder → Node → Node
+holding n o x = cond (eqb x.id.0 n.id.0) (record n { last = o }) x
 
--- the store with the order at the node of the id k, and nothing else changed: it stays prepared, and no voice changes
-abbrev pub holds : ℕ → LastOrder → Model → Model
-holds k o m = record m { shared = record m.shared { graph = record m.shared.graph { nodes = map (holding k o) m.shared.graph.nodes } } }
+-- the store with the order at the node n, and nothing else changed: it stays prepared, and no voice changes
+abbrev pub holds : Node → LastOrder → Model → Model
+holds n o m = record m { shared = record m.shared { graph = record m.shared.graph { nodes = map (holding n o) m.shared.graph.nodes } } }
 
 -- What the store is after the order o to the parameter `name` of the voice w, and what it is told as: the first of these that is true.
 pub data Ordering (m : Model) (w : VoiceId) (name : Name) (o : LastOrder) : Model → Outcome → Type 0 where
@@ -52,7 +52,7 @@ pub data Ordering (m : Model) (w : VoiceId) (name : Name) (o : LastOrder) : Mode
   -- 0: the node there takes it, and holds the very order
   applied : (v : Voice) → First (Is w) m.voices v → (p : Param) → First (Called name) (param_rows v.params) p
       → (n : Node) → First (λ x. x.id.0 ≡ v.first.0 + p.node) m.shared.graph.nodes n → Takes o n
-      → Ordering m w name o (holds (v.first.0 + p.node) o m) Applied
+      → Ordering m w name o (holds n o m) Applied
 
 -- what a direct call of it does
 pub record OrderRule (w : VoiceId) (name : List ℕ) (o : LastOrder) (m : Model) : Type 0 where

@@ -22,9 +22,9 @@ Makes w (call.spawn_loose x) = (w.managed ≡ false) × Asks w x
 Makes w c = ⊥
 
 -- a wish by its parts has each of them
-pub record Holds (managed : Bool) (bus : NodeId) (pan : Float) (rank : ℕ) (d : SynthDef) (w : Wish) : Type 0 where
-  pub managed : w.managed ≡ managed
-  pub bus : w.bus ≡ bus
-  pub pan : w.pan ≡ pan
-  pub rank : w.rank ≡ rank
+pub record Holds (m : Bool) (b : NodeId) (p : Float) (r : ℕ) (d : SynthDef) (w : Wish) : Type 0 where
+  pub managed : w.managed ≡ m
+  pub bus : w.bus ≡ b
+  pub pan : w.pan ≡ p
+  pub rank : w.rank ≡ r
   pub def : w.def ≡ d
