@@ -1,4 +1,5 @@
--- What is pending after each call, and that the queue of every store that calls left is in the order of its times and no longer than 256.
+-- What is pending after each call, and that the queue of every store that calls left is in the order of its times and
+-- no longer than 256.
 use Prim.Native.Nat.{ℕ, zero, suc, ◌≤◌, ◌<◌}
 use native.Mathlib.Omega.{arith}
 use mathlib.Core.Path.{◌≡◌, refl, sym, ap, subst, ◌∙◌}

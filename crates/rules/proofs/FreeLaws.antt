@@ -25,7 +25,9 @@ use Rattle.model.specs.Model.{Model, without_voice, freed, free}
 use Rattle.model.specs.Order.{free_outcome}
 use Rattle.rules.specs.Left.{Without, No}
 use Rattle.rules.specs.Orders.{Is}
-use Rattle.rules.specs.Outcomes.{Its, Sink, Gone, Freeing, unknown, known, FreeRule}
+use Rattle.rules.specs.Outcomes.{Its, Sink, Gone, Freeing, unknown, known, FreeRule, FreeExactly}
+use Rattle.store.specs.declared.answer.Outcome.{Outcome}
+use Rattle.store.specs.declared.answer.Outcome.TheVariants.{Applied, NoVoice}
 use Rattle.rules.proofs.Left.{filter_without, find_no}
 use Rattle.rules.proofs.EventLaws.{not_true, not_false}
 use Rattle.rules.proofs.OrderLaws.{is_yes, is_no}
@@ -92,7 +94,13 @@ module _ (m : Model) (w : VoiceId) where
             m.shared.graph.edges;
         sink = sink_is m.shared.graph.sink;
         unprepared = refl;
-        others = refl;
+        order = refl;
+        next = refl;
+        events = refl;
+        steals = refl;
+        clock = refl;
+        spawned = refl;
+        config = refl;
       }
 
 pub freeing : (m : Model) (w : VoiceId) → Freeing m w (free w m) (free_outcome (find (is_voice w) m.voices))
@@ -104,6 +112,12 @@ freeing m w = go (find (is_voice w) m.voices) refl
         let f = find_in (is_voice w) m.voices v e in
         let same : v.id ≡ w = ap (λ (k : ℕ). record { 0 = k }) (is_yes w v f.1) in
         known v f.0 (is_yes w v f.1) (without_voice v.id m) (subst (λ (u : VoiceId). Gone m u (without_voice v.id m)) same (gone m v.id))
+
+pub free_exactly : {m : Model} {w : VoiceId} {r : Model} {a : Outcome} → Freeing m w r a → FreeExactly m w a
+free_exactly (unknown u) =
+    record { one = (λ e. u, λ e. refl); zero = (λ e. absurd (cc), λ (v, i, e). absurd (u v i e)); either = inl refl }
+free_exactly (known v i e r g) =
+    record { one = (λ f. absurd (cc), λ u. absurd (u v i e)); zero = (λ f. (v, i, e), λ f. refl); either = inr refl }
 
 pub free_rule : (w : VoiceId) (m : Model) → FreeRule w m
 free_rule w m = record { outcome = free_outcome (find (is_voice w) m.voices); answer = refl; frees = freeing m w }

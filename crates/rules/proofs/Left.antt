@@ -6,7 +6,7 @@ use mathlib.Core.Bool.{Bool, true, false, not}
 use Rattle.std.specs.Prelude.{Option, None, Some, cond, filter, find}
 use Rattle.lists.specs.Member.{In}
 use Rattle.lists.proofs.Find.{find_none}
-use Rattle.lists.proofs.Member.{some_inj, none_some}
+use Rattle.lists.proofs.Member.{some_inj, none_some, in_right}
 use Rattle.rules.specs.Left.{Without, nothing, goes, stays, First, No}
 
 module _ {A : Type 0} (Gone : A → Type 0) (t : A → Bool) (off : (x : A) → t x ≡ true → Gone x → ⊥) (on : (x : A) → t x ≡ false → Gone x) where
@@ -58,3 +58,10 @@ module _ {A : Type 0} (Right : A → Type 0) (t : A → Bool) (yes : (x : A) →
           at : (b : Bool) → t y ≡ b → find t (k ++ (x ∷ f.behind)) ≡ Some x → cond b (Some y) (find t (k ++ (x ∷ f.behind))) ≡ Some x
           at true e ih = absurd (none y (inl refl) (yes y e))
           at false e ih = ih
+
+  -- the first one is one row, and it is among the rows
+  pub first_same : (l : List A) (x y : A) → First Right l x → First Right l y → x ≡ y
+  first_same l x y f g = some_inj (sym (first_find l x f) ∙ first_find l y g)
+
+pub first_in : {A : Type 0} (Right : A → Type 0) (l : List A) (x : A) → First Right l x → In x l
+first_in Right l x f = subst (In x) (sym f.splits) (in_right f.before (x ∷ f.behind) x (inl refl))

@@ -1,5 +1,5 @@
 -- The events of a render, one after the other.
-use Prim.Native.Nat.{ℕ, suc}
+use Prim.Native.Nat.{ℕ, suc, ◌+◌}
 use mathlib.Core.Path.{◌≡◌, refl, sym, ap, subst, ◌∙◌}
 use mathlib.Core.List.{List, [], ◌∷◌, ◌++◌, map}
 use mathlib.Core.Bool.{Bool, true, false, not}
@@ -21,7 +21,7 @@ use Rattle.store.specs.declared.answer.Outcome.TheVariants.{Applied, NoVoice, No
 use Rattle.store.specs.declared.voices.Voice.{Voice}
 use Rattle.store.specs.declared.voices.VoiceState.{VoiceState}
 use Rattle.store.specs.declared.voices.VoiceState.TheVariants.{Tracked, Fading, Loose}
-use Rattle.model.specs.SharedState.{SharedState, sounding}
+use Rattle.model.specs.SharedState.{SharedState, sounding, with_clock}
 use Rattle.model.specs.Voice.{moved, moved_state}
 use Rattle.model.specs.Model.{Model}
 use Rattle.model.specs.Order.{outcome_number}
@@ -87,20 +87,46 @@ voices_same true block (v ∷ vs) =
     let tail = voices_same true block vs in
     cc
 
-abbrev graph_aside : SharedState → SharedState → SharedState
-graph_aside d e = record e { clock = d.clock; graph = record e.graph { prepared = d.graph.prepared; order = d.graph.order } }
+ready_same : (r : Result (Unit {0}) Refusal) (l : List NodeId) (m : Model) (vs : List Voice) → map unmoved vs ≡ map unmoved m.voices
+    → Sounded m (record { shared = ready_shared r l m.shared; voices = vs })
+ready_same (Ok t) l m vs e =
+    record { voices = e; nodes = refl; edges = refl; sink = refl; next = refl; events = refl; steals = refl; spawned = refl; config = refl }
+ready_same (Err r) l m vs e =
+    record { voices = e; nodes = refl; edges = refl; sink = refl; next = refl; events = refl; steals = refl; spawned = refl; config = refl }
 
-ready_same : (r : Result (Unit {0}) Refusal) (l : List NodeId) (d : SharedState) → graph_aside d (ready_shared r l d) ≡ d
-ready_same (Ok t) l d = refl
-ready_same (Err r) l d = refl
+-- the clock is not among what `Sounded` says
+later : (m n : Model) (c : ℕ) → Sounded m n → Sounded m (record { shared = with_clock c n.shared; voices = n.voices })
+later m n c s =
+    record {
+      voices = s.voices;
+      nodes = s.nodes;
+      edges = s.edges;
+      sink = s.sink;
+      next = s.next;
+      events = s.events;
+      steals = s.steals;
+      spawned = s.spawned;
+      config = s.config;
+    }
 
 sounded : (b : Bool) (m : Model) → Sounded m (prepared_if b m).model
 sounded true m =
+    let d = prepare_shared m.shared in
+    let vs = moved_if (is_sounding (answer_after (prepare_outcome m.shared).answer d)) d.config.block m.voices in
+    let same = voices_same (is_sounding (answer_after (prepare_outcome m.shared).answer d)) d.config.block m.voices in
+    later m (record { shared = d; voices = vs }) (d.clock + d.config.block) (ready_same (prepare_outcome m.shared).answer (prepare_outcome m.shared).order m vs same)
+sounded false m =
     record {
-      voices = voices_same (is_sounding (answer_after (prepare_outcome m.shared).answer (prepare_shared m.shared))) (prepare_shared m.shared).config.block m.voices;
-      others = ready_same (prepare_outcome m.shared).answer (prepare_outcome m.shared).order m.shared;
+      voices = voices_same (is_sounding (heard (sounding m.shared))) m.shared.config.block m.voices;
+      nodes = refl;
+      edges = refl;
+      sink = refl;
+      next = refl;
+      events = refl;
+      steals = refl;
+      spawned = refl;
+      config = refl;
     }
-sounded false m = record { voices = voices_same (is_sounding (heard (sounding m.shared))) m.shared.config.block m.voices; others = refl }
 
 pub render_takes : (out : List ℕ) (m : Model) → Accepted out m → RenderTakes out m
 render_takes out m a =

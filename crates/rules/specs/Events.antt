@@ -25,15 +25,17 @@ pub record Named (n : Name) : Type 0 where
   pub one : 1 ≤ n.len
   pub sixteen : n.len ≤ 16
 
--- The action, with this name beside it, sets the parameter of these bytes by a value or by a glide. A gate sets `gate` by a value, whatever stands
--- beside it; a free sets nothing, and neither does a value or a glide without a name.
+-- The action, with this name beside it, sets the parameter of these bytes by a value or by a glide. A gate sets
+-- `gate` by a value, whatever stands beside it; a free sets nothing, and neither does a value or a glide without a
+-- name.
 abbrev pub Sets : EventAction → Name → Sort → List ℕ → Type 0
 Sets (action.Value x) n s p = (s ≡ value) × Named n × (p ≡ text n)
 Sets (action.Glide g) n s p = (s ≡ glide) × Named n × (p ≡ text n)
 Sets (action.Gate x) n s p = (s ≡ value) × (p ≡ 103 ∷ 97 ∷ 116 ∷ 101 ∷ [])
 Sets action.Free n s p = ⊥
 
--- the new event e and the pending event f are for one time and one voice, and set one parameter by the same sort of order
+-- the new event e and the pending event f are for one time and one voice, and set one parameter by the same sort of
+-- order
 pub record Replaces (e f : Event) : Type 0 where
   pub time : e.time ≡ f.time
   pub voice : e.voice.0 ≡ f.voice.0

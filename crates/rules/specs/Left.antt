@@ -1,4 +1,5 @@
--- What is left of a list where some rows go, and the first row of which something is true: words of the laws, which look into no test.
+-- What is left of a list where some rows go, and the first row of which something is true: words of the laws, which
+-- look into no test.
 use Rattle.std.specs.Prelude.{◌≡◌, List, [], ◌∷◌, ◌++◌}
 use Rattle.lists.specs.Member.{In}
 

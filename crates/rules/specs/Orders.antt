@@ -1,5 +1,5 @@
 -- What becomes of a value or a glide, set directly or by an event: SPEC 8.1 and 8.5.
-use Rattle.std.specs.Prelude.{ℕ, ◌+◌, ◌≡◌, List, map, Bool, true, cond, eqb}
+use Rattle.std.specs.Prelude.{ℕ, ◌+◌, ◌≤◌, ◌≡◌, ◌↔◌, List, map, length, Bool, true, cond, eqb}
 use Rattle.node.specs.Name.{name_of, text}
 use Rattle.node.specs.declared.name.Name.{Name}
 use Rattle.node.specs.declared.order.LastOrder.{LastOrder}
@@ -38,24 +38,60 @@ holding n o x = cond (eqb x.id.0 n.id.0) (record n { last = o }) x
 
 -- the store with the order at the node n, and nothing else changed: it stays prepared, and no voice changes
 abbrev pub holds : Node → LastOrder → Model → Model
-holds n o m = record m { shared = record m.shared { graph = record m.shared.graph { nodes = map (holding n o) m.shared.graph.nodes } } }
+holds n o m =
+    let nodes = map (holding n o) m.shared.graph.nodes in
+    record m { shared = record m.shared { graph = record m.shared.graph { nodes = nodes } } }
 
--- What the store is after the order o to the parameter `name` of the voice w, and what it is told as: the first of these that is true.
+-- ---- the four cases of an order to the parameter `name` of the voice w
+-- the voice is not there
+abbrev pub Unknown : Model → VoiceId → Type 0
+Unknown m w = No (Is w) m.voices
+
+-- it is there, tracked, fading or loose, and has no parameter of that name
+pub record Nameless (m : Model) (w : VoiceId) (name : Name) : Type 0 where
+  pub voice : Voice
+  pub known : First (Is w) m.voices voice
+  pub none : No (Called name) (param_rows voice.params)
+
+-- it has, of two parameters of one name the first, and no node at its place takes that sort
+pub record Refusing (m : Model) (w : VoiceId) (name : Name) (o : LastOrder) : Type 0 where
+  pub voice : Voice
+  pub known : First (Is w) m.voices voice
+  pub param : Param
+  pub has : First (Called name) (param_rows voice.params) param
+  pub none : (n : Node) → First (λ x. x.id.0 ≡ voice.first.0 + param.node) m.shared.graph.nodes n → Takes o n → ⊥
+
+-- it has, and the node at its place takes that sort
+pub record Taking (m : Model) (w : VoiceId) (name : Name) (o : LastOrder) : Type 0 where
+  pub voice : Voice
+  pub known : First (Is w) m.voices voice
+  pub param : Param
+  pub has : First (Called name) (param_rows voice.params) param
+  pub node : Node
+  pub place : First (λ x. x.id.0 ≡ voice.first.0 + param.node) m.shared.graph.nodes node
+  pub takes : Takes o node
+
+-- what the store is after the order, and what it is told as
 pub data Ordering (m : Model) (w : VoiceId) (name : Name) (o : LastOrder) : Model → Outcome → Type 0 where
-  -- 1: the voice is not there
-  no_voice : No (Is w) m.voices → Ordering m w name o m NoVoice
-  -- 2: it is there, tracked, fading or loose, and has no parameter of that name
-  no_parameter : (v : Voice) → First (Is w) m.voices v → No (Called name) (param_rows v.params) → Ordering m w name o m NoParameter
-  -- 3: it has, and no node takes that sort at the place of the first parameter of the name
-  not_taken : (v : Voice) → First (Is w) m.voices v → (p : Param) → First (Called name) (param_rows v.params) p
-      → ((n : Node) → First (λ x. x.id.0 ≡ v.first.0 + p.node) m.shared.graph.nodes n → Takes o n → ⊥) → Ordering m w name o m NotTaken
-  -- 0: the node there takes it, and holds the very order
-  applied : (v : Voice) → First (Is w) m.voices v → (p : Param) → First (Called name) (param_rows v.params) p
-      → (n : Node) → First (λ x. x.id.0 ≡ v.first.0 + p.node) m.shared.graph.nodes n → Takes o n
-      → Ordering m w name o (holds n o m) Applied
+  no_voice : Unknown m w → Ordering m w name o m NoVoice
+  no_parameter : Nameless m w name → Ordering m w name o m NoParameter
+  not_taken : Refusing m w name o → Ordering m w name o m NotTaken
+  applied : (t : Taking m w name o) → Ordering m w name o (holds t.node o m) Applied
+
+-- exactly when it is told as each of the four
+pub record Exactly (m : Model) (w : VoiceId) (name : Name) (o : LastOrder) (a : Outcome) : Type 0 where
+  pub one : (a ≡ NoVoice) ↔ Unknown m w
+  pub two : (a ≡ NoParameter) ↔ Nameless m w name
+  pub three : (a ≡ NotTaken) ↔ Refusing m w name o
+  pub zero : (a ≡ Applied) ↔ Taking m w name o
 
 -- what a direct call of it does
 pub record OrderRule (w : VoiceId) (name : List ℕ) (o : LastOrder) (m : Model) : Type 0 where
   pub outcome : Outcome
   pub answer : (step (call.order w name o) m).answer ≡ call.ordered outcome
   pub orders : Ordering m w (name_of name) o (step (call.order w name o) m).model outcome
+
+-- ---- the name that stands for a lent byte string: these bytes if they are 1 to 16, and else no name
+pub record NameRule (s : List ℕ) : Type 0 where
+  pub named : 1 ≤ length s → length s ≤ 16 → Named (name_of s) × (text (name_of s) ≡ s)
+  pub nameless : (1 ≤ length s → length s ≤ 16 → ⊥) → Named (name_of s) → ⊥

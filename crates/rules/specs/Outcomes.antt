@@ -1,6 +1,7 @@
--- What the events of a render do, one after the other, and what each is told as: SPEC 8.4 and 8.5; and what a free does, called or timed:
--- SPEC 13.1.
-use Rattle.std.specs.Prelude.{ℕ, ◌≤◌, ◌<◌, ◌≡◌, ◌⊎◌, List, [], ◌∷◌, ◌++◌, map, replicate, length, drop, false, Option, None, Some}
+-- What the events of a render do, one after the other, and what each is told as: SPEC 8.4 and 8.5; and what a free
+-- does, called or timed: SPEC 13.1.
+use Rattle.std.specs.Prelude.{ℕ, ◌≤◌, ◌<◌, ◌≡◌, ◌⊎◌, ◌↔◌, List, [], ◌∷◌, ◌++◌, map, replicate, length, drop, false}
+use Rattle.std.specs.Prelude.{Option, None, Some}
 use Rattle.lists.specs.Member.{In}
 use Rattle.node.specs.declared.name.Name.{Name}
 use Rattle.node.specs.declared.order.EventAction.{EventAction}
@@ -39,27 +40,34 @@ abbrev pub Sink : (NodeId → Type 0) → Option NodeId → Option NodeId → Ty
 Sink Went None s = s ≡ None
 Sink Went (Some k) s = ((Went k → ⊥) × (s ≡ Some k)) ⊎ (Went k × (s ≡ None))
 
--- The store r is m without the voice w: without its nodes, the edges at these, and the sink if it was one of them; and nothing else is changed but
--- that the graph is not prepared any more. No pending event goes with the voice, and no steal record is written or marked.
+-- The store r is m without the voice w: without its nodes, the edges at these, and the sink if it was one of them;
+-- and nothing else is changed but that the graph is not prepared any more. No pending event goes with the voice, and
+-- no steal record is written or marked.
 pub record Gone (m : Model) (w : VoiceId) (r : Model) : Type 0 where
   pub voices : Without (Is w) m.voices r.voices
   pub nodes : Without (λ (n : Node). n.owner.0 ≡ w.0) m.shared.graph.nodes r.shared.graph.nodes
   pub edges : Without (λ (e : Edge). Its m w e.from ⊎ Its m w e.to) m.shared.graph.edges r.shared.graph.edges
   pub sink : Sink (Its m w) m.shared.graph.sink r.shared.graph.sink
   pub unprepared : r.shared.graph.prepared ≡ false
-  pub others :
-      record r {
-        voices = m.voices;
-        shared = record r.shared {
-          graph = record r.shared.graph { nodes = m.shared.graph.nodes; edges = m.shared.graph.edges; sink = m.shared.graph.sink; prepared = m.shared.graph.prepared };
-        };
-      }
-      ≡ m
+  pub order : r.shared.graph.order ≡ m.shared.graph.order
+  pub next : r.shared.graph.next ≡ m.shared.graph.next
+  pub events : r.shared.events ≡ m.shared.events
+  pub steals : r.shared.steals ≡ m.shared.steals
+  pub clock : r.shared.clock ≡ m.shared.clock
+  pub spawned : r.shared.spawned ≡ m.shared.spawned
+  pub config : r.shared.config ≡ m.shared.config
 
--- what the store is after a free of the voice w, and what it is told as: 1 if the voice is not there, else 0, whether it is tracked, fading or loose
+-- what the store is after a free of the voice w, and what it is told as: 1 if the voice is not there, else 0, whether
+-- it is tracked, fading or loose
 pub data Freeing (m : Model) (w : VoiceId) : Model → Outcome → Type 0 where
   unknown : No (Is w) m.voices → Freeing m w m NoVoice
   known : (v : Voice) → In v m.voices → Is w v → (r : Model) → Gone m w r → Freeing m w r Applied
+
+-- exactly when a free is told as each of the two; it is told as nothing else
+pub record FreeExactly (m : Model) (w : VoiceId) (a : Outcome) : Type 0 where
+  pub one : (a ≡ NoVoice) ↔ No (Is w) m.voices
+  pub zero : (a ≡ Applied) ↔ ((v : Voice) × In v m.voices × Is w v)
+  pub either : (a ≡ NoVoice) ⊎ (a ≡ Applied)
 
 -- what a direct call of it does
 pub record FreeRule (w : VoiceId) (m : Model) : Type 0 where
@@ -84,7 +92,8 @@ Happens e m r a = Does e.action e.name e.voice m r a
 -- the events one after the other, each on the store that those before it left, each told as what it did there
 pub data Happen : List Event → Model → Model → List Outcome → Type 0 where
   none : {m : Model} → Happen [] m m []
-  next : {e : Event} {q : List Event} {m s r : Model} {a : Outcome} {l : List Outcome} → Happens e m s a → Happen q s r l → Happen (e ∷ q) m r (a ∷ l)
+  next : {e : Event} {q : List Event} {m s r : Model} {a : Outcome} {l : List Outcome}
+      → Happens e m s a → Happen q s r l → Happen (e ∷ q) m r (a ∷ l)
 
 -- ---- the events of a render
 -- the number that stands in the list for what became of an event
@@ -103,14 +112,22 @@ unmoved_state Loose = Loose
 abbrev pub unmoved : Voice → Voice
 unmoved v = record v { state = unmoved_state v.state }
 
--- the store r is what the events left, m, after the block: fades may have moved, the graph may have been prepared, and the clock has gone on
+-- the store r is what the events left, m, after the block: fades may have moved, the graph may have been prepared,
+-- and the clock has gone on
 pub record Sounded (m r : Model) : Type 0 where
   pub voices : map unmoved r.voices ≡ map unmoved m.voices
-  pub others :
-      record r.shared { clock = m.shared.clock; graph = record r.shared.graph { prepared = m.shared.graph.prepared; order = m.shared.graph.order } } ≡ m.shared
+  pub nodes : r.shared.graph.nodes ≡ m.shared.graph.nodes
+  pub edges : r.shared.graph.edges ≡ m.shared.graph.edges
+  pub sink : r.shared.graph.sink ≡ m.shared.graph.sink
+  pub next : r.shared.graph.next ≡ m.shared.graph.next
+  pub events : r.shared.events ≡ m.shared.events
+  pub steals : r.shared.steals ≡ m.shared.steals
+  pub spawned : r.shared.spawned ≡ m.shared.spawned
+  pub config : r.shared.config ≡ m.shared.config
 
--- What a render does with the events, if it is not refused: those before the end of its block are due; they are taken, all of them, and happen in
--- their order; and the list begins with the number of what became of each, and is as it was from there on.
+-- What a render does with the events, if it is not refused: those before the end of its block are due; they are
+-- taken, all of them, and happen in their order; and the list begins with the number of what became of each, and is
+-- as it was from there on.
 pub record RenderTakes (out : List ℕ) (m : Model) : Type 0 where
   pub due : List Event
   pub left : List Event

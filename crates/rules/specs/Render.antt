@@ -35,7 +35,8 @@ pub record Answered (out : List ℕ) (m : Model) : Type 0 where
   pub not_refused : (r : Refusal) → says ≡ Rendered.Refused r → ⊥
 
 pub record RenderRule (out : List ℕ) (m : Model) : Type 0 where
-  -- 15 exactly when the clock would pass 2^64 - 1; 17 exactly when it would not and the list is shorter than 256 entries
+  -- 15 exactly when the clock would pass 2^64 - 1; 17 exactly when it would not and the list is shorter than 256
+  -- entries
   pub fifteen : (answered out m ≡ refusing ClockEnd out) ↔ (18446744073709551615 < block_end m)
   pub seventeen : (answered out m ≡ refusing ShortBuffer out) ↔ ((block_end m ≤ 18446744073709551615) × (length out < 256))
   pub unchanged : (Accepted out m → ⊥) → after out m ≡ m

@@ -2,9 +2,10 @@
 
 ghost use Rattle.rules.specs.Events.{PendingAlways};
 
-/// After every list of calls on a newly made store, of every next call: scheduling is refused with 7 exactly when 256 events are pending and the
-/// new one replaces none, else the new one stands at the end of its time and what it replaces is gone; a render takes exactly the events
-/// before the end of its block; and every other call leaves the very queue.
+/// After every list of calls on a newly made store, of every next call: scheduling is refused with 7 exactly when 256
+/// events are pending and the new one replaces none, else the new one stands at the end of its time and what it
+/// replaces is gone; a render takes exactly the events before the end of its block; and every other call leaves the
+/// very queue.
 pub fn only_schedule_and_render_change_what_is_pending()
     ensures { PendingAlways }
 {}

@@ -7,8 +7,8 @@ ghost use Rattle.store.specs.declared.wish.Wish.{Wish};
 ghost use Rattle.model.specs.Wish.{call_of, wish_for};
 ghost use Rattle.rules.specs.Wishes.{Holds, Makes};
 
-/// The call that a wish is for is the spawn that was asked for, with each of its arguments, whatever they are; and a wish by its parts has each of
-/// them.
+/// The call that a wish is for is the spawn that was asked for, with each of its arguments, whatever they are; and a
+/// wish by its parts has each of them.
 pub fn a_wish_is_for_the_very_spawn_that_was_asked()
     ensures makes { (w : Wish) → Makes w (call_of w) }
     ensures holds { (managed : Bool) (bus : NodeId) (pan : Float) (rank : ℕ) (d : SynthDef) → Holds managed bus pan rank d (wish_for managed bus pan rank d) }
