@@ -5,3 +5,4 @@ pub mod EventLaws
 pub mod OrderLaws
 pub mod FreeLaws
 pub mod OutcomeLaws
+pub mod WishLaws

@@ -4,3 +4,4 @@ pub mod Events
 pub mod Orders
 pub mod Outcomes
 pub mod Wishes
+pub mod WishScenes
