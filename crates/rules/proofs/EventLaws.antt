@@ -41,7 +41,9 @@ use Rattle.edges.specs.Ports.{port_from}
 use Rattle.graph.specs.Node.{node_at}
 use Rattle.graph.specs.Refuse.{add_refusal, host_refusal, disconnect_refusal, connect_refusal}
 use Rattle.graph.specs.View.{GraphView}
-use Rattle.model.specs.Model.{Model, instantiate_or, port_free, place, place_within_budget, steal_voice, stolen, steal_then, admitted, admission_on, spawn_managed, spawn_loose, freed, free}
+use Rattle.model.specs.Model.{Model, instantiate_or, port_free, place, place_within_budget}
+use Rattle.model.specs.Model.{steal_voice, stolen, steal_then}
+use Rattle.model.specs.Model.{admitted, admission_on, spawn_managed, spawn_loose, freed, free}
 use Rattle.model.specs.Model as store
 use Rattle.model.specs.Clear.{without_voices, ended_voices, silent_voices, clear}
 use Rattle.model.specs.Make.{Making, make, made_unless, new_model, config_of, refusal_of}
@@ -51,7 +53,8 @@ use Rattle.model.specs.Call.{Call, Answer, Step, step, run, unless, schedule_ref
 use Rattle.model.specs.Call as call
 use Rattle.rules.specs.Left.{Without, No}
 use Rattle.rules.specs.Render.{block_end, Accepted, after}
-use Rattle.rules.specs.Events.{Sort, value, glide, Named, Sets, Replaces, Full, Placed, pending, Schedules, Takes, Pending, PendingAlways}
+use Rattle.rules.specs.Events.{Sort, value, glide, Named, Sets, Replaces, Full}
+use Rattle.rules.specs.Events.{Placed, pending, Schedules, Takes, Pending, PendingAlways}
 use Rattle.rules.proofs.Left.{filter_without}
 use Rattle.rules.proofs.Still.{order_still, free_still, events_still, prepare_still, block_events}
 use Rattle.rules.proofs.RenderLaws.{Case, at_end, at_short, at_open, which, ended, short, open_to, after_by}
@@ -69,28 +72,34 @@ pub long : (n : Name) → named n ≡ true → Named n
 long n h = let l = name_long n.len h in record { one = l.0; sixteen = l.1 }
 
 pub named_is : (n : Name) → Named n → named n ≡ true
-named_is n l = let a : leb 1 n.len ≡ true = le-leb _ _ l.one in let b : leb n.len 16 ≡ true = le-leb _ _ l.sixteen in rw (a, b)
+named_is n l =
+    let a : leb 1 n.len ≡ true = le-leb _ _ l.one in let b : leb n.len 16 ≡ true = le-leb _ _ l.sixteen in rw (a, b)
 
-under_sets : (s : queue.Sort) (n : Name) (k : queue.Ordered) → queue.under s n ≡ Some k → (sort_of k.sort ≡ sort_of s) × Named n × (k.parameter ≡ text n)
+under_sets : (s : queue.Sort) (n : Name) (k : queue.Ordered) → queue.under s n ≡ Some k
+    → (sort_of k.sort ≡ sort_of s) × Named n × (k.parameter ≡ text n)
 under_sets s n k h = go (named n) refl h
   where
-    go : (b : Bool) → named n ≡ b → cond b (Some (record { sort = s; parameter = text n })) None ≡ Some k → (sort_of k.sort ≡ sort_of s) × Named n × (k.parameter ≡ text n)
+    go : (b : Bool) → named n ≡ b → cond b (Some (record { sort = s; parameter = text n })) None ≡ Some k
+        → (sort_of k.sort ≡ sort_of s) × Named n × (k.parameter ≡ text n)
     go true e p =
         let q = some_inj p in
         (ap (λ (o : queue.Ordered). sort_of o.sort) (sym q), long n e, ap (λ (o : queue.Ordered). o.parameter) (sym q))
     go false e p = absurd (none_some p)
 
-sets_of : (a : EventAction) (n : Name) (k : queue.Ordered) → queue.ordered a n ≡ Some k → Sets a n (sort_of k.sort) k.parameter
+sets_of : (a : EventAction) (n : Name) (k : queue.Ordered) → queue.ordered a n ≡ Some k
+    → Sets a n (sort_of k.sort) k.parameter
 sets_of (action.Value x) n k h = under_sets queue.value n k h
 sets_of (action.Glide g) n k h = under_sets queue.glide n k h
 sets_of (action.Gate x) n k h =
-    let q = some_inj h in (ap (λ (o : queue.Ordered). sort_of o.sort) (sym q), ap (λ (o : queue.Ordered). o.parameter) (sym q))
+    let q = some_inj h in
+    (ap (λ (o : queue.Ordered). sort_of o.sort) (sym q), ap (λ (o : queue.Ordered). o.parameter) (sym q))
 sets_of action.Free n k h = absurd (none_some h)
 
 abbrev what : Sort → List ℕ → queue.Ordered
 what s p = record { sort = sort_from s; parameter = p }
 
-set_under : (s : Sort) (u : queue.Sort) (n : Name) (p : List ℕ) → sort_from s ≡ u → Named n → p ≡ text n → queue.under u n ≡ Some (what s p)
+set_under : (s : Sort) (u : queue.Sort) (n : Name) (p : List ℕ) → sort_from s ≡ u → Named n → p ≡ text n
+    → queue.under u n ≡ Some (what s p)
 set_under s u n p e l q =
     ap (λ b. cond b (Some (record { sort = u; parameter = text n })) None) (named_is n l)
     ∙ ap (λ (t : List ℕ). Some (record { sort = u; parameter = t })) (sym q)
@@ -129,16 +138,22 @@ replaced_is e f r =
 
 -- ---- scheduling
 -- a queue in the order of its times is what is not later than e, and then what is later
-split_later : (e : Event) (l : List Event) → Sorted l → filter (λ f. not (later e f)) l ++ filter (later e) l ≡ l
+-- what of the queue is not later than e
+abbrev not_later : Event → List Event → List Event
+not_later e l = filter (λ f. not (later e f)) l
+
+split_later : (e : Event) (l : List Event) → Sorted l → not_later e l ++ filter (later e) l ≡ l
 split_later e [] s = refl
 split_later e (f ∷ l) s = go (later e f) refl (split_later e l s.1)
   where
-    go : (b : Bool) → later e f ≡ b → filter (λ f. not (later e f)) l ++ filter (later e) l ≡ l
-        → cond (not b) (f ∷ (filter (λ f. not (later e f)) l)) (filter (λ f. not (later e f)) l) ++ cond b (f ∷ (filter (later e) l)) (filter (later e) l) ≡ f ∷ l
+    go : (b : Bool) → later e f ≡ b → not_later e l ++ filter (later e) l ≡ l
+        → cond (not b) (f ∷ (not_later e l)) (not_later e l) ++ cond b (f ∷ (filter (later e) l)) (filter (later e) l)
+        ≡ f ∷ l
     go true t ih =
         let h : e.time < f.time = ltb-true _ _ t in
-        let on : (x : Event) → In x l → later e x ≡ true = (λ x i. let k : e.time < x.time = omega (arith, s.0 x i) in lt-ltb _ _ k) in
-        let none : filter (λ x. not (later e x)) l ≡ [] = filter_none (λ x. not (later e x)) l (λ x i. ap not (on x i)) in
+        let after : (x : Event) → In x l → e.time < x.time = (λ x i. omega (arith, s.0 x i)) in
+        let on : (x : Event) → In x l → later e x ≡ true = (λ x i. lt-ltb _ _ (after x i)) in
+        let none : not_later e l ≡ [] = filter_none (λ x. not (later e x)) l (λ x i. ap not (on x i)) in
         rw (none, filter_all (later e) l on)
     go false t ih = ap (λ z. f ∷ z) ih
 
@@ -182,8 +197,15 @@ module _ (e : Event) (q : List Event) (fits : length q ≤ 256) where
   full_from : full (thinned e q) ≡ true → Full e q
   full_from h =
       record {
-        many = let l : 256 ≤ length q = omega (arith, leb-true 256 (length (thinned e q)) h, length_filter (λ g. not (replaces e g)) q) in omega arith;
-        none = λ g i r. ok_err (sym (queue.room_taken e q fits (inr (g, i, replaced_is e g r))) ∙ ap (λ b. cond b (Err TableFull) (Ok tt)) h);
+        many =
+            let l : 256 ≤ length q =
+            omega (arith, leb-true 256 (length (thinned e q)) h, length_filter (λ g. not (replaces e g)) q) in
+            omega arith;
+        none =
+            λ g i r.
+                ok_err
+                (sym (queue.room_taken e q fits (inr (g, i, replaced_is e g r)))
+                ∙ ap (λ b. cond b (Err TableFull) (Ok tt)) h);
       }
 
 done_refused : {r : Refusal} → call.done ≡ call.refused r → ⊥
@@ -192,12 +214,15 @@ done_refused h = cc
 module _ (e : Event) (m : Model) (s : Sorted m.shared.events) (fits : length m.shared.events ≤ 256) where
   -- the step by the test of the queue
   abbrev at : Bool → Step
-  at b = unless (when b TableFull None) m (record { answer = call.done; model = pending (replacing e m.shared.events) m })
+  at b =
+      unless (when b TableFull None) m
+      (record { answer = call.done; model = pending (replacing e m.shared.events) m })
 
   scheduled : (b : Bool) → full (thinned e m.shared.events) ≡ b → Schedules e m (at b)
   scheduled true h =
       let f = full_from e m.shared.events fits h in
-      record { seven = (λ a. f, λ g. refl); unchanged = λ g. refl; done = λ n. absurd (n f); placed = λ n. absurd (n f) }
+      record
+      { seven = (λ a. f, λ g. refl); unchanged = λ g. refl; done = λ n. absurd (n f); placed = λ n. absurd (n f) }
   scheduled false h =
       let no : Full e m.shared.events → ⊥ = (λ g. false≢true (sym h ∙ full_is e m.shared.events fits g)) in
       record {
@@ -214,7 +239,8 @@ module _ (e : Event) (m : Model) (s : Sorted m.shared.events) (fits : length m.s
 
 -- ---- the other calls
 module _ (m : Model) where
-  host_events : (o : Option Refusal) (g : GraphView) (a : Answer) → (unless o m (call.graph_step m g a)).model.shared.events ≡ m.shared.events
+  host_events : (o : Option Refusal) (g : GraphView) (a : Answer)
+      → (unless o m (call.graph_step m g a)).model.shared.events ≡ m.shared.events
   host_events None g a = refl
   host_events (Some r) g a = refl
 
@@ -228,13 +254,15 @@ module _ (m : Model) where
   stolen_events v None = refl
   stolen_events v (Some p) = refl
 
-pub place_events : (fuel : ℕ) (x : Spawn) (s : VoiceState) (m : Model) → (place fuel x s m).model.shared.events ≡ m.shared.events
+pub place_events : (fuel : ℕ) (x : Spawn) (s : VoiceState) (m : Model)
+    → (place fuel x s m).model.shared.events ≡ m.shared.events
 place_events zero x s m = go (port_free x.bus m)
   where
     go : (p : Option ℕ) → (instantiate_or p None x s m (store.refused NoPort)).model.shared.events ≡ m.shared.events
     go None = refl
     go (Some p) = refl
-place_events (suc fuel) x s m = go (port_free x.bus m) (next_out m.shared x.bus x.rank m.voices) (λ k. place_events fuel x s k)
+place_events (suc fuel) x s m =
+    go (port_free x.bus m) (next_out m.shared x.bus x.rank m.voices) (λ k. place_events fuel x s k)
   where
     go : (p : Option ℕ) (o : Option Voice) → ((k : Model) → (place fuel x s k).model.shared.events ≡ k.shared.events)
         → (instantiate_or p o x s m (λ k. place fuel x s k)).model.shared.events ≡ m.shared.events
@@ -250,9 +278,11 @@ managed_events x m = go (spawn_refusal m.shared m.voices x.def x.bus x.rank) (ad
   where
     steal : (o : Option Voice) → (steal_then o x m).model.shared.events ≡ m.shared.events
     steal None = within_events x m
-    steal (Some v) = within_events x (steal_voice v m) ∙ stolen_events m v (port_from m.shared.graph.edges (feeder v) v.bus)
+    steal (Some v) =
+        within_events x (steal_voice v m) ∙ stolen_events m v (port_from m.shared.graph.edges (feeder v) v.bus)
 
-    go : (o : Option Refusal) (a : Admission) → (store.unless o m (admitted a x m)).model.shared.events ≡ m.shared.events
+    go : (o : Option Refusal) (a : Admission)
+        → (store.unless o m (admitted a x m)).model.shared.events ≡ m.shared.events
     go None admission.Admit = within_events x m
     go None admission.Reject = refl
     go None (admission.Steal place w) = steal (find (is_voice w) m.voices)
@@ -276,7 +306,8 @@ clear_events m =
 
 -- ---- rendering
 module _ (out : List ℕ) (m : Model) where
-  rendered_events : Accepted out m → (after out m).shared.events ≡ filter (λ e. not (ltb e.time (block_end m))) m.shared.events
+  rendered_events : Accepted out m
+      → (after out m).shared.events ≡ filter (λ e. not (ltb e.time (block_end m))) m.shared.events
   rendered_events a =
       ap (λ (x : Model). x.shared.events) (after_by out m None (open_to out m a))
       ∙ block_events (any_free (due m.shared)) (apply_events (due m.shared) (rested m))
@@ -304,7 +335,8 @@ module _ (out : List ℕ) (m : Model) where
       }
 
 pub events_after : (x : Call) (m : Model) → Sorted m.shared.events → length m.shared.events ≤ 256 → Pending x m
-events_after (call.add_node kind ports required values glides) m s f = host_events m (add_refusal m.shared.graph kind ports required) _ _
+events_after (call.add_node kind ports required values glides) m s f =
+    host_events m (add_refusal m.shared.graph kind ports required) _ _
 events_after (call.remove_node k) m s f = host_events m (host_refusal m.shared.graph k) _ _
 events_after (call.connect a b p) m s f = host_events m (connect_refusal m.shared.graph a b p) _ _
 events_after (call.disconnect b p) m s f = host_events m (disconnect_refusal m.shared.graph b p) _ _
@@ -314,9 +346,11 @@ events_after (call.spawn_loose x) m s f = loose_events x m
 events_after (call.free w) m s f = (free_still w m).events
 events_after call.clear m s f = clear_events m
 events_after (call.order w name o) m s f = (order_still w (name_of name) o m.voices m.shared).events
-events_after (call.schedule t w name a) m s f = let e = call.event t w name a in scheduled e m s f (full (thinned e m.shared.events)) refl
+events_after (call.schedule t w name a) m s f =
+    let e = call.event t w name a in scheduled e m s f (full (thinned e m.shared.events)) refl
 events_after (call.report k channels samples flag) m s f =
-    reported_events m (report_refusal m.shared m.voices k channels (length samples)) (node_at m.shared.graph.nodes k) samples flag _
+    reported_events m (report_refusal m.shared m.voices k channels (length samples)) (node_at m.shared.graph.nodes k)
+    samples flag _
 events_after call.prepare m s f = (prepare_still m.shared).events
 events_after (call.render out) m s f = takes out m (which out m)
 events_after (call.ask q) m s f = refl
@@ -327,16 +361,23 @@ pub record Queued (m : Model) : Type 0 where
   pub fits : length m.shared.events ≤ 256
 
 same_queue : (m n : Model) → n.shared.events ≡ m.shared.events → Queued m → Queued n
-same_queue m n e g = record { order = subst Sorted (sym e) g.order; fits = subst (λ (q : List Event). length q ≤ 256) (sym e) g.fits }
+same_queue m n e g =
+    record { order = subst Sorted (sym e) g.order; fits = subst (λ (q : List Event). length q ≤ 256) (sym e) g.fits }
 
 thinner : (out : List ℕ) (m : Model) → Case out m → Queued m → Queued (after out m)
-thinner out m (at_end h) g = same_queue m (after out m) (ap (λ (x : Model). x.shared.events) (after_by out m (Some ClockEnd) (ended out m h))) g
-thinner out m (at_short h k) g = same_queue m (after out m) (ap (λ (x : Model). x.shared.events) (after_by out m (Some ShortBuffer) (short out m h k))) g
+thinner out m (at_end h) g =
+    same_queue m (after out m) (ap (λ (x : Model). x.shared.events) (after_by out m (Some ClockEnd) (ended out m h)))
+    g
+thinner out m (at_short h k) g =
+    same_queue m (after out m)
+    (ap (λ (x : Model). x.shared.events) (after_by out m (Some ShortBuffer) (short out m h k))) g
 thinner out m (at_open a) g =
     let t : Event → Bool = (λ e. not (ltb e.time (block_end m))) in
     record {
       order = subst Sorted (sym (rendered_events out m a)) (filter_sorted t m.shared.events g.order);
-      fits = subst (λ (q : List Event). length q ≤ 256) (sym (rendered_events out m a)) (let l = length_filter t m.shared.events in let k = g.fits in omega arith);
+      fits =
+          subst (λ (q : List Event). length q ≤ 256) (sym (rendered_events out m a))
+          (let l = length_filter t m.shared.events in let k = g.fits in omega arith);
     }
 
 pub queued_step : (x : Call) (m : Model) → Queued m → Queued (step x m).model
@@ -358,8 +399,11 @@ pub queued_made : (k : Making) (m : Model) → make k ≡ Some m → Queued m
 queued_made k m e = go (refusal_of k) e
   where
     go : (o : Option Refusal) → made_unless o (new_model (config_of k)) ≡ Some m → Queued m
-    go None h = same_queue (new_model (config_of k)) m (ap (λ (x : Model). x.shared.events) (sym (some_inj h))) (record { order = tt; fits = omega arith })
+    go None h =
+        same_queue (new_model (config_of k)) m (ap (λ (x : Model). x.shared.events) (sym (some_inj h)))
+        (record { order = tt; fits = omega arith })
     go (Some r) h = absurd (none_some h)
 
 pub pending_always : PendingAlways
-pending_always k m e xs x = let g = queued_run xs m (queued_made k m e) in events_after x (run xs m).model g.order g.fits
+pending_always k m e xs x =
+    let g = queued_run xs m (queued_made k m e) in events_after x (run xs m).model g.order g.fits

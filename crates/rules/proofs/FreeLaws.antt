@@ -60,7 +60,8 @@ module _ (m : Model) (w : VoiceId) where
   touch_yes : (e : Edge) → touches its e ≡ true → Its m w e.from ⊎ Its m w e.to
   touch_yes e h = go (among its e.from) refl (among its e.to) refl h
     where
-      go : (a : Bool) → among its e.from ≡ a → (b : Bool) → among its e.to ≡ b → (a || b) ≡ true → Its m w e.from ⊎ Its m w e.to
+      go : (a : Bool) → among its e.from ≡ a → (b : Bool) → among its e.to ≡ b → (a || b) ≡ true
+          → Its m w e.from ⊎ Its m w e.to
       go true p b q r = inl (its_yes e.from p)
       go false p true q r = inr (its_yes e.to q)
       go false p false q r = absurd (false≢true r)
@@ -68,7 +69,8 @@ module _ (m : Model) (w : VoiceId) where
   touch_no : (e : Edge) → touches its e ≡ false → Its m w e.from ⊎ Its m w e.to → ⊥
   touch_no e h = go (among its e.from) refl (among its e.to) refl h
     where
-      go : (a : Bool) → among its e.from ≡ a → (b : Bool) → among its e.to ≡ b → (a || b) ≡ false → Its m w e.from ⊎ Its m w e.to → ⊥
+      go : (a : Bool) → among its e.from ≡ a → (b : Bool) → among its e.to ≡ b → (a || b) ≡ false
+          → Its m w e.from ⊎ Its m w e.to → ⊥
       go true p b q r i = false≢true (sym r)
       go false p true q r i = false≢true (sym r)
       go false p false q r (inl i) = its_no e.from p i
@@ -85,12 +87,16 @@ module _ (m : Model) (w : VoiceId) where
   pub gone : Gone m w (without_voice w m)
   gone =
       record {
-        voices = filter_without (Is w) (λ v. not (is_voice w v)) (λ v h e. is_no w v (not_true _ h) e) (λ v h. is_yes w v (not_false _ h)) m.voices;
+        voices =
+            filter_without (Is w) (λ v. not (is_voice w v)) (λ v h e. is_no w v (not_true _ h) e)
+            (λ v h. is_yes w v (not_false _ h)) m.voices;
         nodes =
-            filter_without (λ (n : Node). n.owner.0 ≡ w.0) (λ n. not (owned_by w n)) (λ n h e. eqb-false _ _ (not_true _ h) e) (λ n h. eqb-true _ _ (not_false _ h))
+            filter_without (λ (n : Node). n.owner.0 ≡ w.0) (λ n. not (owned_by w n))
+            (λ n h e. eqb-false _ _ (not_true _ h) e) (λ n h. eqb-true _ _ (not_false _ h))
             m.shared.graph.nodes;
         edges =
-            filter_without (λ (e : Edge). Its m w e.from ⊎ Its m w e.to) (λ e. not (touches its e)) (λ e h i. touch_no e (not_true _ h) i) (λ e h. touch_yes e (not_false _ h))
+            filter_without (λ (e : Edge). Its m w e.from ⊎ Its m w e.to) (λ e. not (touches its e))
+            (λ e h i. touch_no e (not_true _ h) i) (λ e h. touch_yes e (not_false _ h))
             m.shared.graph.edges;
         sink = sink_is m.shared.graph.sink;
         unprepared = refl;
@@ -111,7 +117,8 @@ freeing m w = go (find (is_voice w) m.voices) refl
     go (Some v) e =
         let f = find_in (is_voice w) m.voices v e in
         let same : v.id ≡ w = ap (λ (k : ℕ). record { 0 = k }) (is_yes w v f.1) in
-        known v f.0 (is_yes w v f.1) (without_voice v.id m) (subst (λ (u : VoiceId). Gone m u (without_voice v.id m)) same (gone m v.id))
+        known v f.0 (is_yes w v f.1) (without_voice v.id m)
+        (subst (λ (u : VoiceId). Gone m u (without_voice v.id m)) same (gone m v.id))
 
 pub free_exactly : {m : Model} {w : VoiceId} {r : Model} {a : Outcome} → Freeing m w r a → FreeExactly m w a
 free_exactly (unknown u) =

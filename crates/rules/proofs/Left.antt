@@ -9,24 +9,34 @@ use Rattle.lists.proofs.Find.{find_none}
 use Rattle.lists.proofs.Member.{some_inj, none_some, in_right}
 use Rattle.rules.specs.Left.{Without, nothing, goes, stays, First, No}
 
-module _ {A : Type 0} (Gone : A → Type 0) (t : A → Bool) (off : (x : A) → t x ≡ true → Gone x → ⊥) (on : (x : A) → t x ≡ false → Gone x) where
+module _ {A : Type 0} (Gone : A → Type 0) (t : A → Bool) (off : (x : A) → t x ≡ true → Gone x → ⊥)
+    (on : (x : A) → t x ≡ false → Gone x) where
   pub filter_without : (l : List A) → Without Gone l (filter t l)
   filter_without [] = nothing
   filter_without (x ∷ l) = go (t x) refl (filter_without l)
     where
-      go : (b : Bool) → t x ≡ b → Without Gone l (filter t l) → Without Gone (x ∷ l) (cond b (x ∷ (filter t l)) (filter t l))
+      go : (b : Bool) → t x ≡ b → Without Gone l (filter t l)
+          → Without Gone (x ∷ l) (cond b (x ∷ (filter t l)) (filter t l))
       go true e w = stays (off x e) w
       go false e w = goes (on x e) w
 
-module _ {A : Type 0} (Right : A → Type 0) (t : A → Bool) (yes : (x : A) → t x ≡ true → Right x) (no : (x : A) → t x ≡ false → Right x → ⊥) where
+module _ {A : Type 0} (Right : A → Type 0) (t : A → Bool) (yes : (x : A) → t x ≡ true → Right x)
+    (no : (x : A) → t x ≡ false → Right x → ⊥) where
   pub find_first : (l : List A) (x : A) → find t l ≡ Some x → First Right l x
   find_first [] x h = absurd (none_some h)
   find_first (y ∷ l) x h = go (t y) refl h (find_first l x)
     where
-      go : (b : Bool) → t y ≡ b → cond b (Some y) (find t l) ≡ Some x → (find t l ≡ Some x → First Right l x) → First Right (y ∷ l) x
+      go : (b : Bool) → t y ≡ b → cond b (Some y) (find t l) ≡ Some x → (find t l ≡ Some x → First Right l x)
+          → First Right (y ∷ l) x
       go true e p ih =
           let s : y ≡ x = some_inj p in
-          record { before = []; behind = l; splits = ap (λ z. z ∷ l) s; right = yes x (ap t (sym s) ∙ e); none = λ z i r. absurd i }
+          record {
+            before = [];
+            behind = l;
+            splits = ap (λ z. z ∷ l) s;
+            right = yes x (ap t (sym s) ∙ e);
+            none = λ z i r. absurd i;
+          }
       go false e p ih =
           let f = ih p in
           record {
@@ -55,7 +65,8 @@ module _ {A : Type 0} (Right : A → Type 0) (t : A → Bool) (yes : (x : A) →
       go [] none = here (t x) refl
       go (y ∷ k) none = at (t y) refl (go k (λ z i r. none z (inr i) r))
         where
-          at : (b : Bool) → t y ≡ b → find t (k ++ (x ∷ f.behind)) ≡ Some x → cond b (Some y) (find t (k ++ (x ∷ f.behind))) ≡ Some x
+          at : (b : Bool) → t y ≡ b → find t (k ++ (x ∷ f.behind)) ≡ Some x
+              → cond b (Some y) (find t (k ++ (x ∷ f.behind))) ≡ Some x
           at true e ih = absurd (none y (inl refl) (yes y e))
           at false e ih = ih
 

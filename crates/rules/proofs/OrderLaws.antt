@@ -110,7 +110,8 @@ module _ (m : Model) (w : VoiceId) (name : Name) (o : LastOrder) where
       abbrev place : ℕ
       place = v.first.0 + p.node
 
-      none : ((n : Node) → First (At m.shared.graph.nodes place) m.shared.graph.nodes n → Takes o n → ⊥) → Refusing m w name o
+      none : ((n : Node) → First (At m.shared.graph.nodes place) m.shared.graph.nodes n → Takes o n → ⊥)
+          → Refusing m w name o
       none h = record { voice = v; known = known; param = p; has = has; none = h }
 
       by_node : (x : Option Node) → node_at m.shared.graph.nodes (id place) ≡ x → Told (order_node x o m.shared)
@@ -133,13 +134,15 @@ module _ (m : Model) (w : VoiceId) (name : Name) (o : LastOrder) where
                 place = the_node m.shared.graph.nodes place n e;
                 takes = takes_yes o n t;
               }))
-          go false t = rw t (not_taken (none (λ k f h. false≢true (sym t ∙ ap (takes o) (sym (there k f)) ∙ takes_is o k h))))
+          go false t =
+              rw t (not_taken (none (λ k f h. false≢true (sym t ∙ ap (takes o) (sym (there k f)) ∙ takes_is o k h))))
 
     by_param : (x : Option Param) → find (called name) (param_rows v.params) ≡ x
         → Told (order_param (option_map (λ (p : Param). p.node) x) v o m.shared)
     by_param None e = no_parameter (record { voice = v; known = known; none = no_param name (param_rows v.params) e })
     by_param (Some p) e =
-        by_node p (the_param name (param_rows v.params) p e) (node_at m.shared.graph.nodes (id (v.first.0 + p.node))) refl
+        by_node p (the_param name (param_rows v.params) p e) (node_at m.shared.graph.nodes (id (v.first.0 + p.node)))
+        refl
 
   by_voice : (x : Option Voice) → find (is_voice w) m.voices ≡ x → Told (order_voice x name o m.shared)
   by_voice None e = no_voice (no_such m w e)
@@ -152,7 +155,8 @@ module _ (m : Model) (w : VoiceId) (name : Name) (o : LastOrder) where
   known_not : (v : Voice) → First (Is w) m.voices v → Unknown m w → ⊥
   known_not v f u = u v (first_in (Is w) m.voices v f) f.right
 
-  named_not : (n : Nameless m w name) (v : Voice) → First (Is w) m.voices v → (p : Param) → First (Called name) (param_rows v.params) p → ⊥
+  named_not : (n : Nameless m w name) (v : Voice) → First (Is w) m.voices v → (p : Param)
+      → First (Called name) (param_rows v.params) p → ⊥
   named_not n v f p g =
       let e = one_voice m w v n.voice f n.known in
       let h = subst (λ (u : Voice). First (Called name) (param_rows u.params) p) e g in
@@ -198,7 +202,11 @@ module _ (m : Model) (w : VoiceId) (name : Name) (o : LastOrder) where
 
 pub order_rule : (w : VoiceId) (name : List ℕ) (o : LastOrder) (m : Model) → OrderRule w name o m
 order_rule w name o m =
-    record { outcome = (order w (name_of name) o m.voices m.shared).outcome; answer = refl; orders = ordering m w (name_of name) o }
+    record {
+      outcome = (order w (name_of name) o m.voices m.shared).outcome;
+      answer = refl;
+      orders = ordering m w (name_of name) o;
+    }
 
 -- ---- names
 pub name_rule : (s : List ℕ) → NameRule s
@@ -217,4 +225,6 @@ name_rule s = go (name_length (length s)) refl
         }
       where
         long_is : 1 ≤ length s → length s ≤ 16 → name_length (length s) ≡ true
-        long_is a b = let p : leb 1 (length s) ≡ true = le-leb _ _ a in let q : leb (length s) 16 ≡ true = le-leb _ _ b in rw (p, q)
+        long_is a b =
+            let p : leb 1 (length s) ≡ true = le-leb _ _ a in
+            let q : leb (length s) 16 ≡ true = le-leb _ _ b in rw (p, q)

@@ -25,12 +25,15 @@ use Rattle.model.specs.SharedState.{SharedState, sounding, with_clock}
 use Rattle.model.specs.Voice.{moved, moved_state}
 use Rattle.model.specs.Model.{Model}
 use Rattle.model.specs.Order.{outcome_number}
-use Rattle.model.specs.Render.{apply_event, apply_events, outcome_of, outcomes, further, moved_if, answer_after, heard, is_sounding, prepare_outcome, prepare_shared, ready_shared, prepared_if, block_of, any_free, due, rested, render}
+use Rattle.model.specs.Render.{apply_event, apply_events, outcome_of, outcomes, further, moved_if}
+use Rattle.model.specs.Render.{answer_after, heard, is_sounding, prepare_outcome}
+use Rattle.model.specs.Render.{prepare_shared, ready_shared, prepared_if, block_of, any_free, due, rested, render}
 use Rattle.model.specs.Call as call
 use Rattle.rules.specs.Left.{Without}
 use Rattle.rules.specs.Render.{block_end, Accepted, after}
 use Rattle.rules.specs.Events.{pending}
-use Rattle.rules.specs.Outcomes.{Does, Happens, Happen, none, next, number, unmoved, unmoved_state, Sounded, RenderTakes}
+use Rattle.rules.specs.Outcomes.{Does, Happens, Happen, none, next, number}
+use Rattle.rules.specs.Outcomes.{unmoved, unmoved_state, Sounded, RenderTakes}
 use Rattle.rules.proofs.Left.{filter_without}
 use Rattle.rules.proofs.EventLaws.{not_true, not_false}
 use Rattle.rules.proofs.RenderLaws.{open_to, answer_by, after_by}
@@ -41,7 +44,8 @@ use Rattle.rules.proofs.FreeLaws.{freeing}
 abbrev event : ℕ → VoiceId → Name → EventAction → Event
 event t w name a = record { time = t; voice = w; name = name; action = a }
 
-does : (t : ℕ) (w : VoiceId) (name : Name) (a : EventAction) (m : Model) → Does a name w m (apply_event (event t w name a) m) (outcome_of (event t w name a) m)
+does : (t : ℕ) (w : VoiceId) (name : Name) (a : EventAction) (m : Model)
+    → Does a name w m (apply_event (event t w name a) m) (outcome_of (event t w name a) m)
 does t w name (action.Value x) m = ordering m w name (last.Value x)
 does t w name (action.Glide g) m = ordering m w name (last.Glide g)
 does t w name (action.Gate x) m = ordering m w _ (last.Value x)
@@ -83,16 +87,38 @@ voices_same : (b : Bool) (block : ℕ) (vs : List Voice) → map unmoved (moved_
 voices_same false block vs = refl
 voices_same true block [] = refl
 voices_same true block (v ∷ vs) =
-    let head : unmoved (moved (further block) v) ≡ unmoved v = ap (λ (s : VoiceState). record v { state = s }) (unmoved_same (further block) v.state) in
+    let state = unmoved_same (further block) v.state in
+    let head : unmoved (moved (further block) v) ≡ unmoved v = ap (λ (s : VoiceState). record v { state = s }) state in
     let tail = voices_same true block vs in
     cc
 
-ready_same : (r : Result (Unit {0}) Refusal) (l : List NodeId) (m : Model) (vs : List Voice) → map unmoved vs ≡ map unmoved m.voices
+ready_same : (r : Result (Unit {0}) Refusal) (l : List NodeId) (m : Model) (vs : List Voice)
+    → map unmoved vs ≡ map unmoved m.voices
     → Sounded m (record { shared = ready_shared r l m.shared; voices = vs })
 ready_same (Ok t) l m vs e =
-    record { voices = e; nodes = refl; edges = refl; sink = refl; next = refl; events = refl; steals = refl; spawned = refl; config = refl }
+    record {
+      voices = e;
+      nodes = refl;
+      edges = refl;
+      sink = refl;
+      next = refl;
+      events = refl;
+      steals = refl;
+      spawned = refl;
+      config = refl;
+    }
 ready_same (Err r) l m vs e =
-    record { voices = e; nodes = refl; edges = refl; sink = refl; next = refl; events = refl; steals = refl; spawned = refl; config = refl }
+    record {
+      voices = e;
+      nodes = refl;
+      edges = refl;
+      sink = refl;
+      next = refl;
+      events = refl;
+      steals = refl;
+      spawned = refl;
+      config = refl;
+    }
 
 -- the clock is not among what `Sounded` says
 later : (m n : Model) (c : ℕ) → Sounded m n → Sounded m (record { shared = with_clock c n.shared; voices = n.voices })
@@ -114,7 +140,8 @@ sounded true m =
     let d = prepare_shared m.shared in
     let vs = moved_if (is_sounding (answer_after (prepare_outcome m.shared).answer d)) d.config.block m.voices in
     let same = voices_same (is_sounding (answer_after (prepare_outcome m.shared).answer d)) d.config.block m.voices in
-    later m (record { shared = d; voices = vs }) (d.clock + d.config.block) (ready_same (prepare_outcome m.shared).answer (prepare_outcome m.shared).order m vs same)
+    later m (record { shared = d; voices = vs }) (d.clock + d.config.block)
+    (ready_same (prepare_outcome m.shared).answer (prepare_outcome m.shared).order m vs same)
 sounded false m =
     record {
       voices = voices_same (is_sounding (heard (sounding m.shared))) m.shared.config.block m.voices;
@@ -135,10 +162,12 @@ render_takes out m a =
       due = q;
       left = (rested m).shared.events;
       are_due =
-          filter_without (λ (e : Event). block_end m ≤ e.time) (λ e. ltb e.time (block_end m)) (λ e h l. let k = ltb-true _ _ h in omega arith) (λ e h. ltb-false _ _ h)
+          filter_without (λ (e : Event). block_end m ≤ e.time) (λ e. ltb e.time (block_end m))
+          (λ e h l. let k = ltb-true _ _ h in omega arith) (λ e h. ltb-false _ _ h)
           m.shared.events;
       are_left =
-          filter_without (λ (e : Event). e.time < block_end m) (λ e. not (ltb e.time (block_end m))) (λ e h l. let k = ltb-false _ _ (not_true _ h) in omega arith)
+          filter_without (λ (e : Event). e.time < block_end m) (λ e. not (ltb e.time (block_end m)))
+          (λ e h l. let k = ltb-false _ _ (not_true _ h) in omega arith)
           (λ e h. ltb-true _ _ (not_false _ h)) m.shared.events;
       store = apply_events q (rested m);
       became = became q (rested m);
@@ -146,7 +175,11 @@ render_takes out m a =
       says = (render m).answer;
       answer =
           answer_by out m None (open_to out m a)
-          ∙ ap (λ (k : ℕ). call.rendered (render m).answer (length q) (outcomes q (rested m) ++ drop k out)) (many q (rested m))
-          ∙ ap (λ (l : List ℕ). call.rendered (render m).answer (length q) (l ++ drop (length q) out)) (numbers q (rested m));
-      sounded = subst (Sounded (apply_events q (rested m))) (sym (after_by out m None (open_to out m a))) (sounded (any_free q) (apply_events q (rested m)));
+          ∙ ap (λ (k : ℕ). call.rendered (render m).answer (length q) (outcomes q (rested m) ++ drop k out))
+          (many q (rested m))
+          ∙ ap (λ (l : List ℕ). call.rendered (render m).answer (length q) (l ++ drop (length q) out))
+          (numbers q (rested m));
+      sounded =
+          subst (Sounded (apply_events q (rested m))) (sym (after_by out m None (open_to out m a)))
+          (sounded (any_free q) (apply_events q (rested m)));
     }

@@ -31,13 +31,19 @@ module _ (out : List ℕ) (m : Model) where
   pub ended : 18446744073709551615 < block_end m → render_refusal m.shared (length out) ≡ Some ClockEnd
   ended h = let e : clock_ends m.shared ≡ true = lt-ltb _ _ h in rw e
 
-  pub short : block_end m ≤ 18446744073709551615 → length out < 256 → render_refusal m.shared (length out) ≡ Some ShortBuffer
-  short h k = let e : clock_ends m.shared ≡ false = le-ltb _ _ h in let f : ltb (length out) 256 ≡ true = lt-ltb _ _ k in rw (e, f)
+  pub short : block_end m ≤ 18446744073709551615 → length out < 256
+      → render_refusal m.shared (length out) ≡ Some ShortBuffer
+  short h k =
+      let e : clock_ends m.shared ≡ false = le-ltb _ _ h in
+      let f : ltb (length out) 256 ≡ true = lt-ltb _ _ k in rw (e, f)
 
   pub open_to : Accepted out m → render_refusal m.shared (length out) ≡ None
-  open_to a = let e : clock_ends m.shared ≡ false = le-ltb _ _ a.clock in let f : ltb (length out) 256 ≡ false = le-ltb _ _ a.room in rw (e, f)
+  open_to a =
+      let e : clock_ends m.shared ≡ false = le-ltb _ _ a.clock in
+      let f : ltb (length out) 256 ≡ false = le-ltb _ _ a.room in rw (e, f)
 
-  pub step_is : (o : Option Refusal) → render_refusal m.shared (length out) ≡ o → step (call.render out) m ≡ render_step o out m
+  pub step_is : (o : Option Refusal) → render_refusal m.shared (length out) ≡ o
+      → step (call.render out) m ≡ render_step o out m
   step_is o e = ap (λ o. render_step o out m) e
 
   pub data Case : Type 0 where
@@ -54,21 +60,26 @@ module _ (out : List ℕ) (m : Model) where
       go false e false f = at_open (record { clock = ltb-false _ _ e; room = ltb-false _ _ f })
 
   -- what it answers, and the store after it
-  pub answer_by : (o : Option Refusal) → render_refusal m.shared (length out) ≡ o → answered out m ≡ (render_step o out m).answer
+  pub answer_by : (o : Option Refusal) → render_refusal m.shared (length out) ≡ o
+      → answered out m ≡ (render_step o out m).answer
   answer_by o e = ap (λ (s : Step). s.answer) (step_is o e)
 
-  pub after_by : (o : Option Refusal) → render_refusal m.shared (length out) ≡ o → after out m ≡ (render_step o out m).model
+  pub after_by : (o : Option Refusal) → render_refusal m.shared (length out) ≡ o
+      → after out m ≡ (render_step o out m).model
   after_by o e = ap (λ (s : Step). s.model) (step_is o e)
 
   not_refused_here : (r : Refusal) → Accepted out m → answered out m ≡ refusing r out → ⊥
-  not_refused_here r a h = not_refused (any_free (due m.shared)) (apply_events (due m.shared) (rested m)) r (told_alike (sym (answer_by None (open_to a)) ∙ h))
+  not_refused_here r a h =
+      not_refused (any_free (due m.shared)) (apply_events (due m.shared) (rested m)) r
+      (told_alike (sym (answer_by None (open_to a)) ∙ h))
 
   fifteen_to : Case → answered out m ≡ refusing ClockEnd out → 18446744073709551615 < block_end m
   fifteen_to (at_end h) p = h
   fifteen_to (at_short h k) p = absurd (clock_short (told_alike (sym p ∙ answer_by (Some ShortBuffer) (short h k))))
   fifteen_to (at_open a) p = absurd (not_refused_here ClockEnd a p)
 
-  seventeen_to : Case → answered out m ≡ refusing ShortBuffer out → (block_end m ≤ 18446744073709551615) × (length out < 256)
+  seventeen_to : Case → answered out m ≡ refusing ShortBuffer out
+      → (block_end m ≤ 18446744073709551615) × (length out < 256)
   seventeen_to (at_end h) p = absurd (clock_short (told_alike (sym (answer_by (Some ClockEnd) (ended h)) ∙ p)))
   seventeen_to (at_short h k) p = (h, k)
   seventeen_to (at_open a) p = absurd (not_refused_here ShortBuffer a p)

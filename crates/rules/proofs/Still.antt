@@ -23,7 +23,9 @@ use Rattle.model.specs.SharedState.{SharedState, sounding}
 use Rattle.model.specs.Voice.{is_voice, id}
 use Rattle.model.specs.Order.{takes, order, order_node, order_param, order_voice}
 use Rattle.model.specs.Model.{Model, free, freed}
-use Rattle.model.specs.Render.{is_free, apply_event, apply_events, any_free, prepare_outcome, prepare_shared, ready_shared, heard, answer_after, prepared_if, render, rested, due, block_of}
+use Rattle.model.specs.Render.{is_free, apply_event, apply_events, any_free, prepare_outcome}
+use Rattle.model.specs.Render.{prepare_shared, ready_shared, heard}
+use Rattle.model.specs.Render.{answer_after, prepared_if, render, rested, due, block_of}
 
 -- all but the graph and the voices is the same
 pub record Still (d e : SharedState) : Type 0 where
@@ -38,7 +40,13 @@ still d = record { config = refl; events = refl; steals = refl; clock = refl; sp
 
 pub then : {c d e : SharedState} → Still c d → Still d e → Still c e
 then a b =
-    record { config = a.config ∙ b.config; events = a.events ∙ b.events; steals = a.steals ∙ b.steals; clock = a.clock ∙ b.clock; spawned = a.spawned ∙ b.spawned }
+    record {
+      config = a.config ∙ b.config;
+      events = a.events ∙ b.events;
+      steals = a.steals ∙ b.steals;
+      clock = a.clock ∙ b.clock;
+      spawned = a.spawned ∙ b.spawned;
+    }
 
 module _ (o : LastOrder) (d : SharedState) where
   node_still : (x : Option Node) → Still (order_node x o d).shared d
@@ -57,7 +65,8 @@ module _ (o : LastOrder) (d : SharedState) where
   voice_still None name = still d
   voice_still (Some v) name = param_still (param_node (param_rows v.params) name) v
 
-pub order_still : (w : VoiceId) (name : Name) (o : LastOrder) (vs : List Voice) (d : SharedState) → Still (order w name o vs d).shared d
+pub order_still : (w : VoiceId) (name : Name) (o : LastOrder) (vs : List Voice) (d : SharedState)
+    → Still (order w name o vs d).shared d
 order_still w name o vs d = voice_still o d (find (is_voice w) vs) name
 
 freed_still : (x : Option Voice) (m : Model) → Still (freed x m).shared m.shared
@@ -89,7 +98,8 @@ prepare_still d = ready_still (prepare_outcome d).answer (prepare_outcome d).ord
 pub block_clock : (b : Bool) (m : Model) → (prepared_if b m).model.shared.clock ≡ m.shared.clock + m.shared.config.block
 block_clock true m =
     let s = prepare_still m.shared in
-    ap (λ c. c + (prepare_shared m.shared).config.block) s.clock ∙ ap (λ (c : Config). m.shared.clock + c.block) s.config
+    ap (λ c. c + (prepare_shared m.shared).config.block) s.clock
+    ∙ ap (λ (c : Config). m.shared.clock + c.block) s.config
 block_clock false m = refl
 
 pub block_events : (b : Bool) (m : Model) → (prepared_if b m).model.shared.events ≡ m.shared.events

@@ -85,6 +85,12 @@ pub record Exactly (m : Model) (w : VoiceId) (name : Name) (o : LastOrder) (a : 
   pub three : (a ≡ NotTaken) ↔ Refusing m w name o
   pub zero : (a ≡ Applied) ↔ Taking m w name o
 
+-- of every order, called or timed
+abbrev pub ToldExactly : Type 0
+ToldExactly =
+    (m : Model) (w : VoiceId) (name : Name) (o : LastOrder) (r : Model) (a : Outcome)
+    → Ordering m w name o r a → Exactly m w name o a
+
 -- what a direct call of it does
 pub record OrderRule (w : VoiceId) (name : List ℕ) (o : LastOrder) (m : Model) : Type 0 where
   pub outcome : Outcome

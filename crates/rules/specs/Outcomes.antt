@@ -69,6 +69,9 @@ pub record FreeExactly (m : Model) (w : VoiceId) (a : Outcome) : Type 0 where
   pub zero : (a ≡ Applied) ↔ ((v : Voice) × In v m.voices × Is w v)
   pub either : (a ≡ NoVoice) ⊎ (a ≡ Applied)
 
+abbrev pub FreedExactly : Type 0
+FreedExactly = (m : Model) (w : VoiceId) (r : Model) (a : Outcome) → Freeing m w r a → FreeExactly m w a
+
 -- what a direct call of it does
 pub record FreeRule (w : VoiceId) (m : Model) : Type 0 where
   pub outcome : Outcome

@@ -38,7 +38,8 @@ pub record RenderRule (out : List ℕ) (m : Model) : Type 0 where
   -- 15 exactly when the clock would pass 2^64 - 1; 17 exactly when it would not and the list is shorter than 256
   -- entries
   pub fifteen : (answered out m ≡ refusing ClockEnd out) ↔ (18446744073709551615 < block_end m)
-  pub seventeen : (answered out m ≡ refusing ShortBuffer out) ↔ ((block_end m ≤ 18446744073709551615) × (length out < 256))
+  pub seventeen : (answered out m ≡ refusing ShortBuffer out)
+      ↔ ((block_end m ≤ 18446744073709551615) × (length out < 256))
   pub unchanged : (Accepted out m → ⊥) → after out m ≡ m
   -- and else it is not refused, whatever the graph is and whatever is due, and the clock goes on by a block
   pub answers : Accepted out m → Answered out m

@@ -28,3 +28,6 @@ pub record Holds (m : Bool) (b : NodeId) (p : Float) (r : ℕ) (d : SynthDef) (w
   pub pan : w.pan ≡ p
   pub rank : w.rank ≡ r
   pub def : w.def ≡ d
+
+abbrev pub HoldsAll : Type 0
+HoldsAll = (m : Bool) (b : NodeId) (p : Float) (r : ℕ) (d : SynthDef) → Holds m b p r d (wish_for m b p r d)
