@@ -53,6 +53,7 @@ use Rattle.model.specs.Call.{Call, Answer, Step, step, run, unless, schedule_ref
 use Rattle.model.specs.Call as call
 use Rattle.rules.specs.Left.{Without, No}
 use Rattle.rules.specs.Render.{block_end, Accepted, after}
+use Rattle.rules.specs.Events.{InOrder, Queue, QueueAlways}
 use Rattle.rules.specs.Events.{Sort, value, glide, Named, Sets, Replaces, Full}
 use Rattle.rules.specs.Events.{Placed, pending, Schedules, Takes, Pending, PendingAlways}
 use Rattle.rules.proofs.Left.{filter_without}
@@ -407,3 +408,12 @@ queued_made k m e = go (refusal_of k) e
 pub pending_always : PendingAlways
 pending_always k m e xs x =
     let g = queued_run xs m (queued_made k m e) in events_after x (run xs m).model g.order g.fits
+
+in_order : (q : List Event) → Sorted q → InOrder q
+in_order [] s = tt
+in_order (e ∷ q) s = (s.0, in_order q s.1)
+
+pub queue_always : QueueAlways
+queue_always k m e xs =
+    let g = queued_run xs m (queued_made k m e) in
+    record { order = in_order (run xs m).model.shared.events g.order; fits = g.fits }

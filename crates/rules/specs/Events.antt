@@ -84,6 +84,19 @@ Pending (call.schedule t w name a) m =
 Pending (call.render out) m = Takes out m (step (call.render out) m).model.shared.events
 Pending x m = (step x m).model.shared.events ≡ m.shared.events
 
--- after every list of calls on a newly made store, of every next call
+-- ---- no pending event is later than one behind it
+abbrev pub InOrder : List Event → Type 0
+InOrder [] = Unit {0}
+InOrder (e ∷ q) = ((f : Event) → In f q → e.time ≤ f.time) × InOrder q
+
+pub record Queue (q : List Event) : Type 0 where
+  pub order : InOrder q
+  pub fits : length q ≤ 256
+
+-- ---- after every list of calls on a newly made store
+abbrev pub QueueAlways : Type 0
+QueueAlways = (k : Making) (m : Model) → make k ≡ Some m → (xs : List Call) → Queue (run xs m).model.shared.events
+
+-- and of every next call
 abbrev pub PendingAlways : Type 0
 PendingAlways = (k : Making) (m : Model) → make k ≡ Some m → (xs : List Call) (x : Call) → Pending x (run xs m).model
