@@ -1,7 +1,7 @@
 -- What the events of a render do, one after the other, and what each is told as: SPEC 8.4 and 8.5; and what a free
 -- does, called or timed: SPEC 13.1.
-use Rattle.std.specs.Prelude.{ℕ, ◌≤◌, ◌<◌, ◌≡◌, ◌⊎◌, ◌↔◌, List, [], ◌∷◌, ◌++◌, map, replicate, length, drop, false}
-use Rattle.std.specs.Prelude.{Option, None, Some}
+use Rattle.std.specs.Prelude.{ℕ, ◌+◌, min, ◌≤◌, ◌<◌, ◌≡◌, ◌⊎◌, ◌↔◌, List, [], ◌∷◌, ◌++◌, map, replicate, length, drop}
+use Rattle.std.specs.Prelude.{true, false, Option, None, Some}
 use Rattle.lists.specs.Member.{In}
 use Rattle.node.specs.declared.name.Name.{Name}
 use Rattle.node.specs.declared.order.EventAction.{EventAction}
@@ -11,6 +11,7 @@ use Rattle.node.specs.declared.record.Edge.{Edge}
 use Rattle.node.specs.declared.record.Node.{Node}
 use Rattle.node.specs.declared.record.NodeId.{NodeId}
 use Rattle.node.specs.declared.record.VoiceId.{VoiceId}
+use Rattle.node.specs.declared.refusal.Refusal.{Refusal}
 use Rattle.scheduler.specs.declared.event.Event.{Event}
 use Rattle.store.specs.declared.answer.Outcome.{Outcome}
 use Rattle.store.specs.declared.answer.Outcome.TheVariants.{Applied, NoVoice, NoParameter, NotTaken}
@@ -106,39 +107,60 @@ number NoVoice = 1
 number NoParameter = 2
 number NotTaken = 3
 
--- a voice but for the position of its fade
-abbrev pub unmoved_state : VoiceState → VoiceState
-unmoved_state Tracked = Tracked
-unmoved_state (Fading f) = Fading (record f { position = 0 })
-unmoved_state Loose = Loose
+-- it has a sink, and is prepared
+pub record Sounds (m : Model) : Type 0 where
+  pub prepared : m.shared.graph.prepared ≡ true
+  pub sink : NodeId
+  pub is : m.shared.graph.sink ≡ Some sink
 
-abbrev pub unmoved : Voice → Voice
-unmoved v = record v { state = unmoved_state v.state }
+-- what a block is on the store m, if nothing failed before it
+pub data Hears (m : Model) : Rendered → Type 0 where
+  sounding : Sounds m → Hears m Rendered.Sounding
+  silent : (Sounds m → ⊥) → Hears m Rendered.Silent
 
--- the store r is what the events left, m, after the block: fades may have moved, the graph may have been prepared,
--- and the clock has gone on
-pub record Sounded (m r : Model) : Type 0 where
-  pub voices : map unmoved r.voices ≡ map unmoved m.voices
-  pub nodes : r.shared.graph.nodes ≡ m.shared.graph.nodes
-  pub edges : r.shared.graph.edges ≡ m.shared.graph.edges
-  pub sink : r.shared.graph.sink ≡ m.shared.graph.sink
-  pub next : r.shared.graph.next ≡ m.shared.graph.next
-  pub events : r.shared.events ≡ m.shared.events
-  pub steals : r.shared.steals ≡ m.shared.steals
-  pub spawned : r.shared.spawned ≡ m.shared.spawned
-  pub config : r.shared.config ≡ m.shared.config
+abbrev pub IsFree : Event → Type 0
+IsFree e = e.action ≡ action.Free
 
--- What a render does with the events, if it is not refused: those before the end of its block are due; they are
--- taken, all of them, and happen in their order; and the list begins with the number of what became of each, and is
--- as it was from there on.
+-- The events q left the store m; the block is on the store s. A free among them, of a voice that was there or not,
+-- prepares, as the call does; if that fails the render answers so, and is not refused.
+pub data Prepares (q : List Event) (m : Model) : Model → Rendered → Type 0 where
+  as_it_was : {a : Rendered} → No IsFree q → Hears m a → Prepares q m m a
+  prepared : {a : Rendered} (e : Event) → In e q → IsFree e → (step call.prepare m).answer ≡ call.done
+      → Hears (step call.prepare m).model a → Prepares q m (step call.prepare m).model a
+  failed : (e : Event) → In e q → IsFree e → (r : Refusal) → (step call.prepare m).answer ≡ call.refused r
+      → Prepares q m m (Rendered.Unprepared r)
+
+-- a fade is so many samples further, and stays at 2^64 - 1
+abbrev pub further_state : ℕ → VoiceState → VoiceState
+further_state block Tracked = Tracked
+further_state block (Fading f) = Fading (record f { position = min (f.position + block) 18446744073709551615 })
+further_state block Loose = Loose
+
+abbrev pub further : ℕ → Voice → Voice
+further block v = record v { state = further_state block v.state }
+
+-- the fades move exactly if the block sounds
+abbrev pub after_block : Rendered → ℕ → List Voice → List Voice
+after_block Rendered.Sounding block vs = map (further block) vs
+after_block a block vs = vs
+
+-- What a render does, if it is not refused. The events before the end of its block are due: they are taken, all of
+-- them, and happen in their order; the list begins with the number of what became of each, and is as it was from
+-- there on. Then comes the block: fades move if it sounds, the clock goes on, and nothing else changes.
 pub record RenderTakes (out : List ℕ) (m : Model) : Type 0 where
   pub due : List Event
   pub left : List Event
   pub are_due : Without (λ (e : Event). block_end m ≤ e.time) m.shared.events due
   pub are_left : Without (λ (e : Event). e.time < block_end m) m.shared.events left
-  pub store : Model
+  pub applied : Model
   pub became : List Outcome
-  pub happen : Happen due (pending left m) store became
+  pub happen : Happen due (pending left m) applied became
+  pub ready : Model
   pub says : Rendered
+  pub prepares : Prepares due applied ready says
   pub answer : answered out m ≡ call.rendered says (length due) (map number became ++ drop (length due) out)
-  pub sounded : Sounded store (after out m)
+  pub block : after out m
+      ≡ record {
+        shared = record ready.shared { clock = block_end m };
+        voices = after_block says m.shared.config.block ready.voices;
+      }
