@@ -3,28 +3,27 @@
 use Prim.Native.Nat.{ℕ, zero, suc, ◌≤◌, ◌<◌}
 use native.Mathlib.Omega.{arith}
 use mathlib.Core.Path.{◌≡◌, refl, sym, ap, subst, ◌∙◌}
-use mathlib.Core.Logic.{◌⊎◌, inl, inr, ◌↔◌}
+use mathlib.Core.Logic.{inr}
 use mathlib.Core.List.{List, [], ◌∷◌, ◌++◌}
-use mathlib.Core.Bool.{Bool, true, false, not, cond, ◌&&◌, false≢true}
+use mathlib.Core.Bool.{Bool, true, false, not, cond, false≢true}
 use lib.Dec.{leb, ltb}
 use lib.ListN.{length}
-use borrow.Author.Tests.{ltb-true, ltb-false, lt-ltb, le-ltb, leb-true, le-leb}
-use Rattle.std.specs.Prelude.{Option, None, Some, Result, Ok, Err, filter, find, Float}
+use borrow.Author.Tests.{ltb-true, ltb-false, lt-ltb, leb-true, le-leb}
+use Rattle.std.specs.Prelude.{Option, None, Some, Ok, Err, filter, find, Float}
 use Rattle.lists.specs.Member.{In}
-use Rattle.lists.proofs.Member.{some_inj, none_some, ok_err, and_left, and_right}
+use Rattle.lists.proofs.Member.{some_inj, none_some, ok_err}
 use Rattle.lists.proofs.Filter.{in_filter, filter_all, filter_none, length_filter}
-use Rattle.node.specs.Name.{name_length, named, name_of, text}
+use Rattle.node.specs.Name.{named, name_of, text}
 use Rattle.node.specs.declared.name.Name.{Name}
 use Rattle.node.specs.declared.order.EventAction.{EventAction}
 use Rattle.node.specs.declared.order.EventAction.TheVariants as action
-use Rattle.node.specs.declared.record.VoiceId.{VoiceId}
 use Rattle.node.specs.declared.refusal.Refusal.{Refusal}
 use Rattle.node.specs.declared.refusal.Refusal.TheVariants.{TableFull, NoPort, ClockEnd, ShortBuffer}
 use Rattle.node.specs.declared.record.Node.{Node}
 use Rattle.node.proofs.NameLaws.{name_long}
 use Rattle.graph.specs.Refuse.{when}
 use Rattle.scheduler.specs.Replace.{replaces, thinned}
-use Rattle.scheduler.specs.Queue.{later, replacing, full, queue_after, answer_to}
+use Rattle.scheduler.specs.Queue.{later, replacing, full}
 use Rattle.scheduler.specs.declared.event.Event.{Event}
 use Rattle.scheduler.proofs.Sorted.{Sorted, inserted_place, filter_sorted}
 use Rattle.scheduler.proofs.ReplaceLaws as queue
@@ -33,7 +32,6 @@ use Rattle.voice.specs.declared.policy.Admission.TheVariants as admission
 use Rattle.store.specs.declared.voices.Voice.{Voice}
 use Rattle.store.specs.declared.voices.VoiceState.{VoiceState}
 use Rattle.store.specs.declared.voices.VoiceState.TheVariants.{Loose}
-use Rattle.model.specs.SharedState.{SharedState}
 use Rattle.model.specs.Refuse.{spawn_refusal, report_refusal}
 use Rattle.model.specs.Spawn.{Spawn, tries, state_under, next_out}
 use Rattle.model.specs.Voice.{is_voice, feeder}
@@ -51,9 +49,9 @@ use Rattle.model.specs.Order.{report_node}
 use Rattle.model.specs.Render.{due, rested, any_free, apply_events}
 use Rattle.model.specs.Call.{Call, Answer, Step, step, run, unless, schedule_refusal}
 use Rattle.model.specs.Call as call
-use Rattle.rules.specs.Left.{Without, No}
+use Rattle.rules.specs.Left.{Without}
 use Rattle.rules.specs.Render.{block_end, Accepted, after}
-use Rattle.rules.specs.Events.{InOrder, Queue, QueueAlways}
+use Rattle.rules.specs.Events.{InOrder, QueueAlways}
 use Rattle.rules.specs.Events.{Sort, value, glide, Named, Sets, Replaces, Full}
 use Rattle.rules.specs.Events.{Placed, pending, Schedules, Takes, Pending, PendingAlways}
 use Rattle.rules.proofs.Left.{filter_without}
@@ -204,9 +202,9 @@ module _ (e : Event) (q : List Event) (fits : length q ≤ 256) where
             omega arith;
         none =
             λ g i r.
-                ok_err
-                (sym (queue.room_taken e q fits (inr (g, i, replaced_is e g r)))
-                ∙ ap (λ b. cond b (Err TableFull) (Ok tt)) h);
+            ok_err
+            (sym (queue.room_taken e q fits (inr (g, i, replaced_is e g r)))
+            ∙ ap (λ b. cond b (Err TableFull) (Ok tt)) h);
       }
 
 done_refused : {r : Refusal} → call.done ≡ call.refused r → ⊥

@@ -2,12 +2,11 @@
 use Prim.Native.Nat.{ℕ}
 use mathlib.Core.Path.{◌≡◌, refl, sym, ap, subst, ◌∙◌}
 use mathlib.Core.Logic.{◌⊎◌, inl, inr}
-use mathlib.Core.List.{List, map}
+use mathlib.Core.List.{List}
 use mathlib.Core.Bool.{Bool, true, false, not, cond, ◌||◌, false≢true}
 use lib.Dec.{eqb}
 use borrow.Author.Tests.{eqb-true, eqb-false, eq-eqb}
 use Rattle.std.specs.Prelude.{Option, None, Some, find, filter, is_some}
-use Rattle.lists.specs.Member.{In}
 use Rattle.lists.specs.Find.{filter_o}
 use Rattle.lists.proofs.Member.{in_map, in_of_map}
 use Rattle.lists.proofs.Filter.{in_filter, filter_in}
@@ -23,11 +22,9 @@ use Rattle.store.specs.declared.voices.Voice.{Voice}
 use Rattle.model.specs.Voice.{is_voice}
 use Rattle.model.specs.Model.{Model, without_voice, freed, free}
 use Rattle.model.specs.Order.{free_outcome}
-use Rattle.rules.specs.Left.{Without, No}
 use Rattle.rules.specs.Orders.{Is}
 use Rattle.rules.specs.Outcomes.{Its, Sink, Gone, Freeing, unknown, known, FreeRule, FreeExactly}
 use Rattle.store.specs.declared.answer.Outcome.{Outcome}
-use Rattle.store.specs.declared.answer.Outcome.TheVariants.{Applied, NoVoice}
 use Rattle.rules.proofs.Left.{filter_without, find_no}
 use Rattle.rules.proofs.EventLaws.{not_true, not_false}
 use Rattle.rules.proofs.OrderLaws.{is_yes, is_no}

@@ -2,8 +2,8 @@
 use mathlib.Core.Path.{◌≡◌, refl, sym, ap, subst, ◌∙◌}
 use mathlib.Core.Logic.{inl, inr}
 use mathlib.Core.List.{List, [], ◌∷◌, ◌++◌}
-use mathlib.Core.Bool.{Bool, true, false, not}
-use Rattle.std.specs.Prelude.{Option, None, Some, cond, filter, find}
+use mathlib.Core.Bool.{Bool, true, false}
+use Rattle.std.specs.Prelude.{None, Some, cond, filter, find}
 use Rattle.lists.specs.Member.{In}
 use Rattle.lists.proofs.Find.{find_none}
 use Rattle.lists.proofs.Member.{some_inj, none_some, in_right}

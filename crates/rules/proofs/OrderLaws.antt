@@ -2,21 +2,18 @@
 use Prim.Native.Nat.{ℕ, ◌+◌, ◌-◌, ◌≤◌}
 use native.Mathlib.Omega.{arith}
 use mathlib.Core.Path.{◌≡◌, refl, sym, ap, subst, ◌∙◌}
-use mathlib.Core.Logic.{◌↔◌}
-use mathlib.Core.List.{List, ◌++◌}
-use mathlib.Core.Bool.{Bool, true, false, ◌&&◌, cond, false≢true}
-use lib.Dec.{eqb, leb}
-use lib.ListN.{length, take, replicate}
+use mathlib.Core.List.{List}
+use mathlib.Core.Bool.{Bool, true, false, false≢true}
+use lib.Dec.{leb}
+use lib.ListN.{length, replicate}
 use lib.Seq.{take-append_seam}
-use borrow.Author.Tests.{eqb-true, eqb-false, leb-true, le-leb}
+use borrow.Author.Tests.{eqb-true, eqb-false, le-leb}
 use Rattle.std.specs.Prelude.{Option, None, Some, find, option_map}
-use Rattle.lists.specs.Member.{In}
 use Rattle.lists.proofs.Member.{some_inj, none_some}
-use Rattle.node.specs.Name.{name_length, named, name_of, text}
+use Rattle.node.specs.Name.{name_length, name_of}
 use Rattle.node.specs.declared.name.Name.{Name}
 use Rattle.node.specs.declared.order.LastOrder.{LastOrder}
 use Rattle.node.specs.declared.record.Node.{Node}
-use Rattle.node.specs.declared.record.NodeId.{NodeId}
 use Rattle.node.specs.declared.record.VoiceId.{VoiceId}
 use Rattle.node.proofs.NameLaws.{name_long, same_to, same_from}
 use Rattle.graph.specs.Node.{is_node, node_at}
@@ -24,13 +21,11 @@ use Rattle.synthdef.specs.Tables.{param_rows}
 use Rattle.synthdef.specs.Params.{called}
 use Rattle.synthdef.specs.declared.def.Param.{Param}
 use Rattle.store.specs.declared.answer.Outcome.{Outcome}
-use Rattle.store.specs.declared.answer.Outcome.TheVariants.{Applied, NoVoice, NoParameter, NotTaken}
 use Rattle.store.specs.declared.voices.Voice.{Voice}
 use Rattle.model.specs.Voice.{is_voice, id}
 use Rattle.model.specs.Model.{Model}
 use Rattle.model.specs.Order.{Ordered, takes, order, order_node, order_param, order_voice}
 use Rattle.rules.specs.Left.{First, No}
-use Rattle.rules.specs.Events.{Named}
 use Rattle.rules.specs.Orders.{Is, Called, Takes, Unknown, Nameless, Refusing, Taking, Exactly, OrderRule, NameRule}
 use Rattle.rules.specs.Orders.{Ordering, no_voice, no_parameter, not_taken, applied}
 use Rattle.rules.proofs.Left.{find_first, find_no, first_find, first_same, first_in}

@@ -1,12 +1,12 @@
 -- The events of a render, one after the other.
 use Prim.Native.Nat.{ℕ, suc, ◌+◌}
-use mathlib.Core.Path.{◌≡◌, refl, sym, ap, subst, ◌∙◌}
+use mathlib.Core.Path.{◌≡◌, refl, sym, ap, ◌∙◌}
 use mathlib.Core.List.{List, [], ◌∷◌, ◌++◌, map}
 use mathlib.Core.Bool.{Bool, true, false, not, ◌&&◌, ◌||◌, false≢true}
 use mathlib.Core.Logic.{inl, inr}
 use lib.Dec.{ltb}
 use lib.ListN.{length, drop}
-use borrow.Author.Tests.{ltb-true, ltb-false, lt-ltb, le-ltb}
+use borrow.Author.Tests.{ltb-true, ltb-false}
 use native.Mathlib.Omega.{arith}
 use Rattle.std.specs.Prelude.{◌≤◌, ◌<◌, Option, None, Some, Result, Ok, Err, is_some}
 use Rattle.node.specs.declared.name.Name.{Name}
@@ -36,9 +36,8 @@ use Rattle.lists.specs.Member.{In}
 use Rattle.lists.proofs.Member.{map_same, none_some}
 use Rattle.store.specs.declared.answer.Rendered.{Rendered}
 use Rattle.store.specs.declared.config.Config.{Config}
-use Rattle.rules.specs.Left.{Without, No}
-use Rattle.rules.specs.Render.{block_end, Accepted, after}
-use Rattle.rules.specs.Events.{pending}
+use Rattle.rules.specs.Left.{No}
+use Rattle.rules.specs.Render.{block_end, Accepted}
 use Rattle.rules.specs.Outcomes.{Does, Happens, Happen, none, next, number}
 use Rattle.rules.specs.Outcomes.{Hears, silent, IsFree, Prepares, as_it_was, prepared, failed}
 use Rattle.rules.specs.Outcomes.{further, further_state, after_block, RenderTakes}

@@ -1,8 +1,6 @@
 -- The refusals of a render, one by one.
 use Prim.Native.Nat.{ℕ, ◌+◌, ◌≤◌, ◌<◌}
-use native.Mathlib.Omega.{arith}
 use mathlib.Core.Path.{◌≡◌, refl, sym, ap, ◌∙◌}
-use mathlib.Core.Logic.{◌↔◌}
 use mathlib.Core.List.{List}
 use mathlib.Core.Bool.{Bool, true, false}
 use lib.Dec.{ltb}
@@ -17,7 +15,7 @@ use Rattle.model.specs.Model.{Model}
 use Rattle.model.specs.Render.{clock_ends, render_refusal, render, due, rested, apply_events, any_free}
 use Rattle.model.specs.Call.{Answer, Step, step, render_step}
 use Rattle.model.specs.Call as call
-use Rattle.rules.specs.Render.{block_end, Accepted, answered, after, refusing, Answered, RenderRule}
+use Rattle.rules.specs.Render.{block_end, Accepted, answered, after, refusing, RenderRule}
 use Rattle.rules.proofs.Still.{events_still, block_clock, not_refused}
 
 told_alike : {a b : Rendered} {i j : ℕ} {k l : List ℕ} → call.rendered a i k ≡ call.rendered b j l → a ≡ b

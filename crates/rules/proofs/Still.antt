@@ -1,8 +1,8 @@
 -- What the events of a render leave alone, and what the block after them does.
 use Prim.Native.Nat.{ℕ, ◌+◌}
-use mathlib.Core.Path.{◌≡◌, refl, sym, ap, ◌∙◌}
+use mathlib.Core.Path.{◌≡◌, refl, ap, ◌∙◌}
 use mathlib.Core.List.{List, [], ◌∷◌}
-use mathlib.Core.Bool.{Bool, true, false, cond}
+use mathlib.Core.Bool.{Bool, true, false}
 use Rattle.std.specs.Prelude.{Option, None, Some, Result, Ok, Err, find}
 use Rattle.node.specs.declared.name.Name.{Name}
 use Rattle.node.specs.declared.order.LastOrder.{LastOrder}
@@ -15,7 +15,6 @@ use Rattle.scheduler.specs.Event.{param_order}
 use Rattle.scheduler.specs.declared.event.Event.{Event}
 use Rattle.synthdef.specs.Tables.{param_rows}
 use Rattle.synthdef.specs.Params.{param_node}
-use Rattle.voice.specs.Steals.{StealLog}
 use Rattle.store.specs.declared.config.Config.{Config}
 use Rattle.store.specs.declared.answer.Rendered.{Rendered}
 use Rattle.store.specs.declared.voices.Voice.{Voice}
@@ -23,9 +22,9 @@ use Rattle.model.specs.SharedState.{SharedState, sounding}
 use Rattle.model.specs.Voice.{is_voice, id}
 use Rattle.model.specs.Order.{takes, order, order_node, order_param, order_voice}
 use Rattle.model.specs.Model.{Model, free, freed}
-use Rattle.model.specs.Render.{is_free, apply_event, apply_events, any_free, prepare_outcome}
+use Rattle.model.specs.Render.{is_free, apply_event, apply_events, prepare_outcome}
 use Rattle.model.specs.Render.{prepare_shared, ready_shared, heard}
-use Rattle.model.specs.Render.{answer_after, prepared_if, render, rested, due, block_of}
+use Rattle.model.specs.Render.{answer_after, prepared_if}
 
 -- all but the graph and the voices is the same
 pub record Still (d e : SharedState) : Type 0 where

@@ -1,6 +1,5 @@
 -- The call of a wish, and the scenes.
-use mathlib.Core.Path.{◌≡◌, refl}
-use mathlib.Core.Bool.{Bool, true, false}
+use mathlib.Core.Path.{refl}
 use lib.Ieee.{eq}
 use Rattle.rank.specs.Order as rank
 use Rattle.rules.specs.WishScenes.{ConsoleScene, BoardScene}

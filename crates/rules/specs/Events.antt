@@ -1,11 +1,10 @@
 -- What is pending after a call, and when scheduling is refused: SPEC 8.2 to 8.4.
-use Rattle.std.specs.Prelude.{ℕ, ◌+◌, ◌≤◌, ◌<◌, ◌≡◌, ◌↔◌, List, [], ◌∷◌, ◌++◌, length, Some}
+use Rattle.std.specs.Prelude.{ℕ, ◌≤◌, ◌<◌, ◌≡◌, ◌↔◌, List, [], ◌∷◌, ◌++◌, length, Some}
 use Rattle.lists.specs.Member.{In}
 use Rattle.node.specs.Name.{name_of, text}
 use Rattle.node.specs.declared.name.Name.{Name}
 use Rattle.node.specs.declared.order.EventAction.{EventAction}
 use Rattle.node.specs.declared.order.EventAction.TheVariants as action
-use Rattle.node.specs.declared.record.VoiceId.{VoiceId}
 use Rattle.node.specs.declared.refusal.Refusal.TheVariants.{TableFull}
 use Rattle.scheduler.specs.declared.event.Event.{Event}
 use Rattle.model.specs.Model.{Model}

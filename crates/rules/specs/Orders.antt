@@ -1,5 +1,5 @@
 -- What becomes of a value or a glide, set directly or by an event: SPEC 8.1 and 8.5.
-use Rattle.std.specs.Prelude.{ℕ, ◌+◌, ◌≤◌, ◌≡◌, ◌↔◌, List, map, length, Bool, true, cond, eqb}
+use Rattle.std.specs.Prelude.{ℕ, ◌+◌, ◌≤◌, ◌≡◌, ◌↔◌, List, map, length, true, cond, eqb}
 use Rattle.node.specs.Name.{name_of, text}
 use Rattle.node.specs.declared.name.Name.{Name}
 use Rattle.node.specs.declared.order.LastOrder.{LastOrder}

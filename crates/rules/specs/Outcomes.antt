@@ -16,7 +16,6 @@ use Rattle.scheduler.specs.declared.event.Event.{Event}
 use Rattle.store.specs.declared.answer.Outcome.{Outcome}
 use Rattle.store.specs.declared.answer.Outcome.TheVariants.{Applied, NoVoice, NoParameter, NotTaken}
 use Rattle.store.specs.declared.answer.Rendered.{Rendered}
-use Rattle.store.specs.declared.voices.Fade.{Fade}
 use Rattle.store.specs.declared.voices.Voice.{Voice}
 use Rattle.store.specs.declared.voices.VoiceState.{VoiceState}
 use Rattle.store.specs.declared.voices.VoiceState.TheVariants.{Tracked, Fading, Loose}
@@ -24,7 +23,7 @@ use Rattle.model.specs.Model.{Model}
 use Rattle.model.specs.Call.{Call, step}
 use Rattle.model.specs.Call as call
 use Rattle.rules.specs.Left.{Without, No}
-use Rattle.rules.specs.Render.{block_end, Accepted, answered, after}
+use Rattle.rules.specs.Render.{block_end, answered, after}
 use Rattle.rules.specs.Events.{pending}
 use Rattle.rules.specs.Orders.{Is, Ordering}
 

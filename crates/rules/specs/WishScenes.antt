@@ -1,6 +1,5 @@
 -- Wishes with ranks and pans that are not 0, of a console and of a sealed board: SPEC 17 and 18.
-use Rattle.std.specs.Prelude.{ℕ, ◌≡◌, List, [], ◌∷◌, map, Bool, true, false, Some, Err, Ok}
-use Rattle.std.specs.Float.{inf}
+use Rattle.std.specs.Prelude.{ℕ, ◌≡◌, List, [], ◌∷◌, map, Bool, true, false, Err, Ok}
 use Rattle.node.specs.declared.refusal.Refusal.TheVariants.{Rejected}
 use Rattle.voice.specs.declared.policy.StealPolicy.TheVariants.{Oldest}
 use Rattle.store.specs.declared.voices.Voice.{Voice}
@@ -11,7 +10,7 @@ use Rattle.model.specs.Make.{new_model}
 use Rattle.model.specs.Call.{spawned}
 use Rattle.model.specs.Call as call
 use Rattle.console.specs.Wishes.{new_wishes}
-use Rattle.console.specs.Console.{Console, ConsoleCall, on, wish, turn, ConsoleAnswer}
+use Rattle.console.specs.Console.{Console, ConsoleCall, on, wish, turn}
 use Rattle.console.specs.Console.{plain, accepted, served, console_run}
 use Rattle.sealed.specs.declared.profile.Profile.{Profile}
 use Rattle.sealed.specs.Board.{Board, BoardCall, BoardAnswer, given, sealed, board_run, new_board}

@@ -4,7 +4,7 @@ use Rattle.node.specs.declared.record.NodeId.{NodeId}
 use Rattle.synthdef.specs.declared.def.SynthDef.{SynthDef}
 use Rattle.store.specs.declared.wish.Wish.{Wish}
 use Rattle.model.specs.Spawn.{Spawn}
-use Rattle.model.specs.Wish.{wish_for, call_of}
+use Rattle.model.specs.Wish.{wish_for}
 use Rattle.model.specs.Call.{Call}
 use Rattle.model.specs.Call as call
 
