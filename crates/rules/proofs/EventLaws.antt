@@ -29,12 +29,12 @@ use Rattle.scheduler.proofs.Sorted.{Sorted, inserted_place, filter_sorted}
 use Rattle.scheduler.proofs.ReplaceLaws as queue
 use Rattle.voice.specs.declared.policy.Admission.{Admission}
 use Rattle.voice.specs.declared.policy.Admission.TheVariants as admission
-use Rattle.store.specs.declared.voices.Voice.{Voice}
-use Rattle.store.specs.declared.voices.VoiceState.{VoiceState}
-use Rattle.store.specs.declared.voices.VoiceState.TheVariants.{Loose}
+use Rattle.voice.specs.declared.voices.Voice.{Voice}
+use Rattle.voice.specs.declared.voices.VoiceState.{VoiceState}
+use Rattle.voice.specs.declared.voices.VoiceState.TheVariants.{Loose}
 use Rattle.model.specs.Refuse.{spawn_refusal, report_refusal}
 use Rattle.model.specs.Spawn.{Spawn, tries, state_under, next_out}
-use Rattle.model.specs.Voice.{is_voice, feeder}
+use Rattle.voice.specs.Voice.{is_voice, feeder}
 use Rattle.edges.specs.Ports.{port_from}
 use Rattle.graph.specs.Node.{node_at}
 use Rattle.graph.specs.Refuse.{add_refusal, host_refusal, disconnect_refusal, connect_refusal}

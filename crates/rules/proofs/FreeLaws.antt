@@ -18,8 +18,8 @@ use Rattle.node.specs.declared.record.VoiceId.{VoiceId}
 use Rattle.edges.specs.Wiring.{among, touches}
 use Rattle.graph.specs.Node.{owned_by}
 use Rattle.graph.specs.Change.{ids_of}
-use Rattle.store.specs.declared.voices.Voice.{Voice}
-use Rattle.model.specs.Voice.{is_voice}
+use Rattle.voice.specs.declared.voices.Voice.{Voice}
+use Rattle.voice.specs.Voice.{is_voice}
 use Rattle.model.specs.Model.{Model, without_voice, freed, free}
 use Rattle.model.specs.Order.{free_outcome}
 use Rattle.rules.specs.Orders.{Is}

@@ -21,8 +21,8 @@ use Rattle.synthdef.specs.Tables.{param_rows}
 use Rattle.synthdef.specs.Params.{called}
 use Rattle.synthdef.specs.declared.def.Param.{Param}
 use Rattle.store.specs.declared.answer.Outcome.{Outcome}
-use Rattle.store.specs.declared.voices.Voice.{Voice}
-use Rattle.model.specs.Voice.{is_voice, id}
+use Rattle.voice.specs.declared.voices.Voice.{Voice}
+use Rattle.voice.specs.Voice.{is_voice, id}
 use Rattle.model.specs.Model.{Model}
 use Rattle.model.specs.Order.{Ordered, takes, order, order_node, order_param, order_voice}
 use Rattle.rules.specs.Left.{First, No}

@@ -19,11 +19,11 @@ use Rattle.node.specs.declared.refusal.Refusal.{Refusal}
 use Rattle.scheduler.specs.declared.event.Event.{Event}
 use Rattle.store.specs.declared.answer.Outcome.{Outcome}
 use Rattle.store.specs.declared.answer.Outcome.TheVariants.{Applied, NoVoice, NoParameter, NotTaken}
-use Rattle.store.specs.declared.voices.Voice.{Voice}
-use Rattle.store.specs.declared.voices.VoiceState.{VoiceState}
-use Rattle.store.specs.declared.voices.VoiceState.TheVariants.{Tracked, Fading, Loose}
+use Rattle.voice.specs.declared.voices.Voice.{Voice}
+use Rattle.voice.specs.declared.voices.VoiceState.{VoiceState}
+use Rattle.voice.specs.declared.voices.VoiceState.TheVariants.{Tracked, Fading, Loose}
 use Rattle.model.specs.SharedState.{SharedState, sounding, with_clock}
-use Rattle.model.specs.Voice.{moved, moved_state}
+use Rattle.voice.specs.Voice.{moved, moved_state}
 use Rattle.model.specs.Model.{Model}
 use Rattle.model.specs.Order.{outcome_number}
 use Rattle.model.specs.Render.{is_free, any_free, apply_event, apply_events, outcome_of, outcomes, moved_if, Heard}

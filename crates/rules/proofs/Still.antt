@@ -17,9 +17,9 @@ use Rattle.synthdef.specs.Tables.{param_rows}
 use Rattle.synthdef.specs.Params.{param_node}
 use Rattle.store.specs.declared.config.Config.{Config}
 use Rattle.store.specs.declared.answer.Rendered.{Rendered}
-use Rattle.store.specs.declared.voices.Voice.{Voice}
+use Rattle.voice.specs.declared.voices.Voice.{Voice}
 use Rattle.model.specs.SharedState.{SharedState, sounding}
-use Rattle.model.specs.Voice.{is_voice, id}
+use Rattle.voice.specs.Voice.{is_voice, id}
 use Rattle.model.specs.Order.{takes, order, order_node, order_param, order_voice}
 use Rattle.model.specs.Model.{Model, free, freed}
 use Rattle.model.specs.Render.{is_free, apply_event, apply_events, prepare_outcome}

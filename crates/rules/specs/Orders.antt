@@ -9,7 +9,7 @@ use Rattle.synthdef.specs.Tables.{param_rows}
 use Rattle.synthdef.specs.declared.def.Param.{Param}
 use Rattle.store.specs.declared.answer.Outcome.{Outcome}
 use Rattle.store.specs.declared.answer.Outcome.TheVariants.{Applied, NoVoice, NoParameter, NotTaken}
-use Rattle.store.specs.declared.voices.Voice.{Voice}
+use Rattle.voice.specs.declared.voices.Voice.{Voice}
 use Rattle.model.specs.Model.{Model}
 use Rattle.model.specs.Call.{Call, step}
 use Rattle.model.specs.Call as call

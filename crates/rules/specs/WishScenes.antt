@@ -2,9 +2,9 @@
 use Rattle.std.specs.Prelude.{ℕ, ◌≡◌, List, [], ◌∷◌, map, Bool, true, false, Err, Ok}
 use Rattle.node.specs.declared.refusal.Refusal.TheVariants.{Rejected}
 use Rattle.voice.specs.declared.policy.StealPolicy.TheVariants.{Oldest}
-use Rattle.store.specs.declared.voices.Voice.{Voice}
+use Rattle.voice.specs.declared.voices.Voice.{Voice}
 use Rattle.store.specs.declared.wish.Wish.{Wish}
-use Rattle.model.specs.Voice.{id, is_tracked}
+use Rattle.voice.specs.Voice.{id, is_tracked}
 use Rattle.model.specs.Scene.{tone_def, up_to, float, voice, host}
 use Rattle.model.specs.Make.{new_model}
 use Rattle.model.specs.Call.{spawned}
