@@ -1,0 +1,2 @@
+mod SilenceTable
+mod Plans
