@@ -1,2 +1,4 @@
-mod SilenceTable
+mod Booleans
 mod Plans
+mod SilenceTable
+mod Victims

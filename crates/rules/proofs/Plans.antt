@@ -36,20 +36,8 @@ use Rattle.store.specs.declared.voices.Voice.{Voice}
 use Rattle.model.specs.Voice.{id}
 use Rattle.model.specs.Spawn.{new_voice}
 use Rattle.model.specs.Clear.{done_flag, done_flags}
+use Rattle.rules.proofs.Booleans.{or_left, or_right, both}
 use Rattle.rules.specs.Silence.{Asked, Feeds, Falls, SilentBy, flag, flag_at, PlanAnswers, PlanLaw, SpawnedPlan}
-
-or_left : (a b : Bool) → a ≡ true → (a || b) ≡ true
-or_left a b h = rw h refl
-
-or_right : (a b : Bool) → b ≡ true → (a || b) ≡ true
-or_right true b h = refl
-or_right false b h = h
-
--- two answers of which each is yes where the other is
-both : (a b : Bool) → (a ≡ true → b ≡ true) → (b ≡ true → a ≡ true) → a ≡ b
-both true b f g = sym (f refl)
-both false true f g = g refl
-both false false f g = refl
 
 placed : (ns : List DefNode) (i : ℕ) (n : DefNode) → slice_get ns i ≡ Some n → i < length ns
 placed [] i n h = absurd (none_some h)

@@ -1,1 +1,2 @@
+pub mod Policy
 pub mod Silence
