@@ -1,4 +1,5 @@
 mod Booleans
+mod Limits
 mod Plans
 mod SilenceTable
 mod Victims

@@ -2,5 +2,6 @@
 //! take from one definition. Each law is the contract of a function that takes nothing and does nothing, so that a caller has it by a call.
 #![tactic(auto)]
 
+pub mod numbers;
 pub mod policy;
 pub mod silence;
