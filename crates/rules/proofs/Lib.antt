@@ -1,5 +1,9 @@
 mod Booleans
+mod Digits
+mod Firsts
 mod Limits
+mod Pages
 mod Plans
+mod Questions
 mod SilenceTable
 mod Victims

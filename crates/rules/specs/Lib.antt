@@ -1,3 +1,5 @@
+pub mod First
 pub mod Numbers
 pub mod Policy
+pub mod Reading
 pub mod Silence

@@ -4,4 +4,5 @@
 
 pub mod numbers;
 pub mod policy;
+pub mod reading;
 pub mod silence;

@@ -1,0 +1,31 @@
+-- What a search finds is the first row with the property that it tests.
+use mathlib.Core.Path.{◌≡◌, refl, sym, ap, ◌∙◌, subst}
+use mathlib.Core.Logic.{inl, inr}
+use mathlib.Core.List.{List, [], ◌∷◌, ◌++◌}
+use Rattle.std.specs.Prelude.{Option, None, Some, cond, find}
+use mathlib.Core.Bool.{Bool, true, false, false≢true}
+use Rattle.lists.specs.Member.{In}
+use Rattle.lists.proofs.Member.{some_inj, none_some}
+use Rattle.lists.proofs.Find.{find_none}
+use Rattle.rules.specs.First.{First}
+
+module _ {A : Type 0} (q : A → Bool) (P : A → Type 0) (to : (x : A) → q x ≡ true → P x) (back : (x : A) → P x → q x ≡ true) where
+  later : (y : A) (l : List A) (o : Option A) → (P y → ⊥) → First P l o → First P (y ∷ l) o
+  later y l None n f = go
+    where
+      go : (z : A) → In z (y ∷ l) → P z → ⊥
+      go z (inl p) h = n (subst P p h)
+      go z (inr i) h = f z i h
+  later y l (Some x) n f = (y ∷ f.0, f.1, ap (λ t. y ∷ t) f.2, f.3, go)
+    where
+      go : (z : A) → In z (y ∷ f.0) → P z → ⊥
+      go z (inl p) h = n (subst P p h)
+      go z (inr i) h = f.4 z i h
+
+  pub found : (l : List A) → First P l (find q l)
+  found [] = λ x i h. i
+  found (y ∷ l) = go (q y) refl (found l)
+    where
+      go : (b : Bool) → q y ≡ b → First P l (find q l) → First P (y ∷ l) (cond b (Some y) (find q l))
+      go true e f = ([], l, refl, to y e, λ z i h. i)
+      go false e f = later y l (find q l) (λ h. false≢true (sym e ∙ back y h)) f
