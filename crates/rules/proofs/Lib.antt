@@ -1,9 +1,12 @@
 mod Booleans
 mod Digits
 mod Firsts
+mod Levels
 mod Limits
 mod Pages
+mod Pans
 mod Plans
 mod Questions
+mod Reports
 mod SilenceTable
 mod Victims

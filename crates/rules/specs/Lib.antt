@@ -3,3 +3,4 @@ pub mod Numbers
 pub mod Policy
 pub mod Reading
 pub mod Silence
+pub mod Sound

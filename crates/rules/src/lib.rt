@@ -6,3 +6,4 @@ pub mod numbers;
 pub mod policy;
 pub mod reading;
 pub mod silence;
+pub mod sound;
