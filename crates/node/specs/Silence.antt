@@ -1,7 +1,5 @@
--- The silence rule by the name of a kind. 01: "A node is silent if its done flag is set, or by its kind name: `Mul`: some
--- connected source is silent; `Div`: that of port 0; `Add`, `Sub`: every port connected, at least one, all silent; `FmOp`:
--- source of `level`; `Paf`: of `amp`; `Neg` and the 27 names in `SILENCE_PASS_THROUGH`: of `in`; other names: not."
-use Rattle.std.specs.Prelude.{ℕ, List, [], ◌∷◌, map, Bool, true, false, cond}
+-- The silence rule by the name of a kind (SPEC 7.1, 7.2). That a kind has a rule exactly where one literal table has it is said by crate rules.
+use Rattle.std.specs.Prelude.{ℕ, List, [], ◌∷◌, map}
 use Prim.Native.Char.{code}
 use Prim.Native.String.{String, [] as []ˢ, ◌∷◌ as ◌∷ˢ◌}
 use Rattle.lists.specs.Table.{lookup}
@@ -18,20 +16,13 @@ bytes (c ∷ˢ s) = code c ∷ bytes s
 abbrev pub name : String → Name
 name s = name_of (bytes s)
 
--- a name is one of a table's
-abbrev pub is_among : List Name → Name → Bool
-is_among table n = lookup (same_name n) (λ (m : Name). true) false table
-
--- the 27 names
+-- the 27 kinds that pass the silence of their port `in` on
 unfoldable pub silence_pass_through : List Name
 silence_pass_through =
     map name
     ("OnePole" ∷ "BiquadLPF" ∷ "BiquadHPF" ∷ "BiquadBPF" ∷ "BiquadNotch" ∷ "AllpassFilter" ∷ "BiquadPeaking" ∷ "BiquadLowShelf"
     ∷ "BiquadHighShelf" ∷ "ParametricEq3" ∷ "Compressor" ∷ "Limiter" ∷ "Bitcrusher" ∷ "SoftClip" ∷ "Overdrive" ∷ "WaveFolder"
     ∷ "FreqShift" ∷ "Chorus" ∷ "Flanger" ∷ "Phaser" ∷ "WowFlutter" ∷ "Steepen" ∷ "StereoWidth" ∷ "Pan2" ∷ "Mix" ∷ "Clip" ∷ "Lag" ∷ [])
-
-abbrev pub passes_through : Name → Bool
-passes_through n = is_among silence_pass_through n
 
 -- a kind's name and its rule
 pub record KindRule : Type 0 where
@@ -45,10 +36,15 @@ rule_in table n = lookup (λ (k : KindRule). same_name n k.name) (λ (k : KindRu
 abbrev pub row : String → SilenceRule → KindRule
 row s r = record { name = name s; rule = r }
 
+abbrev pub passing : Name → KindRule
+passing n = record { name = n; rule = InPort }
+
+-- the kinds that have a rule
 unfoldable pub rules : List KindRule
+unfolding silence_pass_through
 rules =
     row "Mul" AnyPort ∷ row "Div" FirstPort ∷ row "Add" EveryPort ∷ row "Sub" EveryPort ∷ row "FmOp" LevelPort ∷ row "Paf" AmpPort
-    ∷ row "Neg" InPort ∷ []
+    ∷ row "Neg" InPort ∷ map passing silence_pass_through
 
 abbrev pub silence_of : Name → SilenceRule
-silence_of n = cond (passes_through n) InPort (rule_in rules n)
+silence_of n = rule_in rules n

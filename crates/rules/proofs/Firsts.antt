@@ -5,7 +5,6 @@ use mathlib.Core.List.{List, [], ◌∷◌, ◌++◌}
 use Rattle.std.specs.Prelude.{Option, None, Some, cond, find}
 use mathlib.Core.Bool.{Bool, true, false, false≢true}
 use Rattle.lists.specs.Member.{In}
-use Rattle.lists.proofs.Member.{some_inj, none_some}
 use Rattle.lists.proofs.Find.{none_find}
 use Rattle.rules.specs.First.{First}
 

@@ -4,7 +4,7 @@ use native.Mathlib.Nat.{le_refl, le_trans, le_of_eq, le_of_lt, lt_of_lt_of_le, l
 use native.Mathlib.Omega.{arith}
 use mathlib.Core.Path.{◌≡◌, refl, sym, ap, ◌∙◌, subst}
 use mathlib.Core.Logic.{inl, inr}
-use mathlib.Core.Bool.{Bool, true, false, not, beq, cond, ◌&&◌}
+use mathlib.Core.Bool.{Bool, true, false, ◌&&◌}
 use mathlib.Core.List.{List, [], ◌∷◌}
 use lib.Dec.{T, ltb, leb, eqb, ltb→lt, lt→ltb, leb→le, lit<}
 use lib.IntN.{ℤ, pos, negsuc}
@@ -83,7 +83,7 @@ square_of s m e f =
     let power : 2 ^ l.j * 2 ^ l.j * 2 ^ 776 ≡ 2 ^ k = ap (λ x. x * 2 ^ 776) (sym (pow-add 2 l.j l.j)) ∙ sym (pow-add 2 (l.j + l.j) 776) in
     let whole : 2 ^ 149 * 2 ^ 149 * 2 ^ 776 ≡ 2 ^ 1074 = refl in
     let is : m * up e * (m * up e) * 2 ^ 1074 ≡ m * m * 2 ^ k * den =
-        ap (λ x. m * up e * (m * up e) * x) (sym whole) ∙ scaled m (up e) (down e) (2 ^ l.j) (2 ^ 149) (2 ^ 776) l.is ∙ ap (λ x. m * m * x * den) power in
+    ap (λ x. m * up e * (m * up e) * x) (sym whole) ∙ scaled m (up e) (down e) (2 ^ l.j) (2 ^ 149) (2 ^ 776) l.is ∙ ap (λ x. m * m * x * den) power in
     let high : m * up e * (m * up e) < 2 ^ 128 * down e * (2 ^ 128 * down e) = square_lt (m * up e) (2 ^ 128 * down e) f.not_high in
     let fine : m * m * 2 ^ k < 2 ^ 2098 = bound (m * m * 2 ^ k) den (m * up e * (m * up e)) some is (lt_of_lt_of_le high (le_of_eq (spread (down e)))) in
     round_exact binary64 false (m * up e * (m * up e)) den (m * m) k some (below_some m f.small) fine is

@@ -1,9 +1,6 @@
 -- The rows of the numbers, computed.
 use mathlib.Core.Path.{refl}
-use lib.Ieee.{eq, add, mul, div, of_int, round, odd, span, size, climb, units}
-use Rattle.level.specs.Root.{root_of, sqrt}
-use Rattle.level.specs.Narrow.{narrow}
-use Rattle.level.specs.Level.{squares, level_of}
+use lib.Ieee.{eq, of_int, round, odd, span, size, climb, units}
 use Rattle.rank.specs.Order.{among, fed, released, walk, order, whole, count_up}
 use Rattle.bus.specs.Rate.{rate_of}
 use Rattle.bus.specs.Block.{each, block_of}

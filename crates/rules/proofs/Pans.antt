@@ -1,16 +1,12 @@
 -- Who is panned, and with which nodes.
-use Prim.Native.Nat.{ℕ, zero, suc, ◌+◌, ◌*◌, ◌<◌}
+use Prim.Native.Nat.{ℕ, ◌+◌, ◌*◌}
 use native.Mathlib.Omega.{arith}
 use mathlib.Core.Path.{◌≡◌, refl, sym, ap, ◌∙◌}
 use mathlib.Core.List.{List, [], ◌∷◌, ◌++◌, map, append_assoc, append-nil}
-use Rattle.std.specs.Prelude.{cond}
 use mathlib.Core.Bool.{Bool, true, false, not, beq, ◌&&◌, ◌||◌}
 use lib.Dec.{eqb}
-use lib.IntN.{ℤ, pos, negsuc}
 use lib.Ieee.{Float, nan, inf, fin, up, down, eq}
-use lib.Ieee.Exact.{HasValue}
-use borrow.Author.Tests.{eqb-true, eq-eqb, ne_eqb}
-use Rattle.node.specs.declared.record.VoiceId.{VoiceId}
+use borrow.Author.Tests.{eqb-true, eq-eqb}
 use Rattle.node.specs.declared.record.Node.{Node}
 use Rattle.graph.specs.View.{GraphView}
 use Rattle.graph.specs.Node.{with_id, noise_raised}
@@ -19,8 +15,8 @@ use Rattle.synthdef.specs.Tables.{node_rows}
 use Rattle.store.specs.declared.voices.VoiceState.{VoiceState}
 use Rattle.model.specs.SharedState.{SharedState}
 use Rattle.model.specs.Voice.{id}
-use Rattle.model.specs.Spawn.{Spawn, Wire, pans, voice_nodes, voice_wires, append_all, wire_all, raised, next_voice, instantiate_shared, new_voice}
-use Rattle.rules.specs.Sound.{IsZero, own_node, pan_nodes, numbered, PanLaw}
+use Rattle.model.specs.Spawn.{Spawn, Wire, pans, voice_nodes, voice_wires, append_all, wire_all, raised, next_voice, instantiate_shared}
+use Rattle.rules.specs.Sound.{IsZero, own_node, numbered, PanLaw}
 
 zero_middle : (x : Float) → IsZero x → pans x ≡ false
 unfolding eq
@@ -70,7 +66,7 @@ module _ (x : Spawn) (s : VoiceState) (p : ℕ) (d : SharedState) where
     middle = λ z. (
       zero_middle x.pan z,
       put ∙ ap nodes_of (zero_middle x.pan z)
-      ∙ ap (λ l. noise_raised x.bus d.graph.nodes ++ numbered d.graph.next l) (append-nil (map (own_node (next_voice d)) (node_rows x.def.nodes))),
+          ∙ ap (λ l. noise_raised x.bus d.graph.nodes ++ numbered d.graph.next l) (append-nil (map (own_node (next_voice d)) (node_rows x.def.nodes))),
     );
     panned = λ z. (other_pans x.pan z, put ∙ ap nodes_of (other_pans x.pan z));
   }

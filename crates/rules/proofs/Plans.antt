@@ -2,12 +2,12 @@
 use Prim.Native.Nat.{ℕ, zero, suc, ◌+◌, ◌≤◌, ◌<◌, min}
 use native.Mathlib.Omega.{arith}
 use mathlib.Core.Path.{◌≡◌, refl, sym, ap, ◌∙◌, subst}
-use mathlib.Core.Logic.{◌⊎◌, inl, inr}
+use mathlib.Core.Logic.{inl, inr}
 use mathlib.Core.List.{List, [], ◌∷◌, ◌++◌, map}
-use Rattle.std.specs.Prelude.{◌↔◌, Option, None, Some, slice_get, cond, find, option_map}
-use mathlib.Core.Bool.{Bool, true, false, ◌&&◌, ◌||◌, not, false≢true}
+use Rattle.std.specs.Prelude.{Option, None, Some, slice_get, cond, find, option_map}
+use mathlib.Core.Bool.{Bool, true, false, ◌||◌, not, false≢true}
 use lib.ListN.{length, get_or, length-take}
-use lib.Dec.{eqb, ltb, leb}
+use lib.Dec.{eqb, ltb}
 use native.Mathlib.Decide.{dec_lt}
 use Rattle.std.proofs.lemmas.Bool.{and_from}
 use borrow.Author.Tests.{eqb-true, eq-eqb, lt-ltb, ltb-true}
@@ -18,19 +18,18 @@ use Rattle.node.specs.declared.record.Node.{Node}
 use Rattle.node.specs.declared.silence.SilenceRule.{SilenceRule}
 use Rattle.node.specs.declared.silence.SilenceRule.TheVariants.{Own, AnyPort, FirstPort, EveryPort, LevelPort, AmpPort, InPort}
 use Rattle.graph.specs.Node.{node_at}
-use Rattle.rank.specs.Order.{upto, count_up}
+use Rattle.rank.specs.Order.{count_up}
 use Rattle.synthdef.specs.Rows.{any}
 use Rattle.synthdef.specs.Tables.{node_rows, edge_rows}
 use Rattle.synthdef.specs.Edges.{ends_at, taken, counted, source_at}
 use Rattle.synthdef.specs.Limits.{allowed}
 use Rattle.synthdef.specs.Plan.{plan_of, plan_silent}
-use Rattle.synthdef.specs.Silent.{any_from, every_from, of_port, by_rule, silent_source, by_kind, Silence}
+use Rattle.synthdef.specs.Silent.{any_from, every_from, of_port, by_rule, silent_source, by_kind}
 use Rattle.synthdef.specs.declared.def.DefNode.{DefNode}
 use Rattle.synthdef.specs.declared.def.DefEdge.{DefEdge}
 use Rattle.synthdef.specs.declared.def.SynthDef.{SynthDef}
 use Rattle.synthdef.proofs.Rows.{none_any}
 use Rattle.synthdef.proofs.EdgeLaws.{counted_once}
-use Rattle.synthdef.proofs.Within.{allowed_within}
 use Rattle.synthdef.proofs.Theorem.{Answers, SilenceOf, plan_answers}
 use Rattle.store.specs.declared.voices.Voice.{Voice}
 use Rattle.model.specs.Voice.{id}
@@ -167,9 +166,10 @@ module _ (q : ℕ → Bool) (Q : ℕ → Type 0) (to : (p : ℕ) → q p ≡ tru
   asked Own n h = absurd (false≢true h)
   asked AnyPort n h = let z = any_to 0 n.ports h in (z.0, omega (arith, z.2), z.3)
   asked FirstPort n h = to 0 h
-  asked EveryPort n h =
-      (ltb-true 0 n.ports (and_left (ltb 0 n.ports) (every_from 0 n.ports q) h),
-       λ p l. every_to 0 n.ports (and_right (ltb 0 n.ports) (every_from 0 n.ports q) h) p (omega arith) (omega arith))
+  asked EveryPort n h = (
+    ltb-true 0 n.ports (and_left (ltb 0 n.ports) (every_from 0 n.ports q) h),
+    λ p l. every_to 0 n.ports (and_right (ltb 0 n.ports) (every_from 0 n.ports q) h) p (omega arith) (omega arith),
+  )
   asked LevelPort n h = asked_port n.level_port n h
   asked AmpPort n h = asked_port n.amp_port n h
   asked InPort n h = asked_port n.in_port n h

@@ -1,10 +1,9 @@
 -- The laws of the questions and of the steal records.
-use Prim.Native.Nat.{ℕ, zero, suc, ◌+◌, ◌-◌, ◌≤◌, ◌<◌, min}
+use Prim.Native.Nat.{ℕ, zero, suc, ◌+◌, ◌-◌, ◌≤◌, ◌<◌}
 use native.Mathlib.Omega.{arith}
-use mathlib.Core.Path.{◌≡◌, refl, sym, ap, ◌∙◌}
+use mathlib.Core.Path.{◌≡◌, refl, ap, ◌∙◌}
 use mathlib.Core.List.{List, [], ◌∷◌, ◌++◌}
-use Rattle.std.specs.Prelude.{Option, None, Some, find, option_map, slice_get}
-use mathlib.Core.Bool.{Bool, true, false, ◌&&◌}
+use Rattle.std.specs.Prelude.{Option, None, Some, find, slice_get}
 use lib.ListN.{length, drop, length-append}
 use lib.Dec.{eqb}
 use Rattle.std.proofs.lemmas.Bool.{and_from}
@@ -27,7 +26,7 @@ use Rattle.model.specs.Model.{Model}
 use Rattle.model.specs.Call.{position_of, reached}
 use Rattle.model.specs.Call as call
 use Rattle.rules.specs.First.{First}
-use Rattle.rules.specs.Reading.{HasId, IsNode, EndsAt, Source, position_in, position_if, Questions, LogLaw}
+use Rattle.rules.specs.Reading.{HasId, IsNode, EndsAt, position_in, position_if, Questions, LogLaw}
 use Rattle.rules.proofs.Firsts.{found}
 
 -- ---- rows

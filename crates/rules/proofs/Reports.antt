@@ -1,18 +1,18 @@
 -- The level of a voice, and the laws of a report.
 use Prim.Native.Nat.{ℕ, ◌+◌, ◌*◌, ◌≤◌, ◌<◌}
 use native.Mathlib.Omega.{arith}
-use mathlib.Core.Path.{◌≡◌, refl, sym, ap, ◌∙◌, subst}
+use mathlib.Core.Path.{◌≡◌, refl, sym, ap, ◌∙◌}
 use mathlib.Core.Logic.{◌⊎◌, inl, inr}
-use mathlib.Core.List.{List, [], ◌∷◌, ◌++◌, map}
+use mathlib.Core.List.{List, [], ◌∷◌, ◌++◌}
 use Rattle.std.specs.Prelude.{Option, None, Some, cond, find}
-use mathlib.Core.Bool.{Bool, true, false, not, ◌&&◌, ◌||◌, false≢true}
+use mathlib.Core.Bool.{Bool, true, false, not, ◌||◌, false≢true}
 use lib.ListN.{length}
 use lib.Dec.{eqb, leb, ltb}
 use lib.Ieee.{Float}
 use Rattle.std.proofs.lemmas.Bool.{and_from}
 use borrow.Author.Tests.{eqb-true, eq-eqb, ne_eqb, le-leb, leb-true, lt-ltb, ltb-true, le-ltb}
 use Rattle.lists.specs.Member.{In}
-use Rattle.lists.proofs.Member.{and_left, and_right, some_inj, none_some}
+use Rattle.lists.proofs.Member.{and_left, and_right}
 use Rattle.level.specs.Level.{level_of}
 use Rattle.node.specs.declared.record.NodeId.{NodeId}
 use Rattle.node.specs.declared.record.VoiceId.{VoiceId}
@@ -20,11 +20,10 @@ use Rattle.node.specs.declared.record.Node.{Node}
 use Rattle.node.specs.declared.refusal.Refusal.TheVariants.{UnknownNode, LentBlock}
 use Rattle.graph.specs.Node.{is_node, node_at, replaced}
 use Rattle.graph.specs.Refuse.{when}
-use Rattle.voice.specs.Steals.{record_of, record_level}
 use Rattle.store.specs.declared.voices.Voice.{Voice}
 use Rattle.model.specs.SharedState.{SharedState}
-use Rattle.model.specs.Voice.{is_voice, node_level, voice_level, level_or}
-use Rattle.model.specs.Refuse.{of_definition, reports, lent_block, report_refusal}
+use Rattle.model.specs.Voice.{is_voice, node_level, level_or}
+use Rattle.model.specs.Refuse.{of_definition, reports, lent_block}
 use Rattle.model.specs.Order.{with_report, report_node}
 use Rattle.model.specs.Model.{Model}
 use Rattle.model.specs.Call.{Step, unless, shared_step, known}

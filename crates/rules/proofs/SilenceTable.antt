@@ -1,25 +1,20 @@
--- The laws of silence: a kind's rule is the table's, since both depend on the name's text alone and the table is what the definition's two
--- tables spell; and the answer of a done plan is the one that the rules say, by the theorem that it meets the equation of silence.
-use Prim.Native.Nat.{ℕ, zero, suc, ◌+◌, ◌≤◌, ◌<◌, min}
-use native.Mathlib.Omega.{arith}
+-- A kind's rule is the table's: it depends on the name's text alone, and the table is what the definition's rows spell.
+use Prim.Native.Nat.{ℕ}
 use mathlib.Core.Path.{◌≡◌, refl, sym, ap, ◌∙◌, subst}
-use mathlib.Core.Logic.{◌⊎◌, inl, inr, ◌↔◌}
-use mathlib.Core.List.{List, [], ◌∷◌, ◌++◌, map}
-use Rattle.std.specs.Prelude.{Option, None, Some, slice_get, cond, find, option_map}
-use mathlib.Core.Bool.{Bool, true, false, ◌&&◌, ◌||◌, not, false≢true}
-use lib.ListN.{length, get_or, length-take}
-use lib.Dec.{eqb, ltb, leb}
-use borrow.Author.Tests.{eqb-true, eq-eqb, lt-ltb, ltb-true, le-leb, leb-true}
+use mathlib.Core.Logic.{inl, inr}
+use mathlib.Core.List.{List, [], ◌∷◌, map}
+use Rattle.std.specs.Prelude.{cond}
+use mathlib.Core.Bool.{Bool, true, false, ◌&&◌}
+use borrow.Author.Tests.{le-leb}
 use Rattle.lists.specs.Member.{In}
 use Rattle.lists.specs.Table.{lookup}
-use Rattle.lists.proofs.Member.{and_left, and_right, some_inj, none_some, in_of_map, in_append, in_left, in_right}
-use Rattle.node.specs.Name.{name_length, named, text, same_bytes, same_name}
-use Rattle.node.specs.Silence.{KindRule, silence_pass_through, rules, silence_of, is_among, rule_in}
+use Rattle.lists.proofs.Member.{in_of_map}
+use Rattle.node.specs.Name.{named, text, same_bytes, same_name}
+use Rattle.node.specs.Silence.{KindRule, silence_pass_through, rules, silence_of, rule_in}
 use Rattle.node.specs.declared.name.Name.{Name}
-use Rattle.node.specs.declared.record.Node.{Node}
 use Rattle.node.specs.declared.silence.SilenceRule.{SilenceRule}
-use Rattle.node.specs.declared.silence.SilenceRule.TheVariants.{Own, AnyPort, FirstPort, EveryPort, LevelPort, AmpPort, InPort}
-use Rattle.node.proofs.NameLaws.{Same, same_to, name_long}
+use Rattle.node.specs.declared.silence.SilenceRule.TheVariants.{Own}
+use Rattle.node.proofs.NameLaws.{same_to, name_long}
 use Rattle.rules.specs.Silence.{KindRow, silence_table, Called, TheTable}
 
 -- ---- the table
@@ -28,9 +23,7 @@ abbrev test : Bool → List ℕ → Name → Bool
 test b t m = b && (named m && same_bytes t (text m))
 
 abbrev rule_by : Bool → List ℕ → SilenceRule
-rule_by b t =
-    cond (lookup (test b t) (λ (m : Name). true) false silence_pass_through) InPort
-    (lookup (λ (k : KindRule). test b t k.name) (λ (k : KindRule). k.rule) Own rules)
+rule_by b t = lookup (λ (k : KindRule). test b t k.name) (λ (k : KindRule). k.rule) Own rules
 
 by_text : (n : Name) → silence_of n ≡ rule_by (named n) (text n)
 by_text n = refl
@@ -67,15 +60,13 @@ listed : (k : KindRow) → In k silence_table → (n : Name) → Called k.kind n
 listed k i n c =
     by_text n ∙ ap (λ b. rule_by b (text n)) (called_named k.kind n c) ∙ ap (rule_by true) c.text ∙ each_row silence_table computed k i
 
--- the rows that the definition's two tables spell
-abbrev spelled : List KindRow
-spelled =
-    map (λ (k : KindRule). record { kind = text k.name; rule = k.rule }) rules
-    ++ map (λ (m : Name). record { kind = text m; rule = InPort }) silence_pass_through
+-- the rows that the definition's table spells
+abbrev row_of : KindRule → KindRow
+row_of k = record { kind = text k.name; rule = k.rule }
 
-spelled_so : spelled ≡ silence_table
+spelled : map row_of rules ≡ silence_table
 unfolding silence_table silence_pass_through rules
-spelled_so = refl
+spelled = refl
 
 called : (n m : Name) → same_name n m ≡ true → Called (text m) n
 called n m h = let s = same_to n m h in let l = name_long n.len s.first in record { some = l.0; most = l.1; text = s.string }
@@ -88,27 +79,8 @@ in_rules (k ∷ table) n h = go (same_name n k.name) refl (in_rules table n (λ 
     go true e r = absurd (h k (inl refl) e)
     go false e r = r
 
-not_among : (table : List Name) (n : Name) → ((m : Name) → In m table → same_name n m ≡ true → ⊥) → is_among table n ≡ false
-not_among [] n h = refl
-not_among (m ∷ table) n h = go (same_name n m) refl (not_among table n (λ j i. h j (inr i)))
-  where
-    go : (b : Bool) → same_name n m ≡ b → is_among table n ≡ false → cond b true (is_among table n) ≡ false
-    go true e r = absurd (h m (inl refl) e)
-    go false e r = r
-
 other : (n : Name) → ((k : KindRow) → In k silence_table → Called k.kind n → ⊥) → silence_of n ≡ Own
-other n h =
-    let first = map (λ (k : KindRule). record { kind = text k.name; rule = k.rule }) rules in
-    let second = map (λ (m : Name). record { kind = text m; rule = InPort }) silence_pass_through in
-    let among = not_among silence_pass_through n (λ m i e.
-        h (record { kind = text m; rule = InPort })
-        (subst (In (record { kind = text m; rule = InPort })) spelled_so (in_right first second _ (in_of_map (λ (m : Name). record { kind = text m; rule = InPort }) silence_pass_through m i)))
-        (called n m e)) in
-    let ruled = in_rules rules n (λ k i e.
-        h (record { kind = text k.name; rule = k.rule })
-        (subst (In (record { kind = text k.name; rule = k.rule })) spelled_so (in_left first second _ (in_of_map (λ (k : KindRule). record { kind = text k.name; rule = k.rule }) rules k i)))
-        (called n k.name e)) in
-    ap (λ b. cond b InPort (rule_in rules n)) among ∙ ruled
+other n h = in_rules rules n (λ k i e. h (row_of k) (subst (In (row_of k)) spelled (in_of_map row_of rules k i)) (called n k.name e))
 
 pub the_table : TheTable
 the_table = record { listed = listed; other = other }

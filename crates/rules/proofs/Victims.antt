@@ -1,12 +1,11 @@
 -- The laws of the victim: the candidates of the lowest rank are those who pass the comparison with every other; of them the first, the last
 -- or the quietest goes.
-use Prim.Native.Nat.{ℕ, zero, suc, ◌+◌, ◌≤◌, ◌<◌}
+use Prim.Native.Nat.{ℕ, suc, ◌+◌, ◌≤◌}
 use native.Mathlib.Omega.{arith}
 use mathlib.Core.Path.{◌≡◌, refl, sym, ap, ◌∙◌, subst}
-use mathlib.Core.Logic.{inl, inr}
 use mathlib.Core.List.{List, [], ◌∷◌, ◌++◌}
-use Rattle.std.specs.Prelude.{◌↔◌, Option, None, Some, filter}
-use mathlib.Core.Bool.{Bool, true, false, ◌&&◌}
+use Rattle.std.specs.Prelude.{Option, Some}
+use mathlib.Core.Bool.{Bool, true}
 use lib.ListN.{length}
 use lib.Dec.{eqb, leb}
 use Rattle.std.specs.List.{list_all}
@@ -16,12 +15,10 @@ use Rattle.lists.specs.Member.{In}
 use Rattle.lists.proofs.Member.{and_left, and_right}
 use Rattle.lists.proofs.Filter.{filter_same}
 use Rattle.synthdef.proofs.Rows.{every_in, in_every}
-use Rattle.node.specs.declared.record.VoiceId.{VoiceId}
 use Rattle.voice.specs.declared.policy.StealPolicy.{StealPolicy}
 use Rattle.voice.specs.declared.policy.StealPolicy.TheVariants as policy
 use Rattle.voice.specs.declared.policy.Candidate.{Candidate}
-use Rattle.voice.specs.declared.policy.Admission.TheVariants as admission
-use Rattle.voice.specs.Policy.{Victim, oldest, last_from, newest, policy_victim, lowest, of_lowest, victim, at_budget, decides, admits}
+use Rattle.voice.specs.Policy.{oldest, last_from, newest, policy_victim, lowest, of_lowest, victim, decides, admits}
 use Rattle.voice.specs.Quietest.{QuietestGoes}
 use Rattle.voice.proofs.Quietest.{quietest_goes}
 use Rattle.voice.proofs.Ranks.{lowest_below, lowest_least, lowest_greatest, outranked_nobody, nobody_outranked}

@@ -1,7 +1,7 @@
 -- Every number of the rules (SPEC 2, 3, 4, 6, 9, 11, 12, 14, 15), each at its limits and one past them: what a call with that number in it is refused
 -- by. The calls are made on a store, and the refusal is what the call answers.
-use Rattle.std.specs.Prelude.{ℕ, zero, suc, ◌≡◌, ◌+◌, List, [], ◌∷◌, ◌++◌, map, Bool, true, false, pos, negsuc, ℤ, Float, replicate, length, Option, None, Some, option_map}
-use Rattle.std.specs.Float.{fin, binary32}
+use Rattle.std.specs.Prelude.{ℕ, zero, suc, ◌≡◌, List, [], ◌∷◌, ◌++◌, map, Bool, true, false, pos, negsuc, ℤ, Float, replicate, length, Option, None, Some, option_map}
+use Rattle.std.specs.Float.{binary32}
 use Rattle.std.specs.Float.Ieee.{of_int}
 use Rattle.node.specs.Refusal.{number_of}
 use Rattle.node.specs.Silence.{bytes, name}
@@ -27,7 +27,7 @@ use Rattle.model.specs.Make.{refusal_of}
 use Rattle.model.specs.Call.{Call, step}
 use Rattle.model.specs.Call as call
 use Rattle.model.specs.Numbers.{number_in}
-use Rattle.model.specs.Scene.{up_to, plain, tones, tone_def, def_edge, float, host, wire, unwire, spawn_loose, voice, after, edge}
+use Rattle.model.specs.Scene.{up_to, tones, tone_def, def_edge, float, host, wire, unwire, spawn_loose, voice, after, edge}
 
 -- A number of the rules: these values of it are taken, these are refused with that number, and `answer` is the refusal of a call that has the
 -- value in it, or none.

@@ -1,5 +1,5 @@
 -- Reading (SPEC 14): each question gives every row that it asks for, and changes nothing; and the page says each number in decimal.
-use Rattle.std.specs.Prelude.{ℕ, ◌≡◌, ◌+◌, ◌-◌, ◌*◌, ◌<◌, ◌≤◌, List, [], ◌∷◌, ◌++◌, cond, length, drop, Float, Option, Some, None, option_map, slice_get}
+use Rattle.std.specs.Prelude.{ℕ, ◌≡◌, ◌+◌, ◌-◌, ◌*◌, ◌<◌, ◌≤◌, List, [], ◌∷◌, ◌++◌, cond, length, drop, Option, Some, None, option_map, slice_get}
 use Rattle.lists.specs.Member.{In}
 use Rattle.node.specs.Silence.{bytes}
 use Rattle.node.specs.declared.record.NodeId.{NodeId}
@@ -8,7 +8,7 @@ use Rattle.node.specs.declared.record.Node.{Node}
 use Rattle.node.specs.declared.record.Edge.{Edge}
 use Rattle.node.specs.declared.refusal.Refusal.TheVariants.{ShortBuffer}
 use Rattle.voice.specs.declared.steals.StealRecord.{StealRecord}
-use Rattle.voice.specs.Steals.{StealLog, record_of, record_level, pushed}
+use Rattle.voice.specs.Steals.{StealLog, pushed}
 use Rattle.store.specs.declared.voices.Voice.{Voice}
 use Rattle.store.specs.declared.voices.VoiceState.{VoiceState}
 use Rattle.store.specs.declared.voices.VoiceState.TheVariants.{Tracked, Fading, Loose}

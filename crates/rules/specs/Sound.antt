@@ -15,8 +15,6 @@ use Rattle.node.specs.declared.record.Node.{Node}
 use Rattle.node.specs.declared.refusal.Refusal.TheVariants.{UnknownNode, LentBlock}
 use Rattle.graph.specs.View.{with_nodes}
 use Rattle.graph.specs.Node.{with_id, noise_raised}
-use Rattle.voice.specs.declared.policy.Candidate.{Candidate}
-use Rattle.voice.specs.declared.steals.StealRecord.{StealRecord}
 use Rattle.voice.specs.Steals.{record_of, record_level}
 use Rattle.synthdef.specs.Tables.{node_rows}
 use Rattle.synthdef.specs.declared.def.DefNode.{DefNode}

@@ -10,5 +10,4 @@ pub fn limits()
     ensures spawn { Holds spawn_rows }
     ensures block { Holds block_rows }
     ensures time { Holds time_rows }
-{
-}
+{}

@@ -8,11 +8,9 @@ ghost use Rattle.rules.specs.Policy.{VictimLaw, AdmissionLaw};
 /// Of the candidates of the lowest rank, which is not above the newcomer's, the policy's goes: nobody, the first, the last, or the quietest.
 pub fn victim()
     ensures { (r : ℕ) (l : List Candidate) → VictimLaw r l }
-{
-}
+{}
 
 /// A new voice is admitted below the budget; at it the victim goes, and where nobody does it is rejected.
 pub fn admission()
     ensures { (b : Option ℕ) (p : StealPolicy) (r : ℕ) (l : List Candidate) → AdmissionLaw b p r l }
-{
-}
+{}

@@ -8,17 +8,14 @@ ghost use Rattle.rules.specs.Reading.{Questions, LogLaw, PageLaw};
 /// Each question gives every row that it asks for, and changes nothing.
 pub fn questions()
     ensures { (m : Model) → Questions m }
-{
-}
+{}
 
 /// A steal's record comes behind the others, of which the newest 64 stay.
 pub fn steal_log()
     ensures { (b : StealLog) (r : StealRecord) → LogLaw b r }
-{
-}
+{}
 
 /// The page has a header and a line for each voice in order, each number in decimal.
 pub fn page()
     ensures { (m : Model) → PageLaw m }
-{
-}
+{}
