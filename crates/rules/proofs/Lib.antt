@@ -1,4 +1,5 @@
 mod Booleans
+mod Clearing
 mod Digits
 mod Firsts
 mod Levels

@@ -1,3 +1,4 @@
+pub mod Clear
 pub mod First
 pub mod Numbers
 pub mod Policy

@@ -2,6 +2,7 @@
 //! take from one definition. Each law is the contract of a function that takes nothing and does nothing, so that a caller has it by a call.
 #![tactic(auto)]
 
+pub mod clear;
 pub mod numbers;
 pub mod policy;
 pub mod reading;
