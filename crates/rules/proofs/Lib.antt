@@ -1,5 +1,6 @@
 mod Booleans
 mod Clearing
+mod Counting
 mod Digits
 mod Firsts
 mod Levels

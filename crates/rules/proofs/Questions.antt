@@ -3,11 +3,11 @@ use Prim.Native.Nat.{ℕ, zero, suc, ◌+◌, ◌-◌, ◌≤◌, ◌<◌}
 use native.Mathlib.Omega.{arith}
 use mathlib.Core.Path.{◌≡◌, refl, ap, ◌∙◌}
 use mathlib.Core.List.{List, [], ◌∷◌, ◌++◌}
-use Rattle.std.specs.Prelude.{Option, None, Some, find, slice_get}
+use Rattle.std.specs.Prelude.{cond, Option, None, Some, find, slice_get}
 use lib.ListN.{length, drop, length-append}
-use lib.Dec.{eqb}
+use lib.Dec.{eqb, leb}
 use Rattle.std.proofs.lemmas.Bool.{and_from}
-use borrow.Author.Tests.{eqb-true, eq-eqb}
+use borrow.Author.Tests.{eqb-true, eq-eqb, le-leb, lt-leb}
 use Rattle.lists.proofs.Member.{and_left, and_right}
 use Rattle.node.specs.declared.record.NodeId.{NodeId}
 use Rattle.node.specs.declared.record.VoiceId.{VoiceId}
@@ -17,7 +17,7 @@ use Rattle.edges.specs.Wiring.{ends_at}
 use Rattle.edges.specs.Ports.{source_at, sources_from}
 use Rattle.graph.specs.Node.{is_node}
 use Rattle.voice.specs.declared.steals.StealRecord.{StealRecord}
-use Rattle.voice.specs.Steals.{StealLog, last_of}
+use Rattle.voice.specs.Steals.{StealLog, last_of, cut_of, cut_at}
 use Rattle.store.specs.declared.voices.Voice.{Voice}
 use Rattle.store.specs.declared.voices.VoiceState.{VoiceState}
 use Rattle.store.specs.declared.voices.VoiceState.TheVariants.{Tracked, Fading, Loose}
@@ -26,7 +26,7 @@ use Rattle.model.specs.Model.{Model}
 use Rattle.model.specs.Call.{position_of, reached}
 use Rattle.model.specs.Call as call
 use Rattle.rules.specs.First.{First}
-use Rattle.rules.specs.Reading.{HasId, IsNode, EndsAt, position_in, position_if, Questions, LogLaw}
+use Rattle.rules.specs.Reading.{HasId, IsNode, EndsAt, position_in, position_if, Questions, LogLaw, MarkLaw}
 use Rattle.rules.proofs.Firsts.{found}
 
 -- ---- rows
@@ -107,3 +107,21 @@ log_law b r = record { counted = λ h. omega arith; few = few; full = full }
     full old rest e h =
         let k : length (b.newest ++ (r ∷ [])) - 64 ≡ 1 = simp length-append (omega arith) in
         ap (λ i. drop i (b.newest ++ (r ∷ []))) k ∙ ap (λ l. drop 1 (l ++ (r ∷ []))) e
+
+cut_there : (before : List StealRecord) (r : StealRecord) (after : List StealRecord) → cut_at (length before) (before ++ (r ∷ after)) ≡ before ++ (cut_of r ∷ after)
+cut_there [] r after = refl
+cut_there (x ∷ before) r after = ap (λ l. x ∷ l) (cut_there before r after)
+
+pub mark_law : (b : StealLog) (k : ℕ) → MarkLaw b k
+mark_law b k = record { held = held; gone = λ h. ap (λ t. cond t (cut_at (k - first) b.newest) b.newest) (lt-leb first k h); counted = refl }
+  where
+    first : ℕ
+    first = b.count - length b.newest
+
+    held : (before : List StealRecord) (r : StealRecord) (after : List StealRecord) → b.newest ≡ before ++ (r ∷ after) → k ≡ b.count - length b.newest + length before
+        → cond (leb (b.count - length b.newest) k) (cut_at (k - (b.count - length b.newest)) b.newest) b.newest ≡ before ++ (cut_of r ∷ after)
+    held before r after e h =
+        let low : b.count - length b.newest ≤ k = omega arith in
+        let at : k - (b.count - length b.newest) ≡ length before = omega arith in
+        ap (λ t. cond t (cut_at (k - (b.count - length b.newest)) b.newest) b.newest) (le-leb (b.count - length b.newest) k low)
+        ∙ ap (λ i. cut_at i b.newest) at ∙ ap (cut_at (length before)) e ∙ cut_there before r after

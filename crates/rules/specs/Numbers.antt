@@ -1,6 +1,6 @@
 -- Every number of the rules (SPEC 2, 3, 4, 6, 9, 11, 12, 14, 15), each at its limits and one past them: what a call with that number in it is refused
 -- by. The calls are made on a store, and the refusal is what the call answers.
-use Rattle.std.specs.Prelude.{ℕ, zero, suc, ◌≡◌, List, [], ◌∷◌, ◌++◌, map, Bool, true, false, pos, negsuc, ℤ, Float, replicate, length, Option, None, Some, option_map}
+use Rattle.std.specs.Prelude.{ℕ, zero, suc, ◌≡◌, ◌+◌, ◌*◌, ◌≤◌, ◌<◌, List, [], ◌∷◌, ◌++◌, map, Bool, true, false, pos, negsuc, ℤ, Float, replicate, length, Option, None, Some, option_map}
 use Rattle.std.specs.Float.{binary32}
 use Rattle.std.specs.Float.Ieee.{of_int}
 use Rattle.node.specs.Refusal.{number_of}
@@ -8,6 +8,7 @@ use Rattle.node.specs.Silence.{bytes, name}
 use Rattle.node.specs.declared.name.Name.{Name}
 use Rattle.node.specs.declared.order.EventAction.TheVariants as EventAction
 use Rattle.node.specs.declared.record.Node.{Node}
+use Rattle.bus.specs.Fade.{fade_length}
 use Rattle.rank.specs.Order.{upto}
 use Rattle.graph.specs.Node.{host_node, with_id}
 use Rattle.graph.specs.View.{GraphView}
@@ -301,3 +302,10 @@ time_rows =
 -- each row's values are answered as the row says
 abbrev pub Holds : List Row → Type 0
 Holds rows = map answered rows ≡ map said rows
+
+-- ---- the samples of a fade: the rate over 200, halves up, and at least 1
+pub record FadeLength (rate : ℕ) : Type 0 where
+  pub least : 1 ≤ fade_length rate
+  pub up : rate + 100 < 200 * fade_length rate + 200
+  pub down : 100 ≤ rate → 200 * fade_length rate ≤ rate + 100
+  pub short : rate < 100 → fade_length rate ≡ 1

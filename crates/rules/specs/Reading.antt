@@ -1,5 +1,5 @@
 -- Reading (SPEC 14): each question gives every row that it asks for, and changes nothing; and the page says each number in decimal.
-use Rattle.std.specs.Prelude.{ℕ, ◌≡◌, ◌+◌, ◌-◌, ◌*◌, ◌<◌, ◌≤◌, List, [], ◌∷◌, ◌++◌, cond, length, drop, Option, Some, None, option_map, slice_get}
+use Rattle.std.specs.Prelude.{ℕ, ◌≡◌, ◌+◌, ◌-◌, ◌*◌, ◌<◌, ◌≤◌, List, [], ◌∷◌, ◌++◌, true, cond, length, drop, Option, Some, None, option_map, slice_get}
 use Rattle.lists.specs.Member.{In}
 use Rattle.node.specs.Silence.{bytes}
 use Rattle.node.specs.declared.record.NodeId.{NodeId}
@@ -8,7 +8,7 @@ use Rattle.node.specs.declared.record.Node.{Node}
 use Rattle.node.specs.declared.record.Edge.{Edge}
 use Rattle.node.specs.declared.refusal.Refusal.TheVariants.{ShortBuffer}
 use Rattle.voice.specs.declared.steals.StealRecord.{StealRecord}
-use Rattle.voice.specs.Steals.{StealLog, pushed}
+use Rattle.voice.specs.Steals.{StealLog, pushed, marked}
 use Rattle.store.specs.declared.voices.Voice.{Voice}
 use Rattle.store.specs.declared.voices.VoiceState.{VoiceState}
 use Rattle.store.specs.declared.voices.VoiceState.TheVariants.{Tracked, Fading, Loose}
@@ -62,6 +62,14 @@ pub record LogLaw (b : StealLog) (r : StealRecord) : Type 0 where
   pub counted : b.count < 18446744073709551615 → (pushed b r).count ≡ b.count + 1
   pub few : length b.newest < 64 → (pushed b r).newest ≡ b.newest ++ (r ∷ [])
   pub full : (old : StealRecord) (rest : List StealRecord) → b.newest ≡ old ∷ rest → length b.newest ≡ 64 → (pushed b r).newest ≡ rest ++ (r ∷ [])
+
+-- A reclaimed fade's record is marked cut where it is still held; records are numbered from 0 in the order in which they came.
+pub record MarkLaw (b : StealLog) (k : ℕ) : Type 0 where
+  pub held : (before : List StealRecord) (r : StealRecord) (after : List StealRecord) → b.newest ≡ before ++ (r ∷ after)
+      → k ≡ b.count - length b.newest + length before
+      → (marked b k).newest ≡ before ++ (record { sample = r.sample; level = r.level; known = r.known; cut = true } ∷ after)
+  pub gone : k < b.count - length b.newest → (marked b k).newest ≡ b.newest
+  pub counted : (marked b k).count ≡ b.count
 
 -- ---- decimal
 -- the number that digits in ASCII read as, after those of n

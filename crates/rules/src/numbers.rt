@@ -1,6 +1,7 @@
 //! Every number of the rules (SPEC 2), at its limits and one past them.
 
-ghost use Rattle.rules.specs.Numbers.{Holds, making_rows, host_rows, definition_rows, spawn_rows, block_rows, time_rows};
+ghost use Rattle.std.specs.Prelude.{ℕ};
+ghost use Rattle.rules.specs.Numbers.{Holds, making_rows, host_rows, definition_rows, spawn_rows, block_rows, time_rows, FadeLength};
 
 /// What a call with the number in it is refused by, row by row, each row computed at its limits.
 pub fn limits()
@@ -11,3 +12,9 @@ pub fn limits()
     ensures block { Holds block_rows }
     ensures time { Holds time_rows }
 {}
+
+/// A fade's length follows the sample rate.
+pub fn fade_length()
+    ensures { (rate : ℕ) → FadeLength rate }
+{
+}
