@@ -12,9 +12,9 @@ use Rattle.graph.specs.View.{GraphView}
 use Rattle.graph.specs.Node.{with_id, noise_raised}
 use Rattle.graph.specs.Change as change
 use Rattle.synthdef.specs.Tables.{node_rows}
-use Rattle.store.specs.declared.voices.VoiceState.{VoiceState}
+use Rattle.voice.specs.declared.voices.VoiceState.{VoiceState}
 use Rattle.model.specs.SharedState.{SharedState}
-use Rattle.model.specs.Voice.{id}
+use Rattle.voice.specs.Voice.{id}
 use Rattle.model.specs.Spawn.{Spawn, Wire, pans, voice_nodes, voice_wires, append_all, wire_all, raised, next_voice, instantiate_shared}
 use Rattle.rules.specs.Sound.{IsZero, own_node, numbered, PanLaw}
 
