@@ -16,11 +16,11 @@ use Rattle.fade_table.specs.Table.{S, entries, entry_of}
 use Rattle.fade_table.specs.Laws.{c, s, apart, Lawful}
 
 -- f holds of every number below n
-abbrev up_to : ℕ → (ℕ → Bool) → Bool
+abbrev pub up_to : ℕ → (ℕ → Bool) → Bool
 up_to zero f = true
 up_to (suc k) f = let r = up_to k f in r && f k
 
-up_to_at : (n : ℕ) (f : ℕ → Bool) → T (up_to n f) → (k : ℕ) → k < n → T (f k)
+pub up_to_at : (n : ℕ) (f : ℕ → Bool) → T (up_to n f) → (k : ℕ) → k < n → T (f k)
 up_to_at zero f t k h = absurd (not-suc-le-zero h)
 up_to_at (suc n) f t k h =
     ⊎_elim (λ e. subst (λ (j : ℕ). T (f j)) (sym e) (and_r (up_to n f) (f n) t)) (λ l. up_to_at n f (and_l (up_to n f) (f n) t) k l)
@@ -63,7 +63,7 @@ lawful t p =
       turns = λ k h. leb→le _ _ (up_to_at 120 (turns t) (and_r (up_to 121 (circle t)) _ after-mirrored) k h);
     }
 
--- 02: "Proved over the whole table"
+-- computed over the whole table
 pub entries_lawful : Lawful entries
 unfolding entries passes
 entries_lawful = lawful entries tt

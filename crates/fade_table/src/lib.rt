@@ -3,7 +3,9 @@
 
 ghost use Rattle.std.specs.Prelude.{◌≡◌};
 ghost use Rattle.fade_table.specs.Table.{entries, entry_of};
-ghost use Rattle.fade_table.specs.Gain.{gain_of, gains};
+ghost use Rattle.fade_table.specs.Gain.{gain_of, gains, ExactGains};
+ghost use Rattle.fade_table.specs.Laws.{Lawful};
+ghost use Rattle.fade_table.specs.Nearest.{Nearest};
 
 // The raised cosine, 2^24 at 0 and 0 at 240.
 const ENTRIES: [u32; 241] = [
@@ -61,3 +63,10 @@ pub fn table_gains() -> [f32; 241]
 {
     std::array::from_fn(gain)
 }
+
+/// The table falls from 2^24 to 0 as a raised cosine does, each entry is the nearest whole number, and no gain of it is rounded.
+pub fn laws()
+    ensures lawful { Lawful entries }
+    ensures nearest { Nearest entries }
+    ensures exact { ExactGains }
+{}

@@ -51,7 +51,17 @@ fn first_unfed(fed: [bool; 65], ports: u32) -> Option<u32>
     requires { ports ≤ 64 }
     ensures { (es : List Edge) (n : NodeId) → FedPorts fed es n → result ≡ free_port es n ports }
 {
-    (0..ports).find(|p| !fed[*p as usize])
+    let mut port = 0;
+    'ports: loop {
+        if port == ports {
+            break None;
+        }
+        if fed[port as usize] {
+            port += 1;
+            continue 'ports;
+        }
+        break Some(port);
+    }
 }
 
 // The lowest port of `node` below `ports` without an edge: each port in turn is looked for among all the edges.

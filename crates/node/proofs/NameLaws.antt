@@ -1,17 +1,13 @@
--- What the tests on names say: `same_name` is true exactly for two names of one byte string (SPEC 1), and a lookup in a
--- table of names, of any length, exactly for the byte strings that the table lists (SPEC 7.2).
+-- What the test on names says: `same_name` is true exactly for two names of one byte string.
 use Prim.Native.Nat.{ℕ, ◌≤◌}
 use mathlib.Core.Path.{◌≡◌, refl, sym, ap, ◌∙◌}
-use mathlib.Core.Logic.{inl, inr}
 use mathlib.Core.List.{List, [], ◌∷◌}
-use mathlib.Core.Bool.{Bool, true, false, ◌&&◌, cond, false≢true}
+use mathlib.Core.Bool.{true, ◌&&◌, false≢true}
 use lib.Dec.{leb, eqb}
 use lib.Pointwise.{pointwise}
 use borrow.Author.Tests.{leb-true, eqb-true, eq-eqb}
-use Rattle.lists.specs.Member.{In}
 use Rattle.lists.proofs.Member.{and_left, and_right}
 use Rattle.node.specs.Name.{name_length, named, text, same_bytes, same_name}
-use Rattle.node.specs.Silence.{is_among}
 use Rattle.node.specs.declared.name.Name.{Name}
 
 pub name_long : (n : ℕ) → name_length n ≡ true → (1 ≤ n) × (n ≤ 16)
@@ -54,22 +50,3 @@ same_to a b h =
 
 pub same_from : (a b : Name) → Same a b → same_name a b ≡ true
 same_from a b s = rw (s.first, s.second) (ap (same_bytes (text a)) (sym s.string) ∙ same_refl (text a))
-
--- a lookup says yes exactly for the names of the table
-pub among_to : (table : List Name) (n : Name) → is_among table n ≡ true → (m : Name) × In m table × Same n m
-among_to [] n h = absurd (false≢true h)
-among_to (m ∷ table) n h = go (same_name n m) refl h (among_to table n)
-  where
-    go : (b : Bool) → same_name n m ≡ b → cond b true (is_among table n) ≡ true
-        → (is_among table n ≡ true → (m' : Name) × In m' table × Same n m') → (m' : Name) × In m' (m ∷ table) × Same n m'
-    go true e k ih = (m, inl refl, same_to n m e)
-    go false e k ih = let r = ih k in (r.0, inr r.1, r.2)
-
-pub among_from : (table : List Name) (n m : Name) → In m table → Same n m → is_among table n ≡ true
-among_from [] n m i s = absurd i
-among_from (k ∷ table) n m (inl p) s = let e : same_name n k ≡ true = ap (same_name n) (sym p) ∙ same_from n m s in rw e
-among_from (k ∷ table) n m (inr i) s = go (same_name n k) (among_from table n m i s)
-  where
-    go : (b : Bool) → is_among table n ≡ true → cond b true (is_among table n) ≡ true
-    go true h = refl
-    go false h = h

@@ -1,6 +1,7 @@
 -- The silence rule of a kind, by its name: seven kinds with rules of their own (SPEC 7.1), and the names that pass the
 -- silence of `in` on (SPEC 7.2).
-use Rattle.std.specs.Prelude.{ℕ, List, [], ◌∷◌, map, Bool, true, false, cond}
+-- That a kind has a rule exactly where one literal table has it is said by crate rules.
+use Rattle.std.specs.Prelude.{ℕ, List, [], ◌∷◌, map}
 use Prim.Native.Char.{code}
 use Prim.Native.String.{String, [] as []ˢ, ◌∷◌ as ◌∷ˢ◌}
 use Rattle.lists.specs.Table.{lookup}
@@ -17,10 +18,6 @@ bytes (c ∷ˢ s) = code c ∷ bytes s
 abbrev pub name : String → Name
 name s = name_of (bytes s)
 
--- a name is one of a table's
-abbrev pub is_among : List Name → Name → Bool
-is_among table n = lookup (same_name n) (λ (m : Name). true) false table
-
 -- the 27 names that pass silence on (SPEC 7.2)
 unfoldable pub silence_pass_through : List Name
 silence_pass_through =
@@ -28,9 +25,6 @@ silence_pass_through =
     ("OnePole" ∷ "BiquadLPF" ∷ "BiquadHPF" ∷ "BiquadBPF" ∷ "BiquadNotch" ∷ "AllpassFilter" ∷ "BiquadPeaking" ∷ "BiquadLowShelf"
     ∷ "BiquadHighShelf" ∷ "ParametricEq3" ∷ "Compressor" ∷ "Limiter" ∷ "Bitcrusher" ∷ "SoftClip" ∷ "Overdrive" ∷ "WaveFolder"
     ∷ "FreqShift" ∷ "Chorus" ∷ "Flanger" ∷ "Phaser" ∷ "WowFlutter" ∷ "Steepen" ∷ "StereoWidth" ∷ "Pan2" ∷ "Mix" ∷ "Clip" ∷ "Lag" ∷ [])
-
-abbrev pub passes_through : Name → Bool
-passes_through n = is_among silence_pass_through n
 
 -- a kind's name and its rule
 pub record KindRule : Type 0 where
@@ -44,10 +38,15 @@ rule_in table n = lookup (λ (k : KindRule). same_name n k.name) (λ (k : KindRu
 abbrev pub row : String → SilenceRule → KindRule
 row s r = record { name = name s; rule = r }
 
+abbrev pub passing : Name → KindRule
+passing n = record { name = n; rule = InPort }
+
+-- the kinds that have a rule
 unfoldable pub rules : List KindRule
+unfolding silence_pass_through
 rules =
     row "Mul" AnyPort ∷ row "Div" FirstPort ∷ row "Add" EveryPort ∷ row "Sub" EveryPort ∷ row "FmOp" LevelPort ∷ row "Paf" AmpPort
-    ∷ row "Neg" InPort ∷ []
+    ∷ row "Neg" InPort ∷ map passing silence_pass_through
 
 abbrev pub silence_of : Name → SilenceRule
-silence_of n = cond (passes_through n) InPort (rule_in rules n)
+silence_of n = rule_in rules n

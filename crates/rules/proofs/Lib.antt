@@ -6,3 +6,17 @@ pub mod OrderLaws
 pub mod FreeLaws
 pub mod OutcomeLaws
 pub mod WishLaws
+mod Booleans
+mod Clearing
+mod Counting
+mod Digits
+mod Firsts
+mod Levels
+mod Limits
+mod Pages
+mod Pans
+mod Plans
+mod Questions
+mod Reports
+mod SilenceTable
+mod Victims

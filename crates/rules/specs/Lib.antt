@@ -5,3 +5,10 @@ pub mod Orders
 pub mod Outcomes
 pub mod Wishes
 pub mod WishScenes
+pub mod Clear
+pub mod First
+pub mod Numbers
+pub mod Policy
+pub mod Reading
+pub mod Silence
+pub mod Sound

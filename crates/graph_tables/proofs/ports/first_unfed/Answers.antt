@@ -1,23 +1,15 @@
-use Rattle.std.proofs.Common.{ℕ, ◌≡◌, ◌≤◌, ◌<◌, List, Bool, true, false, get_or, sym, ◌∙◌, Option, None, Some, arith, rules, tests}
-use Rattle.std.specs.Prelude.{MatchOption}
-use Rattle.std.proofs.lemmas.Iterator.{first_from_Range}
-use Rattle.node.specs.declared.record.NodeId.{NodeId}
-use Rattle.node.specs.declared.record.Edge.{Edge}
-use Rattle.edges.specs.Ports.{lowest}
-use Rattle.graph_tables.specs.FedPorts.{FedPorts}
-use Rattle.graph_tables.proofs.Lowest.{first_free}
+use Rattle.std.proofs.Common.{◌<◌, sym, ◌∙◌, arith}
+use Rattle.edges.proofs.Search.{lowest_found, lowest_pass}
 use Rattle.graph_tables.proofs.ports.first_unfed.Goals as goal
 
--- of the ports below 64 the flags say what feeds them
-by_flags : (fed : List Bool) (es : List Edge) (n : NodeId) → FedPorts fed es n → (top : ℕ) → top ≤ 64 → (r : Option ℕ)
-    → MatchOption r ((k : ℕ) → 0 ≤ k → k < top → get_or fed k false ≡ true) (λ i. (0 ≤ i) × (i < top) × (get_or fed i false ≡ false) × ((k : ℕ) → 0 ≤ k → k < i → get_or fed k false ≡ true))
-    → r ≡ lowest top es n 0
-by_flags fed es n e top few None h = first_free es n top None (λ k a b. sym (e.are k (omega arith)) ∙ h k a b)
-by_flags fed es n e top few (Some i) h =
-    first_free es n top (Some i) (h.0, h.1, sym (e.are i (omega (arith, h.1))) ∙ h.2, λ k a b. sym (e.are k (omega (arith, h.1))) ∙ h.3 k a b)
+pub ports-preserved : goal.ports-preserved
+ports-preserved c =
+    let left : c.ports.port < c.args.ports = omega (arith, c.ports.invariant.0, c.if-port-ports.false) in
+    let small : c.ports.port < 64 = omega (arith, left, c.requires) in
+    (omega arith, λ es n e. sym (lowest_pass es n c.args.ports c.ports.port left (sym (e.are c.ports.port small) ∙ c.if-fed-port.true)) ∙ c.ports.invariant.1 es n e)
 
-pub returns : goal.returns
-returns c =
-    let s = c.args in
-    let told = first_from_Range _ _ _ c.find.result (λ p. get_or s.fed p false ≡ false) (λ p. get_or s.fed p false ≡ true) c.find.ensures.ran (λ x p h. search (rules, tests)) (λ x p h. (search rules, search (rules, tests))) in
-    λ es n e. by_flags s.fed es n e s.ports c.requires c.find.result told
+pub returns-else-fed-port : goal.returns-else-fed-port
+returns-else-fed-port c =
+    let left : c.ports.port < c.args.ports = omega (arith, c.ports.invariant.0, c.if-port-ports.false) in
+    let small : c.ports.port < 64 = omega (arith, left, c.requires) in
+    λ es n e. sym (lowest_found es n c.args.ports c.ports.port left (sym (e.are c.ports.port small) ∙ c.if-fed-port.false)) ∙ c.ports.invariant.1 es n e
