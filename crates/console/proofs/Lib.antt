@@ -6,3 +6,4 @@ pub mod Plain
 pub mod Claim
 pub mod Scenes
 pub mod Rounds
+pub mod Begins

@@ -3,3 +3,4 @@ pub mod Wishes
 pub mod Console
 pub mod Rounds
 pub mod Claim
+pub mod Begins

@@ -27,15 +27,14 @@ use Rattle.console.specs.Wishes.{Wishes, keyboards, waiting_at, wish_refusal, ad
 use Rattle.console.specs.Wishes as wishes
 use Rattle.console.specs.Console.{Console, ConsoleCall, wished, turned, console_step, added_unless, wishes_run, store_calls, make_console}
 use Rattle.console.specs.Console as console
-use Rattle.console.specs.Claim.{StoreRun, ConsoleClaim}
-use Rattle.console.proofs.Plain.{store_run}
-use Rattle.console.proofs.Claim.{console_claim, accepted}
+use Rattle.console.specs.Begins.{Begins}
+use Rattle.console.proofs.Begins.{begun, begun_store, with_some, none_wait, no_keyboards}
 use Rattle.sealed.specs.declared.profile.Profile.{Profile}
 use Rattle.sealed.specs.declared.refusal.SealRefusal.TheVariants.{NotAccepted, Closed}
 use Rattle.sealed.specs.Seal.{Seal, accepts, within, shuts, all_open}
 use Rattle.sealed.specs.Sealed.{Promise}
 use Rattle.sealed.specs.Board.{Board, BoardCall, on, seal, given, sealed, BoardStep, open_wish, closed, none_at, none_waits, sealable, refuses, passes, sealing, board_step, BoardRan, board_run, new_board, console_calls}
-use Rattle.sealed.specs.Claim.{ConsoleRun, SealedBoard, Made, with_keyboards, alone, NoKeyboards, BoardClaim}
+use Rattle.sealed.specs.Claim.{ConsoleRun, SealedBoard, BoardClaim}
 use Rattle.sealed.proofs.Accepts.{accepts_fits}
 use Rattle.sealed.proofs.Opens.{within_fitting, passes_exactly, sealing_exactly}
 use Rattle.sealed.proofs.Theorem as theorem
@@ -256,43 +255,13 @@ sealed_board k m made s b is h₀ =
         let w = turn_open s b.console.wishes h.1 p e in
         promise.never (spawn_in p.wish) (within_fitting s (spawn_in p.wish) w.1) (sym (ap (λ c. (step c b.console.model).answer) w.0) ∙ served_inj p.keyboard q _ _ z)
 
--- ---- a board at its making
--- the store that was made, and the keyboards
-record Begun (k : Making) (n : ℕ) (c : Console) : Type 0 where
-  pub store : make k ≡ Some c.model
-  pub wishes : c.wishes ≡ new_wishes n
-
-begun : (k : Making) (n : ℕ) (c : Console) → Made k n c → Begun k n c
-begun k _ _ (with_keyboards n c e) = let a = accepted k n c e in record { store = a.store; wishes = a.wishes }
-begun k _ _ (alone m e) = record { store = e; wishes = refl }
-
-with_some : (k : Making) (n : ℕ) (c : Console) → Made k n c → 0 < n → (xs : List ConsoleCall) → ConsoleClaim k n c xs
-with_some k _ _ (with_keyboards n c e) h xs = console_claim k n c e xs
-with_some k _ _ (alone m e) h xs = absurd (omega arith)
-
--- of no keyboard nothing waits, whatever is called
-none_refused : (q : ℕ) → wish_refusal (new_wishes 0) q ≡ Some OutOfRange
-none_refused q = ap (λ b. cond b (Some OutOfRange) (cond (leb 16 (length (waiting_at q (new_wishes 0)))) (Some Full) None)) (le-leb 0 q (omega arith))
-
-none_wait : (xs : List ConsoleCall) → wishes_run xs (new_wishes 0) ≡ new_wishes 0
-none_wait [] = refl
-none_wait (console.on c ∷ xs) = none_wait xs
-none_wait (console.wish q w ∷ xs) = ap (λ o. wishes_run xs (added_unless o q w (new_wishes 0))) (none_refused q) ∙ none_wait xs
-none_wait (console.turn ∷ xs) = none_wait xs
-
-no_keyboards : (c : Console) → c.wishes ≡ new_wishes 0 → NoKeyboards c
-no_keyboards c e =
-    record {
-      wish = λ q w. ap (λ o. wished o q w c) (ap (λ ws. wish_refusal ws q) e ∙ none_refused q);
-      turn = ap (λ ws. turned (picked ws) c) e;
-    }
-
-pub board_claim : (k : Making) (n : ℕ) (c : Console) → Made k n c → (xs : List BoardCall) → BoardClaim k n c xs
+-- ---- a board from its making on
+pub board_claim : (k : Making) (n : ℕ) (c : Console) → Begins k n c → (xs : List BoardCall) → BoardClaim k n c xs
 board_claim k n c m xs =
     let b = begun k n c m in
     let ys = console_calls xs (new_board c) in
     let ran = console_run xs (new_board c) in
-    let store = subst (λ ws. StoreRun (console.console_run ys c) (store_calls ys ws) (wishes_run ys ws) c.model) b.wishes (store_run ys c) in
+    let store = begun_store k n c m ys in
     record {
       console = ran;
       store = store;

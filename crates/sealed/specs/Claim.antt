@@ -1,16 +1,14 @@
--- What is proved of every list of a board's calls (SPEC 18): the list xs from a newly made board.
+-- What is proved of every list of a board's calls (SPEC 18): the list xs from the new board of a new console, which has n keyboards, or none.
 use Rattle.std.specs.Prelude.{ℕ, ◌<◌, ◌≡◌, List, Err, Some}
 use Rattle.node.specs.declared.refusal.Refusal.TheVariants.{TableFull}
 use Rattle.model.specs.Call as call
-use Rattle.model.specs.Make.{Making, config_of, make}
-use Rattle.model.specs.Model.{Model}
+use Rattle.model.specs.Make.{Making, config_of}
 use Rattle.ledger.specs.Claim.{Claim}
-use Rattle.store.specs.declared.wish.Wish.{Wish}
-use Rattle.console.specs.declared.refusal.KeyboardRefusal.TheVariants.{OutOfRange}
 use Rattle.console.specs.Wishes.{new_wishes}
-use Rattle.console.specs.Console.{Console, ConsoleCall, console_step, console_run, wishes_run, store_calls, make_console}
+use Rattle.console.specs.Console.{Console, ConsoleCall, console_run, wishes_run, store_calls}
 use Rattle.console.specs.Console as console
 use Rattle.console.specs.Claim.{StoreRun, ConsoleClaim}
+use Rattle.console.specs.Begins.{NoKeyboards}
 use Rattle.sealed.specs.declared.profile.Profile.{Profile}
 use Rattle.sealed.specs.declared.refusal.SealRefusal.TheVariants.{Closed}
 use Rattle.sealed.specs.Sealed.{Promise}
@@ -31,21 +29,6 @@ pub record SealedBoard (s : Profile) (b : Board) : Type 0 where
   -- whatever is called next, it stays sealed by s; sealing again is closed
   pub stays : (x : BoardCall) → (board_step x b).board.seal ≡ Some s
   pub again : (t : Profile) → board_step (seal t) b ≡ record { answer = refused Closed; board = b }
-
--- ---- where a board begins
--- the console of a store that is made without keyboards
-abbrev pub without_keyboards : Model → Console
-without_keyboards m = record { model = m; wishes = new_wishes 0 }
-
--- A board is made with 1 to 8 keyboards, or of a store alone: then it has none.
-pub data Made (k : Making) : ℕ → Console → Type 0 where
-  with_keyboards : (n : ℕ) (c : Console) → make_console k n ≡ console.made c → Made k n c
-  alone : (m : Model) → make k ≡ Some m → Made k 0 (without_keyboards m)
-
--- Where there is no keyboard a wish is answered by 24 and a turn is empty: neither changes anything.
-pub record NoKeyboards (c : Console) : Type 0 where
-  pub wish : (q : ℕ) (w : Wish) → console_step (console.wish q w) c ≡ record { answer = console.refused OutOfRange; console = c }
-  pub turn : console_step console.turn c ≡ record { answer = console.empty; console = c }
 
 pub record BoardClaim (k : Making) (n : ℕ) (c : Console) (xs : List BoardCall) : Type 0 where
   -- the console part is the console's run on the calls that the seal let through

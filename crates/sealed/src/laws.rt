@@ -1,10 +1,11 @@
 ghost use Rattle.std.specs.Prelude.{◌≡◌, ◌↔◌, false, List, Some, ℕ};
 ghost use Rattle.model.specs.Make.{Making, make};
 ghost use Rattle.model.specs.Model.{Model};
+ghost use Rattle.console.specs.Begins.{Begins};
 ghost use Rattle.console.specs.Console.{Console, ConsoleCall};
 ghost use Rattle.sealed.specs.declared.profile.Profile.{Profile};
 ghost use Rattle.sealed.specs.Board.{BoardCall, closes};
-ghost use Rattle.sealed.specs.Claim.{Made, BoardClaim};
+ghost use Rattle.sealed.specs.Claim.{BoardClaim};
 ghost use Rattle.sealed.specs.Opens.{LeavesOpen};
 ghost use Rattle.sealed.specs.Sealed.{SealedRun};
 
@@ -15,7 +16,7 @@ pub fn sealed_run()
 
 /// The same of a board, with keyboards or without, and what else holds of it after every list of its calls.
 pub fn board_claim()
-    ensures { (k : Making) (n : ℕ) (c : Console) → Made k n c → (xs : List BoardCall) → BoardClaim k n c xs }
+    ensures { (k : Making) (n : ℕ) (c : Console) → Begins k n c → (xs : List BoardCall) → BoardClaim k n c xs }
 {}
 
 /// Which calls a seal leaves open: these, and no others.
