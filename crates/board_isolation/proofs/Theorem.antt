@@ -12,9 +12,10 @@ use Rattle.model.specs.Spawn.{Spawn}
 use Rattle.model.specs.Make.{config_of}
 use Rattle.model.specs.Call.{Call}
 use Rattle.ledger.specs.Ledger.{Ledger, new_ledger}
-use Rattle.console.specs.Console.{Console, store_calls, make_console, made}
+use Rattle.console.specs.Console.{Console, store_calls}
 use Rattle.console.specs.Console as console
-use Rattle.console.proofs.Claim.{accepted}
+use Rattle.console.specs.Begins.{Begins}
+use Rattle.console.proofs.Begins.{begun}
 use Rattle.isolation.specs.Agree.{Matching, OneToOne, SameSpawn, Agree}
 use Rattle.isolation.specs.Agree as agree
 use Rattle.isolation.proofs.Agreed.{matched_by}
@@ -110,8 +111,8 @@ board_isolated k n₁ n₂ c₁ c₂ e₁ e₂ per ids b₁ b₂ xs₁ xs₂ h�
     marks : (c : Console) (xs : List BoardCall) → Marked None (asked_of xs c)
     marks c xs = asked_marked c.model xs (new_board c) (record { calls = []; is = refl })
 
-    calls_of : (n : ℕ) (c : Console) → make_console k n ≡ made c → (xs : List BoardCall) → passed_of (asked_of xs c) ≡ calls_from n (let_through xs c)
-    calls_of n c e xs = passed_calls xs (new_board c) ∙ ap (store_calls (let_through xs c)) (accepted k n c e).wishes
+    calls_of : (n : ℕ) (c : Console) → Begins k n c → (xs : List BoardCall) → passed_of (asked_of xs c) ≡ calls_from n (let_through xs c)
+    calls_of n c e xs = passed_calls xs (new_board c) ∙ ap (store_calls (let_through xs c)) (begun k n c e).wishes
 
     calls : Agree ids b₁ b₂ (passed_of (asked_of xs₁ c₁)) (new_ledger (config_of k)) (passed_of (asked_of xs₂ c₂)) (new_ledger (config_of k))
         → Agree ids b₁ b₂ (calls_from n₁ (let_through xs₁ c₁)) (new_ledger (config_of k)) (calls_from n₂ (let_through xs₂ c₂)) (new_ledger (config_of k))

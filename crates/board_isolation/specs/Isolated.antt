@@ -1,11 +1,13 @@
 -- No bus of a board hears another (SPEC 21.4): of two boards whose consoles were made alike but for their keyboards,
--- and every two lists of calls that agree for a bus, sealings with their answers among its calls.
+-- which one may have none of, and every two lists of calls that agree for a bus, sealings with their answers among its
+-- calls.
 use Rattle.std.specs.Prelude.{ℕ, ◌≡◌, List, [], ◌∷◌, cond, Option, None, Some}
 use Rattle.node.specs.declared.record.NodeId.{NodeId}
 use Rattle.voice.specs.declared.policy.BudgetScope.TheVariants.{PerGroup}
 use Rattle.model.specs.Make.{Making, config_of}
 use Rattle.ledger.specs.Ledger.{Ledger, new_ledger}
-use Rattle.console.specs.Console.{Console, ConsoleCall, console_run, make_console, made}
+use Rattle.console.specs.Console.{Console, ConsoleCall, console_run}
+use Rattle.console.specs.Begins.{Begins}
 use Rattle.isolation.specs.Isolated.{Covered}
 use Rattle.isolation.specs.Agree.{Matching}
 use Rattle.console_isolation.specs.Isolated.{calls_from, ConsoleIsolation}
@@ -42,10 +44,10 @@ pub record BoardIsolation (k : Making) (n₁ n₂ : ℕ) (c₁ c₂ : Console) (
   pub first : (board_run xs₁ (new_board c₁)).board.console ≡ (console_run (let_through xs₁ c₁) c₁).console
   pub second : (board_run xs₂ (new_board c₂)).board.console ≡ (console_run (let_through xs₂ c₂) c₂).console
 
--- "Histories that meet refusal 7 or 8 are not covered": a closed call meets 28, so only what is let through can
+-- a closed call meets 28, so only what is let through can meet 7 or 8
 abbrev pub BoardIsolated : Type 0
 BoardIsolated =
-    (k : Making) (n₁ n₂ : ℕ) (c₁ c₂ : Console) → make_console k n₁ ≡ made c₁ → make_console k n₂ ≡ made c₂ → k.scope ≡ PerGroup
+    (k : Making) (n₁ n₂ : ℕ) (c₁ c₂ : Console) → Begins k n₁ c₁ → Begins k n₂ c₂ → k.scope ≡ PerGroup
     → (ids : Matching) (b₁ b₂ : NodeId) (xs₁ xs₂ : List BoardCall)
     → Covered (calls_from n₁ (let_through xs₁ c₁)) (new_ledger (config_of k)) → Covered (calls_from n₂ (let_through xs₂ c₂)) (new_ledger (config_of k))
     → BoardAgreement ids (config_of k) b₁ b₂ (asked_of xs₁ c₁) (asked_of xs₂ c₂)

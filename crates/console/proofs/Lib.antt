@@ -5,3 +5,5 @@ pub mod Fair
 pub mod Plain
 pub mod Claim
 pub mod Scenes
+pub mod Rounds
+pub mod Begins

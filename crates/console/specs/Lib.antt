@@ -1,4 +1,6 @@
 pub mod Refusal
 pub mod Wishes
 pub mod Console
+pub mod Rounds
 pub mod Claim
+pub mod Begins

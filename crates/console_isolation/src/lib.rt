@@ -1,3 +1,4 @@
+// What isolation says of a console (specs/Isolated.antt).
 #![tactic(auto)]
 
-// No code: what Paper 6 says of a console (specs/Isolated.antt).
+pub mod laws;
