@@ -1,5 +1,5 @@
--- What is proved of every console that calls made and every list of calls, refused ones too: the list xs from a newly made console, then
--- the list ys.
+-- What is proved of every console that calls made and every list of calls, refused ones too (SPEC 21.5): the list xs
+-- from a newly made console, then the list ys.
 use Rattle.std.specs.Prelude.{ℕ, ◌+◌, ◌*◌, ◌≤◌, ◌<◌, ◌≡◌, List, [], ◌∷◌, ◌++◌, length, None, Some, slice_get}
 use Rattle.model.specs.Model.{Model}
 use Rattle.model.specs.Make.{Making, config_of}
@@ -22,12 +22,12 @@ serves_of q (r ∷ rs) = serves_one q r + serves_of q rs
 
 -- of m keyboards, with the wishes ws waiting
 pub record Fair (m : ℕ) (ws : Wishes) (ys : List ConsoleCall) : Type 0 where
-  -- "its oldest wish": what was served of a keyboard, and then what waits, is what waited, and then what was accepted. So each
-  -- keyboard's wishes are served in the order accepted, none is lost and none served twice
+  -- what was served of a keyboard, and then what waits, is what waited, and then what was accepted. So each keyboard's
+  -- wishes are served in the order accepted, none is lost and none served twice
   pub in_order : (q : ℕ) → served_of q ys ws ++ waiting_at q (wishes_run ys ws) ≡ waiting_at q ws ++ accepted_of q ys ws
-  -- "With m keyboards, a wish with k before it on its own keyboard is served within (k + 1) × m turns, whatever the others send."
+  -- a wish behind k others of its keyboard is served by the (k + 1) × m-th turn, whatever else is called
   pub within : (q k : ℕ) (w : Wish) → slice_get (waiting_at q ws) k ≡ Some w → (k + 1) * m ≤ turns ys → slice_get (served_of q ys ws) k ≡ Some w
-  -- "16 waiting each"
+  -- no more than 16 wait at a keyboard
   pub sixteen : (q : ℕ) → length (waiting_at q ws) ≤ 16
 
 pub record ConsoleClaim (k : Making) (m : ℕ) (c : Console) (xs : List ConsoleCall) : Type 0 where
@@ -35,7 +35,7 @@ pub record ConsoleClaim (k : Making) (m : ℕ) (c : Console) (xs : List ConsoleC
   pub eight : m ≤ 8
   -- the store part is the store's run on the list with each turn replaced by the spawn it serves, which the store does not decide
   pub store : StoreRun (console_run xs c) (store_calls xs (new_wishes m)) (wishes_run xs (new_wishes m)) c.model
-  -- so demand 3's claim holds of it
+  -- so the claim on stores holds of it (SPEC 21.1)
   pub claim : Claim (config_of k) c.model (store_calls xs (new_wishes m))
   -- the wishes that are left: so many keyboards, and the next is one of them
   pub keyboards : keyboards (wishes_run xs (new_wishes m)) ≡ m

@@ -1,4 +1,4 @@
--- The console: a store and the wishes that wait for it. Its calls are the store's own, a wish, and a turn.
+-- The console: a store and the wishes that wait for it (SPEC 17). Its calls are the store's own, a wish, and a turn.
 use Rattle.std.specs.Prelude.{ℕ, suc, List, [], ◌∷◌, ◌++◌, cond, eqb, Option, None, Some}
 use Rattle.node.specs.declared.refusal.Refusal.{Refusal}
 use Rattle.model.specs.Model.{Model}
@@ -24,9 +24,9 @@ pub data ConsoleAnswer : Type 0 where
   plain : Answer → ConsoleAnswer
   accepted : ConsoleAnswer
   refused : KeyboardRefusal → ConsoleAnswer
-  -- "A turn hands back the keyboard and the spawn's answer"
+  -- of a turn: the keyboard, and what the spawn answered
   served : ℕ → Answer → ConsoleAnswer
-  -- "An empty turn says so"
+  -- of a turn for which no wish waited
   empty : ConsoleAnswer
 
 pub record ConsoleStep : Type 0 where
@@ -43,7 +43,7 @@ abbrev pub wished : Option KeyboardRefusal → ℕ → Wish → Console → Cons
 wished None q w k = record { answer = accepted; console = record { model = k.model; wishes = added q w k.wishes } }
 wished (Some r) q w k = record { answer = refused r; console = k }
 
--- "a spawn refused by the store counts as served. An empty turn says so and changes nothing."
+-- a wish whose spawn is refused is served too; an empty turn changes nothing
 abbrev pub turned : Option Picked → Console → ConsoleStep
 turned None k = record { answer = empty; console = k }
 turned (Some p) k =
@@ -66,7 +66,7 @@ console_run (x ∷ xs) k =
     let r = console_run xs s.console in
     record { answers = s.answer ∷ r.answers; console = r.console }
 
--- ---- making: the store's refusals first, "24 ... at making after 20"
+-- ---- making (SPEC 3): the store's refusals first, then 24
 pub data ConsoleMade : Type 0 where
   made : Console → ConsoleMade
   refused_by : Refusal → ConsoleMade
@@ -101,7 +101,7 @@ abbrev pub wishes_run : List ConsoleCall → Wishes → Wishes
 wishes_run [] ws = ws
 wishes_run (x ∷ xs) ws = wishes_run xs (wishes_after x ws)
 
--- the store's calls that a list makes: "a turn counts as the spawn it serves, and a wish as no call"
+-- the store's calls that a list makes: of a turn the spawn that it serves, of a wish none
 abbrev pub spawn_by : Option Picked → List Call
 spawn_by None = []
 spawn_by (Some p) = call_of p.wish ∷ []

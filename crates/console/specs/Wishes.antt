@@ -1,10 +1,10 @@
--- Paper 11: "From 1 to 8 keyboards, their count given at making, send wishes for either spawn, 16 waiting each."
+-- The wishes that wait at the keyboards, and whose turn is next (SPEC 17).
 use Rattle.std.specs.Prelude.{ℕ, zero, suc, List, [], ◌∷◌, ◌++◌, cond, leb, ltb, length, get_or, set, replicate, Option, None, Some}
 use Rattle.store.specs.declared.wish.Wish.{Wish}
 use Rattle.console.specs.declared.refusal.KeyboardRefusal.{KeyboardRefusal}
 use Rattle.console.specs.declared.refusal.KeyboardRefusal.TheVariants.{OutOfRange, Full}
 
--- what waits at each keyboard, the oldest first; `next` is the keyboard after the last served, "at first" 0
+-- what waits at each keyboard, the oldest first; `next` is the keyboard behind the last served, 0 to begin with
 pub record Wishes : Type 0 where
   pub waits : List (List Wish)
   pub next : ℕ
@@ -15,7 +15,7 @@ keyboards ws = length ws.waits
 abbrev pub waiting_at : ℕ → Wishes → List Wish
 waiting_at q ws = get_or ws.waits q []
 
--- "24 keyboard ... out of range", then "25 that keyboard already has 16"
+-- 24: no such keyboard; then 25: 16 wishes wait there
 abbrev pub wish_refusal : Wishes → ℕ → Option KeyboardRefusal
 wish_refusal ws q = cond (leb (keyboards ws) q) (Some OutOfRange) (cond (leb 16 (length (waiting_at q ws))) (Some Full) None)
 
@@ -23,7 +23,7 @@ wish_refusal ws q = cond (leb (keyboards ws) q) (Some OutOfRange) (cond (leb 16 
 abbrev pub added : ℕ → Wish → Wishes → Wishes
 added q w ws = record { waits = set ws.waits q (waiting_at q ws ++ (w ∷ [])); next = ws.next }
 
--- "going round": the keyboard after q of m
+-- the keyboard behind q of m, going round
 abbrev pub after : ℕ → ℕ → ℕ
 after m q = cond (ltb (suc q) m) (suc q) 0
 
@@ -31,7 +31,7 @@ pub record Picked : Type 0 where
   pub keyboard : ℕ
   pub wish : Wish
 
--- "that has one ..., its oldest wish"; else what the keyboards after it give
+-- the keyboard's oldest wish, if it has one; else what the keyboards behind it give
 abbrev pub oldest_or : List Wish → ℕ → Option Picked → Option Picked
 oldest_or [] q o = o
 oldest_or (w ∷ l) q o = Some (record { keyboard = q; wish = w })
@@ -41,7 +41,7 @@ abbrev pub search : ℕ → Wishes → ℕ → Option Picked
 search zero ws q = None
 search (suc n) ws q = oldest_or (waiting_at q ws) q (search n ws (after (keyboards ws) q))
 
--- "A turn serves one wish: the next keyboard, going round, after the last served that has one (at first from keyboard 0), its oldest wish."
+-- whom a turn serves: the first keyboard with a wish, each looked at once from `next` on
 abbrev pub picked : Wishes → Option Picked
 picked ws = search (keyboards ws) ws ws.next
 
@@ -53,7 +53,7 @@ rest (w ∷ l) = l
 abbrev pub taken_from : ℕ → Wishes → Wishes
 taken_from q ws = record { waits = set ws.waits q (rest (waiting_at q ws)); next = after (keyboards ws) q }
 
--- "From 1 to 8 keyboards, their count given at making"; else 24
+-- 24, unless there are 1 to 8 keyboards
 abbrev pub keyboards_refusal : ℕ → Option KeyboardRefusal
 keyboards_refusal m = cond (ltb 0 m) (cond (leb m 8) None (Some OutOfRange)) (Some OutOfRange)
 

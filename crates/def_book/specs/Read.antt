@@ -1,5 +1,5 @@
--- Reading a book: "A book holds one definition." What is read is the whole of the lent bytes, so that bytes behind the last record are
--- malformed. "A definition beyond 01's limits keeps refusal 9, after 18".
+-- Reading a book (SPEC 16). What is read is the whole of the lent bytes, so that bytes behind the last record are
+-- malformed. 18 is given before 9.
 use Rattle.std.specs.Prelude.{ℕ, ◌+◌, ◌≡◌, List, [], map, cond, eqb, length, drop, get_or, replicate, Result, Ok, Err}
 use Rattle.node.specs.Name.{text}
 use Rattle.node.specs.declared.name.Name.{Name}
@@ -24,7 +24,7 @@ pub data Read : Type 0 where
   malformed : ℕ → Read
   limits : ℕ → ℕ → Read
 
--- "New numbers: 18 malformed record .."; 0 is no refusal
+-- the refusal's number; 0 is none
 abbrev pub read_number : Read → ℕ
 read_number (gives d) = 0
 read_number (malformed at) = 18
@@ -67,7 +67,7 @@ blank_def nodes edges =
     }
 
 -- ---- the book
--- "9, after 18"
+-- the definition, or 9
 abbrev pub within : SynthDef → Read
 within d = cond (allowed d) (gives d) (limits d.nodes.count d.edges.count)
 
@@ -76,7 +76,7 @@ unfoldable pub read_rows : ℕ → ℕ → ℕ → List Row → Read
 read_rows count output left rs =
     cond (eqb (size rs) left) (cond (eqb (length (nodes_of rs)) count) (within (def_of output rs)) (malformed (6 + left))) (malformed (6 + size rs))
 
--- "The heading is first."
+-- the heading is first
 unfoldable pub read_book : List ℕ → Read
 read_book s = cond (is_heading s) (read_rows (get_or s 4 0) (get_or s 5 0) (length (drop 6 s)) (rows (drop 6 s))) (malformed 0)
 

@@ -1,6 +1,6 @@
--- When a book is well formed, without the reader: it is a heading and then records of the other kinds, one after the other, each of its
--- kind's length and as its kind has to be, and as many of them are nodes as the heading says. 18 is given exactly where a book
--- is not: `malformed_exactly` of proofs/Theorem.antt.
+-- When a book is well formed (SPEC 16, 21.7), without the reader: it is a heading and then records of the other kinds,
+-- one after the other, each of its kind's length and as its kind has to be, and as many of them are nodes as the
+-- heading says. 18 is given exactly where a book is not: `malformed_exactly` of proofs/Theorem.antt.
 use Rattle.std.specs.Prelude.{ℕ, ◌+◌, ◌≤◌, ◌<◌, ◌≡◌, ◌⊎◌, List, ◌++◌, Bool, eqb, length, get_or}
 use Rattle.lists.specs.Member.{In}
 use Rattle.lists.specs.Count.{count}

@@ -1,8 +1,6 @@
--- When two lists of calls agree for a bus, in Paper 6's own words: "two histories of stores made alike, which agree, order included, in one bus's
--- calls, wiring with its answers (its sources' removal too) and reports, and in all prepares, renders, clearing calls and in which renders sound ...
--- Voice ids, node ids and record numbers may differ, and calls match up to these."
--- Nothing here speaks of stories or of numbers of voices. Less is asked than the paper lets agree: refused calls of the host and refused reports change
--- nothing and are left out, and so are prepares, values and glides.
+-- When two lists of calls agree for a bus (SPEC 21.4): its own calls are the same and in the same order, up to a
+-- matching of ids. Nothing here speaks of stories or of numbers of voices. Refused calls of the host and refused
+-- reports change nothing and are left out, and so are prepares, values and glides.
 use Rattle.std.specs.Prelude.{ℕ, ◌+◌, ◌<◌, ◌≡◌, List, [], ◌∷◌, Bool, true, false, not, cond, ◌&&◌, ◌||◌, eqb, Float, length, Option, None, Some, find, is_some, Result, Err, Ok}
 use Rattle.lists.specs.Member.{In}
 use Rattle.rank.specs.Order.{upto}
@@ -61,7 +59,7 @@ feeds b k l = is_some (find (λ p. by_host k (l.holders b.0 p)) (upto (ports_at 
 abbrev pub is_call_of : NodeId → Call → Ledger → Bool
 -- the bus itself is added
 is_call_of b (call.add_node kind ports required values glides) l = accepted (add_refusal l.shared.graph kind ports required) && eqb l.shared.graph.next b.0
--- it is removed, or one of "its sources"
+-- it is removed, or one of the host nodes that hold its ports
 is_call_of b (call.remove_node k) l = accepted (host_refusal l.shared.graph k) && (is_bus b k || feeds b k l)
 is_call_of b (call.connect a k p) l = accepted (connect_refusal l.shared.graph a k p) && is_bus b k
 is_call_of b (call.disconnect k p) l = accepted (disconnect_refusal l.shared.graph k p) && is_bus b k
@@ -70,7 +68,7 @@ is_call_of b (call.spawn_loose x) l = is_bus b x.bus
 is_call_of b (call.free w) l = on_it b (voice_of w l)
 is_call_of b (call.report k channels samples flag) l =
     accepted (report_refusal l.shared l.voices k channels (length samples)) && on_it b (owner_voice (node_at l.shared.graph.nodes k) l)
--- "all ... renders, clearing calls"
+-- every clearing, and every render that is not refused
 is_call_of b call.clear l = true
 is_call_of b (call.render out) l = accepted (render_refusal l.shared (length out))
 is_call_of b (call.set_sink k) l = false
@@ -79,8 +77,8 @@ is_call_of b (call.schedule t w name a) l = false
 is_call_of b call.prepare l = false
 is_call_of b (call.ask q) l = false
 
--- "An event is a call of the bus whose voice it meets when taken, even if it was scheduled before that voice was let in": the voices of the bus that the
--- events free, in the order in which these are taken
+-- the voices of the bus that the events free, in the order in which these are taken: an event belongs to the bus whose
+-- voice it meets at that moment, whenever it was put into the queue
 abbrev pub freed_by_events : NodeId → List Event → Ledger → List VoiceId
 freed_by_events b [] l = []
 freed_by_events b (e ∷ q) l =
@@ -127,7 +125,7 @@ pub data Equal (m : Matching) (b₁ b₂ : NodeId) : Call → Ledger → Call �
   reported : {a b : NodeId} {channels : ℕ} {samples : List Float} {flag : Bool} {k l : Ledger}
       → SameNode m a b → Equal m b₁ b₂ (call.report a channels samples flag) k (call.report b channels samples flag) l
   cleared : {k l : Ledger} → Equal m b₁ b₂ call.clear k call.clear l
-  -- "in which renders sound"; the lent lists of Paper 1 may be others
+  -- both sound or neither does; their lent lists may differ
   rendered : {o p : List ℕ} {k l : Ledger} → EachVoice m (freed_by_events b₁ (due k.shared) (rested k)) (freed_by_events b₂ (due l.shared) (rested l))
       → is_sounding (render k).answer ≡ is_sounding (render l).answer → Equal m b₁ b₂ (call.render o) k (call.render p) l
 
@@ -139,7 +137,7 @@ pub data Agree (m : Matching) (b₁ b₂ : NodeId) : List Call → Ledger → Li
   both : {x y : Call} {xs ys : List Call} {k l : Ledger} → is_call_of b₁ x k ≡ true → is_call_of b₂ y l ≡ true → Equal m b₁ b₂ x k y l
       → Agree m b₁ b₂ xs (step x k).ledger ys (step y l).ledger → Agree m b₁ b₂ (x ∷ xs) k (y ∷ ys) l
 
--- of stores "made alike", by the configuration c
+-- of stores made alike, by the configuration c
 pub record Agreement (m : Matching) (c : Config) (b₁ b₂ : NodeId) (xs₁ xs₂ : List Call) : Type 0 where
   pub nodes : OneToOne m.nodes
   pub voices : OneToOne m.voices

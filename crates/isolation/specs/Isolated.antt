@@ -1,6 +1,5 @@
--- Paper 6's theorem, as a statement: "prove under `PerGroup`: two histories of stores made alike, which agree ..., give that bus the same
--- admissions, victims by place among its own voices, ports, fades, seeds, and levels and cut marks of records still held in both.
--- Voice ids, node ids and record numbers may differ, and calls match up to these."
+-- No bus hears another, as a statement (SPEC 21.4): under `PerGroup` two lists of calls that agree for a bus give it
+-- the same.
 use Rattle.std.specs.Prelude.{ℕ, ◌≡◌, List, [], map, length, Some}
 use Rattle.lists.specs.Member.{In}
 use Rattle.node.specs.declared.record.NodeId.{NodeId}
@@ -40,7 +39,7 @@ Isolated =
     (c : Config) → c.scope ≡ PerGroup → (b₁ b₂ : NodeId) (xs₁ xs₂ : List Call) → Covered xs₁ (new_ledger c) → Covered xs₂ (new_ledger c)
     → story b₁ xs₁ (new_ledger c) ≡ story b₂ xs₂ (new_ledger c) → Isolation c b₁ b₂ xs₁ xs₂
 
--- "Voice ids, node ids and record numbers may differ, and calls match up to these": what agrees up to a matching of ids has one story, so the same holds of it
+-- what agrees up to a matching of ids has one story, so the same holds of it
 abbrev pub AgreedStories : Type 0
 AgreedStories =
     (c : Config) → c.scope ≡ PerGroup → (m : Matching) (b₁ b₂ : NodeId) (xs₁ xs₂ : List Call) → Covered xs₁ (new_ledger c) → Covered xs₂ (new_ledger c)

@@ -1,6 +1,7 @@
--- Paper 6: what belongs to one bus. Its story: the calls of a history that are its own, in their order, without voice ids, node ids
--- and record numbers. Its tale: what these calls gave it. `Isolation` of `Isolated` says that the story decides the tale.
--- Voices are called by their noise sequence, which Paper 6 counts "for each bus, from 0": it is the voice's number on its bus.
+-- What belongs to one bus (SPEC 21.4). Its story: the calls of a list that are its own, in their order, without voice
+-- ids, node ids and record numbers. Its tale: what these calls gave it. `Isolation` of `Isolated` says that the story
+-- decides the tale. Voices are called by their noise sequence, which each bus counts from 0 (SPEC 9.9): it is the
+-- voice's number on its bus.
 use Rattle.std.specs.Prelude.{ℕ, zero, suc, ◌-◌, List, [], ◌∷◌, ◌++◌, map, Bool, true, false, cond, not, ◌&&◌, eqb, length, Float, Option, None, Some, filter, find, is_some}
 use Rattle.rank.specs.Order.{upto, count_up}
 use Rattle.node.specs.declared.record.NodeId.{NodeId}
@@ -28,10 +29,9 @@ use Rattle.ledger.specs.Ledger.{Ledger, port_held}
 use Rattle.ledger.specs.Render.{apply_event, rested, render}
 use Rattle.ledger.specs.Call.{step}
 
--- ---- the story of a bus
--- "one bus's calls, wiring with its answers (its sources' removal too) and reports, and ... all prepares, renders, clearing calls and ...
--- which renders sound". Refused wiring and refused reports change nothing and leave no entry; prepares change nothing of a bus but
--- whether renders sound, which the entries say; values and glides change nothing of what is compared. So fewer things need to agree.
+-- ---- the story of a bus. Refused wiring and refused reports change nothing and leave no entry; prepares change
+-- nothing of a bus but whether renders sound, which the entries say; values and glides change nothing of what is
+-- compared.
 pub data Entry : Type 0 where
   -- the bus is added, with so many ports; it is removed
   opened : ℕ → Entry
@@ -89,7 +89,7 @@ abbrev pub owner_voice : Option Node → Ledger → Option Voice
 owner_voice None l = None
 owner_voice (Some n) l = voice_of n.owner l
 
--- "An event is a call of the bus whose voice it meets when taken, even if it was scheduled before that voice was let in."
+-- the voice that an event meets when it is taken, if it is one of the bus
 abbrev pub meets : NodeId → Option Voice → List ℕ → List ℕ
 meets b None rest = rest
 meets b (Some v) rest = cond (is_on b v) (v.sequence ∷ rest) rest
@@ -129,12 +129,12 @@ story b [] l = []
 story b (x ∷ xs) l = write (entry b x l) (story b xs (step x l).ledger)
 
 -- ---- the tale: after each entry, what a spawn answered and the voices of the bus in their order
--- "admissions": none if let in, else the number of the refusal; that the bus is no node of the host is one answer, 4 or 5
+-- none if let in, else the number of the refusal; that the bus is no node of the host is one answer, 4 or 5
 abbrev pub shown : Option Refusal → Option ℕ
 shown None = None
 shown (Some r) = Some (cond (eqb (number_of r) 5) 4 (number_of r))
 
--- "fades": since which clock, and after how many sounding renders
+-- a fade: since which clock, and after how many sounding renders
 pub data Phase : Type 0 where
   held : Phase
   fading : ℕ → ℕ → Phase
@@ -145,7 +145,7 @@ phase_of Tracked = held
 phase_of (Fading f) = fading f.start f.position
 phase_of Loose = loose
 
--- "victims by place among its own voices, ports, fades, seeds": who was removed or fades now, is seen by the numbers before and after
+-- who was removed or fades now, is seen by the numbers before and after
 pub record BusVoice : Type 0 where
   pub number : ℕ
   pub rank : ℕ
@@ -176,7 +176,7 @@ abbrev pub tale : NodeId → List Call → Ledger → List Told
 tale b [] l = []
 tale b (x ∷ xs) l = let s = step x l in tell (entry b x l) (told b s.answer s.ledger) (tale b xs s.ledger)
 
--- "victims by place among its own voices": of the voices before a call, the places of those that were held and are not after it
+-- of the voices of the bus before a call, the places of those that were held and are not after it
 abbrev pub is_held : Phase → Bool
 is_held held = true
 is_held (fading start count) = false

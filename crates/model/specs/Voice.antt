@@ -6,7 +6,8 @@ use Rattle.voice.specs.declared.policy.Candidate.{Candidate}
 use Rattle.voice.specs.declared.voices.Voice.{Voice}
 use Rattle.model.specs.SharedState.{SharedState}
 
--- ---- level: "none until the clock passes the birth sample, and none for an unknown voice or a dead output"
+-- ---- level: none before the clock has passed the birth, for an unknown voice, and where the output does not live
+-- (SPEC 11.2)
 abbrev pub node_level : Option Node → Option Float
 node_level None = None
 node_level (Some n) = Some n.level

@@ -1,6 +1,5 @@
--- 02, Paper 9: "Prove that after each render the store, but for its pending events, is the same as if all accepted events had been kept,
--- for a queue that would have held them." Two machines are fed the same calls. A is the store, whose `schedule` replaces. B is the store
--- but for `schedule`: it is given exactly the events that A accepted, and keeps them all, without a limit.
+-- Two machines are given the same calls (SPEC 21.3). A is the store, whose `schedule` replaces (SPEC 8.3). B is the
+-- store but for `schedule`: it is given exactly the events that A accepted, and keeps them all, without a limit.
 use Rattle.std.specs.Prelude.{◌≡◌, List, [], ◌∷◌, Bool, true, false, ◌||◌, not, Option, None, Some, cond}
 use Rattle.node.specs.declared.refusal.Refusal.{Refusal}
 use Rattle.scheduler.specs.Queue.{inserted}

@@ -1,6 +1,6 @@
--- The statement of Paper 9's theorem, of the store after a list of calls and of the call that is next: machine A, which replaces, and
--- machine B, which keeps all that A accepted (`Kept`), are the same but for their pending events, and answer the same but for what shows
--- these.
+-- What replacing leaves as it is (SPEC 21.3), said of the store after a list of calls and of the call that is next:
+-- machine A, which replaces, and machine B, which keeps all that A accepted (`Kept`), are the same but for their
+-- pending events, and answer the same but for what shows these.
 use Rattle.std.specs.Prelude.{ℕ, ◌≡◌, List, [], ◌∷◌, false, not, length, Option, None, Some, cond}
 use Rattle.node.specs.declared.refusal.Refusal.{Refusal}
 use Rattle.scheduler.specs.declared.event.Event.{Event}
@@ -12,7 +12,7 @@ use Rattle.model.specs.Call.{Call, step, run}
 use Rattle.model.specs.Call as call
 use Rattle.replaced.specs.Kept.{SameButEvents, is_render, kept_step, kept_run, overtaken, lasts}
 
--- ---- "Render answers of Paper 1 list only the events left."
+-- ---- the list of a render has the events that are left
 -- the events that a render takes, and what became of each; a refused one takes none
 abbrev pub taken_by : Option Refusal → Model → List Event
 taken_by None m = due m.shared
@@ -41,7 +41,7 @@ pub record ToldAlike (a b : Model) (out : List ℕ) : Type 0 where
 
 -- ---- after the calls xs on a newly made store m
 pub record Replaced (m : Model) (xs : List Call) : Type 0 where
-  -- "the store, but for its pending events, is the same as if all accepted events had been kept"
+  -- the store is, but for its pending events, what it would be if no event had been replaced
   pub same : SameButEvents (run xs m).model (kept_run xs m m).model
   -- A's pending events are B's, in their order, without every one that a later pending event replaces
   pub pending : (run xs m).model.shared.events ≡ lasts (kept_run xs m m).model.shared.events

@@ -1,4 +1,4 @@
--- A board: a console and its seal. Its calls are the console's own, and sealing.
+-- A board: a console and its seal (SPEC 18). Its calls are the console's own, and sealing.
 use Rattle.std.specs.Prelude.{List, [], ◌∷◌, ◌++◌, Bool, true, false, not, cond, ◌&&◌, None, Some}
 use Rattle.store.specs.declared.wish.Wish.{Wish}
 use Rattle.model.specs.Wish.{spawn_in}
@@ -26,7 +26,7 @@ pub record BoardStep : Type 0 where
   pub answer : BoardAnswer
   pub board : Board
 
--- ---- 28. "wishes for them" are open: managed spawns on that bus within D and E
+-- ---- 28. A wish is open if its spawn is: managed, on that bus, within D and E
 abbrev pub open_wish : Profile → Wish → Bool
 open_wish s w = w.managed && within s (spawn_in w)
 
@@ -39,7 +39,7 @@ abbrev pub closed : Seal → ConsoleCall → Bool
 closed None c = false
 closed (Some s) c = closes s c
 
--- ---- 27. "which has no voice and no waiting wish"
+-- ---- 27. No wish may wait
 abbrev pub none_at : List Wish → Bool
 none_at [] = true
 none_at (w ∷ l) = false
@@ -58,7 +58,7 @@ refuses r b = record { answer = refused r; board = b }
 abbrev pub passes : ConsoleStep → Seal → BoardStep
 passes t x = record { answer = given t.answer; board = record { console = t.console; seal = x } }
 
--- sealing "changes nothing but the seal"; on a sealed board it is closed
+-- sealing changes nothing but the seal; on a sealed board it is closed
 abbrev pub sealing : Seal → Profile → Board → BoardStep
 sealing None s b = cond (sealable s b.console) (record { answer = sealed; board = record { console = b.console; seal = Some s } }) (refuses NotAccepted b)
 sealing (Some t) s b = refuses Closed b

@@ -24,7 +24,7 @@ pub record ConsoleRun (r : BoardRan) (cs : List ConsoleCall) (k : Console) : Typ
 pub record SealedBoard (s : Profile) (b : Board) : Type 0 where
   -- a spawn that the seal leaves open never meets 7, and the promise on when a spawn fails; every voice holds exactly one port of the bus
   pub promise : Promise s b.console.model
-  -- nor does a turn: "direct or by a turn"
+  -- nor does one that a turn makes
   pub turn : (q : ℕ) → (board_step (on console.turn) b).answer ≡ given (console.served q (call.spawned (Err TableFull))) → ⊥
   -- whatever is called next, it stays sealed by s; sealing again is closed
   pub stays : (x : BoardCall) → (board_step x b).board.seal ≡ Some s

@@ -1,4 +1,4 @@
--- "New numbers: 27 sealing not accepted; 28 call closed by the seal, before all others of that call."
+-- The numbers of the seal (SPEC 18, 20): sealing is not accepted; a call is closed.
 use Rattle.std.specs.Prelude.{ℕ}
 use Rattle.sealed.specs.declared.refusal.SealRefusal.{SealRefusal}
 use Rattle.sealed.specs.declared.refusal.SealRefusal.TheVariants.{NotAccepted, Closed}

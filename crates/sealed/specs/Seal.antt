@@ -1,4 +1,4 @@
--- 02, Paper 14, "The sealed profile": when sealing is accepted, and which calls it closes. Numbers are of any size.
+-- When sealing is accepted, and which calls it closes (SPEC 18). Numbers are of any size.
 use Rattle.std.specs.Prelude.{ℕ, ◌+◌, ◌*◌, ◌≤◌, ◌≡◌, List, [], ◌∷◌, Bool, true, false, not, ◌&&◌, eqb, leb, length, Option, None, Some}
 use Rattle.node.specs.declared.record.Node.{Node}
 use Rattle.graph.specs.Node.{node_at, ports_of}
@@ -13,8 +13,8 @@ use Rattle.sealed.specs.declared.profile.Profile.{Profile}
 abbrev pub Seal : Type 0
 Seal = Option Profile
 
--- ---- 27: "Sealing accepts exactly if P is 2 to 31, H + (P + 1) × (D + 3) is at most 512, G + (P + 1) × (E + 4) at most 1,024, and
--- P, H and G are those of the present store, which has no voice"
+-- ---- 27, unless P voices and one more find room, P is in its range, and bus, P, H and G are those of the store, which
+-- has no voice
 abbrev pub fewest_ports : ℕ
 fewest_ports = 2
 
@@ -29,7 +29,7 @@ nodes_for s = s.host_nodes + (s.ports + 1) * (s.def_nodes + 3)
 abbrev pub edges_for : Profile → ℕ
 edges_for s = s.host_edges + (s.ports + 1) * (s.def_edges + 4)
 
--- "The builder names its one bus": a live host node
+-- the bus is a live host node
 abbrev pub host_owned : Option Node → Bool
 host_owned None = false
 host_owned (Some n) = eqb n.owner.0 0
@@ -56,8 +56,8 @@ pub record Fits (s : Profile) (d : SharedState) (vs : List Voice) : Type 0 where
   pub wires : length d.graph.edges ≡ s.host_edges
   pub empty : vs ≡ []
 
--- ---- 28: "Afterwards only managed spawns on that bus within D and E, ... values, glides, events, frees, reports, prepares, renders,
--- clearing calls and calls that leave the store unchanged by their nature ... are open". Edges are counted as given
+-- ---- 28: of the store's calls those of the host on nodes, edges and the sink are closed, unmanaged spawns, and
+-- managed ones on another bus or beyond D and E. Edges are counted as given
 abbrev pub within : Profile → Spawn → Bool
 within s x = eqb x.bus.0 s.bus.0 && (leb x.def.nodes.count s.def_nodes && leb x.def.edges.count s.def_edges)
 

@@ -1,6 +1,6 @@
--- Voices: who they are, their states, the node that they sound through, and how a fade begins and moves.
--- A fade's `position` is a number of samples in the model. The ledger keeps the same record and has there the count of
--- sounding renders.
+-- Voices: who they are, their states, the node that they sound through (SPEC 1), and how a fade begins and moves
+-- (SPEC 10.2). A fade's `position` is a number of samples in the model. The ledger keeps the same record and has there
+-- the count of sounding renders.
 use Rattle.std.specs.Prelude.{ℕ, ◌+◌, min, List, [], ◌∷◌, Bool, true, false, ◌&&◌, cond, eqb, leb, Option, None, Some}
 use Rattle.node.specs.declared.record.NodeId.{NodeId}
 use Rattle.node.specs.declared.record.VoiceId.{VoiceId}
@@ -51,12 +51,12 @@ with_state s v =
 abbrev pub id : ℕ → NodeId
 id k = record { 0 = k }
 
--- "the victim's output or pan node": the pan's constant and the pan node follow the definition's nodes
+-- the feeder: the pan node, which stands behind the definition's nodes and the constant, or the output (SPEC 1)
 abbrev pub feeder : Voice → NodeId
 feeder v = cond v.panned (id (v.first.0 + v.count + 1)) v.output
 
--- 02, Paper 4: "the voice's output, pan node or fade": the last node of the voice, from which it feeds its bus. Its fade if it fades, else its pan
--- node if it is panned, else its output
+-- the end: the last node of the voice, from which it feeds its bus, which is its fade if it fades, else its feeder
+-- (SPEC 1)
 abbrev pub end_in : VoiceState → Voice → NodeId
 end_in Tracked v = feeder v
 end_in (Fading f) v = f.node
@@ -69,7 +69,7 @@ end_of v = end_in v.state v
 abbrev pub is_on : NodeId → Voice → Bool
 is_on bus v = eqb v.bus.0 bus.0
 
--- tracked, and counted for a new voice on the bus: "all, or those of the bus under `PerGroup`"
+-- tracked, and counted for a new voice on the bus: all, or under `PerGroup` those of the bus (SPEC 9.2)
 abbrev pub counted : BudgetScope → NodeId → Voice → Bool
 counted s bus v = is_tracked v.state && counts s v.bus bus
 
