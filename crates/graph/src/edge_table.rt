@@ -123,12 +123,17 @@ pub(crate) fn lowest_port(edges: &[Edge], to: NodeId, ports: u32) -> Option<u32>
     ensures { result ≡ free_port edges.now to ports }
 {
     let taken = taken_ports(edges, to);
-    for port in 0..ports {
-        if !taken[port as usize] {
-            return Some(port);
+    let mut port = 0;
+    'ports: loop {
+        if port == ports {
+            break None;
         }
+        if taken[port as usize] {
+            port += 1;
+            continue 'ports;
+        }
+        break Some(port);
     }
-    None
 }
 
 // By reference, so that the target is read only where the source is the one.
