@@ -1,15 +1,13 @@
 -- Which voices clearing removes: those with the id of a voice that goes.
-use Prim.Native.Nat.{ℕ, ◌≤◌}
+use Prim.Native.Nat.{ℕ}
 use mathlib.Core.Path.{◌≡◌, refl, sym, ap, ◌∙◌}
 use mathlib.Core.Logic.{inl, inr}
 use mathlib.Core.List.{List, [], ◌∷◌}
-use Rattle.std.specs.Prelude.{◌↔◌, filter}
-use mathlib.Core.Bool.{Bool, true, false, not, false≢true}
-use lib.Dec.{eqb, leb}
-use borrow.Author.Tests.{eqb-true, eq-eqb, ne_eqb, le-leb, leb-true}
+use mathlib.Core.Bool.{true, not, false≢true}
+use lib.Dec.{eqb}
+use borrow.Author.Tests.{eq-eqb, ne_eqb, le-leb, leb-true}
 use Rattle.lists.specs.Member.{In}
 use Rattle.lists.proofs.Filter.{in_filter, filter_in}
-use Rattle.bus.specs.Fade.{fade_length}
 use Rattle.node.specs.declared.record.Node.{Node}
 use Rattle.graph.specs.Node.{owned_by}
 use Rattle.store.specs.declared.voices.Voice.{Voice}
