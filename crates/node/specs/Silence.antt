@@ -1,4 +1,5 @@
--- The silence rule by the name of a kind (SPEC 7.1, 7.2). That a kind has a rule exactly where one literal table has it is said by crate rules.
+-- The silence rule by the name of a kind (SPEC 7.1, 7.2). That a kind has a rule exactly where one literal table has it
+-- is said by crate rules.
 use Rattle.std.specs.Prelude.{ℕ, List, [], ◌∷◌, map}
 use Prim.Native.Char.{code}
 use Prim.Native.String.{String, [] as []ˢ, ◌∷◌ as ◌∷ˢ◌}

@@ -30,4 +30,5 @@ pub record ClearLaw (m : Model) : Type 0 where
   pub faded : Model
   pub ended_go : (v : Voice) → In v faded.voices ↔ (In v m.voices × (EndedId m v.id.0 → ⊥))
   pub their_nodes : (n : Node) → In n faded.shared.graph.nodes ↔ (In n m.shared.graph.nodes × (EndedId m n.owner.0 → ⊥))
-  pub silent_go : (v : Voice) → In v (step call.clear m).model.voices ↔ (In v faded.voices × (SilentId faded v.id.0 → ⊥))
+  pub silent_go : (v : Voice)
+      → In v (step call.clear m).model.voices ↔ (In v faded.voices × (SilentId faded v.id.0 → ⊥))

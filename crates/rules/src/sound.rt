@@ -28,5 +28,6 @@ pub fn voice_level()
 
 /// A report of a host node, or of a definition's node of a live voice, is stored; every other is refused.
 pub fn report()
-    ensures { (m : Model) (k : NodeId) (channels : ℕ) (samples : List Float) (done : Bool) → ReportLaw m k channels samples done }
+    ensures { (m : Model) (k : NodeId) (channels : ℕ) (samples : List Float) (done : Bool)
+        → ReportLaw m k channels samples done }
 {}
