@@ -16,13 +16,15 @@ use Rattle.node.specs.declared.refusal.Refusal.TheVariants.{UnknownNode, LentBlo
 use Rattle.graph.specs.View.{with_nodes}
 use Rattle.graph.specs.Node.{with_id, noise_raised}
 use Rattle.voice.specs.Steals.{record_of, record_level}
-use Rattle.synthdef.specs.Tables.{node_rows}
+use Rattle.synthdef.specs.Tables.{node_rows, edge_rows}
+use Rattle.synthdef.specs.Edges.{counted}
+use Rattle.synthdef.specs.declared.def.SynthDef.{SynthDef}
 use Rattle.synthdef.specs.declared.def.DefNode.{DefNode}
 use Rattle.store.specs.declared.voices.Voice.{Voice}
 use Rattle.store.specs.declared.voices.VoiceState.{VoiceState}
 use Rattle.model.specs.SharedState.{SharedState, with_graph}
 use Rattle.model.specs.Voice.{id, voice_level, candidate}
-use Rattle.model.specs.Spawn.{Spawn, instantiate_shared, new_voice, next_voice}
+use Rattle.model.specs.Spawn.{Spawn, instantiate_shared, new_voice, next_voice, pans, wire, voice_wires, voice_out}
 use Rattle.model.specs.Model.{Model}
 use Rattle.model.specs.Call.{Answer, Step, step}
 use Rattle.model.specs.Call as call
@@ -47,6 +49,9 @@ abbrev pub numbered : ℕ → List Node → List Node
 numbered k [] = []
 numbered k (n ∷ ns) = with_id k n ∷ numbered (k + 1) ns
 
+abbrev pub nodes_in : SynthDef → ℕ
+nodes_in def = length (node_rows def.nodes)
+
 -- What a spawn puts behind the nodes that there are: a pan equal to 0 is left out, and every other pans, also a NaN and
 -- an infinity.
 pub record PanLaw (x : Spawn) (s : VoiceState) (p : ℕ) (d : SharedState) : Type 0 where
@@ -58,6 +63,19 @@ pub record PanLaw (x : Spawn) (s : VoiceState) (p : ℕ) (d : SharedState) : Typ
       → ((new_voice x s p d).panned ≡ true)
       × ((instantiate_shared x p d).graph.nodes
       ≡ noise_raised x.bus d.graph.nodes ++ numbered d.graph.next (map (own_node (next_voice d)) (node_rows x.def.nodes) ++ pan_nodes (next_voice d)))
+
+-- How the voice's nodes are joined, by their places: as the definition's counted edges say; and where it is panned its
+-- output feeds port 0 of the pan node and the pan's constant port 1, and the pan node feeds the bus in the output's
+-- place.
+pub record PanWires (x : Spawn) : Type 0 where
+  pub middle : IsZero x.pan
+      → (voice_wires x.def (pans x.pan) ≡ map (λ e. wire e.from e.to e.port) (counted (edge_rows x.def.edges)))
+      × (voice_out x.def (pans x.pan) ≡ x.def.output)
+  pub panned : (IsZero x.pan → ⊥)
+      → (voice_wires x.def (pans x.pan)
+      ≡ map (λ e. wire e.from e.to e.port) (counted (edge_rows x.def.edges))
+      ++ (wire x.def.output (nodes_in x.def + 1) 0 ∷ wire (nodes_in x.def) (nodes_in x.def + 1) 1 ∷ []))
+      × (voice_out x.def (pans x.pan) ≡ nodes_in x.def + 1)
 
 -- ---- the level of a block
 -- y is exactly the square of x
