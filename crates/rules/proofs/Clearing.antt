@@ -12,11 +12,11 @@ use Rattle.lists.specs.Member.{In}
 use Rattle.lists.proofs.Filter.{in_filter, filter_in}
 use Rattle.node.specs.declared.record.Node.{Node}
 use Rattle.graph.specs.Node.{owned_by}
-use Rattle.store.specs.declared.voices.Voice.{Voice}
-use Rattle.store.specs.declared.voices.VoiceState.{VoiceState}
-use Rattle.store.specs.declared.voices.VoiceState.TheVariants.{Tracked, Fading, Loose}
+use Rattle.voice.specs.declared.voices.Voice.{Voice}
+use Rattle.voice.specs.declared.voices.VoiceState.{VoiceState}
+use Rattle.voice.specs.declared.voices.VoiceState.TheVariants.{Tracked, Fading, Loose}
 use Rattle.model.specs.SharedState.{length_l}
-use Rattle.model.specs.Voice.{is_voice}
+use Rattle.voice.specs.Voice.{is_voice}
 use Rattle.model.specs.Clear.{ended, is_silent, without_voices, ended_voices, silent_voices}
 use Rattle.model.specs.Model.{Model, without_voice}
 use Rattle.rules.specs.Clear.{Ended, EndedId, SilentId, ClearLaw, Number}

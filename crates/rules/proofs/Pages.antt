@@ -13,12 +13,12 @@ use Rattle.node.specs.declared.record.NodeId.{NodeId}
 use Rattle.node.specs.declared.record.Edge.{Edge}
 use Rattle.node.specs.declared.refusal.Refusal.TheVariants.{ShortBuffer}
 use Rattle.edges.specs.Ports.{feeds}
-use Rattle.store.specs.declared.voices.Voice.{Voice}
-use Rattle.store.specs.declared.voices.VoiceState.{VoiceState}
-use Rattle.store.specs.declared.voices.VoiceState.TheVariants.{Tracked, Fading, Loose}
+use Rattle.voice.specs.declared.voices.Voice.{Voice}
+use Rattle.voice.specs.declared.voices.VoiceState.{VoiceState}
+use Rattle.voice.specs.declared.voices.VoiceState.TheVariants.{Tracked, Fading, Loose}
 use Rattle.lists.specs.Written.{written}
 use Rattle.model.specs.Decimal.{decimal}
-use Rattle.model.specs.Voice.{end_in, end_of, feeder}
+use Rattle.voice.specs.Voice.{end_in, end_of, feeder}
 use Rattle.model.specs.Page as paper
 use Rattle.model.specs.Model.{Model}
 use Rattle.model.specs.Call.{printed, refused}

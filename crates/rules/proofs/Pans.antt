@@ -13,9 +13,9 @@ use Rattle.graph.specs.Node.{with_id, noise_raised}
 use Rattle.graph.specs.Change as change
 use Rattle.synthdef.specs.Tables.{node_rows, edge_rows}
 use Rattle.synthdef.specs.Edges.{counted}
-use Rattle.store.specs.declared.voices.VoiceState.{VoiceState}
+use Rattle.voice.specs.declared.voices.VoiceState.{VoiceState}
 use Rattle.model.specs.SharedState.{SharedState}
-use Rattle.model.specs.Voice.{id}
+use Rattle.voice.specs.Voice.{id}
 use Rattle.model.specs.Spawn.{Spawn, Wire, pans, voice_nodes, voice_wires, append_all, wire_all, raised, next_voice, instantiate_shared, def_wire, voice_out}
 use Rattle.rules.specs.Sound.{IsZero, own_node, numbered, PanLaw, PanWires}
 

@@ -32,8 +32,8 @@ use Rattle.synthdef.specs.declared.def.SynthDef.{SynthDef}
 use Rattle.synthdef.proofs.Rows.{none_any}
 use Rattle.synthdef.proofs.EdgeLaws.{counted_once}
 use Rattle.synthdef.proofs.Theorem.{Answers, SilenceOf, plan_answers}
-use Rattle.store.specs.declared.voices.Voice.{Voice}
-use Rattle.model.specs.Voice.{id}
+use Rattle.voice.specs.declared.voices.Voice.{Voice}
+use Rattle.voice.specs.Voice.{id}
 use Rattle.model.specs.Spawn.{new_voice}
 use Rattle.model.specs.Clear.{done_flag, done_flags}
 use Rattle.rules.proofs.Booleans.{or_left, or_right, both}

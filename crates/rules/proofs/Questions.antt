@@ -18,10 +18,10 @@ use Rattle.edges.specs.Ports.{source_at, sources_from}
 use Rattle.graph.specs.Node.{is_node}
 use Rattle.voice.specs.declared.steals.StealRecord.{StealRecord}
 use Rattle.voice.specs.Steals.{StealLog, last_of, cut_of, cut_at}
-use Rattle.store.specs.declared.voices.Voice.{Voice}
-use Rattle.store.specs.declared.voices.VoiceState.{VoiceState}
-use Rattle.store.specs.declared.voices.VoiceState.TheVariants.{Tracked, Fading, Loose}
-use Rattle.model.specs.Voice.{is_voice}
+use Rattle.voice.specs.declared.voices.Voice.{Voice}
+use Rattle.voice.specs.declared.voices.VoiceState.{VoiceState}
+use Rattle.voice.specs.declared.voices.VoiceState.TheVariants.{Tracked, Fading, Loose}
+use Rattle.voice.specs.Voice.{is_voice}
 use Rattle.model.specs.Model.{Model}
 use Rattle.model.specs.Call.{position_of, reached}
 use Rattle.model.specs.Call as call

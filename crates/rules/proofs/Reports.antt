@@ -20,9 +20,10 @@ use Rattle.node.specs.declared.record.Node.{Node}
 use Rattle.node.specs.declared.refusal.Refusal.TheVariants.{UnknownNode, LentBlock}
 use Rattle.graph.specs.Node.{is_node, node_at, replaced}
 use Rattle.graph.specs.Refuse.{when}
-use Rattle.store.specs.declared.voices.Voice.{Voice}
+use Rattle.voice.specs.declared.voices.Voice.{Voice}
 use Rattle.model.specs.SharedState.{SharedState}
-use Rattle.model.specs.Voice.{is_voice, node_level, level_or}
+use Rattle.voice.specs.Voice.{is_voice}
+use Rattle.model.specs.Voice.{node_level, level_or}
 use Rattle.model.specs.Refuse.{of_definition, reports, lent_block}
 use Rattle.model.specs.Order.{with_report, report_node}
 use Rattle.model.specs.Model.{Model}

@@ -13,8 +13,8 @@ use Rattle.voice.specs.declared.policy.Candidate.{Candidate}
 use Rattle.voice.specs.declared.policy.Admission.TheVariants as admission
 use Rattle.voice.specs.Policy.{victim, admits}
 use Rattle.voice.specs.Quietest.{QuietestGoes}
-use Rattle.store.specs.declared.voices.Voice.{Voice}
-use Rattle.store.specs.declared.voices.VoiceState.TheVariants.{Tracked}
+use Rattle.voice.specs.declared.voices.Voice.{Voice}
+use Rattle.voice.specs.declared.voices.VoiceState.TheVariants.{Tracked}
 use Rattle.model.specs.SharedState.{SharedState}
 use Rattle.model.specs.Voice.{voice_level}
 use Rattle.model.specs.Model.{Model, admission_on}

@@ -20,10 +20,11 @@ use Rattle.synthdef.specs.Tables.{node_rows, edge_rows}
 use Rattle.synthdef.specs.Edges.{counted}
 use Rattle.synthdef.specs.declared.def.SynthDef.{SynthDef}
 use Rattle.synthdef.specs.declared.def.DefNode.{DefNode}
-use Rattle.store.specs.declared.voices.Voice.{Voice}
-use Rattle.store.specs.declared.voices.VoiceState.{VoiceState}
+use Rattle.voice.specs.declared.voices.Voice.{Voice}
+use Rattle.voice.specs.declared.voices.VoiceState.{VoiceState}
 use Rattle.model.specs.SharedState.{SharedState, with_graph}
-use Rattle.model.specs.Voice.{id, voice_level, candidate}
+use Rattle.voice.specs.Voice.{id}
+use Rattle.model.specs.Voice.{voice_level, candidate}
 use Rattle.model.specs.Spawn.{Spawn, instantiate_shared, new_voice, next_voice, pans, wire, voice_wires, voice_out}
 use Rattle.model.specs.Model.{Model}
 use Rattle.model.specs.Call.{Answer, Step, step}

@@ -2,8 +2,8 @@
 
 ghost use Rattle.std.specs.Prelude.{ℕ, List, Bool, Float, Option};
 ghost use Rattle.node.specs.declared.record.NodeId.{NodeId};
-ghost use Rattle.store.specs.declared.voices.Voice.{Voice};
-ghost use Rattle.store.specs.declared.voices.VoiceState.{VoiceState};
+ghost use Rattle.voice.specs.declared.voices.Voice.{Voice};
+ghost use Rattle.voice.specs.declared.voices.VoiceState.{VoiceState};
 ghost use Rattle.model.specs.SharedState.{SharedState};
 ghost use Rattle.model.specs.Spawn.{Spawn};
 ghost use Rattle.model.specs.Model.{Model};
