@@ -64,7 +64,8 @@ pub fn table_gains() -> [f32; 241]
     std::array::from_fn(gain)
 }
 
-/// The table falls from 2^24 to 0 as a raised cosine does, each entry is the nearest whole number, and no gain of it is rounded.
+/// The table falls from 2^24 to 0 as a raised cosine does, each entry is the nearest whole number, and no gain of it is
+/// rounded.
 pub fn laws()
     ensures lawful { Lawful entries }
     ensures nearest { Nearest entries }

@@ -15,7 +15,8 @@ pub enum SilenceRule {
     FirstPort,
     /// every port is connected, there is at least one, and all sources are silent
     EveryPort,
-    /// the source of the port of that name is silent; a case for each of the three, since a rule that holds a name would be compared by its bytes
+    /// the source of the port of that name is silent; a case for each of the three, since a rule that holds a name would
+    /// be compared by its bytes
     LevelPort,
     AmpPort,
     InPort,

@@ -1,15 +1,15 @@
 -- Which voices clearing removes: those with the id of a voice that goes.
-use Prim.Native.Nat.{ℕ, ◌≤◌}
+use Prim.Native.Nat.{ℕ}
 use mathlib.Core.Path.{◌≡◌, refl, sym, ap, ◌∙◌}
 use mathlib.Core.Logic.{inl, inr}
 use mathlib.Core.List.{List, [], ◌∷◌}
-use Rattle.std.specs.Prelude.{◌↔◌, filter}
+use Rattle.std.specs.Prelude.{cond, filter}
 use mathlib.Core.Bool.{Bool, true, false, not, false≢true}
-use lib.Dec.{eqb, leb}
-use borrow.Author.Tests.{eqb-true, eq-eqb, ne_eqb, le-leb, leb-true}
+use lib.ListN.{length}
+use lib.Dec.{eqb}
+use borrow.Author.Tests.{eq-eqb, ne_eqb, le-leb, leb-true}
 use Rattle.lists.specs.Member.{In}
 use Rattle.lists.proofs.Filter.{in_filter, filter_in}
-use Rattle.bus.specs.Fade.{fade_length}
 use Rattle.node.specs.declared.record.Node.{Node}
 use Rattle.graph.specs.Node.{owned_by}
 use Rattle.voice.specs.declared.voices.Voice.{Voice}
@@ -19,7 +19,7 @@ use Rattle.model.specs.SharedState.{length_l}
 use Rattle.voice.specs.Voice.{is_voice}
 use Rattle.model.specs.Clear.{ended, is_silent, without_voices, ended_voices, silent_voices}
 use Rattle.model.specs.Model.{Model, without_voice}
-use Rattle.rules.specs.Clear.{Ended, EndedId, SilentId, ClearLaw}
+use Rattle.rules.specs.Clear.{Ended, EndedId, SilentId, ClearLaw, Number}
 
 -- ---- voices are removed one by one
 abbrev Listed : List Voice → ℕ → Type 0
@@ -96,6 +96,16 @@ module _ (m : Model) where
   listed_silent : (k : ℕ) → Listed (silent_voices m) k → SilentId m k
   listed_silent k (w, i, e) = let z = in_filter (is_silent m.shared.graph.nodes) m.voices w i in (w, z.0, z.1, e)
 
+-- ---- how many
+counted : (q : Voice → Bool) (P : Voice → Type 0) → ((v : Voice) → q v ≡ true → P v) → ((v : Voice) → P v → q v ≡ true) → (vs : List Voice)
+    → Number P vs (length (filter q vs))
+counted q P to back [] = refl
+counted q P to back (v ∷ vs) = go (q v) refl (counted q P to back vs)
+  where
+    go : (b : Bool) → q v ≡ b → Number P vs (length (filter q vs)) → Number P (v ∷ vs) (length (cond b (v ∷ filter q vs) (filter q vs)))
+    go true e n = inl (to v e, (length (filter q vs), n, refl))
+    go false e n = inr (λ p. false≢true (sym e ∙ back v p), n)
+
 pub clear_law : (m : Model) → ClearLaw m
 clear_law m = record {
   faded = faded;
@@ -110,6 +120,14 @@ clear_law m = record {
   silent_go = λ v. (
     λ i. let z = voices_left (silent_voices faded) faded v i in (z.0, λ e. z.1 (silent_listed faded v.id.0 e)),
     λ h. left_voices (silent_voices faded) faded v h.0 (λ l. h.1 (listed_silent faded v.id.0 l)),
+  );
+  told = (
+    length (ended_voices m),
+    length (silent_voices faded),
+    counted (λ v. ended (length_l m.shared) v.state) (λ v. Ended (length_l m.shared) v.state) (λ v h. has_ended (length_l m.shared) v.state h)
+        (λ v h. ends (length_l m.shared) v.state h) m.voices,
+    counted (is_silent faded.shared.graph.nodes) (λ v. is_silent faded.shared.graph.nodes v ≡ true) (λ v h. h) (λ v h. h) faded.voices,
+    refl,
   );
 }
   where

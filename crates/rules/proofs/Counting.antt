@@ -1,18 +1,16 @@
 -- Who counts for a new voice.
 use Prim.Native.Nat.{ℕ}
 use mathlib.Core.Path.{◌≡◌, refl, sym, ap, ◌∙◌}
-use mathlib.Core.Logic.{◌⊎◌, inl, inr}
+use mathlib.Core.Logic.{inl, inr}
 use mathlib.Core.List.{List, [], ◌∷◌, map}
 use Rattle.std.specs.Prelude.{cond, filter}
-use mathlib.Core.Bool.{Bool, true, false, ◌&&◌, false≢true}
-use lib.Dec.{eqb}
+use mathlib.Core.Bool.{Bool, true, false, false≢true}
 use Rattle.std.proofs.lemmas.Bool.{and_from}
 use borrow.Author.Tests.{eqb-true, eq-eqb}
 use Rattle.lists.proofs.Member.{and_left, and_right}
 use Rattle.node.specs.declared.record.NodeId.{NodeId}
 use Rattle.voice.specs.declared.policy.BudgetScope.{BudgetScope}
 use Rattle.voice.specs.declared.policy.BudgetScope.TheVariants.{Global, PerGroup}
-use Rattle.voice.specs.declared.policy.Candidate.{Candidate}
 use Rattle.voice.specs.Policy.{counts}
 use Rattle.voice.specs.declared.voices.Voice.{Voice}
 use Rattle.voice.specs.declared.voices.VoiceState.{VoiceState}

@@ -11,12 +11,13 @@ use Rattle.node.specs.declared.record.Node.{Node}
 use Rattle.graph.specs.View.{GraphView}
 use Rattle.graph.specs.Node.{with_id, noise_raised}
 use Rattle.graph.specs.Change as change
-use Rattle.synthdef.specs.Tables.{node_rows}
+use Rattle.synthdef.specs.Tables.{node_rows, edge_rows}
+use Rattle.synthdef.specs.Edges.{counted}
 use Rattle.voice.specs.declared.voices.VoiceState.{VoiceState}
 use Rattle.model.specs.SharedState.{SharedState}
 use Rattle.voice.specs.Voice.{id}
-use Rattle.model.specs.Spawn.{Spawn, Wire, pans, voice_nodes, voice_wires, append_all, wire_all, raised, next_voice, instantiate_shared}
-use Rattle.rules.specs.Sound.{IsZero, own_node, numbered, PanLaw}
+use Rattle.model.specs.Spawn.{Spawn, Wire, pans, voice_nodes, voice_wires, append_all, wire_all, raised, next_voice, instantiate_shared, def_wire, voice_out}
+use Rattle.rules.specs.Sound.{IsZero, own_node, numbered, PanLaw, PanWires}
 
 zero_middle : (x : Float) → IsZero x → pans x ≡ false
 unfolding eq
@@ -70,3 +71,12 @@ module _ (x : Spawn) (s : VoiceState) (p : ℕ) (d : SharedState) where
     );
     panned = λ z. (other_pans x.pan z, put ∙ ap nodes_of (other_pans x.pan z));
   }
+
+pub pan_wires : (x : Spawn) → PanWires x
+pan_wires x = record {
+  middle = λ z. (
+    ap (voice_wires x.def) (zero_middle x.pan z) ∙ append-nil (map def_wire (counted (edge_rows x.def.edges))),
+    ap (voice_out x.def) (zero_middle x.pan z),
+  );
+  panned = λ z. (ap (voice_wires x.def) (other_pans x.pan z), ap (voice_out x.def) (other_pans x.pan z));
+}

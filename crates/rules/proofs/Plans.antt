@@ -1,4 +1,5 @@
--- What a done plan answers, in the words of specs/Silence: the equation that its answer meets says of each node what the rule's words say.
+-- What a done plan answers, in the words of specs/Silence: the equation that its answer meets says of each node what
+-- the rule's words say.
 use Prim.Native.Nat.{ℕ, zero, suc, ◌+◌, ◌≤◌, ◌<◌, min}
 use native.Mathlib.Omega.{arith}
 use mathlib.Core.Path.{◌≡◌, refl, sym, ap, ◌∙◌, subst}

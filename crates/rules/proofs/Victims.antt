@@ -1,5 +1,5 @@
--- The laws of the victim: the candidates of the lowest rank are those who pass the comparison with every other; of them the first, the last
--- or the quietest goes.
+-- The laws of the victim: the candidates of the lowest rank are those who pass the comparison with every other; of them
+-- the first, the last or the quietest goes.
 use Prim.Native.Nat.{ℕ, suc, ◌+◌, ◌≤◌}
 use native.Mathlib.Omega.{arith}
 use mathlib.Core.Path.{◌≡◌, refl, sym, ap, ◌∙◌, subst}

@@ -1,5 +1,5 @@
--- Every number of the rules (SPEC 2, 3, 4, 6, 9, 11, 12, 14, 15), each at its limits and one past them: what a call with that number in it is refused
--- by. The calls are made on a store, and the refusal is what the call answers.
+-- Every number of the rules (SPEC 2, 3, 4, 6, 9, 11, 12, 14, 15), each at its limits and one past them: what a call
+-- with that number in it is refused by. The calls are made on a store, and the refusal is what the call answers.
 use Rattle.std.specs.Prelude.{ℕ, zero, suc, ◌≡◌, ◌+◌, ◌*◌, ◌≤◌, ◌<◌, List, [], ◌∷◌, ◌++◌, map, Bool, true, false, pos, negsuc, ℤ, Float, replicate, length, Option, None, Some, option_map}
 use Rattle.std.specs.Float.{binary32}
 use Rattle.std.specs.Float.Ieee.{of_int}
@@ -30,8 +30,8 @@ use Rattle.model.specs.Call as call
 use Rattle.model.specs.Numbers.{number_in}
 use Rattle.model.specs.Scene.{up_to, tones, tone_def, def_edge, float, host, wire, unwire, spawn_loose, voice, after, edge}
 
--- A number of the rules: these values of it are taken, these are refused with that number, and `answer` is the refusal of a call that has the
--- value in it, or none.
+-- A number of the rules: these values of it are taken, these are refused with that number, and `answer` is the refusal
+-- of a call that has the value in it, or none.
 pub record Row : Type 0 where
   pub taken : List ℕ
   pub refused : List ℕ
@@ -60,12 +60,14 @@ wired = after (up_to 64 Reject) (host 2 ∷ host 0 ∷ [])
 -- making: a rate, a block, a budget; the fade table
 abbrev pub made : Float → ℕ → Option ℕ → Bool → Option ℕ
 made rate block budget table =
-    option_map number_of (refusal_of (record { rate = rate; block = block; budget = budget; policy = Oldest; scope = Global; table = table }))
+    option_map number_of
+    (refusal_of (record { rate = rate; block = block; budget = budget; policy = Oldest; scope = Global; table = table }))
 
 abbrev pub whole : ℕ → Float
 whole n = of_int binary32 (pos n)
 
--- a store with so many idle nodes and edges more, whose next node id is `next`, and where so many voice ids are given out
+-- a store with so many idle nodes and edges more, whose next node id is `next`, and where so many voice ids are given
+-- out
 abbrev pub idle : Node
 idle = with_id 7 (host_node (bytes "Bus") 0 0 false false)
 
@@ -166,7 +168,8 @@ abbrev pub zeros : ℕ → List ℤ
 zeros n = replicate n (pos 0)
 
 abbrev pub one_sample : Model
-one_sample = after (record { rate = 8000; block = 1; budget = None; policy = Reject; scope = Global; table = false }) (host 0 ∷ [])
+one_sample =
+    after (record { rate = 8000; block = 1; budget = None; policy = Reject; scope = Global; table = false }) (host 0 ∷ [])
 
 abbrev pub sum : List Float → List ℕ → List Float → ℕ → Option ℕ
 sum inputs counts out outs = refusal (call.ask (call.bus_sum inputs counts out outs)) one_sample
@@ -204,7 +207,8 @@ host_rows =
     row (1 ∷ 16 ∷ []) (0 ∷ 17 ∷ []) 6 (λ n. refusal (call.add_node (replicate n 65) 0 0 false false) wired)
     ∷ row (0 ∷ 64 ∷ []) (65 ∷ []) 6 (λ n. refusal (call.add_node (bytes "Bus") n 0 false false) wired)
     ∷ row (0 ∷ 7 ∷ []) (8 ∷ []) 6 (λ n. refusal (call.add_node (bytes "Bus") 3 n false false) wired)
-    ∷ row (0 ∷ 18446744073709551615 ∷ []) (18446744073709551616 ∷ []) 6 (λ n. refusal (call.add_node (bytes "Bus") 64 n false false) wired)
+    ∷ row (0 ∷ 18446744073709551615 ∷ []) (18446744073709551616 ∷ []) 6
+    (λ n. refusal (call.add_node (bytes "Bus") 64 n false false) wired)
     -- the nodes that there are, and the next id: the two of the bus are among the 512
     ∷ row (0 ∷ 509 ∷ []) (510 ∷ []) 7 (λ n. refusal (host 0) (crowded n 0 2 0))
     ∷ row (2 ∷ 4294967295 ∷ []) (4294967296 ∷ []) 8 (λ n. refusal (host 0) (crowded 0 0 n 0))
@@ -249,11 +253,13 @@ spawn_rows =
     ∷ row (0 ∷ 7 ∷ []) (8 ∷ []) 26 (λ n. refusal (call.spawn_managed (spawn_of tone_def (id 0) (float 0) n)) wired)
     -- the ports of the bus
     ∷ row (1 ∷ 64 ∷ []) (0 ∷ []) 10 (λ n. spawned tone_def (after (up_to 64 Reject) (host n ∷ [])))
-    -- nodes with three more, of one node and of 24, and of the 512 two are there; edges with four more, of none and of 48
+    -- nodes with three more, of one node and of 24, and of the 512 two are there; edges with four more, of none and of
+    -- 48
     ∷ row (0 ∷ 506 ∷ []) (507 ∷ []) 7 (λ n. spawned tone_def (crowded n 0 2 0))
     ∷ row (0 ∷ 483 ∷ []) (484 ∷ []) 7 (λ n. spawned (tones 24 0) (crowded n 0 2 0))
     ∷ row (0 ∷ 1020 ∷ []) (1021 ∷ []) 7 (λ n. spawned tone_def (crowded 0 n 2 0))
-    ∷ row (0 ∷ 972 ∷ []) (973 ∷ []) 7 (λ n. spawned (define (mix 1 ∷ mix 1 ∷ []) (replicate 48 (def_edge 0 1 0)) [] 1) (crowded 0 n 2 0))
+    ∷ row (0 ∷ 972 ∷ []) (973 ∷ []) 7
+    (λ n. spawned (define (mix 1 ∷ mix 1 ∷ []) (replicate 48 (def_edge 0 1 0)) [] 1) (crowded 0 n 2 0))
     -- the voices that there are
     ∷ row (1 ∷ 63 ∷ []) (64 ∷ []) 7 (λ n. spawned tone_def (crowd n))
     -- the next node id, of one node and of 24, and the voice ids given out
@@ -291,10 +297,12 @@ block_rows =
 
 unfoldable pub time_rows : List Row
 time_rows =
-    -- the pending events, the entries of a render's list, the clock, of which a render of 16 samples passes no more than 2^64 - 1
+    -- the pending events, the entries of a render's list, the clock, of which a render of 16 samples passes no more
+    -- than 2^64 - 1
     row (0 ∷ 255 ∷ []) (256 ∷ []) 7 (λ n. refusal (call.schedule 9 (voice 2) [] EventAction.Free) (waiting n))
     ∷ row (256 ∷ 257 ∷ []) (0 ∷ 255 ∷ []) 17 (λ n. refusal (call.render (replicate n 7)) wired)
-    ∷ row (0 ∷ 18446744073709551599 ∷ []) (18446744073709551600 ∷ []) 15 (λ n. refusal (call.render (replicate 256 7)) (at_clock n))
+    ∷ row (0 ∷ 18446744073709551599 ∷ []) (18446744073709551600 ∷ []) 15
+    (λ n. refusal (call.render (replicate 256 7)) (at_clock n))
     -- the bytes of a page that has a header of 21 and a line of 12
     ∷ row (33 ∷ 34 ∷ []) (0 ∷ 32 ∷ []) 17 (λ n. refusal (call.ask (call.page (replicate n 0))) (crowd 1))
     ∷ []

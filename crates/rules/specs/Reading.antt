@@ -1,4 +1,5 @@
--- Reading (SPEC 14): each question gives every row that it asks for, and changes nothing; and the page says each number in decimal.
+-- Reading (SPEC 14): each question gives every row that it asks for, and changes nothing; and the page says each number
+-- in decimal.
 use Rattle.std.specs.Prelude.{ℕ, ◌≡◌, ◌+◌, ◌-◌, ◌*◌, ◌<◌, ◌≤◌, List, [], ◌∷◌, ◌++◌, true, cond, length, drop, Option, Some, None, option_map, slice_get}
 use Rattle.lists.specs.Member.{In}
 use Rattle.node.specs.Silence.{bytes}
@@ -45,12 +46,18 @@ position_if (Some v) = position_in v.state
 
 pub record Questions (m : Model) : Type 0 where
   pub voices : answer call.voices m ≡ call.all m.voices
-  pub voice_at : (before : List Voice) (v : Voice) (after : List Voice) → m.voices ≡ before ++ (v ∷ after) → answer (call.voice_at (length before)) m ≡ call.found (Some v)
+  pub voice_at : (before : List Voice) (v : Voice) (after : List Voice) → m.voices ≡ before ++ (v ∷ after)
+      → answer (call.voice_at (length before)) m ≡ call.found (Some v)
   pub past : (i : ℕ) → length m.voices ≤ i → answer (call.voice_at i) m ≡ call.found None
   pub voice : (w : VoiceId) → (o : Option Voice) × First (HasId w) m.voices o × (answer (call.voice w) m ≡ call.found o)
-  pub position : (w : VoiceId) → (o : Option Voice) × First (HasId w) m.voices o × (answer (call.position w) m ≡ call.reached (position_if o))
-  pub node : (k : NodeId) → (o : Option Node) × First (IsNode k) m.shared.graph.nodes o × (answer (call.node_record k) m ≡ call.found_node o)
-  pub sources : (k : NodeId) → (l : List (Option NodeId)) × (answer (call.sources k) m ≡ call.fed l) × (length l ≡ 64) × ((p : ℕ) → p < 64 → Source m.shared.graph.edges k l p)
+  pub position : (w : VoiceId)
+      → (o : Option Voice) × First (HasId w) m.voices o × (answer (call.position w) m ≡ call.reached (position_if o))
+  pub node : (k : NodeId)
+      → (o : Option Node) × First (IsNode k) m.shared.graph.nodes o
+      × (answer (call.node_record k) m ≡ call.found_node o)
+  pub sources : (k : NodeId)
+      → (l : List (Option NodeId)) × (answer (call.sources k) m ≡ call.fed l) × (length l ≡ 64)
+      × ((p : ℕ) → p < 64 → Source m.shared.graph.edges k l p)
   pub steals : answer call.steals m ≡ call.stolen m.shared.steals
   pub edges : answer call.edges m ≡ call.wires m.shared.graph.edges
   pub processing : answer call.processing m ≡ call.in_order m.shared.graph.order
@@ -61,13 +68,16 @@ pub record Questions (m : Model) : Type 0 where
 pub record LogLaw (b : StealLog) (r : StealRecord) : Type 0 where
   pub counted : b.count < 18446744073709551615 → (pushed b r).count ≡ b.count + 1
   pub few : length b.newest < 64 → (pushed b r).newest ≡ b.newest ++ (r ∷ [])
-  pub full : (old : StealRecord) (rest : List StealRecord) → b.newest ≡ old ∷ rest → length b.newest ≡ 64 → (pushed b r).newest ≡ rest ++ (r ∷ [])
+  pub full : (old : StealRecord) (rest : List StealRecord) → b.newest ≡ old ∷ rest → length b.newest ≡ 64
+      → (pushed b r).newest ≡ rest ++ (r ∷ [])
 
--- A reclaimed fade's record is marked cut where it is still held; records are numbered from 0 in the order in which they came.
+-- A reclaimed fade's record is marked cut where it is still held; records are numbered from 0 in the order in which
+-- they came.
 pub record MarkLaw (b : StealLog) (k : ℕ) : Type 0 where
   pub held : (before : List StealRecord) (r : StealRecord) (after : List StealRecord) → b.newest ≡ before ++ (r ∷ after)
       → k ≡ b.count - length b.newest + length before
-      → (marked b k).newest ≡ before ++ (record { sample = r.sample; level = r.level; known = r.known; cut = true } ∷ after)
+      → (marked b k).newest
+      ≡ before ++ (record { sample = r.sample; level = r.level; known = r.known; cut = true } ∷ after)
   pub gone : k < b.count - length b.newest → (marked b k).newest ≡ b.newest
   pub counted : (marked b k).count ≡ b.count
 
@@ -85,7 +95,8 @@ pub record Decimal (n : ℕ) (l : List ℕ) : Type 0 where
   pub value : read_on 0 l ≡ n
 
 -- ---- the page
--- the last node of a voice: its fade, else its pan node, which stands behind its own nodes and the pan's constant, else its output
+-- the last node of a voice: its fade, else its pan node, which stands behind its own nodes and the pan's constant, else
+-- its output
 abbrev pub last_in : VoiceState → NodeId → NodeId
 last_in Tracked k = k
 last_in (Fading f) k = f.node
@@ -123,7 +134,8 @@ pub record Line (clock : ℕ) (es : List Edge) (v : Voice) (line : List ℕ) : T
 -- a line for each voice, in order
 abbrev pub Lines : ℕ → List Edge → List Voice → List ℕ → Type 0
 Lines clock es [] text = text ≡ []
-Lines clock es (v ∷ vs) text = (line rest : List ℕ) × Line clock es v line × Lines clock es vs rest × (text ≡ line ++ rest)
+Lines clock es (v ∷ vs) text = (line rest : List ℕ) × Line clock es v line × Lines clock es vs rest
+    × (text ≡ line ++ rest)
 
 -- The page stands in a buffer that has room for it, and the buffer's later bytes stay; 17 where there is no room.
 pub record PageLaw (m : Model) : Type 0 where
@@ -132,4 +144,5 @@ pub record PageLaw (m : Model) : Type 0 where
   pub room : (out : List ℕ) → length (bytes "voice age port state\n" ++ lines) ≤ length out
       → answer (call.page out) m
       ≡ call.printed (length (bytes "voice age port state\n" ++ lines)) ((bytes "voice age port state\n" ++ lines) ++ drop (length (bytes "voice age port state\n" ++ lines)) out)
-  pub no_room : (out : List ℕ) → length out < length (bytes "voice age port state\n" ++ lines) → answer (call.page out) m ≡ call.refused ShortBuffer
+  pub no_room : (out : List ℕ) → length out < length (bytes "voice age port state\n" ++ lines)
+      → answer (call.page out) m ≡ call.refused ShortBuffer

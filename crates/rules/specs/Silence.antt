@@ -1,5 +1,5 @@
--- Silence (SPEC 7), apart from the definitions that decide it: the kinds that have a rule as one literal table, what each rule says of a node's
--- ports, and what a done plan has to answer.
+-- Silence (SPEC 7), apart from the definitions that decide it: the kinds that have a rule as one literal table, what
+-- each rule says of a node's ports, and what a done plan has to answer.
 use Rattle.std.specs.Prelude.{ℕ, ◌+◌, ◌≡◌, ◌<◌, ◌≤◌, ◌⊎◌, ◌↔◌, List, [], ◌∷◌, ◌++◌, Bool, true, false, length, take, Option, None, Some, slice_get}
 use Prim.Native.String.{String}
 use Rattle.lists.specs.Member.{In}
@@ -123,15 +123,18 @@ flag_at ns v i = flag (node_at ns (id (v.first.0 + i)))
 pub record PlanAnswers (d : SynthDef) (ns : List Node) (v : Voice) : Type 0 where
   pub silent : ℕ → Bool
   pub by_rule : SilentBy d (flag_at ns v) silent
-  pub only : (other : ℕ → Bool) → SilentBy d (flag_at ns v) other → (i : ℕ) → i < length (node_rows d.nodes) → other i ≡ silent i
+  pub only : (other : ℕ → Bool) → SilentBy d (flag_at ns v) other → (i : ℕ) → i < length (node_rows d.nodes)
+      → other i ≡ silent i
   pub voice : is_silent ns v ≡ silent d.output
 
 -- So it is of each voice with the plan and the nodes of a definition, of whatever state, rank, bus or pan.
 abbrev pub PlanLaw : Type 0
 PlanLaw =
-    (d : SynthDef) → allowed d ≡ true → (ns : List Node) (v : Voice) → v.plan ≡ plan_of d → v.count ≡ length (node_rows d.nodes) → PlanAnswers d ns v
+    (d : SynthDef) → allowed d ≡ true → (ns : List Node) (v : Voice) → v.plan ≡ plan_of d
+    → v.count ≡ length (node_rows d.nodes) → PlanAnswers d ns v
 
 -- And a spawn gives its voice the plan and the nodes of the definition that it is asked for.
 abbrev pub SpawnedPlan : Type 0
 SpawnedPlan =
-    (x : Spawn) → allowed x.def ≡ true → (s : VoiceState) (p : ℕ) (m : SharedState) (ns : List Node) → PlanAnswers x.def ns (new_voice x s p m)
+    (x : Spawn) → allowed x.def ≡ true → (s : VoiceState) (p : ℕ) (m : SharedState) (ns : List Node)
+    → PlanAnswers x.def ns (new_voice x s p m)

@@ -16,14 +16,16 @@ use Rattle.node.specs.declared.refusal.Refusal.TheVariants.{UnknownNode, LentBlo
 use Rattle.graph.specs.View.{with_nodes}
 use Rattle.graph.specs.Node.{with_id, noise_raised}
 use Rattle.voice.specs.Steals.{record_of, record_level}
-use Rattle.synthdef.specs.Tables.{node_rows}
+use Rattle.synthdef.specs.Tables.{node_rows, edge_rows}
+use Rattle.synthdef.specs.Edges.{counted}
+use Rattle.synthdef.specs.declared.def.SynthDef.{SynthDef}
 use Rattle.synthdef.specs.declared.def.DefNode.{DefNode}
 use Rattle.voice.specs.declared.voices.Voice.{Voice}
 use Rattle.voice.specs.declared.voices.VoiceState.{VoiceState}
 use Rattle.model.specs.SharedState.{SharedState, with_graph}
 use Rattle.voice.specs.Voice.{id}
 use Rattle.model.specs.Voice.{voice_level, candidate}
-use Rattle.model.specs.Spawn.{Spawn, instantiate_shared, new_voice, next_voice}
+use Rattle.model.specs.Spawn.{Spawn, instantiate_shared, new_voice, next_voice, pans, wire, voice_wires, voice_out}
 use Rattle.model.specs.Model.{Model}
 use Rattle.model.specs.Call.{Answer, Step, step}
 use Rattle.model.specs.Call as call
@@ -35,7 +37,8 @@ use Rattle.rules.specs.Reading.{HasId, IsNode, answer}
 abbrev pub IsZero : Float → Type 0
 IsZero x = (s : Bool) × HasValue x s 0 1
 
--- the nodes of a voice: those of its definition, as new ones, and where it is panned the pan's constant and the pan node
+-- the nodes of a voice: those of its definition, as new ones, and where it is panned the pan's constant and the pan
+-- node
 abbrev pub own_node : VoiceId → DefNode → Node
 own_node w n = new_node (id 0) w n.kind n.ports n.required n.takes_values n.takes_glides
 
@@ -47,7 +50,11 @@ abbrev pub numbered : ℕ → List Node → List Node
 numbered k [] = []
 numbered k (n ∷ ns) = with_id k n ∷ numbered (k + 1) ns
 
--- What a spawn puts behind the nodes that there are: a pan equal to 0 is left out, and every other pans, also a NaN and an infinity.
+abbrev pub nodes_in : SynthDef → ℕ
+nodes_in def = length (node_rows def.nodes)
+
+-- What a spawn puts behind the nodes that there are: a pan equal to 0 is left out, and every other pans, also a NaN and
+-- an infinity.
 pub record PanLaw (x : Spawn) (s : VoiceState) (p : ℕ) (d : SharedState) : Type 0 where
   pub middle : IsZero x.pan
       → ((new_voice x s p d).panned ≡ false)
@@ -57,6 +64,19 @@ pub record PanLaw (x : Spawn) (s : VoiceState) (p : ℕ) (d : SharedState) : Typ
       → ((new_voice x s p d).panned ≡ true)
       × ((instantiate_shared x p d).graph.nodes
       ≡ noise_raised x.bus d.graph.nodes ++ numbered d.graph.next (map (own_node (next_voice d)) (node_rows x.def.nodes) ++ pan_nodes (next_voice d)))
+
+-- How the voice's nodes are joined, by their places: as the definition's counted edges say; and where it is panned its
+-- output feeds port 0 of the pan node and the pan's constant port 1, and the pan node feeds the bus in the output's
+-- place.
+pub record PanWires (x : Spawn) : Type 0 where
+  pub middle : IsZero x.pan
+      → (voice_wires x.def (pans x.pan) ≡ map (λ e. wire e.from e.to e.port) (counted (edge_rows x.def.edges)))
+      × (voice_out x.def (pans x.pan) ≡ x.def.output)
+  pub panned : (IsZero x.pan → ⊥)
+      → (voice_wires x.def (pans x.pan)
+      ≡ map (λ e. wire e.from e.to e.port) (counted (edge_rows x.def.edges))
+      ++ (wire x.def.output (nodes_in x.def + 1) 0 ∷ wire (nodes_in x.def) (nodes_in x.def + 1) 1 ∷ []))
+      × (voice_out x.def (pans x.pan) ≡ nodes_in x.def + 1)
 
 -- ---- the level of a block
 -- y is exactly the square of x
@@ -70,19 +90,25 @@ abbrev pub SumOfSquares : Float → List Float → Float → Type 0
 SumOfSquares a [] z = z ≡ a
 SumOfSquares a (x ∷ xs) z = (y : Float) × IsSquare x y × SumOfSquares (add binary64 a y) xs z
 
--- The level of samples of an f32: the root of the mean of their squares from +0 on, narrowed to binary32; the root and the narrowing are the nearest.
+-- The level of samples of an f32: the root of the mean of their squares from +0 on, narrowed to binary32; the root and
+-- the narrowing are the nearest.
 pub record LevelLaw : Type 0 where
   pub level : (xs : List Float) → ((x : Float) → In x xs → T (fits binary32 x))
-      → (z : Float) × SumOfSquares (fin false 0 (pos 0)) xs z × (level_of xs ≡ narrow (sqrt (div binary64 z (of_int binary64 (pos (length xs))))))
-  pub root : (m : ℕ) (e : ℤ) → 0 < m → T (fits binary64 (fin false m e)) → NearestRoot (fin false m e) (sqrt (fin false m e))
-  pub root_else : (sqrt nan ≡ nan) × (sqrt (inf false) ≡ inf false) × ((s : Bool) (e : ℤ) → sqrt (fin s 0 e) ≡ fin s 0 e)
+      → (z : Float) × SumOfSquares (fin false 0 (pos 0)) xs z
+      × (level_of xs ≡ narrow (sqrt (div binary64 z (of_int binary64 (pos (length xs))))))
+  pub root : (m : ℕ) (e : ℤ) → 0 < m → T (fits binary64 (fin false m e))
+      → NearestRoot (fin false m e) (sqrt (fin false m e))
+  pub root_else : (sqrt nan ≡ nan) × (sqrt (inf false) ≡ inf false)
+      × ((s : Bool) (e : ℤ) → sqrt (fin s 0 e) ≡ fin s 0 e)
   pub narrowed : (s : Bool) (m : ℕ) (e : ℤ) → NearestEven binary32 s (m * up e) (down e) (narrow (fin s m e))
   pub narrowed_else : (narrow nan ≡ nan) × ((s : Bool) → narrow (inf s) ≡ inf s)
 
 -- ---- the level of a voice
--- It is that of its output, whatever float that is, once the clock has passed its birth; none before, and none of a dead output.
+-- It is that of its output, whatever float that is, once the clock has passed its birth; none before, and none of a
+-- dead output.
 pub record VoiceLevel (d : SharedState) (v : Voice) : Type 0 where
-  pub known : v.birth < d.clock → (n : Node) → First (IsNode v.output) d.graph.nodes (Some n) → voice_level d v ≡ Some n.level
+  pub known : v.birth < d.clock → (n : Node) → First (IsNode v.output) d.graph.nodes (Some n)
+      → voice_level d v ≡ Some n.level
   pub dead : First (IsNode v.output) d.graph.nodes None → voice_level d v ≡ None
   pub unborn : d.clock ≤ v.birth → voice_level d v ≡ None
   -- a candidate has it with the voice's id and rank
@@ -93,7 +119,8 @@ level_if d None = None
 level_if d (Some v) = voice_level d v
 
 abbrev pub LevelAsked : Type 0
-LevelAsked = (m : Model) (w : VoiceId) → (o : Option Voice) × First (HasId w) m.voices o × (answer (call.level w) m ≡ call.known (level_if m.shared o))
+LevelAsked = (m : Model) (w : VoiceId)
+    → (o : Option Voice) × First (HasId w) m.voices o × (answer (call.level w) m ≡ call.known (level_if m.shared o))
 
 -- A steal's record holds the clock, the level if one is known, whatever float that is, and whether the victim was cut.
 pub record RecordLaw (clock : ℕ) (o : Option Float) (cut : Bool) : Type 0 where
@@ -106,7 +133,8 @@ pub record RecordLaw (clock : ℕ) (o : Option Float) (cut : Bool) : Type 0 wher
 abbrev pub MayReport : Model → NodeId → Type 0
 MayReport m k =
     (n : Node) × First (IsNode k) m.shared.graph.nodes (Some n)
-    × ((n.owner.0 ≡ 0) ⊎ ((v : Voice) × First (HasId n.owner) m.voices (Some v) × (v.first.0 ≤ k.0) × (k.0 < v.first.0 + v.count)))
+    × ((n.owner.0 ≡ 0) ⊎ ((v : Voice) × First (HasId n.owner) m.voices (Some v) × (v.first.0 ≤ k.0)
+    × (k.0 < v.first.0 + v.count)))
 
 -- one or two channels, each of a block
 abbrev pub IsBlock : Model → ℕ → List Float → Type 0
@@ -135,10 +163,15 @@ with_rows ns m = record { shared = with_graph (with_nodes m.shared.graph ns) m.s
 abbrev pub report : Model → NodeId → ℕ → List Float → Bool → Step
 report m k channels samples done = step (call.report k channels samples done) m
 
--- A report is stored in its node's record, and nothing else changes; 4 where the node takes none, then 16 where the block is of another size.
+-- A report is stored in its node's record, and nothing else changes; 4 where the node takes none, then 16 where the
+-- block is of another size.
 pub record ReportLaw (m : Model) (k : NodeId) (channels : ℕ) (samples : List Float) (done : Bool) : Type 0 where
   pub stored : MayReport m k → IsBlock m channels samples → (before : List Node) (n : Node) (after : List Node)
-      → m.shared.graph.nodes ≡ before ++ (n ∷ after) → IsNode k n → ((o : Node) → In o before → IsNode k o → ⊥) → ((o : Node) → In o after → IsNode k o → ⊥)
-      → report m k channels samples done ≡ record { answer = call.done; model = with_rows (before ++ (noted (level_of samples) done n ∷ after)) m }
-  pub unknown : (MayReport m k → ⊥) → report m k channels samples done ≡ record { answer = call.refused UnknownNode; model = m }
-  pub block : MayReport m k → (IsBlock m channels samples → ⊥) → report m k channels samples done ≡ record { answer = call.refused LentBlock; model = m }
+      → m.shared.graph.nodes ≡ before ++ (n ∷ after) → IsNode k n → ((o : Node) → In o before → IsNode k o → ⊥)
+      → ((o : Node) → In o after → IsNode k o → ⊥)
+      → report m k channels samples done
+      ≡ record { answer = call.done; model = with_rows (before ++ (noted (level_of samples) done n ∷ after)) m }
+  pub unknown : (MayReport m k → ⊥)
+      → report m k channels samples done ≡ record { answer = call.refused UnknownNode; model = m }
+  pub block : MayReport m k → (IsBlock m channels samples → ⊥)
+      → report m k channels samples done ≡ record { answer = call.refused LentBlock; model = m }

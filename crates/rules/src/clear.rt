@@ -6,5 +6,4 @@ ghost use Rattle.rules.specs.Clear.{ClearLaw};
 /// Clearing removes the voices whose fade has ended, then those that are silent, and no other.
 pub fn clearing()
     ensures { (m : Model) → ClearLaw m }
-{
-}
+{}

@@ -1,5 +1,6 @@
-//! Laws of the rules that model and ledger share, each in the rule's own words: agreement of the two machines says nothing of a rule that both
-//! take from one definition. Each law is the contract of a function that takes nothing and does nothing, so that a caller has it by a call.
+//! Laws of the rules that model and ledger share, each in the rule's own words: agreement of the two machines says
+//! nothing of a rule that both take from one definition. Each law is the contract of a function that takes nothing and
+//! does nothing, so that a caller has it by a call.
 #![tactic(auto)]
 
 pub mod clear;

@@ -16,5 +16,4 @@ pub fn limits()
 /// A fade's length follows the sample rate.
 pub fn fade_length()
     ensures { (rate : ℕ) → FadeLength rate }
-{
-}
+{}

@@ -7,11 +7,12 @@ ghost use Rattle.voice.specs.declared.voices.VoiceState.{VoiceState};
 ghost use Rattle.model.specs.SharedState.{SharedState};
 ghost use Rattle.model.specs.Spawn.{Spawn};
 ghost use Rattle.model.specs.Model.{Model};
-ghost use Rattle.rules.specs.Sound.{PanLaw, LevelLaw, VoiceLevel, LevelAsked, RecordLaw, ReportLaw};
+ghost use Rattle.rules.specs.Sound.{PanLaw, PanWires, LevelLaw, VoiceLevel, LevelAsked, RecordLaw, ReportLaw};
 
 /// A voice is panned exactly where its pan does not equal 0, and has the pan's two nodes then.
 pub fn pan()
-    ensures { (x : Spawn) (s : VoiceState) (p : ℕ) (d : SharedState) → PanLaw x s p d }
+    ensures nodes { (x : Spawn) (s : VoiceState) (p : ℕ) (d : SharedState) → PanLaw x s p d }
+    ensures wires { (x : Spawn) → PanWires x }
 {}
 
 /// A block's level is the root of the mean of its exact squares.
@@ -28,5 +29,6 @@ pub fn voice_level()
 
 /// A report of a host node, or of a definition's node of a live voice, is stored; every other is refused.
 pub fn report()
-    ensures { (m : Model) (k : NodeId) (channels : ℕ) (samples : List Float) (done : Bool) → ReportLaw m k channels samples done }
+    ensures { (m : Model) (k : NodeId) (channels : ℕ) (samples : List Float) (done : Bool)
+        → ReportLaw m k channels samples done }
 {}
