@@ -7,3 +7,4 @@ pub mod Placing
 pub mod Spawns
 pub mod Seats
 pub mod Rooms
+pub mod Seating

@@ -153,7 +153,6 @@ impl Tables {
         let nodes = voice_nodes(id, &wish.def, pan);
         let inner = inner_edges(voice.first, &wish.def, pan);
         let outer = outer_edge(voice.first, &wish.def, pan, wish.bus, port);
-        self.graph.claim();
         self.graph.raise_noise(wish.bus);
         // there is room
         let _ = self.graph.add_nodes(nodes.as_slice(), inner.as_slice(), outer);
