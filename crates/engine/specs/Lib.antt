@@ -2,3 +2,4 @@ pub mod Called
 pub mod Made
 pub mod Reached
 pub mod Text
+pub mod Parts
