@@ -2,3 +2,4 @@ pub mod Calls
 pub mod Digits
 pub mod Newly
 pub mod Texts
+pub mod Doing

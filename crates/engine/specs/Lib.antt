@@ -3,3 +3,5 @@ pub mod Made
 pub mod Reached
 pub mod Text
 pub mod Parts
+pub mod Freed
+pub mod Blocks
