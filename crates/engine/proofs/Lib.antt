@@ -8,3 +8,4 @@ pub mod Spawns
 pub mod Seats
 pub mod Rooms
 pub mod Seating
+pub mod Doing
