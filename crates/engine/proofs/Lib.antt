@@ -3,3 +3,4 @@ pub mod Digits
 pub mod Newly
 pub mod Texts
 pub mod Doing
+pub mod Rendered
