@@ -41,8 +41,8 @@ impl Model for Store {
 }
 
 impl Store {
-    /// A new store (SPEC 3). Refused with 1 for the sample rate, 2 for the block size, 3 for the budget, 20 for the fade table at another rate than
-    /// its own.
+    /// A new store (SPEC 3). Refused with 1 for the sample rate, 2 for the block size, 3 for the budget, 20 for the
+    /// fade table at another rate than its own.
     pub fn make(making: Making) -> Result<Store, Refusal>
         ensures { Makes making result }
     {
@@ -52,7 +52,8 @@ impl Store {
         })
     }
 
-    /// What a list of calls left has the properties that the ledger's claim says of it (SPEC 21). Nothing is done when it runs.
+    /// What a list of calls left has the properties that the ledger's claim says of it (SPEC 21). Nothing is done when
+    /// it runs.
     pub fn claim(&self)
         ensures { Claimed self.now }
     {
@@ -61,7 +62,8 @@ impl Store {
 
     /// See `Tables::add_node`.
     pub fn add_node(&mut self, kind: &[u8], node: HostNode) -> Result<NodeId, Refusal>
-        ensures { Called (call.add_node kind.now node.ports node.required node.takes_values node.takes_glides) self.old (add_answered result) self.new }
+        ensures { Called (call.add_node kind.now node.ports node.required node.takes_values node.takes_glides)
+            self.old (add_answered result) self.new }
     {
         self.tables.add_node(kind, node)
     }
@@ -207,7 +209,8 @@ impl Store {
         part: FadePart,
         out: &mut [f32],
     ) -> Result<(), Refusal>
-        ensures is { Asked (call.fade_output input.now part.ins gains.now part.position out.old part.outs) self.now (filled_of result out.new) }
+        ensures is { Asked (call.fade_output input.now part.ins gains.now part.position out.old part.outs)
+            self.now (filled_of result out.new) }
         ensures same { (x : refusal.Refusal) → result ≡ Err x → out.new ≡ out.old }
     {
         self.tables.fade_output(input, gains, part, out)
@@ -235,7 +238,8 @@ impl Store {
         part: FadePart,
         out: &mut [i32],
     ) -> Result<(), Refusal>
-        ensures is { Asked (call.whole_fade input.now part.ins gains.now part.position out.old part.outs) self.now (whole.filled_of result out.new) }
+        ensures is { Asked (call.whole_fade input.now part.ins gains.now part.position out.old part.outs)
+            self.now (whole.filled_of result out.new) }
         ensures same { (x : refusal.Refusal) → result ≡ Err x → out.new ≡ out.old }
     {
         self.tables.whole_fade_output(input, gains, part, out)
@@ -249,7 +253,8 @@ impl Store {
         out: &mut [i32],
         outs: usize,
     ) -> Result<(), Refusal>
-        ensures is { Asked (call.whole_sum inputs.now counts.now out.old outs) self.now (whole.filled_of result out.new) }
+        ensures is { Asked (call.whole_sum inputs.now counts.now out.old outs)
+            self.now (whole.filled_of result out.new) }
         ensures same { (x : refusal.Refusal) → result ≡ Err x → out.new ≡ out.old }
     {
         self.tables.whole_bus_sum(inputs, counts, out, outs)
