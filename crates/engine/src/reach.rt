@@ -2,6 +2,7 @@
 
 ghost use Rattle.std.specs.Prelude.{◌≡◌, Err};
 ghost use Rattle.node.specs.declared.refusal.Refusal as refusal;
+ghost use Rattle.node.specs.declared.order.LastOrder.TheVariants as last;
 ghost use Rattle.model.specs.Call as call;
 ghost use Rattle.busiest.specs.Stretch.{said, samples, busiest};
 ghost use Rattle.mixing.specs.Filled.{filled_of};
@@ -12,13 +13,15 @@ ghost use Rattle.engine.specs.Reached.{Claimed};
 
 use crate::Tables;
 use crate::making::config_of;
+use crate::render::Rendering;
 use busiest::stretch::Busiest;
 use graph::host::HostNode;
 use mixing::FadePart;
-use node::order::EventAction;
+use node::order::{EventAction, Glide};
 use node::record::{Edge, Node, NodeId, VoiceId};
 use node::refusal::Refusal;
 use std::marker::Model;
+use store::answer::Outcome;
 use store::config::Making;
 use voice::steal_ring::Steals;
 use voice::voices::Voice;
@@ -101,6 +104,54 @@ impl Store {
         ensures { Called call.prepare self.old (answered result) self.new }
     {
         self.tables.prepare()
+    }
+
+    /// See `Tables::set_voice_param`.
+    pub fn set_voice_param(&mut self, voice: VoiceId, name: &[u8], value: f32) -> Outcome
+        ensures { Called (call.order voice name.now (last.Value value)) self.old (call.ordered result) self.new }
+    {
+        self.tables.set_voice_param(voice, name, value)
+    }
+
+    /// See `Tables::set_voice_param_glide`.
+    pub fn set_voice_param_glide(&mut self, voice: VoiceId, name: &[u8], glide: Glide) -> Outcome
+        ensures { Called (call.order voice name.now (last.Glide glide)) self.old (call.ordered result) self.new }
+    {
+        self.tables.set_voice_param_glide(voice, name, glide)
+    }
+
+    /// See `Tables::report`.
+    pub fn report(
+        &mut self,
+        node: NodeId,
+        channels: usize,
+        samples: &[f32],
+        done: bool,
+    ) -> Result<(), Refusal>
+        ensures { Called (call.report node channels samples.now done) self.old (answered result) self.new }
+    {
+        self.tables.report(node, channels, samples, done)
+    }
+
+    /// See `Tables::free_voice`.
+    pub fn free_voice(&mut self, voice: VoiceId) -> Outcome
+        ensures { Called (call.free voice) self.old (call.ordered result) self.new }
+    {
+        self.tables.free_voice(voice)
+    }
+
+    /// See `Tables::free_done_synths`.
+    pub fn free_done_synths(&mut self) -> usize
+        ensures { Called call.clear self.old (call.removed result) self.new }
+    {
+        self.tables.free_done_synths()
+    }
+
+    /// See `Tables::render`.
+    pub fn render(&mut self, out: &mut [u8]) -> Rendering
+        ensures { Called (call.render out.old) self.old (call.rendered result.answer result.taken out.new) self.new }
+    {
+        self.tables.render(out)
     }
 
     /// See `Tables::schedule`.
