@@ -9,3 +9,4 @@ pub mod Seats
 pub mod Rooms
 pub mod Seating
 pub mod Doing
+pub mod Rendered
