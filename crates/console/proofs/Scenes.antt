@@ -7,7 +7,7 @@ use mathlib.Core.Bool.{true, false}
 use lib.ListN.{replicate}
 use lib.Ieee.{nan, inf, eq}
 use Rattle.rank.specs.Order as rank
-use Rattle.model.specs.Voice.{id}
+use Rattle.voice.specs.Voice.{id}
 use Rattle.model.specs.Scene.{tone_def, up_to, host, voice}
 use Rattle.model.specs.Make.{new_model}
 use Rattle.model.specs.Call.{spawned}

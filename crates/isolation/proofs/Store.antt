@@ -7,11 +7,12 @@ use Rattle.std.specs.Prelude.{Some, filter}
 use Rattle.lists.proofs.Member.{map_same}
 use Rattle.lists.proofs.Filter.{filter_map}
 use Rattle.node.specs.declared.record.NodeId.{NodeId}
-use Rattle.store.specs.declared.voices.Voice.{Voice}
-use Rattle.store.specs.declared.voices.VoiceState.{VoiceState}
-use Rattle.store.specs.declared.voices.VoiceState.TheVariants.{Tracked, Fading, Loose}
+use Rattle.voice.specs.declared.voices.Voice.{Voice}
+use Rattle.voice.specs.declared.voices.VoiceState.{VoiceState}
+use Rattle.voice.specs.declared.voices.VoiceState.TheVariants.{Tracked, Fading, Loose}
 use Rattle.model.specs.SharedState.{SharedState}
-use Rattle.model.specs.Voice.{is_on, voice_level, moved_state, moved}
+use Rattle.voice.specs.Voice.{is_on, moved_state, moved}
+use Rattle.model.specs.Voice.{voice_level}
 use Rattle.model.specs.Model.{Model}
 use Rattle.model.specs.Make.{Making, config_of, make}
 use Rattle.model.specs.Call.{Call}

@@ -22,11 +22,11 @@ use Rattle.node.specs.declared.refusal.Refusal.TheVariants.{NoPort}
 use Rattle.edges.specs.Ports.{port_from}
 use Rattle.voice.specs.declared.policy.Admission.{Admission}
 use Rattle.voice.specs.declared.policy.Admission.TheVariants as admission
-use Rattle.store.specs.declared.voices.Voice.{Voice}
-use Rattle.store.specs.declared.voices.VoiceState.{VoiceState}
-use Rattle.store.specs.declared.voices.VoiceState.TheVariants.{Tracked, Fading}
-use Rattle.store.specs.declared.voices.Fade.{Fade}
-use Rattle.model.specs.Voice.{is_voice, is_tracked, is_fading, is_on, start_of, fades_on, counted, feeder, with_state, begin_fade}
+use Rattle.voice.specs.declared.voices.Voice.{Voice}
+use Rattle.voice.specs.declared.voices.VoiceState.{VoiceState}
+use Rattle.voice.specs.declared.voices.VoiceState.TheVariants.{Tracked, Fading}
+use Rattle.voice.specs.declared.voices.Fade.{Fade}
+use Rattle.voice.specs.Voice.{is_voice, is_tracked, is_fading, is_on, start_of, fades_on, counted, feeder, with_state, begin_fade}
 use Rattle.model.specs.Refuse.{spawn_refusal}
 use Rattle.model.specs.Spawn.{Spawn, earlier, earliest, else_victim, next_out, state_under, tries, fade_of, new_voice}
 use Rattle.model.specs.Model.{Model, port_free, cut_off, fade, stolen, steal_voice, instantiate_or, refused, place, place_within_budget, steal_then, admitted, admission_on, unless}

@@ -25,8 +25,8 @@ use Rattle.voice.specs.Policy.{at_budget}
 use Rattle.voice.specs.declared.policy.StealPolicy.{StealPolicy}
 use Rattle.voice.specs.declared.policy.StealPolicy.TheVariants as policy
 use Rattle.store.specs.declared.config.Config.{Config}
-use Rattle.store.specs.declared.voices.Voice.{Voice}
-use Rattle.model.specs.Voice.{counted}
+use Rattle.voice.specs.declared.voices.Voice.{Voice}
+use Rattle.voice.specs.Voice.{counted}
 use Rattle.model.specs.Refuse.{or_else, spawn_refusal}
 use Rattle.model.specs.Spawn.{Spawn, next_voice}
 use Rattle.model.specs.Model.{Model}

@@ -4,7 +4,7 @@ use Rattle.lists.specs.Member.{In}
 use Rattle.node.specs.declared.refusal.Refusal.TheVariants.{TableFull}
 use Rattle.synthdef.specs.Limits.{allowed}
 use Rattle.store.specs.declared.config.Config.{Config}
-use Rattle.store.specs.declared.voices.Voice.{Voice}
+use Rattle.voice.specs.declared.voices.Voice.{Voice}
 use Rattle.model.specs.Model.{Model}
 use Rattle.model.specs.Refuse.{no_ids}
 use Rattle.model.specs.Spawn.{Spawn}
