@@ -7,7 +7,7 @@ use mathlib.Core.List.{List, [], ◌∷◌, ◌++◌, map}
 use Rattle.std.specs.Prelude.{Option, None, Some, find, option_map, filter, Ok}
 use mathlib.Core.Bool.{Bool, true, false, not, true≢false}
 use lib.ListN.{length, length-map}
-use borrow.Author.Tests.{eqb-true, not-true}
+use borrow.Author.Tests.{eqb-true, eq-eqb, not-true}
 use Rattle.lists.specs.Member.{In}
 use Rattle.lists.proofs.Member.{in_map, in_of_map, in_right}
 use Rattle.lists.proofs.Find.{find_in, none_find}
@@ -51,7 +51,8 @@ use Rattle.ledger.specs.Claim.{Arrives, Holds, Losses, GoesOn, Why, Fate, Reclai
 use Rattle.ledger.specs.Call as ledgerCall
 use Rattle.ledger.proofs.Arrives.{ArrivesAt, managed_comes, loose_comes}
 use Rattle.ledger.proofs.Words as words
-use Rattle.ledger.proofs.Ids.{unique, ids_map}
+use Rattle.lists.proofs.Rising.{rises_once}
+use Rattle.ledger.proofs.Ids.{once, unique, ids_map}
 use Rattle.ledger.proofs.Abstraction.{counted_same, under_same, find_stored}
 use Rattle.ledger.proofs.Simulation.{RunInvariant, kept_step_lem}
 use Rattle.ledger.proofs.Capacity.{RoomOf}
@@ -255,6 +256,8 @@ module _ (c : Config) (l : Ledger) (known : Known c l) where
         next_node = known.ready.rows.below;
         voice_rows = (ids_map (shown c) (λ v. refl) r.ids).rising;
         next_voice = (ids_map (shown c) (λ v. refl) r.ids).below;
+        node_found = λ n i. rises_once (λ (x : Node). x.id.0) 0 l.shared.graph.nodes known.ready.rows.rises n.id.0 n i (eq-eqb n.id.0 n.id.0 refl);
+        voice_found = λ v i. once (ids_map (shown c) (λ v. refl) r.ids) v.id v i (eq-eqb v.id.0 v.id.0 refl);
         unprepared = prepare_refuses (store_of c l) (to_live 0 l.shared.graph.nodes known.ready.rows.rises);
         unscheduled = λ t w name a. schedule_refuses (store_of c l) t w name a known.room.events;
         next_for_port = next_goes (store_of c l) (ids_map (shown c) (λ v. refl) r.ids);

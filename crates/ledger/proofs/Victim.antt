@@ -29,9 +29,9 @@ use Rattle.voice.specs.declared.voices.Voice.{Voice}
 use Rattle.voice.specs.declared.voices.VoiceState.{VoiceState}
 use Rattle.voice.specs.declared.voices.VoiceState.TheVariants.{Tracked, Fading, Loose}
 use Rattle.model.specs.SharedState.{SharedState}
-use Rattle.voice.specs.Voice.{is_voice, is_tracked, is_fading, is_on, start_of, tracked_on, fades_on}
+use Rattle.voice.specs.Voice.{is_voice, is_tracked, is_fading, is_on, tracked_on, fades_on}
 use Rattle.model.specs.Voice.{candidate, candidates}
-use Rattle.model.specs.Spawn.{voice_of, earlier, earliest, else_victim, next_out}
+use Rattle.model.specs.Spawn.{voice_of, no_later, earlier, earliest, else_victim, next_out}
 use Rattle.ledger.specs.Claim.{Stealing, steals, may_go_on, goes}
 use Rattle.ledger.proofs.Ids.{Ids, once}
 
@@ -134,7 +134,7 @@ earliest_in q (x ∷ vs) v h = go (earliest q vs) refl (q x) refl h (earliest_in
     go None e true f h ih = let s : x ≡ v = some_inj h in (inl (sym s), ap q (sym s) ∙ f)
     go None e false f h ih = absurd (none_some h)
     go (Some y) e false f h ih = let r = ih v (e ∙ h) in (inr r.0, r.1)
-    go (Some y) e true f h ih = pick (leb (start_of x.state) (start_of y.state)) h
+    go (Some y) e true f h ih = pick (no_later x y) h
       where
         pick : (c : Bool) → cond c (Some x) (Some y) ≡ Some v → In v (x ∷ vs) × (q v ≡ true)
         pick true g = let s : x ≡ v = some_inj g in (inl (sym s), ap q (sym s) ∙ f)
@@ -149,7 +149,7 @@ earliest_none q (x ∷ vs) h v i = go (earliest q vs) refl (q x) refl h i (earli
     pick false y g = none_some (sym g)
 
     go : (o : Option Voice) → earliest q vs ≡ o → (b : Bool) → q x ≡ b → earlier o b x ≡ None → In v (x ∷ vs) → (earliest q vs ≡ None → (v : Voice) → In v vs → q v ≡ false) → q v ≡ false
-    go (Some y) e b f h i ih = absurd (pick (b && leb (start_of x.state) (start_of y.state)) y h)
+    go (Some y) e b f h i ih = absurd (pick (b && no_later x y) y h)
     go None e true f h i ih = absurd (none_some (sym h))
     go None e false f h (inl s) ih = ap q s ∙ f
     go None e false f h (inr j) ih = ih e v j

@@ -482,6 +482,9 @@ pub record Holds (c : Config) (s : Model) : Type 0 where
   -- So do the ids of the voices, from 1 on, and none is above the number of those given out.
   pub voice_rows : rising.RisesFrom (λ (v : Voice). v.id.0) 1 s.voices
   pub next_voice : (v : Voice) → In v s.voices → v.id.0 ≤ s.shared.spawned
+  -- So whoever is asked for by an id is the one that has it.
+  pub node_found : (n : Node) → In n s.shared.graph.nodes → node_at s.shared.graph.nodes n.id ≡ Some n
+  pub voice_found : (v : Voice) → In v s.voices → find (is_voice v.id) s.voices ≡ Some v
   -- ---- 2, SPEC 13.2. The next clearing call has removed each voice whose fade has ended.
   pub removes : (v : Voice) → In v s.voices → clearing.ended (fade_length c.rate) v.state ≡ true
       → find (is_voice v.id) (left_by call.clear s).voices ≡ None
