@@ -36,7 +36,7 @@ store_told b s = record { answer = shown (refusal_in s.answer); voices = store_v
 -- the store's tale: that of the calls which have an entry in the story
 abbrev pub store_tale : NodeId → List Call → Ledger → Model → List Told
 store_tale b [] l m = []
-store_tale b (x ∷ xs) l m = let s = call.step x m in (λ r. store_told b s ∷ r) (store_tale b xs (step x l).ledger s.model)
+store_tale b (x ∷ xs) l m = let s = call.step x m in tell (entry b x l) (store_told b s) (store_tale b xs (step x l).ledger s.model)
 
 -- the numbers of the records that these calls wrote
 abbrev pub store_written : NodeId → List Call → Ledger → Model → List ℕ
