@@ -2,22 +2,18 @@
 -- of a console, not yet sealed, is the theory's new board.
 use Prim.Native.Nat.{ℕ, min}
 use mathlib.Core.Path.{◌≡◌, refl, ap, ap₂, ◌∙◌}
-use mathlib.Core.Logic.{inl, inr}
 use mathlib.Core.List.{List, [], ◌∷◌}
-use mathlib.Core.Bool.{true, false}
+use mathlib.Core.Bool.{false}
 use lib.ListN.{get_or}
 use Rattle.std.specs.Prelude.{None, Some}
 use Rattle.voice_rows.specs.Rows.{each}
 use Rattle.wish_rows.specs.Rows.{wishes_in}
 use Rattle.model.specs.Model.{Model}
 use Rattle.model.specs.Make.{Making, make}
-use Rattle.model.specs.Wish.{wish_for}
-use Rattle.model.specs.Call as call
 use Rattle.memory.specs.View.{Memory}
 use Rattle.memory.specs.Lent.{lent_state}
 use Rattle.console.specs.Wishes.{new_wishes}
 use Rattle.console.specs.Console.{Console, ConsoleCall, ConsoleRan, made, make_console}
-use Rattle.console.specs.Console as console
 use Rattle.console.specs.Begins.{Begins, with_keyboards, alone, without_keyboards}
 use Rattle.console.proofs.Begins.{begun}
 use Rattle.console_isolation.specs.Isolated.{calls_from}
@@ -37,41 +33,23 @@ use Rattle.board_isolation.proofs.Theorem.{board_isolated}
 use Rattle.replaced.proofs.Theorem.{replaced_same}
 use Rattle.call_seal.specs.Board.{BoardMemory, board, board_of, BoardCalled, BoardKept}
 use Rattle.call_seal.proofs.Boards.{through}
-use Rattle.board_refinement.specs.Contract.{Unclosed, EveryCall, Contract, Runs, ends, calls}
+use Rattle.board_refinement.specs.Forms.{Unclosed}
+use Rattle.board_refinement.specs.Forms as form
+use Rattle.board_refinement.specs.Contract.{Contract, Runs, ends, calls}
 use Rattle.board_refinement.specs.Contract as contract
 use Rattle.board_refinement.specs.Refines.{Refines}
 
--- ---- every call has a form
-pub every_call : EveryCall
-every_call (console.on (call.add_node kind ports required values glides)) = inr (contract.add_node kind ports required values glides)
-every_call (console.on (call.remove_node k)) = inr (contract.remove_node k)
-every_call (console.on (call.connect a b p)) = inr (contract.connect a b p)
-every_call (console.on (call.disconnect b p)) = inr (contract.disconnect b p)
-every_call (console.on (call.set_sink k)) = inr (contract.set_sink k)
-every_call (console.on (call.spawn_managed x)) = inr (contract.spawn (wish_for true x.bus x.pan x.rank x.def))
-every_call (console.on (call.spawn_loose x)) = inr (contract.spawn (wish_for false x.bus x.pan x.rank x.def))
-every_call (console.on (call.free w)) = inl (contract.free w)
-every_call (console.on call.clear) = inl contract.clear
-every_call (console.on (call.order w name o)) = inl (contract.order w name o)
-every_call (console.on (call.schedule t w name a)) = inl (contract.schedule t w name a)
-every_call (console.on (call.report k channels samples flag)) = inl (contract.report k channels samples flag)
-every_call (console.on call.prepare) = inl contract.prepare
-every_call (console.on (call.render out)) = inl (contract.render out)
-every_call (console.on (call.ask q)) = inl (contract.ask q)
-every_call (console.wish q w) = inr (contract.wish q w)
-every_call console.turn = inl contract.turn
-
 never_closed : (x : Seal) (c : ConsoleCall) → Unclosed c → closed x c ≡ false
 never_closed None c u = refl
-never_closed (Some s) _ contract.turn = refl
-never_closed (Some s) _ (contract.free w) = refl
-never_closed (Some s) _ contract.clear = refl
-never_closed (Some s) _ (contract.order w name o) = refl
-never_closed (Some s) _ (contract.schedule t w name a) = refl
-never_closed (Some s) _ (contract.report k channels samples flag) = refl
-never_closed (Some s) _ contract.prepare = refl
-never_closed (Some s) _ (contract.render out) = refl
-never_closed (Some s) _ (contract.ask q) = refl
+never_closed (Some s) _ form.turn = refl
+never_closed (Some s) _ (form.free w) = refl
+never_closed (Some s) _ form.clear = refl
+never_closed (Some s) _ (form.order w name o) = refl
+never_closed (Some s) _ (form.schedule t w name a) = refl
+never_closed (Some s) _ (form.report k channels samples flag) = refl
+never_closed (Some s) _ form.prepare = refl
+never_closed (Some s) _ (form.render out) = refl
+never_closed (Some s) _ (form.ask q) = refl
 
 pub called : {x : BoardCall} {m : BoardMemory} {a : BoardAnswer} {n : BoardMemory} → Contract x m a n → BoardCalled x m a n
 called (contract.add_node κs a r s p m w words) = p.0 m w words

@@ -1,12 +1,6 @@
 -- A call of a board on lent memory, by the contract of its function as the check reads it off the source (as crate refinement has it
 -- for the calls of the store, and console_refinement for those of the console). The seal is the first argument, `a.0`.
-use Rattle.std.specs.Prelude.{ℕ, ◌⊎◌, List, [], ◌∷◌, Bool, Float}
-use Rattle.node.specs.declared.order.EventAction.{EventAction}
-use Rattle.node.specs.declared.order.LastOrder.{LastOrder}
-use Rattle.node.specs.declared.record.NodeId.{NodeId}
-use Rattle.node.specs.declared.record.VoiceId.{VoiceId}
-use Rattle.store.specs.declared.wish.Wish.{Wish}
-use Rattle.model.specs.Call.{Question}
+use Rattle.std.specs.Prelude.{ℕ, List, [], ◌∷◌}
 use Rattle.model.specs.Call as call
 use Rattle.memory.specs.View.{Memory}
 use Rattle.memory.specs.Lent.{lent_nodes, lent_graph, lent_voices, lent_spawn}
@@ -20,6 +14,7 @@ use Rattle.sealed.specs.Seal.{Seal}
 use Rattle.sealed.specs.Board.{BoardCall, BoardAnswer, on, given}
 use Rattle.sealed.specs.Board as sealed
 use Rattle.call_seal.specs.Board.{BoardMemory, sealed_by, board, on_store, seal_answer, host_answer, node_answer, spawn_answer, wished_answer}
+use Rattle.board_refinement.specs.Forms.{Unclosed}
 use Rattle.call_seal.proofs.sealing.seal.Reads as fn-seal
 use Rattle.call_seal.proofs.host.add_node.Reads as fn-add-node
 use Rattle.call_seal.proofs.host.remove_node.Reads as fn-remove-node
@@ -29,33 +24,7 @@ use Rattle.call_seal.proofs.host.set_sink.Reads as fn-set-sink
 use Rattle.call_seal.proofs.spawn.spawn.Reads as fn-spawn
 use Rattle.call_seal.proofs.wishing.wish.Reads as fn-wish
 
--- ---- every call has a form: `every_call` of proofs/Refined
--- the calls that no seal closes: they are the console's own, and are not lent the seal
-pub data Unclosed : ConsoleCall → Type 0 where
-  turn : Unclosed console.turn
-  free : (w : VoiceId) → Unclosed (console.on (call.free w))
-  clear : Unclosed (console.on call.clear)
-  order : (w : VoiceId) (name : List ℕ) (o : LastOrder) → Unclosed (console.on (call.order w name o))
-  schedule : (t : ℕ) (w : VoiceId) (name : List ℕ) (a : EventAction) → Unclosed (console.on (call.schedule t w name a))
-  report : (k : NodeId) (channels : ℕ) (samples : List Float) (flag : Bool) → Unclosed (console.on (call.report k channels samples flag))
-  prepare : Unclosed (console.on call.prepare)
-  render : (out : List ℕ) → Unclosed (console.on (call.render out))
-  ask : (q : Question) → Unclosed (console.on (call.ask q))
-
--- and those that a seal may close: each is lent the seal, by a form of its own below
-pub data Lent : ConsoleCall → Type 0 where
-  add_node : (kind : List ℕ) (ports required : ℕ) (values glides : Bool) → Lent (console.on (call.add_node kind ports required values glides))
-  remove_node : (k : NodeId) → Lent (console.on (call.remove_node k))
-  connect : (a b : NodeId) (p : ℕ) → Lent (console.on (call.connect a b p))
-  disconnect : (b : NodeId) (p : ℕ) → Lent (console.on (call.disconnect b p))
-  set_sink : (k : NodeId) → Lent (console.on (call.set_sink k))
-  spawn : (w : Wish) → Lent (console.on (call_of w))
-  wish : (q : ℕ) (w : Wish) → Lent (console.wish q w)
-
-abbrev pub EveryCall : Type 0
-EveryCall = (c : ConsoleCall) → Unclosed c ⊎ Lent c
-
--- ---- this call on this board answers so and leaves that board
+-- this call on this board answers so and leaves that board
 pub data Contract : BoardCall → BoardMemory → BoardAnswer → BoardMemory → Type 1 where
   -- the host's nodes and wiring
   add_node : (κs : _) (a : _) (r : _) (s : _) → fn-add-node.Post κs a r s → (m : Memory) (w : WishState) (words : List ℕ)
