@@ -35,7 +35,7 @@ abbrev pub blank_name : Name
 blank_name = record { bytes = replicate 16 0; len = 0 }
 
 abbrev pub blank_node : DefNode
-blank_node = bare_node (record { bytes = replicate 16 0; len = 1 })
+blank_node = bare_node blank_name
 
 abbrev pub blank_param : Param
 blank_param = record { name = blank_name; node = 0 }
