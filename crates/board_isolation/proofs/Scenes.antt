@@ -15,7 +15,7 @@ use Rattle.voice.specs.declared.policy.BudgetScope.TheVariants as BudgetScope
 use Rattle.voice.specs.declared.policy.StealPolicy.TheVariants.{Oldest}
 use Rattle.synthdef.specs.declared.def.SynthDef.{SynthDef}
 use Rattle.store.specs.declared.answer.Outcome.TheVariants.{Applied}
-use Rattle.model.specs.Voice.{id}
+use Rattle.voice.specs.Voice.{id}
 use Rattle.model.specs.Spawn.{spawn_of}
 use Rattle.bus.specs.Rate.{rate_of}
 use Rattle.model.specs.Make.{Making, new_model}

@@ -5,7 +5,7 @@ use mathlib.Core.Path.{◌≡◌, refl, sym, ap, ◌∙◌}
 use mathlib.Core.Bool.{true, false}
 use Rattle.std.specs.Prelude.{Option, None, Some, is_some}
 use Rattle.node.specs.declared.record.NodeId.{NodeId}
-use Rattle.store.specs.declared.voices.Voice.{Voice}
+use Rattle.voice.specs.declared.voices.Voice.{Voice}
 use Rattle.model.specs.Spawn.{next_out}
 use Rattle.model.specs.Model.{Model, port_free}
 use Rattle.bus_room.specs.Reclaimed.{if_none, leaving, cut_now, go_on, reclaimed}

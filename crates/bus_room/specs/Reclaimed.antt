@@ -7,10 +7,10 @@ use Rattle.node.specs.declared.record.Node.{Node}
 use Rattle.voice.specs.Policy.{victim}
 use Rattle.voice.specs.Steals.{StealLog}
 use Rattle.voice.specs.declared.policy.StealPolicy.{StealPolicy}
-use Rattle.store.specs.declared.voices.Voice.{Voice}
+use Rattle.voice.specs.declared.voices.Voice.{Voice}
 use Rattle.voice_rows.specs.Levels.{candidates_at}
 use Rattle.model.specs.SharedState.{SharedState, with_steals}
-use Rattle.model.specs.Voice.{tracked_on, fades_on}
+use Rattle.voice.specs.Voice.{tracked_on, fades_on}
 use Rattle.model.specs.Spawn.{voice_of, earliest, else_victim, next_out, reclaim_log}
 use Rattle.model.specs.Model.{Model, port_free, cut_off}
 

@@ -11,7 +11,7 @@ use graph_rows::node_row::NodeTable;
 use memory::parts::{ring_of, with_steals};
 use memory::state::State;
 use steal_log::{StealTable, log_cut, log_steal};
-use store::voices::VoiceState;
+use voice::voices::VoiceState;
 use voice_policy::steals::steal_record;
 use voice_rows::levels::level_at;
 use voice_rows::row::{VoiceTable, id_at, state_at};

@@ -7,7 +7,7 @@ ghost use Rattle.voice.specs.Policy.{victim};
 ghost use Rattle.voice_rows.specs.Levels.{candidates_at};
 ghost use Rattle.voice_rows.specs.Rows.{voices_in};
 ghost use Rattle.voice_rows.specs.Found.{FoundAt};
-ghost use Rattle.model.specs.Voice.{tracked_on};
+ghost use Rattle.voice.specs.Voice.{tracked_on};
 ghost use Rattle.bus_room.specs.Reclaimed.{next_at};
 
 use graph_rows::edge_row::EdgeTable;

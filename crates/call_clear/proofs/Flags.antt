@@ -24,8 +24,8 @@ use Rattle.words.proofs.Rows.{rows_long}
 use Rattle.graph_rows.specs.Node.{node_of, nodes_in}
 use Rattle.synthdef.specs.Plan.{plan_silent}
 use Rattle.synthdef.proofs.PassLaws.{silent_flags}
-use Rattle.store.specs.declared.voices.Voice.{Voice}
-use Rattle.model.specs.Voice.{id}
+use Rattle.voice.specs.declared.voices.Voice.{Voice}
+use Rattle.voice.specs.Voice.{id}
 use Rattle.model.specs.Clear.{done_flag, done_flags, is_silent}
 use Rattle.call_clear.specs.Flags.{flag_at, FlagsAre, any_done}
 

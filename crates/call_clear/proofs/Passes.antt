@@ -8,7 +8,7 @@ use lib.ListN.{length, take, length-map}
 use Rattle.std.specs.Prelude.{filter}
 use Rattle.words.proofs.InPlace.{Gathering}
 use Rattle.words.proofs.InWords.{take_count}
-use Rattle.store.specs.declared.voices.Voice.{Voice}
+use Rattle.voice.specs.declared.voices.Voice.{Voice}
 use Rattle.model.specs.SharedState.{length_l}
 use Rattle.model.specs.Model.{Model, without_voice}
 use Rattle.model.specs.Call.{Step, step, clear, removed}

@@ -2,7 +2,7 @@
 use Rattle.std.specs.Prelude.{ℕ, ◌+◌, min, ◌≡◌, List, Bool, false, cond, ltb, length, get_or, find, is_some}
 use Rattle.node.specs.declared.record.Node.{Node}
 use Rattle.graph.specs.Node.{node_at}
-use Rattle.model.specs.Voice.{id}
+use Rattle.voice.specs.Voice.{id}
 use Rattle.model.specs.Clear.{done_flag}
 
 -- the flag at place j; places past the definition's nodes are clear

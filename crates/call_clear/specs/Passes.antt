@@ -2,7 +2,7 @@
 use Rattle.std.specs.Prelude.{ℕ, ◌≡◌, List, [], map, Bool, get_or, filter}
 use Rattle.lists.specs.Table.{rows_of}
 use Rattle.lists.specs.declared.rows.Table.{Table}
-use Rattle.store.specs.declared.voices.Voice.{Voice}
+use Rattle.voice.specs.declared.voices.Voice.{Voice}
 use Rattle.model.specs.Clear.{ended}
 use Rattle.voice_rows.specs.Rows.{voice_of, voices_in}
 

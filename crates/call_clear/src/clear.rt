@@ -1,6 +1,6 @@
 // Each lent table and its count are parameters of their own: a signature shows what a call may touch.
 ghost use Rattle.std.specs.Prelude.{Bool, take};
-ghost use Rattle.store.specs.declared.voices.Voice.{Voice};
+ghost use Rattle.voice.specs.declared.voices.Voice.{Voice};
 ghost use Rattle.graph_rows.specs.Node.{nodes_in};
 ghost use Rattle.voice_rows.specs.Rows.{voices_in};
 ghost use Rattle.model.specs.Call.{clear, removed};

@@ -10,10 +10,10 @@ use borrow.Author.Tests.{eqb-true}
 use Rattle.lists.proofs.Find.{find_in}
 use Rattle.node.specs.declared.record.VoiceId.{VoiceId}
 use Rattle.store.specs.declared.answer.Outcome.TheVariants.{Applied}
-use Rattle.store.specs.declared.voices.Voice.{Voice}
+use Rattle.voice.specs.declared.voices.Voice.{Voice}
 use Rattle.model.specs.Model.{Model, without_voice, freed}
 use Rattle.model.specs.Order.{free_outcome}
-use Rattle.model.specs.Voice.{is_voice}
+use Rattle.voice.specs.Voice.{is_voice}
 use Rattle.voice_rows.specs.Found.{FoundAt}
 
 found_is : (w : VoiceId) (l : List Voice) (v : Voice) → find (is_voice w) l ≡ Some v → v.id.0 ≡ w.0

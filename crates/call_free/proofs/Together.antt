@@ -12,10 +12,10 @@ use Rattle.graph.specs.Node.{owned_by, owned_by_any}
 use Rattle.graph.specs.Change.{without}
 use Rattle.graph.specs.View.{GraphView}
 use Rattle.graph.proofs.Together.{listed_more, listed_one, without_together, without_same}
-use Rattle.store.specs.declared.voices.Voice.{Voice}
+use Rattle.voice.specs.declared.voices.Voice.{Voice}
 use Rattle.model.specs.SharedState.{SharedState, with_graph}
 use Rattle.model.specs.Model.{Model, without_voice}
-use Rattle.model.specs.Voice.{is_voice}
+use Rattle.voice.specs.Voice.{is_voice}
 use Rattle.voice_rows.specs.Listed.{is_any_of}
 use Rattle.call_free.specs.Forgotten.{without_ids}
 

@@ -1,7 +1,7 @@
 // The call that frees a voice.
 ghost use Rattle.std.specs.Prelude.{◌≡◌, take, None, find};
 ghost use Rattle.model.specs.Call.{free, ordered};
-ghost use Rattle.model.specs.Voice.{is_voice};
+ghost use Rattle.voice.specs.Voice.{is_voice};
 ghost use Rattle.voice_rows.specs.Rows.{voices_in};
 ghost use Rattle.memory.specs.View.{Memory};
 ghost use Rattle.memory.specs.Lent.{lent_voices};

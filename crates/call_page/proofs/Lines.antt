@@ -8,15 +8,15 @@ use lib.ListN.{length, take, get_or}
 use lib.Seq.{take-suc}
 use Rattle.node.specs.Silence.{bytes}
 use Rattle.model.specs.Decimal.{decimal}
-use Rattle.model.specs.Voice.{end_of}
+use Rattle.voice.specs.Voice.{end_of}
 use Rattle.model.specs.Page.{word, age, port_now, port_text, header, line, lines, page}
 use Rattle.node.specs.declared.record.NodeId.{NodeId}
 use Rattle.node.specs.declared.record.VoiceId.{VoiceId}
 use Rattle.node.specs.declared.record.Edge.{Edge}
 use Rattle.edges.specs.Ports.{feeds}
 use Rattle.graph_tables.specs.FedPorts.{node}
-use Rattle.store.specs.declared.voices.Voice.{Voice}
-use Rattle.store.specs.declared.voices.VoiceState.{VoiceState}
+use Rattle.voice.specs.declared.voices.Voice.{Voice}
+use Rattle.voice.specs.declared.voices.VoiceState.{VoiceState}
 
 -- the port of an edge that was looked for, if it was found
 abbrev pub port_found : Option Edge → Option ℕ

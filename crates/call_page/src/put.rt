@@ -12,7 +12,7 @@ use graph_rows::edge_row::EdgeTable;
 use graph_tables::ports::feeding_edge;
 use lists::byte::copy;
 use memory::state::State;
-use store::voices::VoiceState;
+use voice::voices::VoiceState;
 use voice_rows::feeding::end_at;
 use voice_rows::row::{VoiceTable, birth_at, bus_at, id_at, state_at};
 

@@ -17,7 +17,7 @@ use Rattle.words.proofs.Place.{found_in}
 use Rattle.words.proofs.FirstRow.{at_place, none_placed}
 use Rattle.graph.specs.Node.{owned_by_any}
 use Rattle.graph_rows.specs.Node.{node_of, nodes_in}
-use Rattle.model.specs.Voice.{id}
+use Rattle.voice.specs.Voice.{id}
 use Rattle.call_param.specs.Left.{is_left, replaced_left}
 use Rattle.call_param.proofs.Copying.{place_set}
 

@@ -16,8 +16,8 @@ use Rattle.edges.specs.Wiring.{listed}
 use Rattle.graph_rows.specs.Node.{node_of, nodes_in}
 use Rattle.store.specs.declared.answer.Outcome.{Outcome}
 use Rattle.store.specs.declared.answer.Outcome.TheVariants.{Applied, NoVoice, NotTaken}
-use Rattle.store.specs.declared.voices.Voice.{Voice}
-use Rattle.model.specs.Voice.{is_voice, id}
+use Rattle.voice.specs.declared.voices.Voice.{Voice}
+use Rattle.voice.specs.Voice.{is_voice, id}
 use Rattle.model.specs.Order.{takes, with_last}
 use Rattle.voice_rows.specs.Rows.{voices_in}
 use Rattle.call_param.specs.Left.{is_left, is_known, Reply, reply, replaced_left, reply_node, reply_voice, order_left}

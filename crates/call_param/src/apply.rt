@@ -1,7 +1,7 @@
 // An order at its node, which is looked for by its id. No `?`: an `Outcome` is no result, since model and ledger
 // have its four cases by their names.
 ghost use Rattle.std.specs.Prelude.{take, find};
-ghost use Rattle.model.specs.Voice.{id};
+ghost use Rattle.voice.specs.Voice.{id};
 ghost use Rattle.graph_rows.specs.Node.{nodes_in};
 ghost use Rattle.call_param.specs.Left.{is_left, reply_node};
 ghost use Rattle.call_param.specs.Replies.{Replies};

@@ -3,7 +3,7 @@
 // freed voices, as with every table: a type for the last two would be taken apart in each clause.
 ghost use Rattle.std.specs.Prelude.{◌≡◌, cond, [], map, take, get_or, position};
 ghost use Rattle.words.specs.Place.{place_of};
-ghost use Rattle.model.specs.Voice.{id};
+ghost use Rattle.voice.specs.Voice.{id};
 ghost use Rattle.graph_rows.specs.Node.{node_of, nodes_in};
 ghost use Rattle.call_param.specs.Left.{is_left};
 

@@ -8,7 +8,7 @@ ghost use Rattle.memory.specs.Called.{Called};
 use graph_rows::node_row::NodeTable;
 use memory::state::State;
 use node::record::VoiceId;
-use store::voices::{Voice, VoiceState};
+use voice::voices::{Voice, VoiceState};
 use voice_rows::fade::fading;
 use voice_rows::levels::level_at;
 use voice_rows::row::{self, VoiceTable, state_at};

@@ -14,12 +14,12 @@ use Rattle.scheduler.specs.Event.{param_order}
 use Rattle.scheduler.specs.declared.event.Event.{Event}
 use Rattle.synthdef.specs.Tables.{param_rows}
 use Rattle.synthdef.specs.Params.{param_node}
-use Rattle.store.specs.declared.voices.Voice.{Voice}
+use Rattle.voice.specs.declared.voices.Voice.{Voice}
 use Rattle.model.specs.SharedState.{SharedState}
 use Rattle.model.specs.Model.{Model, free, freed}
 use Rattle.model.specs.Order.{takes, order_node, order_param, order_voice, order}
 use Rattle.model.specs.Render.{is_free, apply_event, apply_events, deadline, ready_shared, prepare_outcome, prepared_if}
-use Rattle.model.specs.Voice.{is_voice, id}
+use Rattle.voice.specs.Voice.{is_voice, id}
 use Rattle.call_render.specs.Blocks.{readied, block_to}
 
 event_free : (e : Event) (m : Model) → is_free e.action ≡ true → free e.voice m ≡ apply_event e m

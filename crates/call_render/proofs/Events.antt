@@ -22,7 +22,7 @@ use Rattle.event_table.specs.Rows.{events_in}
 use Rattle.graph_rows.specs.Node.{nodes_in}
 use Rattle.store.specs.declared.answer.Outcome.{Outcome}
 use Rattle.store.specs.declared.answer.Outcome.TheVariants.{Applied, NoVoice}
-use Rattle.store.specs.declared.voices.Voice.{Voice}
+use Rattle.voice.specs.declared.voices.Voice.{Voice}
 use Rattle.model.specs.SharedState.{SharedState, with_events}
 use Rattle.model.specs.Model.{Model}
 use Rattle.model.specs.Order.{outcome_number, free_outcome}
@@ -30,7 +30,7 @@ use Rattle.lists.specs.declared.rows.Table.{Table}
 use Rattle.lists.specs.Written.{written}
 use Rattle.model.proofs.Outcomes.{count_is}
 use Rattle.model.specs.Render.{is_free, any_free, apply_event, apply_events, outcomes}
-use Rattle.model.specs.Voice.{is_voice}
+use Rattle.voice.specs.Voice.{is_voice}
 use Rattle.voice_rows.specs.Rows.{voice_of, voices_in}
 use Rattle.voice_rows.specs.Found.{FoundAt}
 use Rattle.memory.specs.declared.state.State.{State}

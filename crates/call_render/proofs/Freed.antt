@@ -25,11 +25,11 @@ use Rattle.graph.proofs.Together.{listed_more, listed_in}
 use Rattle.synthdef.specs.Tables.{param_rows}
 use Rattle.synthdef.specs.Params.{param_node}
 use Rattle.store.specs.declared.answer.Outcome.TheVariants.{Applied, NotTaken}
-use Rattle.store.specs.declared.voices.Voice.{Voice}
+use Rattle.voice.specs.declared.voices.Voice.{Voice}
 use Rattle.model.specs.SharedState.{SharedState, with_graph}
 use Rattle.model.specs.Model.{Model, without_voice, freed}
 use Rattle.model.specs.Order.{takes, with_last, with_node, stays, order_node, order_param, order_voice, order, free_outcome}
-use Rattle.model.specs.Voice.{is_voice, id}
+use Rattle.voice.specs.Voice.{is_voice, id}
 use Rattle.call_param.specs.Left.{is_left, is_known, reply, replaced_left, reply_node, reply_param, reply_voice, order_left}
 use Rattle.call_free.specs.Forgotten.{without_ids}
 use Rattle.call_render.specs.Applying.{scene, noted}

@@ -7,7 +7,7 @@ use Rattle.graph.specs.View.{with_nodes}
 use Rattle.scheduler.specs.Queue.{taken_before, left_after}
 use Rattle.scheduler.specs.declared.event.Event.{Event}
 use Rattle.store.specs.declared.answer.Outcome.{Outcome}
-use Rattle.store.specs.declared.voices.Voice.{Voice}
+use Rattle.voice.specs.declared.voices.Voice.{Voice}
 use Rattle.model.specs.SharedState.{SharedState, with_graph, with_events}
 use Rattle.model.specs.Model.{Model}
 use Rattle.model.specs.Order.{free_outcome}

@@ -15,7 +15,7 @@ use Rattle.graph.specs.View.{with_nodes}
 use Rattle.graph.specs.Node.{node_at, replaced}
 use Rattle.graph_rows.specs.Node.{node_of, nodes_in}
 use Rattle.model.specs.SharedState.{with_graph}
-use Rattle.model.specs.Voice.{id}
+use Rattle.voice.specs.Voice.{id}
 use Rattle.model.specs.Order.{report_node}
 use Rattle.model.specs.Call.{shared_step, done, refused}
 use Rattle.model.specs.Call as call

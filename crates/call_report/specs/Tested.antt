@@ -5,7 +5,7 @@ use Rattle.node.specs.declared.record.Node.{Node}
 use Rattle.node.specs.declared.refusal.Refusal.{Refusal}
 use Rattle.node.specs.declared.refusal.Refusal.TheVariants.{UnknownNode, LentBlock}
 use Rattle.graph.specs.Refuse.{when}
-use Rattle.store.specs.declared.voices.Voice.{Voice}
+use Rattle.voice.specs.declared.voices.Voice.{Voice}
 use Rattle.model.specs.Refuse.{reports, lent_block}
 use Rattle.graph_rows.specs.Node.{node_of}
 

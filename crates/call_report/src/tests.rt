@@ -2,7 +2,7 @@
 // without it.
 ghost use Rattle.std.specs.Prelude.{◌≡◌, Some, take, find};
 ghost use Rattle.model.specs.Refuse.{of_definition, reports, lent_block};
-ghost use Rattle.model.specs.Voice.{is_voice};
+ghost use Rattle.voice.specs.Voice.{is_voice};
 ghost use Rattle.graph_rows.specs.Node.{nodes_in};
 ghost use Rattle.voice_rows.specs.Rows.{voices_in};
 ghost use Rattle.call_report.specs.Tested.{row_in, tested, Told};

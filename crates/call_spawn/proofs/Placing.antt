@@ -4,8 +4,8 @@ use mathlib.Core.Path.{◌≡◌, refl, sym, ap, ◌∙◌}
 use mathlib.Core.Bool.{false}
 use Rattle.std.specs.Prelude.{Option, None, Some}
 use Rattle.node.specs.declared.refusal.Refusal.TheVariants.{NoPort}
-use Rattle.store.specs.declared.voices.Voice.{Voice}
-use Rattle.store.specs.declared.voices.VoiceState.{VoiceState}
+use Rattle.voice.specs.declared.voices.Voice.{Voice}
+use Rattle.voice.specs.declared.voices.VoiceState.{VoiceState}
 use Rattle.model.specs.Spawn.{Spawn, state_under, tries, next_out}
 use Rattle.model.specs.Model.{Model, SpawnResult, port_free, instantiate, instantiate_or, place, refused, cut_off}
 use Rattle.model.specs.Call.{Step, spawned}

@@ -21,10 +21,10 @@ use Rattle.graph.specs.Refuse.{host_refusal}
 use Rattle.graph.specs.Tables.{answer_of}
 use Rattle.synthdef.specs.Limits.{allowed}
 use Rattle.synthdef.specs.declared.def.SynthDef.{SynthDef}
-use Rattle.store.specs.declared.voices.Voice.{Voice}
-use Rattle.store.specs.declared.voices.VoiceState.{VoiceState}
-use Rattle.store.specs.declared.voices.VoiceState.TheVariants.{Tracked}
-use Rattle.model.specs.Voice.{is_voice, feeder, begin_fade}
+use Rattle.voice.specs.declared.voices.Voice.{Voice}
+use Rattle.voice.specs.declared.voices.VoiceState.{VoiceState}
+use Rattle.voice.specs.declared.voices.VoiceState.TheVariants.{Tracked}
+use Rattle.voice.specs.Voice.{is_voice, feeder, begin_fade}
 use Rattle.model.specs.Refuse.{or_else, rank_limit, no_headroom, no_ids, spawn_refusal}
 use Rattle.model.specs.Spawn.{fade_of}
 use Rattle.model.specs.Model.{Model, cut_off, stolen, steal_voice}

@@ -12,8 +12,8 @@ use borrow.Author.Tests.{lt-ltb}
 use Rattle.node.specs.declared.record.Node.{Node}
 use Rattle.graph.specs.Node.{raise_noise, noise_raised}
 use Rattle.graph.specs.Change.{with_nodes}
-use Rattle.store.specs.declared.voices.Voice.{Voice}
-use Rattle.store.specs.declared.voices.VoiceState.{VoiceState}
+use Rattle.voice.specs.declared.voices.Voice.{Voice}
+use Rattle.voice.specs.declared.voices.VoiceState.{VoiceState}
 use Rattle.voice_rows.specs.Listed.{pushed_voice}
 use Rattle.model.specs.SharedState.{with_spawned}
 use Rattle.model.specs.Spawn.{Spawn, pans, next_voice, new_voice, instantiate_graph, raised}

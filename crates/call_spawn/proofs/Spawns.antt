@@ -10,10 +10,10 @@ use Rattle.node.specs.declared.refusal.Refusal.TheVariants.{Rejected}
 use Rattle.edges.specs.Ports.{port_from}
 use Rattle.voice.specs.declared.policy.Admission.{Admission}
 use Rattle.voice.specs.declared.policy.Admission.TheVariants as admission
-use Rattle.store.specs.declared.voices.Voice.{Voice}
-use Rattle.store.specs.declared.voices.VoiceState.TheVariants.{Loose}
+use Rattle.voice.specs.declared.voices.Voice.{Voice}
+use Rattle.voice.specs.declared.voices.VoiceState.TheVariants.{Loose}
 use Rattle.model.specs.Refuse.{spawn_refusal}
-use Rattle.model.specs.Voice.{is_voice, feeder}
+use Rattle.voice.specs.Voice.{is_voice, feeder}
 use Rattle.model.specs.Spawn.{Spawn}
 use Rattle.model.specs.Model.{Model, SpawnResult, place, place_within_budget, refused, stolen, steal_then, admitted, admission_on, unless, spawn_managed, spawn_loose}
 use Rattle.model.specs.Call.{step}

@@ -12,10 +12,10 @@ use Rattle.node.specs.declared.record.NodeId.{NodeId}
 use Rattle.node.specs.declared.record.VoiceId.{VoiceId}
 use Rattle.node.specs.declared.record.Edge.{Edge}
 use Rattle.edges.specs.Ports.{feeds}
-use Rattle.store.specs.declared.voices.Fade.{Fade}
-use Rattle.store.specs.declared.voices.Voice.{Voice}
-use Rattle.store.specs.declared.voices.VoiceState.TheVariants.{Tracked}
-use Rattle.model.specs.Voice.{id, is_voice, feeder, begin_fade}
+use Rattle.voice.specs.declared.voices.Fade.{Fade}
+use Rattle.voice.specs.declared.voices.Voice.{Voice}
+use Rattle.voice.specs.declared.voices.VoiceState.TheVariants.{Tracked}
+use Rattle.voice.specs.Voice.{id, is_voice, feeder, begin_fade}
 use Rattle.model.specs.Spawn.{recorded, fade_of, fade_graph}
 use Rattle.model.specs.Model.{Model, without_voice, fade, cut_off, stolen, steal_voice}
 use Rattle.voice_graph.specs.Added.{with_fade, regraphed}

@@ -11,11 +11,12 @@ use Rattle.graph_rows.specs.declared.node_row.Brief.{Brief}
 use Rattle.graph_tables.specs.Brief.{host_brief}
 use Rattle.voice.specs.Policy.{admits}
 use Rattle.voice.specs.declared.policy.Admission.{Admission}
-use Rattle.store.specs.declared.voices.Voice.{Voice}
+use Rattle.voice.specs.declared.voices.Voice.{Voice}
 use Rattle.synthdef.specs.Limits.{allowed}
 use Rattle.synthdef.specs.declared.def.SynthDef.{SynthDef}
 use Rattle.model.specs.Refuse.{or_else}
-use Rattle.model.specs.Voice.{is_voice, candidates, counted}
+use Rattle.voice.specs.Voice.{is_voice, counted}
+use Rattle.model.specs.Voice.{candidates}
 use Rattle.model.specs.Spawn.{Spawn, state_under, tries}
 use Rattle.model.specs.Model.{Model, SpawnResult, place, steal_voice}
 use Rattle.memory.specs.View.{Memory, model_of}

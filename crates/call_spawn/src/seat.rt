@@ -13,7 +13,7 @@ use memory::parts::{with_spawned, with_voices};
 use memory::state::{CallResult, State};
 use node::record::{NodeId, VoiceId};
 use node::refusal::Refusal;
-use store::voices::{Voice, VoiceState};
+use voice::voices::{Voice, VoiceState};
 use store::wish::Wish;
 use synthdef::instance::id_after;
 use synthdef::plan::done_plan;

@@ -19,7 +19,7 @@ use memory::state::{CallResult, State, refuse};
 use node::record::VoiceId;
 use node::refusal::Refusal;
 use steal_log::StealTable;
-use store::voices::VoiceState;
+use voice::voices::VoiceState;
 use store::wish::Wish;
 use voice::policy::Admission;
 use voice_rows::row::VoiceTable;

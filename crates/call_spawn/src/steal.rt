@@ -1,5 +1,5 @@
 ghost use Rattle.std.specs.Prelude.{◌≡◌, ◌<◌};
-ghost use Rattle.model.specs.Voice.{new_fade};
+ghost use Rattle.voice.specs.Voice.{new_fade};
 ghost use Rattle.memory.specs.View.{Memory, model_of};
 ghost use Rattle.memory.specs.Lent.{lent_spawn, lent_params};
 ghost use Rattle.call_spawn.specs.Room.{FadeRoom, admission_under, steal};
@@ -12,7 +12,7 @@ use graph_tables::ports::feeding_edge;
 use memory::state::State;
 use node::record::{NodeId, VoiceId};
 use steal_log::StealTable;
-use store::voices::Fade;
+use voice::voices::Fade;
 use voice::policy::Admission;
 use voice_graph::growth::add_fade;
 use voice_policy::policy::request_in;

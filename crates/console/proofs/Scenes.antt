@@ -8,9 +8,9 @@ use lib.ListN.{replicate, drop}
 use Rattle.std.specs.Prelude.{pos}
 use lib.Ieee.{Float, nan, inf, fin, eq}
 use Rattle.rank.specs.Order as rank
-use Rattle.model.specs.Voice.{id}
+use Rattle.voice.specs.Voice.{id}
 use Rattle.bus.specs.Rate.{rate_of}
-use Rattle.store.specs.declared.voices.Voice.{Voice}
+use Rattle.voice.specs.declared.voices.Voice.{Voice}
 use Rattle.model.specs.Scene.{tone_def, up_to, float, host, voice}
 use Rattle.model.specs.Make.{Making, new_model}
 use Rattle.model.specs.Call.{spawned}

@@ -20,7 +20,7 @@ use Rattle.prepare.specs.Prepare.{prepare}
 use Rattle.voice.specs.declared.policy.BudgetScope.TheVariants as BudgetScope
 use Rattle.voice.specs.declared.policy.StealPolicy.TheVariants.{Oldest}
 use Rattle.store.specs.declared.config.Config.{Config}
-use Rattle.model.specs.Voice.{id}
+use Rattle.voice.specs.Voice.{id}
 use Rattle.model.specs.Spawn.{Spawn, spawn_of}
 use Rattle.model.specs.Render.{is_sounding, due}
 use Rattle.model.specs.Scene.{config, tone_def, float, host, spawn, voice, timed_free, render}

@@ -31,8 +31,8 @@ use Rattle.scheduler.specs.declared.event.Event.{Event}
 use Rattle.scheduler.specs.Event.{param_order}
 use Rattle.voice.specs.declared.policy.BudgetScope.TheVariants.{PerGroup}
 use Rattle.store.specs.declared.config.Config.{Config}
-use Rattle.store.specs.declared.voices.Voice.{Voice}
-use Rattle.model.specs.Voice.{id, is_voice, is_on}
+use Rattle.voice.specs.declared.voices.Voice.{Voice}
+use Rattle.voice.specs.Voice.{id, is_voice, is_on}
 use Rattle.model.specs.Refuse.{report_refusal, reports, of_definition}
 use Rattle.model.specs.Order.{order}
 use Rattle.model.specs.Spawn.{Spawn, pans}

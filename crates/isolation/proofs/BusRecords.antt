@@ -14,11 +14,11 @@ use Rattle.lists.proofs.Member.{in_map, in_of_map, in_snoc, some_inj, none_some}
 use Rattle.node.specs.declared.record.NodeId.{NodeId}
 use Rattle.voice.specs.Steals.{StealLog, pushed, marked, cut_of}
 use Rattle.voice.specs.declared.steals.StealRecord.{StealRecord}
-use Rattle.store.specs.declared.voices.Voice.{Voice}
-use Rattle.store.specs.declared.voices.VoiceState.{VoiceState}
-use Rattle.store.specs.declared.voices.VoiceState.TheVariants.{Tracked, Fading, Loose}
-use Rattle.store.specs.declared.voices.Fade.{Fade}
-use Rattle.model.specs.Voice.{is_on}
+use Rattle.voice.specs.declared.voices.Voice.{Voice}
+use Rattle.voice.specs.declared.voices.VoiceState.{VoiceState}
+use Rattle.voice.specs.declared.voices.VoiceState.TheVariants.{Tracked, Fading, Loose}
+use Rattle.voice.specs.declared.voices.Fade.{Fade}
+use Rattle.voice.specs.Voice.{is_on}
 use Rattle.ledger.specs.Ledger.{Ledger}
 use Rattle.ledger.specs.Claim.{Newest, held_record, cut_found}
 use Rattle.ledger.proofs.StealLog.{held_pushed, held_new, held_marked, held_unmarked, count_pushed}

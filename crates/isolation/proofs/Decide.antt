@@ -17,10 +17,11 @@ use Rattle.node.specs.declared.record.Node.{Node}
 use Rattle.graph.specs.Node.{node_at, ports_of}
 use Rattle.voice.specs.Policy.{Victim, victim}
 use Rattle.voice.specs.declared.policy.Candidate.{Candidate}
-use Rattle.store.specs.declared.voices.Voice.{Voice}
-use Rattle.store.specs.declared.voices.VoiceState.{VoiceState}
-use Rattle.store.specs.declared.voices.VoiceState.TheVariants.{Tracked, Fading, Loose}
-use Rattle.model.specs.Voice.{is_voice, is_on, is_tracked, is_fading, start_of, candidate, candidates, tracked_on, fades_on}
+use Rattle.voice.specs.declared.voices.Voice.{Voice}
+use Rattle.voice.specs.declared.voices.VoiceState.{VoiceState}
+use Rattle.voice.specs.declared.voices.VoiceState.TheVariants.{Tracked, Fading, Loose}
+use Rattle.voice.specs.Voice.{is_voice, is_on, is_tracked, is_fading, start_of, tracked_on, fades_on}
+use Rattle.model.specs.Voice.{candidate, candidates}
 use Rattle.model.specs.Spawn.{voice_of, no_later, earlier, earliest, else_victim, next_out}
 use Rattle.ledger.specs.Holder.{Holder, is_held, by_voice, nobody, voice}
 use Rattle.ledger.specs.Holder as holder

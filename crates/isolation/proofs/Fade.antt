@@ -16,10 +16,10 @@ use Rattle.node.specs.declared.record.NodeId.{NodeId}
 use Rattle.node.specs.declared.record.Node.{Node}
 use Rattle.graph.specs.Node.{node_at}
 use Rattle.node.specs.Node.{with_id}
-use Rattle.store.specs.declared.voices.Voice.{Voice}
-use Rattle.store.specs.declared.voices.VoiceState.{VoiceState}
-use Rattle.store.specs.declared.voices.VoiceState.TheVariants.{Fading}
-use Rattle.model.specs.Voice.{id, is_voice, is_on, with_state, begin_fade}
+use Rattle.voice.specs.declared.voices.Voice.{Voice}
+use Rattle.voice.specs.declared.voices.VoiceState.{VoiceState}
+use Rattle.voice.specs.declared.voices.VoiceState.TheVariants.{Fading}
+use Rattle.voice.specs.Voice.{id, is_voice, is_on, with_state, begin_fade}
 use Rattle.model.specs.Spawn.{fade_node, fade_of}
 use Rattle.ledger.specs.Holder.{Holder, nobody, voice}
 use Rattle.ledger.specs.Holder as holder

@@ -28,8 +28,8 @@ use Rattle.graph.specs.Refuse.{dead, add_refusal, host_refusal, disconnect_refus
 use Rattle.scheduler.specs.Queue.{replacing}
 use Rattle.voice.specs.declared.policy.BudgetScope.TheVariants.{PerGroup}
 use Rattle.store.specs.declared.config.Config.{Config}
-use Rattle.store.specs.declared.voices.Voice.{Voice}
-use Rattle.model.specs.Voice.{is_voice, is_on}
+use Rattle.voice.specs.declared.voices.Voice.{Voice}
+use Rattle.voice.specs.Voice.{is_voice, is_on}
 use Rattle.model.specs.Refuse.{report_refusal, reports, of_definition}
 use Rattle.model.specs.Spawn.{pans, Spawn}
 use Rattle.model.specs.Order.{report_node, free_outcome}

@@ -19,8 +19,9 @@ use Rattle.graph.specs.View.{GraphView}
 use Rattle.graph.specs.Node.{is_node, node_at}
 use Rattle.node.specs.Node.{with_id}
 use Rattle.graph.specs.Change as change
-use Rattle.store.specs.declared.voices.Voice.{Voice}
-use Rattle.model.specs.Voice.{id, node_level}
+use Rattle.voice.specs.declared.voices.Voice.{Voice}
+use Rattle.voice.specs.Voice.{id}
+use Rattle.model.specs.Voice.{node_level}
 use Rattle.model.specs.Spawn.{append_all}
 use Rattle.model.specs.Clear.{done_flag}
 use Rattle.isolation.proofs.Part.{host_ports, ports_now, Same}

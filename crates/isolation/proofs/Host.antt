@@ -26,8 +26,9 @@ use Rattle.graph.specs.Node.{is_node, node_at, host_node}
 use Rattle.node.specs.Node.{with_id}
 use Rattle.graph.specs.Change as change
 use Rattle.graph.specs.Refuse.{add_refusal, host_refusal}
-use Rattle.store.specs.declared.voices.Voice.{Voice}
-use Rattle.model.specs.Voice.{id, is_on, node_level}
+use Rattle.voice.specs.declared.voices.Voice.{Voice}
+use Rattle.voice.specs.Voice.{id, is_on}
+use Rattle.model.specs.Voice.{node_level}
 use Rattle.model.specs.Clear.{done_flag}
 use Rattle.ledger.specs.Holder.{Holder, by_host, hold, drop_node, nobody, voice}
 use Rattle.ledger.specs.Ledger.{Ledger, at_graph}

@@ -27,9 +27,10 @@ use Rattle.node.specs.Node.{with_id, with_noise}
 use Rattle.synthdef.specs.Limits.{allowed}
 use Rattle.synthdef.specs.Tables.{node_rows}
 use Rattle.synthdef.specs.declared.def.SynthDef.{SynthDef}
-use Rattle.store.specs.declared.voices.Voice.{Voice}
-use Rattle.store.specs.declared.voices.VoiceState.{VoiceState}
-use Rattle.model.specs.Voice.{id, is_voice, is_on, node_level}
+use Rattle.voice.specs.declared.voices.Voice.{Voice}
+use Rattle.voice.specs.declared.voices.VoiceState.{VoiceState}
+use Rattle.voice.specs.Voice.{id, is_voice, is_on}
+use Rattle.model.specs.Voice.{node_level}
 use Rattle.model.specs.Clear.{done_flag}
 use Rattle.model.specs.Spawn.{voice_nodes, voice_wires, def_node, const_node, pan_node, append_all, new_voice, next_voice, Spawn, pans, raised}
 use Rattle.ledger.specs.Holder.{Holder, nobody, voice}

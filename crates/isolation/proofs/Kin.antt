@@ -24,12 +24,12 @@ use Rattle.scheduler.specs.Event.{param_order}
 use Rattle.voice.specs.declared.policy.BudgetScope.TheVariants.{PerGroup}
 use Rattle.synthdef.specs.Limits.{allowed}
 use Rattle.store.specs.declared.answer.Rendered.{Rendered}
-use Rattle.store.specs.declared.voices.Fade.{Fade}
-use Rattle.store.specs.declared.voices.Voice.{Voice}
-use Rattle.store.specs.declared.voices.VoiceState.{VoiceState}
-use Rattle.store.specs.declared.voices.VoiceState.TheVariants.{Tracked, Loose}
+use Rattle.voice.specs.declared.voices.Fade.{Fade}
+use Rattle.voice.specs.declared.voices.Voice.{Voice}
+use Rattle.voice.specs.declared.voices.VoiceState.{VoiceState}
+use Rattle.voice.specs.declared.voices.VoiceState.TheVariants.{Tracked, Loose}
 use Rattle.model.specs.SharedState.{sounding, with_steals}
-use Rattle.model.specs.Voice.{is_voice, is_on, is_tracked, begin_fade, moved, counted}
+use Rattle.voice.specs.Voice.{is_voice, is_on, is_tracked, begin_fade, moved, counted}
 use Rattle.model.specs.Refuse.{report_refusal, spawn_refusal}
 use Rattle.model.specs.Order.{order}
 use Rattle.model.specs.Render.{prepare_outcome, prepare_shared, is_free, any_free, is_sounding, heard, answer_after, due, render_refusal}

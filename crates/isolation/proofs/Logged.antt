@@ -24,11 +24,11 @@ use Rattle.voice.specs.declared.policy.BudgetScope.TheVariants.{PerGroup}
 use Rattle.voice.specs.declared.policy.Admission.{Admission}
 use Rattle.voice.specs.declared.policy.Admission.TheVariants as admission
 use Rattle.synthdef.specs.Limits.{allowed}
-use Rattle.store.specs.declared.voices.Voice.{Voice}
-use Rattle.store.specs.declared.voices.VoiceState.{VoiceState}
-use Rattle.store.specs.declared.voices.VoiceState.TheVariants.{Tracked, Fading, Loose}
-use Rattle.store.specs.declared.voices.Fade.{Fade}
-use Rattle.model.specs.Voice.{is_voice, is_on, is_tracked, moved_state, moved, counted}
+use Rattle.voice.specs.declared.voices.Voice.{Voice}
+use Rattle.voice.specs.declared.voices.VoiceState.{VoiceState}
+use Rattle.voice.specs.declared.voices.VoiceState.TheVariants.{Tracked, Fading, Loose}
+use Rattle.voice.specs.declared.voices.Fade.{Fade}
+use Rattle.voice.specs.Voice.{is_voice, is_on, is_tracked, moved_state, moved, counted}
 use Rattle.model.specs.Refuse.{rank_limit, spawn_refusal, or_else, no_headroom, no_ids, report_refusal}
 use Rattle.model.specs.Spawn.{voice_nodes, voice_wires, append_all, next_voice, state_under, tries, next_out, new_voice, Spawn, pans, raised}
 use Rattle.model.specs.Call.{Call}

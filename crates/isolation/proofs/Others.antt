@@ -21,11 +21,11 @@ use Rattle.graph.specs.Refuse.{host_refusal}
 use Rattle.voice.specs.Steals.{StealLog}
 use Rattle.voice.specs.declared.policy.BudgetScope.TheVariants.{PerGroup}
 use Rattle.synthdef.specs.Limits.{allowed}
-use Rattle.store.specs.declared.voices.Voice.{Voice}
-use Rattle.store.specs.declared.voices.VoiceState.{VoiceState}
-use Rattle.store.specs.declared.voices.VoiceState.TheVariants.{Tracked, Loose}
+use Rattle.voice.specs.declared.voices.Voice.{Voice}
+use Rattle.voice.specs.declared.voices.VoiceState.{VoiceState}
+use Rattle.voice.specs.declared.voices.VoiceState.TheVariants.{Tracked, Loose}
 use Rattle.model.specs.SharedState.{SharedState, with_steals}
-use Rattle.model.specs.Voice.{is_on, is_tracked, counted}
+use Rattle.voice.specs.Voice.{is_on, is_tracked, counted}
 use Rattle.model.specs.Refuse.{rank_limit, spawn_refusal, no_headroom, no_ids, voice_id_limit}
 use Rattle.model.specs.Spawn.{state_under, tries, reclaim_log, Spawn}
 use Rattle.ledger.specs.Ledger.{Ledger, SpawnResult, cut_off, stolen, steal_voice, port_held, instantiate, place, place_within_budget, admitted, admission_on, spawn_managed, spawn_loose}

@@ -16,8 +16,9 @@ use Rattle.node.specs.declared.record.VoiceId.{VoiceId}
 use Rattle.node.specs.declared.record.Node.{Node}
 use Rattle.graph.specs.Node.{is_node, node_at}
 use Rattle.store.specs.declared.config.Config.{Config}
-use Rattle.store.specs.declared.voices.Voice.{Voice}
-use Rattle.model.specs.Voice.{id, is_voice, is_on, node_level}
+use Rattle.voice.specs.declared.voices.Voice.{Voice}
+use Rattle.voice.specs.Voice.{id, is_voice, is_on}
+use Rattle.model.specs.Voice.{node_level}
 use Rattle.model.specs.Clear.{done_flag}
 use Rattle.ledger.specs.Holder.{Holders, Holder, nobody, voice}
 use Rattle.ledger.specs.Holder as holder

@@ -17,7 +17,7 @@ use Rattle.prepare.specs.Prepare.{prepare}
 use Rattle.voice.specs.declared.policy.BudgetScope.TheVariants.{PerGroup}
 use Rattle.voice.specs.declared.policy.StealPolicy.TheVariants.{Oldest}
 use Rattle.store.specs.declared.config.Config.{Config}
-use Rattle.model.specs.Voice.{id}
+use Rattle.voice.specs.Voice.{id}
 use Rattle.model.specs.Scene.{config, tone_def, host, sink, wire, unwire, spawn, ranked}
 use Rattle.model.proofs.Refused.{refusal_in}
 use Rattle.model.specs.Call.{Call}

@@ -23,9 +23,10 @@ use Rattle.node.specs.declared.record.Node.{Node}
 use Rattle.graph.specs.Node.{is_node, node_at, replaced}
 use Rattle.synthdef.specs.Tables.{param_rows}
 use Rattle.synthdef.specs.Params.{param_node}
-use Rattle.store.specs.declared.voices.Voice.{Voice}
+use Rattle.voice.specs.declared.voices.Voice.{Voice}
 use Rattle.store.specs.declared.answer.Outcome.TheVariants.{Applied, NotTaken}
-use Rattle.model.specs.Voice.{id, is_on, node_level}
+use Rattle.voice.specs.Voice.{id, is_on}
+use Rattle.model.specs.Voice.{node_level}
 use Rattle.model.specs.Clear.{done_flag}
 use Rattle.model.specs.Order.{with_node, with_report, takes, stays, order_node, order_param, order_voice}
 use Rattle.node.specs.Node.{with_last}

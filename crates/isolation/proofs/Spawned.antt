@@ -21,10 +21,11 @@ use Rattle.voice.specs.declared.policy.BudgetScope.TheVariants.{PerGroup}
 use Rattle.voice.specs.declared.policy.Admission.{Admission}
 use Rattle.voice.specs.declared.policy.Admission.TheVariants as admission
 use Rattle.synthdef.specs.Limits.{allowed}
-use Rattle.store.specs.declared.voices.Voice.{Voice}
-use Rattle.store.specs.declared.voices.VoiceState.{VoiceState}
-use Rattle.store.specs.declared.voices.VoiceState.TheVariants.{Tracked, Loose}
-use Rattle.model.specs.Voice.{is_on, is_tracked, candidates, counted, tracked_on}
+use Rattle.voice.specs.declared.voices.Voice.{Voice}
+use Rattle.voice.specs.declared.voices.VoiceState.{VoiceState}
+use Rattle.voice.specs.declared.voices.VoiceState.TheVariants.{Tracked, Loose}
+use Rattle.voice.specs.Voice.{is_on, is_tracked, counted, tracked_on}
+use Rattle.model.specs.Voice.{candidates}
 use Rattle.model.specs.Refuse.{rank_limit, or_else, no_headroom, no_ids}
 use Rattle.model.specs.Spawn.{state_under, tries, reclaim_log, next_out, Spawn, pans}
 use Rattle.ledger.specs.Ledger.{Ledger, SpawnResult, cut_off, stolen, steal_voice, port_held, port_free, instantiate, instantiate_or, place, place_within_budget, steal_then, admitted, admission_on, refused, spawn_managed, spawn_loose}

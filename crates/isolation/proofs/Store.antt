@@ -12,10 +12,11 @@ use Rattle.lists.proofs.Filter.{filter_map, in_filter}
 use Rattle.node.specs.declared.record.NodeId.{NodeId}
 use Rattle.bus.specs.Fade.{fade_length}
 use Rattle.store.specs.declared.config.Config.{Config}
-use Rattle.store.specs.declared.voices.Voice.{Voice}
-use Rattle.store.specs.declared.voices.VoiceState.{VoiceState}
-use Rattle.store.specs.declared.voices.VoiceState.TheVariants.{Tracked, Fading, Loose}
-use Rattle.model.specs.Voice.{is_on, voice_level, moved_state}
+use Rattle.voice.specs.declared.voices.Voice.{Voice}
+use Rattle.voice.specs.declared.voices.VoiceState.{VoiceState}
+use Rattle.voice.specs.declared.voices.VoiceState.TheVariants.{Tracked, Fading, Loose}
+use Rattle.voice.specs.Voice.{is_on, moved_state}
+use Rattle.model.specs.Voice.{voice_level}
 use Rattle.edges.specs.Ports.{port_from}
 use Rattle.model.specs.Page.{port_now}
 use Rattle.model.specs.Model.{Model}

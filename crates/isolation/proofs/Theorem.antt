@@ -18,11 +18,11 @@ use Rattle.voice.specs.Steals.{StealLog}
 use Rattle.voice.specs.declared.policy.BudgetScope.TheVariants.{PerGroup}
 use Rattle.voice.specs.declared.steals.StealRecord.{StealRecord}
 use Rattle.store.specs.declared.config.Config.{Config}
-use Rattle.store.specs.declared.voices.Voice.{Voice}
+use Rattle.voice.specs.declared.voices.Voice.{Voice}
 use Rattle.model.specs.Refuse.{report_refusal}
 use Rattle.model.specs.Spawn.{pans, Spawn}
 use Rattle.model.specs.Render.{render_refusal}
-use Rattle.model.specs.Voice.{is_on}
+use Rattle.voice.specs.Voice.{is_on}
 use Rattle.model.proofs.Refused.{refusal_in}
 use Rattle.model.specs.Call.{Call}
 use Rattle.model.specs.Call as call

@@ -26,11 +26,11 @@ use Rattle.scheduler.specs.Event.{param_order}
 use Rattle.scheduler.specs.declared.event.Event.{Event}
 use Rattle.synthdef.specs.Plan.{plan_silent}
 use Rattle.store.specs.declared.answer.Rendered.{Rendered}
-use Rattle.store.specs.declared.voices.Voice.{Voice}
-use Rattle.store.specs.declared.voices.VoiceState.{VoiceState}
-use Rattle.store.specs.declared.voices.VoiceState.TheVariants.{Tracked, Fading, Loose}
+use Rattle.voice.specs.declared.voices.Voice.{Voice}
+use Rattle.voice.specs.declared.voices.VoiceState.{VoiceState}
+use Rattle.voice.specs.declared.voices.VoiceState.TheVariants.{Tracked, Fading, Loose}
 use Rattle.model.specs.SharedState.{SharedState, with_events, sounding}
-use Rattle.model.specs.Voice.{id, is_voice, is_on, moved_state, moved}
+use Rattle.voice.specs.Voice.{id, is_voice, is_on, moved_state, moved}
 use Rattle.model.specs.Order.{order}
 use Rattle.model.specs.Clear.{done_flag, is_silent}
 use Rattle.model.specs.Render.{prepare_outcome, prepare_shared, ready_shared, is_free, heard, answer_after, is_sounding}

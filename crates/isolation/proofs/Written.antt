@@ -19,11 +19,12 @@ use Rattle.node.specs.declared.record.Node.{Node}
 use Rattle.graph.specs.Node.{node_at}
 use Rattle.voice.specs.Steals.{StealLog, pushed, record_of}
 use Rattle.voice.specs.declared.steals.StealRecord.{StealRecord}
-use Rattle.store.specs.declared.voices.Voice.{Voice}
-use Rattle.store.specs.declared.voices.VoiceState.{VoiceState}
-use Rattle.store.specs.declared.voices.VoiceState.TheVariants.{Tracked, Fading, Loose}
-use Rattle.store.specs.declared.voices.Fade.{Fade}
-use Rattle.model.specs.Voice.{is_voice, is_on, voice_level}
+use Rattle.voice.specs.declared.voices.Voice.{Voice}
+use Rattle.voice.specs.declared.voices.VoiceState.{VoiceState}
+use Rattle.voice.specs.declared.voices.VoiceState.TheVariants.{Tracked, Fading, Loose}
+use Rattle.voice.specs.declared.voices.Fade.{Fade}
+use Rattle.voice.specs.Voice.{is_voice, is_on}
+use Rattle.model.specs.Voice.{voice_level}
 use Rattle.model.specs.Spawn.{fade_of}
 use Rattle.ledger.specs.Ledger.{Ledger, cut_off, fade}
 use Rattle.ledger.proofs.StealLog.{count_pushed}

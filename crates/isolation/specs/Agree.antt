@@ -13,8 +13,8 @@ use Rattle.graph.specs.Node.{node_at}
 use Rattle.graph.specs.Refuse.{add_refusal, host_refusal, disconnect_refusal, connect_refusal}
 use Rattle.scheduler.specs.declared.event.Event.{Event}
 use Rattle.store.specs.declared.config.Config.{Config}
-use Rattle.store.specs.declared.voices.Voice.{Voice}
-use Rattle.model.specs.Voice.{id, is_on}
+use Rattle.voice.specs.declared.voices.Voice.{Voice}
+use Rattle.voice.specs.Voice.{id, is_on}
 use Rattle.model.specs.Refuse.{report_refusal}
 use Rattle.model.specs.Spawn.{Spawn}
 use Rattle.model.specs.Render.{is_free, is_sounding, due, render_refusal}

@@ -4,9 +4,10 @@ use Rattle.std.specs.Prelude.{ℕ, ◌≡◌, List, [], ◌∷◌, ◌++◌, map
 use Rattle.node.specs.declared.record.NodeId.{NodeId}
 use Rattle.voice.specs.declared.policy.BudgetScope.TheVariants.{PerGroup}
 use Rattle.voice.specs.declared.steals.StealRecord.{StealRecord}
-use Rattle.store.specs.declared.voices.Voice.{Voice}
+use Rattle.voice.specs.declared.voices.Voice.{Voice}
 use Rattle.model.specs.SharedState.{SharedState}
-use Rattle.model.specs.Voice.{is_on, voice_level}
+use Rattle.voice.specs.Voice.{is_on}
+use Rattle.model.specs.Voice.{voice_level}
 use Rattle.model.specs.Model.{Model}
 use Rattle.model.specs.Make.{Making, config_of, make}
 use Rattle.model.proofs.Refused.{refusal_in}

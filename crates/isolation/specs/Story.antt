@@ -12,10 +12,11 @@ use Rattle.graph.specs.Node.{node_at}
 use Rattle.graph.specs.Refuse.{add_refusal, host_refusal, disconnect_refusal, connect_refusal}
 use Rattle.scheduler.specs.declared.event.Event.{Event}
 use Rattle.synthdef.specs.declared.def.SynthDef.{SynthDef}
-use Rattle.store.specs.declared.voices.Voice.{Voice}
-use Rattle.store.specs.declared.voices.VoiceState.{VoiceState}
-use Rattle.store.specs.declared.voices.VoiceState.TheVariants.{Tracked, Fading, Loose}
-use Rattle.model.specs.Voice.{is_voice, is_on, voice_level}
+use Rattle.voice.specs.declared.voices.Voice.{Voice}
+use Rattle.voice.specs.declared.voices.VoiceState.{VoiceState}
+use Rattle.voice.specs.declared.voices.VoiceState.TheVariants.{Tracked, Fading, Loose}
+use Rattle.voice.specs.Voice.{is_voice, is_on}
+use Rattle.model.specs.Voice.{voice_level}
 use Rattle.model.specs.Refuse.{report_refusal}
 use Rattle.model.specs.Spawn.{pans}
 use Rattle.model.specs.Render.{is_free, is_sounding, due, render_refusal}

@@ -16,11 +16,12 @@ use Rattle.node.specs.declared.record.NodeId.{NodeId}
 use Rattle.node.specs.declared.record.VoiceId.{VoiceId}
 use Rattle.voice.specs.declared.policy.BudgetScope.{BudgetScope}
 use Rattle.voice.specs.Policy.{Victim, victim, admits, counts}
-use Rattle.store.specs.declared.voices.Voice.{Voice}
-use Rattle.store.specs.declared.voices.VoiceState.{VoiceState}
-use Rattle.store.specs.declared.voices.VoiceState.TheVariants.{Tracked, Fading, Loose}
+use Rattle.voice.specs.declared.voices.Voice.{Voice}
+use Rattle.voice.specs.declared.voices.VoiceState.{VoiceState}
+use Rattle.voice.specs.declared.voices.VoiceState.TheVariants.{Tracked, Fading, Loose}
 use Rattle.model.specs.SharedState.{SharedState, length_l}
-use Rattle.model.specs.Voice.{is_voice, is_on, is_tracked, is_fading, start_of, with_state, moved, moved_state, counted, tracked_on, fades_on, candidate, candidates, new_fade, begin_fade}
+use Rattle.voice.specs.Voice.{is_voice, is_on, is_tracked, is_fading, start_of, with_state, moved, moved_state, counted, tracked_on, fades_on, new_fade, begin_fade}
+use Rattle.model.specs.Voice.{candidate, candidates}
 use Rattle.model.specs.Spawn.{tries, state_under, reclaim_log, voice_of, earlier, earliest, else_victim, next_out}
 use Rattle.model.specs.Model.{Model}
 use Rattle.model.specs.Render.{further}

@@ -20,7 +20,7 @@ use Rattle.graph.specs.Node.{id_limit, node_at, ports_of, of_voice}
 use Rattle.graph.specs.Refuse.{when, host_refusal, dead}
 use Rattle.synthdef.specs.Limits.{allowed}
 use Rattle.synthdef.specs.declared.def.SynthDef.{SynthDef}
-use Rattle.store.specs.declared.voices.Voice.{Voice}
+use Rattle.voice.specs.declared.voices.Voice.{Voice}
 use Rattle.model.specs.SharedState.{SharedState}
 use Rattle.model.specs.Refuse.{or_else, rank_limit, no_headroom, no_ids, spawn_refusal}
 

@@ -17,12 +17,12 @@ use Rattle.graph.specs.Refuse.{add_refusal, host_refusal, disconnect_refusal, co
 use Rattle.scheduler.specs.Event.{param_order}
 use Rattle.scheduler.specs.declared.event.Event.{Event}
 use Rattle.store.specs.declared.answer.Rendered.TheVariants as Rendered
-use Rattle.store.specs.declared.voices.Voice.{Voice}
-use Rattle.store.specs.declared.voices.VoiceState.{VoiceState}
-use Rattle.store.specs.declared.voices.VoiceState.TheVariants.{Tracked, Fading, Loose}
-use Rattle.store.specs.declared.voices.Fade.{Fade}
+use Rattle.voice.specs.declared.voices.Voice.{Voice}
+use Rattle.voice.specs.declared.voices.VoiceState.{VoiceState}
+use Rattle.voice.specs.declared.voices.VoiceState.TheVariants.{Tracked, Fading, Loose}
+use Rattle.voice.specs.declared.voices.Fade.{Fade}
 use Rattle.model.specs.SharedState.{sounding}
-use Rattle.model.specs.Voice.{is_voice, is_tracked, with_state, moved_fade}
+use Rattle.voice.specs.Voice.{is_voice, is_tracked, with_state, moved_fade}
 use Rattle.model.specs.Refuse.{spawn_refusal, report_refusal}
 use Rattle.model.specs.Spawn.{new_voice, state_under, tries, fade_of, Spawn}
 use Rattle.model.specs.Order.{order}

@@ -24,11 +24,12 @@ use Rattle.voice.specs.declared.policy.BudgetScope.{BudgetScope}
 use Rattle.voice.specs.declared.policy.BudgetScope.TheVariants.{Global, PerGroup}
 use Rattle.voice.specs.declared.policy.Admission.TheVariants as admission
 use Rattle.store.specs.declared.config.Config.{Config}
-use Rattle.store.specs.declared.voices.Voice.{Voice}
-use Rattle.store.specs.declared.voices.VoiceState.{VoiceState}
-use Rattle.store.specs.declared.voices.VoiceState.TheVariants.{Tracked, Fading, Loose}
-use Rattle.store.specs.declared.voices.Fade.{Fade}
-use Rattle.model.specs.Voice.{is_voice, is_tracked, with_state, begin_fade, moved_state, moved, counted, candidates}
+use Rattle.voice.specs.declared.voices.Voice.{Voice}
+use Rattle.voice.specs.declared.voices.VoiceState.{VoiceState}
+use Rattle.voice.specs.declared.voices.VoiceState.TheVariants.{Tracked, Fading, Loose}
+use Rattle.voice.specs.declared.voices.Fade.{Fade}
+use Rattle.voice.specs.Voice.{is_voice, is_tracked, with_state, begin_fade, moved_state, moved, counted}
+use Rattle.model.specs.Voice.{candidates}
 use Rattle.model.specs.Spawn.{new_voice, state_under, tries, fade_of, Spawn}
 use Rattle.model.specs.Refuse.{spawn_refusal}
 use Rattle.model.specs.Call.{Call}

@@ -37,10 +37,10 @@ use Rattle.synthdef.specs.Tables.{node_rows, edge_rows}
 use Rattle.synthdef.specs.Edges as edges
 use Rattle.synthdef.specs.declared.def.DefEdge.{DefEdge}
 use Rattle.synthdef.specs.declared.def.SynthDef.{SynthDef}
-use Rattle.store.specs.declared.voices.Voice.{Voice}
-use Rattle.store.specs.declared.voices.VoiceState.{VoiceState}
-use Rattle.store.specs.declared.voices.VoiceState.TheVariants.{Tracked, Loose}
-use Rattle.model.specs.Voice.{id, is_voice, is_tracked, feeder, begin_fade, moved}
+use Rattle.voice.specs.declared.voices.Voice.{Voice}
+use Rattle.voice.specs.declared.voices.VoiceState.{VoiceState}
+use Rattle.voice.specs.declared.voices.VoiceState.TheVariants.{Tracked, Loose}
+use Rattle.voice.specs.Voice.{id, is_voice, is_tracked, feeder, begin_fade, moved}
 use Rattle.model.specs.Refuse.{spawn_refusal}
 use Rattle.model.specs.Spawn.{pans, Wire, voice_nodes, voice_wires, voice_out, def_wire, wire, append_all, wire_all, new_voice, next_voice, state_under, tries, fade_node, fade_of, Spawn, raised}
 use Rattle.model.specs.Render.{is_sounding, deadline}

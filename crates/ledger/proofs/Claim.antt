@@ -11,10 +11,10 @@ use Rattle.lists.specs.Member.{In}
 use Rattle.lists.proofs.Member.{in_of_map}
 use Rattle.bus.specs.Fade.{fade_length}
 use Rattle.store.specs.declared.config.Config.{Config}
-use Rattle.store.specs.declared.voices.Voice.{Voice}
-use Rattle.store.specs.declared.voices.VoiceState.TheVariants.{Tracked, Fading}
-use Rattle.store.specs.declared.voices.Fade.{Fade}
-use Rattle.model.specs.Voice.{with_state}
+use Rattle.voice.specs.declared.voices.Voice.{Voice}
+use Rattle.voice.specs.declared.voices.VoiceState.TheVariants.{Tracked, Fading}
+use Rattle.voice.specs.declared.voices.Fade.{Fade}
+use Rattle.voice.specs.Voice.{with_state}
 use Rattle.model.specs.Clear as clearing
 use Rattle.model.specs.Refuse.{table_rate}
 use Rattle.model.specs.Model.{Model}

@@ -13,8 +13,8 @@ use borrow.Author.Tests.{eq-eqb, leb-true, le-leb, not-true}
 use Rattle.lists.specs.Member.{In}
 use Rattle.std.specs.Prelude.{cond, filter}
 use Rattle.lists.proofs.Filter.{filter_all, filter_same, in_filter}
-use Rattle.store.specs.declared.voices.Voice.{Voice}
-use Rattle.model.specs.Voice.{is_voice}
+use Rattle.voice.specs.declared.voices.Voice.{Voice}
+use Rattle.voice.specs.Voice.{is_voice}
 use Rattle.model.specs.Clear.{is_silent}
 use Rattle.model.specs.Call as call
 use Rattle.ledger.specs.Ledger.{Ledger, without_voice}

@@ -21,8 +21,8 @@ use Rattle.lists.proofs.Rising.{rises_in, rises_snoc, rises_map}
 use Rattle.node.specs.declared.record.NodeId.{NodeId}
 use Rattle.node.specs.declared.record.Edge.{Edge}
 use Rattle.edges.specs.Wiring.{ends_at, drop_at, wired}
-use Rattle.store.specs.declared.voices.Voice.{Voice}
-use Rattle.model.specs.Voice.{feeder}
+use Rattle.voice.specs.declared.voices.Voice.{Voice}
+use Rattle.voice.specs.Voice.{feeder}
 use Rattle.ledger.specs.Claim.{Owners}
 
 pub record Ends (own : Owners) (ports : ℕ → ℕ) (e : Edge) : Type 0 where

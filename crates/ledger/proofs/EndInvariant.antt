@@ -11,10 +11,10 @@ use Rattle.lists.specs.Member.{In}
 use Rattle.lists.proofs.Member.{in_snoc, in_map}
 use Rattle.node.specs.declared.record.Edge.{Edge}
 use Rattle.edges.specs.Wiring.{wired}
-use Rattle.store.specs.declared.voices.Voice.{Voice}
-use Rattle.store.specs.declared.voices.VoiceState.{VoiceState}
-use Rattle.store.specs.declared.voices.VoiceState.TheVariants.{Tracked, Fading, Loose}
-use Rattle.model.specs.Voice.{is_tracked, feeder, end_in, end_of, moved_state, moved}
+use Rattle.voice.specs.declared.voices.Voice.{Voice}
+use Rattle.voice.specs.declared.voices.VoiceState.{VoiceState}
+use Rattle.voice.specs.declared.voices.VoiceState.TheVariants.{Tracked, Fading, Loose}
+use Rattle.voice.specs.Voice.{is_tracked, feeder, end_in, end_of, moved_state, moved}
 use Rattle.ledger.specs.Claim.{Owners}
 use Rattle.ledger.proofs.EdgeInvariant.{Out, Same, out_back, in_put}
 

@@ -12,11 +12,11 @@ use Rattle.lists.proofs.Member.{in_snoc, in_map}
 use Rattle.lists.proofs.Find.{find_in}
 use Rattle.lists.proofs.Filter.{in_filter}
 use Rattle.node.specs.declared.record.VoiceId.{VoiceId}
-use Rattle.store.specs.declared.voices.Voice.{Voice}
-use Rattle.store.specs.declared.voices.VoiceState.{VoiceState}
-use Rattle.store.specs.declared.voices.VoiceState.TheVariants.{Tracked, Fading, Loose}
-use Rattle.store.specs.declared.voices.Fade.{Fade}
-use Rattle.model.specs.Voice.{is_voice, is_fading, with_state, begin_fade, moved_state, moved}
+use Rattle.voice.specs.declared.voices.Voice.{Voice}
+use Rattle.voice.specs.declared.voices.VoiceState.{VoiceState}
+use Rattle.voice.specs.declared.voices.VoiceState.TheVariants.{Tracked, Fading, Loose}
+use Rattle.voice.specs.declared.voices.Fade.{Fade}
+use Rattle.voice.specs.Voice.{is_voice, is_fading, with_state, begin_fade, moved_state, moved}
 use Rattle.model.specs.Spawn.{new_voice, fade_of}
 use Rattle.model.specs.Call.{Call}
 use Rattle.ledger.specs.Ledger.{Ledger, admission_on}

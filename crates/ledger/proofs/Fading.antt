@@ -16,10 +16,10 @@ use Rattle.node.specs.declared.record.Edge.{Edge}
 use Rattle.edges.specs.Wiring.{ends_at, wired}
 use Rattle.graph.specs.Node.{with_id}
 use Rattle.graph.specs.Change.{edge}
-use Rattle.store.specs.declared.voices.Voice.{Voice}
-use Rattle.store.specs.declared.voices.VoiceState.TheVariants.{Fading}
-use Rattle.store.specs.declared.voices.Fade.{Fade}
-use Rattle.model.specs.Voice.{id, is_voice, feeder, end_of, with_state, begin_fade}
+use Rattle.voice.specs.declared.voices.Voice.{Voice}
+use Rattle.voice.specs.declared.voices.VoiceState.TheVariants.{Fading}
+use Rattle.voice.specs.declared.voices.Fade.{Fade}
+use Rattle.voice.specs.Voice.{id, is_voice, feeder, end_of, with_state, begin_fade}
 use Rattle.model.specs.Spawn.{fade_node}
 use Rattle.ledger.specs.Holder.{Holder, Holders, voice, hold}
 use Rattle.ledger.specs.Claim.{owner_at, holder_at, source_holds}

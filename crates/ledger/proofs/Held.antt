@@ -17,7 +17,7 @@ use Rattle.node.specs.declared.record.NodeId.{NodeId}
 use Rattle.node.specs.declared.record.VoiceId.{VoiceId}
 use Rattle.node.specs.declared.record.Edge.{Edge}
 use Rattle.edges.specs.Wiring.{ends_at, taken, drop_at, wired}
-use Rattle.model.specs.Voice.{id}
+use Rattle.voice.specs.Voice.{id}
 use Rattle.ledger.specs.Holder.{Holder, nobody, voice, is_held, by_voice, by_host, hold, drop_voice, drop_node}
 use Rattle.ledger.specs.Claim.{Owners, holder_of, source_holds, held_by, is_host, holds_at}
 use Rattle.ledger.proofs.EdgeInvariant.{EdgeInvariant, Same, edge_at_lem, edge_put}

@@ -5,10 +5,10 @@ use Rattle.lists.specs.Member.{In}
 use Rattle.lists.specs.Count.{more, count}
 use Rattle.lists.proofs.Count.{count_snoc}
 use Rattle.store.specs.declared.config.Config.{Config}
-use Rattle.store.specs.declared.voices.Voice.{Voice}
-use Rattle.store.specs.declared.voices.VoiceState.TheVariants.{Fading}
-use Rattle.store.specs.declared.voices.Fade.{Fade}
-use Rattle.model.specs.Voice.{with_state}
+use Rattle.voice.specs.declared.voices.Voice.{Voice}
+use Rattle.voice.specs.declared.voices.VoiceState.TheVariants.{Fading}
+use Rattle.voice.specs.declared.voices.Fade.{Fade}
+use Rattle.voice.specs.Voice.{with_state}
 use Rattle.model.specs.Call.{Call}
 use Rattle.model.specs.Call as call
 use Rattle.ledger.specs.Ledger.{Ledger, new_ledger}

@@ -22,11 +22,11 @@ use Rattle.edges.specs.Ports.{port_from}
 use Rattle.graph.specs.Node.{is_node, node_at, host_node, with_id}
 use Rattle.bus.specs.Fade.{fade_length}
 use Rattle.store.specs.declared.config.Config.{Config}
-use Rattle.store.specs.declared.voices.Voice.{Voice}
-use Rattle.store.specs.declared.voices.VoiceState.TheVariants.{Fading, Loose}
-use Rattle.store.specs.declared.voices.Fade.{Fade}
+use Rattle.voice.specs.declared.voices.Voice.{Voice}
+use Rattle.voice.specs.declared.voices.VoiceState.TheVariants.{Fading, Loose}
+use Rattle.voice.specs.declared.voices.Fade.{Fade}
 use Rattle.model.specs.SharedState.{sounding}
-use Rattle.model.specs.Voice.{id, is_voice, moved_fade, moved_state, counted}
+use Rattle.voice.specs.Voice.{id, is_voice, moved_fade, moved_state, counted}
 use Rattle.model.specs.Clear.{is_silent}
 use Rattle.model.specs.Clear as clearing
 use Rattle.model.specs.Spawn.{Spawn, state_under}
@@ -38,7 +38,7 @@ use Rattle.graph.specs.Change as change
 use Rattle.graph.specs.Refuse.{add_refusal}
 use Rattle.node.specs.declared.record.VoiceId.{VoiceId}
 use Rattle.node.specs.declared.refusal.Refusal.{Refusal}
-use Rattle.store.specs.declared.voices.VoiceState.{VoiceState}
+use Rattle.voice.specs.declared.voices.VoiceState.{VoiceState}
 use Rattle.refusals.proofs.Spawn.{admissible}
 use Rattle.ledger.specs.Ledger.{Ledger}
 use Rattle.ledger.specs.Clear as ledger

@@ -15,8 +15,8 @@ use Rattle.lists.specs.Count.{more, count}
 use Rattle.lists.specs.Rising.{RisesFrom}
 use Rattle.lists.proofs.Rising.{rises_in, rises_filter, rises_snoc, rises_map, rises_once}
 use Rattle.node.specs.declared.record.VoiceId.{VoiceId}
-use Rattle.store.specs.declared.voices.Voice.{Voice}
-use Rattle.model.specs.Voice.{is_voice}
+use Rattle.voice.specs.declared.voices.Voice.{Voice}
+use Rattle.voice.specs.Voice.{is_voice}
 
 -- each id above the one before, the first above n
 abbrev pub Rising : ℕ → List Voice → Type 0

@@ -18,8 +18,8 @@ use Rattle.edges.specs.Wiring.{ends_at, wired}
 use Rattle.graph.specs.View.{GraphView}
 use Rattle.graph.specs.Node.{ports_of}
 use Rattle.graph.specs.Change.{append, connect, edge}
-use Rattle.store.specs.declared.voices.Voice.{Voice}
-use Rattle.model.specs.Voice.{id, feeder, end_of}
+use Rattle.voice.specs.declared.voices.Voice.{Voice}
+use Rattle.voice.specs.Voice.{id, feeder, end_of}
 use Rattle.model.specs.Spawn.{Wire, append_all, wire_all}
 use Rattle.ledger.specs.Holder.{Holders, voice, hold}
 use Rattle.ledger.specs.Claim.{owner_at, Owners, holder_at, source_holds}

@@ -21,8 +21,8 @@ use Rattle.node.specs.declared.record.Edge.{Edge}
 use Rattle.edges.specs.Wiring.{ends_at, drop_at, wired, among, touches, drop_touching}
 use Rattle.graph.specs.Node.{is_node, owned_by, node_at, ports_of, with_id, replaced}
 use Rattle.graph.specs.Change.{ids_of, edge}
-use Rattle.store.specs.declared.voices.Voice.{Voice}
-use Rattle.model.specs.Voice.{id, is_voice, feeder, end_of}
+use Rattle.voice.specs.declared.voices.Voice.{Voice}
+use Rattle.voice.specs.Voice.{id, is_voice, feeder, end_of}
 use Rattle.ledger.specs.Holder.{Holders, host, nobody, hold, drop_voice, drop_node}
 use Rattle.ledger.specs.Claim.{owner_at, holder_at}
 use Rattle.ledger.proofs.Owner.{ports_at, Listed, live_below, look_old, owner_old, listed_append, owner_thin, ports_thin, listed_thin, dead_voice, dead_node, owner_replaced, ports_replaced, listed_replaced}

@@ -27,12 +27,13 @@ use Rattle.scheduler.specs.Queue as queue
 use Rattle.scheduler.specs.declared.event.Event.{Event}
 use Rattle.voice.specs.Steals.{StealLog, pushed, marked, record_of}
 use Rattle.voice.specs.declared.steals.StealRecord.{StealRecord}
-use Rattle.store.specs.declared.voices.Voice.{Voice}
-use Rattle.store.specs.declared.voices.VoiceState.{VoiceState}
-use Rattle.store.specs.declared.voices.VoiceState.TheVariants.{Tracked, Fading, Loose}
-use Rattle.store.specs.declared.voices.Fade.{Fade}
+use Rattle.voice.specs.declared.voices.Voice.{Voice}
+use Rattle.voice.specs.declared.voices.VoiceState.{VoiceState}
+use Rattle.voice.specs.declared.voices.VoiceState.TheVariants.{Tracked, Fading, Loose}
+use Rattle.voice.specs.declared.voices.Fade.{Fade}
 use Rattle.model.specs.SharedState.{sounding}
-use Rattle.model.specs.Voice.{is_voice, is_tracked, is_on, with_state, begin_fade, moved_fade, moved_state, moved, voice_level}
+use Rattle.voice.specs.Voice.{is_voice, is_tracked, is_on, with_state, begin_fade, moved_fade, moved_state, moved}
+use Rattle.model.specs.Voice.{voice_level}
 use Rattle.model.specs.Refuse.{spawn_refusal, report_refusal}
 use Rattle.model.specs.Spawn.{new_voice, state_under, tries, fade_of, Spawn}
 use Rattle.model.specs.Order.{order}

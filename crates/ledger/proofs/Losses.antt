@@ -28,11 +28,12 @@ use Rattle.voice.specs.declared.policy.Admission.TheVariants as admission
 use Rattle.voice.specs.declared.policy.BudgetScope.{BudgetScope}
 use Rattle.voice.specs.declared.policy.BudgetScope.TheVariants.{Global, PerGroup}
 use Rattle.voice.specs.declared.steals.StealRecord.{StealRecord}
-use Rattle.store.specs.declared.voices.Voice.{Voice}
-use Rattle.store.specs.declared.voices.VoiceState.{VoiceState}
-use Rattle.store.specs.declared.voices.VoiceState.TheVariants.{Tracked, Fading, Loose}
-use Rattle.store.specs.declared.voices.Fade.{Fade}
-use Rattle.model.specs.Voice.{id, is_voice, is_tracked, is_fading, is_on, tracked_on, with_state, begin_fade, node_level, voice_level, counted}
+use Rattle.voice.specs.declared.voices.Voice.{Voice}
+use Rattle.voice.specs.declared.voices.VoiceState.{VoiceState}
+use Rattle.voice.specs.declared.voices.VoiceState.TheVariants.{Tracked, Fading, Loose}
+use Rattle.voice.specs.declared.voices.Fade.{Fade}
+use Rattle.voice.specs.Voice.{id, is_voice, is_tracked, is_fading, is_on, tracked_on, with_state, begin_fade, counted}
+use Rattle.model.specs.Voice.{node_level, voice_level}
 use Rattle.model.specs.Refuse.{spawn_refusal}
 use Rattle.model.specs.Spawn.{Spawn, new_voice, state_under, tries, fade_node, fade_of, next_out}
 use Rattle.model.specs.Call as call

@@ -10,11 +10,11 @@ use Rattle.node.specs.declared.refusal.Refusal.TheVariants.{Rejected}
 use Rattle.voice.specs.declared.policy.Admission.{Admission}
 use Rattle.voice.specs.declared.policy.Admission.TheVariants as admission
 use Rattle.store.specs.declared.config.Config.{Config}
-use Rattle.store.specs.declared.voices.Voice.{Voice}
-use Rattle.store.specs.declared.voices.VoiceState.{VoiceState}
-use Rattle.store.specs.declared.voices.VoiceState.TheVariants.{Fading}
-use Rattle.store.specs.declared.voices.Fade.{Fade}
-use Rattle.model.specs.Voice.{is_voice, with_state, begin_fade, moved, counted}
+use Rattle.voice.specs.declared.voices.Voice.{Voice}
+use Rattle.voice.specs.declared.voices.VoiceState.{VoiceState}
+use Rattle.voice.specs.declared.voices.VoiceState.TheVariants.{Fading}
+use Rattle.voice.specs.declared.voices.Fade.{Fade}
+use Rattle.voice.specs.Voice.{is_voice, with_state, begin_fade, moved, counted}
 use Rattle.model.specs.Spawn.{new_voice, state_under, tries, fade_of, Spawn}
 use Rattle.model.specs.Call.{Call}
 use Rattle.ledger.specs.Ledger.{Ledger, new_ledger, SpawnResult, port_held, cut_off, stolen, steal_voice, place_within_budget, steal_then, refused, admitted, admission_on}

@@ -22,11 +22,12 @@ use Rattle.node.specs.declared.refusal.Refusal.{Refusal}
 use Rattle.voice.specs.Steals.{StealLog, pushed, marked, record_of}
 use Rattle.voice.specs.declared.steals.StealRecord.{StealRecord}
 use Rattle.store.specs.declared.config.Config.{Config}
-use Rattle.store.specs.declared.voices.Voice.{Voice}
-use Rattle.store.specs.declared.voices.VoiceState.{VoiceState}
-use Rattle.store.specs.declared.voices.VoiceState.TheVariants.{Tracked, Fading, Loose}
-use Rattle.store.specs.declared.voices.Fade.{Fade}
-use Rattle.model.specs.Voice.{is_voice, is_tracked, is_on, begin_fade, voice_level}
+use Rattle.voice.specs.declared.voices.Voice.{Voice}
+use Rattle.voice.specs.declared.voices.VoiceState.{VoiceState}
+use Rattle.voice.specs.declared.voices.VoiceState.TheVariants.{Tracked, Fading, Loose}
+use Rattle.voice.specs.declared.voices.Fade.{Fade}
+use Rattle.voice.specs.Voice.{is_voice, is_tracked, is_on, begin_fade}
+use Rattle.model.specs.Voice.{voice_level}
 use Rattle.model.specs.Refuse.{spawn_refusal}
 use Rattle.model.specs.Spawn.{new_voice, state_under, tries, fade_of, Spawn}
 use Rattle.model.specs.Call.{Call}

@@ -25,9 +25,9 @@ use Rattle.synthdef.specs.Tables.{param_rows}
 use Rattle.synthdef.specs.Params.{param_node}
 use Rattle.store.specs.declared.answer.Outcome.TheVariants.{Applied, NotTaken}
 use Rattle.store.specs.declared.answer.Rendered.{Rendered}
-use Rattle.store.specs.declared.voices.Voice.{Voice}
+use Rattle.voice.specs.declared.voices.Voice.{Voice}
 use Rattle.model.specs.SharedState.{SharedState, length_l, sounding}
-use Rattle.model.specs.Voice.{is_voice, id, moved}
+use Rattle.voice.specs.Voice.{is_voice, id, moved}
 use Rattle.model.specs.Refuse.{of_definition, reports, report_refusal}
 use Rattle.model.specs.Order.{with_node, with_last, takes, order, order_voice, order_param, order_node, stays, report_node, with_report, outcome_number, free_outcome}
 use Rattle.model.specs.Render.{prepare_outcome, prepare_shared, ready_shared, is_free, any_free, further, moved_if, heard, answer_after, is_sounding, due}

@@ -23,10 +23,10 @@ use Rattle.synthdef.proofs.EdgeLaws.{counted_in}
 use Rattle.synthdef.specs.Limits.{allowed, counts_allowed, node_allowed, edge_allowed, param_allowed, ordered}
 use Rattle.synthdef.specs.declared.def.DefEdge.{DefEdge}
 use Rattle.synthdef.specs.declared.def.SynthDef.{SynthDef}
-use Rattle.store.specs.declared.voices.Voice.{Voice}
-use Rattle.store.specs.declared.voices.VoiceState.{VoiceState}
+use Rattle.voice.specs.declared.voices.Voice.{Voice}
+use Rattle.voice.specs.declared.voices.VoiceState.{VoiceState}
 use Rattle.model.specs.SharedState.{SharedState}
-use Rattle.model.specs.Voice.{id, feeder, end_of}
+use Rattle.voice.specs.Voice.{id, feeder, end_of}
 use Rattle.model.specs.Spawn.{Wire, wire, def_node, def_wire, const_node, pan_node, voice_nodes, voice_wires, voice_out, append_all, wire_all, instantiate_graph, new_voice, Spawn, pans}
 use Rattle.ledger.specs.Holder.{Holders, voice, hold}
 use Rattle.ledger.proofs.Owner.{ports_at, live_below}

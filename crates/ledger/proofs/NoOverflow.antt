@@ -32,11 +32,11 @@ use Rattle.synthdef.specs.Params.{param_node}
 use Rattle.store.specs.declared.answer.Outcome.TheVariants.{Applied, NotTaken}
 use Rattle.store.specs.declared.answer.Rendered.{Rendered}
 use Rattle.store.specs.declared.config.Config.{Config}
-use Rattle.store.specs.declared.voices.Voice.{Voice}
-use Rattle.store.specs.declared.voices.VoiceState.{VoiceState}
-use Rattle.store.specs.declared.voices.VoiceState.TheVariants.{Tracked, Fading, Loose}
+use Rattle.voice.specs.declared.voices.Voice.{Voice}
+use Rattle.voice.specs.declared.voices.VoiceState.{VoiceState}
+use Rattle.voice.specs.declared.voices.VoiceState.TheVariants.{Tracked, Fading, Loose}
 use Rattle.model.specs.SharedState.{SharedState}
-use Rattle.model.specs.Voice.{is_voice, id, with_state, moved, moved_state, begin_fade}
+use Rattle.voice.specs.Voice.{is_voice, id, with_state, moved, moved_state, begin_fade}
 use Rattle.model.specs.Refuse.{spawn_refusal, report_refusal}
 use Rattle.model.specs.Spawn.{new_voice, state_under, tries, fade_of, Spawn}
 use Rattle.model.specs.Order.{with_node, with_last, takes, order, order_voice, order_param, order_node, stays, report_node}

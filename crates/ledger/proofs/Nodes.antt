@@ -27,11 +27,11 @@ use Rattle.rank.specs.Order.{upto}
 use Rattle.synthdef.specs.Tables.{node_rows}
 use Rattle.synthdef.specs.Plan.{plan_silent}
 use Rattle.store.specs.declared.config.Config.{Config}
-use Rattle.store.specs.declared.voices.Voice.{Voice}
-use Rattle.store.specs.declared.voices.VoiceState.{VoiceState}
-use Rattle.store.specs.declared.voices.VoiceState.TheVariants.{Tracked, Fading, Loose}
-use Rattle.store.specs.declared.voices.Fade.{Fade}
-use Rattle.model.specs.Voice.{id, is_voice, with_state, begin_fade, moved}
+use Rattle.voice.specs.declared.voices.Voice.{Voice}
+use Rattle.voice.specs.declared.voices.VoiceState.{VoiceState}
+use Rattle.voice.specs.declared.voices.VoiceState.TheVariants.{Tracked, Fading, Loose}
+use Rattle.voice.specs.declared.voices.Fade.{Fade}
+use Rattle.voice.specs.Voice.{id, is_voice, with_state, begin_fade, moved}
 use Rattle.model.specs.Spawn.{Wire, voice_nodes, voice_wires, append_all, wire_all, new_voice, next_voice, state_under, tries, fade_node, fade_of, Spawn, pans, raised}
 use Rattle.model.specs.Clear.{done_flag, is_silent}
 use Rattle.model.specs.Render.{is_sounding}

@@ -21,7 +21,7 @@ use Rattle.node.specs.declared.record.Node.{Node}
 use Rattle.edges.specs.Wiring.{among}
 use Rattle.graph.specs.Node.{is_node, owned_by, node_at, ports_of, with_id, replaced}
 use Rattle.graph.specs.Change.{ids_of}
-use Rattle.model.specs.Voice.{id}
+use Rattle.voice.specs.Voice.{id}
 use Rattle.ledger.specs.Claim.{owner_of, owner_at}
 
 abbrev pub ports_at : List Node → ℕ → ℕ

@@ -19,8 +19,8 @@ use Rattle.node.specs.declared.record.Edge.{Edge}
 use Rattle.edges.specs.Wiring.{ends_at, taken}
 use Rattle.edges.specs.Ports.{lowest, free_port, feeds, port_from}
 use Rattle.graph.specs.Change.{edge}
-use Rattle.store.specs.declared.voices.Voice.{Voice}
-use Rattle.model.specs.Voice.{id, is_tracked, feeder, end_of}
+use Rattle.voice.specs.declared.voices.Voice.{Voice}
+use Rattle.voice.specs.Voice.{id, is_tracked, feeder, end_of}
 use Rattle.ledger.specs.Holder.{Holders, nobody, voice, is_held, by_voice}
 use Rattle.ledger.specs.Ledger.{lowest_port}
 use Rattle.ledger.specs.Claim.{owner_at, holder_at, holder_of, held_by, is_host}

@@ -34,12 +34,12 @@ use Rattle.synthdef.specs.Params.{param_node}
 use Rattle.store.specs.declared.answer.Rendered.{Rendered}
 use Rattle.store.specs.declared.answer.Outcome.TheVariants.{Applied, NotTaken}
 use Rattle.store.specs.declared.config.Config.{Config}
-use Rattle.store.specs.declared.voices.Voice.{Voice}
-use Rattle.store.specs.declared.voices.VoiceState.{VoiceState}
-use Rattle.store.specs.declared.voices.VoiceState.TheVariants.{Loose}
+use Rattle.voice.specs.declared.voices.Voice.{Voice}
+use Rattle.voice.specs.declared.voices.VoiceState.{VoiceState}
+use Rattle.voice.specs.declared.voices.VoiceState.TheVariants.{Loose}
 use Rattle.model.specs.SharedState.{with_events, sounding}
 use Rattle.voice.specs.Steals.{StealLog}
-use Rattle.model.specs.Voice.{is_voice, id, moved}
+use Rattle.voice.specs.Voice.{is_voice, id, moved}
 use Rattle.model.specs.Refuse.{spawn_refusal, report_refusal}
 use Rattle.model.specs.Spawn.{next_out, new_voice, Spawn}
 use Rattle.model.specs.Clear.{is_silent}

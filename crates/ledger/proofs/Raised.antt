@@ -15,8 +15,8 @@ use Rattle.node.specs.declared.record.NodeId.{NodeId}
 use Rattle.node.specs.declared.record.Node.{Node}
 use Rattle.node.specs.declared.record.Edge.{Edge}
 use Rattle.graph.specs.Node.{is_node, node_at, ports_of, next_noise, raise_noise, noise_raised}
-use Rattle.store.specs.declared.voices.Voice.{Voice}
-use Rattle.model.specs.Voice.{id, feeder, end_of}
+use Rattle.voice.specs.declared.voices.Voice.{Voice}
+use Rattle.voice.specs.Voice.{id, feeder, end_of}
 use Rattle.ledger.specs.Holder.{Holders}
 use Rattle.ledger.specs.Claim.{owner_of, owner_at}
 use Rattle.ledger.proofs.Owner.{ports_at, Listed}

@@ -18,7 +18,7 @@ use Rattle.node.specs.declared.record.Node.{Node}
 use Rattle.graph.specs.View.{GraphView}
 use Rattle.graph.specs.Node.{is_node, owned_by, node_at, host_node, with_id, replaced, raise_noise, noise_raised}
 use Rattle.graph.specs.Change as change
-use Rattle.model.specs.Voice.{id}
+use Rattle.voice.specs.Voice.{id}
 use Rattle.model.specs.Spawn.{Wire, voice_nodes, voice_wires, append_all, wire_all, next_voice, fade_node, pans, raised}
 use Rattle.model.specs.Call.{Call}
 use Rattle.ledger.specs.Ledger.{Ledger, admission_on}

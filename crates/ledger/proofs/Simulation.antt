@@ -27,7 +27,7 @@ use Rattle.graph.specs.Refuse.{dead, add_refusal, host_refusal, disconnect_refus
 use Rattle.edges.specs.Ports.{port_from}
 use Rattle.bus.specs.Fade.{fade_length}
 use Rattle.store.specs.declared.config.Config.{Config}
-use Rattle.store.specs.declared.voices.Voice.{Voice}
+use Rattle.voice.specs.declared.voices.Voice.{Voice}
 use Rattle.model.specs.SharedState.{length_l}
 use Rattle.model.specs.Refuse.{report_refusal}
 use Rattle.model.specs.Order.{report_node}

@@ -15,7 +15,7 @@ use Rattle.std.specs.Prelude.{filter}
 use Rattle.lists.proofs.Filter.{in_filter}
 use Rattle.node.specs.declared.record.Node.{Node}
 use Rattle.graph.specs.Node.{is_node, with_id, replaced, raise_noise, noise_raised}
-use Rattle.store.specs.declared.voices.Voice.{Voice}
+use Rattle.voice.specs.declared.voices.Voice.{Voice}
 use Rattle.store.specs.declared.config.Config.{Config}
 use Rattle.model.specs.Call.{Call}
 use Rattle.ledger.specs.Ledger.{Ledger, new_ledger}

@@ -4,10 +4,10 @@ use Prim.Native.Nat.{ℕ}
 use Rattle.std.specs.Prelude.{Option, None, Some, find}
 use Rattle.voice.specs.declared.policy.Admission.{Admission}
 use Rattle.voice.specs.declared.policy.Admission.TheVariants as admission
-use Rattle.store.specs.declared.voices.Voice.{Voice}
-use Rattle.store.specs.declared.voices.VoiceState.{VoiceState}
-use Rattle.store.specs.declared.voices.VoiceState.TheVariants.{Tracked}
-use Rattle.model.specs.Voice.{is_voice}
+use Rattle.voice.specs.declared.voices.Voice.{Voice}
+use Rattle.voice.specs.declared.voices.VoiceState.{VoiceState}
+use Rattle.voice.specs.declared.voices.VoiceState.TheVariants.{Tracked}
+use Rattle.voice.specs.Voice.{is_voice}
 use Rattle.model.specs.Spawn.{state_under, tries, Spawn}
 use Rattle.ledger.specs.Ledger.{Ledger, port_held, cut_off, fade, stolen, steal_voice, instantiate, place, place_within_budget, steal_then, admitted}
 use Rattle.ledger.proofs.Preserved.{place_kept}

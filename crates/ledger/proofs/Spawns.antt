@@ -25,11 +25,11 @@ use Rattle.voice.specs.declared.policy.Admission.{Admission}
 use Rattle.voice.specs.declared.policy.Admission.TheVariants as admission
 use Rattle.synthdef.specs.Limits.{allowed}
 use Rattle.synthdef.specs.declared.def.SynthDef.{SynthDef}
-use Rattle.store.specs.declared.voices.Voice.{Voice}
-use Rattle.store.specs.declared.voices.VoiceState.{VoiceState}
-use Rattle.store.specs.declared.voices.VoiceState.TheVariants.{Tracked, Loose}
+use Rattle.voice.specs.declared.voices.Voice.{Voice}
+use Rattle.voice.specs.declared.voices.VoiceState.{VoiceState}
+use Rattle.voice.specs.declared.voices.VoiceState.TheVariants.{Tracked, Loose}
 use Rattle.model.specs.SharedState.{with_steals}
-use Rattle.model.specs.Voice.{is_voice, is_tracked, feeder, counted, moved_state, begin_fade}
+use Rattle.voice.specs.Voice.{is_voice, is_tracked, feeder, counted, moved_state, begin_fade}
 use Rattle.model.specs.Refuse.{spawn_refusal}
 use Rattle.model.specs.Spawn.{fade_node, fade_of, new_voice, next_out, reclaim_log, state_under, tries, Spawn, pans, raised}
 use Rattle.model.specs.Model.{Model}

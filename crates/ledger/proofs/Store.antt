@@ -32,12 +32,13 @@ use Rattle.synthdef.specs.declared.def.SynthDef.{SynthDef}
 use Rattle.voice.specs.Policy.{at_budget}
 use Rattle.synthdef.specs.Rows.{every}
 use Rattle.store.specs.declared.config.Config.{Config}
-use Rattle.store.specs.declared.voices.Voice.{Voice}
-use Rattle.store.specs.declared.voices.VoiceState.{VoiceState}
-use Rattle.store.specs.declared.voices.VoiceState.TheVariants.{Tracked, Fading, Loose}
-use Rattle.store.specs.declared.voices.Fade.{Fade}
+use Rattle.voice.specs.declared.voices.Voice.{Voice}
+use Rattle.voice.specs.declared.voices.VoiceState.{VoiceState}
+use Rattle.voice.specs.declared.voices.VoiceState.TheVariants.{Tracked, Fading, Loose}
+use Rattle.voice.specs.declared.voices.Fade.{Fade}
 use Rattle.model.specs.SharedState.{SharedState}
-use Rattle.model.specs.Voice.{is_voice, is_tracked, is_on, feeder, voice_level, with_state, moved_fade, moved_state, moved, counted}
+use Rattle.voice.specs.Voice.{is_voice, is_tracked, is_on, feeder, with_state, moved_fade, moved_state, moved, counted}
+use Rattle.model.specs.Voice.{voice_level}
 use Rattle.model.specs.Refuse.{spawn_refusal}
 use Rattle.model.specs.Spawn.{Spawn, next_voice, fade_of}
 use Rattle.model.specs.Clear as clearing

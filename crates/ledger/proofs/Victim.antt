@@ -25,11 +25,12 @@ use Rattle.voice.specs.declared.policy.StealPolicy.{StealPolicy}
 use Rattle.voice.specs.declared.policy.StealPolicy.TheVariants as policy
 use Rattle.voice.specs.declared.policy.Candidate.{Candidate}
 use Rattle.voice.specs.declared.policy.Admission.TheVariants as admission
-use Rattle.store.specs.declared.voices.Voice.{Voice}
-use Rattle.store.specs.declared.voices.VoiceState.{VoiceState}
-use Rattle.store.specs.declared.voices.VoiceState.TheVariants.{Tracked, Fading, Loose}
+use Rattle.voice.specs.declared.voices.Voice.{Voice}
+use Rattle.voice.specs.declared.voices.VoiceState.{VoiceState}
+use Rattle.voice.specs.declared.voices.VoiceState.TheVariants.{Tracked, Fading, Loose}
 use Rattle.model.specs.SharedState.{SharedState}
-use Rattle.model.specs.Voice.{is_voice, is_tracked, is_fading, is_on, start_of, candidate, candidates, tracked_on, fades_on}
+use Rattle.voice.specs.Voice.{is_voice, is_tracked, is_fading, is_on, start_of, tracked_on, fades_on}
+use Rattle.model.specs.Voice.{candidate, candidates}
 use Rattle.model.specs.Spawn.{voice_of, earlier, earliest, else_victim, next_out}
 use Rattle.ledger.specs.Claim.{Stealing, steals, may_go_on, goes}
 use Rattle.ledger.proofs.Ids.{Ids, once}

@@ -8,9 +8,9 @@ use Rattle.graph.specs.Change as change
 use Rattle.graph.specs.Refuse.{add_refusal, host_refusal, disconnect_refusal, connect_refusal}
 use Rattle.scheduler.specs.Queue.{replacing}
 use Rattle.store.specs.declared.answer.Rendered.TheVariants as Rendered
-use Rattle.store.specs.declared.voices.Voice.{Voice}
+use Rattle.voice.specs.declared.voices.Voice.{Voice}
 use Rattle.model.specs.SharedState.{SharedState, with_events}
-use Rattle.model.specs.Voice.{moved, is_voice}
+use Rattle.voice.specs.Voice.{moved, is_voice}
 use Rattle.model.specs.Refuse.{report_refusal}
 use Rattle.model.specs.Order.{report_node}
 use Rattle.model.specs.Order as param

@@ -40,12 +40,13 @@ use Rattle.voice.specs.declared.policy.StealPolicy.TheVariants as policy
 use Rattle.voice.specs.declared.steals.StealRecord.{StealRecord}
 use Rattle.synthdef.specs.Rows.{every}
 use Rattle.store.specs.declared.config.Config.{Config}
-use Rattle.store.specs.declared.voices.Voice.{Voice}
-use Rattle.store.specs.declared.voices.VoiceState.{VoiceState}
-use Rattle.store.specs.declared.voices.VoiceState.TheVariants.{Tracked, Fading, Loose}
-use Rattle.store.specs.declared.voices.Fade.{Fade}
+use Rattle.voice.specs.declared.voices.Voice.{Voice}
+use Rattle.voice.specs.declared.voices.VoiceState.{VoiceState}
+use Rattle.voice.specs.declared.voices.VoiceState.TheVariants.{Tracked, Fading, Loose}
+use Rattle.voice.specs.declared.voices.Fade.{Fade}
 use Rattle.model.specs.SharedState.{SharedState, length_l, sounding}
-use Rattle.model.specs.Voice.{id, is_voice, is_tracked, is_fading, is_on, feeder, end_of, voice_level, counted, moved, moved_fade, with_state}
+use Rattle.voice.specs.Voice.{id, is_voice, is_tracked, is_fading, is_on, feeder, end_of, counted, moved, moved_fade, with_state}
+use Rattle.model.specs.Voice.{voice_level}
 use Rattle.model.specs.Refuse.{spawn_refusal}
 use Rattle.model.specs.Spawn.{Spawn, next_voice, state_under, fade_of}
 use Rattle.model.specs.Clear.{is_silent}

@@ -13,11 +13,12 @@ use Rattle.voice.specs.Policy.{admits}
 use Rattle.voice.specs.declared.policy.Admission.{Admission}
 use Rattle.voice.specs.declared.policy.Admission.TheVariants as admission
 use Rattle.store.specs.declared.config.Config.{Config}
-use Rattle.store.specs.declared.voices.Voice.{Voice}
-use Rattle.store.specs.declared.voices.VoiceState.{VoiceState}
-use Rattle.store.specs.declared.voices.VoiceState.TheVariants.{Tracked, Loose}
+use Rattle.voice.specs.declared.voices.Voice.{Voice}
+use Rattle.voice.specs.declared.voices.VoiceState.{VoiceState}
+use Rattle.voice.specs.declared.voices.VoiceState.TheVariants.{Tracked, Loose}
 use Rattle.model.specs.SharedState.{SharedState, new_shared, with_graph, with_steals}
-use Rattle.model.specs.Voice.{is_voice, candidates, counted, begin_fade}
+use Rattle.voice.specs.Voice.{is_voice, counted, begin_fade}
+use Rattle.model.specs.Voice.{candidates}
 use Rattle.model.specs.Refuse.{spawn_refusal}
 use Rattle.model.specs.Spawn.{instantiate_shared, new_voice, next_voice, state_under, tries, fade_shared, fade_of, reclaim_log, next_out, Spawn}
 use Rattle.ledger.specs.Holder.{Holders, nobody, voice, is_held, by_voice, hold, drop_voice}

@@ -5,9 +5,9 @@ use Rattle.scheduler.specs.Queue.{left_after}
 use Rattle.scheduler.specs.declared.event.Event.{Event}
 use Rattle.store.specs.declared.answer.Outcome.{Outcome}
 use Rattle.store.specs.declared.answer.Rendered.{Rendered}
-use Rattle.store.specs.declared.voices.Voice.{Voice}
+use Rattle.voice.specs.declared.voices.Voice.{Voice}
 use Rattle.model.specs.SharedState.{with_events, with_clock, sounding}
-use Rattle.model.specs.Voice.{moved, is_voice}
+use Rattle.voice.specs.Voice.{moved, is_voice}
 use Rattle.model.specs.Order.{order, outcome_number, free_outcome}
 use Rattle.model.specs.Render.{prepare_outcome, prepare_shared, is_free, any_free, heard, answer_after, is_sounding, deadline, due}
 use Rattle.ledger.specs.Ledger.{Ledger, free, at_shared}

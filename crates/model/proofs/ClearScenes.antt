@@ -14,7 +14,7 @@ use Rattle.prepare.specs.Prepare.{prepare}
 use Rattle.voice.specs.Steals.{record_of}
 use Rattle.voice.specs.declared.policy.BudgetScope.TheVariants.{Global}
 use Rattle.voice.specs.declared.policy.StealPolicy.TheVariants.{Oldest}
-use Rattle.store.specs.declared.voices.VoiceState.TheVariants.{Tracked}
+use Rattle.voice.specs.declared.voices.VoiceState.TheVariants.{Tracked}
 use Rattle.model.specs.Model.{Model}
 use Rattle.model.specs.Call.{Call, Answer, removed, reached, wires}
 use Rattle.model.specs.Call as call

@@ -21,8 +21,8 @@ use Rattle.voice.specs.Steals.{record_of}
 use Rattle.synthdef.specs.declared.def.SynthDef.{SynthDef}
 use Rattle.store.specs.declared.answer.Outcome.TheVariants.{Applied, NoVoice, NoParameter, NotTaken}
 use Rattle.store.specs.declared.answer.Rendered.TheVariants as Rendered
-use Rattle.store.specs.declared.voices.VoiceState.TheVariants.{Tracked}
-use Rattle.model.specs.Voice.{id}
+use Rattle.voice.specs.declared.voices.VoiceState.TheVariants.{Tracked}
+use Rattle.voice.specs.Voice.{id}
 use Rattle.model.specs.Model.{Model}
 use Rattle.model.specs.Call.{Call, done, refused, ordered, time}
 use Rattle.model.specs.Call as call

@@ -25,7 +25,7 @@ use Rattle.voice.proofs.Examples.{numbered}
 use Rattle.voice.specs.Policy.{Victim, victim}
 use Rattle.voice.specs.declared.policy.BudgetScope.TheVariants.{Global}
 use Rattle.voice.specs.declared.policy.StealPolicy.TheVariants.{Oldest, Quietest}
-use Rattle.model.specs.Voice.{id, is_fading}
+use Rattle.voice.specs.Voice.{id, is_fading}
 use Rattle.model.specs.Model.{Model}
 use Rattle.model.specs.Page as paper
 use Rattle.model.specs.Call.{Call, Answer, removed, known, event}

@@ -7,7 +7,7 @@ use lib.ListN.{length}
 use Rattle.node.specs.declared.record.Node.{Node}
 use Rattle.graph.specs.View.{GraphView}
 use Rattle.graph.specs.Change.{append, connect}
-use Rattle.model.specs.Voice.{id}
+use Rattle.voice.specs.Voice.{id}
 use Rattle.model.specs.Spawn.{Wire, append_all, wire_all}
 
 pub grown_next : (xs : List Node) (g : GraphView) → (append_all g xs).next ≡ g.next + length xs

@@ -18,7 +18,7 @@ use Rattle.synthdef.specs.Plan.{settled}
 use Rattle.synthdef.specs.declared.def.SynthDef.{SynthDef}
 use Rattle.node.specs.declared.order.LastOrder.{LastOrder}
 use Rattle.store.specs.declared.answer.Outcome.TheVariants.{Applied, NotTaken}
-use Rattle.model.specs.Voice.{id}
+use Rattle.voice.specs.Voice.{id}
 use Rattle.model.specs.Model.{Model}
 use Rattle.model.specs.Call.{done, known, refused, Call, ordered, removed}
 use Rattle.model.specs.Call as call

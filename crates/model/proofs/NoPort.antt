@@ -22,11 +22,12 @@ use Rattle.edges.specs.Ports.{port_from}
 use Rattle.voice.specs.Policy.{Victim, victim}
 use Rattle.voice.specs.declared.policy.Admission.{Admission}
 use Rattle.voice.specs.declared.policy.Admission.TheVariants as admission
-use Rattle.store.specs.declared.voices.Voice.{Voice}
-use Rattle.store.specs.declared.voices.VoiceState.{VoiceState}
-use Rattle.store.specs.declared.voices.VoiceState.TheVariants.{Tracked, Loose}
+use Rattle.voice.specs.declared.voices.Voice.{Voice}
+use Rattle.voice.specs.declared.voices.VoiceState.{VoiceState}
+use Rattle.voice.specs.declared.voices.VoiceState.TheVariants.{Tracked, Loose}
 use Rattle.model.specs.SharedState.{SharedState}
-use Rattle.model.specs.Voice.{is_voice, feeder, candidates, tracked_on, fades_on}
+use Rattle.voice.specs.Voice.{is_voice, feeder, tracked_on, fades_on}
+use Rattle.model.specs.Voice.{candidates}
 use Rattle.model.specs.Refuse.{spawn_refusal}
 use Rattle.model.specs.Spawn.{tries, state_under, voice_of, no_later, earlier, earliest, else_victim, next_out, Spawn}
 use Rattle.model.specs.Model.{Model, cut_off, steal_voice, port_free, instantiate_or, place, place_within_budget, steal_then, admitted, admission_on, SpawnResult}

@@ -8,9 +8,9 @@ use Rattle.rank.specs.Order as rank
 use Rattle.rank.specs.Order.{among, released, walk, order, whole, count_up}
 use Rattle.graph.specs.Change.{with_nodes}
 use Rattle.voice.specs.declared.policy.StealPolicy.TheVariants.{Oldest, Reject}
-use Rattle.store.specs.declared.voices.Voice.{Voice}
+use Rattle.voice.specs.declared.voices.Voice.{Voice}
 use Rattle.model.specs.SharedState.{with_graph}
-use Rattle.model.specs.Voice.{id}
+use Rattle.voice.specs.Voice.{id}
 use Rattle.model.specs.Model.{Model}
 use Rattle.model.specs.Call as call
 use Rattle.model.specs.Scene.{up_to, host, spawn, spawn_loose, free, after, further}

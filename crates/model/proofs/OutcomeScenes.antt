@@ -19,7 +19,7 @@ use Rattle.synthdef.specs.declared.def.SynthDef.{SynthDef}
 use Rattle.store.specs.declared.answer.Outcome.TheVariants.{Applied, NoVoice, NoParameter, NotTaken}
 use Rattle.store.specs.declared.answer.Rendered.TheVariants as Rendered
 use Rattle.model.specs.SharedState.{with_clock}
-use Rattle.model.specs.Voice.{id}
+use Rattle.voice.specs.Voice.{id}
 use Rattle.model.specs.Model.{Model}
 use Rattle.model.specs.Order.{outcome_number}
 use Rattle.model.specs.Call.{Call, ordered, time}

@@ -21,9 +21,9 @@ use Rattle.scheduler.specs.declared.event.Event.{Event}
 use Rattle.synthdef.specs.Tables.{param_rows}
 use Rattle.synthdef.specs.Params.{called}
 use Rattle.synthdef.specs.declared.def.Param.{Param}
-use Rattle.store.specs.declared.voices.Voice.{Voice}
+use Rattle.voice.specs.declared.voices.Voice.{Voice}
 use Rattle.model.specs.SharedState.{SharedState}
-use Rattle.model.specs.Voice.{is_voice, id}
+use Rattle.voice.specs.Voice.{is_voice, id}
 use Rattle.model.specs.Model.{Model}
 use Rattle.model.specs.Order.{takes, order, order_node, order_param, order_voice, outcome_number, free_outcome}
 use Rattle.lists.specs.Written.{written}

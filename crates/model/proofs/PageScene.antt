@@ -13,7 +13,7 @@ use Rattle.prepare.specs.Live.{rising_from, live_nodes, live_ids, processing_ord
 use Rattle.prepare.specs.Required.{any, lacks, lacking}
 use Rattle.prepare.specs.Prepare.{prepare}
 use Rattle.voice.specs.Steals.{record_of}
-use Rattle.store.specs.declared.voices.VoiceState.TheVariants.{Tracked}
+use Rattle.voice.specs.declared.voices.VoiceState.TheVariants.{Tracked}
 use Rattle.model.specs.Model.{Model}
 use Rattle.model.specs.Make.{new_model}
 use Rattle.model.specs.Call.{Call, done, removed, reached, Ran, run}

@@ -13,7 +13,7 @@ use Rattle.voice.specs.declared.policy.BudgetScope.{BudgetScope}
 use Rattle.voice.specs.declared.policy.BudgetScope.TheVariants.{Global, PerGroup}
 use Rattle.voice.specs.declared.policy.StealPolicy.{StealPolicy}
 use Rattle.voice.specs.declared.policy.StealPolicy.TheVariants.{Reject, Oldest, Newest, Quietest}
-use Rattle.store.specs.declared.voices.VoiceState.TheVariants.{Tracked, Loose}
+use Rattle.voice.specs.declared.voices.VoiceState.TheVariants.{Tracked, Loose}
 use Rattle.model.specs.Model.{Model}
 use Rattle.model.specs.Call.{Call, Answer}
 use Rattle.model.specs.Scene.{config, up_to, small, host, spawn, spawn_loose, sounds, spawned, not_spawned, after, asked, further, FoundNode, seen, voices, fading, render}

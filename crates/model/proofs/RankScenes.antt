@@ -15,8 +15,8 @@ use Rattle.voice.specs.declared.policy.BudgetScope.{BudgetScope}
 use Rattle.voice.specs.declared.policy.BudgetScope.TheVariants.{Global, PerGroup}
 use Rattle.voice.specs.declared.policy.StealPolicy.{StealPolicy}
 use Rattle.voice.specs.declared.policy.StealPolicy.TheVariants.{Reject, Oldest, Newest, Quietest}
-use Rattle.store.specs.declared.voices.VoiceState.TheVariants.{Tracked}
-use Rattle.model.specs.Voice.{id, is_tracked}
+use Rattle.voice.specs.declared.voices.VoiceState.TheVariants.{Tracked}
+use Rattle.voice.specs.Voice.{id, is_tracked}
 use Rattle.model.specs.Spawn.{spawn_of}
 use Rattle.model.specs.Model.{Model}
 use Rattle.model.specs.Call.{Call}

@@ -15,7 +15,7 @@ use Rattle.rank.specs.Order as rank
 use Rattle.rank.specs.Order.{among, released, walk, order, whole, count_up}
 use Rattle.voice.specs.declared.policy.StealPolicy.TheVariants.{Oldest}
 use Rattle.model.specs.Decimal.{decimal}
-use Rattle.model.specs.Voice.{id}
+use Rattle.voice.specs.Voice.{id}
 use Rattle.model.specs.Model.{Model}
 use Rattle.model.specs.Call.{Answer, Question, known, reached, found, found_node, all, stolen, wires, fed, time, printed, refused}
 use Rattle.model.specs.Call as call

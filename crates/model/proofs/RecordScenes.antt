@@ -10,7 +10,7 @@ use lib.Ieee.{eq}
 use Rattle.rank.specs.Order.{among, fed, released, walk, order, whole, count_up}
 use Rattle.voice.specs.declared.policy.BudgetScope.TheVariants.{PerGroup}
 use Rattle.voice.specs.declared.policy.StealPolicy.TheVariants.{Oldest}
-use Rattle.store.specs.declared.voices.VoiceState.TheVariants.{Tracked}
+use Rattle.voice.specs.declared.voices.VoiceState.TheVariants.{Tracked}
 use Rattle.model.specs.Model.{Model}
 use Rattle.model.specs.Call.{Call}
 use Rattle.model.specs.Scene.{config, host, spawn, free, after, further, seen, voices, fading}

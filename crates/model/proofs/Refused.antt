@@ -21,11 +21,11 @@ use Rattle.voice.specs.declared.policy.Admission.TheVariants as admission
 use Rattle.synthdef.specs.Limits.{allowed}
 use Rattle.synthdef.specs.declared.def.SynthDef.{SynthDef}
 use Rattle.store.specs.declared.answer.Rendered.{Rendered}
-use Rattle.store.specs.declared.voices.Voice.{Voice}
-use Rattle.store.specs.declared.voices.VoiceState.{VoiceState}
-use Rattle.store.specs.declared.voices.VoiceState.TheVariants.{Loose}
+use Rattle.voice.specs.declared.voices.Voice.{Voice}
+use Rattle.voice.specs.declared.voices.VoiceState.{VoiceState}
+use Rattle.voice.specs.declared.voices.VoiceState.TheVariants.{Loose}
 use Rattle.model.specs.SharedState.{SharedState, sounding}
-use Rattle.model.specs.Voice.{is_voice}
+use Rattle.voice.specs.Voice.{is_voice}
 use Rattle.model.specs.Refuse.{or_else, rank_limit, no_headroom, no_ids, spawn_refusal, report_refusal}
 use Rattle.model.specs.Spawn.{tries, state_under, next_out, Spawn}
 use Rattle.model.specs.Model.{Model, cut_off, steal_voice, port_free, instantiate_or, place, steal_then, admitted, admission_on, SpawnResult}

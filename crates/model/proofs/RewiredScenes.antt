@@ -11,8 +11,8 @@ use Rattle.rank.specs.Order as rank
 use Rattle.rank.specs.Order.{among, released, walk, order, whole, count_up}
 use Rattle.voice.specs.declared.policy.StealPolicy.TheVariants.{Oldest}
 use Rattle.synthdef.specs.declared.def.SynthDef.{SynthDef}
-use Rattle.store.specs.declared.voices.VoiceState.TheVariants.{Tracked}
-use Rattle.model.specs.Voice.{id}
+use Rattle.voice.specs.declared.voices.VoiceState.TheVariants.{Tracked}
+use Rattle.voice.specs.Voice.{id}
 use Rattle.model.specs.Model.{Model}
 use Rattle.model.specs.Call.{Call, Answer, printed}
 use Rattle.model.specs.Call as call

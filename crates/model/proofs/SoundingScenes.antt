@@ -13,7 +13,7 @@ use Rattle.prepare.specs.Required.{any, lacks, lacking}
 use Rattle.prepare.specs.Prepare.{prepare}
 use Rattle.voice.specs.declared.policy.StealPolicy.TheVariants.{Oldest}
 use Rattle.store.specs.declared.answer.Outcome.TheVariants.{NoVoice}
-use Rattle.model.specs.Voice.{id}
+use Rattle.voice.specs.Voice.{id}
 use Rattle.model.specs.Model.{Model}
 use Rattle.model.specs.Call.{Call, Answer, done, node, refused, removed, ordered, reached, time, wires}
 use Rattle.model.specs.Call as call

@@ -22,8 +22,8 @@ use Rattle.voice.specs.Steals.{record_of}
 use Rattle.voice.specs.declared.policy.StealPolicy.TheVariants.{Oldest, Reject}
 use Rattle.synthdef.specs.declared.def.DefNode.{DefNode}
 use Rattle.synthdef.specs.declared.def.SynthDef.{SynthDef}
-use Rattle.store.specs.declared.voices.VoiceState.TheVariants.{Tracked, Loose}
-use Rattle.model.specs.Voice.{id}
+use Rattle.voice.specs.declared.voices.VoiceState.TheVariants.{Tracked, Loose}
+use Rattle.voice.specs.Voice.{id}
 use Rattle.model.specs.Model.{Model}
 use Rattle.model.specs.Call.{fed, stolen, found}
 use Rattle.model.specs.Call as call

@@ -32,10 +32,10 @@ use Rattle.synthdef.specs.Plan.{plan_of, settled}
 use Rattle.synthdef.specs.declared.def.DefNode.{DefNode}
 use Rattle.synthdef.specs.declared.def.SynthDef.{SynthDef}
 use Rattle.store.specs.declared.config.Config.{Config}
-use Rattle.store.specs.declared.voices.Voice.{Voice}
-use Rattle.store.specs.declared.voices.VoiceState.{VoiceState}
-use Rattle.store.specs.declared.voices.VoiceState.TheVariants.{Tracked, Loose}
-use Rattle.model.specs.Voice.{id}
+use Rattle.voice.specs.declared.voices.Voice.{Voice}
+use Rattle.voice.specs.declared.voices.VoiceState.{VoiceState}
+use Rattle.voice.specs.declared.voices.VoiceState.TheVariants.{Tracked, Loose}
+use Rattle.voice.specs.Voice.{id}
 use Rattle.model.specs.Spawn.{spawn_of}
 use Rattle.model.specs.Model.{Model}
 use Rattle.model.specs.Call.{Call}

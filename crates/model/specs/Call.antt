@@ -21,12 +21,13 @@ use Rattle.voice.specs.Steals.{StealLog}
 use Rattle.store.specs.declared.config.Config.{Config}
 use Rattle.store.specs.declared.answer.Outcome.{Outcome}
 use Rattle.store.specs.declared.answer.Rendered.{Rendered}
-use Rattle.store.specs.declared.voices.Voice.{Voice}
-use Rattle.store.specs.declared.voices.VoiceState.{VoiceState}
-use Rattle.store.specs.declared.voices.VoiceState.TheVariants.{Tracked, Fading, Loose}
+use Rattle.voice.specs.declared.voices.Voice.{Voice}
+use Rattle.voice.specs.declared.voices.VoiceState.{VoiceState}
+use Rattle.voice.specs.declared.voices.VoiceState.TheVariants.{Tracked, Fading, Loose}
 use Rattle.node.specs.declared.refusal.Refusal.TheVariants.{TableFull, LentBlock, ShortBuffer}
 use Rattle.model.specs.SharedState.{SharedState, with_graph, with_events}
-use Rattle.model.specs.Voice.{is_voice, level_or}
+use Rattle.voice.specs.Voice.{is_voice}
+use Rattle.model.specs.Voice.{level_or}
 use Rattle.model.specs.Refuse.{report_refusal}
 use Rattle.model.specs.Spawn.{Spawn}
 use Rattle.model.specs.Model.{Model}

@@ -5,11 +5,11 @@ use Rattle.node.specs.declared.record.Node.{Node}
 use Rattle.rank.specs.Order.{upto}
 use Rattle.graph.specs.Node.{node_at}
 use Rattle.synthdef.specs.Plan.{plan_silent}
-use Rattle.store.specs.declared.voices.Voice.{Voice}
-use Rattle.store.specs.declared.voices.VoiceState.{VoiceState}
-use Rattle.store.specs.declared.voices.VoiceState.TheVariants.{Tracked, Fading, Loose}
+use Rattle.voice.specs.declared.voices.Voice.{Voice}
+use Rattle.voice.specs.declared.voices.VoiceState.{VoiceState}
+use Rattle.voice.specs.declared.voices.VoiceState.TheVariants.{Tracked, Fading, Loose}
 use Rattle.model.specs.SharedState.{length_l}
-use Rattle.model.specs.Voice.{id}
+use Rattle.voice.specs.Voice.{id}
 use Rattle.model.specs.Model.{Model, without_voice}
 
 -- a fade "ends when position reaches L"

@@ -10,11 +10,12 @@ use Rattle.graph.specs.Change.{remove_voice}
 use Rattle.voice.specs.Policy.{admits}
 use Rattle.voice.specs.declared.policy.Admission.{Admission}
 use Rattle.voice.specs.declared.policy.Admission.TheVariants as admission
-use Rattle.store.specs.declared.voices.Voice.{Voice}
-use Rattle.store.specs.declared.voices.VoiceState.{VoiceState}
-use Rattle.store.specs.declared.voices.VoiceState.TheVariants.{Tracked, Loose}
+use Rattle.voice.specs.declared.voices.Voice.{Voice}
+use Rattle.voice.specs.declared.voices.VoiceState.{VoiceState}
+use Rattle.voice.specs.declared.voices.VoiceState.TheVariants.{Tracked, Loose}
 use Rattle.model.specs.SharedState.{SharedState, with_graph, with_steals}
-use Rattle.model.specs.Voice.{is_voice, feeder, candidates, counted, begin_fade}
+use Rattle.voice.specs.Voice.{is_voice, feeder, counted, begin_fade}
+use Rattle.model.specs.Voice.{candidates}
 use Rattle.model.specs.Refuse.{spawn_refusal}
 use Rattle.model.specs.Spawn.{instantiate_shared, new_voice, next_voice, state_under, tries, fade_shared, fade_of, reclaim_log, next_out, Spawn}
 

@@ -12,9 +12,9 @@ use Rattle.synthdef.specs.Tables.{param_rows}
 use Rattle.synthdef.specs.Params.{param_node}
 use Rattle.store.specs.declared.answer.Outcome.{Outcome}
 use Rattle.store.specs.declared.answer.Outcome.TheVariants.{Applied, NoVoice, NoParameter, NotTaken}
-use Rattle.store.specs.declared.voices.Voice.{Voice}
+use Rattle.voice.specs.declared.voices.Voice.{Voice}
 use Rattle.model.specs.SharedState.{SharedState, with_graph}
-use Rattle.model.specs.Voice.{is_voice, id}
+use Rattle.voice.specs.Voice.{is_voice, id}
 pub use Rattle.node.specs.Node.{with_last}
 
 -- the node's record is replaced; the graph stays prepared

@@ -5,11 +5,11 @@ use Rattle.std.specs.Prelude.{ℕ, ◌-◌, List, [], ◌∷◌, ◌++◌, Optio
 use Rattle.node.specs.Silence.{bytes}
 use Rattle.node.specs.declared.record.Edge.{Edge}
 use Rattle.edges.specs.Ports.{port_from}
-use Rattle.store.specs.declared.voices.Voice.{Voice}
-use Rattle.store.specs.declared.voices.VoiceState.{VoiceState}
-use Rattle.store.specs.declared.voices.VoiceState.TheVariants.{Tracked, Fading, Loose}
+use Rattle.voice.specs.declared.voices.Voice.{Voice}
+use Rattle.voice.specs.declared.voices.VoiceState.{VoiceState}
+use Rattle.voice.specs.declared.voices.VoiceState.TheVariants.{Tracked, Fading, Loose}
 use Rattle.model.specs.Decimal.{decimal}
-use Rattle.model.specs.Voice.{end_of}
+use Rattle.voice.specs.Voice.{end_of}
 
 abbrev pub header : List ℕ
 header = bytes "voice age port state\n"

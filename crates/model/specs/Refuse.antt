@@ -11,9 +11,9 @@ use Rattle.graph.specs.Node.{node_limit, id_limit, node_at, ports_of}
 use Rattle.graph.specs.Refuse.{when, host_refusal}
 use Rattle.synthdef.specs.Limits.{allowed}
 use Rattle.synthdef.specs.declared.def.SynthDef.{SynthDef}
-use Rattle.store.specs.declared.voices.Voice.{Voice}
+use Rattle.voice.specs.declared.voices.Voice.{Voice}
 use Rattle.model.specs.SharedState.{SharedState}
-use Rattle.model.specs.Voice.{is_voice}
+use Rattle.voice.specs.Voice.{is_voice}
 
 -- "64 voices"; "All ... voice ids 1 to 2^64 - 1 can be given out"
 abbrev pub voice_limit : ℕ

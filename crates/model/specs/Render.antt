@@ -10,11 +10,11 @@ use Rattle.scheduler.specs.Queue.{taken_before, left_after}
 use Rattle.scheduler.specs.declared.event.Event.{Event}
 use Rattle.store.specs.declared.answer.Outcome.{Outcome}
 use Rattle.store.specs.declared.answer.Rendered.{Rendered}
-use Rattle.store.specs.declared.voices.Voice.{Voice}
+use Rattle.voice.specs.declared.voices.Voice.{Voice}
 use Rattle.graph.specs.View.{prepared_by}
 use Rattle.graph.specs.Refuse.{when}
 use Rattle.model.specs.SharedState.{SharedState, with_graph, with_events, with_clock, sounding}
-use Rattle.model.specs.Voice.{moved, is_voice}
+use Rattle.voice.specs.Voice.{moved, is_voice}
 use Rattle.model.specs.Model.{Model, free}
 use Rattle.model.specs.Order.{order, outcome_number, free_outcome}
 

@@ -19,12 +19,13 @@ use Rattle.synthdef.specs.Plan.{plan_of}
 use Rattle.synthdef.specs.declared.def.DefNode.{DefNode}
 use Rattle.synthdef.specs.declared.def.DefEdge.{DefEdge}
 use Rattle.synthdef.specs.declared.def.SynthDef.{SynthDef}
-use Rattle.store.specs.declared.voices.Voice.{Voice}
-use Rattle.store.specs.declared.voices.VoiceState.{VoiceState}
-use Rattle.store.specs.declared.voices.VoiceState.TheVariants.{Tracked, Fading, Loose}
-use Rattle.store.specs.declared.voices.Fade.{Fade}
+use Rattle.voice.specs.declared.voices.Voice.{Voice}
+use Rattle.voice.specs.declared.voices.VoiceState.{VoiceState}
+use Rattle.voice.specs.declared.voices.VoiceState.TheVariants.{Tracked, Fading, Loose}
+use Rattle.voice.specs.declared.voices.Fade.{Fade}
 use Rattle.model.specs.SharedState.{SharedState, with_graph, with_steals, one_more_voice}
-use Rattle.model.specs.Voice.{is_voice, start_of, id, feeder, voice_level, candidates, tracked_on, fades_on, new_fade}
+use Rattle.voice.specs.Voice.{is_voice, start_of, id, feeder, tracked_on, fades_on, new_fade}
+use Rattle.model.specs.Voice.{voice_level, candidates}
 
 -- ---- the arguments of a spawn. 02, Paper 13: "a rank 0 to 7, given at spawn": it comes as a number of any size, and 26 refuses those above 7
 pub record Spawn : Type 0 where

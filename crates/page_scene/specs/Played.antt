@@ -9,7 +9,7 @@ use Rattle.rank.specs.Order.{among, fed, released, walk, order, whole, count_up}
 use Rattle.prepare.specs.Live.{rising_from, live_nodes, live_ids, processing_order}
 use Rattle.prepare.specs.Required.{any, lacks, lacking}
 use Rattle.prepare.specs.Prepare.{prepare}
-use Rattle.model.specs.Voice.{id}
+use Rattle.voice.specs.Voice.{id}
 use Rattle.model.specs.Make.{new_model}
 use Rattle.model.specs.Call.{Call, Ran, run}
 use Rattle.model.specs.Call as call

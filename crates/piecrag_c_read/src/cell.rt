@@ -11,7 +11,7 @@ use busiest::stretch::Busiest;
 use graph_rows::edge_row::set_edge;
 use graph_rows::node_row::put_node;
 use node::record::{Edge, Node};
-use store::voices::Voice;
+use voice::voices::Voice;
 use voice_rows::row::put_voice;
 
 // What a lent record holds: a row of a table.

@@ -30,8 +30,8 @@ use Rattle.graph.specs.Refuse as graph
 use Rattle.graph.specs.Refuse.{dead, bad_kind}
 use Rattle.scheduler.specs.Replace.{replaces, thinned}
 use Rattle.scheduler.specs.declared.event.Event.{Event}
-use Rattle.store.specs.declared.voices.Voice.{Voice}
-use Rattle.model.specs.Voice.{is_voice}
+use Rattle.voice.specs.declared.voices.Voice.{Voice}
+use Rattle.voice.specs.Voice.{is_voice}
 use Rattle.model.specs.Refuse.{of_definition, reports, lent_block}
 use Rattle.model.specs.Model.{Model}
 use Rattle.model.specs.Call.{Call, event, schedule_refusal}

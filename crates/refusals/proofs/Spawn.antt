@@ -26,11 +26,11 @@ use Rattle.synthdef.specs.Limits.{allowed}
 use Rattle.synthdef.specs.declared.def.SynthDef.{SynthDef}
 use Rattle.voice.specs.declared.policy.Admission.{Admission}
 use Rattle.voice.specs.declared.policy.Admission.TheVariants as admission
-use Rattle.store.specs.declared.voices.Voice.{Voice}
-use Rattle.store.specs.declared.voices.VoiceState.{VoiceState}
-use Rattle.store.specs.declared.voices.VoiceState.TheVariants.{Loose}
+use Rattle.voice.specs.declared.voices.Voice.{Voice}
+use Rattle.voice.specs.declared.voices.VoiceState.{VoiceState}
+use Rattle.voice.specs.declared.voices.VoiceState.TheVariants.{Loose}
 use Rattle.model.specs.SharedState.{SharedState}
-use Rattle.model.specs.Voice.{is_voice}
+use Rattle.voice.specs.Voice.{is_voice}
 use Rattle.model.specs.Refuse.{or_else, rank_limit, no_headroom, no_ids, spawn_refusal}
 use Rattle.model.specs.Spawn.{Spawn, next_out}
 use Rattle.model.specs.Model.{Model, SpawnResult, port_free, cut_off, steal_voice, instantiate_or, place, place_within_budget, steal_then, admitted, admission_on, unless}

@@ -21,7 +21,7 @@ use Rattle.node.specs.declared.record.Node.{Node}
 use Rattle.graph.specs.Change as change
 use Rattle.scheduler.specs.declared.event.Event.{Event}
 use Rattle.synthdef.specs.declared.def.Param.{Param}
-use Rattle.store.specs.declared.voices.Voice.{Voice}
+use Rattle.voice.specs.declared.voices.Voice.{Voice}
 use Rattle.store.specs.declared.answer.Outcome.TheVariants.{Applied, NotTaken}
 use Rattle.model.specs.Order as param
 use Rattle.lists.specs.Member.{In}
@@ -38,7 +38,7 @@ use Rattle.scheduler.proofs.ReplaceLaws.{Tested, tested}
 use Rattle.synthdef.specs.Tables.{param_rows}
 use Rattle.synthdef.specs.Params.{called, param_node}
 use Rattle.model.specs.SharedState.{with_graph}
-use Rattle.model.specs.Voice.{is_voice, id}
+use Rattle.voice.specs.Voice.{is_voice, id}
 use Rattle.model.specs.Model.{Model, without_voice, freed, free}
 use Rattle.model.specs.Order.{with_node, takes, order_voice, order_param, order_node, stays}
 use Rattle.node.specs.Node.{with_last}

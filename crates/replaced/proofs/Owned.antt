@@ -14,9 +14,9 @@ use Rattle.node.specs.declared.name.Name.{Name}
 use Rattle.node.specs.declared.record.VoiceId.{VoiceId}
 use Rattle.synthdef.specs.declared.def.Param.{Param}
 use Rattle.synthdef.specs.declared.def.SynthDef.{SynthDef}
-use Rattle.store.specs.declared.voices.Voice.{Voice}
-use Rattle.store.specs.declared.voices.VoiceState.TheVariants.{Fading, Loose}
-use Rattle.store.specs.declared.voices.Fade.{Fade}
+use Rattle.voice.specs.declared.voices.Voice.{Voice}
+use Rattle.voice.specs.declared.voices.VoiceState.TheVariants.{Fading, Loose}
+use Rattle.voice.specs.declared.voices.Fade.{Fade}
 use Rattle.lists.specs.Member.{In}
 use Rattle.lists.proofs.Member.{in_snoc, in_map, and_left, and_right, some_inj, none_some}
 use Rattle.lists.proofs.Find.{find_in}
@@ -27,7 +27,7 @@ use Rattle.synthdef.proofs.Rows.{every_in}
 use Rattle.synthdef.specs.Tables.{node_rows, edge_rows, param_rows}
 use Rattle.synthdef.specs.Params.{called, param_node}
 use Rattle.synthdef.specs.Limits.{counts_allowed, node_allowed, edge_allowed, param_allowed, allowed}
-use Rattle.model.specs.Voice.{id, is_voice, with_state, begin_fade, moved}
+use Rattle.voice.specs.Voice.{id, is_voice, with_state, begin_fade, moved}
 use Rattle.model.specs.Spawn.{Spawn, new_voice, state_under, tries, fade_of}
 use Rattle.model.specs.Call.{Call}
 use Rattle.ledger.specs.Ledger.{Ledger, port_held, stolen, steal_voice, place_within_budget}

@@ -28,7 +28,7 @@ use Rattle.prepare.specs.Prepare.{prepare}
 use Rattle.scheduler.specs.Event.{param_of}
 use Rattle.scheduler.specs.Queue.{inserted, replacing}
 use Rattle.scheduler.specs.Replace.{replaces, same_sort}
-use Rattle.model.specs.Voice.{id}
+use Rattle.voice.specs.Voice.{id}
 use Rattle.model.specs.Model.{Model}
 use Rattle.model.specs.Make.{new_model}
 use Rattle.model.specs.Render.{apply_events}

@@ -16,9 +16,9 @@ use Rattle.node.specs.declared.refusal.Refusal.TheVariants.{NoPort}
 use Rattle.scheduler.specs.declared.event.Event.{Event}
 use Rattle.voice.specs.declared.policy.Admission.{Admission}
 use Rattle.voice.specs.declared.policy.Admission.TheVariants as admission
-use Rattle.store.specs.declared.voices.Voice.{Voice}
-use Rattle.store.specs.declared.voices.VoiceState.{VoiceState}
-use Rattle.store.specs.declared.voices.VoiceState.TheVariants.{Tracked, Fading, Loose}
+use Rattle.voice.specs.declared.voices.Voice.{Voice}
+use Rattle.voice.specs.declared.voices.VoiceState.{VoiceState}
+use Rattle.voice.specs.declared.voices.VoiceState.TheVariants.{Tracked, Fading, Loose}
 use Rattle.store.specs.declared.answer.Outcome.TheVariants.{Applied, NotTaken}
 use Rattle.model.specs.Model as store
 use Rattle.model.specs.Call as call
@@ -31,7 +31,8 @@ use Rattle.scheduler.specs.Event.{param_order}
 use Rattle.synthdef.specs.Tables.{param_rows}
 use Rattle.synthdef.specs.Params.{param_node}
 use Rattle.model.specs.SharedState.{SharedState, with_events, with_steals}
-use Rattle.model.specs.Voice.{is_voice, id, feeder, level_or}
+use Rattle.voice.specs.Voice.{is_voice, id, feeder}
+use Rattle.model.specs.Voice.{level_or}
 use Rattle.model.specs.Refuse.{spawn_refusal, report_refusal}
 use Rattle.model.specs.Spawn.{Spawn, next_out, tries, state_under, reclaim_log}
 use Rattle.model.specs.Model.{Model, SpawnResult, without_voice, cut_off, stolen, steal_voice, port_free, instantiate_or, place, place_within_budget, steal_then, admitted, admission_on, freed, free, refused}

@@ -21,8 +21,8 @@ use Rattle.synthdef.specs.Tables.{param_rows}
 use Rattle.synthdef.specs.Params.{param_node}
 use Rattle.store.specs.declared.answer.Outcome.TheVariants.{Applied, NotTaken}
 use Rattle.store.specs.declared.answer.Rendered.{Rendered}
-use Rattle.store.specs.declared.voices.Voice.{Voice}
-use Rattle.model.specs.Voice.{is_voice, id}
+use Rattle.voice.specs.declared.voices.Voice.{Voice}
+use Rattle.voice.specs.Voice.{is_voice, id}
 use Rattle.model.specs.Model.{Model, without_voice, freed}
 use Rattle.lists.specs.Written.{written}
 use Rattle.model.specs.Order.{Ordered, takes, with_node, stays, order_voice, order_param, order_node, outcome_number, free_outcome}

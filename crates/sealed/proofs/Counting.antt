@@ -15,10 +15,10 @@ use Rattle.lists.proofs.Filter.{in_filter, filter_all}
 use Rattle.lists.proofs.Find.{find_in, find_none}
 use Rattle.lists.specs.Count.{more, count}
 use Rattle.lists.proofs.Count.{count_all, count_filter, count_is_length}
-use Rattle.model.specs.Voice.{is_voice}
+use Rattle.voice.specs.Voice.{is_voice}
 use Rattle.ledger.specs.Holder.{Holder, nobody, host, voice, by_voice}
 use Rattle.ledger.proofs.Ids.{Ids, one_removed, ids_filter}
-use Rattle.store.specs.declared.voices.Voice.{Voice}
+use Rattle.voice.specs.declared.voices.Voice.{Voice}
 
 module _ {A : Type 0} where
   split : (q : A → Bool) (l : List A) → length l ≡ count q l + length (filter (λ x. not (q x)) l)

@@ -15,7 +15,7 @@ use Rattle.graph.specs.View.{GraphView}
 use Rattle.graph.specs.Node.{is_node, owned_by, node_at, host_node, replaced, noise_raised}
 use Rattle.ledger.proofs.Raised.{in_raised}
 use Rattle.node.specs.Node.{with_id}
-use Rattle.model.specs.Voice.{is_voice, begin_fade, moved}
+use Rattle.voice.specs.Voice.{is_voice, begin_fade, moved}
 use Rattle.model.specs.Spawn.{Spawn, pans, voice_nodes, voice_wires, append_all, new_voice, next_voice, state_under, tries, fade_node, fade_of, raised}
 use Rattle.model.specs.Render.{is_sounding}
 use Rattle.model.specs.Call.{Call}
@@ -31,9 +31,9 @@ use Rattle.node.specs.declared.record.VoiceId.{VoiceId}
 use Rattle.node.specs.declared.record.Node.{Node}
 use Rattle.node.specs.declared.refusal.Refusal.TheVariants.{NoPort}
 use Rattle.store.specs.declared.config.Config.{Config}
-use Rattle.store.specs.declared.voices.Voice.{Voice}
-use Rattle.store.specs.declared.voices.VoiceState.{VoiceState}
-use Rattle.store.specs.declared.voices.VoiceState.TheVariants.{Tracked, Loose}
+use Rattle.voice.specs.declared.voices.Voice.{Voice}
+use Rattle.voice.specs.declared.voices.VoiceState.{VoiceState}
+use Rattle.voice.specs.declared.voices.VoiceState.TheVariants.{Tracked, Loose}
 
 abbrev pub Owned : List Voice → Node → Type 0
 Owned vs x = (x.owner.0 ≡ 0) ⊎ ((v : Voice) × In v vs × (v.id.0 ≡ x.owner.0))

@@ -22,7 +22,7 @@ use Rattle.graph.specs.Node.{is_node, node_at, ports_of, of_voice}
 use Rattle.graph.specs.Refuse.{when, dead, host_test, host_refusal}
 use Rattle.synthdef.specs.Limits.{allowed}
 use Rattle.model.specs.SharedState.{SharedState}
-use Rattle.model.specs.Voice.{id}
+use Rattle.voice.specs.Voice.{id}
 use Rattle.model.specs.Refuse.{or_else, rank_limit, no_headroom, no_ids, spawn_refusal}
 use Rattle.model.specs.Spawn.{Spawn, state_under, tries}
 use Rattle.model.specs.Call.{Call}
@@ -43,9 +43,9 @@ use Rattle.node.specs.declared.record.Edge.{Edge}
 use Rattle.node.specs.declared.refusal.Refusal.{Refusal}
 use Rattle.node.specs.declared.refusal.Refusal.TheVariants.{UnknownNode, VoiceNode, TableFull, IdsUsedUp, DefinitionLimits, BusWithoutPorts, RankTooHigh}
 use Rattle.synthdef.specs.declared.def.SynthDef.{SynthDef}
-use Rattle.store.specs.declared.voices.Voice.{Voice}
-use Rattle.store.specs.declared.voices.VoiceState.{VoiceState}
-use Rattle.store.specs.declared.voices.VoiceState.TheVariants.{Tracked, Fading, Loose}
+use Rattle.voice.specs.declared.voices.Voice.{Voice}
+use Rattle.voice.specs.declared.voices.VoiceState.{VoiceState}
+use Rattle.voice.specs.declared.voices.VoiceState.TheVariants.{Tracked, Fading, Loose}
 use Rattle.model.specs.Call as call
 use Rattle.ledger.specs.Ledger as ledger
 use Rattle.sealed.specs.Seal.{most_ports, nodes_for, edges_for, Fits, accepts, within, shuts, all_open}

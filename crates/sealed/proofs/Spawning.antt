@@ -25,7 +25,7 @@ use Rattle.graph.specs.Node.{ports_of, raise_noise, noise_raised}
 use Rattle.node.specs.Node.{with_id}
 use Rattle.synthdef.specs.Tables.{node_rows}
 use Rattle.synthdef.specs.Limits.{allowed}
-use Rattle.model.specs.Voice.{id, is_voice, is_tracked, feeder, with_state, begin_fade}
+use Rattle.voice.specs.Voice.{id, is_voice, is_tracked, feeder, with_state, begin_fade}
 use Rattle.model.specs.Spawn.{Spawn, pans, Wire, voice_nodes, voice_wires, voice_out, append_all, wire_all, raised, new_voice, next_voice, state_under, tries, fade_node, fade_of}
 use Rattle.ledger.specs.Holder.{Holder, Holders, nobody, host, voice, is_held, by_voice, hold}
 use Rattle.ledger.proofs.Raised.{raise_same, owner_raised, ports_raised, listed_raised, sound_raised}
@@ -48,10 +48,10 @@ use Rattle.node.specs.declared.record.Node.{Node}
 use Rattle.node.specs.declared.record.Edge.{Edge}
 use Rattle.graph.specs.Change as change
 use Rattle.synthdef.specs.declared.def.SynthDef.{SynthDef}
-use Rattle.store.specs.declared.voices.Voice.{Voice}
-use Rattle.store.specs.declared.voices.VoiceState.{VoiceState}
-use Rattle.store.specs.declared.voices.VoiceState.TheVariants.{Tracked, Fading, Loose}
-use Rattle.store.specs.declared.voices.Fade.{Fade}
+use Rattle.voice.specs.declared.voices.Voice.{Voice}
+use Rattle.voice.specs.declared.voices.VoiceState.{VoiceState}
+use Rattle.voice.specs.declared.voices.VoiceState.TheVariants.{Tracked, Fading, Loose}
+use Rattle.voice.specs.declared.voices.Fade.{Fade}
 use Rattle.ledger.proofs.Spawns as spawns
 use Rattle.sealed.specs.declared.profile.Profile.{Profile}
 use Rattle.sealed.proofs.Within.{owned_n, is_owner, from_owner, fades, Within, WithinL, within_removed, count_mapped}

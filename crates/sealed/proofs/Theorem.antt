@@ -12,7 +12,7 @@ use Rattle.node.specs.declared.record.VoiceId.{VoiceId}
 use Rattle.node.specs.declared.refusal.Refusal.{Refusal}
 use Rattle.bus.specs.Fade.{fade_length}
 use Rattle.store.specs.declared.config.Config.{Config}
-use Rattle.store.specs.declared.voices.Voice.{Voice}
+use Rattle.voice.specs.declared.voices.Voice.{Voice}
 use Rattle.model.specs.Model.{Model}
 use Rattle.model.specs.Make.{Making, config_of, make}
 use Rattle.model.specs.Refuse.{spawn_refusal, no_ids}

@@ -19,7 +19,7 @@ use Rattle.lists.proofs.Count.{count_filter, count_weaker}
 use Rattle.edges.specs.Wiring.{among, touches, drop_touching}
 use Rattle.graph.specs.Node.{is_node, owned_by, node_at, replaced}
 use Rattle.graph.specs.Change.{ids_of}
-use Rattle.model.specs.Voice.{id, is_voice, moved_state, moved}
+use Rattle.voice.specs.Voice.{id, is_voice, moved_state, moved}
 use Rattle.model.specs.Render.{is_sounding}
 use Rattle.ledger.specs.Holder.{Holder, Holders, nobody, host, voice, by_voice, drop_voice}
 use Rattle.ledger.specs.Ledger.{Ledger}
@@ -30,9 +30,9 @@ use Rattle.node.specs.declared.record.NodeId.{NodeId}
 use Rattle.node.specs.declared.record.VoiceId.{VoiceId}
 use Rattle.node.specs.declared.record.Node.{Node}
 use Rattle.node.specs.declared.record.Edge.{Edge}
-use Rattle.store.specs.declared.voices.Voice.{Voice}
-use Rattle.store.specs.declared.voices.VoiceState.{VoiceState}
-use Rattle.store.specs.declared.voices.VoiceState.TheVariants.{Tracked, Fading, Loose}
+use Rattle.voice.specs.declared.voices.Voice.{Voice}
+use Rattle.voice.specs.declared.voices.VoiceState.{VoiceState}
+use Rattle.voice.specs.declared.voices.VoiceState.TheVariants.{Tracked, Fading, Loose}
 use Rattle.ledger.proofs.Preserved.{OpenMoves}
 use Rattle.sealed.specs.declared.profile.Profile.{Profile}
 use Rattle.sealed.proofs.Open.{Positive}

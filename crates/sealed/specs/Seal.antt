@@ -2,7 +2,7 @@
 use Rattle.std.specs.Prelude.{ℕ, ◌+◌, ◌*◌, ◌≤◌, ◌≡◌, List, [], ◌∷◌, Bool, true, false, not, ◌&&◌, eqb, leb, length, Option, None, Some}
 use Rattle.node.specs.declared.record.Node.{Node}
 use Rattle.graph.specs.Node.{node_at, ports_of}
-use Rattle.store.specs.declared.voices.Voice.{Voice}
+use Rattle.voice.specs.declared.voices.Voice.{Voice}
 use Rattle.model.specs.SharedState.{SharedState}
 use Rattle.model.specs.Spawn.{Spawn}
 use Rattle.model.specs.Call.{Call}

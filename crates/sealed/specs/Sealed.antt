@@ -2,7 +2,7 @@
 use Rattle.std.specs.Prelude.{ℕ, ◌≤◌, ◌<◌, ◌≡◌, List, ◌++◌, true, length, Err}
 use Rattle.lists.specs.Member.{In}
 use Rattle.node.specs.declared.refusal.Refusal.TheVariants.{TableFull}
-use Rattle.store.specs.declared.voices.Voice.{Voice}
+use Rattle.voice.specs.declared.voices.Voice.{Voice}
 use Rattle.model.specs.Model.{Model}
 use Rattle.model.specs.Spawn.{Spawn}
 use Rattle.model.specs.Call.{Call}

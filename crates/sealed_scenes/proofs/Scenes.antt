@@ -17,9 +17,9 @@ use Rattle.voice.specs.declared.policy.StealPolicy.TheVariants.{Oldest}
 use Rattle.synthdef.specs.declared.def.DefNode.{DefNode}
 use Rattle.synthdef.specs.declared.def.DefEdge.{DefEdge}
 use Rattle.synthdef.specs.declared.def.SynthDef.{SynthDef}
-use Rattle.store.specs.declared.voices.Voice.{Voice}
+use Rattle.voice.specs.declared.voices.Voice.{Voice}
 use Rattle.model.specs.SharedState.{with_graph}
-use Rattle.model.specs.Voice.{id, is_voice}
+use Rattle.voice.specs.Voice.{id, is_voice}
 use Rattle.model.specs.Spawn.{Spawn, spawn_of}
 use Rattle.model.specs.Model.{Model, steal_voice}
 use Rattle.model.specs.Make.{new_model}

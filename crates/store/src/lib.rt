@@ -4,5 +4,4 @@
 
 pub mod answer;
 pub mod config;
-pub mod voices;
 pub mod wish;

@@ -7,7 +7,7 @@ use graph_rows::edge_row::EdgeTable;
 use graph_rows::node_row::NodeTable;
 use graph_tables::ports::feeding_edge;
 use memory::state::State;
-use store::voices::{Voice, VoiceState};
+use voice::voices::{Voice, VoiceState};
 use voice_rows::feeding::end_at;
 use voice_rows::row::{VoiceTable, id_at, state_at};
 

@@ -1,3 +1,4 @@
 pub mod Policy
 pub mod Quietest
 pub mod Steals
+pub mod Voice

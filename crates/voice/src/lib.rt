@@ -3,3 +3,4 @@
 
 pub mod policy;
 pub mod steals;
+pub mod voices;

@@ -18,7 +18,7 @@ use Rattle.graph_rows.specs.Node.{nodes_in}
 use Rattle.graph_rows.specs.Edge.{edges_in}
 use Rattle.synthdef.specs.Tables.{node_rows}
 use Rattle.synthdef.specs.declared.def.SynthDef.{SynthDef}
-use Rattle.model.specs.Voice.{id}
+use Rattle.voice.specs.Voice.{id}
 use Rattle.model.specs.Spawn.{fade_node, voice_nodes}
 use Rattle.memory.specs.declared.state.State.{State}
 use Rattle.memory.specs.View.{Memory, graph_of, model_of}

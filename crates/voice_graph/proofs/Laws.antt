@@ -21,7 +21,7 @@ use Rattle.edges.proofs.Loops.{pushed_on}
 use Rattle.graph.specs.View.{GraphView}
 use Rattle.synthdef.specs.Tables.{node_rows}
 use Rattle.synthdef.specs.declared.def.SynthDef.{SynthDef}
-use Rattle.model.specs.Voice.{id}
+use Rattle.voice.specs.Voice.{id}
 use Rattle.model.specs.Spawn.{def_node, const_node, pan_node, fade_node, voice_nodes}
 use Rattle.voice_graph.specs.Added.{has_room, numbered, put_all, grown, fade_edges, with_fade, voice_size, voice_edges, with_voice}
 

@@ -40,8 +40,8 @@ use Rattle.synthdef.specs.Limits.{allowed}
 use Rattle.synthdef.specs.declared.def.DefEdge.{DefEdge}
 use Rattle.synthdef.specs.declared.def.SynthDef.{SynthDef}
 use Rattle.synthdef.proofs.Within.{allowed_within}
-use Rattle.store.specs.declared.voices.Voice.{Voice}
-use Rattle.model.specs.Voice.{id, feeder}
+use Rattle.voice.specs.declared.voices.Voice.{Voice}
+use Rattle.voice.specs.Voice.{id, feeder}
 use Rattle.model.specs.Spawn.{Wire, wire, def_wire, fade_node, voice_nodes, voice_wires, voice_out, append_all, wire_all, instantiate_graph, fade_graph}
 use Rattle.voice_graph.specs.Added.{numbered, put_all, fade_edges, with_fade, voice_edges, with_voice}
 use Rattle.voice_graph.proofs.Laws.{has_room_lem, fade_on, voice_on}

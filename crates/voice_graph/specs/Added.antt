@@ -16,7 +16,7 @@ use Rattle.synthdef.specs.Instance.{id_after, live_edges}
 use Rattle.synthdef.specs.Tables.{DefNodes}
 use Rattle.synthdef.specs.declared.def.SynthDef.{SynthDef}
 use Rattle.model.specs.SharedState.{with_graph}
-use Rattle.model.specs.Voice.{id}
+use Rattle.voice.specs.Voice.{id}
 use Rattle.model.specs.Spawn.{def_node, const_node, pan_node, fade_node, voice_nodes, voice_out}
 use Rattle.model.specs.Model.{Model}
 

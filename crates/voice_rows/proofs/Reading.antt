@@ -5,7 +5,7 @@ use mathlib.Core.Path.{◌≡◌, refl, sym, ap, ◌∙◌}
 use mathlib.Core.List.{List, []}
 use lib.ListN.{take, get_or}
 use lib.Seq.{get_or-take}
-use Rattle.store.specs.declared.voices.Voice.{Voice}
+use Rattle.voice.specs.declared.voices.Voice.{Voice}
 use Rattle.words.specs.Fields.{is_set, long_from, long_at}
 use Rattle.words.specs.Rows.{row_at}
 use Rattle.words.proofs.Rows.{row_is}

@@ -12,9 +12,9 @@ use Rattle.synthdef.specs.declared.def.Param.{Param}
 use Rattle.synthdef.specs.Tables.{Params}
 use Rattle.synthdef.specs.declared.plan.DoneStep.{DoneStep}
 use Rattle.synthdef.specs.declared.plan.DonePlan.{DonePlan}
-use Rattle.store.specs.declared.voices.Voice.{Voice}
-use Rattle.store.specs.declared.voices.VoiceState.{VoiceState}
-use Rattle.store.specs.declared.voices.VoiceState.TheVariants.{Tracked, Fading, Loose}
+use Rattle.voice.specs.declared.voices.Voice.{Voice}
+use Rattle.voice.specs.declared.voices.VoiceState.{VoiceState}
+use Rattle.voice.specs.declared.voices.VoiceState.TheVariants.{Tracked, Fading, Loose}
 use Rattle.words.specs.Fields.{long_from}
 use Rattle.voice_rows.specs.Rows.{node, state_at}
 use Rattle.voice_rows.specs.Filled.{Local}

@@ -12,9 +12,9 @@ use lib.Seq.{ext_get_or, sets, length-sets, length-take-le, get_or-take}
 use borrow.Author.Tests.{ltb-true, ltb-false}
 use Rattle.synthdef.specs.declared.def.Param.{Param}
 use Rattle.synthdef.specs.declared.plan.DoneStep.{DoneStep}
-use Rattle.store.specs.declared.voices.Voice.{Voice}
-use Rattle.store.specs.declared.voices.VoiceState.{VoiceState}
-use Rattle.model.specs.Voice.{with_state}
+use Rattle.voice.specs.declared.voices.Voice.{Voice}
+use Rattle.voice.specs.declared.voices.VoiceState.{VoiceState}
+use Rattle.voice.specs.Voice.{with_state}
 use Rattle.words.specs.Rows.{row_at, fields_put}
 use Rattle.words.proofs.Words.{spell, spelled}
 use Rattle.words.proofs.Rows.{row_is, rows_kept, at_long, sets_out, rows_long}

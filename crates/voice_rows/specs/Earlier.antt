@@ -1,8 +1,8 @@
 -- One step of the search for the fade that started earliest.
 use Rattle.std.specs.Prelude.{ℕ, ◌≡◌, ◌⊎◌, List, [], get_or, Option, Some}
 use Rattle.node.specs.declared.record.NodeId.{NodeId}
-use Rattle.store.specs.declared.voices.Voice.{Voice}
-use Rattle.model.specs.Voice.{fades_on}
+use Rattle.voice.specs.declared.voices.Voice.{Voice}
+use Rattle.voice.specs.Voice.{fades_on}
 use Rattle.model.specs.Spawn.{earlier}
 use Rattle.voice_rows.specs.Rows.{voice_of}
 use Rattle.voice_rows.specs.Found.{found_in}

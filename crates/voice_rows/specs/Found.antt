@@ -1,6 +1,6 @@
 -- A row of the table of voices that was looked for: the voice that stands there, or none.
 use Rattle.std.specs.Prelude.{ℕ, ◌<◌, ◌≡◌, List, [], length, take, get_or, Option, Some, option_map}
-use Rattle.store.specs.declared.voices.Voice.{Voice}
+use Rattle.voice.specs.declared.voices.Voice.{Voice}
 use Rattle.voice_rows.specs.Rows.{voice_of}
 
 abbrev pub found_in : Option ℕ → List Voice → Option Voice

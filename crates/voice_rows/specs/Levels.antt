@@ -3,7 +3,7 @@ use Rattle.std.specs.Prelude.{ℕ, ◌<◌, List, [], map, Bool, cond, ltb, get_
 use Rattle.node.specs.declared.record.Node.{Node}
 use Rattle.graph.specs.Node.{node_at}
 use Rattle.voice.specs.declared.policy.Candidate.{Candidate}
-use Rattle.store.specs.declared.voices.Voice.{Voice}
+use Rattle.voice.specs.declared.voices.Voice.{Voice}
 use Rattle.model.specs.Voice.{node_level}
 use Rattle.graph_rows.specs.Node.{node_of, nodes_in}
 

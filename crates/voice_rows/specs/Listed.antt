@@ -1,7 +1,7 @@
 -- Voices named by a list of ids, and one voice more.
 use Rattle.std.specs.Prelude.{ℕ, List, [], ◌∷◌, ◌++◌, Bool, cond, length, ltb}
 use Rattle.edges.specs.Wiring.{listed}
-use Rattle.store.specs.declared.voices.Voice.{Voice}
+use Rattle.voice.specs.declared.voices.Voice.{Voice}
 
 -- the voice is one of these
 abbrev pub is_any_of : List ℕ → Voice → Bool

@@ -1,7 +1,7 @@
 // Fades: how they begin and move, in place, and which one started earliest.
 // Each lent table and its count are parameters of their own: a signature shows what a call may touch.
 ghost use Rattle.std.specs.Prelude.{◌≡◌, [], map, take, get_or};
-ghost use Rattle.model.specs.Voice.{start_of, fades_on, begin_fade, moved, moved_fade, moved_state};
+ghost use Rattle.voice.specs.Voice.{start_of, fades_on, begin_fade, moved, moved_fade, moved_state};
 ghost use Rattle.model.specs.Spawn.{earliest};
 ghost use Rattle.model.specs.Render.{further};
 ghost use Rattle.model.specs.Clear.{ended};
@@ -13,7 +13,7 @@ ghost use Rattle.voice_rows.specs.Fading.{fading};
 use crate::pack::state_words;
 use crate::row::{bus_at, id_at, state_at};
 use node::record::{NodeId, VoiceId};
-use store::voices::{Fade, VoiceState};
+use voice::voices::{Fade, VoiceState};
 use words::table::change_rows;
 
 // The fade of a voice in the state `s`; none if it does not fade.

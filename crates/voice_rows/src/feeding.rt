@@ -1,7 +1,7 @@
 // From which node a voice feeds its bus. An id is a u64 here and no option of a `NodeId`: counted from a voice's first node it may be past the
 // last id, and then no edge is found by it.
 ghost use Rattle.std.specs.Prelude.{◌≡◌, [], get_or};
-ghost use Rattle.model.specs.Voice.{feeder, end_of};
+ghost use Rattle.voice.specs.Voice.{feeder, end_of};
 ghost use Rattle.voice_rows.specs.Rows.{voice_of, voices_in};
 
 use crate::fade::fading;

@@ -4,14 +4,15 @@
 ghost use Rattle.std.specs.Prelude.{◌≡◌, [], length, take, get_or};
 ghost use Rattle.voice.specs.Policy.{candidates_of};
 ghost use Rattle.graph.specs.Node.{node_at};
-ghost use Rattle.model.specs.Voice.{is_tracked, counted, node_level};
+ghost use Rattle.voice.specs.Voice.{is_tracked, counted};
+ghost use Rattle.model.specs.Voice.{node_level};
 ghost use Rattle.voice_rows.specs.Levels.{LeftMax, level_at, candidate_at, candidates_at};
 ghost use Rattle.graph_rows.specs.Node.{nodes_in};
 ghost use Rattle.voice_rows.specs.Rows.{voice_of, voices_in};
 
 use crate::row::{VoiceTable, birth_at, bus_at, id_at, output_at, rank_at, state_at};
 use node::record::NodeId;
-use store::voices::VoiceState;
+use voice::voices::VoiceState;
 use voice::policy::{BudgetScope, Candidate, Candidates};
 use voice_policy::policy::{counts_for, no_candidates};
 use words::table::first_row;

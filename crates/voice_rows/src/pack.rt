@@ -5,7 +5,7 @@ ghost use Rattle.voice_rows.specs.Rows.{state_at, param_at, step_at, Heads, Stan
 ghost use Rattle.voice_rows.specs.Layouts.{param_local, step_local};
 
 use crate::layout::{Layout, Run, put_records};
-use store::voices::{Voice, VoiceState};
+use voice::voices::{Voice, VoiceState};
 use synthdef::def::Param;
 use synthdef::plan::DoneStep;
 use words::fields::{

@@ -6,13 +6,13 @@
 ghost use Rattle.std.specs.Prelude.{◌≡◌, [], ◌+◌, ◌*◌, get_or, set};
 ghost use Rattle.words.specs.Rows.{row_at};
 ghost use Rattle.synthdef.specs.Plan.{plan_silent};
-ghost use Rattle.model.specs.Voice.{with_state};
+ghost use Rattle.voice.specs.Voice.{with_state};
 ghost use Rattle.voice_rows.specs.Rows.{fade_at, param_at, voice_of, voices_in};
 
 use crate::layout::{Layout, Run, records_at};
 use crate::pack::{ParamWords, StepWords, state_words, voice_words};
 use node::record::{NodeId, VoiceId};
-use store::voices::{Fade, Voice, VoiceState};
+use voice::voices::{Fade, Voice, VoiceState};
 use synthdef::def::{Param, Params};
 use synthdef::plan::DonePlan;
 use synthdef::silent::plan_silent;

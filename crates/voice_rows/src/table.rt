@@ -2,7 +2,7 @@
 // table itself is lent; the others serve any words, and a table's length would ask of callers what they do not need.
 // Each lent table and its count are parameters of their own: a signature shows what a call may touch.
 ghost use Rattle.std.specs.Prelude.{◌≡◌, not, length, take, filter, find};
-ghost use Rattle.model.specs.Voice.{is_voice};
+ghost use Rattle.voice.specs.Voice.{is_voice};
 ghost use Rattle.voice_rows.specs.Listed.{is_any_of, pushed_voice};
 ghost use Rattle.words.specs.Place.{Holds};
 ghost use Rattle.voice_rows.specs.Rows.{voices_in};
@@ -12,7 +12,7 @@ use crate::pack::voice_words;
 use crate::row::{VoiceTable, id_at};
 use edges::table::is_listed;
 use node::record::VoiceId;
-use store::voices::Voice;
+use voice::voices::Voice;
 use words::table::{append_row, close_gaps, first_row, row_count};
 
 // How many voices live.

@@ -3,7 +3,7 @@ use mathlib.Core.Path.{refl, ap, ◌∙◌}
 use mathlib.Core.List.{[], ◌∷◌}
 use lib.ListN.{replicate}
 use borrow.Author.Rules.{rules}
-use Rattle.model.specs.Voice.{id}
+use Rattle.voice.specs.Voice.{id}
 use Rattle.model.specs.Call.{step}
 use Rattle.model.specs.Call as call
 use Rattle.model.specs.Scene.{float}

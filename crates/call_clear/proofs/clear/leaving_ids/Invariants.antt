@@ -1,6 +1,6 @@
 use Rattle.std.proofs.Common.{Bool, ◌≤◌}
 use Rattle.words.proofs.InPlace.{Gathering}
-use Rattle.store.specs.declared.voices.Voice.{Voice}
+use Rattle.voice.specs.declared.voices.Voice.{Voice}
 use Rattle.voice_rows.specs.Rows.{voices_in}
 use Rattle.call_clear.specs.Passes.{Tells}
 use Rattle.call_clear.proofs.Passes.{id_of}

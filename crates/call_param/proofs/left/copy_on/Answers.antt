@@ -5,7 +5,7 @@ use mathlib.Core.List.{[]}
 use mathlib.Core.Bool.{cond}
 use borrow.Author.Rules.{rules}
 use lib.ListN.{length, get_or}
-use Rattle.model.specs.Voice.{id}
+use Rattle.voice.specs.Voice.{id}
 use Rattle.graph_rows.specs.Node.{node_of, nodes_in}
 use Rattle.words.proofs.InWords.{change_done}
 use Rattle.call_param.specs.Left.{is_left}

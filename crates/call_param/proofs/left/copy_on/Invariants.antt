@@ -1,7 +1,7 @@
 use mathlib.Core.Path.{◌≡◌}
 use mathlib.Core.List.{[]}
 use lib.ListN.{length, take, get_or}
-use Rattle.model.specs.Voice.{id}
+use Rattle.voice.specs.Voice.{id}
 use Rattle.graph_rows.specs.Node.{node_of, nodes_in}
 use Rattle.words.specs.Place.{place_of}
 use Rattle.call_param.specs.Left.{is_left}

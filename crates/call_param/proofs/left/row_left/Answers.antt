@@ -1,6 +1,6 @@
 use borrow.Author.Rules.{rules}
 use Rattle.words.proofs.FirstRow.{first_of}
-use Rattle.model.specs.Voice.{id}
+use Rattle.voice.specs.Voice.{id}
 use Rattle.call_param.specs.Left.{is_left}
 use Rattle.graph_rows.specs.Node.{node_of}
 use Rattle.call_param.proofs.left.row_left.Goals as goal

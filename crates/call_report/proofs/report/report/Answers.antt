@@ -4,7 +4,7 @@ use lib.ListN.{take, get_or}
 use Rattle.std.specs.Prelude.{position}
 use Rattle.std.proofs.lemmas.Result.{err_from_is_err_and}
 use Rattle.node.specs.Node.{reported}
-use Rattle.model.specs.Voice.{id}
+use Rattle.voice.specs.Voice.{id}
 use Rattle.graph_rows.specs.Node.{node_of, nodes_in}
 use Rattle.call_param.specs.Left.{is_left}
 use Rattle.call_param.proofs.Replacing.{still_first, all_replaced}

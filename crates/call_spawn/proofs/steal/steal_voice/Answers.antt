@@ -7,7 +7,7 @@ use borrow.Author.Tests.{not-true, not-false}
 use Rattle.std.specs.Prelude.{Some, find, is_some}
 use Rattle.voice_rows.specs.Rows.{voice_of, voices_in}
 use Rattle.voice_rows.specs.Found.{found_in}
-use Rattle.model.specs.Voice.{is_voice}
+use Rattle.voice.specs.Voice.{is_voice}
 use Rattle.model.specs.Spawn.{recorded}
 use Rattle.memory.specs.View.{shared_of, model_of}
 use Rattle.memory.specs.Lent.{lent_spawn}

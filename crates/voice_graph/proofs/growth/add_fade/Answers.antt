@@ -4,7 +4,7 @@ use lib.ListN.{length, take}
 use Rattle.graph_rows.specs.Node.{nodes_in}
 use Rattle.graph.specs.Change.{edge}
 use Rattle.edges.specs.Wiring.{put}
-use Rattle.model.specs.Voice.{id}
+use Rattle.voice.specs.Voice.{id}
 use Rattle.voice_graph.specs.Added.{has_room}
 use Rattle.voice_graph.proofs.Grows.{fade_stays, fade_grows}
 use Rattle.voice_graph.proofs.growth.add_fade.Goals as goal

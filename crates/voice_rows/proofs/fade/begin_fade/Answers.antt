@@ -1,6 +1,6 @@
 use Rattle.std.proofs.Common.{rules, [], get_or}
-use Rattle.store.specs.declared.voices.VoiceState.TheVariants.{Fading}
-use Rattle.model.specs.Voice.{is_voice, begin_fade, with_state}
+use Rattle.voice.specs.declared.voices.VoiceState.TheVariants.{Fading}
+use Rattle.voice.specs.Voice.{is_voice, begin_fade, with_state}
 use Rattle.words.proofs.Changes.{changed_rows, stored_where}
 use Rattle.voice_rows.specs.Rows.{voice_of, voices_in}
 use Rattle.voice_rows.proofs.Words.{state_put}

@@ -9,8 +9,8 @@ use lib.ListN.{drop_of_length-le, length-take, length, take, drop, get_or}
 use Rattle.std.specs.Prelude.{Option, None, Some, unwrap_or}
 use Rattle.lists.proofs.Table.{left_row}
 use Rattle.node.specs.declared.record.NodeId.{NodeId}
-use Rattle.store.specs.declared.voices.Voice.{Voice}
-use Rattle.model.specs.Voice.{fades_on}
+use Rattle.voice.specs.declared.voices.Voice.{Voice}
+use Rattle.voice.specs.Voice.{fades_on}
 use Rattle.model.specs.Spawn.{earlier, earliest}
 use Rattle.words.proofs.InWords.{take_count}
 use Rattle.words.proofs.Rows.{rows_long}

@@ -1,7 +1,7 @@
 use Rattle.std.proofs.Common.{rules, ◌≡◌, List, ℕ, [], get_or}
 use Rattle.std.specs.Prelude.{Some}
 use Rattle.model.specs.Render.{further}
-use Rattle.model.specs.Voice.{moved, moved_state}
+use Rattle.voice.specs.Voice.{moved, moved_state}
 use Rattle.words.proofs.Changes.{changed_rows, stored_some}
 use Rattle.voice_rows.specs.Rows.{voice_of, voices_in, state_at, Spells}
 use Rattle.voice_rows.proofs.Words.{state_put}

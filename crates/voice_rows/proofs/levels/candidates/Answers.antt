@@ -5,7 +5,7 @@ use mathlib.Core.List.{[]}
 use borrow.Author.Rules.{rules}
 use lib.ListN.{length-set, length, take, get_or}
 use Rattle.voice_rows.proofs.Words.{voices_long}
-use Rattle.model.specs.Voice.{counted}
+use Rattle.voice.specs.Voice.{counted}
 use Rattle.words.proofs.InWords.{take_count}
 use Rattle.graph_rows.specs.Node.{nodes_in}
 use Rattle.voice_rows.specs.Levels.{candidate_at, candidates_at}

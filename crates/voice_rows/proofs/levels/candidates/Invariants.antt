@@ -1,7 +1,7 @@
 use Prim.Native.Nat.{◌≤◌}
 use mathlib.Core.Path.{◌≡◌}
 use lib.ListN.{length, take}
-use Rattle.model.specs.Voice.{counted}
+use Rattle.voice.specs.Voice.{counted}
 use Rattle.graph_rows.specs.Node.{nodes_in}
 use Rattle.voice_rows.specs.Levels.{candidates_at}
 use Rattle.voice_rows.specs.Rows.{voices_in}

@@ -4,7 +4,7 @@ use mathlib.Core.Bool.{false, cond}
 use lib.Dec.{eqb}
 use lib.ListN.{get_or}
 use borrow.Author.Tests.{eq-eqb, ne_eqb}
-use Rattle.store.specs.declared.voices.VoiceState.TheVariants.{Tracked, Fading, Loose}
+use Rattle.voice.specs.declared.voices.VoiceState.TheVariants.{Tracked, Fading, Loose}
 use Rattle.words.specs.Rows.{row_at}
 use Rattle.voice_rows.specs.Rows.{fade_at}
 use Rattle.voice_rows.proofs.Reading.{voice_row}

@@ -1,7 +1,7 @@
 use mathlib.Core.Path.{sym, ◌∙◌}
 use borrow.Author.Rules.{rules}
 use lib.ListN.{take}
-use Rattle.model.specs.Voice.{is_voice}
+use Rattle.voice.specs.Voice.{is_voice}
 use Rattle.words.proofs.FirstRow.{at_place, first_of, row_found}
 use Rattle.voice_rows.specs.Rows.{voice_of, voices_in}
 use Rattle.voice_rows.proofs.table.find_voice.Goals as goal
