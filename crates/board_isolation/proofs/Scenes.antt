@@ -25,6 +25,7 @@ use Rattle.model.specs.Call as call
 use Rattle.ledger.specs.Ledger.{Ledger, new_ledger, spawn_managed}
 use Rattle.ledger.specs.Call.{run}
 use Rattle.console.specs.Wishes.{new_wishes}
+use Rattle.console.specs.Begins.{Begins, with_keyboards}
 use Rattle.console.specs.Console.{Console, make_console}
 use Rattle.console.specs.Console as console
 use Rattle.isolation.specs.Agree.{Matching, SameSpawn, Equal, Arrive, let_in}
@@ -122,10 +123,14 @@ every_let_in : every (run (calls_from 1 (let_through without_seal made_console))
 unfolding every eq whole order walk released fed among count_up settled
 every_let_in = refl
 
+begins : Begins making 1 made_console
+unfolding rate_of
+begins = with_keyboards 1 made_console is_made
+
 sealing_apart : (m : Matching) → BoardAgreement m made (id 0) (id 0) (asked with_seal new) (asked without_seal new) → ⊥
 unfolding rate_of
 sealing_apart m a =
-    let e = (board_isolated making 1 1 made_console made_console is_made is_made refl m (id 0) (id 0) with_seal without_seal (covered _ every_closed) (covered _ every_let_in) a).seals in
+    let e = (board_isolated making 1 1 made_console made_console begins begins refl m (id 0) (id 0) with_seal without_seal (covered _ every_closed) (covered _ every_let_in) a).seals in
     let z : ◌≡◌ {A = ℕ} 3 2 = ap length e in
     omega arith
 
@@ -245,4 +250,4 @@ every_alone = refl
 
 pub sealed_isolated : BoardIsolation making 1 1 made_console made_console (id 1) (id 0) played alone
 unfolding rate_of
-sealed_isolated = board_isolated making 1 1 made_console made_console is_made is_made refl ids (id 1) (id 0) played alone (covered _ every_played) (covered _ every_alone) sealed_agreement
+sealed_isolated = board_isolated making 1 1 made_console made_console begins begins refl ids (id 1) (id 0) played alone (covered _ every_played) (covered _ every_alone) sealed_agreement

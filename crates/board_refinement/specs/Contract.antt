@@ -1,6 +1,6 @@
 -- A call of a board on lent memory, by the contract of its function as the check reads it off the source (as crate refinement has it
 -- for the calls of the store, and console_refinement for those of the console). The seal is the first argument, `a.0`.
-use Rattle.std.specs.Prelude.{ℕ, ◌≡◌, List, [], ◌∷◌, false}
+use Rattle.std.specs.Prelude.{ℕ, List, [], ◌∷◌}
 use Rattle.model.specs.Call as call
 use Rattle.memory.specs.View.{Memory}
 use Rattle.memory.specs.Lent.{lent_nodes, lent_graph, lent_voices, lent_spawn}
@@ -10,11 +10,11 @@ use Rattle.console.specs.Console as console
 use Rattle.call_console.specs.declared.queues.WishState.{WishState}
 use Rattle.call_console.specs.Called.{ConsoleMemory}
 use Rattle.console_refinement.specs.Contract as on-console
-use Rattle.sealed.specs.declared.profile.Profile.{Profile}
 use Rattle.sealed.specs.Seal.{Seal}
-use Rattle.sealed.specs.Board.{BoardCall, BoardAnswer, on, given, closes}
+use Rattle.sealed.specs.Board.{BoardCall, BoardAnswer, on, given}
 use Rattle.sealed.specs.Board as sealed
 use Rattle.call_seal.specs.Board.{BoardMemory, sealed_by, board, on_store, seal_answer, host_answer, node_answer, spawn_answer, wished_answer}
+use Rattle.board_refinement.specs.Forms.{Unclosed}
 use Rattle.call_seal.proofs.sealing.seal.Reads as fn-seal
 use Rattle.call_seal.proofs.host.add_node.Reads as fn-add-node
 use Rattle.call_seal.proofs.host.remove_node.Reads as fn-remove-node
@@ -46,7 +46,7 @@ pub data Contract : BoardCall → BoardMemory → BoardAnswer → BoardMemory �
   seal : (κs : _) (a : _) (r : _) (s : _) → fn-seal.Post κs a r s → (m : Memory) (words : List ℕ)
       → Contract (sealed.seal a.1.1.1.1.1.1.0) (board (lent_voices a.1.0 a.1.1.0.now a.1.1.1.0.now a.1.1.1.1.0.now m) a.1.1.1.1.1.0 words a.0) (seal_answer r.answer) (board (lent_voices a.1.0 a.1.1.0.now a.1.1.1.0.now a.1.1.1.1.0.now m) a.1.1.1.1.1.0 words r.seal)
   -- a call that no seal closes is the console's own, which is not lent the seal
-  unclosed : {c : ConsoleCall} {m n : ConsoleMemory} {a : ConsoleAnswer} → on-console.Contract c m a n → ((s : Profile) → closes s c ≡ false) → (x : Seal)
+  unclosed : {c : ConsoleCall} {m n : ConsoleMemory} {a : ConsoleAnswer} → on-console.Contract c m a n → Unclosed c → (x : Seal)
       → Contract (on c) (sealed_by m x) (given a) (sealed_by n x)
 
 -- each call gets the board that the last left, and nothing else writes it

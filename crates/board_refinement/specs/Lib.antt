@@ -1,2 +1,3 @@
+pub mod Forms
 pub mod Contract
 pub mod Refines

@@ -1,3 +1,4 @@
+// See specs/Contract.antt, and proofs/Refined.antt for the theorem.
 #![tactic(auto)]
 
-// Statements only: see specs/Contract.antt, and proofs/Refined.antt for the theorem.
+pub mod laws;

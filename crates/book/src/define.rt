@@ -74,7 +74,7 @@ fn take_line(def: &mut SynthDef, line: &[u8]) -> Option<()> {
 // The definition that the lines of `s` make, or the number of the first line that cannot be read. It begins as the blank one, which has
 // no rows.
 pub(crate) fn define(s: &[u8]) -> Result<SynthDef, usize> {
-    let mut def = blank_def();
+    let mut def = blank_def(0, 0);
     for (i, line) in s.split(|b| *b == b'\n').enumerate() {
         take_line(&mut def, line).ok_or(i + 1)?;
     }

@@ -1,23 +1,29 @@
 -- Closed scenes of turns, each with the wrong rule that it refuses; and that the bound (k + 1) × m is reached.
 use Prim.Native.Nat.{ℕ, zero, suc}
 use mathlib.Core.Path.{◌≡◌, refl}
-use mathlib.Core.List.{List, [], ◌∷◌, ◌++◌}
+use mathlib.Core.List.{List, [], ◌∷◌, ◌++◌, map}
 use Rattle.std.specs.Prelude.{Option, None, Some, slice_get, Err, Ok}
-use mathlib.Core.Bool.{true, false}
-use lib.ListN.{replicate}
-use lib.Ieee.{nan, inf, eq}
+use mathlib.Core.Bool.{Bool, true, false}
+use lib.ListN.{replicate, drop}
+use Rattle.std.specs.Prelude.{pos}
+use lib.Ieee.{Float, nan, inf, fin, eq}
 use Rattle.rank.specs.Order as rank
 use Rattle.voice.specs.Voice.{id}
-use Rattle.model.specs.Scene.{tone_def, up_to, host, voice}
-use Rattle.model.specs.Make.{new_model}
+use Rattle.bus.specs.Rate.{rate_of}
+use Rattle.voice.specs.declared.voices.Voice.{Voice}
+use Rattle.model.specs.Scene.{tone_def, up_to, float, host, voice}
+use Rattle.model.specs.Make.{Making, new_model}
 use Rattle.model.specs.Call.{spawned}
 use Rattle.model.specs.Call as call
-use Rattle.node.specs.declared.refusal.Refusal.TheVariants.{UnknownNode}
+use Rattle.node.specs.declared.refusal.Refusal.TheVariants.{UnknownNode, RankTooHigh}
+use Rattle.node.specs.Refusal.{number_of}
 use Rattle.voice.specs.declared.policy.StealPolicy.TheVariants.{Oldest}
+use Rattle.voice.specs.declared.policy.BudgetScope.TheVariants.{Global}
 use Rattle.store.specs.declared.wish.Wish.{Wish}
 use Rattle.console.specs.declared.refusal.KeyboardRefusal.TheVariants.{OutOfRange, Full}
+use Rattle.console.specs.Refusal as keyboard
 use Rattle.console.specs.Wishes.{Wishes, keyboards_refusal, new_wishes}
-use Rattle.console.specs.Console.{Console, ConsoleCall, on, wish, turn, ConsoleAnswer, plain, accepted, refused, served, empty, console_run, wishes_run, served_of}
+use Rattle.console.specs.Console.{Console, ConsoleCall, on, wish, turn, ConsoleAnswer, plain, accepted, refused, served, empty, ConsoleRan, console_run, ConsoleMade, made, refused_by, refused_for, make_console, wishes_run, served_of}
 
 -- wishes that can be told apart: for the bus n
 abbrev w : ℕ → Wish
@@ -75,6 +81,28 @@ turns_go_round :
 unfolding eq rank.whole rank.order rank.walk rank.released rank.among rank.count_up rank.fed
 turns_go_round = refl
 
+-- Four keyboards with two wishes each: upward from 0, and round again. Refuses: a round taken downward, one that turns at its end.
+upward :
+    (console_run (replicate 2 (wish 0 strange) ++ replicate 2 (wish 1 strange) ++ replicate 2 (wish 2 strange) ++ replicate 2 (wish 3 strange) ++ replicate 6 turn)
+    (record { model = new_model (up_to 1 Oldest); wishes = new_wishes 4 })).answers
+    ≡ replicate 8 accepted ++ map (λ q. served q (spawned (Err UnknownNode))) (0 ∷ 1 ∷ 2 ∷ 3 ∷ 0 ∷ 1 ∷ [])
+unfolding rank.whole rank.order rank.walk rank.released rank.among rank.count_up rank.fed
+upward = refl
+
+-- A wish's rank and pan reach its voice: rank 5 and panned, rank 2 and in the middle; and rank 9 is refused by 26. Refuses: rank 0 or pan 0 for what
+-- was asked.
+abbrev asks : ℕ → Float → Wish
+asks r pan = record { managed = true; def = tone_def; bus = id 0; pan = pan; rank = r }
+
+abbrev choir : ConsoleRan
+choir = console_run (on (host 2) ∷ wish 0 (asks 5 nan) ∷ wish 0 (asks 2 (float 0)) ∷ wish 1 (asks 9 nan) ∷ replicate 3 turn) (record { model = new_model (up_to 2 Oldest); wishes = new_wishes 3 })
+
+asked_for :
+    (map (λ (v : Voice). v.rank) choir.console.model.voices ≡ 5 ∷ 2 ∷ []) × (map (λ (v : Voice). v.panned) choir.console.model.voices ≡ true ∷ false ∷ [])
+    × (drop 4 choir.answers ≡ served 0 (spawned (Ok (voice 1))) ∷ served 1 (spawned (Err RankTooHigh)) ∷ served 0 (spawned (Ok (voice 2))) ∷ [])
+unfolding eq rank.whole rank.order rank.walk rank.released rank.among rank.count_up rank.fed
+asked_for = (refl, refl, refl)
+
 -- 24 before 25; 16 wait, a 17th is refused; after a turn there is room again. Refuses: seventeen wishes; keyboard 3 of 3; a table shared by all.
 refusals :
     heard (replicate 16 (wish 1 pedal) ++ (wish 1 pedal ∷ wish 3 pedal ∷ wish 0 pedal ∷ turn ∷ wish 1 pedal ∷ turn ∷ wish 1 pedal ∷ wish 1 pedal ∷ []))
@@ -86,3 +114,27 @@ refusals = refl
 -- "From 1 to 8 keyboards". Refuses: none, and nine.
 counts : (keyboards_refusal 0 ≡ Some OutOfRange) × (keyboards_refusal 1 ≡ None) × (keyboards_refusal 8 ≡ None) × (keyboards_refusal 9 ≡ Some OutOfRange)
 counts = (refl, refl, refl, refl)
+
+-- ---- Making, wrong in all, and then in one thing less each time: 1, 2, 3, 20, and 24 last. Refuses: 24 before any of the store's.
+abbrev number : ConsoleMade → ℕ
+number (made c) = 0
+number (refused_by r) = number_of r
+number (refused_for r) = keyboard.number_of r
+
+abbrev making : Float → ℕ → ℕ → Bool → Making
+making rate block budget table = record { rate = rate; block = block; budget = Some budget; policy = Oldest; scope = Global; table = table }
+
+-- 8,000 and 48,000
+abbrev low : Float
+low = fin false 125 (pos 6)
+
+abbrev high : Float
+high = fin false 375 (pos 7)
+
+orders :
+    map (λ (p : Making × ℕ). number (make_console p.0 p.1))
+    ((making nan 0 65 true, 0) ∷ (making low 0 65 true, 0) ∷ (making low 1 65 true, 9) ∷ (making low 1 64 true, 9) ∷ (making low 1 64 false, 9) ∷ (making high 1 64 true, 0)
+    ∷ (making high 128 64 true, 1) ∷ (making low 128 0 false, 8) ∷ [])
+    ≡ 1 ∷ 2 ∷ 3 ∷ 20 ∷ 24 ∷ 24 ∷ 0 ∷ 0 ∷ []
+unfolding rate_of
+orders = refl

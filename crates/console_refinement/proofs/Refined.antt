@@ -10,7 +10,11 @@ use Rattle.memory.specs.View.{Memory}
 use Rattle.memory.specs.Lent.{lent_state}
 use Rattle.refinement.proofs.Refined as store
 use Rattle.console.specs.Console.{Console, ConsoleCall, ConsoleAnswer, plain, ConsoleStep, ConsoleRan, console_run, ConsoleMade, made, make_console}
-use Rattle.console.proofs.Claim.{console_claim}
+use Rattle.console.specs.Begins.{with_keyboards}
+use Rattle.console.proofs.Claim.{console_claim, accepted as made_of_store}
+use Rattle.console_isolation.specs.Isolated.{calls_from}
+use Rattle.console_isolation.proofs.Theorem.{console_isolated}
+use Rattle.replaced.proofs.Theorem.{replaced_same}
 use Rattle.call_console.specs.declared.making.MakeRefusal.{MakeRefusal}
 use Rattle.call_console.specs.declared.making.MakeRefusal.TheVariants.{Store, Keyboards}
 use Rattle.call_console.specs.Queues.{wishes_of}
@@ -53,4 +57,9 @@ refines κs a r s p c accepted tables words last xs said ran =
     let k = a.0 in
     let n = a.1.0 in
     let new = made_new (make_console k n) c (console_of (memory (lent_state r.state tables) r.wishes words)) r.answer (p tables words) accepted in
-    record { ran = run_is ran ∙ ap (console_run xs) new; claimed = console_claim k n c accepted xs }
+    record {
+      ran = run_is ran ∙ ap (console_run xs) new;
+      claimed = console_claim k n c accepted xs;
+      replaced = replaced_same k c.model (made_of_store k n c accepted).store (calls_from n xs);
+      isolated = λ per o d e ids b₁ b₂ ys. console_isolated k n o c d (with_keyboards n c accepted) e per ids b₁ b₂ xs ys;
+    }

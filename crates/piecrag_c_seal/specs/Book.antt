@@ -17,7 +17,7 @@ use Rattle.piecrag_c_seal.specs.Board.{BoardExported, BoardTells, born_cell}
 abbrev pub is_malformed : Read → Bool
 is_malformed (gives d) = false
 is_malformed (malformed at) = true
-is_malformed limits = false
+is_malformed (limits nodes edges) = false
 
 -- Whether the book is refused by 18. 28 comes before it: what a seal closes with no node and no edge it closes whatever the book holds. Else
 -- a malformed book is 18: it has no definition whose nodes and edges could be counted.

@@ -12,6 +12,7 @@ use Rattle.model.specs.Call.{Call, Answer, Ran, run}
 use Rattle.model.specs.Call as call
 use Rattle.model.specs.Numbers.{number_in}
 use Rattle.ledger.proofs.Claim.{claim}
+use Rattle.isolation.proofs.Store.{store_isolated}
 use Rattle.replaced.proofs.Theorem.{replaced_same}
 use Rattle.memory.specs.View.{Memory, model_of}
 use Rattle.memory.specs.Lent.{lent_state}
@@ -104,7 +105,7 @@ pub run_is : {m n : Memory} {cs : List Call} {said : List Answer} → Runs m cs 
 run_is r = lent.run_is (runs r)
 
 -- the store of an accepted making is the model's new store, whatever stands in the tables
-made_new : (k : Making) (m : Model) (a : Result (Unit {0}) Refusal) (n : Memory) → if_done a (model_of n) ≡ make k → make k ≡ Some m → model_of n ≡ m
+pub made_new : (k : Making) (m : Model) (a : Result (Unit {0}) Refusal) (n : Memory) → if_done a (model_of n) ≡ make k → make k ≡ Some m → model_of n ≡ m
 made_new k m a n e accepted = go a (e ∙ accepted)
   where
     go : (a : Result (Unit {0}) Refusal) → if_done a (model_of n) ≡ Some m → model_of n ≡ m
@@ -120,4 +121,4 @@ refines κs a r s p m accepted tables last cs said ran =
     let k = a.0 in
     let is = run_is ran ∙ ap (run cs) (made_new k m r.answer (lent_state r.state tables) (p.0 tables) accepted) in
     let holds = claim k m accepted cs in
-    record { ran = is; claimed = holds; replaced = replaced_same k m accepted cs; numbers = ap (map number_in) (ap (λ (x : Ran). x.answers) is ∙ holds.answers) }
+    record { ran = is; claimed = holds; replaced = replaced_same k m accepted cs; isolated = λ per ids b₁ b₂ ds. store_isolated k m accepted per ids b₁ b₂ cs ds; numbers = ap (map number_in) (ap (λ (x : Ran). x.answers) is ∙ holds.answers) }

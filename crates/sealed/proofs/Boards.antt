@@ -1,14 +1,13 @@
 -- Every list of a board's calls: its console part is the console's run on the calls let through, and a sealed board keeps the seal's promise.
-use Prim.Native.Nat.{ℕ, zero, suc, ◌<◌}
+use Prim.Native.Nat.{ℕ, zero, suc}
 use native.Mathlib.Omega.{arith}
 use mathlib.Core.Path.{◌≡◌, refl, sym, ap, ◌∙◌, subst}
 use mathlib.Core.Logic.{◌⊎◌, inl, inr, ⊎_elim}
 use mathlib.Core.List.{List, [], ◌∷◌, ◌++◌, append_assoc}
 use Rattle.std.specs.Prelude.{Option, None, Some, Err}
 use mathlib.Core.Bool.{Bool, true, false, not, cond, false≢true}
-use lib.Dec.{leb}
-use lib.ListN.{length, get_or, set}
-use borrow.Author.Tests.{not-false, le-leb}
+use lib.ListN.{get_or, set}
+use borrow.Author.Tests.{not-false}
 use Rattle.std.proofs.lemmas.Bool.{and_from}
 use Rattle.lists.specs.Member.{In}
 use Rattle.lists.proofs.Member.{some_inj, none_some, and_left, and_right, in_snoc}
@@ -21,7 +20,6 @@ use Rattle.ledger.specs.Claim.{after}
 use Rattle.ledger.proofs.Claim.{claim}
 use Rattle.store.specs.declared.wish.Wish.{Wish}
 use Rattle.console.specs.declared.refusal.KeyboardRefusal.{KeyboardRefusal}
-use Rattle.console.specs.declared.refusal.KeyboardRefusal.TheVariants.{OutOfRange, Full}
 use Rattle.model.specs.Wish.{spawn_in, call_of}
 use Rattle.console.specs.Wishes.{Wishes, keyboards, waiting_at, wish_refusal, added, Picked, picked, oldest_or, search, rest, taken_from, new_wishes}
 use Rattle.console.specs.Wishes as wishes
