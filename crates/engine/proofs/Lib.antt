@@ -8,3 +8,5 @@ pub mod Spawns
 pub mod Seats
 pub mod Rooms
 pub mod Seating
+pub mod Doing
+pub mod Rendered
