@@ -120,7 +120,6 @@ module _ (d : SynthDef) (ok : allowed d ≡ true) (base : ℕ) (ids : base + d.n
       let t = (allowed_within d ok).each_edge e (counted_in (edge_rows d.edges) e i) in
       (in_reach e.from (omega (arith, t.source)), in_reach e.to (omega (arith, t.target))))
 
-
   pub inner_wires : (pan : Bool) → map (wire_edge base) (voice_wires d pan) ≡ inner_edges (id base) d pan
   inner_wires false =
       ap (map (wire_edge base)) (append-nil (map def_wire (counted (edge_rows d.edges)))) ∙ own_wires ∙ sym (append-nil (live_edges (counted (edge_rows d.edges)) (id base)))

@@ -8,6 +8,7 @@ ghost use Rattle.model.specs.Model.{without_voice};
 ghost use Rattle.engine.specs.Spawning.{restolen, cut_now, victim_on, Makes};
 
 use crate::Tables;
+use crate::free::forget;
 use arrayvec::ArrayVec;
 use node::record::{NodeId, VoiceId};
 use voice::policy::{BudgetScope, Candidate, counts_for, pick_victim};
@@ -63,8 +64,7 @@ impl Tables {
     pub(crate) fn forget_voice(&mut self, voice: VoiceId)
         ensures { self.new ≡ without_voice voice self.old }
     {
-        self.graph.remove_voice(voice);
-        self.voices.remove(voice);
+        forget(&mut self.graph, &mut self.voices, voice);
     }
 
     // The voice is removed at once, and the records say so. Its level is that of the store in which it lives.

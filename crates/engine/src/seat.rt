@@ -142,7 +142,12 @@ impl Tables {
     }
 
     // The new voice stands on the port `port` of its bus.
-    pub(crate) fn seat_voice(&mut self, wish: &Wish, state: VoiceState, port: u32) -> Result<VoiceId, Refusal>
+    pub(crate) fn seat_voice(
+        &mut self,
+        wish: &Wish,
+        state: VoiceState,
+        port: u32,
+    ) -> Result<VoiceId, Refusal>
         requires room { Headroom wish.now.def self.old }
         requires free { port_free wish.now.bus self.old ≡ Some port }
         ensures { answer_in result self.new ≡ instantiate (spawn_in wish.now) state port self.old }
@@ -155,7 +160,9 @@ impl Tables {
         let outer = outer_edge(voice.first, &wish.def, pan, wish.bus, port);
         self.graph.raise_noise(wish.bus);
         // there is room
-        let _ = self.graph.add_nodes(nodes.as_slice(), inner.as_slice(), outer);
+        let _ = self
+            .graph
+            .add_nodes(nodes.as_slice(), inner.as_slice(), outer);
         self.voices.admit(voice)
     }
 
@@ -184,7 +191,17 @@ impl Tables {
         }];
         self.graph.claim();
         // there is room
-        let _ = self.graph.add_nodes(&nodes, &inner, Edge { from: fade, ..e });
-        self.voices.begin_fade(v.id, Fade { node: fade, start: self.clock, position: 0, number });
+        let _ = self
+            .graph
+            .add_nodes(&nodes, &inner, Edge { from: fade, ..e });
+        self.voices.begin_fade(
+            v.id,
+            Fade {
+                node: fade,
+                start: self.clock,
+                position: 0,
+                number,
+            },
+        );
     }
 }

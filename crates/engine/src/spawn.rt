@@ -1,11 +1,11 @@
 //! Spawns: the refusals; admission, with a victim if it asks for one; then the lowest port of the bus without an edge.
 
-ghost use Rattle.std.specs.Prelude.{◌≡◌, ◌+◌, ◌||◌, true, false, leb, ltb};
+ghost use Rattle.std.specs.Prelude.{◌≡◌, ◌+◌, ◌||◌, leb, ltb};
 ghost use Rattle.graph.specs.Tables.{answer_of};
 ghost use Rattle.model.specs.Refuse.{spawn_refusal};
-ghost use Rattle.model.specs.Spawn.{middle, state_under, tries};
-ghost use Rattle.model.specs.Call.{spawned};
-ghost use Rattle.model.specs.Wish.{spawn_in, call_of, wish_for};
+ghost use Rattle.model.specs.Spawn.{middle, spawn_of, state_under, tries};
+ghost use Rattle.model.specs.Call.{spawned, spawn_managed, spawn_loose};
+ghost use Rattle.model.specs.Wish.{spawn_in, call_of};
 ghost use Rattle.engine.specs.Called.{Called};
 ghost use Rattle.engine.specs.Spawning.{Headroom, bus_refusal, room_refusal, budget_for, admission_under, place_under, answer_in};
 
@@ -117,7 +117,11 @@ impl Tables {
     fn most_removed(&self, budget: Option<usize>) -> usize
         ensures { result ≡ tries budget self.now.voices }
     {
-        if budget.is_some() { self.voices.len() } else { 0 }
+        if budget.is_some() {
+            self.voices.len()
+        } else {
+            0
+        }
     }
 
     // The new voice gets the lowest free port. Where there is none, the budget says how many voices of the bus may be removed for one; no tracked
@@ -149,5 +153,67 @@ impl Tables {
                 self.place(budget, wish)
             }
         }
+    }
+
+    /// An unmanaged voice in the middle: the port search alone (SPEC 9.10). Refused as `spawn_voice` is, but never with 11.
+    pub fn spawn_voice_on_bus(
+        &mut self,
+        def: &SynthDef,
+        bus: NodeId,
+        rank: u32,
+    ) -> Result<VoiceId, Refusal>
+        ensures { Called (spawn_loose (spawn_of def.now bus middle rank)) self.old (spawned result) self.new }
+    {
+        self.spawn_voice_on_bus_panned(def, bus, 0.0, rank)
+    }
+
+    /// An unmanaged voice, panned where `pan` is not 0 (SPEC 9.8).
+    pub fn spawn_voice_on_bus_panned(
+        &mut self,
+        def: &SynthDef,
+        bus: NodeId,
+        pan: f32,
+        rank: u32,
+    ) -> Result<VoiceId, Refusal>
+        ensures { Called (spawn_loose (spawn_of def.now bus pan rank)) self.old (spawned result) self.new }
+    {
+        self.spawn_voice(&Wish {
+            managed: false,
+            def: *def,
+            bus,
+            pan,
+            rank,
+        })
+    }
+
+    /// A managed voice in the middle: admission first, with a victim where the budget is spent (SPEC 9).
+    pub fn spawn_voice_on_bus_managed(
+        &mut self,
+        def: &SynthDef,
+        bus: NodeId,
+        rank: u32,
+    ) -> Result<VoiceId, Refusal>
+        ensures { Called (spawn_managed (spawn_of def.now bus middle rank)) self.old (spawned result) self.new }
+    {
+        self.spawn_voice_on_bus_panned_managed(def, bus, 0.0, rank)
+    }
+
+    /// A managed voice, panned where `pan` is not 0.
+    pub fn spawn_voice_on_bus_panned_managed(
+        &mut self,
+        def: &SynthDef,
+        bus: NodeId,
+        pan: f32,
+        rank: u32,
+    ) -> Result<VoiceId, Refusal>
+        ensures { Called (spawn_managed (spawn_of def.now bus pan rank)) self.old (spawned result) self.new }
+    {
+        self.spawn_voice(&Wish {
+            managed: true,
+            def: *def,
+            bus,
+            pan,
+            rank,
+        })
     }
 }
