@@ -7,30 +7,27 @@ use mathlib.Core.Bool.{Bool, true, false, cond, ◌||◌}
 use lib.Dec.{ltb}
 use lib.ListN.{length, take, drop, get_or, set, get_or-eq_default}
 use borrow.Author.Tests.{eqb-true, ltb-true, ltb-false, lt-ltb, le-ltb}
-use Rattle.std.specs.Prelude.{Option, None, Some, filter}
+use Rattle.std.specs.Prelude.{Some}
 use Rattle.std.specs.List.{list_any}
 use Rattle.lists.specs.Written.{written}
 use Rattle.lists.proofs.Find.{find_in}
 use Rattle.node.specs.declared.record.NodeId.{NodeId}
 use Rattle.node.specs.declared.record.VoiceId.{VoiceId}
 use Rattle.node.specs.declared.record.Node.{Node}
-use Rattle.node.specs.declared.order.LastOrder.{LastOrder}
 use Rattle.rank.specs.Order.{count_up}
 use Rattle.graph.specs.View.{GraphView}
 use Rattle.graph.specs.Node.{node_at, is_node}
-use Rattle.graph.specs.Does.{changed_node}
 use Rattle.scheduler.specs.declared.event.Event.{Event}
 use Rattle.synthdef.specs.Plan.{plan_silent}
 use Rattle.synthdef.proofs.PassLaws.{silent_flags}
 use Rattle.voice.specs.declared.voices.Voice.{Voice}
 use Rattle.voice.specs.Voice.{id}
-use Rattle.model.specs.Order.{takes, with_last}
 use Rattle.model.specs.Clear.{done_flag, done_flags, is_silent}
 use Rattle.model.specs.Render.{is_free, any_free}
-use Rattle.model.specs.Model.{Model, without_voice, freed}
+use Rattle.model.specs.Model.{Model, without_voice}
 use Rattle.model.specs.Clear.{without_voices, ended_voices, silent_voices}
 use Rattle.model.specs.SharedState.{SharedState, length_l}
-use Rattle.model.specs.Call.{Step, clear, removed}
+use Rattle.model.specs.Call.{clear, removed}
 use Rattle.voice.specs.Voices.{VoicesView, ended_ids}
 use Rattle.std.proofs.lemmas.List.{length-map}
 use Rattle.engine.specs.Called.{Called}
@@ -145,10 +142,10 @@ module _ (d : SharedState) (g0 g1 g2 : GraphView) (v0 v1 v2 : VoicesView) (e s :
       let first : store_with g1 v1 d ≡ faded = h1 ∙ ap (λ l. without_each l m) he ∙ sym (by_ids (ended_voices m) m) in
       let ids : s ≡ map (λ (v : Voice). v.id) (silent_voices faded) = hs ∙ ap (λ (n : Model). silent_ids n.shared.graph.nodes n.voices) first in
       let last : store_with g2 v2 d ≡ without_voices (silent_voices faded) faded =
-          h2
-          ∙ ap (λ l. without_each l (store_with g1 v1 d)) ids
-          ∙ ap (without_each (map (λ (v : Voice). v.id) (silent_voices faded))) first
-          ∙ sym (by_ids (silent_voices faded) faded) in
+      h2
+      ∙ ap (λ l. without_each l (store_with g1 v1 d)) ids
+      ∙ ap (without_each (map (λ (v : Voice). v.id) (silent_voices faded))) first
+      ∙ sym (by_ids (silent_voices faded) faded) in
       let many_e : length e ≡ length (ended_voices m) = ap length he ∙ length-map (ended_voices m) (λ (v : Voice). v.id) in
       let many_s : length s ≡ length (silent_voices faded) = ap length ids ∙ length-map (silent_voices faded) (λ (v : Voice). v.id) in
       let many : length e + length s ≡ length (ended_voices m) + length (silent_voices faded) = omega (arith, many_e, many_s) in

@@ -1,5 +1,5 @@
 -- What a call does to the graph and the voices, whatever else the store holds.
-use Rattle.std.specs.Prelude.{List, Bool, cond, Option, None, Some}
+use Rattle.std.specs.Prelude.{cond, Option, None, Some}
 use Rattle.node.specs.declared.order.LastOrder.{LastOrder}
 use Rattle.node.specs.declared.record.Node.{Node}
 use Rattle.graph.specs.View.{GraphView}

@@ -1,6 +1,6 @@
 use Rattle.std.proofs.Common.{rules, tests, ◌∙◌, sym, subst, false}
 use Rattle.lists.proofs.FromFn.{made_is}
-use Rattle.engine.specs.Freed.{FlagsAre, done_within}
+use Rattle.engine.specs.Freed.{FlagsAre}
 use Rattle.engine.proofs.Doing.{all_flags, all_long, all_at, flags_are}
 use Rattle.engine.proofs.clear.done_flags.Goals as goal
 

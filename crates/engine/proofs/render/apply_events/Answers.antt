@@ -1,4 +1,4 @@
-use Rattle.std.proofs.Common.{◌≡◌, ◌≤◌, ◌<◌, ◌∙◌, ◌+◌, ◌++◌, [], ◌∷◌, sym, ap, take, drop, get_or, length, arith}
+use Rattle.std.proofs.Common.{◌≡◌, ◌<◌, ◌∙◌, ◌+◌, ◌++◌, [], ◌∷◌, sym, ap, take, drop, get_or, length, arith}
 use lib.ListN.{set, drop_of_length-le}
 use lib.Ieee.{nan}
 use Rattle.std.proofs.lemmas.List.{drop_more, take-append-drop}
@@ -6,9 +6,8 @@ use Rattle.lists.specs.Written.{written}
 use Rattle.node.specs.declared.order.EventAction.TheVariants as action
 use Rattle.scheduler.specs.declared.event.Event.{Event}
 use Rattle.model.specs.Model.{Model}
-use Rattle.model.specs.SharedState.{SharedState}
 use Rattle.model.specs.Order.{outcome_number}
-use Rattle.model.specs.Render.{apply_event, apply_events, outcome_of, outcomes}
+use Rattle.model.specs.Render.{apply_event, apply_events, outcomes}
 use Rattle.engine.specs.Parts.{store_with}
 use Rattle.engine.proofs.Doing.{written_next}
 use Rattle.engine.proofs.render.apply_events.Goals as goal
@@ -28,15 +27,15 @@ loop-i-preserved c =
     let more : drop i es ≡ e ∷ rest = drop_more es i blank c.loop-i-test.true in
     let inside : i < length out = omega (arith, c.loop-i-test.true, c.loop-i.auto.out, c.requires) in (
       λ d.
-        let m : Model = store_with c.loop-i.graph c.loop-i.voices d in
-        ap (apply_events rest) (c.apply_event.ensures.store d) ∙ ap (λ l. apply_events l m) (sym more) ∙ c.loop-i.invariant.0 d,
+          let m : Model = store_with c.loop-i.graph c.loop-i.voices d in
+          ap (apply_events rest) (c.apply_event.ensures.store d) ∙ ap (λ l. apply_events l m) (sym more) ∙ c.loop-i.invariant.0 d,
       λ d.
-        let m : Model = store_with c.loop-i.graph c.loop-i.voices d in
-        ap (λ (s : Model). take (i + 1) (set out i r) ++ written (outcomes rest s) (drop (i + 1) (set out i r))) (c.apply_event.ensures.store d)
-        ∙ written_next out i r (outcomes rest (apply_event e m)) inside
-        ∙ ap (λ y. take i out ++ written (y ∷ outcomes rest (apply_event e m)) (drop i out)) (c.outcome_number.ensures ∙ ap outcome_number (c.apply_event.ensures.answer d))
-        ∙ ap (λ l. take i out ++ written (outcomes l m) (drop i out)) (sym more)
-        ∙ c.loop-i.invariant.1 d,
+          let m : Model = store_with c.loop-i.graph c.loop-i.voices d in
+          ap (λ (s : Model). take (i + 1) (set out i r) ++ written (outcomes rest s) (drop (i + 1) (set out i r))) (c.apply_event.ensures.store d)
+          ∙ written_next out i r (outcomes rest (apply_event e m)) inside
+          ∙ ap (λ y. take i out ++ written (y ∷ outcomes rest (apply_event e m)) (drop i out)) (c.outcome_number.ensures ∙ ap outcome_number (c.apply_event.ensures.answer d))
+          ∙ ap (λ l. take i out ++ written (outcomes l m) (drop i out)) (sym more)
+          ∙ c.loop-i.invariant.1 d,
     )
 
 pub returns-clause-told : goal.returns-clause-told
