@@ -19,9 +19,9 @@ use memory::state::{CallResult, State, refuse};
 use node::record::VoiceId;
 use node::refusal::Refusal;
 use steal_log::StealTable;
-use voice::voices::VoiceState;
 use store::wish::Wish;
 use voice::policy::Admission;
+use voice::voices::VoiceState;
 use voice_rows::row::VoiceTable;
 use voice_rows::table::voice_count;
 

@@ -84,6 +84,6 @@ pub use node::record::Node;
 pub use node::refusal::{Refusal, refusal_number};
 pub use store::answer::{Outcome, Rendered};
 pub use store::config::Config;
-pub use voice::voices::{Fade, Voice, VoiceState};
 pub use synthdef::plan::{DonePlan, DoneStep};
 pub use voice::steals::{StealRecord, Steals};
+pub use voice::voices::{Fade, Voice, VoiceState};

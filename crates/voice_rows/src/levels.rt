@@ -12,8 +12,8 @@ ghost use Rattle.voice_rows.specs.Rows.{voice_of, voices_in};
 
 use crate::row::{VoiceTable, birth_at, bus_at, id_at, output_at, rank_at, state_at};
 use node::record::NodeId;
-use voice::voices::VoiceState;
 use voice::policy::{BudgetScope, Candidate, Candidates};
+use voice::voices::VoiceState;
 use voice_policy::policy::{counts_for, no_candidates};
 use words::table::first_row;
 

@@ -5,9 +5,9 @@ ghost use Rattle.voice_rows.specs.Rows.{state_at, param_at, step_at, Heads, Stan
 ghost use Rattle.voice_rows.specs.Layouts.{param_local, step_local};
 
 use crate::layout::{Layout, Run, put_records};
-use voice::voices::{Voice, VoiceState};
 use synthdef::def::Param;
 use synthdef::plan::DoneStep;
+use voice::voices::{Voice, VoiceState};
 use words::fields::{
     byte_word, eight_bytes, flag_word, high_word, is_set, low_byte, low_word, name_at, name_words,
 };

@@ -12,10 +12,10 @@ ghost use Rattle.voice_rows.specs.Rows.{fade_at, param_at, voice_of, voices_in};
 use crate::layout::{Layout, Run, records_at};
 use crate::pack::{ParamWords, StepWords, state_words, voice_words};
 use node::record::{NodeId, VoiceId};
-use voice::voices::{Fade, Voice, VoiceState};
 use synthdef::def::{Param, Params};
 use synthdef::plan::DonePlan;
 use synthdef::silent::plan_silent;
+use voice::voices::{Fade, Voice, VoiceState};
 use words::fields::{flag_at, long_at, low_byte};
 use words::table::{put_fields, put_row, word_at};
 
