@@ -37,10 +37,10 @@ claimed {m} r =
     record {
       reached = r;
       config =
-        ap (λ (d : SharedState). d.config) same ∙ config_after c (made r.making r.new r.accepted).length r.calls;
+          ap (λ (d : SharedState). d.config) same ∙ config_after c (made r.making r.new r.accepted).length r.calls;
       ids =
-        subst (λ (d : SharedState). (j : ℕ) → In j (node_ids d.graph.nodes) → j < d.graph.next) (sym same)
-        (nodes_after_lem c [] r.calls).below;
+          subst (λ (d : SharedState). (j : ℕ) → In j (node_ids d.graph.nodes) → j < d.graph.next) (sym same)
+          (nodes_after_lem c [] r.calls).below;
       claim = k;
       replaced = replaced_same r.making r.new r.accepted r.calls;
     }

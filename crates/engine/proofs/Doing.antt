@@ -145,10 +145,10 @@ module _ (d : SharedState) (g0 g1 g2 : GraphView) (v0 v1 v2 : VoicesView) (e s :
       let first : store_with g1 v1 d ≡ faded = h1 ∙ ap (λ l. without_each l m) he ∙ sym (by_ids (ended_voices m) m) in
       let ids : s ≡ map (λ (v : Voice). v.id) (silent_voices faded) = hs ∙ ap (λ (n : Model). silent_ids n.shared.graph.nodes n.voices) first in
       let last : store_with g2 v2 d ≡ without_voices (silent_voices faded) faded =
-          h2
-          ∙ ap (λ l. without_each l (store_with g1 v1 d)) ids
-          ∙ ap (without_each (map (λ (v : Voice). v.id) (silent_voices faded))) first
-          ∙ sym (by_ids (silent_voices faded) faded) in
+      h2
+      ∙ ap (λ l. without_each l (store_with g1 v1 d)) ids
+      ∙ ap (without_each (map (λ (v : Voice). v.id) (silent_voices faded))) first
+      ∙ sym (by_ids (silent_voices faded) faded) in
       let many_e : length e ≡ length (ended_voices m) = ap length he ∙ length-map (ended_voices m) (λ (v : Voice). v.id) in
       let many_s : length s ≡ length (silent_voices faded) = ap length ids ∙ length-map (silent_voices faded) (λ (v : Voice). v.id) in
       let many : length e + length s ≡ length (ended_voices m) + length (silent_voices faded) = omega (arith, many_e, many_s) in

@@ -4,6 +4,8 @@ ghost use Rattle.std.specs.Prelude.{◌≡◌, Err};
 ghost use Rattle.node.specs.declared.refusal.Refusal as refusal;
 ghost use Rattle.node.specs.declared.order.LastOrder.TheVariants as last;
 ghost use Rattle.model.specs.Call as call;
+ghost use Rattle.model.specs.Spawn.{middle, spawn_of};
+ghost use Rattle.model.specs.Wish.{call_of};
 ghost use Rattle.busiest.specs.Stretch.{said, samples, busiest};
 ghost use Rattle.mixing.specs.Filled.{filled_of};
 ghost use Rattle.whole_mixing.specs.Filled as whole;
@@ -23,6 +25,8 @@ use node::refusal::Refusal;
 use std::marker::Model;
 use store::answer::Outcome;
 use store::config::Making;
+use store::wish::Wish;
+use synthdef::def::SynthDef;
 use voice::steal_ring::Steals;
 use voice::voices::Voice;
 
@@ -131,6 +135,64 @@ impl Store {
         ensures { Called (call.report node channels samples.now done) self.old (answered result) self.new }
     {
         self.tables.report(node, channels, samples, done)
+    }
+
+    /// See `Tables::spawn_voice`.
+    pub fn spawn_voice(&mut self, wish: &Wish) -> Result<VoiceId, Refusal>
+        ensures { Called (call_of wish.now) self.old (call.spawned result) self.new }
+    {
+        self.tables.spawn_voice(wish)
+    }
+
+    /// See `Tables::spawn_voice_on_bus`.
+    pub fn spawn_voice_on_bus(
+        &mut self,
+        def: &SynthDef,
+        bus: NodeId,
+        rank: u32,
+    ) -> Result<VoiceId, Refusal>
+        ensures { Called (call.spawn_loose (spawn_of def.now bus middle rank)) self.old (call.spawned result) self.new }
+    {
+        self.tables.spawn_voice_on_bus(def, bus, rank)
+    }
+
+    /// See `Tables::spawn_voice_on_bus_panned`.
+    pub fn spawn_voice_on_bus_panned(
+        &mut self,
+        def: &SynthDef,
+        bus: NodeId,
+        pan: f32,
+        rank: u32,
+    ) -> Result<VoiceId, Refusal>
+        ensures { Called (call.spawn_loose (spawn_of def.now bus pan rank)) self.old (call.spawned result) self.new }
+    {
+        self.tables.spawn_voice_on_bus_panned(def, bus, pan, rank)
+    }
+
+    /// See `Tables::spawn_voice_on_bus_managed`.
+    pub fn spawn_voice_on_bus_managed(
+        &mut self,
+        def: &SynthDef,
+        bus: NodeId,
+        rank: u32,
+    ) -> Result<VoiceId, Refusal>
+        ensures { Called (call.spawn_managed (spawn_of def.now bus middle rank)) self.old (call.spawned result) self.new }
+    {
+        self.tables.spawn_voice_on_bus_managed(def, bus, rank)
+    }
+
+    /// See `Tables::spawn_voice_on_bus_panned_managed`.
+    pub fn spawn_voice_on_bus_panned_managed(
+        &mut self,
+        def: &SynthDef,
+        bus: NodeId,
+        pan: f32,
+        rank: u32,
+    ) -> Result<VoiceId, Refusal>
+        ensures { Called (call.spawn_managed (spawn_of def.now bus pan rank)) self.old (call.spawned result) self.new }
+    {
+        self.tables
+            .spawn_voice_on_bus_panned_managed(def, bus, pan, rank)
     }
 
     /// See `Tables::free_voice`.

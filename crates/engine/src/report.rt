@@ -73,7 +73,13 @@ impl Tables {
         ensures { Called (report node channels samples.now done) self.old (answered result) self.new }
     {
         let found = self.graph.node(node);
-        report_test(&self.voices, found, self.config.block, channels, samples.len())?;
+        report_test(
+            &self.voices,
+            found,
+            self.config.block,
+            channels,
+            samples.len(),
+        )?;
         self.graph.report(node, level(samples), done);
         Ok(())
     }

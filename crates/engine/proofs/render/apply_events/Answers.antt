@@ -28,15 +28,15 @@ loop-i-preserved c =
     let more : drop i es ≡ e ∷ rest = drop_more es i blank c.loop-i-test.true in
     let inside : i < length out = omega (arith, c.loop-i-test.true, c.loop-i.auto.out, c.requires) in (
       λ d.
-        let m : Model = store_with c.loop-i.graph c.loop-i.voices d in
-        ap (apply_events rest) (c.apply_event.ensures.store d) ∙ ap (λ l. apply_events l m) (sym more) ∙ c.loop-i.invariant.0 d,
+          let m : Model = store_with c.loop-i.graph c.loop-i.voices d in
+          ap (apply_events rest) (c.apply_event.ensures.store d) ∙ ap (λ l. apply_events l m) (sym more) ∙ c.loop-i.invariant.0 d,
       λ d.
-        let m : Model = store_with c.loop-i.graph c.loop-i.voices d in
-        ap (λ (s : Model). take (i + 1) (set out i r) ++ written (outcomes rest s) (drop (i + 1) (set out i r))) (c.apply_event.ensures.store d)
-        ∙ written_next out i r (outcomes rest (apply_event e m)) inside
-        ∙ ap (λ y. take i out ++ written (y ∷ outcomes rest (apply_event e m)) (drop i out)) (c.outcome_number.ensures ∙ ap outcome_number (c.apply_event.ensures.answer d))
-        ∙ ap (λ l. take i out ++ written (outcomes l m) (drop i out)) (sym more)
-        ∙ c.loop-i.invariant.1 d,
+          let m : Model = store_with c.loop-i.graph c.loop-i.voices d in
+          ap (λ (s : Model). take (i + 1) (set out i r) ++ written (outcomes rest s) (drop (i + 1) (set out i r))) (c.apply_event.ensures.store d)
+          ∙ written_next out i r (outcomes rest (apply_event e m)) inside
+          ∙ ap (λ y. take i out ++ written (y ∷ outcomes rest (apply_event e m)) (drop i out)) (c.outcome_number.ensures ∙ ap outcome_number (c.apply_event.ensures.answer d))
+          ∙ ap (λ l. take i out ++ written (outcomes l m) (drop i out)) (sym more)
+          ∙ c.loop-i.invariant.1 d,
     )
 
 pub returns-clause-told : goal.returns-clause-told
