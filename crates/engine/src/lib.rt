@@ -33,8 +33,8 @@ use store::config::{Config, Making};
 use voice::steal_ring::Steals;
 use voice::voices::Voices;
 
-/// The tables of a store: what making fixed, the graph, the pending events, the voices, the newest steals, and the clock, which counts the samples
-/// rendered so far. Nothing is required of them: a `Store` is tables that calls left.
+/// The tables of a store: what making fixed, the graph, the pending events, the voices, the newest steals, and the
+/// clock, which counts the samples rendered so far. Nothing is required of them: a `Store` is tables that calls left.
 #[derive(Drop)]
 pub struct Tables {
     config: Config,
@@ -68,8 +68,8 @@ impl Tables {
         }
     }
 
-    /// Makes a new store in place of what these tables hold (SPEC 3). Refused, and nothing changes, with 1 for the sample rate, 2 for the block
-    /// size, 3 for the budget, 20 for the fade table at another rate than its own.
+    /// Makes a new store in place of what these tables hold (SPEC 3). Refused, and nothing changes, with 1 for the
+    /// sample rate, 2 for the block size, 3 for the budget, 20 for the fade table at another rate than its own.
     pub fn make(&mut self, making: Making) -> Result<(), Refusal>
         ensures { Remakes making self.old result self.new }
     {

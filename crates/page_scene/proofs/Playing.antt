@@ -1,65 +1,65 @@
 -- Calls one after the other, each by its contract.
-use Rattle.std.specs.Prelude.{Option}
-use Prim.Native.Nat.{ℕ, suc, ◌+◌, ◌-◌, ◌≤◌, ◌<◌}
-use native.Mathlib.Omega.{arith}
+use Rattle.std.specs.Prelude.{Option, None, Some, ℕ, List, [], ◌∷◌, ◌++◌, false}
 use mathlib.Core.Path.{◌≡◌, refl, sym, ap, ◌∙◌}
-use mathlib.Core.List.{List, [], ◌∷◌, ◌++◌}
-use mathlib.Core.Bool.{false}
 use lib.Ieee.{of_bits, binary32}
 use Rattle.bus.specs.Rate.{rate_of}
+use Rattle.node.specs.declared.refusal.Refusal.{Refusal}
 use Rattle.voice.specs.declared.policy.StealPolicy.{StealPolicy}
+use Rattle.voice.specs.declared.policy.StealPolicy.TheVariants.{Oldest}
 use Rattle.voice.specs.declared.policy.BudgetScope.{BudgetScope}
+use Rattle.voice.specs.declared.policy.BudgetScope.TheVariants.{Global}
 use Rattle.model.specs.Model.{Model}
-use Rattle.model.specs.Make.{config_of, new_model}
-use Rattle.model.specs.Call.{Call, Answer, Step, step, page_answer}
+use Rattle.model.specs.Make.{Making, config_of, make, new_model, refusal_of}
+use Rattle.model.specs.Call.{Call, Answer, Step, step, answer_to, page_answer}
 use Rattle.model.specs.Call as call
 use Rattle.model.specs.Page.{port_now, page}
-use Rattle.model.specs.Scene.{config, further, page_config, printed}
-use Rattle.memory.specs.declared.state.State.{State}
-use Rattle.memory.specs.View.{Memory, model_of}
-use Rattle.memory.specs.Lent.{lent_nodes}
-use Rattle.page_scene.specs.Played.{opening, turn, turns, played, played_page, lent_all}
+use Rattle.model.specs.Scene.{float, further, page_config, printed}
+use Rattle.model.specs.Spawn.{spawn_of, middle}
+use Rattle.synthdef.specs.declared.def.SynthDef.{SynthDef}
+use Rattle.voice.specs.Voice.{id}
+use Rattle.engine.specs.Called.{Called, Asked}
+use Rattle.page_scene.specs.Played.{tone, opening, turn, played, played_page}
 
 -- one call, and the rest
-pub and_then : (c : Call) (cs : List Call) (m n end : Model) → n ≡ (step c m).model → end ≡ further cs n → end ≡ further (c ∷ cs) m
-and_then c cs m n end e f = f ∙ ap (further cs) e
+pub and_then : (c : Call) (cs : List Call) {m n : Model} {a : Answer} {end : Model}
+    → Called c m a n → end ≡ further cs n → end ≡ further (c ∷ cs) m
+and_then c cs e f = f ∙ ap (λ (s : Step). further cs s.model) e
 
-further_both : (a b : List Call) (m : Model) → further (a ++ b) m ≡ further b (further a m)
+pub further_both : (a b : List Call) (m : Model) → further (a ++ b) m ≡ further b (further a m)
 further_both [] b m = refl
 further_both (c ∷ a) b m = further_both a b (step c m).model
 
--- The scene's loop: what is left of the turns leads to the scene's end.
-abbrev pub Left : ℕ → Model → Type 0
-Left i m = further (turns (3 - i)) m ≡ played.model
+-- what the scene asks for, as the code writes it
+abbrev pub asked : Making
+asked = record { rate = of_bits binary32 0x45fa0000; block = 16; budget = Some 2; policy = Oldest; scope = Global; table = false }
 
-pub at_first : (s : State) (nodes edges order voices events steals : List ℕ) → ((m : Memory) → model_of (lent_nodes s nodes m) ≡ further opening (new_model page_config)) → Left 0 (model_of (lent_all s nodes edges order voices events steals))
-unfolding played
-at_first s nodes edges order voices events steals e =
-    ap (further (turns 3)) (e (lent_all s nodes edges order voices events steals)) ∙ sym (further_both opening (turns 3) (new_model page_config))
-
-pub one_less : (i : ℕ) (m n : Model) → i < 3 → n ≡ further turn m → Left i m → Left (i + 1) n
-unfolding turns
-one_less i m n h e l =
-    let here : 3 - i ≡ suc (3 - (i + 1)) = omega arith in
-    ap (further (turns (3 - (i + 1)))) e
-    ∙ sym (further_both turn (turns (3 - (i + 1))) m)
-    ∙ sym (ap (λ (k : ℕ). further (turns k) m) here)
-    ∙ l
-
-pub none_left : (i : ℕ) (m : Model) → 3 ≤ i → Left i m → m ≡ played.model
-unfolding turns
-none_left i m h l =
-    let none : 3 - i ≡ 0 = omega arith in
-    sym (ap (λ (k : ℕ). further (turns k) m) none) ∙ l
-
--- a rate of 8000, as the code writes it
-pub config_is : (b : Option ℕ) (p : StealPolicy) (s : BudgetScope) → config_of (record { rate = of_bits binary32 0x45fa0000; block = 16; budget = b; policy = p; scope = s; table = false }) ≡ config b p s
+pub not_refused : refusal_of asked ≡ None
 unfolding of_bits rate_of
-config_is b p s = refl
+not_refused = refl
+
+pub made : make asked ≡ Some (new_model page_config)
+unfolding of_bits rate_of
+made = refl
+
+-- the spawn of a turn
+pub spawns_tone : (d : SynthDef) {m n : Model} {a : Answer} → d ≡ tone
+    → Called (call.spawn_managed (spawn_of d (id 0) middle 0)) m a n
+    → Called (call.spawn_managed (spawn_of tone (id 0) (float 0) 0)) m a n
+spawns_tone d {m} e f = f ∙ ap (λ k. step (call.spawn_managed (spawn_of k (id 0) middle 0)) m) e
+
+-- three turns from the opening on
+pub all_played : (m n x y end : Model) → m ≡ new_model page_config → n ≡ further opening m → x ≡ further turn n
+    → y ≡ further turn x → end ≡ further turn y → end ≡ played.model
+unfolding played
+all_played m n x y end a b c d e =
+    let new = new_model page_config in
+    let opened = further opening new in
+    e ∙ ap (further turn) d ∙ ap (λ k. further turn (further turn k)) c
+    ∙ ap (λ k. further turn (further turn (further turn k))) (b ∙ ap (further opening) a)
+    ∙ sym (further_both opening (turn ++ (turn ++ turn)) new ∙ further_both turn (turn ++ turn) opened ∙ further_both turn turn (further turn opened))
 
 -- the page of the scene
-pub page_is : (s : Model) (a : Answer) (out : List ℕ) → call.reads s a ≡ step (call.ask (call.page out)) s → s ≡ played.model → a ≡ page_answer printed out
-page_is s a out e f =
-    ap (λ (x : Step). x.answer) e
-    ∙ ap (λ (m : Model). page_answer (page m.shared.clock (port_now m.shared.graph.edges) m.voices) out) f
+pub page_is : {s : Model} {a : Answer} (out : List ℕ) → Asked (call.page out) s a → s ≡ played.model → a ≡ page_answer printed out
+page_is out e f =
+    e ∙ ap (λ (m : Model). page_answer (page m.shared.clock (port_now m.shared.graph.edges) m.voices) out) f
     ∙ ap (λ (t : List ℕ). page_answer t out) played_page

@@ -1,6 +1,6 @@
--- The page's scene with a definition as the code holds it: "rate 8000, block 16, budget 2, `Oldest`, `Global`; node 0 a bus of 3
--- ports and sink; a one-node definition `Tone`. Managed spawns at clock 0, 16 and 32, a prepare and a render after each."
-use Rattle.std.specs.Prelude.{ℕ, zero, suc, ◌≡◌, refl, List, [], ◌∷◌, ◌++◌, false, replicate}
+-- The page's scene with a definition as the code holds it: rate 8000, block 16, budget 2, `Oldest`, `Global`; node 0 a bus of 3
+-- ports and sink; a definition of one node, `Tone`. Managed spawns at clock 0, 16 and 32, a prepare and a render after each (SPEC 14.2).
+use Rattle.std.specs.Prelude.{◌≡◌, refl, List, [], ◌∷◌, ◌++◌, false, replicate}
 use Rattle.std.specs.Float.Ieee.{eq}
 use Rattle.node.specs.Name.{name_of}
 use Rattle.synthdef.specs.Plan.{settled}
@@ -16,8 +16,6 @@ use Rattle.model.specs.Call as call
 use Rattle.model.specs.Page.{port_now, page}
 use Rattle.model.specs.Scene.{plain, float, host, sink, page_config, printed}
 use Rattle.model.specs.Spawn.{spawn_of}
-use Rattle.memory.specs.declared.state.State.{State}
-use Rattle.memory.specs.View.{Memory}
 
 -- a one-node definition `Tone`. Rows past a count are no part of it.
 abbrev pub tone : SynthDef
@@ -35,23 +33,13 @@ opening = host 3 ∷ sink 0 ∷ []
 abbrev pub turn : List Call
 turn = call.spawn_managed (spawn_of tone (id 0) (float 0) 0) ∷ call.prepare ∷ call.render (replicate 256 0) ∷ []
 
--- so many turns, one after the other
-unfoldable pub turns : ℕ → List Call
-turns zero = []
-turns (suc n) = turn ++ turns n
-
 abbrev pub scene_calls : List Call
-scene_calls = opening ++ turns 3
+scene_calls = opening ++ (turn ++ (turn ++ turn))
 
 unfoldable pub played : Ran
 played = run scene_calls (new_model page_config)
 
--- its page is what 01 prints
+-- its page is the one that SPEC 14.2 shows
 pub played_page : page played.model.shared.clock (port_now played.model.shared.graph.edges) played.model.voices ≡ printed
-unfolding played turns eq prepare processing_order lacking lacks any live_ids live_nodes rising_from whole order walk released fed among count_up settled
+unfolding played eq prepare processing_order lacking lacks any live_ids live_nodes rising_from whole order walk released fed among count_up settled
 played_page = refl
-
--- a store of which every table is lent: nodes, edges, processing order, voices, events, steal records
-abbrev pub lent_all : State → List ℕ → List ℕ → List ℕ → List ℕ → List ℕ → List ℕ → Memory
-lent_all s nodes edges order voices events steals =
-    record { state = s; nodes = nodes; edges = edges; order = order; voices = voices; events = events; steals = steals }

@@ -1,22 +1,21 @@
-// The scene whose page the scope (quoted in docs/TRACE.md) shows, played by the store's calls.
+//! The scene whose page docs/SPEC.md 14.2 shows, played on a store.
 #![tactic(auto)]
 
 ghost use Rattle.std.specs.Prelude.{◌≡◌, false};
 ghost use Rattle.model.specs.Call.{page_answer};
 ghost use Rattle.model.specs.Make.{new_model};
 ghost use Rattle.model.specs.Scene.{plain, further, page_config, printed};
-ghost use Rattle.memory.specs.View.{Memory, model_of};
-ghost use Rattle.memory.specs.Lent.{lent_nodes};
-ghost use Rattle.call_page.specs.Paged.{paged_of};
+ghost use Rattle.engine.specs.Called.{page_answered};
 ghost use Rattle.page_scene.specs.Played as played;
 
+use engine::reach::Store;
+use graph::host::HostNode;
+use node::name::name_of;
+use node::record::NodeId;
 use node::refusal::Refusal;
-use piecrag::{
-    BudgetScope, DefEdge, DefEdges, DefNode, DefNodes, EDGE_WORDS, EVENT_WORDS, HostNode, Making,
-    NO_PORT, NODE_WORDS, NodeId, NodeTable, ORDER_WORDS, Param, Params, STEAL_WORDS, State,
-    StealPolicy, SynthDef, VOICE_WORDS, add_node, make, name_of, page, prepare, render, set_sink,
-    spawn_voice, voice_on_bus_managed,
-};
+use store::config::Making;
+use synthdef::def::{DefEdge, DefEdges, DefNode, DefNodes, NO_PORT, Param, Params, SynthDef};
+use voice::policy::{BudgetScope, StealPolicy};
 
 // A node that has no ports and takes nothing.
 fn tone_node() -> DefNode
@@ -40,7 +39,6 @@ fn tone() -> SynthDef
 {
     let mut nodes = DefNodes::empty(tone_node());
     nodes.push(tone_node());
-    // Crates synthdef and book_bytes write the edge of zeros out too: a constant for its three numbers would be no shorter.
     let edges = DefEdges::empty(DefEdge {
         from: 0,
         to: 0,
@@ -58,56 +56,45 @@ fn tone() -> SynthDef
     }
 }
 
-// A new store with a bus of 3 ports, which is the sink.
-fn opened(nodes: &mut NodeTable) -> State
-    ensures { (m : Memory) → model_of (lent_nodes result nodes.new m) ≡ further played.opening (new_model page_config) }
+// A bus of 3 ports, which is the sink.
+fn open(store: &mut Store)
+    ensures { store.new ≡ further played.opening store.old }
 {
-    let making = Making {
-        rate: 8000.0,
-        block: 16,
-        budget: Some(2),
-        policy: StealPolicy::Oldest,
-        scope: BudgetScope::Global,
-        table: false,
-    };
-    let made = make(making);
     let bus = HostNode {
         ports: 3,
         required: 0,
         takes_values: false,
         takes_glides: false,
     };
-    let added = add_node(made.state, nodes, b"Bus", bus);
-    set_sink(added.state, nodes, NodeId(0)).state
+    let _ = store.add_node(b"Bus", bus);
+    let _ = store.set_sink(NodeId(0));
 }
 
-// The page after three turns, each a managed spawn, a prepare and a render, is the one that the scope shows.
-pub fn scene_page(out: &mut [u8]) -> Result<usize, Refusal>
-    ensures { paged_of result out.new ≡ page_answer printed out.old }
+// A managed spawn, a prepare and a render.
+fn turn(store: &mut Store)
+    ensures { store.new ≡ further played.turn store.old }
 {
-    // Six variables and no struct of them: it would be declared and made for this one function, and each call would be lent its fields one by one.
-    let mut nodes = [0u32; NODE_WORDS];
-    let mut edges = [0u32; EDGE_WORDS];
-    let mut order = [0u32; ORDER_WORDS];
-    let mut voices = [0u32; VOICE_WORDS];
-    let mut events = [0u32; EVENT_WORDS];
-    let mut steals = [0u32; STEAL_WORDS];
-    let mut s = opened(&mut nodes);
-    for _ in 0..3u32 {
-        let w = voice_on_bus_managed(tone(), NodeId(0), 0);
-        let spawning = spawn_voice(s, &mut nodes, &mut edges, &mut voices, &mut steals, w);
-        let served = prepare(spawning.state, &nodes, &edges, &mut order);
-        let mut list = [0u8; 256];
-        let r = render(
-            served.state,
-            &mut nodes,
-            &mut edges,
-            &mut order,
-            &mut voices,
-            &mut events,
-            &mut list,
-        );
-        s = r.state;
-    }
-    page(s, &edges, &voices, out)
+    let _ = store.spawn_voice_on_bus_managed(&tone(), NodeId(0), 0);
+    let _ = store.prepare();
+    let mut outcomes = [0u8; 256];
+    store.render(&mut outcomes);
+}
+
+/// The page after three turns, in `out`, is the one that the scope shows; refused with 17 if `out` is shorter.
+pub fn scene_page(out: &mut [u8]) -> Result<usize, Refusal>
+    ensures { page_answered result out.new ≡ page_answer printed out.old }
+{
+    let mut store = Store::make(Making {
+        rate: 8000.0,
+        block: 16,
+        budget: Some(2),
+        policy: StealPolicy::Oldest,
+        scope: BudgetScope::Global,
+        table: false,
+    })?;
+    open(&mut store);
+    turn(&mut store);
+    turn(&mut store);
+    turn(&mut store);
+    store.page(out)
 }

@@ -2,14 +2,13 @@
 #![tactic(auto)]
 
 use page_scene::scene_page;
-use piecrag::page_length;
 
-// The descriptor of standard output. Crate codec has it too, and nothing else that this program needs.
+// The descriptor of standard output.
 const STDOUT: i32 = 1;
 
 fn main() {
     let mut out = io::buffer();
-    let paged = scene_page(&mut out);
-    let n = page_length(paged, &out);
-    io::write_all(STDOUT, &out[..n]);
+    if let Ok(length) = scene_page(&mut out) {
+        io::write_all(STDOUT, &out[..length.min(out.len())]);
+    }
 }
