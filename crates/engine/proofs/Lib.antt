@@ -4,3 +4,4 @@ pub mod Newly
 pub mod Texts
 pub mod Doing
 pub mod Rendered
+pub mod Together
