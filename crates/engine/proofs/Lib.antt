@@ -10,3 +10,4 @@ pub mod Rooms
 pub mod Seating
 pub mod Doing
 pub mod Rendered
+pub mod Together

@@ -25,13 +25,15 @@ pub(crate) fn forget(graph: &mut AudioGraph, voices: &mut Voices, voice: VoiceId
     voices.remove(voice);
 }
 
-/// The voices of these ids go, one after the other.
+/// The voices of these ids go, as if one after the other: each table is passed over once. Of no ids what was prepared stays prepared.
 pub(crate) fn forget_each(graph: &mut AudioGraph, voices: &mut Voices, ids: &[VoiceId])
     ensures { (d : SharedState) → store_with graph.new voices.new d ≡ without_each ids.now (store_with graph.old voices.old d) }
 {
-    for id in ids {
-        forget(graph, voices, *id);
+    if ids.is_empty() {
+        return;
     }
+    graph.remove_voices(ids);
+    voices.remove_all(ids);
 }
 
 /// A voice is freed: applied, or no such voice.

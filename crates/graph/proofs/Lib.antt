@@ -7,3 +7,4 @@ pub mod Ports
 pub mod Grown
 pub mod Masks
 pub mod Sorting
+pub mod Rising

@@ -1,6 +1,7 @@
 -- Live nodes: who they are, whose they are (SPEC 1), what a new one holds (SPEC 4.1), and a bus's noise sequence
 -- (SPEC 9.9).
 use Rattle.std.specs.Prelude.{ℕ, ◌+◌, ◌%◌, List, map, Bool, false, not, cond, eqb, Option, None, Some, find}
+use Rattle.std.specs.List.{list_any}
 use Rattle.node.specs.Name.{name_of}
 use Rattle.node.specs.Node.{new_node, with_noise}
 use Rattle.edges.specs.Wiring.{listed}
@@ -26,6 +27,10 @@ owned_by v n = eqb n.owner.0 v.0
 -- it belongs to one of these voices
 abbrev pub owned_by_any : List ℕ → Node → Bool
 owned_by_any ids n = listed ids n.owner.0
+
+-- it belongs to one of these voices
+abbrev pub owned_by_some : List VoiceId → Node → Bool
+owned_by_some ws n = list_any (λ w. owned_by w n) ws
 
 -- the node of this id, if it lives
 abbrev pub node_at : List Node → NodeId → Option Node

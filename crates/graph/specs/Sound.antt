@@ -13,6 +13,10 @@ use Rattle.graph.specs.Node.{node_at}
 abbrev pub id_of : Node → ℕ
 id_of n = n.id.0
 
+-- a number, counted by itself
+abbrev pub itself : ℕ → ℕ
+itself k = k
+
 -- a node of this id is among them
 abbrev pub Lives : List Node → NodeId → Type 0
 Lives nodes k = is_some (node_at nodes k) ≡ true

@@ -6,8 +6,8 @@ ghost use Rattle.node.specs.Node.{reported, with_last};
 ghost use Rattle.edges.specs.Ports.{free_port, port_from, sources};
 ghost use Rattle.edges.specs.Wiring.{among};
 ghost use Rattle.graph.specs.View.{new_graph, with_nodes};
-ghost use Rattle.graph.specs.Node.{node_at, host_node, ports_of, noise_raised};
-ghost use Rattle.graph.specs.Change.{connect, disconnect, append, remove_node, remove_voice, set_sink};
+ghost use Rattle.graph.specs.Node.{node_at, host_node, ports_of, noise_raised, owned_by_some};
+ghost use Rattle.graph.specs.Change.{connect, disconnect, append, remove_node, remove_voice, set_sink, without};
 ghost use Rattle.graph.specs.Sound.{Sound};
 ghost use Rattle.graph.specs.Tables.{answer_of};
 ghost use Rattle.graph.specs.Refuse.{connect_refusal, disconnect_refusal, host_refusal, add_refusal};
@@ -17,13 +17,13 @@ ghost use Rattle.graph.specs.Grown.{fits, with_all};
 ghost use Rattle.graph.specs.Does.{unless, added, changed_node};
 
 use crate::edge_table::{
-    self, EdgeTable, drop_edge, drop_touching, edge_row, is_listed, lowest_port, port_from,
-    put_edge, put_new, sources,
+    self, EdgeTable, drop_edge, drop_touching, drop_touching_rising, edge_row, is_listed,
+    lowest_port, port_from, put_edge, put_new, sources,
 };
 use crate::host::{HostNode, host_node};
 use crate::node_table::{
-    NodeTable, all_join, append_all, drop_node, drop_owned, have_few_ports, ids_owned, joins,
-    node_of, order_at, raise_noise_at, report_at,
+    NodeTable, all_join, append_all, drop_node, drop_owned, drop_owned_by_some, have_few_ports,
+    ids_owned, ids_owned_by_some, joins, node_of, order_at, raise_noise_at, report_at,
 };
 use crate::tests::{host_test, is_bad_kind, port_test, wire_test};
 use crate::topological_sort::{OrderTable, topological_sort};
@@ -147,6 +147,17 @@ impl AudioGraph {
         let ids = ids_owned(self.nodes.as_slice(), voice);
         drop_owned(&mut self.nodes, voice);
         drop_touching(&mut self.edges, ids.as_slice());
+        self.sink = kept_sink(self.sink, ids.as_slice());
+        self.prepared = false;
+    }
+
+    /// The nodes of these voices go, with the edges that touch them (SPEC 13.1): each table is passed over once.
+    pub fn remove_voices(&mut self, voices: &[VoiceId])
+        ensures { self.new ≡ without (owned_by_some voices.now) self.old }
+    {
+        let ids = ids_owned_by_some(self.nodes.as_slice(), voices);
+        drop_owned_by_some(&mut self.nodes, voices);
+        drop_touching_rising(&mut self.edges, ids.as_slice());
         self.sink = kept_sink(self.sink, ids.as_slice());
         self.prepared = false;
     }

@@ -4,6 +4,8 @@ ghost use Rattle.std.specs.Prelude.{ℕ, ◌≡◌, ◌≤◌, ◌<◌, ◌+◌,
 ghost use Rattle.std.specs.List.{position};
 ghost use Rattle.lists.specs.Lone.{Lone};
 ghost use Rattle.lists.specs.Member.{In};
+ghost use Rattle.lists.specs.Rising.{RisesFrom};
+ghost use Rattle.graph.specs.Sound.{itself};
 ghost use Rattle.edges.specs.Ports.{free_port, feeds, port_from, sources};
 ghost use Rattle.edges.specs.Wiring.{ends_at, no_place, drop_at, wired, listed, touches, drop_touching};
 ghost use Rattle.graph.specs.Taken.{TakenBelow};
@@ -102,6 +104,28 @@ pub(crate) fn drop_touching(edges: &mut EdgeTable, ids: &[u32])
     ensures { edges.new.items ≡ drop_touching edges.old.items ids.now }
 {
     edges.retain(|e| !touches(ids, *e));
+}
+
+// Whether `x` is one of these ids, by halving, where they rise.
+fn is_among(ids: &[u32], x: u32) -> bool
+    ensures { RisesFrom itself 0 ids.now → result ≡ listed ids.now x }
+{
+    let at = ids.partition_point(|k| *k < x);
+    at < ids.len() && ids[at] == x
+}
+
+fn touches_rising(ids: &[u32], e: &Edge) -> bool
+    ensures { RisesFrom itself 0 ids.now → result ≡ touches ids.now e.now }
+{
+    is_among(ids, e.from.0) || is_among(ids, e.to.0)
+}
+
+// Drops the edges that start or end at one of these ids, which rise.
+pub(crate) fn drop_touching_rising(edges: &mut EdgeTable, ids: &[u32])
+    requires { RisesFrom itself 0 ids.now }
+    ensures { edges.new.items ≡ drop_touching edges.old.items ids.now }
+{
+    edges.retain(|e| !touches_rising(ids, e));
 }
 
 // Which of the ports 0 to 63 of the node have an edge.

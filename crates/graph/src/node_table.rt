@@ -4,7 +4,7 @@ ghost use Rattle.std.specs.Prelude.{◌≡◌, ◌≤◌, ◌+◌, ◌++◌, not
 ghost use Rattle.std.specs.List.{position, list_all};
 ghost use Rattle.lists.specs.Rising.{RisesFrom};
 ghost use Rattle.node.specs.Node.{reported, with_last};
-ghost use Rattle.graph.specs.Node.{node_at, is_node, owned_by, noise_raised};
+ghost use Rattle.graph.specs.Node.{node_at, is_node, owned_by, owned_by_some, noise_raised};
 ghost use Rattle.graph.specs.Change.{ids_of};
 ghost use Rattle.graph.specs.Sound.{id_of};
 ghost use Rattle.graph.specs.Does.{changed_at};
@@ -69,6 +69,31 @@ pub(crate) fn drop_owned(nodes: &mut NodeTable, voice: VoiceId)
     ensures { nodes.new.items ≡ filter (λ n. not (owned_by voice n)) nodes.old.items }
 {
     nodes.retain(|n| !owned_by(voice, *n));
+}
+
+fn owned_by_some(voices: &[VoiceId], n: &Node) -> bool
+    ensures { result ≡ owned_by_some voices.now n.now }
+{
+    voices.iter().any(|w| owned_by(*w, *n))
+}
+
+pub(crate) fn ids_owned_by_some(nodes: &[Node], voices: &[VoiceId]) -> ArrayVec<u32, 512>
+    requires { length nodes.now ≤ 512 }
+    ensures { result.items ≡ ids_of (owned_by_some voices.now) nodes.now }
+{
+    let mut ids = ArrayVec::new();
+    for n in nodes {
+        if owned_by_some(voices, n) {
+            ids.push(n.id.0);
+        }
+    }
+    ids
+}
+
+pub(crate) fn drop_owned_by_some(nodes: &mut NodeTable, voices: &[VoiceId])
+    ensures { nodes.new.items ≡ filter (λ n. not (owned_by_some voices.now n)) nodes.old.items }
+{
+    nodes.retain(|n| !owned_by_some(voices, n));
 }
 
 // The level of a block and whether the node is done, in its place.
