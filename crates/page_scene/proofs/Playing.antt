@@ -17,13 +17,13 @@ use Rattle.model.specs.Scene.{float, further, page_config, printed}
 use Rattle.model.specs.Spawn.{spawn_of, middle}
 use Rattle.synthdef.specs.declared.def.SynthDef.{SynthDef}
 use Rattle.voice.specs.Voice.{id}
-use Rattle.engine.specs.Called.{Called, Asked}
+use Rattle.engine.specs.Called.{Asked}
 use Rattle.page_scene.specs.Played.{tone, opening, turn, played, played_page}
 
 -- one call, and the rest
-pub and_then : (c : Call) (cs : List Call) {m n : Model} {a : Answer} {end : Model}
-    → Called c m a n → end ≡ further cs n → end ≡ further (c ∷ cs) m
-and_then c cs e f = f ∙ ap (λ (s : Step). further cs s.model) e
+pub and_then : (c : Call) (cs : List Call) (m n end : Model)
+    → n ≡ (step c m).model → end ≡ further cs n → end ≡ further (c ∷ cs) m
+and_then c cs m n end e f = f ∙ ap (further cs) e
 
 pub further_both : (a b : List Call) (m : Model) → further (a ++ b) m ≡ further b (further a m)
 further_both [] b m = refl
@@ -41,12 +41,6 @@ pub made : make asked ≡ Some (new_model page_config)
 unfolding of_bits rate_of
 made = refl
 
--- the spawn of a turn
-pub spawns_tone : (d : SynthDef) {m n : Model} {a : Answer} → d ≡ tone
-    → Called (call.spawn_managed (spawn_of d (id 0) middle 0)) m a n
-    → Called (call.spawn_managed (spawn_of tone (id 0) (float 0) 0)) m a n
-spawns_tone d {m} e f = f ∙ ap (λ k. step (call.spawn_managed (spawn_of k (id 0) middle 0)) m) e
-
 -- three turns from the opening on
 pub all_played : (m n x y end : Model) → m ≡ new_model page_config → n ≡ further opening m → x ≡ further turn n
     → y ≡ further turn x → end ≡ further turn y → end ≡ played.model
@@ -59,7 +53,8 @@ all_played m n x y end a b c d e =
     ∙ sym (further_both opening (turn ++ (turn ++ turn)) new ∙ further_both turn (turn ++ turn) opened ∙ further_both turn turn (further turn opened))
 
 -- the page of the scene
-pub page_is : {s : Model} {a : Answer} (out : List ℕ) → Asked (call.page out) s a → s ≡ played.model → a ≡ page_answer printed out
-page_is out e f =
+pub page_is : (s : Model) (a : Answer) (out : List ℕ) → Asked (call.page out) s a → s ≡ played.model
+    → a ≡ page_answer printed out
+page_is s a out e f =
     e ∙ ap (λ (m : Model). page_answer (page m.shared.clock (port_now m.shared.graph.edges) m.voices) out) f
     ∙ ap (λ (t : List ℕ). page_answer t out) played_page
