@@ -31,7 +31,8 @@ further_both (c ∷ a) b m = further_both a b (step c m).model
 
 -- what the scene asks for, as the code writes it
 abbrev pub asked : Making
-asked = record { rate = of_bits binary32 0x45fa0000; block = 16; budget = Some 2; policy = Oldest; scope = Global; table = false }
+asked =
+    record { rate = of_bits binary32 0x45fa0000; block = 16; budget = Some 2; policy = Oldest; scope = Global; table = false }
 
 pub not_refused : refusal_of asked ≡ None
 unfolding of_bits rate_of
@@ -50,7 +51,8 @@ all_played m n x y end a b c d e =
     let opened = further opening new in
     e ∙ ap (further turn) d ∙ ap (λ k. further turn (further turn k)) c
     ∙ ap (λ k. further turn (further turn (further turn k))) (b ∙ ap (further opening) a)
-    ∙ sym (further_both opening (turn ++ (turn ++ turn)) new ∙ further_both turn (turn ++ turn) opened ∙ further_both turn turn (further turn opened))
+    ∙ sym (further_both opening (turn ++ (turn ++ turn)) new
+        ∙ further_both turn (turn ++ turn) opened ∙ further_both turn turn (further turn opened))
 
 -- the page of the scene
 pub page_is : (s : Model) (a : Answer) (out : List ℕ) → Asked (call.page out) s a → s ≡ played.model
