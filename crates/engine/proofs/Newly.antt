@@ -1,6 +1,6 @@
 -- What making fixes, and the new store of it.
-use Rattle.std.proofs.Common.{◌≡◌, ◌∙◌, ap, sym, refl, []}
-use Rattle.std.specs.Prelude.{Option, None, Some, Result, Ok, Err}
+use Rattle.std.proofs.Common.{◌≡◌, refl, []}
+use Rattle.std.specs.Prelude.{Option, None, Some, Ok, Err}
 use Rattle.node.specs.declared.refusal.Refusal.{Refusal}
 use Rattle.store.specs.declared.config.Config.{Config}
 use Rattle.model.specs.Make.{Making, make, made_unless, refusal_of, config_of, new_model}

@@ -1,4 +1,4 @@
-use Rattle.std.proofs.Common.{arith, ◌≡◌, ap}
+use Rattle.std.proofs.Common.{arith}
 use Rattle.engine.proofs.Texts.{then, widened, long, line_is}
 use Rattle.engine.proofs.page_text.put_line.Goals as goal
 

@@ -1,4 +1,4 @@
-use Rattle.std.proofs.Common.{◌∙◌, ◌≤◌, ◌<◌, ◌^◌, ap, ◌++◌, length, length-take, arith, ℕ}
+use Rattle.std.proofs.Common.{◌∙◌, ◌≤◌, ◌<◌, ◌^◌, length-take, arith, ℕ}
 use Rattle.engine.proofs.Digits.{decimal_is, most}
 use Rattle.engine.proofs.Texts.{added}
 use Rattle.engine.proofs.page_text.put_number.Goals as goal
