@@ -1,24 +1,18 @@
 -- Calls one after the other, each by its contract.
-use Rattle.std.specs.Prelude.{Option, None, Some, ℕ, List, [], ◌∷◌, ◌++◌, false}
+use Rattle.std.specs.Prelude.{None, Some, ℕ, List, [], ◌∷◌, ◌++◌, false}
 use mathlib.Core.Path.{◌≡◌, refl, sym, ap, ◌∙◌}
 use lib.Ieee.{of_bits, binary32}
 use Rattle.bus.specs.Rate.{rate_of}
-use Rattle.node.specs.declared.refusal.Refusal.{Refusal}
-use Rattle.voice.specs.declared.policy.StealPolicy.{StealPolicy}
 use Rattle.voice.specs.declared.policy.StealPolicy.TheVariants.{Oldest}
-use Rattle.voice.specs.declared.policy.BudgetScope.{BudgetScope}
 use Rattle.voice.specs.declared.policy.BudgetScope.TheVariants.{Global}
 use Rattle.model.specs.Model.{Model}
-use Rattle.model.specs.Make.{Making, config_of, make, new_model, refusal_of}
+use Rattle.model.specs.Make.{Making, make, new_model, refusal_of}
 use Rattle.model.specs.Call.{Call, Answer, Step, step, answer_to, page_answer}
 use Rattle.model.specs.Call as call
 use Rattle.model.specs.Page.{port_now, page}
-use Rattle.model.specs.Scene.{float, further, page_config, printed}
-use Rattle.model.specs.Spawn.{spawn_of, middle}
-use Rattle.synthdef.specs.declared.def.SynthDef.{SynthDef}
-use Rattle.voice.specs.Voice.{id}
+use Rattle.model.specs.Scene.{further, page_config, printed}
 use Rattle.engine.specs.Called.{Asked}
-use Rattle.page_scene.specs.Played.{tone, opening, turn, played, played_page}
+use Rattle.page_scene.specs.Played.{opening, turn, played, played_page}
 
 -- one call, and the rest
 pub and_then : (c : Call) (cs : List Call) (m n end : Model)
@@ -31,7 +25,8 @@ further_both (c ∷ a) b m = further_both a b (step c m).model
 
 -- what the scene asks for, as the code writes it
 abbrev pub asked : Making
-asked = record { rate = of_bits binary32 0x45fa0000; block = 16; budget = Some 2; policy = Oldest; scope = Global; table = false }
+asked =
+    record { rate = of_bits binary32 0x45fa0000; block = 16; budget = Some 2; policy = Oldest; scope = Global; table = false }
 
 pub not_refused : refusal_of asked ≡ None
 unfolding of_bits rate_of
@@ -50,7 +45,8 @@ all_played m n x y end a b c d e =
     let opened = further opening new in
     e ∙ ap (further turn) d ∙ ap (λ k. further turn (further turn k)) c
     ∙ ap (λ k. further turn (further turn (further turn k))) (b ∙ ap (further opening) a)
-    ∙ sym (further_both opening (turn ++ (turn ++ turn)) new ∙ further_both turn (turn ++ turn) opened ∙ further_both turn turn (further turn opened))
+    ∙ sym (further_both opening (turn ++ (turn ++ turn)) new
+        ∙ further_both turn (turn ++ turn) opened ∙ further_both turn turn (further turn opened))
 
 -- the page of the scene
 pub page_is : (s : Model) (a : Answer) (out : List ℕ) → Asked (call.page out) s a → s ≡ played.model

@@ -1,5 +1,6 @@
--- The page's scene with a definition as the code holds it: rate 8000, block 16, budget 2, `Oldest`, `Global`; node 0 a bus of 3
--- ports and sink; a definition of one node, `Tone`. Managed spawns at clock 0, 16 and 32, a prepare and a render after each (SPEC 14.2).
+-- The page's scene with a definition as the code holds it: rate 8000, block 16, budget 2, `Oldest`, `Global`; node 0 a
+-- bus of 3 ports and sink; a definition of one node, `Tone`. Managed spawns at clock 0, 16 and 32, a prepare and a
+-- render after each (SPEC 14.2).
 use Rattle.std.specs.Prelude.{◌≡◌, refl, List, [], ◌∷◌, ◌++◌, false, replicate}
 use Rattle.std.specs.Float.Ieee.{eq}
 use Rattle.node.specs.Name.{name_of}
@@ -40,6 +41,8 @@ unfoldable pub played : Ran
 played = run scene_calls (new_model page_config)
 
 -- its page is the one that SPEC 14.2 shows
-pub played_page : page played.model.shared.clock (port_now played.model.shared.graph.edges) played.model.voices ≡ printed
-unfolding played eq prepare processing_order lacking lacks any live_ids live_nodes rising_from whole order walk released fed among count_up settled
+pub played_page :
+    page played.model.shared.clock (port_now played.model.shared.graph.edges) played.model.voices ≡ printed
+unfolding played eq prepare processing_order lacking lacks any live_ids live_nodes rising_from whole order walk released
+    fed among count_up settled
 played_page = refl

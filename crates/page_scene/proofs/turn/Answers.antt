@@ -17,8 +17,9 @@ returns c =
     let ready = c.prepare.new.self in
     let rendered = c.render.new.self in
     let one = ap (λ s. s.model) c.spawn_voice_on_bus_managed.ensures
-        ∙ ap (λ d. (step (call.spawn_managed (spawn_of d (id 0) middle 0)) old).model) c.tone.ensures in
+    ∙ ap (λ d. (step (call.spawn_managed (spawn_of d (id 0) middle 0)) old).model) c.tone.ensures in
     let rest = call.prepare ∷ call.render (replicate 256 0) ∷ [] in
     and_then (call.spawn_managed (spawn_of tone (id 0) (float 0) 0)) rest old spawned rendered one
-    (and_then call.prepare (call.render (replicate 256 0) ∷ []) spawned ready rendered (ap (λ s. s.model) c.prepare.ensures)
+    (and_then call.prepare (call.render (replicate 256 0) ∷ []) spawned ready rendered
+    (ap (λ s. s.model) c.prepare.ensures)
     (and_then (call.render (replicate 256 0)) [] ready rendered rendered (ap (λ s. s.model) c.render.ensures) refl))
