@@ -205,8 +205,9 @@ uint32_t piecrag_set_sink(const uint32_t *seal, uint32_t *state, const uint32_t 
  * 0. If `managed` is not 0, then at budget a voice is stolen for it, and for want of a port fades, then voices of the bus, are reclaimed;
  * of voices those of the lowest rank first, and none whose rank is above the new one's, 0 to 7. If `managed` is 0 the new voice is loose:
  * no budget counts it and nobody is removed for it. *voice becomes its id.
- * Refused: 28 the board is sealed, and the spawn is unmanaged or not on its bus, whatever the bytes hold; 18 the book is malformed; 28 the
- * board is sealed, and the definition has more nodes or edges than was stated; 26 rank above 7; 9 its definition is outside the limits;
+ * Refused: 28 the board is sealed, and the spawn is unmanaged or not on its bus, whatever the bytes hold, or the book has more nodes or edges
+ * than was stated, also where that is more than a definition may have; 18 the book is malformed; 26 rank above 7; 9 its definition is
+ * outside the limits;
  * 4, 5 unknown node, a voice's node; 10 bus without ports; 7 no headroom for its nodes, edges or the voice; 8 ids used up; 11 managed, at
  * budget, and nobody may give way; 12 no port, nothing left to reclaim; of an unmanaged one: no free port. */
 uint32_t piecrag_spawn(const uint32_t *seal, uint32_t *state, uint32_t *nodes, uint32_t *edges, uint32_t *voices, uint32_t *steals,
@@ -215,7 +216,7 @@ uint32_t piecrag_spawn(const uint32_t *seal, uint32_t *state, uint32_t *nodes, u
 
 /* A wish of a keyboard, from 0, for a spawn with these arguments. It waits for its turn. The book is read and held whole; of bus, pan,
  * rank and the definition nothing but what a seal asks is tested before the turn.
- * Refused: 28, 18 and again 28 as piecrag_spawn; 24 no such keyboard; 25 16 wishes of that keyboard wait. */
+ * Refused: 28 and 18 as piecrag_spawn; 24 no such keyboard; 25 16 wishes of that keyboard wait. */
 uint32_t piecrag_wish(const uint32_t *seal, uint32_t *waiting, uint32_t *wishes, size_t keyboard, uint32_t managed, const uint8_t *book,
                       size_t book_length, uint32_t bus, float pan, uint32_t rank);
 

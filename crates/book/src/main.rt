@@ -60,7 +60,7 @@ fn definition(out: &mut Output, s: &[u8]) -> Option<SynthDef> {
     let at = match read {
         Ok(def) => return Some(def),
         Err(ReadError::Malformed(at)) => at,
-        Err(ReadError::Limits) => s.len(),
+        Err(ReadError::Limits { .. }) => s.len(),
     };
     text(out, b"refused");
     and_word(out, read_number(&read));

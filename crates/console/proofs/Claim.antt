@@ -20,6 +20,8 @@ use Rattle.console.specs.Console.{Console, ConsoleCall, made, console_run, wishe
 use Rattle.console.specs.Claim.{StoreRun, ConsoleClaim, serves_of}
 use Rattle.console.proofs.Plain.{store_run, answers_served}
 use Rattle.console.proofs.Fifo.{in_order, at_most_16, new_16}
+use mathlib.Core.Logic.{inl}
+use Rattle.console.proofs.Rounds.{Begins, begins_run, turns_exactly, waits_exactly}
 use Rattle.console.proofs.Fair.{run_invariant, new_invariant, within}
 
 -- "From 1 to 8 keyboards"
@@ -54,6 +56,7 @@ pub console_claim : (k : Making) (m : ℕ) (c : Console) → make_console k m �
 console_claim k m c e xs =
     let a = accepted k m c e in
     let g = run_invariant xs m (new_wishes m) (new_invariant m a.range.0) in
+    let b = begins_run xs m None c (subst (λ ws. Begins m None ws) (sym a.wishes) (record { invariant = new_invariant m a.range.0; start = inl refl; most = omega arith })) in
     record {
       positive = a.range.0;
       eight = a.range.1;
@@ -67,4 +70,6 @@ console_claim k m c e xs =
         sixteen = at_most_16 xs (new_wishes m) (new_16 m);
       };
       answers = λ q. subst (λ ws. serves_of q (console_run xs c).answers ≡ length (served_of q xs ws)) a.wishes (answers_served xs c q);
+      turns = turns_exactly m _ (console_run xs c).console b;
+      waits = waits_exactly m (console_run xs c).console b.invariant.many;
     }

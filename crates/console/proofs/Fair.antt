@@ -31,7 +31,7 @@ taken_invariant m ws g q =
       next = subst (λ n. after n q < m) (sym g.many) (after_below m q (let i = g.next in omega (arith, i)));
     }
 
-step_invariant : (x : ConsoleCall) (m : ℕ) (ws : Wishes) → WishInvariant m ws → WishInvariant m (wishes_after x ws)
+pub step_invariant : (x : ConsoleCall) (m : ℕ) (ws : Wishes) → WishInvariant m ws → WishInvariant m (wishes_after x ws)
 step_invariant (on c) m ws g = g
 step_invariant (wish q w) m ws g = go (wish_refusal ws q)
   where

@@ -5,3 +5,4 @@ pub mod Fair
 pub mod Plain
 pub mod Claim
 pub mod Scenes
+pub mod Rounds

@@ -3,6 +3,7 @@ use Prim.Native.Nat.{ℕ, zero, suc, ◌+◌, ◌-◌, ◌≤◌, ◌<◌}
 use native.Mathlib.Omega.{arith}
 use native.Mathlib.Nat.{add-zero}
 use mathlib.Core.Path.{◌≡◌, refl, sym, ap, ◌∙◌}
+use mathlib.Core.Logic.{◌⊎◌, inl, inr}
 use mathlib.Core.List.{List, [], ◌∷◌}
 use Rattle.std.specs.Prelude.{Option, Some}
 use mathlib.Core.Bool.{Bool, true, false, cond}
@@ -39,6 +40,7 @@ pub record Way (m p q : ℕ) : Type 0 where
   pub steps : ℕ
   pub short : steps < m
   pub leads : round m steps p ≡ q
+  pub counts : (p + steps ≡ q) ⊎ (p + steps ≡ q + m)
 
 pub way : (m p q : ℕ) → p < m → q < m → Way m p q
 way m p q hp hq = go (leb p q) refl
@@ -47,7 +49,7 @@ way m p q hp hq = go (leb p q) refl
     go true e =
         let l : p ≤ q = leb-true p q e in
         let z : p + (q - p) ≡ q = omega arith in
-        record { steps = q - p; short = omega arith; leads = up (q - p) m p (omega arith) ∙ z }
+        record { steps = q - p; short = omega arith; leads = up (q - p) m p (omega arith) ∙ z; counts = inl z }
     go false e =
         let l : q < p = leb-false p q e in
         let last : after m (m - 1) ≡ 0 = ap (λ b. cond b (suc (m - 1)) 0) (le-ltb (suc (m - 1)) m (omega arith)) in
@@ -57,6 +59,7 @@ way m p q hp hq = go (leb p q) refl
           steps = (m - 1 - p) + suc q;
           short = omega arith;
           leads = round_add (m - 1 - p) (suc q) m p ∙ ap (round m (suc q)) a ∙ ap (round m q) last ∙ up q m 0 (omega arith) ∙ z;
+          counts = inr (omega (arith, l, hp));
         }
 
 -- a search that would come to a keyboard with a wish after d steps ends within d steps

@@ -1,12 +1,13 @@
 -- What is proved of every console that calls made and every list of calls, refused ones too: the list xs from a newly made console, then
 -- the list ys.
-use Rattle.std.specs.Prelude.{ℕ, ◌+◌, ◌*◌, ◌≤◌, ◌<◌, ◌≡◌, List, [], ◌∷◌, ◌++◌, length, Some, slice_get}
+use Rattle.std.specs.Prelude.{ℕ, ◌+◌, ◌*◌, ◌≤◌, ◌<◌, ◌≡◌, List, [], ◌∷◌, ◌++◌, length, None, Some, slice_get}
 use Rattle.model.specs.Model.{Model}
 use Rattle.model.specs.Make.{Making, config_of}
 use Rattle.model.specs.Call.{Call, run}
 use Rattle.ledger.specs.Claim.{Claim}
 use Rattle.store.specs.declared.wish.Wish.{Wish}
 use Rattle.console.specs.Wishes.{Wishes, keyboards, waiting_at, new_wishes}
+use Rattle.console.specs.Rounds.{last_served, Turns, Waits}
 use Rattle.console.specs.Console.{Console, ConsoleCall, ConsoleAnswer, ConsoleRan, console_run, wishes_run, store_calls, served_of, accepted_of, turns, store_answers, serves_one}
 
 -- The run r is, on the store m, the run of the calls cs; and it leaves the wishes ws.
@@ -43,3 +44,6 @@ pub record ConsoleClaim (k : Making) (m : ℕ) (c : Console) (xs : List ConsoleC
   pub fair : (ys : List ConsoleCall) → Fair m (wishes_run xs (new_wishes m)) ys
   -- what the turns answer: of keyboard q as many say that it was served as wishes of it were
   pub answers : (q : ℕ) → serves_of q (console_run xs c).answers ≡ length (served_of q xs (new_wishes m))
+  -- whose turn is next, and what a wish is answered
+  pub turns : Turns m (last_served None (console_run xs c).answers) (console_run xs c).console
+  pub waits : (q : ℕ) (w : Wish) → Waits m (console_run xs c).console q w

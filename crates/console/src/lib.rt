@@ -2,4 +2,5 @@
 // specs/Console.antt, what holds of every list of them specs/Claim.antt.
 #![tactic(auto)]
 
+pub mod laws;
 pub mod refusal;

@@ -31,11 +31,11 @@ tone = node 0 2 0 3 0
 unfoldable pub param : ℕ → ℕ → List ℕ
 param n node-number = 22 ∷ 0 ∷ 4 ∷ 0 ∷ n ∷ 97 ∷ 0 ∷ 0 ∷ 0 ∷ 0 ∷ 0 ∷ 0 ∷ 0 ∷ 0 ∷ 0 ∷ 0 ∷ 0 ∷ 0 ∷ 0 ∷ 0 ∷ 0 ∷ node-number ∷ []
 
--- the number of the answer, and the position where it has one
+-- the number of the answer; behind it the position, or the counts, where it has them
 unfoldable pub said : Read → List ℕ
 said (gives d) = 0 ∷ []
 said (malformed at) = 18 ∷ at ∷ []
-said limits = 9 ∷ []
+said (limits nodes edges) = 9 ∷ nodes ∷ edges ∷ []
 
 pub record Case : Type 0 where
   pub book : List ℕ
@@ -78,27 +78,28 @@ cases =
     ∷ case (heading 1 0 ++ (tone ++ tone)) (18 ∷ 60 ∷ [])
     -- beyond the limits: no node; an output that is no node; 9 ports; a required port, a port by name, an edge's port that the node has
     -- not; a parameter of a node that there is not; a cycle
-    ∷ case (heading 0 0) (9 ∷ [])
-    ∷ case (heading 1 1 ++ tone) (9 ∷ [])
-    ∷ case (heading 1 0 ++ node 0 9 0 3 0) (9 ∷ [])
-    ∷ case (heading 1 0 ++ node 0 2 4 3 0) (9 ∷ [])
-    ∷ case (heading 1 0 ++ node 0 2 0 3 2) (9 ∷ [])
-    ∷ case (heading 2 0 ++ (tone ++ (tone ++ edge 0 1 2))) (9 ∷ [])
-    ∷ case (heading 1 0 ++ (tone ++ param 1 1)) (9 ∷ [])
-    ∷ case (heading 1 0 ++ (tone ++ edge 0 0 0)) (9 ∷ [])
+    ∷ case (heading 0 0) (9 ∷ 0 ∷ 0 ∷ [])
+    ∷ case (heading 1 1 ++ tone) (9 ∷ 1 ∷ 0 ∷ [])
+    ∷ case (heading 1 0 ++ node 0 9 0 3 0) (9 ∷ 1 ∷ 0 ∷ [])
+    ∷ case (heading 1 0 ++ node 0 2 4 3 0) (9 ∷ 1 ∷ 0 ∷ [])
+    ∷ case (heading 1 0 ++ node 0 2 0 3 2) (9 ∷ 1 ∷ 0 ∷ [])
+    ∷ case (heading 2 0 ++ (tone ++ (tone ++ edge 0 1 2))) (9 ∷ 2 ∷ 1 ∷ [])
+    ∷ case (heading 1 0 ++ (tone ++ param 1 1)) (9 ∷ 1 ∷ 0 ∷ [])
+    ∷ case (heading 1 0 ++ (tone ++ edge 0 0 0)) (9 ∷ 1 ∷ 1 ∷ [])
     -- 18 before 9: an output that is no node, and behind it a record of no kind; and with a node too few
     ∷ case (heading 1 1 ++ (tone ++ (7 ∷ 0 ∷ 5 ∷ 0 ∷ 0 ∷ 0 ∷ 0 ∷ []))) (18 ∷ 33 ∷ [])
     ∷ case (heading 2 9 ++ tone) (18 ∷ 33 ∷ [])
     -- 24 nodes; 25 announced and given; 24 announced and 25 given
     ∷ case (heading 24 23 ++ joined (replicate 24 tone)) (0 ∷ [])
-    ∷ case (heading 25 0 ++ joined (replicate 25 tone)) (9 ∷ [])
+    ∷ case (heading 25 0 ++ joined (replicate 25 tone)) (9 ∷ 25 ∷ 0 ∷ [])
     ∷ case (heading 24 0 ++ joined (replicate 25 tone)) (18 ∷ 681 ∷ [])
     -- 48 edges; 49; a record of no kind behind the 49th edge. 8 parameters; 9
     ∷ case (heading 2 0 ++ (tone ++ (tone ++ joined (replicate 48 (edge 0 1 0))))) (0 ∷ [])
-    ∷ case (heading 2 0 ++ (tone ++ (tone ++ joined (replicate 49 (edge 0 1 0))))) (9 ∷ [])
+    ∷ case (heading 2 0 ++ (tone ++ (tone ++ joined (replicate 49 (edge 0 1 0))))) (9 ∷ 2 ∷ 49 ∷ [])
+    ∷ case (heading 24 0 ++ (joined (replicate 24 tone) ++ joined (replicate 49 (edge 0 1 0)))) (9 ∷ 24 ∷ 49 ∷ [])
     ∷ case (heading 2 0 ++ (tone ++ (tone ++ (joined (replicate 49 (edge 0 1 0)) ++ (7 ∷ 0 ∷ 5 ∷ 0 ∷ 0 ∷ 0 ∷ 0 ∷ []))))) (18 ∷ 403 ∷ [])
     ∷ case (heading 1 0 ++ (tone ++ joined (replicate 8 (param 1 0)))) (0 ∷ [])
-    ∷ case (heading 1 0 ++ (tone ++ joined (replicate 9 (param 1 0)))) (9 ∷ [])
+    ∷ case (heading 1 0 ++ (tone ++ joined (replicate 9 (param 1 0)))) (9 ∷ 1 ∷ 0 ∷ [])
     ∷ []
 
 unfoldable pub read : Case → Case
@@ -151,7 +152,7 @@ unfolding code_node held_by_code joined held write_answer whole order walk relea
 short_said = refl
 
 -- 9 before 19: no node, and no buffer
-pub limits_first : write_answer (def_in limits) [] ≡ refused 9
+pub limits_first : write_answer (def_in (limits 0 0)) [] ≡ refused 9
 unfolding held write_answer
 limits_first = refl
 

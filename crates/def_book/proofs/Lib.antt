@@ -9,3 +9,4 @@ pub mod Reading
 pub mod Puts
 pub mod Writing
 pub mod Theorem
+pub mod Counted

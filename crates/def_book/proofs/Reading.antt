@@ -11,7 +11,7 @@ use Rattle.synthdef.specs.declared.def.SynthDef.{SynthDef}
 use Rattle.def_book.specs.Bytes.{Row}
 use Rattle.def_book.specs.Body.{body_of}
 use Rattle.def_book.specs.declared.body.Body.{Body}
-use Rattle.def_book.specs.Rows.{is_heading, rows, size, nodes_of}
+use Rattle.def_book.specs.Rows.{is_heading, rows, size, nodes_of, edges_of}
 use Rattle.def_book.specs.Read.{Read, gives, malformed, limits, def_of, read_rows, read_book}
 
 -- the definition that is made of the walk's tables
@@ -23,7 +23,7 @@ abbrev tested : List ℕ → Bool → Bool → Bool → Bool → Read
 tested s a b c e =
     cond a
     (cond b
-    (cond c (cond e (gives (def_of (get_or s 5 0) (rows (drop 6 s)))) limits) (malformed (6 + length (drop 6 s))))
+    (cond c (cond e (gives (def_of (get_or s 5 0) (rows (drop 6 s)))) (limits (length (nodes_of (rows (drop 6 s)))) (length (edges_of (rows (drop 6 s)))))) (malformed (6 + length (drop 6 s))))
     (malformed (6 + size (rows (drop 6 s)))))
     (malformed 0)
 
@@ -56,7 +56,7 @@ module _ (s : List ℕ) where
         unfolding read_book read_rows
         all_there = ap (λ a. tested s a taken many fits) h ∙ ap (λ b. tested s true b many fits) (eq-eqb _ _ t) ∙ ap (λ c. tested s true true c fits) (eq-eqb _ _ m)
 
-        pub beyond : allowed (def_of (get_or s 5 0) (rows (drop 6 s))) ≡ false → read_book s ≡ limits
+        pub beyond : allowed (def_of (get_or s 5 0) (rows (drop 6 s))) ≡ false → read_book s ≡ limits (length (nodes_of (rows (drop 6 s)))) (length (edges_of (rows (drop 6 s))))
         beyond f = all_there ∙ ap (tested s true true true) f
 
         pub given : allowed (def_of (get_or s 5 0) (rows (drop 6 s))) ≡ true → read_book s ≡ gives (def_of (get_or s 5 0) (rows (drop 6 s)))

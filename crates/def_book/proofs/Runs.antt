@@ -20,8 +20,8 @@ use Rattle.node.proofs.NameLaws.{name_long}
 use Rattle.synthdef.specs.Rows.{every}
 use Rattle.def_book.specs.Held.{held}
 use Rattle.def_book.specs.Bytes.{Row, node, edge, param, long, joined}
-use Rattle.def_book.specs.Rows.{pair_at, is_record, is_zero, name_at, name_fits, is_node, node_at, edge_at, param_at, row_at, rows, size, more, gather, as_node, nodes_of}
-use Rattle.def_book.specs.WellFormed.{IsRecord, IsName, IsRow, of_node}
+use Rattle.def_book.specs.Rows.{pair_at, is_record, is_zero, name_at, name_fits, is_node, node_at, edge_at, param_at, row_at, rows, size, more, gather, as_node, as_edge as edge_of, nodes_of, edges_of}
+use Rattle.def_book.specs.WellFormed.{IsRecord, IsName, IsRow, of_node, of_edge}
 use Rattle.def_book.proofs.Held.{length_held, get_d_held}
 use Rattle.def_book.proofs.Walk.{Front, a_node, an_edge, a_param, no_row, front, as_node_lem, as_edge, as_param_lem, record_fits, rows_nil, rows_none, rows_some}
 
@@ -152,6 +152,7 @@ pub record Begins (r t : List ℕ) : Type 0 where
   pub read : row_at (r ++ t) ≡ Some row
   pub size : long row ≡ length r
   pub node_or_not : is_some (as_node row) ≡ of_node r
+  pub edge_or_not : is_some (edge_of row) ≡ of_edge r
 
 pub row_goes_on : (r t : List ℕ) → IsRow r → Begins r t
 row_goes_on r t (inl n) =
@@ -163,6 +164,7 @@ row_goes_on r t (inl n) =
       read = as_node_lem (r ++ t) (and_from _ _ framed (and_from _ _ name (le-leb _ _ sorts)));
       size = sym n.framed.long;
       node_or_not = sym (eq-eqb _ 2 n.framed.says_kind);
+      edge_or_not = sym (ap (λ k. eqb k 3) n.framed.says_kind);
     }
 row_goes_on r t (inr (inl e)) =
     let framed = record_goes_on 3 7 r (omega arith) t e in
@@ -171,6 +173,7 @@ row_goes_on r t (inr (inl e)) =
       read = as_edge (r ++ t) (no_node 7 (r ++ t) (record_says 3 7 (r ++ t) framed).0 refl) framed;
       size = sym e.long;
       node_or_not = sym (ap (λ k. eqb k 2) e.says_kind);
+      edge_or_not = sym (eq-eqb _ 3 e.says_kind);
     }
 row_goes_on r t (inr (inr p)) =
     let framed = record_goes_on 4 22 r (omega arith) t p.framed in
@@ -181,26 +184,34 @@ row_goes_on r t (inr (inr p)) =
       read = as_param_lem (r ++ t) (no_node 22 (r ++ t) says refl) (other_length 3 7 22 (r ++ t) says refl) (and_from _ _ framed name);
       size = sym p.framed.long;
       node_or_not = sym (ap (λ k. eqb k 2) p.framed.says_kind);
+      edge_or_not = sym (ap (λ k. eqb k 3) p.framed.says_kind);
     }
 
 -- ---- rows one after the other
--- how many rows are nodes, from one row more
+-- how many rows are of a sort, from one row more
 length_more : {A : Type 0} (o : Option A) (l : List A) → length (more o l) ≡ counted (is_some o) (length l)
 length_more None l = refl
 length_more (Some x) l = refl
 
 -- rows that stand in bytes are read, up to the end
-pub read_all : (rs : List (List ℕ)) → ((r : List ℕ) → In r rs → IsRow r) → (size (rows (joined rs)) ≡ length (joined rs)) × (length (nodes_of (rows (joined rs))) ≡ count of_node rs)
+pub record AllRead (rs : List (List ℕ)) : Type 0 where
+  pub size : size (rows (joined rs)) ≡ length (joined rs)
+  pub nodes : length (nodes_of (rows (joined rs))) ≡ count of_node rs
+  pub edges : length (edges_of (rows (joined rs))) ≡ count of_edge rs
+
+pub read_all : (rs : List (List ℕ)) → ((r : List ℕ) → In r rs → IsRow r) → AllRead rs
 unfolding joined size gather
-read_all [] h = (ap size rows_nil, ap (λ l. length (nodes_of l)) rows_nil)
+read_all [] h = record { size = ap size rows_nil; nodes = ap (λ l. length (nodes_of l)) rows_nil; edges = ap (λ l. length (edges_of l)) rows_nil }
 read_all (r ∷ rs) h =
     let ih = read_all rs (λ x i. h x (inr i)) in
     let b = row_goes_on r (joined rs) (h r (inl refl)) in
     let there : rows (r ++ joined rs) ≡ b.row ∷ rows (joined rs) =
-    rows_some (r ++ joined rs) b.row b.read ∙ ap (λ s. b.row ∷ rows s) (drop_at r (joined rs) (long b.row) (sym b.size)) in (
-      ap size there ∙ omega (arith, b.size, ih.0, length-append r (joined rs)),
-      ap (λ l. length (nodes_of l)) there ∙ length_more (as_node b.row) (nodes_of (rows (joined rs))) ∙ ap (λ c. counted c (length (nodes_of (rows (joined rs))))) b.node_or_not ∙ ap (counted (of_node r)) ih.1,
-    )
+    rows_some (r ++ joined rs) b.row b.read ∙ ap (λ s. b.row ∷ rows s) (drop_at r (joined rs) (long b.row) (sym b.size)) in
+    record {
+      size = ap size there ∙ omega (arith, b.size, ih.size, length-append r (joined rs));
+      nodes = ap (λ l. length (nodes_of l)) there ∙ length_more (as_node b.row) (nodes_of (rows (joined rs))) ∙ ap (λ c. counted c (length (nodes_of (rows (joined rs))))) b.node_or_not ∙ ap (counted (of_node r)) ih.nodes;
+      edges = ap (λ l. length (edges_of l)) there ∙ length_more (edge_of b.row) (edges_of (rows (joined rs))) ∙ ap (λ c. counted c (length (edges_of (rows (joined rs))))) b.edge_or_not ∙ ap (counted (of_edge r)) ih.edges;
+    }
 
 -- the runs of bytes of rows
 unfoldable pub cut : List Row → List ℕ → List (List ℕ)

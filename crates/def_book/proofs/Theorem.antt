@@ -36,7 +36,7 @@ use Rattle.def_book.proofs.Restores.{row_named, clean_row, rows_back, size_back,
 use Rattle.def_book.proofs.Clean.{rows_few, counts_there, nodes_there, params_there, rows_allowed_lem, canonical_allowed}
 
 given : (d : SynthDef) → allowed d ≡ true → within d ≡ gives d
-given d h = ap (λ b. cond b (gives d) limits) h
+given d h = ap (λ b. cond b (gives d) (limits d.nodes.count d.edges.count)) h
 
 -- ---- the rows of a definition
 every_append : {A : Type 0} (q : A → Bool) (a b : List A) → every q a ≡ true → every q b ≡ true → every q (a ++ b) ≡ true
@@ -165,7 +165,7 @@ accepted_is s d h = go (is_heading s) refl (eqb (size (rows (drop 6 s))) (length
 
     go : (a : Bool) → is_heading s ≡ a → (b : Bool) → eqb (size (rows (drop 6 s))) (length (drop 6 s)) ≡ b → (c : Bool) → eqb (length (nodes_of (rows (drop 6 s)))) (get_or s 4 0) ≡ c
         → (e : Bool) → allowed made ≡ e
-        → cond a (cond b (cond c (cond e (gives made) limits) (malformed (6 + length (drop 6 s)))) (malformed (6 + size (rows (drop 6 s))))) (malformed 0) ≡ gives d → Accepted s d
+        → cond a (cond b (cond c (cond e (gives made) (limits made.nodes.count made.edges.count)) (malformed (6 + length (drop 6 s)))) (malformed (6 + size (rows (drop 6 s))))) (malformed 0) ≡ gives d → Accepted s d
     go true p true q true r true f k =
         let same : d ≡ made = cc in
         record {
@@ -219,17 +219,18 @@ wellformed_read s w e =
     let body : drop 6 s ≡ joined w.others = ap (drop 6) w.whole ∙ drop_at w.heading (joined w.others) 6 w.first.long in
     let all = read_all w.others w.rows in
     let said : get_or s 4 0 ≡ get_or w.heading 4 0 = ap (λ l. get_or l 4 0) w.whole ∙ get_or-append w.heading (joined w.others) 0 4 (omega (arith, w.first.long)) in
-    let taken : size (rows (drop 6 s)) ≡ length (drop 6 s) = ap (λ l. size (rows l)) body ∙ all.0 ∙ sym (ap length body) in
-    let many : length (nodes_of (rows (drop 6 s))) ≡ get_or s 4 0 = ap (λ l. length (nodes_of (rows l))) body ∙ all.1 ∙ w.nodes ∙ sym said in
-    let read : read_book s ≡ within (def_of (get_or s 5 0) (rows (drop 6 s))) = rw (head, eq-eqb _ _ taken, eq-eqb _ _ many) in
-    go (allowed (def_of (get_or s 5 0) (rows (drop 6 s)))) (ap read_number (sym read) ∙ e)
+    let taken : size (rows (drop 6 s)) ≡ length (drop 6 s) = ap (λ l. size (rows l)) body ∙ all.size ∙ sym (ap length body) in
+    let many : length (nodes_of (rows (drop 6 s))) ≡ get_or s 4 0 = ap (λ l. length (nodes_of (rows l))) body ∙ all.nodes ∙ w.nodes ∙ sym said in
+    let made = def_of (get_or s 5 0) (rows (drop 6 s)) in
+    let read : read_book s ≡ within made = rw (head, eq-eqb _ _ taken, eq-eqb _ _ many) in
+    go made (allowed made) (ap read_number (sym read) ∙ e)
   where
-    go : (b : Bool) → read_number (cond b (gives (def_of (get_or s 5 0) (rows (drop 6 s)))) limits) ≡ 18 → ⊥
-    go true k = omega arith
-    go false k = omega arith
+    go : (d : SynthDef) (b : Bool) → read_number (cond b (gives d) (limits d.nodes.count d.edges.count)) ≡ 18 → ⊥
+    go d true k = omega arith
+    go d false k = omega arith
 
 -- a book that is not malformed is well formed
-read_wellformed : (s : List ℕ) → (read_number (read_book s) ≡ 18 → ⊥) → WellFormed s
+pub read_wellformed : (s : List ℕ) → (read_number (read_book s) ≡ 18 → ⊥) → WellFormed s
 unfolding read_book read_rows
 read_wellformed s h = go (is_heading s) refl (eqb (size (rows (drop 6 s))) (length (drop 6 s))) refl (eqb (length (nodes_of (rows (drop 6 s)))) (get_or s 4 0)) refl h
   where
@@ -259,4 +260,4 @@ malformed_exactly s = (λ e w. wellformed_read s w e, from (read_book s) refl)
     from : (r : Read) → read_book s ≡ r → (WellFormed s → ⊥) → read_number (read_book s) ≡ 18
     from (malformed at) e h = ap read_number e
     from (gives d) e h = absurd (h (read_wellformed s (λ k. omega (arith, ap read_number (sym e) ∙ k))))
-    from limits e h = absurd (h (read_wellformed s (λ k. omega (arith, ap read_number (sym e) ∙ k))))
+    from (limits n m) e h = absurd (h (read_wellformed s (λ k. omega (arith, ap read_number (sym e) ∙ k))))

@@ -6,3 +6,4 @@ pub mod Body
 pub mod Write
 pub mod Put
 pub mod WellFormed
+pub mod Counts

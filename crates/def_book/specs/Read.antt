@@ -18,17 +18,17 @@ use Rattle.def_book.specs.Rows.{is_heading, rows, size, nodes_of, edges_of, para
 use Rattle.def_book.specs.declared.answer.ReadError.{ReadError}
 use Rattle.def_book.specs.declared.answer.ReadError.TheVariants as error
 
--- what reading gives: the definition, or a refusal: 18 with the position of what is malformed, or 9
+-- what reading gives: the definition, or a refusal: 18 with the position of what is malformed, or 9 with the count of nodes and of edges
 pub data Read : Type 0 where
   gives : SynthDef → Read
   malformed : ℕ → Read
-  limits : Read
+  limits : ℕ → ℕ → Read
 
 -- "New numbers: 18 malformed record .."; 0 is no refusal
 abbrev pub read_number : Read → ℕ
 read_number (gives d) = 0
 read_number (malformed at) = 18
-read_number limits = 9
+read_number (limits nodes edges) = 9
 
 -- ---- the tables of a definition; past their rows they are blank
 abbrev pub blank_name : Name
@@ -56,13 +56,20 @@ tables ns es ps output = record { nodes = node_table ns; edges = edge_table es; 
 abbrev pub def_of : ℕ → List Row → SynthDef
 def_of output rs = tables (nodes_of rs) (edges_of rs) (params_of rs) output
 
-abbrev pub blank_def : SynthDef
-blank_def = tables [] [] [] 0
+-- so many nodes and edges, and each is blank. It is within no limits: a node without a name is not, nor is no node
+abbrev pub blank_def : ℕ → ℕ → SynthDef
+blank_def nodes edges =
+    record {
+      nodes = record { rows = held 24 blank_node []; count = nodes };
+      edges = record { rows = held 48 no_edge []; count = edges };
+      params = param_table [];
+      output = 0;
+    }
 
 -- ---- the book
 -- "9, after 18"
 abbrev pub within : SynthDef → Read
-within d = cond (allowed d) (gives d) limits
+within d = cond (allowed d) (gives d) (limits d.nodes.count d.edges.count)
 
 -- behind a heading: rows up to the end of the book, as many nodes as the heading says
 unfoldable pub read_rows : ℕ → ℕ → ℕ → List Row → Read
@@ -78,13 +85,14 @@ read_book s = cond (is_heading s) (read_rows (get_or s 4 0) (get_or s 5 0) (leng
 abbrev pub read_of : Result SynthDef ReadError → Read
 read_of (Ok d) = gives d
 read_of (Err (error.Malformed at)) = malformed at
-read_of (Err error.Limits) = limits
+read_of (Err (error.Limits nodes edges)) = limits nodes edges
 
--- the definition that goes on from a reading: of a refused book the blank one
+-- The definition that goes on from a reading. Of a book beyond the limits it is blank but for its counts, which a seal asks for; of a
+-- malformed one it has none
 abbrev pub def_in : Read → SynthDef
 def_in (gives d) = d
-def_in (malformed at) = blank_def
-def_in limits = blank_def
+def_in (malformed at) = blank_def 0 0
+def_in (limits nodes edges) = blank_def nodes edges
 
 -- ---- what a book keeps of a definition: the rows that count, with the unused bytes of a name at zero
 abbrev pub clean_name : Name → Name

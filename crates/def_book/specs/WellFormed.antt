@@ -35,6 +35,9 @@ IsRow r = IsNode r ⊎ (IsRecord 3 7 r ⊎ IsParam r)
 abbrev pub of_node : List ℕ → Bool
 of_node r = eqb (pair_at r 2) 2
 
+abbrev pub of_edge : List ℕ → Bool
+of_edge r = eqb (pair_at r 2) 3
+
 pub record WellFormed (s : List ℕ) : Type 0 where
   pub heading : List ℕ
   pub others : List (List ℕ)

@@ -4,12 +4,12 @@ ghost use Rattle.def_book.specs.Write.{wrote_number, wrote_of};
 
 use synthdef::def::SynthDef;
 
-// Why a book gives no definition: what stands at this position in the book is malformed, or what it holds is not within the limits of a
-// definition.
+/// Why a book gives no definition: what stands at this position in the book is malformed, or what it holds is not within the limits of a
+/// definition. Of that it is told how many nodes and edges there are, as given: a seal asks for no more.
 #[derive(Clone, Copy)]
 pub enum ReadError {
     Malformed(usize),
-    Limits,
+    Limits { nodes: usize, edges: usize },
 }
 
 // Why a definition is not written: it is not within the limits, or the buffer is too short. The numbers are those of the refusals, since a
@@ -27,7 +27,7 @@ pub fn read_number(read: &Result<SynthDef, ReadError>) -> u8
     match read {
         Ok(_) => 0,
         Err(ReadError::Malformed(_)) => 18,
-        Err(ReadError::Limits) => 9,
+        Err(ReadError::Limits { .. }) => 9,
     }
 }
 

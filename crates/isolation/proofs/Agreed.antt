@@ -50,7 +50,8 @@ use Rattle.ledger.proofs.Ids.{Ids, once, unique, above, same_id}
 use Rattle.ledger.proofs.Managed.{config_step}
 use Rattle.isolation.specs.Story.{Entry, if_done, if?, is_bus, ports_at, held_by, lost_if, on_bus, voice_of, owner_voice, meets, timed_frees, entry, write, story}
 use Rattle.isolation.specs.Story as story
-use Rattle.isolation.specs.Isolated.{Covered, full_in, AgreedStories}
+use Rattle.isolation.specs.Isolated.{Covered, AgreedStories}
+use Rattle.isolation.proofs.Cover.{full_in, not_full}
 use Rattle.isolation.specs.Agree.{Pair, Matching, SameNode, SameVoice, OneToOne, accepted, on_it, feeds, is_call_of, freed_by_events, EachVoice, let_in, Arrive, Equal, Agree}
 use Rattle.isolation.specs.Agree as agree
 use Rattle.isolation.proofs.Bus.{Own, empty, mine, BusPorts, Bus, port_count, follow}
@@ -662,13 +663,13 @@ module _ (m : Matching) (nodes : OneToOne m.nodes) (voices : OneToOne m.voices) 
   stories : {xs ys : List Call} {k l : Ledger} → Agree m b₁ b₂ xs k ys l → Twins k l → Covered xs k → Covered ys l → story b₁ xs k ≡ story b₂ ys l
   stories agree.ends t c d = refl
   stories (agree.first {x = x} {xs = xs} {k = k} {l = l} h a) t c d =
-      ap (λ o. write o (story b₁ xs (step x k).ledger)) (no_entry b₁ k x h) ∙ stories a (first_alone k l t x h (c _ (inl refl))) (λ n i. c n (inr i)) d
+      ap (λ o. write o (story b₁ xs (step x k).ledger)) (no_entry b₁ k x h) ∙ stories a (first_alone k l t x h (not_full _ (c _ (inl refl)))) (λ n i. c n (inr i)) d
   stories (agree.second {y = y} {ys = ys} {k = k} {l = l} h a) t c d =
-      stories a (second_alone k l t y h (d _ (inl refl))) c (λ n i. d n (inr i)) ∙ sym (ap (λ o. write o (story b₂ ys (step y l).ledger)) (no_entry b₂ l y h))
+      stories a (second_alone k l t y h (not_full _ (d _ (inl refl)))) c (λ n i. d n (inr i)) ∙ sym (ap (λ o. write o (story b₂ ys (step y l).ledger)) (no_entry b₂ l y h))
   stories (agree.both {x = x} {y = y} {xs = xs} {ys = ys} {k = k} {l = l} h g e a) t c d =
       let s = says k l t x y e h g in
       ap (λ o. write o (story b₁ xs (step x k).ledger)) s.1
-      ∙ ap (λ r. s.0 ∷ r) (stories a (both_go k l t x y e h g (c _ (inl refl)) (d _ (inl refl)) s) (λ n i. c n (inr i)) (λ n i. d n (inr i)))
+      ∙ ap (λ r. s.0 ∷ r) (stories a (both_go k l t x y e h g (not_full _ (c _ (inl refl))) (not_full _ (d _ (inl refl))) s) (λ n i. c n (inr i)) (λ n i. d n (inr i)))
       ∙ sym (ap (λ o. write o (story b₂ ys (step y l).ledger)) s.2)
 
 pub agreed : AgreedStories

@@ -49,7 +49,8 @@ use Rattle.ledger.proofs.Managed.{config_step}
 use Rattle.ledger.proofs.Nodes.{own_new}
 use Rattle.isolation.specs.Story.{Entry, rendered, if_done, if?, is_bus, held_by, lost_if, on_bus, voice_of, owner_voice, timed_frees, entry, story, Told, BusVoice, told, bus_voice, tell, write, tale, shown, voices_on}
 use Rattle.isolation.specs.Story as story
-use Rattle.isolation.specs.Isolated.{full_in, Covered}
+use Rattle.isolation.specs.Isolated.{Covered}
+use Rattle.isolation.proofs.Cover.{full_in, not_full}
 use Rattle.isolation.proofs.Bus.{Own, Bus, empty, port_count, follow, new_bus, quiet, level_now}
 use Rattle.isolation.proofs.Bus as bus
 use Rattle.isolation.proofs.Part.{room_of, host_ports, own_of, ports_now, bus_of_lem, bus_of, Tidy}
@@ -288,7 +289,7 @@ tale_same b [] l t per c = refl
 tale_same b (x ∷ xs) l t per c = go (entry b x l) g.follows (tale_same b xs (step x l).ledger g.tidy (ap (λ (z : Config). z.scope) (config_step x l t.own.0) ∙ per) (λ a i. c a (inr i)))
   where
     g : Goes b (entry b x l) (step x l) l
-    g = goes x l t per (c (step x l).answer (inl refl)) b
+    g = goes x l t per (not_full _ (c (step x l).answer (inl refl))) b
 
     l' : Ledger
     l' = (step x l).ledger
@@ -333,7 +334,7 @@ bus_run b (x ∷ xs) l t per c =
     (r.0, r.1 ∙ go (entry b x l) g.follows)
   where
     g : Goes b (entry b x l) (step x l) l
-    g = goes x l t per (c (step x l).answer (inl refl)) b
+    g = goes x l t per (not_full _ (c (step x l).answer (inl refl))) b
 
     l' : Ledger
     l' = (step x l).ledger

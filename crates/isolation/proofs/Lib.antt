@@ -24,3 +24,5 @@ pub mod Theorem
 pub mod Scenes
 pub mod AgreeScene
 pub mod Store
+pub mod Cover
+pub mod RefusedScene

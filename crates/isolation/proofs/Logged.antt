@@ -52,7 +52,7 @@ use Rattle.model.specs.Render.{render_refusal}
 use Rattle.model.specs.Call as call
 use Rattle.isolation.specs.Story.{phase_of, Entry, if_done, if?, is_bus, lost_if, held_by, on_bus, voice_of, owner_voice, entry}
 use Rattle.isolation.specs.Story as story
-use Rattle.isolation.specs.Isolated.{full_in}
+use Rattle.isolation.proofs.Cover.{full_in}
 use Rattle.isolation.proofs.Bus.{Own, BusPorts, Bus, is_number}
 use Rattle.isolation.proofs.Bus as bus
 use Rattle.isolation.proofs.Part.{host_ports, own_of, ports_now, own_voices, bus_of, Tidy, room_of}

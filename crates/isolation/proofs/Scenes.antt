@@ -14,6 +14,7 @@ use Rattle.lists.specs.Member.{In}
 use Rattle.lists.proofs.Member.{and_left, and_right}
 use Rattle.synthdef.specs.Plan.{settled}
 use Rattle.node.specs.Silence.{silence_pass_through, rules}
+use Rattle.node.specs.declared.refusal.Refusal.TheVariants.{TableFull, IdsUsedUp}
 use Rattle.rank.specs.Order.{among, fed, released, walk, order, whole, count_up}
 use Rattle.prepare.specs.Live.{rising_from, live_nodes, live_ids, processing_order}
 use Rattle.prepare.specs.Required.{any, lacks, lacking}
@@ -29,7 +30,8 @@ use Rattle.model.specs.Call as call
 use Rattle.ledger.specs.Ledger.{new_ledger}
 use Rattle.ledger.specs.Call.{run}
 use Rattle.isolation.specs.Story.{Entry, opened, plugged, lost, managed, cleared, rendered, story, Phase, held, fading, Told, BusVoice, tale, all_victims, written, is_held}
-use Rattle.isolation.specs.Isolated.{full_in, Isolation}
+use Rattle.isolation.specs.Isolated.{Isolation}
+use Rattle.isolation.proofs.Cover.{full_in, is_not_full}
 use Rattle.isolation.proofs.Theorem.{isolated}
 
 abbrev c : BudgetScope → Config
@@ -84,10 +86,10 @@ unfoldable pub every : List Answer → Bool
 every [] = true
 every (a ∷ l) = not (full_in (refusal_in a)) && every l
 
-pub covered : (l : List Answer) → every l ≡ true → (a : Answer) → In a l → full_in (refusal_in a) ≡ false
+pub covered : (l : List Answer) → every l ≡ true → (a : Answer) → In a l → (refusal_in a ≡ Some TableFull → ⊥) × (refusal_in a ≡ Some IdsUsedUp → ⊥)
 unfolding every
 covered [] h a i = absurd i
-covered (x ∷ l) h a (inl p) = ap (λ z. full_in (refusal_in z)) p ∙ not-true _ (and_left _ _ h)
+covered (x ∷ l) h a (inl p) = is_not_full (refusal_in a) (ap (λ z. full_in (refusal_in z)) p ∙ not-true _ (and_left _ _ h))
 covered (x ∷ l) h a (inr i) = covered l (and_right (not (full_in (refusal_in x))) _ h) a i
 
 every_busy : every (run busy (new_ledger (c BudgetScope.PerGroup))).answers ≡ true

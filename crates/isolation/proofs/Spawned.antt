@@ -36,7 +36,7 @@ use Rattle.ledger.proofs.Victim.{next_out_in, steal_voice_lem}
 use Rattle.ledger.specs.Claim.{may_go}
 use Rattle.isolation.specs.Story.{phase_of, shown}
 use Rattle.isolation.specs.Story as story
-use Rattle.isolation.specs.Isolated.{full_in}
+use Rattle.isolation.proofs.Cover.{full_in}
 use Rattle.isolation.proofs.Bus.{BusPorts, is_number}
 use Rattle.isolation.proofs.Bus as bus
 use Rattle.isolation.proofs.Part.{host_ports, own_of, ports_now, own_voices, bus_of, Tidy}

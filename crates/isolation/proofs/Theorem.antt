@@ -34,7 +34,8 @@ use Rattle.ledger.proofs.Marks.{log_stays}
 use Rattle.ledger.proofs.Records.{RecordedOf, recorded_step, recorded_new}
 use Rattle.isolation.specs.Story.{Entry, if_done, if?, is_bus, lost_if, held_by, on_bus, voice_of, owner_voice, entry, write, story, all_victims, written, from_to, nth}
 use Rattle.isolation.specs.Story as story
-use Rattle.isolation.specs.Isolated.{Covered, Isolated, IsolatedUpToIds, full_in}
+use Rattle.isolation.specs.Isolated.{Covered, Isolated, IsolatedUpToIds}
+use Rattle.isolation.proofs.Cover.{full_in, not_full}
 use Rattle.isolation.proofs.Agreed.{agreed}
 use Rattle.isolation.proofs.Bus.{Bus}
 use Rattle.isolation.proofs.Bus as bus
@@ -152,7 +153,7 @@ record Recs (b : NodeId) (xs : List Call) (l : Ledger) (ts : List Item) : Type 0
 recs : (b : NodeId) (xs : List Call) (l : Ledger) (ts : List Item) → Tidy l → RecordedOf l → l.shared.config.scope ≡ PerGroup → Covered xs l → BusRecordsOf b ts l → Recs b xs l ts
 recs b [] l ts t r per c z = record { items = ts; logged = z; strips = refl; ats = sym (append-nil (map At ts)) }
 recs b (x ∷ xs) l ts t r per c z =
-    let covered = c (step x l).answer (inl refl) in
+    let covered = not_full _ (c (step x l).answer (inl refl)) in
     let g = goes x l t per covered b in
     let s = stepped b x l ts t r per covered z in
     let n = recs b xs (step x l).ledger s.items g.tidy (recorded_step x l r) (ap (λ (y : Config). y.scope) (config_step x l t.own.0) ∙ per) (λ a i. c a (inr i)) s.logged in
@@ -229,7 +230,7 @@ isolated_up_to_ids c per m b₁ b₂ xs₁ xs₂ k₁ k₂ a = isolated c per b�
 tidy_run : (xs : List Call) (l : Ledger) → Tidy l → l.shared.config.scope ≡ PerGroup → Covered xs l → Tidy (run xs l).ledger
 tidy_run [] l t per c = t
 tidy_run (x ∷ xs) l t per c =
-    tidy_run xs (step x l).ledger (goes x l t per (c (step x l).answer (inl refl)) (record { 0 = 0 })).tidy (ap (λ (y : Config). y.scope) (config_step x l t.own.0) ∙ per) (λ a i. c a (inr i))
+    tidy_run xs (step x l).ledger (goes x l t per (not_full _ (c (step x l).answer (inl refl))) (record { 0 = 0 })).tidy (ap (λ (y : Config). y.scope) (config_step x l t.own.0) ∙ per) (λ a i. c a (inr i))
 
 pub named : (c : Config) → c.scope ≡ PerGroup → (xs : List Call) → Covered xs (new_ledger c) → (u v : Voice) → In u (run xs (new_ledger c)).ledger.voices → In v (run xs (new_ledger c)).ledger.voices
     → u.bus.0 ≡ v.bus.0 → u.sequence ≡ v.sequence → u ≡ v

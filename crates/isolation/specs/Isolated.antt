@@ -1,11 +1,10 @@
 -- Paper 6's theorem, as a statement: "prove under `PerGroup`: two histories of stores made alike, which agree ..., give that bus the same
 -- admissions, victims by place among its own voices, ports, fades, seeds, and levels and cut marks of records still held in both.
 -- Voice ids, node ids and record numbers may differ, and calls match up to these."
-use Rattle.std.specs.Prelude.{ℕ, ◌≡◌, List, [], map, Bool, false, ◌||◌, length, eqb, Option, None, Some}
+use Rattle.std.specs.Prelude.{ℕ, ◌≡◌, List, [], map, length, Some}
 use Rattle.lists.specs.Member.{In}
 use Rattle.node.specs.declared.record.NodeId.{NodeId}
-use Rattle.node.specs.declared.refusal.Refusal.{Refusal}
-use Rattle.node.specs.Refusal.{number_of}
+use Rattle.node.specs.declared.refusal.Refusal.TheVariants.{TableFull, IdsUsedUp}
 use Rattle.voice.specs.declared.policy.BudgetScope.TheVariants.{PerGroup}
 use Rattle.voice.specs.declared.steals.StealRecord.{StealRecord}
 use Rattle.store.specs.declared.config.Config.{Config}
@@ -17,16 +16,10 @@ use Rattle.ledger.specs.Claim.{ledger_after, held_record}
 use Rattle.isolation.specs.Agree.{Matching, Agreement}
 use Rattle.isolation.specs.Story.{story, tale, bus_voice, voices_on, all_victims, written, nth}
 
--- "Histories that meet refusal 7 or 8 are not covered."
-abbrev pub is_full : Refusal → Bool
-is_full r = eqb (number_of r) 7 || eqb (number_of r) 8
-
-abbrev pub full_in : Option Refusal → Bool
-full_in None = false
-full_in (Some r) = is_full r
-
+-- A history is covered that meets neither 7, a table that is full, nor 8, ids that are used up: tables and ids are shared by all buses. What
+-- else it meets, 11, 12 and every refused call of the host, is covered: the histories of proofs/RefusedScene meet these.
 abbrev pub Covered : List Call → Ledger → Type 0
-Covered xs l = (a : Answer) → In a (run xs l).answers → full_in (refusal_in a) ≡ false
+Covered xs l = (a : Answer) → In a (run xs l).answers → (refusal_in a ≡ Some TableFull → ⊥) × (refusal_in a ≡ Some IdsUsedUp → ⊥)
 
 pub record Isolation (c : Config) (b₁ b₂ : NodeId) (xs₁ xs₂ : List Call) : Type 0 where
   -- entry by entry: the answer, and the voices of the bus with numbers (seeds), ports given and held, fades and levels

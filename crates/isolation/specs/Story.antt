@@ -168,7 +168,7 @@ pub record Told : Type 0 where
 abbrev pub told : NodeId → Answer → Ledger → Told
 told b a l = record { answer = shown (refusal_in a); voices = map (bus_voice l) (voices_on b l) }
 
-abbrev pub tell : Option Entry → Told → List Told → List Told
+abbrev pub tell : {A : Type 0} → Option Entry → A → List A → List A
 tell None t ts = ts
 tell (Some e) t ts = t ∷ ts
 

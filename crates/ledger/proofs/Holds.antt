@@ -1,4 +1,4 @@
--- What is known of the ledger after a list of calls, said of the store (SPEC 21.2).
+-- What is known of the ledger after a list of calls, said of the store: claims 2 to 5.
 use Prim.Native.Nat.{ℕ, ◌+◌, ◌≤◌, ◌<◌, ◌*◌}
 use native.Mathlib.Omega.{arith}
 use mathlib.Core.Path.{◌≡◌, refl, sym, ap, ap₂, ◌∙◌, subst}
@@ -39,11 +39,12 @@ use Rattle.graph.specs.Refuse.{add_refusal}
 use Rattle.node.specs.declared.record.VoiceId.{VoiceId}
 use Rattle.node.specs.declared.refusal.Refusal.{Refusal}
 use Rattle.voice.specs.declared.voices.VoiceState.{VoiceState}
+use Rattle.refusals.proofs.Spawn.{admissible}
 use Rattle.ledger.specs.Ledger.{Ledger}
 use Rattle.ledger.specs.Clear as ledger
 use Rattle.ledger.specs.Call.{step}
 use Rattle.ledger.specs.Holder.{voice}
-use Rattle.ledger.specs.Claim.{Arrives, Holds, Losses, Stealing, GoesOn, Why, Fate, Reclaimed, tracks, is_let, spawn_answer, is_sounded, node_ids, owner_at, holder_at, Shows}
+use Rattle.ledger.specs.Claim.{Arrives, Holds, Losses, GoesOn, Why, Fate, Reclaimed, tracks, is_let, spawn_answer, is_sounded, node_ids, owner_at, holder_at, Shows}
 use Rattle.ledger.specs.Call as ledgerCall
 use Rattle.ledger.proofs.Arrives.{ArrivesAt, managed_comes, loose_comes}
 use Rattle.ledger.proofs.Words as words
@@ -257,8 +258,9 @@ module _ (c : Config) (l : Ledger) (known : Known c l) where
         stay = λ b x v i. next (call.spawn_managed x) (λ t. In v t.model.voices) (
             let w = in_map (shown c) l.voices v i in
             subst (λ z. In z (map (shown c) (step (call.spawn_managed x) l).ledger.voices)) (sym w.2) (in_of_map (shown c) (step (call.spawn_managed x) l).ledger.voices w.0 (known.stay b x w.0 w.1)));
-        spawns = λ n b t x h. next (call.spawn_managed x) (λ z. z.answer ≡ call.spawned (spawn_answer x.bus x.rank (store_of c l)))
-            (spawn_answer_lem x l known.kept.sound n (ap (λ (z : Config). z.budget) is ∙ b) (subst (λ (z : Config). Stealing z.policy) (sym is) t) (sym (refusal_same c l.shared l.voices x.def x.bus x.rank) ∙ h)
+        spawns = λ x may. next (call.spawn_managed x) (λ z. z.answer ≡ call.spawned (spawn_answer x.bus x.rank (store_of c l)))
+            (spawn_answer_lem x l known.kept.sound (λ b v i. (known.loose (sym (ap (λ (z : Config). z.budget) is) ∙ b)).voices v i)
+            (sym (refusal_same c l.shared l.voices x.def x.bus x.rank) ∙ (admissible l.shared (map (shown c) l.voices) x.def x.bus x.rank).1 may)
             ∙ ap call.spawned (sym (answer_same c x.bus x.rank l is known.kept.sound)));
         arrives = λ x w. next (call.spawn_managed x) (λ t. t.answer ≡ call.spawned (Ok w) → Arrives x (state_under c.budget) w (store_of c l) t.model) (managed_arrives x w);
         arrives_loose = λ x w. next (call.spawn_loose x) (λ t. t.answer ≡ call.spawned (Ok w) → Arrives x Loose w (store_of c l) t.model) (λ e.

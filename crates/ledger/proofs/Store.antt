@@ -52,7 +52,8 @@ use Rattle.ledger.specs.Ledger as ledger
 use Rattle.ledger.specs.Clear as ledgerClear
 use Rattle.ledger.specs.Call.{step}
 use Rattle.ledger.specs.Claim as claim
-use Rattle.ledger.specs.Claim.{ledger_after, is_sounded, tracks, Reclaimed, is_spare, by_other, stays, outranked, answer_when, holder_at, voice_ids, victim_in, Heads, loss_of}
+use Rattle.voice.specs.declared.policy.StealPolicy.{StealPolicy}
+use Rattle.ledger.specs.Claim.{ledger_after, is_sounded, tracks, Reclaimed, steals, is_spare, by_other, stays, outranked, answer_when, holder_at, voice_ids, victim_in, Heads, loss_of}
 use Rattle.ledger.proofs.Words as words
 use Rattle.ledger.proofs.Abstraction.{model_of, tracked_same, fading_same, counted_same, admits_same, find_stored}
 use Rattle.ledger.proofs.NoOverflow.{stored_shown}
@@ -141,14 +142,14 @@ module _ (c : Config) where
   pub tracks_count : (vs : List Voice) → count tracks (map (shown c) vs) ≡ count tracks vs
   tracks_count vs = count_map (shown c) tracks tracks (λ v. tracked_same (λ n. n * c.block) v.state) vs
 
-  spare_same : (bus : NodeId) (r : ℕ) (o : Option Voice) → is_spare bus r (option_map (shown c) o) ≡ is_spare bus r o
-  spare_same bus r None = refl
-  spare_same bus r (Some v) = ap₂ (λ a b. (a || (b && leb v.rank r)) && is_on bus v) (fading_same (λ n. n * c.block) v.state) (tracked_same (λ n. n * c.block) v.state)
+  spare_same : (t : StealPolicy) (bus : NodeId) (r : ℕ) (o : Option Voice) → is_spare t bus r (option_map (shown c) o) ≡ is_spare t bus r o
+  spare_same t bus r None = refl
+  spare_same t bus r (Some v) = ap₂ (λ a b. (a || (steals t && (b && leb v.rank r))) && is_on bus v) (fading_same (λ n. n * c.block) v.state) (tracked_same (λ n. n * c.block) v.state)
 
-  other_same : (bus : NodeId) (r : ℕ) (vs : List Voice) (h : Holder) → by_other bus r (map (shown c) vs) h ≡ by_other bus r vs h
-  other_same bus r vs nobody = refl
-  other_same bus r vs (host k) = refl
-  other_same bus r vs (voice w) = ap (λ o. not (is_spare bus r o)) (find_stored (λ n. n * c.block) w vs) ∙ ap not (spare_same bus r (find (is_voice w) vs))
+  other_same : (t : StealPolicy) (bus : NodeId) (r : ℕ) (vs : List Voice) (h : Holder) → by_other t bus r (map (shown c) vs) h ≡ by_other t bus r vs h
+  other_same t bus r vs nobody = refl
+  other_same t bus r vs (host k) = refl
+  other_same t bus r vs (voice w) = ap (λ o. not (is_spare t bus r o)) (find_stored (λ n. n * c.block) w vs) ∙ ap not (spare_same t bus r (find (is_voice w) vs))
 
   stays_same : (bus : NodeId) (r : ℕ) (vs : List Voice) → every (stays c.scope bus r) (map (shown c) vs) ≡ every (stays c.scope bus r) vs
   stays_same bus r [] = refl
@@ -156,15 +157,15 @@ module _ (c : Config) where
 
   outranked_same : (bus : NodeId) (r : ℕ) (vs : List Voice) → outranked c bus r (map (shown c) vs) ≡ outranked c bus r vs
   outranked_same bus r vs =
-      ap₂ (λ n b. at_budget c.budget n && b) (count_map (shown c) (counted c.scope bus) (counted c.scope bus) (counted_same (λ n. n * c.block) c.scope bus) vs) (stays_same bus r vs)
+      ap₂ (λ n b. at_budget c.budget n && (not (steals c.policy) || b)) (count_map (shown c) (counted c.scope bus) (counted c.scope bus) (counted_same (λ n. n * c.block) c.scope bus) vs) (stays_same bus r vs)
 
   -- by its edges, as by the ledger's holders
   pub answer_same : (bus : NodeId) (r : ℕ) (l : Ledger) → l.shared.config ≡ c → InvariantOf l → claim.spawn_answer bus r (store_of c l) ≡ words.spawn_answer bus r l
   answer_same bus r l is s =
       ap₂ (λ a b. answer_when a b (next_voice l.shared))
       (subst (λ (k : Config). outranked k bus r (map (shown c) l.voices) ≡ outranked k bus r l.voices) (sym is) (outranked_same bus r l.voices))
-      (every_same (λ p. by_other bus r (map (shown c) l.voices) (holder_at l.shared.graph.nodes l.shared.graph.edges bus.0 p)) (λ p. by_other bus r l.voices (l.holders bus.0 p)) (upto (ports_of (node_at l.shared.graph.nodes bus)))
-      (λ p. other_same bus r l.voices (holder_at l.shared.graph.nodes l.shared.graph.edges bus.0 p) ∙ ap (by_other bus r l.voices) (sym (s.held bus.0 p))))
+      (every_same (λ p. by_other l.shared.config.policy bus r (map (shown c) l.voices) (holder_at l.shared.graph.nodes l.shared.graph.edges bus.0 p)) (λ p. by_other l.shared.config.policy bus r l.voices (l.holders bus.0 p)) (upto (ports_of (node_at l.shared.graph.nodes bus)))
+      (λ p. other_same l.shared.config.policy bus r l.voices (holder_at l.shared.graph.nodes l.shared.graph.edges bus.0 p) ∙ ap (by_other l.shared.config.policy bus r l.voices) (sym (s.held bus.0 p))))
 
   pub refusal_same : (d : SharedState) (vs : List Voice) (def : SynthDef) (bus : NodeId) (rank : ℕ) → spawn_refusal d (map (shown c) vs) def bus rank ≡ spawn_refusal d vs def bus rank
   refusal_same d vs def bus rank = rw (length-map vs (shown c))

@@ -4,7 +4,7 @@
 use Prim.Native.Nat.{ℕ, ◌≤◌, ◌<◌}
 use native.Mathlib.Omega.{arith}
 use mathlib.Core.Path.{◌≡◌, refl, sym, ap, ◌∙◌, subst}
-use mathlib.Core.Logic.{inl, inr}
+use mathlib.Core.Logic.{◌⊎◌, inl, inr}
 use mathlib.Core.List.{List, [], ◌∷◌}
 use Rattle.std.specs.Prelude.{Option, None, Some, find, cond, filter}
 use mathlib.Core.Bool.{Bool, true, false, ◌&&◌, ◌||◌, false≢true}
@@ -12,7 +12,8 @@ use lib.Dec.{leb}
 use lib.ListN.{length, length-map}
 use borrow.Author.Tests.{eq-eqb, le-leb, lt-leb, leb-true, leb-false}
 use Rattle.lists.specs.Member.{In}
-use Rattle.lists.proofs.Member.{in_map, in_of_map, some_inj, none_some}
+use Rattle.std.proofs.lemmas.Bool.{and_from}
+use Rattle.lists.proofs.Member.{in_map, in_of_map, some_inj, none_some, and_left, and_right}
 use Rattle.lists.proofs.Filter.{in_filter, filter_in}
 use Rattle.lists.specs.Count.{count}
 use Rattle.lists.proofs.Count.{count_is_length}
@@ -31,12 +32,19 @@ use Rattle.model.specs.SharedState.{SharedState}
 use Rattle.voice.specs.Voice.{is_voice, is_tracked, is_fading, is_on, start_of, tracked_on, fades_on}
 use Rattle.model.specs.Voice.{candidate, candidates}
 use Rattle.model.specs.Spawn.{voice_of, earlier, earliest, else_victim, next_out}
-use Rattle.ledger.specs.Claim.{Stealing, may_go_on}
+use Rattle.ledger.specs.Claim.{Stealing, steals, may_go_on, goes}
 use Rattle.ledger.proofs.Ids.{Ids, once}
 
 -- a policy that steals is not `Reject`
 stealing_not : (t : StealPolicy) → Stealing t → t ≡ policy.Reject → ⊥
 stealing_not t s e = subst Stealing e s
+
+-- whom a policy takes, it takes by stealing
+pub victim_steals : (t : StealPolicy) (r : ℕ) (l : List Candidate) (x : ℕ × VoiceId) → victim t r l ≡ Some x → steals t ≡ true
+victim_steals policy.Reject r l x e = absurd (none_some e)
+victim_steals policy.Oldest r l x e = refl
+victim_steals policy.Newest r l x e = refl
+victim_steals policy.Quietest r l x e = refl
 
 -- ---- among voices
 module _ {n : ℕ} {vs : List Voice} (u : Ids n vs) (d : SharedState) (q : Voice → Bool) where
@@ -96,6 +104,28 @@ module _ {n : ℕ} {vs : List Voice} (u : Ids n vs) (d : SharedState) (q : Voice
       go true e None f h = let l : k ≤ length (candidates d q vs) = leb-true _ _ e in (omega (arith, l, candidates_count d q vs), no_victim u d q t s r f)
       go true e (Some (p, w)) f h = let z : ◌≡◌ {A = ℕ} 0 1 = cc in absurd (omega arith)
 
+  -- any policy rejects at budget alone, and only if it takes nobody or all that count outrank the new voice
+  pub rejects_by : (k : ℕ) (t : StealPolicy) (r : ℕ) → admits (Some k) t r (candidates d q vs) ≡ admission.Reject
+      → (k ≤ count q vs) × ((steals t ≡ false) ⊎ ((v : Voice) → In v vs → q v ≡ true → r < v.rank))
+  rejects_by k policy.Reject r h = (at_least (leb k (length (candidates d q vs))) refl h, inl refl)
+    where
+      at_least : (b : Bool) → leb k (length (candidates d q vs)) ≡ b → decides b None ≡ admission.Reject → k ≤ count q vs
+      at_least false e h = let z : ◌≡◌ {A = ℕ} 0 1 = cc in absurd (omega arith)
+      at_least true e h = let l : k ≤ length (candidates d q vs) = leb-true _ _ e in omega (arith, l, candidates_count d q vs)
+  rejects_by k policy.Oldest r h = let w = rejects_when k policy.Oldest tt r h in (w.0, inr w.1)
+  rejects_by k policy.Newest r h = let w = rejects_when k policy.Newest tt r h in (w.0, inr w.1)
+  rejects_by k policy.Quietest r h = let w = rejects_when k policy.Quietest tt r h in (w.0, inr w.1)
+
+-- an admission steals by a policy that does
+pub steals_by : (b : Option ℕ) (t : StealPolicy) (r : ℕ) (l : List Candidate) (p : ℕ) (w : VoiceId) → admits b t r l ≡ admission.Steal p w → steals t ≡ true
+steals_by None t r l p w h = let z : ◌≡◌ {A = ℕ} 0 1 = cc in absurd (omega arith)
+steals_by (Some k) t r l p w h = go (leb k (length l)) (victim t r l) refl h
+  where
+    go : (b : Bool) (x : Victim) → victim t r l ≡ x → decides b x ≡ admission.Steal p w → steals t ≡ true
+    go false x e h = let z : ◌≡◌ {A = ℕ} 0 1 = cc in absurd (omega arith)
+    go true None e h = let z : ◌≡◌ {A = ℕ} 0 1 = cc in absurd (omega arith)
+    go true (Some x) e h = victim_steals t r l x e
+
 earliest_in : (q : Voice → Bool) (vs : List Voice) (v : Voice) → earliest q vs ≡ Some v → In v vs × (q v ≡ true)
 earliest_in q [] v h = absurd (none_some h)
 earliest_in q (x ∷ vs) v h = go (earliest q vs) refl (q x) refl h (earliest_in q vs)
@@ -143,6 +173,10 @@ none_goes false true true false h k = refl
 none_goes false true false false h k = refl
 none_goes false false c d h k = refl
 
+and_or : (a b : Bool) → (a && b) ≡ false → ((a || false) && b) ≡ false
+and_or true b h = h
+and_or false b h = refl
+
 fading_tracked : (s : VoiceState) (c : Bool) → (is_fading s && c) ≡ true → is_tracked s ≡ true → ⊥
 fading_tracked Tracked c h t = false≢true h
 fading_tracked (Fading f) c h t = false≢true t
@@ -173,15 +207,37 @@ module _ {n : ℕ} {vs : List Voice} (u : Ids n vs) (d : SharedState) (bus : Nod
           (z.0, fading_goes (is_fading v.state) (is_tracked v.state && leb v.rank r) (is_on bus v) z.1, λ t. absurd (fading_tracked v.state (is_on bus v) z.1 t))
       go None e h = tracks bus_victim refl h
 
-  pub next_out_none : Stealing d.config.policy → next_out d bus r vs ≡ None → (v : Voice) → In v vs → may_go_on bus r v ≡ false
-  next_out_none t h v i = go (earliest (fades_on bus) vs) refl h
+  -- and it is one that goes under the policy
+  pub next_out_goes : (v : Voice) → next_out d bus r vs ≡ Some v → goes d.config.policy bus r v ≡ true
+  next_out_goes v h = go (earliest (fades_on bus) vs) refl h
     where
-      tracks : earliest (fades_on bus) vs ≡ None → (x : Victim) → bus_victim ≡ x → voice_of x vs ≡ None → may_go_on bus r v ≡ false
-      tracks f None e h =
-          none_goes (is_fading v.state) (is_tracked v.state) (leb v.rank r) (is_on bus v) (earliest_none (fades_on bus) vs f v i)
-          (λ y. lt-leb _ _ (no_victim u d (tracked_on bus) d.config.policy t r e v i y))
+      tracks : (x : Victim) → bus_victim ≡ x → voice_of x vs ≡ Some v → goes d.config.policy bus r v ≡ true
+      tracks None e h = absurd (none_some h)
+      tracks (Some (p, w)) e h =
+          let z = victim_voice u d (tracked_on bus) d.config.policy r p w e in
+          let s : z.0 ≡ v = some_inj (sym z.3 ∙ h) in
+          subst (λ x. goes d.config.policy bus r x ≡ true) s
+          (tracked_goes (is_fading z.0.state) (steals d.config.policy) (is_tracked z.0.state && leb z.0.rank r) (is_on bus z.0)
+          (and_from (steals d.config.policy) (is_on bus z.0) (victim_steals d.config.policy r (candidates d (tracked_on bus) vs) (p, w) e) (and_right (is_tracked z.0.state) (is_on bus z.0) z.2))
+          (and_from (is_tracked z.0.state) (leb z.0.rank r) (and_left (is_tracked z.0.state) (is_on bus z.0) z.2) (le-leb _ _ z.4)))
+
+      go : (o : Option Voice) → earliest (fades_on bus) vs ≡ o → else_victim o (voice_of bus_victim vs) ≡ Some v → goes d.config.policy bus r v ≡ true
+      go (Some x) e h = fading_goes (is_fading v.state) (steals d.config.policy && (is_tracked v.state && leb v.rank r)) (is_on bus v) (earliest_in (fades_on bus) vs v (e ∙ h)).1
+      go None e h = tracks bus_victim refl h
+
+  pub next_out_none : next_out d bus r vs ≡ None → (v : Voice) → In v vs → goes d.config.policy bus r v ≡ false
+  next_out_none h v i = go (earliest (fades_on bus) vs) refl h
+    where
+      idle : earliest (fades_on bus) vs ≡ None → bus_victim ≡ None → (t : StealPolicy) → d.config.policy ≡ t → goes t bus r v ≡ false
+      idle f e policy.Reject q = and_or (is_fading v.state) (is_on bus v) (earliest_none (fades_on bus) vs f v i)
+      idle f e policy.Oldest q = none_goes (is_fading v.state) (is_tracked v.state) (leb v.rank r) (is_on bus v) (earliest_none (fades_on bus) vs f v i) (λ y. lt-leb _ _ (no_victim u d (tracked_on bus) d.config.policy (subst Stealing (sym q) tt) r e v i y))
+      idle f e policy.Newest q = none_goes (is_fading v.state) (is_tracked v.state) (leb v.rank r) (is_on bus v) (earliest_none (fades_on bus) vs f v i) (λ y. lt-leb _ _ (no_victim u d (tracked_on bus) d.config.policy (subst Stealing (sym q) tt) r e v i y))
+      idle f e policy.Quietest q = none_goes (is_fading v.state) (is_tracked v.state) (leb v.rank r) (is_on bus v) (earliest_none (fades_on bus) vs f v i) (λ y. lt-leb _ _ (no_victim u d (tracked_on bus) d.config.policy (subst Stealing (sym q) tt) r e v i y))
+
+      tracks : earliest (fades_on bus) vs ≡ None → (x : Victim) → bus_victim ≡ x → voice_of x vs ≡ None → goes d.config.policy bus r v ≡ false
+      tracks f None e h = idle f e d.config.policy refl
       tracks f (Some (p, w)) e h = absurd (none_some (sym h ∙ (victim_voice u d (tracked_on bus) d.config.policy r p w e).3))
 
-      go : (o : Option Voice) → earliest (fades_on bus) vs ≡ o → else_victim o (voice_of bus_victim vs) ≡ None → may_go_on bus r v ≡ false
+      go : (o : Option Voice) → earliest (fades_on bus) vs ≡ o → else_victim o (voice_of bus_victim vs) ≡ None → goes d.config.policy bus r v ≡ false
       go (Some x) e h = absurd (none_some (sym h))
       go None e h = tracks e bus_victim refl h

@@ -70,7 +70,7 @@ pub record AllLoose (l : Ledger) : Type 0 where
 
 -- every port of the bus is held so
 abbrev pub blocked : NodeId → ℕ → Ledger → Bool
-blocked bus r l = every (λ p. by_other bus r l.voices (l.holders bus.0 p)) (upto (ports_of (node_at l.shared.graph.nodes bus)))
+blocked bus r l = every (λ p. by_other l.shared.config.policy bus r l.voices (l.holders bus.0 p)) (upto (ports_of (node_at l.shared.graph.nodes bus)))
 
 -- what a spawn answers that the table does not refuse
 abbrev pub spawn_answer : NodeId → ℕ → Ledger → Result VoiceId Refusal

@@ -56,6 +56,7 @@ use Rattle.model.specs.Model.{Model, admission_on}
 use Rattle.model.specs.Page.{port_now}
 use Rattle.model.specs.Call.{Call, Answer}
 use Rattle.model.specs.Call as call
+use Rattle.refusals.specs.Spawn.{May}
 use Rattle.ledger.specs.Holder.{Holder, nobody, host, voice}
 use Rattle.ledger.specs.Ledger.{Ledger, new_ledger}
 use Rattle.ledger.specs.Call.{run}
@@ -274,7 +275,7 @@ pub record AllLoose (s : Model) : Type 0 where
   pub voices : (v : Voice) → In v s.voices → v.state ≡ Loose
   pub log : s.shared.steals ≡ no_steals
 
--- ---- when a managed spawn finds a port
+-- ---- when a spawn is refused
 -- a policy that steals
 abbrev pub Stealing : StealPolicy → Type 0
 Stealing policy.Reject = ⊥
@@ -282,37 +283,47 @@ Stealing policy.Oldest = Unit {0}
 Stealing policy.Newest = Unit {0}
 Stealing policy.Quietest = Unit {0}
 
--- 02, Paper 13. Whether a voice may go for a new voice of rank r: it is fading, "regardless of rank", or it is tracked and does not outrank it
+abbrev pub steals : StealPolicy → Bool
+steals policy.Reject = false
+steals policy.Oldest = true
+steals policy.Newest = true
+steals policy.Quietest = true
+
+-- Whether a voice may go for a new voice of rank r: it is fading, of any rank, or it is tracked and does not outrank the new one. SPEC 9.3, 9.7.
 abbrev pub may_go : ℕ → Voice → Bool
 may_go r v = is_fading v.state || (is_tracked v.state && leb v.rank r)
 
 abbrev pub may_go_on : NodeId → ℕ → Voice → Bool
 may_go_on bus r v = may_go r v && is_on bus v
 
--- such a voice of the bus
-abbrev pub is_spare : NodeId → ℕ → Option Voice → Bool
-is_spare bus r None = false
-is_spare bus r (Some v) = may_go_on bus r v
+-- under a policy, which may be `Reject`: then none that is tracked goes
+abbrev pub goes : StealPolicy → NodeId → ℕ → Voice → Bool
+goes t bus r v = (is_fading v.state || (steals t && (is_tracked v.state && leb v.rank r))) && is_on bus v
 
--- held, by a node of no such voice of the bus: "for want of a port, a tracked unfaded voice that outranks it holds its port as a stranger would"
-abbrev pub by_other : NodeId → ℕ → List Voice → Holder → Bool
-by_other bus r vs nobody = false
-by_other bus r vs (host k) = true
-by_other bus r vs (voice w) = not (is_spare bus r (find (is_voice w) vs))
+-- such a voice of the bus
+abbrev pub is_spare : StealPolicy → NodeId → ℕ → Option Voice → Bool
+is_spare t bus r None = false
+is_spare t bus r (Some v) = goes t bus r v
+
+-- held, and by no such voice: a tracked voice that outranks the new one holds its port as a stranger would
+abbrev pub by_other : StealPolicy → NodeId → ℕ → List Voice → Holder → Bool
+by_other t bus r vs nobody = false
+by_other t bus r vs (host k) = true
+by_other t bus r vs (voice w) = not (is_spare t bus r (find (is_voice w) vs))
 
 -- every port of the bus is held so
 abbrev pub blocked : NodeId → ℕ → Model → Bool
-blocked bus r s = every (λ p. by_other bus r s.voices (holder_at s.shared.graph.nodes s.shared.graph.edges bus.0 p)) (upto (ports_of (node_at s.shared.graph.nodes bus)))
+blocked bus r s = every (λ p. by_other s.shared.config.policy bus r s.voices (holder_at s.shared.graph.nodes s.shared.graph.edges bus.0 p)) (upto (ports_of (node_at s.shared.graph.nodes bus)))
 
--- no candidate, or one that outranks the new voice
+-- not one of those that count, or one that outranks the new voice
 abbrev pub stays : BudgetScope → NodeId → ℕ → Voice → Bool
 stays scope bus r v = not (counted scope bus v) || ltb r v.rank
 
--- at budget, and "all candidates outrank it"
+-- at budget, and the policy takes nobody or all that count outrank the new voice
 abbrev pub outranked : Config → NodeId → ℕ → List Voice → Bool
-outranked c bus r vs = at_budget c.budget (count (counted c.scope bus) vs) && every (stays c.scope bus r) vs
+outranked c bus r vs = at_budget c.budget (count (counted c.scope bus) vs) && (not (steals c.policy) || every (stays c.scope bus r) vs)
 
--- what a managed spawn answers that the table does not refuse: 11, 12, or the next voice id
+-- what a managed spawn answers that may come: 11, 12, or the next voice id
 abbrev pub answer_when : Bool → Bool → VoiceId → Result VoiceId Refusal
 answer_when true b w = Err Rejected
 answer_when false true w = Err NoPort
@@ -389,12 +400,10 @@ pub record Holds (c : Config) (s : Model) : Type 0 where
   pub budget : (n : ℕ) → c.budget ≡ Some n → (bus : NodeId) → count (counted c.scope bus) s.voices ≤ n
   pub loose : c.budget ≡ None → AllLoose s
   pub stay : c.budget ≡ None → (x : Spawn) (v : Voice) → In v s.voices → In v (call.step (call.spawn_managed x) s).model.voices
-  -- ---- 5. With a budget above 0 and a policy that steals, a managed spawn that the table does not refuse (rank 0 to 7, definition and bus,
-  -- headroom, ids left) is refused with 11 exactly when it is at budget and all candidates outrank it; else with 12 exactly when every port of its
-  -- bus is held by somebody who is neither a fading voice of that bus nor a tracked one of it that does not outrank it; else it answers the
-  -- next voice id.
-  pub spawns : (n : ℕ) → c.budget ≡ Some (suc n) → Stealing c.policy → (x : Spawn) → spawn_refusal s.shared s.voices x.def x.bus x.rank ≡ None
-      → (call.step (call.spawn_managed x) s).answer ≡ call.spawned (spawn_answer x.bus x.rank s)
+  -- ---- 5. A managed spawn that may come (`May` of crate refusals: rank, definition, bus, headroom and ids, each in numbers) is refused with 11
+  -- exactly when it is at budget and the policy takes nobody or all that count outrank it; else with 12 exactly when every port of its bus is held
+  -- by somebody who is neither a fading voice of that bus nor one that the policy may take; else it answers the next voice id.
+  pub spawns : (x : Spawn) → May x s → (call.step (call.spawn_managed x) s).answer ≡ call.spawned (spawn_answer x.bus x.rank s)
   -- A spawn that answers a voice has let it in, "tracked under a budget", or loose. A node that is answered is there, and was not before.
   pub arrives : (x : Spawn) (w : VoiceId) → (call.step (call.spawn_managed x) s).answer ≡ call.spawned (Ok w) → Arrives x (state_under c.budget) w s (call.step (call.spawn_managed x) s).model
   pub arrives_loose : (x : Spawn) (w : VoiceId) → (call.step (call.spawn_loose x) s).answer ≡ call.spawned (Ok w) → Arrives x Loose w s (call.step (call.spawn_loose x) s).model

@@ -1,5 +1,5 @@
--- Spawns and wishes with the definition of a book. 02, Paper 2: "18 malformed record"; "A definition beyond 01's limits keeps refusal 9,
--- after 18". A book beyond the limits gives the blank definition, which a spawn refuses by 9 where it tests for that.
+-- Spawns and wishes with the definition of a book (SPEC 16, 18). A malformed book is 18. One beyond the limits of a definition goes on as so
+-- many blank nodes and edges as it has: the seal asks for these counts first, and a spawn refuses it by 9 where it tests for the limits.
 use Rattle.std.specs.Prelude.{ℕ, ◌≡◌, List, Bool, true, false, not, ◌&&◌, Float}
 use Rattle.node.specs.declared.record.NodeId.{NodeId}
 use Rattle.synthdef.specs.declared.def.SynthDef.{SynthDef}
@@ -19,8 +19,7 @@ is_malformed (gives d) = false
 is_malformed (malformed at) = true
 is_malformed limits = false
 
--- Whether the book is refused. 02, Paper 14: "28 call closed by the seal, before all others of that call", so also before 18: what a seal
--- closes with no node and no edge it closes with every definition (`shut_anyway`, call_seal/proofs/Boards), whatever the book holds. Else
+-- Whether the book is refused by 18. 28 comes before it: what a seal closes with no node and no edge it closes whatever the book holds. Else
 -- a malformed book is 18: it has no definition whose nodes and edges could be counted.
 abbrev pub refuses_book : Seal → Bool → NodeId → Read → Bool
 refuses_book x managed bus b = not (shuts_spawn x managed bus 0 0) && is_malformed b

@@ -1,3 +1,4 @@
 pub mod Board
 pub mod Book
 pub mod Stated
+pub mod Closed

@@ -13,15 +13,26 @@ use piecrag::Wish;
 use sealed::profile::Seal;
 use synthdef::def::SynthDef;
 
-// Whether the book of a spawn, or of a wish for it, is refused.
+/// Whether the book of a spawn, or of a wish for it, is refused by 18.
 pub fn refuses_book(x: Seal, managed: bool, bus: NodeId, read: &Result<SynthDef, ReadError>) -> bool
     ensures { result ≡ refuses_book x managed bus (read_of read.now) }
 {
     !shuts_spawn(x, managed, bus, 0, 0) && matches!(read, Err(ReadError::Malformed(_)))
 }
 
+// The definition that goes on from a reading. Of a book beyond the limits it has the counts, which a seal tests before all else; the spawn
+// itself refuses it by 9 where it tests for the limits, after other refusals.
+fn definition_in(read: Result<SynthDef, ReadError>) -> SynthDef
+    ensures { result ≡ def_in (read_of read) }
+{
+    match read {
+        Ok(def) => def,
+        Err(ReadError::Limits { nodes, edges }) => blank_def(nodes, edges),
+        Err(ReadError::Malformed(_)) => blank_def(0, 0),
+    }
+}
+
 // A spawn, or the wish for it, with the definition of its book. The numbers are the exports'.
-// Of a book that gives none it is the blank one, and no `None`: a spawn refuses that by 9 where it tests for the limits, after other refusals.
 pub(crate) fn wish_in(
     read: Result<SynthDef, ReadError>,
     managed: u32,
@@ -33,7 +44,7 @@ pub(crate) fn wish_in(
 {
     Wish {
         managed: managed != 0,
-        def: read.unwrap_or(blank_def()),
+        def: definition_in(read),
         bus: NodeId(bus),
         pan,
         rank,

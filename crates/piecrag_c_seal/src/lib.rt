@@ -3,6 +3,7 @@
 // crates. For C arguments are single numbers, and a table is a parameter of its own, since a signature shows what a call may touch.
 #![tactic(auto)]
 
+pub mod closed;
 pub mod from_book;
 pub mod host;
 pub mod sealing;

@@ -1,36 +1,43 @@
 -- Every list of a board's calls: its console part is the console's run on the calls let through, and a sealed board keeps the seal's promise.
-use Prim.Native.Nat.{ℕ, zero, suc}
+use Prim.Native.Nat.{ℕ, zero, suc, ◌<◌}
 use native.Mathlib.Omega.{arith}
 use mathlib.Core.Path.{◌≡◌, refl, sym, ap, ◌∙◌, subst}
 use mathlib.Core.Logic.{◌⊎◌, inl, inr, ⊎_elim}
 use mathlib.Core.List.{List, [], ◌∷◌, ◌++◌, append_assoc}
 use Rattle.std.specs.Prelude.{Option, None, Some, Err}
 use mathlib.Core.Bool.{Bool, true, false, not, cond, false≢true}
-use lib.ListN.{get_or, set}
-use borrow.Author.Tests.{not-false}
+use lib.Dec.{leb}
+use lib.ListN.{length, get_or, set}
+use borrow.Author.Tests.{not-false, le-leb}
 use Rattle.std.proofs.lemmas.Bool.{and_from}
 use Rattle.lists.specs.Member.{In}
 use Rattle.lists.proofs.Member.{some_inj, none_some, and_left, and_right, in_snoc}
 use Rattle.node.specs.declared.refusal.Refusal.TheVariants.{TableFull}
 use Rattle.model.specs.Model.{Model}
-use Rattle.model.specs.Make.{Making, config_of, make}
+use Rattle.model.specs.Make.{Making, make}
 use Rattle.model.specs.Call.{Call, Answer, step}
 use Rattle.model.specs.Call as call
 use Rattle.ledger.specs.Claim.{after}
+use Rattle.ledger.proofs.Claim.{claim}
 use Rattle.store.specs.declared.wish.Wish.{Wish}
 use Rattle.console.specs.declared.refusal.KeyboardRefusal.{KeyboardRefusal}
+use Rattle.console.specs.declared.refusal.KeyboardRefusal.TheVariants.{OutOfRange, Full}
 use Rattle.model.specs.Wish.{spawn_in, call_of}
-use Rattle.console.specs.Wishes.{Wishes, keyboards, waiting_at, wish_refusal, added, Picked, picked, oldest_or, search, rest, taken_from}
+use Rattle.console.specs.Wishes.{Wishes, keyboards, waiting_at, wish_refusal, added, Picked, picked, oldest_or, search, rest, taken_from, new_wishes}
 use Rattle.console.specs.Wishes as wishes
-use Rattle.console.specs.Console.{Console, ConsoleCall, wished, turned, console_step, make_console}
+use Rattle.console.specs.Console.{Console, ConsoleCall, wished, turned, console_step, added_unless, wishes_run, store_calls, make_console}
 use Rattle.console.specs.Console as console
+use Rattle.console.specs.Claim.{StoreRun, ConsoleClaim}
+use Rattle.console.proofs.Plain.{store_run}
 use Rattle.console.proofs.Claim.{console_claim, accepted}
 use Rattle.sealed.specs.declared.profile.Profile.{Profile}
 use Rattle.sealed.specs.declared.refusal.SealRefusal.TheVariants.{NotAccepted, Closed}
 use Rattle.sealed.specs.Seal.{Seal, accepts, within, shuts, all_open}
 use Rattle.sealed.specs.Sealed.{Promise}
 use Rattle.sealed.specs.Board.{Board, BoardCall, on, seal, given, sealed, BoardStep, open_wish, closed, none_at, none_waits, sealable, refuses, passes, sealing, board_step, BoardRan, board_run, new_board, console_calls}
-use Rattle.sealed.specs.Claim.{ConsoleRun, SealedBoard, BoardClaim}
+use Rattle.sealed.specs.Claim.{ConsoleRun, SealedBoard, Made, with_keyboards, alone, NoKeyboards, BoardClaim}
+use Rattle.sealed.proofs.Accepts.{accepts_fits}
+use Rattle.sealed.proofs.Opens.{within_fitting, passes_exactly, sealing_exactly}
 use Rattle.sealed.proofs.Theorem as theorem
 
 -- ---- the console part
@@ -125,11 +132,11 @@ open_append s [] x h o = and_from _ _ (ap not o) refl
 open_append s (y ∷ xs) x h o = and_from _ _ (and_left (not (shuts s y)) _ h) (open_append s xs x (and_right (not (shuts s y)) _ h) o)
 
 -- some calls made the store
-pub record Made (m n : Model) : Type 0 where
+pub record Left (m n : Model) : Type 0 where
   pub calls : List Call
   pub is : n ≡ after m calls
 
-made_step : (m n : Model) (x : Call) → Made m n → Made m (step x n).model
+made_step : (m n : Model) (x : Call) → Left m n → Left m (step x n).model
 made_step m n x d = record { calls = d.calls ++ (x ∷ []); is = ap (λ z. (step x z).model) d.is ∙ sym (run_append d.calls (x ∷ []) m) }
 
 -- some calls made a store that the seal fits, and then open ones this store
@@ -151,7 +158,7 @@ sealed_step s m n x o d =
     }
 
 abbrev pub History : Model → Seal → Console → Type 0
-History m None k = Made m k.model
+History m None k = Left m k.model
 History m (Some s) k = MadeSealed s m k.model × AllOpen s k.wishes
 
 -- ---- a call that is let through
@@ -159,12 +166,12 @@ history_open : (m : Model) (x : Seal) (c : ConsoleCall) (k : Console) → closed
 history_open m None (console.on c) k o h = made_step m k.model c h
 history_open m None (console.wish q w) k o h = go (wish_refusal k.wishes q)
   where
-    go : (r : Option KeyboardRefusal) → Made m (wished r q w k).console.model
+    go : (r : Option KeyboardRefusal) → Left m (wished r q w k).console.model
     go None = h
     go (Some r) = h
 history_open m None console.turn k o h = go (picked k.wishes)
   where
-    go : (p : Option Picked) → Made m (turned p k).console.model
+    go : (p : Option Picked) → Left m (turned p k).console.model
     go None = h
     go (Some p) = made_step m k.model (call_of p.wish) h
 history_open m (Some s) (console.on c) k o h = (sealed_step s m k.model c o h.0, h.1)
@@ -190,7 +197,7 @@ history_step m (on c) b h = go (closed b.seal c) refl
     go false e = history_open m b.seal c b.console e h
 history_step m (seal s) b h = go b.seal refl h
   where
-    at : (t : Bool) → sealable s b.console ≡ t → Made m b.console.model → History m b.seal b.console
+    at : (t : Bool) → sealable s b.console ≡ t → Left m b.console.model → History m b.seal b.console
         → let u = cond t (record { answer = sealed; board = record { console = b.console; seal = Some s } }) (refuses NotAccepted b) in History m u.board.seal u.board.console
     at true e d h =
         let a = and_left (accepts s b.console.model.shared b.console.model.voices) _ e in (
@@ -214,21 +221,20 @@ history_run m [] b h = h
 history_run m (x ∷ xs) b h = history_run m xs (board_step x b).board (history_step m x b h)
 
 -- ---- a sealed board
-sealed_board : (k : Making) (m : Model) → make k ≡ Some m → (s : Profile) (b : Board) → b.seal ≡ Some s → History m b.seal b.console → SealedBoard k s b
+sealed_board : (k : Making) (m : Model) → make k ≡ Some m → (s : Profile) (b : Board) → b.seal ≡ Some s → History m b.seal b.console → SealedBoard s b
 sealed_board k m made s b is h₀ =
     record {
       promise = promise;
       turn = λ q e. turn (picked b.console.wishes) refl q (given_inj _ _ (sym (ap (λ x. (cond (closed x console.turn) (refuses Closed b) (passes (console_step console.turn b.console) b.seal)).answer) is) ∙ e));
       stays = stays;
       again = λ t. ap (λ x. sealing x t b) is;
-      shut = λ c e. ap (λ x. cond (closed x c) (refuses Closed b) (passes (console_step c b.console) b.seal)) is ∙ ap (λ t. cond t (refuses Closed b) (passes (console_step c b.console) b.seal)) e;
     }
   where
     h : History m (Some s) b.console
     h = subst (λ x. History m x b.console) is h₀
 
-    promise : Promise (config_of k) s b.console.model
-    promise = subst (Promise (config_of k) s) (sym h.0.is) (theorem.sealed k m made s h.0.before h.0.later h.0.fits h.0.opens)
+    promise : Promise s b.console.model
+    promise = subst (Promise s) (sym h.0.is) (theorem.sealed k m made s h.0.before h.0.later (accepts_fits s _ _ h.0.fits) h.0.opens)
 
     stays : (x : BoardCall) → (board_step x b).board.seal ≡ Some s
     stays (on c) = at (closed b.seal c)
@@ -248,13 +254,54 @@ sealed_board k m made s b is h₀ =
     turn None e q z = let y : ◌≡◌ {A = ℕ} 0 1 = cc in omega arith
     turn (Some p) e q z =
         let w = turn_open s b.console.wishes h.1 p e in
-        promise.never (spawn_in p.wish) w.1 (sym (ap (λ c. (step c b.console.model).answer) w.0) ∙ served_inj p.keyboard q _ _ z)
+        promise.never (spawn_in p.wish) (within_fitting s (spawn_in p.wish) w.1) (sym (ap (λ c. (step c b.console.model).answer) w.0) ∙ served_inj p.keyboard q _ _ z)
 
-pub board_claim : (k : Making) (n : ℕ) (c : Console) → make_console k n ≡ console.made c → (xs : List BoardCall) → BoardClaim k n c xs
-board_claim k n c e xs =
+-- ---- a board at its making
+-- the store that was made, and the keyboards
+record Begun (k : Making) (n : ℕ) (c : Console) : Type 0 where
+  pub store : make k ≡ Some c.model
+  pub wishes : c.wishes ≡ new_wishes n
+
+begun : (k : Making) (n : ℕ) (c : Console) → Made k n c → Begun k n c
+begun k _ _ (with_keyboards n c e) = let a = accepted k n c e in record { store = a.store; wishes = a.wishes }
+begun k _ _ (alone m e) = record { store = e; wishes = refl }
+
+with_some : (k : Making) (n : ℕ) (c : Console) → Made k n c → 0 < n → (xs : List ConsoleCall) → ConsoleClaim k n c xs
+with_some k _ _ (with_keyboards n c e) h xs = console_claim k n c e xs
+with_some k _ _ (alone m e) h xs = absurd (omega arith)
+
+-- of no keyboard nothing waits, whatever is called
+none_refused : (q : ℕ) → wish_refusal (new_wishes 0) q ≡ Some OutOfRange
+none_refused q = ap (λ b. cond b (Some OutOfRange) (cond (leb 16 (length (waiting_at q (new_wishes 0)))) (Some Full) None)) (le-leb 0 q (omega arith))
+
+none_wait : (xs : List ConsoleCall) → wishes_run xs (new_wishes 0) ≡ new_wishes 0
+none_wait [] = refl
+none_wait (console.on c ∷ xs) = none_wait xs
+none_wait (console.wish q w ∷ xs) = ap (λ o. wishes_run xs (added_unless o q w (new_wishes 0))) (none_refused q) ∙ none_wait xs
+none_wait (console.turn ∷ xs) = none_wait xs
+
+no_keyboards : (c : Console) → c.wishes ≡ new_wishes 0 → NoKeyboards c
+no_keyboards c e =
     record {
-      console = console_run xs (new_board c);
-      claim = console_claim k n c e (console_calls xs (new_board c));
-      now = λ s is. sealed_board k c.model (accepted k n c e).store s (board_run xs (new_board c)).board is
+      wish = λ q w. ap (λ o. wished o q w c) (ap (λ ws. wish_refusal ws q) e ∙ none_refused q);
+      turn = ap (λ ws. turned (picked ws) c) e;
+    }
+
+pub board_claim : (k : Making) (n : ℕ) (c : Console) → Made k n c → (xs : List BoardCall) → BoardClaim k n c xs
+board_claim k n c m xs =
+    let b = begun k n c m in
+    let ys = console_calls xs (new_board c) in
+    let ran = console_run xs (new_board c) in
+    let store = subst (λ ws. StoreRun (console.console_run ys c) (store_calls ys ws) (wishes_run ys ws) c.model) b.wishes (store_run ys c) in
+    record {
+      console = ran;
+      store = store;
+      claim = claim k c.model b.store (store_calls ys (new_wishes n));
+      keyboards = λ h. with_some k n c m h ys;
+      none = λ e. no_keyboards (board_run xs (new_board c)).board.console
+          (ap (λ (d : Console). d.wishes) ran.console ∙ store.wishes ∙ ap (λ i. wishes_run ys (new_wishes i)) e ∙ none_wait ys);
+      passes = passes_exactly (board_run xs (new_board c)).board;
+      sealing = sealing_exactly (board_run xs (new_board c)).board;
+      now = λ s is. sealed_board k c.model b.store s (board_run xs (new_board c)).board is
           (history_run c.model xs (new_board c) (record { calls = []; is = refl }));
     }

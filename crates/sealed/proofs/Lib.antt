@@ -7,3 +7,4 @@ pub mod Spawning
 pub mod Never
 pub mod Theorem
 pub mod Boards
+pub mod Opens

@@ -16,6 +16,8 @@ use Rattle.voice.specs.declared.voices.Voice.{Voice}
 use Rattle.model.specs.Model.{Model}
 use Rattle.model.specs.Make.{Making, config_of, make}
 use Rattle.model.specs.Refuse.{spawn_refusal, no_ids}
+use Rattle.refusals.proofs.Definition.{limits}
+use Rattle.refusals.proofs.Spawn.{left_ids, admissible}
 use Rattle.model.specs.Spawn.{Spawn}
 use Rattle.model.specs.Call.{Call}
 use Rattle.model.specs.Call as call
@@ -30,6 +32,8 @@ use Rattle.ledger.proofs.Store.{shown, store_of, store_step, store_after, kept_a
 use Rattle.sealed.specs.declared.profile.Profile.{Profile}
 use Rattle.sealed.specs.Seal.{nobody_in, accepts, all_open}
 use Rattle.sealed.specs.Sealed.{Promise, SealedRun}
+use Rattle.sealed.proofs.Accepts.{fits_accepts}
+use Rattle.sealed.proofs.Opens.{fitting_within}
 use Rattle.sealed.proofs.Live.{live_step, live_new, LiveNodes}
 use Rattle.sealed.proofs.Never.{Sealed, sealed_start, sealed_run, spawn_never_full, not_refused, voices_few, one_port}
 
@@ -80,13 +84,14 @@ module _ (k : Making) (m : Model) (accepted : make k ≡ Some m) (s : Profile) (
   ours : (v : Voice) → In v (after m xs).voices → (u : Voice) × In u l.voices × (v ≡ shown c u)
   ours v i = in_map (shown c) l.voices v (subst (λ (n : Model). In v n.voices) (store xs) i)
 
-  promise : Sealed s l → Promise c s (after m xs)
+  promise : Sealed s l → Promise s (after m xs)
   promise q =
       record {
-        never = λ x w e. spawn_never_full s x l q w (sym (ap (λ (r : call.Step). r.answer) (ap (call.step (call.spawn_managed x)) (store xs) ∙ store_step c (call.spawn_managed x) l q.kept (config_after c fits xs))) ∙ e);
-        spawns = λ n b steals x w low ok ids. (claim k m accepted xs).now.spawns n b steals x
+        never = λ x w e. spawn_never_full s x l q (fitting_within s x w) (sym (ap (λ (r : call.Step). r.answer) (ap (call.step (call.spawn_managed x)) (store xs) ∙ store_step c (call.spawn_managed x) l q.kept (config_after c fits xs))) ∙ e);
+        spawns = λ x w low ok ids. (claim k m accepted xs).now.spawns x
+            ((admissible (after m xs).shared (after m xs).voices x.def x.bus x.rank).0
             (ap (λ (z : Model). spawn_refusal_lem z x) (store xs) ∙ refusal_same c l.shared l.voices x.def x.bus x.rank
-            ∙ not_refused s x l q w low ok (sym (ap (λ (z : Model). no_ids z.shared x.def) (store xs)) ∙ ids));
+            ∙ not_refused s x l q (fitting_within s x w) low ((limits x.def).1 ok) (sym (ap (λ (z : Model). no_ids z.shared x.def) (store xs)) ∙ left_ids (after m xs).shared x.def ids)));
         holds = λ v i.
             let u = ours v i in
             let h = q.inside.holds u.0 u.1 in
@@ -103,5 +108,5 @@ module _ (k : Making) (m : Model) (accepted : make k ≡ Some m) (s : Profile) (
       mine : {v : Voice} (u : (u : Voice) × In u l.voices × (v ≡ shown c u)) (p : ℕ) → holder_at (after m xs).shared.graph.nodes (after m xs).shared.graph.edges s.bus.0 p ≡ voice v.id → by_voice u.0.id (l.holders s.bus.0 p) ≡ true
       mine u p e = is_by _ _ (held p ∙ e ∙ ap (λ (z : Voice). voice z.id) u.2)
 
-pub sealed : (k : Making) (m : Model) → make k ≡ Some m → SealedRun (config_of k) m
-sealed k m accepted s before later a o = promise k m accepted s before later (sealed_here k m accepted s before later a o)
+pub sealed : (k : Making) (m : Model) → make k ≡ Some m → SealedRun m
+sealed k m accepted s before later f o = promise k m accepted s before later (sealed_here k m accepted s before later (fits_accepts s _ _ f) o)

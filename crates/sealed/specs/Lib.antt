@@ -1,5 +1,6 @@
 pub mod Refusal
 pub mod Seal
-pub mod Sealed
 pub mod Board
+pub mod Opens
+pub mod Sealed
 pub mod Claim

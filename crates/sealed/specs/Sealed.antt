@@ -1,31 +1,31 @@
--- 02, Paper 14: what the seal promises, "in any sequence".
-use Rattle.std.specs.Prelude.{ℕ, suc, ◌≤◌, ◌<◌, ◌≡◌, List, ◌++◌, true, false, length, Some, Err}
+-- What the seal promises, whatever is called: SPEC 18.
+use Rattle.std.specs.Prelude.{ℕ, ◌≤◌, ◌<◌, ◌≡◌, List, ◌++◌, true, length, Err}
 use Rattle.lists.specs.Member.{In}
 use Rattle.node.specs.declared.refusal.Refusal.TheVariants.{TableFull}
-use Rattle.synthdef.specs.Limits.{allowed}
-use Rattle.store.specs.declared.config.Config.{Config}
 use Rattle.voice.specs.declared.voices.Voice.{Voice}
 use Rattle.model.specs.Model.{Model}
-use Rattle.model.specs.Refuse.{no_ids}
 use Rattle.model.specs.Spawn.{Spawn}
 use Rattle.model.specs.Call.{Call}
 use Rattle.model.specs.Call as call
 use Rattle.ledger.specs.Holder.{voice}
-use Rattle.ledger.specs.Claim.{after, holder_at, Stealing, spawn_answer}
+use Rattle.refusals.specs.Definition.{Limits}
+use Rattle.refusals.specs.Spawn.{IdsLeft}
+use Rattle.ledger.specs.Claim.{after, holder_at, spawn_answer}
 use Rattle.sealed.specs.declared.profile.Profile.{Profile}
-use Rattle.sealed.specs.Seal.{accepts, within, all_open}
+use Rattle.sealed.specs.Seal.{Fits, all_open}
+use Rattle.sealed.specs.Opens.{Fitting}
 
 -- the voice holds the port p of the bus
 abbrev pub HoldsPort : Profile → Model → Voice → ℕ → Type 0
 HoldsPort s m v p = holder_at m.shared.graph.nodes m.shared.graph.edges s.bus.0 p ≡ voice v.id
 
 -- of the store m, which is sealed by s
-pub record Promise (c : Config) (s : Profile) (m : Model) : Type 0 where
-  -- "Show that a spawn then never meets refusal 7": one that the seal leaves open
-  pub never : (x : Spawn) → within s x ≡ true → (call.step (call.spawn_managed x) m).answer ≡ call.spawned (Err TableFull) → ⊥
-  -- "The promise on when a spawn fails is then for spawns the seal leaves open": of a rank up to 7, an allowed definition
-  -- and ids that are left nothing more is asked, neither headroom nor a bus
-  pub spawns : (n : ℕ) → c.budget ≡ Some (suc n) → Stealing c.policy → (x : Spawn) → within s x ≡ true → x.rank ≤ 7 → allowed x.def ≡ true → no_ids m.shared x.def ≡ false
+pub record Promise (s : Profile) (m : Model) : Type 0 where
+  -- a spawn that the seal leaves open never meets 7
+  pub never : (x : Spawn) → Fitting s x.def x.bus → (call.step (call.spawn_managed x) m).answer ≡ call.spawned (Err TableFull) → ⊥
+  -- Of its rank, its definition and the ids that are left it is asked what every spawn is; of headroom and of the bus nothing more. Then it is
+  -- refused by 11 and by 12 alone, and when is what the ledger's claim says: SPEC 9.1.
+  pub spawns : (x : Spawn) → Fitting s x.def x.bus → x.rank ≤ 7 → Limits x.def → IdsLeft m.shared x.def
       → (call.step (call.spawn_managed x) m).answer ≡ call.spawned (spawn_answer x.bus x.rank m)
   -- every voice holds a port of the bus, and only one; so there are at most P voices
   pub holds : (v : Voice) → In v m.voices → (p : ℕ) × (p < s.ports) × HoldsPort s m v p
@@ -33,6 +33,6 @@ pub record Promise (c : Config) (s : Profile) (m : Model) : Type 0 where
   pub few : length m.voices ≤ s.ports
 
 -- A store that making gave was sealed after the calls `before`; the calls `later` are those that the seal let through.
-abbrev pub SealedRun : Config → Model → Type 0
-SealedRun c m =
-    (s : Profile) (before later : List Call) → accepts s (after m before).shared (after m before).voices ≡ true → all_open s later ≡ true → Promise c s (after m (before ++ later))
+abbrev pub SealedRun : Model → Type 0
+SealedRun m =
+    (s : Profile) (before later : List Call) → Fits s (after m before).shared (after m before).voices → all_open s later ≡ true → Promise s (after m (before ++ later))

@@ -8,7 +8,7 @@ use borrow.Author.Rules.{rules}
 use lib.ListN.{length, take, drop, get_or, length-drop}
 use Rattle.std.proofs.lemmas.List.{take_rest}
 use Rattle.synthdef.specs.Limits.{allowed}
-use Rattle.def_book.specs.Read.{gives, malformed, def_of}
+use Rattle.def_book.specs.Read.{gives, malformed, limits, def_of}
 use Rattle.def_book.specs.Rows.{is_heading, rows, size, nodes_of}
 use Rattle.def_book.specs.Body.{body_of}
 use Rattle.def_book.specs.declared.body.Body.{Body}
@@ -78,7 +78,8 @@ pub returns-then-not-allowed : goal.returns-then-not-allowed
 returns-then-not-allowed c =
     let at = goal.at.returns-then-not-allowed c in
     let no = sym (made at.After-allowed) ∙ c.if-not-allowed.true in
-    sym (beyond c.args.s.now (heading at.Else-not-is_heading) (all at.Else-b-n) (many at.Else-b-from) no)
+    let counted = ap (λ (b : Body). limits b.nodes.count b.edges.count) (body c.args.s.now c.rows_of-b.ensures) in
+    counted ∙ sym (beyond c.args.s.now (heading at.Else-not-is_heading) (all at.Else-b-n) (many at.Else-b-from) no)
 
 pub returns : goal.returns
 returns c =

@@ -1,0 +1,5 @@
+pub mod First
+pub mod Definition
+pub mod Spawn
+pub mod Host
+pub mod Making
