@@ -1,6 +1,6 @@
 //! What the host asks of the graph: nodes, wiring, the sink, and prepare.
 
-ghost use Rattle.model.specs.Call.{add_node, remove_node, connect, disconnect, set_sink};
+ghost use Rattle.model.specs.Call.{add_node, remove_node, connect, disconnect, set_sink, prepare};
 ghost use Rattle.engine.specs.Called.{Called, answered, add_answered};
 
 use crate::Tables;
@@ -14,7 +14,7 @@ impl Tables {
     pub fn add_node(&mut self, kind: &[u8], node: HostNode) -> Result<NodeId, Refusal>
         ensures { Called (add_node kind.now node.ports node.required node.takes_values node.takes_glides) self.old (add_answered result) self.new }
     {
-        self.graph.append(kind, node)
+        self.graph.add_node(kind, node)
     }
 
     /// The host removes its node, with the edges that touch it; where it is the sink, there is none (SPEC 4.2). Refused with 4 if it does not
@@ -45,5 +45,13 @@ impl Tables {
         ensures { Called (set_sink node) self.old (answered result) self.new }
     {
         self.graph.set_sink(node)
+    }
+
+    /// The graph is made ready to be rendered (SPEC 5). Refused, and the order of the last prepare stays, with 13 if a required port has no edge,
+    /// 14 if the edges run in a circle.
+    pub fn prepare(&mut self) -> Result<(), Refusal>
+        ensures { Called prepare self.old (answered result) self.new }
+    {
+        self.graph.prepare()
     }
 }

@@ -16,6 +16,7 @@ pub mod render;
 pub mod report;
 pub mod scheduling;
 pub mod spawn;
+pub mod stretch;
 
 ghost use Rattle.std.specs.Prelude.{◌≡◌};
 ghost use Rattle.model.specs.Make.{new_model};

@@ -1,18 +1,27 @@
 //! The store: tables that calls left, from an accepted making on. So the ledger's claim holds of each.
 
-ghost use Rattle.model.specs.Call.{add_node, remove_node, connect, disconnect, set_sink, schedule};
-ghost use Rattle.engine.specs.Called.{Called, answered, add_answered};
+ghost use Rattle.std.specs.Prelude.{◌≡◌, Err};
+ghost use Rattle.node.specs.declared.refusal.Refusal as refusal;
+ghost use Rattle.model.specs.Call as call;
+ghost use Rattle.busiest.specs.Stretch.{said, samples, busiest};
+ghost use Rattle.mixing.specs.Filled.{filled_of};
+ghost use Rattle.whole_mixing.specs.Filled as whole;
+ghost use Rattle.engine.specs.Called.{Called, Asked, answered, add_answered, page_answered};
 ghost use Rattle.engine.specs.Made.{Makes};
 ghost use Rattle.engine.specs.Reached.{Claimed};
 
 use crate::Tables;
 use crate::making::config_of;
+use busiest::stretch::Busiest;
 use graph::host::HostNode;
+use mixing::FadePart;
 use node::order::EventAction;
-use node::record::{NodeId, VoiceId};
+use node::record::{Edge, Node, NodeId, VoiceId};
 use node::refusal::Refusal;
 use std::marker::Model;
 use store::config::Making;
+use voice::steal_ring::Steals;
+use voice::voices::Voice;
 
 /// A store. Every store is one that a list of calls left, from one that an accepted making gave.
 #[derive(Drop)]
@@ -50,42 +59,49 @@ impl Store {
         let _tables = &self.tables;
     }
 
-    /// `Tables::add_node`.
+    /// See `Tables::add_node`.
     pub fn add_node(&mut self, kind: &[u8], node: HostNode) -> Result<NodeId, Refusal>
-        ensures { Called (add_node kind.now node.ports node.required node.takes_values node.takes_glides) self.old (add_answered result) self.new }
+        ensures { Called (call.add_node kind.now node.ports node.required node.takes_values node.takes_glides) self.old (add_answered result) self.new }
     {
         self.tables.add_node(kind, node)
     }
 
-    /// `Tables::remove_node`.
+    /// See `Tables::remove_node`.
     pub fn remove_node(&mut self, node: NodeId) -> Result<(), Refusal>
-        ensures { Called (remove_node node) self.old (answered result) self.new }
+        ensures { Called (call.remove_node node) self.old (answered result) self.new }
     {
         self.tables.remove_node(node)
     }
 
-    /// `Tables::connect`.
+    /// See `Tables::connect`.
     pub fn connect(&mut self, from: NodeId, to: NodeId, port: u32) -> Result<(), Refusal>
-        ensures { Called (connect from to port) self.old (answered result) self.new }
+        ensures { Called (call.connect from to port) self.old (answered result) self.new }
     {
         self.tables.connect(from, to, port)
     }
 
-    /// `Tables::disconnect`.
+    /// See `Tables::disconnect`.
     pub fn disconnect(&mut self, to: NodeId, port: u32) -> Result<(), Refusal>
-        ensures { Called (disconnect to port) self.old (answered result) self.new }
+        ensures { Called (call.disconnect to port) self.old (answered result) self.new }
     {
         self.tables.disconnect(to, port)
     }
 
-    /// `Tables::set_sink`.
+    /// See `Tables::set_sink`.
     pub fn set_sink(&mut self, node: NodeId) -> Result<(), Refusal>
-        ensures { Called (set_sink node) self.old (answered result) self.new }
+        ensures { Called (call.set_sink node) self.old (answered result) self.new }
     {
         self.tables.set_sink(node)
     }
 
-    /// `Tables::schedule`.
+    /// See `Tables::prepare`.
+    pub fn prepare(&mut self) -> Result<(), Refusal>
+        ensures { Called call.prepare self.old (answered result) self.new }
+    {
+        self.tables.prepare()
+    }
+
+    /// See `Tables::schedule`.
     pub fn schedule(
         &mut self,
         time: u64,
@@ -93,8 +109,156 @@ impl Store {
         name: &[u8],
         action: EventAction,
     ) -> Result<(), Refusal>
-        ensures { Called (schedule time voice name.now action) self.old (answered result) self.new }
+        ensures { Called (call.schedule time voice name.now action) self.old (answered result) self.new }
     {
         self.tables.schedule(time, voice, name, action)
+    }
+
+    /// See `Tables::voice_level`.
+    pub fn voice_level(&self, voice: VoiceId) -> Option<f32>
+        ensures { Asked (call.level voice) self.now (call.known result) }
+    {
+        self.tables.voice_level(voice)
+    }
+
+    /// See `Tables::fade_position`.
+    pub fn fade_position(&self, voice: VoiceId) -> Option<u64>
+        ensures { Asked (call.position voice) self.now (call.reached result) }
+    {
+        self.tables.fade_position(voice)
+    }
+
+    /// See `Tables::voice`.
+    pub fn voice(&self, voice: VoiceId) -> Option<Voice>
+        ensures { Asked (call.voice voice) self.now (call.found result) }
+    {
+        self.tables.voice(voice)
+    }
+
+    /// See `Tables::voice_at`.
+    pub fn voice_at(&self, place: usize) -> Option<Voice>
+        ensures { Asked (call.voice_at place) self.now (call.found result) }
+    {
+        self.tables.voice_at(place)
+    }
+
+    /// See `Tables::voices`.
+    pub fn voices(&self) -> &[Voice]
+        ensures { Asked call.voices self.now (call.all result.now) }
+    {
+        self.tables.voices()
+    }
+
+    /// See `Tables::steals`.
+    pub fn steals(&self) -> &Steals
+        ensures { Asked call.steals self.now (call.stolen result.now) }
+    {
+        self.tables.steals()
+    }
+
+    /// See `Tables::edges`.
+    pub fn edges(&self) -> &[Edge]
+        ensures { Asked call.edges self.now (call.wires result.now) }
+    {
+        self.tables.edges()
+    }
+
+    /// See `Tables::processing_order`.
+    pub fn processing_order(&self) -> &[NodeId]
+        ensures { Asked call.processing self.now (call.in_order result.now) }
+    {
+        self.tables.processing_order()
+    }
+
+    /// See `Tables::sources`.
+    pub fn sources(&self, node: NodeId) -> [Option<NodeId>; 64]
+        ensures { Asked (call.sources node) self.now (call.fed result) }
+    {
+        self.tables.sources(node)
+    }
+
+    /// See `Tables::node_record`.
+    pub fn node_record(&self, node: NodeId) -> Option<Node>
+        ensures { Asked (call.node_record node) self.now (call.found_node result) }
+    {
+        self.tables.node_record(node)
+    }
+
+    /// See `Tables::clock`.
+    pub fn clock(&self) -> u64
+        ensures { Asked call.clock self.now (call.time result) }
+    {
+        self.tables.clock()
+    }
+
+    /// See `Tables::page`.
+    pub fn page(&self, out: &mut [u8]) -> Result<usize, Refusal>
+        ensures is { Asked (call.page out.old) self.now (page_answered result out.new) }
+        ensures same { (x : refusal.Refusal) → result ≡ Err x → out.new ≡ out.old }
+    {
+        self.tables.page(out)
+    }
+
+    /// See `Tables::fade_output`.
+    pub fn fade_output(
+        &self,
+        input: &[f32],
+        gains: &[f32],
+        part: FadePart,
+        out: &mut [f32],
+    ) -> Result<(), Refusal>
+        ensures is { Asked (call.fade_output input.now part.ins gains.now part.position out.old part.outs) self.now (filled_of result out.new) }
+        ensures same { (x : refusal.Refusal) → result ≡ Err x → out.new ≡ out.old }
+    {
+        self.tables.fade_output(input, gains, part, out)
+    }
+
+    /// See `Tables::bus_sum`.
+    pub fn bus_sum(
+        &self,
+        inputs: &[f32],
+        counts: &[usize],
+        out: &mut [f32],
+        outs: usize,
+    ) -> Result<(), Refusal>
+        ensures is { Asked (call.bus_sum inputs.now counts.now out.old outs) self.now (filled_of result out.new) }
+        ensures same { (x : refusal.Refusal) → result ≡ Err x → out.new ≡ out.old }
+    {
+        self.tables.bus_sum(inputs, counts, out, outs)
+    }
+
+    /// See `Tables::whole_fade_output`.
+    pub fn whole_fade_output(
+        &self,
+        input: &[i32],
+        gains: &[u32],
+        part: FadePart,
+        out: &mut [i32],
+    ) -> Result<(), Refusal>
+        ensures is { Asked (call.whole_fade input.now part.ins gains.now part.position out.old part.outs) self.now (whole.filled_of result out.new) }
+        ensures same { (x : refusal.Refusal) → result ≡ Err x → out.new ≡ out.old }
+    {
+        self.tables.whole_fade_output(input, gains, part, out)
+    }
+
+    /// See `Tables::whole_bus_sum`.
+    pub fn whole_bus_sum(
+        &self,
+        inputs: &[i32],
+        counts: &[usize],
+        out: &mut [i32],
+        outs: usize,
+    ) -> Result<(), Refusal>
+        ensures is { Asked (call.whole_sum inputs.now counts.now out.old outs) self.now (whole.filled_of result out.new) }
+        ensures same { (x : refusal.Refusal) → result ≡ Err x → out.new ≡ out.old }
+    {
+        self.tables.whole_bus_sum(inputs, counts, out, outs)
+    }
+
+    /// See `Tables::busiest_stretch`.
+    pub fn busiest_stretch(&self, width: u64) -> Busiest
+        ensures { said result ≡ busiest width (samples self.now.shared.steals.newest) }
+    {
+        self.tables.busiest_stretch(width)
     }
 }

@@ -74,6 +74,27 @@ impl Tables {
         &self.steals
     }
 
+    /// The edges, in the order in which they were put.
+    pub fn edges(&self) -> &[Edge]
+        ensures { Asked call.edges self.now (call.wires result.now) }
+    {
+        self.graph.edges()
+    }
+
+    /// The processing order of the last prepare that was done (SPEC 5.2).
+    pub fn processing_order(&self) -> &[NodeId]
+        ensures { Asked call.processing self.now (call.in_order result.now) }
+    {
+        self.graph.order()
+    }
+
+    /// What feeds each of the ports 0 to 63 of a node.
+    pub fn sources(&self, node: NodeId) -> [Option<NodeId>; 64]
+        ensures { Asked (call.sources node) self.now (call.fed result) }
+    {
+        self.graph.sources(node)
+    }
+
     /// The clock: the samples rendered so far.
     pub fn clock(&self) -> u64
         ensures { Asked call.clock self.now (call.time result) }

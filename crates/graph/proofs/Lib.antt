@@ -5,3 +5,5 @@ pub mod Together
 pub mod Kept
 pub mod Ports
 pub mod Grown
+pub mod Masks
+pub mod Sorting

@@ -7,3 +7,5 @@ pub mod Sound
 pub mod Does
 pub mod Taken
 pub mod Grown
+pub mod Masks
+pub mod Sorts

@@ -1,6 +1,6 @@
 //! The graph as one value: nodes by rising id, edges in the order in which they were put, the sink, and the processing order.
 
-ghost use Rattle.std.specs.Prelude.{◌≡◌, not};
+ghost use Rattle.std.specs.Prelude.{◌≡◌, ◌+◌, not};
 ghost use Rattle.lists.specs.Find.{filter_o};
 ghost use Rattle.node.specs.Node.{reported, with_last};
 ghost use Rattle.edges.specs.Ports.{free_port, port_from, sources};
@@ -10,6 +10,8 @@ ghost use Rattle.graph.specs.Node.{node_at, host_node, ports_of, noise_raised};
 ghost use Rattle.graph.specs.Change.{connect, disconnect, append, remove_node, remove_voice, set_sink};
 ghost use Rattle.graph.specs.Tables.{answer_of};
 ghost use Rattle.graph.specs.Refuse.{connect_refusal, disconnect_refusal, host_refusal, add_refusal};
+ghost use Rattle.prepare.specs.Prepare.{prepare};
+ghost use Rattle.graph.specs.Sorts.{prepared};
 ghost use Rattle.graph.specs.Grown.{fits, with_all};
 ghost use Rattle.graph.specs.Does.{unless, added, changed_node};
 
@@ -23,6 +25,7 @@ use crate::node_table::{
     node_of, order_at, raise_noise_at, report_at,
 };
 use crate::tests::{host_test, is_bad_kind, port_test, wire_test};
+use crate::topological_sort::{OrderTable, topological_sort};
 use arrayvec::ArrayVec;
 use node::order::LastOrder;
 use node::record::{Edge, Node, NodeId, VoiceId};
@@ -37,7 +40,7 @@ const ID_LIMIT: u64 = 4294967296;
 pub struct AudioGraph {
     nodes: NodeTable,
     edges: EdgeTable,
-    order: ArrayVec<NodeId, 512>,
+    order: OrderTable,
     sink: Option<NodeId>,
     prepared: bool,
     next: u64,
@@ -84,6 +87,15 @@ impl AudioGraph {
         ensures { result ≡ node_at self.now.nodes id }
     {
         node_of(self.nodes.as_slice(), id)
+    }
+
+    /// The node whose id is `place` above `first`, if it lives: no id of 2^32 or above does.
+    pub fn node_past(&self, first: NodeId, place: u32) -> Option<Node>
+        ensures { result ≡ node_at self.now.nodes (record { 0 = first.0 + place }) }
+    {
+        let nodes = self.nodes.as_slice();
+        let id = first.0.checked_add(place)?;
+        node_of(nodes, NodeId(id))
     }
 
     /// The output of `from` feeds the port `port` of `to`, in place of what fed it (SPEC 4.3). Refused, and nothing changes, with 4 if one of them
@@ -136,6 +148,21 @@ impl AudioGraph {
         drop_touching(&mut self.edges, ids.as_slice());
         self.sink = kept_sink(self.sink, ids.as_slice());
         self.prepared = false;
+    }
+
+    /// Prepares the graph for rendering: its processing order (SPEC 5.2). Refused, and nothing changes, with 13 if a required port of a node is not
+    /// fed, 14 if the edges run in a circle (SPEC 5.3).
+    pub fn prepare(&mut self) -> Result<(), Refusal>
+        ensures answer { result ≡ (prepare self.old.nodes self.old.edges).answer }
+        ensures graph { self.new ≡ prepared self.old }
+    {
+        topological_sort(
+            self.nodes.as_slice(),
+            self.edges.as_slice(),
+            &mut self.order,
+        )?;
+        self.prepared = true;
+        Ok(())
     }
 
     /// The level of the node's block, from 0 on, and whether it is done (SPEC 11.1). Nothing changes where no node has this id.

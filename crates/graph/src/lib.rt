@@ -6,3 +6,4 @@ mod edge_table;
 pub mod host;
 mod node_table;
 pub mod tests;
+mod topological_sort;
