@@ -1,5 +1,5 @@
 -- Making: what it gives, or why it is refused.
-use Rattle.std.specs.Prelude.{ℕ, ◌≡◌, leb, cond, Result, Ok, Err, None, Some}
+use Rattle.std.specs.Prelude.{ℕ, ◌≡◌, Bool, ◌&&◌, leb, cond, Result, Ok, Err, None, Some}
 use Rattle.node.specs.declared.refusal.Refusal.{Refusal}
 use Rattle.model.specs.Make.{Making, make, refusal_of}
 use Rattle.model.specs.Model.{Model}
@@ -12,6 +12,10 @@ use Rattle.board.specs.declared.making.MakeRefusal.TheVariants.{Store, Keyboards
 -- Where there is memory for fewer keyboards than are asked for, their count is out of range, as 0 is.
 abbrev pub held : ℕ → ℕ → ℕ
 held memory n = cond (leb n memory) n 0
+
+-- from 1 to 8, and memory for them
+abbrev pub in_range : ℕ → ℕ → Bool
+in_range memory n = leb 1 n && (leb n 8 && leb n memory)
 
 abbrev pub made_of : Result Console MakeRefusal → ConsoleMade
 made_of (Ok k) = made k

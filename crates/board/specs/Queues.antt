@@ -5,8 +5,12 @@ use Rattle.store.specs.declared.wish.Wish.{Wish}
 use Rattle.console.specs.declared.refusal.KeyboardRefusal.{KeyboardRefusal}
 use Rattle.console.specs.Wishes.{Wishes, waiting_at, Picked, oldest_or}
 
+-- a queue is a keyboard
+abbrev pub waiting_in : List (ArrayVec Wish) → ℕ → Wishes
+waiting_in queues next = record { waits = map (λ (v : ArrayVec Wish). v.items) queues; next = next }
+
 abbrev pub wishes_of : List (ArrayVec Wish) → ℕ → ℕ → Wishes
-wishes_of queues count next = record { waits = map (λ (v : ArrayVec Wish). v.items) (take count queues); next = next }
+wishes_of queues count next = waiting_in (take count queues) next
 
 -- the keyboard, if there is one, with its oldest wish
 abbrev pub picked_at : Option ℕ → Wishes → Option Picked

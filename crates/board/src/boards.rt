@@ -14,7 +14,7 @@ ghost use Rattle.board.specs.Reached.{BoardClaimed};
 
 use crate::closing::{BoardRefusal, opened, shuts_spawn};
 use crate::keyboards::Keyboards;
-use crate::making::MakeRefusal;
+use crate::making::{MakeRefusal, is_in_range};
 use crate::sealable::accepts;
 use console::refusal::KeyboardRefusal;
 use engine::reach::Store;
@@ -72,7 +72,7 @@ impl<const KEYBOARDS: usize> Board<KEYBOARDS> {
         ensures { MakesBoard making (held KEYBOARDS keyboards) result }
     {
         let store = Store::make(making)?;
-        if keyboards == 0 || 8 < keyboards || KEYBOARDS < keyboards {
+        if !is_in_range(KEYBOARDS, keyboards) {
             return Err(MakeRefusal::Keyboards(KeyboardRefusal::OutOfRange));
         }
         Ok(Board {
@@ -168,11 +168,7 @@ impl<const KEYBOARDS: usize> Board<KEYBOARDS> {
     }
 
     /// `Tables::add_node`, unless the board is sealed.
-    pub fn add_node(
-        &mut self,
-        kind: &[u8],
-        node: HostNode,
-    ) -> Result<NodeId, BoardRefusal<Refusal>>
+    pub fn add_node(&mut self, kind: &[u8], node: HostNode) -> Result<NodeId, BoardRefusal<Refusal>>
         ensures { BoardCalled (on_store (call.add_node kind.now node.ports node.required node.takes_values node.takes_glides)) self.old (node_told result) self.new }
     {
         if self.seal.is_some() {

@@ -3,7 +3,7 @@
 ghost use Rattle.std.specs.Prelude.{◌≡◌, length};
 ghost use Rattle.model.specs.Call as call;
 ghost use Rattle.console.specs.Wishes.{keyboards, waiting_at, picked};
-ghost use Rattle.console.specs.Console.{on, wish, make_console};
+ghost use Rattle.console.specs.Console.{on, make_console};
 ghost use Rattle.console.specs.Console as console;
 ghost use Rattle.engine.specs.Called.{answered, add_answered};
 ghost use Rattle.board.specs.Queues.{picked_at};
@@ -12,7 +12,7 @@ ghost use Rattle.board.specs.Made.{held, made_of};
 ghost use Rattle.board.specs.Reached.{ConsoleClaimed};
 
 use crate::keyboards::Keyboards;
-use crate::making::MakeRefusal;
+use crate::making::{MakeRefusal, is_in_range};
 use console::refusal::KeyboardRefusal;
 use engine::reach::Store;
 use graph::host::HostNode;
@@ -50,7 +50,7 @@ impl<const KEYBOARDS: usize> Console<KEYBOARDS> {
         ensures { made_of result ≡ make_console making (held KEYBOARDS keyboards) }
     {
         let store = Store::make(making)?;
-        if keyboards == 0 || 8 < keyboards || KEYBOARDS < keyboards {
+        if !is_in_range(KEYBOARDS, keyboards) {
             return Err(MakeRefusal::Keyboards(KeyboardRefusal::OutOfRange));
         }
         Ok(Console {
@@ -98,7 +98,7 @@ impl<const KEYBOARDS: usize> Console<KEYBOARDS> {
     /// The wish of a keyboard, which waits for its turn (SPEC 17). Nothing of the spawn that it is for is tested. Refused with 24 where there is no such
     /// keyboard, and then with 25 where 16 wait there.
     pub fn wish(&mut self, keyboard: usize, wish: &Wish) -> Result<(), KeyboardRefusal>
-        ensures { ConsoleCalled (wish keyboard wish.now) self.old (wish_answered result) self.new }
+        ensures { ConsoleCalled (console.wish keyboard wish.now) self.old (wish_answered result) self.new }
     {
         self.keyboards.add(keyboard, wish)
     }

@@ -1,5 +1,6 @@
 //! Why a console or a board is not made.
 ghost use Rattle.std.specs.Prelude.{◌≡◌};
+ghost use Rattle.board.specs.Made.{in_range};
 ghost use Rattle.board.specs.declared.making.MakeRefusal.TheVariants as refusal;
 
 use console::refusal::KeyboardRefusal;
@@ -18,4 +19,11 @@ impl From<Refusal> for MakeRefusal {
     fn from(why: Refusal) -> MakeRefusal {
         MakeRefusal::Store(why)
     }
+}
+
+/// Whether there are from 1 to 8 keyboards, and memory for them.
+pub(crate) fn is_in_range(memory: usize, keyboards: usize) -> bool
+    ensures { result ≡ in_range memory keyboards }
+{
+    (1..=8).contains(&keyboards) && keyboards <= memory
 }

@@ -52,7 +52,8 @@ pub(crate) fn accepts(store: &Store, p: &Profile) -> bool
         return false;
     }
     let bus = store.node_record(p.bus);
+    let nodes = store.nodes().len();
     let edges = store.edges().len();
     let voices = store.voices().len();
-    is_stated(bus, store.node_count(), edges, voices, p)
+    is_stated(bus, nodes, edges, voices, p)
 }
