@@ -2,4 +2,4 @@ pub mod Queues
 pub mod Walked
 pub mod Calls
 pub mod Seals
-pub mod Making
+pub mod Begun

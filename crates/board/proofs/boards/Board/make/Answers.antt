@@ -1,4 +1,4 @@
-use Rattle.board.proofs.Making.{new_alone}
+use Rattle.board.proofs.Begun.{new_alone}
 use Rattle.board.proofs.boards.Board.make.Goals as goal
 
 pub invariant_of-result : goal.invariant_of-result

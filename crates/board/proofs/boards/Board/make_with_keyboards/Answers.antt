@@ -1,11 +1,11 @@
 use Rattle.std.proofs.Common.{◌≡◌, ◌∙◌, sym, refl, true, false, rules, tests}
-use Rattle.board.proofs.Making.{fits, makes_held, refuses, new_with}
+use Rattle.board.proofs.Begun.{fits, makes_held, refuses, new_with}
 use Rattle.board.proofs.boards.Board.make_with_keyboards.Goals as goal
 
 pub new-requires : goal.new-requires
 new-requires g c =
     let range : c.is_in_range.result ≡ true = search (rules, tests) in
-    fits g.row.KEYBOARDS c.args.keyboards (sym c.is_in_range.ensures ∙ range)
+    (search rules, fits g.row.KEYBOARDS c.args.keyboards (sym c.is_in_range.ensures ∙ range))
 
 pub returns-then-not-is_in_range : goal.returns-then-not-is_in_range
 returns-then-not-is_in_range g c =
