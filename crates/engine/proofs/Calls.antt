@@ -14,7 +14,8 @@ use Rattle.replaced.proofs.Theorem.{replaced_same}
 use Rattle.engine.specs.Called.{Called}
 use Rattle.engine.specs.Reached.{Reached, Claimed}
 
-one_more : (cs : List Call) (c : Call) (m : Model) → (run (cs ++ c ∷ []) m).model ≡ (step c (run cs m).model).model
+one_more : (cs : List Call) (c : Call) (m : Model)
+    → (run (cs ++ c ∷ []) m).model ≡ (step c (run cs m).model).model
 one_more [] c m = refl
 one_more (d ∷ cs) c m = one_more cs c (step d m).model
 
@@ -35,8 +36,11 @@ claimed {m} r =
     let same : m.shared ≡ (ledger_after c r.calls).shared = ap (λ (n : Model). n.shared) r.is ∙ k.shared in
     record {
       reached = r;
-      config = ap (λ (d : SharedState). d.config) same ∙ config_after c (made r.making r.new r.accepted).length r.calls;
-      ids = subst (λ (d : SharedState). (j : ℕ) → In j (node_ids d.graph.nodes) → j < d.graph.next) (sym same) (nodes_after_lem c [] r.calls).below;
+      config =
+          ap (λ (d : SharedState). d.config) same ∙ config_after c (made r.making r.new r.accepted).length r.calls;
+      ids =
+          subst (λ (d : SharedState). (j : ℕ) → In j (node_ids d.graph.nodes) → j < d.graph.next) (sym same)
+          (nodes_after_lem c [] r.calls).below;
       claim = k;
       replaced = replaced_same r.making r.new r.accepted r.calls;
     }

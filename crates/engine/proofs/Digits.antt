@@ -53,5 +53,6 @@ most k n h f = go (ltb 20 k) refl
     go false e = ltb-false 20 k e
     go true e =
         let more : 20 < k = ltb-true 20 k e in
-        let up : 10 ^ 20 ≤ 10 ^ (k - 1) = pow-le-pow_right {n = 10} (omega arith) {i = 20} {j = k - 1} (omega arith) in
+        let up : 10 ^ 20 ≤ 10 ^ (k - 1) =
+        pow-le-pow_right {n = 10} (omega arith) {i = 20} {j = k - 1} (omega arith) in
         absurd (omega (arith, f.2 (omega arith)))

@@ -2,3 +2,11 @@ pub mod Calls
 pub mod Digits
 pub mod Newly
 pub mod Texts
+pub mod Reclaiming
+pub mod Placing
+pub mod Spawns
+pub mod Seats
+pub mod Rooms
+pub mod Seating
+pub mod Doing
+pub mod Rendered

@@ -1,7 +1,7 @@
 //! From which node, and into which port, a voice feeds its bus. An id is a `u64` here: counted from a voice's first node it could be past the last
 //! id, and then no edge starts there.
 
-ghost use Rattle.std.specs.Prelude.{◌≡◌};
+ghost use Rattle.std.specs.Prelude.{◌≡◌, find};
 ghost use Rattle.edges.specs.Ports.{feeds, port_from};
 ghost use Rattle.voice.specs.Voice.{id, feeder, end_of};
 ghost use Rattle.model.specs.Page.{port_now};
@@ -33,6 +33,13 @@ fn feeds(from: u64, to: NodeId, e: &Edge) -> bool
     ensures { result ≡ feeds (id from) to e.now }
 {
     u64::from(e.from.0) == from && e.to.0 == to.0
+}
+
+/// The first edge from the node `from` to `to`.
+pub(crate) fn feeding_edge(edges: &[Edge], from: u64, to: NodeId) -> Option<Edge>
+    ensures { result ≡ find (feeds (id from) to) edges.now }
+{
+    edges.iter().find(|e| feeds(from, to, e)).copied()
 }
 
 /// The port of `to` that the node `from` feeds.

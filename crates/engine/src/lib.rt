@@ -12,9 +12,11 @@ pub mod page;
 mod page_text;
 pub mod reach;
 pub mod read;
+mod reclaim;
 pub mod render;
 pub mod report;
 pub mod scheduling;
+mod seat;
 pub mod spawn;
 pub mod stretch;
 

@@ -8,8 +8,8 @@ use bus::sample_rate;
 use node::refusal::Refusal;
 use store::config::{Config, Making};
 
-/// What a making fixes: a whole sample rate from 8,000 to 192,000 Hz, else 1; a block of 1 to 128 samples, else 2; a budget of at most 64, if there
-/// is one, else 3; and the fade table at 48,000 Hz alone, else 20.
+/// What a making fixes: a whole sample rate from 8,000 to 192,000 Hz, else 1; a block of 1 to 128 samples, else 2; a
+/// budget of at most 64, if there is one, else 3; and the fade table at 48,000 Hz alone, else 20.
 pub(crate) fn config_of(making: Making) -> Result<Config, Refusal>
     ensures { result ≡ unless (refusal_of making) (config_of making) }
 {

@@ -27,7 +27,8 @@ fn page_text(clock: u64, edges: &[Edge], voices: &[Voice]) -> Text
 }
 
 impl Tables {
-    /// The page (SPEC 14.2), written at the start of `out`: its length in bytes. Refused, and `out` stays, with 17 if `out` is shorter.
+    /// The page (SPEC 14.2), written at the start of `out`: its length in bytes. Refused, and `out` stays, with 17 if
+    /// `out` is shorter.
     pub fn page(&self, out: &mut [u8]) -> Result<usize, Refusal>
         ensures is { Asked (call.page out.old) self.now (page_answered result out.new) }
         ensures same { (x : refusal.Refusal) → result ≡ Err x → out.new ≡ out.old }

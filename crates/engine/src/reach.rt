@@ -2,7 +2,10 @@
 
 ghost use Rattle.std.specs.Prelude.{◌≡◌, Err};
 ghost use Rattle.node.specs.declared.refusal.Refusal as refusal;
+ghost use Rattle.node.specs.declared.order.LastOrder.TheVariants as last;
 ghost use Rattle.model.specs.Call as call;
+ghost use Rattle.model.specs.Spawn.{middle, spawn_of};
+ghost use Rattle.model.specs.Wish.{call_of};
 ghost use Rattle.busiest.specs.Stretch.{said, samples, busiest};
 ghost use Rattle.mixing.specs.Filled.{filled_of};
 ghost use Rattle.whole_mixing.specs.Filled as whole;
@@ -12,14 +15,18 @@ ghost use Rattle.engine.specs.Reached.{Claimed};
 
 use crate::Tables;
 use crate::making::config_of;
+use crate::render::Rendering;
 use busiest::stretch::Busiest;
 use graph::host::HostNode;
 use mixing::FadePart;
-use node::order::EventAction;
+use node::order::{EventAction, Glide};
 use node::record::{Edge, Node, NodeId, VoiceId};
 use node::refusal::Refusal;
 use std::marker::Model;
+use store::answer::Outcome;
 use store::config::Making;
+use store::wish::Wish;
+use synthdef::def::SynthDef;
 use voice::steal_ring::Steals;
 use voice::voices::Voice;
 
@@ -41,8 +48,8 @@ impl Model for Store {
 }
 
 impl Store {
-    /// A new store (SPEC 3). Refused with 1 for the sample rate, 2 for the block size, 3 for the budget, 20 for the fade table at another rate than
-    /// its own.
+    /// A new store (SPEC 3). Refused with 1 for the sample rate, 2 for the block size, 3 for the budget, 20 for the
+    /// fade table at another rate than its own.
     pub fn make(making: Making) -> Result<Store, Refusal>
         ensures { Makes making result }
     {
@@ -52,7 +59,8 @@ impl Store {
         })
     }
 
-    /// What a list of calls left has the properties that the ledger's claim says of it (SPEC 21). Nothing is done when it runs.
+    /// What a list of calls left has the properties that the ledger's claim says of it (SPEC 21). Nothing is done when
+    /// it runs.
     pub fn claim(&self)
         ensures { Claimed self.now }
     {
@@ -61,7 +69,8 @@ impl Store {
 
     /// See `Tables::add_node`.
     pub fn add_node(&mut self, kind: &[u8], node: HostNode) -> Result<NodeId, Refusal>
-        ensures { Called (call.add_node kind.now node.ports node.required node.takes_values node.takes_glides) self.old (add_answered result) self.new }
+        ensures { Called (call.add_node kind.now node.ports node.required node.takes_values node.takes_glides)
+            self.old (add_answered result) self.new }
     {
         self.tables.add_node(kind, node)
     }
@@ -99,6 +108,112 @@ impl Store {
         ensures { Called call.prepare self.old (answered result) self.new }
     {
         self.tables.prepare()
+    }
+
+    /// See `Tables::set_voice_param`.
+    pub fn set_voice_param(&mut self, voice: VoiceId, name: &[u8], value: f32) -> Outcome
+        ensures { Called (call.order voice name.now (last.Value value)) self.old (call.ordered result) self.new }
+    {
+        self.tables.set_voice_param(voice, name, value)
+    }
+
+    /// See `Tables::set_voice_param_glide`.
+    pub fn set_voice_param_glide(&mut self, voice: VoiceId, name: &[u8], glide: Glide) -> Outcome
+        ensures { Called (call.order voice name.now (last.Glide glide)) self.old (call.ordered result) self.new }
+    {
+        self.tables.set_voice_param_glide(voice, name, glide)
+    }
+
+    /// See `Tables::report`.
+    pub fn report(
+        &mut self,
+        node: NodeId,
+        channels: usize,
+        samples: &[f32],
+        done: bool,
+    ) -> Result<(), Refusal>
+        ensures { Called (call.report node channels samples.now done) self.old (answered result) self.new }
+    {
+        self.tables.report(node, channels, samples, done)
+    }
+
+    /// See `Tables::spawn_voice`.
+    pub fn spawn_voice(&mut self, wish: &Wish) -> Result<VoiceId, Refusal>
+        ensures { Called (call_of wish.now) self.old (call.spawned result) self.new }
+    {
+        self.tables.spawn_voice(wish)
+    }
+
+    /// See `Tables::spawn_voice_on_bus`.
+    pub fn spawn_voice_on_bus(
+        &mut self,
+        def: &SynthDef,
+        bus: NodeId,
+        rank: u32,
+    ) -> Result<VoiceId, Refusal>
+        ensures { Called (call.spawn_loose (spawn_of def.now bus middle rank)) self.old (call.spawned result) self.new }
+    {
+        self.tables.spawn_voice_on_bus(def, bus, rank)
+    }
+
+    /// See `Tables::spawn_voice_on_bus_panned`.
+    pub fn spawn_voice_on_bus_panned(
+        &mut self,
+        def: &SynthDef,
+        bus: NodeId,
+        pan: f32,
+        rank: u32,
+    ) -> Result<VoiceId, Refusal>
+        ensures { Called (call.spawn_loose (spawn_of def.now bus pan rank)) self.old (call.spawned result) self.new }
+    {
+        self.tables.spawn_voice_on_bus_panned(def, bus, pan, rank)
+    }
+
+    /// See `Tables::spawn_voice_on_bus_managed`.
+    pub fn spawn_voice_on_bus_managed(
+        &mut self,
+        def: &SynthDef,
+        bus: NodeId,
+        rank: u32,
+    ) -> Result<VoiceId, Refusal>
+        ensures { Called (call.spawn_managed (spawn_of def.now bus middle rank)) self.old (call.spawned result) self.new }
+    {
+        self.tables.spawn_voice_on_bus_managed(def, bus, rank)
+    }
+
+    /// See `Tables::spawn_voice_on_bus_panned_managed`.
+    pub fn spawn_voice_on_bus_panned_managed(
+        &mut self,
+        def: &SynthDef,
+        bus: NodeId,
+        pan: f32,
+        rank: u32,
+    ) -> Result<VoiceId, Refusal>
+        ensures { Called (call.spawn_managed (spawn_of def.now bus pan rank)) self.old (call.spawned result) self.new }
+    {
+        self.tables
+            .spawn_voice_on_bus_panned_managed(def, bus, pan, rank)
+    }
+
+    /// See `Tables::free_voice`.
+    pub fn free_voice(&mut self, voice: VoiceId) -> Outcome
+        ensures { Called (call.free voice) self.old (call.ordered result) self.new }
+    {
+        self.tables.free_voice(voice)
+    }
+
+    /// See `Tables::free_done_synths`.
+    pub fn free_done_synths(&mut self) -> usize
+        ensures { Called call.clear self.old (call.removed result) self.new }
+    {
+        self.tables.free_done_synths()
+    }
+
+    /// See `Tables::render`.
+    pub fn render(&mut self, out: &mut [u8]) -> Rendering
+        ensures { Called (call.render out.old) self.old (call.rendered result.answer result.taken out.new) self.new }
+    {
+        self.tables.render(out)
     }
 
     /// See `Tables::schedule`.
@@ -207,7 +322,8 @@ impl Store {
         part: FadePart,
         out: &mut [f32],
     ) -> Result<(), Refusal>
-        ensures is { Asked (call.fade_output input.now part.ins gains.now part.position out.old part.outs) self.now (filled_of result out.new) }
+        ensures is { Asked (call.fade_output input.now part.ins gains.now part.position out.old part.outs)
+            self.now (filled_of result out.new) }
         ensures same { (x : refusal.Refusal) → result ≡ Err x → out.new ≡ out.old }
     {
         self.tables.fade_output(input, gains, part, out)
@@ -235,7 +351,8 @@ impl Store {
         part: FadePart,
         out: &mut [i32],
     ) -> Result<(), Refusal>
-        ensures is { Asked (call.whole_fade input.now part.ins gains.now part.position out.old part.outs) self.now (whole.filled_of result out.new) }
+        ensures is { Asked (call.whole_fade input.now part.ins gains.now part.position out.old part.outs)
+            self.now (whole.filled_of result out.new) }
         ensures same { (x : refusal.Refusal) → result ≡ Err x → out.new ≡ out.old }
     {
         self.tables.whole_fade_output(input, gains, part, out)
@@ -249,7 +366,8 @@ impl Store {
         out: &mut [i32],
         outs: usize,
     ) -> Result<(), Refusal>
-        ensures is { Asked (call.whole_sum inputs.now counts.now out.old outs) self.now (whole.filled_of result out.new) }
+        ensures is { Asked (call.whole_sum inputs.now counts.now out.old outs)
+            self.now (whole.filled_of result out.new) }
         ensures same { (x : refusal.Refusal) → result ≡ Err x → out.new ≡ out.old }
     {
         self.tables.whole_bus_sum(inputs, counts, out, outs)

@@ -11,8 +11,9 @@ use node::refusal::Refusal;
 use scheduler::event::Event;
 
 impl Tables {
-    /// An action for `voice` at the sample `time`, in place of the pending ones of that time, sort and parameter (SPEC 8.2, 8.3). Any name is held: one
-    /// that has not 1 to 16 bytes matches no parameter. Refused with 7 if 256 events are pending then.
+    /// An action for `voice` at the sample `time`, in place of the pending ones of that time, sort and parameter (SPEC
+    /// 8.2, 8.3). Any name is held: one that has not 1 to 16 bytes matches no parameter. Refused with 7 if 256 events
+    /// are pending then.
     pub fn schedule(
         &mut self,
         time: u64,

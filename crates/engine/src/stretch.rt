@@ -23,8 +23,8 @@ fn newest(steals: &Steals) -> Newest
 }
 
 impl Tables {
-    /// How many of the newest 64 steals lie inside any stretch of `width` samples, at most, and the sample of the first of them in the earliest such
-    /// stretch (SPEC 19). Refused with 22 if `width` is 0.
+    /// How many of the newest 64 steals lie inside any stretch of `width` samples, at most, and the sample of the first
+    /// of them in the earliest such stretch (SPEC 19). Refused with 22 if `width` is 0.
     pub fn busiest_stretch(&self, width: u64) -> Busiest
         ensures { said result ≡ busiest width (samples self.now.shared.steals.newest) }
     {

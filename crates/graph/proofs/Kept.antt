@@ -54,7 +54,7 @@ living ns k h = go (node_at ns k) refl h
 lives_snoc : (ns : List Node) (x : Node) (k : NodeId) → Lives ns k → Lives (ns ++ x ∷ []) k
 lives_snoc ns x k h = let r = living ns k h in lives_in (ns ++ x ∷ []) k r.0 (in_left ns (x ∷ []) r.0 r.1) r.2
 
-lives_map : (g : Node → Node) → ((x : Node) → id_of (g x) ≡ id_of x) → (ns : List Node) (k : NodeId) → Lives ns k → Lives (map g ns) k
+pub lives_map : (g : Node → Node) → ((x : Node) → id_of (g x) ≡ id_of x) → (ns : List Node) (k : NodeId) → Lives ns k → Lives (map g ns) k
 lives_map g e ns k h = let r = living ns k h in lives_in (map g ns) k (g r.0) (in_of_map g ns r.0 r.1) (ap (λ j. eqb j k.0) (e r.0) ∙ r.2)
 
 -- a node that is none of those that go

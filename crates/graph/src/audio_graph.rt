@@ -8,6 +8,7 @@ ghost use Rattle.edges.specs.Wiring.{among};
 ghost use Rattle.graph.specs.View.{new_graph, with_nodes};
 ghost use Rattle.graph.specs.Node.{node_at, host_node, ports_of, noise_raised};
 ghost use Rattle.graph.specs.Change.{connect, disconnect, append, remove_node, remove_voice, set_sink};
+ghost use Rattle.graph.specs.Sound.{Sound};
 ghost use Rattle.graph.specs.Tables.{answer_of};
 ghost use Rattle.graph.specs.Refuse.{connect_refusal, disconnect_refusal, host_refusal, add_refusal};
 ghost use Rattle.prepare.specs.Prepare.{prepare};
@@ -270,6 +271,13 @@ impl AudioGraph {
         ensures { result ≡ sources self.now.edges to }
     {
         sources(self.edges.as_slice(), to)
+    }
+
+    /// What is true of every graph: among others, the ends of each edge live. Nothing is done when it runs.
+    pub fn claim(&self)
+        ensures { Sound self.now.nodes self.now.edges self.now.next }
+    {
+        let _edges = &self.edges;
     }
 
     /// The live nodes by rising id.

@@ -146,7 +146,8 @@ impl Scheduler {
 
     /// The events that are due, in order: those of times strictly below the deadline.
     pub fn due(&self, deadline: u64) -> &[Event]
-        ensures { result.now ≡ taken_before deadline self.now }
+        ensures value { result.now ≡ taken_before deadline self.now }
+        ensures fits { length result.now ≤ 256 }
     {
         let events = self.events.as_slice();
         &events[..count_due(events, deadline)]

@@ -8,4 +8,6 @@ loop-v-preserved c =
     let a = c.args in
     let i = c.loop-v.v-index in
     let more : 21 + 70 * i + 70 ≤ 21 + 70 * (i + 1) = omega arith in
-    widened more (page_more a.clock (port_now a.edges.now) i a.voices.now _ c.loop-v-test.true) (then c.loop-v.invariant (rw c.port_now.ensures at c.put_line.ensures))
+    let line = rw c.port_now.ensures at c.put_line.ensures in
+    widened more (page_more a.clock (port_now a.edges.now) i a.voices.now _ c.loop-v-test.true)
+    (then c.loop-v.invariant line)

@@ -9,7 +9,11 @@ pub put_port-requires : goal.put_port-requires
 put_port-requires c = omega (arith, long c.put_field.ensures, long c.put_field-2.ensures, c.requires)
 
 pub put_state-requires : goal.put_state-requires
-put_state-requires c = omega (arith, long c.put_field.ensures, long c.put_field-2.ensures, long c.put_port.ensures, c.requires)
+put_state-requires c =
+    omega (arith, long c.put_field.ensures, long c.put_field-2.ensures, long c.put_port.ensures, c.requires)
 
 pub returns : goal.returns
-returns c = widened (omega arith) (line_is c.args.clock c.args.port c.args.v.now) (then (then (then c.put_field.ensures (rw c.saturating_sub.ensures at c.put_field-2.ensures)) c.put_port.ensures) c.put_state.ensures)
+returns c =
+    let age = rw c.saturating_sub.ensures at c.put_field-2.ensures in
+    widened (omega arith) (line_is c.args.clock c.args.port c.args.v.now)
+    (then (then (then c.put_field.ensures age) c.put_port.ensures) c.put_state.ensures)

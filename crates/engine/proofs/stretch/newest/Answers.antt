@@ -20,7 +20,8 @@ returns c =
     let all = (newest_of l).rows in
     let few : length l ≤ 64 = omega (arith, c.len.ensures.value, c.len.ensures.fits) in
     let wide : length all ≡ 64 =
-    length-append l (replicate (64 - length l) no_record) ∙ ap (λ m. length l + m) (length-replicate (64 - length l) no_record) ∙ omega arith in
+    length-append l (replicate (64 - length l) no_record)
+    ∙ ap (λ m. length l + m) (length-replicate (64 - length l) no_record) ∙ omega arith in
     let rows : c.from_fn.result ≡ all = made_is _ _ c.from_fn.result all no_record 64 (λ i x q h p.
     let there : x ≡ unwrap_or (found_at i l) no_record = search (rules, tests) in
     (search rules, there ∙ found_row l (64 - length l) i no_record)) wide c.from_fn.ensures.items in

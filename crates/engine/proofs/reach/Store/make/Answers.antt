@@ -11,4 +11,5 @@ returns-in_err-config c =
     rw (p.1, p.2) (why (refusal_of c.args.making) _ (sym c.in_err-config.was ∙ c.config_of.ensures))
 
 pub invariant_of-result : goal.invariant_of-result
-invariant_of-result c = subst Reached (sym c.new.ensures) (newly c.args.making (sym c.in_ok-config.was ∙ c.config_of.ensures))
+invariant_of-result c =
+    subst Reached (sym c.new.ensures) (newly c.args.making (sym c.in_ok-config.was ∙ c.config_of.ensures))

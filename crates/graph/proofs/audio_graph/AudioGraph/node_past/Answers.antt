@@ -13,5 +13,5 @@ returns-in_err-id c =
     let over = subst (λ o. SomeIff o (k < 4294967296) k) c.in_err-id.was c.checked_add.ensures in
     let ns = c.self.inside.nodes.items in
     let none : node_at ns (record { 0 = k }) ≡ None =
-            none_find (is_node (record { 0 = k })) ns (λ n i. ne_eqb n.id.0 k (λ e. over (omega (arith, e, c.self.invariant.below n i, c.self.invariant.ids)))) in
+    none_find (is_node (record { 0 = k })) ns (λ n i. ne_eqb n.id.0 k (λ e. over (omega (arith, e, c.self.invariant.below n i, c.self.invariant.ids)))) in
     c.from_residual.ensures ∙ sym (ap (λ (v : GraphView). node_at v.nodes (record { 0 = k })) (sym c.self.view_is) ∙ none)

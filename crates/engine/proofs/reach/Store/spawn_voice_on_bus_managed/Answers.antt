@@ -1,0 +1,7 @@
+use Rattle.model.specs.Call.{spawn_managed}
+use Rattle.model.specs.Spawn.{middle, spawn_of}
+use Rattle.engine.proofs.Calls.{next}
+use Rattle.engine.proofs.reach.Store.spawn_voice_on_bus_managed.Goals as goal
+
+pub invariant_of-self : goal.invariant_of-self
+invariant_of-self c = next (spawn_managed (spawn_of c.args.def.now c.args.bus middle c.args.rank)) c.self.invariant c.spawn_voice_on_bus_managed.ensures
