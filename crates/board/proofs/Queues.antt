@@ -80,7 +80,6 @@ fresh qs n m all h = ap (λ (l : List (List Wish)). record { waits = l; next = 0
     each [] (suc k) h b = absurd (omega arith)
     each (v ∷ l) (suc k) h b = ap₂ ◌∷◌ (h 0 v (omega arith)) (each l k (λ i d c. h (suc i) d (omega (arith, c))) (omega arith))
 
-
 -- ---- whether a wish waits
 none_counted : (l : List Wish) → eqb (length l) 0 ≡ none_at l
 none_counted [] = refl

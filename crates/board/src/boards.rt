@@ -1,7 +1,9 @@
 //! What may be sealed.
 
 ghost use Rattle.std.specs.Prelude.{◌≡◌, length};
+ghost use Rattle.node.specs.declared.order.LastOrder.TheVariants as last;
 ghost use Rattle.model.specs.Call as call;
+ghost use Rattle.model.specs.Wish.{call_of};
 ghost use Rattle.console.specs.Wishes.{keyboards, waiting_at, picked};
 ghost use Rattle.console.specs.Console as console;
 ghost use Rattle.sealed.specs.Board.{on, seal, given};
@@ -16,15 +18,18 @@ use crate::closing::{BoardRefusal, opened, shuts_spawn};
 use crate::keyboards::Keyboards;
 use crate::making::{MakeRefusal, is_in_range};
 use crate::sealable::accepts;
+use crate::serving::{Served, turn};
 use console::refusal::KeyboardRefusal;
 use engine::reach::Store;
+use engine::render::Rendering;
 use graph::host::HostNode;
-use node::order::EventAction;
+use node::order::{EventAction, Glide};
 use node::record::{NodeId, VoiceId};
 use node::refusal::Refusal;
 use sealed::profile::{Profile, Seal};
 use sealed::refusal::SealRefusal;
 use std::marker::Model;
+use store::answer::Outcome;
 use store::config::Making;
 use store::wish::Wish;
 
@@ -233,5 +238,83 @@ impl<const KEYBOARDS: usize> Board<KEYBOARDS> {
         ensures { BoardCalled (on_store (call.schedule time voice name.now action)) self.old (given (console.plain (answered result))) self.new }
     {
         self.store.schedule(time, voice, name, action)
+    }
+
+    /// See `Tables::prepare`: no seal closes it.
+    pub fn prepare(&mut self) -> Result<(), Refusal>
+        ensures { BoardCalled (on_store (call.prepare)) self.old (given (console.plain (answered result))) self.new }
+    {
+        self.store.prepare()
+    }
+
+    /// See `Tables::set_voice_param`: no seal closes it.
+    pub fn set_voice_param(&mut self, voice: VoiceId, name: &[u8], value: f32) -> Outcome
+        ensures { BoardCalled (on_store (call.order voice name.now (last.Value value))) self.old (given (console.plain (call.ordered result))) self.new }
+    {
+        self.store.set_voice_param(voice, name, value)
+    }
+
+    /// See `Tables::set_voice_param_glide`: no seal closes it.
+    pub fn set_voice_param_glide(&mut self, voice: VoiceId, name: &[u8], glide: Glide) -> Outcome
+        ensures { BoardCalled (on_store (call.order voice name.now (last.Glide glide))) self.old (given (console.plain (call.ordered result))) self.new }
+    {
+        self.store.set_voice_param_glide(voice, name, glide)
+    }
+
+    /// See `Tables::report`: no seal closes it.
+    pub fn report(
+        &mut self,
+        node: NodeId,
+        channels: usize,
+        samples: &[f32],
+        done: bool,
+    ) -> Result<(), Refusal>
+        ensures { BoardCalled (on_store (call.report node channels samples.now done)) self.old (given (console.plain (answered result))) self.new }
+    {
+        self.store.report(node, channels, samples, done)
+    }
+
+    /// See `Tables::free_voice`: no seal closes it.
+    pub fn free_voice(&mut self, voice: VoiceId) -> Outcome
+        ensures { BoardCalled (on_store (call.free voice)) self.old (given (console.plain (call.ordered result))) self.new }
+    {
+        self.store.free_voice(voice)
+    }
+
+    /// See `Tables::free_done_synths`: no seal closes it.
+    pub fn free_done_synths(&mut self) -> usize
+        ensures { BoardCalled (on_store (call.clear)) self.old (given (console.plain (call.removed result))) self.new }
+    {
+        self.store.free_done_synths()
+    }
+
+    /// See `Tables::render`: no seal closes it.
+    pub fn render(&mut self, out: &mut [u8]) -> Rendering
+        ensures { BoardCalled (on_store (call.render out.old)) self.old (given (console.plain (call.rendered result.answer result.taken out.new))) self.new }
+    {
+        self.store.render(out)
+    }
+
+    /// `Tables::spawn_voice`, unless the seal closes that spawn.
+    pub fn spawn_voice(&mut self, wish: &Wish) -> Result<VoiceId, BoardRefusal<Refusal>>
+        ensures { BoardCalled (on_store (call_of wish.now)) self.old (spawn_told result) self.new }
+    {
+        if shuts_spawn(
+            &self.seal,
+            wish.managed,
+            wish.bus,
+            wish.def.nodes.count,
+            wish.def.edges.count,
+        ) {
+            return Err(BoardRefusal::Closed);
+        }
+        opened(self.store.spawn_voice(wish))
+    }
+
+    /// See `Console::turn`: no seal closes it.
+    pub fn turn(&mut self) -> Option<Served>
+        ensures { BoardCalled (on console.turn) self.old (given (turn_answered result)) self.new }
+    {
+        turn(&mut self.store, &mut self.keyboards)
     }
 }

@@ -1,7 +1,9 @@
 //! A store with keyboards.
 
 ghost use Rattle.std.specs.Prelude.{◌≡◌, length};
+ghost use Rattle.node.specs.declared.order.LastOrder.TheVariants as last;
 ghost use Rattle.model.specs.Call as call;
+ghost use Rattle.model.specs.Wish.{call_of};
 ghost use Rattle.console.specs.Wishes.{keyboards, waiting_at, picked};
 ghost use Rattle.console.specs.Console.{on, make_console};
 ghost use Rattle.console.specs.Console as console;
@@ -13,13 +15,16 @@ ghost use Rattle.board.specs.Reached.{ConsoleClaimed};
 
 use crate::keyboards::Keyboards;
 use crate::making::{MakeRefusal, is_in_range};
+use crate::serving::{Served, turn};
 use console::refusal::KeyboardRefusal;
 use engine::reach::Store;
+use engine::render::Rendering;
 use graph::host::HostNode;
-use node::order::EventAction;
+use node::order::{EventAction, Glide};
 use node::record::{NodeId, VoiceId};
 use node::refusal::Refusal;
 use std::marker::Model;
+use store::answer::Outcome;
 use store::config::Making;
 use store::wish::Wish;
 
@@ -149,5 +154,75 @@ impl<const KEYBOARDS: usize> Console<KEYBOARDS> {
         ensures { ConsoleCalled (on (call.schedule time voice name.now action)) self.old (console.plain (answered result)) self.new }
     {
         self.store.schedule(time, voice, name, action)
+    }
+
+    /// See `Tables::prepare`.
+    pub fn prepare(&mut self) -> Result<(), Refusal>
+        ensures { ConsoleCalled (on (call.prepare)) self.old (console.plain (answered result)) self.new }
+    {
+        self.store.prepare()
+    }
+
+    /// See `Tables::set_voice_param`.
+    pub fn set_voice_param(&mut self, voice: VoiceId, name: &[u8], value: f32) -> Outcome
+        ensures { ConsoleCalled (on (call.order voice name.now (last.Value value))) self.old (console.plain (call.ordered result)) self.new }
+    {
+        self.store.set_voice_param(voice, name, value)
+    }
+
+    /// See `Tables::set_voice_param_glide`.
+    pub fn set_voice_param_glide(&mut self, voice: VoiceId, name: &[u8], glide: Glide) -> Outcome
+        ensures { ConsoleCalled (on (call.order voice name.now (last.Glide glide))) self.old (console.plain (call.ordered result)) self.new }
+    {
+        self.store.set_voice_param_glide(voice, name, glide)
+    }
+
+    /// See `Tables::report`.
+    pub fn report(
+        &mut self,
+        node: NodeId,
+        channels: usize,
+        samples: &[f32],
+        done: bool,
+    ) -> Result<(), Refusal>
+        ensures { ConsoleCalled (on (call.report node channels samples.now done)) self.old (console.plain (answered result)) self.new }
+    {
+        self.store.report(node, channels, samples, done)
+    }
+
+    /// See `Tables::free_voice`.
+    pub fn free_voice(&mut self, voice: VoiceId) -> Outcome
+        ensures { ConsoleCalled (on (call.free voice)) self.old (console.plain (call.ordered result)) self.new }
+    {
+        self.store.free_voice(voice)
+    }
+
+    /// See `Tables::free_done_synths`.
+    pub fn free_done_synths(&mut self) -> usize
+        ensures { ConsoleCalled (on (call.clear)) self.old (console.plain (call.removed result)) self.new }
+    {
+        self.store.free_done_synths()
+    }
+
+    /// See `Tables::render`.
+    pub fn render(&mut self, out: &mut [u8]) -> Rendering
+        ensures { ConsoleCalled (on (call.render out.old)) self.old (console.plain (call.rendered result.answer result.taken out.new)) self.new }
+    {
+        self.store.render(out)
+    }
+
+    /// The spawn that is asked for: see `Tables::spawn_voice`.
+    pub fn spawn_voice(&mut self, wish: &Wish) -> Result<VoiceId, Refusal>
+        ensures { ConsoleCalled (on (call_of wish.now)) self.old (console.plain (call.spawned result)) self.new }
+    {
+        self.store.spawn_voice(wish)
+    }
+
+    /// A turn (SPEC 17): the oldest wish of the next keyboard, going round, that has one is served, and the keyboard and the spawn's answer come back. None where no
+    /// wish waits, and then nothing changes.
+    pub fn turn(&mut self) -> Option<Served>
+        ensures { ConsoleCalled console.turn self.old (turn_answered result) self.new }
+    {
+        turn(&mut self.store, &mut self.keyboards)
     }
 }

@@ -14,3 +14,18 @@ pub struct Served {
     pub keyboard: usize,
     pub answer: Result<VoiceId, Refusal>,
 }
+
+/// The oldest wish of the next keyboard, going round, that has one is served, if a wish waits. A spawn that the store refuses is served too.
+pub(crate) fn turn<const KEYBOARDS: usize>(
+    store: &mut Store,
+    keyboards: &mut Keyboards<KEYBOARDS>,
+) -> Option<Served>
+    ensures { ConsoleCalled turn (console_of store.old keyboards.old) (turn_answered result) (console_of store.new keyboards.new) }
+{
+    let Some(keyboard) = keyboards.next() else {
+        return None;
+    };
+    let answer = store.spawn_voice(&keyboards.waiting(keyboard)[0]);
+    keyboards.take(keyboard);
+    Some(Served { keyboard, answer })
+}
