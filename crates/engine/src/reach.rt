@@ -379,4 +379,11 @@ impl Store {
     {
         self.tables.busiest_stretch(width)
     }
+
+    /// See `Tables::nodes`.
+    pub fn nodes(&self) -> &[Node]
+        ensures { result.now ≡ self.now.shared.graph.nodes }
+    {
+        self.tables.nodes()
+    }
 }

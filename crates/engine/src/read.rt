@@ -108,4 +108,11 @@ impl Tables {
     {
         self.graph.node(node)
     }
+
+    /// The live nodes, by their ids.
+    pub fn nodes(&self) -> &[Node]
+        ensures { result.now ≡ self.now.shared.graph.nodes }
+    {
+        self.graph.nodes()
+    }
 }

@@ -7,7 +7,7 @@ pub const NO_PORT: u8 = 255;
 
 // A node of a definition: kind name, ports, required ports (bit p for port p), what it takes, and its first ports named
 // `in`, `level` and `amp`, each NO_PORT where it has none.
-#[derive(Clone, Copy)]
+#[derive(Clone, Copy, Default)]
 pub struct DefNode {
     pub kind: Name,
     pub ports: u8,
@@ -21,7 +21,7 @@ pub struct DefNode {
 
 // The output of the definition's node `from` feeds the port `port` of its node `to`. No one type with `Edge` over the id: the definitions name both,
 // and a place in a definition never serves as a node id.
-#[derive(Clone, Copy)]
+#[derive(Clone, Copy, Default)]
 pub struct DefEdge {
     pub from: u8,
     pub to: u8,
@@ -43,7 +43,7 @@ pub type DefEdges = Table<DefEdge, 48>;
 pub type Params = Table<Param, 8>;
 
 // A definition. `output` is the node that the voice sounds through.
-#[derive(Clone, Copy)]
+#[derive(Clone, Copy, Default)]
 pub struct SynthDef {
     pub nodes: DefNodes,
     pub edges: DefEdges,

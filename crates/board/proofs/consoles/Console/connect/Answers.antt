@@ -1,0 +1,10 @@
+use Rattle.model.specs.Call.{connect}
+use Rattle.console.specs.Console.{on}
+use Rattle.board.proofs.Calls.{next}
+use Rattle.board.proofs.Seals.{on_console}
+use Rattle.board.proofs.consoles.Console.connect.Goals as goal
+
+pub invariant_of-self : goal.invariant_of-self
+invariant_of-self g c =
+    let x = connect c.args.from c.args.to c.args.port in
+    next (on x) c.self.invariant (on_console x _ _ _ _ c.connect.ensures)

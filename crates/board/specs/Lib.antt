@@ -1,0 +1,5 @@
+pub mod Queues
+pub mod Called
+pub mod Made
+pub mod Closing
+pub mod Reached
