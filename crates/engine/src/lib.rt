@@ -51,9 +51,16 @@ impl Model for Tables {
     ghost Value = { Model };
 
     ghost view = { λ t. record {
-        shared = record { config = t.config; graph = t.graph; events = t.scheduler; steals = t.steals; clock = t.clock;
-            spawned = t.voices.spawned };
-        voices = t.voices.live } };
+      shared = record {
+        config = t.config;
+        graph = t.graph;
+        events = t.scheduler;
+        steals = t.steals;
+        clock = t.clock;
+        spawned = t.voices.spawned;
+      };
+      voices = t.voices.live;
+    } };
 }
 
 impl Tables {

@@ -46,7 +46,7 @@ all_played m n x y end a b c d e =
     e ∙ ap (further turn) d ∙ ap (λ k. further turn (further turn k)) c
     ∙ ap (λ k. further turn (further turn (further turn k))) (b ∙ ap (further opening) a)
     ∙ sym (further_both opening (turn ++ (turn ++ turn)) new
-        ∙ further_both turn (turn ++ turn) opened ∙ further_both turn turn (further turn opened))
+    ∙ further_both turn (turn ++ turn) opened ∙ further_both turn turn (further turn opened))
 
 -- the page of the scene
 pub page_is : (s : Model) (a : Answer) (out : List ℕ) → Asked (call.page out) s a → s ≡ played.model

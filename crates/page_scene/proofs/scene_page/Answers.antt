@@ -9,7 +9,7 @@ use Rattle.page_scene.proofs.scene_page.Goals as goal
 pub returns-in_err-store : goal.returns-in_err-store
 returns-in_err-store c =
     let never : ◌≡◌ {A = Option Refusal} None (Some c.in_err-store.field-0.0) =
-        sym not_refused ∙ c.in_err-store.ensures in
+    sym not_refused ∙ c.in_err-store.ensures in
     cc
 
 pub returns : goal.returns
