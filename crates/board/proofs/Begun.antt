@@ -11,7 +11,6 @@ use Rattle.model.specs.Make as model
 use Rattle.console.specs.declared.refusal.KeyboardRefusal.TheVariants.{OutOfRange}
 use Rattle.console.specs.Wishes.{Wishes, keyboards_refusal, new_wishes}
 use Rattle.console.specs.Console.{Console, made, refused_for, with_keyboards, made_unless, make_console}
-use Rattle.sealed.specs.Board.{new_board}
 use Rattle.sealed.specs.Claim as claim
 use Rattle.board.specs.Called.{console_of, board_of}
 use Rattle.board.specs.Made.{held, in_range}

@@ -1,11 +1,9 @@
 -- One call more of a console and of a board, and what is claimed of them.
-use Rattle.std.proofs.Common.{◌≡◌, ◌∙◌, ap, sym, refl, subst, List, [], ◌∷◌, ◌++◌, ℕ}
-use Rattle.model.specs.Model.{Model}
+use Rattle.std.proofs.Common.{◌≡◌, ◌∙◌, ap, sym, refl, List, [], ◌∷◌, ◌++◌, ℕ}
 use Rattle.model.specs.Make.{Making, make}
-use Rattle.model.specs.Call.{Call}
 use Rattle.std.specs.Prelude.{Some}
 use Rattle.console.specs.Wishes.{new_wishes}
-use Rattle.console.specs.Console.{Console, ConsoleCall, ConsoleAnswer, ConsoleStep, console_step, console_run, store_calls, make_console, made}
+use Rattle.console.specs.Console.{Console, ConsoleCall, ConsoleAnswer, ConsoleStep, console_step, console_run, store_calls}
 use Rattle.console.proofs.Claim.{console_claim, accepted}
 use Rattle.replaced.proofs.Theorem.{replaced_same}
 use Rattle.sealed.specs.Board.{Board, BoardCall, BoardAnswer, BoardStep, board_step, board_run, new_board, console_calls}

@@ -1,6 +1,6 @@
 -- The wishes of queues: how many keyboards there are, what waits at each, and what is left when one of the queues changed.
-use Rattle.std.proofs.Common.{◌≡◌, ◌<◌, ◌≤◌, ◌+◌, ◌∙◌, ap, sym, refl, ℕ, zero, suc, Bool, true, false, cond, List, [], ◌∷◌, ◌++◌, map, take, length, slice_index_or, replicate, arith}
-use Rattle.std.specs.Prelude.{Option, None, Some, leb, eqb, ◌&&◌, get_or, set}
+use Rattle.std.proofs.Common.{◌≡◌, ◌<◌, ◌≤◌, ◌∙◌, ap, sym, refl, ℕ, zero, suc, Bool, true, false, cond, List, [], ◌∷◌, ◌++◌, map, take, length, slice_index_or, replicate, arith}
+use Rattle.std.specs.Prelude.{None, Some, leb, eqb, ◌&&◌, get_or, set}
 use Rattle.std.specs.Array.{AllOfLen}
 use Rattle.std.specs.List.{list_all}
 use Rattle.sealed.specs.Board.{none_at, none_waits}

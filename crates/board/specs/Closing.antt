@@ -1,5 +1,5 @@
 -- What the tests of a board look at: of a spawn, and of the store that is sealed.
-use Rattle.std.specs.Prelude.{ℕ, Bool, true, false, not, ◌&&◌, eqb, leb, Option, None, Some, Result, Ok, Err}
+use Rattle.std.specs.Prelude.{ℕ, Bool, false, not, ◌&&◌, eqb, leb, Option, None, Some, Result, Ok, Err}
 use Rattle.node.specs.declared.record.Node.{Node}
 use Rattle.node.specs.declared.record.NodeId.{NodeId}
 use Rattle.sealed.specs.declared.profile.Profile.{Profile}

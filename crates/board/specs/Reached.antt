@@ -19,7 +19,8 @@ pub record ConsoleReached (k : Console) : Type 0 where
 -- Some making and some calls left the console, and of them there holds:
 pub record ConsoleClaimed (k : Console) : Type 0 where
   pub reached : ConsoleReached k
-  -- first in first out, fair turns, whose turn is next, what a wish is answered; and the ledger's claim, of the calls that these make of the store
+  -- first in first out, fair turns, whose turn is next, what a wish is answered; and the ledger's claim, of the calls
+  -- that these make of the store
   pub claim : ConsoleClaim reached.making reached.keyboards reached.new reached.calls
   -- the store is, but for its pending events, as if every accepted event had been kept
   pub replaced : Replaced reached.new.model (store_calls reached.calls (new_wishes reached.keyboards))
@@ -36,7 +37,8 @@ pub record BoardReached (b : Board) : Type 0 where
 -- Some making and some calls left the board, and of them there holds:
 pub record BoardClaimed (b : Board) : Type 0 where
   pub reached : BoardReached b
-  -- what a console's calls are claimed to do, of those that the seal let through; which it lets through; and once it is sealed, the promise: never 7
+  -- what a console's calls are claimed to do, of those that the seal let through; which it lets through; and once it is
+  -- sealed, the promise: never 7
   pub claim : BoardClaim reached.making reached.keyboards reached.new reached.calls
   -- the store is, but for its pending events, as if every accepted event had been kept
   pub replaced : Replaced reached.new.model (store_calls (console_calls reached.calls (new_board reached.new)) (new_wishes reached.keyboards))

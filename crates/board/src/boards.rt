@@ -33,9 +33,9 @@ use store::answer::Outcome;
 use store::config::Making;
 use store::wish::Wish;
 
-/// A store that may be sealed, with keyboards or without. There is memory for the wishes of KEYBOARDS keyboards, about 15 KB for each: a `Board<0>` has none.
-/// No call reaches the store but these, and each that a seal may close tests the seal first. Every board is one that a list of these calls left, from one
-/// that an accepted making gave.
+/// A store that may be sealed, with keyboards or without. There is memory for the wishes of KEYBOARDS keyboards, about
+/// 15 KB for each: a `Board<0>` has none. No call reaches the store but these, and each that a seal may close tests the
+/// seal first. Every board is one that a list of these calls left, from one that an accepted making gave.
 #[derive(Drop)]
 pub struct Board<const KEYBOARDS: usize> {
     store: Store,
@@ -68,8 +68,8 @@ impl<const KEYBOARDS: usize> Board<KEYBOARDS> {
         })
     }
 
-    /// A new board of so many keyboards, unsealed. Refused as a store is, and then with 24 where there are not from 1 to 8 of them, or more than there is
-    /// memory for.
+    /// A new board of so many keyboards, unsealed. Refused as a store is, and then with 24 where there are not from 1
+    /// to 8 of them, or more than there is memory for.
     pub fn make_with_keyboards(
         making: Making,
         keyboards: usize,
@@ -87,8 +87,8 @@ impl<const KEYBOARDS: usize> Board<KEYBOARDS> {
         })
     }
 
-    /// What a list of calls left has the properties that are claimed of it (SPEC 21.6): once it is sealed no spawn meets 7, direct or by a turn, and the seal
-    /// stays. Nothing is done when it runs.
+    /// What a list of calls left has the properties that are claimed of it (SPEC 21.6): once it is sealed no spawn
+    /// meets 7, direct or by a turn, and the seal stays. Nothing is done when it runs.
     pub fn claim(&self)
         ensures { BoardClaimed self.now }
     {
@@ -137,8 +137,8 @@ impl<const KEYBOARDS: usize> Board<KEYBOARDS> {
         self.keyboards.next()
     }
 
-    /// Seals the board by a profile (SPEC 18). Refused with 28 where it is sealed; and with 27 where the profile leaves no room in the tables, or does not
-    /// state the store as it is, or a voice lives or a wish waits.
+    /// Seals the board by a profile (SPEC 18). Refused with 28 where it is sealed; and with 27 where the profile leaves
+    /// no room in the tables, or does not state the store as it is, or a voice lives or a wish waits.
     pub fn seal(&mut self, profile: Profile) -> Result<(), SealRefusal>
         ensures { BoardCalled (seal profile) self.old (seal_answered result) self.new }
     {
@@ -174,7 +174,8 @@ impl<const KEYBOARDS: usize> Board<KEYBOARDS> {
 
     /// `Tables::add_node`, unless the board is sealed.
     pub fn add_node(&mut self, kind: &[u8], node: HostNode) -> Result<NodeId, BoardRefusal<Refusal>>
-        ensures { BoardCalled (on_store (call.add_node kind.now node.ports node.required node.takes_values node.takes_glides)) self.old (node_told result) self.new }
+        ensures { BoardCalled (on_store (call.add_node kind.now node.ports node.required node.takes_values node.takes_glides))
+            self.old (node_told result) self.new }
     {
         if self.seal.is_some() {
             return Err(BoardRefusal::Closed);
@@ -235,7 +236,8 @@ impl<const KEYBOARDS: usize> Board<KEYBOARDS> {
         name: &[u8],
         action: EventAction,
     ) -> Result<(), Refusal>
-        ensures { BoardCalled (on_store (call.schedule time voice name.now action)) self.old (given (console.plain (answered result))) self.new }
+        ensures { BoardCalled (on_store (call.schedule time voice name.now action))
+            self.old (given (console.plain (answered result))) self.new }
     {
         self.store.schedule(time, voice, name, action)
     }
@@ -249,14 +251,16 @@ impl<const KEYBOARDS: usize> Board<KEYBOARDS> {
 
     /// See `Tables::set_voice_param`: no seal closes it.
     pub fn set_voice_param(&mut self, voice: VoiceId, name: &[u8], value: f32) -> Outcome
-        ensures { BoardCalled (on_store (call.order voice name.now (last.Value value))) self.old (given (console.plain (call.ordered result))) self.new }
+        ensures { BoardCalled (on_store (call.order voice name.now (last.Value value)))
+            self.old (given (console.plain (call.ordered result))) self.new }
     {
         self.store.set_voice_param(voice, name, value)
     }
 
     /// See `Tables::set_voice_param_glide`: no seal closes it.
     pub fn set_voice_param_glide(&mut self, voice: VoiceId, name: &[u8], glide: Glide) -> Outcome
-        ensures { BoardCalled (on_store (call.order voice name.now (last.Glide glide))) self.old (given (console.plain (call.ordered result))) self.new }
+        ensures { BoardCalled (on_store (call.order voice name.now (last.Glide glide)))
+            self.old (given (console.plain (call.ordered result))) self.new }
     {
         self.store.set_voice_param_glide(voice, name, glide)
     }
@@ -269,14 +273,16 @@ impl<const KEYBOARDS: usize> Board<KEYBOARDS> {
         samples: &[f32],
         done: bool,
     ) -> Result<(), Refusal>
-        ensures { BoardCalled (on_store (call.report node channels samples.now done)) self.old (given (console.plain (answered result))) self.new }
+        ensures { BoardCalled (on_store (call.report node channels samples.now done))
+            self.old (given (console.plain (answered result))) self.new }
     {
         self.store.report(node, channels, samples, done)
     }
 
     /// See `Tables::free_voice`: no seal closes it.
     pub fn free_voice(&mut self, voice: VoiceId) -> Outcome
-        ensures { BoardCalled (on_store (call.free voice)) self.old (given (console.plain (call.ordered result))) self.new }
+        ensures { BoardCalled (on_store (call.free voice))
+            self.old (given (console.plain (call.ordered result))) self.new }
     {
         self.store.free_voice(voice)
     }
@@ -290,7 +296,8 @@ impl<const KEYBOARDS: usize> Board<KEYBOARDS> {
 
     /// See `Tables::render`: no seal closes it.
     pub fn render(&mut self, out: &mut [u8]) -> Rendering
-        ensures { BoardCalled (on_store (call.render out.old)) self.old (given (console.plain (call.rendered result.answer result.taken out.new))) self.new }
+        ensures { BoardCalled (on_store (call.render out.old))
+            self.old (given (console.plain (call.rendered result.answer result.taken out.new))) self.new }
     {
         self.store.render(out)
     }

@@ -5,7 +5,8 @@ ghost use Rattle.board.specs.Closing.{leaves_out, shuts_spawn, opened};
 use node::record::NodeId;
 use sealed::profile::{Profile, Seal};
 
-/// Why a call on a board is refused: the seal closes it (28), before all else that the call refuses; or what the store or the console gives.
+/// Why a call on a board is refused: the seal closes it (28), before all else that the call refuses; or what the store
+/// or the console gives.
 #[derive(Clone, Copy)]
 pub enum BoardRefusal<R> {
     Closed,
@@ -19,7 +20,8 @@ pub(crate) fn opened<A, R>(given: Result<A, R>) -> Result<A, BoardRefusal<R>>
     given.map_err(BoardRefusal::Given)
 }
 
-// Whether a spawn of so many nodes and edges is unmanaged, on another bus than the profile's, or larger than its D or E.
+// Whether a spawn of so many nodes and edges is unmanaged, on another bus than the profile's, or larger than its D or
+// E.
 fn leaves_out(p: &Profile, managed: bool, bus: NodeId, nodes: usize, edges: usize) -> bool
     ensures { result ≡ leaves_out p.now managed bus nodes edges }
 {

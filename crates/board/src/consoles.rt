@@ -28,8 +28,9 @@ use store::answer::Outcome;
 use store::config::Making;
 use store::wish::Wish;
 
-/// A store, and the wishes of 1 to 8 keyboards that wait for it, 16 at most at each. There is memory for the wishes of KEYBOARDS keyboards, about 15 KB for
-/// each. Every console is one that a list of these calls left, from one that an accepted making gave.
+/// A store, and the wishes of 1 to 8 keyboards that wait for it, 16 at most at each. There is memory for the wishes of
+/// KEYBOARDS keyboards, about 15 KB for each. Every console is one that a list of these calls left, from one that an
+/// accepted making gave.
 #[derive(Drop)]
 pub struct Console<const KEYBOARDS: usize> {
     store: Store,
@@ -49,8 +50,8 @@ impl<const KEYBOARDS: usize> Model for Console<KEYBOARDS> {
 }
 
 impl<const KEYBOARDS: usize> Console<KEYBOARDS> {
-    /// A new console of so many keyboards, at which nothing waits (SPEC 17). Refused as a store is, and then with 24 where there are not from 1 to 8 of
-    /// them, or more than there is memory for.
+    /// A new console of so many keyboards, at which nothing waits (SPEC 17). Refused as a store is, and then with 24
+    /// where there are not from 1 to 8 of them, or more than there is memory for.
     pub fn make(making: Making, keyboards: usize) -> Result<Console<KEYBOARDS>, MakeRefusal>
         ensures { made_of result ≡ make_console making (held KEYBOARDS keyboards) }
     {
@@ -64,8 +65,8 @@ impl<const KEYBOARDS: usize> Console<KEYBOARDS> {
         })
     }
 
-    /// What a list of calls left has the properties that are claimed of it (SPEC 21.5): each keyboard's wishes are served in their order, and in time
-    /// whatever the others send. Nothing is done when it runs.
+    /// What a list of calls left has the properties that are claimed of it (SPEC 21.5): each keyboard's wishes are
+    /// served in their order, and in time whatever the others send. Nothing is done when it runs.
     pub fn claim(&self)
         ensures { ConsoleClaimed self.now }
     {
@@ -100,8 +101,8 @@ impl<const KEYBOARDS: usize> Console<KEYBOARDS> {
         self.keyboards.next()
     }
 
-    /// The wish of a keyboard, which waits for its turn (SPEC 17). Nothing of the spawn that it is for is tested. Refused with 24 where there is no such
-    /// keyboard, and then with 25 where 16 wait there.
+    /// The wish of a keyboard, which waits for its turn (SPEC 17). Nothing of the spawn that it is for is tested.
+    /// Refused with 24 where there is no such keyboard, and then with 25 where 16 wait there.
     pub fn wish(&mut self, keyboard: usize, wish: &Wish) -> Result<(), KeyboardRefusal>
         ensures { ConsoleCalled (console.wish keyboard wish.now) self.old (wish_answered result) self.new }
     {
@@ -110,7 +111,8 @@ impl<const KEYBOARDS: usize> Console<KEYBOARDS> {
 
     /// See `Tables::add_node`.
     pub fn add_node(&mut self, kind: &[u8], node: HostNode) -> Result<NodeId, Refusal>
-        ensures { ConsoleCalled (on (call.add_node kind.now node.ports node.required node.takes_values node.takes_glides)) self.old (console.plain (add_answered result)) self.new }
+        ensures { ConsoleCalled (on (call.add_node kind.now node.ports node.required node.takes_values node.takes_glides))
+            self.old (console.plain (add_answered result)) self.new }
     {
         self.store.add_node(kind, node)
     }
@@ -151,7 +153,8 @@ impl<const KEYBOARDS: usize> Console<KEYBOARDS> {
         name: &[u8],
         action: EventAction,
     ) -> Result<(), Refusal>
-        ensures { ConsoleCalled (on (call.schedule time voice name.now action)) self.old (console.plain (answered result)) self.new }
+        ensures { ConsoleCalled (on (call.schedule time voice name.now action))
+            self.old (console.plain (answered result)) self.new }
     {
         self.store.schedule(time, voice, name, action)
     }
@@ -165,14 +168,16 @@ impl<const KEYBOARDS: usize> Console<KEYBOARDS> {
 
     /// See `Tables::set_voice_param`.
     pub fn set_voice_param(&mut self, voice: VoiceId, name: &[u8], value: f32) -> Outcome
-        ensures { ConsoleCalled (on (call.order voice name.now (last.Value value))) self.old (console.plain (call.ordered result)) self.new }
+        ensures { ConsoleCalled (on (call.order voice name.now (last.Value value)))
+            self.old (console.plain (call.ordered result)) self.new }
     {
         self.store.set_voice_param(voice, name, value)
     }
 
     /// See `Tables::set_voice_param_glide`.
     pub fn set_voice_param_glide(&mut self, voice: VoiceId, name: &[u8], glide: Glide) -> Outcome
-        ensures { ConsoleCalled (on (call.order voice name.now (last.Glide glide))) self.old (console.plain (call.ordered result)) self.new }
+        ensures { ConsoleCalled (on (call.order voice name.now (last.Glide glide)))
+            self.old (console.plain (call.ordered result)) self.new }
     {
         self.store.set_voice_param_glide(voice, name, glide)
     }
@@ -185,7 +190,8 @@ impl<const KEYBOARDS: usize> Console<KEYBOARDS> {
         samples: &[f32],
         done: bool,
     ) -> Result<(), Refusal>
-        ensures { ConsoleCalled (on (call.report node channels samples.now done)) self.old (console.plain (answered result)) self.new }
+        ensures { ConsoleCalled (on (call.report node channels samples.now done))
+            self.old (console.plain (answered result)) self.new }
     {
         self.store.report(node, channels, samples, done)
     }
@@ -206,7 +212,8 @@ impl<const KEYBOARDS: usize> Console<KEYBOARDS> {
 
     /// See `Tables::render`.
     pub fn render(&mut self, out: &mut [u8]) -> Rendering
-        ensures { ConsoleCalled (on (call.render out.old)) self.old (console.plain (call.rendered result.answer result.taken out.new)) self.new }
+        ensures { ConsoleCalled (on (call.render out.old))
+            self.old (console.plain (call.rendered result.answer result.taken out.new)) self.new }
     {
         self.store.render(out)
     }
@@ -218,8 +225,8 @@ impl<const KEYBOARDS: usize> Console<KEYBOARDS> {
         self.store.spawn_voice(wish)
     }
 
-    /// A turn (SPEC 17): the oldest wish of the next keyboard, going round, that has one is served, and the keyboard and the spawn's answer come back. None where no
-    /// wish waits, and then nothing changes.
+    /// A turn (SPEC 17): the oldest wish of the next keyboard, going round, that has one is served, and the keyboard
+    /// and the spawn's answer come back. None where no wish waits, and then nothing changes.
     pub fn turn(&mut self) -> Option<Served>
         ensures { ConsoleCalled console.turn self.old (turn_answered result) self.new }
     {

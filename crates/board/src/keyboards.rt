@@ -11,8 +11,8 @@ use std::iter::successors;
 use std::marker::Model;
 use store::wish::Wish;
 
-/// What waits at `count` keyboards: the wishes of each, the oldest first, 16 at most. A turn begins at the keyboard `next`. There is memory for
-/// KEYBOARDS of them.
+/// What waits at `count` keyboards: the wishes of each, the oldest first, 16 at most. A turn begins at the keyboard
+/// `next`. There is memory for KEYBOARDS of them.
 #[derive(Drop)]
 pub(crate) struct Keyboards<const KEYBOARDS: usize> {
     queues: [ArrayVec<Wish, 16>; KEYBOARDS],
@@ -49,7 +49,8 @@ fn none_waits(queues: &[ArrayVec<Wish, 16>]) -> bool
     queues.iter().all(|queue| queue.is_empty())
 }
 
-// The keyboard after `q` of `m`, going round. Two tests: `(q + 1) % m` is another number where `q` is past the last, and `q + 1` need not fit.
+// The keyboard after `q` of `m`, going round. Two tests: `(q + 1) % m` is another number where `q` is past the last,
+// and `q + 1` need not fit.
 fn after(m: usize, q: usize) -> usize
     ensures { result ≡ after m q }
 {
@@ -118,7 +119,8 @@ impl<const KEYBOARDS: usize> Keyboards<KEYBOARDS> {
         next_in(&self.queues[..self.count], self.next)
     }
 
-    /// The wish waits behind those of keyboard `q`. Refused with 24 where there is no such keyboard, and then with 25 where 16 wait there.
+    /// The wish waits behind those of keyboard `q`. Refused with 24 where there is no such keyboard, and then with 25
+    /// where 16 wait there.
     pub(crate) fn add(&mut self, q: usize, wish: &Wish) -> Result<(), KeyboardRefusal>
         ensures answer { result ≡ said (wish_refusal self.old q) }
         ensures wishes { self.new ≡ added_unless (wish_refusal self.old q) q wish.now self.old }

@@ -7,8 +7,8 @@ use engine::reach::Store;
 use node::record::{HOST, Node};
 use sealed::profile::Profile;
 
-// Whether `base` and `ports` + 1 times `each` and `spare` are together at most `limit`. Numbers above 1,024 are told apart first, so
-// nothing overflows.
+// Whether `base` and `ports` + 1 times `each` and `spare` are together at most `limit`. Numbers above 1,024 are told
+// apart first, so nothing overflows.
 fn has_room(limit: u64, base: u64, ports: u64, each: u64, spare: u64) -> bool
     requires ports_bound { ports ≤ 31 }
     requires few { spare ≤ 4 }

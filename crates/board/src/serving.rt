@@ -15,7 +15,8 @@ pub struct Served {
     pub answer: Result<VoiceId, Refusal>,
 }
 
-/// The oldest wish of the next keyboard, going round, that has one is served, if a wish waits. A spawn that the store refuses is served too.
+/// The oldest wish of the next keyboard, going round, that has one is served, if a wish waits. A spawn that the store
+/// refuses is served too.
 pub(crate) fn turn<const KEYBOARDS: usize>(
     store: &mut Store,
     keyboards: &mut Keyboards<KEYBOARDS>,

@@ -1,4 +1,4 @@
-use Rattle.std.proofs.Common.{◌≡◌, ◌∙◌, rules, tests, Bool, List, [], ◌∷◌, length}
+use Rattle.std.proofs.Common.{◌∙◌, rules, tests, Bool, length}
 use Rattle.std.specs.Prelude.{eqb}
 use Rattle.std.proofs.lemmas.Iterator.{YieldsList-from_slice}
 use Rattle.std.proofs.lemmas.Iterator.Search.{all_from_yields_List}

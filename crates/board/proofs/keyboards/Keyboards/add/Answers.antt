@@ -1,4 +1,4 @@
-use Rattle.std.proofs.Common.{◌≡◌, ◌≤◌, ◌<◌, ◌∙◌, ap, sym, subst, rules, false, List, [], ◌∷◌, ◌++◌, length, arith}
+use Rattle.std.proofs.Common.{◌≡◌, ◌≤◌, ◌<◌, ◌∙◌, ap, sym, false, length, arith}
 use Rattle.std.specs.Prelude.{get_or, eqb}
 use borrow.Author.Tests.{eqb-false}
 use Rattle.console.specs.Wishes.{wish_refusal, Wishes}

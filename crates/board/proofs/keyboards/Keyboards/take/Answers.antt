@@ -1,6 +1,5 @@
-use Rattle.std.proofs.Common.{◌≡◌, ◌≤◌, ◌<◌, ◌∙◌, ap, sym, subst, rules, length, arith}
-use Rattle.std.specs.Prelude.{get_or}
-use Rattle.console.specs.Wishes.{keyboards, after, taken_from, Wishes}
+use Rattle.std.proofs.Common.{◌≡◌, ◌≤◌, ◌<◌, ◌∙◌, ap, sym, subst, length, arith}
+use Rattle.console.specs.Wishes.{keyboards, taken_from, Wishes}
 use Rattle.board.specs.Queues.{wishes_of}
 use Rattle.board.proofs.Queues.{many, less}
 use Rattle.board.proofs.keyboards.Keyboards.take.Goals as goal
