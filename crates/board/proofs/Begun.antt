@@ -11,7 +11,7 @@ use Rattle.model.specs.Make as model
 use Rattle.console.specs.declared.refusal.KeyboardRefusal.TheVariants.{OutOfRange}
 use Rattle.console.specs.Wishes.{Wishes, keyboards_refusal, new_wishes}
 use Rattle.console.specs.Console.{Console, made, refused_for, with_keyboards, made_unless, make_console}
-use Rattle.sealed.specs.Claim as claim
+use Rattle.console.specs.Begins as begins
 use Rattle.board.specs.Called.{console_of, board_of}
 use Rattle.board.specs.Made.{held, in_range}
 use Rattle.board.specs.Reached.{ConsoleReached, BoardReached}
@@ -73,8 +73,8 @@ new_console k memory n m ws e h w = record { making = k; keyboards = n; new = co
 
 pub new_with : (k : Making) (memory n : ℕ) (m : Model) (ws : Wishes) → make k ≡ Some m → in_range memory n ≡ true → ws ≡ new_wishes n → BoardReached (board_of m ws None)
 new_with k memory n m ws e h w =
-    record { making = k; keyboards = n; new = console_of m ws; accepted = claim.with_keyboards n (console_of m ws) (makes k memory n m ws e h w); calls = []; is = refl }
+    record { making = k; keyboards = n; new = console_of m ws; accepted = begins.with_keyboards n (console_of m ws) (makes k memory n m ws e h w); calls = []; is = refl }
 
 pub new_alone : (k : Making) (m : Model) (ws : Wishes) → make k ≡ Some m → ws ≡ new_wishes 0 → BoardReached (board_of m ws None)
 new_alone k m ws e w =
-    record { making = k; keyboards = 0; new = console_of m (new_wishes 0); accepted = claim.alone m e; calls = []; is = ap (λ v. board_of m v None) w }
+    record { making = k; keyboards = 0; new = console_of m (new_wishes 0); accepted = begins.alone m e; calls = []; is = ap (λ v. board_of m v None) w }

@@ -7,7 +7,7 @@ use Rattle.console.specs.Console.{Console, ConsoleCall, ConsoleAnswer, ConsoleSt
 use Rattle.console.proofs.Claim.{console_claim, accepted}
 use Rattle.replaced.proofs.Theorem.{replaced_same}
 use Rattle.sealed.specs.Board.{Board, BoardCall, BoardAnswer, BoardStep, board_step, board_run, new_board, console_calls}
-use Rattle.sealed.specs.Claim.{Made, with_keyboards, alone}
+use Rattle.console.specs.Begins.{Begins, with_keyboards, alone}
 use Rattle.sealed.proofs.Boards.{board_claim}
 use Rattle.board.specs.Called.{ConsoleCalled, BoardCalled}
 use Rattle.board.specs.Reached.{ConsoleReached, ConsoleClaimed, BoardReached, BoardClaimed}
@@ -53,7 +53,7 @@ then x r e =
       is = ap (λ (s : BoardStep). s.board) e ∙ ap (λ b. (board_step x b).board) r.is ∙ sym (board_more r.calls x (new_board r.new));
     }
 
-store_made : (k : Making) (n : ℕ) (c : Console) → Made k n c → make k ≡ Some c.model
+store_made : (k : Making) (n : ℕ) (c : Console) → Begins k n c → make k ≡ Some c.model
 store_made k _ _ (with_keyboards n c e) = (accepted k n c e).store
 store_made k _ _ (alone m e) = e
 

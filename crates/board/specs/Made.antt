@@ -5,7 +5,7 @@ use Rattle.model.specs.Make.{Making, make, refusal_of}
 use Rattle.model.specs.Model.{Model}
 use Rattle.console.specs.Console.{Console, ConsoleMade, made, refused_by, refused_for, make_console}
 use Rattle.sealed.specs.Board.{Board, new_board}
-use Rattle.sealed.specs.Claim.{without_keyboards}
+use Rattle.console.specs.Begins.{without_keyboards}
 use Rattle.board.specs.declared.making.MakeRefusal.{MakeRefusal}
 use Rattle.board.specs.declared.making.MakeRefusal.TheVariants.{Store, Keyboards}
 

@@ -6,7 +6,8 @@ use Rattle.console.specs.Console.{Console, ConsoleCall, console_run, store_calls
 use Rattle.console.specs.Claim.{ConsoleClaim}
 use Rattle.replaced.specs.Replaced.{Replaced}
 use Rattle.sealed.specs.Board.{Board, BoardCall, board_run, new_board, console_calls}
-use Rattle.sealed.specs.Claim.{Made, BoardClaim}
+use Rattle.console.specs.Begins.{Begins}
+use Rattle.sealed.specs.Claim.{BoardClaim}
 
 pub record ConsoleReached (k : Console) : Type 0 where
   pub making : Making
@@ -30,7 +31,7 @@ pub record BoardReached (b : Board) : Type 0 where
   pub making : Making
   pub keyboards : ℕ
   pub new : Console
-  pub accepted : Made making keyboards new
+  pub accepted : Begins making keyboards new
   pub calls : List BoardCall
   pub is : b ≡ (board_run calls (new_board new)).board
 
