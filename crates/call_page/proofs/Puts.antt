@@ -1,16 +1,17 @@
 -- Texts added one after the other.
-use Prim.Native.Nat.{ℕ, ◌+◌, ◌-◌, ◌≤◌, ◌<◌, min}
+use Prim.Native.Nat.{ℕ, suc, ◌+◌, ◌-◌, ◌≤◌, ◌<◌, min}
+use native.Mathlib.Numerals.{add-one}
 use native.Mathlib.Omega.{arith}
 use mathlib.Core.Path.{◌≡◌, refl, sym, ap, ◌∙◌}
 use mathlib.Core.Bool.{Bool, true, false}
-use mathlib.Core.List.{List, ◌++◌, append_assoc}
+use mathlib.Core.List.{List, [], ◌∷◌, ◌++◌, append_assoc}
 use lib.Dec.{leb}
-use lib.ListN.{length, take, drop, length-append, length-take, take-append-drop}
-use lib.Seq.{length-take-le, take_all, take_at, take-take, take-append-le, take-append-add}
+use lib.ListN.{length, take, drop, set, length-append, length-take, take-append-drop}
+use lib.Seq.{length-take-le, take_all, take_at, take-take, take-append-le, take-append-add, drop-cons, set-append_seam, take-append_seam}
 use borrow.Author.Tests.{leb-true, leb-false}
 use borrow.Rule.Slice.PartMut.{mid_of, put_mid}
 use Rattle.lists.specs.Written.{written}
-use Rattle.lists.proofs.Written.{written_then}
+use Rattle.lists.proofs.Written.{written_then, written_long}
 use Rattle.call_page.specs.Paged.{Put}
 use Rattle.call_page.specs.Text.{Added}
 
@@ -87,3 +88,22 @@ widened h t e = rw (← t) (record { placed = e.placed; fits = omega (arith, e.f
 -- ---- a text that was copied to the start of a buffer
 pub copied : (m : ℕ) (s text x y : List ℕ) (r : ℕ) → s ≡ text → r ≡ length s → y ≡ written s x → r ≤ m → Put m text x y r
 copied m s text x y r t e f h = rw (← t) record { placed = f; long = e; fits = h }
+
+-- and one byte after a text
+pub and_byte : {m : ℕ} {a x y : List ℕ} {p : ℕ} (b : ℕ) → Put m a x y p → m < length x → Put (m + 1) (a ++ (b ∷ [])) x (set y p b) (p + 1)
+and_byte {m} {a} {x} {y} {p} b e h =
+    let within : length a < length x = omega (arith, e.long, e.fits) in
+    let more : length (a ++ (b ∷ [])) ≡ suc (length a) = length-append a (b ∷ []) ∙ add-one (length a) in
+    record {
+      placed = rw (e.placed, e.long, more, drop-cons x (length a) 0 within, set-append_seam) (sym (append_assoc a (b ∷ []) _));
+      long = omega (arith, e.long, length-append a (b ∷ []));
+      fits = omega (arith, e.fits);
+    }
+
+-- the buffer keeps its length
+pub same_long : {m : ℕ} {a x y : List ℕ} {r : ℕ} → Put m a x y r → m ≤ length x → length y ≡ length x
+same_long {m} {a} {x} e h = ap length e.placed ∙ written_long a x (omega (arith, e.long, e.fits))
+
+-- the text stands where it was put
+pub taken : {m : ℕ} {a x y : List ℕ} {r : ℕ} → Put m a x y r → take r y ≡ a
+taken {a = a} {x} e = rw (e.placed, e.long) (take-append_seam a (drop (length a) x))

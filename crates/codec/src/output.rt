@@ -1,12 +1,12 @@
 // The words of a line, gathered in a lent buffer and written to standard output when it is full and at the end. A program that writes
 // much makes one call of the system for some thousand words.
-ghost use Rattle.std.specs.Prelude.{◌≡◌, ◌≤◌};
+ghost use Rattle.std.specs.Prelude.{◌≡◌, ◌≤◌, false};
 
 use crate::descriptor::STDOUT;
 
-// The first `count` bytes are gathered, in fixed memory and no `Vec`. Nothing is written after a write that has failed; of the bytes beside it
+// The first `count` bytes are gathered, in fixed memory and no `Vec`. Nothing is written after a write that has failed, until `try_again`; of the bytes beside it
 // `failed` says nothing, so that it is no option of them.
-#[derive(Drop)]
+#[derive(Clone, Copy)]
 pub struct Output {
     bytes: [u8; 65536],
     count: usize,
@@ -26,6 +26,13 @@ pub fn output_room() -> Output {
 // Whether a write has failed.
 pub fn has_failed(out: &Output) -> bool {
     out.failed
+}
+
+// Forgets that a write has failed: what comes is written again.
+pub fn try_again(out: &mut Output)
+    ensures { out.new.failed ≡ false }
+{
+    out.failed = false;
 }
 
 // Writes what is gathered.

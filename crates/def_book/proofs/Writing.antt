@@ -65,6 +65,9 @@ module _ (d : SynthDef) where
       ∙ ap (λ l. heading ++ l) (sym parts)
 
   module _ (w : Long d) where
+    pub node_count : min d.nodes.count 24 ≡ length (node_rows d.nodes)
+    node_count = sym (length-take (min d.nodes.count 24) d.nodes.rows ∙ min-eq_left (omega (arith, w.nodes)))
+
     pub edge_count : min d.edges.count 48 ≡ length (edge_rows d.edges)
     edge_count = sym (length-take (min d.edges.count 48) d.edges.rows ∙ min-eq_left (omega (arith, w.edges)))
 

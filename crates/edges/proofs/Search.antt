@@ -56,7 +56,17 @@ abbrev pub Says : List (Option NodeId) → List Edge → NodeId → Type 0
 Says table es n = (length table ≡ 64) × ((p : ℕ) → p < 64 → get_or table p None ≡ source_at es n p)
 
 module _ (table : List (Option NodeId)) (e : Edge) (es : List Edge) (n : NodeId) (all : List Edge) (row : all ≡ e ∷ es) (inv : Says table es n) where
-  -- an edge before the others that ends at a port below 64 of the node is the first there
+  -- an edge before the others that does not end at a port below 64 of the node
+  pub says_skip : ((p : ℕ) → p < 64 → ends_at n p e ≡ false) → Says table all n
+  says_skip off = rw row (inv.0, λ p h. inv.1 p h ∙ ap (λ b. option_map (λ x. x.from) (cond b (Some e) (find (ends_at n p) es))) (sym (off p h)))
+
+  pub says_node : (e.to.0 ≡ n.0 → ⊥) → Says table all n
+  says_node o = says_skip (λ p h. ap (λ b. b && eqb e.port p) (ne_eqb e.to.0 n.0 o))
+
+  pub says_port : 64 ≤ e.port → Says table all n
+  says_port o = says_skip (λ p h. ap (λ b. eqb e.to.0 n.0 && b) (ne_eqb e.port p (λ z. omega arith)) ∙ and-false (eqb e.to.0 n.0))
+
+  -- one that does is the first there
   pub says_hit : e.to.0 ≡ n.0 → e.port < 64 → Says (set table e.port (Some e.from)) all n
   says_hit t o = rw row (length-set table e.port (Some e.from) ∙ inv.0, λ p h. go p h (ℕ_discrete p e.port))
     where

@@ -1,4 +1,4 @@
--- Two nodes with the same fields are the same node.
+-- Two nodes with the same fields are the same node, and so with edges.
 use Prim.Native.Nat.{ℕ}
 use mathlib.Core.Path.{◌≡◌}
 use mathlib.Core.Bool.{Bool}
@@ -8,6 +8,7 @@ use Rattle.node.specs.declared.order.LastOrder.{LastOrder}
 use Rattle.node.specs.declared.record.NodeId.{NodeId}
 use Rattle.node.specs.declared.record.VoiceId.{VoiceId}
 use Rattle.node.specs.declared.record.Node.{Node}
+use Rattle.node.specs.declared.record.Edge.{Edge}
 
 abbrev pub voice : ℕ → VoiceId
 voice x = record { 0 = x }
@@ -22,3 +23,10 @@ node_same m n a b c d e f g h i j k =
     let same : made m.id m.owner m.kind m.ports m.required m.takes_values m.takes_glides m.done m.level m.last m.noise
     ≡ made n.id n.owner n.kind n.ports n.required n.takes_values n.takes_glides n.done n.level n.last n.noise = cc in
     same
+
+join : NodeId → NodeId → ℕ → Edge
+join a b p = record { from = a; to = b; port = p }
+
+pub edge_same : (d e : Edge) → d.from ≡ e.from → d.to ≡ e.to → d.port ≡ e.port → d ≡ e
+unfolding join
+edge_same d e a b p = let same : join d.from d.to d.port ≡ join e.from e.to e.port = cc in same

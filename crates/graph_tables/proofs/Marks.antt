@@ -1,11 +1,13 @@
 -- Ids looked for by a mark of their remainder.
-use Prim.Native.Nat.{ℕ, zero, suc, ◌%◌, ◌≤◌, ◌<◌}
+use Prim.Native.Nat.{ℕ, zero, suc, ◌+◌, ◌%◌, ◌≤◌, ◌<◌}
 use native.Mathlib.Omega.{arith}
-use mathlib.Core.Path.{◌≡◌, refl, ap, ◌∙◌}
+use native.Mathlib.Decide.{ℕ_discrete}
+use mathlib.Core.Path.{◌≡◌, refl, sym, ap, ◌∙◌}
 use mathlib.Core.List.{List, [], ◌∷◌}
 use mathlib.Core.Bool.{Bool, true, false}
 use lib.Dec.{eqb}
-use lib.ListN.{length, get_or}
+use lib.ListN.{length, get_or, set, length-set}
+use lib.Seq.{get_or-set_same, get_or-set_other}
 use borrow.Author.Tests.{eq-eqb, ne_eqb}
 use Rattle.std.specs.Prelude.{Option, None, find, Some, cond, is_some, ◌||◌}
 use Rattle.std.specs.List.{list_any}
@@ -38,6 +40,24 @@ listed_any (y ∷ ids) x = go (eqb y x) (listed_any ids x)
 -- the first j ids are marked
 abbrev pub MarkedTo : List (Option ℕ) → List ℕ → ℕ → Type 0
 MarkedTo marks ids j = (length marks ≡ 1024) × (j ≤ length ids) × ((i : ℕ) → i < j → get_or marks (get_or ids i 0 % 1024) None ≡ None → ⊥)
+
+pub marks_more : (marks : List (Option ℕ)) (ids : List ℕ) (j : ℕ) (m : Option ℕ) → j < length ids → (m ≡ None → ⊥) → MarkedTo marks ids j → MarkedTo (set marks (get_or ids j 0 % 1024) m) ids (j + 1)
+marks_more marks ids j m h some inv = (length-set marks (get_or ids j 0 % 1024) m ∙ inv.0, omega arith, λ i l. go i l (ℕ_discrete (get_or ids i 0 % 1024) (get_or ids j 0 % 1024)))
+  where
+    go : (i : ℕ) → i < j + 1 → Dec (get_or ids i 0 % 1024 ≡ get_or ids j 0 % 1024) → get_or (set marks (get_or ids j 0 % 1024) m) (get_or ids i 0 % 1024) None ≡ None → ⊥
+    go i l (yes e) q =
+        let inside : get_or ids j 0 % 1024 < length marks = omega (arith, inv.0) in
+        some (sym (ap (λ k. get_or (set marks (get_or ids j 0 % 1024) m) k None) e ∙ get_or-set_same marks (get_or ids j 0 % 1024) m None inside) ∙ q)
+    go i l (no o) q =
+        let before : i < j = below i l o (ℕ_discrete i j) in
+        inv.2 i before (sym (get_or-set_other marks (get_or ids j 0 % 1024) (get_or ids i 0 % 1024) m None o) ∙ q)
+      where
+        below : (i : ℕ) → i < j + 1 → (get_or ids i 0 % 1024 ≡ get_or ids j 0 % 1024 → ⊥) → Dec (i ≡ j) → i < j
+        below i l o (yes q) = absurd (o (ap (λ k. get_or ids k 0 % 1024) q))
+        below i l o (no q) = omega (arith, q)
+
+pub marks_done : (marks : List (Option ℕ)) (ids : List ℕ) (j : ℕ) → length ids ≤ j → MarkedTo marks ids j → Marked marks ids
+marks_done marks ids j h inv = record { long = inv.0; is = λ i l. inv.2 i (omega arith) }
 
 -- without a mark, it is none of them
 pub unmarked : (marks : List (Option ℕ)) (ids : List ℕ) (x : ℕ) → Marked marks ids → get_or marks (x % 1024) None ≡ None → listed ids x ≡ false

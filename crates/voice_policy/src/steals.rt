@@ -74,13 +74,20 @@ pub fn held_steals(s: Steals) -> usize
     (s.total as usize).min(64)
 }
 
-// The record at the place `i` of those that are held, oldest first.
-pub fn steal_at(s: Steals, i: usize) -> Option<StealRecord>
-    ensures { result ≡ found_at i (log_of s).newest }
+// The record at the place `i` of those that a lent ring holds, oldest first. Lent, since whoever reads them all would copy the ring for each.
+pub fn held_record(s: &Steals, i: usize) -> Option<StealRecord>
+    ensures { result ≡ found_at i (log_of s.now).newest }
 {
-    let n = held_steals(s);
+    let n = (s.total as usize).min(64);
     if n <= i {
         return None;
     }
     Some(s.rows[place_back(s.next, n - i)])
+}
+
+// The same of a ring.
+pub fn steal_at(s: Steals, i: usize) -> Option<StealRecord>
+    ensures { result ≡ found_at i (log_of s).newest }
+{
+    held_record(&s, i)
 }

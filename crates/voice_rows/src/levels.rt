@@ -107,12 +107,16 @@ impl<'a> NodeWalk<'a> {
     }
 }
 
-// The level of the voice in row `i`: none until the clock passes its birth, and none where its output does not live.
+// The level of the voice in row `i`: none until the clock passes its birth, and none where its output does not live. Of one voice the nodes are
+// searched once; a walk, which serves many, would compare each id twice.
 pub fn level_at(t: &[u32], i: usize, nodes: &[u32], n: usize, clock: u64) -> Option<f32>
     ensures { result ≡ level_at (take n (nodes_in nodes.now)) clock (get_or (voices_in t.now) i (voice_of [])) }
 {
-    let mut walk = NodeWalk::new(nodes, n);
-    walk.voice_level(t, i, clock)
+    if birth_at(t, i) < clock {
+        node_level(nodes, n, output_at(t, i))
+    } else {
+        None
+    }
 }
 
 // Whether the voice in row `i` is tracked and counts for a new voice on `bus`.

@@ -62,6 +62,11 @@ unfolding over under
 mag_below (pos a) n h k = h
 mag_below (negsuc a) n h k = omega arith
 
+pub mag_is : (z : ℤ) (n : ℕ) → mag z < n → (over z < n) × (under z ≤ n)
+unfolding over under
+mag_is (pos a) n h = (h, omega arith)
+mag_is (negsuc a) n h = (omega arith, omega arith)
+
 -- ---- sums
 
 less : (a b : ℕ) → over (sub_ℕ a b) + b ≡ a + under (sub_ℕ a b)

@@ -26,8 +26,12 @@ pub fn fade_output(
 {
     let len = fade_length(config.rate);
     let size = config.block;
-    let table = config.table.then(table_entries);
-    let gains = table.as_ref().map_or(gains, |t| &t[..]);
+    // Two calls: an `Option` of the table is cleared at every call, also where the gains are lent, and a slice of a table that is made on one path
+    // alone is not covered by the borrow checker yet (both tried).
+    if config.table {
+        let table = table_entries();
+        return whole_samples::fade_output(input, &table, len, size, p, out);
+    }
     whole_samples::fade_output(input, gains, len, size, p, out)
 }
 

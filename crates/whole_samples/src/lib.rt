@@ -239,8 +239,9 @@ pub fn bus_sum(
     ensures answers { result ≡ answer_of (sum_refusal inputs.now counts.now size (length out.old) outs) }
     ensures leaves { out.new ≡ sum_output inputs.now counts.now size out.old outs }
 {
-    // Where a port has another count than the bus, the samples are tested first, and then read again.
-    if out.len() > 256 || !every_is(counts, outs) {
+    // Where a port has another count than the bus, the samples are tested first, and then read again. More counts than a bus has ports are
+    // refused before anybody walks them.
+    if counts.len() > 64 || out.len() > 256 || !every_is(counts, outs) {
         sum::<Wholes>(inputs, counts, size, out, outs)?;
         clip_all(out);
         return Ok(());

@@ -79,6 +79,10 @@ holds_rows w of c r l h e =
     let long : r ≤ length (rows w of c) = omega (arith, rows_long w of c) in
     record { is = e; many = sym (length-take-le r (rows w of c) long) ∙ ap length e }
 
+-- what a table holds is no more than there is room for
+pub holds_room : {A : Type 0} (w : ℕ) (of : List ℕ → A) (c : List ℕ) (n : ℕ) (l : List A) → Holds (rows w of c) n l → n ≤ length c / w
+holds_room w of c n l inv = omega (arith, rows_long w of c, inv.many, ap length inv.is, length-take n (rows w of c))
+
 -- a row that was looked for by its place among the first `count`
 module _ {A : Type 0} (w : ℕ) (of : List ℕ → A) (q : A → Bool) (c : List ℕ) (count r n : ℕ) (at : r ≡ place_of q (take count (rows w of c))) (many : n ≡ length (take count (rows w of c))) where
   pub found_in : r < n → find q (take count (rows w of c)) ≡ Some (get_or (rows w of c) r (of []))

@@ -8,7 +8,7 @@ use mathlib.Core.List.{List, [], ◌∷◌, ◌++◌, append_assoc, map}
 use mathlib.Core.Bool.{Bool, true, false, ◌&&◌, cond, and-false}
 use lib.ListN.{length, take, drop, get_or, set, length-take, length-drop, length-set, get_or-eq_default, get_or-map}
 use lib.Dec.{ltb, eqb}
-use lib.Seq.{set_out, get_or-set_same, get_or-set_other, get_or-take, get_or-drop, drop-drop, drop_at, take_at, length-take-le, ext_get_or, sets, length-sets, sets-eq}
+use lib.Seq.{set_out, get_or-set_same, get_or-set_other, get_or-take, get_or-drop, drop-drop, drop_at, take_at, length-take-le, take-set-lt, drop-set-add, ext_get_or, sets, length-sets, sets-eq}
 use borrow.Author.Tests.{ltb-true, ltb-false, eqb-true, eqb-false, lt-ltb, le-ltb, eq-eqb, ne_eqb}
 use Rattle.words.specs.Rows.{cut, cuts, rows_from, rows, row_at, row_put, word_put, row_moved}
 
@@ -146,6 +146,17 @@ module _ {A : Type 0} (w : ℕ) (of : List ℕ → A) where
   rows_move c i j d h k =
       ap (rows w of) (moved_is w j i c k h) ∙ rows_put c (cut w j c) i h (cut_long w j c (row_fits w j c k)) ∙ ap (set (rows w of c) i) (sym (rows_at w of c j d k))
 
+  -- one word of a row stored
+  pub rows_word : (c : List ℕ) (i k x : ℕ) → i < length c / w → k < w → rows w of (set c (i * w + k) x) ≡ set (rows w of c) i (of (set (cut w i c) k x))
+  rows_word c i k x h b =
+      rows_change w of c (set c (i * w + k) x) i h (length-set c (i * w + k) x)
+      (λ m s. get_or-set_other c (i * w + k) m x 0 (apart m s))
+      ∙ ap (λ l. set (rows w of c) i (of l)) (ap (take w) (drop-set-add (i * w) c k x) ∙ take-set-lt w (drop (i * w) c) k x b)
+    where
+      apart : (m : ℕ) → (m < i * w) ⊎ (i * w + w ≤ m) → m ≡ i * w + k → ⊥
+      apart m (inl s) q = omega arith
+      apart m (inr s) q = omega arith
+
 -- ---- what is done to the words of each row is done to what they stand for
 from_cuts : {A : Type 0} (w : ℕ) (of : List ℕ → A) (n : ℕ) (c : List ℕ) → rows_from w of n c ≡ map of (rows_from w (λ ws. ws) n c)
 from_cuts w of zero c = refl
@@ -178,6 +189,17 @@ module _ {A : Type 0} (w : ℕ) (of : List ℕ → A) where
       go : (b : Bool) → ltb i (length c / w) ≡ b → rows w of (cond (b && eqb (length ws) w) (sets c (i * w) ws) c) ≡ set (rows w of c) i (of ws)
       go true p = rw (eq-eqb (length ws) w e) (rows_put w of c ws i (ltb-true i (length c / w) p) e)
       go false p = rows_kept c i (of ws) (ltb-false i (length c / w) p)
+
+  -- one word of a row stored
+  pub word_is : (c : List ℕ) (i k x : ℕ) → k < w → rows w of (word_put w i k x c) ≡ set (rows w of c) i (of (set (row_at w i c) k x))
+  unfolding word_put
+  word_is c i k x h = go (ltb i (length c / w)) refl
+    where
+      go : (b : Bool) → ltb i (length c / w) ≡ b → rows w of (cond (b && ltb k w) (set c (i * w + k) x) c) ≡ set (rows w of c) i (of (set (row_at w i c) k x))
+      go true p =
+          let inside : i < length c / w = ltb-true i (length c / w) p in
+          rw (lt-ltb k w h) (rows_word w of c i k x inside h ∙ ap (λ l. set (rows w of c) i (of (set l k x))) (sym (rows_at w (λ ws. ws) c i [] inside)))
+      go false p = rows_kept c i (of (set (row_at w i c) k x)) (ltb-false i (length c / w) p)
 
 -- what a store does, by its tests
 pub put_on : (w i : ℕ) (ws c : List ℕ) → i < length c / w → length ws ≡ w → row_put w i ws c ≡ sets c (i * w) ws

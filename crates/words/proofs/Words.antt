@@ -1,13 +1,18 @@
 -- Words stored from a place on, and words moved within a list.
-use Prim.Native.Nat.{ℕ, zero, suc, ◌+◌, ◌-◌, ◌≤◌, ◌<◌, min}
+use Prim.Native.Nat.{ℕ, zero, suc, ◌+◌, ◌*◌, ◌-◌, ◌≤◌, ◌<◌, min}
+use native.Mathlib.Nat.{suc-mul, mul-le-mul_right}
 use native.Mathlib.Omega.{arith}
+use native.Mathlib.Numerals.{add-one}
 use mathlib.Core.Bool.{Bool, true, false}
-use mathlib.Core.Path.{◌≡◌, refl, sym, ap, ◌∙◌}
+use mathlib.Core.Path.{◌≡◌, refl, sym, ap, subst, ◌∙◌}
+use mathlib.Core.Logic.{inl, inr}
 use mathlib.Core.List.{List, [], ◌∷◌, ◌++◌}
 use lib.Dec.{leb, ltb}
 use lib.ListN.{length, take, drop, get_or, set, length-set, length-drop, drop_of_length-le}
-use lib.Seq.{set_out, drop-cons, set-get_or, sets, sets-eq, paste, take_all, length-take-le}
+use lib.Seq.{set_out, drop-cons, get_or-set_other, set-get_or, sets, sets-eq, paste, take_all, length-take-le}
 use borrow.Author.Tests.{leb-true, leb-false, ltb-true, ltb-false}
+use Rattle.std.proofs.lemmas.List.{drop_more}
+use Rattle.words.specs.Rows.{Apart}
 
 -- n elements from k on, one by one
 abbrev pub spell : ℕ → ℕ → List ℕ → List ℕ
@@ -72,3 +77,77 @@ pub sets_within : (c : List ℕ) (from to w : ℕ) → from + w ≤ length c →
 sets_within c from to w h k =
     let long : length (take w (drop from c)) ≡ w = length-take-le w (drop from c) (rw length-drop (omega arith)) in
     sym (sets-eq (take w (drop from c)) c to (rw long k) ∙ ap (λ m. take to c ++ take w (drop from c) ++ drop (to + m) c) long)
+
+-- two rows, or one
+pub apart : (w i j : ℕ) → Apart (i * w) (j * w) w
+apart w i j = go (leb j i) refl
+  where
+    go : (b : Bool) → leb j i ≡ b → Apart (i * w) (j * w) w
+    go true e = inl (mul-le-mul_right w (leb-true j i e))
+    go false e =
+        let up : suc i * w ≤ j * w = mul-le-mul_right w (leb-false j i e) in
+        let next : suc i * w ≡ i * w + w = suc-mul i w in
+        inr (omega arith)
+
+-- the words that are moved, as they are left at a, b, with k to go
+pub record Moving (old new : List ℕ) (from to n a b k : ℕ) : Type 0 where
+  pub fewer : k ≤ n
+  pub source : a + k ≡ from + n
+  pub target : b + k ≡ to + n
+  pub long : length new ≡ length old
+  pub same : (j : ℕ) → a ≤ j → j < from + n → get_or new j 0 ≡ get_or old j 0
+  pub whole : sets new b (take k (drop a old)) ≡ sets old to (take n (drop from old))
+
+module _ (old : List ℕ) (from to n : ℕ) where
+  pub moving_start : Moving old old from to n from to n
+  moving_start = record { fewer = omega arith; source = refl; target = refl; long = refl; same = λ j x y. refl; whole = refl }
+
+  module _ (new : List ℕ) (a b k : ℕ) (inv : Moving old new from to n a b k) (h : a < length new) where
+    pub moving_more : 0 < k → Apart from to n → Moving old (set new b (get_or new a 0)) from to n (a + 1) (b + 1) (k - 1)
+    moving_more more apart =
+        let split : k ≡ suc (k - 1) = omega arith in
+        let s = inv.source in
+        let t = inv.target in
+        let inside : a < length old = omega (arith, inv.long) in
+        let same-a : get_or new a 0 ≡ get_or old a 0 = inv.same a (omega arith) (omega arith) in
+        record {
+          fewer = omega (arith, inv.fewer);
+          source = omega arith;
+          target = omega arith;
+          long = length-set new b (get_or new a 0) ∙ inv.long;
+          same = λ j x y. get_or-set_other new b j (get_or new a 0) 0 (λ q. away more j x y q apart) ∙ inv.same j (omega arith) y;
+          whole =
+              rw same-a (sym (ap (λ l. sets new b l) (ap (λ m. take m (drop a old)) split ∙ ap (take (suc (k - 1))) (drop_more old a 0 inside)) ∙ ap (λ m. sets (set new b (get_or old a 0)) m (take (k - 1) (drop (a + 1) old))) (sym (add-one b))))
+              ∙ inv.whole;
+        }
+      where
+        away : 0 < k → (j : ℕ) → a + 1 ≤ j → j < from + n → j ≡ b → Apart from to n → ⊥
+        away z j x y q (inl u) = omega (arith, inv.fewer, inv.source, inv.target)
+        away z j x y q (inr u) = omega (arith, inv.fewer, inv.source, inv.target)
+
+  module _ (new : List ℕ) (a b k : ℕ) (inv : Moving old new from to n a b k) where
+    -- all are moved
+    pub moving_done : k ≡ 0 → new ≡ sets old to (take n (drop from old))
+    moving_done e = sym (ap (λ m. sets new b (take m (drop a old))) e) ∙ inv.whole
+
+  -- counted by how many are moved: none
+  pub moving_none : Moving old old from to n (from + 0) (to + 0) (n - 0)
+  moving_none =
+      let a : from ≡ from + 0 = omega arith in
+      let b : to ≡ to + 0 = omega arith in
+      let k : n ≡ n - 0 = omega arith in
+      subst (λ m. Moving old old from to n m (to + 0) (n - 0)) a (subst (λ m. Moving old old from to n from m (n - 0)) b (subst (λ m. Moving old old from to n from to m) k moving_start))
+
+  -- and one more
+  pub moving_next :
+      (new : List ℕ) (i : ℕ) → Moving old new from to n (from + i) (to + i) (n - i) → i < n → from + n ≤ length old → Apart from to n
+      → Moving old (set new (to + i) (get_or new (from + i) 0)) from to n (from + (i + 1)) (to + (i + 1)) (n - (i + 1))
+  moving_next new i inv h fits apart =
+      let x = set new (to + i) (get_or new (from + i) 0) in
+      let inside : from + i < length new = omega (arith, inv.long) in
+      let moved : Moving old x from to n (from + i + 1) (to + i + 1) (n - i - 1) = moving_more new (from + i) (to + i) (n - i) inv inside (omega arith) apart in
+      let a : from + i + 1 ≡ from + (i + 1) = omega arith in
+      let b : to + i + 1 ≡ to + (i + 1) = omega arith in
+      let k : n - i - 1 ≡ n - (i + 1) = omega arith in
+      subst (λ m. Moving old x from to n m (to + (i + 1)) (n - (i + 1))) a
+      (subst (λ m. Moving old x from to n (from + i + 1) m (n - (i + 1))) b (subst (λ m. Moving old x from to n (from + i + 1) (to + i + 1) m) k moved))

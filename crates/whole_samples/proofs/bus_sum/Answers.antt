@@ -11,8 +11,8 @@ use Rattle.whole_bus.proofs.Even.{even_fits, even_summed}
 use Rattle.whole_bus.proofs.Answered.{done, fitting, sum_left}
 use Rattle.whole_samples.proofs.bus_sum.Goals as goal
 
-pub returns-then-out-gt256-clause-leaves : goal.returns-then-out-gt256-clause-leaves
-returns-then-out-gt256-clause-leaves c =
+pub returns-then-counts-gt64-clause-leaves : goal.returns-then-counts-gt64-clause-leaves
+returns-then-counts-gt64-clause-leaves c =
     let a = c.args in
     let fits = sum_fits (length a.inputs.now) a.counts.now a.size (length a.out.now) a.outs in
     let told = done fits (every is_sample a.inputs.now) (sym c.sum.ensures.answers ∙ c.in_ok-sum.was) in

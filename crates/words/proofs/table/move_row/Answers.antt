@@ -1,24 +1,23 @@
-use Prim.Native.Nat.{◌+◌, ◌*◌, ◌-◌}
-use native.Mathlib.Omega.{arith}
-use mathlib.Core.Path.{◌≡◌, sym, ap, ◌∙◌}
+use Prim.Native.Nat.{◌*◌}
+use mathlib.Core.Path.{sym, ap, ◌∙◌}
 use mathlib.Core.Logic.{inl, inr}
-use lib.Seq.{sets, paste}
-use lib.ListN.{length, drop}
+use lib.Seq.{sets}
+use lib.ListN.{length}
 use Rattle.words.specs.Rows.{cut}
-use Rattle.words.proofs.Words.{sets_self, sets_within}
+use Rattle.words.proofs.Words.{apart, sets_self}
 use Rattle.words.proofs.Rows.{row_fits, no_room, moved_is, moved_not}
 use Rattle.words.proofs.table.move_row.Goals as goal
 use Rattle.words.proofs.table.move_row.Goals.{else-w-gt0-via-then-w-gt0+then-from-t+then-to-t+else-from-to, else-w-gt0-via-then-w-gt0+then-from-t+else-to-t, else-w-gt0-via-then-w-gt0+else-from-t, else-w-gt0-via-else-w-gt0}
 
+pub move_words-requires : goal.move_words-requires
+move_words-requires c =
+    let s = c.args in
+    (row_fits s.w s.from s.t.now c.if-from-t.true, row_fits s.w s.to s.t.now c.if-to-t.true, apart s.w s.from s.to)
+
 pub returns-then-from-to : goal.returns-then-from-to
 returns-then-from-to c =
     let s = c.args in
-    let t = s.t.now in
-    let n : s.from * s.w + s.w - s.from * s.w ≡ s.w = omega arith in
-    c.copy_within.ensures.after
-    ∙ ap (paste t (s.to * s.w) (drop (s.from * s.w) t)) n
-    ∙ sets_within t (s.from * s.w) (s.to * s.w) s.w (row_fits s.w s.from t c.if-from-t.true) (row_fits s.w s.to t c.if-to-t.true)
-    ∙ sym (moved_is s.w s.from s.to t c.if-from-t.true c.if-to-t.true)
+    c.move_words.ensures ∙ sym (moved_is s.w s.from s.to s.t.now c.if-from-t.true c.if-to-t.true)
 
 pub returns-else-w-gt0 : goal.returns-else-w-gt0
 returns-else-w-gt0 c =
