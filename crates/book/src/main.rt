@@ -17,7 +17,7 @@ use book_bytes::read::read_book;
 use book_bytes::write::write_book;
 use codec::field::{bytes_at, input_room};
 use codec::line::word_line;
-use codec::output::{Output, end_line, flush, hex_bytes, output_room, text, try_again};
+use codec::output::{Output, end_line, flush, hex_bytes, retrying_room, text};
 use codec::word::and_word;
 use def_book::answer::{ReadError, read_number, write_number};
 use define::define;
@@ -126,21 +126,15 @@ impl<'a, R: Env + Files> Run<'a, R> {
         self.answer(&space[..n]);
     }
 
-    // Writes what is gathered. What could not be written keeps nothing behind it from being tried.
-    fn put(&mut self) {
-        flush(&mut self.out);
-        try_again(&mut self.out);
-    }
-
     // The name is written before the file is read: whoever feeds a pipe may wait for it, and the file may be the one that is written to.
     fn answer_file(&mut self, path: &[u8]) {
         match open(self.rt, path) {
             Ok(mut file) => {
                 text(&mut self.out, path);
                 end_line(&mut self.out);
-                self.put();
+                flush(&mut self.out);
                 self.answer_from(&mut file);
-                self.put();
+                flush(&mut self.out);
             }
             Err(error) => fail(path, error),
         }
@@ -183,7 +177,7 @@ impl<'a, R: Env + Files> Run<'a, R> {
 
 fn main(rt: HostRuntime) {
     let mut run = Run {
-        out: output_room(),
+        out: retrying_room(),
         rt: &rt,
         verb: Verb::Read,
         print: Print::Bytes,
@@ -193,5 +187,5 @@ fn main(rt: HostRuntime) {
     if !run.files {
         run.answer_from(&mut rt.stdin());
     }
-    run.put();
+    flush(&mut run.out);
 }

@@ -7,7 +7,7 @@ use crate::stretch::{Busiest, busiest_stretch};
 use lists::rows::Table;
 use std::array;
 use voice::steals::{StealRecord, Steals};
-use voice_policy::steals::{held_record, held_steals, steal_record};
+use voice_policy::steals::{held_steals, lent_steal_at, steal_record};
 
 // A run of records.
 pub type Newest = Table<StealRecord, 64>;
@@ -18,7 +18,7 @@ pub fn newest_records(s: Steals) -> Newest
 {
     let none = steal_record(0, None, false);
     Table {
-        rows: array::from_fn(|i| held_record(&s, i).unwrap_or(none)),
+        rows: array::from_fn(|i| lent_steal_at(&s, i).unwrap_or(none)),
         count: held_steals(s),
     }
 }

@@ -1,16 +1,17 @@
 // The words of a line, gathered in a lent buffer and written to standard output when it is full and at the end. A program that writes
 // much makes one call of the system for some thousand words.
-ghost use Rattle.std.specs.Prelude.{◌≡◌, ◌≤◌, false};
+ghost use Rattle.std.specs.Prelude.{◌≡◌, ◌≤◌, true};
 
 use crate::descriptor::STDOUT;
 
-// The first `count` bytes are gathered, in fixed memory and no `Vec`. Nothing is written after a write that has failed, until `try_again`; of the bytes beside it
+// The first `count` bytes are gathered, in fixed memory and no `Vec`. After a write that has failed nothing is written, unless it `retries`; of the bytes beside it
 // `failed` says nothing, so that it is no option of them.
 #[derive(Clone, Copy)]
 pub struct Output {
     bytes: [u8; 65536],
     count: usize,
     failed: bool,
+    retries: bool,
     ghost few: { count ≤ 65536 },
 }
 
@@ -20,7 +21,17 @@ pub fn output_room() -> Output {
         bytes: [0; 65536],
         count: 0,
         failed: false,
+        retries: false,
     }
+}
+
+// The same for a program whose lines need not those before them: a write that fails ends nothing, and what comes after it is tried.
+pub fn retrying_room() -> Output
+    ensures { result.retries ≡ true }
+{
+    let mut out = output_room();
+    out.retries = true;
+    out
 }
 
 // Whether a write has failed.
@@ -28,18 +39,11 @@ pub fn has_failed(out: &Output) -> bool {
     out.failed
 }
 
-// Forgets that a write has failed: what comes is written again.
-pub fn try_again(out: &mut Output)
-    ensures { out.new.failed ≡ false }
-{
-    out.failed = false;
-}
-
 // Writes what is gathered.
 pub fn flush(out: &mut Output)
     ensures { out.new.count ≡ 0 }
 {
-    if !out.failed {
+    if out.retries || !out.failed {
         out.failed = !io::write_all(STDOUT, &out.bytes[..out.count]);
     }
     out.count = 0;
@@ -51,7 +55,9 @@ pub fn text(out: &mut Output, s: &[u8]) {
         flush(out);
     }
     if 65536 < s.len() {
-        out.failed = out.failed || !io::write_all(STDOUT, s);
+        if out.retries || !out.failed {
+            out.failed = !io::write_all(STDOUT, s);
+        }
         return;
     }
     let end = out.count + s.len();

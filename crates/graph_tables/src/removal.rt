@@ -58,22 +58,11 @@ fn part<F: Fn(NodeId, VoiceId) -> bool>(nodes: &mut NodeTable, count: usize, goe
 #[derive(Drop)]
 struct Sought<'a> {
     ids: &'a [u32],
-    marks: [Option<u16>; 1024],
-    ghost marked: { Marked marks ids.now },
+    marks: &'a [Option<u16>; 1024],
+    ghost marked: { Marked marks.now ids.now },
 }
 
 impl<'a> Sought<'a> {
-    // Of several ids with one remainder the last is marked, and one past row 65535 by that row: a mark only says that an id may be there.
-    fn new(ids: &'a [u32]) -> Self
-        ensures { result.ids.now ≡ ids.now }
-    {
-        let mut marks = [None; 1024];
-        for (j, id) in ids.iter().enumerate() {
-            marks[*id as usize % 1024] = Some(u16::try_from(j).unwrap_or(u16::MAX));
-        }
-        Sought { ids, marks }
-    }
-
     // Whether `x` is one of them.
     #[tactic(auto, using(crate::proofs::Marks::listed_any))]
     fn has(&self, x: u32) -> bool
@@ -98,7 +87,13 @@ impl<'a> Sought<'a> {
 fn drop_touching(edges: &mut EdgeTable, count: usize, ids: &[u32]) -> usize
     ensures { Holds (edges_in edges.new) result (drop_touching (take count (edges_in edges.old)) ids.now) }
 {
-    let sought = Sought::new(ids);
+    // Of several ids with one remainder the last is marked, and one past row 65535 by that row: a mark only says that an id may be there. The marks
+    // are made here and lent: a function that gives them back copies them twice (measured).
+    let mut marks = [None; 1024];
+    for (j, id) in ids.iter().enumerate() {
+        marks[*id as usize % 1024] = Some(u16::try_from(j).unwrap_or(u16::MAX));
+    }
+    let sought = Sought { ids, marks: &marks };
     close_gaps(edges, 3, 0, count, |t, i| !sought.touched_by(edge_at(t, i)))
 }
 

@@ -1,6 +1,6 @@
 // A line for each run: how many records, the width, the answer, and whether the count agrees.
 use busiest::stretch::Busiest;
-use codec::output::{Output, text, try_again};
+use codec::output::{Output, text};
 use codec::word::{Word, and_word};
 
 // A function and no `Display`: `Busiest` is a `Result`, a type of the library.
@@ -19,9 +19,7 @@ fn answer(out: &mut Output, found: Busiest) {
     }
 }
 
-// What a line could not write keeps no other from being tried.
 pub fn compare(out: &mut Output, n: usize, width: u64, found: Busiest, counted: Busiest) {
-    try_again(out);
     text(out, b"run of ");
     n.put(out);
     text(out, b", width ");

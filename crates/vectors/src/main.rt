@@ -5,7 +5,7 @@
 use codec::descriptor::STDIN;
 use codec::field::{NOWHERE, after, byte_at, calls, input_room, word_at};
 use codec::line::word_line;
-use codec::output::{Output, flush, output_room, text, try_again};
+use codec::output::{Output, flush, retrying_room, text};
 use vec_bus::blocks::{Bus, Store};
 use vec_bus::{blocks, levels};
 use vec_graph::script;
@@ -16,9 +16,7 @@ use vec_whole::blocks::WholeStore;
 // Answers the vector at `at` by its sort, which docs/VECTORS.md numbers, and gives the position after it.
 // The byte is matched itself: an enum of the sorts would be made by the same match, and matched once more.
 // NOWHERE and no Option for a sort that there is not: one test of an end finds it and an input that is too short.
-// What one could not write keeps no other from being tried.
 fn answer(out: &mut Output, s: &[u8], at: usize) -> usize {
-    try_again(out);
     let from = after(at, 1);
     match byte_at(s, at) {
         1 => levels::root(out, s, from),
@@ -56,7 +54,7 @@ fn answer_all(out: &mut Output, s: &[u8]) {
 fn main() {
     let mut space = input_room();
     let n = io::read_full(STDIN, &mut space);
-    let mut out = output_room();
+    let mut out = retrying_room();
     answer_all(&mut out, &space[..n]);
     flush(&mut out);
 }

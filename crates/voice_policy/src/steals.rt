@@ -75,7 +75,7 @@ pub fn held_steals(s: Steals) -> usize
 }
 
 // The record at the place `i` of those that a lent ring holds, oldest first. Lent, since whoever reads them all would copy the ring for each.
-pub fn held_record(s: &Steals, i: usize) -> Option<StealRecord>
+pub fn lent_steal_at(s: &Steals, i: usize) -> Option<StealRecord>
     ensures { result ≡ found_at i (log_of s.now).newest }
 {
     let n = (s.total as usize).min(64);
@@ -89,5 +89,5 @@ pub fn held_record(s: &Steals, i: usize) -> Option<StealRecord>
 pub fn steal_at(s: Steals, i: usize) -> Option<StealRecord>
     ensures { result ≡ found_at i (log_of s).newest }
 {
-    held_record(&s, i)
+    lent_steal_at(&s, i)
 }

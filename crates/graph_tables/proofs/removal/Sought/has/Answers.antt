@@ -16,8 +16,8 @@ there ids m x (Some y) b Gives at h told t = let placed = at.3 in listed_at ids 
 pub returns-in-None : goal.returns-in-None
 returns-in-None c =
     let s = c.args.self.now in
-    let blank : get_or s.marks (c.args.x % 1024) None ≡ None = search rules in
-    sym (unmarked s.marks s.ids.now c.args.x s.marked blank)
+    let blank : get_or s.marks.now (c.args.x % 1024) None ≡ None = search rules in
+    sym (unmarked s.marks.now s.ids.now c.args.x s.marked blank)
 
 pub returns-then-is_some_and : goal.returns-then-is_some_and
 returns-then-is_some_and c =

@@ -1,6 +1,6 @@
 use Rattle.std.proofs.Common.{rules, ◌≡◌, ◌+◌, ◌≤◌, ◌<◌, ◌-◌, ◌%◌, min, length, arith, ◌∙◌}
 use Rattle.voice.proofs.Records.{read_none, read_held}
-use Rattle.voice_policy.proofs.steals.held_record.Goals as goal
+use Rattle.voice_policy.proofs.steals.lent_steal_at.Goals as goal
 
 pub returns-then-n-i : goal.returns-then-n-i
 returns-then-n-i c =

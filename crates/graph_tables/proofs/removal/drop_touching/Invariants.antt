@@ -1,5 +1,5 @@
 use Rattle.graph_tables.proofs.Marks.{MarkedTo}
-use Rattle.graph_tables.proofs.removal.Sought.new.Given as goal
+use Rattle.graph_tables.proofs.removal.drop_touching.Given as goal
 
 abbrev pub invariant-loop-j : goal.invariant-loop-j
 invariant-loop-j l = MarkedTo l.marks l.ids l.j
