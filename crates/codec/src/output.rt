@@ -25,7 +25,7 @@ pub fn output_room() -> Output {
     }
 }
 
-// The same for a program whose lines need not those before them: a write that fails ends nothing, and what comes after it is tried.
+// The same for a program whose lines are of use without those before them: a write that fails ends nothing, and what comes after it is tried.
 pub fn retrying_room() -> Output
     ensures { result.retries ≡ true }
 {
@@ -34,7 +34,7 @@ pub fn retrying_room() -> Output
     out
 }
 
-// Whether a write has failed.
+// Whether a write has failed; where it retries, whether the last one has.
 pub fn has_failed(out: &Output) -> bool {
     out.failed
 }
