@@ -1,6 +1,6 @@
 // The words of a line, gathered in a lent buffer and written to standard output when it is full and at the end. A program that writes
 // much makes one call of the system for some thousand words.
-ghost use Rattle.std.specs.Prelude.{◌≡◌, ◌≤◌, true};
+ghost use Rattle.std.specs.Prelude.{◌≡◌, ◌≤◌, true, false};
 
 use crate::descriptor::STDOUT;
 
@@ -16,7 +16,9 @@ pub struct Output {
 }
 
 // Nothing gathered, and nothing failed.
-pub fn output_room() -> Output {
+pub fn output_room() -> Output
+    ensures { (result.count ≡ 0) × (result.failed ≡ false) × (result.retries ≡ false) }
+{
     Output {
         bytes: [0; 65536],
         count: 0,
@@ -27,7 +29,7 @@ pub fn output_room() -> Output {
 
 // The same for a program whose lines are of use without those before them: a write that fails ends nothing, and what comes after it is tried.
 pub fn retrying_room() -> Output
-    ensures { result.retries ≡ true }
+    ensures { (result.count ≡ 0) × (result.failed ≡ false) × (result.retries ≡ true) }
 {
     let mut out = output_room();
     out.retries = true;
